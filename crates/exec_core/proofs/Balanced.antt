@@ -1,14 +1,18 @@
 -- The first state: nobody has anything, and so all balances hold.
-use Rattle.std.proofs.{Common.{◌≡◌, ℕ, zero, suc, ◌+◌, ◌*◌, ◌==◌, ◌&&◌, Bool, true, false, not, Contains, List, [], ◌∷◌, ◌++◌, length, map, replicate, Some, None, refl, sym, ap, subst, ◌∙◌, arith, if◌then◌else◌, slice_get, slice_index_or, count_by, sum_by}, lemmas.{Bool.false≢true, List.Sums.sum_by-cons, Option.slice_get_within}}
+use Rattle.std.proofs.{Common.{◌≡◌, ℕ, zero, suc, ◌+◌, ◌==◌, ◌&&◌, Bool, true, false, not, Contains, List, [], ◌∷◌, ◌++◌, length, map, replicate, Some, None, refl, sym, ap, subst, ◌∙◌, arith, if◌then◌else◌, slice_get, slice_index_or, count_by, sum_by}, lemmas.{Bool.false≢true, List.Sums.sum_by-cons, Option.slice_get_within}}
 use Rattle.std.specs.List.{range_with_len}
 use Rattle.exec_task.specs.declared.runnable.Runnable.{Runnable}
 use Rattle.exec_task.specs.TaskSet.{AreAtHome, Set, at_number}
 use Rattle.exec_words.specs.Idle.{is_in}
 use Rattle.exec_machine.specs.declared.config.Configuration.{Configuration}
 use Rattle.exec_moves.specs.{Pop.shard_count}
-use Rattle.exec_steps.specs.{declared.parts.{caller.Caller.Caller, mail.Subject.Subject, role.Role.TheVariants.Pool, seat.Seat.Seat as Chair, shared.Shared.Shared, task_slot.TaskSlot.TaskSlot, worker.Worker.Worker}, Calling.{CallSound}, Dedicated.Begins, Drained.{in_set}, Holding.{Box, Holder, IsHolding, Mail, awaited_in, box_of, holder_of, nap_of, thing_of}, Phased.is_complete, Places.{Drops, no_drops, one_if}, Records.IsFreshSeat, Together.{StandTogether, all_have, callers_have}, Whole.{IsWhole, Profile, claimed_count, hands_of, queued, runnables_in, stock, with_worker}}
-use Rattle.exec_steps.specs.declared.parts.mail.Subject.TheVariants as subject
-use Rattle.exec_steps.proofs.{Begun.{fresh_mailbox, left_quiet, none_has, none_there, not_both}, Facts.{same_thing}}
+use Rattle.exec_parts.specs.{declared.parts.{mail.Subject.Subject, role.Role.TheVariants.Pool, seat.Seat.Seat as Chair, shared.Shared.Shared, task_slot.TaskSlot.TaskSlot, worker.Worker.Worker}, Dedicated.Begins, Phased.is_complete, Records.IsFreshSeat}
+use Rattle.exec_polling.specs.{declared.caller.Caller.Caller, Calling.CallSound}
+use Rattle.exec_invariants.specs.{Drained.in_set, Holding.{Box, Holder, IsHolding, Mail, awaited_in, box_of, holder_of, nap_of, thing_of}, Places.{Drops, no_drops, one_if}, Whole.{IsWhole, Profile, claimed_count, hands_of, queued, runnables_in, stock, with_worker}}
+use Rattle.exec_steps.specs.Together.{StandTogether, all_have, callers_have}
+use Rattle.exec_parts.specs.declared.parts.mail.Subject.TheVariants as subject
+use Rattle.exec_parts.proofs.Facts.{same_thing}
+use Rattle.exec_polling.proofs.Begun.{fresh_mailbox, left_quiet, none_has, none_there, not_both}
 use Rattle.exec_core.proofs.{Beginning.{config_sound, first_sound, free_caller, homes_begun, less_is}, Powers.{InRange, shards_of}, QueuedOnce.slot_of}
 use Rattle.exec_core.specs.{Firsts.{AllBegin, IsFirst}, Lift.Stands, declared.executor.Core.Core}
 

@@ -1,13 +1,17 @@
 -- The first state: all that a worker rests on holds.
-use Rattle.std.proofs.{Common.{◌≡◌, ℕ, zero, suc, ◌+◌, ◌<◌, ◌≤◌, true, false, List, [], ◌∷◌, length, map, replicate, Option, Some, None, refl, sym, ap, subst, ◌∙◌, arith, if◌then◌else◌, slice_get, sum_by}, lemmas.{Bool.{false≢true, Decides.nat_tests}, Option.slice_get_within}}
+use Rattle.std.proofs.{Common.{◌≡◌, ℕ, zero, suc, ◌<◌, ◌≤◌, true, false, List, [], ◌∷◌, length, map, replicate, Some, None, refl, sym, ap, subst, ◌∙◌, arith, slice_get}, lemmas.{Bool.{false≢true, Decides.nat_tests}, Option.slice_get_within}}
 use Rattle.std.specs.Prelude.{nat_lt}
 use Rattle.exec_task.specs.declared.runnable.Runnable.{Runnable}
 use Rattle.exec_driver.specs.Opens.{OpenState, fresh_open}
 use Rattle.exec_machine.specs.{declared.config.Configuration.Configuration, World.no_open}
 use Rattle.exec_moves.specs.Pop.{shard_count}
 use Rattle.exec_moves.specs.declared.handing.CallPlace.TheVariants as call
-use Rattle.exec_steps.specs.{declared.parts.{caller.Caller.Caller, record.Record.Record, role.Role.TheVariants.Pool, seat.Seat.Seat as Chair, shared.Shared.Shared, sleeping.SleeperRecord.SleeperRecord, task_slot.TaskSlot.TaskSlot, worker.Worker.Worker}, Carried.HasRoom, Dedicated.Begins, Gates.{AreLinedUp, IsLinedUp}, Records.IsFreshSeat, Sound.{AreHome, AreResting, IsConfig, Sound}, View.open_seen}
-use Rattle.exec_steps.proofs.{Begun.{begun_sound, none_there, not_both}, Facts.same_thing, Spared.there_within}
+use Rattle.exec_parts.specs.{declared.parts.{record.Record.Record, role.Role.TheVariants.Pool, shared.Shared.Shared, task_slot.TaskSlot.TaskSlot, worker.Worker.Worker}, Dedicated.Begins, View.open_seen}
+use Rattle.exec_polling.specs.declared.caller.Caller.{Caller}
+use Rattle.exec_invariants.specs.{Gates.{AreLinedUp, IsLinedUp}, Sound.{AreHome, AreResting, IsConfig, Sound}}
+use Rattle.exec_parts.proofs.Facts.{same_thing}
+use Rattle.exec_polling.proofs.Begun.{begun_sound, none_there, not_both}
+use Rattle.exec_invariants.proofs.Spared.{there_within}
 use Rattle.exec_core.proofs.Powers.{InRange, may_begin, shards_of}
 use Rattle.exec_core.specs.Firsts.{IsFirst}
 

@@ -6,8 +6,9 @@ use Rattle.exec_machine.specs.{declared.{event.{Event.Event, StepResult.TheVaria
 use Rattle.exec_machine.specs.declared.event.Event.TheVariants as event
 use Rattle.exec_machine.specs.declared.step.Action.TheVariants as action
 use Rattle.exec_moves.specs.{Call.{Called, no_call}, MoveOfCaller.move_of_caller, Plays.{Played, Playing, by_action, by_call, caller_of}, State.Things}
-use Rattle.exec_steps.specs.{declared.parts.{caller.Caller.Caller, task_slot.TaskSlot.TaskSlot}, Calling.{CallSuits, CallWorks, call_of, desk_of_caller, with_call}, Spots.Spot, View.{Views, own_of, visible, desk_of, common_of, task_seen, things_with}}
-use Rattle.exec_steps.proofs.Still.{performs_still}
+use Rattle.exec_parts.specs.{declared.parts.task_slot.TaskSlot.TaskSlot, Spots.Spot, View.{Views, own_of, visible, desk_of, common_of, task_seen, things_with}}
+use Rattle.exec_polling.specs.{declared.caller.Caller.Caller, Calling.{CallSuits, CallWorks, call_of, desk_of_caller, with_call}}
+use Rattle.exec_invariants.proofs.Still.{performs_still}
 use Rattle.exec_core.proofs.Lifting.{playing_by, world_by, seen_there, stands_called}
 use Rattle.exec_core.specs.{Lift.{Stands, world, playing, views, Takes, Calls, Keeps}, declared.executor.Core.Core}
 

@@ -1,5 +1,5 @@
 -- The seats, the roots and the workers of a new executor, one after another.
-use Rattle.std.proofs.Common.{◌≡◌, ℕ, zero, suc, ◌+◌, ◌<◌, true, false, List, [], ◌∷◌, ◌++◌, length, Some, None, refl, sym, ap, subst, ◌∙◌, arith, inl, inr, ◌⊎◌, slice_get}
+use Rattle.std.proofs.Common.{◌≡◌, ℕ, zero, suc, ◌+◌, ◌<◌, true, false, List, [], ◌∷◌, ◌++◌, length, Some, None, refl, sym, ap, subst, ◌∙◌, arith, inl, inr, slice_get}
 use Rattle.std.proofs.lemmas.List.{length-append}
 use Rattle.std.specs.Prelude.{max}
 use Rattle.exec_base.specs.declared.one_shot.OneShotState.TheVariants as shot
@@ -7,7 +7,7 @@ use Rattle.exec_task.specs.{Phases.runnable_of, declared.{body.Said.TheVariants.
 use Rattle.exec_machine.specs.declared.{config.Configuration.Configuration, state.Waiting.TheVariants.Nothing}
 use Rattle.exec_words.specs.Global.{Global}
 use Rattle.exec_ring.specs.declared.store.Store.{Store}
-use Rattle.exec_steps.specs.{declared.parts.{role.Role.TheVariants.Pool, seat.Seat.Seat as Chair, shared.Shared.Shared, task_slot.TaskSlot.TaskSlot, worker.Worker.Worker}, Dedicated.{Begins, root_slot}, Firsts.{IsFresh as IsFreshShared}, Records.IsFreshSeat}
+use Rattle.exec_parts.specs.{declared.parts.{role.Role.TheVariants.Pool, seat.Seat.Seat as Chair, shared.Shared.Shared, task_slot.TaskSlot.TaskSlot, worker.Worker.Worker}, Dedicated.{Begins, root_slot}, Firsts.IsFresh as IsFreshShared, Records.IsFreshSeat}
 use Rattle.exec_steps.proofs.Together.{last_or_before}
 use Rattle.exec_core.specs.Firsts.{AllBegin, HasRoots, IsBare, IsFirst, IsRoot, shared_with}
 

@@ -1,11 +1,11 @@
 -- Of a worker alone: its root is the only task, and all that the laws of credit and of its sleep ask holds.
-use Rattle.std.proofs.{Common.{◌≡◌, ◌≢◌, ℕ, zero, suc, ◌+◌, ◌-◌, ◌<◌, ◌==◌, ◌&&◌, ◌||◌, nat_lt, Bool, true, false, not, cond, List, [], ◌∷◌, ◌++◌, Contains, length, map, All, count_by, sum_by, get_or, if◌then◌else◌, Option, Some, None, is_some, refl, sym, ap, subst, ◌∙◌, arith, inl, inr, option_to_list, slice_get, slice_index_or}, lemmas.{Bool.{true≢false, false≢true, and_parts, eqb-true, eq-eqb}, List.{length-map, Sums.sum_by-cons}, Option.{slice_get_within, slice_get-get_or}}}
+use Rattle.std.proofs.{Common.{◌≡◌, ◌≢◌, ℕ, zero, suc, ◌+◌, ◌-◌, ◌<◌, ◌==◌, ◌&&◌, ◌||◌, nat_lt, Bool, true, false, not, cond, List, [], ◌∷◌, ◌++◌, Contains, length, map, All, count_by, sum_by, get_or, if◌then◌else◌, Option, Some, None, is_some, refl, sym, ap, subst, ◌∙◌, arith, inl, inr, option_to_list, slice_get, slice_index_or}, lemmas.{Bool.{true≢false, false≢true, and_parts, eq-eqb}, List.{length-map, Sums.sum_by-cons}, Option.{slice_get_within, slice_get-get_or}}}
 use Rattle.exec_base.specs.{Slab.slot_at, declared.{slab.Slot.TheVariants.Vacant, task_no.TaskNo.TaskNo}}
 use Rattle.exec_task.specs.{declared.{body.Said.Said, runnable.Runnable.Runnable}}
 use Rattle.exec_words.specs.{Queue.Queue, declared.inbox.Message.Message}
 use Rattle.exec_task.specs.declared.task.Phase.TheVariants as cell
 use Rattle.exec_waiters.specs.{States.{pending_count, waiter_at}, declared.waiter.Waiter.Waiter}
-use Rattle.exec_machine.specs.{declared.{config.ScriptWord.ScriptWord, state.{Request.Request, Sleeper.Sleeper, Waiting.Waiting}}, Progress.{Plan, is_runnable}, Tests.{has_ended, is_asleep, is_done, is_idle, is_open, is_ready, is_resolved, is_unsent}, World.{Common, Task, no_request, no_sleeper, no_task, seat_of, task_of}}
+use Rattle.exec_machine.specs.{declared.{config.ScriptWord.ScriptWord, state.{Request.Request, Waiting.Waiting}}, Progress.{Plan, is_runnable}, Tests.{has_ended, is_asleep, is_done, is_idle, is_open, is_ready, is_resolved}, World.{Common, Task, no_request, no_sleeper, no_task, seat_of, task_of}}
 use Rattle.exec_machine.specs.declared.state.Waiting.TheVariants as waiting
 use Rattle.exec_moves.specs.{declared.place.{Place.Place}, Seen.polls_at, Slots.{is_in_slots, numbers_in}, State.{no_queue, queue_of}, Told.has_number}
 use Rattle.exec_moves.specs.declared.handing.AfterPop.TheVariants as popped
@@ -13,9 +13,12 @@ use Rattle.exec_moves.specs.declared.place.InClosing.TheVariants as closing
 use Rattle.exec_moves.specs.declared.place.InPoll.TheVariants as poll
 use Rattle.exec_moves.specs.declared.place.Place.TheVariants as at
 use Rattle.exec_credit.specs.{Minds.{is_alone}, Minded.{HasNothing, HasRoot, HaveBeds, HaveSlots, IsBare, IsFollowed, PollsRoot, Stood, is_played}}
-use Rattle.exec_steps.specs.{declared.parts.{held.Held.Held, mail.Reply.Reply, record.Record.Record, seat.Seat.Seat as Chair, shared.Shared.Shared, sleeping.SleeperRecord.SleeperRecord, task_slot.TaskSlot.TaskSlot, worker.Worker.Worker}, Holding.{Box, Holder, IsHeldBy, Mail, Thing, awaited_in, box_of, holder_of, holdings, mail_in, nap_of, thing_of, under_way}, Phased.{IsPhased, IsPrepared, closes_at, closing_in, has_shut, is_complete, root_over, stage_of}, Places.{begins_at, hands_on_at, one_if, polled_in, step_of_poll}, Records.numbers_held, Sound.{HasGuest, IsInHand, IsRunnable, Sound, one_of, root_in_hand}, Spots.Spot, View.{Views, common_of, desk_of, driver_of, message_of, own_of, queue_at, seat_seen, task_seen, tasks_of, things_with, visible}, Whole.{IsGenuine, IsWhole, Profile, hands_of, queued, wakes_with}}
-use Rattle.exec_steps.specs.declared.parts.mail.Subject.TheVariants as subject
-use Rattle.exec_steps.proofs.{Begun.not_both, Facts.{by_not, by_number, same_thing}, Spared.live_of}
+use Rattle.exec_parts.specs.{declared.parts.{held.Held.Held, mail.Reply.Reply, record.Record.Record, seat.Seat.Seat as Chair, shared.Shared.Shared, sleeping.SleeperRecord.SleeperRecord, task_slot.TaskSlot.TaskSlot, worker.Worker.Worker}, Phased.{IsPhased, IsPrepared, closes_at, closing_in, has_shut, is_complete, root_over, stage_of}, Records.numbers_held, Spots.Spot, View.{Views, common_of, desk_of, driver_of, message_of, own_of, queue_at, seat_seen, task_seen, tasks_of, things_with, visible}}
+use Rattle.exec_invariants.specs.{Holding.{Box, Holder, IsHeldBy, Mail, Thing, awaited_in, box_of, holder_of, holdings, mail_in, nap_of, thing_of, under_way}, Places.{begins_at, hands_on_at, one_if, step_of_poll}, Sound.{HasGuest, IsInHand, IsRunnable, Sound, one_of, root_in_hand}, Whole.{IsGenuine, IsWhole, Profile, hands_of, queued, wakes_with}}
+use Rattle.exec_parts.specs.declared.parts.mail.Subject.TheVariants as subject
+use Rattle.exec_parts.proofs.Facts.{by_not, by_number, same_thing}
+use Rattle.exec_polling.proofs.Begun.{not_both}
+use Rattle.exec_invariants.proofs.Spared.{live_of}
 use Rattle.exec_core.proofs.{CoreStood.{among_front, done_as, each_request, each_sleeper, found_in_slots, front_none, hand_out, mapped, no_closing, nobody_asks, none_open, not_counted, numbered_in_slots, not_polled, nothing_in, open_place, open_shut, over_shut, polled_busy, queued_ready, shut_place, some_lives, some_poll, still, the_seat}, Lifting.{seats_length, seen_there}, QueuedOnce.slot_of}
 
 -- what was put together is empty where all is

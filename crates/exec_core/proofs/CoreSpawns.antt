@@ -4,8 +4,9 @@ use Rattle.std.specs.Prelude.{is_err, IfOk, OnOk, OnErr}
 use Rattle.exec_task.specs.declared.body.Said.{Said}
 use Rattle.exec_machine.specs.{declared.event.Event.Event, Progress.Plan}
 use Rattle.exec_machine.specs.declared.step.Action.TheVariants as action
-use Rattle.exec_steps.specs.{declared.parts.{caller.Caller.Caller}, Calling.{CallWorks, SpawnsByCall, StillPerformsWith, call_of, desk_of_caller}, Pooled.SameButRoom, Scripts.{Begins, IsBorn}, Spots.Spot, View.{Views, own_of, visible, desk_of, common_of, task_seen, things_with}}
-use Rattle.exec_steps.proofs.Facts.{same_thing}
+use Rattle.exec_parts.specs.{Pooled.SameButRoom, Scripts.{Begins, IsBorn}, Spots.Spot, View.{Views, own_of, visible, desk_of, common_of, task_seen, things_with}}
+use Rattle.exec_polling.specs.{declared.caller.Caller.Caller, Calling.{CallWorks, SpawnsByCall, StillPerformsWith, call_of, desk_of_caller}}
+use Rattle.exec_parts.proofs.Facts.{same_thing}
 use Rattle.exec_core.proofs.Lifting.{playing_by, unchanged, world_by}
 use Rattle.exec_core.specs.{Lift.{Calls, IsAsBefore, Keeps, views}, declared.executor.Core.Core}
 

@@ -15,7 +15,8 @@ use Rattle.exec_moves.specs.declared.place.AfterService.TheVariants as back
 use Rattle.exec_moves.specs.declared.place.InClosing.TheVariants as closing
 use Rattle.exec_moves.specs.declared.place.Place.TheVariants as at
 use Rattle.exec_credit.specs.{Minds.{closes, ends, is_alone, is_poll}, Minded.is_start}
-use Rattle.exec_steps.specs.{declared.parts.{mail.Reply.Reply, record.Record.Record, seat.Seat.Seat as Chair, sleeping.SleeperRecord.SleeperRecord}, HoldPlaces.cancels_at, Phased.{closes_after, closes_at, closing_in, has_shut, is_complete, root_over}, Places.{begins_at, in_poll_of, polled_in}, Sound.root_in_hand, View.{Visible, owed_at, phase_seen, seat_seen, seats_seen, slots_from}, Whole.{queued}}
+use Rattle.exec_parts.specs.{declared.parts.{mail.Reply.Reply, record.Record.Record, seat.Seat.Seat as Chair, sleeping.SleeperRecord.SleeperRecord}, Phased.{closes_after, closes_at, closing_in, has_shut, is_complete, root_over}, View.{Visible, owed_at, phase_seen, seat_seen, seats_seen, slots_from}}
+use Rattle.exec_invariants.specs.{HoldPlaces.cancels_at, Places.{begins_at, in_poll_of, polled_in}, Sound.root_in_hand, Whole.queued}
 
 -- LISTS
 

@@ -10,7 +10,8 @@ use Rattle.exec_machine.specs.declared.step.Action.TheVariants as action
 use Rattle.exec_machine.specs.declared.state.Call.TheVariants as half
 use Rattle.exec_moves.specs.declared.handing.CallPlace.{CallPlace}
 use Rattle.exec_moves.specs.declared.handing.CallPlace.TheVariants as call
-use Rattle.exec_steps.specs.{Calling.{call_of, is_free}, Spots.Spot, View.{Visible, visible, seat_seen, seats_seen, task_seen}, declared.parts.{caller.Caller.Caller, seat.Seat.Seat as Chair}}
+use Rattle.exec_parts.specs.{Spots.Spot, View.{Visible, visible, seat_seen, seats_seen, task_seen}, declared.parts.seat.Seat.Seat as Chair}
+use Rattle.exec_polling.specs.{Calling.{call_of, is_free}, declared.caller.Caller.Caller}
 use Rattle.exec_core.proofs.Lifting.{suc_same}
 use Rattle.exec_core.specs.{Lift.{Stands, world, may_take, may_call_in, may_go_on_in, may_work_in, may_land_in, has_begun, sleeps, all_left_of}, declared.executor.Core.Core}
 

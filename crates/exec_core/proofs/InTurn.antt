@@ -1,6 +1,6 @@
 -- In each state of an executor durable requests take turns, by the gates, and no write and no sync is cancelled, by what each
 -- worker has of its own requests. Once an open keeps a failure, no durable request of it ends well.
-use Rattle.std.proofs.{Common.{◌≡◌, ℕ, ◌<◌, ◌&&◌, ◌||◌, Bool, true, false, not, List, map, length, slice_get, Option, Some, None, if◌then◌else◌, refl, sym, ap, subst, ◌∙◌}, lemmas.Bool.false≢true}
+use Rattle.std.proofs.{Common.{◌≡◌, ℕ, ◌&&◌, ◌||◌, Bool, true, false, not, List, map, slice_get, Option, Some, None, if◌then◌else◌, refl, sym, ap, subst, ◌∙◌}, lemmas.Bool.false≢true}
 use Rattle.exec_base.specs.{Slab.value_at, declared.error.Error.Error}
 use Rattle.exec_outcomes.specs.{Accounts.{Account, by_failure, is_durable, outcome_at_grant}, declared.outcome.{Kind.Kind, Outcome.{Outcome, TheVariants.{Failure, Success}}}}
 use Rattle.exec_request.specs.States.{asks_cancel}
@@ -9,8 +9,10 @@ use Rattle.exec_waiters.{specs.{States.waiter_at, declared.waiter.Waiter.Waiter}
 use Rattle.exec_driver.specs.Opens.{OpenState}
 use Rattle.exec_machine.specs.{declared.state.Request.Request, Progress.Plan, Requests.outcome_shown, Same.same_end, Tests.{is_gated, is_kept, is_resolved}}
 use Rattle.exec_moves.specs.Plays.{Playing}
-use Rattle.exec_steps.specs.{declared.parts.{mail.Reply.Reply, record.Record.Record, shared.Shared.Shared, worker.Worker.Worker}, Gates.{AreLinedUp, key_for}, Records.number_in, Sound.Sound, Spots.Spot, View.driver_of}
-use Rattle.exec_steps.proofs.{Facts.never_true, Gated.durable_of_file, Spared.there_within}
+use Rattle.exec_parts.specs.{declared.parts.{mail.Reply.Reply, record.Record.Record, shared.Shared.Shared, worker.Worker.Worker}, Records.number_in, Spots.Spot, View.driver_of}
+use Rattle.exec_invariants.specs.{Gates.{AreLinedUp, key_for}, Sound.Sound}
+use Rattle.exec_parts.proofs.Facts.{never_true}
+use Rattle.exec_invariants.proofs.{Gated.durable_of_file, Spared.there_within}
 use Rattle.exec_core.specs.{declared.executor.Core.Core, Lift.{Stands, Shows}, Turns.{IsOrderly, TakeTurns, has_permit}}
 use Rattle.exec_core.proofs.QueuedOnce.{queues_once, slot_of}
 

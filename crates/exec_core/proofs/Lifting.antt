@@ -6,8 +6,13 @@ use Rattle.exec_machine.specs.{declared.{config.Configuration.Configuration, eve
 use Rattle.exec_machine.specs.declared.event.Event.TheVariants as event
 use Rattle.exec_machine.specs.declared.step.Action.TheVariants as action
 use Rattle.exec_moves.specs.{Pop.shard_count, Call.CallDesk, Move.move, Plays.{Played, Playing, by_action, by_move, desk_of as desk_at, first_desk, newcomers}, State.{Desk, Things}}
-use Rattle.exec_steps.specs.{declared.parts.{caller.Caller.Caller, record.Record.Record, seat.Seat.Seat as Chair, shared.Shared.Shared, sleeping.SleeperRecord.SleeperRecord, task_slot.TaskSlot.TaskSlot, worker.Worker.Worker}, Acting.{PerformsAll}, Calling.{CallBeside, CallSound, call_of, desk_of_caller}, Sound.Sound, Spares.SparesBy, Spots.Spot, Together.StandTogether, View.{Views, Visible, own_of, visible, with_view, desk_of, common_of, seats_seen, things_with}, Whole.{IsWhole, Profile}, Works.{Beside, BesideNewcomer, BesideWith, WorksWith, Suits, with_born}}
-use Rattle.exec_steps.proofs.{Facts.{by_number, same_thing}, Spared.there_within, Together.{caller_stepped, worker_born, worker_stepped}}
+use Rattle.exec_parts.specs.{declared.parts.{record.Record.Record, seat.Seat.Seat as Chair, shared.Shared.Shared, sleeping.SleeperRecord.SleeperRecord, task_slot.TaskSlot.TaskSlot, worker.Worker.Worker}, Spots.Spot, View.{Views, Visible, own_of, visible, with_view, desk_of, common_of, seats_seen, things_with}}
+use Rattle.exec_polling.specs.{declared.caller.Caller.Caller, Calling.{CallBeside, CallSound, call_of, desk_of_caller}}
+use Rattle.exec_invariants.specs.{Acting.PerformsAll, Sound.Sound, Spares.SparesBy, Whole.{IsWhole, Profile}, Works.{Beside, BesideNewcomer, BesideWith, WorksWith, Suits, with_born}}
+use Rattle.exec_steps.specs.Together.{StandTogether}
+use Rattle.exec_parts.proofs.Facts.{by_number, same_thing}
+use Rattle.exec_invariants.proofs.Spared.{there_within}
+use Rattle.exec_steps.proofs.Together.{caller_stepped, worker_born, worker_stepped}
 use Rattle.exec_core.specs.{Lift.{Stands, world, playing, views, WorkerSteps, WorkerStays, Takes, IsAsBefore}, declared.executor.Core.Core}
 
 -- LISTS

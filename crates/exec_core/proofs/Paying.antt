@@ -1,5 +1,5 @@
 -- What a quiet step of a worker alone costs.
-use Rattle.std.proofs.{Common.{◌≡◌, ◌<◌, ◌≤◌, ℕ, zero, suc, ◌+◌, ◌==◌, Bool, true, false, List, [], ◌∷◌, ◌++◌, length, map, if◌then◌else◌, option_map, option_to_list, Option, None, Some, refl, sym, ap, subst, ◌∙◌, ⊎_elim, arith, slice_get, slice_index_or}, lemmas.{Bool.{cases_lt, eq-eqb, false≢true, true≢false}, List.length-map, Option.slice_get_within}}
+use Rattle.std.proofs.{Common.{◌≡◌, ◌<◌, ◌≤◌, ℕ, zero, suc, ◌+◌, Bool, true, false, List, [], ◌∷◌, ◌++◌, length, map, if◌then◌else◌, option_map, option_to_list, Option, None, Some, refl, sym, ap, subst, ◌∙◌, ⊎_elim, arith, slice_get, slice_index_or}, lemmas.{Bool.{cases_lt, eq-eqb, false≢true, true≢false}, List.length-map, Option.slice_get_within}}
 use Rattle.std.specs.List.{list_any}
 use Rattle.exec_task.specs.declared.body.Said.{Said}
 use Rattle.exec_machine.specs.{declared.{config.Configuration.Configuration, event.{Event.Event, StepResult.TheVariants.{Refused, Did}}, state.Call.Call, step.Action.Action}, Callers.{is_half_done, may_work}, Examples.refuses, Progress.{Plan, quiet_bound, is_quiet_step, IsRightlyAsleep}, Run.{Follows, after_event}, World.{Common, Own, Seat, World, no_seat, own_of as own_at, seat_of}}
@@ -7,8 +7,12 @@ use Rattle.exec_machine.specs.declared.step.Action.TheVariants as action
 use Rattle.exec_machine.specs.declared.state.Call.TheVariants as half
 use Rattle.exec_credit.specs.{Minds.is_alone, Minded.{HasRoot, Stood, StoodIn, MindedIn, begins_call}}
 use Rattle.exec_moves.specs.{Plays.{Played, Playing, by_step, credit_of, desk_of as desk_at}, State.Desk}
-use Rattle.exec_steps.specs.{declared.parts.{caller.Caller.Caller, held.Held.Held, letters.Letters.Letters, record.Record.Record, sleeping.SleeperRecord.SleeperRecord, worker.Worker.Worker}, Calling.call_of, Holding.{Mail, cancel_held, cancel_sleep, mail_in, mail_of_letters}, Sound.Sound, Spots.Spot, Together.{all_have, callers_have}, View.{desk_of, letter_of_request, letter_of_timer, letters_in, message_of, own_of, task_seen, visible}, Whole.{Profile, mail_with, wakes_with, with_worker}}
-use Rattle.exec_steps.proofs.{Facts.{same_thing}, Spared.there_within}
+use Rattle.exec_parts.specs.{declared.parts.{held.Held.Held, letters.Letters.Letters, record.Record.Record, sleeping.SleeperRecord.SleeperRecord, worker.Worker.Worker}, Spots.Spot, View.{desk_of, letter_of_request, letter_of_timer, letters_in, message_of, own_of, task_seen, visible}}
+use Rattle.exec_polling.specs.{declared.caller.Caller.Caller, Calling.call_of}
+use Rattle.exec_invariants.specs.{Holding.{Mail, cancel_held, cancel_sleep, mail_in, mail_of_letters}, Sound.Sound, Whole.{Profile, mail_with, wakes_with, with_worker}}
+use Rattle.exec_steps.specs.Together.{all_have, callers_have}
+use Rattle.exec_parts.proofs.Facts.{same_thing}
+use Rattle.exec_invariants.proofs.Spared.{there_within}
 use Rattle.exec_core.proofs.{CoreAlone.{StaysAlone, alone_stays, alone_works}, CoreRoot.{back_none, rooted, stood, unmapped}, CoreStood.{front_none, no_letters_alone, owes_alone, the_seat}, Lifting.{desk_there, own_there, suits_it}}
 use Rattle.exec_core.specs.{Lift.{Stands, IsFair, IsMinded, Pays, Takes, playing, views, world}, declared.executor.Core.Core}
 

@@ -4,7 +4,7 @@ use Rattle.std.specs.Prelude.{if◌then◌else◌}
 use Rattle.exec_task.specs.declared.body.Said.{Said}
 use Rattle.exec_machine.specs.{declared.{event.{Event.Event, Line.Line, StepResult.TheVariants.{Refused, Did}}, step.Action.Action}, Callers.is_enabled, Examples.refuses, Progress.Plan, Run.Follows}
 use Rattle.exec_moves.specs.Plays.{Played, Playing, by_action, by_step}
-use Rattle.exec_steps.specs.Spots.{Spot}
+use Rattle.exec_parts.specs.Spots.{Spot}
 use Rattle.exec_core.proofs.{Enabling.enabled_as, Paying.{IsPaid, paid_by_step, paid_by_none}}
 use Rattle.exec_core.specs.{Lift.{Stands, Keeps, Carries, world, playing, Takes, Shows, Applies, may_take}, declared.executor.Core.Core}
 

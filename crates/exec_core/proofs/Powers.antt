@@ -5,8 +5,8 @@ use Rattle.std.proofs.lemmas.Bool.{and_parts, leb-true}
 use Rattle.exec_machine.specs.{declared.config.Configuration.Configuration, Ranges.{doubled_up_to, ticks_needed}}
 use Rattle.exec_task.specs.TaskSet.{IsShardCount}
 use Rattle.exec_moves.specs.Pop.{power_from, shard_count}
-use Rattle.exec_steps.specs.Roles.{MayBegin}
-use Rattle.exec_steps.proofs.LeafPowers.{power_is}
+use Rattle.exec_parts.specs.Roles.{MayBegin}
+use Rattle.exec_parts.proofs.LeafPowers.{power_is}
 use Rattle.exec_core.specs.Ranges.{is_in_range, longest_timeout}
 
 -- A CONFIGURATION IN ITS RANGES

@@ -7,7 +7,10 @@ use Rattle.exec_machine.specs.{declared.state.{MailMessage.TheVariants.{CancelRe
 use Rattle.exec_machine.specs.declared.state.Waiting.TheVariants as waiting
 use Rattle.exec_moves.specs.{Call.CallDesk, Plays.Playing, Poll.{after_pend, is_noted, pend, requeued_if, told_of_end}, Slots.is_in_slots, Told.{awaits_no_more, lets_go_all, lets_go_request, lets_go_requests, lets_go_sleep, lets_go_timer, one_completion, one_output, one_result, owes, told_of_cancel, told_of_drop, turned_away, without_request, without_timer}, Seen.polls_at, State.Desk}
 use Rattle.exec_words.specs.Queue.{Queue}
-use Rattle.exec_steps.specs.{declared.parts.{caller.Caller.Caller, seat.Seat.Seat as Chair, task_slot.TaskSlot.TaskSlot, worker.Worker.Worker}, Calling.desk_of_caller, Places.{is_number, one_if}, Spots.Spot, Together.all_have, View.{desk_of, phase_seen, queue_at, task_seen}, Whole.{HasOne, IsQueuedOnce, queued, runnables_in, stock}}
+use Rattle.exec_parts.specs.{declared.parts.{seat.Seat.Seat as Chair, task_slot.TaskSlot.TaskSlot, worker.Worker.Worker}, Spots.Spot, View.{desk_of, phase_seen, queue_at, task_seen}}
+use Rattle.exec_polling.specs.{declared.caller.Caller.Caller, Calling.desk_of_caller}
+use Rattle.exec_invariants.specs.{Places.{is_number, one_if}, Whole.{HasOne, IsQueuedOnce, queued, runnables_in, stock}}
+use Rattle.exec_steps.specs.Together.{all_have}
 use Rattle.exec_core.specs.{declared.executor.Core.Core, Lift.{Stands, Shows, playing}, Once.{IsOnce, QueuesOnce, polls_of, runnables_of, times}}
 
 -- COUNTS of what was mapped

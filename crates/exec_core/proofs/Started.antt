@@ -5,8 +5,11 @@ use Rattle.exec_driver.specs.Opens.{fresh_open}
 use Rattle.exec_machine.specs.{declared.{config.{Configuration.Configuration, ScriptWord.ScriptWord}, state.Call.TheVariants.Nothing as NoCall}, Progress.{Plan}, Run.{first_common, first_owns, first_tasks, first_world}, Tasks.{new_own, new_seat, new_task}, World.{Own, Task, no_open, no_seat}}
 use Rattle.exec_credit.specs.Minded.{MindedIn, is_played}
 use Rattle.exec_moves.specs.{Plays.{first_desk, first_desks, first_things, first_playing}, Pop.shard_count, State.{Desk, no_queue, no_wake_poll, no_word}}
-use Rattle.exec_steps.specs.{declared.parts.{caller.Caller.Caller, role.Role.TheVariants.Pool, seat.Seat.Seat as Chair, shared.Shared.Shared, task_slot.TaskSlot.TaskSlot, worker.Worker.Worker}, Acting.{Performs, PerformsAll}, Calling.{call_of, desk_of_caller}, Dedicated.Begins, Records.{IsFreshSeat, numbers_held}, Spots.Spot, View.{gate_seen, numbers_of_passing, Visible, visible, own_of, desk_of, driver_of, common_of, inbox_at, open_seen, polls_seen, queue_at, queue_seen, message_of, seat_seen, seats_seen, task_seen, things_with, word_at}}
-use Rattle.exec_steps.proofs.{Begun.{desk_begun, fresh_visible, own_begun, visible_begun}, Facts.same_thing}
+use Rattle.exec_parts.specs.{declared.parts.{role.Role.TheVariants.Pool, seat.Seat.Seat as Chair, shared.Shared.Shared, task_slot.TaskSlot.TaskSlot, worker.Worker.Worker}, Dedicated.Begins, Records.{IsFreshSeat, numbers_held}, Spots.Spot, View.{gate_seen, numbers_of_passing, Visible, visible, own_of, desk_of, common_of, inbox_at, open_seen, polls_seen, queue_at, queue_seen, message_of, seat_seen, seats_seen, task_seen, things_with, word_at}}
+use Rattle.exec_polling.specs.{declared.caller.Caller.Caller, Calling.{call_of, desk_of_caller}}
+use Rattle.exec_invariants.specs.Acting.{Performs, PerformsAll}
+use Rattle.exec_parts.proofs.Facts.{same_thing}
+use Rattle.exec_polling.proofs.Begun.{desk_begun, fresh_visible, own_begun, visible_begun}
 use Rattle.exec_core.proofs.{Balanced.first_stands, Beginning.{free_caller, opens_begun}, Lifting.playing_by, Powers.{InRange, may_begin, shards_of}}
 use Rattle.exec_core.specs.{Firsts.{AllBegin, IsFirst, IsRoot}, Lift.{IsMinded, IsReady, IsPlanOf, Shows, code_of_root, playing, views}, declared.executor.Core.Core}
 

@@ -2,7 +2,7 @@
 use Rattle.std.specs.Prelude.{◌≡◌, ℕ, ◌≤◌, true, false, List, [], ◌∷◌, ◌++◌, length, replicate, slice_get, Some}
 use Rattle.exec_task.specs.{Phases.runnable_of, TaskSet.IsShardCount, declared.runnable.Runnable.Runnable}
 use Rattle.exec_machine.specs.declared.config.Configuration.{Configuration}
-use Rattle.exec_steps.specs.{declared.parts.{role.Role.TheVariants.Pool, seat.Seat.Seat as Chair, shared.Shared.Shared, task_slot.TaskSlot.TaskSlot, worker.Worker.Worker}, Dedicated.{Begins, root_slot}, Firsts.shared_of, Records.IsFreshSeat}
+use Rattle.exec_parts.specs.{declared.parts.{role.Role.TheVariants.Pool, seat.Seat.Seat as Chair, shared.Shared.Shared, task_slot.TaskSlot.TaskSlot, worker.Worker.Worker}, Dedicated.{Begins, root_slot}, Firsts.shared_of, Records.IsFreshSeat}
 
 module _ {B : Type 0} where
   -- the slot of the root of worker i, which has this body and is to be polled

@@ -8,7 +8,10 @@ use Rattle.exec_machine.specs.{declared.{config.Configuration.Configuration, eve
 use Rattle.exec_machine.specs.declared.step.Action.TheVariants as action
 use Rattle.exec_credit.specs.Minded.{MindedIn, begins_call, is_played}
 use Rattle.exec_moves.specs.{State.{Desk, WakePoll, wake_poll_of, passed}, Thing.set_wake_poll, Plays.{Played, Playing, by_action, by_step, credit_of, last_told}}
-use Rattle.exec_steps.specs.{Acting.{PerformsAll, StepsWith}, Calling.{CallBeside, CallSound, CallWorks, CallSuits, call_of, desk_of_caller, is_free}, Scripts.IsBorn, Sound.Sound, Spots.Spot, Together.StandTogether, View.{Views, Visible, own_of, visible, with_view, desk_of, common_of, things_with}, Works.{Beside, Suits, Same}, declared.parts.{caller.Caller.Caller, record.Record.Record, seat.Seat.Seat as Chair, sleeping.SleeperRecord.SleeperRecord, worker.Worker.Worker}}
+use Rattle.exec_parts.specs.{Scripts.IsBorn, Spots.Spot, View.{Views, Visible, own_of, visible, with_view, desk_of, common_of, things_with}, declared.parts.{record.Record.Record, seat.Seat.Seat as Chair, sleeping.SleeperRecord.SleeperRecord, worker.Worker.Worker}}
+use Rattle.exec_invariants.specs.{Acting.{PerformsAll, StepsWith}, Sound.Sound, Works.{Beside, Suits, Same}}
+use Rattle.exec_polling.specs.{Calling.{CallBeside, CallSound, CallWorks, CallSuits, call_of, desk_of_caller, is_free}, declared.caller.Caller.Caller}
+use Rattle.exec_steps.specs.Together.{StandTogether}
 use Rattle.exec_core.specs.declared.executor.Core.{Core}
 
 -- WHICH STEPS MAY BE TAKEN, by the seats, the records and the callers

@@ -4,7 +4,7 @@ use Rattle.std.specs.Prelude.{◌≡◌, ℕ, ◌+◌, ◌≤◌, ◌==◌, ◌|
 use Rattle.exec_machine.specs.{declared.state.TaskPhase.TaskPhase, World.Task}
 use Rattle.exec_machine.specs.declared.state.TaskPhase.TheVariants as phase
 use Rattle.exec_moves.specs.{Plays.Playing, Seen.polls_at}
-use Rattle.exec_steps.specs.Places.{is_number, one_if}
+use Rattle.exec_invariants.specs.Places.{is_number, one_if}
 
 -- how often task t is among these
 abbrev pub times : ℕ → List ℕ → ℕ

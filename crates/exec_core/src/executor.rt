@@ -6,7 +6,8 @@ ghost use Rattle.std.specs.Prelude.{◌≡◌, ◌+◌, ◌<◌, [], true, false
 ghost use Rattle.exec_machine.specs.{Callers.is_enabled, Progress.Plan};
 ghost use Rattle.exec_credit.specs.Minded.{is_played};
 ghost use Rattle.exec_moves.specs.Plays.{Playing, first_playing};
-ghost use Rattle.exec_steps.specs.{Acting.PerformsAll, Sound.Sound, Whole.{IsWhole, Profile}, declared.parts.worker.Worker.Worker as Party};
+ghost use Rattle.exec_parts.specs.declared.parts.worker.Worker.{Worker as Party};
+ghost use Rattle.exec_invariants.specs.{Acting.PerformsAll, Sound.Sound, Whole.{IsWhole, Profile}};
 ghost use Rattle.exec_core.specs.{Configs.configuration_of as configuration_told, Lift.{world, Stands, IsReady, Shows, Applies, Calls, Carries, Keeps, Takes, IsMinded, IsPlanOf, IsAsBefore, WorkerSteps, WorkerStays, Sees, EndsPoll, Lands, may_take, may_work_in, may_land_in, may_call_in, may_go_on_in, has_begun}, Ranges.is_in_range};
 
 use crate::config::Config;
@@ -16,11 +17,13 @@ use exec_credit::minded::{a_step_is_minded, minded_is_fair};
 use exec_machine::event::{Event, Line, StepResult};
 use exec_machine::step::Action;
 use exec_outcomes::outcome::OpResult;
-use exec_steps::parts::caller::Caller;
-use exec_steps::parts::nursery::Nursery;
-use exec_steps::parts::shared::Shared;
-use exec_steps::parts::worker::Worker;
-use exec_steps::scripted::Scripted;
+use exec_parts::parts::nursery::Nursery;
+use exec_parts::parts::shared::Shared;
+use exec_parts::parts::worker::Worker;
+use exec_parts::scripted::Scripted;
+use exec_polling::caller::Caller;
+use exec_serving::lines;
+use exec_steps::step::step;
 use std::alloc::{AllocError, Global};
 
 /// How many outside callers there are.
@@ -213,9 +216,9 @@ impl<B: Scripted + Drop> Core<B> {
     {
         match action {
             Action::Work { worker } => self.work(alloc, worker),
-            Action::Clock { by } => Ok(self.shared.move_clock(by)),
+            Action::Clock { by } => Ok(lines::move_clock(&mut self.shared, by)),
             Action::Land { request, result } => Ok(self.land(request, result)),
-            Action::Stir { worker } => Ok(self.shared.stir(worker)),
+            Action::Stir { worker } => Ok(lines::stir(&mut self.shared, worker)),
             Action::SetBusy { worker } => Ok(self.set_busy(worker)),
             Action::EndPoll { worker } => Ok(self.end_poll(worker)),
             Action::Peer { listener } => self.bring_peer(listener),
@@ -273,7 +276,12 @@ impl<B: Scripted + Drop> Core<B> {
         ensures spent { OnErr result (self.new.spent ≡ true) }
     {
         let mut nursery = Nursery::new(self.workers.reserve(1).is_ok());
-        let stepped = self.workers[worker].step(alloc, &mut self.shared, &mut nursery);
+        let stepped = step(
+            &mut self.workers[worker],
+            alloc,
+            &mut self.shared,
+            &mut nursery,
+        );
         self.spent = stepped.is_err();
         let Nursery { has_room: _, born } = nursery;
         if let Some(born) = born {
@@ -290,7 +298,7 @@ impl<B: Scripted + Drop> Core<B> {
         ensures lands { Lands B.left B.spot request given self.old self.new }
     {
         let worker = self.shared.requests[request].shown.worker;
-        self.workers[worker].land(request, given, &mut self.shared)
+        lines::land(&mut self.workers[worker], request, given, &mut self.shared)
     }
 
     /// The next enter of the ring of this worker takes nothing.
@@ -300,7 +308,7 @@ impl<B: Scripted + Drop> Core<B> {
         ensures event { result ≡ Event.Set }
         ensures sees { Sees worker (λ seen. record seen { busy = true }) self.old self.new }
     {
-        self.workers[worker].set_busy(&self.shared)
+        lines::set_busy(&mut self.workers[worker], &self.shared)
     }
 
     /// The next wake completion of the ring of this worker ends its wake poll.
@@ -310,7 +318,7 @@ impl<B: Scripted + Drop> Core<B> {
         ensures event { result ≡ Event.Set }
         ensures ends { EndsPoll B.left B.spot worker self.old self.new }
     {
-        self.workers[worker].end_poll(&mut self.shared)
+        lines::end_poll(&mut self.workers[worker], &mut self.shared)
     }
 
     /// A peer comes to this listener. Where it can't be counted the executor is spent.
@@ -327,7 +335,7 @@ impl<B: Scripted + Drop> Core<B> {
         ensures sound { (w : Party) → Sound w self.old.shared → Sound w self.new.shared }
         ensures whole { (x : Profile) → IsWhole x self.old.shared → IsWhole x self.new.shared }
     {
-        let came = self.shared.bring_peer(listener);
+        let came = lines::bring_peer(&mut self.shared, listener);
         self.spent = came.is_err();
         came
     }

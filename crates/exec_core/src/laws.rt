@@ -7,7 +7,7 @@ ghost use Rattle.exec_machine.specs.{declared.{config.Configuration.Configuratio
 ghost use Rattle.exec_moves.specs.{Plays.Playing, Poll.{is_noted, pend}, State.Desk};
 ghost use Rattle.exec_core.specs.{declared.executor.Core.Core, Lift.{Stands, Shows}, Once.QueuesOnce, Turns.TakeTurns};
 
-use exec_steps::scripted::Scripted;
+use exec_parts::scripted::Scripted;
 
 /// In each state a task that is to be polled has one runnable, in one queue or one hand, and one that is polled has
 /// none. A poll that ends pending gives one where a wake came in it, and none where the task was cleared.

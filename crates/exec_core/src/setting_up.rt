@@ -1,19 +1,19 @@
 //! The workers of a new executor, and what they share.
 
 ghost use Rattle.std.specs.Prelude.{◌≡◌, ◌<◌, ◌≤◌, true, length, IfOk};
-ghost use Rattle.exec_steps.specs.{Dedicated.Begins, declared.parts.role.Role.TheVariants.Pool};
+ghost use Rattle.exec_parts.specs.{Dedicated.Begins, declared.parts.role.Role.TheVariants.Pool};
 ghost use Rattle.exec_core.specs.{Configs.configuration_of as configuration_told, Firsts.{AddsRoot, AllBegin, IsFirst}, Ranges.is_in_range};
 
 use crate::config::Config;
 use exec_base::task_no::TaskNo;
 use exec_machine::config::{Configuration, Spin};
+use exec_parts::parts::role::Role;
+use exec_parts::parts::seat::Seat;
+use exec_parts::parts::shared::Shared;
+use exec_parts::parts::task_slot::TaskSlot;
+use exec_parts::parts::worker::Worker;
+use exec_parts::scripted::Scripted;
 use exec_ring::store::Store;
-use exec_steps::parts::role::Role;
-use exec_steps::parts::seat::Seat;
-use exec_steps::parts::shared::Shared;
-use exec_steps::parts::task_slot::TaskSlot;
-use exec_steps::parts::worker::Worker;
-use exec_steps::scripted::Scripted;
 use exec_task::runnable::Runnable;
 use std::alloc::{AllocError, Global};
 

@@ -7,7 +7,7 @@ use Rattle.exec_task.specs.{Sight.{Sight, WouldGrow}, declared.body.{Act.{Act, T
 use Rattle.exec_task.specs.declared.body.Act.TheVariants as act
 use Rattle.exec_machine.specs.{declared.{config.{Configuration.Configuration, ScriptWord.ScriptWord}, state.Code.Code}, Progress.Plan, Tests.is_empty}
 use Rattle.exec_machine.specs.declared.config.ScriptWord.TheVariants as word
-use Rattle.exec_steps.specs.Scripts.{Asks, IsBorn}
+use Rattle.exec_parts.specs.Scripts.{Asks, IsBorn}
 use Rattle.exec_run.specs.{Asking.{asks_request, moves_bytes, CanAsk, IsInTime, IsRequestOf}, declared.{asking.Limits.Limits, script.Asked.Asked as Question}, Script.{Played, Begets, CanPlay, CoversBy, IsProgram, Runs, newest, held_by, held_told, itself, place_by, spot_told, is_passed, passed_over, script_begun, word_in, gives, asked_by, AsksFor, IsPlainActOf}, ScriptPlays.born}
 use Rattle.exec_run.proofs.{Wanted.{any_request, some_request}, Words.{found, there_of}}
 

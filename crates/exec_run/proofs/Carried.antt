@@ -3,7 +3,7 @@ use Rattle.std.proofs.Common.{◌≡◌, ℕ, ◌<◌, ◌≤◌, List, length, 
 use Rattle.exec_task.specs.declared.body.Said.{Said}
 use Rattle.exec_machine.specs.{declared.step.{Step.TheVariants.One, Action.Action}, Progress.Plan}
 use Rattle.exec_machine.specs.declared.step.Action.TheVariants as action
-use Rattle.exec_steps.specs.{Scripts.{IsBorn, IsNamed}, Spots.Spot}
+use Rattle.exec_parts.specs.{Scripts.{IsBorn, IsNamed}, Spots.Spot}
 use Rattle.exec_core.specs.Lift.{Carries}
 use Rattle.exec_text.specs.Grammar.{StepNames}
 

@@ -6,7 +6,7 @@ use Rattle.std.proofs.lemmas.Slice.Eq.{bytes_eq-Decides}
 use Rattle.exec_task.specs.declared.body.Said.{Said}
 use Rattle.exec_machine.specs.{declared.step.Step.Step, Progress.Plan, Examples.Told}
 use Rattle.exec_moves.specs.Plays.{first_playing}
-use Rattle.exec_steps.specs.Spots.{Spot}
+use Rattle.exec_parts.specs.Spots.{Spot}
 use Rattle.exec_core.specs.declared.executor.Core.{Core}
 use Rattle.exec_text.specs.Grammar.{Meaning}
 use Rattle.exec_run.specs.{declared.{trace_error.TraceError.{TraceError, TheVariants.{ReadFault, TooLong, Syntax, Config, WriteFault, NoMemory}}, complaint.Complaint.Complaint}, Refusal.{IsTextIn, HasCause}, Reading.{CannotRead, CannotRun}, Explains.{IsCauseOf, Explains, complaint_line}, Log.{Gave, GaveFront, AreTaken, GaveFrontOfLog, IsTheLogOf, told_text}, Steps.{BrokeBy, GaveUpTo, Leads, Breaks, Complains}}

@@ -8,7 +8,7 @@ use Rattle.exec_machine.specs.declared.step.Step.TheVariants as step
 use Rattle.exec_machine.specs.declared.step.Action.TheVariants as action
 use Rattle.exec_credit.specs.Minded.{begins_call}
 use Rattle.exec_moves.specs.{Plays.{Playing, by_step}, Departures.played}
-use Rattle.exec_steps.specs.Spots.{Spot}
+use Rattle.exec_parts.specs.Spots.{Spot}
 use Rattle.exec_core.{specs.{declared.executor.Core.Core, Lift.{IsMinded, IsReady, Pays, Shows, Applies, Carries}, Turns.IsOrderly}, proofs.InTurn.orderly}
 use Rattle.exec_text.specs.Grammar.{StepFits, StepNames}
 use Rattle.exec_run.specs.{Log.{Gave, GaveFront, AreTaken, IsBegun, told_text}, Steps.{told_of_line, IsStep, Goes, StandsAt, TakesLine, BreaksLine, Works, Leads, Breaks}}

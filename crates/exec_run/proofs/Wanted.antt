@@ -12,7 +12,7 @@ use Rattle.exec_request.specs.declared.request.Request.TheVariants as request
 use Rattle.exec_task.specs.Sight.{Sight, open_at}
 use Rattle.exec_machine.specs.{declared.{config.{Configuration.Configuration, ScriptWord.ScriptWord}, state.Operation.Operation}, Requests.{of_file, of_socket, operation_asked}}
 use Rattle.exec_machine.specs.declared.config.ScriptWord.TheVariants as word
-use Rattle.exec_steps.specs.{Records.{seen_in, skip_in}, Spots.{IsAskedFor, wants_hint}}
+use Rattle.exec_parts.specs.{Records.{seen_in, skip_in}, Spots.{IsAskedFor, wants_hint}}
 use Rattle.exec_run.specs.{Asking.{asks_of_range, asks_of_socket, asks_of_sync, moves_bytes, range_operation, CanAsk, CoversSeen, IsFilePart, IsFresh, IsInTime, IsRangeOf, IsRequestOf, IsSame, IsSocketPart, IsWanted}, declared.asking.Limits.Limits}
 
 -- NEW REQUESTS, of each kind

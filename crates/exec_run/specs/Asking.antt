@@ -5,7 +5,7 @@ use Rattle.exec_request.specs.{Requests.{asked_of, target_of}, declared.request.
 use Rattle.exec_task.specs.Sight.{Sight, open_at}
 use Rattle.exec_machine.specs.{declared.{config.{Configuration.Configuration, ScriptWord.ScriptWord}, state.Operation.Operation}, Requests.{of_file, operation_asked}}
 use Rattle.exec_machine.specs.declared.config.ScriptWord.TheVariants as word
-use Rattle.exec_steps.specs.{Records.seen_in, Scripts.IsPlainRequest, Spots.IsAskedFor}
+use Rattle.exec_parts.specs.{Records.seen_in, Scripts.IsPlainRequest, Spots.IsAskedFor}
 use Rattle.exec_run.specs.declared.asking.Limits.{Limits}
 
 -- BOUNDS OF WHAT IS ASKED FOR

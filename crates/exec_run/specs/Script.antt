@@ -5,7 +5,7 @@ use Rattle.exec_base.specs.declared.{error.Error.TheVariants.NoMemory, limits.Th
 use Rattle.exec_task.specs.{Sight.Sight, declared.body.{Act.{Act, TheVariants.{Register, Await, Drop, Sleep, Spawn, Dedicated, Wake, Yield, Done, Fault}}, Said.{Said, TheVariants.{Admitted, Output, Refused, Pass}}}}
 use Rattle.exec_machine.specs.{declared.{config.{Configuration.Configuration, ScriptWord.ScriptWord}, state.Code.{Code, TheVariants.{Root, Script, Waits}}}, Tests.is_empty, Tasks.without_newest, Progress.Plan}
 use Rattle.exec_machine.specs.declared.config.ScriptWord.TheVariants as word
-use Rattle.exec_steps.specs.{Spots.Spot, Scripts.{Asks, IsCodeOf}}
+use Rattle.exec_parts.specs.{Spots.Spot, Scripts.{Asks, IsCodeOf}}
 use Rattle.exec_run.specs.{Asking.{CanAsk, CoversSeen, IsInTime}, declared.{asking.Limits.Limits, script.Asked.Asked}}
 use Rattle.exec_run.specs.declared.script.Asked.TheVariants as asked
 

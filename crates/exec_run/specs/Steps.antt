@@ -5,7 +5,7 @@ use Rattle.exec_task.specs.declared.body.Said.{Said}
 use Rattle.exec_machine.specs.{declared.{config.Configuration.Configuration, event.Line.Line, step.{Step.Step, Action.Action}}, Run.{Follows, after_work, after_steps}, Progress.Plan, Credited.{Standing, Account}, Examples.{Told, lines_of}, Text.{text_of_line, text_of_log, told_lines}}
 use Rattle.exec_credit.specs.Minded.{begins_call}
 use Rattle.exec_moves.specs.{Plays.{Playing, by_step, credit_of}, Departures.played}
-use Rattle.exec_steps.specs.Spots.{Spot}
+use Rattle.exec_parts.specs.Spots.{Spot}
 use Rattle.exec_core.specs.{declared.executor.Core.Core, Lift.{IsMinded, IsReady, Pays, Shows}, Turns.IsOrderly}
 use Rattle.exec_text.specs.Grammar.{Meaning}
 use Rattle.exec_run.specs.{declared.{trace_error.TraceError.{TraceError, TheVariants.{ReadFault, TooLong, Syntax, Config, WriteFault, NoMemory}}, complaint.Complaint.Complaint}, Refusal.status_of, Explains.complaint_line, Log.{Gave, GaveFront, GaveFrontOfLog, AreTaken, told_text}}

@@ -12,7 +12,7 @@ ghost use Rattle.exec_machine.specs.{Progress.Plan, Tasks.without_newest};
 ghost use Rattle.exec_run.specs.declared.script.Asked.TheVariants as question;
 ghost use Rattle.exec_run.specs.Script.{begun, held_by, place_by, newest, script_begun, word_in, word_of_wait, words_of_all, asked_by, CanPlay, IsProgram, IsPlainActOf};
 ghost use Rattle.exec_run.specs.Asking.{asks_request};
-ghost use Rattle.exec_steps.specs.Scripts.{IsBorn};
+ghost use Rattle.exec_parts.specs.Scripts.{IsBorn};
 ghost use Rattle.exec_task.specs.{declared.body.Act.TheVariants.{Dedicated, Register, Spawn, Wake}, Sight.Sight};
 
 use crate::asking::{Limits, request_of};
@@ -22,7 +22,7 @@ use exec_base::task_no::TaskNo;
 use exec_machine::config::ScriptWord;
 use exec_machine::state::Code;
 use exec_request::request::Request;
-use exec_steps::scripted::Scripted;
+use exec_parts::scripted::Scripted;
 use exec_task::body::{Act, Around, Body, Said};
 use std::alloc::{AllocError, Global};
 use std::marker::Model;

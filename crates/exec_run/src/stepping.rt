@@ -26,7 +26,7 @@ use exec_machine::config::{Configuration, ScriptWord};
 use exec_machine::event::{Line, StepResult};
 use exec_machine::laws::paid_lines_are_runs;
 use exec_machine::step::{Action, Step};
-use exec_steps::scripted::Scripted;
+use exec_parts::scripted::Scripted;
 use exec_text::trace::Trace;
 use std::alloc::{AllocError, Global};
 

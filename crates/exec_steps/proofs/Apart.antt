@@ -1,16 +1,18 @@
 -- A STEP OF ANOTHER PARTY keeps what is sound of a worker: it leaves what the worker alone touches, and of what is shared
 -- what it relies on.
-use Rattle.std.proofs.{Common.{◌≡◌, ℕ, ◌-◌, ◌*◌, ◌^◌, ◌<◌, ◌≤◌, ◌&&◌, nat_lt, Bool, true, false, List, [], ◌∷◌, length, drop, Option, Some, None, sym, ap, subst, ◌∙◌, ⊎_elim, arith, inl, inr, slice_get, if◌then◌else◌, refl, ◌+◌, ◌⊎◌}, lemmas.{Bool.{cases_lt, false≢true, Decides.nat_tests}, List.length-drop, Nat.mod_below, Option.slice_get_within}}
+use Rattle.std.proofs.{Common.{◌≡◌, ℕ, ◌-◌, ◌*◌, ◌^◌, ◌<◌, ◌≤◌, ◌&&◌, nat_lt, Bool, true, false, List, [], length, Option, Some, None, sym, ap, subst, ◌∙◌, ⊎_elim, arith, inl, inr, slice_get, if◌then◌else◌, refl, ◌+◌, ◌⊎◌}, lemmas.{Bool.{cases_lt, false≢true}, List.length-drop, Nat.mod_below, Option.slice_get_within}}
 use Rattle.exec_base.specs.{Slab.IsPast, declared.slab.Id.Id}
 use Rattle.exec_request.specs.declared.request.Request.{Request as Asking}
 use Rattle.exec_waiters.specs.{Ids.user_data_of, States.{pending_count, waiter_at}, declared.waiter.Waiter.Waiter}
 use Rattle.exec_driver.specs.Steps.{bytes_left}
 use Rattle.exec_words.specs.{Head.is_spent, Queue.{Queue, claimed, released, room_of, tail_of}, declared.head.Head.Head}
-use Rattle.exec_task.specs.{Phases.is_polled, TaskSet.shard_at, declared.{runnable.Runnable.Runnable, drain.Drain.Drain}}
+use Rattle.exec_task.specs.{TaskSet.shard_at, declared.{runnable.Runnable.Runnable, drain.Drain.Drain}}
 use Rattle.exec_task.specs.TaskSet.{Set}
 use Rattle.exec_machine.specs.{declared.{config.Configuration.Configuration, state.Waiting.Waiting}, Tests.{has_ended, is_open}}
 use Rattle.exec_moves.specs.{Search.from_of, Seen.polls_at, declared.{handing.{AfterCancels.AfterCancels, AfterPop.AfterPop, AfterSend.AfterSend, AfterSignal.AfterSignal, InGlobal.InGlobal, InKick.InKick, InPop.InPop, InPush.InPush}, idling.{InLook.InLook, InRingWait.InRingWait, InScan.InScan, Scan.Scan}, place.{InClosing.InClosing, InMail.InMail, InPick.InPick, InPoll.InPoll, InService.InService, Place.Place}}}
-use Rattle.exec_steps.{specs.{declared.parts.{mail.{Reply.Reply, Subject.Subject}, record.Record.Record, seat.Seat.Seat as Chair, shared.Shared.Shared, task_slot.TaskSlot.TaskSlot, worker.Worker.Worker}, Calling.HoldsForAll, Carried.{Carried, HasStretchFor, IsUnderWay}, Due.IsDue, Gates.{IsKnown, has_hint_at, may_ask_hint}, HoldPlaces.{cancels_at, heard_at, sends_cancel_at}, Phased.{HasPassed, IsPhased, IsPrepared, closes_at, closing_in, has_left, has_stopped, root_over, stage_of}, Places.{begins_at, is_armed_at, is_pooled_at, step_of_poll}, Records.number_in, Sound.{Aims, HasGuest, HasLetters, HasQueue, HasRunnable, IsGuest, IsHeld, IsSeated, MayClaim, SoundAt, Stops, StopsIn, root_in_hand, served_in}, Spares.{IsMailbox, Spares, SparesBy, SparesChair, SparesMore, SparesRecord, Thins}, View.driver_of}, proofs.{Dedicated.{by_length, chair_of_pool}, Facts.by_number, Spared.{KeepsMine, sleepers_stay, asleep_apart, flown_apart, heard_apart, letter_apart, live_of, mail_apart, named_apart, over_apart, record_back, rooted_apart, stops_apart, there_within, timed_apart}}}
+use Rattle.exec_parts.{specs.{declared.parts.{mail.{Reply.Reply, Subject.Subject}, record.Record.Record, seat.Seat.Seat as Chair, shared.Shared.Shared, task_slot.TaskSlot.TaskSlot, worker.Worker.Worker}, Phased.{HasPassed, IsPhased, IsPrepared, closes_at, closing_in, has_left, has_stopped, root_over, stage_of}, Records.number_in, MailPosts.IsMailbox, View.driver_of}, proofs.Facts.by_number}
+use Rattle.exec_polling.specs.Calling.{HoldsForAll}
+use Rattle.exec_invariants.{specs.{Carried.{Carried, HasStretchFor, IsUnderWay}, Due.IsDue, Gates.{IsKnown, has_hint_at, may_ask_hint}, HoldPlaces.{cancels_at, heard_at, sends_cancel_at}, Places.{begins_at, is_armed_at, is_pooled_at, step_of_poll}, Sound.{Aims, HasGuest, HasLetters, HasQueue, HasRunnable, IsGuest, IsHeld, IsSeated, MayClaim, SoundAt, Stops, StopsIn, root_in_hand, served_in}, Spares.{Spares, SparesChair, SparesMore, SparesRecord, Thins}}, proofs.{Dedicated.{by_length, chair_of_pool}, Spared.{KeepsMine, sleepers_stay, asleep_apart, flown_apart, heard_apart, letter_apart, live_of, mail_apart, named_apart, over_apart, record_back, rooted_apart, stops_apart, there_within, timed_apart}}}
 
 -- THE OWN RUN QUEUE, of which a thief takes values, or gives places free
 

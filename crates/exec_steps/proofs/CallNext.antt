@@ -2,7 +2,8 @@
 use Rattle.std.proofs.Common.{Option, refl}
 use Rattle.exec_task.specs.declared.body.Said.{Said}
 use Rattle.exec_moves.specs.declared.{handing.{AfterKick.AfterKick, AfterPush.AfterPush, InKick.InKick}, place.Place.Place}
-use Rattle.exec_steps.{specs.{declared.parts.{shared.Shared.Shared, worker.Worker.Worker}, Sound.SoundAt, Spots.Spot}, proofs.{CallsBack.{call_comes, callback_seen}, Handed.{IsPushFor, KickNext, PushNext}}}
+use Rattle.exec_parts.specs.{declared.parts.{shared.Shared.Shared, worker.Worker.Worker}, Spots.Spot}
+use Rattle.exec_invariants.{specs.Sound.SoundAt, proofs.{CallsBack.{call_comes, callback_seen}, Handed.{IsPushFor, KickNext, PushNext}}}
 
 module _ {B L : Type 0} (left : B → L) (spot : L → Option Said → Spot) where
   pub push_next : (b : AfterPush) (q : Place) (w : Worker) (s : Shared B) → SoundAt q w s → IsPushFor b q → PushNext left spot b w s

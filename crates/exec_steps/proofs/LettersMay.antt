@@ -1,10 +1,11 @@
 -- WHAT A WORKER OWES OTHERS of what a task held may be sent: each letter is under way once, in the worker's own hand, so it is in no
 -- inbox, and the inbox that it goes to has a place for it.
-use Rattle.std.proofs.{Common.{◌≡◌, ◌≢◌, ℕ, ◌+◌, ◌<◌, ◌≤◌, Bool, true, false, Contains, List, [], ◌∷◌, ◌++◌, count_by, length, map, sum_by, Option, Some, None, refl, sym, ap, subst, ◌∙◌, arith, slice_get, slice_index_or, option_map, option_to_list}, lemmas.{Bool.false≢true, List.length-map, Option.slice_get_within}}
+use Rattle.std.proofs.{Common.{◌≡◌, ◌≢◌, ℕ, ◌+◌, ◌<◌, ◌≤◌, Bool, true, false, Contains, List, [], ◌∷◌, ◌++◌, count_by, length, map, Option, Some, None, refl, sym, ap, subst, ◌∙◌, arith, slice_get, slice_index_or, option_map, option_to_list}, lemmas.{Bool.false≢true, List.length-map}}
 use Rattle.exec_words.specs.{Inbox.{is_wake_root, spare_places}, declared.inbox.Message.{Message}}
-use Rattle.exec_machine.specs.{declared.state.MailMessage.{MailMessage, TheVariants.{CancelRequest, CancelTimer}}, Tests.is_empty}
+use Rattle.exec_machine.specs.{declared.state.MailMessage.TheVariants.{CancelRequest, CancelTimer}, Tests.is_empty}
 use Rattle.exec_moves.specs.{declared.{handing.AfterCancels.AfterCancels, place.Place.Place}, Send.{first_letter, no_letter}}
-use Rattle.exec_steps.{specs.{declared.parts.{held.Held.Held, letters.Letters.Letters, mail.Subject.Subject, record.Record.Record, seat.Seat.Seat as Chair, shared.Shared.Shared, sleeping.SleeperRecord.SleeperRecord, worker.Worker.Worker}, Holding.{Box, IsAbout, IsHeldBy, Mail, Nap, Thing, box_of, cancel_held, cancel_sleep, holder_of, mail_in, mail_of_letters, nap_of, thing_of, under_way, waiters}, MailPosts.MaySend, Places.one_if, Sound.{IsLetter, IsMineIn, SoundAt}, View.{desk_of, letter_of_request, letter_of_timer, letters_in}, Whole.{HasWhole, hands_of, mail_with, with_worker}}, proofs.{AskBoxes.box_there, HoldMail.{is_once, mail_first, mail_last, sum_least}, HoldPosts.has_place, TaskHears.thing_there, TaskTakes.nap_there}}
+use Rattle.exec_parts.specs.{declared.parts.{held.Held.Held, mail.Subject.Subject, record.Record.Record, seat.Seat.Seat as Chair, shared.Shared.Shared, sleeping.SleeperRecord.SleeperRecord, worker.Worker.Worker}, MailPosts.MaySend, View.{desk_of, letter_of_request, letter_of_timer}}
+use Rattle.exec_invariants.{specs.{Holding.{Box, IsAbout, IsHeldBy, Mail, Nap, Thing, box_of, cancel_held, cancel_sleep, holder_of, mail_in, nap_of, thing_of, under_way}, Sound.{IsLetter, IsMineIn, SoundAt}, Whole.{HasWhole, hands_of, mail_with, with_worker}}, proofs.{AskBoxes.box_there, HoldMail.{is_once, mail_first, sum_least}, HoldPosts.has_place, TaskHears.thing_there, TaskTakes.nap_there}}
 
 most_one : (shut observed : Bool) (held told : ℕ) → shut ≡ false → IsHeldBy shut observed held told → told ≤ 1
 most_one true observed held told open_box fact = absurd (false≢true (sym open_box))

@@ -1,10 +1,10 @@
 -- What the steps of the loads are to the machine.
-use Rattle.std.proofs.Common.{◌≡◌, ℕ, Option, refl, ap}
-use Rattle.exec_words.specs.declared.word.PureWord.{PureWord}
+use Rattle.std.proofs.Common.{Option, refl, ap}
 use Rattle.exec_task.specs.declared.body.Said.{Said}
-use Rattle.exec_machine.specs.{declared.event.Event.{Event, TheVariants.Turn}, Choice.Choice.Plain, World.Own}
-use Rattle.exec_moves.specs.{declared.place.{Found.Found, Round.Round, InLoads.InLoads, Place.Place}, Load.{load_own_head, load_own_mirror, load_own_word}, State.{Desk, queue_of, word_of}}
-use Rattle.exec_steps.{specs.{declared.parts.{shared.Shared.Shared, worker.Worker.Worker}, Sound.SoundAt, Spots.Spot, View.{own_of, desk_of, things_of, things_with}, Works.{Makes, Goes, Steps}}, proofs.{Aside.loaded, Turning.{queue_back_again, word_back_again}}}
+use Rattle.exec_machine.specs.{declared.event.Event.{Event, TheVariants.Turn}, Choice.Choice.Plain}
+use Rattle.exec_moves.specs.{declared.place.{Found.Found, Round.Round, InLoads.InLoads, Place.Place}, Load.{load_own_head, load_own_mirror, load_own_word}, State.{queue_of, word_of}}
+use Rattle.exec_parts.specs.{declared.parts.{shared.Shared.Shared, worker.Worker.Worker}, Spots.Spot, View.{own_of, desk_of, things_of, things_with}, Things.{Makes, Goes}}
+use Rattle.exec_invariants.{specs.{Sound.SoundAt, Works.Steps}, proofs.{Aside.loaded, Turning.{queue_back_again, word_back_again}}}
 
 module _ {B L : Type 0} (left : B → L) (spot : L → Option Said → Spot) (w w' : Worker) (s : Shared B) (e : Event) where
   pub own_head_loaded : (r : Round) → SoundAt (Place.Loads InLoads.LoadOwnHead r) w s → Makes (load_own_head r (desk_of w) (queue_of (things_of s) w.index)) e w' → Goes w w' → Steps left spot w s e w' s

@@ -1,10 +1,10 @@
 -- What the steps of a pick are to the machine.
-use Rattle.std.proofs.{Common.{◌≡◌, ℕ, Bool, List, [], ◌∷◌, Option, refl, sym, ap, subst, ◌∙◌, true, false, ◌-◌, arith, length, slice_get, if◌then◌else◌, nat_le}, lemmas.List.length-map}
-use Rattle.exec_words.specs.Queue.{Queue, room_of}
+use Rattle.std.proofs.{Common.{◌≡◌, ℕ, Bool, List, [], ◌∷◌, Option, refl, sym, ap, subst, ◌∙◌, true, false, ◌-◌, arith, if◌then◌else◌, nat_le}, lemmas.List.length-map}
 use Rattle.exec_task.specs.declared.body.Said.{Said}
 use Rattle.exec_machine.specs.{declared.{config.Configuration.Configuration, event.Event.{Event, TheVariants.Turn}}, Choice.Choice.Plain}
-use Rattle.exec_moves.specs.{declared.{handing.{AfterPop.AfterPop, First.First, InPop.InPop}, place.{Place.Place, InPick.InPick}}, Parts.{first_pop, has_others}, Pick.{after_empty_look, count_down, load_head, load_mirror, one_pick_less}, State.{Desk, Moved, Own, queue_of, turns}, Thing.with_global}
-use Rattle.exec_steps.{specs.{Tests.first_pick_of, Roles.is_pool, Kinds.Kind, declared.parts.{shared.Shared.Shared, worker.Worker.Worker}, Sound.SoundAt, Spots.Spot, View.{desk_of, things_of, things_with}, Works.{Makes, Goes, Steps}}, proofs.{DedicatedSeen.pool_seen, Aside.{loaded, went}, Showing.own_queue_seen, Turning.{GoesOn, Keeps, Lands, by_hand, lands_either, queue_back_again}}}
+use Rattle.exec_moves.specs.{declared.{handing.{AfterPop.AfterPop, First.First, InPop.InPop}, place.{Place.Place, InPick.InPick}}, Parts.{first_pop, has_others}, Pick.{after_empty_look, count_down, load_head, load_mirror, one_pick_less}, State.{Moved, Own, queue_of, turns}, Thing.with_global}
+use Rattle.exec_parts.{specs.{Tests.first_pick_of, Roles.is_pool, declared.parts.{shared.Shared.Shared, worker.Worker.Worker}, Spots.Spot, View.{desk_of, things_of, things_with}, Things.{Makes, Goes}}, proofs.Showing.own_queue_seen}
+use Rattle.exec_invariants.{specs.{Kinds.Kind, Sound.SoundAt, Works.Steps}, proofs.{DedicatedSeen.pool_seen, Aside.{loaded, went}, Turning.{GoesOn, Keeps, Lands, by_hand, lands_either, queue_back_again}}}
 
 module _ {B : Type 0} where
   -- the first step of a pop is of the kind of a pick

@@ -1,11 +1,12 @@
 -- What the steps are to the machine by which who has appended to the global queue reserves a search count for a worker that
 -- is published.
-use Rattle.std.proofs.Common.{◌≡◌, ℕ, ◌+◌, ◌-◌, ◌<◌, ◌==◌, Bool, true, false, IsSome, Option, refl, sym, ap, subst, ◌∙◌, arith, if◌then◌else◌}
+use Rattle.std.proofs.Common.{◌≡◌, ◌+◌, ◌-◌, ◌<◌, ◌==◌, Bool, true, false, IsSome, Option, refl, ap, ◌∙◌, arith, if◌then◌else◌}
 use Rattle.exec_words.specs.{Idle.{Idle, lowest_of}, declared.idle.WorkerSet.WorkerSet}
 use Rattle.exec_task.specs.declared.body.Said.{Said}
 use Rattle.exec_machine.specs.declared.event.Event.{Event, TheVariants.Turn}
 use Rattle.exec_moves.specs.{declared.{handing.{AfterClaim.AfterClaim, AfterKick.AfterKick, AfterPush.AfterPush, InGlobal.InGlobal, InKick.InKick}, place.Place.Place}, Claim.set_of, Global.{add_global_count, has_any}, State.Moved}
-use Rattle.exec_steps.{specs.{declared.parts.{shared.Shared.Shared, worker.Worker.Worker}, Sound.SoundAt, Spots.Spot, Tests.after_push_of, View.desk_of, Whole.HasWhole, Works.{Goes, Makes, Steps}}, proofs.{Counting.{counts_alone, has_count, stance_at, stance_here}, Handed.{PushNext, out, push_comes, push_seen, same_kick, someone}, Idled.{Comes, comes, comes_either, gone, gone_by}}}
+use Rattle.exec_parts.specs.{declared.parts.{shared.Shared.Shared, worker.Worker.Worker}, Spots.Spot, Tests.after_push_of, View.desk_of, Things.{Goes, Makes}}
+use Rattle.exec_invariants.{specs.{Sound.SoundAt, Whole.HasWhole, Works.Steps}, proofs.{Counting.{counts_alone, has_count, stance_at, stance_here}, Handed.{PushNext, out, push_comes, push_seen, same_kick, someone}, Idled.{Comes, comes, comes_either, gone, gone_by}}}
 
 module _ {B : Type 0} where
   -- who returns a count holds one

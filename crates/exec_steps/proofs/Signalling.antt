@@ -1,10 +1,12 @@
 -- What the steps of a signal are to the machine: the latch goes into the wake word of a worker, and its wait is ended.
-use Rattle.std.proofs.{Common.{◌≡◌, ℕ, ◌-◌, ◌<◌, ◌≤◌, inl, Bool, true, false, List, [], ◌∷◌, length, map, Option, Some, refl, sym, ap, subst, ◌∙◌, arith, slice_get, slice_set, nat_lt, ◌==◌, get_or, if◌then◌else◌}, lemmas.{Bool.{false≢true, Decides.nat_tests}, List.length-set, Option.{get_or_from_slice_get, slice_get-get_or}}}
-use Rattle.exec_words.specs.{Queue.Queue, Word.asks_signal, declared.word.{PureWord.PureWord}}
-use Rattle.exec_task.specs.declared.{body.Said.Said, runnable.Runnable.Runnable}
-use Rattle.exec_machine.specs.{declared.{event.Event.{Event, TheVariants.{Turn, Rouse}}, state.{Letter.Letter as Owed, Next.Next, Rest.Rest}}, Choice.Choice.Plain, After.common_after, Closing.letters_to_roots, Progress.Plan, Tests.is_awake, World.{no_seat, seat_of}}
-use Rattle.exec_moves.specs.{declared.{handing.{AfterCancels.AfterCancels, AfterClaim.AfterClaim, AfterKick.AfterKick, AfterLeave.AfterLeave, AfterPop.AfterPop, AfterPush.AfterPush, AfterSend.AfterSend, AfterSignal.AfterSignal, InKick.InKick, InPop.InPop, InSignal.InSignal}, place.{InClosing.InClosing, InPick.InPick, InPoll.InPoll, Place.Place}}, Claim.{is_ring, latched, rousing}, Move.move_at, Parts.{after_cancels, after_send, after_signal, after_visit, cancels_left, first_pop, has_others, tells_from}, Seen.{next_at, polls_at, serves_at}}
-use Rattle.exec_steps.{specs.{declared.parts.{seat.Seat.Seat as Chair, shared.Shared.Shared, worker.Worker.Worker}, Holding.box_of, Kinds.Kind, Phased.{IsPhased, TurnsChair, closes_at, closing_in, stage_of}, Places.{claims_at, drops_at, has_count_at, is_armed_at, is_published_at}, Pooled.{OfChair, chair_latched, chair_raised, event_rousing}, Sound.{HasLetters, HasQueue, LetsGo, SoundAt}, Spares.SparesChair, Spots.Spot, Tests.{after_leave_of, after_push_of, after_signal_of}, View.{Views, Visible, common_of, desk_of, driver_of, letters_in, owed_at, own_of, seat_seen, seats_seen, things_with, visible, with_view}, Works.{Beside, Steps, Suits, Works}}, proofs.{Aside.{beside_calm, queue_of_chair, queues_set, seats_other}, CallNext.push_next, Handed.{Between, KickSeen, NextSeen, kick_comes, kick_seen, less_by, most_by, onward, out, push_comes, push_seen, same_kick}, Hearing.unheard, Idled.{Comes, Fares, Settles, comes, fares, settled}, PoolKept.{gate_spared, gates_set}, Queueing.if_either, Seats.{chair_set, seat_there as seen_there}, Rousing.{Keeps, seat_was, seated_now, stage_was, wake_shows}, Showing.{map_kept, own_word_seen, seats_kept, word_shows}, Thieves.seat_there, Turning.{Arrives, GoesOn, IsTurn, Shares, sound_on, turned, view_found}}}
+use Rattle.std.proofs.{Common.{◌≡◌, ℕ, ◌-◌, ◌<◌, ◌≤◌, inl, Bool, true, false, List, [], ◌∷◌, length, map, Option, Some, refl, sym, ap, subst, ◌∙◌, arith, slice_get, slice_set, nat_lt, ◌==◌, get_or, if◌then◌else◌}, lemmas.{Bool.false≢true, List.length-set, Option.{get_or_from_slice_get, slice_get-get_or}}}
+use Rattle.exec_words.specs.{Word.asks_signal, declared.word.PureWord.PureWord}
+use Rattle.exec_task.specs.declared.body.Said.{Said}
+use Rattle.exec_machine.specs.{declared.{event.Event.{Event, TheVariants.{Turn, Rouse}}, state.{Letter.Letter as Owed, Rest.Rest}}, Choice.Choice.Plain, After.common_after, Closing.letters_to_roots, Progress.Plan, Tests.is_awake, World.{no_seat, seat_of}}
+use Rattle.exec_moves.specs.{declared.{handing.{AfterCancels.AfterCancels, AfterClaim.AfterClaim, AfterKick.AfterKick, AfterPop.AfterPop, AfterPush.AfterPush, AfterSend.AfterSend, AfterSignal.AfterSignal, InKick.InKick, InPop.InPop, InSignal.InSignal}, place.{InClosing.InClosing, InPick.InPick, InPoll.InPoll, Place.Place}}, Claim.{is_ring, latched, rousing}, Move.move_at, Parts.{after_cancels, after_send, after_signal, after_visit, cancels_left, has_others, tells_from}, Seen.{polls_at, serves_at}}
+use Rattle.exec_parts.{specs.{declared.parts.{seat.Seat.Seat as Chair, shared.Shared.Shared, worker.Worker.Worker}, Phased.{IsPhased, TurnsChair, closes_at, closing_in, stage_of}, Pooled.{OfChair, chair_latched, chair_raised, event_rousing}, Spots.Spot, Tests.{after_leave_of, after_push_of, after_signal_of}, View.{Views, Visible, common_of, desk_of, driver_of, letters_in, owed_at, own_of, seat_seen, seats_seen, things_with, visible, with_view}}, proofs.Showing.{map_kept, own_word_seen, seats_kept, word_shows}}
+use Rattle.exec_invariants.{specs.{Holding.box_of, Kinds.Kind, Places.{claims_at, drops_at, has_count_at, is_armed_at, is_published_at}, Sound.{HasLetters, HasQueue, LetsGo, SoundAt}, Spares.SparesChair, Works.{Beside, Steps, Suits, Works}}, proofs.{Aside.{beside_calm, queue_of_chair, queues_set, seats_other}, Handed.{Between, KickSeen, NextSeen, kick_comes, kick_seen, less_by, most_by, onward, out, push_comes, push_seen, same_kick}, Hearing.unheard, Idled.{Comes, Fares, Settles, comes, fares, settled}, PoolKept.{gate_spared, gates_set}, Queueing.if_either, Seats.{chair_set, seat_there as seen_there}, Rousing.{Keeps, seat_was, seated_now, stage_was, wake_shows}, Thieves.seat_there, Turning.{Arrives, GoesOn, IsTurn, Shares, sound_on, turned, view_found}}}
+use Rattle.exec_steps.proofs.CallNext.{push_next}
 
 module _ {B : Type 0} where
   -- what is said of such a place, with the seats as they are then

@@ -1,7 +1,9 @@
 -- WHAT HOLDS OF AN EXECUTOR between two steps: each worker and each outside caller is sound with what all share, and the
 -- balances of all of them hold.
 use Rattle.std.specs.Prelude.{◌≡◌, ℕ, ◌≤◌, ◌^◌, false, List, [], ◌∷◌, length, slice_get, Some, None}
-use Rattle.exec_steps.specs.{declared.parts.{caller.Caller.Caller, shared.Shared.Shared, worker.Worker.Worker}, Calling.{CallSound, with_caller}, Places.no_drops, Sound.Sound, Whole.{IsWhole, Profile, with_worker}}
+use Rattle.exec_parts.specs.declared.parts.{shared.Shared.Shared, worker.Worker.Worker}
+use Rattle.exec_polling.specs.{declared.caller.Caller.Caller, Calling.{CallSound, with_caller}}
+use Rattle.exec_invariants.specs.{Places.no_drops, Sound.Sound, Whole.{IsWhole, Profile, with_worker}}
 
 abbrev pub nobody : Profile
 nobody =

@@ -1,324 +1,50 @@
-//! The search of a worker with nothing to do: half of the values of another run queue move into its own.
-//!
-//! A worker searches only while less than half of the workers do, and holds a search count from then on, until it
-//! leaves the search or looks once more. It goes over the other queues once, from a worker on that a generator picks.
-//! At each it loads the head and then the tail, and exchanges the head for a claim of half of what lies between; what
-//! it can't take it passes. The values are moved while the claim stands, and published by a store of its own tail after
-//! the release.
+//! Which function takes the next step of a search. What each does, `exec_parts::search` says.
 
-ghost use Rattle.std.specs.Prelude.{◌≡◌, ◌+◌, ◌-◌, ◌*◌, ◌%◌, ◌^◌, ◌<◌, ◌≤◌, [], length, true};
-ghost use Rattle.exec_words.specs.{Head.claim_at, Queue.{claimed as claimed_queue, head_of, published, released, room_of, tail_of}, Reserved.{extended, spare}};
-ghost use Rattle.exec_machine.specs.declared.config.Configuration.{Configuration};
-ghost use Rattle.exec_moves.specs.{Pop.same_head, Search.{add_search_count, claim_half, from_of as number_from, judge_head as judged, load_scan_head, load_search_count, load_their_head, load_their_tail, looks_at, move_half, past as scan_past, release_half, stirred as number_stirred}, State.queue_of};
-ghost use Rattle.exec_steps.specs.{Phased.TurnsChair, Pooled.{OfChair, claimed_if, released_if, taken_if}, Sound.SoundAt, Tests.{first_search_of, leaves_turn_of}, View.{desk_of, things_of}, Whole.HasWhole, Works.{Goes, Makes, Steps}};
+ghost use Rattle.std.specs.Prelude.{◌+◌, ◌-◌, ◌<◌};
+ghost use Rattle.exec_invariants.specs.{Sound.SoundAt, Whole.HasWhole, Works.Steps};
 
-use crate::parts::shared::Shared;
-use crate::parts::worker::Worker;
-use crate::scripted::Scripted;
 use exec_machine::event::Event;
-use exec_moves::idling::{InLook, InScan, InSearch, Scan};
+use exec_moves::idling::{InScan, InSearch, Scan};
 use exec_moves::place::Place;
-use exec_words::head::Head;
-use exec_words::idle::PureIdle;
-use exec_words::{CAPACITY, HALF, STEALABLE};
+use exec_parts::parts::shared::Shared;
+use exec_parts::parts::worker::Worker;
+use exec_parts::scripted::Scripted;
 
-impl Worker {
-    /// The first step of a worker that has nothing to do and isn't due: a search, or the look where it is alone.
-    pub(crate) fn first_search(&self, workers: usize) -> Place
-        requires workers { 0 < workers }
-        ensures { result ≡ first_search_of workers self.now }
-    {
-        if workers == 1 {
-            Place::Look(InLook::Publish)
-        } else if self.searching {
-            Place::Scan(InScan::LoadScanHead)
-        } else {
-            Place::Search(InSearch::LoadSearchCount)
+/// Takes the next step before a scan.
+pub(crate) fn search<B: Scripted + Drop>(
+    worker: &mut Worker,
+    at: InSearch,
+    shared: &mut Shared<B>,
+) -> Event
+    requires sound { SoundAt (Place.Search at) worker.old shared.old }
+    requires whole { HasWhole worker.old shared.old }
+    ensures steps { Steps B.left B.spot worker.old shared.old result worker.new shared.new }
+{
+    match at {
+        InSearch::LoadSearchCount => {
+            worker.load_search_count(&shared.idle, shared.config.workers)
         }
-    }
-
-    /// Takes the next step before a scan.
-    pub(crate) fn search<B: Scripted + Drop>(
-        &mut self,
-        at: InSearch,
-        shared: &mut Shared<B>,
-    ) -> Event
-        requires sound { SoundAt (Place.Search at) self.old shared.old }
-        requires whole { HasWhole self.old shared.old }
-        ensures steps { Steps B.left B.spot self.old shared.old result self.new shared.new }
-    {
-        match at {
-            InSearch::LoadSearchCount => {
-                self.load_search_count(&shared.idle, shared.config.workers)
-            }
-            InSearch::AddSearchCount => self.add_search_count(&mut shared.idle),
-        }
-    }
-
-    /// Loads the search count: where half of the workers search, this one doesn't.
-    fn load_search_count(&mut self, idle: &PureIdle, workers: usize) -> Event
-        ensures makes { (c : Configuration) → c.workers ≡ workers →
-            Makes (load_search_count c (desk_of self.old) idle.now) result self.new }
-        ensures goes { Goes self.old self.new }
-    {
-        self.place = if idle.count() >= workers.div_ceil(2) {
-            Place::Look(InLook::Publish)
-        } else {
-            Place::Search(InSearch::AddSearchCount)
-        };
-        Event::Turn
-    }
-
-    /// Adds a search count, which the worker holds from now on.
-    fn add_search_count(&mut self, idle: &mut PureIdle) -> Event
-        requires few { idle.old.count + 1 < 2 ^ 64 }
-        ensures makes { Makes (add_search_count (desk_of self.old) idle.old) result self.new }
-        ensures same { self.new ≡ record self.old { place = self.new.place; searching = true } }
-        ensures idle { idle.new ≡ record idle.old { count = idle.old.count + 1 } }
-    {
-        idle.add();
-        self.searching = true;
-        self.place = Place::Scan(InScan::LoadScanHead);
-        Event::Turn
-    }
-
-    /// Takes the next step of a scan.
-    pub(crate) fn scan<B: Scripted + Drop>(&mut self, at: InScan, shared: &mut Shared<B>) -> Event
-        requires sound { SoundAt (Place.Scan at) self.old shared.old }
-        requires whole { HasWhole self.old shared.old }
-        ensures steps { Steps B.left B.spot self.old shared.old result self.new shared.new }
-    {
-        match at {
-            InScan::LoadScanHead => self.load_scan_head(shared),
-            InScan::LoadTheirHead { scan } => self.load_their_head(scan, shared),
-            InScan::LoadTheirTail { scan, head } => self.load_their_tail(scan, head, shared),
-            InScan::ClaimHalf { scan, head, tail } => self.claim_half(scan, head, tail, shared),
-            InScan::MoveHalf { from, head } => self.move_half(from, head),
-            InScan::ReleaseHalf { from, head } => self.release_half(from, head, shared),
-            InScan::StoreMoved => self.store_moved(shared),
-        }
-    }
-
-    /// Loads the own head, for its room: a scan wants half of the places free.
-    fn load_scan_head<B: Drop>(&mut self, shared: &Shared<B>) -> Event
-        requires there { self.old.index < length shared.now.seats.items }
-        requires workers { 0 < shared.now.config.workers }
-        ensures makes { Makes (load_scan_head shared.now.config self.old.index (desk_of self.old)
-            (queue_of (things_of shared.now) self.old.index)) result self.new }
-        ensures same { self.new ≡ record self.old { place = self.new.place; rng = number_stirred self.old.rng } }
-    {
-        self.rng = stirred(self.rng);
-        let workers = shared.config.workers;
-        let scan = Scan {
-            start: self.rng as usize % workers,
-            passed: 0,
-        };
-        self.place = if shared.seats[self.index].queue.room() < HALF {
-            Place::Look(InLook::Publish)
-        } else {
-            self.look_at(scan, workers)
-        };
-        Event::Turn
-    }
-
-    /// Goes on to the queue that is next, which isn't the own one. After the last the scan has failed.
-    fn look_at(&self, scan: Scan, workers: usize) -> Place
-        requires workers { 0 < workers }
-        requires few { scan.start + scan.passed + 1 < 2 ^ 64 }
-        ensures { (c : Configuration) → c.workers ≡ workers → result ≡ looks_at c self.now.index scan }
-    {
-        let scan = if from_of(scan, workers) == self.index {
-            past(scan)
-        } else {
-            scan
-        };
-        if scan.passed < workers {
-            Place::Scan(InScan::LoadTheirHead { scan })
-        } else {
-            Place::Look(InLook::Publish)
-        }
-    }
-
-    /// Loads the head of another queue.
-    fn load_their_head<B: Drop>(&mut self, scan: Scan, shared: &Shared<B>) -> Event
-        requires workers { 0 < shared.now.config.workers }
-        requires seats { shared.now.config.workers ≤ length shared.now.seats.items }
-        requires few { scan.start + scan.passed + 2 < 2 ^ 64 }
-        ensures makes { Makes (load_their_head shared.now.config self.old.index scan (desk_of self.old)
-            (queue_of (things_of shared.now) (number_from shared.now.config scan))) result self.new }
-        ensures goes { Goes self.old self.new }
-    {
-        let workers = shared.config.workers;
-        let head = shared.seats[from_of(scan, workers)].queue.head();
-        self.place = self.judge_head(scan, head, workers);
-        Event::Turn
-    }
-
-    /// Goes on by the head that was found: its tail is loaded, unless a claim stands.
-    fn judge_head(&self, scan: Scan, head: Head, workers: usize) -> Place
-        requires workers { 0 < workers }
-        requires few { scan.start + scan.passed + 2 < 2 ^ 64 }
-        ensures { (c : Configuration) → c.workers ≡ workers → result ≡ judged c self.now.index scan head }
-    {
-        if head.gap == 0 {
-            Place::Scan(InScan::LoadTheirTail { scan, head })
-        } else {
-            self.look_at(past(scan), workers)
-        }
-    }
-
-    /// Loads the tail of another queue. An overflow can come between the two loads; then the head is too old.
-    fn load_their_tail<B: Drop>(&mut self, scan: Scan, head: Head, shared: &Shared<B>) -> Event
-        requires workers { 0 < shared.now.config.workers }
-        requires seats { shared.now.config.workers ≤ length shared.now.seats.items }
-        requires few { scan.start + scan.passed + 2 < 2 ^ 64 }
-        ensures makes { Makes (load_their_tail shared.now.config self.old.index scan head (desk_of self.old)
-            (queue_of (things_of shared.now) (number_from shared.now.config scan))) result self.new }
-        ensures goes { Goes self.old self.new }
-    {
-        let workers = shared.config.workers;
-        let tail = shared.seats[from_of(scan, workers)].queue.tail();
-        let len = head.len(tail);
-        self.place = if len > CAPACITY {
-            Place::Scan(InScan::LoadTheirHead { scan })
-        } else if len < STEALABLE {
-            self.look_at(past(scan), workers)
-        } else {
-            Place::Scan(InScan::ClaimHalf { scan, head, tail })
-        };
-        Event::Turn
-    }
-
-    /// Exchanges the head of another queue for a claim of half of its values, which go into the hands.
-    fn claim_half<B: Drop>(
-        &mut self,
-        scan: Scan,
-        head: Head,
-        tail: u64,
-        shared: &mut Shared<B>,
-    ) -> Event
-        requires workers { 0 < shared.old.config.workers }
-        requires seats { shared.old.config.workers ≤ length shared.old.seats.items }
-        requires few { scan.start + scan.passed + 2 < 2 ^ 64 }
-        requires unclaimed { head.gap ≡ 0 }
-        requires stealable { head.real + 2 ≤ tail }
-        requires past { OfChair (number_from shared.old.config scan) shared.old (λ chair. tail ≤ tail_of chair.queue) }
-        requires empty { self.old.loot.values ≡ [] }
-        requires places { 128 ≤ spare self.old.loot }
-        ensures makes { Makes (claim_half shared.old.config self.old.index scan head tail (desk_of self.old)
-            (queue_of (things_of shared.old) (number_from shared.old.config scan))) result self.new }
-        ensures loot { OfChair (number_from shared.old.config scan) shared.old
-            (λ chair. self.new.loot ≡ extended self.old.loot
-            (taken_if (same_head head (head_of chair.queue)) (claim_at head tail) chair.queue.values)) }
-        ensures same { self.new ≡ record self.old { place = self.new.place; loot = self.new.loot } }
-        ensures chair { TurnsChair (number_from shared.old.config scan)
-            (λ chair. record chair {
-              queue = claimed_if (same_head head (head_of chair.queue))
-                  (claim_at head tail) chair.queue;
-            }) shared.old shared.new }
-        ensures kept { shared.new ≡ record shared.old { seats = shared.new.seats } }
-    {
-        let workers = shared.config.workers;
-        let from = from_of(scan, workers);
-        let claimed = shared.seats[from]
-            .queue
-            .claim_exchange(head, tail, &mut self.loot);
-        match claimed {
-            Ok(count) => {
-                let head = Head {
-                    real: head.real + count as u64,
-                    gap: count,
-                };
-                self.place = Place::Scan(InScan::MoveHalf { from, head });
-                Event::Turn
-            }
-            Err(found) => {
-                self.place = self.judge_head(scan, found, workers);
-                Event::Turn
-            }
-        }
-    }
-
-    /// Moves the values.
-    fn move_half(&mut self, from: usize, head: Head) -> Event
-        ensures makes { Makes (move_half from head (desk_of self.old)) result self.new }
-        ensures goes { Goes self.old self.new }
-    {
-        self.place = Place::Scan(InScan::ReleaseHalf { from, head });
-        Event::Turn
-    }
-
-    /// Exchanges the head of the other queue for one without the claim.
-    fn release_half<B: Drop>(&mut self, from: usize, head: Head, shared: &mut Shared<B>) -> Event
-        requires there { from < length shared.old.seats.items }
-        ensures makes { Makes (release_half from head (desk_of self.old)
-            (queue_of (things_of shared.old) from)) result self.new }
-        ensures goes { Goes self.old self.new }
-        ensures chair { TurnsChair from (λ chair. record chair {
-          queue = released_if (same_head head
-              (head_of chair.queue)) chair.queue;
-        }) shared.old shared.new }
-        ensures kept { shared.new ≡ record shared.old { seats = shared.new.seats } }
-    {
-        let next = match shared.seats[from].queue.release_exchange(head) {
-            Ok(()) => InScan::StoreMoved,
-            Err(head) => InScan::ReleaseHalf { from, head },
-        };
-        self.place = Place::Scan(next);
-        Event::Turn
-    }
-
-    /// Stores the own tail behind the values that were moved.
-    fn store_moved<B: Drop>(&mut self, shared: &mut Shared<B>) -> Event
-        requires there { self.old.index < length shared.old.seats.items }
-        requires room { OfChair self.old.index shared.old (λ chair. length self.old.loot.values ≤ room_of chair.queue) }
-        requires whole { OfChair self.old.index shared.old (λ chair. chair.queue.held ≡ []) }
-        ensures event { result ≡ Event.Turn }
-        ensures goes { self.new ≡ record self.old {
-          place = leaves_turn_of self.old;
-          loot = record self.old.loot { values = [] };
-        } }
-        ensures chair { TurnsChair self.old.index (λ chair. record
-            chair { queue = published chair.queue self.old.loot.values }) shared.old shared.new }
-        ensures kept { shared.new ≡ record shared.old { seats = shared.new.seats } }
-    {
-        let count = self.loot.len();
-        shared.seats[self.index]
-            .queue
-            .publish(count, &mut self.loot);
-        self.place = self.next_turn();
-        Event::Turn
+        InSearch::AddSearchCount => worker.add_search_count(&mut shared.idle),
     }
 }
 
-/// The worker whose queue is next.
-fn from_of(scan: Scan, workers: usize) -> usize
-    requires workers { 0 < workers }
-    requires few { scan.start + scan.passed < 2 ^ 64 }
-    ensures number { (c : Configuration) → c.workers ≡ workers → result ≡ number_from c scan }
-    ensures within { result < workers }
+/// Takes the next step of a scan.
+pub(crate) fn scan<B: Scripted + Drop>(
+    worker: &mut Worker,
+    at: InScan,
+    shared: &mut Shared<B>,
+) -> Event
+    requires sound { SoundAt (Place.Scan at) worker.old shared.old }
+    requires whole { HasWhole worker.old shared.old }
+    ensures steps { Steps B.left B.spot worker.old shared.old result worker.new shared.new }
 {
-    (scan.start + scan.passed) % workers
-}
-
-/// The scan past the queue that was next.
-fn past(scan: Scan) -> Scan
-    requires { scan.passed + 1 < 2 ^ 64 }
-    ensures { result ≡ scan_past scan }
-{
-    Scan {
-        passed: scan.passed + 1,
-        ..scan
+    match at {
+        InScan::LoadScanHead => worker.load_scan_head(shared),
+        InScan::LoadTheirHead { scan } => worker.load_their_head(scan, shared),
+        InScan::LoadTheirTail { scan, head } => worker.load_their_tail(scan, head, shared),
+        InScan::ClaimHalf { scan, head, tail } => worker.claim_half(scan, head, tail, shared),
+        InScan::MoveHalf { from, head } => worker.move_half(from, head),
+        InScan::ReleaseHalf { from, head } => worker.release_half(from, head, shared),
+        InScan::StoreMoved => worker.store_moved(shared),
     }
-}
-
-/// The next number of the generator that picks where a scan begins.
-fn stirred(seed: u32) -> u32
-    ensures { result ≡ number_stirred seed }
-{
-    let mut rng = seed;
-    rng ^= rng << 13;
-    rng ^= rng >> 17;
-    rng ^= rng << 5;
-    rng
 }

@@ -1,4 +1,3 @@
-use Rattle.std.proofs.Common.{arith}
 use Rattle.exec_core.proofs.Powers.{in_range, may_begin}
 use Rattle.exec_core.proofs.setting_up.first_worker.Goals as goal
 

@@ -1,6 +1,6 @@
 use Rattle.std.proofs.Common.{[], ◌∷◌, length, sym, ap, subst, ◌∙◌, append_assoc, append-nil, arith}
 use Rattle.std.specs.Vec.Iter.{into_iter_items}
-use Rattle.exec_steps.specs.{Dedicated.Begins, declared.parts.role.Role.TheVariants.Pool}
+use Rattle.exec_parts.specs.{Dedicated.Begins, declared.parts.role.Role.TheVariants.Pool}
 use Rattle.exec_core.specs.Firsts.{AllBegin}
 use Rattle.exec_core.proofs.CoreFirsts.{begin_more, begin_none, nothing_left, within_yielded}
 use Rattle.exec_core.proofs.setting_up.first_workers.Goals as goal

@@ -17,7 +17,7 @@ returns-clause-ends g c =
     let was = read_there c.args.self.now.workers.items c.args.worker c.index_mut.result.now (begun_within c.args.self.now c.args.worker c.requires.stands c.requires.enabled) c.index_mut.ensures.value in
     record {
       before = c.index_mut.result.now;
-      after = c.end_poll.new.self;
+      after = c.end_poll.new.worker;
       was = was;
       workers = refl;
       callers = refl;

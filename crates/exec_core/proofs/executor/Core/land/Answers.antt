@@ -1,5 +1,5 @@
 use Rattle.std.proofs.{Common.{refl, sym, ap, ◌∙◌, arith}, lemmas.Option.slice_get_within}
-use Rattle.exec_steps.proofs.Facts.{same_thing}
+use Rattle.exec_parts.proofs.Facts.{same_thing}
 use Rattle.exec_core.proofs.{Applying.owner_there, Taking.{lands_within, land_read, landing_may, read_there}}
 use Rattle.exec_core.proofs.executor.Core.land.Goals as goal
 
@@ -47,7 +47,7 @@ returns-clause-lands g c =
       there = there;
       rings = record {
         before = c.index_mut.result.now;
-        after = c.land.new.self;
+        after = c.land.new.worker;
         was = was;
         workers = refl;
         callers = refl;

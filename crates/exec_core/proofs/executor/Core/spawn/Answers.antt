@@ -1,7 +1,7 @@
 use Rattle.std.proofs.Common.{refl, sym, ap, subst, ◌∙◌, arith}
 use Rattle.std.specs.Vec.{with_item}
-use Rattle.exec_steps.specs.Scripts.{Begins}
-use Rattle.exec_steps.proofs.Facts.{same_thing}
+use Rattle.exec_parts.specs.Scripts.{Begins}
+use Rattle.exec_parts.proofs.Facts.{same_thing}
 use Rattle.exec_core.proofs.{CoreSpawns.{spawn_calls, spawn_keeps, spawn_same}, Taking.{call_whole, call_within, free_there, read_there, spent_by}}
 use Rattle.exec_core.proofs.executor.Core.spawn.Goals as goal
 

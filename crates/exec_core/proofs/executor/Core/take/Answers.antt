@@ -3,7 +3,7 @@ use Rattle.exec_base.specs.declared.limits.TheConstants.{LAST_MOMENT}
 use Rattle.exec_machine.specs.declared.step.Action.TheVariants as action
 use Rattle.exec_moves.specs.{Plays.last_told, State.passed}
 use Rattle.exec_machine.specs.Callers.{after_landing}
-use Rattle.exec_steps.specs.Records.{reached}
+use Rattle.exec_parts.specs.Records.{reached}
 use Rattle.exec_core.proofs.{Applying.{clock_moved, landed, poll_ended, set_busy, stirred}, CoreCalls.{call_stands, go_on_keeps, wake_called, wake_keeps, went_called}, Taking.{chair_many, keeps_tasks, less_there, peer_applied, peer_keeps, peer_same, peer_stands, rings_stand, seats_stand, sees_stand, spawn_stands, spawn_takes, stirs_within, worked, worked_keeps, worked_same, worked_stands}}
 use Rattle.exec_core.proofs.executor.Core.take.Goals as goal
 
@@ -74,34 +74,34 @@ returns-in-Work-clause-same g c = worked_same g.B.Body.left g.B.Scripted.spot c.
 pub returns-in-Clock-clause-takes : goal.returns-in-Clock-clause-takes
 returns-in-Clock-clause-takes g c = λ p config performs.
     rw (c.in-Clock.is, c.move_clock.ensures.event)
-    (clock_moved g.B.Body.left g.B.Scripted.spot p c.args.self.now (record c.args.self.now { shared = c.move_clock.new.self }) c.in-Clock.by c.requires.ready.1.stands (rw c.in-Clock.is at c.requires.enabled) refl refl c.move_clock.ensures.seats c.move_clock.ensures.kept)
+    (clock_moved g.B.Body.left g.B.Scripted.spot p c.args.self.now (record c.args.self.now { shared = c.move_clock.new.shared }) c.in-Clock.by c.requires.ready.1.stands (rw c.in-Clock.is at c.requires.enabled) refl refl c.move_clock.ensures.seats c.move_clock.ensures.kept)
 
 pub returns-in-Clock-clause-stands : goal.returns-in-Clock-clause-stands
 returns-in-Clock-clause-stands g c =
     let kept = c.move_clock.ensures.kept in
-    seats_stand c.args.self.now (record c.args.self.now { shared = c.move_clock.new.self }) c.requires.ready.1.stands c.requires.ready.1.unspent refl refl refl
+    seats_stand c.args.self.now (record c.args.self.now { shared = c.move_clock.new.shared }) c.requires.ready.1.stands c.requires.ready.1.unspent refl refl refl
     (ap (λ xs. length xs) c.move_clock.ensures.seats ∙ length-map c.args.self.now.shared.seats.items (reached (c.args.self.now.shared.clock + c.in-Clock.by)))
     (ap (λ s. s.config) kept) (ap (λ s. s.tasks) kept) (ap (λ s. s.requests) kept) (ap (λ s. s.sleepers) kept) (ap (λ s. s.set) kept) c.move_clock.ensures.sound c.move_clock.ensures.whole
 
 pub returns-in-Clock-clause-keeps : goal.returns-in-Clock-clause-keeps
 returns-in-Clock-clause-keeps g c =
-    keeps_tasks g.B.Body.left g.B.Scripted.runs g.B.Scripted.holds g.B.Scripted.spot g.B.Body.name_of c.args.action c.args.body c.args.self.now (record c.args.self.now { shared = c.move_clock.new.self }) (ap (λ s. s.config) c.move_clock.ensures.kept) (ap (λ s. s.tasks) c.move_clock.ensures.kept)
+    keeps_tasks g.B.Body.left g.B.Scripted.runs g.B.Scripted.holds g.B.Scripted.spot g.B.Body.name_of c.args.action c.args.body c.args.self.now (record c.args.self.now { shared = c.move_clock.new.shared }) (ap (λ s. s.config) c.move_clock.ensures.kept) (ap (λ s. s.tasks) c.move_clock.ensures.kept)
 
 pub returns-in-Stir-clause-takes : goal.returns-in-Stir-clause-takes
 returns-in-Stir-clause-takes g c = λ p config performs.
     rw (c.in-Stir.is, c.stir.ensures.event)
-    (stirred g.B.Body.left g.B.Scripted.spot p c.args.self.now (record c.args.self.now { shared = c.stir.new.self }) c.in-Stir.worker c.requires.ready.1.stands (rw c.in-Stir.is at c.requires.enabled) refl refl c.stir.ensures.chair c.stir.ensures.kept)
+    (stirred g.B.Body.left g.B.Scripted.spot p c.args.self.now (record c.args.self.now { shared = c.stir.new.shared }) c.in-Stir.worker c.requires.ready.1.stands (rw c.in-Stir.is at c.requires.enabled) refl refl c.stir.ensures.chair c.stir.ensures.kept)
 
 pub returns-in-Stir-clause-stands : goal.returns-in-Stir-clause-stands
 returns-in-Stir-clause-stands g c =
     let kept = c.stir.ensures.kept in
-    seats_stand c.args.self.now (record c.args.self.now { shared = c.stir.new.self }) c.requires.ready.1.stands c.requires.ready.1.unspent refl refl refl
-    (chair_many c.args.self.now c.stir.new.self c.in-Stir.worker (rw c.in-Stir.is at c.requires.enabled) c.stir.ensures.chair)
+    seats_stand c.args.self.now (record c.args.self.now { shared = c.stir.new.shared }) c.requires.ready.1.stands c.requires.ready.1.unspent refl refl refl
+    (chair_many c.args.self.now c.stir.new.shared c.in-Stir.worker (rw c.in-Stir.is at c.requires.enabled) c.stir.ensures.chair)
     (ap (λ s. s.config) kept) (ap (λ s. s.tasks) kept) (ap (λ s. s.requests) kept) (ap (λ s. s.sleepers) kept) (ap (λ s. s.set) kept) c.stir.ensures.sound c.stir.ensures.whole
 
 pub returns-in-Stir-clause-keeps : goal.returns-in-Stir-clause-keeps
 returns-in-Stir-clause-keeps g c =
-    keeps_tasks g.B.Body.left g.B.Scripted.runs g.B.Scripted.holds g.B.Scripted.spot g.B.Body.name_of c.args.action c.args.body c.args.self.now (record c.args.self.now { shared = c.stir.new.self }) (ap (λ s. s.config) c.stir.ensures.kept) (ap (λ s. s.tasks) c.stir.ensures.kept)
+    keeps_tasks g.B.Body.left g.B.Scripted.runs g.B.Scripted.holds g.B.Scripted.spot g.B.Body.name_of c.args.action c.args.body c.args.self.now (record c.args.self.now { shared = c.stir.new.shared }) (ap (λ s. s.config) c.stir.ensures.kept) (ap (λ s. s.tasks) c.stir.ensures.kept)
 
 pub returns-in-Land-clause-takes : goal.returns-in-Land-clause-takes
 returns-in-Land-clause-takes g c = λ p config performs.

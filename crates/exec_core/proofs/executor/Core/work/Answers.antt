@@ -1,6 +1,6 @@
 use Rattle.std.proofs.{Common.{◌≡◌, ◌++◌, true, None, refl, sym, ap, ◌∙◌, arith, option_to_list, slice_set}, lemmas.List.append-nil}
 use Rattle.std.specs.Result.{is_ok}
-use Rattle.exec_steps.proofs.Begun.{not_both}
+use Rattle.exec_polling.proofs.Begun.{not_both}
 use Rattle.exec_core.proofs.{Applying.let_on_there, Taking.{goes_there, if_ok, none_by, on_err_never, read_in, spent_by, whole_there, work_stays, work_steps, work_within}}
 use Rattle.exec_core.proofs.executor.Core.work.Goals as goal
 
@@ -54,8 +54,8 @@ pub returns-in-Some-clause-steps : goal.returns-in-Some-clause-steps
 returns-in-Some-clause-steps g c =
     let ready = c.requires.ready.1 in
     let there = read_in c.args.self.now.workers.items c.reserve.new.self.items c.args.worker c.index_mut.result.now c.reserve.ensures.items (work_within c.args.self.now c.args.worker ready.stands c.requires.enabled) c.index_mut.ensures.value in
-    let workers = c.push_reserved.ensures.items ∙ (λ k. slice_set (c.reserve.ensures.items k) c.args.worker c.step-stepped.new.self ++ option_to_list (sym c.in-Some.is k)) in
-    work_steps g.B.Body.left g.B.Scripted.runs g.B.Scripted.holds g.B.Scripted.spot c.args.worker c.args.self.now _ c.index_mut.result.now c.step-stepped.new.self c.step-stepped.new.nursery.born c.step-stepped.result there workers refl c.is_err-self.ensures.value ready.unspent c.step-stepped.ensures.steps
+    let workers = c.push_reserved.ensures.items ∙ (λ k. slice_set (c.reserve.ensures.items k) c.args.worker c.step-stepped.new.worker ++ option_to_list (sym c.in-Some.is k)) in
+    work_steps g.B.Body.left g.B.Scripted.runs g.B.Scripted.holds g.B.Scripted.spot c.args.worker c.args.self.now _ c.index_mut.result.now c.step-stepped.new.worker c.step-stepped.new.nursery.born c.step-stepped.result there workers refl c.is_err-self.ensures.value ready.unspent c.step-stepped.ensures.steps
 
 pub returns-in-Some-clause-stays : goal.returns-in-Some-clause-stays
 returns-in-Some-clause-stays g c = on_err_never c.step-stepped.result _ _ (λ none. not_both c.step-stepped.new.nursery.born c.in-Some.born none c.in-Some.is) c.step-stepped.ensures.nobody
@@ -68,15 +68,15 @@ returns-in_default-clause-steps g c =
     let ready = c.requires.ready.1 in
     let there = read_in c.args.self.now.workers.items c.reserve.new.self.items c.args.worker c.index_mut.result.now c.reserve.ensures.items (work_within c.args.self.now c.args.worker ready.stands c.requires.enabled) c.index_mut.ensures.value in
     let none : c.step-stepped.new.nursery.born ≡ None = none_by c.step-stepped.new.nursery.born c.in_default.not-Some in
-    let workers = ap (λ xs. slice_set xs c.args.worker c.step-stepped.new.self) c.reserve.ensures.items ∙ sym (append-nil (slice_set c.args.self.now.workers.items c.args.worker c.step-stepped.new.self))
-    ∙ ap (λ o. slice_set c.args.self.now.workers.items c.args.worker c.step-stepped.new.self ++ option_to_list o) (sym none) in
-    work_steps g.B.Body.left g.B.Scripted.runs g.B.Scripted.holds g.B.Scripted.spot c.args.worker c.args.self.now _ c.index_mut.result.now c.step-stepped.new.self c.step-stepped.new.nursery.born c.step-stepped.result there workers refl c.is_err-self.ensures.value ready.unspent c.step-stepped.ensures.steps
+    let workers = ap (λ xs. slice_set xs c.args.worker c.step-stepped.new.worker) c.reserve.ensures.items ∙ sym (append-nil (slice_set c.args.self.now.workers.items c.args.worker c.step-stepped.new.worker))
+    ∙ ap (λ o. slice_set c.args.self.now.workers.items c.args.worker c.step-stepped.new.worker ++ option_to_list o) (sym none) in
+    work_steps g.B.Body.left g.B.Scripted.runs g.B.Scripted.holds g.B.Scripted.spot c.args.worker c.args.self.now _ c.index_mut.result.now c.step-stepped.new.worker c.step-stepped.new.nursery.born c.step-stepped.result there workers refl c.is_err-self.ensures.value ready.unspent c.step-stepped.ensures.steps
 
 pub returns-in_default-clause-stays : goal.returns-in_default-clause-stays
 returns-in_default-clause-stays g c =
     let stands = c.requires.ready.1.stands in
     let there = read_in c.args.self.now.workers.items c.reserve.new.self.items c.args.worker c.index_mut.result.now c.reserve.ensures.items (work_within c.args.self.now c.args.worker stands c.requires.enabled) c.index_mut.ensures.value in
-    work_stays g.B.Body.left g.B.Scripted.spot c.args.worker c.args.self.now _ c.index_mut.result.now c.step-stepped.new.self c.step-stepped.result there (ap (λ xs. slice_set xs c.args.worker c.step-stepped.new.self) c.reserve.ensures.items) refl c.step-stepped.ensures.same
+    work_stays g.B.Body.left g.B.Scripted.spot c.args.worker c.args.self.now _ c.index_mut.result.now c.step-stepped.new.worker c.step-stepped.result there (ap (λ xs. slice_set xs c.args.worker c.step-stepped.new.worker) c.reserve.ensures.items) refl c.step-stepped.ensures.same
 
 pub returns-in_default-clause-spent : goal.returns-in_default-clause-spent
 returns-in_default-clause-spent g c = spent_by c.step-stepped.result c.is_err-self.result c.is_err-self.ensures.value

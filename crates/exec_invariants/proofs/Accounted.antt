@@ -1,0 +1,151 @@
+-- What is kept of opens, as operations on them are judged and requests of them end: their lines stay, and the machine keeps the
+-- same of them.
+use Rattle.std.proofs.{Common.{◌≡◌, ◌≢◌, ℕ, zero, suc, ◌<◌, ◌&&◌, Bool, true, false, List, [], ◌∷◌, length, map, Option, Some, None, IsSome, is_some, if◌then◌else◌, refl, sym, ap, subst, ◌∙◌, slice_get, slice_index_or, slice_set}, lemmas.Bool.false≢true}
+use Rattle.exec_outcomes.specs.{Accounts.Account, Outcomes.is_unsupported, declared.outcome.OpResult.OpResult}
+use Rattle.exec_request.specs.{Hints.{has_hint, without_hint}, Requests.{asked_of, hinted_of, target_of}, Syncing.write_kind, Ways.asked_by, declared.{request.Request.Request as Asking, way.Way.Way, write_at.WriteAtState.WriteAtState}}
+use Rattle.exec_waiters.specs.{States.file_of, declared.waiter.Waiter.Waiter}
+use Rattle.exec_driver.specs.{Opens.{OpenState, account_by, account_in, keeping, open_at, with_account, with_open_in}, Steps.open_after}
+use Rattle.exec_machine.specs.{Tests.is_of_file, World.{Open, no_open}}
+use Rattle.exec_parts.{specs.{declared.parts.{mail.Reply.Reply, record.Record.Record}, View.{account_seen, open_seen}}, proofs.{Facts.{and_parts, by_number, same_thing, set_elsewhere, set_there}, Showing.{map_kept, map_set}}}
+use Rattle.exec_invariants.{specs.Gates.{AreLinedUp, has_hint_at}, proofs.{Hinting.open_there, Lined.{SameLines, accounts_kept, only_line, opens_same}, Spared.there_within}}
+
+-- ONE ACCOUNT
+
+abbrev pub with_its : Account → OpenState → OpenState
+with_its a o = record o { account = Some a }
+
+pub account_set : (opens : List OpenState) (file : ℕ) (o : OpenState) (a : Account) → slice_get opens file ≡ Some o → with_account opens (Some file) (Some a) ≡ slice_set opens file (with_its a o)
+account_set opens file o a there = ap (with_open_in opens file (keeping (Some a))) there
+
+-- lines stay, and a hint that was refused stays so
+pub lines_account : (opens : List OpenState) (rs : List Record) (file : ℕ) (o : OpenState) (a : Account) → AreLinedUp opens rs → slice_get opens file ≡ Some o → (has_hint_at opens file ≡ false → a.hinted ≡ false) → SameLines opens (slice_set opens file (with_its a o))
+lines_account opens rs file o a lined there refused =
+    record {
+      lines = map_kept only_line opens file (with_its a o) o there refl;
+      kept = λ f x at.
+          by_number f file
+          (λ apart. accounts_kept opens rs lined f x (sym (set_elsewhere opens file f (with_its a o) apart) ∙ at))
+          (λ same.
+          let is : with_its a o ≡ x = same_thing (with_its a o) x (sym (set_there opens file (with_its a o) o there) ∙ ap (slice_get (slice_set opens file (with_its a o))) (sym same) ∙ at) in
+          subst (λ y. IsSome y.account) is refl);
+      hints = λ f none.
+          by_number f file
+          (λ apart. ap (λ x. has_hint (account_by x)) (set_elsewhere opens file f (with_its a o) apart) ∙ none)
+          (λ same.
+          let before : has_hint_at opens file ≡ false = ap (has_hint_at opens) (sym same) ∙ none in
+          ap (λ x. has_hint (account_by x)) (ap (slice_get (slice_set opens file (with_its a o))) same ∙ set_there opens file (with_its a o) o there) ∙ refused before);
+    }
+
+-- and it is seen
+pub account_shown : (rs : List Record) (opens : List OpenState) (file : ℕ) (o : OpenState) (a : Account) → map (open_seen rs) (slice_set opens file (with_its a o)) ≡ slice_set (map (open_seen rs) opens) file (record (open_seen rs o) { account = a })
+account_shown rs opens file o a = map_set (open_seen rs) opens file (with_its a o)
+
+set_same : {A : Type 0} (xs : List A) (k : ℕ) (x : A) → slice_get xs k ≡ Some x → slice_set xs k x ≡ xs
+set_same [] k x there = refl
+set_same (y ∷ xs) zero x there = ap (λ z. z ∷ xs) (sym (same_thing y x there))
+set_same (y ∷ xs) (suc k) x there = ap (λ zs. y ∷ zs) (set_same xs k x there)
+
+-- what is kept as it is
+pub account_still : (opens : List OpenState) (file : Option ℕ) → with_account opens file (account_in opens file) ≡ opens
+account_still opens None = refl
+account_still opens (Some file) = by (slice_get opens file) refl
+  where
+    by : (o : Option OpenState) → slice_get opens file ≡ o → with_open_in opens file (keeping (account_by (open_at opens file))) (open_at opens file) ≡ opens
+    by None none = ap (λ x. with_open_in opens file (keeping (account_by x)) x) none
+    by (Some o) there = ap (λ x. with_open_in opens file (keeping (account_by x)) x) there ∙ set_same opens file o there
+
+-- the open of a request of a file, which is there
+pub record HasOpen (opens : List OpenState) (file : ℕ) : Type 0 where
+  pub o : OpenState
+  pub there : slice_get opens file ≡ Some o
+  pub a : Account
+  pub account : o.account ≡ Some a
+
+pub open_of_file : (opens : List OpenState) (rs : List Record) (file : ℕ) → AreLinedUp opens rs → file < length opens → HasOpen opens file
+open_of_file opens rs file lined within =
+    let it = there_within opens file within in
+    by it.0 it.1 it.0.account refl (accounts_kept opens rs lined file it.0 it.1)
+  where
+    by : (o : OpenState) → slice_get opens file ≡ Some o → (a : Option Account) → o.account ≡ a → IsSome o.account → HasOpen opens file
+    by o there None none some = absurd (false≢true (ap is_some (sym none) ∙ some))
+    by o there (Some a) is some = record { o = o; there = there; a = a; account = is }
+
+-- A REFUSED HINT is the last of its open
+
+abbrev pub refused : Account → Account
+refused a = record a { hinted = false }
+
+-- what the driver keeps of it then
+pub refusal : (q : Asking) (opens : List OpenState) (file : ℕ) (has : HasOpen opens file) → file_of q ≡ Some file → with_account opens (file_of q) (without_hint (account_in opens (file_of q))) ≡ slice_set opens file (with_its (refused has.a) has.o)
+refusal q opens file has is =
+    ap (λ f. with_account opens f (without_hint (account_in opens f))) is
+    ∙ ap (λ x. with_account opens (Some file) (without_hint (account_by x))) has.there
+    ∙ ap (λ x. with_account opens (Some file) (without_hint x)) has.account
+    ∙ account_set opens file has.o (refused has.a) has.there
+
+-- and the machine of what it sees
+pub refusal_shown : (rs : List Record) (opens : List OpenState) (file : ℕ) (has : HasOpen opens file)
+    → map (open_seen rs) (slice_set opens file (with_its (refused has.a) has.o))
+    ≡ slice_set (map (open_seen rs) opens) file (record (slice_index_or (map (open_seen rs) opens) file no_open) { account = record (slice_index_or (map (open_seen rs) opens) file no_open).account { hinted = false } })
+refusal_shown rs opens file has =
+    let seen : slice_index_or (map (open_seen rs) opens) file no_open ≡ open_seen rs has.o = open_there rs opens file has.o has.there in
+    let account : (open_seen rs has.o).account ≡ has.a = ap account_seen has.account in
+    account_shown rs opens file has.o (refused has.a)
+    ∙ ap (λ a. slice_set (map (open_seen rs) opens) file (record (open_seen rs has.o) { account = record a { hinted = false } })) (sym account)
+    ∙ ap (λ (x : Open). slice_set (map (open_seen rs) opens) file (record x { account = record x.account { hinted = false } })) (sym seen)
+
+-- WHAT A JUDGEMENT DOES to what is kept of opens, where its request goes on
+
+hinted_file : (q : Asking) → hinted_of q ≡ true → (file_of q ≡ Some (target_of q)) × (is_of_file (asked_of q).kind ≡ true)
+hinted_file (Asking.Send s) h = absurd (false≢true h)
+hinted_file (Asking.Recv r) h = absurd (false≢true h)
+hinted_file (Asking.ReadAt r) h = (refl, by r.way)
+  where
+    by : (x : Way) → is_of_file (asked_by x (length r.buf.bytes)).kind ≡ true
+    by Way.Buffered = refl
+    by Way.Hinted = refl
+    by (Way.Direct skip len) = refl
+    by (Way.Switched skip len) = refl
+hinted_file (Asking.WriteAt w) h = (refl, by w.state)
+  where
+    by : (x : WriteAtState) → is_of_file (write_kind x) ≡ true
+    by WriteAtState.Writing = refl
+    by WriteAtState.WritingSync = refl
+    by WriteAtState.WritingBeforeSync = refl
+    by WriteAtState.Syncing = refl
+hinted_file (Asking.Sync s) h = absurd (false≢true h)
+hinted_file (Asking.Connect c) h = absurd (false≢true h)
+hinted_file (Asking.Poll p) h = absurd (false≢true h)
+
+-- the machine's opens, by whether a hint is refused
+abbrev pub opens_refused : Bool → List Open → ℕ → List Open
+opens_refused b os file =
+    if b then slice_set os file (record (slice_index_or os file no_open) { account = record (slice_index_or os file no_open).account { hinted = false } }) else os
+
+pub record OpensJudged (opens opens' : List OpenState) (refuses : Bool) (target : ℕ) : Type 0 where
+  pub same : SameLines opens opens'
+  pub shown : (rs : List Record) → map (open_seen rs) opens' ≡ opens_refused refuses (map (open_seen rs) opens) target
+
+pub opens_judged : (it : Waiter Reply Reply) (given : OpResult) (opens opens' : List OpenState) (rs : List Record) (target : ℕ) → AreLinedUp opens rs → target ≡ target_of it.request → (is_of_file (asked_of it.request).kind ≡ true → target < length opens)
+    → opens' ≡ with_account opens (file_of it.request) (open_after it given (account_in opens (file_of it.request))) → OpensJudged opens opens' (hinted_of it.request && is_unsupported given) target
+opens_judged it given opens opens' rs target lined is within made = by (hinted_of it.request && is_unsupported given) refl
+  where
+    account : Option Account
+    account = account_in opens (file_of it.request)
+
+    by : (b : Bool) → (hinted_of it.request && is_unsupported given) ≡ b → OpensJudged opens opens' (hinted_of it.request && is_unsupported given) target
+    by false kept =
+        let same : opens' ≡ opens = made ∙ ap (λ c. with_account opens (file_of it.request) (if c then without_hint account else account)) kept ∙ account_still opens (file_of it.request) in
+        record {
+          same = opens_same opens opens' rs lined same;
+          shown = λ rs. ap (map (open_seen rs)) same ∙ sym (ap (λ c. opens_refused c (map (open_seen rs) opens) target) kept);
+        }
+    by true refuses =
+        let of = hinted_file it.request (and_parts (hinted_of it.request) (is_unsupported given) refuses).0 in
+        let has = open_of_file opens rs target lined (within of.1) in
+        let set : opens' ≡ slice_set opens target (with_its (refused has.a) has.o) =
+        made ∙ ap (λ c. with_account opens (file_of it.request) (if c then without_hint account else account)) refuses ∙ refusal it.request opens target has (of.0 ∙ ap (λ f. Some f) (sym is)) in
+        record {
+          same = subst (SameLines opens) (sym set) (lines_account opens rs target has.o (refused has.a) lined has.there (λ none. refl));
+          shown = λ rs. ap (map (open_seen rs)) set ∙ refusal_shown rs opens target has ∙ sym (ap (λ c. opens_refused c (map (open_seen rs) opens) target) refuses);
+        }

@@ -1,0 +1,363 @@
+-- Acts of a polled body that change its slot alone: a pass, a wait for a wake, a yield.
+use Rattle.std.proofs.{Common.{◌≡◌, ◌≢◌, ◌⊎◌, inl, inr, ℕ, suc, ◌+◌, ◌-◌, ◌==◌, ◌&&◌, arith, Bool, true, false, List, [], ◌∷◌, length, map, Option, Some, None, IsSome, refl, sym, ap, subst, ◌∙◌, option_to_list, slice_get, slice_index_or, slice_set, if◌then◌else◌}, lemmas.{Bool.{false≢true, eq-eqb}, List.{map-set, set-set}}}
+use Rattle.exec_task.specs.{Phases.{is_polled, woken as cell_woken}, Sight.Sight, declared.{body.{Act.Act, Said.Said}, task.Phase.Phase}}
+use Rattle.exec_machine.specs.{Choice.{Choice, Choice.{Plain, Pays}, Payer.ByAct}, declared.{config.ScriptWord.ScriptWord, event.Event.{Event, TheVariants.{Pass, Wake}}, state.{Next.Next, Waiting.Waiting}}, Progress.Plan, Requests.operation_asked, Tasks.{after_taking, after_waking_word, is_woken_here, polls_waiting, waits_for, woken, woken_phase}, Tests.{is_woken, waits_for_nothing}, Words.{acts, asks_no_sleep, asks_wake, asks_yield, moved_on, next_word}, World.{Own, Task, Common, no_task, task_of}}
+use Rattle.exec_moves.specs.{declared.place.{Place.Place, InPoll.InPoll}, Move.move_act, Poll.act_asked, Seen.{next_in_poll, polls_at, polls_in}, State.{Moved, Things}}
+use Rattle.exec_parts.{specs.{declared.parts.{record.Record.Record, shared.Shared.Shared, sleeping.SleeperRecord.SleeperRecord, task_slot.TaskSlot.TaskSlot, worker.Worker.Worker}, Phased.is_complete, Polls.yielded_slot, Scripts.{GoesOn, IsAnswered, is_last}, Spots.{Spot, spot_of, standing_at}, View.{Views, own_of, desk_of, common_of, phase_seen, task_seen, spot_by, body_in, things_with}, Things.TurnsSlot}, proofs.Facts.{by_number, same_thing, set_there, or_right, both_true}}
+use Rattle.exec_invariants.{specs.{Acting.{ActsAs, HasActed, Performs, StepsOf}, Holding.{awaited_in, holder_of}, Places.{begins_at, hands_on_at, is_pooled_at, joins_at, one_if, polled_in, removes_at}, Sound.{HasGuest, IsGuest, IsInHand, SoundAt, IsRunnable, Stands, StopsIn, WaitsAt, acts_next, is_told, one_of}, Whole.{HasOne, is_number as is_counted, runnables_in}, Works.Beside}, proofs.{Here.{IsHere, going_on, polled_here, unflagged_there}, Pending.{in_poll, polled_none}, Performing.{performs_passed, performs_yielded, still_performs, wakes_as}, Polling.{at_phase, home_mine, in_own_poll, number_apart, number_there, on_in_poll, removes_none}, PoolKept.unremoved, Slots.{Balances, IsEvent, beside_slot, task_there, works_slot}, SlotTasks.{IsAfter, Keeps, Sits, Tasked, guest_tasked, none_in, root_tasked, sound_tasked, stops_own}}}
+
+-- nothing is newest where nothing is held
+pub none_held : (held : List ℕ) → slice_get held (length held - 1) ≡ None → held ≡ []
+none_held [] h = refl
+none_held (x ∷ xs) h = let back : suc (length xs) - 1 ≡ length xs = omega arith in absurd (never x xs (ap (slice_get (x ∷ xs)) (sym back) ∙ h))
+  where
+    never : (y : ℕ) (ys : List ℕ) → slice_get (y ∷ ys) (length ys) ≡ None → ⊥
+    never y [] is = let no : Some y ≡ None = is in absurd (cc)
+    never y (z ∷ zs) is = never z zs is
+
+-- a root or an ordinary task that its own worker wakes
+pub woken_here : (i : ℕ) (home : Option ℕ) → (home ≡ Some i) ⊎ (home ≡ None) → is_woken_here i home ≡ true
+woken_here i home (inl is) = ap (is_woken_here i) is ∙ eq-eqb i i refl
+woken_here i home (inr is) = ap (is_woken_here i) is
+
+-- A POLLED SLOT that stays polled, whose body is there: the task waits for nothing yet, and for this then
+
+module _ {B : Type 0} where
+  pub record StaysOn (y : InPoll) (t : ℕ) (slot slot' : TaskSlot B) : Type 0 where
+    pub keeps : Keeps slot slot'
+    pub polled : is_polled slot'.cell.phase ≡ true
+    pub body : IsSome slot'.body
+    pub poller : slot'.poller ≡ slot.poller
+    pub cancelled : slot'.cell.cancelled ≡ slot.cell.cancelled
+    pub cleared : slot'.cleared ≡ slot.cleared
+    pub held : slot'.held ≡ slot.held
+    pub holder : holder_of slot' ≡ holder_of slot
+    pub waits : WaitsAt (Some y) slot'.waiting
+    pub told : is_told slot'.waiting false ≡ true → IsSome slot'.told
+    pub untold : acts_next slot'.waiting ≡ false → slot'.told ≡ None
+    pub stops : (i : ℕ) (rs : List Record) (ss : List SleeperRecord) → StopsIn y i slot'.waiting rs ss
+    pub polls : polls_in t y ≡ Some t
+    pub begins : begins_at (Place.Poll t y) ≡ None
+    pub hands : hands_on_at (Place.Poll t y) ≡ false
+    pub joins : joins_at (Place.Poll t y) ≡ None
+    pub unpooled : is_pooled_at (Place.Poll t y) ≡ false
+    pub free : next_in_poll y ≡ Next.Free
+
+  none_polled : (g : Bool) (p : Phase B) (n : ℕ) → is_polled p ≡ true → n ≡ 0 → HasOne g p n
+  none_polled g Phase.Running n h none = none
+  none_polled g Phase.Notified n h none = none
+  none_polled g (Phase.Idle x) n h none = absurd (false≢true h)
+  none_polled g (Phase.Queued x) n h none = absurd (false≢true h)
+  none_polled g Phase.Complete n h none = absurd (false≢true h)
+
+  unqueued : (p : Phase B) → is_polled p ≡ true → (b : B) → p ≡ Phase.Queued b → ⊥
+  unqueued p polled b is = absurd (false≢true (sym (ap is_polled is) ∙ polled))
+
+  pub stays_tasked : (t : ℕ) (y : InPoll) (w : Worker) (s : Shared B) (slot' : TaskSlot B) → (sound : SoundAt (Place.Poll t InPoll.Act) w s) → (it : IsHere InPoll.Act t w s) → StaysOn y t it.slot slot'
+      → Tasked (Place.Poll t y) w w.root_ready None s (slice_set s.tasks.items t slot')
+  stays_tasked t y w s slot' sound it on = by_number t w.root other root
+    where
+      root : t ≡ w.root → Tasked (Place.Poll t y) w w.root_ready None s (slice_set s.tasks.items t slot')
+      root same =
+          let slot = it.slot in
+          let q : Place = Place.Poll t y in
+          let there : slice_get s.tasks.items w.root ≡ Some slot = subst (λ n. slice_get s.tasks.items n ≡ Some slot) same it.there in
+          let own : polled_in w.root q ≡ Some y = in_own_poll w.root (polls_in t y) y (on.polls ∙ ap (λ n. Some n) same) in
+          let old = (it.root same).0 in
+          let same_root : slot ≡ sound.runnable.root = same_thing slot sound.runnable.root (sym there ∙ sound.runnable.there) in
+          let unflagged : w.root_ready ≡ None = unflagged_there w.root_ready None slot it.polled (subst (λ (o : TaskSlot B). IsRunnable (one_of w.root_ready None) o) (sym same_root) sound.runnable.once) in
+          let over : is_complete slot.cell.phase ≡ false = going_on slot.cell.phase it.polled in
+          let over' : is_complete slot'.cell.phase ≡ false = going_on slot'.cell.phase on.polled in
+          let sits : Sits q w w.root_ready s slot slot' = record {
+            there = there;
+            keeps = on.keeps;
+            stands = subst (λ x. Stands x w.index slot') (sym own) (record { polled = on.polled; body = λ some. on.body; poller = λ some. on.poller ∙ it.poller; kept = on.cancelled ∙ old.kept; uncleared = on.cleared ∙ old.uncleared; told = λ h. on.told (ap (is_told slot'.waiting) (sym over') ∙ h); untold = on.untold; waits = on.waits });
+            once = subst (λ o. IsRunnable o slot') (sym unflagged) (unqueued slot'.cell.phase on.polled);
+            hand = on.hands;
+            polls = λ n is. same_thing n t (sym is ∙ on.polls) ∙ same;
+            complete = over' ∙ sym over;
+            unpooled = on.unpooled;
+            stops = on.stops w.index s.requests.items s.sleepers.items;
+          } in
+          subst (λ n. Tasked q w w.root_ready None s (slice_set s.tasks.items n slot')) (sym same) (root_tasked t InPoll.Act q w w.root_ready s slot slot' sound sits)
+
+      other : t ≢ w.root → Tasked (Place.Poll t y) w w.root_ready None s (slice_set s.tasks.items t slot')
+      other apart =
+          let slot = it.slot in
+          let q : Place = Place.Poll t y in
+          let old = (it.ordinary apart).0 in
+          let guest : IsGuest y w.index slot' = record {
+            ordinary = on.keeps.home ∙ old.ordinary;
+            polled = on.polled;
+            body = on.body;
+            poller = on.poller ∙ it.poller;
+            cancelled = on.cancelled ∙ it.cancelled ∙ sym on.cleared;
+            told = on.told;
+            untold = on.untold;
+            there = on.waits;
+          } in
+          guest_tasked t InPoll.Act q w None s slot slot' sound (record {
+            apart = apart;
+            there = it.there;
+            keeps = on.keeps;
+            hand = subst (λ b. IsInHand None b None) (sym on.hands) refl;
+            genuine = λ r has. absurd (none_in r has);
+            polls = λ n is same. apart (same_thing t n (sym on.polls ∙ is) ∙ same);
+            guest = subst (λ o. HasGuest o y w.index w.root (slice_set s.tasks.items t slot')) (sym on.polls) (λ no. (slot', set_there s.tasks.items t slot' slot it.there, guest));
+            stops = stops_own (polls_in t y) y w.index t (slice_set s.tasks.items t slot') slot' s.requests.items s.sleepers.items (λ u is. same_thing u t (sym is ∙ on.polls)) (set_there s.tasks.items t slot' slot it.there) (on.stops w.index s.requests.items s.sleepers.items);
+            rests = λ unpolled. absurd (false≢true (sym unpolled ∙ on.polled));
+          })
+
+  pub stays_balances : (t : ℕ) (y : InPoll) (w : Worker) (s : Shared B) (slot' : TaskSlot B) → SoundAt (Place.Poll t InPoll.Act) w s → (it : IsHere InPoll.Act t w s) → StaysOn y t it.slot slot' → Balances t (Place.Poll t y) w None it.slot slot'
+  stays_balances t y w s slot' sound it on =
+      let slot = it.slot in
+      let empty : w.hand ≡ None = sound.hand in
+      record {
+        keeps = on.keeps;
+        holder = on.holder;
+        apart = λ u other. sym (ap (λ o. runnables_in u (option_to_list o)) empty);
+        one = λ g home n one. none_polled g slot'.cell.phase (n + 0) on.polled (polled_none g slot.cell.phase (n + 0) it.polled (subst (λ o. HasOne g slot.cell.phase (n + runnables_in t (option_to_list o))) empty one));
+        polls_apart = λ u other. number_apart t u (polls_in t y) on.polls other ∙ sym (ap (λ q. is_counted (polls_at q) u) sound.here ∙ number_apart t u (Some t) refl other);
+        polls = λ home n polls.
+            ap (λ b. n + one_if b) (number_there t (polls_in t y) on.polls ∙ sym (ap (λ q. is_counted (polls_at q) t) sound.here ∙ number_there t (Some t) refl)) ∙ polls ∙ ap one_if (it.polled ∙ sym on.polled);
+        remains = λ home. record { cleared = on.cleared; over = λ h. absurd (false≢true (sym (going_on slot.cell.phase it.polled) ∙ h)); poller = λ polled. inl (on.poller ∙ it.poller, on.polls) };
+        removes = λ u is. absurd (unremoved (removes_at (Place.Poll t y)) (removes_none t y on.polls) u is);
+      }
+
+  pub home_here : (x : InPoll) (t : ℕ) (w : Worker) (s : Shared B) → (it : IsHere x t w s) → (it.slot.home ≡ Some w.index) ⊎ (it.slot.home ≡ None)
+  home_here x t w s it = by_number t w.root (λ apart. inr (it.ordinary apart).1) (λ same. inl (it.root same).1)
+
+-- what the machine has of a worker in a poll
+abbrev pub me_at : ℕ → Worker → Own
+me_at t w = own_of (record w { place = Place.Poll t InPoll.Act })
+
+module _ {B : Type 0} where
+  -- the slot once the body has acted
+  abbrev pub acted_slot : TaskSlot B → B → TaskSlot B
+  acted_slot slot b' = record slot { body = Some b'; told = None }
+
+  -- the body is told this, and acts again
+  pub tells_on : (t : ℕ) (slot : TaskSlot B) (b' : B) (x : Said) → is_polled slot.cell.phase ≡ true → slot.waiting ≡ Waiting.Nothing → StaysOn InPoll.Act t slot (record slot { body = Some b'; told = Some x })
+  tells_on t slot b' x polled waits =
+      record {
+        keeps = record { home = refl; number = refl; owner = refl };
+        polled = polled;
+        body = refl;
+        poller = refl;
+        cancelled = refl;
+        cleared = refl;
+        held = refl;
+        holder = refl;
+        waits = waits;
+        told = λ h. refl;
+        untold = λ h. absurd (false≢true (sym h ∙ ap acts_next waits));
+        stops = λ i rs ss. tt;
+        polls = refl;
+        begins = refl;
+        hands = refl;
+        joins = refl;
+        unpooled = refl;
+        free = refl;
+      }
+
+module _ {B L : Type 0} (left : B → L) (spot : L → Option Said → Spot) where
+  -- the body past its word, and what it is told then
+  pub moved_seen : (all : Common) (slot : TaskSlot B) (b' : B) (told : Option Said) → is_polled slot.cell.phase ≡ true → spot (left b') told ≡ spot_of (moved_on all (task_seen left spot slot))
+      → task_seen left spot (record slot { body = Some b'; told = told }) ≡ moved_on all (task_seen left spot slot)
+  moved_seen all slot b' told is past =
+      ap (λ o. standing_at (spot_by left spot o told) (task_seen left spot slot)) (in_poll slot.cell.phase (Some b') is) ∙ ap (λ x. standing_at x (task_seen left spot slot)) past
+
+  -- THE MACHINE'S WORD
+
+  pub acts_so : (t : ℕ) (all : Common) (w : Worker) (slot : TaskSlot B) (test : ScriptWord → Bool) → task_of all t ≡ task_seen left spot slot → slot.waiting ≡ Waiting.Nothing → test (next_word all (task_seen left spot slot)) ≡ true → acts (me_at t w) all test ≡ true
+  acts_so t all w slot test it waits h =
+      ap (λ y. waits_for_nothing y.waiting && test (next_word all y)) it ∙ ap (λ u. waits_for_nothing u && test (next_word all (task_seen left spot slot))) waits ∙ h
+
+  -- the whole move, by this word: a wake and a spawn are others
+  abbrev pub word_move : ℕ → Plan → Common → Worker → Shared B → Views → ScriptWord → Moved Things
+  word_move t p all w s vs x = move_act p.config w.index (me_at t w) all (desk_of (record w { place = Place.Poll t InPoll.Act })) (things_with vs s) t x
+
+  pub by_word : (t : ℕ) (p : Plan) (all : Common) (w : Worker) (s : Shared B) (vs : Views) (slot : TaskSlot B) (x : ScriptWord) → task_of all t ≡ task_seen left spot slot → next_word all (task_seen left spot slot) ≡ x
+      → word_move t p all w s vs (next_word all (task_of all t)) ≡ word_move t p all w s vs x
+  by_word t p all w s vs slot x it is = ap (word_move t p all w s vs) (ap (next_word all) it ∙ is)
+
+  -- of any other word, by the task
+  abbrev pub move_by : ℕ → Plan → Common → Worker → Shared B → Views → Task → ScriptWord → Moved Things
+  move_by t p all w s vs it x =
+      let m = act_asked w.index t (me_at t w) all (desk_of (record w { place = Place.Poll t InPoll.Act })) it x (operation_asked p.config w.moments.sampled x) in
+      record { event = m.event; choice = m.choice; desk = m.desk; thing = things_with vs s }
+
+  abbrev pub IsPlainWord : ScriptWord → Type 0
+  IsPlainWord x = (t : ℕ) (p : Plan) (all : Common) (w : Worker) (s : Shared B) (vs : Views) → word_move t p all w s vs x ≡ move_by t p all w s vs (task_of all t) (next_word all (task_of all t))
+
+  pub moves_so : (t : ℕ) (p : Plan) (all : Common) (w : Worker) (s : Shared B) (vs : Views) (slot : TaskSlot B) (x : ScriptWord) → IsPlainWord x → task_of all t ≡ task_seen left spot slot → next_word all (task_seen left spot slot) ≡ x
+      → word_move t p all w s vs (next_word all (task_of all t)) ≡ move_by t p all w s vs (task_seen left spot slot) x
+  moves_so t p all w s vs slot x plain it is =
+      by_word t p all w s vs slot x it is ∙ plain t p all w s vs
+      ∙ ap (λ y. move_by t p all w s vs y (next_word all y)) it ∙ ap (move_by t p all w s vs (task_seen left spot slot)) is
+
+module _ {B L : Type 0} (left : B → L) (runs : L → Plan → Option ℕ → Type 0) (holds : L → Option Said → List ℕ) (spot : L → Option Said → Spot) (gives : L → Option Sight → Said → Act B → L → Option Sight → Type 0) where
+  -- what an act leaves that changed the slot, and then what it asks for did
+  pub record Leaves (t : ℕ) (y : InPoll) (w : Worker) (s s' : Shared B) (slot' : TaskSlot B) : Type 0 where
+    pub items : s'.tasks.items ≡ slice_set s.tasks.items t slot'
+    pub kept : s' ≡ record s { tasks = s'.tasks }
+    pub sound : SoundAt (Place.Poll t y) (record w { place = Place.Poll t y; root_ready = w.root_ready; hand = None }) (record s { tasks = s'.tasks })
+    pub beside : Beside w s (record w { place = Place.Poll t y; root_ready = w.root_ready; hand = None }) (record s { tasks = s'.tasks })
+
+  pub act_leaves : (t : ℕ) (y : InPoll) (w : Worker) (s s1 s' : Shared B) (a : Act B) (change : TaskSlot B → TaskSlot B) → (h : HasActed left runs holds spot gives t w s s1 a) →
+      let slot' = change (acted_slot h.made.slot h.made.acts.body') in
+      StaysOn y t h.made.slot slot' → TurnsSlot t s1 s' change → Leaves t y w s s' slot'
+  act_leaves t y w s s1 s' a change h stays turns =
+      let m = h.made in
+      let q : Place = Place.Poll t y in
+      let slot' = change (acted_slot m.slot m.acts.body') in
+      let it : IsHere InPoll.Act t w s = polled_here InPoll.Act t w s h.sound refl in
+      let is : m.slot ≡ it.slot = same_thing m.slot it.slot (sym m.there ∙ it.there) in
+      let stays' : StaysOn y t it.slot slot' = subst (λ o. StaysOn y t o slot') is stays in
+      let there : slice_get s1.tasks.items t ≡ Some m.slot' = ap (λ ts. slice_get ts t) m.tasks ∙ set_there s.tasks.items t m.slot' m.slot m.there in
+      let items : s'.tasks.items ≡ slice_set s.tasks.items t slot' =
+      turns.tasks m.slot' there ∙ ap (λ ts. slice_set ts t (change m.slot')) m.tasks ∙ set-set s.tasks.items t m.slot' (change m.slot') ∙ ap (λ x. slice_set s.tasks.items t (change x)) m.acts.slot in
+      let to : IsAfter q = on_in_poll t y stays.begins stays.joins in
+      let bal : Balances t q w None it.slot slot' = stays_balances t y w s slot' h.sound it stays' in
+      record {
+        items = items;
+        kept = turns.kept ∙ ap (λ (x : Shared B). record x { tasks = s'.tasks }) m.kept;
+        sound = sound_tasked t InPoll.Act q w w.root_ready None s s' h.sound to (subst (Tasked q w w.root_ready None s) (sym items) (stays_tasked t y w s slot' h.sound it stays'));
+        beside = beside_slot left spot t InPoll.Act q w w.root_ready None s s' it.slot slot' h.sound to it.there items bal (home_mine w.index it.slot.home (home_here InPoll.Act t w s it)) (λ polled. inl it.poller);
+      }
+
+  -- an act changed the slot, and then what it asks for did
+  pub acted : (t : ℕ) (y : InPoll) (w w' : Worker) (s s1 s' : Shared B) (e : Event) (c : Choice) (a : Act B) (change : TaskSlot B → TaskSlot B) → (h : HasActed left runs holds spot gives t w s s1 a) →
+      let slot = h.made.slot in
+      let slot' = change (acted_slot slot h.made.acts.body') in
+      StaysOn y t slot slot'
+      → ((p : Plan) (vs : Views) → ActsAs left runs holds spot gives (common_of left spot p vs s) p w.moments.sampled slot h.made.acts.body' a → IsEvent left spot (Place.Poll t InPoll.Act) (Place.Poll t y) t w w.root_ready None s slot' e c p vs)
+      → ((p : Plan) → GoesOn runs holds spot gives p (task_seen left spot slot) a (left h.made.acts.body') → Performs left runs holds p slot') → is_last a ≡ false
+      → w' ≡ record w { place = Place.Poll t y } → TurnsSlot t s1 s' change → StepsOf left runs holds spot w s e w' s'
+  acted t y w w' s s1 s' e c a change h stays event performs on same turns =
+      let m = h.made in
+      let q : Place = Place.Poll t y in
+      let slot' = change (acted_slot m.slot m.acts.body') in
+      let leaves : Leaves t y w s s' slot' = act_leaves t y w s s1 s' a change h stays turns in
+      let w1 : Worker = record w { place = q; root_ready = w.root_ready; hand = None } in
+      let s2 : Shared B = record s { tasks = s'.tasks } in
+      let done : StepsOf left runs holds spot w s e w1 s2 = (
+        (λ p vs suits fits. works_slot left spot (Place.Poll t InPoll.Act) q t w w.root_ready None s s' slot' e c h.sound.here leaves.items p vs suits (event p vs (h.asks p vs (fits t m.slot m.there)))),
+        leaves.sound,
+        still_performs left runs holds t w w1 s s2 m.slot slot' m.there leaves.items refl refl (λ p fits. performs p ((h.asks p (record { workers = []; calls = [] }) fits).goes_on on)),
+        leaves.beside,
+      ) in
+      let at : w' ≡ w1 = same ∙ ap (λ o. record w { place = q; hand = o }) h.sound.hand in
+      subst (λ z. StepsOf left runs holds spot w s e w' z) (sym leaves.kept) (subst (λ z. StepsOf left runs holds spot w s e z s2) (sym at) done)
+
+  -- the slot of the body that acted
+  pub record IsActor (t : ℕ) (w : Worker) (slot : TaskSlot B) : Type 0 where
+    pub polled : is_polled slot.cell.phase ≡ true
+    pub waits : slot.waiting ≡ Waiting.Nothing
+    pub home : (slot.home ≡ Some w.index) ⊎ (slot.home ≡ None)
+
+  pub actor : (t : ℕ) (w : Worker) (s s1 : Shared B) (a : Act B) → (h : HasActed left runs holds spot gives t w s s1 a) → IsActor t w h.made.slot
+  actor t w s s1 a h =
+      let m = h.made in
+      let it : IsHere InPoll.Act t w s = polled_here InPoll.Act t w s h.sound refl in
+      let is : it.slot ≡ m.slot = same_thing it.slot m.slot (sym it.there ∙ m.there) in
+      record {
+        polled = ap (λ (o : TaskSlot B). is_polled o.cell.phase) (sym is) ∙ it.polled;
+        waits = ap (λ (o : TaskSlot B). o.waiting) (sym is) ∙ it.waits;
+        home = subst (λ (o : TaskSlot B). (o.home ≡ Some w.index) ⊎ (o.home ≡ None)) is (home_here InPoll.Act t w s it);
+      }
+
+  -- A PASS
+
+  pass_event : IsAnswered spot → (t : ℕ) (w : Worker) (s : Shared B) (slot : TaskSlot B) (b' : B) → w.hand ≡ None → slice_get s.tasks.items t ≡ Some slot → slot.waiting ≡ Waiting.Nothing → is_polled slot.cell.phase ≡ true → (p : Plan) (vs : Views)
+      → ActsAs left runs holds spot gives (common_of left spot p vs s) p w.moments.sampled slot b' (Act.Sleep 0)
+      → IsEvent left spot (Place.Poll t InPoll.Act) (Place.Poll t InPoll.Act) t w w.root_ready None s (record slot { body = Some b'; told = Some Said.Pass }) Pass Plain p vs
+  pass_event answered t w s slot b' empty there waits is p vs does_so =
+      let all = common_of left spot p vs s in
+      let me = me_at t w in
+      let it : task_of all t ≡ task_seen left spot slot = task_there left spot s.tasks.items t slot there in
+      let past : spot (left b') (Some Said.Pass) ≡ spot_of (moved_on all (task_seen left spot slot)) = answered (left b') Said.Pass (λ h. absurd (cc)) ∙ does_so.stands in
+      record {
+        moves = moves_so left spot t p all w s vs slot (ScriptWord.Sleep 0) (λ k q c v x us. refl) it does_so.asks ∙ ap (λ o. record { event = Pass; choice = Plain; desk = desk_of (record w { place = Place.Poll t InPoll.Act; hand = o }); thing = things_with vs s }) empty;
+        may = (or_right (polls_waiting me all is_woken) (acts me all asks_no_sleep) (acts_so left spot t all w slot asks_no_sleep it waits (ap asks_no_sleep does_so.asks)), tt);
+        own = refl;
+        common = ap (λ y. record all { tasks = slice_set all.tasks t (after_taking all y) }) it
+            ∙ ap (λ u. record all { tasks = slice_set all.tasks t (if waits_for_nothing u then moved_on all (task_seen left spot slot) else record (task_seen left spot slot) { waiting = Waiting.Nothing }) }) waits
+            ∙ ap (λ y. record all { tasks = slice_set all.tasks t y }) (sym (moved_seen left spot all slot b' (Some Said.Pass) is past));
+      }
+
+  pub passed_by : IsAnswered spot → (t : ℕ) (w w' : Worker) (s s1 s' : Shared B) (e : Event) → (h : HasActed left runs holds spot gives t w s s1 (Act.Sleep 0))
+      → e ≡ Pass → w' ≡ record w { place = Place.Poll t InPoll.Act } → TurnsSlot t s1 s' (λ slot. record slot { told = Some Said.Pass }) → StepsOf left runs holds spot w s e w' s'
+  passed_by answered t w w' s s1 s' e h event same turns =
+      let m = h.made in
+      let it = actor t w s s1 (Act.Sleep 0) h in
+      subst (λ z. StepsOf left runs holds spot w s z w' s') (sym event)
+      (acted t InPoll.Act w w' s s1 s' Pass Plain (Act.Sleep 0) (λ slot. record slot { told = Some Said.Pass }) h (tells_on t m.slot m.acts.body' Said.Pass it.polled it.waits)
+      (λ p vs so. pass_event answered t w s m.slot m.acts.body' h.sound.hand m.there it.waits it.polled p vs so) (λ p goes. performs_passed left runs holds spot gives p m.slot m.acts.body' it.polled it.waits goes) refl same turns)
+
+  -- A YIELD
+
+  yield_event : IsAnswered spot → (t : ℕ) (w : Worker) (s : Shared B) (slot : TaskSlot B) (b' : B) → w.hand ≡ None → slice_get s.tasks.items t ≡ Some slot → slot.waiting ≡ Waiting.Nothing → is_polled slot.cell.phase ≡ true → (slot.home ≡ Some w.index) ⊎ (slot.home ≡ None)
+      → (p : Plan) (vs : Views) → ActsAs left runs holds spot gives (common_of left spot p vs s) p w.moments.sampled slot b' Act.Yield
+      → IsEvent left spot (Place.Poll t InPoll.Act) (Place.Poll t InPoll.Pend) t w w.root_ready None s (yielded_slot (acted_slot slot b')) (Wake t) (Pays ByAct) p vs
+  yield_event answered t w s slot b' empty there waits is home p vs does_so =
+      let all = common_of left spot p vs s in
+      let me = me_at t w in
+      let at_task = task_seen left spot slot in
+      let it : task_of all t ≡ at_task = task_there left spot s.tasks.items t slot there in
+      let past : spot (left b') (Some Said.Pass) ≡ spot_of (moved_on all at_task) = answered (left b') Said.Pass (λ h. absurd (cc)) ∙ does_so.stands in
+      let mid : TaskSlot B = record slot { body = Some b'; told = Some Said.Pass; waiting = Waiting.Yielded } in
+      let wakes = wakes_as slot.cell.phase (Some b') slot.poller is in
+      let seen : task_seen left spot mid ≡ waits_for all at_task Waiting.Yielded = ap (λ (y : Task). record y { waiting = Waiting.Yielded }) (moved_seen left spot all slot b' (Some Said.Pass) is past) in
+      let word_done : after_waking_word all (task_of all t) ≡ task_seen left spot mid =
+      ap (after_waking_word all) it ∙ ap (λ b. if b then waits_for all at_task Waiting.Yielded else moved_on all at_task) (ap asks_yield does_so.asks) ∙ sym seen in
+      let woken_seen : woken (task_seen left spot mid) ≡ task_seen left spot (yielded_slot (acted_slot slot b')) =
+      ap (λ b. at_phase left spot mid b (woken_phase (phase_seen slot.cell.phase slot.poller)) Waiting.Yielded false) (sym wakes.same_body)
+      ∙ ap (λ q. at_phase left spot mid (body_in (cell_woken slot.cell.phase) (Some b')) q Waiting.Yielded false) (sym wakes.shown) in
+      let wake_in : List Task → Common = λ ts. record all { tasks = slice_set ts t (woken (slice_index_or ts t no_task)) } in
+      let listed : slice_set all.tasks t (task_seen left spot mid) ≡ map (task_seen left spot) (slice_set s.tasks.items t mid) = sym (map-set (task_seen left spot) s.tasks.items t mid) in
+      let found : slice_index_or (map (task_seen left spot) (slice_set s.tasks.items t mid)) t no_task ≡ task_seen left spot mid =
+      task_there left spot (slice_set s.tasks.items t mid) t mid (set_there s.tasks.items t mid slot there) in
+      let at_mid : slice_index_or (slice_set all.tasks t (task_seen left spot mid)) t no_task ≡ task_seen left spot mid = ap (λ ts. slice_index_or ts t no_task) listed ∙ found in
+      record {
+        moves = moves_so left spot t p all w s vs slot ScriptWord.Yield (λ k q c v x us. refl) it does_so.asks ∙ ap (λ o. record { event = Wake t; choice = Pays ByAct; desk = desk_of (record w { place = Place.Poll t InPoll.Pend; hand = o }); thing = things_with vs s }) empty;
+        may = (
+          or_right (acts me all (asks_wake t)) (acts me all asks_yield && (t == t)) (both_true (acts me all asks_yield) (t == t) (acts_so left spot t all w slot asks_yield it waits (ap asks_yield does_so.asks)) (eq-eqb t t refl)),
+          (ap (λ y. is_woken_here w.index y.home) it ∙ woken_here w.index slot.home home, tt),
+        );
+        own = refl;
+        common = ap (λ y. wake_in (slice_set all.tasks t y)) word_done
+            ∙ ap (λ y. record all { tasks = slice_set (slice_set all.tasks t (task_seen left spot mid)) t (woken y) }) at_mid
+            ∙ ap (λ ts. record all { tasks = ts }) (set-set all.tasks t (task_seen left spot mid) (woken (task_seen left spot mid)))
+            ∙ ap (λ y. record all { tasks = slice_set all.tasks t y }) woken_seen;
+      }
+
+  pub yielded_by : IsAnswered spot → (t : ℕ) (w w' : Worker) (s s1 s' : Shared B) (e : Event) → (h : HasActed left runs holds spot gives t w s s1 Act.Yield)
+      → e ≡ Wake t → w' ≡ record w { place = Place.Poll t InPoll.Pend } → TurnsSlot t s1 s' yielded_slot → StepsOf left runs holds spot w s e w' s'
+  yielded_by answered t w w' s s1 s' e h event same turns =
+      let m = h.made in
+      let it = actor t w s s1 Act.Yield h in
+      let wakes = wakes_as m.slot.cell.phase (Some m.acts.body') m.slot.poller it.polled in
+      let stays : StaysOn InPoll.Pend t m.slot (yielded_slot (acted_slot m.slot m.acts.body')) = record {
+        keeps = record { home = refl; number = refl; owner = refl };
+        polled = wakes.polled;
+        body = refl;
+        poller = refl;
+        cancelled = refl;
+        cleared = refl;
+        held = refl;
+        holder = ap (λ b. record (holder_of m.slot) { awaits = None; over = b }) wakes.complete ∙ ap (λ u. record (holder_of m.slot) { awaits = awaited_in u }) (sym it.waits);
+        waits = refl;
+        told = λ h. refl;
+        untold = λ h. absurd (false≢true (sym h));
+        stops = λ i rs ss. tt;
+        polls = refl;
+        begins = refl;
+        hands = refl;
+        joins = refl;
+        unpooled = refl;
+        free = refl;
+      } in
+      subst (λ z. StepsOf left runs holds spot w s z w' s') (sym event)
+      (acted t InPoll.Pend w w' s s1 s' (Wake t) (Pays ByAct) Act.Yield yielded_slot h stays
+      (λ p vs so. yield_event answered t w s m.slot m.acts.body' h.sound.hand m.there it.waits it.polled it.home p vs so) (λ p goes. performs_yielded left runs holds spot gives p m.slot m.acts.body' it.polled goes) refl same turns)

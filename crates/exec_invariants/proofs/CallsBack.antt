@@ -1,0 +1,245 @@
+-- Where the callbacks lead once an item is told: for a worker, for the machine, and after a push of a task that one woke.
+use Rattle.std.proofs.{Common.{◌≡◌, ℕ, ◌+◌, ◌==◌, ◌&&◌, ◌||◌, Bool, true, false, not, List, [], ◌∷◌, length, map, Option, Some, None, refl, sym, ap, subst, ◌∙◌, arith, slice_get, nat_lt, if◌then◌else◌}, lemmas.Bool.{false≢true, Decides.nat_tests}}
+use Rattle.exec_base.specs.{Slab.live_count, declared.task_no.TaskNo.TaskNo}
+use Rattle.exec_time.specs.declared.notes.ForwardedResult.{ForwardedResult}
+use Rattle.exec_words.specs.Queue.{Queue}
+use Rattle.exec_waiters.specs.{States.pending_count, Told.is_untold, declared.deferred.{Answer.Answer, Deferred.Deferred}}
+use Rattle.exec_driver.specs.Driving.{is_full as is_ring_full}
+use Rattle.exec_task.specs.declared.{body.Said.Said, runnable.Runnable.Runnable}
+use Rattle.exec_machine.specs.{declared.config.Configuration.Configuration, Progress.Plan, Ranges.ring_size, Tests.is_empty}
+use Rattle.exec_moves.specs.{declared.{handing.{AfterCallbacks.AfterCallbacks, AfterKick.AfterKick, AfterPush.AfterPush, InKick.InKick}, idling.{InRingWait.InRingWait, Stay.Stay}, place.{InCallbacks.InCallbacks, InClosing.InClosing, InLoads.InLoads, Place.Place, Round.Round}}, Callback.{after_callbacks, has_callbacks, has_requests, is_full, next_callback}}
+use Rattle.exec_parts.{specs.{declared.parts.{mail.Reply.Reply, seat.Seat.Seat as Chair, shared.Shared.Shared, worker.Worker.Worker}, Phased.{IsPhased, closes_at, closes_before, stage_of}, Roles.is_pool, Calls.IsTold, Spots.Spot, Tests.{after_callbacks_of, has_open_requests, is_anything_told, next_callback_of, ring_wait_of}, View.{Views, common_of, desk_of, driver_of, number_heard, own_of}}, proofs.Facts.{by_not, by_not_not, zero_false, true_false}}
+use Rattle.exec_invariants.{specs.{HoldPlaces.{is_bare_at, is_bare_before, spare_before}, Sound.{Aims, HasQueue, HasWidth, LetsGo, SoundAt, tellers}, Works.Suits}, proofs.{DedicatedSeen.pool_seen, Handed.{CallComes, IsPushFor, out}, Idled.{Comes, hush_of}, Phased.phased_end, Standing.requests_seen}}
+
+-- NOTHING IS LEFT
+
+first_zero : (a b c d e : ℕ) → ((a == 0) && (b == 0) && (c == 0) && (d == 0) && (e == 0)) ≡ true → a ≡ 0
+first_zero a b c d e h = grind (arith, nat_tests)
+
+second_zero : (a b c d e : ℕ) → ((a == 0) && (b == 0) && (c == 0) && (d == 0) && (e == 0)) ≡ true → b ≡ 0
+second_zero a b c d e h = grind (arith, nat_tests)
+
+third_zero : (a b c d e : ℕ) → ((a == 0) && (b == 0) && (c == 0) && (d == 0) && (e == 0)) ≡ true → c ≡ 0
+third_zero a b c d e h = grind (arith, nat_tests)
+
+fourth_zero : (a b c d e : ℕ) → ((a == 0) && (b == 0) && (c == 0) && (d == 0) && (e == 0)) ≡ true → d ≡ 0
+fourth_zero a b c d e h = grind (arith, nat_tests)
+
+fifth_zero : (a b c d e : ℕ) → ((a == 0) && (b == 0) && (c == 0) && (d == 0) && (e == 0)) ≡ true → e ≡ 0
+fifth_zero a b c d e h = grind (arith, nat_tests)
+
+none_in : {A : Type 0} (xs : List A) → length xs ≡ 0 → xs ≡ []
+none_in [] none = refl
+none_in (x ∷ xs) none = absurd (omega (arith, none))
+
+pub record NoneLeft (left : Deferred Reply Reply) : Type 0 where
+  pub wakes : left.notes.wakes.items ≡ []
+  pub completions : length left.notes.completions.items ≡ 0
+  pub outputs : length left.outputs.items ≡ 0
+  pub resources : length left.resources.items ≡ 0
+  pub results : length left.results.items ≡ 0
+
+pub none_left : (left : Deferred Reply Reply) → is_untold left ≡ true → NoneLeft left
+none_left left h =
+    let a = length left.notes.wakes.items in
+    let b = length left.notes.completions.items in
+    let c = length left.outputs.items in
+    let d = length left.resources.items in
+    let e = length left.results.items in
+    record {
+      wakes = none_in left.notes.wakes.items (first_zero a b c d e h);
+      completions = second_zero a b c d e h;
+      outputs = third_zero a b c d e h;
+      resources = fourth_zero a b c d e h;
+      results = fifth_zero a b c d e h;
+    }
+
+-- then the lists have all their places
+pub all_places : (ended : List ℕ) (left : Deferred Reply Reply) (n m : ℕ) → IsTold ended left m → HasWidth left n → NoneLeft left → IsTold ended left n
+all_places ended left n m told wide none =
+    let wakes = ap length none.wakes in
+    record {
+      resources = told.resources;
+      room = record {
+        notes = record { wakes = omega (arith, wide.wakes, wakes, left.notes.wakes.ok.0); completions = omega (arith, wide.completions, none.completions, left.notes.completions.ok.0) };
+        outputs = omega (arith, wide.outputs, none.outputs, left.outputs.ok.0);
+        resources = omega (arith, wide.resources, none.resources, left.resources.ok.0);
+        results = omega (arith, wide.results, none.results, left.results.ok.0);
+      };
+    }
+
+-- FOR THE MACHINE something waits for the callbacks just where something does
+
+empty_mapped : {A C : Type 0} (f : A → C) (xs : List A) → is_empty (map f xs) ≡ (length xs == 0)
+empty_mapped f [] = refl
+empty_mapped f (x ∷ xs) = sym (zero_false (length xs))
+
+empty_list : {A : Type 0} (xs : List A) → is_empty xs ≡ (length xs == 0)
+empty_list [] = refl
+empty_list (x ∷ xs) = sym (zero_false (length xs))
+
+positive : (n : ℕ) → nat_lt 0 n ≡ not (n == 0)
+positive n = grind (arith, nat_tests)
+
+one_of_five : (a b c d e : Bool) → (not a || not b || not c || not d || not e) ≡ not (a && d && b && c && e)
+one_of_five a b c d e = grind arith
+
+pub callbacks_seen : (w : Worker) (live : ℕ) → IsTold w.names.ended.items w.home.deferred live → has_callbacks (own_of w) (desk_of w) ≡ is_anything_told w
+callbacks_seen w live told =
+    let left = w.home.deferred in
+    let number : TaskNo → ℕ = λ t. t.0 in
+    let completed : ForwardedResult Reply → ℕ = λ c. number_heard c.sender.of in
+    let answered : Answer Reply → ℕ = λ a. number_heard a.sender.of in
+    rw (empty_mapped number left.notes.wakes.items, positive (length left.outputs.items), empty_list w.names.ended.items, told.resources, empty_mapped completed left.notes.completions.items, empty_mapped answered left.results.items)
+    (one_of_five (length left.notes.wakes.items == 0) (length left.outputs.items == 0) (length left.resources.items == 0) (length left.notes.completions.items == 0) (length left.results.items == 0))
+
+module _ {B L : Type 0} (left : B → L) (spot : L → Option Said → Spot) (p : Plan) (vs : Views) (q : Place) (w : Worker) (s : Shared B) (sound : SoundAt q w s) (suits : Suits p vs w s) where
+  full_seen : is_full (ring_size p.config) (desk_of w) ≡ is_ring_full (driver_of w)
+  full_seen =
+      let sized : (driver_of w).ring.size ≡ ring_size p.config = sound.sized ∙ ap ring_size suits.config in
+      ap (λ n. not (nat_lt (length (driver_of w).ring.staged) n)) (sym sized)
+
+  pub after_seen : (n : AfterCallbacks) → after_callbacks (ring_size p.config) w.index (common_of left spot p vs s) n (desk_of w) ≡ after_callbacks_of n w
+  after_seen AfterCallbacks.Look = rw (pool_seen left spot p vs q w s sound suits) refl
+  after_seen AfterCallbacks.Test = rw (pool_seen left spot p vs q w s sound suits) refl
+  after_seen AfterCallbacks.Begin = refl
+  after_seen AfterCallbacks.Drain = refl
+  after_seen AfterCallbacks.Finish =
+      let asks : has_requests w.index (common_of left spot p vs s) ≡ has_open_requests w = sym (requests_seen w.index w.names (driver_of w) w.home.timers s.requests.items s.sleepers.items sound.named) in
+      ap (λ b. if b then (if is_full (ring_size p.config) (desk_of w) then Place.RingWait InRingWait.EnterFullRing Stay.Closing else Place.RingWait InRingWait.TestRing Stay.Closing) else Place.Closing InClosing.End) asks
+      ∙ ap (λ b. if has_open_requests w then (if b then Place.RingWait InRingWait.EnterFullRing Stay.Closing else Place.RingWait InRingWait.TestRing Stay.Closing) else Place.Closing InClosing.End) full_seen
+
+  pub callback_seen : (n : AfterCallbacks) → next_callback (ring_size p.config) w.index (own_of w) (common_of left spot p vs s) n (desk_of w) ≡ next_callback_of n w
+  callback_seen n =
+      ap (λ b. if b then Place.Callbacks InCallbacks.CallBack n else after_callbacks (ring_size p.config) w.index (common_of left spot p vs s) n (desk_of w)) (callbacks_seen w _ sound.told)
+      ∙ ap (λ x. if is_anything_told w then Place.Callbacks InCallbacks.CallBack n else x) (after_seen n)
+
+-- WHERE A PUSH OF THE CALLBACKS LEADS
+
+abbrev pub pushed : AfterCallbacks → Place
+pushed n = Place.Kick InKick.LoadKickCount (AfterKick.Push (AfterPush.CallBack n))
+
+pub same_call : (n : AfterCallbacks) → hush_of (Place.Callbacks InCallbacks.CallBack n) ≡ hush_of (pushed n)
+same_call AfterCallbacks.Look = refl
+same_call AfterCallbacks.Test = refl
+same_call AfterCallbacks.Begin = refl
+same_call AfterCallbacks.Drain = refl
+same_call AfterCallbacks.Finish = refl
+
+module _ {B : Type 0} where
+  pub record To (n : AfterCallbacks) (q' : Place) (w : Worker) (s : Shared B) : Type 0 where
+    pub to : Comes (pushed n) q' (out false) w s
+    pub queue : (x : Queue Runnable) → x.held ≡ [] → HasQueue q' x
+    pub aims : (c : Configuration) (i : ℕ) (seats : List Chair) → Aims q' c i seats
+
+  pub either : (n : AfterCallbacks) (b : Bool) (x y : Place) (w : Worker) (s : Shared B) → (b ≡ true → To n x w s) → (b ≡ false → To n y w s) → To n (if b then x else y) w s
+  either n true x y w s h k = h refl
+  either n false x y w s h k = k refl
+
+  -- what holds where it is handed on
+  pub record Pushed (n : AfterCallbacks) (w : Worker) (s : Shared B) : Type 0 where
+    pub told : IsTold w.names.ended.items w.home.deferred (tellers (driver_of w).requests w.home.timers + spare_before (Some n))
+    pub wide : HasWidth w.home.deferred (tellers (driver_of w).requests w.home.timers + 64)
+    pub bare : is_bare_before (Some n) ≡ true → live_count w.home.timers ≡ 0
+    pub batch : is_bare_before (Some n) ≡ true → w.batch.values ≡ []
+    pub held : (chair : Chair) → slice_get s.seats.items w.index ≡ Some chair → chair.queue.held ≡ []
+    pub phased : (chair : Chair) → slice_get s.seats.items w.index ≡ Some chair → IsPhased w.index (closes_before n) None w.home.closing w.root w.names.unreleased (stage_of chair s) s.tasks.items
+    pub counted : length w.names.ended.items + pending_count (driver_of w).requests ≡ w.names.unreleased
+
+  pushed_here : (n : AfterCallbacks) (q : Place) (w : Worker) (s : Shared B) → SoundAt q w s → IsPushFor (AfterPush.CallBack n) q → Pushed n w s
+  pushed_here n q w s sound is =
+      let lets : is_bare_at q ≡ true → live_count w.home.timers ≡ 0 = subst (λ c. LetsGo c (is_bare_at q) (driver_of w).requests w.home.timers) is.closing sound.lets_go in
+      record {
+        told = subst (λ k. IsTold w.names.ended.items w.home.deferred (tellers (driver_of w).requests w.home.timers + k)) is.spare sound.told;
+        wide = sound.wide;
+        bare = λ h. lets (is.bare ∙ h);
+        batch = λ h. is.batch w.batch.values sound.batch (is.bare ∙ h);
+        held = λ chair there. is.held chair.queue (sound.queue chair there);
+        phased = λ chair there.
+            subst (λ b. IsPhased w.index b None w.home.closing w.root w.names.unreleased (stage_of chair s) s.tasks.items) is.closes
+            (subst (λ c. IsPhased w.index (closes_at q) c w.home.closing w.root w.names.unreleased (stage_of chair s) s.tasks.items) is.closing (sound.phased chair there));
+        counted = sound.over.counted;
+      }
+
+  -- the next item
+  pub to_call : (n : AfterCallbacks) (w : Worker) (s : Shared B) → Pushed n w s → is_anything_told w ≡ true → To n (Place.Callbacks InCallbacks.CallBack n) w s
+  to_call n w s it some =
+      record {
+        to = record { same = same_call n; searches = refl; counts = refl; published = refl; queue = it.held; aims = tt; batch = it.batch; quiet = λ h. true_false h; left = by_not (is_untold w.home.deferred) some; told = it.told; lets_go = it.bare; phased = it.phased };
+        queue = λ x h. h;
+        aims = λ c i seats. tt;
+      }
+
+  -- the end of a closing, once each request is released
+  to_end : (w : Worker) (s : Shared B) → Pushed AfterCallbacks.Finish w s → NoneLeft w.home.deferred → has_open_requests w ≡ false → To AfterCallbacks.Finish (Place.Closing InClosing.End) w s
+  to_end w s it none closed =
+      let over : pending_count (driver_of w).requests ≡ 0 = zero_by (pending_count (driver_of w).requests) closed in
+      let all : w.names.unreleased ≡ 0 = omega (arith, it.counted, over, none.resources, it.told.resources) in
+      record {
+        to = record { same = refl; searches = refl; counts = refl; published = refl; queue = it.held; aims = tt; batch = λ h. it.batch refl; quiet = λ h. true_false h; left = tt; told = it.told; lets_go = λ h. it.bare refl; phased = λ chair there. phased_end w.index w.home.closing w.root w.names.unreleased w.names.unreleased (stage_of chair s) s.tasks.items all (it.phased chair there) };
+        queue = λ x h. h;
+        aims = λ c i seats. tt;
+      }
+    where
+      zero_by : (k : ℕ) → not (k == 0) ≡ false → k ≡ 0
+      zero_by k h = grind (arith, nat_tests)
+
+  pub to_after : (n : AfterCallbacks) (w : Worker) (s : Shared B) → Pushed n w s → NoneLeft w.home.deferred → To n (after_callbacks_of n w) w s
+  to_after AfterCallbacks.Look w s it none =
+      either AfterCallbacks.Look (is_pool w.role) (Place.Loads InLoads.LoadOwnHead Round.First) (Place.Loads (InLoads.LoadOwnWord (record { ready = false })) Round.First) w s
+      (λ h. record {
+        to = record { same = refl; searches = tt; counts = refl; published = refl; queue = it.held; aims = tt; batch = λ no. absurd (false≢true no); quiet = λ h. none.wakes; left = tt; told = it.told; lets_go = λ no. absurd (false≢true no); phased = it.phased };
+        queue = λ x h. h;
+        aims = λ c i seats. tt;
+      })
+      (λ h. record {
+        to = record { same = refl; searches = tt; counts = refl; published = refl; queue = it.held; aims = tt; batch = λ no. absurd (false≢true no); quiet = λ h. none.wakes; left = tt; told = it.told; lets_go = λ no. absurd (false≢true no); phased = it.phased };
+        queue = λ x h. h;
+        aims = λ c i seats. tt;
+      })
+  to_after AfterCallbacks.Test w s it none =
+      let told = all_places w.names.ended.items w.home.deferred (tellers (driver_of w).requests w.home.timers + 64) _ it.told it.wide none in
+      either AfterCallbacks.Test (is_pool w.role) (Place.Loads InLoads.LoadOwnHead Round.Second) (Place.Loads (InLoads.LoadOwnWord (record { ready = false })) Round.Second) w s
+      (λ h. record {
+        to = record { same = refl; searches = tt; counts = refl; published = refl; queue = it.held; aims = tt; batch = λ no. absurd (false≢true no); quiet = λ h. none.wakes; left = tt; told = told; lets_go = λ no. absurd (false≢true no); phased = it.phased };
+        queue = λ x h. h;
+        aims = λ c i seats. tt;
+      })
+      (λ h. record {
+        to = record { same = refl; searches = tt; counts = refl; published = refl; queue = it.held; aims = tt; batch = λ no. absurd (false≢true no); quiet = λ h. none.wakes; left = tt; told = told; lets_go = λ no. absurd (false≢true no); phased = it.phased };
+        queue = λ x h. h;
+        aims = λ c i seats. tt;
+      })
+  to_after AfterCallbacks.Begin w s it none =
+      record {
+        to = record { same = refl; searches = tt; counts = refl; published = refl; queue = it.held; aims = tt; batch = λ no. absurd (false≢true no); quiet = λ h. none.wakes; left = tt; told = it.told; lets_go = λ no. absurd (false≢true no); phased = it.phased };
+        queue = λ x h. h;
+        aims = λ c i seats. tt;
+      }
+  to_after AfterCallbacks.Drain w s it none =
+      record {
+        to = record { same = refl; searches = refl; counts = refl; published = refl; queue = it.held; aims = tt; batch = λ h. it.batch refl; quiet = λ h. true_false h; left = tt; told = it.told; lets_go = λ h. it.bare refl; phased = it.phased };
+        queue = λ x h. h;
+        aims = λ c i seats. tt;
+      }
+  to_after AfterCallbacks.Finish w s it none =
+      either AfterCallbacks.Finish (has_open_requests w) (ring_wait_of Stay.Closing w) (Place.Closing InClosing.End) w s
+      (λ some. either AfterCallbacks.Finish (is_ring_full (driver_of w)) (Place.RingWait InRingWait.EnterFullRing Stay.Closing) (Place.RingWait InRingWait.TestRing Stay.Closing) w s
+      (λ h. record {
+        to = record { same = refl; searches = refl; counts = refl; published = refl; queue = it.held; aims = tt; batch = λ h. it.batch refl; quiet = λ h. none.wakes; left = tt; told = it.told; lets_go = λ h. it.bare refl; phased = it.phased };
+        queue = λ y h. h;
+        aims = λ c i seats. tt;
+      })
+      (λ h. record {
+        to = record { same = refl; searches = refl; counts = refl; published = refl; queue = it.held; aims = tt; batch = λ h. it.batch refl; quiet = λ h. none.wakes; left = tt; told = it.told; lets_go = λ h. it.bare refl; phased = it.phased };
+        queue = λ y h. h;
+        aims = λ c i seats. tt;
+      }))
+      (λ closed. to_end w s it none closed)
+
+  pub call_comes : (n : AfterCallbacks) (q : Place) (w : Worker) (s : Shared B) → SoundAt q w s → IsPushFor (AfterPush.CallBack n) q → CallComes n w s
+  call_comes n q w s sound is =
+      let it = pushed_here n q w s sound is in
+      let there : To n (next_callback_of n w) w s =
+      either n (is_anything_told w) (Place.Callbacks InCallbacks.CallBack n) (after_callbacks_of n w) w s (λ some. to_call n w s it some) (λ none. to_after n w s it (none_left w.home.deferred (by_not_not (is_untold w.home.deferred) none))) in
+      record { to = there.to; queue = there.queue; aims = there.aims }

@@ -1,0 +1,251 @@
+-- A deadline that has come cancels its request, which the kernel has.
+use Rattle.std.proofs.{Common.{◌⊎◌, ⊎_elim, ◌++◌, ◌||◌, ◌≡◌, ◌≢◌, ℕ, ◌+◌, ◌-◌, ◌==◌, Bool, true, false, List, [], ◌∷◌, map, Option, Some, None, refl, sym, ap, subst, ◌∙◌, arith, inl, inr, is_some, slice_set, if◌then◌else◌}, lemmas.{Bool.false≢true, List.{append-nil, map-append}}}
+use Rattle.exec_base.specs.{Slab.value_at, declared.{slab.Id.Id, error.Error.TheVariants.Timeout}}
+use Rattle.exec_outcomes.specs.declared.outcome.Outcome.TheVariants.{Failure}
+use Rattle.exec_request.specs.{Requests.{asked_of, deadline_of}, States.asks_cancel}
+use Rattle.exec_waiters.{specs.{Events.{cancelled as cancelled_of, told_by_finish}, States.{needs_permit, takes_tick, tick_in, flying_count, waiter_at}, Told.{Tells, nothing_told}, declared.{waiter.{Entry.TheVariants.Pending, Waiter.Waiter}, waiter_id.WaiterId.WaiterId}}, proofs.Changes.entry_of}
+use Rattle.exec_driver.{specs.{Driving.Driving, Lists.{first_of, is_among, is_same, after_due}, Punctual.IsPunctual, Steps.{cancelled_from, cancelling, ended, told_by_cancel, timed_out}}, proofs.Names.same_tells}
+use Rattle.exec_task.specs.declared.body.Said.{Said}
+use Rattle.exec_machine.specs.{declared.{event.Event.{Event, TheVariants.Expire}, state.RequestPhase.RequestPhase}, Deadlines.{expired, outcome_at_expiry}, Same.same_end, Tests.{is_kept, is_staged}, World.{Common, request_of}}
+use Rattle.exec_moves.specs.{Move.move_submit, Told.told_if_ended, Submit.{due_next, first_due, submits, Due.Expires}, declared.place.{Service.Service, Place.Place, InService.InService}}
+use Rattle.exec_parts.{specs.{declared.parts.{mail.Reply.Reply, names.Names.Names, record.Record.Record, shared.Shared.Shared, worker.Worker.Worker}, Records.number_in, Serving.changed_at, Spots.Spot, View.{visible, with_view, own_of, desk_of, driver_of, common_of, seat_seen, things_with, numbers_of}}, proofs.Facts.by_name}
+use Rattle.exec_invariants.{specs.{Due.IsWheelAt, Flown.{HasFlown, operations}, Holding.{nap_of, thing_of}, Places.passes_at, Sound.{IsAlike, IsSubmitted, served_in}, Submits.{IsDueIn, IsInOrder}, Works.Steps}, proofs.{Enrolled.timed_kept, Serving.{at_large, balances_still, serves_to, IsServed, OthersKept, keeps_home, Serves, SparesRecords, Keeps, KeepsBy, spares_one}, Recorded.request_seen, Flown.landed_on, Known.known_written, Lined.{map_changed, opens_same}, Marking.{known_then, mark_if, mark_kept, marked, plain_kept, was_marked}, Slotted.{awaited_written, slots_written}, Carries.carried_still, Changing.{OneGoesOn, all_go_one, changes_one, flying_after, keeps_one}, Going.{GoesOn, owning_on}, Seeing.{makes, shows, served, common_changed, common_same, things_kept}, Staging.stages_again, Timed.keeps_untold, Expiring.{HasExpired, comes_to_due, due_first, expires, flies_not_queued, move_expire, same_change, told_first, unticked_start, unticked_tick}, Expired.expiry_ends, Resolving.unticked_at, Orders.{alike_unticked, eased, eases_written, part_after, part_self}}}
+
+-- THE LIST
+
+-- who stands there stood there before, or came last
+last_by : {id : Id} (other x : WaiterId) (ids : List WaiterId) (b : Bool) → is_same x other ≡ b → (b ≡ false → (is_among other ids ≡ true) ⊎ (other.0 ≡ id)) → ((b || is_among other ids) ≡ true) ⊎ (other.0 ≡ id)
+last_by other x ids true is later = inl refl
+last_by other x ids false is later = later refl
+
+pub among_last : (other id : WaiterId) (ids : List WaiterId) → is_among other (ids ++ id ∷ []) ≡ true → (is_among other ids ≡ true) ⊎ (other.0 ≡ id.0)
+among_last other id [] h =
+    elim (same_tells id other) [
+      | inl same ↦ inr (ap (λ (y : WaiterId). y.0) (sym same.1))
+      | inr differs ↦ absurd (false≢true (rw differs.0 at h))
+    ]
+among_last other id (x ∷ ids) h = last_by other x ids (is_same x other) refl (λ none. among_last other id ids (rw none at h))
+
+-- THE RECORD
+
+abbrev cancels : Record → Record
+cancels r = record r { shown = record r.shown { timer = None; cancelled = true } }
+
+untold_by : (b : Bool) (c : Bool) → c ≡ false → (b ≡ true → c ≡ true) → b ≡ false
+untold_by true c none h = absurd (false≢true (sym none ∙ h refl))
+untold_by false c none h = refl
+
+-- WHAT HOLDS AGAIN
+
+module _ {B : Type 0} (w : Worker) (s : Shared B) (new : IsDueIn w s) (id : WaiterId) (first : first_of (driver_of w).lists.due ≡ Some id) (flies : (due_first w s new id first).it.in_flight ≡ true) where
+  abbrev cancelled_waiter : Waiter Reply Reply
+  cancelled_waiter = cancelled_of (due_first w s new id first).it
+
+  abbrev cancelled_driver : Driving Reply Reply
+  cancelled_driver = cancelling (record (driver_of w) { lists = after_due (driver_of w).lists }) id (due_first w s new id first).it
+
+  abbrev cancelled_records : List Record
+  cancelled_records = changed_at s.requests.items (number_in w.names.requests.items id.0) cancels
+
+  alike_cancelled : IsAlike (driver_of w).wheel.start (driver_of w).wheel.tick cancelled_waiter (cancels (due_first w s new id first).r).shown
+  alike_cancelled =
+      let a = (due_first w s new id first).alike in
+      let going : true ≡ true → (due_first w s new id first).it.in_flight ≡ true = λ h. flies in
+      let dated : false ≡ true → is_some (deadline_of (due_first w s new id first).it.request) ≡ true = λ h. absurd (false≢true h) in
+      let alone : true ≡ true → is_kept (asked_of (due_first w s new id first).it.request).kind ≡ false = λ h. timed_kept (due_first w s new id first).it.request (due_first w s new id first).dated in
+      assumption (going, dated, alone, a)
+
+  cancels_on : GoesOn (due_first w s new id first).r (cancels (due_first w s new id first).r)
+  cancels_on = record { same = refl; over = refl; ended = λ h. refl }
+
+  submitted_cancelled : IsSubmitted w.index w.names.staged.items w.names.untold.items (driver_of w).ring cancelled_records
+  submitted_cancelled =
+      let rs = s.requests.items in
+      let k = number_in w.names.requests.items id.0 in
+      let sub = new.submits.sound.named.submitted in
+      record {
+        tagged = sub.tagged;
+        cancels = sub.cancels;
+        known = known_then cancels rs k w.names.staged.items sub.known;
+        own = λ j x h found. let old = was_marked cancels rs k j x found in ap (λ y. y.shown.worker) old.2 ∙ mark_kept ℕ (λ x. x.shown.worker) cancels (λ x. refl) (k == j) old.0 ∙ sub.own j old.0 h old.1;
+        all = λ j x found mine staged.
+            let old = was_marked cancels rs k j x found in
+            sub.all j old.0 old.1 (sym (mark_kept ℕ (λ x. x.shown.worker) cancels (λ x. refl) (k == j) old.0) ∙ sym (ap (λ y. y.shown.worker) old.2) ∙ mine)
+            (sym (ap is_staged (mark_kept RequestPhase (λ x. x.shown.phase) cancels (λ x. refl) (k == j) old.0)) ∙ sym (ap (λ y. is_staged y.shown.phase) old.2) ∙ staged);
+      }
+
+  flown_cancelled : HasFlown (served_in (Place.Service (InService.Submit new.submits.gate) new.submits.service)) w.index w.names cancelled_driver cancelled_records
+  flown_cancelled =
+      let d = driver_of w in
+      let d' = cancelled_driver in
+      let rs = s.requests.items in
+      let k = number_in w.names.requests.items id.0 in
+      let who = due_first w s new id first in
+      let it = who.it in
+      let it' = cancelled_waiter in
+      let flown = new.submits.sound.flown in
+      let changed = changes_one d.requests id.0 it it' who.live in
+      let all = all_go_one rs k cancels who.r who.there cancels_on in
+      record {
+        ending = flown.ending;
+        staging = flown.staging;
+        telling = flown.telling;
+        entries = flown.entries;
+        gated = λ other x live needs.
+            by_name other.0 id.0 (λ apart. flown.gated other x (sym (changed.others other.0 apart) ∙ live) needs)
+            (λ eq.
+            let is_it : x ≡ it' = cc (live, eq, changed.is_at) in
+            flown.gated other it (ap (waiter_at d.requests) eq ∙ who.live) (ap needs_permit (sym is_it) ∙ needs));
+        plain = plain_kept cancels rs k (λ r p. record { bounded = p.bounded; moved = p.moved; deadline = p.deadline }) w.index (λ r. refl) flown.plain;
+        landed = landed_on w.names w.names d d' rs cancelled_records (operations d.ring) flown.landed
+            (λ other x r given live flying found landed.
+            let j = number_in w.names.requests.items other in
+            let phase = mark_kept RequestPhase (λ x. x.shown.phase) cancels (λ x. refl) (k == j) r in
+            by_name other id.0
+            (λ apart. record { it' = x; r' = mark_if cancels (k == j) r; live = changed.others other apart ∙ live; flies = refl; same = refl; number = refl; there = marked cancels rs k j r found; phase = phase })
+            (λ same.
+            let both : x ≡ it = cc (live, who.live, same) in
+            record {
+              it' = it';
+              r' = mark_if cancels (k == j) r;
+              live = ap (waiter_at d'.requests) same ∙ changed.is_at;
+              flies = ap (λ y. y.in_flight) (sym both);
+              same = ap (λ y. y.request) (sym both);
+              number = refl;
+              there = marked cancels rs k j r found;
+              phase = phase;
+            }));
+        polled = flown.polled;
+        owning = owning_on rs cancelled_records all flown.owning;
+        enrolling = λ other x live takes some.
+            by_name other.0 id.0 (λ apart. flown.enrolling other x (sym (changed.others other.0 apart) ∙ live) takes some)
+            (λ eq.
+            let is_it : x ≡ it' = cc (live, eq, changed.is_at) in
+            absurd (false≢true (ap (λ y. takes_tick y.state) (sym is_it) ∙ takes)));
+        uncancelled = λ other x among found mine.
+            let j = number_in w.names.requests.items other.0 in
+            let old = was_marked cancels rs k j x found in
+            let mine_then = sym (mark_kept ℕ (λ y. y.shown.worker) cancels (λ y. refl) (k == j) old.0) ∙ sym (ap (λ y. y.shown.worker) old.2) ∙ mine in
+            ap (λ y. y.shown.cancel_staged) old.2 ∙ mark_kept Bool (λ x. x.shown.cancel_staged) cancels (λ x. refl) (k == j) old.0
+            ∙ ⊎_elim (λ before. flown.uncancelled other old.0 before old.1 mine_then)
+            (λ same.
+            let both : old.0 ≡ who.r = cc (old.1, who.there, ap (number_in w.names.requests.items) same) in
+            ap (λ y. y.shown.cancel_staged) both ∙ untold_by who.r.shown.cancel_staged who.r.shown.cancelled (who.alike.cancelled ∙ who.unasked) who.alike.told_once)
+            (among_last other id d.lists.cancels among);
+      }
+
+  keeps_cancelled : IsPunctual cancelled_driver
+      → KeepsBy (record w { place = Place.Service (InService.Submit new.submits.gate) new.submits.service }) cancelled_driver w.home.timers cancelled_records s.sleepers.items s
+  keeps_cancelled punctual =
+      let v = new.submits.service in
+      let gate = new.submits.gate in
+      let q : Place = Place.Service (InService.Submit gate) v in
+      let sound = new.submits.sound in
+      let d = driver_of w in
+      let who = due_first w s new id first in
+      let it = who.it in
+      let wheel : IsWheelAt s.config w.moments.start w.moments.sampled d.wheel = sound.due.wheel in
+      let a = who.alike in
+      let on : GoesOn who.r (cancels who.r) = record { same = refl; over = refl; ended = λ h. refl } in
+      let one : OneGoesOn w.names w.names d cancelled_driver s.requests.items id.0 it cancelled_waiter who.r cancels = record {
+        at = who.live;
+        there = who.there;
+        slab = refl;
+        on = on;
+        alike = alike_cancelled;
+        start = unticked_start d.wheel (tick_in it.state);
+        tick = unticked_tick d.wheel (tick_in it.state);
+        requests = refl;
+        timers = refl;
+      } in
+      keeps_one q q w.put_off w.names w s cancelled_driver id.0 it cancelled_waiter who.r cancels sound (stages_again gate v) one punctual (λ h. absurd (false≢true (sym h)))
+      (eased (eases_written d.requests id.0 it cancelled_waiter who.live (λ t is. absurd (cc)) (λ none. refl)) (alike_unticked d.wheel (tick_in it.state)) (part_self d.lists.enrolments) (part_after id d.lists.due) sound.due.order)
+      (unticked_at s.config w.moments.start w.moments.sampled d.wheel (tick_in it.state) wheel) refl submitted_cancelled flown_cancelled
+      (carried_still w.names.requests.items d.requests d.ring s.requests.items s.store sound.carried id.0 it cancelled_waiter who.live refl (number_in w.names.requests.items id.0) cancels (λ r there. refl) (λ r there. refl))
+      refl
+      (known_written w.index w.names.requests.items d.requests s.opens s.opens s.requests.items (number_in w.names.requests.items id.0) cancels (λ y. record { id = refl; worker = refl; kind = refl; target = refl; unrefused = λ h. h }) (λ file h. h) id.0 it cancelled_waiter who.r refl who.live who.there (inl (λ h. inl h)) sound.known)
+
+-- A STEP
+
+module _ {B L : Type 0} (left : B → L) (spot : L → Option Said → Spot) where
+  pub expiry_cancels : (w w' : Worker) (s s' : Shared B) (e : Event) (id : WaiterId) → (new : IsDueIn w s) → IsInOrder w s → (first : first_of (driver_of w).lists.due ≡ Some id) → (due_first w s new id first).it.in_flight ≡ true → HasExpired w w' s s' e id (due_first w s new id first).r → Steps left spot w s e w' s'
+  expiry_cancels w w' s s' e id new order first flies by =
+      let v = new.submits.service in
+      let gate = new.submits.gate in
+      let q : Place = Place.Service (InService.Submit gate) v in
+      let sound = new.submits.sound in
+      let d = driver_of w in
+      let rs = s.requests.items in
+      let k = number_in w.names.requests.items id.0 in
+      let who = due_first w s new id first in
+      let it = who.it in
+      let w0 : Worker = record w { place = q } in
+      let it' = cancelled_waiter w s new id first flies in
+      let d' = cancelled_driver w s new id first flies in
+      let rs' = cancelled_records w s new id first flies in
+      let ends : outcome_at_expiry who.r.shown ≡ None = ap (λ b. if b then Some (Failure Timeout) else None) (flies_not_queued who.r.shown.phase (who.alike.flying ∙ flies)) in
+      let driver : driver_of w' ≡ d' =
+      by.driver ∙ ap (cancelled_from (record d { lists = after_due d.lists }) id) who.live
+      ∙ ap (λ b. if b then (if asks_cancel it.state then (record d { lists = after_due d.lists }) else cancelling (record d { lists = after_due d.lists }) id it) else ended (record d { lists = after_due d.lists }) id it timed_out None) flies
+      ∙ ap (λ b. if b then (record d { lists = after_due d.lists }) else cancelling (record d { lists = after_due d.lists }) id it) who.unasked in
+      let tells : Tells w.home.deferred w'.home.deferred nothing_told =
+      subst (λ x. Tells w.home.deferred w'.home.deferred x)
+      (ap (told_by_cancel id) who.live ∙ ap (λ b. if b then nothing_told else told_by_finish id.0 it timed_out None) flies) by.tells in
+      let records : s'.requests.items ≡ rs' = by.records ∙ same_change rs k who.r expires cancels who.there (ap (λ o. record who.r { shown = expired o who.r.shown }) ends) in
+      let names = by.still ends in
+      let deferred = w'.home.deferred in
+      let w1 : Worker = record w { place = q; home = record w.home { deferred = deferred } } in
+      let w2 : Worker = record w1 { home = record w1.home { driver = w'.home.driver } } in
+      let same : w' ≡ record w { home = record w.home { driver = w'.home.driver; deferred = deferred } } =
+      by.worker ∙ ap (λ (x : Names). record w { home = record w.home { driver = w'.home.driver; deferred = deferred }; names = record w.names { ended = x.ended } }) names in
+      let there : w'.place ≡ q = ap (λ x. x.place) same ∙ sound.here in
+      let same2 : w' ≡ w2 = same ∙ ap (λ y. record w { place = y; home = record w.home { driver = w'.home.driver; deferred = deferred } }) sound.here in
+      let kept : KeepsBy w0 d' w.home.timers rs' s.sleepers.items s = keeps_cancelled w s new id first flies (subst IsPunctual driver by.punctual) in
+      let untold : KeepsBy w1 d' w.home.timers rs' s.sleepers.items s = keeps_untold w0 d' w.home.timers rs' s.sleepers.items s deferred tells kept in
+      let keeps : Keeps w' s' = keeps_home w1 w' s s' rs' d' same2 by.shared driver records untold in
+      let serves : Serves q w w' s s' = serves_to q q w w' s s' (subst (IsServed w) (sym same) refl) (subst (OthersKept s) (sym by.shared) refl) there (stages_again gate v) in
+      let show = shows q w w' s s' d' serves driver (ap (λ (x : Worker). x.home.timers) same) in
+      let seen : visible w' ≡ visible w = show.seen in
+      let spares : SparesRecords w.index s s' = spares_one w.index s s' k who.r cancels (opens_same s.opens s'.opens s.requests.items sound.gates (ap (λ (y : Shared B). y.opens) by.shared)) (record { at = refl; over = λ h. h; sent = refl; forwarded = λ h. h }) records (ap (λ (y : Shared B). y.sleepers.items) by.shared) who.there who.worker (λ y. refl) in
+      let wakes : deferred.notes.wakes.items ≡ w.home.deferred.notes.wakes.items = tells.notes.wakes_added ∙ append-nil w.home.deferred.notes.wakes.items in
+      let outputs : deferred.outputs.items ≡ w.home.deferred.outputs.items = tells.outputs_added ∙ append-nil w.home.deferred.outputs.items in
+      let completions : deferred.notes.completions.items ≡ w.home.deferred.notes.completions.items = tells.notes.completions_added ∙ append-nil w.home.deferred.notes.completions.items in
+      let results : deferred.results.items ≡ w.home.deferred.results.items = tells.results_added ∙ append-nil w.home.deferred.results.items in
+      let was = entry_of (value_at d.requests id.0) it who.live in
+      let slots = slots_written w.names.requests.items d.requests id.0 (Pending it) (Pending it') was in
+      let awaited = awaited_written w.names.requests.items d.requests id.0 (Pending it) (Pending it') was refl in
+      let flying : flying_count d'.requests ≡ flying_count d.requests =
+      let n = flying_after d.requests id.0 it it' who.live in
+      omega (arith, n) in
+      let numbers : numbers_of w.names.requests.items (d.lists.cancels ++ id ∷ []) ≡ numbers_of w.names.requests.items d.lists.cancels ++ k ∷ [] = map-append (λ (x : WaiterId). number_in w.names.requests.items x.0) d.lists.cancels (id ∷ []) in
+      subst (λ x. Steps left spot w s x w' s') (sym (by.event ∙ ap (Expire k) ends))
+      (served left spot q w w' s s' (Expire k None) sound serves keeps spares (balances_still q w w' s s' sound.here serves spares (ap passes_at there) (ap (λ (x : Worker). x.home.deferred.notes.wakes.items) same ∙ wakes) (ap (map thing_of) records ∙ map_changed thing_of rs k who.r cancels who.there refl) (ap (λ (y : Shared B). map nap_of y.sleepers.items) by.shared))
+      (λ p vs suits.
+      let cp = p.config in
+      let all = common_of left spot p vs s in
+      let request : request_of all k ≡ who.r.shown = request_seen rs k who.r who.there in
+      let found : first_due cp w.index (own_of w0) all ≡ Some k = subst (λ x. first_due x w.index (own_of w0) all ≡ Some k) suits.config (order id first) in
+      let due : due_next cp w.index gate (own_of w0) all (desk_of w0) ≡ Expires k = comes_to_due cp w.index gate k (own_of w0) all (desk_of w0) found in
+      let desk : desk_of w' ≡ desk_of w0 = show.desk ∙ rw (there, ap (λ x. x.put_off) same, wakes, outputs, completions, results, slots, awaited) refl in
+      record {
+        moves =
+            ap (move_submit cp w.index (own_of w0) all (desk_of w0) (things_with vs s) gate v) due
+            ∙ ap (move_expire (desk_of w0) (things_with vs s) gate v k) request
+            ∙ ap (λ o. makes (Expire k o) (submits v gate (told_if_ended o k who.r.shown (desk_of w0))) (things_with vs s)) ends
+            ∙ ap (λ x. makes (Expire k None) x (things_with vs s)) (sym desk)
+            ∙ ap (makes (Expire k None) (desk_of w')) (sym (things_kept vs w.index (visible w) (visible w') s s' suits.seen (ap (λ y. y.wakes) seen) serves.shared spares));
+        may = (at_large q w s sound refl, (told_first cp (own_of w0) w.index all.requests k found, (ap (same_end None) (ap outcome_at_expiry request ∙ ends), tt)));
+        own = show.own ∙ rw (there, ap (λ x. x.names.ended) same, ap (λ x. x.names.untold) same, numbers, flying) refl;
+        common =
+            common_changed left spot p (with_view vs w.index (visible w')) s s' k who.r cancels by.shared records who.there refl
+            ∙ ap (λ (x : Common). record x { requests = slice_set (map (λ r. r.shown) rs) k (cancels who.r).shown }) (common_same left spot p vs w w' s suits (λ c'. ap (λ y. seat_seen y c') seen))
+            ∙ ap (λ x. record all { requests = slice_set (map (λ r. r.shown) rs) k (record x { timer = None; cancelled = true }) }) (sym request);
+      }))
+
+  -- by whether the kernel has it
+  pub expiry_steps : (w w' : Worker) (s s' : Shared B) (e : Event) (id : WaiterId) → (new : IsDueIn w s) → IsInOrder w s → (first : first_of (driver_of w).lists.due ≡ Some id) → HasExpired w w' s s' e id (due_first w s new id first).r → Steps left spot w s e w' s'
+  expiry_steps w w' s s' e id new order first by =
+      elim ((due_first w s new id first).it.in_flight) as (λ b. (due_first w s new id first).it.in_flight ≡ b → Steps left spot w s e w' s') [
+        | true ↦ λ flies. expiry_cancels w w' s s' e id new order first flies by
+        | false ↦ λ idle. expiry_ends left spot w w' s s' e id new order first idle by
+      ] refl

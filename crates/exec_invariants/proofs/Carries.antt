@@ -1,0 +1,145 @@
+-- What keeps what the kernel has, where other steps change the requests.
+use Rattle.std.proofs.{Common.{◌≡◌, ◌≢◌, ℕ, ◌<◌, ◌≤◌, ◌==◌, Bool, true, false, List, [], Option, Some, None, refl, sym, ap, subst, ◌∙◌, arith, slice_get, sum_by, if◌then◌else◌}, lemmas.Bool.{false≢true, eq-eqb}}
+use Rattle.exec_base.specs.{Slab.{Slab, written}, declared.slab.Id.Id}
+use Rattle.exec_outcomes.specs.declared.outcome.Outcome.{Outcome}
+use Rattle.exec_request.specs.Requests.{target_of}
+use Rattle.exec_ring.specs.{Rings.RingState, Stores.socket_of, declared.store.Store.Store}
+use Rattle.exec_waiters.specs.{Ids.{user_data_of, index_in}, States.waiter_at, declared.waiter.{Entry.{Entry, TheVariants.Pending}, Waiter.Waiter}}
+use Rattle.exec_machine.specs.declared.state.RequestPhase.{RequestPhase}
+use Rattle.exec_parts.{specs.{declared.parts.{mail.Reply.Reply, record.Record.Record}, Records.number_in, Serving.changed_at}, proofs.Facts.{by_name, same_number, not_same}}
+use Rattle.exec_invariants.{specs.Carried.{HasStretchFor, IsCarried, IsUnderWay, IsWhole, may_move, moves_by, room_for, those_of, unlanded}, proofs.{Carrying.sum_changed, Changing.changes_one, Marking.{mark_if, was_marked}}}
+
+nothing : (b : Bool) → let none : ℕ = 0 in (if b then none else none) ≡ none
+nothing true = refl
+nothing false = refl
+
+-- ONE REQUEST GOES ON, with its operation as it was: of its waiter and its record anything else may change
+
+mark_operation : (f : Record → Record) (b : Bool) (r : Record) → (b ≡ true → (f r).shown.operation ≡ r.shown.operation) → (mark_if f b r).shown.operation ≡ r.shown.operation
+mark_operation f true r same = same refl
+mark_operation f false r same = refl
+
+mark_phase : (f : Record → Record) (b : Bool) (r : Record) → (b ≡ true → (f r).shown.phase ≡ r.shown.phase) → (mark_if f b r).shown.phase ≡ r.shown.phase
+mark_phase f true r same = same refl
+mark_phase f false r same = refl
+
+module _ (numbers : List ℕ) (s : Slab (Entry Reply Reply)) (ring : RingState) (rs : List Record) (st : Store) (carried : IsCarried numbers s ring rs st) where
+  -- a record whose operation and phase stay
+  pub carried_marked : (k : ℕ) (f : Record → Record) → ((r : Record) → slice_get rs k ≡ Some r → (f r).shown.operation ≡ r.shown.operation) → ((r : Record) → slice_get rs k ≡ Some r → (f r).shown.phase ≡ r.shown.phase)
+      → IsCarried numbers s ring (changed_at rs k f) st
+  carried_marked k f operation phase =
+      record {
+        slots = carried.slots;
+        whole = carried.whole;
+        target = λ id it r live there.
+            let old = was_marked f rs k (number_in numbers id) r there in
+            ap (λ z. z.shown.operation.target) old.2 ∙ ap (λ o. o.target) (mark_operation f (k == number_in numbers id) old.0 (λ is. operation old.0 (at (number_in numbers id) old.0 is old.1)))
+            ∙ carried.target id it old.0 live old.1;
+        carried = λ id it r live there.
+            let old = was_marked f rs k (number_in numbers id) r there in
+            let same : r.shown.phase ≡ old.0.shown.phase = ap (λ z. z.shown.phase) old.2 ∙ mark_phase f (k == number_in numbers id) old.0 (λ is. phase old.0 (at (number_in numbers id) old.0 is old.1)) in
+            subst (λ p. IsUnderWay p (user_data_of id) it.request ring) (sym same) (carried.carried id it old.0 live old.1);
+        nobody = carried.nobody;
+        room = λ out socket. room_by out socket (slice_get rs k) refl;
+        stretch = carried.stretch;
+      }
+    where
+      at : (j : ℕ) (r : Record) → (k == j) ≡ true → slice_get rs j ≡ Some r → slice_get rs k ≡ Some r
+      at j r is there = ap (slice_get rs) (same_number k j is) ∙ there
+
+      sends : (out : Bool) (socket : ℕ) (r : Record) → slice_get rs k ≡ Some r → may_move out socket (f r) ≡ may_move out socket r
+      sends out socket r there = rw (operation r there, phase r there) refl
+
+      room_by : (out : Bool) (socket : ℕ) (o : Option Record) → slice_get rs k ≡ o → sum_by (may_move out socket) (changed_at rs k f) ≤ room_for out (socket_of st socket)
+      room_by out socket None none = rw none (carried.room out socket)
+      room_by out socket (Some r) there =
+          let sum = sum_changed (may_move out socket) rs k r f there in
+          let same = sends out socket r there in
+          let room = carried.room out socket in
+          omega (arith, sum, same, room)
+
+  -- what waits there keeps its request
+  pub carried_waiter : (id : Id) (it it' : Waiter Reply Reply) → waiter_at s id ≡ Some it → it'.request ≡ it.request → IsCarried numbers (written s id (Pending it')) ring rs st
+  carried_waiter id it it' live same =
+      record {
+        slots = λ other x at. carried.slots other (was other x at).0 (was other x at).1;
+        whole = λ other x at. subst IsWhole (sym (was other x at).2) (carried.whole other (was other x at).0 (was other x at).1);
+        target = λ other x r at there. carried.target other (was other x at).0 r (was other x at).1 there ∙ ap target_of (sym (was other x at).2);
+        carried = λ other x r at there. subst (λ q. IsUnderWay r.shown.phase (user_data_of other) q ring) (sym (was other x at).2) (carried.carried other (was other x at).0 r (was other x at).1 there);
+        nobody = λ u small free. carried.nobody u small (λ other x at named. (let now = becomes other x at in free other now.0 now.1 named));
+        room = carried.room;
+        stretch = λ other x at. subst (λ q. HasStretchFor q st) (sym (was other x at).2) (carried.stretch other (was other x at).0 (was other x at).1);
+      }
+    where
+      was : (other : Id) (x : Waiter Reply Reply) → waiter_at (written s id (Pending it')) other ≡ Some x → (y : Waiter Reply Reply) × (waiter_at s other ≡ Some y) × (x.request ≡ y.request)
+      was other x at =
+          let changed = changes_one s id it it' live in
+          by_name other id
+          (λ apart. (x, sym (changed.others other apart) ∙ at, refl))
+          (λ eq.
+          let is : x ≡ it' = cc (at, eq, changed.is_at) in
+          (it, ap (waiter_at s) eq ∙ live, ap (λ y. y.request) is ∙ same))
+
+      becomes : (other : Id) (x : Waiter Reply Reply) → waiter_at s other ≡ Some x → (y : Waiter Reply Reply) × (waiter_at (written s id (Pending it')) other ≡ Some y)
+      becomes other x at =
+          let changed = changes_one s id it it' live in
+          by_name other id
+          (λ apart. (x, changed.others other apart ∙ at))
+          (λ eq. (it', ap (waiter_at (written s id (Pending it'))) eq ∙ changed.is_at))
+
+  -- the same requests in another slab
+  pub carried_slab : (s' : Slab (Entry Reply Reply)) → ((id : Id) → waiter_at s' id ≡ waiter_at s id) → IsCarried numbers s' ring rs st
+  carried_slab s' same =
+      record {
+        slots = λ id it at. carried.slots id it (sym (same id) ∙ at);
+        whole = λ id it at. carried.whole id it (sym (same id) ∙ at);
+        target = λ id it r at there. carried.target id it r (sym (same id) ∙ at) there;
+        carried = λ id it r at there. carried.carried id it r (sym (same id) ∙ at) there;
+        nobody = λ u small free. carried.nobody u small (λ id it at named. free id it (same id ∙ at) named);
+        room = carried.room;
+        stretch = λ id it at. carried.stretch id it (sym (same id) ∙ at);
+      }
+
+  -- a request of which the ring has nothing is over
+  module _ (s' : Slab (Entry Reply Reply)) (id : Id) (it : Waiter Reply Reply) (r : Record) (f : Record → Record) (outcome : Outcome) (live : waiter_at s id ≡ Some it) (there : slice_get rs (number_in numbers id) ≡ Some r)
+      (none : (those_of (user_data_of id) ring.flying ≡ []) × (those_of (user_data_of id) ring.staged ≡ [])) (gone : waiter_at s' id ≡ None) (others : (other : Id) → other ≢ id → waiter_at s' other ≡ waiter_at s other) (over : (f r).shown.phase ≡ RequestPhase.Resolved outcome)
+      (apart : (other : Id) (x : Waiter Reply Reply) → waiter_at s other ≡ Some x → other ≢ id → number_in numbers id ≡ number_in numbers other → ⊥) where
+    another : (other : Id) (x : Waiter Reply Reply) → waiter_at s' other ≡ Some x → other ≢ id
+    another other x at same = let no : None ≡ Some x = sym gone ∙ ap (waiter_at s') (sym same) ∙ at in absurd (cc)
+
+    before : (other : Id) (x : Waiter Reply Reply) → waiter_at s' other ≡ Some x → waiter_at s other ≡ Some x
+    before other x at = sym (others other (another other x at)) ∙ at
+
+    stood : (other : Id) (x : Waiter Reply Reply) (y : Record) → waiter_at s' other ≡ Some x → slice_get (changed_at rs (number_in numbers id) f) (number_in numbers other) ≡ Some y → slice_get rs (number_in numbers other) ≡ Some y
+    stood other x y at found =
+        let old = was_marked f rs (number_in numbers id) (number_in numbers other) y found in
+        old.1 ∙ ap (λ z. Some z) (sym (old.2 ∙ ap (λ b. mark_if f b old.0) (not_same (number_in numbers id) (number_in numbers other) (apart other x (before other x at) (another other x at)))))
+
+    nobody_by : (v : ℕ) (b : Bool) → (user_data_of id == v) ≡ b → index_in v < 4294967295 → ((other : Id) (x : Waiter Reply Reply) → waiter_at s' other ≡ Some x → user_data_of other ≡ v → ⊥) → (those_of v ring.flying ≡ []) × (those_of v ring.staged ≡ [])
+    nobody_by v true is small free = subst (λ u. (those_of u ring.flying ≡ []) × (those_of u ring.staged ≡ [])) (same_number (user_data_of id) v is) none
+    nobody_by v false is small free =
+        carried.nobody v small
+        (λ other x at named.
+        free other x
+        (others other (λ same. false≢true (sym is ∙ eq-eqb (user_data_of id) v (ap user_data_of (sym same) ∙ named))) ∙ at) named)
+
+    pub carried_over : IsCarried numbers s' ring (changed_at rs (number_in numbers id) f) st
+    carried_over =
+        record {
+          slots = λ other x at. carried.slots other x (before other x at);
+          whole = λ other x at. carried.whole other x (before other x at);
+          target = λ other x y at found. carried.target other x y (before other x at) (stood other x y at found);
+          carried = λ other x y at found. carried.carried other x y (before other x at) (stood other x y at found);
+          nobody = λ v small free. nobody_by v (user_data_of id == v) refl small free;
+          room = λ out socket.
+              let sum = sum_changed (may_move out socket) rs (number_in numbers id) r f there in
+              let now : may_move out socket (f r) ≡ 0 = ap (λ p. if moves_by out socket (f r).shown.operation then unlanded p (f r).shown.operation else 0) over ∙ nothing (moves_by out socket (f r).shown.operation) in
+              let room = carried.room out socket in
+              omega (arith, sum, now, room);
+          stretch = λ other x at. carried.stretch other x (before other x at);
+        }
+
+-- a waiter that keeps its request, and a record whose operation and phase stay
+pub carried_still : (numbers : List ℕ) (s : Slab (Entry Reply Reply)) (ring : RingState) (rs : List Record) (st : Store) → IsCarried numbers s ring rs st → (id : Id) (it it' : Waiter Reply Reply) → waiter_at s id ≡ Some it → it'.request ≡ it.request → (k : ℕ) (f : Record → Record)
+    → ((r : Record) → slice_get rs k ≡ Some r → (f r).shown.operation ≡ r.shown.operation) → ((r : Record) → slice_get rs k ≡ Some r → (f r).shown.phase ≡ r.shown.phase) → IsCarried numbers (written s id (Pending it')) ring (changed_at rs k f) st
+carried_still numbers s ring rs st carried id it it' live same k f operation phase = carried_marked numbers (written s id (Pending it')) ring rs st (carried_waiter numbers s ring rs st carried id it it' live same) k f operation phase

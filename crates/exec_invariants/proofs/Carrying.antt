@@ -1,0 +1,104 @@
+-- What the kernel has of a request whose result lands: one operation, which leaves; and one completion more.
+use Rattle.std.{proofs.{Common.{◌≡◌, ℕ, suc, ◌+◌, ◌%◌, ◌<◌, ◌≤◌, ◌==◌, Bool, true, false, not, cond, List, [], ◌∷◌, ◌++◌, filter, Some, refl, sym, ap, subst, ◌∙◌, arith, slice_get, slice_set, sum_by, nat_le}, lemmas.{Bool.{and_parts, Decides.nat_tests}, List.{Sums.{sum_by-set, get_or-le-sum_by}}, Option.{slice_get_within, get_or_from_slice_get}}}, specs.{List.{position_or_len, remove}}}
+use Rattle.exec_base.specs.declared.slab.Id.{Id}
+use Rattle.exec_outcomes.specs.{Lawful.{is_lawful}, declared.outcome.{OpResult.{OpResult, TheVariants.{Count, Errno}}}}
+use Rattle.exec_ring.specs.{Completions.{completed, number_of, result_in}, Kernels.{is_of, without_flight, landed}, Rings.{RingState, completions}, declared.{completion.{Submission.Submission}}}
+use Rattle.exec_waiters.specs.Ids.{user_data_of, index_in, generation_in}
+use Rattle.exec_driver.specs.Steps.{is_control}
+use Rattle.exec_moves.specs.State.{passed}
+use Rattle.exec_parts.{specs.{declared.parts.record.Record.Record, Serving.{changed_at, changed_in}, View.{trailing, wake_poll_in}}, proofs.Facts.same_number}
+use Rattle.exec_invariants.{specs.{Carried.those_of, Flown.{IsPolled, operations}}, proofs.WokenEntered.landing as landing_added}
+
+-- THE FIRST THAT PASSES A TEST
+
+module _ {A : Type 0} (p : A → Bool) where
+  head_found : (b : Bool) (y x : A) (ys zs : List A) (n : ℕ) → (b ≡ false → slice_get ys n ≡ Some x) → cond b (y ∷ zs) (filter p ys) ≡ x ∷ [] → slice_get (y ∷ ys) (cond (not b) (1 + n) 0) ≡ Some x
+  head_found true y x ys zs n more h = cc
+  head_found false y x ys zs n more h = let e : 1 + n ≡ suc n = omega arith in rw e (more refl)
+
+  -- where one passes, it is found
+  pub lone_found : (xs : List A) (x : A) → filter p xs ≡ x ∷ [] → slice_get xs (position_or_len p xs) ≡ Some x
+  lone_found [] x h = absurd (cc)
+  lone_found (y ∷ ys) x h =
+      head_found (p y) y x ys (filter p ys) (position_or_len p ys) (λ no. lone_found ys x (sym (ap (λ b. cond b (y ∷ filter p ys) (filter p ys)) no) ∙ h)) h
+
+  head_removed : (b : Bool) (y x : A) (ys : List A) (n : ℕ) → p y ≡ b → (b ≡ false → filter p (remove ys n) ≡ []) → cond b (y ∷ filter p ys) (filter p ys) ≡ x ∷ [] → filter p (remove (y ∷ ys) (cond (not b) (1 + n) 0)) ≡ []
+  head_removed true y x ys n is more h = cc
+  head_removed false y x ys n is more h = let e : 1 + n ≡ suc n = omega arith in rw (e, is) (more refl)
+
+  -- and once it is taken out none passes
+  pub lone_removed : (xs : List A) (x : A) → filter p xs ≡ x ∷ [] → filter p (remove xs (position_or_len p xs)) ≡ []
+  lone_removed [] x h = absurd (cc)
+  lone_removed (y ∷ ys) x h =
+      head_removed (p y) y x ys (position_or_len p ys) refl (λ no. lone_removed ys x (sym (ap (λ b. cond b (y ∷ filter p ys) (filter p ys)) no) ∙ h)) h
+
+  head_left : (q : A → Bool) (b : Bool) (y : A) (ys : List A) (n : ℕ) → (b ≡ true → q y ≡ false) → filter q (remove ys n) ≡ filter q ys → filter q (remove (y ∷ ys) (cond (not b) (1 + n) 0)) ≡ filter q (y ∷ ys)
+  head_left q true y ys n apart more = rw (apart refl) refl
+  head_left q false y ys n apart more = let e : 1 + n ≡ suc n = omega arith in rw e (ap (λ zs. cond (q y) (y ∷ zs) zs) more)
+
+  -- of those that pass another test none goes
+  pub others_left : (q : A → Bool) → ((x : A) → p x ≡ true → q x ≡ false) → (xs : List A) → filter q (remove xs (position_or_len p xs)) ≡ filter q xs
+  others_left q apart [] = refl
+  others_left q apart (y ∷ ys) = head_left q (p y) y ys (position_or_len p ys) (apart y) (others_left q apart ys)
+
+-- USER DATA
+
+pub index_told : (id : Id) → id.index < 4294967295 → index_in (user_data_of id) ≡ id.index
+index_told id small = omega (arith, small)
+
+pub generation_told : (id : Id) → id.index < 4294967295 → generation_in (user_data_of id) ≡ id.generation % 4294967296
+generation_told id small = omega (arith, small)
+
+-- an operation of a request is no control
+pub no_control : (u : ℕ) (n : OpResult) → index_in u < 4294967295 → is_control (completed u n) ≡ false
+no_control u n small = by (u == 18446744073709551615) (u == 4294967295) refl refl
+  where
+    by : (a b : Bool) → (u == 18446744073709551615) ≡ a → (u == 4294967295) ≡ b → is_control (completed u n) ≡ false
+    by true b is is' = let e = same_number u 18446744073709551615 is in absurd (omega (arith, small, e))
+    by false true is is' = let e = same_number u 4294967295 is' in absurd (omega (arith, small, e))
+    by false false is is' = rw (is, is') refl
+
+-- RESULTS
+
+pub result_told : (window : ℕ) (n : OpResult) → is_lawful window n ≡ true → result_in (number_of n) ≡ n
+result_told window (Count n) h = refl
+result_told window (Errno c) h =
+    let one : 1 ≤ c = (let a = (and_parts (nat_le 1 c) (nat_le c 4095) h).0 in grind (arith, nat_tests)) in
+    ap (λ k. Errno k) (omega (arith, one))
+
+-- THE ROOM FOR BYTES
+
+pub sum_changed : (f : Record → ℕ) (rs : List Record) (k : ℕ) (r : Record) (g : Record → Record) → slice_get rs k ≡ Some r → sum_by f (changed_at rs k g) + f r ≡ sum_by f rs + f (g r)
+sum_changed f rs k r g there =
+    ap (λ o. sum_by f (changed_in rs k g o) + f r) there
+    ∙ ap (λ x. sum_by f (slice_set rs k (g r)) + f x) (sym (get_or_from_slice_get rs k r r there))
+    ∙ sum_by-set f rs k (g r) r (slice_get_within rs k r there)
+
+pub part_within : (f : Record → ℕ) (rs : List Record) (k : ℕ) (r : Record) → slice_get rs k ≡ Some r → f r ≤ sum_by f rs
+part_within f rs k r there = subst (λ x. f x ≤ sum_by f rs) (get_or_from_slice_get rs k r r there) (get_or-le-sum_by f rs k r (slice_get_within rs k r there))
+
+-- THE FLIGHT
+
+pub others_fly : (u v : ℕ) (r : RingState) (n : OpResult) → (u ≡ v → ⊥) → those_of v (landed r u n).flying ≡ those_of v r.flying
+others_fly u v r n apart = others_left (is_of u) (is_of v) (λ e is. other e is (e.user_data == v) refl) r.flying
+  where
+    same : (a b : ℕ) → (a == b) ≡ true → a ≡ b
+    same a b h = grind (arith, nat_tests)
+
+    other : (e : Submission) → is_of u e ≡ true → (b : Bool) → (e.user_data == v) ≡ b → is_of v e ≡ false
+    other e is true at = absurd (apart (sym (same e.user_data u is) ∙ same e.user_data v at))
+    other e is false at = at
+
+-- COMPLETIONS
+
+-- one more completion of an operation stands there, as the last
+pub record OneLanded (r : RingState) (u : ℕ) (n : OpResult) : Type 0 where
+  pub others : trailing 0 (completions (landed r u n)) ≡ 0
+  pub operated : operations (landed r u n) ≡ operations r ++ completed u n ∷ []
+  pub poll : wake_poll_in (landed r u n) ≡ passed (wake_poll_in r)
+  pub polled : (a : Bool) → IsPolled r a → IsPolled (landed r u n) a
+
+pub one_landed : (r : RingState) (u : ℕ) (n : OpResult) → index_in u < 4294967295 → OneLanded r u n
+one_landed r u n small =
+    let it = landing_added (without_flight r u) (completed u n) (no_control u n small) in
+    record { others = it.others; operated = it.operated; poll = it.poll; polled = it.polled }

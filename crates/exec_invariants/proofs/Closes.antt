@@ -1,0 +1,432 @@
+-- The first steps of a closing, each as a step of the machine: worker zero closes what is the pool's, and stops it.
+use Rattle.std.proofs.{Common.{◌≡◌, inl, inr, ℕ, ◌*◌, ◌+◌, ◌≤◌, ◌&&◌, ◌-◌, ◌==◌, ◌||◌, ◌<◌, Bool, true, false, [], ◌++◌, length, map, Option, Some, option_map, refl, sym, ap, subst, ◌∙◌, arith, slice_get, slice_set, nat_lt, if◌then◌else◌, slice_index_or}, lemmas.{Bool.{false≢true, eq-eqb, Decides.nat_tests}, List.{append-nil, length-set}, Option.{get_or_from_slice_get, slice_get-map}}}
+use Rattle.exec_words.specs.Reserved.{Reserved}
+use Rattle.exec_task.specs.declared.{body.Said.Said, task.Phase.Phase}
+use Rattle.exec_machine.specs.{declared.{event.Event.{Event, TheVariants.{Turn, Close, Stop}}, state.{Next.Next, WorkerPhase.WorkerPhase}}, Choice.Choice.Plain, Closing.letters_to_roots, Progress.Plan, Tests.{has_ended, is_closing, is_done, is_open}, World.{no_task, task_of}}
+use Rattle.exec_moves.specs.{declared.{handing.{AfterPop.AfterPop, InPop.InPop}, place.{InClosing.InClosing, Place.Place}}, Move.move_at, Parts.{first_pop, has_others, tells_from}, Seen.{next_at, serves_at}}
+use Rattle.exec_parts.{specs.{declared.parts.{seat.Seat.Seat as Chair, shared.Shared.Shared, task_slot.TaskSlot.TaskSlot, worker.Worker.Worker}, Phased.{IsGoing, IsPhased, IsPrepared, Stage, TurnsChair, closes_at, closing_in, has_left, has_shut, has_stopped, is_complete, root_over, stage_of}, Roles.{is_pool, owns_runner}, Spots.Spot, View.{Views, common_of, desk_of, driver_of, letters_in, own_of, owed_at, phase_seen, seat_seen, seats_seen, task_seen, things_with, visible, with_view}}, proofs.Facts.{by_number, not_same, or_right, same_number, set_there}}
+use Rattle.exec_invariants.{specs.{Whole.with_worker, Holding.{box_of, Hands, holder_of, IsHolding, Mail, nap_of, thing_of}, Places.{drops_at, is_pooled_at, no_drops}, Sound.{Aims, HasBatch, IsSeated, LetsGoAt, SoundAt, has_wakes_at}, Works.{Steps, Suits, Works}}, proofs.{BoxBegan.holding_began, Dedicated.{as_long, chair_of_pool}, DedicatedSeen.pool_seen, Aside.{SparesSeats, queue_of_chair, queues_set, seats_own, seats_same}, Hearing.unheard, PoolKept.{gates_same, gates_set}, Seats.{chair_set, own_seat}, Shutting.{beside_closing, Closes, Empties, Follows, GoesOnlyOn, Holds, holds_calm, mail_there, onward, Pools, pools_calm, Ready, seats_show, shown_as, sound_closing}, Turning.view_found}}
+
+pub now_closing : (p : WorkerPhase) → is_open p ≡ false → has_ended p ≡ false → is_closing p ≡ true
+now_closing WorkerPhase.Open h k = absurd (false≢true (sym h))
+now_closing WorkerPhase.Closing h k = refl
+now_closing WorkerPhase.Ended h k = absurd (false≢true (sym k))
+
+pub now_done : {B : Type 0} (p : Phase B) (i : ℕ) → is_done (phase_seen p i) ≡ is_complete p
+now_done (Phase.Idle b) i = refl
+now_done (Phase.Queued b) i = refl
+now_done Phase.Running i = refl
+now_done Phase.Notified i = refl
+now_done Phase.Complete i = refl
+
+-- the places that a closing leads to
+pub follows_in : (x : InClosing) → Follows (Place.Closing x)
+follows_in x = record { polls = refl; served = refl; unarmed = refl; begins = refl; hands_on = refl; calls = refl; searches = refl; claims = refl; counts = refl; published = refl; passes = refl; joins = refl; spare = refl; cancels = refl; sends = refl; heard = refl; queue = λ own none. none }
+
+pub follows_pop : (others : Bool) → Follows (if others then Place.Pop InPop.LoadPopHead AfterPop.Discard else Place.Pop InPop.PopAlone AfterPop.Discard)
+follows_pop true = record { polls = refl; served = refl; unarmed = refl; begins = refl; hands_on = refl; calls = refl; searches = refl; claims = refl; counts = refl; published = refl; passes = refl; joins = refl; spare = refl; cancels = refl; sends = refl; heard = refl; queue = λ own none. none }
+follows_pop false = record { polls = refl; served = refl; unarmed = refl; begins = refl; hands_on = refl; calls = refl; searches = refl; claims = refl; counts = refl; published = refl; passes = refl; joins = refl; spare = refl; cancels = refl; sends = refl; heard = refl; queue = λ own none. none }
+
+module _ {B L : Type 0} (left : B → L) (spot : L → Option Said → Spot) where
+  -- one of the own closing, by what it does to the machine
+  pub closed_by : (x : InClosing) (q : Place) (closes : Bool) (batch : Reserved Mail) (n : ℕ) (w w' : Worker) (s s' : Shared B) (e : Event) → SoundAt (Place.Closing x) w s → Follows q → Ready q closes batch n w s s' → GoesOnlyOn w.index s s' → Empties s s' → SparesSeats w.index s.seats.items s'.seats.items
+      → Pools q closes batch n w s s' → Holds q closes batch n w s s' → map queue_of_chair s'.seats.items ≡ map queue_of_chair s.seats.items → w' ≡ onward q closes batch n w → ((p : Plan) (vs : Views) → Suits p vs w s → Works left spot p vs w s e (onward q closes batch n w) s') → Steps left spot w s e w' s'
+  closed_by x q closes batch n w w' s s' e sound to ready on empties seats pools holds queues worker works =
+      subst (λ v. Steps left spot w s e v s') (sym worker)
+      (works, sound_closing x q closes batch n w s s' sound to ready, unheard refl (ap (λ (z : Shared B). z.config) ready.kept) (ap (λ (z : Shared B). z.tasks.items) ready.kept), beside_closing x q closes batch n w s s' sound to ready.kept ready.seated on empties seats pools holds queues)
+
+  pub root_there : (p : Plan) (vs : Views) (s : Shared B) (t : ℕ) (slot : TaskSlot B) → slice_get s.tasks.items t ≡ Some slot → task_of (common_of left spot p vs s) t ≡ task_seen left spot slot
+  root_there p vs s t slot there =
+      get_or_from_slice_get (map (task_seen left spot) s.tasks.items) t (task_seen left spot slot) no_task (slice_get-map (task_seen left spot) s.tasks.items t ∙ ap (option_map (task_seen left spot)) there)
+
+  -- what is seen of the seats once the own chair has changed
+  pub seats_on : (p : Plan) (vs : Views) (w : Worker) (s s' : Shared B) (chair' : Chair) → Suits p vs w s → s'.seats.items ≡ slice_set s.seats.items w.index chair'
+      → seats_seen vs.workers s'.seats.items ≡ slice_set (seats_seen vs.workers s.seats.items) w.index (seat_seen (visible w) chair')
+  seats_on p vs w s s' chair' suits items = ap (seats_seen vs.workers) items ∙ chair_set vs.workers s.seats.items w.index (visible w) chair' suits.seen
+
+  module _ (w w' : Worker) (s s' : Shared B) (e : Event) where
+    -- THE CLOSING BEGINS
+
+    pub closing_began : SoundAt (Place.Closing InClosing.Close) w s → e ≡ Close
+        → w' ≡ record w { place = (if owns_runner w.role then Place.Closing InClosing.CloseQueue else if is_pool w.role then first_pop s.config AfterPop.Discard else Place.Closing InClosing.CloseMailbox); home = record w.home { closing = true } }
+        → TurnsChair w.index (λ chair. record chair { phase = WorkerPhase.Closing }) s s' → s' ≡ record s { seats = s'.seats; set = record s.set { closed = s.set.closed || owns_runner w.role } } → Steps left spot w s e w' s'
+    closing_began sound event goes turns kept = by (w.index == 0) refl
+      where
+        seat : Chair
+        seat = sound.seated.seat
+
+        there : slice_get s.seats.items w.index ≡ Some seat
+        there = sound.seated.there
+
+        chair : Chair
+        chair = record seat { phase = WorkerPhase.Closing }
+
+        items : s'.seats.items ≡ slice_set s.seats.items w.index chair
+        items = turns seat there
+
+        found : slice_get s'.seats.items w.index ≡ Some chair
+        found = ap (λ xs. slice_get xs w.index) items ∙ set_there s.seats.items w.index chair seat there
+
+        phased : IsPhased w.index false (Some InClosing.Close) w.home.closing w.root w.names.unreleased (stage_of seat s) s.tasks.items
+        phased = sound.phased seat there
+
+        closes : Closes s s'
+        closes = subst (λ (z : Shared B). z ≡ record s { seats = z.seats; set = z.set; global = z.global; barrier_open = z.barrier_open; stopped = z.stopped }) (sym kept) refl
+
+        now_closed : s'.set.closed ≡ (s.set.closed || (w.index == 0))
+        now_closed = ap (λ (z : Shared B). z.set.closed) kept ∙ ap (λ b. s.set.closed || b) sound.role.owns
+
+        stopped : s'.stopped ≡ s.stopped
+        stopped = ap (λ (z : Shared B). z.stopped) kept
+
+        shards : length s'.set.shards ≡ length s.set.shards
+        shards = ap (λ (z : Shared B). length z.set.shards) kept
+
+        all_shards : s'.set.shards ≡ s.set.shards
+        all_shards = ap (λ (z : Shared B). z.set.shards) kept
+
+        closed_still : (b c : Bool) → b ≡ true → (b || c) ≡ true
+        closed_still true c h = refl
+        closed_still false c h = absurd (false≢true h)
+
+        same_still : (b c : Bool) → c ≡ false → (b || c) ≡ b
+        same_still true c h = refl
+        same_still false c h = h
+
+        on : GoesOnlyOn w.index s s'
+        on = record {
+          stopped = λ h. stopped ∙ h;
+          closed = λ h. now_closed ∙ closed_still s.set.closed (w.index == 0) h;
+          by_zero = λ other. (stopped, now_closed ∙ same_still s.set.closed (w.index == 0) (not_zero w.index other));
+          shards = shards;
+          emptied = λ shut k none. ap (λ xs. slice_index_or xs k []) all_shards ∙ none;
+        }
+          where
+            not_zero : (i : ℕ) → (i ≡ 0 → ⊥) → (i == 0) ≡ false
+            not_zero i other = not_same i 0 other
+
+        seats : SparesSeats w.index s.seats.items s'.seats.items
+        seats = seats_own w.index s.seats.items s'.seats.items seat chair items there (omega arith)
+
+        queues : map queue_of_chair s'.seats.items ≡ map queue_of_chair s.seats.items
+        queues = ap (λ xs. map queue_of_chair xs) items ∙ queues_set s.seats.items w.index seat chair there refl
+
+        holds : (q : Place) → Holds q true w.batch w.processed w s s'
+        holds q others whole =
+            let hands : Hands = record { mail = mail_there others w.batch w; wakes = (with_worker others w).wakes } in
+            subst (λ xs. IsHolding hands s.config.workers (map holder_of s.tasks.items) (map thing_of s.requests.items) (map nap_of s.sleepers.items) (map box_of xs)) (sym items)
+            (holding_began hands s.config.workers (map holder_of s.tasks.items) (map thing_of s.requests.items) (map nap_of s.sleepers.items) s.seats.items w.index seat chair there refl whole.holding)
+
+        as_many_seats : length s'.seats.items ≡ length s.seats.items
+        as_many_seats = ap length items ∙ length-set s.seats.items w.index chair
+
+        batch_place : (own : Chair) → slice_get s'.seats.items w.index ≡ Some own → own.mailbox.inbox.closed ≡ false → 2 * own.made + 1 ≤ w.batch.places
+        batch_place own at_own = let is : chair ≡ own = cc (found, at_own) in subst (λ (c : Chair). c.mailbox.inbox.closed ≡ false → 2 * c.made + 1 ≤ w.batch.places) is (sound.batch_place seat there)
+
+        seated : IsSeated w.index false s.config.workers s'.seats.items
+        seated = record { many = as_long (ap length items ∙ length-set s.seats.items w.index chair) sound.seated.many; pool = sound.seated.pool; seat = chair; there = found; unarmed = sound.seated.unarmed; mail = sound.seated.mail }
+
+        held : (own : Chair) → slice_get s'.seats.items w.index ≡ Some own → own.queue.held ≡ []
+        held own at_own = let is : chair ≡ own = cc (found, at_own) in rw (← is) (sound.queue seat there)
+
+        -- where it leads, by whether it is worker zero
+        stage : (own : Chair) → slice_get s'.seats.items w.index ≡ Some own → stage_of own s' ≡ record { phase = WorkerPhase.Closing; pool = seat.pool; left = seat.left; shut = seat.mailbox.inbox.closed; stopped = s.stopped; set = record s.set { closed = s.set.closed || (w.index == 0) }; made = seat.made }
+        stage own at_own = let is : chair ≡ own = cc (found, at_own) in rw (← is, stopped, ap (λ (z : Shared B). z.set) kept, sound.role.owns) refl
+
+        to : (q : Place) → Follows q → drops_at q ≡ no_drops → Ready q true w.batch w.processed w s s' → w' ≡ onward q true w.batch w.processed w → ((p : Plan) (vs : Views) → Suits p vs w s → Works left spot p vs w s e (onward q true w.batch w.processed w) s') → Steps left spot w s e w' s'
+        to q follows drops ready worker works =
+            closed_by InClosing.Close q true w.batch w.processed w w' s s' e sound follows ready on (inl (ap (λ (z : Shared B). z.global) kept)) seats
+            (pools_calm InClosing.Close q true w.batch w.processed w s s' sound follows drops (gates_set w.index s.seats.items s'.seats.items seat chair items there (record { left = refl; pool = refl; closed = refl; mail = λ h. h })) all_shards on.closed)
+            (holds q)
+            queues worker works
+
+        things : (vs : Views) → things_with vs s' ≡ things_with vs s
+        things vs = ap (λ (z : Shared B). things_with vs z) kept ∙ seats_show vs w.index s s'.seats.items seat chair there items refl refl refl refl
+
+        no_letters : letters_in w.letters ≡ []
+        no_letters = sound.letters.none refl
+
+        quiet : (q : Place) → has_wakes_at q ≡ false → w.home.deferred.notes.wakes.items ≡ []
+        quiet q h = sound.quiet refl
+
+        at_zero : (w.index == 0) ≡ true → Steps left spot w s e w' s'
+        at_zero is =
+            let q : Place = Place.Closing InClosing.CloseQueue in
+            let pooled : is_pooled_at q ≡ true → is_pool w.role ≡ true = λ h. let less : nat_lt w.index s.config.workers ≡ true = grind (arith, nat_tests, same_number w.index 0 is, sound.config.workers) in sound.role.pool ∙ less in
+            let lets_go : LetsGoAt q (driver_of w).requests w.home.timers = λ no. absurd (false≢true no) in
+            let batch : HasBatch q w.batch.values = λ no. absurd (false≢true no) in
+            let ready : Ready q true w.batch w.processed w s s' = record {
+              kept = closes;
+              closing = λ h. refl;
+              seated = seated;
+              queue = held;
+              aims = same_number w.index 0 is;
+              batch = batch;
+              mine = sound.mine;
+              place = batch_place;
+              few = sound.processed;
+              many = as_many_seats;
+              pooled = pooled;
+              lets_go = lets_go;
+              quiet = quiet q;
+              shards = shards;
+              phased = λ own at_own.
+                  subst (λ st. IsPhased w.index true (Some InClosing.CloseQueue) true w.root w.names.unreleased st s.tasks.items) (sym (stage own at_own))
+                  (record {
+                    told = refl;
+                    opened = refl;
+                    ended = λ h. absurd (false≢true h);
+                    root = phased.root;
+                    left = phased.left;
+                    shut = phased.shut;
+                    by_zero = λ zero. ((phased.by_zero zero).0, or_right s.set.closed (w.index == 0) is);
+                    by_other = λ some pool over. phased.by_other some pool refl;
+                    closed = λ h. closed_still s.set.closed (w.index == 0) (phased.closed h);
+                    prepared = tt;
+                  });
+            } in
+            to q (follows_in InClosing.CloseQueue) refl ready (goes ∙ rw (sound.role.owns, is) refl)
+            (λ p vs suits.
+            let cs = common_of left spot p vs s in
+            let mine = own_seat left spot p vs w s seat suits there in
+            let root = root_there p vs s w.root sound.runnable.root sound.runnable.there in
+            let again = view_found vs w.index (visible w) suits.seen in
+            record {
+              choice = Plain;
+              moves =
+                  subst (λ y. move_at p.config w.index (own_of w) cs (desk_of w) (things_with vs s) y ≡ record { event = e; choice = Plain; desk = desk_of (onward q true w.batch w.processed w); thing = things_with (with_view vs w.index (visible w)) s' }) (sym sound.here)
+                  (shown_as _ (λ v. record { event = e; choice = Plain; desk = desk_of (onward q true w.batch w.processed w); thing = things_with v s' }) vs _ again
+                  (rw (event, is) (ap (λ x. record { event = Close; choice = Plain; desk = desk_of (onward q true w.batch w.processed w); thing = x }) (sym (things vs)))));
+              may = rw (event, sound.here, no_letters) (refl, (rw mine phased.opened, (rw (root, sound.runnable.home, eq-eqb w.index w.index refl) refl, (rw root (now_done sound.runnable.root.cell.phase sound.runnable.root.poller ∙ phased.root sound.runnable.root sound.runnable.there), tt))));
+              own = rw (event, sound.here, is, no_letters) refl;
+              common = rw event (ap (λ v. common_of left spot p v s') again ∙ ap (common_of left spot p vs) kept ∙ rw (seats_on p vs w s s' chair suits items, sound.role.owns, mine) refl);
+            })
+
+        no_more : (b : Bool) → (b && false) ≡ false
+        no_more true = refl
+        no_more false = refl
+
+        pool_here : (b : Bool) → is_pool w.role ≡ b → seat.pool ≡ b
+        pool_here b pool = chair_of_pool (Place.Closing InClosing.Close) w s sound seat there ∙ pool
+
+        elsewhere : (w.index == 0) ≡ false → (q : Place) (at : InClosing) → (if is_pool w.role then first_pop s.config AfterPop.Discard else Place.Closing InClosing.CloseMailbox) ≡ q → closes_at q ≡ true → closing_in q ≡ Some at → (seat.pool && has_left true (Some at)) ≡ false → has_shut true (Some at) ≡ false → root_over true (Some at) ≡ true → IsPrepared (Some at) w.names.unreleased (record s.set { closed = s.set.closed || (w.index == 0) })
+            → Aims q s.config w.index s'.seats.items → Follows q → next_at q ≡ (if seat.pool then Next.Free else Next.ClosesMailbox) → serves_at q ≡ false → owed_at w.workers q ≡ [] → drops_at q ≡ no_drops → (is_pooled_at q ≡ true → is_pool w.role ≡ true) → LetsGoAt q (driver_of w).requests w.home.timers → HasBatch q w.batch.values → Steps left spot w s e w' s'
+        elsewhere is q at first closes_there closing leaves shuts over prepared aims follows next unserved owes drops pooled lets_go batch =
+            let ready : Ready q true w.batch w.processed w s s' = record {
+              kept = closes;
+              closing = λ h. refl;
+              seated = seated;
+              queue = held;
+              aims = aims;
+              batch = batch;
+              mine = sound.mine;
+              place = batch_place;
+              few = sound.processed;
+              many = as_many_seats;
+              pooled = pooled;
+              lets_go = lets_go;
+              quiet = quiet q;
+              shards = shards;
+              phased = λ own at_own.
+                  subst (λ st. IsPhased w.index (closes_at q) (closing_in q) true w.root w.names.unreleased st s.tasks.items) (sym (stage own at_own))
+                  (rw (closes_there, closing)
+                  (record {
+                    told = refl;
+                    opened = refl;
+                    ended = λ h. absurd (false≢true h);
+                    root = λ slot at_root. phased.root slot at_root ∙ sym over;
+                    left = phased.left ∙ no_more seat.pool ∙ sym leaves;
+                    shut = phased.shut ∙ sym shuts;
+                    by_zero = λ zero. absurd (false≢true (sym is ∙ eq-eqb w.index 0 zero));
+                    by_other = λ some pool over. phased.by_other some pool refl;
+                    closed = λ h. closed_still s.set.closed (w.index == 0) (phased.closed h);
+                    prepared = prepared;
+                  }));
+            } in
+            to q follows drops ready (goes ∙ rw (sound.role.owns, is, first) refl)
+            (λ p vs suits.
+            let cs = common_of left spot p vs s in
+            let mine = own_seat left spot p vs w s seat suits there in
+            let root = root_there p vs s w.root sound.runnable.root sound.runnable.there in
+            let again = view_found vs w.index (visible w) suits.seen in
+            record {
+              choice = Plain;
+              moves =
+                  subst (λ y. move_at p.config w.index (own_of w) cs (desk_of w) (things_with vs s) y ≡ record { event = e; choice = Plain; desk = desk_of (onward q true w.batch w.processed w); thing = things_with (with_view vs w.index (visible w)) s' }) (sym sound.here)
+                  (shown_as _ (λ v. record { event = e; choice = Plain; desk = desk_of (onward q true w.batch w.processed w); thing = things_with v s' }) vs _ again
+                  (rw (event, is, pool_seen left spot p vs (Place.Closing InClosing.Close) w s sound suits, ← suits.config, first) (ap (λ x. record { event = Close; choice = Plain; desk = desk_of (onward q true w.batch w.processed w); thing = x }) (sym (things vs)))));
+              may = rw (event, sound.here, no_letters) (refl, (rw mine phased.opened, (rw (root, sound.runnable.home, eq-eqb w.index w.index refl) refl, (rw root (now_done sound.runnable.root.cell.phase sound.runnable.root.poller ∙ phased.root sound.runnable.root sound.runnable.there), tt))));
+              own = rw (event, sound.here, is, mine, follows.polls, next, unserved, owes) refl;
+              common = rw event (ap (λ v. common_of left spot p v s') again ∙ ap (common_of left spot p vs) kept ∙ rw (seats_on p vs w s s' chair suits items, sound.role.owns, mine) refl);
+            })
+
+        by_others : (w.index == 0) ≡ false → (pool : Bool) → is_pool w.role ≡ pool → (others : Bool) → has_others s.config ≡ others → Steps left spot w s e w' s'
+        by_others is true pool true which =
+            elsewhere is (Place.Pop InPop.LoadPopHead AfterPop.Discard) (InClosing.TellRoot 0) (rw (pool, which) refl) refl refl (no_more seat.pool) refl refl tt tt (follows_pop true) (rw (pool_here true pool) refl) refl refl refl (λ h. pool) (λ no. absurd (false≢true no)) (λ no. absurd (false≢true no))
+        by_others is true pool false which =
+            elsewhere is (Place.Pop InPop.PopAlone AfterPop.Discard) (InClosing.TellRoot 0) (rw (pool, which) refl) refl refl (no_more seat.pool) refl refl tt tt (follows_pop false) (rw (pool_here true pool) refl) refl refl refl (λ h. pool) (λ no. absurd (false≢true no)) (λ no. absurd (false≢true no))
+        by_others is false pool others which =
+            elsewhere is (Place.Closing InClosing.CloseMailbox) InClosing.CloseMailbox (rw pool refl) refl refl (rw (pool_here false pool) refl) refl refl tt tt (follows_in InClosing.CloseMailbox) (rw (pool_here false pool) refl) refl refl refl (λ no. absurd (false≢true no)) (λ no. absurd (false≢true no)) (λ no. absurd (false≢true no))
+
+        by : (zero : Bool) → (w.index == 0) ≡ zero → Steps left spot w s e w' s'
+        by true is = at_zero is
+        by false is = by_others is (is_pool w.role) refl (has_others s.config) refl
+
+    -- WORKER ZERO closes the global queue, opens the barrier and stops the pool: nothing of the seats changes
+
+    pub stays : (x y : InClosing) → SoundAt (Place.Closing x) w s → IsGoing w.index s.seats.items → Closes s s' → s'.seats ≡ s.seats → s'.set.closed ≡ s.set.closed → length s'.set.shards ≡ length s.set.shards → closes_at (Place.Closing x) ≡ true → has_left true (Some y) ≡ has_left true (Some x) → has_shut true (Some y) ≡ has_shut true (Some x)
+        → (w.index ≡ 0 → s'.stopped ≡ has_stopped true (Some y)) → (s.stopped ≡ true → s'.stopped ≡ true) → (q : Place) → closes_at q ≡ true → closing_in q ≡ Some y → root_over true (Some x) ≡ true → root_over true (Some y) ≡ true → IsPrepared (Some y) w.names.unreleased s'.set → has_wakes_at (Place.Closing x) ≡ false → is_pooled_at (Place.Closing x) ≡ true → LetsGoAt q (driver_of w).requests w.home.timers → HasBatch q w.batch.values
+        → Aims q s.config w.index s.seats.items → Ready q w.home.closing w.batch w.processed w s s'
+    stays x y sound going kept seats same more closes leaves shuts zero stopped q closes_there closing over over_then prepared quiet pools lets_go batch aims =
+        record {
+          kept = kept;
+          closing = λ h. h;
+          seated = subst (λ xs. IsSeated w.index false s.config.workers xs) (sym (ap (λ v. v.items) seats)) sound.seated;
+          queue = λ chair there. sound.queue chair (subst (λ v. slice_get v.items w.index ≡ Some chair) seats there);
+          aims = subst (λ v. Aims q s.config w.index v.items) (sym seats) aims;
+          batch = batch;
+          mine = sound.mine;
+          place = λ chair there. sound.batch_place chair (subst (λ v. slice_get v.items w.index ≡ Some chair) seats there);
+          few = sound.processed;
+          many = ap (λ v. length v.items) seats;
+          pooled = λ h. sound.pooled pools;
+          lets_go = lets_go;
+          quiet = λ h. sound.quiet quiet;
+          shards = more;
+          phased = λ chair there.
+              let at_own : slice_get s.seats.items w.index ≡ Some chair = subst (λ v. slice_get v.items w.index ≡ Some chair) seats there in
+              let it : IsPhased w.index true (Some x) w.home.closing w.root w.names.unreleased (stage_of chair s) s.tasks.items = subst (λ b. IsPhased w.index b (Some x) w.home.closing w.root w.names.unreleased (stage_of chair s) s.tasks.items) closes (sound.phased chair at_own) in
+              rw (closes_there, closing)
+              (record {
+                told = it.told;
+                opened = it.opened;
+                ended = λ h. absurd (false≢true (sym (going chair at_own) ∙ h));
+                root = λ slot found. it.root slot found ∙ over ∙ sym over_then;
+                left = it.left ∙ ap (λ b. chair.pool && b) (sym leaves);
+                shut = it.shut ∙ sym shuts;
+                by_zero = λ is. (zero is, same ∙ (it.by_zero is).1);
+                by_other = λ some pool h. stopped (it.by_other some pool over);
+                closed = λ h. same ∙ closed_by_now it (chair_of_pool (Place.Closing x) w s sound chair at_own ∙ sound.pooled pools) h;
+                prepared = prepared;
+              });
+        }
+      where
+        -- the set is closed: worker zero has closed it, and any other closes once the pool is stopped
+        closed_by_now : {st : Stage} → IsPhased w.index true (Some x) w.home.closing w.root w.names.unreleased st s.tasks.items → st.pool ≡ true → s'.stopped ≡ true → st.set.closed ≡ true
+        closed_by_now it pool h =
+            by_number w.index 0
+            (λ other. it.closed (it.by_other (omega (arith, other)) pool over))
+            (λ is. (it.by_zero is).1)
+
+    -- only worker zero
+    alone : w.index ≡ 0 → s'.set ≡ s.set → (s.stopped ≡ true → s'.stopped ≡ true) → GoesOnlyOn w.index s s'
+    alone zero set stopped =
+        record { stopped = stopped; closed = λ h. ap (λ z. z.closed) set ∙ h; by_zero = λ other. absurd (other zero); shards = ap (λ z. length z.shards) set; emptied = λ shut k none. ap (λ z. slice_index_or z.shards k []) set ∙ none }
+
+    pub calm : (x : InClosing) (q : Place) → SoundAt (Place.Closing x) w s → Follows q → drops_at q ≡ drops_at (Place.Closing x) → s'.seats ≡ s.seats → s'.set ≡ s.set → Pools q w.home.closing w.batch w.processed w s s'
+    calm x q sound follows drops seats set =
+        pools_calm x q w.home.closing w.batch w.processed w s s' sound follows drops (gates_same s.seats.items s'.seats.items (ap (λ v. v.items) seats)) (ap (λ z. z.shards) set) (λ h. ap (λ z. z.closed) set ∙ h)
+
+    pub holds_still : (q : Place) → s'.seats ≡ s.seats → Holds q w.home.closing w.batch w.processed w s s'
+    holds_still q seats = holds_calm q w.home.closing w.processed w s s' (ap (λ v. map box_of v.items) seats)
+
+    pub unset : s'.seats ≡ s.seats → SparesSeats w.index s.seats.items s'.seats.items
+    unset seats = seats_same w.index s.seats.items s'.seats.items (ap (λ v. v.items) seats)
+
+    pub queue_closed : SoundAt (Place.Closing InClosing.CloseQueue) w s → IsGoing w.index s.seats.items → e ≡ Turn → w' ≡ record w { place = Place.Closing InClosing.OpenBarrier } → s' ≡ record s { global = record { values = []; places = 0; closed = true } } → Steps left spot w s e w' s'
+    queue_closed sound going event goes kept =
+        let q : Place = Place.Closing InClosing.OpenBarrier in
+        let seats : s'.seats ≡ s.seats = ap (λ (z : Shared B). z.seats) kept in
+        let set : s'.set ≡ s.set = ap (λ (z : Shared B). z.set) kept in
+        let stop : s'.stopped ≡ s.stopped = ap (λ (z : Shared B). z.stopped) kept in
+        let closes : Closes s s' = subst (λ (z : Shared B). z ≡ record s { seats = z.seats; set = z.set; global = z.global; barrier_open = z.barrier_open; stopped = z.stopped }) (sym kept) refl in
+        let phased = sound.phased sound.seated.seat sound.seated.there in
+        closed_by InClosing.CloseQueue q w.home.closing w.batch w.processed w w' s s' e sound (follows_in InClosing.OpenBarrier)
+        (stays InClosing.CloseQueue InClosing.OpenBarrier sound going closes seats (ap (λ z. z.closed) set) (ap (λ z. length z.shards) set) refl refl refl (λ is. stop ∙ (phased.by_zero is).0) (λ h. stop ∙ h) q refl refl refl refl tt refl refl (λ no. absurd (false≢true no)) (λ no. absurd (false≢true no)) sound.aims)
+        (alone sound.aims set (λ h. stop ∙ h)) (inr (ap (λ (z : Shared B). z.global.values) kept, ap (λ (z : Shared B). z.global.closed) kept)) (unset seats) (calm InClosing.CloseQueue q sound (follows_in InClosing.OpenBarrier) refl seats set) (holds_still q seats) (ap (λ v. map queue_of_chair v.items) seats) goes
+        (λ p vs suits.
+        let again = view_found vs w.index (visible w) suits.seen in
+        record {
+          choice = Plain;
+          moves =
+              subst (λ y. move_at p.config w.index (own_of w) (common_of left spot p vs s) (desk_of w) (things_with vs s) y ≡ record { event = e; choice = Plain; desk = desk_of (record w { place = q }); thing = things_with (with_view vs w.index (visible w)) s' }) (sym sound.here)
+              (shown_as _ (λ v. record { event = e; choice = Plain; desk = desk_of (record w { place = q }); thing = things_with v s' }) vs _ again
+              (rw event (ap (λ (z : Shared B). record { event = Turn; choice = Plain; desk = desk_of (record w { place = q }); thing = things_with vs z }) (sym kept))));
+          may = rw event tt;
+          own = rw (event, sound.here) refl;
+          common = rw event (ap (λ v. common_of left spot p v s') again ∙ ap (common_of left spot p vs) kept ∙ rw sound.here refl);
+        })
+
+    pub barrier_opened : SoundAt (Place.Closing InClosing.OpenBarrier) w s → IsGoing w.index s.seats.items → e ≡ Turn → w' ≡ record w { place = Place.Closing InClosing.Stop } → s' ≡ record s { barrier_open = true } → Steps left spot w s e w' s'
+    barrier_opened sound going event goes kept =
+        let q : Place = Place.Closing InClosing.Stop in
+        let seats : s'.seats ≡ s.seats = ap (λ (z : Shared B). z.seats) kept in
+        let set : s'.set ≡ s.set = ap (λ (z : Shared B). z.set) kept in
+        let stop : s'.stopped ≡ s.stopped = ap (λ (z : Shared B). z.stopped) kept in
+        let closes : Closes s s' = subst (λ (z : Shared B). z ≡ record s { seats = z.seats; set = z.set; global = z.global; barrier_open = z.barrier_open; stopped = z.stopped }) (sym kept) refl in
+        let phased = sound.phased sound.seated.seat sound.seated.there in
+        closed_by InClosing.OpenBarrier q w.home.closing w.batch w.processed w w' s s' e sound (follows_in InClosing.Stop)
+        (stays InClosing.OpenBarrier InClosing.Stop sound going closes seats (ap (λ z. z.closed) set) (ap (λ z. length z.shards) set) refl refl refl (λ is. stop ∙ (phased.by_zero is).0) (λ h. stop ∙ h) q refl refl refl refl tt refl refl (λ no. absurd (false≢true no)) (λ no. absurd (false≢true no)) sound.aims)
+        (alone sound.aims set (λ h. stop ∙ h)) (inl (ap (λ (z : Shared B). z.global) kept)) (unset seats) (calm InClosing.OpenBarrier q sound (follows_in InClosing.Stop) refl seats set) (holds_still q seats) (ap (λ v. map queue_of_chair v.items) seats) goes
+        (λ p vs suits.
+        let again = view_found vs w.index (visible w) suits.seen in
+        record {
+          choice = Plain;
+          moves =
+              subst (λ y. move_at p.config w.index (own_of w) (common_of left spot p vs s) (desk_of w) (things_with vs s) y ≡ record { event = e; choice = Plain; desk = desk_of (record w { place = q }); thing = things_with (with_view vs w.index (visible w)) s' }) (sym sound.here)
+              (shown_as _ (λ v. record { event = e; choice = Plain; desk = desk_of (record w { place = q }); thing = things_with v s' }) vs _ again
+              (rw event (ap (λ (z : Shared B). record { event = Turn; choice = Plain; desk = desk_of (record w { place = q }); thing = things_with vs z }) (sym kept))));
+          may = rw event tt;
+          own = rw (event, sound.here) refl;
+          common = rw event (ap (λ v. common_of left spot p v s') again ∙ ap (common_of left spot p vs) kept ∙ rw sound.here refl);
+        })
+
+    -- The pool is stopped, and the roots of others are told next, or the own queue is emptied.
+    pub pool_stopped : SoundAt (Place.Closing InClosing.Stop) w s → IsGoing w.index s.seats.items → e ≡ Stop → w' ≡ record w { place = tells_from s.config 1 } → s' ≡ record s { stopped = true } → Steps left spot w s e w' s'
+    pool_stopped sound going event goes kept = by (nat_lt 1 s.config.workers) refl
+      where
+        seats : s'.seats ≡ s.seats
+        seats = ap (λ (z : Shared B). z.seats) kept
+
+        set : s'.set ≡ s.set
+        set = ap (λ (z : Shared B). z.set) kept
+
+        stop : s'.stopped ≡ true
+        stop = ap (λ (z : Shared B). z.stopped) kept
+
+        closes : Closes s s'
+        closes = subst (λ (z : Shared B). z ≡ record s { seats = z.seats; set = z.set; global = z.global; barrier_open = z.barrier_open; stopped = z.stopped }) (sym kept) refl
+
+        phased : IsPhased w.index true (Some InClosing.Stop) w.home.closing w.root w.names.unreleased (stage_of sound.seated.seat s) s.tasks.items
+        phased = sound.phased sound.seated.seat sound.seated.there
+
+        leads : (n : ℕ) (q : Place) → tells_from s.config 1 ≡ q → closes_at q ≡ true → closing_in q ≡ Some (InClosing.TellRoot n) → Follows q → next_at q ≡ Next.Free → serves_at q ≡ false → owed_at w.workers q ≡ letters_to_roots (w.workers - 1) 1 → Aims q s.config w.index s.seats.items → drops_at q ≡ no_drops → LetsGoAt q (driver_of w).requests w.home.timers → HasBatch q w.batch.values → Steps left spot w s e w' s'
+        leads n q is closes_there closing follows free unserved owes aims drops lets_go batch =
+            closed_by InClosing.Stop q w.home.closing w.batch w.processed w w' s s' e sound follows
+            (stays InClosing.Stop (InClosing.TellRoot n) sound going closes seats (ap (λ z. z.closed) set) (ap (λ z. length z.shards) set) refl refl refl (λ zero. stop) (λ h. stop) q closes_there closing refl refl tt refl refl lets_go batch aims)
+            (alone sound.aims set (λ h. stop)) (inl (ap (λ (z : Shared B). z.global) kept)) (unset seats) (calm InClosing.Stop q sound follows drops seats set) (holds_still q seats) (ap (λ v. map queue_of_chair v.items) seats) (goes ∙ ap (λ y. record w { place = y }) is)
+            (λ p vs suits.
+            let cs = common_of left spot p vs s in
+            let again = view_found vs w.index (visible w) suits.seen in
+            let mine = own_seat left spot p vs w s sound.seated.seat suits sound.seated.there in
+            let no_letters : letters_in w.letters ≡ [] = sound.letters.none refl in
+            let owed : owed_at w.workers q ++ letters_in w.letters ≡ letters_to_roots (w.workers - 1) 1 = ap (λ xs. xs ++ letters_in w.letters) owes ∙ ap (λ ys. letters_to_roots (w.workers - 1) 1 ++ ys) no_letters ∙ append-nil (letters_to_roots (w.workers - 1) 1) in
+            let unstopped : s.stopped ≡ false = (phased.by_zero sound.aims).0 in
+            record {
+              choice = Plain;
+              moves =
+                  subst (λ y. move_at p.config w.index (own_of w) cs (desk_of w) (things_with vs s) y ≡ record { event = e; choice = Plain; desk = desk_of (record w { place = q }); thing = things_with (with_view vs w.index (visible w)) s' }) (sym sound.here)
+                  (shown_as _ (λ v. record { event = e; choice = Plain; desk = desk_of (record w { place = q }); thing = things_with v s' }) vs _ again
+                  (rw (event, ← suits.config, is) (ap (λ (z : Shared B). record { event = Stop; choice = Plain; desk = desk_of (record w { place = q }); thing = things_with vs z }) (sym kept))));
+              may = rw (event, sound.here, no_letters) (refl, (rw sound.aims refl, (rw mine (now_closing sound.seated.seat.phase phased.opened (going sound.seated.seat sound.seated.there)), (rw unstopped refl, tt))));
+              own = rw (event, sound.here, follows.polls, free, unserved, owed, ← suits.config, sound.workers) refl;
+              common = rw event (ap (λ v. common_of left spot p v s') again ∙ ap (common_of left spot p vs) kept);
+            })
+
+        by : (others : Bool) → nat_lt 1 s.config.workers ≡ others → Steps left spot w s e w' s'
+        by true is =
+            let some : 1 < s.config.workers = grind (arith, nat_tests, is) in
+            leads 1 (Place.Closing (InClosing.TellRoot 1)) (rw is refl) refl refl (follows_in (InClosing.TellRoot 1)) refl refl refl (omega (arith, sound.aims), some) refl (λ no. absurd (false≢true no)) (λ no. absurd (false≢true no))
+        by false is =
+            let none : w.workers - 1 ≡ 0 = grind (arith, nat_tests, is, sound.workers) in
+            leads 0 (Place.Pop InPop.PopAlone AfterPop.Discard) (rw is refl) refl refl (follows_pop false) refl refl (rw none refl) tt refl (λ no. absurd (false≢true no)) (λ no. absurd (false≢true no))

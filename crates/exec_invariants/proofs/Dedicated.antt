@@ -1,0 +1,94 @@
+-- Workers of the pool and dedicated ones: what the numbers of workers and of their roots say.
+use Rattle.std.proofs.{Common.{◌≡◌, ◌≢◌, ℕ, ◌<◌, ◌≤◌, Bool, true, false, List, Option, Some, None, refl, sym, ap, ◌∙◌, length, slice_get, nat_lt, arith}, lemmas.{Bool.{false≢true, Decides.nat_tests}, Option.slice_get_within}}
+use Rattle.exec_moves.specs.declared.place.Place.{Place}
+use Rattle.exec_parts.specs.{declared.parts.{role.Role.Role, seat.Seat.Seat as Chair, shared.Shared.Shared, task_slot.TaskSlot.TaskSlot, worker.Worker.Worker}, Roles.is_pool}
+use Rattle.exec_invariants.specs.{Places.is_pooled_at, Sound.{AreHome, Serves, SoundAt}}
+
+pub by_length : {n m : ℕ} → m ≡ n → n ≤ m
+by_length same = omega (arith, same)
+
+-- no fewer than so many, of a list as long as another
+pub as_long : {n m k : ℕ} → m ≡ n → k ≤ n → k ≤ m
+as_long same few = omega (arith, same, few)
+
+less_of : (a b : ℕ) → nat_lt a b ≡ true → a < b
+less_of a b h = grind (arith, nat_tests, h)
+
+most_of : (a b : ℕ) → nat_lt a b ≡ false → b ≤ a
+most_of a b h = grind (arith, nat_tests, h)
+
+-- one number or the other is less
+pub less_or : {P : Type 0} (a b : ℕ) → (a < b → P) → (b ≤ a → P) → P
+less_or {P} a b less more = by (nat_lt a b) refl
+  where
+    by : (x : Bool) → nat_lt a b ≡ x → P
+    by true is = less (less_of a b is)
+    by false is = more (most_of a b is)
+
+-- a worker of the pool may poll any task
+pub all_serve : (o : Option ℕ) (root : ℕ) (role : Role) → is_pool role ≡ true → Serves o root role
+all_serve None root role pool = tt
+all_serve (Some t) root role pool = λ other. pool
+
+module _ {B : Type 0} where
+  -- an ordinary task is behind the roots of the pool
+  pub ordinary_behind : (workers count t : ℕ) (tasks : List (TaskSlot B)) (slot : TaskSlot B) → AreHome workers count tasks → slice_get tasks t ≡ Some slot → slot.home ≡ None → workers ≤ t
+  ordinary_behind workers count t tasks slot homes there ordinary =
+      less_or t workers
+      (λ few. let no : None ≡ Some t = sym ordinary ∙ homes.home t slot there few in absurd (cc))
+      (λ past. past)
+
+  -- each root is that of a worker
+  pub home_within : (workers count t j : ℕ) (tasks : List (TaskSlot B)) (slot : TaskSlot B) → AreHome workers count tasks → slice_get tasks t ≡ Some slot → slot.home ≡ Some j → j < count
+  home_within workers count t j tasks slot homes there home =
+      less_or t workers
+      (λ few.
+      let is : Some t ≡ Some j = sym (homes.home t slot there few) ∙ home in
+      let same : t ≡ j = cc in
+      omega (arith, few, same, homes.many))
+      (λ past. (homes.dedicated t j slot there past home).1)
+
+  -- the root of a worker of the pool has its number
+  pub home_of_pool : (workers count t j : ℕ) (tasks : List (TaskSlot B)) (slot : TaskSlot B) → AreHome workers count tasks → slice_get tasks t ≡ Some slot → slot.home ≡ Some j → j < workers → t ≡ j
+  home_of_pool workers count t j tasks slot homes there home within =
+      less_or t workers
+      (λ few.
+      let is : Some t ≡ Some j = sym (homes.home t slot there few) ∙ home in
+      cc)
+      (λ past. absurd (omega (arith, within, (homes.dedicated t j slot there past home).0)))
+
+  -- its own seat is there
+  pub own_there : (p : Place) (w : Worker) (s : Shared B) → SoundAt p w s → w.index < length s.seats.items
+  own_there p w s sound = slice_get_within s.seats.items w.index sound.seated.seat sound.seated.there
+
+  -- a worker of the pool has a number of the pool
+  pub in_pool : (p : Place) (w : Worker) (s : Shared B) → SoundAt p w s → is_pool w.role ≡ true → w.index < s.config.workers
+  in_pool p w s sound pool = less_of w.index s.config.workers (sym sound.role.pool ∙ pool)
+
+  pub pooled_here : (p : Place) (w : Worker) (s : Shared B) → SoundAt p w s → is_pooled_at p ≡ true → w.index < s.config.workers
+  pooled_here p w s sound is = in_pool p w s sound (sound.pooled is)
+
+  -- and any other has one behind those
+  pub past_pool : (p : Place) (w : Worker) (s : Shared B) → SoundAt p w s → is_pool w.role ≡ false → s.config.workers ≤ w.index
+  past_pool p w s sound pool = most_of w.index s.config.workers (sym sound.role.pool ∙ pool)
+
+  -- its seat says which it is
+  pub chair_of_pool : (p : Place) (w : Worker) (s : Shared B) → SoundAt p w s → (chair : Chair) → slice_get s.seats.items w.index ≡ Some chair → chair.pool ≡ is_pool w.role
+  chair_of_pool p w s sound chair there =
+      let is : sound.seated.seat ≡ chair = cc (sound.seated.there, there) in
+      ap (λ (c : Chair). c.pool) (sym is) ∙ sound.seated.pool ∙ sym sound.role.pool
+
+  -- no other task is its root
+  pub own_root : (p : Place) (w : Worker) (s : Shared B) → SoundAt p w s → (t : ℕ) (slot : TaskSlot B) → slice_get s.tasks.items t ≡ Some slot → slot.home ≡ Some w.index → t ≡ w.root
+  own_root p w s sound t slot there home = sound.homes.once t w.root w.index slot sound.runnable.root there sound.runnable.there home sound.runnable.home
+
+  pub root_of_pool : (p : Place) (w : Worker) (s : Shared B) → SoundAt p w s → is_pool w.role ≡ true → w.root ≡ w.index
+  root_of_pool p w s sound pool =
+      home_of_pool s.config.workers (length s.seats.items) w.root w.index s.tasks.items sound.runnable.root sound.homes sound.runnable.there sound.runnable.home (in_pool p w s sound pool)
+
+  -- so at a place of the pool nothing is asked of a dedicated one
+  pub never_apart : {P : Type 0} (p : Place) (w : Worker) (s : Shared B) → SoundAt p w s → is_pooled_at p ≡ true → is_pool w.role ≡ false → P
+  never_apart p w s sound is apart = absurd (false≢true (sym apart ∙ sound.pooled is))
+
+  pub few_here : (p : Place) (w : Worker) (s : Shared B) → SoundAt p w s → is_pooled_at p ≡ true → w.index < 64
+  few_here p w s sound is = let within = pooled_here p w s sound is in omega (arith, within, sound.config.few)

@@ -1,0 +1,106 @@
+-- The names of a worker's sleepers: each is of one alone, and none is given again.
+use Rattle.std.proofs.{Common.{◌≡◌, inl, inr, ℕ, zero, suc, ◌+◌, ◌-◌, ◌^◌, ◌<◌, ◌≤◌, List, [], ◌∷◌, ◌++◌, length, Some, IsSome, refl, sym, ap, subst, ◌∙◌, arith, slice_get, slice_set}, lemmas.List.length-append}
+use Rattle.exec_base.{specs.{Slab.{IsPast, Slab, TakesId, freed, next_generation, removed, slot_at, value_at}, declared.slab.Id.Id}, proofs.Slots.{Changed-set, IsLiveAt-from_value, live_within, past-free, was_live}}
+use Rattle.exec_time.specs.declared.timers.Sleeper.{Sleeper as Sleeping}
+use Rattle.exec_driver.specs.Driving.{Driving}
+use Rattle.exec_parts.{specs.{declared.parts.{mail.Reply.Reply, names.Names.Names, record.Record.Record, sleeping.SleeperRecord.SleeperRecord}, Records.number_in}, proofs.{Facts.{by_number, same_thing, set_elsewhere, set_there}, Taken.was_got}}
+use Rattle.exec_invariants.specs.{Due.AreNapsNamed, Sound.IsNamed}
+
+-- a sleeper of the worker stood there under this name
+pub record WasNap (i : ℕ) (ss : List SleeperRecord) (k : ℕ) (r' : SleeperRecord) : Type 0 where
+  pub r : SleeperRecord
+  pub there : slice_get ss k ≡ Some r
+  pub mine : r.shown.worker ≡ i
+  pub name : r.id.0 ≡ r'.id.0
+
+pub was_same : (i : ℕ) (ss : List SleeperRecord) (k : ℕ) (r : SleeperRecord) → slice_get ss k ≡ Some r → r.shown.worker ≡ i → WasNap i ss k r
+was_same i ss k r there mine = record { r = r; there = there; mine = mine; name = refl }
+
+-- those that stand there stood there, and what is past stays so
+pub naps_on : (i : ℕ) (zs zs' : Slab (Sleeping Reply)) (ss ss' : List SleeperRecord) → ((k : ℕ) (r' : SleeperRecord) → slice_get ss' k ≡ Some r' → r'.shown.worker ≡ i → WasNap i ss k r') → ((id : Id) → IsPast zs id → IsPast zs' id)
+    → AreNapsNamed i zs ss → AreNapsNamed i zs' ss'
+naps_on i zs zs' ss ss' was past names =
+    record {
+      past = λ k r there mine. (let old = was k r there mine in subst (IsPast zs') old.name (past old.r.id.0 (names.past k old.r old.there old.mine)));
+      unique = λ j k x y at_j at_k mine mine' same.
+          let a = was j x at_j mine in
+          let b = was k y at_k mine' in
+          names.unique j k a.r b.r a.there b.there a.mine b.mine (a.name ∙ same ∙ sym b.name);
+    }
+
+-- one that was set has its name still
+pub naps_set : (i : ℕ) (zs zs' : Slab (Sleeping Reply)) (ss : List SleeperRecord) (n : ℕ) (z z' : SleeperRecord) → slice_get ss n ≡ Some z → z'.id.0 ≡ z.id.0 → z'.shown.worker ≡ z.shown.worker → ((id : Id) → IsPast zs id → IsPast zs' id)
+    → AreNapsNamed i zs ss → AreNapsNamed i zs' (slice_set ss n z')
+naps_set i zs zs' ss n z z' there name worker past names =
+    naps_on i zs zs' ss (slice_set ss n z')
+    (λ k r' at mine.
+    by_number k n
+    (λ apart. was_same i ss k r' (sym (set_elsewhere ss n k z' apart) ∙ at) mine)
+    (λ same.
+    let is : z' ≡ r' = same_thing z' r' (sym (set_there ss n z' z there) ∙ ap (slice_get (slice_set ss n z')) (sym same) ∙ at) in
+    record { r = z; there = ap (slice_get ss) same ∙ there; mine = sym worker ∙ ap (λ (y : SleeperRecord). y.shown.worker) is ∙ mine; name = sym name ∙ ap (λ (y : SleeperRecord). y.id.0) is }))
+    past names
+
+-- one more comes under a name that none had
+module _ (i : ℕ) (zs zs' : Slab (Sleeping Reply)) (ss : List SleeperRecord) (z : SleeperRecord) (takes : TakesId zs zs' z.id.0) (unused : next_generation (slot_at zs z.id.0.index) ≤ z.id.0.generation) where
+  pub naps_joined : AreNapsNamed i zs ss → AreNapsNamed i zs' (ss ++ z ∷ [])
+  naps_joined names =
+      let fresh : (k : ℕ) (r : SleeperRecord) → slice_get ss k ≡ Some r → r.shown.worker ≡ i → r.id.0 ≡ z.id.0 → ⊥ = λ k r there mine same.
+      let past : IsPast zs z.id.0 = subst (IsPast zs) same (names.past k r there mine) in
+      omega (arith, past, unused) in
+      record {
+        past = λ k r there mine.
+            elim (was_got ss z r k there) [
+              | inl old ↦ (takes.past r.id.0).1 (inl (names.past k r old mine))
+              | inr last ↦ (takes.past r.id.0).1 (inr (ap (λ (y : SleeperRecord). y.id.0) (sym last.1)))
+            ];
+        unique = λ j k x y at_j at_k mine mine' same.
+            elim (was_got ss z x j at_j) [
+              | inl old ↦
+                  elim (was_got ss z y k at_k) [
+                    | inl old' ↦ names.unique j k x y old old' mine mine' same
+                    | inr last ↦ absurd (fresh j x old mine (same ∙ ap (λ (v : SleeperRecord). v.id.0) (sym last.1)))
+                  ]
+              | inr last ↦
+                  elim (was_got ss z y k at_k) [
+                    | inl old ↦ absurd (fresh k y old mine' (sym same ∙ ap (λ (v : SleeperRecord). v.id.0) (sym last.1)))
+                    | inr last' ↦ last.0 ∙ sym last'.0
+                  ]
+            ];
+      }
+
+  -- and no slot was taken more often than there are sleepers
+  pub counted_joined : ((id : Id) → IsPast zs id → id.generation < length ss) → (id : Id) → IsPast zs' id → id.generation < length (ss ++ z ∷ [])
+  counted_joined counted id past =
+      let more = length-append ss (z ∷ []) in
+      elim ((takes.past id).0 past) [
+        | inl old ↦ (let below = counted id old in omega (arith, below, more))
+        | inr new ↦ by id.generation refl new
+      ]
+    where
+      by : (g : ℕ) → id.generation ≡ g → id ≡ z.id.0 → id.generation < length (ss ++ z ∷ [])
+      by zero is new = (let more = length-append ss (z ∷ []) in omega (arith, is, more))
+      by (suc g) is new =
+          let more = length-append ss (z ∷ []) in
+          let before : Id = record { index = id.index; generation = g } in
+          let lower : IsPast zs' before = (let e : id.generation < next_generation (slot_at zs' id.index) = past in omega (arith, e, is)) in
+          elim ((takes.past before).0 lower) [
+            | inl old ↦ (let below = counted before old in omega (arith, below, more, is))
+            | inr same ↦ absurd (let e : g ≡ id.generation = ap (λ (x : Id). x.generation) (same ∙ sym new) in omega (arith, e, is))
+          ]
+
+-- as one leaves its slot, the same names are past
+pub removed_past : (zs : Slab (Sleeping Reply)) (id : Id) → IsSome (value_at zs id) → id.generation < 2 ^ 64 → (other : Id) → (IsPast (removed zs id) other → IsPast zs other) × (IsPast zs other → IsPast (removed zs id) other)
+removed_past zs id some small other =
+    let was = was_live zs id some in
+    let live = IsLiveAt-from_value zs.slots id.index id.generation zs.first some in
+    let changed = Changed-set zs (removed zs id) id.index (freed id.generation) refl refl (live_within zs.slots id.index id.generation live.value live.is) in
+    let both = past-free zs (removed zs id) id was.0 small changed was.1 other in
+    (both.0, both.1)
+
+-- A sleeper whose name is there has the number of that.
+pub stands : (i : ℕ) (n : Names) (d : Driving Reply Reply) (zs : Slab (Sleeping Reply)) (rs : List Record) (ss : List SleeperRecord) → IsNamed i n d zs rs ss → AreNapsNamed i zs ss
+    → (k : ℕ) (r : SleeperRecord) → slice_get ss k ≡ Some r → r.shown.worker ≡ i → IsSome (value_at zs r.id.0) → number_in n.timers.items r.id.0 ≡ k
+stands i n d zs rs ss named names k r there mine live =
+    let found = named.timers r.id.0 live in
+    names.unique (number_in n.timers.items r.id.0) k found.0 r found.1 there found.3 mine found.2

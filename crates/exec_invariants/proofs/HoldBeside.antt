@@ -1,0 +1,156 @@
+-- WHAT A STEP OF A POLL LEAVES OF OTHERS, where the polled task takes, or waits for, or lets go of what another worker may have.
+use Rattle.std.proofs.{Common.{◌≡◌, ◌≢◌, inl, ℕ, ◌+◌, ◌≤◌, ◌==◌, not, Contains, List, ◌++◌, length, map, Some, refl, sym, ap, subst, ◌∙◌, slice_get, slice_set}, lemmas.List.length-set}
+use Rattle.exec_words.specs.Queue.{Queue}
+use Rattle.exec_task.specs.{Phases.{is_polled, runnable_of}, declared.{runnable.Runnable.Runnable, task.Task.{Task as TaskCell}}}
+use Rattle.exec_parts.{specs.{declared.parts.{shared.Shared.Shared, task_slot.TaskSlot.TaskSlot, worker.Worker.Worker}, Phased.is_complete}, proofs.Facts.{by_number, same_thing, set_elsewhere, set_there}}
+use Rattle.exec_invariants.{specs.{Holding.{IsHolding, box_of, holder_of, nap_of, thing_of}, Sound.AreHome, Spares.Spares, Drained.IsBefore, Gates.HaveGates, Places.one_if, Whole.{HasOne, IsGenuine, IsWhole, Profile, duties_of, hands_of, may_let_go, runnables_in, stock, with_worker}, Works.Beside}, proofs.{Aside.{SameProfile, SparesSeats, length_same, profile_same, queue_back, queue_of_chair, stock_same}, HoldThings.{Touches, spares_touched}, Lined.{KeepsLines, gates_kept}, PoolKept.{KeepsGates, pool_seats, pool_slot}, Slots.spares_slot, SlotTasks.Keeps}}
+
+module _ {B : Type 0} where
+  -- task t's slot became another of the same cell
+  pub record Handles (t : ℕ) (s s' : Shared B) (slot slot' : TaskSlot B) : Type 0 where
+    pub there : slice_get s.tasks.items t ≡ Some slot
+    pub items : s'.tasks.items ≡ slice_set s.tasks.items t slot'
+    pub cell : slot'.cell ≡ slot.cell
+    pub home : slot'.home ≡ slot.home
+    pub cleared : slot'.cleared ≡ slot.cleared
+    pub poller : slot'.poller ≡ slot.poller
+
+  -- who was there: with the same cell
+  pub record WasThere (tasks : List (TaskSlot B)) (u : ℕ) (o : TaskSlot B) : Type 0 where
+    pub was : TaskSlot B
+    pub there : slice_get tasks u ≡ Some was
+    pub cell : o.cell ≡ was.cell
+    pub home : o.home ≡ was.home
+
+  pub was_there : (t : ℕ) (s s' : Shared B) (slot slot' : TaskSlot B) → Handles t s s' slot slot' → (u : ℕ) (o : TaskSlot B) → slice_get s'.tasks.items u ≡ Some o → WasThere s.tasks.items u o
+  was_there t s s' slot slot' it u o at =
+      by_number u t
+      (λ apart. record { was = o; there = sym (set_elsewhere s.tasks.items t u slot' apart) ∙ ap (λ ts. slice_get ts u) (sym it.items) ∙ at; cell = refl; home = refl })
+      (λ same.
+      let is : slot' ≡ o = same_thing slot' o (sym (set_there s.tasks.items t slot' slot it.there) ∙ ap (λ ts. slice_get ts t) (sym it.items) ∙ subst (λ m. slice_get s'.tasks.items m ≡ Some o) same at) in
+      record { was = slot; there = subst (λ m. slice_get s.tasks.items m ≡ Some slot) (sym same) it.there; cell = ap (λ (y : TaskSlot B). y.cell) (sym is) ∙ it.cell; home = ap (λ (y : TaskSlot B). y.home) (sym is) ∙ it.home })
+
+  pub genuine_still : (t : ℕ) (s s' : Shared B) (slot slot' : TaskSlot B) → Handles t s s' slot slot' → (r : Runnable) → IsGenuine s.tasks.items r → IsGenuine s'.tasks.items r
+  genuine_still t s s' slot slot' it r gen =
+      by_number r.task.0 t
+      (λ apart. record { slot = gen.slot; there = ap (λ ts. slice_get ts r.task.0) it.items ∙ set_elsewhere s.tasks.items t r.task.0 slot' apart ∙ gen.there; ordinary = gen.ordinary; of_it = gen.of_it })
+      (λ same.
+      let is : slot ≡ gen.slot = same_thing slot gen.slot (sym it.there ∙ subst (λ m. slice_get s.tasks.items m ≡ Some gen.slot) same gen.there) in
+      record {
+        slot = slot';
+        there = ap (λ ts. slice_get ts r.task.0) it.items ∙ subst (λ m. slice_get (slice_set s.tasks.items t slot') m ≡ Some slot') (sym same) (set_there s.tasks.items t slot' slot it.there);
+        ordinary = it.home ∙ ap (λ (y : TaskSlot B). y.home) is ∙ gen.ordinary;
+        of_it = gen.of_it ∙ ap (λ (y : TaskSlot B). runnable_of y.cell) (sym is) ∙ ap runnable_of (sym it.cell);
+      })
+
+  -- THE WHOLE STEP: of the tasks, the records, the sleepers and the mailboxes
+  pub record Deals (t : ℕ) (w w' : Worker) (s s' : Shared B) (slot slot' : TaskSlot B) : Type 0 where
+    pub kept : s' ≡ record s { tasks = s'.tasks; requests = s'.requests; sleepers = s'.sleepers; seats = s'.seats }
+    pub handles : Handles t s s' slot slot'
+    pub profile : SameProfile w w'
+    pub lines : KeepsLines s.requests.items s'.requests.items
+    pub gates : KeepsGates s.seats.items s'.seats.items
+    pub queues : map queue_of_chair s'.seats.items ≡ map queue_of_chair s.seats.items
+
+  -- what all hold then
+  abbrev pub Holds : Profile → Shared B → Type 0
+  Holds x s = IsHolding (hands_of x) s.config.workers (map holder_of s.tasks.items) (map thing_of s.requests.items) (map nap_of s.sleepers.items) (map box_of s.seats.items)
+
+  -- of the seats what counts in a closing stays, and their queues; who stands at gates is as this says
+  pub whole_handled : (t i : ℕ) (s s' : Shared B) (slot slot' : TaskSlot B) (x : Profile) → Handles t s s' slot slot' → KeepsGates s.seats.items s'.seats.items → map queue_of_chair s'.seats.items ≡ map queue_of_chair s.seats.items → HaveGates x.drops_by s.opens s'.requests.items
+      → Holds x (record s { tasks = s'.tasks; requests = s'.requests; sleepers = s'.sleepers; seats = s'.seats }) → IsWhole x s → IsWhole x (record s { tasks = s'.tasks; requests = s'.requests; sleepers = s'.sleepers; seats = s'.seats })
+  whole_handled t i s s' slot slot' x it gates queues lines holds whole =
+      let s1 : Shared B = record s { tasks = s'.tasks; requests = s'.requests; sleepers = s'.sleepers; seats = s'.seats } in
+      let many : length s'.tasks.items ≡ length s.tasks.items = ap length it.items ∙ length-set s.tasks.items t slot' in
+      let seats : length s'.seats.items ≡ length s.seats.items = length_same s.seats.items s'.seats.items queues in
+      let stocks : (u : ℕ) → stock u s1 ≡ stock u s = λ u. ap (λ n. n + runnables_in u s.global.values) (stock_same u s.seats.items s'.seats.items queues) in
+      let was : (u : ℕ) (o : TaskSlot B) → slice_get s'.tasks.items u ≡ Some o → WasThere s.tasks.items u o = was_there t s s' slot slot' it in
+      record {
+        runnables = λ u o at home.
+            let old = was u o at in
+            subst (λ c. HasOne (may_let_go s) c.phase (x.runnables u + stock u s1)) (sym old.cell) (subst (λ n. HasOne (may_let_go s) old.was.cell.phase (x.runnables u + n)) (sym (stocks u)) (whole.runnables u old.was old.there (sym old.home ∙ home)));
+        polls = λ u o at home. let old = was u o at in whole.polls u old.was old.there (sym old.home ∙ home) ∙ ap (λ c. one_if (is_polled c.phase)) (sym old.cell);
+        claims = λ j chair at.
+            let old = queue_back s.seats.items s'.seats.items j chair queues at in
+            whole.claims j old.0 old.1 ∙ ap (λ (q : Queue Runnable). one_if (not (q.gap == 0))) (sym old.2);
+        counts = whole.counts;
+        bits = whole.bits;
+        set = whole.set;
+        queued_here = λ j chair r at has.
+            let old = queue_back s.seats.items s'.seats.items j chair queues at in
+            genuine_still t s s' slot slot' it r (whole.queued_here j old.0 r old.1 (subst (λ (q : Queue Runnable). Contains (q.values ++ q.held) r) old.2 has));
+        queued_there = λ r has. genuine_still t s s' slot slot' it r (whole.queued_there r has);
+        places = λ open_still. subst (λ n. n ≤ s.global.places) (sym many) (whole.places open_still);
+        made = λ u more. let old = whole.made u (subst (λ n. n ≤ u) many more) in (ap (λ n. x.runnables u + n) (stocks u) ∙ old.0, old.1);
+        unclaimed = λ j more. whole.unclaimed j (subst (λ n. n ≤ j) seats more);
+        in_pool = λ j chair at. let old = gates.back j chair at in old.2.pool ∙ whole.in_pool j old.0 old.1;
+        pool = pool_seats (duties_of x) s'.tasks.items s.set s.seats.items s'.seats.items gates
+            (pool_slot t i (duties_of x) (duties_of x) s.tasks.items s'.tasks.items s.set s.seats.items slot slot' it.there it.items
+            (record {
+              home = it.home;
+              cleared = λ home. it.cleared;
+              over = λ home over. ap (λ (c : TaskCell B). is_complete c.phase) it.cell ∙ over;
+              clears = λ u. refl;
+              polls_beside = λ j other. refl;
+              drops_beside = λ j other. refl;
+              polls_others = λ u other is. is;
+              polls = λ home polled.
+                  let by = whole.pool.who_polls t slot it.there home (ap (λ (c : TaskCell B). is_polled c.phase) (sym it.cell) ∙ polled) in
+                  subst (λ j. IsBefore j s.seats.items × (x.polled_by j ≡ Some t)) (sym it.poller) by;
+              clears_next = refl;
+              removes_next = λ u is. inl is;
+            }) whole.pool);
+        gates = lines;
+        holding = holds;
+      }
+
+  whole_on : (t : ℕ) (w w' : Worker) (s s' : Shared B) (slot slot' : TaskSlot B) (x : Profile) → Deals t w w' s s' slot slot' → Holds x (record s { tasks = s'.tasks; requests = s'.requests; sleepers = s'.sleepers; seats = s'.seats }) → IsWhole x s → IsWhole x (record s { tasks = s'.tasks; requests = s'.requests; sleepers = s'.sleepers; seats = s'.seats })
+  whole_on t w w' s s' slot slot' x deals holds whole =
+      whole_handled t w.index s s' slot slot' x deals.handles deals.gates deals.queues (gates_kept s.requests.items s'.requests.items deals.lines x.drops_by s.opens whole.gates) holds whole
+
+  pub whole_dealt : (t : ℕ) (w w' : Worker) (s s' : Shared B) (slot slot' : TaskSlot B) (others : Profile) → Deals t w w' s s' slot slot' → Holds (with_worker others w) s' → IsWhole (with_worker others w) s → IsWhole (with_worker others w') s'
+  whole_dealt t w w' s s' slot slot' others deals holds whole =
+      subst (λ x. IsWhole x s') (sym (profile_same others w w' deals.profile)) (subst (IsWhole (with_worker others w)) (sym deals.kept)
+      (whole_on t w w' s s' slot slot' (with_worker others w) deals (subst (Holds (with_worker others w)) deals.kept holds) whole))
+
+  -- and of others
+  pub spares_dealt : (t i : ℕ) (s s' : Shared B) (slot slot' : TaskSlot B) → s' ≡ record s { tasks = s'.tasks; requests = s'.requests; sleepers = s'.sleepers; seats = s'.seats } → Handles t s s' slot slot' → slot.poller ≡ i → ((j : ℕ) → slot.home ≡ Some j → j ≡ i)
+      → AreHome s.config.workers (length s.seats.items) s.tasks.items → Touches s (record s { requests = s'.requests; sleepers = s'.sleepers }) → SparesSeats i s.seats.items s'.seats.items → (j : ℕ) → j ≢ i → Spares j s s'
+  spares_dealt t i s s' slot slot' kept it poller home homes touches seats j other =
+      let keeps : Keeps slot slot' = record { home = it.home; number = ap (λ (c : TaskCell B). c.number) it.cell; owner = ap (λ (c : TaskCell B). c.owner) it.cell } in
+      let a : Spares j s (record s { requests = s'.requests; sleepers = s'.sleepers }) = spares_touched s (record s { requests = s'.requests; sleepers = s'.sleepers }) touches j in
+      let b : Spares j s (record s { tasks = s'.tasks }) = spares_slot i j t s s' slot slot' other it.there it.items keeps (λ is. other (home j is)) (λ polled mine. absurd (other (sym mine ∙ poller))) homes in
+      let done : Spares j s (record s { tasks = s'.tasks; requests = s'.requests; sleepers = s'.sleepers; seats = s'.seats }) = record {
+        config = refl;
+        clock = refl;
+        gates = a.gates;
+        hints = λ file h. h;
+        many = seats.many;
+        chair = λ chair at. seats.chair j chair other at;
+        tails = seats.tails;
+        records = a.records;
+        records_only = a.records_only;
+        sleepers = a.sleepers;
+        sleepers_only = a.sleepers_only;
+        endure = a.endure;
+        endure_too = a.endure_too;
+        root = b.root;
+        polled = b.polled;
+        room = a.room;
+        stretch = λ file offset n h. h;
+        stopped = λ h. h;
+        closed = λ h. h;
+        by_zero = λ h. (refl, refl);
+        shards = refl;
+        emptied = λ shut k none. none;
+        genuine = b.genuine;
+      } in
+      subst (Spares j s) (sym kept) done
+
+  pub beside_dealt : (t : ℕ) (w w' : Worker) (s s' : Shared B) (slot slot' : TaskSlot B) → Deals t w w' s s' slot slot' → slot.poller ≡ w.index → ((j : ℕ) → slot.home ≡ Some j → j ≡ w.index) → AreHome s.config.workers (length s.seats.items) s.tasks.items
+      → Touches s (record s { requests = s'.requests; sleepers = s'.sleepers }) → SparesSeats w.index s.seats.items s'.seats.items → ((others : Profile) → Holds (with_worker others w) s → Holds (with_worker others w) s') → Beside w s w' s'
+  beside_dealt t w w' s s' slot slot' deals poller home homes touches seats holds =
+      record {
+        spares = spares_dealt t w.index s s' slot slot' deals.kept deals.handles poller home homes touches seats;
+        whole = λ others whole. whole_dealt t w w' s s' slot slot' others deals (holds others whole.holding) whole;
+      }

@@ -1,0 +1,179 @@
+-- WHAT TASKS HOLD, where a worker is told of a request that nobody holds it, or that it is waited for elsewhere; and where it
+-- pays a wake.
+use Rattle.std.proofs.{Common.{◌≡◌, ◌≢◌, ◌⊎◌, ⊎_elim, ℕ, ◌+◌, ◌<◌, ◌≤◌, ◌&&◌, Bool, true, false, not, List, sum_by, Option, Some, None, IsSome, refl, sym, ap, subst, ◌∙◌, arith, slice_get, slice_set}, lemmas.Bool.false≢true}
+use Rattle.exec_machine.specs.{declared.state.Forwarding.TheVariants.Applied, Tests.is_unsent}
+use Rattle.exec_words.specs.declared.inbox.Message.{Message}
+use Rattle.exec_parts.{specs.declared.parts.mail.Subject.Subject, proofs.Facts.{by_number, same_thing, set_elsewhere, set_there}}
+use Rattle.exec_invariants.{specs.Holding.{Box, Hands, HasAnswer, Holder, HoldsRequest, IsAbout, IsDue, IsForwarded, IsHeldBy, IsHolding, Mail, MayHave, Nap, Owes, Thing, ThingOwes, holdings, is_awaited_by, mail_in, under_way}, proofs.{Turning.set_found, HoldRedo.{IsApart, holding_redone}, HoldSteps.{IsNewest, fewer_held, hold_once, one_more, same_else, awaits_on, held_in, holdings_on, homes_on, waiters_on}}}
+use Rattle.exec_parts.specs.declared.parts.mail.Subject.TheVariants as subject
+
+-- A REQUEST OF ITS OWN that a task lets go of elsewhere: its worker is told that nobody holds it
+module _ (h h' : Hands) (workers : ℕ) (hs : List Holder) (ts : List Thing) (naps : List Nap) (boxes : List Box) (t k : ℕ) (it it' : Holder) (r : Thing) where
+  pub record TellsThing : Type 0 where
+    pub there : slice_get hs t ≡ Some it
+    pub thing : slice_get ts k ≡ Some r
+    pub newest : IsNewest k it.held it'.held
+    pub drops : it' ≡ record it { held = it'.held }
+    pub going : it.over ≡ false
+    pub idle : it.awaits ≡ None
+    pub mail : (m : Mail) → m ≢ Message.Cancel (subject.Request k) → h'.mail m ≡ h.mail m
+    pub told : h'.mail (Message.Cancel (subject.Request k)) ≡ h.mail (Message.Cancel (subject.Request k)) + 1
+    pub wakes : h'.wakes ≡ h.wakes
+    pub made : (m : Mail) → 0 < h'.mail m → (j : ℕ) × IsAbout workers j m ts naps
+
+  pub thing_told : TellsThing → IsHolding h workers hs ts naps boxes → IsHolding h' workers (slice_set hs t it') ts naps boxes
+  thing_told by old =
+      let hs' : List Holder = slice_set hs t it' in
+      let same : slice_set ts k r ≡ ts = set_found ts k r by.thing in
+      let now : slice_get hs' t ≡ Some it' = set_there hs t it' it by.there in
+      let idle : it'.awaits ≡ None = ap (λ (x : Holder). x.awaits) by.drops ∙ by.idle in
+      let going : it'.over ≡ false = ap (λ (x : Holder). x.over) by.drops ∙ by.going in
+      let home : it'.home ≡ it.home = ap (λ (x : Holder). x.home) by.drops in
+      let never : (s : Subject) → it.awaits ≡ Some s → ⊥ = λ s is. let no : None ≡ Some s = sym by.idle ∙ is in absurd (cc) in
+      let me : (u : ℕ) → Some t ≡ Some u → t ≡ u = λ u is. same_thing t u is in
+      let its : (u : ℕ) (o : Holder) → Some t ≡ Some u → slice_get hs' u ≡ Some o → it' ≡ o = λ u o is at. same_thing it' o (sym now ∙ subst (λ m. slice_get hs' m ≡ Some o) (sym (me u is)) at) in
+      let more = one_more k it.held it'.held by.newest in
+      let least = hold_once k hs t it by.there in
+      let after = holdings_on hs t it it' by.there k in
+      let fewer : (box : Box) → slice_get boxes r.worker ≡ Some box → held_in k it'.held ≡ 0 = λ box at. none_left box.shut r.observed more least (old.held k r box by.thing at) in
+      subst (λ xs. IsHolding h' workers hs' xs naps boxes) same (holding_redone h h' workers hs hs' ts naps boxes (Some t) k r r (record {
+        thing = by.thing;
+        worker = refl;
+        others = λ u apart. set_elsewhere hs t u it' (λ e. apart (ap (λ n. Some n) (sym e)));
+        homes = homes_on hs t it it' by.there home;
+        holdings_of = λ n apart. let equal = same_else k it.held it'.held by.newest n apart in let then = holdings_on hs t it it' by.there n in omega (arith, equal, then);
+        waiters_of = λ n. waiters_on hs t it it' by.there (subject.Timer n) (ap (λ (x : Holder). not x.over && is_awaited_by (subject.Timer n) x.awaits) by.drops);
+        mail = λ m apart. by.mail m apart.cancel;
+        made = by.made;
+        held = λ box at fact. told_on box.shut r.observed more least after fact by.told;
+        forwarded = λ box at fact. subst (λ a. IsForwarded box.shut r.forwarding (a + sum_by (λ b. mail_in (Message.Forward (subject.Request k)) b.messages) boxes)) (sym (by.mail (Message.Forward (subject.Request k)) (λ e. absurd (cc)))) fact;
+        asked = λ sent. let a = old.asked k r by.thing sent in (a.0, a.1, homes_on hs t it it' by.there home a.0 a.2);
+        sent = old.sent k r by.thing;
+        waited = λ u waiter due. awaits_on hs t it it' by.there (subject.Request k) u (λ same w. absurd (never (subject.Request k) w)) (old.waited k r u by.thing waiter due);
+        waited_on = λ n u apart is. awaits_on hs t it it' by.there (subject.Request n) u (λ same w. absurd (never (subject.Request n) w)) is;
+        sleeps_on = λ n u is. awaits_on hs t it it' by.there (subject.Timer n) u (λ same w. absurd (never (subject.Timer n) w)) is;
+        holds = λ u o j x is at_u at_j.
+            let be = its u o is at_u in
+            let at : slice_get it'.held j ≡ Some x = ap (λ (y : Holder). slice_get y.held j) be ∙ at_j in
+            let held = old.holds t it j x by.there (fewer_held k it.held it'.held by.newest j x at) in (
+              held.0,
+              ap (λ xs. slice_get xs x.number) same ∙ held.1,
+              subst (λ v. HoldsRequest workers v o x held.0) (me u is) (subst (λ y. HoldsRequest workers t y x held.0) be
+                  (record {
+                    worker = held.2.worker;
+                    near = subst (λ q. MayHave workers q held.0.worker) (sym home) held.2.near;
+                    here = λ some. held.2.here (subst (λ q. IsSome q) home some);
+                    waiter = held.2.waiter;
+                    awaited = λ sent. absurd (never (subject.Request x.number) (held.2.awaited sent));
+                  })),
+            );
+        holds_else = λ u o j x apart at_u at_j is held. held;
+        awaiting = λ u o n is at_u awaits. let no : None ≡ Some (subject.Request n) = sym idle ∙ ap (λ (y : Holder). y.awaits) (its u o is at_u) ∙ awaits in absurd (cc);
+        awaiting_else = λ u o apart at_u awaits a. a;
+        asleep = λ u o n is at_u awaits. let no : None ≡ Some (subject.Timer n) = sym idle ∙ ap (λ (y : Holder). y.awaits) (its u o is at_u) ∙ awaits in absurd (cc);
+        over = λ u o is at_u over. absurd (false≢true (sym going ∙ ap (λ (y : Holder). y.over) (its u o is at_u) ∙ over));
+        owed = λ i u some.
+            let o = old.owed i u (subst (λ (f : ℕ → ℕ → ℕ). 0 < f i u) by.wakes some) in (
+              ap (λ (f : ℕ → ℕ → ℕ). f i u) by.wakes ∙ o.0,
+              by_number u t
+                  (λ other. record { it = o.1.it; there = set_elsewhere hs t u it' other ∙ o.1.there; owes = subst (λ xs. Owes i u o.1.it.awaits xs naps boxes) (sym same) o.1.owes })
+                  (λ is.
+                  let same_it : it ≡ o.1.it = same_thing it o.1.it (sym by.there ∙ ap (slice_get hs) (sym is) ∙ o.1.there) in
+                  absurd (subst (λ a. Owes i u a ts naps boxes) by.idle (subst (λ (y : Holder). Owes i u y.awaits ts naps boxes) (sym same_it) o.1.owes))),
+            );
+      }) old)
+    where
+      none_left : (shut held : Bool) → held_in k it.held ≡ held_in k it'.held + 1 → held_in k it.held ≤ holdings k hs → IsHeldBy shut held (holdings k hs) (under_way h (Message.Cancel (subject.Request k)) boxes) → held_in k it'.held ≡ 0
+      none_left true held more least fact = absurd (omega (arith, more, least, fact))
+      none_left false false more least fact = absurd (omega (arith, more, least, fact))
+      none_left false true more least fact = omega (arith, more, least, fact)
+
+      told_on : (shut held : Bool) → held_in k it.held ≡ held_in k it'.held + 1 → held_in k it.held ≤ holdings k hs → holdings k (slice_set hs t it') + held_in k it.held ≡ holdings k hs + held_in k it'.held
+          → IsHeldBy shut held (holdings k hs) (under_way h (Message.Cancel (subject.Request k)) boxes) → h'.mail (Message.Cancel (subject.Request k)) ≡ h.mail (Message.Cancel (subject.Request k)) + 1
+          → IsHeldBy shut held (holdings k (slice_set hs t it')) (under_way h' (Message.Cancel (subject.Request k)) boxes)
+      told_on true held more least after fact told = absurd (omega (arith, more, least, fact))
+      told_on false false more least after fact told = absurd (omega (arith, more, least, fact))
+      told_on false true more least after fact told = omega (arith, more, least, after, fact, told)
+
+-- ITS WORKER changes a request, and no task
+module _ (h h' : Hands) (workers : ℕ) (hs : List Holder) (ts : List Thing) (naps : List Nap) (boxes : List Box) (k : ℕ) (r r' : Thing) where
+  pub record RedoesAlone : Type 0 where
+    pub thing : slice_get ts k ≡ Some r
+    pub worker : r'.worker ≡ r.worker
+    pub waiter : r'.waiter ≡ r.waiter
+    pub mail : (m : Mail) → IsApart k m → h'.mail m ≡ h.mail m
+    pub made : (m : Mail) → 0 < h'.mail m → 0 < h.mail m
+    pub held : (box : Box) → slice_get boxes r.worker ≡ Some box → IsHeldBy box.shut r.observed (holdings k hs) (under_way h (Message.Cancel (subject.Request k)) boxes) → IsHeldBy box.shut r'.observed (holdings k hs) (under_way h' (Message.Cancel (subject.Request k)) boxes)
+    pub forwarded : (box : Box) → slice_get boxes r.worker ≡ Some box → IsForwarded box.shut r.forwarding (under_way h (Message.Forward (subject.Request k)) boxes) → IsForwarded box.shut r'.forwarding (under_way h' (Message.Forward (subject.Request k)) boxes)
+    pub unsent : is_unsent r'.forwarding ≡ is_unsent r.forwarding
+    pub sent : r'.sent ≡ true → r'.forwarding ≡ Applied
+    pub due : IsDue r' → IsDue r
+    pub answer : (u : ℕ) (o : Holder) → slice_get hs u ≡ Some o → o.awaits ≡ Some (subject.Request k) → HasAnswer o.output r → HasAnswer o.output r'
+    pub fewer : (i u : ℕ) → 0 < h'.wakes i u → h'.wakes i u ≡ h.wakes i u
+    pub owes : (i u : ℕ) → 0 < h'.wakes i u → ThingOwes i u r boxes → ThingOwes i u r' boxes
+
+  pub redone_alone : RedoesAlone → IsHolding h workers hs ts naps boxes → IsHolding h' workers hs (slice_set ts k r') naps boxes
+  redone_alone by old =
+      holding_redone h h' workers hs hs ts naps boxes None k r r' (record {
+        thing = by.thing;
+        worker = by.worker;
+        others = λ u apart. refl;
+        homes = λ u is. is;
+        holdings_of = λ n apart. refl;
+        waiters_of = λ n. refl;
+        mail = by.mail;
+        made = λ m some. old.made m (by.made m some);
+        held = by.held;
+        forwarded = by.forwarded;
+        asked = λ sent. let a = old.asked k r by.thing (sym by.unsent ∙ sent) in (a.0, by.waiter ∙ a.1, a.2);
+        sent = by.sent;
+        waited = λ u waiter due. old.waited k r u by.thing (sym by.waiter ∙ waiter) (by.due due);
+        waited_on = λ n u apart is. is;
+        sleeps_on = λ n u is. is;
+        holds = λ u o j x is at_u at_j. let no : None ≡ Some u = is in absurd (cc);
+        holds_else = λ u o j x apart at_u at_j is held.
+            record {
+              worker = by.worker ∙ held.worker;
+              near = subst (MayHave workers o.home) (sym by.worker) held.near;
+              here = λ some. by.unsent ∙ held.here some;
+              waiter = λ v waiter. held.waiter v (sym by.waiter ∙ waiter);
+              awaited = λ sent. held.awaited (sym by.unsent ∙ sent);
+            };
+        awaiting = λ u o n is at_u awaits. let no : None ≡ Some u = is in absurd (cc);
+        awaiting_else = λ u o apart at_u awaits a.
+            record {
+              waiter = by.waiter ∙ a.waiter;
+              near = subst (MayHave workers o.home) (sym by.worker) a.near;
+              here = λ some. by.unsent ∙ a.here some;
+              newest = a.newest;
+              answer = λ sent. by.answer u o at_u awaits (a.answer (sym by.unsent ∙ sent));
+            };
+        asleep = λ u o n is at_u awaits. let no : None ≡ Some u = is in absurd (cc);
+        over = λ u o is at_u over. let no : None ≡ Some u = is in absurd (cc);
+        owed = λ i u some.
+            let same = by.fewer i u some in
+            let o = old.owed i u (subst (λ n. 0 < n) same some) in
+            (same ∙ o.0, record { it = o.1.it; there = o.1.there; owes = owes_on by i u some o.1.it.awaits o.1.owes });
+      }) old
+    where
+      owes_on : RedoesAlone → (i u : ℕ) → 0 < h'.wakes i u → (a : Option Subject) → Owes i u a ts naps boxes → Owes i u a (slice_set ts k r') naps boxes
+      owes_on by i u some None owes = owes
+      owes_on by i u some (Some (subject.Timer n)) owes = owes
+      owes_on by i u some (Some (subject.Request n)) owes =
+          by_number n k
+          (λ apart. (owes.0, set_elsewhere ts k n r' apart ∙ owes.1, owes.2))
+          (λ same.
+          let is : owes.0 ≡ r = same_thing owes.0 r (sym owes.1 ∙ ap (slice_get ts) same ∙ by.thing) in
+          (r', subst (λ m. slice_get (slice_set ts k r') m ≡ Some r') (sym same) (set_there ts k r' r by.thing), by.owes i u some (subst (λ x. ThingOwes i u x boxes) is owes.2)))
+
+-- a message that is in hand takes effect
+pub record InHand (h h' : Hands) (m : Mail) : Type 0 where
+  pub mail : (other : Mail) → other ≢ m → h'.mail other ≡ h.mail other
+  pub told : h.mail m ≡ h'.mail m + 1
+  pub wakes : h'.wakes ≡ h.wakes
+
+fewer_in_hand : (h h' : Hands) (m : Mail) → InHand h h' m → (same_mail_is : (a b : Mail) → (a ≡ b) ⊎ (a ≢ b)) → (other : Mail) → 0 < h'.mail other → 0 < h.mail other
+fewer_in_hand h h' m by decide other some =
+    ⊎_elim
+    (λ same. let n : h.mail other ≡ h'.mail other + 1 = subst (λ x. h.mail x ≡ h'.mail x + 1) (sym same) by.told in omega (arith, n, some))
+    (λ apart. let n = by.mail other apart in omega (arith, n, some)) (decide other m)

@@ -1,0 +1,300 @@
+-- Steps that are a plain turn to the machine and change the idle set alone: the worker goes to a place that may hold other
+-- counts, and may have published its bit or not.
+use Rattle.std.proofs.Common.{[], ◌≡◌, ℕ, ◌≤◌, ◌+◌, Bool, true, false, Contains, List, Option, Some, None, refl, sym, ap, subst, ◌∙◌, slice_get, option_to_list, if◌then◌else◌}
+use Rattle.exec_words.specs.Idle.{Idle}
+use Rattle.exec_task.specs.declared.{body.Said.Said, runnable.Runnable.Runnable}
+use Rattle.exec_machine.specs.{declared.{event.Event.{Event, TheVariants.Turn}, state.Next.Next}, Choice.Choice.Plain, Progress.Plan}
+use Rattle.exec_moves.specs.{declared.{place.{InPoll.InPoll, Place.Place}}, Move.move_at, Seen.{next_at, polls_at, serves_at}, Thing.set_idle}
+use Rattle.exec_parts.{specs.{Phased.{IsPhased, closes_at, closing_in, stage_of}, declared.parts.{record.Record.Record, sleeping.SleeperRecord.SleeperRecord, seat.Seat.Seat as Chair, shared.Shared.Shared, task_slot.TaskSlot.TaskSlot, worker.Worker.Worker}, Roles.is_pool, Calls.IsTold, Spots.Spot, View.{common_of, desk_of, driver_of, own_of, things_with, Views}}, proofs.Leaves.with_read}
+use Rattle.exec_invariants.{specs.{Rooted.HearsNext, Flown.HasFlown, Due.IsDue, HoldPlaces.{cancels_at, sends_cancel_at, spare_at}, Kinds.{Kind, kind_of, lowered}, Places.{calls_back_at, drops_at, has_count_at, in_poll_of, is_pooled_at, is_published_at, or_polls, searches_at, step_of_poll}, Sound.{Aims, has_wakes_at, HasBatch, HasGuest, HasLetters, HasQueue, HasRunnable, IsHeld, IsInHand, IsLeft, IsLoot, IsSearching, IsSeated, IsTied, LetsGoAt, root_in_hand, Serves, SoundAt, Stops, tellers}, Works.{Steps, Suits}}, proofs.{Aside.{seats_same, spares_turn, told_on}, Counting.{Counts, SameHands, Stance, stance_at, stance_here, whole_counted}, Turning.{Arrives, GoesOn, IsTurn, OfKind, pool_low, turned}}}
+
+-- what a place says but of search counts and the idle set; and where it is in a poll only within one
+abbrev pub step_if : Option ℕ → InPoll → InPoll
+step_if None x = InPoll.Act
+step_if (Some t) x = x
+
+abbrev pub calm_of : Place → Kind
+calm_of p = record (kind_of p) { step = step_if (polls_at p) (step_of_poll p); searches = None; counts = false; published = false }
+
+-- what it says but of what waits for the callbacks, and of how far a closing is
+abbrev pub hush_of : Place → Kind
+hush_of p = record (calm_of p) { closes = false; closing = None; calls = None; spare = 0; bare = false }
+
+-- and of what it has to send, and whether the machine has it serve
+abbrev pub plain_of : Place → Kind
+plain_of p = record (hush_of p) { owes = λ n. []; sends_cancel = false; cancels = false; serves = false }
+
+-- the hands and the flag are as before
+pub record Holds (w v : Worker) : Type 0 where
+  pub root_ready : v.root_ready ≡ w.root_ready
+  pub hand : v.hand ≡ w.hand
+  pub loot : v.loot ≡ w.loot
+
+pub step_again : (t : ℕ) (o : Option ℕ) (x : InPoll) → in_poll_of t o (step_if o x) ≡ in_poll_of t o x
+step_again t None x = refl
+step_again t (Some u) x = refl
+
+module _ {B : Type 0} where
+  pub guest_again : (o : Option ℕ) (x : InPoll) (i root : ℕ) (tasks : List (TaskSlot B)) → HasGuest o (step_if o x) i root tasks → HasGuest o x i root tasks
+  guest_again None x i root tasks h = h
+  guest_again (Some t) x i root tasks h = h
+
+  pub guest_calm : (o : Option ℕ) (x : InPoll) (i root : ℕ) (tasks : List (TaskSlot B)) → HasGuest o x i root tasks → HasGuest o (step_if o x) i root tasks
+  guest_calm None x i root tasks h = h
+  guest_calm (Some t) x i root tasks h = h
+
+  pub stops_again : (o : Option ℕ) (x : InPoll) (i : ℕ) (tasks : List (TaskSlot B)) (records : List Record) (sleepers : List SleeperRecord) → Stops o (step_if o x) i tasks records sleepers → Stops o x i tasks records sleepers
+  stops_again None x i tasks records sleepers h = h
+  stops_again (Some t) x i tasks records sleepers h = h
+
+  pub stops_calm : (o : Option ℕ) (x : InPoll) (i : ℕ) (tasks : List (TaskSlot B)) (records : List Record) (sleepers : List SleeperRecord) → Stops o x i tasks records sleepers → Stops o (step_if o x) i tasks records sleepers
+  stops_calm None x i tasks records sleepers h = h
+  stops_calm (Some t) x i tasks records sleepers h = h
+
+  -- such a place, with what it needs beside
+  pub record Settles (q q' : Place) (x : Stance) (w : Worker) (s : Shared B) : Type 0 where
+    pub same : calm_of q' ≡ lowered w.role (is_pooled_at q') (calm_of q)
+    pub searches : IsSearching (searches_at q') x.searching
+    pub counts : has_count_at q' ≡ x.counted
+    pub published : is_published_at q' ≡ x.published
+    pub queue : (chair : Chair) → slice_get s.seats.items w.index ≡ Some chair → HasQueue q' chair.queue
+    pub aims : Aims q' s.config w.index s.seats.items
+    pub batch : HasBatch q' w.batch.values
+    pub quiet : has_wakes_at q' ≡ false → has_wakes_at q ≡ false
+
+  -- of two places by a test
+  pub settles_either : (q : Place) (b : Bool) (x y : Place) (z : Stance) (w : Worker) (s : Shared B) → Settles q x z w s → Settles q y z w s → Settles q (if b then x else y) z w s
+  settles_either q true x y z w s h k = h
+  settles_either q false x y z w s h k = k
+
+  of_calm : (q q' : Place) (w : Worker) (s : Shared B) → SoundAt q w s → calm_of q' ≡ lowered w.role (is_pooled_at q') (calm_of q) → OfKind (calm_of q') w s
+  of_calm q q' w s sound same =
+      let here : OfKind (lowered w.role (is_pooled_at q') (calm_of q)) w s =
+      record {
+        runnable = sound.runnable;
+        hand = sound.hand;
+        loot = sound.loot;
+        genuine = sound.genuine;
+        searching = tt;
+        pooled = pool_low (is_pooled_at q') (is_pooled_at q) (is_pool w.role) sound.pooled;
+        serves = sound.serves;
+        guest = guest_calm (polls_at q) (step_of_poll q) w.index w.root s.tasks.items sound.guest;
+        left = sound.left;
+        due = sound.due;
+        flown = sound.flown;
+        told = sound.told;
+        letters = sound.letters;
+        stops = stops_calm (polls_at q) (step_of_poll q) w.index s.tasks.items s.requests.items s.sleepers.items sound.stops;
+        hears = sound.hears;
+        lets_go = sound.lets_go;
+        phased = sound.phased;
+        tied = rw (step_again w.root (polls_at q) (step_of_poll q)) sound.tied;
+      } in
+      subst (λ k. OfKind k w s) (sym same) here
+
+  -- a place that differs in what waits for the callbacks besides
+  pub record Comes (q q' : Place) (x : Stance) (w : Worker) (s : Shared B) : Type 0 where
+    pub same : hush_of q' ≡ lowered w.role (is_pooled_at q') (hush_of q)
+    pub searches : IsSearching (searches_at q') x.searching
+    pub counts : has_count_at q' ≡ x.counted
+    pub published : is_published_at q' ≡ x.published
+    pub queue : (chair : Chair) → slice_get s.seats.items w.index ≡ Some chair → HasQueue q' chair.queue
+    pub aims : Aims q' s.config w.index s.seats.items
+    pub batch : HasBatch q' w.batch.values
+    pub quiet : has_wakes_at q' ≡ false → w.home.deferred.notes.wakes.items ≡ []
+    pub left : IsLeft (calls_back_at q') w.home.deferred
+    pub told : IsTold w.names.ended.items w.home.deferred (tellers (driver_of w).requests w.home.timers + spare_at q')
+    pub lets_go : LetsGoAt q' (driver_of w).requests w.home.timers
+    pub phased : (chair : Chair) → slice_get s.seats.items w.index ≡ Some chair → IsPhased w.index (closes_at q') (closing_in q') w.home.closing w.root w.names.unreleased (stage_of chair s) s.tasks.items
+
+  -- or in what it has to send
+  pub record Fares (q q' : Place) (x : Stance) (w : Worker) (s : Shared B) : Type 0 where
+    pub same : plain_of q' ≡ lowered w.role (is_pooled_at q') (plain_of q)
+    pub searches : IsSearching (searches_at q') x.searching
+    pub counts : has_count_at q' ≡ x.counted
+    pub published : is_published_at q' ≡ x.published
+    pub queue : (chair : Chair) → slice_get s.seats.items w.index ≡ Some chair → HasQueue q' chair.queue
+    pub aims : Aims q' s.config w.index s.seats.items
+    pub batch : HasBatch q' w.batch.values
+    pub quiet : has_wakes_at q' ≡ false → w.home.deferred.notes.wakes.items ≡ []
+    pub left : IsLeft (calls_back_at q') w.home.deferred
+    pub told : IsTold w.names.ended.items w.home.deferred (tellers (driver_of w).requests w.home.timers + spare_at q')
+    pub letters : HasLetters (sends_cancel_at q') (cancels_at q') w.index s.config.workers w.letters s.requests.items s.sleepers.items
+    pub lets_go : LetsGoAt q' (driver_of w).requests w.home.timers
+    pub phased : (chair : Chair) → slice_get s.seats.items w.index ≡ Some chair → IsPhased w.index (closes_at q') (closing_in q') w.home.closing w.root w.names.unreleased (stage_of chair s) s.tasks.items
+
+  pub comes : (q q' : Place) (z : Stance) (w : Worker) (s : Shared B) → SoundAt q w s → Settles q q' z w s → Comes q q' z w s
+  comes q q' z w s sound to =
+      let it = of_calm q q' w s sound to.same in
+      record {
+        same = ap (λ (k : Kind). record k { closes = false; closing = None; calls = None; spare = 0; bare = false }) to.same;
+        searches = to.searches;
+        counts = to.counts;
+        published = to.published;
+        queue = to.queue;
+        aims = to.aims;
+        batch = to.batch;
+        quiet = λ h. sound.quiet (to.quiet h);
+        left = it.left;
+        told = it.told;
+        lets_go = it.lets_go;
+        phased = it.phased;
+      }
+
+  pub comes_either : (q : Place) (b : Bool) (x y : Place) (z : Stance) (w : Worker) (s : Shared B) → Comes q x z w s → Comes q y z w s → Comes q (if b then x else y) z w s
+  comes_either q true x y z w s h k = h
+  comes_either q false x y z w s h k = k
+
+  -- what such a kind says
+  record OfPlain (k : Kind) (w : Worker) (s : Shared B) : Type 0 where
+    runnable : HasRunnable w.index w.root w.root_ready (root_in_hand k.begins w.root w.hand) s.tasks.items
+    seated : IsSeated w.index k.armed s.config.workers s.seats.items
+    hand : IsInHand k.begins k.hands_on w.hand
+    loot : IsLoot k.loot w.loot
+    genuine : (r : Runnable) → Contains (option_to_list w.hand) r → IsHeld k.begins w.root s.tasks.items r
+    pooled : k.pooled ≡ true → is_pool w.role ≡ true
+    serves : Serves (or_polls k.begins k.polls) w.root w.role
+    guest : HasGuest k.polls k.step w.index w.root s.tasks.items
+    due : IsDue k.served w.home.closing w.index w.moments s.config w.names (driver_of w) w.home.timers s.requests.items s.sleepers.items
+    flown : HasFlown k.served w.index w.names (driver_of w) s.requests.items
+    stops : Stops k.polls k.step w.index s.tasks.items s.requests.items s.sleepers.items
+    hears : HearsNext k.heard w.index s.requests.items s.sleepers.items
+    tied : IsTied (in_poll_of w.root k.polls k.step) w.index w.root s.tasks.items
+
+  of_plain : (q q' : Place) (w : Worker) (s : Shared B) → SoundAt q w s → plain_of q' ≡ lowered w.role (is_pooled_at q') (plain_of q) → OfPlain (plain_of q') w s
+  of_plain q q' w s sound same =
+      let here : OfPlain (lowered w.role (is_pooled_at q') (plain_of q)) w s =
+      record {
+        runnable = sound.runnable;
+        seated = sound.seated;
+        hand = sound.hand;
+        loot = sound.loot;
+        genuine = sound.genuine;
+        pooled = pool_low (is_pooled_at q') (is_pooled_at q) (is_pool w.role) sound.pooled;
+        serves = sound.serves;
+        guest = guest_calm (polls_at q) (step_of_poll q) w.index w.root s.tasks.items sound.guest;
+        due = sound.due;
+        flown = sound.flown;
+        stops = stops_calm (polls_at q) (step_of_poll q) w.index s.tasks.items s.requests.items s.sleepers.items sound.stops;
+        hears = sound.hears;
+        tied = rw (step_again w.root (polls_at q) (step_of_poll q)) sound.tied;
+      } in
+      subst (λ k. OfPlain k w s) (sym same) here
+
+  -- with letters as before
+  pub fares : (q q' : Place) (z : Stance) (w : Worker) (s : Shared B) → SoundAt q w s → Comes q q' z w s → Fares q q' z w s
+  fares q q' z w s sound to =
+      let here : HasLetters (hush_of q').sends_cancel (hush_of q').cancels w.index s.config.workers w.letters s.requests.items s.sleepers.items =
+      subst (λ (k : Kind). HasLetters k.sends_cancel k.cancels w.index s.config.workers w.letters s.requests.items s.sleepers.items) (sym to.same) sound.letters in
+      record {
+        same = ap (λ (k : Kind). record k { owes = λ n. []; sends_cancel = false; cancels = false; serves = false }) to.same;
+        searches = to.searches;
+        counts = to.counts;
+        published = to.published;
+        queue = to.queue;
+        aims = to.aims;
+        batch = to.batch;
+        quiet = to.quiet;
+        left = to.left;
+        told = to.told;
+        letters = here;
+        lets_go = to.lets_go;
+        phased = to.phased;
+      }
+
+  pub settled : (q q' : Place) (z : Stance) (w v : Worker) (s t : Shared B) → SoundAt q w s → t.seats ≡ s.seats → Holds w v → v.searching ≡ z.searching → (is_pool w.role ≡ false → z.searching ≡ false) → Fares q q' z w s → Arrives q' w v s t
+  settled q q' z w v s t sound seats holds searching calm to =
+      let it = of_plain q q' w s sound to.same in
+      record {
+        runnable = rw (holds.root_ready, holds.hand) it.runnable;
+        seated = rw seats it.seated;
+        queue = rw seats to.queue;
+        hand = rw holds.hand it.hand;
+        loot = rw holds.loot it.loot;
+        genuine = rw holds.hand it.genuine;
+        stolen = rw holds.loot sound.stolen;
+        searching = rw searching to.searches;
+        pooled = it.pooled;
+        serves = it.serves;
+        calm = λ apart. searching ∙ calm apart;
+        aims = rw seats to.aims;
+        guest = guest_again (polls_at q') (step_of_poll q') w.index w.root s.tasks.items it.guest;
+        left = to.left;
+        batch = to.batch;
+        batch_place = rw seats sound.batch_place;
+        quiet = to.quiet;
+        due = it.due;
+        flown = it.flown;
+        told = to.told;
+        letters = to.letters;
+        stops = stops_again (polls_at q') (step_of_poll q') w.index s.tasks.items s.requests.items s.sleepers.items it.stops;
+        hears = it.hears;
+        lets_go = to.lets_go;
+        phased = rw seats to.phased;
+        tied = rw (← step_again w.root (polls_at q') (step_of_poll q')) it.tied;
+      }
+
+module _ {B L : Type 0} (left : B → L) (spot : L → Option Said → Spot) where
+  pub idled_by : (q : Place) (z : Stance) (w w' : Worker) (s : Shared B) (x : Idle) (e : Event) → SoundAt q w s → e ≡ Turn → GoesOn w w' s.clock → Holds w w' → w'.searching ≡ z.searching → (is_pool w.role ≡ false → z.searching ≡ false) → Comes q w'.place z w s → next_at q ≡ Next.Free → serves_at q ≡ false → Counts (stance_at q w) z w s x
+      → ((p : Plan) (vs : Views) → Suits p vs w s → move_at p.config w.index (own_of w) (common_of left spot p vs s) (desk_of w) (things_with vs s) q ≡ record { event = Turn; choice = Plain; desk = desk_of w'; thing = set_idle (things_with vs s) x })
+      → Steps left spot w s e w' (record s { idle = x })
+  idled_by q z w w' s x e sound event on holds searching calm to free unserved counts moves =
+      let q' : Place = w'.place in
+      let s' : Shared B = record s { idle = x } in
+      let is : IsTurn w.workers q q' = record {
+        polls = ap (λ k. k.polls) to.same;
+        free = free;
+        free_then = ap (λ k. k.next) to.same ∙ free;
+        unserved = ap (λ k. k.serves) to.same ∙ unserved;
+        owes = ap (λ k. k.owes w.workers) to.same;
+      } in
+      let same : SameHands w w' = record {
+        hand = holds.hand;
+        loot = holds.loot;
+        polls = rw sound.here (ap (λ k. k.polls) to.same);
+        claims = rw sound.here (ap (λ k. k.claims) to.same);
+        index = ap (λ v. v.index) on.same;
+        drops = ap (λ k. k.drops) to.same ∙ sym (ap drops_at sound.here);
+        told = told_on w w' s.clock on;
+      } in
+      turned left spot q w w' s s' e sound event on refl refl (λ vs. refl) is (settled q q' z w w' s s' sound refl holds searching calm (fares q q' z w s sound to))
+      (record {
+        spares = λ j other. spares_turn w.index j s s' other refl (seats_same w.index s.seats.items s.seats.items refl);
+        whole = λ others whole. whole_counted others (stance_at q w) z w w' s x same (stance_here q w sound.here) (record { searching = searching; counted = to.counts; published = to.published }) counts whole;
+      })
+      moves
+
+  -- The same where it is told beforehand what the worker has then: its place, what it read off the clock, whether it holds
+  -- a search count, and the number of its generator.
+  pub led_by : (q q' : Place) (r g : ℕ) (z : Stance) (w w' : Worker) (s : Shared B) (x : Idle) (e : Event) → SoundAt q w s → e ≡ Turn → r ≤ s.clock → w' ≡ record w { place = q'; moments = with_read r w.moments; searching = z.searching; rng = g } → (is_pool w.role ≡ false → z.searching ≡ false)
+      → Comes q q' z w s → next_at q ≡ Next.Free → serves_at q ≡ false → Counts (stance_at q w) z w s x
+      → ((p : Plan) (vs : Views) → Suits p vs w s → move_at p.config w.index (own_of w) (common_of left spot p vs s) (desk_of w) (things_with vs s) q ≡ record { event = Turn; choice = Plain; desk = record (desk_of w) { place = q'; read = r; searching = z.searching; rng = g }; thing = set_idle (things_with vs s) x })
+      → Steps left spot w s e w' (record s { idle = x })
+  led_by q q' r g z w w' s x e sound event read goes calm to free unserved counts moves =
+      let v : Worker = record w { place = q'; moments = with_read r w.moments; searching = z.searching; rng = g } in
+      let on : GoesOn w v s.clock = record { same = refl; read = read; asleep = sound.time.asleep } in
+      let holds : Holds w v = record { root_ready = refl; hand = refl; loot = refl } in
+      subst (λ y. Steps left spot w s e y (record s { idle = x })) (sym goes) (idled_by q z w v s x e sound event on holds refl calm to free unserved counts moves)
+
+  -- and where it goes to another place alone
+  pub gone_by : (q q' : Place) (z : Stance) (w w' : Worker) (s : Shared B) (x : Idle) (e : Event) → SoundAt q w s → e ≡ Turn → w' ≡ record w { place = q' } → w.searching ≡ z.searching
+      → Comes q q' z w s → next_at q ≡ Next.Free → serves_at q ≡ false → Counts (stance_at q w) z w s x
+      → ((p : Plan) (vs : Views) → Suits p vs w s → move_at p.config w.index (own_of w) (common_of left spot p vs s) (desk_of w) (things_with vs s) q ≡ record { event = Turn; choice = Plain; desk = record (desk_of w) { place = q' }; thing = set_idle (things_with vs s) x })
+      → Steps left spot w s e w' (record s { idle = x })
+  gone_by q q' z w w' s x e sound event goes searching to free unserved counts moves =
+      led_by q q' w.moments.read w.rng z w w' s x e sound event sound.time.read (goes ∙ ap (λ b. record w { place = q'; searching = b }) searching) (λ apart. sym searching ∙ sound.calm apart) to free unserved counts
+      (λ p vs suits. moves p vs suits ∙ ap (λ b. record { event = Turn; choice = Plain; desk = record (desk_of w) { place = q'; searching = b }; thing = set_idle (things_with vs s) x }) searching)
+
+  -- WHERE WHAT WAITS FOR THE CALLBACKS is as before
+
+  pub led : (q q' : Place) (r g : ℕ) (z : Stance) (w w' : Worker) (s : Shared B) (x : Idle) (e : Event) → SoundAt q w s → e ≡ Turn → r ≤ s.clock → w' ≡ record w { place = q'; moments = with_read r w.moments; searching = z.searching; rng = g } → (is_pool w.role ≡ false → z.searching ≡ false)
+      → Settles q q' z w s → next_at q ≡ Next.Free → serves_at q ≡ false → Counts (stance_at q w) z w s x
+      → ((p : Plan) (vs : Views) → Suits p vs w s → move_at p.config w.index (own_of w) (common_of left spot p vs s) (desk_of w) (things_with vs s) q ≡ record { event = Turn; choice = Plain; desk = record (desk_of w) { place = q'; read = r; searching = z.searching; rng = g }; thing = set_idle (things_with vs s) x })
+      → Steps left spot w s e w' (record s { idle = x })
+  led q q' r g z w w' s x e sound event read goes calm to = led_by q q' r g z w w' s x e sound event read goes calm (comes q q' z w s sound to)
+
+  pub gone : (q q' : Place) (z : Stance) (w w' : Worker) (s : Shared B) (x : Idle) (e : Event) → SoundAt q w s → e ≡ Turn → w' ≡ record w { place = q' } → w.searching ≡ z.searching
+      → Settles q q' z w s → next_at q ≡ Next.Free → serves_at q ≡ false → Counts (stance_at q w) z w s x
+      → ((p : Plan) (vs : Views) → Suits p vs w s → move_at p.config w.index (own_of w) (common_of left spot p vs s) (desk_of w) (things_with vs s) q ≡ record { event = Turn; choice = Plain; desk = record (desk_of w) { place = q' }; thing = set_idle (things_with vs s) x })
+      → Steps left spot w s e w' (record s { idle = x })
+  gone q q' z w w' s x e sound event goes searching to = gone_by q q' z w w' s x e sound event goes searching (comes q q' z w s sound to)

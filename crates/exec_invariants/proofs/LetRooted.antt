@@ -1,0 +1,163 @@
+-- WHO HOLDS OR AWAITS ONE REQUEST CHANGES: what its worker keeps for others then, and all else that holds again of the worker's own.
+use Rattle.std.proofs.{Common.{◌≡◌, ◌≢◌, ◌⊎◌, ⊎_elim, ℕ, ◌+◌, ◌≤◌, true, false, Contains, List, [], ◌++◌, count_by, length, Some, None, IsSome, Result, Ok, Err, refl, sym, ap, subst, ◌∙◌, arith, slice_get, length-append}, lemmas.{Bool.false≢true, List.append-nil}}
+use Rattle.exec_base.specs.{Slab.{Slab, value_at}, declared.{error.Error.Error, slab.Id.Id}}
+use Rattle.exec_time.specs.declared.{notes.ForwardedResult.ForwardedResult, timers.Sleeper.{Sleeper as Sleeping}}
+use Rattle.exec_request.specs.declared.output.RequestOutput.{RequestOutput}
+use Rattle.exec_waiters.{specs.{States.{pending_count, waiter_at, waiter_of}, Told.{Told, Tells}, declared.{deferred.{Answer.Answer, Deferred.Deferred}, observer.Observer.TheVariants.Forwarded, waiter.{Entry.TheVariants.Ready, Waiter.Waiter}}}, proofs.Changes.entry_of}
+use Rattle.exec_driver.specs.{Driving.Driving, Punctual.IsPunctual}
+use Rattle.exec_machine.specs.Tests.{is_applied, is_resolved}
+use Rattle.exec_moves.specs.declared.handing.Heard.{Heard}
+use Rattle.exec_parts.{specs.{declared.parts.{mail.Reply.Reply, names.Names.Names, record.Record.Record, shared.Shared.Shared, sleeping.SleeperRecord.SleeperRecord, worker.Worker.Worker}, Records.{number_in, outcome_in}, Calls.IsTold}, proofs.Facts.{by_name, by_number, never_true, same_thing}}
+use Rattle.exec_invariants.{specs.{Due.{IsDue, IsWheelAt}, Holding.{IsAnswerOf, thing_of}, Places.one_if, Rooted.{IsResult, IsRooted, Pays, goes_elsewhere, is_of_timer, results_of}, Sound.{AreOver, HasWidth, IsNamed, served_in, tellers}}, proofs.{Serving.KeepsWith, Watching.{Watched, apart_number, carried_watched, due_watched, flown_watched, known_watched, named_watched, now_there, other_still, other_there, over_watched}}}
+
+-- WHAT IS TOLD: of each list one at most, and nothing that a request owned
+pub record TellsOne (t : Told Reply Reply) : Type 0 where
+  pub wakes : length t.wakes ≤ 1
+  pub outputs : length t.outputs ≤ 1
+  pub resources : t.resources ≡ []
+  pub completions : length t.completions ≤ 1
+  pub results : length t.results ≤ 1
+
+pub told_one : (ended : List ℕ) (n : ℕ) (left left' : Deferred Reply Reply) (t : Told Reply Reply) → Tells left left' t → TellsOne t → IsTold ended left (n + 1) → IsTold ended left' n
+told_one ended n left left' t tells one told =
+    let room = told.room in
+    let wakes : length left'.notes.wakes.items ≡ length left.notes.wakes.items + length t.wakes = ap length tells.notes.wakes_added ∙ length-append left.notes.wakes.items t.wakes in
+    let completions : length left'.notes.completions.items ≡ length left.notes.completions.items + length t.completions = ap length tells.notes.completions_added ∙ length-append left.notes.completions.items t.completions in
+    let outputs : length left'.outputs.items ≡ length left.outputs.items + length t.outputs = ap length tells.outputs_added ∙ length-append left.outputs.items t.outputs in
+    let results : length left'.results.items ≡ length left.results.items + length t.results = ap length tells.results_added ∙ length-append left.results.items t.results in
+    let resources : length left'.resources.items ≡ length left.resources.items =
+    ap length (tells.resources_added ∙ ap (λ xs. left.resources.items ++ xs) one.resources ∙ append-nil left.resources.items) in
+    record {
+      resources = told.resources ∙ sym resources;
+      room = record {
+        notes = record {
+          wakes = omega (arith, wakes, one.wakes, room.notes.wakes, tells.notes.wakes_memory);
+          completions = omega (arith, completions, one.completions, room.notes.completions, tells.notes.completions_memory);
+        };
+        outputs = omega (arith, outputs, one.outputs, room.outputs, tells.outputs_memory);
+        resources = omega (arith, resources, room.resources, tells.resources_memory);
+        results = omega (arith, results, one.results, room.results, tells.results_memory);
+      };
+    }
+
+-- WHAT IS KEPT FOR OTHERS
+module _ (i : ℕ) (n : Names) (d d' : Driving Reply Reply) (zs : Slab (Sleeping Reply)) (left left' : Deferred Reply Reply) (rs rs' : List Record) (ss : List SleeperRecord) (id : Id) (r : Record) (f : Record → Record)
+    (by : Watched n d d' rs rs' id r f) (named : IsNamed i n d zs rs ss) where
+  abbrev k : ℕ
+  k = number_in n.requests.items id
+
+  -- no output is kept of it then, nobody elsewhere waits at its driver, and who holds or awaits it did so, or is told that it isn't there
+  pub record Rewaits : Type 0 where
+    pub none : (told : RequestOutput) → value_at d'.requests id ≡ Some (Ready told) → ⊥
+    pub unkept : is_resolved r.shown.phase ≡ true → (f r).shown.observed ≡ false
+    pub near : (it : Waiter Reply Reply) (reply : Reply) → waiter_at d'.requests id ≡ Some it → it.observer ≡ Forwarded reply → ⊥
+    pub seen : (f r).shown.observed ≡ true → r.shown.observed ≡ true
+    pub still : (f r).shown.forwarding ≡ r.shown.forwarding
+    pub waiter : (u : ℕ) → r.shown.waiter ≡ Some u → (f r).shown.waiter ≡ Some u
+    pub results : (a : Answer Reply) → Contains left'.results.items a → Contains left.results.items a ⊎ IsResult i a rs'
+    pub others : (j : ℕ) → (number_in n.requests.items id ≡ j → ⊥) → results_of j left' ≡ results_of j left
+    pub sent : r.shown.worker ≡ i → results_of (number_in n.requests.items id) left' + one_if r.sent ≡ one_if (goes_elsewhere (f r))
+    pub completions : left'.notes.completions.items ≡ left.notes.completions.items
+
+  pub rooted_watched : Rewaits → IsRooted i n d zs left rs ss → IsRooted i n d' zs left' rs' ss
+  rooted_watched to rooted =
+      record {
+        kept = λ x told o at found.
+            let apart : x ≢ id = λ same. to.none told (ap (value_at d'.requests) (sym same) ∙ at) in
+            let was : value_at d.requests x ≡ Some (Ready told) = sym (by.others x apart) ∙ at in
+            rooted.kept x told o was (there_was (number_in n.requests.items x) o (apart_number i n d d' zs rs rs' ss id r f by named x (rw was refl) apart) found);
+        ready = λ j x found mine over seen unapplied.
+            by_number j k
+            (λ differs.
+            let was = rooted.ready j x (there_was j x (λ e. differs (sym e)) found) mine over seen unapplied in
+            let apart : x.id.0 ≢ id = λ e. differs (sym was.named ∙ ap (number_in n.requests.items) e) in
+            record { named = was.named; live = subst IsSome (sym (by.others x.id.0 apart)) was.live })
+            (λ same.
+            let is = it_is j x same found in
+            absurd (false≢true (sym (to.unkept (sym (ap (λ (y : Record). is_resolved y.shown.phase) by.keeps) ∙ ap (λ (y : Record). is_resolved y.shown.phase) is ∙ over)) ∙ ap (λ (y : Record). y.shown.observed) is ∙ seen)));
+        replies = λ x it reply o at forwarded found.
+            by_name x id
+            (λ apart.
+            let was : waiter_at d.requests x ≡ Some it = ap waiter_of (sym (by.others x apart)) ∙ at in
+            rooted.replies x it reply o was forwarded (there_was (number_in n.requests.items x) o (apart_number i n d d' zs rs rs' ss id r f by named x (rw (entry_of (value_at d.requests x) it was) refl) apart) found))
+            (λ same. absurd (to.near it reply (ap (waiter_at d'.requests) (sym same) ∙ at) forwarded));
+        watches = rooted.watches;
+        pays = λ j x found mine.
+            by_number j k
+            (λ differs. rooted.pays j x (there_was j x (λ e. differs (sym e)) found) mine)
+            (λ same.
+            let is = it_is j x same found in
+            let was = rooted.pays k r by.there (of_i x is mine) in
+            let paid : (f r).shown.wakes_paid ≡ r.shown.wakes_paid = ap (λ (y : Record). y.shown.wakes_paid) by.keeps in
+            subst Pays is (record {
+              unpaid = λ going seen. paid ∙ was.unpaid (sym (ap (λ (y : Record). is_resolved y.shown.phase) by.keeps) ∙ going) (to.seen seen);
+              once = λ unapplied. subst (λ m. m ≤ 1) (sym paid) (was.once (ap is_applied (sym to.still) ∙ unapplied));
+            }));
+        sleeper_pays = rooted.sleeper_pays;
+        results = λ a among. ⊎_elim (λ old. result_on a (rooted.results a old)) (λ new. new) (to.results a among);
+        completions = λ c among. rooted.completions c (subst (λ xs. Contains xs c) to.completions among);
+        sent = λ j x found mine.
+            by_number j k
+            (λ differs. ap (λ m. m + one_if x.sent) (to.others j (λ e. differs (sym e))) ∙ rooted.sent j x (there_was j x (λ e. differs (sym e)) found) mine)
+            (λ same.
+            let is = it_is j x same found in
+            ap (λ m. results_of m left' + one_if x.sent) same ∙ ap (λ (y : Record). results_of k left' + one_if y.sent) (sym is) ∙ ap (λ (y : Record). results_of k left' + one_if y.sent) by.keeps
+            ∙ to.sent (of_i x is mine) ∙ ap (λ (y : Record). one_if (goes_elsewhere y)) is);
+        sleeper_sent = λ j z found mine. ap (λ xs. count_by (λ (c : ForwardedResult Reply). is_of_timer j c.sender.of) xs + one_if z.sent) to.completions ∙ rooted.sleeper_sent j z found mine;
+      }
+    where
+      there_was : (j : ℕ) (x : Record) → (number_in n.requests.items id ≡ j → ⊥) → slice_get rs' j ≡ Some x → slice_get rs j ≡ Some x
+      there_was j x differs found = other_there i n d d' zs rs rs' ss id r f by j x differs found
+
+      here : slice_get rs' k ≡ Some (f r)
+      here = now_there i n d d' zs rs rs' ss id r f by
+
+      it_is : (j : ℕ) (x : Record) → j ≡ number_in n.requests.items id → slice_get rs' j ≡ Some x → f r ≡ x
+      it_is j x same found = same_thing (f r) x (sym here ∙ ap (slice_get rs') (sym same) ∙ found)
+
+      of_i : (x : Record) → f r ≡ x → x.shown.worker ≡ i → r.shown.worker ≡ i
+      of_i x is mine = sym (ap (λ (y : Record). y.shown.worker) by.keeps) ∙ ap (λ (y : Record). y.shown.worker) is ∙ mine
+
+      still_answers : Rewaits → (x : Result RequestOutput Error) → IsAnswerOf x (thing_of r) → IsAnswerOf x (thing_of (f r))
+      still_answers to (Ok out) h = ap (λ (y : Record). outcome_in y.shown.phase) by.keeps ∙ h
+      still_answers to (Err error) h = never_true (f r).shown.observed (λ seen. false≢true (sym h ∙ to.seen seen))
+
+      result_on : (a : Answer Reply) → IsResult i a rs → IsResult i a rs'
+      result_on a it =
+          by_number it.k k
+          (λ differs. record { k = it.k; r = it.r; there = other_still i n d d' zs rs rs' ss id r f by it.k it.r (λ e. differs (sym e)) it.there; worker = it.worker; reply = it.reply; answer = it.answer; paid = it.paid })
+          (λ same.
+          let is : r ≡ it.r = same_thing r it.r (sym by.there ∙ ap (slice_get rs) (sym same) ∙ it.there) in
+          record {
+            k = k;
+            r = f r;
+            there = here;
+            worker = ap (λ (y : Record). y.shown.worker) by.keeps ∙ ap (λ (y : Record). y.shown.worker) is ∙ it.worker;
+            reply = record { of = it.reply.of ∙ ap (λ m. Heard.Request m) same; task = to.waiter a.sender.task.0 (ap (λ (y : Record). y.shown.waiter) is ∙ it.reply.task) };
+            answer = still_answers to a.result (subst (λ (y : Record). IsAnswerOf a.result (thing_of y)) (sym is) it.answer);
+            paid = subst (λ m. m ≤ 1) (sym (ap (λ (y : Record). y.shown.wakes_paid) by.keeps ∙ ap (λ (y : Record). y.shown.wakes_paid) is)) it.paid;
+          })
+
+-- ALL THAT HOLDS AGAIN of the worker's own, where it is in no service
+module _ {B : Type 0} (w : Worker) (s : Shared B) (d d' : Driving Reply Reply) (zs : Slab (Sleeping Reply)) (rs rs' : List Record) (ss : List SleeperRecord) (id : Id) (r : Record) (f : Record → Record) (left' : Deferred Reply Reply) where
+  pub keeps_watched : {spare : ℕ} → served_in w.place ≡ None → (by : Watched w.names d d' rs rs' id r f) → (keeps : KeepsWith spare w d zs rs ss s) → Rewaits w.index w.names d d' zs w.home.deferred left' rs rs' ss id r f by keeps.named
+      → IsTold w.names.ended.items left' (tellers d'.requests zs + spare) → HasWidth left' (tellers d'.requests zs + 64) → left'.notes.wakes.items ≡ w.home.deferred.notes.wakes.items
+      → pending_count d'.requests ≡ pending_count d.requests → IsPunctual d' → d'.lists.due ≡ [] → IsWheelAt s.config w.moments.start w.moments.sampled d'.wheel
+      → KeepsWith spare (record w { home = record w.home { deferred = left' } }) d' zs rs' ss s
+  keeps_watched idle by keeps to told wide wakes pending punctual due wheel =
+      let i = w.index in
+      let n = w.names in
+      record {
+        told = told;
+        wide = wide;
+        named = named_watched i n d d' zs rs rs' ss id r f by keeps.named;
+        sized = ap (λ x. x.size) by.ring ∙ keeps.sized;
+        over = subst (λ m. AreOver i n.ended.items n.unreleased m rs') (sym pending) (over_watched i n d d' zs rs rs' ss id r f by n.ended.items n.unreleased (pending_count d.requests) keeps.over);
+        quiet = λ h. wakes ∙ keeps.quiet h;
+        due = subst (λ x. IsDue x w.home.closing i w.moments s.config n d' zs rs' ss) (sym idle) (due_watched i n d d' zs rs rs' ss id r f by w.moments s.config punctual due wheel (subst (λ x. IsDue x w.home.closing i w.moments s.config n d zs rs ss) idle keeps.due));
+        flown = flown_watched i n d d' zs rs rs' ss id r f by (served_in w.place) keeps.flown;
+        carried = carried_watched i n d d' zs rs rs' ss id r f by s.store keeps.carried;
+        known = known_watched i n d d' zs rs rs' ss id r f by s.opens keeps.known;
+        rooted = rooted_watched i n d d' zs w.home.deferred left' rs rs' ss id r f by keeps.named to keeps.rooted;
+        bare = keeps.bare;
+      }

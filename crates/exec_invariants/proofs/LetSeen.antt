@@ -1,0 +1,262 @@
+-- WHAT IS SEEN of a request that its worker has let go of: the machine's lists, what stands on the desk, and what others see.
+use Rattle.std.proofs.{Common.{◌≡◌, ◌≢◌, ℕ, suc, ◌+◌, ◌&&◌, Bool, true, false, not, List, [], ◌∷◌, ◌++◌, length, map, slice_index_or, Some, None, IsSome, is_some, refl, sym, ap, subst, ◌∙◌, arith, slice_get, Err, if◌then◌else◌}, lemmas.{Bool.{false≢true, eq-eqb}, List.{append-nil, length-append, map-append}, Option.get_or_from_slice_get}}
+use Rattle.exec_base.specs.{Slab.{Slab, is_live, slot_at, value_at, value_in, written, removed}, declared.{error.Error.TheVariants.Closed, slab.{Id.Id, Slot.{Slot, TheVariants.{Live, Vacant, Retired}}}}}
+use Rattle.exec_request.specs.declared.output.RequestOutput.{RequestOutput}
+use Rattle.exec_ring.specs.Rings.{RingState, completions}
+use Rattle.exec_waiters.specs.{Events.{told_to, untaken, told_by_orphan, orphaned_from, asks_cancel_by_orphan, waker_in}, States.{flying_count, is_held_by, waiter_of}, Told.{Tells, nothing_told}, declared.{deferred.{Answer.Answer, Deferred.Deferred}, observer.Observer.{Observer, TheVariants.{DetachedSync, Forwarded, Local, Orphaned}}, waiter.{Entry.{Entry, TheVariants.{Pending, Ready}}, Waiter.Waiter}}}
+use Rattle.exec_driver.specs.{Driving.{Driving, request_at}, Steps.{both, cancelled_at, ended, told_by_cancel, without_observer}}
+use Rattle.exec_machine.specs.{declared.state.Request.Request, Requests.{ends_by_drop, is_cancelled_by_drop, joined_if, left_if, own_after_drop}, Tests.{is_in_flight, is_kept, is_queued, is_resolved}, World.{Common, Own, request_of}}
+use Rattle.exec_moves.specs.{declared.handing.Heard.Heard, Slots.{is_in_slots, is_some_slot, slot_of, vacated}, State.Desk, Told.{awaits_no_more, one_output, one_result, told_of_drop, turned_away, without_request}}
+use Rattle.exec_parts.{specs.{declared.parts.{mail.Reply.Reply, record.Record.Record, shared.Shared.Shared, worker.Worker.Worker}, Awaits.LetsGo, Records.number_in, View.{Visible, awaited_from, awaits_entry, completions_in, desk_of, driver_of, landed_in, message_of, number_heard, numbers_of, own_of, results_in, slots_from, slots_seen, trailing, visible, wake_poll_in}}, proofs.Facts.{and_none, not_same, same_thing}}
+use Rattle.exec_invariants.{specs.{Gates.AreLinedUp, Rooted.IsNear, Sound.served_in}, proofs.{Known.low_there, LetGone.number, LetKept.over_idle, LetSlab.same_flying, Serving.KeepsSpare, Slotted.{OneSlot, awaited_over, awaited_removed, awaited_written, slot_in, slots_vacated, slots_written}}}
+
+-- THE SLOTS: no slot has a number that no live one has
+pub not_in : (n k : ℕ) (numbers : List ℕ) (slots : List (Slot (Entry Reply Reply))) → ((j : ℕ) (x : Slot (Entry Reply Reply)) → slice_get slots j ≡ Some x → is_live x ≡ true → slice_index_or numbers (k + j) 0 ≢ n) → slot_of n k (slots_from k numbers slots) ≡ None
+not_in n k numbers [] never = refl
+not_in n k numbers (x ∷ slots) never =
+    by (is_live x) refl ∙ not_in n (suc k) numbers slots (λ j y at alive same. never (suc j) y at alive (ap (λ m. slice_index_or numbers m 0) (let e : k + suc j ≡ suc k + j = omega arith in e) ∙ same))
+  where
+    by : (b : Bool) → is_live x ≡ b → slot_of n k (slots_from k numbers (x ∷ slots)) ≡ slot_of n (suc k) (slots_from (suc k) numbers slots)
+    by true alive =
+        let other : slice_index_or numbers k 0 ≢ n = λ same. never 0 x refl alive (ap (λ m. slice_index_or numbers m 0) (let e : k + 0 ≡ k = omega arith in e) ∙ same) in
+        ap (λ b. slot_of n k ((if b then Some (slice_index_or numbers k 0) else None) ∷ slots_from (suc k) numbers slots)) alive
+        ∙ ap (λ b. if b then Some k else slot_of n (suc k) (slots_from (suc k) numbers slots)) (not_same n (slice_index_or numbers k 0) (λ same. other (sym same)))
+    by false dead = ap (λ b. slot_of n k ((if b then Some (slice_index_or numbers k 0) else None) ∷ slots_from (suc k) numbers slots)) dead
+
+-- what is live has a value
+pub value_live : (s : Slab (Entry Reply Reply)) (j g : ℕ) (e : Entry Reply Reply) → slice_get s.slots j ≡ Some (Live g e) → value_at s (record { index = j; generation = g }) ≡ Some e
+value_live s j g e at =
+    let slot : slot_at s j ≡ Live g e = get_or_from_slice_get s.slots j (Live g e) (Vacant s.first) at in
+    ap (λ x. value_in x g) slot ∙ ap (λ b. if b then Some e else None) (eq-eqb g g refl)
+
+-- what the desk is then of one that stands in a slot
+abbrev pub dropped_desk : ℕ → Request → Desk → Desk
+dropped_desk k r d =
+    if is_resolved r.phase then one_output (without_request k d)
+    else if ends_by_drop r then one_output (without_request k (turned_away k r d))
+    else turned_away k r d
+
+pub desk_there : (k : ℕ) (r : Request) (d : Desk) → r.observed ≡ true → is_in_slots k d.requests ≡ true → told_of_drop k r d ≡ dropped_desk k r d
+desk_there k r d seen there =
+    ap (λ b. if not (b && is_in_slots k d.requests) then d else dropped_desk k r d) seen ∙ ap (λ b. if not b then d else dropped_desk k r d) there
+
+module _ {B : Type 0} (k : ℕ) (w v : Worker) (s s' : Shared B) (idle : served_in w.place ≡ None) (gates : AreLinedUp s.opens s.requests.items) {spare : ℕ} (keeps : KeepsSpare spare w s) (lets : LetsGo k w v s s') (mine : lets.r.shown.worker ≡ w.index) (seen : lets.r.shown.observed ≡ true) where
+  abbrev d : Driving Reply Reply
+  d = driver_of w
+
+  abbrev r : Record
+  r = lets.r
+
+  abbrev id : Id
+  id = lets.r.id.0
+
+  abbrev n : List ℕ
+  n = w.names.requests.items
+
+  abbrev kk : ℕ
+  kk = number_in w.names.requests.items lets.r.id.0
+
+  abbrev left : Deferred Reply Reply
+  left = v.home.deferred
+
+  abbrev left0 : Deferred Reply Reply
+  left0 = w.home.deferred
+
+  -- each number stands in one slot
+  pub one_slot : (e : Entry Reply Reply) → value_at d.requests id ≡ Some e → OneSlot w.names.requests.items d.requests id
+  one_slot e value =
+      record {
+        e = e;
+        live = value;
+        low = low_there w.index n d.requests s.opens s.requests.items keeps.known id (rw value refl);
+        alone = λ j x at alive same. by j x at alive same;
+      }
+    where
+      by : (j : ℕ) (x : Slot (Entry Reply Reply)) → slice_get d.requests.slots j ≡ Some x → is_live x ≡ true → slice_index_or n j 0 ≡ number_in n id → j ≡ id.index
+      by j (Live g x) at alive same =
+          let other : Id = record { index = j; generation = g } in
+          let a = keeps.named.requests other (rw (value_live d.requests j g x at) refl) in
+          let b = keeps.named.requests id (rw value refl) in
+          let both : a.0 ≡ b.0 = same_thing a.0 b.0 (sym a.1 ∙ ap (slice_get s.requests.items) same ∙ b.1) in
+          ap (λ (y : Id). y.index) (sym a.2 ∙ ap (λ (y : Record). y.id.0) both ∙ b.2)
+      by j (Vacant g) at alive same = absurd (false≢true alive)
+      by j Retired at alive same = absurd (false≢true alive)
+
+  pub one_is : (e : Entry Reply Reply) (value : value_at d.requests id ≡ Some e) → (one_slot e value).e ≡ e
+  unfolding one_slot
+  one_is e value = refl
+
+  -- WHAT OF THE WORKER IS SEEN, in its parts
+  pub record IsSeen : Type 0 where
+    pub ring : (driver_of v).ring ≡ d.ring
+    pub armed : (driver_of v).armed ≡ d.armed
+    pub ready : numbers_of n (driver_of v).lists.queued ≡ left_if (ends_by_drop r.shown) (numbers_of n d.lists.queued) k
+    pub unenrolled : numbers_of n (driver_of v).lists.enrolments ≡ left_if (ends_by_drop r.shown) (numbers_of n d.lists.enrolments) k
+    pub cancels : numbers_of n (driver_of v).lists.cancels ≡ joined_if (is_cancelled_by_drop r.shown) (left_if (ends_by_drop r.shown) (numbers_of n d.lists.cancels) k) k
+    pub flying : flying_count (driver_of v).requests ≡ flying_count d.requests
+    pub wakes : left.notes.wakes.items ≡ left0.notes.wakes.items
+    pub completed : left.notes.completions.items ≡ left0.notes.completions.items
+    pub desk : record (desk_of w) {
+      outputs = length left.outputs.items;
+      results = results_in left.results.items;
+      requests = slots_seen n (driver_of v).requests;
+      awaited = awaited_from 0 n (driver_of v).requests.slots;
+    } ≡ told_of_drop k r.shown (desk_of w)
+
+  pub own_so : IsSeen → (all : Common) → request_of all k ≡ r.shown → own_of v ≡ own_after_drop (own_of w) all k
+  own_so is all request =
+      let me = own_of w in
+      let D = driver_of v in
+      let made : List ℕ → List ℕ → List ℕ → List ℕ → ℕ → Own = λ ready unenrolled cancels ended flying. record me { ready = ready; unenrolled = unenrolled; cancels = cancels; ended = ended; in_flight = flying } in
+      let R = left_if (ends_by_drop r.shown) me.ready k in
+      let U = left_if (ends_by_drop r.shown) me.unenrolled k in
+      let C = joined_if (is_cancelled_by_drop r.shown) (left_if (ends_by_drop r.shown) me.cancels k) k in
+      ap own_of lets.worker
+      ∙ ap (λ x. made x (numbers_of n D.lists.enrolments) (numbers_of n D.lists.cancels) v.names.ended.items (flying_count D.requests)) is.ready
+      ∙ ap (λ x. made R x (numbers_of n D.lists.cancels) v.names.ended.items (flying_count D.requests)) is.unenrolled
+      ∙ ap (λ x. made R U x v.names.ended.items (flying_count D.requests)) is.cancels
+      ∙ ap (λ x. made R U C x (flying_count D.requests)) lets.ended
+      ∙ ap (λ x. made R U C (joined_if (ends_by_drop r.shown) me.ended k) x) is.flying
+      ∙ ap (λ (q : Request). made (left_if (ends_by_drop q) me.ready k) (left_if (ends_by_drop q) me.unenrolled k) (joined_if (is_cancelled_by_drop q) (left_if (ends_by_drop q) me.cancels k) k) (joined_if (ends_by_drop q) me.ended k) me.in_flight) (sym request)
+
+  pub desk_so : IsSeen → desk_of v ≡ told_of_drop k r.shown (desk_of w)
+  desk_so is =
+      let D = driver_of v in
+      let d0 = desk_of w in
+      let made : List ℕ → List ℕ → ℕ → Bool → ℕ → Desk = λ wakes completions entries polled others. record d0 {
+        wakes = wakes;
+        completions = completions;
+        entries = entries;
+        polled = polled;
+        others = others;
+        outputs = length left.outputs.items;
+        results = results_in left.results.items;
+        requests = slots_seen n D.requests;
+        awaited = awaited_from 0 n D.requests.slots;
+      } in
+      ap desk_of lets.worker
+      ∙ ap (λ x. made (map (λ t. t.0) left.notes.wakes.items) (completions_in left.notes.completions.items) (length x.staged) D.armed (trailing 0 (completions x))) is.ring
+      ∙ ap (λ x. made (map (λ t. t.0) left.notes.wakes.items) (completions_in left.notes.completions.items) d0.entries x d0.others) is.armed
+      ∙ ap (λ x. made (map (λ t. t.0) x) (completions_in left.notes.completions.items) d0.entries d0.polled d0.others) is.wakes
+      ∙ ap (λ x. made d0.wakes (completions_in x) d0.entries d0.polled d0.others) is.completed
+      ∙ is.desk
+
+  pub visible_so : IsSeen → visible v ≡ visible w
+  visible_so is =
+      let made : RingState → Visible = λ x. record { busy = x.busy; landed = landed_in n x; wakes = wake_poll_in x; taken = map message_of w.batch.values } in
+      ap visible lets.worker ∙ ap made is.ring
+
+  -- it isn't there any more
+  pub seen_gone : value_at d.requests id ≡ None → IsSeen
+  seen_gone none =
+      let drv : driver_of v ≡ d = lets.driver ∙ ap (λ o. if asks_cancel_by_orphan o then cancelled_at (without_observer d r.id) r.id else record d { requests = orphaned_from d.requests id o }) none in
+      let tells : Tells left0 left nothing_told =
+      subst (λ x. Tells left0 left x) (ap (λ o. if asks_cancel_by_orphan o then both (told_by_orphan id o) (told_by_cancel r.id (request_at (without_observer d r.id) r.id)) else told_by_orphan id o) none) lets.tells in
+      let over : is_resolved r.shown.phase ≡ true = keeps.named.over k r lets.request mine (ap waiter_of none) in
+      let not_there = over_idle r.shown.phase over in
+      let ends : ends_by_drop r.shown ≡ false = ap (λ b. b && not (is_kept r.shown.operation.kind)) not_there.0 in
+      let unasked : is_cancelled_by_drop r.shown ≡ false = ap (λ b. b && not (is_kept r.shown.operation.kind) && not r.shown.cancelled) not_there.1 in
+      let absent : is_in_slots k (slots_seen n d.requests) ≡ false = ap is_some_slot (not_in k 0 n d.requests.slots (λ j x at alive same. no_slot none j x at alive (ap (λ m. slice_index_or n m 0) (let e : j ≡ 0 + j = omega arith in e) ∙ same))) in
+      let outputs : left.outputs.items ≡ left0.outputs.items = tells.outputs_added ∙ append-nil left0.outputs.items in
+      let results : left.results.items ≡ left0.results.items = tells.results_added ∙ append-nil left0.results.items in
+      record {
+        ring = ap (λ x. x.ring) drv;
+        armed = ap (λ x. x.armed) drv;
+        ready = ap (λ x. numbers_of n x.lists.queued) drv ∙ ap (λ b. left_if b (numbers_of n d.lists.queued) k) (sym ends);
+        unenrolled = ap (λ x. numbers_of n x.lists.enrolments) drv ∙ ap (λ b. left_if b (numbers_of n d.lists.enrolments) k) (sym ends);
+        cancels = ap (λ x. numbers_of n x.lists.cancels) drv ∙ ap (λ b. left_if b (numbers_of n d.lists.cancels) k) (sym ends) ∙ ap (λ b. joined_if b (left_if (ends_by_drop r.shown) (numbers_of n d.lists.cancels) k) k) (sym unasked);
+        flying = ap (λ x. flying_count x.requests) drv;
+        wakes = tells.notes.wakes_added ∙ append-nil left0.notes.wakes.items;
+        completed = tells.notes.completions_added ∙ append-nil left0.notes.completions.items;
+        desk = ap (λ x. record (desk_of w) { outputs = length x; results = results_in left.results.items; requests = slots_seen n (driver_of v).requests; awaited = awaited_from 0 n (driver_of v).requests.slots }) outputs
+            ∙ ap (λ x. record (desk_of w) { results = results_in x; requests = slots_seen n (driver_of v).requests; awaited = awaited_from 0 n (driver_of v).requests.slots }) results
+            ∙ ap (λ x. record (desk_of w) { requests = slots_seen n x.requests; awaited = awaited_from 0 n x.requests.slots }) drv
+            ∙ sym (ap (λ b. if not (r.shown.observed && b) then desk_of w else dropped_desk k r.shown (desk_of w)) absent ∙ ap (λ b. if not b then desk_of w else dropped_desk k r.shown (desk_of w)) (and_none r.shown.observed false refl));
+      }
+    where
+      no_slot : value_at d.requests id ≡ None → (j : ℕ) (x : Slot (Entry Reply Reply)) → slice_get d.requests.slots j ≡ Some x → is_live x ≡ true → slice_index_or n j 0 ≡ k → ⊥
+      no_slot none j (Live g e) at alive same =
+          let other : Id = record { index = j; generation = g } in
+          let value = value_live d.requests j g e at in
+          let a = keeps.named.requests other (rw value refl) in
+          let both : a.0 ≡ r = same_thing a.0 r (sym a.1 ∙ ap (slice_get s.requests.items) same ∙ lets.request) in
+          let is : other ≡ id = sym a.2 ∙ ap (λ (y : Record). y.id.0) both in
+          let no : Some e ≡ None = sym value ∙ ap (value_at d.requests) is ∙ none in
+          absurd (cc)
+      no_slot none j (Vacant g) at alive same = false≢true alive
+      no_slot none j Retired at alive same = false≢true alive
+
+  -- its output was kept
+  pub seen_over : (told : RequestOutput) → value_at d.requests id ≡ Some (Ready told) → IsSeen
+  seen_over told ready =
+      let s0 = d.requests in
+      let d0 = desk_of w in
+      let some : IsSome (value_at s0 id) = rw ready refl in
+      let is = number k w v s s' idle gates keeps lets mine seen some in
+      let at_number : slice_get s.requests.items kk ≡ Some r = ap (slice_get s.requests.items) is ∙ lets.request in
+      let kept = keeps.rooted.kept id told r ready at_number in
+      let ends : ends_by_drop r.shown ≡ false = ap (λ p. is_queued p && not (is_kept r.shown.operation.kind)) kept.over in
+      let unasked : is_cancelled_by_drop r.shown ≡ false = ap (λ p. is_in_flight p && not (is_kept r.shown.operation.kind) && not r.shown.cancelled) kept.over in
+      let d' : Driving Reply Reply = record d { requests = removed s0 id } in
+      let drv : driver_of v ≡ d' = lets.driver ∙ ap (λ o. if asks_cancel_by_orphan o then cancelled_at (without_observer d r.id) r.id else record d { requests = orphaned_from s0 id o }) ready in
+      let tells : Tells left0 left (untaken id told) =
+      subst (λ x. Tells left0 left x) (ap (λ o. if asks_cancel_by_orphan o then both (told_by_orphan id o) (told_by_cancel r.id (request_at (without_observer d r.id) r.id)) else told_by_orphan id o) ready) lets.tells in
+      let one = one_slot (Ready told) ready in
+      let unawaited : awaits_entry one.e ≡ false = ap awaits_entry (one_is (Ready told) ready) in
+      let outputs : length left.outputs.items ≡ d0.outputs + 1 = ap length tells.outputs_added ∙ length-append left0.outputs.items (untaken {S = Reply} {F = Reply} id told).outputs in
+      let results : left.results.items ≡ left0.results.items = tells.results_added ∙ append-nil left0.results.items in
+      let requests : slots_seen n (driver_of v).requests ≡ vacated kk d0.requests = ap (λ x. slots_seen n x.requests) drv ∙ slots_vacated n s0 id one in
+      let awaited : awaited_from 0 n (driver_of v).requests.slots ≡ d0.awaited = ap (λ x. awaited_from 0 n x.requests.slots) drv ∙ awaited_removed n s0 id one unawaited in
+      let then_is : told_of_drop kk r.shown d0 ≡ record d0 { outputs = d0.outputs + 1; requests = vacated kk d0.requests } =
+      desk_there kk r.shown d0 seen (slot_in n s0 id one) ∙ ap (λ b. if b then one_output (without_request kk d0) else if ends_by_drop r.shown then one_output (without_request kk (turned_away kk r.shown d0)) else turned_away kk r.shown d0) (ap is_resolved kept.over) in
+      record {
+        ring = ap (λ x. x.ring) drv;
+        armed = ap (λ x. x.armed) drv;
+        ready = ap (λ x. numbers_of n x.lists.queued) drv ∙ ap (λ b. left_if b (numbers_of n d.lists.queued) k) (sym ends);
+        unenrolled = ap (λ x. numbers_of n x.lists.enrolments) drv ∙ ap (λ b. left_if b (numbers_of n d.lists.enrolments) k) (sym ends);
+        cancels = ap (λ x. numbers_of n x.lists.cancels) drv ∙ ap (λ b. left_if b (numbers_of n d.lists.cancels) k) (sym ends) ∙ ap (λ b. joined_if b (left_if (ends_by_drop r.shown) (numbers_of n d.lists.cancels) k) k) (sym unasked);
+        flying = ap (λ x. flying_count x.requests) drv ∙ same_flying s0 id told ready;
+        wakes = tells.notes.wakes_added ∙ append-nil left0.notes.wakes.items;
+        completed = tells.notes.completions_added ∙ append-nil left0.notes.completions.items;
+        desk = ap (λ x. record d0 { outputs = x; results = results_in left.results.items; requests = slots_seen n (driver_of v).requests; awaited = awaited_from 0 n (driver_of v).requests.slots }) outputs
+            ∙ ap (λ x. record d0 { outputs = d0.outputs + 1; results = results_in x; requests = slots_seen n (driver_of v).requests; awaited = awaited_from 0 n (driver_of v).requests.slots }) results
+            ∙ ap (λ x. record d0 { outputs = d0.outputs + 1; requests = x; awaited = awaited_from 0 n (driver_of v).requests.slots }) requests
+            ∙ ap (λ x. record d0 { outputs = d0.outputs + 1; requests = vacated kk d0.requests; awaited = x }) awaited
+            ∙ sym then_is ∙ ap (λ q. told_of_drop q r.shown d0) is;
+      }
+
+  -- NOBODY WAITS FOR IT at its driver any more: on the desk
+  pub turned_so : (it it' : Waiter Reply Reply) (results : List (Answer Reply)) (value : value_at d.requests id ≡ Some (Pending it)) → it'.observer ≡ Orphaned → IsNear it.observer r.shown.forwarding → is_held_by it.observer ≡ true → ((reply : Reply) → it.observer ≡ Forwarded reply → reply.of ≡ Heard.Request kk)
+      → results ≡ left0.results.items ++ (told_to id it.observer).results
+      → record (desk_of w) { results = results_in results; requests = slots_seen n (written d.requests id (Pending it')); awaited = awaited_from 0 n (written d.requests id (Pending it')).slots } ≡ turned_away kk r.shown (desk_of w)
+  turned_so it it' results value alone near held replies added = by it.observer refl near added
+    where
+      slots_same : slots_seen n (written d.requests id (Pending it')) ≡ (desk_of w).requests
+      slots_same = slots_written n d.requests id (Pending it) (Pending it') value
+
+      none_awaits : awaits_entry (Pending it') ≡ false
+      none_awaits = ap (λ o. is_some (waker_in o)) alone
+
+      start : record (desk_of w) { results = results_in results; requests = slots_seen n (written d.requests id (Pending it')); awaited = awaited_from 0 n (written d.requests id (Pending it')).slots }
+          ≡ record (desk_of w) { results = results_in results; awaited = awaited_from 0 n (written d.requests id (Pending it')).slots }
+      start = ap (λ x. record (desk_of w) { results = results_in results; requests = x; awaited = awaited_from 0 n (written d.requests id (Pending it')).slots }) slots_same
+
+      by : (o : Observer Reply Reply) → it.observer ≡ o → IsNear o r.shown.forwarding → results ≡ left0.results.items ++ (told_to id o).results
+          → record (desk_of w) { results = results_in results; requests = slots_seen n (written d.requests id (Pending it')); awaited = awaited_from 0 n (written d.requests id (Pending it')).slots } ≡ turned_away kk r.shown (desk_of w)
+      by (Local waker) is near added =
+          let over = awaited_over n d.requests id (one_slot (Pending it) value) (Pending it') none_awaits in
+          start
+          ∙ ap (λ x. record (desk_of w) { results = results_in x; awaited = awaited_from 0 n (written d.requests id (Pending it')).slots }) (added ∙ append-nil left0.results.items)
+          ∙ ap (λ x. record (desk_of w) { awaited = x }) over.0
+          ∙ sym (ap (λ b. if b then one_result kk (desk_of w) else awaits_no_more kk (desk_of w)) near)
+      by (Forwarded reply) is near added =
+          let same : awaits_entry (Pending it) ≡ awaits_entry (Pending it') = ap (λ o. is_some (waker_in o)) is ∙ sym none_awaits in
+          let last : results_in results ≡ (desk_of w).results ++ kk ∷ [] =
+          ap results_in added ∙ map-append (λ (a : Answer Reply). number_heard a.sender.of) left0.results.items (record { id = record { 0 = id }; sender = reply; result = Err Closed } ∷ [])
+          ∙ ap (λ h. results_in left0.results.items ++ number_heard h ∷ []) (replies reply is) in
+          start
+          ∙ ap (λ x. record (desk_of w) { results = x; awaited = awaited_from 0 n (written d.requests id (Pending it')).slots }) last
+          ∙ ap (λ x. record (desk_of w) { results = (desk_of w).results ++ kk ∷ []; awaited = x }) (awaited_written n d.requests id (Pending it) (Pending it') value same)
+          ∙ sym (ap (λ b. if b then one_result kk (desk_of w) else awaits_no_more kk (desk_of w)) near)
+      by (DetachedSync reply) is near added = absurd near
+      by Orphaned is near added = absurd (false≢true (sym (ap is_held_by is) ∙ held))

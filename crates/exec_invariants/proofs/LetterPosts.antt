@@ -1,0 +1,108 @@
+-- A MESSAGE ABOUT WHAT A WORKER HAS comes into its inbox, which is open: its seat then, and what is seen of that.
+use Rattle.std.proofs.{Common.{◌≡◌, ◌++◌, ◌+◌, ◌≤◌, ◌&&◌, ℕ, Bool, true, false, not, List, [], ◌∷◌, append_assoc, cond, count_by, length, map, Some, refl, sym, ap, ◌∙◌, arith, slice_get, slice_set, inl, if◌then◌else◌}, lemmas.{Bool.false≢true, List.{length-append, map-append, Sums.sum_by-append}}}
+use Rattle.std.specs.List.{list_any}
+use Rattle.exec_words.specs.{Inbox.{has_any, is_dropped, is_wake_root, opens_batch, sent, word_after}, Word.{asks_signal, next_batch}, declared.word.PureWord.PureWord}
+use Rattle.exec_machine.specs.{declared.state.MailMessage.{MailMessage, TheVariants.{ForwardRequest, ForwardTimer, CancelRequest, CancelTimer}}, Mail.{is_root_message, posted as seat_posted}, Tests.is_empty}
+use Rattle.exec_moves.specs.{Send.{Mailbox as Box, asks, posted, published_if}, State.{Things, word_of}, Thing.{mailbox_of, set_mailbox}}
+use Rattle.exec_parts.{specs.{declared.parts.{seat.Seat.Seat as Chair, shared.Shared.Shared}, MailPosts.{asks_by, chair_sent}, View.{Views, Visible, inbox_at, mail_of, message_of, polls_seen, queue_at, seat_seen, things_with, word_at}}, proofs.Showing.own_word_seen}
+use Rattle.exec_invariants.{specs.{Holding.{Mail, box_of}, Spares.SparesChair}, proofs.{HoldPosts.posted_in, Posting.{inbox_seen, none_seen, posted_both}}}
+
+-- it isn't about the root
+pub record IsLetter (m : MailMessage) : Type 0 where
+  pub mail : is_wake_root (mail_of m) ≡ false
+  pub root : is_root_message m ≡ false
+  pub back : message_of (mail_of m) ≡ m
+
+pub forwards_request : (k : ℕ) → IsLetter (ForwardRequest k)
+forwards_request k = record { mail = refl; root = refl; back = refl }
+
+pub forwards_timer : (z : ℕ) → IsLetter (ForwardTimer z)
+forwards_timer z = record { mail = refl; root = refl; back = refl }
+
+pub cancels_request : (k : ℕ) → IsLetter (CancelRequest k)
+cancels_request k = record { mail = refl; root = refl; back = refl }
+
+pub cancels_timer : (z : ℕ) → IsLetter (CancelTimer z)
+cancels_timer z = record { mail = refl; root = refl; back = refl }
+
+module _ (m : MailMessage) (letter : IsLetter m) (chair : Chair) (open_box : chair.mailbox.inbox.closed ≡ false) where
+  abbrev messages : List Mail
+  messages = chair.mailbox.inbox.messages
+
+  undropped : is_dropped chair.mailbox.inbox (mail_of m) ≡ false
+  undropped = ap (λ b. b && list_any is_wake_root messages) letter.mail
+
+  -- the seat then
+  abbrev pub chair_open : Chair
+  chair_open =
+      record chair {
+        mailbox = record chair.mailbox {
+          inbox = record chair.mailbox.inbox { messages = messages ++ mail_of m ∷ []; published = (if opens_batch chair.mailbox.inbox (mail_of m) then next_batch chair.mailbox.inbox.published else chair.mailbox.inbox.published) };
+          waker = word_after chair.mailbox.inbox (mail_of m) chair.mailbox.waker;
+        };
+      }
+
+  pub sent_open : chair_sent m chair ≡ chair_open
+  sent_open =
+      ap (λ c. if c then chair else record chair { mailbox = record chair.mailbox { inbox = sent chair.mailbox.inbox (mail_of m); waker = word_after chair.mailbox.inbox (mail_of m) chair.mailbox.waker } }) open_box
+      ∙ ap (λ d. record chair { mailbox = record chair.mailbox { inbox = (if d then chair.mailbox.inbox else record chair.mailbox.inbox { messages = messages ++ mail_of m ∷ []; published = (if opens_batch chair.mailbox.inbox (mail_of m) then next_batch chair.mailbox.inbox.published else chair.mailbox.inbox.published) }); waker = word_after chair.mailbox.inbox (mail_of m) chair.mailbox.waker } }) undropped
+
+  pub box_open : box_of chair_open ≡ posted_in (mail_of m) (box_of chair)
+  box_open = refl
+
+  one_more : length (messages ++ mail_of m ∷ []) ≡ length messages + 1
+  one_more = length-append messages (mail_of m ∷ [])
+
+  same_roots : count_by is_wake_root (messages ++ mail_of m ∷ []) ≡ count_by is_wake_root messages
+  same_roots =
+      sum_by-append (λ (x : Mail). cond (is_wake_root x) 1 0) messages (mail_of m ∷ []) ∙ ap (λ b. count_by is_wake_root messages + (0 + cond b 1 0)) letter.mail ∙ omega arith
+
+  -- others see it still as their own
+  pub open_spares : length messages + 2 ≤ count_by is_wake_root messages + chair.mailbox.inbox.places → SparesChair chair chair_open
+  open_spares room =
+      record {
+        phase = refl;
+        pool = refl;
+        left = refl;
+        closed = refl;
+        target = same_target (opens_batch chair.mailbox.inbox (mail_of m)) chair.mailbox.waker;
+        mail = λ h. record { roots = omega (arith, h.roots, same_roots); empty = λ shut. absurd (false≢true (sym open_box ∙ shut)); place = λ none. omega (arith, none, room, one_more, same_roots) };
+        made = refl;
+        queue = inl refl;
+      }
+    where
+      same_target : (b : Bool) (w : PureWord) → (if b then (record w { batch = next_batch w.batch }) else w).target ≡ w.target
+      same_target true w = refl
+      same_target false w = refl
+
+  -- WHAT IS SEEN
+  pub seat_open : (v : Visible) → seat_seen v chair_open ≡ seat_posted m (seat_seen v chair)
+  seat_open v =
+      ap (λ ms. record (seat_seen v chair) { inbox = v.taken ++ ms }) (map-append message_of messages (mail_of m ∷ []) ∙ ap (λ x. map message_of messages ++ x ∷ []) letter.back)
+      ∙ ap (λ ms. record (seat_seen v chair) { inbox = ms }) (sym (append_assoc v.taken (map message_of messages) (m ∷ [])))
+
+  module _ {B : Type 0} (vs : Views) (j : ℕ) (s : Shared B) (there : slice_get s.seats.items j ≡ Some chair) where
+    box_seen : mailbox_of (things_with vs s) j ≡ record { messages = map message_of messages; word = chair.mailbox.waker }
+    box_seen = ap (λ ms. record { messages = ms; word = word_of (things_with vs s) j }) (inbox_seen vs j s chair there) ∙ ap (λ w. record { messages = map message_of messages; word = w }) (own_word_seen j s chair there)
+
+    pub posted_open : posted m (mailbox_of (things_with vs s) j) ≡ record { messages = inbox_at chair_open; word = chair_open.mailbox.waker }
+    posted_open =
+        ap (posted m) box_seen
+        ∙ ap (λ b. let x : Box = record { messages = map message_of messages; word = chair.mailbox.waker } in if b && list_any is_root_message x.messages then x else record { messages = x.messages ++ m ∷ []; word = published_if (is_empty x.messages) x.word }) letter.root
+        ∙ ap (λ ms. record { messages = ms; word = published_if (is_empty (map message_of messages)) chair.mailbox.waker }) (ap (λ x. map message_of messages ++ x ∷ []) (sym letter.back) ∙ sym (map-append message_of messages (mail_of m ∷ [])))
+        ∙ ap (λ b. record { messages = inbox_at chair_open; word = published_if b chair.mailbox.waker }) (none_seen messages)
+        ∙ ap (λ w. record { messages = inbox_at chair_open; word = w }) (published (has_any messages) chair.mailbox.waker)
+      where
+        published : (b : Bool) (w : PureWord) → published_if (not b) w ≡ (if not b then record w { batch = next_batch w.batch } else w)
+        published true w = refl
+        published false w = refl
+
+    pub asks_open : asks (mailbox_of (things_with vs s) j) ≡ asks_by m chair.mailbox
+    asks_open =
+        ap asks box_seen ∙ ap (λ b. b && asks_signal chair.mailbox.waker) (none_seen messages)
+        ∙ sym (ap (λ c. not c && (opens_batch chair.mailbox.inbox (mail_of m) && asks_signal chair.mailbox.waker)) open_box)
+
+    -- the inbox and the wake word show it
+    pub things_open : (seats : List Chair) → seats ≡ slice_set s.seats.items j chair_open
+        → (x : Things) → x ≡ record (things_with vs s) { queues = map queue_at seats; words = map word_at seats; inboxes = map inbox_at seats; wake_polls = polls_seen vs.workers seats } → x ≡ set_mailbox j (things_with vs s) (posted m (mailbox_of (things_with vs s) j))
+    things_open seats set x shown = posted_both vs j s seats chair chair_open there set refl refl x shown ∙ ap (λ b. set_mailbox j (things_with vs s) b) (sym posted_open)

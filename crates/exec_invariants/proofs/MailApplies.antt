@@ -1,0 +1,448 @@
+-- A MESSAGE OF THE BATCH IS APPLIED: what that is to the machine, whatever the message does, and where the worker goes on.
+use Rattle.std.proofs.{Common.{◌≡◌, ◌≢◌, ℕ, zero, suc, ◌+◌, ◌-◌, ◌<◌, ◌==◌, ◌||◌, nat_le, Bool, true, false, cond, Contains, List, [], ◌∷◌, ◌++◌, drop, length, map, Option, Some, None, refl, sym, ap, subst, ◌∙◌, arith, slice_get, slice_set, if◌then◌else◌}, lemmas.{Bool.{false≢true, eq-eqb, Decides.nat_tests}, List.Sums.sum_by-append}}
+use Rattle.exec_waiters.specs.States.{pending_count}
+use Rattle.exec_task.specs.declared.body.Said.{Said}
+use Rattle.exec_machine.specs.{declared.{event.Event.{Event, TheVariants.Apply}, state.{MailMessage.{MailMessage, TheVariants.{Root, ForwardRequest, ForwardTimer, CancelRequest, CancelTimer}}, Next.Next}}, Choice.Choice.Plain, Mail.{after_message as made_by, is_first_message, own_after_apply}, Progress.Plan, Ranges.ring_size, Same.same_message, Tests.is_empty, World.{Common, Own as Books, Seat, seat_of}}
+use Rattle.exec_moves.specs.{declared.place.{InMail.InMail, Place.Place}, Mail.{after_message, to_callbacks, told_by_message}, Move.move_at, Seen.{next_at, polls_at, serves_at}, State.Desk}
+use Rattle.exec_parts.{specs.{declared.parts.{mail.Subject.Subject, seat.Seat.Seat as Chair, shared.Shared.Shared, worker.Worker.Worker}, Calls.IsTold, Spots.Spot, View.{Views, Visible, common_of, desk_of, driver_of, message_of, own_of, owed_at, polls_seen, raised_times, seat_seen, seats_seen, things_with, visible, with_view}}, proofs.Facts.{and_none, same_thing, true_false}}
+use Rattle.exec_invariants.{specs.{Carried.IsCarried, Due.IsDue, Flown.HasFlown, Gates.{AreLinedUp, HaveGates, IsKnown}, HoldPlaces.is_bare_at, Holding.{IsHolding, Mail, box_of, holder_of, mail_in, mail_of_letters, nap_of, same_mail, thing_of}, Places.{begins_at, claims_at, drops_at, has_count_at, is_published_at, no_drops, polled_in}, Rooted.IsRooted, Sound.{AreOver, HasLetters, HasWidth, IsMyMail, IsNamed, SoundAt, has_wakes_at, served_in, tellers}, Whole.{IsWhole, Profile, hands_of, with_worker}, Works.{Steps, Suits, Works}}, proofs.{Aside.{SameProfile, profile_same}, Hearing.unheard, HoldMail.mail_first, Lined.{KeepsLines, gates_kept, lined_kept}, Resolving.places_fewer, Seats.own_seat, Seeing.things_kept, Serving.{KeepsSpare, OthersKept, SparesRecords, letter_kept, mail_kept, spares_service}}}
+
+pub split_first : {A : Type 0} (xs : List A) (x : A) → slice_get xs 0 ≡ Some x → xs ≡ x ∷ drop 1 xs
+split_first [] x at = absurd (let no : None ≡ Some x = at in cc)
+split_first (y ∷ ys) x at = ap (λ z. z ∷ ys) (same_thing y x at)
+
+pub rest_had : {A : Type 0} (xs : List A) (x : A) → Contains (drop 1 xs) x → Contains xs x
+rest_had [] x (k, few, is) = (k, few, is)
+rest_had (y ∷ ys) x (k, few, is) = (suc k, (omega (arith, few)), is)
+
+same_self : (m : MailMessage) → same_message m m ≡ true
+same_self Root = refl
+same_self (ForwardRequest k) = eq-eqb k k refl
+same_self (ForwardTimer k) = eq-eqb k k refl
+same_self (CancelRequest k) = eq-eqb k k refl
+same_self (CancelTimer k) = eq-eqb k k refl
+
+-- what is seen of seats, once another is visible of worker i
+pub seats_viewed : (vs : List Visible) (seats : List Chair) (i : ℕ) (v : Visible) (chair : Chair) → slice_get seats i ≡ Some chair → seats_seen (slice_set vs i v) seats ≡ slice_set (seats_seen vs seats) i (seat_seen v chair)
+seats_viewed [] seats i v chair there = refl
+seats_viewed (x ∷ vs) [] i v chair there = absurd (cc)
+seats_viewed (x ∷ vs) (seat ∷ seats) zero v chair there =
+    let is : seat ≡ chair = cc in
+    ap (λ c. seat_seen v c ∷ seats_seen vs seats) is
+seats_viewed (x ∷ vs) (seat ∷ seats) (suc i) v chair there = ap (λ ys. seat_seen x seat ∷ ys) (seats_viewed vs seats i v chair there)
+
+-- WHERE IT LEADS
+
+abbrev pub led_by : Bool → ℕ → Place
+led_by b applied = if b then to_callbacks else Place.Mail (InMail.Apply (applied + 1) true)
+
+abbrev pub ends_turn : ℕ → List MailMessage → Bool
+ends_turn applied ms = is_empty ms || nat_le 64 (applied + 1)
+
+abbrev pub rest_of : Worker → List Mail
+rest_of w = drop 1 w.batch.values
+
+-- the worker goes on with the rest
+abbrev pub passed_on : Worker → Worker
+passed_on w = record w { batch = record w.batch { values = drop 1 w.batch.values } }
+
+some_left : (ms : List Mail) → is_empty (map message_of ms) ≡ false → 0 < length ms
+some_left [] h = absurd (false≢true (sym h))
+some_left (m ∷ ms) h = omega arith
+
+or_parts : (a b : Bool) → (a || b) ≡ false → (a ≡ false) × (b ≡ false)
+or_parts true b h = absurd (false≢true (sym h))
+or_parts false b h = (refl, h)
+
+not_most : (n : ℕ) → nat_le 64 n ≡ false → n < 64
+not_most n h = grind (arith, nat_tests)
+
+-- What must hold again of what the worker itself has, with room for so many messages more.
+pub record AppliedKeeps {B : Type 0} (spare : ℕ) (w : Worker) (s : Shared B) : Type 0 where
+  pub told : IsTold w.names.ended.items w.home.deferred (tellers (driver_of w).requests w.home.timers + spare)
+  pub wide : HasWidth w.home.deferred (tellers (driver_of w).requests w.home.timers + 64)
+  pub named : IsNamed w.index w.names (driver_of w) w.home.timers s.requests.items s.sleepers.items
+  pub sized : (driver_of w).ring.size ≡ ring_size s.config
+  pub over : AreOver w.index w.names.ended.items w.names.unreleased (pending_count (driver_of w).requests) s.requests.items
+  pub due : IsDue None w.home.closing w.index w.moments s.config w.names (driver_of w) w.home.timers s.requests.items s.sleepers.items
+  pub flown : HasFlown None w.index w.names (driver_of w) s.requests.items
+  pub carried : IsCarried w.names.requests.items (driver_of w).requests (driver_of w).ring s.requests.items s.store
+  pub known : IsKnown w.index w.names.requests.items (driver_of w).requests s.opens s.requests.items
+  pub rooted : IsRooted w.index w.names (driver_of w) w.home.timers w.home.deferred s.requests.items s.sleepers.items
+
+-- of the worker its driver, its sleepers, what is left to be told, and the numbers of what ended may change
+abbrev pub IsTouched : Worker → Worker → Type 0
+IsTouched w v = v ≡ record w { home = record w.home { driver = v.home.driver; timers = v.home.timers; deferred = v.home.deferred }; names = record w.names { ended = v.names.ended } }
+
+module _ {B : Type 0} where
+  -- what the worker has already
+  pub applied_keeps : (applied : ℕ) (taken : Bool) (w : Worker) (s : Shared B) → SoundAt (Place.Mail (InMail.Apply applied taken)) w s → AppliedKeeps (64 - applied) w s
+  applied_keeps applied taken w s sound =
+      record {
+        told = sound.told;
+        wide = sound.wide;
+        named = sound.named;
+        sized = sound.sized;
+        over = sound.over;
+        due = sound.due;
+        flown = sound.flown;
+        carried = sound.carried;
+        known = sound.known;
+        rooted = sound.rooted;
+      }
+
+  module _ (applied : ℕ) (taken : Bool) (w v : Worker) (s t : Shared B) (sound : SoundAt (Place.Mail (InMail.Apply applied taken)) w s)
+      (spares : SparesRecords w.index s (record s { requests = t.requests; sleepers = t.sleepers }))
+      (keeps : AppliedKeeps (64 - (applied + 1)) (record w { home = record w.home { driver = v.home.driver; timers = v.home.timers; deferred = v.home.deferred }; names = record w.names { ended = v.names.ended } }) (record s { requests = t.requests; sleepers = t.sleepers })) where
+    abbrev s1 : Shared B
+    s1 = record s { requests = t.requests; sleepers = t.sleepers }
+
+    abbrev w1 : Worker
+    w1 = record w { home = record w.home { driver = v.home.driver; timers = v.home.timers; deferred = v.home.deferred }; names = record w.names { ended = v.names.ended } }
+
+    lined : AreLinedUp s.opens t.requests.items
+    lined = lined_kept s.requests.items t.requests.items spares.lines s.opens sound.gates
+
+    mine : (m : Mail) → Contains (rest_of w) m → IsMyMail s.config.workers w.index m t.requests.items t.sleepers.items
+    mine m among = mail_kept s.config.workers w.index m s s1 spares (sound.mine m (rest_had w.batch.values m among))
+
+    letters : HasLetters false false w.index s.config.workers w.letters t.requests.items t.sleepers.items
+    letters = record {
+      some = sound.letters.some;
+      none = sound.letters.none;
+      requests = λ h among. letter_kept s.config.workers w.index (Subject.Request h.number) h.worker s s1 spares (sound.letters.requests h among);
+      timer = λ h is. letter_kept s.config.workers w.index (Subject.Timer h.number) h.worker s s1 spares (sound.letters.timer h is);
+    }
+
+    -- at the next message
+    sound_next : 0 < length (rest_of w) → applied + 1 < 64 → SoundAt (Place.Mail (InMail.Apply (applied + 1) true)) (record (passed_on w1) { place = Place.Mail (InMail.Apply (applied + 1) true) }) s1
+    sound_next some few =
+        record {
+          here = refl;
+          config = sound.config;
+          gates = lined;
+          known = keeps.known;
+          workers = sound.workers;
+          role = sound.role;
+          pooled = sound.pooled;
+          serves = sound.serves;
+          calm = sound.calm;
+          homes = sound.homes;
+          shards = sound.shards;
+          time = sound.time;
+          told = keeps.told;
+          wide = keeps.wide;
+          named = keeps.named;
+          runnable = sound.runnable;
+          seated = sound.seated;
+          queue = sound.queue;
+          sized = keeps.sized;
+          processed = sound.processed;
+          hand = sound.hand;
+          loot = sound.loot;
+          genuine = sound.genuine;
+          stolen = sound.stolen;
+          searching = sound.searching;
+          aims = few;
+          guest = sound.guest;
+          resting = sound.resting;
+          left = tt;
+          over = keeps.over;
+          batch = some;
+          mine = mine;
+          batch_place = sound.batch_place;
+          letters = letters;
+          quiet = λ h. true_false h;
+          due = keeps.due;
+          flown = keeps.flown;
+          carried = keeps.carried;
+          rooted = keeps.rooted;
+          stops = tt;
+          hears = tt;
+          lets_go = λ h. absurd (false≢true h);
+          phased = sound.phased;
+          tied = sound.tied;
+        }
+
+    -- or at the callbacks
+    sound_back : SoundAt to_callbacks (record (passed_on w1) { place = to_callbacks }) s1
+    sound_back =
+        record {
+          here = refl;
+          config = sound.config;
+          gates = lined;
+          known = keeps.known;
+          workers = sound.workers;
+          role = sound.role;
+          pooled = sound.pooled;
+          serves = sound.serves;
+          calm = sound.calm;
+          homes = sound.homes;
+          shards = sound.shards;
+          time = sound.time;
+          told = places_fewer (omega arith) keeps.told;
+          wide = keeps.wide;
+          named = keeps.named;
+          runnable = sound.runnable;
+          seated = sound.seated;
+          queue = sound.queue;
+          sized = keeps.sized;
+          processed = sound.processed;
+          hand = sound.hand;
+          loot = sound.loot;
+          genuine = sound.genuine;
+          stolen = sound.stolen;
+          searching = sound.searching;
+          aims = tt;
+          guest = sound.guest;
+          resting = sound.resting;
+          left = tt;
+          over = keeps.over;
+          batch = λ h. absurd (false≢true h);
+          mine = mine;
+          batch_place = sound.batch_place;
+          letters = letters;
+          quiet = λ h. true_false h;
+          due = keeps.due;
+          flown = keeps.flown;
+          carried = keeps.carried;
+          rooted = keeps.rooted;
+          stops = tt;
+          hears = tt;
+          lets_go = λ h. absurd (false≢true h);
+          phased = sound.phased;
+          tied = sound.tied;
+        }
+
+    pub applied_sound : SoundAt (after_message (applied + 1) (map message_of (rest_of w))) (record (passed_on w1) { place = after_message (applied + 1) (map message_of (rest_of w)) }) s1
+    applied_sound = by (ends_turn applied (map message_of (rest_of w))) refl
+      where
+        by : (b : Bool) → ends_turn applied (map message_of (rest_of w)) ≡ b → SoundAt (led_by b applied) (record (passed_on w1) { place = led_by b applied }) s1
+        by true is = sound_back
+        by false is =
+            let parts = or_parts (is_empty (map message_of (rest_of w))) (nat_le 64 (applied + 1)) is in
+            sound_next (some_left (rest_of w) parts.0) (not_most (applied + 1) parts.1)
+
+-- WHAT SUCH A PLACE SAYS
+
+pub record Leads (q : Place) : Type 0 where
+  pub polls : polls_at q ≡ None
+  pub free : next_at q ≡ Next.Free
+  pub unserved : serves_at q ≡ false
+  pub owes : (n : ℕ) → owed_at n q ≡ []
+  pub begins : begins_at q ≡ None
+  pub claims : claims_at q ≡ None
+  pub counts : has_count_at q ≡ false
+  pub published : is_published_at q ≡ false
+  pub drops : drops_at q ≡ no_drops
+  pub stands : (root : ℕ) → polled_in root q ≡ None
+
+pub leads : (applied : ℕ) (ms : List MailMessage) → Leads (after_message (applied + 1) ms)
+leads applied ms = by (ends_turn applied ms)
+  where
+    by : (b : Bool) → Leads (led_by b applied)
+    by true = record { polls = refl; free = refl; unserved = refl; owes = λ n. refl; begins = refl; claims = refl; counts = refl; published = refl; drops = refl; stands = λ root. refl }
+    by false = record { polls = refl; free = refl; unserved = and_none (applied + 1 == 0) false refl; owes = λ n. refl; begins = refl; claims = refl; counts = refl; published = refl; drops = refl; stands = λ root. refl }
+
+-- one message less is in hand
+pub one_less : (others : Profile) (w : Worker) (mail : Mail) → slice_get w.batch.values 0 ≡ Some mail → (k : Mail) → (with_worker others w).mail k ≡ (with_worker others (passed_on w)).mail k + mail_in k (mail ∷ [])
+one_less others w mail first k =
+    let weigh : Mail → ℕ = λ other. cond (same_mail k other) 1 0 in
+    let before : mail_in k (mail_of_letters w.letters ++ w.batch.values) ≡ mail_in k (mail_of_letters w.letters) + mail_in k w.batch.values = sum_by-append weigh (mail_of_letters w.letters) w.batch.values in
+    let after : mail_in k (mail_of_letters w.letters ++ rest_of w) ≡ mail_in k (mail_of_letters w.letters) + mail_in k (rest_of w) = sum_by-append weigh (mail_of_letters w.letters) (rest_of w) in
+    let split : mail_in k w.batch.values ≡ mail_in k (mail ∷ rest_of w) = ap (mail_in k) (split_first w.batch.values mail first) in
+    let parts = mail_first k mail (rest_of w) in
+    omega (arith, before, after, split, parts)
+
+-- the wake polls are seen as before
+polls_viewed : (vs : List Visible) (seats : List Chair) (i : ℕ) (v mine : Visible) → slice_get vs i ≡ Some mine → v.wakes ≡ mine.wakes → polls_seen (slice_set vs i v) seats ≡ polls_seen vs seats
+polls_viewed [] seats i v mine seen wakes = refl
+polls_viewed (x ∷ vs) [] zero v mine seen wakes = refl
+polls_viewed (x ∷ vs) [] (suc i) v mine seen wakes = refl
+polls_viewed (x ∷ vs) (seat ∷ seats) zero v mine seen wakes =
+    let is : x ≡ mine = cc in
+    ap (λ p. raised_times seat.raised p ∷ polls_seen vs seats) (wakes ∙ ap (λ (u : Visible). u.wakes) (sym is))
+polls_viewed (x ∷ vs) (seat ∷ seats) (suc i) v mine seen wakes = ap (λ ys. raised_times seat.raised x.wakes ∷ ys) (polls_viewed vs seats i v mine seen wakes)
+
+module _ {B : Type 0} where
+  pub things_viewed : (vs : Views) (i : ℕ) (mine v : Visible) (s : Shared B) → slice_get vs.workers i ≡ Some mine → v.wakes ≡ mine.wakes → things_with (with_view vs i v) s ≡ things_with vs s
+  things_viewed vs i mine v s seen wakes = ap (λ ps. record (things_with vs s) { wake_polls = ps }) (polls_viewed vs.workers s.seats.items i v mine seen wakes)
+
+-- the same of what others rely on
+pub profile_there : (applied : ℕ) (taken : Bool) (w v u : Worker) → w.place ≡ Place.Mail (InMail.Apply applied taken) → u ≡ record v { place = u.place } → v.place ≡ w.place → Leads u.place → SameProfile v u
+profile_there applied taken w v u here same at to =
+    let was : v.place ≡ Place.Mail (InMail.Apply applied taken) = at ∙ here in
+    record {
+      hand = ap (λ (x : Worker). x.hand) same;
+      loot = ap (λ (x : Worker). x.loot) same;
+      polls = to.polls ∙ sym (ap polls_at was);
+      claims = to.claims ∙ sym (ap claims_at was);
+      searching = ap (λ (x : Worker). x.searching) same;
+      counts = to.counts ∙ sym (ap has_count_at was);
+      index = ap (λ (x : Worker). x.index) same;
+      published = to.published ∙ sym (ap is_published_at was);
+      drops = to.drops ∙ sym (ap drops_at was);
+      told = record { batch = ap (λ (x : Worker). x.batch) same; letters = ap (λ (x : Worker). x.letters) same; left = ap (λ (x : Worker). x.home.deferred) same };
+    }
+
+module _ {B L : Type 0} (left : B → L) (spot : L → Option Said → Spot) where
+  -- WHAT THE MACHINE MAKES OF IT
+  pub applied_works : (applied : ℕ) (taken : Bool) (mail : Mail) (w w1 : Worker) (s s1 : Shared B) → SoundAt (Place.Mail (InMail.Apply applied taken)) w s → slice_get w.batch.values 0 ≡ Some mail → (p : Plan) (vs : Views) → Suits p vs w s
+      → s1.seats.items ≡ s.seats.items
+      → desk_of w1 ≡ record (told_by_message (common_of left spot p vs s) w.root (message_of mail) (desk_of w)) { batch = map message_of (rest_of w); place = after_message (applied + 1) (map message_of (rest_of w)) }
+      → visible w1 ≡ record (visible w) { taken = map message_of (rest_of w) }
+      → things_with (with_view vs w.index (visible w1)) s1 ≡ things_with vs s
+      → own_of w1 ≡ record (own_after_apply (own_of w) (common_of left spot p vs s) (message_of mail)) { serving = false }
+      → common_of left spot p vs s1 ≡ made_by (own_of w) (common_of left spot p vs s) (message_of mail)
+      → Works left spot p vs w s (Apply (message_of mail)) w1 s1
+  applied_works applied taken mail w w1 s s1 sound first p vs suits seats desk shown things own common =
+      let cs = common_of left spot p vs s in
+      let d = desk_of w in
+      let m = message_of mail in
+      let rest = rest_of w in
+      let q : Place = Place.Mail (InMail.Apply applied taken) in
+      let q' : Place = after_message (applied + 1) (map message_of rest) in
+      let seat = sound.seated.seat in
+      let there = sound.seated.there in
+      let phased = sound.phased seat there in
+      let mine = own_seat left spot p vs w s seat suits there in
+      let split : w.batch.values ≡ mail ∷ rest = split_first w.batch.values mail first in
+      let batch : d.batch ≡ m ∷ map message_of rest = ap (map message_of) split in
+      let v1 : Visible = visible w1 in
+      let inbox : (seat_seen (visible w) seat).inbox ≡ m ∷ (map message_of rest ++ map message_of seat.mailbox.inbox.messages) = ap (λ ms. map message_of ms ++ map message_of seat.mailbox.inbox.messages) split in
+      let seat_then : seat_seen v1 seat ≡ record (seat_of cs w.index) { inbox = drop 1 (seat_of cs w.index).inbox } =
+      ap (λ v. seat_seen v seat) shown
+      ∙ ap (λ ms. record (seat_seen (visible w) seat) { inbox = ms }) (sym (ap (drop 1) inbox))
+      ∙ ap (λ (x : Seat). record x { inbox = drop 1 x.inbox }) (sym mine) in
+      let moved : Desk = record (told_by_message cs w.root m d) { batch = map message_of rest; place = q' } in
+      record {
+        choice = Plain;
+        moves =
+            subst (λ y. move_at p.config w.index (own_of w) cs d (things_with vs s) y ≡ record { event = Apply m; choice = Plain; desk = desk_of w1; thing = things_with (with_view vs w.index v1) s1 }) (sym sound.here)
+            (rw batch refl ∙ ap (λ y. record { event = Apply m; choice = Plain; desk = y; thing = things_with vs s }) (sym desk) ∙ ap (λ x. record { event = Apply m; choice = Plain; desk = desk_of w1; thing = x }) (sym things));
+        may = (rw (sound.here, sound.letters.none refl) refl, (rw mine phased.opened, (ap (is_first_message m) mine ∙ ap (λ ms. is_first_message m (record (seat_seen (visible w) seat) { inbox = ms })) inbox ∙ same_self m, tt)));
+        own = own;
+        common =
+            ap (λ xs. record (common_of left spot p vs s1) { seats = xs }) (ap (seats_seen (slice_set vs.workers w.index v1)) seats ∙ seats_viewed vs.workers s.seats.items w.index v1 seat there)
+            ∙ ap (λ x. record (common_of left spot p vs s1) { seats = slice_set (seats_seen vs.workers s.seats.items) w.index x }) seat_then
+            ∙ ap (λ cs'. record (common_of left spot p vs s1) { seats = slice_set cs' w.index (record (seat_of cs w.index) { inbox = drop 1 (seat_of cs w.index).inbox }) }) (sym (ap (seats_seen vs.workers) seats))
+            ∙ ap (λ (told : Common). record told { seats = slice_set told.seats w.index (record (seat_of cs w.index) { inbox = drop 1 (seat_of cs w.index).inbox }) }) common;
+      }
+
+-- ALL TOGETHER
+
+module _ {B : Type 0} where
+  -- what the worker has already, and what holds of it again
+  pub kept_there : (applied : ℕ) (taken : Bool) (w : Worker) (s : Shared B) → SoundAt (Place.Mail (InMail.Apply applied taken)) w s → KeepsSpare (64 - applied) (passed_on w) s
+  kept_there applied taken w s sound =
+      let here = sound.here in
+      record {
+        told = sound.told;
+        wide = sound.wide;
+        named = sound.named;
+        sized = sound.sized;
+        over = sound.over;
+        quiet = λ h. true_false (sym (ap has_wakes_at here) ∙ h);
+        due = subst (λ p. IsDue (served_in p) w.home.closing w.index w.moments s.config w.names (driver_of w) w.home.timers s.requests.items s.sleepers.items) (sym here) sound.due;
+        flown = subst (λ p. HasFlown (served_in p) w.index w.names (driver_of w) s.requests.items) (sym here) sound.flown;
+        carried = sound.carried;
+        known = sound.known;
+        rooted = sound.rooted;
+        bare = λ h. absurd (false≢true (sym (ap is_bare_at here) ∙ h));
+      }
+
+  -- with the room of one message less
+  pub kept_again : (applied : ℕ) (taken : Bool) (v : Worker) (s : Shared B) → v.place ≡ Place.Mail (InMail.Apply applied taken) → KeepsSpare (64 - applied) v s → AppliedKeeps (64 - (applied + 1)) v s
+  kept_again applied taken v s here keeps =
+      record {
+        told = places_fewer (omega arith) keeps.told;
+        wide = keeps.wide;
+        named = keeps.named;
+        sized = keeps.sized;
+        over = keeps.over;
+        due = subst (λ p. IsDue (served_in p) v.home.closing v.index v.moments s.config v.names (driver_of v) v.home.timers s.requests.items s.sleepers.items) here keeps.due;
+        flown = subst (λ p. HasFlown (served_in p) v.index v.names (driver_of v) s.requests.items) here keeps.flown;
+        carried = keeps.carried;
+        known = keeps.known;
+        rooted = keeps.rooted;
+      }
+
+  -- with that room already
+  pub kept_so : (applied : ℕ) (taken : Bool) (v : Worker) (s : Shared B) → v.place ≡ Place.Mail (InMail.Apply applied taken) → KeepsSpare (64 - (applied + 1)) v s → AppliedKeeps (64 - (applied + 1)) v s
+  kept_so applied taken v s here keeps =
+      record {
+        told = keeps.told;
+        wide = keeps.wide;
+        named = keeps.named;
+        sized = keeps.sized;
+        over = keeps.over;
+        due = subst (λ p. IsDue (served_in p) v.home.closing v.index v.moments s.config v.names (driver_of v) v.home.timers s.requests.items s.sleepers.items) here keeps.due;
+        flown = subst (λ p. HasFlown (served_in p) v.index v.names (driver_of v) s.requests.items) here keeps.flown;
+        carried = keeps.carried;
+        known = keeps.known;
+        rooted = keeps.rooted;
+      }
+
+  -- the balances of all but of messages, wakes and what tasks hold
+  whole_applied : (x : Profile) (mail : Mail → ℕ) (wakes : ℕ → ℕ → ℕ) (s t : Shared B) → KeepsLines s.requests.items t.requests.items
+      → IsHolding (record { mail = mail; wakes = wakes }) s.config.workers (map holder_of s.tasks.items) (map thing_of t.requests.items) (map nap_of t.sleepers.items) (map box_of s.seats.items)
+      → IsWhole x s → IsWhole (record x { mail = mail; wakes = wakes }) (record s { requests = t.requests; sleepers = t.sleepers })
+  whole_applied x mail wakes s t lines holding whole =
+      let gates : HaveGates x.drops_by s.opens t.requests.items = gates_kept s.requests.items t.requests.items lines x.drops_by s.opens whole.gates in
+      assumption (gates, holding, whole)
+
+-- what a message that takes effect leaves of its worker, but for the batch and the place
+abbrev pub touched : Worker → Worker → Worker
+touched w v = record w { home = record w.home { driver = v.home.driver; timers = v.home.timers; deferred = v.home.deferred }; names = record w.names { ended = v.names.ended } }
+
+-- the machine reads the same off the place, but that it serves no more
+own_led : (applied : ℕ) (taken : Bool) (v : Worker) (q : Place) → v.place ≡ Place.Mail (InMail.Apply applied taken) → Leads q → own_of (record v { place = q }) ≡ record (own_of v) { serving = false }
+own_led applied taken v q here to =
+    subst (λ x. own_of (record v { place = q }) ≡ record (own_of (record v { place = x })) { serving = false }) (sym here) (rw (to.polls, to.free, to.unserved, to.owes v.workers) refl)
+
+module _ {B L : Type 0} (left : B → L) (spot : L → Option Said → Spot) where
+  -- what the machine sees of it
+  pub record SeesApplied (mail : Mail) (w v : Worker) (s t : Shared B) (p : Plan) (vs : Views) : Type 0 where
+    pub desk : desk_of v ≡ told_by_message (common_of left spot p vs s) w.root (message_of mail) (desk_of w)
+    pub own : own_of v ≡ own_after_apply (own_of w) (common_of left spot p vs s) (message_of mail)
+    pub shows : visible v ≡ visible w
+    pub common : common_of left spot p vs t ≡ made_by (own_of w) (common_of left spot p vs s) (message_of mail)
+
+  pub applied_steps : (applied : ℕ) (taken : Bool) (mail : Mail) (w w' v : Worker) (s s' : Shared B) (e : Event) → (sound : SoundAt (Place.Mail (InMail.Apply applied taken)) w s) → slice_get w.batch.values 0 ≡ Some mail → e ≡ Apply (message_of mail)
+      → w' ≡ record (passed_on (touched w v)) { place = after_message (applied + 1) (map message_of (rest_of w)) } → s' ≡ record s { requests = s'.requests; sleepers = s'.sleepers }
+      → SparesRecords w.index s (record s { requests = s'.requests; sleepers = s'.sleepers })
+      → AppliedKeeps (64 - (applied + 1)) (touched w v) (record s { requests = s'.requests; sleepers = s'.sleepers })
+      → ((others : Profile) → IsWhole (with_worker others w) s → IsHolding (hands_of (with_worker others (passed_on (touched w v)))) s.config.workers (map holder_of s.tasks.items) (map thing_of s'.requests.items) (map nap_of s'.sleepers.items) (map box_of s.seats.items))
+      → ((p : Plan) (vs : Views) → Suits p vs w s → SeesApplied mail w (touched w v) s (record s { requests = s'.requests; sleepers = s'.sleepers }) p vs)
+      → Steps left spot w s e w' s'
+  applied_steps applied taken mail w w' v s s' e sound first event worker kept spares keeps holds sees =
+      let rest = rest_of w in
+      let q' : Place = after_message (applied + 1) (map message_of rest) in
+      let to : Leads q' = leads applied (map message_of rest) in
+      let w0 : Worker = touched w v in
+      let w1 : Worker = record (passed_on w0) { place = q' } in
+      let s1 : Shared B = record s { requests = s'.requests; sleepers = s'.sleepers } in
+      let after : SoundAt q' w1 s1 = applied_sound applied taken w v s s' sound spares keeps in
+      let shared : OthersKept s s1 = refl in
+      let done : Steps left spot w s (Apply (message_of mail)) w1 s1 = (
+        (λ p vs suits.
+            let see = sees p vs suits in
+            applied_works left spot applied taken mail w w1 s s1 sound first p vs suits refl
+            (ap (λ (d : Desk). record d { batch = map message_of rest; place = q' }) see.desk)
+            (ap (λ (x : Visible). record x { taken = map message_of rest }) see.shows)
+            (things_kept vs w.index (visible w) (visible w1) s s1 suits.seen (ap (λ (x : Visible). x.wakes) see.shows) shared spares)
+            (own_led applied taken w0 q' sound.here to ∙ ap (λ (o : Books). record o { serving = false }) see.own)
+            see.common),
+        after,
+        unheard refl refl refl,
+        record {
+          spares = λ j other. spares_service w.index j s s1 other shared spares keeps.carried.room;
+          whole = λ others whole.
+              let u : Worker = passed_on w0 in
+              let x = with_worker others w in
+              let xu = with_worker others u in
+              rw (profile_same others u w1 (profile_there applied taken w u w1 sound.here refl refl to))
+              (whole_applied x xu.mail xu.wakes s s' spares.lines (holds others whole) whole);
+        },
+      ) in
+      subst (λ y. Steps left spot w s y w' s') (sym event) (subst (λ y. Steps left spot w s (Apply (message_of mail)) y s') (sym worker) (subst (λ z. Steps left spot w s (Apply (message_of mail)) w1 z) (sym kept) done))

@@ -1,0 +1,361 @@
+-- The callbacks: the batch is taken, and items are told that concern nobody else.
+use Rattle.std.proofs.{Common.{map, ◌≡◌, ℕ, [], ◌&&◌, ◌+◌, ◌<◌, ◌-◌, Bool, length, drop, nat_lt, arith, true, false, Option, Some, None, refl, sym, ap, subst, ◌∙◌, if◌then◌else◌}, lemmas.{Bool.Decides.nat_tests, List.length-drop}}
+use Rattle.std.specs.Vec.{vec_capacity}
+use Rattle.exec_waiters.specs.{Told.is_untold, declared.deferred.Deferred.Deferred}
+use Rattle.exec_driver.specs.Driving.{is_full}
+use Rattle.exec_task.specs.declared.body.Said.{Said}
+use Rattle.exec_machine.specs.{declared.{event.Event.{Event, TheVariants.Turn}, state.Next.Next}, After.common_after, Choice.Choice.Plain, Ranges.ring_size, World.{Common, Own as Books}}
+use Rattle.exec_moves.specs.{declared.{handing.{AfterCallbacks.AfterCallbacks, AfterLeave.AfterLeave}, idling.{InRingWait.InRingWait, Stay.Stay}, place.{InCallbacks.InCallbacks, InClosing.InClosing, Place.Place}}, Callback.{Item.LetsGo, item_next, next_callback}, State.Desk, Move.{move_at, move_item}, Seen.{next_at, polls_at, serves_at}}
+use Rattle.exec_parts.{specs.{declared.parts.{mail.Reply.Reply, shared.Shared.Shared, worker.Worker.Worker}, Calls.{KeepsRoom, IsTold}, Spots.Spot, Tests.{after_callbacks_of, has_open_requests, is_anything_told, leave_of, next_callback_of}, Roles.is_pool, View.{common_of, desk_of, driver_of, owed_at, own_of, things_with, visible, with_view}}, proofs.Facts.{by_not, by_not_not, true_false}}
+use Rattle.exec_invariants.{specs.{HoldPlaces.spare_before, Kinds.{Kind, lowered}, Places.{claims_at, drops_at, has_count_at, is_pooled_at, is_published_at, searches_at, searches_before}, Rooted.IsRooted, Sound.{HasLetters, HasWidth, IsSearching, SoundAt, has_wakes_at, tellers}, Works.{Beside, Steps, Suits}}, proofs.{PoolKept.gates_same, Aside.{SameProfile, beside_calm, seats_same, spares_turn, told_on}, CallsBack.{Pushed, To, callback_seen, callbacks_seen, none_left, pushed, to_after, to_call}, Counting.{SameHands, Stance, counts_same, stance_at, stance_here, whole_counted}, Hearing.unheard, Idled.{Fares, Holds, plain_of, settled}, Turning.{GoesOn, IsTurn, sound_on, turned, view_found}}}
+
+same_batch : (n : AfterCallbacks) → plain_of (Place.Callbacks InCallbacks.TakeBatch n) ≡ plain_of (pushed n)
+same_batch AfterCallbacks.Look = refl
+same_batch AfterCallbacks.Test = refl
+same_batch AfterCallbacks.Begin = refl
+same_batch AfterCallbacks.Drain = refl
+same_batch AfterCallbacks.Finish = refl
+
+same_leave : (n : AfterCallbacks) → plain_of (Place.LeaveSearch (AfterLeave.CallBack n)) ≡ plain_of (pushed n)
+same_leave AfterCallbacks.Look = refl
+same_leave AfterCallbacks.Test = refl
+same_leave AfterCallbacks.Begin = refl
+same_leave AfterCallbacks.Drain = refl
+same_leave AfterCallbacks.Finish = refl
+
+-- where the batch leads
+abbrev pub from_batch : AfterCallbacks → Worker → Place
+from_batch n w = if is_anything_told w then leave_of (AfterLeave.CallBack n) w else after_callbacks_of n w
+
+by_leave : {A : Type 0} (b t : Bool) (l c a : A) → (if b && t then l else if t then c else a) ≡ (if t then (if b then l else c) else a)
+by_leave true true l c a = refl
+by_leave true false l c a = refl
+by_leave false true l c a = refl
+by_leave false false l c a = refl
+
+searching_either : (b : Bool) (x y : Place) (seek : Bool) → IsSearching (searches_at x) seek → IsSearching (searches_at y) seek → IsSearching (searches_at (if b then x else y)) seek
+searching_either true x y seek h k = h
+searching_either false x y seek h k = k
+
+still_searching : (n : AfterCallbacks) (w : Worker) → IsSearching (searches_before n) w.searching → IsSearching (searches_at (after_callbacks_of n w)) w.searching
+still_searching AfterCallbacks.Look w h = searching_either (is_pool w.role) _ _ w.searching tt tt
+still_searching AfterCallbacks.Test w h = searching_either (is_pool w.role) _ _ w.searching tt tt
+still_searching AfterCallbacks.Begin w h = tt
+still_searching AfterCallbacks.Drain w h = h
+still_searching AfterCallbacks.Finish w h =
+    searching_either (has_open_requests w) _ _ w.searching (searching_either (is_full (driver_of w)) (Place.RingWait InRingWait.EnterFullRing Stay.Closing) (Place.RingWait InRingWait.TestRing Stay.Closing) w.searching h h) h
+
+-- nobody is served there, and no letters are owed
+pub record Rests (m : ℕ) (q : Place) : Type 0 where
+  pub unserved : serves_at q ≡ false
+  pub owes : owed_at m q ≡ []
+
+rests_either : (m : ℕ) (b : Bool) (x y : Place) → Rests m x → Rests m y → Rests m (if b then x else y)
+rests_either m true x y h k = h
+rests_either m false x y h k = k
+
+rests_after : (m : ℕ) (n : AfterCallbacks) (w : Worker) → Rests m (after_callbacks_of n w)
+rests_after m AfterCallbacks.Look w = rests_either m (is_pool w.role) _ _ (record { unserved = refl; owes = refl }) (record { unserved = refl; owes = refl })
+rests_after m AfterCallbacks.Test w = rests_either m (is_pool w.role) _ _ (record { unserved = refl; owes = refl }) (record { unserved = refl; owes = refl })
+rests_after m AfterCallbacks.Begin w = record { unserved = refl; owes = refl }
+rests_after m AfterCallbacks.Drain w = record { unserved = refl; owes = refl }
+rests_after m AfterCallbacks.Finish w =
+    let still : Rests m (Place.Closing InClosing.End) = record { unserved = refl; owes = refl } in
+    let full : Rests m (Place.RingWait InRingWait.EnterFullRing Stay.Closing) = record { unserved = refl; owes = refl } in
+    let test : Rests m (Place.RingWait InRingWait.TestRing Stay.Closing) = record { unserved = refl; owes = refl } in
+    rests_either m (has_open_requests w) _ _ (rests_either m (is_full (driver_of w)) _ _ full test) still
+
+rests_from : (m : ℕ) (n : AfterCallbacks) (w : Worker) → Rests m (from_batch n w)
+rests_from m n w =
+    let leave : Rests m (Place.LeaveSearch (AfterLeave.CallBack n)) = record { unserved = refl; owes = refl } in
+    let call : Rests m (Place.Callbacks InCallbacks.CallBack n) = record { unserved = refl; owes = refl } in
+    rests_either m (is_anything_told w) _ _ (rests_either m w.searching _ _ leave call) (rests_after m n w)
+
+pub idle_before : (n : AfterCallbacks) (b : Bool) → b ≡ false → IsSearching (searches_before n) b
+idle_before AfterCallbacks.Look b h = tt
+idle_before AfterCallbacks.Test b h = tt
+idle_before AfterCallbacks.Begin b h = tt
+idle_before AfterCallbacks.Drain b h = h
+idle_before AfterCallbacks.Finish b h = h
+
+-- the machine's next item rests on no place
+pub place_unread : (size i : ℕ) (me : Books) (s : Common) (n : AfterCallbacks) (d : Desk) (q : Place) → next_callback size i me s n (record d { place = q }) ≡ next_callback size i me s n d
+place_unread size i me s AfterCallbacks.Look d q = refl
+place_unread size i me s AfterCallbacks.Test d q = refl
+place_unread size i me s AfterCallbacks.Begin d q = refl
+place_unread size i me s AfterCallbacks.Drain d q = refl
+place_unread size i me s AfterCallbacks.Finish d q = refl
+
+own_unread : (n : AfterCallbacks) (w : Worker) (q : Place) → next_callback_of n (record w { place = q }) ≡ next_callback_of n w
+own_unread AfterCallbacks.Look w q = refl
+own_unread AfterCallbacks.Test w q = refl
+own_unread AfterCallbacks.Begin w q = refl
+own_unread AfterCallbacks.Drain w q = refl
+own_unread AfterCallbacks.Finish w q = refl
+
+pub positive : (n : ℕ) → 0 < n → nat_lt 0 n ≡ true
+positive n h = grind (arith, nat_tests)
+
+-- the worker, with the place where the callbacks lead
+pub goes_next : (n : AfterCallbacks) (v w' : Worker) → w' ≡ record v { place = w'.place } → w'.place ≡ next_callback_of n w' → w' ≡ record v { place = next_callback_of n v }
+goes_next n v w' same place = same ∙ ap (λ y. record v { place = y }) (place ∙ ap (next_callback_of n) same ∙ own_unread n v w'.place)
+
+pub item_let_go : (me : Books) (d : Desk) → d.wakes ≡ [] → nat_lt 0 d.outputs ≡ true → item_next me d ≡ LetsGo
+item_let_go me d none some = rw (none, some) refl
+
+pub rests_next : (m : ℕ) (n : AfterCallbacks) (w : Worker) → Rests m (next_callback_of n w)
+rests_next m n w =
+    let call : Rests m (Place.Callbacks InCallbacks.CallBack n) = record { unserved = refl; owes = refl } in
+    rests_either m (is_anything_told w) _ _ call (rests_after m n w)
+
+abbrev pub stance : Worker → Stance
+stance w = record { searching = w.searching; counted = false; published = false }
+
+module _ {B : Type 0} where
+  -- what holds where the callbacks are
+  pub pushed_batch : (n : AfterCallbacks) (w : Worker) (s : Shared B) → SoundAt (Place.Callbacks InCallbacks.TakeBatch n) w s → Pushed n w s
+  pushed_batch n w s sound = record { told = sound.told; wide = sound.wide; bare = sound.lets_go; batch = sound.batch; held = sound.queue; phased = sound.phased; counted = sound.over.counted }
+
+  fare_to : (n : AfterCallbacks) (q' : Place) (w : Worker) (s : Shared B) → SoundAt (Place.Callbacks InCallbacks.TakeBatch n) w s → To n q' w s → IsSearching (searches_at q') w.searching → Fares (Place.Callbacks InCallbacks.TakeBatch n) q' (stance w) w s
+  fare_to n q' w s sound it searches =
+      let to = it.to in
+      record {
+        same = ap (λ (k : Kind). record k { owes = λ m. []; sends_cancel = false; cancels = false; serves = false }) to.same ∙ ap (lowered w.role (is_pooled_at q')) (sym (same_batch n));
+        searches = searches;
+        counts = to.counts;
+        published = to.published;
+        queue = to.queue;
+        aims = to.aims;
+        batch = to.batch;
+        quiet = to.quiet;
+        left = to.left;
+        told = to.told;
+        letters = subst (λ (k : Kind). HasLetters k.sends_cancel k.cancels w.index s.config.workers w.letters s.requests.items s.sleepers.items) (sym to.same) sound.letters;
+        lets_go = to.lets_go;
+        phased = to.phased;
+      }
+
+  fare_leave : (n : AfterCallbacks) (w : Worker) (s : Shared B) → SoundAt (Place.Callbacks InCallbacks.TakeBatch n) w s → w.searching ≡ true → is_anything_told w ≡ true → Fares (Place.Callbacks InCallbacks.TakeBatch n) (Place.LeaveSearch (AfterLeave.CallBack n)) (stance w) w s
+  fare_leave n w s sound seeks some =
+      let it = pushed_batch n w s sound in
+      record {
+        same = same_leave n ∙ sym (same_batch n);
+        searches = seeks;
+        counts = refl;
+        published = refl;
+        queue = it.held;
+        aims = tt;
+        batch = it.batch;
+        quiet = λ h. true_false h;
+        left = by_not (is_untold w.home.deferred) some;
+        told = it.told;
+        letters = sound.letters;
+        lets_go = it.bare;
+        phased = it.phased;
+      }
+
+  fares_either : (n : AfterCallbacks) (b : Bool) (x y : Place) (w : Worker) (s : Shared B)
+      → (b ≡ true → Fares (Place.Callbacks InCallbacks.TakeBatch n) x (stance w) w s) → (b ≡ false → Fares (Place.Callbacks InCallbacks.TakeBatch n) y (stance w) w s) → Fares (Place.Callbacks InCallbacks.TakeBatch n) (if b then x else y) (stance w) w s
+  fares_either n true x y w s h k = h refl
+  fares_either n false x y w s h k = k refl
+
+  fare_batch : (n : AfterCallbacks) (w : Worker) (s : Shared B) → SoundAt (Place.Callbacks InCallbacks.TakeBatch n) w s → Fares (Place.Callbacks InCallbacks.TakeBatch n) (from_batch n w) (stance w) w s
+  fare_batch n w s sound =
+      let it = pushed_batch n w s sound in
+      fares_either n (is_anything_told w) (leave_of (AfterLeave.CallBack n) w) (after_callbacks_of n w) w s
+      (λ some. fares_either n w.searching (Place.LeaveSearch (AfterLeave.CallBack n)) (Place.Callbacks InCallbacks.CallBack n) w s
+      (λ seeks. fare_leave n w s sound seeks some)
+      (λ idle. fare_to n (Place.Callbacks InCallbacks.CallBack n) w s sound (to_call n w s it some) idle))
+      (λ none. fare_to n (after_callbacks_of n w) w s sound (to_after n w s it (none_left w.home.deferred (by_not_not (is_untold w.home.deferred) none))) (still_searching n w sound.searching))
+
+  -- one of the items is told, and the worker goes on as from the batch: v says that it told it
+  pub next_fares : (n : AfterCallbacks) (v : Worker) (s : Shared B) → SoundAt (Place.Callbacks InCallbacks.TakeBatch n) v s → v.searching ≡ false → Fares (Place.Callbacks InCallbacks.TakeBatch n) (next_callback_of n v) (stance v) v s
+  next_fares n v s sound idle =
+      let it = pushed_batch n v s sound in
+      fares_either n (is_anything_told v) (Place.Callbacks InCallbacks.CallBack n) (after_callbacks_of n v) v s
+      (λ some. fare_to n (Place.Callbacks InCallbacks.CallBack n) v s sound (to_call n v s it some) idle)
+      (λ none. fare_to n (after_callbacks_of n v) v s sound (to_after n v s it (none_left v.home.deferred (by_not_not (is_untold v.home.deferred) none))) (still_searching n v sound.searching))
+
+  pub next_sound : (n : AfterCallbacks) (v : Worker) (s : Shared B) → SoundAt (Place.Callbacks InCallbacks.TakeBatch n) v s → v.searching ≡ false → SoundAt (next_callback_of n v) (record v { place = next_callback_of n v }) s
+  next_sound n v s sound idle =
+      let q : Place = Place.Callbacks InCallbacks.TakeBatch n in
+      let q' : Place = next_callback_of n v in
+      let w' : Worker = record v { place = q' } in
+      let on : GoesOn v w' s.clock = record { same = refl; read = sound.time.read; asleep = sound.time.asleep } in
+      let holds : Holds v w' = record { root_ready = refl; hand = refl; loot = refl } in
+      sound_on q v w' s s sound on refl (omega arith) (settled q q' (stance v) v w' s s sound refl holds refl sound.calm (next_fares n v s sound idle))
+
+  -- THE FIRST OUTPUT IS LET GO
+
+  pub without_output : (n : AfterCallbacks) (w : Worker) (s : Shared B) (left : Deferred Reply Reply) → SoundAt (Place.Callbacks InCallbacks.CallBack n) w s
+      → left ≡ record w.home.deferred { outputs = left.outputs } → vec_capacity left.outputs ≡ vec_capacity w.home.deferred.outputs → KeepsRoom w.home.deferred left
+      → SoundAt (Place.Callbacks InCallbacks.TakeBatch n) (record w { place = Place.Callbacks InCallbacks.TakeBatch n; home = record w.home { deferred = record w.home.deferred { outputs = left.outputs } } }) s
+  without_output n w s left sound same room keeps =
+      let left1 : Deferred Reply Reply = record w.home.deferred { outputs = left.outputs } in
+      let live = tellers (driver_of w).requests w.home.timers in
+      let told : IsTold w.names.ended.items left1 (live + spare_before (Some n)) = subst (λ d. IsTold w.names.ended.items d (live + spare_before (Some n))) same (keeps w.names.ended.items (live + spare_before (Some n)) sound.told) in
+      let wide : HasWidth left1 (live + 64) = record { wakes = sound.wide.wakes; completions = sound.wide.completions; outputs = rw room sound.wide.outputs; resources = sound.wide.resources; results = sound.wide.results } in
+      let searching : IsSearching (searches_before n) w.searching = idle_before n w.searching sound.searching in
+      let quiet : has_wakes_at (Place.Callbacks InCallbacks.TakeBatch n) ≡ false → w.home.deferred.notes.wakes.items ≡ [] = λ h. true_false h in
+      let r = sound.rooted in
+      let rooted : IsRooted w.index w.names (driver_of w) w.home.timers left1 s.requests.items s.sleepers.items =
+      record { kept = r.kept; ready = r.ready; replies = r.replies; watches = r.watches; pays = r.pays; sleeper_pays = r.sleeper_pays; results = r.results; completions = r.completions; sent = r.sent; sleeper_sent = r.sleeper_sent }
+      in
+      record {
+        here = refl;
+        config = sound.config;
+        gates = sound.gates;
+        known = sound.known;
+        workers = sound.workers;
+        role = sound.role;
+        pooled = sound.pooled;
+        serves = sound.serves;
+        calm = sound.calm;
+        homes = sound.homes;
+        shards = sound.shards;
+        time = sound.time;
+        told = told;
+        wide = wide;
+        named = sound.named;
+        runnable = sound.runnable;
+        seated = sound.seated;
+        queue = sound.queue;
+        sized = sound.sized;
+        processed = sound.processed;
+        hand = sound.hand;
+        loot = sound.loot;
+        genuine = sound.genuine;
+        stolen = sound.stolen;
+        searching = searching;
+        aims = sound.aims;
+        guest = sound.guest;
+        resting = sound.resting;
+        left = tt;
+        over = sound.over;
+        batch = sound.batch;
+        mine = sound.mine;
+        batch_place = sound.batch_place;
+        letters = sound.letters;
+        quiet = quiet;
+        due = sound.due;
+        flown = sound.flown;
+        carried = sound.carried;
+        rooted = rooted;
+        stops = sound.stops;
+        hears = sound.hears;
+        lets_go = sound.lets_go;
+        phased = sound.phased;
+        tied = sound.tied;
+      }
+
+module _ {B L : Type 0} (left : B → L) (spot : L → Option Said → Spot) where
+  taken : (n : AfterCallbacks) (w : Worker) (s : Shared B) → SoundAt (Place.Callbacks InCallbacks.TakeBatch n) w s → Steps left spot w s Turn (record w { place = from_batch n w }) s
+  taken n w s sound =
+      let q : Place = Place.Callbacks InCallbacks.TakeBatch n in
+      let q' : Place = from_batch n w in
+      let w' : Worker = record w { place = q' } in
+      let to = fare_batch n w s sound in
+      let on : GoesOn w w' s.clock = record { same = refl; read = sound.time.read; asleep = sound.time.asleep } in
+      let holds : Holds w w' = record { root_ready = refl; hand = refl; loot = refl } in
+      let rests : Rests w.workers q' = rests_from w.workers n w in
+      let is : IsTurn w.workers q q' = record { polls = ap (λ k. k.polls) to.same; free = refl; free_then = ap (λ k. k.next) to.same; unserved = rests.unserved; owes = rests.owes } in
+      let same : SameHands w w' =
+      record {
+        hand = refl;
+        loot = refl;
+        polls = ap (λ k. k.polls) to.same ∙ sym (ap polls_at sound.here);
+        claims = ap (λ k. k.claims) to.same ∙ sym (ap claims_at sound.here);
+        index = refl;
+        drops = ap (λ k. k.drops) to.same ∙ sym (ap drops_at sound.here);
+        told = told_on w w' s.clock on;
+      }
+      in
+      turned left spot q w w' s s Turn sound refl on refl refl (λ vs. refl) is (settled q q' (stance w) w w' s s sound refl holds refl sound.calm to)
+      (record {
+        spares = λ j other. spares_turn w.index j s s other refl (seats_same w.index s.seats.items s.seats.items refl);
+        whole = λ others whole. whole_counted others (stance_at q w) (stance w) w w' s s.idle same (stance_here q w sound.here) (record { searching = refl; counted = to.counts; published = to.published }) (counts_same (stance w) w s (stance_here q w sound.here)) whole;
+      })
+      (λ p vs suits.
+      ap (λ y. record { event = Turn; choice = Plain; desk = record (desk_of w) { place = y }; thing = things_with vs s })
+      (ap (λ b. if w.searching && b then Place.LeaveSearch (AfterLeave.CallBack n) else next_callback (ring_size p.config) w.index (own_of w) (common_of left spot p vs s) n (desk_of w)) (callbacks_seen w _ sound.told)
+      ∙ ap (λ y. if w.searching && is_anything_told w then Place.LeaveSearch (AfterLeave.CallBack n) else y) (callback_seen left spot p vs q w s sound suits n)
+      ∙ by_leave w.searching (is_anything_told w) (Place.LeaveSearch (AfterLeave.CallBack n)) (Place.Callbacks InCallbacks.CallBack n) (after_callbacks_of n w)))
+
+  pub batch_taken : (n : AfterCallbacks) (w w' : Worker) (s : Shared B) (e : Event) → SoundAt (Place.Callbacks InCallbacks.TakeBatch n) w s → e ≡ Turn → w' ≡ record w { place = from_batch n w } → Steps left spot w s e w' s
+  batch_taken n w w' s e sound event goes =
+      subst (λ y. Steps left spot w s e y s) (sym goes) (subst (λ y. Steps left spot w s y (record w { place = from_batch n w }) s) (sym event) (taken n w s sound))
+
+  -- a step of the callbacks that tells an item, and changes of what the machine sees no more than what is waiting
+  output_let_go : (n : AfterCallbacks) (w : Worker) (s : Shared B) (left' : Deferred Reply Reply) → SoundAt (Place.Callbacks InCallbacks.CallBack n) w s
+      → left' ≡ record w.home.deferred { outputs = left'.outputs } → vec_capacity left'.outputs ≡ vec_capacity w.home.deferred.outputs → KeepsRoom w.home.deferred left'
+      → w.home.deferred.notes.wakes.items ≡ [] → 0 < length w.home.deferred.outputs.items → left'.outputs.items ≡ drop 1 w.home.deferred.outputs.items
+      → Steps left spot w s Turn (record w { place = next_callback_of n (record w { place = Place.Callbacks InCallbacks.TakeBatch n; home = record w.home { deferred = record w.home.deferred { outputs = left'.outputs } } }); home = record w.home { deferred = record w.home.deferred { outputs = left'.outputs } } }) s
+  output_let_go n w s left' sound same room keeps none some items =
+      let before : Place = Place.Callbacks InCallbacks.CallBack n in
+      let q : Place = Place.Callbacks InCallbacks.TakeBatch n in
+      let v : Worker = record w { place = q; home = record w.home { deferred = record w.home.deferred { outputs = left'.outputs } } } in
+      let q' : Place = next_callback_of n v in
+      let w' : Worker = record v { place = q' } in
+      let there : SoundAt q v s = without_output n w s left' sound same room keeps in
+      let to : Fares q q' (stance v) v s = next_fares n v s there sound.searching in
+      let rests : Rests w.workers q' = rests_next w.workers n v in
+      let polls : polls_at q' ≡ None = ap (λ k. k.polls) to.same in
+      let free : next_at q' ≡ Next.Free = ap (λ k. k.next) to.same in
+      let fewer : length w.home.deferred.outputs.items - 1 ≡ length left'.outputs.items = sym (ap length items ∙ length-drop 1 w.home.deferred.outputs.items) in
+      let u : Worker = record w { place = q' } in
+      let alike : SameProfile w u = record {
+        hand = refl;
+        loot = refl;
+        polls = polls ∙ sym (ap polls_at sound.here);
+        claims = ap (λ k. k.claims) to.same ∙ sym (ap claims_at sound.here);
+        searching = refl;
+        counts = to.counts ∙ sym (ap has_count_at sound.here);
+        index = refl;
+        published = to.published ∙ sym (ap is_published_at sound.here);
+        drops = ap (λ k. k.drops) to.same ∙ sym (ap drops_at sound.here);
+        told = record { batch = refl; letters = refl; left = refl };
+      } in
+      let by : Beside w s u s = beside_calm w u s s alike refl (seats_same w.index s.seats.items s.seats.items refl) (gates_same s.seats.items s.seats.items refl) refl refl refl refl in (
+        (λ p vs suits.
+            let cs = common_of left spot p vs s in
+            let d : Desk = desk_of w in
+            let d1 : Desk = record d { outputs = d.outputs - 1 } in
+            let d2 : Desk = record d { outputs = length left'.outputs.items } in
+            let xs = things_with vs s in
+            let size = ring_size p.config in
+            let suits_v : Suits p vs v s = record { config = suits.config; seen = suits.seen; workers = suits.workers } in
+            let again : with_view vs w.index (visible w') ≡ vs = view_found vs w.index (visible w) suits.seen in
+            let leads : next_callback size w.index (own_of w) cs n d1 ≡ q' =
+            ap (λ k. next_callback size w.index (own_of w) cs n (record d { outputs = k })) fewer
+            ∙ sym (place_unread size w.index (own_of w) cs n d2 q)
+            ∙ callback_seen left spot p vs q v s there suits_v n
+            in
+            let still : common_after p.config (own_of w) cs w.index Turn Plain ≡ cs = rw sound.here refl in
+            let moved : move_at p.config w.index (own_of w) cs d xs before ≡ record { event = Turn; choice = Plain; desk = desk_of w'; thing = xs } =
+            ap (move_item p.config w.index (own_of w) cs d xs n) (item_let_go (own_of w) d (ap (map (λ t. t.0)) none) (positive d.outputs some))
+            ∙ ap (λ y. record { event = Turn; choice = Plain; desk = record d1 { place = y }; thing = xs }) leads
+            ∙ ap (λ k. record { event = Turn; choice = Plain; desk = record d { outputs = k; place = q' }; thing = xs }) fewer
+            in
+            record {
+              choice = Plain;
+              moves =
+                  subst (λ y. move_at p.config w.index (own_of w) cs d xs y ≡ record { event = Turn; choice = Plain; desk = desk_of w'; thing = things_with (with_view vs w.index (visible w')) s }) (sym sound.here)
+                  (moved ∙ ap (λ z. record { event = Turn; choice = Plain; desk = desk_of w'; thing = things_with z s }) (sym again));
+              may = tt;
+              own = rw (polls, free, rests.unserved, rests.owes, sound.here) refl;
+              common = ap (λ z. common_of left spot p z s) again ∙ sym still;
+            }),
+        next_sound n v s there sound.searching,
+        unheard refl refl refl,
+        record { spares = by.spares; whole = by.whole },
+      )
+
+  pub output_gone : (n : AfterCallbacks) (w w' : Worker) (s : Shared B) (e : Event) → SoundAt (Place.Callbacks InCallbacks.CallBack n) w s → e ≡ Turn → w'.place ≡ next_callback_of n w'
+      → w' ≡ record w { place = w'.place; home = record w.home { deferred = record w.home.deferred { outputs = w'.home.deferred.outputs } } }
+      → w.home.deferred.notes.wakes.items ≡ [] → 0 < length w.home.deferred.outputs.items
+      → w'.home.deferred.outputs.items ≡ drop 1 w.home.deferred.outputs.items → KeepsRoom w.home.deferred w'.home.deferred → vec_capacity w'.home.deferred.outputs ≡ vec_capacity w.home.deferred.outputs
+      → Steps left spot w s e w' s
+  output_gone n w w' s e sound event place same none some items keeps room =
+      let v : Worker = record w { place = Place.Callbacks InCallbacks.TakeBatch n; home = record w.home { deferred = record w.home.deferred { outputs = w'.home.deferred.outputs } } } in
+      let done : Steps left spot w s Turn (record v { place = next_callback_of n v }) s = output_let_go n w s w'.home.deferred sound (ap (λ x. x.home.deferred) same) room keeps none some items in
+      subst (λ y. Steps left spot w s e y s) (sym (goes_next n v w' same place)) (subst (λ y. Steps left spot w s y (record v { place = next_callback_of n v }) s) (sym event) done)

@@ -1,0 +1,422 @@
+-- What the steps at the mailbox are to the machine: another batch is looked for, and what is there is taken.
+use Rattle.std.proofs.{Common.{◌≡◌, ℕ, zero, suc, ◌+◌, ◌*◌, ◌^◌, ◌%◌, ◌<◌, ◌≤◌, Bool, true, false, cond, Contains, List, [], ◌∷◌, ◌++◌, length, map, Option, None, Some, option_map, refl, sym, ap, subst, ◌∙◌, arith, slice_get, slice_set, if◌then◌else◌}, lemmas.{List.{append-nil, length-set, Sums.sum_by-append}, Option.{get_or_from_slice_get, slice_get-map}}}
+use Rattle.exec_words.specs.{Inbox.{Inbox, batch_handed, batch_taken, has_any}, Reserved.Reserved, Word.next_batch, declared.{inbox.Message.Message, word.PureWord.PureWord}}
+use Rattle.exec_task.specs.declared.body.Said.{Said}
+use Rattle.exec_machine.specs.{declared.event.Event.{Event, TheVariants.Turn}, Choice.Choice.Plain}
+use Rattle.exec_moves.specs.{declared.place.{InMail.InMail, Place.Place}, Load.has_mail, Mail.{load_mail_word, take_mail, to_callbacks}, Move.move_at, Seen.polls_at, State.{Moved, inbox_of, turns, word_of}, Thing.{set_inbox, with_inbox, with_word}}
+use Rattle.exec_parts.{specs.{declared.parts.{mail.Subject.Subject, record.Record.Record, seat.Seat.Seat as Chair, shared.Shared.Shared, sleeping.SleeperRecord.SleeperRecord, worker.Worker.Worker}, Phased.{IsPhased, TurnsChair, stage_of}, Pooled.OfChair, Calls.IsTold, MailPosts.IsMailbox, Spots.Spot, View.{Views, Visible, common_of, desk_of, driver_of, inbox_at, message_of, own_of, polls_seen, queue_at, raised_times, seat_seen, seats_seen, things_of, things_with, visible, with_view, word_at}, Things.{Goes, Makes}}, proofs.{Facts.{same_thing, set_there, true_false}, Showing.{map_kept, map_set}}}
+use Rattle.exec_invariants.{specs.{Holding.{IsAbout, IsHolding, IsOf, Mail, box_of, holder_of, mail_in, mail_of_letters, nap_of, same_mail, thing_of}, Places.{claims_at, drops_at, has_count_at, is_published_at}, Sound.{IsMineIn, IsMyMail, IsSeated, SoundAt, tellers}, Whole.{HasWhole, IsWhole, Profile, hands_of, with_worker}, Works.Steps}, proofs.{AskBoxes.box_there, Aside.{HoldsIn, SameProfile, SparesSeats, beside_calm, queue_of_chair, queues_set, seats_own, seats_same}, Dedicated.as_long, Hearing.unheard, Idled.{Fares, Holds, settled}, Lined.unmapped, MailBack.stance, MailMoves.{all_taken, beside_moved}, PoolKept.{gates_same, gates_set}, Resolving.places_fewer, Turning.{IsTurn, Shares, set_found, turned, word_back_again}}}
+
+below : (n : ℕ) → n % 2 ^ 29 < 2 ^ 29
+below n = omega arith
+
+-- WHAT A TAKE HANDS OVER, by what is there
+
+pub taken_none : (i : Inbox Subject Subject) (b : Reserved Mail) → i.messages ≡ [] → batch_taken i b ≡ i
+taken_none i b none = ap (λ h. if h then record i { messages = []; places = b.places; taken = next_batch i.taken } else i) (ap has_any none)
+
+pub taken_some : (i : Inbox Subject Subject) (b : Reserved Mail) (m : Mail) (ms : List Mail) → i.messages ≡ m ∷ ms → batch_taken i b ≡ record i { messages = []; places = b.places; taken = next_batch i.taken }
+taken_some i b m ms some = ap (λ h. if h then record i { messages = []; places = b.places; taken = next_batch i.taken } else i) (ap has_any some)
+
+pub handed_none : (i : Inbox Subject Subject) (b : Reserved Mail) → i.messages ≡ [] → batch_handed i b ≡ b
+handed_none i b none = ap (λ h. if h then record { values = i.messages; places = i.places } else b) (ap has_any none)
+
+pub handed_some : (i : Inbox Subject Subject) (b : Reserved Mail) (m : Mail) (ms : List Mail) → i.messages ≡ m ∷ ms → batch_handed i b ≡ record { values = i.messages; places = i.places }
+handed_some i b m ms some = ap (λ h. if h then record { values = i.messages; places = i.places } else b) (ap has_any some)
+
+by_list : {A P : Type 0} (xs : List A) → (xs ≡ [] → P) → ((y : A) (ys : List A) → xs ≡ y ∷ ys → P) → P
+by_list [] none some = none refl
+by_list (x ∷ xs) none some = some x xs refl
+
+-- A CHAIR AND WHAT IS VISIBLE OF ITS WORKER, where both were set
+
+pub seats_both : (vs : List Visible) (seats : List Chair) (i : ℕ) (v v' : Visible) (chair chair' : Chair) → slice_get vs i ≡ Some v → slice_get seats i ≡ Some chair → seat_seen v' chair' ≡ seat_seen v chair
+    → seats_seen (slice_set vs i v') (slice_set seats i chair') ≡ seats_seen vs seats
+seats_both [] seats i v v' chair chair' seen there same = absurd (cc)
+seats_both (x ∷ vs) [] i v v' chair chair' seen there same = absurd (cc)
+seats_both (x ∷ vs) (seat ∷ seats) zero v v' chair chair' seen there same =
+    let one : v ≡ x = cc in
+    let two : chair ≡ seat = cc in
+    ap (λ y. y ∷ seats_seen vs seats) (same ∙ ap (λ u. seat_seen u chair) one ∙ ap (seat_seen x) two)
+seats_both (x ∷ vs) (seat ∷ seats) (suc i) v v' chair chair' seen there same = ap (λ ys. seat_seen x seat ∷ ys) (seats_both vs seats i v v' chair chair' seen there same)
+
+pub polls_both : (vs : List Visible) (seats : List Chair) (i : ℕ) (v v' : Visible) (chair chair' : Chair) → slice_get vs i ≡ Some v → slice_get seats i ≡ Some chair → v'.wakes ≡ v.wakes → chair'.raised ≡ chair.raised
+    → polls_seen (slice_set vs i v') (slice_set seats i chair') ≡ polls_seen vs seats
+polls_both [] seats i v v' chair chair' seen there wakes raised = absurd (cc)
+polls_both (x ∷ vs) [] i v v' chair chair' seen there wakes raised = absurd (cc)
+polls_both (x ∷ vs) (seat ∷ seats) zero v v' chair chair' seen there wakes raised =
+    let one : v ≡ x = cc in
+    let two : chair ≡ seat = cc in
+    ap (λ y. y ∷ polls_seen vs seats) (rw (wakes, raised, one, two) refl)
+polls_both (x ∷ vs) (seat ∷ seats) (suc i) v v' chair chair' seen there wakes raised = ap (λ ys. raised_times seat.raised x.wakes ∷ ys) (polls_both vs seats i v v' chair chair' seen there wakes raised)
+
+-- what an inbox has is about what its worker has
+
+mine_of : (workers i : ℕ) (x : Subject) (rs : List Record) (zs : List SleeperRecord) → IsOf workers i x (map thing_of rs) (map nap_of zs) → IsMineIn workers i x rs zs
+mine_of workers i (Subject.Request k) rs zs of =
+    let r = unmapped thing_of rs k of.0 of.1 in
+    (r.0, r.1, ap (λ y. y.worker) r.2 ∙ of.2, of.3)
+mine_of workers i (Subject.Timer n) rs zs of =
+    let z = unmapped nap_of zs n of.0 of.1 in
+    (z.0, z.1, ap (λ y. y.worker) z.2 ∙ of.2, of.3)
+
+pub my_mail : (workers i : ℕ) (m : Mail) (rs : List Record) (zs : List SleeperRecord) → IsAbout workers i m (map thing_of rs) (map nap_of zs) → IsMyMail workers i m rs zs
+my_mail workers i Message.WakeRoot rs zs about = tt
+my_mail workers i (Message.Forward x) rs zs about = mine_of workers i x rs zs about
+my_mail workers i (Message.Cancel x) rs zs about = mine_of workers i x rs zs about
+
+-- what a place of the mail, or the callbacks after it, says as the mail does
+pub record LeadsOn (n : ℕ) (q q' : Place) : Type 0 where
+  pub turn : IsTurn n q q'
+  pub claims : claims_at q' ≡ claims_at q
+  pub counts : has_count_at q' ≡ has_count_at q
+  pub published : is_published_at q' ≡ is_published_at q
+  pub drops : drops_at q' ≡ drops_at q
+
+-- as much is told there, less what was kept for messages
+pub told_past : (w : Worker) (n m : ℕ) → m ≤ n → IsTold w.names.ended.items w.home.deferred (tellers (driver_of w).requests w.home.timers + n) → IsTold w.names.ended.items w.home.deferred (tellers (driver_of w).requests w.home.timers + m)
+told_past w n m few told = places_fewer (omega (arith, few)) told
+
+module _ {B : Type 0} where
+  -- the inbox of worker j became this
+  pub inbox_shows : (vs : Views) (j : ℕ) (v : Visible) (s s' : Shared B) (chair chair' : Chair) (mine : Visible) → slice_get vs.workers j ≡ Some mine → slice_get s.seats.items j ≡ Some chair → s' ≡ record s { seats = s'.seats } → s'.seats.items ≡ slice_set s.seats.items j chair'
+      → chair'.queue ≡ chair.queue → chair'.mailbox.waker ≡ chair.mailbox.waker → chair'.raised ≡ chair.raised → v.wakes ≡ mine.wakes → things_with (with_view vs j v) s' ≡ set_inbox j (things_with vs s) (inbox_at chair')
+  inbox_shows vs j v s s' chair chair' mine seen there kept set queue word raised wakes =
+      ap (λ (z : Shared B). things_with (with_view vs j v) z) kept
+      ∙ ap (λ (cs : List Chair). record (things_with (with_view vs j v) s) { queues = map queue_at cs; words = map word_at cs; inboxes = map inbox_at cs; wake_polls = polls_seen (slice_set vs.workers j v) cs }) set
+      ∙ rw (map_kept queue_at s.seats.items j chair' chair there (rw queue refl), map_kept word_at s.seats.items j chair' chair there word, map_set inbox_at s.seats.items j chair', polls_both vs.workers s.seats.items j mine v chair chair' seen there wakes raised) refl
+
+  pub own_inbox_seen : (j : ℕ) (s : Shared B) (chair : Chair) → slice_get s.seats.items j ≡ Some chair → inbox_of (things_of s) j ≡ inbox_at chair
+  own_inbox_seen j s chair there = get_or_from_slice_get (map inbox_at s.seats.items) j (inbox_at chair) [] (slice_get-map inbox_at s.seats.items j ∙ ap (option_map inbox_at) there)
+
+  -- WHAT HOLDS of a worker without mail
+  to_take : (w : Worker) (s : Shared B) → SoundAt (Place.Mail InMail.LoadMailWord) w s → Fares (Place.Mail InMail.LoadMailWord) (Place.Mail InMail.TakeMail) (stance w) w s
+  to_take w s sound =
+      record {
+        same = refl;
+        searches = tt;
+        counts = refl;
+        published = refl;
+        queue = sound.queue;
+        aims = tt;
+        batch = sound.batch;
+        quiet = λ h. true_false h;
+        left = tt;
+        told = sound.told;
+        letters = sound.letters;
+        lets_go = sound.lets_go;
+        phased = sound.phased;
+      }
+
+  to_back : (w : Worker) (s : Shared B) → SoundAt (Place.Mail InMail.LoadMailWord) w s → Fares (Place.Mail InMail.LoadMailWord) to_callbacks (stance w) w s
+  to_back w s sound =
+      record {
+        same = refl;
+        searches = tt;
+        counts = refl;
+        published = refl;
+        queue = sound.queue;
+        aims = tt;
+        batch = λ h. sound.batch;
+        quiet = λ h. true_false h;
+        left = tt;
+        told = told_past w 64 0 (omega arith) sound.told;
+        letters = sound.letters;
+        lets_go = sound.lets_go;
+        phased = sound.phased;
+      }
+
+  -- with the batch that it took
+  sound_taken : (w : Worker) (s s' : Shared B) (batch : Reserved Mail) (n : ℕ) (seat' : Chair) → (sound : SoundAt (Place.Mail InMail.TakeMail) w s) → s'.seats.items ≡ slice_set s.seats.items w.index seat' → IsMailbox seat'.mailbox → seat'.mailbox.waker ≡ sound.seated.seat.mailbox.waker → seat'.pool ≡ sound.seated.seat.pool
+      → seat'.queue ≡ sound.seated.seat.queue → seat'.made ≡ sound.seated.seat.made → seat'.mailbox.inbox.closed ≡ sound.seated.seat.mailbox.inbox.closed → stage_of seat' s ≡ stage_of sound.seated.seat s
+      → n < 2 ^ 29 → 0 < length batch.values → 2 * sound.seated.seat.made + 1 ≤ batch.places → ((m : Mail) → Contains batch.values m → IsMyMail s.config.workers w.index m s.requests.items s.sleepers.items)
+      → SoundAt (Place.Mail (InMail.Apply 0 true)) (record w { place = Place.Mail (InMail.Apply 0 true); batch = batch; processed = n }) (record s { seats = s'.seats })
+  sound_taken w s s' batch n seat' sound items mail waker pool queue made closed stage few some places mine =
+      let seat = sound.seated.seat in
+      let there = sound.seated.there in
+      let q' : Place = Place.Mail (InMail.Apply 0 true) in
+      let w1 : Worker = record w { place = q'; batch = batch; processed = n } in
+      let s1 : Shared B = record s { seats = s'.seats } in
+      let found : slice_get s'.seats.items w.index ≡ Some seat' = ap (λ xs. slice_get xs w.index) items ∙ set_there s.seats.items w.index seat' seat there in
+      let is : (chair : Chair) → slice_get s'.seats.items w.index ≡ Some chair → seat' ≡ chair = λ chair at. same_thing seat' chair (sym found ∙ at) in
+      let many : length s'.seats.items ≡ length s.seats.items = ap length items ∙ length-set s.seats.items w.index seat' in
+      let seated1 : IsSeated w.index false s.config.workers s'.seats.items = record { many = as_long many sound.seated.many; pool = pool ∙ sound.seated.pool; seat = seat'; there = found; unarmed = λ h. ap (λ (x : PureWord). x.target) waker ∙ sound.seated.unarmed h; mail = mail } in
+      record {
+        here = refl;
+        config = sound.config;
+        gates = sound.gates;
+        known = sound.known;
+        workers = sound.workers;
+        role = sound.role;
+        pooled = sound.pooled;
+        serves = sound.serves;
+        calm = sound.calm;
+        homes = rw many sound.homes;
+        shards = sound.shards;
+        time = sound.time;
+        told = sound.told;
+        wide = sound.wide;
+        named = sound.named;
+        runnable = sound.runnable;
+        seated = seated1;
+        queue = λ chair at. subst (λ (c : Chair). c.queue.held ≡ []) (is chair at) (ap (λ q. q.held) queue ∙ sound.queue seat there);
+        sized = sound.sized;
+        processed = few;
+        hand = sound.hand;
+        loot = sound.loot;
+        genuine = sound.genuine;
+        stolen = sound.stolen;
+        searching = sound.searching;
+        aims = omega arith;
+        guest = sound.guest;
+        resting = sound.resting;
+        left = sound.left;
+        over = sound.over;
+        batch = some;
+        mine = mine;
+        batch_place = λ chair at open_box. subst (λ (c : Chair). 2 * c.made + 1 ≤ batch.places) (is chair at) (subst (λ k. 2 * k + 1 ≤ batch.places) (sym made) places);
+        letters = sound.letters;
+        quiet = λ h. true_false h;
+        due = sound.due;
+        flown = sound.flown;
+        carried = sound.carried;
+        rooted = sound.rooted;
+        stops = sound.stops;
+        hears = sound.hears;
+        lets_go = sound.lets_go;
+        phased = λ chair at.
+            subst (λ c. IsPhased w.index false None w.home.closing w.root w.names.unreleased (stage_of c s) s.tasks.items) (is chair at)
+            (subst (λ st. IsPhased w.index false None w.home.closing w.root w.names.unreleased st s.tasks.items) (sym stage) (sound.phased seat there));
+        tied = sound.tied;
+      }
+
+  -- or with none
+  sound_none : (w : Worker) (s s' : Shared B) → SoundAt (Place.Mail InMail.TakeMail) w s → s'.seats.items ≡ s.seats.items → SoundAt to_callbacks (record w { place = to_callbacks }) (record s { seats = s'.seats })
+  sound_none w s s' sound same =
+      record {
+        here = refl;
+        config = sound.config;
+        gates = sound.gates;
+        known = sound.known;
+        workers = sound.workers;
+        role = sound.role;
+        pooled = sound.pooled;
+        serves = sound.serves;
+        calm = sound.calm;
+        homes = rw same sound.homes;
+        shards = sound.shards;
+        time = sound.time;
+        told = told_past w 64 0 (omega arith) sound.told;
+        wide = sound.wide;
+        named = sound.named;
+        runnable = sound.runnable;
+        seated = rw same sound.seated;
+        queue = rw same sound.queue;
+        sized = sound.sized;
+        processed = sound.processed;
+        hand = sound.hand;
+        loot = sound.loot;
+        genuine = sound.genuine;
+        stolen = sound.stolen;
+        searching = sound.searching;
+        aims = tt;
+        guest = sound.guest;
+        resting = sound.resting;
+        left = tt;
+        over = sound.over;
+        batch = λ h. sound.batch;
+        mine = sound.mine;
+        batch_place = rw same sound.batch_place;
+        letters = sound.letters;
+        quiet = λ h. true_false h;
+        due = sound.due;
+        flown = sound.flown;
+        carried = sound.carried;
+        rooted = sound.rooted;
+        stops = sound.stops;
+        hears = sound.hears;
+        lets_go = sound.lets_go;
+        phased = rw same sound.phased;
+        tied = sound.tied;
+      }
+
+module _ {B L : Type 0} (left : B → L) (spot : L → Option Said → Spot) where
+  -- THE WAKE WORD
+
+  pub word_loaded : (w w' : Worker) (s : Shared B) (e : Event) → SoundAt (Place.Mail InMail.LoadMailWord) w s → Makes (load_mail_word (desk_of w) (word_of (things_of s) w.index)) e w' → Goes w w' → Steps left spot w s e w' s
+  word_loaded w w' s e sound makes goes = by (has_mail (desk_of w) word) refl
+    where
+      q : Place
+      q = Place.Mail InMail.LoadMailWord
+
+      word : PureWord
+      word = word_of (things_of s) w.index
+
+      leads : (q' : Place) → LeadsOn w.workers q q' → Fares q q' (stance w) w s → load_mail_word (desk_of w) word ≡ turns q' (desk_of w) word → Steps left spot w s e w' s
+      leads q' on to how =
+          let w1 : Worker = record w { place = q' } in
+          let goes1 : w' ≡ w1 = goes ∙ ap (λ y. record w { place = y }) (ap (λ d. d.place) makes.desk ∙ ap (λ m. m.desk.place) how) in
+          let holds : Holds w w1 = record { root_ready = refl; hand = refl; loot = refl } in
+          let alike : SameProfile w w1 = record {
+            hand = refl;
+            loot = refl;
+            polls = on.turn.polls ∙ sym (ap polls_at sound.here);
+            claims = on.claims ∙ sym (ap claims_at sound.here);
+            searching = refl;
+            counts = on.counts ∙ sym (ap has_count_at sound.here);
+            index = refl;
+            published = on.published ∙ sym (ap is_published_at sound.here);
+            drops = on.drops ∙ sym (ap drops_at sound.here);
+            told = record { batch = refl; letters = refl; left = refl };
+          } in
+          subst (λ v. Steps left spot w s e v s) (sym goes1)
+          (turned left spot q w w1 s s e sound (makes.event ∙ ap (λ m. m.event) how) (record { same = refl; read = sound.time.read; asleep = sound.time.asleep }) refl refl (λ vs. refl) on.turn
+          (settled q q' (stance w) w w1 s s sound refl holds refl sound.calm to)
+          (beside_calm w w1 s s alike refl (seats_same w.index s.seats.items s.seats.items refl) (gates_same s.seats.items s.seats.items refl) refl refl refl refl)
+          (λ p vs suits. ap (λ m. with_word w.index (things_with vs s) m) how ∙ ap (λ x. record { event = Turn; choice = Plain; desk = desk_of w1; thing = x }) (word_back_again w.index (things_with vs s))))
+
+      chosen : Bool → Moved PureWord
+      chosen b = if b then turns (Place.Mail InMail.TakeMail) (desk_of w) word else turns to_callbacks (desk_of w) word
+
+      by : (b : Bool) → has_mail (desk_of w) word ≡ b → Steps left spot w s e w' s
+      by true is =
+          leads (Place.Mail InMail.TakeMail) (record { turn = record { polls = refl; free = refl; free_then = refl; unserved = refl; owes = refl }; claims = refl; counts = refl; published = refl; drops = refl })
+          (to_take w s sound) (ap chosen is)
+      by false is =
+          leads to_callbacks (record { turn = record { polls = refl; free = refl; free_then = refl; unserved = refl; owes = refl }; claims = refl; counts = refl; published = refl; drops = refl })
+          (to_back w s sound) (ap chosen is)
+
+  -- THE MESSAGES THAT ARE THERE, as one batch
+
+  handed : (q' : Place) (batch : Reserved Mail) (processed : ℕ) (seat' : Chair) (w : Worker) (s s' : Shared B) (sound : SoundAt (Place.Mail InMail.TakeMail) w s)
+      → LeadsOn w.workers (Place.Mail InMail.TakeMail) q'
+      → map message_of batch.values ++ map message_of seat'.mailbox.inbox.messages ≡ map message_of w.batch.values ++ map message_of sound.seated.seat.mailbox.inbox.messages
+      → seat' ≡ record sound.seated.seat { mailbox = record sound.seated.seat.mailbox { inbox = seat'.mailbox.inbox } } → seat'.mailbox.inbox.closed ≡ sound.seated.seat.mailbox.inbox.closed → seat'.mailbox.inbox.messages ≡ [] → IsMailbox seat'.mailbox
+      → s'.seats.items ≡ slice_set s.seats.items w.index seat' → s' ≡ record s { seats = s'.seats }
+      → take_mail (desk_of w) (inbox_of (things_of s) w.index) ≡ turns q' (record (desk_of w) { batch = map message_of batch.values; processed = processed }) []
+      → SoundAt q' (record w { place = q'; batch = batch; processed = processed }) (record s { seats = s'.seats })
+      → ((others : Profile) → IsWhole (with_worker others w) s → HoldsIn (with_worker others (record w { batch = batch })) s s'.seats.items)
+      → Steps left spot w s Turn (record w { place = q'; batch = batch; processed = processed }) s'
+  handed q' batch processed seat' w s s' sound on over shape closed none mail items kept how holds holding =
+      let q : Place = Place.Mail InMail.TakeMail in
+      let seat = sound.seated.seat in
+      let there = sound.seated.there in
+      let w1 : Worker = record w { place = q'; batch = batch; processed = processed } in
+      let shares : Shares s s' = subst (λ (z : Shared B). z ≡ record s { seats = z.seats; idle = z.idle; global = z.global }) (sym kept) refl in
+      let queue : seat'.queue ≡ seat.queue = ap (λ (c : Chair). c.queue) shape in
+      let seats : SparesSeats w.index s.seats.items s'.seats.items = seats_own w.index s.seats.items s'.seats.items seat seat' items there (rw queue (omega arith)) in
+      let profile : SameProfile (record w { batch = batch }) w1 = record {
+        hand = refl;
+        loot = refl;
+        polls = on.turn.polls ∙ sym (ap polls_at sound.here);
+        claims = on.claims ∙ sym (ap claims_at sound.here);
+        searching = refl;
+        counts = on.counts ∙ sym (ap has_count_at sound.here);
+        index = refl;
+        published = on.published ∙ sym (ap is_published_at sound.here);
+        drops = on.drops ∙ sym (ap drops_at sound.here);
+        told = record { batch = refl; letters = refl; left = refl };
+      } in
+      let gates = gates_set w.index s.seats.items s'.seats.items seat seat' items there (record { left = ap (λ (c : Chair). c.left) shape; pool = ap (λ (c : Chair). c.pool) shape; closed = closed; mail = λ h. mail }) in
+      let shows : seat_seen (visible w1) seat' ≡ seat_seen (visible w) seat = ap (λ (c : Chair). seat_seen (visible w1) c) shape ∙ rw (over, closed) refl in (
+        (λ p vs suits.
+            let cs = common_of left spot p vs s in
+            record {
+              choice = Plain;
+              moves =
+                  subst (λ y. move_at p.config w.index (own_of w) cs (desk_of w) (things_with vs s) y ≡ record { event = Turn; choice = Plain; desk = desk_of w1; thing = things_with (with_view vs w.index (visible w1)) s' }) (sym sound.here)
+                  (ap (λ m. with_inbox w.index (things_with vs s) m) how
+                  ∙ ap (λ x. record { event = Turn; choice = Plain; desk = desk_of w1; thing = x })
+                  (ap (λ ms. set_inbox w.index (things_with vs s) ms) (sym (ap (λ ms. map message_of ms) none))
+                  ∙ sym (inbox_shows vs w.index (visible w1) s s' seat seat' (visible w) suits.seen there kept items queue (ap (λ (c : Chair). c.mailbox.waker) shape) (ap (λ (c : Chair). c.raised) shape) refl)));
+              may = tt;
+              own = rw (sound.here, on.turn.polls, on.turn.free_then, on.turn.unserved, on.turn.owes) refl;
+              common =
+                  ap (λ (z : Shared B). common_of left spot p (with_view vs w.index (visible w1)) z) kept
+                  ∙ ap (λ seen. record cs { seats = seen }) (ap (seats_seen (slice_set vs.workers w.index (visible w1))) items ∙ seats_both vs.workers s.seats.items w.index (visible w) (visible w1) seat seat' suits.seen there shows)
+                  ∙ rw (sound.here) refl;
+            }),
+        subst (λ z. SoundAt q' w1 z) (sym kept) holds,
+        unheard refl (ap (λ (z : Shared B). z.config) kept) (ap (λ (z : Shared B). z.tasks.items) kept),
+        beside_moved batch w.letters w w1 s s' profile shares seats gates (ap (λ xs. map queue_of_chair xs) items ∙ queues_set s.seats.items w.index seat seat' there queue) holding (ap (λ (z : Shared B). z.idle) kept) (ap (λ (z : Shared B). z.global) kept),
+      )
+
+  pub mail_taken : (w w' : Worker) (s s' : Shared B) (e : Event) → SoundAt (Place.Mail InMail.TakeMail) w s → HasWhole w s → Makes (take_mail (desk_of w) (inbox_of (things_of s) w.index)) e w' → w' ≡ record w { place = w'.place; batch = w'.batch; processed = w'.processed }
+      → OfChair w.index s (λ chair. w'.batch ≡ batch_handed chair.mailbox.inbox w.batch) → TurnsChair w.index (λ chair. record chair { mailbox = record chair.mailbox { inbox = batch_taken chair.mailbox.inbox w.batch } }) s s' → s' ≡ record s { seats = s'.seats }
+      → Steps left spot w s e w' s'
+  mail_taken w w' s s' e sound has makes same batch turns_chair kept = by_list inbox.messages nothing some
+    where
+      seat : Chair
+      seat = sound.seated.seat
+
+      there : slice_get s.seats.items w.index ≡ Some seat
+      there = sound.seated.there
+
+      inbox : Inbox Subject Subject
+      inbox = seat.mailbox.inbox
+
+      seen : inbox_of (things_of s) w.index ≡ map message_of inbox.messages
+      seen = own_inbox_seen w.index s seat there
+
+      open_box : inbox.closed ≡ false
+      open_box = (sound.phased seat there).shut
+
+      places : 2 * seat.made + 1 ≤ w.batch.places
+      places = sound.batch_place seat there open_box
+
+      by_desk : (q' : Place) (new : Reserved Mail) (processed : ℕ) → w'.batch ≡ new → take_mail (desk_of w) (inbox_of (things_of s) w.index) ≡ turns q' (record (desk_of w) { batch = map message_of new.values; processed = processed }) []
+          → Steps left spot w s Turn (record w { place = q'; batch = new; processed = processed }) s' → Steps left spot w s e w' s'
+      by_desk q' new processed is how steps =
+          let desk : desk_of w' ≡ record (desk_of w) { place = q'; batch = map message_of new.values; processed = processed } = makes.desk ∙ ap (λ m. m.desk) how in
+          let worker : w' ≡ record w { place = q'; batch = new; processed = processed } = same ∙ rw (is, ap (λ d. d.place) desk, ap (λ d. d.processed) desk) refl in
+          subst (λ v. Steps left spot w s e v s') (sym worker) (subst (λ x. Steps left spot w s x (record w { place = q'; batch = new; processed = processed }) s') (sym (makes.event ∙ ap (λ m. m.event) how)) steps)
+
+      nothing : inbox.messages ≡ [] → Steps left spot w s e w' s'
+      nothing none =
+          let taken : batch_taken inbox w.batch ≡ inbox = taken_none inbox w.batch none in
+          let how : take_mail (desk_of w) (inbox_of (things_of s) w.index) ≡ turns to_callbacks (record (desk_of w) { batch = map message_of w.batch.values; processed = w.processed }) [] = ap (take_mail (desk_of w)) (seen ∙ ap (λ ms. map message_of ms) none) in
+          let items : s'.seats.items ≡ slice_set s.seats.items w.index seat = turns_chair seat there ∙ ap (λ i. slice_set s.seats.items w.index (record seat { mailbox = record seat.mailbox { inbox = i } })) taken in
+          let still : s'.seats.items ≡ s.seats.items = items ∙ set_found s.seats.items w.index seat there in
+          by_desk to_callbacks w.batch w.processed (batch seat there ∙ handed_none inbox w.batch none) how
+          (handed to_callbacks w.batch w.processed seat w s s' sound (record { turn = record { polls = refl; free = refl; free_then = refl; unserved = refl; owes = refl }; claims = refl; counts = refl; published = refl; drops = refl })
+          refl refl refl none sound.seated.mail items kept how (sound_none w s s' sound still)
+          (λ others whole. subst (λ cs. HoldsIn (with_worker others w) s cs) (sym still) whole.holding))
+
+      some : (m : Mail) (ms : List Mail) → inbox.messages ≡ m ∷ ms → Steps left spot w s e w' s'
+      some m ms is =
+          let inbox' : Inbox Subject Subject = record inbox { messages = []; places = w.batch.places; taken = next_batch inbox.taken } in
+          let seat' : Chair = record seat { mailbox = record seat.mailbox { inbox = inbox' } } in
+          let taken : batch_taken inbox w.batch ≡ inbox' = taken_some inbox w.batch m ms is in
+          let new : Reserved Mail = record { values = inbox.messages; places = inbox.places } in
+          let q' : Place = Place.Mail (InMail.Apply 0 true) in
+          let n : ℕ = next_batch w.processed in
+          let how : take_mail (desk_of w) (inbox_of (things_of s) w.index) ≡ turns q' (record (desk_of w) { batch = map message_of inbox.messages; processed = n }) [] =
+          ap (take_mail (desk_of w)) (seen ∙ ap (λ xs. map message_of xs) is) ∙ ap (λ xs. turns q' (record (desk_of w) { batch = map message_of xs; processed = n }) []) (sym is) in
+          let items : s'.seats.items ≡ slice_set s.seats.items w.index seat' = turns_chair seat there ∙ ap (λ i. slice_set s.seats.items w.index (record seat { mailbox = record seat.mailbox { inbox = i } })) taken in
+          let mail : IsMailbox seat'.mailbox = record { roots = omega arith; empty = λ h. refl; place = λ h. omega (arith, places) } in
+          let some_there : 0 < length inbox.messages = subst (λ xs. 0 < length xs) (sym is) (omega arith) in
+          let at_box = box_there s.seats.items w.index seat there in
+          let room : 2 * seat.made + 1 ≤ inbox.places = (has.whole.holding.room w.index (box_of seat) at_box).places open_box in
+          by_desk q' new n (batch seat there ∙ handed_some inbox w.batch m ms is) how
+          (handed q' new n seat' w s s' sound (record { turn = record { polls = refl; free = refl; free_then = refl; unserved = refl; owes = refl }; claims = refl; counts = refl; published = refl; drops = refl })
+          (append-nil (map message_of inbox.messages) ∙ ap (λ vs. map message_of vs ++ map message_of inbox.messages) (sym sound.batch)) refl refl refl mail items kept how
+          (sound_taken w s s' new n seat' sound items mail refl refl refl refl refl refl (below (w.processed + 1)) some_there room
+          (λ x among. my_mail s.config.workers w.index x s.requests.items s.sleepers.items (has.whole.holding.about w.index (box_of seat) x at_box among)))
+          (λ others whole.
+          let x = with_worker others w in
+          let x' = with_worker others (record w { batch = new }) in
+          subst (λ bs. IsHolding (hands_of x') s.config.workers (map holder_of s.tasks.items) (map thing_of s.requests.items) (map nap_of s.sleepers.items) bs) (sym (ap (map box_of) items ∙ map_set box_of s.seats.items w.index seat'))
+          (all_taken (hands_of x) (hands_of x') s.config.workers (map holder_of s.tasks.items) (map thing_of s.requests.items) (map nap_of s.sleepers.items) (map box_of s.seats.items) w.index (box_of seat) (box_of seat')
+          (record {
+            there = at_box;
+            none = refl;
+            same = record { shut = refl; closing = refl; places = λ h. places; made = refl };
+            wakes = refl;
+            mail = λ k.
+                let weigh : Mail → ℕ = λ other. cond (same_mail k other) 1 0 in
+                let before = sum_by-append weigh (mail_of_letters w.letters) w.batch.values in
+                let after : mail_in k (mail_of_letters w.letters ++ inbox.messages) ≡ mail_in k (mail_of_letters w.letters) + mail_in k inbox.messages = sum_by-append weigh (mail_of_letters w.letters) inbox.messages in
+                let gone : mail_in k w.batch.values ≡ 0 = ap (mail_in k) sound.batch in
+                omega (arith, before, after, gone);
+          })
+          whole.holding)))

@@ -1,0 +1,173 @@
+-- A record that is marked, as released or as one that has paid: what is named by it stays.
+use Rattle.std.{proofs.{Common.{◌≡◌, ℕ, ◌<◌, ◌==◌, Bool, true, false, List, [], ◌∷◌, length, Option, Some, None, IsSome, refl, sym, ap, subst, ◌∙◌, slice_get, slice_set, if◌then◌else◌}, lemmas.List.length-set}, specs.Option.option_map}
+use Rattle.exec_base.specs.{Slab.{Slab, value_at}, declared.slab.Id.Id}
+use Rattle.exec_time.specs.declared.timers.Sleeper.{Sleeper as Sleeping}
+use Rattle.exec_ring.specs.Rings.{RingState}
+use Rattle.exec_waiters.specs.States.{waiter_at}
+use Rattle.exec_driver.specs.Driving.{Driving}
+use Rattle.exec_machine.specs.{declared.config.Configuration.Configuration, Tests.{is_asleep, is_resolved, is_staged}}
+use Rattle.exec_moves.specs.declared.place.InService.{InService}
+use Rattle.exec_parts.{specs.{declared.parts.{mail.Reply.Reply, names.Names.Names, record.Record.Record, sleeping.SleeperRecord.SleeperRecord, worker.Moments.Moments}, Calls.{as_sent, paying, releasing, sleeper_paying}, Records.number_in, Serving.{AreKnown, changed_in, changed_at, is_one_of}}, proofs.{Facts.{same_thing, same_number}, Flying.{get_set, get_changed}}}
+use Rattle.exec_invariants.{specs.{Flown.IsPlain, Sound.{IsNamed, IsAlike, IsSubmitted}, Due.{IsDue, IsTimed, AreTimed, AreAsleep, IsAsleepAs}}, proofs.FiringNames.naps_set}
+
+-- A mark changes only what was paid and released, and that its end was sent elsewhere.
+abbrev pub Marks : (Record → Record) → Type 0
+Marks f = (r : Record) → f r ≡ record r { shown = record r.shown { wakes_paid = (f r).shown.wakes_paid; released = (f r).shown.released }; sent = (f r).sent }
+
+pub pays : Marks paying
+pays r = refl
+
+pub releases : Marks releasing
+releases r = refl
+
+pub sends : Marks as_sent
+sends r = refl
+
+-- where a test says so
+abbrev pub mark_if : (Record → Record) → Bool → Record → Record
+mark_if f true r = f r
+mark_if f false r = r
+
+-- what f keeps of each record it keeps where a test says so
+pub mark_kept : (A : Type 0) (part : Record → A) (f : Record → Record) → ((r : Record) → part (f r) ≡ part r) → (b : Bool) (r : Record) → part (mark_if f b r) ≡ part r
+mark_kept A part f keeps true r = keeps r
+mark_kept A part f keeps false r = refl
+
+pub marks_if : (f : Record → Record) → Marks f → (b : Bool) → Marks (mark_if f b)
+marks_if f marks true r = marks r
+marks_if f marks false r = refl
+
+module _ (f : Record → Record) (rs : List Record) (q : ℕ) where
+  marked_by : (b : Bool) (o : Option Record) → (if b then option_map f o else o) ≡ option_map (mark_if f b) o
+  marked_by true None = refl
+  marked_by true (Some r) = refl
+  marked_by false None = refl
+  marked_by false (Some r) = refl
+
+  pub get_marked : (k : ℕ) → slice_get (changed_at rs q f) k ≡ option_map (mark_if f (q == k)) (slice_get rs k)
+  get_marked k = get_changed rs q k f ∙ marked_by (q == k) (slice_get rs k)
+
+  pub marked : (k : ℕ) (r : Record) → slice_get rs k ≡ Some r → slice_get (changed_at rs q f) k ≡ Some (mark_if f (q == k) r)
+  marked k r there = get_marked k ∙ ap (option_map (mark_if f (q == k))) there
+
+  pub was_marked : (k : ℕ) (x : Record) → slice_get (changed_at rs q f) k ≡ Some x → (r : Record) × (slice_get rs k ≡ Some r) × (x ≡ mark_if f (q == k) r)
+  was_marked k x there = from (slice_get rs k) refl
+    where
+      from : (o : Option Record) → slice_get rs k ≡ o → (r : Record) × (slice_get rs k ≡ Some r) × (x ≡ mark_if f (q == k) r)
+      from None none =
+          let no : option_map (mark_if f (q == k)) None ≡ Some x = ap (option_map (mark_if f (q == k))) (sym none) ∙ sym (get_marked k) ∙ there in
+          absurd (cc)
+      from (Some r) found =
+          let yes : Some (mark_if f (q == k) r) ≡ Some x = ap (option_map (mark_if f (q == k))) (sym found) ∙ sym (get_marked k) ∙ there in
+          (r, found, cc)
+
+  pub marked_length : length (changed_at rs q f) ≡ length rs
+  marked_length =
+      elim (slice_get rs q) as (λ o. length (changed_in rs q f o) ≡ length rs) [ None ↦ refl | Some r ↦ length-set rs q (f r) ]
+
+  pub known_then : (ks : List ℕ) → AreKnown ks rs → AreKnown ks (changed_at rs q f)
+  known_then [] known = tt
+  known_then (k ∷ ks) known = (rw marked_length known.0, known_then ks known.1)
+
+  -- what is plain stays so
+  pub plain_kept : ((r : Record) → IsPlain r.shown → IsPlain (f r).shown) → (i : ℕ) → ((r : Record) → (f r).shown.worker ≡ r.shown.worker)
+      → ((k : ℕ) (r : Record) → slice_get rs k ≡ Some r → r.shown.worker ≡ i → IsPlain r.shown)
+      → (k : ℕ) (x : Record) → slice_get (changed_at rs q f) k ≡ Some x → x.shown.worker ≡ i → IsPlain x.shown
+  plain_kept keeps i same plain k x there mine =
+      let old = was_marked k x there in
+      subst (λ y. IsPlain y.shown) (sym old.2) (by (q == k) old.0 (plain k old.0 old.1 (sym (worker_same (q == k) old.0) ∙ sym (ap (λ y. y.shown.worker) old.2) ∙ mine)))
+    where
+      worker_same : (b : Bool) (r : Record) → (mark_if f b r).shown.worker ≡ r.shown.worker
+      worker_same true r = same r
+      worker_same false r = refl
+
+      by : (b : Bool) (r : Record) → IsPlain r.shown → IsPlain (mark_if f b r).shown
+      by true r p = keeps r p
+      by false r p = p
+
+  module _ (marks : Marks f) where
+    -- what stood there, and how it is marked
+    pub before : (k : ℕ) (x : Record) → slice_get (changed_at rs q f) k ≡ Some x
+        → (r : Record) × (slice_get rs k ≡ Some r) × (x ≡ record r { shown = record r.shown { wakes_paid = x.shown.wakes_paid; released = x.shown.released }; sent = x.sent })
+    before k x there =
+        let old = was_marked k x there in
+        (old.0, old.1, subst (λ y. y ≡ record old.0 { shown = record old.0.shown { wakes_paid = y.shown.wakes_paid; released = y.shown.released }; sent = y.sent }) (sym old.2) (marks_if f marks (q == k) old.0))
+
+    pub submitted_marked : (i : ℕ) (staged untold : List ℕ) (ring : RingState) → IsSubmitted i staged untold ring rs → IsSubmitted i staged untold ring (changed_at rs q f)
+    submitted_marked i staged untold ring sub =
+        let known = known_then staged sub.known in
+        let own : (k : ℕ) (x : Record) → is_one_of k staged ≡ true → slice_get (changed_at rs q f) k ≡ Some x → x.shown.worker ≡ i = λ k x h there.
+        let old = before k x there in
+        ap (λ y. y.shown.worker) old.2 ∙ sub.own k old.0 h old.1 in
+        let all : (k : ℕ) (x : Record) → slice_get (changed_at rs q f) k ≡ Some x → x.shown.worker ≡ i → is_staged x.shown.phase ≡ true → is_one_of k staged ≡ true = λ k x there mine is.
+        let old = before k x there in
+        sub.all k old.0 old.1 (sym (ap (λ y. y.shown.worker) old.2) ∙ mine) (sym (ap (λ y. is_staged y.shown.phase) old.2) ∙ is) in
+        assumption (known, own, all, sub)
+
+    -- all is named as before
+    pub named_marked : (i : ℕ) (n : Names) (d : Driving Reply Reply) (zs : Slab (Sleeping Reply)) (sleepers : List SleeperRecord) → IsNamed i n d zs rs sleepers → IsNamed i n d zs (changed_at rs q f) sleepers
+    named_marked i n d zs sleepers named =
+        record {
+          requests = λ id there.
+              let old = named.requests id there in
+              let k = number_in n.requests.items id in
+              let is = marks_if f marks (q == k) old.0 in
+              (mark_if f (q == k) old.0, marked k old.0 old.1, ap (λ y. y.id.0) is ∙ old.2, ap (λ y. y.shown.worker) is ∙ old.3);
+          timers = named.timers;
+          alike = λ id it x at_driver there.
+              let old = before (number_in n.requests.items id) x there in
+              let a = named.alike id it old.0 at_driver old.1 in
+              subst (λ y. IsAlike d.wheel.start d.wheel.tick it y.shown) (sym old.2) (assumption a);
+          over = λ k x there mine gone.
+              let old = before k x there in
+              ap (λ y. is_resolved y.shown.phase) old.2
+              ∙ named.over k old.0 old.1 (sym (ap (λ y. y.shown.worker) old.2) ∙ mine) (subst (λ y. waiter_at d.requests y.0 ≡ None) (ap (λ y. y.id) old.2) gone);
+          submitted = submitted_marked i n.staged.items n.untold.items d.ring named.submitted;
+          slots = named.slots;
+          beds = named.beds;
+        }
+
+    -- what is due is so still, whatever has ended
+    pub due_marked : {closing : Bool} (x : Option InService) (i : ℕ) (m : Moments) (c : Configuration) (n m' : Names) (d : Driving Reply Reply) (zs : Slab (Sleeping Reply)) (sleepers : List SleeperRecord)
+        → IsDue x closing i m c n d zs rs sleepers → IsDue x closing i m c (record n { ended = m'.ended; unreleased = m'.unreleased }) d zs (changed_at rs q f) sleepers
+    due_marked x i m c n m' d zs sleepers due =
+        let timed : AreTimed i (record n { ended = m'.ended; unreleased = m'.unreleased }) (changed_at rs q f) = λ k x there mine.
+        let old = before k x there in
+        subst (IsTimed (record n { ended = m'.ended; unreleased = m'.unreleased }) k) (sym old.2) (assumption (due.timed k old.0 old.1 (sym (ap (λ y. y.shown.worker) old.2) ∙ mine))) in
+        assumption (timed, due)
+
+-- A SLEEPER THAT PAYS
+
+module _ (ss : List SleeperRecord) (n : ℕ) (z : SleeperRecord) (there : slice_get ss n ≡ Some z) where
+  -- what stands there then is the same, but for what it paid
+  pub slept_before : (k : ℕ) (y : SleeperRecord) → slice_get (slice_set ss n (sleeper_paying z)) k ≡ Some y → (v : SleeperRecord) × (slice_get ss k ≡ Some v) × (y ≡ record v { shown = record v.shown { wakes_paid = y.shown.wakes_paid } })
+  slept_before k y found = split (n == k) refl
+    where
+      now : slice_get (slice_set ss n (sleeper_paying z)) k ≡ (if n == k then Some (sleeper_paying z) else slice_get ss k)
+      now = get_set ss n k (sleeper_paying z) z there
+
+      split : (b : Bool) → (n == k) ≡ b → (v : SleeperRecord) × (slice_get ss k ≡ Some v) × (y ≡ record v { shown = record v.shown { wakes_paid = y.shown.wakes_paid } })
+      split true is =
+          let same : y ≡ sleeper_paying z = same_thing y (sleeper_paying z) (sym found ∙ now ∙ ap (λ b. if b then Some (sleeper_paying z) else slice_get ss k) is) in
+          (z, ap (slice_get ss) (sym (same_number n k is)) ∙ there, subst (λ v. v ≡ record z { shown = record z.shown { wakes_paid = v.shown.wakes_paid } }) (sym same) refl)
+      split false is = (y, sym (ap (λ b. if b then Some (sleeper_paying z) else slice_get ss k) is) ∙ sym now ∙ found, refl)
+
+-- A sleeper that pays sleeps on, or doesn't.
+pub due_paid : {closing : Bool} (ss : List SleeperRecord) (k : ℕ) (z : SleeperRecord) → slice_get ss k ≡ Some z → (x : Option InService) (i : ℕ) (m : Moments) (c : Configuration) (n : Names) (d : Driving Reply Reply) (zs : Slab (Sleeping Reply)) (rs : List Record)
+    → IsDue x closing i m c n d zs rs ss → IsDue x closing i m c n d zs rs (slice_set ss k (sleeper_paying z))
+due_paid {closing} ss k z there x i m c n d zs rs due =
+    let alike : (id : Id) (it : Sleeping Reply) (y : SleeperRecord) → value_at zs id ≡ Some it → slice_get (slice_set ss k (sleeper_paying z)) (number_in n.timers.items id) ≡ Some y → IsAsleepAs i it y = λ id it y live found.
+    let v = slept_before ss k z there (number_in n.timers.items id) y found in
+    let old = due.asleep.alike id it v.0 live v.1 in
+    subst (λ u. IsAsleepAs i it u) (sym v.2) (assumption old) in
+    let live : (j : ℕ) (y : SleeperRecord) → slice_get (slice_set ss k (sleeper_paying z)) j ≡ Some y → is_asleep i y.shown ≡ true → y.closed ≡ false → IsSome (value_at zs y.id.0) = λ j y found asleep unclosed.
+    let v = slept_before ss k z there j y found in
+    subst (λ u. IsSome (value_at zs u.id.0)) (sym v.2) (due.asleep.there j v.0 v.1 (sym (ap (λ u. is_asleep i u.shown) v.2) ∙ asleep) (sym (ap (λ u. u.closed) v.2) ∙ unclosed)) in
+    let named : (j : ℕ) (y : SleeperRecord) → slice_get (slice_set ss k (sleeper_paying z)) j ≡ Some y → is_asleep i y.shown ≡ true → y.closed ≡ false → number_in n.timers.items y.id.0 ≡ j = λ j y found asleep unclosed.
+    let v = slept_before ss k z there j y found in
+    ap (λ u. number_in n.timers.items u.id.0) v.2 ∙ due.asleep.named j v.0 v.1 (sym (ap (λ u. is_asleep i u.shown) v.2) ∙ asleep) (sym (ap (λ u. u.closed) v.2) ∙ unclosed) in
+    let lets_go : (j : ℕ) (y : SleeperRecord) → slice_get (slice_set ss k (sleeper_paying z)) j ≡ Some y → y.shown.worker ≡ i → y.closed ≡ true → closing ≡ true = λ j y found mine closed.
+    let v = slept_before ss k z there j y found in
+    due.asleep.lets_go j v.0 v.1 (sym (ap (λ u. u.shown.worker) v.2) ∙ mine) (sym (ap (λ u. u.closed) v.2) ∙ closed) in
+    let asleep : AreAsleep closing i n zs (slice_set ss k (sleeper_paying z)) = record { alike = alike; there = live; named = named; lets_go = lets_go; counted = λ id past. subst (λ m. id.generation < m) (sym (length-set ss k (sleeper_paying z))) (due.asleep.counted id past); names = naps_set i zs zs ss k z (sleeper_paying z) there refl refl (λ id past. past) due.asleep.names } in
+    assumption (asleep, due)

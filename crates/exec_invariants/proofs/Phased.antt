@@ -1,0 +1,43 @@
+-- How far a worker has come, where something of what that speaks of changes.
+use Rattle.std.proofs.{Common.{◌≡◌, ℕ, ◌<◌, Bool, true, false, List, Option, Some, None, refl, sym, ap, ◌∙◌, slice_get, slice_set}, lemmas.Bool.false≢true}
+use Rattle.exec_machine.specs.{declared.state.WorkerPhase.WorkerPhase, Tests.{is_open, has_ended}}
+use Rattle.exec_moves.specs.declared.place.InClosing.{InClosing}
+use Rattle.exec_parts.{specs.{declared.parts.task_slot.TaskSlot.TaskSlot, Phased.{IsPhased, Stage, is_complete, root_over}}, proofs.Facts.{set_there, same_thing}}
+
+not_ended : (p : WorkerPhase) → is_open p ≡ true → has_ended p ≡ false
+not_ended WorkerPhase.Open h = refl
+not_ended WorkerPhase.Closing h = absurd (false≢true h)
+not_ended WorkerPhase.Ended h = absurd (false≢true h)
+
+module _ {B : Type 0} where
+  -- the root's slot changes, and is over then or not
+  phased_by : (i : ℕ) (closes : Bool) (x : Option InClosing) (told : Bool) (t n : ℕ) (st : Stage) (tasks : List (TaskSlot B)) (slot slot' : TaskSlot B)
+      → slice_get tasks t ≡ Some slot → is_complete slot'.cell.phase ≡ root_over closes x → IsPhased i closes x told t n st tasks → IsPhased i closes x told t n st (slice_set tasks t slot')
+  phased_by i closes x told t n st tasks slot slot' there over phased =
+      let root : (other : TaskSlot B) → slice_get (slice_set tasks t slot') t ≡ Some other → is_complete other.cell.phase ≡ root_over closes x = λ other found. ap (λ o. is_complete o.cell.phase) (same_thing other slot' (sym found ∙ set_there tasks t slot' slot there)) ∙ over in
+      assumption (root, phased)
+
+  -- It is over as it was.
+  pub phased_task : (i : ℕ) (closes : Bool) (x : Option InClosing) (told : Bool) (t n : ℕ) (st : Stage) (tasks : List (TaskSlot B)) (slot slot' : TaskSlot B)
+      → slice_get tasks t ≡ Some slot → is_complete slot'.cell.phase ≡ is_complete slot.cell.phase → IsPhased i closes x told t n st tasks → IsPhased i closes x told t n st (slice_set tasks t slot')
+  phased_task i closes x told t n st tasks slot slot' there same phased =
+      phased_by i closes x told t n st tasks slot slot' there (same ∙ phased.root slot there) phased
+
+  -- It is over by this, so the worker is about to close; any but worker zero once the pool is stopped.
+  pub phased_over : (i : ℕ) (told : Bool) (t n : ℕ) (st : Stage) (tasks : List (TaskSlot B)) (slot slot' : TaskSlot B)
+      → slice_get tasks t ≡ Some slot → is_complete slot'.cell.phase ≡ true → (0 < i → st.pool ≡ true → st.stopped ≡ true) → IsPhased i false None told t n st tasks → IsPhased i false (Some InClosing.Close) told t n st (slice_set tasks t slot')
+  phased_over i told t n st tasks slot slot' there over stopped phased =
+      let ended : has_ended st.phase ≡ true → Some InClosing.Close ≡ Some InClosing.End = λ h. absurd (false≢true (sym (not_ended st.phase phased.opened) ∙ h)) in
+      let root : (other : TaskSlot B) → slice_get (slice_set tasks t slot') t ≡ Some other → is_complete other.cell.phase ≡ true = λ other found. ap (λ o. is_complete o.cell.phase) (same_thing other slot' (sym found ∙ set_there tasks t slot' slot there)) ∙ over in
+      let by_other : 0 < i → st.pool ≡ true → true ≡ true → st.stopped ≡ true = λ some of_pool h. stopped some of_pool in
+      assumption (ended, root, by_other, phased)
+
+  -- Another number of requests is unreleased.
+  pub phased_count : (i : ℕ) (closes : Bool) (told : Bool) (t n m : ℕ) (st : Stage) (tasks : List (TaskSlot B)) → IsPhased i closes None told t n st tasks → IsPhased i closes None told t m st tasks
+  phased_count i closes told t n m st tasks phased =
+      assumption phased
+
+  -- All requests are released, so the worker is about to end.
+  pub phased_end : (i : ℕ) (told : Bool) (t n m : ℕ) (st : Stage) (tasks : List (TaskSlot B)) → m ≡ 0 → IsPhased i true None told t n st tasks → IsPhased i true (Some InClosing.End) told t m st tasks
+  phased_end i told t n m st tasks none phased =
+      assumption (none, phased)

@@ -1,0 +1,298 @@
+-- What holds of the task set and of the mailboxes of all stays, where a closing drains the set, passes the barrier and closes
+-- its mailbox.
+use Rattle.std.proofs.{Common.{◌≡◌, ◌≢◌, ◌⊎◌, ⊎_elim, inl, inr, ℕ, ◌+◌, ◌<◌, ◌≤◌, true, List, Option, Some, None, refl, sym, ap, subst, ◌∙◌, arith, slice_get, slice_set}, lemmas.Bool.false≢true}
+use Rattle.exec_task.specs.{Phases.is_polled, TaskSet.{AreAtHome, Set}}
+use Rattle.exec_parts.{specs.{declared.parts.{seat.Seat.Seat as Chair, task_slot.TaskSlot.TaskSlot}, MailPosts.IsMailbox, Phased.is_complete}, proofs.Facts.{by_number, same_thing, set_elsewhere, set_there}}
+use Rattle.exec_invariants.{specs.Drained.{Duties, HaveLeft, IsBefore, IsHeldOnce, IsOver, IsPool, has_gone, in_set}, proofs.PoolShards.in_shards}
+
+module _ {B : Type 0} where
+  -- THE SET CHANGES, and who clears: of task t as much, of any other the same
+  pub record Recounts (t : ℕ) (d d' : Duties) (tasks : List (TaskSlot B)) (set set' : Set (Unit {0})) (seats : List Chair) : Type 0 where
+    pub beside : (u : ℕ) → u ≢ t → d'.clears u + in_set u set' ≡ d.clears u + in_set u set
+    pub most : d'.clears t + in_set t set' ≤ d.clears t + in_set t set
+    pub live : (slot : TaskSlot B) → slice_get tasks t ≡ Some slot → slot.home ≡ None → IsHeldOnce slot (d.clears t + in_set t set) → IsHeldOnce slot (d'.clears t + in_set t set')
+    pub fewer : (u : ℕ) → in_set u set' ≤ in_set u set
+    pub closed : set.closed ≡ true → set'.closed ≡ true
+    pub home : AreAtHome set.shards → AreAtHome set'.shards
+    pub polls : (j : ℕ) → d'.polled_by j ≡ d.polled_by j
+    pub clears : (u : ℕ) → 0 < d'.clears u → (j : ℕ) × IsBefore j seats × ((d'.drops_by j).clears ≡ Some u) × (set'.closed ≡ true)
+    pub removes : (j u : ℕ) → (d'.drops_by j).removes ≡ Some u → (d.drops_by j).removes ≡ Some u
+    pub stands : (j u : ℕ) → (d'.drops_by j).removes ≡ Some u → (set'.closed ≡ true) ⊎ (in_set u set' ≡ in_set u set)
+
+  pub pool_recounted : (t : ℕ) (d d' : Duties) (tasks : List (TaskSlot B)) (set set' : Set (Unit {0})) (seats : List Chair) → Recounts t d d' tasks set set' seats → IsPool d tasks set seats → IsPool d' tasks set' seats
+  pool_recounted t d d' tasks set set' seats it pool =
+      record {
+        live = λ u slot there home.
+            by_number u t
+            (λ other. subst (IsHeldOnce slot) (sym (it.beside u other)) (pool.live u slot there home))
+            (λ same.
+            subst (λ m. IsHeldOnce slot (d'.clears m + in_set m set')) (sym same)
+            (it.live slot (subst (λ m. slice_get tasks m ≡ Some slot) same there) home (subst (λ m. IsHeldOnce slot (d.clears m + in_set m set)) same (pool.live u slot there home))));
+        home = it.home pool.home;
+        only = λ u some. pool.only u (more u some);
+        who_polls = λ u slot there home polled.
+            let old = pool.who_polls u slot there home polled in
+            (old.0, it.polls slot.poller ∙ old.1);
+        who_clears = it.clears;
+        clear_shut = λ u slot there home is. it.closed (pool.clear_shut u slot there home is);
+        removes = λ j u is.
+            let old = pool.removes j u (it.removes j u is) in
+            (old.0, ⊎_elim (λ shut. inl shut) (λ same. ⊎_elim (λ shut. inl (it.closed shut)) (λ one. inr (same ∙ one)) old.1) (it.stands j u is));
+        alone = λ i j u a b. pool.alone i j u (it.removes i u a) (it.removes j u b);
+        drained = λ j chair at left.
+            let old = pool.drained j chair at left in
+            (it.closed old.0, λ u. none (in_set u set') (in_set u set) (it.fewer u) (old.1 u));
+        mail = pool.mail;
+        shut = pool.shut;
+      }
+    where
+      none : (m n : ℕ) → m ≤ n → n ≡ 0 → m ≡ 0
+      none m n few is = omega (arith, few, is)
+
+      as_much : (m n : ℕ) → m ≡ n → 0 < m → 0 < n
+      as_much m n same some = omega (arith, same, some)
+
+      at_least : (m n : ℕ) → m ≤ n → 0 < m → 0 < n
+      at_least m n few some = omega (arith, few, some)
+
+      more : (u : ℕ) → 0 < d'.clears u + in_set u set' → 0 < d.clears u + in_set u set
+      more u some =
+          by_number u t
+          (λ other. as_much (d'.clears u + in_set u set') (d.clears u + in_set u set) (it.beside u other) some)
+          (λ same.
+          subst (λ m. 0 < d.clears m + in_set m set) (sym same)
+          (at_least (d'.clears t + in_set t set') (d.clears t + in_set t set) it.most (subst (λ m. 0 < d'.clears m + in_set m set') same some)))
+
+  -- the set closes, or stays
+  pub pool_set : (d : Duties) (tasks : List (TaskSlot B)) (set set' : Set (Unit {0})) (seats : List Chair) → set'.shards ≡ set.shards → (set.closed ≡ true → set'.closed ≡ true) → IsPool d tasks set seats → IsPool d tasks set' seats
+  pool_set d tasks set set' seats shards closed pool =
+      let again : (u : ℕ) → in_set u set' ≡ in_set u set = λ u. ap (in_shards u) shards in
+      pool_recounted 0 d d tasks set set' seats
+      (record {
+        beside = λ u other. ap (λ n. d.clears u + n) (again u);
+        most = omega (arith, again 0);
+        live = λ slot there home old. subst (λ n. IsHeldOnce slot (d.clears 0 + n)) (sym (again 0)) old;
+        fewer = λ u. omega (arith, again u);
+        closed = closed;
+        home = subst AreAtHome (sym shards);
+        polls = λ j. refl;
+        clears = λ u some. let old = pool.who_clears u some in (old.0, old.1, old.2, closed old.3);
+        removes = λ j u is. is;
+        stands = λ j u is. inr (again u);
+      })
+      pool
+
+-- THE SEAT OF WORKER i became this
+
+module _ (i : ℕ) (seats seats' : List Chair) (chair chair' : Chair) (there : slice_get seats i ≡ Some chair) (set : seats' ≡ slice_set seats i chair') where
+  seat_on : (j : ℕ) (c : Chair) → j ≢ i → slice_get seats j ≡ Some c → slice_get seats' j ≡ Some c
+  seat_on j c other at = ap (λ xs. slice_get xs j) set ∙ set_elsewhere seats i j chair' other ∙ at
+
+  seat_was : (j : ℕ) (c : Chair) → j ≢ i → slice_get seats' j ≡ Some c → slice_get seats j ≡ Some c
+  seat_was j c other at = sym (set_elsewhere seats i j chair' other) ∙ ap (λ xs. slice_get xs j) (sym set) ∙ at
+
+  seat_is : (j : ℕ) (c : Chair) → j ≡ i → slice_get seats' j ≡ Some c → chair' ≡ c
+  seat_is j c same at =
+      same_thing chair' c (sym (set_there seats i chair' chair there) ∙ ap (λ xs. slice_get xs i) (sym set) ∙ subst (λ n. slice_get seats' n ≡ Some c) same at)
+
+  before_on : (j : ℕ) → j ≢ i → IsBefore j seats → IsBefore j seats'
+  before_on j other it = record { chair = it.chair; there = seat_on j it.chair other it.there; going = it.going }
+
+  all_on : (has_gone chair ≡ true → has_gone chair' ≡ true) → HaveLeft seats → HaveLeft seats'
+  all_on gone all = λ j c at.
+      by_number j i
+      (λ other. all j c (seat_was j c other at))
+      (λ same. subst (λ x. has_gone x ≡ true) (seat_is j c same at) (gone (all i chair there)))
+
+-- TASK t IS CLEARED by worker i, who took it out of the set
+pub record Clears (t i : ℕ) (d d' : Duties) : Type 0 where
+  pub one : d.clears t ≡ d'.clears t + 1
+  pub others : (u : ℕ) → u ≢ t → d'.clears u ≡ d.clears u
+  pub its : (d.drops_by i).clears ≡ Some t
+  pub polls : (j : ℕ) → d'.polled_by j ≡ d.polled_by j
+  pub drops : (j : ℕ) → j ≢ i → d'.drops_by j ≡ d.drops_by j
+  pub removes : (d'.drops_by i).removes ≡ None
+
+module _ {B : Type 0} where
+  -- It passes the barrier: it polls nothing and clears nothing, and the closed set is empty.
+  pub pool_left : (i : ℕ) (d : Duties) (tasks : List (TaskSlot B)) (set : Set (Unit {0})) (seats seats' : List Chair) (chair : Chair) → slice_get seats i ≡ Some chair → seats' ≡ slice_set seats i (record chair { left = true })
+      → d.polled_by i ≡ None → (d.drops_by i).clears ≡ None → set.closed ≡ true → ((t : ℕ) → in_set t set ≡ 0) → IsPool d tasks set seats → IsPool d tasks set seats'
+  pool_left i d tasks set seats seats' chair there items polls clears closed empty pool =
+      record {
+        live = pool.live;
+        home = pool.home;
+        only = pool.only;
+        who_polls = λ t slot found home polled.
+            let it = pool.who_polls t slot found home polled in
+            (before_on i seats seats' chair chair' there items slot.poller (λ same. unless (d.polled_by i) t polls (subst (λ j. d.polled_by j ≡ Some t) same it.1)) it.0, it.1);
+        who_clears = λ t some.
+            let it = pool.who_clears t some in
+            (it.0, before_on i seats seats' chair chair' there items it.0 (λ same. unless (d.drops_by i).clears t clears (subst (λ j. (d.drops_by j).clears ≡ Some t) same it.2)) it.1, it.2, it.3);
+        clear_shut = pool.clear_shut;
+        removes = pool.removes;
+        alone = pool.alone;
+        drained = λ j c at left.
+            by_number j i
+            (λ other. pool.drained j c (seat_was i seats seats' chair chair' there items j c other at) left)
+            (λ same. (closed, empty));
+        mail = λ j c at.
+            by_number j i
+            (λ other. pool.mail j c (seat_was i seats seats' chair chair' there items j c other at))
+            (λ same. subst (λ (x : Chair). IsMailbox x.mailbox) (seat_is i seats seats' chair chair' there items j c same at) (pool.mail i chair there));
+        shut = λ j c at of_pool shut.
+            all_on i seats seats' chair chair' there items (λ h. refl)
+            (by_number j i
+            (λ other. pool.shut j c (seat_was i seats seats' chair chair' there items j c other at) of_pool shut)
+            (λ same.
+            let is : chair' ≡ c = seat_is i seats seats' chair chair' there items j c same at in
+            pool.shut i chair there (ap (λ (x : Chair). x.pool) is ∙ of_pool) (ap (λ (x : Chair). x.mailbox.inbox.closed) is ∙ shut)));
+      }
+    where
+      chair' : Chair
+      chair' = record chair { left = true }
+
+      unless : (o : Option ℕ) (t : ℕ) → o ≡ None → o ≡ Some t → ⊥
+      unless o t none some = let never : None ≡ Some t = sym none ∙ some in cc
+
+  -- Its mailbox is closed once all have passed.
+  pub pool_shut : (i : ℕ) (d : Duties) (tasks : List (TaskSlot B)) (set : Set (Unit {0})) (seats seats' : List Chair) (chair chair' : Chair) → slice_get seats i ≡ Some chair → seats' ≡ slice_set seats i chair'
+      → chair'.left ≡ chair.left → chair'.pool ≡ chair.pool → IsMailbox chair'.mailbox → (chair.pool ≡ true → HaveLeft seats) → IsPool d tasks set seats → IsPool d tasks set seats'
+  pool_shut i d tasks set seats seats' chair chair' there items left pool_same mail all pool =
+      record {
+        live = pool.live;
+        home = pool.home;
+        only = pool.only;
+        who_polls = λ t slot found home polled. let it = pool.who_polls t slot found home polled in (before slot.poller it.0, it.1);
+        who_clears = λ t some. let it = pool.who_clears t some in (it.0, before it.0 it.1, it.2, it.3);
+        clear_shut = pool.clear_shut;
+        removes = pool.removes;
+        alone = pool.alone;
+        drained = λ j c at has_left.
+            by_number j i
+            (λ other. pool.drained j c (seat_was i seats seats' chair chair' there items j c other at) has_left)
+            (λ same. pool.drained i chair there (sym left ∙ ap (λ (x : Chair). x.left) (seat_is i seats seats' chair chair' there items j c same at) ∙ has_left));
+        mail = λ j c at.
+            by_number j i
+            (λ other. pool.mail j c (seat_was i seats seats' chair chair' there items j c other at))
+            (λ same. subst (λ (x : Chair). IsMailbox x.mailbox) (seat_is i seats seats' chair chair' there items j c same at) mail);
+        shut = λ j c at of_pool shut.
+            all_on i seats seats' chair chair' there items (λ h. gone ∙ h)
+            (by_number j i
+            (λ other. pool.shut j c (seat_was i seats seats' chair chair' there items j c other at) of_pool shut)
+            (λ same. all (sym pool_same ∙ ap (λ (x : Chair). x.pool) (seat_is i seats seats' chair chair' there items j c same at) ∙ of_pool)));
+      }
+    where
+      gone : has_gone chair' ≡ has_gone chair
+      gone = rw (left, pool_same) refl
+
+      -- who hasn't passed the barrier still hasn't
+      before : (j : ℕ) → IsBefore j seats → IsBefore j seats'
+      before j it =
+          by_number j i
+          (λ other. before_on i seats seats' chair chair' there items j other it)
+          (λ same.
+          let is : chair ≡ it.chair = same_thing chair it.chair (sym there ∙ subst (λ n. slice_get seats n ≡ Some it.chair) same it.there) in
+          let now : slice_get seats' i ≡ Some chair' = ap (λ xs. slice_get xs i) items ∙ set_there seats i chair' chair there in
+          record { chair = chair'; there = subst (λ n. slice_get seats' n ≡ Some chair') (sym same) now; going = gone ∙ ap has_gone is ∙ it.going })
+
+  pub record IsCleared (slot slot' : TaskSlot B) : Type 0 where
+    pub home : slot'.home ≡ slot.home
+    pub poller : slot'.poller ≡ slot.poller
+    pub cleared : slot'.cleared ≡ true
+    pub polled : is_polled slot'.cell.phase ≡ is_polled slot.cell.phase
+    pub over : is_complete slot.cell.phase ≡ true → is_complete slot'.cell.phase ≡ true
+
+  module _ (t i : ℕ) (d d' : Duties) (tasks tasks' : List (TaskSlot B)) (set : Set (Unit {0})) (seats : List Chair) (slot slot' : TaskSlot B) (there : slice_get tasks t ≡ Some slot) (ordinary : slot.home ≡ None) (items : tasks' ≡ slice_set tasks t slot') (duties : Clears t i d d') (cleared : IsCleared slot slot') (pool : IsPool d tasks set seats) where
+    now : slice_get tasks' t ≡ Some slot'
+    now = ap (λ ts. slice_get ts t) items ∙ set_there tasks t slot' slot there
+
+    on : (u : ℕ) (o : TaskSlot B) → u ≢ t → slice_get tasks u ≡ Some o → slice_get tasks' u ≡ Some o
+    on u o other at = ap (λ ts. slice_get ts u) items ∙ set_elsewhere tasks t u slot' other ∙ at
+
+    was : (u : ℕ) (o : TaskSlot B) → u ≢ t → slice_get tasks' u ≡ Some o → slice_get tasks u ≡ Some o
+    was u o other at = sym (set_elsewhere tasks t u slot' other) ∙ ap (λ ts. slice_get ts u) (sym items) ∙ at
+
+    is_new : (u : ℕ) (o : TaskSlot B) → u ≡ t → slice_get tasks' u ≡ Some o → slot' ≡ o
+    is_new u o same at = same_thing slot' o (sym now ∙ subst (λ m. slice_get tasks' m ≡ Some o) same at)
+
+    -- it stood nowhere else
+    none : d'.clears t + in_set t set ≡ 0
+    none =
+        let few = (pool.live t slot there ordinary).most in
+        omega (arith, few, duties.one)
+
+    live_here : IsHeldOnce slot' (d'.clears t + in_set t set)
+    live_here = record { most = omega (arith, none); cleared = λ h. none; live = λ h. absurd (false≢true (sym h ∙ cleared.cleared)) }
+
+    live : (u : ℕ) (o : TaskSlot B) → slice_get tasks' u ≡ Some o → o.home ≡ None → IsHeldOnce o (d'.clears u + in_set u set)
+    live u o at home =
+        by_number u t
+        (λ other. subst (λ n. IsHeldOnce o (n + in_set u set)) (sym (duties.others u other)) (pool.live u o (was u o other at) home))
+        (λ same. subst (λ m. IsHeldOnce o (d'.clears m + in_set m set)) (sym same) (subst (λ (y : TaskSlot B). IsHeldOnce y (d'.clears t + in_set t set)) (is_new u o same at) live_here))
+
+    only : (u : ℕ) → 0 < d'.clears u + in_set u set → (o : TaskSlot B) × (slice_get tasks' u ≡ Some o) × (o.home ≡ None)
+    only u some =
+        by_number u t
+        (λ other.
+        let it = pool.only u (subst (λ n. 0 < n + in_set u set) (duties.others u other) some) in
+        (it.0, on u it.0 other it.1, it.2))
+        (λ same. (slot', subst (λ m. slice_get tasks' m ≡ Some slot') (sym same) now, cleared.home ∙ ordinary))
+
+    who_polls : (u : ℕ) (o : TaskSlot B) → slice_get tasks' u ≡ Some o → o.home ≡ None → is_polled o.cell.phase ≡ true → IsBefore o.poller seats × (d'.polled_by o.poller ≡ Some u)
+    who_polls u o at home polled =
+        by_number u t
+        (λ other. let it = pool.who_polls u o (was u o other at) home polled in (it.0, duties.polls o.poller ∙ it.1))
+        (λ same.
+        let e = is_new u o same at in
+        let it = pool.who_polls t slot there ordinary (sym cleared.polled ∙ ap (λ (y : TaskSlot B). is_polled y.cell.phase) e ∙ polled) in
+        let poller : slot.poller ≡ o.poller = sym cleared.poller ∙ ap (λ (y : TaskSlot B). y.poller) e in
+        subst (λ m. IsBefore o.poller seats × (d'.polled_by o.poller ≡ Some m)) (sym same)
+        (subst (λ j. IsBefore j seats × (d'.polled_by j ≡ Some t)) poller (it.0, duties.polls slot.poller ∙ it.1)))
+
+    positive_none : (n m : ℕ) → n + m ≡ 0 → 0 < n → ⊥
+    positive_none n m zero_sum some = omega (arith, zero_sum, some)
+
+    who_clears : (u : ℕ) → 0 < d'.clears u → (j : ℕ) × IsBefore j seats × ((d'.drops_by j).clears ≡ Some u) × (set.closed ≡ true)
+    who_clears u some =
+        by_number u t
+        (λ other.
+        let it = pool.who_clears u (subst (λ n. 0 < n) (duties.others u other) some) in
+        let apart : it.0 ≢ i = λ same. other (same_thing u t (sym it.2 ∙ ap (λ j. (d.drops_by j).clears) same ∙ duties.its)) in
+        (it.0, it.1, ap (λ x. x.clears) (duties.drops it.0 apart) ∙ it.2, it.3))
+        (λ same. absurd (positive_none (d'.clears t) (in_set t set) none (subst (λ m. 0 < d'.clears m) same some)))
+
+    over_still : (u : ℕ) → IsOver u tasks → IsOver u tasks'
+    over_still u it =
+        by_number u t
+        (λ other. record { slot = it.slot; there = on u it.slot other it.there; ordinary = it.ordinary; over = it.over })
+        (λ same.
+        let e : slot ≡ it.slot = same_thing slot it.slot (sym there ∙ subst (λ m. slice_get tasks m ≡ Some it.slot) same it.there) in
+        record {
+          slot = slot';
+          there = subst (λ m. slice_get tasks' m ≡ Some slot') (sym same) now;
+          ordinary = cleared.home ∙ ordinary;
+          over = cleared.over (ap (λ (y : TaskSlot B). is_complete y.cell.phase) e ∙ it.over);
+        })
+
+    clear_shut : (u : ℕ) (o : TaskSlot B) → slice_get tasks' u ≡ Some o → o.home ≡ None → o.cleared ≡ true → set.closed ≡ true
+    clear_shut u o at home is =
+        by_number u t
+        (λ other. pool.clear_shut u o (was u o other at) home is)
+        (λ same. (pool.who_clears t (omega (arith, duties.one))).3)
+
+    -- it takes out none
+    was_so : (j u : ℕ) → (d'.drops_by j).removes ≡ Some u → (d.drops_by j).removes ≡ Some u
+    was_so j u is =
+        by_number j i
+        (λ apart. sym (ap (λ x. x.removes) (duties.drops j apart)) ∙ is)
+        (λ same. absurd (let never : None ≡ Some u = sym duties.removes ∙ subst (λ k. (d'.drops_by k).removes ≡ Some u) same is in cc))
+
+    removes : (j u : ℕ) → (d'.drops_by j).removes ≡ Some u → IsOver u tasks' × ((set.closed ≡ true) ⊎ (in_set u set ≡ 1))
+    removes j u is = let old = pool.removes j u (was_so j u is) in (over_still u old.0, old.1)
+
+    alone : (j k u : ℕ) → (d'.drops_by j).removes ≡ Some u → (d'.drops_by k).removes ≡ Some u → j ≡ k
+    alone j k u a b = pool.alone j k u (was_so j u a) (was_so k u b)
+
+    pub pool_cleared : IsPool d' tasks' set seats
+    pool_cleared =
+        record { live = live; home = pool.home; only = only; who_polls = who_polls; who_clears = who_clears; clear_shut = clear_shut; removes = removes; alone = alone; drained = pool.drained; mail = pool.mail; shut = pool.shut }

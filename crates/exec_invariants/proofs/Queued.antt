@@ -1,0 +1,239 @@
+-- Where one run queue changes, and what is in the hands of the worker: what that leaves of the balances, and where it leads.
+use Rattle.std.proofs.{Common.{◌≡◌, ◌≢◌, ℕ, zero, suc, ◌+◌, ◌*◌, ◌<◌, ◌≤◌, ◌==◌, Bool, true, false, not, ◌⊎◌, inl, inr, Contains, List, [], ◌∷◌, ◌++◌, length, map, sum_by, Option, None, Some, refl, sym, ap, subst, ◌∙◌, arith, option_to_list, slice_get, slice_set}, lemmas.{Bool.false≢true, List.{length-set, Sums.sum_by-cons}, Option.slice_get_within}}
+use Rattle.exec_words.specs.{Queue.Queue, Reserved.Reserved}
+use Rattle.exec_task.specs.declared.{body.Said.Said, runnable.Runnable.Runnable}
+use Rattle.exec_machine.specs.{declared.{event.Event.{Event, TheVariants.Turn}, state.Next.Next}, Choice.Choice.Plain, Progress.Plan}
+use Rattle.exec_moves.specs.{declared.place.Place.Place, Move.move_at, Seen.{next_at, polls_at, serves_at}, Thing.set_queue}
+use Rattle.exec_parts.{specs.{Roles.is_pool, declared.parts.{seat.Seat.Seat as Chair, shared.Shared.Shared, worker.Worker.Worker}, Phased.{closes_at, closing_in, IsPhased, Stage, stage_of}, Spots.Spot, View.{Views, common_of, desk_of, own_of, queue_seen, seats_seen, things_with}}, proofs.{Facts.{by_number, set_elsewhere, set_there}, Showing.{map_kept, queue_shows, seats_kept}}}
+use Rattle.exec_invariants.{specs.{Gates.HaveGates, Holding.box_of, Kinds.{Kind, lowered}, Places.{claims_at, drops_at, has_count_at, has_loot_at, is_armed_at, is_pooled_at, is_published_at, one_if, searches_at, step_of_poll}, Sound.{Aims, HasBatch, HasQueue, IsLoot, IsSeated, IsSearching, SoundAt, has_wakes_at}, Whole.{HasOne, IsGenuine, IsWhole, Profile, claimed_count, duties_of, is_number, may_let_go, queued, runnables_in, stock, with_worker}, Works.{Steps, Suits}}, proofs.{Aside.{hands_same, SameTold, spares_turn, SparesSeats}, Counting.Stance, Idled.{calm_of, guest_again, guest_calm, Settles, step_again, stops_again, stops_calm}, PoolKept.{drops_same, gates_set, pool_of, pool_seats}, Turning.{Arrives, GoesOn, IsTurn, lower_on, OfKind, pool_low, turned}}}
+
+-- SUMS
+
+pub sum_set : (f : Chair → ℕ) (xs : List Chair) (k : ℕ) (x y : Chair) → slice_get xs k ≡ Some x → sum_by f (slice_set xs k y) + f x ≡ sum_by f xs + f y
+sum_set f [] k x y there = absurd (cc)
+sum_set f (z ∷ zs) zero x y there =
+    let is : z ≡ x = cc in
+    let same : f z ≡ f x = ap f is in
+    omega (arith, sum_by-cons f y zs, sum_by-cons f z zs, same)
+sum_set f (z ∷ zs) (suc k) x y there = omega (arith, sum_by-cons f z (slice_set zs k y), sum_by-cons f z zs, sum_set f zs k x y there)
+
+-- THE BALANCES
+
+-- what is in the hands
+abbrev pub hands_of : Worker → List Runnable
+hands_of w = option_to_list w.hand ++ w.loot.values
+
+-- runnables go between the hands and the run queue of worker k, and a claim of that may come or go
+pub record Hands (k : ℕ) (q q' : Queue Runnable) (w w' : Worker) : Type 0 where
+  pub runnables : (t : ℕ) → runnables_in t (hands_of w') + runnables_in t (q'.values ++ q'.held) ≡ runnables_in t (hands_of w) + runnables_in t (q.values ++ q.held)
+  pub polls : polls_at w'.place ≡ polls_at w.place
+  pub searching : w'.searching ≡ w.searching
+  pub counts : has_count_at w'.place ≡ has_count_at w.place
+  pub index : w'.index ≡ w.index
+  pub published : is_published_at w'.place ≡ is_published_at w.place
+  pub drops : drops_at w'.place ≡ drops_at w.place
+  pub told : SameTold w w'
+  pub claims_beside : (j : ℕ) → j ≢ k → is_number (claims_at w'.place) j ≡ is_number (claims_at w.place) j
+  pub claims : one_if (is_number (claims_at w'.place) k) + one_if (not (q.gap == 0)) ≡ one_if (is_number (claims_at w.place) k) + one_if (not (q'.gap == 0))
+
+module _ {B : Type 0} where
+  pub whole_queued : (others : Profile) (k : ℕ) (its : Chair) (q' : Queue Runnable) (w w' : Worker) (s s' : Shared B) → s' ≡ record s { seats = s'.seats } → slice_get s.seats.items k ≡ Some its → s'.seats.items ≡ slice_set s.seats.items k (record its { queue = q' })
+      → Hands k its.queue q' w w' → ((r : Runnable) → Contains (q'.values ++ q'.held) r → Contains (queued its) r ⊎ IsGenuine s.tasks.items r) → IsWhole (with_worker others w) s → IsWhole (with_worker others w') s'
+  whole_queued others k its q' w w' s s' kept there set hands genuine whole = subst (IsWhole (with_worker others w')) (sym kept) done
+    where
+      s1 : Shared B
+      s1 = record s { seats = s'.seats }
+
+      its' : Chair
+      its' = record its { queue = q' }
+
+      many : length s'.seats.items ≡ length s.seats.items
+      many = ap length set ∙ length-set s.seats.items k its'
+
+      now : slice_get s'.seats.items k ≡ Some its'
+      now = ap (λ xs. slice_get xs k) set ∙ set_there s.seats.items k its' its there
+
+      -- what is at another seat was there
+      was : (j : ℕ) (chair : Chair) → j ≢ k → slice_get s'.seats.items j ≡ Some chair → slice_get s.seats.items j ≡ Some chair
+      was j chair other at_j = sym (set_elsewhere s.seats.items k j its' other) ∙ ap (λ xs. slice_get xs j) (sym set) ∙ at_j
+
+      is_its : (j : ℕ) (chair : Chair) → j ≡ k → slice_get s'.seats.items j ≡ Some chair → its' ≡ chair
+      is_its j chair same at_j = cc (sym now, subst (λ n. slice_get s'.seats.items n ≡ Some chair) same at_j)
+
+      number : (t : ℕ) → (with_worker others w').runnables t + stock t s1 ≡ (with_worker others w).runnables t + stock t s
+      number t =
+          let f : Chair → ℕ = λ chair. runnables_in t (queued chair) in
+          let sum : sum_by f s'.seats.items + f its ≡ sum_by f s.seats.items + f its' = ap (λ xs. sum_by f xs + f its) set ∙ sum_set f s.seats.items k its its' there in
+          omega (arith, sum, hands.runnables t)
+
+      claimed : claimed_count (with_worker others w') s1 ≡ claimed_count (with_worker others w) s
+      claimed = rw (hands.index, hands.published) refl
+
+      done : IsWhole (with_worker others w') s1
+      done = record {
+        runnables = λ t slot at_t home. subst (HasOne (may_let_go s) slot.cell.phase) (sym (number t)) (whole.runnables t slot at_t home);
+        polls = λ t slot at_t home. rw hands.polls (whole.polls t slot at_t home);
+        claims = λ j chair at_j.
+            by_number j k
+            (λ other. rw (hands.claims_beside j other) (whole.claims j chair (was j chair other at_j)))
+            (λ same.
+            let mine : (with_worker others w').claims k ≡ one_if (not (q'.gap == 0)) = omega (arith, whole.claims k its there, hands.claims) in
+            rw (← is_its j chair same at_j, same) mine);
+        counts = rw (claimed, hands.searching, hands.counts) whole.counts;
+        bits = λ j h. rw (hands.index, hands.published) (whole.bits j h);
+        set = whole.set;
+        queued_here = λ j chair r at_j has.
+            by_number j k
+            (λ other. whole.queued_here j chair r (was j chair other at_j) has)
+            (λ same.
+            let it : Contains (q'.values ++ q'.held) r = subst (λ (c : Chair). Contains (queued c) r) (sym (is_its j chair same at_j)) has in
+            elim (genuine r it) [
+              | inl before ↦ whole.queued_here k its r there before
+              | inr is ↦ is
+            ]);
+        queued_there = whole.queued_there;
+        places = whole.places;
+        made = λ t more. let none = whole.made t more in (number t ∙ none.0, rw hands.polls none.1);
+        unclaimed = λ j more.
+            let beyond : length s.seats.items ≤ j = subst (λ n. n ≤ j) many more in
+            let inside : k < length s.seats.items = slice_get_within s.seats.items k its there in
+            rw (hands.claims_beside j (λ same. omega (arith, beyond, inside, same))) (whole.unclaimed j beyond);
+        in_pool = λ j chair at_j.
+            let was_j = (gates_set k s.seats.items s'.seats.items its its' set there (record { left = refl; pool = refl; closed = refl; mail = λ h. h })).back j chair at_j in
+            was_j.2.pool ∙ whole.in_pool j was_j.0 was_j.1;
+        pool =
+            pool_of others w w' s.tasks.items s.set s'.seats.items hands.index hands.polls hands.drops
+            (pool_seats (duties_of (with_worker others w)) s.tasks.items s.set s.seats.items s'.seats.items (gates_set k s.seats.items s'.seats.items its its' set there (record { left = refl; pool = refl; closed = refl; mail = λ h. h })) whole.pool);
+        gates = subst (λ f. HaveGates f s.opens s.requests.items) (sym (drops_same others w w' hands.index hands.drops)) whole.gates;
+        holding = rw (hands_same others w w' hands.index hands.told, ap (map box_of) set ∙ map_kept box_of s.seats.items k its' its there refl) whole.holding;
+      }
+
+-- WHERE IT LEADS
+
+-- what a place says but of counts, the idle set, loot and claims
+abbrev pub bare_of : Place → Kind
+bare_of p = record (calm_of p) { loot = true; claims = None }
+
+any_loot : (b : Bool) (loot : Reserved Runnable) → IsLoot b loot → IsLoot true loot
+any_loot b loot h = record { places = h.places; few = h.few; none = λ is. absurd (false≢true (sym is)) }
+
+module _ {B : Type 0} where
+  pub record Leads (q q' : Place) (w v : Worker) (s t : Shared B) : Type 0 where
+    pub same : bare_of q' ≡ lowered w.role (is_pooled_at q') (bare_of q)
+    pub calm : is_pool w.role ≡ false → v.searching ≡ false
+    pub root_ready : v.root_ready ≡ w.root_ready
+    pub hand : v.hand ≡ w.hand
+    pub searches : IsSearching (searches_at q') v.searching
+    pub loot : IsLoot (has_loot_at q') v.loot
+    pub stolen : (r : Runnable) → Contains v.loot.values r → IsGenuine s.tasks.items r
+    pub seated : IsSeated w.index (is_armed_at q') s.config.workers t.seats.items
+    pub queue : (chair : Chair) → slice_get t.seats.items w.index ≡ Some chair → HasQueue q' chair.queue
+    pub aims : Aims q' s.config w.index t.seats.items
+    pub batch : HasBatch q' w.batch.values
+    pub quiet : has_wakes_at q' ≡ false → has_wakes_at q ≡ false
+    pub stage : (chair : Chair) → slice_get t.seats.items w.index ≡ Some chair → (was : Chair) × (slice_get s.seats.items w.index ≡ Some was) × (stage_of was s ≡ stage_of chair s)
+
+  of_bare : (q q' : Place) (w : Worker) (s : Shared B) → SoundAt q w s → bare_of q' ≡ lowered w.role (is_pooled_at q') (bare_of q) → OfKind (bare_of q') w s
+  of_bare q q' w s sound same =
+      let here : OfKind (lowered w.role (is_pooled_at q') (bare_of q)) w s =
+      record {
+        runnable = sound.runnable;
+        hand = sound.hand;
+        loot = any_loot (has_loot_at q) w.loot sound.loot;
+        genuine = sound.genuine;
+        searching = tt;
+        pooled = pool_low (is_pooled_at q') (is_pooled_at q) (is_pool w.role) sound.pooled;
+        serves = sound.serves;
+        guest = guest_calm (polls_at q) (step_of_poll q) w.index w.root s.tasks.items sound.guest;
+        left = sound.left;
+        due = sound.due;
+        flown = sound.flown;
+        told = sound.told;
+        letters = sound.letters;
+        stops = stops_calm (polls_at q) (step_of_poll q) w.index s.tasks.items s.requests.items s.sleepers.items sound.stops;
+        hears = sound.hears;
+        lets_go = sound.lets_go;
+        phased = sound.phased;
+        tied = rw (step_again w.root (polls_at q) (step_of_poll q)) sound.tied;
+      } in
+      subst (λ k. OfKind k w s) (sym same) here
+
+  pub led_on : (q q' : Place) (w v : Worker) (s t : Shared B) → SoundAt q w s → Leads q q' w v s t → Arrives q' w v s t
+  led_on q q' w v s t sound to =
+      let it = of_bare q q' w s sound to.same in
+      record {
+        runnable = rw (to.root_ready, to.hand) it.runnable;
+        seated = to.seated;
+        queue = to.queue;
+        hand = rw to.hand it.hand;
+        loot = to.loot;
+        genuine = rw to.hand it.genuine;
+        stolen = to.stolen;
+        searching = to.searches;
+        pooled = it.pooled;
+        serves = it.serves;
+        calm = to.calm;
+        aims = to.aims;
+        guest = guest_again (polls_at q') (step_of_poll q') w.index w.root s.tasks.items it.guest;
+        left = it.left;
+        batch = to.batch;
+        batch_place = λ chair there.
+            let was = to.stage chair there in
+            subst (λ (st : Stage). st.shut ≡ false → 2 * st.made + 1 ≤ w.batch.places) was.2 (sound.batch_place was.0 was.1);
+        quiet = λ h. sound.quiet (to.quiet h);
+        due = it.due;
+        flown = it.flown;
+        told = it.told;
+        letters = it.letters;
+        stops = stops_again (polls_at q') (step_of_poll q') w.index s.tasks.items s.requests.items s.sleepers.items it.stops;
+        hears = it.hears;
+        lets_go = it.lets_go;
+        phased = λ chair there.
+            let was = to.stage chair there in
+            subst (λ stage. IsPhased w.index (closes_at q') (closing_in q') w.home.closing w.root w.names.unreleased stage s.tasks.items) was.2 (it.phased was.0 was.1);
+        tied = rw (← step_again w.root (polls_at q') (step_of_poll q')) it.tied;
+      }
+
+module _ {B : Type 0} where
+  -- to what a place of the same kind settles at, with the seats as they are then
+  pub leads_to : (q r q' : Place) (z : Stance) (w v : Worker) (s t : Shared B) → t ≡ record s { seats = t.seats } → bare_of r ≡ lowered w.role (is_pooled_at r) (bare_of q) → has_wakes_at r ≡ has_wakes_at q → Settles r q' z w t → v.root_ready ≡ w.root_ready → v.hand ≡ w.hand → v.searching ≡ z.searching → (is_pool w.role ≡ false → v.searching ≡ false)
+      → IsLoot (has_loot_at q') v.loot → ((r : Runnable) → Contains v.loot.values r → IsGenuine s.tasks.items r) → IsSeated w.index (is_armed_at r) s.config.workers t.seats.items
+      → ((chair : Chair) → slice_get t.seats.items w.index ≡ Some chair → (was : Chair) × (slice_get s.seats.items w.index ≡ Some was) × (stage_of was s ≡ stage_of chair s)) → Leads q q' w v s t
+  leads_to q r q' z w v s t kept bare wakes to root_ready hand searching calm loot stolen seated stage =
+      record {
+        same = lower_on w.role (bare_of q) (bare_of r) (bare_of q') (ap (λ (k : Kind). record k { loot = true; claims = None }) to.same) bare;
+        calm = calm;
+        root_ready = root_ready;
+        hand = hand;
+        searches = rw searching to.searches;
+        loot = loot;
+        stolen = stolen;
+        seated = subst (λ (k : Kind). IsSeated w.index k.armed s.config.workers t.seats.items) (sym to.same) seated;
+        queue = to.queue;
+        aims = subst (λ c. Aims q' c w.index t.seats.items) (ap (λ (x : Shared B). x.config) kept) to.aims;
+        batch = to.batch;
+        quiet = λ h. sym wakes ∙ to.quiet h;
+        stage = stage;
+      }
+
+module _ {B L : Type 0} (left : B → L) (spot : L → Option Said → Spot) where
+  -- A plain turn by which the run queue of worker k becomes this.
+  pub requeued : (k : ℕ) (its : Chair) (x : Queue Runnable) (q : Place) (w w' : Worker) (s s' : Shared B) (e : Event) → SoundAt q w s → e ≡ Turn → GoesOn w w' s.clock
+      → s' ≡ record s { seats = s'.seats } → slice_get s.seats.items k ≡ Some its → s'.seats.items ≡ slice_set s.seats.items k (record its { queue = x })
+      → next_at q ≡ Next.Free → serves_at q ≡ false → Leads q w'.place w w' s s' → SparesSeats w.index s.seats.items s'.seats.items
+      → ((others : Profile) → IsWhole (with_worker others w) s → IsWhole (with_worker others w') s')
+      → ((p : Plan) (vs : Views) → Suits p vs w s → move_at p.config w.index (own_of w) (common_of left spot p vs s) (desk_of w) (things_with vs s) q ≡ record { event = Turn; choice = Plain; desk = desk_of w'; thing = set_queue k (things_with vs s) (queue_seen x) })
+      → Steps left spot w s e w' s'
+  requeued k its x q w w' s s' e sound event on kept there set free unserved to spares whole moves =
+      let shares : s' ≡ record s { seats = s'.seats; idle = s'.idle; global = s'.global } = subst (λ (z : Shared B). z ≡ record s { seats = z.seats; idle = z.idle; global = z.global }) (sym kept) refl in
+      let is : IsTurn w.workers q w'.place = record {
+        polls = ap (λ n. n.polls) to.same;
+        free = free;
+        free_then = ap (λ n. n.next) to.same ∙ free;
+        unserved = ap (λ n. n.serves) to.same ∙ unserved;
+        owes = ap (λ n. n.owes w.workers) to.same;
+      } in
+      turned left spot q w w' s s' e sound event on shares (ap (λ (z : Shared B). z.global.closed) kept)
+      (λ vs. ap (seats_seen vs) set ∙ seats_kept vs s.seats.items k its (record its { queue = x }) there (λ v. refl)) is (led_on q w'.place w w' s s' sound to)
+      (record { spares = λ j other. spares_turn w.index j s s' other shares spares; whole = whole })
+      (λ p vs suits. moves p vs suits ∙ ap (λ y. record { event = Turn; choice = Plain; desk = desk_of w'; thing = y }) (sym (queue_shows vs k s s'.seats.items its x there set (things_with vs s') (ap (things_with vs) kept))))

@@ -1,0 +1,187 @@
+-- A request is over: its driver lets go of it, and what its end leaves is told.
+use Rattle.std.proofs.{Common.{◌≡◌, ◌≢◌, ℕ, ◌+◌, ◌^◌, ◌<◌, ◌≤◌, true, false, List, [], ◌∷◌, ◌++◌, length, Option, Some, None, IsSome, refl, sym, ap, subst, ◌∙◌, arith, inl, inr, is_some}, lemmas.{Bool.false≢true, List.{length-append, length-set}}}
+use Rattle.exec_base.{specs.{Slab.{Slab, IsPast, value_at, written, removed, freed}, declared.{slab.Id.Id, task_no.TaskNo.TaskNo}}, proofs.Slots.{past-free, past-write, Changed-set, IsLiveAt-from_value, Updates-free, Updates-write, live_within, was_live}}
+use Rattle.exec_outcomes.specs.Accounts.{Account}
+use Rattle.exec_time.specs.Wheel.{Wheel, removed as unticked}
+use Rattle.exec_request.specs.{Requests.output_of, States.Ended, declared.output.RequestOutput.RequestOutput}
+use Rattle.exec_waiters.{specs.{Events.{finished, finished_for, output_told, told_by_finish}, States.{is_held_by, waiter_at, pending_count}, Told.{Told, Tells, tasks_of}, declared.{deferred.{Deferred.Deferred, Retired.Retired as Let}, observer.Observer.{Observer, TheVariants.{DetachedSync, Forwarded, Local, Orphaned}}, waiter.{Entry.{Entry, TheVariants.{Pending, Ready}}, Waiter.Waiter}, waiter_id.WaiterId.WaiterId}}, proofs.Changes.{entry_of, one_if}}
+use Rattle.exec_driver.{specs.{Lists.{is_among, is_same, without}, Steps.{ended, unscheduled}}, proofs.{Counting.pending_is, Endings.one_finished, Names.same_tells}}
+use Rattle.exec_machine.specs.declared.config.Configuration.{Configuration}
+use Rattle.exec_parts.{specs.{declared.parts.mail.Reply.Reply, Calls.IsTold}, proofs.Facts.or_right}
+use Rattle.exec_invariants.{specs.{Due.IsWheelAt, Sound.{HasWidth, held_count}}, proofs.{HeldCounts.{held_removed, held_written}, Orders.{past_removed, past_written}}}
+
+-- THE LISTS
+
+left_step : (other id x : WaiterId) (ids : List WaiterId) → (is_among other (without id ids) ≡ true → (is_among other ids ≡ true) × (other.0 ≢ id.0)) → is_among other (without id (x ∷ ids)) ≡ true
+    → (is_among other (x ∷ ids) ≡ true) × (other.0 ≢ id.0)
+left_step other id x ids rest h =
+    elim (same_tells x id) [
+      | inl same ↦
+          let back = rest (rw same.0 at h) in
+          (or_right (is_same x other) (is_among other ids) back.0, back.1)
+      | inr apart ↦
+          elim (same_tells x other) [
+            | inl eq ↦ (rw eq.0 refl, λ e. apart.1 (ap (λ (y : WaiterId). y.0) eq.1 ∙ e))
+            | inr ne ↦
+                let back = rest (rw (apart.0, ne.0) at h) in
+                (rw ne.0 back.0, back.1)
+          ]
+    ]
+
+-- who is left when another is taken out
+pub left_among : (other id : WaiterId) (ids : List WaiterId) → is_among other (without id ids) ≡ true → (is_among other ids ≡ true) × (other.0 ≢ id.0)
+left_among other id [] h = absurd (false≢true h)
+left_among other id (x ∷ ids) h = left_step other id x ids (left_among other id ids) h
+
+among_step : (other id x : WaiterId) (ids : List WaiterId) → (is_among other ids ≡ true → is_among other (without id ids) ≡ true) → other.0 ≢ id.0 → is_among other (x ∷ ids) ≡ true → is_among other (without id (x ∷ ids)) ≡ true
+among_step other id x ids rest apart h =
+    elim (same_tells x other) [
+      | inl eq ↦
+          elim (same_tells x id) [
+            | inl same ↦ absurd (apart (ap (λ (y : WaiterId). y.0) (sym eq.1 ∙ same.1)))
+            | inr differs ↦ rw (differs.0, eq.0) refl
+          ]
+      | inr ne ↦
+          let back = rest (rw ne.0 at h) in
+          elim (same_tells x id) [ inl same ↦ rw same.0 back | inr differs ↦ rw (differs.0, ne.0) back ]
+    ]
+
+pub among_still : (other id : WaiterId) (ids : List WaiterId) → other.0 ≢ id.0 → is_among other ids ≡ true → is_among other (without id ids) ≡ true
+among_still other id [] apart h = absurd (false≢true h)
+among_still other id (x ∷ ids) apart h = among_step other id x ids (among_still other id ids apart) apart h
+
+-- THE WHEEL stays where it stands
+
+one_unticked : (c : Configuration) (start moment : ℕ) (w : Wheel) (tick : ℕ) → IsWheelAt c start moment w → IsWheelAt c start moment (unticked w tick)
+unfolding unticked
+one_unticked c start moment w tick it = record { start = it.start; tick = it.tick; horizon = it.horizon; slots = it.slots; current = it.current }
+
+pub unticked_at : (c : Configuration) (start moment : ℕ) (w : Wheel) (tick : Option ℕ) → IsWheelAt c start moment w → IsWheelAt c start moment (unscheduled w tick)
+unticked_at c start moment w None it = it
+unticked_at c start moment w (Some tick) it = one_unticked c start moment w tick it
+
+-- THE SLAB
+
+-- of no more requests somebody may take or let go the output
+held_same : (s : Slab (Entry Reply Reply)) (id : Id) (it : Waiter Reply Reply) (told : RequestOutput) → is_held_by it.observer ≡ true → value_at s id ≡ Some (Pending it) → held_count (written s id (Ready told)) ≤ held_count s
+held_same s id it told held at =
+    let moved = held_written s id (Pending it) (Ready told) at in
+    let was : one_if (is_held_by it.observer) ≡ 1 = ap one_if held in
+    omega (arith, moved, was)
+
+held_less : (s : Slab (Entry Reply Reply)) (id : Id) (it : Waiter Reply Reply) → value_at s id ≡ Some (Pending it) → held_count (removed s id) ≤ held_count s
+held_less s id it at = let moved = held_removed s id (Pending it) at in omega (arith, moved)
+
+-- at the name that ended is its output, or nothing
+abbrev pub EntryAfter : Observer Reply Reply → RequestOutput → Option (Entry Reply Reply) → Type 0
+EntryAfter (Local waker) told e = e ≡ Some (Ready told)
+EntryAfter _ told e = e ≡ None
+
+pub record SlabAfter (s s' : Slab (Entry Reply Reply)) (id : Id) (it : Waiter Reply Reply) (told : RequestOutput) : Type 0 where
+  pub here : EntryAfter it.observer told (value_at s' id)
+  pub others : (other : Id) → other ≢ id → value_at s' other ≡ value_at s other
+  pub pending : pending_count s' + 1 ≡ pending_count s
+  pub held : held_count s' ≤ held_count s
+  pub slots : length s'.slots ≡ length s.slots
+  pub past : (other : Id) → other.generation < 2 ^ 64 → IsPast s other → IsPast s' other
+  pub back : (other : Id) → IsPast s' other → IsPast s other
+
+after_free : (s : Slab (Entry Reply Reply)) (id : Id) (it : Waiter Reply Reply) → id.generation < 2 ^ 64 → waiter_at s id ≡ Some it → pending_count (removed s id) + 1 ≡ pending_count s → (x : Waiter Reply Reply) (told : RequestOutput) → EntryAfter x.observer told None
+    → SlabAfter s (removed s id) id x told
+after_free s id it small at fewer x told none =
+    let value = entry_of (value_at s id) it at in
+    let some : IsSome (value_at s id) = rw value refl in
+    let was = was_live s id some in
+    let live = IsLiveAt-from_value s.slots id.index id.generation s.first some in
+    let changed = Changed-set s (removed s id) id.index (freed id.generation) refl refl (live_within s.slots id.index id.generation live.value live.is) in
+    let map = Updates-free s (removed s id) id was.0 changed was.1 in
+    record { back = λ other past. (past-free s (removed s id) id was.0 small changed was.1 other).0 past; here = subst (EntryAfter x.observer told) (sym map.changed) none; others = map.others; pending = fewer; held = held_less s id it value; slots = rw length-set refl; past = past_removed s id some }
+
+after_by : (s : Slab (Entry Reply Reply)) (id : Id) (it : Waiter Reply Reply) (told : RequestOutput) (o : Observer Reply Reply) → id.generation < 2 ^ 64 → it.observer ≡ o → waiter_at s id ≡ Some it → pending_count (finished_for s id told o) + 1 ≡ pending_count s
+    → SlabAfter s (finished_for s id told o) id (record it { observer = o }) told
+after_by s id it told (Local waker) small is at fewer =
+    let value = entry_of (value_at s id) it at in
+    let some : IsSome (value_at s id) = rw value refl in
+    let map = Updates-write s id (Ready told) some in
+    record { back = λ other past. (past-write s id (Ready told) some other).0 past; here = map.changed; others = map.others; pending = fewer; held = held_same s id it told (ap is_held_by is) value; slots = rw length-set refl; past = past_written s id (Ready told) some }
+after_by s id it told (Forwarded reply) small is at fewer = after_free s id it small at fewer (record it { observer = Forwarded reply }) told refl
+after_by s id it told (DetachedSync reply) small is at fewer = after_free s id it small at fewer (record it { observer = DetachedSync reply }) told refl
+after_by s id it told Orphaned small is at fewer = after_free s id it small at fewer (record it { observer = Orphaned }) told refl
+
+pub slab_after : (s : Slab (Entry Reply Reply)) (id : Id) (it : Waiter Reply Reply) (how : Ended) (account : Option Account) → id.generation < 2 ^ 64 → waiter_at s id ≡ Some it
+    → SlabAfter s (finished s id it how account) id it (output_of it.request how account)
+slab_after s id it how account small at =
+    let one = one_finished s id it how account at in
+    let n = one.numbers is_some refl in
+    let fewer : pending_count (finished s id it how account) + 1 ≡ pending_count s =
+    ap (λ m. m + 1) (pending_is (finished s id it how account)) ∙ omega (arith, n) ∙ sym (pending_is s) in
+    after_by s id it (output_of it.request how account) it.observer small refl at fewer
+
+-- WHAT IS TOLD
+
+-- at most one wake, one output and one answer, and what it owned
+pub record ToldOnce (t : Told Reply Reply) : Type 0 where
+  pub wakes : length t.wakes ≤ 1
+  pub outputs : length t.outputs ≤ 1
+  pub resources : length t.resources ≡ 1
+  pub completions : length t.completions ≤ 1
+  pub results : length t.results ≤ 1
+
+few_wakes : (w : Option TaskNo) → length (tasks_of w) ≤ 1
+few_wakes None = omega arith
+few_wakes (Some t) = omega arith
+
+once_by : (id : Id) (o : Observer Reply Reply) (told : RequestOutput) (kept : Let) → ToldOnce (record (output_told id told o) { resources = kept ∷ [] })
+once_by id (Local waker) told kept = record { wakes = few_wakes waker; outputs = omega arith; resources = refl; completions = omega arith; results = omega arith }
+once_by id (Forwarded reply) told kept = record { wakes = omega arith; outputs = omega arith; resources = refl; completions = omega arith; results = omega arith }
+once_by id (DetachedSync reply) told kept = record { wakes = omega arith; outputs = omega arith; resources = refl; completions = omega arith; results = omega arith }
+once_by id Orphaned told kept = record { wakes = omega arith; outputs = omega arith; resources = refl; completions = omega arith; results = omega arith }
+
+pub told_once : (id : Id) (it : Waiter Reply Reply) (how : Ended) (account : Option Account) → ToldOnce (told_by_finish id it how account)
+told_once id it how account = once_by id it.observer (output_of it.request how account) _
+
+pub told_ended : (ended e' : List ℕ) (k n : ℕ) (left left' : Deferred Reply Reply) (t : Told Reply Reply) → Tells left left' t → ToldOnce t → e' ≡ ended ++ k ∷ [] → IsTold ended left (n + 1) → IsTold e' left' n
+told_ended ended e' k n left left' t tells once is told =
+    let room = told.room in
+    let wakes : length left'.notes.wakes.items ≡ length left.notes.wakes.items + length t.wakes = ap length tells.notes.wakes_added ∙ length-append left.notes.wakes.items t.wakes in
+    let completions : length left'.notes.completions.items ≡ length left.notes.completions.items + length t.completions = ap length tells.notes.completions_added ∙ length-append left.notes.completions.items t.completions in
+    let outputs : length left'.outputs.items ≡ length left.outputs.items + length t.outputs = ap length tells.outputs_added ∙ length-append left.outputs.items t.outputs in
+    let results : length left'.results.items ≡ length left.results.items + length t.results = ap length tells.results_added ∙ length-append left.results.items t.results in
+    let resources : length left'.resources.items ≡ length left.resources.items + 1 =
+    ap length tells.resources_added ∙ length-append left.resources.items t.resources ∙ ap (λ m. length left.resources.items + m) once.resources in
+    let long : length e' ≡ length ended + 1 = ap length is ∙ length-append ended (k ∷ []) in
+    record {
+      resources = omega (arith, long, resources, told.resources);
+      room = record {
+        notes = record {
+          wakes = omega (arith, wakes, once.wakes, room.notes.wakes, tells.notes.wakes_memory);
+          completions = omega (arith, completions, once.completions, room.notes.completions, tells.notes.completions_memory);
+        };
+        outputs = omega (arith, outputs, once.outputs, room.outputs, tells.outputs_memory);
+        resources = omega (arith, resources, room.resources, tells.resources_memory);
+        results = omega (arith, results, once.results, room.results, tells.results_memory);
+      };
+    }
+
+pub wide_ended : (n m : ℕ) (left left' : Deferred Reply Reply) (t : Told Reply Reply) → m ≤ n → Tells left left' t → HasWidth left n → HasWidth left' m
+wide_ended n m left left' t less tells wide =
+    record {
+      wakes = omega (arith, less, wide.wakes, tells.notes.wakes_memory);
+      completions = omega (arith, less, wide.completions, tells.notes.completions_memory);
+      outputs = omega (arith, less, wide.outputs, tells.outputs_memory);
+      resources = omega (arith, less, wide.resources, tells.resources_memory);
+      results = omega (arith, less, wide.results, tells.results_memory);
+    }
+
+pub places_fewer : {left : Deferred Reply Reply} {ended : List ℕ} {n m : ℕ} → m ≤ n → IsTold ended left n → IsTold ended left m
+places_fewer less told =
+    let room = told.room in
+    record {
+      resources = told.resources;
+      room = record {
+        notes = record { wakes = omega (arith, less, room.notes.wakes); completions = omega (arith, less, room.notes.completions) };
+        outputs = omega (arith, less, room.outputs);
+        resources = omega (arith, less, room.resources);
+        results = omega (arith, less, room.results);
+      };
+    }

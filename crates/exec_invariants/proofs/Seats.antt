@@ -1,0 +1,39 @@
+-- What the machine sees of seats.
+use Rattle.std.{proofs.{Common.{◌≡◌, ℕ, zero, suc, Bool, true, List, [], ◌∷◌, Some, Option, refl, ap, slice_get, slice_set}, lemmas.Option.get_or_from_slice_get}, specs.List.list_all}
+use Rattle.exec_task.specs.declared.body.Said.{Said}
+use Rattle.exec_machine.specs.{Progress.Plan, World.{Seat, seat_of, no_seat}}
+use Rattle.exec_parts.specs.{declared.parts.{seat.Seat.Seat as Chair, shared.Shared.Shared, worker.Worker.Worker}, Spots.Spot, View.{Views, Visible, visible, common_of, seats_seen, seat_seen}}
+use Rattle.exec_invariants.specs.Works.{Suits}
+
+-- what is seen of one chair
+pub seat_there : (vs : List Visible) (seats : List Chair) (i : ℕ) (v : Visible) (chair : Chair) → slice_get vs i ≡ Some v → slice_get seats i ≡ Some chair
+    → slice_get (seats_seen vs seats) i ≡ Some (seat_seen v chair)
+seat_there [] seats i v chair seen there = absurd (cc)
+seat_there (x ∷ vs) [] i v chair seen there = absurd (cc)
+seat_there (x ∷ vs) (seat ∷ seats) zero v chair seen there =
+    let one : x ≡ v = cc in
+    let two : seat ≡ chair = cc in
+    rw (one, two) refl
+seat_there (x ∷ vs) (seat ∷ seats) (suc i) v chair seen there = seat_there vs seats i v chair seen there
+
+-- The machine sees the chair that was changed.
+pub chair_set : (vs : List Visible) (seats : List Chair) (i : ℕ) (v : Visible) (chair : Chair) → slice_get vs i ≡ Some v
+    → seats_seen vs (slice_set seats i chair) ≡ slice_set (seats_seen vs seats) i (seat_seen v chair)
+chair_set [] seats i v chair seen = absurd (cc)
+chair_set (x ∷ vs) [] i v chair seen = refl
+chair_set (x ∷ vs) (seat ∷ seats) zero v chair seen =
+    let same : x ≡ v = cc in
+    ap (λ y. seat_seen y chair ∷ seats_seen vs seats) same
+chair_set (x ∷ vs) (seat ∷ seats) (suc i) v chair seen = ap (λ xs. seat_seen x seat ∷ xs) (chair_set vs seats i v chair seen)
+
+-- what each chair passes is passed by what is seen of it
+pub seats_all : (f : Seat → Bool) (vs : List Visible) (seats : List Chair) → ((k : ℕ) (v : Visible) (chair : Chair) → slice_get seats k ≡ Some chair → f (seat_seen v chair) ≡ true) → list_all f (seats_seen vs seats) ≡ true
+seats_all f [] seats h = refl
+seats_all f (v ∷ vs) [] h = refl
+seats_all f (v ∷ vs) (seat ∷ seats) h = rw (h 0 v seat refl) (seats_all f vs seats (λ k x chair there. h (suc k) x chair there))
+
+module _ {B L : Type 0} (left : B → L) (spot : L → Option Said → Spot) where
+  pub own_seat : (p : Plan) (vs : Views) (w : Worker) (s : Shared B) (chair : Chair) → Suits p vs w s → slice_get s.seats.items w.index ≡ Some chair
+      → seat_of (common_of left spot p vs s) w.index ≡ seat_seen (visible w) chair
+  own_seat p vs w s chair suits there =
+      get_or_from_slice_get (seats_seen vs.workers s.seats.items) w.index (seat_seen (visible w) chair) no_seat (seat_there vs.workers s.seats.items w.index (visible w) chair suits.seen there)

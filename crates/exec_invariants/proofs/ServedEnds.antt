@@ -1,0 +1,443 @@
+-- What is sent elsewhere, and what tasks hold, once a request is over within a service.
+use Rattle.std.proofs.{Common.{◌≡◌, ◌≢◌, ◌⊎◌, ℕ, zero, suc, ◌+◌, ◌≤◌, ◌<◌, ◌&&◌, ◌||◌, not, cond, Bool, true, false, Contains, List, [], ◌∷◌, ◌++◌, count_by, length, sum_by, Option, Some, None, IsSome, Result, Ok, Err, refl, sym, ap, subst, ◌∙◌, arith, inl, inr, slice_get, slice_set, is_some}, lemmas.{Bool.{false≢true, eq-eqb}, List.{Recursion.is_count_by, append-nil, Elements.Contains-append_cases}}}
+use Rattle.exec_base.specs.{Slab.{Slab, value_at}, declared.{error.Error.Error, one_shot.OneShotState.OneShotState, slab.Id.Id}}
+use Rattle.exec_outcomes.specs.{Accounts.Account, declared.outcome.Outcome.Outcome}
+use Rattle.exec_time.specs.declared.{notes.ForwardedResult.ForwardedResult, timers.Sleeper.Sleeper as Sleeping}
+use Rattle.exec_request.specs.{Requests.{output_of, retired_of}, States.Ended, declared.output.RequestOutput.RequestOutput}
+use Rattle.exec_waiters.{specs.{Events.{output_told, told_by_finish, waker_in}, States.{is_held_by, waiter_at, waiter_of}, Told.{Tells, Told, tasks_of}, declared.{deferred.{Answer.Answer, Deferred.Deferred}, observer.Observer.{Observer, TheVariants.{DetachedSync, Forwarded, Local, Orphaned}}, waiter.{Entry.{Entry, TheVariants.{Pending, Ready}}, Waiter.Waiter}}}, proofs.Changes.entry_of}
+use Rattle.exec_driver.specs.Driving.{Driving}
+use Rattle.exec_machine.specs.{declared.state.{Forwarding.Forwarding, RequestPhase.{RequestPhase, TheVariants.Resolved}}, Tests.{is_applied, is_resolved}}
+use Rattle.exec_parts.{specs.{declared.parts.{mail.{Reply.Reply, Subject.Subject}, names.Names.Names, record.Record.Record, sleeping.SleeperRecord.SleeperRecord}, Records.{number_in, outcome_in}, Serving.changed_at}, proofs.Facts.{by_name, by_number, not_same, same_thing, set_elsewhere, set_there}}
+use Rattle.exec_invariants.{specs.{Due.AreTimed, Holding.{Awaits, Box, Hands, HasAnswer, Holder, IsAnswerOf, IsForwarded, IsHeldBy, IsHolding, IsOwed, Mail, Nap, Owes, Thing, ThingOwes, holdings, mail_in, thing_of, under_way}, Places.one_if, Rooted.{IsKept, IsNear, IsReplyFor, IsResult, IsRooted, Pays, StandsAt, Watches, goes_elsewhere, is_of_request, is_of_timer, outcome_told, results_of}, Sound.{IsAlike, IsNamed}}, proofs.{HoldRedo.holding_redone, Marking.{mark_if, marked}, Over.{OneEnds, apart_number, gone_here, is_over, other_record, unresolved_before}, Resolving.{EntryAfter, ToldOnce}}}
+use Rattle.exec_words.specs.declared.inbox.Message.{Message}
+use Rattle.exec_parts.specs.declared.parts.mail.Subject.TheVariants as subject
+
+-- WHAT IS TOLD of its end, by who waits for it
+
+abbrev pub answers_by : Id → RequestOutput → Observer Reply Reply → List (Answer Reply)
+answers_by id told (Forwarded reply) = record { id = record { 0 = id }; sender = reply; result = Ok told } ∷ []
+answers_by id told _ = []
+
+-- one output is let go, where nobody waits for it
+abbrev pub let_go_by : Observer Reply Reply → ℕ
+let_go_by Orphaned = 1
+let_go_by _ = 0
+
+pub record TellsEnd (id : Id) (told : RequestOutput) (o : Observer Reply Reply) (t : Told Reply Reply) : Type 0 where
+  pub once : ToldOnce t
+  pub wakes : t.wakes ≡ tasks_of (waker_in o)
+  pub results : t.results ≡ answers_by id told o
+  pub completions : t.completions ≡ []
+  pub outputs : length t.outputs ≡ let_go_by o
+
+-- so does each end
+pub ends_told : (id : Id) (it : Waiter Reply Reply) (how : Ended) (account : Option Account) (f : Forwarding) → IsNear it.observer f → TellsEnd id (output_of it.request how account) it.observer (told_by_finish id it how account)
+ends_told id it how account f near = by it.observer near
+  where
+    told : RequestOutput
+    told = output_of it.request how account
+
+    by : (o : Observer Reply Reply) → IsNear o f → TellsEnd id told o (record (output_told id told o) { resources = record { id = record { 0 = id }; resources = retired_of it.request } ∷ [] })
+    by (Local None) near = record { once = record { wakes = omega arith; outputs = omega arith; resources = refl; completions = omega arith; results = omega arith }; wakes = refl; results = refl; completions = refl; outputs = refl }
+    by (Local (Some u)) near = record { once = record { wakes = omega arith; outputs = omega arith; resources = refl; completions = omega arith; results = omega arith }; wakes = refl; results = refl; completions = refl; outputs = refl }
+    by (Forwarded reply) near = record { once = record { wakes = omega arith; outputs = omega arith; resources = refl; completions = omega arith; results = omega arith }; wakes = refl; results = refl; completions = refl; outputs = refl }
+    by (DetachedSync reply) near = absurd near
+    by Orphaned near = record { once = record { wakes = omega arith; outputs = omega arith; resources = refl; completions = omega arith; results = omega arith }; wakes = refl; results = refl; completions = refl; outputs = refl }
+
+-- LISTS
+
+tally : {X : Type 0} → (X → Bool) → List X → ℕ
+tally p [] = 0
+tally p (x ∷ xs) = cond (p x) (1 + tally p xs) (tally p xs)
+
+tallied : {X : Type 0} (p : X → Bool) (xs : List X) → tally p xs ≡ count_by p xs
+unfolding tally
+tallied p xs = is_count_by (tally p) p refl (λ x ys. refl) xs
+
+tally_both : {X : Type 0} (p : X → Bool) (xs ys : List X) → tally p (xs ++ ys) ≡ tally p xs + tally p ys
+unfolding tally
+tally_both p [] ys = let none : tally p [] ≡ 0 = refl in omega (arith, none)
+tally_both p (x ∷ xs) ys = by (p x) (tally_both p xs ys)
+  where
+    by : (b : Bool) → tally p (xs ++ ys) ≡ tally p xs + tally p ys → cond b (1 + tally p (xs ++ ys)) (tally p (xs ++ ys)) ≡ cond b (1 + tally p xs) (tally p xs) + tally p ys
+    by true h = omega (arith, h)
+    by false h = h
+
+pub count_both : {X : Type 0} (p : X → Bool) (xs ys : List X) → count_by p (xs ++ ys) ≡ count_by p xs + count_by p ys
+count_both p xs ys = sym (tallied p (xs ++ ys)) ∙ tally_both p xs ys ∙ ap (λ n. n + tally p ys) (tallied p xs) ∙ ap (λ n. count_by p xs + n) (tallied p ys)
+
+pub count_none : {X : Type 0} (p : X → Bool) → count_by p [] ≡ 0
+unfolding tally
+count_none p = sym (tallied p [])
+
+pub count_one : {X : Type 0} (p : X → Bool) (x : X) (b : Bool) → p x ≡ b → count_by p (x ∷ []) ≡ cond b 1 0
+unfolding tally
+count_one p x b is = sym (tallied p (x ∷ [])) ∙ ap (λ c. cond c (1 + tally p []) (tally p [])) is ∙ by b
+  where
+    by : (b : Bool) → cond b (1 + tally p []) (tally p []) ≡ cond b 1 0
+    by true = refl
+    by false = refl
+
+pub only_one : {X : Type 0} (x y : X) → Contains (x ∷ []) y → x ≡ y
+only_one x y (zero, within, is) = is
+only_one x y (suc n, within, is) = absurd (omega (arith, within))
+
+pub none_in : {X : Type 0} (y : X) → Contains [] y → ⊥
+none_in y (n, within, is) = omega (arith, within)
+
+module _ (i : ℕ) (n n' : Names) (d d' : Driving Reply Reply) (zs : Slab (Sleeping Reply)) (left left' : Deferred Reply Reply) (rs : List Record) (ss : List SleeperRecord) (id : Id) (it : Waiter Reply Reply) (r : Record) (f : Record → Record) (outcome : Outcome) (told : RequestOutput) (t : Told Reply Reply)
+    (one : OneEnds n d d'.requests rs id it r f outcome told) (named : IsNamed i n d zs rs ss) (timed : AreTimed i n rs) (tells : TellsEnd id told it.observer t) (adds : Tells left left' t) (fits : is_held_by it.observer ≡ true → outcome ≡ outcome_told told) (mine : r.shown.worker ≡ i)
+    (requests : n'.requests ≡ n.requests) (timers : n'.timers ≡ n.timers) (rooted : IsRooted i n d zs left rs ss) where
+  abbrev pub k : ℕ
+  k = number_in n.requests.items id
+
+  abbrev pub rs_then : List Record
+  rs_then = changed_at rs k f
+
+  alike : IsAlike d.wheel.start d.wheel.tick it r.shown
+  alike = named.alike id it r one.at one.there
+
+  value_there : value_at d.requests id ≡ Some (Pending it)
+  value_there = entry_of (value_at d.requests id) it one.at
+
+  unresolved : is_resolved r.shown.phase ≡ false
+  unresolved = unresolved_before i n d d' zs rs ss id it r f outcome told one named timed
+
+  -- it, and another
+  pub now_there : slice_get rs_then k ≡ Some (f r)
+  now_there = marked f rs k k r one.there ∙ ap (λ b. Some (mark_if f b r)) (eq-eqb k k refl)
+
+  pub by_record : {P : Type 0} (j : ℕ) (x : Record) → slice_get rs_then j ≡ Some x → (k ≡ j → slice_get rs j ≡ Some r → f r ≡ x → P) → ((k ≡ j → ⊥) → slice_get rs j ≡ Some x → P) → P
+  by_record j x there same other =
+      by_number j k
+      (λ apart. other (λ is. apart (sym is)) (other_record i n d d' zs rs ss id it r f outcome told one named timed j x (λ is. apart (sym is)) there))
+      (λ is. same (sym is) (ap (slice_get rs) is ∙ one.there) (same_thing (f r) x (sym now_there ∙ ap (slice_get rs_then) (sym is) ∙ there)))
+
+  held_is : is_held_by it.observer ≡ r.shown.observed
+  held_is = sym alike.observed
+
+  -- WHAT IS SENT
+
+  results_then : left'.results.items ≡ left.results.items ++ answers_by id told it.observer
+  results_then = adds.results_added ∙ ap (λ xs. left.results.items ++ xs) tells.results
+
+  completions_then : left'.notes.completions.items ≡ left.notes.completions.items
+  completions_then = adds.notes.completions_added ∙ ap (λ xs. left.notes.completions.items ++ xs) tells.completions ∙ append-nil left.notes.completions.items
+
+  goes_then : goes_elsewhere (f r) ≡ is_applied r.shown.forwarding
+  goes_then =
+      ap (λ (y : Record). is_applied y.shown.forwarding && (is_resolved y.shown.phase || not y.shown.observed)) one.ends.same ∙ and_one (is_applied r.shown.forwarding)
+    where
+      and_one : (b : Bool) → (b && true) ≡ b
+      and_one true = refl
+      and_one false = refl
+
+  outcome_open : (p : RequestPhase) → is_resolved p ≡ false → outcome_in p ≡ None
+  outcome_open (Resolved x) h = absurd (false≢true (sym h))
+  outcome_open _ h = refl
+
+  goes_now : (a o : Bool) → is_applied r.shown.forwarding ≡ a → r.shown.observed ≡ o → goes_elsewhere r ≡ (a && (false || not o))
+  goes_now a o ha ho =
+      ap (λ b. b && (is_resolved r.shown.phase || not r.shown.observed)) ha ∙ ap (λ b. a && (b || not r.shown.observed)) unresolved ∙ ap (λ b. a && (false || not b)) ho
+
+  -- so many of its ends are new
+  sent_here : (o : Observer Reply Reply) → it.observer ≡ o → count_by (λ (a : Answer Reply). is_of_request k a.sender.of) (answers_by id told o) + one_if (goes_elsewhere r) ≡ one_if (is_applied r.shown.forwarding)
+  sent_here (Local waker) is =
+      let none : is_applied r.shown.forwarding ≡ false = subst (λ o. IsNear o r.shown.forwarding) is alike.near in
+      let zero_of : one_if (is_applied r.shown.forwarding) ≡ 0 = ap one_if none in
+      let zero_too : one_if (goes_elsewhere r) ≡ 0 = ap one_if (goes_now false r.shown.observed none refl) in
+      omega (arith, zero_of, zero_too, count_none (λ (a : Answer Reply). is_of_request k a.sender.of))
+  sent_here (Forwarded reply) is =
+      let some : is_applied r.shown.forwarding ≡ true = subst (λ o. IsNear o r.shown.forwarding) is alike.near in
+      let held : r.shown.observed ≡ true = sym held_is ∙ ap is_held_by is in
+      let of = (rooted.replies id it reply r one.at is one.there).of in
+      let made : Answer Reply = record { id = record { 0 = id }; sender = reply; result = Ok told } in
+      let counts : count_by (λ (a : Answer Reply). is_of_request k a.sender.of) (made ∷ []) ≡ 1 = count_one (λ (a : Answer Reply). is_of_request k a.sender.of) made true (ap (is_of_request k) of ∙ eq-eqb k k refl) in
+      let zero_of : one_if (goes_elsewhere r) ≡ 0 = ap one_if (goes_now true true some held) in
+      let one_of : one_if (is_applied r.shown.forwarding) ≡ 1 = ap one_if some in
+      omega (arith, counts, zero_of, one_of)
+  sent_here (DetachedSync reply) is = absurd (subst (λ o. IsNear o r.shown.forwarding) is alike.near)
+  sent_here Orphaned is =
+      let free : r.shown.observed ≡ false = sym held_is ∙ ap is_held_by is in
+      let same : one_if (goes_elsewhere r) ≡ one_if (is_applied r.shown.forwarding) = ap one_if (goes_now (is_applied r.shown.forwarding) false refl free ∙ by (is_applied r.shown.forwarding)) in
+      omega (arith, same, count_none (λ (a : Answer Reply). is_of_request k a.sender.of))
+    where
+      by : (b : Bool) → (b && (false || not false)) ≡ b
+      by true = refl
+      by false = refl
+
+  -- another has as many
+  sent_other : (j : ℕ) (o : Observer Reply Reply) → it.observer ≡ o → (k ≡ j → ⊥) → count_by (λ (a : Answer Reply). is_of_request j a.sender.of) (answers_by id told o) ≡ 0
+  sent_other j (Local waker) is apart = count_none (λ (a : Answer Reply). is_of_request j a.sender.of)
+  sent_other j (Forwarded reply) is apart =
+      let of = (rooted.replies id it reply r one.at is one.there).of in
+      let made : Answer Reply = record { id = record { 0 = id }; sender = reply; result = Ok told } in
+      count_one (λ (a : Answer Reply). is_of_request j a.sender.of) made false (ap (is_of_request j) of ∙ not_same k j apart)
+  sent_other j (DetachedSync reply) is apart = count_none (λ (a : Answer Reply). is_of_request j a.sender.of)
+  sent_other j Orphaned is apart = count_none (λ (a : Answer Reply). is_of_request j a.sender.of)
+
+  results_at : (j : ℕ) → results_of j left' ≡ results_of j left + count_by (λ (a : Answer Reply). is_of_request j a.sender.of) (answers_by id told it.observer)
+  results_at j = ap (count_by (λ (a : Answer Reply). is_of_request j a.sender.of)) results_then ∙ count_both (λ (a : Answer Reply). is_of_request j a.sender.of) left.results.items (answers_by id told it.observer)
+
+  sent_then : (j : ℕ) (x : Record) → slice_get rs_then j ≡ Some x → x.shown.worker ≡ i → results_of j left' + one_if x.sent ≡ one_if (goes_elsewhere x)
+  sent_then j x there of_i =
+      by_record j x there
+      (λ is at same.
+      let was = rooted.sent j r at mine in
+      let more = sent_here it.observer refl in
+      let now = results_at k in
+      let all : results_of k left' + one_if r.sent ≡ one_if (is_applied r.shown.forwarding) =
+      let before : results_of k left + one_if r.sent ≡ one_if (goes_elsewhere r) = ap (λ m. results_of m left + one_if r.sent) is ∙ was in
+      omega (arith, now, before, more) in
+      ap (λ (y : Record). results_of j left' + one_if y.sent) (sym same) ∙ ap (λ (y : Record). results_of j left' + one_if y.sent) one.ends.same
+      ∙ ap (λ m. results_of m left' + one_if r.sent) (sym is) ∙ all ∙ ap one_if (sym goes_then) ∙ ap (λ (y : Record). one_if (goes_elsewhere y)) same)
+      (λ apart at.
+      let was = rooted.sent j x at of_i in
+      let none = sent_other j it.observer refl apart in
+      let now = results_at j in
+      omega (arith, now, none, was))
+
+  -- each answer is of a request of the worker
+  answer_old : (a : Answer Reply) → IsResult i a rs → IsResult i a rs_then
+  answer_old a it_is =
+      by_number it_is.k k
+      (λ apart. record {
+        k = it_is.k;
+        r = it_is.r;
+        there = marked f rs k it_is.k it_is.r it_is.there ∙ ap (λ b. Some (mark_if f b it_is.r)) (not_same k it_is.k (λ is. apart (sym is)));
+        worker = it_is.worker;
+        reply = it_is.reply;
+        answer = it_is.answer;
+        paid = it_is.paid;
+      })
+      (λ same.
+      let is : it_is.r ≡ r = same_thing it_is.r r (sym it_is.there ∙ ap (slice_get rs) same ∙ one.there) in
+      record {
+        k = it_is.k;
+        r = f r;
+        there = ap (slice_get rs_then) same ∙ now_there;
+        worker = ap (λ (y : Record). y.shown.worker) one.ends.same ∙ mine;
+        reply = record { of = it_is.reply.of; task = ap (λ (y : Record). y.shown.waiter) one.ends.same ∙ ap (λ (y : Record). y.shown.waiter) (sym is) ∙ it_is.reply.task };
+        answer = still_answers a.result (subst (λ (y : Record). IsAnswerOf a.result (thing_of y)) is it_is.answer);
+        paid = subst (λ m. m ≤ 1) (sym (ap (λ (y : Record). y.shown.wakes_paid) one.ends.same ∙ ap (λ (y : Record). y.shown.wakes_paid) (sym is))) it_is.paid;
+      })
+    where
+      still_answers : (x : Result RequestOutput Error) → IsAnswerOf x (thing_of r) → IsAnswerOf x (thing_of (f r))
+      still_answers (Ok out) h = absurd (let no : None ≡ Some (outcome_told out) = sym (outcome_open r.shown.phase unresolved) ∙ h in cc)
+      still_answers (Err error) h = ap (λ (y : Record). y.shown.observed) one.ends.same ∙ h
+
+  answer_new : (o : Observer Reply Reply) → it.observer ≡ o → (a : Answer Reply) → Contains (answers_by id told o) a → IsResult i a rs_then
+  answer_new (Local waker) is a among = absurd (none_in a among)
+  answer_new (DetachedSync reply) is a among = absurd (none_in a among)
+  answer_new Orphaned is a among = absurd (none_in a among)
+  answer_new (Forwarded reply) is a among =
+      let made : Answer Reply = record { id = record { 0 = id }; sender = reply; result = Ok told } in
+      let same : made ≡ a = only_one made a among in
+      let for = rooted.replies id it reply r one.at is one.there in
+      let held : is_held_by it.observer ≡ true = ap is_held_by is in
+      let unpaid = (rooted.pays k r one.there mine).unpaid unresolved (sym held_is ∙ held) in
+      subst (λ (x : Answer Reply). IsResult i x rs_then) same (record {
+        k = k;
+        r = f r;
+        there = now_there;
+        worker = ap (λ (y : Record). y.shown.worker) one.ends.same ∙ mine;
+        reply = record { of = for.of; task = ap (λ (y : Record). y.shown.waiter) one.ends.same ∙ for.task };
+        answer = ap (λ (y : Record). outcome_in y.shown.phase) one.ends.same ∙ ap (λ x. Some x) (fits held);
+        paid = subst (λ m. m ≤ 1) (sym (ap (λ (y : Record). y.shown.wakes_paid) one.ends.same ∙ unpaid)) (omega arith);
+      })
+
+  -- WHAT IS KEPT
+
+  ready_here : (o : Observer Reply Reply) (e : Option (Entry Reply Reply)) (out : RequestOutput) → it.observer ≡ o → EntryAfter o told e → e ≡ Some (Ready out) → IsKept out (f r)
+  ready_here (Local waker) e out is h at =
+      let same : told ≡ out = let both : Some (Ready told) ≡ Some (Ready out) = sym h ∙ at in cc in
+      record {
+        over = ap (λ (y : Record). y.shown.phase) one.ends.same ∙ ap (λ x. Resolved x) (fits (ap is_held_by is)) ∙ ap (λ x. Resolved (outcome_told x)) same;
+        observed = ap (λ (y : Record). y.shown.observed) one.ends.same ∙ sym held_is ∙ ap is_held_by is;
+        unapplied = ap (λ (y : Record). is_applied y.shown.forwarding) one.ends.same ∙ subst (λ o. IsNear o r.shown.forwarding) is alike.near;
+      }
+  ready_here _ e out is h at = absurd (let no : None ≡ Some (Ready out) = sym h ∙ at in cc)
+
+  -- who holds it finds its output
+  held_after : (o : Observer Reply Reply) (e : Option (Entry Reply Reply)) → it.observer ≡ o → r.shown.observed ≡ true → is_applied r.shown.forwarding ≡ false → EntryAfter o told e → IsSome e
+  held_after (Local waker) e is seen near h = rw h refl
+  held_after (Forwarded reply) e is seen near h = absurd (false≢true (sym near ∙ subst (λ o. IsNear o r.shown.forwarding) is alike.near))
+  held_after (DetachedSync reply) e is seen near h = absurd (subst (λ o. IsNear o r.shown.forwarding) is alike.near)
+  held_after Orphaned e is seen near h = absurd (false≢true (sym (sym held_is ∙ ap is_held_by is) ∙ seen))
+
+  named_id : r.id.0 ≡ id
+  named_id =
+      let a = named.requests id (rw value_there refl) in
+      let same : a.0 ≡ r = same_thing a.0 r (sym a.1 ∙ one.there) in
+      ap (λ (y : Record). y.id.0) (sym same) ∙ a.2
+
+  ready_then : (j : ℕ) (x : Record) → slice_get rs_then j ≡ Some x → x.shown.worker ≡ i → is_resolved x.shown.phase ≡ true → x.shown.observed ≡ true → is_applied x.shown.forwarding ≡ false → StandsAt j n' d' x
+  ready_then j x there of_i over seen unapplied =
+      by_record j x there
+      (λ is at same.
+      let name : x.id.0 ≡ id = ap (λ (y : Record). y.id.0) (sym same) ∙ ap (λ (y : Record). y.id.0) one.ends.same ∙ named_id in
+      let observed : r.shown.observed ≡ true = sym (ap (λ (y : Record). y.shown.observed) one.ends.same) ∙ ap (λ (y : Record). y.shown.observed) same ∙ seen in
+      let near : is_applied r.shown.forwarding ≡ false = sym (ap (λ (y : Record). is_applied y.shown.forwarding) one.ends.same) ∙ ap (λ (y : Record). is_applied y.shown.forwarding) same ∙ unapplied in
+      record {
+        named = ap (λ v. number_in v.items x.id.0) requests ∙ ap (number_in n.requests.items) name ∙ is;
+        live = subst (λ y. IsSome (value_at d'.requests y)) (sym name) (held_after it.observer (value_at d'.requests id) refl observed near one.slab.here);
+      })
+      (λ apart at.
+      let was = rooted.ready j x at of_i over seen unapplied in
+      let other : x.id.0 ≢ id = λ e. apart (ap (number_in n.requests.items) (sym e) ∙ was.named) in
+      record {
+        named = ap (λ v. number_in v.items x.id.0) requests ∙ was.named;
+        live = subst IsSome (sym (one.slab.others x.id.0 other)) was.live;
+      })
+
+  some_there : (other : Id) (e : Entry Reply Reply) → value_at d.requests other ≡ Some e → IsSome (value_at d.requests other)
+  some_there other e at = rw at refl
+
+  elsewhere_there : (other : Id) (x : Record) → IsSome (value_at d.requests other) → other ≢ id → slice_get rs_then (number_in n'.requests.items other) ≡ Some x → slice_get rs (number_in n.requests.items other) ≡ Some x
+  elsewhere_there other x some apart there =
+      other_record i n d d' zs rs ss id it r f outcome told one named timed (number_in n.requests.items other) x (apart_number i n d d' zs rs ss id it r f outcome told one named timed other some apart)
+      (ap (λ v. slice_get rs_then (number_in v.items other)) (sym requests) ∙ there)
+
+  pub rooted_ended : IsRooted i n' d' zs left' rs_then ss
+  rooted_ended =
+      record {
+        kept = λ other out x at there.
+            by_name other id
+            (λ apart.
+            let was : value_at d.requests other ≡ Some (Ready out) = sym (one.slab.others other apart) ∙ at in
+            rooted.kept other out x was (elsewhere_there other x (some_there other (Ready out) was) apart there))
+            (λ same.
+            let here : slice_get rs_then k ≡ Some x = ap (λ y. slice_get rs_then (number_in n.requests.items y)) (sym same) ∙ ap (λ v. slice_get rs_then (number_in v.items other)) (sym requests) ∙ there in
+            let is : f r ≡ x = same_thing (f r) x (sym now_there ∙ here) in
+            subst (IsKept out) is (ready_here it.observer (value_at d'.requests id) out refl one.slab.here (ap (value_at d'.requests) (sym same) ∙ at)));
+        ready = ready_then;
+        replies = λ other x reply y at forwarded there.
+            let apart : other ≢ id = λ same. let no : Some x ≡ None = sym at ∙ ap (waiter_at d'.requests) same ∙ gone_here i n d d' zs rs ss id it r f outcome told one named timed in absurd (cc) in
+            let was : waiter_at d.requests other ≡ Some x = sym (ap waiter_of (one.slab.others other apart)) ∙ at in
+            let there_was = elsewhere_there other y (rw (entry_of (value_at d.requests other) x was) refl) apart there in
+            subst (λ v. IsReplyFor (number_in v.items other) reply y) (sym requests) (rooted.replies other x reply y was forwarded there_was);
+        watches = λ other x z at there. subst (λ v. Watches (number_in v.items other) x.observer z) (sym timers) (rooted.watches other x z at (ap (λ v. slice_get ss (number_in v.items other)) (sym timers) ∙ there));
+        pays = λ j x there of_i.
+            by_record j x there
+            (λ is at same.
+            let was = rooted.pays j r at mine in
+            subst Pays same (record {
+              unpaid = λ going seen. absurd (false≢true (sym going ∙ is_over i n d d' zs rs ss id it r f outcome told one named timed));
+              once = λ unapplied. subst (λ m. m ≤ 1) (sym (ap (λ (y : Record). y.shown.wakes_paid) one.ends.same)) (was.once (sym (ap (λ (y : Record). is_applied y.shown.forwarding) one.ends.same) ∙ unapplied));
+            }))
+            (λ apart at. rooted.pays j x at of_i);
+        sleeper_pays = rooted.sleeper_pays;
+        results = λ a among.
+            elim (Contains-append_cases left.results.items (answers_by id told it.observer) a (subst (λ xs. Contains xs a) results_then among)) [
+              | inl old ↦ answer_old a (rooted.results a old)
+              | inr new ↦ answer_new it.observer refl a new
+            ];
+        completions = λ c among. rooted.completions c (subst (λ xs. Contains xs c) completions_then among);
+        sent = sent_then;
+        sleeper_sent = λ j z there of_i. ap (λ xs. count_by (λ (c : ForwardedResult Reply). is_of_timer j c.sender.of) xs + one_if z.sent) completions_then ∙ rooted.sleeper_sent j z there of_i;
+      }
+
+-- WHAT TASKS HOLD AND ARE OWED
+
+-- one wake more is owed, if any
+pub record WakesMore (h h' : Hands) (r : Thing) (i u : ℕ) : Type 0 where
+  pub more : h'.wakes i u ≡ h.wakes i u + 1
+  pub worker : r.worker ≡ i
+  pub waiter : r.waiter ≡ Some u
+  pub observed : r.observed ≡ true
+  pub unpaid : r.paid ≡ 0
+  pub unsent : r.sent ≡ false
+
+module _ (h h' : Hands) (workers : ℕ) (hs : List Holder) (ts : List Thing) (naps : List Nap) (boxes : List Box) (k : ℕ) (r : Thing) (outcome : Outcome)
+    (there : slice_get ts k ≡ Some r) (going : r.ended ≡ None) (mail : (m : Mail) → h'.mail m ≡ h.mail m) (wakes : (i u : ℕ) → 0 < h'.wakes i u → (h'.wakes i u ≡ h.wakes i u) ⊎ WakesMore h h' r i u) (old : IsHolding h workers hs ts naps boxes) where
+  abbrev pub ended : Thing
+  ended = record r { ended = Some outcome }
+
+  now_ended : slice_get (slice_set ts k ended) k ≡ Some ended
+  now_ended = set_there ts k ended r there
+
+  never_some : {X : Type 0} {x : X} → None ≡ Some x → ⊥
+  never_some h = absurd (cc)
+
+  owes_on : (i u : ℕ) (o : Option Subject) → Owes i u o ts naps boxes → Owes i u o (slice_set ts k ended) naps boxes
+  owes_on i u None owes = owes
+  owes_on i u (Some (subject.Timer n)) owes = owes
+  owes_on i u (Some (subject.Request n)) owes =
+      by_number n k
+      (λ apart. (owes.0, set_elsewhere ts k n ended apart ∙ owes.1, owes.2))
+      (λ same.
+      let is : owes.0 ≡ r = same_thing owes.0 r (sym owes.1 ∙ ap (slice_get ts) same ∙ there) in
+      let by : ThingOwes i u r boxes = subst (λ x. ThingOwes i u x boxes) is owes.2 in
+      (ended, ap (slice_get (slice_set ts k ended)) same ∙ now_ended, record { worker = by.worker; waiter = by.waiter; unpaid = by.unpaid; unsent = by.unsent; over = inl refl }))
+
+  -- it owed none before
+  none_before : (i u : ℕ) (a : Awaits (subject.Request k) u hs) → r.observed ≡ true → 0 < h.wakes i u → ⊥
+  none_before i u a seen some =
+      let owed = (old.owed i u some).1 in
+      let same : owed.it ≡ a.it = same_thing owed.it a.it (sym owed.there ∙ a.there) in
+      let owes : Owes i u (Some (subject.Request k)) ts naps boxes = subst (λ o. Owes i u o ts naps boxes) (ap (λ (x : Holder). x.awaits) same ∙ a.awaits) owed.owes in
+      let is : owes.0 ≡ r = same_thing owes.0 r (sym owes.1 ∙ there) in
+      elim owes.2.over [
+        | inl over ↦ false≢true (ap is_some (sym going) ∙ ap (λ (x : Thing). is_some x.ended) (sym is) ∙ over)
+        | inr let_go ↦ false≢true (sym let_go.0 ∙ ap (λ (x : Thing). x.observed) is ∙ seen)
+      ]
+
+  owed_then : (i u : ℕ) → 0 < h'.wakes i u → (h'.wakes i u ≡ 1) × IsOwed i u hs (slice_set ts k ended) naps boxes
+  owed_then i u some =
+      elim (wakes i u some) [
+        | inl same ↦
+            let was = old.owed i u (subst (λ n. 0 < n) same some) in
+            (same ∙ was.0, record { it = was.1.it; there = was.1.there; owes = owes_on i u was.1.it.awaits was.1.owes })
+        | inr more ↦
+            let a = old.waited k r u there more.waiter (inl more.observed) in
+            let none : h.wakes i u ≡ 0 = by_zero (h.wakes i u) (λ some. none_before i u a more.observed some) in (
+              more.more ∙ ap (λ n. n + 1) none,
+              record {
+                it = a.it;
+                there = a.there;
+                owes = subst (λ o. Owes i u o (slice_set ts k ended) naps boxes) (sym a.awaits) (ended, now_ended, record { worker = more.worker; waiter = more.waiter; unpaid = more.unpaid; unsent = more.unsent; over = inl refl });
+              },
+            )
+      ]
+    where
+      by_zero : (n : ℕ) → (0 < n → ⊥) → n ≡ 0
+      by_zero zero h = refl
+      by_zero (suc n) h = absurd (h (omega arith))
+
+  answer_on : (o : OneShotState (Result RequestOutput Error)) → HasAnswer o r → HasAnswer o ended
+  answer_on OneShotState.Open h = h
+  answer_on (OneShotState.Sent (Ok out)) h = absurd (never_some (sym going ∙ h.1))
+  answer_on (OneShotState.Sent (Err error)) h = h
+  answer_on OneShotState.Closed h = h
+
+  pub holding_ended : IsHolding h' workers hs (slice_set ts k ended) naps boxes
+  holding_ended =
+      holding_redone h h' workers hs hs ts naps boxes None k r ended
+      (record {
+        thing = there;
+        worker = refl;
+        others = λ u other. refl;
+        homes = λ u is. is;
+        holdings_of = λ n other. refl;
+        waiters_of = λ n. refl;
+        mail = λ m apart. mail m;
+        made = λ m some. old.made m (subst (λ n. 0 < n) (mail m) some);
+        held = λ box at is. subst (λ n. IsHeldBy box.shut r.observed (holdings k hs) n) (sym (way (Message.Cancel (subject.Request k)))) is;
+        forwarded = λ box at is. subst (IsForwarded box.shut r.forwarding) (sym (way (Message.Forward (subject.Request k)))) is;
+        asked = old.asked k r there;
+        sent = old.sent k r there;
+        waited = λ u waiter due. old.waited k r u there waiter due;
+        waited_on = λ n u other is. is;
+        sleeps_on = λ n u is. is;
+        holds = λ u o j x never. absurd (never_some never);
+        holds_else = λ u o j x other at at_j is by. record { worker = by.worker; near = by.near; here = by.here; waiter = by.waiter; awaited = by.awaited };
+        awaiting = λ u o n never. absurd (never_some never);
+        awaiting_else = λ u o other at is by. record { waiter = by.waiter; near = by.near; here = by.here; newest = by.newest; answer = λ sent. answer_on o.output (by.answer sent) };
+        asleep = λ u o n never. absurd (never_some never);
+        over = λ u o never. absurd (never_some never);
+        owed = owed_then;
+      })
+      old
+    where
+      way : (m : Mail) → under_way h' m boxes ≡ under_way h m boxes
+      way m = ap (λ n. n + sum_by (λ box. mail_in m box.messages) boxes) (mail m)

@@ -1,0 +1,746 @@
+-- Steps of a service: what they keep.
+use Rattle.std.proofs.{Common.{◌≡◌, ◌≢◌, ℕ, zero, ◌+◌, ◌<◌, ◌≤◌, ◌==◌, Bool, true, false, Contains, List, [], count_by, map, Option, Some, None, ◌⊎◌, if◌then◌else◌, refl, sym, ap, subst, ◌∙◌, arith, slice_get, slice_set, option_to_list}, lemmas.Bool.false≢true}
+use Rattle.exec_base.specs.{Slab.{Slab, live_count}, declared.task_no.TaskNo.TaskNo}
+use Rattle.exec_words.specs.{Queue.{Queue, tail_of}, declared.inbox.Message.Message}
+use Rattle.exec_time.specs.declared.timers.Sleeper.{Sleeper as Sleeping}
+use Rattle.exec_waiters.specs.{States.pending_count, declared.waiter.Entry.Entry}
+use Rattle.exec_driver.specs.Driving.{Driving, seen}
+use Rattle.exec_task.specs.{TaskSet.Set, declared.runnable.Runnable.Runnable}
+use Rattle.exec_machine.specs.{declared.{config.Configuration.Configuration, event.Event.TheVariants.Serve, state.Next.Next}, Ranges.ring_size, Tests.is_at_large}
+use Rattle.exec_moves.specs.{declared.{handing.AfterCallbacks.AfterCallbacks, idling.{AfterWait.AfterWait, InRingWait.InRingWait}, place.{InService.InService, Service.Service, Place.Place, InCallbacks.InCallbacks, InMail.InMail}}, Seen.{polls_at, next_at, serves_at}}
+use Rattle.exec_parts.{specs.{Calls.IsTold, declared.parts.{mail.{Reply.Reply, Subject.Subject}, record.Record.Record, sleeping.SleeperRecord.SleeperRecord, seat.Seat.Seat as Chair, shared.Shared.Shared, task_slot.TaskSlot.TaskSlot, worker.{Worker.Worker, Moments.Moments}}, Phased.{IsPhased, closes_at, closing_in, stage_of}, Roles.is_pool, Serving.changed_at, View.{driver_of, letters_in, own_of, owed_at}}, proofs.{Facts.{by_number, not_same, set_elsewhere, set_there}, Showing.map_kept}}
+use Rattle.exec_invariants.{specs.{Sound.{Aims, AreOver, HasBatch, HasGuest, HasLetters, HasQueue, HasRunnable, HasWidth, IsHeld, IsInHand, IsLeft, IsLetter, IsLoot, IsMineIn, IsMyMail, IsNamed, IsSearching, IsSeated, IsTied, LetsGoAt, SoundAt, Stands, Stops, Serves as ServesTask, root_in_hand, served_in, tellers}, Carried.{HasRoom, IsCarried}, Due.{IsDue, wheel_moment}, Drained.{Duties, IsBefore, IsOver, IsPool, in_set}, Flown.HasFlown, Gates.{AreLinedUp, HaveGates, IsKnown, has_hint_at}, Holding.{Hands, IsHolding, Mail, holder_of, nap_of, thing_of, box_of}, HoldPlaces.{cancels_at, has_wakes_at, heard_at, is_bare_at, sends_cancel_at, spare_at}, Places.{Drops, begins_at, passes_at, calls_back_at, claims_at, clears_at, drops_at, hands_on_at, has_count_at, has_loot_at, is_armed_at, is_number, is_pooled_at, is_published_at, joins_at, one_if, or_polls, polled_in, removes_at, searches_at, step_of_poll, task_at}, Rooted.{HearsNext, IsRooted}, Spares.{RecordsEndure, SleeperEndures, SleepersEndure, Spares}, Whole.{IsWhole, Profile, duties_of, hands_of, wakes_with, with_worker}, Works.Beside}, proofs.{Aside.spared, Lined.{KeepsLines, SameAtGate, SameLines, gates_kept, gates_opens, lined_kept, lined_opens, lines_changed, lines_same, now, opens_same}, Marking.{mark_if, marked, was_marked}, Spared.{sleeper_spared, sleepers_endure, spared_same}}}
+
+-- PLACES
+
+-- a service that tells no other worker of a permit, what follows it, and a wait on the ring
+abbrev pub is_calm : Place → Bool
+is_calm (Place.Service (InService.Signal worker b) v) = false
+is_calm (Place.Service (InService.Raise ring worker b) v) = false
+is_calm (Place.Service x v) = true
+is_calm (Place.Mail InMail.LoadMailWord) = true
+is_calm (Place.Mail (InMail.Apply zero taken)) = true
+is_calm (Place.Callbacks InCallbacks.TakeBatch AfterCallbacks.Begin) = true
+is_calm (Place.Callbacks InCallbacks.TakeBatch AfterCallbacks.Finish) = true
+is_calm (Place.RingWait (InRingWait.DisarmRing AfterWait.Begin) y) = true
+is_calm (Place.RingWait (InRingWait.DisarmRing AfterWait.Serve) y) = true
+is_calm (Place.RingWait (InRingWait.DisarmRing next) y) = false
+is_calm (Place.RingWait x y) = true
+is_calm _ = false
+
+-- nothing is polled, owed, handed on, claimed or counted there, and it names no other worker
+pub record IsCalm (q : Place) : Type 0 where
+  pub polls : polls_at q ≡ None
+  pub free : next_at q ≡ Next.Free
+  pub owes : (n : ℕ) → owed_at n q ≡ []
+  pub begins : begins_at q ≡ None
+  pub hands : hands_on_at q ≡ false
+  pub loot : has_loot_at q ≡ false
+  pub calls : calls_back_at q ≡ None
+  pub claims : claims_at q ≡ None
+  pub counts : has_count_at q ≡ false
+  pub clears : clears_at q ≡ None
+  pub removes : removes_at q ≡ None
+  pub joins : joins_at q ≡ None
+  pub stands : (root : ℕ) → polled_in root q ≡ None
+  pub closing : closing_in q ≡ None
+  pub unpooled : is_pooled_at q ≡ false
+  pub spare : spare_at q ≡ 64
+  pub heard : heard_at q ≡ None
+  pub cancels : cancels_at q ≡ false
+  pub sends : sends_cancel_at q ≡ false
+  pub queue_in : (x : Queue Runnable) → HasQueue q x → x.held ≡ []
+  pub queue_out : (x : Queue Runnable) → x.held ≡ [] → HasQueue q x
+  pub aims : (c : Configuration) (i : ℕ) (seats : List Chair) → Aims q c i seats
+  pub lets_in : (requests : Slab (Entry Reply Reply)) (zs : Slab (Sleeping Reply)) → LetsGoAt q requests zs → is_bare_at q ≡ true → live_count zs ≡ 0
+  pub lets_out : (requests : Slab (Entry Reply Reply)) (zs : Slab (Sleeping Reply)) → (is_bare_at q ≡ true → live_count zs ≡ 0) → LetsGoAt q requests zs
+
+pub calm : (q : Place) → is_calm q ≡ true → IsCalm q
+calm (Place.Service (InService.Signal worker b) v) h = absurd (false≢true h)
+calm (Place.Service (InService.Raise ring worker b) v) h = absurd (false≢true h)
+calm (Place.Service x v) h =
+    record {
+      polls = refl;
+      free = refl;
+      owes = λ n. refl;
+      begins = refl;
+      hands = refl;
+      loot = refl;
+      calls = refl;
+      claims = refl;
+      counts = refl;
+      clears = refl;
+      removes = refl;
+      joins = refl;
+      stands = λ root. refl;
+      closing = refl;
+      unpooled = refl;
+      spare = refl;
+      heard = refl;
+      cancels = refl;
+      sends = refl;
+      queue_in = λ y e. e;
+      queue_out = λ y e. e;
+      aims = λ c i seats. tt;
+      lets_in = λ rs zs h. h;
+      lets_out = λ rs zs h. h;
+    }
+calm (Place.Mail InMail.LoadMailWord) h =
+    record {
+      polls = refl;
+      free = refl;
+      owes = λ n. refl;
+      begins = refl;
+      hands = refl;
+      loot = refl;
+      calls = refl;
+      claims = refl;
+      counts = refl;
+      clears = refl;
+      removes = refl;
+      joins = refl;
+      stands = λ root. refl;
+      closing = refl;
+      unpooled = refl;
+      spare = refl;
+      heard = refl;
+      cancels = refl;
+      sends = refl;
+      queue_in = λ y e. e;
+      queue_out = λ y e. e;
+      aims = λ c i seats. tt;
+      lets_in = λ rs zs h. h;
+      lets_out = λ rs zs h. h;
+    }
+calm (Place.Mail (InMail.Apply zero taken)) h =
+    record {
+      polls = refl;
+      free = refl;
+      owes = λ n. refl;
+      begins = refl;
+      hands = refl;
+      loot = refl;
+      calls = refl;
+      claims = refl;
+      counts = refl;
+      clears = refl;
+      removes = refl;
+      joins = refl;
+      stands = λ root. refl;
+      closing = refl;
+      unpooled = refl;
+      spare = refl;
+      heard = refl;
+      cancels = refl;
+      sends = refl;
+      queue_in = λ y e. e;
+      queue_out = λ y e. e;
+      aims = λ c i seats. omega arith;
+      lets_in = λ rs zs h. h;
+      lets_out = λ rs zs h. h;
+    }
+calm (Place.Callbacks InCallbacks.TakeBatch AfterCallbacks.Begin) h =
+    record {
+      polls = refl;
+      free = refl;
+      owes = λ n. refl;
+      begins = refl;
+      hands = refl;
+      loot = refl;
+      calls = refl;
+      claims = refl;
+      counts = refl;
+      clears = refl;
+      removes = refl;
+      joins = refl;
+      stands = λ root. refl;
+      closing = refl;
+      unpooled = refl;
+      spare = refl;
+      heard = refl;
+      cancels = refl;
+      sends = refl;
+      queue_in = λ y e. e;
+      queue_out = λ y e. e;
+      aims = λ c i seats. tt;
+      lets_in = λ rs zs h. h;
+      lets_out = λ rs zs h. h;
+    }
+calm (Place.Callbacks InCallbacks.TakeBatch AfterCallbacks.Finish) h =
+    record {
+      polls = refl;
+      free = refl;
+      owes = λ n. refl;
+      begins = refl;
+      hands = refl;
+      loot = refl;
+      calls = refl;
+      claims = refl;
+      counts = refl;
+      clears = refl;
+      removes = refl;
+      joins = refl;
+      stands = λ root. refl;
+      closing = refl;
+      unpooled = refl;
+      spare = refl;
+      heard = refl;
+      cancels = refl;
+      sends = refl;
+      queue_in = λ y e. e;
+      queue_out = λ y e. e;
+      aims = λ c i seats. tt;
+      lets_in = λ rs zs h. h;
+      lets_out = λ rs zs h. h;
+    }
+calm (Place.RingWait (InRingWait.DisarmRing AfterWait.Begin) y) h =
+    record {
+      polls = refl;
+      free = refl;
+      owes = λ n. refl;
+      begins = refl;
+      hands = refl;
+      loot = refl;
+      calls = refl;
+      claims = refl;
+      counts = refl;
+      clears = refl;
+      removes = refl;
+      joins = refl;
+      stands = λ root. refl;
+      closing = refl;
+      unpooled = refl;
+      spare = refl;
+      heard = refl;
+      cancels = refl;
+      sends = refl;
+      queue_in = λ x e. e;
+      queue_out = λ x e. e;
+      aims = λ c i seats. tt;
+      lets_in = λ rs zs h. h;
+      lets_out = λ rs zs h. h;
+    }
+calm (Place.RingWait (InRingWait.DisarmRing AfterWait.Serve) y) h =
+    record {
+      polls = refl;
+      free = refl;
+      owes = λ n. refl;
+      begins = refl;
+      hands = refl;
+      loot = refl;
+      calls = refl;
+      claims = refl;
+      counts = refl;
+      clears = refl;
+      removes = refl;
+      joins = refl;
+      stands = λ root. refl;
+      closing = refl;
+      unpooled = refl;
+      spare = refl;
+      heard = refl;
+      cancels = refl;
+      sends = refl;
+      queue_in = λ x e. e;
+      queue_out = λ x e. e;
+      aims = λ c i seats. tt;
+      lets_in = λ rs zs h. h;
+      lets_out = λ rs zs h. h;
+    }
+calm (Place.RingWait (InRingWait.DisarmRing next) y) h = absurd (false≢true h)
+calm (Place.RingWait x y) h =
+    record {
+      polls = refl;
+      free = refl;
+      owes = λ n. refl;
+      begins = refl;
+      hands = refl;
+      loot = refl;
+      calls = refl;
+      claims = refl;
+      counts = refl;
+      clears = refl;
+      removes = refl;
+      joins = refl;
+      stands = λ root. refl;
+      closing = refl;
+      unpooled = refl;
+      spare = refl;
+      heard = refl;
+      cancels = refl;
+      sends = refl;
+      queue_in = λ y e. e;
+      queue_out = λ y e. e;
+      aims = λ c i seats. tt;
+      lets_in = λ rs zs h. h;
+      lets_out = λ rs zs h. h;
+    }
+calm _ h = absurd (false≢true h)
+
+-- WHAT HOLDS AGAIN
+
+-- what of a worker a service changes
+abbrev pub IsServed : Worker → Worker → Type 0
+IsServed w v =
+    v ≡ record w { place = v.place; home = record w.home { driver = v.home.driver; timers = v.home.timers; deferred = v.home.deferred }; names = record w.names { ended = v.names.ended; staged = v.names.staged; untold = v.names.untold }; put_off = v.put_off }
+
+-- and what of that which is shared
+abbrev pub OthersKept : {B : Type 0} → Shared B → Shared B → Type 0
+OthersKept s t = t ≡ record s { requests = t.requests; sleepers = t.sleepers; opens = t.opens }
+
+-- what a step leads to where nothing is polled, and neither the closing nor a wait on a word begins or ends
+pub record Follows (q q' : Place) : Type 0 where
+  pub from : is_calm q ≡ true
+  pub to : is_calm q' ≡ true
+  pub serves : serves_at q' ≡ serves_at q
+  pub armed : is_armed_at q' ≡ is_armed_at q
+  pub closes : closes_at q' ≡ closes_at q
+  pub wakes : has_wakes_at q' ≡ has_wakes_at q
+  pub moment : (m : Moments) → wheel_moment (served_in q') m ≡ wheel_moment (served_in q) m
+  pub searches : searches_at q' ≡ searches_at q
+  pub published : is_published_at q' ≡ is_published_at q
+  pub bare : is_bare_at q' ≡ is_bare_at q
+  pub batch : (ms : List Mail) → HasBatch q ms → HasBatch q' ms
+
+-- A step of a service leads from a calm place to one. Of the worker its driver, its sleepers, what is left to be told, its
+-- numbers and what it put off may change, and of what is shared its own records, and what is kept of opens.
+pub record Serves {B : Type 0} (q : Place) (w w' : Worker) (s s' : Shared B) : Type 0 where
+  pub worker : IsServed w w'
+  pub shared : OthersKept s s'
+  pub from : is_calm q ≡ true
+  pub to : is_calm w'.place ≡ true
+  pub armed : is_armed_at w'.place ≡ is_armed_at q
+  pub closes : closes_at w'.place ≡ closes_at q
+  pub searches : searches_at w'.place ≡ searches_at q
+  pub published : is_published_at w'.place ≡ is_published_at q
+  pub batch : HasBatch q w.batch.values → HasBatch w'.place w.batch.values
+
+-- by where the worker is then
+pub serves_to : {B : Type 0} (q q' : Place) (w w' : Worker) (s s' : Shared B) → IsServed w w' → OthersKept s s' → w'.place ≡ q' → Follows q q' → Serves q w w' s s'
+serves_to q q' w w' s s' worker shared there follows =
+    record {
+      worker = worker;
+      shared = shared;
+      from = follows.from;
+      to = ap is_calm there ∙ follows.to;
+      armed = ap is_armed_at there ∙ follows.armed;
+      closes = ap closes_at there ∙ follows.closes;
+      searches = ap searches_at there ∙ follows.searches;
+      published = ap is_published_at there ∙ follows.published;
+      batch = λ has. subst (λ p. HasBatch p w.batch.values) (sym there) (follows.batch w.batch.values has);
+    }
+
+-- What must hold again then, of a worker with this driver and these sleepers, and of the records.
+pub record KeepsWith {B : Type 0} (spare : ℕ) (w : Worker) (d : Driving Reply Reply) (zs : Slab (Sleeping Reply)) (rs : List Record) (ss : List SleeperRecord) (s : Shared B) : Type 0 where
+  pub told : IsTold w.names.ended.items w.home.deferred (tellers d.requests zs + spare)
+  pub wide : HasWidth w.home.deferred (tellers d.requests zs + 64)
+  pub named : IsNamed w.index w.names d zs rs ss
+  pub sized : d.ring.size ≡ ring_size s.config
+  pub over : AreOver w.index w.names.ended.items w.names.unreleased (pending_count d.requests) rs
+  pub quiet : has_wakes_at w.place ≡ false → w.home.deferred.notes.wakes.items ≡ []
+  pub due : IsDue (served_in w.place) w.home.closing w.index w.moments s.config w.names d zs rs ss
+  pub flown : HasFlown (served_in w.place) w.index w.names d rs
+  pub carried : IsCarried w.names.requests.items d.requests d.ring rs s.store
+  pub known : IsKnown w.index w.names.requests.items d.requests s.opens rs
+  pub rooted : IsRooted w.index w.names d zs w.home.deferred rs ss
+  pub bare : is_bare_at w.place ≡ true → live_count zs ≡ 0
+
+-- with the room of a turn's messages, as at calm places
+abbrev pub KeepsBy : {B : Type 0} → Worker → Driving Reply Reply → Slab (Sleeping Reply) → List Record → List SleeperRecord → Shared B → Type 0
+KeepsBy w d zs rs ss s = KeepsWith 64 w d zs rs ss s
+
+abbrev pub KeepsSpare : {B : Type 0} → ℕ → Worker → Shared B → Type 0
+KeepsSpare n w s = KeepsWith n w (driver_of w) w.home.timers s.requests.items s.sleepers.items s
+
+abbrev pub Keeps : {B : Type 0} → Worker → Shared B → Type 0
+Keeps w s = KeepsBy w (driver_of w) w.home.timers s.requests.items s.sleepers.items s
+
+-- by what a worker with another driver was, and by a driver and records
+pub keeps_home : {B : Type 0} {spare : ℕ} (w1 w' : Worker) (s s' : Shared B) (rs : List Record) (d : Driving Reply Reply)
+    → w' ≡ record w1 { home = record w1.home { driver = w'.home.driver } } → s' ≡ record s { requests = s'.requests } → driver_of w' ≡ d → s'.requests.items ≡ rs
+    → KeepsWith spare w1 d w1.home.timers rs s.sleepers.items s → KeepsSpare spare w' s'
+keeps_home {spare = spare} w1 w' s s' rs d worker shared driver records keeps =
+    let w2 : Worker = record w1 { home = record w1.home { driver = w'.home.driver } } in
+    let zs = w1.home.timers in
+    let by_records : KeepsWith spare w1 d zs s'.requests.items s.sleepers.items s = subst (λ x. KeepsWith spare w1 d zs x s.sleepers.items s) (sym records) keeps in
+    let by_driver : KeepsWith spare w1 (driver_of w') zs s'.requests.items s.sleepers.items s = subst (λ x. KeepsWith spare w1 x zs s'.requests.items s.sleepers.items s) (sym driver) by_records in
+    let by_home : KeepsWith spare w2 (driver_of w') zs s'.requests.items s.sleepers.items s = assumption by_driver in
+    let by_worker : KeepsWith spare w' (driver_of w') w'.home.timers s'.requests.items s.sleepers.items s =
+    subst (λ x. KeepsWith spare x (driver_of w') x.home.timers s'.requests.items s.sleepers.items s) (sym worker) by_home in
+    subst (λ y. KeepsWith spare w' (driver_of w') w'.home.timers s'.requests.items y.sleepers.items y) (sym shared) (assumption by_worker)
+
+-- the same where the worker's place, what it put off and some of its numbers have changed
+pub keeps_all : {B : Type 0} (w w' : Worker) (s s' : Shared B) (rs : List Record) (d : Driving Reply Reply) →
+    let w1 : Worker = record w { place = w'.place; put_off = w'.put_off; names = record w.names { staged = w'.names.staged; untold = w'.names.untold } } in
+    w' ≡ record w1 { home = record w.home { driver = w'.home.driver } } → s' ≡ record s { requests = s'.requests } → driver_of w' ≡ d → s'.requests.items ≡ rs
+    → KeepsBy w1 d w.home.timers rs s.sleepers.items s → Keeps w' s'
+keeps_all w w' s s' rs d = keeps_home (record w { place = w'.place; put_off = w'.put_off; names = record w.names { staged = w'.names.staged; untold = w'.names.untold } }) w' s s' rs d
+
+abbrev pub nap_sent : SleeperRecord → Bool
+nap_sent z = z.sent
+
+module _ {B : Type 0} where
+  -- it owes nobody anything there
+  pub at_large : (q : Place) (w : Worker) (s : Shared B) → SoundAt q w s → is_calm q ≡ true → is_at_large (own_of (record w { place = q })) ≡ true
+  at_large q w s sound from =
+      let it = calm q from in
+      rw (it.polls, it.free, it.owes w.workers, sound.letters.none it.cancels) refl
+
+  -- what holds at a calm place, of those
+  pub kept : (q : Place) (w : Worker) (s : Shared B) → SoundAt q w s → IsCalm q → Keeps w s
+  kept q w s sound from =
+      record {
+        told = subst (λ n. IsTold w.names.ended.items w.home.deferred (tellers (driver_of w).requests w.home.timers + n)) from.spare sound.told;
+        wide = sound.wide;
+        named = sound.named;
+        sized = sound.sized;
+        over = sound.over;
+        quiet = subst (λ p. has_wakes_at p ≡ false → w.home.deferred.notes.wakes.items ≡ []) (sym sound.here) sound.quiet;
+        due = subst (λ p. IsDue (served_in p) w.home.closing w.index w.moments s.config w.names (driver_of w) w.home.timers s.requests.items s.sleepers.items) (sym sound.here) sound.due;
+        flown = subst (λ p. HasFlown (served_in p) w.index w.names (driver_of w) s.requests.items) (sym sound.here) sound.flown;
+        carried = sound.carried;
+        known = sound.known;
+        rooted = sound.rooted;
+        bare = subst (λ p. is_bare_at p ≡ true → live_count w.home.timers ≡ 0) (sym sound.here) (from.lets_in (driver_of w).requests w.home.timers sound.lets_go);
+      }
+
+  -- WHAT OTHERS RELY ON: each record and sleeper of another worker is as it was, and none is new
+
+  pub record SparesRecords (i : ℕ) (s s' : Shared B) : Type 0 where
+    pub records : (k : ℕ) (r : Record) → slice_get s.requests.items k ≡ Some r → r.shown.worker ≢ i → slice_get s'.requests.items k ≡ Some r
+    pub records_only : (k : ℕ) (r : Record) → slice_get s'.requests.items k ≡ Some r → r.shown.worker ≢ i → slice_get s.requests.items k ≡ Some r
+    pub sleepers : (k : ℕ) (z : SleeperRecord) → slice_get s.sleepers.items k ≡ Some z → z.shown.worker ≢ i → slice_get s'.sleepers.items k ≡ Some z
+    pub sleepers_only : (k : ℕ) (z : SleeperRecord) → slice_get s'.sleepers.items k ≡ Some z → z.shown.worker ≢ i → slice_get s.sleepers.items k ≡ Some z
+    pub lines : KeepsLines s.requests.items s'.requests.items
+    pub naps : SleepersEndure s.sleepers.items s'.sleepers.items
+    pub opens : SameLines s.opens s'.opens
+    pub sent : map nap_sent s'.sleepers.items ≡ map nap_sent s.sleepers.items
+
+  -- the same, where who stands at gates changes too: what others rely on of that
+  pub record SparesGates (i : ℕ) (s s' : Shared B) : Type 0 where
+    pub records : (k : ℕ) (r : Record) → slice_get s.requests.items k ≡ Some r → r.shown.worker ≢ i → slice_get s'.requests.items k ≡ Some r
+    pub records_only : (k : ℕ) (r : Record) → slice_get s'.requests.items k ≡ Some r → r.shown.worker ≢ i → slice_get s.requests.items k ≡ Some r
+    pub sleepers : (k : ℕ) (z : SleeperRecord) → slice_get s.sleepers.items k ≡ Some z → z.shown.worker ≢ i → slice_get s'.sleepers.items k ≡ Some z
+    pub sleepers_only : (k : ℕ) (z : SleeperRecord) → slice_get s'.sleepers.items k ≡ Some z → z.shown.worker ≢ i → slice_get s.sleepers.items k ≡ Some z
+    pub endure : RecordsEndure s.requests.items s'.requests.items
+    pub naps : SleepersEndure s.sleepers.items s'.sleepers.items
+    pub lined : AreLinedUp s.opens s.requests.items → AreLinedUp s'.opens s'.requests.items
+    pub hints : (file : ℕ) → has_hint_at s.opens file ≡ false → has_hint_at s'.opens file ≡ false
+
+  pub spares_gates : (i : ℕ) (s s' : Shared B) → SparesRecords i s s' → SparesGates i s s'
+  spares_gates i s s' spares =
+      record {
+        records = spares.records;
+        records_only = spares.records_only;
+        sleepers = spares.sleepers;
+        sleepers_only = spares.sleepers_only;
+        endure = λ k r there.
+            let new = now s.requests.items s'.requests.items spares.lines k r there in
+            (new.0, new.1, record { worker = ap (λ x. x.key.worker) new.2; forwarded = spares.lines.forwarded k r new.0 there new.1 });
+        naps = spares.naps;
+        lined = λ lined. lined_opens s.opens s'.opens spares.opens s'.requests.items (lined_kept s.requests.items s'.requests.items spares.lines s.opens lined);
+        hints = spares.opens.hints;
+      }
+
+  mine_kept : (workers i : ℕ) (x : Subject) (s s' : Shared B) → SparesGates i s s' → IsMineIn workers i x s.requests.items s.sleepers.items → IsMineIn workers i x s'.requests.items s'.sleepers.items
+  mine_kept workers i (Subject.Request k) s s' spares mine =
+      let new = spares.endure k mine.0 mine.1 in
+      (new.0, new.1, new.2.worker ∙ mine.2, mine.3)
+  mine_kept workers i (Subject.Timer k) s s' spares mine =
+      let new = spares.naps k mine.0 mine.1 in
+      (new.0, new.1, new.2.worker ∙ mine.2, mine.3)
+
+  mail_by : (workers i : ℕ) (m : Mail) (s s' : Shared B) → SparesGates i s s' → IsMyMail workers i m s.requests.items s.sleepers.items → IsMyMail workers i m s'.requests.items s'.sleepers.items
+  mail_by workers i Message.WakeRoot s s' spares mine = tt
+  mail_by workers i (Message.Forward x) s s' spares mine = mine_kept workers i x s s' spares mine
+  mail_by workers i (Message.Cancel x) s s' spares mine = mine_kept workers i x s s' spares mine
+
+  letter_by : (workers i : ℕ) (x : Subject) (j : ℕ) (s s' : Shared B) → SparesGates i s s' → IsLetter workers i x j s.requests.items s.sleepers.items → IsLetter workers i x j s'.requests.items s'.sleepers.items
+  letter_by workers i (Subject.Request k) j s s' spares (mine, apart) = ((mine.0, spares.records k mine.0 mine.1 (λ is. apart (sym mine.2 ∙ is)), mine.2, mine.3), apart)
+  letter_by workers i (Subject.Timer k) j s s' spares (mine, apart) = ((mine.0, spares.sleepers k mine.0 mine.1 (λ is. apart (sym mine.2 ∙ is)), mine.2, mine.3), apart)
+
+  pub mail_kept : (workers i : ℕ) (m : Mail) (s s' : Shared B) → SparesRecords i s s' → IsMyMail workers i m s.requests.items s.sleepers.items → IsMyMail workers i m s'.requests.items s'.sleepers.items
+  mail_kept workers i m s s' spares = mail_by workers i m s s' (spares_gates i s s' spares)
+
+  pub letter_kept : (workers i : ℕ) (x : Subject) (j : ℕ) (s s' : Shared B) → SparesRecords i s s' → IsLetter workers i x j s.requests.items s.sleepers.items → IsLetter workers i x j s'.requests.items s'.sleepers.items
+  letter_kept workers i x j s s' spares = letter_by workers i x j s s' (spares_gates i s s' spares)
+
+  sound_parts : (q : Place) (w v : Worker) (s t : Shared B) → SoundAt q w s → IsCalm q → IsCalm v.place → is_armed_at v.place ≡ is_armed_at q → closes_at v.place ≡ closes_at q → searches_at v.place ≡ searches_at q →
+      let w1 : Worker = record w { place = v.place; home = record w.home { driver = v.home.driver; timers = v.home.timers; deferred = v.home.deferred }; names = record w.names { ended = v.names.ended; staged = v.names.staged; untold = v.names.untold }; put_off = v.put_off } in
+      let s1 : Shared B = record s { requests = t.requests; sleepers = t.sleepers; opens = t.opens } in
+      (HasBatch v.place w.batch.values) → SparesGates w.index s s1 → Keeps w1 s1 → SoundAt v.place w1 s1
+  sound_parts q w v s t sound from to armed closes searches has spares keeps =
+      let s1 : Shared B = record s { requests = t.requests; sleepers = t.sleepers; opens = t.opens } in
+      let gates : AreLinedUp t.opens t.requests.items = spares.lined sound.gates in
+      let seated = subst (λ a. IsSeated w.index a s.config.workers s.seats.items) (sym armed) sound.seated in
+      let begins : begins_at q ≡ begins_at v.place = from.begins ∙ sym to.begins in
+      let runnable = subst (λ o. HasRunnable w.index w.root w.root_ready (root_in_hand o w.root w.hand) s.tasks.items) begins sound.runnable in
+      let genuine = subst (λ o. (r : Runnable) → Contains (option_to_list w.hand) r → IsHeld o w.root s.tasks.items r) begins sound.genuine in
+      let hand = subst (λ o. IsInHand o (hands_on_at v.place) w.hand) begins (subst (λ b. IsInHand (begins_at q) b w.hand) (from.hands ∙ sym to.hands) sound.hand) in
+      let loot = subst (λ b. IsLoot b w.loot) (from.loot ∙ sym to.loot) sound.loot in
+      let searching = subst (λ o. IsSearching o w.searching) (sym searches) sound.searching in
+      let guest : HasGuest (polls_at v.place) (step_of_poll v.place) w.index w.root s.tasks.items = subst (λ o. HasGuest o (step_of_poll v.place) w.index w.root s.tasks.items) (sym to.polls) tt in
+      let stops : Stops (polls_at v.place) (step_of_poll v.place) w.index s.tasks.items t.requests.items t.sleepers.items = subst (λ o. Stops o (step_of_poll v.place) w.index s.tasks.items t.requests.items t.sleepers.items) (sym to.polls) tt in
+      let hears : HearsNext (heard_at v.place) w.index t.requests.items t.sleepers.items = subst (λ o. HearsNext o w.index t.requests.items t.sleepers.items) (sym to.heard) tt in
+      let left : IsLeft (calls_back_at v.place) v.home.deferred = subst (λ o. IsLeft o v.home.deferred) (sym to.calls) tt in
+      let queue : (chair : Chair) → slice_get s.seats.items w.index ≡ Some chair → HasQueue v.place chair.queue = λ chair there. to.queue_out chair.queue (from.queue_in chair.queue (sound.queue chair there)) in
+      let pooled : is_pooled_at v.place ≡ true → is_pool w.role ≡ true = λ h. absurd (false≢true (sym to.unpooled ∙ h)) in
+      let task : task_at v.place ≡ None = ap (λ o. or_polls o (polls_at v.place)) to.begins ∙ to.polls in
+      let serves : ServesTask (task_at v.place) w.root w.role = subst (λ o. ServesTask o w.root w.role) (sym task) tt in
+      let told : IsTold v.names.ended.items v.home.deferred (tellers (seen v.home.driver).requests v.home.timers + spare_at v.place) = subst (λ n. IsTold v.names.ended.items v.home.deferred (tellers (seen v.home.driver).requests v.home.timers + n)) (sym to.spare) keeps.told in
+      let mine : (m : Mail) → Contains w.batch.values m → IsMyMail s.config.workers w.index m t.requests.items t.sleepers.items = λ m among. mail_by s.config.workers w.index m s s1 spares (sound.mine m among) in
+      let none : letters_in w.letters ≡ [] = sound.letters.none from.cancels in
+      let letters : HasLetters (sends_cancel_at v.place) (cancels_at v.place) w.index s.config.workers w.letters t.requests.items t.sleepers.items =
+      record {
+        some = λ h. absurd (false≢true (sym to.sends ∙ h));
+        none = λ h. none;
+        requests = λ h among. letter_by s.config.workers w.index (Subject.Request h.number) h.worker s s1 spares (sound.letters.requests h among);
+        timer = λ h is. letter_by s.config.workers w.index (Subject.Timer h.number) h.worker s s1 spares (sound.letters.timer h is);
+      } in
+      let lets : LetsGoAt v.place (seen v.home.driver).requests v.home.timers = to.lets_out (seen v.home.driver).requests v.home.timers keeps.bare in
+      let phased : (chair : Chair) → slice_get s.seats.items w.index ≡ Some chair → IsPhased w.index (closes_at v.place) (closing_in v.place) w.home.closing w.root w.names.unreleased (stage_of chair s) s.tasks.items = λ chair there.
+      subst (λ c. IsPhased w.index c (closing_in v.place) w.home.closing w.root w.names.unreleased (stage_of chair s) s.tasks.items) (sym closes)
+      (subst (λ x. IsPhased w.index (closes_at q) x w.home.closing w.root w.names.unreleased (stage_of chair s) s.tasks.items) (from.closing ∙ sym to.closing) (sound.phased chair there)) in
+      let tied : IsTied (polled_in w.root v.place) w.index w.root s.tasks.items = record {
+        stands = subst (λ x. (slot : TaskSlot B) → slice_get s.tasks.items w.root ≡ Some slot → Stands x w.index slot) (from.stands w.root ∙ sym (to.stands w.root)) sound.tied.stands;
+      } in
+      assumption (gates, seated, runnable, genuine, hand, loot, searching, guest, stops, hears, left, queue, pooled, serves, told, mine, letters, lets, to.aims s.config w.index s.seats.items, has, phased, tied, sound, keeps)
+
+  pub sound_again_by : (q : Place) (w w' : Worker) (s s' : Shared B) → SoundAt q w s → Serves q w w' s s' → SparesGates w.index s s' → Keeps w' s' → SoundAt w'.place w' s'
+  sound_again_by q w w' s s' sound serves spares keeps =
+      let w1 : Worker = record w { place = w'.place; home = record w.home { driver = w'.home.driver; timers = w'.home.timers; deferred = w'.home.deferred }; names = record w.names { ended = w'.names.ended; staged = w'.names.staged; untold = w'.names.untold }; put_off = w'.put_off } in
+      let s1 : Shared B = record s { requests = s'.requests; sleepers = s'.sleepers; opens = s'.opens } in
+      let by_worker : Keeps w1 s' = subst (λ x. Keeps x s') serves.worker keeps in
+      let by_shared : Keeps w1 s1 = subst (λ y. Keeps w1 y) serves.shared by_worker in
+      let spares1 : SparesGates w.index s s1 = subst (λ y. SparesGates w.index s y) serves.shared spares in
+      let again : SoundAt w'.place w1 s1 = sound_parts q w w' s s' sound (calm q serves.from) (calm w'.place serves.to) serves.armed serves.closes serves.searches (serves.batch sound.batch) spares1 by_shared in
+      let there : SoundAt w'.place w' s1 = subst (λ x. SoundAt w'.place x s1) (sym serves.worker) again in
+      subst (λ y. SoundAt w'.place w' y) (sym serves.shared) there
+
+  pub sound_again : (q : Place) (w w' : Worker) (s s' : Shared B) → SoundAt q w s → Serves q w w' s s' → SparesRecords w.index s s' → Keeps w' s' → SoundAt w'.place w' s'
+  sound_again q w w' s s' sound serves spares keeps = sound_again_by q w w' s s' sound serves (spares_gates w.index s s' spares) keeps
+
+  pub spares_same : (i : ℕ) (s s' : Shared B) → AreLinedUp s.opens s.requests.items → s'.requests.items ≡ s.requests.items → s'.sleepers.items ≡ s.sleepers.items → s'.opens ≡ s.opens → SparesRecords i s s'
+  spares_same i s s' lined requests sleepers opens =
+      record {
+        records = λ k r there other. ap (λ rs. slice_get rs k) requests ∙ there;
+        records_only = λ k r there other. ap (λ rs. slice_get rs k) (sym requests) ∙ there;
+        sleepers = λ k z there other. ap (λ zs. slice_get zs k) sleepers ∙ there;
+        sleepers_only = λ k z there other. ap (λ zs. slice_get zs k) (sym sleepers) ∙ there;
+        lines = lines_same s.requests.items s'.requests.items requests;
+        naps = sleepers_endure s.sleepers.items s'.sleepers.items sleepers;
+        opens = opens_same s.opens s'.opens s.requests.items lined opens;
+        sent = ap (map nap_sent) sleepers;
+      }
+
+  -- one record of it changed
+  pub spares_one : (i : ℕ) (s s' : Shared B) (k : ℕ) (r : Record) (f : Record → Record) → SameLines s.opens s'.opens → SameAtGate r (f r) → s'.requests.items ≡ changed_at s.requests.items k f → s'.sleepers.items ≡ s.sleepers.items → slice_get s.requests.items k ≡ Some r → r.shown.worker ≡ i
+      → ((y : Record) → (f y).shown.worker ≡ y.shown.worker) → SparesRecords i s s'
+  spares_one i s s' k r f opens same records sleepers there mine keeps =
+      let rs = s.requests.items in
+      let apart : (j : ℕ) (x : Record) → slice_get rs j ≡ Some x → x.shown.worker ≢ i → (k == j) ≡ false = λ j x at other.
+      not_same k j (λ same. other (let is : x ≡ r = cc (at, ap (slice_get rs) same, there) in ap (λ y. y.shown.worker) is ∙ mine)) in
+      record {
+        records = λ j x at other. ap (λ xs. slice_get xs j) records ∙ marked f rs k j x at ∙ ap (λ b. Some (mark_if f b x)) (apart j x at other);
+        records_only = λ j x at other.
+            let old = was_marked f rs k j x (ap (λ xs. slice_get xs j) (sym records) ∙ at) in
+            let before : old.0.shown.worker ≢ i = λ is. other (ap (λ y. y.shown.worker) old.2 ∙ worker_same (k == j) old.0 ∙ is) in
+            let is : x ≡ old.0 = old.2 ∙ ap (λ b. mark_if f b old.0) (apart j old.0 old.1 before) in
+            old.1 ∙ ap (λ y. Some y) (sym is);
+        sleepers = λ j z at other. ap (λ zs. slice_get zs j) sleepers ∙ at;
+        sleepers_only = λ j z at other. ap (λ zs. slice_get zs j) (sym sleepers) ∙ at;
+        lines = subst (KeepsLines rs) (sym records) (lines_changed rs k r f there same);
+        naps = sleepers_endure s.sleepers.items s'.sleepers.items sleepers;
+        opens = opens;
+        sent = ap (map nap_sent) sleepers;
+      }
+    where
+      worker_same : (b : Bool) (y : Record) → (mark_if f b y).shown.worker ≡ y.shown.worker
+      worker_same true y = keeps y
+      worker_same false y = refl
+
+  -- one sleeper of it changed
+  pub spares_sleeper : (i : ℕ) (s s' : Shared B) (k : ℕ) (z z' : SleeperRecord) → AreLinedUp s.opens s.requests.items → s'.requests.items ≡ s.requests.items → s'.sleepers.items ≡ slice_set s.sleepers.items k z' → s'.opens ≡ s.opens → slice_get s.sleepers.items k ≡ Some z → z.shown.worker ≡ i → SleeperEndures z z'
+      → z'.sent ≡ z.sent → SparesRecords i s s'
+  spares_sleeper i s s' k z z' lined requests sleepers opens there mine keeps sent =
+      let ss = s.sleepers.items in
+      let now_there : slice_get (slice_set ss k z') k ≡ Some z' = set_there ss k z' z there in
+      record {
+        records = λ j r at other. ap (λ rs. slice_get rs j) requests ∙ at;
+        records_only = λ j r at other. ap (λ rs. slice_get rs j) (sym requests) ∙ at;
+        sleepers = λ j x at other.
+            let apart : j ≢ k = λ same. other (let is : x ≡ z = cc (at, ap (slice_get ss) same, there) in ap (λ y. y.shown.worker) is ∙ mine) in
+            ap (λ zs. slice_get zs j) sleepers ∙ set_elsewhere ss k j z' apart ∙ at;
+        sleepers_only = λ j x at other.
+            let found : slice_get (slice_set ss k z') j ≡ Some x = ap (λ zs. slice_get zs j) (sym sleepers) ∙ at in
+            let apart : j ≢ k = λ same. other (let is : x ≡ z' = cc (found, ap (slice_get (slice_set ss k z')) same, now_there) in ap (λ y. y.shown.worker) is ∙ keeps.worker ∙ mine) in
+            sym (set_elsewhere ss k j z' apart) ∙ found;
+        lines = lines_same s.requests.items s'.requests.items requests;
+        naps = λ j x at.
+            by_number j k
+            (λ apart. (x, ap (λ zs. slice_get zs j) sleepers ∙ set_elsewhere ss k j z' apart ∙ at, record { worker = refl; forwarded = λ h. h }))
+            (λ same.
+            let is : z ≡ x = cc (there, at, ap (slice_get ss) same) in
+            (z', ap (λ zs. slice_get zs j) sleepers ∙ ap (slice_get (slice_set ss k z')) same ∙ now_there, subst (λ y. SleeperEndures y z') is keeps));
+        opens = opens_same s.opens s'.opens s.requests.items lined opens;
+        sent = ap (map nap_sent) sleepers ∙ map_kept nap_sent ss k z' z there sent;
+      }
+
+  pub spares_service_by : (i j : ℕ) (s s' : Shared B) → j ≢ i → OthersKept s s' → SparesGates i s s' → HasRoom s'.requests.items s'.store → Spares j s s'
+  spares_service_by i j s s' other shared spares room =
+      let s1 : Shared B = record s { requests = s'.requests; sleepers = s'.sleepers; opens = s'.opens } in
+      let room1 : HasRoom s'.requests.items s.store = subst (λ (x : Shared B). HasRoom s'.requests.items x.store) shared room in
+      let apart : (n : ℕ) → n ≡ j → n ≢ i = λ n mine is. other (sym mine ∙ is) in
+      let done : Spares j s s1 = record {
+        config = refl;
+        clock = refl;
+        gates = spares.lined;
+        hints = spares.hints;
+        many = refl;
+        chair = λ chair there. (chair, there, spared chair);
+        tails = λ k chair chair' there there'.
+            let is : chair ≡ chair' = cc (there, there') in
+            subst (λ c. tail_of chair.queue ≤ tail_of c.queue) is (omega arith);
+        records = λ k r there mine. (r, spares.records k r there (apart r.shown.worker mine), spared_same r);
+        records_only = λ k r there mine. (r, spares.records_only k r there (apart r.shown.worker mine), spared_same r);
+        sleepers = λ k z there mine. (z, spares.sleepers k z there (apart z.shown.worker mine), sleeper_spared z);
+        sleepers_only = λ k z there mine. (z, spares.sleepers_only k z there (apart z.shown.worker mine), sleeper_spared z);
+        endure = spares.endure;
+        endure_too = spares.naps;
+        root = λ t slot there home. there;
+        polled = λ t slot there polled mine. (slot, there, record { polled = polled; number = refl; cancelled = λ h. h; kept = refl });
+        room = λ h. room1;
+        stretch = λ file offset n h. h;
+        stopped = λ h. h;
+        closed = λ h. h;
+        by_zero = λ h. (refl, refl);
+        shards = refl;
+        emptied = λ shut k none. none;
+        genuine = λ r h. h;
+      } in
+      subst (λ z. Spares j s z) (sym shared) done
+
+  pub spares_service : (i j : ℕ) (s s' : Shared B) → j ≢ i → OthersKept s s' → SparesRecords i s s' → HasRoom s'.requests.items s'.store → Spares j s s'
+  spares_service i j s s' other shared spares room = spares_service_by i j s s' other shared (spares_gates i s s' spares) room
+
+  -- what a step leaves of the balances of all: who is at gates, and what tasks hold
+  pub record Balances (w w' : Worker) (s s' : Shared B) : Type 0 where
+    pub gates : (others : Profile) → IsWhole (with_worker others w) s → HaveGates (with_worker others w').drops_by s'.opens s'.requests.items
+    pub holding : (others : Profile) → IsWhole (with_worker others w) s → IsHolding (hands_of (with_worker others w')) s.config.workers (map holder_of s.tasks.items) (map thing_of s'.requests.items) (map nap_of s'.sleepers.items) (map box_of s.seats.items)
+
+  pool_drops : (d d' : Duties) (tasks : List (TaskSlot B)) (set : Set (Unit {0})) (seats : List Chair) → d' ≡ record d { drops_by = d'.drops_by } → ((j : ℕ) → (d'.drops_by j).removes ≡ (d.drops_by j).removes) → ((j : ℕ) → (d'.drops_by j).clears ≡ (d.drops_by j).clears)
+      → IsPool d tasks set seats → IsPool d' tasks set seats
+  pool_drops d d' tasks set seats same removes clears pool =
+      let d1 : Duties = record d { drops_by = d'.drops_by } in
+      let who : (t : ℕ) → 0 < d.clears t → (j : ℕ) × IsBefore j seats × ((d'.drops_by j).clears ≡ Some t) × (set.closed ≡ true) = λ t some.
+      let it = pool.who_clears t some in
+      (it.0, it.1, clears it.0 ∙ it.2, it.3) in
+      let gone : (j t : ℕ) → (d'.drops_by j).removes ≡ Some t → IsOver t tasks × ((set.closed ≡ true) ⊎ (in_set t set ≡ 1)) = λ j t is. pool.removes j t (sym (removes j) ∙ is) in
+      let alone : (i j t : ℕ) → (d'.drops_by i).removes ≡ Some t → (d'.drops_by j).removes ≡ Some t → i ≡ j = λ i j t a b. pool.alone i j t (sym (removes i) ∙ a) (sym (removes j) ∙ b) in
+      let done : IsPool d1 tasks set seats = assumption (who, gone, alone, pool) in
+      subst (λ x. IsPool x tasks set seats) (sym same) done
+
+  whole_service : (q : Place) (w w' : Worker) (s s' : Shared B) (others : Profile) → w.place ≡ q → Serves q w w' s s' → Balances w w' s s' → IsWhole (with_worker others w) s → IsWhole (with_worker others w') s'
+  whole_service q w w' s s' others here serves balances whole =
+      let from = calm q serves.from in
+      let to = calm w'.place serves.to in
+      let x = with_worker others w in
+      let x' = with_worker others w' in
+      let index : w'.index ≡ w.index = ap (λ (z : Worker). z.index) serves.worker in
+      let polls : polls_at w'.place ≡ polls_at w.place = to.polls ∙ sym (ap polls_at here ∙ from.polls) in
+      let claims : claims_at w'.place ≡ claims_at w.place = to.claims ∙ sym (ap claims_at here ∙ from.claims) in
+      let counts : has_count_at w'.place ≡ has_count_at w.place = to.counts ∙ sym (ap has_count_at here ∙ from.counts) in
+      let published : is_published_at w'.place ≡ is_published_at w.place = serves.published ∙ ap is_published_at (sym here) in
+      let clears : clears_at w'.place ≡ clears_at w.place = to.clears ∙ sym (ap clears_at here ∙ from.clears) in
+      let removes : removes_at w'.place ≡ removes_at w.place = to.removes ∙ sym (ap removes_at here ∙ from.removes) in
+      let v : Worker = record w { place = w'.place; home = record w.home { driver = w'.home.driver; timers = w'.home.timers; deferred = w'.home.deferred }; names = record w.names { ended = w'.names.ended; staged = w'.names.staged; untold = w'.names.untold }; put_off = w'.put_off } in
+      let y = with_worker others v in
+      let make : Option ℕ → Option ℕ → Bool → Bool → Option ℕ → Profile = λ ps cs count shown cl.
+      record x {
+        polls = λ t. others.polls t + one_if (is_number ps t);
+        claims = λ j. others.claims j + one_if (is_number cs j);
+        counts = others.counts + (one_if w.searching + one_if count);
+        published = λ j. if j == w.index then shown else others.published j;
+        clears = λ t. others.clears t + one_if (is_number cl t);
+        polled_by = λ j. if j == w.index then ps else others.polled_by j;
+        drops_by = y.drops_by;
+        wakes = y.wakes;
+      } in
+      let made : y ≡ record x { drops_by = y.drops_by; wakes = y.wakes } =
+      ap (λ o. make o (claims_at w'.place) (has_count_at w'.place) (is_published_at w'.place) (clears_at w'.place)) polls
+      ∙ ap (λ o. make (polls_at w.place) o (has_count_at w'.place) (is_published_at w'.place) (clears_at w'.place)) claims
+      ∙ ap (λ o. make (polls_at w.place) (claims_at w.place) o (is_published_at w'.place) (clears_at w'.place)) counts
+      ∙ ap (λ o. make (polls_at w.place) (claims_at w.place) (has_count_at w.place) o (clears_at w'.place)) published
+      ∙ ap (λ o. make (polls_at w.place) (claims_at w.place) (has_count_at w.place) (is_published_at w.place) o) clears in
+      let shape : x' ≡ record x { drops_by = x'.drops_by; wakes = x'.wakes } =
+      subst (λ (z : Worker). with_worker others z ≡ record x { drops_by = (with_worker others z).drops_by; wakes = (with_worker others z).wakes }) (sym serves.worker) made in
+      let chosen : (j : ℕ) (b : Bool) (u v y : Drops) → u.removes ≡ v.removes → u.clears ≡ v.clears → ((if b then u else y).removes ≡ (if b then v else y).removes) × ((if b then u else y).clears ≡ (if b then v else y).clears) = λ j b.
+      elim b as (λ b. (u v y : Drops) → u.removes ≡ v.removes → u.clears ≡ v.clears → ((if b then u else y).removes ≡ (if b then v else y).removes) × ((if b then u else y).clears ≡ (if b then v else y).clears)) [
+        | true ↦ λ u v y a c. (a, c)
+        | false ↦ λ u v y a c. (refl, refl)
+      ] in
+      let either : (j : ℕ) → ((x'.drops_by j).removes ≡ (x.drops_by j).removes) × ((x'.drops_by j).clears ≡ (x.drops_by j).clears) = λ j.
+      rw index (chosen j (j == w.index) (drops_at w'.place) (drops_at w.place) (others.drops_by j) removes clears) in
+      let duties : duties_of x' ≡ record (duties_of x) { drops_by = x'.drops_by } = ap duties_of shape in
+      let pool : IsPool (record (duties_of x) { drops_by = x'.drops_by }) s.tasks.items s.set s.seats.items =
+      pool_drops (duties_of x) (record (duties_of x) { drops_by = x'.drops_by }) s.tasks.items s.set s.seats.items refl (λ j. (either j).0) (λ j. (either j).1) whole.pool in
+      let x1 : Profile = record x { drops_by = x'.drops_by; wakes = x'.wakes } in
+      let s1 : Shared B = record s { requests = s'.requests; sleepers = s'.sleepers; opens = s'.opens } in
+      let gates : HaveGates x'.drops_by s'.opens s'.requests.items = balances.gates others whole in
+      let hands : hands_of x' ≡ hands_of x1 = ap hands_of shape in
+      let holding : IsHolding (hands_of x1) s.config.workers (map holder_of s.tasks.items) (map thing_of s'.requests.items) (map nap_of s'.sleepers.items) (map box_of s.seats.items) =
+      subst (λ h. IsHolding h s.config.workers (map holder_of s.tasks.items) (map thing_of s'.requests.items) (map nap_of s'.sleepers.items) (map box_of s.seats.items)) hands (balances.holding others whole) in
+      let done : IsWhole x1 s1 = assumption (pool, gates, holding, whole) in
+      subst (λ y. IsWhole x' y) (sym serves.shared) (subst (λ y. IsWhole y s1) (sym shape) done)
+
+  -- where the balances are as they were
+  -- who stands at gates does so still
+  pub gates_still : (q : Place) (w w' : Worker) (s s' : Shared B) → w.place ≡ q → Serves q w w' s s' → SparesRecords w.index s s' → passes_at w'.place ≡ passes_at q
+      → (others : Profile) → IsWhole (with_worker others w) s → HaveGates (with_worker others w').drops_by s'.opens s'.requests.items
+  gates_still q w w' s s' here serves spares passes others whole =
+      let from = calm q serves.from in
+      let to = calm w'.place serves.to in
+      let make : Option ℕ → Option ℕ → Option ℕ → Option ℕ → Drops = λ c r p j. record { clears = c; removes = r; passes = p; joins = j } in
+      let now_at : drops_at w'.place ≡ make None None (passes_at q) None =
+      ap (λ c. make c (removes_at w'.place) (passes_at w'.place) (joins_at w'.place)) to.clears ∙ ap (λ r. make None r (passes_at w'.place) (joins_at w'.place)) to.removes
+      ∙ ap (λ p. make None None p (joins_at w'.place)) passes ∙ ap (make None None (passes_at q)) to.joins in
+      let was_at : drops_at q ≡ make None None (passes_at q) None =
+      ap (λ c. make c (removes_at q) (passes_at q) (joins_at q)) from.clears ∙ ap (λ r. make None r (passes_at q) (joins_at q)) from.removes ∙ ap (make None None (passes_at q)) from.joins in
+      let drops : drops_at w'.place ≡ drops_at w.place = now_at ∙ sym was_at ∙ sym (ap drops_at here) in
+      let index : w'.index ≡ w.index = ap (λ v. v.index) serves.worker in
+      let same : (with_worker others w').drops_by ≡ (with_worker others w).drops_by =
+      ap (λ (k : ℕ). λ (j : ℕ). if j == k then drops_at w'.place else others.drops_by j) index ∙ ap (λ (x : Drops). λ (j : ℕ). if j == w.index then x else others.drops_by j) drops in
+      subst (λ x. HaveGates x s'.opens s'.requests.items) (sym same)
+      (gates_opens s.opens s'.opens spares.opens (with_worker others w).drops_by s'.requests.items
+      (gates_kept s.requests.items s'.requests.items spares.lines (with_worker others w).drops_by s.opens whole.gates))
+
+  -- what it has in hand, by what it is about to wake
+  pub hands_served : (q : Place) (w w' : Worker) (s s' : Shared B) → Serves q w w' s s' → (others : Profile)
+      → hands_of (with_worker others w') ≡ record (hands_of (with_worker others w)) { wakes = λ j t. if j == w.index then wakes_with t w' else others.wakes j t }
+  hands_served q w w' s s' serves others = ap (λ v. hands_of (with_worker others v)) serves.worker
+
+  pub holding_still : (q : Place) (w w' : Worker) (s s' : Shared B) → Serves q w w' s s' → w'.home.deferred.notes.wakes.items ≡ w.home.deferred.notes.wakes.items → map thing_of s'.requests.items ≡ map thing_of s.requests.items → map nap_of s'.sleepers.items ≡ map nap_of s.sleepers.items
+      → (others : Profile) → IsWhole (with_worker others w) s → IsHolding (hands_of (with_worker others w')) s.config.workers (map holder_of s.tasks.items) (map thing_of s'.requests.items) (map nap_of s'.sleepers.items) (map box_of s.seats.items)
+  holding_still q w w' s s' serves wakes things naps others whole =
+      let h : Hands = hands_of (with_worker others w) in
+      let same : hands_of (with_worker others w') ≡ h =
+      ap (λ v. hands_of (with_worker others v)) serves.worker
+      ∙ ap (λ (ns : List TaskNo). record h { wakes = λ j t. if j == w.index then count_by (λ n. n.0 == t) ns else others.wakes j t }) wakes in
+      subst (λ x. IsHolding x s.config.workers (map holder_of s.tasks.items) (map thing_of s'.requests.items) (map nap_of s'.sleepers.items) (map box_of s.seats.items)) (sym same)
+      (subst (λ xs. IsHolding h s.config.workers (map holder_of s.tasks.items) xs (map nap_of s'.sleepers.items) (map box_of s.seats.items)) (sym things)
+      (subst (λ ys. IsHolding h s.config.workers (map holder_of s.tasks.items) (map thing_of s.requests.items) ys (map box_of s.seats.items)) (sym naps) whole.holding))
+
+  pub balances_still : (q : Place) (w w' : Worker) (s s' : Shared B) → w.place ≡ q → Serves q w w' s s' → SparesRecords w.index s s' → passes_at w'.place ≡ passes_at q → w'.home.deferred.notes.wakes.items ≡ w.home.deferred.notes.wakes.items
+      → map thing_of s'.requests.items ≡ map thing_of s.requests.items → map nap_of s'.sleepers.items ≡ map nap_of s.sleepers.items → Balances w w' s s'
+  balances_still q w w' s s' here serves spares passes wakes things naps =
+      record { gates = gates_still q w w' s s' here serves spares passes; holding = holding_still q w w' s s' serves wakes things naps }
+
+  pub beside_service_by : (q : Place) (w w' : Worker) (s s' : Shared B) → w.place ≡ q → Serves q w w' s s' → SparesGates w.index s s' → Balances w w' s s' → HasRoom s'.requests.items s'.store → Beside w s w' s'
+  beside_service_by q w w' s s' here serves spares balances room =
+      record {
+        spares = λ j other. spares_service_by w.index j s s' other serves.shared spares room;
+        whole = λ others whole. whole_service q w w' s s' others here serves balances whole;
+      }
+
+  pub beside_service : (q : Place) (w w' : Worker) (s s' : Shared B) → w.place ≡ q → Serves q w w' s s' → SparesRecords w.index s s' → Balances w w' s s' → HasRoom s'.requests.items s'.store → Beside w s w' s'
+  beside_service q w w' s s' here serves spares balances room = beside_service_by q w w' s s' here serves (spares_gates w.index s s' spares) balances room

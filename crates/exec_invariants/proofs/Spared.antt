@@ -1,0 +1,481 @@
+-- What holds of a worker by the records of its requests and sleepers alone, where a step of another leaves those.
+use Rattle.std.proofs.{Common.{◌≡◌, ◌⊎◌, ⊎_elim, ℕ, ◌+◌, ◌-◌, ◌≤◌, ◌<◌, ◌==◌, ◌&&◌, ◌||◌, not, Bool, true, false, List, [], ◌∷◌, length, Option, Some, None, Result, Ok, Err, IsSome, refl, sym, ap, subst, ◌∙◌, arith, inl, inr, slice_get}, lemmas.{Bool.{cases_lt, false≢true, eq-eqb}, Option.{slice_get_within, slice_get_cases}}}
+use Rattle.exec_base.specs.{Slab.{Slab, value_at}, declared.{error.Error.Error, slab.Id.Id, task_no.TaskNo.TaskNo}}
+use Rattle.exec_time.specs.declared.timers.{Observer.Observer as Watching, Sleeper.Sleeper as Sleeping}
+use Rattle.exec_time.specs.declared.timers.Observer.TheVariants as sleep
+use Rattle.exec_request.specs.declared.output.RequestOutput.{RequestOutput}
+use Rattle.exec_ring.specs.declared.completion.Completion.{Completion}
+use Rattle.exec_waiters.{specs.{Events.waker_in, States.{is_held_by, waiter_at}, declared.{deferred.Deferred.Deferred, observer.Observer.{Observer, TheVariants.{Local, Forwarded, DetachedSync, Orphaned}}, waiter.{Entry.Entry, Waiter.Waiter}}}, proofs.Changes.entry_of}
+use Rattle.exec_driver.specs.Driving.{Driving}
+use Rattle.exec_words.specs.declared.inbox.Message.{Message}
+use Rattle.exec_machine.specs.{declared.state.{Forwarding.{Forwarding, TheVariants.{Unsent, Sent}}, Sleeper.Sleeper, Waiting.Waiting}, Tests.{is_applied, is_asleep, is_resolved, is_staged, is_unsent}}
+use Rattle.exec_moves.specs.declared.{handing.Heard.Heard, place.{InPoll.InPoll, InService.InService}}
+use Rattle.exec_parts.{specs.{declared.parts.{mail.{Reply.Reply, Subject.Subject}, names.Names.Names, record.Record.Record, sleeping.SleeperRecord.SleeperRecord}, Records.number_in, Serving.{AreKnown, is_one_of}}, proofs.Facts.{same_number, or_left, or_right}}
+use Rattle.exec_invariants.{specs.{Due.{AreAsleep, AreTimed, IsTimed}, Flown.{AreLanded, HasFlown, IsPlain, operations}, Holding.{IsAnswerOf, Mail, thing_of}, HoldPlaces.Hearing, Places.one_if, Rooted.{HasHeard, HearsNext, IsKept, IsNear, IsReplyFor, IsRooted, Pays, SleeperPays, StandsAt, Watches, completions_of, ends_elsewhere, goes_elsewhere, results_of}, Sound.{AreOver, IsAlike, IsLetter, IsMineIn, IsMyMail, IsNamed, IsSubmitted, MayStop, StopsIn}, Spares.{Endures, RecordsEndure, SleeperEndures, SleepersEndure, SparedRecords, SparedSleepers, SparesRecord, SparesRecords, SparesSleeper, SparesSleepers}}, proofs.FiringNames.naps_on}
+
+-- what stands within a list
+pub there_within : {X : Type 0} (xs : List X) (k : ℕ) → k < length xs → (x : X) × (slice_get xs k ≡ Some x)
+there_within xs k within =
+    elim ((slice_get_cases xs k).1) [
+      | inl found ↦ (found.0, found.2)
+      | inr none ↦ absurd (omega arith)
+    ]
+
+pub live_of : (requests : Slab (Entry Reply Reply)) (id : Id) (it : Waiter Reply Reply) → waiter_at requests id ≡ Some it → IsSome (value_at requests id)
+live_of requests id it live = rw (entry_of (value_at requests id) it live) refl
+
+-- who sleeps on worker i is one of its sleepers
+mine_asleep : (i : ℕ) (z : Sleeper) → is_asleep i z ≡ true → z.worker ≡ i
+mine_asleep i z h = same_number z.worker i (by (z.worker == i) refl h)
+  where
+    by : (b : Bool) → (z.worker == i) ≡ b → is_asleep i z ≡ true → (z.worker == i) ≡ true
+    by true is h = is
+    by false is h = absurd (false≢true (rw is at h))
+
+-- ONE RECORD THAT IS SPARED
+
+pub spared_same : (r : Record) → SparesRecord r r
+spared_same r = record { kept = refl; waiter = λ t h. h; forwarding = inl refl; observed = inl refl }
+
+pub sleeper_spared : (z : SleeperRecord) → SparesSleeper z z
+sleeper_spared z = record { kept = refl; forwarding = inl refl }
+
+applied_by : (f f' : Forwarding) → (f' ≡ f) ⊎ ((f ≡ Unsent) × (f' ≡ Sent)) → is_applied f' ≡ is_applied f
+applied_by f f' by =
+    elim by [
+      | inl same ↦ ap is_applied same
+      | inr sent ↦ ap is_applied sent.1 ∙ sym (ap is_applied sent.0)
+    ]
+
+unsent_by : (f f' : Forwarding) → (f' ≡ f) ⊎ ((f ≡ Unsent) × (f' ≡ Sent)) → is_unsent f ≡ false → is_unsent f' ≡ false
+unsent_by f f' by h =
+    elim by [
+      | inl same ↦ ap is_unsent same ∙ h
+      | inr sent ↦ ap is_unsent sent.1
+    ]
+
+near_by : (o : Observer Reply Reply) (f f' : Forwarding) → is_applied f' ≡ is_applied f → IsNear o f → IsNear o f'
+near_by (Local waker) f f' same h = same ∙ h
+near_by (Forwarded reply) f f' same h = same ∙ h
+near_by (DetachedSync reply) f f' same h = absurd h
+near_by Orphaned f f' same h = tt
+
+-- one that isn't over, or whose end doesn't go elsewhere, is held as before; and what goes elsewhere goes there as before
+module _ (r r' : Record) (sp : SparesRecord r r') where
+  pub applied_still : is_applied r'.shown.forwarding ≡ is_applied r.shown.forwarding
+  applied_still = applied_by r.shown.forwarding r'.shown.forwarding sp.forwarding
+
+  pub worker_still : r'.shown.worker ≡ r.shown.worker
+  worker_still = ap (λ (x : Record). x.shown.worker) sp.kept
+
+  pub over_still : is_resolved r'.shown.phase ≡ is_resolved r.shown.phase
+  over_still = ap (λ (x : Record). is_resolved x.shown.phase) sp.kept
+
+  pub held_open : is_resolved r.shown.phase ≡ false → r'.shown.observed ≡ r.shown.observed
+  held_open unresolved =
+      elim sp.observed [
+        | inl same ↦ same
+        | inr taken ↦ absurd (false≢true (sym unresolved ∙ taken.1))
+      ]
+
+  pub held_here : is_applied r.shown.forwarding ≡ false → r'.shown.observed ≡ r.shown.observed
+  held_here unapplied =
+      elim sp.observed [
+        | inl same ↦ same
+        | inr taken ↦ absurd (false≢true (sym unapplied ∙ ap is_applied taken.0))
+      ]
+
+  pub was_held : r'.shown.observed ≡ true → r.shown.observed ≡ true
+  was_held held =
+      elim sp.observed [
+        | inl same ↦ sym same ∙ held
+        | inr taken ↦ absurd (false≢true (sym taken.2 ∙ held))
+      ]
+
+  goes_by : (applied over : Bool) → is_applied r.shown.forwarding ≡ applied → is_resolved r.shown.phase ≡ over → (applied && (over || not r'.shown.observed)) ≡ (applied && (over || not r.shown.observed))
+  goes_by false over a o = refl
+  goes_by true true a o = refl
+  goes_by true false a o = ap not (held_open o)
+
+  pub goes_still : goes_elsewhere r' ≡ goes_elsewhere r
+  goes_still =
+      ap (λ a. a && (is_resolved r'.shown.phase || not r'.shown.observed)) applied_still
+      ∙ ap (λ o. is_applied r.shown.forwarding && (o || not r'.shown.observed)) over_still
+      ∙ goes_by (is_applied r.shown.forwarding) (is_resolved r.shown.phase) refl refl
+
+  answer_by : (a : Result RequestOutput Error) → IsAnswerOf a (thing_of r) → IsAnswerOf a (thing_of r')
+  answer_by (Ok told) h = ap (λ (x : Record). (thing_of x).ended) sp.kept ∙ h
+  answer_by (Err error) h =
+      elim sp.observed [
+        | inl same ↦ same ∙ h
+        | inr taken ↦ taken.2
+      ]
+
+  alike_by : (start tick : ℕ) (it : Waiter Reply Reply) → IsAlike start tick it r.shown → IsAlike start tick it r'.shown
+  alike_by start tick it a =
+      let observed : r'.shown.observed ≡ is_held_by it.observer = held_open a.open_still ∙ a.observed in
+      let waiter : (t : TaskNo) → waker_in it.observer ≡ Some t → r'.shown.waiter ≡ Some t.0 = λ t h. sp.waiter t.0 (a.waiter t h) in
+      let near : IsNear it.observer r'.shown.forwarding = near_by it.observer r.shown.forwarding r'.shown.forwarding applied_still a.near in
+      subst (λ (x : Record). IsAlike start tick it x.shown) (sym sp.kept) (assumption (observed, waiter, near, a))
+
+  pub timed_by : (n : Names) (k : ℕ) → IsTimed n k r → IsTimed n k r'
+  timed_by n k t = subst (IsTimed n k) (sym sp.kept) (assumption t)
+
+  plain_by : IsPlain r.shown → IsPlain r'.shown
+  plain_by p = subst (λ (x : Record). IsPlain x.shown) (sym sp.kept) (assumption p)
+
+  kept_by : (told : RequestOutput) → IsKept told r → IsKept told r'
+  kept_by told k =
+      record {
+        over = ap (λ (x : Record). x.shown.phase) sp.kept ∙ k.over;
+        observed = held_here k.unapplied ∙ k.observed;
+        unapplied = applied_still ∙ k.unapplied;
+      }
+
+  reply_by : (k : ℕ) (reply : Reply) → IsReplyFor k reply r → IsReplyFor k reply r'
+  reply_by k reply h = record { of = h.of; task = sp.waiter reply.task.0 h.task }
+
+  stands_by : (k : ℕ) (n : Names) (d : Driving Reply Reply) → StandsAt k n d r → StandsAt k n d r'
+  stands_by k n d h = subst (StandsAt k n d) (sym sp.kept) (assumption h)
+
+  paid_still : r'.shown.wakes_paid ≡ r.shown.wakes_paid
+  paid_still = ap (λ (x : Record). x.shown.wakes_paid) sp.kept
+
+  pays_by : Pays r → Pays r'
+  pays_by h =
+      record {
+        unpaid = λ unresolved held. paid_still ∙ h.unpaid (sym over_still ∙ unresolved) (was_held held);
+        once = λ unapplied. subst (λ n. n ≤ 1) (sym paid_still) (h.once (sym applied_still ∙ unapplied));
+      }
+
+  pub endures_by : Endures r r'
+  endures_by = record { worker = worker_still; forwarded = unsent_by r.shown.forwarding r'.shown.forwarding sp.forwarding }
+
+-- none of the sleepers is gone
+pub sleepers_stay : (ss ss' : List SleeperRecord) → SleepersEndure ss ss' → length ss ≤ length ss'
+sleepers_stay ss ss' endure =
+    ⊎_elim
+    (λ (less : length ss' < length ss).
+    let x = there_within ss (length ss') less in
+    let now = endure (length ss') x.0 x.1 in
+    let within = slice_get_within ss' (length ss') now.0 now.1 in
+    absurd (omega (arith, within)))
+    (λ (most : length ss ≤ length ss'). most)
+    (cases_lt (length ss') (length ss))
+
+module _ (z z' : SleeperRecord) (sp : SparesSleeper z z') where
+  pub sleeper_applied_still : is_applied z'.shown.forwarding ≡ is_applied z.shown.forwarding
+  sleeper_applied_still = applied_by z.shown.forwarding z'.shown.forwarding sp.forwarding
+
+  pub sleeper_worker_still : z'.shown.worker ≡ z.shown.worker
+  sleeper_worker_still = ap (λ (x : SleeperRecord). x.shown.worker) sp.kept
+
+  pub ends_still : ends_elsewhere z' ≡ ends_elsewhere z
+  ends_still =
+      ap (λ a. a && (z'.shown.fired || (z'.shown.removed || z'.closed))) sleeper_applied_still
+      ∙ ap (λ (x : SleeperRecord). is_applied z.shown.forwarding && (x.shown.fired || (x.shown.removed || x.closed))) sp.kept
+
+  watches_by : (n : ℕ) (o : Watching Reply) → Watches n o z → Watches n o z'
+  watches_by n (sleep.Local t) h = (h.0 ∙ sym (ap (λ (x : SleeperRecord). record { 0 = x.shown.task }) sp.kept), sleeper_applied_still ∙ h.1)
+  watches_by n (sleep.Forwarded reply) h =
+      let same : z'.shown.task ≡ z.shown.task = ap (λ (x : SleeperRecord). x.shown.task) sp.kept in
+      (h.0 ∙ sym (ap (λ t. record { task = record { 0 = t }; of = Heard.Timer n }) same), sleeper_applied_still ∙ h.1)
+
+  sleeper_pays_by : SleeperPays z → SleeperPays z'
+  sleeper_pays_by h =
+      let paid : z'.shown.wakes_paid ≡ z.shown.wakes_paid = ap (λ (x : SleeperRecord). x.shown.wakes_paid) sp.kept in
+      record {
+        unpaid = λ unfired kept. paid ∙ h.unpaid (sym (ap (λ (x : SleeperRecord). x.shown.fired) sp.kept) ∙ unfired) (sym (ap (λ (x : SleeperRecord). x.shown.removed || x.closed) sp.kept) ∙ kept);
+        once = λ unapplied. subst (λ n. n ≤ 1) (sym paid) (h.once (sym sleeper_applied_still ∙ unapplied));
+      }
+
+  pub sleeper_endures_by : SleeperEndures z z'
+  sleeper_endures_by = record { worker = sleeper_worker_still; forwarded = unsent_by z.shown.forwarding z'.shown.forwarding sp.forwarding }
+
+-- THE RECORDS OF A WORKER'S REQUESTS AND SLEEPERS are spared
+pub record KeepsMine (i : ℕ) (rs rs' : List Record) (ss ss' : List SleeperRecord) : Type 0 where
+  pub records : SparesRecords i rs rs'
+  pub records_only : SparedRecords i rs rs'
+  pub sleepers : SparesSleepers i ss ss'
+  pub sleepers_only : SparedSleepers i ss ss'
+
+module _ (i : ℕ) (rs rs' : List Record) (ss ss' : List SleeperRecord) (keeps : KeepsMine i rs rs' ss ss') where
+  -- who stands there was spared
+  back : (k : ℕ) (r x : Record) → slice_get rs k ≡ Some r → r.shown.worker ≡ i → slice_get rs' k ≡ Some x → SparesRecord r x
+  back k r x there mine found =
+      let now = keeps.records k r there mine in
+      let is : now.0 ≡ x = cc (now.1, found) in
+      subst (SparesRecord r) is now.2
+
+  sleeper_back : (k : ℕ) (z x : SleeperRecord) → slice_get ss k ≡ Some z → z.shown.worker ≡ i → slice_get ss' k ≡ Some x → SparesSleeper z x
+  sleeper_back k z x there mine found =
+      let now = keeps.sleepers k z there mine in
+      let is : now.0 ≡ x = cc (now.1, found) in
+      subst (SparesSleeper z) is now.2
+
+  -- one of worker i that stands there was the worker's before
+  was_mine : (k : ℕ) (x : Record) (there : slice_get rs' k ≡ Some x) (mine : x.shown.worker ≡ i) → (keeps.records_only k x there mine).0.shown.worker ≡ i
+  was_mine k x there mine = let old = keeps.records_only k x there mine in sym (worker_still old.0 x old.2) ∙ mine
+
+  sleeper_was_mine : (k : ℕ) (x : SleeperRecord) (there : slice_get ss' k ≡ Some x) (mine : x.shown.worker ≡ i) → (keeps.sleepers_only k x there mine).0.shown.worker ≡ i
+  sleeper_was_mine k x there mine = let old = keeps.sleepers_only k x there mine in sym (sleeper_worker_still old.0 x old.2) ∙ mine
+
+  -- WHAT IS SUBMITTED
+
+  known_apart : (ks : List ℕ) → AreKnown ks rs → ((k : ℕ) (x : Record) → is_one_of k ks ≡ true → slice_get rs k ≡ Some x → x.shown.worker ≡ i) → AreKnown ks rs'
+  known_apart [] known own = tt
+  known_apart (k ∷ ks) known own =
+      let x = there_within rs k known.0 in
+      let mine : x.0.shown.worker ≡ i = own k x.0 (or_left (k == k) (is_one_of k ks) (eq-eqb k k refl)) x.1 in
+      let now = keeps.records k x.0 x.1 mine in
+      (slice_get_within rs' k now.0 now.1, known_apart ks known.1 (λ j y among there. own j y (or_right (k == j) (is_one_of j ks) among) there))
+
+  known_at : (ks : List ℕ) (k : ℕ) → AreKnown ks rs → is_one_of k ks ≡ true → k < length rs
+  known_at [] k known among = absurd (false≢true among)
+  known_at (q ∷ ks) k known among = by (q == k) refl among (λ h. known_at ks k known.1 h)
+    where
+      by : (b : Bool) → (q == k) ≡ b → (b || is_one_of k ks) ≡ true → (is_one_of k ks ≡ true → k < length rs) → k < length rs
+      by true is h rest = subst (λ n. n < length rs) (same_number q k is) known.0
+      by false is h rest = rest h
+
+  submitted_apart : (n : Names) (d : Driving Reply Reply) → IsSubmitted i n.staged.items n.untold.items d.ring rs → IsSubmitted i n.staged.items n.untold.items d.ring rs'
+  submitted_apart n d sub =
+      record {
+        tagged = sub.tagged;
+        cancels = sub.cancels;
+        known = known_apart n.staged.items sub.known sub.own;
+        own = λ k x among there.
+            let y = there_within rs k (known_at n.staged.items k sub.known among) in
+            let mine = sub.own k y.0 among y.1 in
+            worker_still y.0 x (back k y.0 x y.1 mine there) ∙ mine;
+        all = λ k x there mine is.
+            let old = keeps.records_only k x there mine in
+            sub.all k old.0 old.1 (was_mine k x there mine) (sym (ap (λ (y : Record). is_staged y.shown.phase) old.2.kept) ∙ is);
+      }
+
+  -- NAMES
+
+  module _ (n : Names) (d : Driving Reply Reply) (zs : Slab (Sleeping Reply)) (named : IsNamed i n d zs rs ss) where
+    -- a request that is there, and a sleeper
+    pub record_back : (id : Id) (x : Record) → IsSome (value_at d.requests id) → slice_get rs' (number_in n.requests.items id) ≡ Some x → (r : Record) × (slice_get rs (number_in n.requests.items id) ≡ Some r) × SparesRecord r x
+    record_back id x some there =
+        let old = named.requests id some in
+        (old.0, old.1, back (number_in n.requests.items id) old.0 x old.1 old.3 there)
+
+    pub timer_back : (id : Id) (x : SleeperRecord) → IsSome (value_at zs id) → slice_get ss' (number_in n.timers.items id) ≡ Some x → (z : SleeperRecord) × (slice_get ss (number_in n.timers.items id) ≡ Some z) × SparesSleeper z x
+    timer_back id x some there =
+        let old = named.timers id some in
+        (old.0, old.1, sleeper_back (number_in n.timers.items id) old.0 x old.1 old.3 there)
+
+    pub named_apart : IsNamed i n d zs rs' ss'
+    named_apart =
+        record {
+          requests = λ id some.
+              let r = named.requests id some in
+              let now = keeps.records (number_in n.requests.items id) r.0 r.1 r.3 in
+              (now.0, now.1, ap (λ (x : Record). x.id.0) now.2.kept ∙ r.2, worker_still r.0 now.0 now.2 ∙ r.3);
+          timers = λ id some.
+              let z = named.timers id some in
+              let now = keeps.sleepers (number_in n.timers.items id) z.0 z.1 z.3 in
+              (now.0, now.1, ap (λ (x : SleeperRecord). x.id.0) now.2.kept ∙ z.2, sleeper_worker_still z.0 now.0 now.2 ∙ z.3);
+          alike = λ id it r live there.
+              let old = record_back id r (live_of d.requests id it live) there in
+              alike_by old.0 r old.2 d.wheel.start d.wheel.tick it (named.alike id it old.0 live old.1);
+          over = λ k r there mine gone.
+              let old = keeps.records_only k r there mine in
+              over_still old.0 r old.2 ∙ named.over k old.0 old.1 (was_mine k r there mine) (ap (waiter_at d.requests) (sym (ap (λ (x : Record). x.id.0) old.2.kept)) ∙ gone);
+          submitted = submitted_apart n d named.submitted;
+          slots = named.slots;
+          beds = named.beds;
+        }
+
+    -- WHAT IS DUE
+
+    pub timed_apart : AreTimed i n rs → AreTimed i n rs'
+    timed_apart timed = λ k r there mine.
+        let old = keeps.records_only k r there mine in
+        timed_by old.0 r old.2 n k (timed k old.0 old.1 (was_mine k r there mine))
+
+    pub asleep_apart : {closing : Bool} → AreAsleep closing i n zs ss → length ss ≤ length ss' → AreAsleep closing i n zs ss'
+    asleep_apart asleep more =
+        record {
+          alike = λ id z r at there.
+              let old = timer_back id r (rw at refl) there in
+              let h = asleep.alike id z old.0 at old.1 in
+              record { until = ap (λ (x : SleeperRecord). x.shown.until) old.2.kept ∙ h.until; asleep = ap (λ (x : SleeperRecord). is_asleep i x.shown) old.2.kept ∙ h.asleep; unclosed = ap (λ (x : SleeperRecord). x.closed) old.2.kept ∙ h.unclosed };
+          there = λ k r there is unclosed.
+              let old = keeps.sleepers_only k r there (mine_asleep i r.shown is) in
+              subst (λ (x : SleeperRecord). IsSome (value_at zs x.id.0)) (sym old.2.kept) (asleep.there k old.0 old.1 (sym (ap (λ (x : SleeperRecord). is_asleep i x.shown) old.2.kept) ∙ is) (sym (ap (λ (x : SleeperRecord). x.closed) old.2.kept) ∙ unclosed));
+          named = λ k r there is unclosed.
+              let old = keeps.sleepers_only k r there (mine_asleep i r.shown is) in
+              ap (λ (x : SleeperRecord). number_in n.timers.items x.id.0) old.2.kept ∙ asleep.named k old.0 old.1 (sym (ap (λ (x : SleeperRecord). is_asleep i x.shown) old.2.kept) ∙ is) (sym (ap (λ (x : SleeperRecord). x.closed) old.2.kept) ∙ unclosed);
+          lets_go = λ k r there mine closed.
+              let old = keeps.sleepers_only k r there mine in
+              asleep.lets_go k old.0 old.1 (sleeper_was_mine k r there mine) (sym (ap (λ (x : SleeperRecord). x.closed) old.2.kept) ∙ closed);
+          counted = λ id past. (let below = asleep.counted id past in omega (arith, below, more));
+          names =
+              naps_on i zs zs ss ss'
+              (λ k r there mine.
+              let old = keeps.sleepers_only k r there mine in
+              record { r = old.0; there = old.1; mine = sleeper_was_mine k r there mine; name = sym (ap (λ (x : SleeperRecord). x.id.0) old.2.kept) })
+              (λ id past. past) asleep.names;
+        }
+
+    -- WHAT HAS LANDED
+
+    landed_apart : (cs : List Completion) → AreLanded n d rs cs → AreLanded n d rs' cs
+    landed_apart [] landed = tt
+    landed_apart (c ∷ cs) landed =
+        let h = landed.0 in
+        let old = named.requests h.id (live_of d.requests h.id h.it h.live) in
+        let is : old.0 ≡ h.r = cc (old.1, h.there) in
+        let now = keeps.records (number_in n.requests.items h.id) h.r h.there (subst (λ (y : Record). y.shown.worker ≡ i) is old.3) in (
+          record { id = h.id; it = h.it; r = now.0; index = h.index; generation = h.generation; live = h.live; flies = h.flies; lawful = h.lawful; there = now.1; landed = ap (λ (x : Record). x.shown.phase) now.2.kept ∙ h.landed },
+          landed.1,
+          landed_apart cs landed.2,
+        )
+
+    pub flown_apart : (x : Option InService) → ((k : ℕ) (r : Record) → slice_get rs' k ≡ Some r → is_resolved r.shown.phase ≡ false → r.shown.released ≡ false) → HasFlown x i n d rs → HasFlown x i n d rs'
+    flown_apart x owning flown =
+        record {
+          ending = flown.ending;
+          staging = flown.staging;
+          telling = flown.telling;
+          entries = flown.entries;
+          gated = flown.gated;
+          plain = λ k r there mine.
+              let old = keeps.records_only k r there mine in
+              plain_by old.0 r old.2 (flown.plain k old.0 old.1 (was_mine k r there mine));
+          landed = landed_apart (operations d.ring) flown.landed;
+          enrolling = flown.enrolling;
+          polled = flown.polled;
+          owning = owning;
+          uncancelled = λ id r among there mine.
+              let old = keeps.records_only (number_in n.requests.items id.0) r there mine in
+              ap (λ (y : Record). y.shown.cancel_staged) old.2.kept ∙ flown.uncancelled id old.0 among old.1 (was_mine (number_in n.requests.items id.0) r there mine);
+        }
+
+    -- WHAT IS KEPT
+
+    pub rooted_apart : (left : Deferred Reply Reply) → IsRooted i n d zs left rs ss → IsRooted i n d zs left rs' ss'
+    rooted_apart left h =
+        record {
+          kept = λ id told r at there.
+              let old = record_back id r (rw at refl) there in
+              kept_by old.0 r old.2 told (h.kept id told old.0 at old.1);
+          ready = λ k r there mine over held unapplied.
+              let old = keeps.records_only k r there mine in
+              stands_by old.0 r old.2 k n d (h.ready k old.0 old.1 (was_mine k r there mine) (sym (over_still old.0 r old.2) ∙ over) (was_held old.0 r old.2 held) (sym (applied_still old.0 r old.2) ∙ unapplied));
+          replies = λ id it reply r live is there.
+              let old = record_back id r (live_of d.requests id it live) there in
+              reply_by old.0 r old.2 (number_in n.requests.items id) reply (h.replies id it reply old.0 live is old.1);
+          watches = λ id it z at there.
+              let old = timer_back id z (rw at refl) there in
+              watches_by old.0 z old.2 (number_in n.timers.items id) it.observer (h.watches id it old.0 at old.1);
+          pays = λ k r there mine.
+              let old = keeps.records_only k r there mine in
+              pays_by old.0 r old.2 (h.pays k old.0 old.1 (was_mine k r there mine));
+          sleeper_pays = λ k z there mine.
+              let old = keeps.sleepers_only k z there mine in
+              sleeper_pays_by old.0 z old.2 (h.sleeper_pays k old.0 old.1 (sleeper_was_mine k z there mine));
+          results = λ a has.
+              let x = h.results a has in
+              let now = keeps.records x.k x.r x.there x.worker in
+              record { k = x.k; r = now.0; there = now.1; worker = worker_still x.r now.0 now.2 ∙ x.worker; reply = reply_by x.r now.0 now.2 x.k a.sender x.reply; answer = answer_by x.r now.0 now.2 a.result x.answer; paid = subst (λ m. m ≤ 1) (sym (paid_still x.r now.0 now.2)) x.paid };
+          completions = λ c has.
+              let x = h.completions c has in
+              let now = keeps.sleepers x.n x.z x.there x.worker in
+              record { n = x.n; z = now.0; there = now.1; worker = sleeper_worker_still x.z now.0 now.2 ∙ x.worker; reply = x.reply ∙ ap (λ (y : SleeperRecord). record { task = record { 0 = y.shown.task }; of = Heard.Timer x.n }) (sym now.2.kept); paid = subst (λ m. m ≤ 1) (sym (ap (λ (y : SleeperRecord). y.shown.wakes_paid) now.2.kept)) x.paid };
+          sent = λ k r there mine.
+              let old = keeps.records_only k r there mine in
+              ap (λ (y : Record). results_of k left + one_if y.sent) old.2.kept ∙ h.sent k old.0 old.1 (was_mine k r there mine) ∙ sym (ap one_if (goes_still old.0 r old.2));
+          sleeper_sent = λ k z there mine.
+              let old = keeps.sleepers_only k z there mine in
+              ap (λ (y : SleeperRecord). completions_of k left + one_if y.sent) old.2.kept ∙ h.sleeper_sent k old.0 old.1 (sleeper_was_mine k z there mine) ∙ sym (ap one_if (ends_still old.0 z old.2));
+        }
+
+  -- WHAT IS OVER, AND WHAT WAS HEARD
+
+  pub over_apart : (ended : List ℕ) (unreleased others : ℕ) → AreOver i ended unreleased others rs → AreOver i ended unreleased others rs'
+  over_apart ended unreleased others over =
+      record {
+        over = λ k n at.
+            let r = over.over k n at in
+            let now = keeps.records n r.0 r.1 r.2 in
+            (now.0, now.1, worker_still r.0 now.0 now.2 ∙ r.2, (over_still r.0 now.0 now.2 ∙ r.3.0, ap (λ (x : Record). x.shown.released) now.2.kept ∙ r.3.1));
+        once = over.once;
+        counted = over.counted;
+      }
+
+  pub heard_apart : (h : Option Hearing) → HearsNext h i rs ss → HearsNext h i rs' ss'
+  heard_apart None h = tt
+  heard_apart (Some x) h = by x.of h
+    where
+      by : (of : Heard) → HasHeard i x.task of rs ss → HasHeard i x.task of rs' ss'
+      by (Heard.Request k) h =
+          let now = keeps.records k h.0 h.1 h.2 in (
+            now.0,
+            now.1,
+            worker_still h.0 now.0 now.2 ∙ h.2,
+            now.2.waiter x.task h.3,
+            goes_still h.0 now.0 now.2 ∙ h.4,
+            subst (λ m. m ≤ 1) (sym (paid_still h.0 now.0 now.2)) h.5,
+            ap (λ (y : Record). y.sent) now.2.kept ∙ h.6,
+          )
+      by (Heard.Timer n) h =
+          let now = keeps.sleepers n h.0 h.1 h.2 in (
+            now.0,
+            now.1,
+            sleeper_worker_still h.0 now.0 now.2 ∙ h.2,
+            ap (λ (y : SleeperRecord). y.shown.task) now.2.kept ∙ h.3,
+            ends_still h.0 now.0 now.2 ∙ h.4,
+            subst (λ m. m ≤ 1) (sym (ap (λ (y : SleeperRecord). y.shown.wakes_paid) now.2.kept)) h.5,
+            ap (λ (y : SleeperRecord). y.sent) now.2.kept ∙ h.6,
+          )
+
+-- WHAT MESSAGES ARE ABOUT, whose ever it is
+
+module _ (rs rs' : List Record) (ss ss' : List SleeperRecord) (endure : RecordsEndure rs rs') (endure_too : SleepersEndure ss ss') where
+  mine_in_apart : (workers j : ℕ) (s : Subject) → IsMineIn workers j s rs ss → IsMineIn workers j s rs' ss'
+  mine_in_apart workers j (Subject.Request k) h = let now = endure k h.0 h.1 in (now.0, now.1, now.2.worker ∙ h.2, h.3)
+  mine_in_apart workers j (Subject.Timer n) h = let now = endure_too n h.0 h.1 in (now.0, now.1, now.2.worker ∙ h.2, h.3)
+
+  pub mail_apart : (workers j : ℕ) (m : Mail) → IsMyMail workers j m rs ss → IsMyMail workers j m rs' ss'
+  mail_apart workers j Message.WakeRoot h = tt
+  mail_apart workers j (Message.Forward s) h = mine_in_apart workers j s h
+  mail_apart workers j (Message.Cancel s) h = mine_in_apart workers j s h
+
+  pub letter_apart : (workers i : ℕ) (s : Subject) (j : ℕ) → IsLetter workers i s j rs ss → IsLetter workers i s j rs' ss'
+  letter_apart workers i s j h = (mine_in_apart workers j s h.0, h.1)
+
+  -- where a poll ends
+  pub may_stop_apart : (i : ℕ) → KeepsMine i rs rs' ss ss' → (w : Waiting) → MayStop i w rs ss → MayStop i w rs' ss'
+  may_stop_apart i keeps (Waiting.Request k) h =
+      let now = endure k h.0 h.1 in
+      (now.0, now.1, ⊎_elim (λ sent. inl (now.2.forwarded sent)) (λ own. let sp = back i rs rs' ss ss' keeps k h.0 now.0 h.1 own.0 now.1 in inr (now.2.worker ∙ own.0, over_still h.0 now.0 sp ∙ own.1)) h.2)
+  may_stop_apart i keeps (Waiting.Timer n) h =
+      let now = endure_too n h.0 h.1 in (
+        now.0,
+        now.1,
+        ⊎_elim (λ sent. inl (now.2.forwarded sent))
+            (λ own.
+            let sp = sleeper_back i rs rs' ss ss' keeps n h.0 now.0 h.1 own.0 now.1 in
+            inr (now.2.worker ∙ own.0, ap (λ (y : SleeperRecord). y.shown.fired) sp.kept ∙ own.1, ap (λ (y : SleeperRecord). y.shown.removed) sp.kept ∙ own.2))
+            h.2,
+      )
+  may_stop_apart i keeps Waiting.Nothing h = tt
+  may_stop_apart i keeps Waiting.Wake h = tt
+  may_stop_apart i keeps Waiting.Woken h = tt
+  may_stop_apart i keeps Waiting.Yielded h = tt
+
+  pub stops_apart : (x : InPoll) (i : ℕ) → KeepsMine i rs rs' ss ss' → (w : Waiting) → StopsIn x i w rs ss → StopsIn x i w rs' ss'
+  stops_apart InPoll.Pend i keeps w h = may_stop_apart i keeps w h
+  stops_apart _ i keeps w h = tt
+
+-- WHAT ENDURES where all is as it was
+
+pub records_endure : (rs rs' : List Record) → rs' ≡ rs → RecordsEndure rs rs'
+records_endure rs rs' same = λ k r there. (r, ap (λ xs. slice_get xs k) same ∙ there, record { worker = refl; forwarded = λ h. h })
+
+pub sleepers_endure : (ss ss' : List SleeperRecord) → ss' ≡ ss → SleepersEndure ss ss'
+sleepers_endure ss ss' same = λ k z there. (z, ap (λ xs. slice_get xs k) same ∙ there, record { worker = refl; forwarded = λ h. h })

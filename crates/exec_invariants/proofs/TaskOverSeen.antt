@@ -1,0 +1,55 @@
+-- WHAT THE MACHINE HAS, where a task is over and its worker has let go of what it has of that.
+use Rattle.std.proofs.{Common.{◌≡◌, ℕ, List, [], ◌++◌, map, Option, Some, refl, sym, ap, subst, ◌∙◌, slice_get, slice_set}, lemmas.List.map-set}
+use Rattle.exec_task.specs.declared.body.Said.{Said}
+use Rattle.exec_machine.specs.{declared.state.{Letter.Letter, TaskPhase.TaskPhase}, Progress.Plan, Tasks.{after_over, own_after_drops, own_after_waking_up, requests_after_drops, sleepers_after_waking_up}, World.{Common, Task, task_of}}
+use Rattle.exec_moves.specs.{declared.place.Place.Place, Told.lets_go_all}
+use Rattle.exec_parts.specs.{declared.parts.{letters.Letters.Letters, record.Record.Record, shared.Shared.Shared, sleeping.SleeperRecord.SleeperRecord, task_slot.TaskSlot.TaskSlot, worker.Worker.Worker}, Records.numbers_held, Spots.Spot, View.{Views, common_of, desk_of, letters_in, open_seen, own_of, task_seen, things_with, visible, with_view}}
+use Rattle.exec_invariants.{specs.Works.Suits, proofs.{Keys.same_opens, Seeing.things_kept, Seen.request_at, Serving.SparesRecords, Slots.task_there, TaskOverFold.SeesAll, TaskOverGone.AllGone, TaskOverPolls.{over_shared, over_worker}, Turning.view_found}}
+
+module _ {B L : Type 0} (left : B → L) (spot : L → Option Said → Spot) (p : Plan) (vs : Views) (t : ℕ) (q : Place) (l : Letters) (w v : Worker) (s now s' : Shared B) (slot slot' : TaskSlot B)
+    (suits : Suits p vs w s) (there : slice_get s.tasks.items t ≡ Some slot) (items : s'.tasks.items ≡ slice_set s.tasks.items t slot') (gone : AllGone w.index slot.held.items slot.waiting l w v s now) where
+  abbrev c : Common
+  c = common_of left spot p vs s
+
+  its : task_of c t ≡ task_seen left spot slot
+  its = task_there left spot s.tasks.items t slot there
+
+  sees : SeesAll c slot.held.items s.requests.items
+  sees = λ j x r at_j at_k. request_at s.requests.items x.number r at_k
+
+  abbrev pub then_worker : Worker
+  then_worker = over_worker q l v w
+
+  abbrev pub then_shared : Shared B
+  then_shared = over_shared s'.tasks.items s' now s
+
+  pub visible_then : visible (over_worker q l v w) ≡ visible w
+  visible_then = sym (ap visible gone.worker) ∙ gone.shows
+
+  pub worker_then : over_worker q l v w ≡ record v { place = q; letters = l }
+  worker_then = ap (λ (x : Worker). record x { place = q; letters = l }) (sym gone.worker)
+
+  again : with_view vs w.index (visible (over_worker q l v w)) ≡ vs
+  again = ap (with_view vs w.index) visible_then ∙ view_found vs w.index (visible w) suits.seen
+
+  pub things_then : things_with (with_view vs w.index (visible (over_worker q l v w))) (over_shared s'.tasks.items s' now s) ≡ things_with vs s
+  things_then =
+      let spares : SparesRecords w.index s (record s { requests = now.requests; sleepers = now.sleepers }) = subst (SparesRecords w.index s) gone.kept gone.spares in
+      things_kept vs w.index (visible w) (visible (over_worker q l v w)) s (record s { requests = now.requests; sleepers = now.sleepers }) suits.seen (ap (λ x. x.wakes) visible_then) refl spares
+
+  pub own_then : (owed : List Letter) → own_after_waking_up c w.index (task_of c t).waiting (own_after_drops c w.index (task_of c t).held (record (own_of w) { owed = owed })) ≡ record (own_of v) { owed = owed ++ letters_in l }
+  own_then owed = ap (λ (y : Task). own_after_waking_up c w.index y.waiting (own_after_drops c w.index y.held (record (own_of w) { owed = owed }))) its ∙ gone.own c sees refl owed
+
+  pub desk_then : letters_in w.letters ≡ [] → lets_go_all w.index c (task_seen left spot slot) (desk_of w) ≡ desk_of (record v { letters = l })
+  desk_then none = gone.desk c sees refl (letters_in w.letters) ∙ ap (λ ls. record (desk_of v) { letters = ls ++ letters_in l }) none
+
+  pub common_then : task_seen left spot slot' ≡ record (task_seen left spot slot) { phase = TaskPhase.Done; held = [] } → common_of left spot p (with_view vs w.index (visible (over_worker q l v w))) (over_shared s'.tasks.items s' now s) ≡ after_over c w.index t
+  common_then over =
+      let done : Task = record (task_seen left spot slot) { phase = TaskPhase.Done; held = [] } in
+      ap (λ us. common_of left spot p us (over_shared s'.tasks.items s' now s)) again
+      ∙ ap (λ ts. record c { tasks = ts; requests = map (λ (r : Record). r.shown) now.requests.items; sleepers = map (λ (z : SleeperRecord). z.shown) now.sleepers.items; opens = map (open_seen now.requests.items) s.opens })
+      (ap (map (task_seen left spot)) items ∙ map-set (task_seen left spot) s.tasks.items t slot' ∙ ap (slice_set c.tasks t) over)
+      ∙ ap (λ rs. record c { tasks = slice_set c.tasks t done; requests = rs; sleepers = map (λ (z : SleeperRecord). z.shown) now.sleepers.items; opens = map (open_seen now.requests.items) s.opens }) gone.shown
+      ∙ ap (λ zs. record c { tasks = slice_set c.tasks t done; requests = requests_after_drops w.index (numbers_held slot.held.items) c.requests; sleepers = zs; opens = map (open_seen now.requests.items) s.opens }) (gone.slept c refl)
+      ∙ ap (λ os. record c { tasks = slice_set c.tasks t done; requests = requests_after_drops w.index (numbers_held slot.held.items) c.requests; sleepers = sleepers_after_waking_up c w.index slot.waiting; opens = os }) (same_opens s.requests.items now.requests.items gone.names s.opens)
+      ∙ sym (ap (λ (y : Task). record c { tasks = slice_set c.tasks t (record y { phase = TaskPhase.Done; held = [] }); requests = requests_after_drops w.index y.held c.requests; sleepers = sleepers_after_waking_up c w.index y.waiting }) its)

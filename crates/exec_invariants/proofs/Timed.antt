@@ -1,0 +1,194 @@
+-- What holds again once a deadline is on the wheel.
+use Rattle.std.{proofs.{Common.{◌≡◌, ◌≢◌, ℕ, ◌+◌, ◌^◌, ◌<◌, ◌≤◌, ◌==◌, Bool, true, false, List, [], Option, Some, None, IfSome, is_some, refl, sym, ap, subst, ◌∙◌, arith, inl, inr, slice_get, Ok}, lemmas.Bool.false≢true}, specs.Prelude.unwrap_or}
+use Rattle.exec_base.specs.{Slab.written, declared.slab.Id.Id}
+use Rattle.exec_outcomes.specs.declared.outcome.Outcome.{Outcome}
+use Rattle.exec_time.specs.Wheel.{Wheel, scheduled}
+use Rattle.exec_request.specs.{Requests.{asked_of, deadline_of}, States.asks_cancel, declared.results.WaiterState.{WaiterState, TheVariants.{Active, CancelRequested}}}
+use Rattle.exec_waiters.specs.{Events.with_tick, States.{needs_permit, takes_tick, tick_in, waiter_at}, declared.{waiter.{Entry.TheVariants.Pending, Waiter.Waiter}, waiter_id.WaiterId.WaiterId}}
+use Rattle.exec_driver.{specs.{Driving.Driving, Lists.{first_of, rest_of, is_among, after_enrolment}, Punctual.IsPunctual, Steps.tick_for}, proofs.{Names.same_tells, Expiring.tick_tells}}
+use Rattle.exec_machine.specs.{declared.{state.RequestPhase.RequestPhase, config.Configuration.Configuration, event.Event.TheVariants.Enrol}, Tests.{is_kept, is_staged}, World.{Own, Common, request_of}}
+use Rattle.exec_moves.specs.{Told.told_if_ended, State.{Desk, Moved, Things}, Submit.{due_next, first_due, submits, Due.Enrols}, declared.place.{Service.Service, Place.Place, InService.InService}}
+use Rattle.exec_parts.{specs.{declared.parts.{mail.Reply.Reply, record.Record.Record, shared.Shared.Shared, worker.Worker.Worker}, Records.number_in, Serving.{changed_at, first_tick}, View.{own_of, driver_of}}, proofs.Facts.by_name}
+use Rattle.exec_invariants.{specs.{Sound.{IsSubmitted, served_in}, Due.IsWheelAt, Flown.{HasFlown, IsPlain, operations}, Submits.IsNewIn, Ordered.{IsOrdered, went_round}}, proofs.{Known.known_written, Changing.{all_go_one, OneGoesOn, changes_one, keeps_one}, Going.{owning_on, GoesOn}, Marking.{known_then, plain_kept, mark_kept, mark_if, marked, was_marked}, Carries.carried_still, Enrolled.new_first, Enrolling.enrolled_at, Flown.landed_on, Seeing.makes, Serving.KeepsBy, Staging.{split_first, stages_again}, Orders.ticks_so}}
+pub use Rattle.exec_invariants.proofs.Untold.{keeps_untold, told_still}
+
+-- THE WHEEL
+
+pub one_more : (c : Configuration) (start moment : ℕ) (w : Wheel) (id : Id) (t : ℕ) → IsWheelAt c start moment w → IsWheelAt c start moment (scheduled w id t)
+unfolding scheduled
+one_more c start moment w id t it = record { start = it.start; tick = it.tick; horizon = it.horizon; slots = it.slots; current = it.current }
+
+pub same_start : (w : Wheel) (id : Id) (t : ℕ) → (scheduled w id t).start ≡ w.start
+unfolding scheduled
+same_start w id t = refl
+
+pub same_tick : (w : Wheel) (id : Id) (t : ℕ) → (scheduled w id t).tick ≡ w.tick
+unfolding scheduled
+same_tick w id t = refl
+
+-- THE RECORD
+
+abbrev pub times : ℕ → ℕ → Record → Record
+times start tick r = record r { shown = record r.shown { timer = Some (first_tick start tick (unwrap_or r.shown.operation.deadline 0)) } }
+
+times_plain : (start tick : ℕ) (r : Record) → IsPlain r.shown → IsPlain (times start tick r).shown
+times_plain start tick r p = record { bounded = p.bounded; moved = p.moved; deadline = p.deadline }
+
+-- no tick was set, and nobody asked for its cancel
+pub unset : (x : WaiterState) → takes_tick x ≡ true → (tick_in x ≡ None) × (asks_cancel x ≡ false)
+unset (Active None) h = (refl, refl)
+unset (Active (Some t)) h = absurd (false≢true h)
+unset CancelRequested h = absurd (false≢true h)
+
+-- who else waits to be enrolled does so still
+among_rest : (other id : WaiterId) (ids : List WaiterId) → first_of ids ≡ Some id → is_among other ids ≡ true → other.0 ≢ id.0 → is_among other (rest_of ids) ≡ true
+among_rest other id ids first among apart =
+    let split = split_first id ids first in
+    elim (same_tells id other) [
+      | inl same ↦ absurd (apart (ap (λ (y : WaiterId). y.0) (sym same.1)))
+      | inr differs ↦ rw differs.0 at (ap (is_among other) (sym split) ∙ among)
+    ]
+
+-- WHAT IS NEXT
+
+pub comes_to_new : (c : Configuration) (i gate k : ℕ) (me : Own) (s : Common) (d : Desk) → first_due c i me s ≡ None → slice_get me.unenrolled 0 ≡ Some k → due_next c i gate me s d ≡ Enrols k
+comes_to_new c i gate k me s d none new = rw (none, new) refl
+
+-- the move, by what comes of it
+abbrev pub move_enrol : Configuration → ℕ → Own → Common → Desk → Things → ℕ → Service → ℕ → Option Outcome → Moved Things
+move_enrol c i me s d x gate v k outcome = makes (Enrol k outcome) (submits v gate (told_if_ended outcome k (request_of s k) d)) x
+
+-- WHAT HOLDS AGAIN
+
+module _ {B : Type 0} (w : Worker) (s : Shared B) (new : IsNewIn w s) (id : WaiterId) (first : first_of (driver_of w).lists.enrolments ≡ Some id) where
+  abbrev pub timed_waiter : ℕ → Waiter Reply Reply
+  timed_waiter t = with_tick t (new_first w s new id first).it
+
+  -- the driver with that deadline on its wheel
+  abbrev pub timed_driver : ℕ → Driving Reply Reply
+  timed_driver t =
+      let d = driver_of w in
+      record d { lists = after_enrolment d.lists; requests = written d.requests id.0 (Pending (timed_waiter t)); wheel = scheduled d.wheel id.0 t }
+
+  abbrev pub timed_records : List Record
+  timed_records = changed_at s.requests.items (number_in w.names.requests.items id.0) (times w.moments.start s.config.tick)
+
+  submitted_timed : (t : ℕ) → IsSubmitted w.index w.names.staged.items w.names.untold.items (driver_of w).ring timed_records
+  submitted_timed t =
+      let rs = s.requests.items in
+      let k = number_in w.names.requests.items id.0 in
+      let c = s.config in
+      let start = w.moments.start in
+      let f = times start c.tick in
+      let sub = new.submits.sound.named.submitted in
+      record {
+        tagged = sub.tagged;
+        cancels = sub.cancels;
+        known = known_then f rs k w.names.staged.items sub.known;
+        own = λ j x h found. let old = was_marked f rs k j x found in ap (λ y. y.shown.worker) old.2 ∙ mark_kept ℕ (λ x. x.shown.worker) (times start c.tick) (λ x. refl) (k == j) old.0 ∙ sub.own j old.0 h old.1;
+        all = λ j x found mine staged.
+            let old = was_marked f rs k j x found in
+            sub.all j old.0 old.1 (sym (mark_kept ℕ (λ x. x.shown.worker) (times start c.tick) (λ x. refl) (k == j) old.0) ∙ sym (ap (λ y. y.shown.worker) old.2) ∙ mine)
+            (sym (ap is_staged (mark_kept RequestPhase (λ x. x.shown.phase) (times start c.tick) (λ x. refl) (k == j) old.0)) ∙ sym (ap (λ y. is_staged y.shown.phase) old.2) ∙ staged);
+      }
+
+  flown_timed : (t : ℕ) → HasFlown (served_in (Place.Service (InService.Submit new.submits.gate) new.submits.service)) w.index w.names (timed_driver t) timed_records
+  flown_timed t =
+      let d = driver_of w in
+      let rs = s.requests.items in
+      let k = number_in w.names.requests.items id.0 in
+      let c = s.config in
+      let start = w.moments.start in
+      let f = times start c.tick in
+      let who = new_first w s new id first in
+      let it = who.it in
+      let it' = timed_waiter t in
+      let d' = timed_driver t in
+      let rs' = timed_records in
+      let flown = new.submits.sound.flown in
+      let changed = changes_one d.requests id.0 it it' who.live in
+      let all = all_go_one rs k f who.r who.there (record { same = refl; over = refl; ended = λ h. refl }) in
+      record {
+        ending = flown.ending;
+        staging = flown.staging;
+        telling = flown.telling;
+        entries = flown.entries;
+        gated = λ other x live needs.
+            by_name other.0 id.0 (λ apart. flown.gated other x (sym (changed.others other.0 apart) ∙ live) needs)
+            (λ eq.
+            let is_it : x ≡ it' = cc (live, eq, changed.is_at) in
+            flown.gated other it (ap (waiter_at d.requests) eq ∙ who.live) (ap needs_permit (sym is_it) ∙ needs));
+        plain = plain_kept f rs k (times_plain start c.tick) w.index (λ r. refl) flown.plain;
+        landed = landed_on w.names w.names d d' rs rs' (operations d.ring) flown.landed
+            (λ other x r given live flies found landed.
+            let j = number_in w.names.requests.items other in
+            let apart : other ≢ id.0 = λ same.
+            let both : x ≡ it = cc (live, who.live, same) in
+            false≢true (sym who.idle ∙ ap (λ y. y.in_flight) (sym both) ∙ flies) in
+            record { it' = x; r' = mark_if f (k == j) r; live = changed.others other apart ∙ live; flies = refl; same = refl; number = refl; there = marked f rs k j r found; phase = mark_kept RequestPhase (λ x. x.shown.phase) (times start c.tick) (λ x. refl) (k == j) r });
+        polled = flown.polled;
+        owning = owning_on rs rs' all flown.owning;
+        enrolling = λ other x live takes some.
+            let differs : other.0 ≢ id.0 → is_among other (rest_of d.lists.enrolments) ≡ true = λ apart.
+            among_rest other id d.lists.enrolments first (flown.enrolling other x (sym (changed.others other.0 apart) ∙ live) takes some) apart in
+            by_name other.0 id.0 differs
+            (λ eq.
+            let is_it : x ≡ it' = cc (live, eq, changed.is_at) in
+            absurd (false≢true (ap (λ y. takes_tick y.state) (sym is_it) ∙ takes)));
+        uncancelled = λ other x among found mine.
+            let j = number_in w.names.requests.items other.0 in
+            let old = was_marked f rs k j x found in
+            ap (λ y. y.shown.cancel_staged) old.2 ∙ mark_kept Bool (λ x. x.shown.cancel_staged) (times start c.tick) (λ x. refl) (k == j) old.0
+            ∙ flown.uncancelled other old.0 among old.1 (sym (mark_kept ℕ (λ y. y.shown.worker) (times start c.tick) (λ y. refl) (k == j) old.0) ∙ sym (ap (λ y. y.shown.worker) old.2) ∙ mine);
+      }
+
+  pub keeps_timed : (t : ℕ) → id.0.generation < 2 ^ 64 → tick_for (driver_of w).wheel (new_first w s new id first).deadline w.moments.sampled ≡ Ok t → IsPunctual (timed_driver t)
+      → KeepsBy (record w { place = Place.Service (InService.Submit new.submits.gate) new.submits.service }) (timed_driver t) w.home.timers timed_records s.sleepers.items s
+  keeps_timed t fits okay punctual =
+      let v = new.submits.service in
+      let gate = new.submits.gate in
+      let q : Place = Place.Service (InService.Submit gate) v in
+      let sound = new.submits.sound in
+      let d = driver_of w in
+      let who = new_first w s new id first in
+      let it = who.it in
+      let it' = timed_waiter t in
+      let c = s.config in
+      let w0 : Worker = record w { place = q } in
+      let start = w.moments.start in
+      let now = w.moments.sampled in
+      let f = times start c.tick in
+      let begun : start ≤ now = omega (arith, sound.time.begun, sound.time.ordered) in
+      let plain = sound.flown.plain (number_in w.names.requests.items id.0) who.r who.there who.worker in
+      let bounded : who.deadline < 2 ^ 63 = subst (λ o. IfSome o (λ m. m < 2 ^ 63)) who.told plain.deadline in
+      let within : who.deadline + c.tick < 2 ^ 64 = omega (arith, bounded, sound.config.tick) in
+      let wheel : IsWheelAt c start now d.wheel = sound.due.wheel in
+      let place = enrolled_at c (own_of w0) d.wheel now who.deadline wheel refl sound.config.some_tick begun within t okay in
+      let on : GoesOn who.r (f who.r) = record { same = refl; over = refl; ended = λ h. refl } in
+      let a = who.alike in
+      let free = unset it.state who.takes in
+      let one : OneGoesOn w.names w.names d (timed_driver t) s.requests.items id.0 it it' who.r f = record {
+        at = who.live;
+        there = who.there;
+        slab = refl;
+        on = on;
+        alike =
+            let timer = ap (λ (o : Option ℕ). Some (first_tick start c.tick (unwrap_or o 0))) who.told ∙ ap (λ (n : ℕ). Some n) (sym place.0) in
+            let going : false ≡ true → it.in_flight ≡ true = λ h. absurd (false≢true h) in
+            let dated : true ≡ true → is_some (deadline_of it.request) ≡ true = λ h. ap is_some who.asked in
+            let alone : false ≡ true → is_kept (asked_of it.request).kind ≡ false = λ h. absurd (false≢true h) in
+            assumption (a.cancelled ∙ free.1, timer, going, dated, alone, a);
+        start = same_start d.wheel id.0 t;
+        tick = same_tick d.wheel id.0 t;
+        requests = refl;
+        timers = refl;
+      } in
+      keeps_one q q w.put_off w.names w s (timed_driver t) id.0 it it' who.r f sound (stages_again gate v) one punctual (λ h. new.due)
+      (subst (IsOrdered (went_round c w.moments) w.names.requests.items (timed_driver t).requests (timed_driver t).wheel (rest_of d.lists.enrolments)) (sym new.due)
+      (ticks_so (went_round c w.moments) w.names.requests.items d.requests d.wheel id (rest_of d.lists.enrolments) it t who.live who.takes fits (tick_tells d.wheel who.deadline now t okay).span
+      (subst (λ ids. IsOrdered (went_round c w.moments) w.names.requests.items d.requests d.wheel ids []) (split_first id d.lists.enrolments first)
+      (subst (IsOrdered (went_round c w.moments) w.names.requests.items d.requests d.wheel d.lists.enrolments) new.due sound.due.order))))
+      (one_more c start now d.wheel id.0 t wheel) refl (submitted_timed t) (flown_timed t)
+      (carried_still w.names.requests.items d.requests d.ring s.requests.items s.store sound.carried id.0 it it' who.live refl (number_in w.names.requests.items id.0) f (λ r there. refl) (λ r there. refl))
+      refl
+      (known_written w.index w.names.requests.items d.requests s.opens s.opens s.requests.items (number_in w.names.requests.items id.0) f (λ y. record { id = refl; worker = refl; kind = refl; target = refl; unrefused = λ h. h }) (λ file h. h) id.0 it it' who.r refl who.live who.there (inl (λ h. inl h)) sound.known)

@@ -1,0 +1,196 @@
+-- What an enter and a landing make of the wake poll that a ring shows.
+use Rattle.std.{proofs.{Common.{[], ◌≡◌, ℕ, zero, suc, ◌+◌, ◌-◌, ◌≤◌, Bool, true, false, List, ◌∷◌, ◌++◌, filter, Option, Some, None, refl, sym, ap, subst, ◌∙◌, arith, if◌then◌else◌}, lemmas.List.{append-nil, Elements.filter-append}}, specs.List.fold}
+use Rattle.exec_request.specs.declared.window.Opcode.{Opcode}
+use Rattle.exec_ring.specs.{Completions.{is_wake, acknowledged}, Kernels.{with_completion, woken, with_poll, taken_as, taken_in, all_taken}, Rings.{RingState, completions}, declared.completion.{Completion.Completion, Submission.Submission}}
+use Rattle.exec_driver.specs.Steps.{is_control}
+use Rattle.exec_moves.specs.State.{WakePoll, told_once, raised, passed, armed as poll_armed, taken_in as poll_taken}
+use Rattle.exec_parts.specs.{Serving.{is_cancel, cancels_in, AreTagged}, View.{trailing, trails_wake, operations_in, is_end, behind_end, wake_poll_in}}
+use Rattle.exec_invariants.{specs.{Flown.{is_poll, polls_in, ends_in, IsPolled}, Places.one_if}, proofs.{Behind.{is_op, op_acks, op_ends, op_wakes}, Woken.{completion_added, told_added, trailing_added, ends_added, behind_added, one_most, wakes}}}
+
+pub ended_some : (cs : List Completion) (n : ℕ) → behind_end cs ≡ Some n → 1 ≤ ends_in cs
+ended_some [] n h = absurd (cc)
+ended_some (c ∷ cs) n h = by (is_end c) refl (λ some. ended_some cs n some)
+  where
+    by : (b : Bool) → is_end c ≡ b → (behind_end cs ≡ Some n → 1 ≤ ends_in cs) → 1 ≤ ends_in (c ∷ cs)
+    by true is later = rw is (omega arith)
+    by false is later = rw is (let rest = later (rw is at h) in omega arith)
+
+pub ended_none : (cs : List Completion) → behind_end cs ≡ None → ends_in cs ≡ 0
+ended_none [] h = refl
+ended_none (c ∷ cs) h = by (is_end c) refl (λ none. ended_none cs none)
+  where
+    by : (b : Bool) → is_end c ≡ b → (behind_end cs ≡ None → ends_in cs ≡ 0) → ends_in (c ∷ cs) ≡ 0
+    by true is later = absurd (let no : Some (operations_in cs) ≡ None = rw is at h in cc)
+    by false is later = rw is (let rest = later (rw is at h) in omega arith)
+
+-- what an enter makes of the wake poll, where that stands in the queue so often
+abbrev pub polled_times : ℕ → WakePoll → WakePoll
+polled_times zero p = p
+polled_times (suc n) p = poll_armed p
+
+-- another ring has so many more completions that are of no operation, and the wake poll, where that was in the queue
+pub record Acknowledges (s s' : RingState) (cancels polls : ℕ) : Type 0 where
+  pub size : s'.size ≡ s.size
+  pub staged : s'.staged ≡ s.staged
+  pub busy : s'.busy ≡ s.busy
+  pub others : trailing 0 (completions s') ≡ trailing 0 (completions s) + cancels
+  pub landed : filter is_op (completions s') ≡ filter is_op (completions s)
+  pub poll : wake_poll_in s' ≡ polled_times polls (wake_poll_in s)
+  pub count : one_if s'.armed + ends_in (completions s') ≡ polls + (one_if s.armed + ends_in (completions s))
+
+none_acknowledged : (s : RingState) → Acknowledges s s 0 0
+none_acknowledged s = record { size = refl; staged = refl; busy = refl; others = omega arith; landed = refl; poll = refl; count = omega arith }
+
+-- the wake poll goes in
+poll_taken_in : (s : RingState) → ends_in (completions s) ≡ 0 → s.armed ≡ false → Acknowledges s (with_poll s) 0 1
+poll_taken_in s none free = by s.raised refl
+  where
+    plus_none : (n : ℕ) → n ≡ n + 0
+    plus_none n = omega arith
+
+    counted : one_if true + ends_in (completions s) ≡ 1 + (one_if s.armed + ends_in (completions s))
+    counted = let one : one_if s.armed ≡ 0 = ap one_if free in omega (arith, one)
+
+    poll_by : (b : Bool) → s.raised ≡ b → poll_armed (wake_poll_in s) ≡ (if b then told_once (record (wake_poll_in s) { armed = true; kept = false }) else (record (wake_poll_in s) { armed = true }))
+    poll_by b kept = ap (λ x. if x then told_once (record (wake_poll_in s) { armed = true; kept = false }) else (record (wake_poll_in s) { armed = true })) kept
+
+    by : (b : Bool) → s.raised ≡ b → Acknowledges s (with_poll s) 0 1
+    by true kept =
+        let s1 : RingState = record s { armed = true; raised = false } in
+        let it = wakes s1 in
+        let done : Acknowledges s (woken s1) 0 1 = record {
+          size = it.raises.size;
+          staged = it.raises.staged;
+          busy = it.raises.busy;
+          others = it.raises.others ∙ plus_none (trailing 0 (completions s));
+          landed = it.raises.landed;
+          poll = it.shown refl none ∙ sym (poll_by true kept);
+          count = it.count refl ∙ counted;
+        } in
+        subst (λ r. Acknowledges s r 0 1) (sym (ap (λ b. if b then woken s1 else (record s { armed = true })) kept)) done
+    by false kept =
+        let done : Acknowledges s (record s { armed = true }) 0 1 = record {
+          size = refl;
+          staged = refl;
+          busy = refl;
+          others = omega arith;
+          landed = refl;
+          poll = sym (poll_by false kept);
+          count = counted;
+        } in
+        subst (λ r. Acknowledges s r 0 1) (sym (ap (λ b. if b then woken (record s { armed = true; raised = false }) else (record s { armed = true })) kept)) done
+
+-- one entry
+one_taken : (k : Opcode) (s : RingState) (e : Submission) → (is_cancel k ≡ true → e.user_data ≡ 4294967295) → one_if (is_poll k) + (one_if s.armed + ends_in (completions s)) ≤ 1
+    → Acknowledges s (taken_as k s e) (if is_cancel k then 1 else 0) (one_if (is_poll k))
+one_taken Opcode.Cancel s e tag few =
+    let c : Completion = acknowledged 4294967295 in
+    let added : completions (with_completion s c) ≡ completions s ++ c ∷ [] = completion_added s c in
+    let done : Acknowledges s (with_completion s c) 1 0 = record {
+      size = refl;
+      staged = refl;
+      busy = refl;
+      others = ap (trailing 0) added ∙ trailing_added 0 (completions s) c ∙ one_more (trailing 0 (completions s));
+      landed = ap (filter is_op) added ∙ filter-append is_op (completions s) (c ∷ []) ∙ append-nil (filter is_op (completions s));
+      poll =
+          ap (λ cs. record { armed = s.armed; last = s.last; told = trails_wake false cs; ended = behind_end cs; kept = s.raised }) added
+          ∙ ap (λ b. record { armed = s.armed; last = s.last; told = b; ended = behind_end (completions s ++ c ∷ []); kept = s.raised }) (told_added false (completions s) c)
+          ∙ ap (λ x. record { armed = s.armed; last = s.last; told = trails_wake false (completions s); ended = x; kept = s.raised }) (behind_added (completions s) c refl);
+      count =
+          let more : ends_in (completions (with_completion s c)) ≡ ends_in (completions s) + 0 = ap ends_in added ∙ ends_added (completions s) c in
+          omega (arith, more);
+    } in
+    subst (λ u. Acknowledges s (with_completion s (acknowledged u)) 1 0) (sym (tag refl)) done
+  where
+    one_more : (n : ℕ) → suc n ≡ n + 1
+    one_more n = omega arith
+one_taken Opcode.Wake s e tag few = by s.armed refl
+  where
+    by : (b : Bool) → s.armed ≡ b → Acknowledges s (with_poll s) 0 1
+    by true is = absurd (let no : 1 + (1 + ends_in (completions s)) ≤ 1 = rw is at few in omega arith)
+    by false is = poll_taken_in s (let none : 1 + (0 + ends_in (completions s)) ≤ 1 = rw is at few in omega arith) is
+one_taken _ s e tag few = record { size = refl; staged = refl; busy = refl; others = omega arith; landed = refl; poll = refl; count = omega arith }
+
+polled_both : (b : Bool) (n : ℕ) (p : WakePoll) → one_if b + n ≤ 1 → polled_times n (polled_times (one_if b) p) ≡ polled_times (one_if b + n) p
+polled_both true n p few = let none : n ≡ 0 = omega arith in rw none refl
+polled_both false n p few = let same : 0 + n ≡ n = omega arith in rw same refl
+
+fold_taken : (es : List Submission) (s : RingState) → AreTagged es → polls_in es + (one_if s.armed + ends_in (completions s)) ≤ 1 → Acknowledges s (fold taken_in s es) (cancels_in es) (polls_in es)
+fold_taken [] s tagged few = none_acknowledged s
+fold_taken (e ∷ es) s tagged few =
+    let one = one_taken e.window.kind s e tagged.0 (omega arith) in
+    let more = fold_taken es (taken_in s e) tagged.1 (let count = one.count in omega arith) in
+    record {
+      size = more.size ∙ one.size;
+      staged = more.staged ∙ one.staged;
+      busy = more.busy ∙ one.busy;
+      others =
+          more.others ∙ ap (λ n. n + cancels_in es) one.others
+          ∙ add_both (trailing 0 (completions s)) (if is_cancel e.window.kind then 1 else 0) (cancels_in es);
+      landed = more.landed ∙ one.landed;
+      poll = more.poll ∙ ap (polled_times (polls_in es)) one.poll ∙ polled_both (is_poll e.window.kind) (polls_in es) (wake_poll_in s) (omega arith);
+      count = let a = one.count in let b = more.count in omega arith;
+    }
+  where
+    add_both : (a b c : ℕ) → (a + b) + c ≡ a + (b + c)
+    add_both a b c = omega arith
+
+-- the whole queue, of a ring whose driver knows whether the wake poll is under way
+pub all_acknowledged : (s : RingState) (a : Bool) → IsPolled s a → AreTagged s.staged → Acknowledges (record s { staged = [] }) (all_taken s) (cancels_in s.staged) (polls_in s.staged)
+all_acknowledged s a polled tagged = fold_taken s.staged (record s { staged = [] }) tagged (let most = one_most a in omega (arith, polled, most))
+
+pub enter_shown : (s : RingState) (a : Bool) → IsPolled s a → AreTagged s.staged → wake_poll_in (all_taken s) ≡ poll_taken a (wake_poll_in s)
+enter_shown s a polled tagged = (all_acknowledged s a polled tagged).poll ∙ by a polled s.armed refl (behind_end (completions s)) refl
+  where
+    p : WakePoll
+    p = wake_poll_in s
+
+    by : (a : Bool) → IsPolled s a → (b : Bool) → s.armed ≡ b → (e : Option ℕ) → behind_end (completions s) ≡ e → polled_times (polls_in s.staged) p ≡ poll_taken a p
+    by false it b is e ends = let none : polls_in s.staged ≡ 0 = omega (arith, it) in rw none refl
+    by true it true is e ends =
+        let one : one_if s.armed ≡ 1 = ap one_if is in
+        let none : polls_in s.staged ≡ 0 = omega (arith, it, one) in
+        rw (none, is) refl
+    by true it false is (Some n) ends =
+        let some = ended_some (completions s) n ends in
+        let none : polls_in s.staged ≡ 0 = omega (arith, it, some) in
+        rw (none, is, ends) refl
+    by true it false is None ends =
+        let free : one_if s.armed ≡ 0 = ap one_if is in
+        let no = ended_none (completions s) ends in
+        let one : polls_in s.staged ≡ 1 = omega (arith, it, free, no) in
+        rw (one, is, ends) refl
+
+pub enter_polled : (s : RingState) (a : Bool) → IsPolled s a → AreTagged s.staged → IsPolled (all_taken s) a
+enter_polled s a polled tagged =
+    let it = all_acknowledged s a polled tagged in
+    ap (λ es. polls_in es + (one_if (all_taken s).armed + ends_in (completions (all_taken s)))) it.staged
+    ∙ (let count = it.count in omega (arith, polled))
+
+-- A LANDING
+
+pub record Lands (r r' : RingState) (c : Completion) : Type 0 where
+  pub others : trailing 0 (completions r') ≡ 0
+  pub operated : filter is_op (completions r') ≡ filter is_op (completions r) ++ c ∷ []
+  pub poll : wake_poll_in r' ≡ passed (wake_poll_in r)
+  pub polled : (a : Bool) → IsPolled r a → IsPolled r' a
+
+pub landing : (r : RingState) (c : Completion) → is_control c ≡ false → Lands r (with_completion r c) c
+landing r c operates =
+    let added : completions (with_completion r c) ≡ completions r ++ c ∷ [] = completion_added r c in
+    let woke : is_wake c ≡ false = op_wakes c operates in
+    let acks = op_acks c operates in
+    let ends : is_end c ≡ false = op_ends c operates in
+    record {
+      others = ap (trailing 0) added ∙ trailing_added 0 (completions r) c ∙ rw (woke, acks) refl;
+      operated = ap (filter is_op) added ∙ filter-append is_op (completions r) (c ∷ []) ∙ rw operates refl;
+      poll =
+          ap (λ cs. record { armed = r.armed; last = r.last; told = trails_wake false cs; ended = behind_end cs; kept = r.raised }) added
+          ∙ ap (λ b. record { armed = r.armed; last = r.last; told = b; ended = behind_end (completions r ++ c ∷ []); kept = r.raised }) (told_added false (completions r) c ∙ rw (woke, acks) refl)
+          ∙ ap (λ x. record { armed = r.armed; last = r.last; told = false; ended = x; kept = r.raised }) (behind_added (completions r) c ends ∙ rw operates refl);
+      polled = λ a it.
+          ap (λ n. polls_in r.staged + (one_if r.armed + n)) (ap ends_in added ∙ ends_added (completions r) c ∙ rw ends (plus_none (ends_in (completions r)))) ∙ it;
+    }
+  where
+    plus_none : (n : ℕ) → n + 0 ≡ n
+    plus_none n = omega arith

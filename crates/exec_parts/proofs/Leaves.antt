@@ -1,0 +1,30 @@
+-- What single steps leave: seats that the clock reaches, raises that were taken in, a clock that was read.
+use Rattle.std.proofs.{Common.{◌≡◌, ℕ, suc, ◌+◌, ◌<◌, Bool, true, false, List, [], ◌∷◌, length, map, get_or, set, take, drop, ◌++◌, add-one, append_assoc, drop-cons, Option, Some, refl, ap, ◌∙◌, arith, slice_get, slice_set}, Math.Seq.take-suc-set, lemmas.List.drop-set-lt}
+use Rattle.exec_parts.specs.{declared.parts.{seat.Seat.Seat as Chair, shared.Shared.Shared, worker.Worker.Worker}, Pooled.with_raises, Raises.TakesRaises, Records.reached, Tests.IsNextIn, View.driver_of}
+use Rattle.exec_parts.specs.declared.parts.worker.Moments.{Moments}
+
+-- a turn of the loop by which the clock reaches each seat
+pub reached_next : (clock i : ℕ) (xs : List Chair) (d y : Chair) → i < length xs → y ≡ reached clock (get_or xs i d)
+    → take (i + 1) (set xs i y) ++ map (reached clock) (drop (i + 1) (set xs i y)) ≡ take i xs ++ map (reached clock) (drop i xs)
+reached_next clock i xs d y within changed =
+    rw (drop-set-lt (i + 1) xs i y (omega arith), add-one, take-suc-set xs i y within, append_assoc (take i xs) (y ∷ []) (map (reached clock) (drop (suc i) xs)), drop-cons xs i d within, changed) refl
+
+abbrev pub with_read : ℕ → Moments → Moments
+with_read r m = record m { read = r }
+
+-- what is due next doesn't depend on what was read off the clock
+pub not_read : (closing : Bool) (r : ℕ) (w : Worker) (o : Option ℕ) → IsNextIn closing (record w { moments = with_read r w.moments }) o → IsNextIn closing w o
+not_read true r w o h = h
+not_read false r w o h = h
+
+module _ {B : Type 0} where
+  -- by what the code did
+  pub takes_by : (w w1 : Worker) (s s1 : Shared B) (seat seat' : Chair) → ((chair : Chair) → slice_get s.seats.items w.index ≡ Some chair → seat ≡ chair) → driver_of w1 ≡ with_raises seat.raised (driver_of w) → seat' ≡ record seat { raised = 0 }
+      → w1 ≡ record w { home = record w.home { driver = w1.home.driver } } → s1 ≡ record s { seats = s1.seats } → s1.seats.items ≡ slice_set s.seats.items w.index seat' → TakesRaises w s w1 s1
+  takes_by w w1 s s1 seat seat' is driver taken worker shared set =
+      record {
+        driver = λ chair there. driver ∙ ap (λ (c : Chair). with_raises c.raised (driver_of w)) (is chair there);
+        seats = λ chair there. set ∙ ap (slice_set s.seats.items w.index) (taken ∙ ap (λ (c : Chair). record c { raised = 0 }) (is chair there));
+        worker = worker;
+        shared = shared;
+      }

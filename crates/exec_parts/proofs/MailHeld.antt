@@ -1,0 +1,245 @@
+-- What a task held that is over is let go, one after another, whatever letters the worker has meanwhile.
+use Rattle.std.proofs.{Common.{◌≡◌, ◌≢◌, ℕ, suc, Option, Some, None, ◌+◌, ◌<◌, ◌≤◌, ◌==◌, true, not, List, [], ◌∷◌, ◌++◌, length, take, drop, get_or, slice_get, slice_set, refl, sym, ap, subst, ◌∙◌, arith, append_assoc, append-nil, le_of_lt, length-append, length-take-le, take_all, drop-cons, if◌then◌else◌}, lemmas.{Bool.Decides.nat_tests, List.{drop_all, take_more, Elements.filter-append}, Option.slice_get_within}}
+use lib.Seq.{drop-append_seam, take-append_seam}
+use Rattle.exec_machine.specs.declared.state.Waiting.{Waiting}
+use Rattle.exec_parts.{specs.{Awaits.{LetsGo, MayLetGo}, Calls.sleeper_in, Ending.{LetsGoAll, LetsGoOf, LetsGoOne, LetsGoOne.{here, elsewhere}, LetsHeld, LetsSleep, LetsWaiting, MayLetGoAll, MayLetSleep, others_of}, MailTakes.RemovesSleeper, declared.parts.{held.Held.Held, letters.Letters.Letters, shared.Shared.Shared, worker.Worker.Worker}}, proofs.Facts.{by_number, not_same, same_thing, set_there}}
+
+abbrev with_letters : Letters → Worker → Worker
+with_letters l w = record w { letters = l }
+
+module _ {B : Type 0} where
+  go_so : (l : Letters) (k : ℕ) (w w' : Worker) (s s' : Shared B) → LetsGo k w w' s s' → LetsGo k (record w { letters = l }) (record w' { letters = l }) s s'
+  go_so l k w w' s s' lets =
+      record {
+        r = lets.r;
+        request = lets.request;
+        lists = lets.lists;
+        driver = lets.driver;
+        tells = lets.tells;
+        punctual = lets.punctual;
+        ended = lets.ended;
+        capacity = lets.capacity;
+        still = lets.still;
+        worker = ap (λ (x : Worker). record x { letters = l }) lets.worker;
+        records = lets.records;
+        kept = lets.kept;
+      }
+
+  one_so : (l : Letters) (h : Held) (w w' : Worker) (s s' : Shared B) → LetsGoOne h w w' s s' → LetsGoOne h (record w { letters = l }) (record w' { letters = l }) s s'
+  one_so l h w w' s s' (here mine lets) = here mine (go_so l h.number w w' s s' lets)
+  one_so l h w w' s s' (elsewhere other same still) = elsewhere other (ap (λ (x : Worker). record x { letters = l }) same) still
+
+  pub all_so : (l : Letters) (hs : List Held) (w w' : Worker) (s s' : Shared B) → LetsGoAll hs w w' s s' → LetsGoAll hs (record w { letters = l }) (record w' { letters = l }) s s'
+  all_so l [] w w' s s' lets = (ap (λ (x : Worker). record x { letters = l }) lets.0, lets.1)
+  all_so l (h ∷ hs) w w' s s' lets = (record lets.0 { letters = l }, lets.1, one_so l h w lets.0 s lets.1 lets.2, all_so l hs lets.0 w' lets.1 s' lets.3)
+
+  may_go_so : (l : Letters) (k : ℕ) (w : Worker) (s : Shared B) → MayLetGo k w s → MayLetGo k (record w { letters = l }) s
+  may_go_so l k w s may = record { known = may.known; room = may.room; ending = may.ending }
+
+  pub may_so : (l : Letters) (hs : List Held) (w : Worker) (s : Shared B) → MayLetGoAll hs w s → MayLetGoAll hs (record w { letters = l }) s
+  may_so l [] w s may = tt
+  may_so l (h ∷ hs) w s may = (
+    λ mine. may_go_so l h.number w s (may.0 mine),
+    λ w' s' one. may_so w'.letters hs (record w' { letters = w.letters }) s' (may.1 (record w' { letters = w.letters }) s' (one_so w.letters h (record w { letters = l }) w' s s' one)),
+  )
+
+  -- one more at the end
+  joined : (hs : List Held) (h : Held) (w v w' : Worker) (s now s' : Shared B) → LetsGoAll hs w v s now → LetsGoOne h v w' now s' → LetsGoAll (hs ++ h ∷ []) w w' s s'
+  joined [] h w v w' s now s' lets one =
+      (w', s', subst (λ x. LetsGoOne h x w' s s') lets.0 (subst (λ x. LetsGoOne h v w' x s') lets.1 one), (refl, refl))
+  joined (g ∷ gs) h w v w' s now s' lets one = (lets.0, lets.1, lets.2, joined gs h lets.0 v w' lets.1 now s' lets.3 one)
+
+  index_one : (h : Held) (w w' : Worker) (s s' : Shared B) → LetsGoOne h w w' s s' → w'.index ≡ w.index
+  index_one h w w' s s' (here mine lets) = ap (λ (x : Worker). x.index) lets.worker
+  index_one h w w' s s' (elsewhere other same still) = ap (λ (x : Worker). x.index) same
+
+-- THE LOOP
+
+drop_one : (xs : List Held) (at : ℕ) (h : Held) → at < length xs → drop at xs ≡ get_or xs at h ∷ drop (at + 1) xs
+drop_one xs at h more = let on : suc at ≡ at + 1 = omega arith in drop-cons xs at h more ∙ ap (λ n. get_or xs at h ∷ drop n xs) on
+
+same_so : (a b : ℕ) → a ≡ b → (a == b) ≡ true
+same_so a b h = grind (arith, nat_tests)
+
+module _ {B : Type 0} where
+  -- so far: the first were let go or left to others, which stand before the place
+  pub record HeldSoFar (hs : List Held) (w0 : Worker) (s0 : Shared B) (at : ℕ) (w : Worker) (s : Shared B) : Type 0 where
+    pub within : at ≤ length w.letters.requests.items
+    pub done : List Held
+    pub v : Worker
+    pub split : hs ≡ done ++ drop at w.letters.requests.items
+    pub lets : LetsGoAll done w0 v s0 s
+    pub passed : take at w.letters.requests.items ≡ others_of w0.index done
+    pub may : MayLetGoAll (drop at w.letters.requests.items) v s
+    pub index : v.index ≡ w0.index
+    pub timer : w.letters.timer ≡ w0.letters.timer
+    pub worker : w ≡ record v { letters = w.letters }
+
+  pub begun : (w : Worker) (s : Shared B) → MayLetGoAll w.letters.requests.items w s → HeldSoFar w.letters.requests.items w s 0 w s
+  begun w s may =
+      record {
+        within = omega arith;
+        done = [];
+        v = w;
+        split = refl;
+        lets = (refl, refl);
+        passed = refl;
+        may = may;
+        index = refl;
+        timer = refl;
+        worker = refl;
+      }
+
+  module _ (hs : List Held) (w0 : Worker) (s0 : Shared B) (at : ℕ) (w : Worker) (s : Shared B) (so : HeldSoFar hs w0 s0 at w s) (h : Held) (more : at < length w.letters.requests.items) (is : h ≡ get_or w.letters.requests.items at h) where
+    abbrev cur : List Held
+    cur = w.letters.requests.items
+
+    next : drop at w.letters.requests.items ≡ h ∷ drop (at + 1) w.letters.requests.items
+    next = drop_one w.letters.requests.items at h more ∙ ap (λ x. x ∷ drop (at + 1) w.letters.requests.items) (sym is)
+
+    -- the worker had it
+    pub may_this : h.worker ≡ w.index → (l : Letters) → MayLetGo h.number (record w { letters = l }) s
+    may_this mine l =
+        let both = subst (λ xs. MayLetGoAll xs so.v s) next so.may in
+        let same = ap (λ (x : Worker). x.index) so.worker in
+        subst (λ (x : Worker). MayLetGo h.number (record x { letters = l }) s) (sym so.worker) (may_go_so l h.number so.v s (both.0 (mine ∙ same)))
+
+    pub let_this : h.worker ≡ w.index → (w1 w2 : Worker) (s2 : Shared B) (rest : List Held) → rest ≡ take at w.letters.requests.items ++ drop (at + 1) w.letters.requests.items
+        → w1 ≡ record w { letters = w1.letters } → w1.letters.requests.items ≡ rest → w1.letters.timer ≡ w.letters.timer → LetsGo h.number w1 w2 s s2 → HeldSoFar hs w0 s0 at w2 s2
+    let_this mine w1 w2 s2 rest rest_is w1_is items timer lets =
+        let v = so.v in
+        let same = ap (λ (x : Worker). x.index) so.worker in
+        let both = subst (λ xs. MayLetGoAll xs v s) next so.may in
+        let go : LetsGo h.number v (record w2 { letters = v.letters }) s s2 =
+        subst (λ (x : Worker). LetsGo h.number x (record w2 { letters = v.letters }) s s2) (ap (with_letters v.letters) (w1_is ∙ ap (with_letters w1.letters) so.worker)) (go_so v.letters h.number w1 w2 s s2 lets) in
+        let one : LetsGoOne h v (record w2 { letters = v.letters }) s s2 = here (mine ∙ same) go in
+        let kept : w2.letters ≡ w1.letters = ap (λ (x : Worker). x.letters) lets.worker in
+        let now : w2.letters.requests.items ≡ take at cur ++ drop (at + 1) cur = ap (λ (x : Letters). x.requests.items) kept ∙ items ∙ rest_is in
+        let long : length (take at cur) ≡ at = length-take-le at cur (le_of_lt more) in
+        let later : drop at w2.letters.requests.items ≡ drop (at + 1) cur = ap (drop at) now ∙ ap (λ n. drop n (take at cur ++ drop (at + 1) cur)) (sym long) ∙ drop-append_seam (take at cur) (drop (at + 1) cur) in
+        let before : take at w2.letters.requests.items ≡ take at cur = ap (take at) now ∙ ap (λ n. take n (take at cur ++ drop (at + 1) cur)) (sym long) ∙ take-append_seam (take at cur) (drop (at + 1) cur) in
+        record {
+          within = let n : length w2.letters.requests.items ≡ length (take at cur) + length (drop (at + 1) cur) = ap length now ∙ length-append (take at cur) (drop (at + 1) cur) in omega (arith, n, long);
+          done = so.done ++ h ∷ [];
+          v = record w2 { letters = v.letters };
+          split = so.split ∙ ap (λ xs. so.done ++ xs) (next ∙ ap (λ xs. h ∷ xs) (sym later)) ∙ sym (append_assoc so.done (h ∷ []) (drop at w2.letters.requests.items));
+          lets = joined so.done h w0 v (record w2 { letters = v.letters }) s0 s s2 so.lets one;
+          passed = before ∙ so.passed ∙ sym (filter-append (λ (x : Held). not (x.worker == w0.index)) so.done (h ∷ []) ∙ ap (λ b. others_of w0.index so.done ++ (if not b then h ∷ [] else [])) (same_so h.worker w0.index (mine ∙ same ∙ so.index)) ∙ append-nil (others_of w0.index so.done));
+          may = subst (λ xs. MayLetGoAll xs (record w2 { letters = v.letters }) s2) (sym later) (both.1 (record w2 { letters = v.letters }) s2 one);
+          index = ap (λ (x : Worker). x.index) lets.worker ∙ ap (λ (x : Worker). x.index) w1_is ∙ same ∙ so.index;
+          timer = ap (λ (x : Letters). x.timer) kept ∙ timer ∙ so.timer;
+          worker = refl;
+        }
+
+    pub pass_this : h.worker ≢ w.index → HeldSoFar hs w0 s0 (at + 1) w s
+    pass_this other =
+        let v = so.v in
+        let same = ap (λ (x : Worker). x.index) so.worker in
+        let both = subst (λ xs. MayLetGoAll xs v s) next so.may in
+        let one : LetsGoOne h v v s s = elsewhere (λ mine. other (mine ∙ sym same)) refl refl in
+        record {
+          within = omega (arith, more);
+          done = so.done ++ h ∷ [];
+          v = v;
+          split = so.split ∙ ap (λ xs. so.done ++ xs) next ∙ sym (append_assoc so.done (h ∷ []) (drop (at + 1) cur));
+          lets = joined so.done h w0 v v s0 s s so.lets one;
+          passed =
+              take_more cur at h more ∙ ap (λ x. take at cur ++ x ∷ []) (sym is) ∙ ap (λ xs. xs ++ h ∷ []) so.passed
+              ∙ sym (filter-append (λ (x : Held). not (x.worker == w0.index)) so.done (h ∷ []) ∙ ap (λ b. others_of w0.index so.done ++ (if not b then h ∷ [] else [])) (not_same h.worker w0.index (λ mine. other (mine ∙ sym so.index ∙ sym same))));
+          may = both.1 v s one;
+          index = so.index;
+          timer = so.timer;
+          worker = so.worker;
+        }
+
+  -- all were passed
+  pub all_held : (w0 w : Worker) (s0 s : Shared B) (at : ℕ) → HeldSoFar w0.letters.requests.items w0 s0 at w s → length w.letters.requests.items ≤ at → LetsHeld w0 w s0 s
+  all_held w0 w s0 s at so none =
+      let end : drop at w.letters.requests.items ≡ [] = drop_all at w.letters.requests.items none in
+      let whole : take at w.letters.requests.items ≡ w.letters.requests.items = take_all at w.letters.requests.items none in
+      let done_is : so.done ≡ w0.letters.requests.items = sym (so.split ∙ ap (λ xs. so.done ++ xs) end ∙ append-nil so.done) in
+      record {
+        v = so.v;
+        lets = subst (λ xs. LetsGoAll xs w0 so.v s0 s) done_is so.lets;
+        requests = sym whole ∙ so.passed ∙ ap (others_of w0.index) done_is;
+        timer = so.timer;
+        worker = so.worker;
+      }
+
+-- AND WHAT IT WAITED FOR
+
+module _ {B : Type 0} where
+  tasks_one : (h : Held) (w w' : Worker) (s s' : Shared B) → LetsGoOne h w w' s s' → s'.tasks ≡ s.tasks
+  tasks_one h w w' s s' (here mine lets) = ap (λ (x : Shared B). x.tasks) lets.kept
+  tasks_one h w w' s s' (elsewhere other same still) = ap (λ (x : Shared B). x.tasks) still
+
+  pub tasks_all : (hs : List Held) (w w' : Worker) (s s' : Shared B) → LetsGoAll hs w w' s s' → s'.tasks ≡ s.tasks
+  tasks_all [] w w' s s' lets = ap (λ (x : Shared B). x.tasks) lets.1
+  tasks_all (h ∷ hs) w w' s s' lets = tasks_all hs lets.0 w' lets.1 s' lets.3 ∙ tasks_one h w lets.0 s lets.1 lets.2
+
+  pub sleep_so : (l : Letters) (what : Waiting) (w : Worker) (s : Shared B) → MayLetSleep what w s → MayLetSleep what (record w { letters = l }) s
+  sleep_so l Waiting.Nothing w s may = tt
+  sleep_so l (Waiting.Request r) w s may = tt
+  sleep_so l (Waiting.Timer z) w s may = (may.0, λ it at mine. let m = may.1 it at mine in record { known = m.known; room = m.room })
+  sleep_so l Waiting.Wake w s may = tt
+  sleep_so l Waiting.Woken w s may = tt
+  sleep_so l Waiting.Yielded w s may = tt
+
+  removes_so : (l : Letters) (z : ℕ) (w w' : Worker) (s s' : Shared B) → RemovesSleeper z w w' s s' → RemovesSleeper z (record w { letters = l }) (record w' { letters = l }) s s'
+  removes_so l z w w' s s' lets =
+      record {
+        it = lets.it;
+        sleeper = lets.sleeper;
+        bed = lets.bed;
+        gone = lets.gone;
+        worker = ap (λ (x : Worker). record x { letters = l }) lets.worker;
+        sleepers = lets.sleepers;
+        kept = lets.kept;
+      }
+
+  pub waiting_so : (l : Letters) (z : ℕ) (left : Option Held) (w w' : Worker) (s s' : Shared B) → LetsSleep z left w w' s s' → LetsSleep z left (record w { letters = l }) (record w' { letters = l }) s s'
+  waiting_so l z left w w' s s' lets =
+      record {
+        it = lets.it;
+        sleeper = lets.sleeper;
+        here = λ mine. let both = lets.here mine in (removes_so l z w w' s s' both.0, both.1);
+        elsewhere = λ other. let all = lets.elsewhere other in (ap (λ (x : Worker). record x { letters = l }) all.0, all.1, all.2);
+      }
+
+  -- it waited for no sleeper
+  pub no_sleep : (what : Waiting) (left : Option Held) (w : Worker) (s : Shared B) → ((z : ℕ) → sleeper_in what ≡ Some z → ⊥) → left ≡ None → LetsWaiting what left w w s s
+  no_sleep Waiting.Nothing left w s never none = (refl, refl, none)
+  no_sleep (Waiting.Request r) left w s never none = (refl, refl, none)
+  no_sleep (Waiting.Timer z) left w s never none = absurd (never z refl)
+  no_sleep Waiting.Wake left w s never none = (refl, refl, none)
+  no_sleep Waiting.Woken left w s never none = (refl, refl, none)
+  no_sleep Waiting.Yielded left w s never none = (refl, refl, none)
+
+pub timer_waited : (what : Waiting) (z : ℕ) → sleeper_in what ≡ Some z → what ≡ Waiting.Timer z
+timer_waited Waiting.Nothing z is = absurd (cc)
+timer_waited (Waiting.Request r) z is = absurd (cc)
+timer_waited (Waiting.Timer y) z is = ap (λ x. Waiting.Timer x) (same_thing y z is)
+timer_waited Waiting.Wake z is = absurd (cc)
+timer_waited Waiting.Woken z is = absurd (cc)
+timer_waited Waiting.Yielded z is = absurd (cc)
+
+-- ITS SLOT then: it holds nothing, and else is as it was
+
+module _ {B : Type 0} where
+  tasks_waited : (what : Waiting) (left : Option Held) (w w' : Worker) (s s' : Shared B) → LetsWaiting what left w w' s s' → s'.tasks ≡ s.tasks
+  tasks_waited Waiting.Nothing left w w' s s' lets = ap (λ (x : Shared B). x.tasks) lets.1
+  tasks_waited (Waiting.Request r) left w w' s s' lets = ap (λ (x : Shared B). x.tasks) lets.1
+  tasks_waited (Waiting.Timer z) left w w' s s' lets = by_number lets.it.shown.worker w.index (λ other. ap (λ (x : Shared B). x.tasks) (lets.elsewhere other).1) (λ mine. ap (λ (x : Shared B). x.tasks) (lets.here mine).0.kept)
+  tasks_waited Waiting.Wake left w w' s s' lets = ap (λ (x : Shared B). x.tasks) lets.1
+  tasks_waited Waiting.Woken left w w' s s' lets = ap (λ (x : Shared B). x.tasks) lets.1
+  tasks_waited Waiting.Yielded left w w' s s' lets = ap (λ (x : Shared B). x.tasks) lets.1
+
+  module _ (t : ℕ) (w w' : Worker) (s s' : Shared B) (lets : LetsGoOf t w w' s s') where
+    pub tasks_gone : s'.tasks.items ≡ slice_set s.tasks.items t lets.slot'
+    tasks_gone = ap (λ v. v.items) (tasks_waited lets.slot.waiting w'.letters.timer lets.v lets.u lets.now s' lets.sleeps ∙ tasks_all lets.slot.held.items w lets.v lets.first lets.now lets.lets) ∙ lets.tasks
+
+    pub slot_gone : slice_get s'.tasks.items t ≡ Some lets.slot'
+    slot_gone = ap (λ xs. slice_get xs t) tasks_gone ∙ set_there s.tasks.items t lets.slot' lets.slot lets.there
+
+    pub within_gone : t < length s'.tasks.items
+    within_gone = slice_get_within s'.tasks.items t lets.slot' slot_gone

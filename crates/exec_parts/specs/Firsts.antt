@@ -1,0 +1,37 @@
+-- What workers share before they begin.
+use Rattle.std.specs.Prelude.{◌≡◌, false, [], length, replicate}
+use Rattle.exec_driver.specs.Opens.{fresh_open}
+use Rattle.exec_task.specs.TaskSet.{IsShardCount}
+use Rattle.exec_machine.specs.declared.config.Configuration.{Configuration}
+use Rattle.exec_parts.specs.declared.parts.shared.Shared.{Shared}
+
+module _ {B : Type 0} where
+  -- what is shared at first, as far as the lists of it don't tell more
+  abbrev pub shared_of : Configuration → Shared B → Shared B
+  shared_of c s =
+      record {
+        config = c;
+        clock = 0;
+        seats = s.seats;
+        tasks = s.tasks;
+        set = record { shards = replicate (length s.set.shards) []; closed = false; id = 1 };
+        global = record { values = []; places = 0; closed = false };
+        idle = record { published = replicate 64 false; count = 0 };
+        requests = s.requests;
+        sleepers = s.sleepers;
+        opens = replicate c.files fresh_open;
+        store = s.store;
+        listeners = s.listeners;
+        barrier_open = false;
+        stopped = false;
+      }
+
+  -- There are no seats and no tasks yet.
+  pub record IsFresh (c : Configuration) (s : Shared B) : Type 0 where
+    pub parts : s ≡ shared_of c s
+    pub shards : IsShardCount c.workers (length s.set.shards)
+    pub seats : s.seats.items ≡ []
+    pub tasks : s.tasks.items ≡ []
+    pub requests : s.requests.items ≡ []
+    pub sleepers : s.sleepers.items ≡ []
+    pub listeners : s.listeners.items ≡ replicate c.sockets 0

@@ -1,0 +1,92 @@
+//! The drain of the closed task set: each task that it still holds is cleared.
+//!
+//! A visit of a shard takes its newest task, or finds it empty and goes on to the next. Each task taken is cleared
+//! before the next visit. One that is polled meanwhile ends with its poll, and the runnable of one that waits for its
+//! poll is stale from then on.
+
+ghost use Rattle.std.specs.Prelude.{◌≡◌, ◌<◌, ◌&&◌, not, true, length};
+ghost use Rattle.exec_task.specs.TaskSet.{IsFor};
+ghost use Rattle.exec_moves.specs.Parts.{after_visit};
+ghost use Rattle.exec_parts.specs.{Ending.{ClearsTask, MayClear}, Phased.TurnsChair, Pooled.Visited};
+
+use crate::parts::shared::Shared;
+use crate::parts::worker::Worker;
+use crate::scripted::Scripted;
+use exec_machine::event::Event;
+use exec_moves::handing::AfterCancels;
+use exec_moves::place::{InClosing, Place};
+use exec_task::drain::Drain;
+use exec_task::tasks::Tasks;
+
+impl Worker {
+    /// Visits a shard of the task set.
+    pub fn visit(&mut self, drain: Drain, set: &mut Tasks<()>) -> Event
+        requires its { IsFor drain set.old }
+        requires more { 0 < drain.left }
+        ensures event { result ≡ Event.Turn }
+        ensures visited { Visited drain self.old self.new set.old set.new }
+    {
+        let mut drain = drain;
+        let Some((number, ())) = drain.visit(set) else {
+            self.place = Place::Closing(after_a_visit(drain));
+            return Event::Turn;
+        };
+        self.place = Place::Closing(InClosing::Clear {
+            task: number.0 as usize,
+            drain,
+        });
+        Event::Turn
+    }
+
+    /// Clears the task that a visit has taken, and lets go of what it holds where that ends it: one that was over before has let
+    /// go of that already.
+    pub fn clear<B: Scripted + Drop>(
+        &mut self,
+        task: usize,
+        drain: Drain,
+        shared: &mut Shared<B>,
+    ) -> Event
+        requires may { MayClear task self.old shared.old }
+        ensures event { result ≡ Event.Clear task }
+        ensures clears { ClearsTask task drain self.old self.new shared.old shared.new }
+    {
+        let slot = &mut shared.tasks[task];
+        let was = slot.is_over();
+        slot.clear();
+        let over = ends_so(was, slot.is_over());
+        self.let_go_if(over, task, shared);
+        self.place = self.after_cancels(AfterCancels::Visit { drain });
+        Event::Clear { task }
+    }
+
+    /// Passes the shutdown barrier.
+    pub fn leave_barrier<B: Drop>(&mut self, shared: &mut Shared<B>) -> Event
+        requires there { self.old.index < length shared.old.seats.items }
+        ensures event { result ≡ Event.Turn }
+        ensures worker { self.new ≡ record self.old { place = Place.Closing InClosing.CloseMailbox } }
+        ensures chair { TurnsChair self.old.index (λ chair. record chair { left = true }) shared.old shared.new }
+        ensures kept { shared.new ≡ record shared.old { seats = shared.new.seats } }
+    {
+        shared.seats[self.index].left = true;
+        self.place = Place::Closing(InClosing::CloseMailbox);
+        Event::Turn
+    }
+}
+
+/// Whether a task ends by what it has become.
+fn ends_so(was: bool, is: bool) -> bool
+    ensures { result ≡ (is && not was) }
+{
+    is && !was
+}
+
+/// The next visit, or what follows the last.
+pub(crate) fn after_a_visit(drain: Drain) -> InClosing
+    ensures { result ≡ after_visit drain }
+{
+    if drain.is_over() {
+        InClosing::LeaveBarrier
+    } else {
+        InClosing::Visit { drain }
+    }
+}

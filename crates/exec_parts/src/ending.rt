@@ -1,0 +1,81 @@
+//! The end of a task: what it holds is let go. It waits for nothing where it ends, so no sleeper is left of it.
+
+ghost use Rattle.std.specs.Prelude.{◌≡◌, ◌<◌, ◌^◌, ◌⊎◌, true, IsSome};
+ghost use Rattle.exec_task.specs.TaskSet.{held, removed};
+ghost use Rattle.exec_moves.specs.Parts.{next_pick as place_of_pick};
+ghost use Rattle.exec_parts.specs.{Ending.{EndsTask, MayEndTask, ended_place}, View.desk_of};
+
+use crate::parts::shared::Shared;
+use crate::parts::worker::Worker;
+use crate::scripted::Scripted;
+use exec_base::task_no::TaskNo;
+use exec_machine::event::Event;
+use exec_moves::handing::AfterCancels;
+use exec_moves::place::{InClosing, Place};
+use exec_task::body::Ended;
+use exec_task::runnable::AfterPoll;
+use exec_task::tasks::Tasks;
+
+impl Worker {
+    /// The task is over.
+    pub fn finish<B: Scripted + Drop>(&mut self, task: usize, shared: &mut Shared<B>) -> Event
+        requires may { MayEndTask task self.old shared.old }
+        ensures event { result ≡ Event.Done task }
+        ensures ends { EndsTask task self.old self.new shared.old shared.new }
+    {
+        self.end_task(task, Ended::Done(0), shared);
+        Event::Done { task }
+    }
+
+    /// The task is over by a fault.
+    pub fn fail<B: Scripted + Drop>(
+        &mut self,
+        task: usize,
+        code: u64,
+        shared: &mut Shared<B>,
+    ) -> Event
+        requires may { MayEndTask task self.old shared.old }
+        ensures event { result ≡ Event.Fault task code }
+        ensures ends { EndsTask task self.old self.new shared.old shared.new }
+    {
+        self.end_task(task, Ended::Fault(code), shared);
+        Event::Fault { task, code }
+    }
+
+    /// Ends the task, and lets go of what it holds.
+    fn end_task<B: Scripted + Drop>(&mut self, task: usize, how: Ended, shared: &mut Shared<B>)
+        requires may { MayEndTask task self.old shared.old }
+        ensures ends { EndsTask task self.old self.new shared.old shared.new }
+    {
+        self.let_go_of(task, shared);
+        match shared.tasks[task].done(how) {
+            AfterPoll::Retire(_, _) => {}
+            AfterPoll::Done | AfterPoll::Requeue(_) => unreachable!(),
+        }
+        self.place = self.after_end(task);
+    }
+
+    /// A worker whose root is over closes; any other task leaves the task set.
+    fn after_end(&self, task: usize) -> Place
+        ensures { result ≡ ended_place task self.now }
+    {
+        if task == self.root {
+            Place::Closing(InClosing::Close)
+        } else {
+            self.after_cancels(AfterCancels::Remove { task })
+        }
+    }
+
+    /// The task leaves the task set. A drain may have taken it out before.
+    pub fn remove_task(&mut self, task: usize, set: &mut Tasks<()>) -> Event
+        requires number { task < 2 ^ 32 }
+        requires held { (set.old.closed ≡ true) ⊎ IsSome (held set.old (record { 0 = task })) }
+        ensures event { result ≡ Event.Turn }
+        ensures goes { self.new ≡ record self.old { place = place_of_pick (desk_of self.old) } }
+        ensures set { set.new ≡ removed set.old (record { 0 = task }) }
+    {
+        let _held = set.remove(TaskNo(task as u32));
+        self.place = self.next_pick();
+        Event::Turn
+    }
+}

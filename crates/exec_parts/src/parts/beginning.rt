@@ -1,0 +1,122 @@
+//! The making of a worker, of the pool or of a dedicated task.
+
+ghost use Rattle.std.specs.Prelude.{◌≡◌, ◌+◌, ◌^◌, ◌<◌, ◌≤◌, IfOk};
+ghost use Rattle.exec_driver.specs.{Driving.seen, Punctual.IsPunctual, Steps.IsFresh as IsFreshDriver};
+ghost use Rattle.exec_machine.specs.Ranges.{horizon, ring_size as size_of_ring};
+ghost use Rattle.exec_ring.specs.Stores.{Same};
+ghost use Rattle.exec_parts.specs.Dedicated.{Begins, MayBegin, spins_in};
+
+use crate::parts::letters::Letters;
+use crate::parts::mail::Reply;
+use crate::parts::names::Names;
+use crate::parts::role::Role;
+use crate::parts::worker::{Moments, PutOff, Worker};
+use exec_base::spinner::{Spinner, SpinnerConfig};
+use exec_driver::driver::Driver;
+use exec_driver::home::Home;
+use exec_machine::config::Configuration;
+use exec_moves::place::Place;
+use exec_ring::sim_ring::SimRing;
+use exec_ring::store::Store;
+use exec_task::runnable::Runnable;
+use exec_words::HALF;
+use exec_words::reserved::Reserved;
+use std::alloc::{AllocError, Global};
+
+/// The driver of a worker of an executor.
+/// So much may be told before anything was made: once by each message of a turn, and once more.
+const FIRST_TOLD: usize = 65;
+
+type OwnDriver = Driver<SimRing, Reply, Reply>;
+
+impl Worker {
+    /// The worker of this number, which begins at this moment, and whose root has this number and is to be polled with
+    /// this runnable. An `Err` comes only for want of memory. The caller must have a configuration in its ranges, and a
+    /// number of 32 bits.
+    pub fn begin(
+        alloc: Global,
+        configuration: &Configuration,
+        role: Role,
+        index: usize,
+        root: usize,
+        runnable: Runnable,
+        now: u64,
+        store: &mut Store,
+    ) -> Result<Self, AllocError>
+        requires ranges { MayBegin configuration.now }
+        requires few { index + 1 < 2 ^ 32 }
+        ensures begins { IfOk result (λ w. Begins configuration.now role index root runnable now w) }
+        ensures store { Same store.old store.new }
+    {
+        let size = ring_size(configuration);
+        let driver = first_driver(alloc, configuration, size, now, store)?;
+        let mut home = Home::new(alloc, index as u32, driver);
+        home.deferred.reserve(alloc, FIRST_TOLD)?;
+        Ok(Worker {
+            place: Place::BeginTurn,
+            index,
+            workers: configuration.workers,
+            role,
+            root,
+            home,
+            names: Names::new(alloc, size)?,
+            moments: Moments::new(now),
+            root_ready: Some(runnable),
+            hand: None,
+            loot: Reserved::with_places(alloc, HALF + 1)?,
+            picks: 0,
+            searching: false,
+            rng: index as u32 + 1,
+            countdown: configuration.interval,
+            put_off: PutOff {
+                defer: false,
+                enter: false,
+            },
+            batch: Reserved::with_places(alloc, 1)?,
+            processed: 0,
+            spinner: Spinner::new(&spins_of(configuration), configuration.spin.iterations),
+            slept: None,
+            letters: Letters::new(alloc),
+        })
+    }
+}
+
+/// How long a worker looks before it sleeps.
+fn spins_of(configuration: &Configuration) -> SpinnerConfig
+    ensures { result ≡ spins_in configuration.now }
+{
+    SpinnerConfig {
+        budget_us: configuration.spin.budget,
+        max_budget_us: configuration.spin.most,
+        quick_wake_us: configuration.spin.quick,
+    }
+}
+
+/// How many operations the ring of a worker holds.
+fn ring_size(configuration: &Configuration) -> usize
+    requires { configuration.now.ring ≤ 32768 }
+    ensures { result ≡ size_of_ring configuration.now }
+{
+    configuration.ring.next_power_of_two() as usize
+}
+
+/// A driver with a ring of this size, and a wheel that begins now. An `Err` comes only for want of memory.
+fn first_driver(
+    alloc: Global,
+    configuration: &Configuration,
+    size: usize,
+    now: u64,
+    store: &mut Store,
+) -> Result<OwnDriver, AllocError>
+    requires ranges { MayBegin configuration.now }
+    ensures fresh { IfOk result (λ driver. IsFreshDriver (seen driver) size (horizon configuration.now) configuration.now.tick now) }
+    ensures punctual { IfOk result (λ driver. IsPunctual (seen driver)) }
+    ensures store { Same store.old store.new }
+{
+    let longest = configuration.connect.max(configuration.rw);
+    let ring = SimRing::new(alloc, size)?;
+    match Driver::new(alloc, ring, longest, configuration.tick, now, store) {
+        Ok(driver) => Ok(driver),
+        Err(_) => Err(AllocError),
+    }
+}

@@ -1,0 +1,91 @@
+//! What all workers share, and the seats.
+//!
+//! Tasks, requests and sleepers are lists by number, which only grow. A request or a sleeper is changed by its own
+//! worker, but for what a sender marks; a task by who polls, wakes or clears it. What stands under one lock in a
+//! running executor is one shared thing here: the global queue with its mirror, a shard of the task set, a gate, an
+//! inbox with its published batch.
+
+ghost use Rattle.std.specs.Prelude.{◌≡◌, ◌<◌, ◌≤◌, ◌^◌, ◌||◌, not, IfOk};
+ghost use Rattle.std.specs.List.{list_all};
+ghost use Rattle.exec_parts.specs.Firsts.{IsFresh};
+
+use crate::parts::record::Record;
+use crate::parts::seat::Seat;
+use crate::parts::sleeping::SleeperRecord;
+use crate::parts::task_slot::TaskSlot;
+use exec_driver::opens::Opens;
+use exec_machine::config::Configuration;
+use exec_ring::store::Store;
+use exec_task::runnable::Runnable;
+use exec_task::tasks::Tasks;
+use exec_words::global::GlobalQueue;
+use exec_words::idle::PureIdle;
+use std::alloc::{AllocError, Global};
+
+/// What all workers share.
+#[derive(Drop)]
+pub struct Shared<B> {
+    /// The configuration.
+    pub config: Configuration,
+    /// The clock, in nanoseconds.
+    pub clock: u64,
+    /// What others may touch of each worker, by number.
+    pub seats: Vec<Seat>,
+    /// The tasks, by number.
+    pub tasks: Vec<TaskSlot<B>>,
+    /// The numbers of the ordinary tasks that are live.
+    pub set: Tasks<()>,
+    /// The queue that all workers of the pool take from.
+    pub global: GlobalQueue<Runnable>,
+    /// Which workers are about to sleep, and how many search.
+    pub idle: PureIdle,
+    /// The requests, by number.
+    pub requests: Vec<Record>,
+    /// The sleepers, by number.
+    pub sleepers: Vec<SleeperRecord>,
+    /// The opens, with their gates.
+    pub opens: Opens,
+    /// The bytes of all sockets and files.
+    pub store: Store,
+    /// How many peers wait at each listener.
+    pub listeners: Vec<u64>,
+    /// Whether the shutdown barrier is open.
+    pub barrier_open: bool,
+    /// Whether the pool is stopped.
+    pub stopped: bool,
+}
+
+impl<B: Drop> Shared<B> {
+    /// What the workers of a pool of this configuration share before they begin, without seats and tasks. `Err` only for
+    /// want of memory. The caller must have some workers, and at most 2^32.
+    pub fn new(alloc: Global, config: Configuration) -> Result<Self, AllocError>
+        requires some { 0 < config.workers }
+        requires few { config.workers ≤ 2 ^ 32 }
+        ensures fresh { IfOk result (λ s. IsFresh config s) }
+    {
+        let listeners = vec![in alloc; 0; config.sockets]?;
+        Ok(Shared {
+            config,
+            clock: 0,
+            seats: Vec::new(alloc),
+            tasks: Vec::new(alloc),
+            set: Tasks::new(alloc, config.workers)?,
+            global: GlobalQueue::new(alloc),
+            idle: PureIdle::new(),
+            requests: Vec::new(alloc),
+            sleepers: Vec::new(alloc),
+            opens: Opens::new(alloc, config.files)?,
+            store: Store::new(alloc),
+            listeners,
+            barrier_open: false,
+            stopped: false,
+        })
+    }
+
+    /// Whether each worker of the pool has passed the shutdown barrier.
+    pub fn all_left(&self) -> bool
+        ensures { result ≡ list_all (λ seat. seat.left || not seat.pool) self.now.seats.items }
+    {
+        self.seats.iter().all(|seat| seat.left || !seat.pool)
+    }
+}

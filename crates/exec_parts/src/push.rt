@@ -1,0 +1,238 @@
+//! A push of the runnable in the hand into the own run queue, and of all in the hands into the global queue.
+//!
+//! A value that fits is published by a store of the tail; where there are two then, another worker could steal one, and
+//! is kicked. A full queue without a claim flows over: its newest half goes into the hands, its oldest half stays, and
+//! the half goes into the global queue with the value behind it. Beside a claim only the value goes there.
+//!
+//! Who has appended to the global queue looks for a published worker afterwards, and claims it: so of the two, who
+//! appends and who goes to sleep, one sees the other.
+
+ghost use Rattle.std.specs.Prelude.{◌≡◌, ◌+◌, ◌-◌, ◌^◌, ◌<◌, ◌≤◌, ◌==◌, ◌&&◌, nat_le, nat_lt, ◌++◌, [], false, length, option_to_list, IsSome, None, if◌then◌else◌};
+ghost use Rattle.exec_words.specs.{Head.is_spent, Global.spare_places, Queue.{head_of, published, restored, room_of, tail_of}, Reserved.spare};
+ghost use Rattle.exec_moves.specs.{Claim.set_of, Global.{add_global_count, has_any}, Pop.same_head, Push.{load_push_head, store_oldest}, State.queue_of};
+ghost use Rattle.exec_parts.specs.{Phased.TurnsChair, Pooled.{OfChair, overflowed_if, with_overflow}, Tests.{after_push_of, first_push_of}, View.{desk_of, things_of}, Things.{Goes, Makes}};
+
+use crate::parts::shared::Shared;
+use crate::parts::worker::Worker;
+use exec_machine::event::Event;
+use exec_moves::handing::{AfterClaim, AfterKick, AfterPush, InGlobal, InKick, InPush};
+use exec_moves::place::{InPoll, Place};
+use exec_words::head::{Fit, Head};
+use exec_words::idle::{PureIdle, WorkerSet};
+
+impl Worker {
+    /// Loads the own head, for what fits.
+    pub fn load_push_head<B: Drop>(&mut self, back: AfterPush, shared: &Shared<B>) -> Event
+        requires there { self.old.index < length shared.now.seats.items }
+        ensures makes { Makes (load_push_head back (desk_of self.old)
+            (queue_of (things_of shared.now) self.old.index)) result self.new }
+        ensures goes { Goes self.old self.new }
+        ensures within { OfChair self.old.index shared.now (λ chair.
+            length chair.queue.values + chair.queue.gap ≤ 256) }
+    {
+        let queue = &shared.seats[self.index].queue;
+        let head = queue.head();
+        self.place = match head.fit(queue.tail()) {
+            Fit::Room(length) => Place::Push(InPush::StoreValue { length }, back),
+            Fit::Overflow => Place::Push(InPush::FlowOver { head }, back),
+            Fit::Claimed | Fit::Spent => Place::Global(InGlobal::Append, back),
+        };
+        Event::Turn
+    }
+
+    /// Stores the tail behind the value, of which the queue has so many then by the head that was loaded.
+    pub fn store_value<B: Drop>(
+        &mut self,
+        count: usize,
+        back: AfterPush,
+        shared: &mut Shared<B>,
+    ) -> Event
+        requires there { self.old.index < length shared.old.seats.items }
+        requires hand { IsSome self.old.hand }
+        requires room { OfChair self.old.index shared.old (λ chair. 0 < room_of chair.queue) }
+        requires whole { OfChair self.old.index shared.old (λ chair. chair.queue.held ≡ []) }
+        ensures event { result ≡ Event.Turn }
+        ensures goes { self.new ≡ record self.old {
+          place = (if nat_le 2 count && nat_lt 1 shared.old.config.workers
+              then Place.Kick InKick.LoadKickCount (AfterKick.Push back) else after_push_of back self.old);
+          hand = None;
+        } }
+        ensures chair { TurnsChair self.old.index (λ chair. record chair {
+          queue = published chair.queue
+              (option_to_list self.old.hand);
+        }) shared.old shared.new }
+        ensures kept { shared.new ≡ record shared.old { seats = shared.new.seats } }
+    {
+        let Some(runnable) = self.hand.take() else {
+            unreachable!()
+        };
+        shared.seats[self.index].queue.push_fitting(runnable);
+        self.place = if count >= 2 && shared.config.workers > 1 {
+            Place::Kick(InKick::LoadKickCount, AfterKick::Push(back))
+        } else {
+            self.after_push(back)
+        };
+        Event::Turn
+    }
+
+    /// Exchanges the head of a full queue: its newest half goes into the hands.
+    pub fn flow_over<B: Drop>(
+        &mut self,
+        head: Head,
+        back: AfterPush,
+        shared: &mut Shared<B>,
+    ) -> Event
+        requires there { self.old.index < length shared.old.seats.items }
+        requires full { OfChair self.old.index shared.old (λ chair. head.real + 256 ≡ tail_of chair.queue) }
+        requires unspent { OfChair self.old.index shared.old (λ chair. is_spent (tail_of chair.queue) ≡ false) }
+        requires whole { OfChair self.old.index shared.old (λ chair. chair.queue.held ≡ []) }
+        requires empty { self.old.loot.values ≡ [] }
+        requires places { 129 ≤ spare self.old.loot }
+        ensures event { result ≡ Event.Turn }
+        ensures worker { OfChair self.old.index shared.old (λ chair. self.new
+            ≡ with_overflow (same_head head (head_of chair.queue)) back chair.queue self.old) }
+        ensures chair { TurnsChair self.old.index (λ chair. record chair {
+          queue = overflowed_if (same_head head
+              (head_of chair.queue)) chair.queue;
+        }) shared.old shared.new }
+        ensures kept { shared.new ≡ record shared.old { seats = shared.new.seats } }
+    {
+        let queue = &mut shared.seats[self.index].queue;
+        match queue.overflow_exchange(head, &mut self.loot) {
+            Ok(()) => self.place = Place::Push(InPush::StoreOldest, back),
+            Err(_) => self.place = Place::Push(InPush::LoadPushHead, back),
+        }
+        Event::Turn
+    }
+
+    /// Stores the tail behind the oldest half.
+    pub fn store_oldest<B: Drop>(&mut self, back: AfterPush, shared: &mut Shared<B>) -> Event
+        requires there { self.old.index < length shared.old.seats.items }
+        requires empty { OfChair self.old.index shared.old (λ chair. chair.queue.values ≡ []) }
+        ensures makes { Makes (store_oldest back (desk_of self.old)
+            (queue_of (things_of shared.old) self.old.index)) result self.new }
+        ensures goes { Goes self.old self.new }
+        ensures chair { TurnsChair self.old.index (λ chair. record chair { queue = restored chair.queue }) shared.old
+            shared.new }
+        ensures kept { shared.new ≡ record shared.old { seats = shared.new.seats } }
+    {
+        shared.seats[self.index].queue.restore();
+        self.place = Place::Global(InGlobal::Append, back);
+        Event::Turn
+    }
+
+    /// The first step of the way of a runnable in the hand into a queue: a worker of the pool has its own, any other
+    /// takes the global one.
+    pub(crate) fn first_push(&self, back: AfterPush) -> Place
+        ensures { result ≡ first_push_of back self.now }
+    {
+        if self.role.is_pool() {
+            Place::Push(InPush::LoadPushHead, back)
+        } else {
+            Place::Global(InGlobal::Append, back)
+        }
+    }
+
+    /// Where a push leads.
+    pub(crate) fn after_push(&self, back: AfterPush) -> Place
+        ensures { result ≡ after_push_of back self.now }
+    {
+        match back {
+            AfterPush::Act { task } => Place::Poll(task, InPoll::Act),
+            AfterPush::Pick => self.next_pick(),
+            AfterPush::CallBack { next } => self.next_callback(next),
+        }
+    }
+
+    /// Appends all in the hands: the loot, and then the runnable. A closed queue lets them go.
+    pub fn append<B: Drop>(&mut self, back: AfterPush, shared: &mut Shared<B>) -> Event
+        requires places { shared.old.global.closed ≡ false →
+            length self.old.loot.values + length (option_to_list self.old.hand) ≤ spare_places shared.old.global }
+        requires room { 1 ≤ spare self.old.loot }
+        ensures event { result ≡ Event.Turn }
+        ensures goes { self.new ≡ record self.old {
+          place = (if shared.old.global.closed
+              then after_push_of back self.old else Place.Global InGlobal.LoadGlobalSet back);
+          hand = None;
+          loot = record self.old.loot { values = [] };
+        } }
+        ensures global { shared.new ≡ record shared.old {
+          global = record
+              shared.old.global {
+                values = (if shared.old.global.closed then shared.old.global.values
+                    else shared.old.global.values ++ (self.old.loot.values ++ option_to_list self.old.hand));
+              };
+        } }
+    {
+        let gone = self.after_push(back);
+        if let Some(runnable) = self.hand.take() {
+            self.loot.push(runnable);
+        }
+        self.place = if shared.global.append(&mut self.loot) {
+            Place::Global(InGlobal::LoadGlobalSet, back)
+        } else {
+            self.let_loot_go();
+            gone
+        };
+        Event::Turn
+    }
+
+    /// Lets go of the loot.
+    fn let_loot_go(&mut self)
+        ensures { self.new ≡ record self.old { loot = record self.old.loot { values = [] } } }
+    {
+        while let Some(runnable) = self.loot.pop() {
+            runnable.discard();
+        }
+    }
+
+    /// Loads the idle set.
+    pub fn load_global_set(&mut self, back: AfterPush, idle: &PureIdle) -> Event
+        ensures event { result ≡ Event.Turn }
+        ensures goes { self.new ≡ record self.old {
+          place = (if has_any idle.now
+              then Place.Global (InGlobal.AddGlobalCount (set_of idle.now)) back else after_push_of back self.old);
+        } }
+    {
+        let set = idle.set();
+        self.place = match set.lowest() {
+            Some(_) => Place::Global(InGlobal::AddGlobalCount { set }, back),
+            None => self.after_push(back),
+        };
+        Event::Turn
+    }
+
+    /// Adds a search count, for the worker that is claimed next.
+    pub fn add_global_count(
+        &mut self,
+        set: WorkerSet,
+        back: AfterPush,
+        idle: &mut PureIdle,
+    ) -> Event
+        requires few { idle.old.count + 1 < 2 ^ 64 }
+        ensures makes { Makes (add_global_count set back (desk_of self.old) idle.old) result self.new }
+        ensures goes { Goes self.old self.new }
+        ensures idle { idle.new ≡ record idle.old { count = idle.old.count + 1 } }
+    {
+        idle.add();
+        self.place = Place::ClaimWorker(set, AfterClaim::Global(back));
+        Event::Turn
+    }
+
+    /// Returns the search count, since nobody was claimed. Who returned the last looks at the set again.
+    pub fn return_global_count(&mut self, back: AfterPush, idle: &mut PureIdle) -> Event
+        requires holds { 0 < idle.old.count }
+        ensures event { result ≡ Event.Turn }
+        ensures goes { self.new ≡ record self.old {
+          place = (if idle.old.count == 1 then Place.Global InGlobal.LoadGlobalSet back else after_push_of back self.old);
+        } }
+        ensures idle { idle.new ≡ record idle.old { count = idle.old.count - 1 } }
+    {
+        self.place = if idle.subtract() == 1 {
+            Place::Global(InGlobal::LoadGlobalSet, back)
+        } else {
+            self.after_push(back)
+        };
+        Event::Turn
+    }
+}

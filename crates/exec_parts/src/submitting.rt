@@ -1,0 +1,227 @@
+//! The middle of a service: deadlines, gates and stagings.
+//!
+//! They share one place, since each step there takes what is next: a deadline that is due; then a new one, which goes on
+//! the wheel; then a gate at which a request of this worker waits, by the numbers of the opens; then a cancel, and then a
+//! request, which go into the submission queue; and where none is left the end of staging, with the wake poll. A step
+//! that finds nothing is thus the end, and no place says how much is left. A full submission queue is entered first,
+//! where something is to go into it; an enter that took nothing ends the staging by itself.
+
+ghost use Rattle.std.specs.Prelude.{◌≡◌, ◌+◌, ◌^◌, ◌<◌, true, false, length, is_some, unwrap_or, Some, None};
+ghost use Rattle.std.specs.Vec.{vec_capacity};
+ghost use Rattle.std.specs.VecDeque.{deque_capacity};
+ghost use Rattle.exec_machine.specs.{Deadlines.{outcome_at_expiry, expired, enrolled}, Requests.{joined_if, granted}};
+ghost use Rattle.exec_moves.specs.Submit.{after_grant};
+ghost use Rattle.exec_driver.specs.{Driving.{is_full, may_stage_one}, Lists.{has_first, first_of}, Punctual.IsPunctual};
+ghost use Rattle.exec_parts.specs.{Raises.Enters, Serving.{AreKnown, IsOnWheel, first_tick, outcome_of_error, with_staging_ended}, Submitting.{AreNamed, EndsStaging, StagesCancel, StagesRequest, must_flush, after_flush, takes_hint}, View.{driver_of, desk_of}, declared.parts.worker.Worker.Worker};
+ghost use Rattle.exec_waiters.specs.declared.waiter_id.WaiterId.{WaiterId};
+
+use crate::parts::record::Record;
+use crate::parts::shared::Shared;
+use crate::parts::worker::Worker;
+use exec_driver::driver::Enrolled;
+use exec_driver::opens::Opens;
+use exec_machine::event::Event;
+use exec_moves::place::{AfterPermit, InService, Service};
+use exec_outcomes::outcome::Outcome;
+use exec_waiters::waiter_id::WaiterId;
+
+impl Worker {
+    /// Tells that the deadline of a request has come.
+    pub fn tell_expired(&mut self, request: usize, it: &mut Record) -> Event
+        requires room { length self.old.names.ended.items < deque_capacity self.old.names.ended }
+        ensures event { result ≡ Event.Expire request (outcome_at_expiry it.old.shown) }
+        ensures shown { it.new.shown ≡ expired (outcome_at_expiry it.old.shown) it.old.shown }
+        ensures id { it.new.id ≡ it.old.id }
+        ensures sent { it.new.sent ≡ it.old.sent }
+        ensures capacity { deque_capacity self.new.names.ended ≡ deque_capacity self.old.names.ended }
+        ensures ended { self.new.names.ended.items ≡ joined_if (is_some (outcome_at_expiry it.old.shown)) self.old.names.ended.items request }
+        ensures still { outcome_at_expiry it.old.shown ≡ None → self.new.names ≡ self.old.names }
+        ensures same { self.new ≡ record self.old { names = record self.old.names { ended = self.new.names.ended } } }
+    {
+        let outcome = it.expire();
+        if outcome.is_some() {
+            self.names.end(request);
+        }
+        Event::Expire { request, outcome }
+    }
+
+    /// Tells that the deadline of a request is on the wheel, or how the request ended.
+    pub fn tell_enrolled(
+        &mut self,
+        request: usize,
+        done: Enrolled,
+        tick: u64,
+        it: &mut Record,
+    ) -> Event
+        requires room { length self.old.names.ended.items < deque_capacity self.old.names.ended }
+        requires tick { 0 < tick }
+        requires timed { done.ended ≡ None → IsOnWheel self.old.moments.start tick it.old.shown.operation.deadline }
+        ensures event { result ≡ Event.Enrol request (outcome_of_error done.ended) }
+        ensures shown { it.new.shown ≡ enrolled (first_tick self.old.moments.start tick (unwrap_or it.old.shown.operation.deadline 0)) (outcome_of_error done.ended) it.old.shown }
+        ensures id { it.new.id ≡ it.old.id }
+        ensures sent { it.new.sent ≡ it.old.sent }
+        ensures capacity { deque_capacity self.new.names.ended ≡ deque_capacity self.old.names.ended }
+        ensures ended { self.new.names.ended.items ≡ joined_if (is_some done.ended) self.old.names.ended.items request }
+        ensures still { done.ended ≡ None → self.new.names ≡ self.old.names }
+        ensures same { self.new ≡ record self.old { names = record self.old.names { ended = self.new.names.ended } } }
+    {
+        match done.ended {
+            Some(error) => {
+                let outcome = Outcome::Failure(error);
+                it.resolve(outcome);
+                self.names.end(request);
+                Event::Enrol {
+                    request,
+                    outcome: Some(outcome),
+                }
+            }
+            None => {
+                it.shown.timer = timer_of(self.moments.start, tick, it.shown.operation.deadline);
+                Event::Enrol {
+                    request,
+                    outcome: None,
+                }
+            }
+        }
+    }
+
+    /// Tells that a request has the permit of its open, or how it ended by that.
+    pub fn tell_granted(
+        &mut self,
+        service: Service,
+        file: u32,
+        request: usize,
+        outcome: Option<Outcome>,
+        it: &mut Record,
+    ) -> Event
+        requires room { length self.old.names.ended.items < deque_capacity self.old.names.ended }
+        requires file { file + 1 < 2 ^ 32 }
+        ensures event { result ≡ Event.Grant request outcome }
+        ensures shown { it.new.shown ≡ granted outcome it.old.shown }
+        ensures id { it.new.id ≡ it.old.id }
+        ensures sent { it.new.sent ≡ it.old.sent }
+        ensures capacity { deque_capacity self.new.names.ended ≡ deque_capacity self.old.names.ended }
+        ensures ended { self.new.names.ended.items ≡ joined_if (is_some outcome) self.old.names.ended.items request }
+        ensures still { outcome ≡ None → self.new.names ≡ self.old.names }
+        ensures same { self.new ≡ record self.old { place = (after_grant service file outcome (desk_of self.old)).place; names = record self.old.names { ended = self.new.names.ended } } }
+    {
+        it.grant(outcome);
+        let gate = file + 1;
+        let next = match outcome {
+            Some(_) => {
+                self.names.end(request);
+                let back = AfterPermit::Submit { gate };
+                InService::PassPermit { file, back }
+            }
+            None => InService::Submit { gate },
+        };
+        self.go(service, next);
+        Event::Grant { request, outcome }
+    }
+
+    /// Ends the staging with the wake poll, where it must be staged and the submission queue has room.
+    pub fn stage_poll(&mut self, service: Service) -> Event
+        ensures event { result ≡ Event.Serve }
+        ensures punctual { IsPunctual (driver_of self.old) → IsPunctual (driver_of self.new) }
+        ensures ends { (w : Worker) × EndsStaging self.old w × (self.new ≡ with_staging_ended service w) }
+    {
+        self.home.driver.stage_wake_poll();
+        self.end_staging(service);
+        Event::Serve
+    }
+
+    /// Whether the submission queue has no room for what is to go into it.
+    pub fn must_flush(&self) -> bool
+        ensures { result ≡ must_flush (driver_of self.now) }
+    {
+        let driver = &self.home.driver;
+        let stages = driver.has_cancels() || driver.may_stage();
+        driver.is_full() && (stages || driver.needs_wake_poll())
+    }
+
+    /// Stages the cancel of the request that asked for it first. The caller must know that there is one, and that the
+    /// submission queue has room.
+    pub fn stage_cancel<B: Drop>(&mut self, shared: &mut Shared<B>) -> Event
+        requires there { has_first (driver_of self.old).lists.cancels ≡ true }
+        requires room { is_full (driver_of self.old) ≡ false }
+        requires named { AreNamed self.old.names.requests.items (driver_of self.old).lists.cancels shared.old.requests.items }
+        requires place { length self.old.names.untold.items < vec_capacity self.old.names.untold }
+        ensures stages { (id : WaiterId) → first_of (driver_of self.old).lists.cancels ≡ Some id → StagesCancel self.old shared.old result self.new shared.new id }
+        ensures punctual { IsPunctual (driver_of self.old) → IsPunctual (driver_of self.new) }
+        ensures capacity { vec_capacity self.new.names.untold ≡ vec_capacity self.old.names.untold }
+    {
+        let Some(id) = self.home.driver.stage_cancel() else {
+            unreachable!()
+        };
+        let request = self.names.request(id);
+        self.names.stage_cancel(request);
+        shared.requests[request].shown.cancel_staged = true;
+        Event::Cancel { request }
+    }
+
+    /// Stages the operation of the request that was queued first. The caller must know that one may be staged, and that
+    /// the submission queue has room.
+    pub fn stage<B: Drop>(&mut self, shared: &mut Shared<B>) -> Event
+        requires may { may_stage_one (driver_of self.old) ≡ true }
+        requires room { is_full (driver_of self.old) ≡ false }
+        requires enrolled { has_first (driver_of self.old).lists.enrolments ≡ false }
+        requires named { AreNamed self.old.names.requests.items (driver_of self.old).lists.queued shared.old.requests.items }
+        requires place { length self.old.names.staged.items < vec_capacity self.old.names.staged }
+        ensures stages { (id : WaiterId) → first_of (driver_of self.old).lists.queued ≡ Some id → StagesRequest self.old shared.old result self.new shared.new id }
+        ensures punctual { IsPunctual (driver_of self.old) → IsPunctual (driver_of self.new) }
+        ensures capacity { vec_capacity self.new.names.staged ≡ vec_capacity self.old.names.staged }
+    {
+        let Some(id) = self.home.driver.stage(&shared.opens) else {
+            unreachable!()
+        };
+        let request = self.names.request(id);
+        self.names.stage(request);
+        let record = &mut shared.requests[request];
+        let hinted = record.asks_hint() && has_hint(&shared.opens, record.shown.operation.target);
+        record.stage(hinted);
+        Event::Stage { request }
+    }
+
+    /// Enters a full submission queue. Where the kernel takes nothing, the staging ends.
+    pub fn flush<B: Drop>(&mut self, service: Service, shared: &mut Shared<B>) -> Event
+        requires there { self.old.index < length shared.old.seats.items }
+        requires known { AreKnown self.old.names.staged.items shared.old.requests.items }
+        ensures enters { (w : Worker) × (it : Enters self.old shared.old result w shared.new)
+            × (self.new ≡ after_flush service (driver_of it.mid).ring.busy w) }
+    {
+        let event = self.enter(shared);
+        if let Event::Busy = event {
+            self.end_staging(service);
+        }
+        event
+    }
+}
+
+/// The moment at which the wheel of a worker that began at `start` tells a deadline: the first tick from it on.
+#[tactic(auto, using(crate::proofs::Ticks::ticks_within))]
+fn timer_of(start: u64, tick: u64, deadline: Option<u64>) -> Option<u64>
+    requires tick { 0 < tick }
+    requires timed { IsOnWheel start tick deadline }
+    ensures { result ≡ Some (first_tick start tick (unwrap_or deadline 0)) }
+{
+    let deadline = deadline?;
+    let ticks = (deadline - start + (tick - 1)) / tick;
+    Some(start + ticks * tick)
+}
+
+/// Whether no hint of an open was refused.
+fn has_hint(opens: &Opens, file: usize) -> bool
+    ensures { result ≡ takes_hint opens.now file }
+{
+    match opens.account(u32::try_from(file).ok()) {
+        Some(account) => account.hinted(),
+        None => false,
+    }
+}
+
+/// A name has a generation of 64 bits.
+pub fn bounds_name(id: WaiterId)
+    ensures { id.0.generation < 2 ^ 64 }
+{
+    let _name = id;
+}

@@ -1,0 +1,351 @@
+-- The act by which a task makes a task with a worker of its own: the whole step.
+use Rattle.std.{proofs.{Common.{[], ◌≡◌, inl, inr, ℕ, zero, suc, ◌+◌, ◌<◌, ◌≤◌, ◌^◌, arith, true, false, List, ◌∷◌, ◌++◌, length, map, Option, Some, None, IsSome, IfOk, OnErr, Result, Ok, Err, refl, sym, ap, subst, ◌∙◌, slice_get, slice_set}, lemmas.{Bool.{false≢true}, List.{length-append, length-set, set-set}, Option.{slice_get_within}}}, specs.Vec.with_item}
+use Rattle.exec_base.specs.declared.{error.Error.Error, task_no.TaskNo.TaskNo}
+use Rattle.exec_task.specs.{Phases.{is_polled, runnable_of}, Sight.Sight, declared.{body.{Act.Act, Said.Said}}}
+use Rattle.exec_machine.specs.{Choice.Choice.Plain, declared.{config.{Configuration.Configuration, ScriptWord.ScriptWord}, event.Event.Event, state.{Waiting.Waiting}}, Mail.meets_closed, Progress.Plan, Tasks.{new_own}, Words.{moved_on}, World.{task_of}}
+use Rattle.exec_ring.specs.Stores.{Same as SameStore}
+use Rattle.exec_moves.specs.{Plays.first_desk, declared.place.{InPoll.InPoll, Place.Place}}
+use Rattle.exec_parts.{specs.{Records.numbers_held, declared.parts.{nursery.Nursery.Nursery, role.Role.Role, seat.Seat.Seat as Chair, shared.Shared.Shared, task_slot.TaskSlot.TaskSlot, worker.Worker.Worker}, Dedicated.{Begins as BeginsWorker, Dedicates, DedicatesIf, DedicatesNone, MakesDedicated, RefusesDedicated, root_slot}, Phased.is_complete, Roles.MayBegin, Scripts.{GoesOn, held_after, IsAnswer, IsAnswered, IsBorn, MayRunScript}, Spots.{Spot, spot_of}, View.{Views, body_in, common_of, desk_of, own_of, polls_seen, queue_at, seats_seen, task_seen, things_with, visible, word_at, inbox_at}, Things.TurnsSlot}, proofs.Facts.{same_thing, set_there}}
+use Rattle.exec_invariants.{specs.{Spares.{Spares, SparesMore}, Acting.{ActsAs, HasActed, Performs, PerformsAll, StepsOf, StepsWith}, Hearing.{CanHear, held_once_come}, Sound.SoundAt, Whole.HasWhole, Works.{Beside, Same}}, proofs.{Acting.{Leaves, act_leaves, acted, actor, acts_so, by_word, me_at, moved_seen, tells_on}, Pending.in_poll, Performing.{performs_on, same_slot, still_performs, unmoved_seen}, Slots.{IsEvent, task_there}}}
+use Rattle.exec_polling.proofs.{DedicatedHolds.{newcomer_sound, sound_grown, whole_with}, DedicatedWorks.{closed_move, dedicated_works, root_seen}, Begun.{desk_begun, fresh_visible, own_begun, visible_begun}, DedicatedJoins.{JoinsRoot, more_seats, spares_grown}, SpawnLists.{found_again, found_which, set_within}}
+
+-- BESIDE IT: the task was told, and then its worker joined
+
+module _ {B : Type 0} where
+  spares_both : (j : ℕ) (s m s' : Shared B) → Spares j s (record s { tasks = m.tasks }) → SparesMore j (record s { tasks = m.tasks }) s' → SparesMore j s s'
+  spares_both j s m s' first second =
+      record {
+        config = second.config;
+        clock = second.clock;
+        gates = second.gates;
+        hints = second.hints;
+        many = second.many;
+        chair = second.chair;
+        tails = second.tails;
+        records = second.records;
+        records_only = second.records_only;
+        sleepers = second.sleepers;
+        sleepers_only = second.sleepers_only;
+        endure = second.endure;
+        endure_too = second.endure_too;
+        root = λ t slot found home. second.root t slot (first.root t slot found home) home;
+        polled = λ t slot found polled mine.
+            let one = first.polled t slot found polled mine in
+            let two = second.polled t one.0 one.1 one.2.polled (ap (λ (o : TaskSlot B). o.poller) one.2.kept ∙ mine) in (
+              two.0,
+              two.1,
+              record {
+                polled = two.2.polled;
+                number = two.2.number ∙ one.2.number;
+                cancelled = λ h. two.2.cancelled (one.2.cancelled h);
+                kept = two.2.kept ∙ ap (λ (o : TaskSlot B). record o { cell = two.0.cell; cleared = two.0.cleared; fresh = two.0.fresh; output = two.0.output }) one.2.kept;
+              },
+            );
+        room = second.room;
+        stretch = second.stretch;
+        stopped = second.stopped;
+        closed = second.closed;
+        by_zero = second.by_zero;
+        shards = second.shards;
+        emptied = second.emptied;
+        genuine = λ r is. second.genuine r (first.genuine r is);
+      }
+
+-- WHAT THE NEW TASK PERFORMS
+
+may_run : (n i : ℕ) → 0 < n → n ≤ i → MayRunScript n (Some i)
+may_run n zero some few = absurd (omega (arith, some, few))
+may_run n (suc i) some few = few
+
+module _ {B L : Type 0} (left : B → L) (runs : L → Plan → Option ℕ → Type 0) (holds : L → Option Said → List ℕ) (spot : L → Option Said → Spot) where
+  performs_root : (p : Plan) (k i owner : ℕ) (body : B) (number : TaskNo) (new : TaskSlot B) → new ≡ root_slot number owner i body new → new.held.items ≡ [] → MayRunScript p.config.workers (Some i) → IsBorn runs holds spot p k (left body) → Performs left runs holds p new
+  performs_root p k i owner body number new is held may born =
+      let its : body_in new.cell.phase new.body ≡ Some body = ap (λ (o : TaskSlot B). body_in o.cell.phase o.body) is in
+      let told : new.told ≡ Some Said.Start = ap (λ (o : TaskSlot B). o.told) is in
+      let waiting : new.waiting ≡ Waiting.Nothing = ap (λ (o : TaskSlot B). o.waiting) is in
+      let home : new.home ≡ Some i = ap (λ (o : TaskSlot B). o.home) is in
+      let none : numbers_held new.held.items ≡ [] = ap numbers_held held in
+      let starts : (answer : Said) → CanHear new.told new.waiting answer → answer ≡ Said.Start = λ answer hears. subst (λ o. CanHear o new.waiting answer) told hears in
+      record {
+        runs_it = λ b answer its_body hears going. subst (λ y. runs (left y) p new.home) (same_thing body b (sym its ∙ its_body)) (subst (runs (left body) p) (sym home) (born.runs_it (Some i) may));
+        holding = λ b answer its_body hears going.
+            ap (λ y. holds (left y) (Some answer)) (same_thing b body (sym its_body ∙ its)) ∙ ap (λ y. holds (left body) (Some y)) (starts answer hears) ∙ born.holding
+            ∙ sym (ap (λ u. held_once_come u (numbers_held new.held.items)) waiting ∙ none);
+      }
+
+  performs_rooted : (p : Plan) (s s' : Shared B) → (it : JoinsRoot s s') → Performs left runs holds p it.new → PerformsAll left runs holds p s → PerformsAll left runs holds p s'
+  performs_rooted p s s' it performs fits n o found =
+      elim (found_which s.tasks.items it.new o n (ap (λ xs. slice_get xs n) (sym it.items) ∙ found)) as (λ z. Performs left runs holds p o) [
+        | inl old ↦ fits n o old
+        | inr new ↦ subst (Performs left runs holds p) new.1 performs
+      ]
+
+module _ {B L : Type 0} (left : B → L) (runs : L → Plan → Option ℕ → Type 0) (holds : L → Option Said → List ℕ) (spot : L → Option Said → Spot) (gives : L → Option Sight → Said → Act B → L → Option Sight → Type 0) where
+  -- a task goes on that was told so of the one that it wanted
+  performs_told : (p : Plan) (slot : TaskSlot B) (b' body : B) (x : Said) → IsAnswer (Act.Dedicated body) x → is_polled slot.cell.phase ≡ true → slot.waiting ≡ Waiting.Nothing → held_after (Act.Dedicated body) x (numbers_held slot.held.items) ≡ (numbers_held slot.held.items)
+      → GoesOn runs holds spot gives p (task_seen left spot slot) (Act.Dedicated body) (left b') → Performs left runs holds p (record slot { body = Some b'; told = Some x })
+  performs_told p slot b' body x answers is nothing held goes =
+      performs_on left runs holds spot gives p (task_seen left spot slot) (Act.Dedicated body) (record slot { body = Some b'; told = Some x }) b' goes refl (in_poll slot.cell.phase (Some b') is)
+      (λ answer hears. subst (λ y. IsAnswer (Act.Dedicated body) y × (held_after (Act.Dedicated body) y (numbers_held slot.held.items) ≡ held_once_come slot.waiting (numbers_held slot.held.items))) (sym hears) (answers, held ∙ sym (ap (λ u. held_once_come u (numbers_held slot.held.items)) nothing)))
+
+-- THE WHOLE STEP
+
+module _ {B L : Type 0} (left : B → L) (runs : L → Plan → Option ℕ → Type 0) (holds : L → Option Said → List ℕ) (spot : L → Option Said → Spot) (gives : L → Option Sight → Said → Act B → L → Option Sight → Type 0) where
+  pub may_begin : (t : ℕ) (w : Worker) (s s1 : Shared B) (a : Act B) → HasActed left runs holds spot gives t w s s1 a → MayBegin s1.config
+  may_begin t w s s1 a h = subst (λ (x : Shared B). MayBegin x.config) (sym h.made.kept) h.sound.config.begins
+
+  module _ (answered : IsAnswered spot) (t : ℕ) (body : B) (w w' : Worker) (s s1 s' : Shared B) (n n' : Nursery) (h : HasActed left runs holds spot gives t w s s1 (Act.Dedicated body)) where
+    abbrev slot : TaskSlot B
+    slot = h.made.slot
+
+    abbrev b' : B
+    b' = h.made.acts.body'
+
+    acted_there : slice_get s1.tasks.items t ≡ Some h.made.slot'
+    acted_there = ap (λ ts. slice_get ts t) h.made.tasks ∙ set_there s.tasks.items t h.made.slot' slot h.made.there
+
+    -- what is as it was before the act
+    count : length s1.tasks.items ≡ length s.tasks.items
+    count = ap length h.made.tasks ∙ length-set s.tasks.items t h.made.slot'
+
+    -- THE SET IS OPEN
+
+    module _ (e : Event) (it : Dedicates t body w w' s1 s' n n' e) where
+      abbrev makes : MakesDedicated body s1 it.middle n n' it.number
+      makes = it.makes
+
+      abbrev said : Said
+      said = Said.Spawned it.number
+
+      abbrev mid : TaskSlot B
+      mid = record slot { body = Some b'; told = Some said }
+
+      -- once the task was told so, and before the other one is there
+      abbrev only_told : Shared B
+      only_told = record s { tasks = with_item s.tasks t mid }
+
+      told_slot : record h.made.slot' { told = Some said } ≡ mid
+      told_slot = ap (λ (y : TaskSlot B). record y { told = Some said }) h.made.acts.slot
+
+      turns : TurnsSlot t s1 only_told (λ o. record o { told = Some said })
+      turns =
+          record {
+            kept = sym (ap (λ (x : Shared B). record x { tasks = with_item s.tasks t mid }) h.made.kept);
+            tasks = λ o found.
+                let is : o ≡ record slot { body = Some b'; told = None } = same_thing o h.made.slot' (sym found ∙ acted_there) ∙ h.made.acts.slot in
+                sym (set-set s.tasks.items t h.made.slot' mid) ∙ ap (λ ts. slice_set ts t mid) (sym h.made.tasks)
+                ∙ ap (λ (y : TaskSlot B). slice_set s1.tasks.items t (record y { told = Some said })) (sym is);
+          }
+
+      items_then : s'.tasks.items ≡ slice_set s.tasks.items t mid ++ makes.slot ∷ []
+      items_then =
+          let few : t < length s1.tasks.items = slice_get_within s1.tasks.items t h.made.slot' acted_there in
+          let there : slice_get it.middle.tasks.items t ≡ Some h.made.slot' = ap (λ ts. slice_get ts t) makes.tasks ∙ found_again s1.tasks.items (makes.slot ∷ []) t h.made.slot' acted_there in
+          it.told.tasks h.made.slot' there
+          ∙ ap (slice_set it.middle.tasks.items t) told_slot
+          ∙ ap (λ ts. slice_set ts t mid) makes.tasks
+          ∙ set_within s1.tasks.items makes.slot mid t few
+          ∙ ap (λ ts. slice_set ts t mid ++ makes.slot ∷ []) h.made.tasks
+          ∙ ap (λ ts. ts ++ makes.slot ∷ []) (set-set s.tasks.items t h.made.slot' mid)
+
+      unclosed : s.set.closed ≡ false
+      unclosed = ap (λ (x : Shared B). x.set.closed) (sym h.made.kept) ∙ it.open_still
+
+      grown_kept : s' ≡ record s { seats = it.middle.seats; tasks = s'.tasks; global = record s.global { places = it.middle.global.places }; store = it.middle.store }
+      grown_kept =
+          it.told.kept ∙ ap (λ (x : Shared B). record x { tasks = s'.tasks }) makes.kept
+          ∙ ap (λ (x : Shared B). record x { seats = it.middle.seats; tasks = s'.tasks; global = record x.global { places = it.middle.global.places }; store = it.middle.store }) h.made.kept
+
+      seats_kept : s'.seats ≡ it.middle.seats
+      seats_kept = ap (λ (x : Shared B). x.seats) grown_kept
+
+      same_places : s'.global.places ≡ it.middle.global.places
+      same_places = ap (λ (x : Shared B). x.global.places) grown_kept
+
+      same_store : s'.store ≡ it.middle.store
+      same_store = ap (λ (x : Shared B). x.store) grown_kept
+
+      seats_before : s1.seats.items ≡ s.seats.items
+      seats_before = ap (λ (x : Shared B). x.seats.items) h.made.kept
+
+      store_before : s1.store ≡ s.store
+      store_before = ap (λ (x : Shared B). x.store) h.made.kept
+
+      told_count : length only_told.tasks.items ≡ length s.tasks.items
+      told_count = length-set s.tasks.items t mid
+
+      is_root : makes.slot ≡ root_slot (record { 0 = length only_told.tasks.items }) s1.set.id (length s.seats.items) body makes.slot
+      is_root =
+          makes.made ∙ ap (λ m. root_slot m s1.set.id (length s1.seats.items) body makes.slot) (makes.is ∙ ap (λ k. record { 0 = k }) (count ∙ sym told_count))
+          ∙ ap (λ xs. root_slot (record { 0 = length only_told.tasks.items }) s1.set.id (length xs) body makes.slot) seats_before
+
+      abbrev joins : JoinsRoot only_told s'
+      joins =
+          let many : length s'.tasks.items ≡ length it.middle.tasks.items =
+          ap length items_then ∙ length-append (slice_set s.tasks.items t mid) (makes.slot ∷ []) ∙ ap (λ k. k + 1) (told_count ∙ sym count)
+          ∙ sym (ap length makes.tasks ∙ length-append s1.tasks.items (makes.slot ∷ [])) in
+          let more : length it.middle.tasks.items ≡ length s1.tasks.items + 1 = ap length makes.tasks ∙ length-append s1.tasks.items (makes.slot ∷ []) in
+          record {
+            new = makes.slot;
+            items = items_then;
+            home = ap (λ (o : TaskSlot B). o.home) is_root;
+            number = ap (λ (o : TaskSlot B). o.cell.number) is_root;
+            going = ap (λ (o : TaskSlot B). is_complete o.cell.phase) is_root;
+            held = makes.held;
+            waits = ap (λ (o : TaskSlot B). o.waiting) is_root;
+            chair = makes.chair;
+            fresh = makes.fresh;
+            seats = ap (λ xs. xs.items) seats_kept ∙ makes.seats ∙ ap (λ xs. xs ++ makes.chair ∷ []) seats_before;
+            places = omega (arith, many, makes.places, same_places);
+            few = (let few = makes.few in omega (arith, many, more, few));
+            store = subst (λ x. SameStore s.store x) (sym same_store) (subst (λ x. SameStore x it.middle.store) store_before makes.store);
+            kept = grown_kept
+                ∙ ap (λ y. record s { seats = y; tasks = s'.tasks; global = record s.global { places = it.middle.global.places }; store = it.middle.store }) (sym seats_kept)
+                ∙ ap (λ k. record s { seats = s'.seats; tasks = s'.tasks; global = record s.global { places = k }; store = it.middle.store }) (sym same_places)
+                ∙ ap (λ y. record s { seats = s'.seats; tasks = s'.tasks; global = record s.global { places = s'.global.places }; store = y }) (sym same_store);
+          }
+
+      abbrev v : Worker
+      v = makes.born
+
+      begins : BeginsWorker s.config Role.Dedicated (length s.seats.items) (length only_told.tasks.items) (runnable_of makes.slot.cell) s.clock v
+      begins =
+          subst (λ (x : Shared B). BeginsWorker x.config Role.Dedicated (length x.seats.items) (length only_told.tasks.items) (runnable_of makes.slot.cell) x.clock v) h.made.kept
+          (subst (λ k. BeginsWorker s1.config Role.Dedicated (length s1.seats.items) k (runnable_of makes.slot.cell) s1.clock v) (count ∙ sym told_count) makes.begins)
+
+      pub dedicated_open : HasWhole w s → StepsWith left runs holds spot (Some makes.born) w s e w' s'
+      dedicated_open has =
+          let i : ℕ = length s.seats.items in
+          let who = actor left runs holds spot gives t w s s1 (Act.Dedicated body) h in
+          let leaves : Leaves left runs holds spot gives t InPoll.Act w s only_told mid =
+          act_leaves left runs holds spot gives t InPoll.Act w s s1 only_told (Act.Dedicated body) (λ o. record o { told = Some said }) h (tells_on t slot b' said who.polled who.waits) turns in
+          let still : record w { place = Place.Poll t InPoll.Act; root_ready = w.root_ready; hand = None } ≡ w =
+          ap (λ o. record w { place = Place.Poll t InPoll.Act; hand = o }) (sym h.sound.hand) ∙ ap (λ y. record w { place = y }) (sym h.sound.here) in
+          let sound : SoundAt (Place.Poll t InPoll.Act) w only_told = subst (λ x. SoundAt (Place.Poll t InPoll.Act) x only_told) still leaves.sound in
+          let one : Beside w s w only_told = subst (λ x. Beside w s x only_told) still leaves.beside in
+          let told_whole : HasWhole w only_told = record { others = has.others; whole = one.whole has.others has.whole; few = has.few } in
+          let lead : w' ≡ w = it.worker ∙ ap (λ y. record w { place = y }) (sym h.sound.here) in
+          let past : s.config.workers ≤ i = h.sound.homes.many in
+          let number : v.root ≡ length s.tasks.items = ap (λ (x : Worker). x.root) begins.parts ∙ told_count in
+          let last : v.index ≡ i = ap (λ (x : Worker). x.index) begins.parts in
+          let event : e ≡ Event.Dedicated (length s.tasks.items) i = it.event_is ∙ ap (λ k. Event.Dedicated k (length s1.seats.items)) count ∙ ap (λ xs. Event.Dedicated (length s.tasks.items) (length xs)) seats_before in
+          let many : length s'.seats.items ≡ suc i = more_seats only_told s' joins in
+          let few_seats : length s.seats.items + 1 < 2 ^ 32 = subst (λ xs. length xs + 1 < 2 ^ 32) seats_before makes.few_seats in
+          let shows : visible v ≡ fresh_visible = visible_begun s.config Role.Dedicated i (length only_told.tasks.items) (runnable_of makes.slot.cell) s.clock v begins h.sound.config.begins in
+          let own : own_of v ≡ new_own s.clock (length only_told.tasks.items) = own_begun s.config Role.Dedicated i (length only_told.tasks.items) (runnable_of makes.slot.cell) s.clock v begins h.sound.config.begins in
+          let desk : desk_of v ≡ first_desk s.config i = desk_begun s.config Role.Dedicated i (length only_told.tasks.items) (runnable_of makes.slot.cell) s.clock v begins h.sound.config.begins in
+          let rooted : (p : Plan) (k : ℕ) → s.config ≡ p.config → IsBorn runs holds spot p k (left body) → Performs left runs holds p makes.slot = λ p k is born.
+          let some : 0 < s.config.workers = h.sound.config.workers in
+          performs_root left runs holds spot p k i s1.set.id body (record { 0 = length only_told.tasks.items }) makes.slot is_root makes.held (subst (λ (c : Configuration). MayRunScript c.workers (Some i)) is (may_run s.config.workers i some past)) born in
+          let done : StepsWith left runs holds spot (Some v) w s (Event.Dedicated (length s.tasks.items) i) w s' = (
+            (λ p vs suits fits.
+                let so = h.asks p vs (fits t slot h.made.there) in
+                let all = common_of left spot p vs s in
+                let k = so.asks.0 in
+                let word = so.asks.1 in
+                let born = so.makes k word in
+                let on : spot (left b') (Some said) ≡ spot_of (moved_on all (task_seen left spot slot)) = answered (left b') said (λ never. absurd (cc)) ∙ so.stands in
+                dedicated_works left spot t w v s only_told s' slot mid joins h.made.there who.waits refl refl shows h.sound.here unclosed k p vs suits word
+                (root_seen left spot body (record { 0 = length only_told.tasks.items }) s1.set.id i k makes.slot is_root makes.held born.begins)
+                (sym (moved_seen left spot all slot b' (Some said) who.polled on))),
+            subst (λ y. SoundAt y w s') (sym h.sound.here) (sound_grown t w only_told s' joins sound),
+            record {
+              root = refl;
+              config = ap (λ (y : Shared B). y.config) grown_kept;
+              performs = λ p is fits.
+                  let so = h.asks p (record { workers = []; calls = [] }) (fits t slot h.made.there) in
+                  performs_rooted left runs holds spot p only_told s' joins (rooted p so.asks.0 is (so.makes so.asks.0 so.asks.1))
+                  ((still_performs left runs holds t w w s only_told slot mid h.made.there refl refl refl
+                  (λ p' fits'. performs_told left runs holds spot gives p' slot b' body said tt who.polled who.waits refl ((h.asks p' (record { workers = []; calls = [] }) fits').goes_on refl))).performs p is fits);
+            },
+            record {
+              tells = ap (λ k. Event.Dedicated k i) (sym number) ∙ ap (Event.Dedicated v.root) (sym last);
+              own = own ∙ ap (new_own s.clock) (sym (ap (λ (x : Worker). x.root) begins.parts));
+              desk = desk ∙ ap (first_desk s.config) (sym last);
+              spares = λ j apart. spares_both j s only_told s' (one.spares j apart) (spares_grown only_told s' joins j);
+              whole = λ others whole. whole_with t w only_told s' joins sound v body s1.set.id begins is_root few_seats told_whole others (one.whole others whole);
+              last = last;
+              root = number;
+              many = many;
+              few = (let few = makes.few_seats in omega (arith, many, few, ap length seats_before));
+              sound = newcomer_sound t w only_told s' joins sound v body s1.set.id begins is_root few_seats told_whole;
+            },
+          ) in
+          subst (λ x. StepsWith left runs holds spot (Some v) w s e x s') (sym lead) (subst (λ z. StepsWith left runs holds spot (Some v) w s z w s') (sym event) done)
+
+    -- THE SET IS CLOSED
+
+    closed_event : (p : Plan) (vs : Views) → s.set.closed ≡ true → is_polled slot.cell.phase ≡ true → slot.waiting ≡ Waiting.Nothing → ActsAs left runs holds spot gives (common_of left spot p vs s) p w.moments.sampled slot b' (Act.Dedicated body)
+        → IsEvent left spot (Place.Poll t InPoll.Act) (Place.Poll t InPoll.Act) t w w.root_ready None s (record slot { body = Some b'; told = Some (Said.Refused Error.Closed) }) Event.Closed Plain p vs
+    closed_event p vs shut polled waits so =
+        let all = common_of left spot p vs s in
+        let x = things_with vs s in
+        let d = desk_of (record w { place = Place.Poll t InPoll.Act }) in
+        let k = so.asks.0 in
+        let told : Said = Said.Refused Error.Closed in
+        let at_t : task_of all t ≡ task_seen left spot slot = task_there left spot s.tasks.items t slot h.made.there in
+        let past : spot (left b') (Some told) ≡ spot_of (moved_on all (task_seen left spot slot)) = answered (left b') told (λ never. absurd (cc)) ∙ so.stands in
+        record {
+          moves = by_word left spot t p all w s vs slot (ScriptWord.Dedicated k) at_t so.asks.1
+              ∙ closed_move p.config w.index (me_at t w) all d x t k shut
+              ∙ ap (λ o. record { event = Event.Closed; choice = Plain; desk = desk_of (record w { place = Place.Poll t InPoll.Act; hand = o }); thing = x }) h.sound.hand;
+          may = (acts_so left spot t all w slot (meets_closed all w.index) at_t waits (ap (meets_closed all w.index) so.asks.1 ∙ shut), tt);
+          own = refl;
+          common = ap (λ y. record all { tasks = slice_set all.tasks t (moved_on all y) }) at_t ∙ ap (λ y. record all { tasks = slice_set all.tasks t y }) (sym (moved_seen left spot all slot b' (Some told) polled past));
+        }
+
+    pub dedicated_closed : (e : Event) → DedicatesNone t w w' s1 s' n n' e → StepsOf left runs holds spot w s e w' s'
+    dedicated_closed e it =
+        let told : Said = Said.Refused Error.Closed in
+        let who = actor left runs holds spot gives t w s s1 (Act.Dedicated body) h in
+        let closed : s.set.closed ≡ true = ap (λ (y : Shared B). y.set.closed) (sym h.made.kept) ∙ it.closed in
+        subst (λ z. StepsOf left runs holds spot w s z w' s') (sym it.event_is)
+        (acted left runs holds spot gives t InPoll.Act w w' s s1 s' Event.Closed Plain (Act.Dedicated body) (λ o. record o { told = Some told }) h (tells_on t slot b' told who.polled who.waits)
+        (λ p vs so. closed_event p vs closed who.polled who.waits so) (λ p goes_on. performs_told left runs holds spot gives p slot b' body told tt who.polled who.waits refl goes_on) refl it.worker it.told)
+
+    -- by which of the two, where nobody was made before
+    pub dedicated_by : HasWhole w s → n.born ≡ None → (e : Event) → DedicatesIf t body w w' s1 s' n n' e → StepsWith left runs holds spot n'.born w s e w' s'
+    dedicated_by has none e (inl it) = subst (λ o. StepsWith left runs holds spot o w s e w' s') (sym (ap (λ (x : Nursery). x.born) it.makes.nursery)) (dedicated_open e it has)
+    dedicated_by has none e (inr it) = subst (λ o. StepsWith left runs holds spot o w s e w' s') (sym (ap (λ (x : Nursery). x.born) it.nursery ∙ none)) (dedicated_closed e it)
+
+    -- whoever was made has room for it
+    pub dedicated_room : n.born ≡ None → (e : Event) → DedicatesIf t body w w' s1 s' n n' e → IsSome n'.born → n.has_room ≡ true
+    dedicated_room none e (inl it) some = it.makes.room
+    dedicated_room none e (inr it) some = absurd (false≢true (subst (λ o. IsSome o) (ap (λ (x : Nursery). x.born) it.nursery ∙ none) some))
+
+    pub room_so : {E : Type 0} (r : Result Event E) → n.born ≡ None → IfOk r (λ e. DedicatesIf t body w w' s1 s' n n' e) → OnErr r (RefusesDedicated t w w' s1 s' n n') → IsSome n'.born → n.has_room ≡ true
+    room_so (Ok e) none so refused some = dedicated_room none e so some
+    room_so (Err x) none so refused some = absurd (false≢true (subst (λ o. IsSome o) (ap (λ (y : Nursery). y.born) refused.nobody.nursery ∙ none) some))
+
+    -- THERE WAS NO MEMORY: nothing is seen of that
+
+    pub undedicated : RefusesDedicated t w w' s1 s' n n' → Same left spot w s w' s'
+    undedicated it =
+        let told : Said = Said.Refused Error.NoMemory in
+        let slot2 : TaskSlot B = record slot { body = Some b'; told = Some told } in
+        let who = actor left runs holds spot gives t w s s1 (Act.Dedicated body) h in
+        let p : Plan = h.one.0 in
+        let back : spot (left b') (Some told) ≡ spot_of (task_seen left spot slot) = ((h.asks p (record { workers = []; calls = [] }) h.one.2).goes_on refl).refused in
+        let there : slice_get it.middle.tasks.items t ≡ Some h.made.slot' = ap (λ ts. slice_get ts t) it.nobody.tasks ∙ acted_there in
+        let items : s'.tasks.items ≡ slice_set s.tasks.items t slot2 =
+        it.told.tasks h.made.slot' there
+        ∙ ap (λ ts. slice_set ts t (record h.made.slot' { told = Some told })) (it.nobody.tasks ∙ h.made.tasks)
+        ∙ set-set s.tasks.items t h.made.slot' (record h.made.slot' { told = Some told })
+        ∙ ap (λ (y : TaskSlot B). slice_set s.tasks.items t (record y { told = Some told })) h.made.acts.slot in
+        let s2 : Shared B = record s { tasks = s'.tasks } in
+        let m = it.middle in
+        let kept : s' ≡ record s2 { seats = m.seats; global = record s.global { places = m.global.places }; store = m.store } =
+        it.told.kept ∙ ap (λ (y : Shared B). record y { tasks = s'.tasks }) it.nobody.kept
+        ∙ ap (λ (y : Shared B). record y { seats = m.seats; tasks = s'.tasks; global = record y.global { places = m.global.places }; store = m.store }) h.made.kept in
+        let seats : m.seats.items ≡ s.seats.items = it.nobody.seats ∙ ap (λ (y : Shared B). y.seats.items) h.made.kept in
+        let same : Same left spot w s w s2 = same_slot left spot t w s s2 slot slot2 h.made.there (unmoved_seen left spot slot b' who.polled back) refl items in
+        subst (λ x. Same left spot w s x s') (sym it.worker) (record {
+          own = same.own;
+          desk = same.desk;
+          things = λ vs.
+              ap (things_with vs) kept
+              ∙ ap (λ (cs : List Chair). record (things_with vs s2) { queues = map queue_at cs; words = map word_at cs; inboxes = map inbox_at cs; wake_polls = polls_seen vs.workers cs }) seats
+              ∙ same.things vs;
+          common = λ q vs. ap (common_of left spot q vs) kept ∙ ap (λ cs. record (common_of left spot q vs s2) { seats = seats_seen vs.workers cs }) seats ∙ same.common q vs;
+          visible_same = same.visible_same;
+        })

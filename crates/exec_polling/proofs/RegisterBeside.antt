@@ -1,0 +1,174 @@
+-- What a worker leaves of others that has made a request or a sleeper for the task that it polls.
+use Rattle.std.proofs.{Common.{◌≡◌, ◌≢◌, inl, inr, ℕ, ◌+◌, ◌≤◌, ◌==◌, not, Contains, Bool, true, false, ◌++◌, count_by, length, map, Some, None, refl, sym, ap, subst, ◌∙◌, arith, slice_get, if◌then◌else◌}, lemmas.List.length-set}
+use Rattle.exec_words.specs.Queue.{Queue}
+use Rattle.exec_ring.specs.Stores.{HasStretch}
+use Rattle.exec_task.specs.{Phases.is_polled, declared.{runnable.Runnable.Runnable, task.Task.Task as TaskCell}}
+use Rattle.exec_moves.specs.declared.place.{InPoll.InPoll, Place.Place}
+use Rattle.exec_parts.{specs.{declared.parts.{record.Record.Record, shared.Shared.Shared, sleeping.SleeperRecord.SleeperRecord, task_slot.TaskSlot.TaskSlot, worker.Worker.Worker}, Phased.is_complete}, proofs.Facts.by_number}
+use Rattle.exec_invariants.{specs.{Drained.{IsBefore, IsPool}, Gates.{HaveGates, JoinsGate, has_hint_at}, Holding.{mail_in, mail_of_letters}, Places.{Drops, drops_at, one_if}, Sound.SoundAt, Spares.Spares, Whole.{HasOne, IsWhole, Profile, duties_of, may_let_go, runnables_in, stock, with_worker}, Works.Beside}, proofs.{Aside.{SparesSeats, length_same, profile_same, queue_back, queue_of_chair, queues_set, seats_own, stock_same}, GateJoins.pool_drops, HoldBeside.{Handles, Holds, genuine_still, was_there}, PoolKept.{KeepsGates, chosen_other, chosen_own, gates_set, pool_seats, pool_slot}, Slots.spares_slot, SlotTasks.Keeps, Spared.{sleeper_spared, spared_same}, TaskDeals.{GoesOn, from_act, profile_here}}}
+use Rattle.exec_polling.proofs.RegisterSound.{Makes, made_at}
+
+module _ {B : Type 0} (t : ℕ) (w v : Worker) (s s' : Shared B) (slot slot' : TaskSlot B) (sound : SoundAt (Place.Poll t InPoll.Act) w s) (m : Makes w v s (record s' { tasks = s.tasks })) (handles : Handles t s s' slot slot') where
+  abbrev pub shared_then : Shared B
+  shared_then = record s { tasks = s'.tasks; seats = s'.seats; requests = s'.requests; sleepers = s'.sleepers; opens = s'.opens; store = s'.store }
+
+  pub all_kept : s' ≡ record s { tasks = s'.tasks; seats = s'.seats; requests = s'.requests; sleepers = s'.sleepers; opens = s'.opens; store = s'.store }
+  all_kept = ap (λ (x : Shared B). record x { tasks = s'.tasks }) m.shared
+
+  -- OTHERS rely on what is theirs
+  pub spares_made : (slot.poller ≡ w.index) → ((j : ℕ) → slot.home ≡ Some j → j ≡ w.index) → ((file : ℕ) → has_hint_at s.opens file ≡ false → has_hint_at s'.opens file ≡ false) → ((file offset n : ℕ) → HasStretch s.store file offset n → HasStretch s'.store file offset n)
+      → (j : ℕ) → j ≢ w.index → Spares j s s'
+  spares_made poller home hints stretch j other =
+      let keeps : Keeps slot slot' = record { home = handles.home; number = ap (λ (c : TaskCell B). c.number) handles.cell; owner = ap (λ (c : TaskCell B). c.owner) handles.cell } in
+      let b : Spares j s (record s { tasks = s'.tasks }) = spares_slot w.index j t s s' slot slot' other handles.there handles.items keeps (λ is. other (home j is)) (λ polled mine. absurd (other (sym mine ∙ poller))) sound.homes in
+      let seats : SparesSeats w.index s.seats.items s'.seats.items = seats_own w.index s.seats.items s'.seats.items m.seat.chair (made_at m.seat.places m.seat.chair) m.seat.set m.seat.there (omega arith) in
+      let done : Spares j s shared_then = record {
+        config = refl;
+        clock = refl;
+        gates = λ h. m.lined;
+        hints = hints;
+        many = seats.many;
+        chair = λ chair at. seats.chair j chair other at;
+        tails = seats.tails;
+        records = λ k r at mine. (r, m.records.on k r at, spared_same r);
+        records_only = λ k r at mine. (r, record_was k r at mine, spared_same r);
+        sleepers = λ k z at mine. (z, m.sleepers.on k z at, sleeper_spared z);
+        sleepers_only = λ k z at mine. (z, sleeper_was k z at mine, sleeper_spared z);
+        endure = λ k r at. (r, m.records.on k r at, record { worker = refl; forwarded = λ h. h });
+        endure_too = λ k z at. (z, m.sleepers.on k z at, record { worker = refl; forwarded = λ h. h });
+        root = b.root;
+        polled = b.polled;
+        room = λ h. m.keeps.carried.room;
+        stretch = stretch;
+        stopped = λ h. h;
+        closed = λ h. h;
+        by_zero = λ h. (refl, refl);
+        shards = refl;
+        emptied = λ shut k none. none;
+        genuine = b.genuine;
+      } in
+      subst (Spares j s) (sym all_kept) done
+    where
+      record_was : (k : ℕ) (r : Record) → slice_get s'.requests.items k ≡ Some r → r.shown.worker ≡ j → slice_get s.requests.items k ≡ Some r
+      record_was k r at mine = elim (m.records.back k r at) [ inl was ↦ was | inr own ↦ absurd (other (sym mine ∙ own)) ]
+
+      sleeper_was : (k : ℕ) (z : SleeperRecord) → slice_get s'.sleepers.items k ≡ Some z → z.shown.worker ≡ j → slice_get s.sleepers.items k ≡ Some z
+      sleeper_was k z at mine = elim (m.sleepers.back k z at) [ inl was ↦ was | inr own ↦ absurd (other (sym mine ∙ own)) ]
+
+  -- THE BALANCES
+  gates : KeepsGates s.seats.items s'.seats.items
+  gates =
+      let it = m.seat in
+      let more = it.more in
+      gates_set w.index s.seats.items s'.seats.items it.chair (made_at it.places it.chair) it.set it.there
+      (record { left = refl; pool = refl; closed = refl; mail = λ mail. record { roots = mail.roots; empty = mail.empty; place = λ none. let some = mail.place none in omega (arith, some, more) } })
+
+  queues : map queue_of_chair s'.seats.items ≡ map queue_of_chair s.seats.items
+  queues = ap (map queue_of_chair) m.seat.set ∙ queues_set s.seats.items w.index m.seat.chair (made_at m.seat.places m.seat.chair) m.seat.there refl
+
+  pub whole_made : (x : Profile) → (Holds x s → Holds x s') → (HaveGates x.drops_by s.opens s.requests.items → HaveGates x.drops_by s'.opens s'.requests.items) → IsWhole x s → IsWhole x s'
+  whole_made x holds lines whole =
+      let it = handles in
+      let s1 : Shared B = shared_then in
+      let many : length s'.tasks.items ≡ length s.tasks.items = ap length it.items ∙ length-set s.tasks.items t slot' in
+      let seats : length s'.seats.items ≡ length s.seats.items = length_same s.seats.items s'.seats.items queues in
+      let stocks : (u : ℕ) → stock u s1 ≡ stock u s = λ u. ap (λ n. n + runnables_in u s.global.values) (stock_same u s.seats.items s'.seats.items queues) in
+      let done : IsWhole x s1 = record {
+        runnables = λ u o at home.
+            let old = was_there t s s' slot slot' it u o at in
+            subst (λ c. HasOne (may_let_go s) c.phase (x.runnables u + stock u s1)) (sym old.cell) (subst (λ n. HasOne (may_let_go s) old.was.cell.phase (x.runnables u + n)) (sym (stocks u)) (whole.runnables u old.was old.there (sym old.home ∙ home)));
+        polls = λ u o at home. let old = was_there t s s' slot slot' it u o at in whole.polls u old.was old.there (sym old.home ∙ home) ∙ ap (λ c. one_if (is_polled c.phase)) (sym old.cell);
+        claims = λ j chair at.
+            let old = queue_back s.seats.items s'.seats.items j chair queues at in
+            whole.claims j old.0 old.1 ∙ ap (λ (q : Queue Runnable). one_if (not (q.gap == 0))) (sym old.2);
+        counts = whole.counts;
+        bits = whole.bits;
+        set = whole.set;
+        queued_here = λ j chair r at has.
+            let old = queue_back s.seats.items s'.seats.items j chair queues at in
+            genuine_still t s s' slot slot' it r (whole.queued_here j old.0 r old.1 (subst (λ (q : Queue Runnable). Contains (q.values ++ q.held) r) old.2 has));
+        queued_there = λ r has. genuine_still t s s' slot slot' it r (whole.queued_there r has);
+        places = λ open_still. subst (λ n. n ≤ s.global.places) (sym many) (whole.places open_still);
+        made = λ u more. let old = whole.made u (subst (λ n. n ≤ u) many more) in (ap (λ n. x.runnables u + n) (stocks u) ∙ old.0, old.1);
+        unclaimed = λ j more. whole.unclaimed j (subst (λ n. n ≤ j) seats more);
+        in_pool = λ j chair at. let old = gates.back j chair at in old.2.pool ∙ whole.in_pool j old.0 old.1;
+        pool = pool_seats (duties_of x) s'.tasks.items s.set s.seats.items s'.seats.items gates
+            (pool_slot t w.index (duties_of x) (duties_of x) s.tasks.items s'.tasks.items s.set s.seats.items slot slot' it.there it.items
+            (record {
+              home = it.home;
+              cleared = λ home. it.cleared;
+              over = λ home over. ap (λ (c : TaskCell B). is_complete c.phase) it.cell ∙ over;
+              clears = λ u. refl;
+              polls_beside = λ j other. refl;
+              drops_beside = λ j other. refl;
+              polls_others = λ u other is. is;
+              polls = λ home polled.
+                  let by = whole.pool.who_polls t slot it.there home (ap (λ (c : TaskCell B). is_polled c.phase) (sym it.cell) ∙ polled) in
+                  subst (λ j. IsBefore j s.seats.items × (x.polled_by j ≡ Some t)) (sym it.poller) by;
+              clears_next = refl;
+              removes_next = λ u is. inl is;
+            }) whole.pool);
+        gates = lines whole.gates;
+        holding = subst (Holds x) all_kept (holds whole.holding);
+      } in
+      subst (IsWhole x) (sym all_kept) done
+
+  -- what the worker has of them is as it was
+  pub profile_made : (y : InPoll) → GoesOn t y → (others : Profile) → with_worker others (record v { place = Place.Poll t y }) ≡ with_worker others w
+  profile_made y on others =
+      let w1 : Worker = record w { place = Place.Poll t y } in
+      let wakes : v.home.deferred.notes.wakes.items ≡ w.home.deferred.notes.wakes.items = m.wakes ∙ sym (sound.quiet refl) in
+      ap (λ (z : Worker). with_worker others (record z { place = Place.Poll t y })) m.worker
+      ∙ ap (λ ms. record (with_worker others w1) { mail = λ x. others.mail x + mail_in x (mail_of_letters w.letters ++ ms); wakes = λ j u. if j == w.index then count_by (λ n. n.0 == u) v.home.deferred.notes.wakes.items else others.wakes j u }) m.batch
+      ∙ ap (λ ws. record (with_worker others w1) { wakes = λ j u. if j == w.index then count_by (λ n. n.0 == u) ws else others.wakes j u }) wakes
+      ∙ profile_same others w w1 (profile_here InPoll.Act y t w (from_act t) on sound.here)
+
+  pub beside_made : (y : InPoll) → GoesOn t y → (slot.poller ≡ w.index) → ((j : ℕ) → slot.home ≡ Some j → j ≡ w.index) → ((file : ℕ) → has_hint_at s.opens file ≡ false → has_hint_at s'.opens file ≡ false) → ((file offset n : ℕ) → HasStretch s.store file offset n → HasStretch s'.store file offset n)
+      → ((others : Profile) → Holds (with_worker others w) s → Holds (with_worker others w) s') → ((others : Profile) → HaveGates (with_worker others w).drops_by s.opens s.requests.items → HaveGates (with_worker others w).drops_by s'.opens s'.requests.items)
+      → Beside w s (record v { place = Place.Poll t y }) s'
+  beside_made y on poller home hints stretch holds lines =
+      record {
+        spares = spares_made poller home hints stretch;
+        whole = λ others whole. subst (λ x. IsWhole x s') (sym (profile_made y on others)) (whole_made (with_worker others w) (holds others) (lines others) whole);
+      }
+
+-- A DURABLE ONE joins its gate next
+
+module _ {B : Type 0} (t k : ℕ) (w : Worker) (s : Shared B) where
+  abbrev acts_here : Worker
+  acts_here = record w { place = Place.Poll t InPoll.Act }
+
+  abbrev joins_here : Worker
+  joins_here = record w { place = Place.Poll t (InPoll.JoinGate k) }
+
+  whole_joins : JoinsGate w.index k s.opens s.requests.items → (others : Profile) → IsWhole (with_worker others acts_here) s → IsWhole (with_worker others joins_here) s
+  whole_joins joins others whole =
+      let a : Drops = drops_at (Place.Poll t InPoll.Act) in
+      let b : Drops = drops_at (Place.Poll t (InPoll.JoinGate k)) in
+      let d = duties_of (with_worker others acts_here) in
+      let d1 = duties_of (with_worker others joins_here) in
+      let pool : IsPool d1 s.tasks.items s.set s.seats.items = pool_drops d d1 s.tasks.items s.set s.seats.items refl refl (λ j. clears (j == w.index) (others.drops_by j)) (λ j. removes (j == w.index) (others.drops_by j)) whole.pool in
+      let gates : HaveGates (with_worker others joins_here).drops_by s.opens s.requests.items = record {
+        passes = λ j file is.
+            by_number j w.index
+            (λ other. whole.gates.passes j file (ap (λ (x : Drops). x.passes) (chosen_other j w.index a (others.drops_by j) other ∙ sym (chosen_other j w.index b (others.drops_by j) other)) ∙ is))
+            (λ same. let no : None ≡ Some file = sym (ap (λ (x : Drops). x.passes) (chosen_own w.index b (others.drops_by w.index))) ∙ ap (λ n. ((with_worker others joins_here).drops_by n).passes) (sym same) ∙ is in absurd (cc));
+        joins = λ j l is.
+            by_number j w.index
+            (λ other. whole.gates.joins j l (ap (λ (x : Drops). x.joins) (chosen_other j w.index a (others.drops_by j) other ∙ sym (chosen_other j w.index b (others.drops_by j) other)) ∙ is))
+            (λ same.
+            let which : k ≡ l = let both : Some k ≡ Some l = sym (ap (λ (x : Drops). x.joins) (chosen_own w.index b (others.drops_by w.index))) ∙ ap (λ n. ((with_worker others joins_here).drops_by n).joins) (sym same) ∙ is in cc in
+            subst (λ n. JoinsGate n l s.opens s.requests.items) (sym same) (subst (λ n. JoinsGate w.index n s.opens s.requests.items) which joins));
+      } in
+      assumption (pool, gates, whole)
+    where
+      clears : (b : Bool) (o : Drops) → (if b then drops_at (Place.Poll t (InPoll.JoinGate k)) else o).clears ≡ (if b then drops_at (Place.Poll t InPoll.Act) else o).clears
+      clears true o = refl
+      clears false o = refl
+
+      removes : (b : Bool) (o : Drops) → (if b then drops_at (Place.Poll t (InPoll.JoinGate k)) else o).removes ≡ (if b then drops_at (Place.Poll t InPoll.Act) else o).removes
+      removes true o = refl
+      removes false o = refl
+
+  pub beside_joins : (before : Worker) (s0 : Shared B) → JoinsGate w.index k s.opens s.requests.items → Beside before s0 (record w { place = Place.Poll t InPoll.Act }) s → Beside before s0 (record w { place = Place.Poll t (InPoll.JoinGate k) }) s
+  beside_joins before s0 joins beside = record { spares = beside.spares; whole = λ others whole. whole_joins joins others (beside.whole others whole) }

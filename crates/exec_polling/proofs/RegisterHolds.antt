@@ -1,0 +1,511 @@
+-- What tasks hold once one made a request, which it holds, or a sleeper, for which it waits. Its worker's inbox got places first.
+use Rattle.std.proofs.{Common.{◌≡◌, ◌≢◌, ◌⊎◌, ℕ, suc, zero, not, ◌&&◌, ◌+◌, ◌*◌, ◌<◌, ◌≤◌, ◌==◌, Bool, true, false, cond, Contains, List, [], ◌∷◌, ◌++◌, count_by, length, sum_by, Option, Some, None, refl, sym, ap, subst, ◌∙◌, arith, inl, inr, slice_get, slice_set}, lemmas.{Bool.{false≢true, eq-eqb}, List.{length-set, Sums.{sum_by-append, sum_by-cons}}, Option.slice_get_within}}
+use Rattle.exec_machine.specs.{declared.state.Forwarding.TheVariants.{Unsent}, Tests.is_unsent}
+use Rattle.exec_words.specs.declared.inbox.Message.{Message}
+use Rattle.exec_outcomes.specs.declared.outcome.Outcome.{Outcome}
+use Rattle.exec_parts.{specs.declared.parts.{held.Held.Held, mail.Subject.Subject}, proofs.{Facts.{by_number, not_same, same_thing, set_elsewhere, set_there}, Taken.{got_new, got_old, was_got}}}
+use Rattle.exec_invariants.{specs.{Holding.{Awaits, AwaitsNap, Box, Hands, Holder, HoldsRequest, IsAbout, IsForwarded, IsHeldBy, IsHolding, IsOf, IsOrdinary, IsOwed, Mail, MayHave, Nap, Owes, Thing, holdings, is_awaited_by, mail_in, same_mail, under_way, waiters}, Places.one_if}, proofs.{HoldMail.mail_is, HoldRedo.{count_set, sum_set}}}
+use Rattle.exec_parts.specs.declared.parts.mail.Subject.TheVariants as subject
+
+-- LISTS
+
+none_counted : {X : Type 0} (p : X → Bool) (xs : List X) → ((k : ℕ) (x : X) → slice_get xs k ≡ Some x → p x ≡ false) → count_by p xs ≡ 0
+none_counted p [] none = refl
+none_counted p (x ∷ xs) none =
+    let one : Bool → ℕ = λ b. cond b 1 0 in
+    let here : one (p x) ≡ 0 = ap one (none 0 x refl) in
+    sum_by-cons (λ y. cond (p y) 1 0) x xs ∙ omega (arith, here, none_counted p xs (λ k y there. none (suc k) y there))
+
+none_summed : {X : Type 0} (f : X → ℕ) (xs : List X) → ((k : ℕ) (x : X) → slice_get xs k ≡ Some x → f x ≡ 0) → sum_by f xs ≡ 0
+none_summed f [] none = refl
+none_summed f (x ∷ xs) none =
+    let here : f x ≡ 0 = none 0 x refl in
+    sum_by-cons f x xs ∙ omega (arith, here, none_summed f xs (λ k y there. none (suc k) y there))
+
+abbrev weigh : Bool → ℕ
+weigh b = cond b 1 0
+
+-- what is counted is there
+counted_there : {X : Type 0} (p : X → Bool) (xs : List X) → (count_by p xs ≡ 0 → ⊥) → (x : X) × Contains xs x × (p x ≡ true)
+counted_there {X} p [] some = absurd (some refl)
+counted_there {X} p (x ∷ xs) some = by (counted_there p xs) (p x) refl
+  where
+    by : ((count_by p xs ≡ 0 → ⊥) → (y : X) × Contains xs y × (p y ≡ true)) → (b : Bool) → p x ≡ b → (y : X) × Contains (x ∷ xs) y × (p y ≡ true)
+    by rest true is = (x, (0, omega arith, refl), is)
+    by rest false is =
+        let here : weigh (p x) ≡ 0 = ap weigh is in
+        let it = rest (λ none. some (sum_by-cons (λ y. cond (p y) 1 0) x xs ∙ omega (arith, here, none))) in
+        let few = it.1.1 in
+        (it.0, (suc it.1.0, omega (arith, few), it.1.2), it.2)
+
+by_zero : {P : Type 0} (n : ℕ) → (n ≡ 0 → P) → ((n ≡ 0 → ⊥) → P) → P
+by_zero zero here some = here refl
+by_zero (suc n) here some = some (λ is. absurd (omega (arith, is)))
+
+-- PLACES: the inbox of a worker got some, and one more was made there
+
+abbrev pub placed_in : ℕ → Box → Box
+placed_in n box = record box { places = n; made = box.made + 1 }
+
+module _ (h : Hands) (workers : ℕ) (hs : List Holder) (ts : List Thing) (naps : List Nap) (boxes : List Box) (i n : ℕ) (box : Box) (at : slice_get boxes i ≡ Some box) (room : 2 * (box.made + 1) + 1 ≤ n) where
+  abbrev boxes_then : List Box
+  boxes_then = slice_set boxes i (placed_in n box)
+
+  -- a box was there, with the same messages
+  record WasBox (j : ℕ) (now : Box) : Type 0 where
+    was : Box
+    there : slice_get boxes j ≡ Some was
+    shut : now.shut ≡ was.shut
+    closing : now.closing ≡ was.closing
+    messages : now.messages ≡ was.messages
+    made : was.made ≤ now.made
+    places : (j ≡ i → ⊥) → (now.places ≡ was.places) × (now.made ≡ was.made)
+    fits : j ≡ i → 2 * now.made + 1 ≤ now.places
+
+  was_box : (j : ℕ) (now : Box) → slice_get (slice_set boxes i (placed_in n box)) j ≡ Some now → WasBox j now
+  was_box j now there =
+      by_number j i
+      (λ other. record { was = now; there = sym (set_elsewhere boxes i j (placed_in n box) other) ∙ there; shut = refl; closing = refl; messages = refl; made = omega arith; places = λ apart. (refl, refl); fits = λ same. absurd (other same) })
+      (λ same.
+      let is : placed_in n box ≡ now = same_thing (placed_in n box) now (sym (set_there boxes i (placed_in n box) box at) ∙ ap (slice_get (slice_set boxes i (placed_in n box))) (sym same) ∙ there) in
+      subst (WasBox j) is (record { was = box; there = ap (slice_get boxes) same ∙ at; shut = refl; closing = refl; messages = refl; made = omega arith; places = λ apart. absurd (apart same); fits = λ e. room }))
+
+  way_on : (m : Mail) → under_way h m boxes_then ≡ under_way h m boxes
+  way_on m = let sums = sum_set (λ (b : Box). mail_in m b.messages) boxes i box (placed_in n box) at in omega (arith, sums)
+
+  owes_on : (j t : ℕ) (a : Option Subject) → Owes j t a ts naps boxes → Owes j t a ts naps (slice_set boxes i (placed_in n box))
+  owes_on j t None owes = owes
+  owes_on j t (Some (subject.Timer k)) owes = owes
+  owes_on j t (Some (subject.Request k)) owes = (
+    owes.0,
+    owes.1,
+    record {
+      worker = owes.2.worker;
+      waiter = owes.2.waiter;
+      unpaid = owes.2.unpaid;
+      unsent = owes.2.unsent;
+      over = elim owes.2.over [ inl over ↦ inl over | inr lost ↦ inr (lost.0, λ now there. let b = was_box j now there in b.closing ∙ lost.1 b.was b.there) ];
+    },
+  )
+
+  pub holding_placed : IsHolding h workers hs ts naps boxes → IsHolding h workers hs ts naps (slice_set boxes i (placed_in n box))
+  holding_placed old =
+      record {
+        held = λ k r now there at_box.
+            let b = was_box r.worker now at_box in
+            subst (λ c. IsHeldBy c r.observed (holdings k hs) (under_way h (Message.Cancel (subject.Request k)) boxes_then)) (sym b.shut)
+            (subst (IsHeldBy b.was.shut r.observed (holdings k hs)) (sym (way_on (Message.Cancel (subject.Request k)))) (old.held k r b.was there b.there));
+        forwarded = λ k r now there at_box.
+            let b = was_box r.worker now at_box in
+            subst (λ c. IsForwarded c r.forwarding (under_way h (Message.Forward (subject.Request k)) boxes_then)) (sym b.shut)
+            (subst (IsForwarded b.was.shut r.forwarding) (sym (way_on (Message.Forward (subject.Request k)))) (old.forwarded k r b.was there b.there));
+        asked = old.asked;
+        waited = old.waited;
+        holds = old.holds;
+        awaiting = old.awaiting;
+        asleep = old.asleep;
+        over = old.over;
+        sleeps = old.sleeps;
+        let_go = λ k z now there at_box open_box.
+            let b = was_box z.worker now at_box in
+            subst (λ m. waiters (subject.Timer k) hs + m ≤ 1) (sym (way_on (Message.Cancel (subject.Timer k)))) (old.let_go k z b.was there b.there (sym b.shut ∙ open_box));
+        asked_too = old.asked_too;
+        let_be = old.let_be;
+        woken = λ k z now there at_box.
+            let b = was_box z.worker now at_box in
+            subst (λ c. IsForwarded c z.forwarding (under_way h (Message.Forward (subject.Timer k)) boxes_then)) (sym b.shut)
+            (subst (IsForwarded b.was.shut z.forwarding) (sym (way_on (Message.Forward (subject.Timer k)))) (old.woken k z b.was there b.there));
+        owed = λ j t some. let o = old.owed j t some in (o.0, record { it = o.1.it; there = o.1.there; owes = owes_on j t o.1.it.awaits o.1.owes });
+        about = λ j now m at_box has. let b = was_box j now at_box in old.about j b.was m b.there (subst (λ ms. Contains ms m) b.messages has);
+        room = λ j now at_box.
+            let b = was_box j now at_box in
+            let place = old.room j b.was b.there in
+            let made = place.made in
+            let more = b.made in
+            record {
+              made = omega (arith, made, more);
+              places = λ open_box.
+                  by_number j i
+                  (λ other. let same = b.places other in let most = place.places (sym b.shut ∙ open_box) in omega (arith, most, same.0, same.1))
+                  (λ same. b.fits same);
+            };
+        sent = old.sent;
+        sent_too = old.sent_too;
+        made = old.made;
+        of_worker = λ k r there. subst (λ m. r.worker < m) (sym (length-set boxes i (placed_in n box))) (old.of_worker k r there);
+        of_worker_too = λ k z there. subst (λ m. z.worker < m) (sym (length-set boxes i (placed_in n box))) (old.of_worker_too k z there);
+      }
+
+-- THE HOLDER that made it
+
+-- task t isn't over and waits for nothing, and may have what worker i has, whose inbox is open, and where more was made than counted
+pub record MayHold (workers i t : ℕ) (hs : List Holder) (ts : List Thing) (naps : List Nap) (boxes : List Box) : Type 0 where
+  pub it : Holder
+  pub there : slice_get hs t ≡ Some it
+  pub going : it.over ≡ false
+  pub waits : it.awaits ≡ None
+  pub near : MayHave workers it.home i
+  pub box : Box
+  pub at : slice_get boxes i ≡ Some box
+  pub open_box : box.shut ≡ false
+  pub fewer : count_by (λ (r : Thing). r.worker == i) ts + count_by (λ (z : Nap). z.worker == i) naps + 1 ≤ box.made
+
+module _ (h : Hands) (workers i t : ℕ) (hs : List Holder) (ts : List Thing) (naps : List Nap) (boxes : List Box) (may : MayHold workers i t hs ts naps boxes) (old : IsHolding h workers hs ts naps boxes) where
+  -- nothing is under way about what isn't there
+  not_about : (m : Mail) → ((j : ℕ) → IsAbout workers j m ts naps → ⊥) → under_way h m boxes ≡ 0
+  not_about m never =
+      let hands : h.mail m ≡ 0 = by_zero (h.mail m) (λ none. none) (λ some. let it = old.made m (positive (h.mail m) some) in absurd (never it.0 it.1)) in
+      let inboxes : sum_by (λ (box : Box). mail_in m box.messages) boxes ≡ 0 = none_summed (λ (box : Box). mail_in m box.messages) boxes (λ j box at.
+      by_zero (mail_in m box.messages) (λ none. none) (λ some. absurd (in_box j box at some))) in
+      omega (arith, hands, inboxes)
+    where
+      positive : (n : ℕ) → (n ≡ 0 → ⊥) → 0 < n
+      positive zero some = absurd (some refl)
+      positive (suc n) some = omega arith
+
+      in_box : (j : ℕ) (box : Box) → slice_get boxes j ≡ Some box → (mail_in m box.messages ≡ 0 → ⊥) → ⊥
+      in_box j box at some =
+          let it = counted_there (λ other. same_mail m other) box.messages some in
+          never j (subst (λ x. IsAbout workers j x ts naps) (sym (mail_is m it.0 it.2)) (old.about j box it.0 at it.1))
+
+  never_request : (j : ℕ) → IsOf workers j (subject.Request (length ts)) ts naps → ⊥
+  never_request j is = let within = slice_get_within ts (length ts) is.0 is.1 in omega (arith, within)
+
+  never_timer : (j : ℕ) → IsOf workers j (subject.Timer (length naps)) ts naps → ⊥
+  never_timer j is = let within = slice_get_within naps (length naps) is.0 is.1 in omega (arith, within)
+
+  -- nor held, nor waited for
+  unheld : holdings (length ts) hs ≡ 0
+  unheld = none_summed (λ (o : Holder). count_by (λ (x : Held). x.number == length ts) o.held) hs (λ u o at.
+      none_counted (λ (x : Held). x.number == length ts) o.held (λ j x there.
+      let held = old.holds u o j x at there in
+      let within = slice_get_within ts x.number held.0 held.1 in
+      not_same x.number (length ts) (λ same. omega (arith, within, same))))
+
+  unawaited : waiters (subject.Timer (length naps)) hs ≡ 0
+  unawaited = none_counted (λ (o : Holder). not o.over && is_awaited_by (subject.Timer (length naps)) o.awaits) hs (λ u o at. by u o at o.awaits refl)
+    where
+      and_no : (a b : Bool) → b ≡ false → (a && b) ≡ false
+      and_no true b is = is
+      and_no false b is = refl
+
+      by : (u : ℕ) (o : Holder) → slice_get hs u ≡ Some o → (a : Option Subject) → o.awaits ≡ a → (not o.over && is_awaited_by (subject.Timer (length naps)) a) ≡ false
+      by u o at None is = and_no (not o.over) false refl
+      by u o at (Some (subject.Request k)) is = and_no (not o.over) false refl
+      by u o at (Some (subject.Timer k)) is =
+          let nap = old.asleep u o k at is in
+          let within = slice_get_within naps k nap.0 nap.1 in
+          and_no (not o.over) (length naps == k) (not_same (length naps) k (λ same. omega (arith, within, same)))
+
+  -- what was there is so still
+  subject_on : (ts' : List Thing) (naps' : List Nap) → ((k : ℕ) (r : Thing) → slice_get ts k ≡ Some r → slice_get ts' k ≡ Some r) → ((k : ℕ) (z : Nap) → slice_get naps k ≡ Some z → slice_get naps' k ≡ Some z) → (j : ℕ) (s : Subject) → IsOf workers j s ts naps → IsOf workers j s ts' naps'
+  subject_on ts' naps' things_on naps_on j (subject.Request k) is = (is.0, things_on k is.0 is.1, is.2, is.3)
+  subject_on ts' naps' things_on naps_on j (subject.Timer k) is = (is.0, naps_on k is.0 is.1, is.2, is.3)
+
+  about_on : (ts' : List Thing) (naps' : List Nap) → ((k : ℕ) (r : Thing) → slice_get ts k ≡ Some r → slice_get ts' k ≡ Some r) → ((k : ℕ) (z : Nap) → slice_get naps k ≡ Some z → slice_get naps' k ≡ Some z) → (j : ℕ) (m : Mail) → IsAbout workers j m ts naps → IsAbout workers j m ts' naps'
+  about_on ts' naps' things_on naps_on j Message.WakeRoot is = tt
+  about_on ts' naps' things_on naps_on j (Message.Forward s) is = subject_on ts' naps' things_on naps_on j s is
+  about_on ts' naps' things_on naps_on j (Message.Cancel s) is = subject_on ts' naps' things_on naps_on j s is
+
+  owes_still : (ts' : List Thing) (naps' : List Nap) → ((k : ℕ) (r : Thing) → slice_get ts k ≡ Some r → slice_get ts' k ≡ Some r) → ((k : ℕ) (z : Nap) → slice_get naps k ≡ Some z → slice_get naps' k ≡ Some z) → (j u : ℕ) (a : Option Subject) → Owes j u a ts naps boxes → Owes j u a ts' naps' boxes
+  owes_still ts' naps' things_on naps_on j u None owes = owes
+  owes_still ts' naps' things_on naps_on j u (Some (subject.Request k)) owes = (owes.0, things_on k owes.0 owes.1, owes.2)
+  owes_still ts' naps' things_on naps_on j u (Some (subject.Timer k)) owes = (owes.0, naps_on k owes.0 owes.1, owes.2)
+
+  -- another task, or this one
+  by_holder : {P : Type 0} (it' : Holder) (u : ℕ) (o : Holder) → slice_get (slice_set hs t it') u ≡ Some o → (u ≡ t → it' ≡ o → P) → ((u ≡ t → ⊥) → slice_get hs u ≡ Some o → P) → P
+  by_holder it' u o at same other =
+      by_number u t
+      (λ apart. other apart (sym (set_elsewhere hs t u it' apart) ∙ at))
+      (λ is. same is (same_thing it' o (sym (set_there hs t it' may.it may.there) ∙ ap (slice_get (slice_set hs t it')) (sym is) ∙ at)))
+
+  -- who waits for something is another
+  awaits_on : (it' : Holder) (s : Subject) (u : ℕ) → Awaits s u hs → Awaits s u (slice_set hs t it')
+  awaits_on it' s u a =
+      by_number u t
+      (λ apart. record { it = a.it; there = set_elsewhere hs t u it' apart ∙ a.there; awaits = a.awaits })
+      (λ same.
+      let is : may.it ≡ a.it = same_thing may.it a.it (sym may.there ∙ ap (slice_get hs) (sym same) ∙ a.there) in
+      absurd (let no : None ≡ Some s = sym may.waits ∙ ap (λ (x : Holder). x.awaits) is ∙ a.awaits in cc))
+
+  ordinary_on : (it' : Holder) → it'.home ≡ may.it.home → (u : ℕ) → IsOrdinary u hs → IsOrdinary u (slice_set hs t it')
+  ordinary_on it' home u is =
+      by_number u t
+      (λ apart. record { it = is.it; there = set_elsewhere hs t u it' apart ∙ is.there; home = is.home })
+      (λ same.
+      let one : may.it ≡ is.it = same_thing may.it is.it (sym may.there ∙ ap (slice_get hs) (sym same) ∙ is.there) in
+      record { it = it'; there = ap (slice_get (slice_set hs t it')) same ∙ set_there hs t it' may.it may.there; home = home ∙ ap (λ (x : Holder). x.home) one ∙ is.home })
+
+  owed_on : (it' : Holder) (ts' : List Thing) (naps' : List Nap) → ((k : ℕ) (r : Thing) → slice_get ts k ≡ Some r → slice_get ts' k ≡ Some r) → ((k : ℕ) (z : Nap) → slice_get naps k ≡ Some z → slice_get naps' k ≡ Some z) → (j u : ℕ) → IsOwed j u hs ts naps boxes → IsOwed j u (slice_set hs t it') ts' naps' boxes
+  owed_on it' ts' naps' things_on naps_on j u o =
+      by_number u t
+      (λ apart. record { it = o.it; there = set_elsewhere hs t u it' apart ∙ o.there; owes = owes_still ts' naps' things_on naps_on j u o.it.awaits o.owes })
+      (λ same.
+      let is : may.it ≡ o.it = same_thing may.it o.it (sym may.there ∙ ap (slice_get hs) (sym same) ∙ o.there) in
+      absurd (subst (λ a. Owes j u a ts naps boxes) (sym (ap (λ (x : Holder). x.awaits) is) ∙ may.waits) o.owes))
+
+  in_last : {A : Type 0} (xs : List A) (y x : A) (k : ℕ) → slice_get (xs ++ y ∷ []) k ≡ Some x → (slice_get xs k ≡ Some x) ⊎ ((k ≡ length xs) × (y ≡ x))
+  in_last xs y x k at = was_got xs y x k at
+
+  -- A REQUEST, which it holds
+
+  abbrev pub holds_it : Holder
+  holds_it = record may.it { held = may.it.held ++ record { number = length ts; worker = i } ∷ [] }
+
+  abbrev pub new_thing : Option Outcome → Thing
+  new_thing o = record { worker = i; observed = true; waiter = None; forwarding = Unsent; ended = o; paid = 0; sent = false }
+
+  pub holding_registered : (o : Option Outcome) → IsHolding h workers (slice_set hs t holds_it) (ts ++ new_thing o ∷ []) naps boxes
+  holding_registered o =
+      let k : ℕ = length ts in
+      let new : Thing = new_thing o in
+      let ts' : List Thing = ts ++ new ∷ [] in
+      let hs' : List Holder = slice_set hs t holds_it in
+      let on : (n : ℕ) (r : Thing) → slice_get ts n ≡ Some r → slice_get ts' n ≡ Some r = λ n r at. got_old ts new r n at in
+      let stays : (n : ℕ) (z : Nap) → slice_get naps n ≡ Some z → slice_get naps n ≡ Some z = λ n z at. at in
+      let more : (n : ℕ) → holdings n hs' ≡ holdings n hs + weigh (length ts == n) = λ n.
+      let sums = sum_set (λ (y : Holder). count_by (λ (x : Held). x.number == n) y.held) hs t may.it holds_it may.there in
+      let last = sum_by-append (λ (x : Held). cond (x.number == n) 1 0) may.it.held (record { number = length ts; worker = i } ∷ []) in
+      omega (arith, sums, last) in
+      let apart : (n : ℕ) → n < k → holdings n hs' ≡ holdings n hs = λ n few.
+      let none : weigh (length ts == n) ≡ 0 = ap weigh (not_same (length ts) n (λ same. omega (arith, few, same))) in
+      omega (arith, more n, none) in
+      let here : holdings k hs' ≡ 1 =
+      let one : weigh (length ts == length ts) ≡ 1 = ap weigh (eq-eqb (length ts) (length ts) refl) in
+      omega (arith, more k, one, unheld) in
+      record {
+        held = λ n r box at at_box.
+            elim (in_last ts new r n at) [
+              | inl was ↦ let few = slice_get_within ts n r was in subst (λ a. IsHeldBy box.shut r.observed a (under_way h (Message.Cancel (subject.Request n)) boxes)) (sym (apart n few)) (old.held n r box was at_box)
+              | inr last ↦
+                  let box_is : may.box ≡ box = same_thing may.box box (sym may.at ∙ ap (λ (x : Thing). slice_get boxes x.worker) last.1 ∙ at_box) in
+                  let shut : box.shut ≡ false = ap (λ (b : Box). b.shut) (sym box_is) ∙ may.open_box in
+                  let none : under_way h (Message.Cancel (subject.Request n)) boxes ≡ 0 = ap (λ m. under_way h (Message.Cancel (subject.Request m)) boxes) last.0 ∙ not_about (Message.Cancel (subject.Request k)) never_request in
+                  let one : holdings n hs' ≡ 1 = ap (λ m. holdings m hs') last.0 ∙ here in
+                  let seen : one_if r.observed ≡ 1 = ap (λ (x : Thing). one_if x.observed) (sym last.1) in
+                  subst (λ c. IsHeldBy c r.observed (holdings n hs') (under_way h (Message.Cancel (subject.Request n)) boxes)) (sym shut) (let sum : holdings n hs' + under_way h (Message.Cancel (subject.Request n)) boxes ≡ one_if r.observed = omega (arith, one, none, seen) in sum)
+            ];
+        forwarded = λ n r box at at_box.
+            elim (in_last ts new r n at) [
+              | inl was ↦ old.forwarded n r box was at_box
+              | inr last ↦
+                  let box_is : may.box ≡ box = same_thing may.box box (sym may.at ∙ ap (λ (x : Thing). slice_get boxes x.worker) last.1 ∙ at_box) in
+                  let shut : box.shut ≡ false = ap (λ (b : Box). b.shut) (sym box_is) ∙ may.open_box in
+                  let none : under_way h (Message.Forward (subject.Request n)) boxes ≡ 0 = ap (λ m. under_way h (Message.Forward (subject.Request m)) boxes) last.0 ∙ not_about (Message.Forward (subject.Request k)) never_request in
+                  subst (λ (x : Thing). IsForwarded box.shut x.forwarding (under_way h (Message.Forward (subject.Request n)) boxes)) last.1 (subst (λ c. IsForwarded c Unsent (under_way h (Message.Forward (subject.Request n)) boxes)) (sym shut) none)
+            ];
+        asked = λ n r at sent.
+            elim (in_last ts new r n at) [
+              | inl was ↦ let a = old.asked n r was sent in (a.0, a.1, ordinary_on holds_it refl a.0 a.2)
+              | inr last ↦ absurd (false≢true (sym (ap (λ (x : Thing). is_unsent x.forwarding) last.1 ∙ sent)))
+            ];
+        waited = λ n r u at waiter due.
+            elim (in_last ts new r n at) [
+              | inl was ↦ awaits_on holds_it (subject.Request n) u (old.waited n r u was waiter due)
+              | inr last ↦ absurd (let no : None ≡ Some u = ap (λ (x : Thing). x.waiter) last.1 ∙ waiter in cc)
+            ];
+        holds = λ u y j x at_u at_j.
+            by_holder holds_it u y at_u
+            (λ is same.
+            let found : slice_get holds_it.held j ≡ Some x = ap (λ (z : Holder). slice_get z.held j) same ∙ at_j in
+            elim (in_last may.it.held (record { number = length ts; worker = i }) x j found) [
+              | inl was ↦
+                  let held = old.holds t may.it j x may.there was in
+                  (held.0, on x.number held.0 held.1, subst (λ n. HoldsRequest workers n y x held.0) (sym is) (subst (λ (z : Holder). HoldsRequest workers t z x held.0) same (record { worker = held.2.worker; near = held.2.near; here = held.2.here; waiter = held.2.waiter; awaited = held.2.awaited })))
+              | inr last ↦ (
+                new,
+                ap (λ (z : Held). slice_get ts' z.number) (sym last.1) ∙ got_new ts new,
+                subst (λ n. HoldsRequest workers n y x new) (sym is) (subst (λ (z : Holder). HoldsRequest workers t z x new) same (subst (λ (z : Held). HoldsRequest workers t holds_it z new) last.1
+                    (record { worker = refl; near = may.near; here = λ some. refl; waiter = λ v never. absurd (let no : None ≡ Some v = never in cc); awaited = λ sent. absurd (false≢true (sym sent)) }))),
+              )
+            ])
+            (λ apart was. let held = old.holds u y j x was at_j in (held.0, on x.number held.0 held.1, held.2));
+        awaiting = λ u y n at_u awaits.
+            by_holder holds_it u y at_u
+            (λ is same. absurd (let no : None ≡ Some (subject.Request n) = sym may.waits ∙ ap (λ (z : Holder). z.awaits) same ∙ awaits in cc))
+            (λ apart was. let it = old.awaiting u y n was awaits in (it.0, on n it.0 it.1, it.2));
+        asleep = λ u y n at_u awaits.
+            by_holder holds_it u y at_u
+            (λ is same. absurd (let no : None ≡ Some (subject.Timer n) = sym may.waits ∙ ap (λ (z : Holder). z.awaits) same ∙ awaits in cc))
+            (λ apart was. old.asleep u y n was awaits);
+        over = λ u y at_u over.
+            by_holder holds_it u y at_u
+            (λ is same. absurd (false≢true (sym may.going ∙ ap (λ (z : Holder). z.over) same ∙ over)))
+            (λ apart was. old.over u y was over);
+        sleeps = λ n z at unfired kept. awaits_on holds_it (subject.Timer n) z.task (old.sleeps n z at unfired kept);
+        let_go = λ n z box at at_box open_box.
+            subst (λ a. a + under_way h (Message.Cancel (subject.Timer n)) boxes ≤ 1) (sym (count_set (λ (y : Holder). not y.over && is_awaited_by (subject.Timer n) y.awaits) hs t may.it holds_it may.there refl)) (old.let_go n z box at at_box open_box);
+        asked_too = λ n z at sent. ordinary_on holds_it refl z.task (old.asked_too n z at sent);
+        let_be = λ n z at closed. ordinary_on holds_it refl z.task (old.let_be n z at closed);
+        woken = old.woken;
+        owed = λ j u some. let was = old.owed j u some in (was.0, owed_on holds_it ts' naps on stays j u was.1);
+        about = λ j box m at_box has. about_on ts' naps on stays j m (old.about j box m at_box has);
+        room = λ j box at_box.
+            let place = old.room j box at_box in
+            let made = place.made in
+            let last = sum_by-append (λ (x : Thing). cond (x.worker == j) 1 0) ts (new ∷ []) in
+            record {
+              made = by_number j i
+                  (λ other.
+                  let none : weigh (i == j) ≡ 0 = ap weigh (not_same i j (λ same. other (sym same))) in
+                  omega (arith, made, last, none))
+                  (λ same.
+                  let one : weigh (i == j) ≤ 1 = at_most (i == j) in
+                  let box_is : may.box ≡ box = same_thing may.box box (sym may.at ∙ ap (slice_get boxes) (sym same) ∙ at_box) in
+                  let room_there : count_by (λ (r : Thing). r.worker == j) ts + count_by (λ (z : Nap). z.worker == j) naps + 1 ≤ box.made = subst (λ n. count_by (λ (r : Thing). r.worker == n) ts + count_by (λ (z : Nap). z.worker == n) naps + 1 ≤ box.made) (sym same) (subst (λ (b : Box). count_by (λ (r : Thing). r.worker == i) ts + count_by (λ (z : Nap). z.worker == i) naps + 1 ≤ b.made) box_is may.fewer) in
+                  omega (arith, room_there, last, one));
+              places = place.places;
+            };
+        sent = λ n r at is.
+            elim (in_last ts new r n at) [
+              | inl was ↦ old.sent n r was is
+              | inr last ↦ absurd (false≢true (ap (λ (x : Thing). x.sent) last.1 ∙ is))
+            ];
+        sent_too = old.sent_too;
+        made = λ m some. let it = old.made m some in (it.0, about_on ts' naps on stays it.0 m it.1);
+        of_worker = λ n r at.
+            elim (in_last ts new r n at) [
+              | inl was ↦ old.of_worker n r was
+              | inr last ↦ subst (λ (x : Thing). x.worker < length boxes) last.1 (slice_get_within boxes i may.box may.at)
+            ];
+        of_worker_too = old.of_worker_too;
+      }
+    where
+      at_most : (b : Bool) → weigh b ≤ 1
+      at_most true = omega arith
+      at_most false = omega arith
+
+  -- A SLEEPER, for which it waits
+
+  abbrev pub waits_for_it : Holder
+  waits_for_it = record may.it { awaits = Some (subject.Timer (length naps)) }
+
+  abbrev pub new_nap : Nap
+  new_nap = record { worker = i; task = t; fired = false; removed = false; closed = false; forwarding = Unsent; paid = 0; sent = false }
+
+  pub holding_slept : IsHolding h workers (slice_set hs t waits_for_it) ts (naps ++ new_nap ∷ []) boxes
+  holding_slept =
+      let k : ℕ = length naps in
+      let new : Nap = new_nap in
+      let naps' : List Nap = naps ++ new ∷ [] in
+      let hs' : List Holder = slice_set hs t waits_for_it in
+      let stays : (n : ℕ) (r : Thing) → slice_get ts n ≡ Some r → slice_get ts n ≡ Some r = λ n r at. at in
+      let on : (n : ℕ) (z : Nap) → slice_get naps n ≡ Some z → slice_get naps' n ≡ Some z = λ n z at. got_old naps new z n at in
+      let same_held : (n : ℕ) → holdings n hs' ≡ holdings n hs = λ n. let sums = sum_set (λ (y : Holder). count_by (λ (x : Held). x.number == n) y.held) hs t may.it waits_for_it may.there in omega (arith, sums) in
+      let waits_now : (n : ℕ) → waiters (subject.Timer n) hs' ≡ waiters (subject.Timer n) hs + weigh (n == length naps) = λ n.
+      let sums = sum_set (λ (y : Holder). cond (not y.over && is_awaited_by (subject.Timer n) y.awaits) 1 0) hs t may.it waits_for_it may.there in
+      let before : weigh (not may.it.over && is_awaited_by (subject.Timer n) may.it.awaits) ≡ 0 = ap (λ a. weigh (not may.it.over && is_awaited_by (subject.Timer n) a)) may.waits ∙ ap weigh (never_and (not may.it.over)) in
+      let after : weigh (not may.it.over && (n == length naps)) ≡ weigh (n == length naps) = ap (λ o. weigh (not o && (n == length naps))) may.going in
+      omega (arith, sums, before, after) in
+      record {
+        held = λ n r box at at_box. subst (λ a. IsHeldBy box.shut r.observed a (under_way h (Message.Cancel (subject.Request n)) boxes)) (sym (same_held n)) (old.held n r box at at_box);
+        forwarded = old.forwarded;
+        asked = λ n r at sent. let a = old.asked n r at sent in (a.0, a.1, ordinary_on waits_for_it refl a.0 a.2);
+        waited = λ n r u at waiter due. awaits_on waits_for_it (subject.Request n) u (old.waited n r u at waiter due);
+        holds = λ u y j x at_u at_j.
+            by_holder waits_for_it u y at_u
+            (λ is same.
+            let found : slice_get may.it.held j ≡ Some x = ap (λ (z : Holder). slice_get z.held j) same ∙ at_j in
+            let held = old.holds t may.it j x may.there found in (
+              held.0,
+              held.1,
+              subst (λ n. HoldsRequest workers n y x held.0) (sym is) (subst (λ (z : Holder). HoldsRequest workers t z x held.0) same
+                  (record { worker = held.2.worker; near = held.2.near; here = held.2.here; waiter = held.2.waiter; awaited = λ sent. absurd (let no : None ≡ Some (subject.Request x.number) = sym may.waits ∙ held.2.awaited sent in cc) })),
+            ))
+            (λ apart was. old.holds u y j x was at_j);
+        awaiting = λ u y n at_u awaits.
+            by_holder waits_for_it u y at_u
+            (λ is same. absurd (let no : Some (subject.Timer k) ≡ Some (subject.Request n) = ap (λ (z : Holder). z.awaits) same ∙ awaits in cc))
+            (λ apart was. old.awaiting u y n was awaits);
+        asleep = λ u y n at_u awaits.
+            by_holder waits_for_it u y at_u
+            (λ is same.
+            let which : k ≡ n = let both : Some (subject.Timer k) ≡ Some (subject.Timer n) = ap (λ (z : Holder). z.awaits) same ∙ awaits in cc in (
+              new,
+              ap (slice_get naps') (sym which) ∙ got_new naps new,
+              subst (λ m. AwaitsNap workers m y new) (sym is) (subst (λ (z : Holder). AwaitsNap workers t z new) same (record { task = refl; near = may.near; here = λ some. refl; kept = λ going. refl })),
+            ))
+            (λ apart was. let it = old.asleep u y n was awaits in (it.0, on n it.0 it.1, it.2));
+        over = λ u y at_u over.
+            by_holder waits_for_it u y at_u
+            (λ is same. absurd (false≢true (sym may.going ∙ ap (λ (z : Holder). z.over) same ∙ over)))
+            (λ apart was. old.over u y was over);
+        sleeps = λ n z at unfired kept.
+            elim (in_last naps new z n at) [
+              | inl was ↦ awaits_on waits_for_it (subject.Timer n) z.task (old.sleeps n z was unfired kept)
+              | inr last ↦
+                  let task : t ≡ z.task = ap (λ (x : Nap). x.task) last.1 in
+                  record { it = waits_for_it; there = ap (slice_get hs') (sym task) ∙ set_there hs t waits_for_it may.it may.there; awaits = ap (λ m. Some (subject.Timer m)) (sym last.0) }
+            ];
+        let_go = λ n z box at at_box open_box.
+            elim (in_last naps new z n at) [
+              | inl was ↦
+                  let few = slice_get_within naps n z was in
+                  let none : weigh (n == length naps) ≡ 0 = ap weigh (not_same n (length naps) (λ same. omega (arith, few, same))) in
+                  let before = old.let_go n z box was at_box open_box in
+                  omega (arith, waits_now n, none, before)
+              | inr last ↦
+                  let nothing : under_way h (Message.Cancel (subject.Timer n)) boxes ≡ 0 = ap (λ m. under_way h (Message.Cancel (subject.Timer m)) boxes) last.0 ∙ not_about (Message.Cancel (subject.Timer k)) never_timer in
+                  let nobody : waiters (subject.Timer n) hs ≡ 0 = ap (λ m. waiters (subject.Timer m) hs) last.0 ∙ unawaited in
+                  let one = at_most (n == length naps) in
+                  omega (arith, waits_now n, nothing, nobody, one)
+            ];
+        asked_too = λ n z at sent.
+            elim (in_last naps new z n at) [
+              | inl was ↦ ordinary_on waits_for_it refl z.task (old.asked_too n z was sent)
+              | inr last ↦ absurd (false≢true (sym (ap (λ (x : Nap). is_unsent x.forwarding) last.1 ∙ sent)))
+            ];
+        let_be = λ n z at closed.
+            elim (in_last naps new z n at) [
+              | inl was ↦ ordinary_on waits_for_it refl z.task (old.let_be n z was closed)
+              | inr last ↦ absurd (false≢true (ap (λ (x : Nap). x.closed) last.1 ∙ closed))
+            ];
+        woken = λ n z box at at_box.
+            elim (in_last naps new z n at) [
+              | inl was ↦ old.woken n z box was at_box
+              | inr last ↦
+                  let box_is : may.box ≡ box = same_thing may.box box (sym may.at ∙ ap (λ (x : Nap). slice_get boxes x.worker) last.1 ∙ at_box) in
+                  let shut : box.shut ≡ false = ap (λ (b : Box). b.shut) (sym box_is) ∙ may.open_box in
+                  let none : under_way h (Message.Forward (subject.Timer n)) boxes ≡ 0 = ap (λ m. under_way h (Message.Forward (subject.Timer m)) boxes) last.0 ∙ not_about (Message.Forward (subject.Timer k)) never_timer in
+                  subst (λ (x : Nap). IsForwarded box.shut x.forwarding (under_way h (Message.Forward (subject.Timer n)) boxes)) last.1 (subst (λ c. IsForwarded c Unsent (under_way h (Message.Forward (subject.Timer n)) boxes)) (sym shut) none)
+            ];
+        owed = λ j u some. let was = old.owed j u some in (was.0, owed_on waits_for_it ts naps' stays on j u was.1);
+        about = λ j box m at_box has. about_on ts naps' stays on j m (old.about j box m at_box has);
+        room = λ j box at_box.
+            let place = old.room j box at_box in
+            let made = place.made in
+            let last = sum_by-append (λ (x : Nap). cond (x.worker == j) 1 0) naps (new ∷ []) in
+            record {
+              made = by_number j i
+                  (λ other.
+                  let none : weigh (i == j) ≡ 0 = ap weigh (not_same i j (λ same. other (sym same))) in
+                  omega (arith, made, last, none))
+                  (λ same.
+                  let one : weigh (i == j) ≤ 1 = at_most (i == j) in
+                  let box_is : may.box ≡ box = same_thing may.box box (sym may.at ∙ ap (slice_get boxes) (sym same) ∙ at_box) in
+                  let room_there : count_by (λ (r : Thing). r.worker == j) ts + count_by (λ (z : Nap). z.worker == j) naps + 1 ≤ box.made = subst (λ n. count_by (λ (r : Thing). r.worker == n) ts + count_by (λ (z : Nap). z.worker == n) naps + 1 ≤ box.made) (sym same) (subst (λ (b : Box). count_by (λ (r : Thing). r.worker == i) ts + count_by (λ (z : Nap). z.worker == i) naps + 1 ≤ b.made) box_is may.fewer) in
+                  omega (arith, room_there, last, one));
+              places = place.places;
+            };
+        sent = old.sent;
+        sent_too = λ n z at is.
+            elim (in_last naps new z n at) [
+              | inl was ↦ old.sent_too n z was is
+              | inr last ↦ absurd (false≢true (ap (λ (x : Nap). x.sent) last.1 ∙ is))
+            ];
+        made = λ m some. let it = old.made m some in (it.0, about_on ts naps' stays on it.0 m it.1);
+        of_worker = old.of_worker;
+        of_worker_too = λ n z at.
+            elim (in_last naps new z n at) [
+              | inl was ↦ old.of_worker_too n z was
+              | inr last ↦ subst (λ (x : Nap). x.worker < length boxes) last.1 (slice_get_within boxes i may.box may.at)
+            ];
+      }
+    where
+      at_most : (b : Bool) → weigh b ≤ 1
+      at_most true = omega arith
+      at_most false = omega arith
+
+      never_and : (b : Bool) → (b && false) ≡ false
+      never_and true = refl
+      never_and false = refl

@@ -1,0 +1,80 @@
+-- What is seen of all once a worker has made a request or a sleeper: its seat's places show nothing.
+use Rattle.std.proofs.{Common.{◌≡◌, ℕ, suc, zero, ◌+◌, Bool, false, List, [], ◌∷◌, ◌++◌, map, Option, Some, refl, sym, ap, ◌∙◌, slice_get, slice_set, if◌then◌else◌}, Math.Seq.map-set_same, lemmas.Option.get_or_from_slice_get}
+use Rattle.exec_task.specs.declared.body.Said.{Said}
+use Rattle.exec_machine.specs.{Progress.Plan, World.{Common, Open, Task}, declared.state.{Request.Request, Sleeper.Sleeper}}
+use Rattle.exec_parts.{specs.{declared.parts.{record.Record.Record, seat.Seat.Seat as Chair, shared.Shared.Shared, sleeping.SleeperRecord.SleeperRecord}, Spots.Spot, View.{Views, Visible, common_of, gate_seen, inbox_at, numbers_of_passing, open_seen, polls_seen, queue_at, seat_seen, seats_seen, task_seen, things_with, word_at}}, proofs.Facts.same_thing}
+use Rattle.exec_polling.proofs.RegisterSound.{MakesAt, made_at}
+
+-- A SEAT whose inbox got places shows what it did
+
+seats_placed : (n : ℕ) (vs : List Visible) (seats : List Chair) (i : ℕ) (chair : Chair) → slice_get seats i ≡ Some chair → seats_seen vs (slice_set seats i (made_at n chair)) ≡ seats_seen vs seats
+seats_placed n [] seats i chair there = refl
+seats_placed n (v ∷ vs) [] i chair there = refl
+seats_placed n (v ∷ vs) (c ∷ cs) zero chair there = ap (λ x. seat_seen v x ∷ seats_seen vs cs) (sym (same_thing c chair there))
+seats_placed n (v ∷ vs) (c ∷ cs) (suc i) chair there = ap (λ xs. seat_seen v c ∷ xs) (seats_placed n vs cs i chair there)
+
+polls_placed : (n : ℕ) (vs : List Visible) (seats : List Chair) (i : ℕ) (chair : Chair) → slice_get seats i ≡ Some chair → polls_seen vs (slice_set seats i (made_at n chair)) ≡ polls_seen vs seats
+polls_placed n [] seats i chair there = refl
+polls_placed n (v ∷ vs) [] i chair there = refl
+polls_placed n (v ∷ vs) (c ∷ cs) zero chair there = ap (λ (x : Chair). polls_seen (v ∷ vs) (x ∷ cs)) (sym (same_thing c chair there))
+polls_placed n (v ∷ vs) (c ∷ cs) (suc i) chair there = ap (λ xs. polls_seen (v ∷ []) (c ∷ []) ++ xs) (polls_placed n vs cs i chair there)
+
+part_placed : {A : Type 0} (f : Chair → A) (n : ℕ) (seats : List Chair) (i : ℕ) (chair : Chair) → slice_get seats i ≡ Some chair → f (made_at n chair) ≡ f chair → map f (slice_set seats i (made_at n chair)) ≡ map f seats
+part_placed f n seats i chair there same = map-set_same f seats i (made_at n chair) chair (same ∙ ap f (sym (get_or_from_slice_get seats i chair chair there)))
+
+-- so all that stands at seats is seen as before
+pub record SameSeats (vs : Views) (before after : List Chair) : Type 0 where
+  pub seats : seats_seen vs.workers after ≡ seats_seen vs.workers before
+  pub polls : polls_seen vs.workers after ≡ polls_seen vs.workers before
+  pub queues : map queue_at after ≡ map queue_at before
+  pub words : map word_at after ≡ map word_at before
+  pub inboxes : map inbox_at after ≡ map inbox_at before
+
+pub seats_alike : (vs : Views) (seats seats' : List Chair) (i batch : ℕ) → MakesAt i batch seats seats' → SameSeats vs seats seats'
+seats_alike vs seats seats' i batch it =
+    record {
+      seats = ap (seats_seen vs.workers) it.set ∙ seats_placed it.places vs.workers seats i it.chair it.there;
+      polls = ap (polls_seen vs.workers) it.set ∙ polls_placed it.places vs.workers seats i it.chair it.there;
+      queues = ap (map queue_at) it.set ∙ part_placed queue_at it.places seats i it.chair it.there refl;
+      words = ap (map word_at) it.set ∙ part_placed word_at it.places seats i it.chair it.there refl;
+      inboxes = ap (map inbox_at) it.set ∙ part_placed inbox_at it.places seats i it.chair it.there refl;
+    }
+
+-- what was not sent adds nothing to what was
+pub unsent_last : {A : Type 0} (test : A → Bool) (n : ℕ) (xs : List A) (x : A) → test x ≡ false → numbers_of_passing test n (xs ++ x ∷ []) ≡ numbers_of_passing test n xs
+unsent_last test n [] x is = ap (λ b. if b then n ∷ [] else []) is
+unsent_last test n (y ∷ ys) x is = ap (λ ns. if test y then n ∷ ns else ns) (unsent_last test (suc n) ys x is)
+
+-- WHAT IS SHARED then, beside the tasks, the requests, the opens and the sleepers
+
+module _ {B : Type 0} where
+  pub record SeesAlike (vs : Views) (s s' : Shared B) : Type 0 where
+    pub kept : s' ≡ record s { tasks = s'.tasks; seats = s'.seats; requests = s'.requests; sleepers = s'.sleepers; opens = s'.opens; store = s'.store }
+    pub seats : SameSeats vs s.seats.items s'.seats.items
+    pub gates : map (gate_seen s'.requests.items) s'.opens ≡ map (gate_seen s.requests.items) s.opens
+    pub answers : numbers_of_passing (λ (r : Record). r.sent) 0 s'.requests.items ≡ numbers_of_passing (λ (r : Record). r.sent) 0 s.requests.items
+    pub alarms : numbers_of_passing (λ (z : SleeperRecord). z.sent) 0 s'.sleepers.items ≡ numbers_of_passing (λ (z : SleeperRecord). z.sent) 0 s.sleepers.items
+
+  pub things_then : (vs : Views) (s s' : Shared B) → SeesAlike vs s s' → things_with vs s' ≡ things_with vs s
+  things_then vs s s' it =
+      let s1 : Shared B = record s { seats = s'.seats; requests = s'.requests; sleepers = s'.sleepers; opens = s'.opens } in
+      let x = things_with vs s in
+      ap (things_with vs) it.kept
+      ∙ ap (λ qs. record (things_with vs s1) { queues = qs }) it.seats.queues
+      ∙ ap (λ ws. record (things_with vs s1) { queues = x.queues; words = ws }) it.seats.words
+      ∙ ap (λ bs. record (things_with vs s1) { queues = x.queues; words = x.words; inboxes = bs }) it.seats.inboxes
+      ∙ ap (λ ps. record (things_with vs s1) { queues = x.queues; words = x.words; inboxes = x.inboxes; wake_polls = ps }) it.seats.polls
+      ∙ ap (λ gs. record x { gates = gs; answers = numbers_of_passing (λ (r : Record). r.sent) 0 s'.requests.items; alarms = numbers_of_passing (λ (z : SleeperRecord). z.sent) 0 s'.sleepers.items }) it.gates
+      ∙ ap (λ ns. record x { answers = ns; alarms = numbers_of_passing (λ (z : SleeperRecord). z.sent) 0 s'.sleepers.items }) it.answers
+      ∙ ap (λ ns. record x { alarms = ns }) it.alarms
+
+module _ {B L : Type 0} (left : B → L) (spot : L → Option Said → Spot) where
+  -- by lists of what is seen
+  abbrev pub seen_with : Common → List Task → List Request → List Open → List Sleeper → Common
+  seen_with c ts rs os zs = record c { tasks = ts; requests = rs; opens = os; sleepers = zs }
+
+  pub common_then : (p : Plan) (vs : Views) (s s' : Shared B) → SeesAlike vs s s'
+      → common_of left spot p vs s' ≡ seen_with (common_of left spot p vs s) (map (task_seen left spot) s'.tasks.items) (map (λ (r : Record). r.shown) s'.requests.items) (map (open_seen s'.requests.items) s'.opens) (map (λ (z : SleeperRecord). z.shown) s'.sleepers.items)
+  common_then p vs s s' it =
+      ap (common_of left spot p vs) it.kept
+      ∙ ap (λ ss. record (common_of left spot p vs s) { tasks = map (task_seen left spot) s'.tasks.items; requests = map (λ (r : Record). r.shown) s'.requests.items; opens = map (open_seen s'.requests.items) s'.opens; sleepers = map (λ (z : SleeperRecord). z.shown) s'.sleepers.items; seats = ss }) it.seats.seats
