@@ -4,3 +4,4 @@ pub mod Firsts
 pub mod Lift
 pub mod Once
 pub mod Turns
+pub mod Examples

@@ -7,6 +7,7 @@
 #![tactic(auto)]
 
 pub mod config;
+pub mod examples;
 pub mod executor;
 pub mod laws;
 pub mod local;
