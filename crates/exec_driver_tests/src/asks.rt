@@ -1,5 +1,6 @@
 //! The requests of the worked examples, and what is found of them.
 
+use crate::found::demand;
 use crate::worker::{buffers, send};
 use exec_base::error::Error;
 use exec_bufs::buf::IoBufMut;
@@ -14,7 +15,7 @@ use exec_request::sync::SyncRequest;
 use exec_request::write_at::{WriteAtRequest, WriteAtState};
 use exec_time::timers::Observation;
 use std::alloc::Global;
-use std::test::Fail;
+use std::process::Abort;
 
 /// A request to ask for.
 #[derive(Clone, Copy)]
@@ -52,61 +53,79 @@ pub enum Seen {
     Sync(Result<(), Error>),
 }
 
-/// Makes what is asked for. An `Err` where memory is wanting, or where a write is far off.
-pub fn request(alloc: Global, ask: Ask) -> Result<Request, Fail> {
+/// Makes what is asked for. It fails where memory is wanting, or where a write is far off.
+pub fn request(rt: &impl Abort, alloc: Global, ask: Ask) -> Request {
     match ask {
-        Ask::Send => Ok(send(alloc)?),
-        Ask::Poll(deadline) => Ok(Request::Poll(PollRequest::new(2, deadline))),
-        Ask::Sync(seen) => Ok(Request::Sync(SyncRequest::new(0, seen))),
-        Ask::Connect(fd, address) => {
-            Ok(Request::Connect(ConnectRequest::new(fd, address, None)))
-        }
-        Ask::Receive => receive(alloc),
-        Ask::Read => read(alloc),
-        Ask::DurableWrite => {
-            let write = buffers(alloc, b"0123456789")?;
-            let state = WriteAtState::WritingSync;
-            Ok(Request::WriteAt(WriteAtRequest::new(0, 0, write, state, Cache::Enabled, 0)))
-        }
-        Ask::Write(at, bytes, cache) => write(alloc, at, bytes, cache),
+        Ask::Send => send(alloc).expect(rt, "no memory"),
+        Ask::Poll(deadline) => Request::Poll(PollRequest::new(2, deadline)),
+        Ask::Sync(seen) => Request::Sync(SyncRequest::new(0, seen)),
+        Ask::Connect(fd, address) => Request::Connect(ConnectRequest::new(fd, address, None)),
+        Ask::Receive => receive(rt, alloc),
+        Ask::Read => read(rt, alloc),
+        Ask::DurableWrite => durable_write(rt, alloc),
+        Ask::Write(at, bytes, cache) => write(rt, alloc, at, bytes, cache),
     }
 }
 
-fn receive(alloc: Global) -> Result<Request, Fail> {
-    let buf = IoBufMut::with_capacity(alloc, 8)?;
-    Ok(Request::Recv(RecvRequest::new(3, buf, 0, 8, false, None)))
+fn receive(rt: &impl Abort, alloc: Global) -> Request {
+    let buf = IoBufMut::with_capacity(alloc, 8).expect(rt, "no memory");
+    Request::Recv(RecvRequest::new(3, buf, 0, 8, false, None))
 }
 
-fn read(alloc: Global) -> Result<Request, Fail> {
-    let buf = IoBufMut::from(vec![in alloc; 7u8; 4]?);
-    if buf.len() > 4 {
-        return Err("too long".into());
-    }
-    Ok(Request::ReadAt(ReadAtRequest::new(0, 0, buf, Cache::Enabled)))
+fn read(rt: &impl Abort, alloc: Global) -> Request {
+    let bytes = Vec::from_array(alloc, [7u8; 4]).expect(rt, "no memory");
+    let buf = IoBufMut::from(bytes);
+    demand(rt, buf.len() <= 4, "too long");
+    Request::ReadAt(ReadAtRequest::new(0, 0, buf, Cache::Enabled))
 }
 
-fn write(alloc: Global, at: u64, bytes: &[u8], cache: Cache) -> Result<Request, Fail> {
-    if at > 100 {
-        return Err("too far".into());
-    }
-    let write = buffers(alloc, bytes)?;
+fn durable_write(rt: &impl Abort, alloc: Global) -> Request {
+    let write = buffers(alloc, b"0123456789").expect(rt, "no memory");
+    let state = WriteAtState::WritingSync;
+    Request::WriteAt(WriteAtRequest::new(0, 0, write, state, Cache::Enabled, 0))
+}
+
+fn write(rt: &impl Abort, alloc: Global, at: u64, bytes: &[u8], cache: Cache) -> Request {
+    demand(rt, at <= 100, "too far");
+    let write = buffers(alloc, bytes).expect(rt, "no memory");
     let state = WriteAtState::Writing;
-    Ok(Request::WriteAt(WriteAtRequest::new(0, at, write, state, cache, 0)))
+    Request::WriteAt(WriteAtRequest::new(0, at, write, state, cache, 0))
 }
 
 /// Whether a task found this.
 pub fn is_seen(found: &Observation<RequestOutput>, seen: Seen) -> bool {
-    let Observation::Ready(output) = found else {
-        return false;
-    };
-    match (output, seen) {
-        (RequestOutput::Send(told), Seen::Send(ended)) => *told == ended,
-        (RequestOutput::Recv(Ok((buf, count))), Seen::Received(bytes)) => {
-            buf.as_slice() == bytes && *count == bytes.len()
+    match found {
+        Observation::Ready(output) => is_output(output, seen),
+        _ => false,
+    }
+}
+
+fn is_output(output: &RequestOutput, seen: Seen) -> bool {
+    match seen {
+        Seen::Send(ended) => matches!(output, RequestOutput::Send(told) if is_so(told, ended)),
+        Seen::Write(ended) => matches!(output, RequestOutput::WriteAt(told) if is_so(told, ended)),
+        Seen::Sync(ended) => matches!(output, RequestOutput::Sync(told) if is_so(told, ended)),
+        Seen::Received(bytes) => has_received(output, bytes),
+        Seen::Read(bytes) => has_read(output, bytes),
+    }
+}
+
+fn is_so(told: &Result<(), Error>, ended: Result<(), Error>) -> bool {
+    *told == ended
+}
+
+fn has_received(output: &RequestOutput, bytes: &[u8]) -> bool {
+    match output {
+        RequestOutput::Recv(Ok((buf, count))) => {
+            *count == bytes.len() && buf.as_slice() == bytes
         }
-        (RequestOutput::ReadAt(Ok(buf)), Seen::Read(bytes)) => buf.as_slice() == bytes,
-        (RequestOutput::WriteAt(told), Seen::Write(ended)) => *told == ended,
-        (RequestOutput::Sync(told), Seen::Sync(ended)) => *told == ended,
+        _ => false,
+    }
+}
+
+fn has_read(output: &RequestOutput, bytes: &[u8]) -> bool {
+    match output {
+        RequestOutput::ReadAt(Ok(buf)) => buf.as_slice() == bytes,
         _ => false,
     }
 }

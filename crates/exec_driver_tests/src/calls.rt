@@ -1,6 +1,10 @@
 //! Each small call once, with ample memory, calls that come too late, and an admission for which memory is wanting.
 
+ghost use Rattle.std.specs.Prelude.{◌<◌, IfSome};
+ghost use Rattle.exec_driver.specs.Opens.{open_at};
+
 use crate::asks::Ask;
+use crate::found::{demand, holds, same_count, same_counts, same_key, same_name, same_number};
 use crate::steps::{Look, Sign, Step, Turn, Wait};
 use crate::trial::play;
 use crate::worker::{MILLI, Worker, bytes, name, send};
@@ -103,48 +107,68 @@ fn a_home_is_new(rt: HostRuntime) -> Result<(), Fail> {
     ours.driver().lands_nothing();
     ours.driver().flies_permitted();
     let home: Home<SimRing, u32, u32> = Home::new(alloc, 3, ours.into_driver());
-    assert_eq!(rt; (home.worker, home.driver.len()), (3, 0));
-    assert!(rt; !home.closing && home.deferred.is_empty());
+    same_number(&rt, 0, Some(home.worker), Some(3));
+    same_count(&rt, 1, home.driver.len(), 0);
+    holds(&rt, 2, !home.closing);
+    holds(&rt, 3, home.deferred.is_empty());
     Ok(())
 }
 
 #[test]
 fn opens_have_records(rt: HostRuntime) -> Result<(), Fail> {
     let mut opens = Opens::new(rt.alloc(), 2)?;
-    assert_eq!(rt; opens.len(), 2);
+    same_count(&rt, 0, opens.len(), 2);
     opens.begin_write(Some(1));
     let account = opens.account(Some(1));
-    assert!(rt; account.is_some() && opens.account(Some(2)).is_none());
+    holds(&rt, 1, account.is_some());
+    holds(&rt, 2, opens.account(Some(2)).is_none());
     opens.set_account(Some(0), account);
     Ok(())
 }
 
+/// Open 1 gets a place for one more, who may then join its line.
+fn make_place(rt: &impl Abort, alloc: Global, opens: &mut Opens)
+    ensures { IfSome (open_at opens.new 1) (λ o. 0 < o.coming) }
+{
+    let made = opens.reserve(alloc, Some(1));
+    demand(rt, made.is_ok(), "no memory");
+    demand(rt, opens.has_place(1), "no place");
+}
+
 /// A request of this worker joins the line of open 1.
-fn line_up(rt: &impl Abort, alloc: Global, opens: &mut Opens, key: WaiterKey) -> Result<(), Fail> {
-    opens.reserve(alloc, Some(1))?;
-    let may = opens.has_place(1);
-    assert!(rt; may);
+fn line_up(rt: &impl Abort, alloc: Global, opens: &mut Opens, key: WaiterKey) {
+    make_place(rt, alloc, opens);
     opens.join(1, key);
-    Ok(())
+}
+
+/// A place in the line of open 1 is made, and given up.
+fn give_up(rt: &impl Abort, alloc: Global, opens: &mut Opens) {
+    make_place(rt, alloc, opens);
+    opens.release(Some(1));
 }
 
 #[test]
 fn opens_have_gates(rt: HostRuntime) -> Result<(), Fail> {
     let alloc = rt.alloc();
     let mut opens = Opens::new(alloc, 2)?;
-    opens.reserve(alloc, Some(1))?;
-    let may = opens.has_place(1);
-    assert!(rt; may);
-    opens.release(Some(1));
+    give_up(&rt, alloc, &mut opens);
     let id = name(5, 0);
-    let [first, second] = [0, 1].map(|worker| WaiterKey { worker, id });
-    line_up(&rt, alloc, &mut opens, first)?;
-    line_up(&rt, alloc, &mut opens, second)?;
-    assert_eq!(rt; opens.holder(1), Some(first));
-    assert_eq!(rt; opens.leave(1), Some(second));
-    assert_eq!(rt; opens.leave(1), None);
-    assert_eq!(rt; (opens.holder(1), opens.holder(2)), (None, None));
+    let (first, second) = (WaiterKey { worker: 0, id }, WaiterKey { worker: 1, id });
+    line_up(&rt, alloc, &mut opens, first);
+    line_up(&rt, alloc, &mut opens, second);
+    same_key(&rt, 0, opens.holder(1), Some(first));
+    same_key(&rt, 1, opens.leave(1), Some(second));
+    same_key(&rt, 2, opens.leave(1), None);
+    same_key(&rt, 3, opens.holder(1), None);
+    same_key(&rt, 4, opens.holder(2), None);
     Ok(())
+}
+
+/// Nothing is there of an admission that was refused.
+fn is_bare(rt: &impl Abort, ours: &Worker) {
+    same_count(rt, 0, ours.driver().len(), 0);
+    same_counts(rt, 0, ours.counts(), (0, 0, 0, 0, 0));
+    holds(rt, 0, !ours.driver().has_pending_submissions());
 }
 
 /// A send is admitted for which memory may be wanting: then nothing is left, and the next one is made.
@@ -154,31 +178,35 @@ fn admit_again(
     ours: &mut Worker,
     opens: &mut Opens,
     store: &mut Store,
-) -> Result<(), Fail> {
+) {
     let Ok(request) = send(alloc) else {
-        return Ok(());
+        return;
     };
     if ours.admit(alloc, request, opens, store).is_none() {
-        assert_eq!(rt; (ours.driver().len(), ours.counts()), (0, (0, 0, 0, 0, 0)));
-        assert!(rt; !ours.driver().has_pending_submissions());
-        let next = ours.admit(alloc, send(alloc)?, opens, store);
-        assert_eq!(rt; next, Some(name(0, 0)));
+        is_bare(rt, ours);
+        let next = send(alloc).expect(rt, "no memory");
+        same_name(
+            rt,
+            1,
+            ours.admit(alloc, next, opens, store),
+            Some(name(0, 0)),
+        );
     }
-    assert_eq!(rt; (ours.driver().len(), ours.counts()), (1, (0, 0, 0, 0, 0)));
-    Ok(())
+    same_count(rt, 2, ours.driver().len(), 1);
+    same_counts(rt, 2, ours.counts(), (0, 0, 0, 0, 0));
 }
 
 /// An admission for which memory is wanting leaves the worker as it was, and the next one is made. Say
 /// `rt try --test --fail-alloc N` with N from 7 to 23: those are the allocations of the first admission.
 #[test]
-fn a_refused_admission_leaves_nothing(rt: HostRuntime) -> Result<(), Fail> {
+fn a_refused_admission_leaves_nothing(rt: HostRuntime) {
     let alloc = rt.alloc();
     let mut store = Store::new(alloc);
     let Ok(mut opens) = Opens::new(alloc, 1) else {
-        return Ok(());
+        return;
     };
     let Some(mut ours) = Worker::new(alloc, 4, &mut store) else {
-        return Ok(());
+        return;
     };
-    admit_again(&rt, alloc, &mut ours, &mut opens, &mut store)
+    admit_again(&rt, alloc, &mut ours, &mut opens, &mut store);
 }

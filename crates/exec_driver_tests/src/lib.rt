@@ -6,9 +6,13 @@ mod asks;
 #[cfg(test)]
 mod calls;
 #[cfg(test)]
+mod found;
+#[cfg(test)]
 mod kinds;
 #[cfg(test)]
 mod lives;
+#[cfg(test)]
+mod requests;
 #[cfg(test)]
 mod steps;
 #[cfg(test)]

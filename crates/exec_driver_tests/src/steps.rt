@@ -1,6 +1,7 @@
 //! Worked examples of drivers as tables: each step is a call with the answer that has to come, or a look.
 
 use crate::asks::{Ask, Seen};
+use crate::found::Counts;
 use exec_base::error::Error;
 use exec_base::task_no::TaskNo;
 use exec_driver::driver::{Enrolled, Granted, Reaped};
@@ -10,9 +11,6 @@ use exec_request::connect::SockAddr;
 use exec_ring::landing::Unlawful;
 use exec_ring::ring::Entered;
 use exec_waiters::waiter_id::WaiterId;
-
-/// How many of each list there are: wakes, outputs, resources, completions, results.
-pub type Counts = (usize, usize, usize, usize, usize);
 
 /// A step. What it has besides its arguments is what has to come of it.
 #[derive(Clone, Copy)]

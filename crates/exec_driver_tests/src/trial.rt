@@ -1,6 +1,10 @@
 //! What plays a table of steps: two workers that share an open and a store.
 
-use crate::asks::{is_seen, request};
+use crate::asks::{Ask, is_seen, request};
+use crate::found::{
+    holds, same, same_answer, same_bytes, same_count, same_counts, same_key, same_moment,
+    same_name, same_number, same_reaped,
+};
 use crate::steps::{Lent, Look, Sign, Step, Turn, Wait};
 use crate::worker::{Word, Worker};
 use exec_base::error::Error;
@@ -8,9 +12,11 @@ use exec_driver::driver::Reaped;
 use exec_driver::opens::Opens;
 use exec_outcomes::outcome::OpResult;
 use exec_request::connect::SockAddr;
+use exec_request::open_record::OpenRecord;
 use exec_request::output::RetiredResources;
 use exec_ring::ring::Entered;
 use exec_ring::store::Store;
+use exec_waiters::deferred::Deferred;
 use exec_waiters::waiter_id::WaiterId;
 use std::alloc::Global;
 use std::mem;
@@ -26,134 +32,128 @@ pub struct Trial {
     store: Store,
 }
 
-/// Plays these steps on fresh workers over rings of so many entries.
+/// Plays these steps on fresh workers over rings of so many entries, with open 0. An `Err` where memory is wanting.
 pub fn play(rt: &impl Abort, alloc: Global, size: usize, steps: &[Step]) -> Result<(), Fail> {
-    let mut trial = Trial::new(alloc, size)?;
-    trial.play(rt, alloc, steps)
+    let mut store = Store::new(alloc);
+    let ours = Worker::new(alloc, size, &mut store).ok_or("no worker")?;
+    let other = Worker::new(alloc, size, &mut store).ok_or("no worker")?;
+    let opens = Opens::new(alloc, 1)?;
+    let mut trial = Trial {
+        ours,
+        other,
+        opens,
+        store,
+    };
+    trial.play(rt, alloc, steps);
+    Ok(())
 }
 
 impl Trial {
-    /// Workers over rings of so many entries, with open 0. An `Err` where memory is wanting.
-    pub fn new(alloc: Global, size: usize) -> Result<Self, Fail> {
-        let mut store = Store::new(alloc);
-        let ours = Worker::new(alloc, size, &mut store).ok_or("no worker")?;
-        let other = Worker::new(alloc, size, &mut store).ok_or("no worker")?;
-        let opens = Opens::new(alloc, 1)?;
-        Ok(Trial {
-            ours,
-            other,
-            opens,
-            store,
-        })
-    }
-
     /// Plays these steps one after another. What comes of one has to be what the step says.
-    pub fn play(&mut self, rt: &impl Abort, alloc: Global, steps: &[Step]) -> Result<(), Fail> {
-        for step in steps {
-            self.take(rt, alloc, *step)?;
+    fn play(&mut self, rt: &impl Abort, alloc: Global, steps: &[Step]) {
+        for (at, step) in steps.iter().enumerate() {
+            self.take(rt, alloc, at, *step);
         }
-        Ok(())
     }
 
-    fn take(&mut self, rt: &impl Abort, alloc: Global, step: Step) -> Result<(), Fail> {
+    fn take(&mut self, rt: &impl Abort, alloc: Global, at: usize, step: Step) {
         match step {
             Step::Swap => mem::swap(&mut self.ours, &mut self.other),
-            Step::Wait(wait) => self.wait(rt, alloc, wait)?,
-            Step::Turn(turn) => self.turn(rt, alloc, turn)?,
-            Step::Look(look) => self.look(rt, look),
-            Step::Lent(lent) => self.lent(rt, alloc, lent)?,
+            Step::Wait(wait) => self.wait(rt, alloc, at, wait),
+            Step::Turn(turn) => self.turn(rt, alloc, at, turn),
+            Step::Look(look) => self.look(rt, at, look),
+            Step::Lent(lent) => self.lent(rt, alloc, at, lent),
         }
-        Ok(())
     }
 
-    fn wait(&mut self, rt: &impl Abort, alloc: Global, wait: Wait) -> Result<(), Fail> {
-        let ours = &mut self.ours;
+    fn wait(&mut self, rt: &impl Abort, alloc: Global, at: usize, wait: Wait) {
+        let (ours, opens) = (&mut self.ours, &mut self.opens);
         match wait {
             Wait::Admit(ask, id) => {
-                let request = request(alloc, ask)?;
-                let admitted = ours.admit(alloc, request, &mut self.opens, &mut self.store);
-                assert_eq!(rt; admitted, Some(id));
+                let request = request(rt, alloc, ask);
+                same_name(
+                    rt,
+                    at,
+                    ours.admit(alloc, request, opens, &mut self.store),
+                    Some(id),
+                );
             }
-            Wait::Join(worker, id) => ours.join(rt, worker, id, &mut self.opens),
+            Wait::Join(worker, id) => ours.join(rt, worker, id, opens),
             Wait::Observe(id, task, seen) => {
-                let found = ours.observe(rt, id, task);
-                assert!(rt; is_seen(&found, seen));
+                holds(rt, at, is_seen(&ours.observe(rt, id, task), seen));
             }
             Wait::SetWaker(id, task, before) => {
-                assert_eq!(rt; ours.set_waker(rt, id, task), before);
+                same(rt, at, &ours.set_waker(rt, id, task), &before);
             }
-            Wait::Forward(id, sender) => ours.forward(alloc, id, sender)?,
-            Wait::Orphan(id) => ours.orphan(alloc, id)?,
-            Wait::Close(id) => assert_eq!(rt; ours.close(alloc)?, id),
-            Wait::LetGo(socket, address) => let_go(rt, ours, socket, address)?,
+            Wait::Forward(id, sender) => ours.forward(rt, alloc, id, sender),
+            Wait::Orphan(id) => ours.orphan(rt, alloc, id),
+            Wait::Close(id) => same_name(rt, at, ours.close(rt, alloc), id),
+            Wait::LetGo(socket, address) => let_go(rt, at, ours, socket, address),
         }
-        Ok(())
     }
 
-    fn turn(&mut self, rt: &impl Abort, alloc: Global, turn: Turn) -> Result<(), Fail> {
-        let ours = &mut self.ours;
+    fn turn(&mut self, rt: &impl Abort, alloc: Global, at: usize, turn: Turn) {
+        let (ours, opens) = (&mut self.ours, &mut self.opens);
         match turn {
-            Turn::Serve(at, answer) => {
-                assert_eq!(rt; ours.serve(rt, alloc, at, &mut self.opens)?, answer);
+            Turn::Serve(when, answer) => {
+                same_answer(rt, at, ours.serve(rt, alloc, when, opens), answer);
             }
             Turn::Advance(now) => ours.advance(rt, now),
-            Turn::Expire(id) => assert_eq!(rt; ours.expire(alloc)?, id),
-            Turn::Enrol(now, enrolled) => {
-                assert_eq!(rt; ours.enrol(rt, alloc, now)?, enrolled);
-            }
+            Turn::Expire(id) => same_name(rt, at, ours.expire(rt, alloc), id),
+            Turn::Enrol(now, enrolled) => same(rt, at, &ours.enrol(rt, alloc, now), &enrolled),
             Turn::Grant(file, granted) => {
-                assert_eq!(rt; ours.grant(alloc, file, &mut self.opens)?, granted);
+                same(rt, at, &ours.grant(rt, alloc, file, opens), &granted);
             }
-            Turn::Reap(reaped) => {
-                assert_eq!(rt; ours.reap(alloc, &mut self.opens)?, reaped);
-            }
+            Turn::Reap(reaped) => same_reaped(rt, at, ours.reap(rt, alloc, opens), reaped),
             Turn::Over(id, given, ended) => {
                 let over = over(id, given, ended);
-                assert_eq!(rt; ours.reap(alloc, &mut self.opens)?, Some(over));
+                same_reaped(rt, at, ours.reap(rt, alloc, opens), Some(over));
             }
-            turn => self.ring(rt, turn),
+            turn => self.ring(rt, at, turn),
         }
-        Ok(())
     }
 
-    fn ring(&mut self, rt: &impl Abort, turn: Turn) {
+    fn ring(&mut self, rt: &impl Abort, at: usize, turn: Turn) {
         let ours = &mut self.ours;
         match turn {
-            Turn::Stage(id) => assert_eq!(rt; ours.stage(rt, &self.opens), id),
-            Turn::StageCancel(id) => assert_eq!(rt; ours.stage_cancel(rt), id),
-            Turn::StageWakePoll(staged) => assert_eq!(rt; ours.stage_wake_poll(), staged),
-            Turn::Enter(entered) => assert_eq!(rt; ours.enter(), entered),
-            Turn::EnterBusy => assert_eq!(rt; ours.enter_busy(), Entered::Busy),
+            Turn::Stage(id) => same_name(rt, at, ours.stage(rt, &self.opens), id),
+            Turn::StageCancel(id) => same_name(rt, at, ours.stage_cancel(rt), id),
+            Turn::StageWakePoll(staged) => same_answer(rt, at, ours.stage_wake_poll(), staged),
+            Turn::Enter(entered) => same(rt, at, &ours.enter(), &entered),
+            Turn::EnterBusy => same(rt, at, &ours.enter_busy(), &Entered::Busy),
             Turn::Land(id, given, landed) => {
-                assert_eq!(rt; ours.land(rt, id, given, &mut self.store), landed);
+                same(rt, at, &ours.land(rt, id, given, &mut self.store), &landed);
             }
             Turn::Park(calm, waits) => {
-                assert_eq!(rt; ours.park(0, &mut Word::new(calm)), waits);
+                same_answer(rt, at, ours.park(0, &mut Word::new(calm)), waits);
             }
             Turn::WakeLast => ours.wake_last(),
-            _ => assert!(rt; false),
+            _ => holds(rt, at, false),
         }
     }
 
-    fn look(&self, rt: &impl Abort, look: Look) {
-        let driver = self.ours.driver();
+    fn look(&self, rt: &impl Abort, at: usize, look: Look) {
+        let (ours, driver) = (&self.ours, self.ours.driver());
         match look {
-            Look::Is(sign, is) => assert_eq!(rt; self.is(sign), is),
+            Look::Is(sign, is) => same_answer(rt, at, self.is(sign), is),
             Look::Seen(id, may) => {
-                assert_eq!(rt; driver.may_be_seen(id), may);
-                assert_eq!(rt; driver.is_observed_here(id), may);
+                same_answer(rt, at, driver.may_be_seen(id), may);
+                same_answer(rt, at, driver.is_observed_here(id), may);
             }
             Look::MaySleep(now, deadline, may) => {
-                assert_eq!(rt; driver.may_sleep(now, deadline), may);
+                same_answer(rt, at, driver.may_sleep(now, deadline), may);
             }
-            Look::Len(len) => assert_eq!(rt; driver.len(), len),
-            Look::RingSize(size) => assert_eq!(rt; driver.ring_size(), size),
-            Look::Counts(counts) => assert_eq!(rt; self.ours.counts(), counts),
-            Look::NextDeadline(at) => assert_eq!(rt; self.ours.next_deadline(rt), at),
-            Look::NextGate(from, file) => assert_eq!(rt; driver.next_gate(from), file),
-            Look::Last(worker) => assert_eq!(rt; self.ours.last(), worker),
-            Look::Refused(count) => self.refused(rt, count),
-            Look::UserData(id, data) => assert_eq!(rt; id.user_data(), data),
+            Look::Len(len) => same_count(rt, at, driver.len(), len),
+            Look::RingSize(size) => same_count(rt, at, driver.ring_size(), size),
+            Look::Counts(counts) => same_counts(rt, at, ours.counts(), counts),
+            Look::NextDeadline(moment) => same_moment(rt, at, ours.next_deadline(rt), moment),
+            Look::NextGate(from, file) => same_number(rt, at, driver.next_gate(from), file),
+            Look::Last(worker) => same_number(rt, at, ours.last(), worker),
+            Look::Refused(count) => {
+                same_count(rt, at, ours.deferred().results.len(), count);
+                holds(rt, at, is_refused(ours.deferred()));
+            }
+            Look::UserData(id, data) => same(rt, at, &id.user_data(), &data),
         }
     }
 
@@ -173,39 +173,28 @@ impl Trial {
         }
     }
 
-    fn refused(&self, rt: &impl Abort, count: usize) {
-        let results = &self.ours.deferred().results;
-        assert_eq!(rt; results.len(), count);
-        assert!(rt; results.len() > 0);
-        assert!(rt; matches!(&results[0].result, Err(Error::Closed)));
-    }
-
-    fn lent(&mut self, rt: &impl Abort, alloc: Global, lent: Lent) -> Result<(), Fail> {
-        let opens = &mut self.opens;
+    fn lent(&mut self, rt: &impl Abort, alloc: Global, at: usize, lent: Lent) {
+        let (opens, store) = (&mut self.opens, &mut self.store);
         match lent {
             Lent::BeginWrite(file) => opens.begin_write(Some(file)),
-            Lent::Poison(file, error) => poison(opens, file, error)?,
-            Lent::Holder(file, key) => assert_eq!(rt; opens.holder(file), key),
-            Lent::Leave(file, key) => assert_eq!(rt; opens.leave(file), key),
+            Lent::Poison(file, error) => poison(rt, opens, file, error),
+            Lent::Holder(file, key) => same_key(rt, at, opens.holder(file), key),
+            Lent::Leave(file, key) => same_key(rt, at, opens.leave(file), key),
             Lent::Hinted(file, hinted) => {
-                let account = opens.account(Some(file)).ok_or("no record")?;
-                assert_eq!(rt; account.hinted(), hinted);
+                same_answer(rt, at, account(rt, opens, file).hinted(), hinted);
             }
             Lent::Failure(file, failure) => {
-                let account = opens.account(Some(file)).ok_or("no record")?;
-                assert_eq!(rt; account.failure(), failure);
+                same(rt, at, &account(rt, opens, file).failure(), &failure);
             }
-            Lent::Feed(socket, bytes) => self.store.feed(alloc, socket, bytes)?,
-            Lent::Sent(socket, bytes) => assert_eq!(rt; self.store.sent(socket), bytes),
+            Lent::Feed(socket, bytes) => feed(rt, alloc, store, socket, bytes),
+            Lent::Sent(socket, bytes) => same_bytes(rt, at, store.sent(socket), bytes),
             Lent::Received(socket, bytes) => {
-                assert_eq!(rt; self.store.received(socket), bytes);
+                same_bytes(rt, at, store.received(socket), bytes);
             }
-            Lent::Byte(file, at, byte) => {
-                let file = self.store.file(file).ok_or("no file")?;
-                assert_eq!(rt; file.byte_at(at), byte);
+            Lent::Byte(file, place, byte) => {
+                same(rt, at, &byte_of(rt, store, file, place), &byte);
             }
         }
-        Ok(())
     }
 }
 
@@ -219,20 +208,37 @@ fn over(id: WaiterId, given: OpResult, ended: Result<(), Error>) -> Reaped {
     }
 }
 
-fn poison(opens: &mut Opens, file: u32, error: Error) -> Result<(), Fail> {
-    let mut account = opens.account(Some(file)).ok_or("no record")?;
+/// Whether the first result that is to be sent on is `Closed`.
+fn is_refused(told: &Deferred<u32, u32>) -> bool {
+    matches!(told.results.first(), Some(answer) if matches!(&answer.result, Err(Error::Closed)))
+}
+
+/// The record of an open that there is.
+fn account(rt: &impl Abort, opens: &Opens, file: u32) -> OpenRecord {
+    opens.account(Some(file)).expect(rt, "no record")
+}
+
+fn poison(rt: &impl Abort, opens: &mut Opens, file: u32, error: Error) {
+    let mut account = account(rt, opens, file);
     account.poison(error);
     opens.set_account(Some(file), Some(account));
-    Ok(())
+}
+
+fn feed(rt: &impl Abort, alloc: Global, store: &mut Store, socket: u32, bytes: &[u8]) {
+    if store.feed(alloc, socket, bytes).is_err() {
+        panic!(rt; "no memory");
+    }
+}
+
+fn byte_of(rt: &impl Abort, store: &Store, file: u32, place: u64) -> u8 {
+    store.file(file).expect(rt, "no file").byte_at(place)
 }
 
 /// What a connect owned that was let go last is this.
-fn let_go(rt: &impl Abort, ours: &mut Worker, socket: u32, to: SockAddr) -> Result<(), Fail> {
-    match ours.take_resources().ok_or("nothing let go")?.resources {
-        RetiredResources::Connect { fd, address } => {
-            assert_eq!(rt; (fd, address), (socket, to));
-            Ok(())
-        }
-        _ => Err("no connect".into()),
+fn let_go(rt: &impl Abort, at: usize, ours: &mut Worker, socket: u32, to: SockAddr) {
+    let retired = ours.take_resources().expect(rt, "nothing let go");
+    match retired.resources {
+        RetiredResources::Connect { fd, address } => same(rt, at, &(fd, address), &(socket, to)),
+        _ => panic!(rt; "no connect"),
     }
 }

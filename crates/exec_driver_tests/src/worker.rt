@@ -3,7 +3,9 @@
 
 ghost use Rattle.std.specs.Prelude.{◌≡◌, ◌-◌, ◌^◌, ◌≤◌, true, IfOk};
 ghost use Rattle.exec_request.specs.Buffers.{is_sound, length_of, moved_of};
+ghost use Rattle.exec_waiters.specs.Told.{HasPlaces};
 
+use crate::found::{Counts, demand};
 use exec_base::slab::Id;
 use exec_base::task_no::TaskNo;
 use exec_bufs::buf::IoBuf;
@@ -28,7 +30,6 @@ use exec_waiters::waiter_id::WaiterId;
 use std::alloc::{AllocError, Global};
 use std::marker::Model;
 use std::process::Abort;
-use std::test::Fail;
 
 /// Whom a worker signalled last.
 #[derive(Drop)]
@@ -107,6 +108,26 @@ pub fn buffers(alloc: Global, data: &[u8]) -> Result<WriteBuffers, AllocError>
 pub fn send(alloc: Global) -> Result<Request, AllocError> {
     let write = buffers(alloc, b"0123456789")?;
     Ok(Request::Send(SendRequest::new(0, write, Some(10 * MILLI))))
+}
+
+/// How many of each list there are: wakes, outputs, resources, completions, results.
+pub fn counts(told: &Deferred<u32, u32>) -> Counts {
+    (
+        told.notes.wakes.len(),
+        told.outputs.len(),
+        told.resources.len(),
+        told.notes.completions.len(),
+        told.results.len(),
+    )
+}
+
+/// Makes room for so many in each list of what is to be told. It fails where memory is wanting.
+pub fn make_room(rt: &impl Abort, alloc: Global, told: &mut Deferred<u32, u32>, n: usize)
+    ensures { HasPlaces told.new n }
+{
+    if told.reserve(alloc, n).is_err() {
+        panic!(rt; "no memory");
+    }
 }
 
 /// A driver with its deferred work and its signals. Its deadlines are always punctual.
@@ -196,8 +217,7 @@ impl Worker {
 
     /// A request takes its place in the line of its open. It fails where it may not.
     pub fn join(&self, rt: &impl Abort, worker: u32, id: WaiterId, opens: &mut Opens) {
-        let may = self.driver.may_join(id, opens);
-        assert!(rt; may);
+        demand(rt, self.driver.may_join(id, opens), "it may not join");
         self.driver.join(worker, id, opens);
     }
 
@@ -209,16 +229,14 @@ impl Worker {
         alloc: Global,
         (worker, now, defer): (u32, u64, bool),
         opens: &mut Opens,
-    ) -> Result<bool, Fail> {
-        let ends = self.driver.len().checked_add(1).ok_or(AllocError)?;
-        self.deferred.reserve(alloc, ends)?;
-        assert!(rt; !self.driver.has_due());
-        assert!(rt; self.driver.ring_size() > 0);
-        let last = &mut self.last;
-        Ok(
-            self.driver
-                .service(worker, now, defer, opens, &mut self.deferred, last),
-        )
+    ) -> bool {
+        let ends = self.driver.len().checked_add(1);
+        let ends = ends.expect(rt, "too many requests");
+        make_room(rt, alloc, &mut self.deferred, ends);
+        demand(rt, !self.driver.has_due(), "something is due");
+        demand(rt, self.driver.ring_size() > 0, "no entry");
+        let (told, last) = (&mut self.deferred, &mut self.last);
+        self.driver.service(worker, now, defer, opens, told, last)
     }
 
     /// A result comes from the kernel. `Unlawful` where it may not come; then nothing changes.
@@ -229,61 +247,56 @@ impl Worker {
         given: OpResult,
         store: &mut Store,
     ) -> Result<(), Unlawful> {
-        let may = self.driver.may_land(id, given, store);
-        assert!(rt; may);
+        demand(
+            rt,
+            self.driver.may_land(id, given, store),
+            "it may not land",
+        );
         self.driver.land(id, given, store)
     }
 
     /// The wheel advances to this moment, in nanoseconds. It fails where something due was not told.
     pub fn advance(&mut self, rt: &impl Abort, now: u64) {
-        let settled = self.driver.is_settled();
-        assert!(rt; settled);
+        demand(rt, self.driver.is_settled(), "something is due");
         self.driver.advance(now);
     }
 
     /// When the next deadline comes, in nanoseconds.
     pub fn next_deadline(&self, rt: &impl Abort) -> Option<u64> {
-        let settled = self.driver.is_settled();
-        assert!(rt; settled);
+        demand(rt, self.driver.is_settled(), "something is due");
         self.driver.next_deadline()
     }
 
     /// Tells the first request that is due.
-    pub fn expire(&mut self, alloc: Global) -> Result<Option<WaiterId>, Fail> {
-        self.deferred.reserve(alloc, 1)?;
-        Ok(self.driver.expire(&mut self.deferred))
+    pub fn expire(&mut self, rt: &impl Abort, alloc: Global) -> Option<WaiterId> {
+        make_room(rt, alloc, &mut self.deferred, 1);
+        self.driver.expire(&mut self.deferred)
     }
 
     /// The first request that has a deadline goes on the wheel, or ends since it is late or too far off.
-    pub fn enrol(
-        &mut self,
-        rt: &impl Abort,
-        alloc: Global,
-        now: u64,
-    ) -> Result<Option<Enrolled>, Fail> {
-        self.deferred.reserve(alloc, 1)?;
-        let settled = self.driver.is_settled();
-        assert!(rt; settled);
-        Ok(self.driver.enrol(now, &mut self.deferred))
+    pub fn enrol(&mut self, rt: &impl Abort, alloc: Global, now: u64) -> Option<Enrolled> {
+        make_room(rt, alloc, &mut self.deferred, 1);
+        demand(rt, self.driver.is_settled(), "something is due");
+        self.driver.enrol(now, &mut self.deferred)
     }
 
     /// Takes the permit of this open, as worker 0, where it waits for one.
     pub fn grant(
         &mut self,
+        rt: &impl Abort,
         alloc: Global,
         file: u32,
         opens: &mut Opens,
-    ) -> Result<Option<Granted>, Fail> {
-        self.deferred.reserve(alloc, 1)?;
-        Ok(self.driver.grant(0, file, opens, &mut self.deferred))
+    ) -> Option<Granted> {
+        make_room(rt, alloc, &mut self.deferred, 1);
+        self.driver.grant(0, file, opens, &mut self.deferred)
     }
 
     /// Stages the first request that may be, and lets the kernel take it in.
     pub fn stage(&mut self, rt: &impl Abort, opens: &Opens) -> Option<WaiterId> {
-        let may = self.driver.may_stage()
-            && !self.driver.is_full()
-            && !self.driver.has_enrolments();
-        assert!(rt; may);
+        demand(rt, self.driver.may_stage(), "nothing may be staged");
+        demand(rt, !self.driver.is_full(), "the queue is full");
+        demand(rt, !self.driver.has_enrolments(), "not enrolled");
         let staged = self.driver.stage(opens);
         let _taken = self.enter();
         staged
@@ -296,15 +309,14 @@ impl Worker {
 
     /// Stages the first cancel. It fails where the submission queue is full.
     pub fn stage_cancel(&mut self, rt: &impl Abort) -> Option<WaiterId> {
-        let room = !self.driver.is_full();
-        assert!(rt; room);
+        demand(rt, !self.driver.is_full(), "the queue is full");
         self.driver.stage_cancel()
     }
 
     /// Takes the next completion.
-    pub fn reap(&mut self, alloc: Global, opens: &mut Opens) -> Result<Option<Reaped>, Fail> {
-        self.deferred.reserve(alloc, 1)?;
-        Ok(self.driver.reap(opens, &mut self.deferred))
+    pub fn reap(&mut self, rt: &impl Abort, alloc: Global, opens: &mut Opens) -> Option<Reaped> {
+        make_room(rt, alloc, &mut self.deferred, 1);
+        self.driver.reap(opens, &mut self.deferred)
     }
 
     /// A task looks at a request. It fails where it may not.
@@ -314,35 +326,31 @@ impl Worker {
         id: WaiterId,
         task: u32,
     ) -> Observation<RequestOutput> {
-        let may = self.driver.may_be_seen(id);
-        assert!(rt; may);
+        demand(rt, self.driver.may_be_seen(id), "it may not be seen");
         self.driver.observe(id, TaskNo(task))
     }
 
     /// The outcome of a request is to be sent on.
-    pub fn forward(&mut self, alloc: Global, id: WaiterId, sender: u32) -> Result<(), Fail> {
-        self.deferred.reserve(alloc, 1)?;
+    pub fn forward(&mut self, rt: &impl Abort, alloc: Global, id: WaiterId, sender: u32) {
+        make_room(rt, alloc, &mut self.deferred, 1);
         self.driver.forward(id, sender, &mut self.deferred);
-        Ok(())
     }
 
     /// Nobody waits for a request any more.
-    pub fn orphan(&mut self, alloc: Global, id: WaiterId) -> Result<(), Fail> {
-        self.deferred.reserve(alloc, 2)?;
+    pub fn orphan(&mut self, rt: &impl Abort, alloc: Global, id: WaiterId) {
+        make_room(rt, alloc, &mut self.deferred, 2);
         self.driver.orphan(id, &mut self.deferred);
-        Ok(())
     }
 
     /// The next request loses its observer, as the worker closes.
-    pub fn close(&mut self, alloc: Global) -> Result<Option<WaiterId>, Fail> {
-        self.deferred.reserve(alloc, 2)?;
-        Ok(self.driver.close(&mut self.deferred))
+    pub fn close(&mut self, rt: &impl Abort, alloc: Global) -> Option<WaiterId> {
+        make_room(rt, alloc, &mut self.deferred, 2);
+        self.driver.close(&mut self.deferred)
     }
 
     /// Another task waits for a request. It fails where the request is not observed here.
     pub fn set_waker(&mut self, rt: &impl Abort, id: WaiterId, task: u32) -> Option<TaskNo> {
-        let here = self.driver.is_observed_here(id);
-        assert!(rt; here);
+        demand(rt, self.driver.is_observed_here(id), "no task waits for it");
         self.driver.set_waker(id, TaskNo(task))
     }
 
@@ -374,14 +382,7 @@ impl Worker {
     }
 
     /// How many of each list there are: wakes, outputs, resources, completions, results.
-    pub fn counts(&self) -> (usize, usize, usize, usize, usize) {
-        let deferred = &self.deferred;
-        (
-            deferred.notes.wakes.len(),
-            deferred.outputs.len(),
-            deferred.resources.len(),
-            deferred.notes.completions.len(),
-            deferred.results.len(),
-        )
+    pub fn counts(&self) -> Counts {
+        counts(&self.deferred)
     }
 }

@@ -6,36 +6,40 @@ ghost use Rattle.exec_driver.specs.Driving.{seen};
 ghost use Rattle.exec_registration.specs.declared.registration.RegistrationState.TheVariants as state;
 ghost use Rattle.exec_time.specs.Sleepers.{is_forwarded};
 ghost use Rattle.exec_time.specs.declared.timers.TimerId.{TimerId as Timer};
+ghost use Rattle.exec_time.specs.Notes.{HasRoom};
 ghost use Rattle.exec_waiters.specs.States.{may_be_seen};
+ghost use Rattle.exec_waiters.specs.Told.{HasPlaces};
 ghost use Rattle.exec_waiters.specs.declared.waiter_id.WaiterId.{WaiterId as Name};
 
+use crate::found::{demand, holds, same};
+use crate::mail::Mail;
 use exec_base::error::Error;
 use exec_base::one_shot::OneShot;
-use exec_base::post::Post;
 use exec_base::slab::Id;
 use exec_base::task_no::TaskNo;
-use exec_driver::driver::Driver;
+use exec_driver::driver::{Driver, Reaped};
 use exec_driver::home::Home;
 use exec_driver::opens::Opens;
 use exec_outcomes::outcome::OpResult;
-use exec_registration::mail::{Cancel, Forward, Places};
+use exec_registration::mail::{Cancel, Forward};
 use exec_registration::operation::{Operation, Started, start_sync};
 use exec_registration::registration::{Registration, RegistrationState};
 use exec_request::output::RequestOutput;
 use exec_request::poll::PollRequest;
 use exec_request::request::Request;
 use exec_request::sync::SyncRequest;
+use exec_ring::landing::Unlawful;
 use exec_ring::sim_ring::SimRing;
 use exec_ring::store::Store;
-use exec_time::notes::ForwardedResult;
+use exec_time::notes::{ForwardedResult, Notes};
 use exec_time::timers::TimerId;
 use exec_time::wheel::TimeoutWheel;
-use exec_waiters::deferred::Answer;
+use exec_waiters::deferred::{Answer, Deferred};
 use exec_waiters::waiter_id::WaiterId;
-use std::alloc::{AllocError, Global};
+use std::alloc::Global;
+use std::marker::Model;
 use std::mem;
 use std::process::Abort;
-use std::test::Fail;
 
 type Ours = Home<SimRing, u32, u32>;
 
@@ -47,73 +51,21 @@ pub fn name(index: u32, generation: u64) -> WaiterId {
 /// What a request that was sent on is answered by.
 pub type Awaited = OneShot<Result<RequestOutput, Error>>;
 
-/// The mail of a worker: what came last of each kind, unless it is closed.
-#[derive(Drop)]
-pub struct Mail {
-    places: usize,
-    closed: bool,
-    forwarded: Option<Forward<u32, u32>>,
-    cancelled: Option<Cancel>,
-}
-
-impl Mail {
-    /// How many places are reserved.
-    pub fn places(&self) -> usize {
-        self.places
-    }
-
-    /// Whether nothing was asked of another worker.
-    pub fn is_empty(&self) -> bool {
-        self.forwarded.is_none() && self.cancelled.is_none()
+/// Makes room for so many in each list of what is to be told. It fails where memory is wanting.
+fn make_room(rt: &impl Abort, alloc: Global, told: &mut Deferred<u32, u32>, n: usize)
+    ensures { HasPlaces told.new n }
+{
+    if told.reserve(alloc, n).is_err() {
+        panic!(rt; "no memory");
     }
 }
 
-impl Places for Mail {
-    ghost places = { λ m. m.places };
-
-    fn reserve(&mut self, _alloc: Global, n: usize) -> Result<(), AllocError> {
-        self.places = self.places.checked_add(n).ok_or(AllocError)?;
-        Ok(())
-    }
-
-    fn release(&mut self, n: usize) {
-        self.places -= n;
-    }
-}
-
-impl Post<Forward<u32, u32>> for Mail {
-    ghost use Rattle.std.specs.Prelude.{None};
-
-    ghost closed = { λ m. m.closed };
-
-    ghost taken = { λ _. None };
-
-    ghost has_place = { λ _ _. Unit {0} };
-
-    fn send(&mut self, message: Forward<u32, u32>) -> Result<(), Forward<u32, u32>> {
-        if self.closed {
-            return Err(message);
-        }
-        self.forwarded = Some(message);
-        Ok(())
-    }
-}
-
-impl Post<Cancel> for Mail {
-    ghost use Rattle.std.specs.Prelude.{None};
-
-    ghost closed = { λ m. m.closed };
-
-    ghost taken = { λ _. None };
-
-    ghost has_place = { λ _ _. Unit {0} };
-
-    fn send(&mut self, message: Cancel) -> Result<(), Cancel> {
-        if self.closed {
-            return Err(message);
-        }
-        self.cancelled = Some(message);
-        Ok(())
+/// Makes room for so many wakes and outcomes. It fails where memory is wanting.
+fn make_notes(rt: &impl Abort, alloc: Global, notes: &mut Notes<u32>, n: usize)
+    ensures { HasRoom notes.new n }
+{
+    if notes.reserve(alloc, n).is_err() {
+        panic!(rt; "no memory");
     }
 }
 
@@ -124,32 +76,51 @@ pub struct Desk {
     mail: Mail,
 }
 
+impl Model for Desk {
+    ghost Value = { Unit {0} };
+
+    ghost view = { λ _. tt };
+}
+
 impl Desk {
     /// A worker with this number, over a ring of four entries. None where memory is wanting.
     pub fn new(alloc: Global, worker: u32, store: &mut Store) -> Option<Self> {
         let ring = SimRing::new(alloc, 4).ok()?;
         TimeoutWheel::validate_layout(1000, 100).ok()?;
         let driver = Driver::new(alloc, ring, 1000, 100, 0, store).ok()?;
-        let mail = Mail {
-            places: 0,
-            closed: false,
-            forwarded: None,
-            cancelled: None,
-        };
-        Some(Desk {
-            home: Home::new(alloc, worker, driver),
-            mail,
-        })
+        Some(Desk::with(alloc, worker, driver))
     }
 
-    /// The worker, to look at.
-    pub fn home(&self) -> &Ours {
-        &self.home
+    /// A worker with this number and this driver, of which nothing was asked.
+    fn with(alloc: Global, worker: u32, driver: Driver<SimRing, u32, u32>) -> Self {
+        let home = Home::new(alloc, worker, driver);
+        let mail = Mail::new();
+        Desk { home, mail }
     }
 
-    /// Its mail, to look at.
-    pub fn mail(&self) -> &Mail {
-        &self.mail
+    /// How many places are reserved in its mail.
+    pub fn places(&self) -> usize {
+        self.mail.places
+    }
+
+    /// Whether nothing was asked of another worker.
+    pub fn is_unasked(&self) -> bool {
+        self.mail.is_empty()
+    }
+
+    /// Whether it has no request that is not over.
+    pub fn is_empty(&self) -> bool {
+        self.home.driver.is_empty()
+    }
+
+    /// Whether a cancel is to be staged.
+    pub fn has_cancels(&self) -> bool {
+        self.home.driver.has_cancels()
+    }
+
+    /// The tasks that are to be woken.
+    pub fn wakes(&self) -> &[TaskNo] {
+        self.home.deferred.notes.wakes.as_slice()
     }
 
     /// The worker closes.
@@ -177,6 +148,11 @@ impl Desk {
         self.home.deferred.results.pop()
     }
 
+    /// The outcome that is to be sent last, with its sender.
+    pub fn take_completion(&mut self) -> Option<ForwardedResult<u32>> {
+        self.home.deferred.notes.completions.pop()
+    }
+
     /// Registers a readiness poll of listener 1. None where memory is wanting.
     pub fn listen(
         &mut self,
@@ -189,17 +165,16 @@ impl Desk {
         Operation::register(alloc, request, home, 0, opens, store, mail).ok()
     }
 
-    /// Makes a sleeper of a task that wakes at this moment, in nanoseconds.
-    pub fn insert_sleeper(&mut self, alloc: Global, at: u64, task: u32) -> Result<TimerId, Fail> {
-        Ok(self.home.timers.insert(alloc, at, TaskNo(task))?)
+    /// Makes a sleeper of a task that wakes at this moment, in nanoseconds. None where memory is wanting.
+    pub fn insert_sleeper(&mut self, alloc: Global, at: u64, task: u32) -> Option<TimerId> {
+        self.home.timers.insert(alloc, at, TaskNo(task)).ok()
     }
 
-    /// Wakes the sleepers whose moment, in nanoseconds, has come; none where memory is wanting.
-    pub fn wake_sleepers(&mut self, alloc: Global, now: u64) {
-        let count = self.home.timers.len();
-        if self.home.deferred.notes.reserve(alloc, count).is_ok() {
-            self.home.timers.expire(now, &mut self.home.deferred.notes);
-        }
+    /// Wakes the sleepers whose moment, in nanoseconds, has come. It fails where memory is wanting.
+    pub fn wake_sleepers(&mut self, rt: &impl Abort, alloc: Global, now: u64) {
+        let (timers, notes) = (&mut self.home.timers, &mut self.home.deferred.notes);
+        make_notes(rt, alloc, notes, timers.len());
+        timers.expire(now, notes);
     }
 
     /// Begins a sync of open 0 with sender 5, of which the caller saw so many writes. None where it is refused.
@@ -215,31 +190,29 @@ impl Desk {
     }
 
     /// The worker, which has number 0, takes the permit of open 0.
-    pub fn grant_first(&mut self, alloc: Global, opens: &mut Opens) -> Result<(), Fail> {
-        self.home.deferred.reserve(alloc, 1)?;
-        let (driver, deferred) = (&mut self.home.driver, &mut self.home.deferred);
-        driver.grant(0, 0, opens, deferred);
-        Ok(())
-    }
-
-    /// The outcome that is to be sent last, with its sender.
-    pub fn take_completion(&mut self) -> Option<ForwardedResult<u32>> {
-        self.home.deferred.notes.completions.pop()
+    pub fn grant_first(&mut self, rt: &impl Abort, alloc: Global, opens: &mut Opens) {
+        make_room(rt, alloc, &mut self.home.deferred, 1);
+        let (driver, told) = (&mut self.home.driver, &mut self.home.deferred);
+        driver.grant(0, 0, opens, told);
     }
 
     /// Applies a cancel of a request that came from elsewhere.
-    pub fn apply_cancel(&mut self, alloc: Global, id: WaiterId) -> Result<(), Fail> {
-        self.home.deferred.reserve(alloc, 2)?;
+    pub fn apply_cancel(&mut self, rt: &impl Abort, alloc: Global, id: WaiterId) {
+        make_room(rt, alloc, &mut self.home.deferred, 2);
         Cancel::Waiter(id).apply(&mut self.home);
-        Ok(())
     }
 
     /// Stages the first request that was ever named.
     pub fn stage_first(&mut self, rt: &impl Abort, opens: &Opens) {
+        holds(rt, 0, self.stage(rt, opens).is_some());
+    }
+
+    fn stage(&mut self, rt: &impl Abort, opens: &Opens) -> Option<WaiterId> {
         let driver = &mut self.home.driver;
-        let ready = driver.may_stage() && !driver.is_full() && !driver.has_enrolments();
-        assert!(rt; ready);
-        assert!(rt; driver.stage(opens).is_some());
+        demand(rt, driver.may_stage(), "nothing may be staged");
+        demand(rt, !driver.is_full(), "the queue is full");
+        demand(rt, !driver.has_enrolments(), "not enrolled");
+        driver.stage(opens)
     }
 
     /// The operation of the first request fails with error number 5, and is taken in.
@@ -249,21 +222,27 @@ impl Desk {
         alloc: Global,
         opens: &mut Opens,
         store: &mut Store,
-    ) -> Result<(), Fail> {
+    ) {
         self.stage_first(rt, opens);
+        self.enter();
+        same(rt, 1, &self.land_failed(rt, store), &Ok(()));
+        holds(rt, 2, self.reap(rt, alloc, opens).is_some());
+    }
+
+    fn enter(&mut self) {
         self.home.driver.enter();
-        let (id, given) = (name(0, 0), OpResult::Errno(5));
-        let may = self.home.driver.may_land(id, given, store);
-        assert!(rt; may);
-        assert_eq!(rt; self.home.driver.land(id, given, store), Ok(()));
-        self.home.deferred.reserve(alloc, 1)?;
-        assert!(rt;
-            self.home
-                .driver
-                .reap(opens, &mut self.home.deferred)
-                .is_some()
-        );
-        Ok(())
+    }
+
+    fn land_failed(&mut self, rt: &impl Abort, store: &mut Store) -> Result<(), Unlawful> {
+        let (driver, id, given) = (&mut self.home.driver, name(0, 0), OpResult::Errno(5));
+        demand(rt, driver.may_land(id, given, store), "it may not land");
+        driver.land(id, given, store)
+    }
+
+    fn reap(&mut self, rt: &impl Abort, alloc: Global, opens: &mut Opens) -> Option<Reaped> {
+        make_room(rt, alloc, &mut self.home.deferred, 1);
+        let (driver, told) = (&mut self.home.driver, &mut self.home.deferred);
+        driver.reap(opens, told)
     }
 
     /// Polls a registration for a task, with sender 9.
@@ -275,11 +254,8 @@ impl Desk {
         task: u32,
         answer: &mut Awaited,
     ) -> Result<Option<RequestOutput>, Error> {
-        if self.home.deferred.reserve(alloc, 2).is_err() {
-            return Err(Error::NoMemory);
-        }
-        let may = may_poll(op, &self.home);
-        assert!(rt; may);
+        make_room(rt, alloc, &mut self.home.deferred, 2);
+        demand(rt, may_poll(op, &self.home), "it may not be polled");
         op.poll(TaskNo(task), &mut self.home, 9, &mut self.mail, answer)
     }
 
@@ -291,35 +267,30 @@ impl Desk {
         sleep: &mut Registration<TimerId>,
         task: u32,
     ) -> Result<Option<()>, Error> {
-        let mut answer = OneShot::new();
-        if self.home.deferred.reserve(alloc, 2).is_err() {
-            return Err(Error::NoMemory);
-        }
-        let may = may_wait(sleep, &self.home);
-        assert!(rt; may);
-        sleep.poll(TaskNo(task), &mut self.home, 9, &mut self.mail, &mut answer)
+        make_room(rt, alloc, &mut self.home.deferred, 2);
+        demand(rt, may_wait(sleep, &self.home), "it may not be polled");
+        let (home, mail) = (&mut self.home, &mut self.mail);
+        sleep.poll(TaskNo(task), home, 9, mail, &mut OneShot::new())
     }
 
     /// Applies a forward of a request that came from elsewhere.
-    pub fn apply(&mut self, alloc: Global, forward: Forward<u32, u32>) {
+    pub fn apply(&mut self, rt: &impl Abort, alloc: Global, forward: Forward<u32, u32>) {
         match forward {
             Forward::Timer(_, _) => {}
-            Forward::Waiter(id, sender) => {
-                if self.home.deferred.reserve(alloc, 1).is_ok() {
-                    let again: Forward<u32, u32> = Forward::Waiter(id, sender);
-                    again.apply(&mut self.home);
-                }
-            }
+            Forward::Waiter(id, sender) => self.forward(rt, alloc, id, sender),
         }
     }
 
+    fn forward(&mut self, rt: &impl Abort, alloc: Global, id: WaiterId, sender: u32) {
+        make_room(rt, alloc, &mut self.home.deferred, 1);
+        let forward: Forward<u32, u32> = Forward::Waiter(id, sender);
+        forward.apply(&mut self.home);
+    }
+
     /// Lets a registration go.
-    pub fn release(&mut self, alloc: Global, op: Operation) {
-        if self.home.deferred.reserve(alloc, 2).is_err() {
-            op.release_elsewhere::<u32, u32, Mail>(&mut self.mail);
-        } else {
-            op.release(&mut self.home, &mut self.mail);
-        }
+    pub fn release(&mut self, rt: &impl Abort, alloc: Global, op: Operation) {
+        make_room(rt, alloc, &mut self.home.deferred, 2);
+        op.release(&mut self.home, &mut self.mail);
     }
 
     /// Polls a registration for who has no worker, with sender 9. `Full` where it is over.

@@ -4,6 +4,10 @@
 #[cfg(test)]
 mod desk;
 #[cfg(test)]
+mod found;
+#[cfg(test)]
+mod mail;
+#[cfg(test)]
 mod registrations;
 #[cfg(test)]
 mod sleepers;

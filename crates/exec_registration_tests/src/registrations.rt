@@ -1,18 +1,19 @@
 //! Registrations of requests: polls here and elsewhere, and what is let go.
 
-use crate::desk::{Awaited, name};
+use crate::desk::{Awaited, Desk, name};
+use crate::found::{holds, same};
 use crate::visits::{Desks, Heard, Visit};
 use exec_base::error::Error;
 use exec_base::one_shot::OneShot;
 use exec_registration::mail::Cancel;
 use exec_registration::operation::Operation;
 use exec_registration::registration::Registration;
+use exec_waiters::waiter_id::WaiterId;
 use std::process::Abort;
-use std::test::Fail;
 
 #[test]
-fn a_request_is_registered_polled_and_taken(rt: HostRuntime) -> Result<(), Fail> {
-    let mut desks = Desks::new(rt.alloc())?;
+fn a_request_is_registered_polled_and_taken(rt: HostRuntime) {
+    let mut desks = Desks::new(&rt, rt.alloc());
     let steps = [
         Visit::Places(2),
         Visit::Poll(7, Heard::Nothing),
@@ -22,14 +23,13 @@ fn a_request_is_registered_polled_and_taken(rt: HostRuntime) -> Result<(), Fail>
         Visit::Poll(8, Heard::Failed),
         Visit::Over,
     ];
-    desks.visit(&rt, rt.alloc(), &steps)?;
-    assert!(rt; desks.ours().mail().is_empty());
-    Ok(())
+    desks.visit(&rt, rt.alloc(), &steps);
+    holds(&rt, 7, desks.ours().is_unasked());
 }
 
 #[test]
-fn a_poll_elsewhere_asks_once_and_hears(rt: HostRuntime) -> Result<(), Fail> {
-    let mut desks = Desks::new(rt.alloc())?;
+fn a_poll_elsewhere_asks_once_and_hears(rt: HostRuntime) {
+    let mut desks = Desks::new(&rt, rt.alloc());
     let steps = [
         Visit::PollThere(7, Heard::Nothing),
         Visit::Carry,
@@ -39,63 +39,64 @@ fn a_poll_elsewhere_asks_once_and_hears(rt: HostRuntime) -> Result<(), Fail> {
         Visit::Send,
         Visit::PollAway(Heard::Failed),
     ];
-    desks.visit_away(&rt, rt.alloc(), &steps)?;
-    assert!(rt; desks.ours().mail().is_empty());
-    Ok(())
+    desks.visit_away(&rt, rt.alloc(), &steps);
+    holds(&rt, 7, desks.ours().is_unasked());
 }
 
 #[test]
-fn what_is_released_here_is_let_go(rt: HostRuntime) -> Result<(), Fail> {
-    let mut desks = Desks::new(rt.alloc())?;
-    desks.visit(&rt, rt.alloc(), &[])?;
-    let ours = desks.ours();
-    assert!(rt; ours.home().driver.is_empty() && ours.mail().is_empty());
-    Ok(())
+fn what_is_released_here_is_let_go(rt: HostRuntime) {
+    let mut desks = Desks::new(&rt, rt.alloc());
+    desks.visit(&rt, rt.alloc(), &[]);
+    holds(&rt, 0, desks.ours().is_empty());
+    holds(&rt, 0, desks.ours().is_unasked());
+}
+
+/// The request that a cancel is of, which was sent by who let it go.
+fn cancelled(rt: &impl Abort, ours: &mut Desk) -> WaiterId {
+    match ours.take_cancel() {
+        Some(Cancel::Waiter(id)) => id,
+        _ => panic!(rt; "no cancel"),
+    }
 }
 
 #[test]
-fn what_is_released_elsewhere_is_let_go(rt: HostRuntime) -> Result<(), Fail> {
+fn what_is_released_elsewhere_is_let_go(rt: HostRuntime) {
     let alloc = rt.alloc();
-    let mut desks = Desks::new(alloc)?;
-    desks.visit(&rt, alloc, &[])?;
-    let Some(op) = desks.listen(alloc) else {
-        return Err("not registered".into());
-    };
+    let mut desks = Desks::new(&rt, alloc);
+    desks.visit(&rt, alloc, &[]);
+    let op = desks.listen(&rt, alloc);
     desks.stage_first(&rt);
     let ours = desks.ours();
     ours.release_away(op);
-    let Some(Cancel::Waiter(id)) = ours.take_cancel() else {
-        return Err("no cancel".into());
-    };
-    assert_eq!(rt; id, name(0, 1));
-    assert!(rt; !ours.home().driver.has_cancels());
-    ours.apply_cancel(alloc, id)?;
-    assert!(rt; ours.home().driver.has_cancels() && !ours.home().driver.is_empty());
-    Ok(())
+    let id = cancelled(&rt, ours);
+    same(&rt, 0, &id, &name(0, 1));
+    holds(&rt, 1, !ours.has_cancels());
+    ours.apply_cancel(&rt, alloc, id);
+    holds(&rt, 2, ours.has_cancels());
+    holds(&rt, 3, !ours.is_empty());
 }
 
 #[test]
-fn a_closing_worker_takes_nothing(rt: HostRuntime) -> Result<(), Fail> {
+fn a_closing_worker_takes_nothing(rt: HostRuntime) {
     let alloc = rt.alloc();
-    let mut desks = Desks::new(alloc)?;
+    let mut desks = Desks::new(&rt, alloc);
     let closed = Visit::Poll(7, Heard::Closed);
     let before = [Visit::Close, Visit::Places(2), closed, Visit::Empty];
-    desks.visit(&rt, alloc, &before)?;
+    desks.visit(&rt, alloc, &before);
     desks.ours().close();
     let after = [Visit::Places(2), closed, Visit::Empty];
-    desks.visit(&rt, alloc, &after)
+    desks.visit(&rt, alloc, &after);
 }
 
 #[test]
-fn a_closed_mail_takes_nothing(rt: HostRuntime) -> Result<(), Fail> {
-    let mut desks = Desks::new(rt.alloc())?;
+fn a_closed_mail_takes_nothing(rt: HostRuntime) {
+    let mut desks = Desks::new(&rt, rt.alloc());
     let mut answer: Awaited = OneShot::new();
     let mut op: Operation = Registration::new(0, name(0, 0));
     let ours = desks.ours();
     ours.close();
     ours.close_mail();
     let gone = ours.poll_away(&mut op, &mut answer);
-    assert!(rt; matches!(gone, Err(Error::Closed)));
+    holds(&rt, 0, matches!(gone, Err(Error::Closed)));
     ours.release_away(op);
-    Ok(())
 }

@@ -1,6 +1,7 @@
 //! Worked examples of registrations as tables: each step is a call on one registration with what has to come of it.
 
 use crate::desk::{Awaited, Desk};
+use crate::found::{holds, same};
 use exec_base::error::{Cause, Error};
 use exec_base::one_shot::OneShot;
 use exec_base::task_no::TaskNo;
@@ -11,7 +12,6 @@ use exec_request::output::RequestOutput;
 use exec_ring::store::Store;
 use std::alloc::Global;
 use std::process::Abort;
-use std::test::Fail;
 
 /// A step with a registration of a request.
 #[derive(Clone, Copy)]
@@ -64,20 +64,19 @@ pub struct Desks {
 }
 
 impl Desks {
-    /// Workers 0 and 1. An `Err` where memory is wanting.
-    pub fn new(alloc: Global) -> Result<Self, Fail> {
+    /// Workers 0 and 1. It fails where memory is wanting.
+    pub fn new(rt: &impl Abort, alloc: Global) -> Self {
         let mut store = Store::new(alloc);
-        let ours = Desk::new(alloc, 0, &mut store).ok_or("no worker")?;
-        let theirs = Desk::new(alloc, 1, &mut store).ok_or("no worker")?;
-        let opens = Opens::new(alloc, 1)?;
-        let answer = OneShot::new();
-        Ok(Desks {
+        let ours = Desk::new(alloc, 0, &mut store).expect(rt, "no worker");
+        let theirs = Desk::new(alloc, 1, &mut store).expect(rt, "no worker");
+        let opens = Opens::new(alloc, 1).expect(rt, "no memory");
+        Desks {
             ours,
             theirs,
             opens,
             store,
-            answer,
-        })
+            answer: OneShot::new(),
+        }
     }
 
     /// The first worker.
@@ -85,9 +84,10 @@ impl Desks {
         &mut self.ours
     }
 
-    /// Registers a readiness poll at the first worker. None where memory is wanting.
-    pub fn listen(&mut self, alloc: Global) -> Option<Operation> {
-        self.ours.listen(alloc, &mut self.opens, &mut self.store)
+    /// Registers a readiness poll at the first worker. It fails where memory is wanting.
+    pub fn listen(&mut self, rt: &impl Abort, alloc: Global) -> Operation {
+        let op = self.ours.listen(alloc, &mut self.opens, &mut self.store);
+        op.expect(rt, "not registered")
     }
 
     /// The first request is staged.
@@ -96,107 +96,87 @@ impl Desks {
     }
 
     /// Registers a readiness poll at the first worker, takes these steps with it, and lets it go there.
-    pub fn visit(&mut self, rt: &impl Abort, alloc: Global, steps: &[Visit]) -> Result<(), Fail> {
-        let Some(mut op) = self.listen(alloc) else {
-            return Err("not registered".into());
-        };
-        let visited = self.take_all(rt, alloc, &mut op, steps);
-        self.ours.release(alloc, op);
-        visited
+    pub fn visit(&mut self, rt: &impl Abort, alloc: Global, steps: &[Visit]) {
+        let mut op = self.listen(rt, alloc);
+        self.take_all(rt, alloc, &mut op, steps);
+        self.ours.release(rt, alloc, op);
     }
 
     /// As `visit`, but who has no worker lets it go.
-    pub fn visit_away(
-        &mut self,
-        rt: &impl Abort,
-        alloc: Global,
-        steps: &[Visit],
-    ) -> Result<(), Fail> {
-        let Some(mut op) = self.listen(alloc) else {
-            return Err("not registered".into());
-        };
-        let visited = self.take_all(rt, alloc, &mut op, steps);
+    pub fn visit_away(&mut self, rt: &impl Abort, alloc: Global, steps: &[Visit]) {
+        let mut op = self.listen(rt, alloc);
+        self.take_all(rt, alloc, &mut op, steps);
         self.ours.release_away(op);
-        visited
     }
 
-    fn take_all(
-        &mut self,
-        rt: &impl Abort,
-        alloc: Global,
-        op: &mut Operation,
-        steps: &[Visit],
-    ) -> Result<(), Fail> {
-        for step in steps {
-            self.take(rt, alloc, op, *step)?;
+    fn take_all(&mut self, rt: &impl Abort, alloc: Global, op: &mut Operation, steps: &[Visit]) {
+        for (at, step) in steps.iter().enumerate() {
+            self.take(rt, alloc, at, op, *step);
         }
-        Ok(())
     }
 
-    fn take(
-        &mut self,
-        rt: &impl Abort,
-        alloc: Global,
-        op: &mut Operation,
-        step: Visit,
-    ) -> Result<(), Fail> {
+    fn take(&mut self, rt: &impl Abort, alloc: Global, at: usize, op: &mut Operation, step: Visit) {
         match step {
             Visit::Poll(task, heard) => {
                 let told = self.ours.poll(rt, alloc, op, task, &mut self.answer);
-                assert!(rt; is_heard(&told, heard));
+                holds(rt, at, is_heard(&told, heard));
             }
             Visit::PollThere(task, heard) => {
                 let told = self.theirs.poll(rt, alloc, op, task, &mut self.answer);
-                assert!(rt; is_heard(&told, heard));
+                holds(rt, at, is_heard(&told, heard));
             }
             Visit::PollAway(heard) => {
                 let told = self.ours.poll_away(op, &mut self.answer);
-                assert!(rt; is_heard(&told, heard));
+                holds(rt, at, is_heard(&told, heard));
             }
-            Visit::Carry => self.carry(alloc)?,
-            Visit::Send => self.send(rt)?,
+            Visit::Over => holds(rt, at, is_over(op)),
+            step => self.go_on(rt, alloc, at, step),
+        }
+    }
+
+    fn go_on(&mut self, rt: &impl Abort, alloc: Global, at: usize, step: Visit) {
+        match step {
+            Visit::Carry => self.carry(rt, alloc),
+            Visit::Send => self.send(rt, at),
             Visit::Fail => {
                 self.ours
-                    .fail_first(rt, alloc, &mut self.opens, &mut self.store)?;
+                    .fail_first(rt, alloc, &mut self.opens, &mut self.store);
             }
             Visit::Close => self.ours.close(),
-            Visit::Over => assert!(rt; matches!(op.state(), RegistrationState::Done)),
-            look => self.look(rt, look),
+            look => self.look(rt, at, look),
         }
-        Ok(())
     }
 
-    fn look(&self, rt: &impl Abort, look: Visit) {
+    fn look(&self, rt: &impl Abort, at: usize, look: Visit) {
         match look {
-            Visit::Places(places) => assert_eq!(rt; self.ours.mail().places(), places),
+            Visit::Places(places) => same(rt, at, &self.ours.places(), &places),
             Visit::Wakes(task) => {
-                let wakes = self.ours.home().deferred.notes.wakes.as_slice();
-                assert_eq!(rt; wakes, [TaskNo(task)].as_slice());
+                same(rt, at, &self.ours.wakes(), &[TaskNo(task)].as_slice());
             }
             Visit::Unasked => {
-                assert!(rt; self.ours.mail().is_empty() && self.theirs.mail().is_empty());
+                holds(rt, at, self.ours.is_unasked());
+                holds(rt, at, self.theirs.is_unasked());
             }
-            Visit::Empty => assert!(rt; self.ours.home().driver.is_empty()),
-            _ => assert!(rt; false),
+            Visit::Empty => holds(rt, at, self.ours.is_empty()),
+            _ => holds(rt, at, false),
         }
     }
 
-    fn carry(&mut self, alloc: Global) -> Result<(), Fail> {
-        let Some(forward) = self.theirs.take_forward() else {
-            return Err("no forward".into());
-        };
-        self.ours.apply(alloc, forward);
-        Ok(())
+    fn carry(&mut self, rt: &impl Abort, alloc: Global) {
+        let forward = self.theirs.take_forward().expect(rt, "no forward");
+        self.ours.apply(rt, alloc, forward);
     }
 
-    fn send(&mut self, rt: &impl Abort) -> Result<(), Fail> {
-        let Some(told) = self.ours.take_result() else {
-            return Err("no result".into());
-        };
-        assert_eq!(rt; told.sender, 9);
-        assert!(rt; self.answer.send(told.result).is_ok());
-        Ok(())
+    fn send(&mut self, rt: &impl Abort, at: usize) {
+        let told = self.ours.take_result().expect(rt, "no result");
+        same(rt, at, &told.sender, &9);
+        holds(rt, at, self.answer.send(told.result).is_ok());
     }
+}
+
+/// Whether a registration is over.
+fn is_over(op: &Operation) -> bool {
+    matches!(op.state(), RegistrationState::Done)
 }
 
 /// Whether a poll answered this.
