@@ -19,10 +19,9 @@ use exec_ring::sim_ring::SimRing;
 use exec_ring::store::Store;
 use std::alloc::Global;
 use std::process::Abort;
-use std::test::Fail;
 
 #[test]
-fn a_service_step_by_step(rt: HostRuntime) -> Result<(), Fail> {
+fn a_service_step_by_step(rt: HostRuntime) {
     let id = name(0, 0);
     let enrolled = Enrolled { id, ended: None };
     let steps = [
@@ -51,11 +50,11 @@ fn a_service_step_by_step(rt: HostRuntime) -> Result<(), Fail> {
         Step::Look(Look::Is(Sign::Completion, false)),
         Step::Look(Look::Counts((1, 0, 1, 0, 0))),
     ];
-    play(&rt, rt.alloc(), 4, &steps)
+    play(&rt, rt.alloc(), 4, &steps);
 }
 
 #[test]
-fn a_late_cancel_changes_nothing(rt: HostRuntime) -> Result<(), Fail> {
+fn a_late_cancel_changes_nothing(rt: HostRuntime) {
     let id = name(0, 0);
     let steps = [
         Step::Wait(Wait::Admit(Ask::Send, id)),
@@ -71,11 +70,11 @@ fn a_late_cancel_changes_nothing(rt: HostRuntime) -> Result<(), Fail> {
         Step::Turn(Turn::Reap(None)),
         Step::Look(Look::Counts((0, 0, 1, 0, 0))),
     ];
-    play(&rt, rt.alloc(), 4, &steps)
+    play(&rt, rt.alloc(), 4, &steps);
 }
 
 #[test]
-fn what_is_gone_stays_gone(rt: HostRuntime) -> Result<(), Fail> {
+fn what_is_gone_stays_gone(rt: HostRuntime) {
     let (old, next, new) = (name(0, 0), name(0, 1), name(0, 2));
     let steps = [
         Step::Wait(Wait::Admit(Ask::Send, old)),
@@ -96,14 +95,14 @@ fn what_is_gone_stays_gone(rt: HostRuntime) -> Result<(), Fail> {
         Step::Turn(Turn::Land(new, OpResult::Errno(104), Ok(()))),
         Step::Look(Look::UserData(name(7, (1 << 32) + 3), (3 << 32) + 7)),
     ];
-    play(&rt, rt.alloc(), 4, &steps)
+    play(&rt, rt.alloc(), 4, &steps);
 }
 
 #[test]
-fn a_home_is_new(rt: HostRuntime) -> Result<(), Fail> {
+fn a_home_is_new(rt: HostRuntime) {
     let alloc = rt.alloc();
     let mut store = Store::new(alloc);
-    let ours = Worker::new(alloc, 4, &mut store).ok_or("no worker")?;
+    let ours = Worker::new(alloc, 4, &mut store).expect(&rt, "no worker");
     ours.driver().lands_nothing();
     ours.driver().flies_permitted();
     let home: Home<SimRing, u32, u32> = Home::new(alloc, 3, ours.into_driver());
@@ -111,19 +110,17 @@ fn a_home_is_new(rt: HostRuntime) -> Result<(), Fail> {
     same_count(&rt, 1, home.driver.len(), 0);
     holds(&rt, 2, !home.closing);
     holds(&rt, 3, home.deferred.is_empty());
-    Ok(())
 }
 
 #[test]
-fn opens_have_records(rt: HostRuntime) -> Result<(), Fail> {
-    let mut opens = Opens::new(rt.alloc(), 2)?;
+fn opens_have_records(rt: HostRuntime) {
+    let mut opens = Opens::new(rt.alloc(), 2).expect(&rt, "no memory");
     same_count(&rt, 0, opens.len(), 2);
     opens.begin_write(Some(1));
     let account = opens.account(Some(1));
     holds(&rt, 1, account.is_some());
     holds(&rt, 2, opens.account(Some(2)).is_none());
     opens.set_account(Some(0), account);
-    Ok(())
 }
 
 /// Open 1 gets a place for one more, who may then join its line.
@@ -148,9 +145,9 @@ fn give_up(rt: &impl Abort, alloc: Global, opens: &mut Opens) {
 }
 
 #[test]
-fn opens_have_gates(rt: HostRuntime) -> Result<(), Fail> {
+fn opens_have_gates(rt: HostRuntime) {
     let alloc = rt.alloc();
-    let mut opens = Opens::new(alloc, 2)?;
+    let mut opens = Opens::new(alloc, 2).expect(&rt, "no memory");
     give_up(&rt, alloc, &mut opens);
     let id = name(5, 0);
     let (first, second) = (WaiterKey { worker: 0, id }, WaiterKey { worker: 1, id });
@@ -161,7 +158,6 @@ fn opens_have_gates(rt: HostRuntime) -> Result<(), Fail> {
     same_key(&rt, 2, opens.leave(1), None);
     same_key(&rt, 3, opens.holder(1), None);
     same_key(&rt, 4, opens.holder(2), None);
-    Ok(())
 }
 
 /// Nothing is there of an admission that was refused.

@@ -10,10 +10,9 @@ use exec_outcomes::outcome::OpResult;
 use exec_request::cache::Cache;
 use exec_request::connect::SockAddr;
 use std::process::Abort;
-use std::test::Fail;
 
 #[test]
-fn a_receive_ends_with_any_byte(rt: HostRuntime) -> Result<(), Fail> {
+fn a_receive_ends_with_any_byte(rt: HostRuntime) {
     let id = name(0, 0);
     let steps = [
         Step::Lent(Lent::Feed(3, b"abcde")),
@@ -24,11 +23,11 @@ fn a_receive_ends_with_any_byte(rt: HostRuntime) -> Result<(), Fail> {
         Step::Lent(Lent::Received(3, b"abc")),
         Step::Wait(Wait::Observe(id, 1, Seen::Received(b"abc"))),
     ];
-    play(&rt, rt.alloc(), 4, &steps)
+    play(&rt, rt.alloc(), 4, &steps);
 }
 
 #[test]
-fn a_refused_hint_is_the_last(rt: HostRuntime) -> Result<(), Fail> {
+fn a_refused_hint_is_the_last(rt: HostRuntime) {
     let id = name(0, 0);
     let refused = OpResult::Errno(95);
     let goes_on = Reaped {
@@ -51,11 +50,11 @@ fn a_refused_hint_is_the_last(rt: HostRuntime) -> Result<(), Fail> {
         Step::Lent(Lent::Byte(0, 13, b'9')),
         Step::Lent(Lent::Byte(0, 14, 0)),
     ];
-    play(&rt, rt.alloc(), 4, &steps)
+    play(&rt, rt.alloc(), 4, &steps);
 }
 
 #[test]
-fn a_read_sees_what_was_written(rt: HostRuntime) -> Result<(), Fail> {
+fn a_read_sees_what_was_written(rt: HostRuntime) {
     let (write, read) = (name(0, 0), name(0, 1));
     let steps = [
         Step::Wait(Wait::Admit(Ask::Write(1, b"abc", Cache::Enabled), write)),
@@ -69,11 +68,11 @@ fn a_read_sees_what_was_written(rt: HostRuntime) -> Result<(), Fail> {
         Step::Turn(Turn::Over(read, bytes(4), Ok(()))),
         Step::Wait(Wait::Observe(read, 1, Seen::Read(b"\0abc"))),
     ];
-    play(&rt, rt.alloc(), 4, &steps)
+    play(&rt, rt.alloc(), 4, &steps);
 }
 
 #[test]
-fn a_failed_sync_is_kept(rt: HostRuntime) -> Result<(), Fail> {
+fn a_failed_sync_is_kept(rt: HostRuntime) {
     let (id, given) = (name(0, 0), OpResult::Errno(5));
     let failed = Reaped {
         id,
@@ -94,11 +93,11 @@ fn a_failed_sync_is_kept(rt: HostRuntime) -> Result<(), Fail> {
         Step::Lent(Lent::Holder(0, None)),
         Step::Lent(Lent::Failure(0, Some(kept))),
     ];
-    play(&rt, rt.alloc(), 4, &steps)
+    play(&rt, rt.alloc(), 4, &steps);
 }
 
 #[test]
-fn a_kept_failure_is_told_for_a_success(rt: HostRuntime) -> Result<(), Fail> {
+fn a_kept_failure_is_told_for_a_success(rt: HostRuntime) {
     let id = name(0, 0);
     let failed = Err(Error::WriteFailed);
     let told = Reaped {
@@ -118,11 +117,11 @@ fn a_kept_failure_is_told_for_a_success(rt: HostRuntime) -> Result<(), Fail> {
         Step::Turn(Turn::Reap(Some(told))),
         Step::Wait(Wait::Observe(id, 1, Seen::Sync(failed))),
     ];
-    play(&rt, rt.alloc(), 4, &steps)
+    play(&rt, rt.alloc(), 4, &steps);
 }
 
 #[test]
-fn a_connect_gives_its_address_back(rt: HostRuntime) -> Result<(), Fail> {
+fn a_connect_gives_its_address_back(rt: HostRuntime) {
     let near = SockAddr::V4([127, 0, 0, 1], 8080);
     let far = SockAddr::V6([7; 16], 443, 1, 2);
     let (first, second) = (name(0, 0), name(1, 0));
@@ -141,5 +140,5 @@ fn a_connect_gives_its_address_back(rt: HostRuntime) -> Result<(), Fail> {
         Step::Wait(Wait::LetGo(6, far)),
         Step::Look(Look::Len(0)),
     ];
-    play(&rt, rt.alloc(), 4, &steps)
+    play(&rt, rt.alloc(), 4, &steps);
 }

@@ -11,10 +11,9 @@ use exec_outcomes::outcome::OpResult;
 use exec_ring::landing::Unlawful;
 use exec_ring::ring::Entered;
 use std::process::Abort;
-use std::test::Fail;
 
 #[test]
-fn a_send_lands_once(rt: HostRuntime) -> Result<(), Fail> {
+fn a_send_lands_once(rt: HostRuntime) {
     let id = name(0, 0);
     let twice = Err(Unlawful(0, bytes(10)));
     let steps = [
@@ -39,11 +38,11 @@ fn a_send_lands_once(rt: HostRuntime) -> Result<(), Fail> {
         Step::Wait(Wait::Orphan(id)),
         Step::Look(Look::Counts((0, 0, 1, 0, 1))),
     ];
-    play(&rt, rt.alloc(), 4, &steps)
+    play(&rt, rt.alloc(), 4, &steps);
 }
 
 #[test]
-fn a_failed_write_fails_the_next(rt: HostRuntime) -> Result<(), Fail> {
+fn a_failed_write_fails_the_next(rt: HostRuntime) {
     let id = name(0, 0);
     let failed = Err(Error::Io(Cause::Code(5)));
     let kept = Err(Error::BlobSyncFailed(0, Cause::Code(5)));
@@ -72,11 +71,11 @@ fn a_failed_write_fails_the_next(rt: HostRuntime) -> Result<(), Fail> {
         Step::Swap,
         Step::Look(Look::Counts((0, 0, 1, 0, 0))),
     ];
-    play(&rt, rt.alloc(), 4, &steps)
+    play(&rt, rt.alloc(), 4, &steps);
 }
 
 #[test]
-fn what_is_due_is_cancelled_once(rt: HostRuntime) -> Result<(), Fail> {
+fn what_is_due_is_cancelled_once(rt: HostRuntime) {
     let (first, second) = (name(0, 0), name(1, 0));
     let gone = OpResult::Errno(125);
     let steps = [
@@ -105,11 +104,11 @@ fn what_is_due_is_cancelled_once(rt: HostRuntime) -> Result<(), Fail> {
         Step::Look(Look::Is(Sign::Empty, true)),
         Step::Look(Look::Counts((0, 1, 2, 0, 0))),
     ];
-    play(&rt, rt.alloc(), 1, &steps)
+    play(&rt, rt.alloc(), 1, &steps);
 }
 
 #[test]
-fn a_worker_waits_on_its_ring(rt: HostRuntime) -> Result<(), Fail> {
+fn a_worker_waits_on_its_ring(rt: HostRuntime) {
     let steps = [
         Step::Wait(Wait::Admit(Ask::Poll(None), name(0, 0))),
         Step::Turn(Turn::Park(true, false)),
@@ -124,7 +123,7 @@ fn a_worker_waits_on_its_ring(rt: HostRuntime) -> Result<(), Fail> {
         Step::Look(Look::Is(Sign::NeedsWakePoll, true)),
         Step::Turn(Turn::EnterBusy),
     ];
-    play(&rt, rt.alloc(), 4, &steps)
+    play(&rt, rt.alloc(), 4, &steps);
 }
 
 /// An enrolment of the request in this slot, and how it ended.
@@ -134,7 +133,7 @@ fn enrolled(index: u32, ended: Option<Error>) -> Option<Enrolled> {
 }
 
 #[test]
-fn deadlines_are_enrolled_in_order(rt: HostRuntime) -> Result<(), Fail> {
+fn deadlines_are_enrolled_in_order(rt: HostRuntime) {
     let io = Error::Io(Cause::InvalidInput);
     let now = 6 * MILLI;
     let steps = [
@@ -154,11 +153,11 @@ fn deadlines_are_enrolled_in_order(rt: HostRuntime) -> Result<(), Fail> {
         Step::Look(Look::Len(0)),
         Step::Look(Look::Counts((0, 2, 3, 0, 0))),
     ];
-    play(&rt, rt.alloc(), 4, &steps)
+    play(&rt, rt.alloc(), 4, &steps);
 }
 
 #[test]
-fn a_clean_sync_ends_at_its_grant(rt: HostRuntime) -> Result<(), Fail> {
+fn a_clean_sync_ends_at_its_grant(rt: HostRuntime) {
     let id = name(0, 0);
     let ended = Some(Ok(()));
     let steps = [
@@ -171,5 +170,5 @@ fn a_clean_sync_ends_at_its_grant(rt: HostRuntime) -> Result<(), Fail> {
         Step::Lent(Lent::Leave(0, None)),
         Step::Look(Look::NextGate(0, None)),
     ];
-    play(&rt, rt.alloc(), 4, &steps)
+    play(&rt, rt.alloc(), 4, &steps);
 }

@@ -21,7 +21,6 @@ use exec_waiters::waiter_id::WaiterId;
 use std::alloc::Global;
 use std::mem;
 use std::process::Abort;
-use std::test::Fail;
 
 /// Two workers that share an open and a store. The first goes on until a step says that the other does.
 #[derive(Drop)]
@@ -32,23 +31,26 @@ pub struct Trial {
     store: Store,
 }
 
-/// Plays these steps on fresh workers over rings of so many entries, with open 0. An `Err` where memory is wanting.
-pub fn play(rt: &impl Abort, alloc: Global, size: usize, steps: &[Step]) -> Result<(), Fail> {
-    let mut store = Store::new(alloc);
-    let ours = Worker::new(alloc, size, &mut store).ok_or("no worker")?;
-    let other = Worker::new(alloc, size, &mut store).ok_or("no worker")?;
-    let opens = Opens::new(alloc, 1)?;
-    let mut trial = Trial {
-        ours,
-        other,
-        opens,
-        store,
-    };
-    trial.play(rt, alloc, steps);
-    Ok(())
+/// Plays these steps on fresh workers over rings of so many entries. It fails where memory is wanting.
+pub fn play(rt: &impl Abort, alloc: Global, size: usize, steps: &[Step]) {
+    Trial::new(rt, alloc, size).play(rt, alloc, steps);
 }
 
 impl Trial {
+    /// Workers over rings of so many entries, with open 0.
+    fn new(rt: &impl Abort, alloc: Global, size: usize) -> Self {
+        let mut store = Store::new(alloc);
+        let ours = Worker::new(alloc, size, &mut store).expect(rt, "no worker");
+        let other = Worker::new(alloc, size, &mut store).expect(rt, "no worker");
+        let opens = Opens::new(alloc, 1).expect(rt, "no memory");
+        Trial {
+            ours,
+            other,
+            opens,
+            store,
+        }
+    }
+
     /// Plays these steps one after another. What comes of one has to be what the step says.
     fn play(&mut self, rt: &impl Abort, alloc: Global, steps: &[Step]) {
         for (at, step) in steps.iter().enumerate() {

@@ -10,7 +10,6 @@ use exec_ring::sim_ring::SimRing;
 use exec_ring::store::Store;
 use exec_waiters::waiters::Waiters;
 use std::process::Abort;
-use std::test::Fail;
 
 #[test]
 fn user_data_has_the_low_half_of_the_generation(rt: HostRuntime) {
@@ -130,15 +129,15 @@ fn what_closes_goes_in_order_of_slots(rt: HostRuntime) {
 }
 
 #[test]
-fn nothing_lands_that_the_ring_has_not(rt: HostRuntime) -> Result<(), Fail> {
+fn nothing_lands_that_the_ring_has_not(rt: HostRuntime) {
     let alloc = rt.alloc();
-    let mut requests = Requests::new(alloc, Waiters::new(alloc, 4)?);
-    let mut store = Store::new(alloc);
-    let mut ring = SimRing::new(alloc, 2)?;
+    let waiters = Waiters::new(alloc, 4).expect(&rt, "no memory");
+    let mut requests = Requests::new(alloc, waiters);
     let (id, given) = (name(0, 0), OpResult::Count(1));
     let calls = [Call::Admit(None, id), Call::Stage(id, 0)];
     requests.play(&rt, alloc, &calls);
+    let mut store = Store::new(alloc);
+    let mut ring = SimRing::new(alloc, 2).expect(&rt, "no memory");
     let landed = requests.land(&rt, id, given, &mut ring, &mut store);
     same(&rt, 2, &landed, &Err(Unlawful(0, given)));
-    Ok(())
 }
