@@ -2,8 +2,7 @@
 
 use crate::desk::{Awaited, Desk, name};
 use crate::found::{holds, same};
-use crate::visits::{Desks, Heard, Visit};
-use exec_base::error::Error;
+use crate::visits::{Desks, Heard, Visit, is_heard};
 use exec_base::one_shot::OneShot;
 use exec_registration::mail::Cancel;
 use exec_registration::operation::Operation;
@@ -97,6 +96,6 @@ fn a_closed_mail_takes_nothing(rt: HostRuntime) {
     ours.close();
     ours.close_mail();
     let gone = ours.poll_away(&mut op, &mut answer);
-    holds(&rt, 0, matches!(gone, Err(Error::Closed)));
+    holds(&rt, 0, is_heard(&gone, Heard::Closed));
     ours.release_away(op);
 }

@@ -14,6 +14,16 @@ use exec_waiters::waiter_id::WaiterId;
 use std::alloc::Global;
 use std::process::Abort;
 
+/// Whether a poll of a sleeper answered that its moment hasn't come.
+fn is_waiting(told: &Result<Option<()>, Error>) -> bool {
+    matches!(told, Ok(None))
+}
+
+/// Whether a poll of a sleeper answered that its moment came.
+fn has_woken(told: &Result<Option<()>, Error>) -> bool {
+    matches!(told, Ok(Some(())))
+}
+
 #[test]
 fn a_sleeper_is_waited_for_like_a_request(rt: HostRuntime) {
     let alloc = rt.alloc();
@@ -22,11 +32,11 @@ fn a_sleeper_is_waited_for_like_a_request(rt: HostRuntime) {
     let id = ours.insert_sleeper(alloc, 5, 1).expect(&rt, "no sleeper");
     let mut sleep = Registration::new(0, id);
     let waits = ours.wait(&rt, alloc, &mut sleep, 2);
-    holds(&rt, 0, matches!(waits, Ok(None)));
+    holds(&rt, 0, is_waiting(&waits));
     ours.wake_sleepers(&rt, alloc, 5);
     same(&rt, 1, &ours.wakes(), &[TaskNo(2)].as_slice());
     let over = ours.wait(&rt, alloc, &mut sleep, 2);
-    holds(&rt, 2, matches!(over, Ok(Some(()))));
+    holds(&rt, 2, has_woken(&over));
     ours.release_sleeper(sleep);
 }
 

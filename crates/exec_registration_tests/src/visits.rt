@@ -180,7 +180,7 @@ fn is_over(op: &Operation) -> bool {
 }
 
 /// Whether a poll answered this.
-fn is_heard(told: &Result<Option<RequestOutput>, Error>, heard: Heard) -> bool {
+pub fn is_heard(told: &Result<Option<RequestOutput>, Error>, heard: Heard) -> bool {
     match heard {
         Heard::Nothing => matches!(told, Ok(None)),
         Heard::Closed => matches!(told, Err(Error::Closed)),
