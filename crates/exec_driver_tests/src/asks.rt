@@ -1,6 +1,5 @@
 //! The requests of the worked examples, and what is found of them.
 
-use crate::found::demand;
 use crate::worker::{buffers, send};
 use exec_base::error::Error;
 use exec_bufs::buf::IoBufMut;
@@ -75,7 +74,9 @@ fn receive(rt: &impl Abort, alloc: Global) -> Request {
 fn read(rt: &impl Abort, alloc: Global) -> Request {
     let bytes = Vec::from_array(alloc, [7u8; 4]).expect(rt, "no memory");
     let buf = IoBufMut::from(bytes);
-    demand(rt, buf.len() <= 4, "too long");
+    if buf.len() > 4 {
+        panic!(rt; "too long");
+    }
     Request::ReadAt(ReadAtRequest::new(0, 0, buf, Cache::Enabled))
 }
 
@@ -86,7 +87,9 @@ fn durable_write(rt: &impl Abort, alloc: Global) -> Request {
 }
 
 fn write(rt: &impl Abort, alloc: Global, at: u64, bytes: &[u8], cache: Cache) -> Request {
-    demand(rt, at <= 100, "too far");
+    if at > 100 {
+        panic!(rt; "too far");
+    }
     let write = buffers(alloc, bytes).expect(rt, "no memory");
     let state = WriteAtState::Writing;
     Request::WriteAt(WriteAtRequest::new(0, at, write, state, cache, 0))

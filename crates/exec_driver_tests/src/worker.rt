@@ -5,7 +5,7 @@ ghost use Rattle.std.specs.Prelude.{◌≡◌, ◌-◌, ◌^◌, ◌≤◌, true
 ghost use Rattle.exec_request.specs.Buffers.{is_sound, length_of, moved_of};
 ghost use Rattle.exec_waiters.specs.Told.{HasPlaces};
 
-use crate::found::{Counts, demand};
+use crate::found::{Counts, demand, refuse};
 use exec_base::slab::Id;
 use exec_base::task_no::TaskNo;
 use exec_bufs::buf::IoBuf;
@@ -233,8 +233,8 @@ impl Worker {
         let ends = self.driver.len().checked_add(1);
         let ends = ends.expect(rt, "too many requests");
         make_room(rt, alloc, &mut self.deferred, ends);
-        demand(rt, !self.driver.has_due(), "something is due");
-        demand(rt, self.driver.ring_size() > 0, "no entry");
+        refuse(rt, self.driver.has_due(), "something is due");
+        assert!(rt; self.driver.ring_size() > 0);
         let (told, last) = (&mut self.deferred, &mut self.last);
         self.driver.service(worker, now, defer, opens, told, last)
     }
@@ -295,8 +295,8 @@ impl Worker {
     /// Stages the first request that may be, and lets the kernel take it in.
     pub fn stage(&mut self, rt: &impl Abort, opens: &Opens) -> Option<WaiterId> {
         demand(rt, self.driver.may_stage(), "nothing may be staged");
-        demand(rt, !self.driver.is_full(), "the queue is full");
-        demand(rt, !self.driver.has_enrolments(), "not enrolled");
+        refuse(rt, self.driver.is_full(), "the queue is full");
+        refuse(rt, self.driver.has_enrolments(), "not enrolled");
         let staged = self.driver.stage(opens);
         let _taken = self.enter();
         staged
@@ -309,7 +309,7 @@ impl Worker {
 
     /// Stages the first cancel. It fails where the submission queue is full.
     pub fn stage_cancel(&mut self, rt: &impl Abort) -> Option<WaiterId> {
-        demand(rt, !self.driver.is_full(), "the queue is full");
+        refuse(rt, self.driver.is_full(), "the queue is full");
         self.driver.stage_cancel()
     }
 

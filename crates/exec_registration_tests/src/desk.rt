@@ -11,7 +11,7 @@ ghost use Rattle.exec_waiters.specs.States.{may_be_seen};
 ghost use Rattle.exec_waiters.specs.Told.{HasPlaces};
 ghost use Rattle.exec_waiters.specs.declared.waiter_id.WaiterId.{WaiterId as Name};
 
-use crate::found::{demand, holds, same};
+use crate::found::{demand, holds, refuse, same};
 use crate::mail::Mail;
 use exec_base::error::Error;
 use exec_base::one_shot::OneShot;
@@ -210,8 +210,8 @@ impl Desk {
     fn stage(&mut self, rt: &impl Abort, opens: &Opens) -> Option<WaiterId> {
         let driver = &mut self.home.driver;
         demand(rt, driver.may_stage(), "nothing may be staged");
-        demand(rt, !driver.is_full(), "the queue is full");
-        demand(rt, !driver.has_enrolments(), "not enrolled");
+        refuse(rt, driver.is_full(), "the queue is full");
+        refuse(rt, driver.has_enrolments(), "not enrolled");
         driver.stage(opens)
     }
 

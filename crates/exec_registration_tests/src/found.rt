@@ -3,7 +3,7 @@
 //! Each comparison stands in a function of its own, which is proved once: written out at its place, an `assert_eq!` is
 //! longer than all that a step does. `at` is the number of the step, counted from 0, which a failed one names.
 
-ghost use Rattle.std.specs.Prelude.{◌≡◌, true};
+ghost use Rattle.std.specs.Prelude.{◌≡◌, true, false};
 
 use std::fmt::Debug;
 use std::process::Abort;
@@ -23,4 +23,11 @@ pub fn demand(rt: &impl Abort, may: bool, why_not: &str)
     ensures { may ≡ true }
 {
     assert!(rt; may, "{why_not}");
+}
+
+/// Fails where something is in the way of a call. From then on nothing is.
+pub fn refuse(rt: &impl Abort, is_there: bool, what: &str)
+    ensures { is_there ≡ false }
+{
+    assert!(rt; !is_there, "{what}");
 }
