@@ -2,4 +2,8 @@
 #![tactic(auto)]
 
 #[cfg(test)]
+mod make;
+#[cfg(test)]
 mod request;
+#[cfg(test)]
+mod trial;
