@@ -8,4 +8,6 @@ mod pool;
 #[cfg(test)]
 mod read_trace;
 #[cfg(test)]
+mod reading;
+#[cfg(test)]
 mod words;

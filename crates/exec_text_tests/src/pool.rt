@@ -1,36 +1,11 @@
 //! Texts of several workers: scripts, which may name each other in any order, and the calls from outside.
 
-use exec_machine::config::ScriptWord;
-use exec_machine::step::{Action, Step};
-use exec_text::trace::Trace;
-use exec_text::{ReadError, read_trace, total_steps};
-use std::test::*;
+use crate::reading::{Frame, Of, faults, faults_at, says};
+use std::test::Fail;
 
 /// A header with four workers, two files and one socket.
-const HEADER: &str =
+pub const HEADER: &str =
     "workers 4\ninterval 3\nring 4\ntick 1000\nconnect 3000\nrw 3000\nspin 1 2 3 4\nfiles 2\nsockets 1\n";
-
-/// The trace of this text below the header.
-pub(crate) fn read(rt: HostRuntime, body: &str) -> Result<Trace, Fail> {
-    let text = format!(in rt.alloc(); "{HEADER}{body}")
-        .ok()
-        .ok_or("no memory")?;
-    let trace = read_trace(rt.alloc(), text.as_bytes())
-        .ok()
-        .ok_or("the text is a trace")?;
-    Ok(trace)
-}
-
-/// The line at which this text below the header is no trace.
-pub(crate) fn fault(rt: HostRuntime, body: &str) -> Result<usize, Fail> {
-    let text = format!(in rt.alloc(); "{HEADER}{body}")
-        .ok()
-        .ok_or("no memory")?;
-    match read_trace(rt.alloc(), text.as_bytes()) {
-        Err(ReadError::Syntax(line)) => Ok(line),
-        _ => Err("the text has a fault".into()),
-    }
-}
 
 /// Three scripts, a comment between two of them, and a root that names the first and the last.
 const SCRIPTS: &str = "script spawn 1 end
@@ -41,68 +16,31 @@ root spawn 0 spawn 2 sleep 7
 steps
 ";
 
+const THREE_SCRIPTS: &[(Of, &str)] = &[(
+    Of::Scripts,
+    "[[Spawn { script: 1 }, End], [Wake { task: 18446744073709551615 }, Await], \
+    [Sleep { time: 0 }, Drop, Yield, Fault { code: 3 }]]",
+)];
+
 #[test]
 fn reads_scripts(rt: HostRuntime) -> Result<(), Fail> {
-    let trace = read(rt, SCRIPTS)?;
-    let mut scripts = trace.scripts.iter();
-    let first = scripts.next().ok_or("a script")?;
-    assert!(rt;
-        matches!(
-            first.as_slice(),
-            [ScriptWord::Spawn { script: 1 }, ScriptWord::End]
-        )
-    );
-    let second = scripts.next().ok_or("a script")?;
-    assert!(rt;
-        matches!(
-            second.as_slice(),
-            [
-                ScriptWord::Wake {
-                    task: 18446744073709551615
-                },
-                ScriptWord::Await
-            ]
-        )
-    );
-    assert!(rt; scripts.next().is_some());
-    assert!(rt; scripts.next().is_none());
-    Ok(())
+    says(&rt, rt.alloc(), HEADER, SCRIPTS, THREE_SCRIPTS)
 }
+
+const LAST_AND_ROOT: &[(Of, &str)] = &[
+    (
+        Of::LastScript,
+        "Some([Sleep { time: 0 }, Drop, Yield, Fault { code: 3 }])",
+    ),
+    (
+        Of::Root,
+        "[Spawn { script: 0 }, Spawn { script: 2 }, Sleep { time: 7 }]",
+    ),
+];
 
 #[test]
 fn reads_the_last_script_and_the_root(rt: HostRuntime) -> Result<(), Fail> {
-    let trace = read(rt, SCRIPTS)?;
-    let last = trace.scripts.last().ok_or("a script")?;
-    assert!(rt;
-        matches!(
-            last.as_slice(),
-            [
-                ScriptWord::Sleep { time: 0 },
-                ScriptWord::Drop,
-                ScriptWord::Yield,
-                ScriptWord::Fault { code: 3 }
-            ]
-        )
-    );
-    assert!(rt;
-        matches!(
-            trace.root.as_slice(),
-            [
-                ScriptWord::Spawn { script: 0 },
-                ScriptWord::Spawn { script: 2 },
-                ScriptWord::Sleep { time: 7 }
-            ]
-        )
-    );
-    Ok(())
-}
-
-/// The action of a step that is one line.
-fn action(step: Option<&Step>) -> Option<Action> {
-    match step {
-        Some(Step::One { action }) => Some(*action),
-        _ => None,
-    }
+    says(&rt, rt.alloc(), HEADER, SCRIPTS, LAST_AND_ROOT)
 }
 
 /// Calls from outside, and what befalls a ring.
@@ -117,87 +55,74 @@ m 3
 w 3 2
 ";
 
+const SIX_CALLS: &[(Of, &str)] = &[
+    (
+        Of::Steps,
+        "[One { action: Spawn { caller: 0, script: 0 } }, \
+        One { action: Wake { caller: 15, task: 18446744073709551615 } }, \
+        One { action: GoOn { caller: 15 } }, \
+        One { action: SetBusy { worker: 18446744073709551615 } }, \
+        One { action: EndPoll { worker: 3 } }, \
+        Work { worker: 3, count: 2 }]",
+    ),
+    (Of::Total, "7"),
+];
+
 #[test]
 fn reads_calls(rt: HostRuntime) -> Result<(), Fail> {
-    let trace = read(rt, CALLS)?;
-    let mut steps = trace.steps.iter();
-    let spawn = action(steps.next());
-    assert!(rt;
-        matches!(
-            spawn,
-            Some(Action::Spawn {
-                caller: 0,
-                script: 0
-            })
-        )
-    );
-    let wake = action(steps.next());
-    assert!(rt;
-        matches!(
-            wake,
-            Some(Action::Wake {
-                caller: 15,
-                task: 18446744073709551615
-            })
-        )
-    );
-    assert!(rt; matches!(action(steps.next()), Some(Action::GoOn { caller: 15 })));
-    let busy = action(steps.next());
-    assert!(rt;
-        matches!(
-            busy,
-            Some(Action::SetBusy {
-                worker: 18446744073709551615
-            })
-        )
-    );
-    assert!(rt; matches!(action(steps.next()), Some(Action::EndPoll { worker: 3 })));
-    assert!(rt; steps.next().is_some());
-    assert!(rt; steps.next().is_none());
-    assert_eq!(rt; total_steps(&trace.steps), 7);
-    Ok(())
+    says(&rt, rt.alloc(), HEADER, CALLS, SIX_CALLS)
 }
+
+const BELOW: &Frame = &Frame {
+    header: HEADER,
+    before: "",
+    after: "",
+};
+
+const COUNTED: &[(&str, usize)] = &[
+    // A script that comes later counts.
+    ("script spawn 1\nscript end\nroot spawn 1", 13),
+    ("script spawn 2\nscript end\nroot end\nsteps", 10),
+    ("script end\nscript spawn 0 spawn 2\nroot end\nsteps", 11),
+    // One from a malformed line on doesn't.
+    ("script spawn 1\nscript bad\nroot end\nsteps", 10),
+    (
+        "script spawn 0\nscript bad\nscript end\nroot end\nsteps",
+        11,
+    ),
+    ("script spawn 1\nscript\nroot end\nsteps", 10),
+    (
+        "script spawn 2\nscript end\nroot end\nscript end\nsteps",
+        10,
+    ),
+    ("script spawn 1\n", 10),
+    ("script spawn 0\n", 11),
+    // The first of both lines.
+    ("script spawn 0\nroot spawn 1\nstep", 11),
+    ("script spawn 0\nroot spawn 0\nstep\nx 0 spawn 1", 12),
+    ("script spawn 0\nroot spawn 0\nsteps\nx 0 spawn 1\nz", 13),
+    ("script spawn 0\nroot spawn 0\nsteps\nx 0 spawn 0\nz", 14),
+    ("root spawn 0\nsteps", 10),
+    ("root end\nsteps\nx 0 spawn 0", 12),
+    ("script dedicated 1\nscript end\nroot dedicated 1", 13),
+    ("script dedicated 1\nscript bad\nroot end\nsteps", 10),
+    ("script end\nroot dedicated 0 dedicated 1\nsteps", 11),
+    ("script spawn 18446744073709551615\nroot end\nsteps", 10),
+];
 
 #[test]
 fn counts_scripts_first(rt: HostRuntime) -> Result<(), Fail> {
-    for (body, line) in [
-        // A script that comes later counts.
-        ("script spawn 1\nscript end\nroot spawn 1", 13),
-        ("script spawn 2\nscript end\nroot end\nsteps", 10),
-        ("script end\nscript spawn 0 spawn 2\nroot end\nsteps", 11),
-        // One from a malformed line on doesn't.
-        ("script spawn 1\nscript bad\nroot end\nsteps", 10),
-        (
-            "script spawn 0\nscript bad\nscript end\nroot end\nsteps",
-            11,
-        ),
-        ("script spawn 1\nscript\nroot end\nsteps", 10),
-        (
-            "script spawn 2\nscript end\nroot end\nscript end\nsteps",
-            10,
-        ),
-        ("script spawn 1\n", 10),
-        ("script spawn 0\n", 11),
-        // The first of both lines.
-        ("script spawn 0\nroot spawn 1\nstep", 11),
-        ("script spawn 0\nroot spawn 0\nstep\nx 0 spawn 1", 12),
-        ("script spawn 0\nroot spawn 0\nsteps\nx 0 spawn 1\nz", 13),
-        ("script spawn 0\nroot spawn 0\nsteps\nx 0 spawn 0\nz", 14),
-        ("root spawn 0\nsteps", 10),
-        ("root end\nsteps\nx 0 spawn 0", 12),
-        ("script dedicated 1\nscript end\nroot dedicated 1", 13),
-        ("script dedicated 1\nscript bad\nroot end\nsteps", 10),
-        ("script end\nroot dedicated 0 dedicated 1\nsteps", 11),
-        ("script spawn 18446744073709551615\nroot end\nsteps", 10),
-    ] {
-        let found = fault(rt, body)?;
-        assert!(rt; found == line, "at {body:?}");
-    }
-    Ok(())
+    faults(&rt, rt.alloc(), BELOW, COUNTED)
 }
 
+const IN_SCRIPTS: &Frame = &Frame {
+    header: HEADER,
+    before: "script end\n",
+    after: "\nroot end\nsteps\n",
+};
+
 /// Lines that are no script, or name a script that there isn't.
-const FAULTY_SCRIPTS: [&str; 27] = [
+const FAULTY_SCRIPTS: &[&str] = &[
     "script",
     "script ",
     "scripts end",
@@ -229,18 +154,17 @@ const FAULTY_SCRIPTS: [&str; 27] = [
 
 #[test]
 fn finds_faults_in_scripts(rt: HostRuntime) -> Result<(), Fail> {
-    for script in FAULTY_SCRIPTS {
-        let body = format!(in rt.alloc(); "script end\n{script}\nroot end\nsteps\n")
-            .ok()
-            .ok_or("no memory")?;
-        let found = fault(rt, &body)?;
-        assert!(rt; found == 11, "at {script:?}");
-    }
-    Ok(())
+    faults_at(&rt, rt.alloc(), 11, IN_SCRIPTS, FAULTY_SCRIPTS)
 }
 
+const IN_CALLS: &Frame = &Frame {
+    header: HEADER,
+    before: "script end\nroot end\nsteps\nx 15 spawn 0\n",
+    after: "\n",
+};
+
 /// Lines that are no step.
-const FAULTY_CALLS: [&str; 33] = [
+const FAULTY_CALLS: &[&str] = &[
     "x",
     "x ",
     "x 16",
@@ -278,33 +202,27 @@ const FAULTY_CALLS: [&str; 33] = [
 
 #[test]
 fn finds_faults_in_calls(rt: HostRuntime) -> Result<(), Fail> {
-    for step in FAULTY_CALLS {
-        let body = format!(in rt.alloc(); "script end\nroot end\nsteps\nx 15 spawn 0\n{step}\n")
-            .ok()
-            .ok_or("no memory")?;
-        let found = fault(rt, &body)?;
-        assert!(rt; found == 14, "at {step:?}");
-    }
-    Ok(())
+    faults_at(&rt, rt.alloc(), 14, IN_CALLS, FAULTY_CALLS)
 }
+
+const IN_ROOT: &Frame = &Frame {
+    header: HEADER,
+    before: "script end\n",
+    after: "\nsteps\n",
+};
+
+const FAULTY_ROOTS: &[&str] = &[
+    "root",
+    "root dedicated 1",
+    "root dedicated",
+    "root spawn 1",
+    "root spawn",
+    "root wake",
+    "root wake -1",
+    "root end spawn 00",
+];
 
 #[test]
 fn finds_faults_in_the_root(rt: HostRuntime) -> Result<(), Fail> {
-    for root in [
-        "root",
-        "root dedicated 1",
-        "root dedicated",
-        "root spawn 1",
-        "root spawn",
-        "root wake",
-        "root wake -1",
-        "root end spawn 00",
-    ] {
-        let body = format!(in rt.alloc(); "script end\n{root}\nsteps\n")
-            .ok()
-            .ok_or("no memory")?;
-        let found = fault(rt, &body)?;
-        assert!(rt; found == 11, "at {root:?}");
-    }
-    Ok(())
+    faults_at(&rt, rt.alloc(), 11, IN_ROOT, FAULTY_ROOTS)
 }
