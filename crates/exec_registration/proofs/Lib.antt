@@ -1,1 +1,2 @@
 pub mod Unheld
+mod Woken

@@ -11,7 +11,7 @@ use Rattle.exec_waiters.specs.{Events.{cancelled, with_observer}, States.{is_hel
 
 module _ {T : Type 0} where
   -- what is written stands there, and what is removed doesn't
-  at_written : (s : Slab T) (id : Id) (was is : T) → value_at s id ≡ Some was → value_at (written s id is) id ≡ Some is
+  pub at_written : (s : Slab T) (id : Id) (was is : T) → value_at s id ≡ Some was → value_at (written s id is) id ≡ Some is
   at_written s id was is at = (Updates-write s id is (rw at refl)).changed
 
   within : (s : Slab T) (id : Id) (v : T) → slot_at s id.index ≡ Live id.generation v → id.index < length s.slots

@@ -74,14 +74,17 @@ pub trait Key<S, F>: Copy {
         ensures answer { result ≡ found self waker (home_of home.old) }
         ensures taken { home_of home.new ≡ if_ready result (taken self (home_of home.old)) (home_of home.old) };
 
-    /// Has the thing wake this task. The caller must have found that it would wake another one, or none.
+    /// Has the thing wake this task, which may look at it again and then finds so. The caller must have found that the
+    /// thing would wake another task, or none.
     fn refresh<R: Ring + Drop>(self, waker: TaskNo, home: &mut Home<R, S, F>)
     where
         S: Drop,
         F: Drop,
         requires seen { may_look self (home_of home.old) }
         requires stale { found self waker (home_of home.old) ≡ observation.Refresh }
-        ensures { home_of home.new ≡ awaited self waker (home_of home.old) };
+        ensures awaited { home_of home.new ≡ awaited self waker (home_of home.old) }
+        ensures wakes { found self waker (home_of home.new) ≡ observation.Pending }
+        ensures still { may_look self (home_of home.new) };
 
     /// The message that has its worker send the result by this.
     fn forward(self, sender: Self::Sender) -> Forward<S, F>
@@ -174,6 +177,7 @@ impl<K: Copy> Registration<K> {
         ensures refused { self.old ≡ state.Closed → (result ≡ Err error.Closed) × (self.new ≡ state.Done) × (home_of home.new ≡ home_of home.old) × (post.new ≡ post.old) × (answer.new ≡ answer.old) }
         ensures looks { (key : K) → self.old ≡ state.Waiting home.old.worker key → home.old.closing ≡ false → let seen = K.found key waker (home_of home.old) in (result ≡ told_by_look seen) × (self.new ≡ state_after self.old seen) × (home_of home.new ≡ after_look seen (K.taken key (home_of home.old)) (K.awaited key waker (home_of home.old)) (home_of home.old)) }
         ensures closing { (key : K) → self.old ≡ state.Waiting home.old.worker key → home.old.closing ≡ true → (result ≡ Err error.Closed) × (self.new ≡ state.Done) × Cancels (home_of home.old) (home_of home.new) (K.cancel_of key) }
+        ensures wakes { (key : K) → self.old ≡ state.Waiting home.old.worker key → home.old.closing ≡ false → result ≡ Ok None → (K.found key waker (home_of home.new) ≡ observation.Pending) × K.may_look key (home_of home.new) }
         ensures stays_here { (key : K) → self.old ≡ state.Waiting home.old.worker key → (post.new ≡ post.old) × (answer.new ≡ answer.old) }
         ensures asks { (at : ℕ) (key : K) → self.old ≡ state.Waiting at key → at ≢ home.old.worker → (home_of home.new ≡ home_of home.old) × Asks P.closed P.taken post.old post.new (K.forward_by key sender) at key self.new answer.old answer.new result }
         ensures shut { (at : ℕ) (key : K) → self.old ≡ state.Waiting at key → at ≢ home.old.worker → P.closed post.old ≡ true → (result ≡ Err error.Closed) × (self.new ≡ state.Done) × (answer.new ≡ answer.old) }
@@ -284,6 +288,7 @@ impl<K: Copy> Registration<K> {
         requires seen { home.old.closing ≡ false → K.may_look key (home_of home.old) }
         requires room { home.old.closing ≡ true → HasRoomFor (home_of home.old) (K.cancel_of key) }
         ensures looks { home.old.closing ≡ false → let seen = K.found key waker (home_of home.old) in (result ≡ told_by_look seen) × (self.new ≡ state_after self.old seen) × (home_of home.new ≡ after_look seen (K.taken key (home_of home.old)) (K.awaited key waker (home_of home.old)) (home_of home.old)) }
+        ensures wakes { home.old.closing ≡ false → result ≡ Ok None → (K.found key waker (home_of home.new) ≡ observation.Pending) × K.may_look key (home_of home.new) }
         ensures closing { home.old.closing ≡ true → (result ≡ Err error.Closed) × (self.new ≡ state.Done) × Cancels (home_of home.old) (home_of home.new) (K.cancel_of key) }
     {
         if home.closing {
