@@ -4,7 +4,7 @@ use Rattle.std.proofs.lemmas.Bool.{eq-eqb}
 use Rattle.exec_base.specs.{Slab.{Slab, value_at, written}, declared.{slab.Id.Id, task_no.TaskNo.TaskNo}}
 use Rattle.exec_registration.proofs.Unheld.{at_written}
 use Rattle.exec_time.specs.{Sleepers.{observation, is_forwarded}, declared.timers.{Observation.TheVariants.{Pending as IsAwaited, Refresh}, Observer.TheVariants.Local as ByTask, Sleeper.Sleeper}}
-use Rattle.exec_waiters.specs.{Events.{seen_by, changed, with_waker}, States.may_be_seen, declared.waiter.{Entry.{Entry, TheVariants.{Pending, Ready}}, Waiter.Waiter}}
+use Rattle.exec_waiters.specs.{Events.{seen_by, changed, with_waker}, States.may_be_seen, declared.waiter.Entry.{Entry, TheVariants.{Pending, Ready}}}
 
 module _ {S F : Type 0} where
   pub request_wakes : (s : Slab (Entry S F)) (id : Id) (task : TaskNo) (o : Option (Entry S F)) → value_at s id ≡ o → may_be_seen o ≡ true → seen_by task o ≡ Refresh → (seen_by task (value_at (changed s id (with_waker task)) id) ≡ IsAwaited) × (may_be_seen (value_at (changed s id (with_waker task)) id) ≡ true)
