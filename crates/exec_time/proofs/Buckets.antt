@@ -1,5 +1,5 @@
 -- Buckets and active entries, as lists grow and shrink.
-use Rattle.std.proofs.Common.{◌≡◌, ℕ, ◌+◌, ◌-◌, ◌<◌, ◌≤◌, true, not, cond, if◌then◌else◌, ◌==◌, List, [], ◌∷◌, ◌++◌, length, get_or, filter, remove, refl, arith, inl, inr, zero, suc, sym, nat_lt, ◌%◌, Result, Ok, Err, IfOk, IfErr, MatchResult}
+use Rattle.std.proofs.Common.{◌≡◌, ℕ, ◌+◌, ◌-◌, ◌<◌, ◌≤◌, true, not, cond, if◌then◌else◌, ◌==◌, List, [], ◌∷◌, ◌++◌, length, get_or, filter, remove, refl, arith, inl, inr, zero, suc, sym, nat_lt, ◌%◌, Result, Ok, Err, IfOk, IfErr, MatchResult, Option, Some, None, IfSome, slice_get, subst}
 use Rattle.std.proofs.lemmas.Bool.{cases_lt, cases_eq, lt-ltb}
 use Rattle.std.specs.Result.{is_ok}
 use Rattle.std.specs.List.{insert, remove_range}
@@ -8,7 +8,7 @@ use Rattle.std.proofs.lemmas.Grind.{common_steps}
 use Rattle.std.proofs.lemmas.List.Sums.{sum_by-insert, sum_by-remove, sum_by-le}
 use Rattle.std.proofs.lemmas.List.{get_or_default}
 use Rattle.std.proofs.lemmas.List.Edits.{get_or-remove_below, get_or-remove_above, length-remove}
-use Rattle.exec_time.specs.{Entries.{is_in_slot, bucket_in, active_in, IsRising, IsPlaceOf}, declared.entries.Entry.Entry}
+use Rattle.exec_time.specs.{Entries.{is_in_slot, bucket_in, active_in, IsBySlot, IsRising, IsPlaceOf}, declared.entries.Entry.Entry}
 use Rattle.exec_time.proofs.Ranges.{active_among}
 
 -- the entries of one slot discarded
@@ -30,6 +30,18 @@ none_past [] slots slot past = refl
 none_past (e ∷ es) slots slot past =
     let here : slot < (e.tick % slots) = past 0 e (omega arith) in
     grind (arith, common_steps, here, none_past es slots slot (λ k d inside. past (suc k) d (omega arith)))
+
+-- nothing is in a slot below that of the first entry, nor where there is no entry
+pub none_without : (entries : List Entry) (slots slot : ℕ) → None ≡ slice_get entries 0 → bucket_in entries slots slot ≡ []
+unfolding bucket_in
+none_without [] slots slot none = refl
+none_without (e ∷ es) slots slot none = absurd (cc none)
+
+pub none_before : (entries : List Entry) (slots slot : ℕ) (first : Entry) → IsBySlot slots entries → Some first ≡ slice_get entries 0 → slot < (first.tick % slots) → bucket_in entries slots slot ≡ []
+none_before [] slots slot first by_slot is less = absurd (cc is)
+none_before (e ∷ es) slots slot first by_slot is less =
+    let low : slot < (e.tick % slots) = subst (λ (o : Option Entry). IfSome o (λ x. slot < (x.tick % slots))) is less in
+    none_past (e ∷ es) slots slot (λ k d inside. let up : (e.tick % slots) ≤ (get_or (e ∷ es) k d).tick % slots = by_slot 0 k d (omega arith) inside in omega (arith, up, low))
 
 -- one more entry, before those of later slots
 pub bucket_in_put : (entries : List Entry) (slots at : ℕ) (e : Entry) → ((k : ℕ) (d : Entry) → at ≤ k → k < length entries → (e.tick % slots) < ((get_or entries k d).tick % slots)) → (s : ℕ) → bucket_in (insert entries at e) slots s ≡ bucket_in entries slots s ++ (if is_in_slot slots s e then e.id ∷ [] else [])

@@ -73,8 +73,23 @@ fn bucket_of(entries: &[Entry], slots: u64, slot: u64) -> Range<usize>
     start_of(entries, slots, slot)..end_of(entries, slots, slot)
 }
 
-/// Whether a slot has any entry.
+/// Whether a slot has any entry. Slots are mostly looked at in their order, before the first that has one.
 pub(crate) fn has_any(entries: &[Entry], slots: u64, slot: u64) -> bool
+    requires has_slots { 0 < slots }
+    requires by_slot { IsBySlot slots entries.now }
+    ensures none { result ≡ false → bucket_in entries.now slots slot ≡ [] }
+{
+    let Some(first) = entries.first() else {
+        return false;
+    };
+    if slot < first.tick % slots {
+        return false;
+    }
+    is_reached(entries, slots, slot)
+}
+
+/// Whether a slot has any entry, by the last of those up to it.
+fn is_reached(entries: &[Entry], slots: u64, slot: u64) -> bool
     requires has_slots { 0 < slots }
     requires by_slot { IsBySlot slots entries.now }
     ensures none { result ≡ false → bucket_in entries.now slots slot ≡ [] }
