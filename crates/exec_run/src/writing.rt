@@ -8,7 +8,7 @@
 //! text, before a byte of it is given; the line of a complaint doesn't, so that a fault is told also where there
 //! is no memory.
 
-ghost use Rattle.std.specs.Prelude.{◌≡◌, ◌≤◌, IfErr, OnOk, OnErr};
+ghost use Rattle.std.specs.Prelude.{◌≡◌, ◌≤◌, IfOk, IfErr, OnOk, OnErr, string_bytes};
 ghost use Rattle.exec_base.specs.Io.{Rose};
 ghost use Rattle.exec_machine.specs.Text.{is_quiet_line};
 ghost use Rattle.exec_run.specs.{Log.{Gave, GaveFront}, Explains.complaint_line, Steps.{BrokeBy, whole_line, told_of_line}};
@@ -17,7 +17,10 @@ use crate::complaint::Complaint;
 use crate::trace_error::TraceError;
 use exec_base::io::{Failed, Output};
 use exec_machine::event::{Event, Line, StepResult};
-use std::alloc::Global;
+use std::alloc::{AllocError, Global};
+
+/// For how many bytes the text of a line has room from the start: more than most lines have, so that it seldom grows.
+const LINE: usize = 64;
 
 /// Gives the bytes, again and again while less than the rest of them is taken.
 fn give_all<O: Output>(sink: &mut O, bytes: &[u8]) -> Result<(), Failed>
@@ -37,6 +40,15 @@ fn give_all<O: Output>(sink: &mut O, bytes: &[u8]) -> Result<(), Failed>
     Ok(())
 }
 
+/// The text of a line, with a line feed.
+fn text_of(alloc: Global, line: Line) -> Result<String, AllocError>
+    ensures { IfOk result (λ text. string_bytes text ≡ whole_line line) }
+{
+    let mut text = String::with_capacity(alloc, LINE)?;
+    write!(text, "{line}\n")?;
+    Ok(text)
+}
+
 /// Gives the line and a line feed.
 fn give_line<O: Output>(alloc: Global, sink: &mut O, line: Line) -> Result<(), TraceError>
     ensures count { O.faults sink.old ≤ O.faults sink.new }
@@ -45,7 +57,7 @@ fn give_line<O: Output>(alloc: Global, sink: &mut O, line: Line) -> Result<(), T
     ensures why { IfErr result (λ e. BrokeBy e (O.faults sink.old) (O.faults sink.new)) }
     ensures front { OnErr result (GaveFront (O.given sink.old) (O.given sink.new) (whole_line line)) }
 {
-    let text = format!(in alloc; "{line}\n")?;
+    let text = text_of(alloc, line)?;
     match give_all(sink, text.as_bytes()) {
         Ok(()) => Ok(()),
         Err(Failed) => Err(TraceError::WriteFault),
