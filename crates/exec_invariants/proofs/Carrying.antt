@@ -1,45 +1,60 @@
 -- What the kernel has of a request whose result lands: one operation, which leaves; and one completion more.
-use Rattle.std.{proofs.{Common.{◌≡◌, ℕ, suc, ◌+◌, ◌%◌, ◌<◌, ◌≤◌, ◌==◌, Bool, true, false, not, cond, List, [], ◌∷◌, ◌++◌, filter, Some, refl, sym, ap, subst, ◌∙◌, arith, slice_get, slice_set, sum_by, nat_le}, lemmas.{Bool.{and_parts, Decides.nat_tests}, List.{Sums.{sum_by-set, get_or-le-sum_by}}, Option.{slice_get_within, get_or_from_slice_get}}}, specs.{List.{position_or_len, remove}}}
+use Rattle.std.{proofs.{Common.{◌≡◌, ℕ, suc, ◌+◌, ◌%◌, ◌<◌, ◌≤◌, ◌==◌, ◌&&◌, ◌||◌, Bool, true, false, not, cond, List, [], ◌∷◌, ◌++◌, filter, Some, refl, sym, ap, subst, ◌∙◌, arith, slice_get, slice_set, sum_by, nat_le}, lemmas.{Bool.{and_parts, Decides.nat_tests}, List.{Sums.{sum_by-set, get_or-le-sum_by}}, Option.{slice_get_within, get_or_from_slice_get}}}, specs.{List.{list_any, remove}}}
 use Rattle.exec_base.specs.declared.slab.Id.{Id}
 use Rattle.exec_outcomes.specs.{Lawful.{is_lawful}, declared.outcome.{OpResult.{OpResult, TheVariants.{Count, Errno}}}}
-use Rattle.exec_ring.specs.{Completions.{completed, number_of, result_in}, Kernels.{is_of, without_flight, landed}, Rings.{RingState, completions}, declared.{completion.{Submission.Submission}}}
+use Rattle.exec_ring.specs.{Completions.{completed, number_of, result_in}, Kernels.{is_of, last_place, without_flight, landed}, Rings.{RingState, completions}, declared.{completion.{Submission.Submission}}}
 use Rattle.exec_waiters.specs.Ids.{user_data_of, index_in, generation_in}
 use Rattle.exec_driver.specs.Steps.{is_control}
 use Rattle.exec_moves.specs.State.{passed}
 use Rattle.exec_parts.{specs.{declared.parts.record.Record.Record, Serving.{changed_at, changed_in}, View.{trailing, wake_poll_in}}, proofs.Facts.same_number}
 use Rattle.exec_invariants.{specs.{Carried.those_of, Flown.{IsPolled, operations}}, proofs.WokenEntered.landing as landing_added}
 
--- THE FIRST THAT PASSES A TEST
+-- THE LAST THAT PASSES A TEST
 
 module _ {A : Type 0} (p : A → Bool) where
-  head_found : (b : Bool) (y x : A) (ys zs : List A) (n : ℕ) → (b ≡ false → slice_get ys n ≡ Some x) → cond b (y ∷ zs) (filter p ys) ≡ x ∷ [] → slice_get (y ∷ ys) (cond (not b) (1 + n) 0) ≡ Some x
-  head_found true y x ys zs n more h = cc
-  head_found false y x ys zs n more h = let e : 1 + n ≡ suc n = omega arith in rw e (more refl)
+  head_fails : (b : Bool) (y : A) (ys : List A) → (filter p ys ≡ [] → list_any p ys ≡ false) → cond b (y ∷ filter p ys) (filter p ys) ≡ [] → (b || list_any p ys) ≡ false
+  head_fails true y ys more h = absurd (cc h)
+  head_fails false y ys more h = more h
+
+  none_passes : (xs : List A) → filter p xs ≡ [] → list_any p xs ≡ false
+  none_passes [] h = refl
+  none_passes (y ∷ ys) h = head_fails (p y) y ys (none_passes ys) h
+
+  head_found : (b any : Bool) (y x : A) (ys zs : List A) (n : ℕ) → (b ≡ false → slice_get ys n ≡ Some x) → (zs ≡ [] → any ≡ false) → cond b (y ∷ zs) (filter p ys) ≡ x ∷ [] → slice_get (y ∷ ys) (cond (b && not any) 0 (1 + n)) ≡ Some x
+  head_found true any y x ys zs n more none h =
+      let last : zs ≡ [] = cc h in
+      let no : any ≡ false = none last in
+      rw no (cc h)
+  head_found false any y x ys zs n more none h = let e : 1 + n ≡ suc n = omega arith in rw e (more refl)
 
   -- where one passes, it is found
-  pub lone_found : (xs : List A) (x : A) → filter p xs ≡ x ∷ [] → slice_get xs (position_or_len p xs) ≡ Some x
+  pub lone_found : (xs : List A) (x : A) → filter p xs ≡ x ∷ [] → slice_get xs (last_place p xs) ≡ Some x
   lone_found [] x h = absurd (cc)
   lone_found (y ∷ ys) x h =
-      head_found (p y) y x ys (filter p ys) (position_or_len p ys) (λ no. lone_found ys x (sym (ap (λ b. cond b (y ∷ filter p ys) (filter p ys)) no) ∙ h)) h
+      head_found (p y) (list_any p ys) y x ys (filter p ys) (last_place p ys) (λ no. lone_found ys x (sym (ap (λ b. cond b (y ∷ filter p ys) (filter p ys)) no) ∙ h)) (none_passes ys) h
 
-  head_removed : (b : Bool) (y x : A) (ys : List A) (n : ℕ) → p y ≡ b → (b ≡ false → filter p (remove ys n) ≡ []) → cond b (y ∷ filter p ys) (filter p ys) ≡ x ∷ [] → filter p (remove (y ∷ ys) (cond (not b) (1 + n) 0)) ≡ []
-  head_removed true y x ys n is more h = cc
-  head_removed false y x ys n is more h = let e : 1 + n ≡ suc n = omega arith in rw (e, is) (more refl)
+  head_removed : (b any : Bool) (y x : A) (ys : List A) (n : ℕ) → p y ≡ b → (b ≡ false → filter p (remove ys n) ≡ []) → (filter p ys ≡ [] → any ≡ false) → cond b (y ∷ filter p ys) (filter p ys) ≡ x ∷ [] → filter p (remove (y ∷ ys) (cond (b && not any) 0 (1 + n))) ≡ []
+  head_removed true any y x ys n is more none h =
+      let last : filter p ys ≡ [] = cc h in
+      let no : any ≡ false = none last in
+      rw no last
+  head_removed false any y x ys n is more none h = let e : 1 + n ≡ suc n = omega arith in rw (e, is) (more refl)
 
   -- and once it is taken out none passes
-  pub lone_removed : (xs : List A) (x : A) → filter p xs ≡ x ∷ [] → filter p (remove xs (position_or_len p xs)) ≡ []
+  pub lone_removed : (xs : List A) (x : A) → filter p xs ≡ x ∷ [] → filter p (remove xs (last_place p xs)) ≡ []
   lone_removed [] x h = absurd (cc)
   lone_removed (y ∷ ys) x h =
-      head_removed (p y) y x ys (position_or_len p ys) refl (λ no. lone_removed ys x (sym (ap (λ b. cond b (y ∷ filter p ys) (filter p ys)) no) ∙ h)) h
+      head_removed (p y) (list_any p ys) y x ys (last_place p ys) refl (λ no. lone_removed ys x (sym (ap (λ b. cond b (y ∷ filter p ys) (filter p ys)) no) ∙ h)) (none_passes ys) h
 
-  head_left : (q : A → Bool) (b : Bool) (y : A) (ys : List A) (n : ℕ) → (b ≡ true → q y ≡ false) → filter q (remove ys n) ≡ filter q ys → filter q (remove (y ∷ ys) (cond (not b) (1 + n) 0)) ≡ filter q (y ∷ ys)
+  head_left : (q : A → Bool) (b : Bool) (y : A) (ys : List A) (n : ℕ) → (b ≡ true → q y ≡ false) → filter q (remove ys n) ≡ filter q ys → filter q (remove (y ∷ ys) (cond b 0 (1 + n))) ≡ filter q (y ∷ ys)
   head_left q true y ys n apart more = rw (apart refl) refl
   head_left q false y ys n apart more = let e : 1 + n ≡ suc n = omega arith in rw e (ap (λ zs. cond (q y) (y ∷ zs) zs) more)
 
   -- of those that pass another test none goes
-  pub others_left : (q : A → Bool) → ((x : A) → p x ≡ true → q x ≡ false) → (xs : List A) → filter q (remove xs (position_or_len p xs)) ≡ filter q xs
+  pub others_left : (q : A → Bool) → ((x : A) → p x ≡ true → q x ≡ false) → (xs : List A) → filter q (remove xs (last_place p xs)) ≡ filter q xs
   others_left q apart [] = refl
-  others_left q apart (y ∷ ys) = head_left q (p y) y ys (position_or_len p ys) (apart y) (others_left q apart ys)
+  others_left q apart (y ∷ ys) =
+      head_left q (p y && not (list_any p ys)) y ys (last_place p ys) (λ both. apart y ((and_parts (p y) (not (list_any p ys)) both).0)) (others_left q apart ys)
 
 -- USER DATA
 

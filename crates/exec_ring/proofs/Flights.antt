@@ -1,10 +1,10 @@
--- The first of a list that passes a test.
-use Rattle.std.proofs.Common.{◌≡◌, ℕ, ◌+◌, ◌<◌, ◌≤◌, Bool, true, false, cond, not, nat_lt, ⊎_elim, List, length, get_or, Option, Some, None, is_some, slice_get, refl, sym, ◌∙◌, ap, subst, arith}
-use Rattle.std.specs.List.{position, position_or_len}
-use Rattle.std.proofs.lemmas.Bool.Decides.{nat_tests}
-use Rattle.std.proofs.lemmas.List.Sums.{prefix_len-le-length}
+-- The last of a list that passes a test.
+use Rattle.std.proofs.Common.{◌≡◌, ℕ, zero, suc, ◌+◌, ◌<◌, ◌≤◌, Bool, true, false, ⊎_elim, List, [], ◌∷◌, length, get_or, Option, Some, None, is_some, slice_get, refl, sym, subst, arith}
+use Rattle.std.specs.List.{list_any}
+use Rattle.std.proofs.lemmas.Grind.{common_steps}
 use Rattle.std.proofs.lemmas.Bool.{cases_lt}
 use Rattle.std.proofs.lemmas.Option.{slice_get_past}
+use Rattle.exec_ring.specs.Kernels.{last_place}
 
 -- what is found lies in the list
 pub found_place : {X : Type 0} (xs : List X) (i : ℕ) → is_some (slice_get xs i) ≡ true → i < length xs
@@ -18,16 +18,32 @@ found_place {X = X} xs i found =
     absurd (cc bad))
     (cases_lt i (length xs))
 
--- the place that `position` finds, and the length where it finds none
-pub position-Some : {X : Type 0} (p : X → Bool) (xs : List X) (i : ℕ) → position p xs ≡ Some i → i ≡ position_or_len p xs
-position-Some p xs i found =
-    (elim (nat_lt (position_or_len p xs) (length xs)) as (λ b. cond b (Some (position_or_len p xs)) None ≡ Some i → i ≡ position_or_len p xs)
-    [ true ↦ λ h. cc h | false ↦ λ h. cc h ]) found
+-- none passes where each fails
+none_pass : {X : Type 0} (p : X → Bool) (xs : List X) → ((k : ℕ) (d : X) → k < length xs → p (get_or xs k d) ≡ false) → list_any p xs ≡ false
+none_pass p [] fail = refl
+none_pass p (x ∷ xs) fail = rw (fail 0 x (omega arith)) (none_pass p xs (λ k d inside. fail (suc k) d (omega arith)))
 
-pub position-None : {X : Type 0} (p : X → Bool) (xs : List X) → position p xs ≡ None → length xs ≡ position_or_len p xs
-position-None p xs none =
-    let le : position_or_len p xs ≤ length xs = prefix_len-le-length (λ x. not (p x)) xs in
-    let test : nat_lt (position_or_len p xs) (length xs) ≡ false =
-    (elim (nat_lt (position_or_len p xs) (length xs)) as (λ b. cond b (Some (position_or_len p xs)) None ≡ None → b ≡ false)
-    [ true ↦ λ h. cc h | false ↦ λ h. refl ]) none in
-    grind (arith, nat_tests, test, le)
+-- one does where one passes
+one_passes : {X : Type 0} (p : X → Bool) (xs : List X) (i : ℕ) → i < length xs → ((d : X) → p (get_or xs i d) ≡ true) → list_any p xs ≡ true
+one_passes p [] i inside here = absurd (omega arith)
+one_passes p (x ∷ xs) zero inside here = rw (here x) refl
+one_passes p (x ∷ xs) (suc i) inside here = grind (arith, common_steps, one_passes p xs i (omega arith) here)
+
+-- the last that passes stands where one passes and none behind it
+pub last_at : {X : Type 0} (p : X → Bool) (xs : List X) (i : ℕ) → i < length xs → ((d : X) → p (get_or xs i d) ≡ true) → ((k : ℕ) (d : X) → i < k → k < length xs → p (get_or xs k d) ≡ false) → i ≡ last_place p xs
+last_at p [] i inside here behind = absurd (omega arith)
+last_at p (x ∷ xs) zero inside here behind =
+    let none : list_any p xs ≡ false = none_pass p xs (λ k d within. behind (suc k) d (omega arith) (omega arith)) in
+    rw (here x, none) refl
+last_at p (x ∷ xs) (suc i) inside here behind =
+    let some : list_any p xs ≡ true = one_passes p xs i (omega arith) here in
+    let rest : i ≡ last_place p xs = last_at p xs i (omega arith) here (λ k d more within. behind (suc k) d (omega arith) (omega arith)) in
+    grind (arith, common_steps, some, rest)
+
+-- where none passes it is how many there are
+pub last_missed : {X : Type 0} (p : X → Bool) (xs : List X) → ((k : ℕ) (d : X) → k < length xs → p (get_or xs k d) ≡ false) → length xs ≡ last_place p xs
+last_missed p [] fail = refl
+last_missed p (x ∷ xs) fail =
+    let here : p x ≡ false = fail 0 x (omega arith) in
+    let rest : length xs ≡ last_place p xs = last_missed p xs (λ k d inside. fail (suc k) d (omega arith)) in
+    grind (arith, common_steps, here, rest)

@@ -1,6 +1,6 @@
 -- What each call does to a ring, and what its kernel does.
 use Rattle.std.specs.Prelude.{◌≡◌, ℕ, Bool, true, false, not, ◌+◌, ◌-◌, ◌^◌, ◌==◌, ◌&&◌, List, [], ◌∷◌, ◌++◌, length, fold, min, nat_lt, Option, Some, None, if◌then◌else◌}
-use Rattle.std.specs.List.{position_or_len, remove, slice_get}
+use Rattle.std.specs.List.{list_any, remove, slice_get}
 use Rattle.exec_outcomes.specs.declared.outcome.OpResult.{OpResult}
 use Rattle.exec_outcomes.specs.Lawful.{is_lawful}
 use Rattle.exec_request.specs.declared.window.Opcode.{Opcode}
@@ -87,12 +87,17 @@ has_none (p ∷ ps) = false
 abbrev pub is_quiet : RingState → Bool
 is_quiet s = has_none s.posted && (s.wakes == 0)
 
--- the operation with this user data that the kernel has: the first, if any
+-- the place of the last that passes a test, or how many there are where none does
+abbrev pub last_place : {X : Type 0} → (X → Bool) → List X → ℕ
+last_place p [] = 0
+last_place p (x ∷ xs) = if p x && not (list_any p xs) then 0 else 1 + last_place p xs
+
+-- the operation with this user data that the kernel has: the last that it took in, if any
 abbrev pub is_of : ℕ → Submission → Bool
 is_of user_data e = e.user_data == user_data
 
 abbrev pub flight_place : RingState → ℕ → ℕ
-flight_place s user_data = position_or_len (is_of user_data) s.flying
+flight_place s user_data = last_place (is_of user_data) s.flying
 
 abbrev pub flight_of : RingState → ℕ → Option Submission
 flight_of s user_data = slice_get s.flying (flight_place s user_data)

@@ -9,11 +9,10 @@
 //! come between two completions are kept as a number.
 
 ghost use Rattle.std.specs.Prelude.{◌≡◌, ◌+◌, ◌-◌, ◌<◌, true, length, IsTrue, IsSome, IfOk, OnOk, OnErr};
-ghost use Rattle.std.specs.List.{position, position_or_len};
 ghost use Rattle.exec_outcomes.specs.Lawful.{is_lawful};
 ghost use Rattle.exec_ring.specs.Rings.{fresh, taken_places};
 ghost use Rattle.exec_request.specs.Windows.{most_of};
-ghost use Rattle.exec_ring.specs.Kernels.{is_of, window_if, flight_of, allowed_window, without_flight, landed, with_completion, woken, with_wake, with_poll, taken_in, next_completion, reaped, is_quiet as has_none_posted, with_entry, entered, answer_of_enter};
+ghost use Rattle.exec_ring.specs.Kernels.{is_of, last_place, window_if, flight_of, allowed_window, without_flight, landed, with_completion, woken, with_wake, with_poll, taken_in, next_completion, reaped, is_quiet as has_none_posted, with_entry, entered, answer_of_enter};
 
 use crate::completion::{Completion, Posted, Submission, UserData};
 use crate::ring::{Entered, Ring};
@@ -31,7 +30,8 @@ pub struct SimRing {
     size: usize,
     /// The submission queue.
     staged: VecDeque<Submission>,
-    /// The operations that the kernel has.
+    /// The operations that the kernel has, in the order in which it took them in. One is looked for from the last on, and
+    /// where it leaves no more move than were looked at.
     flying: Vec<Submission>,
     /// Whether the kernel has the wake poll.
     armed: bool,
@@ -260,7 +260,7 @@ impl SimRing {
     fn flight(&self, user_data: UserData) -> Option<Submission>
         ensures { result ≡ flight_of self.now user_data }
     {
-        let at = first_of(&self.flying, user_data);
+        let at = last_of(&self.flying, user_data);
         self.flying.get(at).copied()
     }
 
@@ -281,26 +281,19 @@ impl SimRing {
         ensures place { taken_places self.new + 1 ≡ taken_places self.old }
         ensures within { taken_places self.new < self.new.places }
     {
-        let at = first_of(&self.flying, user_data);
+        let at = last_of(&self.flying, user_data);
         self.flying.remove(at);
     }
 }
 
-/// The place of the first entry with this user data, or their number where there is none.
-fn first_of(flying: &[Submission], user_data: UserData) -> usize
-    ensures { result ≡ position_or_len (is_of user_data) flying.now }
+/// The place of the last entry with this user data, or their number where there is none.
+fn last_of(flying: &[Submission], user_data: UserData) -> usize
+    ensures { result ≡ last_place (is_of user_data) flying.now }
 {
-    match place_of(flying, user_data) {
+    match flying.iter().rposition(|entry| entry.user_data == user_data) {
         Some(at) => at,
         None => flying.len(),
     }
-}
-
-/// The place of the first entry with this user data.
-fn place_of(flying: &[Submission], user_data: UserData) -> Option<usize>
-    ensures { result ≡ position (is_of user_data) flying.now }
-{
-    flying.iter().position(|entry| entry.user_data == user_data)
 }
 
 /// This window, where a kernel may end its operation so.
