@@ -1,5 +1,6 @@
 pub mod Words
 pub mod Names
+pub mod Slots
 pub mod Counting
 pub mod Shifts
 pub mod Endings

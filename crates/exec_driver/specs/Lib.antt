@@ -1,5 +1,6 @@
 pub mod Opens
 pub mod Lists
+pub mod Due
 pub mod Driving
 pub mod Steps
 pub mod Sound

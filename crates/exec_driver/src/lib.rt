@@ -3,6 +3,7 @@
 
 pub mod armed;
 pub mod driver;
+mod due;
 pub mod examples;
 pub mod home;
 pub mod laws;

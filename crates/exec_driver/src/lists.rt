@@ -8,6 +8,7 @@ ghost use Rattle.std.specs.Prelude.{◌≡◌, ◌<◌, ◌≤◌, [], true, fal
 ghost use Rattle.std.specs.VecDeque.{deque_capacity};
 ghost use Rattle.exec_driver.specs.Lists.{no_lists, without, is_among, has_first, first_of, rest_of, withdrawn, with_queued, with_gated, with_enrolment, with_due, with_cancel, without_gated, after_queued, after_enrolment, after_due, after_cancel};
 
+use crate::due::Due;
 use exec_waiters::waiter_id::WaiterId;
 use std::alloc::{AllocError, Global};
 use std::collections::VecDeque;
@@ -23,7 +24,7 @@ pub(crate) struct Lists {
     // Whose deadline is to be enrolled.
     enrolments: VecDeque<WaiterId>,
     // Whose deadline has come, in the order of the wheel.
-    due: VecDeque<WaiterId>,
+    due: Due,
     // Whose cancel is to be staged, in the order in which they were asked for.
     cancels: VecDeque<WaiterId>,
     // For how many requests there is memory in each.
@@ -41,12 +42,12 @@ impl Model for Lists {
       queued = l.queued.items;
       gated = l.gated.items;
       enrolments = l.enrolments.items;
-      due = l.due.items;
+      due = l.due.names.items;
       cancels = l.cancels.items;
       room = l.room;
     } };
 
-    ghost invariant = { λ l. (l.room ≤ deque_capacity l.queued) × (l.room ≤ deque_capacity l.gated) × (l.room ≤ deque_capacity l.enrolments) × (l.room ≤ deque_capacity l.due) × (l.room ≤ deque_capacity l.cancels) };
+    ghost invariant = { λ l. (l.room ≤ deque_capacity l.queued) × (l.room ≤ deque_capacity l.gated) × (l.room ≤ deque_capacity l.enrolments) × (l.room ≤ deque_capacity l.due.names) × (l.room ≤ deque_capacity l.cancels) };
 }
 
 impl Lists {
@@ -58,7 +59,7 @@ impl Lists {
             queued: VecDeque::new(alloc),
             gated: VecDeque::new(alloc),
             enrolments: VecDeque::new(alloc),
-            due: VecDeque::new(alloc),
+            due: Due::new(alloc),
             cancels: VecDeque::new(alloc),
             room: 0,
         }
@@ -72,7 +73,7 @@ impl Lists {
         make_room(&mut self.queued, count)?;
         make_room(&mut self.gated, count)?;
         make_room(&mut self.enrolments, count)?;
-        make_room(&mut self.due, count)?;
+        self.due.reserve(count)?;
         make_room(&mut self.cancels, count)?;
         self.room = self.room.max(count);
         Ok(())
@@ -96,7 +97,7 @@ impl Lists {
     pub(crate) fn has_due(&self) -> bool
         ensures { result ≡ has_first self.now.due }
     {
-        !self.due.is_empty()
+        self.due.has_first()
     }
 
     /// Whether a cancel is to be staged.
@@ -127,7 +128,7 @@ impl Lists {
         take_out(&mut self.queued, id);
         take_out(&mut self.gated, id);
         take_out(&mut self.enrolments, id);
-        take_out(&mut self.due, id);
+        self.due.take_out(id);
         take_out(&mut self.cancels, id);
     }
 
@@ -185,8 +186,8 @@ impl Lists {
         requires room { is_among id self.old.due ≡ false → length self.old.due < self.old.room }
         ensures { self.new ≡ with_due id self.old }
     {
-        if !has(&self.due, id) {
-            self.due.push_back_reserved(id);
+        if !self.due.has(id) {
+            self.due.push(id);
         }
     }
 
@@ -200,7 +201,7 @@ impl Lists {
         if told {
             self.cancels.push_back_reserved(id);
         } else {
-            take_out(&mut self.due, id);
+            self.due.take_out(id);
             self.cancels.push_back_reserved(id);
         }
     }
@@ -226,7 +227,7 @@ impl Lists {
         ensures first { result ≡ first_of self.old.due }
         ensures rest { self.new ≡ after_due self.old }
     {
-        self.due.pop_front()
+        self.due.pop()
     }
 
     /// Takes out whose cancel was asked for first.
@@ -248,7 +249,7 @@ fn make_room(list: &mut VecDeque<WaiterId>, count: usize) -> Result<(), AllocErr
 }
 
 /// Takes a name out of a list, where it stands there.
-fn take_out(list: &mut VecDeque<WaiterId>, id: WaiterId)
+pub(crate) fn take_out(list: &mut VecDeque<WaiterId>, id: WaiterId)
     ensures items { list.new.items ≡ without id list.old.items }
     ensures capacity { deque_capacity list.new ≡ deque_capacity list.old }
 {
@@ -256,7 +257,7 @@ fn take_out(list: &mut VecDeque<WaiterId>, id: WaiterId)
 }
 
 /// Whether a list has a name.
-fn has(list: &VecDeque<WaiterId>, id: WaiterId) -> bool
+pub(crate) fn has(list: &VecDeque<WaiterId>, id: WaiterId) -> bool
     ensures { result ≡ is_among id list.now.items }
 {
     list.iter().any(|other| other.0.index == id.0.index && other.0.generation == id.0.generation)

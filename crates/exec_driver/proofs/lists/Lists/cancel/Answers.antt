@@ -5,5 +5,5 @@ use Rattle.exec_driver.proofs.lists.Lists.cancel.Goals as goal
 
 pub returns-then-told : goal.returns-then-told
 returns-then-told c =
-    let none : is_among c.args.id c.self.inside.due.items ≡ false = rw (← c.self.view_is) at (c.requires.late c.if-told.true) in
-    rw (← c.self.view_is, c.push_back_reserved.ensures.items, unchanged c.args.id c.self.inside.due.items none) refl
+    let none : is_among c.args.id c.self.inside.due.names.items ≡ false = rw (← c.self.view_is) at (c.requires.late c.if-told.true) in
+    rw (← c.self.view_is, c.push_back_reserved.ensures.items, unchanged c.args.id c.self.inside.due.names.items none) refl

@@ -1,0 +1,11 @@
+-- How many of the names of a list have each slot.
+use Rattle.std.specs.Prelude.{◌≡◌, ℕ, ◌+◌, ◌<◌, ◌==◌, List, [], ◌∷◌, length, slice_index, if◌then◌else◌}
+use Rattle.exec_waiters.specs.declared.waiter_id.WaiterId.{WaiterId}
+
+abbrev pub in_slot : ℕ → List WaiterId → ℕ
+in_slot slot [] = 0
+in_slot slot (id ∷ ids) = if id.0.index == slot then 1 + in_slot slot ids else in_slot slot ids
+
+-- each count is that of its slot
+abbrev pub AreCounted : List WaiterId → List ℕ → Type 0
+AreCounted ids counts = (slot : ℕ) → slot < length counts → slice_index counts slot ≡ in_slot slot ids
