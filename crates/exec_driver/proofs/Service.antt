@@ -5,8 +5,8 @@ use Rattle.std.specs.Option.{IfSome, IfNone, SomeIff}
 use Rattle.std.proofs.lemmas.Bool.{false≢true}
 use Rattle.exec_time.specs.Turning.{advanced}
 use Rattle.exec_waiters.specs.{States.file_of, Told.Tells, declared.{deferred.Deferred.Deferred, waiter.Waiter.Waiter, waiter_id.WaiterId.WaiterId}}
-use Rattle.exec_driver.specs.{Driving.{Driving, request_at, is_full, may_stage_one, has_pending}, Examples.idle, Lists.{has_first, first_of}, Opens.{OpenState, account_in, holder_at}, Sharing.permit_by, Service.{Repeats, NoStep, OneMore, Passes, permit_of, reached, ReapsOne, ExpiresOne, EnrolsOne, GrantsAt, Turn, NoTurn, StagesEntry, Cancel, Request, WakePoll, Parks, Refused, Waited, NoGate, ServesInOrder, entered_if}, Steps.{ReapsNext, Grants, Enrols, StagesOne, is_turn_of, expired, told_by_cancel, cancel_staged, poll_staged, with_landings}, declared.driver.{reaping.Reaped.Reaped, staging.Granted.Granted, timing.Enrolled.Enrolled}, Turns.made_way}
-use Rattle.exec_driver.proofs.{Queues.IsEntered, Turns.{no_first, none_staged, never, way_may}, Words.{cases_Bool, and_parts, and_from, or_parts, or_right, not-false}}
+use Rattle.exec_driver.specs.{Driving.{Driving, request_at, is_full, may_stage_one, has_pending}, Examples.idle, Lists.{has_first, first_of}, Opens.{OpenState, account_in, holder_at}, Sharing.permit_by, Service.{Repeats, NoStep, OneMore, Passes, permit_of, reached, ReapsOne, ExpiresOne, EnrolsOne, GrantsAt, Turn, NoTurn, StagesEntry, Cancel, Request, WakePoll, Staged, is_unstaged, Parks, Refused, Waited, NoGate, ServesInOrder, entered_if}, Steps.{ReapsNext, Grants, Enrols, StagesOne, is_turn_of, expired, told_by_cancel, cancel_staged, poll_staged, with_landings}, declared.driver.{reaping.Reaped.Reaped, staging.Granted.Granted, timing.Enrolled.Enrolled}, Turns.{made_way, may_wait}}
+use Rattle.exec_driver.proofs.{Queues.IsEntered, Turns.{no_first, none_staged, never, way_may}, Words.{cases_Bool, and_parts, and_from, or_parts, or_left, or_right, not-false}}
 
 module _ {A : Type 0} (Step : A → A → Type 0) where
   pub repeats_both : (a b c : A) → Repeats Step a b → Repeats Step b c → Repeats Step a c
@@ -48,19 +48,19 @@ module _ {S F : Type 0} where
 
   -- STAGING
 
-  pub cancel_entry : (opens : List OpenState) (d d' : Driving S F) (o : Option WaiterId) → is_none o ≡ false → o ≡ first_of d.lists.cancels → IfSome o (λ id. d' ≡ with_landings d' (cancel_staged d id)) → StagesEntry opens d d'
-  cancel_entry opens d d' None some first is = absurd (false≢true (sym some))
-  cancel_entry opens d d' (Some id) some first is = Cancel id (sym first) is
+  pub cancel_entry : (opens : List OpenState) (d d' : Driving S F) (o : Option WaiterId) → is_full d ≡ false → is_none o ≡ false → o ≡ first_of d.lists.cancels → IfSome o (λ id. d' ≡ with_landings d' (cancel_staged d id)) → StagesEntry opens d d'
+  cancel_entry opens d d' None room some first is = absurd (false≢true (sym some))
+  cancel_entry opens d d' (Some id) room some first is = Cancel id room (sym first) is
 
-  request_here : (opens : List OpenState) (d d' : Driving S F) (p : Option WaiterId) → first_of d.lists.cancels ≡ None → may_stage_one d ≡ true → p ≡ first_of d.lists.queued → IfSome p (λ id. (w : Waiter S F) → request_at d id ≡ Some w → StagesOne d d' id w (account_in opens (file_of w.request))) → StagesEntry opens d d'
-  request_here opens d d' None none may next staged = absurd (no_first d.lists.queued (and_parts _ _ may).0 next)
-  request_here opens d d' (Some id) none may next staged = Request id none (sym next) staged
+  request_here : (opens : List OpenState) (d d' : Driving S F) (p : Option WaiterId) → is_full d ≡ false → first_of d.lists.cancels ≡ None → may_stage_one d ≡ true → p ≡ first_of d.lists.queued → IfSome p (λ id. (w : Waiter S F) → request_at d id ≡ Some w → StagesOne d d' id w (account_in opens (file_of w.request))) → StagesEntry opens d d'
+  request_here opens d d' None room none may next staged = absurd (no_first d.lists.queued (and_parts _ _ may).0 next)
+  request_here opens d d' (Some id) room none may next staged = Request id room none may (sym next) staged
 
-  pub request_entry : (opens : List OpenState) (d e d' : Driving S F) (o p : Option WaiterId) → is_none o ≡ true → o ≡ first_of d.lists.cancels → IfNone o (e ≡ d) → (has_first d.lists.cancels || may_stage_one d) ≡ true → p ≡ first_of e.lists.queued → IfSome p (λ id. (w : Waiter S F) → request_at e id ≡ Some w → StagesOne e d' id w (account_in opens (file_of w.request))) → StagesEntry opens d d'
-  request_entry opens d e d' None p none first is some next staged =
+  pub request_entry : (opens : List OpenState) (d e d' : Driving S F) (o p : Option WaiterId) → is_full d ≡ false → is_none o ≡ true → o ≡ first_of d.lists.cancels → IfNone o (e ≡ d) → (has_first d.lists.cancels || may_stage_one d) ≡ true → p ≡ first_of e.lists.queued → IfSome p (λ id. (w : Waiter S F) → request_at e id ≡ Some w → StagesOne e d' id w (account_in opens (file_of w.request))) → StagesEntry opens d d'
+  request_entry opens d e d' None p room none first is some next staged =
       let mid = none_staged d e None none first is some in
-      subst (λ (x : Driving S F). StagesEntry opens x d') mid.0 (request_here opens e d' p (ap (λ (x : Driving S F). first_of x.lists.cancels) mid.0 ∙ sym first) (ap (λ (x : Driving S F). may_stage_one x) mid.0 ∙ mid.1) next staged)
-  request_entry opens d e d' (Some id) p none first is some next staged = absurd (false≢true none)
+      subst (λ (x : Driving S F). StagesEntry opens x d') mid.0 (request_here opens e d' p (ap (λ (x : Driving S F). is_full x) mid.0 ∙ room) (ap (λ (x : Driving S F). first_of x.lists.cancels) mid.0 ∙ sym first) (ap (λ (x : Driving S F). may_stage_one x) mid.0 ∙ mid.1) next staged)
+  request_entry opens d e d' (Some id) p room none first is some next staged = absurd (false≢true none)
 
   pub poll_entry : (opens : List OpenState) (first d d' : Driving S F) → Repeats (StagesEntry opens) first d → has_first d.lists.cancels ≡ false → may_stage_one d ≡ false → ((d.armed || is_full d) ≡ true → d' ≡ d) → d' ≡ with_landings d' (cond d.armed d (cond (is_full d) d (poll_staged d))) → Repeats (StagesEntry opens) first d'
   poll_entry opens first d d' before cancels queued same is =
@@ -69,11 +69,28 @@ module _ {S F : Type 0} where
         | inr calm ↦
             elim (cases_Bool (is_full d)) [
               | inl full ↦ subst (λ (x : Driving S F). Repeats (StagesEntry opens) first x) (sym (same (rw (calm, full) refl))) before
-              | inr room ↦ OneMore d d' before (WakePoll cancels queued calm (rw (calm, room) at is))
+              | inr room ↦ OneMore d d' before (WakePoll room cancels queued calm (rw (calm, room) at is))
             ]
       ]
 
+  -- something is to be staged: a cancel or a request, or the wake poll, where the queue has no room for it
+  pub unstaged_so : (d : Driving S F) → (has_first d.lists.cancels || may_stage_one d) ≡ true → is_unstaged d ≡ true
+  unstaged_so d some =
+      elim (cases_Bool (has_first d.lists.cancels)) [
+        | inl some_cancel ↦ or_left (has_first d.lists.cancels) _ some_cancel
+        | inr none ↦ let may : may_stage_one d ≡ true = rw none at some in or_right (has_first d.lists.cancels) _ (or_left (may_stage_one d) (not d.armed) may)
+      ]
+
+  pub poll_left : (d d' : Driving S F) → (d.armed || not (is_full d)) ≡ false → ((d.armed || is_full d) ≡ true → d' ≡ d) → is_unstaged d' ≡ true
+  poll_left d d' refused same =
+      let parts = or_parts d.armed (not (is_full d)) refused in
+      let same_now = same (or_right d.armed (is_full d) (not-false (is_full d) parts.1)) in
+      ap (λ (x : Driving S F). is_unstaged x) same_now ∙ or_right (has_first d.lists.cancels) _ (or_right (may_stage_one d) (not d.armed) (ap not parts.0))
+
   -- PARK
+
+  pub may_after : (d e : Driving S F) → e ≡ with_landings e (made_way d) → has_pending e ≡ false → (e.armed || not (is_full e)) ≡ true → may_wait d ≡ true
+  may_after d e way calls room = way_may d e way ∙ and_from _ _ (ap not calls) room
 
   pub pending_refused : (calm : Bool) (d e : Driving S F) → e ≡ with_landings e (made_way d) → has_pending e ≡ true → Parks calm d e
   pending_refused calm d e way pending = Refused (way_may d e way ∙ ap (λ (b : Bool). not b && (e.armed || not (is_full e))) pending) way
@@ -84,7 +101,7 @@ module _ {S F : Type 0} where
       subst (λ (x : Driving S F). Parks calm d x) (sym (same full)) (Refused (way_may d e way ∙ ap (λ (b : Bool). not (has_pending e) && b) room ∙ never (not (has_pending e))) way)
 
   pub waited : (calm : Bool) (d e f d' : Driving S F) → e ≡ with_landings e (made_way d) → has_pending e ≡ false → (e.armed || not (is_full e)) ≡ true → f ≡ with_landings f (cond e.armed e (cond (is_full e) e (poll_staged e))) → d' ≡ with_landings d' (entered_if calm f) → Parks calm d d'
-  waited calm d e f d' way calls room polls enters = Waited e f (way_may d e way ∙ and_from _ _ (ap not calls) room) way (out (is_full e) e.armed polls room) enters
+  waited calm d e f d' way calls room polls enters = Waited e f (may_after d e way calls room) way (out (is_full e) e.armed polls room) enters
     where
       out : (full armed : Bool) → f ≡ with_landings f (cond armed e (cond full e (poll_staged e))) → (armed || not full) ≡ true → f ≡ with_landings f (cond armed e (poll_staged e))
       out full true is room = is
@@ -112,7 +129,7 @@ idle_served told =
       granted = reached idle [] told None;
       grants = record { end = 0; below = NoGate; none = λ low. refl };
       staged = poll_staged idle;
-      stages = OneMore idle _ NoStep (WakePoll refl refl refl refl);
+      stages = Staged (OneMore idle _ NoStep (WakePoll refl refl refl refl refl)) (record { cancels = refl; queued = refl; armed = refl });
       none_unstaged = λ room. record { cancels = refl; queued = refl; armed = refl };
       none_unless_busy = λ free. record { cancels = refl; queued = refl; armed = refl };
       worked = poll_staged idle;

@@ -1,6 +1,6 @@
 -- A whole service and a whole wait: which steps they take, and in which order. A service makes each kind of step until
 -- none is left to make.
-use Rattle.std.specs.Prelude.{◌≡◌, ℕ, Bool, false, true, not, ◌+◌, ◌^◌, ◌<◌, ◌==◌, ◌&&◌, List, Option, Some, None, if◌then◌else◌}
+use Rattle.std.specs.Prelude.{◌≡◌, ℕ, Bool, false, true, not, ◌+◌, ◌^◌, ◌<◌, ◌==◌, ◌&&◌, ◌||◌, List, Option, Some, None, if◌then◌else◌}
 use Rattle.exec_ring.specs.Kernels.{is_quiet}
 use Rattle.exec_waiters.specs.{States.{pending_count, file_of}, Told.Tells, declared.{deferred.Deferred.Deferred, waiter.Waiter.Waiter, waiter_id.WaiterId.WaiterId}}
 use Rattle.exec_driver.specs.{Driving.{Driving, request_at, may_stage_one, is_full}, Lists.{has_first, first_of}, Opens.{OpenState, account_in, holder_at, next_at, with_open, passed}, Sharing.permit_by, Steps.{ReapsNext, Grants, Enrols, StagesOne, expired, told_by_cancel, advanced_to, lowest_gate, is_turn_of, cancel_staged, poll_staged, entered, with_landings}, Turns.{PassesTo, IsStaged, must_enter, may_wait, made_way}, declared.driver.{reaping.Reaped.Reaped, staging.Granted.Granted, timing.Enrolled.Enrolled}}
@@ -57,12 +57,22 @@ module _ {S F : Type 0} where
     Turn : (opens : List OpenState) (g : Granted) → Grants a.driver b.driver a.opens opens a.told b.told worker file g → Passes (permit_by file g) opens b.opens a.signalled b.signalled → GrantsAt worker file a b
     NoTurn : is_turn_of worker a.driver.lists (holder_at a.opens file) ≡ false → b ≡ a → GrantsAt worker file a b
 
-  -- a cancel is staged, or else a request, or else the wake poll; a full queue is entered
+  -- a cancel is to be staged, or a request that may be, or the wake poll
+  abbrev pub is_unstaged : Driving S F → Bool
+  is_unstaged d = has_first d.lists.cancels || (may_stage_one d || not d.armed)
+
+  -- into a queue with room a cancel goes, or else a request that may be staged, or else the wake poll; a full queue is
+  -- entered while something is to be staged
   pub data StagesEntry (opens : List OpenState) (old new : Driving S F) : Type 0 where
-    Cancel : (id : WaiterId) → first_of old.lists.cancels ≡ Some id → new ≡ with_landings new (cancel_staged old id) → StagesEntry opens old new
-    Request : (id : WaiterId) → first_of old.lists.cancels ≡ None → first_of old.lists.queued ≡ Some id → ((w : Waiter S F) → request_at old id ≡ Some w → StagesOne old new id w (account_in opens (file_of w.request))) → StagesEntry opens old new
-    WakePoll : has_first old.lists.cancels ≡ false → may_stage_one old ≡ false → old.armed ≡ false → new ≡ with_landings new (poll_staged old) → StagesEntry opens old new
-    Enter : is_full old ≡ true → new ≡ with_landings new (entered old) → StagesEntry opens old new
+    Cancel : (id : WaiterId) → is_full old ≡ false → first_of old.lists.cancels ≡ Some id → new ≡ with_landings new (cancel_staged old id) → StagesEntry opens old new
+    Request : (id : WaiterId) → is_full old ≡ false → first_of old.lists.cancels ≡ None → may_stage_one old ≡ true → first_of old.lists.queued ≡ Some id → ((w : Waiter S F) → request_at old id ≡ Some w → StagesOne old new id w (account_in opens (file_of w.request))) → StagesEntry opens old new
+    WakePoll : is_full old ≡ false → has_first old.lists.cancels ≡ false → may_stage_one old ≡ false → old.armed ≡ false → new ≡ with_landings new (poll_staged old) → StagesEntry opens old new
+    Enter : is_full old ≡ true → is_unstaged old ≡ true → old.ring.busy ≡ false → new ≡ with_landings new (entered old) → StagesEntry opens old new
+
+  -- all that may be staged is staged; or the kernel was busy as a full queue was entered, and that was the last step
+  pub data StagesAll (opens : List OpenState) (old new : Driving S F) : Type 0 where
+    Staged : Repeats (StagesEntry opens) old new → IsStaged new → StagesAll opens old new
+    Busy : (full : Driving S F) → Repeats (StagesEntry opens) old full → is_full full ≡ true → is_unstaged full ≡ true → full.ring.busy ≡ true → new ≡ with_landings new (entered full) → StagesAll opens old new
 
   abbrev pub entered_if : Bool → Driving S F → Driving S F
   entered_if enters d = if enters then entered d else d
@@ -109,7 +119,7 @@ module _ {S F : Type 0} where
     pub grants : GrantsAll worker (reached enrolled.0 reaped.opens enrolled.1 reaped.signalled) granted
     -- all that may be staged is staged, unless the queue is full and the kernel was busy
     pub staged : Driving S F
-    pub stages : Repeats (StagesEntry granted.opens) granted.driver staged
+    pub stages : StagesAll granted.opens granted.driver staged
     pub none_unstaged : is_full staged ≡ false → IsStaged staged
     pub none_unless_busy : granted.driver.ring.busy ≡ false → IsStaged staged
     -- the kernel works, unless that is put off

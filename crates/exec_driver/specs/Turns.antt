@@ -1,6 +1,5 @@
 -- What a whole service needs, and what each of its steps keeps.
-use Rattle.std.specs.Prelude.{◌≡◌, ℕ, suc, Bool, true, false, not, ◌+◌, ◌≤◌, ◌==◌, ◌&&◌, ◌||◌, length, nat_lt, List, [], ◌∷◌, Option, Some, None, if◌then◌else◌}
-use Rattle.exec_base.specs.Post.{Takes}
+use Rattle.std.specs.Prelude.{◌≡◌, ℕ, suc, Bool, true, false, not, ◌+◌, ◌≤◌, ◌==◌, ◌&&◌, ◌||◌, length, nat_lt, List, [], ◌∷◌, ◌++◌, Option, Some, None, if◌then◌else◌}
 use Rattle.exec_ring.specs.{Rings.RingState, declared.completion.Posted.Posted}
 use Rattle.exec_waiters.specs.{States.pending_count, Told.{HasPlaces, is_untold}, declared.deferred.Deferred.Deferred}
 use Rattle.exec_driver.specs.{Driving.{Driving, may_stage_one, has_pending, is_full}, Lists.has_first, Punctual.IsPunctual, Steps.entered, declared.opens.WaiterKey.WaiterKey}
@@ -56,10 +55,15 @@ abbrev pub is_after : ℕ → Option ℕ → Bool
 is_after now None = true
 is_after now (Some deadline) = nat_lt now deadline
 
+-- one more signal was given, where it is known who was signalled; no signal stands for another
+abbrev pub signalled_too : Option (List ℕ) → ℕ → Option (List ℕ)
+signalled_too None worker = None
+signalled_too (Some workers) worker = Some (workers ++ worker ∷ [])
+
 -- the worker of the next holder is signalled, where there is a next
 abbrev pub PassesTo : Option WaiterKey → Option (List ℕ) → Option (List ℕ) → Type 0
 PassesTo None before after = after ≡ before
-PassesTo (Some key) before after = Takes before key.worker after
+PassesTo (Some key) before after = after ≡ signalled_too before key.worker
 
 -- how many completions there are
 abbrev pub waiting : List Posted → ℕ → ℕ

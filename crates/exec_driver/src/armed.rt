@@ -8,7 +8,7 @@
 //! by a service of that worker.
 
 ghost use Rattle.std.specs.Prelude.{◌≡◌, ℕ, Bool, true, false, List, Option};
-ghost use Rattle.exec_base.specs.Post.{Takes};
+ghost use Rattle.exec_driver.specs.Turns.{signalled_too};
 
 /// The wake word of a worker.
 pub trait Armed {
@@ -33,7 +33,7 @@ pub trait Signals {
     // Whom it signalled so far, the first first, where that is known.
     ghost signalled: { Self → Option (List ℕ) };
 
-    /// Signals a worker.
+    /// Signals a worker, also where it was signalled before: it may have taken that signal out by now.
     fn signal(&mut self, worker: u32)
-        ensures { Takes (signalled self.old) worker (signalled self.new) };
+        ensures { signalled self.new ≡ signalled_too (signalled self.old) worker };
 }

@@ -29,7 +29,7 @@ impl<R: Ring + Drop, S: Drop, F: Drop> Driver<R, S, F> {
     /// A durable one is gated, and has to join the line of its open by `join`; any other is queued. Of a plain write
     /// its open is told that a change begins.
     ///
-    /// `Full` comes just where no request can be named any more, `NoMemory` only where there is no memory; the request
+    /// `Full` comes only where no request can be named any more, `NoMemory` only where there is no memory; the request
     /// and who waits for it come back then, and nothing changes. The ring keeps few places that requests left which are
     /// over, however many there were. The caller must have a sync where its outcome alone is to be sent. Ports `admit`.
     pub fn admit(

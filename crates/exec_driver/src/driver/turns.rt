@@ -13,7 +13,7 @@ ghost use Rattle.std.specs.Prelude.{◌≡◌, ◌<◌, ◌≤◌, ◌&&◌, ◌
 ghost use Rattle.exec_ring.specs.Kernels.{is_quiet};
 ghost use Rattle.exec_time.specs.Wheel.{IsWithinReach};
 ghost use Rattle.exec_waiters.specs.States.{pending_count};
-ghost use Rattle.exec_driver.specs.{Opens.{next_at, with_open, passed}, Driving.{seen, is_full, may_stage_one}, Lists.has_first, Punctual.IsPunctual, Sound.IsSound, Service.{Repeats, ReapsOne, ExpiresOne, EnrolsOne, GrantsAt, GrantsAll, StagesEntry, ServesInOrder, Parks, reached, entered_if}, Steps.with_landings, Turns.{CanTell, GoesOn, Serves, StaysDone, IsStaged, unstaged, unreaped, may_wait, made_way, must_enter, is_after, PassesTo}};
+ghost use Rattle.exec_driver.specs.{Opens.{next_at, with_open, passed}, Driving.{seen, is_full, may_stage_one}, Lists.has_first, Punctual.IsPunctual, Sound.IsSound, Service.{Repeats, ReapsOne, ExpiresOne, EnrolsOne, GrantsAt, GrantsAll, StagesEntry, StagesAll, ServesInOrder, is_unstaged, Parks, reached, entered_if}, Steps.with_landings, Turns.{CanTell, GoesOn, Serves, StaysDone, IsStaged, unstaged, unreaped, may_wait, made_way, must_enter, is_after, PassesTo}};
 
 use super::Driver;
 use super::reaping::Reaped;
@@ -92,6 +92,7 @@ impl<R: Ring + Drop, S: Drop, F: Drop> Driver<R, S, F> {
         ensures answer { result ≡ (may_wait (seen self.old) && A.is_calm word.old processed) }
         ensures parks { Parks (A.is_calm word.old processed) (seen self.old) (seen self.new) }
         ensures disarmed { A.is_armed word.old ≡ false → A.is_armed word.new ≡ false }
+        ensures untouched { may_wait (seen self.old) ≡ false → word.new ≡ word.old }
         ensures armed { IsTrue result → (seen self.new).armed ≡ true }
         ensures entered { IsTrue result → (seen self.old).ring.busy ≡ false → (seen self.new).ring.staged ≡ [] }
         ensures same { seen self.new ≡ record (seen self.old) { ring = (seen self.new).ring; landings = (seen self.new).landings; armed = (seen self.new).armed } }
@@ -287,7 +288,7 @@ impl<R: Ring + Drop, S: Drop, F: Drop> Driver<R, S, F> {
         ensures done { StaysDone (seen self.old) (seen self.new) }
         ensures staged { (seen self.old).ring.busy ≡ false → IsStaged (seen self.new) }
         ensures full { is_full (seen self.new) ≡ false → IsStaged (seen self.new) }
-        ensures stages { Repeats (StagesEntry opens.now) (seen self.old) (seen self.new) }
+        ensures stages { StagesAll opens.now (seen self.old) (seen self.new) }
     {
         'queues: while self.stage_some(opens) {
             match self.enter() {
@@ -303,6 +304,7 @@ impl<R: Ring + Drop, S: Drop, F: Drop> Driver<R, S, F> {
         ensures going { GoesOn (seen self.old) (seen self.new) }
         ensures done { StaysDone (seen self.old) (seen self.new) }
         ensures full { IsTrue result → is_full (seen self.new) ≡ true }
+        ensures left { IsTrue result → is_unstaged (seen self.new) ≡ true }
         ensures staged { result ≡ false → IsStaged (seen self.new) }
         ensures stages { Repeats (StagesEntry opens.now) (seen self.old) (seen self.new) }
         ensures less { unstaged (seen self.new) ≤ unstaged (seen self.old) }

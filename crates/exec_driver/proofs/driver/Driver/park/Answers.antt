@@ -1,6 +1,7 @@
 use Rattle.std.proofs.Common.{◌≡◌, true, false, sym, ◌∙◌, rules}
+use Rattle.std.proofs.lemmas.Bool.{false≢true}
 use Rattle.exec_driver.specs.Driving.{seen}
-use Rattle.exec_driver.proofs.{Keeping.way_punctual, Turns.{wait_pending, wait_calm, way_free, poll_any}, Service.{no_wait, waited, pending_refused}}
+use Rattle.exec_driver.proofs.{Keeping.way_punctual, Turns.{wait_pending, wait_calm, way_free, poll_any}, Service.{no_wait, waited, pending_refused, may_after}}
 use Rattle.exec_driver.proofs.driver.Driver.park.Goals as goal
 
 pub returns-then-has_pending_submissions-clause-answer : goal.returns-then-has_pending_submissions-clause-answer
@@ -37,3 +38,9 @@ returns-clause-parks g c =
     let is : c.has_pending_submissions.result ≡ false = search rules in
     let poll : c.stage_wake_poll.result ≡ true = search rules in
     waited _ _ (seen c.make_way.new.self) (seen c.stage_wake_poll.new.self) _ c.make_way.ensures (sym c.has_pending_submissions.ensures ∙ is) (sym c.stage_wake_poll.ensures.answer ∙ poll) c.stage_wake_poll.ensures.staged (rw c.arm-calm.ensures.calm at c.enter_armed.ensures.works)
+
+pub returns-clause-untouched : goal.returns-clause-untouched
+returns-clause-untouched g c = λ refused.
+    let is : c.has_pending_submissions.result ≡ false = search rules in
+    let poll : c.stage_wake_poll.result ≡ true = search rules in
+    absurd (false≢true (sym refused ∙ may_after (seen c.args.self.now) (seen c.make_way.new.self) c.make_way.ensures (sym c.has_pending_submissions.ensures ∙ is) (sym c.stage_wake_poll.ensures.answer ∙ poll)))

@@ -1,6 +1,6 @@
 use Rattle.std.proofs.Common.{◌≡◌, true, false, sym, ◌∙◌, rules, arith}
 use Rattle.std.proofs.lemmas.Bool.{false≢true}
-use Rattle.exec_driver.specs.{Driving.seen, Service.{NoStep, OneMore, Enter}}
+use Rattle.exec_driver.specs.{Driving.seen, Service.{NoStep, OneMore, Enter, Staged, Busy}}
 use Rattle.exec_driver.proofs.{Queues.{taken_answer, busy_answer}, Serving.{goes_itself, goes_both, goes_by, done_itself, done_both}, Turns.{enter_any, filled_less, not_full}, Service.{repeats_both, still_full}}
 use Rattle.exec_driver.proofs.driver.Driver.stage_all.Goals as goal
 
@@ -33,10 +33,11 @@ queues-smaller g c =
 pub queues-preserved : goal.queues-preserved
 queues-preserved g c =
     let e = enter_any (seen c.stage_some.new.self) (seen c.enter.new.self) c.enter.ensures.entered in
-    let filled : c.stage_some.result ≡ true = search rules in (
+    let filled : c.stage_some.result ≡ true = search rules in
+    let free = taken_answer (seen c.stage_some.new.self).ring _ (sym c.enter.ensures.answer ∙ c.in-Taken.is) in (
       goes_both _ _ _ c.queues.invariant.0 (goes_both _ _ _ c.stage_some.ensures.going (goes_by _ _ e.0.eases.keeps)),
       done_both _ _ _ c.queues.invariant.1 (done_both _ _ _ c.stage_some.ensures.done e.0.eases.done),
-      OneMore _ _ (repeats_both _ _ _ _ c.queues.invariant.2 c.stage_some.ensures.stages) (Enter (c.stage_some.ensures.full filled) c.enter.ensures.entered),
+      OneMore _ _ (repeats_both _ _ _ _ c.queues.invariant.2 c.stage_some.ensures.stages) (Enter (c.stage_some.ensures.full filled) (c.stage_some.ensures.left filled) free c.enter.ensures.entered),
     )
 
 pub returns-clause-going : goal.returns-clause-going
@@ -55,7 +56,8 @@ returns-in-Busy-clause-full g c = λ room.
 pub returns-in-Busy-clause-stages : goal.returns-in-Busy-clause-stages
 returns-in-Busy-clause-stages g c =
     let filled : c.stage_some.result ≡ true = search rules in
-    OneMore _ _ (repeats_both _ _ _ _ c.queues.invariant.2 c.stage_some.ensures.stages) (Enter (c.stage_some.ensures.full filled) c.enter.ensures.entered)
+    let busy = busy_answer (seen c.stage_some.new.self).ring (sym c.enter.ensures.answer ∙ c.in-Busy.is) in
+    Busy _ (repeats_both _ _ _ _ c.queues.invariant.2 c.stage_some.ensures.stages) (c.stage_some.ensures.full filled) (c.stage_some.ensures.left filled) busy c.enter.ensures.entered
 
 pub returns-clause-full : goal.returns-clause-full
 returns-clause-full g c = λ room.
@@ -63,4 +65,6 @@ returns-clause-full g c = λ room.
     c.stage_some.ensures.staged left
 
 pub returns-clause-stages : goal.returns-clause-stages
-returns-clause-stages g c = repeats_both _ _ _ _ c.queues.invariant.2 c.stage_some.ensures.stages
+returns-clause-stages g c =
+    let left : c.stage_some.result ≡ false = search rules in
+    Staged (repeats_both _ _ _ _ c.queues.invariant.2 c.stage_some.ensures.stages) (c.stage_some.ensures.staged left)

@@ -26,9 +26,9 @@ returns-then-is_none-clause-fewer g c =
 pub returns-then-is_none-clause-stages : goal.returns-then-is_none-clause-stages
 returns-then-is_none-clause-stages g c =
     let none : is_none c.stage_cancel.result ≡ true = search rules in
-    request_entry _ _ _ _ c.stage_cancel.result c.stage.result none c.stage_cancel.ensures.first c.stage_cancel.ensures.same c.requires.some c.stage.ensures.first c.stage.ensures.staged
+    request_entry _ _ _ _ c.stage_cancel.result c.stage.result c.requires.room none c.stage_cancel.ensures.first c.stage_cancel.ensures.same c.requires.some c.stage.ensures.first c.stage.ensures.staged
 
 pub returns-else-is_none-clause-stages : goal.returns-else-is_none-clause-stages
 returns-else-is_none-clause-stages g c =
     let some : is_none c.stage_cancel.result ≡ false = search rules in
-    cancel_entry _ _ _ c.stage_cancel.result some c.stage_cancel.ensures.first c.stage_cancel.ensures.staged
+    cancel_entry _ _ _ c.stage_cancel.result c.requires.room some c.stage_cancel.ensures.first c.stage_cancel.ensures.staged

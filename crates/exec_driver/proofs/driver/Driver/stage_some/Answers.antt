@@ -1,7 +1,7 @@
-use Rattle.std.proofs.Common.{◌≡◌, true, false, sym, ◌∙◌, rules, arith}
+use Rattle.std.proofs.Common.{◌≡◌, ◌||◌, true, false, sym, ◌∙◌, rules, arith}
 use Rattle.std.proofs.lemmas.Bool.{false≢true}
 use Rattle.exec_driver.specs.{Driving.{seen, may_stage_one}, Lists.has_first, Service.{NoStep, OneMore}}
-use Rattle.exec_driver.proofs.{Serving.{goes_itself, goes_both, goes_by, done_itself, done_both}, Turns.{poll_any, poll_refused}, Service.poll_entry}
+use Rattle.exec_driver.proofs.{Serving.{goes_itself, goes_both, goes_by, done_itself, done_both}, Turns.{poll_any, poll_refused}, Service.{poll_entry, poll_left, unstaged_so}}
 use Rattle.exec_driver.proofs.driver.Driver.stage_some.Goals as goal
 
 pub entries-init : goal.entries-init
@@ -55,3 +55,13 @@ returns-clause-stages g c =
     let cancels : has_first (seen c.entries.self).lists.cancels ≡ false = search rules in
     let queued : may_stage_one (seen c.entries.self) ≡ false = search rules in
     poll_entry _ _ _ _ c.entries.invariant.4 cancels queued c.stage_wake_poll.ensures.same c.stage_wake_poll.ensures.staged
+
+pub returns-clause-left : goal.returns-clause-left
+returns-clause-left g c = λ yes.
+    let refused : c.stage_wake_poll.result ≡ false = search rules in
+    poll_left (seen c.entries.self) (seen c.stage_wake_poll.new.self) (sym c.stage_wake_poll.ensures.answer ∙ refused) c.stage_wake_poll.ensures.same
+
+pub returns-then-is_full-clause-left : goal.returns-then-is_full-clause-left
+returns-then-is_full-clause-left g c = λ yes.
+    let some : (has_first (seen c.entries.self).lists.cancels || may_stage_one (seen c.entries.self)) ≡ true = search rules in
+    unstaged_so (seen c.entries.self) some
