@@ -5,12 +5,13 @@ use crate::make::{self, ADDRESS};
 use crate::moving::{move_bytes, place_of};
 use crate::words::{bytes_from, number, result, size, text_of_end, text_of_window};
 use exec_base::error::{Cause, Error};
+use exec_bufs::buf::IoBufMut;
 use exec_outcomes::outcome::{Kind, OpResult};
 use exec_request::open_record::OpenRecord;
 use exec_request::output::{RequestOutput, RetiredResources};
 use exec_request::request::Request;
 use exec_request::results::WaiterState;
-use std::alloc::Global;
+use std::alloc::{AllocError, Global};
 use std::str::SplitWhitespace;
 
 /// A request with how it ended, once it has.
@@ -67,18 +68,8 @@ impl Open {
 
     /// A call on the record of the open.
     fn change(&mut self, alloc: Global, words: &mut SplitWhitespace<'_>) -> Result<String, Fault> {
-        let Some(record) = &mut self.record else {
-            return Err(Fault::Malformed);
-        };
-        match words.next() {
-            Some("write") => record.write(),
-            Some("complete") => record.complete(),
-            Some("poison") => {
-                let code = number(words)?;
-                let code = u16::try_from(code).map_err(|_| Fault::Malformed)?;
-                record.poison(Error::BlobSyncFailed(1, Cause::Code(code)));
-            }
-            _ => return Err(Fault::Malformed),
+        if let Some(record) = &mut self.record {
+            change_record(record, words)?;
         }
         text_of_record(alloc, &self.record)
     }
@@ -93,16 +84,9 @@ impl Open {
         if index != self.requests.len() {
             return Err(Fault::Malformed);
         }
-        let seen = match &self.record {
-            Some(record) => record.begin_sync(),
-            None => 0,
-        };
+        let seen = seen_of(&self.record);
         let request = make::request(alloc, words, seen)?;
-        let word = match &request {
-            None => String::from_str(alloc, "none")?,
-            Some(Request::WriteAt(_) | Request::Sync(_)) => format!(in alloc; "seen {seen}")?,
-            Some(_) => String::from_str(alloc, "ok")?,
-        };
+        let word = word_of(alloc, &request, seen)?;
         let known = Known {
             place: place_of(&request),
             request,
@@ -110,9 +94,40 @@ impl Open {
             moved: 0,
         };
         if self.requests.push(known).is_err() {
-            return Err(Fault::Memory(std::alloc::AllocError));
+            return Err(Fault::Memory(AllocError));
         }
         Ok(word)
+    }
+}
+
+fn change_record(record: &mut OpenRecord, words: &mut SplitWhitespace<'_>) -> Result<(), Fault> {
+    match words.next() {
+        Some("write") => record.write(),
+        Some("complete") => record.complete(),
+        Some("poison") => {
+            let code = number(words)?;
+            let code = u16::try_from(code).map_err(|_| Fault::Malformed)?;
+            record.poison(Error::BlobSyncFailed(1, Cause::Code(code)));
+        }
+        _ => return Err(Fault::Malformed),
+    }
+    Ok(())
+}
+
+/// What a sync that is made now would cover.
+fn seen_of(record: &Option<OpenRecord>) -> u64 {
+    match record {
+        Some(record) => record.begin_sync(),
+        None => 0,
+    }
+}
+
+/// What is answered where a request was made, or couldn't be.
+fn word_of(alloc: Global, request: &Option<Request>, seen: u64) -> Result<String, AllocError> {
+    match request {
+        None => String::from_str(alloc, "none"),
+        Some(Request::WriteAt(_) | Request::Sync(_)) => format!(in alloc; "seen {seen}"),
+        Some(_) => String::from_str(alloc, "ok"),
     }
 }
 
@@ -158,20 +173,12 @@ fn land(
         return Err(Fault::Malformed);
     };
     let given = result(words)?;
-    let state = if number(words)? == 1 {
-        WaiterState::CancelRequested
-    } else {
-        WaiterState::Active { target_tick: None }
-    };
+    let cancelled = number(words)? == 1;
     if let OpResult::Count(count) = given {
-        known.moved = known
-            .moved
-            .saturating_add(move_bytes(request, alloc, known.moved, count)?);
+        let moved = move_bytes(request, alloc, known.moved, count)?;
+        known.moved = known.moved.saturating_add(moved);
     }
-    if !request.may_give(given) {
-        return Err(Fault::Condition);
-    }
-    match request.on_cqe(state, given, record) {
+    match judge(request, cancelled, given, record)? {
         Some(ended) => {
             known.ended = ended;
             Ok(text_of_end(alloc, ended)?)
@@ -180,53 +187,119 @@ fn land(
     }
 }
 
+/// What a request makes of a result.
+fn judge(
+    request: &mut Request,
+    cancelled: bool,
+    given: OpResult,
+    record: &mut Option<OpenRecord>,
+) -> Result<Option<Result<(), Error>>, Fault> {
+    if !request.may_give(given) {
+        return Err(Fault::Condition);
+    }
+    let state = if cancelled {
+        WaiterState::CancelRequested
+    } else {
+        WaiterState::Active { target_tick: None }
+    };
+    Ok(request.on_cqe(state, given, record))
+}
+
 /// Ends a request as its results said, and compares the bytes that it hands back.
 fn end(known: &mut Known, alloc: Global, record: &mut Option<OpenRecord>) -> Result<String, Fault> {
     let Some(request) = known.request.take() else {
         return Err(Fault::Malformed);
     };
     let (told, retired) = request.complete(known.ended, record);
-    if let RetiredResources::Connect { address, .. } = retired {
-        if address != ADDRESS {
-            return Err(Fault::Differs);
-        }
+    if !is_kept(&retired) {
+        return Err(Fault::Differs);
     }
+    told_text(known, alloc, told, record)
+}
+
+/// Whether the address of a connect came back, where it was one.
+fn is_kept(retired: &RetiredResources) -> bool {
+    match retired {
+        RetiredResources::Connect { address, .. } => *address == ADDRESS,
+        _ => true,
+    }
+}
+
+/// What is told of a request that is over, and the record of its open where it has one.
+fn told_text(
+    known: &Known,
+    alloc: Global,
+    told: RequestOutput,
+    record: &Option<OpenRecord>,
+) -> Result<String, Fault> {
     match told {
         RequestOutput::Send(ended) | RequestOutput::Connect(ended) | RequestOutput::Poll(ended) => {
             Ok(text_of_end(alloc, ended)?)
         }
         RequestOutput::WriteAt(ended) | RequestOutput::Sync(ended) => {
-            let word = text_of_end(alloc, ended)?;
-            let record = text_of_record(alloc, record)?;
-            Ok(format!(in alloc; "{word} {record}")?)
+            end_and_record(alloc, ended, record)
         }
-        RequestOutput::Recv(Ok((buf, offset))) => {
-            let wanted = bytes_from(alloc, 0, known.moved as usize)?;
-            let begins = offset.saturating_sub(wanted.len());
-            match buf.as_slice().get(begins..offset) {
-                Some(bytes) if bytes == wanted.as_slice() => {
-                    Ok(format!(in alloc; "ok offset {offset}")?)
-                }
-                _ => Err(Fault::Differs),
-            }
-        }
-        RequestOutput::Recv(Err((_, error))) => Ok(text_of_end(alloc, Err(error))?),
-        RequestOutput::ReadAt(Ok(buf)) => {
-            let wanted = bytes_from(alloc, known.place, buf.len())?;
-            if buf.as_slice() != wanted.as_slice() {
-                return Err(Fault::Differs);
-            }
-            let len = buf.len();
-            let record = text_of_record(alloc, record)?;
-            Ok(format!(in alloc; "ok len {len} {record}")?)
-        }
-        RequestOutput::ReadAt(Err((buf, error))) => {
-            let word = text_of_end(alloc, Err(error))?;
-            let len = buf.len();
-            let record = text_of_record(alloc, record)?;
-            Ok(format!(in alloc; "{word} len {len} {record}")?)
-        }
+        RequestOutput::Recv(received) => text_of_receive(alloc, received, known.moved),
+        RequestOutput::ReadAt(Ok(buf)) => text_of_read(alloc, buf, known.place, record),
+        RequestOutput::ReadAt(Err((buf, error))) => failed_read(alloc, buf.len(), error, record),
     }
+}
+
+/// How a write or a sync ended.
+fn end_and_record(
+    alloc: Global,
+    ended: Result<(), Error>,
+    record: &Option<OpenRecord>,
+) -> Result<String, Fault> {
+    let word = text_of_end(alloc, ended)?;
+    let record = text_of_record(alloc, record)?;
+    Ok(format!(in alloc; "{word} {record}")?)
+}
+
+/// How a receive ended that moved so many bytes, which must be the last of its buffer.
+fn text_of_receive(
+    alloc: Global,
+    received: Result<(IoBufMut, usize), (IoBufMut, Error)>,
+    moved: u64,
+) -> Result<String, Fault> {
+    let (buf, offset) = match received {
+        Ok(filled) => filled,
+        Err((_, error)) => return Ok(text_of_end(alloc, Err(error))?),
+    };
+    let wanted = bytes_from(alloc, 0, moved as usize)?;
+    let begins = offset.saturating_sub(wanted.len());
+    match buf.as_slice().get(begins..offset) {
+        Some(bytes) if bytes == wanted.as_slice() => Ok(format!(in alloc; "ok offset {offset}")?),
+        _ => Err(Fault::Differs),
+    }
+}
+
+/// How a read ended well, whose bytes must be those of its place.
+fn text_of_read(
+    alloc: Global,
+    buf: IoBufMut,
+    place: u64,
+    record: &Option<OpenRecord>,
+) -> Result<String, Fault> {
+    let len = buf.len();
+    let wanted = bytes_from(alloc, place, len)?;
+    if buf.as_slice() != wanted.as_slice() {
+        return Err(Fault::Differs);
+    }
+    let record = text_of_record(alloc, record)?;
+    Ok(format!(in alloc; "ok len {len} {record}")?)
+}
+
+/// How a read failed, with a buffer of this length.
+fn failed_read(
+    alloc: Global,
+    len: usize,
+    error: Error,
+    record: &Option<OpenRecord>,
+) -> Result<String, Fault> {
+    let word = text_of_end(alloc, Err(error))?;
+    let record = text_of_record(alloc, record)?;
+    Ok(format!(in alloc; "{word} len {len} {record}")?)
 }
 
 /// The record of an open, as far as it can be read.
@@ -234,12 +307,17 @@ fn text_of_record(alloc: Global, record: &Option<OpenRecord>) -> Result<String, 
     let Some(record) = record else {
         return Err(Fault::Malformed);
     };
+    let failure = text_of_failure(alloc, record.failure())?;
     let mutations = record.begin_sync();
     let dirty = record.is_dirty() as u8;
     let hinted = record.hinted() as u8;
-    let failure = match record.failure() {
-        Some(error) => text_of_end(alloc, Err(error))?,
-        None => String::from_str(alloc, "none")?,
-    };
     Ok(format!(in alloc; "mutations {mutations} dirty {dirty} hinted {hinted} failure {failure}")?)
+}
+
+/// The failure that an open keeps, or `none`.
+fn text_of_failure(alloc: Global, failure: Option<Error>) -> Result<String, AllocError> {
+    match failure {
+        Some(error) => text_of_end(alloc, Err(error)),
+        None => String::from_str(alloc, "none"),
+    }
 }

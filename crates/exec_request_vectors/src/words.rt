@@ -97,17 +97,7 @@ pub fn text_of_end(alloc: Global, ended: Result<(), Error>) -> Result<String, Al
 
 /// A window, by its words.
 pub fn text_of_window(alloc: Global, window: Window) -> Result<String, AllocError> {
-    let kind = match window.kind {
-        Opcode::Send => "Send socket",
-        Opcode::Recv => "Recv socket",
-        Opcode::Read if window.direct => "Read direct",
-        Opcode::Read => "Read file",
-        Opcode::Write => "Write file",
-        Opcode::Sync => "Fsync file",
-        Opcode::Connect => "Connect socket",
-        Opcode::Poll => "PollAdd listener",
-        Opcode::Cancel | Opcode::Wake => "no request",
-    };
+    let kind = operation(window.kind, window.direct);
     let Window {
         offset,
         length,
@@ -120,4 +110,19 @@ pub fn text_of_window(alloc: Global, window: Window) -> Result<String, AllocErro
     format!(in alloc;
         "{kind} offset {offset} len {length} chunks {chunks} hint {hint} dsync {dsync} datasync {datasync}"
     )
+}
+
+/// An operation and what it is on, by their words.
+fn operation(kind: Opcode, direct: bool) -> &'static str {
+    match kind {
+        Opcode::Send => "Send socket",
+        Opcode::Recv => "Recv socket",
+        Opcode::Read if direct => "Read direct",
+        Opcode::Read => "Read file",
+        Opcode::Write => "Write file",
+        Opcode::Sync => "Fsync file",
+        Opcode::Connect => "Connect socket",
+        Opcode::Poll => "PollAdd listener",
+        Opcode::Cancel | Opcode::Wake => "no request",
+    }
 }
