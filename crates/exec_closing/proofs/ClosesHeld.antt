@@ -1,6 +1,6 @@
 -- A closing worker lets go of a request that somebody holds: what holds of what tasks hold. Its mailbox is closed, so that no
 -- task holds the request; who waited for it is woken.
-use Rattle.std.proofs.{Common.{◌≡◌, ◌≢◌, ◌⊎◌, inl, inr, ⊎_elim, ℕ, ◌+◌, ◌<◌, Bool, true, false, List, Option, Some, None, is_some, refl, sym, ap, subst, ◌∙◌, arith, slice_get, slice_set, Ok, Err}, lemmas.Bool.false≢true}
+use Rattle.std.proofs.{Common.{◌≡◌, ◌⊎◌, inl, inr, ⊎_elim, ℕ, ◌+◌, ◌<◌, Bool, true, false, List, Option, Some, None, is_some, refl, sym, ap, subst, ◌∙◌, arith, slice_get, slice_set, Ok, Err}, lemmas.Bool.false≢true}
 use Rattle.exec_base.specs.declared.one_shot.OneShotState.{OneShotState, TheVariants.{Open, Sent, Closed}}
 use Rattle.exec_outcomes.specs.declared.outcome.Outcome.{Outcome}
 use Rattle.exec_machine.specs.{declared.state.Forwarding.{Forwarding}, Tests.is_unsent}

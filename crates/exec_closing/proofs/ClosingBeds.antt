@@ -5,7 +5,7 @@ use Rattle.exec_time.specs.declared.timers.Sleeper.{Sleeper as Sleeping}
 use Rattle.exec_driver.specs.Driving.{Driving}
 use Rattle.exec_machine.specs.Tests.{is_asleep}
 use Rattle.exec_parts.{specs.{declared.parts.{mail.Reply.Reply, names.Names.Names, record.Record.Record, sleeping.SleeperRecord.SleeperRecord}, Calls.sleeper_closed, Records.number_in}, proofs.Facts.{by_name, by_number, same_thing, set_elsewhere, set_there}}
-use Rattle.exec_invariants.{specs.{Due.AreAsleep, Sound.IsNamed}, proofs.{FiringNames.{naps_set, removed_past}, FiringSlots.{OneBed, value_of_slot}}}
+use Rattle.exec_invariants.{specs.{Due.AreAsleep, Names.IsNamed}, proofs.{FiringNames.{naps_set, removed_past}, FiringSlots.{OneBed, value_of_slot}}}
 
 -- THE SLAB
 

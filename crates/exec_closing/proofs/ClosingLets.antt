@@ -1,10 +1,10 @@
 -- A closing worker lets go of a request that somebody holds, or of a sleeper: where it goes on, what holds of it there, and what
 -- others rely on. By what holds again of its own requests and sleepers, and of what tasks hold.
-use Rattle.std.proofs.{Common.{◌≡◌, ◌≢◌, ◌+◌, true, false, Contains, [], map, option_to_list, Some, None, refl, sym, ap, subst, ◌∙◌, slice_get}, lemmas.Bool.false≢true}
+use Rattle.std.proofs.{Common.{◌≡◌, ◌+◌, true, false, Contains, [], map, option_to_list, Some, None, refl, sym, ap, subst, ◌∙◌, slice_get}, lemmas.Bool.false≢true}
 use Rattle.exec_task.specs.declared.runnable.Runnable.{Runnable}
 use Rattle.exec_moves.specs.{declared.place.{InClosing.InClosing, Place.Place}, Seen.polls_at}
 use Rattle.exec_parts.specs.{declared.parts.{mail.Subject.Subject, seat.Seat.Seat as Chair, shared.Shared.Shared, worker.Worker.Worker}, Ending.ClosesOn, Phased.{IsGoing, IsPhased, closes_at, closing_in, stage_of}, Roles.is_pool, Calls.IsTold, View.driver_of}
-use Rattle.exec_invariants.{specs.{Carried.{Carried, HasRoom}, Due.IsDue, Flown.HasFlown, Gates.{AreLinedUp, HaveGates}, Holding.{IsHolding, Mail, box_of, holder_of, nap_of, thing_of}, HoldPlaces.{cancels_at, heard_at, sends_cancel_at, spare_at}, Places.{begins_at, calls_back_at, claims_at, drops_at, hands_on_at, has_count_at, has_loot_at, in_poll_of, is_armed_at, is_pooled_at, is_published_at, no_drops, polled_in, searches_at, step_of_poll, task_at}, Rooted.HearsNext, Sound.{HasGuest, HasLetters, HasQueue, HasRunnable, IsHeld, IsInHand, IsLeft, IsLoot, IsMyMail, IsSearching, IsSeated, IsTied, Serves, SoundAt, Stops, has_wakes_at, root_in_hand, served_in, tellers}, Whole.{IsWhole, Profile, hands_of, with_worker}, Works.Beside}, proofs.{Aside.{SameProfile, profile_same}, Lined.{gates_kept, lined_kept}, Serving.{Keeps, SparesRecords, letter_kept, mail_kept, spares_service}, Shutting.none_in}}
+use Rattle.exec_invariants.{specs.{Carried.{Carried, HasRoom}, Due.IsDue, Flown.HasFlown, Gates.{AreLinedUp, HaveGates}, Holding.{IsHolding, Mail, box_of, holder_of, nap_of, thing_of}, HoldPlaces.{cancels_at, heard_at, sends_cancel_at, spare_at}, Places.{begins_at, calls_back_at, claims_at, drops_at, hands_on_at, has_count_at, has_loot_at, in_poll_of, is_armed_at, is_pooled_at, is_published_at, no_drops, polled_in, searches_at, step_of_poll, task_at}, Rooted.HearsNext, Sound.{HasGuest, HasLetters, HasQueue, HasRunnable, IsHeld, IsInHand, IsLeft, IsLoot, IsMyMail, IsSearching, IsSeated, IsTied, Serves, SoundAt, Stops, has_wakes_at, root_in_hand, served_in}, Names.tellers, Whole.{IsWhole, Profile, hands_of, with_worker}, Works.Beside}, proofs.{Aside.{SameProfile, profile_same}, Lined.{gates_kept, lined_kept}, ServingHolds.Keeps, Serving.{SparesRecords, letter_kept, mail_kept, spares_service}, Shutting.none_in}}
 use Rattle.exec_closing.proofs.ClosesMail.{GoesTo, goes_to}
 
 -- WHERE IT IS

@@ -1,105 +1,14 @@
 -- A closing worker lets go of the request in the first slot that somebody holds, and wakes who waits for it, as a step of the machine.
-use Rattle.std.proofs.{Common.{◌≡◌, ◌≢◌, ◌⊎◌, inl, inr, ℕ, ◌+◌, ◌≤◌, ◌==◌, ◌&&◌, ◌||◌, Bool, true, false, not, cond, List, [], ◌∷◌, ◌++◌, count_by, length, map, option_map, Option, Some, None, IsSome, is_some, refl, sym, ap, subst, ◌∙◌, arith, slice_get, slice_set, if◌then◌else◌}, lemmas.{Bool.{false≢true, eq-eqb}, List.{append-nil, length-append, map-append}}}
-use Rattle.exec_base.specs.{Slab.value_at, declared.{error.Error.TheVariants.Timeout, slab.Id.Id, task_no.TaskNo.TaskNo}}
-use Rattle.exec_outcomes.specs.declared.outcome.Outcome.TheVariants.{Failure}
+use Rattle.std.proofs.{Common.{◌≡◌, ◌⊎◌, inl, inr, ℕ, ◌+◌, ◌≤◌, ◌==◌, ◌&&◌, ◌||◌, Bool, true, false, not, cond, List, [], ◌++◌, count_by, length, map, option_map, Option, Some, None, IsSome, is_some, refl, sym, ap, subst, ◌∙◌, arith, slice_get, slice_set, if◌then◌else◌}, lemmas.{Bool.{false≢true, eq-eqb}, List.{append-nil, length-append, map-append}}}
+use Rattle.exec_base.specs.{Slab.value_at, declared.{slab.Id.Id, task_no.TaskNo.TaskNo}}
 use Rattle.exec_waiters.specs.{Events.{told_by_orphan, waker_at, waker_in}, States.is_held_at, Told.{Tells, tasks_of}, declared.{waiter.Entry.{Entry, TheVariants.{Pending, Ready}}, waiter_id.WaiterId.WaiterId}}
-use Rattle.exec_driver.specs.{Driving.{Driving}, Steps.{let_go, told_by_let_go}}
+use Rattle.exec_driver.specs.{Driving.Driving, Steps.{let_go, told_by_let_go}}
 use Rattle.exec_task.specs.declared.body.Said.{Said}
-use Rattle.exec_machine.specs.{declared.{event.Event.{Event, TheVariants.Orphan}, state.{Request.Request, RequestPhase.RequestPhase}}, Choice.Choice.Plain, Progress.Plan, Requests.{dropped, ends_by_drop, is_cancelled_by_drop, joined_if, outcome_of_drop, own_after_drop, resolved}, Same.same_end, Tests.{is_applied, is_resolved}, World.{Common, Own, request_of}}
-use Rattle.exec_moves.specs.{declared.place.{InClosing.InClosing, Place.Place}, Close.{after_letting_go, first_asleep, first_held, held_after, orphan}, Move.move_at, Slots.is_in_slots, State.{Desk, does, goes}, Thing.aside, Told.{awaits_no_more, has_number, one_output, one_result, told_of_drop, waker_of, without_request, woken_where_awaited}}
+use Rattle.exec_machine.specs.{declared.event.Event.{Event, TheVariants.Orphan}, Choice.Choice.Plain, Progress.Plan, Requests.{dropped, ends_by_drop, outcome_of_drop, own_after_drop}, Same.same_end, Tests.is_applied, World.{Own, request_of}}
+use Rattle.exec_moves.specs.{declared.place.{InClosing.InClosing, Place.Place}, Close.{after_letting_go, first_asleep, first_held, held_after, orphan}, Move.move_at, State.{Desk, does, goes}, Thing.aside, Told.{has_number, told_of_drop, waker_of, woken_where_awaited}}
 use Rattle.exec_parts.{specs.{declared.parts.{mail.Reply.Reply, record.Record.Record, shared.Shared.Shared, worker.Worker.Worker}, Awaits.{LetsGo, drops}, Ending.{ClosesOn, Orphans}, Phased.IsGoing, Records.{number_in, outcome_in}, Serving.{changed_at, changed_in}, Spots.Spot, View.{Views, awaited_from, awaits_entry, common_of, desk_of, driver_of, numbers_of_passing, own_of, things_with, visible, with_view}}, proofs.{Facts.{same_number, same_thing}, Showing.map_set}}
-use Rattle.exec_invariants.{specs.{Due.IsDue, Flown.HasFlown, Holding.{Box, Hands, IsHolding, Thing, box_of, holder_of, nap_of, thing_of}, HoldPlaces.{has_wakes_at, is_bare_at}, Places.one_if as one_when, Rooted.{goes_elsewhere, results_of}, Sound.{IsAlike, SoundAt, served_in, tellers}, Whole.{IsWhole, Profile, hands_of, wakes_with, with_worker}, Works.{Beside, Steps}}, proofs.{Closes.now_closing, Hearing.unheard, LetKept.without_waiter, LetSeen.{one_is, one_slot}, LetShown.{SeenLet, let_seen}, LetsNext.{held_found, record_there}, Lined.{gates_seen_same, mapped, opens_same, passing_same, was_sent}, Seats.own_seat, Seeing.common_changed, ServedEnds.{count_both, count_none, count_one}, Serving.{Keeps, SparesRecords, spares_one}, Slotted.awaited_over, TaskOverFold.{dropped_at_gate, dropped_name, dropped_thing}, Turning.view_found}}
-use Rattle.exec_closing.proofs.{ClosesHeld.holding_ousted, ClosesMail.{GoesTo, goes_to}, ClosingLets.{LetsAt, beside_lets, lets_to, records_of, sound_lets}, ClosingSlab.{TellsSame, Unholds, tells_same, unheld_now}, OrphansNext.{LetsOne, orphan_goes}}
-
--- THE DESK: what is told besides a wake is told with it too
-
--- by what is known of it
-abbrev told_as : Bool → Bool → Bool → Bool → ℕ → Desk → Desk
-told_as a b c f k d =
-    if not a then d
-    else if b then one_output (without_request k d)
-    else if c then one_output (without_request k (if f then one_result k d else awaits_no_more k d))
-    else if f then one_result k d else awaits_no_more k d
-
-told_wakes : (a b c f : Bool) (k : ℕ) (d : Desk) (ws : List ℕ) → told_as a b c f k (record d { wakes = ws }) ≡ record (told_as a b c f k d) { wakes = ws }
-told_wakes false b c f k d ws = refl
-told_wakes true true c f k d ws = refl
-told_wakes true false true true k d ws = refl
-told_wakes true false true false k d ws = refl
-told_wakes true false false true k d ws = refl
-told_wakes true false false false k d ws = refl
-
-drop_wakes : (k : ℕ) (r : Request) (d : Desk) (ws : List ℕ) → told_of_drop k r (record d { wakes = ws }) ≡ record (told_of_drop k r d) { wakes = ws }
-drop_wakes k r d ws = told_wakes (r.observed && is_in_slots k d.requests) (is_resolved r.phase) (ends_by_drop r) (is_applied r.forwarding) k d ws
-
--- THE MOVE
-orphan_found : (i : ℕ) (s : Common) (d : Desk) (r : ℕ) → first_held s d ≡ Some r → orphan i s d
-    ≡ does (Orphan r (outcome_of_drop (request_of s r))) (goes (after_letting_go (held_after r s d) (first_asleep i s d)) (told_of_drop r (request_of s r) (woken_where_awaited r (request_of s r) d))) tt
-orphan_found i s d r found = rw found refl
-
--- THE RECORD
-
-dropped_outcome : (r : Request) → (if ends_by_drop r then outcome_in (dropped r).phase else None) ≡ outcome_of_drop r
-dropped_outcome r = by (ends_by_drop r) refl
-  where
-    by : (b : Bool) → ends_by_drop r ≡ b → (if ends_by_drop r then outcome_in (dropped r).phase else None) ≡ (if ends_by_drop r then Some (Failure Timeout) else None)
-    by true is = rw is refl
-    by false is = rw is refl
-
-end_same : (r : Request) → same_end (outcome_of_drop r) (outcome_of_drop r) ≡ true
-end_same r = by (ends_by_drop r)
-  where
-    by : (b : Bool) → same_end (if b then Some (Failure Timeout) else None) (if b then Some (Failure Timeout) else None) ≡ true
-    by true = refl
-    by false = refl
-
-abbrev dropped_as : Bool → Bool → Request → Request
-dropped_as a b r = if a then record (resolved (Failure Timeout) r) { observed = false } else if b then record r { observed = false; cancelled = true; timer = None } else record r { observed = false }
-
-worker_stays : (r : Record) → (drops r).shown.worker ≡ r.shown.worker
-worker_stays r = by (ends_by_drop r.shown) (is_cancelled_by_drop r.shown)
-  where
-    by : (a b : Bool) → (dropped_as a b r.shown).worker ≡ r.shown.worker
-    by true b = refl
-    by false true = refl
-    by false false = refl
-
-thing_became : (r : Record) → thing_of (drops r) ≡ record (thing_of r) { observed = false; ended = (thing_of (drops r)).ended }
-thing_became r = by (ends_by_drop r.shown) (is_cancelled_by_drop r.shown)
-  where
-    by : (a b : Bool) → thing_of (record r { shown = dropped_as a b r.shown }) ≡ record (thing_of r) { observed = false; ended = (thing_of (record r { shown = dropped_as a b r.shown })).ended }
-    by true b = refl
-    by false true = refl
-    by false false = refl
-
-longer : (b : Bool) (xs : List ℕ) (k : ℕ) → length xs ≤ length (joined_if b xs k)
-longer false xs k = omega arith
-longer true xs k = let e = length-append xs (k ∷ []) in omega (arith, e)
-
-open_outcome : (p : RequestPhase) → is_resolved p ≡ false → outcome_in p ≡ None
-open_outcome (RequestPhase.Resolved o) h = absurd (false≢true (sym h))
-open_outcome RequestPhase.Staged h = refl
-open_outcome RequestPhase.Flying h = refl
-open_outcome (RequestPhase.Landed n) h = refl
-open_outcome RequestPhase.Queued h = refl
-open_outcome RequestPhase.Gated h = refl
-
-some_held : (o : Option (Entry Reply Reply)) → is_held_at o ≡ true → IsSome o
-some_held None h = absurd (false≢true h)
-some_held (Some x) h = refl
-
--- the same, but nobody waits for it
-abbrev unawaited : Entry Reply Reply → Entry Reply Reply
-unawaited (Pending it) = Pending (without_waiter it)
-unawaited (Ready out) = Ready out
-
-unawaited_so : (y : Entry Reply Reply) → awaits_entry (unawaited y) ≡ false
-unawaited_so (Pending it) = refl
-unawaited_so (Ready out) = refl
-
-off : (b : Bool) → one_when b ≡ 0 → b ≡ false
-off true h = absurd (let no : 1 ≡ 0 = h in omega (arith, no))
-off false h = refl
+use Rattle.exec_invariants.{specs.{Due.IsDue, Flown.HasFlown, Holding.{Box, Hands, IsHolding, Thing, box_of, holder_of, nap_of, thing_of}, HoldPlaces.{has_wakes_at, is_bare_at}, Places.one_if as one_when, Rooted.{goes_elsewhere, results_of}, Names.{IsAlike, tellers}, Sound.{SoundAt, served_in}, Whole.{IsWhole, Profile, hands_of, wakes_with, with_worker}, Works.{Beside, Steps}}, proofs.{Closes.now_closing, Hearing.unheard, LetSeen.{one_is, one_slot}, LetShown.{SeenLet, let_seen}, LetsNext.{held_found, record_there}, Lined.{gates_seen_same, mapped, opens_same, passing_same, was_sent}, Seats.own_seat, Seeing.common_changed, ServedEnds.{count_both, count_none, count_one}, ServingHolds.Keeps, Serving.{SparesRecords, spares_one}, Slotted.awaited_over, TaskOverFold.{dropped_at_gate, dropped_name, dropped_thing}, Turning.view_found}}
+use Rattle.exec_closing.proofs.{ClosesHeld.holding_ousted, ClosesMail.{GoesTo, goes_to}, ClosingLets.{LetsAt, beside_lets, lets_to, records_of, sound_lets}, ClosingSlab.{TellsSame, Unholds, tells_same, unheld_now}, OrphansNext.{LetsOne, orphan_goes}, OrphanRecord.{drop_wakes, orphan_found, dropped_outcome, end_same, worker_stays, thing_became, longer, open_outcome, some_held, unawaited, unawaited_so, off}}
 
 module _ {B : Type 0} (w w' : Worker) (s s' : Shared B) (e : Event) (sound : SoundAt (Place.Closing InClosing.Orphan) w s) (by : Orphans w w' s s' e) where
   abbrev d : Driving Reply Reply

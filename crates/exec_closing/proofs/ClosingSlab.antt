@@ -5,7 +5,7 @@ use Rattle.exec_request.specs.{Requests.goes_on_alone, States.asks_cancel}
 use Rattle.exec_waiters.{specs.{Events.{asks_cancel_by_orphan, cancelled as cancelled_of, orphaned_from, told_by_close, told_by_finish, told_by_orphan, told_to, waker_at, with_observer}, States.{is_held, is_held_at, is_held_by}, Told.{Told, nothing_told, tasks_of}, declared.{observer.Observer.{Observer, TheVariants.{DetachedSync, Forwarded, Local, Orphaned}}, waiter.{Entry.{Entry, TheVariants.{Pending, Ready}}, Waiter.Waiter}, waiter_id.WaiterId.WaiterId}}, proofs.Changes.one_if}
 use Rattle.exec_driver.specs.{Driving.{Driving, request_at}, Steps.{both, cancelled_at, cancelled_from, cancelling, ended, let_go, timed_out, told_by_cancel, told_by_let_go, without_observer}}
 use Rattle.exec_parts.specs.declared.parts.mail.Reply.{Reply}
-use Rattle.exec_invariants.{specs.Sound.held_count, proofs.{Changing.changes_one, HeldCounts.{held_removed, held_written}}}
+use Rattle.exec_invariants.{specs.Names.held_count, proofs.{Changing.changes_one, HeldCounts.{held_removed, held_written}}}
 
 pub record Unholds (s s' : Slab (Entry Reply Reply)) (id : Id) : Type 0 where
   pub others : (other : Id) → other ≢ id → value_at s' other ≡ value_at s other

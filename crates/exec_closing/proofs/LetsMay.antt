@@ -1,11 +1,11 @@
 -- A closing worker may let go of the request, and remove the sleeper, that it goes on to.
-use Rattle.std.proofs.{Common.{◌≡◌, ℕ, suc, ◌+◌, ◌<◌, ◌≤◌, ◌&&◌, true, false, not, cond, List, [], ◌∷◌, count_by, Option, Some, None, IsSome, refl, sym, ap, subst, ◌∙◌, arith, slice_get}, lemmas.{Bool.false≢true, Option.slice_get_within}}
+use Rattle.std.proofs.{Common.{◌≡◌, ℕ, suc, ◌+◌, ◌<◌, ◌≤◌, ◌&&◌, true, not, cond, List, [], ◌∷◌, count_by, Option, Some, None, IsSome, refl, sym, ap, subst, ◌∙◌, arith, slice_get}, lemmas.{Bool.false≢true, Option.slice_get_within}}
 use Rattle.exec_base.specs.{Slab.{is_live, value_at}, declared.slab.{Id.Id, Slot.{Slot, TheVariants.{Live, Vacant, Retired}}}}
 use Rattle.exec_waiters.specs.{States.{counts_pending, is_held_at, pending_count}, Told.HasPlaces, declared.{deferred.Deferred.Deferred, waiter.Entry.{Entry, TheVariants.{Pending, Ready}}}}
 use Rattle.exec_machine.specs.{Requests.ends_by_drop, Tests.{is_kept, is_queued}}
 use Rattle.exec_moves.specs.declared.place.{InClosing.InClosing, Place.Place}
 use Rattle.exec_parts.specs.{declared.parts.{mail.Reply.Reply, record.Record.Record, shared.Shared.Shared, worker.Worker.Worker}, Ending.{MayCloseSleeper, MayOrphan}, Records.number_in, View.driver_of}
-use Rattle.exec_invariants.{specs.Sound.{SoundAt, tellers}, proofs.{HoldMail.sum_least, LetsNext.{live_slot, live_value, named_at}}}
+use Rattle.exec_invariants.{specs.{Sound.SoundAt, Names.tellers}, proofs.{HoldMail.sum_least, LetsNext.{live_slot, live_value, named_at}}}
 
 fewer_places : (d : Deferred Reply Reply) (n m : ℕ) → m ≤ n → HasPlaces d n → HasPlaces d m
 fewer_places d n m few room =

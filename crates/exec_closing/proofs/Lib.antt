@@ -18,3 +18,5 @@ pub mod ClosingSlab
 pub mod ClosingOrphan
 pub mod TaskClears
 pub mod TaskCleared
+pub mod OrphanRecord
+pub mod TaskClearing

@@ -1,5 +1,5 @@
 -- A worker closes its mailbox once no task holds anything of it: what holds of what tasks hold, where its messages are lost.
-use Rattle.std.proofs.{Common.{◌≡◌, ◌≢◌, inl, inr, ⊎_elim, ℕ, ◌+◌, ◌<◌, ◌≤◌, ◌==◌, Bool, true, false, Contains, List, [], count_by, length, sum_by, Option, Some, None, refl, sym, ap, subst, ◌∙◌, arith, slice_get, slice_set}, lemmas.{Bool.false≢true, List.length-set}}
+use Rattle.std.proofs.{Common.{◌≡◌, ◌≢◌, inl, inr, ⊎_elim, ℕ, ◌+◌, ◌<◌, ◌≤◌, ◌==◌, Bool, true, Contains, List, [], count_by, length, sum_by, Option, Some, None, refl, sym, ap, subst, ◌∙◌, arith, slice_get, slice_set}, lemmas.{Bool.false≢true, List.length-set}}
 use Rattle.exec_words.specs.declared.inbox.Message.{Message}
 use Rattle.exec_parts.{specs.declared.parts.mail.Subject.Subject, proofs.Facts.{by_number, same_thing, set_elsewhere, set_there}}
 use Rattle.exec_invariants.{specs.Holding.{Box, Hands, Holder, IsAbout, IsForwarded, IsHeldBy, IsHolding, IsOf, Mail, Nap, Owes, Thing, holdings, mail_in, under_way, waiters}, proofs.{HoldMail.mail_none, HoldPosts.IsOwned, HoldRedo.sum_set}}

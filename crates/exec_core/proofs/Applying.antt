@@ -11,7 +11,7 @@ use Rattle.exec_moves.specs.{Plays.{Played, Playing, desk_of as desk_at, last_to
 use Rattle.exec_parts.specs.{declared.parts.{record.Record.Record, seat.Seat.Seat as Chair, shared.Shared.Shared, worker.Worker.Worker}, Phased.TurnsChair, Records.{rest_at, reached, roused}, Spots.Spot, View.{Views, Visible, visible, with_view, own_of, desk_of, common_of, seats_seen, seat_seen, polls_seen, gate_seen, numbers_of_passing, queue_at, inbox_at, tasks_of, things_with, word_at}}
 use Rattle.exec_polling.specs.{declared.caller.Caller.Caller, Calling.{call_of, desk_of_caller}}
 use Rattle.exec_invariants.specs.Drained.{HaveLeft, IsLetOn}
-use Rattle.exec_invariants.proofs.Spared.{there_within}
+use Rattle.exec_invariants.proofs.SparedRecord.{there_within}
 use Rattle.exec_core.proofs.{Enabling.enabled_as, Lifting.{set_found, unchanged, suits_it, desk_there, views_with, playing_by, world_by}}
 use Rattle.exec_core.specs.{Lift.{may_land_in, Stands, world, playing, views, Takes, Sees, Rings, EndsPoll, Lands, may_take, may_work_in, has_begun, sleeps, all_left_of}, declared.executor.Core.Core}
 

@@ -1,5 +1,5 @@
 -- The first state: all that a worker rests on holds.
-use Rattle.std.proofs.{Common.{◌≡◌, ℕ, zero, suc, ◌<◌, ◌≤◌, true, false, List, [], ◌∷◌, length, map, replicate, Some, None, refl, sym, ap, subst, ◌∙◌, arith, slice_get}, lemmas.{Bool.{false≢true, Decides.nat_tests}, Option.slice_get_within}}
+use Rattle.std.proofs.{Common.{◌≡◌, ℕ, zero, suc, ◌<◌, ◌≤◌, true, List, [], ◌∷◌, length, map, replicate, Some, None, refl, sym, ap, subst, ◌∙◌, arith, slice_get}, lemmas.{Bool.{false≢true, Decides.nat_tests}, Option.slice_get_within}}
 use Rattle.std.specs.Prelude.{nat_lt}
 use Rattle.exec_task.specs.declared.runnable.Runnable.{Runnable}
 use Rattle.exec_driver.specs.Opens.{OpenState, fresh_open}
@@ -11,7 +11,7 @@ use Rattle.exec_polling.specs.declared.caller.Caller.{Caller}
 use Rattle.exec_invariants.specs.{Gates.{AreLinedUp, IsLinedUp}, Sound.{AreHome, AreResting, IsConfig, Sound}}
 use Rattle.exec_parts.proofs.Facts.{same_thing}
 use Rattle.exec_polling.proofs.Begun.{begun_sound, none_there, not_both}
-use Rattle.exec_invariants.proofs.Spared.{there_within}
+use Rattle.exec_invariants.proofs.SparedRecord.{there_within}
 use Rattle.exec_core.proofs.Powers.{InRange, may_begin, shards_of}
 use Rattle.exec_core.specs.Firsts.{IsFirst}
 

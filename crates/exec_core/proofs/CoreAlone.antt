@@ -1,5 +1,5 @@
 -- One worker alone, whose root makes no other task: that stays the only one, and nobody leaves the worker a message.
-use Rattle.std.proofs.{Common.{◌≡◌, ◌≢◌, ℕ, zero, suc, ◌+◌, ◌==◌, ◌&&◌, ◌||◌, Bool, true, false, not, List, [], ◌∷◌, All, drop, length, map, get_or, Option, Some, None, refl, sym, ap, subst, ◌∙◌, arith, if◌then◌else◌, slice_set, slice_index_or}, lemmas.{Bool.{false≢true, true≢false, and_parts}, List.{length-set, Elements.All-tail}}}
+use Rattle.std.proofs.{Common.{◌≡◌, ℕ, zero, suc, ◌+◌, ◌==◌, ◌&&◌, ◌||◌, Bool, true, false, not, List, [], ◌∷◌, All, drop, length, map, get_or, Option, Some, None, refl, sym, ap, subst, ◌∙◌, arith, if◌then◌else◌, slice_set, slice_index_or}, lemmas.{Bool.{false≢true, true≢false, and_parts}, List.{length-set, Elements.All-tail}}}
 use Rattle.std.specs.Prelude.{nat_le}
 use Rattle.exec_outcomes.specs.declared.outcome.OpResult.{OpResult}
 use Rattle.exec_machine.specs.{declared.{config.{Configuration.Configuration, ScriptWord.ScriptWord}, event.{Event.Event}, state.{Code.Code, Letter.Letter, MailMessage.MailMessage, Next.Next, Request.Request, Rest.Rest}, step.Action.Action}, Tests.{AllTrue, is_settled, set_seat, waits_for_nothing}, Allowed.allowed, After.{common_after, polled}, Callers.common_by, Deadlines.roused_at, Choice.{Choice, Payer, Choice.{Plain, Passes, Pays, Posts}, Payer.{ByAct, ByRequest, BySleeper, ByCall, ByStop}}, Closing.{after_next, ends_by_clear, with_closed_mailbox}, Same.{is_none, is_number}, Mail.{after_sending, is_first_owed, is_left_out, is_root_message, may_send, posted}, Requests.common_after_refusal, Tasks.{after_word}, Words.{acts, asks_drop, asks_spawn, asks_dedicated, newest_held, next_word, polled_task, waiting_words}, World.{Common, Own, Seat, Task, no_seat, request_of, seat_of, task_of}}

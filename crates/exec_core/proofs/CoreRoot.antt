@@ -1,25 +1,25 @@
 -- Of a worker alone: its root is the only task, and all that the laws of credit and of its sleep ask holds.
-use Rattle.std.proofs.{Common.{◌≡◌, ◌≢◌, ℕ, zero, suc, ◌+◌, ◌-◌, ◌<◌, ◌==◌, ◌&&◌, ◌||◌, nat_lt, Bool, true, false, not, cond, List, [], ◌∷◌, ◌++◌, Contains, length, map, All, count_by, sum_by, get_or, if◌then◌else◌, Option, Some, None, is_some, refl, sym, ap, subst, ◌∙◌, arith, inl, inr, option_to_list, slice_get, slice_index_or}, lemmas.{Bool.{true≢false, false≢true, and_parts, eq-eqb}, List.{length-map, Sums.sum_by-cons}, Option.{slice_get_within, slice_get-get_or}}}
+use Rattle.std.proofs.{Common.{◌≡◌, ◌≢◌, ℕ, zero, suc, ◌+◌, ◌-◌, ◌<◌, ◌==◌, ◌&&◌, ◌||◌, nat_lt, Bool, true, false, not, List, [], ◌∷◌, ◌++◌, Contains, length, map, All, count_by, sum_by, get_or, if◌then◌else◌, Option, Some, None, is_some, refl, sym, ap, subst, ◌∙◌, arith, inl, inr, option_to_list, slice_get, slice_index_or}, lemmas.{Bool.{true≢false, false≢true, and_parts, eq-eqb}, List.length-map, Option.slice_get-get_or}}
 use Rattle.exec_base.specs.{Slab.slot_at, declared.{slab.Slot.TheVariants.Vacant, task_no.TaskNo.TaskNo}}
-use Rattle.exec_task.specs.{declared.{body.Said.Said, runnable.Runnable.Runnable}}
+use Rattle.exec_task.specs.declared.{body.Said.Said, runnable.Runnable.Runnable}
 use Rattle.exec_words.specs.{Queue.Queue, declared.inbox.Message.Message}
 use Rattle.exec_task.specs.declared.task.Phase.TheVariants as cell
 use Rattle.exec_waiters.specs.{States.{pending_count, waiter_at}, declared.waiter.Waiter.Waiter}
 use Rattle.exec_machine.specs.{declared.{config.ScriptWord.ScriptWord, state.{Request.Request, Waiting.Waiting}}, Progress.{Plan, is_runnable}, Tests.{has_ended, is_asleep, is_done, is_idle, is_open, is_ready, is_resolved}, World.{Common, Task, no_request, no_sleeper, no_task, seat_of, task_of}}
 use Rattle.exec_machine.specs.declared.state.Waiting.TheVariants as waiting
-use Rattle.exec_moves.specs.{declared.place.{Place.Place}, Seen.polls_at, Slots.{is_in_slots, numbers_in}, State.{no_queue, queue_of}, Told.has_number}
+use Rattle.exec_moves.specs.{declared.place.Place.Place, Seen.polls_at, Slots.{is_in_slots, numbers_in}, State.{no_queue, queue_of}, Told.has_number}
 use Rattle.exec_moves.specs.declared.handing.AfterPop.TheVariants as popped
 use Rattle.exec_moves.specs.declared.place.InClosing.TheVariants as closing
 use Rattle.exec_moves.specs.declared.place.InPoll.TheVariants as poll
 use Rattle.exec_moves.specs.declared.place.Place.TheVariants as at
-use Rattle.exec_credit.specs.{Minds.{is_alone}, Minded.{HasNothing, HasRoot, HaveBeds, HaveSlots, IsBare, IsFollowed, PollsRoot, Stood, is_played}}
+use Rattle.exec_credit.specs.{Minds.is_alone, Minded.{HasNothing, HasRoot, HaveBeds, HaveSlots, IsBare, IsFollowed, PollsRoot, Stood, is_played}}
 use Rattle.exec_parts.specs.{declared.parts.{held.Held.Held, mail.Reply.Reply, record.Record.Record, seat.Seat.Seat as Chair, shared.Shared.Shared, sleeping.SleeperRecord.SleeperRecord, task_slot.TaskSlot.TaskSlot, worker.Worker.Worker}, Phased.{IsPhased, IsPrepared, closes_at, closing_in, has_shut, is_complete, root_over, stage_of}, Records.numbers_held, Spots.Spot, View.{Views, common_of, desk_of, driver_of, message_of, own_of, queue_at, seat_seen, task_seen, tasks_of, things_with, visible}}
-use Rattle.exec_invariants.specs.{Holding.{Box, Holder, IsHeldBy, Mail, Thing, awaited_in, box_of, holder_of, holdings, mail_in, nap_of, thing_of, under_way}, Places.{begins_at, hands_on_at, one_if, step_of_poll}, Sound.{HasGuest, IsInHand, IsRunnable, Sound, one_of, root_in_hand}, Whole.{IsGenuine, IsWhole, Profile, hands_of, queued, wakes_with}}
+use Rattle.exec_invariants.specs.{Holding.{Box, Holder, IsHeldBy, Mail, Thing, awaited_in, box_of, holder_of, holdings, mail_in, nap_of, thing_of, under_way}, Places.{begins_at, hands_on_at, one_if, step_of_poll}, Sound.{HasGuest, IsInHand, IsRunnable, Sound, one_of, root_in_hand}, Whole.{IsGenuine, IsWhole, Profile, hands_of, wakes_with}}
 use Rattle.exec_parts.specs.declared.parts.mail.Subject.TheVariants as subject
 use Rattle.exec_parts.proofs.Facts.{by_not, by_number, same_thing}
 use Rattle.exec_polling.proofs.Begun.{not_both}
-use Rattle.exec_invariants.proofs.Spared.{live_of}
-use Rattle.exec_core.proofs.{CoreStood.{among_front, done_as, each_request, each_sleeper, found_in_slots, front_none, hand_out, mapped, no_closing, nobody_asks, none_open, not_counted, numbered_in_slots, not_polled, nothing_in, open_place, open_shut, over_shut, polled_busy, queued_ready, shut_place, some_lives, some_poll, still, the_seat}, Lifting.{seats_length, seen_there}, QueuedOnce.slot_of}
+use Rattle.exec_invariants.proofs.SparedRecord.{live_of}
+use Rattle.exec_core.proofs.{CoreStood.{among_front, done_as, each_request, each_sleeper, found_in_slots, front_none, hand_out, mapped, no_closing, nobody_asks, none_open, not_counted, numbered_in_slots, not_polled, nothing_in, open_place, open_shut, over_shut, polled_busy, queued_ready, shut_place, some_lives, some_poll, still, the_seat}, Lifting.{seats_length, seen_there}, QueuedOnce.slot_of, LoneLists.{counted_none, summed_one, counted_there, one_list, only_zero, none_plus, none_if, some_if, by_bool}}
 
 -- what was put together is empty where all is
 pub back_none : {A : Type 0} (xs ys : List A) → xs ++ ys ≡ [] → ys ≡ []
@@ -57,55 +57,6 @@ each_slot : (P : ℕ → Type 0) (rs : List Record) → ((k : ℕ) (r : Record) 
 each_slot P [] each k unresolved = absurd (true≢false unresolved)
 each_slot P (r ∷ rs) each zero unresolved = each 0 r refl unresolved
 each_slot P (r ∷ rs) each (suc k) unresolved = each_slot (λ j. P (suc j)) rs (λ j y there. each (suc j) y there) k unresolved
-
--- LISTS of one
-
-counted_none : {A : Type 0} (f : A → Bool) (xs : List A) → length xs ≡ 0 → count_by f xs ≡ 0
-counted_none f [] none = refl
-counted_none f (x ∷ xs) none = absurd (omega (arith, none))
-
-summed_one : {A : Type 0} (f : A → ℕ) (x : A) → sum_by f (x ∷ []) ≡ f x
-summed_one f x = sum_by-cons f x [] ∙ omega arith
-
-counts_more : (b : Bool) (n : ℕ) → b ≡ true → 0 < cond b 1 0 + n
-counts_more true n is = omega arith
-counts_more false n is = absurd (false≢true is)
-
-counts_still : (b : Bool) (n : ℕ) → 0 < n → 0 < cond b 1 0 + n
-counts_still true n some = omega arith
-counts_still false n some = omega (arith, some)
-
--- what stands in a list is counted there
-counted_there : {A : Type 0} (f : A → Bool) (xs : List A) (i : ℕ) (x : A) → slice_get xs i ≡ Some x → f x ≡ true → 0 < count_by f xs
-counted_there f [] i x there is = absurd (cc)
-counted_there f (y ∷ xs) zero x there is =
-    let same : y ≡ x = cc in
-    subst (λ (n : ℕ). 0 < n) (sym (sum_by-cons (λ z. cond (f z) 1 0) y xs)) (counts_more (f y) (count_by f xs) (ap f same ∙ is))
-counted_there f (y ∷ xs) (suc i) x there is =
-    subst (λ (n : ℕ). 0 < n) (sym (sum_by-cons (λ z. cond (f z) 1 0) y xs)) (counts_still (f y) (count_by f xs) (counted_there f xs i x there is))
-
-one_list : {A : Type 0} (xs : List A) (x : A) → length xs ≡ 1 → slice_get xs 0 ≡ Some x → xs ≡ x ∷ []
-one_list [] x one there = absurd (cc)
-one_list (y ∷ []) x one there = ap (λ z. z ∷ []) (same_thing y x there)
-one_list (y ∷ (z ∷ xs)) x one there = absurd (omega (arith, one))
-
-only_zero : {A : Type 0} (xs : List A) (k : ℕ) (x : A) → length xs ≡ 1 → slice_get xs k ≡ Some x → k ≡ 0
-only_zero xs k x one there = (let within = slice_get_within xs k x there in omega (arith, within, one))
-
-none_plus : (n : ℕ) → 0 + n ≡ n
-none_plus n = omega arith
-
-none_if : (b : Bool) → one_if b ≡ 0 → b ≡ false
-none_if true h = absurd (omega (arith, h))
-none_if false h = refl
-
-some_if : (b : Bool) → 0 < one_if b → b ≡ true
-some_if true h = refl
-some_if false h = absurd (omega (arith, h))
-
-by_bool : {P : Type 0} (b : Bool) → (b ≡ true → P) → (b ≡ false → P) → P
-by_bool true f g = f refl
-by_bool false f g = g refl
 
 module _ {B L : Type 0} (left : B → L) (spot : L → Option Said → Spot) (p : Plan) (vs : Views) (x : Profile) (w : Worker) (s : Shared B) (sound : Sound w s) (whole : IsWhole x s)
     (seen : slice_get vs.workers w.index ≡ Some (visible w)) (workers : length vs.workers ≡ length s.seats.items) (lone : s.config.workers ≡ 1) (one : length s.tasks.items ≡ 1) (just : length s.seats.items ≡ 1) (zeroth : w.index ≡ 0)

@@ -1,5 +1,5 @@
 -- What the invariant of a worker alone gives to the laws of credit and of its sleep.
-use Rattle.std.proofs.{Common.{◌≡◌, ◌≢◌, ℕ, zero, suc, ◌+◌, ◌-◌, ◌==◌, ◌&&◌, ◌||◌, Bool, true, false, not, cond, List, [], ◌∷◌, ◌++◌, Contains, map, get_or, if◌then◌else◌, Option, Some, None, is_some, refl, sym, ap, subst, ◌∙◌, arith, slice_get, count_by}, lemmas.{Bool.{true≢false, false≢true, eq-eqb, or_right}, List.{Sums.sum_by-cons}}}
+use Rattle.std.proofs.{Common.{◌≡◌, ◌≢◌, ℕ, zero, suc, ◌+◌, ◌==◌, ◌&&◌, ◌||◌, Bool, true, false, not, cond, List, [], ◌∷◌, ◌++◌, Contains, map, get_or, if◌then◌else◌, Option, Some, None, is_some, refl, sym, ap, subst, ◌∙◌, arith, slice_get, count_by}, lemmas.{Bool.{true≢false, false≢true, eq-eqb, or_right}, List.{Sums.sum_by-cons}}}
 use Rattle.std.specs.List.{list_any}
 use Rattle.std.specs.Prelude.{IsSome, slice_index_or}
 use Rattle.exec_base.specs.{Slab.{is_live, value_in}, declared.{slab.{Slot.{Slot, TheVariants.{Live, Vacant, Retired}}}}}

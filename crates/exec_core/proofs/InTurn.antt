@@ -12,7 +12,7 @@ use Rattle.exec_moves.specs.Plays.{Playing}
 use Rattle.exec_parts.specs.{declared.parts.{mail.Reply.Reply, record.Record.Record, shared.Shared.Shared, worker.Worker.Worker}, Records.number_in, Spots.Spot, View.driver_of}
 use Rattle.exec_invariants.specs.{Gates.{AreLinedUp, key_for}, Sound.Sound}
 use Rattle.exec_parts.proofs.Facts.{never_true}
-use Rattle.exec_invariants.proofs.{Gated.durable_of_file, Spared.there_within}
+use Rattle.exec_invariants.proofs.{Gated.durable_of_file, SparedRecord.there_within}
 use Rattle.exec_core.specs.{declared.executor.Core.Core, Lift.{Stands, Shows}, Turns.{IsOrderly, TakeTurns, has_permit}}
 use Rattle.exec_core.proofs.QueuedOnce.{queues_once, slot_of}
 

@@ -16,3 +16,4 @@ pub mod CoreStood
 pub mod CoreRoot
 pub mod QueuedOnce
 pub mod InTurn
+pub mod LoneLists

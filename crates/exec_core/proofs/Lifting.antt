@@ -11,7 +11,7 @@ use Rattle.exec_polling.specs.{declared.caller.Caller.Caller, Calling.{CallBesid
 use Rattle.exec_invariants.specs.{Acting.PerformsAll, Sound.Sound, Spares.SparesBy, Whole.{IsWhole, Profile}, Works.{Beside, BesideNewcomer, BesideWith, WorksWith, Suits, with_born}}
 use Rattle.exec_steps.specs.Together.{StandTogether}
 use Rattle.exec_parts.proofs.Facts.{by_number, same_thing}
-use Rattle.exec_invariants.proofs.Spared.{there_within}
+use Rattle.exec_invariants.proofs.SparedRecord.{there_within}
 use Rattle.exec_steps.proofs.Together.{caller_stepped, worker_born, worker_stepped}
 use Rattle.exec_core.specs.{Lift.{Stands, world, playing, views, WorkerSteps, WorkerStays, Takes, IsAsBefore}, declared.executor.Core.Core}
 

@@ -12,7 +12,7 @@ use Rattle.exec_polling.specs.{declared.caller.Caller.Caller, Calling.call_of}
 use Rattle.exec_invariants.specs.{Holding.{Mail, cancel_held, cancel_sleep, mail_in, mail_of_letters}, Sound.Sound, Whole.{Profile, mail_with, wakes_with, with_worker}}
 use Rattle.exec_steps.specs.Together.{all_have, callers_have}
 use Rattle.exec_parts.proofs.Facts.{same_thing}
-use Rattle.exec_invariants.proofs.Spared.{there_within}
+use Rattle.exec_invariants.proofs.SparedRecord.{there_within}
 use Rattle.exec_core.proofs.{CoreAlone.{StaysAlone, alone_stays, alone_works}, CoreRoot.{back_none, rooted, stood, unmapped}, CoreStood.{front_none, no_letters_alone, owes_alone, the_seat}, Lifting.{desk_there, own_there, suits_it}}
 use Rattle.exec_core.specs.{Lift.{Stands, IsFair, IsMinded, Pays, Takes, playing, views, world}, declared.executor.Core.Core}
 

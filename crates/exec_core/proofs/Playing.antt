@@ -6,7 +6,7 @@ use Rattle.exec_machine.specs.{declared.{event.{Event.Event, Line.Line, StepResu
 use Rattle.exec_moves.specs.Plays.{Played, Playing, by_action, by_step}
 use Rattle.exec_parts.specs.Spots.{Spot}
 use Rattle.exec_core.proofs.{Enabling.enabled_as, Paying.{IsPaid, paid_by_step, paid_by_none}}
-use Rattle.exec_core.specs.{Lift.{Stands, Keeps, Carries, world, playing, Takes, Shows, Applies, may_take}, declared.executor.Core.Core}
+use Rattle.exec_core.specs.{Lift.{Stands, Keeps, Carries, playing, Takes, Shows, Applies, may_take}, declared.executor.Core.Core}
 
 abbrev pub line_of : Action → Event → Line
 line_of a e = record { action = a; said = Did e }

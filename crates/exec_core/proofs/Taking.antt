@@ -11,7 +11,7 @@ use Rattle.exec_machine.specs.declared.state.RequestPhase.TheVariants as phase
 use Rattle.exec_parts.specs.{declared.parts.{record.Record.Record, shared.Shared.Shared, worker.Worker.Worker}, MailPosts.HaveMailboxes, Phased.{IsGoing, TurnsChair}, Records.roused, Spots.Spot}
 use Rattle.exec_polling.specs.{declared.caller.Caller.Caller, Calling.{HasCallWhole, is_free}}
 use Rattle.exec_invariants.specs.{Acting.{PerformsAll, StepsWith}, Carried.MayLand, Sound.Sound, Whole.{HasWhole, IsWhole, Profile}, Works.Same}
-use Rattle.exec_invariants.proofs.Spared.{there_within}
+use Rattle.exec_invariants.proofs.SparedRecord.{there_within}
 use Rattle.exec_steps.proofs.Together.{has_call_whole, has_whole, have_mailboxes}
 use Rattle.exec_core.proofs.{Applying.{asleep_there, begun_there, going_there, landing_there, owner_there, peer_came, worker_there, working_there}, CoreCalls.{call_stands, spawn_called}, Enabling.enabled_as, Lifting.{as_before, lifted, stands_again, stands_by, stands_worked}}
 use Rattle.exec_core.specs.{Lift.{Calls, IsAsBefore, Keeps, Rings, Sees, Stands, Takes, WorkerStays, WorkerSteps, has_begun, may_call_in, may_go_on_in, may_land_in, may_take}, declared.executor.Core.Core}

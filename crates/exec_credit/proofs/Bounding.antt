@@ -24,7 +24,7 @@ use Rattle.exec_moves.specs.declared.place.Place.TheVariants as at
 use Rattle.exec_moves.specs.declared.place.Reaping.TheVariants as reaping
 use Rattle.exec_moves.specs.declared.place.Round.TheVariants as round
 use Rattle.exec_credit.specs.Minded.{Bounded, HasRoot, Minded, Stood, Knows}
-use Rattle.exec_credit.proofs.{Fitted.fits, Fitting.{cut_of, may_sleep}, Minding.{and_no, none_waits}, Weighing.weighs}
+use Rattle.exec_credit.proofs.{Fitted.fits, Fitting.cut_of, Cutting.may_sleep, Minding.{and_no, none_waits}, Weighing.weighs}
 
 -- WHAT IS CARRIED
 

@@ -11,7 +11,7 @@ use Rattle.exec_machine.specs.declared.state.Next.TheVariants as next
 use Rattle.exec_machine.specs.declared.state.TaskPhase.TheVariants as task
 use Rattle.exec_machine.specs.declared.state.Waiting.TheVariants as waiting
 use Rattle.exec_credit.specs.Minded.{is_fresh_in}
-use Rattle.exec_credit.proofs.Fitting.{is_cut}
+use Rattle.exec_credit.proofs.Cutting.{is_cut}
 
 -- a task, after one was set: what holds of it and of the new one
 pub task_set : (P : Task → Type 0) (s : Common) (t : ℕ) (y : Task) → P (task_of s 0) → (t ≡ 0 → P y) → P (get_or (set s.tasks t y) 0 no_task)

@@ -20,7 +20,7 @@ use Rattle.exec_moves.specs.declared.idling.InWordWait.TheVariants as word_wait
 use Rattle.exec_moves.specs.declared.place.Place.TheVariants as at
 use Rattle.exec_base.specs.Spinner.{after_miss}
 use Rattle.exec_credit.specs.{Minds.{closes_alone, is_alone, passes, stands}, Minded.{ArePlain, HasRoot, Minded, PollsRoot, Stood, is_played, lets_go}}
-use Rattle.exec_credit.proofs.{Alone.{HasParts, calm, calm_same, emptied, emptied_same, no_task_in, of_one, one_same, parts_of, pooled, pooled_same, unraised}, Minding.{in_poll, played}, Fitting.{Fits, calls_on, choose, flags, may_sleep, one_if_some, picks, polls_on, pops, same_as, told_awaits, told_fits, told_wakes, unawaited, woken_by_end}}
+use Rattle.exec_credit.proofs.{Alone.{HasParts, calm, calm_same, emptied, emptied_same, no_task_in, of_one, one_same, parts_of, pooled, pooled_same, unraised}, Minding.{in_poll, played}, Fitting.{Fits, calls_on, choose, flags, picks, polls_on, pops, same_as, told_awaits, told_fits, told_wakes}, Cutting.{may_sleep, one_if_some, unawaited, woken_by_end}}
 
 module _ (k : Configuration) (me : Books) (base : Common) (o : Desk) (x : Things) (ours : (r : ℕ) → (request_of base r).worker ≡ 0) (nobody : ArePlain (pooled base)) where
   abbrev c : Configuration

@@ -10,7 +10,7 @@ use Rattle.exec_machine.specs.declared.state.RequestPhase.TheVariants as phase
 use Rattle.exec_machine.specs.declared.state.Waiting.TheVariants as waiting
 use Rattle.std.specs.Prelude.{unwrap_or}
 use Rattle.exec_credit.specs.Minded.{ArePlain, IsHere, IsPlain}
-use Rattle.exec_credit.proofs.Fitting.{is_cut}
+use Rattle.exec_credit.proofs.Cutting.{is_cut}
 
 -- WHAT HOLDS OF EACH, past the end too
 

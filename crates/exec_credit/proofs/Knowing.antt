@@ -1,12 +1,12 @@
 -- That the end of what the root waits for wakes it.
-use Rattle.std.proofs.Common.{◌≡◌, ℕ, ◌+◌, ◌<◌, ◌==◌, ◌&&◌, ◌||◌, nat_lt, Bool, true, false, not, List, [], ◌∷◌, ◌++◌, map, length, set, get_or, Option, Some, None, if◌then◌else◌, ◌∙◌, refl, sym, ap, subst, arith, inl, inr}
+use Rattle.std.proofs.Common.{◌≡◌, ℕ, ◌+◌, ◌==◌, ◌&&◌, ◌||◌, nat_lt, Bool, true, false, not, List, [], ◌∷◌, ◌++◌, map, length, set, get_or, Option, Some, None, if◌then◌else◌, ◌∙◌, refl, sym, ap, subst, arith, inl, inr}
 use Rattle.std.proofs.lemmas.Bool.{true≢false, false≢true, and_parts, or_cases, or_right, eqb-true, eqb-false, eq-eqb, ltb-true, ltb-false}
 use Rattle.std.proofs.lemmas.Grind.{get_or-set_at}
 use Rattle.std.proofs.lemmas.List.{get_or-set_other, get_or_past, length-set}
 use Rattle.std.proofs.Math.ListN.{get_or-map}
 use Rattle.std.specs.Prelude.{filter, unwrap_or}
 use Rattle.exec_outcomes.specs.{declared.outcome.{Outcome.Outcome, OpResult.OpResult}, Outcomes.refuses_hint}
-use Rattle.exec_machine.specs.{declared.{config.{Configuration.Configuration, ScriptWord.ScriptWord}, event.Event.Event, state.{Next.Next, Request.Request, RequestPhase.RequestPhase, TaskPhase.TaskPhase, Waiting.Waiting}}, After.{common_after, polled}, Allowed.allowed, Choice.{Choice, Choice.{Plain, Passes, Pays, Posts}, Payer.{ByRequest, BySleeper, ByAct, ByCall, ByStop}}, Closing.after_next, Deadlines.{enrolled, expired, fires_at}, Requests.{flown, reaped, staged, account_of_open, judged_of, asks_kind, operation_asked}, Same.{is_none, is_number}, Tasks.{without_newest, after_over, after_pend, after_waking_word, begun, begun_waiting, pended_phase, wake, woken, woken_phase, polls_waiting, waits_for, after_taking}, Tests.{AllTrue, is_done, is_gated, is_landed_with, is_ready, is_woken, waits_for_request, waits_for_timer, is_queued, is_resolved, is_staged, set_task, set_request, set_sleeper, set_open, waits_for_nothing}, Words.{acts, moved_on, asks_await, asks_drop, asks_no_sleep, asks_wake, asks_yield, next_word, sleep_asked}, World.{Own as Books, Common, Task, no_request, no_task, request_of, sleeper_of, task_of, open_of}}
+use Rattle.exec_machine.specs.{declared.{config.{Configuration.Configuration, ScriptWord.ScriptWord}, event.Event.Event, state.{Next.Next, Request.Request, RequestPhase.RequestPhase, TaskPhase.TaskPhase, Waiting.Waiting}}, After.{common_after, polled}, Allowed.allowed, Choice.{Choice, Choice.{Plain, Passes, Pays, Posts}, Payer.{ByRequest, BySleeper, ByAct, ByCall, ByStop}}, Closing.after_next, Deadlines.{enrolled, expired, fires_at}, Requests.{flown, reaped, staged, account_of_open, judged_of, asks_kind, operation_asked}, Same.{is_number}, Tasks.{without_newest, after_over, after_pend, after_waking_word, begun, begun_waiting, pended_phase, wake, woken, woken_phase, polls_waiting, waits_for, after_taking}, Tests.{AllTrue, is_done, is_gated, is_landed_with, is_ready, is_woken, waits_for_request, waits_for_timer, is_queued, is_resolved, is_staged, set_task, set_request, set_sleeper, set_open, waits_for_nothing}, Words.{acts, moved_on, asks_await, asks_drop, asks_no_sleep, asks_wake, asks_yield, next_word, sleep_asked}, World.{Own as Books, Common, Task, no_request, no_task, request_of, sleeper_of, task_of, open_of}}
 use Rattle.exec_machine.specs.declared.event.Event.TheVariants as event
 use Rattle.exec_machine.specs.declared.state.Next.TheVariants as next
 use Rattle.exec_machine.specs.declared.state.RequestPhase.TheVariants as phase
@@ -14,7 +14,7 @@ use Rattle.exec_machine.specs.declared.state.TaskPhase.TheVariants as task
 use Rattle.exec_machine.specs.declared.state.Waiting.TheVariants as waiting
 use Rattle.exec_moves.specs.{Slots.numbers_in, Told.has_number, State.Desk}
 use Rattle.exec_credit.specs.Minded.{Aware, HaveSlots, IsAware}
-use Rattle.exec_credit.proofs.{Fitting.{awaited_after, is_cut, lets_go_by, unawaited}, Called.other_set}
+use Rattle.exec_credit.proofs.{Cutting.{awaited_after, is_cut, lets_go_by, unawaited}, Called.other_set}
 
 -- NUMBERS in lists
 

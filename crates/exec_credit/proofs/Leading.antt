@@ -3,10 +3,10 @@ use Rattle.std.proofs.Common.{◌≡◌, ℕ, ◌-◌, ◌==◌, Bool, true, fal
 use Rattle.std.proofs.lemmas.Bool.{eq-eqb, or_from, true≢false, false≢true}
 use Rattle.std.specs.{Prelude.{nat_le, slice_set}, List.list_all}
 use Rattle.exec_task.specs.{declared.drain.Drain.Drain, TaskSet.passed}
-use Rattle.exec_machine.specs.{declared.{config.{Configuration.Configuration}}, World.{Own as Books, Common, request_of, sleeper_of}, Requests.outcome_of_drop, Tests.{is_asleep, is_empty}}
+use Rattle.exec_machine.specs.{declared.{config.{Configuration.Configuration}}, World.{Own as Books, Common, request_of, sleeper_of}, Tests.{is_asleep, is_empty}}
 use Rattle.exec_machine.specs.declared.event.Event.TheVariants as event
 use Rattle.exec_words.specs.{Idle.is_in, declared.word.PureWord.PureWord}
-use Rattle.exec_moves.specs.{declared.{handing.{AfterPop.AfterPop, InPop.InPop}, idling.AfterWait.AfterWait, place.{InClosing.InClosing, InLoads.InLoads, InMail.InMail, InPick.InPick, Place.Place, Round.Round}}, Callback.{has_requests, serve}, Told.{told_of_drop, told_of_fire, woken_where_awaited}, Close.{after_letting_go, first_asleep, first_held}, Slots.first_in, Heights.{pops_alone, withdraws_alone}, Load.{has_mail, has_submissions, next_turn}, Look.after_withdrawal, Mail.to_callbacks, Move.move_at, Parts.{after_visit, first_pop, polls}, Pick.one_pick_less, Pop.shard_count, State.{Desk, Things, Moved, Own, turns, does, goes as stands_at, word_of}, Thing.{aside, with_idle, with_shard, with_word}}
+use Rattle.exec_moves.specs.{declared.{handing.{AfterPop.AfterPop, InPop.InPop}, idling.AfterWait.AfterWait, place.{InClosing.InClosing, InLoads.InLoads, InMail.InMail, InPick.InPick, Place.Place, Round.Round}}, Callback.{has_requests, serve}, Close.{after_letting_go, first_asleep, first_held}, Slots.first_in, Heights.{pops_alone, withdraws_alone}, Load.{has_mail, has_submissions, next_turn}, Look.after_withdrawal, Mail.to_callbacks, Move.move_at, Parts.{after_visit, first_pop, polls}, Pick.one_pick_less, Pop.shard_count, State.{Desk, Things, Moved, Own, turns, does, word_of}, Thing.{aside, with_idle, with_shard, with_word}}
 use Rattle.exec_moves.specs.declared.handing.AfterPop.TheVariants as popped
 use Rattle.exec_moves.specs.declared.handing.First.TheVariants as first
 use Rattle.exec_moves.specs.declared.handing.InPop.TheVariants as pop
@@ -21,7 +21,7 @@ use Rattle.exec_moves.specs.declared.place.Round.TheVariants as round
 use Rattle.exec_moves.specs.declared.handing.AfterCallbacks.TheVariants as after
 use Rattle.exec_moves.specs.declared.place.InCallbacks.TheVariants as callback
 use Rattle.exec_credit.specs.{Minds.{IsCalm, closes_alone, found_in, stands}, Minded.{ArePlain, IsBare, IsWithin, is_settled, lets_go}}
-use Rattle.exec_credit.proofs.{Alone.{calm, emptied, emptied_shard, no_task_in, of_one, pooled}, Plain.{is_plain, chosen, Leads, plainly, either, same_both, same_dropped, same_fired, same_woken, still_calm}}
+use Rattle.exec_credit.proofs.{Alone.{calm, emptied, emptied_shard, no_task_in, of_one, pooled}, Plain.{is_plain, chosen, Leads, plainly, either}}
 
 or_nothing : (b : Bool) → b ≡ false → not (b || false) ≡ true
 or_nothing true h = absurd (true≢false h)

@@ -39,3 +39,4 @@ mod Resting
 mod Fair
 mod RestedThen
 pub mod Knowing
+pub mod Cutting

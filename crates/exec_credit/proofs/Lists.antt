@@ -7,7 +7,7 @@ use Rattle.exec_machine.specs.{declared.{config.Configuration.Configuration, eve
 use Rattle.exec_machine.specs.declared.event.Event.TheVariants as event
 use Rattle.exec_machine.specs.declared.state.Next.TheVariants as next
 use Rattle.exec_machine.specs.declared.state.WorkerPhase.TheVariants as worker
-use Rattle.exec_credit.proofs.{Fitting.is_cut, Listed.{listed_by}, Letting.all_over, Listing.{admits, cancels_one, drops, enrols, enters, expires, marks, reaps, releases, same_books, stages}}
+use Rattle.exec_credit.proofs.{Cutting.is_cut, Listed.listed_by, Letting.all_over, Listing.{admits, cancels_one, drops, enrols, enters, expires, marks, reaps, releases, same_books, stages}}
 use Rattle.exec_credit.specs.Minded.{AreListed, IsListed}
 
 module _ (c : Configuration) (me : Books) (s : Common) (listed : AreListed me s) (here : 0 < length s.seats) (ours : (k : ℕ) → (request_of s k).worker ≡ 0) where

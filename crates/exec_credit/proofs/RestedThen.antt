@@ -14,7 +14,7 @@ use Rattle.std.proofs.lemmas.List.{get_or_past}
 use Rattle.std.proofs.Common.{replicate}
 use Rattle.exec_machine.specs.declared.state.Waiting.TheVariants as waiting
 use Rattle.exec_credit.specs.Minded.{Aware, HasRoot, IsAware, IsAtRest, IsListed, Minded, PaidIn, Rested, RestedIn, Stood, StoodIn, begins_call, is_fresh_in}
-use Rattle.exec_credit.proofs.{Woken.called_then, Knowing.aware_then, Fitted.fits, Fitting.{cut_of, may_sleep}, Listed.{in_last, kept_joined, no_listed}, Listing.put_unenrolled, Lists.lists, Minding.{played, undurable}, Others.{flying_open, landed_at, kept as landed_kept}, Stepped.{desk_set, first_set, landed_desk, nobody_there, none_half}, Resting.rests_then}
+use Rattle.exec_credit.proofs.{Woken.called_then, Knowing.aware_then, Fitted.fits, Fitting.cut_of, Cutting.may_sleep, Listed.{in_last, kept_joined, no_listed}, Listing.put_unenrolled, Lists.lists, Minding.{played, undurable}, Others.{flying_open, landed_at, kept as landed_kept}, Stepped.{desk_set, first_set, landed_desk, nobody_there, none_half}, Resting.rests_then}
 
 -- what a request that is waited for says stays where requests stay
 still_aware : (s s' : Common) (awaited : List ℕ) (t : Task) → s'.requests ≡ s.requests → Aware s awaited t → Aware s' awaited t

@@ -17,7 +17,7 @@ use Rattle.exec_moves.specs.declared.place.Place.TheVariants as at
 use Rattle.exec_moves.specs.declared.idling.Stay.TheVariants as stay
 use Rattle.std.specs.Prelude.{nat_lt}
 use Rattle.exec_credit.specs.{Minds.stands, Minded.{AreListed, HasRest, HasRoot, IsAtRest, Knows, Minded, Stood, is_in, sleeps_closing, sleeps_open}}
-use Rattle.exec_credit.proofs.{Asking.is_open_of, Fitted.fits, Fitting.{cut_of, is_cut, is_sleep, may_sleep}}
+use Rattle.exec_credit.proofs.{Asking.is_open_of, Fitted.fits, Fitting.cut_of, Cutting.{is_cut, is_sleep, may_sleep}}
 
 -- NO OTHER EVENT makes a worker sleep
 

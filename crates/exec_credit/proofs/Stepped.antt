@@ -14,7 +14,7 @@ use Rattle.exec_moves.specs.declared.place.InClosing.TheVariants as closing
 use Rattle.exec_moves.specs.{declared.place.Place.Place, Credit.credit, Move.{move, move_at}, Plays.{Played, Playing, by_action, by_step, credit_of, desk_of, first_desk, last_told, newcomers, with_none_behind}, State.{Desk, Things, Moved, WakePoll, no_wake_poll, one_behind, passed, wake_poll_of}, Thing.set_wake_poll}
 use Rattle.exec_moves.specs.declared.place.Place.TheVariants as at
 use Rattle.exec_credit.specs.{Minds.{Falls, IsUnraised, closes}, Minded.{HasRoot, IsPlain, Lone, Minded, PaidIn, Stood, StoodIn, begins_call, is_start}}
-use Rattle.exec_credit.proofs.{Alone.{HasParts, parts_of, settled_of}, Asking.is_open_of, Fitted.fits, Fitting.{cut_of, may_sleep}, Here.{each_set, plain_still}, Led.leads, Minding.{minds, played, undurable}, Others.{knows_still, landing_entered, landing_open}, Quiet.falls}
+use Rattle.exec_credit.proofs.{Alone.{HasParts, parts_of, settled_of}, Asking.is_open_of, Fitted.fits, Fitting.cut_of, Cutting.may_sleep, Here.{each_set, plain_still}, Led.leads, Minding.{minds, played, undurable}, Others.{knows_still, landing_entered, landing_open}, Quiet.falls}
 
 -- there is some room in a ring
 doubled : (k p n : ℕ) → 0 < p → 0 < doubled_up_to k p n

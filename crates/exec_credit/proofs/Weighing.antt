@@ -16,7 +16,7 @@ use Rattle.exec_machine.specs.declared.state.Waiting.TheVariants as waiting
 use Rattle.std.proofs.lemmas.List.{length-map}
 use Rattle.std.specs.Prelude.{unwrap_or}
 use Rattle.exec_credit.specs.Minded.{open_count}
-use Rattle.exec_credit.proofs.{Fitting.{gains, is_cut, one_if_some}, Listing.{landed_open, queued_open}}
+use Rattle.exec_credit.proofs.{Cutting.{gains, is_cut, one_if_some}, Listing.{landed_open, queued_open}}
 
 gated_open : (p : RequestPhase) → is_gated p ≡ true → is_resolved p ≡ false
 gated_open phase.Gated h = refl

@@ -12,7 +12,7 @@ use Rattle.exec_machine.specs.declared.state.Waiting.TheVariants as waiting
 use Rattle.exec_moves.specs.{Told.{has_number, waker_of}, State.Desk}
 use Rattle.std.specs.Prelude.{unwrap_or}
 use Rattle.exec_credit.specs.Minded.{ArePlain, Aware, HasRoot, IsAware, IsCalled, IsFollowed}
-use Rattle.exec_credit.proofs.{Fitting.{is_cut, left_of, wakes_after, woken_by_end}, Called.{fired_before, freshes, other_set, over_after, task_set}}
+use Rattle.exec_credit.proofs.{Cutting.{is_cut, left_of, wakes_after, woken_by_end}, Called.{fired_before, freshes, other_set, over_after, task_set}}
 
 none_of : (b : Bool) → not b ≡ true → b ≡ false
 none_of true h = absurd (false≢true h)

@@ -1,5 +1,5 @@
 -- The room that an admission makes, and gives up again.
-use Rattle.std.proofs.Common.{◌≡◌, ℕ, ◌+◌, ◌-◌, ◌*◌, ◌^◌, ◌<◌, ◌≤◌, ltb, cond, Bool, true, false, not, List, [], ◌∷◌, length, Option, Some, None, Result, Ok, Err, refl, sym, ap, ◌∙◌, inl, inr, arith}
+use Rattle.std.proofs.Common.{◌≡◌, ℕ, ◌+◌, ◌*◌, ◌^◌, ◌<◌, ◌≤◌, ltb, cond, Bool, true, false, not, List, [], ◌∷◌, length, Option, Some, None, Result, Ok, Err, refl, sym, ap, ◌∙◌, inl, inr, arith}
 use Rattle.exec_driver.proofs.{Words.cases_Bool, Counting.{flying_few, pending_is}, Shifts.few, Stepping.sound_ring}
 use Rattle.std.specs.Prelude.{is_some, is_err, count_by, IsSomeAnd, OnOk, OnErr}
 use Rattle.std.proofs.lemmas.Bool.{false≢true, ltb-true, ltb-false, leb-false}
@@ -10,7 +10,7 @@ use Rattle.exec_ring.specs.{Kernels.Landing, Rings.{RingState, taken_places, fre
 use Rattle.exec_time.specs.Wheel.{Wheel, fresh}
 use Rattle.exec_waiters.specs.{States.{counts_pending, pending_count, is_full}, declared.waiter.Entry.{Entry, TheVariants.{Pending, Ready}}}
 use Rattle.exec_waiters.proofs.Changes.{one_if}
-use Rattle.exec_driver.specs.{Driving.{Driving, is_cancelled}, Lists.no_lists, Sound.{IsSound, IsHeld, is_uncancelled, counts, count_of}, Steps.{widened, bytes_left, footprint_of}}
+use Rattle.exec_driver.specs.{Driving.{Driving, is_cancelled}, Lists.no_lists, Sound.{IsSound, IsHeld, is_uncancelled, counts, count_of}, Footprints.{widened, bytes_left, footprint_of}}
 
 -- THE BYTES OF A REQUEST END WITHIN WHAT 64 BITS CAN SAY
 

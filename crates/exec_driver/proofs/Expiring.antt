@@ -1,6 +1,6 @@
 -- Who is taken out of what is due, or of what is to be enrolled, leaves a driver as it should be.
-use Rattle.std.proofs.Common.{◌≡◌, ◌<◌, ◌≤◌, ◌+◌, ◌^◌, ltb, cond, true, false, Ok, Err, ℕ, Bool, List, [], ◌∷◌, length, Option, Some, None, refl, sym, ap, ◌∙◌, arith}
-use Rattle.exec_driver.proofs.{Words.{false≢true, ltb-true, Slab, Wheel, target_of, moment_of, waiter_at, Waiter, Entry, WaiterId, Driving, is_unenrolled, is_enrolled, Lists, first_of, rest_of, after_due, after_enrolment, IsListed, IsSound, IsHeld, tick_for, count_of, is_at_tick, and_parts}, Granting.{IsUnset, unset_tells}, Stepping.first_in, Timing.target_tells}
+use Rattle.std.proofs.Common.{◌≡◌, ◌<◌, ◌≤◌, ◌+◌, ◌^◌, ltb, cond, true, false, Ok, Err, ℕ, Bool, List, [], ◌∷◌, length, Option, Some, None, refl, ap, ◌∙◌, arith}
+use Rattle.exec_driver.proofs.{Words.{false≢true, ltb-true, Slab, Wheel, target_of, moment_of, waiter_at, Waiter, Entry, WaiterId, Driving, is_unenrolled, is_enrolled, Lists, first_of, rest_of, after_due, after_enrolment, IsListed, IsHeld, tick_for, count_of, is_at_tick, and_parts}, Granting.{IsUnset, unset_tells}, Stepping.first_in, Timing.target_tells}
 use Rattle.exec_base.specs.declared.error.Error.{Error}
 use Rattle.exec_driver.specs.Steps.{tick_by}
 

@@ -1,13 +1,13 @@
 -- What comes next of a wheel is the deadline of a request.
-use Rattle.std.proofs.Common.{◌≡◌, ℕ, ◌+◌, ◌-◌, ◌<◌, ◌≤◌, Bool, true, false, List, [], ◌∷◌, get_or, Option, Some, None, refl, sym, ap, ◌∙◌, arith}
+use Rattle.std.proofs.Common.{◌≡◌, ℕ, ◌+◌, ◌-◌, ◌<◌, ◌≤◌, Bool, true, false, List, [], ◌∷◌, Option, Some, None, refl, sym, ◌∙◌, arith}
 use Rattle.std.proofs.lemmas.Bool.Decides.{nat_tests}
 use Rattle.std.specs.Prelude.{find, nat_lt, if◌then◌else◌}
 use Rattle.std.specs.List.{range_with_len}
 use Rattle.exec_time.specs.Wheel.{Wheel, IsSettled, IsWithinReach, least_active}
 use Rattle.exec_time.proofs.Passes.{least_before}
-use Rattle.exec_waiters.specs.{States.{tick_of, waiter_at}, declared.waiter_id.WaiterId.WaiterId}
+use Rattle.exec_waiters.specs.{States.{tick_of}, declared.waiter_id.WaiterId.WaiterId}
 use Rattle.exec_base.specs.declared.slab.Slot.TheVariants.{Vacant}
-use Rattle.exec_driver.specs.{Driving.{Driving, request_at}, Punctual.{IsPunctual, IsFirstTick, TellsDeadlines}, Sound.{IsSound, is_at_tick, counts}}
+use Rattle.exec_driver.specs.{Driving.{Driving, request_at}, Punctual.{IsFirstTick, TellsDeadlines}, Sound.{IsSound, is_at_tick, counts}}
 use Rattle.exec_driver.proofs.{Coming.tick_there, Punctual.{counted, named_there, settled}}
 
 found_passes : (p : ℕ → Bool) (xs : List ℕ) (x : ℕ) → find p xs ≡ Some x → p x ≡ true

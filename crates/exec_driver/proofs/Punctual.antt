@@ -1,6 +1,6 @@
 -- Deadlines that are kept: one that is enrolled, and when a wheel is settled.
-use Rattle.std.proofs.Common.{zero, suc, ◌≡◌, ◌≢◌, ◌⊎◌, ℕ, ◌+◌, ◌%◌, ◌<◌, ◌≤◌, eqb, Bool, true, false, not, ◌&&◌, ◌||◌, cond, List, [], ◌∷◌, ◌++◌, length, get_or, Option, Some, None, Ok, Err, Result, refl, sym, ap, subst, ◌∙◌, inl, inr, arith}
-use Rattle.exec_driver.proofs.{Words.cases_Bool, Coming.advanced_punctual, Names.{same_tells, fewer_without}, Counting.pending_is, Endings.{one_changed, ticked}, Expiring.{IsTaken, tick_tells, unset_there}, Serving.{eases_ended, keeps_still, keeps_both, serves_by, room_ended, room_still, none_without}, Stepping.first_tells}
+use Rattle.std.proofs.Common.{suc, ◌≡◌, ℕ, ◌+◌, ◌<◌, ◌≤◌, eqb, Bool, true, false, not, ◌&&◌, ◌||◌, List, [], ◌∷◌, length, get_or, Option, Some, None, Ok, Err, Result, refl, sym, ap, subst, ◌∙◌, inl, inr, arith}
+use Rattle.exec_driver.proofs.{Words.cases_Bool, Coming.advanced_punctual, Names.{same_tells, fewer_without}, Counting.pending_is, Endings.{one_changed, ticked}, Expiring.{IsTaken, tick_tells, unset_there}, Serving.{eases_ended, keeps_still, keeps_both, serves_by, room_ended, room_still}, Stepping.first_tells}
 use Rattle.std.specs.Prelude.{count_by, is_some, Contains}
 use Rattle.std.specs.Option.{IfSome, IfNone}
 use Rattle.std.proofs.lemmas.Bool.{false≢true, cases_lt}
@@ -13,7 +13,7 @@ use Rattle.exec_time.specs.{Wheel.{Wheel, IsSettled, IsWithinReach, slot_of, sch
 use Rattle.exec_time.proofs.Ranges.{slots_apart}
 use Rattle.exec_waiters.specs.{Events.with_tick, States.{waiter_at, tick_in, tick_of}, Told.Tells, declared.{deferred.Deferred.Deferred, waiter.{Waiter.Waiter, Entry.{Entry, TheVariants.{Pending, Ready}}}, waiter_id.WaiterId.WaiterId}}
 use Rattle.exec_waiters.proofs.Changes.{one_if}
-use Rattle.exec_driver.specs.{Driving.{Driving, request_at, is_unenrolled}, Lists.{has_first, first_of, is_among, without, after_enrolment}, Punctual.IsPunctual, Sound.{IsSound, is_tick, is_at_tick, counts, count_of}, Steps.{advanced_to, tick_for, enrolled, told_by_enrolment, ended, Enrols}, Turns.{CanTell, GoesOn, Serves}, declared.driver.timing.Enrolled.Enrolled}
+use Rattle.exec_driver.specs.{Driving.{Driving, request_at}, Lists.{has_first, first_of, is_among, after_enrolment}, Punctual.IsPunctual, Sound.{IsSound, is_tick, is_at_tick, counts, count_of}, Steps.{advanced_to, tick_for, enrolled, told_by_enrolment, ended, Enrols}, Turns.{GoesOn, Serves}, declared.driver.timing.Enrolled.Enrolled}
 
 -- WHEELS
 

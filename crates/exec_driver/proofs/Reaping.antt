@@ -1,8 +1,8 @@
 -- A completion that is taken in keeps a driver as it should be.
-use Rattle.std.proofs.Common.{zero, suc, ◌≡◌, ◌⊎◌, ℕ, ◌+◌, ◌-◌, ◌<◌, ◌≤◌, eqb, Bool, true, false, not, ◌&&◌, ◌||◌, cond, List, [], ◌∷◌, ◌++◌, length, Option, Some, None, refl, sym, ap, ◌∙◌, inl, inr, arith, append-nil}
+use Rattle.std.proofs.Common.{zero, suc, ◌≡◌, ℕ, ◌+◌, ◌<◌, ◌≤◌, Bool, true, false, not, ◌&&◌, cond, List, [], ◌∷◌, ◌++◌, length, Option, Some, None, refl, sym, ap, ◌∙◌, inl, inr, arith, append-nil}
 use Rattle.std.specs.Prelude.{slice_get, slice_set}
-use Rattle.exec_driver.proofs.{Words.{is_some, false≢true, eqb_tells, Slab, written, is_durable, Asked, Kind, OpResult, may_complete, told_by_finish, Id, asked_of, Ended, asks_cancel, Request, wake_completion, Landing, next_completion, reaped, RingState, taken_places, Completion, Account, hinted_of, result_in, waiter_at, is_flying, pending_count, flying_count, needs_permit, Tells, Deferred, Waiter, Entry, Pending, WaiterId, one_if, Driving, request_at, is_queued, is_gated, is_unenrolled, is_enrolled, is_cancelled, with_queued, IsSound, IsHeld, is_unpermitted, is_at_tick, is_uncancelled, OpenState, account_in, with_account, is_control, under_way_after, armed_after, noted, taken_out, open_after, ended}, Counting.{pending_is, flying_is}, Shifts.{Shift, Left, Kept, Joined, First, shifted, nowhere, room_for}, Endings.one_changed, Stepping.{sound_ring, stays}, Entering.{Within, less_reaped, within_reaped, no_wake}}
-use Rattle.exec_outcomes.specs.{Outcomes.{Cursor, Part, outcome_next, outcome_by as answer_by, outcome_by_stop, outcome_of_part, passes_on, first_part, second_part, with_totals, verdict, is_unsupported}, declared.outcome.{Judged.Judged, Outcome.Outcome}}
+use Rattle.exec_driver.proofs.{Words.{is_some, false≢true, eqb_tells, Slab, written, is_durable, Asked, Kind, OpResult, may_complete, told_by_finish, Id, asked_of, Ended, asks_cancel, Request, Landing, next_completion, reaped, RingState, taken_places, Completion, Account, hinted_of, result_in, waiter_at, is_flying, flying_count, needs_permit, Tells, Deferred, Waiter, Entry, Pending, WaiterId, one_if, Driving, request_at, is_queued, is_gated, is_unenrolled, is_enrolled, is_cancelled, with_queued, IsSound, IsHeld, is_unpermitted, is_at_tick, is_uncancelled, OpenState, account_in, with_account, is_control, under_way_after, armed_after, noted, taken_out, open_after, ended}, Counting.{pending_is, flying_is}, Shifts.{Kept, Joined, shifted, nowhere, room_for}, Endings.one_changed, Stepping.{sound_ring, stays}, Entering.{less_reaped, within_reaped, no_wake}}
+use Rattle.exec_outcomes.specs.{Outcomes.{Cursor, outcome_next, outcome_by as answer_by, outcome_by_stop, outcome_of_part, passes_on, first_part, second_part, with_totals, verdict, is_unsupported}, declared.outcome.{Judged.Judged, Outcome.Outcome}}
 use Rattle.exec_waiters.specs.{Events.{is_lawful_for, outcome_by}, declared.completed.CompletionOutcome.{CompletionOutcome, TheVariants.{Requeue, Complete}}, States.{name_of, named}, Told.nothing_told}
 use Rattle.exec_request.specs.Hints.{without_hint}
 use Rattle.exec_driver.specs.{Opens.{account_by, open_at, with_open_in, keeping}, Steps.{landed_at, lawful_of, if_lawful}, declared.driver.reaping.Reaped.Reaped}

@@ -1,5 +1,5 @@
 -- The counts of slots, as names come and go.
-use Rattle.std.proofs.Common.{◌≡◌, ℕ, ◌+◌, ◌<◌, ◌≤◌, ◌==◌, true, false, if◌then◌else◌, List, [], ◌∷◌, ◌++◌, length, length-set, get_or, filter, not, Bool, refl, sym, ap, subst, ◌∙◌, arith, inl, inr}
+use Rattle.std.proofs.Common.{◌≡◌, ℕ, ◌+◌, ◌<◌, ◌≤◌, ◌==◌, true, false, if◌then◌else◌, List, [], ◌∷◌, ◌++◌, length, length-set, get_or, Bool, refl, sym, ap, ◌∙◌, arith, inl, inr}
 use Rattle.std.proofs.lemmas.Grind.{common_steps, elements, get_or-set_at}
 use Rattle.std.proofs.lemmas.Bool.Decides.{nat_tests}
 use Rattle.std.proofs.lemmas.List.{get_or_default}
@@ -37,11 +37,6 @@ in_other_slot slot id (x ∷ xs) other = grind (arith, common_steps, other, in_o
 pub length_without : (id : WaiterId) (ids : List WaiterId) → length (without id ids) ≤ length ids
 length_without id [] = omega arith
 length_without id (x ∷ xs) = grind (arith, common_steps, length_without id xs)
-
--- without a name that isn't there a list is the same
-pub same_without : (id : WaiterId) (ids : List WaiterId) → is_among id ids ≡ false → ids ≡ without id ids
-same_without id [] none = refl
-same_without id (x ∷ xs) none = grind (arith, common_steps, none, same_without id xs)
 
 -- what was counted of a slot, as it was read
 pub read_count : (ids : List WaiterId) (counts : List ℕ) (slot n : ℕ) → AreCounted ids counts → slot < length counts → n ≡ get_or counts slot n → n ≡ in_slot slot ids

@@ -1,6 +1,6 @@
 -- What a tick for a deadline says of the wheel.
-use Rattle.std.proofs.Common.{◌≡◌, ◌⊎◌, ℕ, ◌+◌, ◌-◌, ◌<◌, ◌≤◌, ltb, leb, Bool, true, false, ◌&&◌, cond, Option, Some, None, refl, sym, ap, ◌∙◌, inl, inr, arith}
-use Rattle.exec_driver.proofs.Words.{is_some, false≢true, ltb-true, Wheel, tick_of, Waiter, is_enrolled, and_parts}
+use Rattle.std.proofs.Common.{◌≡◌, ℕ, ◌+◌, ◌<◌, ltb, Bool, true, false, ◌&&◌, cond, Option, Some, None, refl}
+use Rattle.exec_driver.proofs.Words.{is_some, ltb-true, Wheel, tick_of, Waiter, is_enrolled, and_parts}
 use Rattle.exec_time.specs.Wheel.{target_of}
 
 by_tests : (a b c : Bool) (t tick : ℕ) → cond a (Some None) (cond b None (cond c (Some (Some t)) None)) ≡ Some (Some tick) → (c ≡ true) × (t ≡ tick)

@@ -1,7 +1,7 @@
 -- No operation of a request is the wake poll, and what its operations leave decides whether it lacks a permit, and of
 -- which open it is.
-use Rattle.std.proofs.Common.{◌≡◌, ◌⊎◌, ℕ, Bool, true, false, cond, Option, Some, None, refl, inl, inr, ap, sym, ◌∙◌}
-use Rattle.exec_driver.proofs.Words.{Asked, Kind, asked_of, Request, file_of, cases_Bool}
+use Rattle.std.proofs.Common.{◌≡◌, ℕ, Bool, true, false, cond, Option, Some, None, refl, inl, inr, ap, sym, ◌∙◌}
+use Rattle.exec_driver.proofs.Words.{Kind, asked_of, Request, file_of, cases_Bool}
 use Rattle.exec_outcomes.specs.declared.outcome.Kind.TheVariants.{Fill, Read, Hint, Direct, Write, Dsync, Many, Recv as Receives, Sync as Syncs}
 use Rattle.exec_request.specs.{Kept.{Kept, kept_of}, Requests.window_by, Syncing.{is_syncing, write_kind}, Ways.asked_by, declared.{way.Way.{Way, TheVariants.{Buffered, Hinted, Direct as Directly, Switched}}, request.Request.TheVariants.{Send, Recv, ReadAt, WriteAt, Sync, Connect, Poll}, write_at.WriteAtState.{WriteAtState, TheVariants.{Writing, WritingSync, WritingBeforeSync, Syncing}}}}
 use Rattle.exec_ring.specs.Kernels.{suits}

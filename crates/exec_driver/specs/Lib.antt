@@ -12,3 +12,4 @@ pub mod Laws
 pub mod Sharing
 pub mod Placed
 pub mod Examples
+pub mod Footprints

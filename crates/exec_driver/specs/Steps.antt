@@ -2,7 +2,7 @@
 use Rattle.std.specs.Prelude.{◌≡◌, ℕ, Bool, true, false, ◌+◌, ◌-◌, ◌^◌, ◌==◌, ◌&&◌, ◌||◌, List, [], ◌∷◌, ◌++◌, nat_lt, nat_le, min, Option, Some, None, Result, Ok, Err, is_some, IsSomeAnd, if◌then◌else◌}
 use Rattle.exec_base.specs.{Slab.{Slab, value_at, written, inserted}, declared.{error.{Cause.TheVariants.InvalidInput, Error.{Error, TheVariants.{Timeout, Io}}}, slab.Id.Id}}
 use Rattle.exec_outcomes.specs.{Accounts.Account, declared.outcome.{OpResult.OpResult, Judged.Judged}, Outcomes.{HasCome, is_unsupported}}
-use Rattle.exec_request.specs.{Hints.{AsksOn, has_hint, without_hint}, Judging.{Judges, judged_as}, Kept.kept_of, Requests.{asked_of, cursor_of, hinted_of, deadline_of, gate_of, record_after, window_by, outcome_if_granted}, States.{Ended, as_answer, asks_cancel, told_by}, Windows.{cancel_window, wake_window}, Buffers.{length_of, moved_of}, declared.{buffers.WriteBuffers.WriteBuffers, request.Request.{Request, TheVariants.{Send, WriteAt}}, results.WaiterState.TheVariants.Active, window.Window.Window, write_at.WriteAtState.{WriteAtState, TheVariants.Writing}}}
+use Rattle.exec_request.specs.{Hints.{AsksOn, has_hint, without_hint}, Judging.{Judges, judged_as}, Kept.kept_of, Requests.{asked_of, cursor_of, hinted_of, deadline_of, gate_of, record_after, window_by, outcome_if_granted}, States.{Ended, as_answer, asks_cancel, told_by}, Windows.{cancel_window, wake_window}, declared.{request.Request.{Request, TheVariants.WriteAt}, results.WaiterState.TheVariants.Active, write_at.WriteAtState.{WriteAtState, TheVariants.Writing}}}
 use Rattle.exec_ring.specs.{Completions.result_in, Kernels.{with_entry, entered_with, reaped, next_completion, flight_of, landed}, Rings.fresh as fresh_ring, declared.{store.Store.Store, completion.{Completion.Completion, Posted.Posted, Submission.Submission}}}
 use Rattle.exec_time.specs.{Wheel.{Wheel, fresh, target_of, moment_of, scheduled, removed}, Layouts.slots_of, Turning.advanced}
 use Rattle.exec_waiters.specs.{Events.{admitted, finished, told_by_finish, cancelled, with_permit, with_tick, orphaned, asks_cancel_by_orphan, is_lawful_for, Lands}, Ids.user_data_of, States.{waiter_at, named, tick_in, file_of, gate_in}, Told.{Told, nothing_told, Tells}, declared.{deferred.Deferred.Deferred, observer.Observer.Observer, waiter.{Waiter.Waiter, Entry.{Entry, TheVariants.Pending}}, waiter_id.WaiterId.WaiterId}}
@@ -62,18 +62,6 @@ written_by _ file = None
 abbrev pub plainly_written : Request → Option ℕ
 plainly_written (WriteAt w) = written_by w.state w.file
 plainly_written _ = None
-
--- the window of all bytes that a request moves
-abbrev pub widened : Window → ℕ → Window
-widened w count = if nat_lt count (2 ^ 32) then (record w { length = count }) else w
-
-abbrev pub bytes_left : WriteBuffers → ℕ
-bytes_left b = length_of b - moved_of b
-
-abbrev pub footprint_of : Request → Window
-footprint_of (Send s) = widened (window_by false (Send s)) (bytes_left s.write)
-footprint_of (WriteAt w) = widened (window_by false (WriteAt w)) (bytes_left w.write)
-footprint_of r = window_by false r
 
 -- the deadline isn't after now
 abbrev pub is_late : Option ℕ → ℕ → Bool

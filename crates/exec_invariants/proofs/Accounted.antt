@@ -1,13 +1,13 @@
 -- What is kept of opens, as operations on them are judged and requests of them end: their lines stay, and the machine keeps the
 -- same of them.
-use Rattle.std.proofs.{Common.{◌≡◌, ◌≢◌, ℕ, zero, suc, ◌<◌, ◌&&◌, Bool, true, false, List, [], ◌∷◌, length, map, Option, Some, None, IsSome, is_some, if◌then◌else◌, refl, sym, ap, subst, ◌∙◌, slice_get, slice_index_or, slice_set}, lemmas.Bool.false≢true}
+use Rattle.std.proofs.{Common.{◌≡◌, ℕ, zero, suc, ◌<◌, ◌&&◌, Bool, true, false, List, [], ◌∷◌, length, map, Option, Some, None, IsSome, is_some, if◌then◌else◌, refl, sym, ap, subst, ◌∙◌, slice_get, slice_index_or, slice_set}, lemmas.Bool.false≢true}
 use Rattle.exec_outcomes.specs.{Accounts.Account, Outcomes.is_unsupported, declared.outcome.OpResult.OpResult}
 use Rattle.exec_request.specs.{Hints.{has_hint, without_hint}, Requests.{asked_of, hinted_of, target_of}, Syncing.write_kind, Ways.asked_by, declared.{request.Request.Request as Asking, way.Way.Way, write_at.WriteAtState.WriteAtState}}
 use Rattle.exec_waiters.specs.{States.file_of, declared.waiter.Waiter.Waiter}
 use Rattle.exec_driver.specs.{Opens.{OpenState, account_by, account_in, keeping, open_at, with_account, with_open_in}, Steps.open_after}
 use Rattle.exec_machine.specs.{Tests.is_of_file, World.{Open, no_open}}
 use Rattle.exec_parts.{specs.{declared.parts.{mail.Reply.Reply, record.Record.Record}, View.{account_seen, open_seen}}, proofs.{Facts.{and_parts, by_number, same_thing, set_elsewhere, set_there}, Showing.{map_kept, map_set}}}
-use Rattle.exec_invariants.{specs.Gates.{AreLinedUp, has_hint_at}, proofs.{Hinting.open_there, Lined.{SameLines, accounts_kept, only_line, opens_same}, Spared.there_within}}
+use Rattle.exec_invariants.{specs.Gates.{AreLinedUp, has_hint_at}, proofs.{Hinting.open_there, Lined.{SameLines, accounts_kept, only_line, opens_same}, SparedRecord.there_within}}
 
 -- ONE ACCOUNT
 

@@ -5,7 +5,7 @@ use Rattle.exec_task.specs.declared.body.Said.{Said}
 use Rattle.exec_machine.specs.{declared.{event.Event.{Event, TheVariants.{Closed, GotTimer, Send}}, state.{Forwarding.{Forwarding, TheVariants.{Applied, Sent as Forwarded, Unsent}}, MailMessage.TheVariants.ForwardTimer, Waiting.Waiting}}, Mail.posted as seat_posted, Progress.Plan, Tests.{is_unsent, waits_for_timer}, World.{Task, no_seat, seat_of, sleeper_of, task_of}}
 use Rattle.exec_moves.specs.{declared.{handing.AfterSend.AfterSend, place.{InPoll.InPoll, Place.Place}}, Move.move_look_at, Poll.{Sight.{Asks, HearsTimer}, acts_on, pend, resume, sight_by, sight_of}, State.{Moved, Things, does}, Thing.aside}
 use Rattle.exec_parts.{specs.{declared.parts.{mail.Subject.Subject, seat.Seat.Seat as Chair, shared.Shared.Shared, sleeping.SleeperRecord.SleeperRecord, task_slot.TaskSlot.TaskSlot, worker.Worker.Worker}, Calls.sleeper_forwarded, MailPosts.{AsksEnd, Sends, asks_by, chair_sent}, Spots.Spot, View.{Views, common_of, desk_of, numbers_of_passing, own_of, seat_seen, seats_seen, task_seen, things_with}}, proofs.Facts.{by_number, never_true, not_same, same_thing, set_there}}
-use Rattle.exec_invariants.{specs.{Holding.{Holder, IsAbout, IsHolding, IsOrdinary, MayHave, awaited_in, box_of, holder_of, nap_of, thing_of}, Sound.{MayStop, SoundAt, is_told, may_end}, Spares.SparesSleeper, Whole.{HasWhole, Profile, hands_of, with_worker}, Works.{Steps, Suits, Works}}, proofs.{AskBoxes.{asks_place, box_there, nap_asked, pool_open}, Here.IsHere, HoldBeside.Holds, HoldPosts.{posted, with_mail}, HoldThings.{Touches, touches_sleeper}, LetterPosts.{chair_open, forwards_timer, open_spares, sent_open}, Lined.passing_same, Polling.home_mine, Seats.seat_there, Seen.sleeper_at, Slots.task_there, Spared.there_within, TaskAsks.{Posts, asked, asked_works, led_to, leads_to, to_pend}, TaskDeals.{Dealt, ends as to_end, from_look}, TaskHears.hears_same, TaskTakes.{holder_there, nap_there}, Turning.set_found}}
+use Rattle.exec_invariants.{specs.{Holding.{Holder, IsAbout, IsHolding, IsOrdinary, MayHave, awaited_in, box_of, holder_of, nap_of, thing_of}, Sound.{MayStop, SoundAt, is_told, may_end}, Spares.SparesSleeper, Whole.{HasWhole, Profile, hands_of, with_worker}, Works.{Steps, Suits, Works}}, proofs.{AskBoxes.{asks_place, box_there, nap_asked, pool_open}, Here.IsHere, HoldBeside.Holds, HoldPosts.{posted, with_mail}, HoldThings.{Touches, touches_sleeper}, LetterPosts.{chair_open, forwards_timer, open_spares, sent_open}, Lined.passing_same, Polling.home_mine, Seats.seat_there, Seen.sleeper_at, Slots.task_there, SparedRecord.there_within, TaskAsks.{Posts, asked, asked_works, led_to, leads_to, to_pend}, TaskDeals.{Dealt, ends as to_end, from_look}, TaskHears.hears_same, TaskTakes.{holder_there, nap_there}, Turning.set_found}}
 
 is_unsent_so : (f : Forwarding) → is_unsent f ≡ true → f ≡ Unsent
 is_unsent_so Unsent h = refl

@@ -1,5 +1,5 @@
 -- What a task waits for and holds as its poll begins.
-use Rattle.std.proofs.{Common.{◌≡◌, ◌≢◌, ℕ, Bool, true, false, List, Some, None, refl, sym}, lemmas.Bool.false≢true}
+use Rattle.std.proofs.{Common.{◌≡◌, ℕ, Bool, true, false, List, Some, None, refl, sym}, lemmas.Bool.false≢true}
 use Rattle.exec_machine.specs.{declared.state.{Waiting.Waiting, Next.Next}, Tasks.begun_waiting}
 use Rattle.exec_moves.specs.{declared.place.Place.Place, Poll.after_begin, Seen.{next_in_poll, polls_in}}
 use Rattle.exec_parts.specs.declared.parts.{record.Record.Record, sleeping.SleeperRecord.SleeperRecord}

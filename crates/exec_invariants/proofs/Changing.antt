@@ -8,7 +8,7 @@ use Rattle.exec_driver.{specs.{Driving.Driving, Punctual.IsPunctual}, proofs.Cou
 use Rattle.exec_machine.specs.Tests.{is_resolved}
 use Rattle.exec_moves.specs.declared.place.Place.{Place}
 use Rattle.exec_parts.{specs.{declared.parts.{mail.Reply.Reply, names.Names.Names, record.Record.Record, shared.Shared.Shared, sleeping.SleeperRecord.SleeperRecord, worker.{PutOff.PutOff, Worker.Worker}}, Records.number_in, Serving.changed_at, Calls.IsTold, View.driver_of}, proofs.Facts.{by_name, same_number}}
-use Rattle.exec_invariants.{specs.{Carried.IsCarried, Due.{AreTimed, IsWheelAt, may_be_due, wheel_moment}, Flown.HasFlown, Gates.IsKnown, Ordered.{IsOrdered, went_round}, Sound.{HasWidth, SoundAt, IsNamed, IsAlike, IsSubmitted, served_in, tellers}}, proofs.{Going.{GoesOn, AllGoOn, still, same_worker, same_id, over_on, rooted_on}, HeldCounts.held_written, Marking.{mark_if, marked, was_marked}, Serving.{Follows, KeepsBy, calm, kept}}}
+use Rattle.exec_invariants.{specs.{Carried.IsCarried, Due.{AreTimed, IsWheelAt, may_be_due, wheel_moment}, Flown.HasFlown, Gates.IsKnown, Ordered.{IsOrdered, went_round}, Names.{HasWidth, IsNamed, IsAlike, IsSubmitted, tellers}, Sound.{SoundAt, served_in}}, proofs.{Going.{GoesOn, AllGoOn, still, same_worker, same_id, over_on, rooted_on}, HeldCounts.held_written, Marking.{mark_if, marked, was_marked}, ServingHolds.{Follows, KeepsBy}, Serving.kept, ServingPlaces.calm}}
 
 -- THE RECORDS
 

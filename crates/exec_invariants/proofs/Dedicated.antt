@@ -1,5 +1,5 @@
 -- Workers of the pool and dedicated ones: what the numbers of workers and of their roots say.
-use Rattle.std.proofs.{Common.{◌≡◌, ◌≢◌, ℕ, ◌<◌, ◌≤◌, Bool, true, false, List, Option, Some, None, refl, sym, ap, ◌∙◌, length, slice_get, nat_lt, arith}, lemmas.{Bool.{false≢true, Decides.nat_tests}, Option.slice_get_within}}
+use Rattle.std.proofs.{Common.{◌≡◌, ℕ, ◌<◌, ◌≤◌, Bool, true, false, List, Option, Some, None, refl, sym, ap, ◌∙◌, length, slice_get, nat_lt, arith}, lemmas.{Bool.{false≢true, Decides.nat_tests}, Option.slice_get_within}}
 use Rattle.exec_moves.specs.declared.place.Place.{Place}
 use Rattle.exec_parts.specs.{declared.parts.{role.Role.Role, seat.Seat.Seat as Chair, shared.Shared.Shared, task_slot.TaskSlot.TaskSlot, worker.Worker.Worker}, Roles.is_pool}
 use Rattle.exec_invariants.specs.{Places.is_pooled_at, Sound.{AreHome, Serves, SoundAt}}

@@ -1,5 +1,5 @@
 -- A request of a worker that is over: what its record, its slot and the desk say of that.
-use Rattle.std.proofs.{Common.{◌≡◌, ◌≢◌, ℕ, ◌&&◌, ◌||◌, not, Bool, true, false, List, length, map, Some, None, refl, sym, ap, ◌∙◌, arith, slice_get, slice_index_or, if◌then◌else◌}, lemmas.{Bool.{false≢true, eq-eqb}, Option.get_or_from_slice_get}}
+use Rattle.std.proofs.{Common.{◌≡◌, ℕ, ◌&&◌, ◌||◌, not, Bool, true, false, List, length, map, Some, None, refl, sym, ap, ◌∙◌, arith, slice_get, slice_index_or, if◌then◌else◌}, lemmas.{Bool.{false≢true, eq-eqb}, Option.get_or_from_slice_get}}
 use Rattle.exec_base.specs.{Slab.{is_live, slot_at, value_at, value_in}, declared.{slab.{Id.Id, Slot.{Slot, TheVariants.{Live, Vacant, Retired}}}, task_no.TaskNo.TaskNo}}
 use Rattle.exec_outcomes.specs.declared.outcome.Outcome.{Outcome}
 use Rattle.exec_request.specs.declared.output.RequestOutput.{RequestOutput}
@@ -7,7 +7,7 @@ use Rattle.exec_waiters.{specs.{Events.{finished_for, waker_in}, States.{is_held
 use Rattle.exec_machine.specs.{declared.state.RequestPhase.{RequestPhase, TheVariants.Resolved}, Tests.{is_applied, is_resolved}}
 use Rattle.exec_moves.specs.{declared.place.Place.Place, Told.told_of_end}
 use Rattle.exec_parts.{specs.{declared.parts.{mail.Reply.Reply, record.Record.Record, shared.Shared.Shared, worker.Worker.Worker}, Records.{number_in, outcome_in}, View.{awaited_from, completions_in, desk_of, driver_of, results_in, slots_seen}}, proofs.Facts.same_thing}
-use Rattle.exec_invariants.{specs.{Holding.thing_of, Places.one_if, Rooted.{IsNear, goes_elsewhere}, Sound.{IsAlike, SoundAt}}, proofs.{DeskEnds.desk_ended, Known.low_there, ServedEnds.TellsEnd, ServedWakes.EndsThing, Slotted.OneSlot}}
+use Rattle.exec_invariants.{specs.{Holding.thing_of, Places.one_if, Rooted.{IsNear, goes_elsewhere}, Names.IsAlike, Sound.SoundAt}, proofs.{DeskEnds.desk_ended, Known.low_there, ServedEnds.TellsEnd, ServedWakes.EndsThing, Slotted.OneSlot}}
 
 outcome_open : (p : RequestPhase) → is_resolved p ≡ false → outcome_in p ≡ None
 outcome_open (Resolved x) h = absurd (false≢true (sym h))

@@ -1,5 +1,5 @@
 -- The enrolment of a deadline is a step.
-use Rattle.std.{proofs.{Common.{◌≡◌, ◌≢◌, ℕ, ◌^◌, ◌<◌, ◌&&◌, arith, Bool, true, false, not, Option, Some, None, refl, sym, ap, ◌∙◌, slice_get, is_some}, lemmas.Bool.false≢true}, specs.{Prelude.unwrap_or, VecDeque.deque_capacity}}
+use Rattle.std.{proofs.{Common.{◌≡◌, ℕ, ◌^◌, ◌<◌, ◌&&◌, arith, Bool, true, false, not, Option, Some, None, refl, sym, ap, ◌∙◌, slice_get, is_some}, lemmas.Bool.false≢true}, specs.{Prelude.unwrap_or, VecDeque.deque_capacity}}
 use Rattle.exec_base.specs.{Slab.value_at, declared.error.Error.Error}
 use Rattle.exec_outcomes.specs.Accounts.{is_durable}
 use Rattle.exec_request.specs.{Requests.{asked_of, deadline_of}, declared.request.Request.Request as Asking}
@@ -7,7 +7,7 @@ use Rattle.exec_waiters.{specs.{States.{waiter_at, takes_tick}, declared.{waiter
 use Rattle.exec_driver.specs.{Driving.{request_at, is_unenrolled}, Lists.first_of, Punctual.IsPunctual, Steps.EnrolsAs}
 use Rattle.exec_machine.specs.{declared.{event.Event.{Event, TheVariants.Enrol}, state.RequestPhase.RequestPhase}, Deadlines.enrolled, Requests.joined_if, Tests.is_kept}
 use Rattle.exec_parts.{specs.{declared.parts.{mail.Reply.Reply, record.Record.Record, shared.Shared.Shared, worker.Worker.Worker}, Records.number_in, Serving.{changed_at, first_tick, outcome_of_error}, View.driver_of}, proofs.Facts.some_of}
-use Rattle.exec_invariants.{specs.{Sound.IsAlike, Submits.IsNewIn}, proofs.{Known.low_there, ReapKinds.{durable_kept, kept_alone}, Staging.among_first, Starting.queued_phase}}
+use Rattle.exec_invariants.{specs.{Names.IsAlike, Submits.IsNewIn}, proofs.{Known.low_there, ReapKinds.{durable_kept, kept_alone}, Staging.among_first, Starting.queued_phase}}
 
 -- THE FIRST NEW DEADLINE
 

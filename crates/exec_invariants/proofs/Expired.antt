@@ -1,5 +1,5 @@
 -- A deadline that has come ends its request, which the kernel doesn't have.
-use Rattle.std.proofs.{Common.{◌≡◌, ◌≢◌, ◌+◌, ◌≤◌, ◌==◌, true, false, not, [], ◌∷◌, ◌++◌, map, filter, Option, Some, None, IsSome, refl, sym, ap, subst, ◌∙◌, arith, slice_set, is_some, if◌then◌else◌, Err}, lemmas.Bool.false≢true}
+use Rattle.std.proofs.{Common.{◌≡◌, ◌≢◌, ◌≤◌, ◌==◌, false, not, [], ◌∷◌, ◌++◌, map, filter, Option, Some, None, IsSome, refl, sym, ap, subst, ◌∙◌, arith, slice_set, is_some, if◌then◌else◌, Err}, lemmas.Bool.false≢true}
 use Rattle.exec_base.specs.{Slab.value_at, declared.error.Error.{Error, TheVariants.Timeout}}
 use Rattle.exec_outcomes.specs.{Accounts.is_durable, declared.outcome.Outcome.TheVariants.Failure}
 use Rattle.exec_request.specs.{Requests.output_of, States.asks_cancel}
@@ -7,9 +7,9 @@ use Rattle.exec_waiters.specs.{Events.{finished, told_by_finish, waker_in}, Stat
 use Rattle.exec_driver.specs.{Driving.{Driving, request_at, is_queued, is_unenrolled, is_cancelled}, Lists.{first_of, rest_of, after_due, without, withdrawn}, Punctual.IsPunctual, Steps.{cancelled_from, cancelling, ended, told_by_cancel, timed_out, unscheduled}}
 use Rattle.exec_task.specs.declared.body.Said.{Said}
 use Rattle.exec_machine.specs.{declared.{event.Event.{Event, TheVariants.Expire}, state.RequestPhase.RequestPhase}, Deadlines.{expired, outcome_at_expiry}, Same.same_end, Tests.{is_gated, is_queued as is_phase_queued}, World.{Common, request_of}, Requests.{joined_if, resolved}}
-use Rattle.exec_moves.specs.{Move.move_submit, Told.{told_if_ended, told_of_end}, Submit.{due_next, first_due, submits, Due.Expires}, declared.place.{Service.Service, Place.Place, InService.InService}}
+use Rattle.exec_moves.specs.{Move.move_submit, Told.{told_if_ended, told_of_end}, Submit.{due_next, first_due, submits, Due.Expires}, declared.place.{Place.Place, InService.InService}}
 use Rattle.exec_parts.specs.{declared.parts.{mail.Reply.Reply, shared.Shared.Shared, worker.Worker.Worker}, Records.number_in, Serving.changed_at, Spots.Spot, View.{visible, with_view, own_of, desk_of, driver_of, common_of, seat_seen, things_with, numbers_of}}
-use Rattle.exec_invariants.{specs.{Due.IsWheelAt, Gates.at_gate, Holding.nap_of, HoldPlaces.is_bare_at, Places.passes_at, Submits.{IsDueIn, IsInOrder}, Works.Steps}, proofs.{Serving.{at_large, serves_to, IsServed, OthersKept, keeps_home, Serves, SparesRecords, Keeps, KeepsBy, calm, kept, spares_one}, Enrolled.timed_free, Late.{over_named, stands, ends_as, same_error_self, same_place, tells_error}, Recorded.request_seen, EndsServed.{desk_over, ends_thing}, Lined.opens_same, ServedEnds.{TellsEnd, ends_told}, ServedWakes.balances_ended, Seeing.{makes, shows, served, common_changed, common_same, things_kept, desk_with}, Staging.{split_first, stages_again}, Ends.{flying_ended, numbers_without, without_first}, Orders.alike_unticked, Ousting.keeps_ended, Over.OneEnds, Resolving.{slab_after, unticked_at}, Starting.queued_phase, Expiring.{HasExpired, comes_to_due, due_first, expires, move_expire, same_change, told_first, unticked_start, unticked_tick}}}
+use Rattle.exec_invariants.{specs.{Due.IsWheelAt, Gates.at_gate, Holding.nap_of, HoldPlaces.is_bare_at, Places.passes_at, Submits.{IsDueIn, IsInOrder}, Works.Steps}, proofs.{Serving.{at_large, SparesRecords, kept, spares_one}, ServingHolds.{serves_to, IsServed, OthersKept, keeps_home, Serves, Keeps, KeepsBy}, ServingPlaces.calm, Enrolled.timed_free, Late.{over_named, stands, ends_as, same_error_self, same_place, tells_error}, Recorded.request_seen, EndsServed.{desk_over, ends_thing}, Lined.opens_same, ServedEnds.{TellsEnd, ends_told}, ServedWakes.balances_ended, Seeing.{makes, shows, served, common_changed, common_same, things_kept, desk_with}, Staging.{split_first, stages_again}, Ends.{flying_ended, numbers_without, without_first}, Orders.alike_unticked, Ousting.keeps_ended, Over.OneEnds, Resolving.{slab_after, unticked_at}, Starting.queued_phase, Expiring.{HasExpired, comes_to_due, due_first, expires, move_expire, same_change, told_first, unticked_start, unticked_tick}}}
 
 module _ {B L : Type 0} (left : B → L) (spot : L → Option Said → Spot) where
   pub expiry_ends : (w w' : Worker) (s s' : Shared B) (e : Event) (id : WaiterId) → (new : IsDueIn w s) → IsInOrder w s → (first : first_of (driver_of w).lists.due ≡ Some id) → (due_first w s new id first).it.in_flight ≡ false → HasExpired w w' s s' e id (due_first w s new id first).r → Steps left spot w s e w' s'

@@ -1,5 +1,5 @@
 -- The request whose deadline has come first.
-use Rattle.std.{proofs.{Common.{◌≡◌, ◌≢◌, ℕ, suc, ◌<◌, ◌^◌, ◌&&◌, not, arith, Bool, true, false, List, [], ◌∷◌, length, Option, Some, None, refl, sym, ap, subst, ◌∙◌, slice_get, slice_set, is_some, if◌then◌else◌, Err}, lemmas.Bool.false≢true}, specs.VecDeque.deque_capacity}
+use Rattle.std.{proofs.{Common.{◌≡◌, ℕ, suc, ◌<◌, ◌^◌, ◌&&◌, not, arith, Bool, true, false, List, [], ◌∷◌, length, Option, Some, None, refl, sym, ap, subst, ◌∙◌, slice_get, slice_set, is_some, if◌then◌else◌, Err}, lemmas.Bool.false≢true}, specs.VecDeque.deque_capacity}
 use Rattle.exec_base.specs.{Slab.value_at, declared.error.Error.TheVariants.Timeout}
 use Rattle.exec_time.specs.Wheel.{Wheel, removed}
 use Rattle.exec_request.specs.{Requests.deadline_of, States.asks_cancel, declared.results.WaiterState.{WaiterState, TheVariants.{Active, CancelRequested}}}
@@ -8,7 +8,7 @@ use Rattle.exec_driver.specs.{Driving.{request_at, is_enrolled}, Lists.first_of,
 use Rattle.exec_machine.specs.{declared.{event.Event.{Event, TheVariants.Expire}, state.{RequestPhase.RequestPhase, Request.Request}, config.Configuration.Configuration}, World.{Own, Common}, Deadlines.{outcome_at_expiry, expired, is_first_due}, Requests.joined_if, Tests.{is_in_flight, is_queued, is_gated}}
 use Rattle.exec_moves.specs.{declared.place.Service.Service, Told.told_if_ended, Serve.first_numbered, State.{Desk, Moved, Things}, Submit.{due_next, first_due, submits, Due.Expires}}
 use Rattle.exec_parts.{specs.{declared.parts.{mail.Reply.Reply, record.Record.Record, shared.Shared.Shared, worker.Worker.Worker}, Records.number_in, Serving.{changed_at, changed_in}, View.driver_of}, proofs.Facts.some_of}
-use Rattle.exec_invariants.{specs.{Sound.IsAlike, Submits.IsDueIn}, proofs.{Dating.{one_pending, room_by}, Enrolled.timed_free, Known.low_there, Resolving.slab_after, Seeing.makes, Staging.among_first}}
+use Rattle.exec_invariants.{specs.{Names.IsAlike, Submits.IsDueIn}, proofs.{Dating.{one_pending, room_by}, Enrolled.timed_free, Known.low_there, Resolving.slab_after, Seeing.makes, Staging.among_first}}
 
 -- nobody asked for the cancel of what stands on the wheel
 unasked_by : (x : WaiterState) (t : ℕ) → tick_in x ≡ Some t → asks_cancel x ≡ false

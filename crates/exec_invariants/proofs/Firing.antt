@@ -1,12 +1,12 @@
 -- The end of a service: a sleeper is told, or the service leads on.
-use Rattle.std.{specs.Option.option_map, proofs.{Common.{◌≡◌, ◌≢◌, ℕ, zero, suc, ◌≤◌, ◌<◌, ◌==◌, length, slice_index_or, ◌&&◌, Bool, true, false, not, List, [], ◌∷◌, map, Option, Some, None, IsSome, refl, sym, ap, subst, ◌∙◌, arith, slice_get, nat_le, if◌then◌else◌}, lemmas.{Bool.{false≢true, Decides.nat_tests}, Option.slice_get-map}}}
+use Rattle.std.{specs.Option.option_map, proofs.{Common.{◌≡◌, ℕ, zero, suc, ◌≤◌, ◌<◌, ◌==◌, length, slice_index_or, ◌&&◌, Bool, true, false, not, List, [], ◌∷◌, map, Option, Some, None, IsSome, refl, sym, ap, subst, ◌∙◌, arith, slice_get, nat_le, if◌then◌else◌}, lemmas.{Bool.{false≢true, Decides.nat_tests}, Option.slice_get-map}}}
 use Rattle.exec_base.specs.{Slab.{Slab, value_at}, declared.slab.Id.Id}
 use Rattle.exec_time.specs.{Sleepers.IsDue as IsSleepDue, declared.{notes.Notes.Notes, timers.Sleeper.Sleeper as Sleeping}}
 use Rattle.exec_task.specs.declared.body.Said.{Said}
 use Rattle.exec_machine.specs.{declared.{event.Event.{Event, TheVariants.Serve}, state.{Sleeper.Sleeper, Next.Next}}, Deadlines.is_none_earlier, Tests.{is_asleep, is_empty, is_open}, World.{Own, Common, no_sleeper, seat_of}}
 use Rattle.exec_moves.specs.{Seen.{polls_at, next_at, serves_at}, State.Desk, Serve.{after_service, first_to_fire, is_to_fire}, Slots.first_in, declared.{handing.AfterCallbacks.AfterCallbacks, place.{AfterService.AfterService, Service.Service, Place.Place, InCallbacks.InCallbacks, InMail.InMail, InService.InService}}}
 use Rattle.exec_parts.{specs.{declared.parts.{mail.Reply.Reply, names.Names.Names, shared.Shared.Shared, sleeping.SleeperRecord.SleeperRecord, worker.{Moments.Moments, Worker.Worker}}, Phased.closes_at, Spots.Spot, View.{visible, own_of, owed_at, desk_of, driver_of, common_of, seat_seen, things_with, message_of}}, proofs.Facts.and_none}
-use Rattle.exec_invariants.{specs.{Due.{AreAsleep, IsWheelAt, wheel_moment}, Holding.Mail, HoldPlaces.{has_wakes_at, is_bare_at}, Places.{is_armed_at, is_published_at, passes_at, searches_at}, Sound.{HasBatch, SoundAt, served_in}, Works.Steps}, proofs.{Unclosed.unclosed, Seats.own_seat, Seen.sleeper_at, Serving.{IsServed, Serves, SparesRecords, Keeps, KeepsBy, at_large, balances_still, calm, is_calm, kept, spares_same}, Seeing.{makes, served, common_same, things_kept}}}
+use Rattle.exec_invariants.{specs.{Due.{AreAsleep, IsWheelAt, wheel_moment}, Holding.Mail, HoldPlaces.{has_wakes_at, is_bare_at}, Places.{is_armed_at, is_published_at, passes_at, searches_at}, Sound.{HasBatch, SoundAt, served_in}, Works.Steps}, proofs.{Unclosed.unclosed, Seats.own_seat, Seen.sleeper_at, ServingHolds.{IsServed, Serves, Keeps, KeepsBy}, Serving.{SparesRecords, at_large, balances_still, kept, spares_same}, ServingPlaces.{calm, is_calm}, Seeing.{makes, served, common_same, things_kept}}}
 
 -- WHO IS NEXT
 

@@ -1,5 +1,5 @@
 -- A sleeper is over, and leaves its slot where it has one: what its worker keeps of sleepers then, and what is sent elsewhere.
-use Rattle.std.proofs.{Common.{◌≡◌, ◌≢◌, ℕ, ◌+◌, ◌≤◌, ◌<◌, Bool, true, false, Contains, List, ◌++◌, count_by, length, Some, IsSome, refl, sym, ap, subst, ◌∙◌, arith, inl, inr, slice_get, slice_set}, lemmas.{Bool.false≢true, List.{length-set, Elements.Contains-append_cases}}}
+use Rattle.std.proofs.{Common.{◌≡◌, ℕ, ◌+◌, ◌≤◌, ◌<◌, Bool, false, Contains, List, ◌++◌, count_by, length, Some, IsSome, refl, sym, ap, subst, ◌∙◌, arith, inl, inr, slice_get, slice_set}, lemmas.{Bool.false≢true, List.{length-set, Elements.Contains-append_cases}}}
 use Rattle.exec_base.specs.{Slab.{IsPast, Slab, value_at}, declared.slab.Id.Id}
 use Rattle.exec_time.specs.declared.{notes.ForwardedResult.ForwardedResult, timers.Sleeper.Sleeper as Sleeping}
 use Rattle.exec_waiters.specs.declared.deferred.Deferred.{Deferred}
@@ -7,7 +7,7 @@ use Rattle.exec_driver.specs.Driving.{Driving}
 use Rattle.exec_machine.specs.Tests.{is_asleep}
 use Rattle.exec_moves.specs.declared.handing.Heard.{Heard}
 use Rattle.exec_parts.{specs.{declared.parts.{mail.Reply.Reply, names.Names.Names, record.Record.Record, sleeping.SleeperRecord.SleeperRecord}, Records.number_in}, proofs.Facts.{by_number, same_thing, set_elsewhere, set_there}}
-use Rattle.exec_invariants.{specs.{Due.AreAsleep, Places.one_if, Rooted.{IsCompletion, IsRooted, SleeperPays, completions_of as sent_of, ends_elsewhere, goes_elsewhere, is_of_timer, results_of}, Sound.IsNamed}, proofs.{FiringNames.naps_set, ServedEnds.count_both}}
+use Rattle.exec_invariants.{specs.{Due.AreAsleep, Places.one_if, Rooted.{IsCompletion, IsRooted, SleeperPays, completions_of as sent_of, ends_elsewhere, goes_elsewhere, is_of_timer, results_of}, Names.IsNamed}, proofs.{FiringNames.naps_set, ServedEnds.count_both}}
 
 -- it doesn't sleep then
 pub record IsOverAs (i : ℕ) (z z' : SleeperRecord) : Type 0 where

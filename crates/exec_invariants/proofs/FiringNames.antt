@@ -1,10 +1,10 @@
 -- The names of a worker's sleepers: each is of one alone, and none is given again.
-use Rattle.std.proofs.{Common.{◌≡◌, inl, inr, ℕ, zero, suc, ◌+◌, ◌-◌, ◌^◌, ◌<◌, ◌≤◌, List, [], ◌∷◌, ◌++◌, length, Some, IsSome, refl, sym, ap, subst, ◌∙◌, arith, slice_get, slice_set}, lemmas.List.length-append}
+use Rattle.std.proofs.{Common.{◌≡◌, inl, inr, ℕ, zero, suc, ◌^◌, ◌<◌, ◌≤◌, List, [], ◌∷◌, ◌++◌, length, Some, IsSome, refl, sym, ap, subst, ◌∙◌, arith, slice_get, slice_set}, lemmas.List.length-append}
 use Rattle.exec_base.{specs.{Slab.{IsPast, Slab, TakesId, freed, next_generation, removed, slot_at, value_at}, declared.slab.Id.Id}, proofs.Slots.{Changed-set, IsLiveAt-from_value, live_within, past-free, was_live}}
 use Rattle.exec_time.specs.declared.timers.Sleeper.{Sleeper as Sleeping}
 use Rattle.exec_driver.specs.Driving.{Driving}
 use Rattle.exec_parts.{specs.{declared.parts.{mail.Reply.Reply, names.Names.Names, record.Record.Record, sleeping.SleeperRecord.SleeperRecord}, Records.number_in}, proofs.{Facts.{by_number, same_thing, set_elsewhere, set_there}, Taken.was_got}}
-use Rattle.exec_invariants.specs.{Due.AreNapsNamed, Sound.IsNamed}
+use Rattle.exec_invariants.specs.{Due.AreNapsNamed, Names.IsNamed}
 
 -- a sleeper of the worker stood there under this name
 pub record WasNap (i : ℕ) (ss : List SleeperRecord) (k : ℕ) (r' : SleeperRecord) : Type 0 where

@@ -7,7 +7,7 @@ use Rattle.exec_waiters.specs.declared.deferred.Deferred.{Deferred}
 use Rattle.exec_machine.specs.Tests.{is_applied, is_asleep}
 use Rattle.exec_moves.specs.{Slots.{is_in_slots, slot_of, vacated}, Told.{one_completion, told_of_cancel, without_timer}, declared.handing.Heard.Heard}
 use Rattle.exec_parts.{specs.{declared.parts.{mail.Reply.Reply, shared.Shared.Shared, sleeping.SleeperRecord.SleeperRecord, worker.Worker.Worker}, Calls.{sleeper_removed, IsTold}, MailTakes.RemovesSleeper, Records.number_in, View.{completions_in, desk_of, driver_of, number_heard, slots_from, slots_seen}}, proofs.Facts.{not_same, same_thing}}
-use Rattle.exec_invariants.{specs.{Due.AreAsleep, Places.one_if, Rooted.{IsRooted, Watches, completions_of as sent_of, ends_elsewhere, is_of_timer}, Sound.{HasWidth, tellers}}, proofs.{FiringGone.{IsOverAs, Leaves, asleep_over, named_over, rooted_over}, FiringNames.{removed_past, stands}, FiringSeen.{bed_named, one_bed}, FiringSlots.{OneBed, bed_in, bed_vacated}, ServedEnds.{count_none, count_one, none_in, only_one}, Serving.{KeepsSpare, KeepsWith}, TaskOverGone.RemovesSeen}}
+use Rattle.exec_invariants.{specs.{Due.AreAsleep, Places.one_if, Rooted.{IsRooted, Watches, completions_of as sent_of, ends_elsewhere, is_of_timer}, Names.{HasWidth, tellers}}, proofs.{FiringGone.{IsOverAs, Leaves, asleep_over, named_over, rooted_over}, FiringNames.{removed_past, stands}, FiringSeen.{bed_named, one_bed}, FiringSlots.{OneBed, bed_in, bed_vacated}, ServedEnds.{count_none, count_one, none_in, only_one}, ServingHolds.{KeepsSpare, KeepsWith}, TaskOverGone.RemovesSeen}}
 
 -- ITS RECORD
 

@@ -1,5 +1,5 @@
 -- The sleeper that fires first is the one that the machine fires; and what stands on the desk then.
-use Rattle.std.{proofs.{Common.{◌≡◌, ◌≢◌, ℕ, ◌+◌, ◌^◌, ◌<◌, ◌≤◌, ◌&&◌, ◌||◌, Bool, true, false, not, List, [], ◌∷◌, ◌++◌, zero, suc, length, map, nat_le, nat_lt, Option, Some, None, IsSome, Ok, if◌then◌else◌, refl, sym, ap, subst, ◌∙◌, arith, slice_get, slice_index_or}, lemmas.{Bool.{false≢true, Decides.nat_tests}, List.{append-nil, map-append}}}, specs.{List.list_all, Option.option_map}}
+use Rattle.std.{proofs.{Common.{◌≡◌, ℕ, ◌^◌, ◌<◌, ◌≤◌, ◌&&◌, ◌||◌, Bool, true, false, not, List, [], ◌∷◌, ◌++◌, zero, suc, length, map, nat_le, nat_lt, Option, Some, None, IsSome, Ok, if◌then◌else◌, refl, sym, ap, subst, ◌∙◌, arith, slice_get, slice_index_or}, lemmas.{Bool.{false≢true, Decides.nat_tests}, List.{append-nil, map-append}}}, specs.{List.list_all, Option.option_map}}
 use Rattle.exec_base.{specs.{Slab.{IsPast, Slab, is_live, next_generation, removed, value_at}, declared.{slab.{Id.Id, Slot.{Slot, TheVariants.{Live, Retired, Vacant}}}, task_no.TaskNo.TaskNo}}, proofs.Slots.was_live}
 use Rattle.exec_time.specs.{Notes.Adds, Sleepers.{IsFirst, completions_of, wakes_of}, declared.{notes.ForwardedResult.ForwardedResult, timers.{Observer.Observer as Watching, Sleeper.Sleeper as Sleeping}}}
 use Rattle.exec_time.specs.declared.timers.Observer.TheVariants as sleep
@@ -8,7 +8,7 @@ use Rattle.exec_driver.specs.Driving.{Driving}
 use Rattle.exec_machine.specs.{Deadlines.is_none_earlier, Tests.is_asleep, World.{Common, Own, no_sleeper}}
 use Rattle.exec_moves.specs.{Serve.is_to_fire, Slots.{Slots, vacated}, State.Desk, Told.{one_completion, told_of_fire, without_timer}}
 use Rattle.exec_parts.{specs.{declared.parts.{mail.Reply.Reply, names.Names.Names, record.Record.Record, sleeping.SleeperRecord.SleeperRecord}, Records.number_in, View.{completions_in, number_heard, slots_seen}}, proofs.Facts.same_thing}
-use Rattle.exec_invariants.{specs.{Due.AreAsleep, Rooted.Watches, Sound.IsNamed}, proofs.{Fired.{all_by, le_is}, Firing.slept_there, FiringSlots.{OneBed, bed_vacated, value_of_slot}, Seen.sleeper_at, Unclosed.unclosed}}
+use Rattle.exec_invariants.{specs.{Due.AreAsleep, Rooted.Watches, Names.IsNamed}, proofs.{Fired.{all_by, le_is}, Firing.slept_there, FiringSlots.{OneBed, bed_vacated, value_of_slot}, Seen.sleeper_at, Unclosed.unclosed}}
 
 -- NAMES
 

@@ -3,7 +3,7 @@ use Rattle.std.proofs.{Common.{◌≡◌, ◌≢◌, ℕ, zero, suc, ◌+◌, �
 use Rattle.exec_base.{specs.{Slab.{Slab, freed, is_live, removed, value_at, value_in}, declared.slab.{Id.Id, Slot.{Slot, TheVariants.{Live, Vacant, Retired}}}}, proofs.Slots.{IsLiveAt-from_value, live_within}}
 use Rattle.exec_moves.specs.Slots.{first_in, is_in_slots, slot_of, vacated}
 use Rattle.exec_parts.{specs.{Records.number_in, View.{slots_from, slots_seen}}, proofs.Facts.{not_same, same_thing}}
-use Rattle.exec_invariants.proofs.Spared.{there_within}
+use Rattle.exec_invariants.proofs.SparedRecord.{there_within}
 
 number_there : (numbers : List ℕ) (id : Id) → slice_index_or numbers (0 + id.index) 0 ≡ number_in numbers id
 number_there numbers id = ap (λ m. slice_index_or numbers m 0) (let e : 0 + id.index ≡ id.index = omega arith in e)

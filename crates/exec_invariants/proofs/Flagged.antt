@@ -1,6 +1,6 @@
 -- The act by which a task wakes its worker's root, or the root itself: the root is flagged where it was idle.
-use Rattle.std.proofs.{Common.{◌≡◌, ◌≢◌, ℕ, ◌==◌, ◌||◌, Bool, true, false, List, length, Option, Some, None, refl, sym, ap, subst, ◌∙◌, is_some, option_to_list, slice_get, slice_set, if◌then◌else◌}, lemmas.Bool.{false≢true, eq-eqb}}
-use Rattle.exec_task.specs.{Phases.{is_polled, is_idle as is_cell_idle, runnable_of, woken as cell_woken}, declared.{body.{Act.Act, Said.Said}, runnable.Runnable.Runnable, task.Phase.Phase}}
+use Rattle.std.proofs.{Common.{◌≡◌, ℕ, ◌==◌, ◌||◌, Bool, true, false, List, length, Option, Some, None, refl, sym, ap, subst, ◌∙◌, is_some, option_to_list, slice_get, slice_set, if◌then◌else◌}, lemmas.Bool.{false≢true, eq-eqb}}
+use Rattle.exec_task.specs.{Phases.{is_polled, is_idle as is_cell_idle, runnable_of, woken as cell_woken}, declared.{body.{Said.Said}, runnable.Runnable.Runnable, task.Phase.Phase}}
 use Rattle.exec_machine.specs.{Choice.{Choice.Pays, Payer.ByAct}, declared.{config.Configuration.Configuration, event.Event.TheVariants.Wake}, Progress.Plan, Tasks.is_woken_here, World.{Common, task_of}}
 use Rattle.exec_moves.specs.{declared.place.{InPoll.InPoll, Place.Place}, Callback.flagged_by, Move.move_wake, Seen.polls_at, Send.wake_own_root, State.{Desk, Moved, Things, goes}}
 use Rattle.exec_parts.{specs.{declared.parts.{shared.Shared.Shared, task_slot.TaskSlot.TaskSlot, worker.Worker.Worker}, Phased.is_complete, Pooled.woken_slot, Spots.Spot, View.{Views, common_of, desk_of, things_with}}, proofs.Facts.{same_thing, set_elsewhere, set_there}}

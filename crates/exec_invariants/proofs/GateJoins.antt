@@ -11,7 +11,7 @@ use Rattle.exec_task.specs.declared.body.Said.{Said}
 use Rattle.exec_machine.specs.{declared.{event.Event.{Event, TheVariants.Turn}, state.Request.Request}, Choice.Choice.Plain, Progress.Plan, Requests.open_joined_by, World.{no_open, open_of, request_of}}
 use Rattle.exec_moves.specs.{declared.place.{InPoll.InPoll, Place.Place}, State.gate_of}
 use Rattle.exec_parts.{specs.{declared.parts.{mail.Reply.Reply, record.Record.Record, seat.Seat.Seat as Chair, shared.Shared.Shared, task_slot.TaskSlot.TaskSlot, worker.Worker.Worker}, Admitting.{HasPlaceAt, joined_at}, Records.number_in, Spots.Spot, View.{Views, common_of, desk_of, driver_of, gate_seen, open_seen, things_with, visible, with_view}}, proofs.Facts.{and_parts, same_thing}}
-use Rattle.exec_invariants.{specs.{Drained.{Duties, IsPool}, Gates.{AreLinedUp, HaveGates, IsKnown, has_hint_at, key_for, may_ask_hint}, Places.{Drops, drops_at, polled_in}, Sound.{HasGuest, IsTied, SoundAt, Stands, served_in}, Spares.Spares, Whole.{HasWhole, IsWhole, Profile, duties_of, with_worker}, Works.{Beside, Steps, Suits, Works}}, proofs.{Aside.{record_spared, sleeper_spared, spared}, GateLines.{MayJoin, gate_then, gates_joined, hints_joined, joined_in, lined_joined, open_then, place_made}, Gated.{durable_of_file, gate_there, stands_there, ungated_open}, Hearing.unheard, PoolKept.{chosen_other, chosen_own}, Recorded.request_seen, Slots.gates_free, Spared.{records_endure, sleepers_endure, there_within}, Turning.view_found}}
+use Rattle.exec_invariants.{specs.{Drained.{Duties, IsPool}, Gates.{AreLinedUp, HaveGates, IsKnown, has_hint_at, key_for, may_ask_hint}, Places.{Drops, drops_at, polled_in}, Sound.{HasGuest, IsTied, SoundAt, Stands, served_in}, Spares.Spares, Whole.{HasWhole, IsWhole, Profile, duties_of, with_worker}, Works.{Beside, Steps, Suits, Works}}, proofs.{Aside.{record_spared, sleeper_spared, spared}, GateLines.{MayJoin, gate_then, gates_joined, hints_joined, joined_in, lined_joined, open_then, place_made}, Gated.{durable_of_file, gate_there, stands_there, ungated_open}, Hearing.unheard, PoolKept.{chosen_other, chosen_own}, Recorded.request_seen, Slots.gates_free, Spared.{records_endure, sleepers_endure}, SparedRecord.there_within, Turning.view_found}}
 
 abbrev joins_here : ℕ → ℕ → Place
 joins_here t k = Place.Poll t (InPoll.JoinGate k)

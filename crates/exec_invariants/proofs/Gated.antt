@@ -10,7 +10,7 @@ use Rattle.exec_ring.specs.declared.store.Store.{Store}
 use Rattle.exec_machine.specs.{declared.state.{Request.Request, RequestPhase.RequestPhase}, Tests.{is_gated, is_of_file, is_resolved}, World.Common}
 use Rattle.exec_moves.specs.{declared.place.InService.InService, Serve.first_numbered, Submit.{next_gate, waits_at}}
 use Rattle.exec_parts.{specs.{declared.parts.{mail.Reply.Reply, names.Names.Names, record.Record.Record, sleeping.SleeperRecord.SleeperRecord}, Records.number_in}, proofs.Facts.{and_none, and_parts, both_true, never_true, or_right, same_number, same_thing}}
-use Rattle.exec_invariants.{specs.{Carried.IsCarried, Flown.HasFlown, Gates.AreLinedUp, Sound.{IsAlike, IsNamed}}, proofs.{Idling.{first_none, none_any, shown_at}, Lined.mapped, Spared.there_within}}
+use Rattle.exec_invariants.{specs.{Carried.IsCarried, Flown.HasFlown, Gates.AreLinedUp, Names.{IsAlike, IsNamed}}, proofs.{Idling.{first_none, none_any, shown_at}, Lined.mapped, SparedRecord.there_within}}
 
 -- ITS GATE
 

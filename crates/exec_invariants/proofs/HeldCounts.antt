@@ -3,7 +3,7 @@ use Rattle.std.proofs.{Common.{◌≡◌, ℕ, zero, suc, ◌+◌, ◌^◌, ltb,
 use Rattle.exec_base.specs.{Slab.{Slab, freed, is_live, removed, value_at, written}, declared.slab.{Id.Id, Slot.{Slot, TheVariants.{Live, Vacant, Retired}}}}
 use Rattle.exec_waiters.{specs.{States.is_held, declared.waiter.Entry.Entry}, proofs.Changes.{at_by, one_if}}
 use Rattle.exec_parts.specs.{declared.parts.mail.Reply.Reply, View.{awaited_from, awaits_entry, is_awaited, slots_from}}
-use Rattle.exec_invariants.specs.Sound.{counts_held, held_count}
+use Rattle.exec_invariants.specs.Names.{counts_held, held_count}
 
 pub held_written : (s : Slab (Entry Reply Reply)) (id : Id) (was is : Entry Reply Reply) → value_at s id ≡ Some was → held_count (written s id is) + one_if (is_held was) ≡ held_count s + one_if (is_held is)
 held_written s id was is at =

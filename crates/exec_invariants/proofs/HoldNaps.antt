@@ -1,5 +1,5 @@
 -- WHAT TASKS HOLD, where one takes the end of its sleep.
-use Rattle.std.proofs.{Common.{◌≡◌, ◌≢◌, ℕ, ◌<◌, ◌&&◌, ◌||◌, Bool, true, false, not, cond, List, Some, None, IsSome, sym, ap, subst, ◌∙◌, arith, slice_get, slice_set}, lemmas.Bool.false≢true}
+use Rattle.std.proofs.{Common.{◌≡◌, ℕ, ◌<◌, ◌&&◌, ◌||◌, Bool, true, false, not, cond, List, Some, None, IsSome, sym, ap, subst, ◌∙◌, arith, slice_get, slice_set}, lemmas.Bool.false≢true}
 use Rattle.exec_words.specs.declared.inbox.Message.{Message}
 use Rattle.exec_parts.proofs.Facts.{and_none, by_number, same_thing, set_elsewhere, set_there}
 use Rattle.exec_invariants.{specs.Holding.{Box, Hands, Holder, HoldsRequest, IsHeldBy, IsHolding, MayHave, Nap, NapOwes, Owes, Thing, holdings, is_awaited_by, under_way}, proofs.{HoldRedo.sum_set, HoldSteps.{awaits_on, held_in, holdings_on, homes_on}}}

@@ -1,10 +1,9 @@
 -- WHAT TASKS HOLD, where a task takes an output, waits for a request, or lets go of one.
-use Rattle.std.proofs.{Common.{◌≡◌, ◌≢◌, ◌⊎◌, inl, inr, ⊎_elim, ℕ, zero, suc, ◌+◌, ◌-◌, ◌<◌, ◌≤◌, ◌==◌, ◌&&◌, Bool, true, false, not, cond, List, [], ◌∷◌, ◌++◌, count_by, length, Option, Some, None, IsSome, is_some, Result, Ok, Err, refl, sym, ap, subst, ◌∙◌, arith, slice_get, slice_set}, lemmas.{Bool.{false≢true, eq-eqb}, List.Sums.{sum_by-cons, sum_by-append}}}
+use Rattle.std.proofs.{Common.{◌≡◌, ◌≢◌, ◌⊎◌, inl, inr, ⊎_elim, ℕ, zero, suc, ◌+◌, ◌<◌, ◌≤◌, ◌==◌, ◌&&◌, Bool, true, false, not, cond, List, [], ◌∷◌, ◌++◌, count_by, length, Option, Some, None, IsSome, is_some, Result, Ok, Err, refl, sym, ap, subst, ◌∙◌, arith, slice_get, slice_set}, lemmas.{Bool.{false≢true, eq-eqb}, List.Sums.{sum_by-cons, sum_by-append}}}
 use Rattle.exec_base.specs.declared.{error.Error.Error, one_shot.OneShotState.{OneShotState, TheVariants.{Open, Sent, Closed}}}
 use Rattle.exec_outcomes.specs.declared.outcome.Outcome.{Outcome}
 use Rattle.exec_request.specs.declared.output.RequestOutput.{RequestOutput}
 use Rattle.exec_machine.specs.Tests.{is_unsent}
-use Rattle.exec_machine.specs.declared.state.Forwarding.TheVariants as forwarding
 use Rattle.exec_words.specs.declared.inbox.Message.{Message}
 use Rattle.exec_parts.{specs.declared.parts.{held.Held.Held, mail.Subject.Subject}, proofs.Facts.{and_none, by_number, not_same, same_thing, set_elsewhere, set_there}}
 use Rattle.exec_invariants.{specs.Holding.{Awaits, Box, Hands, HasAnswer, Holder, HoldsRequest, IsHeldBy, IsHolding, IsOrdinary, IsOwed, MayHave, Nap, Owes, Thing, ThingOwes, holdings, is_awaited_by, under_way, waiters}, proofs.HoldRedo.{count_set, holding_redone, sum_set}}

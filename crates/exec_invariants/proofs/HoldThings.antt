@@ -7,7 +7,7 @@ use Rattle.exec_words.specs.Queue.{tail_of}
 use Rattle.exec_machine.specs.Tests.{is_resolved}
 use Rattle.exec_moves.specs.{declared.place.{InPoll.InPoll, Place.Place}, Seen.polls_at}
 use Rattle.exec_parts.{specs.{declared.parts.{mail.Subject.Subject, record.Record.Record, shared.Shared.Shared, sleeping.SleeperRecord.SleeperRecord, task_slot.TaskSlot.TaskSlot, worker.Worker.Worker}, Serving.{changed_at, changed_in}, View.driver_of}, proofs.Facts.{by_number, same_thing, set_elsewhere, set_there}}
-use Rattle.exec_invariants.{specs.{Carried.{Carried, HasRoom, IsUnderWay, may_move, room_for}, Due.IsDue, Holding.Mail, Gates.{AreLinedUp, IsKnown, at_gate, has_hint_at, may_ask_hint}, HoldPlaces.{cancels_at, heard_at, sends_cancel_at}, Places.step_of_poll, Sound.{HasLetters, IsMyMail, SoundAt, Stops, served_in}, Spares.{RecordsEndure, SleepersEndure, Spares, SparesRecord, SparesSleeper}}, proofs.{Aside.spared, HoldRedo.sum_set, Lined.{KeepsLines, SameAtGate, lined_kept, lines_changed, lines_same}, Spared.{KeepsMine, sleepers_stay, endures_by, heard_apart, letter_apart, live_of, mail_apart, named_apart, over_apart, over_still, record_back, rooted_apart, sleeper_endures_by, sleeper_spared, spared_same, stops_apart, timed_apart, asleep_apart, flown_apart, worker_still}}}
+use Rattle.exec_invariants.{specs.{Carried.{Carried, HasRoom, IsUnderWay, may_move, room_for}, Due.IsDue, Holding.Mail, Gates.{AreLinedUp, IsKnown, at_gate, has_hint_at, may_ask_hint}, HoldPlaces.{cancels_at, heard_at, sends_cancel_at}, Places.step_of_poll, Sound.{HasLetters, IsMyMail, SoundAt, Stops, served_in}, Spares.{RecordsEndure, SleepersEndure, Spares, SparesRecord, SparesSleeper}}, proofs.{Aside.spared, HoldRedo.sum_set, Lined.{KeepsLines, SameAtGate, lined_kept, lines_changed, lines_same}, Spared.{KeepsMine, heard_apart, letter_apart, mail_apart, named_apart, over_apart, record_back, rooted_apart, stops_apart, timed_apart, asleep_apart, flown_apart}, SparedRecord.{sleepers_stay, endures_by, live_of, over_still, sleeper_endures_by, sleeper_spared, spared_same, worker_still}}}
 
 module _ {B : Type 0} where
   pub record Touches (s s' : Shared B) : Type 0 where

@@ -2,7 +2,6 @@
 use Rattle.std.proofs.{Common.{◌≡◌, ◌≢◌, ◌⊎◌, ⊎_elim, ℕ, zero, suc, ◌+◌, ◌-◌, ◌<◌, ◌≤◌, ◌&&◌, Bool, true, false, not, List, [], ◌∷◌, length, sum_by, Option, Some, None, IsSome, refl, sym, ap, subst, ◌∙◌, arith, slice_get, slice_set}, lemmas.Bool.false≢true}
 use Rattle.exec_base.specs.declared.one_shot.OneShotState.TheVariants.{Open}
 use Rattle.exec_machine.specs.{declared.state.Forwarding.Forwarding, Tests.is_unsent}
-use Rattle.exec_machine.specs.declared.state.Forwarding.TheVariants as forwarding
 use Rattle.exec_words.specs.declared.inbox.Message.{Message}
 use Rattle.exec_parts.{specs.{declared.parts.{held.Held.Held, mail.Subject.Subject}, Records.numbers_held}, proofs.Facts.{and_none, by_number, same_thing, set_elsewhere, set_there}}
 use Rattle.exec_invariants.{specs.Holding.{Awaits, AwaitsThing, Box, Hands, HasAnswer, Holder, HoldsRequest, IsAbout, IsForwarded, IsHeldBy, IsHolding, Mail, MayHave, Nap, Owes, Thing, ThingOwes, holdings, is_awaited_by, mail_in, under_way}, proofs.{HoldRedo.holding_redone, HoldSteps.{awaits_on, held_in, held_there, hold_twice, holdings_on, homes_on, waiters_on}}}

@@ -7,7 +7,7 @@ use Rattle.exec_driver.specs.Driving.{Driving}
 use Rattle.exec_machine.specs.{declared.{config.Configuration.Configuration, state.Request.Request}, Deadlines.{is_due, is_first_due}, Tests.is_resolved, World.{Own, Common}}
 use Rattle.exec_moves.specs.{declared.place.InService.InService, Serve.first_numbered, State.Desk, Submit.{first_due, next_gate, due_next, staging_due}}
 use Rattle.exec_parts.{specs.{declared.parts.{mail.Reply.Reply, names.Names.Names, record.Record.Record, sleeping.SleeperRecord.SleeperRecord, worker.Moments.Moments}, Records.number_in}, proofs.Facts.same_number}
-use Rattle.exec_invariants.{specs.{Due.{IsDue, wheel_moment}, Sound.IsNamed}, proofs.Recorded.request_seen}
+use Rattle.exec_invariants.{specs.{Due.{IsDue, wheel_moment}, Names.IsNamed}, proofs.Recorded.request_seen}
 
 -- LISTS
 

@@ -1,11 +1,11 @@
 -- One more result of a request of the first kinds: the driver and the machine judge it the same.
-use Rattle.std.{proofs.{Common.{◌≡◌, ℕ, ◌+◌, ◌-◌, ◌^◌, ◌<◌, ◌≤◌, ◌&&◌, Bool, true, false, not, List, [], ◌∷◌, length, Option, Some, None, refl, sym, ap, ◌∙◌, arith, nat_le, min, if◌then◌else◌, ◌⊎◌, inl, inr}, lemmas.Bool.{false≢true, Decides.nat_tests}}, specs.List.{after_first, find, list_any}}
+use Rattle.std.{proofs.{Common.{◌≡◌, ℕ, ◌+◌, ◌-◌, ◌^◌, ◌<◌, ◌≤◌, ◌&&◌, Bool, true, false, not, List, [], ◌∷◌, Option, Some, None, refl, sym, ap, ◌∙◌, arith, nat_le, min, if◌then◌else◌, ◌⊎◌, inl, inr}, lemmas.Bool.{false≢true, Decides.nat_tests}}, specs.List.{after_first, find, list_any}}
 use Rattle.exec_outcomes.specs.{Lawful.{aligned, is_lawful, window_in, window_of}, Outcomes.{Asked, Cursor, Part, bytes_of, counted_for, cursor_next, decides, first_length, first_part, lasting, moves_bytes, moves_on, outcome_by, outcome_by_stop, outcome_next, outcome_of_part, part_now, passes_on, refuses_hint, results_in, second_part, stops, verdict, with_totals}, declared.outcome.{Judged.Judged, Kind.Kind, OpResult.{OpResult, TheVariants.{Count, Errno}}, Outcome.Outcome}}
 use Rattle.exec_request.specs.{Judging.{Judges, judged_as}, Requests.{asked_of, cursor_of, hinted_of}, declared.request.Request.Request as Asking}
 use Rattle.exec_waiters.specs.declared.waiter.Waiter.{Waiter}
 use Rattle.exec_machine.specs.{declared.state.Request.Request, Requests.{outcome_given, went_on, judged_of, cursor_of as cursor_in}}
 use Rattle.exec_parts.{specs.declared.parts.mail.Reply.Reply, proofs.Facts.and_none}
-use Rattle.exec_invariants.specs.Sound.{IsAlike}
+use Rattle.exec_invariants.specs.Names.{IsAlike}
 
 -- WHAT A RESULT MEANS doesn't hang on whether the operations may still have the hint
 

@@ -1,5 +1,5 @@
 -- A deadline that has passed, or is beyond the wheel, ends its request.
-use Rattle.std.{proofs.{Common.{◌≡◌, ◌≢◌, ℕ, ◌+◌, ◌-◌, ◌*◌, ◌^◌, ◌<◌, ◌≤◌, ◌==◌, ◌&&◌, Bool, true, false, not, [], ◌∷◌, ◌++◌, map, filter, is_some, Option, Some, None, IsSome, IfSome, refl, sym, ap, subst, ◌∙◌, arith, slice_get, slice_set, drop, Result, Ok, Err}, lemmas.Bool.{false≢true, eq-eqb}}, specs.Option.option_map}
+use Rattle.std.{proofs.{Common.{◌≡◌, ◌≢◌, ℕ, ◌+◌, ◌*◌, ◌^◌, ◌<◌, ◌≤◌, ◌==◌, ◌&&◌, Bool, true, false, not, [], ◌∷◌, ◌++◌, map, filter, is_some, Option, Some, None, IsSome, IfSome, refl, sym, ap, subst, ◌∙◌, arith, slice_get, slice_set, drop, Result, Ok, Err}, lemmas.Bool.{false≢true, eq-eqb}}, specs.Option.option_map}
 use Rattle.exec_base.specs.{Slab.value_at, declared.error.Error.Error}
 use Rattle.exec_outcomes.specs.{Accounts.is_durable, declared.outcome.Outcome.{Outcome, TheVariants.Failure}}
 use Rattle.exec_request.specs.{Requests.{deadline_of, output_of}, declared.request.Request.Request as Asking}
@@ -9,7 +9,7 @@ use Rattle.exec_task.specs.declared.body.Said.{Said}
 use Rattle.exec_machine.specs.{declared.{event.Event.{Event, TheVariants.Enrol}, state.Request.Request}, Deadlines.outcome_at_enrol, Same.{is_none, is_number, same_end}, Tests.{is_applied, is_gated, is_queued as is_phase_queued, is_resolved}, World.{Common, request_of}, Requests.resolved}
 use Rattle.exec_moves.specs.{Move.move_submit, Slots.vacated, Told.{has_number, told_of_end, waker_of}, State.Desk, Submit.{due_next, first_due, submits, Due.Enrols}, declared.place.{Service.Service, Place.Place, InService.InService}}
 use Rattle.exec_parts.{specs.{declared.parts.{mail.Reply.Reply, record.Record.Record, shared.Shared.Shared, worker.Worker.Worker}, Records.number_in, Serving.{changed_at, outcome_of_error}, Spots.Spot, View.{visible, with_view, own_of, desk_of, driver_of, common_of, seat_seen, things_with, numbers_of}}, proofs.Facts.and_none}
-use Rattle.exec_invariants.{specs.{Due.IsWheelAt, Gates.at_gate, Holding.nap_of, HoldPlaces.is_bare_at, Places.passes_at, Submits.IsNewIn, Works.Steps, Rooted.outcome_told}, proofs.{Serving.{at_large, serves_to, IsServed, OthersKept, keeps_home, Serves, SparesRecords, Keeps, KeepsBy, calm, kept, spares_one}, Recorded.request_seen, EndsServed.{desk_over, ends_thing}, Lined.opens_same, ServedEnds.{TellsEnd, ends_told}, ServedWakes.balances_ended, Enrolled.{HasEnrolled, new_first, timed_free}, Keys.name_in, Enrolling.enrol_same, Idling.none_due, Seeing.{makes, shows, served, common_changed, common_same, things_kept, desk_with}, Staging.{split_first, stages_again}, Ends.{flying_ended, later_in, numbers_without, without_first}, Orders.alike_unticked, Ousting.keeps_ended, Over.OneEnds, Resolving.{slab_after, unticked_at}, Timed.{comes_to_new, move_enrol, unset}}}
+use Rattle.exec_invariants.{specs.{Due.IsWheelAt, Gates.at_gate, Holding.nap_of, HoldPlaces.is_bare_at, Places.passes_at, Submits.IsNewIn, Works.Steps, Rooted.outcome_told}, proofs.{Serving.{at_large, SparesRecords, kept, spares_one}, ServingHolds.{serves_to, IsServed, OthersKept, keeps_home, Serves, Keeps, KeepsBy}, ServingPlaces.calm, Recorded.request_seen, EndsServed.{desk_over, ends_thing}, Lined.opens_same, ServedEnds.{TellsEnd, ends_told}, ServedWakes.balances_ended, Enrolled.{HasEnrolled, new_first, timed_free}, Keys.name_in, Enrolling.enrol_same, Idling.none_due, Seeing.{makes, shows, served, common_changed, common_same, things_kept, desk_with}, Staging.{split_first, stages_again}, Ends.{flying_ended, later_in, numbers_without, without_first}, Orders.alike_unticked, Ousting.keeps_ended, Over.OneEnds, Resolving.{slab_after, unticked_at}, Timed.{comes_to_new, move_enrol, unset}}}
 pub use Rattle.exec_invariants.proofs.Results.{same_error_self}
 pub use Rattle.exec_invariants.proofs.Mine.{stands}
 

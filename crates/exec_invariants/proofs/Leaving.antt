@@ -9,7 +9,7 @@ use Rattle.exec_driver.specs.{Driving.Driving, Lists.{is_among, withdrawn}}
 use Rattle.exec_machine.specs.Tests.{is_resolved}
 use Rattle.exec_moves.specs.declared.place.InService.{InService}
 use Rattle.exec_parts.{specs.{declared.parts.{mail.Reply.Reply, names.Names.Names, record.Record.Record, sleeping.SleeperRecord.SleeperRecord}, Records.number_in, Serving.changed_at}, proofs.Facts.same_number}
-use Rattle.exec_invariants.{specs.{Due.AreTimed, Flown.{IsPolled, AreLanded, HasFlown, IsPlain, operations}, Sound.IsNamed}, proofs.{Flown.landed_on, Marking.{mark_if, marked, was_marked}, Over.{OneEnds, kept_worker, is_over}, Resolving.{EntryAfter, among_still, left_among}}}
+use Rattle.exec_invariants.{specs.{Due.AreTimed, Flown.{IsPolled, AreLanded, HasFlown, IsPlain, operations}, Names.IsNamed}, proofs.{Flown.landed_on, Marking.{mark_if, marked, was_marked}, Over.{OneEnds, kept_worker, is_over}, Resolving.{EntryAfter, among_still, left_among}}}
 
 number_not : (k m : ℕ) → (k ≡ m → ⊥) → (b : Bool) → (k == m) ≡ b → b ≡ false
 number_not k m apart true is = absurd (apart (same_number k m is))

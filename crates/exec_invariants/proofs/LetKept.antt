@@ -1,15 +1,15 @@
 -- NOBODY HOLDS A REQUEST ANY MORE, and its worker lets go of it: all of the worker's own that holds again, wherever it is outside a
 -- service.
-use Rattle.std.proofs.{Common.{◌≡◌, ◌≢◌, ◌⊎◌, ℕ, ◌+◌, ◌-◌, ◌≤◌, ◌==◌, ◌&&◌, ◌||◌, Bool, true, false, not, Contains, List, [], ◌∷◌, ◌++◌, count_by, cond, Some, None, Err, refl, sym, ap, subst, ◌∙◌, inl, inr, arith, slice_get, is_some, if◌then◌else◌}, lemmas.{Bool.{false≢true, eq-eqb}, List.{append-nil, set-set, Elements.Contains-append_cases, Sums.sum_by-append}}}
+use Rattle.std.proofs.{Common.{◌≡◌, ◌⊎◌, ℕ, ◌+◌, ◌≤◌, ◌==◌, ◌&&◌, ◌||◌, Bool, true, false, not, Contains, List, [], ◌∷◌, ◌++◌, count_by, cond, Some, None, Err, refl, sym, ap, subst, ◌∙◌, inl, inr, arith, slice_get, is_some}, lemmas.{Bool.{false≢true, eq-eqb}, List.{append-nil, set-set, Elements.Contains-append_cases, Sums.sum_by-append}}}
 use Rattle.exec_base.specs.{Slab.{Slab, value_at, written}, declared.{error.Error.TheVariants.{Closed, Timeout}, task_no.TaskNo.TaskNo, slab.{Id.Id, Slot.TheVariants.Live}}}
 use Rattle.exec_outcomes.specs.declared.outcome.Outcome.TheVariants.{Failure}
 use Rattle.exec_request.specs.Requests.{asked_of, deadline_of}
 use Rattle.exec_waiters.{specs.{Events.{cancelled as cancelled_of, told_to, with_observer}, States.{is_held_by, pending_count, tick_in, tick_of, waiter_at}, Told.{Told, Tells}, declared.{deferred.{Answer.Answer, Deferred.Deferred}, observer.Observer.{Observer, TheVariants.{DetachedSync, Forwarded, Local, Orphaned}}, waiter.{Entry.{Entry, TheVariants.Pending}, Waiter.Waiter}}}, proofs.Changes.{entry_of, one_if}}
-use Rattle.exec_driver.specs.{Driving.Driving, Punctual.IsPunctual, Steps.ended}
+use Rattle.exec_driver.specs.{Driving.Driving, Punctual.IsPunctual}
 use Rattle.exec_machine.specs.{declared.state.{Forwarding.{Forwarding, TheVariants.Applied}, Request.Request, RequestPhase.RequestPhase}, Requests.{dropped, ends_by_drop, is_cancelled_by_drop, resolved}, Tests.{is_applied, is_in_flight, is_kept, is_queued, is_resolved}}
 use Rattle.exec_moves.specs.declared.handing.Heard.{Heard}
 use Rattle.exec_parts.{specs.{declared.parts.{mail.Reply.Reply, record.Record.Record, shared.Shared.Shared, worker.Worker.Worker}, Polls.unobserved, Records.number_in, Serving.changed_at}, proofs.Facts.{and_none, by_name, not_same, or_right, same_thing}}
-use Rattle.exec_invariants.{specs.{Due.IsWheelAt, Places.one_if as one_when, Rooted.{IsNear, IsReplyFor, IsResult, goes_elsewhere, is_of_request, results_of}, Sound.{IsAlike, held_count, served_in, tellers}}, proofs.{Changing.{changes_one, pending_still}, HeldCounts.held_written, LetRooted.{Rewaits, TellsOne, keeps_watched, told_one}, Mine.live_mine, Resolving.{places_fewer, wide_ended}, ServedEnds.only_one, Serving.KeepsWith, Watching.{Watched, now_there, still_pending}}}
+use Rattle.exec_invariants.{specs.{Due.IsWheelAt, Places.one_if as one_when, Rooted.{IsNear, IsReplyFor, IsResult, goes_elsewhere, is_of_request, results_of}, Names.{IsAlike, held_count, tellers}, Sound.served_in}, proofs.{Changing.{changes_one, pending_still}, HeldCounts.held_written, LetRooted.{Rewaits, TellsOne, keeps_watched, told_one}, Mine.live_mine, Resolving.{places_fewer, wide_ended}, ServedEnds.only_one, ServingHolds.KeepsWith, Watching.{Watched, now_there, still_pending}}}
 
 -- WHAT BECOMES OF ONE that may be there: it goes on alone where it changes a file, and else is cancelled, or over by this
 

@@ -8,7 +8,7 @@ use Rattle.exec_driver.specs.{Driving.Driving, Punctual.IsPunctual}
 use Rattle.exec_machine.specs.Tests.{is_applied, is_resolved}
 use Rattle.exec_moves.specs.declared.handing.Heard.{Heard}
 use Rattle.exec_parts.{specs.{declared.parts.{mail.Reply.Reply, names.Names.Names, record.Record.Record, shared.Shared.Shared, sleeping.SleeperRecord.SleeperRecord, worker.Worker.Worker}, Records.{number_in, outcome_in}, Calls.IsTold}, proofs.Facts.{by_name, by_number, never_true, same_thing}}
-use Rattle.exec_invariants.{specs.{Due.{IsDue, IsWheelAt}, Holding.{IsAnswerOf, thing_of}, Places.one_if, Rooted.{IsResult, IsRooted, Pays, goes_elsewhere, is_of_timer, results_of}, Sound.{AreOver, HasWidth, IsNamed, served_in, tellers}}, proofs.{Serving.KeepsWith, Watching.{Watched, apart_number, carried_watched, due_watched, flown_watched, known_watched, named_watched, now_there, other_still, other_there, over_watched}}}
+use Rattle.exec_invariants.{specs.{Due.{IsDue, IsWheelAt}, Holding.{IsAnswerOf, thing_of}, Places.one_if, Rooted.{IsResult, IsRooted, Pays, goes_elsewhere, is_of_timer, results_of}, Sound.{AreOver, served_in}, Names.{HasWidth, IsNamed, tellers}}, proofs.{ServingHolds.KeepsWith, Watching.{Watched, apart_number, carried_watched, due_watched, flown_watched, known_watched, named_watched, now_there, other_still, other_there, over_watched}}}
 
 -- WHAT IS TOLD: of each list one at most, and nothing that a request owned
 pub record TellsOne (t : Told Reply Reply) : Type 0 where

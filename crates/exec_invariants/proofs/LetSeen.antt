@@ -4,11 +4,11 @@ use Rattle.exec_base.specs.{Slab.{Slab, is_live, slot_at, value_at, value_in, wr
 use Rattle.exec_request.specs.declared.output.RequestOutput.{RequestOutput}
 use Rattle.exec_ring.specs.Rings.{RingState, completions}
 use Rattle.exec_waiters.specs.{Events.{told_to, untaken, told_by_orphan, orphaned_from, asks_cancel_by_orphan, waker_in}, States.{flying_count, is_held_by, waiter_of}, Told.{Tells, nothing_told}, declared.{deferred.{Answer.Answer, Deferred.Deferred}, observer.Observer.{Observer, TheVariants.{DetachedSync, Forwarded, Local, Orphaned}}, waiter.{Entry.{Entry, TheVariants.{Pending, Ready}}, Waiter.Waiter}}}
-use Rattle.exec_driver.specs.{Driving.{Driving, request_at}, Steps.{both, cancelled_at, ended, told_by_cancel, without_observer}}
+use Rattle.exec_driver.specs.{Driving.{Driving, request_at}, Steps.{both, cancelled_at, told_by_cancel, without_observer}}
 use Rattle.exec_machine.specs.{declared.state.Request.Request, Requests.{ends_by_drop, is_cancelled_by_drop, joined_if, left_if, own_after_drop}, Tests.{is_in_flight, is_kept, is_queued, is_resolved}, World.{Common, Own, request_of}}
 use Rattle.exec_moves.specs.{declared.handing.Heard.Heard, Slots.{is_in_slots, is_some_slot, slot_of, vacated}, State.Desk, Told.{awaits_no_more, one_output, one_result, told_of_drop, turned_away, without_request}}
 use Rattle.exec_parts.{specs.{declared.parts.{mail.Reply.Reply, record.Record.Record, shared.Shared.Shared, worker.Worker.Worker}, Awaits.LetsGo, Records.number_in, View.{Visible, awaited_from, awaits_entry, completions_in, desk_of, driver_of, landed_in, message_of, number_heard, numbers_of, own_of, results_in, slots_from, slots_seen, trailing, visible, wake_poll_in}}, proofs.Facts.{and_none, not_same, same_thing}}
-use Rattle.exec_invariants.{specs.{Gates.AreLinedUp, Rooted.IsNear, Sound.served_in}, proofs.{Known.low_there, LetGone.number, LetKept.over_idle, LetSlab.same_flying, Serving.KeepsSpare, Slotted.{OneSlot, awaited_over, awaited_removed, awaited_written, slot_in, slots_vacated, slots_written}}}
+use Rattle.exec_invariants.{specs.{Gates.AreLinedUp, Rooted.IsNear, Sound.served_in}, proofs.{Known.low_there, LetGone.number, LetKept.over_idle, LetSlab.same_flying, ServingHolds.KeepsSpare, Slotted.{OneSlot, awaited_over, awaited_removed, awaited_written, slot_in, slots_vacated, slots_written}}}
 
 -- THE SLOTS: no slot has a number that no live one has
 pub not_in : (n k : ℕ) (numbers : List ℕ) (slots : List (Slot (Entry Reply Reply))) → ((j : ℕ) (x : Slot (Entry Reply Reply)) → slice_get slots j ≡ Some x → is_live x ≡ true → slice_index_or numbers (k + j) 0 ≢ n) → slot_of n k (slots_from k numbers slots) ≡ None

@@ -1,11 +1,11 @@
 -- AN OUTPUT LEAVES THE DRIVER: nothing is where it was kept, and no request that isn't over changes.
-use Rattle.std.proofs.{Common.{◌≡◌, ◌≢◌, ◌+◌, ◌^◌, ◌<◌, true, false, Some, None, IsSome, refl, sym, ap, subst, ◌∙◌, arith, is_some}, lemmas.Bool.false≢true}
+use Rattle.std.proofs.{Common.{◌≡◌, ◌≢◌, ◌+◌, ◌^◌, ◌<◌, Some, None, IsSome, refl, sym, ap, subst, ◌∙◌, arith, is_some}, lemmas.Bool.false≢true}
 use Rattle.exec_base.{specs.{Slab.{IsPast, Slab, value_at, removed, freed}, declared.slab.Id.Id}, proofs.Slots.{Changed-set, IsLiveAt-from_value, Updates-free, live_within, past-free, was_live}}
 use Rattle.exec_request.specs.declared.output.RequestOutput.{RequestOutput}
 use Rattle.exec_waiters.specs.{States.{waiter_at, pending_count, flying_count, is_flying}, declared.waiter.Entry.{Entry, TheVariants.Ready}}
 use Rattle.exec_driver.proofs.Counting.{OneChanged, one_removed, pending_is, flying_is}
 use Rattle.exec_parts.{specs.declared.parts.mail.Reply.Reply, proofs.Facts.by_name}
-use Rattle.exec_invariants.{specs.Sound.held_count, proofs.HeldCounts.held_removed}
+use Rattle.exec_invariants.{specs.Names.held_count, proofs.HeldCounts.held_removed}
 
 module _ (s : Slab (Entry Reply Reply)) (id : Id) (told : RequestOutput) (at : value_at s id ≡ Some (Ready told)) where
   gone : OneChanged s (removed s id) id None None

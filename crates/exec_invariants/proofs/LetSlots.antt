@@ -1,5 +1,5 @@
 -- The slot of a request at its driver is its own: no other has its number.
-use Rattle.std.proofs.{Common.{◌≡◌, ℕ, true, false, slice_get, slice_index_or, Some, refl, sym, ap, ◌∙◌, if◌then◌else◌, None}, lemmas.{Bool.{false≢true, eq-eqb}, Option.get_or_from_slice_get}}
+use Rattle.std.proofs.{Common.{◌≡◌, ℕ, true, slice_get, slice_index_or, Some, refl, sym, ap, ◌∙◌, if◌then◌else◌, None}, lemmas.{Bool.{false≢true, eq-eqb}, Option.get_or_from_slice_get}}
 use Rattle.exec_base.specs.{Slab.{Slab, is_live, slot_at, value_at, value_in}, declared.slab.{Id.Id, Slot.{Slot, TheVariants.{Live, Vacant, Retired}}}}
 use Rattle.exec_waiters.specs.declared.waiter.Entry.{Entry}
 use Rattle.exec_moves.specs.declared.place.Place.{Place}

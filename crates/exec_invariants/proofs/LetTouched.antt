@@ -5,7 +5,7 @@ use Rattle.exec_base.specs.{Slab.IsPast, declared.slab.Id.Id}
 use Rattle.exec_waiters.specs.{Ids.user_data_of, States.pending_count}
 use Rattle.exec_machine.specs.Tests.{is_resolved}
 use Rattle.exec_parts.specs.{declared.parts.{record.Record.Record, shared.Shared.Shared, worker.Worker.Worker}, View.driver_of}
-use Rattle.exec_invariants.{specs.{Carried.{Carried, IsUnderWay}, Due.IsDue, Gates.{IsKnown, has_hint_at, may_ask_hint}, Sound.served_in}, proofs.{HoldThings.{Touches, endure_too, keeps_mine}, Serving.KeepsSpare, Spared.{asleep_apart, flown_apart, live_of, named_apart, over_apart, over_still, record_back, rooted_apart, sleepers_stay, timed_apart, worker_still}}}
+use Rattle.exec_invariants.{specs.{Carried.{Carried, IsUnderWay}, Due.IsDue, Gates.{IsKnown, has_hint_at, may_ask_hint}, Sound.served_in}, proofs.{HoldThings.{Touches, endure_too, keeps_mine}, ServingHolds.KeepsSpare, Spared.{asleep_apart, flown_apart, named_apart, over_apart, record_back, rooted_apart, timed_apart}, SparedRecord.{live_of, over_still, sleepers_stay, worker_still}}}
 
 module _ {B : Type 0} (s s' : Shared B) (to : Touches s s') where
   pub keeps_touched : {spare : ℕ} (w : Worker) → KeepsSpare spare w s → KeepsSpare spare w s'

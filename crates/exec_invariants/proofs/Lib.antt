@@ -158,3 +158,12 @@ pub mod FiringNames
 pub mod TaskOverLets
 pub mod FiringGone
 pub mod FiringRemoved
+pub mod HandedOver
+pub mod ServedHolders
+pub mod MailApplied
+pub mod TaskOverPlaces
+pub mod ServingPlaces
+pub mod ServingHolds
+pub mod SparedRecord
+pub mod ClosesPool
+pub mod LetPending

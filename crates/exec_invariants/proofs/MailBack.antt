@@ -7,7 +7,7 @@ use Rattle.exec_task.specs.declared.body.Said.{Said}
 use Rattle.exec_machine.specs.{declared.{event.Event.{Event, TheVariants.Turn}, state.Next.Next}, After.common_after, Choice.Choice.Plain, Ranges.ring_size, World.{Common, Own as Books}}
 use Rattle.exec_moves.specs.{declared.{handing.{AfterCallbacks.AfterCallbacks, AfterLeave.AfterLeave}, idling.{InRingWait.InRingWait, Stay.Stay}, place.{InCallbacks.InCallbacks, InClosing.InClosing, Place.Place}}, Callback.{Item.LetsGo, item_next, next_callback}, State.Desk, Move.{move_at, move_item}, Seen.{next_at, polls_at, serves_at}}
 use Rattle.exec_parts.{specs.{declared.parts.{mail.Reply.Reply, shared.Shared.Shared, worker.Worker.Worker}, Calls.{KeepsRoom, IsTold}, Spots.Spot, Tests.{after_callbacks_of, has_open_requests, is_anything_told, leave_of, next_callback_of}, Roles.is_pool, View.{common_of, desk_of, driver_of, owed_at, own_of, things_with, visible, with_view}}, proofs.Facts.{by_not, by_not_not, true_false}}
-use Rattle.exec_invariants.{specs.{HoldPlaces.spare_before, Kinds.{Kind, lowered}, Places.{claims_at, drops_at, has_count_at, is_pooled_at, is_published_at, searches_at, searches_before}, Rooted.IsRooted, Sound.{HasLetters, HasWidth, IsSearching, SoundAt, has_wakes_at, tellers}, Works.{Beside, Steps, Suits}}, proofs.{PoolKept.gates_same, Aside.{SameProfile, beside_calm, seats_same, spares_turn, told_on}, CallsBack.{Pushed, To, callback_seen, callbacks_seen, none_left, pushed, to_after, to_call}, Counting.{SameHands, Stance, counts_same, stance_at, stance_here, whole_counted}, Hearing.unheard, Idled.{Fares, Holds, plain_of, settled}, Turning.{GoesOn, IsTurn, sound_on, turned, view_found}}}
+use Rattle.exec_invariants.{specs.{HoldPlaces.spare_before, Kinds.{Kind, lowered}, Places.{claims_at, drops_at, has_count_at, is_pooled_at, is_published_at, searches_at, searches_before}, Rooted.IsRooted, Sound.{HasLetters, IsSearching, SoundAt, has_wakes_at}, Names.{HasWidth, tellers}, Works.{Beside, Steps, Suits}}, proofs.{PoolKept.gates_same, Aside.{SameProfile, beside_calm, seats_same, spares_turn, told_on}, CallsBack.{Pushed, To, callback_seen, callbacks_seen, none_left, pushed, to_after, to_call}, Counting.{SameHands, Stance, counts_same, stance_at, stance_here, whole_counted}, Hearing.unheard, Idled.{Fares, Holds, plain_of, settled}, Turning.{GoesOn, IsTurn, sound_on, turned, view_found}}}
 
 same_batch : (n : AfterCallbacks) → plain_of (Place.Callbacks InCallbacks.TakeBatch n) ≡ plain_of (pushed n)
 same_batch AfterCallbacks.Look = refl

@@ -1,81 +1,14 @@
 -- What the steps at the mailbox are to the machine: another batch is looked for, and what is there is taken.
-use Rattle.std.proofs.{Common.{◌≡◌, ℕ, zero, suc, ◌+◌, ◌*◌, ◌^◌, ◌%◌, ◌<◌, ◌≤◌, Bool, true, false, cond, Contains, List, [], ◌∷◌, ◌++◌, length, map, Option, None, Some, option_map, refl, sym, ap, subst, ◌∙◌, arith, slice_get, slice_set, if◌then◌else◌}, lemmas.{List.{append-nil, length-set, Sums.sum_by-append}, Option.{get_or_from_slice_get, slice_get-map}}}
-use Rattle.exec_words.specs.{Inbox.{Inbox, batch_handed, batch_taken, has_any}, Reserved.Reserved, Word.next_batch, declared.{inbox.Message.Message, word.PureWord.PureWord}}
+use Rattle.std.proofs.{Common.{◌≡◌, ℕ, ◌+◌, ◌*◌, ◌^◌, ◌%◌, ◌<◌, ◌≤◌, Bool, true, false, cond, Contains, List, [], ◌∷◌, ◌++◌, length, map, Option, None, Some, option_map, refl, sym, ap, subst, ◌∙◌, arith, slice_get, slice_set, if◌then◌else◌}, lemmas.{List.{append-nil, length-set, Sums.sum_by-append}, Option.{get_or_from_slice_get, slice_get-map}}}
+use Rattle.exec_words.specs.{Inbox.{Inbox, batch_handed, batch_taken}, Reserved.Reserved, Word.next_batch, declared.word.PureWord.PureWord}
 use Rattle.exec_task.specs.declared.body.Said.{Said}
 use Rattle.exec_machine.specs.{declared.event.Event.{Event, TheVariants.Turn}, Choice.Choice.Plain}
 use Rattle.exec_moves.specs.{declared.place.{InMail.InMail, Place.Place}, Load.has_mail, Mail.{load_mail_word, take_mail, to_callbacks}, Move.move_at, Seen.polls_at, State.{Moved, inbox_of, turns, word_of}, Thing.{set_inbox, with_inbox, with_word}}
-use Rattle.exec_parts.{specs.{declared.parts.{mail.Subject.Subject, record.Record.Record, seat.Seat.Seat as Chair, shared.Shared.Shared, sleeping.SleeperRecord.SleeperRecord, worker.Worker.Worker}, Phased.{IsPhased, TurnsChair, stage_of}, Pooled.OfChair, Calls.IsTold, MailPosts.IsMailbox, Spots.Spot, View.{Views, Visible, common_of, desk_of, driver_of, inbox_at, message_of, own_of, polls_seen, queue_at, raised_times, seat_seen, seats_seen, things_of, things_with, visible, with_view, word_at}, Things.{Goes, Makes}}, proofs.{Facts.{same_thing, set_there, true_false}, Showing.{map_kept, map_set}}}
-use Rattle.exec_invariants.{specs.{Holding.{IsAbout, IsHolding, IsOf, Mail, box_of, holder_of, mail_in, mail_of_letters, nap_of, same_mail, thing_of}, Places.{claims_at, drops_at, has_count_at, is_published_at}, Sound.{IsMineIn, IsMyMail, IsSeated, SoundAt, tellers}, Whole.{HasWhole, IsWhole, Profile, hands_of, with_worker}, Works.Steps}, proofs.{AskBoxes.box_there, Aside.{HoldsIn, SameProfile, SparesSeats, beside_calm, queue_of_chair, queues_set, seats_own, seats_same}, Dedicated.as_long, Hearing.unheard, Idled.{Fares, Holds, settled}, Lined.unmapped, MailBack.stance, MailMoves.{all_taken, beside_moved}, PoolKept.{gates_same, gates_set}, Resolving.places_fewer, Turning.{IsTurn, Shares, set_found, turned, word_back_again}}}
+use Rattle.exec_parts.{specs.{declared.parts.{mail.Subject.Subject, seat.Seat.Seat as Chair, shared.Shared.Shared, worker.Worker.Worker}, Phased.{IsPhased, TurnsChair, stage_of}, Pooled.OfChair, MailPosts.IsMailbox, Spots.Spot, View.{Views, Visible, common_of, desk_of, inbox_at, message_of, own_of, polls_seen, queue_at, seat_seen, seats_seen, things_of, things_with, visible, with_view, word_at}, Things.{Goes, Makes}}, proofs.{Facts.{same_thing, set_there, true_false}, Showing.{map_kept, map_set}}}
+use Rattle.exec_invariants.{specs.{Holding.{IsHolding, Mail, box_of, holder_of, mail_in, mail_of_letters, nap_of, same_mail, thing_of}, Places.{claims_at, drops_at, has_count_at, is_published_at}, Sound.{IsMyMail, IsSeated, SoundAt}, Whole.{HasWhole, IsWhole, Profile, hands_of, with_worker}, Works.Steps}, proofs.{AskBoxes.box_there, Aside.{HoldsIn, SameProfile, SparesSeats, beside_calm, queue_of_chair, queues_set, seats_own, seats_same}, Dedicated.as_long, Hearing.unheard, Idled.{Fares, Holds, settled}, MailBack.stance, MailMoves.{all_taken, beside_moved}, PoolKept.{gates_same, gates_set}, Turning.{Shares, set_found, turned, word_back_again}, HandedOver.{taken_none, taken_some, handed_none, handed_some, by_list, seats_both, polls_both, my_mail, LeadsOn, told_past}}}
 
 below : (n : ℕ) → n % 2 ^ 29 < 2 ^ 29
 below n = omega arith
-
--- WHAT A TAKE HANDS OVER, by what is there
-
-pub taken_none : (i : Inbox Subject Subject) (b : Reserved Mail) → i.messages ≡ [] → batch_taken i b ≡ i
-taken_none i b none = ap (λ h. if h then record i { messages = []; places = b.places; taken = next_batch i.taken } else i) (ap has_any none)
-
-pub taken_some : (i : Inbox Subject Subject) (b : Reserved Mail) (m : Mail) (ms : List Mail) → i.messages ≡ m ∷ ms → batch_taken i b ≡ record i { messages = []; places = b.places; taken = next_batch i.taken }
-taken_some i b m ms some = ap (λ h. if h then record i { messages = []; places = b.places; taken = next_batch i.taken } else i) (ap has_any some)
-
-pub handed_none : (i : Inbox Subject Subject) (b : Reserved Mail) → i.messages ≡ [] → batch_handed i b ≡ b
-handed_none i b none = ap (λ h. if h then record { values = i.messages; places = i.places } else b) (ap has_any none)
-
-pub handed_some : (i : Inbox Subject Subject) (b : Reserved Mail) (m : Mail) (ms : List Mail) → i.messages ≡ m ∷ ms → batch_handed i b ≡ record { values = i.messages; places = i.places }
-handed_some i b m ms some = ap (λ h. if h then record { values = i.messages; places = i.places } else b) (ap has_any some)
-
-by_list : {A P : Type 0} (xs : List A) → (xs ≡ [] → P) → ((y : A) (ys : List A) → xs ≡ y ∷ ys → P) → P
-by_list [] none some = none refl
-by_list (x ∷ xs) none some = some x xs refl
-
--- A CHAIR AND WHAT IS VISIBLE OF ITS WORKER, where both were set
-
-pub seats_both : (vs : List Visible) (seats : List Chair) (i : ℕ) (v v' : Visible) (chair chair' : Chair) → slice_get vs i ≡ Some v → slice_get seats i ≡ Some chair → seat_seen v' chair' ≡ seat_seen v chair
-    → seats_seen (slice_set vs i v') (slice_set seats i chair') ≡ seats_seen vs seats
-seats_both [] seats i v v' chair chair' seen there same = absurd (cc)
-seats_both (x ∷ vs) [] i v v' chair chair' seen there same = absurd (cc)
-seats_both (x ∷ vs) (seat ∷ seats) zero v v' chair chair' seen there same =
-    let one : v ≡ x = cc in
-    let two : chair ≡ seat = cc in
-    ap (λ y. y ∷ seats_seen vs seats) (same ∙ ap (λ u. seat_seen u chair) one ∙ ap (seat_seen x) two)
-seats_both (x ∷ vs) (seat ∷ seats) (suc i) v v' chair chair' seen there same = ap (λ ys. seat_seen x seat ∷ ys) (seats_both vs seats i v v' chair chair' seen there same)
-
-pub polls_both : (vs : List Visible) (seats : List Chair) (i : ℕ) (v v' : Visible) (chair chair' : Chair) → slice_get vs i ≡ Some v → slice_get seats i ≡ Some chair → v'.wakes ≡ v.wakes → chair'.raised ≡ chair.raised
-    → polls_seen (slice_set vs i v') (slice_set seats i chair') ≡ polls_seen vs seats
-polls_both [] seats i v v' chair chair' seen there wakes raised = absurd (cc)
-polls_both (x ∷ vs) [] i v v' chair chair' seen there wakes raised = absurd (cc)
-polls_both (x ∷ vs) (seat ∷ seats) zero v v' chair chair' seen there wakes raised =
-    let one : v ≡ x = cc in
-    let two : chair ≡ seat = cc in
-    ap (λ y. y ∷ polls_seen vs seats) (rw (wakes, raised, one, two) refl)
-polls_both (x ∷ vs) (seat ∷ seats) (suc i) v v' chair chair' seen there wakes raised = ap (λ ys. raised_times seat.raised x.wakes ∷ ys) (polls_both vs seats i v v' chair chair' seen there wakes raised)
-
--- what an inbox has is about what its worker has
-
-mine_of : (workers i : ℕ) (x : Subject) (rs : List Record) (zs : List SleeperRecord) → IsOf workers i x (map thing_of rs) (map nap_of zs) → IsMineIn workers i x rs zs
-mine_of workers i (Subject.Request k) rs zs of =
-    let r = unmapped thing_of rs k of.0 of.1 in
-    (r.0, r.1, ap (λ y. y.worker) r.2 ∙ of.2, of.3)
-mine_of workers i (Subject.Timer n) rs zs of =
-    let z = unmapped nap_of zs n of.0 of.1 in
-    (z.0, z.1, ap (λ y. y.worker) z.2 ∙ of.2, of.3)
-
-pub my_mail : (workers i : ℕ) (m : Mail) (rs : List Record) (zs : List SleeperRecord) → IsAbout workers i m (map thing_of rs) (map nap_of zs) → IsMyMail workers i m rs zs
-my_mail workers i Message.WakeRoot rs zs about = tt
-my_mail workers i (Message.Forward x) rs zs about = mine_of workers i x rs zs about
-my_mail workers i (Message.Cancel x) rs zs about = mine_of workers i x rs zs about
-
--- what a place of the mail, or the callbacks after it, says as the mail does
-pub record LeadsOn (n : ℕ) (q q' : Place) : Type 0 where
-  pub turn : IsTurn n q q'
-  pub claims : claims_at q' ≡ claims_at q
-  pub counts : has_count_at q' ≡ has_count_at q
-  pub published : is_published_at q' ≡ is_published_at q
-  pub drops : drops_at q' ≡ drops_at q
-
--- as much is told there, less what was kept for messages
-pub told_past : (w : Worker) (n m : ℕ) → m ≤ n → IsTold w.names.ended.items w.home.deferred (tellers (driver_of w).requests w.home.timers + n) → IsTold w.names.ended.items w.home.deferred (tellers (driver_of w).requests w.home.timers + m)
-told_past w n m few told = places_fewer (omega (arith, few)) told
 
 module _ {B : Type 0} where
   -- the inbox of worker j became this

@@ -8,7 +8,7 @@ use Rattle.exec_driver.specs.Driving.{Driving}
 use Rattle.exec_machine.specs.{declared.config.Configuration.Configuration, Tests.{is_asleep, is_resolved, is_staged}}
 use Rattle.exec_moves.specs.declared.place.InService.{InService}
 use Rattle.exec_parts.{specs.{declared.parts.{mail.Reply.Reply, names.Names.Names, record.Record.Record, sleeping.SleeperRecord.SleeperRecord, worker.Moments.Moments}, Calls.{as_sent, paying, releasing, sleeper_paying}, Records.number_in, Serving.{AreKnown, changed_in, changed_at, is_one_of}}, proofs.{Facts.{same_thing, same_number}, Flying.{get_set, get_changed}}}
-use Rattle.exec_invariants.{specs.{Flown.IsPlain, Sound.{IsNamed, IsAlike, IsSubmitted}, Due.{IsDue, IsTimed, AreTimed, AreAsleep, IsAsleepAs}}, proofs.FiringNames.naps_set}
+use Rattle.exec_invariants.{specs.{Flown.IsPlain, Names.{IsNamed, IsAlike, IsSubmitted}, Due.{IsDue, IsTimed, AreTimed, AreAsleep, IsAsleepAs}}, proofs.FiringNames.naps_set}
 
 -- A mark changes only what was paid and released, and that its end was sent elsewhere.
 abbrev pub Marks : (Record → Record) → Type 0

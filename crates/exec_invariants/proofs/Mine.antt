@@ -5,7 +5,7 @@ use Rattle.exec_time.specs.declared.timers.Sleeper.{Sleeper as Sleeping}
 use Rattle.exec_waiters.{specs.{States.waiter_at, declared.{waiter.Waiter.Waiter, waiter_id.WaiterId.WaiterId}}, proofs.Changes.entry_of}
 use Rattle.exec_driver.specs.Driving.{Driving, request_at}
 use Rattle.exec_parts.specs.{declared.parts.{mail.Reply.Reply, names.Names.Names, record.Record.Record, sleeping.SleeperRecord.SleeperRecord}, Records.number_in}
-use Rattle.exec_invariants.specs.Sound.{IsNamed}
+use Rattle.exec_invariants.specs.Names.{IsNamed}
 
 pub live_mine : (i : ℕ) (n : Names) (d : Driving Reply Reply) (zs : Slab (Sleeping Reply)) (rs : List Record) (ss : List SleeperRecord) → IsNamed i n d zs rs ss
     → (id : Id) (it : Waiter Reply Reply) (r : Record) → waiter_at d.requests id ≡ Some it → slice_get rs (number_in n.requests.items id) ≡ Some r → r.shown.worker ≡ i

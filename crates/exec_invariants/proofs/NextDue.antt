@@ -8,7 +8,7 @@ use Rattle.exec_task.specs.declared.body.Said.{Said}
 use Rattle.exec_machine.specs.{Deadlines.{earlier, first_timer, first_until, next_due}, Progress.Plan, Tests.{is_asleep, is_open, is_resolved}}
 use Rattle.exec_moves.specs.declared.place.Place.{Place}
 use Rattle.exec_parts.specs.{declared.parts.{mail.Reply.Reply, names.Names.Names, record.Record.Record, shared.Shared.Shared, sleeping.SleeperRecord.SleeperRecord, worker.Worker.Worker}, Records.number_in, Spots.Spot, Tests.{HasToldDue, IsFirstSleep, IsNextIn, IsNextMoment}, View.{Views, driver_of, common_of}}
-use Rattle.exec_invariants.{specs.{Due.{AreAsleep, AreTimed, may_be_due}, Sound.{IsNamed, SoundAt, served_in}, Works.Suits}, proofs.{Unclosed.unclosed, Leasts.{HasAt, IsLeast, least_in, least_there, least_once}, Seats.own_seat}}
+use Rattle.exec_invariants.{specs.{Due.{AreAsleep, AreTimed, may_be_due}, Names.IsNamed, Sound.{SoundAt, served_in}, Works.Suits}, proofs.{Unclosed.unclosed, Leasts.{HasAt, IsLeast, least_in, least_there, least_once}, Seats.own_seat}}
 
 -- THE MACHINE'S MOMENTS
 

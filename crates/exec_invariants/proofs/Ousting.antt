@@ -10,7 +10,7 @@ use Rattle.exec_driver.specs.{Driving.Driving, Lists.withdrawn, Punctual.IsPunct
 use Rattle.exec_machine.specs.{Tests.{is_in_flight, is_staged}, declared.state.RequestPhase.RequestPhase}
 use Rattle.exec_moves.specs.declared.place.Place.{Place}
 use Rattle.exec_parts.{specs.{declared.parts.{mail.Reply.Reply, names.Names.Names, record.Record.Record, shared.Shared.Shared, sleeping.SleeperRecord.SleeperRecord, worker.Worker.Worker}, Records.number_in, Serving.{AreTagged, cancels_in, changed_at, is_one_of}}, proofs.Facts.same_number}
-use Rattle.exec_invariants.{specs.{Carried.{IsCarried, IsUnderWay, those_of}, Due.{IsWheelAt, may_be_due, wheel_moment}, Flown.{IsPolled, AreLanded, IsPlain, operations}, Gates.IsKnown, HoldPlaces.{has_wakes_at, is_bare_at}, Ordered.{IsOrdered, went_round}, Rooted.outcome_told, Sound.{IsSubmitted, served_in, tellers}}, proofs.{Carries.carried_over, Conveying.carried_ring, Known.known_on, Leaving.{flown_over, landed_still}, Mine.live_mine, Marking.{known_then, mark_if, marked_length, was_marked}, Over.{OneEnds, kept_id, kept_worker, other_record, named_ended, over_ended, timed_ended, unresolved_before, apart_number, gone_here}, Orders.{IsPartOf, TurnsAlike, eased, eases_one, part_without}, Resolving.{places_fewer, told_ended, wide_ended}, ServedEnds.{TellsEnd, rooted_ended}, Serving.KeepsWith}}
+use Rattle.exec_invariants.{specs.{Carried.{IsCarried, IsUnderWay, those_of}, Due.{IsWheelAt, may_be_due, wheel_moment}, Flown.{IsPolled, AreLanded, IsPlain, operations}, Gates.IsKnown, HoldPlaces.{has_wakes_at, is_bare_at}, Ordered.{IsOrdered, went_round}, Rooted.outcome_told, Names.{IsSubmitted, tellers}, Sound.served_in}, proofs.{Carries.carried_over, Conveying.carried_ring, Known.known_on, Leaving.{flown_over, landed_still}, Mine.live_mine, Marking.{known_then, mark_if, marked_length, was_marked}, Over.{OneEnds, kept_id, kept_worker, other_record, named_ended, over_ended, timed_ended, unresolved_before, apart_number, gone_here}, Orders.{IsPartOf, TurnsAlike, eased, eases_one, part_without}, Resolving.{places_fewer, told_ended, wide_ended}, ServedEnds.{TellsEnd, rooted_ended}, ServingHolds.KeepsWith}}
 
 -- the kernel has nothing of it where it isn't in flight
 nothing_has : (p : RequestPhase) (u : ℕ) (q : Asking) (r : RingState) → is_in_flight p ≡ false → IsUnderWay p u q r → (those_of u r.flying ≡ []) × (those_of u r.staged ≡ [])

@@ -8,7 +8,7 @@ use Rattle.exec_waiters.{specs.{States.{waiter_at, waiter_of}, declared.{observe
 use Rattle.exec_driver.specs.Driving.{Driving}
 use Rattle.exec_machine.specs.{declared.state.RequestPhase.TheVariants.Resolved, Tests.is_resolved}
 use Rattle.exec_parts.{specs.{declared.parts.{mail.Reply.Reply, names.Names.Names, record.Record.Record, sleeping.SleeperRecord.SleeperRecord}, Records.number_in, Serving.changed_at}, proofs.Facts.{by_name, same_number}}
-use Rattle.exec_invariants.{specs.{Due.AreTimed, Sound.{AreOver, IsNamed, IsAlike, IsSubmitted}}, proofs.{Marking.{mark_if, marked, was_marked}, Resolving.{EntryAfter, SlabAfter}}}
+use Rattle.exec_invariants.{specs.{Due.AreTimed, Sound.AreOver, Names.{IsNamed, IsAlike, IsSubmitted}}, proofs.{Marking.{mark_if, marked, was_marked}, Resolving.{EntryAfter, SlabAfter}}}
 
 -- what stands in a list with one more at its end
 module _ {A : Type 0} where

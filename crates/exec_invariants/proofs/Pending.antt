@@ -1,5 +1,5 @@
 -- What the end of a poll is to the machine, where the task waits.
-use Rattle.std.proofs.{Common.{◌≡◌, ◌≢◌, ◌⊎◌, inl, ⊎_elim, ℕ, ◌<◌, ◌==◌, ◌&&◌, ◌||◌, ◌-◌, Bool, true, false, not, length, Option, Some, None, IsSome, refl, sym, ap, subst, ◌∙◌, slice_get, slice_set, is_some, option_to_list, IsTrue, if◌then◌else◌}, lemmas.{Bool.{false≢true, eq-eqb}, Option.slice_get_within}}
+use Rattle.std.proofs.{Common.{◌≡◌, inl, ⊎_elim, ℕ, ◌<◌, ◌==◌, ◌&&◌, ◌||◌, Bool, true, false, not, length, Option, Some, None, IsSome, refl, sym, ap, subst, ◌∙◌, slice_get, slice_set, is_some, option_to_list, IsTrue, if◌then◌else◌}, lemmas.{Bool.{false≢true, eq-eqb}, Option.slice_get_within}}
 use Rattle.exec_task.specs.{Phases.{is_polled, given_back, over, requeue_where, runnable_of, pend_answer}, declared.{body.Said.Said, runnable.{AfterPoll.AfterPoll, Runnable.Runnable}, task.Phase.Phase}}
 use Rattle.exec_machine.specs.{declared.{event.Event.{Event, TheVariants.Pend}, state.{Waiting.Waiting, Next.Next}}, Choice.Choice.Plain, Progress.Plan, Same.is_number, Tasks.{may_stop, pended_phase, after_over}, Tests.{is_settled, is_unsent, is_resolved}, World.task_of}
 use Rattle.exec_moves.specs.{declared.{handing.{AfterCallbacks.AfterCallbacks, AfterPush.AfterPush, InPush.InPush}, place.{InPoll.InPoll, Place.Place, InCallbacks.InCallbacks}}, Move.move_at, Poll.{after_pend, is_noted, pend as pend_moves}, Seen.{polls_at, polls_in, next_in_poll}, State.{Desk, Moved, Things}}

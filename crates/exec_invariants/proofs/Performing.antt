@@ -1,5 +1,5 @@
 -- A cell in its poll; what a body runs and holds after its act; and what is seen of an act that got no memory.
-use Rattle.std.proofs.{Common.{◌≡◌, ℕ, true, false, List, map, Option, Some, None, refl, sym, ap, subst, ◌∙◌, slice_get, slice_set}, lemmas.{Bool.false≢true, List.{map-set, set-get_or}, Option.get_or_from_slice_get}}
+use Rattle.std.proofs.{Common.{◌≡◌, ℕ, true, List, map, Option, Some, None, refl, sym, ap, subst, ◌∙◌, slice_get, slice_set}, lemmas.{Bool.false≢true, List.{map-set, set-get_or}, Option.get_or_from_slice_get}}
 use Rattle.exec_base.specs.declared.error.Error.TheVariants.{NoMemory}
 use Rattle.exec_task.specs.{Phases.{is_polled, woken as cell_woken}, Sight.Sight, declared.{body.{Act.Act, Said.Said}, task.Phase.Phase}}
 use Rattle.exec_machine.specs.{declared.state.Waiting.Waiting, Progress.Plan, Tasks.woken_phase, World.Task}

@@ -1,5 +1,5 @@
 -- A poll begins: what the worker has in its hand then, and what the step is to the machine.
-use Rattle.std.proofs.{Common.{◌≡◌, ◌≢◌, ◌⊎◌, inl, inr, ⊎_elim, ℕ, ◌+◌, ◌<◌, ◌==◌, ◌&&◌, Bool, true, false, Contains, List, [], Option, Some, None, IsSome, refl, sym, ap, subst, ◌∙◌, arith, lit<, slice_get, slice_set, option_map, is_some, option_to_list, if◌then◌else◌}, lemmas.{Bool.{false≢true, eq-eqb}, Option.slice_get-map}}
+use Rattle.std.proofs.{Common.{◌≡◌, ◌≢◌, ◌⊎◌, inl, inr, ⊎_elim, ℕ, ◌+◌, ◌==◌, ◌&&◌, Bool, true, false, Contains, List, [], Option, Some, None, IsSome, refl, sym, ap, subst, ◌∙◌, arith, lit<, slice_get, slice_set, option_map, is_some, option_to_list, if◌then◌else◌}, lemmas.{Bool.{false≢true, eq-eqb}, Option.slice_get-map}}
 use Rattle.exec_task.specs.{Phases.{is_polled, queued_body, begun as cell_begun, runnable_of}, declared.{body.Said.Said, runnable.Runnable.Runnable, task.Phase.Phase}}
 use Rattle.exec_machine.specs.{declared.{event.Event.{Event, TheVariants.{Begin, Turn}}, state.{Letter.Letter, TaskPhase.TaskPhase, Waiting.Waiting, Next.Next}}, Choice.Choice.Plain, Progress.Plan, Tasks.{begun, begun_waiting, is_polled_here}, Tests.{is_empty, is_open, is_ready}, World.{Seat, Task, task_of, seat_of}}
 use Rattle.exec_moves.specs.{declared.place.{InPick.InPick, InPoll.InPoll, Place.Place}, Parts.after_poll, Poll.{after_begin, begin_poll, let_go}, Seen.{next_at, polls_at, polls_in, serves_at}, State.{Moved, Things, does, goes, turns}}

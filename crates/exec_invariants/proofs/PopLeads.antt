@@ -1,11 +1,11 @@
 -- Where a pop of the own run queue leads, and what is so there.
-use Rattle.std.proofs.{Common.{[], ◌≡◌, ◌≢◌, ℕ, zero, suc, ◌+◌, ◌-◌, ◌*◌, ◌%◌, ◌<◌, ◌==◌, ◌&&◌, ◌⊎◌, inl, inr, Bool, true, false, Contains, List, ◌∷◌, length, None, Some, refl, sym, ap, subst, ◌∙◌, arith, option_to_list, slice_get, if◌then◌else◌, nat_le, ⊎_elim}, lemmas.{Nat.mod_below, Bool.{Decides.nat_tests, false≢true}, List.{length-map, Elements.Contains-push_cases}}}
+use Rattle.std.proofs.{Common.{[], ◌≡◌, ◌≢◌, ℕ, zero, suc, ◌+◌, ◌-◌, ◌*◌, ◌%◌, ◌<◌, ◌==◌, ◌&&◌, inl, inr, Bool, true, false, Contains, List, ◌∷◌, length, None, Some, refl, sym, ap, subst, ◌∙◌, arith, option_to_list, slice_get, if◌then◌else◌, nat_le, ⊎_elim}, lemmas.{Nat.mod_below, Bool.{Decides.nat_tests, false≢true}, List.{length-map, Elements.Contains-push_cases}}}
 use Rattle.exec_words.specs.Queue.{Queue, head_of, popped, tail_of}
 use Rattle.exec_task.specs.{TaskSet.{IsFor, Set}, declared.{drain.Drain.Drain, runnable.Runnable.Runnable}}
 use Rattle.exec_machine.specs.declared.{config.Configuration.Configuration, event.Event.TheVariants.Turn}
 use Rattle.exec_moves.specs.{declared.{handing.{AfterLeave.AfterLeave, AfterPop.AfterPop, InPop.InPop}, place.{InClosing.InClosing, InPoll.InPoll, Place.Place}}, Pop.{after_empty_pop, after_pop, drain_by, judge_pop, load_pop_head, pops, power_from, shard_count}, State.{Desk, does, turns}}
 use Rattle.exec_parts.{specs.{Roles.is_pool, View.{driver_of, queue_seen}, declared.parts.{shared.Shared.Shared, worker.Worker.Worker}, Phased.{HasPassed, IsPhased, Stage}, Pooled.is_discard, Calls.IsTold, Tests.leave_of}, proofs.Facts.{by_number, not_same}}
-use Rattle.exec_invariants.{specs.{Places.has_loot_at, Sound.{has_wakes_at, HasRunnable, IsHeld, IsLoot, root_in_hand, SoundAt, tellers}, Whole.IsGenuine}, proofs.{Dedicated.chair_of_pool, Queueing.{Around, Reaches, still_of}}}
+use Rattle.exec_invariants.{specs.{Places.has_loot_at, Sound.{has_wakes_at, HasRunnable, IsHeld, IsLoot, root_in_hand, SoundAt}, Names.tellers, Whole.IsGenuine}, proofs.{Dedicated.chair_of_pool, Queueing.{Around, Reaches, still_of}}}
 
 -- WHAT A POP IS TO THE QUEUE THAT IS SEEN
 

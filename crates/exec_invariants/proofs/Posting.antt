@@ -1,7 +1,7 @@
 -- What a message that wakes the root of a worker makes of its seat, and what is seen of that.
 --
 -- Into a closed inbox it doesn't go, beside another one it is left out, and else it is the first of a batch, or joins one.
-use Rattle.std.{proofs.{Common.{◌≡◌, ◌++◌, ◌+◌, inl, ℕ, Bool, true, false, not, List, [], ◌∷◌, append_assoc, cond, count_by, map, Some, refl, sym, ap, ◌∙◌, arith, slice_get, slice_set, option_map, if◌then◌else◌}, lemmas.{Bool.false≢true, List.{map-append, set-get_or, Folds.list_any-append, Sums.{sum_by-append, sum_by-cons}}, Option.{get_or_from_slice_get, slice_get-map}}}, specs.List.list_any}
+use Rattle.std.{proofs.{Common.{◌≡◌, ◌++◌, inl, ℕ, Bool, true, false, not, List, [], ◌∷◌, append_assoc, cond, count_by, map, Some, refl, sym, ap, ◌∙◌, arith, slice_get, slice_set, option_map, if◌then◌else◌}, lemmas.{Bool.false≢true, List.{map-append, set-get_or, Folds.list_any-append, Sums.{sum_by-append, sum_by-cons}}, Option.{get_or_from_slice_get, slice_get-map}}}, specs.List.list_any}
 use Rattle.exec_words.specs.{Inbox.{has_any, is_wake_root, opens_batch, sent, word_after}, Word.{asks_signal, next_batch}, declared.{inbox.Message.Message, mailbox.Mailbox.Mailbox as Box, word.PureWord.PureWord}}
 use Rattle.exec_machine.specs.{declared.{event.Event.{Event, TheVariants.{Closed, Send}}, state.MailMessage.{MailMessage, TheVariants.Root}}, Choice.{Choice, Payer, Choice.{Plain, Posts}}, Mail.{has_root_message, is_root_message, posted}, Tests.is_empty, World.{Common, Seat, seat_of}}
 use Rattle.exec_moves.specs.{Send.{Mailbox, posting}, State.{Things, inbox_of, no_word, word_of}, Thing.{mailbox_of, set_inbox, set_mailbox, set_word}}

@@ -4,7 +4,7 @@ use Rattle.exec_words.specs.Queue.{Queue}
 use Rattle.exec_task.specs.declared.runnable.Runnable.{Runnable}
 use Rattle.exec_moves.specs.{declared.{handing.{AfterKick.AfterKick, AfterPush.AfterPush, InKick.InKick}, place.{InPick.InPick, InPoll.InPoll, Place.Place}}, Seen.{polls_at, polls_for}}
 use Rattle.exec_parts.specs.{declared.parts.{seat.Seat.Seat as Chair, shared.Shared.Shared, worker.Worker.Worker}, Phased.{IsPhased, closes_at, closing_in, stage_of}, Roles.is_pool, Calls.IsTold, Tests.{after_push_of, next_callback_of}, View.driver_of}
-use Rattle.exec_invariants.{specs.{HoldPlaces.spare_at, Kinds.Kind, Places.{begins_at, calls_back_at, has_count_at, has_loot_at, hands_on_at, is_armed_at, is_pooled_at, is_published_at, pooled_push, searches_at, task_at}, Sound.{Aims, HasBatch, HasQueue, IsLeft, IsSearching, LetsGoAt, Serves, SoundAt, has_wakes_at, tellers}}, proofs.{Handed.{IsPushFor, NextComes}, Idled.hush_of, Queueing.{Around, Carries, Reaches, if_either, still_of}}}
+use Rattle.exec_invariants.{specs.{HoldPlaces.spare_at, Kinds.Kind, Places.{begins_at, calls_back_at, has_count_at, has_loot_at, hands_on_at, is_armed_at, is_pooled_at, is_published_at, pooled_push, searches_at, task_at}, Sound.{Aims, HasBatch, HasQueue, IsLeft, IsSearching, LetsGoAt, Serves, SoundAt, has_wakes_at}, Names.tellers}, proofs.{Handed.{IsPushFor, NextComes}, Idled.hush_of, Queueing.{Around, Carries, Reaches, if_either, still_of}}}
 
 -- what a place says but of the hands, a search count, a closing and the callbacks
 abbrev stilled : Kind → Kind

@@ -1,5 +1,5 @@
 -- A request is over: its driver lets go of it, and what its end leaves is told.
-use Rattle.std.proofs.{Common.{◌≡◌, ◌≢◌, ℕ, ◌+◌, ◌^◌, ◌<◌, ◌≤◌, true, false, List, [], ◌∷◌, ◌++◌, length, Option, Some, None, IsSome, refl, sym, ap, subst, ◌∙◌, arith, inl, inr, is_some}, lemmas.{Bool.false≢true, List.{length-append, length-set}}}
+use Rattle.std.proofs.{Common.{◌≡◌, ◌≢◌, ℕ, ◌+◌, ◌^◌, ◌<◌, ◌≤◌, true, List, [], ◌∷◌, ◌++◌, length, Option, Some, None, IsSome, refl, sym, ap, subst, ◌∙◌, arith, inl, inr, is_some}, lemmas.{Bool.false≢true, List.{length-append, length-set}}}
 use Rattle.exec_base.{specs.{Slab.{Slab, IsPast, value_at, written, removed, freed}, declared.{slab.Id.Id, task_no.TaskNo.TaskNo}}, proofs.Slots.{past-free, past-write, Changed-set, IsLiveAt-from_value, Updates-free, Updates-write, live_within, was_live}}
 use Rattle.exec_outcomes.specs.Accounts.{Account}
 use Rattle.exec_time.specs.Wheel.{Wheel, removed as unticked}
@@ -8,7 +8,7 @@ use Rattle.exec_waiters.{specs.{Events.{finished, finished_for, output_told, tol
 use Rattle.exec_driver.{specs.{Lists.{is_among, is_same, without}, Steps.{ended, unscheduled}}, proofs.{Counting.pending_is, Endings.one_finished, Names.same_tells}}
 use Rattle.exec_machine.specs.declared.config.Configuration.{Configuration}
 use Rattle.exec_parts.{specs.{declared.parts.mail.Reply.Reply, Calls.IsTold}, proofs.Facts.or_right}
-use Rattle.exec_invariants.{specs.{Due.IsWheelAt, Sound.{HasWidth, held_count}}, proofs.{HeldCounts.{held_removed, held_written}, Orders.{past_removed, past_written}}}
+use Rattle.exec_invariants.{specs.{Due.IsWheelAt, Names.{HasWidth, held_count}}, proofs.{HeldCounts.{held_removed, held_written}, Orders.{past_removed, past_written}}}
 
 -- THE LISTS
 

@@ -6,7 +6,7 @@ use Rattle.exec_driver.specs.Driving.{Driving}
 use Rattle.exec_machine.specs.Ranges.{ring_size}
 use Rattle.exec_moves.specs.declared.place.Place.{Place}
 use Rattle.exec_parts.specs.{declared.parts.{mail.Reply.Reply, shared.Shared.Shared, worker.Worker.Worker}, Serving.{AreTagged, cancels_in}, Calls.IsTold, View.driver_of}
-use Rattle.exec_invariants.{specs.{Carried.{IsCarried, those_of}, Due.IsDue, Gates.IsKnown, HoldPlaces.spare_at, Flown.{AreLanded, HasFlown, IsPolled, operations}, Rooted.IsRooted, Sound.{HasWidth, LetsGoAt, tellers, SoundAt, IsNamed, IsSubmitted, AreOver, served_in}}, proofs.{Conveying.carried_ring, Flown.landed_as}}
+use Rattle.exec_invariants.{specs.{Carried.{IsCarried, those_of}, Due.IsDue, Gates.IsKnown, HoldPlaces.spare_at, Flown.{AreLanded, HasFlown, IsPolled, operations}, Rooted.IsRooted, Names.{HasWidth, tellers, IsNamed, IsSubmitted}, Sound.{LetsGoAt, SoundAt, AreOver, served_in}}, proofs.{Conveying.carried_ring, Flown.landed_as}}
 
 -- another ring of the same size with the same requests in it; and its driver knows whether the wake poll is under way
 pub record SameIn (d : Driving Reply Reply) (r : RingState) : Type 0 where

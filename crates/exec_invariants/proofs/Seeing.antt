@@ -5,7 +5,7 @@ use Rattle.exec_task.specs.declared.body.Said.{Said}
 use Rattle.exec_machine.specs.{declared.event.Event.Event, Allowed.allowed, After.{own_after, common_after}, Choice.Choice.Plain, Progress.Plan, Tests.AllTrue, World.Common}
 use Rattle.exec_moves.specs.{declared.place.Place.Place, Move.move_at, State.{Things, no_wake_poll}, Thing.{ring_of, set_ring}}
 use Rattle.exec_parts.specs.{declared.parts.{mail.Reply.Reply, record.Record.Record, seat.Seat.Seat as Chair, shared.Shared.Shared, worker.Worker.Worker}, Serving.changed_at, Spots.Spot, View.{Views, Visible, visible, with_view, own_of, desk_of, driver_of, common_of, gate_seen, numbers_of_passing, open_seen, polls_seen, raised_times, seat_seen, slots_seen, things_with}}
-use Rattle.exec_invariants.{specs.{Sound.SoundAt, Works.{Works, Suits, Steps}}, proofs.{Hearing.unheard, Recorded.shown_changed, Keys.{name_in, same_opens, names_changed}, Lined.{gates_seen_same, passing_same, was_sent}, Raising.views_kept, Serving.{Balances, OthersKept, Serves, SparesGates, SparesRecords, Keeps, beside_service_by, nap_sent, sound_again_by, spares_gates}, Shown.{makes, own_with, desk_with, visible_with}}}
+use Rattle.exec_invariants.{specs.{Sound.SoundAt, Works.{Works, Suits, Steps}}, proofs.{Hearing.unheard, Recorded.shown_changed, Keys.{name_in, same_opens, names_changed}, Lined.{gates_seen_same, passing_same, was_sent}, Raising.views_kept, Serving.{Balances, SparesGates, SparesRecords, beside_service_by, sound_again_by, spares_gates}, ServingHolds.{OthersKept, Serves, Keeps, nap_sent}, Shown.{makes, own_with, desk_with, visible_with}}}
 pub use Rattle.exec_invariants.proofs.Shown.{makes, own_with, desk_with, visible_with}
 
 pub record Shows (w w' : Worker) (d : Driving Reply Reply) : Type 0 where

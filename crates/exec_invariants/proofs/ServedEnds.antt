@@ -1,16 +1,14 @@
 -- What is sent elsewhere, and what tasks hold, once a request is over within a service.
-use Rattle.std.proofs.{Common.{◌≡◌, ◌≢◌, ◌⊎◌, ℕ, zero, suc, ◌+◌, ◌≤◌, ◌<◌, ◌&&◌, ◌||◌, not, cond, Bool, true, false, Contains, List, [], ◌∷◌, ◌++◌, count_by, length, sum_by, Option, Some, None, IsSome, Result, Ok, Err, refl, sym, ap, subst, ◌∙◌, arith, inl, inr, slice_get, slice_set, is_some}, lemmas.{Bool.{false≢true, eq-eqb}, List.{Recursion.is_count_by, append-nil, Elements.Contains-append_cases}}}
-use Rattle.exec_base.specs.{Slab.{Slab, value_at}, declared.{error.Error.Error, one_shot.OneShotState.OneShotState, slab.Id.Id}}
+use Rattle.std.proofs.{Common.{◌≡◌, ◌≢◌, ℕ, zero, suc, ◌+◌, ◌≤◌, ◌&&◌, ◌||◌, not, cond, Bool, true, false, Contains, List, [], ◌∷◌, ◌++◌, count_by, length, Option, Some, None, IsSome, Result, Ok, Err, refl, sym, ap, subst, ◌∙◌, arith, inl, inr, slice_get}, lemmas.{Bool.{false≢true, eq-eqb}, List.{Recursion.is_count_by, append-nil, Elements.Contains-append_cases}}}
+use Rattle.exec_base.specs.{Slab.{Slab, value_at}, declared.{error.Error.Error, slab.Id.Id}}
 use Rattle.exec_outcomes.specs.{Accounts.Account, declared.outcome.Outcome.Outcome}
 use Rattle.exec_time.specs.declared.{notes.ForwardedResult.ForwardedResult, timers.Sleeper.Sleeper as Sleeping}
 use Rattle.exec_request.specs.{Requests.{output_of, retired_of}, States.Ended, declared.output.RequestOutput.RequestOutput}
 use Rattle.exec_waiters.{specs.{Events.{output_told, told_by_finish, waker_in}, States.{is_held_by, waiter_at, waiter_of}, Told.{Tells, Told, tasks_of}, declared.{deferred.{Answer.Answer, Deferred.Deferred}, observer.Observer.{Observer, TheVariants.{DetachedSync, Forwarded, Local, Orphaned}}, waiter.{Entry.{Entry, TheVariants.{Pending, Ready}}, Waiter.Waiter}}}, proofs.Changes.entry_of}
 use Rattle.exec_driver.specs.Driving.{Driving}
 use Rattle.exec_machine.specs.{declared.state.{Forwarding.Forwarding, RequestPhase.{RequestPhase, TheVariants.Resolved}}, Tests.{is_applied, is_resolved}}
-use Rattle.exec_parts.{specs.{declared.parts.{mail.{Reply.Reply, Subject.Subject}, names.Names.Names, record.Record.Record, sleeping.SleeperRecord.SleeperRecord}, Records.{number_in, outcome_in}, Serving.changed_at}, proofs.Facts.{by_name, by_number, not_same, same_thing, set_elsewhere, set_there}}
-use Rattle.exec_invariants.{specs.{Due.AreTimed, Holding.{Awaits, Box, Hands, HasAnswer, Holder, IsAnswerOf, IsForwarded, IsHeldBy, IsHolding, IsOwed, Mail, Nap, Owes, Thing, ThingOwes, holdings, mail_in, thing_of, under_way}, Places.one_if, Rooted.{IsKept, IsNear, IsReplyFor, IsResult, IsRooted, Pays, StandsAt, Watches, goes_elsewhere, is_of_request, is_of_timer, outcome_told, results_of}, Sound.{IsAlike, IsNamed}}, proofs.{HoldRedo.holding_redone, Marking.{mark_if, marked}, Over.{OneEnds, apart_number, gone_here, is_over, other_record, unresolved_before}, Resolving.{EntryAfter, ToldOnce}}}
-use Rattle.exec_words.specs.declared.inbox.Message.{Message}
-use Rattle.exec_parts.specs.declared.parts.mail.Subject.TheVariants as subject
+use Rattle.exec_parts.{specs.{declared.parts.{mail.Reply.Reply, names.Names.Names, record.Record.Record, sleeping.SleeperRecord.SleeperRecord}, Records.{number_in, outcome_in}, Serving.changed_at}, proofs.Facts.{by_name, by_number, not_same, same_thing}}
+use Rattle.exec_invariants.{specs.{Due.AreTimed, Holding.{IsAnswerOf, thing_of}, Places.one_if, Rooted.{IsKept, IsNear, IsReplyFor, IsResult, IsRooted, Pays, StandsAt, Watches, goes_elsewhere, is_of_request, is_of_timer, outcome_told, results_of}, Names.{IsAlike, IsNamed}}, proofs.{Marking.{mark_if, marked}, Over.{OneEnds, apart_number, gone_here, is_over, other_record, unresolved_before}, Resolving.{EntryAfter, ToldOnce}}}
 
 -- WHAT IS TOLD of its end, by who waits for it
 
@@ -336,108 +334,3 @@ module _ (i : ℕ) (n n' : Names) (d d' : Driving Reply Reply) (zs : Slab (Sleep
         sent = sent_then;
         sleeper_sent = λ j z there of_i. ap (λ xs. count_by (λ (c : ForwardedResult Reply). is_of_timer j c.sender.of) xs + one_if z.sent) completions_then ∙ rooted.sleeper_sent j z there of_i;
       }
-
--- WHAT TASKS HOLD AND ARE OWED
-
--- one wake more is owed, if any
-pub record WakesMore (h h' : Hands) (r : Thing) (i u : ℕ) : Type 0 where
-  pub more : h'.wakes i u ≡ h.wakes i u + 1
-  pub worker : r.worker ≡ i
-  pub waiter : r.waiter ≡ Some u
-  pub observed : r.observed ≡ true
-  pub unpaid : r.paid ≡ 0
-  pub unsent : r.sent ≡ false
-
-module _ (h h' : Hands) (workers : ℕ) (hs : List Holder) (ts : List Thing) (naps : List Nap) (boxes : List Box) (k : ℕ) (r : Thing) (outcome : Outcome)
-    (there : slice_get ts k ≡ Some r) (going : r.ended ≡ None) (mail : (m : Mail) → h'.mail m ≡ h.mail m) (wakes : (i u : ℕ) → 0 < h'.wakes i u → (h'.wakes i u ≡ h.wakes i u) ⊎ WakesMore h h' r i u) (old : IsHolding h workers hs ts naps boxes) where
-  abbrev pub ended : Thing
-  ended = record r { ended = Some outcome }
-
-  now_ended : slice_get (slice_set ts k ended) k ≡ Some ended
-  now_ended = set_there ts k ended r there
-
-  never_some : {X : Type 0} {x : X} → None ≡ Some x → ⊥
-  never_some h = absurd (cc)
-
-  owes_on : (i u : ℕ) (o : Option Subject) → Owes i u o ts naps boxes → Owes i u o (slice_set ts k ended) naps boxes
-  owes_on i u None owes = owes
-  owes_on i u (Some (subject.Timer n)) owes = owes
-  owes_on i u (Some (subject.Request n)) owes =
-      by_number n k
-      (λ apart. (owes.0, set_elsewhere ts k n ended apart ∙ owes.1, owes.2))
-      (λ same.
-      let is : owes.0 ≡ r = same_thing owes.0 r (sym owes.1 ∙ ap (slice_get ts) same ∙ there) in
-      let by : ThingOwes i u r boxes = subst (λ x. ThingOwes i u x boxes) is owes.2 in
-      (ended, ap (slice_get (slice_set ts k ended)) same ∙ now_ended, record { worker = by.worker; waiter = by.waiter; unpaid = by.unpaid; unsent = by.unsent; over = inl refl }))
-
-  -- it owed none before
-  none_before : (i u : ℕ) (a : Awaits (subject.Request k) u hs) → r.observed ≡ true → 0 < h.wakes i u → ⊥
-  none_before i u a seen some =
-      let owed = (old.owed i u some).1 in
-      let same : owed.it ≡ a.it = same_thing owed.it a.it (sym owed.there ∙ a.there) in
-      let owes : Owes i u (Some (subject.Request k)) ts naps boxes = subst (λ o. Owes i u o ts naps boxes) (ap (λ (x : Holder). x.awaits) same ∙ a.awaits) owed.owes in
-      let is : owes.0 ≡ r = same_thing owes.0 r (sym owes.1 ∙ there) in
-      elim owes.2.over [
-        | inl over ↦ false≢true (ap is_some (sym going) ∙ ap (λ (x : Thing). is_some x.ended) (sym is) ∙ over)
-        | inr let_go ↦ false≢true (sym let_go.0 ∙ ap (λ (x : Thing). x.observed) is ∙ seen)
-      ]
-
-  owed_then : (i u : ℕ) → 0 < h'.wakes i u → (h'.wakes i u ≡ 1) × IsOwed i u hs (slice_set ts k ended) naps boxes
-  owed_then i u some =
-      elim (wakes i u some) [
-        | inl same ↦
-            let was = old.owed i u (subst (λ n. 0 < n) same some) in
-            (same ∙ was.0, record { it = was.1.it; there = was.1.there; owes = owes_on i u was.1.it.awaits was.1.owes })
-        | inr more ↦
-            let a = old.waited k r u there more.waiter (inl more.observed) in
-            let none : h.wakes i u ≡ 0 = by_zero (h.wakes i u) (λ some. none_before i u a more.observed some) in (
-              more.more ∙ ap (λ n. n + 1) none,
-              record {
-                it = a.it;
-                there = a.there;
-                owes = subst (λ o. Owes i u o (slice_set ts k ended) naps boxes) (sym a.awaits) (ended, now_ended, record { worker = more.worker; waiter = more.waiter; unpaid = more.unpaid; unsent = more.unsent; over = inl refl });
-              },
-            )
-      ]
-    where
-      by_zero : (n : ℕ) → (0 < n → ⊥) → n ≡ 0
-      by_zero zero h = refl
-      by_zero (suc n) h = absurd (h (omega arith))
-
-  answer_on : (o : OneShotState (Result RequestOutput Error)) → HasAnswer o r → HasAnswer o ended
-  answer_on OneShotState.Open h = h
-  answer_on (OneShotState.Sent (Ok out)) h = absurd (never_some (sym going ∙ h.1))
-  answer_on (OneShotState.Sent (Err error)) h = h
-  answer_on OneShotState.Closed h = h
-
-  pub holding_ended : IsHolding h' workers hs (slice_set ts k ended) naps boxes
-  holding_ended =
-      holding_redone h h' workers hs hs ts naps boxes None k r ended
-      (record {
-        thing = there;
-        worker = refl;
-        others = λ u other. refl;
-        homes = λ u is. is;
-        holdings_of = λ n other. refl;
-        waiters_of = λ n. refl;
-        mail = λ m apart. mail m;
-        made = λ m some. old.made m (subst (λ n. 0 < n) (mail m) some);
-        held = λ box at is. subst (λ n. IsHeldBy box.shut r.observed (holdings k hs) n) (sym (way (Message.Cancel (subject.Request k)))) is;
-        forwarded = λ box at is. subst (IsForwarded box.shut r.forwarding) (sym (way (Message.Forward (subject.Request k)))) is;
-        asked = old.asked k r there;
-        sent = old.sent k r there;
-        waited = λ u waiter due. old.waited k r u there waiter due;
-        waited_on = λ n u other is. is;
-        sleeps_on = λ n u is. is;
-        holds = λ u o j x never. absurd (never_some never);
-        holds_else = λ u o j x other at at_j is by. record { worker = by.worker; near = by.near; here = by.here; waiter = by.waiter; awaited = by.awaited };
-        awaiting = λ u o n never. absurd (never_some never);
-        awaiting_else = λ u o other at is by. record { waiter = by.waiter; near = by.near; here = by.here; newest = by.newest; answer = λ sent. answer_on o.output (by.answer sent) };
-        asleep = λ u o n never. absurd (never_some never);
-        over = λ u o never. absurd (never_some never);
-        owed = owed_then;
-      })
-      old
-    where
-      way : (m : Mail) → under_way h' m boxes ≡ under_way h m boxes
-      way m = ap (λ n. n + sum_by (λ box. mail_in m box.messages) boxes) (mail m)

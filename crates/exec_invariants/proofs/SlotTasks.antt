@@ -5,7 +5,7 @@ use Rattle.exec_task.specs.{Phases.{is_polled, runnable_of}, declared.runnable.R
 use Rattle.exec_machine.specs.declared.config.Configuration.{Configuration}
 use Rattle.exec_moves.specs.{declared.place.{InPoll.InPoll, Place.Place}, Seen.{polls_at, polls_in}}
 use Rattle.exec_parts.{specs.{declared.parts.{record.Record.Record, role.Role.Role, seat.Seat.Seat as Chair, shared.Shared.Shared, sleeping.SleeperRecord.SleeperRecord, task_slot.TaskSlot.TaskSlot, worker.Worker.Worker}, Phased.{IsPhased, closes_at, closing_in, is_complete, stage_of}, Roles.is_pool, Calls.IsTold, View.driver_of}, proofs.Facts.{by_number, not_same, same_thing, set_elsewhere, set_there}}
-use Rattle.exec_invariants.specs.{Due.IsDue, Flown.HasFlown, Holding.Mail, HoldPlaces.{cancels_at, heard_at, is_bare_at, sends_cancel_at, spare_at}, Places.{begins_at, calls_back_at, claims_at, clears_at, hands_on_at, has_count_at, has_loot_at, in_poll_of, is_armed_at, is_pooled_at, is_published_at, joins_at, one_if, or_polls, passes_at, polled_in, searches_at, step_of_poll, task_at}, Rooted.HearsNext, Sound.{Aims, AreHome, AreResting, HasBatch, HasGuest, HasLetters, HasQueue, HasRunnable, IsHeld, IsInHand, IsLeft, IsLoot, IsResting, IsRunnable, IsSearching, IsSeated, IsTied, LetsGo, LetsGoAt, SoundAt, Stands, Stops, StopsIn, has_wakes_at, one_of, root_in_hand, served_in, tellers, Serves}, Whole.IsGenuine}
+use Rattle.exec_invariants.specs.{Due.IsDue, Flown.HasFlown, Holding.Mail, HoldPlaces.{cancels_at, heard_at, is_bare_at, sends_cancel_at, spare_at}, Places.{begins_at, calls_back_at, claims_at, clears_at, hands_on_at, has_count_at, has_loot_at, in_poll_of, is_armed_at, is_pooled_at, is_published_at, joins_at, one_if, or_polls, passes_at, polled_in, searches_at, step_of_poll, task_at}, Rooted.HearsNext, Sound.{Aims, AreHome, AreResting, HasBatch, HasGuest, HasLetters, HasQueue, HasRunnable, IsHeld, IsInHand, IsLeft, IsLoot, IsResting, IsRunnable, IsSearching, IsSeated, IsTied, LetsGo, LetsGoAt, SoundAt, Stands, Stops, StopsIn, has_wakes_at, one_of, root_in_hand, served_in, Serves}, Names.tellers, Whole.IsGenuine}
 
 -- WHERE IT LEADS: what such a place says
 

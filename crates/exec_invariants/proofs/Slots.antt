@@ -6,7 +6,7 @@ use Rattle.exec_task.specs.{Phases.is_polled, declared.{body.Said.Said, runnable
 use Rattle.exec_machine.specs.{declared.event.Event.Event, After.{own_after, common_after}, Allowed.allowed, Choice.Choice, Progress.Plan, Tests.AllTrue, World.no_task}
 use Rattle.exec_moves.specs.{declared.place.{InPoll.InPoll, Place.Place}, Move.move_at, Seen.polls_at}
 use Rattle.exec_parts.{specs.{declared.parts.{record.Record.Record, shared.Shared.Shared, task_slot.TaskSlot.TaskSlot, worker.Worker.Worker}, Phased.{closes_at, closing_in, has_left, is_complete}, Roles.is_pool, Spots.Spot, View.{Views, visible, with_view, own_of, desk_of, common_of, task_seen, things_with}}, proofs.Facts.{and_none, by_number, same_thing, set_elsewhere, set_there}}
-use Rattle.exec_invariants.{specs.{Drained.IsBefore, Hearing.Hears, Holding.{IsHolding, box_of, holder_of, nap_of, thing_of}, Gates.HaveGates, Places.{Drops, claims_at, clears_at, drops_at, has_count_at, is_published_at, one_if, removes_at}, Sound.{AreHome, SoundAt}, Spares.{Spares, SparesPolled}, Whole.{HasOne, IsGenuine, IsWhole, Profile, duties_of, hands_of, is_number, may_let_go, runnables_in, stock, with_worker}, Works.{Beside, Steps, Suits, Works}}, proofs.{Aside.spared, Dedicated.chair_of_pool, Hearing.hears_so, PoolKept.{Redoes, chosen_other, chosen_own, is_its, number_is, pool_slot}, Spared.{records_endure, sleepers_endure, sleeper_spared, spared_same}, Turning.{set_found, view_found}, SlotTasks.{IsAfter, one_true, Tasked, sound_tasked, Keeps, genuine_set, guest_pool}}}
+use Rattle.exec_invariants.{specs.{Drained.IsBefore, Hearing.Hears, Holding.{IsHolding, box_of, holder_of, nap_of, thing_of}, Gates.HaveGates, Places.{Drops, claims_at, clears_at, drops_at, has_count_at, is_published_at, one_if, removes_at}, Sound.{AreHome, SoundAt}, Spares.{Spares, SparesPolled}, Whole.{HasOne, IsGenuine, IsWhole, Profile, duties_of, hands_of, is_number, may_let_go, runnables_in, stock, with_worker}, Works.{Beside, Steps, Suits, Works}}, proofs.{Aside.spared, Dedicated.chair_of_pool, Hearing.hears_so, PoolKept.{Redoes, chosen_other, chosen_own, is_its, number_is, pool_slot}, Spared.{records_endure, sleepers_endure}, SparedRecord.{sleeper_spared, spared_same}, Turning.{set_found, view_found}, SlotTasks.{IsAfter, one_true, Tasked, sound_tasked, Keeps, genuine_set, guest_pool}}}
 
 -- a worker that passes no permit on, and has no request join a gate
 pub gates_free : (i : ℕ) (drops drops' : ℕ → Drops) (opens : List OpenState) (rs : List Record) → ((j : ℕ) → j ≢ i → drops' j ≡ drops j) → (drops' i).passes ≡ None → (drops' i).joins ≡ None → HaveGates drops opens rs → HaveGates drops' opens rs

@@ -4,7 +4,7 @@ use Rattle.exec_base.specs.{Slab.{Slab, freed, is_live, removed, value_at, writt
 use Rattle.exec_waiters.{specs.declared.waiter.Entry.Entry, proofs.Changes.at_by}
 use Rattle.exec_moves.specs.{Slots.{is_in_slots, slot_of, vacated}, Told.has_number}
 use Rattle.exec_parts.{specs.{declared.parts.mail.Reply.Reply, Records.number_in, View.{awaited_from, awaits_entry, is_awaited, slots_from, slots_seen}}, proofs.Facts.{not_same, same_thing}}
-use Rattle.exec_invariants.proofs.{HeldCounts.{awaited_set, slots_set}, Spared.there_within}
+use Rattle.exec_invariants.proofs.{HeldCounts.{awaited_set, slots_set}, SparedRecord.there_within}
 
 -- what is live stands in its slot
 pub live_at : (s : Slab (Entry Reply Reply)) (id : Id) (e : Entry Reply Reply) → value_at s id ≡ Some e → slice_get s.slots id.index ≡ Some (Live id.generation e)

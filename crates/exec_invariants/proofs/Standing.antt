@@ -7,7 +7,7 @@ use Rattle.exec_driver.specs.{Driving.{Driving, has_pending}, Lists.has_first}
 use Rattle.exec_machine.specs.{declared.{config.Configuration.Configuration, state.Request.Request}, Ranges.ring_size, Tests.{is_empty, is_resolved}}
 use Rattle.exec_moves.specs.Load.{has_submissions}
 use Rattle.exec_parts.{specs.{declared.parts.{mail.Reply.Reply, names.Names.Names, record.Record.Record, sleeping.SleeperRecord.SleeperRecord, worker.Worker.Worker}, Records.number_in, View.{own_of, driver_of}}, proofs.Facts.{same_number, or_right, by_not}}
-use Rattle.exec_invariants.specs.Sound.{IsNamed}
+use Rattle.exec_invariants.specs.Names.{IsNamed}
 
 -- TESTS OVER LISTS
 

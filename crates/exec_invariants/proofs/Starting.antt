@@ -1,5 +1,5 @@
 -- What the staging of a request's operation is to the machine.
-use Rattle.std.{proofs.{Common.{◌≡◌, ◌≢◌, ℕ, ◌+◌, ◌*◌, ◌<◌, ◌&&◌, ◌||◌, Bool, true, false, not, List, [], ◌∷◌, ◌++◌, length, Option, Some, None, refl, sym, ap, ◌∙◌, slice_get, is_some}, lemmas.Bool.false≢true}, specs.Option.option_map}
+use Rattle.std.{proofs.{Common.{◌≡◌, ℕ, ◌+◌, ◌*◌, ◌<◌, ◌&&◌, ◌||◌, Bool, true, false, not, List, [], ◌∷◌, ◌++◌, length, Option, Some, None, refl, sym, ap, ◌∙◌, slice_get, is_some}, lemmas.Bool.false≢true}, specs.Option.option_map}
 use Rattle.exec_base.specs.Slab.{value_at}
 use Rattle.exec_outcomes.specs.{Accounts.is_durable, declared.outcome.Judged.Judged, Outcomes.{HasCome, stop_of, present, moved_by}}
 use Rattle.exec_request.specs.{Kept.{kept_of, seen_by}, Requests.{asked_of, cursor_of, hinted_of, deadline_of}, States.asks_cancel, declared.{request.Request.Request as Asking, results.WaiterState.{WaiterState, TheVariants.{Active, CancelRequested}}}}
@@ -9,7 +9,7 @@ use Rattle.exec_driver.specs.{Driving.{request_at, is_queued}, Lists.{first_of, 
 use Rattle.exec_machine.specs.{declared.state.{Request.Request, RequestPhase.RequestPhase}, Requests.is_enrolled, Same.is_none, Tests.{is_gated, is_in_flight, is_kept, is_resolved}}
 use Rattle.exec_moves.specs.declared.place.Service.{Service}
 use Rattle.exec_parts.specs.{declared.parts.{mail.Reply.Reply, record.Record.Record, shared.Shared.Shared, worker.Worker.Worker}, Records.number_in, Serving.{AreKnown, AreTagged, cancels_in, is_cancel}, Submitting.staged_with, View.driver_of}
-use Rattle.exec_invariants.{specs.{Flown.IsPlain, Sound.IsAlike, Submits.IsIdle}, proofs.{Going.GoesOn, Marking.mark_if, Staging.among_first}}
+use Rattle.exec_invariants.{specs.{Flown.IsPlain, Names.IsAlike, Submits.IsIdle}, proofs.{Going.GoesOn, Marking.mark_if, Staging.among_first}}
 
 -- ITS PHASE
 

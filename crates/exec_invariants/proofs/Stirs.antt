@@ -1,6 +1,6 @@
 -- A task wakes an ordinary task, or itself: what holds then, and what the step is to the machine.
 use Rattle.std.proofs.{Common.{◌≡◌, ◌≢◌, inr, ℕ, zero, suc, ◌+◌, ◌&&◌, arith, Bool, true, false, Contains, List, [], length, map, Option, Some, None, refl, sym, ap, subst, ◌∙◌, option_to_list, slice_get, slice_index_or, slice_set, if◌then◌else◌}, lemmas.{Bool.{false≢true, eq-eqb}, List.map-set}}
-use Rattle.exec_task.specs.{Phases.{runnable_of, woken as cell_woken, is_idle as is_cell_idle}, declared.{body.{Act.Act, Said.Said}, runnable.Runnable.Runnable, task.Phase.Phase}}
+use Rattle.exec_task.specs.{Phases.{runnable_of, woken as cell_woken, is_idle as is_cell_idle}, declared.{body.{Said.Said}, runnable.Runnable.Runnable, task.Phase.Phase}}
 use Rattle.exec_machine.specs.{Choice.{Choice.Pays, Payer.ByAct}, declared.{config.ScriptWord.ScriptWord, event.Event.TheVariants.Wake, state.{Next.Next, TaskPhase.TaskPhase, Waiting.Waiting}}, Progress.Plan, Same.is_number, Tasks.{after_wake, after_waking_word, is_woken_here, woken}, Tests.is_idle, Words.{acts, asks_wake, asks_yield, next_word}, World.{Common, Task, no_task, task_of}}
 use Rattle.exec_moves.specs.{Callback.{is_of_pool, to_queue}, declared.{handing.{AfterPush.AfterPush, InGlobal.InGlobal, InPush.InPush}, place.{InPoll.InPoll, Place.Place}}, Move.move_wake, Seen.{next_at, polls_at, serves_at}, Send.wake_task, State.{Desk, Moved, Things, goes}}
 use Rattle.exec_parts.{specs.{Roles.is_pool, Tests.first_push_of, declared.parts.{shared.Shared.Shared, task_slot.TaskSlot.TaskSlot, worker.Worker.Worker}, Pooled.woken_slot, Spots.Spot, View.{Views, common_of, desk_of, own_of, owed_at, task_seen, things_with, visible, with_view}}, proofs.Facts.{by_number, or_left, same_thing, set_elsewhere, set_there}}

@@ -3,7 +3,7 @@ use Rattle.std.{proofs.{Common.{◌≡◌, ℕ, zero, suc, ◌+◌, ◌≤◌, �
 use Rattle.exec_ring.specs.{Completions.{is_wake, wake_completion}, Kernels.{has_none, is_quiet, reaped, with_wake}, Rings.{RingState, completions, spelled}, declared.completion.{Completion.Completion, Posted.Posted}}
 use Rattle.exec_driver.specs.{Driving.Driving, Steps.{is_control, swept, with_landings}}
 use Rattle.exec_machine.specs.Tests.{is_empty}
-use Rattle.exec_moves.specs.State.{dropped, is_dropped, others_left, told_left, raised}
+use Rattle.exec_moves.specs.State.{dropped, is_dropped, others_left, told_left}
 use Rattle.exec_parts.specs.{declared.parts.mail.Reply.Reply, Pooled.with_raises, View.{trailing, trails_wake, behind_end, wake_poll_in, raised_times}}
 use Rattle.exec_invariants.{specs.{Flown.{polls_in, ends_in, IsPolled}, Places.one_if}, proofs.{Behind.{is_op, after_controls, armed_through, armed_through_is, dropped_first, ended_after, ends_after, first_is, none_left, ops_after, reaped_armed, reaped_ended, reaped_ends, reaped_others, reaped_told}, Woken.{Raises, one_most, raise_polled, raise_same, raise_shown, raises_both, raises_none}, WokenEntered.ended_some, WokenSwept.{first_there, sweeps}}}
 

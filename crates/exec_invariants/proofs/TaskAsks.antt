@@ -5,7 +5,7 @@ use Rattle.exec_task.specs.declared.body.Said.{Said}
 use Rattle.exec_machine.specs.{declared.{config.Configuration.Configuration, event.Event.{Event, TheVariants.{Closed, Send}}, state.MailMessage.MailMessage}, After.{own_after, common_after}, Allowed.allowed, Choice.Choice.Plain, Mail.posted as seat_posted, Progress.Plan, Tests.AllTrue, World.{no_seat, seat_of}}
 use Rattle.exec_moves.specs.{declared.{handing.{AfterSend.AfterSend, AfterSignal.AfterSignal, InSignal.InSignal}, place.{InPoll.InPoll, Place.Place}}, Move.move_at, Parts.after_send, Send.{after_posting, asks as asks_box, posted, send_message, sent}, State.{Desk, Things, goes}, Thing.{mailbox_of, set_mailbox, with_mailbox}}
 use Rattle.exec_parts.{specs.{declared.parts.{seat.Seat.Seat as Chair, shared.Shared.Shared, task_slot.TaskSlot.TaskSlot, worker.Worker.Worker}, MailPosts.asks_by, Spots.Spot, View.{Views, Visible, common_of, desk_of, inbox_at, own_of, polls_seen, queue_at, seat_seen, seats_seen, things_with, visible, with_view, word_at}}, proofs.Facts.{by_number, set_elsewhere, set_there}}
-use Rattle.exec_invariants.{specs.{Holding.Mail, Kinds.kind_of, Sound.{Aims, HasBatch, HasQueue, IsSeated, SoundAt, TellsPast, has_wakes_at}, Hearing.Hears, Spares.SparesChair, Whole.{Profile, with_worker}, Works.{Beside, Steps, Suits, Works}}, proofs.{Hearing.hears_so, Here.IsHere, HoldBeside.{Deals, Handles, Holds, beside_dealt}, HoldThings.Touches, LetterPosts.{IsLetter, asks_open, chair_open, seat_open, things_open}, Polling.home_mine, Seats.{chair_set, seat_there}, Spared.there_within, Aside.{SameProfile, queue_of_chair, queues_set, seats_other}, PoolKept.{gate_spared, gates_set}, TaskDeals.{ComesFrom, Dealt, GoesOn, profile_here, sound_dealt}, Turning.{view_found, Fits, arrives, by_place, lower, of_kind, sound_on}}}
+use Rattle.exec_invariants.{specs.{Holding.Mail, Kinds.kind_of, Sound.{Aims, HasBatch, HasQueue, IsSeated, SoundAt, TellsPast, has_wakes_at}, Hearing.Hears, Spares.SparesChair, Whole.{Profile, with_worker}, Works.{Beside, Steps, Suits, Works}}, proofs.{Hearing.hears_so, Here.IsHere, HoldBeside.{Deals, Handles, Holds, beside_dealt}, HoldThings.Touches, LetterPosts.{IsLetter, asks_open, chair_open, seat_open, things_open}, Polling.home_mine, Seats.{chair_set, seat_there}, SparedRecord.there_within, Aside.{SameProfile, queue_of_chair, queues_set, seats_other}, PoolKept.{gate_spared, gates_set}, TaskDeals.{ComesFrom, Dealt, GoesOn, profile_here, sound_dealt}, Turning.{view_found, Fits, arrives, by_place, lower, of_kind, sound_on}}}
 
 -- where such a message leads
 pub record LeadsBy (t : ℕ) (y : InPoll) (b : AfterSend) : Type 0 where

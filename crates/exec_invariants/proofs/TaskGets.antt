@@ -1,5 +1,5 @@
 -- A POLLED TASK TAKES THE OUTPUT of a request of its worker's: by a look at what it waits for, or by an act.
-use Rattle.std.proofs.{Common.{◌≡◌, ◌≢◌, ◌⊎◌, inl, inr, ⊎_elim, ℕ, ◌+◌, ◌-◌, ◌≤◌, ◌==◌, ◌&&◌, ◌||◌, true, false, not, List, [], length, map, take, Option, Some, None, IsSome, option_map, refl, sym, ap, subst, ◌∙◌, arith, slice_get, slice_set}, lemmas.{Bool.{false≢true, eq-eqb}, List.{length-set, map-set}, Option.slice_get-map}}
+use Rattle.std.proofs.{Common.{◌≡◌, ◌⊎◌, inl, inr, ⊎_elim, ℕ, ◌+◌, ◌-◌, ◌≤◌, ◌==◌, ◌&&◌, ◌||◌, true, false, not, List, [], length, map, take, Option, Some, None, IsSome, option_map, refl, sym, ap, subst, ◌∙◌, arith, slice_get, slice_set}, lemmas.{Bool.{false≢true, eq-eqb}, List.{length-set, map-set}, Option.slice_get-map}}
 use Rattle.exec_base.specs.Slab.{freed, live_count, removed, value_at}
 use Rattle.exec_outcomes.specs.declared.outcome.Outcome.{Outcome}
 use Rattle.exec_request.specs.declared.output.RequestOutput.{RequestOutput}
@@ -7,10 +7,10 @@ use Rattle.exec_ring.specs.Rings.{RingState, completions}
 use Rattle.exec_waiters.specs.{Events.{taken, taken_from}, States.{awaits_tick, flying_count, tick_of, waiter_at, waiter_of}, declared.waiter.Entry.{Entry, TheVariants.{Pending, Ready}}}
 use Rattle.exec_driver.specs.{Driving.Driving, Punctual.IsPunctual}
 use Rattle.exec_task.specs.declared.body.Said.{Said}
-use Rattle.exec_machine.specs.{After.{common_after, own_after}, declared.{event.Event.TheVariants.Got, state.{Forwarding.{Forwarding, TheVariants.Unsent}, Request.Request, RequestPhase.TheVariants.Resolved, Waiting.Waiting}}, Choice.Choice.Plain, Progress.Plan, Same.is_number, Tasks.{after_taking, is_here, polls_waiting, without_newest}, Tests.{is_applied, is_resolved, is_resolved_with, is_unsent, waits_for_request}, Words.{acts, asks_await, newest_held, polled_task}, World.{Common, Own, Task, request_of, task_of}}
+use Rattle.exec_machine.specs.{After.{common_after, own_after}, declared.{event.Event.TheVariants.Got, state.{Forwarding.{Forwarding, TheVariants.Unsent}, RequestPhase.TheVariants.Resolved, Waiting.Waiting}}, Choice.Choice.Plain, Progress.Plan, Same.is_number, Tasks.{after_taking, is_here, polls_waiting, without_newest}, Tests.{is_applied, is_resolved, is_resolved_with, is_unsent, waits_for_request}, Words.{acts, asks_await, newest_held, polled_task}, World.{Common, Own, Task, request_of, task_of}}
 use Rattle.exec_moves.specs.{declared.place.{InPoll.InPoll, Place.Place}, Move.move_at, Poll.acts_on, Slots.vacated, State.Desk, Told.without_request}
 use Rattle.exec_parts.specs.{declared.parts.{mail.Reply.Reply, record.Record.Record, shared.Shared.Shared, task_slot.TaskSlot.TaskSlot, worker.Worker.Worker}, Awaits.newest_of, Phased.is_complete, Polls.unobserved, Records.number_in, Scripts.IsAnswered, Serving.{changed_at, changed_in}, Spots.Spot, View.{Views, Visible, common_of, desk_of, driver_of, landed_in, message_of, numbers_of, numbers_of_passing, own_of, slots_seen, awaited_from, awaits_entry, task_seen, things_with, trailing, visible, wake_poll_in, with_view}}
-use Rattle.exec_invariants.{specs.{Holding.{Holder, IsHolding, awaited_in, box_of, holder_of, nap_of, thing_of}, Due.IsDue, Flown.HasFlown, HoldPlaces.{has_wakes_at, is_bare_at}, Places.one_if as one_when, Sound.{SoundAt, acts_next, served_in, tellers}, Whole.{Profile, hands_of, with_worker}, Works.{Beside, Suits, Works}}, proofs.{Here.{IsHere, going_on}, HoldBeside.Holds, HoldSteps.{IsNewest, thing_taken}, Keys.{name_in, names_changed, same_gates, same_opens}, LetRooted.{Rewaits, keeps_watched}, LetSlots.{slot_here, slot_here_is}, LetSlab.{one_held_less, other_entry, past_back, same_flying, same_pending, same_waiters, still_there}, Lined.{passing_same, opens_same}, Orders.{alike_self, past_removed}, Resolving.places_fewer, Seen.request_at, Serving.{KeepsBy, spares_one}, Slots.task_there, Slotted.{awaited_removed, slots_vacated}, Spared.there_within, TaskDeals.{ComesFrom, Dealt, acts as to_act}, TaskHears.{newest_split, resolved_self, thing_there}, TaskHomes.{Homes, IsFree, beside_goes, sound_goes}, TaskLooks.unsent_is, TaskTakes.{holder_there, holders_one, no_wakes}, Turning.{set_found, view_found}, Watching.{Rewatched, Watched}}}
+use Rattle.exec_invariants.{specs.{Holding.{Holder, IsHolding, awaited_in, box_of, holder_of, nap_of, thing_of}, Due.IsDue, Flown.HasFlown, HoldPlaces.{has_wakes_at, is_bare_at}, Places.one_if as one_when, Sound.{SoundAt, acts_next, served_in}, Names.tellers, Whole.{Profile, hands_of, with_worker}, Works.{Beside, Suits, Works}}, proofs.{Here.{IsHere, going_on}, HoldBeside.Holds, HoldSteps.{IsNewest, thing_taken}, Keys.{name_in, names_changed, same_gates, same_opens}, LetRooted.{Rewaits, keeps_watched}, LetSlots.{slot_here, slot_here_is}, LetSlab.{one_held_less, other_entry, past_back, same_flying, same_pending, same_waiters, still_there}, Lined.{passing_same, opens_same}, Orders.{alike_self, past_removed}, Resolving.places_fewer, Seen.request_at, ServingHolds.KeepsBy, Serving.spares_one, Slots.task_there, Slotted.{awaited_removed, slots_vacated}, SparedRecord.there_within, TaskDeals.{ComesFrom, Dealt, acts as to_act}, TaskHears.{newest_split, resolved_self, thing_there}, TaskHomes.{Homes, IsFree, beside_goes, sound_goes}, TaskLooks.unsent_is, TaskTakes.{holder_there, holders_one, no_wakes}, Turning.{set_found, view_found}, Watching.{Rewatched, Watched}}}
 
 -- its output is there
 pub record IsThere (k : ℕ) (r : Record) (w : Worker) : Type 0 where

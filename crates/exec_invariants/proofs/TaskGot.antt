@@ -1,5 +1,5 @@
 -- A POLLED TASK LOOKS at a request of its worker's that it waits for, which is over: it takes the output.
-use Rattle.std.proofs.{Common.{◌≡◌, ◌≢◌, inr, ℕ, arith, ◌-◌, ◌<◌, ◌==◌, ◌||◌, Bool, true, false, length, take, Option, Some, None, IsSome, refl, sym, ap, subst, ◌∙◌, slice_get, slice_set, if◌then◌else◌}, lemmas.{Bool.{false≢true, eq-eqb}, Option.slice_get_within}}
+use Rattle.std.proofs.{Common.{◌≡◌, inr, ℕ, arith, ◌-◌, ◌<◌, ◌==◌, ◌||◌, Bool, true, length, take, Option, Some, None, IsSome, refl, sym, ap, subst, ◌∙◌, slice_get, slice_set, if◌then◌else◌}, lemmas.{Bool.{false≢true, eq-eqb}, Option.slice_get_within}}
 use Rattle.exec_outcomes.specs.declared.outcome.Outcome.{Outcome}
 use Rattle.exec_request.specs.declared.output.RequestOutput.{RequestOutput}
 use Rattle.exec_task.specs.declared.body.Said.{Said}

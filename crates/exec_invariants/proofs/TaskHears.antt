@@ -1,13 +1,13 @@
 -- A POLLED TASK LOOKS whether an end was sent to it that it waits for elsewhere: it takes the output, or its poll ends next.
-use Rattle.std.proofs.{lemmas.{List.map-set, Option.slice_get-map, Bool.{false≢true, eq-eqb}}, Common.{inr, inl, ◌≡◌, ◌≢◌, ℕ, zero, suc, ◌||◌, true, false, List, [], ◌∷◌, take, Option, Some, None, IsSome, refl, sym, ap, subst, ◌∙◌, ◌==◌, arith, length, ◌-◌, map, option_map, slice_get, slice_set, if◌then◌else◌}}
+use Rattle.std.proofs.{lemmas.{List.map-set, Option.slice_get-map, Bool.{false≢true, eq-eqb}}, Common.{inr, inl, ◌≡◌, ℕ, zero, suc, ◌||◌, true, false, List, [], ◌∷◌, take, Option, Some, None, IsSome, refl, sym, ap, subst, ◌∙◌, ◌==◌, arith, length, ◌-◌, map, option_map, slice_get, slice_set, if◌then◌else◌}}
 use Rattle.exec_base.specs.declared.one_shot.OneShotState.TheVariants.{Closed as Shut}
 use Rattle.exec_outcomes.specs.declared.outcome.Outcome.{Outcome, TheVariants.{Success, Failure}}
 use Rattle.exec_request.specs.declared.output.RequestOutput.{RequestOutput}
 use Rattle.exec_task.specs.declared.body.Said.{Said}
-use Rattle.exec_machine.specs.{declared.{state.{Forwarding.TheVariants.Applied, MailMessage.TheVariants.{ForwardRequest, ForwardTimer}, RequestPhase.TheVariants.Resolved, Request.Request, Waiting.Waiting}, event.Event.{Event, TheVariants.{Got, GotTimer, Turn}}}, Choice.Choice.Plain, Progress.Plan, Tasks.{is_here, without_newest}, Tests.{is_resolved, is_resolved_with, is_unsent, waits_for_nothing, waits_for_request}, Same.is_number, Words.{acts, asks_await, moved_on, newest_held}, World.{Task, request_of, task_of}}
+use Rattle.exec_machine.specs.{declared.{state.{Forwarding.TheVariants.Applied, MailMessage.TheVariants.{ForwardRequest, ForwardTimer}, RequestPhase.TheVariants.Resolved, Waiting.Waiting}, event.Event.{Event, TheVariants.{Got, GotTimer, Turn}}}, Choice.Choice.Plain, Progress.Plan, Tasks.{is_here, without_newest}, Tests.{is_resolved, is_resolved_with, is_unsent, waits_for_nothing, waits_for_request}, Same.is_number, Words.{acts, asks_await, moved_on, newest_held}, World.{Task, request_of, task_of}}
 use Rattle.exec_moves.specs.{declared.{handing.AfterSend.AfterSend, place.{InPoll.InPoll, Place.Place}}, Move.move_look_at, Poll.{Sight.{Asks, HearsRequest, HearsTimer}, acts_on, heard_by, resume, sight_by, sight_of, stops}, State.{Moved, Things, does}, Thing.{aside, with_alarms, with_answers}}
 use Rattle.exec_parts.{specs.{declared.parts.{held.Held.Held, record.Record.Record, shared.Shared.Shared, sleeping.SleeperRecord.SleeperRecord, task_slot.TaskSlot.TaskSlot, worker.Worker.Worker}, Phased.is_complete, MailPosts.TakesAnswer, Polls.unobserved, Records.numbers_held, Scripts.IsAnswered, Spots.Spot, View.{Views, body_in, common_of, desk_of, numbers_of_passing, own_of, task_seen, things_with, visible, with_view}, Serving.changed_in}, proofs.Facts.same_thing}
-use Rattle.exec_invariants.{specs.{Hearing.{CanHear, Hears, held_once_come}, Spares.SparesRecord, Holding.{Holder, IsHolding, awaited_in, box_of, holder_of, nap_of, thing_of}, Sound.{MayStop, SoundAt, acts_next, is_told, may_end}, Whole.{HasWhole, hands_of, with_worker}, Works.{Steps, Suits, Works}}, proofs.{HoldSteps.{IsNewest, thing_taken}, Results.same_error_self, Here.{IsHere, going_on}, HoldBeside.Holds, HoldThings.{Touches, touches_none, touches_record}, Seen.{request_at, sleeper_at}, Slots.{IsEvent, task_there, works_slot}, TaskDeals.{Dealt, acts as to_act, dealt, ends as to_end, from_look}, Keys.{name_in, names_changed, same_gates, same_opens}, Lined.passing_same, Spared.there_within, TaskTakes.{holder_there, holders_one, passes_at, spot_answered}, Turning.{set_found, view_found}}}
+use Rattle.exec_invariants.{specs.{Hearing.{CanHear, Hears, held_once_come}, Spares.SparesRecord, Holding.{Holder, IsHolding, awaited_in, box_of, holder_of, nap_of, thing_of}, Sound.{MayStop, SoundAt, acts_next, is_told, may_end}, Whole.{HasWhole, hands_of, with_worker}, Works.{Steps, Suits, Works}}, proofs.{HoldSteps.{IsNewest, thing_taken}, Results.same_error_self, Here.{IsHere, going_on}, HoldBeside.Holds, HoldThings.{Touches, touches_none, touches_record}, Seen.{request_at, sleeper_at}, Slots.{IsEvent, task_there, works_slot}, TaskDeals.{Dealt, acts as to_act, dealt, ends as to_end, from_look}, Keys.{name_in, names_changed, same_gates, same_opens}, Lined.passing_same, SparedRecord.there_within, TaskTakes.{holder_there, holders_one, passes_at, spot_answered}, Turning.{set_found, view_found}}}
 
 module _ {B : Type 0} where
   -- the slot stays, and its poll ends

@@ -5,7 +5,7 @@ use Rattle.exec_task.specs.declared.task.Task.{Task as TaskCell}
 use Rattle.exec_machine.specs.declared.state.Waiting.{Waiting}
 use Rattle.exec_moves.specs.{declared.place.{InPoll.InPoll, Place.Place}, Seen.polls_at}
 use Rattle.exec_parts.specs.{declared.parts.{mail.Subject.Subject, record.Record.Record, shared.Shared.Shared, sleeping.SleeperRecord.SleeperRecord, task_slot.TaskSlot.TaskSlot, worker.Worker.Worker}, View.driver_of}
-use Rattle.exec_invariants.{specs.{Carried.HasRoom, Due.IsDue, Flown.HasFlown, Gates.AreLinedUp, Holding.Mail, HoldPlaces.{cancels_at, has_wakes_at, sends_cancel_at}, Places.step_of_poll, Sound.{AreHome, HasLetters, IsMyMail, SoundAt, Stops, StopsIn, served_in}, Spares.Spares, Whole.{IsWhole, Profile, with_worker}, Works.Beside}, proofs.{Aside.{SameProfile, queue_of_chair}, Here.IsHere, HoldBeside.{Deals, Handles, Holds, whole_dealt}, HoldThings.{Touches, touches_none}, Lined.lined_kept, Polling.home_mine, PoolKept.gates_same, Serving.{Keeps, SparesRecords, letter_kept, mail_kept, spares_service}, Slots.spares_slot, SlotTasks.Keeps as KeepsSlot, TaskDeals.{ComesFrom, Dealt, GoesOn, here_or_none, profile_here, sound_dealt}}}
+use Rattle.exec_invariants.{specs.{Carried.HasRoom, Due.IsDue, Flown.HasFlown, Gates.AreLinedUp, Holding.Mail, HoldPlaces.{cancels_at, has_wakes_at, sends_cancel_at}, Places.step_of_poll, Sound.{AreHome, HasLetters, IsMyMail, SoundAt, Stops, StopsIn, served_in}, Spares.Spares, Whole.{IsWhole, Profile, with_worker}, Works.Beside}, proofs.{Aside.{SameProfile, queue_of_chair}, Here.IsHere, HoldBeside.{Deals, Handles, Holds, whole_dealt}, HoldThings.{Touches, touches_none}, Lined.lined_kept, Polling.home_mine, PoolKept.gates_same, ServingHolds.Keeps, Serving.{SparesRecords, letter_kept, mail_kept, spares_service}, Slots.spares_slot, SlotTasks.Keeps as KeepsSlot, TaskDeals.{ComesFrom, Dealt, GoesOn, here_or_none, profile_here, sound_dealt}}}
 
 -- the place where it is says nothing of what its task waits for
 abbrev pub IsFree : InPoll → Type 0

@@ -9,7 +9,7 @@ use Rattle.exec_task.specs.declared.body.Said.{Said}
 use Rattle.exec_machine.specs.{declared.{event.Event.Event, state.{Forwarding.{Forwarding, TheVariants.{Applied, Sent as Forwarded, Unsent}}, MailMessage.TheVariants.{ForwardRequest, ForwardTimer}, RequestPhase.{RequestPhase, TheVariants.Resolved}, Waiting.Waiting}}, Tests.is_unsent}
 use Rattle.exec_moves.specs.declared.place.{InPoll.InPoll, Place.Place}
 use Rattle.exec_parts.{specs.{declared.parts.{record.Record.Record, seat.Seat.Seat as Chair, shared.Shared.Shared, sleeping.SleeperRecord.SleeperRecord, task_slot.TaskSlot.TaskSlot, worker.Worker.Worker}, MailPosts.{HasAnswer, HearsEnd, HearsOutput, MayAskEnd, MayAskOutput, MayHearOutput, MaySend}, Records.{numbers_held, outcome_in}, Scripts.IsAnswered, Spots.Spot}, proofs.Facts.same_thing}
-use Rattle.exec_invariants.{specs.{Holding.{HasAnswer as HasAnswerIn, IsHeldBy, awaited_in, box_of, holder_of, holdings, nap_of, outcome_told, thing_of}, Sound.SoundAt, Whole.{HasWhole, hands_of, with_worker}, Works.Steps}, proofs.{AskBoxes.{asks_place, box_there}, AsksEnds.asks_whom, Here.{IsHere, going_on}, HoldSteps.{held_there, hold_once}, HoldWaits.held_number, Spared.there_within, TaskHears.{looked_in_vain, output_heard, thing_there}, TaskTakes.{holder_there, nap_there, sleep_taken}, TaskWants.{may_forward, wants_from}}}
+use Rattle.exec_invariants.{specs.{Holding.{HasAnswer as HasAnswerIn, IsHeldBy, awaited_in, box_of, holder_of, holdings, nap_of, outcome_told, thing_of}, Sound.SoundAt, Whole.{HasWhole, hands_of, with_worker}, Works.Steps}, proofs.{AskBoxes.{asks_place, box_there}, AsksEnds.asks_whom, Here.{IsHere, going_on}, HoldSteps.{held_there, hold_once}, HoldWaits.held_number, SparedRecord.there_within, TaskHears.{looked_in_vain, output_heard, thing_there}, TaskTakes.{holder_there, nap_there, sleep_taken}, TaskWants.{may_forward, wants_from}}}
 
 resolved_as : (p : RequestPhase) (o : Outcome) → outcome_in p ≡ Some o → p ≡ Resolved o
 resolved_as (Resolved x) o h = ap (λ y. Resolved y) (same_thing x o h)

@@ -1,11 +1,11 @@
 -- A TASK IS OVER BY ITS OWN ACT, be it a root, whose worker closes then, or an ordinary task, which leaves the task set.
-use Rattle.std.proofs.{Common.{◌≡◌, ◌≢◌, ◌⊎◌, inl, inr, ⊎_elim, ℕ, zero, suc, ◌+◌, ◌<◌, ◌==◌, arith, Bool, true, false, not, Contains, List, [], ◌∷◌, ◌++◌, length, map, option_map, option_to_list, Option, Some, None, refl, sym, ap, subst, ◌∙◌, nat_lt, slice_get, slice_set, if◌then◌else◌}, lemmas.{Bool.{false≢true, eq-eqb, Decides.nat_tests}, List.set-set}}
+use Rattle.std.proofs.{Common.{◌≡◌, ◌≢◌, ◌⊎◌, inl, inr, ⊎_elim, ℕ, ◌<◌, ◌==◌, Bool, true, false, Contains, List, [], ◌∷◌, ◌++◌, length, map, option_map, option_to_list, Option, Some, None, refl, sym, ap, subst, ◌∙◌, nat_lt, slice_get, slice_set, if◌then◌else◌}, lemmas.{Bool.{false≢true, eq-eqb}, List.set-set}}
 use Rattle.exec_base.specs.Slab.{live_count}
 use Rattle.exec_task.specs.{Phases.{is_polled, over as cell_over}, Sight.Sight, declared.{body.{Act.Act, Said.Said}, runnable.Runnable.Runnable}}
 use Rattle.exec_machine.specs.{Choice.Choice.Plain, declared.{config.{Configuration.Configuration, ScriptWord.ScriptWord}, event.Event.Event, state.{Code.Code, Letter.Letter, Next.Next, TaskPhase.TaskPhase, Waiting.Waiting}}, After.{common_after, own_after}, Allowed.allowed, Progress.Plan, Tests.{AllTrue, is_empty}, Tasks.{after_over, may_end_by, own_after_done}, Words.{asks_await, asks_end, asks_fault, moved_on, next_word}, World.{Common, Own, Task, task_of}}
 use Rattle.exec_moves.specs.{declared.{handing.AfterCancels.AfterCancels, place.{InClosing.InClosing, InPoll.InPoll, Place.Place}}, Parts.{after_cancels, cancels_left}, Poll.{after_end, ends as end_moves}, Seen.{next_at, polls_at, serves_at}, State.{Desk, goes}, Told.lets_go_all}
-use Rattle.exec_parts.{specs.{Records.numbers_held, declared.parts.{held.Held.Held, letters.Letters.Letters, seat.Seat.Seat as Chair, shared.Shared.Shared, task_slot.TaskSlot.TaskSlot, worker.Worker.Worker}, Ending.{EndsTask, LetsGoAll, LetsWaiting, MayEndTask, ended_place, others_of}, Phased.{IsPhased, is_complete, stage_of}, Roles.is_pool, Scripts.{Asks, IsCodeOf, is_last}, Spots.{Spot, spot_of, standing_at}, View.{Views, common_of, desk_of, letter_of_request, letter_of_timer, letters_in, own_of, owed_at, task_seen, things_with}}, proofs.Facts.{by_number, not_same, same_thing, set_there}}
-use Rattle.exec_invariants.{specs.{Acting.{HasActed, Performs, PerformsOne, StepsOf}, Gates.AreLinedUp, Holding.{MayHave, awaited_in, holder_of}, HoldPlaces.sends_cancel_at, Places.removes_at, Sound.{AreHome, AreResting, HasLetters, HasRunnable, IsGuest, IsHeld, IsRunnable, IsTied, SoundAt, Stands, is_told, one_of, served_in}, Whole.{HasWhole, IsGenuine}, Works.{Suits, Works}}, proofs.{Acting.{IsPlainWord, acted_slot, actor, acts_so, move_by, moves_so}, Here.{IsHere, polled_here}, Onces.has_at_most, Performing.still_performs, Phased.phased_over, Polling.on_in_poll, Serving.Keeps, Slots.task_there, SlotTasks.{Keeps as KeepsSlot, Tasked, guest_pool, guest_tasked, homes_set, none_in, resting_set, sound_tasked}, TaskOverFold.{AllLet, HoldsAll, LetsSeen, let_all}, TaskOverGone.{AllGone, gone_awake}, TaskOverLetters.{AreLetters, letters_fit, no_letters, none_left}, TaskOverMay.{HasAll, has_all, keeps_tasks, may_let_go}, TaskOverPolls.{OversPoll, acting, beside_over, gone_at, over_shared, over_worker, sound_over}, TaskOverSeen.{common_then, desk_then, own_then, things_then}, TaskOverSound.{IsAside, IsOwing, own_keeps}, TaskOverWhole.{IsDone, IsPast}}}
+use Rattle.exec_parts.{specs.{Records.numbers_held, declared.parts.{letters.Letters.Letters, seat.Seat.Seat as Chair, shared.Shared.Shared, task_slot.TaskSlot.TaskSlot, worker.Worker.Worker}, Ending.{EndsTask, LetsGoAll, LetsWaiting, MayEndTask, ended_place, others_of}, Phased.{IsPhased, is_complete, stage_of}, Roles.is_pool, Scripts.{Asks, is_last}, Spots.{Spot, spot_of, standing_at}, View.{Views, common_of, desk_of, letter_of_request, letter_of_timer, letters_in, own_of, owed_at, task_seen, things_with}}, proofs.Facts.{by_number, not_same, same_thing, set_there}}
+use Rattle.exec_invariants.{specs.{Acting.{HasActed, Performs, PerformsOne, StepsOf}, Gates.AreLinedUp, Holding.{MayHave, awaited_in, holder_of}, HoldPlaces.sends_cancel_at, Places.removes_at, Sound.{AreHome, AreResting, HasLetters, HasRunnable, IsGuest, IsHeld, IsRunnable, IsTied, SoundAt, Stands, is_told, one_of, served_in}, Whole.{HasWhole, IsGenuine}, Works.{Suits, Works}}, proofs.{Acting.{IsPlainWord, acted_slot, actor, acts_so, move_by, moves_so}, Here.{IsHere, polled_here}, Onces.has_at_most, Performing.still_performs, Phased.phased_over, Polling.on_in_poll, ServingHolds.Keeps, Slots.task_there, SlotTasks.{Keeps as KeepsSlot, Tasked, guest_pool, guest_tasked, homes_set, none_in, resting_set, sound_tasked}, TaskOverFold.{AllLet, HoldsAll, LetsSeen, let_all}, TaskOverGone.{AllGone, gone_awake}, TaskOverLetters.{AreLetters, letters_fit, no_letters, none_left}, TaskOverMay.{HasAll, has_all, keeps_tasks, may_let_go}, TaskOverPolls.{OversPoll, acting, beside_over, gone_at, over_shared, over_worker, sound_over}, TaskOverSeen.{common_then, desk_then, own_then, things_then}, TaskOverSound.{IsAside, IsOwing, own_keeps}, TaskOverWhole.{IsDone, IsPast}, TaskOverPlaces.{closes_past, closes_aside, removes_past, removes_aside, tells_past, tells_removing, owes_removing, IsQuiet, others_none, waits_word, stopped_so, waits_there, within_so}}}
 
 -- it is told nothing once it is over
 pub over_untold : (u : Waiting) → is_told u true ≡ false
@@ -20,60 +20,6 @@ over_untold Waiting.Woken = refl
 pub split_left : (b : AfterCancels) (d : Desk) (ls : List Letter) → ((ls ≡ []) × (cancels_left b d ls ≡ after_cancels b d)) ⊎ ((is_empty ls ≡ false) × (cancels_left b d ls ≡ Place.SendCancel b))
 split_left b d [] = inl (refl, refl)
 split_left b d (l ∷ ls) = inr (refl, refl)
-
--- PLACES
-
-pub closes_past : IsPast (Place.Closing InClosing.Close)
-closes_past = record { polls = refl; claims = refl; counts = refl; published = refl; clears = refl; passes = refl; joins = refl }
-
-pub closes_aside : IsAside (Place.Closing InClosing.Close)
-closes_aside = record { spare = refl; wakes = refl; served = refl; bare = refl; polls = refl; calls = refl; heard = refl; lets = λ requests zs is. absurd (false≢true is) }
-
-pub removes_past : (t : ℕ) → IsPast (Place.Poll t InPoll.RemoveTask)
-removes_past t = record { polls = refl; claims = refl; counts = refl; published = refl; clears = refl; passes = refl; joins = refl }
-
-pub removes_aside : (t : ℕ) → IsAside (Place.Poll t InPoll.RemoveTask)
-removes_aside t = record { spare = refl; wakes = refl; served = refl; bare = refl; polls = refl; calls = refl; heard = refl; lets = λ requests zs is. absurd (false≢true is) }
-
-pub tells_past : (b : AfterCancels) → IsPast (Place.SendCancel b)
-tells_past b = record { polls = refl; claims = refl; counts = refl; published = refl; clears = refl; passes = refl; joins = refl }
-
-pub tells_removing : (t : ℕ) → IsAside (Place.SendCancel (AfterCancels.Remove t))
-tells_removing t = record { spare = refl; wakes = refl; served = refl; bare = refl; polls = refl; calls = refl; heard = refl; lets = λ requests zs is. absurd (false≢true is) }
-
-pub owes_removing : (t : ℕ) → IsOwing (Place.Poll t InPoll.RemoveTask) (AfterCancels.Remove t)
-owes_removing t = record { aside = removes_aside t; after = tells_removing t; begins = refl; hands = refl; loot = refl; unarmed = refl; queue = λ x h. h; closes = refl; closing = refl }
-
--- and the machine has nothing to do there
-pub record IsQuiet (q : Place) : Type 0 where
-  pub unserved : serves_at q ≡ false
-  pub free : next_at q ≡ Next.Free
-  pub unowed : (n : ℕ) → owed_at n q ≡ []
-
--- a root has what its worker has
-others_none : (i : ℕ) (hs : List Held) → ((j : ℕ) (x : Held) → slice_get hs j ≡ Some x → x.worker ≡ i) → others_of i hs ≡ []
-others_none i [] each = refl
-others_none i (h ∷ hs) each = ap (λ b. if not b then h ∷ others_of i hs else others_of i hs) (eq-eqb h.worker i (each 0 h refl)) ∙ others_none i hs (λ j. each (suc j))
-
--- WHO MAY END
-
-waits_word : (c : Common) (t : Task) → t.code ≡ Code.Waits → next_word c t ≡ (if c.stopped then ScriptWord.End else ScriptWord.Await)
-waits_word c t code = ap (λ k. next_word c (record t { code = k })) code ∙ by c.stopped
-  where
-    by : (b : Bool) → next_word (record c { stopped = b }) (record t { code = Code.Waits }) ≡ (if b then ScriptWord.End else ScriptWord.Await)
-    by true = refl
-    by false = refl
-
-stopped_so : (b : Bool) (x : ScriptWord) → asks_await x ≡ false → (if b then ScriptWord.End else ScriptWord.Await) ≡ x → b ≡ true
-stopped_so true x other is = refl
-stopped_so false x other is = absurd (false≢true (sym other ∙ ap asks_await (sym is)))
-
-waits_there : (workers i : ℕ) (home : Option ℕ) (code : Code) → home ≡ Some i → 0 < i → i < workers → IsCodeOf workers home code → code ≡ Code.Waits
-waits_there workers zero home code is some few h = absurd (omega (arith, some))
-waits_there workers (suc i) home code is some few h = (subst (λ o. IsCodeOf workers o code) is h).0 few
-
-within_so : (a b : ℕ) → nat_lt a b ≡ true → a < b
-within_so a b is = grind (arith, nat_tests, is)
 
 module _ {B : Type 0} where
   run_over : (o : Option Runnable) (slot slot' : TaskSlot B) → is_polled slot.cell.phase ≡ true → is_complete slot'.cell.phase ≡ true → IsRunnable o slot → IsRunnable o slot'

@@ -5,7 +5,7 @@ use Rattle.exec_base.specs.declared.error.Error.TheVariants.{Timeout}
 use Rattle.exec_machine.specs.{declared.state.{Letter.Letter, Request.Request, RequestPhase.{RequestPhase, TheVariants.{Gated, Resolved}}}, Requests.{dropped, ends_by_drop, is_cancelled_by_drop, own_after_drop, resolved}, Tasks.{own_after_drops, owes as owes_letter, requests_after_drops}, Tests.{is_applied, is_gated, is_kept, is_queued, is_resolved}, World.{Common, Own, no_request, request_of}}
 use Rattle.exec_moves.specs.{Slots.is_in_slots, State.Desk, Told.{awaits_no_more, lets_go_request, lets_go_requests, one_output, one_result, told_of_drop, without_request}}
 use Rattle.exec_parts.{specs.{declared.parts.{held.Held.Held, record.Record.Record, shared.Shared.Shared, worker.Worker.Worker}, Awaits.{LetsGo, drops}, Ending.{LetsGoAll, LetsGoOne.{here, elsewhere}, others_of}, Records.{numbers_held, outcome_in}, Serving.{changed_at, changed_in}, View.{desk_of, letter_of_request, own_of, visible}}, proofs.{Facts.{by_number, not_same, same_thing, set_elsewhere, set_there}, Showing.map_set}}
-use Rattle.exec_invariants.{specs.{Gates.{AreLinedUp, at_gate}, Holding.thing_of, Sound.served_in}, proofs.{HoldRedo.count_set, HoldSteps.held_in, Keys.{name_in, names_changed}, Lined.{KeepsLines, SameAtGate, lined_kept, lines_changed, lines_on, lines_same, mapped}, Serving.Keeps, TaskOverHolds.{LetsThing, things_then, thing_same}}}
+use Rattle.exec_invariants.{specs.{Gates.{AreLinedUp, at_gate}, Holding.thing_of, Sound.served_in}, proofs.{HoldRedo.count_set, HoldSteps.held_in, Keys.{name_in, names_changed}, Lined.{KeepsLines, SameAtGate, lined_kept, lines_changed, lines_on, lines_same, mapped}, ServingHolds.Keeps, TaskOverHolds.{LetsThing, things_then, thing_same}}}
 
 -- ONE REQUEST that nobody holds any more
 

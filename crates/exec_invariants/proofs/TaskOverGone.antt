@@ -1,10 +1,10 @@
 -- A TASK IS OVER: its worker lets go of what it has of what that held and slept for, and has letters of the rest. What it has then,
 -- and what is seen of it.
-use Rattle.std.proofs.{Common.{◌≡◌, ◌≢◌, inr, ℕ, ◌+◌, ◌==◌, ◌||◌, Bool, true, false, not, List, [], ◌∷◌, ◌++◌, count_by, map, option_map, option_to_list, Option, Some, None, refl, sym, ap, subst, ◌∙◌, slice_get, slice_index_or, slice_set, if◌then◌else◌}, lemmas.{Bool.eq-eqb, List.{append-nil, append_assoc}, Option.get_or_from_slice_get}}
+use Rattle.std.proofs.{Common.{◌≡◌, ◌≢◌, inr, ℕ, ◌==◌, ◌||◌, Bool, true, false, not, List, [], ◌∷◌, ◌++◌, count_by, map, option_map, option_to_list, Option, Some, None, refl, sym, ap, subst, ◌∙◌, slice_get, slice_index_or, slice_set, if◌then◌else◌}, lemmas.{Bool.eq-eqb, List.{append-nil, append_assoc}, Option.get_or_from_slice_get}}
 use Rattle.exec_machine.specs.{declared.state.{Letter.Letter, MailMessage.TheVariants.CancelTimer, Sleeper.Sleeper, Waiting.Waiting}, Tasks.{own_after_drops, own_after_waking_up, owes as owes_letter, removed as removed_sleeper, requests_after_drops, sleepers_after_waking_up}, Tests.is_applied, World.{Common, Own, no_sleeper, sleeper_of}}
 use Rattle.exec_moves.specs.{Slots.is_in_slots, State.Desk, Told.{lets_go_requests, lets_go_sleep, lets_go_timer, one_completion, told_of_cancel, without_timer}}
 use Rattle.exec_parts.{specs.{declared.parts.{held.Held.Held, letters.Letters.Letters, record.Record.Record, shared.Shared.Shared, sleeping.SleeperRecord.SleeperRecord, worker.Worker.Worker}, Calls.sleeper_removed, Ending.{LetsGoAll, LetsWaiting, others_of}, MailTakes.RemovesSleeper, Records.numbers_held, View.{desk_of, letter_of_request, letter_of_timer, letters_in, own_of, visible}}, proofs.{Facts.{by_number, not_same, same_thing, set_elsewhere, set_there}, Showing.{map_kept, map_set}}}
-use Rattle.exec_invariants.{specs.{Gates.AreLinedUp, Holding.{awaited_in, nap_of, thing_of}, Sound.served_in, Spares.SleeperEndures}, proofs.{HoldRedo.count_set, Keys.name_in, Lined.{KeepsLines, mapped, opens_same}, Serving.{Keeps, SparesRecords}, Spared.sleepers_endure, TaskOverFold.{AllLet, HoldsAll, LetsSeen, SeesAll, let_all, letters_for, own_in}, TaskOverHolds.{LetsNap, LetsThing, nap_same}}}
+use Rattle.exec_invariants.{specs.{Gates.AreLinedUp, Holding.{awaited_in, nap_of, thing_of}, Sound.served_in, Spares.SleeperEndures}, proofs.{HoldRedo.count_set, Keys.name_in, Lined.{KeepsLines, mapped, opens_same}, ServingHolds.Keeps, Serving.SparesRecords, Spared.sleepers_endure, TaskOverFold.{AllLet, HoldsAll, LetsSeen, SeesAll, let_all, letters_for, own_in}, TaskOverHolds.{LetsNap, LetsThing, nap_same}}}
 use Rattle.exec_parts.specs.declared.parts.mail.Subject.TheVariants as subject
 
 -- the letters are those of requests, and of a sleeper where there is one

@@ -1,11 +1,11 @@
 -- A TASK IS ABOUT TO BE OVER: what it holds is there, and may be let go of.
-use Rattle.std.proofs.{Common.{◌≡◌, ◌≢◌, ℕ, zero, suc, ◌<◌, ◌≤◌, ◌==◌, Bool, true, false, cond, List, [], ◌∷◌, length, map, Option, Some, None, refl, sym, ap, subst, ◌∙◌, arith, slice_get}, lemmas.{Bool.false≢true, Option.slice_get_within}}
+use Rattle.std.proofs.{Common.{◌≡◌, ℕ, zero, suc, ◌<◌, ◌≤◌, ◌==◌, Bool, true, false, cond, List, [], ◌∷◌, length, map, Option, Some, None, refl, sym, ap, subst, ◌∙◌, arith, slice_get}, lemmas.{Bool.false≢true, Option.slice_get_within}}
 use Rattle.exec_base.specs.{Slab.value_at, declared.slab.Slot.TheVariants.Live}
 use Rattle.exec_waiters.{specs.{States.{counts_pending, pending_count, waiter_at}, declared.waiter.{Entry.TheVariants.Pending, Waiter.Waiter}}, proofs.Changes.entry_of}
 use Rattle.exec_words.specs.declared.inbox.Message.{Message}
 use Rattle.exec_machine.specs.{declared.state.Waiting.Waiting, Requests.ends_by_drop}
 use Rattle.exec_parts.{specs.{declared.parts.{held.Held.Held, mail.{Reply.Reply, Subject.Subject}, record.Record.Record, shared.Shared.Shared, task_slot.TaskSlot.TaskSlot, worker.Worker.Worker}, Awaits.MayLetGo, Ending.{LetsGoAll, LetsGoOne.{here, elsewhere}, MayLetGoAll, MayLetGoOf, MayLetSleep}, View.driver_of}, proofs.Facts.{by_number, not_same, same_thing, found_within}}
-use Rattle.exec_invariants.{specs.{Holding.{Box, IsHeldBy, IsHolding, MayHave, Thing, box_of, holder_of, holdings, nap_of, thing_of, under_way}, Gates.AreLinedUp, Sound.served_in, Whole.{IsWhole, Profile, hands_of, with_worker}}, proofs.{HoldMail.sum_least, HoldSteps.{held_in, held_there, hold_once}, LetsNext.live_slot, Lined.unmapped, Serving.Keeps, TaskOverFold.{HoldsAll, LetsSeen, ends_plain, gates_later, held_first, holds_later, later_once, let_all, queued_unresolved}, TaskTakes.holder_there}}
+use Rattle.exec_invariants.{specs.{Holding.{Box, IsHeldBy, IsHolding, MayHave, Thing, box_of, holder_of, holdings, nap_of, thing_of, under_way}, Gates.AreLinedUp, Sound.served_in, Whole.{IsWhole, Profile, hands_of, with_worker}}, proofs.{HoldMail.sum_least, HoldSteps.{held_in, held_there, hold_once}, LetsNext.live_slot, Lined.unmapped, ServingHolds.Keeps, TaskOverFold.{HoldsAll, LetsSeen, ends_plain, gates_later, held_first, holds_later, later_once, let_all, queued_unresolved}, TaskTakes.holder_there}}
 
 -- what counts is there
 pub some_held : (k : ℕ) (hs : List Held) → 0 < held_in k hs → (j : ℕ) × (x : Held) × (slice_get hs j ≡ Some x) × (x.number ≡ k)

@@ -1,10 +1,10 @@
 -- A POLLED TASK IS OVER: what the whole step is, but for what the machine is asked.
-use Rattle.std.proofs.{Common.{◌≡◌, ◌≢◌, ◌⊎◌, ⊎_elim, ℕ, true, false, List, [], Some, None, IsSome, refl, sym, ap, subst, ◌∙◌, slice_get, slice_set}, lemmas.Bool.false≢true}
+use Rattle.std.proofs.{Common.{◌≡◌, ◌⊎◌, ⊎_elim, ℕ, true, false, List, [], Some, None, IsSome, refl, sym, ap, subst, ◌∙◌, slice_get, slice_set}, lemmas.Bool.false≢true}
 use Rattle.exec_task.specs.Phases.{is_polled}
 use Rattle.exec_machine.specs.{declared.state.Waiting.Waiting, Tests.is_empty}
 use Rattle.exec_moves.specs.{declared.{handing.AfterCancels.AfterCancels, place.{InPoll.InPoll, Place.Place}}, Seen.polls_in}
 use Rattle.exec_parts.specs.{declared.parts.{held.Held.Held, letters.Letters.Letters, shared.Shared.Shared, task_slot.TaskSlot.TaskSlot, worker.Worker.Worker}, Roles.is_pool, View.letters_in}
-use Rattle.exec_invariants.{specs.{Carried.HasRoom, Holding.{awaited_in, holder_of}, HoldPlaces.{cancels_at, has_wakes_at, is_bare_at, sends_cancel_at, spare_at}, Places.{claims_at, clears_at, has_count_at, is_published_at, removes_at}, Sound.{HasLetters, SoundAt, served_in}, Works.Beside}, proofs.{Here.going_on, Polling.home_mine, Serving.{Keeps, SparesRecords}, TaskOverGone.AllGone, TaskOverLetters.{AreLetters, gone_holding}, TaskOverSound.{IsAside, IsOwing, KeepsOwn, keeps_own, sound_let, sound_owing}, TaskOverWhole.{IsDone, IsPast, spares_done, whole_done}}}
+use Rattle.exec_invariants.{specs.{Carried.HasRoom, Holding.{awaited_in, holder_of}, HoldPlaces.{cancels_at, has_wakes_at, is_bare_at, sends_cancel_at, spare_at}, Places.{claims_at, clears_at, has_count_at, is_published_at, removes_at}, Sound.{HasLetters, SoundAt, served_in}, Works.Beside}, proofs.{Here.going_on, Polling.home_mine, ServingHolds.Keeps, Serving.SparesRecords, TaskOverGone.AllGone, TaskOverLetters.{AreLetters, gone_holding}, TaskOverSound.{IsAside, IsOwing, KeepsOwn, keeps_own, sound_let, sound_owing}, TaskOverWhole.{IsDone, IsPast, spares_done, whole_done}}}
 
 -- a place of a poll that has begun
 pub record InPollAt (x : InPoll) (t : ℕ) : Type 0 where

@@ -1,6 +1,6 @@
 -- WHAT HOLDS where a worker lets go of what a task held that is over: of its own things, at one place; and where it is told next to
 -- whom others of them are.
-use Rattle.std.proofs.{Common.{◌≡◌, ◌≢◌, ℕ, ◌+◌, true, false, Contains, [], Option, Some, None, sym, ap, subst, ◌∙◌, slice_get, option_to_list}, lemmas.Bool.false≢true}
+use Rattle.std.proofs.{Common.{◌≡◌, ℕ, ◌+◌, true, false, Contains, [], Option, Some, None, sym, ap, subst, ◌∙◌, slice_get, option_to_list}, lemmas.Bool.false≢true}
 use Rattle.exec_words.specs.Queue.{Queue}
 use Rattle.exec_task.specs.declared.runnable.Runnable.{Runnable}
 use Rattle.exec_base.specs.Slab.{Slab}
@@ -9,7 +9,7 @@ use Rattle.exec_waiters.specs.{States.pending_count, declared.waiter.Entry.Entry
 use Rattle.exec_machine.specs.{Ranges.ring_size, Tests.is_empty}
 use Rattle.exec_moves.specs.{declared.{handing.AfterCancels.AfterCancels, place.Place.Place}, Seen.polls_at}
 use Rattle.exec_parts.specs.{declared.parts.{held.Held.Held, letters.Letters.Letters, mail.{Reply.Reply, Subject.Subject}, seat.Seat.Seat as Chair, shared.Shared.Shared, task_slot.TaskSlot.TaskSlot, worker.Worker.Worker}, Phased.{IsPhased, closes_at, closing_in, stage_of}, Roles.is_pool, Calls.IsTold, View.{driver_of, letters_in}}
-use Rattle.exec_invariants.{specs.{Carried.Carried, Due.IsDue, Flown.HasFlown, Gates.{AreLinedUp, IsKnown}, Holding.Mail, HoldPlaces.{cancels_at, has_wakes_at, heard_at, is_bare_at, sends_cancel_at, spare_at}, Places.{begins_at, calls_back_at, hands_on_at, has_loot_at, in_poll_of, is_armed_at, is_pooled_at, step_of_poll}, Rooted.{HearsNext, IsRooted}, Sound.{AreOver, HasLetters, HasQueue, HasRunnable, HasWidth, IsHeld, IsInHand, IsLeft, IsLetter, IsLoot, IsMyMail, IsNamed, IsSeated, IsTied, LetsGoAt, SoundAt, Stands, Stops, root_in_hand, served_in, tellers}}, proofs.{Lined.lined_kept, Serving.{Keeps, SparesRecords, letter_kept, mail_kept}}}
+use Rattle.exec_invariants.{specs.{Carried.Carried, Due.IsDue, Flown.HasFlown, Gates.{AreLinedUp, IsKnown}, Holding.Mail, HoldPlaces.{cancels_at, has_wakes_at, heard_at, is_bare_at, sends_cancel_at, spare_at}, Places.{begins_at, calls_back_at, hands_on_at, has_loot_at, in_poll_of, is_armed_at, is_pooled_at, step_of_poll}, Rooted.{HearsNext, IsRooted}, Sound.{AreOver, HasLetters, HasQueue, HasRunnable, IsHeld, IsInHand, IsLeft, IsLetter, IsLoot, IsMyMail, IsSeated, IsTied, LetsGoAt, SoundAt, Stands, Stops, root_in_hand, served_in}, Names.{HasWidth, IsNamed, tellers}}, proofs.{Lined.lined_kept, ServingHolds.Keeps, Serving.{SparesRecords, letter_kept, mail_kept}}}
 
 -- such a place
 pub record IsAside (q : Place) : Type 0 where

@@ -1,5 +1,5 @@
 -- A POLLED TASK TAKES what it waited for: a wake, the end of its sleep, or an output that was sent to it; or it looks in vain.
-use Rattle.std.proofs.{lemmas.{List.map-set, Option.slice_get-map, Bool.{false≢true, eq-eqb}}, Common.{◌⊎◌, ⊎_elim, ◌≡◌, ◌≢◌, ℕ, zero, suc, ◌+◌, ◌||◌, Bool, true, false, List, [], ◌∷◌, count_by, Option, Some, None, refl, sym, ap, subst, ◌∙◌, ◌<◌, ◌==◌, arith, ◌-◌, map, option_map, slice_get, slice_set, if◌then◌else◌}}
+use Rattle.std.proofs.{lemmas.{List.map-set, Option.slice_get-map, Bool.{false≢true, eq-eqb}}, Common.{◌⊎◌, ⊎_elim, ◌≡◌, ℕ, zero, suc, ◌+◌, ◌||◌, Bool, true, false, List, [], ◌∷◌, count_by, Option, Some, None, refl, sym, ap, subst, ◌∙◌, ◌<◌, ◌==◌, arith, map, option_map, slice_get, slice_set, if◌then◌else◌}}
 use Rattle.exec_base.specs.declared.error.Error.TheVariants.{NoMemory}
 use Rattle.exec_task.specs.declared.body.Said.{Said}
 use Rattle.exec_machine.specs.{declared.{state.{Forwarding.TheVariants.{Applied, Unsent}, MailMessage.TheVariants.ForwardTimer, Waiting.Waiting}, event.Event.{Event, TheVariants.{Pass, GotTimer, Turn}}}, Choice.Choice.Plain, Progress.Plan, Tasks.{after_taken, after_taking, is_here}, Tests.{is_unsent, is_woken, waits_for_nothing, waits_for_timer}, Words.{acts, asks_no_sleep, moved_on}, World.{Task, Common, task_of}}

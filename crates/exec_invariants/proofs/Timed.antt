@@ -9,7 +9,7 @@ use Rattle.exec_driver.{specs.{Driving.Driving, Lists.{first_of, rest_of, is_amo
 use Rattle.exec_machine.specs.{declared.{state.RequestPhase.RequestPhase, config.Configuration.Configuration, event.Event.TheVariants.Enrol}, Tests.{is_kept, is_staged}, World.{Own, Common, request_of}}
 use Rattle.exec_moves.specs.{Told.told_if_ended, State.{Desk, Moved, Things}, Submit.{due_next, first_due, submits, Due.Enrols}, declared.place.{Service.Service, Place.Place, InService.InService}}
 use Rattle.exec_parts.{specs.{declared.parts.{mail.Reply.Reply, record.Record.Record, shared.Shared.Shared, worker.Worker.Worker}, Records.number_in, Serving.{changed_at, first_tick}, View.{own_of, driver_of}}, proofs.Facts.by_name}
-use Rattle.exec_invariants.{specs.{Sound.{IsSubmitted, served_in}, Due.IsWheelAt, Flown.{HasFlown, IsPlain, operations}, Submits.IsNewIn, Ordered.{IsOrdered, went_round}}, proofs.{Known.known_written, Changing.{all_go_one, OneGoesOn, changes_one, keeps_one}, Going.{owning_on, GoesOn}, Marking.{known_then, plain_kept, mark_kept, mark_if, marked, was_marked}, Carries.carried_still, Enrolled.new_first, Enrolling.enrolled_at, Flown.landed_on, Seeing.makes, Serving.KeepsBy, Staging.{split_first, stages_again}, Orders.ticks_so}}
+use Rattle.exec_invariants.{specs.{Names.IsSubmitted, Sound.served_in, Due.IsWheelAt, Flown.{HasFlown, IsPlain, operations}, Submits.IsNewIn, Ordered.{IsOrdered, went_round}}, proofs.{Known.known_written, Changing.{all_go_one, OneGoesOn, changes_one, keeps_one}, Going.{owning_on, GoesOn}, Marking.{known_then, plain_kept, mark_kept, mark_if, marked, was_marked}, Carries.carried_still, Enrolled.new_first, Enrolling.enrolled_at, Flown.landed_on, Seeing.makes, ServingHolds.KeepsBy, Staging.{split_first, stages_again}, Orders.ticks_so}}
 pub use Rattle.exec_invariants.proofs.Untold.{keeps_untold, told_still}
 
 -- THE WHEEL

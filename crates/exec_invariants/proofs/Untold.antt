@@ -7,7 +7,7 @@ use Rattle.exec_driver.specs.Driving.{Driving}
 use Rattle.exec_machine.specs.{Tests.is_empty, World.Own as Books}
 use Rattle.exec_moves.specs.{Callback.has_callbacks, State.Desk}
 use Rattle.exec_parts.{specs.{Calls.IsTold, declared.parts.{mail.Reply.Reply, names.Names.Names, record.Record.Record, shared.Shared.Shared, sleeping.SleeperRecord.SleeperRecord, worker.Worker.Worker}, View.{completions_in, number_heard, results_in}}, proofs.Facts.zero_false}
-use Rattle.exec_invariants.{specs.{Sound.{HasWidth, tellers}, HoldPlaces.has_wakes_at, Places.one_if, Rooted.{IsCompletion, IsResult, IsRooted, completions_of, ends_elsewhere, goes_elsewhere, is_of_request, is_of_timer, results_of}}, proofs.Serving.KeepsWith}
+use Rattle.exec_invariants.{specs.{Names.{HasWidth, tellers}, HoldPlaces.has_wakes_at, Places.one_if, Rooted.{IsCompletion, IsResult, IsRooted, completions_of, ends_elsewhere, goes_elsewhere, is_of_request, is_of_timer, results_of}}, proofs.ServingHolds.KeepsWith}
 
 pub told_still : (ended : List ℕ) (n : ℕ) (left left' : Deferred Reply Reply) → Tells left left' nothing_told → IsTold ended left n → IsTold ended left' n
 told_still ended n left left' tells told =

@@ -9,7 +9,7 @@ use Rattle.exec_driver.specs.{Driving.Driving, Lists.is_among, Opens.OpenState, 
 use Rattle.exec_machine.specs.{declared.config.Configuration.Configuration, Tests.{is_resolved, is_staged}}
 use Rattle.exec_moves.specs.declared.place.InService.{InService}
 use Rattle.exec_parts.{specs.{declared.parts.{mail.Reply.Reply, names.Names.Names, record.Record.Record, sleeping.SleeperRecord.SleeperRecord, worker.Moments.Moments}, Records.number_in, Serving.{AreKnown, changed_at}}, proofs.Facts.{by_name, same_number}}
-use Rattle.exec_invariants.{specs.{Due.{IsDue, IsWheelAt, AreTimed}, Gates.IsKnown, Flown.{AreLanded, IsPlain, IsPolled, HasFlown, operations}, Sound.{IsNamed, IsAlike, IsSubmitted, AreOver}, Carried.IsCarried}, proofs.{Known.known_on, Flown.{FliesOn, landed_on}, Marking.{known_then, mark_if, marked, marked_length, was_marked}, Orders.{Eases, eases_written, IsPartOf, TurnsAlike, eased, part_none, part_self}, Carries.{carried_marked, carried_slab, carried_waiter}, Changing.changes_one}}
+use Rattle.exec_invariants.{specs.{Due.{IsDue, IsWheelAt, AreTimed}, Gates.IsKnown, Flown.{AreLanded, IsPlain, IsPolled, HasFlown, operations}, Names.{IsNamed, IsAlike, IsSubmitted}, Sound.AreOver, Carried.IsCarried}, proofs.{Known.known_on, Flown.{FliesOn, landed_on}, Marking.{known_then, mark_if, marked, marked_length, was_marked}, Orders.{Eases, eases_written, IsPartOf, TurnsAlike, eased, part_none, part_self}, Carries.{carried_marked, carried_slab, carried_waiter}, Changing.changes_one}}
 
 -- a request that isn't over stays so, in flight or not, with no deadline to be enrolled and no permit to come that it hadn't
 abbrev pub Rewatched : Option (Waiter Reply Reply) → Option (Waiter Reply Reply) → Type 0

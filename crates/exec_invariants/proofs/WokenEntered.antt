@@ -1,9 +1,9 @@
 -- What an enter and a landing make of the wake poll that a ring shows.
-use Rattle.std.{proofs.{Common.{[], ◌≡◌, ℕ, zero, suc, ◌+◌, ◌-◌, ◌≤◌, Bool, true, false, List, ◌∷◌, ◌++◌, filter, Option, Some, None, refl, sym, ap, subst, ◌∙◌, arith, if◌then◌else◌}, lemmas.List.{append-nil, Elements.filter-append}}, specs.List.fold}
+use Rattle.std.{proofs.{Common.{[], ◌≡◌, ℕ, zero, suc, ◌+◌, ◌≤◌, Bool, true, false, List, ◌∷◌, ◌++◌, filter, Option, Some, None, refl, sym, ap, subst, ◌∙◌, arith, if◌then◌else◌}, lemmas.List.{append-nil, Elements.filter-append}}, specs.List.fold}
 use Rattle.exec_request.specs.declared.window.Opcode.{Opcode}
 use Rattle.exec_ring.specs.{Completions.{is_wake, acknowledged}, Kernels.{with_completion, woken, with_poll, taken_as, taken_in, all_taken}, Rings.{RingState, completions}, declared.completion.{Completion.Completion, Submission.Submission}}
 use Rattle.exec_driver.specs.Steps.{is_control}
-use Rattle.exec_moves.specs.State.{WakePoll, told_once, raised, passed, armed as poll_armed, taken_in as poll_taken}
+use Rattle.exec_moves.specs.State.{WakePoll, told_once, passed, armed as poll_armed, taken_in as poll_taken}
 use Rattle.exec_parts.specs.{Serving.{is_cancel, cancels_in, AreTagged}, View.{trailing, trails_wake, operations_in, is_end, behind_end, wake_poll_in}}
 use Rattle.exec_invariants.{specs.{Flown.{is_poll, polls_in, ends_in, IsPolled}, Places.one_if}, proofs.{Behind.{is_op, op_acks, op_ends, op_wakes}, Woken.{completion_added, told_added, trailing_added, ends_added, behind_added, one_most, wakes}}}
 

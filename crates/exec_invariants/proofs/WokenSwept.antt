@@ -1,5 +1,5 @@
 -- What a sweep passes of the completions in front, and the first that is of an operation.
-use Rattle.std.{proofs.{Common.{[], ◌≡◌, ℕ, zero, suc, ◌+◌, ◌-◌, ◌&&◌, Bool, true, false, List, ◌∷◌, ◌++◌, Some, None, refl, sym, ap, subst, ◌∙◌, replicate}, lemmas.{Bool.false≢true, List.{append_assoc, append-nil}}}, specs.List.flat_map}
+use Rattle.std.{proofs.{Common.{[], ◌≡◌, ℕ, zero, suc, ◌&&◌, Bool, true, false, List, ◌∷◌, ◌++◌, Some, None, refl, sym, ap, subst, ◌∙◌, replicate}, lemmas.{Bool.false≢true, List.{append_assoc, append-nil}}}, specs.List.flat_map}
 use Rattle.exec_ring.specs.{Completions.wake_completion, Kernels.{next_completion, reaped, is_quiet}, Rings.{RingState, completions, spelled}, declared.completion.{Completion.Completion, Posted.Posted}}
 use Rattle.exec_driver.specs.{Driving.Driving, Steps.{is_control, noted, swept, swept_from}}
 use Rattle.exec_invariants.proofs.Behind.{after_controls, armed_through}

@@ -6,7 +6,7 @@ use Rattle.exec_outcomes.specs.{Lawful.{is_lawful, window_of}, Outcomes.bytes_of
 use Rattle.exec_request.specs.{Requests.{target_of, window_by}, Syncing.is_syncing, declared.{buffers.WriteBuffers.{WriteBuffers, TheVariants.{Single, Vectored}}, request.Request.Request as Asking}}
 use Rattle.exec_ring.specs.{Kernels.is_of, Rings.RingState, Sockets.SocketState, Stores.{HasStretch, socket_of}, declared.{completion.Submission.Submission, store.Store.Store}}
 use Rattle.exec_waiters.specs.{Ids.{user_data_of, index_in}, States.waiter_at, declared.waiter.{Entry.Entry, Waiter.Waiter}}
-use Rattle.exec_driver.specs.Steps.{bytes_left}
+use Rattle.exec_driver.specs.Footprints.{bytes_left}
 use Rattle.exec_machine.specs.{declared.state.{Operation.Operation, RequestPhase.{RequestPhase, TheVariants.{Staged, Flying, Landed, Resolved}}}, Requests.{asked_of, cursor_of}, Same.same_kind}
 use Rattle.exec_parts.specs.{declared.parts.{mail.Reply.Reply, record.Record.Record, shared.Shared.Shared, worker.Worker.Worker}, Records.number_in, View.driver_of}
 

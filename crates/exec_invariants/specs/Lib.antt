@@ -16,3 +16,4 @@ pub mod Drained
 pub mod Holding
 pub mod HoldPlaces
 pub mod Submits
+pub mod Names

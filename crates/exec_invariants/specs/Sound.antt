@@ -1,21 +1,17 @@
 -- What holds of a worker and of what it shares, between two steps.
 --
 -- Each fact is over the parts that it speaks of, so what changes another part keeps it.
-use Rattle.std.specs.{Prelude.{◌≡◌, ◌≢◌, ℕ, Bool, true, false, not, ◌+◌, ◌*◌, ◌^◌, ◌<◌, ◌≤◌, ◌==◌, ◌⊎◌, nat_lt, Contains, count_by, List, [], length, slice_get, Option, Some, None, is_some, IsSome, IfSome, option_to_list, if◌then◌else◌}, Option.option_map, Vec.vec_capacity}
-use Rattle.exec_base.specs.{Slab.{Slab, value_at, live_count}, declared.{slab.{Id.Id, Slot.{Slot, TheVariants.{Live, Vacant, Retired}}}, task_no.TaskNo.TaskNo}}
-use Rattle.exec_outcomes.specs.{Accounts.is_durable, Outcomes.HasCome, declared.outcome.Judged.Judged}
+use Rattle.std.specs.Prelude.{◌≡◌, ◌≢◌, ℕ, Bool, true, false, not, ◌+◌, ◌*◌, ◌^◌, ◌<◌, ◌≤◌, ◌==◌, ◌⊎◌, nat_lt, Contains, List, [], length, slice_get, Option, Some, None, is_some, IsSome, IfSome, option_to_list, if◌then◌else◌}
+use Rattle.exec_base.specs.{Slab.{Slab, value_at, live_count}, declared.slab.Id.Id}
 use Rattle.exec_words.specs.{Head.is_spent, Idle.lowest_of, Queue.{Queue, room_of, tail_of}, Reserved.Reserved, declared.{head.Head.Head, inbox.Message.Message, word.WaitTarget.WaitTarget}}
 use Rattle.exec_time.specs.declared.timers.Sleeper.{Sleeper as Sleeping}
-use Rattle.exec_request.specs.{Kept.seen_by, Requests.{asked_of, cursor_of, hinted_of, deadline_of}, States.asks_cancel}
-use Rattle.exec_ring.specs.Rings.{RingState}
-use Rattle.exec_waiters.specs.{Events.waker_in, States.{waiter_at, is_held, is_held_at, is_held_by, needs_permit, tick_in, pending_count}, Told.is_untold, declared.{deferred.Deferred.Deferred, waiter.{Entry.Entry, Waiter.Waiter}}}
-use Rattle.exec_driver.specs.{Driving.Driving}
+use Rattle.exec_waiters.specs.{States.{is_held_at, pending_count}, Told.is_untold, declared.{deferred.Deferred.Deferred, waiter.Entry.Entry}}
 use Rattle.exec_task.specs.{Phases.{runnable_of, is_polled}, declared.{runnable.Runnable.Runnable, task.Phase.Phase}}
-use Rattle.exec_machine.specs.{declared.{config.Configuration.Configuration, state.{Request.Request, Waiting.Waiting}}, Ranges.ring_size, Requests.asked_of as asked_in, Tests.{is_empty, is_gated, is_kept, is_staged, is_in_flight, is_resolved, is_unsent}}
+use Rattle.exec_machine.specs.{declared.{config.Configuration.Configuration, state.{Waiting.Waiting}}, Ranges.ring_size, Tests.{is_empty, is_resolved, is_unsent}}
 use Rattle.exec_moves.specs.{Pop.shard_count, Search.from_of, Seen.polls_at, declared.{handing.{AfterCallbacks.AfterCallbacks, AfterSend.AfterSend, AfterSignal.AfterSignal, InGlobal.InGlobal, InKick.InKick, InPop.InPop, InPush.InPush}, idling.{AfterWait.AfterWait, InLook.InLook, InRingWait.InRingWait, InScan.InScan, Scan.Scan}, place.{InClosing.InClosing, InMail.InMail, InPick.InPick, InPoll.InPoll, InService.InService, Place.Place}}}
 use Rattle.exec_parts.specs.Calls.{IsTold}
-use Rattle.exec_parts.specs.{declared.parts.{held.Held.Held, letters.Letters.Letters, mail.{Reply.Reply, Subject.Subject}, names.Names.Names, record.Record.Record, seat.Seat.Seat as Chair, shared.Shared.Shared, sleeping.SleeperRecord.SleeperRecord, task_slot.TaskSlot.TaskSlot, worker.{Worker.Worker, Moments.Moments}, role.Role.Role}, MailPosts.IsMailbox, View.{driver_of, letters_in}, Records.number_in, Serving.{AreKnown, AreTagged, cancels_in, is_one_of}, Phased.{IsPhased, closes_at, closing_in, is_complete, stage_of}, Roles.{MayBegin, is_pool, owns_runner}}
-use Rattle.exec_invariants.specs.{Carried.Carried, Places.{begins_at, calls_back_at, hands_on_at, has_loot_at, is_armed_at, polled_in, searches_at, step_of_poll, is_pooled_at, task_at}, Gates.{AreLinedUp, IsKnown, may_ask_hint}, Due.IsDue, Flown.HasFlown, Holding.Mail, HoldPlaces.{cancels_at, heard_at, is_bare_at, sends_cancel_at, spare_at}, Rooted.{HearsNext, IsNear, IsRooted}, Whole.IsGenuine}
+use Rattle.exec_parts.specs.{declared.parts.{held.Held.Held, letters.Letters.Letters, mail.{Reply.Reply, Subject.Subject}, record.Record.Record, seat.Seat.Seat as Chair, shared.Shared.Shared, sleeping.SleeperRecord.SleeperRecord, task_slot.TaskSlot.TaskSlot, worker.{Worker.Worker, Moments.Moments}, role.Role.Role}, MailPosts.IsMailbox, View.{driver_of, letters_in}, Phased.{IsPhased, closes_at, closing_in, is_complete, stage_of}, Roles.{MayBegin, is_pool, owns_runner}}
+use Rattle.exec_invariants.specs.{Carried.Carried, Places.{begins_at, calls_back_at, hands_on_at, has_loot_at, is_armed_at, polled_in, searches_at, step_of_poll, is_pooled_at, task_at}, Gates.{AreLinedUp, IsKnown}, Due.IsDue, Flown.HasFlown, Holding.Mail, HoldPlaces.{cancels_at, heard_at, is_bare_at, sends_cancel_at, spare_at}, Rooted.{HearsNext, IsRooted}, Whole.IsGenuine, Names.{tellers, HasWidth, IsNamed}}
 pub use Rattle.exec_invariants.specs.HoldPlaces.{has_wakes_at}
 
 -- the ranges of a configuration that sums rest on
@@ -38,74 +34,6 @@ pub record IsInTime (m : Moments) (slept : Option ℕ) (clock : ℕ) : Type 0 wh
   pub read : m.read ≤ clock
   pub asleep : IfSome slept (λ moment. moment ≤ clock)
   pub bounded : clock ≤ 2 ^ 62
-
--- WHAT IS LEFT TO BE TOLD (`IsTold` of `exec_parts/specs/Calls`)
-
-abbrev pub counts_held : Slot (Entry Reply Reply) → Bool
-counts_held (Live generation e) = is_held e
-counts_held (Vacant generation) = false
-counts_held Retired = false
-
--- of how many requests somebody may take or let go the output
-abbrev pub held_count : Slab (Entry Reply Reply) → ℕ
-held_count s = count_by counts_held s.slots
-
--- So much may still be told: once of each request that isn't over, as it ends; once of each that somebody holds, as its output
--- is let go or sent; once of each sleeper; and once more.
-abbrev pub tellers : Slab (Entry Reply Reply) → Slab (Sleeping Reply) → ℕ
-tellers requests sleepers = pending_count requests + held_count requests + live_count sleepers + 1
-
--- the lists have so many places, with what stands in them
-pub record HasWidth (left : Deferred Reply Reply) (n : ℕ) : Type 0 where
-  pub wakes : n ≤ vec_capacity left.notes.wakes
-  pub completions : n ≤ vec_capacity left.notes.completions
-  pub outputs : n ≤ vec_capacity left.outputs
-  pub resources : n ≤ vec_capacity left.resources
-  pub results : n ≤ vec_capacity left.results
-
--- RECORDS: that of a request which isn't over says the same as its driver, whose wheel has this start and tick
-pub record IsAlike (start tick : ℕ) (w : Waiter Reply Reply) (r : Request) : Type 0 where
-  pub asked : asked_in r.operation ≡ asked_of w.request
-  pub moved : r.operation.moved ≡ (cursor_of w.request).moved
-  pub switched : r.operation.switched ≡ (cursor_of w.request).switched
-  pub come : (results : List Judged) × HasCome (asked_of w.request) (cursor_of w.request) results
-  pub hinted : w.in_flight ≡ true → r.operation.hinted ≡ hinted_of w.request
-  pub asks_hint : (cursor_of w.request).hinted ≡ true → (may_ask_hint r.operation.kind ≡ true) × (r.operation.unrefused ≡ true)
-  pub seen : is_durable r.operation.kind ≡ true → r.operation.seen ≡ seen_by w.request
-  pub deadline : r.operation.deadline ≡ deadline_of w.request
-  pub cancelled : r.cancelled ≡ asks_cancel w.state
-  pub timer : r.timer ≡ option_map (λ t. start + t * tick) (tick_in w.state)
-  pub observed : r.observed ≡ is_held_by w.observer
-  pub waiter : (t : TaskNo) → waker_in w.observer ≡ Some t → r.waiter ≡ Some t.0
-  pub flying : is_in_flight r.phase ≡ w.in_flight
-  pub permit : is_gated r.phase ≡ needs_permit w
-  pub open_still : is_resolved r.phase ≡ false
-  pub near : IsNear w.observer r.forwarding
-  pub going : asks_cancel w.state ≡ true → w.in_flight ≡ true
-  pub told_once : r.cancel_staged ≡ true → r.cancelled ≡ true
-  pub dated : is_some (tick_in w.state) ≡ true → is_some (deadline_of w.request) ≡ true
-  -- a write or a sync goes on where nobody waits, so it is never cancelled
-  pub alone : asks_cancel w.state ≡ true → is_kept (asked_of w.request).kind ≡ false
-
--- what is submitted: for each request whose cancel the kernel wasn't told a cancel stands in the submission queue; the
--- requests of worker i that are Staged are known by number
-pub record IsSubmitted (i : ℕ) (staged untold : List ℕ) (r : RingState) (records : List Record) : Type 0 where
-  pub tagged : AreTagged r.staged
-  pub cancels : cancels_in r.staged ≡ length untold
-  pub known : AreKnown staged records
-  pub own : (k : ℕ) (x : Record) → is_one_of k staged ≡ true → slice_get records k ≡ Some x → x.shown.worker ≡ i
-  pub all : (k : ℕ) (x : Record) → slice_get records k ≡ Some x → x.shown.worker ≡ i → is_staged x.shown.phase ≡ true → is_one_of k staged ≡ true
-
--- each slot that has a request or a sleeper of worker i has its number, and there its record has the same name; so has
--- each slot that once had one
-pub record IsNamed (i : ℕ) (n : Names) (d : Driving Reply Reply) (zs : Slab (Sleeping Reply)) (records : List Record) (sleepers : List SleeperRecord) : Type 0 where
-  pub requests : (id : Id) → IsSome (value_at d.requests id) → (r : Record) × (slice_get records (number_in n.requests.items id) ≡ Some r) × (r.id.0 ≡ id) × (r.shown.worker ≡ i)
-  pub timers : (id : Id) → IsSome (value_at zs id) → (sleeper : SleeperRecord) × (slice_get sleepers (number_in n.timers.items id) ≡ Some sleeper) × (sleeper.id.0 ≡ id) × (sleeper.shown.worker ≡ i)
-  pub alike : (id : Id) (it : Waiter Reply Reply) (r : Record) → waiter_at d.requests id ≡ Some it → slice_get records (number_in n.requests.items id) ≡ Some r → IsAlike d.wheel.start d.wheel.tick it r.shown
-  pub over : (k : ℕ) (r : Record) → slice_get records k ≡ Some r → r.shown.worker ≡ i → waiter_at d.requests r.id.0 ≡ None → is_resolved r.shown.phase ≡ true
-  pub submitted : IsSubmitted i n.staged.items n.untold.items d.ring records
-  pub slots : length d.requests.slots ≤ length n.requests.items
-  pub beds : length zs.slots ≤ length n.timers.items
 
 -- RUNNABLES: that of root t of worker i is in its flag or in its hand exactly where it is queued
 

@@ -8,3 +8,4 @@ mod AllResults
 mod OnePoll
 mod Elsewhere
 mod Resting
+pub mod Polled

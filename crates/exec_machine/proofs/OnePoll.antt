@@ -1,7 +1,7 @@
 -- A task is polled by at most one worker: who polls a task is told by the task's phase.
 use Rattle.std.proofs.Common.{◌≡◌, ℕ, zero, suc, Bool, true, false, ◌&&◌, ◌==◌, if◌then◌else◌, List, [], ◌∷◌, ◌++◌, Option, Some, None, refl, sym, ◌∙◌, ap, subst, arith, inl, inr, get_or, set}
-use Rattle.std.proofs.lemmas.Bool.{true≢false, cases_Bool, eqb-true, eq-eqb}
-use Rattle.exec_machine.specs.{declared.{config.Configuration.Configuration, step.Action.Action, event.{Event.Event, StepResult.{StepResult, TheVariants.{Refused, Did}}, Line.Line}, state.{Next.Next, TaskPhase.TaskPhase, Waiting.Waiting, MailMessage.MailMessage, Operation.Operation}}, Choice.{Choice, Payer, Choice.{Plain, Passes, Pays, Posts}, Payer.{ByRequest, BySleeper, ByAct, ByCall, ByStop}}, World.{World, Own, Task, Common, own_of, task_of, request_of, sleeper_of, no_own, no_task}, Tests.{is_ready, waits_for_nothing}, Words.{next_word, moved_on, asks_yield}, Same.is_none, Requests.{asked_now, judged_of, own_after_admit, own_after_drop, after_reap}, Deadlines.sampled_now, Tasks.{woken, woken_phase, pended_phase, begun, own_after_drops, own_after_waking_up, own_after_over, after_pend, after_word, after_letting_go, owes, after_taking, after_waking_word, after_payment, after_wake, wake}, Mail.{after_sending, after_post, after_send, awaiting, after_apply, own_after_letter, own_after_apply, is_root_message, is_left_out}, Closing.{after_next, after_turn, own_after_turn, with_cleared, own_after_clear, after_clear, ends_by_clear}, Allowed.Allowed, After.{polled, own_after, common_after, made_by}, Callers.{after_spawn_by_call, after_wake_by_call, after_going_on}, Run.{Follows, RunsBy, after_event, after_line, world_after, first_owns}, Progress.{Plan, begin}}
+use Rattle.std.proofs.lemmas.Bool.{true≢false, cases_Bool, eq-eqb}
+use Rattle.exec_machine.{specs.{declared.{config.Configuration.Configuration, step.Action.Action, event.{Event.Event, StepResult.{StepResult, TheVariants.{Refused, Did}}, Line.Line}, state.{Next.Next, Waiting.Waiting, MailMessage.MailMessage, Operation.Operation}}, Choice.{Choice, Payer, Choice.{Plain, Passes, Pays, Posts}, Payer.{ByRequest, BySleeper, ByAct, ByCall, ByStop}}, World.{World, Own, Task, Common, own_of, task_of, request_of, sleeper_of, no_own, no_task}, Tests.{is_ready, waits_for_nothing}, Words.{next_word, moved_on, asks_yield}, Same.is_none, Requests.{asked_now, judged_of, own_after_admit, own_after_drop, after_reap}, Deadlines.sampled_now, Tasks.{woken, pended_phase, begun, own_after_drops, own_after_waking_up, own_after_over, after_pend, after_word, after_letting_go, owes, after_taking, after_waking_word, after_payment, after_wake, wake}, Mail.{after_sending, after_post, after_send, awaiting, after_apply, own_after_letter, own_after_apply, is_root_message, is_left_out}, Closing.{after_next, after_turn, own_after_turn, with_cleared, own_after_clear, after_clear, ends_by_clear}, Allowed.Allowed, After.{polled, own_after, common_after, made_by}, Callers.{after_spawn_by_call, after_wake_by_call, after_going_on}, Run.{Follows, RunsBy, after_event, after_line, world_after, first_owns}, Progress.{Plan, begin}}, proofs.Polled.{is_polled_by, one_poller, woken_polled, ready_unpolled, cleared_unpolled, none_some, some_same}}
 use Rattle.exec_machine.specs.declared.step.Action.TheVariants as action
 use Rattle.exec_machine.specs.declared.event.Event.TheVariants as event
 use Rattle.exec_machine.specs.declared.state.Next.TheVariants as next
@@ -10,46 +10,6 @@ use Rattle.exec_machine.specs.declared.state.Waiting.TheVariants as waiting
 use Rattle.exec_machine.specs.declared.state.MailMessage.TheVariants as message
 use Rattle.exec_outcomes.specs.{declared.outcome.{OpResult.OpResult, Outcome.Outcome}, Outcomes.refuses_hint, Accounts.is_durable}
 use Rattle.exec_machine.proofs.SameIs.{is_number_is}
-
--- PHASES
-
-abbrev pub is_polled_by : ℕ → TaskPhase → Bool
-is_polled_by j (task.Running k) = j == k
-is_polled_by j (task.Noted k) = j == k
-is_polled_by j _ = false
-
-one_poller : (i j : ℕ) (p : TaskPhase) → is_polled_by i p ≡ true → is_polled_by j p ≡ true → i ≡ j
-one_poller i j (task.Running k) a b = eqb-true i k a ∙ sym (eqb-true j k b)
-one_poller i j (task.Noted k) a b = eqb-true i k a ∙ sym (eqb-true j k b)
-one_poller i j p a b = absurd (true≢false (sym a))
-
-woken_polled : (j : ℕ) (p : TaskPhase) → is_polled_by j p ≡ true → is_polled_by j (woken_phase p) ≡ true
-woken_polled j (task.Running k) h = h
-woken_polled j (task.Noted k) h = h
-woken_polled j p h = absurd (true≢false (sym h))
-
-ready_unpolled : (j : ℕ) (p : TaskPhase) → is_ready p ≡ true → is_polled_by j p ≡ false
-ready_unpolled j task.Queued h = refl
-ready_unpolled j p h = absurd (true≢false (sym h))
-
-cleared_unpolled : (j : ℕ) (p : TaskPhase) → ends_by_clear p ≡ true → is_polled_by j p ≡ false
-cleared_unpolled j (task.Running k) h = absurd (true≢false (sym h))
-cleared_unpolled j (task.Noted k) h = absurd (true≢false (sym h))
-cleared_unpolled j p h = refl
-
-abbrev pub is_nothing : Option ℕ → Bool
-is_nothing None = true
-is_nothing (Some n) = false
-
-none_some : {n : ℕ} → None ≡ Some n → ⊥
-none_some h = true≢false (ap is_nothing h)
-
-abbrev pub number_of : Option ℕ → ℕ
-number_of None = 0
-number_of (Some n) = n
-
-some_same : {m n : ℕ} → Some m ≡ Some n → m ≡ n
-some_same h = ap number_of h
 
 -- TASKS
 

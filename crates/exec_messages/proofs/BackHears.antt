@@ -1,5 +1,5 @@
 -- The callbacks: a task to which an end was sent is woken, which that end pays.
-use Rattle.std.proofs.{Common.{◌≡◌, ◌≢◌, ℕ, ◌+◌, ◌<◌, ◌≤◌, ◌||◌, Bool, true, false, not, List, map, Option, Some, None, refl, sym, ap, subst, ◌∙◌, arith, slice_get, slice_set, if◌then◌else◌}, lemmas.{Bool.{false≢true, eq-eqb}, List.map-set}}
+use Rattle.std.proofs.{Common.{◌≡◌, ℕ, ◌+◌, ◌<◌, ◌≤◌, ◌||◌, Bool, true, false, not, List, map, Option, Some, None, refl, sym, ap, subst, ◌∙◌, arith, slice_get, slice_set, if◌then◌else◌}, lemmas.{Bool.{false≢true, eq-eqb}, List.map-set}}
 use Rattle.exec_waiters.specs.declared.deferred.Deferred.{Deferred}
 use Rattle.exec_task.specs.{Phases.{is_idle as is_cell_idle, runnable_of}, declared.body.Said.{Said}}
 use Rattle.exec_machine.specs.{Choice.{Choice.Pays, Payer, Payer.{ByRequest, BySleeper}}, declared.event.Event.{Event, TheVariants.Wake}, Progress.Plan, Ranges.ring_size, Tests.{is_applied, is_open, is_resolved}, World.{seat_of, task_of}}

@@ -9,7 +9,7 @@ use Rattle.exec_words.specs.declared.inbox.Message.{Message}
 use Rattle.exec_machine.specs.{declared.config.Configuration.Configuration, Tests.{is_asleep, is_resolved}}
 use Rattle.exec_moves.specs.declared.{handing.AfterCallbacks.AfterCallbacks, place.{InCallbacks.InCallbacks, InService.InService, Place.Place}}
 use Rattle.exec_parts.{specs.{declared.parts.{letters.Letters.Letters, mail.{Reply.Reply, Subject.Subject}, names.Names.Names, record.Record.Record, shared.Shared.Shared, sleeping.SleeperRecord.SleeperRecord, worker.{Moments.Moments, Worker.Worker}}, Records.number_in, Serving.changed_at, Calls.IsTold, View.driver_of}, proofs.Facts.{by_number, same_thing, set_elsewhere, set_there, true_false}}
-use Rattle.exec_invariants.{specs.{Carried.IsCarried, Due.{AreAsleep, IsAsleepAs, IsDue}, Flown.HasFlown, Gates.{AreLinedUp, IsKnown, at_gate}, HoldPlaces.spare_before, Holding.Mail, Places.searches_before, Rooted.IsRooted, Sound.{AreOver, HasLetters, HasWidth, IsLetter, IsMineIn, IsMyMail, IsNamed, IsSearching, SoundAt, has_wakes_at, tellers}}, proofs.{Carries.carried_marked, FiringNames.naps_set, Flown.flown_marked, Known.known_marked, Lined.{KeepsAt, lined_at, map_changed}, MailBack.idle_before, Marking.{Marks, before, due_marked, mark_if, marked, marks_if, named_marked}, ServedEnds.{count_both, count_one}}}
+use Rattle.exec_invariants.{specs.{Carried.IsCarried, Due.{AreAsleep, IsAsleepAs, IsDue}, Flown.HasFlown, Gates.{AreLinedUp, IsKnown, at_gate}, HoldPlaces.spare_before, Holding.Mail, Places.searches_before, Rooted.IsRooted, Sound.{AreOver, HasLetters, IsLetter, IsMineIn, IsMyMail, IsSearching, SoundAt, has_wakes_at}, Names.{HasWidth, IsNamed, tellers}}, proofs.{Carries.carried_marked, FiringNames.naps_set, Flown.flown_marked, Known.known_marked, Lined.{KeepsAt, lined_at, map_changed}, MailBack.idle_before, Marking.{Marks, before, due_marked, mark_if, marked, marks_if, named_marked}, ServedEnds.{count_both, count_one}}}
 
 -- what is in a list counts there
 pub count_some : {A : Type 0} (p : A → Bool) (xs : List A) (a : A) → Contains xs a → p a ≡ true → 0 < count_by p xs

@@ -7,7 +7,7 @@ use Rattle.exec_task.specs.{Phases.{is_idle as is_cell_idle, runnable_of}, decla
 use Rattle.exec_machine.specs.Tests.{is_resolved, is_unsent}
 use Rattle.exec_moves.specs.{declared.{handing.AfterCallbacks.AfterCallbacks, place.{InCallbacks.InCallbacks, Place.Place}}, Seen.polls_at}
 use Rattle.exec_parts.{specs.{declared.parts.{mail.Reply.Reply, record.Record.Record, shared.Shared.Shared, sleeping.SleeperRecord.SleeperRecord, task_slot.TaskSlot.TaskSlot, worker.Worker.Worker}, Pooled.woken_slot, Serving.changed_at}, proofs.Facts.{not_same, same_thing, set_elsewhere, set_there}}
-use Rattle.exec_invariants.{specs.{Carried.HasRoom, Gates.HaveGates, Holding.{IsHolding, box_of, holder_of, nap_of, thing_of}, Places.{claims_at, clears_at, drops_at, has_count_at, is_published_at, no_drops, one_if, removes_at}, Sound.{AreHome, SoundAt}, Spares.{RecordsEndure, SleepersEndure, Spares}, Whole.{HasOne, IsWhole, Profile, hands_of, is_number, runnables_in, with_worker}}, proofs.{Aside.{SameProfile, profile_same, spared}, Cells.{complete_woken, polled_woken}, HoldBeside.{Handles, whole_handled}, Lined.{KeepsAt, gates_at, lined_at}, Marking.{Marks, mark_if, marked, marks_if, was_marked}, Polling.{in_hand_never, in_hand_once}, PoolKept.{gates_same, unremoved}, Slots.{Balances, holders_set, spares_slot, whole_slot}, SlotTasks.IsAfter, Spared.{records_endure, sleeper_spared, sleepers_endure, spared_same}, Stirs.{idle_once, keeps_woken, unwoken}}}
+use Rattle.exec_invariants.{specs.{Carried.HasRoom, Gates.HaveGates, Holding.{IsHolding, box_of, holder_of, nap_of, thing_of}, Places.{claims_at, clears_at, drops_at, has_count_at, is_published_at, no_drops, one_if, removes_at}, Sound.{AreHome, SoundAt}, Spares.{RecordsEndure, SleepersEndure, Spares}, Whole.{HasOne, IsWhole, Profile, hands_of, is_number, runnables_in, with_worker}}, proofs.{Aside.{SameProfile, profile_same, spared}, Cells.{complete_woken, polled_woken}, HoldBeside.{Handles, whole_handled}, Lined.{KeepsAt, gates_at, lined_at}, Marking.{Marks, mark_if, marked, marks_if, was_marked}, Polling.{in_hand_never, in_hand_once}, PoolKept.{gates_same, unremoved}, Slots.{Balances, holders_set, spares_slot, whole_slot}, SlotTasks.IsAfter, Spared.{records_endure, sleepers_endure}, SparedRecord.{sleeper_spared, spared_same}, Stirs.{idle_once, keeps_woken, unwoken}}}
 use Rattle.exec_messages.proofs.BackMarks.{SleepsAlike, marked_at, slept_now}
 
 same_at : (rs rs' : List Record) → rs' ≡ rs → KeepsAt rs rs'

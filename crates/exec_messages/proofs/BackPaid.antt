@@ -1,12 +1,12 @@
 -- The callbacks: the next of the wakes that are left, and the wake of a task to which an end was sent, are steps.
-use Rattle.std.{proofs.{Common.{[], ◌≡◌, ◌≢◌, ℕ, zero, suc, ◌+◌, ◌<◌, ◌≤◌, ◌==◌, ◌&&◌, ◌||◌, Bool, true, false, not, cond, List, ◌∷◌, count_by, drop, map, Option, Some, None, refl, sym, ap, subst, ◌∙◌, arith, slice_get, slice_set, if◌then◌else◌}, lemmas.{Bool.{false≢true, eq-eqb}, List.map-set}}, specs.Vec.vec_capacity}
+use Rattle.std.{proofs.{Common.{[], ◌≡◌, ℕ, zero, suc, ◌+◌, ◌<◌, ◌≤◌, ◌==◌, ◌&&◌, ◌||◌, Bool, true, false, not, cond, List, ◌∷◌, count_by, drop, map, Option, Some, None, refl, sym, ap, subst, ◌∙◌, arith, slice_get, slice_set, if◌then◌else◌}, lemmas.{Bool.{false≢true, eq-eqb}, List.map-set}}, specs.Vec.vec_capacity}
 use Rattle.exec_base.specs.declared.task_no.TaskNo.{TaskNo}
 use Rattle.exec_waiters.specs.declared.deferred.Deferred.{Deferred}
 use Rattle.exec_task.specs.declared.body.Said.{Said}
 use Rattle.exec_machine.specs.{declared.state.Forwarding.Forwarding, Progress.Plan, Tasks.is_unpaid, Tests.{is_applied, is_open, is_unsent}, World.{Own as Books, seat_of}}
 use Rattle.exec_moves.specs.{Callback.{Item.Wakes, item_next}, declared.place.Place.Place, State.Desk}
 use Rattle.exec_parts.{specs.{declared.parts.{mail.Reply.Reply, names.Names.Names, record.Record.Record, shared.Shared.Shared, sleeping.SleeperRecord.SleeperRecord, task_slot.TaskSlot.TaskSlot, worker.Worker.Worker}, Calls.paying, Serving.{changed_at, changed_in}, Spots.Spot, View.{Views, common_of, driver_of}}, proofs.Facts.{same_number, same_thing}}
-use Rattle.exec_invariants.{specs.{Holding.{IsClosing, box_of, thing_of}, Rooted.IsRooted, Sound.{HasWidth, SoundAt}, Whole.{IsWhole, Profile, wakes_with, with_worker}, Works.Suits}, proofs.{Lined.mapped, Marking.pays, Seats.own_seat, ServedEnds.{count_both, count_one}}}
+use Rattle.exec_invariants.{specs.{Holding.{IsClosing, box_of, thing_of}, Rooted.IsRooted, Names.HasWidth, Sound.SoundAt, Whole.{IsWhole, Profile, wakes_with, with_worker}, Works.Suits}, proofs.{Lined.mapped, Seats.own_seat, ServedEnds.{count_both, count_one}}}
 use Rattle.exec_messages.proofs.BackOthers.{with_left}
 
 -- LISTS

@@ -1,5 +1,5 @@
 -- The callbacks: what pays a wake. A request or a sleeper of the worker's own that is over, or that nobody holds any more.
-use Rattle.std.{proofs.{Common.{◌≡◌, ◌≢◌, ℕ, ◌+◌, ◌==◌, ◌&&◌, ◌||◌, Bool, true, false, not, List, map, Option, Some, is_some, refl, sym, ap, ◌∙◌, slice_get, slice_index_or, slice_set}, lemmas.{Bool.{false≢true, eq-eqb}, List.map-set, Option.{get_or_from_slice_get, slice_get-map}}}, specs.Option.option_map}
+use Rattle.std.{proofs.{Common.{◌≡◌, ℕ, ◌+◌, ◌==◌, ◌&&◌, ◌||◌, Bool, true, not, List, map, Option, Some, is_some, refl, sym, ap, ◌∙◌, slice_get, slice_index_or, slice_set}, lemmas.{Bool.{false≢true, eq-eqb}, List.map-set, Option.{get_or_from_slice_get, slice_get-map}}}, specs.Option.option_map}
 use Rattle.exec_task.specs.declared.body.Said.{Said}
 use Rattle.exec_machine.specs.{Choice.Payer.{ByRequest, BySleeper}, declared.state.{Forwarding.Forwarding, RequestPhase.RequestPhase}, Progress.Plan, Same.is_number, Tasks.{after_payment, is_paid, is_unpaid, may_pay, request_owes, sleeper_owes}, Tests.{is_at_large, is_open, is_resolved, is_unsent}, World.{no_sleeper, request_of, seat_of, sleeper_of}}
 use Rattle.exec_moves.specs.declared.{handing.AfterCallbacks.AfterCallbacks, place.{InCallbacks.InCallbacks, Place.Place}}

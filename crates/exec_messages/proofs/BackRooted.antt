@@ -3,7 +3,7 @@ use Rattle.std.proofs.{Common.{◌≡◌, ℕ, suc, ◌+◌, ◌≤◌, ◌==◌
 use Rattle.exec_base.specs.{Slab.Slab, declared.error.Error.Error}
 use Rattle.exec_request.specs.declared.output.RequestOutput.{RequestOutput}
 use Rattle.exec_time.specs.declared.{notes.ForwardedResult.ForwardedResult, timers.{Observer.Observer as Watching, Sleeper.Sleeper as Sleeping}}
-use Rattle.exec_waiters.specs.declared.{deferred.{Answer.Answer, Deferred.Deferred}, observer.Observer.TheVariants.Forwarded}
+use Rattle.exec_waiters.specs.declared.{deferred.{Answer.Answer, Deferred.Deferred}}
 use Rattle.exec_driver.specs.Driving.{Driving}
 use Rattle.exec_machine.specs.Tests.{is_applied, is_resolved}
 use Rattle.exec_moves.specs.declared.handing.Heard.{Heard}

@@ -23,3 +23,4 @@ pub mod MailSent
 pub mod LandTimers
 pub mod LandForwards
 pub mod LandForwarded
+pub mod MailForwardEnds

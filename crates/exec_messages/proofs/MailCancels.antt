@@ -1,5 +1,5 @@
 -- A message of the batch says that nobody holds a request any more.
-use Rattle.std.proofs.{Common.{◌≡◌, ◌≢◌, ◌⊎◌, inl, inr, ⊎_elim, ℕ, ◌+◌, ◌-◌, ◌<◌, ◌==◌, ◌&&◌, Bool, true, false, not, Contains, List, [], ◌∷◌, count_by, map, Option, Some, None, is_some, Result, Ok, Err, refl, sym, ap, subst, ◌∙◌, arith, slice_get, slice_set, if◌then◌else◌}, lemmas.{Bool.false≢true, List.map-set}}
+use Rattle.std.proofs.{Common.{◌≡◌, inl, inr, ⊎_elim, ℕ, ◌+◌, ◌-◌, ◌<◌, ◌==◌, ◌&&◌, Bool, true, false, not, Contains, List, [], ◌∷◌, count_by, map, Option, Some, None, is_some, Result, Ok, Err, refl, sym, ap, subst, ◌∙◌, arith, slice_get, slice_set, if◌then◌else◌}, lemmas.{Bool.false≢true, List.map-set}}
 use Rattle.exec_base.specs.declared.{error.Error.{Error, TheVariants.Timeout}, one_shot.OneShotState.{OneShotState, TheVariants.{Open, Sent, Closed}}, task_no.TaskNo.TaskNo}
 use Rattle.exec_outcomes.specs.declared.outcome.Outcome.TheVariants.{Failure}
 use Rattle.exec_request.specs.declared.output.RequestOutput.{RequestOutput}
@@ -8,7 +8,7 @@ use Rattle.exec_task.specs.declared.body.Said.{Said}
 use Rattle.exec_machine.specs.{declared.{event.Event.{Event, TheVariants.Apply}, state.{MailMessage.{MailMessage, TheVariants.CancelRequest}, Request.Request}}, Requests.{dropped, ends_by_drop, is_cancelled_by_drop, resolved}, Tests.{is_applied, is_resolved, is_unsent}, World.request_of}
 use Rattle.exec_moves.specs.{declared.place.{InMail.InMail, Place.Place}, Mail.after_message, Slots.is_in_slots, State.Desk, Told.{awaits_no_more, one_output, one_result, told_of_drop, without_request}}
 use Rattle.exec_parts.{specs.{declared.parts.{mail.Subject.Subject, record.Record.Record, shared.Shared.Shared, worker.Worker.Worker}, Awaits.{LetsGo, drops}, Serving.{changed_at, changed_in}, Spots.Spot, View.{Visible, common_of, desk_of, message_of, own_of, visible}}, proofs.Facts.same_thing}
-use Rattle.exec_invariants.{specs.{Holding.{Box, Hands, HasAnswer, Holder, IsAnswerOf, IsForwarded, IsHeldBy, IsHolding, Mail, Nap, Thing, box_of, holder_of, holdings, mail_in, nap_of, thing_of, under_way}, Sound.{IsMineIn, SoundAt, served_in}, Whole.{HasWhole, Profile, hands_of, with_worker}, Works.Steps}, proofs.{AskBoxes.box_there, HoldLets.redone_alone, HoldMail.{is_never, is_once}, LetShown.{SeenLet, let_seen}, Lined.opens_same, MailApplies.{AppliedKeeps, applied_steps, kept_again, kept_there, one_less, passed_on, rest_of, split_first, touched}, Recorded.request_seen, Seeing.common_changed, Serving.{KeepsSpare, SparesRecords, spares_one}, TaskHears.thing_there, TaskOverFold.{dropped_at_gate, dropped_name, dropped_thing}, TaskOverHolds.LetsThing}}
+use Rattle.exec_invariants.{specs.{Holding.{Box, Hands, HasAnswer, Holder, IsAnswerOf, IsForwarded, IsHeldBy, IsHolding, Mail, Nap, Thing, box_of, holder_of, holdings, mail_in, nap_of, thing_of, under_way}, Sound.{IsMineIn, SoundAt, served_in}, Whole.{HasWhole, Profile, hands_of, with_worker}, Works.Steps}, proofs.{AskBoxes.box_there, HoldLets.redone_alone, HoldMail.{is_never, is_once}, LetShown.{SeenLet, let_seen}, Lined.opens_same, MailApplies.{AppliedKeeps, one_less, passed_on, rest_of, split_first}, MailApplied.{applied_steps, kept_again, kept_there, touched}, Recorded.request_seen, Seeing.common_changed, ServingHolds.KeepsSpare, Serving.{SparesRecords, spares_one}, TaskHears.thing_there, TaskOverFold.{dropped_at_gate, dropped_name, dropped_thing}, TaskOverHolds.LetsThing}}
 use Rattle.exec_parts.specs.declared.parts.mail.Subject.TheVariants as subject
 
 -- WHAT IS TOLD, whatever is left of the batch

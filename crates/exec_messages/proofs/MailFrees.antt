@@ -1,14 +1,14 @@
 -- The callbacks: what a request owned that is over is let go of.
-use Rattle.std.{proofs.{Common.{map, ◌≡◌, ◌≢◌, ℕ, suc, [], ◌∷◌, ◌==◌, ◌+◌, ◌<◌, ◌≤◌, ◌-◌, Bool, length, drop, nat_lt, arith, true, false, not, List, Contains, Option, Some, None, refl, sym, ap, subst, ◌∙◌, slice_get, slice_set, if◌then◌else◌}, lemmas.Bool.{false≢true, eq-eqb, Decides.nat_tests}}, specs.{Vec.vec_capacity, VecDeque.deque_capacity}}
+use Rattle.std.{proofs.{Common.{map, ◌≡◌, ℕ, suc, [], ◌∷◌, ◌==◌, ◌+◌, ◌<◌, ◌≤◌, ◌-◌, Bool, length, drop, nat_lt, arith, true, false, not, List, Contains, Option, Some, None, refl, sym, ap, subst, ◌∙◌, slice_get, slice_set, if◌then◌else◌}, lemmas.Bool.{false≢true, eq-eqb, Decides.nat_tests}}, specs.{Vec.vec_capacity, VecDeque.deque_capacity}}
 use Rattle.exec_base.specs.Slab.{Slab}
 use Rattle.exec_time.specs.declared.timers.Sleeper.{Sleeper as Sleeping}
 use Rattle.exec_waiters.specs.{States.pending_count, declared.deferred.Deferred.Deferred}
 use Rattle.exec_driver.specs.Driving.{Driving}
 use Rattle.exec_task.specs.declared.body.Said.{Said}
-use Rattle.exec_machine.specs.{declared.{event.Event.{Event, TheVariants.Release}, state.{Next.Next, Request.Request}}, Choice.Choice.Plain, Ranges.ring_size, Same.is_number, Tests.{is_applied, is_resolved}, World.{request_of, Own as Books}}
+use Rattle.exec_machine.specs.{declared.{event.Event.{Event, TheVariants.Release}, state.{Next.Next}}, Choice.Choice.Plain, Ranges.ring_size, Same.is_number, Tests.{is_applied, is_resolved}, World.{request_of, Own as Books}}
 use Rattle.exec_moves.specs.{declared.{handing.AfterCallbacks.AfterCallbacks, place.{InCallbacks.InCallbacks, Place.Place}}, Callback.{Item.Releases, after_callbacks, has_callbacks, item_next, next_callback}, State.Desk, Move.{move_at, move_item}, Seen.{next_at, polls_at}}
 use Rattle.exec_parts.{specs.{Calls.{releasing, IsTold}, Phased.{IsPhased, closes_before, stage_of}, Records.number_in, Serving.{changed_at, changed_in}, Spots.Spot, Tests.{after_callbacks_of, is_anything_told, next_callback_of}, View.{common_of, desk_of, driver_of, own_of, numbers_of_passing, things_with, visible, with_view}, declared.parts.{mail.{Reply.Reply, Subject.Subject}, names.Names.Names, record.Record.Record, seat.Seat.Seat as Chair, shared.Shared.Shared, sleeping.SleeperRecord.SleeperRecord, worker.Worker.Worker}}, proofs.{Facts.true_false, Showing.map_kept}}
-use Rattle.exec_invariants.{specs.{Carried.{HasRoom, IsCarried}, Due.IsDue, Flown.HasFlown, Gates.{AreLinedUp, HaveGates, IsKnown}, HoldPlaces.spare_before, Holding.{Mail, IsAnswerOf, IsHolding, box_of, holder_of, nap_of, thing_of}, Places.{one_if, claims_at, drops_at, has_count_at, is_published_at, searches_before}, Rooted.{IsKept, IsReplyFor, IsRooted, Pays, StandsAt, goes_elsewhere, results_of}, Sound.{AreOver, HasLetters, HasWidth, IsMyMail, IsNamed, IsSearching, SoundAt, has_wakes_at, tellers}, Whole.{IsWhole, hands_of, with_worker}, Works.{Beside, Steps, Suits}}, proofs.{Aside.{SameProfile, profile_same}, CallsBack.{after_seen, callbacks_seen}, Carries.carried_marked, Flown.flown_marked, Hearing.unheard, Idled.Fares, Known.known_marked, Lined.{SameAtGate, gates_kept, gates_seen_same, lined_kept, opens_same, passing_same, was_sent}, MailBack.{Rests, goes_next, idle_before, next_fares, next_sound, rests_next, stance}, Marking.{due_marked, mark_if, mark_kept, marked, named_marked, releases, was_marked}, Phased.phased_count, Recorded.request_seen, Seeing.common_changed, Serving.{SparesRecords, letter_kept, mail_kept, spares_one, spares_service}, Turning.view_found}}
+use Rattle.exec_invariants.{specs.{Carried.{HasRoom, IsCarried}, Due.IsDue, Flown.HasFlown, Gates.{AreLinedUp, HaveGates, IsKnown}, HoldPlaces.spare_before, Holding.{Mail, IsAnswerOf, IsHolding, box_of, holder_of, nap_of, thing_of}, Places.{one_if, claims_at, drops_at, has_count_at, is_published_at, searches_before}, Rooted.{IsKept, IsReplyFor, IsRooted, Pays, StandsAt, goes_elsewhere, results_of}, Sound.{AreOver, HasLetters, IsMyMail, IsSearching, SoundAt, has_wakes_at}, Names.{HasWidth, IsNamed, tellers}, Whole.{IsWhole, hands_of, with_worker}, Works.{Beside, Steps, Suits}}, proofs.{Aside.{SameProfile, profile_same}, CallsBack.{after_seen, callbacks_seen}, Carries.carried_marked, Flown.flown_marked, Hearing.unheard, Idled.Fares, Known.known_marked, Lined.{SameAtGate, gates_kept, gates_seen_same, lined_kept, opens_same, passing_same, was_sent}, MailBack.{Rests, goes_next, idle_before, next_fares, next_sound, rests_next, stance}, Marking.{due_marked, mark_if, mark_kept, marked, named_marked, releases, was_marked}, Phased.phased_count, Recorded.request_seen, Seeing.common_changed, Serving.{SparesRecords, letter_kept, mail_kept, spares_one, spares_service}, Turning.view_found}}
 
 -- OF RECORDS, one of which lets go
 

@@ -1,5 +1,5 @@
 -- The first message of the batch can take effect.
-use Rattle.std.proofs.{Common.{◌≡◌, ◌≢◌, ℕ, ◌-◌, ◌^◌, ◌<◌, ◌≤◌, Bool, true, false, Contains, map, Some, None, refl, sym, ap, subst, ◌∙◌, arith, slice_get}, lemmas.{Bool.false≢true, List.length-map, Option.slice_get_within}}
+use Rattle.std.proofs.{Common.{◌≡◌, ℕ, ◌^◌, ◌<◌, ◌≤◌, Bool, false, Contains, map, Some, None, refl, sym, ap, subst, ◌∙◌, arith, slice_get}, lemmas.{Bool.false≢true, List.length-map, Option.slice_get_within}}
 use Rattle.exec_base.specs.Slab.{value_at}
 use Rattle.exec_time.specs.{Sleepers.is_forwarded, declared.timers.{Observer.Observer as Watching, Sleeper.Sleeper as Sleeping}}
 use Rattle.exec_time.specs.declared.timers.Observer.TheVariants as sleep

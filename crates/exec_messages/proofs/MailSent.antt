@@ -9,7 +9,7 @@ use Rattle.exec_driver.specs.Driving.{Driving}
 use Rattle.exec_machine.specs.Tests.{is_applied, is_resolved, is_staged}
 use Rattle.exec_moves.specs.declared.handing.Heard.{Heard}
 use Rattle.exec_parts.{specs.{declared.parts.{mail.Reply.Reply, names.Names.Names, record.Record.Record, sleeping.SleeperRecord.SleeperRecord}, Calls.forward_applied, Records.number_in, Serving.changed_at}, proofs.Facts.{by_name, by_number, not_same, same_thing}}
-use Rattle.exec_invariants.{specs.{Due.AreTimed, Flown.{HasFlown, IsPlain, operations}, Holding.{IsAnswerOf, thing_of}, Places.one_if, Rooted.{IsReplyFor, IsResult, IsRooted, Pays, goes_elsewhere, is_of_timer, results_of}, Sound.{AreOver, IsNamed, IsSubmitted}}, proofs.{Flown.landed_on, Marking.{known_then, mark_if, marked, was_marked}}}
+use Rattle.exec_invariants.{specs.{Due.AreTimed, Flown.{HasFlown, IsPlain, operations}, Holding.{IsAnswerOf, thing_of}, Places.one_if, Rooted.{IsReplyFor, IsResult, IsRooted, Pays, goes_elsewhere, is_of_timer, results_of}, Sound.AreOver, Names.{IsNamed, IsSubmitted}}, proofs.{Flown.landed_on, Marking.{known_then, mark_if, marked, was_marked}}}
 
 -- THE RECORDS
 

@@ -1,6 +1,5 @@
 -- What a worker, and what all share, shows: of the abstract machine, and of what stands beside it.
-use Rattle.std.specs.Prelude.{ℕ, zero, suc, Bool, false, not, ◌-◌, ◌==◌, ◌&&◌, ◌||◌, if◌then◌else◌, List, [], ◌∷◌, drop, length, map, filter, slice_get, slice_index_or, slice_set, ◌++◌, is_some, Option, Some, None, option_to_list}
-use Rattle.std.specs.Option.{option_map}
+use Rattle.std.specs.{Prelude.{ℕ, zero, suc, Bool, false, not, ◌-◌, ◌==◌, ◌&&◌, ◌||◌, if◌then◌else◌, List, [], ◌∷◌, drop, length, map, filter, slice_get, slice_index_or, slice_set, ◌++◌, is_some, Option, Some, None, option_to_list}, Option.option_map}
 use Rattle.exec_base.specs.{Slab.{Slab, is_live}, declared.slab.Slot.Slot}
 use Rattle.exec_base.specs.declared.slab.Slot.TheVariants as slot
 use Rattle.exec_outcomes.specs.Accounts.{Account, fresh_account, is_durable}

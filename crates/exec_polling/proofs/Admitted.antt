@@ -5,7 +5,7 @@ use Rattle.exec_outcomes.specs.declared.outcome.Kind.{Kind}
 use Rattle.exec_request.specs.{Buffers.length_of, Requests.{asked_of, cursor_of, target_of}, Syncing.{is_syncing, write_kind}, Views.{send_window, write_window}, Ways.asked_by, declared.{buffers.WriteBuffers.{WriteBuffers, TheVariants.{Single, Vectored}}, request.Request.Request as Asking, recv.RecvRequest.RecvRequest, send.SendRequest.SendRequest, way.Way.Way, window.{Opcode.Opcode, Window.Window}, write_at.WriteAtState.WriteAtState}}
 use Rattle.exec_ring.specs.{Rings.RingState, Sockets.SocketState, Stores.{HasStretch, MakesStretch, Reserves, socket_of, with_room}, declared.store.Store.Store}
 use Rattle.exec_waiters.{specs.{Ids.{user_data_of, index_in}, States.{waiter_at, waiter_of}, declared.waiter.{Entry.Entry, Waiter.Waiter}}, proofs.Changes.entry_of}
-use Rattle.exec_driver.specs.Steps.{bytes_left, footprint_of, widened}
+use Rattle.exec_driver.specs.Footprints.{bytes_left, footprint_of, widened}
 use Rattle.exec_machine.specs.{Requests.asked_of as asked_in, Tests.is_in_flight, declared.state.{Operation.Operation, RequestPhase.RequestPhase}}
 use Rattle.exec_parts.{specs.{declared.parts.{mail.Reply.Reply, record.Record.Record}, Records.number_in}, proofs.Facts.{by_name, same_number}}
 use Rattle.exec_invariants.{specs.Carried.{HasStretchFor, IsCarried, IsOneBuffer, IsUnderWay, IsWhole, is_moved_by, may_move, moves_by, room_for, those_of, unlanded}, proofs.{Carrying.index_told, Over.in_append}}

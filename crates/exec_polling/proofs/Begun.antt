@@ -10,7 +10,7 @@ use Rattle.exec_waiters.specs.{States.waiter_at, Told.is_untold, declared.{defer
 use Rattle.exec_machine.specs.{declared.{config.Configuration.Configuration, state.Sleeper.Sleeper}, Tasks.new_own, Tests.{is_asleep, is_open, is_resolved, has_ended}, Ranges.{ring_size, horizon, wheel_slots}}
 use Rattle.exec_moves.specs.{Plays.first_desk, Pop.shard_count, State.no_wake_poll}
 use Rattle.exec_parts.{specs.{declared.parts.{mail.Reply.Reply, record.Record.Record, role.Role.Role, seat.Seat.Seat as Chair, shared.Shared.Shared, sleeping.SleeperRecord.SleeperRecord, task_slot.TaskSlot.TaskSlot, worker.Worker.Worker}, Dedicated.{Begins, MayBegin, begun_worker, root_slot}, MailPosts.IsMailbox, Phased.is_complete, Records.{HasNoNames, IsFreshSeat}, View.{Visible, desk_of, driver_of, own_of, visible}}, proofs.{Facts.{same_number, same_thing}, LeafPowers.slots_of_wheel}}
-use Rattle.exec_invariants.{specs.{Carried.HasRoom, Gates.AreLinedUp, Sound.{AreHome, AreResting, IsConfig, IsNamed, IsRole, Sound, Stands as IsSitting}}, proofs.Orders.begins_ordered}
+use Rattle.exec_invariants.{specs.{Carried.HasRoom, Gates.AreLinedUp, Sound.{AreHome, AreResting, IsConfig, IsRole, Sound, Stands as IsSitting}, Names.IsNamed}, proofs.Orders.begins_ordered}
 
 -- NOTHING IS THERE
 

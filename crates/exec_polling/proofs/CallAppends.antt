@@ -1,5 +1,5 @@
 -- What the append of a caller's runnable to the global queue is to the machine, and why there is a place for it.
-use Rattle.std.proofs.{Common.{◌≡◌, ℕ, ◌+◌, ◌-◌, ◌<◌, ◌≤◌, inl, inr, Bool, true, false, Contains, List, [], ◌∷◌, ◌++◌, length, Option, None, Some, IsSome, refl, sym, ap, subst, ◌∙◌, arith, option_map, option_to_list, slice_get, if◌then◌else◌}, lemmas.{List.{map-append, Elements.{Contains-append_cases, Contains-push_cases}}, Option.slice_get_within}}
+use Rattle.std.proofs.{Common.{◌≡◌, ℕ, ◌+◌, ◌<◌, ◌≤◌, inl, inr, Bool, true, false, Contains, List, [], ◌∷◌, ◌++◌, length, Option, None, Some, IsSome, refl, sym, ap, subst, ◌∙◌, arith, option_map, option_to_list, slice_get, if◌then◌else◌}, lemmas.{List.{map-append, Elements.{Contains-append_cases, Contains-push_cases}}, Option.slice_get_within}}
 use Rattle.exec_words.specs.Global.{Global, spare_places}
 use Rattle.exec_task.specs.declared.{body.Said.Said, runnable.Runnable.Runnable}
 use Rattle.exec_machine.specs.{declared.event.Event.{Event, TheVariants.Turn}, Choice.Choice.Plain, Progress.Plan}

@@ -2,7 +2,7 @@
 use Rattle.std.{proofs.{Common.{[], ◌≡◌, ◌≢◌, ℕ, suc, ◌+◌, ◌*◌, ◌<◌, ◌≤◌, ◌^◌, ◌==◌, arith, true, false, Contains, ◌∷◌, length, nat_lt, option_map, Some, None, refl, sym, ap, subst, ◌∙◌, slice_get}, lemmas.{Bool.{eq-eqb, Decides.nat_tests}, List.{length-map}, Option.{slice_get_within, slice_get-map}}}}
 use Rattle.exec_task.specs.{Phases.{runnable_of}, declared.{runnable.Runnable.Runnable}}
 use Rattle.exec_request.specs.declared.request.Request.{Request as Asking}
-use Rattle.exec_driver.specs.Steps.{bytes_left}
+use Rattle.exec_driver.specs.Footprints.{bytes_left}
 use Rattle.exec_moves.specs.{declared.place.{InPoll.InPoll, Place.Place}}
 use Rattle.exec_parts.{specs.{declared.parts.{role.Role.Role, seat.Seat.Seat as Chair, shared.Shared.Shared, task_slot.TaskSlot.TaskSlot, worker.Worker.Worker}, Dedicated.{Begins as BeginsWorker, root_slot}, Phased.{IsPhased, closes_at, closing_in, stage_of}}, proofs.Facts.{not_same, same_thing}}
 use Rattle.exec_invariants.{specs.{Holding.{box_of, nap_of, thing_of}, Carried.{Carried, HasStretchFor}, Sound.{AreHome, HasQueue, IsSeated, Sound, SoundAt}, Whole.{HasWhole, IsWhole, Profile, with_worker}}, proofs.{Polling.on_in_poll, SlotTasks.{Tasked, sound_tasked}, Turning.homes_more}}

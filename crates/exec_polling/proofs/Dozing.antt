@@ -1,5 +1,5 @@
 -- A task that sleeps from now on: what holds again of its worker's sleepers.
-use Rattle.std.{proofs.{Common.{◌≡◌, ◌≢◌, ℕ, ◌+◌, ◌≤◌, ◌&&◌, ◌||◌, Bool, true, false, List, [], ◌∷◌, ◌++◌, length, Option, Some, IsSome, refl, sym, ap, subst, ◌∙◌, arith, inl, inr, slice_get}, lemmas.{Bool.{false≢true, eq-eqb}, Option.slice_get_within}}, specs.VecDeque.deque_capacity}
+use Rattle.std.{proofs.{Common.{◌≡◌, ◌≢◌, ℕ, ◌≤◌, ◌&&◌, ◌||◌, Bool, true, false, List, [], ◌∷◌, ◌++◌, length, Option, Some, IsSome, refl, sym, ap, subst, ◌∙◌, arith, inl, inr, slice_get}, lemmas.{Bool.{false≢true, eq-eqb}, Option.slice_get_within}}, specs.VecDeque.deque_capacity}
 use Rattle.exec_base.specs.{Slab.{TakesId, Slab, value_at}, declared.slab.Id.Id}
 use Rattle.exec_time.specs.declared.{notes.ForwardedResult.ForwardedResult, timers.{Sleeper.Sleeper as Sleeping, Observer.Observer}}
 use Rattle.exec_waiters.specs.declared.deferred.Deferred.{Deferred}
@@ -9,8 +9,8 @@ use Rattle.exec_machine.specs.{Deadlines.new_sleeper, Tests.{is_applied, is_asle
 use Rattle.exec_moves.specs.declared.place.InService.{InService}
 pub use Rattle.exec_parts.proofs.LeafBeds.{bed_names, bed_room, bed_within}
 use Rattle.exec_parts.{specs.{declared.parts.{mail.Reply.Reply, names.Names.Names, record.Record.Record, sleeping.SleeperRecord.SleeperRecord}, Records.number_in}, proofs.{Facts.{by_name, not_same}, Taken.{Takes, got_new, got_old, name_apart, number_new, number_old, slot_apart, value_new, value_old, was_got}}}
-use Rattle.exec_invariants.{specs.{Carried.IsCarried, Due.{AreAsleep, AreTimed}, Ordered.IsOrdered, Flown.{HasFlown, operations}, Places.one_if, Rooted.{IsReplyFor, IsRooted, SleeperPays, Watches, completions_of, ends_elsewhere, is_of_timer}, Sound.{AreOver, IsNamed}}, proofs.{FiringNames.{counted_joined, naps_joined}, Flown.landed_on}}
-use Rattle.exec_polling.proofs.Newcomer.{none_of}
+use Rattle.exec_invariants.{specs.{Carried.IsCarried, Due.{AreAsleep, AreTimed}, Ordered.IsOrdered, Flown.{HasFlown, operations}, Places.one_if, Rooted.{IsReplyFor, IsRooted, SleeperPays, Watches, completions_of, ends_elsewhere, is_of_timer}, Sound.AreOver, Names.IsNamed}, proofs.{FiringNames.{counted_joined, naps_joined}, Flown.landed_on}}
+use Rattle.exec_polling.proofs.Coming.{none_of}
 
 -- A sleeper came in under this name, with the next number; of the other numbers there may be more room.
 pub record OneDozes (i t until : ℕ) (n n' : Names) (zs zs' : Slab (Sleeping Reply)) (ss : List SleeperRecord) (z : SleeperRecord) : Type 0 where

@@ -1,16 +1,16 @@
 -- All that holds again of a worker whose task has made a request.
-use Rattle.std.{proofs.{Common.{◌≡◌, ◌≢◌, ℕ, ◌+◌, ◌^◌, ◌<◌, ◌≤◌, ◌&&◌, Bool, true, false, not, List, [], ◌∷◌, ◌++◌, length, Option, Some, None, IfSome, refl, sym, ap, subst, ◌∙◌, arith, inl, inr, is_some, slice_get, slice_set, if◌then◌else◌}, lemmas.{Bool.false≢true, List.append-nil, Option.{get_or_from_slice_get, slice_get_within}}}, specs.VecDeque.deque_capacity}
+use Rattle.std.{proofs.{Common.{◌≡◌, ℕ, ◌+◌, ◌^◌, ◌<◌, ◌≤◌, ◌&&◌, Bool, true, false, not, List, [], ◌∷◌, ◌++◌, length, Option, Some, None, IfSome, refl, sym, ap, subst, ◌∙◌, arith, inl, inr, is_some, slice_get, slice_set, if◌then◌else◌}, lemmas.{Bool.false≢true, List.append-nil, Option.{get_or_from_slice_get, slice_get_within}}}, specs.VecDeque.deque_capacity}
 use Rattle.exec_base.specs.{Slab.{live_count, next_id, IsPast}, declared.error.Error.TheVariants.Timeout}
 use Rattle.exec_outcomes.specs.{Accounts.is_durable, declared.outcome.{Kind.Kind, Outcome.{Outcome, TheVariants.Failure}}}
-use Rattle.exec_request.specs.{Requests.{asked_of, cursor_of, deadline_of, gate_of, output_of, target_of}, declared.request.Request.Request as Asking}
+use Rattle.exec_request.specs.{Requests.{asked_of, deadline_of, gate_of, output_of, target_of}, declared.request.Request.Request as Asking}
 use Rattle.exec_ring.specs.Stores.{Reserves}
 use Rattle.exec_waiters.specs.{Events.{finished, told_by_finish}, States.{counts_pending, pending_count}, Told.{HasPlaces, Tells, nothing_told}, declared.{deferred.Deferred.Deferred, observer.Observer.TheVariants.Local, waiter.{Entry.TheVariants.Pending, Waiter.Waiter}}}
-use Rattle.exec_driver.specs.{Admission.with_rooms, Driving.{Driving, seen}, Lists.{withdrawn, without}, Opens.{OpenState, account_in, placed, with_named, writing}, Placed.ListsRequests, Punctual.IsPunctual, Steps.{footprint_of, is_late, newcomer, placed_at, plainly_written, taken_in, timed_out, told_at_admission}}
+use Rattle.exec_driver.specs.{Admission.with_rooms, Driving.{Driving, seen}, Lists.{withdrawn, without}, Opens.{OpenState, account_in, placed, with_named, writing}, Placed.ListsRequests, Punctual.IsPunctual, Footprints.footprint_of, Steps.{is_late, newcomer, placed_at, plainly_written, taken_in, timed_out, told_at_admission}}
 use Rattle.exec_machine.specs.{declared.{event.Event.Event, state.{Operation.Operation, Request.Request, RequestPhase.RequestPhase}}, Requests.{asked_of as asked_in, first_phase, new_request, outcome_if_late, resolved, resolved_if}, Tests.{is_gated, is_in_flight, is_of_file, is_resolved}}
-use Rattle.exec_moves.specs.{declared.handing.{AfterCallbacks.AfterCallbacks}, declared.place.{Place.Place, InCallbacks.InCallbacks, InPoll.InPoll}}
+use Rattle.exec_moves.specs.declared.{handing.AfterCallbacks.AfterCallbacks, place.{Place.Place, InCallbacks.InCallbacks, InPoll.InPoll}}
 use Rattle.exec_parts.{specs.{declared.parts.{mail.Reply.Reply, names.Names.Names, record.Record.Record, shared.Shared.Shared, worker.Worker.Worker}, Admitting.{Registers, has_open, most_told, seeing}, Records.{file_named, number_in, operation_in, seen_in}, Serving.{changed_at, changed_in}, Calls.IsTold, View.{account_seen, driver_of}}, proofs.{Enlisting.{cancels_are, due_are, enrolments_are, gated_are, driver_then, placed_late, placed_queued, placing, queued_driver, taken_by}, Growing.told_same, Taken.{Takes, enrolled_if, got_new}}}
-use Rattle.exec_invariants.{specs.{Due.{IsWheelAt, wheel_moment}, Gates.{key_for, may_ask_hint}, Ordered.went_round, Sound.{SoundAt, AreOver, HasWidth, tellers}}, proofs.{Gated.durable_of_file, Late.tells_error, Orders.{TurnsAlike, alike_self}, Ousting.keeps_ended, Over.OneEnds, Resolving.{SlabAfter, places_fewer, slab_after}, ServedEnds.ends_told, Serving.KeepsBy, Untold.{keeps_untold, rooted_told}}}
-use Rattle.exec_polling.proofs.{Admitted.IsFew, Rooms.few_tellers, Newcomer.{OneComes, carried_next, flown_next, is_here, known_next, named_next, order_next, over_next, punctual_next, rooted_next, timed_next}, RegisterOpens.{IsRegistered, Opened, hints_then, opened_so}, Unbegun.{IsUnbegun, late_is, none_come}}
+use Rattle.exec_invariants.{specs.{Due.{IsWheelAt, wheel_moment}, Gates.{key_for, may_ask_hint}, Ordered.went_round, Sound.{SoundAt, AreOver}, Names.{HasWidth, tellers}}, proofs.{Gated.durable_of_file, Late.tells_error, Orders.{TurnsAlike, alike_self}, Ousting.keeps_ended, Over.OneEnds, Resolving.{SlabAfter, places_fewer, slab_after}, ServedEnds.ends_told, ServingHolds.KeepsBy, Untold.{keeps_untold, rooted_told}}}
+use Rattle.exec_polling.proofs.{Rooms.few_tellers, Coming.OneComes, Newcomer.{carried_next, flown_next, is_here, known_next, named_next, order_next, over_next, punctual_next, rooted_next, timed_next}, RegisterOpens.{IsRegistered, Opened, hints_then, opened_so}, Unbegun.{late_is, none_come}, IsComing.IsComing}
 
 set_last : {A : Type 0} (xs : List A) (x y : A) → slice_set (xs ++ x ∷ []) (length xs) y ≡ xs ++ y ∷ []
 set_last [] x y = refl
@@ -68,16 +68,6 @@ and_true false = refl
 pub late_some : (o : Option ℕ) (now : ℕ) → is_late o now ≡ true → is_some o ≡ true
 late_some None now h = absurd (false≢true h)
 late_some (Some deadline) now h = refl
-
--- WHAT COMES: a request that wasn't begun
-pub record IsComing (q : Asking) : Type 0 where
-  pub made : IsUnbegun q
-  pub few : IsFew q
-  pub unmoved : (cursor_of q).moved ≡ 0
-  pub going : (cursor_of q).switched ≡ false
-  pub hint : (cursor_of q).hinted ≡ may_ask_hint (asked_of q).kind
-  pub near : IfSome (deadline_of q) (λ d. d < 2 ^ 63)
-  pub undated : is_of_file (asked_of q).kind ≡ true → deadline_of q ≡ None
 
 module _ {B : Type 0} (t : ℕ) (w w' : Worker) (s0 sx s' : Shared B) (q : Asking) (e : Event) (sound : SoundAt (Place.Poll t InPoll.Act) w s0)
     (reg : Registers t q w w' (record s0 { tasks = sx.tasks }) s' e) (comes : IsComing q) where

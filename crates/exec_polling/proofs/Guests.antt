@@ -1,7 +1,7 @@
 -- The end of a poll of an ordinary task, where it waits or was cleared; and that of any task.
-use Rattle.std.proofs.{Common.{◌≡◌, ◌≢◌, inl, inr, ℕ, zero, suc, ◌+◌, ◌==◌, ◌-◌, arith, Bool, true, false, Contains, Option, Some, None, refl, sym, ap, subst, ◌∙◌, slice_get, slice_set, option_to_list, if◌then◌else◌}, lemmas.Bool.{false≢true, eq-eqb}}
+use Rattle.std.proofs.{Common.{◌≡◌, ◌≢◌, inl, inr, ℕ, zero, suc, ◌+◌, ◌==◌, arith, Bool, true, false, Contains, Option, Some, None, refl, sym, ap, subst, ◌∙◌, slice_get, slice_set, option_to_list, if◌then◌else◌}, lemmas.Bool.{false≢true, eq-eqb}}
 use Rattle.exec_task.specs.{Phases.{is_polled, given_back, over, requeue_where, runnable_of, pend_answer}, declared.{body.{Ended.Ended, Said.Said}, runnable.{AfterPoll.AfterPoll, Runnable.Runnable}, task.Phase.Phase}}
-use Rattle.exec_machine.specs.{declared.event.Event.{Event, TheVariants.Pend}, Choice.Choice.Plain, Progress.Plan, Same.is_number, Tasks.{may_stop, pended_phase, after_over, unpolled}, Tests.is_settled, World.{Task, task_of}}
+use Rattle.exec_machine.specs.{declared.event.Event.{Event, TheVariants.Pend}, Choice.Choice.Plain, Progress.Plan, Same.is_number, Tasks.{may_stop, pended_phase, after_over}, Tests.is_settled, World.{Task, task_of}}
 use Rattle.exec_moves.specs.{declared.{handing.{AfterPush.AfterPush, InPush.InPush}, place.{InPoll.InPoll, Place.Place}}, Move.move_at, Poll.{after_pend, is_noted, pend as pend_moves, requeued_if, told_of_end}, Told.lets_go_all, Seen.{polls_at, polls_in}, State.{Desk, Moved, Things}}
 use Rattle.exec_parts.{specs.{declared.parts.{shared.Shared.Shared, task_slot.TaskSlot.TaskSlot, worker.Worker.Worker}, Phased.is_complete, Polls.{pended_with, pended_slot}, Pooled.queued_again, Spots.Spot, Tests.{after_poll_of, next_pick_of}, View.{Views, own_of, desk_of, common_of, phase_seen, task_seen, body_in, things_with}, Things.TurnsSlot}, proofs.Facts.{by_number, not_same, same_thing, set_there}}
 use Rattle.exec_invariants.{specs.{Places.{hands_on_at, one_if, removes_at, step_of_poll}, Holding.holder_of, Sound.{HasGuest, IsInHand, MayStop, SoundAt, Stops, is_told, may_end}, Whole.{HasOne, is_number as is_counted, runnables_in}, Works.{Suits, Steps}}, proofs.{Pending.{MayEnd, hand_empty, has_body, in_poll, poll_ended, polled_none, stops, to, to_push}, Onces.once_queued, Here.{IsHere, going_on}, Polling.{IsOutside, at_phase, home_mine, in_hand_never, in_hand_once, next_hands, next_outside, number_apart, number_there}, PoolKept.unremoved, Slots.{Balances, IsEvent, slotted, task_there}, SlotTasks.{Keeps, Visits, guest_tasked, none_in}}}

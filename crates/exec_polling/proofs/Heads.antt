@@ -1,5 +1,5 @@
 -- A new task is in the hand: the look whether the own run queue takes it.
-use Rattle.std.proofs.{Common.{◌≡◌, ◌≢◌, ◌⊎◌, ⊎_elim, ℕ, ◌==◌, Bool, true, false, Option, Some, None, refl, sym, ap, subst, ◌∙◌, if◌then◌else◌}, lemmas.Bool.false≢true}
+use Rattle.std.proofs.{Common.{◌≡◌, ⊎_elim, ℕ, ◌==◌, Bool, true, false, Option, Some, None, refl, sym, ap, subst, ◌∙◌, if◌then◌else◌}, lemmas.Bool.false≢true}
 use Rattle.exec_words.specs.Queue.{tail_of}
 use Rattle.exec_task.specs.declared.body.Said.{Said}
 use Rattle.exec_machine.specs.{declared.event.Event.{Event, TheVariants.Turn}, Choice.Choice.Plain}

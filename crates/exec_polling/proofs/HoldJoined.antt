@@ -1,5 +1,5 @@
 -- What tasks hold, where a new one joins: it holds nothing and waits for nothing.
-use Rattle.std.proofs.{Common.{◌≡◌, ℕ, ◌+◌, ◌==◌, ◌&&◌, Bool, true, false, not, List, [], ◌∷◌, ◌++◌, cond, count_by, length, Some, None, IsSome, refl, sym, ap, ◌∙◌, arith, inl, inr, slice_get}, lemmas.{Bool.false≢true, List.Sums.sum_by-append}}
+use Rattle.std.proofs.{Common.{◌≡◌, ℕ, ◌==◌, ◌&&◌, Bool, false, not, List, [], ◌∷◌, ◌++◌, cond, count_by, length, Some, None, IsSome, refl, sym, ap, ◌∙◌, arith, inl, inr, slice_get}, lemmas.{Bool.false≢true, List.Sums.sum_by-append}}
 use Rattle.exec_parts.specs.declared.parts.{held.Held.Held, mail.Subject.Subject}
 use Rattle.exec_invariants.specs.Holding.{AwaitsNap, AwaitsThing, Awaits, Box, Hands, Holder, HoldsRequest, IsHolding, IsOrdinary, IsOwed, Nap, Thing, holdings, is_awaited_by, waiters}
 use Rattle.exec_polling.proofs.SpawnLists.{found_again, found_which}

@@ -55,3 +55,6 @@ pub mod TaskPendEnds
 pub mod SleepStep
 pub mod MakingActs
 pub mod Rooms
+pub mod MadePlaces
+pub mod Coming
+pub mod IsComing

@@ -1,67 +1,17 @@
 -- One more request is queued, or waits at its gate: what holds again of the requests.
-use Rattle.std.{proofs.{Common.{◌≡◌, ◌≢◌, ℕ, ◌+◌, ◌-◌, ◌^◌, ◌<◌, ◌≤◌, ◌&&◌, ◌||◌, not, nat_lt, Bool, true, false, Contains, List, [], ◌∷◌, ◌++◌, cond, count_by, length, suc, zero, Option, Some, None, IsSome, refl, sym, ap, subst, ◌∙◌, arith, inl, inr, slice_get, is_some, if◌then◌else◌}, lemmas.{Bool.false≢true, List.{length-append, Sums.sum_by-cons}, Option.slice_get_within}}, specs.{List.AllByRecursion, VecDeque.deque_capacity}}
-use Rattle.exec_base.specs.{Slab.{Slab, IsPast, generation_of, next_generation, next_id, next_index, slot_at, value_at}, declared.slab.{Id.Id, Slot.{Slot, TheVariants.{Live, Vacant, Retired}}}}
-use Rattle.exec_outcomes.specs.{Accounts.is_durable, declared.outcome.Kind.Kind}
+use Rattle.std.{proofs.{Common.{◌≡◌, ◌≢◌, ℕ, ◌+◌, ◌^◌, ◌<◌, ◌≤◌, ◌&&◌, ◌||◌, not, nat_lt, Bool, true, false, List, [], ◌∷◌, ◌++◌, length, suc, zero, Option, Some, None, IsSome, refl, sym, ap, subst, ◌∙◌, arith, inl, inr, slice_get, is_some, if◌then◌else◌}, lemmas.{Bool.false≢true, List.length-append, Option.slice_get_within}}, specs.List.AllByRecursion}
+use Rattle.exec_base.specs.{Slab.{Slab, IsPast, generation_of, next_generation, next_index, slot_at, value_at}, declared.slab.{Id.Id, Slot.{Slot, TheVariants.{Live, Vacant, Retired}}}}
+use Rattle.exec_outcomes.specs.Accounts.{is_durable}
 use Rattle.exec_time.specs.declared.timers.Sleeper.{Sleeper as Sleeping}
 use Rattle.exec_request.specs.{Requests.{asked_of, cursor_of, deadline_of, gate_of, target_of}, declared.request.Request.Request as Asking}
 use Rattle.exec_ring.specs.{Rings.RingState, Stores.Reserves, declared.store.Store.Store}
 use Rattle.exec_waiters.{specs.{States.{awaits_tick, waiter_at, waiter_of, tick_in, tick_of}, declared.{deferred.{Answer.Answer, Deferred.Deferred}, observer.Observer.TheVariants.{Forwarded, Local}, waiter.{Entry.{Entry, TheVariants.{Pending, Ready}}, Waiter.Waiter}}}, proofs.Changes.entry_of}
-use Rattle.exec_driver.specs.{Driving.{Driving, is_cancelled, is_unenrolled}, Lists.is_among, Opens.OpenState, Placed.ListsRequests, Punctual.IsPunctual, Steps.footprint_of}
-use Rattle.exec_machine.specs.{declared.state.{Operation.Operation, RequestPhase.RequestPhase}, Requests.{asked_of as asked_in, first_phase, new_request}, Tests.{is_applied, is_in_flight, is_resolved, is_staged}}
+use Rattle.exec_driver.specs.{Driving.{Driving, is_cancelled, is_unenrolled}, Lists.is_among, Opens.OpenState, Punctual.IsPunctual, Footprints.footprint_of}
+use Rattle.exec_machine.specs.{Requests.{asked_of as asked_in, first_phase}, Tests.{is_applied, is_in_flight, is_resolved, is_staged}}
 use Rattle.exec_moves.specs.declared.place.InService.{InService}
-use Rattle.exec_parts.{specs.{declared.parts.{mail.Reply.Reply, names.Names.Names, record.Record.Record, sleeping.SleeperRecord.SleeperRecord}, Records.number_in}, proofs.{Facts.{and_parts, by_name, by_number, not_same, same_thing}, Taken.{Takes, got_new, got_old, name_apart, number_new, number_old, past_still, slot_apart, some_still, value_before, value_new, value_old, was_got, enrolled_if, among_before, among_now, all_listed, known_more}}}
-use Rattle.exec_invariants.{specs.{Carried.{IsCarried, IsWhole}, Due.AreTimed, Flown.{AreLanded, HasFlown, IsPlain, IsPolled, operations}, Gates.{IsKnown, has_hint_at, may_ask_hint}, Ordered.IsOrdered, Places.one_if, Rooted.{IsReplyFor, IsRooted, Pays, Watches, goes_elsewhere, is_of_request, results_of}, Sound.{AreOver, IsAlike, IsNamed, IsSubmitted}}, proofs.{Flown.{AllFlyOn, landed_on}, Conveying.carried_ring, Gated.gate_there, Mine.stands, Orders.{Eases, comes_in, joins}}}
-use Rattle.exec_polling.proofs.Admitted.{IsFew, carried_joined, room_made, stretch_made}
-
--- A request came in under this name, queued or at its gate, with the next number.
-pub record OneComes (i : ℕ) (n n' : Names) (d d' : Driving Reply Reply) (rs : List Record) (id : Id) (it : Waiter Reply Reply) (r : Record) : Type 0 where
-  pub takes : Takes d.requests d'.requests id (Pending it)
-  pub next : next_id d.requests ≡ Some id
-  pub new : IsPast d.requests id → ⊥
-  pub number_is : slice_get n'.requests.items id.index ≡ Some (length rs)
-  pub others : (k : ℕ) → k ≢ id.index → slice_get n'.requests.items k ≡ slice_get n.requests.items k
-  pub slots : length d'.requests.slots ≤ length n'.requests.items
-  pub timers : n'.timers.items ≡ n.timers.items
-  pub staged : n'.staged ≡ n.staged
-  pub untold : n'.untold ≡ n.untold
-  pub ended : n'.ended.items ≡ n.ended.items
-  pub unreleased : n'.unreleased ≡ n.unreleased + 1
-  pub room : n'.unreleased ≤ deque_capacity n'.ended
-  pub name : r.id.0 ≡ id
-  pub o : Operation
-  pub shown : r.shown ≡ new_request i o
-  pub unsent : r.sent ≡ false
-  pub observer : it.observer ≡ Local None
-  pub alike : IsAlike d.wheel.start d.wheel.tick it r.shown
-  pub plain : IsPlain r.shown
-  pub lists : ListsRequests d
-  pub ring : d'.ring ≡ record d.ring { places = d'.ring.places }
-  pub armed : d'.armed ≡ d.armed
-  pub wheel : d'.wheel ≡ d.wheel
-  pub cancels : d'.lists.cancels ≡ d.lists.cancels
-  pub due : d'.lists.due ≡ d.lists.due
-  pub enrolments : d'.lists.enrolments ≡ enrolled_if (deadline_of it.request) (record { 0 = id }) d.lists.enrolments
-  pub gated : d'.lists.gated ≡ enrolled_if (gate_of it.request) (record { 0 = id }) d.lists.gated
-
--- it is neither over nor in flight
-record IsIdle (p : RequestPhase) : Type 0 where
-  open_still : is_resolved p ≡ false
-  unstaged : is_staged p ≡ false
-  idle : is_in_flight p ≡ false
-
-first_idle : (k : Kind) → IsIdle (first_phase k)
-first_idle k = by (is_durable k)
-  where
-    by : (b : Bool) → IsIdle (if b then RequestPhase.Gated else RequestPhase.Queued)
-    by true = record { open_still = refl; unstaged = refl; idle = refl }
-    by false = record { open_still = refl; unstaged = refl; idle = refl }
-
-pub none_of : {X : Type 0} (p : X → Bool) (xs : List X) → ((x : X) → Contains xs x → p x ≡ false) → count_by p xs ≡ 0
-none_of p [] none = refl
-none_of p (x ∷ xs) none =
-    let one : Bool → ℕ = λ b. cond b 1 0 in
-    let here : one (p x) ≡ 0 = ap one (none x (0, omega arith, refl)) in
-    sum_by-cons (λ y. cond (p y) 1 0) x xs ∙ omega (arith, here, none_of p xs (λ y has. let few = has.1 in none y (suc has.0, omega (arith, few), has.2)))
+use Rattle.exec_parts.{specs.{declared.parts.{mail.Reply.Reply, names.Names.Names, record.Record.Record, sleeping.SleeperRecord.SleeperRecord}, Records.number_in}, proofs.{Facts.{and_parts, by_name, by_number, not_same, same_thing}, Taken.{got_new, got_old, name_apart, number_new, number_old, past_still, slot_apart, some_still, value_before, value_new, value_old, was_got, enrolled_if, among_before, among_now, all_listed, known_more}}}
+use Rattle.exec_invariants.{specs.{Carried.{IsCarried, IsWhole}, Due.AreTimed, Flown.{AreLanded, HasFlown, IsPlain, IsPolled, operations}, Gates.{IsKnown, has_hint_at, may_ask_hint}, Ordered.IsOrdered, Places.one_if, Rooted.{IsReplyFor, IsRooted, Pays, Watches, goes_elsewhere, is_of_request, results_of}, Sound.AreOver, Names.{IsNamed, IsSubmitted}}, proofs.{Flown.{AllFlyOn, landed_on}, Conveying.carried_ring, Gated.gate_there, Mine.stands, Orders.{Eases, comes_in, joins}}}
+use Rattle.exec_polling.proofs.{Admitted.{IsFew, carried_joined, room_made, stretch_made}, Coming.{OneComes, first_idle, none_of}}
 
 module _ (i : ℕ) (n n' : Names) (d d' : Driving Reply Reply) (zs : Slab (Sleeping Reply)) (rs : List Record) (ss : List SleeperRecord) (id : Id) (it : Waiter Reply Reply) (r : Record) (one : OneComes i n n' d d' rs id it r) where
   -- THE DRIVER AND THE NUMBERS

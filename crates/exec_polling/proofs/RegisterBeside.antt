@@ -5,7 +5,7 @@ use Rattle.exec_ring.specs.Stores.{HasStretch}
 use Rattle.exec_task.specs.{Phases.is_polled, declared.{runnable.Runnable.Runnable, task.Task.Task as TaskCell}}
 use Rattle.exec_moves.specs.declared.place.{InPoll.InPoll, Place.Place}
 use Rattle.exec_parts.{specs.{declared.parts.{record.Record.Record, shared.Shared.Shared, sleeping.SleeperRecord.SleeperRecord, task_slot.TaskSlot.TaskSlot, worker.Worker.Worker}, Phased.is_complete}, proofs.Facts.by_number}
-use Rattle.exec_invariants.{specs.{Drained.{IsBefore, IsPool}, Gates.{HaveGates, JoinsGate, has_hint_at}, Holding.{mail_in, mail_of_letters}, Places.{Drops, drops_at, one_if}, Sound.SoundAt, Spares.Spares, Whole.{HasOne, IsWhole, Profile, duties_of, may_let_go, runnables_in, stock, with_worker}, Works.Beside}, proofs.{Aside.{SparesSeats, length_same, profile_same, queue_back, queue_of_chair, queues_set, seats_own, stock_same}, GateJoins.pool_drops, HoldBeside.{Handles, Holds, genuine_still, was_there}, PoolKept.{KeepsGates, chosen_other, chosen_own, gates_set, pool_seats, pool_slot}, Slots.spares_slot, SlotTasks.Keeps, Spared.{sleeper_spared, spared_same}, TaskDeals.{GoesOn, from_act, profile_here}}}
+use Rattle.exec_invariants.{specs.{Drained.{IsBefore, IsPool}, Gates.{HaveGates, JoinsGate, has_hint_at}, Holding.{mail_in, mail_of_letters}, Places.{Drops, drops_at, one_if}, Sound.SoundAt, Spares.Spares, Whole.{HasOne, IsWhole, Profile, duties_of, may_let_go, runnables_in, stock, with_worker}, Works.Beside}, proofs.{Aside.{SparesSeats, length_same, profile_same, queue_back, queue_of_chair, queues_set, seats_own, stock_same}, GateJoins.pool_drops, HoldBeside.{Handles, Holds, genuine_still, was_there}, PoolKept.{KeepsGates, chosen_other, chosen_own, gates_set, pool_seats, pool_slot}, Slots.spares_slot, SlotTasks.Keeps, SparedRecord.{sleeper_spared, spared_same}, TaskDeals.{GoesOn, from_act, profile_here}}}
 use Rattle.exec_polling.proofs.RegisterSound.{Makes, made_at}
 
 module _ {B : Type 0} (t : ℕ) (w v : Worker) (s s' : Shared B) (slot slot' : TaskSlot B) (sound : SoundAt (Place.Poll t InPoll.Act) w s) (m : Makes w v s (record s' { tasks = s.tasks })) (handles : Handles t s s' slot slot') where

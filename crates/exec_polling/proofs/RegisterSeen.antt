@@ -1,5 +1,5 @@
 -- What is seen of all once a worker has made a request or a sleeper: its seat's places show nothing.
-use Rattle.std.proofs.{Common.{◌≡◌, ℕ, suc, zero, ◌+◌, Bool, false, List, [], ◌∷◌, ◌++◌, map, Option, Some, refl, sym, ap, ◌∙◌, slice_get, slice_set, if◌then◌else◌}, Math.Seq.map-set_same, lemmas.Option.get_or_from_slice_get}
+use Rattle.std.proofs.{Common.{◌≡◌, ℕ, suc, zero, Bool, false, List, [], ◌∷◌, ◌++◌, map, Option, Some, refl, sym, ap, ◌∙◌, slice_get, slice_set, if◌then◌else◌}, Math.Seq.map-set_same, lemmas.Option.get_or_from_slice_get}
 use Rattle.exec_task.specs.declared.body.Said.{Said}
 use Rattle.exec_machine.specs.{Progress.Plan, World.{Common, Open, Task}, declared.state.{Request.Request, Sleeper.Sleeper}}
 use Rattle.exec_parts.{specs.{declared.parts.{record.Record.Record, seat.Seat.Seat as Chair, shared.Shared.Shared, sleeping.SleeperRecord.SleeperRecord}, Spots.Spot, View.{Views, Visible, common_of, gate_seen, inbox_at, numbers_of_passing, open_seen, polls_seen, queue_at, seat_seen, seats_seen, task_seen, things_with, word_at}}, proofs.Facts.same_thing}

@@ -5,7 +5,7 @@ use Rattle.exec_time.specs.declared.timers.Sleeper.{Sleeper as Sleeping}
 use Rattle.exec_waiters.specs.{States.counts_pending, declared.waiter.Entry.Entry}
 use Rattle.exec_moves.specs.declared.place.Place.{Place}
 use Rattle.exec_parts.specs.{declared.parts.{mail.Reply.Reply, shared.Shared.Shared, worker.Worker.Worker}, Admitting.MayMake}
-use Rattle.exec_invariants.specs.Sound.{SoundAt, counts_held, tellers}
+use Rattle.exec_invariants.specs.{Sound.SoundAt, Names.{counts_held, tellers}}
 
 -- so many requests and sleepers may tell what there is room for
 pub few_tellers : (s : Slab (Entry Reply Reply)) (zs : Slab (Sleeping Reply)) (n m : ℕ) → length s.slots ≤ n → live_count zs ≤ m → tellers s zs ≤ 2 * n + m + 1

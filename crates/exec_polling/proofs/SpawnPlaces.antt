@@ -1,7 +1,7 @@
 -- Where a task's spawn of another one leads, and what holds then.
 use Rattle.std.proofs.lemmas.Bool.{false≢true}
 use Rattle.std.proofs.Common.{[], ◌≡◌, ℕ, ◌+◌, ◌==◌, arith, Bool, true, false, List, ◌∷◌, ◌++◌, length, Option, Some, None, refl, sym, ap, subst, ◌∙◌, slice_get, option_to_list, if◌then◌else◌}
-use Rattle.exec_task.specs.{TaskSet.Set, declared.{body.Act.Act, runnable.Runnable.Runnable}}
+use Rattle.exec_task.specs.{TaskSet.Set, declared.{runnable.Runnable.Runnable}}
 use Rattle.exec_machine.specs.{declared.config.Configuration.Configuration, World.Common}
 use Rattle.exec_moves.specs.{Callback.is_of_pool, Parts.has_others, Pop.shard_count, Seen.polls_at, Send.after_spawn, declared.{handing.{AfterPush.AfterPush, InGlobal.InGlobal, InPush.InPush}, place.{InPoll.InPoll, Place.Place}}}
 use Rattle.exec_parts.{specs.{declared.parts.{record.Record.Record, seat.Seat.Seat as Chair, shared.Shared.Shared, sleeping.SleeperRecord.SleeperRecord, task_slot.TaskSlot.TaskSlot, worker.Worker.Worker}, Phased.{IsPhased, closes_at, closing_in, stage_of}, View.own_of}, proofs.Facts.same_thing}

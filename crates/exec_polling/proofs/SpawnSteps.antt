@@ -5,7 +5,7 @@ use Rattle.exec_task.specs.{Phases.is_polled, Sight.Sight, TaskSet.{Set, held, i
 use Rattle.exec_machine.specs.{Choice.Choice.Plain, declared.{config.{Configuration.Configuration, ScriptWord.ScriptWord}, event.Event.Event, state.{Code.TheVariants.Script, TaskPhase.TaskPhase, Waiting.Waiting}}, Mail.meets_closed, Progress.Plan, Tasks.{after_spawn as after_spawn_by, after_word, new_task}, Words.{asks_spawn, moved_on, next_word}, World.{Common, Own, Task, task_of}}
 use Rattle.exec_moves.specs.{Cells.shard_of, Move.move_act, Parts.has_others, Pop.shard_count, Send.{after_spawn, next_task}, State.{Desk, Things}, Thing.set_shard, declared.place.{InPoll.InPoll, Place.Place}}
 use Rattle.exec_parts.{specs.{Records.numbers_held, Roles.is_pool, declared.parts.{shared.Shared.Shared, task_slot.TaskSlot.TaskSlot, worker.Worker.Worker}, Pooled.{IsNewTask, MakesTask, Spawns, SpawnsNone, event_of_made, told_of_made, with_made}, Scripts.{Begins, GoesOn, IsAnswer, IsAnswered, IsBorn, IsNamed, held_after}, Spots.{Spot, spot_of, standing_at}, View.{Views, body_in, phase_seen, common_of, desk_of, spot_by, task_seen, things_with, visible, with_view}, Things.TurnsSlot}, proofs.Facts.{by_not, by_not_not, same_thing, set_there}}
-use Rattle.exec_invariants.{specs.{Acting.{ActsAs, HasActed, Performs, PerformsAll, StepsOf}, Drained.in_set, Hearing.{CanHear, held_once_come}, Sound.SoundAt, Whole.{HasWhole, duties_of, with_worker}, Works.{Beside, Same, Suits, Works}}, proofs.{Acting.{Leaves, act_leaves, acted, actor, acts_so, by_word, me_at, moved_seen, tells_on}, Pending.in_poll, Performing.{performs_on, same_slot, still_performs, unmoved_seen}, PopLeads.some_shards, Slots.{IsEvent, task_there}, Stirs.only, Turning.view_found, DedicatedSeen.pool_seen}}
+use Rattle.exec_invariants.{specs.{Acting.{ActsAs, HasActed, Performs, PerformsAll, StepsOf}, Drained.in_set, Hearing.{CanHear, held_once_come}, Sound.SoundAt, Whole.{HasWhole, duties_of, with_worker}, Works.{Beside, Same, Suits, Works}}, proofs.{Acting.{Leaves, act_leaves, acted, actor, acts_so, by_word, me_at, moved_seen, tells_on}, Pending.in_poll, Performing.{performs_on, same_slot, still_performs, unmoved_seen}, PopLeads.some_shards, Slots.{IsEvent, task_there}, Turning.view_found, DedicatedSeen.pool_seen}}
 use Rattle.exec_polling.proofs.{SpawnJoins.{Joins, none_yet}, SpawnLists.{found_again, found_which, set_within}, SpawnSets.{joined_seen, shard_shown}, WakeThere.spares_on, SpawnPlaces.{next_by, own_by, joined_sound, joined_beside, spawn_leads}}
 
 -- WHAT IT IS TO THE MACHINE

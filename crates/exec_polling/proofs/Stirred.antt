@@ -5,7 +5,7 @@ use Rattle.exec_task.specs.{Phases.{is_polled, is_idle as is_cell_idle, runnable
 use Rattle.exec_machine.specs.{declared.{config.ScriptWord.ScriptWord, event.Event.{Event, TheVariants.Wake}, state.Waiting.Waiting}, Progress.Plan, Tasks.{after_waking_word, waits_for}, Words.{asks_yield, idle_words, is_idle_word, moved_on, next_word, words_left}, World.{Common, Task}}
 use Rattle.exec_moves.specs.declared.{handing.AfterPush.AfterPush, place.{InPoll.InPoll, Place.Place}}
 use Rattle.exec_parts.{specs.{Records.numbers_held, Tests.first_push_of, declared.parts.{shared.Shared.Shared, task_slot.TaskSlot.TaskSlot, worker.Worker.Worker}, Pooled.{WakesBy, WakesHere, WakesOrdinary, WakesTask, WakesThere, woken_slot}, Scripts.{GoesOn, IsAnswer, IsAnswered, held_after}, Spots.{Spot, spot_of}, View.{Views, common_of, task_seen}}, proofs.Facts.{by_number, set_there}}
-use Rattle.exec_invariants.{specs.{Acting.{HasActed, Performs, StepsOf}, Hearing.held_once_come, Sound.SoundAt, Spares.Spares, Works.{Beside, Suits}}, proofs.{Flagged.{Flags, flag_then, flags, wakes_root}, Acting.{Leaves, act_leaves, actor, moved_seen, tells_on}, Aside.spared, DedicatedSeen.pool_seen, Spared.{records_endure, sleeper_spared, sleepers_endure, spared_same}, Cells.{body_woken, complete_woken}, Performing.{performs_on, still_performs}, Pending.in_poll, Still.performs_still, Stirs.{IsWake, LeadsOn, Stirs, ToldFirst, leads_idle, leads_on, stirs, wakes_ordinary, wakes_works}}}
+use Rattle.exec_invariants.{specs.{Acting.{HasActed, Performs, StepsOf}, Hearing.held_once_come, Sound.SoundAt, Spares.Spares, Works.{Beside, Suits}}, proofs.{Flagged.{Flags, flag_then, flags, wakes_root}, Acting.{Leaves, act_leaves, actor, moved_seen, tells_on}, Aside.spared, DedicatedSeen.pool_seen, Spared.{records_endure, sleepers_endure}, SparedRecord.{sleeper_spared, spared_same}, Cells.{body_woken, complete_woken}, Performing.{performs_on, still_performs}, Pending.in_poll, Still.performs_still, Stirs.{IsWake, LeadsOn, Stirs, ToldFirst, leads_idle, leads_on, stirs, wakes_ordinary, wakes_works}}}
 
 -- who is woken by a word is a task that there is
 by_first : (s : Common) (it : Task) (u : ℕ) (x : ScriptWord) (ws : List ScriptWord) → (slice_index_or ws (idle_words s it ws) ScriptWord.End ≡ ScriptWord.Wake u → u < length s.tasks)

@@ -1,15 +1,15 @@
 -- A POLLED TASK WAITS for the newest request that it holds, which its worker has and which isn't over.
-use Rattle.std.proofs.{Common.{◌≡◌, ◌≢◌, inl, inr, ℕ, ◌+◌, ◌-◌, ◌≤◌, ◌==◌, Bool, true, false, not, List, [], length, map, Option, Some, None, option_map, refl, sym, ap, subst, ◌∙◌, arith, slice_get, slice_set, if◌then◌else◌}, lemmas.{Bool.{false≢true, eq-eqb}, List.{map-set, set-set}, Option.slice_get-map}}
+use Rattle.std.proofs.{Common.{◌≡◌, inl, inr, ℕ, ◌+◌, ◌≤◌, ◌==◌, Bool, true, false, not, List, [], length, map, Option, Some, None, option_map, refl, sym, ap, subst, ◌∙◌, arith, slice_get, slice_set}, lemmas.{Bool.{false≢true, eq-eqb}, List.{map-set, set-set}, Option.slice_get-map}}
 use Rattle.exec_base.specs.{Slab.{Slab, live_count, value_at, written}, declared.{slab.Id.Id, task_no.TaskNo.TaskNo}}
 use Rattle.exec_words.specs.declared.inbox.Message.{Message}
 use Rattle.exec_ring.specs.Rings.{completions}
 use Rattle.exec_waiters.{specs.{Events.{changed, changed_from, with_waker}, States.{flying_count, is_held_by, waiter_at}, declared.{observer.Observer.TheVariants.{Forwarded, Local}, waiter.{Entry.{Entry, TheVariants.Pending}, Waiter.Waiter}}}, proofs.Changes.{entry_of, one_if}}
 use Rattle.exec_driver.specs.{Driving.Driving, Punctual.IsPunctual}
 use Rattle.exec_task.specs.{Phases.is_polled, Sight.Sight, declared.body.{Act.Act, Said.Said}}
-use Rattle.exec_machine.specs.{declared.{config.ScriptWord.ScriptWord, event.Event.{Event, TheVariants.Wait}, state.{Forwarding.{Forwarding, TheVariants.Unsent}, MailMessage.TheVariants.ForwardRequest, Request.Request, RequestPhase.RequestPhase, Waiting.Waiting}}, Choice.Choice.Plain, Progress.Plan, Same.is_number, Tasks.{waits_for, without_newest}, Tests.{is_applied, is_resolved, is_unsent}, Words.{acts, asks_await, moved_on, newest_held, next_word}, World.{Common, Own, Task, request_of, task_of}}
+use Rattle.exec_machine.specs.{declared.{config.ScriptWord.ScriptWord, event.Event.{Event, TheVariants.Wait}, state.{Forwarding.{Forwarding, TheVariants.Unsent}, MailMessage.TheVariants.ForwardRequest, RequestPhase.RequestPhase, Waiting.Waiting}}, Choice.Choice.Plain, Progress.Plan, Same.is_number, Tasks.{waits_for, without_newest}, Tests.{is_applied, is_resolved, is_unsent}, Words.{asks_await, moved_on, newest_held, next_word}, World.{Common, Own, Task, request_of, task_of}}
 use Rattle.exec_moves.specs.{declared.{handing.AfterSend.AfterSend, place.{InPoll.InPoll, Place.Place}}, Move.move_look_at, Poll.{Sight.{Asks, HearsRequest}, await, sight_by, stops}, State.{Desk, Moved, Things, does}, Thing.aside, Told.awaits}
 use Rattle.exec_parts.{specs.{declared.parts.{mail.{Reply.Reply, Subject.Subject}, record.Record.Record, shared.Shared.Shared, task_slot.TaskSlot.TaskSlot, worker.Worker.Worker}, Awaits.{BeganWait, awaited_by, newest_of}, Records.{number_in, numbers_held}, Scripts.{IsAnswer, IsAnswered, held_after}, Serving.{changed_at, changed_in}, Spots.Spot, View.{Views, awaited_from, common_of, desk_of, driver_of, numbers_of, numbers_of_passing, own_of, slots_seen, task_seen, things_with, trailing, visible, with_view}}, proofs.Facts.{same_thing, set_there}}
-use Rattle.exec_invariants.{specs.{Acting.{HasActed, StepsOf}, Due.IsDue, Flown.HasFlown, Hearing.CanHear, Holding.{Holder, IsForwarded, IsHolding, awaited_in, box_of, holder_of, nap_of, thing_of, under_way}, HoldPlaces.{has_wakes_at, is_bare_at}, Sound.{IsAlike, SoundAt, served_in, tellers}, Whole.{HasWhole, Profile, hands_of, with_worker}, Works.{Beside, Suits, Works}}, proofs.{Acting.{IsActor, actor, acts_so, moved_seen}, Changing.{changes_one, flying_after, live_still, pending_still}, HeldCounts.held_written, Here.{IsHere, going_on, polled_here}, HoldBeside.Holds, HoldWaits.thing_awaited, Keys.{name_in, names_changed, same_gates, same_opens}, LetRooted.{Rewaits, keeps_watched}, Lined.{opens_same, passing_same}, Orders.alike_self, Pending.in_poll, Performing.{performs_on, still_performs}, Resolving.places_fewer, Seen.request_at, Serving.{KeepsBy, spares_one}, Slots.task_there, Slotted.slots_written, Spared.there_within, TaskDeals.{Dealt, ends as to_end, from_act}, TaskGets.ring_seen, TaskHears.thing_there, TaskHomes.{Homes, beside_goes, sound_goes}, TaskLooks.unsent_is, TaskNewest.{StillPends, newest_unsent, still_pends}, TaskTakes.{holder_there, holders_one}, TaskWants.{HoldsNewest, newest_is}, Turning.{set_found, view_found}, Watching.{Watched, still_pending, watched}}}
+use Rattle.exec_invariants.{specs.{Acting.{HasActed, StepsOf}, Due.IsDue, Flown.HasFlown, Hearing.CanHear, Holding.{Holder, IsForwarded, IsHolding, awaited_in, box_of, holder_of, nap_of, thing_of, under_way}, HoldPlaces.{has_wakes_at, is_bare_at}, Names.{IsAlike, tellers}, Sound.{SoundAt, served_in}, Whole.{HasWhole, Profile, hands_of, with_worker}, Works.{Beside, Suits, Works}}, proofs.{Acting.{IsActor, actor, acts_so, moved_seen}, Changing.{changes_one, flying_after, live_still, pending_still}, HeldCounts.held_written, Here.{IsHere, going_on, polled_here}, HoldBeside.Holds, HoldWaits.thing_awaited, Keys.{name_in, names_changed, same_gates, same_opens}, LetRooted.{Rewaits, keeps_watched}, Lined.{opens_same, passing_same}, Orders.alike_self, Pending.in_poll, Performing.{performs_on, still_performs}, Resolving.places_fewer, Seen.request_at, ServingHolds.KeepsBy, Serving.spares_one, Slots.task_there, Slotted.slots_written, SparedRecord.there_within, TaskDeals.{Dealt, ends as to_end, from_act}, TaskGets.ring_seen, TaskHears.thing_there, TaskHomes.{Homes, beside_goes, sound_goes}, TaskLooks.unsent_is, TaskNewest.{StillPends, newest_unsent, still_pends}, TaskTakes.{holder_there, holders_one}, TaskWants.{HoldsNewest, newest_is}, Turning.{set_found, view_found}, Watching.{Watched, still_pending, watched}}}
 use Rattle.exec_polling.proofs.{SlotAwaits.awaited_more, TaskAwaits.await_looks}
 
 awaits_by : (t k : ℕ) (s : Common) (d : Desk) (it : Task) (p : RequestPhase) → (request_of s k).phase ≡ p → is_resolved p ≡ false → await t s d it (Some k) ≡ does (Wait (Some k)) (stops t (awaits k d)) it

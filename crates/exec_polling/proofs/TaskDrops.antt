@@ -1,12 +1,12 @@
 -- A POLLED TASK LETS GO of the newest request that it holds, which its worker has.
-use Rattle.std.proofs.{Common.{◌≡◌, ◌≢◌, inl, ℕ, ◌-◌, ◌==◌, ◌&&◌, Bool, true, false, not, List, [], length, map, take, Option, Some, None, IsSome, option_map, refl, sym, ap, subst, ◌∙◌, slice_get, slice_set, if◌then◌else◌}, lemmas.{Bool.{false≢true, eq-eqb}, List.{map-set, set-set}, Option.slice_get-map}}
+use Rattle.std.proofs.{Common.{◌≡◌, inl, ℕ, ◌-◌, ◌==◌, ◌&&◌, Bool, true, false, not, List, [], length, map, take, Option, Some, None, IsSome, option_map, refl, sym, ap, subst, ◌∙◌, slice_get, slice_set, if◌then◌else◌}, lemmas.{Bool.{false≢true, eq-eqb}, List.{map-set, set-set}, Option.slice_get-map}}
 use Rattle.exec_base.specs.{Slab.live_count, declared.error.Error.TheVariants.{NoMemory, Timeout}}
 use Rattle.exec_outcomes.specs.declared.outcome.Outcome.{Outcome, TheVariants.Failure}
 use Rattle.exec_task.specs.{Phases.is_polled, Sight.Sight, declared.body.{Act.Act, Said.Said}}
-use Rattle.exec_machine.specs.{declared.{config.ScriptWord.ScriptWord, event.Event.{Event, TheVariants.Drop}, state.{MailMessage.TheVariants.CancelRequest, Request.Request, Waiting.Waiting}}, Choice.Choice.Plain, Progress.Plan, Requests.{dropped, ends_by_drop, is_cancelled_by_drop, operation_asked, own_after_drop, resolved}, Same.is_number, Tasks.after_letting_go, Tests.{is_applied, is_resolved, is_unsent}, Words.{acts, asks_drop, moved_on, newest_held, next_word}, World.{Common, Task, request_of, task_of}}
+use Rattle.exec_machine.specs.{declared.{config.ScriptWord.ScriptWord, event.Event.{Event, TheVariants.Drop}, state.{MailMessage.TheVariants.CancelRequest, Request.Request, Waiting.Waiting}}, Choice.Choice.Plain, Progress.Plan, Requests.{dropped, ends_by_drop, is_cancelled_by_drop, operation_asked, own_after_drop, resolved}, Same.is_number, Tasks.after_letting_go, Tests.{is_applied, is_resolved, is_unsent}, Words.{asks_drop, moved_on, newest_held, next_word}, World.{Common, Task, request_of, task_of}}
 use Rattle.exec_moves.specs.{declared.{handing.AfterSend.AfterSend, place.{InPoll.InPoll, Place.Place}}, Move.move_look_at, Poll.{Sight.{Asks, Here}, act, act_asked, acts_on, cancels_elsewhere, drop_newest}, Slots.is_in_slots, State.{Desk, Moved, Things, does}, Thing.aside, Told.{awaits_no_more, one_output, one_result, told_of_drop, without_request}}
 use Rattle.exec_parts.{specs.{declared.parts.{record.Record.Record, shared.Shared.Shared, task_slot.TaskSlot.TaskSlot, worker.Worker.Worker}, Awaits.{DropsHere, Forgets, LetsGo, drops, newest_of}, Records.{numbers_held, outcome_in}, Scripts.{IsAnswer, IsAnswered, held_after}, Serving.changed_in, Spots.{Spot, spot_of}, View.{Views, body_in, common_of, desk_of, driver_of, numbers_of_passing, own_of, task_seen, things_with, visible, with_view}}, proofs.Facts.{same_thing, set_there}}
-use Rattle.exec_invariants.{specs.{Acting.{HasActed, Performs, StepsOf}, Due.IsDue, Flown.HasFlown, Hearing.{CanHear, held_once_come}, Holding.{Holder, IsHolding, awaited_in, box_of, holder_of, nap_of, thing_of}, HoldPlaces.{has_wakes_at, is_bare_at}, Sound.{SoundAt, acts_next, served_in}, Whole.{HasWhole, Profile, hands_of, with_worker}, Works.{Beside, Suits, Works}}, proofs.{Acting.{IsActor, actor, acts_so, by_word, me_at, moved_seen, word_move}, Here.{IsHere, going_on, polled_here}, HoldBeside.Holds, HoldSteps.{IsNewest, thing_taken}, Keys.{name_in, names_changed, same_gates, same_opens}, LetShown.{SeenLet, let_seen}, Lined.{opens_same, passing_same}, Pending.in_poll, Performing.{performs_on, still_performs}, Seen.request_at, Serving.{Keeps, spares_one}, Slots.task_there, Spared.there_within, TaskDeals.{Dealt, acts as to_act, from_act}, TaskHears.{newest_split, numbers_without, thing_there}, TaskHomes.{Homes, beside_goes, sound_goes}, TaskNewest.newest_unsent, TaskOverFold.{dropped_at_gate, dropped_name, dropped_thing}, TaskTakes.{holder_there, holders_one, no_wakes}, TaskWants.{HoldsNewest, newest_is}, Turning.{set_found, view_found}}}
+use Rattle.exec_invariants.{specs.{Acting.{HasActed, Performs, StepsOf}, Due.IsDue, Flown.HasFlown, Hearing.{CanHear, held_once_come}, Holding.{Holder, IsHolding, awaited_in, box_of, holder_of, nap_of, thing_of}, HoldPlaces.{has_wakes_at, is_bare_at}, Sound.{SoundAt, acts_next, served_in}, Whole.{HasWhole, Profile, hands_of, with_worker}, Works.{Beside, Suits, Works}}, proofs.{Acting.{IsActor, actor, acts_so, by_word, me_at, moved_seen, word_move}, Here.{IsHere, going_on, polled_here}, HoldBeside.Holds, HoldSteps.{IsNewest, thing_taken}, Keys.{name_in, names_changed, same_gates, same_opens}, LetShown.{SeenLet, let_seen}, Lined.{opens_same, passing_same}, Pending.in_poll, Performing.{performs_on, still_performs}, Seen.request_at, ServingHolds.Keeps, Serving.spares_one, Slots.task_there, SparedRecord.there_within, TaskDeals.{Dealt, acts as to_act, from_act}, TaskHears.{newest_split, numbers_without, thing_there}, TaskHomes.{Homes, beside_goes, sound_goes}, TaskNewest.newest_unsent, TaskOverFold.{dropped_at_gate, dropped_name, dropped_thing}, TaskTakes.{holder_there, holders_one, no_wakes}, TaskWants.{HoldsNewest, newest_is}, Turning.{set_found, view_found}}}
 
 pass_heard : Said.Pass ≡ Said.Refused NoMemory → ⊥
 pass_heard h = cc

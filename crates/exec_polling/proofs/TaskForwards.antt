@@ -1,12 +1,12 @@
 -- A POLLED TASK ASKS FOR AN OUTPUT that another worker has: it waits for that elsewhere, and the worker is sent the message.
-use Rattle.std.proofs.{Common.{◌≡◌, ◌≢◌, ◌⊎◌, inl, inr, ℕ, ◌-◌, ◌==◌, ◌&&◌, ◌||◌, Bool, true, false, not, map, Option, Some, None, IsSome, refl, sym, ap, subst, ◌∙◌, arith, slice_get, slice_set, option_map, if◌then◌else◌}, lemmas.{Bool.{false≢true, eq-eqb}, List.map-set, Option.{get_or_from_slice_get, slice_get-map, slice_get_within}}}
+use Rattle.std.proofs.{Common.{◌≡◌, ◌≢◌, ◌⊎◌, inl, inr, ℕ, ◌==◌, ◌&&◌, ◌||◌, Bool, true, false, not, map, Option, Some, None, IsSome, refl, sym, ap, subst, ◌∙◌, arith, slice_get, slice_set, option_map, if◌then◌else◌}, lemmas.{Bool.{false≢true, eq-eqb}, List.map-set, Option.{get_or_from_slice_get, slice_get-map, slice_get_within}}}
 use Rattle.exec_base.specs.declared.one_shot.OneShotState.TheVariants.{Open}
 use Rattle.exec_words.specs.declared.inbox.Message.{Message}
 use Rattle.exec_task.specs.declared.body.Said.{Said}
-use Rattle.exec_machine.specs.{After.own_after, declared.{event.Event.{Event, TheVariants.{Closed, Send}}, state.{Forwarding.{Forwarding, TheVariants.{Applied, Sent as Forwarded, Unsent}}, MailMessage.TheVariants.ForwardRequest, Request.Request, Waiting.Waiting}}, Choice.Choice.Plain, Mail.{after_post, after_sending, awaiting, posted as seat_posted}, Progress.Plan, Same.is_number, Tasks.{polls_waiting, waits_for}, Tests.{is_unsent, waits_for_nothing, waits_for_request}, Words.{acts, asks_await, newest_held, polled_task}, World.{Task, no_seat, request_of, seat_of, task_of}}
+use Rattle.exec_machine.specs.{After.own_after, declared.{event.Event.{Event, TheVariants.{Closed, Send}}, state.{Forwarding.{Forwarding, TheVariants.{Applied, Sent as Forwarded, Unsent}}, MailMessage.TheVariants.ForwardRequest, Waiting.Waiting}}, Choice.Choice.Plain, Mail.{after_post, after_sending, awaiting, posted as seat_posted}, Progress.Plan, Same.is_number, Tasks.{polls_waiting, waits_for}, Tests.{is_unsent, waits_for_nothing, waits_for_request}, Words.{acts, asks_await, newest_held, polled_task}, World.{Task, no_seat, request_of, seat_of, task_of}}
 use Rattle.exec_moves.specs.{declared.{handing.AfterSend.AfterSend, place.{InPoll.InPoll, Place.Place}}, Move.{move_at, move_look_at}, Poll.{Sight.{Asks, HearsRequest}, resume, sight_by, sight_of}, Seen.polls_in, Send.send_message, State.{Moved, Things}, Thing.{aside, mailbox_of, with_mailbox}}
 use Rattle.exec_parts.{specs.{declared.parts.{mail.Subject.Subject, record.Record.Record, seat.Seat.Seat as Chair, shared.Shared.Shared, task_slot.TaskSlot.TaskSlot, worker.Worker.Worker}, Awaits.newest_of, Calls.forwarded_for, MailPosts.{AsksOutput, Sends, asks_by, chair_sent}, Serving.changed_in, Spots.Spot, View.{Views, common_of, desk_of, numbers_of_passing, own_of, seat_seen, seats_seen, task_seen, things_with}}, proofs.Facts.{not_same, same_thing, set_there}}
-use Rattle.exec_invariants.{specs.{Holding.{IsAbout, IsHolding, awaited_in, box_of, holder_of, nap_of, thing_of, under_way}, Sound.{MayStop, SoundAt, acts_next, is_told, may_end}, Spares.SparesRecord, Whole.{HasWhole, Profile, hands_of, with_worker}, Works.{Beside, Steps, Suits, Works}}, proofs.{AskBoxes.{box_there, one_more_way, one_sent, same_else}, Hearing.hears_so, Here.{IsHere, going_on}, HoldBeside.Holds, HoldPosts.{posted, with_mail}, HoldThings.{Touches, touches_record}, HoldWaits.thing_awaited, Keys.{name_in, names_changed, same_gates, same_opens}, LetterPosts.{chair_open, forwards_request, open_spares, sent_open}, Lined.passing_same, Seats.seat_there, Seen.request_at, Slots.task_there, Spared.there_within, TaskAsks.{Posts, asked, asked_leaves, asked_works, led_to, leads_to, to_pend}, TaskDeals.{ComesFrom, Dealt, ends as to_end, from_look}, TaskHears.thing_there, TaskTakes.{holder_there, holders_one}, TaskWants.{forward_place, made_with, wants_from}, Turning.set_found}}
+use Rattle.exec_invariants.{specs.{Holding.{IsAbout, IsHolding, awaited_in, box_of, holder_of, nap_of, thing_of, under_way}, Sound.{MayStop, SoundAt, acts_next, is_told, may_end}, Spares.SparesRecord, Whole.{HasWhole, Profile, hands_of, with_worker}, Works.{Beside, Steps, Suits, Works}}, proofs.{AskBoxes.{box_there, one_more_way, one_sent, same_else}, Hearing.hears_so, Here.{IsHere, going_on}, HoldBeside.Holds, HoldPosts.{posted, with_mail}, HoldThings.{Touches, touches_record}, HoldWaits.thing_awaited, Keys.{name_in, names_changed, same_gates, same_opens}, LetterPosts.{chair_open, forwards_request, open_spares, sent_open}, Lined.passing_same, Seats.seat_there, Seen.request_at, Slots.task_there, SparedRecord.there_within, TaskAsks.{Posts, asked, asked_leaves, asked_works, led_to, leads_to, to_pend}, TaskDeals.{ComesFrom, Dealt, ends as to_end, from_look}, TaskHears.thing_there, TaskTakes.{holder_there, holders_one}, TaskWants.{forward_place, made_with, wants_from}, Turning.set_found}}
 
 unsent_so : (f : Forwarding) → is_unsent f ≡ true → f ≡ Unsent
 unsent_so Unsent h = refl

@@ -3,7 +3,7 @@ use Rattle.std.proofs.Common.{◌≡◌, ℕ, true, false, List, [], Option, Som
 use Rattle.exec_task.specs.{Sight.Sight, declared.body.{Act.Act, Said.Said}}
 use Rattle.exec_machine.specs.{declared.event.Event.Event, Progress.Plan, Tests.is_resolved}
 use Rattle.exec_parts.{specs.{declared.parts.{shared.Shared.Shared, task_slot.TaskSlot.TaskSlot, worker.Worker.Worker}, Awaits.{AwaitsNewest, DropsRequest, OfNewest, newest_of}, Polls.OfSlot, Scripts.IsAnswered, Spots.Spot}, proofs.Facts.{by_number, same_thing, set_there}}
-use Rattle.exec_invariants.{specs.{Acting.{HasActed, StepsOf}, Whole.HasWhole}, proofs.{Spared.there_within, TaskNewest.newest_known}}
+use Rattle.exec_invariants.{specs.{Acting.{HasActed, StepsOf}, Whole.HasWhole}, proofs.{SparedRecord.there_within, TaskNewest.newest_known}}
 use Rattle.exec_polling.proofs.{TaskAwaits.{awaits_elsewhere, awaits_got}, TaskBegins.awaits_on, TaskDrops.drops_own, TaskTells.drops_elsewhere, Waited.waited_by}
 
 module _ {B L : Type 0} (left : B → L) (runs : L → Plan → Option ℕ → Type 0) (holds : L → Option Said → List ℕ) (spot : L → Option Said → Spot) (gives : L → Option Sight → Said → Act B → L → Option Sight → Type 0) (answered : IsAnswered spot) where

@@ -1,5 +1,5 @@
 -- A POLL ENDS AT A LOOK: what its task waits for is its worker's, and hasn't come.
-use Rattle.std.proofs.{Common.{◌≡◌, ◌≢◌, inr, ℕ, ◌==◌, ◌||◌, Bool, true, false, Option, Some, refl, sym, ap, subst, ◌∙◌, slice_get}, lemmas.Bool.{false≢true, eq-eqb}}
+use Rattle.std.proofs.{Common.{◌≡◌, inr, ℕ, ◌==◌, ◌||◌, Bool, true, false, Option, Some, refl, sym, ap, subst, ◌∙◌, slice_get}, lemmas.Bool.{false≢true, eq-eqb}}
 use Rattle.exec_task.specs.declared.body.Said.{Said}
 use Rattle.exec_machine.specs.{declared.{event.Event.TheVariants.Pend, state.{MailMessage.TheVariants.{ForwardRequest, ForwardTimer}, RequestPhase.RequestPhase, Waiting.Waiting}}, Choice.Choice.Plain, Tests.{is_resolved, is_unsent}, World.{Common, Task, request_of, sleeper_of, task_of}}
 use Rattle.exec_moves.specs.{declared.{handing.AfterSend.AfterSend, place.{InPoll.InPoll, Place.Place}}, Move.move_look_at, Poll.{Sight.{Asks, HearsRequest, HearsTimer}, pend, resume, sight_by, sight_of}, State.{Desk, Moved, Things}, Thing.aside}

@@ -1,11 +1,11 @@
 -- A POLLED TASK LETS GO of the newest request that it holds, which another worker has: that is told.
-use Rattle.std.proofs.{Common.{◌≡◌, ◌≢◌, ℕ, ◌-◌, ◌==◌, ◌&&◌, Bool, true, false, not, List, map, Option, Some, refl, sym, ap, subst, ◌∙◌, arith, slice_get, slice_set, if◌then◌else◌}, lemmas.{Bool.eq-eqb, List.map-set, Option.{get_or_from_slice_get, slice_get_within}}}
+use Rattle.std.proofs.{Common.{◌≡◌, ◌≢◌, ℕ, ◌==◌, ◌&&◌, Bool, true, false, not, List, map, Option, Some, refl, sym, ap, subst, ◌∙◌, arith, slice_get, slice_set, if◌then◌else◌}, lemmas.{Bool.eq-eqb, List.map-set, Option.{get_or_from_slice_get, slice_get_within}}}
 use Rattle.exec_words.specs.declared.inbox.Message.{Message}
 use Rattle.exec_task.specs.{Phases.is_polled, Sight.Sight, declared.body.{Act.Act, Said.Said}}
-use Rattle.exec_machine.specs.{declared.{config.ScriptWord.ScriptWord, event.Event.{Event, TheVariants.{Closed, Drop, Send}}, state.{MailMessage.TheVariants.CancelRequest, Request.Request, Waiting.Waiting}}, Mail.{is_first_owed, posted as seat_posted}, Progress.Plan, Same.is_number, Tasks.after_letting_go, Words.{acts, asks_drop, newest_held, next_word}, World.{Task, no_seat, request_of, seat_of, task_of}}
+use Rattle.exec_machine.specs.{declared.{config.ScriptWord.ScriptWord, event.Event.{Event, TheVariants.{Closed, Drop, Send}}, state.{MailMessage.TheVariants.CancelRequest, Waiting.Waiting}}, Mail.{is_first_owed, posted as seat_posted}, Progress.Plan, Same.is_number, Tasks.after_letting_go, Words.{acts, asks_drop, newest_held, next_word}, World.{Task, no_seat, request_of, seat_of, task_of}}
 use Rattle.exec_moves.specs.{declared.{handing.AfterSend.AfterSend, place.{InPoll.InPoll, Place.Place}}, Move.move_look_at, Poll.{Sight.{Asks, Here}, acts_on}, State.{Moved, Things, does}, Thing.aside, Told.told_of_drop}
 use Rattle.exec_parts.{specs.{declared.parts.{mail.Subject.Subject, record.Record.Record, seat.Seat.Seat as Chair, shared.Shared.Shared, task_slot.TaskSlot.TaskSlot, worker.Worker.Worker}, Awaits.{DropsElsewhere, newest_of}, MailPosts.{Sends, asks_by, chair_sent}, Scripts.IsAnswered, Spots.Spot, View.{Views, common_of, desk_of, own_of, seat_seen, seats_seen, task_seen, things_with}}, proofs.Facts.{not_same, or_right, same_thing}}
-use Rattle.exec_invariants.{specs.{Acting.{HasActed, StepsOf}, Holding.{Holder, IsAbout, IsHolding, awaited_in, box_of, holder_of, nap_of, thing_of}, Sound.SoundAt, Whole.{HasWhole, Profile, hands_of, with_worker}, Works.{Beside, Suits, Works}}, proofs.{Acting.{IsActor, actor, acts_so, me_at}, AskBoxes.{box_there, same_else}, Here.{IsHere, going_on, polled_here}, HoldBeside.Holds, HoldLets.thing_told, HoldMail.is_once, HoldSteps.IsNewest, HoldPosts.{posted, with_mail}, HoldThings.{Touches, touches_none}, LetterPosts.{cancels_request, chair_open, open_spares, sent_open}, Performing.still_performs, Seats.seat_there, Seen.request_at, Slots.task_there, Spared.there_within, TaskAsks.{Posts, asked_leaves, asked_works, led_to, leads_to, to_act as leads_on}, TaskDeals.{Dealt, acts as to_act, from_act}, TaskHears.{newest_split, thing_there}, TaskTakes.{holder_there, holders_one}, TaskWants.{cancel_place, made_with, wants_from}}}
+use Rattle.exec_invariants.{specs.{Acting.{HasActed, StepsOf}, Holding.{Holder, IsAbout, IsHolding, awaited_in, box_of, holder_of, nap_of, thing_of}, Sound.SoundAt, Whole.{HasWhole, Profile, hands_of, with_worker}, Works.{Beside, Suits, Works}}, proofs.{Acting.{IsActor, actor, acts_so, me_at}, AskBoxes.{box_there, same_else}, Here.{IsHere, going_on, polled_here}, HoldBeside.Holds, HoldLets.thing_told, HoldMail.is_once, HoldSteps.IsNewest, HoldPosts.{posted, with_mail}, HoldThings.{Touches, touches_none}, LetterPosts.{cancels_request, chair_open, open_spares, sent_open}, Performing.still_performs, Seats.seat_there, Seen.request_at, Slots.task_there, SparedRecord.there_within, TaskAsks.{Posts, asked_leaves, asked_works, led_to, leads_to, to_act as leads_on}, TaskDeals.{Dealt, acts as to_act, from_act}, TaskHears.{newest_split, thing_there}, TaskTakes.{holder_there, holders_one}, TaskWants.{cancel_place, made_with, wants_from}}}
 use Rattle.exec_polling.proofs.TaskDrops.{DropsSo, drop_looks, drops_deals, drops_perform, drops_so, let_go_seen}
 
 module _ {B : Type 0} where

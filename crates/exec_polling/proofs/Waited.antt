@@ -1,7 +1,7 @@
 -- The act by which a task that holds nothing waits for a wake.
-use Rattle.std.proofs.{Common.{◌≡◌, ◌≢◌, ℕ, ◌-◌, true, false, List, length, Option, Some, None, refl, sym, ap, subst, ◌∙◌, slice_get, slice_set}, lemmas.Bool.false≢true}
+use Rattle.std.proofs.{Common.{◌≡◌, ℕ, ◌-◌, true, List, length, Option, Some, None, refl, sym, ap, subst, ◌∙◌, slice_get, slice_set}, lemmas.Bool.false≢true}
 use Rattle.exec_task.specs.{Phases.is_polled, Sight.Sight, declared.body.{Act.Act, Said.Said}}
-use Rattle.exec_machine.specs.{Choice.Choice.Plain, declared.{event.Event.{Event, TheVariants.{Wait, Wake}}, state.Waiting.Waiting}, Progress.Plan, Tasks.waits_for, Tests.is_empty, Words.{acts, asks_await}, World.{Task, task_of}}
+use Rattle.exec_machine.specs.{Choice.Choice.Plain, declared.{event.Event.{Event, TheVariants.{Wait}}, state.Waiting.Waiting}, Progress.Plan, Tasks.waits_for, Tests.is_empty, Words.{asks_await}, World.{Task, task_of}}
 use Rattle.exec_moves.specs.declared.place.{Place.Place, InPoll.InPoll}
 use Rattle.exec_parts.specs.{declared.parts.{shared.Shared.Shared, task_slot.TaskSlot.TaskSlot, worker.Worker.Worker}, Records.numbers_held, Spots.Spot, View.{Views, desk_of, common_of, task_seen, things_with}, Things.TurnsSlot}
 use Rattle.exec_invariants.{specs.{Acting.{ActsAs, HasActed, StepsOf}, Holding.{awaited_in, holder_of}}, proofs.{Acting.{StaysOn, acted, actor, acts_so, me_at, moved_seen, none_held}, Performing.performs_waiting, Slots.{IsEvent, task_there}}}

@@ -7,7 +7,7 @@
 
 ghost use Rattle.std.specs.Prelude.{◌≡◌, ◌+◌, true, false, Some, None, Ok, Err, IfOk, IfErr, IfSome, OnOk, OnErr};
 ghost use Rattle.exec_base.specs.declared.error.Error.TheVariants as error;
-ghost use Rattle.exec_driver.specs.{Opens.account_in, Steps.footprint_of};
+ghost use Rattle.exec_driver.specs.{Opens.account_in, Footprints.footprint_of};
 ghost use Rattle.exec_ring.specs.Stores.{Reserves};
 ghost use Rattle.exec_waiters.specs.States.{suits};
 ghost use Rattle.exec_registration.specs.{Homes.home_of, Admissions.{Registers, Begins, TakesIn, IsRefused, IsKept, Untouched, over_at_once}};

@@ -290,7 +290,10 @@ impl SimRing {
 fn last_of(flying: &[Submission], user_data: UserData) -> usize
     ensures { result ≡ last_place (is_of user_data) flying.now }
 {
-    match flying.iter().rposition(|entry| entry.user_data == user_data) {
+    match flying
+        .iter()
+        .rposition(|entry| entry.user_data == user_data)
+    {
         Some(at) => at,
         None => flying.len(),
     }

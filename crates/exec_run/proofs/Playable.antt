@@ -1,5 +1,5 @@
 -- The words of a trace that was read can be played.
-use Rattle.std.proofs.Common.{◌≡◌, ℕ, ◌^◌, ◌<◌, ◌≤◌, List, length, get_or, None, refl, arith}
+use Rattle.std.proofs.Common.{◌≡◌, ℕ, ◌^◌, ◌≤◌, length, get_or, None, refl, arith}
 use Rattle.exec_machine.specs.declared.config.{Configuration.Configuration, ScriptWord.ScriptWord}
 use Rattle.exec_machine.specs.declared.config.ScriptWord.TheVariants as word
 use Rattle.exec_text.specs.Grammar.{Meaning, MeaningFits, FileFits, SocketFits, WordFits, WordNames}

@@ -1,19 +1,19 @@
 -- Requests that words ask for.
-use Rattle.std.proofs.Common.{◌≡◌, ℕ, ◌+◌, ◌-◌, ◌*◌, ◌/◌, ◌%◌, ◌<◌, ◌≤◌, ◌^◌, ◌⊎◌, inl, inr, Bool, true, false, List, [], ◌∷◌, Option, Some, None, IfSome, IfNone, Result, Ok, Err, IfOk, OnErr, replicate, length, length-append, refl, sym, ap, subst, ◌∙◌, arith}
+use Rattle.std.proofs.Common.{◌≡◌, ℕ, ◌+◌, ◌-◌, ◌%◌, ◌<◌, ◌≤◌, ◌^◌, ◌⊎◌, inl, inr, Bool, true, false, List, [], Option, Some, None, IfSome, replicate, length, length-append, refl, sym, ap, subst, ◌∙◌, arith}
 use Rattle.std.specs.Prelude.{if◌then◌else◌, nat_lt, nat_le}
 use Rattle.std.proofs.lemmas.List.{length-replicate, length-take}
 use Rattle.std.proofs.lemmas.Bool.{cases_Bool, le-leb, leb-true, leb-false, ltb-true, ltb-false, true≢false}
 use Rattle.exec_bufs.specs.Buffers.{Buffer, resized}
 use Rattle.exec_outcomes.specs.{Accounts.is_durable, Lawful.aligned, Outcomes.Asked, declared.outcome.Kind.Kind}
 use Rattle.exec_outcomes.specs.declared.outcome.Kind.TheVariants as kind
-use Rattle.exec_request.specs.{Buffers.{length_of, moved_of}, Hints.asks_hint, Requests.{asked_of, target_of}, Syncing.{is_syncing, write_kind}, Views.IsDirectRead, Ways.{asked_by, is_switched, size_for}}
-use Rattle.exec_request.specs.declared.{buffers.WriteBuffers.{WriteBuffers, TheVariants.Single}, cache.Cache.{Cache, TheVariants.{Enabled, Disabled}}, connect.ConnectRequest.ConnectRequest, poll.PollRequest.PollRequest, read_at.ReadAtRequest.ReadAtRequest, recv.RecvRequest.RecvRequest, request.Request.Request, send.SendRequest.SendRequest, sync.SyncRequest.SyncRequest, way.Way.Way, write_at.{WriteAtRequest.WriteAtRequest, WriteAtState.{WriteAtState, TheVariants.{Writing, WritingSync, WritingBeforeSync, Syncing}}}}
+use Rattle.exec_request.specs.{Buffers.{length_of, moved_of}, Hints.asks_hint, Syncing.{is_syncing, write_kind}, Views.IsDirectRead, Ways.{asked_by, is_switched, size_for}}
+use Rattle.exec_request.specs.declared.{buffers.WriteBuffers.{TheVariants.Single}, cache.Cache.{Cache, TheVariants.{Enabled, Disabled}}, read_at.ReadAtRequest.ReadAtRequest, recv.RecvRequest.RecvRequest, request.Request.Request, send.SendRequest.SendRequest, way.Way.Way, write_at.{WriteAtRequest.WriteAtRequest, WriteAtState.{WriteAtState, TheVariants.{Writing, WritingSync, WritingBeforeSync, Syncing}}}}
 use Rattle.exec_request.specs.declared.request.Request.TheVariants as request
 use Rattle.exec_task.specs.Sight.{Sight, open_at}
 use Rattle.exec_machine.specs.{declared.{config.{Configuration.Configuration, ScriptWord.ScriptWord}, state.Operation.Operation}, Requests.{of_file, of_socket, operation_asked}}
 use Rattle.exec_machine.specs.declared.config.ScriptWord.TheVariants as word
-use Rattle.exec_parts.specs.{Records.{seen_in, skip_in}, Spots.{IsAskedFor, wants_hint}}
-use Rattle.exec_run.specs.{Asking.{asks_of_range, asks_of_socket, asks_of_sync, moves_bytes, range_operation, CanAsk, CoversSeen, IsFilePart, IsFresh, IsInTime, IsRangeOf, IsRequestOf, IsSame, IsSocketPart, IsWanted}, declared.asking.Limits.Limits}
+use Rattle.exec_parts.specs.{Records.{skip_in}, Spots.{wants_hint}}
+use Rattle.exec_run.specs.{Asking.{moves_bytes, range_operation, CanAsk, CoversSeen, IsFilePart, IsFresh, IsRequestOf, IsSocketPart, IsWanted}, declared.asking.Limits.Limits}
 
 -- NEW REQUESTS, of each kind
 

@@ -1,5 +1,5 @@
 -- The bodies of tasks: each makes the acts of its words, one after another, or waits for the stop of the pool.
-use Rattle.std.specs.Prelude.{◌≡◌, ℕ, suc, Bool, true, false, ◌+◌, ◌-◌, ◌%◌, ◌^◌, ◌<◌, ◌≤◌, nat_le, if◌then◌else◌, List, [], ◌∷◌, ◌++◌, All, length, map, drop, slice_get, slice_index_or, Option, Some, None, IfSome, Vec}
+use Rattle.std.specs.Prelude.{◌≡◌, ℕ, suc, Bool, false, ◌+◌, ◌-◌, ◌%◌, ◌^◌, ◌<◌, ◌≤◌, nat_le, if◌then◌else◌, List, [], ◌∷◌, ◌++◌, All, length, map, drop, slice_get, slice_index_or, Option, Some, None, IfSome, Vec}
 use Rattle.std.specs.declared.alloc.Global.{Global}
 use Rattle.exec_base.specs.declared.{error.Error.TheVariants.NoMemory, limits.TheConstants.LONGEST_TIMEOUT}
 use Rattle.exec_task.specs.{Sight.Sight, declared.body.{Act.{Act, TheVariants.{Register, Await, Drop, Sleep, Spawn, Dedicated, Wake, Yield, Done, Fault}}, Said.{Said, TheVariants.{Admitted, Output, Refused, Pass}}}}

@@ -1,5 +1,5 @@
 -- The advance of the wheel in a service.
-use Rattle.std.proofs.{Common.{◌≡◌, ℕ, ◌+◌, ◌-◌, ◌/◌, ◌<◌, ◌≤◌, Bool, true, false, List, [], ◌∷◌, ◌++◌, Option, Some, None, refl, sym, ap, subst, ◌∙◌, arith, nat_le, nat_lt, if◌then◌else◌, is_some}, lemmas.{Bool.{false≢true, Decides.nat_tests}, Nat.le-div}, Math.Nat.div-mul-le_self}
+use Rattle.std.proofs.{Common.{◌≡◌, ℕ, ◌-◌, ◌/◌, ◌<◌, ◌≤◌, Bool, true, false, List, [], ◌∷◌, ◌++◌, Option, Some, None, refl, sym, ap, subst, ◌∙◌, arith, nat_le, nat_lt, if◌then◌else◌, is_some}, lemmas.{Bool.{false≢true, Decides.nat_tests}, Nat.le-div}, Math.Nat.div-mul-le_self}
 use Rattle.exec_base.specs.{Slab.Slab, declared.slab.Id.Id}
 use Rattle.exec_time.specs.{Wheel.{Wheel, tick_at, least_active}, Turning.{advanced, turned, turned_out}}
 use Rattle.exec_waiters.specs.{States.{waiter_at, tick_in}, declared.{waiter.{Entry.Entry, Waiter.Waiter}, waiter_id.WaiterId.WaiterId}}
@@ -8,7 +8,7 @@ use Rattle.exec_task.specs.declared.body.Said.{Said}
 use Rattle.exec_machine.specs.declared.{config.Configuration.Configuration, event.Event.{Event, TheVariants.Serve}}
 use Rattle.exec_moves.specs.declared.place.{Service.Service, Place.Place, InService.InService}
 use Rattle.exec_parts.specs.{declared.parts.{mail.Reply.Reply, shared.Shared.Shared, worker.Worker.Worker}, Phased.closes_at, Spots.Spot, View.{visible, own_of, desk_of, driver_of, seat_seen, things_with}}
-use Rattle.exec_invariants.{specs.{Due.IsWheelAt, Flown.operations, Ordered.{IsOrdered, went_round}, Places.{is_armed_at, is_published_at, passes_at, searches_at}, Sound.{HasBatch, SoundAt, IsAlike}, Works.Steps}, proofs.{Serving.{IsServed, Serves, SparesRecords, Keeps, KeepsBy, at_large, balances_still, calm, is_calm, spares_same}, Flown.landed_as, Going.{all_still, rooted_on}, Seeing.{makes, own_with, desk_with, visible_with, served, common_same, things_kept}}}
+use Rattle.exec_invariants.{specs.{Due.IsWheelAt, Flown.operations, Ordered.{IsOrdered, went_round}, Places.{is_armed_at, is_published_at, passes_at, searches_at}, Sound.{HasBatch, SoundAt}, Names.IsAlike, Works.Steps}, proofs.{ServingHolds.{IsServed, Serves, Keeps, KeepsBy}, Serving.{SparesRecords, at_large, balances_still, spares_same}, ServingPlaces.{calm, is_calm}, Flown.landed_as, Going.{all_still, rooted_on}, Seeing.{makes, own_with, desk_with, visible_with, served, common_same, things_kept}}}
 use Rattle.exec_serving.proofs.Draining.{advance_ordered, ahead_of, round_so}
 
 -- THE WHEEL

@@ -1,5 +1,5 @@
 -- What keeps what the kernel has, where entries go into the submission queue and the kernel takes them in.
-use Rattle.std.{proofs.{Common.{◌≡◌, ◌≢◌, ℕ, ◌+◌, ◌-◌, ◌==◌, ◌&&◌, Bool, true, false, cond, List, [], ◌∷◌, ◌++◌, filter, Option, Some, None, refl, sym, ap, subst, ◌∙◌, arith, slice_get, sum_by, if◌then◌else◌}, lemmas.{Bool.{false≢true, eq-eqb}, List.{append-nil, append_assoc, Elements.filter-append}}}, specs.{List.fold, Option.option_map}}
+use Rattle.std.{proofs.{Common.{◌≡◌, ℕ, ◌==◌, ◌&&◌, Bool, true, false, cond, List, [], ◌∷◌, ◌++◌, filter, Option, Some, None, refl, sym, ap, subst, ◌∙◌, arith, slice_get, sum_by, if◌then◌else◌}, lemmas.{Bool.{false≢true, eq-eqb}, List.{append-nil, append_assoc, Elements.filter-append}}}, specs.{List.fold, Option.option_map}}
 use Rattle.exec_base.specs.{Slab.{Slab}, declared.slab.Id.Id}
 use Rattle.exec_request.specs.{Requests.window_by, Syncing.is_syncing, declared.{request.Request.Request as Asking, window.{Opcode.Opcode, Window.Window}}}
 use Rattle.exec_ring.specs.{Kernels.{is_of, taken_as, taken_in, all_taken}, Rings.RingState, declared.{completion.Submission.Submission, store.Store.Store}}

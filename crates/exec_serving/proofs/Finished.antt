@@ -1,15 +1,15 @@
 -- An operation that has landed, whose request is over: a step.
-use Rattle.std.{proofs.{Common.{◌≡◌, ◌≢◌, ℕ, ◌+◌, ◌^◌, ◌<◌, Bool, true, false, List, [], ◌∷◌, ◌++◌, length, map, Option, Ok, Err, Some, None, IsSome, refl, sym, ap, subst, ◌∙◌, arith, ◌-◌, if◌then◌else◌}, lemmas.List.length-set}, specs.VecDeque.deque_capacity}
+use Rattle.std.{proofs.{Common.{◌≡◌, ◌≢◌, ℕ, ◌^◌, ◌<◌, Bool, true, false, List, [], ◌∷◌, ◌++◌, length, map, Option, Ok, Err, Some, None, IsSome, refl, sym, ap, subst, ◌∙◌, arith, if◌then◌else◌}, lemmas.List.length-set}, specs.VecDeque.deque_capacity}
 use Rattle.exec_base.{specs.Slab.{value_at, written}, proofs.Slots.{Updates-write, past-write}}
 use Rattle.exec_outcomes.specs.{Accounts.{Account, by_failure, is_durable}, declared.outcome.{Kind.Kind, OpResult.OpResult, Outcome.Outcome}}
 use Rattle.exec_request.specs.{Judging.{Judges, judged_as}, Kept.kept_of, Requests.{asked_of, cursor_of, hinted_of, output_of}, declared.{request.Request.Request as Asking, output.RequestOutput.RequestOutput, way.Way.Way}, States.{Ended, as_outcome, result_of, told_by}, Ways.asked_by}
 use Rattle.exec_ring.specs.{Completions.result_in, declared.completion.Completion.Completion}
 use Rattle.exec_waiters.{specs.{Ids.user_data_of, States.{waiter_at, tick_in, waiter_of}, declared.{waiter.{Entry.TheVariants.Pending, Waiter.Waiter}, deferred.Deferred.Deferred}, Told.{Tells, Told}, Events.{finished, told_by_finish}}, proofs.Changes.entry_of}
 use Rattle.exec_driver.specs.{Driving.Driving, Lists.{without, withdrawn}, Punctual.IsPunctual, Steps.unscheduled}
-use Rattle.exec_machine.specs.{declared.{event.Event.TheVariants.Reap, state.Request.Request}, Requests.reaped}
+use Rattle.exec_machine.specs.{declared.{state.Request.Request}, Requests.reaped}
 use Rattle.exec_moves.specs.{declared.place.{AfterPermit.AfterPermit, Place.Place, Reaping.Reaping, Service.Service, InService.InService}, Seen.serves_at, Serve.{after_permit, back_from_reap}}
 use Rattle.exec_parts.{specs.{declared.parts.{mail.Reply.Reply, names.Names.Names, record.Record.Record, shared.Shared.Shared, worker.Worker.Worker}, Records.number_in, Serving.{changed_at, is_one_of}, View.{driver_of, number_told}}, proofs.Facts.not_same}
-use Rattle.exec_invariants.{specs.{Carried.IsUnderWay, Due.{IsWheelAt, wheel_moment}, Flown.{AreLanded, HasLanded, IsPlain, operations}, HoldPlaces.is_bare_at, Sound.{SoundAt, IsAlike, served_in}, Rooted.outcome_told}, proofs.{Changing.{changes_one, pending_still}, HeldCounts.held_written, Known.low_there, Flown.landed_on, Marking.{mark_if, marked}, Serving.{Follows, KeepsBy, calm, kept}, Swept.RingAfter, Mine.live_mine, ServedEnds.ends_told, Orders.{TurnsAlike, alike_unticked, past_written}, Ousting.keeps_over, Over.OneEnds, Resolving.{SlabAfter, slab_after, unticked_at}}}
+use Rattle.exec_invariants.{specs.{Carried.IsUnderWay, Due.{IsWheelAt, wheel_moment}, Flown.{AreLanded, HasLanded, IsPlain, operations}, HoldPlaces.is_bare_at, Sound.{SoundAt, served_in}, Names.IsAlike, Rooted.outcome_told}, proofs.{Changing.{changes_one, pending_still}, HeldCounts.held_written, Known.low_there, Flown.landed_on, Marking.{mark_if, marked}, ServingHolds.{Follows, KeepsBy}, Serving.kept, ServingPlaces.calm, Swept.RingAfter, Mine.live_mine, ServedEnds.ends_told, Orders.{TurnsAlike, alike_unticked, past_written}, Ousting.keeps_over, Over.OneEnds, Resolving.{SlabAfter, slab_after, unticked_at}}}
 use Rattle.exec_serving.proofs.{Requeued.{fits_shown, landed_rest, lawful_shown, number_landed}, Returned.{follows_back, not_due, served_back}}
 
 -- WHAT THE DRIVER DID

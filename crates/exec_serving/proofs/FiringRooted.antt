@@ -8,7 +8,7 @@ use Rattle.exec_driver.specs.Driving.{Driving}
 use Rattle.exec_machine.specs.Tests.{is_applied}
 use Rattle.exec_moves.specs.declared.handing.Heard.{Heard}
 use Rattle.exec_parts.{specs.{declared.parts.{mail.Reply.Reply, names.Names.Names, record.Record.Record, sleeping.SleeperRecord.SleeperRecord}, Records.number_in, Calls.IsTold}, proofs.Facts.{by_number, not_same, same_thing, set_elsewhere}}
-use Rattle.exec_invariants.{specs.{Places.one_if, Rooted.{IsCompletion, IsRooted, SleeperPays, Watches, completions_of as sent_of, ends_elsewhere, goes_elsewhere, is_of_timer, results_of}, Sound.HasWidth}, proofs.{Fired.{fired_there, fires}, ServedEnds.{count_both, count_none, count_one, none_in, only_one}}}
+use Rattle.exec_invariants.{specs.{Places.one_if, Rooted.{IsCompletion, IsRooted, SleeperPays, Watches, completions_of as sent_of, ends_elsewhere, goes_elsewhere, is_of_timer, results_of}, Names.HasWidth}, proofs.{Fired.{fired_there, fires}, ServedEnds.{count_both, count_none, count_one, none_in, only_one}}}
 
 -- one wake is told at most, and one end sent
 pub few_wakes : (o : Watching Reply) → length (wakes_of o) ≤ 1

@@ -1,5 +1,5 @@
 -- An operation that has landed, whose request is over: a step.
-use Rattle.std.{proofs.{Common.{◌≡◌, ◌≢◌, ℕ, ◌+◌, ◌<◌, ◌==◌, ◌&&◌, Bool, true, false, not, List, [], ◌∷◌, ◌++◌, length, map, Option, Some, None, IsSome, if◌then◌else◌, refl, sym, ap, subst, ◌∙◌, ◌-◌, filter, slice_get, slice_index_or}, lemmas.Bool.{eq-eqb, false≢true}}, specs.VecDeque.deque_capacity}
+use Rattle.std.{proofs.{Common.{◌≡◌, ◌≢◌, ℕ, ◌<◌, ◌==◌, ◌&&◌, Bool, true, false, not, List, [], ◌∷◌, ◌++◌, length, map, Option, Some, None, IsSome, if◌then◌else◌, refl, sym, ap, subst, ◌∙◌, ◌-◌, filter, slice_get, slice_index_or}, lemmas.Bool.{eq-eqb, false≢true}}, specs.VecDeque.deque_capacity}
 use Rattle.exec_base.specs.{Slab.{Slab, value_at, written}, declared.slab.{Id.Id, Slot.TheVariants.Live}}
 use Rattle.exec_outcomes.specs.{Accounts.{Account, by_failure, is_durable, outcome_told as told_of}, Outcomes.{is_unsupported, refuses_hint}, declared.outcome.Outcome.{Outcome, TheVariants.{Failure, Success}}}
 use Rattle.exec_request.specs.{Hints.without_hint, Judging.judged_as, Requests.{asked_of, cursor_of, hinted_of, output_of, record_after, target_of}, declared.{output.RequestOutput.RequestOutput, request.Request.Request as Asking}, States.{Ended, as_outcome, asks_cancel, result_of, told_by}}
@@ -10,7 +10,7 @@ use Rattle.exec_task.specs.declared.body.Said.{Said}
 use Rattle.exec_machine.specs.{declared.event.Event.{Event, TheVariants.Reap}, Requests.{judged_of, outcome_given}, Tests.{is_gated, is_of_file, is_resolved}, World.no_open}
 use Rattle.exec_moves.specs.{declared.place.{Place.Place, Reaping.Reaping, Service.Service, InService.InService}, Serve.{after_permit, back_from_reap, others_after_reap}, State.{Desk, dropped}, Thing.{set_wake_poll, with_ring}, Told.told_of_end}
 use Rattle.exec_parts.{specs.{declared.parts.{mail.Reply.Reply, record.Record.Record, shared.Shared.Shared, worker.Worker.Worker}, Records.number_in, Serving.changed_at, View.{account_seen, awaited_from, completions_in, driver_of, number_told, numbers_of_passing, open_seen, visible, own_of, desk_of, results_in, slots_seen, things_with, wake_poll_in, with_view, numbers_of, trailing}, Spots.Spot}, proofs.Facts.{and_none, by_number, never_true, same_thing, set_elsewhere}}
-use Rattle.exec_invariants.{specs.{Flown.operations, Gates.{AreLinedUp, HaveGates, IsKnown, PassesPermit, at_gate, key_for}, Holding.nap_of, Places.{drops_at, passes_at}, Sound.SoundAt, Whole.{IsWhole, Profile, with_worker}, Works.Steps}, proofs.{Accounted.{OpensJudged, open_of_file, opens_judged}, DeskEnds.desk_ended, EndsServed.{ends_thing, one_slot}, Gated.durable_of_file, Hinting.open_there, Keys.name_in, ReapKinds.durable_kept, Lined.{SameLines, gates_kept, gates_opens, gates_seen_same, lined_opens, map_changed, passing_same, was_sent}, Mine.{live_mine, stands}, Raising.poll_shows, ServedEnds.ends_told, ServedWakes.holding_over, Serving.{Balances, SparesRecords, at_large, serves_to, IsServed, OthersKept, keeps_home, KeepsBy, Keeps, Serves, spares_one}, Slotted.{OneSlot, awaited_written, slots_written}, Spared.there_within, Changing.{changes_one, flying_after}, Judging.{given_is, judged_same}, Seeing.{desk_with, makes, own_with, served, shows}, Ends.{flying_ended, numbers_without}, Marking.{mark_if, marked}}}
+use Rattle.exec_invariants.{specs.{Flown.operations, Gates.{AreLinedUp, HaveGates, IsKnown, PassesPermit, at_gate, key_for}, Holding.nap_of, Places.{drops_at, passes_at}, Sound.SoundAt, Whole.{IsWhole, Profile, with_worker}, Works.Steps}, proofs.{Accounted.{OpensJudged, open_of_file, opens_judged}, DeskEnds.desk_ended, EndsServed.{ends_thing, one_slot}, Gated.durable_of_file, Hinting.open_there, Keys.name_in, ReapKinds.durable_kept, Lined.{SameLines, gates_kept, gates_opens, gates_seen_same, lined_opens, map_changed, passing_same, was_sent}, Mine.{live_mine, stands}, Raising.poll_shows, ServedEnds.ends_told, ServedWakes.holding_over, Serving.{Balances, SparesRecords, at_large, spares_one}, ServingHolds.{serves_to, IsServed, OthersKept, keeps_home, KeepsBy, Keeps, Serves}, Slotted.{OneSlot, awaited_written, slots_written}, SparedRecord.there_within, Changing.{changes_one, flying_after}, Judging.{given_is, judged_same}, Seeing.{desk_with, makes, own_with, served, shows}, Ends.{flying_ended, numbers_without}, Marking.{mark_if, marked}}}
 use Rattle.exec_serving.proofs.{PermitGates.{drops_others, drops_own, gates_passing}, PermitSeen.{opens_after, opens_ended}, ReapAccounts.{IsOperation, ends_unswitched, file_there, lines_counted, opens_counted, opens_uncounted, told_unhinted}, ReapViewed.{common_over, may_over, moves_over, told_place}, Returned.{one_fewer, passes_back}, Finished.{GoesOver, ended_same, follows_over, goes_over, keeps_gone, over_alike, over_outcome, over_place, served_over}}
 
 -- OPENS, twice changed

@@ -3,7 +3,7 @@ use Rattle.std.{proofs.{Common.{◌≡◌, ℕ, ◌+◌, ◌-◌, ◌≤◌, ◌
 use Rattle.exec_outcomes.specs.{Lawful.{is_lawful, window_of}, Outcomes.{bytes_of}, declared.outcome.{OpResult.{OpResult, TheVariants.{Count, Errno}}, Kind.Kind}}
 use Rattle.exec_request.specs.{Buffers.{batch_of}, Kept.{seen_by}, Requests.{asked_of, cursor_of, deadline_of, hinted_of, target_of, window_by}, Syncing.{is_syncing, write_kind}, Views.{write_window}, Ways.{asked_by}, Windows.most_of, declared.{request.Request.Request as Asking, way.Way.Way, write_at.{WriteAtState.WriteAtState}}}
 use Rattle.exec_ring.specs.{Fillings.Fills, Kernels.{is_of, allows, flight_of, may_land}, Landings.{IsReady, IsReadyFor, Moves, MovesBytes}, Rings.{RingState}, Sockets.{SocketState}, Stores.{CoversIn, HasStretch, socket_of}, declared.{completion.{Submission.Submission}, file.File.File, store.Store.Store}}
-use Rattle.exec_driver.specs.Steps.{bytes_left}
+use Rattle.exec_driver.specs.Footprints.{bytes_left}
 use Rattle.exec_machine.specs.{declared.state.{Operation.Operation, RequestPhase.{TheVariants.Flying}}, Requests.{asked_of as asked_in, cursor_of as cursor_in}}
 use Rattle.exec_parts.{specs.{declared.parts.record.Record.Record, Serving.changed_at}, proofs.Facts.same_number}
 use Rattle.exec_invariants.{specs.Carried.{HasRoom, HasStretchFor, IsWhole, IsLone, is_moved_by, may_move, moves_by, room_for, unlanded, landing}, proofs.Carrying.{lone_found, part_within, sum_changed}}

@@ -8,7 +8,7 @@ use Rattle.exec_waiters.{specs.{Ids.user_data_of, States.{needs_permit, takes_ti
 use Rattle.exec_driver.{specs.{Driving.Driving, Steps.LandsOne}, proofs.Counting.OneChanged}
 use Rattle.exec_machine.specs.{declared.state.{RequestPhase.RequestPhase}, Tests.{is_gated, is_in_flight, is_kept, is_resolved, is_staged}}
 use Rattle.exec_parts.{specs.{declared.parts.{mail.Reply.Reply, record.Record.Record, shared.Shared.Shared, worker.Worker.Worker}, Records.number_in, Serving.changed_at, View.{driver_of, number_told}}, proofs.Facts.{and_parts, by_name, not_same}}
-use Rattle.exec_invariants.{specs.{Carried.{HasStretchFor, IsCarried, IsLone, IsUnderWay, IsWhole, MayLand, those_of, landing}, Flown.{AreLanded, HasFlown, HasLanded, IsPlain, operations}, Gates.IsKnown, Sound.{Sound, IsAlike, IsSubmitted, served_in}}, proofs.{Marking.{known_then, mark_kept, mark_if, marked, plain_kept, was_marked}, Carrying.{others_fly, one_landed, index_told, generation_told, result_told, lone_removed}, Changing.{OneGoesOn, all_go_one, apart_number, changes_one}, Conveying.carried_one, Flown.landed_on, Going.{AllGoOn, GoesOn, owning_on}, Known.known_written}}
+use Rattle.exec_invariants.{specs.{Carried.{HasStretchFor, IsCarried, IsLone, IsUnderWay, IsWhole, MayLand, those_of, landing}, Flown.{AreLanded, HasFlown, HasLanded, IsPlain, operations}, Gates.IsKnown, Sound.{Sound, served_in}, Names.{IsAlike, IsSubmitted}}, proofs.{Marking.{known_then, mark_kept, mark_if, marked, plain_kept, was_marked}, Carrying.{others_fly, one_landed, index_told, generation_told, result_told, lone_removed}, Changing.{OneGoesOn, all_go_one, apart_number, changes_one}, Conveying.carried_one, Flown.landed_on, Going.{AllGoOn, GoesOn, owning_on}, Known.known_written}}
 use Rattle.exec_serving.proofs.LandMoves.{Lands, Leaves, MayFly, Refilled, may_fly, flown_so, less_moves, room_landed, stretch_then}
 
 -- WHO LANDS

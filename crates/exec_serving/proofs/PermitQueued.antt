@@ -8,7 +8,7 @@ use Rattle.exec_driver.specs.{Driving.{Driving, is_gated as waits_gated, request
 use Rattle.exec_machine.specs.{declared.state.RequestPhase.RequestPhase, Tests.{is_gated, is_resolved, is_staged}}
 use Rattle.exec_moves.specs.declared.place.{Place.Place, Service.Service}
 use Rattle.exec_parts.{specs.{declared.parts.{mail.Reply.Reply, record.Record.Record, shared.Shared.Shared, worker.Worker.Worker}, Records.number_in, Serving.changed_at, View.driver_of}, proofs.Facts.{and_parts, by_name, by_not, same_number, same_thing}}
-use Rattle.exec_invariants.{specs.{Carried.{IsCarried, IsUnderWay, may_move, moves_by, those_of, unlanded}, Due.{IsWheelAt, may_be_due, wheel_moment}, Flown.{AreLanded, HasFlown, IsPolled, operations}, Gates.{IsKnown, key_for, line_at}, Ordered.{IsOrdered, went_round}, Sound.{IsAlike, IsSubmitted, SoundAt, served_in}, Submits.IsGatedIn}, proofs.{Changing.{OneGoesOn, all_go_one, apart_number, changes_one, keeps_one}, Conveying.carried_one, Flown.landed_on, Going.{GoesOn, owning_on}, Known.{known_written, low_there}, Marking.{known_then, mark_if, mark_kept, marked, plain_kept, was_marked}, Orders.{Eases, IsPartOf, TurnsAlike, alike_self, eased, eases_written, part_self}, Resolving.among_still, Serving.{Follows, KeepsBy}}}
+use Rattle.exec_invariants.{specs.{Carried.{IsCarried, IsUnderWay, may_move, moves_by, those_of, unlanded}, Due.{IsWheelAt, may_be_due, wheel_moment}, Flown.{AreLanded, HasFlown, IsPolled, operations}, Gates.{IsKnown, key_for, line_at}, Ordered.{IsOrdered, went_round}, Names.{IsAlike, IsSubmitted}, Sound.{SoundAt, served_in}, Submits.IsGatedIn}, proofs.{Changing.{OneGoesOn, all_go_one, apart_number, changes_one, keeps_one}, Conveying.carried_one, Flown.landed_on, Going.{GoesOn, owning_on}, Known.{known_written, low_there}, Marking.{known_then, mark_if, mark_kept, marked, plain_kept, was_marked}, Orders.{Eases, IsPartOf, TurnsAlike, alike_self, eased, eases_written, part_self}, Resolving.among_still, ServingHolds.{Follows, KeepsBy}}}
 use Rattle.exec_serving.proofs.PermitGrants.{Granted}
 
 abbrev key_made : ℕ → WaiterId → WaiterKey

@@ -1,6 +1,6 @@
 -- What all see of opens once a request is over: what is kept of its open, whose permit has gone on, though it stands at the gate
 -- still.
-use Rattle.std.proofs.{Common.{◌≡◌, ◌≢◌, ℕ, zero, suc, ◌+◌, ◌==◌, ◌&&◌, ◌++◌, Bool, true, false, List, [], ◌∷◌, drop, map, Some, None, option_to_list, if◌then◌else◌, refl, sym, ap, ◌∙◌, arith, slice_get, slice_index_or, slice_set}, lemmas.Bool.{eq-eqb, false≢true}}
+use Rattle.std.proofs.{Common.{◌≡◌, ◌≢◌, ℕ, zero, suc, ◌==◌, ◌&&◌, ◌++◌, Bool, true, false, List, [], ◌∷◌, drop, map, Some, None, option_to_list, if◌then◌else◌, refl, sym, ap, ◌∙◌, arith, slice_get, slice_index_or, slice_set}, lemmas.Bool.{eq-eqb, false≢true}}
 use Rattle.exec_outcomes.specs.{Accounts.{Account, is_durable}, declared.outcome.Outcome.Outcome}
 use Rattle.exec_driver.specs.{Opens.OpenState, declared.opens.WaiterKey.WaiterKey}
 use Rattle.exec_machine.specs.{declared.state.Operation.Operation, Requests.{open_after_end, passed_on}, Tests.{is_of_file, is_resolved}, World.{Open, no_open}}

@@ -1,5 +1,5 @@
 -- The first of a gate is granted its permit, and is queued: a step.
-use Rattle.std.{proofs.{Common.{◌≡◌, ◌≢◌, ℕ, suc, ◌+◌, ◌<◌, ◌==◌, ◌&&◌, Bool, true, false, List, [], ◌∷◌, ◌++◌, length, map, Option, Some, None, is_some, option_to_list, if◌then◌else◌, refl, sym, ap, subst, ◌∙◌, arith, slice_get, slice_index_or, slice_set}, lemmas.{Bool.{eq-eqb, false≢true}, List.append-nil, Option.get_or_from_slice_get}}, specs.VecDeque.deque_capacity}
+use Rattle.std.{proofs.{Common.{◌≡◌, ◌≢◌, ℕ, suc, ◌<◌, ◌==◌, ◌&&◌, Bool, true, false, List, [], ◌∷◌, ◌++◌, length, map, Option, Some, None, is_some, option_to_list, if◌then◌else◌, refl, sym, ap, subst, ◌∙◌, arith, slice_get, slice_index_or, slice_set}, lemmas.{Bool.{eq-eqb, false≢true}, List.append-nil, Option.get_or_from_slice_get}}, specs.VecDeque.deque_capacity}
 use Rattle.exec_base.specs.Slab.{value_at, written}
 use Rattle.exec_outcomes.specs.{Accounts.{is_durable, outcome_at_grant}, declared.outcome.Outcome.Outcome}
 use Rattle.exec_request.specs.{Requests.{asked_of, outcome_if_granted}, States.as_answer}
@@ -10,7 +10,7 @@ use Rattle.exec_task.specs.declared.body.Said.{Said}
 use Rattle.exec_machine.specs.{declared.{event.Event.{Event, TheVariants.Grant}, state.Request.Request}, Progress.Plan, Requests.{account_of_open, granted, joined_if}, Same.{is_number, same_end}, Tests.{is_gated, is_resolved, is_unsent}, World.{Common, no_open, open_of, request_of}}
 use Rattle.exec_moves.specs.{declared.place.{InService.InService, Place.Place, Service.Service}, Move.{move_at, move_submit}, State.gate_of, Submit.{after_grant, granted_at}, Thing.with_gate, Told.told_if_ended}
 use Rattle.exec_parts.{specs.{declared.parts.{mail.Reply.Reply, names.Names.Names, record.Record.Record, shared.Shared.Shared, worker.Worker.Worker}, Records.{number_in, outcome_in}, Serving.changed_at, Spots.Spot, View.{Views, account_seen, awaited_from, common_of, completions_in, desk_of, driver_of, gate_seen, has_given_up, line_of, number_of_key, numbers_of, numbers_of_passing, open_seen, own_of, results_in, seat_seen, slots_seen, things_with, trailing, visible, with_view}}, proofs.Facts.not_same}
-use Rattle.exec_invariants.{specs.{Gates.{AreLinedUp, HaveGates, has_hint_at, key_for}, Holding.{nap_of, thing_of}, Places.{Drops, drops_at}, Submits.IsGatedIn, Whole.{IsWhole, Profile, with_worker}, Works.{Steps, Suits}}, proofs.{Accounted.open_of_file, Changing.flying_after, Gated.durable_of_file, Hinting.open_there, Keys.name_in, Lined.{map_changed, mapped, passing_same, was_sent}, Marking.{mark_if, marked, was_marked}, Recorded.request_seen, Seeing.{common_changed, common_same, desk_with, makes, own_with, served_by, shows, visible_with}, Serving.{Balances, IsServed, Keeps, KeepsBy, OthersKept, Serves, SparesGates, at_large, holding_still, keeps_home, serves_to}, Slotted.{awaited_written, slots_written}, Spared.sleepers_endure, Turning.view_found, Untold.keeps_untold}}
+use Rattle.exec_invariants.{specs.{Gates.{AreLinedUp, HaveGates, has_hint_at, key_for}, Holding.{nap_of, thing_of}, Places.{Drops, drops_at}, Submits.IsGatedIn, Whole.{IsWhole, Profile, with_worker}, Works.{Steps, Suits}}, proofs.{Accounted.open_of_file, Changing.flying_after, Gated.durable_of_file, Hinting.open_there, Keys.name_in, Lined.{map_changed, mapped, passing_same, was_sent}, Marking.{mark_if, marked, was_marked}, Recorded.request_seen, Seeing.{common_changed, common_same, desk_with, makes, own_with, served_by, shows, visible_with}, Serving.{Balances, SparesGates, at_large, holding_still}, ServingHolds.{IsServed, Keeps, KeepsBy, OthersKept, Serves, keeps_home, serves_to}, Slotted.{awaited_written, slots_written}, Spared.sleepers_endure, Turning.view_found, Untold.keeps_untold}}
 use Rattle.exec_serving.proofs.{PermitGates.{drops_others, drops_own, gates_passing}, PermitGrants.{Granted, gates_granted, keys_granted, lined_granted}, PermitQueued.{GrantAt, granted_at as at_grant, granted_of, keeps_queued, queues}, PermitSeen.{keys_gates, number_named}, PermitTries.{due_is, follows_next, gate_again, tried_at}, Returned.numbers_push}
 
 -- WHAT A GRANT DID

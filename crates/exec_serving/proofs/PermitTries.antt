@@ -7,7 +7,7 @@ use Rattle.exec_task.specs.declared.body.Said.{Said}
 use Rattle.exec_machine.specs.{declared.{config.Configuration.Configuration, event.Event.{Event, TheVariants.{Grant, Serve}}, state.Request.Request}, Progress.Plan, Requests.account_of_open, Tests.is_gated, World.{Common, Own, no_request, request_of}}
 use Rattle.exec_moves.specs.{declared.place.{InService.InService, Place.Place, Service.Service}, Move.move_submit, State.{Desk, Moved, Things, does, gate_of}, Submit.{after_grant, due_next, first_due, granted_at, next_gate, submits, try_gate, Due.AtGate}, Thing.with_gate, Told.told_if_ended}
 use Rattle.exec_parts.{specs.{declared.parts.{shared.Shared.Shared, worker.Worker.Worker}, Records.number_in, Spots.Spot, View.{Views, common_of, desk_of, driver_of, gate_seen, number_of_key, numbers_of, open_seen, own_of, seat_seen, things_with, visible}}, proofs.Facts.{and_parts, never_true, same_number}}
-use Rattle.exec_invariants.{specs.{Gates.line_at, Places.passes_at, Sound.served_in, Submits.IsGatedIn, Works.{Steps, Suits}}, proofs.{Gated.{StandsIn, durable_of_file, gate_next, least_stands, stands_there, ungated_open, waits_there}, Idling.none_due, Keeping.{SameButRing, keeps_ring}, Lined.{length_map, mapped}, Recorded.request_seen, Seeing.{common_same, desk_with, makes, served, shows, things_kept}, Serving.{Follows, IsServed, Keeps, KeepsBy, Serves, SparesRecords, at_large, balances_still, serves_to, spares_same}, Spared.there_within}}
+use Rattle.exec_invariants.{specs.{Gates.line_at, Places.passes_at, Sound.served_in, Submits.IsGatedIn, Works.{Steps, Suits}}, proofs.{Gated.{StandsIn, durable_of_file, gate_next, least_stands, stands_there, ungated_open, waits_there}, Idling.none_due, Keeping.{SameButRing, keeps_ring}, Lined.{length_map, mapped}, Recorded.request_seen, Seeing.{common_same, desk_with, makes, served, shows, things_kept}, ServingHolds.{Follows, IsServed, Keeps, KeepsBy, Serves, serves_to}, Serving.{SparesRecords, at_large, balances_still, spares_same}, SparedRecord.there_within}}
 use Rattle.exec_serving.proofs.PermitSeen.{number_named}
 
 -- THE MOVE, by who stands first there

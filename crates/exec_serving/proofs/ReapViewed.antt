@@ -1,5 +1,5 @@
 -- What the machine sees of an operation that was reaped, whose request is over by that.
-use Rattle.std.proofs.{Common.{◌≡◌, ℕ, ◌-◌, ◌==◌, Bool, true, false, List, ◌∷◌, map, Option, Some, refl, sym, ap, ◌∙◌, slice_get, slice_set, drop, if◌then◌else◌}, lemmas.Bool.eq-eqb}
+use Rattle.std.proofs.{Common.{◌≡◌, ℕ, ◌==◌, Bool, true, false, List, ◌∷◌, map, Option, Some, refl, sym, ap, ◌∙◌, slice_get, slice_set, drop, if◌then◌else◌}, lemmas.Bool.eq-eqb}
 use Rattle.exec_outcomes.specs.{Accounts.outcome_told, Outcomes.refuses_hint, declared.outcome.{OpResult.OpResult, Outcome.{Outcome, TheVariants.{Failure, Success}}}}
 use Rattle.exec_ring.specs.{Completions.result_in, declared.completion.Completion.Completion}
 use Rattle.exec_task.specs.declared.body.Said.{Said}

@@ -1,5 +1,5 @@
 -- What holds again once an operation has landed whose request goes on.
-use Rattle.std.proofs.{Common.{◌≡◌, ◌≢◌, ℕ, ◌+◌, ◌^◌, ◌<◌, ◌≤◌, ◌==◌, ◌&&◌, ◌||◌, inl, not, Bool, true, false, List, [], ◌∷◌, ◌++◌, length, map, Some, None, refl, sym, ap, subst, ◌∙◌, slice_get, slice_index_or, is_some}, lemmas.Bool.{false≢true, eq-eqb}}
+use Rattle.std.proofs.{Common.{◌≡◌, ◌≢◌, ℕ, ◌+◌, ◌^◌, ◌<◌, ◌≤◌, ◌==◌, ◌&&◌, ◌||◌, inl, not, Bool, true, false, List, [], ◌∷◌, ◌++◌, map, Some, None, refl, sym, ap, subst, ◌∙◌, slice_get, slice_index_or, is_some}, lemmas.Bool.{false≢true, eq-eqb}}
 use Rattle.exec_base.specs.{Slab.{value_at, written}, declared.slab.Id.Id}
 use Rattle.exec_outcomes.specs.{Accounts.is_durable, Lawful.{is_lawful, window_of}, Outcomes.{HasCome, bytes_of, refuses_hint}, declared.outcome.OpResult.OpResult}
 use Rattle.exec_request.specs.{Judging.{Judges, judged_as}, Kept.kept_of, Requests.{asked_of, cursor_of, deadline_of, hinted_of}, declared.request.Request.Request as Asking}
@@ -9,7 +9,7 @@ use Rattle.exec_driver.specs.{Driving.Driving, Lists.{is_among, with_queued}, Op
 use Rattle.exec_machine.specs.{declared.state.{Request.Request, RequestPhase.TheVariants.Landed}, Requests.{judged_of, reaped, went_on, asked_of as asked_in, cursor_of as cursor_in}, Tests.{is_gated, is_kept, is_staged}}
 use Rattle.exec_moves.specs.declared.place.Place.{Place}
 use Rattle.exec_parts.{specs.{declared.parts.{mail.Reply.Reply, names.Names.Names, record.Record.Record, shared.Shared.Shared, worker.Worker.Worker}, Records.number_in, Serving.{changed_at, is_one_of, cancels_in, AreTagged}, View.{driver_of, number_told}}, proofs.Facts.{and_parts, by_name, same_number, not_same}}
-use Rattle.exec_invariants.{specs.{Carried.{IsCarried, those_of}, Due.{IsWheelAt, may_be_due, wheel_moment}, Flown.{AreLanded, HasFlown, HasLanded, IsPlain}, Gates.{IsKnown, has_hint_at}, Sound.{SoundAt, IsAlike, IsSubmitted, served_in}, Ordered.{IsOrdered, went_round}}, proofs.{Going.owning_on, Hinting.stretch_judged, Known.known_written, Marking.{known_then, mark_kept, mark_if, marked, was_marked}, Mine.live_mine, Changing.{OneGoesOn, all_go_one, changes_one, keeps_one, apart_number}, Conveying.{carried_judged, carried_ring}, Flown.FliesOn, Judging.{asks_after, cancel_decides, forgets_after, given_is, moved_bytes, moved_fits, moved_is, switched_is, total_fits}, Serving.{Follows, KeepsBy}, Swept.RingAfter, Orders.{Eases, IsPartOf, TurnsAlike, alike_self, eased, eases_written, part_self}}}
+use Rattle.exec_invariants.{specs.{Carried.{IsCarried, those_of}, Due.{IsWheelAt, may_be_due, wheel_moment}, Flown.{AreLanded, HasFlown, HasLanded, IsPlain}, Gates.{IsKnown, has_hint_at}, Sound.{SoundAt, served_in}, Names.{IsAlike, IsSubmitted}, Ordered.{IsOrdered, went_round}}, proofs.{Going.owning_on, Hinting.stretch_judged, Known.known_written, Marking.{known_then, mark_kept, mark_if, marked, was_marked}, Mine.live_mine, Changing.{OneGoesOn, all_go_one, changes_one, keeps_one, apart_number}, Conveying.{carried_judged, carried_ring}, Flown.FliesOn, Judging.{asks_after, cancel_decides, forgets_after, given_is, moved_bytes, moved_fits, moved_is, switched_is, total_fits}, ServingHolds.{Follows, KeepsBy}, Swept.RingAfter, Orders.{Eases, IsPartOf, TurnsAlike, alike_self, eased, eases_written, part_self}}}
 use Rattle.exec_serving.proofs.Whole.{whole_kept}
 
 -- THE OTHERS THAT HAVE LANDED have other numbers

@@ -5,7 +5,7 @@ use Rattle.exec_words.specs.Queue.{tail_of}
 use Rattle.exec_machine.specs.declared.{config.Configuration.Configuration, state.Rest.Rest}
 use Rattle.exec_moves.specs.declared.{handing.{InGlobal.InGlobal, InKick.InKick}, idling.{InLook.InLook, InRingWait.InRingWait, InScan.InScan}, place.{InClosing.InClosing, InMail.InMail, InService.InService, Place.Place}}
 use Rattle.exec_parts.{specs.{declared.parts.{seat.Seat.Seat as Chair, shared.Shared.Shared, worker.Worker.Worker}, Phased.{IsPhased, TurnsChair, stage_of, closes_at, closing_in}, Records.{rest_at, reached, roused}}, proofs.{Facts.same_thing, Showing.map_kept}}
-use Rattle.exec_invariants.{specs.{Holding.box_of, Places.is_armed_at, Sound.{Aims, AreHome, HasQueue, IsInTime, IsSeated, Sound, SoundAt}, Whole.{IsWhole, Profile}}, proofs.{Dedicated.as_long, Aside.{queue_of_chair, queues_set, whole_same}, PoolKept.{KeepsGate, KeepsGates}, Spared.there_within}}
+use Rattle.exec_invariants.{specs.{Holding.box_of, Places.is_armed_at, Sound.{Aims, AreHome, HasQueue, IsInTime, IsSeated, Sound, SoundAt}, Whole.{IsWhole, Profile}}, proofs.{Dedicated.as_long, Aside.{queue_of_chair, queues_set, whole_same}, PoolKept.{KeepsGate, KeepsGates}, SparedRecord.there_within}}
 
 abbrev pub rested : Rest → Chair → Chair
 rested x chair = record chair { rest = x }

@@ -10,7 +10,7 @@ use Rattle.exec_task.specs.declared.body.Said.{Said}
 use Rattle.exec_machine.specs.{declared.event.Event.{Event, TheVariants.Reap}, Requests.{judged_of, outcome_given}, Tests.{is_gated, is_of_file}}
 use Rattle.exec_moves.specs.{Seen.serves_at, Serve.{after_permit, back_from_reap, others_after_reap}, State.dropped, Thing.{set_wake_poll, with_ring}, declared.place.{Place.Place, Reaping.Reaping, Service.Service, InService.InService}}
 use Rattle.exec_parts.specs.{declared.parts.{mail.Reply.Reply, shared.Shared.Shared, worker.Worker.Worker}, Records.{number_in, outcome_in}, Serving.changed_at, Spots.Spot, View.{awaited_from, completions_in, numbers_of_passing, results_in, slots_seen, visible, with_view, own_of, desk_of, driver_of, number_told, numbers_of, things_with, trailing, wake_poll_in}}
-use Rattle.exec_invariants.{specs.{Due.may_be_due, Flown.operations, Gates.{IsKnown, at_gate}, Holding.{nap_of, thing_of}, Places.passes_at, Sound.{SoundAt, served_in}, Works.Steps}, proofs.{Mine.live_mine, Raising.poll_shows, Serving.{SparesRecords, at_large, balances_still, serves_to, IsServed, OthersKept, keeps_home, Follows, Keeps, KeepsBy, Serves, spares_one}, Changing.flying_after, Accounted.{OpensJudged, opens_judged}, Judging.{given_is, judged_same}, Lined.{gates_seen_same, map_changed, passing_same, was_sent}, Seeing.{desk_with, makes, own_with, served, shows}, Slotted.{awaited_written, slots_written}, Untold.keeps_untold}}
+use Rattle.exec_invariants.{specs.{Due.may_be_due, Flown.operations, Gates.{IsKnown, at_gate}, Holding.{nap_of, thing_of}, Places.passes_at, Sound.{SoundAt, served_in}, Works.Steps}, proofs.{Mine.live_mine, Raising.poll_shows, Serving.{SparesRecords, at_large, balances_still, spares_one}, ServingHolds.{serves_to, IsServed, OthersKept, keeps_home, Follows, Keeps, KeepsBy, Serves}, Changing.flying_after, Accounted.{OpensJudged, opens_judged}, Judging.{given_is, judged_same}, Lined.{gates_seen_same, map_changed, passing_same, was_sent}, Seeing.{desk_with, makes, own_with, served, shows}, Slotted.{awaited_written, slots_written}, Untold.keeps_untold}}
 use Rattle.exec_serving.proofs.{Requeued.{GoesBack, back_alike, back_waiter, goes_back, keeps_back, known_back}, Sweeping.follows_reap, Viewed.{common_back, may_back, moves_back}}
 
 -- WHERE IT LEADS

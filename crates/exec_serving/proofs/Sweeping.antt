@@ -8,7 +8,7 @@ use Rattle.exec_task.specs.declared.body.Said.{Said}
 use Rattle.exec_machine.specs.{declared.event.Event.{Event, TheVariants.Serve}}
 use Rattle.exec_moves.specs.{Seen.serves_at, Serve.{Ring, after_permit, others_after_reap, reap}, State.dropped, Thing.{ring_of, set_wake_poll, with_ring}, declared.place.{Reaping.Reaping, Service.Service, Place.Place, AfterPermit.AfterPermit, InService.InService}}
 use Rattle.exec_parts.specs.{declared.parts.{mail.Reply.Reply, shared.Shared.Shared, worker.Worker.Worker}, Serving.{AreTagged, cancels_in}, Spots.Spot, View.{visible, with_view, own_of, desk_of, driver_of, common_of, number_told, awaited_from, seat_seen, slots_seen, things_with, trailing, wake_poll_in}}
-use Rattle.exec_invariants.{specs.{Carried.those_of, Flown.operations, Due.may_be_due, Places.passes_at, Sound.{SoundAt, served_in}, Works.Steps}, proofs.{Keeping.{SameButRing, keeps_ring}, Raising.poll_shows, Seeing.{common_same, served}, Serving.{SparesRecords, at_large, balances_still, Follows, IsServed, Keeps, KeepsBy, Serves, serves_to, spares_same}, Shown.{makes, own_with}, Swept.{RingAfter, ring_none}, WokenSwept.sweeps}}
+use Rattle.exec_invariants.{specs.{Carried.those_of, Flown.operations, Due.may_be_due, Places.passes_at, Sound.{SoundAt, served_in}, Works.Steps}, proofs.{Keeping.{SameButRing, keeps_ring}, Raising.poll_shows, Seeing.{common_same, served}, Serving.{SparesRecords, at_large, balances_still, spares_same}, ServingHolds.{Follows, IsServed, Keeps, KeepsBy, Serves, serves_to}, Shown.{makes, own_with}, Swept.{RingAfter, ring_none}, WokenSwept.sweeps}}
 use Rattle.exec_serving.proofs.Entered.{ring_seen, ring_there}
 
 -- a driver after a sweep, where none has landed

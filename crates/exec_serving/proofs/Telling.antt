@@ -8,7 +8,7 @@ use Rattle.exec_task.specs.declared.body.Said.{Said}
 use Rattle.exec_machine.specs.{declared.{event.Event.{Event, TheVariants.Fire}, state.Sleeper.Sleeper}, Deadlines.is_none_earlier, Tests.{is_asleep, is_open}, World.{seat_of, sleeper_of}}
 use Rattle.exec_moves.specs.{Serve.{first_to_fire, is_to_fire}, Slots.first_in, Told.told_of_fire, declared.place.{AfterService.AfterService, Service.Service, Place.Place, InService.InService}}
 use Rattle.exec_parts.specs.{declared.parts.{mail.Reply.Reply, names.Names.Names, shared.Shared.Shared, record.Record.Record, sleeping.SleeperRecord.SleeperRecord, worker.Worker.Worker}, Phased.closes_at, Records.number_in, Calls.IsTold, Spots.Spot, View.{common_of, completions_in, desk_of, driver_of, own_of, slots_seen, things_with, visible, with_view}}
-use Rattle.exec_invariants.{specs.{Due.IsDue, HoldPlaces.{has_wakes_at, is_bare_at}, Places.passes_at, Rooted.{IsRooted, Watches}, Sound.{HasWidth, IsNamed, SoundAt, served_in, tellers}, Works.Steps}, proofs.{Fired.{asleep_still, fires, le_is, other_there}, FiringNames.removed_past, FiringSeen.{desk_fired, earliest, is_first, not_before, one_bed, until}, FiringSlots.{OneBed, first_is}, Seats.own_seat, Seen.sleeper_at, Seeing.{makes, served, things_kept}, Serving.{IsServed, Keeps, KeepsBy, OthersKept, Serves, SparesRecords, at_large, calm, kept, serves_to, spares_sleeper}, Turning.view_found}}
+use Rattle.exec_invariants.{specs.{Due.IsDue, HoldPlaces.{has_wakes_at, is_bare_at}, Places.passes_at, Rooted.{IsRooted, Watches}, Names.{HasWidth, IsNamed, tellers}, Sound.{SoundAt, served_in}, Works.Steps}, proofs.{Fired.{asleep_still, fires, le_is, other_there}, FiringNames.removed_past, FiringSeen.{desk_fired, earliest, is_first, not_before, one_bed, until}, FiringSlots.{OneBed, first_is}, Seats.own_seat, Seen.sleeper_at, Seeing.{makes, served, things_kept}, ServingHolds.{IsServed, Keeps, KeepsBy, OthersKept, Serves, serves_to}, Serving.{SparesRecords, at_large, kept, spares_sleeper}, ServingPlaces.calm, Turning.view_found}}
 use Rattle.exec_serving.proofs.{FiringHolds.balances_fired, FiringRooted.{rooted_fired, told_less, unpaid, unsent, wide_less}}
 
 -- A SLEEPER IS TOLD

@@ -6,7 +6,7 @@ use Rattle.exec_task.specs.declared.body.Said.{Said}
 use Rattle.exec_machine.specs.{declared.event.Event.{Event, TheVariants.Turn}, After.common_after, Choice.Choice.Plain, Progress.Plan, Ranges.ring_size}
 use Rattle.exec_moves.specs.{declared.{idling.{Stay.Stay, AfterWait.AfterWait, InRingWait.InRingWait}, place.{AfterService.AfterService, Place.Place}}, Callback.serve, Load.has_submissions, Move.move_at, Seen.polls_at, State.{Desk, Moved, Things, turns}, Submit.one_more, Thing.aside, Wait.after_wait}
 use Rattle.exec_parts.specs.{declared.parts.{mail.Reply.Reply, role.Role.Role, seat.Seat.Seat as Chair, shared.Shared.Shared, worker.Worker.Worker}, Roles.is_pool, Spots.Spot, Tests.{TestsRing, after_wait_of, is_unready, polled_by}, View.{Views, visible, with_view, driver_of, own_of, desk_of, common_of, awaited_from, slots_seen, things_with, trailing}}
-use Rattle.exec_invariants.{specs.{Kinds.Kind, Places.{claims_at, drops_at, has_count_at, is_published_at}, Sound.SoundAt, Works.{Beside, Suits, Steps, Works}}, proofs.{Aside.seats_same, Dedicated.past_pool, Hearing.unheard, Keeping.{SameButRing, keeps_ring, same_ring}, PoolKept.gates_same, Queueing.if_either, Seeing.{makes, own_with, visible_with}, Serving.{spares_same, Follows, Keeps, KeepsBy, Serves, serves_to, sound_again}, Standing.submissions_seen, Turning.{GoesOn, IsTurn, Keeps as Holds, set_found, sound_on, view_found}}}
+use Rattle.exec_invariants.{specs.{Kinds.Kind, Places.{claims_at, drops_at, has_count_at, is_published_at}, Sound.SoundAt, Works.{Beside, Suits, Steps, Works}}, proofs.{Aside.seats_same, Dedicated.past_pool, Hearing.unheard, Keeping.{SameButRing, keeps_ring, same_ring}, PoolKept.gates_same, Queueing.if_either, Seeing.{makes, own_with, visible_with}, Serving.{spares_same, sound_again}, ServingHolds.{Follows, Keeps, KeepsBy, Serves, serves_to}, Standing.submissions_seen, Turning.{GoesOn, IsTurn, Keeps as Holds, set_found, sound_on, view_found}}}
 use Rattle.exec_serving.proofs.{Ceasing.poll_by, Unposted.beside_unposted, Waiting.{Arms, after_arms, arrives_armed, wait_over_seen}}
 
 -- BY THE THREE TESTS: something is to be submitted, the wake poll is there, and the submission queue is full

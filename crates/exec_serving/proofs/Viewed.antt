@@ -1,5 +1,5 @@
 -- What the machine sees of an operation that was reaped, whether its request goes on or ends.
-use Rattle.std.proofs.{Common.{◌≡◌, ℕ, ◌-◌, ◌==◌, ◌&&◌, Bool, true, false, List, ◌∷◌, map, Option, None, refl, sym, ap, ◌∙◌, slice_get, slice_set, drop, if◌then◌else◌}, lemmas.Bool.eq-eqb}
+use Rattle.std.proofs.{Common.{◌≡◌, ℕ, ◌==◌, ◌&&◌, Bool, true, false, List, ◌∷◌, map, Option, None, refl, sym, ap, ◌∙◌, slice_get, slice_set, drop, if◌then◌else◌}, lemmas.Bool.eq-eqb}
 use Rattle.exec_outcomes.specs.{Accounts.is_durable, Outcomes.refuses_hint, declared.outcome.OpResult.{OpResult, TheVariants.{Count, Errno}}}
 use Rattle.exec_ring.specs.{Completions.result_in, declared.completion.Completion.Completion}
 use Rattle.exec_task.specs.declared.body.Said.{Said}

@@ -1,134 +1,18 @@
 -- A STEP OF ANOTHER PARTY keeps what is sound of a worker: it leaves what the worker alone touches, and of what is shared
 -- what it relies on.
-use Rattle.std.proofs.{Common.{◌≡◌, ℕ, ◌-◌, ◌*◌, ◌^◌, ◌<◌, ◌≤◌, ◌&&◌, nat_lt, Bool, true, false, List, [], length, Option, Some, None, sym, ap, subst, ◌∙◌, ⊎_elim, arith, inl, inr, slice_get, if◌then◌else◌, refl, ◌+◌, ◌⊎◌}, lemmas.{Bool.{cases_lt, false≢true}, List.length-drop, Nat.mod_below, Option.slice_get_within}}
+use Rattle.std.proofs.{Common.{◌≡◌, ℕ, ◌*◌, ◌^◌, ◌<◌, ◌≤◌, ◌&&◌, nat_lt, Bool, true, false, [], length, Option, Some, None, sym, ap, subst, ◌∙◌, ⊎_elim, arith, inl, inr, slice_get, refl, ◌+◌}, lemmas.{Bool.{cases_lt, false≢true}, Option.slice_get_within}}
 use Rattle.exec_base.specs.{Slab.IsPast, declared.slab.Id.Id}
 use Rattle.exec_request.specs.declared.request.Request.{Request as Asking}
 use Rattle.exec_waiters.specs.{Ids.user_data_of, States.{pending_count, waiter_at}, declared.waiter.Waiter.Waiter}
-use Rattle.exec_driver.specs.Steps.{bytes_left}
-use Rattle.exec_words.specs.{Head.is_spent, Queue.{Queue, claimed, released, room_of, tail_of}, declared.head.Head.Head}
+use Rattle.exec_driver.specs.Footprints.{bytes_left}
 use Rattle.exec_task.specs.{TaskSet.shard_at, declared.{runnable.Runnable.Runnable, drain.Drain.Drain}}
 use Rattle.exec_task.specs.TaskSet.{Set}
-use Rattle.exec_machine.specs.{declared.{config.Configuration.Configuration, state.Waiting.Waiting}, Tests.{has_ended, is_open}}
-use Rattle.exec_moves.specs.{Search.from_of, Seen.polls_at, declared.{handing.{AfterCancels.AfterCancels, AfterPop.AfterPop, AfterSend.AfterSend, AfterSignal.AfterSignal, InGlobal.InGlobal, InKick.InKick, InPop.InPop, InPush.InPush}, idling.{InLook.InLook, InRingWait.InRingWait, InScan.InScan, Scan.Scan}, place.{InClosing.InClosing, InMail.InMail, InPick.InPick, InPoll.InPoll, InService.InService, Place.Place}}}
+use Rattle.exec_machine.specs.{declared.state.Waiting.Waiting, Tests.{has_ended, is_open}}
+use Rattle.exec_moves.specs.{Seen.polls_at, declared.{handing.{AfterCancels.AfterCancels, AfterPop.AfterPop, AfterSend.AfterSend, AfterSignal.AfterSignal}, place.{InClosing.InClosing, InPoll.InPoll, Place.Place}}}
 use Rattle.exec_parts.{specs.{declared.parts.{mail.{Reply.Reply, Subject.Subject}, record.Record.Record, seat.Seat.Seat as Chair, shared.Shared.Shared, task_slot.TaskSlot.TaskSlot, worker.Worker.Worker}, Phased.{HasPassed, IsPhased, IsPrepared, closes_at, closing_in, has_left, has_stopped, root_over, stage_of}, Records.number_in, MailPosts.IsMailbox, View.driver_of}, proofs.Facts.by_number}
 use Rattle.exec_polling.specs.Calling.{HoldsForAll}
-use Rattle.exec_invariants.{specs.{Carried.{Carried, HasStretchFor, IsUnderWay}, Due.IsDue, Gates.{IsKnown, has_hint_at, may_ask_hint}, HoldPlaces.{cancels_at, heard_at, sends_cancel_at}, Places.{begins_at, is_armed_at, is_pooled_at, step_of_poll}, Sound.{Aims, HasGuest, HasLetters, HasQueue, HasRunnable, IsGuest, IsHeld, IsSeated, MayClaim, SoundAt, Stops, StopsIn, root_in_hand, served_in}, Spares.{Spares, SparesChair, SparesMore, SparesRecord, Thins}}, proofs.{Dedicated.{by_length, chair_of_pool}, Spared.{KeepsMine, sleepers_stay, asleep_apart, flown_apart, heard_apart, letter_apart, live_of, mail_apart, named_apart, over_apart, record_back, rooted_apart, stops_apart, there_within, timed_apart}}}
-
--- THE OWN RUN QUEUE, of which a thief takes values, or gives places free
-
-pub held_kept : (q q' : Queue Runnable) → Thins q q' → q'.held ≡ q.held
-held_kept q q' t =
-    elim t [
-      | inl same ↦ ap (λ x. x.held) same
-      | inr (inl c) ↦ ap (λ x. x.held) c.4
-      | inr (inr r) ↦ ap (λ x. x.held) r.1
-    ]
-
-pub tail_kept : (q q' : Queue Runnable) → Thins q q' → tail_of q' ≡ tail_of q
-tail_kept q q' t =
-    elim t [
-      | inl same ↦ ap tail_of same
-      | inr (inl c) ↦ ap tail_of c.4 ∙ omega (arith, length-drop c.0 q.values, c.2)
-      | inr (inr r) ↦ ap tail_of r.1
-    ]
-
-more_room : (b : Bool) (x y : ℕ) → x ≤ y → (if b then 0 else x) ≤ (if b then 0 else y)
-more_room true x y h = omega arith
-more_room false x y h = h
-
-room_claimed : (q : Queue Runnable) (n : ℕ) → n < length q.values → q.gap ≡ 0 → room_of q ≤ room_of (claimed q n)
-room_claimed q n few unclaimed =
-    let tail : tail_of (claimed q n) ≡ tail_of q = omega (arith, length-drop n q.values, few) in
-    rw tail (more_room (is_spent (tail_of q)) _ _ (omega (arith, few, unclaimed)))
-
-room_released : (q : Queue Runnable) → room_of q ≤ room_of (released q)
-room_released q = more_room (is_spent (tail_of q)) _ _ (omega arith)
-
-pub room_grows : (q q' : Queue Runnable) → Thins q q' → room_of q ≤ room_of q'
-room_grows q q' t =
-    elim t [
-      | inl same ↦ subst (λ x. room_of q ≤ room_of x) (sym same) (omega arith)
-      | inr (inl c) ↦ subst (λ x. room_of q ≤ room_of x) (sym c.4) (room_claimed q c.0 c.2 c.3)
-      | inr (inr r) ↦ subst (λ x. room_of q ≤ room_of x) (sym r.1) (room_released q)
-    ]
-
--- a lone value stays, and an empty queue stays empty
-lone_stays : (q q' : Queue Runnable) → Thins q q' → (length q.values ≡ 1) × (q.gap ≡ 0) → (length q'.values ≡ 1) × (q'.gap ≡ 0)
-lone_stays q q' t lone =
-    elim t [
-      | inl same ↦ subst (λ x. (length x.values ≡ 1) × (x.gap ≡ 0)) (sym same) lone
-      | inr (inl c) ↦ absurd (omega (arith, c.1, lone.0))
-      | inr (inr r) ↦ absurd (omega (arith, r.0, lone.1))
-    ]
-
-empty_stays : (q q' : Queue Runnable) → Thins q q' → q.values ≡ [] → q'.values ≡ []
-empty_stays q q' t none =
-    elim t [
-      | inl same ↦ ap (λ x. x.values) same ∙ none
-      | inr (inl c) ↦ absurd (omega (arith, c.1, ap length none))
-      | inr (inr r) ↦ ap (λ x. x.values) r.1 ∙ none
-    ]
-
-pub queue_apart : (p : Place) (q q' : Queue Runnable) → Thins q q' → HasQueue p q → HasQueue p q'
-queue_apart (Place.Pick (InPick.TakeShare first room held)) q q' t h = (held_kept q q' t ∙ h.0, omega (arith, h.1, room_grows q q' t))
-queue_apart (Place.Pop (InPop.ExchangePop head) b) q q' t h = (held_kept q q' t ∙ h.0, omega (arith, h.1, tail_kept q q' t))
-queue_apart (Place.Pop InPop.StorePop b) q q' t h =
-    let lone = lone_stays q q' t (h.1, h.2) in
-    (held_kept q q' t ∙ h.0, lone.0, lone.1)
-queue_apart (Place.Push (InPush.StoreValue n) b) q q' t h = (held_kept q q' t ∙ h.0, omega (arith, h.1, room_grows q q' t))
-queue_apart (Place.Push (InPush.FlowOver head) b) q q' t h =
-    let tail : tail_of q' ≡ tail_of q = tail_kept q q' t in
-    (held_kept q q' t ∙ h.0, h.1 ∙ sym tail, ap is_spent tail ∙ h.2, h.3)
-queue_apart (Place.Push InPush.StoreOldest b) q q' t h = empty_stays q q' t h
-queue_apart (Place.Scan InScan.LoadScanHead) q q' t h = held_kept q q' t ∙ h
-queue_apart (Place.Scan x) q q' t h = (held_kept q q' t ∙ h.0, omega (arith, h.1, room_grows q q' t))
-queue_apart _ q q' t h = held_kept q q' t ∙ h
-
--- OTHER RUN QUEUES, whose tails only grow
-
-claim_apart : (i from : ℕ) (h : Head) (tail : ℕ) (seats seats' : List Chair) → from < length seats
-    → ((k : ℕ) (chair chair' : Chair) → slice_get seats k ≡ Some chair → slice_get seats' k ≡ Some chair' → tail_of chair.queue ≤ tail_of chair'.queue)
-    → MayClaim i from h tail seats → MayClaim i from h tail seats'
-claim_apart i from h tail seats seats' inside tails may =
-    record {
-      other = may.other;
-      unclaimed = may.unclaimed;
-      some = may.some;
-      most = may.most;
-      behind = λ chair' there'.
-          let old : (chair : Chair) × (slice_get seats from ≡ Some chair) = there_within seats from inside in
-          omega (arith, may.behind old.0 old.1, tails from old.0 chair' old.1 there');
-    }
-
--- a scan stays within the pool
-scan_within : (c : Configuration) (x : Scan) → x.start < c.workers → from_of c x < c.workers
-scan_within c x some = mod_below (x.start + x.passed) c.workers (omega (arith, some))
-
-pub aims_apart : (p : Place) (c : Configuration) (i : ℕ) (seats seats' : List Chair) → length seats ≤ length seats' → c.workers ≤ length seats
-    → ((k : ℕ) (chair chair' : Chair) → slice_get seats k ≡ Some chair → slice_get seats' k ≡ Some chair' → tail_of chair.queue ≤ tail_of chair'.queue)
-    → Aims p c i seats → Aims p c i seats'
-aims_apart (Place.Scan (InScan.ClaimHalf x h tail)) c i seats seats' more many tails aims =
-    (claim_apart i (from_of c x) h tail seats seats' (omega (arith, scan_within c x aims.1.0, many)) tails aims.0, aims.1)
-aims_apart (Place.Signal x j b) c i seats seats' more many tails aims = (omega (arith, aims.0, more), aims.1)
-aims_apart (Place.Service (InService.Signal j b) v) c i seats seats' more many tails aims = omega (arith, aims, more)
-aims_apart (Place.Service (InService.Raise ring j b) v) c i seats seats' more many tails aims = omega (arith, aims, more)
-aims_apart (Place.Service x v) c i seats seats' more many tails aims = tt
-aims_apart (Place.Scan (InScan.LoadTheirHead x)) c i seats seats' more many tails aims = aims
-aims_apart (Place.Scan (InScan.LoadTheirTail x h)) c i seats seats' more many tails aims = aims
-aims_apart (Place.Look (InLook.LookAtHead j)) c i seats seats' more many tails aims = aims
-aims_apart (Place.Look (InLook.LookAtTail j h)) c i seats seats' more many tails aims = aims
-aims_apart (Place.Kick (InKick.ExchangeKickCount set) b) c i seats seats' more many tails aims = aims
-aims_apart (Place.Global (InGlobal.AddGlobalCount set) b) c i seats seats' more many tails aims = aims
-aims_apart (Place.Mail (InMail.Apply applied taken)) c i seats seats' more many tails aims = aims
-aims_apart (Place.Closing InClosing.CloseQueue) c i seats seats' more many tails aims = aims
-aims_apart (Place.Closing InClosing.OpenBarrier) c i seats seats' more many tails aims = aims
-aims_apart (Place.Closing InClosing.Stop) c i seats seats' more many tails aims = aims
-aims_apart (Place.Closing (InClosing.TellRoot j)) c i seats seats' more many tails aims = aims
-aims_apart (Place.Scan (InScan.MoveHalf from h)) c i seats seats' more many tails aims = aims
-aims_apart (Place.Scan (InScan.ReleaseHalf from h)) c i seats seats' more many tails aims = aims
-aims_apart (Place.RingWait (InRingWait.DisarmRing n) x) c i seats seats' more many tails aims = aims
-aims_apart (Place.ClaimWorker set b) c i seats seats' more many tails aims = aims
-aims_apart _ c i seats seats' more many tails aims = tt
+use Rattle.exec_invariants.{specs.{Carried.{Carried, HasStretchFor, IsUnderWay}, Due.IsDue, Gates.{IsKnown, has_hint_at, may_ask_hint}, HoldPlaces.{cancels_at, heard_at, sends_cancel_at}, Places.{begins_at, is_armed_at, is_pooled_at, step_of_poll}, Sound.{HasGuest, HasLetters, HasQueue, HasRunnable, IsGuest, IsHeld, IsSeated, SoundAt, Stops, StopsIn, root_in_hand, served_in}, Spares.{Spares, SparesChair, SparesMore, SparesRecord}}, proofs.{Dedicated.{by_length, chair_of_pool}, Spared.{KeepsMine, asleep_apart, flown_apart, heard_apart, letter_apart, mail_apart, named_apart, over_apart, record_back, rooted_apart, stops_apart, timed_apart}, SparedRecord.{sleepers_stay, live_of, there_within}}}
+use Rattle.exec_steps.proofs.ApartQueues.{queue_apart, aims_apart}
 
 -- WHERE A CLOSING IS
 

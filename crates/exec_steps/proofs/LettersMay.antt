@@ -1,6 +1,6 @@
 -- WHAT A WORKER OWES OTHERS of what a task held may be sent: each letter is under way once, in the worker's own hand, so it is in no
 -- inbox, and the inbox that it goes to has a place for it.
-use Rattle.std.proofs.{Common.{◌≡◌, ◌≢◌, ℕ, ◌+◌, ◌<◌, ◌≤◌, Bool, true, false, Contains, List, [], ◌∷◌, ◌++◌, count_by, length, map, Option, Some, None, refl, sym, ap, subst, ◌∙◌, arith, slice_get, slice_index_or, option_map, option_to_list}, lemmas.{Bool.false≢true, List.length-map}}
+use Rattle.std.proofs.{Common.{◌≡◌, ℕ, ◌+◌, ◌<◌, ◌≤◌, Bool, true, false, Contains, List, [], ◌∷◌, ◌++◌, count_by, length, map, Option, Some, None, refl, sym, ap, subst, ◌∙◌, arith, slice_get, slice_index_or, option_map, option_to_list}, lemmas.{Bool.false≢true, List.length-map}}
 use Rattle.exec_words.specs.{Inbox.{is_wake_root, spare_places}, declared.inbox.Message.{Message}}
 use Rattle.exec_machine.specs.{declared.state.MailMessage.TheVariants.{CancelRequest, CancelTimer}, Tests.is_empty}
 use Rattle.exec_moves.specs.{declared.{handing.AfterCancels.AfterCancels, place.Place.Place}, Send.{first_letter, no_letter}}

@@ -13,3 +13,5 @@ pub mod Together
 pub mod CallNext
 pub mod LettersMay
 pub mod SendLetters
+pub mod ApartQueues
+pub mod SignalWays

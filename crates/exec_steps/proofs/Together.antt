@@ -4,7 +4,7 @@ use Rattle.exec_machine.specs.declared.{config.Configuration.Configuration, even
 use Rattle.exec_moves.specs.{Seen.polls_at, declared.handing.{CallPlace.CallPlace, InGlobal.InGlobal}}
 use Rattle.exec_parts.{specs.{declared.parts.{seat.Seat.Seat as Chair, shared.Shared.Shared, worker.Worker.Worker}, MailPosts.{HaveMailboxes, IsMailbox}}, proofs.Facts.{by_number, same_number, same_thing, set_elsewhere, set_there}}
 use Rattle.exec_polling.{specs.{declared.caller.Caller.Caller, Calling.{CallAims, CallBeside, CallSound, HasCallWhole, HoldsForAll, has_count_in, with_caller}}, proofs.Outsiders.no_other}
-use Rattle.exec_invariants.{specs.{Places.{claims_at, clears_at, drops_at, has_count_at, is_published_at, one_if}, Sound.{AreHome, Sound}, Spares.{Spares, SparesMore}, Holding.mail_in, Whole.{HasWhole, IsWhole, Profile, is_number, mail_with, runnables_in, wakes_with, with_worker}, Works.{Beside, BesideNewcomer}}, proofs.{Counting.at_most, Spared.there_within}}
+use Rattle.exec_invariants.{specs.{Places.{claims_at, clears_at, drops_at, has_count_at, is_published_at, one_if}, Sound.{AreHome, Sound}, Spares.{Spares, SparesMore}, Holding.mail_in, Whole.{HasWhole, IsWhole, Profile, is_number, mail_with, runnables_in, wakes_with, with_worker}, Works.{Beside, BesideNewcomer}}, proofs.{Counting.at_most, SparedRecord.there_within}}
 use Rattle.exec_steps.{specs.Together.{StandTogether, all_have, callers_have}, proofs.Apart.{apart, holds_for_all, with_more}}
 
 -- NUMBERS

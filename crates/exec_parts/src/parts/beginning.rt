@@ -23,10 +23,10 @@ use exec_words::HALF;
 use exec_words::reserved::Reserved;
 use std::alloc::{AllocError, Global};
 
-/// The driver of a worker of an executor.
 /// So much may be told before anything was made: once by each message of a turn, and once more.
 const FIRST_TOLD: usize = 65;
 
+/// The driver of a worker of an executor.
 type OwnDriver = Driver<SimRing, Reply, Reply>;
 
 impl Worker {

@@ -1,6 +1,6 @@
 use Rattle.std.proofs.lemmas.Option.{slice_get_within}
-use Rattle.exec_closing.proofs.{ClosesMail.mailbox_closed, ClosingOrphan.request_orphaned, ClosingSleeper.sleeper_let_go, LetsMay.{may_close_sleeper, may_orphan}, Parting.{barrier_left, worker_ended}, Stopping.{has_root_place, root_told}, TaskCleared.{may_clear, task_cleared}, Visiting.shard_visited}
-use Rattle.exec_invariants.proofs.{Closes.{closing_began, queue_closed, barrier_opened, pool_stopped}, FiringRemoved.removes_seen, TaskOverLets.lets_seen}
+use Rattle.exec_closing.proofs.{ClosesMail.mailbox_closed, ClosingOrphan.request_orphaned, ClosingSleeper.sleeper_let_go, LetsMay.{may_close_sleeper, may_orphan}, Parting.{barrier_left, worker_ended}, Stopping.{has_root_place, root_told}, TaskCleared.task_cleared, TaskClearing.may_clear, Visiting.shard_visited}
+use Rattle.exec_invariants.proofs.{Closes.closing_began, ClosesPool.{queue_closed, barrier_opened, pool_stopped}, FiringRemoved.removes_seen, TaskOverLets.lets_seen}
 use Rattle.exec_closing.proofs.closing.close_down.Goals as goal
 
 pub returns-in-Close : goal.returns-in-Close

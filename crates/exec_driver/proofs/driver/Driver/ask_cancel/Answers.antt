@@ -1,5 +1,5 @@
-use Rattle.std.proofs.Common.{◌≡◌, Some, sym, ap, ◌∙◌, rules, refl}
-use Rattle.exec_driver.proofs.{Words.{cancelled, waiter_at, tick_in, tick_of, cancelling}, Endings.{flying_there, ticked, changed_is, cancelled_before, unasked, asked, held_cancelling, room_to_cancel}}
+use Rattle.std.proofs.Common.{◌≡◌, sym, ap, ◌∙◌, refl}
+use Rattle.exec_driver.proofs.{Words.{cancelled, waiter_at, tick_in, tick_of}, Endings.{flying_there, ticked, changed_is, cancelled_before, unasked, asked, held_cancelling, room_to_cancel}}
 use Rattle.exec_driver.proofs.driver.Driver.ask_cancel.Goals as goal
 
 pub unschedule-requires : goal.unschedule-requires

@@ -1,4 +1,4 @@
-use Rattle.std.proofs.Common.{◌≡◌, Some, sym, ◌∙◌}
+use Rattle.std.proofs.Common.{sym, ◌∙◌}
 use Rattle.exec_waiters.specs.States.{waiter_at}
 use Rattle.exec_driver.proofs.Endings.{pending_there, told_idle}
 use Rattle.exec_driver.proofs.driver.Driver.cancel.Goals as goal

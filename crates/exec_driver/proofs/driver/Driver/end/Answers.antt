@@ -1,4 +1,4 @@
-use Rattle.std.proofs.Common.{◌≡◌, Some, sym, ap, ◌∙◌}
+use Rattle.std.proofs.Common.{◌≡◌, Some, ap, ◌∙◌}
 use Rattle.exec_driver.proofs.Words.{waiter_at, file_of, file_in, account_in}
 use Rattle.exec_driver.proofs.driver.Driver.end.Goals as goal
 

@@ -1,5 +1,4 @@
-use Rattle.std.proofs.Common.{◌≡◌, Some, sym, ap, ◌∙◌, rules}
-use Rattle.exec_driver.proofs.{Words.{wheel_of, seen}, Endings.{idle_there, ticked, held_ended}}
+use Rattle.exec_driver.proofs.{Endings.{idle_there, ticked, held_ended}}
 use Rattle.exec_driver.proofs.driver.Driver.end_with.Goals as goal
 
 pub unschedule-requires : goal.unschedule-requires

@@ -1,4 +1,3 @@
-use Rattle.std.proofs.Common.{◌≡◌, ap}
 use Rattle.exec_driver.specs.Driving.{seen}
 use Rattle.exec_driver.proofs.{Serving.goes_by, Turns.enter_any}
 use Rattle.exec_driver.proofs.driver.Driver.enter_if.Goals as goal

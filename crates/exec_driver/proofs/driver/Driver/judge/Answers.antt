@@ -1,4 +1,4 @@
-use Rattle.std.proofs.Common.{◌≡◌, Some, None, true, false, sym, ap, ◌∙◌, refl, rules}
+use Rattle.std.proofs.Common.{◌≡◌, Some, None, false, sym, ap, ◌∙◌, refl, rules}
 use Rattle.exec_driver.proofs.{Words.{is_some, is_durable, Asked, asked_of, hinted_of, result_in, wheel_of, may_complete, waiter_at, file_of, file_in, gate_in, account_in, with_account, open_after}, Endings.one_changed, Reaping.{held_taken, held_landed, held_requeued, room_to_queue, permit_of, goes_on_uncancelled, named_there, landed_of, landed_permit, requeue_tells, complete_tells, outcome_same, none_named, none_given, some_given, tells_nothing, kept_of_open, told_over, ended_over, tells_over}, Arriving.durable_gated, Granting.same_some, Windows.{asked_same, file_same}}
 use Rattle.exec_request.specs.{Judging.judged_as, Requests.cursor_of, States.told_by}
 use Rattle.exec_waiters.proofs.Changes.{name_tells}

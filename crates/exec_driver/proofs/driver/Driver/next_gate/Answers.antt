@@ -1,4 +1,4 @@
-use Rattle.std.proofs.Common.{◌≡◌, ◌<◌, ◌≤◌, length, refl, ap, sym, ◌∙◌, arith}
+use Rattle.std.proofs.Common.{◌≡◌, ◌<◌, ◌≤◌, length, refl, ap, ◌∙◌, arith}
 use Rattle.exec_driver.proofs.{Words.{gate_in, waiter_at, lower}, Gates.{gate_step, gate_end}}
 use Rattle.exec_driver.proofs.driver.Driver.next_gate.Goals as goal
 

@@ -1,4 +1,4 @@
-use Rattle.std.proofs.Common.{◌-◌, arith}
+use Rattle.std.proofs.Common.{arith}
 use Rattle.exec_driver.proofs.Admitting.{taken_few, needed_few, held_places}
 use Rattle.exec_driver.proofs.driver.Driver.trim.Goals as goal
 

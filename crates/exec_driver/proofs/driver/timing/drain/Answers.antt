@@ -1,4 +1,4 @@
-use Rattle.std.proofs.Common.{◌≡◌, refl, ap, sym, ◌∙◌, arith}
+use Rattle.std.proofs.Common.{arith}
 use Rattle.exec_driver.proofs.Advancing.{falling_next}
 use Rattle.exec_driver.proofs.driver.timing.drain.Goals as goal
 

@@ -1,4 +1,4 @@
-use Rattle.std.proofs.Common.{◌≡◌, true, rules, sym, ap, ◌∙◌, refl}
+use Rattle.std.proofs.Common.{◌≡◌, true, rules, ◌∙◌, refl}
 use Rattle.exec_driver.proofs.{Words.{is_some, waiter_at, tick_of, is_enrolled}, Shifts.room_here, Timing.enrolled_is}
 use Rattle.exec_driver.proofs.driver.timing.fall_due.Goals as goal
 

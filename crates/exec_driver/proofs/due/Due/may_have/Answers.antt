@@ -1,6 +1,5 @@
-use Rattle.std.proofs.Common.{◌≡◌, ◌<◌, ◌∙◌, sym, arith}
+use Rattle.std.proofs.Common.{◌∙◌, sym, arith}
 use Rattle.std.proofs.lemmas.Bool.Decides.{nat_tests}
-use Rattle.exec_driver.specs.Due.{in_slot}
 use Rattle.exec_driver.proofs.Slots.{read_count, none_in_slot}
 use Rattle.exec_driver.proofs.due.Due.may_have.Goals as goal
 

@@ -1,6 +1,4 @@
-use Rattle.std.proofs.Common.{◌≡◌, ◌+◌, ◌<◌, ◌≤◌, length, ap, ◌∙◌, sym, refl, arith}
-use Rattle.exec_waiters.specs.declared.waiter_id.WaiterId.{WaiterId}
-use Rattle.exec_driver.specs.Due.{in_slot, AreCounted}
+use Rattle.std.proofs.Common.{◌+◌, ◌<◌, length, ap, ◌∙◌, sym, arith}
 use Rattle.exec_driver.proofs.Slots.{in_slot_within, read_count, counted_set, counted_beyond, pushed_here, pushed_elsewhere}
 use Rattle.exec_driver.proofs.due.Due.push.Goals as goal
 

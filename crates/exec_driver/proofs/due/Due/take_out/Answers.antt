@@ -1,10 +1,11 @@
-use Rattle.std.proofs.Common.{◌≡◌, ◌+◌, ◌-◌, ◌<◌, ◌≤◌, length, ap, ◌∙◌, sym, refl, arith}
-use Rattle.exec_driver.specs.{Lists.{without}, Due.{in_slot, AreCounted}}
-use Rattle.exec_driver.proofs.Slots.{in_slot_within, read_count, counted_set, counted_beyond, in_slot_without, in_other_slot, length_without, same_without}
+use Rattle.std.proofs.Common.{◌≡◌, ◌+◌, ◌-◌, ◌<◌, ◌≤◌, length, sym, refl, arith}
+use Rattle.exec_driver.specs.{Due.{in_slot}}
+use Rattle.exec_driver.proofs.Shifts.{unchanged}
+use Rattle.exec_driver.proofs.Slots.{read_count, counted_set, counted_beyond, in_slot_without, in_other_slot, length_without}
 use Rattle.exec_driver.proofs.due.Due.take_out.Goals as goal
 
 pub returns-then-not-may_have-clause-names : goal.returns-then-not-may_have-clause-names
-returns-then-not-may_have-clause-names c = same_without c.args.id c.args.self.now.names.items (c.if-not-may_have.ensures refl)
+returns-then-not-may_have-clause-names c = sym (unchanged c.args.id c.args.self.now.names.items (c.if-not-may_have.ensures refl))
 
 pub overflow_sub-before : goal.overflow_sub-before
 overflow_sub-before c =

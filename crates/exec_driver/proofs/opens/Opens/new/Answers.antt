@@ -1,4 +1,4 @@
-use Rattle.std.proofs.Common.{◌≡◌, List, [], ◌∷◌, ◌++◌, refl, sym, ap, ◌∙◌, arith}
+use Rattle.std.proofs.Common.{◌≡◌, List, [], ◌∷◌, ◌++◌, ap, ◌∙◌, arith}
 use Rattle.std.proofs.lemmas.List.{replicate_more}
 use Rattle.exec_driver.specs.Opens.{OpenState, fresh_open}
 use Rattle.exec_driver.proofs.opens.Opens.new.Goals as goal

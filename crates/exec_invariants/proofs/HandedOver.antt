@@ -1,0 +1,73 @@
+-- What a take of the mailbox hands over, by what is there.
+use Rattle.std.proofs.Common.{◌≡◌, ℕ, zero, suc, ◌+◌, ◌≤◌, List, [], ◌∷◌, map, Some, refl, ap, ◌∙◌, arith, slice_get, slice_set, if◌then◌else◌}
+use Rattle.exec_words.specs.{Inbox.{Inbox, batch_handed, batch_taken, has_any}, Reserved.Reserved, Word.next_batch, declared.inbox.Message.Message}
+use Rattle.exec_moves.specs.declared.place.Place.{Place}
+use Rattle.exec_parts.specs.{declared.parts.{mail.Subject.Subject, record.Record.Record, seat.Seat.Seat as Chair, sleeping.SleeperRecord.SleeperRecord, worker.Worker.Worker}, Calls.IsTold, View.{Visible, driver_of, polls_seen, raised_times, seat_seen, seats_seen}}
+use Rattle.exec_invariants.{specs.{Holding.{IsAbout, IsOf, Mail, nap_of, thing_of}, Places.{claims_at, drops_at, has_count_at, is_published_at}, Sound.{IsMineIn, IsMyMail}, Names.tellers}, proofs.{Lined.unmapped, Resolving.places_fewer, Turning.IsTurn}}
+
+-- WHAT A TAKE HANDS OVER, by what is there
+
+pub taken_none : (i : Inbox Subject Subject) (b : Reserved Mail) → i.messages ≡ [] → batch_taken i b ≡ i
+taken_none i b none = ap (λ h. if h then record i { messages = []; places = b.places; taken = next_batch i.taken } else i) (ap has_any none)
+
+pub taken_some : (i : Inbox Subject Subject) (b : Reserved Mail) (m : Mail) (ms : List Mail) → i.messages ≡ m ∷ ms → batch_taken i b ≡ record i { messages = []; places = b.places; taken = next_batch i.taken }
+taken_some i b m ms some = ap (λ h. if h then record i { messages = []; places = b.places; taken = next_batch i.taken } else i) (ap has_any some)
+
+pub handed_none : (i : Inbox Subject Subject) (b : Reserved Mail) → i.messages ≡ [] → batch_handed i b ≡ b
+handed_none i b none = ap (λ h. if h then record { values = i.messages; places = i.places } else b) (ap has_any none)
+
+pub handed_some : (i : Inbox Subject Subject) (b : Reserved Mail) (m : Mail) (ms : List Mail) → i.messages ≡ m ∷ ms → batch_handed i b ≡ record { values = i.messages; places = i.places }
+handed_some i b m ms some = ap (λ h. if h then record { values = i.messages; places = i.places } else b) (ap has_any some)
+
+pub by_list : {A P : Type 0} (xs : List A) → (xs ≡ [] → P) → ((y : A) (ys : List A) → xs ≡ y ∷ ys → P) → P
+by_list [] none some = none refl
+by_list (x ∷ xs) none some = some x xs refl
+
+-- A CHAIR AND WHAT IS VISIBLE OF ITS WORKER, where both were set
+
+pub seats_both : (vs : List Visible) (seats : List Chair) (i : ℕ) (v v' : Visible) (chair chair' : Chair) → slice_get vs i ≡ Some v → slice_get seats i ≡ Some chair → seat_seen v' chair' ≡ seat_seen v chair
+    → seats_seen (slice_set vs i v') (slice_set seats i chair') ≡ seats_seen vs seats
+seats_both [] seats i v v' chair chair' seen there same = absurd (cc)
+seats_both (x ∷ vs) [] i v v' chair chair' seen there same = absurd (cc)
+seats_both (x ∷ vs) (seat ∷ seats) zero v v' chair chair' seen there same =
+    let one : v ≡ x = cc in
+    let two : chair ≡ seat = cc in
+    ap (λ y. y ∷ seats_seen vs seats) (same ∙ ap (λ u. seat_seen u chair) one ∙ ap (seat_seen x) two)
+seats_both (x ∷ vs) (seat ∷ seats) (suc i) v v' chair chair' seen there same = ap (λ ys. seat_seen x seat ∷ ys) (seats_both vs seats i v v' chair chair' seen there same)
+
+pub polls_both : (vs : List Visible) (seats : List Chair) (i : ℕ) (v v' : Visible) (chair chair' : Chair) → slice_get vs i ≡ Some v → slice_get seats i ≡ Some chair → v'.wakes ≡ v.wakes → chair'.raised ≡ chair.raised
+    → polls_seen (slice_set vs i v') (slice_set seats i chair') ≡ polls_seen vs seats
+polls_both [] seats i v v' chair chair' seen there wakes raised = absurd (cc)
+polls_both (x ∷ vs) [] i v v' chair chair' seen there wakes raised = absurd (cc)
+polls_both (x ∷ vs) (seat ∷ seats) zero v v' chair chair' seen there wakes raised =
+    let one : v ≡ x = cc in
+    let two : chair ≡ seat = cc in
+    ap (λ y. y ∷ polls_seen vs seats) (rw (wakes, raised, one, two) refl)
+polls_both (x ∷ vs) (seat ∷ seats) (suc i) v v' chair chair' seen there wakes raised = ap (λ ys. raised_times seat.raised x.wakes ∷ ys) (polls_both vs seats i v v' chair chair' seen there wakes raised)
+
+-- what an inbox has is about what its worker has
+
+mine_of : (workers i : ℕ) (x : Subject) (rs : List Record) (zs : List SleeperRecord) → IsOf workers i x (map thing_of rs) (map nap_of zs) → IsMineIn workers i x rs zs
+mine_of workers i (Subject.Request k) rs zs of =
+    let r = unmapped thing_of rs k of.0 of.1 in
+    (r.0, r.1, ap (λ y. y.worker) r.2 ∙ of.2, of.3)
+mine_of workers i (Subject.Timer n) rs zs of =
+    let z = unmapped nap_of zs n of.0 of.1 in
+    (z.0, z.1, ap (λ y. y.worker) z.2 ∙ of.2, of.3)
+
+pub my_mail : (workers i : ℕ) (m : Mail) (rs : List Record) (zs : List SleeperRecord) → IsAbout workers i m (map thing_of rs) (map nap_of zs) → IsMyMail workers i m rs zs
+my_mail workers i Message.WakeRoot rs zs about = tt
+my_mail workers i (Message.Forward x) rs zs about = mine_of workers i x rs zs about
+my_mail workers i (Message.Cancel x) rs zs about = mine_of workers i x rs zs about
+
+-- what a place of the mail, or the callbacks after it, says as the mail does
+pub record LeadsOn (n : ℕ) (q q' : Place) : Type 0 where
+  pub turn : IsTurn n q q'
+  pub claims : claims_at q' ≡ claims_at q
+  pub counts : has_count_at q' ≡ has_count_at q
+  pub published : is_published_at q' ≡ is_published_at q
+  pub drops : drops_at q' ≡ drops_at q
+
+-- as much is told there, less what was kept for messages
+pub told_past : (w : Worker) (n m : ℕ) → m ≤ n → IsTold w.names.ended.items w.home.deferred (tellers (driver_of w).requests w.home.timers + n) → IsTold w.names.ended.items w.home.deferred (tellers (driver_of w).requests w.home.timers + m)
+told_past w n m few told = places_fewer (omega (arith, few)) told

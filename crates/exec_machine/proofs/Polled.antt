@@ -1,0 +1,45 @@
+-- Who polls a task, by its phase.
+use Rattle.std.proofs.Common.{◌≡◌, ℕ, Bool, true, false, ◌==◌, Option, Some, None, refl, sym, ◌∙◌, ap}
+use Rattle.std.proofs.lemmas.Bool.{true≢false, eqb-true}
+use Rattle.exec_machine.specs.{declared.state.TaskPhase.TaskPhase, Tests.is_ready, Tasks.woken_phase, Closing.ends_by_clear}
+use Rattle.exec_machine.specs.declared.state.TaskPhase.TheVariants as task
+
+-- PHASES
+
+abbrev pub is_polled_by : ℕ → TaskPhase → Bool
+is_polled_by j (task.Running k) = j == k
+is_polled_by j (task.Noted k) = j == k
+is_polled_by j _ = false
+
+pub one_poller : (i j : ℕ) (p : TaskPhase) → is_polled_by i p ≡ true → is_polled_by j p ≡ true → i ≡ j
+one_poller i j (task.Running k) a b = eqb-true i k a ∙ sym (eqb-true j k b)
+one_poller i j (task.Noted k) a b = eqb-true i k a ∙ sym (eqb-true j k b)
+one_poller i j p a b = absurd (true≢false (sym a))
+
+pub woken_polled : (j : ℕ) (p : TaskPhase) → is_polled_by j p ≡ true → is_polled_by j (woken_phase p) ≡ true
+woken_polled j (task.Running k) h = h
+woken_polled j (task.Noted k) h = h
+woken_polled j p h = absurd (true≢false (sym h))
+
+pub ready_unpolled : (j : ℕ) (p : TaskPhase) → is_ready p ≡ true → is_polled_by j p ≡ false
+ready_unpolled j task.Queued h = refl
+ready_unpolled j p h = absurd (true≢false (sym h))
+
+pub cleared_unpolled : (j : ℕ) (p : TaskPhase) → ends_by_clear p ≡ true → is_polled_by j p ≡ false
+cleared_unpolled j (task.Running k) h = absurd (true≢false (sym h))
+cleared_unpolled j (task.Noted k) h = absurd (true≢false (sym h))
+cleared_unpolled j p h = refl
+
+abbrev pub is_nothing : Option ℕ → Bool
+is_nothing None = true
+is_nothing (Some n) = false
+
+pub none_some : {n : ℕ} → None ≡ Some n → ⊥
+none_some h = true≢false (ap is_nothing h)
+
+abbrev pub number_of : Option ℕ → ℕ
+number_of None = 0
+number_of (Some n) = n
+
+pub some_same : {m n : ℕ} → Some m ≡ Some n → m ≡ n
+some_same h = ap number_of h
