@@ -188,9 +188,6 @@ module _ {B : Type 0} (w w' : Worker) (s s' : Shared B) (e : Event) (sound : Sou
   abbrev hands_then : Profile → Hands
   hands_then others = record (hands_of (with_worker others w)) { wakes = λ j u. if j == w.index then wakes_with u x else others.wakes j u }
 
-  Wakes : Profile → ℕ → ℕ → Type 0
-  Wakes others j u = ((hands_then others).wakes j u ≡ (hands_of (with_worker others w)).wakes j u) ⊎ ((j ≡ w.index) × (waker ≡ Some u) × ((hands_then others).wakes j u ≡ (hands_of (with_worker others w)).wakes j u + 1))
-
   more_by : (others : Profile) (j u : ℕ) (b : Bool) → (j == w.index) ≡ b → ((hands_then others).wakes j u ≡ (hands_of (with_worker others w)).wakes j u) ⊎ ((j ≡ w.index) × (waker ≡ Some u) × ((hands_then others).wakes j u ≡ (hands_of (with_worker others w)).wakes j u + 1))
   more_by others j u false is = inl (ap (λ b. if b then wakes_with u x else others.wakes j u) is ∙ sym (ap (λ b. if b then wakes_with u w else others.wakes j u) is))
   more_by others j u true is = by_waker (waker_at entry) refl

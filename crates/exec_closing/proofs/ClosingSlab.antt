@@ -129,12 +129,6 @@ module _ (d : Driving Reply Reply) (id : WaiterId) where
       by (DetachedSync reply) = refl
       by Orphaned = refl
 
-  abbrev as_orphan : Told Reply Reply
-  as_orphan = told_by_let_go d id (told_by_orphan id.0 (value_at d.requests id.0))
-
-  abbrev as_closed : Told Reply Reply
-  as_closed = told_by_let_go d id (told_by_close id.0 (value_at d.requests id.0))
-
   -- but for the wakes the same
   pub record TellsSame : Type 0 where
     pub none : (told_by_let_go d id (told_by_orphan id.0 (value_at d.requests id.0))).wakes ≡ []

@@ -60,15 +60,6 @@ module _ {B L : Type 0} (left : B → L) (spot : L → Option Said → Spot) (t 
       v_is : clears.v ≡ record lets.u { letters = clears.v.letters }
       v_is = lets.worker
 
-      abbrev q : Place
-      q = cancels_left (AfterCancels.Visit drain) (desk_of clears.v) (letters_in clears.v.letters)
-
-      abbrev W : Worker
-      W = over_worker (cancels_left (AfterCancels.Visit drain) (desk_of clears.v) (letters_in clears.v.letters)) clears.v.letters lets.u w
-
-      abbrev S : Shared B
-      S = over_shared s'.tasks.items s' (record s' { tasks = s.tasks }) s
-
       worker_is : w' ≡ over_worker (cancels_left (AfterCancels.Visit drain) (desk_of clears.v) (letters_in clears.v.letters)) clears.v.letters lets.u w
       worker_is =
           clears.worker ∙ ap (λ (y : Worker). record y { place = cancels_left (AfterCancels.Visit drain) (desk_of clears.v) (letters_in clears.v.letters) }) v_is

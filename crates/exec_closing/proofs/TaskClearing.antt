@@ -178,10 +178,6 @@ module _ {B L : Type 0} (left : B → L) (spot : L → Option Said → Spot) (t 
             ),
           )
 
-    -- THE WORKER THAT GOES ON
-    abbrev here_q : Worker
-    here_q = record w { place = p0 }
-
     pub here_w : record w { place = p0 } ≡ w
     here_w = ap (λ y. record w { place = y }) (sym sound.here)
 
@@ -229,12 +225,6 @@ module _ {B L : Type 0} (left : B → L) (spot : L → Option Said → Spot) (t 
             call = (spot_by left spot b it.slot.told).call;
           }) (body_again it.slot)
           ∙ ap (λ y. record (task_seen left spot it.slot) { phase = y; cleared = true }) phase_same
-
-      abbrev w1 : Worker
-      w1 = record w { place = q0 }
-
-      abbrev s1 : Shared B
-      s1 = record s { tasks = s'.tasks }
 
       works_on : (p : Plan) (vs : Views) → Suits p vs w s → Works left spot p vs w s (Clear t) (record w { place = q0 }) (record s { tasks = s'.tasks })
       works_on p vs suits =

@@ -35,9 +35,6 @@ never_empty : (xs : List (ℕ × Unit {0})) (x : ℕ × Unit {0}) → xs ++ x �
 never_empty [] x h = cc
 never_empty (y ∷ ys) x h = cc
 
-pub visit_free : (x : Drain) → next_in_closing (after_visit x) ≡ Next.Free
-visit_free x = elim (x.left == 0) as (λ b. next_in_closing (if b then InClosing.LeaveBarrier else InClosing.Visit x) ≡ Next.Free) [ true ↦ refl | false ↦ refl ]
-
 pub positive : (n : ℕ) → (n == 0) ≡ false → 0 < n
 positive n h = grind (arith, nat_tests)
 

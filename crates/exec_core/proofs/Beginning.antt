@@ -36,10 +36,6 @@ config_sound c r =
 abbrev pub free_caller : Caller
 free_caller = record { place = call.Nothing; hand = None }
 
-pub empty_shards : (A : Type 0) (n : ℕ) → length (replicate n (let none : List A = [] in none)) ≡ n
-empty_shards A zero = refl
-empty_shards A (suc n) = ap suc (empty_shards A n)
-
 -- GATES without a line
 
 opens_many : (n : ℕ) → length (replicate n fresh_open) ≡ n

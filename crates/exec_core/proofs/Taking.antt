@@ -33,10 +33,6 @@ pub on_err : {T E : Type 0} (r : Result T E) (P : Type 0) → P → OnErr r P
 on_err (Ok x) P holds = tt
 on_err (Err x) P holds = holds
 
-pub on_ok : {T E : Type 0} (r : Result T E) (P : Type 0) → P → OnOk r P
-on_ok (Ok x) P holds = holds
-on_ok (Err x) P holds = tt
-
 pub if_ok : {T E : Type 0} (r : Result T E) (P : Type 0) → is_ok r ≡ true → OnOk r P → P
 if_ok (Ok x) P is holds = holds
 if_ok (Err x) P is holds = absurd (false≢true is)

@@ -5,7 +5,7 @@ use Rattle.std.proofs.lemmas.Grind.{get_or-set_at}
 use Rattle.std.proofs.lemmas.List.{get_or-set_other, get_or_past, length-set, set_past}
 use Rattle.std.specs.Prelude.{nat_lt}
 use Rattle.exec_outcomes.specs.{Outcomes.refuses_hint}
-use Rattle.exec_machine.specs.{declared.{config.{Configuration.Configuration}, event.Event.Event, state.{Next.Next, Request.Request, TaskPhase.TaskPhase, Sleeper.Sleeper}}, After.{common_after, polled}, Choice.{Choice, Choice.{Plain, Passes, Pays, Posts}, Payer.{ByRequest, BySleeper, ByAct, ByCall, ByStop}}, Closing.{after_next}, Requests.{account_of_open, judged_of}, Tasks.{after_over, after_pend, after_waking_word, begun, pended_phase, wake, woken, woken_phase, waits_for, without_newest}, Tests.{is_idle, is_resolved, set_task, set_request, set_sleeper, set_open, waits_for_nothing}, Words.{moved_on, asks_yield, next_word}, World.{Own as Books, Common, Task, no_request, no_sleeper, no_task, request_of, sleeper_of, task_of, open_of}}
+use Rattle.exec_machine.specs.{declared.{config.{Configuration.Configuration}, event.Event.Event, state.{Next.Next, Request.Request, TaskPhase.TaskPhase, Sleeper.Sleeper}}, After.{common_after, polled}, Choice.{Choice, Choice.{Plain, Passes, Pays, Posts}, Payer.{ByRequest, BySleeper, ByAct, ByCall, ByStop}}, Closing.{after_next}, Requests.{account_of_open, judged_of}, Tasks.{after_over, after_pend, after_waking_word, begun, pended_phase, wake, woken, woken_phase, waits_for, without_newest}, Tests.{is_resolved, set_task, set_request, set_sleeper, set_open, waits_for_nothing}, Words.{moved_on, asks_yield, next_word}, World.{Own as Books, Common, Task, no_request, no_sleeper, no_task, request_of, sleeper_of, task_of, open_of}}
 use Rattle.exec_machine.specs.declared.event.Event.TheVariants as event
 use Rattle.exec_machine.specs.declared.state.Next.TheVariants as next
 use Rattle.exec_machine.specs.declared.state.TaskPhase.TheVariants as task
@@ -61,13 +61,6 @@ pended_fresh task.Queued h = absurd (false≢true h)
 pended_fresh (task.Running i) h = refl
 pended_fresh (task.Noted i) h = absurd (false≢true h)
 pended_fresh task.Done h = absurd (false≢true h)
-
-fresh_idle : (p : TaskPhase) → is_idle p ≡ true → is_fresh_in p ≡ true
-fresh_idle task.Idle h = refl
-fresh_idle task.Queued h = absurd (false≢true h)
-fresh_idle (task.Running i) h = absurd (false≢true h)
-fresh_idle (task.Noted i) h = absurd (false≢true h)
-fresh_idle task.Done h = absurd (false≢true h)
 
 module _ (c : Configuration) (me : Books) (s : Common) (fresh : IsFresh (task_of s 0)) where
   -- its phase stays, and so does whether it is fresh

@@ -102,12 +102,6 @@ enroll_case false true t d h = absurd (false≢true h)
 enroll_case false false false d h = absurd (false≢true h)
 enroll_case false false true true h = absurd (false≢true h)
 
-queue_case : (q c r n : Bool) → (q ≡ true → r ≡ false) → (r || false) ≡ r → (not r && n) ≡ false → (q && not c && n) ≡ false
-queue_case true c true n nonempty same none = absurd (true≢false (nonempty refl))
-queue_case true true false n nonempty same none = refl
-queue_case true false false n nonempty same none = none
-queue_case false c r n nonempty same none = refl
-
 first_of_three : (a b d : Bool) → (a || b || d) ≡ false → (a ≡ false) × (b ≡ false) × (d ≡ false)
 first_of_three false false false h = (refl, refl, refl)
 first_of_three true b d h = absurd (true≢false h)

@@ -141,9 +141,6 @@ module _ (k : Configuration) (me : Books) (base : Common) (o : Desk) (x : Things
   abbrev Fit : Place → Type 0
   Fit p = Fits (may_sleep p) s d (move_at c 0 me s (stands p d) (emptied x) p)
 
-  abbrev still : Type 0
-  still = d.outputs ≤ d.outputs + 0
-
   same : d.outputs ≤ d.outputs + 0
   same = omega arith
 

@@ -4,7 +4,7 @@ use Rattle.std.proofs.lemmas.Bool.{true≢false, false≢true, or_cases, or_left
 use Rattle.std.proofs.lemmas.Grind.{get_or-set_at}
 use Rattle.std.proofs.lemmas.List.{get_or-set_other, get_or_past, length-set}
 use Rattle.std.specs.Prelude.{nat_lt, slice_get}
-use Rattle.exec_machine.specs.{declared.state.Request.Request, Requests.{joined_if, left_if, own_after_end}, Same.{is_number, is_none}, Tests.{is_in_flight, is_landed, is_queued, is_resolved}, World.{Own as Books, no_request}}
+use Rattle.exec_machine.specs.{declared.state.Request.Request, Requests.{joined_if, left_if}, Same.{is_number, is_none}, Tests.{is_in_flight, is_landed, is_queued, is_resolved}, World.{Own as Books, no_request}}
 use Rattle.exec_machine.specs.declared.state.RequestPhase.TheVariants as phase
 use Rattle.exec_outcomes.specs.declared.outcome.Outcome.{Outcome}
 use Rattle.exec_credit.specs.Minded.{IsListed, is_in}
@@ -105,15 +105,4 @@ over_listed me landed r y o is ended =
       unenrolled = λ h. absurd (true≢false (subst (λ p. (is_resolved p || y.cancelled || not (is_none y.timer) || is_none y.operation.deadline) ≡ false) is h));
       cancels = λ h. absurd (false≢true (subst (λ p. (is_in_flight p && y.cancelled && not y.cancel_staged) ≡ true) is h));
       over = λ h. ended;
-    }
-
--- it leaves the lists, where it is over by this
-pub keeps_end : (over : Bool) (k r : ℕ) (me : Books) (landed : List ℕ) → (k == r) ≡ false → KeepsIn k me (own_after_end over r me) landed landed
-keeps_end over k r me landed other =
-    record {
-      ready = kept_left over k r me.ready other;
-      landed_in = λ h. h;
-      unenrolled = kept_left over k r me.unenrolled other;
-      cancels = kept_left over k r me.cancels other;
-      ended = kept_joined over k r me.ended;
     }

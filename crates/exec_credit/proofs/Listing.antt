@@ -6,7 +6,7 @@ use Rattle.std.proofs.Math.ListN.{get_or-map}
 use Rattle.exec_outcomes.specs.{declared.outcome.{Outcome.{Outcome, TheVariants.Failure}, OpResult.OpResult, Kind.Kind}, Accounts.is_durable}
 use Rattle.exec_base.specs.declared.error.Error.TheVariants.{Timeout}
 use Rattle.std.specs.Prelude.{unwrap_or}
-use Rattle.exec_machine.specs.{declared.{config.Configuration.Configuration, event.Event.Event, state.{Request.Request, RequestPhase.RequestPhase, Operation.Operation}}, After.{own_after, common_after}, Allowed.allowed, Choice.{Choice}, Deadlines.{enrolled, expired, fires_at}, Requests.{dropped, ends_by_drop, flown, is_cancelled_by_drop, own_after_drop, joined_if, own_after_end, left_if, reaped, staged, account_after_admit, asked_now, first_phase, new_request, resolved_if, with_seen}, Same.{is_none, same_end}, Tests.{AllTrue, is_in_flight, is_landed, is_landed_with, is_queued, is_resolved, is_staged, is_of_file}, World.{Own as Books, Common, Seat, no_request, no_seat, request_of, seat_of, open_of}}
+use Rattle.exec_machine.specs.{declared.{config.Configuration.Configuration, event.Event.Event, state.{Request.Request, RequestPhase.RequestPhase, Operation.Operation}}, After.{own_after, common_after}, Allowed.allowed, Choice.{Choice}, Deadlines.{enrolled, expired, fires_at}, Requests.{dropped, ends_by_drop, flown, is_cancelled_by_drop, own_after_drop, joined_if, own_after_end, left_if, reaped, staged, account_after_admit, asked_now, first_phase, new_request, resolved_if, with_seen}, Same.{is_none}, Tests.{AllTrue, is_in_flight, is_landed, is_landed_with, is_queued, is_resolved, is_staged, is_of_file}, World.{Own as Books, Common, Seat, no_request, no_seat, request_of, seat_of, open_of}}
 use Rattle.exec_machine.specs.declared.event.Event.TheVariants as event
 use Rattle.exec_machine.specs.declared.state.RequestPhase.TheVariants as phase
 use Rattle.std.proofs.lemmas.Bool.{eqb-false, ltb-true, ltb-false}
@@ -35,14 +35,6 @@ landed_open n phase.Gated h = absurd (false≢true h)
 landed_open n phase.Staged h = absurd (false≢true h)
 landed_open n phase.Flying h = absurd (false≢true h)
 landed_open n (phase.Resolved o) h = absurd (false≢true h)
-
-pub flight_open : (p : RequestPhase) → is_in_flight p ≡ true → (is_queued p ≡ false) × (is_resolved p ≡ false)
-flight_open phase.Staged h = (refl, refl)
-flight_open phase.Flying h = (refl, refl)
-flight_open (phase.Landed m) h = (refl, refl)
-flight_open phase.Queued h = absurd (false≢true h)
-flight_open phase.Gated h = absurd (false≢true h)
-flight_open (phase.Resolved o) h = absurd (false≢true h)
 
 has_timer : (a b d : Bool) → (a || b || true || d) ≡ false → ⊥
 has_timer true b d h = true≢false h
@@ -88,12 +80,6 @@ module _ (me : Books) (landed : List ℕ) (r : ℕ) (it : Request) (was : IsList
         over = λ h. rw ended (was.over (rw⁻¹ (same, released) h));
       }
 
-outcomes_alike : (given shown told : Option Outcome) → (given ≡ None → shown ≡ None) → (shown ≡ None → given ≡ None) → same_end told shown ≡ true → (told ≡ None → given ≡ None) × (given ≡ None → told ≡ None)
-outcomes_alike given None None to back same = (λ h. back refl, λ h. refl)
-outcomes_alike given (Some y) (Some x) to back same = (λ h. absurd (cc), λ h. let no : Some y ≡ None = to h in absurd (cc))
-outcomes_alike given (Some y) None to back same = absurd (false≢true same)
-outcomes_alike given None (Some x) to back same = absurd (false≢true same)
-
 -- somebody lets go of it
 pub drop_listed : (me' : Books) (landed' : List ℕ) (r : ℕ) (it y : Request) (ends cancelled : Bool) → ends_by_drop it ≡ ends → is_cancelled_by_drop it ≡ cancelled
     → IsListed me' landed' r it → IsListed (record (own_after_end ends r me') { cancels = joined_if cancelled (own_after_end ends r me').cancels r }) landed' r (dropped it)
@@ -117,10 +103,6 @@ module _ (c : Configuration) (me : Books) (s : Common) (listed : AreListed me s)
       → (k : ℕ) → KeepsIn k me me' landed landed'
   same_books me' landed' there ready unenrolled cancels ended k =
       record { ready = λ h. rw ready h; landed_in = λ h. rw there h; unenrolled = λ h. rw unenrolled h; cancels = λ h. rw cancels h; ended = λ h. rw ended h }
-
-  -- the requests stay as they are
-  stay : (me' : Books) (landed' : List ℕ) → ((k : ℕ) → KeepsIn k me me' landed landed') → (k : ℕ) → IsListed me' landed' k (request_of s k)
-  stay me' landed' keeps k = listed_by k me me' landed landed' (request_of s k) (keeps k) (listed k)
 
   -- one changes
   changes : (me' : Books) (r : ℕ) (y : Request) → ((k : ℕ) → (k == r) ≡ false → KeepsIn k me me' landed landed) → IsListed me' landed r y

@@ -1,9 +1,9 @@
 -- Where a worker sleeps, and what it has then.
 use Rattle.std.proofs.Common.{◌≡◌, ℕ, zero, suc, length, drop, ◌<◌, ◌==◌, ◌&&◌, ◌||◌, Bool, true, false, not, List, [], ◌∷◌, get_or, Option, Some, None, if◌then◌else◌, ◌∙◌, refl, sym, ap, subst}
-use Rattle.std.proofs.lemmas.Bool.{true≢false, false≢true, and_parts, or_parts, eqb-true}
+use Rattle.std.proofs.lemmas.Bool.{true≢false, false≢true, and_parts, or_parts}
 use Rattle.std.proofs.lemmas.List.{get_or-set_same}
 use Rattle.std.specs.List.{list_any}
-use Rattle.exec_machine.specs.{declared.{config.Configuration.Configuration, event.Event.Event, state.{Next.Next, Request.Request, RequestPhase.RequestPhase}}, After.{own_after, common_after}, Allowed.allowed, Choice.{Choice, Choice.{Plain, Passes, Pays, Posts}, Payer.{ByRequest, BySleeper, ByAct, ByCall, ByStop}}, Closing.{after_next, with_closed_mailbox}, Deadlines.{next_due, rest_until, earlier, first_timer, first_until, is_after}, Same.same_number, Tests.{AllTrue, is_awake, is_empty, is_landed, is_resolved, is_staged, set_seat, is_open, set_task}, World.{Own as Books, Common, Seat, no_request, no_seat, request_of, seat_of, task_of}, Tasks.{after_over, pended_phase}}
+use Rattle.exec_machine.specs.{declared.{config.Configuration.Configuration, event.Event.Event, state.{Next.Next, Request.Request, RequestPhase.RequestPhase}}, After.{own_after, common_after}, Allowed.allowed, Choice.{Choice, Choice.{Plain, Passes, Pays, Posts}, Payer.{ByRequest, BySleeper, ByAct, ByCall, ByStop}}, Closing.{after_next, with_closed_mailbox}, Deadlines.{next_due, rest_until, earlier, first_timer, first_until, is_after}, Tests.{AllTrue, is_awake, is_empty, is_landed, is_resolved, is_staged, set_seat, is_open, set_task}, World.{Own as Books, Common, Seat, no_request, no_seat, request_of, seat_of, task_of}, Tasks.{after_over, pended_phase}}
 use Rattle.exec_machine.specs.declared.event.Event.TheVariants as event
 use Rattle.exec_machine.specs.declared.state.Next.TheVariants as next
 use Rattle.exec_machine.specs.declared.state.RequestPhase.TheVariants as phase
@@ -82,12 +82,6 @@ module _ (c : Configuration) (me : Books) (s : Common) (here : 0 < length s.seat
   rest_kept e choice cut loud = absurd (false≢true cut)
 
 -- A SLEEP
-
-number_same : (a b : Option ℕ) → same_number a b ≡ true → a ≡ b
-number_same None None h = refl
-number_same (Some m) (Some n) h = ap Some (eqb-true m n h)
-number_same None (Some n) h = absurd (false≢true h)
-number_same (Some m) None h = absurd (false≢true h)
 
 -- a worker without requests has none that is staged or landed
 none_open : (rs : List Request) → list_any (is_open_of 0) rs ≡ false → (k : ℕ) → is_open_of 0 (get_or rs k no_request) ≡ false

@@ -148,12 +148,6 @@ module _ (c : Configuration) (me : Books) (s : Common) where
   Weighs e choice =
       weight (common_after c me s 0 e choice) + gains s e + 2 * length s.requests ≤ weight s + 2 * length (common_after c me s 0 e choice).requests
 
-  next_turns : (n : Next) → (held_of (after_next s 0 n) ≡ held_of s) × ((after_next s 0 n).requests ≡ s.requests)
-  next_turns next.Free = (refl, refl)
-  next_turns (next.Joins r) = (refl, refl)
-  next_turns next.ClosesQueue = (refl, refl)
-  next_turns next.ClosesMailbox = (refl, refl)
-
   turned : (n : Next) → weight (after_next s 0 n) + 0 + 2 * length s.requests ≤ weight s + 2 * length (after_next s 0 n).requests
   turned next.Free = omega arith
   turned (next.Joins r) = omega arith
@@ -195,10 +189,6 @@ module _ (c : Configuration) (me : Books) (s : Common) where
   -- one task has changed, and holds no more
   tasks : (t : ℕ) (y : Task) → length y.held ≤ length (task_of s t).held → held_of (record s { tasks = set s.tasks t y }) + open_count s.requests + 0 + 2 * length s.requests ≤ weight s + 2 * length s.requests
   tasks t y le = omega (arith, held_set 0 s t y (omega (arith, le)))
-
-  taken : (t : ℕ) (b : Bool) (y : Task) → length (if b then y else record (task_of s t) { waiting = waiting.Nothing }).held ≤ length y.held + length (task_of s t).held
-  taken t true y = omega arith
-  taken t false y = omega arith
 
   taking : (t : ℕ) → length (after_taking s (task_of s t)).held ≤ length (task_of s t).held
   taking t = by (waits_for_nothing (task_of s t).waiting)

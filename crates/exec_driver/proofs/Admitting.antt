@@ -2,48 +2,17 @@
 use Rattle.std.proofs.Common.{◌≡◌, ℕ, ◌+◌, ◌*◌, ◌^◌, ◌<◌, ◌≤◌, ltb, cond, Bool, true, false, not, List, [], ◌∷◌, length, Option, Some, None, Result, Ok, Err, refl, sym, ap, ◌∙◌, inl, inr, arith}
 use Rattle.exec_driver.proofs.{Words.cases_Bool, Counting.{flying_few, pending_is}, Shifts.few, Stepping.sound_ring}
 use Rattle.std.specs.Prelude.{is_some, is_err, count_by, IsSomeAnd, OnOk, OnErr}
-use Rattle.std.proofs.lemmas.Bool.{false≢true, ltb-true, ltb-false, leb-false}
+use Rattle.std.proofs.lemmas.Bool.{false≢true, leb-false}
 use Rattle.std.proofs.lemmas.List.Sums.{sum_by-cons}
 use Rattle.exec_base.specs.{Slab.{Slab, next_index, next_id}, declared.slab.{Id.Id, Slot.{Slot, TheVariants.{Live, Vacant, Retired}}}}
-use Rattle.exec_request.specs.{Buffers.batch_of, Requests.window_by, States.asks_cancel, Syncing.is_syncing, Ways.is_direct, declared.{buffers.WriteBuffers.{WriteBuffers, TheVariants.{Single, Vectored}}, request.Request.{Request, TheVariants.{Send, Recv, ReadAt, WriteAt, Sync, Connect, Poll}}, window.Window.Window}}
+use Rattle.exec_request.specs.{States.asks_cancel}
 use Rattle.exec_ring.specs.{Kernels.Landing, Rings.{RingState, taken_places, fresh as fresh_ring}}
 use Rattle.exec_time.specs.Wheel.{Wheel, fresh}
 use Rattle.exec_waiters.specs.{States.{counts_pending, pending_count, is_full}, declared.waiter.Entry.{Entry, TheVariants.{Pending, Ready}}}
 use Rattle.exec_waiters.proofs.Changes.{one_if}
-use Rattle.exec_driver.specs.{Driving.{Driving, is_cancelled}, Lists.no_lists, Sound.{IsSound, IsHeld, is_uncancelled, counts, count_of}, Footprints.{widened, bytes_left, footprint_of}}
+use Rattle.exec_driver.specs.{Driving.{Driving, is_cancelled}, Lists.no_lists, Sound.{IsSound, IsHeld, is_uncancelled, counts, count_of}}
 
 -- THE BYTES OF A REQUEST END WITHIN WHAT 64 BITS CAN SAY
-
-widened_ends : (w : Window) (n : ℕ) → (n < 2 ^ 32 → w.offset + n < 2 ^ 64) → (2 ^ 32 ≤ n → w.offset + w.length < 2 ^ 64) → (widened w n).offset + (widened w n).length < 2 ^ 64
-widened_ends w n small large =
-    elim (cases_Bool (ltb n (2 ^ 32))) [
-      | inl fits ↦ rw fits (small (ltb-true n (2 ^ 32) fits))
-      | inr over ↦ rw over (large (ltb-false n (2 ^ 32) over))
-    ]
-
-batch_within : (b : WriteBuffers) → batch_of b < 2 ^ 32
-batch_within (Single buf offset) = omega arith
-batch_within (Vectored bufs chunk offset remaining) = omega arith
-
-pub footprint_ends : (r : Request) → (footprint_of r).offset + (footprint_of r).length < 2 ^ 64
-footprint_ends (Send s) =
-    widened_ends (window_by false (Send s)) (bytes_left s.write) (λ small. omega (arith, small)) (λ large. omega (arith, batch_within s.write))
-footprint_ends (Recv r) = omega arith
-footprint_ends (ReadAt r) =
-    elim (cases_Bool (is_direct r.way)) [
-      | inl is ↦ rw is (omega (arith, r.within, r.ends))
-      | inr is ↦ rw is (omega (arith, r.within, r.ends))
-    ]
-footprint_ends (WriteAt w) =
-    elim (cases_Bool (is_syncing w.state)) [
-      | inl is ↦
-          widened_ends (window_by false (WriteAt w)) (bytes_left w.write) (λ small. rw is (omega (arith, small))) (λ large. rw is (omega arith))
-      | inr is ↦
-          widened_ends (window_by false (WriteAt w)) (bytes_left w.write) (λ small. rw is (omega (arith, w.ends))) (λ large. rw is (omega (arith, large, w.ends, batch_within w.write)))
-    ]
-footprint_ends (Sync s) = omega arith
-footprint_ends (Connect c) = omega arith
-footprint_ends (Poll p) = omega arith
 
 module _ {S F : Type 0} where
   -- how many places a ring must have

@@ -57,11 +57,6 @@ module _ {S F : Type 0} where
         listed = fallen_listed s (record { 0 = id }) (waiter_at s id) lists refl so.listed;
       })
 
-  -- at the end nothing is to come
-  pub all_fell : (s : Slab (Entry S F)) (turned : Wheel) (l : Lists) (w : Wheel) (lists : Lists) → w.ready ≡ [] → AreFalling s turned l w lists → (w ≡ record turned { ready = [] }) × (lists ≡ all_due s turned.ready l)
-  all_fell s turned l w lists none so =
-      (ap (λ (ids : List Id). record w { ready = ids }) none ∙ so.wheel, ap (λ (ids : List Id). all_due s ids lists) (sym none) ∙ so.rest)
-
   pub held_on : (d : Driving S F) (now : ℕ) (room room' most spots : ℕ) → room ≤ room' → IsListed is_enrolled d.requests (advanced_to d now).lists.due → IsHeld d room most spots → IsHeld (advanced_to d now) room' most spots
   held_on d now room room' most spots more listed held =
       let turned = (advanced d.wheel now).wheel in

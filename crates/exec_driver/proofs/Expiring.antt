@@ -1,22 +1,8 @@
 -- Who is taken out of what is due, or of what is to be enrolled, leaves a driver as it should be.
 use Rattle.std.proofs.Common.{◌≡◌, ◌<◌, ◌≤◌, ◌+◌, ◌^◌, ltb, cond, true, false, Ok, Err, ℕ, Bool, List, [], ◌∷◌, length, Option, Some, None, refl, ap, ◌∙◌, arith}
-use Rattle.exec_driver.proofs.{Words.{false≢true, ltb-true, Slab, Wheel, target_of, moment_of, waiter_at, Waiter, Entry, WaiterId, Driving, is_unenrolled, is_enrolled, Lists, first_of, rest_of, after_due, after_enrolment, IsListed, IsHeld, tick_for, count_of, is_at_tick, and_parts}, Granting.{IsUnset, unset_tells}, Stepping.first_in, Timing.target_tells}
+use Rattle.exec_driver.proofs.{Words.{false≢true, ltb-true, Slab, Wheel, target_of, moment_of, waiter_at, Waiter, Entry, WaiterId, Driving, is_unenrolled, is_enrolled, first_of, rest_of, after_due, IsListed, IsHeld, tick_for, count_of, is_at_tick, and_parts}, Granting.{IsUnset, unset_tells}, Stepping.first_in, Timing.target_tells}
 use Rattle.exec_base.specs.declared.error.Error.{Error}
 use Rattle.exec_driver.specs.Steps.{tick_by}
-
-rest_none : (ids : List WaiterId) → first_of ids ≡ None → rest_of ids ≡ ids
-rest_none [] is = refl
-rest_none (x ∷ ids) is = absurd (cc)
-
-pub none_due : (l : Lists) → first_of l.due ≡ None → after_due l ≡ l
-none_due l is = ap (λ (ids : List WaiterId). record l { due = ids }) (rest_none l.due is)
-
-pub none_unenrolled : (l : Lists) → first_of l.enrolments ≡ None → after_enrolment l ≡ l
-none_unenrolled l is = ap (λ (ids : List WaiterId). record l { enrolments = ids }) (rest_none l.enrolments is)
-
-rest_within : (ids : List WaiterId) → length (rest_of ids) ≤ length ids
-rest_within [] = omega arith
-rest_within (x ∷ ids) = omega arith
 
 -- an enrolment that gives a tick gives one that the wheel takes
 ticks : (b : Bool) (t tick : ℕ) (e : Error) → cond b (Ok t) (Err e) ≡ Ok tick → (b ≡ true) × (t ≡ tick)
@@ -60,12 +46,6 @@ module _ {S F : Type 0} where
   pub held_undue : (d : Driving S F) (room most spots : ℕ) → IsHeld d room most spots → IsHeld (record d { lists = after_due d.lists }) room most spots
   held_undue d room most spots held =
       held_due d d.wheel (rest_of d.lists.due) room room most spots (λ t. refl) held.sound.drained (rest_listed _ _ _ held.sound.due) (omega arith) held
-
-  pub held_left : (d : Driving S F) (room most spots : ℕ) → IsHeld d room most spots → IsHeld (record d { lists = after_enrolment d.lists }) room most spots
-  held_left d room most spots held =
-      let listed = rest_listed _ _ _ held.sound.enrolments in
-      let wheel_room : length (rest_of d.lists.enrolments) ≤ room = omega (arith, held.wheel_room, rest_within d.lists.enrolments) in
-      assumption (listed, wheel_room)
 
   -- the first whose deadline is to be enrolled is there
   pub record IsUnsetThere (o : Option (Waiter S F)) : Type 0 where

@@ -10,16 +10,12 @@ use Rattle.exec_ring.specs.{Kernels.reaped, declared.completion.Posted.Posted}
 use Rattle.exec_time.specs.Wheel.{Wheel, removed}
 use Rattle.exec_waiters.specs.{Events.told_by_finish, States.{pending_count, tick_in, tick_of, file_of}, Told.{HasPlaces, Tells, nothing_told}, declared.{deferred.Deferred.Deferred, waiter.{Waiter.Waiter, Entry.TheVariants.Pending}, waiter_id.WaiterId.WaiterId}}
 use Rattle.exec_waiters.proofs.Changes.{one_if}
-use Rattle.exec_driver.specs.{Driving.{Driving, request_at}, Lists.{Lists, has_first, rest_of, is_among, is_same, without}, Opens.{OpenState, account_in}, Steps.{open_after, is_control, unscheduled, ended, noted, swept_from, taken_out, landed_at, judged_as_over, told_by_end, Reaps}, Punctual.IsPunctual, Turns.{CanTell, GoesOn, Serves, StaysDone}, declared.driver.reaping.Reaped.Reaped}
+use Rattle.exec_driver.specs.{Driving.{Driving, request_at}, Lists.{Lists, has_first, is_among, is_same, without}, Opens.{OpenState, account_in}, Steps.{open_after, is_control, unscheduled, ended, noted, swept_from, taken_out, landed_at, judged_as_over, told_by_end, Reaps}, Punctual.IsPunctual, Turns.{CanTell, GoesOn, Serves, StaysDone}, declared.driver.reaping.Reaped.Reaped}
 
 -- a list without a name is empty where it was, and has every other that it had
 pub none_without : (id : WaiterId) (ids : List WaiterId) → has_first ids ≡ false → has_first (without id ids) ≡ false
 none_without id [] none = refl
 none_without id (x ∷ ids) none = absurd (false≢true (sym none))
-
-pub none_rest : (ids : List WaiterId) → has_first ids ≡ false → has_first (rest_of ids) ≡ false
-none_rest [] none = refl
-none_rest (x ∷ ids) none = absurd (false≢true (sym none))
 
 among_others : (x id : WaiterId) (ids : List WaiterId) → x.0 ≢ id.0 → is_among x ids ≡ true → is_among x (without id ids) ≡ true
 among_others x id [] apart among = among

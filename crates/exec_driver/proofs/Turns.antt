@@ -1,6 +1,6 @@
 -- The steps of a service: completions, deadlines, permits.
 use Rattle.std.proofs.Common.{zero, suc, ◌≡◌, ◌⊎◌, ℕ, ◌+◌, ◌^◌, ◌<◌, ◌≤◌, eqb, ltb, Bool, true, false, not, ◌&&◌, ◌||◌, cond, List, [], ◌∷◌, length, Option, Some, None, refl, sym, ap, subst, ◌∙◌, inl, inr, arith}
-use Rattle.exec_driver.proofs.{Words.{and_from, and_parts, cases_Bool, not-false, or_parts}, Names.{same_tells, fewer_without}, Endings.{one_changed, one_finished}, Granting.gated_there, Queues.{IsEntered, enters}, Serving.{Eases, Answers, eases_itself, eases_both, eases_is, eases_ring, eases_swept, eases_written, eases_judged, after_reap, reaps_ring, room_still, room_judged, room_ended, keeps_one, like_unscheduled, serves_by, serves_itself, done_itself, none_rest, eases_queued}, Stepping.{first_in, first_there, first_tells}, Telling.room_within, Sweeping.{one_less, none_left, fewer_by}}
+use Rattle.exec_driver.proofs.{Words.{and_from, and_parts, cases_Bool, not-false, or_parts}, Names.{same_tells, fewer_without}, Endings.{one_changed, one_finished}, Granting.gated_there, Queues.{IsEntered, enters}, Serving.{Eases, Answers, eases_itself, eases_both, eases_is, eases_ring, eases_swept, eases_written, eases_judged, after_reap, reaps_ring, room_still, room_judged, room_ended, keeps_one, like_unscheduled, serves_by, serves_itself, done_itself, eases_queued}, Stepping.{first_in, first_there, first_tells}, Telling.room_within, Sweeping.{one_less, none_left, fewer_by}}
 use Rattle.std.specs.Prelude.{is_some, is_none, min}
 use Rattle.std.specs.Option.{IfSome, IfNone, SomeIff}
 use Rattle.std.proofs.lemmas.Bool.{false≢true, ltb-true, ltb-false}
@@ -11,7 +11,7 @@ use Rattle.exec_request.specs.{States.{Ended, asks_cancel}, declared.results.Wai
 use Rattle.exec_ring.specs.{Completions.{result_in, wake_completion}, Kernels.{is_quiet, has_none, next_completion, next_in, posted_left, wakes_left, reaped}, declared.completion.{Completion.Completion, Posted.Posted}}
 use Rattle.exec_waiters.specs.{Events.{is_lawful_for, cancelled, with_permit}, States.{waiter_at, flying_count, tick_in, file_of, gate_in}, Told.Tells, declared.{deferred.Deferred.Deferred, waiter.{Waiter.Waiter, Entry.{Entry, TheVariants.Pending}}, waiter_id.WaiterId.WaiterId}}
 use Rattle.exec_waiters.proofs.Changes.{one_if}
-use Rattle.exec_driver.specs.{Driving.{Driving, request_at, is_enrolled, is_queued, is_full, may_stage_one, has_pending}, Lists.{has_first, first_of, rest_of, is_same, without, after_due, after_queued}, Opens.{OpenState, account_in}, Sound.IsSound, Steps.{is_control, noted, swept, swept_from, taken_out, judged_as_over, granted_as, permitted, ReapsNext, completed_in, lawful_of, if_lawful, expired, told_by_cancel, timed_out, cancelling, ended, Grants, StagesOne, with_staged, cancel_staged, poll_staged, entered, lower, lower_of, lowest_gate}, Turns.{Serves, StaysDone, waiting, unreaped, unstaged, made_way, may_wait}, declared.driver.{reaping.Reaped.Reaped, staging.Granted.Granted}}
+use Rattle.exec_driver.specs.{Driving.{Driving, request_at, is_enrolled, is_queued, is_full, may_stage_one, has_pending}, Lists.{has_first, first_of, rest_of, is_same, without, after_due, after_queued}, Opens.{OpenState, account_in}, Sound.IsSound, Steps.{is_control, noted, swept, swept_from, taken_out, judged_as_over, granted_as, permitted, ReapsNext, completed_in, lawful_of, if_lawful, expired, told_by_cancel, timed_out, cancelling, ended, Grants, StagesOne, with_staged, poll_staged, entered, lower, lower_of, lowest_gate}, Turns.{Serves, StaysDone, waiting, unreaped, unstaged, made_way, may_wait}, declared.driver.{reaping.Reaped.Reaped, staging.Granted.Granted}}
 
 -- HOW MANY COMPLETIONS
 
@@ -249,18 +249,6 @@ module _ {S F : Type 0} where
       let there = first_there is_queued refl d.requests d.lists.queued id (sym first) sound.queued in
       stage_serves d d' id there.0 (account there.0) there.1 (sym first) (staged there.0 there.1)
 
-  cancel_any : (d d' : Driving S F) (id : WaiterId) → first_of d.lists.cancels ≡ Some id → d' ≡ record (cancel_staged d id) { landings = d'.landings } → Stages d d' × (unstaged d' < unstaged d)
-  cancel_any d d' id first is =
-      let list = ap length (first_tells d.lists.cancels id first) in
-      let lists = ap (λ (e : Driving S F). unstaged e) is in
-      let queued = eases_queued d (cancel_staged d id) refl refl refl refl (none_rest d.lists.cancels) refl (λ b. b) in
-      (record { eases = eases_is d (cancel_staged d id) d' is queued; no_more = omega (arith, list, lists) }, omega (arith, list, lists))
-
-  -- a cancel was staged where there was one
-  pub cancel_step : (d d' : Driving S F) (o : Option WaiterId) → is_none o ≡ false → o ≡ first_of d.lists.cancels → IfSome o (λ id. d' ≡ record (cancel_staged d id) { landings = d'.landings }) → Stages d d' × (unstaged d' < unstaged d)
-  cancel_step d d' None some first is = absurd (false≢true (sym some))
-  cancel_step d d' (Some id) some first is = cancel_any d d' id (sym first) is
-
   no_cancel : (d : Driving S F) (ids : List WaiterId) → None ≡ first_of ids → (has_first ids || may_stage_one d) ≡ true → may_stage_one d ≡ true
   no_cancel d [] first some = some
   no_cancel d (x ∷ ids) first some = absurd (cc)
@@ -297,12 +285,6 @@ module _ {S F : Type 0} where
       let e = enters d.landings d.ring in
       let lists = ap (λ (e : Driving S F). unstaged e) is in
       (record { eases = eases_is d (entered d) d' is (eases_ring d (entered d) refl refl refl e.size (λ b. e.free)); no_more = omega (arith, lists) }, subst (λ (f : Driving S F). IsEntered d.ring f.ring) (sym is) e)
-
-  pub stages_both : (d e f : Driving S F) → Stages d e → Stages e f → Stages d f
-  stages_both d e f one other = record { eases = eases_both d e f one.eases other.eases; no_more = omega (arith, one.no_more, other.no_more) }
-
-  pub stages_itself : (d : Driving S F) → Stages d d
-  stages_itself d = record { eases = eases_itself d; no_more = omega arith }
 
   -- a queue that was filled and entered is not full again with less staged
   pub filled_less : (d e f : Driving S F) → unstaged e ≤ unstaged d → (is_full d ≡ false → unstaged e < unstaged d) → unstaged f ≤ unstaged e → is_full f ≡ false → unstaged f + unstaged f + one_if (is_full f) < unstaged d + unstaged d + one_if (is_full d)
@@ -352,9 +334,6 @@ module _ {S F : Type 0} where
 
   pub wait_pending : (d d' : Driving S F) (x : Bool) → d' ≡ record (made_way d) { landings = d'.landings } → has_pending d' ≡ true → false ≡ (may_wait d && x)
   wait_pending d d' x is pending = sym (ap (λ (b : Bool). b && x) (way_may d d' is ∙ ap (λ (b : Bool). not b && (d'.armed || not (is_full d'))) pending))
-
-  pub wait_full : (d d' : Driving S F) (x : Bool) → d' ≡ record (made_way d) { landings = d'.landings } → (d'.armed || not (is_full d')) ≡ false → false ≡ (may_wait d && x)
-  wait_full d d' x is full = sym (ap (λ (b : Bool). b && x) (way_may d d' is ∙ ap (λ (b : Bool). not (has_pending d') && b) full ∙ never (not (has_pending d'))))
 
   pub wait_calm : (d d' : Driving S F) (x y : Bool) → d' ≡ record (made_way d) { landings = d'.landings } → has_pending d' ≡ false → (d'.armed || not (is_full d')) ≡ true → y ≡ x → y ≡ (may_wait d && x)
   wait_calm d d' x y is pending room calm = calm ∙ sym (ap (λ (b : Bool). b && x) (way_may d d' is ∙ and_from _ _ (ap not pending) room))

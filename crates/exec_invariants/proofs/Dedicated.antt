@@ -32,11 +32,6 @@ all_serve (Some t) root role pool = λ other. pool
 
 module _ {B : Type 0} where
   -- an ordinary task is behind the roots of the pool
-  pub ordinary_behind : (workers count t : ℕ) (tasks : List (TaskSlot B)) (slot : TaskSlot B) → AreHome workers count tasks → slice_get tasks t ≡ Some slot → slot.home ≡ None → workers ≤ t
-  ordinary_behind workers count t tasks slot homes there ordinary =
-      less_or t workers
-      (λ few. let no : None ≡ Some t = sym ordinary ∙ homes.home t slot there few in absurd (cc))
-      (λ past. past)
 
   -- each root is that of a worker
   pub home_within : (workers count t j : ℕ) (tasks : List (TaskSlot B)) (slot : TaskSlot B) → AreHome workers count tasks → slice_get tasks t ≡ Some slot → slot.home ≡ Some j → j < count
@@ -47,15 +42,6 @@ module _ {B : Type 0} where
       let same : t ≡ j = cc in
       omega (arith, few, same, homes.many))
       (λ past. (homes.dedicated t j slot there past home).1)
-
-  -- the root of a worker of the pool has its number
-  pub home_of_pool : (workers count t j : ℕ) (tasks : List (TaskSlot B)) (slot : TaskSlot B) → AreHome workers count tasks → slice_get tasks t ≡ Some slot → slot.home ≡ Some j → j < workers → t ≡ j
-  home_of_pool workers count t j tasks slot homes there home within =
-      less_or t workers
-      (λ few.
-      let is : Some t ≡ Some j = sym (homes.home t slot there few) ∙ home in
-      cc)
-      (λ past. absurd (omega (arith, within, (homes.dedicated t j slot there past home).0)))
 
   -- its own seat is there
   pub own_there : (p : Place) (w : Worker) (s : Shared B) → SoundAt p w s → w.index < length s.seats.items
@@ -81,10 +67,6 @@ module _ {B : Type 0} where
   -- no other task is its root
   pub own_root : (p : Place) (w : Worker) (s : Shared B) → SoundAt p w s → (t : ℕ) (slot : TaskSlot B) → slice_get s.tasks.items t ≡ Some slot → slot.home ≡ Some w.index → t ≡ w.root
   own_root p w s sound t slot there home = sound.homes.once t w.root w.index slot sound.runnable.root there sound.runnable.there home sound.runnable.home
-
-  pub root_of_pool : (p : Place) (w : Worker) (s : Shared B) → SoundAt p w s → is_pool w.role ≡ true → w.root ≡ w.index
-  root_of_pool p w s sound pool =
-      home_of_pool s.config.workers (length s.seats.items) w.root w.index s.tasks.items sound.runnable.root sound.homes sound.runnable.there sound.runnable.home (in_pool p w s sound pool)
 
   -- so at a place of the pool nothing is asked of a dedicated one
   pub never_apart : {P : Type 0} (p : Place) (w : Worker) (s : Shared B) → SoundAt p w s → is_pooled_at p ≡ true → is_pool w.role ≡ false → P

@@ -1,5 +1,5 @@
 -- A request of a worker that is over: what its record, its slot and the desk say of that.
-use Rattle.std.proofs.{Common.{◌≡◌, ℕ, ◌&&◌, ◌||◌, not, Bool, true, false, List, length, map, Some, None, refl, sym, ap, ◌∙◌, arith, slice_get, slice_index_or, if◌then◌else◌}, lemmas.{Bool.{false≢true, eq-eqb}, Option.get_or_from_slice_get}}
+use Rattle.std.proofs.{Common.{◌≡◌, ℕ, ◌&&◌, ◌||◌, not, Bool, true, false, length, map, Some, None, refl, sym, ap, ◌∙◌, arith, slice_get, slice_index_or, if◌then◌else◌}, lemmas.{Bool.{false≢true, eq-eqb}, Option.get_or_from_slice_get}}
 use Rattle.exec_base.specs.{Slab.{is_live, slot_at, value_at, value_in}, declared.{slab.{Id.Id, Slot.{Slot, TheVariants.{Live, Vacant, Retired}}}, task_no.TaskNo.TaskNo}}
 use Rattle.exec_outcomes.specs.declared.outcome.Outcome.{Outcome}
 use Rattle.exec_request.specs.declared.output.RequestOutput.{RequestOutput}
@@ -14,9 +14,6 @@ outcome_open (Resolved x) h = absurd (false≢true (sym h))
 outcome_open _ h = refl
 
 module _ {B : Type 0} (w : Worker) (s : Shared B) (q : Place) (sound : SoundAt q w s) (id : Id) (it : Waiter Reply Reply) (live : waiter_at (driver_of w).requests id ≡ Some it) where
-  n : List ℕ
-  n = w.names.requests.items
-
   value : value_at (driver_of w).requests id ≡ Some (Pending it)
   value = entry_of (value_at (driver_of w).requests id) it live
 

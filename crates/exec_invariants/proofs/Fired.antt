@@ -15,9 +15,6 @@ pub all_by : {X : Type 0} (test : X → Bool) (xs : List X) → ((k : ℕ) (x : 
 all_by test [] h = refl
 all_by test (x ∷ xs) h = rw (h 0 x refl) (all_by test xs (λ k y there. h (suc k) y there))
 
-pub le_self : (n : ℕ) → nat_le n n ≡ true
-le_self n = grind (arith, nat_tests)
-
 pub le_is : (a b : ℕ) → a ≤ b → nat_le a b ≡ true
 le_is a b h = grind (arith, nat_tests)
 

@@ -1,6 +1,6 @@
 -- WHAT TASKS HOLD, where a worker is told of a request that nobody holds it, or that it is waited for elsewhere; and where it
 -- pays a wake.
-use Rattle.std.proofs.{Common.{◌≡◌, ◌≢◌, ◌⊎◌, ⊎_elim, ℕ, ◌+◌, ◌<◌, ◌≤◌, ◌&&◌, Bool, true, false, not, List, sum_by, Option, Some, None, IsSome, refl, sym, ap, subst, ◌∙◌, arith, slice_get, slice_set}, lemmas.Bool.false≢true}
+use Rattle.std.proofs.{Common.{◌≡◌, ◌≢◌, ℕ, ◌+◌, ◌<◌, ◌≤◌, ◌&&◌, Bool, true, false, not, List, sum_by, Option, Some, None, IsSome, refl, sym, ap, subst, ◌∙◌, arith, slice_get, slice_set}, lemmas.Bool.false≢true}
 use Rattle.exec_machine.specs.{declared.state.Forwarding.TheVariants.Applied, Tests.is_unsent}
 use Rattle.exec_words.specs.declared.inbox.Message.{Message}
 use Rattle.exec_parts.{specs.declared.parts.mail.Subject.Subject, proofs.Facts.{by_number, same_thing, set_elsewhere, set_there}}
@@ -165,15 +165,3 @@ module _ (h h' : Hands) (workers : ℕ) (hs : List Holder) (ts : List Thing) (na
           (λ same.
           let is : owes.0 ≡ r = same_thing owes.0 r (sym owes.1 ∙ ap (slice_get ts) same ∙ by.thing) in
           (r', subst (λ m. slice_get (slice_set ts k r') m ≡ Some r') (sym same) (set_there ts k r' r by.thing), by.owes i u some (subst (λ x. ThingOwes i u x boxes) is owes.2)))
-
--- a message that is in hand takes effect
-pub record InHand (h h' : Hands) (m : Mail) : Type 0 where
-  pub mail : (other : Mail) → other ≢ m → h'.mail other ≡ h.mail other
-  pub told : h.mail m ≡ h'.mail m + 1
-  pub wakes : h'.wakes ≡ h.wakes
-
-fewer_in_hand : (h h' : Hands) (m : Mail) → InHand h h' m → (same_mail_is : (a b : Mail) → (a ≡ b) ⊎ (a ≢ b)) → (other : Mail) → 0 < h'.mail other → 0 < h.mail other
-fewer_in_hand h h' m by decide other some =
-    ⊎_elim
-    (λ same. let n : h.mail other ≡ h'.mail other + 1 = subst (λ x. h.mail x ≡ h'.mail x + 1) (sym same) by.told in omega (arith, n, some))
-    (λ apart. let n = by.mail other apart in omega (arith, n, some)) (decide other m)

@@ -1,5 +1,5 @@
 -- WHAT TASKS HOLD, where a task takes an output, waits for a request, or lets go of one.
-use Rattle.std.proofs.{Common.{◌≡◌, ◌≢◌, ◌⊎◌, inl, inr, ⊎_elim, ℕ, zero, suc, ◌+◌, ◌<◌, ◌≤◌, ◌==◌, ◌&&◌, Bool, true, false, not, cond, List, [], ◌∷◌, ◌++◌, count_by, length, Option, Some, None, IsSome, is_some, Result, Ok, Err, refl, sym, ap, subst, ◌∙◌, arith, slice_get, slice_set}, lemmas.{Bool.{false≢true, eq-eqb}, List.Sums.{sum_by-cons, sum_by-append}}}
+use Rattle.std.proofs.{Common.{◌≡◌, ◌≢◌, ◌⊎◌, inl, inr, ⊎_elim, ℕ, zero, suc, ◌+◌, ◌<◌, ◌≤◌, ◌==◌, ◌&&◌, Bool, true, false, not, cond, List, [], ◌∷◌, ◌++◌, count_by, Option, Some, None, IsSome, is_some, Result, Ok, Err, refl, sym, ap, subst, ◌∙◌, arith, slice_get, slice_set}, lemmas.{Bool.{false≢true, eq-eqb}, List.Sums.{sum_by-cons, sum_by-append}}}
 use Rattle.exec_base.specs.declared.{error.Error.Error, one_shot.OneShotState.{OneShotState, TheVariants.{Open, Sent, Closed}}}
 use Rattle.exec_outcomes.specs.declared.outcome.Outcome.{Outcome}
 use Rattle.exec_request.specs.declared.output.RequestOutput.{RequestOutput}
@@ -91,16 +91,9 @@ get_front [] ys j q h = absurd (cc)
 get_front (x ∷ xs) ys zero q h = h
 get_front (x ∷ xs) ys (suc j) q h = get_front xs ys j q h
 
-get_last : {A : Type 0} (xs : List A) (x : A) → slice_get (xs ++ x ∷ []) (length xs) ≡ Some x
-get_last [] x = refl
-get_last (y ∷ ys) x = get_last ys x
-
 module _ (k : ℕ) (held fewer : List Held) (new : IsNewest k held fewer) where
   pub fewer_held : (j : ℕ) (x : Held) → slice_get fewer j ≡ Some x → slice_get held j ≡ Some x
   fewer_held j x at = ap (λ hs. slice_get hs j) new.all ∙ get_front fewer (new.x ∷ []) j x at
-
-  pub newest_held : slice_get held (length fewer) ≡ Some new.x
-  newest_held = ap (λ hs. slice_get hs (length fewer)) new.all ∙ get_last fewer new.x
 
   pub one_more : held_in k held ≡ held_in k fewer + 1
   one_more =

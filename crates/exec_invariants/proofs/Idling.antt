@@ -1,5 +1,5 @@
 -- What the middle of a service finds where no deadline has come, none is new, and no request waits at a gate.
-use Rattle.std.{proofs.{Common.{◌≡◌, ℕ, zero, suc, ◌+◌, ◌-◌, ◌*◌, ◌/◌, ◌<◌, ◌≤◌, ◌==◌, ◌&&◌, Bool, true, false, List, [], ◌∷◌, map, Option, Some, None, refl, sym, ap, subst, ◌∙◌, arith, slice_get, nat_le}, lemmas.Bool.{false≢true, Decides.nat_tests}, Math.Nat.div-lt_iff_lt-mul}, specs.{List.list_any, Option.option_map}}
+use Rattle.std.{proofs.{Common.{◌≡◌, ℕ, zero, suc, ◌+◌, ◌-◌, ◌*◌, ◌/◌, ◌<◌, ◌≤◌, ◌==◌, Bool, true, false, List, [], ◌∷◌, map, Option, Some, None, refl, sym, ap, subst, ◌∙◌, arith, slice_get, nat_le}, lemmas.Bool.{false≢true, Decides.nat_tests}, Math.Nat.div-lt_iff_lt-mul}, specs.{List.list_any, Option.option_map}}
 use Rattle.exec_base.specs.Slab.{Slab}
 use Rattle.exec_time.specs.declared.timers.Sleeper.{Sleeper as Sleeping}
 use Rattle.exec_waiters.specs.{States.{waiter_at, tick_in}, declared.waiter.Waiter.Waiter}
@@ -10,10 +10,6 @@ use Rattle.exec_parts.{specs.{declared.parts.{mail.Reply.Reply, names.Names.Name
 use Rattle.exec_invariants.{specs.{Due.{IsDue, wheel_moment}, Names.IsNamed}, proofs.Recorded.request_seen}
 
 -- LISTS
-
-and_false : (b : Bool) → (b && false) ≡ false
-and_false true = refl
-and_false false = refl
 
 pub first_none : {X : Type 0} (test : ℕ → X → Bool) (n : ℕ) (xs : List X) → ((k m : ℕ) (x : X) → slice_get xs k ≡ Some x → m ≡ n + k → test m x ≡ false) → first_numbered test n xs ≡ None
 first_none test n [] h = refl

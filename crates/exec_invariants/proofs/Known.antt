@@ -22,9 +22,6 @@ pub record WasThere (numbers : List ℕ) (requests : Slab (Entry Reply Reply)) (
   pub there : slice_get rs (number_in numbers id) ≡ Some r
   pub asks : AsksAsBefore it it' r r'
 
-asks_same : (it : Waiter Reply Reply) (r : Record) → AsksAsBefore it it r r
-asks_same it r = record { driver = λ h. inl h; kind = refl; target = refl; unrefused = λ h. h }
-
 -- Names that are past stay so, and each request asks as before, or its open has no hint.
 pub known_on : (i : ℕ) (numbers numbers' : List ℕ) (requests requests' : Slab (Entry Reply Reply)) (opens opens' : List OpenState) (rs rs' : List Record)
     → ((id : Id) → id.generation < 2 ^ 64 → IsPast requests id → IsPast requests' id) → ((id : Id) → IsPast requests' id → IsPast requests id) → length rs' ≡ length rs

@@ -5,7 +5,7 @@ use Rattle.exec_words.specs.{Inbox.{has_any, is_dropped, is_wake_root, opens_bat
 use Rattle.exec_machine.specs.{declared.state.MailMessage.{MailMessage, TheVariants.{ForwardRequest, ForwardTimer, CancelRequest, CancelTimer}}, Mail.{is_root_message, posted as seat_posted}, Tests.is_empty}
 use Rattle.exec_moves.specs.{Send.{Mailbox as Box, asks, posted, published_if}, State.{Things, word_of}, Thing.{mailbox_of, set_mailbox}}
 use Rattle.exec_parts.{specs.{declared.parts.{seat.Seat.Seat as Chair, shared.Shared.Shared}, MailPosts.{asks_by, chair_sent}, View.{Views, Visible, inbox_at, mail_of, message_of, polls_seen, queue_at, seat_seen, things_with, word_at}}, proofs.Showing.own_word_seen}
-use Rattle.exec_invariants.{specs.{Holding.{Mail, box_of}, Spares.SparesChair}, proofs.{HoldPosts.posted_in, Posting.{inbox_seen, none_seen, posted_both}}}
+use Rattle.exec_invariants.{specs.{Holding.{Mail}, Spares.SparesChair}, proofs.{Posting.{inbox_seen, none_seen, posted_both}}}
 
 -- it isn't about the root
 pub record IsLetter (m : MailMessage) : Type 0 where
@@ -46,9 +46,6 @@ module _ (m : MailMessage) (letter : IsLetter m) (chair : Chair) (open_box : cha
   sent_open =
       ap (λ c. if c then chair else record chair { mailbox = record chair.mailbox { inbox = sent chair.mailbox.inbox (mail_of m); waker = word_after chair.mailbox.inbox (mail_of m) chair.mailbox.waker } }) open_box
       ∙ ap (λ d. record chair { mailbox = record chair.mailbox { inbox = (if d then chair.mailbox.inbox else record chair.mailbox.inbox { messages = messages ++ mail_of m ∷ []; published = (if opens_batch chair.mailbox.inbox (mail_of m) then next_batch chair.mailbox.inbox.published else chair.mailbox.inbox.published) }); waker = word_after chair.mailbox.inbox (mail_of m) chair.mailbox.waker } }) undropped
-
-  pub box_open : box_of chair_open ≡ posted_in (mail_of m) (box_of chair)
-  box_open = refl
 
   one_more : length (messages ++ mail_of m ∷ []) ≡ length messages + 1
   one_more = length-append messages (mail_of m ∷ [])

@@ -70,10 +70,6 @@ pub record AppliedKeeps {B : Type 0} (spare : ℕ) (w : Worker) (s : Shared B) :
   pub known : IsKnown w.index w.names.requests.items (driver_of w).requests s.opens s.requests.items
   pub rooted : IsRooted w.index w.names (driver_of w) w.home.timers w.home.deferred s.requests.items s.sleepers.items
 
--- of the worker its driver, its sleepers, what is left to be told, and the numbers of what ended may change
-abbrev pub IsTouched : Worker → Worker → Type 0
-IsTouched w v = v ≡ record w { home = record w.home { driver = v.home.driver; timers = v.home.timers; deferred = v.home.deferred }; names = record w.names { ended = v.names.ended } }
-
 module _ {B : Type 0} where
   -- what the worker has already
   pub applied_keeps : (applied : ℕ) (taken : Bool) (w : Worker) (s : Shared B) → SoundAt (Place.Mail (InMail.Apply applied taken)) w s → AppliedKeeps (64 - applied) w s

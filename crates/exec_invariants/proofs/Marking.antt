@@ -1,14 +1,14 @@
 -- A record that is marked, as released or as one that has paid: what is named by it stays.
-use Rattle.std.{proofs.{Common.{◌≡◌, ℕ, ◌<◌, ◌==◌, Bool, true, false, List, [], ◌∷◌, length, Option, Some, None, IsSome, refl, sym, ap, subst, ◌∙◌, slice_get, slice_set, if◌then◌else◌}, lemmas.List.length-set}, specs.Option.option_map}
-use Rattle.exec_base.specs.{Slab.{Slab, value_at}, declared.slab.Id.Id}
+use Rattle.std.{proofs.{Common.{◌≡◌, ℕ, ◌==◌, Bool, true, false, List, [], ◌∷◌, length, Option, Some, None, refl, sym, ap, subst, ◌∙◌, slice_get, if◌then◌else◌}, lemmas.List.length-set}, specs.Option.option_map}
+use Rattle.exec_base.specs.{Slab.{Slab}}
 use Rattle.exec_time.specs.declared.timers.Sleeper.{Sleeper as Sleeping}
 use Rattle.exec_ring.specs.Rings.{RingState}
 use Rattle.exec_waiters.specs.States.{waiter_at}
 use Rattle.exec_driver.specs.Driving.{Driving}
-use Rattle.exec_machine.specs.{declared.config.Configuration.Configuration, Tests.{is_asleep, is_resolved, is_staged}}
+use Rattle.exec_machine.specs.{declared.config.Configuration.Configuration, Tests.{is_resolved, is_staged}}
 use Rattle.exec_moves.specs.declared.place.InService.{InService}
-use Rattle.exec_parts.{specs.{declared.parts.{mail.Reply.Reply, names.Names.Names, record.Record.Record, sleeping.SleeperRecord.SleeperRecord, worker.Moments.Moments}, Calls.{as_sent, paying, releasing, sleeper_paying}, Records.number_in, Serving.{AreKnown, changed_in, changed_at, is_one_of}}, proofs.{Facts.{same_thing, same_number}, Flying.{get_set, get_changed}}}
-use Rattle.exec_invariants.{specs.{Flown.IsPlain, Names.{IsNamed, IsAlike, IsSubmitted}, Due.{IsDue, IsTimed, AreTimed, AreAsleep, IsAsleepAs}}, proofs.FiringNames.naps_set}
+use Rattle.exec_parts.{specs.{declared.parts.{mail.Reply.Reply, names.Names.Names, record.Record.Record, sleeping.SleeperRecord.SleeperRecord, worker.Moments.Moments}, Calls.{as_sent, paying, releasing}, Records.number_in, Serving.{AreKnown, changed_in, changed_at, is_one_of}}, proofs.{Flying.{get_changed}}}
+use Rattle.exec_invariants.{specs.{Flown.IsPlain, Names.{IsNamed, IsAlike, IsSubmitted}, Due.{IsDue, IsTimed, AreTimed}}}
 
 -- A mark changes only what was paid and released, and that its end was sent elsewhere.
 abbrev pub Marks : (Record → Record) → Type 0
@@ -135,39 +135,3 @@ module _ (f : Record → Record) (rs : List Record) (q : ℕ) where
         let old = before k x there in
         subst (IsTimed (record n { ended = m'.ended; unreleased = m'.unreleased }) k) (sym old.2) (assumption (due.timed k old.0 old.1 (sym (ap (λ y. y.shown.worker) old.2) ∙ mine))) in
         assumption (timed, due)
-
--- A SLEEPER THAT PAYS
-
-module _ (ss : List SleeperRecord) (n : ℕ) (z : SleeperRecord) (there : slice_get ss n ≡ Some z) where
-  -- what stands there then is the same, but for what it paid
-  pub slept_before : (k : ℕ) (y : SleeperRecord) → slice_get (slice_set ss n (sleeper_paying z)) k ≡ Some y → (v : SleeperRecord) × (slice_get ss k ≡ Some v) × (y ≡ record v { shown = record v.shown { wakes_paid = y.shown.wakes_paid } })
-  slept_before k y found = split (n == k) refl
-    where
-      now : slice_get (slice_set ss n (sleeper_paying z)) k ≡ (if n == k then Some (sleeper_paying z) else slice_get ss k)
-      now = get_set ss n k (sleeper_paying z) z there
-
-      split : (b : Bool) → (n == k) ≡ b → (v : SleeperRecord) × (slice_get ss k ≡ Some v) × (y ≡ record v { shown = record v.shown { wakes_paid = y.shown.wakes_paid } })
-      split true is =
-          let same : y ≡ sleeper_paying z = same_thing y (sleeper_paying z) (sym found ∙ now ∙ ap (λ b. if b then Some (sleeper_paying z) else slice_get ss k) is) in
-          (z, ap (slice_get ss) (sym (same_number n k is)) ∙ there, subst (λ v. v ≡ record z { shown = record z.shown { wakes_paid = v.shown.wakes_paid } }) (sym same) refl)
-      split false is = (y, sym (ap (λ b. if b then Some (sleeper_paying z) else slice_get ss k) is) ∙ sym now ∙ found, refl)
-
--- A sleeper that pays sleeps on, or doesn't.
-pub due_paid : {closing : Bool} (ss : List SleeperRecord) (k : ℕ) (z : SleeperRecord) → slice_get ss k ≡ Some z → (x : Option InService) (i : ℕ) (m : Moments) (c : Configuration) (n : Names) (d : Driving Reply Reply) (zs : Slab (Sleeping Reply)) (rs : List Record)
-    → IsDue x closing i m c n d zs rs ss → IsDue x closing i m c n d zs rs (slice_set ss k (sleeper_paying z))
-due_paid {closing} ss k z there x i m c n d zs rs due =
-    let alike : (id : Id) (it : Sleeping Reply) (y : SleeperRecord) → value_at zs id ≡ Some it → slice_get (slice_set ss k (sleeper_paying z)) (number_in n.timers.items id) ≡ Some y → IsAsleepAs i it y = λ id it y live found.
-    let v = slept_before ss k z there (number_in n.timers.items id) y found in
-    let old = due.asleep.alike id it v.0 live v.1 in
-    subst (λ u. IsAsleepAs i it u) (sym v.2) (assumption old) in
-    let live : (j : ℕ) (y : SleeperRecord) → slice_get (slice_set ss k (sleeper_paying z)) j ≡ Some y → is_asleep i y.shown ≡ true → y.closed ≡ false → IsSome (value_at zs y.id.0) = λ j y found asleep unclosed.
-    let v = slept_before ss k z there j y found in
-    subst (λ u. IsSome (value_at zs u.id.0)) (sym v.2) (due.asleep.there j v.0 v.1 (sym (ap (λ u. is_asleep i u.shown) v.2) ∙ asleep) (sym (ap (λ u. u.closed) v.2) ∙ unclosed)) in
-    let named : (j : ℕ) (y : SleeperRecord) → slice_get (slice_set ss k (sleeper_paying z)) j ≡ Some y → is_asleep i y.shown ≡ true → y.closed ≡ false → number_in n.timers.items y.id.0 ≡ j = λ j y found asleep unclosed.
-    let v = slept_before ss k z there j y found in
-    ap (λ u. number_in n.timers.items u.id.0) v.2 ∙ due.asleep.named j v.0 v.1 (sym (ap (λ u. is_asleep i u.shown) v.2) ∙ asleep) (sym (ap (λ u. u.closed) v.2) ∙ unclosed) in
-    let lets_go : (j : ℕ) (y : SleeperRecord) → slice_get (slice_set ss k (sleeper_paying z)) j ≡ Some y → y.shown.worker ≡ i → y.closed ≡ true → closing ≡ true = λ j y found mine closed.
-    let v = slept_before ss k z there j y found in
-    due.asleep.lets_go j v.0 v.1 (sym (ap (λ u. u.shown.worker) v.2) ∙ mine) (sym (ap (λ u. u.closed) v.2) ∙ closed) in
-    let asleep : AreAsleep closing i n zs (slice_set ss k (sleeper_paying z)) = record { alike = alike; there = live; named = named; lets_go = lets_go; counted = λ id past. subst (λ m. id.generation < m) (sym (length-set ss k (sleeper_paying z))) (due.asleep.counted id past); names = naps_set i zs zs ss k z (sleeper_paying z) there refl refl (λ id past. past) due.asleep.names } in
-    assumption (asleep, due)

@@ -218,12 +218,6 @@ module _ {B L : Type 0} (left : B → L) (spot : L → Option Said → Spot) whe
       goes slot there ∙ ap (λ y. queued_again w.root y (record w { place = after_poll_of w.root w })) (answer_given slot old.kept) ∙ requeued_root w a ∙ ap (λ o. record w { place = to; root_ready = f; hand = o }) empty in
       subst (λ y. Steps left spot w s e w' y) (sym turns.kept) (subst (λ y. Steps left spot w s e y (record s { tasks = s'.tasks })) (sym is) (subst (λ y. Steps left spot w s y (record w { place = to; root_ready = f; hand = None }) (record s { tasks = s'.tasks })) (sym event) done))
 
--- nobody is queued again whose runnable didn't come back
-pub not_requeued : (t : ℕ) (a : AfterPoll) (w : Worker) → ((r : Runnable) → a ≡ AfterPoll.Requeue r → ⊥) → queued_again t a w ≡ w
-not_requeued t AfterPoll.Done w never = refl
-not_requeued t (AfterPoll.Requeue r) w never = absurd (never r refl)
-not_requeued t (AfterPoll.Retire n how) w never = refl
-
 module _ {B : Type 0} where
   pub in_poll : (p : Phase B) (o : Option B) → is_polled p ≡ true → body_in p o ≡ o
   in_poll (Phase.Idle b) o h = absurd (false≢true h)

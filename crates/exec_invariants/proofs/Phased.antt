@@ -1,8 +1,8 @@
 -- How far a worker has come, where something of what that speaks of changes.
-use Rattle.std.proofs.{Common.{◌≡◌, ℕ, ◌<◌, Bool, true, false, List, Option, Some, None, refl, sym, ap, ◌∙◌, slice_get, slice_set}, lemmas.Bool.false≢true}
+use Rattle.std.proofs.{Common.{◌≡◌, ℕ, ◌<◌, Bool, true, false, List, Some, None, refl, sym, ap, ◌∙◌, slice_get, slice_set}, lemmas.Bool.false≢true}
 use Rattle.exec_machine.specs.{declared.state.WorkerPhase.WorkerPhase, Tests.{is_open, has_ended}}
 use Rattle.exec_moves.specs.declared.place.InClosing.{InClosing}
-use Rattle.exec_parts.{specs.{declared.parts.task_slot.TaskSlot.TaskSlot, Phased.{IsPhased, Stage, is_complete, root_over}}, proofs.Facts.{set_there, same_thing}}
+use Rattle.exec_parts.{specs.{declared.parts.task_slot.TaskSlot.TaskSlot, Phased.{IsPhased, Stage, is_complete}}, proofs.Facts.{set_there, same_thing}}
 
 not_ended : (p : WorkerPhase) → is_open p ≡ true → has_ended p ≡ false
 not_ended WorkerPhase.Open h = refl
@@ -11,17 +11,6 @@ not_ended WorkerPhase.Ended h = absurd (false≢true h)
 
 module _ {B : Type 0} where
   -- the root's slot changes, and is over then or not
-  phased_by : (i : ℕ) (closes : Bool) (x : Option InClosing) (told : Bool) (t n : ℕ) (st : Stage) (tasks : List (TaskSlot B)) (slot slot' : TaskSlot B)
-      → slice_get tasks t ≡ Some slot → is_complete slot'.cell.phase ≡ root_over closes x → IsPhased i closes x told t n st tasks → IsPhased i closes x told t n st (slice_set tasks t slot')
-  phased_by i closes x told t n st tasks slot slot' there over phased =
-      let root : (other : TaskSlot B) → slice_get (slice_set tasks t slot') t ≡ Some other → is_complete other.cell.phase ≡ root_over closes x = λ other found. ap (λ o. is_complete o.cell.phase) (same_thing other slot' (sym found ∙ set_there tasks t slot' slot there)) ∙ over in
-      assumption (root, phased)
-
-  -- It is over as it was.
-  pub phased_task : (i : ℕ) (closes : Bool) (x : Option InClosing) (told : Bool) (t n : ℕ) (st : Stage) (tasks : List (TaskSlot B)) (slot slot' : TaskSlot B)
-      → slice_get tasks t ≡ Some slot → is_complete slot'.cell.phase ≡ is_complete slot.cell.phase → IsPhased i closes x told t n st tasks → IsPhased i closes x told t n st (slice_set tasks t slot')
-  phased_task i closes x told t n st tasks slot slot' there same phased =
-      phased_by i closes x told t n st tasks slot slot' there (same ∙ phased.root slot there) phased
 
   -- It is over by this, so the worker is about to close; any but worker zero once the pool is stopped.
   pub phased_over : (i : ℕ) (told : Bool) (t n : ℕ) (st : Stage) (tasks : List (TaskSlot B)) (slot slot' : TaskSlot B)

@@ -131,31 +131,6 @@ module _ {B : Type 0} where
             left_kept seats seats' keeps (pool.shut j was.0 was.1 (sym was.2.pool ∙ of_pool) (sym was.2.closed ∙ closed));
       }
 
-  -- TASKS that are no ordinary ones change
-  pub record SameOrdinary (tasks tasks' : List (TaskSlot B)) : Type 0 where
-    pub on : (t : ℕ) (slot : TaskSlot B) → slice_get tasks t ≡ Some slot → slot.home ≡ None → slice_get tasks' t ≡ Some slot
-    pub back : (t : ℕ) (slot : TaskSlot B) → slice_get tasks' t ≡ Some slot → slot.home ≡ None → slice_get tasks t ≡ Some slot
-
-  pub pool_ordinary : (d : Duties) (tasks tasks' : List (TaskSlot B)) (set : Set (Unit {0})) (seats : List Chair) → SameOrdinary tasks tasks' → IsPool d tasks set seats → IsPool d tasks' set seats
-  pool_ordinary d tasks tasks' set seats same pool =
-      record {
-        live = λ t slot there home. pool.live t slot (same.back t slot there home) home;
-        home = pool.home;
-        only = λ t some.
-            let it = pool.only t some in
-            (it.0, same.on t it.0 it.1 it.2, it.2);
-        who_polls = λ t slot there home polled. pool.who_polls t slot (same.back t slot there home) home polled;
-        who_clears = pool.who_clears;
-        clear_shut = λ t slot there home. pool.clear_shut t slot (same.back t slot there home) home;
-        removes = λ j t is.
-            let it = pool.removes j t is in
-            (record { slot = it.0.slot; there = same.on t it.0.slot it.0.there it.0.ordinary; ordinary = it.0.ordinary; over = it.0.over }, it.1);
-        alone = pool.alone;
-        drained = pool.drained;
-        mail = pool.mail;
-        shut = pool.shut;
-      }
-
   -- THE SLOT OF TASK t became this, and worker i may do something else
   pub record Redoes (t i : ℕ) (d d' : Duties) (slot slot' : TaskSlot B) (seats : List Chair) : Type 0 where
     pub home : slot'.home ≡ slot.home

@@ -1,5 +1,5 @@
 -- Of the kinds of requests: a write and a sync go on alone, and what stands at a gate is one of them.
-use Rattle.std.proofs.{Common.{◌≡◌, ℕ, Bool, true, false, length, None, if◌then◌else◌, refl, sym, ◌∙◌}, lemmas.Bool.false≢true}
+use Rattle.std.proofs.{Common.{◌≡◌, ℕ, Bool, true, false, length, None, if◌then◌else◌, refl, sym}, lemmas.Bool.false≢true}
 use Rattle.exec_outcomes.specs.{Accounts.is_durable, declared.outcome.Kind.Kind}
 use Rattle.exec_request.specs.{Requests.{asked_of, gate_of, gate_of_write, goes_on_alone}, Syncing.write_kind, Ways.asked_by, declared.{request.Request.Request as Asking, way.Way.Way, write_at.WriteAtState.WriteAtState}}
 use Rattle.exec_machine.specs.Tests.{is_kept}
@@ -34,10 +34,6 @@ durable_kept Kind.Dsync h = absurd (false≢true (sym h))
 durable_kept Kind.Many h = absurd (false≢true (sym h))
 durable_kept Kind.Sync h = absurd (false≢true (sym h))
 durable_kept _ h = refl
-
--- what is let go of at once needs no permit
-pub lone_free : (q : Asking) → goes_on_alone q ≡ false → is_durable (asked_of q).kind ≡ false
-lone_free q h = durable_kept (asked_of q).kind (kept_alone q ∙ h)
 
 -- what needs no permit has no gate
 pub gate_none : (q : Asking) → is_durable (asked_of q).kind ≡ false → gate_of q ≡ None

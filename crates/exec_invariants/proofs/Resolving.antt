@@ -1,10 +1,10 @@
 -- A request is over: its driver lets go of it, and what its end leaves is told.
 use Rattle.std.proofs.{Common.{◌≡◌, ◌≢◌, ℕ, ◌+◌, ◌^◌, ◌<◌, ◌≤◌, true, List, [], ◌∷◌, ◌++◌, length, Option, Some, None, IsSome, refl, sym, ap, subst, ◌∙◌, arith, inl, inr, is_some}, lemmas.{Bool.false≢true, List.{length-append, length-set}}}
-use Rattle.exec_base.{specs.{Slab.{Slab, IsPast, value_at, written, removed, freed}, declared.{slab.Id.Id, task_no.TaskNo.TaskNo}}, proofs.Slots.{past-free, past-write, Changed-set, IsLiveAt-from_value, Updates-free, Updates-write, live_within, was_live}}
+use Rattle.exec_base.{specs.{Slab.{Slab, IsPast, value_at, written, removed, freed}, declared.{slab.Id.Id}}, proofs.Slots.{past-free, past-write, Changed-set, IsLiveAt-from_value, Updates-free, Updates-write, live_within, was_live}}
 use Rattle.exec_outcomes.specs.Accounts.{Account}
 use Rattle.exec_time.specs.Wheel.{Wheel, removed as unticked}
 use Rattle.exec_request.specs.{Requests.output_of, States.Ended, declared.output.RequestOutput.RequestOutput}
-use Rattle.exec_waiters.{specs.{Events.{finished, finished_for, output_told, told_by_finish}, States.{is_held_by, waiter_at, pending_count}, Told.{Told, Tells, tasks_of}, declared.{deferred.{Deferred.Deferred, Retired.Retired as Let}, observer.Observer.{Observer, TheVariants.{DetachedSync, Forwarded, Local, Orphaned}}, waiter.{Entry.{Entry, TheVariants.{Pending, Ready}}, Waiter.Waiter}, waiter_id.WaiterId.WaiterId}}, proofs.Changes.{entry_of, one_if}}
+use Rattle.exec_waiters.{specs.{Events.{finished, finished_for}, States.{is_held_by, waiter_at, pending_count}, Told.{Told, Tells}, declared.{deferred.{Deferred.Deferred}, observer.Observer.{Observer, TheVariants.{DetachedSync, Forwarded, Local, Orphaned}}, waiter.{Entry.{Entry, TheVariants.{Pending, Ready}}, Waiter.Waiter}, waiter_id.WaiterId.WaiterId}}, proofs.Changes.{entry_of, one_if}}
 use Rattle.exec_driver.{specs.{Lists.{is_among, is_same, without}, Steps.{ended, unscheduled}}, proofs.{Counting.pending_is, Endings.one_finished, Names.same_tells}}
 use Rattle.exec_machine.specs.declared.config.Configuration.{Configuration}
 use Rattle.exec_parts.{specs.{declared.parts.mail.Reply.Reply, Calls.IsTold}, proofs.Facts.or_right}
@@ -126,19 +126,6 @@ pub record ToldOnce (t : Told Reply Reply) : Type 0 where
   pub resources : length t.resources ≡ 1
   pub completions : length t.completions ≤ 1
   pub results : length t.results ≤ 1
-
-few_wakes : (w : Option TaskNo) → length (tasks_of w) ≤ 1
-few_wakes None = omega arith
-few_wakes (Some t) = omega arith
-
-once_by : (id : Id) (o : Observer Reply Reply) (told : RequestOutput) (kept : Let) → ToldOnce (record (output_told id told o) { resources = kept ∷ [] })
-once_by id (Local waker) told kept = record { wakes = few_wakes waker; outputs = omega arith; resources = refl; completions = omega arith; results = omega arith }
-once_by id (Forwarded reply) told kept = record { wakes = omega arith; outputs = omega arith; resources = refl; completions = omega arith; results = omega arith }
-once_by id (DetachedSync reply) told kept = record { wakes = omega arith; outputs = omega arith; resources = refl; completions = omega arith; results = omega arith }
-once_by id Orphaned told kept = record { wakes = omega arith; outputs = omega arith; resources = refl; completions = omega arith; results = omega arith }
-
-pub told_once : (id : Id) (it : Waiter Reply Reply) (how : Ended) (account : Option Account) → ToldOnce (told_by_finish id it how account)
-told_once id it how account = once_by id it.observer (output_of it.request how account) _
 
 pub told_ended : (ended e' : List ℕ) (k n : ℕ) (left left' : Deferred Reply Reply) (t : Told Reply Reply) → Tells left left' t → ToldOnce t → e' ≡ ended ++ k ∷ [] → IsTold ended left (n + 1) → IsTold e' left' n
 told_ended ended e' k n left left' t tells once is told =

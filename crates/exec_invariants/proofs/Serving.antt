@@ -371,6 +371,3 @@ module _ {B : Type 0} where
         spares = λ j other. spares_service_by w.index j s s' other serves.shared spares room;
         whole = λ others whole. whole_service q w w' s s' others here serves balances whole;
       }
-
-  pub beside_service : (q : Place) (w w' : Worker) (s s' : Shared B) → w.place ≡ q → Serves q w w' s s' → SparesRecords w.index s s' → Balances w w' s s' → HasRoom s'.requests.items s'.store → Beside w s w' s'
-  beside_service q w w' s s' here serves spares balances room = beside_service_by q w w' s s' here serves (spares_gates w.index s s' spares) balances room

@@ -129,9 +129,6 @@ module _ {B L : Type 0} (left : B → L) (runs : L → Plan → Option ℕ → T
       gone_first : AllGone w.index h.made.slot.held.items Waiting.Nothing it.v.letters w it.lets.v it.lets.first it.lets.now
       gone_first = gone_awake w.index h.made.slot.held.items Waiting.Nothing it.v.letters w it.lets.v it.lets.first it.lets.now (subst (λ (y : Shared B). AreLinedUp y.opens y.requests.items) (sym first_is) h.sound.gates) all_let others_left slept.2 (λ all. refl) (λ all me. refl) (λ all d. refl)
 
-      abbrev after : Shared B
-      after = record it.lets.now { tasks = s.tasks }
-
       gone : AllGone w.index h.made.slot.held.items h.made.slot.waiting it.v.letters w it.lets.v s (record it.lets.now { tasks = s.tasks })
       gone = subst (λ u. AllGone w.index h.made.slot.held.items u it.v.letters w it.lets.v s (record it.lets.now { tasks = s.tasks })) (sym waits) (gone_at w.index h.made.slot.held.items Waiting.Nothing it.v.letters w it.lets.v s it.lets.first it.lets.now first_is gone_first)
 

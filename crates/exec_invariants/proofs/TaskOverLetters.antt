@@ -58,13 +58,6 @@ forwards_in s l =
     let c = never_sleep (Message.Forward s) (λ h. refl) l.timer in
     omega (arith, a, b, c)
 
-roots_in : (l : Letters) → mail_in Message.WakeRoot (mail_of_letters l) ≡ 0
-roots_in l =
-    let a = mail_both Message.WakeRoot (map cancel_held l.requests.items) (map cancel_sleep (option_to_list l.timer)) in
-    let b = never_held Message.WakeRoot (λ h. refl) l.requests.items in
-    let c = never_sleep Message.WakeRoot (λ h. refl) l.timer in
-    omega (arith, a, b, c)
-
 pub removes_in : (n : ℕ) (l : Letters) → mail_in (Message.Cancel (subject.Timer n)) (mail_of_letters l) ≡ mail_in (Message.Cancel (subject.Timer n)) (map cancel_sleep (option_to_list l.timer))
 removes_in n l =
     let a = mail_both (Message.Cancel (subject.Timer n)) (map cancel_held l.requests.items) (map cancel_sleep (option_to_list l.timer)) in

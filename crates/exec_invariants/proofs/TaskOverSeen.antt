@@ -17,17 +17,8 @@ module _ {B L : Type 0} (left : B → L) (spot : L → Option Said → Spot) (p 
   sees : SeesAll c slot.held.items s.requests.items
   sees = λ j x r at_j at_k. request_at s.requests.items x.number r at_k
 
-  abbrev pub then_worker : Worker
-  then_worker = over_worker q l v w
-
-  abbrev pub then_shared : Shared B
-  then_shared = over_shared s'.tasks.items s' now s
-
   pub visible_then : visible (over_worker q l v w) ≡ visible w
   visible_then = sym (ap visible gone.worker) ∙ gone.shows
-
-  pub worker_then : over_worker q l v w ≡ record v { place = q; letters = l }
-  worker_then = ap (λ (x : Worker). record x { place = q; letters = l }) (sym gone.worker)
 
   again : with_view vs w.index (visible (over_worker q l v w)) ≡ vs
   again = ap (with_view vs w.index) visible_then ∙ view_found vs w.index (visible w) suits.seen

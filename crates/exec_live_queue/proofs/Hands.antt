@@ -124,10 +124,6 @@ module _ {T : Type 0} where
   values_before [] (suc r) a b = values_before [] r a (suc b)
   values_before (x ∷ xs) r a b = ap (λ (l : List T). x ∷ l) (values_before xs r (suc a) b)
 
-  -- the first of a list, and the rest of it
-  pub fronted : (c r : List (ℕ × Option T)) (k : ℕ) (x : Option T) → c ≡ (k, x) ∷ r → c ≡ (k, x) ∷ rest c
-  fronted c r k x e = e ∙ (λ i. (k, x) ∷ rest (sym e i))
-
   -- a run of slots, and one more behind it
   hand_snoc : (b : ℕ) (ys : List (Option T)) (y : Option T) → hand b ys ++ ((b + length ys) % 256, y) ∷ [] ≡ hand b (ys ++ y ∷ [])
   hand_snoc b [] y = let e : b + zero ≡ b = omega arith in ap (λ (n : ℕ). (n % 256, y) ∷ []) e

@@ -7,10 +7,6 @@ module _ {T : Type 0} where
   pub hands_front : (m : Sat T) (j label : ℕ) (x : T) (xs : List T) → AtHand m j (x ∷ xs) → label ≡ m.0.own.tail + j → m.1 ≡ (label % 256, Some x) ∷ rest m.1
   hands_front m j label x xs h is = grind arith
 
-  -- all were handed out
-  pub handed_all : (m : Sat T) (j : ℕ) → AtHand m j [] → 0 < j → (0 < m.0.own.out_len) × (m.1 ≡ hand m.0.own.out_at (replicate m.0.own.out_len None))
-  handed_all m j h pos = grind arith
-
   pub handed_back : (m m' : Sat T) (j n : ℕ) → AtHand m j [] → returned (step 256 11 0 0 none) m n m' → AtRest m' × HasLooked m.0.own m'.0.own
   handed_back m m' j n h back = grind arith
 

@@ -1,5 +1,5 @@
 -- What an owner's calls do to its view, step after step.
-use Rattle.exec_live_queue.proofs.{Words.{◌≡◌, ◌≢◌, ℕ, ◌+◌, ◌-◌, ◌*◌, ◌/◌, ◌%◌, ◌^◌, ◌<◌, ◌≤◌, List, [], ◌∷◌, ◌++◌, length, take, map, replicate, sym, refl, ap, ◌∙◌, subst, arith, none, Option, Some, None, step, Own, Owns, Sat, room, hand, laid, returned, Found, Popped, values_of, published_view, Overflowed, restored_view, whole, IsSeen, AtRest, looked, HasLooked, HasPopped, HasPublished, HasOverflowed, fully, AtHand, Fills, AfterSteal, HasKept, Theft, Steal, rest, length-append, length-drop, append_assoc}, Hands.values_behind, Overflows.whole_length}
+use Rattle.exec_live_queue.proofs.{Words.{◌≡◌, ◌≢◌, ℕ, ◌+◌, ◌-◌, ◌/◌, ◌%◌, ◌^◌, ◌<◌, ◌≤◌, List, [], ◌∷◌, ◌++◌, length, take, map, replicate, sym, refl, ap, ◌∙◌, subst, arith, none, Option, Some, None, step, Own, Owns, Sat, room, hand, laid, Found, values_of, published_view, Overflowed, restored_view, whole, IsSeen, AtRest, looked, HasLooked, HasPublished, HasOverflowed, fully, AtHand, Fills, AfterSteal, HasKept, Theft, Steal, rest, length-append, length-drop, append_assoc}, Hands.values_behind, Overflows.whole_length}
 use Rattle.std.proofs.{Common.{min, drop, append-nil}, lemmas.{List.length-take-le}}
 use Rattle.exec_words.specs.Head.{room_at}
 
@@ -23,27 +23,9 @@ module _ {T : Type 0} where
   pub looks_on : (a b d : Own T) → HasLooked a b → HasLooked b d → HasLooked a d
   looks_on a b d h k = (k.0 ∙ ap (λ (x : Own T). looked x d) h.0, omega (arith, h.1, k.1))
 
-  -- a pop after a look
-  pub pops_on : (a b d : Own T) (x : T) → HasLooked a b → HasPopped b x d → HasPopped a x d
-  pops_on a b d x h k = grind arith
-
-  -- a head that was found in place of the one that was seen leaves fewer values, or as many and no claim
-  pub fewer : (d : Own T) (seen n tail : ℕ) → IsSeen d seen → Found d n → n ≢ seen → d.saw_real < tail → 2 * (tail - n / 512) + min (n % 512) 1 < 2 * (tail - seen / 512) + min (seen % 512) 1
-  fewer d seen n tail s f ne any = grind arith
-
   -- the head that was found is the one that was seen last
   pub laid_seen : (f : ℕ → ℕ) (m m' : Sat T) (n : ℕ) → laid f (step 256 11 0 0 none) m n m' → IsSeen m'.0.own n
   laid_seen f m m' n l = let o = l.0.1 in subst (λ (x : Sat T). IsSeen x.0.own n) (sym l.1) (refl, refl, o.begun, o.behind, o.within)
-
-  -- the slot that a pop took
-  pub pops_out : (m m1 : Sat T) (real gap : ℕ) → AtRest m → Popped m.0 m.0.own.saw_real gap m1 → real ≡ m.0.own.saw_real
-      → (m1.0.stage ≡ Owns) × (((m1.0.own.out_at ≡ real + 256) × (m1.0.own.out_len ≡ 1)) × ((x : T) × (m1.1 ≡ hand (real + 256) (Some x ∷ []))))
-  pops_out m m1 real gap r p same = grind arith
-
-  -- the whole pop
-  pub pops_back : (m m1 m2 : Sat T) (x : T) (real n gap : ℕ) → AtRest m → Popped m.0 m.0.own.saw_real gap m1 → real ≡ m.0.own.saw_real → m1.1 ≡ hand (real + 256) (Some x ∷ [])
-      → returned (step 256 11 0 0 none) m1 n m2 → AtRest m2 × HasPopped m.0.own x m2.0.own
-  pops_back m m1 m2 x real n gap r p same took back = grind arith
 
   -- a look that took the one free slot that it asked for
   pub took_one : (m m' : Sat T) (n : ℕ) → laid (λ room. min room 1) (step 256 11 0 0 none) m n m' → m.0.own.tail - n / 512 + n % 512 < 256

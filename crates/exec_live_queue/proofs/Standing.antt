@@ -1,10 +1,10 @@
 -- How the seat of an owner stands between its calls.
-use Rattle.exec_live_queue.proofs.{Words.{◌≡◌, ℕ, ◌+◌, ◌-◌, ◌%◌, ◌^◌, ◌<◌, ◌≤◌, List, [], ◌∷◌, length, sym, refl, ap, ◌∙◌, arith, Option, Some, None, slice_get, push_answer, handed_out, View, Sat, returned, values_of, Place, SameSeat, HasLooked, HandsOut, Stands}, Hands.values_before, Moves.{handed_all, handed_back, handed_one, hands_front, one_front}, Owners.own_tail}
+use Rattle.exec_live_queue.proofs.{Words.{◌≡◌, ℕ, ◌+◌, ◌-◌, ◌%◌, ◌^◌, ◌<◌, ◌≤◌, List, [], ◌∷◌, length, sym, refl, ap, ◌∙◌, arith, Option, Some, None, slice_get, push_answer, handed_out, View, Sat, returned, values_of, Place, SameSeat, HasLooked, HandsOut, Stands}, Hands.values_before, Moves.{handed_back, handed_one, hands_front, one_front}, Owners.own_tail}
 use Rattle.std.specs.Prelude.{drop}
 use Rattle.atomic_table.specs.declared.shared.Shared.{Shared}
 use Rattle.exec_words.specs.declared.head.Fit.{Fit}
 use Rattle.exec_live_queue.specs.declared.owner.Owner.TheVariants as owner
-use Rattle.exec_live_queue.specs.{Alone.Alone, Kinds.handed_by, Seats.{FrontHas, HasEmptied, IsAt, Swapped, Tells}}
+use Rattle.exec_live_queue.specs.{Alone.Alone, Kinds.handed_by, Seats.{FrontHas, IsAt, Swapped, Tells}}
 
 module _ {T : Type 0} where
   parts : (xs : List T) → 0 < length xs → (x : T) × (ys : List T) × (xs ≡ x ∷ ys)
@@ -42,11 +42,6 @@ module _ {T P : Type 0} where
       let h : HandsOut words seat' (j + 1) n.1
       = ((same.0 ∙ n.2.0.0, n.2.0.1, n.2.0.2), handed_one seat.me seat'.me j (tail + j) n.0 n.1 n.2.1 at w.1) in
       (n.1, h, n.4, n.3 ∙ (λ i. is i ∷ sym (handed words seat' (j + 1) n.1 h) i), ap (λ (m : Sat T). m.0) w.1)
-
-  -- the slots go back behind the last one
-  pub emptied_of : (words : Shared (Option T) (View T) ℕ P) (seat : Place T) (j : ℕ) (xs : List T) → HandsOut words seat (j + 1) xs → length xs ≡ 0 → HasEmptied words seat
-  emptied_of words seat j [] h dry = let a = handed_all seat.me (j + 1) h.1 (omega arith) in (h.0, h.1.0, a.0, a.1)
-  emptied_of words seat j (x ∷ xs) h dry = absurd (omega arith)
 
   pub stands_back : (words : Shared (Option T) (View T) ℕ P) (seat seat' : Place T) (tail j n : ℕ) (xs : List T)
       → HandsOut words seat (j + 1) xs → length xs ≡ 0 → tail ≡ seat.me.0.own.tail → Tells returned seat 0 n seat'

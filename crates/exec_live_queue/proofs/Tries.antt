@@ -1,5 +1,5 @@
 -- What a thief's tries do, one after another.
-use Rattle.exec_live_queue.proofs.{Words.{◌≡◌, sym, subst, ◌∙◌, refl, le_refl, arith, HasKept, HasLooked, AfterSteal, Owned, Steal, Theft}, Owners.{steals_on, steals_after}}
+use Rattle.exec_live_queue.proofs.{Words.{◌≡◌, sym, subst, ◌∙◌, refl, arith, HasKept, HasLooked, AfterSteal, Owned, Steal, Theft}, Owners.{steals_on, steals_after}}
 use Rattle.exec_live_queue.specs.{Kinds.{Does, IsStolen, IsStolenInto}, declared.owner.Owner.Owner}
 use Rattle.exec_words.specs.declared.queue.Steal.TheVariants as steal
 use Rattle.exec_live_queue.specs.declared.owner.Owner.TheVariants as owner
@@ -8,10 +8,6 @@ module _ {T : Type 0} where
   -- tries that took nothing
   abbrev pub Tried : Owner T → Theft T → Owner T → Theft T → Type 0
   Tried o t o' t' = Does (λ d d'. HasLooked d d' × HasKept t t') (λ q q'. (q' ≡ q) × (t' ≡ t)) o o'
-
-  pub tried_none : (o : Owner T) (t : Theft T) → Tried o t o t
-  tried_none (owner.Shared o) t = (refl, ((refl, le_refl o.own.saw_real), (refl, refl)))
-  tried_none (owner.Exclusive o) t = (refl, refl)
 
   -- and one more, which answered this
   abbrev pub TriedOn : Owner T → Theft T → Owner T → Theft T → Steal → Type 0

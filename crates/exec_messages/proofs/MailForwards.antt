@@ -266,9 +266,6 @@ module _ {B : Type 0} (k : ℕ) (w v : Worker) (s s' : Shared B) (idle : served_
 
   -- what an answer at once leaves
   module _ (x : Result RequestOutput Error) (tells : Tells left0 left (answered id reply x)) where
-    abbrev added_by : left.results.items ≡ left0.results.items ++ the_answer x ∷ []
-    added_by = tells.results_added
-
     pub wakes_same : left.notes.wakes.items ≡ left0.notes.wakes.items
     wakes_same = tells.notes.wakes_added ∙ append-nil left0.notes.wakes.items
 

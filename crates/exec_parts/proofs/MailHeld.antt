@@ -49,10 +49,6 @@ module _ {B : Type 0} where
       (w', s', subst (λ x. LetsGoOne h x w' s s') lets.0 (subst (λ x. LetsGoOne h v w' x s') lets.1 one), (refl, refl))
   joined (g ∷ gs) h w v w' s now s' lets one = (lets.0, lets.1, lets.2, joined gs h lets.0 v w' lets.1 now s' lets.3 one)
 
-  index_one : (h : Held) (w w' : Worker) (s s' : Shared B) → LetsGoOne h w w' s s' → w'.index ≡ w.index
-  index_one h w w' s s' (here mine lets) = ap (λ (x : Worker). x.index) lets.worker
-  index_one h w w' s s' (elsewhere other same still) = ap (λ (x : Worker). x.index) same
-
 -- THE LOOP
 
 drop_one : (xs : List Held) (at : ℕ) (h : Held) → at < length xs → drop at xs ≡ get_or xs at h ∷ drop (at + 1) xs

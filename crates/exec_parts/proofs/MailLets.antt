@@ -31,19 +31,6 @@ module _ (left left' : Deferred Reply Reply) where
         };
       })
 
-  pub fewer_completions : left' ≡ record left { notes = record left.notes { completions = left'.notes.completions } } → vec_len left'.notes.completions + 1 ≡ vec_len left.notes.completions → vec_capacity left'.notes.completions ≡ vec_capacity left.notes.completions → KeepsRoom left left'
-  fewer_completions same less room = λ ended live told.
-      subst (λ x. IsTold ended x live) (sym same)
-      (record {
-        resources = told.resources;
-        room = record {
-          notes = record { wakes = told.room.notes.wakes; completions = let h = told.room.notes.completions in omega (arith, less, room, h) };
-          outputs = told.room.outputs;
-          resources = told.room.resources;
-          results = told.room.results;
-        };
-      })
-
   pub fewer_results : left' ≡ record left { results = left'.results } → vec_len left'.results + 1 ≡ vec_len left.results → vec_capacity left'.results ≡ vec_capacity left.results → KeepsRoom left left'
   fewer_results same less room = λ ended live told.
       subst (λ x. IsTold ended x live) (sym same)

@@ -1,9 +1,9 @@
 -- A slot that takes a value, a list with one more at its end, and the number of what took the slot.
-use Rattle.std.{proofs.{Common.{◌≡◌, ◌≢◌, ◌⊎◌, ℕ, zero, suc, ◌+◌, ◌<◌, ◌≤◌, ◌==◌, Bool, true, false, cond, count_by, List, [], ◌∷◌, ◌++◌, length, Option, Some, None, IsSome, refl, sym, ap, subst, ◌∙◌, arith, inl, inr, is_some, slice_get, slice_index_or, slice_set}, lemmas.{Bool.{false≢true, eq-eqb, Decides.eqb_tells}, List.{get_or_past, length-append, length-set, set_past, Folds.list_any-append, Sums.{sum_by-set, sum_by_push}}, Option.{get_or_from_slice_get, unwrap_or-slice_get}}}, specs.{List.AllByRecursion, Prelude.unwrap_or}}
+use Rattle.std.{proofs.{Common.{◌≡◌, ◌≢◌, ◌⊎◌, ℕ, zero, suc, ◌+◌, ◌<◌, ◌≤◌, Bool, true, false, cond, count_by, List, [], ◌∷◌, ◌++◌, length, Option, Some, None, IsSome, refl, sym, ap, subst, ◌∙◌, arith, inl, inr, is_some, slice_get, slice_index_or, slice_set}, lemmas.{Bool.{false≢true, eq-eqb, Decides.eqb_tells}, List.{get_or_past, length-append, length-set, set_past, Folds.list_any-append, Sums.{sum_by-set, sum_by_push}}, Option.{get_or_from_slice_get, unwrap_or-slice_get}}}, specs.{List.AllByRecursion, Prelude.unwrap_or}}
 use Rattle.exec_base.{specs.{Slab.{Slab, slot_at, value_at, value_in, generation_of, next_generation, filled, inserted, next_id, IsPast, TakesId}, declared.slab.{Id.Id, Slot.{Slot, TheVariants.{Live, Vacant, Retired}}}}, proofs.Slots.{Changed, Changed-push, Changed-set, NextIs, id_cases, ltb_tells, some_of_if}}
 use Rattle.exec_waiters.specs.declared.waiter_id.WaiterId.{WaiterId}
 use Rattle.exec_driver.specs.{Driving.Driving, Lists.{is_among, is_same}}
-use Rattle.exec_parts.{specs.{declared.parts.{mail.Reply.Reply, record.Record.Record}, Records.number_in, Serving.{AreKnown, is_one_of}}, proofs.Facts.{same_self, or_right, or_left}}
+use Rattle.exec_parts.{specs.{declared.parts.{mail.Reply.Reply, record.Record.Record}, Records.number_in, Serving.{AreKnown}}, proofs.Facts.{same_self, or_right, or_left}}
 
 -- LISTS
 
@@ -38,12 +38,6 @@ among_now id None ids h = absurd (false≢true h)
 among_now id (Some m) ids h =
     list_any-append (λ other. is_same other id) ids (id ∷ [])
     ∙ or_right (is_among id ids) (is_among id (id ∷ [])) (or_left (is_same id id) false (same_self id))
-
-pub one_before : (k j : ℕ) (ks : List ℕ) → is_one_of j ks ≡ true → is_one_of j (ks ++ k ∷ []) ≡ true
-one_before k j ks h = list_any-append (λ q. q == j) ks (k ∷ []) ∙ or_left (is_one_of j ks) (is_one_of j (k ∷ [])) h
-
-pub one_now : (k : ℕ) (ks : List ℕ) → is_one_of k (ks ++ k ∷ []) ≡ true
-one_now k ks = list_any-append (λ q. q == k) ks (k ∷ []) ∙ or_right (is_one_of k ks) (is_one_of k (k ∷ [])) (or_left (k == k) false (eq-eqb k k refl))
 
 pub all_listed : (d : Driving Reply Reply) (ids : List WaiterId) → ((x : WaiterId) → is_among x ids ≡ true → IsSome (value_at d.requests x.0)) → AllByRecursion (λ e. IsSome (value_at d.requests e.0)) ids
 all_listed d [] h = tt

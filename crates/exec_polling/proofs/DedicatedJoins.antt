@@ -176,9 +176,6 @@ module _ {B : Type 0} where
     over_grown t o = record { slot = o.slot; there = again t o.slot o.there; ordinary = o.ordinary; over = o.over }
 
     module _ (x y : Profile) (has : HasNewcomer last x y) where
-      same_drops : (j : ℕ) → j ≢ last → y.drops_by j ≡ x.drops_by j
-      same_drops = has.drops_by
-
       removes_old : (j t : ℕ) → (y.drops_by j).removes ≡ Some t → (x.drops_by j).removes ≡ Some t
       removes_old j t is =
           by_number j last

@@ -62,9 +62,6 @@ desk_by w d n left batch =
 
 module _ {B : Type 0} (t : ℕ) (w w' : Worker) (s sx s' : Shared B) (q : Asking) (e : Event) (sound : SoundAt (Place.Poll t InPoll.Act) w s)
     (reg : Registers t q w w' (record s { tasks = sx.tasks }) s' e) (comes : IsComing q) (covers : is_durable (asked_of q).kind ≡ true → (operation t w w' s sx s' q e sound reg comes).seen ≡ seen_in q) where
-  abbrev k : ℕ
-  k = length s.requests.items
-
   abbrev pub goes_to : Place
   goes_to = Place.Poll t (joins_gate (length s.requests.items) (asked_of q).kind)
 
@@ -114,9 +111,6 @@ module _ {B : Type 0} (t : ℕ) (w w' : Worker) (s sx s' : Shared B) (q : Asking
       let within = slice_get_within s.requests.items (number_in w.names.requests.items x.0) old.0 old.1 in
       omega (arith, within, there x.0 some, same, here))
       ∙ ap (λ n. filter (λ m. not (m == n)) (numbers_of w'.names.requests.items ids)) here ∙ ap (λ xs. filter (λ m. not (m == length s.requests.items)) xs) (still ids live)
-
-  abbrev me : Own
-  me = own_of (record w { place = Place.Poll t InPoll.Act })
 
   abbrev parts : InPoll → List ℕ → List ℕ → List ℕ → List ℕ → ℕ → Own
   parts x ready unenrolled cancels ended flying =

@@ -293,10 +293,6 @@ module _ (q : Asking) (opens opens' : List OpenState) (rs : List Record) (r : Re
   no_write_account Kind.Write a h = absurd (false≢true (sym h))
   no_write_account _ a h = refl
 
-  -- the open at the machine
-  abbrev shown_at : Open
-  shown_at = slice_index_or (map (open_seen rs) opens) (target_of q) no_open
-
   shown_there : (o : OpenState) → slice_get opens (target_of q) ≡ Some o → slice_index_or (map (open_seen rs) opens) (target_of q) no_open ≡ open_seen rs o
   shown_there o there = get_or_from_slice_get (map (open_seen rs) opens) (target_of q) (open_seen rs o) no_open (slice_get-map (open_seen rs) opens (target_of q) ∙ ap (option_map (open_seen rs)) there)
 

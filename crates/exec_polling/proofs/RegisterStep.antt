@@ -5,10 +5,10 @@ use Rattle.exec_request.specs.{Requests.{asked_of, cursor_of, deadline_of, targe
 use Rattle.exec_ring.specs.Stores.{Reserves}
 use Rattle.exec_driver.specs.{Opens.account_in, Footprints.footprint_of, Steps.is_late}
 use Rattle.exec_task.specs.{Phases.is_polled, Sight.Sight, declared.body.{Act.Act, Said.Said}}
-use Rattle.exec_machine.specs.{declared.{config.Configuration.Configuration, event.Event.Event, state.{Forwarding.TheVariants.Unsent, Operation.Operation, Request.Request, Waiting.Waiting}}, Progress.Plan, Requests.{new_request, outcome_if_late, resolved_if}}
+use Rattle.exec_machine.specs.{declared.{config.Configuration.Configuration, event.Event.Event, state.{Forwarding.TheVariants.Unsent, Request.Request, Waiting.Waiting}}, Progress.Plan, Requests.{new_request, outcome_if_late, resolved_if}}
 use Rattle.exec_moves.specs.declared.{handing.AfterCallbacks.AfterCallbacks, place.{InCallbacks.InCallbacks, InPoll.InPoll, Place.Place}}
 use Rattle.exec_parts.{specs.{declared.parts.{record.Record.Record, seat.Seat.Seat as Chair, shared.Shared.Shared, sleeping.SleeperRecord.SleeperRecord, task_slot.TaskSlot.TaskSlot, worker.Worker.Worker}, Admitting.{Registers, joins_gate, one_made, seeing}, Records.{file_named, numbers_held, operation_in, outcome_in, seen_in}, Scripts.{IsAnswer, IsPlainRequest, held_after}, Spots.Spot, View.{Views, account_seen, body_in, driver_of, task_seen}}, proofs.Facts.{by_number, same_thing, set_there}}
-use Rattle.exec_invariants.{specs.{Acting.{HasActed, StillPerforms}, Gates.{AreLinedUp, HaveGates, JoinsGate}, Hearing.{CanHear, held_once_come}, Holding.{Box, Holder, IsHolding, MayHave, Thing, awaited_in, box_of, holder_of, nap_of, thing_of}, Places.{Drops, drops_at}, Sound.{SoundAt, acts_next}, Whole.{Profile, hands_of, with_worker}, Works.Beside}, proofs.{Gated.durable_of_file, Here.{IsHere, going_on, polled_here}, HoldBeside.{Handles, Holds}, HoldThings.touches_none, Pending.in_poll, Performing.{performs_on, still_performs}, PoolKept.chosen_own, ServingHolds.KeepsBy, SlotTasks.guest_pool, TaskDeals.{Dealt, acts, from_act, sound_dealt}}}
+use Rattle.exec_invariants.{specs.{Acting.{HasActed, StillPerforms}, Gates.{AreLinedUp, HaveGates, JoinsGate}, Hearing.{CanHear, held_once_come}, Holding.{Box, IsHolding, MayHave, Thing, awaited_in, box_of, holder_of, nap_of, thing_of}, Places.{Drops, drops_at}, Sound.{SoundAt, acts_next}, Whole.{Profile, hands_of, with_worker}, Works.Beside}, proofs.{Gated.durable_of_file, Here.{IsHere, going_on, polled_here}, HoldBeside.{Handles, Holds}, HoldThings.touches_none, Pending.in_poll, Performing.{performs_on, still_performs}, PoolKept.chosen_own, ServingHolds.KeepsBy, SlotTasks.guest_pool, TaskDeals.{Dealt, acts, from_act, sound_dealt}}}
 use Rattle.exec_polling.proofs.{Admitted.IsFew, IsComing.IsComing, Enlisted.{has_its_open, keeps_now, late_plain, made_early, made_late, opened, operation, record_made, registered_made, wakes_now}, Enlists.flat, RegisterBeside.{beside_joins, beside_made}, RegisterHolds.{MayHold, holding_registered}, MadePlaces.{holding_placed, placed_in}, RegisterOpens.{IsRegistered, Opened, covers_then, gates_then, hints_then, joins_then, lined_then}, RegisterSound.{Makes, MakesAt, grows_last, grows_same, made_at, sound_joins, sound_made}, Unbegun.{unbegun, wanted}}
 
 -- nothing is visible of anybody
@@ -56,9 +56,6 @@ module _ {B L : Type 0} (left : B → L) (runs : L → Plan → Option ℕ → T
         undated = it.undated;
       }
 
-  abbrev pub op : Operation
-  op = operation t w w' s s1 s' q e h.sound reg comes
-
   abbrev pub how : Opened (asked_of q).kind s.opens s'.opens (target_of q)
   how = opened t w w' s s1 s' q e h.sound reg comes
 
@@ -87,10 +84,6 @@ module _ {B L : Type 0} (left : B → L) (runs : L → Plan → Option ℕ → T
 
   pub its_worker : reg.made.shown.worker ≡ w.index
   its_worker = ap (λ (x : Request). x.worker) reg.shown ∙ same_worker (outcome_if_late w.moments.sampled (deadline_of q)) (new_request w.index (seeing s'.opens (operation_in q)))
-
-  -- THE WORKER, and what is shared
-  abbrev pub v : Worker
-  v = record w' { place = w.place }
 
   abbrev pub mid : Shared B
   mid = record s' { tasks = s.tasks }
@@ -231,10 +224,6 @@ module _ {B L : Type 0} (left : B → L) (runs : L → Plan → Option ℕ → T
       } in
       let dealt : Dealt InPoll.Act w'.index it.slot reg.slot' s'.requests.items s'.sleepers.items = subst (λ x. Dealt InPoll.Act w'.index x reg.slot' s'.requests.items s'.sleepers.items) (sym is) (subst (λ x. Dealt InPoll.Act w'.index h.made.slot x s'.requests.items s'.sleepers.items) (sym slot_is) to) in
       sound_dealt InPoll.Act InPoll.Act t (record w' { place = w.place }) (record s' { tasks = s.tasks }) s' reg.slot' (from_act t) (acts t) before it refl items_are (touches_none (record s' { tasks = s.tasks })) dealt
-
-  -- WHAT ALL HOLD
-  abbrev new_holder : Holder
-  new_holder = record (holder_of h.made.slot) { held = h.made.slot.held.items ++ record { number = length s.requests.items; worker = w.index } ∷ [] }
 
   abbrev seen_as : Request → Thing
   seen_as x = record { worker = x.worker; observed = x.observed; waiter = x.waiter; forwarding = x.forwarding; ended = outcome_in reg.made.shown.phase; paid = x.wakes_paid; sent = reg.made.sent }

@@ -141,15 +141,6 @@ module _ {B L : Type 0} (left : B → L) (spot : L → Option Said → Spot) (x 
     picks : pends.v.picks ≡ w.picks
     picks = ap (λ (y : Worker). y.picks) v_is ∙ ap (λ (y : Worker). y.picks) gone_first.worker
 
-    abbrev q : Place
-    q = cancels_left AfterCancels.Pick (desk_of pends.v) (letters_in pends.v.letters)
-
-    abbrev W : Worker
-    W = over_worker (cancels_left AfterCancels.Pick (desk_of pends.v) (letters_in pends.v.letters)) pends.v.letters lets.u w
-
-    abbrev S : Shared B
-    S = over_shared s'.tasks.items s' (record s' { tasks = s.tasks }) s
-
     worker_is : w' ≡ over_worker (cancels_left AfterCancels.Pick (desk_of pends.v) (letters_in pends.v.letters)) pends.v.letters lets.u w
     worker_is =
         goes_is ∙ ap (λ (y : Worker). record y { place = cancels_left AfterCancels.Pick (desk_of pends.v) (letters_in pends.v.letters) }) v_is

@@ -9,7 +9,7 @@ use Rattle.exec_moves.specs.Plays.{first_playing}
 use Rattle.exec_parts.specs.Spots.{Spot}
 use Rattle.exec_core.specs.declared.executor.Core.{Core}
 use Rattle.exec_text.specs.Grammar.{Meaning}
-use Rattle.exec_run.specs.{declared.{trace_error.TraceError.{TraceError, TheVariants.{ReadFault, TooLong, Syntax, Config, WriteFault, NoMemory}}, complaint.Complaint.Complaint}, Refusal.{IsTextIn, HasCause}, Reading.{CannotRead, CannotRun}, Explains.{IsCauseOf, Explains, complaint_line}, Log.{Gave, GaveFront, AreTaken, GaveFrontOfLog, IsTheLogOf, told_text}, Steps.{BrokeBy, GaveUpTo, Leads, Breaks, Complains}}
+use Rattle.exec_run.specs.{declared.{trace_error.TraceError.{TraceError, TheVariants.{ReadFault, TooLong, Syntax, Config, WriteFault, NoMemory}}, complaint.Complaint.Complaint}, Refusal.{IsTextIn, HasCause}, Reading.{CannotRead, CannotRun}, Explains.{IsCauseOf, Explains, complaint_line}, Log.{Gave, GaveFront, AreTaken, GaveFrontOfLog, IsTheLogOf, told_text}, Steps.{GaveUpTo, Leads, Breaks, Complains}}
 use Rattle.exec_base.specs.Io.{Rose}
 use Rattle.exec_run.proofs.{StepLemmas.{lines_done, all_taken, broke_between}, Logs.{BeginsWell, PaidIsRun, is_the_log}}
 
@@ -81,15 +81,6 @@ unread (Syntax line) source read read' written cannot = absurd cannot
 unread (Config it) source read read' written cannot = absurd cannot
 unread WriteFault source read read' written cannot = absurd cannot
 unread NoMemory source read read' written cannot = (cannot, refl)
-
--- and why the run broke off
-pub broke : (e : TraceError) (source : Option (List ℕ)) (read read' written written' : ℕ) → BrokeBy e written written' → read' ≡ read → IsCauseOf e source read read' written written'
-broke ReadFault source read read' written written' by same = absurd by
-broke (TooLong count) source read read' written written' by same = absurd by
-broke (Syntax line) source read read' written written' by same = absurd by
-broke (Config it) source read read' written written' by same = absurd by
-broke WriteFault source read read' written written' by same = (same, by)
-broke NoMemory source read read' written written' by same = (same, by)
 
 -- what a complaint that there was cause for says
 pub explained : (x : Complaint) (status : ℕ) (words : List (String Global)) (source : Option (List ℕ)) (read read' : ℕ) (old mid new passed : Option (List ℕ)) (written at written' : ℕ) → HasCause x words source read read' → mid ≡ old → at ≡ written → Complains x status mid new passed at written' → Explains status words source read read' old new passed written written'

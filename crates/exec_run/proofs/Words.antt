@@ -1,18 +1,11 @@
 -- The words of a script: which of them are passed over.
-use Rattle.std.proofs.Common.{◌≡◌, ℕ, zero, suc, ◌+◌, ◌<◌, Bool, true, false, List, [], ◌∷◌, length, drop, refl, sym, ap, ◌∙◌, inl, inr, arith}
+use Rattle.std.proofs.Common.{◌≡◌, ℕ, zero, suc, ◌+◌, ◌<◌, Bool, true, false, List, [], ◌∷◌, drop, refl, sym, ap, ◌∙◌, inl, inr, arith}
 use Rattle.std.proofs.lemmas.Bool.{cases_Bool, leb-false, true≢false}
 use Rattle.std.proofs.lemmas.List.{get_or-drop}
 use Rattle.std.specs.Prelude.{if◌then◌else◌}
 use Rattle.exec_machine.specs.declared.{config.ScriptWord.ScriptWord, state.Code.{Code, TheVariants.{Root, Script, Waits}}}
 use Rattle.exec_machine.specs.declared.config.ScriptWord.TheVariants as word
 use Rattle.exec_run.specs.Script.{is_passed, passed_over, word_at, word_in, word_of_wait}
-
--- the end of the words is none of them
-pub within : (none : Bool) (tasks : ℕ) (words : List ScriptWord) (place : ℕ) → is_passed none tasks (word_at words place) ≡ true → place < length words
-within none tasks [] zero h = absurd (true≢false (sym h))
-within none tasks [] (suc place) h = absurd (true≢false (sym h))
-within none tasks (w ∷ words) zero h = omega arith
-within none tasks (w ∷ words) (suc place) h = let l = within none tasks words place h in omega arith
 
 -- one word is passed over, and then those behind it
 pub skips : (none : Bool) (tasks : ℕ) (words : List ScriptWord) (place : ℕ) → is_passed none tasks (word_at words place) ≡ true → passed_over none tasks (drop place words) ≡ suc (passed_over none tasks (drop (suc place) words))
@@ -29,12 +22,6 @@ goes_on none tasks words place all passes so_far =
     let next : suc place ≡ place + 1 = omega arith in
     let same = ap (λ k. passed_over none tasks (drop k words)) next in
     omega (arith, one, so_far, same)
-
-pub stops : (none : Bool) (tasks : ℕ) (words : List ScriptWord) (place : ℕ) → is_passed none tasks (word_at words place) ≡ false → passed_over none tasks (drop place words) ≡ 0
-stops none tasks [] zero h = refl
-stops none tasks [] (suc place) h = refl
-stops none tasks (w ∷ words) zero h = rw h refl
-stops none tasks (w ∷ words) (suc place) h = stops none tasks words place h
 
 -- THE WORD THAT WAS FOUND is not passed over
 

@@ -59,9 +59,6 @@ module _ (i : ℕ) (n : Names) (d : Driving Reply Reply) (zs zs' : Slab (Sleepin
   abbrev pub k : ℕ
   k = number_in n.timers.items id
 
-  abbrev pub ss_then : List SleeperRecord
-  ss_then = slice_set ss k (fires z)
-
   pub watched : Watches (number_in n.timers.items id) it.observer z
   watched = rooted.watches id it z was there
 

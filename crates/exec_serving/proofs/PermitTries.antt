@@ -5,7 +5,7 @@ use Rattle.exec_waiters.specs.States.{needs_permit}
 use Rattle.exec_driver.specs.{Lists.is_among, Opens.{OpenState, holder_at, holder_in}, Steps.is_turn_of, declared.opens.WaiterKey.WaiterKey}
 use Rattle.exec_task.specs.declared.body.Said.{Said}
 use Rattle.exec_machine.specs.{declared.{config.Configuration.Configuration, event.Event.{Event, TheVariants.{Grant, Serve}}, state.Request.Request}, Progress.Plan, Requests.account_of_open, Tests.is_gated, World.{Common, Own, no_request, request_of}}
-use Rattle.exec_moves.specs.{declared.place.{InService.InService, Place.Place, Service.Service}, Move.move_submit, State.{Desk, Moved, Things, does, gate_of}, Submit.{after_grant, due_next, first_due, granted_at, next_gate, submits, try_gate, Due.AtGate}, Thing.with_gate, Told.told_if_ended}
+use Rattle.exec_moves.specs.{declared.place.{InService.InService, Place.Place, Service.Service}, Move.move_submit, State.{Desk, Moved, Things, does, gate_of}, Submit.{after_grant, due_next, first_due, granted_at, next_gate, submits, Due.AtGate}, Thing.with_gate, Told.told_if_ended}
 use Rattle.exec_parts.{specs.{declared.parts.{shared.Shared.Shared, worker.Worker.Worker}, Records.number_in, Spots.Spot, View.{Views, common_of, desk_of, driver_of, gate_seen, number_of_key, numbers_of, open_seen, own_of, seat_seen, things_with, visible}}, proofs.Facts.{and_parts, never_true, same_number}}
 use Rattle.exec_invariants.{specs.{Gates.line_at, Places.passes_at, Sound.served_in, Submits.IsGatedIn, Works.{Steps, Suits}}, proofs.{Gated.{StandsIn, durable_of_file, gate_next, least_stands, stands_there, ungated_open, waits_there}, Idling.none_due, Keeping.{SameButRing, keeps_ring}, Lined.{length_map, mapped}, Recorded.request_seen, Seeing.{common_same, desk_with, makes, served, shows, things_kept}, ServingHolds.{Follows, IsServed, Keeps, KeepsBy, Serves, serves_to}, Serving.{SparesRecords, at_large, balances_still, spares_same}, SparedRecord.there_within}}
 use Rattle.exec_serving.proofs.PermitSeen.{number_named}
@@ -18,9 +18,6 @@ tried_at v file s d gate (Some r) =
     (Grant r (outcome_at_grant (request_of s r).operation.kind (account_of_open s (request_of s r))))
     (after_grant v file (outcome_at_grant (request_of s r).operation.kind (account_of_open s (request_of s r))) (told_if_ended (outcome_at_grant (request_of s r).operation.kind (account_of_open s (request_of s r))) r (request_of s r) d))
     gate
-
-pub tried : (i : ℕ) (v : Service) (file : ℕ) (s : Common) (d : Desk) (gate : List ℕ) → try_gate i v file s d gate ≡ tried_at v file s d gate (granted_at i gate s)
-tried i v file s d gate = refl
 
 comes_to_gate : (c : Configuration) (i gate file : ℕ) (me : Own) (s : Common) (d : Desk) → first_due c i me s ≡ None → slice_get me.unenrolled 0 ≡ None → next_gate i gate s ≡ Some file → due_next c i gate me s d ≡ AtGate file
 comes_to_gate c i gate file me s d none new next = rw (none, new, next) refl

@@ -9,7 +9,7 @@ use Rattle.exec_driver.specs.{Driving.Driving, Opens.{OpenState, account_in, wit
 use Rattle.exec_machine.specs.Tests.{is_empty}
 use Rattle.exec_moves.specs.{Serve.back_from_reap, declared.place.{AfterPermit.AfterPermit, Reaping.Reaping, Place.Place}}
 use Rattle.exec_parts.specs.{declared.parts.{mail.Reply.Reply, shared.Shared.Shared, worker.Worker.Worker}, View.{driver_of, number_told, trailing, trails_wake}}
-use Rattle.exec_invariants.{specs.{Flown.operations, Sound.SoundAt, Names.IsAlike}, proofs.{Behind.{after_controls, is_op, none_left, ops_after}, Swept.{RingAfter, ring_after, some_in_ring}, WokenSwept.{none_there, sweeps}}}
+use Rattle.exec_invariants.{specs.{Flown.operations, Sound.SoundAt}, proofs.{Behind.{after_controls, is_op, none_left, ops_after}, Swept.{RingAfter, ring_after, some_in_ring}, WokenSwept.{none_there, sweeps}}}
 use Rattle.exec_serving.proofs.{Finished.GoesOver, Reaped.TellsOf, Requeued.GoesBack}
 
 module _ {B : Type 0} (q : Place) (w : Worker) (s : Shared B) (sound : SoundAt q w s) (d' : Driving Reply Reply) (opens opens' : List OpenState) (before after : Deferred Reply Reply) (done : Reaped) (t : TellsOf w.names (driver_of w) d' s.requests.items opens opens' before after done) where
@@ -18,9 +18,6 @@ module _ {B : Type 0} (q : Place) (w : Worker) (s : Shared B) (sound : SoundAt q
 
   abbrev pub turned_name : WaiterId
   turned_name = record { 0 = t.reaped.has.id }
-
-  turned_alike : IsAlike (driver_of w).wheel.start (driver_of w).wheel.tick t.reaped.has.it t.reaped.has.r.shown
-  turned_alike = sound.named.alike t.reaped.has.id t.reaped.has.it t.reaped.has.r t.reaped.has.live t.reaped.has.there
 
   -- what is kept of its open then
   abbrev pub turned_account : Option Account
