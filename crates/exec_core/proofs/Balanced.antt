@@ -77,7 +77,7 @@ all_nothing c (w ∷ ws) cs each rest =
 
 -- SUMS OF NOTHING
 
-sum_none : {A : Type 0} (f : A → ℕ) (xs : List A) → ((i : ℕ) (x : A) → slice_get xs i ≡ Some x → f x ≡ 0) → sum_by f xs ≡ 0
+pub sum_none : {A : Type 0} (f : A → ℕ) (xs : List A) → ((i : ℕ) (x : A) → slice_get xs i ≡ Some x → f x ≡ 0) → sum_by f xs ≡ 0
 sum_none f [] each = refl
 sum_none f (x ∷ xs) each = sum_by-cons f x xs ∙ omega (arith, each 0 x refl, sum_none f xs (λ i y there. each (suc i) y there))
 

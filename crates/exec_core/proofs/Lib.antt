@@ -17,3 +17,5 @@ pub mod CoreRoot
 pub mod QueuedOnce
 pub mod InTurn
 pub mod LoneLists
+pub mod Runnable
+pub mod Placed

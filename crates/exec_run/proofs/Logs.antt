@@ -5,8 +5,9 @@ use Rattle.exec_machine.specs.{declared.{config.Configuration.Configuration, ste
 use Rattle.exec_machine.specs.declared.step.Action.TheVariants as action
 use Rattle.exec_moves.specs.Plays.{Playing, by_action, by_step, first_playing, credit_of, GoesByMoves}
 use Rattle.exec_credit.specs.Minded.{begins_call, is_played}
-use Rattle.exec_core.specs.{Lift.{IsFair, IsMinded, Pays}, Turns.IsOrderly}
-use Rattle.exec_run.specs.{Log.{AreOrderly, IsOfOne, IsTheLogOf}, Steps.{IsStep, Goes, standing, accounts_of}}
+use Rattle.exec_core.{specs.{Lift.{IsFair, IsMinded, Pays}, Turns.IsOrderly}, proofs.Runnable.at_rest}
+use Rattle.exec_rest.{specs.{AtRest.{AreBare, AreFresh, IsPlaced, IsShut}, Posted.IsPosted, Rested.IsRestful}, proofs.{Bare.{bare_first, bare_goes_on}, First.first_restful, Fresh.{fresh_first, fresh_goes_on}, OtherMail.first_posted, Shut.{shut_first, shut_goes_on}, Step.{goes_on, posted_goes_on}}}
+use Rattle.exec_run.specs.{Log.{AreOrderly, AreResting, IsOfOne, IsTheLogOf}, Steps.{IsStep, Goes, standing, accounts_of}}
 
 -- WHERE A STEP LEADS
 
@@ -58,6 +59,17 @@ orderly_by : (p : Plan) (x : Playing) (told : List Told) → IsOrderly x → Goe
 orderly_by p x [] orderly goes = orderly
 orderly_by p x (it ∷ told) orderly goes = (orderly, orderly_by p (by_step p.config x it.0.action).next told goes.0.orderly goes.1)
 
+-- where all sleep in one of them nothing is left to be run
+rests_by : (p : Plan) (x : Playing) (told : List Told) → IsPlaced p.config x → IsOrderly x → IsRestful p.config x → AreBare p.config x → IsPosted p.config x → IsShut x → AreFresh x → Goes p x told → AreResting p.config x told
+rests_by p x [] placed orderly restful bare posted shut fresh goes = at_rest p.config x placed restful bare posted shut fresh orderly.once
+rests_by p x (it ∷ told) placed orderly restful bare posted shut fresh goes =
+    let c = p.config in
+    let a = it.0.action in (
+      at_rest c x placed restful bare posted shut fresh orderly.once,
+      rests_by p (by_step c x a).next told goes.0.placed goes.0.orderly (goes_on c x placed.laid restful a) (bare_goes_on c x placed.laid placed.feeds bare a)
+          (posted_goes_on c x placed.laid restful posted a) (shut_goes_on c x shut a) (fresh_goes_on c x fresh a) goes.1,
+    )
+
 -- ONE WORKER ALONE
 
 paid : (p : Plan) (x : Playing) (it : Told) → IsStep p x it → Pays p x it.0.action it.0 → IsPaid p.config (standing p.config x) it.0 (record { choice = it.1; credit = λ party. credit_of p.config (by_step p.config x it.0.action).next })
@@ -95,6 +107,7 @@ pub record PaidIsRun : Type 0 where
 -- what an executor begins with, and one worker alone
 pub record BeginsWell (p : Plan) : Type 0 where
   pub orderly : IsOrderly (first_playing p)
+  pub placed : IsPlaced p.config (first_playing p)
   pub minded : p.config.workers ≡ 1 → p.scripts ≡ [] → All (λ w. is_played w ≡ true) p.root → IsMinded p (first_playing p)
   pub fair : p.config.workers ≡ 1 → IsFair p.config (first_playing p)
 
@@ -118,5 +131,6 @@ is_the_log law p steps told begins has_lines goes =
       runs = runs_by p (first_playing p) told goes;
       plays = record { has_lines = has_lines; moves = by_moves p (first_playing p) told goes };
       orderly = orderly_by p (first_playing p) told begins.orderly goes;
+      rests = rests_by p (first_playing p) told begins.placed begins.orderly (first_restful p) (bare_first p) (first_posted p) (shut_first p) (fresh_first p) goes;
       alone = is_log law p steps told begins has_lines goes;
     }

@@ -8,6 +8,7 @@ use Rattle.exec_text.specs.Grammar.{Meaning, IsTraceOf, count_of}
 use Rattle.exec_run.specs.{Ranges.first_out_of_range, Refusal.IsTextIn}
 use Rattle.exec_core.specs.Turns.{IsOrderly}
 use Rattle.exec_moves.specs.Plays.{Playing, Plays, by_step, first_playing}
+use Rattle.exec_rest.specs.AtRest.{RestsWell}
 
 -- The source held a trace that says this, which is not too long and whose configuration is in its ranges.
 pub record HasTrace (source : Option (List ℕ)) (m : Meaning) : Type 0 where
@@ -30,14 +31,20 @@ abbrev pub AreOrderly : Configuration → Playing → List Told → Type 0
 AreOrderly c x [] = IsOrderly x
 AreOrderly c x (it ∷ told) = IsOrderly x × AreOrderly c (by_step c x it.0.action).next told
 
+-- From this state on, and in each to which the lines lead, nothing is left to be run where all workers sleep.
+abbrev pub AreResting : Configuration → Playing → List Told → Type 0
+AreResting c x [] = RestsWell c x
+AreResting c x (it ∷ told) = RestsWell c x × AreResting c (by_step c x it.0.action).next told
+
 -- The lines, each with what it leaves open, are the log of these steps: a run of the machine; each line is what the step
 -- tells by its move, so that there is no other log; in each state a task that is to be polled has one runnable, one that is
--- polled has one poller, and durable requests of an open take turns; and in the log of one worker alone no party turns for
+-- polled has one poller, and durable requests of an open take turns; where all sleep nothing is left to be run; and in the log of one worker alone no party turns for
 -- ever, and no worker sleeps on work.
 pub record IsTheLogOf (p : Plan) (steps : List Step) (told : List Told) : Type 0 where
   pub runs : RunsBy p.config (begin p) (lines_of told) (choices_of told)
   pub plays : Plays p steps told
   pub orderly : AreOrderly p.config (first_playing p) told
+  pub rests : AreResting p.config (first_playing p) told
   pub alone : IsOfOne p told → IsLogOf p steps (lines_of told)
 
 -- what is told of such lines

@@ -1,0 +1,389 @@
+-- Only a worker of the pool comes to a place at which its own run queue is given a task that it made or woke.
+use Rattle.std.proofs.Common.{◌≡◌, ℕ, Bool, true, false, ◌+◌, ◌-◌, ◌*◌, ◌==◌, ◌&&◌, ◌||◌, List, [], ◌∷◌, length, Option, Some, None, refl}
+use Rattle.std.specs.Prelude.{drop, nat_le, nat_lt, not, slice_get, slice_index_or}
+use Rattle.exec_outcomes.specs.{declared.outcome.Outcome.Outcome, Accounts.is_durable}
+use Rattle.exec_words.specs.{Head.is_stealable_at, Idle.is_in, Queue.{Queue, fit_of, head_of, room_of, tail_of}, Word.{asks_signal, is_idle_at}, declared.word.PureWord.PureWord}
+use Rattle.exec_task.specs.declared.drain.Drain.{Drain}
+use Rattle.exec_machine.specs.{declared.{config.{Configuration.Configuration, ScriptWord.ScriptWord}, state.{MailMessage.MailMessage, Operation.Operation, RequestPhase.RequestPhase, Waiting.Waiting}}, Deadlines.next_due, Ranges.ring_size, Requests.operation_asked, Tasks.begun_waiting, Tests.{is_applied, is_done, is_idle, is_ready}, World.{Common, Own as Books, Task, request_of, sleeper_of, task_of}, Words.{newest_held, next_word, sleep_asked}}
+use Rattle.exec_machine.specs.declared.config.ScriptWord.TheVariants as script
+use Rattle.exec_machine.specs.declared.state.RequestPhase.TheVariants as phase
+use Rattle.exec_machine.specs.declared.state.Waiting.TheVariants as waiting
+use Rattle.exec_moves.specs.declared.handing.{AfterCallbacks.AfterCallbacks, AfterKick.AfterKick, AfterPop.AfterPop, AfterPush.AfterPush, AfterSend.AfterSend, AfterSignal.AfterSignal, First.First, Heard.Heard, InGlobal.InGlobal, InKick.InKick, InPop.InPop, InPush.InPush, InSignal.InSignal}
+use Rattle.exec_moves.specs.declared.idling.{InLook.InLook, InRingWait.InRingWait, InScan.InScan, InSearch.InSearch, InWordWait.InWordWait, Stay.Stay}
+use Rattle.exec_moves.specs.declared.place.{InCallbacks.InCallbacks, InClosing.InClosing, InLoads.InLoads, InMail.InMail, InPick.InPick, InPoll.InPoll, InService.InService, Place.Place, Reaping.Reaping, Round.Round, Service.Service}
+use Rattle.exec_moves.specs.{Callback.{Item, Item.{Answers, Completes, LetsGo, Nothing, Releases, Wakes}, flagged_by, has_callbacks, is_full, is_of_pool, item_next, tells_waiter, woken_by}, Claim.claimed, Close.{close_sleeper, first_asleep, first_held, orphan, told_of_clear, visit}, Global.has_any, Load.{has_come, has_mail, has_submissions, is_ready as has_ready}, Look.{look_at_mirror, searching_if}, Mail.{apply, take_mail}, Move.{move, move_act, move_at, move_callbacks, move_closing, move_global, move_item, move_kick, move_loads, move_look, move_look_at, move_mail, move_pick, move_poll, move_pop, move_push, move_ring_wait, move_scan, move_search, move_service, move_signal, move_submit, move_wake, move_word_wait}, Parts.has_others, Pick.{load_mirror, take_share}, Poll.{Sight, Sight.{Asks, HearsRequest, HearsTimer, Here}, act, act_asked, act_by, after_pend, await, drop_newest, heard_by, requeued_if, resume, sight_of, sight_of_act, sleep_for}, Pop.{load_pop_head, pops, same_head, shard_count}, Search.{begun_scan, from_of, half, stirred}, Send.first_letter, Serve.{Ring, end_service, first_to_fire, reap}, State.{Desk, Moved, Things, queue_of, inbox_of, word_of, gate_of}, Submit.{Due, Due.{AtGate, Cancels, Ends, Enrols, Expires, Flushes, Stages}, due_next, granted_at, after_grant, stage_next, try_gate}, Thing.ring_of, Told.{has_number, lets_go_all}, Wait.{enter_ring, has_completion, sleep_on_word}}
+use Rattle.exec_moves.specs.declared.handing.AfterCancels.TheVariants as cancels
+use Rattle.exec_moves.specs.declared.handing.AfterPop.TheVariants as pop
+use Rattle.exec_moves.specs.declared.handing.AfterPush.TheVariants as push
+use Rattle.exec_moves.specs.declared.handing.AfterSend.TheVariants as send
+use Rattle.exec_moves.specs.declared.handing.First.TheVariants as first
+use Rattle.exec_moves.specs.declared.handing.Heard.TheVariants as heard
+use Rattle.exec_moves.specs.declared.handing.InGlobal.TheVariants as global
+use Rattle.exec_moves.specs.declared.handing.InKick.TheVariants as kicks
+use Rattle.exec_moves.specs.declared.handing.InPop.TheVariants as pop_at
+use Rattle.exec_moves.specs.declared.handing.InPush.TheVariants as pushes
+use Rattle.exec_moves.specs.declared.handing.InSignal.TheVariants as signals
+use Rattle.exec_moves.specs.declared.idling.AfterWait.TheVariants as later
+use Rattle.exec_moves.specs.declared.idling.InLook.TheVariants as look
+use Rattle.exec_moves.specs.declared.idling.InRingWait.TheVariants as ring
+use Rattle.exec_moves.specs.declared.idling.InScan.TheVariants as scan
+use Rattle.exec_moves.specs.declared.idling.InSearch.TheVariants as search
+use Rattle.exec_moves.specs.declared.idling.InWordWait.TheVariants as word
+use Rattle.exec_moves.specs.declared.place.InCallbacks.TheVariants as callback
+use Rattle.exec_moves.specs.declared.place.InClosing.TheVariants as closing
+use Rattle.exec_moves.specs.declared.place.InLoads.TheVariants as load
+use Rattle.exec_moves.specs.declared.place.InMail.TheVariants as mail
+use Rattle.exec_moves.specs.declared.place.InPick.TheVariants as pick
+use Rattle.exec_moves.specs.declared.place.InPoll.TheVariants as poll
+use Rattle.exec_moves.specs.declared.place.InService.TheVariants as step
+use Rattle.exec_moves.specs.declared.place.Place.TheVariants as at
+use Rattle.exec_rest.specs.AtRest.{is_given}
+use Rattle.exec_rest.proofs.Giving.{Fair, begun, calling, cancelling, claiming, closed, desk_if, emptied, empty_look, fair_if, fitted, headed, judged, kicked, leaving, letting_go, loaded, looking, move_if, none, over, picking, polled, polling, popped, popping, posted, push_on, pushed, queued, read, returned, scanned, searching, served, signalled, spawned, tailed, telling, waited, waiting_on, withdrawing, withdrawn}
+
+module _ (c : Configuration) (i : ℕ) (me : Books) (s : Common) (d : Desk) (x : Things) (before : Fair c i me s d.place) where
+  -- a move after which it is fair
+  abbrev Leads : {T : Type 0} → Moved T → Type 0
+  Leads m = Fair c i me s m.desk.place
+
+  no : false ≡ true → is_of_pool s i ≡ true
+  no = none c i me s
+
+  -- PICKS, POPS AND PUSHES
+
+  mirror : (f : First) (g : List ℕ) → Leads (load_mirror c f d g)
+  mirror f [] = empty_look c i me s f
+  mirror f (t ∷ g) = no
+
+  share : (f : First) (room held : ℕ) (own : Queue ℕ) (g : List ℕ) → Leads (take_share c f room held d (record { global = g; queue = own }))
+  share f room held own [] = empty_look c i me s f
+  share f room held own (t ∷ g) = polling c i me s t d
+
+  in_pick : (p : InPick) → Leads (move_pick c i d x p)
+  in_pick pick.CountDown = move_if c i me s (nat_le d.countdown 1) _ _ no (popping c i me s (pop.Pick first.Own))
+  in_pick (pick.LoadMirror f) = mirror f x.global
+  in_pick (pick.LoadHead f) = no
+  in_pick (pick.TakeShare f room held) = share f room held (queue_of x i) x.global
+
+  oldest : (b : AfterPop) (q : Queue ℕ) (vs : List ℕ) → q.values ≡ vs → Leads (pops c i b d q)
+  oldest b q [] h = rw h (emptied c i me s b)
+  oldest b q (t ∷ ts) h = rw h (popped c i me s b t d)
+
+  head_loaded : (b : AfterPop) (q : Queue ℕ) → Leads (load_pop_head c i b d q)
+  head_loaded b q = judged c i me s b (head_of q) (tail_of q - q.real)
+
+  in_pop : (p : InPop) (b : AfterPop) → Leads (move_pop c i d x p b)
+  in_pop pop_at.PopAlone b = oldest b (queue_of x i) _ refl
+  in_pop pop_at.LoadPopHead b = head_loaded b (queue_of x i)
+  in_pop (pop_at.ExchangePop h) b = move_if c i me s (same_head h (head_of (queue_of x i))) _ _ (oldest b (queue_of x i) _ refl) (head_loaded b (queue_of x i))
+  in_pop pop_at.StorePop b = oldest b (queue_of x i) _ refl
+
+  in_push : (p : InPush) (b : AfterPush) → Fair c i me s (at.Push p b) → Leads (move_push c i me s d x p b)
+  in_push pushes.LoadPushHead b fair = fitted c i me s pushes.LoadPushHead b (head_of (queue_of x i)) (fit_of (queue_of x i)) fair
+  in_push (pushes.StoreValue len) b fair = fair_if c i me s (nat_le 2 len && has_others c) _ _ no (pushed c i me s b d)
+  in_push (pushes.FlowOver h) b fair =
+      move_if c i me s (same_head h (head_of (queue_of x i))) _ _ (push_on c i me s (pushes.FlowOver h) pushes.StoreOldest b fair) (push_on c i me s (pushes.FlowOver h) pushes.LoadPushHead b fair)
+  in_push pushes.StoreOldest b fair = no
+
+  -- COUNTS AND SIGNALS
+
+  in_global : (p : InGlobal) (b : AfterPush) → Leads (move_global c i me s d x p b)
+  in_global global.Append b = fair_if c i me s s.queue_closed _ _ (pushed c i me s b d) no
+  in_global global.LoadGlobalSet b = fair_if c i me s (has_any x.idle) _ _ no (pushed c i me s b d)
+  in_global (global.AddGlobalCount set) b = no
+  in_global global.ReturnGlobalCount b = fair_if c i me s (x.idle.count == 1) _ _ no (pushed c i me s b d)
+
+  in_kick : (p : InKick) (b : AfterKick) → Leads (move_kick c i me s d x p b)
+  in_kick kicks.LoadKickCount b = fair_if c i me s (x.idle.count == 0) _ _ no (kicked c i me s b d)
+  in_kick kicks.LoadKickSet b = fair_if c i me s (has_any x.idle) _ _ no (kicked c i me s b d)
+  in_kick (kicks.ExchangeKickCount set) b = move_if c i me s (x.idle.count == 0) _ _ no (kicked c i me s b d)
+  in_kick kicks.ReturnKickCount b = fair_if c i me s (x.idle.count == 1) _ _ no (kicked c i me s b d)
+
+  in_signal : (p : InSignal) (j : ℕ) (b : AfterSignal) → Leads (move_signal c i me s d x p j b)
+  in_signal signals.SetLatch j b = fair_if c i me s (asks_signal (word_of x j)) _ _ no (signalled c i me s b d)
+  in_signal (signals.Raise ring) j b = signalled c i me s b d
+
+  -- A POLL
+
+  requeued : (t : ℕ) (b : Bool) → Fair c i me s (requeued_if b t d).place
+  requeued t true = no
+  requeued t false = picking c i me s d
+
+  pended : (t : ℕ) (it : Task) (home : Option ℕ) → Fair c i me s (after_pend i t s d it home).place
+  pended t it None = desk_if c i me s it.cleared _ _ (cancelling c i me s cancels.Pick (lets_go_all i s it d) _) (requeued t _)
+  pended t it (Some home) = no
+
+  on_request : (t : ℕ) (it : Task) (r : ℕ) (p : RequestPhase) → it.waiting ≡ waiting.Request r → (request_of s r).phase ≡ p → Leads (resume i t s d it)
+  on_request t it r (phase.Resolved outcome) h is = rw (h, is) no
+  on_request t it r phase.Gated h is = rw (h, is) (pended t (record it { waiting = waiting.Request r }) it.home)
+  on_request t it r phase.Queued h is = rw (h, is) (pended t (record it { waiting = waiting.Request r }) it.home)
+  on_request t it r phase.Staged h is = rw (h, is) (pended t (record it { waiting = waiting.Request r }) it.home)
+  on_request t it r phase.Flying h is = rw (h, is) (pended t (record it { waiting = waiting.Request r }) it.home)
+  on_request t it r (phase.Landed n) h is = rw (h, is) (pended t (record it { waiting = waiting.Request r }) it.home)
+
+  resumed : (t : ℕ) (it : Task) (w : Waiting) → it.waiting ≡ w → Leads (resume i t s d it)
+  resumed t it (waiting.Request r) h = on_request t it r _ h refl
+  resumed t it (waiting.Timer z) h = rw h (move_if c i me s (sleeper_of s z).fired _ _ no (pended t (record it { waiting = waiting.Timer z }) it.home))
+  resumed t it waiting.Woken h = rw h no
+  resumed t it waiting.Nothing h = rw h (pended t (record it { waiting = waiting.Nothing }) it.home)
+  resumed t it waiting.Wake h = rw h (pended t (record it { waiting = waiting.Wake }) it.home)
+  resumed t it waiting.Yielded h = rw h (pended t (record it { waiting = waiting.Yielded }) it.home)
+
+  heard_of : (t r : ℕ) (b : Bool) (p : RequestPhase) → Leads (heard_by t r d x.answers b p)
+  heard_of t r true (phase.Resolved outcome) = no
+  heard_of t r true phase.Gated = no
+  heard_of t r true phase.Queued = no
+  heard_of t r true phase.Staged = no
+  heard_of t r true phase.Flying = no
+  heard_of t r true (phase.Landed n) = no
+  heard_of t r false p = no
+
+  seen : (t : ℕ) (b : AfterSend) (m : Moved Things) → Leads m → (y : Sight) → Leads (move_look_at c s d x t b m y)
+  seen t b m one Here = one
+  seen t b m one (Asks j message) = posted c i me s j b _ d
+  seen t b m one (HearsRequest r) = heard_of t r (has_number r x.answers) (request_of s r).phase
+  seen t b m one (HearsTimer z) = move_if c i me s (has_number z x.alarms) _ _ no no
+
+  awaited_by : (t : ℕ) (it : Task) (r : ℕ) (p : RequestPhase) → (request_of s r).phase ≡ p → Leads (await t s d it (Some r))
+  awaited_by t it r (phase.Resolved outcome) h = rw h no
+  awaited_by t it r phase.Gated h = rw h no
+  awaited_by t it r phase.Queued h = rw h no
+  awaited_by t it r phase.Staged h = rw h no
+  awaited_by t it r phase.Flying h = rw h no
+  awaited_by t it r (phase.Landed n) h = rw h no
+
+  awaited : (t : ℕ) (it : Task) (held : Option ℕ) → Leads (await t s d it held)
+  awaited t it None = no
+  awaited t it (Some r) = awaited_by t it r _ refl
+
+  dropped : (t : ℕ) (it : Task) (held : Option ℕ) → Leads (drop_newest t s d it held)
+  dropped t it None = before
+  dropped t it (Some r) = no
+
+  slept : (t : ℕ) (it : Task) (until : Option ℕ) → Leads (sleep_for t s d it until)
+  slept t it None = no
+  slept t it (Some until) = no
+
+  acted_by : (t : ℕ) (it : Task) (w : ScriptWord) → Leads (act_by i t me s d it w)
+  acted_by t it script.Await = awaited t it (newest_held it)
+  acted_by t it script.Drop = dropped t it (newest_held it)
+  acted_by t it (script.Sleep time) = slept t it (sleep_asked me.sampled (script.Sleep time))
+  acted_by t it script.Yield = no
+  acted_by t it (script.Fault code) = over c i me s t it.home (lets_go_all i s it d)
+  acted_by t it script.End = over c i me s t it.home (lets_go_all i s it d)
+  acted_by t it _ = before
+
+  asked : (t : ℕ) (it : Task) (w : ScriptWord) (o : Option Operation) → Leads (act_asked i t me s d it w o)
+  asked t it w None = acted_by t it w
+  asked t it w (Some o) = desk_if c i me s (is_durable o.kind) _ _ no no
+
+  acted : (t : ℕ) (it : Task) → Leads (act c i t me s d it)
+  acted t it = asked t it (next_word s it) (operation_asked c me.sampled (next_word s it))
+
+  waking : (t u : ℕ) (home : Option ℕ) → Leads (move_wake c i s d x t u home)
+  waking t u None = desk_if c i me s (is_idle (task_of s u).phase) _ _ (queued c i me s (push.Act t)) no
+  waking t u (Some home) = move_if c i me s (home == i) _ _ no (posted c i me s home (send.Act t) _ d)
+
+  in_act : (t : ℕ) (w : ScriptWord) → Leads (move_act c i me s d x t w)
+  in_act t (script.Spawn k) = desk_if c i me s s.set_closed _ _ no (spawned c i me s t)
+  in_act t (script.Wake u) = waking t u (task_of s u).home
+  in_act t (script.Dedicated k) = no
+  in_act t script.Await = seen t (send.Pend t) _ (acted t (task_of s t)) (sight_of_act i s (task_of s t) script.Await)
+  in_act t script.Drop = seen t (send.Act t) _ (acted t (task_of s t)) (sight_of_act i s (task_of s t) script.Drop)
+  in_act t _ = acted t (task_of s t)
+
+  in_poll : (t : ℕ) (p : InPoll) → Fair c i me s (at.Poll t p) → Leads (move_poll c i me s d x t p)
+  in_poll t poll.BeginPoll fair =
+      move_if c i me s (is_ready (task_of s t).phase) _ _ (begun c i me s t (begun_waiting (task_of s t).waiting)) (polled c i me s (task_of s t).home d)
+  in_poll t poll.Resume fair = seen t (send.Pend t) _ (resumed t (task_of s t) _ refl) (sight_of i s (task_of s t).waiting)
+  in_poll t poll.Act fair = in_act t (next_word s (task_of s t))
+  in_poll t (poll.JoinGate r) fair = no
+  in_poll t poll.LoadSpawnHead fair = fair_if c i me s (tail_of (queue_of x i) == (queue_of x i).real) _ _ fair no
+  in_poll t poll.Pend fair = pended t (task_of s t) (task_of s t).home
+  in_poll t poll.RemoveTask fair = picking c i me s d
+
+  -- THE CALLBACKS
+
+  woken : (n : AfterCallbacks) (t : ℕ) (e : Desk) (it : Task) (home : Option ℕ) → it.home ≡ home → Fair c i me s (woken_by (ring_size c) i me s n t e it).place
+  woken n t e it None h = rw h (desk_if c i me s (is_idle it.phase) _ _ (queued c i me s (push.CallBack n)) (calling c i me s me n e))
+  woken n t e it (Some home) h = rw h (calling c i me s me n (flagged_by it e))
+
+  told : (n : AfterCallbacks) (waiter : Option ℕ) (of : Heard) (e : Desk) → Fair c i me s (tells_waiter (ring_size c) i me s n waiter of e).place
+  told n None of e = calling c i me s me n e
+  told n (Some t) of e = desk_if c i me s (is_done (task_of s t).phase) _ _ (calling c i me s me n e) no
+
+  in_item : (n : AfterCallbacks) (it : Item) → Leads (move_item c i me s d x n it)
+  in_item n (Wakes t) = woken n t (record d { wakes = drop 1 d.wakes }) (task_of s t) _ refl
+  in_item n LetsGo = calling c i me s me n (record d { outputs = d.outputs - 1 })
+  in_item n (Releases r) = calling c i me s (record me { ended = drop 1 me.ended }) n d
+  in_item n (Completes z) = told n (Some (sleeper_of s z).task) (heard.Timer z) (record d { completions = drop 1 d.completions })
+  in_item n (Answers r) = told n (request_of s r).waiter (heard.Request r) (record d { results = drop 1 d.results })
+  in_item n Nothing = calling c i me s me n d
+
+  in_callbacks : (p : InCallbacks) (n : AfterCallbacks) → Leads (move_callbacks c i me s d x p n)
+  in_callbacks callback.TakeBatch n = fair_if c i me s (d.searching && has_callbacks me d) _ _ no (calling c i me s me n d)
+  in_callbacks callback.CallBack n = in_item n (item_next me d)
+  in_callbacks (callback.WakeWaiter t of) n = woken n t d (task_of s t) _ refl
+
+  -- A SERVICE
+
+  in_loads : (p : InLoads) (r : Round) → Leads (move_loads i me d x p r)
+  in_loads (load.LoadOwnWord f) r = loaded c i me s r _ d
+  in_loads _ r = no
+
+  reaped : (r : Reaping) (v : Service) (y : Ring) (l : List ℕ) → y.landed ≡ l → Leads (reap i v r s d y)
+  reaped r v y [] h = rw h no
+  reaped r v y (q ∷ later) h = rw h no
+
+  granted : (v : Service) (file : ℕ) (o : Option Outcome) (e : Desk) → Fair c i me s (after_grant v file o e).place
+  granted v file None e = no
+  granted v file (Some outcome) e = no
+
+  tried : (v : Service) (file : ℕ) (gate : List ℕ) (o : Option ℕ) → granted_at i gate s ≡ o → Leads (try_gate i v file s d gate)
+  tried v file gate None h = rw h no
+  tried v file gate (Some r) h = rw h (granted v file _ _)
+
+  flushed : (gate : ℕ) (v : Service) (y : Ring) (busy : Bool) → y.busy ≡ busy → Leads (stage_next c i v gate me s d y Flushes)
+  flushed gate v y true h = rw h no
+  flushed gate v y false h = rw h no
+
+  in_submit : (gate : ℕ) (v : Service) (due : Due) → Leads (move_submit c i me s d x gate v due)
+  in_submit gate v (Expires r) = no
+  in_submit gate v (Enrols r) = no
+  in_submit gate v (AtGate file) = tried v file (gate_of x file) _ refl
+  in_submit gate v Flushes = flushed gate v (ring_of s x i) _ refl
+  in_submit gate v (Cancels r) = no
+  in_submit gate v (Stages r) = no
+  in_submit gate v Ends = no
+
+  fired : (v : Service) (o : Option ℕ) → first_to_fire i me s d ≡ o → Leads (end_service i v me s d)
+  fired v None h = rw h (served c i me s v.back d)
+  fired v (Some z) h = rw h (desk_if c i me s (is_applied (sleeper_of s z).forwarding) _ _ before before)
+
+  in_service : (p : InService) (v : Service) → Leads (move_service c i me s d x p v)
+  in_service (step.Reap r) v = reaped r v (ring_of s x i) _ refl
+  in_service (step.Submit gate) v = in_submit gate v (due_next c i gate me s d)
+  in_service step.EndService v = fired v _ refl
+  in_service _ v = no
+
+  -- THE MAILBOX AND A CLOSING
+
+  taken : (ms : List MailMessage) → Leads (take_mail d ms)
+  taken [] = read c i me s 0 []
+  taken (m ∷ ms) = read c i me s 0 (m ∷ ms)
+
+  applied_by : (n : ℕ) (ms : List MailMessage) → d.batch ≡ ms → Leads (apply n me.root s d)
+  applied_by n [] h = rw h no
+  applied_by n (m ∷ ms) h = rw h (read c i me s _ ms)
+
+  in_mail : (p : InMail) → Leads (move_mail i me s d x p)
+  in_mail mail.LoadMailWord = move_if c i me s (has_mail d (word_of x i)) _ _ no no
+  in_mail mail.TakeMail = taken (inbox_of x i)
+  in_mail (mail.Apply n taken) = applied_by n _ refl
+
+  visited : (drain : Drain) (shard : List ℕ) (newest : Option ℕ) → slice_get shard (length shard - 1) ≡ newest → Leads (visit (shard_count c) drain d shard)
+  visited drain shard None h = rw h no
+  visited drain shard (Some t) h = rw h no
+
+  orphaned : (held : Option ℕ) → first_held s d ≡ held → Leads (orphan i s d)
+  orphaned None h = rw h (letting_go c i me s None _)
+  orphaned (Some r) h = rw h (letting_go c i me s _ _)
+
+  sleeper_closed : (asleep : Option ℕ) → first_asleep i s d ≡ asleep → Leads (close_sleeper i s d)
+  sleeper_closed None h = rw h no
+  sleeper_closed (Some z) h = rw h (letting_go c i me s None _)
+
+  in_closing : (p : InClosing) → Leads (move_closing c i s d x p)
+  in_closing closing.Close = closed c i me s
+  in_closing closing.Stop = telling c i me s 1
+  in_closing (closing.TellRoot j) = posted c i me s j (send.Tell (j + 1)) _ d
+  in_closing (closing.Visit drain) = visited drain (slice_index_or x.shards drain.at []) _ refl
+  in_closing (closing.Clear t drain) = cancelling c i me s (cancels.Visit drain) (told_of_clear i s d (task_of s t)) _
+  in_closing closing.CloseMailbox = letting_go c i me s _ _
+  in_closing closing.Orphan = orphaned _ refl
+  in_closing closing.CloseSleeper = sleeper_closed _ refl
+  in_closing _ = no
+
+  -- A SEARCH AND THE WAITS
+
+  in_search : (p : InSearch) → Leads (move_search c d x p)
+  in_search search.LoadSearchCount = fair_if c i me s (nat_le c.workers (2 * x.idle.count)) _ _ no no
+  in_search search.AddSearchCount = no
+
+  in_scan : (p : InScan) → Leads (move_scan c i me s d x p)
+  in_scan scan.LoadScanHead = fair_if c i me s (nat_lt (room_of (queue_of x i)) half) _ _ no (scanned c i me s (begun_scan c (stirred d.rng)))
+  in_scan (scan.LoadTheirHead y) = headed c i me s y (head_of (queue_of x (from_of c y)))
+  in_scan (scan.LoadTheirTail y h) = tailed c i me s y h (tail_of (queue_of x (from_of c y)))
+  in_scan (scan.ClaimHalf y h tail) =
+      let q = queue_of x (from_of c y) in move_if c i me s (same_head h (head_of q)) _ _ no (headed c i me s y (head_of q))
+  in_scan (scan.MoveHalf from h) = no
+  in_scan (scan.ReleaseHalf from h) = move_if c i me s (same_head h (head_of (queue_of x from))) _ _ no no
+  in_scan scan.StoreMoved = leaving c i me s d
+
+  mirrored : (last : Bool) (g : List ℕ) → Leads (look_at_mirror last d g)
+  mirrored last [] = no
+  mirrored last (t ∷ ts) = no
+
+  in_look : (p : InLook) → Leads (move_look c i s d x p)
+  in_look (look.LookAtMirror last) = mirrored last x.global
+  in_look look.LookAtCount = fair_if c i me s (x.idle.count == 0) _ _ (looking c i me s 0 d) (waiting_on c i me s d)
+  in_look (look.LookAtTail j h) = fair_if c i me s (is_stealable_at h (tail_of (queue_of x j))) _ _ no (looking c i me s (j + 1) d)
+  in_look look.ExchangeLookCount = move_if c i me s (x.idle.count == 0) _ _ no (waiting_on c i me s d)
+  in_look _ = no
+
+  entered : (y : Stay) (r : Ring) (busy : Bool) → r.busy ≡ busy → Leads (enter_ring y me d r)
+  entered y r true h = rw h no
+  entered y r false h = rw h no
+
+  in_ring_wait : (p : InRingWait) (y : Stay) → Leads (move_ring_wait c i me s d x p y)
+  in_ring_wait ring.EnterFullRing y = move_if c i me s (ring_of s x i).busy _ _ no no
+  in_ring_wait ring.TestRing y =
+      move_if c i me s (has_submissions c me || (not d.polled && is_full (ring_size c) d)) _ _ (waited c i me s y later.Serve) no
+  in_ring_wait ring.ArmRing y = no
+  in_ring_wait ring.EnterRing y = entered y (ring_of s x i) _ refl
+  in_ring_wait ring.SleepOnRing y = move_if c i me s (has_completion d (ring_of s x i)) _ _ no (move_if c i me s (has_come s.clock (next_due s i)) _ _ no no)
+  in_ring_wait (ring.DisarmRing n) y = waited c i me s y n
+
+  bedded : (w : PureWord) (idle : Bool) → is_idle_at w d.processed ≡ idle → (come : Bool) → has_come s.clock (next_due s i) ≡ come → Leads (sleep_on_word i s d w)
+  bedded w true h true is = rw (h, is) no
+  bedded w true h false is = rw (h, is) no
+  bedded w false h come is = rw h no
+
+  in_word_wait : (p : InWordWait) → Leads (move_word_wait i s d x p)
+  in_word_wait (word.SpinOnBatch left) = desk_if c i me s (has_mail d (word_of x i)) _ _ no no
+  in_word_wait (word.SpinOnLatch left) = desk_if c i me s (word_of x i).latch _ _ no (desk_if c i me s (nat_lt 1 left) _ _ no no)
+  in_word_wait word.TakeLatch = withdrawing c i me s later.Begin
+  in_word_wait word.ArmWord = no
+  in_word_wait word.SleepOnWord = bedded (word_of x i) _ refl _ refl
+  in_word_wait word.DisarmWord = withdrawing c i me s later.Begin
+
+  -- EACH PLACE
+
+  in_place : (p : Place) → Fair c i me s p → Leads (move_at c i me s d x p)
+  in_place at.BeginTurn fair = fair_if c i me s (is_of_pool s i) _ _ no no
+  in_place (at.Pick p) fair = in_pick p
+  in_place at.TakeRootFlag fair = move_if c i me s d.root_ready _ _ (polling c i me s me.root (record d { root_ready = false })) no
+  in_place (at.Poll t p) fair = in_poll t p fair
+  in_place (at.Callbacks p n) fair = in_callbacks p n
+  in_place (at.Loads p r) fair = in_loads p r
+  in_place (at.Service p v) fair = in_service p v
+  in_place (at.Mail p) fair = in_mail p
+  in_place (at.TestForWork f) fair = move_if c i me s (has_ready me f d || has_submissions c me) _ _ (leaving c i me s d) no
+  in_place at.ReadClock fair = move_if c i me s (has_come s.clock (next_due s i)) _ _ (leaving c i me s d) (searching c i me s (record d { read = s.clock }))
+  in_place (at.Search p) fair = in_search p
+  in_place (at.Scan p) fair = in_scan p
+  in_place (at.Look p) fair = in_look p
+  in_place (at.RingWait p y) fair = in_ring_wait p y
+  in_place (at.WordWait p) fair = in_word_wait p
+  in_place (at.Withdraw n) fair = let came = not (is_in x.idle.published i) in withdrawn c i me s came n (searching_if came d)
+  in_place (at.Closing p) fair = in_closing p
+  in_place (at.Pop p b) fair = in_pop p b
+  in_place (at.LeaveSearch b) fair = returned c i me s (x.idle.count == 1) b d
+  in_place (at.Push p b) fair = in_push p b fair
+  in_place (at.Global p b) fair = in_global p b
+  in_place (at.Kick p b) fair = in_kick p b
+  in_place (at.ClaimWorker set b) fair = claiming c i me s b (claimed set x.idle)
+  in_place (at.Signal p j b) fair = in_signal p j b
+  in_place (at.SendCancel b) fair = posted c i me s (first_letter d).to (send.Cancels b) _ (record d { letters = drop 1 d.letters })
+
+pub given_move : (c : Configuration) (i : ℕ) (me : Books) (s : Common) (d : Desk) (x : Things) → (is_given d.place ≡ true → is_of_pool s i ≡ true) → is_given (move c i me s d x).desk.place ≡ true → is_of_pool s i ≡ true
+given_move c i me s d x before = in_place c i me s d x before d.place before

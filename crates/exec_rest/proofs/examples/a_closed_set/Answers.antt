@@ -1,0 +1,6 @@
+use Rattle.std.proofs.Common.{refl}
+use Rattle.std.proofs.lemmas.Bool.{true≢false}
+use Rattle.exec_rest.proofs.examples.a_closed_set.Goals as goal
+
+pub returns : goal.returns
+returns c = record { too_early = λ it. true≢false (it.zero refl) }

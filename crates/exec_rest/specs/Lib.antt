@@ -1,0 +1,5 @@
+pub mod Places
+pub mod Rested
+pub mod AtRest
+pub mod Posted
+pub mod Examples
