@@ -1,25 +1,21 @@
--- Of a worker alone: its root is the only task, and all that the laws of credit and of its sleep ask holds.
-use Rattle.std.proofs.{Common.{◌≡◌, ◌≢◌, ℕ, zero, suc, ◌+◌, ◌-◌, ◌<◌, ◌==◌, ◌&&◌, ◌||◌, nat_lt, Bool, true, false, not, List, [], ◌∷◌, ◌++◌, Contains, length, map, All, count_by, sum_by, get_or, if◌then◌else◌, Option, Some, None, is_some, refl, sym, ap, subst, ◌∙◌, arith, inl, inr, option_to_list, slice_get, slice_index_or}, lemmas.{Bool.{true≢false, false≢true, and_parts, eq-eqb}, List.length-map, Option.slice_get-get_or}}
+-- Of a worker alone: its root is the only task, and all that the laws of credit ask holds.
+use Rattle.std.proofs.{Common.{◌≡◌, ℕ, zero, suc, ◌+◌, ◌<◌, ◌==◌, ◌&&◌, ◌||◌, nat_lt, Bool, true, false, not, List, [], ◌∷◌, ◌++◌, Contains, length, map, All, count_by, sum_by, get_or, if◌then◌else◌, Option, Some, None, refl, sym, ap, subst, ◌∙◌, arith, inl, inr, option_to_list, slice_get, slice_index_or}, lemmas.{Bool.{false≢true, and_parts, eq-eqb}, List.length-map, Option.slice_get-get_or}}
 use Rattle.exec_base.specs.{Slab.slot_at, declared.{slab.Slot.TheVariants.Vacant, task_no.TaskNo.TaskNo}}
 use Rattle.exec_task.specs.declared.{body.Said.Said, runnable.Runnable.Runnable}
 use Rattle.exec_words.specs.{Queue.Queue, declared.inbox.Message.Message}
 use Rattle.exec_task.specs.declared.task.Phase.TheVariants as cell
-use Rattle.exec_waiters.specs.{States.{pending_count, waiter_at}, declared.waiter.Waiter.Waiter}
-use Rattle.exec_machine.specs.{declared.{config.ScriptWord.ScriptWord, state.{Request.Request, Waiting.Waiting}}, Progress.{Plan, is_runnable}, Tests.{has_ended, is_asleep, is_done, is_idle, is_open, is_ready, is_resolved}, World.{Common, Task, no_request, no_sleeper, no_task, seat_of, task_of}}
-use Rattle.exec_machine.specs.declared.state.Waiting.TheVariants as waiting
-use Rattle.exec_moves.specs.{declared.place.Place.Place, Seen.polls_at, Slots.{is_in_slots, numbers_in}, State.{no_queue, queue_of}, Told.has_number}
-use Rattle.exec_moves.specs.declared.handing.AfterPop.TheVariants as popped
+use Rattle.exec_machine.specs.{declared.{config.ScriptWord.ScriptWord}, Progress.{Plan}, Tests.{is_asleep, is_open, is_ready}, World.{Common, Task, no_sleeper, no_task, seat_of, task_of}}
+use Rattle.exec_moves.specs.{declared.place.Place.Place, Seen.polls_at, Slots.{is_in_slots}, State.{no_queue, queue_of}}
 use Rattle.exec_moves.specs.declared.place.InClosing.TheVariants as closing
 use Rattle.exec_moves.specs.declared.place.InPoll.TheVariants as poll
 use Rattle.exec_moves.specs.declared.place.Place.TheVariants as at
-use Rattle.exec_credit.specs.{Minds.is_alone, Minded.{HasNothing, HasRoot, HaveBeds, HaveSlots, IsBare, IsFollowed, PollsRoot, Stood, is_played}}
-use Rattle.exec_parts.specs.{declared.parts.{held.Held.Held, mail.Reply.Reply, record.Record.Record, seat.Seat.Seat as Chair, shared.Shared.Shared, sleeping.SleeperRecord.SleeperRecord, task_slot.TaskSlot.TaskSlot, worker.Worker.Worker}, Phased.{IsPhased, IsPrepared, closes_at, closing_in, has_shut, is_complete, root_over, stage_of}, Records.numbers_held, Spots.Spot, View.{Views, common_of, desk_of, driver_of, message_of, own_of, queue_at, seat_seen, task_seen, tasks_of, things_with, visible}}
-use Rattle.exec_invariants.specs.{Holding.{Box, Holder, IsHeldBy, Mail, Thing, awaited_in, box_of, holder_of, holdings, mail_in, nap_of, thing_of, under_way}, Places.{begins_at, hands_on_at, one_if, step_of_poll}, Sound.{HasGuest, IsInHand, IsRunnable, Sound, one_of, root_in_hand}, Whole.{IsGenuine, IsWhole, Profile, hands_of, wakes_with}}
+use Rattle.exec_credit.specs.{Minds.is_alone, Minded.{HasRoot, HaveBeds, IsBare, PollsRoot, Stood, is_played}}
+use Rattle.exec_parts.specs.{declared.parts.{held.Held.Held, record.Record.Record, seat.Seat.Seat as Chair, shared.Shared.Shared, sleeping.SleeperRecord.SleeperRecord, task_slot.TaskSlot.TaskSlot, worker.Worker.Worker}, Phased.{IsPhased, closes_at, closing_in, has_shut, is_complete, root_over, stage_of}, Spots.Spot, View.{Views, common_of, desk_of, message_of, own_of, queue_at, seat_seen, task_seen, tasks_of, things_with, visible}}
+use Rattle.exec_invariants.specs.{Holding.{Box, Holder, IsHeldBy, Mail, awaited_in, box_of, holder_of, holdings, mail_in, nap_of, thing_of, under_way}, Places.{begins_at, hands_on_at, one_if, step_of_poll}, Sound.{HasGuest, IsInHand, IsRunnable, Sound, one_of, root_in_hand}, Whole.{IsGenuine, IsWhole, Profile, hands_of, wakes_with}}
 use Rattle.exec_parts.specs.declared.parts.mail.Subject.TheVariants as subject
 use Rattle.exec_parts.proofs.Facts.{by_not, by_number, same_thing}
 use Rattle.exec_polling.proofs.Begun.{not_both}
-use Rattle.exec_invariants.proofs.SparedRecord.{live_of}
-use Rattle.exec_core.proofs.{CoreStood.{among_front, done_as, each_request, each_sleeper, found_in_slots, front_none, hand_out, mapped, no_closing, nobody_asks, none_open, not_counted, numbered_in_slots, not_polled, nothing_in, open_place, open_shut, over_shut, polled_busy, queued_ready, shut_place, some_lives, some_poll, still, the_seat}, Lifting.{seats_length, seen_there}, QueuedOnce.slot_of, LoneLists.{counted_none, summed_one, counted_there, one_list, only_zero, none_plus, none_if, some_if, by_bool}}
+use Rattle.exec_core.proofs.{CoreStood.{among_front, each_request, each_sleeper, found_in_slots, front_none, mapped, nothing_in, open_place, queued_ready, shut_place, some_lives, the_seat}, Lifting.{seats_length, seen_there}, QueuedOnce.slot_of, LoneLists.{counted_none, summed_one, counted_there, one_list, only_zero, none_plus, none_if, by_bool}}
 
 -- what was put together is empty where all is
 pub back_none : {A : Type 0} (xs ys : List A) → xs ++ ys ≡ [] → ys ≡ []
@@ -30,21 +26,9 @@ pub unmapped : {A C : Type 0} (f : A → C) (xs : List A) → map f xs ≡ [] �
 unmapped f [] none = refl
 unmapped f (x ∷ xs) none = absurd (cc)
 
--- a number that is held is one of the held
-held_there : (hs : List Held) (i k : ℕ) → slice_get (numbers_held hs) i ≡ Some k → (j : ℕ) × (h : Held) × (slice_get hs j ≡ Some h) × (h.number ≡ k)
-held_there hs i k there = let it = slot_of (λ (h : Held). h.number) hs i k there in (i, it.0, it.1, it.2)
-
 not_at_home : (o : Option ℕ) (t : ℕ) → o ≡ None → o ≡ Some t → ⊥
 not_at_home None t none some = absurd (cc)
 not_at_home (Some u) t none some = absurd (cc)
-
-closed_end : (q : Place) → is_alone q ≡ true → closing_in q ≡ Some closing.End → root_over (closes_at q) (closing_in q) ≡ true
-closed_end (at.Closing closing.End) alone h = refl
-closed_end (at.Pop x popped.Discard) alone h = absurd (cc)
-closed_end (at.Pop x (popped.Pick f)) alone h = absurd (cc)
-closed_end (at.Signal x j b) alone h = absurd (false≢true alone)
-closed_end (at.SendCancel b) alone h = absurd (false≢true alone)
-closed_end q alone h = absurd (cc)
 
 each_bed : (P : ℕ → Type 0) (zs : List SleeperRecord) → ((k : ℕ) (z : SleeperRecord) → slice_get zs k ≡ Some z → is_asleep 0 z.shown ≡ true → P k)
     → (k : ℕ) → is_asleep 0 (get_or (map (λ (z : SleeperRecord). z.shown) zs) k no_sleeper) ≡ true → P k
@@ -52,17 +36,10 @@ each_bed P [] each k asleep = absurd (false≢true asleep)
 each_bed P (z ∷ zs) each zero asleep = each 0 z refl asleep
 each_bed P (z ∷ zs) each (suc k) asleep = each_bed (λ j. P (suc j)) zs (λ j y there. each (suc j) y there) k asleep
 
-each_slot : (P : ℕ → Type 0) (rs : List Record) → ((k : ℕ) (r : Record) → slice_get rs k ≡ Some r → is_resolved r.shown.phase ≡ false → P k)
-    → (k : ℕ) → is_resolved (get_or (map (λ (r : Record). r.shown) rs) k no_request).phase ≡ false → P k
-each_slot P [] each k unresolved = absurd (true≢false unresolved)
-each_slot P (r ∷ rs) each zero unresolved = each 0 r refl unresolved
-each_slot P (r ∷ rs) each (suc k) unresolved = each_slot (λ j. P (suc j)) rs (λ j y there. each (suc j) y there) k unresolved
-
 module _ {B L : Type 0} (left : B → L) (spot : L → Option Said → Spot) (p : Plan) (vs : Views) (x : Profile) (w : Worker) (s : Shared B) (sound : Sound w s) (whole : IsWhole x s)
     (seen : slice_get vs.workers w.index ≡ Some (visible w)) (workers : length vs.workers ≡ length s.seats.items) (lone : s.config.workers ≡ 1) (one : length s.tasks.items ≡ 1) (just : length s.seats.items ≡ 1) (zeroth : w.index ≡ 0)
     (alone : is_alone w.place ≡ true) (mailless : (m : Mail) → x.mail m ≡ 0) (waking : (t : ℕ) → x.wakes w.index t ≡ wakes_with t w)
     (ours : (k : ℕ) (r : Record) → slice_get s.requests.items k ≡ Some r → r.shown.worker ≡ w.index)
-    (rest_here : (k : ℕ) (z : SleeperRecord) → slice_get s.sleepers.items k ≡ Some z → z.shown.worker ≡ w.index)
     (unread : (seat_of (common_of left spot p vs s) 0).inbox ≡ []) where
   abbrev all : Common
   all = common_of left spot p vs s
@@ -114,9 +91,6 @@ module _ {B L : Type 0} (left : B → L) (spot : L → Option Said → Spot) (p 
 
   complete : is_complete slot.cell.phase ≡ root_over (closes_at w.place) (closing_in w.place)
   complete = phased_now.root slot sound.runnable.there
-
-  done_is : is_done (task_of all 0).phase ≡ root_over (closes_at w.place) (closing_in w.place)
-  done_is = ap (λ (t : Task). is_done t.phase) root_is ∙ (done_as slot.cell.phase slot.poller ∙ complete)
 
   -- WHAT IT HOLDS, AND WHAT IS UNDER WAY
 
@@ -198,56 +172,12 @@ module _ {B L : Type 0} (left : B → L) (spot : L → Option Said → Spot) (p 
     nobody_observes : chair.mailbox.inbox.closed ≡ false → (k : ℕ) (r : Record) → slice_get s.requests.items k ≡ Some r → r.shown.observed ≡ false
     nobody_observes opened k r found = none_if r.shown.observed (sym (observed_by k r found opened) ∙ counted_none (λ (h : Held). h.number == k) slot.held.items holds_none)
 
-  -- WHAT IT WAITS FOR
-
-  followed : (what : Waiting) → slot.waiting ≡ what → IsFollowed all what
-  followed (waiting.Request k) is =
-      let h = whole.holding.awaiting 0 (holder_of slot) k holder_there (ap awaited_in is) in
-      let r = slot_of thing_of s.requests.items k h.0 h.1 in
-      let it = mapped (λ (y : Record). y.shown) s.requests.items k r.0 no_request r.1 in
-      let going : is_complete slot.cell.phase ≡ false = by_bool (is_complete slot.cell.phase)
-      (λ over. absurd (not_both (awaited_in slot.waiting) (subject.Request k) (waits_none over) (ap awaited_in is))) (λ no. no) in
-      let opened : chair.mailbox.inbox.closed ≡ false = phased_now.shut ∙ open_shut (closes_at w.place) (closing_in w.place) (sym complete ∙ going) in
-      let newest = held_there slot.held.items (length (numbers_held slot.held.items) - 1) k (h.2.newest going) in
-      let some = counted_there (λ (y : Held). y.number == k) slot.held.items newest.0 newest.1 newest.2 (eq-eqb newest.1.number k newest.3) in
-      let observed : r.0.shown.observed ≡ true = some_if r.0.shown.observed (let same = observed_by k r.0 r.1 opened in omega (arith, some, same)) in
-      let waiter : r.0.shown.waiter ≡ Some 0 = ap (λ (y : Thing). y.waiter) r.2 ∙ h.2.waiter in (
-        ap (λ (y : Request). y.observed) it ∙ observed,
-        ap (λ (y : Request). y.waiter) it ∙ waiter,
-      )
-  followed (waiting.Timer z) is = tt
-  followed waiting.Nothing is = tt
-  followed waiting.Wake is = tt
-  followed waiting.Woken is = tt
-  followed waiting.Yielded is = tt
-
   all_zero : All (λ t. t ≡ 0) (map (λ (t : TaskNo). t.0) w.home.deferred.notes.wakes.items)
   all_zero k t within =
       let n = slot_of (λ (y : TaskNo). y.0) w.home.deferred.notes.wakes.items k _ (slice_get-get_or (map (λ (y : TaskNo). y.0) w.home.deferred.notes.wakes.items) k t within) in
       let some : 0 < wakes_with n.0.0 w = counted_there (λ (y : TaskNo). y.0 == n.0.0) w.home.deferred.notes.wakes.items k n.0 n.1 (eq-eqb n.0.0 n.0.0 refl) in
       let owed = (whole.holding.owed w.index n.0.0 (let same = waking n.0.0 in omega (arith, same, some))).1 in
       sym n.2 ∙ (is_root n.0.0 owed.it owed.there).0
-
-  runnable_off : (flag hand : Option Runnable) → is_some flag ≡ false → hand ≡ None → IsRunnable (one_of flag hand) slot → (b : B) → slot.cell.phase ≢ cell.Queued b
-  runnable_off None hand off empty once = subst (λ h. IsRunnable h slot) empty once
-  runnable_off (Some r) hand off empty once = absurd (true≢false off)
-
-  nothing : has_ended (seat_of all 0).phase ≡ true → HasNothing (own_of w) all
-  nothing over =
-      let last = phased_now.ended (subst (λ it. has_ended it.phase ≡ true) seat_is over) in
-      let released : w.names.unreleased ≡ 0 = subst (λ y. IsPrepared y w.names.unreleased (stage_of chair s).set) last phased_now.prepared in
-      let counted = sound.over.counted in
-      let none : pending_count (driver_of w).requests ≡ 0 = omega (arith, counted, released) in
-      let no_ended : length w.names.ended.items ≡ 0 = omega (arith, counted, released) in
-      record {
-        ended = empty w.names.ended.items no_ended;
-        requests = none_open s.requests.items (λ k r found. sound.named.over k r found (ours k r found) (nobody_asks (slot_at (driver_of w).requests r.id.0.index) r.id.0.generation (not_counted (driver_of w).requests.slots none r.id.0.index (Vacant (driver_of w).requests.first) refl)));
-        sleepers = each_sleeper (λ z. is_asleep 0 z ≡ false) s.sleepers.items refl (nobody_sleeps (complete ∙ closed_end w.place alone last));
-      }
-    where
-      empty : (xs : List ℕ) → length xs ≡ 0 → xs ≡ []
-      empty [] h = refl
-      empty (y ∷ xs) h = absurd (omega (arith, h))
 
   -- where a poll is about to begin the root is queued
   queued_of : (flag : Option Runnable) (r : Runnable) → IsRunnable (one_of flag (Some r)) slot → (b : B) × (slot.cell.phase ≡ cell.Queued b)
@@ -293,43 +223,8 @@ module _ {B L : Type 0} (left : B → L) (spot : L → Option Said → Spot) (p 
   bedded : HaveBeds all (desk_of w)
   bedded = each_bed (λ k. is_in_slots k (desk_of w).timers ≡ true) s.sleepers.items has_bed
 
-  -- each request that isn't over stands in a slot
-  has_slot : (k : ℕ) (r : Record) → slice_get s.requests.items k ≡ Some r → is_resolved r.shown.phase ≡ false → has_number k (numbers_in (desk_of w).requests.held) ≡ true
-  has_slot k r found unresolved = by (waiter_at (driver_of w).requests r.id.0) refl
-    where
-      by : (o : Option (Waiter Reply Reply)) → waiter_at (driver_of w).requests r.id.0 ≡ o → has_number k (numbers_in (desk_of w).requests.held) ≡ true
-      by None gone = absurd (false≢true (sym unresolved ∙ sound.named.over k r found (ours k r found) gone))
-      by (Some it) live =
-          let some = live_of (driver_of w).requests r.id.0 it live in
-          let named = (sound.due.timed k r found (ours k r found)).named unresolved in
-          numbered_in_slots k 0 w.names.requests.items (driver_of w).requests.slots r.id.0.index (Vacant (driver_of w).requests.first) refl (some_lives (slot_at (driver_of w).requests r.id.0.index) r.id.0.generation some)
-          (ap (λ j. slice_index_or w.names.requests.items j 0) (none_plus r.id.0.index) ∙ named)
-
-  slotted : HaveSlots all (desk_of w)
-  slotted = each_slot (λ k. has_number k (numbers_in (desk_of w).requests.held) ≡ true) s.requests.items has_slot
-
-  pub rooted : HasRoot (own_of w) all (desk_of w)
-  rooted =
-      let stands = sound.tied.stands slot sound.runnable.there in
-      let phased = phased_now in
-      record {
-        root = root_zero;
-        tasks = length-map s.tasks.items (task_seen left spot) ∙ one;
-        home = ap (λ (t : Task). t.home) root_is ∙ home_is;
-        polls = polls_shown w.place refl;
-        ready = λ off polls. ap (λ (t : Task). is_runnable t.phase) root_is ∙ still slot.cell.phase slot.poller (runnable_off w.root_ready (root_in_hand (begins_at w.place) w.root w.hand) off (hand_out w.place w.root w.hand alone polls) sound.runnable.once) (stands.polled ∙ not_polled w.place w.root alone polls);
-        going = λ open_still. done_is ∙ (ap (root_over (closes_at w.place)) (no_closing w.place alone open_still) ∙ open_place w.place alone open_still);
-        done = λ shut. done_is ∙ over_shut (closes_at w.place) (closing_in w.place) (not_false (closes_at w.place) (sym (ap (λ it. is_open it.phase) seat_is ∙ phased.opened) ∙ shut));
-        busy = λ some. ap (λ (t : Task). is_idle t.phase) root_is ∙ polled_busy slot.cell.phase slot.poller (stands.polled ∙ some_poll (polls_at w.place) (step_of_poll w.place) w.root some polls_root);
-        follows = subst (λ (t : Task). IsFollowed all t.waiting) (sym root_is) (followed slot.waiting refl);
-        wakes = all_zero;
-        timed = each_request (λ r. is_resolved r.phase ≡ true → r.timer ≡ None) s.requests.items (λ h. refl) (λ k r found. (sound.due.timed k r found (ours k r found)).over);
-        ended = nothing;
-      }
-    where
-      not_false : (b : Bool) → not b ≡ false → b ≡ true
-      not_false true h = refl
-      not_false false h = absurd (true≢false h)
+  pub rooted : HasRoot all (desk_of w)
+  rooted = record { home = ap (λ (t : Task). t.home) root_is ∙ home_is; polls = polls_shown w.place refl; wakes = all_zero }
 
   -- no ordinary task is queued
   queue_none : (queue_of (things_with vs s) 0).values ≡ []
@@ -345,7 +240,6 @@ module _ {B L : Type 0} (left : B → L) (spot : L → Option Said → Spot) (p 
         sampled = sound.time.not_after;
         seats = seats_length vs.workers s.seats.items workers ∙ workers ∙ just;
         pool = ap (λ it. it.pool) seat_is ∙ sound.seated.pool ∙ (λ k. nat_lt (zeroth k) (lone k));
-        inbox = unread;
         queue = queue_none;
         global = ap tasks_of (nothing_in s.global.values (λ r has. no_genuine r (whole.queued_there r has)));
         batch = front_none (map message_of w.batch.values) _ (sym (ap (λ it. it.inbox) seat_is) ∙ unread);
@@ -354,7 +248,6 @@ module _ {B L : Type 0} (left : B → L) (spot : L → Option Said → Spot) (p 
         polled = λ t is. polls_root t is ∙ root_zero;
         bare = bared w.place refl;
         beds = λ open_still. bedded;
-        slots = slotted;
         ours = each_request (λ r. r.worker ≡ 0) s.requests.items refl (λ k r found. ours k r found ∙ zeroth);
         scripts = scripts;
         words = words;

@@ -1,22 +1,20 @@
--- What the invariant of a worker alone gives to the laws of credit and of its sleep.
-use Rattle.std.proofs.{Common.{◌≡◌, ◌≢◌, ℕ, zero, suc, ◌+◌, ◌==◌, ◌&&◌, ◌||◌, Bool, true, false, not, cond, List, [], ◌∷◌, ◌++◌, Contains, map, get_or, if◌then◌else◌, Option, Some, None, is_some, refl, sym, ap, subst, ◌∙◌, arith, slice_get, count_by}, lemmas.{Bool.{true≢false, false≢true, eq-eqb, or_right}, List.{Sums.sum_by-cons}}}
-use Rattle.std.specs.List.{list_any}
+-- What the invariant of a worker alone gives to the laws of credit.
+use Rattle.std.proofs.{Common.{◌≡◌, ℕ, zero, suc, ◌+◌, ◌==◌, Bool, true, false, List, [], ◌∷◌, ◌++◌, Contains, map, get_or, if◌then◌else◌, Option, Some, None, refl, sym, ap, ◌∙◌, arith, slice_get}, lemmas.{Bool.{true≢false, false≢true, eq-eqb}}}
 use Rattle.std.specs.Prelude.{IsSome, slice_index_or}
 use Rattle.exec_base.specs.{Slab.{is_live, value_in}, declared.{slab.{Slot.{Slot, TheVariants.{Live, Vacant, Retired}}}}}
-use Rattle.exec_task.specs.{Phases.is_polled, declared.{runnable.Runnable.Runnable, task.Phase.Phase}}
+use Rattle.exec_task.specs.{declared.{runnable.Runnable.Runnable, task.Phase.Phase}}
 use Rattle.exec_task.specs.declared.task.Phase.TheVariants as cell
-use Rattle.exec_waiters.specs.{States.{counts_pending, waiter_of}, declared.waiter.Entry.{Entry, TheVariants.{Pending, Ready}}}
-use Rattle.exec_machine.specs.{declared.state.{Request.Request, Sleeper.Sleeper}, Progress.{is_runnable}, Same.is_none, Tests.{is_done, is_idle, is_ready, is_resolved}, World.{no_request, no_seat, no_sleeper}}
-use Rattle.exec_moves.specs.{Slots.{is_it, is_some_slot, numbers_in, slot_of}, Told.has_number, declared.{place.{AfterService.AfterService, InClosing.InClosing, InPoll.InPoll, Place.Place}}}
+use Rattle.exec_machine.specs.{declared.state.{Request.Request, Sleeper.Sleeper}, Tests.{is_ready}, World.{no_request, no_seat, no_sleeper}}
+use Rattle.exec_moves.specs.{Slots.{is_it, is_some_slot, slot_of}, declared.{place.{AfterService.AfterService, InClosing.InClosing, Place.Place}}}
 use Rattle.exec_moves.specs.declared.handing.AfterCallbacks.TheVariants as after
 use Rattle.exec_moves.specs.declared.handing.AfterPop.TheVariants as popped
 use Rattle.exec_moves.specs.declared.idling.Stay.TheVariants as stay
 use Rattle.exec_moves.specs.declared.place.AfterService.TheVariants as back
 use Rattle.exec_moves.specs.declared.place.InClosing.TheVariants as closing
 use Rattle.exec_moves.specs.declared.place.Place.TheVariants as at
-use Rattle.exec_credit.specs.{Minds.{closes, ends, is_alone, is_poll}, Minded.is_start}
-use Rattle.exec_parts.specs.{declared.parts.{mail.Reply.Reply, record.Record.Record, seat.Seat.Seat as Chair, sleeping.SleeperRecord.SleeperRecord}, Phased.{closes_after, closes_at, closing_in, has_shut, is_complete, root_over}, View.{Visible, owed_at, phase_seen, seat_seen, seats_seen, slots_from}}
-use Rattle.exec_invariants.specs.{HoldPlaces.cancels_at, Places.{begins_at, in_poll_of, polled_in}, Sound.root_in_hand, Whole.queued}
+use Rattle.exec_credit.specs.{Minds.{closes, ends, is_alone}, Minded.is_start}
+use Rattle.exec_parts.specs.{declared.parts.{record.Record.Record, seat.Seat.Seat as Chair, sleeping.SleeperRecord.SleeperRecord}, Phased.{closes_after, closes_at, has_shut, root_over}, View.{Visible, owed_at, phase_seen, seat_seen, seats_seen, slots_from}}
+use Rattle.exec_invariants.specs.{HoldPlaces.cancels_at}
 
 -- LISTS
 
@@ -46,14 +44,6 @@ pub each_sleeper : (P : Sleeper → Type 0) (records : List SleeperRecord) → P
 each_sleeper P [] none each k = none
 each_sleeper P (z ∷ records) none each zero = each 0 z refl
 each_sleeper P (z ∷ records) none each (suc k) = each_sleeper P records none (λ j it there. each (suc j) it there) k
-
-pub none_open : (records : List Record) → ((k : ℕ) (r : Record) → slice_get records k ≡ Some r → is_resolved r.shown.phase ≡ true) → list_any (λ (r : Request). (r.worker == 0) && not (is_resolved r.phase)) (map (λ (r : Record). r.shown) records) ≡ false
-none_open [] over = refl
-none_open (r ∷ records) over = rw (over 0 r refl, none_open records (λ k it there. over (suc k) it there)) (by (r.shown.worker == 0))
-  where
-    by : (b : Bool) → ((b && not true) || false) ≡ false
-    by true = refl
-    by false = refl
 
 pub front_none : {A : Type 0} (xs ys : List A) → xs ++ ys ≡ [] → xs ≡ []
 front_none [] ys none = refl
@@ -151,114 +141,23 @@ owes_alone n (at.Closing (closing.TellRoot j)) alone = absurd (false≢true alon
 owes_alone n (at.Signal x j b) alone = absurd (false≢true alone)
 owes_alone n p alone = refl
 
--- out of a poll no hand holds the root's runnable, and nobody polls
-pub hand_out : (p : Place) (root : ℕ) (hand : Option Runnable) → is_alone p ≡ true → is_poll p ≡ false → root_in_hand (begins_at p) root hand ≡ None
-hand_out (at.Poll t x) root hand alone out = absurd (true≢false out)
-hand_out (at.LeaveSearch b) root hand alone out = absurd (false≢true alone)
-hand_out (at.Kick x b) root hand alone out = absurd (false≢true alone)
-hand_out (at.ClaimWorker set b) root hand alone out = absurd (false≢true alone)
-hand_out (at.Signal x j b) root hand alone out = absurd (false≢true alone)
-hand_out p root hand alone out = refl
-
-pub not_polled : (p : Place) (root : ℕ) → is_alone p ≡ true → is_poll p ≡ false → is_some (polled_in root p) ≡ false
-not_polled (at.Poll t x) root alone out = absurd (true≢false out)
-not_polled (at.Push x b) root alone out = absurd (false≢true alone)
-not_polled (at.Global x b) root alone out = absurd (false≢true alone)
-not_polled (at.Kick x b) root alone out = absurd (false≢true alone)
-not_polled (at.ClaimWorker set b) root alone out = absurd (false≢true alone)
-not_polled (at.Signal x j b) root alone out = absurd (false≢true alone)
-not_polled p root alone out = refl
-
-pub no_closing : (p : Place) → is_alone p ≡ true → closes p ≡ false → closing_in p ≡ None
-no_closing (at.Closing x) alone h = absurd (true≢false h)
-no_closing (at.Pop x (popped.Pick f)) alone h = refl
-no_closing (at.Pop x popped.Discard) alone h = absurd (true≢false h)
-no_closing (at.Signal x j b) alone h = absurd (false≢true alone)
-no_closing (at.SendCancel b) alone h = absurd (false≢true alone)
-no_closing p alone h = refl
-
-pub over_shut : (b : Bool) (x : Option InClosing) → b ≡ true → root_over b x ≡ true
-over_shut b None h = h
-over_shut b (Some closing.Close) h = refl
-over_shut b (Some x) h = h
-
--- in a poll of this task
-pub in_poll : (t root : ℕ) (x : InPoll) → t ≡ root → in_poll_of root (Some t) x ≡ Some x
-in_poll t root x same = ap (λ (b : Bool). if b then Some x else None) (eq-eqb t root same)
-
-pub some_poll : (o : Option ℕ) (x : InPoll) (root : ℕ) → is_none o ≡ false → ((t : ℕ) → o ≡ Some t → t ≡ root) → is_some (in_poll_of root o x) ≡ true
-some_poll None x root some own = absurd (true≢false some)
-some_poll (Some t) x root some own = ap is_some (in_poll t root x (own t refl))
-
 -- PHASES
 
 module _ {B : Type 0} where
-  pub still : (ph : Phase B) (i : ℕ) → ((b : B) → ph ≢ cell.Queued b) → is_polled ph ≡ false → is_runnable (phase_seen ph i) ≡ false
-  still (cell.Idle b) i queued polled = refl
-  still (cell.Queued b) i queued polled = absurd (queued b refl)
-  still cell.Running i queued polled = absurd (true≢false polled)
-  still cell.Notified i queued polled = absurd (true≢false polled)
-  still cell.Complete i queued polled = refl
-
-  pub polled_busy : (ph : Phase B) (i : ℕ) → is_polled ph ≡ true → is_idle (phase_seen ph i) ≡ false
-  polled_busy (cell.Idle b) i polled = absurd (false≢true polled)
-  polled_busy (cell.Queued b) i polled = absurd (false≢true polled)
-  polled_busy cell.Running i polled = refl
-  polled_busy cell.Notified i polled = refl
-  polled_busy cell.Complete i polled = refl
-
-  pub done_as : (ph : Phase B) (i : ℕ) → is_done (phase_seen ph i) ≡ is_complete ph
-  done_as (cell.Idle b) i = refl
-  done_as (cell.Queued b) i = refl
-  done_as cell.Running i = refl
-  done_as cell.Notified i = refl
-  done_as cell.Complete i = refl
-
   pub queued_ready : (ph : Phase B) (i : ℕ) (b : B) → ph ≡ cell.Queued b → is_ready (phase_seen ph i) ≡ true
   queued_ready ph i b is = ap (λ x. is_ready (phase_seen x i)) is
 
--- SUMS
+-- SLOTS
 
-plus_none : (k : ℕ) → k ≡ k + 0
+pub plus_none : (k : ℕ) → k ≡ k + 0
 plus_none k = omega arith
 
-plus_one : (k i : ℕ) → suc k + i ≡ k + suc i
+pub plus_one : (k i : ℕ) → suc k + i ≡ k + suc i
 plus_one k i = omega arith
-
--- NOTHING PENDING
-
-pub not_counted : (slots : List (Slot (Entry Reply Reply))) → count_by counts_pending slots ≡ 0 → (i : ℕ) (d : Slot (Entry Reply Reply)) → counts_pending d ≡ false → counts_pending (get_or slots i d) ≡ false
-not_counted [] none i d h = h
-not_counted (x ∷ slots) none zero d h = by (counts_pending x) refl
-  where
-    by : (b : Bool) → counts_pending x ≡ b → counts_pending x ≡ false
-    by false is = is
-    by true is =
-        let no : 1 + count_by counts_pending slots ≡ 0 = subst (λ b. cond b 1 0 + count_by counts_pending slots ≡ 0) is (sym (sum_by-cons (λ y. cond (counts_pending y) 1 0) x slots) ∙ none) in
-        absurd (omega (arith, no))
-not_counted (x ∷ slots) none (suc i) d h =
-    let rest : count_by counts_pending slots ≡ 0 = omega (arith, none, sum_by-cons (λ y. cond (counts_pending y) 1 0) x slots) in
-    not_counted slots rest i d h
-
-pub nobody_asks : (x : Slot (Entry Reply Reply)) (generation : ℕ) → counts_pending x ≡ false → waiter_of (value_in x generation) ≡ None
-nobody_asks (Vacant g) generation h = refl
-nobody_asks Retired generation h = refl
-nobody_asks (Live g (Pending it)) generation h = absurd (true≢false h)
-nobody_asks (Live g (Ready output)) generation h = by (g == generation)
-  where
-    by : (b : Bool) → waiter_of {S = Reply} {F = Reply} (if b then Some (Ready output) else None) ≡ None
-    by true = refl
-    by false = refl
-
--- SLOTS
 
 slot_is_some : (b : Bool) (k : ℕ) (o : Option ℕ) → (b ≡ false → is_some_slot o ≡ true) → is_some_slot (if b then Some k else o) ≡ true
 slot_is_some true k o h = refl
 slot_is_some false k o h = h refl
-
-numbered_one : (b : Bool) (n m : ℕ) (later : List (Option ℕ)) → has_number n (numbers_in later) ≡ true → has_number n (numbers_in ((if b then Some m else None) ∷ later)) ≡ true
-numbered_one true n m later h = or_right (m == n) (has_number n (numbers_in later)) h
-numbered_one false n m later h = h
 
 module _ {T : Type 0} where
   -- what lives in a slot is found by its number
@@ -272,18 +171,6 @@ module _ {T : Type 0} where
   found_in_slots n k numbers (x ∷ slots) (suc i) d dead live same =
       slot_is_some (is_it n (if is_live x then Some (slice_index_or numbers k 0) else None)) k _
       (λ off. found_in_slots n (suc k) numbers slots i d dead live (ap (λ j. slice_index_or numbers j 0) (plus_one k i) ∙ same))
-
-  -- and its number is among those of all
-  pub numbered_in_slots : (n k : ℕ) (numbers : List ℕ) (slots : List (Slot T)) (i : ℕ) (d : Slot T) → is_live d ≡ false → is_live (get_or slots i d) ≡ true → slice_index_or numbers (k + i) 0 ≡ n
-      → has_number n (numbers_in (slots_from k numbers slots)) ≡ true
-  numbered_in_slots n k numbers [] i d dead live same = absurd (false≢true (sym dead ∙ live))
-  numbered_in_slots n k numbers (x ∷ slots) zero d dead live same =
-      let here : slice_index_or numbers k 0 ≡ n = ap (λ j. slice_index_or numbers j 0) (plus_none k) ∙ same in
-      ap (λ (b : Bool). has_number n (numbers_in ((if b then Some (slice_index_or numbers k 0) else None) ∷ slots_from (suc k) numbers slots))) live
-      ∙ ap (λ (b : Bool). b || has_number n (numbers_in (slots_from (suc k) numbers slots))) (eq-eqb (slice_index_or numbers k 0) n here)
-  numbered_in_slots n k numbers (x ∷ slots) (suc i) d dead live same =
-      numbered_one (is_live x) n (slice_index_or numbers k 0) (slots_from (suc k) numbers slots)
-      (numbered_in_slots n (suc k) numbers slots i d dead live (ap (λ j. slice_index_or numbers j 0) (plus_one k i) ∙ same))
 
   -- a value stands in a live slot
   pub some_lives : (x : Slot T) (generation : ℕ) → IsSome (value_in x generation) → is_live x ≡ true

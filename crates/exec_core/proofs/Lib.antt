@@ -18,4 +18,12 @@ pub mod QueuedOnce
 pub mod InTurn
 pub mod LoneLists
 pub mod Runnable
+pub mod GivenWorkers
 pub mod Placed
+pub mod GivenGatesLines
+pub mod GivenGates
+pub mod GivenWaitsSeen
+pub mod GivenWaits
+pub mod GivenSlots
+pub mod Given
+pub mod Steady

@@ -44,10 +44,6 @@ pub none_if : (b : Bool) → one_if b ≡ 0 → b ≡ false
 none_if true h = absurd (omega (arith, h))
 none_if false h = refl
 
-pub some_if : (b : Bool) → 0 < one_if b → b ≡ true
-some_if true h = refl
-some_if false h = absurd (omega (arith, h))
-
 pub by_bool : {P : Type 0} (b : Bool) → (b ≡ true → P) → (b ≡ false → P) → P
 by_bool true f g = f refl
 by_bool false f g = g refl

@@ -2,25 +2,25 @@
 use Rattle.std.proofs.{Common.{◌≡◌, ◌<◌, ◌≤◌, ℕ, zero, suc, ◌+◌, Bool, true, false, List, [], ◌∷◌, ◌++◌, length, map, if◌then◌else◌, option_map, option_to_list, Option, None, Some, refl, sym, ap, subst, ◌∙◌, ⊎_elim, arith, slice_get, slice_index_or}, lemmas.{Bool.{cases_lt, eq-eqb, false≢true, true≢false}, List.length-map, Option.slice_get_within}}
 use Rattle.std.specs.List.{list_any}
 use Rattle.exec_task.specs.declared.body.Said.{Said}
-use Rattle.exec_machine.specs.{declared.{config.Configuration.Configuration, event.{Event.Event, StepResult.TheVariants.{Refused, Did}}, state.Call.Call, step.Action.Action}, Callers.{is_half_done, may_work}, Examples.refuses, Progress.{Plan, quiet_bound, is_quiet_step, IsRightlyAsleep}, Run.{Follows, after_event}, World.{Common, Own, Seat, World, no_seat, own_of as own_at, seat_of}}
+use Rattle.exec_machine.specs.{declared.{config.Configuration.Configuration, event.{Event.Event, StepResult.TheVariants.{Refused, Did}}, state.Call.Call, step.Action.Action}, Callers.{is_half_done, may_work}, Examples.refuses, Progress.{Plan, quiet_bound, is_quiet_step}, Run.{Follows, after_event}, World.{Common, Own, Seat, World, no_seat, own_of as own_at, seat_of}}
 use Rattle.exec_machine.specs.declared.step.Action.TheVariants as action
 use Rattle.exec_machine.specs.declared.state.Call.TheVariants as half
 use Rattle.exec_credit.specs.{Minds.is_alone, Minded.{HasRoot, Stood, StoodIn, MindedIn, begins_call}}
 use Rattle.exec_moves.specs.{Plays.{Played, Playing, by_step, credit_of, desk_of as desk_at}, State.Desk}
-use Rattle.exec_parts.specs.{declared.parts.{held.Held.Held, letters.Letters.Letters, record.Record.Record, sleeping.SleeperRecord.SleeperRecord, worker.Worker.Worker}, Spots.Spot, View.{desk_of, letter_of_request, letter_of_timer, letters_in, message_of, own_of, task_seen, visible}}
+use Rattle.exec_parts.specs.{declared.parts.{held.Held.Held, letters.Letters.Letters, record.Record.Record, worker.Worker.Worker}, Spots.Spot, View.{desk_of, letter_of_request, letter_of_timer, letters_in, message_of, own_of, task_seen, visible}}
 use Rattle.exec_polling.specs.{declared.caller.Caller.Caller, Calling.call_of}
 use Rattle.exec_invariants.specs.{Holding.{Mail, cancel_held, cancel_sleep, mail_in, mail_of_letters}, Sound.Sound, Whole.{Profile, mail_with, wakes_with, with_worker}}
 use Rattle.exec_steps.specs.Together.{all_have, callers_have}
 use Rattle.exec_parts.proofs.Facts.{same_thing}
 use Rattle.exec_invariants.proofs.SparedRecord.{there_within}
 use Rattle.exec_core.proofs.{CoreAlone.{StaysAlone, alone_stays, alone_works}, CoreRoot.{back_none, rooted, stood, unmapped}, CoreStood.{front_none, no_letters_alone, owes_alone, the_seat}, Lifting.{desk_there, own_there, suits_it}}
-use Rattle.exec_core.specs.{Lift.{Stands, IsFair, IsMinded, Pays, Takes, playing, views, world}, declared.executor.Core.Core}
+use Rattle.exec_core.specs.{Lift.{Stands, IsFair, IsMinded, Pays, Takes, playing, views, world}, Steady.{IsSteady, IsSteadyThere}, declared.executor.Core.Core}
 
 -- what is known of the credit of moves
 pub record IsPaid : Type 0 where
   pub kept : (c : Configuration) (x : Playing) (a : Action) → begins_call a ≡ false → StoodIn c x → MindedIn c x → Follows c x.world a (by_step c x a).told.0.said (by_step c x a).told.1 → MindedIn c (by_step c x a).next
   pub falls : (c : Configuration) (x : Playing) (a : Action) → begins_call a ≡ false → StoodIn c x → MindedIn c x → Follows c x.world a (by_step c x a).told.0.said (by_step c x a).told.1 → is_quiet_step x.world (by_step c x a).told.0.said ≡ true → credit_of c (by_step c x a).next < credit_of c x
-  pub fair : (c : Configuration) (x : Playing) → StoodIn c x → MindedIn c x → (credit_of c x < quiet_bound c x.world) × IsRightlyAsleep c x.world
+  pub fair : (c : Configuration) (x : Playing) → StoodIn c x → MindedIn c x → credit_of c x < quiet_bound c x.world
 
 -- LISTS of one thing, and of calls
 
@@ -107,9 +107,6 @@ module _ {B L : Type 0} (left : B → L) (spot : L → Option Said → Spot) whe
     alone : is_alone first.0.place ≡ true
     alone = subst (λ (d : Desk). is_alone d.place ≡ true) here minded.minded.paid.lone.place
 
-    rest_here : (k : ℕ) (z : SleeperRecord) → slice_get c.shared.sleepers.items k ≡ Some z → z.shown.worker ≡ first.0.index
-    rest_here k z there = (let within = stands.asleep k z there in omega (arith, within, workers, sound.0))
-
     ours : (k : ℕ) (r : Record) → slice_get c.shared.requests.items k ≡ Some r → r.shown.worker ≡ first.0.index
     ours k r there = (let within = stands.owned k r there in omega (arith, within, workers, sound.0))
 
@@ -143,17 +140,15 @@ module _ {B L : Type 0} (left : B → L) (spot : L → Option Said → Spot) whe
     stood_in =
         let suits = suits_it left spot p c 0 first.0 stands first.1 config in
         let is : Stood (own_of first.0) (playing left spot p c).world.common (desk_of first.0) (playing left spot p c).things =
-        stood left spot p (views c) _ first.0 c.shared sound.1 stands.together.whole suits.seen suits.workers lone one (sym stands.together.seats ∙ workers) sound.0 alone mailless waking ours rest_here minded.inbox minded.scripts minded.played in
-        let has : HasRoot (own_of first.0) (playing left spot p c).world.common (desk_of first.0) = rooted left spot p (views c) _ first.0 c.shared sound.1 stands.together.whole suits.seen suits.workers lone one (sym stands.together.seats ∙ workers) sound.0 alone mailless waking ours rest_here minded.inbox in
+        stood left spot p (views c) _ first.0 c.shared sound.1 stands.together.whole suits.seen suits.workers lone one (sym stands.together.seats ∙ workers) sound.0 alone mailless waking ours minded.inbox minded.scripts minded.played in
+        let has : HasRoot (playing left spot p c).world.common (desk_of first.0) = rooted left spot p (views c) _ first.0 c.shared sound.1 stands.together.whole suits.seen suits.workers lone one (sym stands.together.seats ∙ workers) sound.0 alone mailless waking ours minded.inbox in
         record {
           one = ap (map own_of) (one_alone c.workers.items first.0 workers first.1) ∙ ap (λ o. o ∷ []) (sym mine);
           callers = minded.calls;
           here =
               subst (λ (me : Own). Stood me (playing left spot p c).world.common (desk_at p.config (playing left spot p c) 0) (playing left spot p c).things) (sym mine)
               (subst (λ (d : Desk). Stood (own_of first.0) (playing left spot p c).world.common d (playing left spot p c).things) (sym here) is);
-          root =
-              subst (λ (me : Own). HasRoot me (playing left spot p c).world.common (desk_at p.config (playing left spot p c) 0)) (sym mine)
-              (subst (λ (d : Desk). HasRoot (own_of first.0) (playing left spot p c).world.common d) (sym here) has);
+          root = subst (λ (d : Desk). HasRoot (playing left spot p c).world.common d) (sym here) has;
         }
 
     pub owes_nobody : (own_at (playing left spot p c).world 0).owed ≡ []
@@ -181,8 +176,8 @@ module _ {B L : Type 0} (left : B → L) (spot : L → Option Said → Spot) whe
   stays_alone p c d (action.Stir i) e stands config minded calls takes = (subst (λ (v : World). StaysAlone (world left spot p c).common v.common) (sym takes.becomes) (alone_stays (world left spot p c).common (action.Stir i) e takes.choice refl (stood_in p c stands config minded).here.seats minded.inbox), takes.callers refl)
   stays_alone p c d (action.Peer l) e stands config minded calls takes = (subst (λ (v : World). StaysAlone (world left spot p c).common v.common) (sym takes.becomes) (alone_stays (world left spot p c).common (action.Peer l) e takes.choice refl (stood_in p c stands config minded).here.seats minded.inbox), takes.callers refl)
 
-  still_minded : (p : Plan) (c d : Core B) → (minded : IsMinded p (playing left spot p c)) → StaysAlone (world left spot p c).common (world left spot p d).common → d.callers ≡ c.callers → MindedIn p.config (playing left spot p d) → IsMinded p (playing left spot p d)
-  still_minded p c d minded stays callers kept =
+  still_minded : (p : Plan) (c d : Core B) → (minded : IsMinded p (playing left spot p c)) → StaysAlone (world left spot p c).common (world left spot p d).common → d.callers ≡ c.callers → MindedIn p.config (playing left spot p d) → IsSteady p.config (playing left spot p d) → IsMinded p (playing left spot p d)
+  still_minded p c d minded stays callers kept steady =
       record {
         lone = minded.lone;
         scripts = minded.scripts;
@@ -191,12 +186,13 @@ module _ {B L : Type 0} (left : B → L) (spot : L → Option Said → Spot) whe
         tasks = stays.tasks ∙ minded.tasks;
         inbox = stays.inbox;
         minded = kept;
+        steady = steady;
       }
 
   pub paid_by_step : IsPaid → (p : Plan) (c d : Core B) (a : Action) (e : Event) → Stands c → Stands d → c.shared.config ≡ p.config → d.shared.config ≡ p.config → begins_call a ≡ false → IsMinded p (playing left spot p c) → (takes : Takes left spot p c a e d)
       → by_step p.config (playing left spot p c) a ≡ (let it : Played = record { told = (record { action = a; said = Did e }, takes.choice); next = playing left spot p d } in it)
-      → Pays p (playing left spot p c) a (record { action = a; said = Did e })
-  paid_by_step paid p c d a e stands still config config' calls minded takes by =
+      → IsSteadyThere p.config (playing left spot p d) → Pays p (playing left spot p c) a (record { action = a; said = Did e })
+  paid_by_step paid p c d a e stands still config config' calls minded takes by there =
       let x = playing left spot p c in
       let k = p.config in
       let before = stood_in p c stands config minded in
@@ -204,17 +200,18 @@ module _ {B L : Type 0} (left : B → L) (spot : L → Option Said → Spot) whe
       let next : (by_step k x a).next ≡ playing left spot p d = ap (λ (y : Played). y.next) by in
       let kept : MindedIn k (playing left spot p d) = subst (MindedIn k) next (paid.kept k x a calls before minded.minded goes) in
       let stays = stays_alone p c d a e stands config minded calls takes in
-      let after : IsMinded p (playing left spot p d) = still_minded p c d minded stays.0 stays.1 kept in
+      let after : IsMinded p (playing left spot p d) = still_minded p c d minded stays.0 stays.1 kept there.steady in
       let fair = paid.fair k (playing left spot p d) (stood_in p d still config' after) kept in
       record {
         minded = subst (IsMinded p) (sym next) after;
         falls = subst (λ (y : Played). is_quiet_step x.world y.told.0.said ≡ true → credit_of k (by_step k x a).next < credit_of k x) by (paid.falls k x a calls before minded.minded goes);
-        fair = subst (IsFair k) (sym next) (record { bounded = fair.0; asleep = fair.1 });
+        fair = subst (IsFair k) (sym next) (record { bounded = fair; asleep = there.rests.asleep });
       }
 
   pub paid_by_none : IsPaid → (p : Plan) (c : Core B) (a : Action) → Stands c → c.shared.config ≡ p.config → IsMinded p (playing left spot p c)
-      → by_step p.config (playing left spot p c) a ≡ (let it : Played = record { told = refuses a; next = playing left spot p c } in it) → Pays p (playing left spot p c) a (record { action = a; said = Refused })
-  paid_by_none paid p c a stands config minded by =
+      → by_step p.config (playing left spot p c) a ≡ (let it : Played = record { told = refuses a; next = playing left spot p c } in it)
+      → IsSteadyThere p.config (playing left spot p c) → Pays p (playing left spot p c) a (record { action = a; said = Refused })
+  paid_by_none paid p c a stands config minded by there =
       let x = playing left spot p c in
       let k = p.config in
       let next : (by_step k x a).next ≡ x = ap (λ (y : Played). y.next) by in
@@ -222,5 +219,5 @@ module _ {B L : Type 0} (left : B → L) (spot : L → Option Said → Spot) whe
       record {
         minded = subst (IsMinded p) (sym next) minded;
         falls = λ quiet. absurd (false≢true quiet);
-        fair = subst (IsFair k) (sym next) (record { bounded = fair.0; asleep = fair.1 });
+        fair = subst (IsFair k) (sym next) (record { bounded = fair; asleep = there.rests.asleep });
       }

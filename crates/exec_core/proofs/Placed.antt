@@ -1,20 +1,20 @@
 -- Each worker and each caller of an executor is at a place where it may be, by what holds of each worker and of all parties
 -- together. The law that no wake is lost rests on that.
-use Rattle.std.proofs.Common.{◌≡◌, ◌≢◌, ℕ, suc, ◌+◌, ◌<◌, ◌≤◌, ◌==◌, ◌||◌, Bool, true, false, not, List, [], ◌∷◌, ◌++◌, get_or, length, map, slice_get, Option, Some, None, option_map, is_some, nat_lt, if◌then◌else◌, refl, sym, ap, subst, ◌∙◌, inl, inr, ⊎_elim, arith}
-use Rattle.std.proofs.lemmas.{Bool.{cases_lt, false≢true, true≢false, false_from_ne_true, true_from_ne_false, lt-ltb, ltb-true, not-true}, List.{get_or_past, length-map}, Option.{get_or_from_slice_get, slice_get-map, slice_get_cases}}
+use Rattle.std.proofs.Common.{◌≡◌, ◌≢◌, ℕ, suc, ◌+◌, ◌<◌, ◌≤◌, ◌==◌, Bool, true, false, not, List, [], ◌∷◌, ◌++◌, length, map, slice_get, Option, Some, None, option_map, is_some, nat_lt, if◌then◌else◌, refl, sym, ap, subst, ◌∙◌, inl, inr, ⊎_elim, arith}
+use Rattle.std.proofs.lemmas.{Bool.{or_from, not_from_true, cases_lt, false≢true, true≢false, false_from_ne_true, true_from_ne_false, lt-ltb, ltb-true, not-true}, List.{length-map}}
 use Rattle.exec_words.specs.{Queue.Queue, Reserved.Reserved}
 use Rattle.exec_task.specs.{Phases.is_polled, declared.{body.Said.Said, runnable.Runnable.Runnable, task.Phase.Phase}}
-use Rattle.exec_machine.specs.{declared.{config.Configuration.Configuration, state.MailMessage.MailMessage}, Progress.{Plan, is_runnable}, Tests.{has_ended, is_open}, World.{Seat, Task, no_seat, seat_of}}
-use Rattle.exec_moves.specs.{declared.{handing.{AfterCancels.AfterCancels, AfterPop.AfterPop, AfterPush.AfterPush, AfterSend.AfterSend, AfterSignal.AfterSignal, CallPlace.CallPlace}, idling.Stay.Stay, place.{InClosing.InClosing, Place.Place}}, Call.{CallDesk, no_call}, Plays.{Playing, caller_of, desk_of as desk_at, first_desk}, State.{Desk, inbox_of, no_queue, queue_of}}
-use Rattle.exec_parts.specs.{declared.parts.{seat.Seat.Seat as Chair, task_slot.TaskSlot.TaskSlot, worker.Worker.Worker}, Phased.{closes_at, closing_after_cancels, closing_in, has_shut, is_complete, root_over}, Spots.Spot, View.{Visible, desk_of, inbox_at, message_of, phase_seen, polls_seen, queue_at, seat_seen, seats_seen, task_seen, tasks_of, visible, word_at}}
-use Rattle.exec_invariants.specs.{Drained.{HaveLeft, IsBefore, in_set}, Holding.Mail, Places.{begins_at, hands_on_at, has_loot_at, is_pooled_at, polled_in}, Sound.{AreHome, HasBatch, HasQueue, IsInHand, IsLoot, IsRunnable, Sound, one_of, root_in_hand}}
+use Rattle.exec_machine.specs.{declared.{config.Configuration.Configuration}, Progress.{Plan, is_runnable}, Tests.{has_ended, is_open}, World.{Task}}
+use Rattle.exec_moves.specs.{declared.{handing.{AfterCancels.AfterCancels, AfterPop.AfterPop, AfterPush.AfterPush, AfterSend.AfterSend, AfterSignal.AfterSignal, CallPlace.CallPlace}, idling.Stay.Stay, place.{InClosing.InClosing, Place.Place}}, Call.{CallDesk, no_call}, Plays.{Playing, caller_of, desk_of as desk_at}}
+use Rattle.exec_parts.specs.{declared.parts.{seat.Seat.Seat as Chair, task_slot.TaskSlot.TaskSlot, worker.Worker.Worker}, Phased.{closes_at, closing_after_cancels, closing_in, has_shut, is_complete, root_over}, Spots.Spot, View.{Visible, desk_of, inbox_at, message_of, phase_seen, polls_seen, queue_at, task_seen, tasks_of, visible, word_at}}
+use Rattle.exec_invariants.specs.{Drained.{HaveLeft, IsBefore, in_set}, Holding.Mail, Places.{begins_at, hands_on_at, has_loot_at, is_pooled_at, polled_in}, Sound.{AreHome, HasBatch, HasQueue, IsInHand, IsLoot, IsRunnable, one_of, root_in_hand}}
 use Rattle.exec_parts.proofs.Facts.{same_thing}
-use Rattle.exec_invariants.proofs.{Seats.seat_there, SparedRecord.there_within}
+use Rattle.exec_invariants.proofs.{SparedRecord.there_within}
 use Rattle.exec_polling.specs.{declared.caller.Caller.Caller, Calling.{call_of, desk_of_caller, hands_on_in}}
 use Rattle.exec_steps.specs.Together.{all_have}
 use Rattle.exec_rest.specs.{AtRest.{IsPlaced, is_end, is_fed, is_idle, stays_closing}, Places.{is_abed, is_in_call}, Rested.{IsLaidOut, place_at}}
 use Rattle.exec_core.specs.{Lift.{Stands, Shows, playing}, declared.executor.Core.Core}
-use Rattle.exec_core.proofs.{Lifting.{seats_length, suc_same}, QueuedOnce.slot_of}
+use Rattle.exec_core.proofs.{GivenWorkers.{Sits, as_many_seats, by_one, by_worker}, Lifting.suc_same, QueuedOnce.slot_of}
 
 -- WHAT A PLACE SAYS
 
@@ -130,11 +130,6 @@ module _ {B : Type 0} where
         | inr other ↦ (homes.dedicated t j slot there other home).1
       ]
 
-left_or_none : (left pool : Bool) → (left || not pool) ≡ true → pool ≡ true → left ≡ true
-left_or_none true pool h is = refl
-left_or_none false true h is = absurd (false≢true h)
-left_or_none false false h is = absurd (false≢true is)
-
 -- LISTS
 
 -- as many wake polls are seen as there are chairs
@@ -143,17 +138,32 @@ polls_length [] seats h = h
 polls_length (v ∷ vs) [] h = refl
 polls_length (v ∷ vs) (seat ∷ seats) h = ap suc (polls_length vs seats (suc_same (length vs) (length seats) h))
 
--- what is there of what was mapped, and past its end
-mapped : {A C : Type 0} (f : A → C) (xs : List A) (i : ℕ) (a : A) (d : C) → slice_get xs i ≡ Some a → get_or (map f xs) i d ≡ f a
-mapped f xs i a d there = get_or_from_slice_get (map f xs) i (f a) d (slice_get-map f xs i ∙ ap (option_map f) there)
+module _ {B : Type 0} (c : Core B) where
+  -- the task whose home is worker j is its root
+  pub root_here : (t j : ℕ) (slot : TaskSlot B) → slice_get c.shared.tasks.items t ≡ Some slot → slot.home ≡ Some j
+      → (w : Worker) (chair : Chair) → Sits c j w chair → slice_get c.shared.tasks.items w.root ≡ Some slot
+  root_here t j slot there home w chair it =
+      let its = it.sound.runnable in
+      let same : t ≡ w.root = it.sound.homes.once t w.root j slot its.root there its.there home (its.home ∙ ap (λ n. Some n) it.index) in
+      ap (slice_get c.shared.tasks.items) (sym same) ∙ there
 
-mapped_past : {A C : Type 0} (f : A → C) (xs : List A) (i : ℕ) (d : C) → length xs ≤ i → get_or (map f xs) i d ≡ d
-mapped_past f xs i d past = (let many = length-map xs f in get_or_past (map f xs) i d (omega (arith, many, past)))
-
--- what holds of these holds of what they are
-of_all : {A C D E : Type 0} (P : A → C → D → E → Type 0) (a a' : A) (b b' : C) (d d' : D) (e e' : E) → a' ≡ a → b' ≡ b → d' ≡ d → e' ≡ e → P a b d e → P a' b' d' e'
-of_all P a a' b b' d d' e e' first second third fourth it =
-    subst (λ z. P a' b' d' z) (sym fourth) (subst (λ z. P a' b' z e) (sym third) (subst (λ z. P a' z d e) (sym second) (subst (λ z. P z b d e) (sym first) it)))
+  -- Once a worker of the pool takes no mail any more all have left it: nobody polls an ordinary task, nor clears one, and none is
+  -- in the set. So all are over.
+  pub all_over : Stands c → (i : ℕ) (w : Worker) (chair : Chair) → Sits c i w chair → chair.pool ≡ true → chair.mailbox.inbox.closed ≡ true
+      → (t : ℕ) (slot : TaskSlot B) → slice_get c.shared.tasks.items t ≡ Some slot → slot.home ≡ None → is_complete slot.cell.phase ≡ true
+  all_over stands i w chair it pool closed t slot there home =
+      let whole = stands.together.whole in
+      let x = all_have c.workers.items c.callers.items in
+      let gone : HaveLeft c.shared.seats.items = whole.pool.shut i chair it.there pool closed in
+      let nobody : (j : ℕ) → IsBefore j c.shared.seats.items → ⊥ = λ j b. true≢false (sym (gone j b.chair b.there) ∙ b.going) in
+      let passed : chair.left ≡ true = true_from_ne_false chair.left (λ stays. false≢true (sym (or_from chair.left (not chair.pool) stays (not_from_true chair.pool pool)) ∙ gone i chair it.there)) in
+      let set : in_set t c.shared.set ≡ 0 = (whole.pool.drained i chair it.there passed).1 t in
+      let clears : x.clears t ≤ 0 = ⊎_elim (λ (some : 0 < x.clears t). (let who = whole.pool.who_clears t some in absurd (nobody who.0 who.1))) (λ (none : x.clears t ≤ 0). none) (cases_lt 0 (x.clears t)) in
+      let polled : is_polled slot.cell.phase ≡ false = false_from_ne_true (is_polled slot.cell.phase) (λ h. nobody slot.poller (whole.pool.who_polls t slot there home h).0) in
+      true_from_ne_false (is_complete slot.cell.phase)
+      (λ still.
+      let once : x.clears t + in_set t c.shared.set ≡ 1 = (whole.pool.live t slot there home).live ((it.sound.resting t slot there home polled).uncleared still).1 still in
+      omega (arith, once, clears, set))
 
 module _ {B L : Type 0} (left : B → L) (spot : L → Option Said → Spot) (p : Plan) (c : Core B) (stands : Stands c) (k : Configuration) where
   abbrev shown : Playing
@@ -165,66 +175,25 @@ module _ {B L : Type 0} (left : B → L) (spot : L → Option Said → Spot) (p 
   abbrev seats : List Chair
   seats = c.shared.seats.items
 
-  -- worker i, on its chair
-  record Sits (i : ℕ) (w : Worker) (chair : Chair) : Type 0 where
-    pub index : w.index ≡ i
-    pub sound : Sound w c.shared
-    pub there : slice_get seats i ≡ Some chair
-    pub mine : slice_get seats w.index ≡ Some chair
-
-  seen : length (map visible workers) ≡ length seats
-  seen = length-map workers visible ∙ stands.together.seats
-
-  -- What is shown of number i is that of a worker, or of none.
-  by_worker : (i : ℕ) (P : Desk → Seat → Queue ℕ → List MailMessage → Type 0) → (length workers ≤ i → P (first_desk k i) no_seat no_queue [])
-      → ((w : Worker) (chair : Chair) → Sits i w chair → P (desk_of w) (seat_seen (visible w) chair) (queue_at chair) (inbox_at chair))
-      → P (desk_at k shown i) (seat_of shown.world.common i) (queue_of shown.things i) (inbox_of shown.things i)
-  by_worker i P none some =
-      let many = stands.together.seats in
-      elim ((slice_get_cases workers i).1) [
-        | inl found ↦
-            let w : Worker = found.0 in
-            let its = stands.together.sound i w found.2 in
-            let within : i < length workers = found.1 in
-            let chair = there_within seats i (omega (arith, within, many)) in
-            of_all P (desk_of w) (desk_at k shown i) (seat_seen (visible w) chair.0) (seat_of shown.world.common i) (queue_at chair.0) (queue_of shown.things i) (inbox_at chair.0) (inbox_of shown.things i)
-            (mapped desk_of workers i w (first_desk k i) found.2)
-            (get_or_from_slice_get (seats_seen (map visible workers) seats) i (seat_seen (visible w) chair.0) no_seat
-            (seat_there (map visible workers) seats i (visible w) chair.0 (slice_get-map visible workers i ∙ ap (option_map visible) found.2) chair.1))
-            (mapped queue_at seats i chair.0 no_queue chair.1)
-            (mapped inbox_at seats i chair.0 [] chair.1)
-            (some w chair.0 (record { index = its.0; sound = its.1; there = chair.1; mine = ap (slice_get seats) its.0 ∙ chair.1 }))
-        | inr gone ↦
-            let past : length workers ≤ i = gone.0 in
-            let all = seats_length (map visible workers) seats seen in
-            let these = length-map workers visible in
-            of_all P (first_desk k i) (desk_at k shown i) no_seat (seat_of shown.world.common i) no_queue (queue_of shown.things i) [] (inbox_of shown.things i)
-            (mapped_past desk_of workers i (first_desk k i) past)
-            (get_or_past (seats_seen (map visible workers) seats) i no_seat (omega (arith, past, all, these)))
-            (mapped_past queue_at seats i no_queue (omega (arith, past, many)))
-            (mapped_past inbox_at seats i [] (omega (arith, past, many)))
-            (none past)
-      ]
-
   -- the workers of the pool are the first
   pool_is : (i : ℕ) (chair : Chair) → slice_get seats i ≡ Some chair → chair.pool ≡ nat_lt i c.shared.config.workers
   pool_is i chair there = stands.together.whole.in_pool i chair there
 
   laid_out : IsLaidOut k shown
   laid_out =
-      let many = sym (seats_length (map visible workers) seats seen) in
-      let chairs = sym seen ∙ many in
+      let many = sym (as_many_seats left spot p c stands) in
+      let chairs = sym stands.together.seats ∙ many in
       record {
-        desks = length-map workers desk_of ∙ sym (length-map workers visible) ∙ many;
+        desks = length-map workers desk_of ∙ many;
         queues = length-map seats queue_at ∙ chairs;
         words = length-map seats word_at ∙ chairs;
-        polls = polls_length (map visible workers) seats seen ∙ chairs;
+        polls = polls_length (map visible workers) seats (length-map workers visible ∙ stands.together.seats) ∙ chairs;
         boxes = length-map seats inbox_at ∙ chairs;
         callers = length-map c.callers.items desk_of_caller ∙ sym (length-map c.callers.items (λ (y : Caller). call_of y.place));
         bits = stands.together.whole.set;
-        some = by_worker 0 (λ d seat q m. seat.pool ≡ true) (λ past. absurd (omega (arith, past, stands.some)))
+        some = by_worker left spot p c stands k 0 (λ d me seat q m. seat.pool ≡ true) (λ past. absurd (omega (arith, past, stands.some)))
             (λ w chair it. pool_is 0 chair it.there ∙ lt-ltb 0 c.shared.config.workers it.sound.config.workers);
-        pool = λ i. by_worker i (λ d seat q m. seat.pool ≡ true → i < 64) (λ past h. absurd (false≢true h))
+        pool = λ i. by_worker left spot p c stands k i (λ d me seat q m. seat.pool ≡ true → i < 64) (λ past h. absurd (false≢true h))
             (λ w chair it h.
             let less = ltb-true i c.shared.config.workers (sym (pool_is i chair it.there) ∙ h) in
             omega (arith, less, it.sound.config.few));
@@ -232,11 +201,10 @@ module _ {B L : Type 0} (left : B → L) (spot : L → Option Said → Spot) (p 
 
   -- Where the root of a worker is to be polled, or in a poll, the worker isn't at its end, and has it in its flag where it sleeps.
   root_of : (t j : ℕ) (slot : TaskSlot B) → slice_get c.shared.tasks.items t ≡ Some slot → slot.home ≡ Some j → is_runnable (phase_seen slot.cell.phase slot.poller) ≡ true
-      → (w : Worker) (chair : Chair) → Sits j w chair → (is_end w.place ≡ false) × (is_abed w.place ≡ true → is_some w.root_ready ≡ true)
+      → (w : Worker) (chair : Chair) → Sits c j w chair → (is_end w.place ≡ false) × (is_abed w.place ≡ true → is_some w.root_ready ≡ true)
   root_of t j slot there home runs w chair it =
       let its = it.sound.runnable in
-      let same : t ≡ w.root = it.sound.homes.once t w.root j slot its.root there its.there home (its.home ∙ ap (λ n. Some n) it.index) in
-      let here : slice_get c.shared.tasks.items w.root ≡ Some slot = ap (slice_get c.shared.tasks.items) (sym same) ∙ there in
+      let here = root_here c t j slot there home w chair it in
       let one : its.root ≡ slot = same_thing its.root slot (sym its.there ∙ here) in
       let once : IsRunnable (one_of w.root_ready (root_in_hand (begins_at w.place) w.root w.hand)) slot =
       subst (λ (z : TaskSlot B). IsRunnable (one_of w.root_ready (root_in_hand (begins_at w.place) w.root w.hand)) z) one its.once in
@@ -245,73 +213,53 @@ module _ {B L : Type 0} (left : B → L) (spot : L → Option Said → Spot) (p 
       (going, λ h. abed_flag w.place w.root w.hand w.root_ready slot h once (it.sound.tied.stands slot here).polled runs)
 
   -- at its end it takes no mail any more
-  shut_at_end : (i : ℕ) (w : Worker) (chair : Chair) → Sits i w chair → is_end w.place ≡ true → chair.mailbox.inbox.closed ≡ true
+  shut_at_end : (i : ℕ) (w : Worker) (chair : Chair) → Sits c i w chair → is_end w.place ≡ true → chair.mailbox.inbox.closed ≡ true
   shut_at_end i w chair it h = (it.sound.phased chair it.mine).shut ∙ end_shut w.place h
 
-  ends_at : (i : ℕ) (w : Worker) (chair : Chair) → Sits i w chair → has_ended chair.phase ≡ true → is_end w.place ≡ true
+  ends_at : (i : ℕ) (w : Worker) (chair : Chair) → Sits c i w chair → has_ended chair.phase ≡ true → is_end w.place ≡ true
   ends_at i w chair it ended = sym (end_seen w.place) ∙ ap ends ((it.sound.phased chair it.mine).ended ended)
-
-  -- Once a worker of the pool has ended all have left it: nobody polls an ordinary task, nor clears one, and none is in the set.
-  all_over : (i : ℕ) (w : Worker) (chair : Chair) → Sits i w chair → chair.pool ≡ true → has_ended chair.phase ≡ true
-      → (t : ℕ) (slot : TaskSlot B) → slice_get c.shared.tasks.items t ≡ Some slot → slot.home ≡ None → is_runnable (phase_seen slot.cell.phase slot.poller) ≡ false
-  all_over i w chair it pool ended t slot there home =
-      let whole = stands.together.whole in
-      let x = all_have workers c.callers.items in
-      let gone : HaveLeft seats = whole.pool.shut i chair it.there pool (shut_at_end i w chair it (ends_at i w chair it ended)) in
-      let nobody : (j : ℕ) → IsBefore j seats → ⊥ = λ j b. true≢false (sym (gone j b.chair b.there) ∙ b.going) in
-      let passed : chair.left ≡ true = left_or_none chair.left chair.pool (gone i chair it.there) pool in
-      let set : in_set t c.shared.set ≡ 0 = (whole.pool.drained i chair it.there passed).1 t in
-      let clears : x.clears t ≤ 0 = ⊎_elim (λ (some : 0 < x.clears t). (let who = whole.pool.who_clears t some in absurd (nobody who.0 who.1))) (λ (none : x.clears t ≤ 0). none) (cases_lt 0 (x.clears t)) in
-      let polled : is_polled slot.cell.phase ≡ false = false_from_ne_true (is_polled slot.cell.phase) (λ h. nobody slot.poller (whole.pool.who_polls t slot there home h).0) in
-      let over : is_complete slot.cell.phase ≡ true = true_from_ne_false (is_complete slot.cell.phase)
-      (λ still.
-      let once : x.clears t + in_set t c.shared.set ≡ 1 = (whole.pool.live t slot there home).live ((it.sound.resting t slot there home polled).uncleared still).1 still in
-      omega (arith, once, clears, set)) in
-      over_for_good slot.cell.phase slot.poller over
 
   placed : IsPlaced k shown
   placed =
       record {
         laid = laid_out;
-        feeds = λ i. by_worker i (λ d seat q m. is_fed d.place ≡ true → seat.pool ≡ true) (λ past h. absurd (false≢true h))
+        feeds = λ i. by_worker left spot p c stands k i (λ d me seat q m. is_fed d.place ≡ true → seat.pool ≡ true) (λ past h. absurd (false≢true h))
             (λ w chair it h. pool_is i chair it.there ∙ sym (ap (λ n. nat_lt n c.shared.config.workers) it.index) ∙ sym it.sound.role.pool ∙ it.sound.pooled (fed_is_pooled w.place h));
-        stays = λ i. by_worker i (λ d seat q m. is_open seat.phase ≡ true → stays_closing d.place ≡ false) (λ past opened. refl)
+        stays = λ i. by_worker left spot p c stands k i (λ d me seat q m. is_open seat.phase ≡ true → stays_closing d.place ≡ false) (λ past opened. refl)
             (λ w chair it opened. false_from_ne_true (stays_closing w.place)
             (λ closing. true≢false (sym opened ∙ (it.sound.phased chair it.mine).opened ∙ ap not (closes_there w.place closing))));
-        over = λ i within. by_worker i (λ d seat q m. has_ended seat.phase ≡ true → is_end d.place ≡ true)
+        over = λ i within. by_worker left spot p c stands k i (λ d me seat q m. has_ended seat.phase ≡ true → is_end d.place ≡ true)
             (λ past. (let many = length-map workers desk_of in absurd (omega (arith, past, within, many))))
             (ends_at i);
-        hands = λ i. by_worker i (λ d seat q m. is_idle d.place ≡ true → (d.hand ≡ None) × (d.loot ≡ [])) (λ past h. absurd (false≢true h))
+        hands = λ i. by_worker left spot p c stands k i (λ d me seat q m. is_idle d.place ≡ true → (d.hand ≡ None) × (d.loot ≡ [])) (λ past h. absurd (false≢true h))
             (λ w chair it h. (ap (option_map (λ (r : Runnable). r.task.0)) (idle_hand w.place w.hand h it.sound.hand), ap tasks_of (idle_loot w.place w.loot h it.sound.loot)));
-        aside = λ i. by_worker i (λ d seat q m. is_idle d.place ≡ true → q.held ≡ []) (λ past h. refl)
+        aside = λ i. by_worker left spot p c stands k i (λ d me seat q m. is_idle d.place ≡ true → q.held ≡ []) (λ past h. refl)
             (λ w chair it h. ap tasks_of (idle_queue w.place chair.queue h (it.sound.queue chair it.mine)));
         calls = by_caller;
-        mail = λ i. by_worker i (λ d seat q m. seat.inbox ≡ d.batch ++ m) (λ past. refl) (λ w chair it. refl);
-        mute = λ i. by_worker i (λ d seat q m. is_end d.place ≡ true → (d.batch ≡ []) × (m ≡ [])) (λ past h. absurd (false≢true h))
+        mail = λ i. by_worker left spot p c stands k i (λ d me seat q m. seat.inbox ≡ d.batch ++ m) (λ past. refl) (λ w chair it. refl);
+        mute = λ i. by_worker left spot p c stands k i (λ d me seat q m. is_end d.place ≡ true → (d.batch ≡ []) × (m ≡ [])) (λ past h. absurd (false≢true h))
             (λ w chair it h.
             (ap (map message_of) (end_batch w.place w.batch.values h it.sound.batch), ap (map message_of) ((stands.together.whole.pool.mail i chair it.there).empty (shut_at_end i w chair it h))));
         roots = by_root;
-        zero = by_worker 0 (λ d seat q m. is_open seat.phase ≡ true → c.shared.set.closed ≡ false) (λ past opened. absurd (false≢true opened))
+        zero = by_worker left spot p c stands k 0 (λ d me seat q m. is_open seat.phase ≡ true → c.shared.set.closed ≡ false) (λ past opened. absurd (false≢true opened))
             (λ w chair it opened.
             let phased = it.sound.phased chair it.mine in
             (phased.by_zero it.index).1 ∙ not-true (closes_at w.place) (sym phased.opened ∙ opened));
-        done = λ i. by_worker i
-            (λ d seat q m. seat.pool ≡ true → has_ended seat.phase ≡ true → (t : ℕ) (it : Task) → slice_get shown.world.common.tasks t ≡ Some it → it.home ≡ None → is_runnable it.phase ≡ false)
+        done = λ i. by_worker left spot p c stands k i
+            (λ d me seat q m. seat.pool ≡ true → has_ended seat.phase ≡ true → (t : ℕ) (it : Task) → slice_get shown.world.common.tasks t ≡ Some it → it.home ≡ None → is_runnable it.phase ≡ false)
             (λ past pool. absurd (false≢true pool))
             (λ w chair sits pool ended t it there ordinary.
             let found = slot_of (task_seen left spot) c.shared.tasks.items t it there in
-            sym (ap (λ (u : Task). is_runnable u.phase) found.2) ∙ all_over i w chair sits pool ended t found.0 found.1 (ap (λ (u : Task). u.home) found.2 ∙ ordinary));
+            let slot : TaskSlot B = found.0 in
+            let shut = shut_at_end i w chair sits (ends_at i w chair sits ended) in
+            sym (ap (λ (u : Task). is_runnable u.phase) found.2)
+            ∙ over_for_good slot.cell.phase slot.poller (all_over c stands i w chair sits pool shut t slot found.1 (ap (λ (u : Task). u.home) found.2 ∙ ordinary)));
       }
     where
       by_caller : (j : ℕ) → is_in_call (caller_of shown j).place ≡ false → (caller_of shown j).hand ≡ None
       by_caller j =
-          let cs = c.callers.items in
-          elim ((slice_get_cases cs j).1) [
-            | inl found ↦
-                subst (λ (d : CallDesk). is_in_call d.place ≡ false → d.hand ≡ None) (sym (mapped desk_of_caller cs j found.0 no_call found.2))
-                (λ h. ap (option_map (λ (r : Runnable). r.task.0)) (free_hand found.0.place found.0.hand h (stands.together.calls j found.0 found.2).hand))
-            | inr gone ↦ subst (λ (d : CallDesk). is_in_call d.place ≡ false → d.hand ≡ None) (sym (mapped_past desk_of_caller cs j no_call gone.0)) (λ h. refl)
-          ]
+          by_one desk_of_caller c.callers.items j no_call (λ (d : CallDesk). is_in_call d.place ≡ false → d.hand ≡ None) (λ h. refl)
+          (λ y there h. ap (option_map (λ (r : Runnable). r.task.0)) (free_hand y.place y.hand h (stands.together.calls j y there).hand))
 
       by_root : (t : ℕ) (it : Task) (j : ℕ) → slice_get shown.world.common.tasks t ≡ Some it → it.home ≡ Some j → is_runnable it.phase ≡ true
           → (j < length shown.desks) × (is_end (place_at k shown j) ≡ false) × (is_abed (place_at k shown j) ≡ true → (desk_at k shown j).root_ready ≡ true)
@@ -325,7 +273,7 @@ module _ {B L : Type 0} (left : B → L) (spot : L → Option Said → Spot) (p 
           let within : j < length seats = home_within c.shared.config.workers (length seats) c.shared.tasks.items homes t j slot found.1 home in
           let many = stands.together.seats in
           let desks = length-map workers desk_of in
-          let its = by_worker j (λ d seat q m. (is_end d.place ≡ false) × (is_abed d.place ≡ true → d.root_ready ≡ true)) (λ past. absurd (omega (arith, past, many, within)))
+          let its = by_worker left spot p c stands k j (λ d me seat q m. (is_end d.place ≡ false) × (is_abed d.place ≡ true → d.root_ready ≡ true)) (λ past. absurd (omega (arith, past, many, within)))
           (root_of t j slot found.1 home runs) in
           (omega (arith, within, many, desks), its.0, its.1)
 

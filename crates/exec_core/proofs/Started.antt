@@ -11,7 +11,7 @@ use Rattle.exec_invariants.specs.Acting.{Performs, PerformsAll}
 use Rattle.exec_parts.proofs.Facts.{same_thing}
 use Rattle.exec_polling.proofs.Begun.{desk_begun, fresh_visible, own_begun, visible_begun}
 use Rattle.exec_core.proofs.{Balanced.first_stands, Beginning.{free_caller, opens_begun}, Lifting.playing_by, Powers.{InRange, may_begin, shards_of}}
-use Rattle.exec_core.specs.{Firsts.{AllBegin, IsFirst, IsRoot}, Lift.{IsMinded, IsReady, IsPlanOf, Shows, code_of_root, playing, views}, declared.executor.Core.Core}
+use Rattle.exec_core.specs.{Firsts.{AllBegin, IsFirst, IsRoot}, Lift.{IsMinded, IsReady, IsPlanOf, Shows, code_of_root, playing, views}, Steady.IsSteady, declared.executor.Core.Core}
 
 -- LISTS, from what is in each place
 
@@ -95,8 +95,8 @@ free_many zero = refl
 free_many (suc n) = ap suc (free_many n)
 
 -- one worker alone is paid for at first
-pub first_minded : (p : Plan) → p.config.workers ≡ 1 → p.scripts ≡ [] → All (λ (w : ScriptWord). is_played w ≡ true) p.root → MindedIn p.config (first_playing p) → IsMinded p (first_playing p)
-first_minded p lone scripts played minded =
+pub first_minded : (p : Plan) → p.config.workers ≡ 1 → p.scripts ≡ [] → All (λ (w : ScriptWord). is_played w ≡ true) p.root → MindedIn p.config (first_playing p) → IsSteady p.config (first_playing p) → IsMinded p (first_playing p)
+first_minded p lone scripts played minded steady =
     record {
       lone = lone;
       scripts = scripts;
@@ -105,6 +105,7 @@ first_minded p lone scripts played minded =
       tasks = ap (λ n. length (first_tasks n 0)) lone;
       inbox = ap (λ n. (slice_index_or (replicate n (new_seat true)) 0 no_seat).inbox) lone;
       minded = minded;
+      steady = steady;
     }
 
 module _ {B L : Type 0} (left : B → L) (runs : L → Plan → Option ℕ → Type 0) (holds : L → Option Said → List ℕ) (spot : L → Option Said → Spot) where

@@ -12,7 +12,7 @@ use Rattle.exec_parts.specs.{Scripts.IsBorn, Spots.Spot, View.{Views, Visible, o
 use Rattle.exec_invariants.specs.{Acting.{PerformsAll, StepsWith}, Sound.Sound, Works.{Beside, Suits, Same}}
 use Rattle.exec_polling.specs.{Calling.{CallBeside, CallSound, CallWorks, CallSuits, call_of, desk_of_caller, is_free}, declared.caller.Caller.Caller}
 use Rattle.exec_steps.specs.Together.{StandTogether}
-use Rattle.exec_core.specs.declared.executor.Core.{Core}
+use Rattle.exec_core.specs.{Steady.{IsSteady, IsSteadyThere}, declared.executor.Core.Core}
 
 -- WHICH STEPS MAY BE TAKEN, by the seats, the records and the callers
 
@@ -98,7 +98,7 @@ is_call (action.GoOn j) = true
 is_call _ = false
 
 -- ONE WORKER ALONE, whose root makes no other tasks and wakes none, and no call from outside: what is carried so that each of
--- its quiet steps is paid for
+-- its quiet steps is paid for, and it never sleeps on work
 pub record IsMinded (p : Plan) (x : Playing) : Type 0 where
   pub lone : p.config.workers ≡ 1
   pub scripts : p.scripts ≡ []
@@ -107,6 +107,7 @@ pub record IsMinded (p : Plan) (x : Playing) : Type 0 where
   pub tasks : length x.world.common.tasks ≡ 1
   pub inbox : (seat_of x.world.common 0).inbox ≡ []
   pub minded : MindedIn p.config x
+  pub steady : IsSteady p.config x
 
 -- what becomes of that by a step, of which this is told
 pub record Pays (p : Plan) (x : Playing) (a : Action) (l : Line) : Type 0 where
@@ -245,11 +246,12 @@ module _ {B L : Type 0} (left : B → L) (runs : L → Plan → Option ℕ → T
     pub performs : PerformsAll left runs holds p c.shared
     pub is : playing left spot p c ≡ x
 
-  -- What a step of any party does: it is that of the moves, and its line follows in the machine; and a quiet one of a worker
-  -- alone is paid for.
+  -- What a step of any party does: it is that of the moves, and its line follows in the machine; it keeps what each state has, so
+  -- that where all workers sleep nothing is left; and a quiet one of a worker alone is paid for.
   pub record Applies (p : Plan) (x : Playing) (a : Action) (l : Line) (d : Core B) : Type 0 where
     pub step_told : l.action ≡ a
     pub tells : l ≡ (by_step p.config x a).told.0
     pub shows : Shows p d (by_step p.config x a).next
     pub follows : Follows p.config x.world a l.said (by_step p.config x a).told.1
+    pub rests : IsSteady p.config x → IsSteadyThere p.config (by_step p.config x a).next
     pub pays : begins_call a ≡ false → IsMinded p x → Pays p x a l

@@ -4,7 +4,7 @@ use Rattle.std.proofs.lemmas.Bool.{eqb-true, false≢true}
 use Rattle.std.specs.List.{list_all}
 use Rattle.std.proofs.lemmas.Nat.{mul-le}
 use Rattle.exec_base.specs.Spinner.{capped}
-use Rattle.exec_machine.specs.{declared.{config.Configuration.Configuration, state.MailMessage.MailMessage}, Progress.Plan, Tests.is_empty, World.own_of}
+use Rattle.exec_machine.specs.{declared.{config.Configuration.Configuration, state.MailMessage.MailMessage}, Progress.Plan, Tests.is_empty}
 use Rattle.exec_moves.specs.{Plays.{first_desk, first_desks, first_playing, first_things}, Pop.shard_count, State.{Desk, no_queue, no_wake_poll, no_word}}
 use Rattle.exec_credit.specs.{Minds.IsUnraised, Minded.{Minded, PaidIn, is_settled}}
 use Rattle.exec_credit.proofs.Alone.{settled_of}
@@ -58,7 +58,7 @@ first_minded p one le =
     let spin = p.config.spin in
     let least : capped (spin.budget * spin.iterations) ≤ spin.most * spin.iterations =
     omega (arith, capped_le (spin.budget * spin.iterations), mul-le spin.budget spin.iterations spin.most spin.iterations le (omega arith)) in
-    subst (λ (d : Desk). Minded p.config (own_of x.world 0) x.world.common d x.things) (sym (first_of p.config p.config.workers))
+    subst (λ (d : Desk). Minded p.config x.world.common d x.things) (sym (first_of p.config p.config.workers))
     (record {
       workers = one;
       lone = record { settled = first_settled p.config one; unsearching = refl; no_ends = (refl, refl); gateless = (refl, refl, refl); place = refl; bit = λ h. absurd (false≢true h) };
@@ -67,5 +67,5 @@ first_minded p one le =
       unfound = refl;
       looks = tt;
       spinner = record { budget = least; floor = least; least = least; most = capped_le (spin.most * spin.iterations); none = capped_zero (spin.budget * spin.iterations) };
-      knows = tt;
+      short = tt;
     })

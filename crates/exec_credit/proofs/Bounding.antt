@@ -3,7 +3,7 @@ use Rattle.std.proofs.Common.{◌≡◌, ℕ, suc, ◌+◌, ◌*◌, ◌<◌, �
 use Rattle.std.proofs.lemmas.Nat.{mul-le}
 use Rattle.std.specs.Prelude.{nat_le, nat_lt}
 use Rattle.std.specs.List.{list_any}
-use Rattle.exec_machine.specs.{declared.{config.Configuration.Configuration, state.Request.Request}, After.{common_after}, Allowed.allowed, Ranges.largest_spin, Tests.{AllTrue, is_gated}, World.{Own as Books, Common, Open, request_of}}
+use Rattle.exec_machine.specs.{declared.{config.{Configuration.Configuration, Spin.Spin}, state.Request.Request}, After.{common_after}, Allowed.allowed, Ranges.largest_spin, Tests.{AllTrue, is_gated}, World.{Own as Books, Common, Open, request_of}}
 use Rattle.exec_moves.specs.{declared.place.{AfterPermit.AfterPermit, AfterService.AfterService, InService.InService, Place.Place}, Credit.{Signs, count_numbered, credit, flushes, gates_begun, gates_from, gates_left, is_before_spin, one_if, sampling, signs, spins_owed, submitting, turns_owed, weigh}, Heights.{after_permit, apply, below_service, callback_after_mail, end_service, height, in_service, level, load_mail_word, made_up, reap_last, submit, take_root_flag}, Move.move, State.{Desk, Things}, Submit.waits_at}
 use Rattle.exec_moves.specs.declared.handing.AfterCallbacks.TheVariants as after
 use Rattle.exec_moves.specs.declared.handing.AfterPop.TheVariants as popped
@@ -23,17 +23,17 @@ use Rattle.exec_moves.specs.declared.idling.InWordWait.TheVariants as word
 use Rattle.exec_moves.specs.declared.place.Place.TheVariants as at
 use Rattle.exec_moves.specs.declared.place.Reaping.TheVariants as reaping
 use Rattle.exec_moves.specs.declared.place.Round.TheVariants as round
-use Rattle.exec_credit.specs.Minded.{Bounded, HasRoot, Minded, Stood, Knows}
-use Rattle.exec_credit.proofs.{Fitted.fits, Fitting.cut_of, Cutting.may_sleep, Minding.{and_no, none_waits}, Weighing.weighs}
+use Rattle.exec_credit.specs.Minded.{Bounded, HasRoot, IsShort, Minded, Stood}
+use Rattle.exec_credit.proofs.{Fitted.fits, Minding.{and_no, none_waits}, Weighing.weighs}
 
 -- WHAT IS CARRIED
 
-pub bounded_then : (c : Configuration) (me : Books) (s : Common) (d : Desk) (x : Things) → Stood me s d x → HasRoot me s d → Minded c me s d x → Bounded s d
+pub bounded_then : (c : Configuration) (me : Books) (s : Common) (d : Desk) (x : Things) → Stood me s d x → HasRoot s d → Minded c s d x → Bounded s d
     → (let m = move c 0 me s d x in AllTrue (allowed c me s 0 m.event m.choice)) → (let m = move c 0 me s d x in Bounded (common_after c me s 0 m.event m.choice) m.desk)
 bounded_then c me s d x stood root minded bounded may =
     let m = move c 0 me s d x in
     let it = fits c me s d x stood root minded in
-    record { outputs = omega (arith, bounded.outputs, it.1, weighs c me s stood.polled m.event m.choice (cut_of (may_sleep d.place) m.event it.0) may) }
+    record { outputs = omega (arith, bounded.outputs, it.1, weighs c me s stood.polled m.event m.choice it.0 may) }
 
 -- HEIGHTS
 
@@ -148,14 +148,14 @@ height_of (at.ClaimWorker set b) = omega arith
 height_of (at.Signal x j b) = omega arith
 height_of (at.SendCancel b) = omega arith
 
-short : (c : Configuration) (me : Books) (s : Common) (d : Desk) (p : Place) → Knows c me s d p → left_of p ≤ largest_spin c.spin
-short c me s d (at.WordWait (word.SpinOnBatch left)) known = known.2
-short c me s d (at.WordWait (word.SpinOnLatch left)) known = known.2
-short c me s d (at.WordWait word.TakeLatch) known = omega arith
-short c me s d (at.WordWait word.ArmWord) known = omega arith
-short c me s d (at.WordWait word.SleepOnWord) known = omega arith
-short c me s d (at.WordWait word.DisarmWord) known = omega arith
-short c me s d p known = omega arith
+short : (spin : Spin) (p : Place) → IsShort spin p → left_of p ≤ largest_spin spin
+short spin (at.WordWait (word.SpinOnBatch left)) few = few
+short spin (at.WordWait (word.SpinOnLatch left)) few = few
+short spin (at.WordWait word.TakeLatch) few = omega arith
+short spin (at.WordWait word.ArmWord) few = omega arith
+short spin (at.WordWait word.SleepOnWord) few = omega arith
+short spin (at.WordWait word.DisarmWord) few = omega arith
+short spin p few = omega arith
 
 -- SIGNS
 
@@ -213,7 +213,7 @@ summed : (h f out ahead L T S n : ℕ) → h ≤ 80 + 2 * L → f ≤ 1 → ahea
 summed h f out ahead L T S n height f_one later turns spins outs =
     omega (arith, height, f_one, later, turns, outs, mul-le (2 * L) S (2 * L) 6 (omega arith) spins)
 
-pub bounded_credit : (c : Configuration) (me : Books) (s : Common) (d : Desk) (x : Things) → Stood me s d x → Minded c me s d x → Bounded s d
+pub bounded_credit : (c : Configuration) (me : Books) (s : Common) (d : Desk) (x : Things) → Stood me s d x → Minded c s d x → Bounded s d
     → credit c 0 me s d x < 128 * c.workers + 16 * largest_spin c.spin + 4 * (length s.requests + length s.sleepers) + 2048
 bounded_credit c me s d x stood minded bounded =
     let L = largest_spin c.spin in
@@ -223,7 +223,7 @@ bounded_credit c me s d x stood minded bounded =
     let begun = none_begun s (λ r. (minded.plain.requests r).2) d.place in
     let left : gates_left k g ≡ 0 = gates_gone k g begun gates in
     let weighed = summed (height d.place) (flushes k g.full) d.outputs g.ahead L (turns_owed k g) (spins_owed k g) (length s.requests)
-    (omega (arith, height_of d.place, short c me s d d.place minded.knows)) (one_most (((k == submitting) || (k == submit made_up)) && g.full)) (ahead_of d.place L) (owed_turns k g) (owed_spins k g) (omega (arith, bounded.outputs)) in
+    (omega (arith, height_of d.place, short c.spin d.place minded.short)) (one_most (((k == submitting) || (k == submit made_up)) && g.full)) (ahead_of d.place L) (owed_turns k g) (owed_spins k g) (omega (arith, bounded.outputs)) in
     omega (arith, in_all (height d.place) k g gates left, weighed)
   where
     ahead_of : (p : Place) (L : ℕ) → (if is_before_spin p then 2 * L else 0) ≤ 2 * L

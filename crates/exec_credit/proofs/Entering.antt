@@ -7,7 +7,7 @@ use Rattle.exec_machine.specs.{declared.state.{Request.Request, RequestPhase.Req
 use Rattle.exec_machine.specs.declared.state.RequestPhase.TheVariants as phase
 use Rattle.exec_moves.specs.{Credit.{count_numbered, gates_from}, Submit.waits_at}
 
-pub any_map : {X : Type 0} (test : X → Bool) (f : X → X) → ((x : X) → test (f x) ≡ test x) → (xs : List X) → list_any test (map f xs) ≡ list_any test xs
+any_map : {X : Type 0} (test : X → Bool) (f : X → X) → ((x : X) → test (f x) ≡ test x) → (xs : List X) → list_any test (map f xs) ≡ list_any test xs
 any_map test f same [] = refl
 any_map test f same (x ∷ xs) = rw (same x, any_map test f same xs) refl
 
@@ -33,7 +33,7 @@ waits_flown i file j r = by ((r.worker == j) && is_staged r.phase) refl
     by true staged = rw (ungated r.phase (and_parts (r.worker == j) (is_staged r.phase) staged).1) refl
     by false other = refl
 
-abbrev pub entered : ℕ → Common → Common
+abbrev entered : ℕ → Common → Common
 entered i s = record s { requests = map (flown i) s.requests }
 
 pub due_same : (i moment j : ℕ) (rs : List Request) → list_any (is_due i moment) (map (flown j) rs) ≡ list_any (is_due i moment) rs

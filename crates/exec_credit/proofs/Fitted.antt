@@ -1,5 +1,5 @@
 -- What the moves of a service tell, and those of the rest of a turn.
-use Rattle.std.proofs.Common.{◌≡◌, ℕ, suc, ◌+◌, ◌-◌, ◌≤◌, ◌&&◌, ◌||◌, Bool, true, false, not, All, List, [], ◌∷◌, Option, Some, None, ◌∙◌, refl, sym, ap, subst, arith}
+use Rattle.std.proofs.Common.{◌≡◌, ℕ, suc, ◌+◌, ◌-◌, ◌≤◌, ◌&&◌, ◌||◌, Bool, true, false, not, All, List, [], ◌∷◌, Option, Some, None, refl, sym, ap, subst, arith}
 use Rattle.std.proofs.lemmas.Bool.{true≢false, false≢true}
 use Rattle.std.specs.Prelude.{nat_lt}
 use Rattle.exec_outcomes.specs.{Accounts.{outcome_at_grant}, declared.outcome.Outcome.Outcome}
@@ -20,7 +20,7 @@ use Rattle.exec_moves.specs.declared.idling.InWordWait.TheVariants as word_wait
 use Rattle.exec_moves.specs.declared.place.Place.TheVariants as at
 use Rattle.exec_base.specs.Spinner.{after_miss}
 use Rattle.exec_credit.specs.{Minds.{closes_alone, is_alone, passes, stands}, Minded.{ArePlain, HasRoot, Minded, PollsRoot, Stood, is_played, lets_go}}
-use Rattle.exec_credit.proofs.{Alone.{HasParts, calm, calm_same, emptied, emptied_same, no_task_in, of_one, one_same, parts_of, pooled, pooled_same, unraised}, Minding.{in_poll, played}, Fitting.{Fits, calls_on, choose, flags, picks, polls_on, pops, same_as, told_awaits, told_fits, told_wakes}, Cutting.{may_sleep, one_if_some, unawaited, woken_by_end}}
+use Rattle.exec_credit.proofs.{Alone.{HasParts, calm, calm_same, emptied, emptied_same, no_task_in, of_one, one_same, parts_of, pooled, pooled_same, unraised}, Minding.{in_poll, played}, Fitting.{Fits, calls_on, choose, flags, picks, polls_on, pops, same_as, told_fits}, Cutting.one_if_some}
 
 module _ (k : Configuration) (me : Books) (base : Common) (o : Desk) (x : Things) (ours : (r : ℕ) → (request_of base r).worker ≡ 0) (nobody : ArePlain (pooled base)) where
   abbrev c : Configuration
@@ -40,7 +40,7 @@ module _ (k : Configuration) (me : Books) (base : Common) (o : Desk) (x : Things
   here busy landed = record { busy = busy; landed = landed; wakes = unraised (wake_poll_of x 0) }
 
   abbrev Fit : Place → Type 0
-  Fit p = Fits (may_sleep p) s d (move_at c 0 me s (stands p d) (emptied x) p)
+  Fit p = Fits s d (move_at c 0 me s (stands p d) (emptied x) p)
 
   same : d.outputs ≤ d.outputs + 0
   same = omega arith
@@ -51,12 +51,11 @@ module _ (k : Configuration) (me : Books) (base : Common) (o : Desk) (x : Things
     reaps : (r : Reaping) (landed : List ℕ) → (seat_of s 0).landed ≡ landed → Fit (at.Service (step.Reap r) v)
     reaps r landed is =
         let e = stands (at.Service (step.Reap r) v) d in
-        same_as false s d (move_at c 0 me s e (emptied x) (at.Service (step.Reap r) v)) (with_ring 0 (emptied x) (reap 0 v r s e (here (seat_of s 0).busy landed))) (ap (λ ls. with_ring 0 (emptied x) (reap 0 v r s e (here (seat_of s 0).busy ls))) is) (by landed)
+        same_as s d (move_at c 0 me s e (emptied x) (at.Service (step.Reap r) v)) (with_ring 0 (emptied x) (reap 0 v r s e (here (seat_of s 0).busy landed))) (ap (λ ls. with_ring 0 (emptied x) (reap 0 v r s e (here (seat_of s 0).busy ls))) is) (by landed)
       where
-        others : (later : List ℕ) (e : Desk) → (let rest = others_after_reap later (unraised (wake_poll_of x 0)) e in
-            (rest.outputs ≡ e.outputs) × (rest.wakes ≡ e.wakes) × (rest.awaited ≡ e.awaited))
-        others [] e = (refl, refl, refl)
-        others (q ∷ later) e = (refl, refl, refl)
+        others : (later : List ℕ) (e : Desk) → (others_after_reap later (unraised (wake_poll_of x 0)) e).outputs ≡ e.outputs
+        others [] e = refl
+        others (q ∷ later) e = refl
 
         shown : (o p : Option Outcome) (k m : ℕ) → k ≤ m + one_if_some o → (p ≡ None → o ≡ None) → k ≤ m + one_if_some p
         shown None p k m le none = omega (arith, le)
@@ -67,88 +66,71 @@ module _ (k : Configuration) (me : Books) (base : Common) (o : Desk) (x : Things
         told_as None q h = refl
         told_as (Some x) q h = absurd (cc)
 
-        wakes_as : (o : Option Outcome) (q : ℕ) (awaited wakes : List ℕ) → woken_by_end o q (request_of s q) awaited wakes
-            ≡ woken_by_end (outcome_shown (account_of_open s (request_of s q)) (request_of s q).operation.kind o) q (request_of s q) awaited wakes
-        wakes_as None q awaited wakes = refl
-        wakes_as (Some x) q awaited wakes = refl
-
-        awaits_as : (o : Option Outcome) (q : ℕ) (awaited : List ℕ) → unawaited o q (request_of s q) awaited
-            ≡ unawaited (outcome_shown (account_of_open s (request_of s q)) (request_of s q).operation.kind o) q (request_of s q) awaited
-        awaits_as None q awaited = refl
-        awaits_as (Some x) q awaited = refl
-
-        by : (landed : List ℕ) → Fits false s d (with_ring 0 (emptied x) (reap 0 v r s (stands (at.Service (step.Reap r) v) d) (here (seat_of s 0).busy landed)))
-        by [] = (refl, same, refl, λ h. refl)
+        by : (landed : List ℕ) → Fits s d (with_ring 0 (emptied x) (reap 0 v r s (stands (at.Service (step.Reap r) v) d) (here (seat_of s 0).busy landed)))
+        by [] = (refl, same)
         by (q ∷ later) =
             let e = stands (at.Service (step.Reap r) v) d in
             let it = request_of s q in
             let given = outcome_given it (result_in it.phase) in
             let told = outcome_shown (account_of_open s it) it.operation.kind given in
             let rest = others_after_reap later (unraised (wake_poll_of x 0)) e in
-            let unsent = (nobody.requests q).0 in (
-              refl,
-              shown given told (told_if_ended given q it rest).outputs d.outputs (omega (arith, told_fits q it unsent rest given, (others later e).0)) (told_as given q),
-              told_wakes q it unsent rest given
-                  ∙ (ap (λ awaited. woken_by_end given q it awaited rest.wakes) (others later e).2
-                  ∙ (ap (woken_by_end given q it e.awaited) (others later e).1 ∙ wakes_as given q e.awaited e.wakes)),
-              λ h. told_awaits q it unsent rest given ∙ (ap (unawaited given q it) (others later e).2 ∙ awaits_as given q e.awaited),
-            )
+            (refl, shown given told (told_if_ended given q it rest).outputs d.outputs (omega (arith, told_fits q it (nobody.requests q).0 rest given, others later e)) (told_as given q))
 
     abbrev Next : ℕ → Due → Type 0
-    Next gate due = Fits false s d (move_submit c 0 me s (stands (at.Service (step.Submit gate) v) d) (emptied x) gate v due)
+    Next gate due = Fits s d (move_submit c 0 me s (stands (at.Service (step.Submit gate) v) d) (emptied x) gate v due)
 
-    granted : (gate file r : ℕ) (o : Option Outcome) → Fits false s d (with_gate file (emptied x) (does (event.Grant r o) (after_grant v file o (told_if_ended o r (request_of s r) (stands (at.Service (step.Submit gate) v) d))) (gate_of x file)))
-    granted gate file r None = (refl, same, refl, λ h. refl)
-    granted gate file r (Some o) = let e = stands (at.Service (step.Submit gate) v) d in (refl, told_fits r (request_of s r) (nobody.requests r).0 e (Some o), told_wakes r (request_of s r) (nobody.requests r).0 e (Some o), λ h. told_awaits r (request_of s r) (nobody.requests r).0 e (Some o))
+    granted : (gate file r : ℕ) (o : Option Outcome) → Fits s d (with_gate file (emptied x) (does (event.Grant r o) (after_grant v file o (told_if_ended o r (request_of s r) (stands (at.Service (step.Submit gate) v) d))) (gate_of x file)))
+    granted gate file r None = (refl, same)
+    granted gate file r (Some o) = (refl, told_fits r (request_of s r) (nobody.requests r).0 (stands (at.Service (step.Submit gate) v) d) (Some o))
 
     grants : (gate file : ℕ) (o : Option ℕ) → granted_at 0 (gate_of x file) s ≡ o → Next gate (AtGate file)
     grants gate file None none =
-        same_as false s d (move_submit c 0 me s (stands (at.Service (step.Submit gate) v) d) (emptied x) gate v (AtGate file)) (with_gate file (emptied x) (does (event.Serve) (submits v (suc file) d) (gate_of x file))) (rw none refl) (refl, same, refl, λ h. refl)
+        same_as s d (move_submit c 0 me s (stands (at.Service (step.Submit gate) v) d) (emptied x) gate v (AtGate file)) (with_gate file (emptied x) (does (event.Serve) (submits v (suc file) d) (gate_of x file))) (rw none refl) (refl, same)
     grants gate file (Some r) some =
         let o = outcome_at_grant (request_of s r).operation.kind (account_of_open s (request_of s r)) in
-        same_as false s d (move_submit c 0 me s (stands (at.Service (step.Submit gate) v) d) (emptied x) gate v (AtGate file)) (with_gate file (emptied x) (does (event.Grant r o) (after_grant v file o (told_if_ended o r (request_of s r) (stands (at.Service (step.Submit gate) v) d))) (gate_of x file))) (rw some refl) (granted gate file r o)
+        same_as s d (move_submit c 0 me s (stands (at.Service (step.Submit gate) v) d) (emptied x) gate v (AtGate file)) (with_gate file (emptied x) (does (event.Grant r o) (after_grant v file o (told_if_ended o r (request_of s r) (stands (at.Service (step.Submit gate) v) d))) (gate_of x file))) (rw some refl) (granted gate file r o)
 
-    flushes : (gate : ℕ) (b : Bool) → Fits false s d (with_ring 0 (emptied x) (stage_next c 0 v gate me s (stands (at.Service (step.Submit gate) v) d) (here b (seat_of s 0).landed) Flushes))
-    flushes gate true = (refl, same, refl, λ h. refl)
-    flushes gate false = (refl, same, refl, λ h. refl)
+    flushes : (gate : ℕ) (b : Bool) → Fits s d (with_ring 0 (emptied x) (stage_next c 0 v gate me s (stands (at.Service (step.Submit gate) v) d) (here b (seat_of s 0).landed) Flushes))
+    flushes gate true = (refl, same)
+    flushes gate false = (refl, same)
 
     submitted : (gate : ℕ) (due : Due) → Next gate due
-    submitted gate (Expires r) = let e = stands (at.Service (step.Submit gate) v) d in (refl, told_fits r (request_of s r) (nobody.requests r).0 e (outcome_at_expiry (request_of s r)), told_wakes r (request_of s r) (nobody.requests r).0 e (outcome_at_expiry (request_of s r)), λ h. told_awaits r (request_of s r) (nobody.requests r).0 e (outcome_at_expiry (request_of s r)))
-    submitted gate (Enrols r) = let e = stands (at.Service (step.Submit gate) v) d in let o = outcome_at_enrol c me (request_of s r).operation.deadline in (refl, told_fits r (request_of s r) (nobody.requests r).0 e o, told_wakes r (request_of s r) (nobody.requests r).0 e o, λ h. told_awaits r (request_of s r) (nobody.requests r).0 e o)
+    submitted gate (Expires r) = (refl, told_fits r (request_of s r) (nobody.requests r).0 (stands (at.Service (step.Submit gate) v) d) (outcome_at_expiry (request_of s r)))
+    submitted gate (Enrols r) = (refl, told_fits r (request_of s r) (nobody.requests r).0 (stands (at.Service (step.Submit gate) v) d) (outcome_at_enrol c me (request_of s r).operation.deadline))
     submitted gate (AtGate file) = grants gate file (granted_at 0 (gate_of x file) s) refl
     submitted gate Flushes = flushes gate (seat_of s 0).busy
-    submitted gate (Cancels r) = (refl, same, refl, λ h. refl)
-    submitted gate (Stages r) = (refl, same, refl, λ h. refl)
+    submitted gate (Cancels r) = (refl, same)
+    submitted gate (Stages r) = (refl, same)
     submitted gate Ends =
         let e = stands (at.Service (step.Submit gate) v) d in
-        choose false s d (λ (e : Desk). with_ring 0 (emptied x) (does event.Serve (after_staging c 0 v me s e) (ring_of s (emptied x) 0))) (d.polled || is_full (ring_size c) e) e (record (one_more e) { polled = true }) (refl, same, refl, λ h. refl) (refl, same, refl, λ h. refl)
+        choose s d (λ (e : Desk). with_ring 0 (emptied x) (does event.Serve (after_staging c 0 v me s e) (ring_of s (emptied x) 0))) (d.polled || is_full (ring_size c) e) e (record (one_more e) { polled = true }) (refl, same) (refl, same)
 
     enters : (b : Bool) → (seat_of s 0).busy ≡ b → Fit (at.Service step.EnterLast v)
     enters b is =
-        same_as false s d (move_at c 0 me s (stands (at.Service step.EnterLast v) d) (emptied x) (at.Service step.EnterLast v)) (with_ring 0 (emptied x) (enter_last v me (stands (at.Service step.EnterLast v) d) (here b (seat_of s 0).landed))) (ap (λ set. with_ring 0 (emptied x) (enter_last v me (stands (at.Service step.EnterLast v) d) (here set (seat_of s 0).landed))) is) (by b)
+        same_as s d (move_at c 0 me s (stands (at.Service step.EnterLast v) d) (emptied x) (at.Service step.EnterLast v)) (with_ring 0 (emptied x) (enter_last v me (stands (at.Service step.EnterLast v) d) (here b (seat_of s 0).landed))) (ap (λ set. with_ring 0 (emptied x) (enter_last v me (stands (at.Service step.EnterLast v) d) (here set (seat_of s 0).landed))) is) (by b)
       where
-        by : (b : Bool) → Fits false s d (with_ring 0 (emptied x) (enter_last v me (stands (at.Service step.EnterLast v) d) (here b (seat_of s 0).landed)))
-        by true = (refl, same, refl, λ h. refl)
-        by false = (refl, same, refl, λ h. refl)
+        by : (b : Bool) → Fits s d (with_ring 0 (emptied x) (enter_last v me (stands (at.Service step.EnterLast v) d) (here b (seat_of s 0).landed)))
+        by true = (refl, same)
+        by false = (refl, same)
 
     fires : (o : Option ℕ) → first_to_fire 0 me s d ≡ o → Fit (at.Service step.EndService v)
     fires None none =
         let e = stands (at.Service step.EndService v) d in
-        same_as false s d (move_at c 0 me s e (emptied x) (at.Service step.EndService v)) (aside (emptied x) (serves {T = Own} (after_service v.back e) e tt)) (rw none refl) (refl, same, refl, λ h. refl)
+        same_as s d (move_at c 0 me s e (emptied x) (at.Service step.EndService v)) (aside (emptied x) (serves {T = Own} (after_service v.back e) e tt)) (rw none refl) (refl, same)
     fires (Some z) some =
         let e = stands (at.Service step.EndService v) d in
         let told = told_of_fire z (sleeper_of s z) e in
         let unsent = (nobody.sleepers z).1 in
-        same_as false s d (move_at c 0 me s e (emptied x) (at.Service step.EndService v)) (aside (emptied x) (does {T = Own} (event.Fire z) told tt))
-        (rw some refl) (refl, rw unsent same, rw unsent refl, λ h. rw unsent refl)
+        same_as s d (move_at c 0 me s e (emptied x) (at.Service step.EndService v)) (aside (emptied x) (does {T = Own} (event.Fire z) told tt))
+        (rw some refl) (refl, rw unsent same)
 
     serves_on : (p : InService) → is_alone (at.Service p v) ≡ true → passes (at.Service p v) ≡ false → Fit (at.Service p v)
-    serves_on step.Sample alone h = (refl, same, refl, λ h. refl)
+    serves_on step.Sample alone h = (refl, same)
     serves_on (step.Reap r) alone h = reaps r (seat_of s 0).landed refl
     serves_on (step.PassPermit file b) alone h = absurd (true≢false h)
     serves_on (step.Signal worker b) alone h = absurd (true≢false h)
     serves_on (step.Raise set worker b) alone h = absurd (false≢true alone)
-    serves_on step.AdvanceWheel alone h = (refl, same, refl, λ h. refl)
+    serves_on step.AdvanceWheel alone h = (refl, same)
     serves_on (step.Submit gate) alone h = submitted gate (due_next c 0 gate me s (stands (at.Service (step.Submit gate) v) d))
     serves_on step.EnterLast alone h = enters (seat_of s 0).busy refl
     serves_on step.EndService alone h = fires (first_to_fire 0 me s d) refl
@@ -158,24 +140,24 @@ module _ (k : Configuration) (me : Books) (base : Common) (o : Desk) (x : Things
   mails : d.batch ≡ [] → (p : InMail) → Fit (at.Mail p)
   mails none mail.LoadMailWord =
       let e = stands (at.Mail mail.LoadMailWord) d in
-      choose false s d (with_word 0 (emptied x)) (has_mail d w) (turns (at.Mail mail.TakeMail) e w) (turns to_callbacks e w) (refl, same, refl, λ h. refl) (refl, same, refl, λ h. refl)
-  mails none mail.TakeMail = (refl, same, refl, λ h. refl)
+      choose s d (with_word 0 (emptied x)) (has_mail d w) (turns (at.Mail mail.TakeMail) e w) (turns to_callbacks e w) (refl, same) (refl, same)
+  mails none mail.TakeMail = (refl, same)
   mails none (mail.Apply applied taken) =
       let e = stands (at.Mail (mail.Apply applied taken)) d in
-      same_as false s d (move_at c 0 me s e (emptied x) (at.Mail (mail.Apply applied taken))) (aside (emptied x) (turns {T = Own} to_callbacks e tt)) (rw none refl) (refl, same, refl, λ h. refl)
+      same_as s d (move_at c 0 me s e (emptied x) (at.Mail (mail.Apply applied taken))) (aside (emptied x) (turns {T = Own} to_callbacks e tt)) (rw none refl) (refl, same)
 
   tests : (f : Found) → Fit (at.TestForWork f)
-  tests f = let e = stands (at.TestForWork f) d in choose false s d (aside (emptied x)) (has_ready me f d || has_submissions c me) (turns {T = Own} (next_turn c 0 me s e) e tt) (turns {T = Own} at.ReadClock e tt) (refl, same, refl, λ h. refl) (refl, same, refl, λ h. refl)
+  tests f = let e = stands (at.TestForWork f) d in choose s d (aside (emptied x)) (has_ready me f d || has_submissions c me) (turns {T = Own} (next_turn c 0 me s e) e tt) (turns {T = Own} at.ReadClock e tt) (refl, same) (refl, same)
 
   reads : Fit at.ReadClock
   reads =
       let e = record d { place = at.ReadClock; read = s.clock } in
-      choose false s d (aside (emptied x)) (has_come s.clock (next_due s 0)) (turns {T = Own} (next_turn c 0 me s d) e tt) (turns {T = Own} (at.Look look.Publish) e tt) (refl, same, refl, λ h. refl) (refl, same, refl, λ h. refl)
+      choose s d (aside (emptied x)) (has_come s.clock (next_due s 0)) (turns {T = Own} (next_turn c 0 me s d) e tt) (turns {T = Own} (at.Look look.Publish) e tt) (refl, same) (refl, same)
 
   looks : (p : InLook) → looks_alone p ≡ true → Fit (at.Look p)
-  looks look.Publish alone = (refl, same, refl, λ h. refl)
-  looks (look.LookAtMirror last) alone = (refl, same, refl, λ h. refl)
-  looks look.LookAtCount alone = (refl, same, refl, λ h. refl)
+  looks look.Publish alone = (refl, same)
+  looks (look.LookAtMirror last) alone = (refl, same)
+  looks look.LookAtCount alone = (refl, same)
   looks look.ReturnLookCount alone = absurd (false≢true alone)
   looks (look.LookAtHead j) alone = absurd (false≢true alone)
   looks (look.LookAtTail j h) alone = absurd (false≢true alone)
@@ -184,81 +166,81 @@ module _ (k : Configuration) (me : Books) (base : Common) (o : Desk) (x : Things
 
   -- WAITS
 
-  slept_fits : {T : Type 0} (e : Desk) (y : T) (f : Moved T → Moved Things) → Fits true s d (f (does event.Turn e y)) → Fits true s d (f (does (event.Sleep (next_due s 0)) e y)) → Fits true s d (f (sleep 0 s e y))
-  slept_fits e y f h k = choose true s d f (has_come s.clock (next_due s 0)) (does event.Turn e y) (does (event.Sleep (next_due s 0)) e y) h k
+  slept_fits : {T : Type 0} (e : Desk) (y : T) (f : Moved T → Moved Things) → Fits s d (f (does event.Turn e y)) → Fits s d (f (does (event.Sleep (next_due s 0)) e y)) → Fits s d (f (sleep 0 s e y))
+  slept_fits e y f h k = choose s d f (has_come s.clock (next_due s 0)) (does event.Turn e y) (does (event.Sleep (next_due s 0)) e y) h k
 
-  after_fits : (b : Bool) (o : Option ℕ) (e : Desk) → ((after_sleep s.clock b o e).outputs ≡ e.outputs) × ((after_sleep s.clock b o e).wakes ≡ e.wakes) × ((after_sleep s.clock b o e).awaited ≡ e.awaited)
-  after_fits true (Some moment) e = (refl, refl, refl)
-  after_fits true None e = (refl, refl, refl)
-  after_fits false o e = (refl, refl, refl)
+  after_fits : (b : Bool) (o : Option ℕ) (e : Desk) → (after_sleep s.clock b o e).outputs ≡ e.outputs
+  after_fits true (Some moment) e = refl
+  after_fits true None e = refl
+  after_fits false o e = refl
 
   on_word : (p : InWordWait) → Fit (at.WordWait p)
   on_word (word_wait.SpinOnBatch left) =
       let e = stands (at.WordWait (word_wait.SpinOnBatch left)) d in
-      choose false s d (λ (e : Desk). with_word 0 (emptied x) (does event.Turn e w)) (has_mail d w) (hit e) (record e { place = at.WordWait (word_wait.SpinOnLatch left) }) (refl, same, refl, λ h. refl) (refl, same, refl, λ h. refl)
+      choose s d (λ (e : Desk). with_word 0 (emptied x) (does event.Turn e w)) (has_mail d w) (hit e) (record e { place = at.WordWait (word_wait.SpinOnLatch left) }) (refl, same) (refl, same)
   on_word (word_wait.SpinOnLatch left) =
       let e = stands (at.WordWait (word_wait.SpinOnLatch left)) d in
       let f = λ (e : Desk). with_word 0 (emptied x) (does event.Turn e w) in
-      choose false s d f w.latch (hit e) (missed left e) (refl, same, refl, λ h. refl)
-      (choose false s d f (nat_lt 1 left) (record e { place = at.WordWait (word_wait.SpinOnBatch (left - 1)) }) (record e { spinner = after_miss d.spinner; place = at.WordWait word_wait.ArmWord }) (refl, same, refl, λ h. refl) (refl, same, refl, λ h. refl))
-  on_word word_wait.TakeLatch = (refl, same, refl, λ h. refl)
-  on_word word_wait.ArmWord = (refl, same, refl, λ h. refl)
+      choose s d f w.latch (hit e) (missed left e) (refl, same)
+      (choose s d f (nat_lt 1 left) (record e { place = at.WordWait (word_wait.SpinOnBatch (left - 1)) }) (record e { spinner = after_miss d.spinner; place = at.WordWait word_wait.ArmWord }) (refl, same) (refl, same))
+  on_word word_wait.TakeLatch = (refl, same)
+  on_word word_wait.ArmWord = (refl, same)
   on_word word_wait.SleepOnWord =
       let left = stands (at.WordWait word_wait.DisarmWord) d in
-      choose true s d (with_word 0 (emptied x)) (is_idle_at w d.processed) (noting_sleep s.clock (sleep 0 s left w)) (does event.Turn left w)
-      (slept_fits left w (λ m. with_word 0 (emptied x) (noting_sleep s.clock m)) (refl, same, refl, λ h. refl) (refl, same, refl, λ h. refl)) (refl, same, refl, λ h. refl)
+      choose s d (with_word 0 (emptied x)) (is_idle_at w d.processed) (noting_sleep s.clock (sleep 0 s left w)) (does event.Turn left w)
+      (slept_fits left w (λ m. with_word 0 (emptied x) (noting_sleep s.clock m)) (refl, same) (refl, same)) (refl, same)
   on_word word_wait.DisarmWord =
-      let it = after_fits w.latch d.slept (stands (at.WordWait word_wait.DisarmWord) d) in (refl, omega (arith, it.0), it.1, λ h. it.2)
+      (refl, omega (arith, after_fits w.latch d.slept (stands (at.WordWait word_wait.DisarmWord) d)))
 
   enters_full : (y : Stay) (b : Bool) → (seat_of s 0).busy ≡ b → Fit (at.RingWait ring.EnterFullRing y)
   enters_full y b is =
       let e = stands (at.RingWait ring.EnterFullRing y) d in
-      same_as false s d (move_at c 0 me s e (emptied x) (at.RingWait ring.EnterFullRing y)) (with_ring 0 (emptied x) (enter_full_ring y me e (here b (seat_of s 0).landed))) (ap (λ set. with_ring 0 (emptied x) (enter_full_ring y me e (here set (seat_of s 0).landed))) is) (by b)
+      same_as s d (move_at c 0 me s e (emptied x) (at.RingWait ring.EnterFullRing y)) (with_ring 0 (emptied x) (enter_full_ring y me e (here b (seat_of s 0).landed))) (ap (λ set. with_ring 0 (emptied x) (enter_full_ring y me e (here set (seat_of s 0).landed))) is) (by b)
     where
-      by : (b : Bool) → Fits false s d (with_ring 0 (emptied x) (enter_full_ring y me (stands (at.RingWait ring.EnterFullRing y) d) (here b (seat_of s 0).landed)))
-      by true = (refl, same, refl, λ h. refl)
-      by false = (refl, same, refl, λ h. refl)
+      by : (b : Bool) → Fits s d (with_ring 0 (emptied x) (enter_full_ring y me (stands (at.RingWait ring.EnterFullRing y) d) (here b (seat_of s 0).landed)))
+      by true = (refl, same)
+      by false = (refl, same)
 
   enters_ring : (y : Stay) (b : Bool) → (seat_of s 0).busy ≡ b → Fit (at.RingWait ring.EnterRing y)
   enters_ring y b is =
       let e = stands (at.RingWait ring.EnterRing y) d in
-      same_as false s d (move_at c 0 me s e (emptied x) (at.RingWait ring.EnterRing y)) (with_ring 0 (emptied x) (enter_ring y me e (here b (seat_of s 0).landed))) (ap (λ set. with_ring 0 (emptied x) (enter_ring y me e (here set (seat_of s 0).landed))) is) (by b)
+      same_as s d (move_at c 0 me s e (emptied x) (at.RingWait ring.EnterRing y)) (with_ring 0 (emptied x) (enter_ring y me e (here b (seat_of s 0).landed))) (ap (λ set. with_ring 0 (emptied x) (enter_ring y me e (here set (seat_of s 0).landed))) is) (by b)
     where
-      by : (b : Bool) → Fits false s d (with_ring 0 (emptied x) (enter_ring y me (stands (at.RingWait ring.EnterRing y) d) (here b (seat_of s 0).landed)))
-      by true = (refl, same, refl, λ h. refl)
-      by false = (refl, same, refl, λ h. refl)
+      by : (b : Bool) → Fits s d (with_ring 0 (emptied x) (enter_ring y me (stands (at.RingWait ring.EnterRing y) d) (here b (seat_of s 0).landed)))
+      by true = (refl, same)
+      by false = (refl, same)
 
   on_ring : (p : InRingWait) (y : Stay) → Fit (at.RingWait p y)
   on_ring ring.EnterFullRing y = enters_full y (seat_of s 0).busy refl
   on_ring ring.TestRing y =
       let e = stands (at.RingWait ring.TestRing y) d in
-      choose false s d (aside (emptied x)) (has_submissions c me || (not d.polled && is_full (ring_size c) d)) (turns {T = Own} (after_wait s 0 y next.Serve) e tt) (turns {T = Own} (at.RingWait ring.ArmRing y) (with_poll (ring_size c) e) tt) (refl, same, refl, λ h. refl)
-      (choose false s d (λ (e : Desk). aside (emptied x) (turns {T = Own} (at.RingWait ring.ArmRing y) e tt)) (d.polled || is_full (ring_size c) d) e (record (one_more e) { polled = true }) (refl, same, refl, λ h. refl) (refl, same, refl, λ h. refl))
-  on_ring ring.ArmRing y = (refl, same, refl, λ h. refl)
+      choose s d (aside (emptied x)) (has_submissions c me || (not d.polled && is_full (ring_size c) d)) (turns {T = Own} (after_wait s 0 y next.Serve) e tt) (turns {T = Own} (at.RingWait ring.ArmRing y) (with_poll (ring_size c) e) tt) (refl, same)
+      (choose s d (λ (e : Desk). aside (emptied x) (turns {T = Own} (at.RingWait ring.ArmRing y) e tt)) (d.polled || is_full (ring_size c) d) e (record (one_more e) { polled = true }) (refl, same) (refl, same))
+  on_ring ring.ArmRing y = (refl, same)
   on_ring ring.EnterRing y = enters_ring y (seat_of s 0).busy refl
   on_ring ring.SleepOnRing y =
       let left = record d { place = at.RingWait (ring.DisarmRing next.Begin) y } in
       let r = ring_of s (emptied x) 0 in
-      choose true s d (with_ring 0 (emptied x)) (has_completion d r) (does {T = Ring} event.Turn left r) (sleep 0 s left r) (refl, same, refl, λ h. refl)
-      (slept_fits left r (with_ring 0 (emptied x)) (refl, same, refl, λ h. refl) (refl, same, refl, λ h. refl))
-  on_ring (ring.DisarmRing n) y = (refl, same, refl, λ h. refl)
+      choose s d (with_ring 0 (emptied x)) (has_completion d r) (does {T = Ring} event.Turn left r) (sleep 0 s left r) (refl, same)
+      (slept_fits left r (with_ring 0 (emptied x)) (refl, same) (refl, same))
+  on_ring (ring.DisarmRing n) y = (refl, same)
 
   closings : list_all is_empty x.shards ≡ true → (p : InClosing) → closes_alone p ≡ true → lets_go (at.Closing p) ≡ false → Fit (at.Closing p)
-  closings untasked closing.Close alone h = (refl, same, refl, λ h. refl)
-  closings untasked closing.CloseQueue alone h = (refl, same, refl, λ h. refl)
-  closings untasked closing.OpenBarrier alone h = (refl, same, refl, λ h. refl)
-  closings untasked closing.Stop alone h = (refl, same, refl, λ h. refl)
+  closings untasked closing.Close alone h = (refl, same)
+  closings untasked closing.CloseQueue alone h = (refl, same)
+  closings untasked closing.OpenBarrier alone h = (refl, same)
+  closings untasked closing.Stop alone h = (refl, same)
   closings untasked (closing.TellRoot worker) alone h = absurd (false≢true alone)
   closings untasked (closing.Visit drain) alone h =
       let e = stands (at.Closing (closing.Visit drain)) d in
-      same_as false s d (move_at c 0 me s e (emptied x) (at.Closing (closing.Visit drain))) (with_shard drain.at (emptied x) (turns (at.Closing (after_visit (passed (shard_count c) drain))) e []))
-      (rw (no_task_in x.shards untasked drain.at) refl) (refl, same, refl, λ h. refl)
+      same_as s d (move_at c 0 me s e (emptied x) (at.Closing (closing.Visit drain))) (with_shard drain.at (emptied x) (turns (at.Closing (after_visit (passed (shard_count c) drain))) e []))
+      (rw (no_task_in x.shards untasked drain.at) refl) (refl, same)
   closings untasked (closing.Clear t drain) alone h = absurd (false≢true alone)
-  closings untasked closing.LeaveBarrier alone h = (refl, same, refl, λ h. refl)
-  closings untasked closing.CloseMailbox alone h = (refl, same, refl, λ h. refl)
+  closings untasked closing.LeaveBarrier alone h = (refl, same)
+  closings untasked closing.CloseMailbox alone h = (refl, same)
   closings untasked closing.Orphan alone h = absurd (true≢false h)
   closings untasked closing.CloseSleeper alone h = absurd (true≢false h)
-  closings untasked closing.End alone h = (refl, same, refl, λ h. refl)
+  closings untasked closing.End alone h = (refl, same)
 
   polls_root : (home : (task_of s 0).home ≡ Some 0) → is_played (next_word s (task_of s 0)) ≡ true → (t : ℕ) (p : InPoll) → is_alone (at.Poll t p) ≡ true → PollsRoot s (at.Poll t p) → Fit (at.Poll t p)
   polls_root home can t p alone it =
@@ -267,7 +249,7 @@ module _ (k : Configuration) (me : Books) (base : Common) (o : Desk) (x : Things
 
   module _ (untasked : list_all is_empty x.shards ≡ true) (home : (task_of s 0).home ≡ Some 0) (zeros : All (λ t. t ≡ 0) d.wakes) (can : is_played (next_word s (task_of s 0)) ≡ true) (none : d.batch ≡ []) where
     at_place : (p : Place) → is_alone p ≡ true → passes p ≡ false → lets_go p ≡ false → PollsRoot s p → Fit p
-    at_place at.BeginTurn alone kept h polled = (refl, same, refl, λ h. refl)
+    at_place at.BeginTurn alone kept h polled = (refl, same)
     at_place (at.Pick p) alone kept h polled = picks k me base o x ours nobody p
     at_place at.TakeRootFlag alone kept h polled = flags k me base o x ours nobody
     at_place (at.Poll t p) alone kept h polled = polls_root home can t p alone polled
@@ -275,9 +257,9 @@ module _ (k : Configuration) (me : Books) (base : Common) (o : Desk) (x : Things
     at_place (at.Loads p r) alone kept h polled = loads p r
       where
         loads : (p : InLoads) (r : Round) → Fit (at.Loads p r)
-        loads load.LoadOwnHead r = (refl, same, refl, λ h. refl)
-        loads (load.LoadOwnMirror f) r = (refl, same, refl, λ h. refl)
-        loads (load.LoadOwnWord f) r = (refl, same, refl, λ h. refl)
+        loads load.LoadOwnHead r = (refl, same)
+        loads (load.LoadOwnMirror f) r = (refl, same)
+        loads (load.LoadOwnWord f) r = (refl, same)
     at_place (at.Service p v) alone kept h polled = serves_on v p alone kept
     at_place (at.Mail p) alone kept h polled = mails none p
     at_place (at.TestForWork f) alone kept h polled = tests f
@@ -285,7 +267,7 @@ module _ (k : Configuration) (me : Books) (base : Common) (o : Desk) (x : Things
     at_place (at.Look p) alone kept h polled = looks p alone
     at_place (at.RingWait p y) alone kept h polled = on_ring p y
     at_place (at.WordWait p) alone kept h polled = on_word p
-    at_place (at.Withdraw n) alone kept h polled = (refl, same, refl, λ h. refl)
+    at_place (at.Withdraw n) alone kept h polled = (refl, same)
     at_place (at.Closing p) alone kept h polled = closings untasked p alone h
     at_place (at.Pop p b) alone kept h polled = pops k me base o x ours nobody p b alone
     at_place (at.Search p) alone kept h polled = absurd (false≢true alone)
@@ -301,7 +283,7 @@ module _ (k : Configuration) (me : Books) (base : Common) (o : Desk) (x : Things
 module _ (me : Books) where
   -- what each step tells
   abbrev Q : Configuration → Common → Desk → Things → Type 0
-  Q c s d x = Stood me s d x → HasRoot me s d → Minded c me s d x → Fits (may_sleep d.place) s d (move c 0 me s d x)
+  Q c s d x = Stood me s d x → HasRoot s d → Minded c s d x → Fits s d (move c 0 me s d x)
 
   at_forms : (c : Configuration) (s : Common) (d : Desk) (x : Things) → HasParts x → Q (of_one c) (pooled s) (calm d) (emptied x)
   at_forms c s d x parts stood root minded =
@@ -317,5 +299,5 @@ module _ (me : Books) where
       let common = subst (λ b. Q (of_one c) b d x) (pooled_same s stood.pool) desk in
       subst (λ k. Q k s d x) (one_same c minded.workers) common stood root minded
 
-pub fits : (c : Configuration) (me : Books) (s : Common) (d : Desk) (x : Things) → Stood me s d x → HasRoot me s d → Minded c me s d x → Fits (may_sleep d.place) s d (move c 0 me s d x)
+pub fits : (c : Configuration) (me : Books) (s : Common) (d : Desk) (x : Things) → Stood me s d x → HasRoot s d → Minded c s d x → Fits s d (move c 0 me s d x)
 fits c me s d x = fits_so me c s d x

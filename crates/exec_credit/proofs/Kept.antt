@@ -4,12 +4,12 @@ use Rattle.std.proofs.lemmas.Bool.{true≢false, false≢true, and_parts}
 use Rattle.std.proofs.lemmas.List.{length-set}
 use Rattle.exec_outcomes.specs.{declared.outcome.OpResult.OpResult, Lawful.{is_lawful, window_of}}
 use Rattle.exec_machine.specs.After.{common_after}
-use Rattle.exec_machine.specs.{declared.{config.Configuration.Configuration, step.Action.Action}, Callers.{after_landing, is_enabled}, Examples.refuses, Progress.{Plan, quiet_bound}, Requests.{asked_of, cursor_of}, Run.{Follows, first_tasks}, Tests.{is_empty, is_flying}, World.{no_task, own_of, request_of}}
+use Rattle.exec_machine.specs.{declared.{config.Configuration.Configuration, state.RequestPhase.RequestPhase, step.Action.Action}, Callers.{after_landing, is_enabled}, Examples.refuses, Progress.{Plan, quiet_bound}, Requests.{asked_of, cursor_of}, Run.{Follows, first_tasks}, Tests.{is_empty, is_flying, is_resolved}, World.{no_task, own_of, request_of}}
 use Rattle.exec_machine.specs.declared.state.RequestPhase.TheVariants as phase
 use Rattle.exec_machine.specs.declared.step.Action.TheVariants as action
 use Rattle.exec_moves.specs.{Move.move, Plays.{Played, Playing, by_action, by_step, credit_of, desk_of, first_desk, first_playing, newcomers}, State.{Desk, Things}}
 use Rattle.exec_credit.specs.Minded.{Bounded, BoundedIn, PaidIn, StoodIn, begins_call}
-use Rattle.exec_credit.proofs.{Begun.first_of, Bounding.{bounded_then, bounded_credit}, Others.flying_open, Stepped.{desk_set, landed_desk, nobody_there, none_half}, Weighing.{no_more_open, one_le, open_one}}
+use Rattle.exec_credit.proofs.{Begun.first_of, Bounding.{bounded_then, bounded_credit}, Stepped.{desk_set, landed_desk, nobody_there, none_half}, Weighing.{no_more_open, one_le, open_one}}
 
 pub first_bounded : (p : Plan) → BoundedIn p.config (first_playing p)
 first_bounded p = let x = first_playing p in subst (λ (d : Desk). Bounded x.world.common d) (sym (first_of p.config p.config.workers)) (record { outputs = by p.config.workers })
@@ -18,12 +18,16 @@ first_bounded p = let x = first_playing p in subst (λ (d : Desk). Bounded x.wor
     by zero = omega arith
     by (suc n) = omega arith
 
+flying_open : (p : RequestPhase) → is_flying p ≡ true → is_resolved p ≡ false
+flying_open (phase.Resolved o) h = absurd (false≢true h)
+flying_open p h = refl
+
 module _ (c : Configuration) (x : Playing) (stood : StoodIn c x) (desks : is_empty x.desks ≡ false) (paid : PaidIn c x) (bounded : BoundedIn c x) where
   lands : (r : ℕ) (n : OpResult) → is_flying (request_of x.world.common r).phase ≡ true → Bounded (after_landing x.world.common r n) (record (desk_of c x 0) { others = 0 })
   lands r n flies =
       let s = x.world.common in
       let y = record (request_of s r) { phase = phase.Landed n } in
-      record { outputs = omega (arith, bounded.outputs, length-set s.requests r y, no_more_open s.requests r y (omega (arith, one_le y, open_one (request_of s r) (flying_open (request_of s r).phase flies).0))) }
+      record { outputs = omega (arith, bounded.outputs, length-set s.requests r y, no_more_open s.requests r y (omega (arith, one_le y, open_one (request_of s r) (flying_open (request_of s r).phase flies)))) }
 
   by_party : (a : Action) → begins_call a ≡ false → is_enabled x.world.common a ≡ true → Follows c x.world a (by_action c x a).told.0.said (by_action c x a).told.1 → BoundedIn c (by_action c x a).next
   by_party (action.Work zero) inside may follows =

@@ -20,7 +20,7 @@ use Rattle.exec_moves.specs.declared.place.Place.TheVariants as at
 use Rattle.exec_moves.specs.declared.place.Round.TheVariants as round
 use Rattle.exec_moves.specs.declared.handing.AfterCallbacks.TheVariants as after
 use Rattle.exec_moves.specs.declared.place.InCallbacks.TheVariants as callback
-use Rattle.exec_credit.specs.{Minds.{IsCalm, closes_alone, found_in, stands}, Minded.{ArePlain, IsBare, IsWithin, is_settled, lets_go}}
+use Rattle.exec_credit.specs.{Minds.{IsCalm, closes_alone, found_in, stands}, Minded.{IsBare, IsWithin, is_settled, lets_go}}
 use Rattle.exec_credit.proofs.{Alone.{calm, emptied, emptied_shard, no_task_in, of_one, pooled}, Plain.{is_plain, chosen, Leads, plainly, either}}
 
 or_nothing : (b : Bool) → b ≡ false → not (b || false) ≡ true
@@ -35,8 +35,7 @@ none_first test none (Some n ∷ later) = ap (λ (b : Bool). if b then Some n el
 pub no_mail : (d : Desk) (w : PureWord) → w.batch ≡ d.processed → has_mail d w ≡ false
 no_mail d w unsent = ap not (eq-eqb w.batch d.processed unsent)
 
-module _ (k : Configuration) (me : Books) (base : Common) (o : Desk) (x : Things) (untasked : list_all is_empty x.shards ≡ true) (unsent : (word_of x 0).batch ≡ o.processed) (spinner : IsWithin k.spin o.spinner)
-    (ours : (r : ℕ) → (request_of base r).worker ≡ 0) (nobody : ArePlain (pooled base)) where
+module _ (k : Configuration) (me : Books) (base : Common) (o : Desk) (x : Things) (untasked : list_all is_empty x.shards ≡ true) (unsent : (word_of x 0).batch ≡ o.processed) (spinner : IsWithin k.spin o.spinner) where
   abbrev c : Configuration
   c = of_one k
 
@@ -51,10 +50,10 @@ module _ (k : Configuration) (me : Books) (base : Common) (o : Desk) (x : Things
 
   -- the move of this place, with nothing in the queues
   abbrev pub To : Place → Type 0
-  To p = Leads c me s (move_at c 0 me s (stands p d) (emptied x) p)
+  To p = Leads c (move_at c 0 me s (stands p d) (emptied x) p)
 
-  pub goes : (m : Moved Things) → (word_of m.thing 0).batch ≡ w.batch → is_settled m.thing ≡ true → m.desk.processed ≡ d.processed → m.desk.spinner ≡ d.spinner → IsCalm m.desk → is_plain m.desk.place ≡ true → Leads c me s m
-  goes m word settled processed spun calmed plain = plainly c me s m (word ∙ (unsent ∙ sym processed)) settled (subst (λ it. IsWithin c.spin it) (sym spun) spinner) calmed plain
+  pub goes : (m : Moved Things) → (word_of m.thing 0).batch ≡ w.batch → is_settled m.thing ≡ true → m.desk.processed ≡ d.processed → m.desk.spinner ≡ d.spinner → IsCalm m.desk → is_plain m.desk.place ≡ true → Leads c m
+  goes m word settled processed spun calmed plain = plainly c m (word ∙ (unsent ∙ sym processed)) settled (subst (λ it. IsWithin c.spin it) (sym spun) spinner) calmed plain
 
   -- the move of this place
   abbrev pub moves : Place → Moved Things
@@ -64,8 +63,8 @@ module _ (k : Configuration) (me : Books) (base : Common) (o : Desk) (x : Things
       → (moves p).desk.spinner ≡ d.spinner → IsCalm (moves p).desk → is_plain (moves p).desk.place ≡ true → To p
   by_place p = goes (moves p)
 
-  pub by_move : (m n : Moved Things) → m ≡ n → Leads c me s n → Leads c me s m
-  by_move m n same = subst (λ y. Leads c me s y) (sym same)
+  pub by_move : (m n : Moved Things) → m ≡ n → Leads c n → Leads c m
+  by_move m n same = subst (λ y. Leads c y) (sym same)
 
   pub begins : To at.BeginTurn
   begins = by_place at.BeginTurn refl untasked refl refl (refl, (refl, refl)) refl
@@ -75,7 +74,7 @@ module _ (k : Configuration) (me : Books) (base : Common) (o : Desk) (x : Things
       let e = one_pick_less (stands (at.Pick pick.CountDown) d) in
       let far = turns {T = Own} (at.Pick (pick.LoadMirror first.Global)) (record e { countdown = c.interval }) tt in
       let near = turns {T = Own} (first_pop c (popped.Pick first.Own)) (record e { countdown = d.countdown - 1 }) tt in
-      either c me s (aside (emptied x)) (nat_le d.countdown 1) far near
+      either c (aside (emptied x)) (nat_le d.countdown 1) far near
       (λ h. goes (aside (emptied x) far) refl untasked refl refl (refl, (refl, refl)) refl) (λ h. goes (aside (emptied x) near) refl untasked refl refl (refl, (refl, refl)) refl)
   picks (pick.LoadMirror first.Own) = by_place (at.Pick (pick.LoadMirror first.Own)) refl untasked refl refl (refl, (refl, refl)) refl
   picks (pick.LoadMirror first.Global) = by_place (at.Pick (pick.LoadMirror first.Global)) refl untasked refl refl (refl, (refl, refl)) refl
@@ -95,7 +94,7 @@ module _ (k : Configuration) (me : Books) (base : Common) (o : Desk) (x : Things
   takes_flag =
       let e = stands at.TakeRootFlag d in
       let begins = does {T = Own} event.Turn (polls me.root (record e { root_ready = false })) tt in
-      either c me s (aside (emptied x)) d.root_ready begins (turns {T = Own} (at.Callbacks callback.TakeBatch after.Look) e tt)
+      either c (aside (emptied x)) d.root_ready begins (turns {T = Own} (at.Callbacks callback.TakeBatch after.Look) e tt)
       (λ h. goes (aside (emptied x) begins) refl untasked refl refl (refl, (refl, refl)) refl)
       (λ h. goes (aside (emptied x) (turns {T = Own} (at.Callbacks callback.TakeBatch after.Look) e tt)) refl untasked refl refl (refl, (refl, refl)) refl)
 
@@ -125,7 +124,7 @@ module _ (k : Configuration) (me : Books) (base : Common) (o : Desk) (x : Things
   pub mails : d.batch ≡ [] → (p : InMail) → To (at.Mail p)
   mails none mail.LoadMailWord =
       let e = stands (at.Mail mail.LoadMailWord) d in
-      either c me s (with_word 0 (emptied x)) (has_mail d w) (turns (at.Mail mail.TakeMail) e w) (turns to_callbacks e w)
+      either c (with_word 0 (emptied x)) (has_mail d w) (turns (at.Mail mail.TakeMail) e w) (turns to_callbacks e w)
       (λ h. goes (with_word 0 (emptied x) (turns (at.Mail mail.TakeMail) e w)) refl untasked refl refl (refl, (refl, refl)) refl)
       (λ h. goes (with_word 0 (emptied x) (turns to_callbacks e w)) refl untasked refl refl (refl, (refl, refl)) refl)
   mails none mail.TakeMail = by_place (at.Mail mail.TakeMail) refl untasked refl refl (refl, (refl, refl)) refl

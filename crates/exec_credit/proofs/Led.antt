@@ -1,4 +1,4 @@
--- Where each move leads: no mail, no spin that is too long, and what is known at the place.
+-- Where each move leads: no mail, and no spin that is too long.
 use Rattle.std.proofs.Common.{◌≡◌, ℕ, true, false, [], All, Some, refl, sym, subst}
 use Rattle.std.proofs.lemmas.Bool.{false≢true}
 use Rattle.std.specs.List.{list_all}
@@ -6,8 +6,8 @@ use Rattle.exec_machine.specs.{declared.config.Configuration.Configuration, Test
 use Rattle.exec_words.specs.Idle.{is_in}
 use Rattle.exec_moves.specs.{declared.place.{InPoll.InPoll, Place.Place}, Move.{move}, State.{Desk, Things, word_of}}
 use Rattle.exec_moves.specs.declared.place.Place.TheVariants as at
-use Rattle.exec_credit.specs.{Minds.{HasLooks, finds, is_alone, is_published, passes}, Minded.{ArePlain, HasRoot, IsBare, IsWithin, Knows, Minded, PollsRoot, Stood, is_joining, is_played, lets_go}}
-use Rattle.exec_credit.proofs.{Alone.{HasParts, calm, calm_same, emptied, emptied_same, of_one, one_same, parts_of, pooled, pooled_same}, Plain.Leads, Leading.{To, begins, picks, pops, takes_flag, loads, withdraws, mails, closings}, Served.services, Polled.{polls_on, calls}, Descending.{tests, reads, looks, on_word_known, on_ring}, Minding.{in_poll, played}}
+use Rattle.exec_credit.specs.{Minds.{HasLooks, finds, is_alone, is_published, passes}, Minded.{ArePlain, HasRoot, IsBare, IsShort, IsWithin, Minded, PollsRoot, Stood, is_joining, is_played, lets_go}}
+use Rattle.exec_credit.proofs.{Alone.{HasParts, calm, calm_same, emptied, emptied_same, of_one, one_same, parts_of, pooled, pooled_same}, Plain.Leads, Leading.{To, begins, picks, pops, takes_flag, loads, withdraws, mails, closings}, Served.services, Polled.{polls_on, calls}, Descending.{tests, reads, looks, on_word, on_ring}, Minding.{in_poll, played}}
 
 module _ (k : Configuration) (me : Books) (base : Common) (o : Desk) (x : Things) (untasked : list_all is_empty x.shards ≡ true)
     (unsent : (word_of x 0).batch ≡ o.processed) (spinner : IsWithin k.spin o.spinner)
@@ -16,7 +16,7 @@ module _ (k : Configuration) (me : Books) (base : Common) (o : Desk) (x : Things
   s = pooled base
 
   abbrev ToHere : Place → Type 0
-  ToHere p = To k me base o x untasked unsent spinner ours nobody p
+  ToHere p = To k me base o x untasked unsent spinner p
 
   module _ (none : o.batch ≡ []) (home : (task_of s 0).home ≡ Some 0) (wakes : All (λ t. t ≡ 0) (calm o).wakes)
       (can : is_played (next_word s (task_of s 0)) ≡ true) where
@@ -27,7 +27,7 @@ module _ (k : Configuration) (me : Books) (base : Common) (o : Desk) (x : Things
         subst (λ j. ToHere (at.Poll j p)) (sym here.0)
         (polls_on k me base o x untasked unsent spinner ours nobody 0 home p alone unjoined here.1 can)
 
-    -- from a place where it is alone, with its bit, and with what is known there
+    -- from a place where it is alone, with its bit
     record IsAt (p : Place) : Type 0 where
       alone : is_alone p ≡ true
       kept : passes p ≡ false
@@ -38,25 +38,25 @@ module _ (k : Configuration) (me : Books) (base : Common) (o : Desk) (x : Things
       polled : PollsRoot s p
       found : finds p ≡ false
       more : HasLooks p
-      known : Knows (of_one k) me s (calm o) p
+      short : IsShort k.spin p
 
     at_place : (p : Place) → IsAt p → ToHere p
-    at_place at.BeginTurn it = begins k me base o x untasked unsent spinner ours nobody
-    at_place (at.Pick p) it = picks k me base o x untasked unsent spinner ours nobody p
-    at_place at.TakeRootFlag it = takes_flag k me base o x untasked unsent spinner ours nobody
+    at_place at.BeginTurn it = begins k me base o x untasked unsent spinner
+    at_place (at.Pick p) it = picks k me base o x untasked unsent spinner p
+    at_place at.TakeRootFlag it = takes_flag k me base o x untasked unsent spinner
     at_place (at.Poll t p) it = polls_root t p it.alone it.unjoined it.polled
     at_place (at.Callbacks p n) it = calls k me base o x untasked unsent spinner ours nobody home wakes n p it.alone
-    at_place (at.Loads p r) it = loads k me base o x untasked unsent spinner ours nobody p r it.found
+    at_place (at.Loads p r) it = loads k me base o x untasked unsent spinner p r it.found
     at_place (at.Service p v) it = services k me base o x untasked unsent spinner ours nobody v p it.alone it.kept
-    at_place (at.Mail p) it = mails k me base o x untasked unsent spinner ours nobody none p
-    at_place (at.TestForWork f) it = tests k me base o x untasked unsent spinner ours nobody f
-    at_place at.ReadClock it = reads k me base o x untasked unsent spinner ours nobody it.known
-    at_place (at.Look p) it = looks k me base o x untasked unsent spinner ours nobody it.known p it.alone it.bit
-    at_place (at.RingWait p y) it = on_ring k me base o x untasked unsent spinner ours nobody y it.bit p it.alone it.known
-    at_place (at.WordWait p) it = on_word_known k me base o x untasked unsent spinner ours nobody (it.bit refl) p it.known it.more
-    at_place (at.Withdraw n) it = withdraws k me base o x untasked unsent spinner ours nobody n it.alone (it.bit refl)
-    at_place (at.Closing p) it = closings k me base o x untasked unsent spinner ours nobody p it.alone it.unlet it.bare
-    at_place (at.Pop p b) it = pops k me base o x untasked unsent spinner ours nobody p b it.alone
+    at_place (at.Mail p) it = mails k me base o x untasked unsent spinner none p
+    at_place (at.TestForWork f) it = tests k me base o x untasked unsent spinner f
+    at_place at.ReadClock it = reads k me base o x untasked unsent spinner
+    at_place (at.Look p) it = looks k me base o x untasked unsent spinner p it.alone it.bit
+    at_place (at.RingWait p y) it = on_ring k me base o x untasked unsent spinner y it.bit p it.alone
+    at_place (at.WordWait p) it = on_word k me base o x untasked unsent spinner (it.bit refl) p it.more it.short
+    at_place (at.Withdraw n) it = withdraws k me base o x untasked unsent spinner n it.alone (it.bit refl)
+    at_place (at.Closing p) it = closings k me base o x untasked unsent spinner p it.alone it.unlet it.bare
+    at_place (at.Pop p b) it = pops k me base o x untasked unsent spinner p b it.alone
     at_place (at.Search p) it = absurd (false≢true it.alone)
     at_place (at.Scan p) it = absurd (false≢true it.alone)
     at_place (at.LeaveSearch b) it = absurd (false≢true it.alone)
@@ -70,7 +70,7 @@ module _ (k : Configuration) (me : Books) (base : Common) (o : Desk) (x : Things
 module _ (me : Books) where
   -- what each step leads to
   abbrev Q : Configuration → Common → Desk → Things → Type 0
-  Q c s d x = Stood me s d x → HasRoot me s d → Minded c me s d x → Leads c me s (move c 0 me s d x)
+  Q c s d x = Stood me s d x → HasRoot s d → Minded c s d x → Leads c (move c 0 me s d x)
 
   at_forms : (c : Configuration) (s : Common) (d : Desk) (x : Things) → HasParts x → Q (of_one c) (pooled s) (calm d) (emptied x)
   at_forms c s d x parts stood root minded =
@@ -85,7 +85,7 @@ module _ (me : Books) where
         polled = root.polls;
         found = minded.unfound;
         more = minded.looks;
-        known = minded.knows;
+        short = minded.short;
       })
 
   pub leads : (c : Configuration) (s : Common) (d : Desk) (x : Things) → Q c s d x

@@ -1,3 +1,4 @@
+pub mod CallFalls
 mod Alone
 mod Sinking
 mod Falling
@@ -14,29 +15,17 @@ mod Quiet
 mod Plain
 mod Leading
 mod Served
-mod Asking
 mod Polled
 mod Descending
 mod Led
 mod First
 mod Minding
-mod Others
 mod Stepped
 mod Begun
 mod Fitting
 mod Here
 mod Fitted
-mod Listed
-mod Listing
-mod Letting
-mod Lists
 mod Weighing
 mod Bounding
 mod Kept
-mod Called
-mod Woken
-mod Resting
-mod Fair
-mod RestedThen
-pub mod Knowing
-pub mod Cutting
+mod Cutting

@@ -271,7 +271,7 @@ module _ (c : Configuration) (me : Books) (s : Common) (d : Desk) (x : Things) w
       polls c me s d x ours nobody t scripts words p (λ h. subst (λ j. is_ready (task_of s j).phase ≡ true) (sym here.0) (here.1 h)) alone joins
   told ours nobody scripts words p polled alone joins polling = absurd (false≢true polling)
 
-  pub minds : nat_lt 0 (ring_size c) ≡ true → Stood me s d x → HasRoot me s d → Minded c me s d x → closes d.place ≡ false → Minds c 0 me s d x
+  pub minds : nat_lt 0 (ring_size c) ≡ true → Stood me s d x → HasRoot s d → Minded c s d x → closes d.place ≡ false → Minds c 0 me s d x
   minds ring stood root minded open_still =
       let lone = minded.lone in
       let parts = parts_of x lone.settled in

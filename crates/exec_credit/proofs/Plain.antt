@@ -1,22 +1,22 @@
--- Moves to places of which nothing is known.
+-- Moves to plain places.
 use Rattle.std.proofs.Common.{◌≡◌, ℕ, Bool, true, false, not, if◌then◌else◌, List, [], ◌∷◌, Option, Some, None, ◌++◌, ◌==◌, ◌&&◌, ◌∙◌, refl, sym, ap, subst}
 use Rattle.std.proofs.lemmas.Bool.{true≢false, false≢true}
-use Rattle.exec_machine.specs.{declared.{config.Configuration.Configuration, state.{Forwarding.TheVariants.Unsent, MailMessage.TheVariants.CancelTimer, Request.Request, Sleeper.Sleeper, Waiting.Waiting}}, Requests.ends_by_drop, Tests.{is_applied, is_resolved}, World.{Own as Books, Common, Task, request_of, sleeper_of}, After.{own_after, common_after}}
+use Rattle.exec_machine.specs.{declared.{config.Configuration.Configuration, state.{Forwarding.TheVariants.Unsent, MailMessage.TheVariants.CancelTimer, Request.Request, Sleeper.Sleeper, Waiting.Waiting}}, Requests.ends_by_drop, Tests.{is_applied, is_resolved}, World.{Common, Task, request_of, sleeper_of}}
 use Rattle.exec_moves.specs.{declared.place.Place.Place, Slots.is_in_slots, Told.{awaits_no_more, has_number, lets_go_all, lets_go_request, lets_go_requests, lets_go_sleep, one_completion, one_output, one_result, owes, told_if_ended, told_of_cancel, told_of_drop, told_of_end, told_of_fire, turned_away, waker_of, without_request, without_timer, woken_where_awaited}, State.{Desk, Moved, Things, word_of}}
 use Rattle.exec_machine.specs.declared.state.Waiting.TheVariants as waiting
 use Rattle.exec_moves.specs.declared.place.InClosing.TheVariants as closing
 use Rattle.exec_moves.specs.declared.place.InPoll.TheVariants as poll
 use Rattle.exec_moves.specs.declared.place.InService.TheVariants as step
 use Rattle.exec_moves.specs.declared.place.Place.TheVariants as at
-use Rattle.exec_credit.specs.{Minds.{finds, found_in, is_alone, is_published, HasLooks, IsCalm}, Minded.{ArePlain, IsGateless, IsWithin, Knows, Lone, is_settled}}
+use Rattle.exec_moves.specs.declared.idling.Stay.TheVariants as stay
+use Rattle.exec_credit.specs.{Minds.{finds, found_in, is_alone, is_published, HasLooks, IsCalm}, Minded.{ArePlain, IsGateless, IsShort, IsWithin, Lone, is_settled}}
 
--- nothing is known at this place, where a worker alone can be, and its bit isn't in the idle set
+-- a worker alone can be at this place, has no spin there, and its bit isn't in the idle set
 abbrev pub is_plain : Place → Bool
 is_plain (at.Loads x r) = not (found_in x)
 is_plain (at.TestForWork f) = not f.ready
-is_plain at.ReadClock = false
 is_plain (at.Look x) = false
-is_plain (at.RingWait x y) = false
+is_plain (at.RingWait x stay.Turn) = false
 is_plain (at.WordWait x) = false
 is_plain (at.Withdraw n) = false
 is_plain (at.Poll t (poll.JoinGate r)) = false
@@ -34,18 +34,19 @@ none_of : (b : Bool) → not b ≡ true → b ≡ false
 none_of true h = absurd (false≢true h)
 none_of false h = refl
 
-module _ (c : Configuration) (me : Books) (s : Common) (d : Desk) where
+module _ (c : Configuration) where
   abbrev Nothing : Place → Type 0
-  Nothing p = (finds p ≡ false) × HasLooks p × Knows c me s d p × (is_alone p ≡ true) × (is_published p ≡ false) × IsGateless p
+  Nothing p = (finds p ≡ false) × HasLooks p × IsShort c.spin p × (is_alone p ≡ true) × (is_published p ≡ false) × IsGateless p
 
   pub plain_place : (p : Place) → is_plain p ≡ true → Nothing p
   plain_place (at.Loads x r) h = (none_of (found_in x) h, tt, tt, refl, refl, (refl, refl, refl))
   plain_place (at.TestForWork f) h = (none_of f.ready h, tt, tt, refl, refl, (refl, refl, refl))
-  plain_place at.ReadClock h = absurd (false≢true h)
   plain_place (at.Look x) h = absurd (false≢true h)
-  plain_place (at.RingWait x y) h = absurd (false≢true h)
+  plain_place (at.RingWait x stay.Turn) h = absurd (false≢true h)
+  plain_place (at.RingWait x stay.Closing) h = (refl, tt, tt, h, refl, (refl, refl, refl))
   plain_place (at.WordWait x) h = absurd (false≢true h)
   plain_place (at.Withdraw n) h = absurd (false≢true h)
+  plain_place at.ReadClock h = (refl, tt, tt, h, refl, (refl, refl, refl))
   plain_place at.BeginTurn h = (refl, tt, tt, h, refl, (refl, refl, refl))
   plain_place (at.Pick x) h = (refl, tt, tt, h, refl, (refl, refl, refl))
   plain_place at.TakeRootFlag h = (refl, tt, tt, h, refl, (refl, refl, refl))
@@ -83,16 +84,16 @@ module _ (c : Configuration) (me : Books) (s : Common) (d : Desk) where
 
 -- WHERE A MOVE LEADS
 
-module _ (c : Configuration) (me : Books) (s : Common) where
-  -- no mail has come, no spin is too long, what is to be known at the place is known, and the worker is alone
+module _ (c : Configuration) where
+  -- no mail has come, no spin is too long, and the worker is alone
   abbrev pub Leads : Moved Things → Type 0
   Leads m =
       ((word_of m.thing 0).batch ≡ m.desk.processed) × IsWithin c.spin m.desk.spinner × (finds m.desk.place ≡ false) × HasLooks m.desk.place
-      × Knows c (own_after c me s 0 m.event m.choice) (common_after c me s 0 m.event m.choice) m.desk m.desk.place × Lone m.desk m.thing
+      × IsShort c.spin m.desk.place × Lone m.desk m.thing
 
   pub plainly : (m : Moved Things) → (word_of m.thing 0).batch ≡ m.desk.processed → is_settled m.thing ≡ true → IsWithin c.spin m.desk.spinner → IsCalm m.desk → is_plain m.desk.place ≡ true → Leads m
   plainly m unsent settled spinner calmed plain =
-      let it = plain_place c (own_after c me s 0 m.event m.choice) (common_after c me s 0 m.event m.choice) m.desk m.desk.place plain in
+      let it = plain_place c m.desk.place plain in
       (unsent, spinner, it.0, it.1, it.2, record { settled = settled; unsearching = calmed.0; no_ends = calmed.1; gateless = it.5; place = it.3; bit = λ h. absurd (true≢false (sym h ∙ it.4)) })
 
   pub either : {X : Type 0} (f : X → Moved Things) (b : Bool) (m n : X) → (b ≡ true → Leads (f m)) → (b ≡ false → Leads (f n)) → Leads (f (if b then m else n))
@@ -104,20 +105,18 @@ module _ (c : Configuration) (me : Books) (s : Common) where
 pub record Same (d e : Desk) : Type 0 where
   pub spinner : e.spinner ≡ d.spinner
   pub processed : e.processed ≡ d.processed
-  pub flag : e.root_ready ≡ d.root_ready
   pub searching : e.searching ≡ d.searching
   pub completions : e.completions ≡ d.completions
   pub results : e.results ≡ d.results
 
 pub same_desk : (d : Desk) → Same d d
-same_desk d = record { spinner = refl; processed = refl; flag = refl; searching = refl; completions = refl; results = refl }
+same_desk d = record { spinner = refl; processed = refl; searching = refl; completions = refl; results = refl }
 
 pub same_both : (d e f : Desk) → Same d e → Same e f → Same d f
 same_both d e f first later =
     record {
       spinner = later.spinner ∙ first.spinner;
       processed = later.processed ∙ first.processed;
-      flag = later.flag ∙ first.flag;
       searching = later.searching ∙ first.searching;
       completions = later.completions ∙ first.completions;
       results = later.results ∙ first.results;
@@ -141,27 +140,27 @@ module _ (r : ℕ) (it : Request) (unsent : it.forwarding ≡ Unsent) (d : Desk)
     where
       by : (b : Bool) → b ≡ false → Same d (if b then one_result r d else awaits_no_more r d)
       by true h = absurd (true≢false h)
-      by false h = record { spinner = refl; processed = refl; flag = refl; searching = refl; completions = refl; results = refl }
+      by false h = record { spinner = refl; processed = refl; searching = refl; completions = refl; results = refl }
 
   pub same_dropped : Same d (told_of_drop r it d)
   same_dropped =
       same_if (not (it.observed && is_in_slots r d.requests)) d d _ (same_desk d)
-      (same_if (is_resolved it.phase) d (one_output (without_request r d)) _ (record { spinner = refl; processed = refl; flag = refl; searching = refl; completions = refl; results = refl })
+      (same_if (is_resolved it.phase) d (one_output (without_request r d)) _ (record { spinner = refl; processed = refl; searching = refl; completions = refl; results = refl })
       (same_if (ends_by_drop it) d (one_output (without_request r (turned_away r it d))) (turned_away r it d)
-      (record { spinner = turned.spinner; processed = turned.processed; flag = turned.flag; searching = turned.searching; completions = turned.completions; results = turned.results })
+      (record { spinner = turned.spinner; processed = turned.processed; searching = turned.searching; completions = turned.completions; results = turned.results })
       turned))
     where
       turned : Same d (turned_away r it d)
       turned = same_turned
 
   pub same_woken : Same d (woken_where_awaited r it d)
-  same_woken = same_if (has_number r d.awaited) d (record d { wakes = d.wakes ++ waker_of it.waiter }) d (record { spinner = refl; processed = refl; flag = refl; searching = refl; completions = refl; results = refl }) (same_desk d)
+  same_woken = same_if (has_number r d.awaited) d (record d { wakes = d.wakes ++ waker_of it.waiter }) d (record { spinner = refl; processed = refl; searching = refl; completions = refl; results = refl }) (same_desk d)
 
   same_end : Same d (told_of_end r it d)
   same_end =
       let woken = same_woken in
-      same_if (not it.observed) d (one_output (without_request r d)) _ (record { spinner = refl; processed = refl; flag = refl; searching = refl; completions = refl; results = refl })
-      (by (is_applied it.forwarding) unapplied (record { spinner = woken.spinner; processed = woken.processed; flag = woken.flag; searching = woken.searching; completions = woken.completions; results = woken.results }))
+      same_if (not it.observed) d (one_output (without_request r d)) _ (record { spinner = refl; processed = refl; searching = refl; completions = refl; results = refl })
+      (by (is_applied it.forwarding) unapplied (record { spinner = woken.spinner; processed = woken.processed; searching = woken.searching; completions = woken.completions; results = woken.results }))
     where
       by : (b : Bool) → b ≡ false → Same d (awaits_no_more r (woken_where_awaited r it d))
           → Same d (if b then one_result r (without_request r d) else awaits_no_more r (woken_where_awaited r it d))
@@ -184,14 +183,14 @@ module _ (z : ℕ) (it : Sleeper) (unsent : it.forwarding ≡ Unsent) (d : Desk)
       by : (b : Bool) → b ≡ false
           → Same d (if b then one_completion z (without_timer z d) else record (without_timer z d) { wakes = d.wakes ++ it.task ∷ [] })
       by true h = absurd (true≢false h)
-      by false h = record { spinner = refl; processed = refl; flag = refl; searching = refl; completions = refl; results = refl }
+      by false h = record { spinner = refl; processed = refl; searching = refl; completions = refl; results = refl }
 
   pub same_cancelled : Same d (told_of_cancel z it d)
   same_cancelled = same_if (not (is_in_slots z d.timers)) d d _ (same_desk d) (by (is_applied it.forwarding) here)
     where
       by : (b : Bool) → b ≡ false → Same d (if b then one_completion z (without_timer z d) else without_timer z d)
       by true h = absurd (true≢false h)
-      by false h = record { spinner = refl; processed = refl; flag = refl; searching = refl; completions = refl; results = refl }
+      by false h = record { spinner = refl; processed = refl; searching = refl; completions = refl; results = refl }
 
 -- OF ALL THAT A TASK HELD
 

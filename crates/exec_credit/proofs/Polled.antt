@@ -1,8 +1,8 @@
 -- Where the moves of a poll and of the callbacks lead.
-use Rattle.std.proofs.Common.{◌≡◌, ℕ, ◌+◌, ◌-◌, Bool, true, false, List, [], ◌∷◌, All, drop, length, Option, Some, None, ◌∙◌, refl, sym, ap, subst, arith, inl, inr}
+use Rattle.std.proofs.Common.{◌≡◌, ℕ, ◌-◌, Bool, true, false, List, [], ◌∷◌, All, drop, length, Option, Some, None, ◌∙◌, refl, sym, ap, subst, arith, inl, inr}
 use Rattle.std.proofs.lemmas.Bool.{cases_Bool, false≢true, true≢false}
 use Rattle.std.specs.{Prelude.nat_lt, List.list_all}
-use Rattle.exec_machine.specs.{declared.{config.{Configuration.Configuration, ScriptWord.ScriptWord}, event.Event.Event, state.{RequestPhase.RequestPhase, Operation.Operation, Waiting.Waiting}}, Choice.{Choice, Choice.Plain}, After.common_after, Ranges.ring_size, Requests.{operation_asked, operation_or_none, outcome_if_late}, Tests.{is_empty, is_ready}, World.{Own as Books, Common, Task, no_task, task_of, request_of, sleeper_of}, Words.{newest_held, next_word, sleep_asked}}
+use Rattle.exec_machine.specs.{declared.{config.{Configuration.Configuration, ScriptWord.ScriptWord}, event.Event.Event, state.{RequestPhase.RequestPhase, Operation.Operation, Waiting.Waiting}}, Choice.{Choice, Choice.Plain}, Ranges.ring_size, Requests.{operation_asked, operation_or_none, outcome_if_late}, Tests.{is_empty, is_ready}, World.{Own as Books, Common, Task, no_task, task_of, request_of, sleeper_of}, Words.{newest_held, next_word, sleep_asked}}
 use Rattle.exec_machine.specs.declared.config.ScriptWord.TheVariants as word
 use Rattle.exec_machine.specs.declared.event.Event.TheVariants as event
 use Rattle.exec_machine.specs.declared.state.RequestPhase.TheVariants as phase
@@ -18,7 +18,7 @@ use Rattle.exec_moves.specs.declared.idling.InRingWait.TheVariants as ring
 use Rattle.exec_moves.specs.declared.place.Place.TheVariants as at
 use Rattle.exec_moves.specs.declared.idling.Stay.TheVariants as stay
 use Rattle.exec_credit.specs.{Minds.{IsCalm, stands}, Minded.{ArePlain, IsWithin, is_joining, is_played}}
-use Rattle.exec_credit.proofs.{Alone.{calm, emptied, of_one, pooled}, Plain.{is_plain, Leads, either, same_all, same_dropped, still_calm}, Leading.{To, by_move, goes}, Asking.{open_next, open_set}, Minding.{acted_as, resumed_as, undurable}}
+use Rattle.exec_credit.proofs.{Alone.{calm, emptied, of_one, pooled}, Plain.{chosen, is_plain, Leads, either, same_all, same_dropped, still_calm}, Leading.{To, by_move, goes}, Minding.{acted_as, resumed_as, undurable}}
 
 module _ (k : Configuration) (me : Books) (base : Common) (o : Desk) (x : Things) (untasked : list_all is_empty x.shards ≡ true) (unsent : (word_of x 0).batch ≡ o.processed) (spinner : IsWithin k.spin o.spinner)
     (ours : (r : ℕ) → (request_of base r).worker ≡ 0) (nobody : ArePlain (pooled base)) where
@@ -39,11 +39,11 @@ module _ (k : Configuration) (me : Books) (base : Common) (o : Desk) (x : Things
     it = task_of s t
 
     abbrev Acts : Moved Task → Type 0
-    Acts n = Leads c me s (aside (emptied x) n)
+    Acts n = Leads c (aside (emptied x) n)
 
     plain_act : (n : Moved Task) → n.desk.processed ≡ d.processed → n.desk.spinner ≡ d.spinner → IsCalm n.desk
         → is_plain n.desk.place ≡ true → Acts n
-    plain_act n = goes k me base o x untasked unsent spinner ours nobody (aside (emptied x) n) refl untasked
+    plain_act n = goes k me base o x untasked unsent spinner (aside (emptied x) n) refl untasked
 
     as_it : (m n : Moved Task) → m ≡ n → Acts n → Acts m
     as_it m n same = subst (λ y. Acts y) (sym same)
@@ -87,9 +87,9 @@ module _ (k : Configuration) (me : Books) (base : Common) (o : Desk) (x : Things
     resumes waiting.Wake h = looked (pend 0 t s looking it) (rw h refl) (pended poll.Resume)
     resumes waiting.Yielded h = looked (pend 0 t s looking it) (rw h refl) (pended poll.Resume)
 
-    resumed : To k me base o x untasked unsent spinner ours nobody (at.Poll t poll.Resume)
+    resumed : To k me base o x untasked unsent spinner (at.Poll t poll.Resume)
     resumed =
-        by_move k me base o x untasked unsent spinner ours nobody
+        by_move k me base o x untasked unsent spinner
         (move_at c 0 me s looking (emptied x) (at.Poll t poll.Resume)) (aside (emptied x) (resume 0 t s looking it))
         (resumed_as c me s looking (emptied x) ours nobody t) (resumes it.waiting refl)
 
@@ -141,7 +141,7 @@ module _ (k : Configuration) (me : Books) (base : Common) (o : Desk) (x : Things
         let admits = event.Admit (length s.requests) o.kind (outcome_if_late me.sampled o.deadline) in
         let e = with_request (length s.requests) here in
         let joins = record e { place = at.Poll t (poll.JoinGate (length s.requests)) } in
-        either c me s (λ (e : Desk). aside (emptied x) (does admits e it)) (is_durable o.kind) joins (acts_on t e)
+        either c (λ (e : Desk). aside (emptied x) (does admits e it)) (is_durable o.kind) joins (acts_on t e)
         (λ h. absurd (true≢false (sym h ∙ plain)))
         (λ h. plain_act (does admits (acts_on t e) it) refl refl (refl, (refl, refl)) refl)
     acts word.Await None plain = awaits_newest (newest_held it)
@@ -153,17 +153,17 @@ module _ (k : Configuration) (me : Books) (base : Common) (o : Desk) (x : Things
     acts w None plain = plain_act (act_asked 0 t me s here it w None) refl refl (refl, (refl, refl)) refl
 
     -- by the word that is next
-    acted : is_played (next_word s it) ≡ true → To k me base o x untasked unsent spinner ours nobody (at.Poll t poll.Act)
+    acted : is_played (next_word s it) ≡ true → To k me base o x untasked unsent spinner (at.Poll t poll.Act)
     acted can =
         let w = next_word s it in
-        by_move k me base o x untasked unsent spinner ours nobody (move_at c 0 me s here (emptied x) (at.Poll t poll.Act)) (aside (emptied x) (act_asked 0 t me s here it w (operation_asked c me.sampled w)))
+        by_move k me base o x untasked unsent spinner (move_at c 0 me s here (emptied x) (at.Poll t poll.Act)) (aside (emptied x) (act_asked 0 t me s here it w (operation_asked c me.sampled w)))
         (acted_as c me s here (emptied x) ours nobody t w refl can) (acts w (operation_asked c me.sampled w) (undurable c me.sampled w can))
 
-    begins : is_ready it.phase ≡ true → To k me base o x untasked unsent spinner ours nobody (at.Poll t poll.BeginPoll)
+    begins : is_ready it.phase ≡ true → To k me base o x untasked unsent spinner (at.Poll t poll.BeginPoll)
     begins ready =
         let e = stands (at.Poll t poll.BeginPoll) d in
         let n = aside (emptied x) (does (event.Begin t) (stands_at (at.Poll t (after_begin (begun_waiting it.waiting))) (let_go e)) it) in
-        by_move k me base o x untasked unsent spinner ours nobody (move_at c 0 me s e (emptied x) (at.Poll t poll.BeginPoll)) n (rw ready refl) (goes k me base o x untasked unsent spinner ours nobody n refl untasked refl refl (refl, (refl, refl)) (by (begun_waiting it.waiting)))
+        by_move k me base o x untasked unsent spinner (move_at c 0 me s e (emptied x) (at.Poll t poll.BeginPoll)) n (rw ready refl) (goes k me base o x untasked unsent spinner n refl untasked refl refl (refl, (refl, refl)) (by (begun_waiting it.waiting)))
       where
         by : (w : Waiting) → is_plain (at.Poll t (after_begin w)) ≡ true
         by waiting.Nothing = refl
@@ -173,7 +173,7 @@ module _ (k : Configuration) (me : Books) (base : Common) (o : Desk) (x : Things
         by waiting.Wake = refl
         by waiting.Yielded = refl
 
-    pub polls_on : (p : InPoll) → polls_alone p ≡ true → is_joining (at.Poll t p) ≡ false → (p ≡ poll.BeginPoll → is_ready it.phase ≡ true) → is_played (next_word s it) ≡ true → To k me base o x untasked unsent spinner ours nobody (at.Poll t p)
+    pub polls_on : (p : InPoll) → polls_alone p ≡ true → is_joining (at.Poll t p) ≡ false → (p ≡ poll.BeginPoll → is_ready it.phase ≡ true) → is_played (next_word s it) ≡ true → To k me base o x untasked unsent spinner (at.Poll t p)
     polls_on poll.BeginPoll alone unjoined ready can = begins (ready refl)
     polls_on poll.Resume alone unjoined ready can = resumed
     polls_on poll.Act alone unjoined ready can = acted can
@@ -185,36 +185,23 @@ module _ (k : Configuration) (me : Books) (base : Common) (o : Desk) (x : Things
   -- CALLBACKS: a closing worker that has a request goes to wait on its ring
 
   module _ (books : Books) (n : AfterCallbacks) (e : Desk) (ev : Event) (choice : Choice) (it : Task)
-      (processed : e.processed ≡ d.processed) (spun : e.spinner ≡ d.spinner) (calmed : IsCalm e) (same : has_requests 0 (common_after c me s 0 ev choice) ≡ has_requests 0 s) where
+      (processed : e.processed ≡ d.processed) (spun : e.spinner ≡ d.spinner) (calmed : IsCalm e) where
     abbrev told : Place → Moved Things
     told p = aside (emptied x) (record { event = ev; choice = choice; desk = record e { place = p }; thing = it })
 
-    leads : (p : Place) → is_plain p ≡ true → Leads c me s (told p)
-    leads p plain = goes k me base o x untasked unsent spinner ours nobody (told p) refl untasked processed spun calmed plain
+    leads : (p : Place) → is_plain p ≡ true → Leads c (told p)
+    leads p plain = goes k me base o x untasked unsent spinner (told p) refl untasked processed spun calmed plain
 
-    waits : has_requests 0 s ≡ true → Leads c me s (told (ring_wait (ring_size c) stay.Closing e))
-    waits some =
-        either c me s (λ (p : Place). told p) (is_full (ring_size c) e) (at.RingWait ring.EnterFullRing stay.Closing) (at.RingWait ring.TestRing stay.Closing)
-        (λ h. (unsent ∙ sym processed, subst (λ it. IsWithin c.spin it) (sym spun) spinner, refl, tt, same ∙ some, record { settled = untasked; unsearching = calmed.0; no_ends = calmed.1; gateless = (refl, refl, refl); place = refl; bit = λ h. absurd (false≢true h) }))
-        (λ h. (unsent ∙ sym processed, subst (λ it. IsWithin c.spin it) (sym spun) spinner, refl, tt, same ∙ some, record { settled = untasked; unsearching = calmed.0; no_ends = calmed.1; gateless = (refl, refl, refl); place = refl; bit = λ h. absurd (false≢true h) }))
-
-    follows : (n : AfterCallbacks) → Leads c me s (told (after_callbacks (ring_size c) 0 s n e))
+    follows : (n : AfterCallbacks) → Leads c (told (after_callbacks (ring_size c) 0 s n e))
     follows after.Look = leads (after_callbacks (ring_size c) 0 s after.Look e) refl
     follows after.Test = leads (after_callbacks (ring_size c) 0 s after.Test e) refl
     follows after.Begin = leads at.BeginTurn refl
     follows after.Drain = leads (after_callbacks (ring_size c) 0 s after.Drain e) refl
-    follows after.Finish = either c me s (λ (p : Place). told p) (has_requests 0 s) (ring_wait (ring_size c) stay.Closing e) (at.Closing closing.End) waits (λ h. leads (at.Closing closing.End) refl)
+    follows after.Finish = either c (λ (p : Place). told p) (has_requests 0 s) (ring_wait (ring_size c) stay.Closing e) (at.Closing closing.End)
+        (λ h. leads (ring_wait (ring_size c) stay.Closing e) (chosen (is_full (ring_size c) e) (at.RingWait ring.EnterFullRing stay.Closing) (at.RingWait ring.TestRing stay.Closing) refl refl)) (λ h. leads (at.Closing closing.End) refl)
 
-    next : Leads c me s (told (next_callback (ring_size c) 0 books s n e))
-    next = either c me s (λ (p : Place). told p) (has_callbacks books e) (at.Callbacks callback.CallBack n) (after_callbacks (ring_size c) 0 s n e) (λ h. leads (at.Callbacks callback.CallBack n) refl) (λ h. follows n)
-
-  paid : (t : ℕ) (w : Waiting) → has_requests 0 (common_after c me s 0 (event.Wake t) (payer_of w)) ≡ has_requests 0 s
-  paid t (waiting.Request r) = open_set s.requests r (record (request_of s r) { wakes_paid = (request_of s r).wakes_paid + 1 }) refl
-  paid t (waiting.Timer z) = refl
-  paid t waiting.Nothing = refl
-  paid t waiting.Wake = refl
-  paid t waiting.Woken = refl
-  paid t waiting.Yielded = refl
+    next : Leads c (told (next_callback (ring_size c) 0 books s n e))
+    next = either c (λ (p : Place). told p) (has_callbacks books e) (at.Callbacks callback.CallBack n) (after_callbacks (ring_size c) 0 s n e) (λ h. leads (at.Callbacks callback.CallBack n) refl) (λ h. follows n)
 
   -- each wake that is left is of the root
   module _ (home : (task_of s 0).home ≡ Some 0) (wakes : All (λ t. t ≡ 0) d.wakes) (n : AfterCallbacks) where
@@ -222,7 +209,7 @@ module _ (k : Configuration) (me : Books) (base : Common) (o : Desk) (x : Things
     calling = stands (at.Callbacks callback.CallBack n) d
 
     abbrev ToItem : Item → Type 0
-    ToItem it = Leads c me s (move_item c 0 me s calling (emptied x) n it)
+    ToItem it = Leads c (move_item c 0 me s calling (emptied x) n it)
 
     moved : (i : Item) → item_next me calling ≡ i → ToItem i → ToItem (item_next me calling)
     moved i same = subst (λ j. ToItem j) (sym same)
@@ -231,17 +218,16 @@ module _ (k : Configuration) (me : Books) (base : Common) (o : Desk) (x : Things
     wakes_one t at_home =
         let it = task_of s t in
         let e = flagged_by it (record calling { wakes = drop 1 d.wakes }) in
-        by_move k me base o x untasked unsent spinner ours nobody (move_item c 0 me s calling (emptied x) n (Wakes t))
-        (told me n e (event.Wake t) (payer_of it.waiting) it refl refl (refl, (refl, refl)) (paid t it.waiting) (next_callback (ring_size c) 0 me s n e))
-        (rw at_home refl) (next me n e (event.Wake t) (payer_of it.waiting) it refl refl (refl, (refl, refl)) (paid t it.waiting))
+        by_move k me base o x untasked unsent spinner (move_item c 0 me s calling (emptied x) n (Wakes t))
+        (told me n e (event.Wake t) (payer_of it.waiting) it refl refl (refl, (refl, refl)) (next_callback (ring_size c) 0 me s n e))
+        (rw at_home refl) (next me n e (event.Wake t) (payer_of it.waiting) it refl refl (refl, (refl, refl)))
 
     last : (ended : List ℕ) → me.ended ≡ ended → d.wakes ≡ [] → nat_lt 0 d.outputs ≡ false → ToItem (item_next me calling)
     last [] is none no_output =
-        moved Nothing (rw (none, no_output, is) refl) (next me n calling event.Turn Plain (task_of s 0) refl refl (refl, (refl, refl)) (open_next s me.next))
+        moved Nothing (rw (none, no_output, is) refl) (next me n calling event.Turn Plain (task_of s 0) refl refl (refl, (refl, refl)))
     last (r ∷ ended) is none no_output =
         moved (Releases r) (rw (none, no_output, is) refl)
-        (next (record me { ended = drop 1 me.ended }) n calling (event.Release r) Plain (task_of s 0) refl refl (refl, (refl, refl))
-        (open_set s.requests r (record (request_of s r) { released = true }) refl))
+        (next (record me { ended = drop 1 me.ended }) n calling (event.Release r) Plain (task_of s 0) refl refl (refl, (refl, refl)))
 
     calls_back : (ts : List ℕ) → d.wakes ≡ ts → ToItem (item_next me calling)
     calls_back (t ∷ ts) is =
@@ -250,12 +236,12 @@ module _ (k : Configuration) (me : Books) (base : Common) (o : Desk) (x : Things
     calls_back [] is = elim (cases_Bool (nat_lt 0 d.outputs)) [
       | inl some ↦
           let e = record calling { outputs = d.outputs - 1 } in
-          moved LetsGo (rw (is, some) refl) (next me n e event.Turn Plain (task_of s 0) refl refl (refl, (refl, refl)) (open_next s me.next))
+          moved LetsGo (rw (is, some) refl) (next me n e event.Turn Plain (task_of s 0) refl refl (refl, (refl, refl)))
       | inr no_output ↦ last me.ended refl is no_output
     ]
 
-    pub calls : (p : InCallbacks) → calls_back_alone p ≡ true → To k me base o x untasked unsent spinner ours nobody (at.Callbacks p n)
+    pub calls : (p : InCallbacks) → calls_back_alone p ≡ true → To k me base o x untasked unsent spinner (at.Callbacks p n)
     calls callback.TakeBatch alone =
-        next me n (stands (at.Callbacks callback.TakeBatch n) d) event.Turn Plain no_task refl refl (refl, (refl, refl)) (open_next s me.next)
+        next me n (stands (at.Callbacks callback.TakeBatch n) d) event.Turn Plain no_task refl refl (refl, (refl, refl))
     calls callback.CallBack alone = calls_back d.wakes refl
     calls (callback.WakeWaiter t of) alone = absurd (false≢true alone)

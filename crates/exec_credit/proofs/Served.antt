@@ -16,8 +16,8 @@ use Rattle.exec_credit.specs.{Minds.{is_alone, passes, stands}, Minded.{ArePlain
 use Rattle.exec_credit.proofs.{Alone.{calm, emptied, of_one, pooled, taken_settled, unraised}, Plain.{is_plain, chosen, Leads, either, Same, same_fired, same_told, still_calm}, Leading.{To, by_move, by_place, goes}}
 
 same_others : (later : List ℕ) (w : WakePoll) (d : Desk) → Same d (others_after_reap later w d)
-same_others [] w d = record { spinner = refl; processed = refl; flag = refl; searching = refl; completions = refl; results = refl }
-same_others (r ∷ later) w d = record { spinner = refl; processed = refl; flag = refl; searching = refl; completions = refl; results = refl }
+same_others [] w d = record { spinner = refl; processed = refl; searching = refl; completions = refl; results = refl }
+same_others (r ∷ later) w d = record { spinner = refl; processed = refl; searching = refl; completions = refl; results = refl }
 
 -- WHERE IT GOES ON, signalling nobody else
 
@@ -56,22 +56,22 @@ module _ (k : Configuration) (me : Books) (base : Common) (bare : Desk) (x : Thi
   abbrev here : Bool → List ℕ → Ring
   here busy landed = record { busy = busy; landed = landed; wakes = unraised (wake_poll_of x 0) }
 
-  reaps : (r : Reaping) (landed : List ℕ) → (seat_of s 0).landed ≡ landed → To k me base bare x untasked unsent spinner ours nobody (at.Service (step.Reap r) v)
+  reaps : (r : Reaping) (landed : List ℕ) → (seat_of s 0).landed ≡ landed → To k me base bare x untasked unsent spinner (at.Service (step.Reap r) v)
   reaps r landed is =
       let e = stands (at.Service (step.Reap r) v) d in
-      by_move k me base bare x untasked unsent spinner ours nobody (move_at c 0 me s e (emptied x) (at.Service (step.Reap r) v)) (with_ring 0 (emptied x) (reap 0 v r s e (here (seat_of s 0).busy landed))) (ap (λ ls. with_ring 0 (emptied x) (reap 0 v r s e (here (seat_of s 0).busy ls))) is) (by landed)
+      by_move k me base bare x untasked unsent spinner (move_at c 0 me s e (emptied x) (at.Service (step.Reap r) v)) (with_ring 0 (emptied x) (reap 0 v r s e (here (seat_of s 0).busy landed))) (ap (λ ls. with_ring 0 (emptied x) (reap 0 v r s e (here (seat_of s 0).busy ls))) is) (by landed)
     where
-      by : (landed : List ℕ) → Leads c me s (with_ring 0 (emptied x) (reap 0 v r s (stands (at.Service (step.Reap r) v) d) (here (seat_of s 0).busy landed)))
-      by [] = goes k me base bare x untasked unsent spinner ours nobody (with_ring 0 (emptied x) (reap 0 v r s (stands (at.Service (step.Reap r) v) d) (here (seat_of s 0).busy []))) refl untasked refl refl (refl, (refl, refl)) (permit_plain v (permit.Reaped r))
+      by : (landed : List ℕ) → Leads c (with_ring 0 (emptied x) (reap 0 v r s (stands (at.Service (step.Reap r) v) d) (here (seat_of s 0).busy landed)))
+      by [] = goes k me base bare x untasked unsent spinner (with_ring 0 (emptied x) (reap 0 v r s (stands (at.Service (step.Reap r) v) d) (here (seat_of s 0).busy []))) refl untasked refl refl (refl, (refl, refl)) (permit_plain v (permit.Reaped r))
       by (q ∷ later) =
           let e = stands (at.Service (step.Reap r) v) d in
           let told = same_told q (request_of s q) (nobody.requests q).0 (others_after_reap later (unraised (wake_poll_of x 0)) e) (outcome_given (request_of s q) (result_in (request_of s q).phase)) in
           let others = same_others later (unraised (wake_poll_of x 0)) e in
-          goes k me base bare x untasked unsent spinner ours nobody (with_ring 0 (emptied x) (reap 0 v r s e (here (seat_of s 0).busy (q ∷ later)))) refl untasked (told.processed ∙ others.processed) (told.spinner ∙ others.spinner) (still_calm told (still_calm others (refl, (refl, refl))))
+          goes k me base bare x untasked unsent spinner (with_ring 0 (emptied x) (reap 0 v r s e (here (seat_of s 0).busy (q ∷ later)))) refl untasked (told.processed ∙ others.processed) (told.spinner ∙ others.spinner) (still_calm told (still_calm others (refl, (refl, refl))))
           (reap_plain v (request_of s q) (nobody.requests q).1 (outcome_given (request_of s q) (result_in (request_of s q).phase)) (back_from_reap r later))
 
   abbrev Next : ℕ → Due → Type 0
-  Next gate due = Leads c me s (move_submit c 0 me s (stands (at.Service (step.Submit gate) v) d) (emptied x) gate v due)
+  Next gate due = Leads c (move_submit c 0 me s (stands (at.Service (step.Submit gate) v) d) (emptied x) gate v due)
 
   abbrev granted_by : Option ℕ → Option ℕ
   granted_by None = None
@@ -80,7 +80,7 @@ module _ (k : Configuration) (me : Books) (base : Common) (bare : Desk) (x : Thi
   grants : (gate file : ℕ) (o : Option ℕ) → granted_at 0 (gate_of x file) s ≡ o → Next gate (AtGate file)
   grants gate file None none =
       let n = with_gate file (emptied x) (does (event.Serve) (submits v (suc file) d) (gate_of x file)) in
-      by_move k me base bare x untasked unsent spinner ours nobody (move_submit c 0 me s (stands (at.Service (step.Submit gate) v) d) (emptied x) gate v (AtGate file)) n (rw none refl) (goes k me base bare x untasked unsent spinner ours nobody n refl untasked refl refl (refl, (refl, refl)) refl)
+      by_move k me base bare x untasked unsent spinner (move_submit c 0 me s (stands (at.Service (step.Submit gate) v) d) (emptied x) gate v (AtGate file)) n (rw none refl) (goes k me base bare x untasked unsent spinner n refl untasked refl refl (refl, (refl, refl)) refl)
   grants gate file (Some r) some = absurd (false≢true (sym (nobody.requests r).2 ∙ gated_first (slice_get (gate_of x file) 0) some))
     where
       -- who is granted waits for a permit
@@ -94,63 +94,63 @@ module _ (k : Configuration) (me : Books) (base : Common) (bare : Desk) (x : Thi
           by true false is h = let no : None ≡ Some r = h in absurd (cc)
           by false b is h = let no : None ≡ Some r = h in absurd (cc)
 
-  flushes : (gate : ℕ) (b : Bool) → Leads c me s (with_ring 0 (emptied x) (stage_next c 0 v gate me s (stands (at.Service (step.Submit gate) v) d) (here b (seat_of s 0).landed) Flushes))
-  flushes gate true = goes k me base bare x untasked unsent spinner ours nobody (with_ring 0 (emptied x) (stage_next c 0 v gate me s (stands (at.Service (step.Submit gate) v) d) (here true (seat_of s 0).landed) Flushes)) refl untasked refl refl (refl, (refl, refl))
+  flushes : (gate : ℕ) (b : Bool) → Leads c (with_ring 0 (emptied x) (stage_next c 0 v gate me s (stands (at.Service (step.Submit gate) v) d) (here b (seat_of s 0).landed) Flushes))
+  flushes gate true = goes k me base bare x untasked unsent spinner (with_ring 0 (emptied x) (stage_next c 0 v gate me s (stands (at.Service (step.Submit gate) v) d) (here true (seat_of s 0).landed) Flushes)) refl untasked refl refl (refl, (refl, refl))
       (staging_plain v (enters c 0 v me s (stands (at.Service (step.Submit gate) v) d)))
-  flushes gate false = goes k me base bare x untasked unsent spinner ours nobody (with_ring 0 (emptied x) (stage_next c 0 v gate me s (stands (at.Service (step.Submit gate) v) d) (here false (seat_of s 0).landed) Flushes)) refl (taken_settled x untasked d.polled) refl refl (refl, (refl, refl)) refl
+  flushes gate false = goes k me base bare x untasked unsent spinner (with_ring 0 (emptied x) (stage_next c 0 v gate me s (stands (at.Service (step.Submit gate) v) d) (here false (seat_of s 0).landed) Flushes)) refl (taken_settled x untasked d.polled) refl refl (refl, (refl, refl)) refl
 
   submitted : (gate : ℕ) (due : Due) → Next gate due
   submitted gate (Expires r) =
       let told = same_told r (request_of s r) (nobody.requests r).0 (stands (at.Service (step.Submit gate) v) d) (outcome_at_expiry (request_of s r)) in
-      goes k me base bare x untasked unsent spinner ours nobody (move_submit c 0 me s (stands (at.Service (step.Submit gate) v) d) (emptied x) gate v (Expires r)) refl untasked told.processed told.spinner (still_calm told (refl, (refl, refl))) refl
+      goes k me base bare x untasked unsent spinner (move_submit c 0 me s (stands (at.Service (step.Submit gate) v) d) (emptied x) gate v (Expires r)) refl untasked told.processed told.spinner (still_calm told (refl, (refl, refl))) refl
   submitted gate (Enrols r) =
       let told = same_told r (request_of s r) (nobody.requests r).0 (stands (at.Service (step.Submit gate) v) d) (outcome_at_enrol c me (request_of s r).operation.deadline) in
-      goes k me base bare x untasked unsent spinner ours nobody (move_submit c 0 me s (stands (at.Service (step.Submit gate) v) d) (emptied x) gate v (Enrols r)) refl untasked told.processed told.spinner (still_calm told (refl, (refl, refl))) refl
+      goes k me base bare x untasked unsent spinner (move_submit c 0 me s (stands (at.Service (step.Submit gate) v) d) (emptied x) gate v (Enrols r)) refl untasked told.processed told.spinner (still_calm told (refl, (refl, refl))) refl
   submitted gate (AtGate file) = grants gate file (granted_at 0 (gate_of x file) s) refl
   submitted gate Flushes = flushes gate (seat_of s 0).busy
-  submitted gate (Cancels r) = goes k me base bare x untasked unsent spinner ours nobody (move_submit c 0 me s (stands (at.Service (step.Submit gate) v) d) (emptied x) gate v (Cancels r)) refl untasked refl refl (refl, (refl, refl)) refl
-  submitted gate (Stages r) = goes k me base bare x untasked unsent spinner ours nobody (move_submit c 0 me s (stands (at.Service (step.Submit gate) v) d) (emptied x) gate v (Stages r)) refl untasked refl refl (refl, (refl, refl)) refl
+  submitted gate (Cancels r) = goes k me base bare x untasked unsent spinner (move_submit c 0 me s (stands (at.Service (step.Submit gate) v) d) (emptied x) gate v (Cancels r)) refl untasked refl refl (refl, (refl, refl)) refl
+  submitted gate (Stages r) = goes k me base bare x untasked unsent spinner (move_submit c 0 me s (stands (at.Service (step.Submit gate) v) d) (emptied x) gate v (Stages r)) refl untasked refl refl (refl, (refl, refl)) refl
   submitted gate Ends =
       let e = stands (at.Service (step.Submit gate) v) d in
       let f = λ (e : Desk). with_ring 0 (emptied x) (does event.Serve (after_staging c 0 v me s e) (ring_of s (emptied x) 0)) in
-      either c me s f (d.polled || is_full (ring_size c) e) e (record (one_more e) { polled = true })
-      (λ h. goes k me base bare x untasked unsent spinner ours nobody (f e) refl untasked refl refl (refl, (refl, refl)) (staging_plain v (enters c 0 v me s e))) (λ h. goes k me base bare x untasked unsent spinner ours nobody (f (record (one_more e) { polled = true })) refl untasked refl refl (refl, (refl, refl))
+      either c f (d.polled || is_full (ring_size c) e) e (record (one_more e) { polled = true })
+      (λ h. goes k me base bare x untasked unsent spinner (f e) refl untasked refl refl (refl, (refl, refl)) (staging_plain v (enters c 0 v me s e))) (λ h. goes k me base bare x untasked unsent spinner (f (record (one_more e) { polled = true })) refl untasked refl refl (refl, (refl, refl))
       (staging_plain v (enters c 0 v me s (record (one_more e) { polled = true }))))
 
-  enters_last : (b : Bool) → (seat_of s 0).busy ≡ b → To k me base bare x untasked unsent spinner ours nobody (at.Service step.EnterLast v)
+  enters_last : (b : Bool) → (seat_of s 0).busy ≡ b → To k me base bare x untasked unsent spinner (at.Service step.EnterLast v)
   enters_last b is =
-      by_move k me base bare x untasked unsent spinner ours nobody (move_at c 0 me s (stands (at.Service step.EnterLast v) d) (emptied x) (at.Service step.EnterLast v))
+      by_move k me base bare x untasked unsent spinner (move_at c 0 me s (stands (at.Service step.EnterLast v) d) (emptied x) (at.Service step.EnterLast v))
       (with_ring 0 (emptied x) (enters_ring v me (stands (at.Service step.EnterLast v) d) (here b (seat_of s 0).landed))) (ap (λ set. with_ring 0 (emptied x) (enters_ring v me (stands (at.Service step.EnterLast v) d) (here set (seat_of s 0).landed))) is) (by b)
     where
-      by : (b : Bool) → Leads c me s (with_ring 0 (emptied x) (enters_ring v me (stands (at.Service step.EnterLast v) d) (here b (seat_of s 0).landed)))
-      by true = goes k me base bare x untasked unsent spinner ours nobody (with_ring 0 (emptied x) (enters_ring v me (stands (at.Service step.EnterLast v) d) (here true (seat_of s 0).landed))) refl untasked refl refl (refl, (refl, refl)) refl
-      by false = goes k me base bare x untasked unsent spinner ours nobody (with_ring 0 (emptied x) (enters_ring v me (stands (at.Service step.EnterLast v) d) (here false (seat_of s 0).landed))) refl (taken_settled x untasked d.polled) refl refl (refl, (refl, refl)) refl
+      by : (b : Bool) → Leads c (with_ring 0 (emptied x) (enters_ring v me (stands (at.Service step.EnterLast v) d) (here b (seat_of s 0).landed)))
+      by true = goes k me base bare x untasked unsent spinner (with_ring 0 (emptied x) (enters_ring v me (stands (at.Service step.EnterLast v) d) (here true (seat_of s 0).landed))) refl untasked refl refl (refl, (refl, refl)) refl
+      by false = goes k me base bare x untasked unsent spinner (with_ring 0 (emptied x) (enters_ring v me (stands (at.Service step.EnterLast v) d) (here false (seat_of s 0).landed))) refl (taken_settled x untasked d.polled) refl refl (refl, (refl, refl)) refl
 
   after_it : (b : AfterService) → is_plain (after_service b (stands (at.Service step.EndService v) d)) ≡ true
   after_it back.Mail = chosen (is_empty d.batch) (at.Mail mail.LoadMailWord) (at.Mail (mail.Apply 0 false)) refl refl
   after_it back.Begin = refl
   after_it back.Finish = refl
 
-  ends : (o : Option ℕ) → first_to_fire 0 me s d ≡ o → To k me base bare x untasked unsent spinner ours nobody (at.Service step.EndService v)
+  ends : (o : Option ℕ) → first_to_fire 0 me s d ≡ o → To k me base bare x untasked unsent spinner (at.Service step.EndService v)
   ends None none =
       let e = stands (at.Service step.EndService v) d in
       let n = aside (emptied x) (serves {T = Own} (after_service v.back e) e tt) in
-      by_move k me base bare x untasked unsent spinner ours nobody (move_at c 0 me s e (emptied x) (at.Service step.EndService v)) n (rw none refl) (goes k me base bare x untasked unsent spinner ours nobody n refl untasked refl refl (refl, (refl, refl)) (after_it v.back))
+      by_move k me base bare x untasked unsent spinner (move_at c 0 me s e (emptied x) (at.Service step.EndService v)) n (rw none refl) (goes k me base bare x untasked unsent spinner n refl untasked refl refl (refl, (refl, refl)) (after_it v.back))
   ends (Some z) some =
       let e = stands (at.Service step.EndService v) d in
       let n = aside (emptied x) (does {T = Own} (event.Fire z) (told_of_fire z (sleeper_of s z) e) tt) in
       let same = same_fired z (sleeper_of s z) (nobody.sleepers z).1 e in
       let fired : is_plain (told_of_fire z (sleeper_of s z) e).place ≡ true = rw (nobody.sleepers z).1 refl in
-      by_move k me base bare x untasked unsent spinner ours nobody (move_at c 0 me s e (emptied x) (at.Service step.EndService v)) n (rw some refl)
-      (goes k me base bare x untasked unsent spinner ours nobody n refl untasked same.processed same.spinner (still_calm same (refl, (refl, refl))) fired)
+      by_move k me base bare x untasked unsent spinner (move_at c 0 me s e (emptied x) (at.Service step.EndService v)) n (rw some refl)
+      (goes k me base bare x untasked unsent spinner n refl untasked same.processed same.spinner (still_calm same (refl, (refl, refl))) fired)
 
-  pub services : (p : InService) → is_alone (at.Service p v) ≡ true → passes (at.Service p v) ≡ false → To k me base bare x untasked unsent spinner ours nobody (at.Service p v)
-  services step.Sample alone h = by_place k me base bare x untasked unsent spinner ours nobody (at.Service step.Sample v) refl untasked refl refl (refl, (refl, refl)) refl
+  pub services : (p : InService) → is_alone (at.Service p v) ≡ true → passes (at.Service p v) ≡ false → To k me base bare x untasked unsent spinner (at.Service p v)
+  services step.Sample alone h = by_place k me base bare x untasked unsent spinner (at.Service step.Sample v) refl untasked refl refl (refl, (refl, refl)) refl
   services (step.Reap r) alone h = reaps r (seat_of s 0).landed refl
   services (step.PassPermit file b) alone h = absurd (true≢false h)
   services (step.Signal worker b) alone h = absurd (true≢false h)
   services (step.Raise set worker b) alone h = absurd (false≢true alone)
-  services step.AdvanceWheel alone h = by_place k me base bare x untasked unsent spinner ours nobody (at.Service step.AdvanceWheel v) refl untasked refl refl (refl, (refl, refl)) refl
+  services step.AdvanceWheel alone h = by_place k me base bare x untasked unsent spinner (at.Service step.AdvanceWheel v) refl untasked refl refl (refl, (refl, refl)) refl
   services (step.Submit gate) alone h = submitted gate (due_next c 0 gate me s (stands (at.Service (step.Submit gate) v) d))
   services step.EnterLast alone h = enters_last (seat_of s 0).busy refl
   services step.EndService alone h = ends (first_to_fire 0 me s d) refl

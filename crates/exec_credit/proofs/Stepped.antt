@@ -14,7 +14,7 @@ use Rattle.exec_moves.specs.declared.place.InClosing.TheVariants as closing
 use Rattle.exec_moves.specs.{declared.place.Place.Place, Credit.credit, Move.{move, move_at}, Plays.{Played, Playing, by_action, by_step, credit_of, desk_of, first_desk, last_told, newcomers, with_none_behind}, State.{Desk, Things, Moved, WakePoll, no_wake_poll, one_behind, passed, wake_poll_of}, Thing.set_wake_poll}
 use Rattle.exec_moves.specs.declared.place.Place.TheVariants as at
 use Rattle.exec_credit.specs.{Minds.{Falls, IsUnraised, closes}, Minded.{HasRoot, IsPlain, Lone, Minded, PaidIn, Stood, StoodIn, begins_call, is_start}}
-use Rattle.exec_credit.proofs.{Alone.{HasParts, parts_of, settled_of}, Asking.is_open_of, Fitted.fits, Fitting.cut_of, Cutting.may_sleep, Here.{each_set, plain_still}, Led.leads, Minding.{minds, played, undurable}, Others.{knows_still, landing_entered, landing_open}, Quiet.falls}
+use Rattle.exec_credit.proofs.{Alone.{HasParts, parts_of, settled_of}, Fitted.fits, Here.{each_set, plain_still}, Led.leads, Minding.{minds, played, undurable}, Quiet.falls}
 
 -- there is some room in a ring
 doubled : (k p n : ℕ) → 0 < p → 0 < doubled_up_to k p n
@@ -34,16 +34,16 @@ none_of false h = refl
 
 -- A STEP OF THE WORKER
 
-module _ (c : Configuration) (me : Books) (s : Common) (d : Desk) (x : Things) (stood : Stood me s d x) (root : HasRoot me s d) (minded : Minded c me s d x) where
+module _ (c : Configuration) (me : Books) (s : Common) (d : Desk) (x : Things) (stood : Stood me s d x) (root : HasRoot s d) (minded : Minded c s d x) where
   abbrev did : Moved Things
   did = move c 0 me s d x
 
-  pub minded_then : Minded c (own_after c me s 0 did.event did.choice) (common_after c me s 0 did.event did.choice) did.desk did.thing
+  pub minded_then : Minded c (common_after c me s 0 did.event did.choice) did.desk did.thing
   minded_then =
       let it = leads me c s d x stood root minded in
-      let cut = cut_of (may_sleep d.place) did.event (fits c me s d x stood root minded).0 in
+      let cut = (fits c me s d x stood root minded).0 in
       let asks = undurable c me.sampled (next_word s (polled_task me s)) (played s stood.scripts stood.words (polled_task me s)) in
-      record { workers = minded.workers; lone = it.5; plain = plain_still c me s asks minded.plain did.event did.choice cut; unsent = it.0; unfound = it.2; looks = it.3; spinner = it.1; knows = it.4 }
+      record { workers = minded.workers; lone = it.5; plain = plain_still c me s asks minded.plain did.event did.choice cut; unsent = it.0; unfound = it.2; looks = it.3; spinner = it.1; short = it.4 }
 
   closing_of : (p : WorkerPhase) → is_open p ≡ false → has_ended p ≡ false → is_closing p ≡ true
   closing_of worker.Open shut going = absurd (true≢false shut)
@@ -175,8 +175,8 @@ module _ (c : Configuration) (x : Playing) (stood : StoodIn c x) (desks : is_emp
       let own_then = own_of (by_action c x (action.Work 0)).next.world 0 in
       let awake = and_parts (is_awake (seat_of s 0).rest && not (has_ended (seat_of s 0).phase)) (not (is_held s (seat_of s 0))) may in
       let going = none_of (has_ended (seat_of s 0).phase) (and_parts (is_awake (seat_of s 0).rest) (not (has_ended (seat_of s 0).phase)) awake.0).1 in (
-        subst (λ (e : Desk). Minded c own_then (common_after c me s 0 m.event m.choice) e m.thing) (sym here)
-            (subst (λ (own : Books). Minded c own (common_after c me s 0 m.event m.choice) m.desk m.thing) (sym same) (minded_then c me s d x.things stood.here stood.root minded)),
+        subst (λ (e : Desk). Minded c (common_after c me s 0 m.event m.choice) e m.thing) (sym here)
+            (minded_then c me s d x.things stood.here stood.root minded),
         λ quiet. let parts = and_parts (is_quiet m.event) (not (is_anyone_closing x.world)) quiet in
             subst (λ (e : Desk). credit c 0 own_then (common_after c me s 0 m.event m.choice) e m.thing < credit_of c x) (sym here)
             (subst (λ (own : Books). credit c 0 own (common_after c me s 0 m.event m.choice) m.desk m.thing < credit_of c x) (sym same)
@@ -188,7 +188,7 @@ module _ (c : Configuration) (x : Playing) (stood : StoodIn c x) (desks : is_emp
       nobody (seat ∷ seats) one none = (or_parts (is_closing seat.phase) (list_any (λ seat. is_closing seat.phase) seats) none).0
 
   -- where requests and their worker's part stay
-  beside : (s' : Common) (e : Desk) → s'.requests ≡ x.world.common.requests → s'.sleepers ≡ x.world.common.sleepers → Minded c (own_of x.world 0) x.world.common e x.things → Minded c (own_of x.world 0) s' e x.things
+  beside : (s' : Common) (e : Desk) → s'.requests ≡ x.world.common.requests → s'.sleepers ≡ x.world.common.sleepers → Minded c x.world.common e x.things → Minded c s' e x.things
   beside s' e same naps it =
       record {
         workers = it.workers;
@@ -198,13 +198,11 @@ module _ (c : Configuration) (x : Playing) (stood : StoodIn c x) (desks : is_emp
         unfound = it.unfound;
         looks = it.looks;
         spinner = it.spinner;
-        knows =
-            knows_still c (own_of x.world 0) x.world.common s' e e refl refl (ap (λ rs. list_any (is_open_of 0) rs) same)
-            (λ known. record { untold = rw same known.untold; staged = λ r. rw same (known.staged r) }) e.place it.knows;
+        short = it.short;
       }
 
   lands : (r : ℕ) (n : OpResult) → is_flying (request_of x.world.common r).phase ≡ true
-      → Minded c (own_of x.world 0) (after_landing x.world.common r n) (record (desk_of c x 0) { others = 0 })
+      → Minded c (after_landing x.world.common r n) (record (desk_of c x 0) { others = 0 })
       (set_wake_poll 0 x.things (passed (wake_poll_of x.things 0)))
   lands r n flies =
       record {
@@ -217,9 +215,7 @@ module _ (c : Configuration) (x : Playing) (stood : StoodIn c x) (desks : is_emp
         unfound = minded.unfound;
         looks = minded.looks;
         spinner = minded.spinner;
-        knows =
-            knows_still c (own_of x.world 0) x.world.common (after_landing x.world.common r n) (desk_of c x 0) (record (desk_of c x 0) { others = 0 }) refl refl
-            (landing_open x.world.common r n flies) (landing_entered x.world.common r n flies (own_of x.world 0)) (desk_of c x 0).place minded.knows;
+        short = minded.short;
       }
     where
       s : Common
@@ -238,7 +234,7 @@ module _ (c : Configuration) (x : Playing) (stood : StoodIn c x) (desks : is_emp
   by_party (action.Wake j t) inside may follows = absurd (true≢false inside)
   by_party (action.GoOn j) inside may follows = absurd (false≢true (sym (none_half x.world.common.callers stood.callers j) ∙ may))
   by_party (action.Clock d) inside may follows = (beside (after_clock x.world.common d) (desk_of c x 0) refl refl minded, λ quiet. absurd (false≢true quiet))
-  by_party (action.Land r n) inside may follows = (landed_desk c x desks r (stood.here.ours r) (λ (e : Desk) (y : Things). Minded c (own_of x.world 0) (after_landing x.world.common r n) e y) (lands r n (and_parts (is_flying (request_of x.world.common r).phase) (is_lawful (window_of (asked_of (request_of x.world.common r).operation) (cursor_of (request_of x.world.common r).operation)) n) may).0), λ quiet. absurd (false≢true quiet))
+  by_party (action.Land r n) inside may follows = (landed_desk c x desks r (stood.here.ours r) (λ (e : Desk) (y : Things). Minded c (after_landing x.world.common r n) e y) (lands r n (and_parts (is_flying (request_of x.world.common r).phase) (is_lawful (window_of (asked_of (request_of x.world.common r).operation) (cursor_of (request_of x.world.common r).operation)) n) may).0), λ quiet. absurd (false≢true quiet))
   by_party (action.SetBusy i) inside may follows = (beside (set_seat x.world.common i (record (seat_of x.world.common i) { busy = true })) (desk_of c x 0) refl refl minded, λ quiet. absurd (false≢true quiet))
   by_party (action.EndPoll i) inside may follows = (
     record {
@@ -249,7 +245,7 @@ module _ (c : Configuration) (x : Playing) (stood : StoodIn c x) (desks : is_emp
       unfound = minded.unfound;
       looks = minded.looks;
       spinner = minded.spinner;
-      knows = minded.knows;
+      short = minded.short;
     },
     λ quiet. absurd (false≢true quiet),
   )

@@ -6,7 +6,7 @@ use Rattle.std.proofs.lemmas.List.{get_or-set_other, get_or_past, length-set, le
 use Rattle.std.proofs.lemmas.List.Sums.{sum_by-set, sum_by-append, sum_by-cons}
 use Rattle.std.specs.Prelude.{nat_lt, slice_get}
 use Rattle.exec_outcomes.specs.{declared.outcome.{Outcome.{Outcome, TheVariants.Failure}, OpResult.OpResult, Kind.Kind}, Outcomes.refuses_hint}
-use Rattle.exec_machine.specs.{declared.{config.Configuration.Configuration, event.Event.Event, state.{Next.Next, Request.Request, RequestPhase.RequestPhase}}, After.{common_after, polled}, Allowed.allowed, Choice.{Choice, Choice.{Plain, Passes, Pays, Posts}, Payer.{ByRequest, BySleeper, ByAct, ByCall, ByStop}}, Requests.{dropped, ends_by_drop, flown, is_cancelled_by_drop, reaped, resolved, account_of_open, after_reap, asked_now, granted, new_request, resolved_if, staged, with_seen, judged_of}, Tests.{AllTrue, is_queued, is_resolved, is_staged, set_task, waits_for_nothing, is_gated, set_request, set_sleeper, set_open}, World.{Own as Books, Common, Task, no_request, no_task, request_of, task_of, sleeper_of, open_of}, Closing.after_next, Same.{is_number, same_end}, Tasks.{after_got, after_over, after_taking, pended_phase, requests_after_drops, without_newest, after_drop, after_wait, after_waking_word, begun, waits_for, wake, woken}, Words.{moved_on, newest_held, polled_task, asks_yield, next_word}, Deadlines.{enrolled, expired, fires_at}}
+use Rattle.exec_machine.specs.{declared.{config.Configuration.Configuration, event.Event.Event, state.{Next.Next, Request.Request, RequestPhase.RequestPhase}}, After.{common_after, polled}, Allowed.allowed, Choice.{Choice, Choice.{Plain, Passes, Pays, Posts}, Payer.{ByRequest, BySleeper, ByAct, ByCall, ByStop}}, Requests.{dropped, ends_by_drop, flown, is_cancelled_by_drop, reaped, resolved, account_of_open, after_reap, asked_now, granted, new_request, resolved_if, staged, with_seen, judged_of}, Tests.{AllTrue, is_gated, is_landed_with, is_queued, is_resolved, is_staged, set_open, set_request, set_sleeper, set_task, waits_for_nothing}, World.{Own as Books, Common, Task, no_request, no_task, request_of, task_of, sleeper_of, open_of}, Closing.after_next, Same.{is_number, same_end}, Tasks.{after_got, after_over, after_taking, pended_phase, requests_after_drops, without_newest, after_drop, after_wait, after_waking_word, begun, waits_for, wake, woken}, Words.{moved_on, newest_held, polled_task, asks_yield, next_word}, Deadlines.{enrolled, expired, fires_at}}
 use Rattle.exec_machine.specs.declared.event.Event.TheVariants as event
 use Rattle.exec_machine.specs.declared.state.Next.TheVariants as next
 use Rattle.exec_machine.specs.declared.state.RequestPhase.TheVariants as phase
@@ -16,7 +16,25 @@ use Rattle.exec_machine.specs.declared.state.Waiting.TheVariants as waiting
 use Rattle.std.proofs.lemmas.List.{length-map}
 use Rattle.std.specs.Prelude.{unwrap_or}
 use Rattle.exec_credit.specs.Minded.{open_count}
-use Rattle.exec_credit.proofs.{Cutting.{gains, is_cut, one_if_some}, Listing.{landed_open, queued_open}}
+use Rattle.exec_credit.proofs.Cutting.{gains, is_cut, one_if_some}
+
+-- PHASES
+
+queued_open : (p : RequestPhase) → is_queued p ≡ true → is_resolved p ≡ false
+queued_open phase.Queued h = refl
+queued_open phase.Gated h = absurd (false≢true h)
+queued_open phase.Staged h = absurd (false≢true h)
+queued_open phase.Flying h = absurd (false≢true h)
+queued_open (phase.Landed n) h = absurd (false≢true h)
+queued_open (phase.Resolved o) h = absurd (false≢true h)
+
+landed_open : (n : OpResult) (p : RequestPhase) → is_landed_with n p ≡ true → is_resolved p ≡ false
+landed_open n (phase.Landed m) h = refl
+landed_open n phase.Queued h = absurd (false≢true h)
+landed_open n phase.Gated h = absurd (false≢true h)
+landed_open n phase.Staged h = absurd (false≢true h)
+landed_open n phase.Flying h = absurd (false≢true h)
+landed_open n (phase.Resolved o) h = absurd (false≢true h)
 
 gated_open : (p : RequestPhase) → is_gated p ≡ true → is_resolved p ≡ false
 gated_open phase.Gated h = refl

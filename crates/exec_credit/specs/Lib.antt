@@ -1,2 +1,3 @@
 pub mod Minds
+pub mod CallCredit
 pub mod Minded

@@ -8,7 +8,8 @@ use Rattle.exec_words.specs.declared.word.WaitTarget.TheVariants as target
 use Rattle.exec_machine.specs.declared.step.Action.TheVariants as action
 use Rattle.exec_machine.specs.{declared.{config.Configuration.Configuration, event.Event.TheVariants.{Rouse, Sleep}}, Callers.{is_enabled, is_held}, Tests.{has_ended, is_awake, is_empty}, World.{Common, Own as Books, Seat, no_seat, own_of, seat_of}}
 use Rattle.exec_moves.specs.{declared.{idling.{AfterWait.AfterWait, InRingWait.InRingWait, InWordWait.InWordWait}, place.Place.Place}, Claim.is_ring, Plays.{Playing, by_move, desk_of, first_desk}, Serve.Ring, State.{Desk, Moved, Things, WakePoll, raised, told_once, word_of, wake_poll_of}, Thing.ring_of, Wait.has_completion}
-use Rattle.exec_rest.specs.Places.{Raising, asked_for_poll, is_abed, is_none, is_to_enter, is_to_sleep_on_ring, raises, waits_on}
+use Rattle.exec_machine.specs.Same.{is_none}
+use Rattle.exec_rest.specs.Places.{Raising, asked_for_poll, is_abed, is_to_enter, is_to_sleep_on_ring, raises, waits_on}
 use Rattle.exec_rest.specs.Rested.{IsLaidOut, IsRaised, IsRestful, Someone.{Worker, Caller}, is_latched, is_told, place_at, poll_at, ring_at, sleeps}
 use Rattle.exec_rest.proofs.Heeds.{Heeds, Rings, ring_after}
 use Rattle.exec_rest.proofs.Frames.{asleep_after, desk_other, desk_own, landed_own, landed_same}

@@ -4,7 +4,8 @@ use Rattle.std.proofs.lemmas.Bool.{true≢false, false≢true}
 use Rattle.exec_words.specs.Idle.{is_in}
 use Rattle.exec_machine.specs.{declared.event.Event.{Event, TheVariants.{Dedicated, End, Reap, Sleep}}, World.{Common, seat_of}}
 use Rattle.exec_moves.specs.{declared.place.Place.Place, State.{Desk, Moved, Things, word_of, wake_poll_of}, Thing.{puts, ring_of}}
-use Rattle.exec_rest.specs.Places.{is_none, owes, owes_nothing, raises, signals}
+use Rattle.exec_machine.specs.Same.{is_none}
+use Rattle.exec_rest.specs.Places.{owes, owes_nothing, raises, signals}
 use Rattle.exec_rest.proofs.Heeds.{Heeds, Rings, landed_after, ring_after}
 use Rattle.exec_rest.proofs.Plain.{Aside, Calm, calm, is_calm, is_mute}
 use Rattle.exec_rest.proofs.Continuing.{Nearly, near_calm}

@@ -152,14 +152,14 @@ module _ (c : Configuration) (x y : Playing) (beside : Beside c x y) where
 -- OF LISTS
 
 -- each element stays as it is, or as it were
-set_like : {X : Type 0} (R : X → X → Type 0) → ((a : X) → R a a) → (xs : List X) (i j : ℕ) (z d : X) → R (get_or xs i d) z → R (get_or xs j d) (get_or (set xs i z) j d)
+pub set_like : {X : Type 0} (R : X → X → Type 0) → ((a : X) → R a a) → (xs : List X) (i j : ℕ) (z d : X) → R (get_or xs i d) z → R (get_or xs j d) (get_or (set xs i z) j d)
 set_like R same [] i j z d h = same d
 set_like R same (a ∷ xs) zero zero z d h = h
 set_like R same (a ∷ xs) zero (suc j) z d h = same (get_or xs j d)
 set_like R same (a ∷ xs) (suc i) zero z d h = same a
 set_like R same (a ∷ xs) (suc i) (suc j) z d h = set_like R same xs i j z d h
 
-map_like : {X : Type 0} (R : X → X → Type 0) (f : X → X) (d : X) → R d d → ((a : X) → R a (f a)) → (xs : List X) (j : ℕ) → R (get_or xs j d) (get_or (map f xs) j d)
+pub map_like : {X : Type 0} (R : X → X → Type 0) (f : X → X) (d : X) → R d d → ((a : X) → R a (f a)) → (xs : List X) (j : ℕ) → R (get_or xs j d) (get_or (map f xs) j d)
 map_like R f d past each [] j = past
 map_like R f d past each (a ∷ xs) zero = each a
 map_like R f d past each (a ∷ xs) (suc j) = map_like R f d past each xs j

@@ -6,7 +6,8 @@ use Rattle.std.specs.List.{list_all}
 use Rattle.exec_machine.specs.{declared.config.Configuration.Configuration, Callers.{is_half_done, may_go_on}, Progress.{all_asleep, is_down}, Tests.{has_ended, is_awake, is_open}, World.{no_seat, seat_of}}
 use Rattle.exec_machine.specs.declared.state.Call.TheVariants as call
 use Rattle.exec_moves.specs.{declared.{handing.CallPlace.CallPlace, idling.Stay.Stay, place.Place.Place}, Plays.{Playing, caller_of}}
-use Rattle.exec_rest.specs.{AtRest.{IsPlaced, stays_closing}, Places.{call_owes, call_raises, call_signals, has_looked, is_abed, is_dry, is_in_call, is_none, is_published, is_withdrawing, owes, owes_nothing, raises, signals}, Rested.{IsLaidOut, IsOwed, IsPoolOpen, IsRaised, IsRestful, IsSignalled, NothingWaits, Someone, has_bit, is_in_pool, is_latched, place_at, sleeps}}
+use Rattle.exec_machine.specs.Same.{is_none}
+use Rattle.exec_rest.specs.{AtRest.{IsPlaced, stays_closing}, Places.{call_owes, call_raises, call_signals, has_looked, is_abed, is_dry, is_in_call, is_published, is_withdrawing, owes, owes_nothing, raises, signals}, Rested.{IsLaidOut, IsOwed, IsPoolOpen, IsRaised, IsRestful, IsSignalled, NothingWaits, Someone, has_bit, is_in_pool, is_latched, place_at, sleeps}}
 
 -- a test that all in a list pass, and what stands past its end
 all_at : {X : Type 0} (test : X → Bool) (d : X) → test d ≡ true → (xs : List X) → list_all test xs ≡ true → (i : ℕ) → test (get_or xs i d) ≡ true

@@ -7,7 +7,8 @@ use Rattle.exec_words.specs.Idle.{is_in}
 use Rattle.exec_words.specs.declared.word.WaitTarget.TheVariants as target
 use Rattle.exec_machine.specs.{declared.event.Event.{Event, TheVariants.{Dedicated, End, Reap, Rouse, Sleep}}, Tests.{is_awake, is_empty}, World.{Common, seat_of}}
 use Rattle.exec_moves.specs.{declared.place.Place.Place, Callback.is_of_pool, Claim.is_ring, State.{Desk, Moved, Things, WakePoll, queue_of, word_of, wake_poll_of, raised}, Thing.ring_of}
-use Rattle.exec_rest.specs.Places.{has_looked, is_abed, is_dry, is_none, is_pooled, is_published, is_withdrawing, owes, raises, signals, waits_on}
+use Rattle.exec_machine.specs.Same.{is_none}
+use Rattle.exec_rest.specs.Places.{has_looked, is_abed, is_dry, is_pooled, is_published, is_withdrawing, owes, raises, signals, waits_on}
 use Rattle.exec_rest.proofs.Heeds.{Heeds, Rings, landed_after, ring_after}
 use Rattle.exec_rest.proofs.{Continuing.{Nearly}, Plain.is_mute}
 

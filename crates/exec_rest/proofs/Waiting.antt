@@ -7,7 +7,8 @@ use Rattle.exec_words.specs.{Idle.is_in, Queue.Queue, Word.is_armed, declared.wo
 use Rattle.exec_words.specs.declared.word.WaitTarget.TheVariants as target
 use Rattle.exec_machine.specs.{declared.event.Event.{Event, TheVariants.{Dedicated, End, Sleep}}, World.{Common, seat_of}}
 use Rattle.exec_moves.specs.{declared.place.Place.Place, Callback.is_of_pool, State.{Desk, Moved, Things, no_queue, queue_of, word_of, wake_poll_of}, Thing.{ring_of, set_idle, set_queue}}
-use Rattle.exec_rest.specs.Places.{asked_for_poll, has_looked, is_dry, is_none, is_pooled, is_published, is_to_enter, is_to_sleep_on_ring, owes, owes_nothing, raises, signals, waits_on}
+use Rattle.exec_machine.specs.Same.{is_none}
+use Rattle.exec_rest.specs.Places.{asked_for_poll, has_looked, is_dry, is_pooled, is_published, is_to_enter, is_to_sleep_on_ring, owes, owes_nothing, raises, signals, waits_on}
 use Rattle.exec_rest.proofs.{Heeds.{Heeds, Rings, landed_after, ring_after}, Plain.{Aside, Calm, calm, is_calm, is_mute}}
 
 -- BOOLS

@@ -1,5 +1,6 @@
 -- What is known of a worker or a caller by its place, as far as others rely on it to look again, or are owed a signal.
 use Rattle.std.specs.Prelude.{ℕ, Bool, true, false, not, ◌&&◌, Option, Some, None}
+use Rattle.exec_machine.specs.Same.{is_none}
 use Rattle.exec_words.specs.declared.word.WaitTarget.{WaitTarget}
 use Rattle.exec_words.specs.declared.word.WaitTarget.TheVariants as target
 use Rattle.exec_moves.specs.declared.{handing.{AfterClaim.AfterClaim, CallPlace.CallPlace, InGlobal.InGlobal, InSignal.InSignal}, idling.{AfterWait.AfterWait, InLook.InLook, InRingWait.InRingWait, InWordWait.InWordWait, Stay.Stay}, place.{InLoads.InLoads, InService.InService, Place.Place, Round.Round}}
@@ -110,10 +111,6 @@ owes (Place.Global InGlobal.LoadGlobalSet b) = true
 owes (Place.Global (InGlobal.AddGlobalCount set) b) = true
 owes (Place.ClaimWorker set (AfterClaim.Global b)) = true
 owes _ = false
-
-abbrev pub is_none : {T : Type 0} → Option T → Bool
-is_none None = true
-is_none (Some a) = false
 
 abbrev pub owes_nothing : Place → Bool
 owes_nothing p = is_none (signals p) && is_none (raises p) && not (owes p)

@@ -54,7 +54,7 @@ module _ (c : Configuration) (x : Playing) where
   abbrev pub poll_at : ℕ → WakePoll
   poll_at i = wake_poll_of x.things i
 
-  -- LISTS AND NUMBERS: each worker has one of each thing, and the workers of the pool come first
+  -- LISTS AND NUMBERS: each worker has one of each thing; worker zero is of the pool, whose numbers are those of the idle set
   pub record IsLaidOut : Type 0 where
     pub desks : length x.desks ≡ length x.world.common.seats
     pub queues : length x.things.queues ≡ length x.world.common.seats

@@ -1,5 +1,7 @@
 pub mod Told
 pub mod StepLemmas
+pub mod Leads
+pub mod CallsEnd
 pub mod Logs
 pub mod RunLemmas
 pub mod ReadLemmas

@@ -1,45 +1,14 @@
 -- Steps that are taken one by one, each paid for, are the log of their trace.
-use Rattle.std.proofs.Common.{◌≡◌, ◌<◌, true, false, List, [], ◌∷◌, All, Some, refl, sym, ap, subst, ◌∙◌, inl, inr, arith}
-use Rattle.std.proofs.lemmas.{Bool.cases_Bool, List.Elements.All-tail}
-use Rattle.exec_machine.specs.{declared.{config.Configuration.Configuration, step.{Step.Step, Action.Action}, event.{StepResult.TheVariants.Refused, Line.Line}}, World.World, Callers.is_enabled, Run.{RunsBy, after_line, after_steps}, Progress.{Plan, quiet_bound, is_solo, no_stretch, IsLogOf, Party, IsRightlyAsleep, RightlyAsleepBy}, Credited.{Standing, Account, choices_of as accounted, IsPaid, GoesBy}, Examples.{Told, choices_of, lines_of}}
-use Rattle.exec_machine.specs.declared.step.Action.TheVariants as action
-use Rattle.exec_moves.specs.Plays.{Playing, by_action, by_step, first_playing, credit_of, GoesByMoves}
+use Rattle.std.proofs.Common.{◌≡◌, ◌<◌, true, false, List, [], ◌∷◌, All, Some, refl, sym, ap, subst, ◌∙◌, inl, arith}
+use Rattle.std.proofs.lemmas.{List.Elements.All-tail}
+use Rattle.exec_machine.specs.{declared.{config.Configuration.Configuration, step.{Step.Step}, event.{Line.Line}}, World.World, Run.{RunsBy, after_steps}, Progress.{Plan, quiet_bound, is_solo, no_stretch, IsLogOf, Party, IsRightlyAsleep, RightlyAsleepBy}, Credited.{Standing, Account, choices_of as accounted, IsPaid, GoesBy}, Examples.{Told, choices_of, lines_of}}
+use Rattle.exec_moves.specs.Plays.{Playing, by_step, first_playing, credit_of, GoesByMoves}
 use Rattle.exec_credit.specs.Minded.{begins_call, is_played}
-use Rattle.exec_core.{specs.{Lift.{IsFair, IsMinded, Pays}, Turns.IsOrderly}, proofs.Runnable.at_rest}
-use Rattle.exec_rest.{specs.{AtRest.{AreBare, AreFresh, IsPlaced, IsShut}, Posted.IsPosted, Rested.IsRestful}, proofs.{Bare.{bare_first, bare_goes_on}, First.first_restful, Fresh.{fresh_first, fresh_goes_on}, OtherMail.first_posted, Shut.{shut_first, shut_goes_on}, Step.{goes_on, posted_goes_on}}}
+use Rattle.exec_core.specs.{Lift.{IsFair, IsMinded, Pays}, Steady.IsSteadyThere, Turns.IsOrderly}
 use Rattle.exec_run.specs.{Log.{AreOrderly, AreResting, IsOfOne, IsTheLogOf}, Steps.{IsStep, Goes, standing, accounts_of}}
-
--- WHERE A STEP LEADS
-
-acted : (c : Configuration) (x : Playing) (a : Action) → (by_action c x a).next.world ≡ after_line c x.world a (by_action c x a).told.0.said (by_action c x a).told.1
-acted c x (action.Work i) = refl
-acted c x _ = refl
-
-does_something : (c : Configuration) (x : Playing) (a : Action) → (by_action c x a).told.0.said ≡ Refused → ⊥
-does_something c x (action.Work i) e = cc
-does_something c x _ e = cc
-
-stepped : (c : Configuration) (x : Playing) (a : Action) → (by_step c x a).next.world ≡ after_line c x.world a (by_step c x a).told.0.said (by_step c x a).told.1
-stepped c x a =
-    elim (cases_Bool (is_enabled x.world.common a)) [
-      | inl on ↦ rw on (acted c x a)
-      | inr off ↦ rw off refl
-    ]
-
-stays : (c : Configuration) (x : Playing) (a : Action) → (by_step c x a).told.0.said ≡ Refused → (by_step c x a).next ≡ x
-stays c x a =
-    elim (cases_Bool (is_enabled x.world.common a)) [
-      | inl on ↦ rw on (λ refused. absurd (does_something c x a refused))
-      | inr off ↦ rw off (λ refused. refl)
-    ]
+use Rattle.exec_run.proofs.{CallsEnd.call_by, Leads.{leads_there, stays}}
 
 -- FROM STEP TO STEP
-
-leads_there : (p : Plan) (x : Playing) (it : Told) → IsStep p x it → (by_step p.config x it.0.action).next.world ≡ after_line p.config x.world it.0.action it.0.said it.1
-leads_there p x it step =
-    let c = p.config in
-    let a = it.0.action in
-    stepped c x a ∙ ap (λ (t : Told). after_line c x.world a t.0.said t.1) (sym step.tells)
 
 by_moves : (p : Plan) (x : Playing) (told : List Told) → Goes p x told → GoesByMoves p.config x told
 by_moves p x [] goes = tt
@@ -59,15 +28,17 @@ orderly_by : (p : Plan) (x : Playing) (told : List Told) → IsOrderly x → Goe
 orderly_by p x [] orderly goes = orderly
 orderly_by p x (it ∷ told) orderly goes = (orderly, orderly_by p (by_step p.config x it.0.action).next told goes.0.orderly goes.1)
 
--- where all sleep in one of them nothing is left to be run
-rests_by : (p : Plan) (x : Playing) (told : List Told) → IsPlaced p.config x → IsOrderly x → IsRestful p.config x → AreBare p.config x → IsPosted p.config x → IsShut x → AreFresh x → Goes p x told → AreResting p.config x told
-rests_by p x [] placed orderly restful bare posted shut fresh goes = at_rest p.config x placed restful bare posted shut fresh orderly.once
-rests_by p x (it ∷ told) placed orderly restful bare posted shut fresh goes =
-    let c = p.config in
-    let a = it.0.action in (
-      at_rest c x placed restful bare posted shut fresh orderly.once,
-      rests_by p (by_step c x a).next told goes.0.placed goes.0.orderly (goes_on c x placed.laid restful a) (bare_goes_on c x placed.laid placed.feeds bare a)
-          (posted_goes_on c x placed.laid restful posted a) (shut_goes_on c x shut a) (fresh_goes_on c x fresh a) goes.1,
+-- where all sleep in one of them nothing is left to be run, and nobody sleeps on work
+rests_by : (p : Plan) (x : Playing) (told : List Told) → IsSteadyThere p.config x → Goes p x told → AreResting p.config x told
+rests_by p x [] there goes = there.rests.rests
+rests_by p x (it ∷ told) there goes = (there.rests.rests, rests_by p (by_step p.config x it.0.action).next told (goes.0.rests there.steady) goes.1)
+
+asleep_by : (p : Plan) (x : Playing) (told : List Told) → IsSteadyThere p.config x → Goes p x told → RightlyAsleepBy p.config x.world (lines_of told) (choices_of told)
+asleep_by p x [] there goes = there.rests.asleep
+asleep_by p x (it ∷ told) there goes =
+    let next = (by_step p.config x it.0.action).next in (
+      there.rests.asleep,
+      subst (λ (w : World). RightlyAsleepBy p.config w (lines_of told) (choices_of told)) (leads_there p x it goes.0) (asleep_by p next told (goes.0.rests there.steady) goes.1),
     )
 
 -- ONE WORKER ALONE
@@ -107,7 +78,7 @@ pub record PaidIsRun : Type 0 where
 -- what an executor begins with, and one worker alone
 pub record BeginsWell (p : Plan) : Type 0 where
   pub orderly : IsOrderly (first_playing p)
-  pub placed : IsPlaced p.config (first_playing p)
+  pub rests : IsSteadyThere p.config (first_playing p)
   pub minded : p.config.workers ≡ 1 → p.scripts ≡ [] → All (λ w. is_played w ≡ true) p.root → IsMinded p (first_playing p)
   pub fair : p.config.workers ≡ 1 → IsFair p.config (first_playing p)
 
@@ -131,6 +102,8 @@ is_the_log law p steps told begins has_lines goes =
       runs = runs_by p (first_playing p) told goes;
       plays = record { has_lines = has_lines; moves = by_moves p (first_playing p) told goes };
       orderly = orderly_by p (first_playing p) told begins.orderly goes;
-      rests = rests_by p (first_playing p) told begins.placed begins.orderly (first_restful p) (bare_first p) (first_posted p) (shut_first p) (fresh_first p) goes;
+      rests = rests_by p (first_playing p) told begins.rests goes;
+      asleep = asleep_by p (first_playing p) told begins.rests goes;
+      calls = call_by p (first_playing p) no_stretch told (inl refl) goes;
       alone = is_log law p steps told begins has_lines goes;
     }

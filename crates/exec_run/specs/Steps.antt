@@ -6,8 +6,7 @@ use Rattle.exec_machine.specs.{declared.{config.Configuration.Configuration, eve
 use Rattle.exec_credit.specs.Minded.{begins_call}
 use Rattle.exec_moves.specs.{Plays.{Playing, by_step, credit_of}, Departures.played}
 use Rattle.exec_parts.specs.Spots.{Spot}
-use Rattle.exec_core.specs.{declared.executor.Core.Core, Lift.{IsMinded, IsReady, Pays, Shows}, Turns.IsOrderly}
-use Rattle.exec_rest.specs.AtRest.{IsPlaced}
+use Rattle.exec_core.specs.{declared.executor.Core.Core, Lift.{IsMinded, IsReady, Pays, Shows}, Steady.{IsSteady, IsSteadyThere}, Turns.IsOrderly}
 use Rattle.exec_text.specs.Grammar.{Meaning}
 use Rattle.exec_run.specs.{declared.{trace_error.TraceError.{TraceError, TheVariants.{ReadFault, TooLong, Syntax, Config, WriteFault, NoMemory}}, complaint.Complaint.Complaint}, Refusal.status_of, Explains.complaint_line, Log.{Gave, GaveFront, GaveFrontOfLog, AreTaken, told_text}}
 
@@ -32,13 +31,13 @@ whole_line l = text_of_line l ++ 10 ∷ []
 abbrev pub told_of_line : Bool → Line → List ℕ
 told_of_line quiet l = text_of_log (told_lines quiet (l ∷ []))
 
--- A line, with what it leaves open, is what its step tells: it follows in the machine, to an orderly state, in which each party is where it may be; and of
--- one worker alone a quiet line costs credit, and then there is less credit than the bound and no worker sleeps on work.
+-- A line, with what it leaves open, is what its step tells: it follows in the machine, to an orderly state; it keeps what each state
+-- has, so that nobody sleeps on work; and of one worker alone a quiet line costs credit, of which there is less than the bound.
 pub record IsStep (p : Plan) (x : Playing) (it : Told) : Type 0 where
   pub tells : it ≡ (by_step p.config x it.0.action).told
   pub follows : Follows p.config x.world it.0.action it.0.said it.1
   pub orderly : IsOrderly (by_step p.config x it.0.action).next
-  pub placed : IsPlaced p.config (by_step p.config x it.0.action).next
+  pub rests : IsSteady p.config x → IsSteadyThere p.config (by_step p.config x it.0.action).next
   pub pays : begins_call it.0.action ≡ false → IsMinded p x → Pays p x it.0.action it.0
 
 -- so is each of these, one after another

@@ -1,5 +1,5 @@
 use Rattle.std.proofs.Common.{All, length, refl, sym, subst}
-use Rattle.exec_core.proofs.{InTurn.{orderly}, Placed.{are_placed}}
+use Rattle.exec_core.proofs.InTurn.{orderly}
 use Rattle.exec_moves.specs.Plays.{first_playing}
 use Rattle.exec_text.specs.Grammar.{StepFits, StepNames, meaning_of}
 use Rattle.exec_run.specs.{Asking.limits_of, Script.{IsProgram, Runs, held_told, itself, spot_told, words_of_all}, Steps.StandsAt}
@@ -40,7 +40,7 @@ returns-in_err-take_steps-clause-front g c =
     let law : PaidIsRun = record { runs = c.paid_lines_are_runs.ensures.runs; solo = c.paid_lines_are_runs.ensures.solo; asleep = c.paid_lines_are_runs.ensures.asleep } in
     let begins : BeginsWell m.plan = record {
       orderly = orderly itself Runs held_told spot_told m.plan c.in_ok-core.core (first_playing m.plan) stands.ready.stands stands.shows;
-      placed = are_placed itself Runs held_told spot_told m.plan c.in_ok-core.core (first_playing m.plan) stands.ready.stands stands.shows m.plan.config;
+      rests = c.in_ok-core.ensures.rests m.plan is;
       minded = c.in_ok-core.ensures.minded m.plan is;
       fair = first_fair m.plan;
     } in
@@ -62,7 +62,7 @@ returns-clause-ok g c =
     let law : PaidIsRun = record { runs = c.paid_lines_are_runs.ensures.runs; solo = c.paid_lines_are_runs.ensures.solo; asleep = c.paid_lines_are_runs.ensures.asleep } in
     let begins : BeginsWell m.plan = record {
       orderly = orderly itself Runs held_told spot_told m.plan c.in_ok-core.core (first_playing m.plan) stands.ready.stands stands.shows;
-      placed = are_placed itself Runs held_told spot_told m.plan c.in_ok-core.core (first_playing m.plan) stands.ready.stands stands.shows m.plan.config;
+      rests = c.in_ok-core.ensures.rests m.plan is;
       minded = c.in_ok-core.ensures.minded m.plan is;
       fair = first_fair m.plan;
     } in
@@ -84,7 +84,7 @@ returns-clause-front g c =
     let law : PaidIsRun = record { runs = c.paid_lines_are_runs.ensures.runs; solo = c.paid_lines_are_runs.ensures.solo; asleep = c.paid_lines_are_runs.ensures.asleep } in
     let begins : BeginsWell m.plan = record {
       orderly = orderly itself Runs held_told spot_told m.plan c.in_ok-core.core (first_playing m.plan) stands.ready.stands stands.shows;
-      placed = are_placed itself Runs held_told spot_told m.plan c.in_ok-core.core (first_playing m.plan) stands.ready.stands stands.shows m.plan.config;
+      rests = c.in_ok-core.ensures.rests m.plan is;
       minded = c.in_ok-core.ensures.minded m.plan is;
       fair = first_fair m.plan;
     } in

@@ -1,6 +1,6 @@
 use Rattle.std.proofs.Common.{◌≡◌, ◌≤◌, ◌++◌, ◌∷◌, [], replicate, length, false, refl, sym, ap, subst, ◌∙◌, arith}
 use Rattle.exec_core.specs.{Configs.configuration_of, Firsts.{AllBegin, IsFirst}}
-use Rattle.exec_core.proofs.{Beginning.free_caller, CoreFirsts.with_store, Powers.in_range, Started.{first_minded, first_ready, first_shown, free_many, one_more_free}}
+use Rattle.exec_core.proofs.{Beginning.free_caller, CoreFirsts.with_store, Powers.in_range, Steady.{first_rests, first_steady}, Started.{first_minded, first_ready, first_shown, free_many, one_more_free}}
 use Rattle.exec_core.proofs.executor.Core.new.Goals as goal
 
 pub first_workers-requires-clause-few : goal.first_workers-requires-clause-few
@@ -41,7 +41,11 @@ returns-clause-ready g c = λ p plan.
     first_ready g.B.Body.left g.B.Scripted.runs g.B.Scripted.holds g.B.Scripted.spot k c.args.roots.items (record { workers = c.in_ok-workers.workers; shared = record c.in_ok-shared.shared { store = c.first_workers.new.store }; callers = c.loop.callers; spent = false }) c.in_ok-shared.runnables.items p
     (in_range k c.requires.config) first begin (c.loop.invariant.callers ∙ ap (λ n. replicate n free_caller) sixteen) plan refl
 
+pub returns-clause-rests : goal.returns-clause-rests
+returns-clause-rests g c = λ p plan.
+    first_rests g.B.Body.left g.B.Scripted.runs g.B.Scripted.holds g.B.Scripted.spot p _ (returns-clause-ready g c p plan).stands (returns-clause-begins g c p plan)
+
 pub returns-clause-minded : goal.returns-clause-minded
 returns-clause-minded g c = λ p plan lone scripts played.
     let range = in_range (configuration_of c.args.config.now c.args.iters_per_us c.args.files c.args.sockets) c.requires.config in
-    first_minded p lone scripts played (c.a_step_is_minded.ensures.first p lone (subst (λ x. x.spin.budget ≤ x.spin.most) (sym plan.config) range.spins))
+    first_minded p lone scripts played (c.a_step_is_minded.ensures.first p lone (subst (λ x. x.spin.budget ≤ x.spin.most) (sym plan.config) range.spins)) (first_steady p)

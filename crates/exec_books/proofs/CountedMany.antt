@@ -1,0 +1,99 @@
+-- How many requests of a worker are not released, after an event of a worker.
+use Rattle.std.proofs.Common.{◌≡◌, ◌≢◌, ℕ, zero, suc, ◌<◌, ◌==◌, ◌&&◌, ◌+◌, Bool, true, false, not, cond, List, [], ◌∷◌, ◌++◌, length, count_by, Option, refl, sym, ap, ◌∙◌, arith, get_or, set}
+use Rattle.std.proofs.lemmas.Bool.{true≢false, false≢true, eq-eqb, ne_eqb, ltb-true, ltb-false}
+use Rattle.std.proofs.lemmas.List.{get_or_past}
+use Rattle.std.proofs.lemmas.List.Sums.{sum_by-cons, sum_by-set, sum_by_push}
+use Rattle.std.specs.Prelude.{nat_lt}
+use Rattle.exec_outcomes.specs.declared.outcome.{Outcome.Outcome}
+use Rattle.exec_machine.specs.{declared.{config.Configuration.Configuration, event.Event.Event, state.Request.Request}, After.{common_after, own_after}, Allowed.Allowed, Choice.Choice, Requests.asked_now, World.{Common, Own as Books, no_request, request_of}}
+use Rattle.exec_machine.specs.declared.event.Event.TheVariants as event
+use Rattle.exec_books.specs.Booked.{unreleased_of}
+use Rattle.exec_books.proofs.{CountedFresh.{made, made_is, no_made}, CountedOwn.{admit_counts, counts, unreleased_kept}, CountedTurns.{Turns, releases}, Own.IsOwn}
+
+-- LISTS
+
+-- what passes alike counts alike
+module _ (p : Request → Bool) where
+  cons : (x : Request) (xs : List Request) → count_by p (x ∷ xs) ≡ cond (p x) 1 0 + count_by p xs
+  cons x xs = sum_by-cons (λ y. cond (p y) 1 0) x xs
+
+  same_count : p no_request ≡ false → (xs ys : List Request) → ((k : ℕ) → p (get_or ys k no_request) ≡ p (get_or xs k no_request)) → count_by p ys ≡ count_by p xs
+  same_count none [] [] each = refl
+  same_count none [] (y ∷ ys) each = cons y ys ∙ ap (λ b. cond b 1 0 + count_by p ys) (each zero ∙ none) ∙ omega (arith, same_count none [] ys (λ k. each (suc k)))
+  same_count none (x ∷ xs) [] each =
+      sym (cons x xs ∙ ap (λ b. cond b 1 0 + count_by p xs) (sym (each zero) ∙ none) ∙ omega (arith, same_count none xs [] (λ k. each (suc k))))
+  same_count none (x ∷ xs) (y ∷ ys) each =
+      cons y ys ∙ ap (λ b. cond b 1 0 + count_by p ys) (each zero) ∙ ap (λ n. cond (p x) 1 0 + n) (same_count none xs ys (λ k. each (suc k))) ∙ sym (cons x xs)
+
+no_and : (a : Bool) → (a && false) ≡ false
+no_and true = refl
+no_and false = refl
+
+-- of worker j and not released
+abbrev is_counted : ℕ → Request → Bool
+is_counted j r = (r.worker == j) && not r.released
+
+nobody : (j : ℕ) → is_counted j no_request ≡ false
+nobody j = no_and (0 == j)
+
+-- a request that isn't over for good is there
+pub within_by : (s : Common) (r : ℕ) → (request_of s r).released ≡ false → r < length s.requests
+within_by s r kept = by (nat_lt r (length s.requests)) refl
+  where
+    by : (b : Bool) → nat_lt r (length s.requests) ≡ b → r < length s.requests
+    by true less = ltb-true r (length s.requests) less
+    by false more = absurd (true≢false (sym (ap (λ (x : Request). x.released) (get_or_past s.requests r no_request (ltb-false r (length s.requests) more))) ∙ kept))
+
+not_true : (b : Bool) → not b ≡ true → b ≡ false
+not_true false h = refl
+not_true true h = absurd (false≢true h)
+
+-- EVENTS
+
+and_true : (a b : Bool) → a ≡ b → (a && true) ≡ b
+and_true true b is = is
+and_true false b is = is
+
+alike : (e : Event) (j : ℕ) (rs ss : List Request) → releases e ≡ false → ((k : ℕ) → Turns e k (get_or rs k no_request) (get_or ss k no_request)) → unreleased_of j ss ≡ unreleased_of j rs
+alike e j rs ss calm turns = same_count (is_counted j) (nobody j) rs ss (λ k. rw ((turns k).worker, (turns k).released calm) refl)
+
+module _ (c : Configuration) (me : Books) (s : Common) (i : ℕ) where
+  -- neither makes one nor releases one
+  still : (e : Event) (choice : Choice) → Allowed c me s i e choice → counts e ≡ false → (j : ℕ) → unreleased_of j (common_after c me s i e choice).requests ≡ unreleased_of j s.requests
+  still (event.Admit r kind outcome) choice h calm j = absurd (true≢false calm)
+  still (event.Release r) choice h calm j = absurd (true≢false calm)
+  still e choice h calm j = alike e j s.requests (common_after c me s i e choice).requests refl (no_made c me s i e choice h refl)
+
+  -- a request that is made counts for its worker
+  made_counts : (outcome : Option Outcome) (j : ℕ) (b : Bool) → (i == j) ≡ b → unreleased_of j (s.requests ++ made c me s i outcome ∷ []) ≡ unreleased_of j s.requests + cond b 1 0
+  made_counts outcome j b is =
+      let it = made_is c me s i outcome in
+      let tells : is_counted j (made c me s i outcome) ≡ b = rw (it.worker, it.released) (and_true (i == j) b is) in
+      sum_by_push (λ y. cond (is_counted j y) 1 0) s.requests (made c me s i outcome) ∙ ap (λ x. unreleased_of j s.requests + cond x 1 0) tells
+
+  -- and one that is released doesn't any more
+  released_counts : (r j : ℕ) (b : Bool) → (request_of s r).released ≡ false → ((request_of s r).worker == j) ≡ b
+      → unreleased_of j (set s.requests r (record (request_of s r) { released = true })) + cond b 1 0 ≡ unreleased_of j s.requests
+  released_counts r j b kept whose =
+      let x = request_of s r in
+      let y : Request = record x { released = true } in
+      let was : is_counted j x ≡ b = rw kept (and_true (x.worker == j) b whose) in
+      let gone : is_counted j y ≡ false = no_and (x.worker == j) in
+      let sums = sum_by-set (λ z. cond (is_counted j z) 1 0) s.requests r y no_request (within_by s r kept) in
+      ap (λ n. unreleased_of j (set s.requests r y) + cond n 1 0) (sym was) ∙ sums ∙ ap (λ n. unreleased_of j s.requests + cond n 1 0) gone ∙ omega arith
+
+  -- an event counts for its own worker alone
+  pub counted_elsewhere : (e : Event) (choice : Choice) → Allowed c me s i e choice → IsOwn s i e → (j : ℕ) → j ≢ i → unreleased_of j (common_after c me s i e choice).requests ≡ unreleased_of j s.requests
+  counted_elsewhere (event.Admit r kind outcome) choice h own j apart = made_counts outcome j false (ne_eqb i j (λ is. apart (sym is))) ∙ omega arith
+  counted_elsewhere (event.Release r) choice h own j apart =
+      omega (arith, released_counts r j false (not_true (request_of s r).released h.1.1.1.1.0) (ne_eqb (request_of s r).worker j (λ is. apart (sym is ∙ own))))
+  counted_elsewhere e choice h own j apart = still e choice h refl j
+
+  pub counted_here : (e : Event) (choice : Choice) → Allowed c me s i e choice → IsOwn s i e → me.unreleased ≡ unreleased_of i s.requests
+      → (own_after c me s i e choice).unreleased ≡ unreleased_of i (common_after c me s i e choice).requests
+  counted_here (event.Admit r kind outcome) choice h own was =
+      (admit_counts (asked_now c me s) outcome r me).0 ∙ ap (λ n. n + 1) was ∙ sym (made_counts outcome i true (eq-eqb i i refl))
+  counted_here (event.Release r) choice h own was =
+      let fewer = released_counts r i true (not_true (request_of s r).released h.1.1.1.1.0) (eq-eqb (request_of s r).worker i own) in
+      omega (arith, fewer, was)
+  counted_here e choice h own was = unreleased_kept c me s i e choice refl ∙ was ∙ sym (still e choice h refl i)

@@ -1,0 +1,198 @@
+-- Seats after an event of a worker: none is lost, and a message stays under way but where it is applied.
+use Rattle.std.proofs.Common.{◌≡◌, ℕ, ◌<◌, ◌≤◌, ◌&&◌, Bool, true, false, List, [], ◌∷◌, ◌++◌, length, Option, None, Some, refl, sym, ap, ◌∙◌, subst, inl, inr, arith, get_or, set, if◌then◌else◌}
+use Rattle.std.proofs.lemmas.Bool.{true≢false, false≢true, cases_Bool, or_cases, or_left, or_right, eqb-true}
+use Rattle.std.proofs.lemmas.List.{get_or_append_left, get_or-set_same, length-append, length-set}
+use Rattle.std.specs.Prelude.{drop}
+use Rattle.std.specs.List.{list_any}
+use Rattle.exec_machine.specs.declared.{config.Configuration.Configuration, event.Event.Event, state.{MailMessage.MailMessage, Next.Next}}
+use Rattle.exec_machine.specs.{After.common_after, Allowed.Allowed, Choice.{Choice, Payer, Choice.{Plain, Passes, Pays, Posts}, Payer.{ByRequest, BySleeper, ByAct, ByCall, ByStop}}, Closing.{after_clear, after_next, ends_by_clear, with_closed_mailbox}, Deadlines.rest_until, Mail.{after_apply, after_message, after_post, after_sending, is_first_message, is_left_out, is_root_message, posted}, Same.same_message, Tasks.{after_payment, after_pend, after_wake, after_word, new_seat}, World.{Common, Own as Books, Seat, no_seat, seat_of, task_of}}
+use Rattle.exec_machine.specs.declared.event.Event.TheVariants as event
+use Rattle.exec_machine.specs.declared.state.MailMessage.TheVariants as message
+use Rattle.exec_machine.specs.declared.state.Next.TheVariants as next
+use Rattle.exec_machine.specs.declared.state.Rest.TheVariants as rest
+use Rattle.exec_machine.specs.declared.state.WorkerPhase.TheVariants as worker
+use Rattle.exec_books.specs.Booked.{IsUnderWay}
+use Rattle.exec_books.proofs.CountedTurns.{each_set}
+
+-- A MESSAGE IN AN INBOX
+
+same_is : (m n : MailMessage) → same_message m n ≡ true → m ≡ n
+same_is message.Root message.Root h = refl
+same_is (message.ForwardRequest m) (message.ForwardRequest n) h = ap message.ForwardRequest (eqb-true m n h)
+same_is (message.ForwardTimer m) (message.ForwardTimer n) h = ap message.ForwardTimer (eqb-true m n h)
+same_is (message.CancelRequest m) (message.CancelRequest n) h = ap message.CancelRequest (eqb-true m n h)
+same_is (message.CancelTimer m) (message.CancelTimer n) h = ap message.CancelTimer (eqb-true m n h)
+same_is m n h = absurd (true≢false (sym h))
+
+in_front : (p : MailMessage → Bool) (xs more : List MailMessage) → list_any p xs ≡ true → list_any p (xs ++ more) ≡ true
+in_front p [] more h = absurd (false≢true h)
+in_front p (x ∷ xs) more h = elim (or_cases (p x) (list_any p xs) h) [
+  | inl this ↦ or_left (p x) (list_any p (xs ++ more)) this
+  | inr later ↦ or_right (p x) (list_any p (xs ++ more)) (in_front p xs more later)
+]
+
+in_last : (p : MailMessage → Bool) (m : MailMessage) (xs : List MailMessage) → p m ≡ true → list_any p (xs ++ m ∷ []) ≡ true
+in_last p m [] is = or_left (p m) false is
+in_last p m (x ∷ xs) is = or_right (p x) (list_any p (xs ++ m ∷ [])) (in_last p m xs is)
+
+-- the first was another one
+in_rest : (m n : MailMessage) (xs : List MailMessage) (seat : Seat) → seat.inbox ≡ xs → same_message m n ≡ false → is_first_message n seat ≡ true → list_any (same_message m) xs ≡ true → list_any (same_message m) (drop 1 xs) ≡ true
+in_rest m n [] seat are other first h = absurd (false≢true h)
+in_rest m n (x ∷ xs) seat are other first h = elim (or_cases (same_message m x) (list_any (same_message m) xs) h) [
+  | inl this ↦ let is : same_message n x ≡ true = sym (rw are refl) ∙ first in absurd (true≢false (sym this ∙ ap (same_message m) (sym (same_is n x is)) ∙ other))
+  | inr later ↦ later
+]
+
+-- COMMON PARTS
+
+-- no seat is lost, and message m stays under way
+pub record Way (m : MailMessage) (s late : Common) : Type 0 where
+  pub many : length s.seats ≤ length late.seats
+  pub under : (j : ℕ) → j < length s.seats → IsUnderWay m (seat_of s j) → IsUnderWay m (seat_of late j)
+
+way_then : {m : MailMessage} {s late later : Common} → Way m s late → Way m late later → Way m s later
+way_then a b =
+    let more = a.many in let yet = b.many in
+    record { many = omega (arith, more, yet); under = λ j within h. b.under j (omega (arith, within, more)) (a.under j within h) }
+
+seats_same : {m : MailMessage} {s late : Common} → late.seats ≡ s.seats → Way m s late
+seats_same {m} {s} {late} same =
+    let long : length late.seats ≡ length s.seats = ap length same in
+    record { many = omega (arith, long); under = λ j within h. subst (λ xs. IsUnderWay m (get_or xs j no_seat)) (sym same) h }
+
+seat_set : {m : MailMessage} {s : Common} (i : ℕ) (y : Seat) → (IsUnderWay m (seat_of s i) → IsUnderWay m y) → Way m s (record s { seats = set s.seats i y })
+seat_set {m} {s} i y here =
+    record {
+      many = omega (arith, length-set s.seats i y);
+      under = λ j within. each_set no_seat (λ n x z. IsUnderWay m x → IsUnderWay m z) s.seats i y (λ n apart x h. h) here (λ n h. h) j;
+    }
+
+either : {m : MailMessage} {s : Common} (b : Bool) (y z : Common) → Way m s y → Way m s z → Way m s (if b then y else z)
+either true y z a b = a
+either false y z a b = b
+
+word_same : (s : Common) (polls : Option ℕ) → (after_word s polls).seats ≡ s.seats
+word_same s None = refl
+word_same s (Some t) = refl
+
+payment_same : (s : Common) (polls : Option ℕ) (payer : Payer) → (after_payment s polls payer).seats ≡ s.seats
+payment_same s polls (ByRequest r) = refl
+payment_same s polls (BySleeper z) = refl
+payment_same s None ByAct = refl
+payment_same s (Some t) ByAct = refl
+payment_same s polls ByCall = refl
+payment_same s polls ByStop = refl
+
+wake_same : (me : Books) (s : Common) (t : ℕ) (choice : Choice) → (after_wake me s t choice).seats ≡ s.seats
+wake_same me s t (Pays payer) = payment_same s me.polls payer
+wake_same me s t Plain = refl
+wake_same me s t Passes = refl
+wake_same me s t (Posts payer left_out) = refl
+
+pub sending_same : (s : Common) (polls : Option ℕ) (m : MailMessage) → (after_sending s polls m).seats ≡ s.seats
+sending_same s None m = refl
+sending_same s (Some t) message.Root = refl
+sending_same s (Some t) (message.ForwardRequest r) = refl
+sending_same s (Some t) (message.ForwardTimer z) = refl
+sending_same s (Some t) (message.CancelRequest r) = refl
+sending_same s (Some t) (message.CancelTimer z) = refl
+
+message_same : (me : Books) (s : Common) (m : MailMessage) → (after_message me s m).seats ≡ s.seats
+message_same me s message.Root = refl
+message_same me s (message.ForwardRequest r) = refl
+message_same me s (message.ForwardTimer z) = refl
+message_same me s (message.CancelRequest r) = refl
+message_same me s (message.CancelTimer z) = refl
+
+pend_same : (s : Common) (i t : ℕ) → (after_pend s i t).seats ≡ s.seats
+pend_same s i t = elim (cases_Bool (task_of s t).cleared) [ inl over ↦ rw over refl | inr stays ↦ rw stays refl ]
+
+clear_same : (s : Common) (i t : ℕ) → (after_clear s i t).seats ≡ s.seats
+clear_same s i t = elim (cases_Bool (ends_by_clear (task_of s t).phase)) [ inl ends ↦ rw ends refl | inr stays ↦ rw stays refl ]
+
+module _ (m : MailMessage) where
+  next_way : (s : Common) (i : ℕ) (n : Next) → Way m s (after_next s i n)
+  next_way s i next.Free = seats_same refl
+  next_way s i (next.Joins r) = seats_same refl
+  next_way s i next.ClosesQueue = seats_same refl
+  next_way s i next.ClosesMailbox = seat_set i (with_closed_mailbox (seat_of s i)) (λ h. inr refl)
+
+  post_way : (s : Common) (to : ℕ) (n : MailMessage) (choice : Choice) → Way m s (after_post s to n choice)
+  post_way s to n choice =
+      either (is_root_message n && is_left_out choice) s (record s { seats = set s.seats to (posted n (seat_of s to)) }) (seats_same refl) (seat_set to (posted n (seat_of s to)) joins)
+    where
+      joins : IsUnderWay m (seat_of s to) → IsUnderWay m (posted n (seat_of s to))
+      joins (inl there) = inl (in_front (same_message m) (seat_of s to).inbox (n ∷ []) there)
+      joins (inr shut) = inr shut
+
+  apply_way : (me : Books) (s : Common) (i : ℕ) (n : MailMessage) → same_message m n ≡ false → is_first_message n (seat_of s i) ≡ true → Way m s (after_apply me s i n)
+  apply_way me s i n other first =
+      let y : Seat = record (seat_of s i) { inbox = drop 1 (seat_of s i).inbox } in
+      let moves : Way m s (record s { seats = set s.seats i y }) = seat_set i y takes in
+      way_then moves (seats_same (ap (λ xs. set xs i y) (message_same me s n)))
+    where
+      takes : IsUnderWay m (seat_of s i) → IsUnderWay m (record (seat_of s i) { inbox = drop 1 (seat_of s i).inbox })
+      takes (inl there) = inl (in_rest m n (seat_of s i).inbox (seat_of s i) refl other first there)
+      takes (inr shut) = inr shut
+
+-- EACH EVENT
+
+-- what is applied
+abbrev pub takes_from : MailMessage → Event → Bool
+takes_from m (event.Apply n) = same_message m n
+takes_from m _ = false
+
+module _ (c : Configuration) (me : Books) (s : Common) (i : ℕ) (m : MailMessage) where
+  dedicated_way : (t j : ℕ) (choice : Choice) → Way m s (common_after c me s i (event.Dedicated t j) choice)
+  dedicated_way t j choice =
+      record {
+        many = omega (arith, length-append s.seats (new_seat false ∷ []));
+        under = λ n within h. subst (IsUnderWay m) (sym (get_or_append_left s.seats (new_seat false ∷ []) no_seat n within)) h;
+      }
+
+  way : (e : Event) (choice : Choice) → Allowed c me s i e choice → takes_from m e ≡ false → Way m s (common_after c me s i e choice)
+  way event.Turn Plain h other = next_way m s i me.next
+  way event.Turn Passes h other = seat_set i (record (seat_of s i) { left = true }) (λ was. was)
+  way event.Turn (Pays payer) h other = next_way m s i me.next
+  way event.Turn (Posts payer left_out) h other = next_way m s i me.next
+  way (event.Pend t) choice h other = seats_same (pend_same s i t)
+  way (event.Spawn t k) choice h other = seats_same (word_same s me.polls)
+  way (event.Dedicated t j) choice h other = dedicated_way t j choice
+  way event.Closed choice h other = seats_same (word_same s me.polls)
+  way (event.Clear t) choice h other = seats_same (clear_same s i t)
+  way (event.Wait None) choice h other = seats_same refl
+  way (event.Wait (Some r)) choice h other = seats_same refl
+  way (event.Wake t) choice h other = seats_same (wake_same me s t choice)
+  way event.Busy choice h other = seat_set i (record (seat_of s i) { busy = false }) (λ was. was)
+  way (event.Reap r n outcome) choice h other =
+      let y : Seat = record (seat_of s i) { landed = drop 1 (seat_of s i).landed } in
+      let moves : Way m s (record s { seats = set s.seats i y }) = seat_set i y (λ was. was) in way_then moves (seats_same refl)
+  way (event.Send to n) choice h other = way_then (seats_same (sending_same s me.polls n)) (post_way m (after_sending s me.polls n) to n choice)
+  way (event.Apply n) choice h other = apply_way m me s i n other h.1.1.0
+  way (event.Rouse j) choice h other = seat_set j (record (seat_of s j) { rest = rest.Awake }) (λ was. was)
+  way (event.Sleep until) choice h other = seat_set i (record (seat_of s i) { rest = rest_until until }) (λ was. was)
+  way event.Close choice h other =
+      let y : Seat = record (seat_of s i) { phase = worker.Closing } in
+      let moves : Way m s (record s { seats = set s.seats i y }) = seat_set i y (λ was. was) in way_then moves (seats_same refl)
+  way event.End choice h other =
+      let y : Seat = record (seat_of s i) { phase = worker.Ended; inbox = [] } in
+      let moves : Way m s (record s { seats = set s.seats i y }) = seat_set i y (λ was. inr h.1.1.0) in way_then moves (seats_same refl)
+  way _ choice h other = seats_same refl
+
+  pub stays_under_way : (e : Event) (choice : Choice) → Allowed c me s i e choice → takes_from m e ≡ false → (j : ℕ) → j < length s.seats → IsUnderWay m (seat_of s j)
+      → IsUnderWay m (seat_of (common_after c me s i e choice) j)
+  stays_under_way e choice h other = (way e choice h other).under
+
+-- what was posted is there
+pub posted_there : (s : Common) (to : ℕ) (m : MailMessage) → same_message m m ≡ true → to < length s.seats → IsUnderWay m (get_or (set s.seats to (posted m (seat_of s to))) to no_seat)
+posted_there s to m same within =
+    subst (IsUnderWay m) (sym (get_or-set_same s.seats to (posted m (seat_of s to)) no_seat within)) (inl (in_last (same_message m) m (seat_of s to).inbox same))
+
+-- no seat is lost: a message that isn't applied tells it too
+pub no_fewer_seats : (c : Configuration) (me : Books) (s : Common) (i : ℕ) (e : Event) (choice : Choice) → Allowed c me s i e choice → length s.seats ≤ length (common_after c me s i e choice).seats
+no_fewer_seats c me s i (event.Apply message.Root) choice h = (way c me s i (message.ForwardRequest 0) (event.Apply message.Root) choice h refl).many
+no_fewer_seats c me s i (event.Apply (message.ForwardRequest r)) choice h = (way c me s i message.Root (event.Apply (message.ForwardRequest r)) choice h refl).many
+no_fewer_seats c me s i (event.Apply (message.ForwardTimer z)) choice h = (way c me s i message.Root (event.Apply (message.ForwardTimer z)) choice h refl).many
+no_fewer_seats c me s i (event.Apply (message.CancelRequest r)) choice h = (way c me s i message.Root (event.Apply (message.CancelRequest r)) choice h refl).many
+no_fewer_seats c me s i (event.Apply (message.CancelTimer z)) choice h = (way c me s i message.Root (event.Apply (message.CancelTimer z)) choice h refl).many
+no_fewer_seats c me s i e choice h = (way c me s i message.Root e choice h refl).many

@@ -1,0 +1,18 @@
+use Rattle.std.proofs.Common.{refl, ap, arith, inl, inr}
+use Rattle.std.proofs.lemmas.Bool.{true≢false, false≢true}
+use Rattle.exec_machine.specs.Same.{is_none}
+use Rattle.exec_books.proofs.examples.wrong_books.Goals as goal
+
+pub returns : goal.returns
+returns c =
+    record {
+      listed = λ it. false≢true ((it.listed 0).queued refl);
+      timed = λ it. false≢true (ap is_none (it.timed 0 refl));
+      let_go = λ it. false≢true (it.let_go 0 refl);
+      counted = λ it. absurd (omega (arith, it.counted 0));
+      sent = λ it. elim (it.sent 0 refl) [ inl here ↦ false≢true here | inr closed ↦ false≢true closed ];
+      past = λ it. absurd (let until = (it.dues 0 refl).0 in cc);
+      late = λ it. false≢true (it.dues 0 refl).1;
+      untold = λ it. absurd (omega (arith, (it.untold 1 0 refl).1));
+      over = λ it. true≢false ((it.over 1 refl).1 0);
+    }

@@ -1,0 +1,48 @@
+-- WHAT A WORKER HAS IS IN ITS BOOKS, in each state of a run: its requests stand in its lists, and what it counts is there.
+use Rattle.std.specs.Prelude.{◌≡◌, ℕ, ◌<◌, true, false, not, ◌==◌, ◌&&◌, ◌⊎◌, List, length, count_by, slice_get, Some, None}
+use Rattle.std.specs.List.{list_any}
+use Rattle.exec_machine.specs.{declared.state.{Forwarding.TheVariants.Sent, MailMessage.MailMessage, Request.Request}, Deadlines.{is_after, next_due, rest_until}, Same.same_message, Tests.{has_ended, is_asleep, is_awake, is_of_file, is_resolved}, World.{Common, Seat, World, own_of, request_of, seat_of, sleeper_of}}
+use Rattle.exec_machine.specs.declared.state.MailMessage.TheVariants as message
+use Rattle.exec_books.specs.Listed.{AreListed, is_in}
+
+-- What the first message in the inbox of worker i is about is a request or a sleeper of its own.
+abbrev pub IsOwnMessage : Common → ℕ → MailMessage → Type 0
+IsOwnMessage s i (message.ForwardRequest r) = (request_of s r).worker ≡ i
+IsOwnMessage s i (message.ForwardTimer z) = (sleeper_of s z).worker ≡ i
+IsOwnMessage s i (message.CancelRequest r) = (request_of s r).worker ≡ i
+IsOwnMessage s i (message.CancelTimer z) = (sleeper_of s z).worker ≡ i
+IsOwnMessage s i _ = Unit {0}
+
+abbrev pub FirstIsOwn : Common → ℕ → Type 0
+FirstIsOwn s i = (first : MailMessage) → slice_get (seat_of s i).inbox 0 ≡ Some first → IsOwnMessage s i first
+
+-- so many requests of worker i are not released
+abbrev pub unreleased_of : ℕ → List Request → ℕ
+unreleased_of i rs = count_by (λ r. (r.worker == i) && not r.released) rs
+
+-- the message is in the inbox, or the mailbox is closed
+abbrev pub IsUnderWay : MailMessage → Seat → Type 0
+IsUnderWay m seat = (list_any (same_message m) seat.inbox ≡ true) ⊎ (seat.mailbox_closed ≡ true)
+
+pub record IsBooked (w : World) : Type 0 where
+  -- each request stands in the lists in which it waits for something
+  pub listed : AreListed w
+  -- one that is over has no deadline on the wheel, and only such a one is released
+  pub timed : (k : ℕ) → is_resolved (request_of w.common k).phase ≡ true → (request_of w.common k).timer ≡ None
+  -- a request of a file has no deadline
+  pub undated : (k : ℕ) → is_of_file (request_of w.common k).operation.kind ≡ true → ((request_of w.common k).operation.deadline ≡ None) × ((request_of w.common k).timer ≡ None)
+  pub let_go : (k : ℕ) → (request_of w.common k).released ≡ true → is_resolved (request_of w.common k).phase ≡ true
+  -- a worker counts those that are not released
+  pub counted : (i : ℕ) → (own_of w i).unreleased ≡ unreleased_of i w.common.requests
+  -- a cancel that the kernel wasn't told is of a request of its own
+  pub untold : (i k : ℕ) → is_in k (own_of w i).untold ≡ true → (k < length w.common.requests) × ((request_of w.common k).worker ≡ i)
+  -- who has ended has no request that is not released, and nobody sleeps there
+  pub over : (i : ℕ) → has_ended (seat_of w.common i).phase ≡ true → ((own_of w i).unreleased ≡ 0) × ((z : ℕ) → is_asleep i (sleeper_of w.common z) ≡ false)
+  -- each request and each sleeper is of a worker
+  pub requests : (k : ℕ) → k < length w.common.requests → (request_of w.common k).worker < length w.common.seats
+  pub sleepers : (z : ℕ) → z < length w.common.sleepers → (sleeper_of w.common z).worker < length w.common.seats
+  -- where it was sent that a task waits for one elsewhere, that is under way until it is applied
+  pub sent : (k : ℕ) → (request_of w.common k).forwarding ≡ Sent → IsUnderWay (message.ForwardRequest k) (seat_of w.common (request_of w.common k).worker)
+  pub sent_too : (z : ℕ) → (sleeper_of w.common z).forwarding ≡ Sent → IsUnderWay (message.ForwardTimer z) (seat_of w.common (sleeper_of w.common z).worker)
+  -- who sleeps does so until what is due next, which is ahead
+  pub dues : (i : ℕ) → is_awake (seat_of w.common i).rest ≡ false → ((seat_of w.common i).rest ≡ rest_until (next_due w.common i)) × (is_after w.common.clock (next_due w.common i) ≡ true)

@@ -1,0 +1,104 @@
+-- No caller turns for ever: each quiet line of one costs credit.
+use Rattle.std.proofs.Common.{◌≡◌, ◌⊎◌, ℕ, ◌+◌, ◌<◌, ◌≤◌, Bool, true, false, not, List, [], ◌∷◌, length, get_or, set, if◌then◌else◌, refl, sym, ap, subst, ◌∙◌, inl, inr, arith}
+use Rattle.std.specs.Prelude.{nat_lt}
+use Rattle.std.proofs.lemmas.{Bool.{and_from, and_parts, cases_Bool, cases_lt, eqb-true, false≢true, lt-ltb}, List.{get_or-set_same, get_or_past, set_past}}
+use Rattle.exec_machine.specs.{declared.{config.Configuration.Configuration, event.{Event.Event, StepResult.{TheVariants.{Did}}}, step.Action.Action}, Callers.is_enabled, Examples.{Told, choices_of, lines_of}, Progress.{Party, Party.{Caller, Nobody, Worker}, Plan, Stretch, is_anyone_closing, is_quiet_step, no_stretch, one_more, quiet_bound, same_party}, Text.is_quiet, World.World}
+use Rattle.exec_machine.specs.declared.step.Action.TheVariants as action
+use Rattle.exec_moves.specs.declared.handing.CallPlace.TheVariants as call
+use Rattle.exec_moves.specs.{Call.{CallDesk, Called, no_call}, MoveOfCaller.move_of_caller, Plays.{Playing, by_action, by_call, by_step, caller_of}, State.Things}
+use Rattle.exec_credit.specs.CallCredit.{call_credit}
+use Rattle.exec_credit.proofs.CallFalls.{at_most, falls, spawns, wakes}
+use Rattle.exec_run.specs.{Log.{calls_end, longer_call}, Steps.{Goes}}
+use Rattle.exec_run.proofs.Leads.{leads_there}
+
+-- what caller j has left
+abbrev left_to : Playing → ℕ → ℕ
+left_to x j = call_credit (caller_of x j).place x.things.idle
+
+-- So many quiet lines of one caller were made, and with what it has left there are six at most.
+abbrev Spent : Playing → Stretch → Type 0
+Spent x s = (s.count ≡ 0) ⊎ ((j : ℕ) × (s.party ≡ Caller j) × (s.count + left_to x j ≤ 6))
+
+few : (x : Playing) (s : Stretch) → Spent x s → s.count ≤ 6
+few x s (inl none) = omega (arith, none)
+few x s (inr (j, who, left)) = omega (arith, left)
+
+abbrev caller_in : Party → ℕ
+caller_in (Caller j) = j
+caller_in _ = 0
+
+-- A quiet line of a caller makes its own longer, or begins one.
+one_more_spent : (x y : Playing) (s : Stretch) (j : ℕ) → Spent x s → left_to y j < left_to x j → Spent y (one_more (Caller j) s)
+one_more_spent x y s j spent falls = by s.party refl (same_party (Caller j) s.party) refl
+  where
+    most : left_to x j ≤ 6
+    most = at_most (caller_of x j).place x.things.idle
+
+    goes_on : (i : ℕ) → s.party ≡ Caller i → j ≡ i → Spent x s → s.count + 1 + left_to y j ≤ 6
+    goes_on i is own (inl none) = omega (arith, none, most, falls)
+    goes_on i is own (inr (k, who, left)) =
+        let same : k ≡ j = ap caller_in (sym who ∙ is) ∙ sym own in
+        let left_here = subst (λ n. s.count + left_to x n ≤ 6) same left in
+        omega (arith, left_here, falls)
+
+    by : (who : Party) → s.party ≡ who → (b : Bool) → same_party (Caller j) s.party ≡ b → Spent y (if b then record s { count = s.count + 1 } else record { party = Caller j; count = 1 })
+    by who is false other = inr (j, refl, omega (arith, most, falls))
+    by (Caller i) is true same =
+        let own : j ≡ i = eqb-true j i (sym (ap (same_party (Caller j)) is) ∙ same) in
+        inr (j, is ∙ ap Caller (sym own), goes_on i is own spent)
+    by Nobody is true same = absurd (false≢true (sym (ap (same_party (Caller j)) is) ∙ same))
+    by (Worker i) is true same = absurd (false≢true (sym (ap (same_party (Caller j)) is) ∙ same))
+
+-- A LINE of a caller, by its move
+
+module _ (c : Configuration) (x : Playing) (s : Stretch) (spent : Spent x s) where
+  -- it isn't quiet
+  told : (j : ℕ) (y : Playing) (e : Event) → is_quiet e ≡ false → Spent y (if is_quiet_step x.world (Did e) then one_more (Caller j) s else no_stretch)
+  told j y e loud = rw loud (inl refl)
+
+  -- what caller j has left is what its move leaves, or nothing, where there is no such caller
+  left_by : (a : Action) (j : ℕ) (m : Called Things) → call_credit m.desk.place m.thing.idle < left_to x j → left_to (by_call c x a j m).next j < left_to x j
+  left_by a j m less = elim (cases_lt j (length x.callers)) [
+    | inl within ↦ subst (λ (d : CallDesk). call_credit d.place m.thing.idle < left_to x j) (sym (get_or-set_same x.callers j m.desk no_call within)) less
+    | inr past ↦
+        let gone : set x.callers j m.desk ≡ x.callers = set_past x.callers j m.desk past in
+        let none : (caller_of (by_call c x a j m).next j).place ≡ call.Nothing = ap (λ (d : CallDesk). d.place) (ap (λ ds. get_or ds j no_call) gone ∙ get_or_past x.callers j no_call past) in
+        let nothing : left_to (by_call c x a j m).next j ≡ 0 = ap (λ p. call_credit p m.thing.idle) none in
+        omega (arith, less, nothing)
+  ]
+
+  goes_on : (j : ℕ) → let m = move_of_caller c x.world.common (caller_of x j) x.things (action.GoOn j) in
+      Spent (by_call c x (action.GoOn j) j m).next (if is_quiet_step x.world (Did m.event) then one_more (Caller j) s else no_stretch)
+  goes_on j = by (is_quiet_step x.world (Did m.event)) refl
+    where
+      m : Called Things
+      m = move_of_caller c x.world.common (caller_of x j) x.things (action.GoOn j)
+
+      by : (b : Bool) → is_quiet_step x.world (Did m.event) ≡ b → Spent (by_call c x (action.GoOn j) j m).next (if b then one_more (Caller j) s else no_stretch)
+      by true quiet =
+          one_more_spent x (by_call c x (action.GoOn j) j m).next s j spent
+          (left_by (action.GoOn j) j m (falls c x.world.common (caller_of x j) x.things j (and_parts (is_quiet m.event) (not (is_anyone_closing x.world)) quiet).0))
+      by false loud = inl refl
+
+  acted : (a : Action) → Spent (by_action c x a).next (longer_call x.world a (by_action c x a).told.0.said s)
+  acted (action.Spawn j k) = told j (by_action c x (action.Spawn j k)).next _ (spawns c x.world.common (caller_of x j) x.things j k)
+  acted (action.Wake j t) = told j (by_action c x (action.Wake j t)).next _ (wakes c x.world.common (caller_of x j) x.things j t)
+  acted (action.GoOn j) = goes_on j
+  acted _ = inl refl
+
+  stepped_on : (a : Action) → Spent (by_step c x a).next (longer_call x.world a (by_step c x a).told.0.said s)
+  stepped_on a = elim (cases_Bool (is_enabled x.world.common a)) [
+    | inl on ↦ rw on (acted a)
+    | inr off ↦ rw off spent
+  ]
+
+pub call_by : (p : Plan) (x : Playing) (s : Stretch) (told : List Told) → Spent x s → Goes p x told → calls_end p.config x.world s (lines_of told) (choices_of told) ≡ true
+call_by p x s [] spent goes = refl
+call_by p x s (it ∷ told) spent goes =
+    let c = p.config in
+    let next = (by_step c x it.0.action).next in
+    let longer = longer_call x.world it.0.action it.0.said s in
+    let now : Spent next longer = subst (λ (t : Told). Spent next (longer_call x.world it.0.action t.0.said s)) (sym goes.0.tells) (stepped_on c x s spent it.0.action) in
+    let six = few next longer now in
+    and_from (nat_lt longer.count (quiet_bound c x.world)) _ (lt-ltb longer.count (quiet_bound c x.world) (omega (arith, six)))
+    (subst (λ (w : World). calls_end c w longer (lines_of told) (choices_of told) ≡ true) (leads_there p x it goes.0) (call_by p next longer told now goes.1))

@@ -1,0 +1,309 @@
+-- What an event of a worker leaves of each request as to its forwarding, and what those do by which a task begins or ends to wait.
+use Rattle.std.proofs.Common.{◌≡◌, ℕ, zero, suc, ◌+◌, ◌<◌, ◌==◌, Bool, true, false, ◌&&◌, ◌||◌, List, [], ◌∷◌, ◌++◌, length, map, get_or, set, Option, Some, None, if◌then◌else◌, unwrap_or, refl, sym, ap, ◌∙◌, subst, inl, inr, arith}
+use Rattle.std.proofs.lemmas.{Bool.{true≢false, false≢true, cases_Bool, cases_lt, and_parts}, List.{get_or_append_left, get_or-set_same, get_or_past, length-set, set_past}}
+use Rattle.std.specs.Prelude.{◌⊎◌}
+use Rattle.exec_outcomes.specs.declared.outcome.{OpResult.OpResult, Outcome.Outcome}
+use Rattle.exec_machine.specs.{declared.{config.Configuration.Configuration, event.Event.Event, state.{MailMessage.MailMessage, Next.Next, Request.Request, RequestPhase.RequestPhase, TaskPhase.TaskPhase}}, After.{common_after, polled}, Allowed.Allowed, Choice.{Choice, Payer, Choice.{Plain, Passes, Pays, Posts}, Payer.{ByRequest, BySleeper, ByAct, ByCall, ByStop}}, Closing.{after_clear, after_next, after_turn, ends_by_clear, with_cleared}, Deadlines.{enrolled, expired, fires_at}, Mail.{after_message, after_post, after_sending, awaits_request, is_left_out, is_root_message}, Requests.{dropped, ends_by_drop, flown, granted, is_cancelled_by_drop, reaped}, Tasks.{after_payment, after_pend, after_taking, after_wait, after_wake, after_word, requests_after_drops, without_newest, woken, woken_phase}, Tests.{is_done, is_gated, is_landed_with, is_queued, is_ready, is_resolved, is_staged, waits_for_nothing}, World.{Common, Own as Books, Task, no_request, no_task, request_of, task_of}}
+use Rattle.exec_machine.specs.declared.event.Event.TheVariants as event
+use Rattle.exec_machine.specs.declared.state.Forwarding.TheVariants as forwarding
+use Rattle.exec_machine.specs.declared.state.MailMessage.TheVariants as message
+use Rattle.exec_machine.specs.declared.state.Next.TheVariants as next
+use Rattle.exec_machine.specs.declared.state.RequestPhase.TheVariants as phase
+use Rattle.exec_machine.specs.declared.state.TaskPhase.TheVariants as task
+use Rattle.exec_machine.specs.declared.state.Waiting.TheVariants as waiting
+use Rattle.exec_moves.specs.Poll.{is_noted}
+use Rattle.exec_rest.proofs.CallHeeds.{set_at}
+
+-- ONE REQUEST stays forwarded as it was, and over where it was
+
+record Kept (x y : Request) : Type 0 where
+  pub same : y.forwarding ≡ x.forwarding
+  pub over : is_resolved x.phase ≡ true → is_resolved y.phase ≡ true
+
+-- or it was sent that a task waits for it elsewhere, or that was applied
+pub record Forwarded (e : Event) (k : ℕ) (x y : Request) : Type 0 where
+  pub over : is_resolved x.phase ≡ true → is_resolved y.phase ≡ true
+  pub how : (y.forwarding ≡ x.forwarding) ⊎ ((y.forwarding ≡ forwarding.Sent) ⊎ ((e ≡ event.Apply (message.ForwardRequest k)) × (y.forwarding ≡ forwarding.Applied) × (y.phase ≡ x.phase)))
+
+as_it_was : (x : Request) → Kept x x
+as_it_was x = record { same = refl; over = λ h. h }
+
+-- a phase that is none of the end
+gated_open : (p : RequestPhase) → is_gated p ≡ true → is_resolved p ≡ true → {T : Type 0} → T
+gated_open phase.Gated h over = absurd (false≢true over)
+gated_open _ h over = absurd (false≢true h)
+
+queued_open : (p : RequestPhase) → is_queued p ≡ true → is_resolved p ≡ true → {T : Type 0} → T
+queued_open phase.Queued h over = absurd (false≢true over)
+queued_open _ h over = absurd (false≢true h)
+
+staged_open : (p : RequestPhase) → is_staged p ≡ true → is_resolved p ≡ true → {T : Type 0} → T
+staged_open phase.Staged h over = absurd (false≢true over)
+staged_open _ h over = absurd (false≢true h)
+
+landed_open : (n : OpResult) (p : RequestPhase) → is_landed_with n p ≡ true → is_resolved p ≡ true → {T : Type 0} → T
+landed_open n (phase.Landed m) h over = absurd (false≢true over)
+landed_open n _ h over = absurd (false≢true h)
+
+drop_kept : (x : Request) → Kept x (dropped x)
+drop_kept x = elim (cases_Bool (ends_by_drop x)) [
+  | inl ends ↦ rw ends (record { same = refl; over = λ h. refl })
+  | inr stays ↦ rw stays (elim (cases_Bool (is_cancelled_by_drop x)) [ inl cancelled ↦ rw cancelled (record { same = refl; over = λ h. h }) | inr kept ↦ rw kept (record { same = refl; over = λ h. h }) ])
+]
+
+grant_kept : (outcome : Option Outcome) (x : Request) → is_gated x.phase ≡ true → Kept x (granted outcome x)
+grant_kept None x gated = record { same = refl; over = λ h. gated_open x.phase gated h }
+grant_kept (Some o) x gated = record { same = refl; over = λ h. refl }
+
+enrol_kept : (moment : ℕ) (outcome : Option Outcome) (x : Request) → Kept x (enrolled moment outcome x)
+enrol_kept moment None x = record { same = refl; over = λ h. h }
+enrol_kept moment (Some o) x = record { same = refl; over = λ h. refl }
+
+expiry_kept : (outcome : Option Outcome) (x : Request) → Kept x (expired outcome x)
+expiry_kept None x = record { same = refl; over = λ h. h }
+expiry_kept (Some o) x = record { same = refl; over = λ h. refl }
+
+reap_kept : (n : OpResult) (outcome : Option Outcome) (x : Request) → is_landed_with n x.phase ≡ true → Kept x (reaped n outcome x)
+reap_kept n None x landed = record { same = refl; over = λ h. landed_open n x.phase landed h }
+reap_kept n (Some o) x landed = record { same = refl; over = λ h. refl }
+
+flown_kept : (i : ℕ) (x : Request) → Kept x (flown i x)
+flown_kept i x = elim (cases_Bool ((x.worker == i) && is_staged x.phase)) [
+  | inl goes ↦ rw goes (record { same = refl; over = λ h. staged_open x.phase (and_parts (x.worker == i) (is_staged x.phase) goes).1 h })
+  | inr stays ↦ rw stays (as_it_was x)
+]
+
+-- ALL REQUESTS that are there
+
+abbrev pub AllForwarded : Event → List Request → List Request → Type 0
+AllForwarded e xs ys = (k : ℕ) → k < length xs → Forwarded e k (get_or xs k no_request) (get_or ys k no_request)
+
+abbrev AllKept : List Request → List Request → Type 0
+AllKept xs ys = (k : ℕ) → Kept (get_or xs k no_request) (get_or ys k no_request)
+
+flies : (i : ℕ) (xs : List Request) → AllKept xs (map (flown i) xs)
+flies i [] k = as_it_was no_request
+flies i (x ∷ xs) zero = flown_kept i x
+flies i (x ∷ xs) (suc k) = flies i xs k
+
+set_kept : (xs : List Request) (q : ℕ) (y : Request) → Kept (get_or xs q no_request) y → AllKept xs (set xs q y)
+set_kept xs q y h k = elim (set_at xs q k y no_request) [
+  | inl still ↦ subst (Kept (get_or xs k no_request)) (sym still) (as_it_was (get_or xs k no_request))
+  | inr at ↦ subst (Kept (get_or xs k no_request)) (sym at.2) (subst (λ n. Kept (get_or xs n no_request) y) (sym at.0) h)
+]
+
+then_kept : (xs ys zs : List Request) → AllKept xs ys → AllKept ys zs → AllKept xs zs
+then_kept xs ys zs a b k = record { same = (b k).same ∙ (a k).same; over = λ h. (b k).over ((a k).over h) }
+
+drops : (i : ℕ) (held : List ℕ) (xs : List Request) → AllKept xs (requests_after_drops i held xs)
+drops i [] xs = λ k. as_it_was (get_or xs k no_request)
+drops i (q ∷ held) xs = by (λ ys. drops i held ys) ((get_or xs q no_request).worker == i)
+  where
+    by : ((ys : List Request) → AllKept ys (requests_after_drops i held ys)) → (b : Bool) → AllKept xs (requests_after_drops i held (if b then set xs q (dropped (get_or xs q no_request)) else xs))
+    by rest true =
+        let ys = set xs q (dropped (get_or xs q no_request)) in
+        then_kept xs ys (requests_after_drops i held ys) (set_kept xs q (dropped (get_or xs q no_request)) (drop_kept (get_or xs q no_request))) (rest ys)
+    by rest false = rest xs
+
+module _ (e : Event) where
+  plainly : (xs ys : List Request) → AllKept xs ys → AllForwarded e xs ys
+  plainly xs ys h k within = record { over = (h k).over; how = inl (h k).same }
+
+  none : (xs : List Request) → AllForwarded e xs xs
+  none xs = plainly xs xs (λ k. as_it_was (get_or xs k no_request))
+
+  same : (xs ys : List Request) → ys ≡ xs → AllForwarded e xs ys
+  same xs ys is = subst (AllForwarded e xs) (sym is) (none xs)
+
+  one_any : (xs : List Request) (q : ℕ) (y : Request) → Forwarded e q (get_or xs q no_request) y → AllForwarded e xs (set xs q y)
+  one_any xs q y h k within = elim (set_at xs q k y no_request) [
+    | inl still ↦ subst (Forwarded e k (get_or xs k no_request)) (sym still) (none xs k within)
+    | inr at ↦ subst (Forwarded e k (get_or xs k no_request)) (sym at.2) (subst (λ n. Forwarded e n (get_or xs n no_request) y) (sym at.0) h)
+  ]
+
+  one : (xs : List Request) (q : ℕ) (y : Request) → Kept (get_or xs q no_request) y → AllForwarded e xs (set xs q y)
+  one xs q y h = plainly xs (set xs q y) (set_kept xs q y h)
+
+  -- other fields than these change
+  beside : (xs : List Request) (q : ℕ) (y : Request) → y.forwarding ≡ (get_or xs q no_request).forwarding → y.phase ≡ (get_or xs q no_request).phase → AllForwarded e xs (set xs q y)
+  beside xs q y how stays = one xs q y (record { same = how; over = λ h. ap is_resolved stays ∙ h })
+
+  pushed : (xs : List Request) (y : Request) → AllForwarded e xs (xs ++ y ∷ [])
+  pushed xs y k within = subst (Forwarded e k (get_or xs k no_request)) (sym (get_or_append_left xs (y ∷ []) no_request k within)) (none xs k within)
+
+  ends : (i : ℕ) (held : List ℕ) (xs : List Request) → AllForwarded e xs (requests_after_drops i held xs)
+  ends i held xs = plainly xs (requests_after_drops i held xs) (drops i held xs)
+
+module _ (s : Common) (i : ℕ) (e : Event) where
+  words : (polls : Option ℕ) → (after_word s polls).requests ≡ s.requests
+  words None = refl
+  words (Some t) = refl
+
+  steps : (n : Next) → (after_next s i n).requests ≡ s.requests
+  steps next.Free = refl
+  steps (next.Joins r) = refl
+  steps next.ClosesQueue = refl
+  steps next.ClosesMailbox = refl
+
+  turns : (me : Books) (choice : Choice) → (after_turn me s i choice).requests ≡ s.requests
+  turns me Plain = steps me.next
+  turns me Passes = refl
+  turns me (Pays payer) = steps me.next
+  turns me (Posts payer left_out) = steps me.next
+
+  posts : (s' : Common) (to : ℕ) (m : MailMessage) (choice : Choice) → (after_post s' to m choice).requests ≡ s'.requests
+  posts s' to m choice = elim (cases_Bool (is_root_message m && is_left_out choice)) [ inl out ↦ rw out refl | inr in_it ↦ rw in_it refl ]
+
+  pays : (polls : Option ℕ) (payer : Payer) → AllForwarded e s.requests (after_payment s polls payer).requests
+  pays polls (ByRequest r) = beside e s.requests r (record (request_of s r) { wakes_paid = (request_of s r).wakes_paid + 1 }) refl refl
+  pays polls (BySleeper z) = none e s.requests
+  pays None ByAct = none e s.requests
+  pays (Some t) ByAct = none e s.requests
+  pays polls ByCall = none e s.requests
+  pays polls ByStop = none e s.requests
+
+  wakes : (me : Books) (t : ℕ) (choice : Choice) → AllForwarded e s.requests (after_wake me s t choice).requests
+  wakes me t Plain = none e s.requests
+  wakes me t Passes = none e s.requests
+  wakes me t (Pays payer) = pays me.polls payer
+  wakes me t (Posts payer left_out) = none e s.requests
+
+  pends : (t : ℕ) → AllForwarded e s.requests (after_pend s i t).requests
+  pends t = elim (cases_Bool (task_of s t).cleared) [
+    | inl cleared ↦ rw cleared (ends e i (task_of s t).held s.requests)
+    | inr goes_on ↦ rw goes_on (none e s.requests)
+  ]
+
+  clears : (t : ℕ) → AllForwarded e s.requests (after_clear s i t).requests
+  clears t = elim (cases_Bool (ends_by_clear (task_of s t).phase)) [
+    | inl over ↦ rw over (ends e i (task_of (with_cleared s t) t).held s.requests)
+    | inr stays ↦ rw stays (none e s.requests)
+  ]
+
+  waits : (t : ℕ) (what : Option ℕ) → AllForwarded e s.requests (after_wait s t what).requests
+  waits t None = none e s.requests
+  waits t (Some r) = beside e s.requests r (record (request_of s r) { waiter = Some t }) refl refl
+
+  sends : (polls : Option ℕ) (m : MailMessage) → AllForwarded e s.requests (after_sending s polls m).requests
+  sends None m = none e s.requests
+  sends (Some t) message.Root = none e s.requests
+  sends (Some t) (message.ForwardRequest r) =
+      one_any e s.requests r (record (request_of s r) { waiter = Some t; forwarding = forwarding.Sent }) (record { over = λ h. h; how = inr (inl refl) })
+  sends (Some t) (message.ForwardTimer z) = none e s.requests
+  sends (Some t) (message.CancelRequest r) = none e s.requests
+  sends (Some t) (message.CancelTimer z) = none e s.requests
+
+applies : (me : Books) (s : Common) (m : MailMessage) → AllForwarded (event.Apply m) s.requests (after_message me s m).requests
+applies me s message.Root = none (event.Apply message.Root) s.requests
+applies me s (message.ForwardRequest r) =
+    one_any (event.Apply (message.ForwardRequest r)) s.requests r (record (request_of s r) { forwarding = forwarding.Applied })
+    (record { over = λ h. h; how = inr (inr (refl, refl, refl)) })
+applies me s (message.ForwardTimer z) = none (event.Apply (message.ForwardTimer z)) s.requests
+applies me s (message.CancelRequest r) = one (event.Apply (message.CancelRequest r)) s.requests r (dropped (request_of s r)) (drop_kept (request_of s r))
+applies me s (message.CancelTimer z) = none (event.Apply (message.CancelTimer z)) s.requests
+
+pub forwarded : (c : Configuration) (me : Books) (s : Common) (i : ℕ) (e : Event) (choice : Choice) → Allowed c me s i e choice → AllForwarded e s.requests (common_after c me s i e choice).requests
+forwarded c me s i event.Turn choice a = same event.Turn s.requests (after_turn me s i choice).requests (turns s i event.Turn me choice)
+forwarded c me s i (event.Pend t) choice a = pends s i (event.Pend t) t
+forwarded c me s i (event.Done t) choice a = ends (event.Done t) i (task_of s t).held s.requests
+forwarded c me s i (event.Fault t n) choice a = ends (event.Fault t n) i (task_of s t).held s.requests
+forwarded c me s i (event.Spawn t k) choice a = same (event.Spawn t k) s.requests (after_word s me.polls).requests (words s i (event.Spawn t k) me.polls)
+forwarded c me s i (event.Dedicated t j) choice a = same (event.Dedicated t j) s.requests (after_word s me.polls).requests (words s i (event.Dedicated t j) me.polls)
+forwarded c me s i event.Closed choice a = same event.Closed s.requests (after_word s me.polls).requests (words s i event.Closed me.polls)
+forwarded c me s i (event.Clear t) choice a = clears s i (event.Clear t) t
+forwarded c me s i (event.Admit r kind outcome) choice a = pushed (event.Admit r kind outcome) s.requests _
+forwarded c me s i (event.Wait what) choice a = waits s i (event.Wait what) (polled me) what
+forwarded c me s i (event.Got r outcome) choice a = beside (event.Got r outcome) s.requests r (record (request_of s r) { observed = false }) refl refl
+forwarded c me s i (event.Drop r) choice a = one (event.Drop r) s.requests r (dropped (request_of s r)) (drop_kept (request_of s r))
+forwarded c me s i (event.Wake t) choice a = wakes s i (event.Wake t) me t choice
+forwarded c me s i (event.Grant r outcome) choice a = one (event.Grant r outcome) s.requests r (granted outcome (request_of s r)) (grant_kept outcome (request_of s r) a.1.1.0)
+forwarded c me s i (event.Enrol r outcome) choice a = one (event.Enrol r outcome) s.requests r _ (enrol_kept (fires_at c me (unwrap_or (request_of s r).operation.deadline 0)) outcome (request_of s r))
+forwarded c me s i (event.Stage r) choice a = one (event.Stage r) s.requests r _ (record { same = refl; over = λ h. queued_open (request_of s r).phase a.1.1.1.0 h })
+forwarded c me s i event.Enter choice a = plainly event.Enter s.requests (map (flown i) s.requests) (flies i s.requests)
+forwarded c me s i (event.Reap r n outcome) choice a = one (event.Reap r n outcome) s.requests r (reaped n outcome (request_of s r)) (reap_kept n outcome (request_of s r) a.1.1.1.0)
+forwarded c me s i (event.Expire r outcome) choice a = one (event.Expire r outcome) s.requests r (expired outcome (request_of s r)) (expiry_kept outcome (request_of s r))
+forwarded c me s i (event.Cancel r) choice a = beside (event.Cancel r) s.requests r (record (request_of s r) { cancel_staged = true }) refl refl
+forwarded c me s i (event.Orphan r outcome) choice a = one (event.Orphan r outcome) s.requests r (dropped (request_of s r)) (drop_kept (request_of s r))
+forwarded c me s i (event.Release r) choice a = beside (event.Release r) s.requests r (record (request_of s r) { released = true }) refl refl
+forwarded c me s i (event.Send to m) choice a =
+    subst (AllForwarded (event.Send to m) s.requests) (sym (posts s i (event.Send to m) (after_sending s me.polls m) to m choice)) (sends s i (event.Send to m) me.polls m)
+forwarded c me s i (event.Apply m) choice a = applies me s m
+forwarded c me s i e choice a = none e s.requests
+
+-- A TASK THAT BEGINS TO WAIT
+
+-- here: the request is as before, but for who waits
+pub record Waited (x y : Request) : Type 0 where
+  pub worker : y.worker ≡ x.worker
+  pub phase : y.phase ≡ x.phase
+  pub forwarding : y.forwarding ≡ x.forwarding
+
+module _ (c : Configuration) (me : Books) (s : Common) (i : ℕ) (choice : Choice) (k : ℕ) where
+  pub begins_here : Waited (request_of s k) (request_of (common_after c me s i (event.Wait (Some k)) choice) k)
+  begins_here = elim (set_at s.requests k k (record (request_of s k) { waiter = Some (polled me) }) no_request) [
+    | inl still ↦ rw still (record { worker = refl; phase = refl; forwarding = refl })
+    | inr at ↦ rw at.2 (record { worker = refl; phase = refl; forwarding = refl })
+  ]
+
+  -- elsewhere: that was sent
+  pub begins_elsewhere : (to : ℕ) → Allowed c me s i (event.Send to (message.ForwardRequest k)) choice → k < length (common_after c me s i (event.Send to (message.ForwardRequest k)) choice).requests
+      → (request_of (common_after c me s i (event.Send to (message.ForwardRequest k)) choice) k).forwarding ≡ forwarding.Sent
+  begins_elsewhere to a within =
+      let posted = posts s i event.Turn (after_sending s me.polls (message.ForwardRequest k)) to (message.ForwardRequest k) choice in
+      ap (λ ys. (get_or ys k no_request).forwarding) posted ∙ by me.polls refl (subst (λ ys. k < length ys) posted within)
+    where
+      by : (p : Option ℕ) → me.polls ≡ p → k < length (after_sending s p (message.ForwardRequest k)).requests → (get_or (after_sending s p (message.ForwardRequest k)).requests k no_request).forwarding ≡ forwarding.Sent
+      by None is within = let idle : awaits_request me s k ≡ false = rw is refl in absurd (false≢true (sym idle ∙ a.0))
+      by (Some u) is within =
+          let y : Request = record (request_of s k) { waiter = Some u; forwarding = forwarding.Sent } in
+          ap (λ (it : Request). it.forwarding) (get_or-set_same s.requests k y no_request (omega (arith, within, length-set s.requests k y)))
+
+-- A TASK THAT IS WOKEN, or takes what it waits for
+
+pub there : (s : Common) (t : ℕ) → is_done (task_of s t).phase ≡ false → t < length s.tasks
+there s t on = elim (cases_lt t (length s.tasks)) [
+  | inl within ↦ within
+  | inr past ↦ absurd (true≢false (sym (ap (λ (it : Task). is_done it.phase) (get_or_past s.tasks t no_task past)) ∙ on))
+]
+
+woken_now : (p : TaskPhase) → ((is_ready (woken_phase p) || is_noted (woken_phase p)) ≡ true) ⊎ (is_done (woken_phase p) ≡ true)
+woken_now task.Idle = inl refl
+woken_now task.Queued = inl refl
+woken_now (task.Running j) = inl refl
+woken_now (task.Noted j) = inl refl
+woken_now task.Done = inr refl
+
+abbrev pub Roused : Task → Type 0
+Roused y = ((is_ready y.phase || is_noted y.phase) ≡ true) ⊎ (is_done y.phase ≡ true)
+
+woken_at : (ys : List Task) (t : ℕ) → Roused (get_or (set ys t (woken (get_or ys t no_task))) t no_task)
+woken_at ys t = elim (cases_lt t (length ys)) [
+  | inl within ↦ subst Roused (sym (get_or-set_same ys t (woken (get_or ys t no_task)) no_task within)) (woken_now (get_or ys t no_task).phase)
+  | inr past ↦ subst Roused (sym (ap (λ zs. get_or zs t no_task) (set_past ys t (woken (get_or ys t no_task)) past) ∙ get_or_past ys t no_task past)) (inr refl)
+]
+
+module _ (c : Configuration) (me : Books) (s : Common) (i : ℕ) where
+  pub wakes_it : (t : ℕ) (choice : Choice) → Allowed c me s i (event.Wake t) choice → Roused (task_of (common_after c me s i (event.Wake t) choice) t)
+  wakes_it t (Pays payer) a = woken_at (after_payment s me.polls payer).tasks t
+  wakes_it t Plain a = absurd (false≢true a.0)
+  wakes_it t Passes a = absurd (false≢true a.0)
+  wakes_it t (Posts payer left_out) a = absurd (false≢true a.0)
+
+  -- what was taken isn't waited for any more
+  taken_nothing : (x : Task) → waits_for_nothing x.waiting ≡ false → (after_taking s x).waiting ≡ waiting.Nothing
+  taken_nothing x h = rw h refl
+
+  took : (t : ℕ) (x : Task) → me.polls ≡ Some t → t < length s.tasks → x.waiting ≡ waiting.Nothing → (get_or (set s.tasks (polled me) x) t no_task).waiting ≡ waiting.Nothing
+  took t x polls within h =
+      let at : polled me ≡ t = ap (λ p. unwrap_or p 0) polls in
+      ap (λ (it : Task). it.waiting) (ap (λ n. get_or (set s.tasks n x) t no_task) at ∙ get_or-set_same s.tasks t x no_task within) ∙ h
+
+  module _ (t : ℕ) (choice : Choice) (polls : me.polls ≡ Some t) (within : t < length s.tasks) (waits : waits_for_nothing (task_of s t).waiting ≡ false) where
+    nothing : (after_taking s (task_of s (polled me))).waiting ≡ waiting.Nothing
+    nothing = taken_nothing (task_of s (polled me)) (ap (λ n. waits_for_nothing (task_of s n).waiting) (ap (λ p. unwrap_or p 0) polls) ∙ waits)
+
+    pub got : (k : ℕ) (o : Outcome) → (task_of (common_after c me s i (event.Got k o) choice) t).waiting ≡ waiting.Nothing
+    got k o = took t (record (after_taking s (task_of s (polled me))) { held = without_newest (task_of s (polled me)).held }) polls within nothing
+
+    pub got_timer : (z : ℕ) → (task_of (common_after c me s i (event.GotTimer z) choice) t).waiting ≡ waiting.Nothing
+    got_timer z = took t (after_taking s (task_of s (polled me))) polls within nothing

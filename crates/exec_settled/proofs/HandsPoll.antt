@@ -1,0 +1,166 @@
+-- Moves of a poll: a request joins a gate, and all else is plain.
+use Rattle.std.proofs.Common.{◌≡◌, ℕ, Bool, true, false, ◌==◌, [], ◌∷◌, ◌++◌, ◌<◌, Option, Some, None, refl, sym, ◌∙◌, inl, inr, if◌then◌else◌, length}
+use Rattle.std.specs.Prelude.{◌⊎◌}
+use Rattle.std.proofs.lemmas.Bool.{true≢false, cases_Bool, eqb-true, eq-eqb}
+use Rattle.std.proofs.lemmas.{Grind.get_or-set_at, List.get_or-set_other}
+use Rattle.exec_words.specs.Queue.{tail_of}
+use Rattle.exec_outcomes.specs.Accounts.{is_durable}
+use Rattle.exec_machine.specs.{declared.{config.{Configuration.Configuration, ScriptWord.ScriptWord}, event.Event.{TheVariants.{Closed, Dedicated}}, state.{Operation.Operation, RequestPhase.RequestPhase, Waiting.Waiting}}, After.common_after, Choice.Choice.Plain as Open, Requests.operation_asked, Tests.{is_idle, is_ready}, World.{Common, Task, request_of, sleeper_of, task_of, Own as Books}, Words.{next_word, newest_held, sleep_asked}}
+use Rattle.exec_machine.specs.declared.config.ScriptWord.TheVariants as script
+use Rattle.exec_machine.specs.declared.state.RequestPhase.TheVariants as phase
+use Rattle.exec_machine.specs.declared.state.Waiting.TheVariants as waiting
+use Rattle.exec_moves.specs.{declared.{handing.AfterSend.AfterSend, place.{InPoll.InPoll, Place.Place}}, Move.{move_act, move_look_at, move_poll, move_wake}, Poll.{Sight, Sight.{Asks, HearsRequest, HearsTimer, Here}, act, act_asked, act_by, after_pend, await, drop_newest, heard_by, pend, requeued_if, resume, sight_of, sight_of_act, sleep_for}, Send.{next_task, with_newcomer}, State.{Desk, Moved, Things, does, goes, gate_of, queue_of}, Told.{has_number, lets_go_all}, Thing.{aside, set_alarms, with_answers}}
+use Rattle.exec_moves.specs.declared.handing.AfterCancels.TheVariants as cancels
+use Rattle.exec_moves.specs.declared.handing.AfterPush.TheVariants as push
+use Rattle.exec_moves.specs.declared.handing.AfterSend.TheVariants as send
+use Rattle.exec_moves.specs.declared.place.InPoll.TheVariants as poll
+use Rattle.exec_moves.specs.declared.place.Place.TheVariants as at
+use Rattle.exec_rest.proofs.Asides.{newcomer}
+use Rattle.exec_settled.specs.Permits.{is_past}
+use Rattle.exec_settled.proofs.{Hands.{JoinsGate, LeavesGate}, HandsEarly.{IsEarly, early_after_end, early_after_poll, early_after_spawn, early_cancels_left, early_desk_if, early_if, early_next_pick, early_to_queue}, HandsMovesA.mild_if, HandsMovesB.{posts, posts_root}, HandsPlain.{HandsBy, Plain, mild_over, plain, plain_hands, plain_if, some_none}}
+
+module _ (c : Configuration) (i : ℕ) (me : Books) (s : Common) (d : Desk) (x : Things) (t : ℕ) (from : InPoll) (here : (f : ℕ) → is_past f d.place ≡ false) where
+  abbrev p : Place
+  p = at.Poll t from
+
+  -- THE END OF A POLL
+  early_requeued : (f : ℕ) (b : Bool) (e : Desk) → IsEarly f (requeued_if b t e).place
+  early_requeued f true e = refl
+  early_requeued f false e = early_next_pick f e
+
+  early_pend : (f : ℕ) (it : Task) (home : Option ℕ) → IsEarly f (after_pend i t s d it home).place
+  early_pend f it None = early_desk_if f it.cleared _ _ (early_cancels_left f cancels.Pick (lets_go_all i s it d) _) (early_requeued f _ d)
+  early_pend f it (Some home) = refl
+
+  pends : (it : Task) → Plain i p x (aside x (pend i t s d it))
+  pends it = plain i p x _ refl (λ j h. h) (λ f h. early_pend f it it.home) refl
+
+  -- WHAT A TASK WAITS FOR
+  on_request : (it : Task) (r : ℕ) (ph : RequestPhase) → it.waiting ≡ waiting.Request r → (request_of s r).phase ≡ ph → Plain i p x (aside x (resume i t s d it))
+  on_request it r (phase.Resolved outcome) h is = rw (h, is) (plain i p x _ refl (λ j h. h) (λ f h. refl) refl)
+  on_request it r phase.Gated h is = rw (h, is) (pends (record it { waiting = waiting.Request r }))
+  on_request it r phase.Queued h is = rw (h, is) (pends (record it { waiting = waiting.Request r }))
+  on_request it r phase.Staged h is = rw (h, is) (pends (record it { waiting = waiting.Request r }))
+  on_request it r phase.Flying h is = rw (h, is) (pends (record it { waiting = waiting.Request r }))
+  on_request it r (phase.Landed n) h is = rw (h, is) (pends (record it { waiting = waiting.Request r }))
+
+  resumes : (it : Task) (w : Waiting) → it.waiting ≡ w → Plain i p x (aside x (resume i t s d it))
+  resumes it (waiting.Request r) h = on_request it r _ h refl
+  resumes it (waiting.Timer z) h = rw h (plain_if i p x (λ (u : Task). x) (sleeper_of s z).fired _ _ (plain i p x _ refl (λ j h. h) (λ f h. refl) refl) (pends (record it { waiting = waiting.Timer z })))
+  resumes it waiting.Woken h = rw h (plain i p x _ refl (λ j h. h) (λ f h. refl) refl)
+  resumes it waiting.Nothing h = rw h (pends (record it { waiting = waiting.Nothing }))
+  resumes it waiting.Wake h = rw h (pends (record it { waiting = waiting.Wake }))
+  resumes it waiting.Yielded h = rw h (pends (record it { waiting = waiting.Yielded }))
+
+  hears : (r : ℕ) (b : Bool) (ph : RequestPhase) → Plain i p x (with_answers x (heard_by t r d x.answers b ph))
+  hears r true (phase.Resolved outcome) = plain i p x _ refl (λ j h. h) (λ f h. refl) refl
+  hears r true phase.Gated = plain i p x _ refl (λ j h. h) (λ f h. refl) refl
+  hears r true phase.Queued = plain i p x _ refl (λ j h. h) (λ f h. refl) refl
+  hears r true phase.Staged = plain i p x _ refl (λ j h. h) (λ f h. refl) refl
+  hears r true phase.Flying = plain i p x _ refl (λ j h. h) (λ f h. refl) refl
+  hears r true (phase.Landed n) = plain i p x _ refl (λ j h. h) (λ f h. refl) refl
+  hears r false ph = plain i p x _ refl (λ j h. h) (λ f h. refl) refl
+
+  looks_at : (b : AfterSend) (m : Moved Things) → Plain i p x m → (y : Sight) → Plain i p x (move_look_at c s d x t b m y)
+  looks_at b m one Here = one
+  looks_at b m one (Asks j message) = posts c i s p x j message Open b d
+  looks_at b m one (HearsRequest r) = hears r (has_number r x.answers) (request_of s r).phase
+  looks_at b m one (HearsTimer z) = plain_if i p x (set_alarms x) (has_number z x.alarms) _ _ (plain i p x _ refl (λ j h. h) (λ f h. refl) refl) (plain i p x _ refl (λ j h. h) (λ f h. refl) refl)
+
+  -- ACTS
+  awaits_by : (it : Task) (r : ℕ) (ph : RequestPhase) → (request_of s r).phase ≡ ph → Plain i p x (aside x (await t s d it (Some r)))
+  awaits_by it r (phase.Resolved outcome) is = rw is (plain i p x _ refl (λ j h. h) (λ f h. refl) refl)
+  awaits_by it r phase.Gated is = rw is (plain i p x _ refl (λ j h. h) (λ f h. refl) refl)
+  awaits_by it r phase.Queued is = rw is (plain i p x _ refl (λ j h. h) (λ f h. refl) refl)
+  awaits_by it r phase.Staged is = rw is (plain i p x _ refl (λ j h. h) (λ f h. refl) refl)
+  awaits_by it r phase.Flying is = rw is (plain i p x _ refl (λ j h. h) (λ f h. refl) refl)
+  awaits_by it r (phase.Landed n) is = rw is (plain i p x _ refl (λ j h. h) (λ f h. refl) refl)
+
+  awaits_newest : (it : Task) (held : Option ℕ) → Plain i p x (aside x (await t s d it held))
+  awaits_newest it None = plain i p x _ refl (λ j h. h) (λ f h. refl) refl
+  awaits_newest it (Some r) = awaits_by it r _ refl
+
+  drops_newest : (it : Task) (held : Option ℕ) → Plain i p x (aside x (drop_newest t s d it held))
+  drops_newest it None = plain i p x _ refl (λ j h. h) (λ f h. here f) refl
+  drops_newest it (Some r) = plain i p x _ refl (λ j h. h) (λ f h. refl) refl
+
+  sleeps_for : (it : Task) (until : Option ℕ) → Plain i p x (aside x (sleep_for t s d it until))
+  sleeps_for it None = plain i p x _ refl (λ j h. h) (λ f h. refl) refl
+  sleeps_for it (Some until) = plain i p x _ refl (λ j h. h) (λ f h. refl) refl
+
+  acts_by : (it : Task) (w : ScriptWord) → Plain i p x (aside x (act_by i t me s d it w))
+  acts_by it script.Await = awaits_newest it (newest_held it)
+  acts_by it script.Drop = drops_newest it (newest_held it)
+  acts_by it (script.Sleep time) = sleeps_for it (sleep_asked me.sampled (script.Sleep time))
+  acts_by it script.Yield = plain i p x _ refl (λ j h. h) (λ f h. refl) refl
+  acts_by it (script.Fault code) = plain i p x _ refl (λ j h. h) (λ f h. early_after_end f t it.home (lets_go_all i s it d)) refl
+  acts_by it script.End = plain i p x _ refl (λ j h. h) (λ f h. early_after_end f t it.home (lets_go_all i s it d)) refl
+  acts_by it _ = plain i p x _ refl (λ j h. h) (λ f h. here f) refl
+
+  acts_asked : (it : Task) (w : ScriptWord) (asked : Option Operation) → Plain i p x (aside x (act_asked i t me s d it w asked))
+  acts_asked it w None = acts_by it w
+  acts_asked it w (Some o) = plain i p x _ refl (λ j h. h) (λ f h. early_desk_if f (is_durable o.kind) _ _ refl refl) refl
+
+  acts : (it : Task) → Plain i p x (aside x (act c i t me s d it))
+  acts it = acts_asked it (next_word s it) (operation_asked c me.sampled (next_word s it))
+
+  wakes : (u : ℕ) (home : Option ℕ) → Plain i p x (move_wake c i s d x t u home)
+  wakes u None = plain i p x _ refl (λ j h. h) (λ f h. early_desk_if f (is_idle (task_of s u).phase) _ _ (early_to_queue f s i (push.Act t) refl) refl) refl
+  wakes u (Some home) = plain_if i p x (λ y. y) (home == i) _ _ (plain i p x _ refl (λ j h. h) (λ f h. refl) refl) (posts_root c i s p x home (send.Act t) d)
+
+  -- a new worker has nothing yet
+  makes_worker : (closed : Bool) → Plain i p x (does (if closed then Closed else Dedicated (next_task s) (length s.seats)) (goes (at.Poll t poll.Act) d) (if closed then x else with_newcomer x))
+  makes_worker true = plain i p x _ refl (λ j h. h) (λ f h. refl) refl
+  makes_worker false = plain i p x _ refl (λ j h. (newcomer i x).latches j ∙ h) (λ f h. refl) refl
+
+  acts_as : (w : ScriptWord) → Plain i p x (move_act c i me s d x t w)
+  acts_as (script.Spawn k) = plain i p x _ refl (λ j h. h) (λ f h. early_desk_if f s.set_closed _ _ refl (early_after_spawn f c i s t)) (mild_if s.set_closed _ _ refl refl)
+  acts_as (script.Wake u) = wakes u (task_of s u).home
+  acts_as (script.Dedicated k) = makes_worker s.set_closed
+  acts_as script.Await = looks_at (send.Pend t) _ (acts (task_of s t)) (sight_of_act i s (task_of s t) script.Await)
+  acts_as script.Drop = looks_at (send.Act t) _ (acts (task_of s t)) (sight_of_act i s (task_of s t) script.Drop)
+  acts_as _ = acts (task_of s t)
+
+module _ (c : Configuration) (i : ℕ) (me : Books) (s : Common) (d : Desk) (x : Things) where
+  -- the request is the last at the gate of its open
+  joined : (t r : ℕ) → d.place ≡ at.Poll t (poll.JoinGate r) → HandsBy c i me s d x d (move_poll c i me s d x t (poll.JoinGate r))
+  joined t r is =
+      let m = move_poll c i me s d x t (poll.JoinGate r) in
+      record {
+        gates = λ file within. at_gate file within;
+        passing = λ file within h. absurd (some_none h (rw is refl));
+        handing = λ j h within. absurd (some_none h (rw is refl));
+        latch_out = λ j h gone. absurd (true≢false (sym h ∙ gone));
+        past = λ file k before after. absurd (true≢false (sym after));
+        over = mild_over c i me s d x m refl;
+      }
+    where
+      target : ℕ
+      target = (request_of s r).operation.target
+
+      at_gate : (file : ℕ) → file < length x.gates
+          → (let m = move_poll c i me s d x t (poll.JoinGate r) in let late = common_after c me s i m.event m.choice in (gate_of m.thing file ≡ gate_of x file) ⊎ (LeavesGate i s d x m late file ⊎ JoinsGate i s d x m late file))
+      at_gate file within =
+          elim (cases_Bool (file == target)) [
+            | inl same ↦
+                let e = eqb-true file target same in
+                inr (inr (record { task = t; request = r; place = is; target = sym e; gate = rw e (get_or-set_at x.gates target target (gate_of x target ++ r ∷ []) [] refl (rw (← e) within)) }))
+            | inr apart ↦ inl (get_or-set_other x.gates target file (gate_of x target ++ r ∷ []) [] (λ e. true≢false (sym (eq-eqb file target e) ∙ apart)))
+          ]
+
+  pub polls : (t : ℕ) (p : InPoll) → d.place ≡ at.Poll t p → HandsBy c i me s d x d (move_poll c i me s d x t p)
+  polls t p is = by p is (λ f. rw is refl)
+    where
+      by : (p : InPoll) → d.place ≡ at.Poll t p → ((f : ℕ) → is_past f d.place ≡ false) → HandsBy c i me s d x d (move_poll c i me s d x t p)
+      by poll.BeginPoll is here =
+          plain_hands c i me s d x (at.Poll t poll.BeginPoll) _ is refl refl
+          (plain_if i _ x (λ (u : Task). x) (is_ready (task_of s t).phase) _ _ (plain i _ x _ refl (λ j h. h) (λ f h. refl) refl) (plain i _ x _ refl (λ j h. h) (λ f h. early_after_poll f (task_of s t).home d) refl))
+      by poll.Resume is here =
+          plain_hands c i me s d x (at.Poll t poll.Resume) _ is refl refl
+          (looks_at c i me s d x t poll.Resume here (send.Pend t) _ (resumes c i me s d x t poll.Resume here (task_of s t) _ refl) (sight_of i s (task_of s t).waiting))
+      by poll.Act is here = plain_hands c i me s d x (at.Poll t poll.Act) _ is refl refl (acts_as c i me s d x t poll.Act here (next_word s (task_of s t)))
+      by (poll.JoinGate r) is here = joined t r is
+      by poll.LoadSpawnHead is here =
+          plain_hands c i me s d x (at.Poll t poll.LoadSpawnHead) _ is refl refl (plain i _ x _ refl (λ j h. h) (λ f h. early_if f (tail_of (queue_of x i) == (queue_of x i).real) _ _ refl refl) refl)
+      by poll.Pend is here = plain_hands c i me s d x (at.Poll t poll.Pend) _ is refl refl (pends c i me s d x t poll.Pend here (task_of s t))
+      by poll.RemoveTask is here = plain_hands c i me s d x (at.Poll t poll.RemoveTask) _ is refl refl (plain i _ x _ refl (λ j h. h) (λ f h. early_next_pick f d) refl)

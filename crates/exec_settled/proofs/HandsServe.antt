@@ -1,0 +1,253 @@
+-- What the moves of a service do with gates and permits.
+use Rattle.std.proofs.Common.{◌≡◌, ℕ, suc, unwrap_or, ◌<◌, ◌==◌, Bool, true, false, List, [], ◌∷◌, ◌++◌, get_or, set, length, drop, Option, Some, None, refl, sym, ap, subst, ◌∙◌, inl, inr, if◌then◌else◌}
+use Rattle.std.proofs.lemmas.Bool.{true≢false, false≢true, cases_Bool, eqb-true, eq-eqb}
+use Rattle.std.proofs.lemmas.{Grind.get_or-set_at, List.{get_or-set_other, get_or-set_same}}
+use Rattle.std.specs.Prelude.{nat_lt, slice_get}
+use Rattle.exec_outcomes.specs.{declared.outcome.{OpResult.OpResult, Outcome.Outcome}, Accounts.{Account, is_durable}}
+use Rattle.exec_machine.specs.{declared.{config.Configuration.Configuration, event.Event.{Event, TheVariants.{Rouse, Serve}}, state.{Request.Request, Sleeper.Sleeper}}, After.common_after, Requests.{account_of_open, granted, outcome_given, outcome_shown, reaped}, Tests.{is_applied, is_awake, is_gated, is_of_file, is_resolved}, World.{Common, Own as Books, no_request, request_of, seat_of, sleeper_of}}
+use Rattle.exec_moves.specs.{declared.place.{AfterPermit.AfterPermit, AfterService.AfterService, InService.InService, Place.Place, Reaping.Reaping, Service.Service}, Move.move_service, Serve.{after_passing, after_permit, after_reap, after_service, back_from_reap, end_service, enter_last, first_to_fire, left_by_first, reap, result_in, worker_of}, State.{Desk, Moved, Things, gate_of, word_of}, Thing.{aside, ring_of, with_ring}, Told.{one_completion, told_of_fire, without_timer}}
+use Rattle.exec_moves.specs.{Submit.{Due, Due.{AtGate, Enrols, Expires}, after_grant, first_due, granted_at, next_gate, submits}, Move.move_submit, Thing.set_gate, State.does}
+use Rattle.exec_machine.specs.{declared.event.Event.TheVariants.Grant, Choice.Choice.Plain as Open, Deadlines.{enrolled, expired, fires_at, outcome_at_enrol, outcome_at_expiry}}
+use Rattle.exec_rest.proofs.Asides.{put_same}
+use Rattle.exec_moves.specs.declared.place.AfterPermit.TheVariants as permit
+use Rattle.exec_moves.specs.declared.place.AfterService.TheVariants as back
+use Rattle.exec_moves.specs.declared.place.InService.TheVariants as step
+use Rattle.exec_moves.specs.declared.place.Place.TheVariants as at
+use Rattle.exec_moves.specs.declared.place.Reaping.TheVariants as reaping
+use Rattle.exec_settled.specs.{Given.passes_at, Permits.{hands_to, is_past, is_past_in, is_past_permit, is_past_reaping}}
+use Rattle.exec_settled.proofs.{HandsEvents.{durable_of_file, is_mild}, HandsGate.{first_is_due, gated_there, granted_first, granted_is_first, opened, over_one, some_gate, stays_early, this_gate, undue}, HandsMovesA.mild_if, HandsPlain.{HandsBy, Kept, Plain, kept_out, mild_over, plain, plain_hands, same_gates, some_none}}
+
+-- a request of a file has no deadline
+abbrev pub AreUndated : Common → Type 0
+AreUndated s = (k : ℕ) → is_of_file (request_of s k).operation.kind ≡ true → ((request_of s k).operation.deadline ≡ None) × ((request_of s k).timer ≡ None)
+
+-- who stands first at a gate is of its open
+abbrev pub AreOfGate : Common → Things → Type 0
+AreOfGate s x = (file k : ℕ) → slice_get (gate_of x file) 0 ≡ Some k → (request_of s k).operation.target ≡ file
+
+-- where the parts of a service lead
+pub past_permit : (file : ℕ) (b : AfterPermit) → is_past_permit file b ≡ false → is_past_in file (after_permit b) ≡ false
+past_permit file (permit.Reap r) h = h
+past_permit file (permit.Reaped reaping.First) h = refl
+past_permit file (permit.Reaped reaping.Last) h = absurd (true≢false h)
+past_permit file (permit.Submit gate) h = h
+
+past_back : (file : ℕ) (r : Reaping) (later : List ℕ) → is_past_reaping r ≡ false → is_past_permit file (back_from_reap r later) ≡ false
+past_back file r [] h = h
+past_back file r (q ∷ later) h = h
+
+pub past_in_if : (file : ℕ) (b : Bool) (p q : InService) → is_past_in file p ≡ false → is_past_in file q ≡ false → is_past_in file (if b then p else q) ≡ false
+past_in_if file true p q one other = one
+past_in_if file false p q one other = other
+
+past_after_reap : (file : ℕ) (it : Request) (given : Option Outcome) (b : AfterPermit) → is_past_permit file b ≡ false → is_past_in file (after_reap it given b) ≡ false
+past_after_reap file it None b h = past_permit file b h
+past_after_reap file it (Some outcome) b h = past_in_if file (is_durable it.operation.kind) _ _ h (past_permit file b h)
+
+past_passing : (file : ℕ) (worker : Option ℕ) (b : AfterPermit) → is_past_permit file b ≡ false → is_past_in file (after_passing worker b) ≡ false
+past_passing file None b h = past_permit file b h
+past_passing file (Some worker) b h = h
+
+-- a durable request that was reaped to its end passes its permit on
+passes_reaped : (v : Service) (n : OpResult) (account : Account) (it : Request) (given : Option Outcome) (b : AfterPermit) → is_durable it.operation.kind ≡ true
+    → is_resolved (reaped n (outcome_shown account it.operation.kind given) it).phase ≡ true → passes_at (at.Service (after_reap it given b) v) ≡ Some it.operation.target
+passes_reaped v n account it None b durable over = absurd (false≢true over)
+passes_reaped v n account it (Some outcome) b durable over = rw durable refl
+
+pub fired_place : (z : ℕ) (it : Sleeper) (e : Desk) → (told_of_fire z it e).place ≡ e.place
+fired_place z it e = by (is_applied it.forwarding)
+  where
+    by : (b : Bool) → (if b then one_completion z (without_timer z e) else record (without_timer z e) { wakes = e.wakes ++ it.task ∷ [] }).place ≡ e.place
+    by true = refl
+    by false = refl
+
+module _ (c : Configuration) (i : ℕ) (me : Books) (s : Common) (d : Desk) (x : Things) (v : Service) where
+  abbrev inside : InService → Place
+  inside p = at.Service p v
+
+  abbrev on : InService → Desk
+  on p = record d { place = inside p }
+
+  -- from one step of the service to another one
+  leads : (p q : InService) (m : Moved Things) → m.desk.place ≡ inside q → m.thing.gates ≡ x.gates → ((j : ℕ) → (word_of x j).latch ≡ true → (word_of m.thing j).latch ≡ true)
+      → ((file : ℕ) → is_past_in file p ≡ false → is_past_in file q ≡ false) → m.event ≡ Serve → Plain i (inside p) x m
+  leads p q m to gates kept on event = plain i (inside p) x m gates kept (λ file h. rw to (stays_early file v p q (on file) h)) (rw event refl)
+
+  -- what has landed first is judged
+  judges : (r : Reaping) (q : ℕ) (later : List ℕ) → HandsBy c i me s d x (on (step.Reap r)) (with_ring i x (reap i v r s (on (step.Reap r)) (record (ring_of s x i) { landed = q ∷ later })))
+  judges r q later =
+      record {
+        gates = λ file within. inl refl;
+        passing = λ file within h. absurd (some_none h refl);
+        handing = λ j h within. absurd (some_none h refl);
+        latch_out = λ j h gone. absurd (true≢false (sym h ∙ gone));
+        past = λ file k before after. absurd (true≢false (sym after ∙ stays_early file v (step.Reap r) _ (λ h. past_after_reap file it given _ (past_back file r later h)) before));
+        over = λ k going over durable.
+            let one = over_one s.requests q k (reaped n (outcome_shown account it.operation.kind given) it) going over in
+            subst (λ (o : ℕ). passes_at (at.Service (after_reap it given (back_from_reap r later)) v) ≡ Some (request_of s o).operation.target) (sym one.0)
+            (passes_reaped v n account it given (back_from_reap r later) (subst (λ (o : ℕ). is_durable (request_of s o).operation.kind ≡ true) one.0 durable) one.1);
+      }
+    where
+      it : Request
+      it = request_of s q
+
+      n : OpResult
+      n = result_in it.phase
+
+      given : Option Outcome
+      given = outcome_given it n
+
+      account : Account
+      account = account_of_open s it
+
+  pub reaps : (r : Reaping) (l : List ℕ) → HandsBy c i me s d x (on (step.Reap r)) (with_ring i x (reap i v r s (on (step.Reap r)) (record (ring_of s x i) { landed = l })))
+  reaps r [] = plain_hands c i me s (on (step.Reap r)) x (inside (step.Reap r)) _ refl refl refl (leads (step.Reap r) _ _ refl refl (λ j h. h) (λ file h. past_permit file (permit.Reaped r) h) refl)
+  reaps r (q ∷ later) = judges r q later
+
+  -- who stands first at the gate leaves it, and the worker of the next is signalled
+  pub passes_on : (file : ℕ) (b : AfterPermit) → HandsBy c i me s d x (on (step.PassPermit file b)) (move_service c i me s (on (step.PassPermit file b)) x (step.PassPermit file b) v)
+  passes_on file b =
+      record {
+        gates = λ other within. elim (cases_Bool (other == file)) [
+          | inl same ↦ let e = eqb-true other file same in inr (inl (ap Some (sym e), left other e within, λ k first. signals k (subst (λ f. slice_get (drop 1 (gate_of x f)) 0 ≡ Some k) e first)))
+          | inr apart ↦ inl (get_or-set_other x.gates file other (left_by_first (gate_of x file)) [] (λ e. true≢false (sym (eq-eqb other file e) ∙ apart)))
+        ];
+        passing = λ other within h. left other (sym (same_number h)) within;
+        handing = λ j h within. absurd (some_none h refl);
+        latch_out = λ j h gone. absurd (true≢false (sym h ∙ gone));
+        past = λ other k before after. absurd (true≢false (sym after ∙ stays_early other v (step.PassPermit file b) _ (λ h. past_passing other _ b h) before));
+        over = mild_over c i me s (on (step.PassPermit file b)) x (move_service c i me s (on (step.PassPermit file b)) x (step.PassPermit file b) v) refl;
+      }
+    where
+      same_number : {m n : ℕ} → Some m ≡ Some n → m ≡ n
+      same_number h = cc
+
+      left : (other : ℕ) → other ≡ file → other < length x.gates → get_or (set x.gates file (left_by_first (gate_of x file))) other [] ≡ drop 1 (gate_of x other)
+      left other e within = rw e (get_or-set_same x.gates file (left_by_first (gate_of x file)) [] (rw (← e) within))
+
+      signals : (k : ℕ) → slice_get (drop 1 (gate_of x file)) 0 ≡ Some k → hands_to (inside (after_passing (worker_of s (slice_get (left_by_first (gate_of x file)) 0)) b)) ≡ Some (request_of s k).worker
+      signals k first = rw first refl
+
+  pub raises_one : (ring : Bool) (j : ℕ) (b : AfterPermit) → Plain i (inside (step.Raise ring j b)) x (move_service c i me s (on (step.Raise ring j b)) x (step.Raise ring j b) v)
+  raises_one ring j b =
+      plain i _ x _ refl (λ k h. h) (λ file h. stays_early file v (step.Raise ring j b) (after_permit b) (past_permit file b) h) (mild_if (is_awake (seat_of s j).rest) Serve (Rouse j) refl refl)
+
+  pub enters : (busy : Bool) → Plain i (inside step.EnterLast) x (with_ring i x (enter_last v me (on step.EnterLast) (record (ring_of s x i) { busy = busy })))
+  enters true = plain i _ x _ refl (λ j h. h) (λ file h. stays_early file v step.EnterLast (step.Reap reaping.Last) (λ h. h) h) refl
+  enters false = plain i _ x _ refl (λ j h. h) (λ file h. stays_early file v step.EnterLast (step.Reap reaping.Last) (λ h. h) h) refl
+
+  -- after the service of a turn it goes on to its mailbox
+  ended : (file : ℕ) (e : Desk) → is_past file (inside step.EndService) ≡ false → is_past file (after_service v.back e) ≡ false
+  ended file e h = by v.defer v.back h
+    where
+      by : (defer : Bool) (b : AfterService) → is_past file (at.Service step.EndService (record { defer = defer; back = b })) ≡ false → is_past file (after_service b e) ≡ false
+      by defer back.Mail h = absurd (true≢false h)
+      by defer back.Begin h = refl
+      by defer back.Finish h = refl
+
+  pub ends : (o : Option ℕ) → first_to_fire i me s (on step.EndService) ≡ o → Plain i (inside step.EndService) x (aside x (end_service i v me s (on step.EndService)))
+  ends None none = rw none (plain i _ x _ refl (λ j h. h) (λ file h. ended file (on step.EndService) h) refl)
+  ends (Some z) some = rw some (plain i _ x _ refl (λ j h. h) (λ file h. rw (fired_place z (sleeper_of s z) (on step.EndService)) h) refl)
+
+  -- THE MIDDLE
+  module _ (gate : ℕ) where
+    abbrev pub m_of : Due → Moved Things
+    m_of due = move_submit c i me s (on (step.Submit gate)) x gate v due
+
+    abbrev pub HandsFor : Due → Type 0
+    HandsFor due = HandsBy c i me s d x (on (step.Submit gate)) (m_of due)
+
+    -- to another step of the service, or to this one, where no gate is next
+    pub moves_on : (q : InService) (m : Moved Things) → next_gate i gate s ≡ None → m.desk.place ≡ inside q → m.thing.gates ≡ x.gates → Kept x m.thing → is_mild m.event ≡ true
+        → HandsBy c i me s d x (on (step.Submit gate)) m
+    moves_on q m none to gates kept mild =
+        record {
+          gates = λ file within. inl (same_gates c i me s d x m.thing gates file);
+          passing = λ file within h. absurd (some_none h refl);
+          handing = λ j h within. absurd (some_none h refl);
+          latch_out = kept_out i x m.thing m.desk.place kept;
+          past = λ file k before after first within own target waits.
+              let it = opened file v (step.Submit gate) q before (ap (is_past file) (sym to) ∙ after) in
+              absurd (some_gate i gate s file k it.0 within own target waits none);
+          over = mild_over c i me s (on (step.Submit gate)) x m mild;
+        }
+
+    -- of a request whose deadline has come, or is to be enrolled: at this gate again
+    stays_at : (r : ℕ) (e : Event) (f : Desk) (y : Request) → f.place ≡ inside (step.Submit gate) → (common_after c me s i e Open).requests ≡ set s.requests r y
+        → (is_durable (request_of s r).operation.kind ≡ true → is_resolved (request_of s r).phase ≡ false → is_resolved y.phase ≡ false) → HandsBy c i me s d x (on (step.Submit gate)) (does e f x)
+    stays_at r e f y to changed stays =
+        record {
+          gates = λ file within. inl refl;
+          passing = λ file within h. absurd (some_none h refl);
+          handing = λ j h within. absurd (some_none h refl);
+          latch_out = λ j h gone. absurd (true≢false (sym h ∙ gone));
+          past = λ file k before after. absurd (true≢false (sym after ∙ ap (is_past file) to ∙ before));
+          over = λ k going over durable.
+              let one = over_one s.requests r k y going (subst (λ (rs : List Request). is_resolved (get_or rs k no_request).phase ≡ true) changed over) in
+              absurd (true≢false (sym one.1 ∙ stays (subst (λ (o : ℕ). is_durable (request_of s o).operation.kind ≡ true) one.0 durable) (subst (λ (o : ℕ). is_resolved (request_of s o).phase ≡ false) one.0 going)));
+        }
+
+    -- what is due has a timer, and what is durable has none
+    pub expires : AreUndated s → (r : ℕ) → first_due c i me s ≡ Some r → HandsFor (Expires r)
+    expires undated r some =
+        stays_at r _ _ (expired (outcome_at_expiry (request_of s r)) (request_of s r)) refl refl
+        (λ durable going. absurd (undue i me.sampled (request_of s r) (undated r (durable_of_file _ durable)).1 (first_is_due c i me s r some)))
+
+    pub enrols : AreUndated s → (r : ℕ) → HandsFor (Enrols r)
+    enrols undated r =
+        stays_at r _ _ (enrolled (fires_at c me (unwrap_or (request_of s r).operation.deadline 0)) (outcome_at_enrol c me (request_of s r).operation.deadline) (request_of s r)) refl refl
+        (λ durable going. rw ((undated r (durable_of_file _ durable)).0) going)
+
+    -- at a gate
+    passes_gate : (file f : ℕ) (o : Option Outcome) (e : Desk) → is_past file (inside (step.Submit gate)) ≡ false → is_past file (after_grant v f o e).place ≡ true → (nat_lt file gate ≡ false) × (nat_lt file (suc f) ≡ true)
+    passes_gate file f None e before after = opened file v (step.Submit gate) (step.Submit (suc f)) before after
+    passes_gate file f (Some outcome) e before after = opened file v (step.Submit gate) (step.PassPermit f (permit.Submit (suc f))) before after
+
+    same_gate : (f file : ℕ) → gate_of (set_gate f x (gate_of x f)) file ≡ gate_of x file
+    same_gate f file = put_same (λ (g : List ℕ). g) x.gates f file (gate_of x f) [] refl
+
+    granted_over : (f : ℕ) (o : Option Outcome) (it : Request) (e : Desk) → is_resolved it.phase ≡ false → is_resolved (granted o it).phase ≡ true → passes_at (after_grant v f o e).place ≡ Some f
+    granted_over f None it e going over = absurd (false≢true over)
+    granted_over f (Some outcome) it e going over = refl
+
+    ungated : (o : Option Outcome) (it : Request) → is_gated (granted o it).phase ≡ false
+    ungated None it = refl
+    ungated (Some outcome) it = refl
+
+    grants : (f r : ℕ) (o : Option Outcome) (e : Desk) → next_gate i gate s ≡ Some f → granted_at i (gate_of x f) s ≡ Some r → (request_of s r).operation.target ≡ f
+        → HandsBy c i me s d x (on (step.Submit gate)) (does (Grant r o) (after_grant v f o e) (set_gate f x (gate_of x f)))
+    grants f r o e next some at_gate =
+        record {
+          gates = λ file within. inl (same_gate f file);
+          passing = λ file within h. absurd (some_none h refl);
+          handing = λ j h within. absurd (some_none h refl);
+          latch_out = λ j h gone. absurd (true≢false (sym h ∙ gone));
+          past = λ file k before after first within own target waits.
+              let it = passes_gate file f o e before after in
+              let same : file ≡ f = this_gate i gate s file k it.0 within own target waits f next it.1 in
+              let this : Some r ≡ Some k = sym some ∙ granted_first i k (gate_of x f) s (ap (λ g. slice_get (gate_of x g) 0) (sym same) ∙ first) own waits in
+              let k_is : k ≡ r = cc in
+              ap (λ (y : Request). is_gated y.phase) (get_or-set_at s.requests r k (granted o (request_of s r)) no_request k_is (rw (← k_is) (gated_there s.requests k waits))) ∙ ungated o (request_of s r);
+          over = λ k going over durable.
+              let one = over_one s.requests r k (granted o (request_of s r)) going over in
+              granted_over f o (request_of s r) e (subst (λ (n : ℕ). is_resolved (request_of s n).phase ≡ false) one.0 going) one.1 ∙ ap Some (sym at_gate ∙ ap (λ n. (request_of s n).operation.target) (sym one.0));
+        }
+
+    refuses : (f : ℕ) → next_gate i gate s ≡ Some f → granted_at i (gate_of x f) s ≡ None → HandsBy c i me s d x (on (step.Submit gate)) (does Serve (submits v (suc f) (on (step.Submit gate))) (set_gate f x (gate_of x f)))
+    refuses f next none =
+        record {
+          gates = λ file within. inl (same_gate f file);
+          passing = λ file within h. absurd (some_none h refl);
+          handing = λ j h within. absurd (some_none h refl);
+          latch_out = λ j h gone. absurd (true≢false (sym h ∙ gone));
+          past = λ file k before after first within own target waits.
+              let it = opened file v (step.Submit gate) (step.Submit (suc f)) before after in
+              let same : file ≡ f = this_gate i gate s file k it.0 within own target waits f next it.1 in
+              absurd (some_none (granted_first i k (gate_of x f) s (ap (λ g. slice_get (gate_of x g) 0) (sym same) ∙ first) own waits) none);
+          over = mild_over c i me s (on (step.Submit gate)) x (does Serve (submits v (suc f) (on (step.Submit gate))) (set_gate f x (gate_of x f))) refl;
+        }
+
+    pub tries : AreOfGate s x → (f : ℕ) → next_gate i gate s ≡ Some f
+        → (o : Option ℕ) → granted_at i (gate_of x f) s ≡ o → HandsFor (AtGate f)
+    tries targets f next None none = rw none (refuses f next none)
+    tries targets f next (Some r) some = rw some (grants f r _ _ next some (targets f r (granted_is_first i r (gate_of x f) s some)))

@@ -1,0 +1,284 @@
+-- What an event of a worker leaves of each request, seat and open, as far as permits go.
+use Rattle.std.proofs.Common.{◌≡◌, ℕ, zero, suc, ◌<◌, ◌==◌, ◌&&◌, Bool, true, false, List, [], ◌∷◌, length, map, Option, Some, None, refl, sym, ap, ◌∙◌, subst, inl, inr, get_or, set, if◌then◌else◌}
+use Rattle.std.proofs.lemmas.Bool.{cases_Bool, false≢true}
+use Rattle.std.proofs.lemmas.List.{get_or_append_left, length-set}
+use Rattle.exec_outcomes.specs.declared.outcome.Kind.TheVariants as kind
+use Rattle.exec_outcomes.specs.{declared.outcome.{OpResult.OpResult, Outcome.Outcome}, Outcomes.refuses_hint}
+use Rattle.std.specs.Prelude.{drop}
+use Rattle.exec_machine.specs.declared.{config.Configuration.Configuration, event.Event.Event, state.{MailMessage.MailMessage, Next.Next, Operation.Operation, Request.Request}}
+use Rattle.exec_machine.specs.{After.{common_after}, Choice.{Choice, Payer, Choice.{Plain, Passes, Pays, Posts}, Payer.{ByRequest, BySleeper, ByAct, ByCall, ByStop}}, Closing.{after_clear, after_next, ends_by_clear, with_cleared, with_closed_mailbox}, Deadlines.{enrolled, expired}, Mail.{after_apply, after_message, after_post, after_sending, is_left_out, is_root_message, posted}, Requests.{asked_now, common_after_refusal, dropped, ends_by_drop, flown, granted, is_cancelled_by_drop, judged_of, opens_after_end, reaped}, Same.same_kind, Tasks.{after_over, after_payment, after_pend, after_word, new_seat, pended_phase, requests_after_drops}, Tests.{is_gated, is_of_file, is_open, is_staged, set_task}, World.{Common, Own as Books, Seat, no_request, no_seat, request_of, seat_of, task_of}}
+use Rattle.exec_machine.specs.declared.event.Event.TheVariants as event
+use Rattle.exec_machine.specs.declared.state.MailMessage.TheVariants as message
+use Rattle.exec_machine.specs.declared.state.Next.TheVariants as next
+use Rattle.exec_machine.specs.declared.state.WorkerPhase.TheVariants as worker
+
+-- ONE REQUEST
+
+-- it stays its worker's and at its open, and none comes to wait for a permit
+pub record Left (x y : Request) : Type 0 where
+  pub worker : y.worker ≡ x.worker
+  pub target : y.operation.target ≡ x.operation.target
+  pub gated : is_gated y.phase ≡ true → is_gated x.phase ≡ true
+
+as_it_was : {x : Request} → Left x x
+as_it_was = record { worker = refl; target = refl; gated = λ h. h }
+
+left_then : {x y z : Request} → Left x y → Left y z → Left x z
+left_then a b = record { worker = b.worker ∙ a.worker; target = b.target ∙ a.target; gated = λ h. a.gated (b.gated h) }
+
+-- its phase stays
+phased : {x y : Request} → y.worker ≡ x.worker → y.operation.target ≡ x.operation.target → y.phase ≡ x.phase → Left x y
+phased worker target phase = record { worker = worker; target = target; gated = λ h. sym (ap is_gated phase) ∙ h }
+
+-- it waits for no permit then
+ungated : {x y : Request} → y.worker ≡ x.worker → y.operation.target ≡ x.operation.target → is_gated y.phase ≡ false → Left x y
+ungated worker target phase = record { worker = worker; target = target; gated = λ h. absurd (false≢true (sym phase ∙ h)) }
+
+dropped_left : (r : Request) → Left r (dropped r)
+dropped_left r = by (ends_by_drop r) refl (is_cancelled_by_drop r) refl
+  where
+    by : (ends : Bool) → ends_by_drop r ≡ ends → (cancels : Bool) → is_cancelled_by_drop r ≡ cancels → Left r (dropped r)
+    by true e cancels f = rw e (ungated refl refl refl)
+    by false e true f = rw (e, f) (phased refl refl refl)
+    by false e false f = rw (e, f) (phased refl refl refl)
+
+granted_left : (outcome : Option Outcome) (r : Request) → Left r (granted outcome r)
+granted_left None r = ungated refl refl refl
+granted_left (Some outcome) r = ungated refl refl refl
+
+enrolled_left : (moment : ℕ) (outcome : Option Outcome) (r : Request) → Left r (enrolled moment outcome r)
+enrolled_left moment None r = phased refl refl refl
+enrolled_left moment (Some outcome) r = ungated refl refl refl
+
+reaped_left : (n : OpResult) (outcome : Option Outcome) (r : Request) → Left r (reaped n outcome r)
+reaped_left n None r = ungated refl refl refl
+reaped_left n (Some outcome) r = ungated refl refl refl
+
+expired_left : (outcome : Option Outcome) (r : Request) → Left r (expired outcome r)
+expired_left None r = phased refl refl refl
+expired_left (Some outcome) r = ungated refl refl refl
+
+flown_left : (i : ℕ) (r : Request) → Left r (flown i r)
+flown_left i r = by ((r.worker == i) && is_staged r.phase) refl
+  where
+    by : (b : Bool) → ((r.worker == i) && is_staged r.phase) ≡ b → Left r (flown i r)
+    by true h = rw h (ungated refl refl refl)
+    by false h = rw h as_it_was
+
+-- ALL REQUESTS
+
+abbrev AllLeft : List Request → List Request → Type 0
+AllLeft rs rs' = (k : ℕ) → Left (get_or rs k no_request) (get_or rs' k no_request)
+
+all_same : (rs : List Request) → AllLeft rs rs
+all_same rs k = as_it_was
+
+one : (rs : List Request) (r : ℕ) (y : Request) → Left (get_or rs r no_request) y → AllLeft rs (set rs r y)
+one [] r y new k = as_it_was
+one (x ∷ rs) zero y new zero = new
+one (x ∷ rs) zero y new (suc k) = as_it_was
+one (x ∷ rs) (suc r) y new zero = as_it_was
+one (x ∷ rs) (suc r) y new (suc k) = one rs r y new k
+
+all_flown : (i : ℕ) (rs : List Request) → AllLeft rs (map (flown i) rs)
+all_flown i [] k = as_it_was
+all_flown i (x ∷ rs) zero = flown_left i x
+all_flown i (x ∷ rs) (suc k) = all_flown i rs k
+
+drops_left : (i : ℕ) (held : List ℕ) (rs : List Request) → AllLeft rs (requests_after_drops i held rs)
+drops_left i [] rs = all_same rs
+drops_left i (r ∷ held) rs = by (it.worker == i) (drops_left i held)
+  where
+    it : Request
+    it = get_or rs r no_request
+
+    by : (b : Bool) → ((rs' : List Request) → AllLeft rs' (requests_after_drops i held rs')) → AllLeft rs (requests_after_drops i held (if b then set rs r (dropped it) else rs))
+    by true later = λ k. left_then (one rs r (dropped it) (dropped_left it) k) (later (set rs r (dropped it)) k)
+    by false later = later rs
+
+-- ALL SEATS: nobody opens
+
+abbrev NoneOpens : List Seat → List Seat → Type 0
+NoneOpens ss ss' = (j : ℕ) → is_open (get_or ss' j no_seat).phase ≡ true → is_open (get_or ss j no_seat).phase ≡ true
+
+one_seat : (ss : List Seat) (i : ℕ) (y : Seat) → (is_open y.phase ≡ true → is_open (get_or ss i no_seat).phase ≡ true) → NoneOpens ss (set ss i y)
+one_seat [] i y new j = λ h. h
+one_seat (x ∷ ss) zero y new zero = new
+one_seat (x ∷ ss) zero y new (suc j) = λ h. h
+one_seat (x ∷ ss) (suc i) y new zero = λ h. h
+one_seat (x ∷ ss) (suc i) y new (suc j) = one_seat ss i y new j
+
+-- THE COMMON PART
+
+record Stays (s late : Common) : Type 0 where
+  pub requests : AllLeft s.requests late.requests
+  pub seats : NoneOpens s.seats late.seats
+  pub opens : length late.opens ≡ length s.opens
+
+-- the same of those that were there before
+pub record Leaves (s late : Common) : Type 0 where
+  pub requests : (k : ℕ) → k < length s.requests → Left (request_of s k) (request_of late k)
+  pub seats : (j : ℕ) → j < length s.seats → is_open (seat_of late j).phase ≡ true → is_open (seat_of s j).phase ≡ true
+  pub opens : length late.opens ≡ length s.opens
+
+-- nothing of these changes
+same : {s late : Common} → late.requests ≡ s.requests → late.seats ≡ s.seats → length late.opens ≡ length s.opens → Stays s late
+same {s} requests seats opens = record { requests = subst (AllLeft s.requests) (sym requests) (all_same s.requests); seats = subst (NoneOpens s.seats) (sym seats) (λ j h. h); opens = opens }
+
+stays_then : {s late later : Common} → Stays s late → Stays late later → Stays s later
+stays_then a b = record { requests = λ k. left_then (a.requests k) (b.requests k); seats = λ j h. a.seats j (b.seats j h); opens = b.opens ∙ a.opens }
+
+-- some requests change
+requested : {s late : Common} → AllLeft s.requests late.requests → late.seats ≡ s.seats → length late.opens ≡ length s.opens → Stays s late
+requested {s} requests seats opens = record { requests = requests; seats = subst (NoneOpens s.seats) (sym seats) (λ j h. h); opens = opens }
+
+-- one seat changes
+seated : (s : Common) (i : ℕ) (y : Seat) → (is_open y.phase ≡ true → is_open (seat_of s i).phase ≡ true) → NoneOpens s.seats (set s.seats i y)
+seated s i y new = one_seat s.seats i y new
+
+opens_end : (o : Operation) (outcome : Option Outcome) (s : Common) → length (opens_after_end o outcome s) ≡ length s.opens
+opens_end o None s = refl
+opens_end o (Some outcome) s = elim (cases_Bool (is_of_file o.kind)) [ inl file ↦ rw file (length-set s.opens o.target _) | inr other ↦ rw other refl ]
+
+refusal_opens : (s : Common) (r : Request) (n : OpResult) → length (common_after_refusal s r n).opens ≡ length s.opens
+refusal_opens s r n = elim (cases_Bool (refuses_hint (judged_of r n))) [ inl refused ↦ rw refused (length-set s.opens r.operation.target _) | inr other ↦ rw other refl ]
+
+word_stays : (s : Common) (polls : Option ℕ) → Stays s (after_word s polls)
+word_stays s None = same refl refl refl
+word_stays s (Some t) = same refl refl refl
+
+next_stays : (s : Common) (i : ℕ) (n : Next) → Stays s (after_next s i n)
+next_stays s i next.Free = same refl refl refl
+next_stays s i (next.Joins r) = same refl refl (length-set s.opens (request_of s r).operation.target _)
+next_stays s i next.ClosesQueue = same refl refl refl
+next_stays s i next.ClosesMailbox = record { requests = all_same s.requests; seats = seated s i (with_closed_mailbox (seat_of s i)) (λ h. h); opens = refl }
+
+payment_stays : (s : Common) (polls : Option ℕ) (payer : Payer) → Stays s (after_payment s polls payer)
+payment_stays s polls (ByRequest r) = requested (one s.requests r _ (phased refl refl refl)) refl refl
+payment_stays s polls (BySleeper z) = same refl refl refl
+payment_stays s None ByAct = same refl refl refl
+payment_stays s (Some t) ByAct = same refl refl refl
+payment_stays s polls ByCall = same refl refl refl
+payment_stays s polls ByStop = same refl refl refl
+
+sending_stays : (s : Common) (polls : Option ℕ) (m : MailMessage) → Stays s (after_sending s polls m)
+sending_stays s None m = same refl refl refl
+sending_stays s (Some t) message.Root = same refl refl refl
+sending_stays s (Some t) (message.ForwardRequest r) = requested (one s.requests r _ (phased refl refl refl)) refl refl
+sending_stays s (Some t) (message.ForwardTimer z) = same refl refl refl
+sending_stays s (Some t) (message.CancelRequest r) = same refl refl refl
+sending_stays s (Some t) (message.CancelTimer z) = same refl refl refl
+
+post_stays : (s : Common) (to : ℕ) (m : MailMessage) (choice : Choice) → Stays s (after_post s to m choice)
+post_stays s to m choice = elim (cases_Bool (is_root_message m && is_left_out choice)) [
+  | inl out ↦ rw out (same refl refl refl)
+  | inr in_it ↦ rw in_it (record { requests = all_same s.requests; seats = seated s to (posted m (seat_of s to)) (λ h. h); opens = refl })
+]
+
+message_stays : (me : Books) (s : Common) (m : MailMessage) → Stays s (after_message me s m)
+message_stays me s message.Root = same refl refl refl
+message_stays me s (message.ForwardRequest r) = requested (one s.requests r _ (phased refl refl refl)) refl refl
+message_stays me s (message.ForwardTimer z) = same refl refl refl
+message_stays me s (message.CancelRequest r) = requested (one s.requests r _ (dropped_left (request_of s r))) refl refl
+message_stays me s (message.CancelTimer z) = same refl refl refl
+
+message_seats : (me : Books) (s : Common) (m : MailMessage) → (after_message me s m).seats ≡ s.seats
+message_seats me s message.Root = refl
+message_seats me s (message.ForwardRequest r) = refl
+message_seats me s (message.ForwardTimer z) = refl
+message_seats me s (message.CancelRequest r) = refl
+message_seats me s (message.CancelTimer z) = refl
+
+apply_stays : (me : Books) (s : Common) (i : ℕ) (m : MailMessage) → Stays s (after_apply me s i m)
+apply_stays me s i m =
+    let told = message_stays me s m in
+    let y : Seat = record (seat_of s i) { inbox = drop 1 (seat_of s i).inbox } in
+    record { requests = told.requests; seats = subst (λ ss. NoneOpens s.seats (set ss i y)) (sym (message_seats me s m)) (seated s i y (λ h. h)); opens = told.opens }
+
+over_stays : (s : Common) (i t : ℕ) → Stays s (after_over s i t)
+over_stays s i t = requested (drops_left i (task_of s t).held s.requests) refl refl
+
+pend_stays : (s : Common) (i t : ℕ) → Stays s (after_pend s i t)
+pend_stays s i t = by (task_of s t).cleared
+  where
+    by : (b : Bool) → Stays s (if b then after_over s i t else set_task s t (record (task_of s t) { phase = pended_phase (task_of s t).phase }))
+    by true = over_stays s i t
+    by false = same refl refl refl
+
+clear_stays : (s : Common) (i t : ℕ) → Stays s (after_clear s i t)
+clear_stays s i t = elim (cases_Bool (ends_by_clear (task_of s t).phase)) [
+  | inl ends ↦ rw ends (let it = over_stays (with_cleared s t) i t in record { requests = it.requests; seats = it.seats; opens = it.opens })
+  | inr goes_on ↦ rw goes_on (same refl refl refl)
+]
+
+-- EACH EVENT
+
+-- not one by which a request or a worker is made
+abbrev makes_none : Event → Bool
+makes_none (event.Admit r kind outcome) = false
+makes_none (event.Dedicated t j) = false
+makes_none _ = true
+
+module _ (c : Configuration) (me : Books) (s : Common) (i : ℕ) where
+  stays : (e : Event) (choice : Choice) → makes_none e ≡ true → Stays s (common_after c me s i e choice)
+  stays (event.Admit r kind outcome) choice none = absurd (false≢true none)
+  stays (event.Dedicated t j) choice none = absurd (false≢true none)
+  stays event.Turn Plain none = next_stays s i me.next
+  stays event.Turn Passes none = record { requests = all_same s.requests; seats = seated s i (record (seat_of s i) { left = true }) (λ h. h); opens = refl }
+  stays event.Turn (Pays payer) none = next_stays s i me.next
+  stays event.Turn (Posts payer left_out) none = next_stays s i me.next
+  stays (event.Pend t) choice none = pend_stays s i t
+  stays (event.Done t) choice none = over_stays s i t
+  stays (event.Fault t n) choice none = over_stays s i t
+  stays (event.Spawn t k) choice none = let it = word_stays s me.polls in record { requests = it.requests; seats = it.seats; opens = it.opens }
+  stays event.Closed choice none = word_stays s me.polls
+  stays (event.Clear t) choice none = clear_stays s i t
+  stays (event.Wait None) choice none = same refl refl refl
+  stays (event.Wait (Some r)) choice none = requested (one s.requests r _ (phased refl refl refl)) refl refl
+  stays (event.Got r outcome) choice none = requested (one s.requests r _ (phased refl refl refl)) refl refl
+  stays (event.Drop r) choice none = requested (one s.requests r _ (dropped_left (request_of s r))) refl refl
+  stays (event.Wake t) Plain none = same refl refl refl
+  stays (event.Wake t) Passes none = same refl refl refl
+  stays (event.Wake t) (Pays payer) none = let it = payment_stays s me.polls payer in record { requests = it.requests; seats = it.seats; opens = it.opens }
+  stays (event.Wake t) (Posts payer left_out) none = same refl refl refl
+  stays (event.Grant r outcome) choice none = requested (one s.requests r _ (granted_left outcome (request_of s r))) refl (opens_end (request_of s r).operation outcome s)
+  stays (event.Enrol r outcome) choice none = requested (one s.requests r _ (enrolled_left _ outcome (request_of s r))) refl refl
+  stays (event.Stage r) choice none = requested (one s.requests r _ (ungated refl refl refl)) refl refl
+  stays event.Enter choice none = requested (all_flown i s.requests) refl refl
+  stays event.Busy choice none = record { requests = all_same s.requests; seats = seated s i (record (seat_of s i) { busy = false }) (λ h. h); opens = refl }
+  stays (event.Reap r n outcome) choice none =
+      record {
+        requests = one s.requests r _ (reaped_left n outcome (request_of s r));
+        seats = seated s i (record (seat_of s i) { landed = drop 1 (seat_of s i).landed }) (λ h. h);
+        opens = opens_end (request_of s r).operation _ (common_after_refusal s (request_of s r) n) ∙ refusal_opens s (request_of s r) n;
+      }
+  stays (event.Expire r outcome) choice none = requested (one s.requests r _ (expired_left outcome (request_of s r))) refl refl
+  stays (event.Cancel r) choice none = requested (one s.requests r _ (phased refl refl refl)) refl refl
+  stays (event.Orphan r outcome) choice none = requested (one s.requests r _ (dropped_left (request_of s r))) refl refl
+  stays (event.Release r) choice none = requested (one s.requests r _ (phased refl refl refl)) refl refl
+  stays (event.Send to m) choice none = stays_then (sending_stays s me.polls m) (post_stays (after_sending s me.polls m) to m choice)
+  stays (event.Apply m) choice none = apply_stays me s i m
+  stays (event.Rouse other) choice none = record { requests = all_same s.requests; seats = seated s other (record (seat_of s other) { rest = _ }) (λ h. h); opens = refl }
+  stays (event.Sleep until) choice none = record { requests = all_same s.requests; seats = seated s i (record (seat_of s i) { rest = _ }) (λ h. h); opens = refl }
+  stays event.Close choice none = record { requests = all_same s.requests; seats = seated s i (record (seat_of s i) { phase = worker.Closing }) (λ h. absurd (false≢true h)); opens = refl }
+  stays event.End choice none = record { requests = all_same s.requests; seats = seated s i (record (seat_of s i) { phase = worker.Ended; inbox = [] }) (λ h. absurd (false≢true h)); opens = refl }
+  stays _ choice none = same refl refl refl
+
+  of_stays : {late : Common} → Stays s late → Leaves s late
+  of_stays a = record { requests = λ k within. a.requests k; seats = λ j within. a.seats j; opens = a.opens }
+
+  pub leaves : (e : Event) (choice : Choice) → Leaves s (common_after c me s i e choice)
+  leaves (event.Admit r what outcome) choice =
+      record {
+        requests = λ k within. subst (λ y. Left (request_of s k) y) (sym (get_or_append_left s.requests _ no_request k within)) as_it_was;
+        seats = λ j within h. h;
+        opens = elim (cases_Bool (same_kind (asked_now c me s).kind kind.Write)) [ inl write ↦ rw write (length-set s.opens (asked_now c me s).target _) | inr other ↦ rw other refl ];
+      }
+  leaves (event.Dedicated t j) choice =
+      let it = word_stays s me.polls in
+      record {
+        requests = λ k within. it.requests k;
+        seats = λ n within h. subst (λ (y : Seat). is_open y.phase ≡ true) (get_or_append_left s.seats (new_seat false ∷ []) no_seat n within) h;
+        opens = it.opens;
+      }
+  leaves e choice = of_stays (stays e choice refl)

@@ -1,0 +1,73 @@
+-- No step leaves a permit with who sleeps.
+use Rattle.std.proofs.Common.{◌≡◌, ℕ, ◌<◌, Bool, true, false, ◌&&◌, [], None, length, refl, sym, ap, ◌∙◌, subst, if◌then◌else◌, inl, inr}
+use Rattle.std.proofs.lemmas.{Bool.{true≢false, false≢true, and_parts, cases_lt}, List.get_or_past, Option.none-some}
+use Rattle.std.specs.Prelude.{not, slice_get}
+use Rattle.exec_machine.specs.{declared.{config.Configuration.Configuration, step.Action.Action}, Callers.{is_enabled, is_held}, Examples.refuses, Progress.Plan, Run.Follows, Tests.{has_ended, is_awake}, World.{Common, Own as Books, no_seat, own_of, seat_of}}
+use Rattle.exec_machine.specs.declared.step.Action.TheVariants as action
+use Rattle.exec_moves.specs.{declared.place.{InPoll.InPoll, Place.Place}, Move.{move, move_at}, Plays.{Playing, by_action, by_step, desk_of, first_playing}, State.{Desk, Moved, Things}}
+use Rattle.exec_books.specs.Booked.{IsBooked}
+use Rattle.exec_rest.specs.AtRest.{IsPlaced}
+use Rattle.exec_rest.proofs.{First.of_equal, Frames.{desk_other, desk_own}, Heeds.Heeds, Step.heeds_at}
+use Rattle.exec_settled.specs.{Given.IsGiven, Permits.{IsPermitted, is_past}}
+use Rattle.exec_settled.proofs.{HandsAt.hands_at, PermittedBeside.permitted_aside, PermittedEvents.leaves, PermittedSteps.permitted_by_move}
+
+-- Nobody stands at a gate, and there is no request.
+pub first_permitted : (p : Plan) → IsPermitted p.config (first_playing p)
+first_permitted p =
+    record {
+      passed = λ file k first gives. absurd (none-some k (sym (of_equal (λ gate. slice_get gate 0 ≡ None) p.config.files file [] [] refl refl) ∙ first));
+      granted = λ k gated holds going. absurd (false≢true gated);
+    }
+
+-- who has joined a gate goes on with its act, with a service ahead
+joined_calm : (c : Configuration) (i : ℕ) (me : Books) (s : Common) (d : Desk) (x : Things) (t r file : ℕ) → d.place ≡ Place.Poll t (InPoll.JoinGate r) → is_past file (move c i me s d x).desk.place ≡ false
+joined_calm c i me s d x t r file is = ap (λ p. is_past file (move_at c i me s d x p).desk.place) is
+
+not_true : (b : Bool) → not b ≡ true → b ≡ false
+not_true true h = absurd (false≢true h)
+not_true false h = refl
+
+module _ (c : Configuration) (x : Playing) (placed : IsPlaced c x) (given : IsGiven c x) (booked : IsBooked x.world) (before : IsPermitted c x) where
+  -- who works is there
+  works : (i : ℕ) → is_enabled x.world.common (action.Work i) ≡ true → i < length x.world.common.seats
+  works i may = elim (cases_lt i (length x.world.common.seats)) [
+    | inl within ↦ within
+    | inr past ↦
+        let seat = seat_of x.world.common i in
+        let awake = and_parts (is_awake seat.rest && not (has_ended seat.phase)) (not (is_held x.world.common seat)) may in
+        let going = not_true (has_ended seat.phase) (and_parts (is_awake seat.rest) (not (has_ended seat.phase)) awake.0).1 in
+        absurd (true≢false (sym (ap (λ z. has_ended z.phase) (get_or_past x.world.common.seats i no_seat past)) ∙ going))
+  ]
+
+  by_work : (i : ℕ) → is_enabled x.world.common (action.Work i) ≡ true → IsGiven c (by_action c x (action.Work i)).next → IsPermitted c (by_action c x (action.Work i)).next
+  by_work i may later =
+      let s = x.world.common in
+      let d = desk_of c x i in
+      let me = own_of x.world i in
+      let m : Moved Things = move c i me s d x.things in
+      let heeds : Heeds (Unit {0}) i s d x.things m = heeds_at (Unit {0}) c i me s d x.things d.place refl in
+      permitted_by_move c x placed.laid given booked before i m later (hands_at c i me s d x.things booked.undated (λ file k first. (given.at_gate file 0 k first).2) (given.back i)) (leaves c me s i m.event m.choice)
+      (ap (λ (e : Desk). e.place) (desk_own c x i m (subst (λ n. i < n) (sym placed.laid.desks) (works i may))))
+      (λ k apart. ap (λ (e : Desk). e.place) (desk_other c x i m (λ t j born. heeds.born t j born ∙ sym placed.laid.desks) k apart))
+      (joined_calm c i me s d x.things)
+
+  by_any : (a : Action) → is_enabled x.world.common a ≡ true → IsGiven c (by_action c x a).next → IsPermitted c (by_action c x a).next
+  by_any (action.Work i) may later = by_work i may later
+  by_any (action.Spawn j k) may later = permitted_aside c x placed.laid (action.Spawn j k) refl before
+  by_any (action.Wake j t) may later = permitted_aside c x placed.laid (action.Wake j t) refl before
+  by_any (action.GoOn j) may later = permitted_aside c x placed.laid (action.GoOn j) refl before
+  by_any (action.Clock d) may later = permitted_aside c x placed.laid (action.Clock d) refl before
+  by_any (action.Land r n) may later = permitted_aside c x placed.laid (action.Land r n) refl before
+  by_any (action.SetBusy i) may later = permitted_aside c x placed.laid (action.SetBusy i) refl before
+  by_any (action.EndPoll i) may later = permitted_aside c x placed.laid (action.EndPoll i) refl before
+  by_any (action.Stir i) may later = permitted_aside c x placed.laid (action.Stir i) refl before
+  by_any (action.Peer l) may later = permitted_aside c x placed.laid (action.Peer l) refl before
+
+  -- a step that is not enabled changes nothing
+  pub goes_on : (a : Action) (b : Bool) → is_enabled x.world.common a ≡ b → IsGiven c (if b then by_action c x a else (record { told = refuses a; next = x })).next → IsPermitted c (if b then by_action c x a else (record { told = refuses a; next = x })).next
+  goes_on a true may later = by_any a may later
+  goes_on a false off later = before
+
+pub permitted_then : (c : Configuration) (x : Playing) → IsPlaced c x → IsGiven c x → IsBooked x.world → (a : Action) → let it = (by_step c x a).told in
+    Follows c x.world a it.0.said it.1 → IsGiven c (by_step c x a).next → IsPermitted c x → IsPermitted c (by_step c x a).next
+permitted_then c x placed given booked a follows later before = goes_on c x placed given booked before a (is_enabled x.world.common a) refl later

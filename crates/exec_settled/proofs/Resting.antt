@@ -1,0 +1,202 @@
+-- What is left of each worker, request and message where all workers sleep or have ended.
+use Rattle.std.proofs.Common.{◌≡◌, ◌⊎◌, ℕ, zero, suc, ◌<◌, ◌≤◌, ◌==◌, ◌&&◌, ◌||◌, Bool, true, false, not, List, [], ◌∷◌, length, get_or, Some, None, cond, if◌then◌else◌, ◌∙◌, refl, sym, ap, subst, arith, inl, inr}
+use Rattle.std.proofs.lemmas.Bool.{true≢false, false≢true, cases_lt, eq-eqb, or_left, or_right, not-true}
+use Rattle.std.proofs.lemmas.List.{get_or_past, Sums.sum_by-cons}
+use Rattle.std.specs.Prelude.{nat_le}
+use Rattle.std.specs.List.{list_any}
+use Rattle.exec_machine.specs.{declared.{config.Configuration.Configuration, state.{Request.Request, RequestPhase.RequestPhase}}, Deadlines.{earlier, first_timer, first_until, is_after}, Progress.{all_asleep, is_cancel_untold, is_sleeper_unfinished}, Tests.{has_ended, is_gated, is_in_flight, is_landed, is_open, is_queued, is_resolved, is_staged}, World.{Common, no_request, own_of, request_of, seat_of, sleeper_of}}
+use Rattle.exec_machine.specs.declared.state.RequestPhase.TheVariants as phase
+use Rattle.exec_moves.specs.{declared.{handing.{AfterCallbacks.AfterCallbacks, Heard.Heard}, idling.{InRingWait.InRingWait, Stay.Stay}, place.{InCallbacks.InCallbacks, InPoll.InPoll, Place.Place}}, Plays.{Playing, desk_of, first_desk}, State.Desk}
+use Rattle.exec_books.specs.Listed.{is_in}
+use Rattle.exec_settled.proofs.Undone.{after_earlier, none_slept, not_true}
+use Rattle.exec_books.specs.Booked.{IsBooked, unreleased_of}
+use Rattle.exec_rest.specs.{AtRest.{IsPlaced, is_end, is_idle, stays_closing}, Places.is_abed, Posted.has_tested, Rested.{IsRestful, place_at, sleeps}}
+use Rattle.exec_rest.proofs.Rest.{down}
+use Rattle.exec_settled.specs.{Given.{passes_at}, Permits.{hands_to, is_past}, Settled.{HasSubmitted, HasTold, IsSettled, ends_ring_wait, waits_on_word}}
+
+-- PLACES OF SLEEP, AND OF THE END
+
+idle_passes : (p : Place) → is_idle p ≡ true → passes_at p ≡ None
+idle_passes (Place.Closing y) h = refl
+idle_passes (Place.WordWait y) h = refl
+idle_passes (Place.RingWait y z) h = refl
+idle_passes _ h = absurd (false≢true h)
+
+idle_hands : (p : Place) → is_idle p ≡ true → hands_to p ≡ None
+idle_hands (Place.Closing y) h = refl
+idle_hands (Place.WordWait y) h = refl
+idle_hands (Place.RingWait y z) h = refl
+idle_hands _ h = absurd (false≢true h)
+
+pub abed_past : (file : ℕ) (p : Place) → is_abed p ≡ true → stays_closing p ≡ false → is_past file p ≡ true
+abed_past file (Place.WordWait y) h turn = refl
+abed_past file (Place.RingWait y Stay.Turn) h turn = refl
+abed_past file (Place.RingWait y Stay.Closing) h turn = absurd (true≢false turn)
+abed_past file _ h turn = absurd (false≢true h)
+
+abed_tested : (p : Place) → is_abed p ≡ true → stays_closing p ≡ false → has_tested p ≡ true
+abed_tested (Place.WordWait y) h turn = refl
+abed_tested (Place.RingWait y Stay.Turn) h turn = refl
+abed_tested (Place.RingWait y Stay.Closing) h turn = absurd (true≢false turn)
+abed_tested _ h turn = absurd (false≢true h)
+
+abed_where : (p : Place) → is_abed p ≡ true → (waits_on_word p ≡ true) ⊎ (ends_ring_wait p ≡ true)
+abed_where (Place.WordWait y) h = inl refl
+abed_where (Place.RingWait (InRingWait.DisarmRing n) z) h = inr refl
+abed_where _ h = absurd (false≢true h)
+
+-- REQUESTS
+
+-- where none of a worker's isn't over each is
+pub all_over : (i : ℕ) (rs : List Request) → list_any (λ r. (r.worker == i) && not (is_resolved r.phase)) rs ≡ false → (k : ℕ) → (get_or rs k no_request).worker ≡ i → is_resolved (get_or rs k no_request).phase ≡ true
+all_over i [] h k own = refl
+all_over i (r ∷ rs) h zero own = by (is_resolved r.phase) refl
+  where
+    by : (b : Bool) → is_resolved r.phase ≡ b → b ≡ true
+    by true is = refl
+    by false is = absurd (true≢false (sym (rw (eq-eqb r.worker i own, is) refl) ∙ h))
+all_over i (r ∷ rs) h (suc k) own = all_over i rs (by ((r.worker == i) && not (is_resolved r.phase)) h) k own
+  where
+    by : (b : Bool) → (b || list_any (λ r. (r.worker == i) && not (is_resolved r.phase)) rs) ≡ false → list_any (λ r. (r.worker == i) && not (is_resolved r.phase)) rs ≡ false
+    by true h = absurd (true≢false h)
+    by false h = h
+
+abbrev count_one : ℕ → Request → ℕ
+count_one i r = cond ((r.worker == i) && not r.released) 1 0
+
+-- where none of a worker's is not released each is
+all_released : (i : ℕ) (rs : List Request) → unreleased_of i rs ≡ 0 → (k : ℕ) → (get_or rs k no_request).worker ≡ i → (get_or rs k no_request).released ≡ true
+all_released i [] h k own = refl
+all_released i (r ∷ rs) h zero own = by r.released refl
+  where
+    by : (b : Bool) → r.released ≡ b → b ≡ true
+    by true is = refl
+    by false is = let one : count_one i r ≡ 1 = rw (eq-eqb r.worker i own, is) refl in let sum = sum_by-cons (count_one i) r rs in absurd (omega (arith, one, sum, h))
+all_released i (r ∷ rs) h (suc k) own = all_released i rs (let sum = sum_by-cons (count_one i) r rs in omega (arith, sum, h)) k own
+
+-- a request that is over
+pub record IsOver (p : RequestPhase) : Type 0 where
+  pub gated : is_gated p ≡ false
+  pub queued : is_queued p ≡ false
+  pub staged : is_staged p ≡ false
+  pub landed : is_landed p ≡ false
+  pub in_flight : is_in_flight p ≡ false
+
+pub over_phase : (p : RequestPhase) → is_resolved p ≡ true → IsOver p
+over_phase (phase.Resolved o) h = record { gated = refl; queued = refl; staged = refl; landed = refl; in_flight = refl }
+over_phase phase.Gated h = absurd (false≢true h)
+over_phase phase.Queued h = absurd (false≢true h)
+over_phase phase.Staged h = absurd (false≢true h)
+over_phase phase.Flying h = absurd (false≢true h)
+over_phase (phase.Landed n) h = absurd (false≢true h)
+
+-- WORKERS, where all sleep and no call is half done
+
+module _ (c : Configuration) (x : Playing) (placed : IsPlaced c x) (held : IsRestful c x) (booked : IsBooked x.world) (settled : IsSettled c x) (all : all_asleep x.world ≡ true) where
+  abbrev s : Common
+  s = x.world.common
+
+  -- who is there has ended and stands at its end, or is open and sleeps
+  pub idles : (i : ℕ) → i < length x.desks → is_idle (place_at c x i) ≡ true
+  idles i within = elim (down c x held all i) [
+    | inl over ↦ or_right (is_abed (place_at c x i)) (is_end (place_at c x i)) (placed.over i within over)
+    | inr asleep ↦ or_left (is_abed (place_at c x i)) (is_end (place_at c x i)) (held.abed i asleep.1)
+  ]
+
+  -- who isn't there begins
+  not_there : (i : ℕ) → length x.desks ≤ i → place_at c x i ≡ Place.BeginTurn
+  not_there i past = ap (λ (d : Desk). d.place) (get_or_past x.desks i (first_desk c i) past)
+
+  at_each : (P : Place → Type 0) → P Place.BeginTurn → ((p : Place) → is_idle p ≡ true → P p) → (i : ℕ) → P (place_at c x i)
+  at_each P none some i = elim (cases_lt i (length x.desks)) [
+    | inl within ↦ some (place_at c x i) (idles i within)
+    | inr past ↦ subst P (sym (not_there i past)) none
+  ]
+
+  pub nobody_passes : (i file : ℕ) → passes_at (place_at c x i) ≡ Some file → ⊥
+  nobody_passes i file h = let none = at_each (λ p. passes_at p ≡ None) refl idle_passes i in cc
+
+  pub nobody_hands : (i j : ℕ) → hands_to (place_at c x i) ≡ Some j → ⊥
+  nobody_hands i j h = let none = at_each (λ p. hands_to p ≡ None) refl idle_hands i in cc
+
+  pub nobody_wakes : (i t : ℕ) (of : Heard) (n : AfterCallbacks) → place_at c x i ≡ Place.Callbacks (InCallbacks.WakeWaiter t of) n → ⊥
+  nobody_wakes i t of n h = let it = at_each (λ p. (p ≡ Place.BeginTurn) ⊎ (is_idle p ≡ true)) (inl refl) (λ p is. inr is) i in elim it [
+    | inl begins ↦ cc
+    | inr idle ↦ absurd (false≢true (sym (ap is_idle h) ∙ idle))
+  ]
+
+  pub nobody_looks : (i t : ℕ) → place_at c x i ≡ Place.Poll t InPoll.Resume → ⊥
+  nobody_looks i t h = let it = at_each (λ p. (p ≡ Place.BeginTurn) ⊎ (is_idle p ≡ true)) (inl refl) (λ p is. inr is) i in elim it [
+    | inl begins ↦ cc
+    | inr idle ↦ absurd (false≢true (sym (ap is_idle h) ∙ idle))
+  ]
+
+  -- an open one that sleeps is in a turn
+  tests : (i : ℕ) → is_open (seat_of s i).phase ≡ true → sleeps c x i ≡ true → has_tested (place_at c x i) ≡ true
+  tests i opened asleep = abed_tested (place_at c x i) (held.abed i asleep) (placed.stays i opened)
+
+  pub told_open : (i : ℕ) → is_open (seat_of s i).phase ≡ true → sleeps c x i ≡ true → HasTold (own_of x.world i) (desk_of c x i)
+  told_open i opened asleep = settled.told i (or_left (has_tested (place_at c x i)) (is_end (place_at c x i)) (tests i opened asleep))
+
+  pub told : (i : ℕ) → i < length x.desks → HasTold (own_of x.world i) (desk_of c x i)
+  told i within = elim (down c x held all i) [
+    | inl over ↦ settled.told i (or_right (has_tested (place_at c x i)) (is_end (place_at c x i)) (placed.over i within over))
+    | inr asleep ↦ told_open i asleep.0 asleep.1
+  ]
+
+  -- A WORKER THAT HAS ENDED has no request that isn't over, nor a sleeper
+
+  pub over_of : (i : ℕ) → has_ended (seat_of s i).phase ≡ true → (k : ℕ) → (request_of s k).worker ≡ i → (is_resolved (request_of s k).phase ≡ true) × ((request_of s k).released ≡ true)
+  over_of i over k own =
+      let none = sym (booked.counted i) ∙ (booked.over i over).0 in
+      let released = all_released i s.requests none k own in
+      (booked.let_go k released, released)
+
+  -- AN OPEN ONE THAT SLEEPS
+
+  module _ (i : ℕ) (opened : is_open (seat_of s i).phase ≡ true) (asleep : sleeps c x i ≡ true) where
+    pub submitted : HasSubmitted c (own_of x.world i)
+    submitted = settled.submitted i (tests i opened asleep)
+
+    -- none of its requests is staged or landed, and the kernel was told of all cancels of those that aren't over
+    pub entered : (k : ℕ) → (request_of s k).worker ≡ i → (is_staged (request_of s k).phase ≡ false) × (is_landed (request_of s k).phase ≡ false)
+    entered k own = elim (abed_where (place_at c x i) (held.abed i asleep)) [
+      | inl on_word ↦ let over = over_phase (request_of s k).phase (all_over i s.requests (settled.free i on_word) k own) in (over.staged, over.landed)
+      | inr on_ring ↦ (
+        (settled.entered_then i asleep on_ring).staged k own,
+        not_true (is_landed (request_of s k).phase) (λ landed.
+            false≢true (subst (λ l. is_in k l ≡ true) (settled.landed i asleep on_ring) (subst (λ j. is_in k (seat_of s j).landed ≡ true) own ((booked.listed k).landed_in landed)))),
+      )
+    ]
+
+    untold_over : (k : ℕ) → is_in k (own_of x.world i).untold ≡ true → is_resolved (request_of s k).phase ≡ true
+    untold_over k untold = elim (abed_where (place_at c x i) (held.abed i asleep)) [
+      | inl on_word ↦ all_over i s.requests (settled.free i on_word) k (booked.untold i k untold).1
+      | inr on_ring ↦ absurd (false≢true (subst (λ l. is_in k l ≡ true) (settled.entered_then i asleep on_ring).untold untold))
+    ]
+
+    pub both_ahead : (is_after s.clock (first_timer i s.requests) ≡ true) × (is_after s.clock (first_until i s.sleepers) ≡ true)
+    both_ahead =
+        after_earlier s.clock (first_timer i s.requests) (first_until i s.sleepers)
+        (subst (λ b. is_after s.clock (if b then earlier (first_timer i s.requests) (first_until i s.sleepers) else first_timer i s.requests) ≡ true) opened (booked.dues i (not-true _ asleep)).1)
+
+  -- CANCELS THAT THE KERNEL WASN'T TOLD
+
+  none_in : (untold : List ℕ) → ((k : ℕ) → is_in k untold ≡ true → is_resolved (request_of s k).phase ≡ true) → list_any (λ r. not (is_resolved (request_of s r).phase)) untold ≡ false
+  none_in [] each = refl
+  none_in (r ∷ untold) each =
+      rw (each r (or_left (r == r) (is_in r untold) (eq-eqb r r refl)), none_in untold (λ k h. each k (or_right (r == k) (is_in k untold) h))) refl
+
+  pub cancels_done : (i : ℕ) → is_cancel_untold s (own_of x.world i) ≡ false
+  cancels_done i = none_in (own_of x.world i).untold (λ k untold. elim (down c x held all i) [
+    | inl over ↦ (over_of i over k (booked.untold i k untold).1).0
+    | inr asleep ↦ untold_over i asleep.0 asleep.1 k untold
+  ])
+
+  -- SLEEPERS
+
+  pub sleeper_done : (z : ℕ) → is_sleeper_unfinished s (sleeper_of s z) ≡ false
+  sleeper_done z = let i = (sleeper_of s z).worker in elim (down c x held all i) [
+    | inl over ↦ ap (λ b. b && nat_le (sleeper_of s z).until s.clock) ((booked.over i over).1 z)
+    | inr asleep ↦ none_slept i s.clock s.sleepers (both_ahead i asleep.0 asleep.1).1 z
+  ]

@@ -1,0 +1,235 @@
+-- Where all workers sleep nothing is unfinished.
+use Rattle.std.proofs.Common.{◌≡◌, ◌≢◌, ℕ, ◌<◌, ◌==◌, ◌&&◌, ◌||◌, Bool, true, false, not, List, [], ◌∷◌, length, Option, Some, None, ◌∙◌, refl, sym, ap, subst, arith, inl, inr}
+use Rattle.std.proofs.lemmas.Bool.{true≢false, false≢true, and_parts, cases_Bool, eqb-true, or_cases}
+use Rattle.std.proofs.lemmas.{List.get_or_past, Option.{get_or_from_slice_get, slice_get_cases}}
+use Rattle.std.specs.Prelude.{nat_lt}
+use Rattle.std.specs.List.{list_all, list_any}
+use Rattle.exec_machine.specs.{declared.{config.Configuration.Configuration, state.{Forwarding.Forwarding, MailMessage.MailMessage, Request.Request, TaskPhase.TaskPhase, Waiting.Waiting, WorkerPhase.WorkerPhase}}, Deadlines.is_due, Progress.{IsRightlyAsleep, NothingUnfinished, all_asleep, has_come, has_to_close, is_request_unfinished, is_runnable, is_task_unfinished, sleeps_for_nothing}, Ranges.ring_size, Same.{is_none, is_number, same_message}, Tests.{has_ended, is_awake, is_closing, is_done, is_empty, is_gated, is_open, is_queued, is_ready, is_resolved}, World.{Common, Own as Books, Task, no_task, open_of, own_of, request_of, seat_of, sleeper_of, task_of}}
+use Rattle.exec_machine.specs.declared.state.Forwarding.TheVariants as forwarding
+use Rattle.exec_machine.specs.declared.state.MailMessage.TheVariants as message
+use Rattle.exec_machine.specs.declared.state.TaskPhase.TheVariants as task
+use Rattle.exec_machine.specs.declared.state.Waiting.TheVariants as waiting
+use Rattle.exec_machine.specs.declared.state.WorkerPhase.TheVariants as worker
+use Rattle.exec_moves.specs.{declared.{handing.Heard.Heard, idling.Stay.Stay, place.Place.Place}, Plays.{Playing, desk_of}, Poll.is_noted, Told.has_number}
+use Rattle.exec_books.specs.Listed.{is_in}
+use Rattle.exec_settled.proofs.Undone.{eight, enroll_case, none_due, not_all, not_true}
+use Rattle.exec_books.specs.Booked.{IsBooked, IsUnderWay}
+use Rattle.exec_rest.specs.{AtRest.{IsAtRest, IsPlaced, RestsWell, stays_closing}, Rested.{IsRestful, is_latched, place_at, sleeps}}
+use Rattle.exec_rest.proofs.Rest.{down, unlatched}
+use Rattle.exec_settled.specs.{Awaited.{IsAwaited, IsToBeWoken, IsToHear}, Given.{IsGiven, WaitsFor}, Permits.{IsPermitted, is_past}, Settled.{IsSettled, waits_closing}}
+use Rattle.exec_settled.proofs.Resting.{abed_past, both_ahead, cancels_done, entered, nobody_hands, nobody_looks, nobody_passes, nobody_wakes, over_of, over_phase, sleeper_done, submitted, told, told_open}
+
+waits_there : (p : Place) → stays_closing p ≡ true → waits_closing p ≡ true
+waits_there (Place.RingWait y Stay.Closing) h = refl
+waits_there _ h = absurd (false≢true h)
+
+not_both : (p : WorkerPhase) → is_open p ≡ true → has_ended p ≡ true → ⊥
+not_both worker.Open opened over = false≢true over
+not_both worker.Closing opened over = false≢true opened
+not_both worker.Ended opened over = false≢true opened
+
+-- a task that is to be polled, or was woken in a poll
+runs_on : (p : TaskPhase) → (is_ready p || is_noted p) ≡ true → is_runnable p ≡ true
+runs_on task.Queued h = refl
+runs_on (task.Noted i) h = refl
+runs_on (task.Running i) h = refl
+runs_on task.Idle h = absurd (false≢true h)
+runs_on task.Done h = absurd (false≢true h)
+
+-- a number is in no empty list
+no_number : (k : ℕ) (ns : List ℕ) → ns ≡ [] → has_number k ns ≡ true → ⊥
+no_number k ns none h = false≢true (subst (λ l. has_number k l ≡ true) none h)
+
+number_is : (k : ℕ) (o : Option ℕ) → is_number k o ≡ true → o ≡ Some k
+number_is k None h = absurd (false≢true h)
+number_is k (Some j) h = ap Some (sym (eqb-true k j h))
+
+no_list : (k : ℕ) (list : List ℕ) → list ≡ [] → is_in k list ≡ true → ⊥
+no_list k list none h = false≢true (subst (λ l. is_in k l ≡ true) none h)
+
+stuck : (q cancelled n : Bool) → (q ≡ true → n ≡ false) → (q && not cancelled && n) ≡ false
+stuck false cancelled n h = refl
+stuck true true n h = refl
+stuck true false n h = h refl
+
+timeless : (i clock : ℕ) (it : Request) → it.timer ≡ None → is_due i clock it ≡ false
+timeless i clock it none = elim (cases_Bool (it.worker == i)) [ inl own ↦ rw (own, none) refl | inr other ↦ rw other refl ]
+
+-- a request that is ready may be staged only where the ring has a place
+full : (me : Books) (n : ℕ) → me.ready ≢ [] → (not (is_empty me.ready) && nat_lt me.in_flight n) ≡ false → nat_lt me.in_flight n ≡ false
+full me n some h = by me.ready some h
+  where
+    by : (ready : List ℕ) → ready ≢ [] → (not (is_empty ready) && nat_lt me.in_flight n) ≡ false → nat_lt me.in_flight n ≡ false
+    by [] some h = absurd (some refl)
+    by (r ∷ ready) some h = h
+
+-- who waits for nothing that has come is done for now
+waiting_done : (s : Common) (t : Task) → is_runnable t.phase ≡ false → (is_done t.phase || t.fresh) ≡ true → (is_done t.phase ≡ false → has_come s t.waiting ≡ false) → is_task_unfinished s t ≡ false
+waiting_done s t still fresh come = by (is_done t.phase) refl t.fresh refl
+  where
+    by : (b : Bool) → is_done t.phase ≡ b → (f : Bool) → t.fresh ≡ f → is_task_unfinished s t ≡ false
+    by true done f is = rw (still, done) refl
+    by false going true is = rw (still, going, is, come going) refl
+    by false going false is = absurd (false≢true (sym (rw (going, is) refl) ∙ fresh))
+
+module _ (c : Configuration) (x : Playing) (placed : IsPlaced c x) (given : IsGiven c x) (held : IsRestful c x) (rests : RestsWell c x) (booked : IsBooked x.world) (settled : IsSettled c x)
+    (permitted : IsPermitted c x) (awaited : IsAwaited c x) where
+  abbrev s : Common
+  s = x.world.common
+
+  module _ (all : all_asleep x.world ≡ true) where
+    -- A REQUEST
+
+    -- its permit was granted: nobody passes one on any more, and its worker was not signalled
+    ungranted : (k : ℕ) → let it = request_of s k in is_open (seat_of s it.worker).phase ≡ true → sleeps c x it.worker ≡ true → (is_gated it.phase && is_number k (open_of s it.operation.target).holder) ≡ false
+    ungranted k opened asleep = not_true _ (λ h.
+        let it = request_of s k in
+        let both = and_parts (is_gated it.phase) (is_number k (open_of s it.operation.target).holder) h in
+        elim (permitted.granted k both.0 (number_is k (open_of s it.operation.target).holder both.1) opened) [
+          | inl passes ↦ nobody_passes c x placed held booked settled all passes.0 it.operation.target passes.1
+          | inr told ↦ elim told [
+            | inl handed ↦ nobody_hands c x placed held booked settled all handed.0 it.worker handed.1
+            | inr looks ↦ elim (or_cases (is_latched c x it.worker) (not (is_past it.operation.target (place_at c x it.worker))) looks) [
+              | inl latched ↦ unlatched c x held all it.worker asleep latched
+              | inr ahead ↦ false≢true (sym (ap not (abed_past it.operation.target (place_at c x it.worker) (held.abed it.worker asleep) (placed.stays it.worker opened))) ∙ ahead)
+            ]
+          ]
+        ])
+
+    of_ended : (k : ℕ) → has_ended (seat_of s (request_of s k).worker).phase ≡ true → is_request_unfinished c x.world k (request_of s k) ≡ false
+    of_ended k over =
+        let it = request_of s k in
+        let is = over_of c x placed held booked settled all it.worker over k refl in
+        let p = over_phase it.phase is.0 in
+        eight _ _ _ _ _ _ _ _
+        (ap (λ b. b && is_number k (open_of s it.operation.target).holder) p.gated)
+        (ap (λ b. b && not it.cancelled && nat_lt (own_of x.world it.worker).in_flight (ring_size c)) p.queued)
+        p.staged p.landed
+        (ap (λ b. not b && not it.cancelled && is_none it.timer && not (is_none it.operation.deadline)) is.0)
+        (ap (λ b. b && it.cancelled && not it.cancel_staged) p.in_flight)
+        (not_true _ (λ h. false≢true (sym (ap not is.1) ∙ (and_parts (is_resolved it.phase) (not it.released) h).1)))
+        (timeless it.worker s.clock it (booked.timed k is.0))
+
+    of_sleeper : (k : ℕ) → is_open (seat_of s (request_of s k).worker).phase ≡ true → sleeps c x (request_of s k).worker ≡ true → is_request_unfinished c x.world k (request_of s k) ≡ false
+    of_sleeper k opened asleep =
+        let it = request_of s k in
+        let i = it.worker in
+        let clear = submitted c x placed held booked settled all i opened asleep in
+        let done = entered c x placed held booked settled all i opened asleep k refl in
+        eight _ _ _ _ _ _ _ _
+        (ungranted k opened asleep)
+        (stuck (is_queued it.phase) it.cancelled (nat_lt (own_of x.world i).in_flight (ring_size c)) (λ queued. full (own_of x.world i) (ring_size c) (λ none. no_list k (own_of x.world i).ready none ((booked.listed k).queued queued)) clear.unstaged))
+        done.0 done.1
+        (not_true _ (λ h. no_list k (own_of x.world i).unenrolled clear.unenrolled ((booked.listed k).unenrolled (enroll_case (is_resolved it.phase) it.cancelled (is_none it.timer) (is_none it.operation.deadline) h))))
+        (not_true _ (λ h. no_list k (own_of x.world i).cancels clear.cancels ((booked.listed k).cancels h)))
+        (not_true _ (λ h. no_list k (own_of x.world i).ended (told_open c x placed held booked settled all i opened asleep).ended ((booked.listed k).over h)))
+        (none_due i s.clock s.requests (both_ahead c x placed held booked settled all i opened asleep).0 k)
+
+    request_done : (k : ℕ) → is_request_unfinished c x.world k (request_of s k) ≡ false
+    request_done k = elim (down c x held all (request_of s k).worker) [
+      | inl over ↦ of_ended k over
+      | inr asleep ↦ of_sleeper k asleep.0 asleep.1
+    ]
+
+    -- A TASK
+
+    rested : IsAtRest c x
+    rested = rests all
+
+    -- not to be polled, nor in a poll
+    still : (t : ℕ) → is_runnable (task_of s t).phase ≡ false
+    still t = elim ((slice_get_cases s.tasks t).1) [
+      | inl found ↦ subst (λ (it : Task). is_runnable it.phase ≡ false) (sym (get_or_from_slice_get s.tasks t found.0 no_task found.2)) (rested.tasks t found.0 found.2)
+      | inr gone ↦ subst (λ (it : Task). is_runnable it.phase ≡ false) (sym (get_or_past s.tasks t no_task gone.0)) refl
+    ]
+
+    fresh : (t : ℕ) → (is_done (task_of s t).phase || (task_of s t).fresh) ≡ true
+    fresh t = elim ((slice_get_cases s.tasks t).1) [
+      | inl found ↦ subst (λ (it : Task). (is_done it.phase || it.fresh) ≡ true) (sym (get_or_from_slice_get s.tasks t found.0 no_task found.2)) (rested.woken t found.0 found.2)
+      | inr gone ↦ subst (λ (it : Task). (is_done it.phase || it.fresh) ≡ true) (sym (get_or_past s.tasks t no_task gone.0)) refl
+    ]
+
+    no_wake : (i t : ℕ) → i < length x.desks → IsToBeWoken c x i t → ⊥
+    no_wake i t within (inl runs) = true≢false (sym runs ∙ still t)
+    no_wake i t within (inr wakes) = no_number t (desk_of c x i).wakes (told c x placed held booked settled all i within).wakes wakes
+
+    no_news : (i t : ℕ) (of : Heard) → IsToHear c x i t of → ⊥
+    no_news i t of (inl wakes) = nobody_wakes c x placed held booked settled all i t of wakes.0 wakes.1
+    no_news i t of (inr (inl ready)) = true≢false (sym (runs_on (task_of s t).phase ready) ∙ still t)
+    no_news i t of (inr (inr looks)) = nobody_looks c x placed held booked settled all looks.0 t looks.1
+
+    no_message : (m : MailMessage) (i : ℕ) → (seat_of s i).mailbox_closed ≡ false → IsUnderWay m (seat_of s i) → ⊥
+    no_message m i takes (inl there) = false≢true (subst (λ l. list_any (same_message m) l ≡ true) (rested.messages i) there)
+    no_message m i takes (inr shut) = true≢false (sym shut ∙ takes)
+
+    -- who waits for a request waits for one that isn't over
+    no_request_came : (t k : ℕ) → WaitsFor s t (waiting.Request k) → (f : Forwarding) → (request_of s k).forwarding ≡ f → is_resolved (request_of s k).phase ≡ true → ⊥
+    no_request_came t k waits f is over =
+        let it = given.awaits t k waits in
+        let within : (request_of s k).worker < length x.desks = omega (arith, booked.requests k it.there, placed.laid.desks) in
+        by f is within it.takes_mail
+      where
+        by : (f : Forwarding) → (request_of s k).forwarding ≡ f → (request_of s k).worker < length x.desks → (seat_of s (request_of s k).worker).mailbox_closed ≡ false → ⊥
+        by forwarding.Unsent is within takes = no_wake (request_of s k).worker t within (awaited.woken t k waits is over)
+        by forwarding.Sent is within takes = no_message (message.ForwardRequest k) (request_of s k).worker takes (booked.sent k is)
+        by forwarding.Applied is within takes = elim (awaited.answered t k waits is over) [
+          | inl result ↦ no_number k (desk_of c x (request_of s k).worker).results (told c x placed held booked settled all (request_of s k).worker within).results result
+          | inr sent ↦ no_news (request_of s k).worker t (Heard.Request k) sent.1
+        ]
+
+    no_sleeper_came : (t z : ℕ) → WaitsFor s t (waiting.Timer z) → (f : Forwarding) → (sleeper_of s z).forwarding ≡ f → (sleeper_of s z).fired ≡ true → ⊥
+    no_sleeper_came t z waits f is over =
+        let it = given.sleeps t z waits in
+        let within : (sleeper_of s z).worker < length x.desks = omega (arith, booked.sleepers z it.there, placed.laid.desks) in
+        by f is within it.takes_mail
+      where
+        by : (f : Forwarding) → (sleeper_of s z).forwarding ≡ f → (sleeper_of s z).worker < length x.desks → (seat_of s (sleeper_of s z).worker).mailbox_closed ≡ false → ⊥
+        by forwarding.Unsent is within takes = no_wake (sleeper_of s z).worker t within (awaited.fired t z waits is over)
+        by forwarding.Sent is within takes = no_message (message.ForwardTimer z) (sleeper_of s z).worker takes (booked.sent_too z is)
+        by forwarding.Applied is within takes = elim (awaited.alarmed t z waits is over) [
+          | inl completion ↦ no_number z (desk_of c x (sleeper_of s z).worker).completions (told c x placed held booked settled all (sleeper_of s z).worker within).completions completion
+          | inr sent ↦ no_news (sleeper_of s z).worker t (Heard.Timer z) sent.1
+        ]
+
+    not_come : (t : ℕ) (what : Waiting) → (task_of s t).waiting ≡ what → is_done (task_of s t).phase ≡ false → has_come s what ≡ false
+    not_come t (waiting.Request k) is going = not_true _ (no_request_came t k (record { going = going; waits = is }) (request_of s k).forwarding refl)
+    not_come t (waiting.Timer z) is going = not_true _ (no_sleeper_came t z (record { going = going; waits = is }) (sleeper_of s z).forwarding refl)
+    not_come t waiting.Nothing is going = refl
+    not_come t waiting.Wake is going = refl
+    not_come t waiting.Woken is going = refl
+    not_come t waiting.Yielded is going = refl
+
+    task_finished : (t : ℕ) → is_task_unfinished s (task_of s t) ≡ false
+    task_finished t = waiting_done s (task_of s t) (still t) (fresh t) (not_come t (task_of s t).waiting refl)
+
+    -- A WORKER that is open has a root that isn't over
+    need_not_close : (i : ℕ) → has_to_close x.world i (seat_of s i) ≡ false
+    need_not_close i = not_true _ (λ h.
+        let both = and_parts (is_open (seat_of s i).phase) (is_done (task_of s (own_of x.world i).root).phase) h in
+        elim (down c x held all i) [
+          | inl over ↦ not_both (seat_of s i).phase both.0 over
+          | inr asleep ↦ true≢false (sym both.1 ∙ given.roots i asleep.0 (held.abed i asleep.1))
+        ])
+
+    nothing : NothingUnfinished c x.world
+    nothing =
+        record {
+          tasks = task_finished;
+          messages = rested.messages;
+          requests = request_done;
+          sleepers = sleeper_done c x placed held booked settled all;
+          cancels = cancels_done c x placed held booked settled all;
+          workers = need_not_close;
+        }
+
+  -- a closing worker that sleeps waits on its ring, with a request that isn't over
+  closing : (i : ℕ) → sleeps_for_nothing s i (seat_of s i) ≡ false
+  closing i = not_true _ (λ h.
+      let seat = seat_of s i in
+      let every = and_parts (is_closing seat.phase && not (is_awake seat.rest)) (list_all (λ r. not (r.worker == i) || is_resolved r.phase) s.requests) h in
+      let both = and_parts (is_closing seat.phase) (not (is_awake seat.rest)) every.0 in
+      let there = given.closing i both.0 (held.abed i both.1) in
+      false≢true (sym (not_all i s.requests (settled.busy i (waits_there (place_at c x i) there))) ∙ every.1))
+
+  pub rightly : IsRightlyAsleep c x.world
+  rightly = record { asleep = nothing; closing = closing }

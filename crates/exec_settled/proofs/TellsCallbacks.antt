@@ -1,0 +1,198 @@
+-- What a worker tells in its callbacks: who is to be woken is woken, and an end is sent to who waits elsewhere, which is woken next.
+use Rattle.std.proofs.Common.{◌≡◌, ℕ, ◌==◌, Bool, true, false, List, [], ◌∷◌, drop, Option, Some, None, refl, sym, ap, ◌∙◌, subst, inl, inr, nat_lt, if◌then◌else◌}
+use Rattle.std.proofs.lemmas.Bool.{false≢true, eq-eqb, eqb-true, or_cases, or_left, or_right}
+use Rattle.std.specs.Prelude.{◌⊎◌}
+use Rattle.exec_machine.specs.{declared.{config.Configuration.Configuration, event.Event.TheVariants.{Wake}}, Ranges.ring_size, Tests.{is_done, is_idle}, World.{Common, Task, Own as Books, request_of, sleeper_of, task_of}}
+use Rattle.exec_moves.specs.{declared.{handing.{AfterCallbacks.AfterCallbacks, Heard.Heard}, place.{InCallbacks.InCallbacks, Place.Place}}, Callback.{Item, Item.{Answers, Completes, LetsGo, Nothing, Releases, Wakes}, first_of, item_next, tells_waiter, woken_by}, Move.{move_callbacks, move_item}, State.{Desk, Moved, Things}, Told.{has_number, in_order}}
+use Rattle.exec_moves.specs.declared.handing.Heard.TheVariants as heard
+use Rattle.exec_moves.specs.declared.place.InCallbacks.TheVariants as callback
+use Rattle.exec_moves.specs.declared.place.Place.TheVariants as at
+use Rattle.exec_settled.proofs.{Tells.WakesNext, TellsPlain.{Mild, TellsAll, all_told, is_mute, late, lists_if, lists_of, mild, mildly, quiet, told_apart}}
+
+-- WHAT WAS SENT
+
+pub in_order_has : (n : ℕ) (ns : List ℕ) → has_number n (in_order n ns) ≡ true
+in_order_has n [] = or_left (n == n) false (eq-eqb n n refl)
+in_order_has n (m ∷ ms) = by (nat_lt n m) (n == m) refl (in_order_has n ms)
+  where
+    by : (before same : Bool) → (n == m) ≡ same → has_number n (in_order n ms) ≡ true → has_number n (if before then n ∷ (m ∷ ms) else if same then m ∷ ms else m ∷ in_order n ms) ≡ true
+    by true same is later = or_left (n == n) (has_number n (m ∷ ms)) (eq-eqb n n refl)
+    by false true is later = or_left (m == n) (has_number n ms) (eq-eqb m n (sym (eqb-true n m is)))
+    by false false is later = or_right (m == n) (has_number n (in_order n ms)) later
+
+pub in_order_keeps : (k n : ℕ) (ns : List ℕ) → has_number k ns ≡ true → has_number k (in_order n ns) ≡ true
+in_order_keeps k n [] h = absurd (false≢true h)
+in_order_keeps k n (m ∷ ms) h = by (nat_lt n m) (n == m) (or_cases (m == k) (has_number k ms) h) (in_order_keeps k n ms)
+  where
+    by : (before same : Bool) → ((m == k) ≡ true) ⊎ (has_number k ms ≡ true) → (has_number k ms ≡ true → has_number k (in_order n ms) ≡ true) → has_number k (if before then n ∷ (m ∷ ms) else if same then m ∷ ms else m ∷ in_order n ms) ≡ true
+    by true same either later = or_right (n == k) (has_number k (m ∷ ms)) h
+    by false true either later = h
+    by false false (inl this) later = or_left (m == k) (has_number k (in_order n ms)) this
+    by false false (inr rest) later = or_right (m == k) (has_number k (in_order n ms)) (later rest)
+
+-- WHAT IS NEXT is the first of its list
+
+first_or : (k n : ℕ) (later : List ℕ) → has_number k (n ∷ later) ≡ true → (k ≡ n) ⊎ (has_number k later ≡ true)
+first_or k n later h = elim (or_cases (n == k) (has_number k later) h) [ inl this ↦ inl (sym (eqb-true n k this)) | inr rest ↦ inr rest ]
+
+abbrev item_number : Item → ℕ
+item_number (Wakes t) = t
+item_number LetsGo = 0
+item_number (Releases r) = r
+item_number (Completes z) = z
+item_number (Answers r) = r
+item_number Nothing = 0
+
+data Sort : Type 0 where
+  Waking : Sort
+  Letting : Sort
+  Releasing : Sort
+  Completing : Sort
+  Answering : Sort
+  None_of_all : Sort
+
+abbrev sort_of : Item → Sort
+sort_of (Wakes t) = Waking
+sort_of LetsGo = Letting
+sort_of (Releases r) = Releasing
+sort_of (Completes z) = Completing
+sort_of (Answers r) = Answering
+sort_of Nothing = None_of_all
+
+-- what stands in the list is the first of it, or behind that
+taken : (ns : List ℕ) (item : ℕ → Item) (later it : Item) → ((n : ℕ) → item_number (item n) ≡ n) → first_of ns item later ≡ it → (k : ℕ) → has_number k ns ≡ true → (k ≡ item_number it) ⊎ (has_number k (drop 1 ns) ≡ true)
+taken [] item later it number is k h = absurd (false≢true h)
+taken (n ∷ ns) item later it number is k h = elim (first_or k n ns h) [ inl this ↦ inl (this ∙ sym (number n) ∙ ap item_number is) | inr rest ↦ inr rest ]
+
+-- it is of another sort, and so of a later list
+passed : (ns : List ℕ) (item : ℕ → Item) (later it : Item) → ((n : ℕ) → sort_of (item n) ≡ sort_of it → ⊥) → first_of ns item later ≡ it → later ≡ it
+passed [] item later it other is = is
+passed (n ∷ ns) item later it other is = absurd (other n (ap sort_of is))
+
+passed_if : (b : Bool) (item later it : Item) → (sort_of item ≡ sort_of it → ⊥) → (if b then item else later) ≡ it → later ≡ it
+passed_if true item later it other is = absurd (other (ap sort_of is))
+passed_if false item later it other is = is
+
+module _ (me : Books) (d : Desk) where
+  wake_taken : (t : ℕ) → item_next me d ≡ Wakes t → (u : ℕ) → has_number u d.wakes ≡ true → (u ≡ t) ⊎ (has_number u (drop 1 d.wakes) ≡ true)
+  wake_taken t is u h = taken d.wakes Wakes _ (Wakes t) (λ n. refl) is u h
+
+  completion_taken : (z : ℕ) → item_next me d ≡ Completes z → (u : ℕ) → has_number u d.completions ≡ true → (u ≡ z) ⊎ (has_number u (drop 1 d.completions) ≡ true)
+  completion_taken z is u h =
+      taken d.completions Completes _ (Completes z) (λ n. refl)
+      (passed me.ended Releases _ (Completes z) (λ n e. cc) (passed_if (nat_lt 0 d.outputs) LetsGo _ (Completes z) (λ e. cc) (passed d.wakes Wakes _ (Completes z) (λ n e. cc) is))) u h
+
+  answer_taken : (r : ℕ) → item_next me d ≡ Answers r → (u : ℕ) → has_number u d.results ≡ true → (u ≡ r) ⊎ (has_number u (drop 1 d.results) ≡ true)
+  answer_taken r is u h =
+      taken d.results Answers _ (Answers r) (λ n. refl)
+      (passed d.completions Completes _ (Answers r) (λ n e. cc)
+      (passed me.ended Releases _ (Answers r) (λ n e. cc) (passed_if (nat_lt 0 d.outputs) LetsGo _ (Answers r) (λ e. cc) (passed d.wakes Wakes _ (Answers r) (λ n e. cc) is)))) u h
+
+module _ (c : Configuration) (i : ℕ) (me : Books) (s : Common) (d : Desk) (x : Things) (n : AfterCallbacks) where
+  abbrev Mildly : Moved Things → Type 0
+  Mildly m = Mild c i me s d x m
+
+  calm : (m : Moved Things) → lists_of m.desk m.thing ≡ lists_of d x → is_mute m.event ≡ true → Mildly m
+  calm m lists mute = mild c i me s d x m (quiet c i me s d x m lists mute)
+
+  woken_lists : (t : ℕ) (e : Desk) (it : Task) (home : Option ℕ) → it.home ≡ home → lists_of (woken_by (ring_size c) i me s n t e it) x ≡ lists_of e x
+  woken_lists t e it None h = rw h (lists_if (is_idle it.phase) _ _ x _ refl refl)
+  woken_lists t e it (Some home) h = rw h refl
+
+  teller_lists : (waiter : Option ℕ) (of : Heard) (e : Desk) (y : Things) → lists_of (tells_waiter (ring_size c) i me s n waiter of e) y ≡ lists_of e y
+  teller_lists None of e y = refl
+  teller_lists (Some t) of e y = lists_if (is_done (task_of s t).phase) _ _ y _ refl refl
+
+  -- who waits for it is woken next
+  teller_place : (waiter : Option ℕ) (of : Heard) (e : Desk) (t : ℕ) → waiter ≡ Some t → is_done (task_of s t).phase ≡ false
+      → (k : AfterCallbacks) × ((tells_waiter (ring_size c) i me s n waiter of e).place ≡ Place.Callbacks (InCallbacks.WakeWaiter t of) k)
+  teller_place waiter of e t waits going = (n, rw (waits, going) refl)
+
+  wakes_item : (t : ℕ) → item_next me d ≡ Wakes t → Mildly (move_item c i me s d x n (Wakes t))
+  wakes_item t is =
+      let m = move_item c i me s d x n (Wakes t) in
+      let same : lists_of m.desk x ≡ lists_of (record d { wakes = drop 1 d.wakes }) x = woken_lists t (record d { wakes = drop 1 d.wakes }) (task_of s t) _ refl in
+      mildly c i me s d x m
+      (record {
+        awaited = λ k there held going unsent observed. subst (λ l. has_number k l.awaited ≡ true) (sym same) there;
+        wakes = λ u there. elim (wake_taken me d t is u there) [ inl this ↦ inr (ap (λ q. Wake q) (sym this)) | inr rest ↦ inl (subst (λ l. has_number u l.wakes ≡ true) (sym same) rest) ];
+        results = λ k there. inl (subst (λ l. has_number k l.results ≡ true) (sym same) there);
+        completions = λ z there. inl (subst (λ l. has_number z l.completions ≡ true) (sym same) there);
+        answers = λ k there. there;
+        alarms = λ z there. there;
+      })
+      refl
+
+  completes : (z : ℕ) → item_next me d ≡ Completes z → Mildly (move_item c i me s d x n (Completes z))
+  completes z is =
+      let m = move_item c i me s d x n (Completes z) in
+      let e = record d { completions = drop 1 d.completions } in
+      let same : lists_of m.desk x ≡ lists_of e x = teller_lists (Some (sleeper_of s z).task) (heard.Timer z) e x in
+      mildly c i me s d x m
+      (record {
+        awaited = λ k there held going unsent observed. subst (λ l. has_number k l.awaited ≡ true) (sym same) there;
+        wakes = λ u there. inl (subst (λ l. has_number u l.wakes ≡ true) (sym same) there);
+        results = λ k there. inl (subst (λ l. has_number k l.results ≡ true) (sym same) there);
+        completions = λ y there. elim (completion_taken me d z is y there) [
+          | inl this ↦ inr (subst (λ q. (has_number q (in_order z x.alarms) ≡ true) × (is_done (task_of s (sleeper_of s q).task).phase ≡ false → WakesNext i s d x m (late c i me s d x m) (sleeper_of s q).task (Heard.Timer q)))
+              (sym this) (in_order_has z x.alarms, λ going. teller_place (Some (sleeper_of s z).task) (heard.Timer z) e (sleeper_of s z).task refl going))
+          | inr rest ↦ inl (subst (λ l. has_number y l.completions ≡ true) (sym same) rest)
+        ];
+        answers = λ k there. there;
+        alarms = λ y there. in_order_keeps y z x.alarms there;
+      })
+      refl
+
+  sends : (r : ℕ) → item_next me d ≡ Answers r → Mildly (move_item c i me s d x n (Answers r))
+  sends r is =
+      let m = move_item c i me s d x n (Answers r) in
+      let e = record d { results = drop 1 d.results } in
+      let same : lists_of m.desk x ≡ lists_of e x = teller_lists (request_of s r).waiter (heard.Request r) e x in
+      mildly c i me s d x m
+      (record {
+        awaited = λ k there held going unsent observed. subst (λ l. has_number k l.awaited ≡ true) (sym same) there;
+        wakes = λ u there. inl (subst (λ l. has_number u l.wakes ≡ true) (sym same) there);
+        results = λ k there. elim (answer_taken me d r is k there) [
+          | inl this ↦ inr (subst (λ q. (has_number q (in_order r x.answers) ≡ true)
+              × ((t : ℕ) → (request_of s q).waiter ≡ Some t → is_done (task_of s t).phase ≡ false → WakesNext i s d x m (late c i me s d x m) t (Heard.Request q)))
+              (sym this) (in_order_has r x.answers, λ t waits going. teller_place (request_of s r).waiter (heard.Request r) e t waits going))
+          | inr rest ↦ inl (subst (λ l. has_number k l.results ≡ true) (sym same) rest)
+        ];
+        completions = λ z there. inl (subst (λ l. has_number z l.completions ≡ true) (sym same) there);
+        answers = λ k there. in_order_keeps k r x.answers there;
+        alarms = λ z there. there;
+      })
+      refl
+
+  called_item : (it : Item) → item_next me d ≡ it → Mildly (move_item c i me s d x n it)
+  called_item (Wakes t) is = wakes_item t is
+  called_item LetsGo is = calm _ refl refl
+  called_item (Releases r) is = calm _ refl refl
+  called_item (Completes z) is = completes z is
+  called_item (Answers r) is = sends r is
+  called_item Nothing is = calm _ refl refl
+
+  abbrev woken_task : Place → ℕ
+  woken_task (at.Callbacks (callback.WakeWaiter t of) k) = t
+  woken_task _ = 0
+
+  abbrev polls_here : Place → Bool
+  polls_here (at.Poll t p) = true
+  polls_here _ = false
+
+  -- what was sent is followed by the wake
+  wakes_waiter : (t : ℕ) (of : Heard) → d.place ≡ at.Callbacks (callback.WakeWaiter t of) n → TellsAll c i me s d x (move_callbacks c i me s d x (callback.WakeWaiter t of) n)
+  wakes_waiter t of is =
+      let m = move_callbacks c i me s d x (callback.WakeWaiter t of) n in
+      let it : Mildly m = calm m (woken_lists t d (task_of s t) _ refl) refl in
+      all_told c i me s d x m it.lists it.ends it.says
+      (record {
+        waking = λ u other k h. ap (λ p. Wake (woken_task p)) (sym is ∙ h);
+        resumes = λ u k h waits applied sent over. absurd (false≢true (ap polls_here (sym is ∙ h)));
+        resumes_too = λ u z h waits applied sent. absurd (false≢true (ap polls_here (sym is ∙ h)));
+      })
+
+  pub calls : (p : InCallbacks) → d.place ≡ at.Callbacks p n → TellsAll c i me s d x (move_callbacks c i me s d x p n)
+  calls callback.TakeBatch is = told_apart c i me s d x _ (at.Callbacks callback.TakeBatch n) is refl (calm _ refl refl)
+  calls callback.CallBack is = told_apart c i me s d x _ (at.Callbacks callback.CallBack n) is refl (called_item (item_next me d) refl)
+  calls (callback.WakeWaiter t of) is = wakes_waiter t of is

@@ -1,0 +1,242 @@
+-- Places whose moves leave the lists of what is to be told as they are: all that hands tasks on, searches, looks and waits.
+use Rattle.std.proofs.Common.{◌≡◌, ℕ, ◌==◌, Bool, true, false, ◌||◌, List, [], ◌∷◌, nat_le, nat_lt, Option, Some, None, refl, if◌then◌else◌}
+use Rattle.std.specs.Prelude.{not, ◌&&◌, drop}
+use Rattle.exec_words.specs.{Queue.{Queue, head_of}, Word.is_idle_at}
+use Rattle.exec_words.specs.declared.{idle.WorkerSet.WorkerSet, word.PureWord.PureWord}
+use Rattle.exec_machine.specs.{declared.{config.Configuration.Configuration, event.Event.{TheVariants.{Closed, Rouse, Send, Sleep, Turn}}, state.MailMessage.{MailMessage, TheVariants.Root}}, Choice.{Choice, Choice.{Plain, Posts}}, Deadlines.next_due, Ranges.ring_size, Tests.is_awake, World.{Common, Own as Books, seat_of}}
+use Rattle.exec_moves.specs.{declared.{handing.{AfterCancels.AfterCancels, AfterClaim.AfterClaim, AfterKick.AfterKick, AfterLeave.AfterLeave, AfterPop.AfterPop, AfterPush.AfterPush, AfterSend.AfterSend, AfterSignal.AfterSignal, First.First, InGlobal.InGlobal, InKick.InKick, InPop.InPop, InPush.InPush, InSignal.InSignal}, idling.{AfterWait.AfterWait, InLook.InLook, InRingWait.InRingWait, InScan.InScan, InSearch.InSearch, InWordWait.InWordWait, Stay.Stay}, place.{Found.Found, InLoads.InLoads, InPick.InPick, Place.Place, Round.Round}}, Callback.is_full, Claim.{claim_worker}, Kick.leave_search, Load.{has_come, has_mail, has_submissions, is_ready, test_for_work}, Look.{look_at_mirror, withdraw}, Move.{move_global, move_kick, move_loads, move_look, move_pick, move_pop, move_push, move_ring_wait, move_scan, move_search, move_signal, move_word_wait}, Pick.{begin_turn, load_mirror, take_root_flag, take_share}, Pop.{after_pop, pops, same_head}, Search.from_of, Send.{Mailbox, asks, first_letter, is_left_out, payer_of_send, posted, posting_of, send_cancel, send_root, sent}, State.{Desk, Moved, Own, Things, does, queue_of, word_of}, Submit.with_poll, Thing.{aside, mailbox_of, puts, ring_of, set_idle, set_queue, set_ring, with_global, with_idle, with_mailbox, with_queue, with_queues, with_ring, with_word}, Wait.{after_sleep, enter_full_ring, enter_ring, has_completion, noting_sleep, read_clock}}
+use Rattle.exec_moves.specs.declared.handing.AfterPop.TheVariants as after_pops
+use Rattle.exec_moves.specs.declared.handing.AfterSend.TheVariants as send
+use Rattle.exec_moves.specs.declared.handing.InGlobal.TheVariants as global
+use Rattle.exec_moves.specs.declared.handing.InKick.TheVariants as kick
+use Rattle.exec_moves.specs.declared.handing.InPop.TheVariants as pop
+use Rattle.exec_moves.specs.declared.handing.InPush.TheVariants as push
+use Rattle.exec_moves.specs.declared.handing.InSignal.TheVariants as signals
+use Rattle.exec_moves.specs.declared.idling.InLook.TheVariants as look
+use Rattle.exec_moves.specs.declared.idling.InRingWait.TheVariants as ring
+use Rattle.exec_moves.specs.declared.idling.InScan.TheVariants as scan
+use Rattle.exec_moves.specs.declared.idling.InSearch.TheVariants as search
+use Rattle.exec_moves.specs.declared.idling.InWordWait.TheVariants as word
+use Rattle.exec_moves.specs.declared.place.InLoads.TheVariants as load
+use Rattle.exec_moves.specs.declared.place.InPick.TheVariants as pick
+use Rattle.exec_moves.specs.declared.place.Place.TheVariants as at
+use Rattle.exec_settled.proofs.TellsPlain.{Quiet, TellsAll, is_apart, is_mute, lists_if, lists_of, mute_if, plain_tells, quiet, quiet_if}
+
+module _ (c : Configuration) (i : ℕ) (me : Books) (s : Common) (d : Desk) (x : Things) where
+  abbrev Plainly : Moved Things → Type 0
+  Plainly m = Quiet c i me s d x m
+
+  -- the lists stay by computation
+  calm : (m : Moved Things) → lists_of m.desk m.thing ≡ lists_of d x → is_mute m.event ≡ true → Plainly m
+  calm m lists mute = quiet c i me s d x m lists mute
+
+  either : {T : Type 0} (back : T → Things) (b : Bool) (m n : Moved T) → Plainly (puts back m) → Plainly (puts back n) → Plainly (puts back (if b then m else n))
+  either back b m n one other = quiet_if c i me s d x back b m n one other
+
+  stays : (m : Moved Things) (p : Place) → d.place ≡ p → is_apart p ≡ true → Plainly m → TellsAll c i me s d x m
+  stays m p is apart it = plain_tells c i me s d x m p is apart it
+
+  -- THE BEGINNING OF A TURN
+  pub begins : d.place ≡ at.BeginTurn → TellsAll c i me s d x (aside x (begin_turn i s d))
+  begins is = stays _ at.BeginTurn is refl (calm _ refl refl)
+
+  mirror : (f : First) (g : List ℕ) → Plainly (with_global x (load_mirror c f d g))
+  mirror f [] = calm _ refl refl
+  mirror f (t ∷ g) = calm _ refl refl
+
+  share : (f : First) (room held : ℕ) (own : Queue ℕ) (g : List ℕ) → Plainly (with_queues i x (take_share c f room held d (record { global = g; queue = own })))
+  share f room held own [] = calm _ refl refl
+  share f room held own (t ∷ g) = calm _ refl refl
+
+  picked : (p : InPick) → Plainly (move_pick c i d x p)
+  picked pick.CountDown = either (λ (u : Own). x) (nat_le d.countdown 1) _ _ (calm _ refl refl) (calm _ refl refl)
+  picked (pick.LoadMirror f) = mirror f x.global
+  picked (pick.LoadHead f) = calm _ refl refl
+  picked (pick.TakeShare f room held) = share f room held (queue_of x i) x.global
+
+  pub picks : (p : InPick) → d.place ≡ at.Pick p → TellsAll c i me s d x (move_pick c i d x p)
+  picks p is = stays _ (at.Pick p) is refl (picked p)
+
+  pub takes_flag : d.place ≡ at.TakeRootFlag → TellsAll c i me s d x (aside x (take_root_flag me.root d))
+  takes_flag is = stays _ at.TakeRootFlag is refl (either (λ (u : Own). x) d.root_ready _ _ (calm _ refl refl) (calm _ refl refl))
+
+  -- POPS AND PUSHES
+  after_popping : (b : AfterPop) (t : ℕ) → lists_of (after_pop c b t d) x ≡ lists_of d x
+  after_popping (after_pops.Pick f) t = refl
+  after_popping after_pops.Discard t = refl
+
+  popped : (b : AfterPop) (q : Queue ℕ) (vs : List ℕ) → q.values ≡ vs → Plainly (with_queue i x (pops c i b d q))
+  popped b q [] h = rw h (calm _ refl refl)
+  popped b q (t ∷ ts) h = rw h (calm _ (after_popping b t) refl)
+
+  pops_by : (p : InPop) (b : AfterPop) → Plainly (move_pop c i d x p b)
+  pops_by pop.PopAlone b = popped b (queue_of x i) _ refl
+  pops_by pop.LoadPopHead b = calm _ refl refl
+  pops_by (pop.ExchangePop h) b = either (set_queue i x) (same_head h (head_of (queue_of x i))) _ _ (popped b (queue_of x i) _ refl) (calm _ refl refl)
+  pops_by pop.StorePop b = popped b (queue_of x i) _ refl
+
+  pub pops_one : (p : InPop) (b : AfterPop) → d.place ≡ at.Pop p b → TellsAll c i me s d x (move_pop c i d x p b)
+  pops_one p b is = stays _ (at.Pop p b) is refl (pops_by p b)
+
+  pushes_by : (p : InPush) (b : AfterPush) → Plainly (move_push c i me s d x p b)
+  pushes_by push.LoadPushHead b = calm _ refl refl
+  pushes_by (push.StoreValue len) b = calm _ refl refl
+  pushes_by (push.FlowOver h) b = either (set_queue i x) (same_head h (head_of (queue_of x i))) _ _ (calm _ refl refl) (calm _ refl refl)
+  pushes_by push.StoreOldest b = calm _ refl refl
+
+  pub pushes : (p : InPush) (b : AfterPush) → d.place ≡ at.Push p b → TellsAll c i me s d x (move_push c i me s d x p b)
+  pushes p b is = stays _ (at.Push p b) is refl (pushes_by p b)
+
+  -- SEARCH COUNTS, KICKS, CLAIMS AND SIGNALS
+  pub leaves : (b : AfterLeave) → d.place ≡ at.LeaveSearch b → TellsAll c i me s d x (with_idle x (leave_search c i me s b d x.idle))
+  leaves b is = stays _ (at.LeaveSearch b) is refl (calm _ refl refl)
+
+  kicks_by : (p : InKick) (b : AfterKick) → Plainly (move_kick c i me s d x p b)
+  kicks_by kick.LoadKickCount b = calm _ refl refl
+  kicks_by kick.LoadKickSet b = calm _ refl refl
+  kicks_by (kick.ExchangeKickCount set) b = either (set_idle x) (x.idle.count == 0) _ _ (calm _ refl refl) (calm _ refl refl)
+  kicks_by kick.ReturnKickCount b = calm _ refl refl
+
+  pub kicks : (p : InKick) (b : AfterKick) → d.place ≡ at.Kick p b → TellsAll c i me s d x (move_kick c i me s d x p b)
+  kicks p b is = stays _ (at.Kick p b) is refl (kicks_by p b)
+
+  globals_by : (p : InGlobal) (b : AfterPush) → Plainly (move_global c i me s d x p b)
+  globals_by global.Append b = calm _ refl refl
+  globals_by global.LoadGlobalSet b = calm _ refl refl
+  globals_by (global.AddGlobalCount set) b = calm _ refl refl
+  globals_by global.ReturnGlobalCount b = calm _ refl refl
+
+  pub globals : (p : InGlobal) (b : AfterPush) → d.place ≡ at.Global p b → TellsAll c i me s d x (move_global c i me s d x p b)
+  globals p b is = stays _ (at.Global p b) is refl (globals_by p b)
+
+  pub claims : (set : WorkerSet) (b : AfterClaim) → d.place ≡ at.ClaimWorker set b → TellsAll c i me s d x (with_idle x (claim_worker set b d x.idle))
+  claims set b is = stays _ (at.ClaimWorker set b) is refl (calm _ refl refl)
+
+  signals_by : (p : InSignal) (j : ℕ) (b : AfterSignal) → Plainly (move_signal c i me s d x p j b)
+  signals_by signals.SetLatch j b = calm _ refl refl
+  signals_by (signals.Raise ring) j b = calm _ refl (mute_if (is_awake (seat_of s j).rest) Turn (Rouse j) refl refl)
+
+  pub signalled : (p : InSignal) (j : ℕ) (b : AfterSignal) → d.place ≡ at.Signal p j b → TellsAll c i me s d x (move_signal c i me s d x p j b)
+  signalled p j b is = stays _ (at.Signal p j b) is refl (signals_by p j b)
+
+  -- LOADS AND TESTS
+  loads_by : (p : InLoads) (r : Round) → Plainly (move_loads i me d x p r)
+  loads_by load.LoadOwnHead r = calm _ refl refl
+  loads_by (load.LoadOwnMirror f) r = calm _ refl refl
+  loads_by (load.LoadOwnWord f) r = calm _ refl refl
+
+  pub loads : (p : InLoads) (r : Round) → d.place ≡ at.Loads p r → TellsAll c i me s d x (move_loads i me d x p r)
+  loads p r is = stays _ (at.Loads p r) is refl (loads_by p r)
+
+  pub tests : (f : Found) → d.place ≡ at.TestForWork f → TellsAll c i me s d x (aside x (test_for_work c i me s f d))
+  tests f is = stays _ (at.TestForWork f) is refl (either (λ (u : Own). x) (is_ready me f d || has_submissions c me) _ _ (calm _ refl refl) (calm _ refl refl))
+
+  pub reads : d.place ≡ at.ReadClock → TellsAll c i me s d x (aside x (read_clock c i me s d))
+  reads is = stays _ at.ReadClock is refl (either (λ (u : Own). x) (has_come s.clock (next_due s i)) _ _ (calm _ refl refl) (calm _ refl refl))
+
+  -- SEARCH, SCAN, LOOK
+  searches_by : (p : InSearch) → Plainly (move_search c d x p)
+  searches_by search.LoadSearchCount = calm _ refl refl
+  searches_by search.AddSearchCount = calm _ refl refl
+
+  pub searches : (p : InSearch) → d.place ≡ at.Search p → TellsAll c i me s d x (move_search c d x p)
+  searches p is = stays _ (at.Search p) is refl (searches_by p)
+
+  scans_by : (p : InScan) → Plainly (move_scan c i me s d x p)
+  scans_by scan.LoadScanHead = calm _ refl refl
+  scans_by (scan.LoadTheirHead y) = calm _ refl refl
+  scans_by (scan.LoadTheirTail y h) = calm _ refl refl
+  scans_by (scan.ClaimHalf y h tail) = either (set_queue (from_of c y) x) (same_head h (head_of (queue_of x (from_of c y)))) _ _ (calm _ refl refl) (calm _ refl refl)
+  scans_by (scan.MoveHalf from h) = calm _ refl refl
+  scans_by (scan.ReleaseHalf from h) = either (set_queue from x) (same_head h (head_of (queue_of x from))) _ _ (calm _ refl refl) (calm _ refl refl)
+  scans_by scan.StoreMoved = calm _ refl refl
+
+  pub scans : (p : InScan) → d.place ≡ at.Scan p → TellsAll c i me s d x (move_scan c i me s d x p)
+  scans p is = stays _ (at.Scan p) is refl (scans_by p)
+
+  looks_at : (last : Bool) (g : List ℕ) → Plainly (with_global x (look_at_mirror last d g))
+  looks_at last [] = calm _ refl refl
+  looks_at last (t ∷ g) = calm _ refl refl
+
+  looks_by : (p : InLook) → Plainly (move_look c i s d x p)
+  looks_by look.Publish = calm _ refl refl
+  looks_by look.ReturnLookCount = calm _ refl refl
+  looks_by (look.LookAtMirror last) = looks_at last x.global
+  looks_by look.LookAtCount = calm _ refl refl
+  looks_by (look.LookAtHead j) = calm _ refl refl
+  looks_by (look.LookAtTail j h) = calm _ refl refl
+  looks_by look.ExchangeLookCount = either (set_idle x) (x.idle.count == 0) _ _ (calm _ refl refl) (calm _ refl refl)
+  looks_by look.ReturnClaimed = calm _ refl refl
+
+  pub looks : (p : InLook) → d.place ≡ at.Look p → TellsAll c i me s d x (move_look c i s d x p)
+  looks p is = stays _ (at.Look p) is refl (looks_by p)
+
+  pub withdraws : (n : AfterWait) → d.place ≡ at.Withdraw n → TellsAll c i me s d x (with_idle x (withdraw c i me s n d x.idle))
+  withdraws n is = stays _ (at.Withdraw n) is refl (calm _ refl refl)
+
+  -- THE TWO WAITS
+  enters_full : (y : Stay) (busy : Bool) → Plainly (with_ring i x (enter_full_ring y me d (record (ring_of s x i) { busy = busy })))
+  enters_full y true = calm _ refl refl
+  enters_full y false = calm _ refl refl
+
+  enters : (y : Stay) (busy : Bool) → Plainly (with_ring i x (enter_ring y me d (record (ring_of s x i) { busy = busy })))
+  enters y true = calm _ refl refl
+  enters y false = calm _ refl refl
+
+  pub polled_lists : (e : Desk) → lists_of (with_poll (ring_size c) e) x ≡ lists_of e x
+  polled_lists e = lists_if (e.polled || is_full (ring_size c) e) _ _ x _ refl refl
+
+  rings_by : (p : InRingWait) (y : Stay) → Plainly (move_ring_wait c i me s d x p y)
+  rings_by ring.EnterFullRing y = enters_full y (seat_of s i).busy
+  rings_by ring.TestRing y =
+      either (λ (u : Own). x) (has_submissions c me || (not d.polled && is_full (ring_size c) d)) _ _ (calm _ refl refl) (calm _ (polled_lists d) refl)
+  rings_by ring.ArmRing y = calm _ refl refl
+  rings_by ring.EnterRing y = enters y (seat_of s i).busy
+  rings_by ring.SleepOnRing y =
+      either (set_ring i x) (has_completion d (ring_of s x i)) _ _ (calm _ refl refl) (either (set_ring i x) (has_come s.clock (next_due s i)) _ _ (calm _ refl refl) (calm _ refl refl))
+  rings_by (ring.DisarmRing n) y = calm _ refl refl
+
+  pub ring_wait : (p : InRingWait) (y : Stay) → d.place ≡ at.RingWait p y → TellsAll c i me s d x (move_ring_wait c i me s d x p y)
+  ring_wait p y is = stays _ (at.RingWait p y) is refl (rings_by p y)
+
+  sleeps_on_word : (idle come : Bool) (w : PureWord) → (let left = record d { place = at.WordWait word.DisarmWord } in
+      Plainly (with_word i x (if idle then noting_sleep s.clock (if come then does Turn left w else does (Sleep (next_due s i)) left w) else does Turn left w)))
+  sleeps_on_word false come w = calm _ refl refl
+  sleeps_on_word true true w = calm _ refl refl
+  sleeps_on_word true false w = calm _ refl refl
+
+  slept_lists : (latch : Bool) (slept : Option ℕ) → lists_of (after_sleep s.clock latch slept d) x ≡ lists_of d x
+  slept_lists true (Some slept) = refl
+  slept_lists true None = refl
+  slept_lists false slept = refl
+
+  words_by : (p : InWordWait) → Plainly (move_word_wait i s d x p)
+  words_by (word.SpinOnBatch left) = calm _ (lists_if (has_mail d (word_of x i)) _ _ x _ refl refl) refl
+  words_by (word.SpinOnLatch left) = calm _ (lists_if (word_of x i).latch _ _ x _ refl (lists_if (nat_lt 1 left) _ _ x _ refl refl)) refl
+  words_by word.TakeLatch = calm _ refl refl
+  words_by word.ArmWord = calm _ refl refl
+  words_by word.SleepOnWord = sleeps_on_word (is_idle_at (word_of x i) d.processed) (has_come s.clock (next_due s i)) (word_of x i)
+  words_by word.DisarmWord = calm _ (slept_lists (word_of x i).latch d.slept) refl
+
+  pub word_wait : (p : InWordWait) → d.place ≡ at.WordWait p → TellsAll c i me s d x (move_word_wait i s d x p)
+  word_wait p is = stays _ (at.WordWait p) is refl (words_by p)
+
+  -- A MESSAGE to worker j, by a desk with the same lists
+  pub posts : (j : ℕ) (message : MailMessage) (choice : Choice) (b : AfterSend) (e : Desk) → lists_of e x ≡ lists_of d x
+      → Plainly (with_mailbox j x (sent c j b e (posting_of s j message choice (mailbox_of x j))))
+  posts j message choice b e same = by (seat_of s j).mailbox_closed
+    where
+      m : Mailbox
+      m = mailbox_of x j
+
+      by : (closed : Bool) → Plainly (with_mailbox j x (sent c j b e
+          (if closed then record { event = Closed; choice = Plain; signals = false; mailbox = m } else record { event = Send j message; choice = choice; signals = asks m; mailbox = posted message m })))
+      by true = calm _ same refl
+      by false = calm _ same refl
+
+  pub posts_root : (j : ℕ) (b : AfterSend) → Plainly (with_mailbox j x (send_root c s j b d (mailbox_of x j)))
+  posts_root j b = posts j Root (Posts (payer_of_send b) (is_left_out (mailbox_of x j))) b d refl
+
+  pub sends_cancel : (b : AfterCancels) → d.place ≡ at.SendCancel b → TellsAll c i me s d x (with_mailbox (first_letter d).to x (send_cancel c s b d (mailbox_of x (first_letter d).to)))
+  sends_cancel b is =
+      stays _ (at.SendCancel b) is refl (posts (first_letter d).to (first_letter d).message Plain (send.Cancels b) (record d { letters = drop 1 d.letters }) refl)

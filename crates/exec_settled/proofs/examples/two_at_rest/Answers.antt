@@ -1,0 +1,89 @@
+use Rattle.std.proofs.Common.{◌≡◌, ℕ, true, false, length, [], None, refl, sym, ap, ◌∙◌}
+use Rattle.std.proofs.lemmas.{Bool.{true≢false, false≢true}, Option.none-some}
+use Rattle.std.specs.Prelude.{slice_get}
+use Rattle.exec_machine.specs.{declared.state.{Next.Next, Waiting.Waiting}, Progress.{has_to_close, is_cancel_untold, is_task_unfinished, sleeps_for_nothing}, Tests.{is_closing, is_done, is_open}, World.{Common, open_of, own_of, seat_of, task_of}}
+use Rattle.exec_machine.specs.declared.state.Waiting.TheVariants as waiting
+use Rattle.exec_moves.specs.{Plays.desk_of, Seen.{next_at, polls_at}, Slots.is_in_slots, State.gate_of}
+use Rattle.exec_rest.specs.{Examples.{rested, two_waiting}, Places.{is_abed, is_to_sleep_on_ring}, Rested.place_at}
+use Rattle.exec_settled.specs.{Given.{IsGiven, WaitsFor, ends_in_search, in_line, passes_at}, Settled.{HasSubmitted, HasTold, ends_ring_wait, waits_closing}}
+use Rattle.exec_settled.proofs.{AwaitedTasks.is_for_thing, TwoAsleep.{each, is_at, not_at}}
+use Rattle.exec_settled.proofs.examples.two_at_rest.Goals as goal
+
+abbrev s : Common
+s = rested.world.common
+
+nobody : {T : Type 0} (t : ℕ) (what : Waiting) → is_for_thing what ≡ true → WaitsFor s t what → T
+nobody t what some w = absurd (false≢true (sym (each (λ t. is_for_thing (task_of s t).waiting ≡ false) refl refl (λ t. refl) t) ∙ ap is_for_thing w.waits ∙ some))
+
+-- lists and holders that aren't computed yet would be compared step by step
+given : IsGiven two_waiting.config rested
+given =
+    let workers : length rested.world.workers ≡ 2 = refl in let seats : length s.seats ≡ 2 = refl in
+    let gates : length rested.things.gates ≡ 0 = refl in let opens : length s.opens ≡ 0 = refl in
+    let holder : (file : ℕ) → (open_of s file).holder ≡ None = λ file. refl in
+    let first : (file : ℕ) → slice_get (in_line s (gate_of rested.things file)) 0 ≡ None = λ file. refl in
+    record {
+      owns = workers ∙ sym seats;
+      gates = gates ∙ sym opens;
+      polls = λ i. each (λ i. (own_of rested.world i).polls ≡ None) refl refl (λ i. refl) i ∙ sym (is_at polls_at None refl refl i);
+      nexts = λ i. each (λ i. (own_of rested.world i).next ≡ Next.Free) refl refl (λ i. refl) i ∙ sym (is_at next_at Next.Free refl refl i);
+      first = λ i m there. absurd (none-some m (sym (each (λ i. slice_get (seat_of s i).inbox 0 ≡ None) refl refl (λ i. refl) i) ∙ there));
+      at_gate = λ file n k there. absurd (none-some k there);
+      behind = λ file n k there. absurd (none-some k there);
+      joins = λ i t k h. absurd (none-some t (sym (is_at polls_at None refl refl i) ∙ ap polls_at h));
+      holder = λ file. holder file ∙ sym (first file);
+      passes = λ i file h. absurd (none-some file (sym (is_at passes_at None refl refl i) ∙ h));
+      gated = λ k h. absurd (false≢true h);
+      awaits = λ t k. nobody t (waiting.Request k) refl;
+      sleeps = λ t z. nobody t (waiting.Timer z) refl;
+      slots = λ k h. absurd (true≢false h);
+      beds = λ i z h. absurd (false≢true (sym (each (λ i. is_in_slots z (desk_of two_waiting.config rested i).timers ≡ false) refl refl (λ i. refl) i) ∙ h));
+      back = is_at ends_in_search false refl refl;
+      closing = λ i h. absurd (false≢true (sym (each (λ i. is_closing (seat_of s i).phase ≡ false) refl refl (λ i. refl) i) ∙ h));
+      roots = each (λ i. is_open (seat_of s i).phase ≡ true → is_abed (place_at two_waiting.config rested i) ≡ true → is_done (task_of s (own_of rested.world i).root).phase ≡ false)
+          (λ opened abed. refl) (λ opened abed. refl) (λ i opened. absurd (false≢true opened));
+    }
+
+done : (i : ℕ) → HasTold (own_of rested.world i) (desk_of two_waiting.config rested i) × HasSubmitted two_waiting.config (own_of rested.world i)
+done =
+    each (λ i. HasTold (own_of rested.world i) (desk_of two_waiting.config rested i) × HasSubmitted two_waiting.config (own_of rested.world i))
+    (record { wakes = refl; outputs = refl; ended = refl; completions = refl; results = refl }, record { unenrolled = refl; cancels = refl; unstaged = refl })
+    (record { wakes = refl; outputs = refl; ended = refl; completions = refl; results = refl }, record { unenrolled = refl; cancels = refl; unstaged = refl })
+    (λ i. (record { wakes = refl; outputs = refl; ended = refl; completions = refl; results = refl }, record { unenrolled = refl; cancels = refl; unstaged = refl }))
+
+pub returns : goal.returns
+returns c =
+    record {
+      given = given;
+      settled =
+          record {
+            told = λ i h. (done i).0;
+            submitted = λ i h. (done i).1;
+            free = λ i h. refl;
+            busy = λ i. not_at waits_closing refl refl i;
+            entered = λ i. not_at is_to_sleep_on_ring refl refl i;
+            entered_then = λ i asleep. not_at ends_ring_wait refl refl i;
+            landed = λ i asleep. not_at ends_ring_wait refl refl i;
+          };
+      permitted = record { passed = λ file k there gives. absurd (none-some k there); granted = λ k h holds opened. absurd (false≢true h) };
+      awaited =
+          record {
+            here = λ t k. nobody t (waiting.Request k) refl;
+            woken = λ t k. nobody t (waiting.Request k) refl;
+            fired = λ t z. nobody t (waiting.Timer z) refl;
+            answered = λ t k. nobody t (waiting.Request k) refl;
+            alarmed = λ t z. nobody t (waiting.Timer z) refl;
+          };
+      asleep =
+          record {
+            asleep = λ all. record {
+              tasks = each (λ t. is_task_unfinished s (task_of s t) ≡ false) refl refl (λ t. refl);
+              messages = each (λ i. (seat_of s i).inbox ≡ []) refl refl (λ i. refl);
+              requests = λ r. refl;
+              sleepers = λ z. refl;
+              cancels = each (λ i. is_cancel_untold s (own_of rested.world i) ≡ false) refl refl (λ i. refl);
+              workers = each (λ i. has_to_close rested.world i (seat_of s i) ≡ false) refl refl (λ i. refl);
+            };
+            closing = each (λ i. sleeps_for_nothing s i (seat_of s i) ≡ false) refl refl (λ i. refl);
+          };
+    }

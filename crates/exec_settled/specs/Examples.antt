@@ -1,0 +1,43 @@
+-- States to look at: workers that sleep, on a ring or on wake words, with one thing changed.
+use Rattle.std.specs.Prelude.{true, [], ◌∷◌, Some, slice_set}
+use Rattle.exec_outcomes.specs.declared.outcome.Outcome.TheVariants.{Success}
+use Rattle.exec_machine.specs.{declared.state.{Forwarding.TheVariants.Applied, Request.Request}, World.{World, no_open, task_of}}
+use Rattle.exec_machine.specs.declared.state.RequestPhase.TheVariants as phase
+use Rattle.exec_machine.specs.declared.state.Waiting.TheVariants as waiting
+use Rattle.exec_moves.specs.{MailLogs.a_write, Plays.{Playing, desk_of}, State.{Desk, no_word}, Thing.set_word}
+use Rattle.exec_books.specs.Examples.{its_request, one_asleep}
+use Rattle.exec_rest.specs.Examples.{rested, two_waiting}
+
+-- a worker that sleeps on its ring, in another world
+abbrev pub on_ring : World → Playing
+on_ring w = record one_asleep { world = w }
+
+-- two that sleep on their wake words, worker 1 with another desk
+abbrev pub second : Desk
+second = desk_of two_waiting.config rested 1
+
+abbrev pub with_second : Desk → Playing
+with_second d = record rested { desks = slice_set rested.desks 1 d }
+
+-- A write of worker 1 is the first at the gate of its open, and has the permit: nobody signals that; or its wake word has a latch.
+abbrev pub with_permit : Playing
+with_permit =
+    record rested {
+      world = record rested.world { common = record rested.world.common { requests = a_write 1 ∷ []; opens = record no_open { holder = Some 0 } ∷ [] } };
+      things = record rested.things { gates = (0 ∷ []) ∷ [] };
+    }
+
+abbrev pub with_permit_told : Playing
+with_permit_told = record with_permit { things = set_word 1 with_permit.things (record no_word { latch = true }) }
+
+-- The root of worker 1 waits for this request; for one of its own that is over; or for one of worker zero, which has sent the end.
+abbrev pub waits_for : Request → Playing
+waits_for r =
+    let s = rested.world.common in
+    record rested { world = record rested.world { common = record s { tasks = slice_set s.tasks 1 (record (task_of s 1) { waiting = waiting.Request 0 }); requests = r ∷ [] } } }
+
+abbrev pub waits_here : Playing
+waits_here = waits_for (record its_request { worker = 1; phase = phase.Resolved Success })
+
+abbrev pub waits_elsewhere : Playing
+waits_elsewhere = record (waits_for (record its_request { phase = phase.Resolved Success; forwarding = Applied })) { things = record rested.things { answers = 0 ∷ [] } }

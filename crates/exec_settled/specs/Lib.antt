@@ -1,0 +1,5 @@
+pub mod Given
+pub mod Settled
+pub mod Permits
+pub mod Awaited
+pub mod Examples

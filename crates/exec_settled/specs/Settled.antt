@@ -1,0 +1,50 @@
+-- WHAT A WORKER HAS DONE before it sleeps stays done while it is left to itself.
+use Rattle.std.specs.Prelude.{◌≡◌, ℕ, Bool, true, false, ◌||◌, []}
+use Rattle.exec_machine.specs.{declared.config.Configuration.Configuration, Tests.is_staged, World.{Common, Own, own_of, request_of, seat_of}}
+use Rattle.exec_moves.specs.{declared.{idling.{InRingWait.InRingWait, Stay.Stay}, place.Place.Place}, Callback.has_requests, Load.may_stage, Plays.{Playing, desk_of}, State.Desk}
+use Rattle.exec_rest.specs.{AtRest.is_end, Places.is_to_sleep_on_ring, Posted.has_tested, Rested.{place_at, sleeps}}
+
+-- nothing waits for the callbacks
+pub record HasTold (me : Own) (d : Desk) : Type 0 where
+  pub wakes : d.wakes ≡ []
+  pub outputs : d.outputs ≡ 0
+  pub ended : me.ended ≡ []
+  pub completions : d.completions ≡ []
+  pub results : d.results ≡ []
+
+-- nothing waits for a service: no deadline is new, no cancel to be staged, and no request may be
+pub record HasSubmitted (c : Configuration) (me : Own) : Type 0 where
+  pub unenrolled : me.unenrolled ≡ []
+  pub cancels : me.cancels ≡ []
+  pub unstaged : may_stage c me ≡ false
+
+-- the kernel has all that was staged, and was told all cancels
+pub record HasEntered (i : ℕ) (me : Own) (s : Common) : Type 0 where
+  pub untold : me.untold ≡ []
+  pub staged : (k : ℕ) → (request_of s k).worker ≡ i → is_staged (request_of s k).phase ≡ false
+
+-- it waits on its wake word; or on its ring, as a worker that closes or as any; or its wait on the ring ends next
+abbrev pub waits_on_word : Place → Bool
+waits_on_word (Place.WordWait p) = true
+waits_on_word _ = false
+
+abbrev pub waits_closing : Place → Bool
+waits_closing (Place.RingWait p Stay.Closing) = true
+waits_closing _ = false
+
+abbrev pub ends_ring_wait : Place → Bool
+ends_ring_wait (Place.RingWait (InRingWait.DisarmRing n) y) = true
+ends_ring_wait _ = false
+
+module _ (c : Configuration) (x : Playing) where
+  pub record IsSettled : Type 0 where
+    -- its last test, or the callbacks before its end, found nothing
+    pub told : (i : ℕ) → (has_tested (place_at c x i) || is_end (place_at c x i)) ≡ true → HasTold (own_of x.world i) (desk_of c x i)
+    pub submitted : (i : ℕ) → has_tested (place_at c x i) ≡ true → HasSubmitted c (own_of x.world i)
+    -- on its wake word it has no request that isn't over, and a closing one waits on its ring for one
+    pub free : (i : ℕ) → waits_on_word (place_at c x i) ≡ true → has_requests i x.world.common ≡ false
+    pub busy : (i : ℕ) → waits_closing (place_at c x i) ≡ true → has_requests i x.world.common ≡ true
+    -- it sleeps on its ring after an enter, and nothing has landed while it sleeps
+    pub entered : (i : ℕ) → is_to_sleep_on_ring (place_at c x i) ≡ true → HasEntered i (own_of x.world i) x.world.common
+    pub entered_then : (i : ℕ) → sleeps c x i ≡ true → ends_ring_wait (place_at c x i) ≡ true → HasEntered i (own_of x.world i) x.world.common
+    pub landed : (i : ℕ) → sleeps c x i ≡ true → ends_ring_wait (place_at c x i) ≡ true → (seat_of x.world.common i).landed ≡ []

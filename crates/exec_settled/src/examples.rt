@@ -1,0 +1,78 @@
+//! Worked examples of what is settled.
+
+ghost use Rattle.std.specs.Prelude.{◌≡◌, true, false, [], ◌∷◌, Some, None};
+ghost use Rattle.exec_machine.specs.Progress.{IsRightlyAsleep};
+ghost use Rattle.exec_machine.specs.declared.state.RequestPhase.TheVariants.{Queued, Staged};
+ghost use Rattle.exec_moves.specs.declared.handing.{AfterSignal.{AfterSignal}, InSignal.TheVariants.{SetLatch}};
+ghost use Rattle.exec_moves.specs.declared.idling.AfterWait.{AfterWait, TheVariants.Begin};
+ghost use Rattle.exec_moves.specs.declared.idling.{InRingWait.InRingWait, InWordWait.InWordWait};
+ghost use Rattle.exec_moves.specs.declared.idling.InRingWait.TheVariants as ring;
+ghost use Rattle.exec_moves.specs.declared.idling.Stay.TheVariants as stay;
+ghost use Rattle.exec_moves.specs.declared.place.{AfterPermit.AfterPermit, Service.Service};
+ghost use Rattle.exec_moves.specs.declared.place.AfterService.TheVariants as back;
+ghost use Rattle.exec_moves.specs.declared.place.InService.TheVariants as service;
+ghost use Rattle.exec_moves.specs.declared.place.Place.TheVariants as at;
+ghost use Rattle.exec_books.specs.Examples.{one_send, its_own, its_request, with_own};
+ghost use Rattle.exec_rest.specs.Examples.{rested, two_waiting};
+ghost use Rattle.exec_settled.specs.{Awaited.IsAwaited, Given.{IsGiven, passes_at}};
+ghost use Rattle.exec_settled.specs.Permits.{IsPermitted, hands_to, is_past};
+ghost use Rattle.exec_settled.specs.Settled.{IsSettled, ends_ring_wait, waits_closing};
+ghost use Rattle.exec_settled.specs.Examples.{on_ring, second, with_second};
+ghost use Rattle.exec_settled.specs.Examples.{waits_elsewhere, waits_here, with_permit, with_permit_told};
+
+/// What is known of a worker by its place. In the service of a turn it has passed the gate of open 0 once it is to look
+/// at gate 1, not before; in any other service it hasn't, since another turn comes then, nor where a turn begins. Who
+/// waits on its wake word has passed all gates, and who waits on its ring while it closes none. Who leaves the gate of
+/// open 3 passes its permit on, and who signals worker 1 after that hands it one, which other signals don't. A wait on
+/// the ring ends next where the wait bits go out of the wake word.
+pub fn places()
+    ensures begins { is_past 0 at.BeginTurn ≡ false }
+    ensures at_gate { is_past 0 (at.Service (service.Submit 0) (record { defer = false; back = back.Mail })) ≡ false }
+    ensures past_gate { is_past 0 (at.Service (service.Submit 1) (record { defer = false; back = back.Mail })) ≡ true }
+    ensures turns { is_past 0 (at.Service (service.Submit 1) (record { defer = false; back = back.Begin })) ≡ false }
+    ensures waits_past { (p : InWordWait) → is_past 0 (at.WordWait p) ≡ true }
+    ensures closes { (p : InRingWait) → is_past 0 (at.RingWait p stay.Closing) ≡ false }
+    ensures passes { (b : AfterPermit) → (v : Service) → passes_at (at.Service (service.PassPermit 3 b) v) ≡ Some 3 }
+    ensures hands { (b : AfterPermit) → (v : Service) → hands_to (at.Service (service.Signal 1 b) v) ≡ Some 1 }
+    ensures hands_none { (b : AfterSignal) → hands_to (at.Signal SetLatch 1 b) ≡ None }
+    ensures closing { (p : InRingWait) → waits_closing (at.RingWait p stay.Closing) ≡ true }
+    ensures ends { (n : AfterWait) → ends_ring_wait (at.RingWait (ring.DisarmRing n) stay.Turn) ≡ true }
+    ensures sleeps { ends_ring_wait (at.RingWait ring.SleepOnRing stay.Turn) ≡ false }
+{}
+
+/// Two workers whose roots wait have made their steps until both sleep. All that the law takes for granted holds of
+/// them, and all that it keeps; and nothing is unfinished.
+pub fn two_at_rest()
+    ensures given { IsGiven two_waiting.config rested }
+    ensures settled { IsSettled two_waiting.config rested }
+    ensures permitted { IsPermitted two_waiting.config rested }
+    ensures awaited { IsAwaited two_waiting.config rested }
+    ensures asleep { IsRightlyAsleep two_waiting.config rested.world }
+{}
+
+/// Workers that sleep with something left to do are refused: one that has a task to wake; one that waits as one that
+/// closes, though it has no request; and on its ring one whose request may be staged, or is staged, and the kernel
+/// doesn't have it.
+pub fn left_undone()
+    ensures unwoken { IsSettled two_waiting.config (with_second (record second { wakes = 1 ∷ [] })) → ⊥ }
+    ensures for_nothing { IsSettled two_waiting.config
+        (with_second (record second { place = at.RingWait (ring.DisarmRing Begin) stay.Closing })) → ⊥ }
+    ensures unstaged { IsSettled one_send.config (on_ring
+        (with_own (record its_own { ready = 0 ∷ []; in_flight = 0 }) (record its_request { phase = Queued }))) → ⊥ }
+    ensures unentered { IsSettled one_send.config
+        (on_ring (with_own its_own (record its_request { phase = Staged }))) → ⊥ }
+{}
+
+/// A permit lies with a request of a worker that sleeps on its wake word. It is refused where nobody signals that
+/// worker; where its wake word has a latch the permit is on its way.
+pub fn a_permit_asleep()
+    ensures left { IsPermitted two_waiting.config with_permit → ⊥ }
+    ensures told { IsPermitted two_waiting.config with_permit_told }
+{}
+
+/// A task waits idle for a request that is over, and all sleep, so nobody wakes it. That is refused where the request
+/// is of the task's own worker, and where another worker has sent the end of it.
+pub fn a_wait_for_what_came()
+    ensures here { IsAwaited two_waiting.config waits_here → ⊥ }
+    ensures elsewhere { IsAwaited two_waiting.config waits_elsewhere → ⊥ }
+{}
