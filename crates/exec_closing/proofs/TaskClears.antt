@@ -1,11 +1,11 @@
 -- A TASK IS CLEARED that a visit took out of the set: its slot, and what that leaves of the balances.
-use Rattle.std.proofs.{Common.{◌≡◌, ◌≢◌, ℕ, ◌+◌, ◌<◌, ◌≤◌, ◌==◌, ◌&&◌, not, sum_by, Bool, true, false, Contains, List, length, map, option_to_list, Option, Some, None, refl, sym, ap, subst, ◌∙◌, arith, slice_get, slice_set, if◌then◌else◌}, lemmas.{Bool.false≢true, List.length-set}}
+use Rattle.std.proofs.{Common.{◌≡◌, ◌≢◌, ℕ, ◌+◌, ◌<◌, ◌≤◌, ◌==◌, ◌&&◌, ◌||◌, not, sum_by, Bool, true, false, Contains, List, length, map, option_to_list, Option, Some, None, refl, sym, ap, subst, ◌∙◌, arith, slice_get, slice_set, if◌then◌else◌}, lemmas.{Bool.false≢true, List.length-set}}
 use Rattle.std.specs.List.{range_with_len}
 use Rattle.exec_words.specs.Idle.{is_in}
 use Rattle.exec_task.specs.{Phases.{is_polled, cleared}, declared.{drain.Drain.Drain, runnable.Runnable.Runnable, task.Phase.Phase}}
 use Rattle.exec_moves.specs.{declared.place.{InClosing.InClosing, Place.Place}, Seen.polls_at}
 use Rattle.exec_parts.{specs.{declared.parts.{letters.Letters.Letters, seat.Seat.Seat as Chair, shared.Shared.Shared, task_slot.TaskSlot.TaskSlot, worker.Worker.Worker}, Ending.ends_by_clear, Phased.{IsPhased, closes_at, is_complete, stage_of}, Pooled.cleared_slot, View.body_in}, proofs.Facts.{by_number, never_true, not_same, same_thing, set_elsewhere, set_there}}
-use Rattle.exec_invariants.{specs.{Drained.in_set, Holding.{IsHolding, box_of, holder_of, nap_of, thing_of}, Places.{claims_at, clears_at, drops_at, has_count_at, is_published_at, no_drops, one_if}, Sound.{AreHome, AreResting, HasRunnable, IsHeld, IsResting, IsTied, SoundAt, is_told}, Spares.SparesPolled, Whole.{HasOne, HasWhole, IsGenuine, IsWhole, Profile, duties_of, hands_of, is_number, may_let_go, stock, with_worker}}, proofs.{Here.going_on, Lined.{KeepsLines, gates_kept}, Onces.has_at_most, PoolClosing.{Clears, IsCleared, pool_cleared}, PoolKept.{chosen_other, chosen_own, is_its}, Shutting.none_in, Slots.gates_free, SlotTasks.{Keeps, genuine_set, homes_set, resting_set}, TaskOverActs.over_untold, TaskOverWhole.IsPast}}
+use Rattle.exec_invariants.{specs.{Drained.in_set, Holding.{IsHolding, box_of, holder_of, nap_of, thing_of}, Places.{claims_at, clears_at, drops_at, has_count_at, is_published_at, no_drops, one_if}, Sound.{AreHome, AreResting, HasRunnable, IsHeld, IsResting, IsTied, SoundAt, is_told}, Spares.SparesPolled, Whole.{HasOne, HasWhole, IsGenuine, IsLeftOver, IsWhole, Profile, duties_of, hands_of, is_number, may_let_go, stock, with_worker}}, proofs.{Here.going_on, Lined.{KeepsLines, gates_kept}, Onces.has_at_most, PoolClosing.{Clears, IsCleared, pool_cleared}, PoolKept.{chosen_other, chosen_own, is_its}, Shutting.none_in, Slots.gates_free, SlotTasks.{Keeps, genuine_set, homes_set, resting_set}, TaskOverActs.over_untold, TaskOverWhole.IsPast}}
 
 and_both : (a b : Bool) → (a && not b) ≡ true → (a ≡ true) × (b ≡ false)
 and_both true false h = (refl, refl)
@@ -100,12 +100,13 @@ module _ {B : Type 0} where
       by true is over = absurd (false≢true (sym (going_on slot.cell.phase is) ∙ over))
       by false is over = complete_cleared slot is
 
-  one_cleared : (g : Bool) (slot : TaskSlot B) (n : ℕ) → HasOne g slot.cell.phase n → HasOne g (cleared slot.cell).phase n
-  one_cleared g slot n h = by (is_polled slot.cell.phase) refl
+  -- a drain clears it, of a closed set
+  one_cleared : (g : Bool) (slot : TaskSlot B) (n : ℕ) → g ≡ true → HasOne g slot.cell.phase n → HasOne g (cleared slot.cell).phase n
+  one_cleared g slot n gone h = by (is_polled slot.cell.phase) refl
     where
       by : (b : Bool) → is_polled slot.cell.phase ≡ b → HasOne g (cleared slot.cell).phase n
       by true is = rw is h
-      by false is = rw is (has_at_most g slot.cell.phase n h)
+      by false is = rw is (subst (λ x. IsLeftOver x n) (sym gone) (has_at_most g slot.cell.phase n h))
 
   -- THE TASK THAT IS CLEARED is there, an ordinary one, and wasn't cleared before
   pub record ToClear (t : ℕ) (s : Shared B) : Type 0 where
@@ -162,6 +163,8 @@ module _ {B : Type 0} where
         let same_claims : (j : ℕ) → (with_worker others (cleared_to q l v w)).claims j ≡ (with_worker others w).claims j = λ j. ap (λ y. others.claims j + one_if (is_number y j)) (past.claims ∙ sym (ap claims_at here)) in
         let posted : (with_worker others (cleared_to q l v w)).published ≡ (with_worker others w).published = ap (λ (b : Bool). λ (j : ℕ). if j == w.index then b else others.published j) (past.published ∙ sym (ap is_published_at here)) in
         let counted : (with_worker others (cleared_to q l v w)).counts ≡ (with_worker others w).counts = ap (λ b. others.counts + (one_if w.searching + one_if b)) (past.counts ∙ sym (ap has_count_at here)) in
+        let shut : s.set.closed ≡ true = (whole.pool.who_clears t (omega (arith, duties.one))).3 in
+        let gone : may_let_go s ≡ true = ap (λ b. b || s.global.closed) shut in
         let done : IsWhole (with_worker others (cleared_to q l v w)) s1 = record {
           runnables = λ u x found home.
               by_number u t
@@ -169,7 +172,7 @@ module _ {B : Type 0} where
               (λ same.
               let e = is u x found same in
               subst (λ m. HasOne (may_let_go s) x.cell.phase ((with_worker others w).runnables m + stock m s)) (sym same)
-              (subst (λ (y : TaskSlot B). HasOne (may_let_go s) y.cell.phase ((with_worker others w).runnables t + stock t s)) e (one_cleared (may_let_go s) slot ((with_worker others w).runnables t + stock t s) (whole.runnables t slot there ordinary))));
+              (subst (λ (y : TaskSlot B). HasOne (may_let_go s) y.cell.phase ((with_worker others w).runnables t + stock t s)) e (one_cleared (may_let_go s) slot ((with_worker others w).runnables t + stock t s) gone (whole.runnables t slot there ordinary))));
           polls = λ u x found home.
               same_polls u
               ∙ by_number u t

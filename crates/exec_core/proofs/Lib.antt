@@ -27,3 +27,11 @@ pub mod GivenWaits
 pub mod GivenSlots
 pub mod Given
 pub mod Steady
+pub mod GrantedWorkers
+pub mod GrantedQueues
+pub mod GrantedBeds
+pub mod GrantedCounts
+pub mod GrantedReady
+pub mod GrantedEnds
+pub mod Granted
+pub mod Pacing

@@ -5,7 +5,7 @@ use Rattle.exec_task.specs.declared.body.Said.{Said}
 use Rattle.exec_machine.specs.{declared.{event.{Event.Event, Line.Line, StepResult.TheVariants.{Refused, Did}}, step.Action.Action}, Callers.is_enabled, Examples.refuses, Progress.Plan, Run.Follows}
 use Rattle.exec_moves.specs.Plays.{Played, Playing, by_action, by_step}
 use Rattle.exec_parts.specs.Spots.{Spot}
-use Rattle.exec_core.proofs.{Enabling.enabled_as, Paying.{IsPaid, paid_by_step, paid_by_none}, Steady.rests_then}
+use Rattle.exec_core.proofs.{Enabling.enabled_as, Paying.{IsPaid, paid_by_step, paid_by_none}, Pacing.turns_then, Steady.rests_then}
 use Rattle.exec_core.specs.{Lift.{Stands, Keeps, Carries, playing, Takes, Shows, Applies, may_take}, Steady.IsSteadyThere, declared.executor.Core.Core}
 
 abbrev pub line_of : Action → Event → Line
@@ -33,6 +33,7 @@ module _ {B L : Type 0} (left : B → L) (runs : L → Plan → Option ℕ → T
         shows = after;
         follows = goes;
         rests = rests;
+        turns = turns_then left runs holds spot p c d x a stands shows still after goes_so;
         pays = λ calls minded. paid_by_step left spot paid p c d a e stands still shows.config (keeps.config ∙ shows.config) calls minded takes by (subst (IsSteadyThere p.config) (ap (λ (y : Played). y.next) by) (rests minded.steady));
       }
 
@@ -58,6 +59,7 @@ module _ {B L : Type 0} (left : B → L) (runs : L → Plan → Option ℕ → T
         shows = after;
         follows = subst (λ (y : Played). Follows p.config x.world a Refused y.told.1) (sym by) (ap not disabled, tt);
         rests = rests;
+        turns = turns_then left runs holds spot p c c x a stands shows stands after goes;
         pays = λ calls minded. paid_by_none left spot paid p c a stands shows.config minded by (subst (IsSteadyThere p.config) (ap (λ (y : Played). y.next) by) (rests minded.steady));
       }
 

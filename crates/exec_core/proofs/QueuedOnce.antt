@@ -9,7 +9,7 @@ use Rattle.exec_moves.specs.{Call.CallDesk, Plays.Playing, Poll.{after_pend, is_
 use Rattle.exec_words.specs.Queue.{Queue}
 use Rattle.exec_parts.specs.{declared.parts.{seat.Seat.Seat as Chair, task_slot.TaskSlot.TaskSlot, worker.Worker.Worker}, Spots.Spot, View.{desk_of, phase_seen, queue_at, task_seen}}
 use Rattle.exec_polling.specs.{declared.caller.Caller.Caller, Calling.desk_of_caller}
-use Rattle.exec_invariants.specs.{Places.{is_number, one_if}, Whole.{HasOne, IsQueuedOnce, queued, runnables_in, stock}}
+use Rattle.exec_invariants.specs.{Places.{is_number, one_if}, Whole.{HasOne, IsLeftOver, IsQueuedOnce, queued, runnables_in, stock}}
 use Rattle.exec_steps.specs.Together.{all_have}
 use Rattle.exec_core.specs.{declared.executor.Core.Core, Lift.{Stands, Shows, playing}, Once.{IsOnce, QueuesOnce, polls_of, runnables_of, times}}
 
@@ -77,6 +77,10 @@ once_queued : (gone : Bool) (n : ℕ) → IsQueuedOnce gone n → (n ≤ 1) × (
 once_queued true n h = (h, λ never. absurd (true≢false never))
 once_queued false n h = (omega (arith, h), λ same. h)
 
+once_left : (gone : Bool) (n : ℕ) → IsLeftOver gone n → (n ≤ 1) × (gone ≡ false → n ≡ 0)
+once_left true n h = (h, λ never. absurd (true≢false never))
+once_left false n h = (omega (arith, h), λ same. h)
+
 module _ {B : Type 0} where
   -- what its cell says
   once_by : (gone : Bool) (p : Phase B) (i n m : ℕ) → HasOne gone p n → m ≡ one_if (is_polled p) → IsOnce gone (phase_seen p i) n m
@@ -84,7 +88,7 @@ module _ {B : Type 0} where
   once_by gone (Phase.Queued b) i n m has polled = let one = once_queued gone n has in (one.0, one.1, polled)
   once_by gone Phase.Running i n m has polled = (has, polled)
   once_by gone Phase.Notified i n m has polled = (has, polled)
-  once_by gone Phase.Complete i n m has polled = (has, polled)
+  once_by gone Phase.Complete i n m has polled = let left = once_left gone n has in (left.0, left.1, polled)
 
 -- A TASK OF THE MACHINE is that of a slot
 pub slot_of : {A C : Type 0} (f : A → C) (xs : List A) (t : ℕ) (y : C) → slice_get (map f xs) t ≡ Some y → (x : A) × (slice_get xs t ≡ Some x) × (f x ≡ y)

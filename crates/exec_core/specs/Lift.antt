@@ -12,7 +12,8 @@ use Rattle.exec_parts.specs.{Scripts.IsBorn, Spots.Spot, View.{Views, Visible, o
 use Rattle.exec_invariants.specs.{Acting.{PerformsAll, StepsWith}, Sound.Sound, Works.{Beside, Suits, Same}}
 use Rattle.exec_polling.specs.{Calling.{CallBeside, CallSound, CallWorks, CallSuits, call_of, desk_of_caller, is_free}, declared.caller.Caller.Caller}
 use Rattle.exec_steps.specs.Together.{StandTogether}
-use Rattle.exec_core.specs.{Steady.{IsSteady, IsSteadyThere}, declared.executor.Core.Core}
+use Rattle.exec_progress.specs.Paced.{IsPaced}
+use Rattle.exec_core.specs.{Steady.{IsSteady, IsSteadyThere, KeepsOn}, declared.executor.Core.Core}
 
 -- WHICH STEPS MAY BE TAKEN, by the seats, the records and the callers
 
@@ -247,11 +248,13 @@ module _ {B L : Type 0} (left : B → L) (runs : L → Plan → Option ℕ → T
     pub is : playing left spot p c ≡ x
 
   -- What a step of any party does: it is that of the moves, and its line follows in the machine; it keeps what each state has, so
-  -- that where all workers sleep nothing is left; and a quiet one of a worker alone is paid for.
+  -- that where all workers sleep nothing is left; a quiet one of a worker costs some of what that has left; and of a worker alone it
+  -- is paid for.
   pub record Applies (p : Plan) (x : Playing) (a : Action) (l : Line) (d : Core B) : Type 0 where
     pub step_told : l.action ≡ a
     pub tells : l ≡ (by_step p.config x a).told.0
     pub shows : Shows p d (by_step p.config x a).next
     pub follows : Follows p.config x.world a l.said (by_step p.config x a).told.1
     pub rests : IsSteady p.config x → IsSteadyThere p.config (by_step p.config x a).next
+    pub turns : (n : ℕ) → IsSteady p.config x → IsPaced n p.config x → KeepsOn n p.config x a
     pub pays : begins_call a ≡ false → IsMinded p x → Pays p x a l

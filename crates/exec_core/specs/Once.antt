@@ -22,13 +22,14 @@ abbrev pub polls_of : ℕ → Playing → ℕ
 polls_of t x = sum_by (λ d. one_if (is_number (polls_at d.place) t)) x.desks
 
 -- A task that is to be polled has one runnable, unless a closed set or queue let it go; one that is polled has none, and one
--- worker polls it; one that waits has neither. One that is over may have left a runnable, which is let go.
+-- worker polls it; one that waits has neither. One that is over may have left a runnable, which is let go, once they are
+-- closed.
 abbrev pub IsOnce : Bool → TaskPhase → ℕ → ℕ → Type 0
 IsOnce gone phase.Idle runnables polls = (runnables ≡ 0) × (polls ≡ 0)
 IsOnce gone phase.Queued runnables polls = (runnables ≤ 1) × (gone ≡ false → runnables ≡ 1) × (polls ≡ 0)
 IsOnce gone (phase.Running i) runnables polls = (runnables ≡ 0) × (polls ≡ 1)
 IsOnce gone (phase.Noted i) runnables polls = (runnables ≡ 0) × (polls ≡ 1)
-IsOnce gone phase.Done runnables polls = (runnables ≤ 1) × (polls ≡ 0)
+IsOnce gone phase.Done runnables polls = (runnables ≤ 1) × (gone ≡ false → runnables ≡ 0) × (polls ≡ 0)
 
 -- So it is with each ordinary task.
 abbrev pub QueuesOnce : Playing → Type 0

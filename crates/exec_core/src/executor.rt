@@ -8,7 +8,7 @@ ghost use Rattle.exec_credit.specs.Minded.{is_played};
 ghost use Rattle.exec_moves.specs.Plays.{Playing, first_playing};
 ghost use Rattle.exec_parts.specs.declared.parts.worker.Worker.{Worker as Party};
 ghost use Rattle.exec_invariants.specs.{Acting.PerformsAll, Sound.Sound, Whole.{IsWhole, Profile}};
-ghost use Rattle.exec_core.specs.{Configs.configuration_of as configuration_told, Lift.{world, Stands, IsReady, Shows, Applies, Calls, Carries, Keeps, Takes, IsMinded, IsPlanOf, IsAsBefore, WorkerSteps, WorkerStays, Sees, EndsPoll, Lands, may_take, may_work_in, may_land_in, may_call_in, may_go_on_in, has_begun}, Ranges.is_in_range, Steady.IsSteadyThere};
+ghost use Rattle.exec_core.specs.{Configs.configuration_of as configuration_told, Lift.{world, Stands, IsReady, Shows, Applies, Calls, Carries, Keeps, Takes, IsMinded, IsPlanOf, IsAsBefore, WorkerSteps, WorkerStays, Sees, EndsPoll, Lands, may_take, may_work_in, may_land_in, may_call_in, may_go_on_in, has_begun}, Ranges.is_in_range, Steady.{IsPacedThere, IsSteadyThere}};
 
 use crate::config::Config;
 use crate::setting_up::{configuration_of, first_shared, first_workers};
@@ -60,6 +60,8 @@ impl<B: Scripted + Drop> Core<B> {
             IsReady B.left B.runs B.holds p core) }
         ensures rests { OnOk result ((p : Plan) → IsPlanOf B.left B.runs B.holds B.spot p (configuration_told config.now iters_per_us files sockets) roots.items →
             IsSteadyThere p.config (first_playing p)) }
+        ensures paced { OnOk result ((p : Plan) → IsPlanOf B.left B.runs B.holds B.spot p (configuration_told config.now iters_per_us files sockets) roots.items →
+            IsPacedThere 0 p.config (first_playing p)) }
         ensures minded { OnOk result ((p : Plan) → IsPlanOf B.left B.runs B.holds B.spot p (configuration_told config.now iters_per_us files sockets) roots.items →
             p.config.workers ≡ 1 → p.scripts ≡ [] → All (λ word. is_played word ≡ true) p.root → IsMinded p (first_playing p)) }
     {

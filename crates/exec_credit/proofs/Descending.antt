@@ -20,11 +20,11 @@ use Rattle.exec_credit.proofs.{Alone.{calm, emptied, of_one, pooled, taken_settl
 
 -- SPINNERS
 
-within_hit : (spin : Spin) (s : Spinner) → IsWithin spin s → IsWithin spin (after_hit s)
+pub within_hit : (spin : Spin) (s : Spinner) → IsWithin spin s → IsWithin spin (after_hit s)
 within_hit spin s it =
     record { budget = omega (arith, it.most); floor = it.floor; least = it.least; most = it.most; none = λ h. rw (it.none h) (omega arith) }
 
-within_miss : (spin : Spin) (s : Spinner) → IsWithin spin s → IsWithin spin (after_miss s)
+pub within_miss : (spin : Spin) (s : Spinner) → IsWithin spin s → IsWithin spin (after_miss s)
 within_miss spin s it = by (s.budget == 0) refl
   where
     lower : Spinner
@@ -35,7 +35,7 @@ within_miss spin s it = by (s.budget == 0) refl
     by false h =
         record { budget = omega (arith, it.budget, it.floor, it.least); floor = omega (arith, it.floor); least = it.least; most = it.most; none = λ none. absurd (false≢true (sym h ∙ ap (λ n. n == 0) (it.none none))) }
 
-within_wake : (spin : Spin) (s : Spinner) (nanos : ℕ) → IsWithin spin s → IsWithin spin (after_wake s nanos)
+pub within_wake : (spin : Spin) (s : Spinner) (nanos : ℕ) → IsWithin spin s → IsWithin spin (after_wake s nanos)
 within_wake spin s nanos it = by (nat_lt s.quick_wake nanos)
   where
     quicker : Spinner

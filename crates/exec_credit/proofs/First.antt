@@ -3,9 +3,8 @@ use Rattle.std.proofs.Common.{◌≡◌, ℕ, zero, suc, ◌+◌, ◌<◌, ◌�
 use Rattle.std.proofs.lemmas.Bool.{true≢false, false≢true, or_cases, or_parts, or_from, eq-eqb, and_from, and_parts, or_right, or_left, ltb-false, lt-leb, le-leb, leb-true, leb-false, eqb-true}
 use Rattle.std.specs.Prelude.{nat_le, nat_lt}
 use Rattle.std.specs.List.{list_any}
-use Rattle.exec_machine.specs.{declared.{config.Configuration.Configuration, state.{Request.Request, Sleeper.Sleeper}}, Deadlines.{is_due, is_first_due, is_none_earlier, is_told_after, order_on_wheel}, Tests.{all_numbered, is_asleep, is_open}, World.{Own as Books, Common, no_request, no_sleeper, seat_of}}
-use Rattle.exec_moves.specs.{Serve.{first_numbered, first_to_fire, is_to_fire}, Slots.{first_in, is_some_slot, slot_of}, State.Desk, Submit.first_due}
-use Rattle.exec_credit.specs.Minded.{HaveBeds}
+use Rattle.exec_machine.specs.{declared.{config.Configuration.Configuration, state.{Request.Request, Sleeper.Sleeper}}, Deadlines.{is_due, is_first_due, is_none_earlier, is_told_after, order_on_wheel}, Tests.{all_numbered, is_asleep, is_open}, World.{Own as Books, Common, no_request, no_sleeper, seat_of, sleeper_of}}
+use Rattle.exec_moves.specs.{Serve.{first_numbered, first_to_fire, is_to_fire}, Slots.{first_in, is_some_slot, slot_of, is_in_slots}, State.Desk, Submit.first_due}
 
 -- where none is found, none passes the test
 pub none_passes : {X : Type 0} (test : ℕ → X → Bool) (n : ℕ) (xs : List X) (d : X) → first_numbered test n xs ≡ None → (k : ℕ) → k < length xs → test (n + k) (get_or xs k d) ≡ false
@@ -111,17 +110,17 @@ module _ {X : Type 0} (passes : X → Bool) (order : X → ℕ) (d : X) where
   none_any (x ∷ xs) none = or_from (passes x) (list_any passes xs) (none 0 (omega arith)) (none_any xs (λ k within. none (suc k) (omega (arith, within))))
 
 -- where no deadline is told first, none is due
-pub deadlines : (c : Configuration) (me : Books) (s : Common) → first_due c 0 me s ≡ None → list_any (is_due 0 me.sampled) s.requests ≡ false
-deadlines c me s none = by (search_first (is_due 0 me.sampled) (λ r. order_on_wheel c me r.timer) no_request 0 s.requests)
+pub deadlines : (c : Configuration) (i : ℕ) (me : Books) (s : Common) → first_due c i me s ≡ None → list_any (is_due i me.sampled) s.requests ≡ false
+deadlines c i me s none = by (search_first (is_due i me.sampled) (λ r. order_on_wheel c me r.timer) no_request 0 s.requests)
   where
-    by : Search (is_due 0 me.sampled) (λ (r : Request). order_on_wheel c me r.timer) 0 s.requests no_request → list_any (is_due 0 me.sampled) s.requests ≡ false
-    by (Nothing h) = none_any (is_due 0 me.sampled) (λ r. order_on_wheel c me r.timer) no_request s.requests h
+    by : Search (is_due i me.sampled) (λ (r : Request). order_on_wheel c me r.timer) 0 s.requests no_request → list_any (is_due i me.sampled) s.requests ≡ false
+    by (Nothing h) = none_any (is_due i me.sampled) (λ r. order_on_wheel c me r.timer) no_request s.requests h
     by (Least k within passed before) =
         let y = get_or s.requests k no_request in
         let zero : 0 + k ≡ k = omega arith in
-        let first = subst (λ m. IsBefore (is_due 0 me.sampled) (λ (r : Request). order_on_wheel c me r.timer) m (order_on_wheel c me y.timer) 0 s.requests) zero before in
-        let is = and_from (is_due 0 me.sampled y) (all_numbered (is_told_after c me 0 k y.timer) 0 s.requests) passed first in
-        let not_first = subst (λ m. is_first_due c me 0 s.requests m ≡ false) zero (none_passes (λ r it. is_first_due c me 0 s.requests r) 0 s.requests no_request none k within) in
+        let first = subst (λ m. IsBefore (is_due i me.sampled) (λ (r : Request). order_on_wheel c me r.timer) m (order_on_wheel c me y.timer) 0 s.requests) zero before in
+        let is = and_from (is_due i me.sampled y) (all_numbered (is_told_after c me i k y.timer) 0 s.requests) passed first in
+        let not_first = subst (λ m. is_first_due c me i s.requests m ≡ false) zero (none_passes (λ r it. is_first_due c me i s.requests r) 0 s.requests no_request none k within) in
         absurd (true≢false (sym is ∙ not_first))
 
 -- where none of the slots passes the test, no number that stands in one does
@@ -144,33 +143,33 @@ weaker true false e h = refl
 weaker true true e h = h
 
 -- where no sleeper is told first, none of an open worker is due
-pub sleepers : (me : Books) (s : Common) (d : Desk) → HaveBeds s d → is_open (seat_of s 0).phase ≡ true
-    → first_to_fire 0 me s d ≡ None → list_any (λ z. is_asleep 0 z && nat_le z.until me.sampled) s.sleepers ≡ false
-sleepers me s d beds open_still none = by (search_first (λ z. is_asleep 0 z && nat_le z.until me.sampled) (λ z. z.until) no_sleeper 0 s.sleepers)
+pub sleepers : (i : ℕ) (me : Books) (s : Common) (d : Desk) → ((z : ℕ) → is_asleep i (sleeper_of s z) ≡ true → is_in_slots z d.timers ≡ true) → is_open (seat_of s i).phase ≡ true
+    → first_to_fire i me s d ≡ None → list_any (λ z. is_asleep i z && nat_le z.until me.sampled) s.sleepers ≡ false
+sleepers i me s d beds open_still none = by (search_first (λ z. is_asleep i z && nat_le z.until me.sampled) (λ z. z.until) no_sleeper 0 s.sleepers)
   where
     passes : Sleeper → Bool
-    passes z = is_asleep 0 z && nat_le z.until me.sampled
+    passes z = is_asleep i z && nat_le z.until me.sampled
 
-    none_first : first_in (is_to_fire 0 me s) d.timers.held ≡ None
-    none_first = subst (λ b. (if b then first_in (is_to_fire 0 me s) d.timers.held else None) ≡ None) open_still none
+    none_first : first_in (is_to_fire i me s) d.timers.held ≡ None
+    none_first = subst (λ b. (if b then first_in (is_to_fire i me s) d.timers.held else None) ≡ None) open_still none
 
-    later : (until : ℕ) → until ≤ me.sampled → (z : Sleeper) (b : Bool) → is_asleep 0 z ≡ b → (not (b && nat_le z.until me.sampled) || not (nat_lt z.until until)) ≡ true → (not b || nat_le until z.until) ≡ true
+    later : (until : ℕ) → until ≤ me.sampled → (z : Sleeper) (b : Bool) → is_asleep i z ≡ b → (not (b && nat_le z.until me.sampled) || not (nat_lt z.until until)) ≡ true → (not b || nat_le until z.until) ≡ true
     later until le z false h k = refl
     later until le z true h k = elim (or_cases (not (nat_le z.until me.sampled)) (not (nat_lt z.until until)) k) [
       | inl far ↦ le-leb until z.until (omega (arith, le, leb-false z.until me.sampled (none_of (nat_le z.until me.sampled) far)))
       | inr behind ↦ le-leb until z.until (omega (arith, ltb-false z.until until (none_of (nat_lt z.until until) behind)))
     ]
 
-    none_earlier : (until k n : ℕ) → until ≤ me.sampled → (zs : List Sleeper) → IsBefore passes (λ (z : Sleeper). z.until) k until n zs → is_none_earlier 0 until zs ≡ true
+    none_earlier : (until k n : ℕ) → until ≤ me.sampled → (zs : List Sleeper) → IsBefore passes (λ (z : Sleeper). z.until) k until n zs → is_none_earlier i until zs ≡ true
     none_earlier until k n le [] before = refl
     none_earlier until k n le (z ∷ zs) before =
         let it = and_parts (not (passes z) || not (comes z.until n until k)) (all_numbered (λ j y. not (passes y) || not (comes y.until j until k)) (suc n) zs) before in
-        and_from (not (is_asleep 0 z) || nat_le until z.until) (is_none_earlier 0 until zs) (later until le z (is_asleep 0 z) refl (weaker (passes z) (nat_lt z.until until) ((z.until == until) && nat_lt n k) it.0)) (none_earlier until k (suc n) le zs it.1)
+        and_from (not (is_asleep i z) || nat_le until z.until) (is_none_earlier i until zs) (later until le z (is_asleep i z) refl (weaker (passes z) (nat_lt z.until until) ((z.until == until) && nat_lt n k) it.0)) (none_earlier until k (suc n) le zs it.1)
 
     by : Search passes (λ (z : Sleeper). z.until) 0 s.sleepers no_sleeper → list_any passes s.sleepers ≡ false
     by (Nothing h) = none_any passes (λ z. z.until) no_sleeper s.sleepers h
     by (Least k within passed before) =
         let y = get_or s.sleepers k no_sleeper in
-        let parts = and_parts (is_asleep 0 y) (nat_le y.until me.sampled) passed in
-        let is = and_from (passes y) (is_none_earlier 0 y.until s.sleepers) passed (none_earlier y.until (0 + k) 0 (leb-true y.until me.sampled parts.1) s.sleepers before) in
-        absurd (true≢false (sym is ∙ none_in (is_to_fire 0 me s) d.timers.held none_first k 0 (beds k parts.0)))
+        let parts = and_parts (is_asleep i y) (nat_le y.until me.sampled) passed in
+        let is = and_from (passes y) (is_none_earlier i y.until s.sleepers) passed (none_earlier y.until (0 + k) 0 (leb-true y.until me.sampled parts.1) s.sleepers before) in
+        absurd (true≢false (sym is ∙ none_in (is_to_fire i me s) d.timers.held none_first k 0 (beds k parts.0)))

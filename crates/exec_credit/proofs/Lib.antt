@@ -5,22 +5,22 @@ mod Falling
 mod Turning
 mod Loading
 mod Calling
-mod Testing
-mod Entering
+pub mod Testing
+pub mod Entering
 mod Waiting
 mod Ringing
 mod Serving
-mod Submitting
+pub mod Submitting
 mod Quiet
 mod Plain
 mod Leading
 mod Served
 mod Polled
-mod Descending
+pub mod Descending
 mod Led
-mod First
-mod Minding
-mod Stepped
+pub mod First
+pub mod Minding
+pub mod Stepped
 mod Begun
 mod Fitting
 mod Here

@@ -302,8 +302,8 @@ module _ (c : Configuration) (me : Books) (s : Common) (d : Desk) (x : Things) w
         kept = lone.gateless.0;
         told = told stood.ours minded.plain stood.scripts stood.words d.place root.polls lone.place lone.gateless.1;
         sampled = stood.sampled;
-        deadlines = deadlines c me s;
-        sleepers = sleepers me s d (stood.beds open_still) (stood.opened open_still);
+        deadlines = deadlines c 0 me s;
+        sleepers = sleepers 0 me s d (stood.beds open_still) (stood.opened open_still);
         budget = within_largest c.spin d.spinner.budget minded.spinner.none minded.spinner.budget;
         looks = minded.looks;
       }

@@ -12,19 +12,19 @@ use Rattle.exec_moves.specs.declared.place.Reaping.TheVariants as reaping
 use Rattle.exec_credit.specs.Minds.{Falls, FallsAt, IsAlone, ends, seen, stands}
 use Rattle.exec_credit.proofs.{Alone.{at_alone, calm, of_one, pooled, settled, unraised}, Falling.{down, either}, Testing.on, Entering.{due_same, gates_same}, Ringing.freed, Serving.{if_stale, one_at_most}}
 
-no_first : (xs : List ℕ) → slice_get xs 0 ≡ None → not (is_empty xs) ≡ false
+pub no_first : (xs : List ℕ) → slice_get xs 0 ≡ None → not (is_empty xs) ≡ false
 no_first [] none = refl
 no_first (x ∷ xs) none = let no : Some x ≡ None = none in absurd (cc)
 
 -- where no flush is due, the wake poll stands or has a place
-polled_of : (polled full cancels stages : Bool) → (polled || full) ≡ true → (full && (cancels || stages || not polled)) ≡ false → polled ≡ true
+pub polled_of : (polled full cancels stages : Bool) → (polled || full) ≡ true → (full && (cancels || stages || not polled)) ≡ false → polled ≡ true
 polled_of true full cancels stages some none = refl
 polled_of false true true stages some none = absurd (true≢false none)
 polled_of false true false true some none = absurd (true≢false none)
 polled_of false true false false some none = absurd (true≢false none)
 polled_of false false cancels stages some none = absurd (false≢true some)
 
-full_of : (full more : Bool) → (full && more) ≡ true → full ≡ true
+pub full_of : (full more : Bool) → (full && more) ≡ true → full ≡ true
 full_of true more h = refl
 full_of false more h = absurd (false≢true h)
 

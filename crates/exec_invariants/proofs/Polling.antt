@@ -4,7 +4,7 @@ use Rattle.exec_task.specs.{Phases.{is_polled, queued_body, begun as cell_begun,
 use Rattle.exec_machine.specs.{declared.{event.Event.{Event, TheVariants.{Begin, Turn}}, state.{Letter.Letter, TaskPhase.TaskPhase, Waiting.Waiting, Next.Next}}, Choice.Choice.Plain, Progress.Plan, Tasks.{begun, begun_waiting, is_polled_here}, Tests.{is_empty, is_open, is_ready}, World.{Seat, Task, task_of, seat_of}}
 use Rattle.exec_moves.specs.{declared.place.{InPick.InPick, InPoll.InPoll, Place.Place}, Parts.after_poll, Poll.{after_begin, begin_poll, let_go}, Seen.{next_at, polls_at, polls_in, serves_at}, State.{Moved, Things, does, goes, turns}}
 use Rattle.exec_parts.{specs.{declared.parts.{shared.Shared.Shared, task_slot.TaskSlot.TaskSlot, worker.Worker.Worker}, Phased.is_complete, Polls.{begun_slot, begun_slot_if}, Records.numbers_held, Spots.Spot, Tests.next_pick_of, View.{Views, own_of, owed_at, desk_of, common_of, phase_seen, task_seen, spot_by, body_in, things_with}, Things.TurnsSlot}, proofs.Facts.{by_number, not_same, same_thing, set_there}}
-use Rattle.exec_invariants.{specs.{Holding.holder_of, Places.{begins_at, hands_on_at, in_poll_of, joins_at, one_if, polled_in, removes_at, step_of_poll}, Sound.{HasGuest, IsGuest, IsInHand, IsRunnable, SoundAt, Stands, Stops, WaitsAt, is_told, one_of, root_in_hand}, Whole.{HasOne, IsGenuine, is_number, runnables_in}, Works.{Steps, Suits}}, proofs.{Begins.{awaits_before, begins_waiting, begins_with, begun_place, stops_later, told_before, waits_before}, Dedicated.chair_of_pool, Onces.at_most_once, Hearing.hears_begun, PoolKept.unremoved, Seats.own_seat, Slots.{Balances, IsEvent, Remains, slotted, task_there}, SlotTasks.{IsAfter, Keeps, Sits, Tasked, Visits, guest_tasked, none_in, root_tasked}, Turning.set_found}}
+use Rattle.exec_invariants.{specs.{Holding.holder_of, Places.{begins_at, hands_on_at, in_poll_of, joins_at, one_if, polled_in, removes_at, step_of_poll}, Sound.{HasGuest, IsGuest, IsInHand, IsRunnable, SoundAt, Stands, Stops, WaitsAt, is_told, one_of, root_in_hand}, Whole.{HasOne, IsGenuine, is_number, runnables_in}, Works.{Steps, Suits}}, proofs.{Begins.{awaits_before, begins_waiting, begins_with, begun_place, stops_later, told_before, waits_before}, Dedicated.chair_of_pool, Onces.{at_most_once, fewer_left}, Hearing.hears_begun, PoolKept.unremoved, Seats.own_seat, Slots.{Balances, IsEvent, Remains, slotted, task_there}, SlotTasks.{IsAfter, Keeps, Sits, Tasked, Visits, guest_tasked, none_in, root_tasked}, Turning.set_found}}
 
 -- WHERE IT LEADS
 
@@ -93,7 +93,7 @@ module _ {B : Type 0} where
   queued_or (Phase.Queued b) = inl (b, refl)
   queued_or Phase.Running = inr (record { none = refl; unready = λ i. refl; one = λ g n h. absurd (omega (arith, h)) })
   queued_or Phase.Notified = inr (record { none = refl; unready = λ i. refl; one = λ g n h. absurd (omega (arith, h)) })
-  queued_or Phase.Complete = inr (record { none = refl; unready = λ i. refl; one = λ g n h. omega (arith, h) })
+  queued_or Phase.Complete = inr (record { none = refl; unready = λ i. refl; one = λ g n h. fewer_left g (n + 1) (n + 0) (omega arith) h })
 
   -- WHAT IS IN THE HAND: the right to poll this task. The root is queued, and not flagged.
   pub record IsAtStart (t : ℕ) (w : Worker) (s : Shared B) : Type 0 where

@@ -5,7 +5,7 @@ use Rattle.exec_task.specs.{Phases.{is_polled, over as cell_over}, Sight.Sight, 
 use Rattle.exec_machine.specs.{Choice.Choice.Plain, declared.{config.{Configuration.Configuration, ScriptWord.ScriptWord}, event.Event.Event, state.{Code.Code, Letter.Letter, Next.Next, TaskPhase.TaskPhase, Waiting.Waiting}}, After.{common_after, own_after}, Allowed.allowed, Progress.Plan, Tests.{AllTrue, is_empty}, Tasks.{after_over, may_end_by, own_after_done}, Words.{asks_await, asks_end, asks_fault, moved_on, next_word}, World.{Common, Own, Task, task_of}}
 use Rattle.exec_moves.specs.{declared.{handing.AfterCancels.AfterCancels, place.{InClosing.InClosing, InPoll.InPoll, Place.Place}}, Parts.{after_cancels, cancels_left}, Poll.{after_end, ends as end_moves}, Seen.{next_at, polls_at, serves_at}, State.{Desk, goes}, Told.lets_go_all}
 use Rattle.exec_parts.{specs.{Records.numbers_held, declared.parts.{letters.Letters.Letters, seat.Seat.Seat as Chair, shared.Shared.Shared, task_slot.TaskSlot.TaskSlot, worker.Worker.Worker}, Ending.{EndsTask, LetsGoAll, LetsWaiting, MayEndTask, ended_place, others_of}, Phased.{IsPhased, is_complete, stage_of}, Roles.is_pool, Scripts.{Asks, is_last}, Spots.{Spot, spot_of, standing_at}, View.{Views, common_of, desk_of, letter_of_request, letter_of_timer, letters_in, own_of, owed_at, task_seen, things_with}}, proofs.Facts.{by_number, not_same, same_thing, set_there}}
-use Rattle.exec_invariants.{specs.{Acting.{HasActed, Performs, PerformsOne, StepsOf}, Gates.AreLinedUp, Holding.{MayHave, awaited_in, holder_of}, HoldPlaces.sends_cancel_at, Places.removes_at, Sound.{AreHome, AreResting, HasLetters, HasRunnable, IsGuest, IsHeld, IsRunnable, IsTied, SoundAt, Stands, is_told, one_of, served_in}, Whole.{HasWhole, IsGenuine}, Works.{Suits, Works}}, proofs.{Acting.{IsPlainWord, acted_slot, actor, acts_so, move_by, moves_so}, Here.{IsHere, polled_here}, Onces.has_at_most, Performing.still_performs, Phased.phased_over, Polling.on_in_poll, ServingHolds.Keeps, Slots.task_there, SlotTasks.{Keeps as KeepsSlot, Tasked, guest_pool, guest_tasked, homes_set, none_in, resting_set, sound_tasked}, TaskOverFold.{AllLet, HoldsAll, LetsSeen, let_all}, TaskOverGone.{AllGone, gone_awake}, TaskOverLetters.{AreLetters, letters_fit, no_letters, none_left}, TaskOverMay.{HasAll, has_all, keeps_tasks, may_let_go}, TaskOverPolls.{OversPoll, acting, beside_over, gone_at, over_shared, over_worker, sound_over}, TaskOverSeen.{common_then, desk_then, own_then, things_then}, TaskOverSound.{IsAside, IsOwing, own_keeps}, TaskOverWhole.{IsDone, IsPast}, TaskOverPlaces.{closes_past, closes_aside, removes_past, removes_aside, tells_past, tells_removing, owes_removing, IsQuiet, others_none, waits_word, stopped_so, waits_there, within_so}}}
+use Rattle.exec_invariants.{specs.{Acting.{HasActed, Performs, PerformsOne, StepsOf}, Gates.AreLinedUp, Holding.{MayHave, awaited_in, holder_of}, HoldPlaces.sends_cancel_at, Places.removes_at, Sound.{AreHome, AreResting, HasLetters, HasRunnable, IsGuest, IsHeld, IsRunnable, IsTied, SoundAt, Stands, is_told, one_of, served_in}, Whole.{HasWhole, IsGenuine}, Works.{Suits, Works}}, proofs.{Acting.{IsPlainWord, acted_slot, actor, acts_so, move_by, moves_so}, Here.{IsHere, polled_here}, Onces.leaves_none, Pending.polled_none, Performing.still_performs, Phased.phased_over, Polling.on_in_poll, ServingHolds.Keeps, Slots.task_there, SlotTasks.{Keeps as KeepsSlot, Tasked, guest_pool, guest_tasked, homes_set, none_in, resting_set, sound_tasked}, TaskOverFold.{AllLet, HoldsAll, LetsSeen, let_all}, TaskOverGone.{AllGone, gone_awake}, TaskOverLetters.{AreLetters, letters_fit, no_letters, none_left}, TaskOverMay.{HasAll, has_all, keeps_tasks, may_let_go}, TaskOverPolls.{OversPoll, acting, beside_over, gone_at, over_shared, over_worker, sound_over}, TaskOverSeen.{common_then, desk_then, own_then, things_then}, TaskOverSound.{IsAside, IsOwing, own_keeps}, TaskOverWhole.{IsDone, IsPast}, TaskOverPlaces.{closes_past, closes_aside, removes_past, removes_aside, tells_past, tells_removing, owes_removing, IsQuiet, others_none, waits_word, stopped_so, waits_there, within_so}}}
 
 -- it is told nothing once it is over
 pub over_untold : (u : Waiting) → is_told u true ≡ false
@@ -165,7 +165,7 @@ module _ {B L : Type 0} (left : B → L) (runs : L → Plan → Option ℕ → T
       keeps_slot = record { home = refl; number = refl; owner = refl }
 
       done : IsDone h.made.slot over_slot
-      done = record { keeps = keeps_slot; cleared = refl; unpolled = refl; complete = refl; one = λ g n one. has_at_most g h.made.slot.cell.phase n one }
+      done = record { keeps = keeps_slot; cleared = refl; unpolled = refl; complete = refl; one = λ g n one. leaves_none g n (polled_none g h.made.slot.cell.phase n polled one) }
 
       home : (h.made.slot.home ≡ Some w.index) ⊎ (h.made.slot.home ≡ None)
       home = (actor left runs holds spot gives t w s s1 a h).home

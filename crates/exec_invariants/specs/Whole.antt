@@ -70,6 +70,11 @@ abbrev pub IsQueuedOnce : Bool → ℕ → Type 0
 IsQueuedOnce true n = n ≤ 1
 IsQueuedOnce false n = n ≡ 1
 
+-- a task that is over may have left a runnable, once the set or the queue was closed
+abbrev pub IsLeftOver : Bool → ℕ → Type 0
+IsLeftOver true n = n ≤ 1
+IsLeftOver false n = n ≡ 0
+
 module _ {B : Type 0} where
   -- how often task t is in a queue
   abbrev pub stock : ℕ → Shared B → ℕ
@@ -83,10 +88,11 @@ module _ {B : Type 0} where
   abbrev pub may_let_go : Shared B → Bool
   may_let_go s = s.set.closed || s.global.closed
 
-  -- A queued task has one runnable, unless that was let go; one that was cleared may have a stale one; any other has none.
+  -- A queued task has one runnable, unless that was let go; one that is over may have left one, once the set or the queue was
+  -- closed; any other has none.
   abbrev pub HasOne : Bool → Phase B → ℕ → Type 0
   HasOne gone (cell.Queued b) n = IsQueuedOnce gone n
-  HasOne gone cell.Complete n = n ≤ 1
+  HasOne gone cell.Complete n = IsLeftOver gone n
   HasOne gone _ n = n ≡ 0
 
   -- a runnable of a task of this list

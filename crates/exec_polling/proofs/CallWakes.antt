@@ -10,7 +10,7 @@ use Rattle.exec_moves.specs.declared.handing.CallPlace.TheVariants as call
 use Rattle.exec_moves.specs.declared.handing.InGlobal.TheVariants as global
 use Rattle.exec_parts.{specs.{declared.parts.{shared.Shared.Shared, task_slot.TaskSlot.TaskSlot}, Phased.is_complete, Pooled.woken_slot, Spots.Spot, View.{Views, common_of, phase_seen, task_seen, things_with}, Things.TurnsSlot}, proofs.{Facts.{both_true, by_number, not_same, same_thing, set_elsewhere, set_there}, Showing.{map_kept, map_set}}}
 use Rattle.exec_polling.{specs.{declared.caller.Caller.Caller, Calling.{CallAims, CallBeside, CallSound, CallSuits, CallWorks, HoldsForAll, WakesByCall, call_of, desk_of_caller, hands_on_in, has_count_in, is_free, with_call, with_caller, with_woken}}, proofs.Outsiders.{no_other, hears_same}}
-use Rattle.exec_invariants.{specs.{Hearing.Hears, Holding.holder_of, Places.one_if, Sound.{IsInHand, IsResting}, Spares.Spares, Whole.{HasOne, IsGenuine, IsQueuedOnce, IsWhole, Profile, claimed_count, duties_of, may_let_go, runnables_in, stock}}, proofs.{Onces.once_queued, PoolKept.{Redoes, pool_slot}, SlotTasks.{Keeps, genuine_set, homes_set, resting_set}, Slots.{spares_slot, task_there}}}
+use Rattle.exec_invariants.{specs.{Hearing.Hears, Holding.holder_of, Places.one_if, Sound.{IsInHand, IsResting}, Spares.Spares, Whole.{HasOne, IsGenuine, IsLeftOver, IsQueuedOnce, IsWhole, Profile, claimed_count, duties_of, may_let_go, runnables_in, stock}}, proofs.{Onces.once_queued, PoolKept.{Redoes, pool_slot}, SlotTasks.{Keeps, genuine_set, homes_set, resting_set}, Slots.{spares_slot, task_there}}}
 
 module _ {B : Type 0} where
   -- THE PHASE
@@ -38,7 +38,7 @@ module _ {B : Type 0} where
   one_woken gone (Phase.Queued b) n m more one = let same : n ≡ n + m = omega (arith, more) in subst (IsQueuedOnce gone) same one
   one_woken gone Phase.Running n m more one = omega (arith, more, one)
   one_woken gone Phase.Notified n m more one = omega (arith, more, one)
-  one_woken gone Phase.Complete n m more one = omega (arith, more, one)
+  one_woken gone Phase.Complete n m more one = let same : n ≡ n + m = omega (arith, more) in subst (IsLeftOver gone) same one
 
   -- WHAT THE WAKE LEAVES
 

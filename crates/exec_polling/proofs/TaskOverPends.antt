@@ -4,7 +4,7 @@ use Rattle.exec_task.specs.{Phases.over as cell_over, declared.body.Said.Said}
 use Rattle.exec_machine.specs.{declared.{event.Event.{Event, TheVariants.Pend}, state.{Letter.Letter, Next.Next, TaskPhase.TaskPhase, Waiting.Waiting}}, Choice.Choice.Plain, Progress.Plan, Same.is_number, Tasks.{after_over, may_stop, own_after_over, pended_phase, unpolled}, Tests.{is_empty, is_settled}, World.{Own, Task, task_of}}
 use Rattle.exec_moves.specs.{declared.{handing.AfterCancels.AfterCancels, place.{InPick.InPick, InPoll.InPoll, Place.Place}}, Parts.cancels_left, Poll.{after_pend, requeued_if, is_noted, told_of_end}, Seen.{next_at, serves_at}, State.{Desk, Moved, Things}, Told.lets_go_all}
 use Rattle.exec_parts.{specs.{Records.numbers_held, declared.parts.{shared.Shared.Shared, sleeping.SleeperRecord.SleeperRecord, task_slot.TaskSlot.TaskSlot, worker.Worker.Worker}, Ending.{LetsGoAll, LetsGoOf, LetsWaiting, MayLetGoOf, PendsTask, others_of}, Phased.is_complete, Polls.pended_slot, Spots.Spot, View.{Views, common_of, desk_of, letters_in, own_of, owed_at, spot_by, task_seen, things_with}, Things.TurnsSlot}, proofs.Facts.{same_thing, set_there}}
-use Rattle.exec_invariants.{specs.{Gates.AreLinedUp, Holding.{MayHave, Nap, awaited_in, holder_of, nap_of}, HoldPlaces.sends_cancel_at, Places.{hands_on_at, removes_at, step_of_poll}, Sound.{HasGuest, IsInHand, MayStop, SoundAt, Stops, may_end, served_in}, Whole.HasWhole, Works.{Steps, Suits, Works}}, proofs.{Hearing.hears_over, Here.IsHere, Lined.unmapped, Onces.has_at_most, Pending.{MayEnd, in_poll, stops}, Polling.{IsOutside, next_hands, next_outside}, ServingHolds.Keeps, Slots.task_there, SlotTasks.{Keeps as KeepsSlot, Tasked, guest_pool, guest_tasked, none_in, sound_tasked}, TaskOverPlaces.{IsQuiet, tells_past}, TaskOverActs.{over_untold, split_left}, TaskOverFold.{HoldsAll, LetsSeen}, TaskOverGone.{AllGone, RemovesSeen, all_gone}, TaskOverLetters.{AreLetters, letters_fit, no_letters}, TaskOverMay.{HasAll, has_all, keeps_tasks, may_let_go}, TaskOverPolls.{InPollAt, OversPoll, beside_over, gone_at, over_shared, over_worker, sound_over}, TaskOverSeen.{common_then, desk_then, own_then, things_then}, TaskOverSound.{IsAside, IsOwing, own_keeps}, TaskOverWhole.IsPast, TaskTakes.holder_there}}
+use Rattle.exec_invariants.{specs.{Gates.AreLinedUp, Holding.{MayHave, Nap, awaited_in, holder_of, nap_of}, HoldPlaces.sends_cancel_at, Places.{hands_on_at, removes_at, step_of_poll}, Sound.{HasGuest, IsInHand, MayStop, SoundAt, Stops, may_end, served_in}, Whole.HasWhole, Works.{Steps, Suits, Works}}, proofs.{Hearing.hears_over, Here.IsHere, Lined.unmapped, Onces.leaves_none, Pending.{MayEnd, in_poll, polled_none, stops}, Polling.{IsOutside, next_hands, next_outside}, ServingHolds.Keeps, Slots.task_there, SlotTasks.{Keeps as KeepsSlot, Tasked, guest_pool, guest_tasked, none_in, sound_tasked}, TaskOverPlaces.{IsQuiet, tells_past}, TaskOverActs.{over_untold, split_left}, TaskOverFold.{HoldsAll, LetsSeen}, TaskOverGone.{AllGone, RemovesSeen, all_gone}, TaskOverLetters.{AreLetters, letters_fit, no_letters}, TaskOverMay.{HasAll, has_all, keeps_tasks, may_let_go}, TaskOverPolls.{InPollAt, OversPoll, beside_over, gone_at, over_shared, over_worker, sound_over}, TaskOverSeen.{common_then, desk_then, own_then, things_then}, TaskOverSound.{IsAside, IsOwing, own_keeps}, TaskOverWhole.IsPast, TaskTakes.holder_there}}
 use Rattle.exec_polling.proofs.{Guests.EndsHere, TaskPends.pended_over}
 
 -- THE NEXT PICK
@@ -160,7 +160,7 @@ module _ {B L : Type 0} (left : B → L) (spot : L → Option Said → Spot) (x 
         record {
           there = here.there;
           items = items;
-          done = record { keeps = keeps_slot; cleared = refl; unpolled = refl; complete = refl; one = λ g n one. has_at_most g here.slot.cell.phase n one };
+          done = record { keeps = keeps_slot; cleared = refl; unpolled = refl; complete = refl; one = λ g n one. leaves_none g n (polled_none g here.slot.cell.phase n here.polled one) };
           holder = ap (λ hs. record (holder_of here.slot) { held = hs; over = true }) lets.none;
           polled = here.polled;
           poller = here.poller;

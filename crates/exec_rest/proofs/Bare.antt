@@ -72,7 +72,7 @@ module _ (s : Common) (j : ℕ) where
 -- WHO IS GIVEN SOMETHING
 
 -- one more desk at the end: of worker j it is what it was, or that of one that begins
-joined : (P : Desk → Type 0) (xs more : List Desk) (j : ℕ) (d : Desk) → ((n : ℕ) → P (get_or more n d)) → P (get_or xs j d) → P (get_or (xs ++ more) j d)
+pub joined : (P : Desk → Type 0) (xs more : List Desk) (j : ℕ) (d : Desk) → ((n : ℕ) → P (get_or more n d)) → P (get_or xs j d) → P (get_or (xs ++ more) j d)
 joined P [] more j d there h = there j
 joined P (x ∷ xs) more zero d there h = h
 joined P (x ∷ xs) more (suc j) d there h = joined P xs more j d there h

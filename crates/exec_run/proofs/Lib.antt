@@ -2,6 +2,8 @@ pub mod Told
 pub mod StepLemmas
 pub mod Leads
 pub mod CallsEnd
+pub mod TurnsEnd
+pub mod FewLines
 pub mod Logs
 pub mod RunLemmas
 pub mod ReadLemmas

@@ -1,12 +1,14 @@
 -- Steps that are taken one by one, each paid for, are the log of their trace.
-use Rattle.std.proofs.Common.{◌≡◌, ◌<◌, true, false, List, [], ◌∷◌, All, Some, refl, sym, ap, subst, ◌∙◌, inl, arith}
+use Rattle.std.proofs.Common.{◌≡◌, ◌<◌, ◌≤◌, sum_by, true, false, List, [], ◌∷◌, All, Some, refl, sym, ap, subst, ◌∙◌, inl, arith}
 use Rattle.std.proofs.lemmas.{List.Elements.All-tail}
 use Rattle.exec_machine.specs.{declared.{config.Configuration.Configuration, step.{Step.Step}, event.{Line.Line}}, World.World, Run.{RunsBy, after_steps}, Progress.{Plan, quiet_bound, is_solo, no_stretch, IsLogOf, Party, IsRightlyAsleep, RightlyAsleepBy}, Credited.{Standing, Account, choices_of as accounted, IsPaid, GoesBy}, Examples.{Told, choices_of, lines_of}}
 use Rattle.exec_moves.specs.Plays.{Playing, by_step, first_playing, credit_of, GoesByMoves}
 use Rattle.exec_credit.specs.Minded.{begins_call, is_played}
-use Rattle.exec_core.specs.{Lift.{IsFair, IsMinded, Pays}, Steady.IsSteadyThere, Turns.IsOrderly}
+use Rattle.exec_core.specs.{Lift.{IsFair, IsMinded, Pays}, Steady.{IsPacedThere, IsSteadyThere}, Turns.IsOrderly}
 use Rattle.exec_run.specs.{Log.{AreOrderly, AreResting, IsOfOne, IsTheLogOf}, Steps.{IsStep, Goes, standing, accounts_of}}
-use Rattle.exec_run.proofs.{CallsEnd.call_by, Leads.{leads_there, stays}}
+use Rattle.exec_base.specs.declared.limits.TheConstants.{MOST_STEPS}
+use Rattle.exec_text.specs.Grammar.{count_of}
+use Rattle.exec_run.proofs.{CallsEnd.call_by, FewLines.{as_many_lines, few_lines}, Leads.{leads_there, stays}, TurnsEnd.turns_by}
 
 -- FROM STEP TO STEP
 
@@ -79,6 +81,7 @@ pub record PaidIsRun : Type 0 where
 pub record BeginsWell (p : Plan) : Type 0 where
   pub orderly : IsOrderly (first_playing p)
   pub rests : IsSteadyThere p.config (first_playing p)
+  pub paced : IsPacedThere 0 p.config (first_playing p)
   pub minded : p.config.workers ≡ 1 → p.scripts ≡ [] → All (λ w. is_played w ≡ true) p.root → IsMinded p (first_playing p)
   pub fair : p.config.workers ≡ 1 → IsFair p.config (first_playing p)
 
@@ -96,14 +99,15 @@ is_log law p steps told begins has_lines goes one =
       asleep = law.asleep c (standing c x) (lines_of told) (accounts_of c x told) fair.asleep by;
     }
 
-pub is_the_log : PaidIsRun → (p : Plan) (steps : List Step) (told : List Told) → BeginsWell p → after_steps steps (lines_of told) ≡ Some [] → Goes p (first_playing p) told → IsTheLogOf p steps told
-is_the_log law p steps told begins has_lines goes =
+pub is_the_log : PaidIsRun → (p : Plan) (steps : List Step) (told : List Told) → BeginsWell p → sum_by count_of steps ≤ MOST_STEPS → after_steps steps (lines_of told) ≡ Some [] → Goes p (first_playing p) told → IsTheLogOf p steps told
+is_the_log law p steps told begins few has_lines goes =
     record {
       runs = runs_by p (first_playing p) told goes;
       plays = record { has_lines = has_lines; moves = by_moves p (first_playing p) told goes };
       orderly = orderly_by p (first_playing p) told begins.orderly goes;
       rests = rests_by p (first_playing p) told begins.rests goes;
       asleep = asleep_by p (first_playing p) told begins.rests goes;
+      turns = turns_by p 0 (first_playing p) no_stretch told (omega (arith, few, few_lines steps (lines_of told) has_lines, as_many_lines told)) begins.rests begins.paced (inl refl) goes;
       calls = call_by p (first_playing p) no_stretch told (inl refl) goes;
       alone = is_log law p steps told begins has_lines goes;
     }

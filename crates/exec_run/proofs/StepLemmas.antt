@@ -9,7 +9,8 @@ use Rattle.exec_machine.specs.declared.step.Action.TheVariants as action
 use Rattle.exec_credit.specs.Minded.{begins_call}
 use Rattle.exec_moves.specs.{Plays.{Playing, by_step}, Departures.played}
 use Rattle.exec_parts.specs.Spots.{Spot}
-use Rattle.exec_core.{specs.{declared.executor.Core.Core, Lift.{IsMinded, IsReady, Pays, Shows, Applies, Carries}, Steady.{IsSteady, IsSteadyThere}, Turns.IsOrderly}, proofs.InTurn.orderly}
+use Rattle.exec_progress.specs.Paced.{IsPaced}
+use Rattle.exec_core.{specs.{declared.executor.Core.Core, Lift.{IsMinded, IsReady, Pays, Shows, Applies, Carries}, Steady.{IsSteady, IsSteadyThere, KeepsOn}, Turns.IsOrderly}, proofs.InTurn.orderly}
 use Rattle.exec_text.specs.Grammar.{StepFits, StepNames}
 use Rattle.exec_run.specs.{Log.{Gave, GaveFront, AreTaken, IsBegun, told_text}, Steps.{told_of_line, IsStep, Goes, StandsAt, TakesLine, BreaksLine, Works, Leads, Breaks}}
 use Rattle.exec_run.proofs.Told.{whole_front, no_front, gave_untold, lines_more, gave_more, front_more}
@@ -166,6 +167,7 @@ module _ {B L : Type 0} (left : B → L) (runs : L → Plan → Option ℕ → T
         follows = subst (λ (b : Action). Follows c x.world b t.0.said t.1) of (subst (λ (m : Line). Follows c x.world a m.said t.1) it.tells it.follows);
         orderly = subst (λ (b : Action). IsOrderly (by_step c x b).next) of (orderly left runs holds spot p d (by_step c x a).next ready.stands it.shows);
         rests = subst (λ (b : Action). IsSteady c x → IsSteadyThere c (by_step c x b).next) of it.rests;
+        turns = subst (λ (b : Action). (n : ℕ) → IsSteady c x → IsPaced n c x → KeepsOn n c x b) of it.turns;
         pays = subst (λ (b : Action). begins_call b ≡ false → IsMinded p x → Pays p x b t.0) of
             (subst (λ (m : Line). begins_call a ≡ false → IsMinded p x → Pays p x a m) it.tells it.pays);
       }

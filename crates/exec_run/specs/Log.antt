@@ -2,13 +2,14 @@
 use Rattle.std.specs.Prelude.{◌≡◌, ℕ, Bool, true, false, ◌&&◌, ◌≤◌, ◌⊎◌, if◌then◌else◌, nat_lt, List, [], ◌∷◌, ◌++◌, All, Option, None, sum_by}
 use Rattle.std.specs.Io.KnownBytes.{append_known}
 use Rattle.exec_base.specs.declared.limits.TheConstants.{MOST_STEPS}
-use Rattle.exec_machine.specs.{declared.{config.Configuration.Configuration, event.{Line.Line, StepResult.{StepResult, TheVariants.{Did, Refused}}}, step.{Action.Action, Step.{Step, TheVariants.Work}}}, Choice.Choice, Run.{RunsBy, after_line}, World.World, Progress.{IsLogOf, Party, Party.Caller, Plan, RightlyAsleepBy, Stretch, begin, is_quiet_step, no_stretch, one_more, party_of, quiet_bound}, Text.{text_of_log, told_lines}, Examples.{Told, choices_of, lines_of}}
+use Rattle.exec_machine.specs.{declared.{config.Configuration.Configuration, event.{Line.Line, StepResult.{StepResult, TheVariants.{Did, Refused}}}, step.{Action.Action, Step.{Step, TheVariants.Work}}}, Choice.Choice, Run.{RunsBy, after_line}, World.World, Progress.{IsLogOf, Party, Party.{Caller, Worker}, Plan, RightlyAsleepBy, Stretch, begin, is_quiet_step, no_stretch, one_more, party_of, quiet_bound}, Text.{text_of_log, told_lines}, Examples.{Told, choices_of, lines_of}}
 use Rattle.exec_credit.specs.Minded.{begins_call, is_played}
 use Rattle.exec_text.specs.Grammar.{Meaning, IsTraceOf, count_of}
 use Rattle.exec_run.specs.{Ranges.first_out_of_range, Refusal.IsTextIn}
 use Rattle.exec_core.specs.Turns.{IsOrderly}
 use Rattle.exec_moves.specs.Plays.{Playing, Plays, by_step, first_playing}
 use Rattle.exec_rest.specs.AtRest.{RestsWell}
+use Rattle.exec_progress.specs.Bound.{longest_stretch}
 
 -- The source held a trace that says this, which is not too long and whose configuration is in its ranges.
 pub record HasTrace (source : Option (List ℕ)) (m : Meaning) : Type 0 where
@@ -53,17 +54,35 @@ calls_end c w s (l ∷ ls) (choice ∷ choices) =
     nat_lt (longer_call w l.action l.said s).count (quiet_bound c w)
     && calls_end c (after_line c w l.action l.said choice) (longer_call w l.action l.said s) ls choices
 
+-- of quiet lines of one worker in the same way
+abbrev pub is_worker : Party → Bool
+is_worker (Worker i) = true
+is_worker _ = false
+
+abbrev pub longer_turn : World → Action → StepResult → Stretch → Stretch
+longer_turn w a Refused s = s
+longer_turn w a (Did e) s = if is_worker (party_of a) && is_quiet_step w (Did e) then one_more (party_of a) s else no_stretch
+
+-- From this state on, after so many, no worker alone makes as many quiet lines as the longest stretch.
+abbrev pub turns_end : Configuration → World → Stretch → List Line → List Choice → Bool
+turns_end c w s [] choices = true
+turns_end c w s (l ∷ ls) [] = true
+turns_end c w s (l ∷ ls) (choice ∷ choices) =
+    nat_lt (longer_turn w l.action l.said s).count (longest_stretch c w)
+    && turns_end c (after_line c w l.action l.said choice) (longer_turn w l.action l.said s) ls choices
+
 -- The lines, each with what it leaves open, are the log of these steps: a run of the machine; each line is what the step
 -- tells by its move, so that there is no other log; in each state a task that is to be polled has one runnable, one that is
 -- polled has one poller, and durable requests of an open take turns; where all sleep nothing is left to be run, and nothing
--- is unfinished, and a closing worker sleeps only while a request of its own isn't over; no caller turns for ever; and in the
--- log of one worker alone no party does.
+-- is unfinished, and a closing worker sleeps only while a request of its own isn't over; no worker and no caller turns for ever;
+-- and in the log of one worker alone no party makes as many quiet lines as the smaller bound.
 pub record IsTheLogOf (p : Plan) (steps : List Step) (told : List Told) : Type 0 where
   pub runs : RunsBy p.config (begin p) (lines_of told) (choices_of told)
   pub plays : Plays p steps told
   pub orderly : AreOrderly p.config (first_playing p) told
   pub rests : AreResting p.config (first_playing p) told
   pub asleep : RightlyAsleepBy p.config (begin p) (lines_of told) (choices_of told)
+  pub turns : turns_end p.config (begin p) no_stretch (lines_of told) (choices_of told) ≡ true
   pub calls : calls_end p.config (begin p) no_stretch (lines_of told) (choices_of told) ≡ true
   pub alone : IsOfOne p told → IsLogOf p steps (lines_of told)
 

@@ -2,8 +2,8 @@
 
 ghost use Rattle.std.specs.Prelude.{◌≡◌, ◌≢◌, true, false, [], ◌∷◌, ◌++◌, codes};
 ghost use Rattle.std.specs.Fmt.{decimal};
-ghost use Rattle.exec_run.specs.{Examples.at_first, declared.{field.Field.TheVariants.{Workers, Layout}, complaint.Complaint.TheVariants.{Usage, Syntax, Config, TooLong}}, Explains.complaint_line, Log.{calls_end, longer_call}, Refusal.{status_of, text_of_complaint, words_of_trace}};
-ghost use Rattle.exec_machine.specs.{declared.{event.{Event.TheVariants.{Enter, Rouse, Stage, Turn}, StepResult.TheVariants.{Refused, Did}}, step.Action.TheVariants.{GoOn, Work}}, Choice.Choice.Plain, Examples.usual, Progress.{Party.Caller, no_stretch}, Text.told_lines};
+ghost use Rattle.exec_run.specs.{Examples.at_first, declared.{field.Field.TheVariants.{Workers, Layout}, complaint.Complaint.TheVariants.{Usage, Syntax, Config, TooLong}}, Explains.complaint_line, Log.{calls_end, longer_call, turns_end}, Refusal.{status_of, text_of_complaint, words_of_trace}};
+ghost use Rattle.exec_machine.specs.{declared.{event.{Event.TheVariants.{Enter, Rouse, Stage, Turn}, StepResult.TheVariants.{Refused, Did}}, step.Action.TheVariants.{GoOn, Work}}, Choice.Choice.Plain, Examples.usual, Progress.{Party.{Caller, Worker}, no_stretch}, Text.told_lines};
 
 /// Complaints, and the status that each ends with.
 pub fn complaints()
@@ -43,4 +43,13 @@ pub fn callers_that_end()
     ensures below { calls_end usual at_first (record { party = Caller 3; count = 2174 }) (record { action = GoOn 3; said = Did Turn } ∷ []) (Plain ∷ []) ≡ true }
     ensures for_ever { calls_end usual at_first (record { party = Caller 3; count = 2175 }) (record { action = GoOn 3; said = Did Turn } ∷ []) (Plain ∷ []) ≡ false }
     ensures of_a_worker { calls_end usual at_first (record { party = Caller 3; count = 2175 }) (record { action = Work 0; said = Did Turn } ∷ []) (Plain ∷ []) ≡ true }
+{}
+
+/// With the same worker and one open file the longest stretch is 2,202: a worker may make one quiet line less on end, and a line of
+/// a caller ends that.
+pub fn turns_that_end()
+    ensures below { turns_end usual at_first (record { party = Worker 0; count = 2200 }) (record { action = Work 0; said = Did Turn } ∷ []) (Plain ∷ []) ≡ true }
+    ensures for_ever { turns_end usual at_first (record { party = Worker 0; count = 2201 }) (record { action = Work 0; said = Did Turn } ∷ []) (Plain ∷ []) ≡ false }
+    ensures not_quiet { turns_end usual at_first (record { party = Worker 0; count = 2201 }) (record { action = Work 0; said = Did (Rouse 0) } ∷ []) (Plain ∷ []) ≡ true }
+    ensures of_a_caller { turns_end usual at_first (record { party = Worker 0; count = 2201 }) (record { action = GoOn 3; said = Did Turn } ∷ []) (Plain ∷ []) ≡ true }
 {}

@@ -6,13 +6,14 @@
 //! executor is spent, and no further step is taken. What was given is a front of the log up to there, and all
 //! lines of the steps before are whole.
 
-ghost use Rattle.std.specs.Prelude.{◌≡◌, ◌-◌, ◌^◌, ◌<◌, ◌≤◌, ◌⊎◌, List, ◌∷◌, [], All, length, replicate, None, IfOk, IfErr, OnOk, OnErr};
+ghost use Rattle.std.specs.Prelude.{◌≡◌, ◌-◌, ◌^◌, ◌<◌, ◌≤◌, ◌⊎◌, List, ◌∷◌, [], All, length, replicate, sum_by, None, IfOk, IfErr, OnOk, OnErr};
+ghost use Rattle.exec_base.specs.declared.limits.TheConstants.{MOST_STEPS};
 ghost use Rattle.exec_machine.specs.declared.step.Step.TheVariants as step;
 ghost use Rattle.exec_machine.specs.declared.state.Code.TheVariants as code;
 ghost use Rattle.exec_machine.specs.{Progress.Plan, Examples.Told};
 ghost use Rattle.exec_moves.specs.Plays.{Playing};
 ghost use Rattle.exec_core.specs.Lift.{Carries};
-ghost use Rattle.exec_text.specs.Grammar.{MeaningFits, meaning_of, StepFits, StepNames};
+ghost use Rattle.exec_text.specs.Grammar.{MeaningFits, count_of, meaning_of, StepFits, StepNames};
 ghost use Rattle.exec_run.specs.{Ranges.first_out_of_range, Log.{Gave, IsTheLogOf, told_text}, Script.{begun, words_of_all}, Steps.{BrokeBy, GaveUpTo, StandsAt, TakesLine, BreaksLine, Leads, Breaks}};
 
 use crate::asking::Limits;
@@ -196,6 +197,7 @@ pub fn log_trace<O: Output>(
     requires fits { MeaningFits (meaning_of trace) }
     requires in_range { first_out_of_range trace.config ≡ None }
     requires few { length trace.scripts.items ≤ 2 ^ 32 }
+    requires steps { sum_by count_of trace.steps.items ≤ MOST_STEPS }
     ensures count { O.faults sink.old ≤ O.faults sink.new }
     ensures well { OnOk result (O.faults sink.new ≡ O.faults sink.old) }
     ensures passes { OnOk result (O.passed sink.new ≡ O.given sink.new) }

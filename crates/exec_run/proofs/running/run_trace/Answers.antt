@@ -17,6 +17,9 @@ returns-in_err-trace-clause-err g c =
     (subst (λ (x : List ℕ). CannotRun c.in_err-trace.field-0.0 x) c.as_slice.ensures.value c.in_err-trace.ensures.err)
     c.in_ok-text.ensures.well refl)
 
+pub log_trace-requires-clause-steps : goal.log_trace-requires-clause-steps
+log_trace-requires-clause-steps g c = c.in_ok-trace.ensures.ok.few
+
 pub log_trace-requires-clause-few : goal.log_trace-requires-clause-few
 log_trace-requires-clause-few g c =
     let text = c.in_ok-text.text.items in

@@ -41,11 +41,12 @@ returns-in_err-take_steps-clause-front g c =
     let begins : BeginsWell m.plan = record {
       orderly = orderly itself Runs held_told spot_told m.plan c.in_ok-core.core (first_playing m.plan) stands.ready.stands stands.shows;
       rests = c.in_ok-core.ensures.rests m.plan is;
+      paced = c.in_ok-core.ensures.paced m.plan is;
       minded = c.in_ok-core.ensures.minded m.plan is;
       fair = first_fair m.plan;
     } in
     gave_up c.from_residual-in_err-take_steps.result c.args.quiet m _ _
-    (front_logged law c.args.quiet m c.as_slice-2.result.now _ _ _ begins c.as_slice-2.ensures.value
+    (front_logged law c.args.quiet m c.as_slice-2.result.now _ _ _ begins c.requires.steps c.as_slice-2.ensures.value
     (c.in_err-take_steps.ensures.breaks m.plan (first_playing m.plan) stands names) refl)
 
 pub returns-clause-ok : goal.returns-clause-ok
@@ -63,11 +64,12 @@ returns-clause-ok g c =
     let begins : BeginsWell m.plan = record {
       orderly = orderly itself Runs held_told spot_told m.plan c.in_ok-core.core (first_playing m.plan) stands.ready.stands stands.shows;
       rests = c.in_ok-core.ensures.rests m.plan is;
+      paced = c.in_ok-core.ensures.paced m.plan is;
       minded = c.in_ok-core.ensures.minded m.plan is;
       fair = first_fair m.plan;
     } in
     on_ok c.flush_all.result
-    (logged _ _ _ _ _ law c.args.quiet m c.as_slice-2.result.now c.take_steps.new.core _ _ _ begins c.as_slice-2.ensures.value
+    (logged _ _ _ _ _ law c.args.quiet m c.as_slice-2.result.now c.take_steps.new.core _ _ _ begins c.requires.steps c.as_slice-2.ensures.value
     (c.in_ok-take_steps.ensures.leads m.plan (first_playing m.plan) stands names) c.flush_all.ensures.same)
 
 pub returns-clause-front : goal.returns-clause-front
@@ -85,9 +87,10 @@ returns-clause-front g c =
     let begins : BeginsWell m.plan = record {
       orderly = orderly itself Runs held_told spot_told m.plan c.in_ok-core.core (first_playing m.plan) stands.ready.stands stands.shows;
       rests = c.in_ok-core.ensures.rests m.plan is;
+      paced = c.in_ok-core.ensures.paced m.plan is;
       minded = c.in_ok-core.ensures.minded m.plan is;
       fair = first_fair m.plan;
     } in
     gave_up c.flush_all.result c.args.quiet m _ _
-    (all_logged _ _ _ _ _ law c.args.quiet m c.as_slice-2.result.now c.take_steps.new.core _ _ _ begins c.as_slice-2.ensures.value
+    (all_logged _ _ _ _ _ law c.args.quiet m c.as_slice-2.result.now c.take_steps.new.core _ _ _ begins c.requires.steps c.as_slice-2.ensures.value
     (c.in_ok-take_steps.ensures.leads m.plan (first_playing m.plan) stands names) c.flush_all.ensures.same)

@@ -1,0 +1,324 @@
+-- Calm places, and that the parts lead to such.
+use Rattle.std.proofs.Common.{◌≡◌, ℕ, Bool, true, false, ◌-◌, ◌==◌, ◌&&◌, ◌||◌, List, [], ◌∷◌, Option, Some, None, refl, if◌then◌else◌}
+use Rattle.std.proofs.lemmas.Bool.{false≢true}
+use Rattle.std.specs.Prelude.{nat_le, nat_lt, not}
+use Rattle.exec_words.specs.declared.head.{Fit.Fit, Head.Head}
+use Rattle.exec_words.specs.declared.head.Fit.TheVariants as fit
+use Rattle.exec_machine.specs.{declared.{config.Configuration.Configuration, state.{Letter.Letter, MailMessage.MailMessage, Waiting.Waiting}}, Deadlines.next_due, Ranges.ring_size, Tests.is_empty, World.{Common, Own as Books}}
+use Rattle.exec_machine.specs.declared.state.Waiting.TheVariants as waiting
+use Rattle.exec_moves.specs.declared.handing.{AfterCallbacks.AfterCallbacks, AfterCancels.AfterCancels, AfterClaim.AfterClaim, AfterKick.AfterKick, AfterLeave.AfterLeave, AfterPop.AfterPop, AfterPush.AfterPush, AfterSend.AfterSend, AfterSignal.AfterSignal, First.First}
+use Rattle.exec_moves.specs.declared.idling.{AfterWait.AfterWait, Scan.Scan, Stay.Stay}
+use Rattle.exec_moves.specs.declared.place.{AfterService.AfterService, Found.Found, Place.Place, Round.Round}
+use Rattle.exec_moves.specs.{Callback.{after_callbacks, first_load, has_callbacks, has_requests, is_full, is_of_pool, next_callback, ring_wait, to_queue}, Claim.{Claimed, Claimed.{Again, Nobody, Worker}, after_claim}, Close.{after_close, after_letting_go}, Load.{after_loads, has_submissions, leaves_for_turn, next_turn}, Look.{after_withdrawal, looks_from, past_own}, Mail.after_message, Parts.{after_cancels, after_kick, after_leave, after_poll, after_push, after_return, after_send, after_signal, cancels_left, first_pop, has_others, next_pick, polls, tells_from}, Pick.after_empty_look, Poll.{after_begin, after_end}, Pop.{after_empty_pop, after_pop, judge_pop}, Push.after_fit, Search.{judge_head, judge_tail, looks_at, past, past_own as past_mine}, Send.{after_posting, after_spawn}, Serve.after_service, State.{Desk}, Wait.{after_wait, first_search, is_near, waits, withdraws}}
+use Rattle.exec_moves.specs.declared.handing.AfterCallbacks.TheVariants as after
+use Rattle.exec_moves.specs.declared.handing.AfterCancels.TheVariants as cancels
+use Rattle.exec_moves.specs.declared.handing.AfterClaim.TheVariants as claim
+use Rattle.exec_moves.specs.declared.handing.AfterKick.TheVariants as kick
+use Rattle.exec_moves.specs.declared.handing.AfterLeave.TheVariants as leave
+use Rattle.exec_moves.specs.declared.handing.AfterPop.TheVariants as pop
+use Rattle.exec_moves.specs.declared.handing.AfterPush.TheVariants as push
+use Rattle.exec_moves.specs.declared.handing.AfterSend.TheVariants as send
+use Rattle.exec_moves.specs.declared.handing.AfterSignal.TheVariants as signal
+use Rattle.exec_moves.specs.declared.handing.First.TheVariants as first
+use Rattle.exec_moves.specs.declared.idling.AfterWait.TheVariants as later
+use Rattle.exec_moves.specs.declared.idling.Stay.TheVariants as stay
+use Rattle.exec_moves.specs.declared.place.AfterService.TheVariants as back
+use Rattle.exec_moves.specs.declared.place.Place.TheVariants as at
+use Rattle.exec_moves.specs.declared.place.Round.TheVariants as round
+use Rattle.std.specs.Prelude.{◌≤◌}
+use Rattle.exec_outcomes.specs.{declared.outcome.Outcome.Outcome, Accounts.is_durable}
+use Rattle.exec_machine.specs.{declared.state.Request.Request, Ranges.largest_spin}
+use Rattle.exec_words.specs.declared.word.WaitTarget.TheVariants as target
+use Rattle.exec_moves.specs.declared.place.{AfterPermit.AfterPermit, InService.InService, Service.Service}
+use Rattle.exec_moves.specs.Serve.{after_passing, after_permit, after_reap}
+use Rattle.exec_moves.specs.declared.handing.InSignal.TheVariants as signals
+use Rattle.exec_moves.specs.declared.idling.InLook.TheVariants as look
+use Rattle.exec_moves.specs.declared.idling.InRingWait.TheVariants as ring
+use Rattle.exec_moves.specs.declared.idling.InScan.TheVariants as scan
+use Rattle.exec_moves.specs.declared.idling.InWordWait.TheVariants as word
+use Rattle.exec_moves.specs.declared.place.AfterPermit.TheVariants as permit
+use Rattle.exec_moves.specs.declared.place.InLoads.TheVariants as load
+use Rattle.exec_moves.specs.declared.place.InService.TheVariants as step
+use Rattle.exec_moves.specs.declared.place.Reaping.TheVariants as reaping
+use Rattle.exec_credit.specs.Minded.{IsShort}
+use Rattle.exec_rest.specs.Places.{waits_on}
+use Rattle.exec_progress.specs.Going.{is_moving, loads_queues, raises_itself}
+
+-- CALM PLACES: nothing is to be known there beside what keeps from move to move. Queues are loaded by a worker of the pool alone, and a spin begins with
+-- the budget.
+abbrev pub Calm : Bool → ℕ → Place → Type 0
+Calm pool budget (at.Loads load.LoadOwnHead r) = pool ≡ true
+Calm pool budget (at.Loads (load.LoadOwnMirror f) r) = pool ≡ true
+Calm pool budget (at.Scan (scan.MoveHalf from h)) = ⊥
+Calm pool budget (at.Scan (scan.ReleaseHalf from h)) = ⊥
+Calm pool budget (at.Scan scan.StoreMoved) = ⊥
+Calm pool budget (at.Look look.ReturnLookCount) = ⊥
+Calm pool budget (at.RingWait ring.EnterRing y) = ⊥
+Calm pool budget (at.RingWait ring.SleepOnRing y) = ⊥
+Calm pool budget (at.RingWait (ring.DisarmRing n) y) = ⊥
+Calm pool budget (at.WordWait (word.SpinOnBatch left)) = left ≡ budget
+Calm pool budget (at.WordWait (word.SpinOnLatch left)) = ⊥
+Calm pool budget (at.WordWait word.SleepOnWord) = ⊥
+Calm pool budget (at.WordWait word.DisarmWord) = ⊥
+Calm pool budget (at.Signal (signals.Raise is_ring) j b) = ⊥
+Calm pool budget (at.Service (step.Raise is_ring j b) v) = ⊥
+Calm pool budget _ = Unit {0}
+
+-- WILD PLACES, whose moves lead elsewhere, or change the spinner
+abbrev pub is_wild : Place → Bool
+is_wild (at.Look look.Publish) = true
+is_wild (at.Scan (scan.ClaimHalf y h tail)) = true
+is_wild (at.Scan (scan.MoveHalf from h)) = true
+is_wild (at.Scan (scan.ReleaseHalf from h)) = true
+is_wild (at.RingWait ring.ArmRing y) = true
+is_wild (at.RingWait ring.EnterRing y) = true
+is_wild (at.RingWait ring.SleepOnRing y) = true
+is_wild (at.WordWait (word.SpinOnBatch left)) = true
+is_wild (at.WordWait (word.SpinOnLatch left)) = true
+is_wild (at.WordWait word.ArmWord) = true
+is_wild (at.WordWait word.SleepOnWord) = true
+is_wild (at.WordWait word.DisarmWord) = true
+is_wild (at.Signal signals.SetLatch j b) = true
+is_wild (at.Service (step.Signal j b) v) = true
+is_wild _ = false
+
+module _ (pool : Bool) (budget : ℕ) where
+  pub calm_loads : (p : Place) → Calm pool budget p → loads_queues p ≡ true → pool ≡ true
+  calm_loads (at.Loads load.LoadOwnHead r) calm h = calm
+  calm_loads (at.Loads (load.LoadOwnMirror f) r) calm h = calm
+  calm_loads _ calm h = absurd (false≢true h)
+
+  pub calm_moves : (p : Place) → Calm pool budget p → is_moving p ≡ false
+  calm_moves (at.Scan (scan.MoveHalf from h)) calm = absurd calm
+  calm_moves (at.Scan (scan.ReleaseHalf from h)) calm = absurd calm
+  calm_moves (at.Scan scan.StoreMoved) calm = absurd calm
+  calm_moves _ calm = refl
+
+  pub calm_short : (c : Configuration) → budget ≤ largest_spin c.spin → (p : Place) → Calm pool budget p → IsShort c.spin p
+  calm_short c le (at.WordWait (word.SpinOnBatch left)) calm = rw calm le
+  calm_short c le (at.WordWait (word.SpinOnLatch left)) calm = absurd calm
+  calm_short c le _ calm = tt
+
+  pub calm_waits : (p : Place) → Calm pool budget p → waits_on p ≡ target.None
+  calm_waits (at.RingWait ring.EnterRing y) calm = absurd calm
+  calm_waits (at.RingWait ring.SleepOnRing y) calm = absurd calm
+  calm_waits (at.RingWait (ring.DisarmRing n) y) calm = absurd calm
+  calm_waits (at.WordWait word.SleepOnWord) calm = absurd calm
+  calm_waits (at.WordWait word.DisarmWord) calm = absurd calm
+  calm_waits _ calm = refl
+
+  pub calm_raises : (i : ℕ) (p : Place) → Calm pool budget p → raises_itself i p ≡ false
+  calm_raises i (at.Signal (signals.Raise is_ring) j b) calm = absurd calm
+  calm_raises i (at.Service (step.Raise is_ring j b) v) calm = absurd calm
+  calm_raises i _ calm = refl
+
+module _ (c : Configuration) (i : ℕ) (me : Books) (s : Common) (budget : ℕ) where
+  abbrev pub Fair : Place → Type 0
+  Fair p = Calm (is_of_pool s i) budget p
+
+  -- by a test, this or that
+  pub fair_if : (b : Bool) (p q : Place) → Fair p → Fair q → Fair (if b then p else q)
+  fair_if true p q one other = one
+  fair_if false p q one other = other
+
+  -- WHERE THE PARTS LEAD
+
+  pub queued : (b : AfterPush) → Fair (to_queue s i b)
+  queued b = fair_if (is_of_pool s i) _ _ tt tt
+
+  pub spawned : (t : ℕ) → Fair (after_spawn c i s t)
+  spawned t = fair_if (not (is_of_pool s i)) _ _ tt (fair_if (has_others c) _ _ tt tt)
+
+  pub popping : (b : AfterPop) → Fair (first_pop c b)
+  popping b = fair_if (has_others c) _ _ tt tt
+
+  pub polling : (t : ℕ) (d : Desk) → Fair (polls t d).place
+  polling t d = fair_if d.searching _ _ tt tt
+
+  pub begun : (t : ℕ) (w : Waiting) → Fair (at.Poll t (after_begin w))
+  begun t waiting.Nothing = tt
+  begun t _ = tt
+
+  pub empty_look : (f : First) → Fair (after_empty_look c f)
+  empty_look first.Own = tt
+  empty_look first.Global = popping (pop.Pick first.Global)
+
+  pub picking : (d : Desk) → Fair (next_pick d)
+  picking d = fair_if (d.picks == 0) _ _ tt tt
+
+  pub polled : (home : Option ℕ) (d : Desk) → Fair (after_poll home d)
+  polled None d = picking d
+  polled (Some home) d = tt
+
+  pub turning : (d : Desk) → Fair (next_turn c i me s d)
+  turning d = fair_if ((d.put_off && has_requests i s) || (d.may_put_off && has_submissions c me)) _ _ tt tt
+
+  pub leaving : (d : Desk) → Fair (leaves_for_turn c i me s d)
+  leaving d = fair_if d.searching _ _ tt (turning d)
+
+  pub left : (b : AfterLeave) (d : Desk) → Fair (after_leave c i me s b d)
+  left (leave.Poll t) d = tt
+  left (leave.CallBack n) d = tt
+  left leave.Begin d = turning d
+
+  pub returned : (last : Bool) (b : AfterLeave) (d : Desk) → Fair (after_return c i me s last b d)
+  returned last b d = fair_if last _ _ tt (left b d)
+
+  pub telling : (worker : ℕ) → Fair (tells_from c worker)
+  telling worker = fair_if (nat_lt worker c.workers) _ _ tt (popping pop.Discard)
+
+  pub cancelled : (b : AfterCancels) (d : Desk) → Fair (after_cancels b d)
+  cancelled (cancels.Remove t) d = tt
+  cancelled cancels.Pick d = picking d
+  cancelled (cancels.Visit x) d = tt
+
+  pub cancelling : (b : AfterCancels) (d : Desk) (letters : List Letter) → Fair (cancels_left b d letters)
+  cancelling b d [] = cancelled b d
+  cancelling b d (letter ∷ letters) = tt
+
+  pub sent : (b : AfterSend) (d : Desk) → Fair (after_send c b d)
+  sent (send.Act t) d = tt
+  sent (send.Pend t) d = tt
+  sent (send.Cancels b) d = cancelling b d d.letters
+  sent (send.Tell worker) d = telling worker
+
+  pub posted : (j : ℕ) (b : AfterSend) (asked : Bool) (d : Desk) → Fair (after_posting c j b asked d)
+  posted j b true d = tt
+  posted j b false d = sent b d
+
+  pub loading : (r : Round) → Fair (first_load s i r)
+  loading r = by (is_of_pool s i)
+    where
+      by : (pool : Bool) → Calm pool budget (if pool then at.Loads load.LoadOwnHead r else at.Loads (load.LoadOwnWord (record { ready = false })) r)
+      by true = refl
+      by false = tt
+
+  pub ringing : (y : Stay) (d : Desk) → Fair (ring_wait (ring_size c) y d)
+  ringing y d = fair_if (is_full (ring_size c) d) _ _ tt tt
+
+  pub called : (n : AfterCallbacks) (d : Desk) → Fair (after_callbacks (ring_size c) i s n d)
+  called after.Look d = loading round.First
+  called after.Test d = loading round.Second
+  called after.Begin d = tt
+  called after.Drain d = tt
+  called after.Finish d = fair_if (has_requests i s) _ _ (ringing stay.Closing d) tt
+
+  pub calling : (books : Books) (n : AfterCallbacks) (d : Desk) → Fair (next_callback (ring_size c) i books s n d)
+  calling books n d = fair_if (has_callbacks books d) _ _ tt (called n d)
+
+  pub pushed : (b : AfterPush) (d : Desk) → Fair (after_push c i me s b d)
+  pushed (push.Act t) d = tt
+  pushed push.Pick d = picking d
+  pushed (push.CallBack n) d = calling me n d
+
+  pub fitted : (b : AfterPush) (h : Head) (f : Fit) → Fair (after_fit b h f)
+  fitted b h (fit.Room len) = tt
+  fitted b h fit.Overflow = tt
+  fitted b h _ = tt
+
+  pub kicked : (b : AfterKick) (d : Desk) → Fair (after_kick c i me s b d)
+  kicked (kick.Leave b) d = left b d
+  kicked (kick.Push b) d = pushed b d
+
+  pub signalled : (b : AfterSignal) (d : Desk) → Fair (after_signal c i me s b d)
+  signalled (signal.Claim (claim.Kick b)) d = kicked b d
+  signalled (signal.Claim (claim.Global b)) d = pushed b d
+  signalled (signal.Send b) d = sent b d
+
+  pub claiming : (b : AfterClaim) (y : Claimed) → Fair (after_claim b y)
+  claiming b (Worker lowest) = tt
+  claiming b (Again found) = tt
+  claiming (claim.Kick b) Nobody = tt
+  claiming (claim.Global b) Nobody = tt
+
+  pub loaded : (r : Round) (f : Found) (d : Desk) → Fair (after_loads me r f d)
+  loaded round.First f d = tt
+  loaded round.Second f d = tt
+
+  pub emptied : (b : AfterPop) → Fair (after_empty_pop c i b)
+  emptied (pop.Pick first.Own) = tt
+  emptied (pop.Pick first.Global) = tt
+  emptied pop.Discard = tt
+
+  pub popped : (b : AfterPop) (t : ℕ) (d : Desk) → Fair (after_pop c b t d).place
+  popped (pop.Pick f) t d = polling t d
+  popped pop.Discard t d = popping pop.Discard
+
+  pub judged : (b : AfterPop) (h : Head) (len : ℕ) → Fair (judge_pop c i b h len)
+  judged b h len = fair_if (len == 0) _ _ (emptied b) (fair_if ((len == 1) && (h.gap == 0)) _ _ tt tt)
+
+  pub served : (b : AfterService) (d : Desk) → Fair (after_service b d)
+  served back.Mail d = fair_if (is_empty d.batch) _ _ tt tt
+  served back.Begin d = tt
+  served back.Finish d = tt
+
+  pub read : (applied : ℕ) (batch : List MailMessage) → Fair (after_message applied batch)
+  read applied batch = fair_if (is_empty batch || nat_le 64 applied) _ _ tt tt
+
+  pub closed : Fair (after_close c i s)
+  closed = fair_if (i == 0) _ _ tt (fair_if (is_of_pool s i) _ _ (popping pop.Discard) tt)
+
+  pub letting_go : (held asleep : Option ℕ) → Fair (after_letting_go held asleep)
+  letting_go None None = tt
+  letting_go None (Some z) = tt
+  letting_go (Some r) asleep = tt
+
+  pub over : (t : ℕ) (home : Option ℕ) (d : Desk) → Fair (after_end t home d)
+  over t None d = cancelling (cancels.Remove t) d d.letters
+  over t (Some home) d = tt
+
+  pub withdrawing : (n : AfterWait) → Fair (withdraws s i n)
+  withdrawing later.Serve = fair_if (is_of_pool s i) _ _ tt tt
+  withdrawing _ = fair_if (is_of_pool s i) _ _ tt tt
+
+  pub waited : (y : Stay) (n : AfterWait) → Fair (after_wait s i y n)
+  waited stay.Turn n = withdrawing n
+  waited stay.Closing n = tt
+
+  pub waiting_on : (d : Desk) → d.spinner.budget ≡ budget → Fair (waits c i s d)
+  waiting_on d is =
+      fair_if (has_requests i s) _ _ (ringing stay.Turn d)
+      (fair_if (nat_lt 0 d.spinner.budget && not (is_near c d (next_due s i))) _ _ is tt)
+
+  pub searching : (d : Desk) → d.spinner.budget ≡ budget → Fair (first_search c i s d)
+  searching d is = fair_if (not (is_of_pool s i)) _ _ (waiting_on d is) (fair_if (nat_le c.workers 1) _ _ tt (fair_if d.searching _ _ tt tt))
+
+  pub looking : (j : ℕ) (d : Desk) → d.spinner.budget ≡ budget → Fair (looks_from c i s j d)
+  looking j d is = fair_if (nat_lt (past_own i j) c.workers) _ _ tt (waiting_on d is)
+
+  pub withdrawn : (came : Bool) (n : AfterWait) (d : Desk) → Fair (after_withdrawal c i me s came n d)
+  withdrawn came later.Begin d = tt
+  withdrawn came later.Serve d = tt
+  withdrawn true (later.MakeUp last) d = leaving d
+  withdrawn false (later.MakeUp last) d = returned last leave.Begin d
+  withdrawn true later.Search d = tt
+  withdrawn false later.Search d = tt
+
+  pub scanned : (y : Scan) → Fair (looks_at c i y)
+  scanned y = fair_if (nat_lt (past_mine c i y).passed c.workers) _ _ tt tt
+
+  pub headed : (y : Scan) (h : Head) → Fair (judge_head c i y h)
+  headed y h = fair_if (h.gap == 0) _ _ tt (scanned (past y))
+
+  pub tailed : (y : Scan) (h : Head) (tail : ℕ) → Fair (judge_tail c i y h tail)
+  tailed y h tail = fair_if (nat_lt 256 (tail - h.real)) _ _ tt (fair_if (nat_lt (tail - h.real) 2) _ _ (scanned (past y)) tt)
+
+  -- IN A SERVICE
+
+  pub serving_if : (b : Bool) (p q : InService) (v : Service) → Fair (at.Service p v) → Fair (at.Service q v) → Fair (at.Service (if b then p else q) v)
+  serving_if true p q v one other = one
+  serving_if false p q v one other = other
+
+  pub permitted : (b : AfterPermit) (v : Service) → Fair (at.Service (after_permit b) v)
+  permitted (permit.Reap r) v = tt
+  permitted (permit.Reaped reaping.First) v = tt
+  permitted (permit.Reaped reaping.Last) v = tt
+  permitted (permit.Submit gate) v = tt
+
+  pub reaped : (it : Request) (o : Option Outcome) (b : AfterPermit) (v : Service) → Fair (at.Service (after_reap it o b) v)
+  reaped it None b v = permitted b v
+  reaped it (Some outcome) b v = serving_if (is_durable it.operation.kind) _ _ v tt (permitted b v)
+
+  pub passed_on : (o : Option ℕ) (b : AfterPermit) (v : Service) → Fair (at.Service (after_passing o b) v)
+  passed_on None b v = permitted b v
+  passed_on (Some worker) b v = tt

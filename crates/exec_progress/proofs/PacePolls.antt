@@ -1,0 +1,228 @@
+-- Picks, pushes, counts, polls and callbacks lead to calm places, and leave the spinner as it is.
+use Rattle.std.proofs.Common.{◌≡◌, ℕ, Bool, true, false, ◌-◌, ◌==◌, ◌&&◌, List, [], ◌∷◌, Option, Some, None, refl}
+use Rattle.std.specs.Prelude.{drop, nat_le}
+use Rattle.exec_outcomes.specs.{Accounts.is_durable}
+use Rattle.exec_words.specs.{Queue.{Queue, fit_of, head_of, tail_of}}
+use Rattle.exec_machine.specs.{declared.{config.{Configuration.Configuration, ScriptWord.ScriptWord}, state.{Operation.Operation, RequestPhase.RequestPhase, Waiting.Waiting}}, Ranges.ring_size, Requests.operation_asked, Tasks.begun_waiting, Tests.{is_done, is_idle, is_ready}, World.{Common, Own as Books, Task, request_of, sleeper_of, task_of}, Words.{newest_held, next_word, sleep_asked}}
+use Rattle.exec_machine.specs.declared.config.ScriptWord.TheVariants as script
+use Rattle.exec_machine.specs.declared.state.RequestPhase.TheVariants as phase
+use Rattle.exec_machine.specs.declared.state.Waiting.TheVariants as waiting
+use Rattle.exec_moves.specs.declared.handing.{AfterCallbacks.AfterCallbacks, AfterKick.AfterKick, AfterPop.AfterPop, AfterPush.AfterPush, AfterSend.AfterSend, AfterSignal.AfterSignal, First.First, Heard.Heard, InGlobal.InGlobal, InKick.InKick, InPop.InPop, InPush.InPush, InSignal.InSignal}
+use Rattle.exec_moves.specs.declared.place.{InCallbacks.InCallbacks, InPick.InPick, InPoll.InPoll}
+use Rattle.exec_moves.specs.{Callback.{Item, Item.{Answers, Completes, LetsGo, Nothing, Releases, Wakes}, flagged_by, has_callbacks, is_of_pool, item_next, tells_waiter, woken_by}, Global.has_any, Move.{move_act, move_callbacks, move_global, move_item, move_kick, move_look_at, move_pick, move_poll, move_pop, move_push, move_signal, move_wake}, Parts.has_others, Pick.{load_mirror, take_share}, Poll.{Sight, Sight.{Asks, HearsRequest, HearsTimer, Here}, act, act_asked, act_by, after_pend, await, drop_newest, heard_by, requeued_if, resume, sight_of, sight_of_act, sleep_for}, Pop.{load_pop_head, pops, same_head}, State.{Desk, Moved, Things, queue_of}, Told.{has_number, lets_go_all}}
+use Rattle.exec_moves.specs.declared.handing.AfterCancels.TheVariants as cancels
+use Rattle.exec_moves.specs.declared.handing.AfterPop.TheVariants as pop
+use Rattle.exec_moves.specs.declared.handing.AfterPush.TheVariants as push
+use Rattle.exec_moves.specs.declared.handing.AfterSend.TheVariants as send
+use Rattle.exec_moves.specs.declared.handing.First.TheVariants as first
+use Rattle.exec_moves.specs.declared.handing.Heard.TheVariants as heard
+use Rattle.exec_moves.specs.declared.handing.InGlobal.TheVariants as global
+use Rattle.exec_moves.specs.declared.handing.InKick.TheVariants as kicks
+use Rattle.exec_moves.specs.declared.handing.InPop.TheVariants as pop_at
+use Rattle.exec_moves.specs.declared.handing.InPush.TheVariants as pushes
+use Rattle.exec_moves.specs.declared.handing.InSignal.TheVariants as signals
+use Rattle.exec_moves.specs.declared.place.InCallbacks.TheVariants as callback
+use Rattle.exec_moves.specs.declared.place.InPick.TheVariants as pick
+use Rattle.exec_moves.specs.declared.place.InPoll.TheVariants as poll
+use Rattle.exec_moves.specs.declared.place.Place.TheVariants as at
+use Rattle.std.proofs.Common.{if◌then◌else◌}
+use Rattle.std.proofs.lemmas.Bool.{true≢false}
+use Rattle.exec_progress.proofs.PaceParts.{is_wild, Calm, begun, calling, cancelling, emptied, empty_look, fair_if, fitted, judged, kicked, over, picking, polled, polling, popping, posted, pushed, queued, signalled, spawned}
+use Rattle.exec_moves.specs.{Parts.polls, Pop.after_pop}
+use Rattle.exec_progress.proofs.PaceSpins.{all_same, drop_same}
+
+module _ (c : Configuration) (i : ℕ) (me : Books) (s : Common) (d : Desk) (x : Things) where
+  abbrev n : ℕ
+  n = d.spinner.budget
+
+  abbrev pool : Bool
+  pool = is_of_pool s i
+
+  -- with the same spinner at a calm place
+  abbrev pub Fine : Desk → Type 0
+  Fine e = (e.spinner ≡ d.spinner) × Calm pool n e.place
+
+  abbrev pub Leads : {T : Type 0} → Moved T → Type 0
+  Leads m = Fine m.desk
+
+  no : (d.spinner ≡ d.spinner) × Unit {0}
+  no = (refl, tt)
+
+  -- by a test, this or that
+  pub desk_if : (b : Bool) (e f : Desk) → Fine e → Fine f → Fine (if b then e else f)
+  desk_if true e f one other = one
+  desk_if false e f one other = other
+
+  pub move_if : {T : Type 0} (b : Bool) (m k : Moved T) → Leads m → Leads k → Fine (if b then m else k).desk
+  move_if true m k one other = one
+  move_if false m k one other = other
+
+  -- PICKS, POPS AND PUSHES
+
+  pub picking_one : (t : ℕ) (e : Desk) → e.spinner ≡ d.spinner → Fine (polls t e)
+  picking_one t e same = (same, polling c i me s n t e)
+
+  mirror : (f : First) (g : List ℕ) → Leads (load_mirror c f d g)
+  mirror f [] = (refl, empty_look c i me s n f)
+  mirror f (t ∷ g) = no
+
+  share : (f : First) (room held : ℕ) (own : Queue ℕ) (g : List ℕ) → Leads (take_share c f room held d (record { global = g; queue = own }))
+  share f room held own [] = (refl, empty_look c i me s n f)
+  share f room held own (t ∷ g) = picking_one t d refl
+
+  pub in_pick : (p : InPick) → Leads (move_pick c i d x p)
+  in_pick pick.CountDown = move_if (nat_le d.countdown 1) _ _ no (refl, popping c i me s n (pop.Pick first.Own))
+  in_pick (pick.LoadMirror f) = mirror f x.global
+  in_pick (pick.LoadHead f) = no
+  in_pick (pick.TakeShare f room held) = share f room held (queue_of x i) x.global
+
+  popped_one : (b : AfterPop) (t : ℕ) → Fine (after_pop c b t d)
+  popped_one (pop.Pick f) t = picking_one t d refl
+  popped_one pop.Discard t = (refl, popping c i me s n pop.Discard)
+
+  oldest : (b : AfterPop) (q : Queue ℕ) (vs : List ℕ) → q.values ≡ vs → Leads (pops c i b d q)
+  oldest b q [] h = rw h (refl, emptied c i me s n b)
+  oldest b q (t ∷ ts) h = rw h (popped_one b t)
+
+  head_loaded : (b : AfterPop) (q : Queue ℕ) → Leads (load_pop_head c i b d q)
+  head_loaded b q = (refl, judged c i me s n b (head_of q) (tail_of q - q.real))
+
+  pub in_pop : (p : InPop) (b : AfterPop) → Leads (move_pop c i d x p b)
+  in_pop pop_at.PopAlone b = oldest b (queue_of x i) _ refl
+  in_pop pop_at.LoadPopHead b = head_loaded b (queue_of x i)
+  in_pop (pop_at.ExchangePop h) b = move_if (same_head h (head_of (queue_of x i))) _ _ (oldest b (queue_of x i) _ refl) (head_loaded b (queue_of x i))
+  in_pop pop_at.StorePop b = oldest b (queue_of x i) _ refl
+
+  pub in_push : (p : InPush) (b : AfterPush) → Leads (move_push c i me s d x p b)
+  in_push pushes.LoadPushHead b = (refl, fitted c i me s n b (head_of (queue_of x i)) (fit_of (queue_of x i)))
+  in_push (pushes.StoreValue len) b = (refl, fair_if c i me s n (nat_le 2 len && has_others c) _ _ tt (pushed c i me s n b d))
+  in_push (pushes.FlowOver h) b = move_if (same_head h (head_of (queue_of x i))) _ _ no no
+  in_push pushes.StoreOldest b = no
+
+  -- COUNTS AND SIGNALS
+
+  pub in_global : (p : InGlobal) (b : AfterPush) → Leads (move_global c i me s d x p b)
+  in_global global.Append b = (refl, fair_if c i me s n s.queue_closed _ _ (pushed c i me s n b d) tt)
+  in_global global.LoadGlobalSet b = (refl, fair_if c i me s n (has_any x.idle) _ _ tt (pushed c i me s n b d))
+  in_global (global.AddGlobalCount set) b = no
+  in_global global.ReturnGlobalCount b = (refl, fair_if c i me s n (x.idle.count == 1) _ _ tt (pushed c i me s n b d))
+
+  pub in_kick : (p : InKick) (b : AfterKick) → Leads (move_kick c i me s d x p b)
+  in_kick kicks.LoadKickCount b = (refl, fair_if c i me s n (x.idle.count == 0) _ _ tt (kicked c i me s n b d))
+  in_kick kicks.LoadKickSet b = (refl, fair_if c i me s n (has_any x.idle) _ _ tt (kicked c i me s n b d))
+  in_kick (kicks.ExchangeKickCount set) b = move_if (x.idle.count == 0) _ _ no (refl, kicked c i me s n b d)
+  in_kick kicks.ReturnKickCount b = (refl, fair_if c i me s n (x.idle.count == 1) _ _ tt (kicked c i me s n b d))
+
+  pub in_signal : (p : InSignal) (j : ℕ) (b : AfterSignal) → is_wild (at.Signal p j b) ≡ false → Leads (move_signal c i me s d x p j b)
+  in_signal signals.SetLatch j b tame = absurd (true≢false tame)
+  in_signal (signals.Raise ring) j b tame = (refl, signalled c i me s n b d)
+
+  -- A POLL
+
+  requeued : (t : ℕ) (b : Bool) → Fine (requeued_if b t d)
+  requeued t true = no
+  requeued t false = (refl, picking c i me s n d)
+
+  pended : (t : ℕ) (it : Task) (home : Option ℕ) → Fine (after_pend i t s d it home)
+  pended t it None = desk_if it.cleared _ _ (all_same i s it d, cancelling c i me s n cancels.Pick (lets_go_all i s it d) _) (requeued t _)
+  pended t it (Some home) = no
+
+  on_request : (t : ℕ) (it : Task) (r : ℕ) (p : RequestPhase) → it.waiting ≡ waiting.Request r → (request_of s r).phase ≡ p → Leads (resume i t s d it)
+  on_request t it r (phase.Resolved outcome) h is = rw (h, is) no
+  on_request t it r _ h is = rw (h, is) (pended t (record it { waiting = waiting.Request r }) it.home)
+
+  resumed : (t : ℕ) (it : Task) (w : Waiting) → it.waiting ≡ w → Leads (resume i t s d it)
+  resumed t it (waiting.Request r) h = on_request t it r _ h refl
+  resumed t it (waiting.Timer z) h = rw h (move_if (sleeper_of s z).fired _ _ no (pended t (record it { waiting = waiting.Timer z }) it.home))
+  resumed t it waiting.Woken h = rw h no
+  resumed t it w h = rw h (pended t (record it { waiting = w }) it.home)
+
+  heard_of : (t r : ℕ) (b : Bool) (p : RequestPhase) → Leads (heard_by t r d x.answers b p)
+  heard_of t r true (phase.Resolved outcome) = no
+  heard_of t r true _ = no
+  heard_of t r false p = no
+
+  seen : (t : ℕ) (b : AfterSend) (m : Moved Things) → Leads m → (y : Sight) → Leads (move_look_at c s d x t b m y)
+  seen t b m one Here = one
+  seen t b m one (Asks j message) = (refl, posted c i me s n j b _ d)
+  seen t b m one (HearsRequest r) = heard_of t r (has_number r x.answers) (request_of s r).phase
+  seen t b m one (HearsTimer z) = move_if (has_number z x.alarms) _ _ no no
+
+  awaited_by : (t : ℕ) (it : Task) (r : ℕ) (p : RequestPhase) → (request_of s r).phase ≡ p → Leads (await t s d it (Some r))
+  awaited_by t it r (phase.Resolved outcome) h = rw h no
+  awaited_by t it r _ h = rw h no
+
+  awaited : (t : ℕ) (it : Task) (held : Option ℕ) → Leads (await t s d it held)
+  awaited t it None = no
+  awaited t it (Some r) = awaited_by t it r _ refl
+
+  slept : (t : ℕ) (it : Task) (until : Option ℕ) → Leads (sleep_for t s d it until)
+  slept t it None = no
+  slept t it (Some until) = no
+
+  -- a poll that has no word is at its place still
+  module _ (before : Calm pool n d.place) where
+    dropped : (t : ℕ) (it : Task) (held : Option ℕ) → Leads (drop_newest t s d it held)
+    dropped t it None = (refl, before)
+    dropped t it (Some r) = (drop_same r (request_of s r) d, tt)
+
+    acted_by : (t : ℕ) (it : Task) (w : ScriptWord) → Leads (act_by i t me s d it w)
+    acted_by t it script.Await = awaited t it (newest_held it)
+    acted_by t it script.Drop = dropped t it (newest_held it)
+    acted_by t it (script.Sleep time) = slept t it (sleep_asked me.sampled (script.Sleep time))
+    acted_by t it script.Yield = no
+    acted_by t it (script.Fault code) = (all_same i s it d, over c i me s n t it.home (lets_go_all i s it d))
+    acted_by t it script.End = (all_same i s it d, over c i me s n t it.home (lets_go_all i s it d))
+    acted_by t it _ = (refl, before)
+
+    asked : (t : ℕ) (it : Task) (w : ScriptWord) (o : Option Operation) → Leads (act_asked i t me s d it w o)
+    asked t it w None = acted_by t it w
+    asked t it w (Some o) = desk_if (is_durable o.kind) _ _ no no
+
+    acted : (t : ℕ) (it : Task) → Leads (act c i t me s d it)
+    acted t it = asked t it (next_word s it) (operation_asked c me.sampled (next_word s it))
+
+    waking : (t u : ℕ) (home : Option ℕ) → Leads (move_wake c i s d x t u home)
+    waking t u None = desk_if (is_idle (task_of s u).phase) _ _ (refl, queued c i me s n (push.Act t)) no
+    waking t u (Some home) = move_if (home == i) _ _ no (refl, posted c i me s n home (send.Act t) _ d)
+
+    in_act : (t : ℕ) (w : ScriptWord) → Leads (move_act c i me s d x t w)
+    in_act t (script.Spawn k) = desk_if s.set_closed _ _ no (refl, spawned c i me s n t)
+    in_act t (script.Wake u) = waking t u (task_of s u).home
+    in_act t (script.Dedicated k) = no
+    in_act t script.Await = seen t (send.Pend t) _ (acted t (task_of s t)) (sight_of_act i s (task_of s t) script.Await)
+    in_act t script.Drop = seen t (send.Act t) _ (acted t (task_of s t)) (sight_of_act i s (task_of s t) script.Drop)
+    in_act t _ = acted t (task_of s t)
+
+    pub in_poll : (t : ℕ) (p : InPoll) → Leads (move_poll c i me s d x t p)
+    in_poll t poll.BeginPoll =
+        move_if (is_ready (task_of s t).phase) _ _ (refl, begun c i me s n t (begun_waiting (task_of s t).waiting)) (refl, polled c i me s n (task_of s t).home d)
+    in_poll t poll.Resume = seen t (send.Pend t) _ (resumed t (task_of s t) _ refl) (sight_of i s (task_of s t).waiting)
+    in_poll t poll.Act = in_act t (next_word s (task_of s t))
+    in_poll t (poll.JoinGate r) = no
+    in_poll t poll.LoadSpawnHead = (refl, fair_if c i me s n (tail_of (queue_of x i) == (queue_of x i).real) _ _ tt tt)
+    in_poll t poll.Pend = pended t (task_of s t) (task_of s t).home
+    in_poll t poll.RemoveTask = (refl, picking c i me s n d)
+
+  -- THE CALLBACKS
+
+  woken : (a : AfterCallbacks) (t : ℕ) (e : Desk) → e.spinner ≡ d.spinner → (it : Task) (home : Option ℕ) → it.home ≡ home → Fine (woken_by (ring_size c) i me s a t e it)
+  woken a t e same it None h = rw h (desk_if (is_idle it.phase) _ _ (same, queued c i me s n (push.CallBack a)) (same, calling c i me s n me a e))
+  woken a t e same it (Some home) h = rw h (same, calling c i me s n me a (flagged_by it e))
+
+  told : (a : AfterCallbacks) (waiter : Option ℕ) (of : Heard) (e : Desk) → e.spinner ≡ d.spinner → Fine (tells_waiter (ring_size c) i me s a waiter of e)
+  told a None of e same = (same, calling c i me s n me a e)
+  told a (Some t) of e same = desk_if (is_done (task_of s t).phase) _ _ (same, calling c i me s n me a e) (same, tt)
+
+  in_item : (a : AfterCallbacks) (it : Item) → Leads (move_item c i me s d x a it)
+  in_item a (Wakes t) = woken a t (record d { wakes = drop 1 d.wakes }) refl (task_of s t) _ refl
+  in_item a LetsGo = (refl, calling c i me s n me a (record d { outputs = d.outputs - 1 }))
+  in_item a (Releases r) = (refl, calling c i me s n (record me { ended = drop 1 me.ended }) a d)
+  in_item a (Completes z) = told a (Some (sleeper_of s z).task) (heard.Timer z) (record d { completions = drop 1 d.completions }) refl
+  in_item a (Answers r) = told a (request_of s r).waiter (heard.Request r) (record d { results = drop 1 d.results }) refl
+  in_item a Nothing = (refl, calling c i me s n me a d)
+
+  pub in_callbacks : (p : InCallbacks) (a : AfterCallbacks) → Leads (move_callbacks c i me s d x p a)
+  in_callbacks callback.TakeBatch a = (refl, fair_if c i me s n (d.searching && has_callbacks me d) _ _ tt (calling c i me s n me a d))
+  in_callbacks callback.CallBack a = in_item a (item_next me d)
+  in_callbacks (callback.WakeWaiter t of) a = woken a t d refl (task_of s t) _ refl

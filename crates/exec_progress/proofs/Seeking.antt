@@ -1,0 +1,157 @@
+-- Who seeks holds a search count: so it is in the first state, and each step keeps it.
+use Rattle.std.proofs.Common.{◌≡◌, ℕ, ◌*◌, ◌+◌, ◌==◌, ◌&&◌, ◌||◌, Bool, true, false, List, [], ◌∷◌, set, if◌then◌else◌, refl, sym, inl, inr}
+use Rattle.std.proofs.lemmas.Bool.{cases_Bool, false≢true}
+use Rattle.std.specs.Prelude.{nat_le, nat_lt, not}
+use Rattle.exec_words.specs.{Head.is_stealable_at, Queue.{head_of, tail_of}, Word.{asks_signal, is_idle_at}}
+use Rattle.exec_machine.specs.{declared.{config.Configuration.Configuration, step.Action.Action}, Callers.is_enabled, Deadlines.next_due, Progress.Plan, Ranges.ring_size, World.{Common, Own as Books, own_of, request_of}}
+use Rattle.exec_machine.specs.declared.step.Action.TheVariants as action
+use Rattle.exec_moves.specs.{declared.{idling.{AfterWait.AfterWait, InRingWait.InRingWait, Stay.Stay}, place.Place.Place}, Callback.{has_requests, is_full, is_of_pool}, Load.{has_come, has_mail, has_submissions, is_ready, leaves_for_turn}, Look.{look_at_mirror, looks_from, past_own}, Move.{move, move_at}, Plays.{Playing, by_action, by_step, desk_of, first_desk, first_playing, newcomers}, Pop.same_head, Search.from_of, Serve.Ring, State.{Desk, Moved, Things, queue_of, word_of}, Thing.ring_of, Wait.{after_wait, enter_ring, has_completion, is_near, noting_sleep, waits}}
+use Rattle.exec_moves.specs.declared.handing.InSignal.TheVariants as signals
+use Rattle.exec_moves.specs.declared.idling.AfterWait.TheVariants as later
+use Rattle.exec_moves.specs.declared.idling.InLook.TheVariants as look
+use Rattle.exec_moves.specs.declared.idling.InRingWait.TheVariants as ring
+use Rattle.exec_moves.specs.declared.idling.InScan.TheVariants as scan
+use Rattle.exec_moves.specs.declared.idling.InSearch.TheVariants as search
+use Rattle.exec_moves.specs.declared.idling.InWordWait.TheVariants as word
+use Rattle.exec_moves.specs.declared.idling.Stay.TheVariants as stay
+use Rattle.exec_moves.specs.declared.place.InLoads.TheVariants as load
+use Rattle.exec_moves.specs.declared.place.InService.TheVariants as step
+use Rattle.exec_moves.specs.declared.place.Place.TheVariants as at
+use Rattle.exec_rest.specs.{Posted.has_tested}
+use Rattle.exec_rest.proofs.{Away.{away_signal, calm_untested}, Bare.joined, BareMoves.put_in, Continuing.calm_leaves_for_turn, Untested.untested}
+use Rattle.exec_progress.specs.{Going.is_seeking, Paced.HaveCounts}
+use Rattle.exec_progress.proofs.{Pace.{each_first, newcomer}, PaceParts.{Calm, leaving, signalled}, PaceMoves.in_place as tame, PaceSpins.enter_at}
+
+-- who seeks there holds a search count: of a place and whether one is held, of a desk, and of a move
+abbrev Counts : Bool → Place → Type 0
+Counts held p = is_seeking p ≡ true → held ≡ true
+
+abbrev Has : Desk → Type 0
+Has d = Counts d.searching d.place
+
+abbrev Leads : {T : Type 0} → Moved T → Type 0
+Leads m = Has m.desk
+
+no : {T : Type 0} → false ≡ true → T
+no h = absurd (false≢true h)
+
+-- by a test, this or that
+split : {A : Type 0} (P : A → Type 0) (b : Bool) (a z : A) → P a → P z → P (if b then a else z)
+split P true a z one other = one
+split P false a z one other = other
+
+-- A MOVE
+
+module _ (c : Configuration) (i : ℕ) (me : Books) (s : Common) (d : Desk) (x : Things) where
+  -- whether a search count was held
+  abbrev held : Bool
+  held = d.searching
+
+  -- nobody seeks at a calm place to which no test led
+  off : (q : Place) → has_tested q ≡ false → Calm (is_of_pool s i) d.spinner.budget q → (b : Bool) → Counts b q
+  off (at.Scan p) out calm b = no (sym out)
+  off (at.Look p) out calm b = no (sym out)
+  off (at.RingWait p stay.Turn) out calm b = no (sym out)
+  off (at.RingWait (ring.DisarmRing n) stay.Closing) out calm b = absurd calm
+  off (at.Withdraw later.Search) out calm b = no (sym out)
+  off _ out calm b = no
+
+  leaves : Counts held (leaves_for_turn c i me s d)
+  leaves = off _ (calm_untested _ (calm_leaves_for_turn c i me s d)) (leaving c i me s d.spinner.budget d) held
+
+  waiting : (e : Desk) → Counts held (waits c i s e)
+  waiting e =
+      split (Counts held) (has_requests i s) _ _ (split (Counts held) (is_full (ring_size c) e) _ _ no no)
+      (split (Counts held) (nat_lt 0 e.spinner.budget && not (is_near c e (next_due s i))) _ _ no no)
+
+  looking : (j : ℕ) → Counts held (looks_from c i s j d)
+  looking j = split (Counts held) (nat_lt (past_own i j) c.workers) _ _ no (waiting d)
+
+  -- with a search count a scan begins at once, and without one none has to be returned
+  sought : (b : Bool) → Counts b (if b then at.Scan scan.LoadScanHead else at.Search search.LoadSearchCount)
+  sought true = λ h. refl
+  sought false = no
+
+  published : (b : Bool) → Counts b (at.Look (if b then look.ReturnLookCount else look.LookAtMirror false))
+  published true = λ h. refl
+  published false = no
+
+  mirrored : (last : Bool) (g : List ℕ) → Leads (look_at_mirror last d g)
+  mirrored last [] = no
+  mirrored last (t ∷ ts) = no
+
+  waited : (y : Stay) (n : AfterWait) (b : Bool) → Counts b (at.Withdraw n) → Counts b (after_wait s i y n)
+  waited stay.Turn later.Serve b on = split (Counts b) (is_of_pool s i) _ _ no no
+  waited stay.Turn _ b on = split (Counts b) (is_of_pool s i) _ _ on no
+  waited stay.Closing n b on = no
+
+  ringing : (y : Stay) (b : Bool) (p q : InRingWait) → Counts held (at.RingWait p y) → Counts held (at.RingWait q y) → Counts held (at.RingWait (if b then p else q) y)
+  ringing y b = split (λ p. Counts held (at.RingWait p y)) b
+
+  entered : (y : Stay) (r : Ring) (b : Bool) → r.busy ≡ b → Leads (enter_ring y me d r)
+  entered y r true h = rw h no
+  entered y r false h = rw h (ringing y _ (ring.DisarmRing later.Begin) ring.SleepOnRing no no)
+
+  -- of any place: all but these lead to calm ones
+  in_place : (p : Place) → d.place ≡ p → Counts held p → Leads (move_at c i me s d x p)
+  in_place (at.Loads load.LoadOwnHead r) here on = no
+  in_place (at.Loads (load.LoadOwnMirror f) r) here on = no
+  in_place (at.Service (step.Signal j b) v) here on = no
+  in_place (at.Signal signals.SetLatch j b) here on =
+      split (Counts held) (asks_signal (word_of x j)) _ _ no (off _ (away_signal c i me s b d) (signalled c i me s d.spinner.budget b d) held)
+  in_place (at.TestForWork f) here on = split Leads (is_ready me f d || has_submissions c me) _ _ leaves no
+  in_place at.ReadClock here on =
+      split Leads (has_come s.clock (next_due s i)) _ _ leaves
+      (split (Counts held) (not (is_of_pool s i)) _ _ (waiting (record d { read = s.clock })) (split (Counts held) (nat_le c.workers 1) _ _ no (sought held)))
+  in_place (at.Search search.LoadSearchCount) here on = split (Counts held) (nat_le c.workers (2 * x.idle.count)) _ _ no no
+  in_place (at.Search search.AddSearchCount) here on = λ h. refl
+  in_place (at.Scan (scan.ClaimHalf y h tail)) here on = split Leads (same_head h (head_of (queue_of x (from_of c y)))) _ _ (λ k. on refl) (λ k. on refl)
+  in_place (at.Scan (scan.ReleaseHalf from h)) here on = split Leads (same_head h (head_of (queue_of x from))) _ _ (λ k. on refl) (λ k. on refl)
+  in_place (at.Scan p) here on = λ k. on refl
+  in_place (at.Look look.Publish) here on = published held
+  in_place (at.Look (look.LookAtMirror last)) here on = mirrored last x.global
+  in_place (at.Look look.LookAtCount) here on = split (Counts held) (x.idle.count == 0) _ _ (looking 0) (waiting d)
+  in_place (at.Look (look.LookAtTail j h)) here on = split (Counts held) (is_stealable_at h (tail_of (queue_of x j))) _ _ no (looking (j + 1))
+  in_place (at.Look look.ExchangeLookCount) here on = split Leads (x.idle.count == 0) _ _ (λ h. refl) (waiting d)
+  in_place (at.Look look.ReturnClaimed) here on = on
+  in_place (at.Look p) here on = no
+  in_place (at.Withdraw later.Search) here on = λ h. rw (on refl) refl
+  in_place (at.RingWait ring.EnterFullRing y) here on = rw (enter_at me (record d { place = at.RingWait ring.TestRing y }) (ring_of s x i)) no
+  in_place (at.RingWait ring.TestRing y) here on = split Leads (has_submissions c me || (not d.polled && is_full (ring_size c) d)) _ _ (waited y later.Serve held no) no
+  in_place (at.RingWait ring.ArmRing y) here on = ringing y (is_idle_at (word_of x i) d.processed) _ _ no no
+  in_place (at.RingWait ring.EnterRing y) here on = entered y (ring_of s x i) _ refl
+  in_place (at.RingWait ring.SleepOnRing y) here on = split Leads (has_completion d (ring_of s x i)) _ _ no (split Leads (has_come s.clock (next_due s i)) _ _ no no)
+  in_place (at.RingWait (ring.DisarmRing later.Search) y) here on = waited y later.Search held on
+  in_place (at.RingWait (ring.DisarmRing n) y) here on = waited y n held no
+  in_place (at.WordWait (word.SpinOnBatch left)) here on = split Has (has_mail d (word_of x i)) _ _ no no
+  in_place (at.WordWait (word.SpinOnLatch left)) here on = split Has (word_of x i).latch _ _ no (split Has (nat_lt 1 left) _ _ no no)
+  in_place (at.WordWait word.ArmWord) here on = no
+  in_place (at.WordWait word.SleepOnWord) here on =
+      split Leads (is_idle_at (word_of x i) d.processed) _ _ (split (λ m. Leads (noting_sleep s.clock m)) (has_come s.clock (next_due s i)) _ _ no no) no
+  in_place (at.WordWait p) here on = waited stay.Turn later.Begin _ no
+  in_place p here on = off (move_at c i me s d x p).desk.place (untested c i me s d x (rw here refl) p refl refl) (tame c i me s d x p here (λ h. no h) refl).1 _
+
+-- THE FIRST STATE
+
+pub counts_first : (p : Plan) → HaveCounts p.config (first_playing p)
+counts_first p i = each_first Has p.config (λ k. no) p.config.workers 0 i (first_desk p.config i) no
+
+-- EACH STEP
+
+module _ (c : Configuration) (x : Playing) (counts : HaveCounts c x) where
+  by_any : (a : Action) → HaveCounts c (by_action c x a).next
+  by_any (action.Work i) j =
+      let d = desk_of c x i in
+      let me = own_of x.world i in
+      let m : Moved Things = move c i me x.world.common d x.things in
+      joined Has (set x.desks i m.desk) (newcomers c m.event) j (first_desk c j) (newcomer Has c (λ k. no) m.event j)
+      (put_in Has x.desks i j m.desk (first_desk c j) (λ is. in_place c i me x.world.common d x.things d.place refl (counts i)) (counts j))
+  by_any (action.Land r n) j = let k = (request_of x.world.common r).worker in put_in Has x.desks k j (record (desk_of c x k) { others = 0 }) (first_desk c j) (λ is. counts k) (counts j)
+  by_any _ j = counts j
+
+  -- a step that is not enabled changes nothing
+  pub counts_then : (a : Action) → HaveCounts c (by_step c x a).next
+  counts_then a = elim (cases_Bool (is_enabled x.world.common a)) [
+    | inl may ↦ rw may (by_any a)
+    | inr off ↦ rw off counts
+  ]
