@@ -1,9 +1,7 @@
 -- Each request stands in the lists in which it waits for something, also after one changed.
-use Rattle.std.proofs.Common.{◌≡◌, ◌⊎◌, ℕ, ◌≤◌, ◌==◌, ◌&&◌, ◌||◌, Bool, true, false, not, List, [], ◌∷◌, ◌++◌, length, set, get_or, filter, drop, cond, ◌∙◌, refl, sym, subst, arith, inl, inr}
-use Rattle.std.proofs.lemmas.Bool.{true≢false, false≢true, or_cases, or_left, or_right, eq-eqb, eqb-true, eqb-false, ltb-true, ltb-false}
-use Rattle.std.proofs.lemmas.Grind.{get_or-set_at}
-use Rattle.std.proofs.lemmas.List.{get_or-set_other, get_or_past, length-set}
-use Rattle.std.specs.Prelude.{nat_lt, slice_get}
+use Rattle.std.proofs.Common.{◌≡◌, ◌⊎◌, ℕ, ◌==◌, ◌&&◌, ◌||◌, Bool, true, false, not, List, [], ◌∷◌, ◌++◌, filter, drop, cond, ◌∙◌, refl, sym, subst, inl, inr}
+use Rattle.std.proofs.lemmas.Bool.{true≢false, false≢true, or_cases, or_left, or_right, eq-eqb, eqb-true}
+use Rattle.std.specs.Prelude.{slice_get}
 use Rattle.exec_machine.specs.{declared.state.Request.Request, Requests.{joined_if, left_if}, Same.{is_number, is_none}, Tests.{is_in_flight, is_landed, is_queued, is_resolved}, World.{Own as Books, no_request}}
 use Rattle.exec_machine.specs.declared.state.RequestPhase.TheVariants as phase
 use Rattle.exec_outcomes.specs.declared.outcome.Outcome.{Outcome}
@@ -77,24 +75,6 @@ no_listed me landed k =
       cancels = λ h. absurd (false≢true h);
       over = λ h. absurd (false≢true h);
     }
-
--- one request has changed
-pub one_listed : (me me' : Books) (landed landed' : List ℕ) (rs : List Request) (r : ℕ) (y : Request)
-    → ((k : ℕ) → IsListed me landed k (get_or rs k no_request)) → ((k : ℕ) → (k == r) ≡ false → KeepsIn k me me' landed landed') → IsListed me' landed' r y
-    → (k : ℕ) → IsListed me' landed' k (get_or (set rs r y) k no_request)
-one_listed me me' landed landed' rs r y listed keeps new k = by (k == r) refl (nat_lt r (length rs)) refl
-  where
-    by : (b : Bool) → (k == r) ≡ b → (within : Bool) → nat_lt r (length rs) ≡ within → IsListed me' landed' k (get_or (set rs r y) k no_request)
-    by false other within h =
-        subst (λ it. IsListed me' landed' k it) (sym (get_or-set_other rs r k y no_request (eqb-false k r other)))
-        (listed_by k me me' landed landed' (get_or rs k no_request) (keeps k other) (listed k))
-    by true same true h =
-        let is = eqb-true k r same in
-        subst (λ it. IsListed me' landed' k it) (sym (get_or-set_at rs r k y no_request is (ltb-true r (length rs) h))) (subst (λ j. IsListed me' landed' j y) (sym is) new)
-    by true same false h =
-        let is = eqb-true k r same in
-        let past : length (set rs r y) ≤ k = omega (arith, ltb-false r (length rs) h, is, length-set rs r y) in
-        subst (λ it. IsListed me' landed' k it) (sym (get_or_past (set rs r y) k no_request past)) (no_listed me' landed' k)
 
 -- A REQUEST THAT IS OVER is among those that ended
 pub over_listed : (me : Books) (landed : List ℕ) (r : ℕ) (y : Request) (o : Outcome) → y.phase ≡ phase.Resolved o → is_in r me.ended ≡ true → IsListed me landed r y

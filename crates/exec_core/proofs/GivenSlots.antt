@@ -9,7 +9,7 @@ use Rattle.exec_moves.specs.{Plays.{Playing, desk_of, first_desk}, Slots.{is_in_
 use Rattle.exec_parts.{specs.{declared.parts.{mail.Reply.Reply, record.Record.Record, sleeping.SleeperRecord.SleeperRecord, worker.Worker.Worker}, Records.number_in, Spots.Spot, View.{desk_of as desk_seen, driver_of, slots_from}}}
 use Rattle.exec_invariants.proofs.{FiringRemoved.slot_none, FiringSeen.bed_named, Seen.sleeper_at, SparedRecord.there_within}
 use Rattle.exec_core.specs.{Lift.{Stands, playing}, declared.executor.Core.Core}
-use Rattle.exec_core.proofs.{CoreStood.{plus_none, plus_one, some_lives}, GivenWorkers.{by_one, mapped}}
+use Rattle.exec_core.proofs.{GivenWorkers.{by_one, mapped}, InSlots.{plus_none, plus_one, some_lives}}
 
 -- what lives in a slot is among the numbers of all
 numbered_one : (b : Bool) (n m : ℕ) (later : List (Option ℕ)) → has_number n (numbers_in later) ≡ true → has_number n (numbers_in ((if b then Some m else None) ∷ later)) ≡ true

@@ -5,7 +5,7 @@ use Rattle.exec_task.specs.declared.body.Said.{Said}
 use Rattle.exec_machine.specs.{declared.config.Configuration.Configuration, Progress.Plan}
 use Rattle.exec_moves.specs.{declared.{idling.InScan.InScan, place.Place.Place}, Plays.Playing}
 use Rattle.exec_parts.specs.Spots.{Spot}
-use Rattle.exec_credit.proofs.Stepped.{some_ring}
+use Rattle.exec_credit.proofs.Rings.{some_ring}
 use Rattle.exec_invariants.specs.Places.{claims_at}
 use Rattle.exec_rest.specs.AtRest.{IsShut}
 use Rattle.exec_progress.specs.{Going.is_seeking, Granted.IsGranted, Paced.HaveCounts}

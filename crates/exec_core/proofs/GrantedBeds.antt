@@ -8,7 +8,7 @@ use Rattle.exec_moves.specs.{Plays.{Playing, desk_of as desk_at}, Slots.is_in_sl
 use Rattle.exec_parts.specs.{declared.parts.{seat.Seat.Seat as Chair, sleeping.SleeperRecord.SleeperRecord, worker.Worker.Worker}, Phased.closes_at, Spots.Spot, View.desk_of}
 use Rattle.exec_invariants.proofs.SparedRecord.{mine_asleep}
 use Rattle.exec_core.specs.{Lift.{Stands, playing}, declared.executor.Core.Core}
-use Rattle.exec_core.proofs.{CoreStood.{found_in_slots, some_lives}, GivenWorkers.{Sits, by_one, by_worker}, LoneLists.none_plus}
+use Rattle.exec_core.proofs.{GivenWorkers.{Sits, by_one, by_worker}, InSlots.{found_in_slots, none_plus, some_lives}}
 
 -- where there is no sleeper nobody sleeps
 nobody : (b : Bool) → (b && not true && not true) ≡ true → ⊥

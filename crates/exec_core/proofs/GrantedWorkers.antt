@@ -1,8 +1,7 @@
 -- What is granted of each state of an executor, of each worker alone: the pool, what a worker serves and has sampled, where it closes,
 -- and how much it steals.
-use Rattle.std.proofs.Common.{◌≡◌, ℕ, zero, suc, ◌+◌, ◌<◌, ◌≤◌, Bool, true, false, length, if◌then◌else◌, nat_lt, Option, refl, sym, ap, subst, ◌∙◌, arith}
-use Rattle.std.specs.Prelude.{nat_le}
-use Rattle.std.proofs.lemmas.{Bool.{lt-ltb, not-true}, List.length-map}
+use Rattle.std.proofs.Common.{◌≡◌, ℕ, ◌<◌, ◌≤◌, true, false, length, nat_lt, Option, refl, sym, ap, subst, ◌∙◌, arith}
+use Rattle.std.proofs.lemmas.{Bool.{not-true}, List.length-map}
 use Rattle.exec_task.specs.declared.{body.Said.Said, runnable.Runnable.Runnable}
 use Rattle.exec_machine.specs.{declared.{config.Configuration.Configuration}, Progress.Plan, Tests.is_open, World.{own_of as own_at, seat_of}}
 use Rattle.exec_moves.specs.{declared.{handing.{AfterCallbacks.AfterCallbacks, AfterCancels.AfterCancels, AfterClaim.AfterClaim, AfterKick.AfterKick, AfterLeave.AfterLeave, AfterPop.AfterPop, AfterPush.AfterPush, AfterSend.AfterSend, AfterSignal.AfterSignal}, idling.Stay.Stay, place.{AfterService.AfterService, InClosing.InClosing, Place.Place}}, Plays.{Playing, desk_of as desk_at}, Seen.serves_at}

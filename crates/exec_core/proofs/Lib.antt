@@ -7,16 +7,12 @@ pub mod Started
 pub mod Playing
 pub mod Taking
 pub mod CoreCalls
-pub mod Paying
 pub mod CoreSpawns
 pub mod Balanced
 pub mod CoreFirsts
-pub mod CoreAlone
-pub mod CoreStood
-pub mod CoreRoot
+pub mod InSlots
 pub mod QueuedOnce
 pub mod InTurn
-pub mod LoneLists
 pub mod Runnable
 pub mod GivenWorkers
 pub mod Placed

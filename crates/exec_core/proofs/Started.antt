@@ -1,9 +1,8 @@
 -- The executor begins as the machine does, and shows the first state of the moves.
-use Rattle.std.proofs.{Common.{◌≡◌, ℕ, zero, suc, ◌+◌, false, true, List, [], ◌∷◌, ◌++◌, All, length, map, replicate, Option, Some, refl, sym, ap, subst, ◌∙◌, arith, slice_get, slice_index_or}, lemmas.List.length-map}
+use Rattle.std.proofs.{Common.{◌≡◌, ℕ, zero, suc, ◌+◌, false, true, List, [], ◌∷◌, ◌++◌, length, map, replicate, Option, Some, refl, sym, ap, subst, ◌∙◌, arith, slice_get}, lemmas.List.length-map}
 use Rattle.exec_task.specs.declared.{body.Said.{Said, TheVariants.Start}, runnable.Runnable.Runnable}
 use Rattle.exec_driver.specs.Opens.{fresh_open}
-use Rattle.exec_machine.specs.{declared.{config.{Configuration.Configuration, ScriptWord.ScriptWord}, state.Call.TheVariants.Nothing as NoCall}, Progress.{Plan}, Run.{first_common, first_owns, first_tasks, first_world}, Tasks.{new_own, new_seat, new_task}, World.{Own, Task, no_open, no_seat}}
-use Rattle.exec_credit.specs.Minded.{MindedIn, is_played}
+use Rattle.exec_machine.specs.{declared.{config.{Configuration.Configuration}, state.Call.TheVariants.Nothing as NoCall}, Progress.{Plan}, Run.{first_common, first_owns, first_tasks, first_world}, Tasks.{new_own, new_seat, new_task}, World.{Own, Task, no_open}}
 use Rattle.exec_moves.specs.{Plays.{first_desk, first_desks, first_things, first_playing}, Pop.shard_count, State.{Desk, no_queue, no_wake_poll, no_word}}
 use Rattle.exec_parts.specs.{declared.parts.{role.Role.TheVariants.Pool, seat.Seat.Seat as Chair, shared.Shared.Shared, task_slot.TaskSlot.TaskSlot, worker.Worker.Worker}, Dedicated.Begins, Records.{IsFreshSeat, numbers_held}, Spots.Spot, View.{gate_seen, numbers_of_passing, Visible, visible, own_of, desk_of, common_of, inbox_at, open_seen, polls_seen, queue_at, queue_seen, message_of, seat_seen, seats_seen, task_seen, things_with, word_at}}
 use Rattle.exec_polling.specs.{declared.caller.Caller.Caller, Calling.{call_of, desk_of_caller}}
@@ -11,7 +10,7 @@ use Rattle.exec_invariants.specs.Acting.{Performs, PerformsAll}
 use Rattle.exec_parts.proofs.Facts.{same_thing}
 use Rattle.exec_polling.proofs.Begun.{desk_begun, fresh_visible, own_begun, visible_begun}
 use Rattle.exec_core.proofs.{Balanced.first_stands, Beginning.{free_caller, opens_begun}, Lifting.playing_by, Powers.{InRange, may_begin, shards_of}}
-use Rattle.exec_core.specs.{Firsts.{AllBegin, IsFirst, IsRoot}, Lift.{IsMinded, IsReady, IsPlanOf, Shows, code_of_root, playing, views}, Steady.IsSteady, declared.executor.Core.Core}
+use Rattle.exec_core.specs.{Firsts.{AllBegin, IsFirst, IsRoot}, Lift.{IsReady, IsPlanOf, Shows, code_of_root, playing, views}, declared.executor.Core.Core}
 
 -- LISTS, from what is in each place
 
@@ -93,20 +92,6 @@ one_more_free n = (let same : suc n ≡ n + 1 = omega arith in by n ∙ ap (λ k
 pub free_many : (n : ℕ) → length (replicate n free_caller) ≡ n
 free_many zero = refl
 free_many (suc n) = ap suc (free_many n)
-
--- one worker alone is paid for at first
-pub first_minded : (p : Plan) → p.config.workers ≡ 1 → p.scripts ≡ [] → All (λ (w : ScriptWord). is_played w ≡ true) p.root → MindedIn p.config (first_playing p) → IsSteady p.config (first_playing p) → IsMinded p (first_playing p)
-first_minded p lone scripts played minded steady =
-    record {
-      lone = lone;
-      scripts = scripts;
-      played = played;
-      calls = refl;
-      tasks = ap (λ n. length (first_tasks n 0)) lone;
-      inbox = ap (λ n. (slice_index_or (replicate n (new_seat true)) 0 no_seat).inbox) lone;
-      minded = minded;
-      steady = steady;
-    }
 
 module _ {B L : Type 0} (left : B → L) (runs : L → Plan → Option ℕ → Type 0) (holds : L → Option Said → List ℕ) (spot : L → Option Said → Spot) where
   -- a root's slot is the machine's

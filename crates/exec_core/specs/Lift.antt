@@ -1,13 +1,12 @@
 -- From a step of one party to a step of the whole.
-use Rattle.std.specs.Prelude.{◌≡◌, ℕ, zero, suc, ◌<◌, Bool, true, false, not, ◌+◌, ◌&&◌, ◌||◌, nat_le, nat_lt, List, [], ◌++◌, All, length, map, option_to_list, slice_get, slice_set, Option, Some, None}
-use Rattle.std.specs.List.{list_all, list_any}
+use Rattle.std.specs.Prelude.{◌≡◌, ℕ, zero, suc, ◌<◌, Bool, true, false, not, ◌+◌, ◌&&◌, ◌||◌, nat_le, nat_lt, List, [], ◌++◌, length, map, option_to_list, slice_get, slice_set, Option, Some, None}
+use Rattle.std.specs.List.{list_all}
 use Rattle.exec_base.specs.declared.limits.TheConstants.{LAST_MOMENT}
 use Rattle.exec_outcomes.specs.{declared.outcome.OpResult.OpResult, Lawful.{window_of, is_lawful}}
 use Rattle.exec_task.specs.declared.body.Said.{Said, TheVariants.Start}
-use Rattle.exec_machine.specs.{declared.{config.Configuration.Configuration, event.{Event.Event, Line.Line, StepResult.TheVariants.Did}, state.Code.{Code, TheVariants.{Root, Waits}}, step.Action.Action}, Callers.{after_landing, is_half_done}, Choice.Choice, World.{World, Common, seat_of}, Requests.{asked_of, cursor_of}, Tests.{is_awake, has_ended, is_flying}, Run.{Follows, after_event}, Progress.{Plan, quiet_bound, is_quiet_step, IsRightlyAsleep}}
+use Rattle.exec_machine.specs.{declared.{config.Configuration.Configuration, event.{Event.Event, Line.Line, StepResult.TheVariants.Did}, state.Code.{Code, TheVariants.{Root, Waits}}, step.Action.Action}, Callers.after_landing, Choice.Choice, World.{World, Common}, Requests.{asked_of, cursor_of}, Tests.{is_awake, has_ended, is_flying}, Run.{Follows, after_event}, Progress.Plan}
 use Rattle.exec_machine.specs.declared.step.Action.TheVariants as action
-use Rattle.exec_credit.specs.Minded.{MindedIn, begins_call, is_played}
-use Rattle.exec_moves.specs.{State.{Desk, WakePoll, wake_poll_of, passed}, Thing.set_wake_poll, Plays.{Played, Playing, by_action, by_step, credit_of, last_told}}
+use Rattle.exec_moves.specs.{State.{Desk, WakePoll, wake_poll_of, passed}, Thing.set_wake_poll, Plays.{Played, Playing, by_action, by_step, last_told}}
 use Rattle.exec_parts.specs.{Scripts.IsBorn, Spots.Spot, View.{Views, Visible, own_of, visible, with_view, desk_of, common_of, things_with}, declared.parts.{record.Record.Record, seat.Seat.Seat as Chair, sleeping.SleeperRecord.SleeperRecord, worker.Worker.Worker}}
 use Rattle.exec_invariants.specs.{Acting.{PerformsAll, StepsWith}, Sound.Sound, Works.{Beside, Suits, Same}}
 use Rattle.exec_polling.specs.{Calling.{CallBeside, CallSound, CallWorks, CallSuits, call_of, desk_of_caller, is_free}, declared.caller.Caller.Caller}
@@ -86,35 +85,12 @@ module _ {B : Type 0} where
     pub sound : Sound after d.shared
     pub beside : Beside before c.shared after d.shared
 
--- Fewer quiet steps than the bound are paid for, and no worker sleeps on work.
-pub record IsFair (c : Configuration) (x : Playing) : Type 0 where
-  pub bounded : credit_of c x < quiet_bound c x.world
-  pub asleep : IsRightlyAsleep c x.world
-
 -- it is a step of an outside caller
 abbrev pub is_call : Action → Bool
 is_call (action.Spawn j k) = true
 is_call (action.Wake j t) = true
 is_call (action.GoOn j) = true
 is_call _ = false
-
--- ONE WORKER ALONE, whose root makes no other tasks and wakes none, and no call from outside: what is carried so that each of
--- its quiet steps is paid for, and it never sleeps on work
-pub record IsMinded (p : Plan) (x : Playing) : Type 0 where
-  pub lone : p.config.workers ≡ 1
-  pub scripts : p.scripts ≡ []
-  pub played : All (λ w. is_played w ≡ true) p.root
-  pub calls : list_any is_half_done x.world.common.callers ≡ false
-  pub tasks : length x.world.common.tasks ≡ 1
-  pub inbox : (seat_of x.world.common 0).inbox ≡ []
-  pub minded : MindedIn p.config x
-  pub steady : IsSteady p.config x
-
--- what becomes of that by a step, of which this is told
-pub record Pays (p : Plan) (x : Playing) (a : Action) (l : Line) : Type 0 where
-  pub minded : IsMinded p (by_step p.config x a).next
-  pub falls : is_quiet_step x.world l.said ≡ true → credit_of p.config (by_step p.config x a).next < credit_of p.config x
-  pub fair : IsFair p.config (by_step p.config x a).next
 
 -- where the script of the root of worker i begins
 abbrev pub code_of_root : ℕ → Code
@@ -248,8 +224,7 @@ module _ {B L : Type 0} (left : B → L) (runs : L → Plan → Option ℕ → T
     pub is : playing left spot p c ≡ x
 
   -- What a step of any party does: it is that of the moves, and its line follows in the machine; it keeps what each state has, so
-  -- that where all workers sleep nothing is left; a quiet one of a worker costs some of what that has left; and of a worker alone it
-  -- is paid for.
+  -- that where all workers sleep nothing is left; and a quiet one of a worker costs some of what that has left.
   pub record Applies (p : Plan) (x : Playing) (a : Action) (l : Line) (d : Core B) : Type 0 where
     pub step_told : l.action ≡ a
     pub tells : l ≡ (by_step p.config x a).told.0
@@ -257,4 +232,3 @@ module _ {B L : Type 0} (left : B → L) (runs : L → Plan → Option ℕ → T
     pub follows : Follows p.config x.world a l.said (by_step p.config x a).told.1
     pub rests : IsSteady p.config x → IsSteadyThere p.config (by_step p.config x a).next
     pub turns : (n : ℕ) → IsSteady p.config x → IsPaced n p.config x → KeepsOn n p.config x a
-    pub pays : begins_call a ≡ false → IsMinded p x → Pays p x a l

@@ -1,9 +1,9 @@
 -- WHAT EACH STATE OF AN EXECUTOR HAS, so that no wake is lost and nobody sleeps on work: it holds of the first state, and each step keeps it.
 use Rattle.std.specs.Prelude.{◌≡◌, ◌≤◌, ◌<◌, ◌^◌, ℕ, suc, true}
-use Rattle.exec_machine.specs.{declared.{config.Configuration.Configuration, step.Action.Action}, Progress.{IsRightlyAsleep, is_quiet_step}}
+use Rattle.exec_machine.specs.{declared.{config.Configuration.Configuration, step.Action.Action}, Progress.{IsRightlyAsleep, is_quiet_step, quiet_bound}, Tests.is_open, World.seat_of}
 use Rattle.exec_machine.specs.declared.step.Action.TheVariants as action
 use Rattle.exec_moves.specs.Plays.{Playing, by_step}
-use Rattle.exec_progress.specs.{Bound.{left_to, longest_stretch}, Paced.IsPaced}
+use Rattle.exec_progress.specs.{Left.left_to, Paced.IsPaced}
 use Rattle.exec_books.specs.Booked.{IsBooked}
 use Rattle.exec_rest.specs.{AtRest.{AreBare, AreFresh, IsShut, RestsWell}, Posted.IsPosted, Rested.IsRestful}
 use Rattle.exec_settled.specs.{Awaited.IsAwaited, Permits.IsPermitted, Settled.IsSettled}
@@ -32,10 +32,10 @@ pub record IsSteadyThere (c : Configuration) (x : Playing) : Type 0 where
   pub steady : IsSteady c x
   pub rests : Rests c x
 
--- AND SO THAT NO WORKER TURNS FOR EVER, after so many steps: no worker has as much left as the longest stretch.
+-- AND SO THAT NO WORKER TURNS FOR EVER, after so many steps: no open worker has as much left as the bound on quiet lines.
 pub record IsPacedThere (n : ℕ) (c : Configuration) (x : Playing) : Type 0 where
   pub paced : IsPaced n c x
-  pub bounded : (i : ℕ) → left_to c x i < longest_stretch c x.world
+  pub bounded : (i : ℕ) → is_open (seat_of x.world.common i).phase ≡ true → left_to c x i < quiet_bound c x.world
 
 -- What one more step keeps of that; and a quiet step of a worker, while nobody closes, costs some of what it has left.
 pub record KeepsOn (n : ℕ) (c : Configuration) (x : Playing) (a : Action) : Type 0 where

@@ -2,18 +2,16 @@
 //!
 //! A step that gets no memory leaves all that can be seen as it was, but the executor is spent by it: no step may follow.
 
-ghost use Rattle.std.specs.Prelude.{◌≡◌, ◌+◌, ◌<◌, [], true, false, length, slice_get, slice_set, slice_index_or, All, IfOk, OnOk, OnErr};
+ghost use Rattle.std.specs.Prelude.{◌≡◌, ◌+◌, ◌<◌, true, false, length, slice_get, slice_set, slice_index_or, IfOk, OnOk, OnErr};
 ghost use Rattle.exec_machine.specs.{Callers.is_enabled, Progress.Plan};
-ghost use Rattle.exec_credit.specs.Minded.{is_played};
 ghost use Rattle.exec_moves.specs.Plays.{Playing, first_playing};
 ghost use Rattle.exec_parts.specs.declared.parts.worker.Worker.{Worker as Party};
 ghost use Rattle.exec_invariants.specs.{Acting.PerformsAll, Sound.Sound, Whole.{IsWhole, Profile}};
-ghost use Rattle.exec_core.specs.{Configs.configuration_of as configuration_told, Lift.{world, Stands, IsReady, Shows, Applies, Calls, Carries, Keeps, Takes, IsMinded, IsPlanOf, IsAsBefore, WorkerSteps, WorkerStays, Sees, EndsPoll, Lands, may_take, may_work_in, may_land_in, may_call_in, may_go_on_in, has_begun}, Ranges.is_in_range, Steady.{IsPacedThere, IsSteadyThere}};
+ghost use Rattle.exec_core.specs.{Configs.configuration_of as configuration_told, Lift.{world, Stands, IsReady, Shows, Applies, Calls, Carries, Keeps, Takes, IsPlanOf, IsAsBefore, WorkerSteps, WorkerStays, Sees, EndsPoll, Lands, may_take, may_work_in, may_land_in, may_call_in, may_go_on_in, has_begun}, Ranges.is_in_range, Steady.{IsPacedThere, IsSteadyThere}};
 
 use crate::config::Config;
 use crate::setting_up::{configuration_of, first_shared, first_workers};
 use exec_base::limits::LAST_MOMENT;
-use exec_credit::minded::{a_step_is_minded, minded_is_fair};
 use exec_machine::event::{Event, Line, StepResult};
 use exec_machine::step::Action;
 use exec_outcomes::outcome::OpResult;
@@ -62,10 +60,7 @@ impl<B: Scripted + Drop> Core<B> {
             IsSteadyThere p.config (first_playing p)) }
         ensures paced { OnOk result ((p : Plan) → IsPlanOf B.left B.runs B.holds B.spot p (configuration_told config.now iters_per_us files sockets) roots.items →
             IsPacedThere 0 p.config (first_playing p)) }
-        ensures minded { OnOk result ((p : Plan) → IsPlanOf B.left B.runs B.holds B.spot p (configuration_told config.now iters_per_us files sockets) roots.items →
-            p.config.workers ≡ 1 → p.scripts ≡ [] → All (λ word. is_played word ≡ true) p.root → IsMinded p (first_playing p)) }
     {
-        a_step_is_minded();
         let configuration = configuration_of(config, iters_per_us, files, sockets);
         let (mut shared, runnables) = first_shared(alloc, configuration, roots)?;
         let workers = first_workers(alloc, &configuration, runnables, &mut shared.store)?;
@@ -192,9 +187,6 @@ impl<B: Scripted + Drop> Core<B> {
         ensures same { OnErr result (IsAsBefore B.left B.spot self.old self.new) }
         ensures spent { OnErr result (self.new.spent ≡ true) }
     {
-        // Credit is counted along the moves of a worker.
-        a_step_is_minded();
-        minded_is_fair();
         if !self.may_take(action) {
             return Ok(Line {
                 action,

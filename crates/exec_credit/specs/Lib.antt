@@ -1,3 +1,2 @@
-pub mod Minds
 pub mod CallCredit
-pub mod Minded
+pub mod Spins

@@ -85,16 +85,24 @@ impl Caller {
         Some(Caller { owner })
     }
 
-    /// Pushes a value, and answers whether others of the queue can be stolen from then.
+    /// Pushes a value, and answers whether others of the queue can be stolen from then. What comes back, as where a thief
+    /// holds its claim for long, goes into the sum.
     #[inline(always)]
-    fn push<R: Wait>(&mut self, rt: &R, value: u64) -> bool {
+    fn push<R: Wait>(&mut self, rt: &R, value: u64, sum: &mut u64) -> bool {
         match self.owner.push(value) {
             Push::Settled(answer) => match answer {
                 Settled::Pushed(len) => len >= 2,
-                Settled::Claimed(_) | Settled::Spent(_) => true,
+                Settled::Claimed(back) => {
+                    *sum ^= back;
+                    true
+                }
+                Settled::Spent(back) => {
+                    *sum ^= back;
+                    true
+                }
             },
             Push::Overflow(mut overflow) => {
-                drain(&mut overflow);
+                *sum ^= drain(&mut overflow);
                 overflow.finish();
                 true
             }
@@ -110,7 +118,7 @@ impl Caller {
     pub fn pairs<R: Wait>(&mut self, rt: &R, values: u64) -> u64 {
         let mut sum = 0u64;
         for value in 0..values {
-            self.push(rt, value);
+            self.push(rt, value, &mut sum);
             sum ^= self.pop();
         }
         sum
@@ -125,15 +133,15 @@ impl Caller {
         sum
     }
 
-    fn push_backlog<R: Wait>(&mut self, rt: &R) {
+    fn push_backlog<R: Wait>(&mut self, rt: &R, sum: &mut u64) {
         for value in 0..BACKLOG {
-            self.push(rt, value);
+            self.push(rt, value, sum);
         }
     }
 
-    fn push_kicked<R: Wait>(&mut self, rt: &R, kicker: &mut Kicker<'_>) {
+    fn push_kicked<R: Wait>(&mut self, rt: &R, kicker: &mut Kicker<'_>, sum: &mut u64) {
         for value in 0..BACKLOG {
-            if self.push(rt, value) {
+            if self.push(rt, value, sum) {
                 kicker.kick(rt);
             }
         }
@@ -143,7 +151,7 @@ impl Caller {
     pub fn backlogs<R: Wait>(&mut self, rt: &R, rounds: u64) -> u64 {
         let mut sum = 0u64;
         for _ in 0..rounds {
-            self.push_backlog(rt);
+            self.push_backlog(rt, &mut sum);
             sum ^= self.pop_backlog();
         }
         sum
@@ -153,7 +161,7 @@ impl Caller {
     pub fn kicked<R: Wait>(&mut self, rt: &R, kicker: &mut Kicker<'_>, rounds: u64) -> u64 {
         let mut sum = 0u64;
         for _ in 0..rounds {
-            self.push_kicked(rt, kicker);
+            self.push_kicked(rt, kicker, &mut sum);
             sum ^= self.pop_backlog();
         }
         sum
@@ -173,16 +181,18 @@ impl Caller {
     }
 }
 
-/// Takes what flows over.
+/// Takes what flows over: the exclusive or of it.
 #[cold]
 #[inline(never)]
-fn drain(overflow: &mut Overflow<'_, u64>)
+fn drain(overflow: &mut Overflow<'_, u64>) -> u64
     ensures same { lender overflow.new ≡ lender overflow.old }
     ensures dry { left_of overflow.new ≡ [] }
 {
+    let mut sum = 0u64;
     'left: loop {
-        if overflow.next().is_none() {
-            return;
+        match overflow.next() {
+            Some(value) => sum ^= value,
+            None => return sum,
         }
     }
 }

@@ -17,7 +17,7 @@ use Rattle.exec_moves.specs.declared.place.InService.TheVariants as step
 use Rattle.exec_moves.specs.declared.place.Place.TheVariants as at
 use Rattle.exec_rest.specs.{AtRest.IsPlaced, Places.waits_on, Rested.{IsLaidOut, IsRaised, IsRestful, place_at}}
 use Rattle.exec_rest.proofs.{Calls.at_nothing, CallMoves.{call_heeds, spawn_heeds, wake_heeds}, First.of_equal, Frames.{desk_other, desk_own}, Heeds.Heeds, Others.{Beside, beside, is_other}, Step.heeds_at}
-use Rattle.exec_progress.specs.{Going.{loads_queues, raises_itself}, Paced.{AreAimed, HavePace}}
+use Rattle.exec_progress.specs.{Going.{has_called_back, loads_queues, raises_itself}, Owed.quiet_items, Paced.{AreAimed, HavePace}}
 use Rattle.exec_progress.proofs.{Pace.each_first, PaceParts.{is_wild, Calm, calm_raises, calm_waits, headed, permitted, signalled, withdrawing}, PaceMoves.in_place, WordMoves.target_kept}
 
 -- THE FIRST STATE
@@ -67,8 +67,8 @@ module _ (c : Configuration) (i : ℕ) (me : Books) (s : Common) (d : Desk) (x :
   abbrev Off : WaitTarget → Place → Type 0
   Off w q = (waits_on q ≡ w) × (raises_itself i q ≡ false)
 
-  calm_off : (q : Place) → Calm (is_of_pool s i) d.spinner.budget q → Off target.None q
-  calm_off q calm = (calm_waits (is_of_pool s i) d.spinner.budget q calm, calm_raises (is_of_pool s i) d.spinner.budget i q calm)
+  calm_off : (quiet : Bool) (q : Place) → Calm (is_of_pool s i) d.spinner.budget quiet q → Off target.None q
+  calm_off quiet q calm = (calm_waits (is_of_pool s i) d.spinner.budget quiet q calm, calm_raises (is_of_pool s i) d.spinner.budget quiet i q calm)
 
   off_if : {T : Type 0} (w : WaitTarget) (b : Bool) (m k : Moved T) → Off w m.desk.place → Off w k.desk.place → Off w (if b then m else k).desk.place
   off_if w true m k one other = one
@@ -108,16 +108,16 @@ module _ (c : Configuration) (i : ℕ) (me : Books) (s : Common) (d : Desk) (x :
 
   signals_on : (b is_ring : Bool) (j : ℕ) (a : AfterSignal) → (b ≡ true → (j == i) ≡ false) → Off target.None (if b then at.Signal (signals.Raise is_ring) j a else after_signal c i me s a d)
   signals_on true is_ring j a other = (refl, other refl)
-  signals_on false is_ring j a other = calm_off _ (signalled c i me s d.spinner.budget a d)
+  signals_on false is_ring j a other = calm_off true _ (signalled c i me s d.spinner.budget true a d (λ h. refl))
 
   serves_on : (b is_ring : Bool) (j : ℕ) (a : AfterPermit) (v : Service) → (b ≡ true → (j == i) ≡ false) → Off target.None (at.Service (if b then step.Raise is_ring j a else after_permit a) v)
   serves_on true is_ring j a v other = (refl, other refl)
-  serves_on false is_ring j a v other = calm_off (at.Service (after_permit a) v) (permitted c i me s d.spinner.budget a v)
+  serves_on false is_ring j a v other = calm_off true (at.Service (after_permit a) v) (permitted c i me s d.spinner.budget true a v)
 
   wild_off : (p : Place) → (word_of x i).target ≡ waits_on p → is_wild p ≡ true → Off (waits_then p) (move_at c i me s d x p).desk.place
   wild_off (at.Look look.Publish) h wild = (refl, refl)
   wild_off (at.Scan (scan.ClaimHalf y g tail)) h wild =
-      let q = queue_of x (from_of c y) in off_if target.None (same_head g (head_of q)) _ _ (refl, refl) (calm_off _ (headed c i me s d.spinner.budget y (head_of q)))
+      let q = queue_of x (from_of c y) in off_if target.None (same_head g (head_of q)) _ _ (refl, refl) (calm_off true _ (headed c i me s d.spinner.budget true y (head_of q)))
   wild_off (at.Scan (scan.MoveHalf from g)) h wild = (refl, refl)
   wild_off (at.Scan (scan.ReleaseHalf from g)) h wild = off_if target.None (same_head g (head_of (queue_of x from))) _ _ (refl, refl) (refl, refl)
   wild_off (at.RingWait ring.ArmRing y) h wild = ring_if (is_idle_at (word_of x i) d.processed) y _ _ (refl, refl) (refl, refl)
@@ -129,18 +129,18 @@ module _ (c : Configuration) (i : ℕ) (me : Books) (s : Common) (d : Desk) (x :
       desk_if target.None (word_of x i).latch _ _ (refl, refl) (desk_if target.None (nat_lt 1 left) _ _ (refl, refl) (refl, refl))
   wild_off (at.WordWait word.ArmWord) h wild = armed (is_idle_at (word_of x i) d.processed)
   wild_off (at.WordWait word.SleepOnWord) h wild = bedded (word_of x i) _ refl _ refl
-  wild_off (at.WordWait word.DisarmWord) h wild = calm_off _ (withdrawing c i me s d.spinner.budget later.Begin)
+  wild_off (at.WordWait word.DisarmWord) h wild = calm_off true _ (withdrawing c i me s d.spinner.budget true later.Begin)
   wild_off (at.Signal signals.SetLatch j b) h wild = signals_on (asks_signal (word_of x j)) (is_ring (word_of x j).target) j b (unasked h j)
   wild_off (at.Service (step.Signal j b) v) h wild = serves_on (asks_signal (word_of x j)) (is_ring (word_of x j).target) j b v (unasked h j)
   wild_off _ h wild = absurd (false≢true wild)
 
   -- of any place
-  pub aimed_at : i < length x.words → (loads_queues d.place ≡ true → is_of_pool s i ≡ true) → (word_of x i).target ≡ waits_on d.place
+  pub aimed_at : i < length x.words → (loads_queues d.place ≡ true → is_of_pool s i ≡ true) → (has_called_back d.place ≡ true → quiet_items d ≡ 0) → (word_of x i).target ≡ waits_on d.place
       → ((word_of (move c i me s d x).thing i).target ≡ waits_on (move c i me s d x).desk.place) × (raises_itself i (move c i me s d x).desk.place ≡ false)
-  aimed_at within loads h = elim (cases_Bool (is_wild d.place)) [
+  aimed_at within loads called h = elim (cases_Bool (is_wild d.place)) [
     | inl wild ↦ let off = wild_off d.place h wild in (word_then within d.place h ∙ sym off.0, off.1)
     | inr tame ↦
-        let off = calm_off _ (in_place c i me s d x d.place refl loads tame).1 in
+        let off = calm_off _ _ (in_place c i me s d x d.place refl loads called tame).1 in
         (word_then within d.place h ∙ tame_then d.place tame ∙ sym off.0, off.1)
   ]
 
@@ -189,7 +189,7 @@ module _ (c : Configuration) (x : Playing) (placed : IsPlaced c x) (held : IsRes
       each : (j : ℕ) → ((word_of m.thing j).target ≡ waits_on (desk_of c next j).place) × (raises_itself j (desk_of c next j).place ≡ false)
       each j = elim (cases_eq j i) [
         | inl is ↦
-            let it = aimed_at c i me s d x.things (omega (arith, laid.words, within i may)) (pace i).loads (aimed.target i) in
+            let it = aimed_at c i me s d x.things (omega (arith, laid.words, within i may)) (pace i).loads (pace i).called_back (aimed.target i) in
             rw is (rw own it)
         | inr apart ↦ rw (other j apart) (heeds.targets j apart ∙ aimed.target j, aimed.unraised j)
       ]

@@ -1,9 +1,10 @@
 -- The places of the parts that hand something on, as such that are left and come to; and what stays by their steps.
 use Rattle.std.proofs.Common.{◌≡◌, ℕ, ◌+◌, ◌≤◌, ◌<◌, Bool, true, false, if◌then◌else◌, List, [], ◌∷◌, refl, ap, ◌∙◌, arith}
+use Rattle.std.specs.Prelude.{nat_lt}
 use Rattle.exec_words.specs.{declared.idle.WorkerSet.WorkerSet, Idle.Idle}
 use Rattle.exec_machine.specs.{declared.config.Configuration.Configuration, World.{Common, Own as Books}}
-use Rattle.exec_moves.specs.{declared.{handing.{AfterClaim.AfterClaim, AfterKick.AfterKick, AfterLeave.AfterLeave, AfterPush.AfterPush, AfterSignal.AfterSignal, InGlobal.InGlobal, InKick.InKick, InPush.InPush, InSignal.InSignal}, place.Place.Place}, Claim.{same_bools, set_of}, Global.has_any, State.{Desk, Things}, Thing.set_idle}
-use Rattle.exec_progress.{specs.{Effort.{is_short_claim, is_short_kick, is_short_leave, is_short_push, is_short_signal, stagings_of_claim, stagings_of_kick, stagings_of_leave, stagings_of_push, stagings_of_signal}, Owed.{signals_itself, stage_of_claim, stage_of_kick, stage_of_leave, stage_of_push, stage_of_signal}, Ranks.{below_claim, below_kick, below_leave, below_push, below_signal, claim_worker, claims, in_global, in_kick, in_push, in_signal, load_set}}, proofs.{Arriving.Reaches, Hopping.{Comes, Gets, Kept, Leaves}}}
+use Rattle.exec_moves.specs.{declared.{handing.{AfterClaim.AfterClaim, AfterKick.AfterKick, AfterLeave.AfterLeave, AfterPush.AfterPush, AfterSignal.AfterSignal, InGlobal.InGlobal, InKick.InKick, InPush.InPush, InSignal.InSignal}, place.Place.Place}, Claim.{same_bools, set_of}, Global.has_any, State.{Desk, Things, word_of}, Thing.set_idle}
+use Rattle.exec_progress.{specs.{Effort.{is_short_claim, is_short_kick, is_short_leave, is_short_push, is_short_signal, stagings_of_claim, stagings_of_kick, stagings_of_leave, stagings_of_push, stagings_of_signal}, Owed.{sampling, signals_itself, stage_of_claim, stage_of_kick, stage_of_leave, stage_of_push, stage_of_signal}, Ranks.{below_claim, below_kick, below_leave, below_push, below_signal, claim_worker, claims, in_global, in_kick, in_push, in_signal, load_set}}, proofs.{Arriving.Reaches, Hopping.{Comes, Gets, Kept, Leaves}, Tools.or_more}}
 
 pub set_bounds : (v : Bool) → (1 ≤ load_set v) × (load_set v ≤ 5)
 set_bounds true = (omega arith, omega arith)
@@ -31,7 +32,7 @@ module _ (c : Configuration) (i : ℕ) (me : Books) (s : Common) (d : Desk) (x :
   with_idle searching idle = record { hand = d.hand; loot = d.loot; searching = searching; things = set_idle x idle }
 
   pub idle_kept : (p : Place) (searching : Bool) (idle : Idle) → Kept c i me s d x p (with_idle searching idle)
-  idle_kept p searching idle = record { queue_kept = omega arith; global_kept = omega arith; wants = λ h. h; poll = refl; mail = refl; latch = λ n. omega arith }
+  idle_kept p searching idle = record { queue_kept = omega arith; global_kept = omega arith; wants = λ h. h; poll = refl; mail = refl; latch = λ n. or_more (nat_lt n sampling) (signals_itself i p) (word_of x i).latch }
 
   pub leaves_search : (b : AfterLeave) (r : ℕ) → r < below_leave c.workers b + 8 → Leaves c i me s d x (Place.LeaveSearch b) (is_short_leave b) (stage_of_leave b) (stagings_of_leave b) r
   leaves_search b r h = record { short_there = refl; stage_there = refl; stagings_there = omega arith; above = h; no_pop = refl; no_share = refl; before_spin = refl }

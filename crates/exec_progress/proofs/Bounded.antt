@@ -1,25 +1,19 @@
--- No worker ever has as many quiet steps left as the bound.
-use Rattle.std.proofs.Common.{◌≡◌, ℕ, suc, ◌+◌, ◌*◌, ◌≤◌, ◌<◌, Bool, true, false, not, ◌&&◌, ◌||◌, if◌then◌else◌, List, [], ◌∷◌, length, refl, sym, subst, arith, ◌⊎◌, inl, inr}
-use Rattle.std.specs.Prelude.{is_some, nat_le, nat_lt}
-use Rattle.std.specs.List.{list_any}
-use Rattle.exec_machine.specs.{declared.config.Configuration.Configuration, Ranges.{largest_spin, ring_size}, Tests.is_empty, World.{Common, Own as Books, World, seat_of}}
-use Rattle.exec_moves.specs.{declared.{handing.{AfterCallbacks.AfterCallbacks, AfterClaim.AfterClaim, AfterKick.AfterKick, AfterLeave.AfterLeave, AfterPush.AfterPush, AfterSignal.AfterSignal}, idling.{AfterWait.AfterWait, InRingWait.InRingWait, InWordWait.InWordWait}, place.{AfterPermit.AfterPermit, AfterService.AfterService, InService.InService, Place.Place, Reaping.Reaping, Round.Round}}, Callback.is_full, Credit.{count_numbered, gates_from, one_if}, Load.has_submissions, State.{Desk, Things, word_of, wake_poll_of}, Submit.waits_at}
-use Rattle.exec_credit.specs.Minded.{IsShort}
-use Rattle.exec_progress.specs.{Bound.longest_stretch, Effort.{begun_gates, is_short, scans_again, second_scan, stagings, stagings_of_callbacks, stagings_of_claim, stagings_of_kick, stagings_of_leave, stagings_of_push, stagings_of_service, stagings_of_signal, steps_left, turn_left, whole_spin, whole_turn}, Owed.{ahead, all_others, finds, has_stray, is_before_spin, others, quiet_items, signals_itself, signs, spins_of_signs, spins_owed, stage, turns_owed, wanted}, Ranks.rank}
-use Rattle.exec_progress.proofs.Ranked.{most_rank}
+-- No worker that isn't closing ever has as many quiet steps left as the bound.
+use Rattle.std.proofs.Common.{◌≡◌, ℕ, ◌+◌, ◌*◌, ◌≤◌, ◌<◌, Bool, true, false, not, ◌&&◌, ◌||◌, if◌then◌else◌, length, refl, sym, ap, ◌∙◌, subst, arith, ◌⊎◌, inl, inr}
+use Rattle.std.specs.Prelude.{is_some, nat_lt}
+use Rattle.std.proofs.lemmas.Bool.{le-ltb}
+use Rattle.exec_machine.specs.{declared.config.Configuration.Configuration, Progress.quiet_bound, Ranges.{largest_spin, ring_size}, Tests.is_empty, World.{Common, Own as Books, World, seat_of}}
+use Rattle.exec_moves.specs.{declared.{handing.{AfterCallbacks.AfterCallbacks, AfterClaim.AfterClaim, AfterKick.AfterKick, AfterLeave.AfterLeave, AfterPush.AfterPush, AfterSignal.AfterSignal}, idling.{AfterWait.AfterWait, InRingWait.InRingWait, InWordWait.InWordWait}, place.{AfterPermit.AfterPermit, AfterService.AfterService, InService.InService, Place.Place, Reaping.Reaping, Round.Round}}, Callback.is_full, Credit.{gates_from, one_if}, Load.has_submissions, State.{Desk, Things, word_of, wake_poll_of}}
+use Rattle.exec_credit.specs.Spins.{IsShort}
+use Rattle.exec_rest.specs.Posted.{has_tested}
+use Rattle.exec_progress.specs.{Effort.{begun_gates, gates_left, is_short, scans_again, second_scan, stagings, stagings_of_callbacks, stagings_of_claim, stagings_of_kick, stagings_of_leave, stagings_of_push, stagings_of_service, stagings_of_signal, steps_left, turn_left, whole_spin, whole_turn}, Going.{has_called_back, is_of_closing}, Owed.{ahead, all_others, finds, has_stray, is_before_spin, others, quiet_items, signals_itself, signs, spins_of_signs, spins_owed, stage, staging, turns_owed, wanted}, Ranks.rank}
+use Rattle.exec_progress.proofs.{Gates.{gates_asked, gates_opened, gates_within}, Ranked.{most_rank}, Stages.{Kind, kind}}
 
 one : (b : Bool) → one_if b ≤ 1
 one true = omega arith
 one false = omega arith
 
 -- GATES
-
-counted : {X : Type 0} (test : ℕ → X → Bool) (n : ℕ) (xs : List X) → count_numbered test n xs ≤ length xs
-counted test n [] = omega arith
-counted test n (x ∷ xs) = omega (arith, one (test n x), counted test (suc n) xs)
-
-gates_most : (i from : ℕ) (s : Common) → gates_from i from s ≤ length s.opens
-gates_most i from s = counted (λ file o. nat_le from file && list_any (waits_at i file) s.requests) 0 s.opens
 
 times : (k g n : ℕ) → k ≤ 2 → g ≤ n → k * g ≤ 2 * n
 times k g n h l = grind (arith, h, l)
@@ -55,18 +49,18 @@ signal (AfterSignal.Send b) = omega arith
 
 module _ (i : ℕ) (s : Common) where
   abbrev Most : Place → Type 0
-  Most p = begun_gates i s p + stagings p * gates_from i 0 s ≤ 2 * length s.opens
+  Most p = begun_gates i s p + stagings p * gates_from i 0 s ≤ 2 * gates_from i 0 s
 
-  all_gates : gates_from i 0 s ≤ length s.opens
-  all_gates = gates_most i 0 s
+  all_gates : gates_from i 0 s ≤ gates_from i 0 s
+  all_gates = omega arith
 
   -- a staging that has begun, and maybe another one
-  service : (b : AfterService) (n g : ℕ) → n ≤ 1 → (g ≡ 0) ⊎ ((n ≡ 0) × (g ≤ length s.opens)) → g + stagings_of_service b n * gates_from i 0 s ≤ 2 * length s.opens
-  service AfterService.Mail n g h (inl none) = omega (arith, none, times n (gates_from i 0 s) (length s.opens) (omega (arith, h)) all_gates)
+  service : (b : AfterService) (n g : ℕ) → n ≤ 1 → (g ≡ 0) ⊎ ((n ≡ 0) × (g ≤ gates_from i 0 s)) → g + stagings_of_service b n * gates_from i 0 s ≤ 2 * gates_from i 0 s
+  service AfterService.Mail n g h (inl none) = omega (arith, none, times n (gates_from i 0 s) (gates_from i 0 s) (omega (arith, h)) all_gates)
   service AfterService.Mail n g h (inr (none, most)) = rw none (omega (arith, most))
-  service AfterService.Begin n g h (inl none) = omega (arith, none, times (1 + n) (gates_from i 0 s) (length s.opens) (omega (arith, h)) all_gates)
+  service AfterService.Begin n g h (inl none) = omega (arith, none, times (1 + n) (gates_from i 0 s) (gates_from i 0 s) (omega (arith, h)) all_gates)
   service AfterService.Begin n g h (inr (none, most)) = rw none (omega (arith, most, all_gates))
-  service AfterService.Finish n g h (inl none) = omega (arith, none, times (1 + n) (gates_from i 0 s) (length s.opens) (omega (arith, h)) all_gates)
+  service AfterService.Finish n g h (inl none) = omega (arith, none, times (1 + n) (gates_from i 0 s) (gates_from i 0 s) (omega (arith, h)) all_gates)
   service AfterService.Finish n g h (inr (none, most)) = rw none (omega (arith, most, all_gates))
 
   serves : (b : AfterService) (defer : Bool) (p : InService) → Most (Place.Service p (record { defer = defer; back = b }))
@@ -74,27 +68,27 @@ module _ (i : ℕ) (s : Common) where
   serves b defer (InService.Reap Reaping.First) = service b 1 0 (omega arith) (inl refl)
   serves b defer (InService.Reap Reaping.Last) = service b 0 0 (omega arith) (inl refl)
   serves b defer InService.AdvanceWheel = service b 1 0 (omega arith) (inl refl)
-  serves b defer (InService.Submit gate) = service b 0 (gates_from i gate s) (omega arith) (inr (refl, gates_most i gate s))
+  serves b defer (InService.Submit gate) = service b 0 (gates_from i gate s) (omega arith) (inr (refl, gates_within i gate s))
   serves b defer InService.EnterLast = service b 0 0 (omega arith) (inl refl)
   serves b defer InService.EndService = service b 0 0 (omega arith) (inl refl)
   serves b defer (InService.PassPermit file (AfterPermit.Reap Reaping.First)) = service b 1 0 (omega arith) (inl refl)
   serves b defer (InService.PassPermit file (AfterPermit.Reap Reaping.Last)) = service b 0 0 (omega arith) (inl refl)
   serves b defer (InService.PassPermit file (AfterPermit.Reaped Reaping.First)) = service b 1 0 (omega arith) (inl refl)
   serves b defer (InService.PassPermit file (AfterPermit.Reaped Reaping.Last)) = service b 0 0 (omega arith) (inl refl)
-  serves b defer (InService.PassPermit file (AfterPermit.Submit gate)) = service b 0 (gates_from i gate s) (omega arith) (inr (refl, gates_most i gate s))
+  serves b defer (InService.PassPermit file (AfterPermit.Submit gate)) = service b 0 (gates_from i gate s) (omega arith) (inr (refl, gates_within i gate s))
   serves b defer (InService.Signal j (AfterPermit.Reap Reaping.First)) = service b 1 0 (omega arith) (inl refl)
   serves b defer (InService.Signal j (AfterPermit.Reap Reaping.Last)) = service b 0 0 (omega arith) (inl refl)
   serves b defer (InService.Signal j (AfterPermit.Reaped Reaping.First)) = service b 1 0 (omega arith) (inl refl)
   serves b defer (InService.Signal j (AfterPermit.Reaped Reaping.Last)) = service b 0 0 (omega arith) (inl refl)
-  serves b defer (InService.Signal j (AfterPermit.Submit gate)) = service b 0 (gates_from i gate s) (omega arith) (inr (refl, gates_most i gate s))
+  serves b defer (InService.Signal j (AfterPermit.Submit gate)) = service b 0 (gates_from i gate s) (omega arith) (inr (refl, gates_within i gate s))
   serves b defer (InService.Raise ring j (AfterPermit.Reap Reaping.First)) = service b 1 0 (omega arith) (inl refl)
   serves b defer (InService.Raise ring j (AfterPermit.Reap Reaping.Last)) = service b 0 0 (omega arith) (inl refl)
   serves b defer (InService.Raise ring j (AfterPermit.Reaped Reaping.First)) = service b 1 0 (omega arith) (inl refl)
   serves b defer (InService.Raise ring j (AfterPermit.Reaped Reaping.Last)) = service b 0 0 (omega arith) (inl refl)
-  serves b defer (InService.Raise ring j (AfterPermit.Submit gate)) = service b 0 (gates_from i gate s) (omega arith) (inr (refl, gates_most i gate s))
+  serves b defer (InService.Raise ring j (AfterPermit.Submit gate)) = service b 0 (gates_from i gate s) (omega arith) (inr (refl, gates_within i gate s))
 
-  by_number : (k : ℕ) → k ≤ 2 → 0 + k * gates_from i 0 s ≤ 2 * length s.opens
-  by_number k h = omega (arith, times k (gates_from i 0 s) (length s.opens) h all_gates)
+  by_number : (k : ℕ) → k ≤ 2 → 0 + k * gates_from i 0 s ≤ 2 * gates_from i 0 s
+  by_number k h = omega (arith, times k (gates_from i 0 s) (gates_from i 0 s) h all_gates)
 
   pub most_gates : (p : Place) → Most p
   most_gates (Place.Service p v) = serves v.back v.defer p
@@ -144,54 +138,109 @@ module _ (c : Configuration) (i : ℕ) (me : Books) (s : Common) (d : Desk) (x :
   one_of true true busy full unpolled = omega (arith, one busy, none_beside full unpolled)
   one_of true false busy full unpolled = omega (arith, one (full && (unpolled && true)))
 
-  others_most : all_others (others c i me s d x) ≤ 11
-  others_most =
-      let n = stage d.picks d.place in
+  passed : (n m : ℕ) (b : Bool) → m ≤ n → one_if (nat_lt n m && b) ≡ 0
+  passed n m b h = ap (λ v. one_if (v && b)) (le-ltb n m h)
+
+  never : (a : Bool) → one_if (a && false) ≡ 0
+  never true = refl
+  never false = refl
+
+  abbrev n : ℕ
+  n = stage d.picks d.place
+
+  -- what is quiet in the callbacks, and what was found before the test
+  abbrev items : ℕ
+  items = one_if (nat_lt n 1 && nat_lt 0 (quiet_items d))
+
+  abbrev found : ℕ
+  found = let y = signs c i me s d x in one_if (finds d.place && not (y.queue || (y.global || y.mail)))
+
+  few_others : all_others (others c i me s d x) ≤ 8 + items + found
+  few_others =
       let w = wake_poll_of x i in
-      let y = signs c i me s d x in
       omega (
         arith,
-        one (nat_lt n 8 && (word_of x i).latch),
-        one (signals_itself i d.place),
+        one (nat_lt n 8 && (signals_itself i d.place || (word_of x i).latch)),
         one (nat_lt n 5 && has_stray d w),
         one (not (is_empty me.untold)),
         one w.kept,
         one (is_some w.ended),
         one (seat_of s i).busy,
         one_of (nat_lt n 6) (has_submissions c me) (seat_of s i).busy (is_full (ring_size c) d) (not d.polled),
-        one (nat_lt n 1 && nat_lt 0 (quiet_items d)),
-        one (finds d.place && not (y.queue || (y.global || y.mail))),
       )
 
-  turns_most : turns_owed c i me s d x ≤ 12
-  turns_most = if_none (nat_lt 0 (ahead c i me s d x)) (one_if (nat_lt 0 (wanted c i me s d x)) + all_others (others c i me s d x)) 12 (omega (arith, one (nat_lt 0 (wanted c i me s d x)), others_most))
+  no_items : quiet_items d ≡ 0 → items ≡ 0
+  no_items none = ap (λ k. one_if (nat_lt n 1 && nat_lt 0 k)) none ∙ never (nat_lt n 1)
 
-  spins_most : spins_owed c i me s d x ≤ 3
-  spins_most = if_none (nat_lt 0 (ahead c i me s d x)) (spins_of_signs c i me s d x) 3
-      (omega (arith, one (is_before_spin d.place), one (nat_lt (stage d.picks d.place) 8 && (word_of x i).latch), one (signals_itself i d.place)))
+  unfound : finds d.place ≡ false → found ≡ 0
+  unfound h = let y = signs c i me s d x in ap (λ v. one_if (v && not (y.queue || (y.global || y.mail)))) h
 
-  product : (k t : ℕ) → t ≤ 12 → k * t ≤ k * 12
-  product k t h = grind (arith, h)
+  -- before the staging only a latch, what the kernel has to tell and a busy ring are good for a turn
+  fewest_others : staging ≤ n → finds d.place ≡ false → all_others (others c i me s d x) ≤ 6
+  fewest_others high h =
+      let w = wake_poll_of x i in
+      omega (
+        arith,
+        one (nat_lt n 8 && (signals_itself i d.place || (word_of x i).latch)),
+        passed n 5 (has_stray d w) (omega (arith, high)),
+        one (not (is_empty me.untold)),
+        one w.kept,
+        one (is_some w.ended),
+        one (seat_of s i).busy,
+        passed n 6 (has_submissions c me && (seat_of s i).busy) high,
+        passed n 6 (is_full (ring_size c) d && (not d.polled && not (has_submissions c me))) high,
+        passed n 1 (nat_lt 0 (quiet_items d)) (omega (arith, high)),
+        unfound h,
+      )
 
-  spins : (k t : ℕ) → t ≤ 3 → k * t ≤ k * 3
-  spins k t h = grind (arith, h)
+  turns_most : (k : ℕ) → all_others (others c i me s d x) ≤ k → turns_owed c i me s d x ≤ 1 + k
+  turns_most k h = if_none (nat_lt 0 (ahead c i me s d x)) (one_if (nat_lt 0 (wanted c i me s d x)) + all_others (others c i me s d x)) (1 + k) (omega (arith, one (nat_lt 0 (wanted c i me s d x)), h))
 
-  pub bounded : (w : World) → w.common ≡ s → IsShort c.spin d.place → quiet_items d ≤ 2 * (length s.requests + length s.sleepers) → steps_left c i me s d x < longest_stretch c w
-  bounded w is short items = subst (λ (t : Common). steps_left c i me s d x < longest_stretch c (record w { common = t })) (sym is) (by (is_short d.place))
-    where
-      rank_most : rank c i d x d.place ≤ 92 + 5 * c.workers + 2 * largest_spin c.spin
-      rank_most = most_rank c i d x d.place short
+  spins_most : spins_owed c i me s d x ≤ 2
+  spins_most = if_none (nat_lt 0 (ahead c i me s d x)) (spins_of_signs c i me s d x) 2
+      (omega (arith, one (is_before_spin d.place), one (nat_lt n 8 && (signals_itself i d.place || (word_of x i).latch))))
 
-      by : (b : Bool) → (if b then rank c i d x d.place else turn_left c i s d x + whole_turn c i s * turns_owed c i me s d x + whole_spin c * spins_owed c i me s d x) < longest_stretch c (record w { common = s })
-      by true = omega (arith, rank_most)
-      by false =
-          omega (
-            arith,
-            rank_most,
-            most_gates i s d.place,
-            items,
-            scan_most (scans_again c d x d.place),
-            gates_most i 0 s,
-            product (whole_turn c i s) (turns_owed c i me s d x) turns_most,
-            spins (whole_spin c) (spins_owed c i me s d x) spins_most,
-          )
+  product : (k t m : ℕ) → t ≤ m → k * t ≤ k * m
+  product k t m h = grind (arith, h)
+
+  module _ (workers : 0 < c.workers) (opens : length s.opens ≤ 64) (short : IsShort c.spin d.place) (few : quiet_items d ≤ 2 * (length s.requests + length s.sleepers))
+      (called : has_called_back d.place ≡ true → quiet_items d ≡ 0) (told : has_tested d.place ≡ true → quiet_items d ≡ 0) (going : is_of_closing d.place ≡ false) where
+    abbrev bound : ℕ
+    bound = 128 * c.workers + 16 * largest_spin c.spin + 4 * (length s.requests + length s.sleepers) + 2048
+
+    abbrev gates : ℕ
+    gates = gates_from i 0 s
+
+    rank_most : rank c i d x d.place ≤ 92 + 5 * c.workers + 2 * largest_spin c.spin
+    rank_most = most_rank c i d x d.place short
+
+    -- with so many quiet items, gates and turns left
+    adds : (k : ℕ) → turns_owed c i me s d x ≤ k → (94 + 5 * c.workers + 2 * gates) * k + quiet_items d + gates_left i s d.place + 10 * c.workers < 1929 + 128 * c.workers + 4 * (length s.requests + length s.sleepers)
+        → turn_left c i s d x + whole_turn c i s * turns_owed c i me s d x + whole_spin c * spins_owed c i me s d x < bound
+    adds k h less =
+        omega (
+          arith,
+          rank_most,
+          scan_most (scans_again c d x d.place),
+          product (whole_turn c i s) (turns_owed c i me s d x) k h,
+          product (whole_spin c) (spins_owed c i me s d x) 2 spins_most,
+          less,
+        )
+
+    by_kind : Kind i s d.picks d.place → turn_left c i s d x + whole_turn c i s * turns_owed c i me s d x + whole_spin c * spins_owed c i me s d x < bound
+    by_kind (inl (back, none)) =
+        adds 10 (turns_most 9 (omega (arith, few_others, no_items (called back), one (finds d.place && not ((signs c i me s d x).queue || ((signs c i me s d x).global || (signs c i me s d x).mail))))))
+        (omega (arith, called back, none, gates_asked i s, gates_opened i s, opens, workers))
+    by_kind (inr (inl (tested, other, none))) =
+        adds 9 (turns_most 8 (omega (arith, few_others, no_items (told tested), unfound other))) (omega (arith, told tested, none, gates_asked i s, gates_opened i s, opens, workers))
+    by_kind (inr (inr (other, up, inl none))) =
+        adds 9 (turns_most 8 (omega (arith, few_others, passed n 1 (nat_lt 0 (quiet_items d)) up, unfound other))) (omega (arith, few, none, gates_asked i s, gates_opened i s, opens, workers))
+    by_kind (inr (inr (other, up, inr high))) =
+        adds 7 (turns_most 6 (fewest_others high other)) (omega (arith, few, most_gates i s d.place, gates_asked i s, gates_opened i s, opens, workers))
+
+    pub bounded : (w : World) → w.common ≡ s → steps_left c i me s d x < quiet_bound c w
+    bounded w is = subst (λ (t : Common). steps_left c i me s d x < quiet_bound c (record w { common = t })) (sym is) (by (is_short d.place) refl)
+      where
+        by : (b : Bool) → is_short d.place ≡ b → (if b then rank c i d x d.place else turn_left c i s d x + whole_turn c i s * turns_owed c i me s d x + whole_spin c * spins_owed c i me s d x) < bound
+        by true is = omega (arith, rank_most)
+        by false long = by_kind (kind i s d.picks d.place long going)

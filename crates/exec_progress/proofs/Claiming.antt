@@ -90,10 +90,10 @@ module _ (c : Configuration) (i : ℕ) (me : Books) (s : Common) (d : Desk) (x :
   differs : (j : ℕ) → (j == i) ≡ false → i ≢ j
   differs j h same = true≢false (sym (eq-eqb j i (sym same)) ∙ h)
 
-  bounded : (v w : Bool) (k : ℕ) → one_if (v && w) ≤ k + 1
-  bounded true true k = omega arith
-  bounded true false k = omega arith
-  bounded false w k = omega arith
+  bounded : (v w : Bool) → one_if (v && w) ≤ one_if (v && true)
+  bounded true true = omega arith
+  bounded true false = omega arith
+  bounded false w = omega arith
 
   abbrev with_latch : ℕ → Gets c i me s d x
   with_latch j = record { hand = d.hand; loot = d.loot; searching = d.searching; things = set_word j x (latched (word_of x j)) }
@@ -109,7 +109,7 @@ module _ (c : Configuration) (i : ℕ) (me : Books) (s : Common) (d : Desk) (x :
         wants = λ h. h;
         poll = refl;
         mail = ap (λ (z : PureWord). z.batch) w;
-        latch = λ n. omega (arith, ap one_if is, bounded (nat_lt n sampling) (word_of (set_word j x (latched (word_of x j))) i).latch 0);
+        latch = λ n. rw is (bounded (nat_lt n sampling) (word_of (set_word j x (latched (word_of x j))) i).latch);
       }
   latch_kept j b there false is =
       let w : word_of (set_word j x (latched (word_of x j))) i ≡ word_of x i = get_or-set_other x.words j i (latched (word_of x j)) no_word (differs j is) in
@@ -119,7 +119,7 @@ module _ (c : Configuration) (i : ℕ) (me : Books) (s : Common) (d : Desk) (x :
         wants = λ h. h;
         poll = refl;
         mail = ap (λ (z : PureWord). z.batch) w;
-        latch = λ n. omega (arith, ap (λ (z : PureWord). one_if (nat_lt n sampling && z.latch)) w);
+        latch = λ n. rw is (omega (arith, ap (λ (z : PureWord). one_if (nat_lt n sampling && z.latch)) w));
       }
 
   abbrev with_raised : Bool → ℕ → Gets c i me s d x

@@ -3,8 +3,8 @@ use Rattle.std.proofs.Common.{◌≡◌, ℕ, ◌<◌, Bool, true, false, not, �
 use Rattle.std.specs.Prelude.{nat_lt}
 use Rattle.std.proofs.lemmas.{Bool.{true≢false, or_parts, ltb-false}}
 use Rattle.exec_machine.specs.{declared.config.Configuration.Configuration, Ranges.ring_size, Tests.is_empty, World.{Common, Own as Books}}
-use Rattle.exec_moves.specs.{declared.{handing.AfterCallbacks.AfterCallbacks, place.{InCallbacks.InCallbacks, InLoads.InLoads, Place.Place, Round.Round}}, Callback.{after_callbacks, has_callbacks, is_of_pool}, Credit.one_if, State.{Desk, Things}}
-use Rattle.exec_progress.{specs.{Effort.stagings_of_callbacks, Going.closes_callbacks, Owed.{has_wakes, quiet_items, stage_of_callbacks}, Ranks.below_callbacks}, proofs.{Hopping.{Gets, Kept, hops, later}, Tools.{before, goes_down, keeps_turns, left}}}
+use Rattle.exec_moves.specs.{declared.{handing.AfterCallbacks.AfterCallbacks, place.{InCallbacks.InCallbacks, InLoads.InLoads, Place.Place, Round.Round}}, Callback.{after_callbacks, has_callbacks, is_of_pool}, Credit.one_if, State.{Desk, Things, word_of}}
+use Rattle.exec_progress.{specs.{Effort.stagings_of_callbacks, Going.closes_callbacks, Owed.{has_wakes, quiet_items, sampling, signals_itself, stage_of_callbacks}, Ranks.below_callbacks}, proofs.{Hopping.{Gets, Kept, hops, later}, Tools.{before, goes_down, keeps_turns, left, or_more}}}
 
 -- nothing quiet is left
 no_items : (d : Desk) (outputs : ℕ) (completions results : List ℕ) → nat_lt 0 outputs ≡ false → not (is_empty completions) ≡ false → not (is_empty results) ≡ false
@@ -32,7 +32,7 @@ module _ (c : Configuration) (i : ℕ) (me : Books) (s : Common) (d : Desk) (x :
   same = record { hand = d.hand; loot = d.loot; searching = d.searching; things = x }
 
   pub kept_same : (p : Place) → Kept c i me s d x p same
-  kept_same p = record { queue_kept = omega arith; global_kept = omega arith; wants = λ h. h; poll = refl; mail = refl; latch = λ n. omega arith }
+  kept_same p = record { queue_kept = omega arith; global_kept = omega arith; wants = λ h. h; poll = refl; mail = refl; latch = λ n. or_more (nat_lt n sampling) (signals_itself i p) (word_of x i).latch }
 
   abbrev calling : AfterCallbacks → Place
   calling n = Place.Callbacks InCallbacks.CallBack n

@@ -5,7 +5,7 @@ use Rattle.std.proofs.lemmas.{Bool.{ltb-true, ltb-false}, List.{get_or-set_same,
 use Rattle.exec_machine.specs.{declared.{config.Configuration.Configuration, event.Event.TheVariants.{Enter, Busy}}, After.{own_after, common_after}, Choice.Choice.Plain, Ranges.ring_size, Tests.{is_empty}, World.{Common, Own as Books, Seat, no_seat, seat_of}}
 use Rattle.exec_moves.specs.{declared.place.Place.Place, Callback.is_full, Credit.{gates_from, one_if}, Load.has_submissions, Serve.entered, State.{Desk, Things, WakePoll, no_wake_poll, queue_of, taken_in, wake_poll_of, word_of}, Thing.set_wake_poll}
 use Rattle.exec_credit.proofs.Entering.{due_same, gates_same}
-use Rattle.exec_progress.{specs.Owed.{Signs, calling_back, finds, has_stray, is_before_spin, quiet_items, reaping, sampling, signals_itself, signs, signs_ahead, stage, staging}, proofs.Tools.{KeepsTurns, Now, PaysWant, ahead_at, others_at, spun, wanted_at}}
+use Rattle.exec_progress.{specs.Owed.{Signs, calling_back, finds, has_stray, is_before_spin, quiet_items, reaping, sampling, signals_itself, signs, signs_ahead, stage, staging}, proofs.Tools.{KeepsTurns, Now, PaysWant, ahead_at, others_at, spun, wanted_at, or_more}}
 
 at_most_one : (b : Bool) → one_if b ≤ 1
 at_most_one true = omega arith
@@ -123,6 +123,15 @@ module _ (c : Configuration) (i : ℕ) (me : Books) (s : Common) (d : Desk) (x :
       by (inl same) = omega (arith, (enter_poll q there).kept_pays, ap (λ t. one_if (nat_lt 0 (d.others + length me.untold) || t)) same, acknowledged d.others me.untold w.told)
       by (inr paid) = omega (arith, paid, at_most_one (nat_lt 0 (d.others + length me.untold) || v.told))
 
+  -- The latch counts no more there.
+  latch_lower : (q : Place) → stage d.picks d.place ≤ stage d.picks q → signals_itself i q ≡ false
+      → one_if (nat_lt (stage d.picks q) sampling && (signals_itself i q || (word_of x i).latch)) ≤ one_if (nat_lt (stage d.picks d.place) sampling && (signals_itself i d.place || (word_of x i).latch))
+  latch_lower q up still =
+      let n = stage d.picks d.place in
+      let m = stage d.picks q in
+      let latch = (word_of x i).latch in
+      omega (arith, ap (λ v. one_if (nat_lt m sampling && (v || latch))) still, lower n m sampling latch up, or_more (nat_lt n sampling) (signals_itself i d.place) latch)
+
   -- The other signs don't rise, where the turn stands no lower at q.
   pub enter_others : (q : Place) → nat_lt 0 (ring_size c) ≡ true → i < length x.wake_polls → stage d.picks d.place ≤ stage d.picks q → signals_itself i q ≡ false → finds q ≡ false
       → others_at c i (entered_to q) ≤ others_at c i here
@@ -138,16 +147,15 @@ module _ (c : Configuration) (i : ℕ) (me : Books) (s : Common) (d : Desk) (x :
         arith,
         strays,
         lower n m reaping (has_stray (entered_to q).d v) up,
-        lower n m sampling (word_of x i).latch up,
+        latch_lower q up still,
         lower n m staging (has_submissions c me && (seat_of s i).busy) up,
         unpolled,
         lower n m calling_back (nat_lt 0 (quiet_items d)) up,
-        ap one_if still,
         no_and (finds q) (not ((signs c i me s d x).queue || ((signs c i me s d x).global || (signs c i me s d x).mail))) unfound,
       )
 
   pub enter_spun : (q : Place) → stage d.picks d.place ≤ stage d.picks q → signals_itself i q ≡ false → one_if (is_before_spin q) ≤ one_if (is_before_spin d.place) → spun c i (entered_to q) ≤ spun c i here
-  enter_spun q up still before = omega (arith, lower (stage d.picks d.place) (stage d.picks q) sampling (word_of x i).latch up, ap one_if still, before)
+  enter_spun q up still before = omega (arith, latch_lower q up still, before)
 
   -- A BUSY RING: of the sure signs only that of submissions may come up
   pub busy_seat : i < length s.seats → seat_of (common_after c me s i Busy Plain) i ≡ record (seat_of s i) { busy = false }
@@ -172,9 +180,6 @@ module _ (c : Configuration) (i : ℕ) (me : Books) (s : Common) (d : Desk) (x :
   pub busy_ahead : (q : Place) → i < length s.seats → signs_ahead (stage d.picks q) q (signs c i me s d x) ≤ ahead_at c i (busy_to q)
   busy_ahead q there = omega (arith, ap (signs_ahead (stage d.picks q) q) (busy_signs q there), more_sure (nat_le staging (stage d.picks q)) (has_submissions c me) (seat_of s i).busy)
 
-  pub busy_gates : (q : Place) (from : ℕ) → gates_from i from (busy_to q).s ≡ gates_from i from s
-  busy_gates q from = refl
-
   -- that it was busy is used up
   pub busy_others : (q : Place) → i < length s.seats → (seat_of s i).busy ≡ true → stage d.picks d.place ≤ stage d.picks q → signals_itself i q ≡ false → finds q ≡ false
       → others_at c i (busy_to q) + 1 ≤ others_at c i here
@@ -189,10 +194,9 @@ module _ (c : Configuration) (i : ℕ) (me : Books) (s : Common) (d : Desk) (x :
         ap one_if is,
         pressed,
         lower n m reaping (has_stray d w) up,
-        lower n m sampling (word_of x i).latch up,
+        latch_lower q up still,
         lower n m staging (is_full (ring_size c) d && (not d.polled && not (has_submissions c me))) up,
         lower n m calling_back (nat_lt 0 (quiet_items d)) up,
-        ap one_if still,
         no_and (finds q) (not ((signs c i me (busy_to q).s d x).queue || ((signs c i me (busy_to q).s d x).global || (signs c i me s d x).mail))) unfound,
       ))
     where
@@ -202,7 +206,7 @@ module _ (c : Configuration) (i : ℕ) (me : Books) (s : Common) (d : Desk) (x :
       never false a = refl
 
   pub busy_spun : (q : Place) → stage d.picks d.place ≤ stage d.picks q → signals_itself i q ≡ false → one_if (is_before_spin q) ≤ one_if (is_before_spin d.place) → spun c i (busy_to q) ≤ spun c i here
-  busy_spun q up still before = omega (arith, lower (stage d.picks d.place) (stage d.picks q) sampling (word_of x i).latch up, ap one_if still, before)
+  busy_spun q up still before = omega (arith, latch_lower q up still, before)
 
   -- IN ALL, where what was ahead is so at q: after an enter no more turns are owed, nor after one of a busy ring
   pub enter_keeps : (q : Place) → nat_lt 0 (ring_size c) ≡ true → i < length x.wake_polls → stage d.picks d.place ≤ stage d.picks q → signals_itself i q ≡ false → finds q ≡ false

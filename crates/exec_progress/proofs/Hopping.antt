@@ -62,7 +62,7 @@ module _ (c : Configuration) (i : ℕ) (me : Books) (s : Common) (d : Desk) (x :
         → 1 ≤ of_queue x + of_aside x + of_global x + one_if (can_steal x) + one_if (is_some d.hand) + one_if (not (is_empty d.loot))
     pub poll : wake_poll_of u.things i ≡ wake_poll_of x i
     pub mail : (word_of u.things i).batch ≡ (word_of x i).batch
-    pub latch : (n : ℕ) → one_if (nat_lt n sampling && (word_of u.things i).latch) ≤ one_if (nat_lt n sampling && (word_of x i).latch) + one_if (signals_itself i p)
+    pub latch : (n : ℕ) → one_if (nat_lt n sampling && (word_of u.things i).latch) ≤ one_if (nat_lt n sampling && (signals_itself i p || (word_of x i).latch))
 
   -- what a place is as one that is left
   pub record Leaves (p : Place) (short : Bool) (n k r : ℕ) : Type 0 where
@@ -112,9 +112,11 @@ module _ (c : Configuration) (i : ℕ) (me : Books) (s : Common) (d : Desk) (x :
       by_wants zero is = omega (arith, h, is, ap (λ k. one_if (not (k == d.processed))) it.mail)
       by_wants (suc n) is = omega (arith, it.wants (omega (arith, is)))
 
-  latch_kept : (p q : Place) (u : Gets) → stage d.picks q ≡ stage d.picks p → Kept p u
-      → one_if (nat_lt (stage d.picks q) sampling && (word_of u.things i).latch) ≤ one_if (nat_lt (stage d.picks p) sampling && (word_of x i).latch) + one_if (signals_itself i p)
-  latch_kept p q u same it = omega (arith, it.latch (stage d.picks p), ap (λ n. one_if (nat_lt n sampling && (word_of u.things i).latch)) same)
+  latch_kept : (p q : Place) (u : Gets) → stage d.picks q ≡ stage d.picks p → signals_itself i q ≡ false → Kept p u
+      → one_if (nat_lt (stage d.picks q) sampling && (signals_itself i q || (word_of u.things i).latch)) ≤ one_if (nat_lt (stage d.picks p) sampling && (signals_itself i p || (word_of x i).latch))
+  latch_kept p q u same other it =
+      let latch = (word_of u.things i).latch in
+      omega (arith, it.latch (stage d.picks p), ap (λ n. one_if (nat_lt n sampling && latch)) same, ap (λ v. one_if (nat_lt (stage d.picks q) sampling && (v || latch))) other)
 
   others_fewer : (p q : Place) (u : Gets) → stage d.picks q ≡ stage d.picks p → finds q ≡ false → signals_itself i q ≡ false → Kept p u → others_at c i (later q u) ≤ others_at c i (before me s d x p)
   others_fewer p q u same none other it =
@@ -122,8 +124,7 @@ module _ (c : Configuration) (i : ℕ) (me : Books) (s : Common) (d : Desk) (x :
       let m = stage d.picks p in
       omega (
         arith,
-        latch_kept p q u same it,
-        ap one_if other,
+        latch_kept p q u same other it,
         ap (λ w. one_if (nat_lt (stage d.picks q) reaping && has_stray d w)) it.poll,
         ap (λ n. one_if (nat_lt n reaping && has_stray d (wake_poll_of x i))) same,
         ap (λ (w : WakePoll). one_if w.kept) it.poll,
@@ -135,7 +136,7 @@ module _ (c : Configuration) (i : ℕ) (me : Books) (s : Common) (d : Desk) (x :
       )
 
   spun_less : (p q : Place) (u : Gets) → stage d.picks q ≡ stage d.picks p → signals_itself i q ≡ false → is_before_spin p ≡ true → Kept p u → spun c i (later q u) ≤ spun c i (before me s d x p)
-  spun_less p q u same other first it = omega (arith, latch_kept p q u same it, ap one_if other, ap one_if first, one_at_most (is_before_spin q))
+  spun_less p q u same other first it = omega (arith, latch_kept p q u same other it, ap one_if first, one_at_most (is_before_spin q))
 
   pub hops : (p q : Place) (u : Gets) (short : Bool) (n k r : ℕ) → Leaves p short n k r → Comes q u short n k r → Kept p u → left c i (later q u) < left c i (before me s d x p)
   hops p q u true n k r from to it = to_poll c i (before me s d x p) (later q u) (record { short_after = to.short_here; less = omega (arith, from.above, to.below) })

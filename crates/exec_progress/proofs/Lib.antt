@@ -23,12 +23,15 @@ pub mod Searching
 pub mod Scanning
 pub mod Looking
 pub mod Ranked
+pub mod Gates
+pub mod Stages
 pub mod Bounded
 pub mod Lengths
 pub mod Narrow
 pub mod OutputSlots
 pub mod OutputMoves
 pub mod Outputs
+pub mod Opens
 pub mod Hopping
 pub mod Dropping
 pub mod Arriving

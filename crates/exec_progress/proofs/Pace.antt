@@ -6,7 +6,7 @@ use Rattle.exec_machine.specs.{declared.{config.{Configuration.Configuration}, e
 use Rattle.exec_machine.specs.declared.event.Event.TheVariants as event
 use Rattle.exec_machine.specs.declared.step.Action.TheVariants as action
 use Rattle.exec_moves.specs.{Move.move, Plays.{Playing, by_action, by_step, caller_of, desk_of, first_desk, first_desks, first_playing, newcomers}, State.{Desk, Moved, Things}}
-use Rattle.exec_credit.specs.Minded.{IsWithin}
+use Rattle.exec_credit.specs.Spins.{IsWithin}
 use Rattle.exec_rest.specs.Rested.{IsLaidOut, is_in_pool, place_at}
 use Rattle.exec_rest.proofs.{Bare.joined, BareMoves.put_in, CallSeats.{going_seated, spawn_begun, wake_begun}, Frames.pool_after, Others.{beside, is_other}}
 use Rattle.exec_progress.specs.Paced.{HavePace, KeepsPace}
@@ -31,7 +31,7 @@ first_within c le =
     record { budget = least; floor = least; least = least; most = omega arith; none = capped_zero (spin.budget * spin.iterations) }
 
 begun_pace : (c : Configuration) (pool : Bool) → IsWithin c.spin (first_desk c 0).spinner → (k : ℕ) → KeepsPace c pool (first_desk c k)
-begun_pace c pool within k = off_pace c pool (first_desk c k) within refl refl tt
+begun_pace c pool within k = off_pace c pool (first_desk c k) within refl refl refl tt
 
 pub pace_first : (p : Plan) → p.config.spin.budget ≤ p.config.spin.most → HavePace p.config (first_playing p)
 pace_first p le i =
@@ -75,7 +75,7 @@ module _ (c : Configuration) (x : Playing) (laid : IsLaidOut c x) (pace : HavePa
   landed : (k j : ℕ) → Keeps j (get_or (set x.desks k (record (desk_of c x k) { others = 0 })) j (first_desk c j))
   landed k j =
       put_in (Keeps j) x.desks k j (record (desk_of c x k) { others = 0 }) (first_desk c j)
-      (λ is. rw is (let it = pace k in record { loads = it.loads; moves = it.moves; budget = it.budget; short = it.short })) (pace j)
+      (λ is. rw is (let it = pace k in record { loads = it.loads; moves = it.moves; called_back = it.called_back; budget = it.budget; short = it.short })) (pace j)
 
   by_other : (a : Action) → is_other a ≡ true → ((j : ℕ) → Keeps j (desk_of c (by_action c x a).next j)) → HavePace c (by_action c x a).next
   by_other a is desks = keeps (by_action c x a).next (λ j. ((beside c x laid a is).workers j).pool) desks

@@ -8,8 +8,8 @@ use Rattle.exec_machine.specs.{declared.{config.Configuration.Configuration, sta
 use Rattle.exec_machine.specs.declared.state.Waiting.TheVariants as waiting
 use Rattle.exec_moves.specs.declared.handing.{AfterCallbacks.AfterCallbacks, AfterCancels.AfterCancels, AfterClaim.AfterClaim, AfterKick.AfterKick, AfterLeave.AfterLeave, AfterPop.AfterPop, AfterPush.AfterPush, AfterSend.AfterSend, AfterSignal.AfterSignal, First.First}
 use Rattle.exec_moves.specs.declared.idling.{AfterWait.AfterWait, Scan.Scan, Stay.Stay}
-use Rattle.exec_moves.specs.declared.place.{AfterService.AfterService, Found.Found, Place.Place, Round.Round}
-use Rattle.exec_moves.specs.{Callback.{after_callbacks, first_load, has_callbacks, has_requests, is_full, is_of_pool, next_callback, ring_wait, to_queue}, Claim.{Claimed, Claimed.{Again, Nobody, Worker}, after_claim}, Close.{after_close, after_letting_go}, Load.{after_loads, has_submissions, leaves_for_turn, next_turn}, Look.{after_withdrawal, looks_from, past_own}, Mail.after_message, Parts.{after_cancels, after_kick, after_leave, after_poll, after_push, after_return, after_send, after_signal, cancels_left, first_pop, has_others, next_pick, polls, tells_from}, Pick.after_empty_look, Poll.{after_begin, after_end}, Pop.{after_empty_pop, after_pop, judge_pop}, Push.after_fit, Search.{judge_head, judge_tail, looks_at, past, past_own as past_mine}, Send.{after_posting, after_spawn}, Serve.after_service, State.{Desk}, Wait.{after_wait, first_search, is_near, waits, withdraws}}
+use Rattle.exec_moves.specs.declared.place.{AfterService.AfterService, Place.Place}
+use Rattle.exec_moves.specs.{Callback.{after_callbacks, first_load, has_callbacks, has_requests, is_full, is_of_pool, next_callback, ring_wait, to_queue}, Claim.{Claimed, Claimed.{Again, Nobody, Worker}, after_claim}, Close.{after_close, after_letting_go}, Load.{has_submissions, leaves_for_turn, next_turn}, Look.{after_withdrawal, looks_from, past_own}, Mail.after_message, Parts.{after_cancels, after_kick, after_leave, after_poll, after_push, after_return, after_send, after_signal, cancels_left, first_pop, has_others, next_pick, polls, tells_from}, Pick.after_empty_look, Poll.{after_begin, after_end}, Pop.{after_empty_pop, after_pop, judge_pop}, Push.after_fit, Search.{judge_head, judge_tail, looks_at, past, past_own as past_mine}, Send.{after_posting, after_spawn}, Serve.after_service, State.{Desk}, Wait.{after_wait, first_search, is_near, waits, withdraws}}
 use Rattle.exec_moves.specs.declared.handing.AfterCallbacks.TheVariants as after
 use Rattle.exec_moves.specs.declared.handing.AfterCancels.TheVariants as cancels
 use Rattle.exec_moves.specs.declared.handing.AfterClaim.TheVariants as claim
@@ -24,6 +24,7 @@ use Rattle.exec_moves.specs.declared.idling.AfterWait.TheVariants as later
 use Rattle.exec_moves.specs.declared.idling.Stay.TheVariants as stay
 use Rattle.exec_moves.specs.declared.place.AfterService.TheVariants as back
 use Rattle.exec_moves.specs.declared.place.Place.TheVariants as at
+use Rattle.exec_moves.specs.declared.place.InCallbacks.TheVariants as callback
 use Rattle.exec_moves.specs.declared.place.Round.TheVariants as round
 use Rattle.std.specs.Prelude.{◌≤◌}
 use Rattle.exec_outcomes.specs.{declared.outcome.Outcome.Outcome, Accounts.is_durable}
@@ -40,29 +41,33 @@ use Rattle.exec_moves.specs.declared.place.AfterPermit.TheVariants as permit
 use Rattle.exec_moves.specs.declared.place.InLoads.TheVariants as load
 use Rattle.exec_moves.specs.declared.place.InService.TheVariants as step
 use Rattle.exec_moves.specs.declared.place.Reaping.TheVariants as reaping
-use Rattle.exec_credit.specs.Minded.{IsShort}
+use Rattle.exec_credit.specs.Spins.{IsShort}
 use Rattle.exec_rest.specs.Places.{waits_on}
-use Rattle.exec_progress.specs.Going.{is_moving, loads_queues, raises_itself}
+use Rattle.exec_progress.specs.Going.{has_called_back, is_moving, loads_queues, raises_itself}
 
--- CALM PLACES: nothing is to be known there beside what keeps from move to move. Queues are loaded by a worker of the pool alone, and a spin begins with
--- the budget.
-abbrev pub Calm : Bool → ℕ → Place → Type 0
-Calm pool budget (at.Loads load.LoadOwnHead r) = pool ≡ true
-Calm pool budget (at.Loads (load.LoadOwnMirror f) r) = pool ≡ true
-Calm pool budget (at.Scan (scan.MoveHalf from h)) = ⊥
-Calm pool budget (at.Scan (scan.ReleaseHalf from h)) = ⊥
-Calm pool budget (at.Scan scan.StoreMoved) = ⊥
-Calm pool budget (at.Look look.ReturnLookCount) = ⊥
-Calm pool budget (at.RingWait ring.EnterRing y) = ⊥
-Calm pool budget (at.RingWait ring.SleepOnRing y) = ⊥
-Calm pool budget (at.RingWait (ring.DisarmRing n) y) = ⊥
-Calm pool budget (at.WordWait (word.SpinOnBatch left)) = left ≡ budget
-Calm pool budget (at.WordWait (word.SpinOnLatch left)) = ⊥
-Calm pool budget (at.WordWait word.SleepOnWord) = ⊥
-Calm pool budget (at.WordWait word.DisarmWord) = ⊥
-Calm pool budget (at.Signal (signals.Raise is_ring) j b) = ⊥
-Calm pool budget (at.Service (step.Raise is_ring j b) v) = ⊥
-Calm pool budget _ = Unit {0}
+-- CALM PLACES: nothing is to be known there beside what keeps from move to move. Queues are loaded by a worker of the pool alone, a spin begins with
+-- the budget, and nothing quiet is left of the callbacks before the test for work.
+abbrev pub Calm : Bool → ℕ → Bool → Place → Type 0
+Calm pool budget quiet (at.Loads load.LoadOwnHead round.First) = pool ≡ true
+Calm pool budget quiet (at.Loads load.LoadOwnHead round.Second) = (pool ≡ true) × (quiet ≡ true)
+Calm pool budget quiet (at.Loads (load.LoadOwnMirror f) round.First) = pool ≡ true
+Calm pool budget quiet (at.Loads (load.LoadOwnMirror f) round.Second) = (pool ≡ true) × (quiet ≡ true)
+Calm pool budget quiet (at.Loads (load.LoadOwnWord f) round.Second) = quiet ≡ true
+Calm pool budget quiet (at.TestForWork f) = quiet ≡ true
+Calm pool budget quiet (at.Scan (scan.MoveHalf from h)) = ⊥
+Calm pool budget quiet (at.Scan (scan.ReleaseHalf from h)) = ⊥
+Calm pool budget quiet (at.Scan scan.StoreMoved) = ⊥
+Calm pool budget quiet (at.Look look.ReturnLookCount) = ⊥
+Calm pool budget quiet (at.RingWait ring.EnterRing y) = ⊥
+Calm pool budget quiet (at.RingWait ring.SleepOnRing y) = ⊥
+Calm pool budget quiet (at.RingWait (ring.DisarmRing n) y) = ⊥
+Calm pool budget quiet (at.WordWait (word.SpinOnBatch left)) = left ≡ budget
+Calm pool budget quiet (at.WordWait (word.SpinOnLatch left)) = ⊥
+Calm pool budget quiet (at.WordWait word.SleepOnWord) = ⊥
+Calm pool budget quiet (at.WordWait word.DisarmWord) = ⊥
+Calm pool budget quiet (at.Signal (signals.Raise is_ring) j b) = ⊥
+Calm pool budget quiet (at.Service (step.Raise is_ring j b) v) = ⊥
+Calm pool budget quiet _ = Unit {0}
 
 -- WILD PLACES, whose moves lead elsewhere, or change the spinner
 abbrev pub is_wild : Place → Bool
@@ -82,24 +87,33 @@ is_wild (at.Signal signals.SetLatch j b) = true
 is_wild (at.Service (step.Signal j b) v) = true
 is_wild _ = false
 
-module _ (pool : Bool) (budget : ℕ) where
-  pub calm_loads : (p : Place) → Calm pool budget p → loads_queues p ≡ true → pool ≡ true
-  calm_loads (at.Loads load.LoadOwnHead r) calm h = calm
-  calm_loads (at.Loads (load.LoadOwnMirror f) r) calm h = calm
+module _ (pool : Bool) (budget : ℕ) (quiet : Bool) where
+  pub calm_loads : (p : Place) → Calm pool budget quiet p → loads_queues p ≡ true → pool ≡ true
+  calm_loads (at.Loads load.LoadOwnHead round.First) calm h = calm
+  calm_loads (at.Loads load.LoadOwnHead round.Second) calm h = calm.0
+  calm_loads (at.Loads (load.LoadOwnMirror f) round.First) calm h = calm
+  calm_loads (at.Loads (load.LoadOwnMirror f) round.Second) calm h = calm.0
   calm_loads _ calm h = absurd (false≢true h)
 
-  pub calm_moves : (p : Place) → Calm pool budget p → is_moving p ≡ false
+  pub calm_called : (p : Place) → Calm pool budget quiet p → has_called_back p ≡ true → quiet ≡ true
+  calm_called (at.Loads load.LoadOwnHead round.Second) calm h = calm.1
+  calm_called (at.Loads (load.LoadOwnMirror f) round.Second) calm h = calm.1
+  calm_called (at.Loads (load.LoadOwnWord f) round.Second) calm h = calm
+  calm_called (at.TestForWork f) calm h = calm
+  calm_called _ calm h = absurd (false≢true h)
+
+  pub calm_moves : (p : Place) → Calm pool budget quiet p → is_moving p ≡ false
   calm_moves (at.Scan (scan.MoveHalf from h)) calm = absurd calm
   calm_moves (at.Scan (scan.ReleaseHalf from h)) calm = absurd calm
   calm_moves (at.Scan scan.StoreMoved) calm = absurd calm
   calm_moves _ calm = refl
 
-  pub calm_short : (c : Configuration) → budget ≤ largest_spin c.spin → (p : Place) → Calm pool budget p → IsShort c.spin p
+  pub calm_short : (c : Configuration) → budget ≤ largest_spin c.spin → (p : Place) → Calm pool budget quiet p → IsShort c.spin p
   calm_short c le (at.WordWait (word.SpinOnBatch left)) calm = rw calm le
   calm_short c le (at.WordWait (word.SpinOnLatch left)) calm = absurd calm
   calm_short c le _ calm = tt
 
-  pub calm_waits : (p : Place) → Calm pool budget p → waits_on p ≡ target.None
+  pub calm_waits : (p : Place) → Calm pool budget quiet p → waits_on p ≡ target.None
   calm_waits (at.RingWait ring.EnterRing y) calm = absurd calm
   calm_waits (at.RingWait ring.SleepOnRing y) calm = absurd calm
   calm_waits (at.RingWait (ring.DisarmRing n) y) calm = absurd calm
@@ -107,14 +121,14 @@ module _ (pool : Bool) (budget : ℕ) where
   calm_waits (at.WordWait word.DisarmWord) calm = absurd calm
   calm_waits _ calm = refl
 
-  pub calm_raises : (i : ℕ) (p : Place) → Calm pool budget p → raises_itself i p ≡ false
+  pub calm_raises : (i : ℕ) (p : Place) → Calm pool budget quiet p → raises_itself i p ≡ false
   calm_raises i (at.Signal (signals.Raise is_ring) j b) calm = absurd calm
   calm_raises i (at.Service (step.Raise is_ring j b) v) calm = absurd calm
   calm_raises i _ calm = refl
 
-module _ (c : Configuration) (i : ℕ) (me : Books) (s : Common) (budget : ℕ) where
+module _ (c : Configuration) (i : ℕ) (me : Books) (s : Common) (budget : ℕ) (quiet : Bool) where
   abbrev pub Fair : Place → Type 0
-  Fair p = Calm (is_of_pool s i) budget p
+  Fair p = Calm (is_of_pool s i) budget quiet p
 
   -- by a test, this or that
   pub fair_if : (b : Bool) (p q : Place) → Fair p → Fair q → Fair (if b then p else q)
@@ -186,54 +200,62 @@ module _ (c : Configuration) (i : ℕ) (me : Books) (s : Common) (budget : ℕ) 
   posted j b true d = tt
   posted j b false d = sent b d
 
-  pub loading : (r : Round) → Fair (first_load s i r)
-  loading r = by (is_of_pool s i)
+  pub loading : Fair (first_load s i round.First)
+  loading = by (is_of_pool s i)
     where
-      by : (pool : Bool) → Calm pool budget (if pool then at.Loads load.LoadOwnHead r else at.Loads (load.LoadOwnWord (record { ready = false })) r)
+      by : (pool : Bool) → Calm pool budget quiet (if pool then at.Loads load.LoadOwnHead round.First else at.Loads (load.LoadOwnWord (record { ready = false })) round.First)
       by true = refl
       by false = tt
+
+  pub loading_again : quiet ≡ true → Fair (first_load s i round.Second)
+  loading_again none = by (is_of_pool s i)
+    where
+      by : (pool : Bool) → Calm pool budget quiet (if pool then at.Loads load.LoadOwnHead round.Second else at.Loads (load.LoadOwnWord (record { ready = false })) round.Second)
+      by true = (refl, none)
+      by false = none
 
   pub ringing : (y : Stay) (d : Desk) → Fair (ring_wait (ring_size c) y d)
   ringing y d = fair_if (is_full (ring_size c) d) _ _ tt tt
 
-  pub called : (n : AfterCallbacks) (d : Desk) → Fair (after_callbacks (ring_size c) i s n d)
-  called after.Look d = loading round.First
-  called after.Test d = loading round.Second
-  called after.Begin d = tt
-  called after.Drain d = tt
-  called after.Finish d = fair_if (has_requests i s) _ _ (ringing stay.Closing d) tt
+  pub called : (n : AfterCallbacks) (d : Desk) → quiet ≡ true → Fair (after_callbacks (ring_size c) i s n d)
+  called after.Look d none = loading
+  called after.Test d none = loading_again none
+  called after.Begin d none = tt
+  called after.Drain d none = tt
+  called after.Finish d none = fair_if (has_requests i s) _ _ (ringing stay.Closing d) tt
 
-  pub calling : (books : Books) (n : AfterCallbacks) (d : Desk) → Fair (next_callback (ring_size c) i books s n d)
-  calling books n d = fair_if (has_callbacks books d) _ _ tt (called n d)
+  -- once no callback is left nothing quiet is
+  pub calling : (books : Books) (n : AfterCallbacks) (d : Desk) → (has_callbacks books d ≡ false → quiet ≡ true) → Fair (next_callback (ring_size c) i books s n d)
+  calling books n d none = by (has_callbacks books d) none
+    where
+      by : (some : Bool) → (some ≡ false → quiet ≡ true) → Fair (if some then at.Callbacks callback.CallBack n else after_callbacks (ring_size c) i s n d)
+      by true none = tt
+      by false none = called n d (none refl)
 
-  pub pushed : (b : AfterPush) (d : Desk) → Fair (after_push c i me s b d)
-  pushed (push.Act t) d = tt
-  pushed push.Pick d = picking d
-  pushed (push.CallBack n) d = calling me n d
+  pub pushed : (b : AfterPush) (d : Desk) → (has_callbacks me d ≡ false → quiet ≡ true) → Fair (after_push c i me s b d)
+  pushed (push.Act t) d none = tt
+  pushed push.Pick d none = picking d
+  pushed (push.CallBack n) d none = calling me n d none
 
   pub fitted : (b : AfterPush) (h : Head) (f : Fit) → Fair (after_fit b h f)
   fitted b h (fit.Room len) = tt
   fitted b h fit.Overflow = tt
   fitted b h _ = tt
 
-  pub kicked : (b : AfterKick) (d : Desk) → Fair (after_kick c i me s b d)
-  kicked (kick.Leave b) d = left b d
-  kicked (kick.Push b) d = pushed b d
+  pub kicked : (b : AfterKick) (d : Desk) → (has_callbacks me d ≡ false → quiet ≡ true) → Fair (after_kick c i me s b d)
+  kicked (kick.Leave b) d none = left b d
+  kicked (kick.Push b) d none = pushed b d none
 
-  pub signalled : (b : AfterSignal) (d : Desk) → Fair (after_signal c i me s b d)
-  signalled (signal.Claim (claim.Kick b)) d = kicked b d
-  signalled (signal.Claim (claim.Global b)) d = pushed b d
-  signalled (signal.Send b) d = sent b d
+  pub signalled : (b : AfterSignal) (d : Desk) → (has_callbacks me d ≡ false → quiet ≡ true) → Fair (after_signal c i me s b d)
+  signalled (signal.Claim (claim.Kick b)) d none = kicked b d none
+  signalled (signal.Claim (claim.Global b)) d none = pushed b d none
+  signalled (signal.Send b) d none = sent b d
 
   pub claiming : (b : AfterClaim) (y : Claimed) → Fair (after_claim b y)
   claiming b (Worker lowest) = tt
   claiming b (Again found) = tt
   claiming (claim.Kick b) Nobody = tt
   claiming (claim.Global b) Nobody = tt
-
-  pub loaded : (r : Round) (f : Found) (d : Desk) → Fair (after_loads me r f d)
-  loaded round.First f d = tt
-  loaded round.Second f d = tt
 
   pub emptied : (b : AfterPop) → Fair (after_empty_pop c i b)
   emptied (pop.Pick first.Own) = tt

@@ -1,5 +1,5 @@
 -- A permit that is given up in a service.
-use Rattle.std.proofs.Common.{◌≡◌, ℕ, ◌+◌, ◌≤◌, ◌<◌, ◌==◌, Bool, true, false, not, ◌&&◌, List, length, get_or, slice_set, if◌then◌else◌, Option, Some, None, refl, sym, ap, ◌∙◌, arith}
+use Rattle.std.proofs.Common.{◌≡◌, ℕ, ◌+◌, ◌≤◌, ◌<◌, ◌==◌, Bool, true, false, not, ◌&&◌, ◌||◌, List, length, get_or, slice_set, if◌then◌else◌, Option, Some, None, refl, sym, ap, ◌∙◌, arith}
 use Rattle.std.specs.Prelude.{nat_lt, is_some, slice_get}
 use Rattle.std.proofs.lemmas.{Bool.{false≢true, true≢false, eqb-true, eq-eqb}, Grind.get_or-set_at, List.get_or-set_other}
 use Rattle.exec_words.specs.{Word.asks_signal, declared.word.PureWord.PureWord}
@@ -22,12 +22,11 @@ module _ (c : Configuration) (i : ℕ) (me : Books) (s : Common) (d : Desk) (x :
     pub gates_same : gates_left i s (Place.Service q v) ≡ gates_left i s (Place.Service p v)
     pub mail_same : has_mail d (get_or ws i no_word) ≡ has_mail d (word_of x i)
     pub poll_same : get_or ps i no_wake_poll ≡ wake_poll_of x i
-    pub itself : one_if (signals_itself i (Place.Service q v)) ≤ one_if (signals_itself i (Place.Service p v))
-    pub latch : one_if (get_or ws i no_word).latch + one_if (signals_itself i (Place.Service q v)) ≤ one_if (word_of x i).latch + one_if (signals_itself i (Place.Service p v))
+    pub latch : one_if (signals_itself i (Place.Service q v) || (get_or ws i no_word).latch) ≤ one_if (signals_itself i (Place.Service p v) || (word_of x i).latch)
 
-  gated : (g a b : Bool) (m n : ℕ) → one_if a + m ≤ one_if b + n → m ≤ n → one_if (g && a) + m ≤ one_if (g && b) + n
-  gated true a b m n h k = h
-  gated false a b m n h k = omega (arith, k)
+  gated : (g a b : Bool) → one_if a ≤ one_if b → one_if (g && a) ≤ one_if (g && b)
+  gated true a b h = h
+  gated false a b h = omega arith
 
   pub slides : (p q : InService) (v : Service) (ws : List PureWord) (ps : List WakePoll) (gs : List (List ℕ)) → Slides p q v ws ps → left c i (served_to p q v ws ps gs) < left c i (before me s d x (Place.Service p v))
   slides p q v ws ps gs it =
@@ -37,13 +36,13 @@ module _ (c : Configuration) (i : ℕ) (me : Books) (s : Common) (d : Desk) (x :
       let y = signs c i b.me b.s b.d b.x in
       let mail = ap (λ m. one_if m) it.mail_same in
       let on = ap (λ k. signs_ahead k (Place.Service q v) y) it.stage_same in
-      let staged = ap (λ k. one_if (nat_lt k sampling && (get_or ws i no_word).latch) + one_if (nat_lt k reaping && has_stray d (get_or ps i no_wake_poll)) + one_if (nat_lt k staging && (has_submissions c me && (seat_of s i).busy))
+      let staged = ap (λ k. one_if (nat_lt k sampling && (signals_itself i (Place.Service q v) || (get_or ws i no_word).latch)) + one_if (nat_lt k reaping && has_stray d (get_or ps i no_wake_poll)) + one_if (nat_lt k staging && (has_submissions c me && (seat_of s i).busy))
       + one_if (nat_lt k staging && (is_full (ring_size c) d && (not d.polled && not (has_submissions c me)))) + one_if (nat_lt k calling_back && nat_lt 0 (quiet_items d))) it.stage_same in
       let stray = ap (λ w. one_if (nat_lt n reaping && has_stray d w)) it.poll_same in
       let kept = ap (λ (w : WakePoll). one_if w.kept) it.poll_same in
       let ended = ap (λ (w : WakePoll). one_if (is_some w.ended)) it.poll_same in
-      let latches = gated (nat_lt n sampling) (get_or ws i no_word).latch (word_of x i).latch (one_if (signals_itself i (Place.Service q v))) (one_if (signals_itself i (Place.Service p v))) it.latch it.itself in
-      let latch = ap (λ k. one_if (nat_lt k sampling && (get_or ws i no_word).latch)) it.stage_same in
+      let latches = gated (nat_lt n sampling) (signals_itself i (Place.Service q v) || (get_or ws i no_word).latch) (signals_itself i (Place.Service p v) || (word_of x i).latch) it.latch in
+      let latch = ap (λ k. one_if (nat_lt k sampling && (signals_itself i (Place.Service q v) || (get_or ws i no_word).latch))) it.stage_same in
       goes_down c i a b (record {
         long_before = refl;
         long_after = refl;
@@ -129,8 +128,7 @@ module _ (c : Configuration) (i : ℕ) (me : Books) (s : Common) (d : Desk) (x :
         gates_same = gates_after file v b;
         mail_same = refl;
         poll_same = refl;
-        itself = omega (arith, ap one_if (still_after v b));
-        latch = omega (arith, ap one_if (still_after v b));
+        latch = one_at_most (signals_itself i (Place.Service (after_permit b) v) || (word_of x i).latch);
       })
       by (Some j) quiet = slides (InService.PassPermit file b) (InService.Signal j b) v x.words x.wake_polls (slice_set x.gates file (left_by_first (gate_of x file))) (record {
         stage_same = at_stage (InService.PassPermit file b) (InService.Signal j b) v.back refl;
@@ -138,28 +136,27 @@ module _ (c : Configuration) (i : ℕ) (me : Books) (s : Common) (d : Desk) (x :
         gates_same = gates_of file j v b;
         mail_same = refl;
         poll_same = refl;
-        itself = one_at_most (j == i);
-        latch = omega (arith, one_at_most (j == i));
+        latch = one_at_most ((j == i) || (word_of x i).latch);
       })
 
   -- SIGNALLING
 
   -- worker j is signalled: the mail is as it was, and a latch comes only to who signals itself
   signalled : (j : ℕ) → i < length x.words → (has_mail d (get_or (slice_set x.words j (latched (word_of x j))) i no_word) ≡ has_mail d (word_of x i))
-      × (one_if (get_or (slice_set x.words j (latched (word_of x j))) i no_word).latch ≤ one_if (word_of x i).latch + one_if (j == i))
+      × (one_if (get_or (slice_set x.words j (latched (word_of x j))) i no_word).latch ≤ one_if ((j == i) || (word_of x i).latch))
   signalled j there = by (j == i) refl
     where
       w : PureWord
       w = get_or (slice_set x.words j (latched (word_of x j))) i no_word
 
-      by : (same : Bool) → (j == i) ≡ same → (has_mail d w ≡ has_mail d (word_of x i)) × (one_if w.latch ≤ one_if (word_of x i).latch + one_if (j == i))
+      by : (same : Bool) → (j == i) ≡ same → (has_mail d w ≡ has_mail d (word_of x i)) × (one_if w.latch ≤ one_if ((j == i) || (word_of x i).latch))
       by true h =
           let own = eqb-true j i h in
           let there_too : j < length x.words = omega (arith, own, there) in
-          (ap (has_mail d) (get_or-set_at x.words j i (latched (word_of x j)) no_word (sym own) there_too) ∙ ap (λ k. has_mail d (word_of x k)) own, omega (arith, ap one_if h, one_at_most w.latch))
+          (ap (has_mail d) (get_or-set_at x.words j i (latched (word_of x j)) no_word (sym own) there_too) ∙ ap (λ k. has_mail d (word_of x k)) own, rw h (one_at_most w.latch))
       by false h =
           let is = get_or-set_other x.words j i (latched (word_of x j)) no_word (λ e. true≢false (sym (eq-eqb j i (sym e)) ∙ h)) in
-          (ap (has_mail d) is, omega (arith, ap (λ (z : PureWord). one_if z.latch) is))
+          (ap (has_mail d) is, rw h (omega (arith, ap (λ (z : PureWord). one_if z.latch) is)))
 
   pub signals_in_service : (j : ℕ) (b : AfterPermit) (v : Service) → FallsAt c i me s d x (Place.Service (InService.Signal j b) v)
   signals_in_service j b v it = by (asks_signal (word_of x j))
@@ -178,8 +175,7 @@ module _ (c : Configuration) (i : ℕ) (me : Books) (s : Common) (d : Desk) (x :
         gates_same = gates_in 0 j (is_ring (word_of x j).target) v b ∙ sym (gates_of 0 j v b);
         mail_same = (signalled j it.word_there).0;
         poll_same = refl;
-        itself = omega arith;
-        latch = omega (arith, (signalled j it.word_there).1);
+        latch = (signalled j it.word_there).1;
       })
       by false quiet = slides (InService.Signal j b) (after_permit b) v (slice_set x.words j (latched (word_of x j))) x.wake_polls x.gates (record {
         stage_same = at_stage (InService.Signal j b) (after_permit b) v.back (stage_after v b);
@@ -187,8 +183,7 @@ module _ (c : Configuration) (i : ℕ) (me : Books) (s : Common) (d : Desk) (x :
         gates_same = gates_after 0 v b ∙ sym (gates_of 0 j v b);
         mail_same = (signalled j it.word_there).0;
         poll_same = refl;
-        itself = omega (arith, ap one_if (still_after v b));
-        latch = omega (arith, (signalled j it.word_there).1, ap one_if (still_after v b));
+        latch = rw (still_after v b) (signalled j it.word_there).1;
       })
 
   -- the wait of another worker is ended
@@ -212,7 +207,6 @@ module _ (c : Configuration) (i : ℕ) (me : Books) (s : Common) (d : Desk) (x :
         gates_same = gates_after 0 v b ∙ sym (gates_in 0 j ring v b);
         mail_same = refl;
         poll_same = get_or-set_other x.wake_polls j i (raised_if ring (wake_poll_of x j)) no_wake_poll other;
-        itself = omega (arith, ap one_if (still_after v b));
-        latch = omega (arith, ap one_if (still_after v b));
+        latch = rw (still_after v b) (omega arith);
       })
       by false quiet = absurd (false≢true quiet)

@@ -2,7 +2,7 @@
 use Rattle.std.proofs.Common.{ℕ, ◌+◌, ◌*◌, ◌-◌, ◌%◌, ◌≤◌, Bool, true, false, if◌then◌else◌, arith}
 use Rattle.exec_machine.specs.{declared.config.Configuration.Configuration, Ranges.{largest_spin, ring_size}}
 use Rattle.exec_moves.specs.{declared.{handing.{First.First, AfterCallbacks.AfterCallbacks, AfterClaim.AfterClaim, AfterKick.AfterKick, AfterLeave.AfterLeave, AfterPop.AfterPop, AfterPush.AfterPush, AfterSend.AfterSend, AfterSignal.AfterSignal, InGlobal.InGlobal, InKick.InKick, InPop.InPop, InPush.InPush, InSignal.InSignal}, idling.{AfterWait.AfterWait, InLook.InLook, InRingWait.InRingWait, InScan.InScan, InSearch.InSearch, InWordWait.InWordWait}, place.{InPick.InPick, InPoll.InPoll, InCallbacks.InCallbacks, AfterPermit.AfterPermit, AfterService.AfterService, InLoads.InLoads, InMail.InMail, InService.InService, Reaping.Reaping, Round.Round, Place.Place}}, Callback.is_full, Global.has_any, Heights.{after_permit}, State.{Desk, Things}}
-use Rattle.exec_credit.specs.Minded.{IsShort}
+use Rattle.exec_credit.specs.Spins.{IsShort}
 use Rattle.exec_progress.specs.Ranks.{below_callbacks, below_claim, below_global, below_kick, below_leave, below_loads, below_pop, below_push, below_send, below_service, below_signal, claim, claim_worker, exchange_pop, in_callbacks, in_global, in_kick, in_loads, in_look, in_mail, in_pick, in_poll, in_pop, in_push, in_ring_wait, in_scan, in_search, in_service, in_signal, in_withdraw, in_word_wait, is_fresh, is_same_set, load_set, rank, release, submits, their_tail}
 
 claim_most : (n : ℕ) (b : Bool) → claim n b ≤ n + 3

@@ -8,7 +8,7 @@ use Rattle.exec_machine.specs.{declared.{config.Configuration.Configuration, eve
 use Rattle.exec_moves.specs.declared.place.AfterService.TheVariants as back
 use Rattle.exec_moves.specs.{declared.{idling.{AfterWait.AfterWait, InRingWait.InRingWait, Stay.Stay}, place.Place.Place}, Callback.{is_full, is_of_pool, serve}, Credit.{gates_from, one_if}, Load.{has_come, has_mail, has_submissions}, Serve.{Ring, entered}, State.{Desk, Moved, Own, Things, WakePoll, does, taken_in, turns, wake_poll_of, word_of}, Submit.{one_more, with_poll}, Thing.{aside, ring_of, with_ring, with_word}, Wait.{disarmed, enter_full_ring, enter_ring, goes_back, has_completion, sleep}}
 use Rattle.exec_settled.specs.Given.{ends_in_search}
-use Rattle.exec_credit.proofs.Testing.{due}
+use Rattle.exec_credit.proofs.Due.{due}
 use Rattle.exec_progress.{specs.{Going.{Falls, FallsAt, IsGoing, seen, stands}, Owed.has_stray}, proofs.{Entering.{busy_others, busy_pays, busy_spun, enter_gates, enter_keeps, enter_strays}, Tools.{Now, OwesLess, afterwards, before, either, gone, goes_down, keeps_turns, pays_want, taken_up}, WaitTools.{poll_is, rises, sinks, stirred, word_is}}}
 
 -- WHAT A TEST FINDS
@@ -16,10 +16,6 @@ use Rattle.exec_progress.{specs.{Going.{Falls, FallsAt, IsGoing, seen, stands}, 
 found_of : (landed more told : Bool) → (landed || more || told) ≡ true → (landed ≡ true) ⊎ ((more || told) ≡ true)
 found_of true more told h = inl refl
 found_of false more told h = inr h
-
-none_of : (landed more told : Bool) → (landed || more || told) ≡ false → one_if (more || told) ≡ 0
-none_of true more told h = absurd (true≢false h)
-none_of false more told h = ap one_if h
 
 never : (full : Bool) → one_if (full && false) ≡ 0
 never true = refl

@@ -17,9 +17,10 @@ use Rattle.exec_moves.specs.declared.idling.Stay.TheVariants as stay
 use Rattle.exec_moves.specs.declared.place.InLoads.TheVariants as load
 use Rattle.exec_moves.specs.declared.place.InService.TheVariants as step
 use Rattle.exec_moves.specs.declared.place.Place.TheVariants as at
+use Rattle.exec_moves.specs.declared.place.Round.TheVariants as round
 use Rattle.exec_rest.specs.{Posted.has_tested}
 use Rattle.exec_rest.proofs.{Away.{away_signal, calm_untested}, Bare.joined, BareMoves.put_in, Continuing.calm_leaves_for_turn, Untested.untested}
-use Rattle.exec_progress.specs.{Going.is_seeking, Paced.HaveCounts}
+use Rattle.exec_progress.specs.{Going.is_seeking, Owed.quiet_items, Paced.HaveCounts}
 use Rattle.exec_progress.proofs.{Pace.{each_first, newcomer}, PaceParts.{Calm, leaving, signalled}, PaceMoves.in_place as tame, PaceSpins.enter_at}
 
 -- who seeks there holds a search count: of a place and whether one is held, of a desk, and of a move
@@ -48,16 +49,16 @@ module _ (c : Configuration) (i : ℕ) (me : Books) (s : Common) (d : Desk) (x :
   held = d.searching
 
   -- nobody seeks at a calm place to which no test led
-  off : (q : Place) → has_tested q ≡ false → Calm (is_of_pool s i) d.spinner.budget q → (b : Bool) → Counts b q
-  off (at.Scan p) out calm b = no (sym out)
-  off (at.Look p) out calm b = no (sym out)
-  off (at.RingWait p stay.Turn) out calm b = no (sym out)
-  off (at.RingWait (ring.DisarmRing n) stay.Closing) out calm b = absurd calm
-  off (at.Withdraw later.Search) out calm b = no (sym out)
-  off _ out calm b = no
+  off : (quiet : Bool) (q : Place) → has_tested q ≡ false → Calm (is_of_pool s i) d.spinner.budget quiet q → (b : Bool) → Counts b q
+  off quiet (at.Scan p) out calm b = no (sym out)
+  off quiet (at.Look p) out calm b = no (sym out)
+  off quiet (at.RingWait p stay.Turn) out calm b = no (sym out)
+  off quiet (at.RingWait (ring.DisarmRing n) stay.Closing) out calm b = absurd calm
+  off quiet (at.Withdraw later.Search) out calm b = no (sym out)
+  off quiet _ out calm b = no
 
   leaves : Counts held (leaves_for_turn c i me s d)
-  leaves = off _ (calm_untested _ (calm_leaves_for_turn c i me s d)) (leaving c i me s d.spinner.budget d) held
+  leaves = off true _ (calm_untested _ (calm_leaves_for_turn c i me s d)) (leaving c i me s d.spinner.budget true d) held
 
   waiting : (e : Desk) → Counts held (waits c i s e)
   waiting e =
@@ -96,9 +97,11 @@ module _ (c : Configuration) (i : ℕ) (me : Books) (s : Common) (d : Desk) (x :
   in_place : (p : Place) → d.place ≡ p → Counts held p → Leads (move_at c i me s d x p)
   in_place (at.Loads load.LoadOwnHead r) here on = no
   in_place (at.Loads (load.LoadOwnMirror f) r) here on = no
+  in_place (at.Loads (load.LoadOwnWord f) round.First) here on = no
+  in_place (at.Loads (load.LoadOwnWord f) round.Second) here on = no
   in_place (at.Service (step.Signal j b) v) here on = no
   in_place (at.Signal signals.SetLatch j b) here on =
-      split (Counts held) (asks_signal (word_of x j)) _ _ no (off _ (away_signal c i me s b d) (signalled c i me s d.spinner.budget b d) held)
+      split (Counts held) (asks_signal (word_of x j)) _ _ no (off true _ (away_signal c i me s b d) (signalled c i me s d.spinner.budget true b d (λ h. refl)) held)
   in_place (at.TestForWork f) here on = split Leads (is_ready me f d || has_submissions c me) _ _ leaves no
   in_place at.ReadClock here on =
       split Leads (has_come s.clock (next_due s i)) _ _ leaves
@@ -129,7 +132,9 @@ module _ (c : Configuration) (i : ℕ) (me : Books) (s : Common) (d : Desk) (x :
   in_place (at.WordWait word.SleepOnWord) here on =
       split Leads (is_idle_at (word_of x i) d.processed) _ _ (split (λ m. Leads (noting_sleep s.clock m)) (has_come s.clock (next_due s i)) _ _ no no) no
   in_place (at.WordWait p) here on = waited stay.Turn later.Begin _ no
-  in_place p here on = off (move_at c i me s d x p).desk.place (untested c i me s d x (rw here refl) p refl refl) (tame c i me s d x p here (λ h. no h) refl).1 _
+  in_place p here on =
+      let m : Moved Things = move_at c i me s d x p in
+      off (quiet_items m.desk == 0) m.desk.place (untested c i me s d x (rw here refl) p refl refl) (tame c i me s d x p here (λ h. no h) (λ h. no h) refl).1 _
 
 -- THE FIRST STATE
 

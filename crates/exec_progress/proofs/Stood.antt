@@ -2,16 +2,16 @@
 use Rattle.std.proofs.Common.{◌≡◌, ℕ, zero, suc, ◌+◌, ◌*◌, ◌^◌, ◌≤◌, ◌<◌, Bool, true, false, not, ◌&&◌, ◌||◌, List, [], ◌∷◌, length, get_or, set, refl, sym, ap, subst, ◌∙◌, arith, inl, inr}
 use Rattle.std.specs.{Prelude.{nat_lt}, List.list_any}
 use Rattle.std.proofs.lemmas.{Bool.{cases_lt, false≢true, true≢false, ltb-true, le-ltb}, List.{get_or_append_left, get_or_past, get_or-set_same, length-set}}
-use Rattle.exec_credit.proofs.Minding.{within_largest}
+use Rattle.exec_credit.proofs.Spins.{within_largest}
 use Rattle.exec_words.specs.{Head.is_spent, Queue.{Queue, tail_of}}
-use Rattle.exec_machine.specs.{After.{made_by, own_after}, Callers.is_held, Tests.is_awake, World.Common, declared.{config.{Configuration.Configuration}, state.WorkerPhase.WorkerPhase}, Callers.is_enabled, Progress.{is_anyone_closing}, Tests.{has_ended, is_closing, is_open}, Text.is_quiet, World.{Own as Books, Seat, no_own, no_seat, own_of, seat_of}}
+use Rattle.exec_machine.specs.{After.{made_by, own_after}, Callers.is_held, Tests.is_awake, World.Common, declared.{config.{Configuration.Configuration}, state.WorkerPhase.WorkerPhase}, Callers.is_enabled, Progress.{is_anyone_closing}, Tests.{has_ended, is_closing, is_open}, Text.is_quiet, World.{World, Own as Books, Seat, no_own, no_seat, own_of, seat_of}}
 use Rattle.exec_machine.specs.declared.step.Action.TheVariants as action
 use Rattle.exec_machine.specs.declared.state.WorkerPhase.TheVariants as phase
 use Rattle.exec_moves.specs.{declared.{handing.AfterPush.AfterPush, place.Place.Place}, Callback.is_of_pool, Move.{move, move_at}, Plays.{Playing, by_move, desk_of}, Seen.{serves_at}, State.{Desk, Moved, Things, no_queue, queue_of}}
 use Rattle.exec_rest.specs.{AtRest.{AreBare, IsPlaced, is_fed, is_given}, Posted.IsPosted, Rested.{IsRestful}}
 use Rattle.exec_rest.proofs.Frames.{desk_own}
 use Rattle.exec_settled.specs.Given.{IsGiven}
-use Rattle.exec_progress.specs.{Bound.left_to, Effort.steps_left, Going.{Falls, FallsAt, IsGoing, left_after, is_pushing, seen}, Granted.IsGranted, Paced.IsPaced}
+use Rattle.exec_progress.specs.{Left.left_to, Effort.steps_left, Going.{Falls, FallsAt, IsGoing, left_after, is_pushing, seen}, Granted.IsGranted, Paced.IsPaced}
 
 -- WHO IS OPEN
 
@@ -34,6 +34,12 @@ unended : (a b e : Bool) → (a && not b && e) ≡ true → b ≡ false
 unended true true e h = absurd (false≢true h)
 unended true false e h = refl
 unended false b e h = absurd (false≢true h)
+
+-- who takes a step while nobody closes is open
+pub still_open : (w : World) (i : ℕ) → is_anyone_closing w ≡ false → is_enabled w.common (action.Work i) ≡ true → is_open (seat_of w.common i).phase ≡ true
+still_open w i nobody on =
+    let seat = seat_of w.common i in
+    open_then seat.phase (none_closing w.common.seats i nobody) (unended (is_awake seat.rest) (has_ended seat.phase) (not (is_held w.common seat)) on)
 
 -- past the end stands one that has ended
 there : (seats : List Seat) (i : ℕ) → has_ended (get_or seats i no_seat).phase ≡ false → i < length seats
@@ -67,7 +73,7 @@ module _ (n : ℕ) (few : n ≤ 2 ^ 32) (c : Configuration) (x : Playing) (place
   goes_on = unended (is_awake (seat_of s i).rest) (has_ended (seat_of s i).phase) (not (is_held s (seat_of s i))) on
 
   open_here : is_open (seat_of s i).phase ≡ true
-  open_here = open_then (seat_of s i).phase (none_closing s.seats i nobody) goes_on
+  open_here = still_open x.world i nobody on
 
   here : i < length s.seats
   here = there s.seats i goes_on

@@ -6,7 +6,7 @@ use Rattle.std.proofs.lemmas.Bool.{false≢true, cases_lt, leb-true, or_from}
 use Rattle.exec_words.specs.Queue.{Queue}
 use Rattle.exec_machine.specs.{declared.config.Configuration.Configuration, Deadlines.next_due, Ranges.largest_spin, Tests.is_empty, World.{Common, Own as Books, seat_of}}
 use Rattle.exec_moves.specs.{declared.{idling.{InLook.InLook, InScan.InScan, InSearch.InSearch}, place.{Found.Found, Place.Place}}, Callback.{has_callbacks, is_of_pool}, Credit.one_if, Load.{has_come, has_submissions, is_ready, leaves_for_turn}, State.{Desk, Own, Things, no_queue, queue_of, turns as turning}, Thing.aside, Wait.{first_search, waits}}
-use Rattle.exec_credit.proofs.Testing.{due}
+use Rattle.exec_credit.proofs.Due.{due}
 use Rattle.exec_progress.specs.{Effort.{scans_again, searches_alone, second_scan}, Going.{Falls, FallsAt, IsGoing, seen, stands}, Owed.{Signs, can_steal, has_wakes, is_stealable, quiet_items, signs, signs_on}}
 use Rattle.exec_progress.proofs.{Tools.{Now, OwesLess, afterwards, before, either, goes_down, gone, keeps_turns}, Upward.{for_sure, leaves_is_top, to_turn, to_wait}}
 

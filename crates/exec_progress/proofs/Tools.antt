@@ -1,9 +1,16 @@
 -- How a step is shown to cost some of what a worker has left.
-use Rattle.std.proofs.Common.{◌≡◌, ℕ, zero, suc, ◌+◌, ◌*◌, ◌≤◌, ◌<◌, Bool, true, false, if◌then◌else◌, refl, ap, ◌∙◌, arith, ◌⊎◌, inl, inr}
+use Rattle.std.proofs.Common.{◌≡◌, ℕ, zero, suc, ◌+◌, ◌*◌, ◌≤◌, ◌<◌, Bool, true, false, ◌&&◌, ◌||◌, if◌then◌else◌, refl, ap, ◌∙◌, arith, ◌⊎◌, inl, inr}
 use Rattle.std.specs.Prelude.{nat_lt}
 use Rattle.exec_machine.specs.{declared.config.Configuration.Configuration, After.{own_after, common_after}, World.{Common, Own as Books}}
 use Rattle.exec_moves.specs.{declared.{handing.AfterLeave.AfterLeave, place.{InPoll.InPoll, Place.Place}}, Credit.{gates_from, one_if}, Parts.polls, State.{Desk, Moved, Things}}
 use Rattle.exec_progress.specs.{Effort.{is_short, steps_left, turn_left, whole_spin, whole_turn}, Going.{Falls, seen, stands}, Owed.{ahead, all_others, others, spins_of_signs, spins_owed, turns_owed, wanted}, Ranks.rank}
+
+-- with one more reason for it
+pub or_more : (g a b : Bool) → one_if (g && b) ≤ one_if (g && (a || b))
+or_more true true true = omega arith
+or_more true true false = omega arith
+or_more true false b = omega arith
+or_more false a b = omega arith
 
 -- a state of worker i, as far as it counts
 pub record Now : Type 0 where

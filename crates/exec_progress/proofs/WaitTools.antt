@@ -2,7 +2,7 @@
 use Rattle.std.proofs.Common.{◌≡◌, ℕ, ◌+◌, ◌≤◌, ◌<◌, ◌==◌, Bool, true, false, not, ◌&&◌, length, refl, ap, ◌⊎◌, inl, inr}
 use Rattle.std.proofs.lemmas.{List.{get_or-set_same}}
 use Rattle.exec_words.specs.{Word.is_idle_at, declared.word.PureWord.PureWord}
-use Rattle.exec_machine.specs.{declared.config.Configuration.Configuration, Tests.set_seat, World.{Common, no_seat, seat_of}}
+use Rattle.exec_machine.specs.{declared.config.Configuration.Configuration}
 use Rattle.exec_moves.specs.{Load.has_mail, State.{Desk, Things, WakePoll, no_wake_poll, no_word, wake_poll_of, word_of}, Thing.{set_wake_poll, set_word}}
 use Rattle.exec_progress.{specs.Effort.{is_short, whole_turn}, proofs.Tools.{Now, OwesLess, ahead_at, gates, goes_down, goes_up, keeps_turns, left, others_at, rest, spun, wanted_at}}
 
@@ -13,10 +13,6 @@ word_is i x w there = get_or-set_same x.words i w no_word there
 
 pub poll_is : (i : ℕ) (x : Things) (w : WakePoll) → i < length x.wake_polls → wake_poll_of (set_wake_poll i x w) i ≡ w
 poll_is i x w there = get_or-set_same x.wake_polls i w no_wake_poll there
-
--- a ring that was set busy is so no more
-pub seat_is : (i : ℕ) (s : Common) → i < length s.seats → seat_of (set_seat s i (record (seat_of s i) { busy = false })) i ≡ record (seat_of s i) { busy = false }
-seat_is i s there = get_or-set_same s.seats i (record (seat_of s i) { busy = false }) no_seat there
 
 -- A WORD AT WHICH A WAIT MAY NOT BEGIN has a latch or mail
 

@@ -13,9 +13,9 @@ use Rattle.exec_moves.specs.declared.idling.InScan.TheVariants as scan
 use Rattle.exec_moves.specs.declared.idling.InWordWait.TheVariants as word
 use Rattle.exec_moves.specs.declared.place.InService.TheVariants as step
 use Rattle.exec_moves.specs.declared.place.Place.TheVariants as at
-use Rattle.exec_credit.{specs.Minded.{IsShort, IsWithin}, proofs.{Descending.{within_hit, within_miss, within_wake}, Minding.within_largest}}
-use Rattle.exec_progress.specs.{Going.{KnowsTail, is_moving, loads_queues}, Paced.KeepsPace}
-use Rattle.exec_progress.proofs.{PaceParts.{is_wild, Calm, calm_loads, calm_moves, calm_short, headed, signalled, withdrawing}, PaceMoves.in_place, PacePolls.Fine}
+use Rattle.exec_credit.{specs.Spins.{IsShort, IsWithin}, proofs.Spins.{within_hit, within_largest, within_miss, within_wake}}
+use Rattle.exec_progress.specs.{Going.{KnowsTail, has_called_back, is_moving, loads_queues}, Owed.quiet_items, Paced.KeepsPace}
+use Rattle.exec_progress.proofs.{PaceParts.{is_wild, Calm, calm_called, calm_loads, calm_moves, calm_short, headed, signalled, withdrawing}, PaceMoves.in_place, PacePolls.{Fine, none_left}}
 
 -- SPINNERS
 
@@ -40,23 +40,37 @@ claims_some h tail q same two behind =
 
 module _ (c : Configuration) (pool : Bool) where
   -- with a spinner that is within, at a calm place
-  pub calm_pace : (budget : ℕ) → budget ≤ largest_spin c.spin → (e : Desk) → IsWithin c.spin e.spinner → Calm pool budget e.place → KeepsPace c pool e
+  pub calm_pace : (budget : ℕ) → budget ≤ largest_spin c.spin → (e : Desk) → IsWithin c.spin e.spinner → Calm pool budget (quiet_items e == 0) e.place → KeepsPace c pool e
   calm_pace budget le e within calm =
       record {
-        loads = calm_loads pool budget e.place calm;
-        moves = λ h. absurd (false≢true (sym (calm_moves pool budget e.place calm) ∙ h));
+        loads = calm_loads pool budget (quiet_items e == 0) e.place calm;
+        moves = λ h. absurd (false≢true (sym (calm_moves pool budget (quiet_items e == 0) e.place calm) ∙ h));
+        called_back = λ h. eqb-true (quiet_items e) 0 (calm_called pool budget (quiet_items e == 0) e.place calm h);
         budget = within;
-        short = calm_short pool budget c le e.place calm;
+        short = calm_short pool budget (quiet_items e == 0) c le e.place calm;
       }
 
   -- at a place of which nothing but the spin is to be known
-  pub off_pace : (e : Desk) → IsWithin c.spin e.spinner → loads_queues e.place ≡ false → is_moving e.place ≡ false → IsShort c.spin e.place → KeepsPace c pool e
-  off_pace e within loads moves short =
-      record { loads = λ h. absurd (false≢true (sym loads ∙ h)); moves = λ h. absurd (false≢true (sym moves ∙ h)); budget = within; short = short }
+  pub off_pace : (e : Desk) → IsWithin c.spin e.spinner → loads_queues e.place ≡ false → is_moving e.place ≡ false → has_called_back e.place ≡ false → IsShort c.spin e.place
+      → KeepsPace c pool e
+  off_pace e within loads moves called short =
+      record {
+        loads = λ h. absurd (false≢true (sym loads ∙ h));
+        moves = λ h. absurd (false≢true (sym moves ∙ h));
+        called_back = λ h. absurd (false≢true (sym called ∙ h));
+        budget = within;
+        short = short;
+      }
 
   scan_pace : (p : InScan) (e : Desk) → e.place ≡ at.Scan p → IsWithin c.spin e.spinner → (is_moving (at.Scan p) ≡ true → is_empty e.loot ≡ false) → KeepsPace c pool e
   scan_pace p e is within some =
-      record { loads = rw is (λ h. absurd (false≢true h)); moves = rw is some; budget = within; short = rw is tt }
+      record {
+        loads = rw is (λ h. absurd (false≢true h));
+        moves = rw is some;
+        called_back = rw is (λ h. absurd (false≢true h));
+        budget = within;
+        short = rw is tt;
+      }
 
   -- by a test, this or that
   pace_if : (b : Bool) (e f : Desk) → (b ≡ true → KeepsPace c pool e) → (b ≡ false → KeepsPace c pool f) → KeepsPace c pool (if b then e else f)
@@ -84,14 +98,14 @@ module _ (c : Configuration) (i : ℕ) (me : Books) (s : Common) (d : Desk) (x :
 
   -- at a wait on the ring
   on_ring : (p : InRingWait) (y : Stay) (e : Desk) → e.place ≡ at.RingWait p y → e.spinner ≡ d.spinner → Keeps e
-  on_ring p y e is same = off_pace c pool e (rw same pace.budget) (rw is refl) (rw is refl) (rw is tt)
+  on_ring p y e is same = off_pace c pool e (rw same pace.budget) (rw is refl) (rw is refl) (rw is refl) (rw is tt)
 
   on_word : (p : InWordWait) (e : Desk) → e.place ≡ at.WordWait p → IsWithin c.spin e.spinner → IsShort c.spin (at.WordWait p) → Keeps e
-  on_word p e is within short = off_pace c pool e within (rw is refl) (rw is refl) (rw is short)
+  on_word p e is within short = off_pace c pool e within (rw is refl) (rw is refl) (rw is refl) (rw is short)
 
   published : (b : Bool) → d.searching ≡ b → Keeps (record d { place = at.Look (if b then look.ReturnLookCount else look.LookAtMirror false) })
-  published true h = record { loads = λ k. absurd (false≢true k); moves = λ k. absurd (false≢true k); budget = pace.budget; short = tt }
-  published false h = off_pace c pool _ pace.budget refl refl tt
+  published true h = off_pace c pool _ pace.budget refl refl refl tt
+  published false h = off_pace c pool _ pace.budget refl refl refl tt
 
   some_loot : (p : InScan) → d.place ≡ at.Scan p → is_moving (at.Scan p) ≡ true → is_empty d.loot ≡ false
   some_loot p here h = pace.moves (rw here h)
@@ -101,7 +115,7 @@ module _ (c : Configuration) (i : ℕ) (me : Books) (s : Common) (d : Desk) (x :
       let q = queue_of x (from_of c y) in
       move_if c pool (same_head h (head_of q)) _ _
       (λ same. scan_pace c pool (scan.MoveHalf _ _) _ refl pace.budget (λ k. claims_some h tail q same can.1 can.2))
-      (λ other. tame _ (refl, headed c i me s d.spinner.budget y (head_of q)))
+      (λ other. tame _ (refl, headed c i me s d.spinner.budget _ y (head_of q)))
   in_scan (scan.MoveHalf from h) here wild can = scan_pace c pool (scan.ReleaseHalf from h) _ refl pace.budget (λ k. some_loot (scan.MoveHalf from h) here refl)
   in_scan (scan.ReleaseHalf from h) here wild can =
       let some = some_loot (scan.ReleaseHalf from h) here refl in
@@ -147,12 +161,12 @@ module _ (c : Configuration) (i : ℕ) (me : Books) (s : Common) (d : Desk) (x :
   in_word_wait word.ArmWord here wild = armed (is_idle_at (word_of x i) d.processed)
   in_word_wait word.SleepOnWord here wild = bedded (word_of x i) _ refl _ refl
   in_word_wait word.DisarmWord here wild =
-      calm_pace c pool d.spinner.budget le _ (within_sleep c.spin d pace.budget s.clock (word_of x i).latch d.slept) (withdrawing c i me s d.spinner.budget later.Begin)
+      calm_pace c pool d.spinner.budget le _ (within_sleep c.spin d pace.budget s.clock (word_of x i).latch d.slept) (withdrawing c i me s d.spinner.budget _ later.Begin)
   in_word_wait _ here wild = absurd (false≢true wild)
 
   signals_on : (b : Bool) (is_ring : Bool) (j : ℕ) (a : AfterSignal) → Keeps (record d { place = if b then at.Signal (signals.Raise is_ring) j a else after_signal c i me s a d })
-  signals_on true is_ring j a = off_pace c pool _ pace.budget refl refl tt
-  signals_on false is_ring j a = tame _ (refl, signalled c i me s d.spinner.budget a d)
+  signals_on true is_ring j a = off_pace c pool _ pace.budget refl refl refl tt
+  signals_on false is_ring j a = tame _ (refl, signalled c i me s d.spinner.budget _ a d (none_left me d))
 
   -- of a wild one
   pub pace_wild : (p : Place) → d.place ≡ p → KnowsTail c x p → is_wild p ≡ true → Keeps (move_at c i me s d x p).desk
@@ -161,12 +175,12 @@ module _ (c : Configuration) (i : ℕ) (me : Books) (s : Common) (d : Desk) (x :
   pace_wild (at.RingWait p y) here can wild = in_ring_wait p y wild
   pace_wild (at.WordWait p) here can wild = in_word_wait p here wild
   pace_wild (at.Signal signals.SetLatch j b) here can wild = signals_on (asks_signal (word_of x j)) (is_ring (word_of x j).target) j b
-  pace_wild (at.Service (step.Signal j b) v) here can wild = off_pace c pool _ pace.budget refl refl tt
+  pace_wild (at.Service (step.Signal j b) v) here can wild = off_pace c pool _ pace.budget refl refl refl tt
   pace_wild _ here can wild = absurd (false≢true wild)
 
   -- of any
   pub pace_at : KnowsTail c x d.place → Keeps (move c i me s d x).desk
   pace_at can = elim (cases_Bool (is_wild d.place)) [
     | inl wild ↦ pace_wild d.place refl can wild
-    | inr off ↦ tame _ (in_place c i me s d x d.place refl pace.loads off)
+    | inr off ↦ tame _ (in_place c i me s d x d.place refl pace.loads pace.called_back off)
   ]

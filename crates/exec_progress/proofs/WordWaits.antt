@@ -7,7 +7,7 @@ use Rattle.exec_words.specs.{Word.is_idle_at, declared.word.PureWord.PureWord}
 use Rattle.exec_words.specs.declared.word.WaitTarget.TheVariants as target
 use Rattle.exec_machine.specs.{declared.{config.Configuration.Configuration, event.Event.TheVariants.{Turn, Sleep}}, Deadlines.next_due, World.{Common, Own as Books}}
 use Rattle.exec_moves.specs.{declared.{idling.{AfterWait.AfterWait, InWordWait.InWordWait}, place.Place.Place}, Callback.is_of_pool, Credit.one_if, Load.{has_come, has_mail}, State.{Desk, Moved, Things, does, turns, word_of}, Thing.with_word, Wait.{after_sleep, disarmed, hit, missed, noting_sleep}}
-use Rattle.exec_credit.proofs.Testing.{due}
+use Rattle.exec_credit.proofs.Due.{due}
 use Rattle.exec_progress.{specs.{Going.{Falls, FallsAt, seen, stands}}, proofs.{Tools.{Now, afterwards, before, either, gone, taken_up}, WaitTools.{rises, sinks, stirred, word_is}}}
 
 module _ (c : Configuration) (i : ℕ) (me : Books) (s : Common) (d : Desk) (x : Things) where

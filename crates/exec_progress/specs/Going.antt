@@ -2,7 +2,7 @@
 use Rattle.std.specs.Prelude.{◌≡◌, ◌≤◌, ◌<◌, ℕ, Bool, true, false, not, ◌+◌, ◌==◌, [], length, nat_lt}
 use Rattle.exec_words.specs.{Idle.{is_in as is_in_set}, Queue.{Queue, tail_of}, Head.{is_spent}}
 use Rattle.exec_machine.specs.{declared.config.Configuration.Configuration, Ranges.{ring_size, largest_spin}, Tests.{is_asleep, is_empty, is_open, is_ready}, Text.is_quiet, After.{own_after, common_after}, World.{Common, Own as Books, seat_of, sleeper_of, task_of}}
-use Rattle.exec_moves.specs.{declared.{handing.{AfterCallbacks.AfterCallbacks, AfterCancels.AfterCancels, AfterClaim.AfterClaim, AfterKick.AfterKick, AfterLeave.AfterLeave, AfterPop.AfterPop, AfterPush.AfterPush, AfterSend.AfterSend, AfterSignal.AfterSignal, InPush.InPush, InSignal.InSignal}, idling.{AfterWait.AfterWait, InLook.InLook, InRingWait.InRingWait, InScan.InScan, Stay.Stay}, place.{AfterService.AfterService, InClosing.InClosing, InLoads.InLoads, InPick.InPick, InPoll.InPoll, InService.InService, Place.Place}}, Callback.is_of_pool, Credit.one_if, Move.move_at, Search.from_of, Seen.{next_at, serves_at}, Slots.is_in_slots, State.{Desk, Moved, Things, inbox_of, queue_of, word_of}}
+use Rattle.exec_moves.specs.{declared.{handing.{AfterCallbacks.AfterCallbacks, AfterCancels.AfterCancels, AfterClaim.AfterClaim, AfterKick.AfterKick, AfterLeave.AfterLeave, AfterPop.AfterPop, AfterPush.AfterPush, AfterSend.AfterSend, AfterSignal.AfterSignal, InPush.InPush, InSignal.InSignal}, idling.{AfterWait.AfterWait, InLook.InLook, InRingWait.InRingWait, InScan.InScan, Stay.Stay}, place.{AfterService.AfterService, InClosing.InClosing, InLoads.InLoads, InPick.InPick, InPoll.InPoll, InService.InService, Round.Round, Place.Place}}, Callback.is_of_pool, Credit.one_if, Move.move_at, Search.from_of, Seen.{next_at, serves_at}, Slots.is_in_slots, State.{Desk, Moved, Things, inbox_of, queue_of, word_of}}
 use Rattle.exec_rest.specs.{Places.{is_dry, is_pooled, is_published, waits_on}, Posted.IsNumbered}
 use Rattle.exec_settled.specs.Given.{ends_in_search}
 use Rattle.exec_progress.specs.Effort.{steps_left}
@@ -75,6 +75,12 @@ abbrev pub loads_queues : Place → Bool
 loads_queues (Place.Loads InLoads.LoadOwnHead r) = true
 loads_queues (Place.Loads (InLoads.LoadOwnMirror f) r) = true
 loads_queues _ = false
+
+-- the callbacks are over in this turn, and its test for work is to come
+abbrev pub has_called_back : Place → Bool
+has_called_back (Place.Loads p Round.Second) = true
+has_called_back (Place.TestForWork f) = true
+has_called_back _ = false
 
 -- it pushes into its own run queue
 abbrev pub is_pushing : Place → Bool

@@ -4,4 +4,4 @@ pub mod Effort
 pub mod Going
 pub mod Granted
 pub mod Paced
-pub mod Bound
+pub mod Left

@@ -150,6 +150,7 @@ stage picks (Place.Kick p b) = stage_of_kick picks b
 stage picks (Place.ClaimWorker set b) = stage_of_claim picks b
 stage picks (Place.Signal p j b) = stage_of_signal picks b
 stage picks (Place.SendCancel b) = stage_of_pick picks
+stage picks (Place.Closing p) = beginning
 stage picks _ = 0
 
 -- this pick looks at the own run queue yet, or at the global one
@@ -266,9 +267,8 @@ has_stray d w = nat_lt 0 d.others || w.told
 
 -- the turns for signs that are no sure ones, at stage n
 pub record Others : Type 0 where
-  -- its wake word has a latch, or will have by its own step
+  -- its wake word has a latch, or will have one by its own step
   pub latch : ℕ
-  pub itself : ℕ
   -- completions of no operation, and cancels that the kernel will acknowledge
   pub stray : ℕ
   pub untold : ℕ
@@ -288,8 +288,7 @@ abbrev pub others : Configuration → ℕ → Books → Common → Desk → Thin
 others c i me s d x =
     let n = stage d.picks d.place in
     record {
-      latch = one_if (nat_lt n sampling && (word_of x i).latch);
-      itself = one_if (signals_itself i d.place);
+      latch = one_if (nat_lt n sampling && (signals_itself i d.place || (word_of x i).latch));
       stray = one_if (nat_lt n reaping && has_stray d (wake_poll_of x i));
       untold = one_if (not (is_empty me.untold));
       kept = 2 * one_if (wake_poll_of x i).kept;
@@ -302,7 +301,7 @@ others c i me s d x =
     }
 
 abbrev pub all_others : Others → ℕ
-all_others o = o.latch + o.itself + o.stray + o.untold + o.kept + o.ended + o.busy + o.pressed + o.unpolled + o.items + o.found
+all_others o = o.latch + o.stray + o.untold + o.kept + o.ended + o.busy + o.pressed + o.unpolled + o.items + o.found
 
 -- HOW MANY TURNS MORE
 
@@ -328,7 +327,7 @@ is_before_spin (Place.WordWait InWordWait.SleepOnWord) = false
 is_before_spin _ = true
 
 abbrev pub spins_of_signs : Configuration → ℕ → Books → Common → Desk → Things → ℕ
-spins_of_signs c i me s d x = one_if (is_before_spin d.place) + (others c i me s d x).latch + (others c i me s d x).itself
+spins_of_signs c i me s d x = one_if (is_before_spin d.place) + (others c i me s d x).latch
 
 abbrev pub spins_owed : Configuration → ℕ → Books → Common → Desk → Things → ℕ
 spins_owed c i me s d x = if nat_lt 0 (ahead c i me s d x) then 0 else spins_of_signs c i me s d x

@@ -2,15 +2,16 @@
 use Rattle.std.specs.Prelude.{◌≡◌, ◌≤◌, ℕ, Bool, true, false, ◌+◌, ◌*◌, length}
 use Rattle.exec_machine.specs.{declared.config.Configuration.Configuration, Tests.is_empty}
 use Rattle.exec_moves.specs.{Plays.{Playing, desk_of}, Slots.numbers_in, State.{Desk, queue_of, word_of}}
-use Rattle.exec_credit.specs.Minded.{IsShort, IsWithin}
+use Rattle.exec_credit.specs.Spins.{IsShort, IsWithin}
 use Rattle.exec_rest.specs.{Places.waits_on, Rested.{is_in_pool, place_at}}
-use Rattle.exec_progress.specs.Going.{is_moving, is_seeking, loads_queues, raises_itself}
+use Rattle.exec_progress.specs.{Going.{has_called_back, is_moving, is_seeking, loads_queues, raises_itself}, Owed.quiet_items}
 
--- OF A WORKER, by its desk alone: only a worker of the pool loads queues; what was stolen is in hand; and no
--- spin is longer than the longest
+-- OF A WORKER, by its desk alone: only a worker of the pool loads queues; what was stolen is in hand; nothing quiet is left
+-- of the callbacks before the test for work; and no spin is longer than the longest
 pub record KeepsPace (c : Configuration) (pool : Bool) (d : Desk) : Type 0 where
   pub loads : loads_queues d.place ≡ true → pool ≡ true
   pub moves : is_moving d.place ≡ true → is_empty d.loot ≡ false
+  pub called_back : has_called_back d.place ≡ true → quiet_items d ≡ 0
   pub budget : IsWithin c.spin d.spinner
   pub short : IsShort c.spin d.place
 
@@ -43,3 +44,5 @@ pub record IsPaced (n : ℕ) (c : Configuration) (x : Playing) : Type 0 where
   pub aimed : AreAimed c x
   pub narrow : AreNarrow n x
   pub outputs : HaveOutputs c x
+  -- there are no more open files than a configuration can have
+  pub opens : length x.world.common.opens ≤ 64

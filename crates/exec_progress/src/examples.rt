@@ -1,7 +1,7 @@
 //! Worked examples of what a worker has left.
 
 ghost use Rattle.std.specs.Prelude.{◌≡◌, ℕ, true};
-ghost use Rattle.exec_machine.specs.World.{own_of};
+ghost use Rattle.exec_machine.specs.{Progress.quiet_bound, World.{own_of}};
 ghost use Rattle.exec_moves.specs.State.{Desk, Things};
 ghost use Rattle.exec_moves.specs.declared.handing.InPush.{InPush};
 ghost use Rattle.exec_moves.specs.declared.handing.AfterPush.TheVariants as push;
@@ -12,7 +12,7 @@ ghost use Rattle.exec_moves.specs.declared.place.InClosing.TheVariants as closin
 ghost use Rattle.exec_moves.specs.declared.place.Place.TheVariants as at;
 ghost use Rattle.exec_rest.specs.Examples.{rested, two_waiting, with_a_latch};
 ghost use Rattle.exec_settled.specs.Examples.{second, with_second};
-ghost use Rattle.exec_progress.specs.Bound.{left_to, longest_stretch};
+ghost use Rattle.exec_progress.specs.Left.{left_to};
 ghost use Rattle.exec_progress.specs.{Granted.IsGranted, Ranks.rank};
 ghost use Rattle.exec_progress.specs.Owed.{beginning, flagging, spins_owed, stage, turns_owed};
 ghost use Rattle.exec_progress.specs.Paced.{AreAimed, HaveCounts, HavePace, IsPaced};
@@ -32,12 +32,12 @@ pub fn places()
 
 /// Two workers whose roots wait have made their steps until both sleep. All that the law takes for granted holds of
 /// them, and all that is carried. Each has 107 steps left, if it is roused: 102 down to the next sleep, and a spin, for
-/// which there are no looks. The longest stretch is 2304.
+/// which there are no looks. The bound is 2304.
 pub fn two_at_rest()
     ensures granted { IsGranted two_waiting.config rested }
     ensures paced { IsPaced 0 two_waiting.config rested }
     ensures left { left_to two_waiting.config rested 1 ≡ 107 }
-    ensures stretch { longest_stretch two_waiting.config rested.world ≡ 2304 }
+    ensures bound { quiet_bound two_waiting.config rested.world ≡ 2304 }
 {}
 
 /// Worker 1 was signalled. Where it is about to wait that is good for one more turn, with a spin of its own; where a turn

@@ -9,8 +9,8 @@
 //!
 //! What is known of a worker at its place is `specs/Going.antt`. Some of it is carried from step to step
 //! (`specs/Paced.antt`), some holds since wakes and messages aren't lost (`exec_rest`), and the rest is given of each
-//! state by whoever's parts say the same (`specs/Granted.antt`). The number is never as large as the longest stretch
-//! (`specs/Bound.antt`).
+//! state by whoever's parts say the same (`specs/Granted.antt`). While a worker isn't closing the number is never as large as
+//! the bound on quiet lines.
 #![tactic(auto)]
 
 pub mod examples;

@@ -6,7 +6,7 @@ use Rattle.exec_words.specs.declared.head.{Fit.Fit, Head.Head}
 use Rattle.exec_words.specs.declared.head.Fit.TheVariants as fit
 use Rattle.exec_words.specs.declared.word.WaitTarget.TheVariants as target
 use Rattle.exec_machine.specs.{declared.{config.Configuration.Configuration, state.{Letter.Letter, MailMessage.MailMessage}}, Tests.is_empty, World.{Common, Own as Books}}
-use Rattle.exec_moves.specs.{declared.{handing.{AfterCallbacks.AfterCallbacks, AfterCancels.AfterCancels, AfterKick.AfterKick, AfterLeave.AfterLeave, AfterPop.AfterPop, AfterPush.AfterPush, AfterSend.AfterSend, AfterSignal.AfterSignal, First.First}, place.{AfterService.AfterService, Found.Found, Place.Place, Round.Round}}, Callback.{after_callbacks, first_load, has_callbacks, has_requests, is_full, is_of_pool, next_callback, ring_wait, serve, to_queue}, Close.{after_close, after_letting_go}, Load.{after_loads, has_submissions, leaves_for_turn, next_turn}, Mail.{after_message, to_callbacks}, Parts.{after_cancels, after_kick, after_leave, after_poll, after_push, after_return, after_send, after_signal, cancels_left, first_pop, has_others, next_pick, polls, tells_from}, Pick.{after_empty_look, first_pick}, Poll.after_end, Pop.{after_empty_pop, after_pop, judge_pop}, Push.{after_fit, after_store}, Send.{after_posting, after_spawn}, Serve.after_service, State.Desk}
+use Rattle.exec_moves.specs.{declared.{handing.{AfterCallbacks.AfterCallbacks, AfterCancels.AfterCancels, AfterKick.AfterKick, AfterLeave.AfterLeave, AfterPop.AfterPop, AfterPush.AfterPush, AfterSend.AfterSend, AfterSignal.AfterSignal, First.First}, place.{AfterService.AfterService, Place.Place, Round.Round}}, Callback.{after_callbacks, first_load, has_callbacks, has_requests, is_full, is_of_pool, next_callback, ring_wait, to_queue}, Close.{after_close, after_letting_go}, Load.{has_submissions, leaves_for_turn, next_turn}, Mail.{after_message}, Parts.{after_cancels, after_kick, after_leave, after_poll, after_push, after_return, after_send, after_signal, cancels_left, first_pop, has_others, next_pick, polls, tells_from}, Pick.{after_empty_look, first_pick}, Poll.after_end, Pop.{after_empty_pop, after_pop, judge_pop}, Push.{after_fit, after_store}, Send.{after_posting, after_spawn}, Serve.after_service, State.Desk}
 use Rattle.exec_moves.specs.declared.handing.AfterCallbacks.TheVariants as after
 use Rattle.exec_moves.specs.declared.handing.AfterCancels.TheVariants as cancels
 use Rattle.exec_moves.specs.declared.handing.AfterClaim.TheVariants as claim
@@ -95,14 +95,8 @@ calm_after_posting c j b false d = calm_after_send c b d
 pub calm_to_queue : (s : Common) (i : ℕ) (b : AfterPush) → is_calm (to_queue s i b) ≡ true
 calm_to_queue s i b = calm_if (is_of_pool s i) _ _ refl refl
 
-pub calm_serve : (b : AfterService) → is_calm (serve b) ≡ true
-calm_serve b = refl
-
 pub calm_first_load : (s : Common) (i : ℕ) → is_calm (first_load s i round.First) ≡ true
 calm_first_load s i = calm_if (is_of_pool s i) _ _ refl refl
-
-pub calm_after_loads : (me : Books) (f : Found) (d : Desk) → is_calm (after_loads me round.First f d) ≡ true
-calm_after_loads me f d = refl
 
 pub calm_after_close : (c : Configuration) (i : ℕ) (s : Common) → is_calm (after_close c i s) ≡ true
 calm_after_close c i s = calm_if (i == 0) _ _ refl (calm_if (is_of_pool s i) _ _ (calm_first_pop c pop.Discard) refl)
@@ -114,9 +108,6 @@ calm_after_letting_go (Some r) asleep = refl
 
 pub calm_after_message : (applied : ℕ) (batch : List MailMessage) → is_calm (after_message applied batch) ≡ true
 calm_after_message applied batch = calm_if (is_empty batch || nat_le 64 applied) _ _ refl refl
-
-pub calm_to_callbacks : is_calm to_callbacks ≡ true
-calm_to_callbacks = refl
 
 pub calm_after_fit : (b : AfterPush) (h : Head) (f : Fit) → is_calm (after_fit b h f) ≡ true
 calm_after_fit b h (fit.Room len) = refl

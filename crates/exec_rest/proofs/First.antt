@@ -1,11 +1,10 @@
 -- So it is in the first state: all workers begin, nobody is published, and nothing is queued.
-use Rattle.std.proofs.Common.{◌≡◌, ℕ, zero, suc, ◌<◌, ◌≤◌, Bool, true, false, length, get_or, replicate, is_some, refl, sym, ap, ◌∙◌, arith, []}
-use Rattle.std.proofs.lemmas.Bool.{true≢false, false≢true, ltb-true, ltb-false}
-use Rattle.std.proofs.lemmas.List.{length-replicate, get_or-replicate, get_or_past}
-use Rattle.std.specs.Prelude.{nat_lt, not}
+use Rattle.std.proofs.Common.{◌≡◌, ℕ, zero, suc, Bool, true, false, get_or, replicate, is_some, refl, sym, ap, ◌∙◌}
+use Rattle.std.proofs.lemmas.Bool.{true≢false, false≢true}
+use Rattle.std.specs.Prelude.{not}
 use Rattle.exec_machine.specs.{declared.config.Configuration.Configuration, Progress.Plan, Tasks.new_seat, Tests.is_awake, World.{Seat, no_seat}}
-use Rattle.exec_moves.specs.{declared.place.Place.Place, Call.no_call, Plays.{caller_of, first_desk, first_desks, first_playing}, State.{Desk, no_queue, no_wake_poll, no_word}}
-use Rattle.exec_rest.specs.{Places.{asked_for_poll, is_dry, is_in_call, is_pooled, is_published, is_to_enter, is_to_sleep_on_ring, owes_nothing, waits_on}, Rested.{IsLaidOut, IsRestful, has_bit, is_in_pool, place_at, poll_at, sleeps}}
+use Rattle.exec_moves.specs.{declared.place.Place.Place, Call.no_call, Plays.{caller_of, first_desk, first_desks, first_playing}, State.{Desk, no_wake_poll}}
+use Rattle.exec_rest.specs.{Places.{asked_for_poll, is_dry, is_in_call, is_pooled, is_published, is_to_enter, is_to_sleep_on_ring, owes_nothing, waits_on}, Rested.{IsRestful, has_bit, place_at, poll_at, sleeps}}
 
 -- what so many equal ones and what stands past them all are
 pub of_equal : {X : Type 0} (P : X → Type 0) (n i : ℕ) (a d : X) → P a → P d → P (get_or (replicate n a) i d)
@@ -17,10 +16,6 @@ begins : (c : Configuration) (n from i : ℕ) (d : Desk) → d.place ≡ Place.B
 begins c zero from i d past = past
 begins c (suc n) from zero d past = refl
 begins c (suc n) from (suc i) d past = begins c n (suc from) i d past
-
-so_many : (c : Configuration) (n from : ℕ) → length (first_desks c n from) ≡ n
-so_many c zero from = refl
-so_many c (suc n) from = ap suc (so_many c n (suc from))
 
 module _ (p : Plan) where
   place_first : (i : ℕ) → place_at p.config (first_playing p) i ≡ Place.BeginTurn
@@ -61,26 +56,4 @@ module _ (p : Plan) where
         dried = λ i pool h. not_there is_dry refl i h;
         over = λ i h. ap owes_nothing (place_first i);
         calls = λ j h. absurd (true≢false (sym h ∙ call_first j));
-      }
-
-  within : p.config.workers ≤ 64 → (i : ℕ) (b : Bool) → nat_lt i p.config.workers ≡ b → is_in_pool p.config (first_playing p) i ≡ true → i < 64
-  within few i true less h = let lt = ltb-true i p.config.workers less in omega (arith, few, lt)
-  within few i false past h =
-      let long : length (replicate p.config.workers (new_seat true)) ≤ i = omega (arith, length-replicate p.config.workers (new_seat true), ltb-false i p.config.workers past) in
-      absurd (false≢true (sym (ap (λ (seat : Seat). seat.pool) (get_or_past (replicate p.config.workers (new_seat true)) i no_seat long)) ∙ h))
-
-  pub first_laid_out : 0 < p.config.workers → p.config.workers ≤ 64 → IsLaidOut p.config (first_playing p)
-  first_laid_out some few =
-      let n = p.config.workers in
-      let seats = sym (length-replicate n (new_seat true)) in
-      record {
-        desks = so_many p.config n 0 ∙ seats;
-        queues = length-replicate n no_queue ∙ seats;
-        words = length-replicate n no_word ∙ seats;
-        polls = length-replicate n no_wake_poll ∙ seats;
-        boxes = length-replicate n [] ∙ seats;
-        callers = refl;
-        bits = refl;
-        some = ap (λ (seat : Seat). seat.pool) (get_or-replicate n 0 (new_seat true) no_seat some);
-        pool = λ i. within few i (nat_lt i n) refl;
       }

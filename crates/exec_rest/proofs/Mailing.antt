@@ -117,9 +117,6 @@ module _ (c : Configuration) (x : Playing) (laid : IsLaidOut c x) (held : IsRest
   abbrev HadMail : ℕ → Type 0
   HadMail k = inbox_of x.things k ≡ [] → ⊥
 
-  pub matched_then : IsMatched next.things
-  matched_then = mails.matched match
-
   -- DESKS AND WORDS
 
   up : is_awake (seat_of s i).rest ≡ true

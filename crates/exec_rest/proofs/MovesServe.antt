@@ -4,7 +4,7 @@ use Rattle.std.proofs.lemmas.Bool.{false≢true}
 use Rattle.std.specs.Prelude.{◌⊎◌}
 use Rattle.exec_outcomes.specs.declared.outcome.Outcome.{Outcome}
 use Rattle.exec_machine.specs.{declared.{config.Configuration.Configuration, event.Event.{Event, TheVariants.{Busy, Cancel, Enter, Fire, Rouse, Serve, Sleep, Stage}}}, Choice.Choice.{Plain}, Tests.{is_awake}, World.{Common, Own as Books, seat_of}}
-use Rattle.exec_moves.specs.{declared.place.{AfterPermit.AfterPermit, InService.InService, Place.Place, Reaping.Reaping, Service.Service}, Callback.is_of_pool, Claim.{raised_if}, Move.{move_service, move_submit}, Serve.{after_permit, end_service, enter_last, first_to_fire, reap, sample, signal, unlatched}, State.{Desk, Moved, Things, WakePoll, dropped, gate_of, no_queue, no_wake_poll, no_word, taken_in, word_of, wake_poll_of}, Submit.{Due, Due.{AtGate, Cancels, Ends, Enrols, Expires, Flushes, Stages}, after_grant, due_next, granted_at, stage_next, try_gate}, Thing.{aside, ring_of, set_gate, set_wake_poll, with_gate, with_ring, with_word}}
+use Rattle.exec_moves.specs.{declared.place.{AfterPermit.AfterPermit, InService.InService, Place.Place, Reaping.Reaping, Service.Service}, Claim.{raised_if}, Move.{move_service, move_submit}, Serve.{after_permit, end_service, enter_last, first_to_fire, reap, sample, signal, unlatched}, State.{Desk, Moved, Things, WakePoll, dropped, gate_of, no_queue, no_wake_poll, no_word, taken_in, word_of, wake_poll_of}, Submit.{Due, Due.{AtGate, Cancels, Ends, Enrols, Expires, Flushes, Stages}, after_grant, due_next, granted_at, stage_next, try_gate}, Thing.{aside, ring_of, set_gate, set_wake_poll, with_gate, with_ring, with_word}}
 use Rattle.exec_moves.specs.declared.place.InService.TheVariants as step
 use Rattle.exec_moves.specs.declared.place.Place.TheVariants as at
 use Rattle.exec_rest.specs.Places.{raises}
@@ -17,9 +17,6 @@ use Rattle.exec_rest.proofs.Continuing.{Nearly, calm_after_service, near_calm, n
 use Rattle.exec_rest.proofs.Polled.{keeps_dropped, keeps_dropped_all, keeps_taken}
 
 module _ (R : Type 0) (c : Configuration) (i : ℕ) (me : Books) (s : Common) (d : Desk) (x : Things) (v : Service) where
-  abbrev pool : Bool
-  pool = is_of_pool s i
-
   abbrev inside : InService → Place
   inside p = at.Service p v
 

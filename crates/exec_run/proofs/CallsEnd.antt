@@ -8,8 +8,8 @@ use Rattle.exec_moves.specs.declared.handing.CallPlace.TheVariants as call
 use Rattle.exec_moves.specs.{Call.{CallDesk, Called, no_call}, MoveOfCaller.move_of_caller, Plays.{Playing, by_action, by_call, by_step, caller_of}, State.Things}
 use Rattle.exec_credit.specs.CallCredit.{call_credit}
 use Rattle.exec_credit.proofs.CallFalls.{at_most, falls, spawns, wakes}
-use Rattle.exec_run.specs.{Log.{calls_end, longer_call}, Steps.{Goes}}
-use Rattle.exec_run.proofs.Leads.{leads_there}
+use Rattle.exec_run.specs.Steps.{Goes}
+use Rattle.exec_run.proofs.{Leads.{leads_there}, Stretches.{ends, is_caller, longer_of}}
 
 -- what caller j has left
 abbrev left_to : Playing → ℕ → ℕ
@@ -80,25 +80,25 @@ module _ (c : Configuration) (x : Playing) (s : Stretch) (spent : Spent x s) whe
           (left_by (action.GoOn j) j m (falls c x.world.common (caller_of x j) x.things j (and_parts (is_quiet m.event) (not (is_anyone_closing x.world)) quiet).0))
       by false loud = inl refl
 
-  acted : (a : Action) → Spent (by_action c x a).next (longer_call x.world a (by_action c x a).told.0.said s)
+  acted : (a : Action) → Spent (by_action c x a).next (longer_of is_caller x.world a (by_action c x a).told.0.said s)
   acted (action.Spawn j k) = told j (by_action c x (action.Spawn j k)).next _ (spawns c x.world.common (caller_of x j) x.things j k)
   acted (action.Wake j t) = told j (by_action c x (action.Wake j t)).next _ (wakes c x.world.common (caller_of x j) x.things j t)
   acted (action.GoOn j) = goes_on j
   acted _ = inl refl
 
-  stepped_on : (a : Action) → Spent (by_step c x a).next (longer_call x.world a (by_step c x a).told.0.said s)
+  stepped_on : (a : Action) → Spent (by_step c x a).next (longer_of is_caller x.world a (by_step c x a).told.0.said s)
   stepped_on a = elim (cases_Bool (is_enabled x.world.common a)) [
     | inl on ↦ rw on (acted a)
     | inr off ↦ rw off spent
   ]
 
-pub call_by : (p : Plan) (x : Playing) (s : Stretch) (told : List Told) → Spent x s → Goes p x told → calls_end p.config x.world s (lines_of told) (choices_of told) ≡ true
+pub call_by : (p : Plan) (x : Playing) (s : Stretch) (told : List Told) → Spent x s → Goes p x told → ends is_caller p.config x.world s (lines_of told) (choices_of told) ≡ true
 call_by p x s [] spent goes = refl
 call_by p x s (it ∷ told) spent goes =
     let c = p.config in
     let next = (by_step c x it.0.action).next in
-    let longer = longer_call x.world it.0.action it.0.said s in
-    let now : Spent next longer = subst (λ (t : Told). Spent next (longer_call x.world it.0.action t.0.said s)) (sym goes.0.tells) (stepped_on c x s spent it.0.action) in
+    let longer = longer_of is_caller x.world it.0.action it.0.said s in
+    let now : Spent next longer = subst (λ (t : Told). Spent next (longer_of is_caller x.world it.0.action t.0.said s)) (sym goes.0.tells) (stepped_on c x s spent it.0.action) in
     let six = few next longer now in
     and_from (nat_lt longer.count (quiet_bound c x.world)) _ (lt-ltb longer.count (quiet_bound c x.world) (omega (arith, six)))
-    (subst (λ (w : World). calls_end c w longer (lines_of told) (choices_of told) ≡ true) (leads_there p x it goes.0) (call_by p next longer told now goes.1))
+    (subst (λ (w : World). ends is_caller c w longer (lines_of told) (choices_of told) ≡ true) (leads_there p x it goes.0) (call_by p next longer told now goes.1))

@@ -1,6 +1,7 @@
 pub mod Told
 pub mod StepLemmas
 pub mod Leads
+pub mod Stretches
 pub mod CallsEnd
 pub mod TurnsEnd
 pub mod FewLines
@@ -14,6 +15,5 @@ pub mod Plans
 pub mod Counted
 pub mod Carried
 pub mod Acts
-pub mod First
 pub mod Wanted
 pub mod Playable

@@ -12,7 +12,7 @@ use Rattle.exec_base.specs.declared.limits.TheConstants.{MOST_STEPS}
 use Rattle.exec_text.specs.Grammar.{Meaning, count_of}
 use Rattle.exec_run.specs.{declared.{trace_error.TraceError.{TraceError, TheVariants.{ReadFault, TooLong, Syntax, Config, WriteFault, NoMemory}}, complaint.Complaint.Complaint}, Refusal.{IsTextIn, HasCause}, Reading.{CannotRead, CannotRun}, Explains.{IsCauseOf, Explains, complaint_line}, Log.{Gave, GaveFront, AreTaken, GaveFrontOfLog, IsTheLogOf, told_text}, Steps.{GaveUpTo, Leads, Breaks, Complains}}
 use Rattle.exec_base.specs.Io.{Rose}
-use Rattle.exec_run.proofs.{StepLemmas.{lines_done, all_taken, broke_between}, Logs.{BeginsWell, PaidIsRun, is_the_log}, FewLines.few_taken}
+use Rattle.exec_run.proofs.{StepLemmas.{lines_done, all_taken, broke_between}, Logs.{BeginsWell, is_the_log}, FewLines.few_taken}
 
 -- a slice of one word that is this text
 pub one_word : (words : List (String Global)) (word : String Global) (text : List ℕ) → 1 ≤ length words → length words < 2 → word ≡ get_or words 0 word → bytes_eq (string_bytes word) text ≡ true → map string_bytes words ≡ text ∷ []
@@ -33,29 +33,29 @@ two_words (w ∷ v ∷ []) one two text more some few is_one is_two eq_one eq_tw
 two_words (w ∷ v ∷ u ∷ words) one two text more some few is_one is_two eq_one eq_two = absurd (omega arith)
 
 -- what a run broke off with
-pub front_logged : PaidIsRun → (quiet : Bool) (m : Meaning) (steps : List Step) (old mid new : Option (List ℕ)) → BeginsWell m.plan → sum_by count_of m.steps ≤ MOST_STEPS → steps ≡ m.steps → Breaks quiet m.plan (first_playing m.plan) steps old mid → new ≡ mid → GaveFrontOfLog quiet m old new
-front_logged law quiet m steps old mid new begins few same_steps breaks same =
+pub front_logged : (quiet : Bool) (m : Meaning) (steps : List Step) (old mid new : Option (List ℕ)) → BeginsWell m.plan → sum_by count_of m.steps ≤ MOST_STEPS → steps ≡ m.steps → Breaks quiet m.plan (first_playing m.plan) steps old mid → new ≡ mid → GaveFrontOfLog quiet m old new
+front_logged quiet m steps old mid new begins few same_steps breaks same =
     record {
       taken = breaks.taken;
       are_taken = subst (λ (x : List Step). AreTaken breaks.taken x) same_steps breaks.are_taken;
       told = breaks.told;
-      log = is_the_log law m.plan breaks.taken breaks.told begins (omega (arith, few, few_taken breaks.taken m.steps (subst (λ (x : List Step). AreTaken breaks.taken x) same_steps breaks.are_taken))) breaks.has_lines breaks.goes;
+      log = is_the_log m.plan breaks.taken breaks.told begins (omega (arith, few, few_taken breaks.taken m.steps (subst (λ (x : List Step). AreTaken breaks.taken x) same_steps breaks.are_taken))) breaks.has_lines breaks.goes;
       gave = subst (λ (x : Option (List ℕ)). GaveFront old x (told_text quiet breaks.told)) (sym same) breaks.gave;
     }
 
 module _ {B L : Type 0} (left : B → L) (runs : L → Plan → Option ℕ → Type 0) (holds : L → Option Said → List ℕ) (spot : L → Option Said → Spot) (known : Plan → Type 0) where
-  pub logged : PaidIsRun → (quiet : Bool) (m : Meaning) (steps : List Step) (d : Core B) (old mid new : Option (List ℕ)) → BeginsWell m.plan → sum_by count_of m.steps ≤ MOST_STEPS → steps ≡ m.steps → Leads left runs holds spot known quiet m.plan (first_playing m.plan) steps d old mid → new ≡ mid
+  pub logged : (quiet : Bool) (m : Meaning) (steps : List Step) (d : Core B) (old mid new : Option (List ℕ)) → BeginsWell m.plan → sum_by count_of m.steps ≤ MOST_STEPS → steps ≡ m.steps → Leads left runs holds spot known quiet m.plan (first_playing m.plan) steps d old mid → new ≡ mid
       → (told : List Told) × IsTheLogOf m.plan m.steps told × Gave old new (told_text quiet told)
-  logged law quiet m steps d old mid new begins few same_steps leads same = (
+  logged quiet m steps d old mid new begins few same_steps leads same = (
     leads.told,
-    subst (λ (x : List Step). IsTheLogOf m.plan x leads.told) same_steps (is_the_log law m.plan steps leads.told begins (subst (λ (x : List Step). sum_by count_of x ≤ MOST_STEPS) (sym same_steps) few) (lines_done steps _ leads.has_lines) leads.goes),
+    subst (λ (x : List Step). IsTheLogOf m.plan x leads.told) same_steps (is_the_log m.plan steps leads.told begins (subst (λ (x : List Step). sum_by count_of x ≤ MOST_STEPS) (sym same_steps) few) (lines_done steps _ leads.has_lines) leads.goes),
     same ∙ leads.gave,
   )
 
   -- all was logged, and what came then failed
-  pub all_logged : PaidIsRun → (quiet : Bool) (m : Meaning) (steps : List Step) (d : Core B) (old mid new : Option (List ℕ)) → BeginsWell m.plan → sum_by count_of m.steps ≤ MOST_STEPS → steps ≡ m.steps → Leads left runs holds spot known quiet m.plan (first_playing m.plan) steps d old mid → new ≡ mid → GaveFrontOfLog quiet m old new
-  all_logged law quiet m steps d old mid new begins few same_steps leads same =
-      front_logged law quiet m steps old mid new begins few same_steps (broke_between left runs holds spot known quiet m.plan (first_playing m.plan) steps steps d old mid (all_taken steps) leads) same
+  pub all_logged : (quiet : Bool) (m : Meaning) (steps : List Step) (d : Core B) (old mid new : Option (List ℕ)) → BeginsWell m.plan → sum_by count_of m.steps ≤ MOST_STEPS → steps ≡ m.steps → Leads left runs holds spot known quiet m.plan (first_playing m.plan) steps d old mid → new ≡ mid → GaveFrontOfLog quiet m old new
+  all_logged quiet m steps d old mid new begins few same_steps leads same =
+      front_logged quiet m steps old mid new begins few same_steps (broke_between left runs holds spot known quiet m.plan (first_playing m.plan) steps steps d old mid (all_taken steps) leads) same
 
 -- where a run broke off after its beginning
 pub gave_up : {T : Type 0} (r : Result T TraceError) (quiet : Bool) (m : Meaning) (old new : Option (List ℕ)) → GaveFrontOfLog quiet m old new → IfErr r (λ e. GaveUpTo e quiet m old new)

@@ -6,11 +6,10 @@ use Rattle.exec_outcomes.specs.declared.outcome.OpResult.{OpResult, TheVariants.
 use Rattle.exec_machine.specs.{declared.{config.Configuration.Configuration, event.{Event.Event, StepResult.TheVariants.{Refused, Did}, Line.Line}, step.{Step.Step, Action.Action}}, Same.same_result, Run.{Follows, same_action, is_refused, after_work, after_step, after_steps}, Progress.Plan, Examples.{Told, lines_of}}
 use Rattle.exec_machine.specs.declared.step.Step.TheVariants as step
 use Rattle.exec_machine.specs.declared.step.Action.TheVariants as action
-use Rattle.exec_credit.specs.Minded.{begins_call}
 use Rattle.exec_moves.specs.{Plays.{Playing, by_step}, Departures.played}
 use Rattle.exec_parts.specs.Spots.{Spot}
 use Rattle.exec_progress.specs.Paced.{IsPaced}
-use Rattle.exec_core.{specs.{declared.executor.Core.Core, Lift.{IsMinded, IsReady, Pays, Shows, Applies, Carries}, Steady.{IsSteady, IsSteadyThere, KeepsOn}, Turns.IsOrderly}, proofs.InTurn.orderly}
+use Rattle.exec_core.{specs.{declared.executor.Core.Core, Lift.{IsReady, Shows, Applies, Carries}, Steady.{IsSteady, IsSteadyThere, KeepsOn}, Turns.IsOrderly}, proofs.InTurn.orderly}
 use Rattle.exec_text.specs.Grammar.{StepFits, StepNames}
 use Rattle.exec_run.specs.{Log.{Gave, GaveFront, AreTaken, IsBegun, told_text}, Steps.{told_of_line, IsStep, Goes, StandsAt, TakesLine, BreaksLine, Works, Leads, Breaks}}
 use Rattle.exec_run.proofs.Told.{whole_front, no_front, gave_untold, lines_more, gave_more, front_more}
@@ -168,8 +167,6 @@ module _ {B L : Type 0} (left : B → L) (runs : L → Plan → Option ℕ → T
         orderly = subst (λ (b : Action). IsOrderly (by_step c x b).next) of (orderly left runs holds spot p d (by_step c x a).next ready.stands it.shows);
         rests = subst (λ (b : Action). IsSteady c x → IsSteadyThere c (by_step c x b).next) of it.rests;
         turns = subst (λ (b : Action). (n : ℕ) → IsSteady c x → IsPaced n c x → KeepsOn n c x b) of it.turns;
-        pays = subst (λ (b : Action). begins_call b ≡ false → IsMinded p x → Pays p x b t.0) of
-            (subst (λ (m : Line). begins_call a ≡ false → IsMinded p x → Pays p x a m) it.tells it.pays);
       }
 
   -- what the core ensures of a step that it took, and what stands before it

@@ -2,14 +2,12 @@
 use Rattle.std.specs.Prelude.{◌≡◌, ℕ, Bool, true, false, ◌&&◌, ◌≤◌, ◌⊎◌, if◌then◌else◌, nat_lt, List, [], ◌∷◌, ◌++◌, All, Option, None, sum_by}
 use Rattle.std.specs.Io.KnownBytes.{append_known}
 use Rattle.exec_base.specs.declared.limits.TheConstants.{MOST_STEPS}
-use Rattle.exec_machine.specs.{declared.{config.Configuration.Configuration, event.{Line.Line, StepResult.{StepResult, TheVariants.{Did, Refused}}}, step.{Action.Action, Step.{Step, TheVariants.Work}}}, Choice.Choice, Run.{RunsBy, after_line}, World.World, Progress.{IsLogOf, Party, Party.{Caller, Worker}, Plan, RightlyAsleepBy, Stretch, begin, is_quiet_step, no_stretch, one_more, party_of, quiet_bound}, Text.{text_of_log, told_lines}, Examples.{Told, choices_of, lines_of}}
-use Rattle.exec_credit.specs.Minded.{begins_call, is_played}
+use Rattle.exec_machine.specs.{declared.{config.Configuration.Configuration, event.{Line.Line, StepResult.{StepResult, TheVariants.{Did, Refused}}}, step.{Action.Action, Step.{Step, TheVariants.Work}}}, Choice.Choice, Run.{RunsBy, after_line}, World.World, Progress.{Plan, RightlyAsleepBy, begin, is_solo, no_stretch}, Text.{text_of_log, told_lines}, Examples.{Told, choices_of, lines_of}}
 use Rattle.exec_text.specs.Grammar.{Meaning, IsTraceOf, count_of}
 use Rattle.exec_run.specs.{Ranges.first_out_of_range, Refusal.IsTextIn}
 use Rattle.exec_core.specs.Turns.{IsOrderly}
 use Rattle.exec_moves.specs.Plays.{Playing, Plays, by_step, first_playing}
 use Rattle.exec_rest.specs.AtRest.{RestsWell}
-use Rattle.exec_progress.specs.Bound.{longest_stretch}
 
 -- The source held a trace that says this, which is not too long and whose configuration is in its ranges.
 pub record HasTrace (source : Option (List ℕ)) (m : Meaning) : Type 0 where
@@ -18,14 +16,6 @@ pub record HasTrace (source : Option (List ℕ)) (m : Meaning) : Type 0 where
   pub spelled : IsTraceOf text m
   pub few : sum_by count_of m.steps ≤ MOST_STEPS
   pub in_range : first_out_of_range m.plan.config ≡ None
-
--- One worker is alone with its root: there are no scripts, no word of the root makes or wakes another task, and nobody calls
--- from outside.
-pub record IsOfOne (p : Plan) (told : List Told) : Type 0 where
-  pub lone : p.config.workers ≡ 1
-  pub scripts : p.scripts ≡ []
-  pub played : All (λ w. is_played w ≡ true) p.root
-  pub calls : All (λ it. begins_call it.0.action ≡ false) told
 
 -- From this state on, and in each to which the lines lead, a task is queued once, and requests of files take turns.
 abbrev pub AreOrderly : Configuration → Playing → List Told → Type 0
@@ -37,54 +27,17 @@ abbrev pub AreResting : Configuration → Playing → List Told → Type 0
 AreResting c x [] = RestsWell c x
 AreResting c x (it ∷ told) = RestsWell c x × AreResting c (by_step c x it.0.action).next told
 
--- of quiet lines of one caller, one after another, after one more line: a line of anybody else ends them
-abbrev pub is_caller : Party → Bool
-is_caller (Caller j) = true
-is_caller _ = false
-
-abbrev pub longer_call : World → Action → StepResult → Stretch → Stretch
-longer_call w a Refused s = s
-longer_call w a (Did e) s = if is_caller (party_of a) && is_quiet_step w (Did e) then one_more (party_of a) s else no_stretch
-
--- From this state on, after so many, no caller alone makes as many quiet lines as the bound.
-abbrev pub calls_end : Configuration → World → Stretch → List Line → List Choice → Bool
-calls_end c w s [] choices = true
-calls_end c w s (l ∷ ls) [] = true
-calls_end c w s (l ∷ ls) (choice ∷ choices) =
-    nat_lt (longer_call w l.action l.said s).count (quiet_bound c w)
-    && calls_end c (after_line c w l.action l.said choice) (longer_call w l.action l.said s) ls choices
-
--- of quiet lines of one worker in the same way
-abbrev pub is_worker : Party → Bool
-is_worker (Worker i) = true
-is_worker _ = false
-
-abbrev pub longer_turn : World → Action → StepResult → Stretch → Stretch
-longer_turn w a Refused s = s
-longer_turn w a (Did e) s = if is_worker (party_of a) && is_quiet_step w (Did e) then one_more (party_of a) s else no_stretch
-
--- From this state on, after so many, no worker alone makes as many quiet lines as the longest stretch.
-abbrev pub turns_end : Configuration → World → Stretch → List Line → List Choice → Bool
-turns_end c w s [] choices = true
-turns_end c w s (l ∷ ls) [] = true
-turns_end c w s (l ∷ ls) (choice ∷ choices) =
-    nat_lt (longer_turn w l.action l.said s).count (longest_stretch c w)
-    && turns_end c (after_line c w l.action l.said choice) (longer_turn w l.action l.said s) ls choices
-
 -- The lines, each with what it leaves open, are the log of these steps: a run of the machine; each line is what the step
 -- tells by its move, so that there is no other log; in each state a task that is to be polled has one runnable, one that is
 -- polled has one poller, and durable requests of an open take turns; where all sleep nothing is left to be run, and nothing
--- is unfinished, and a closing worker sleeps only while a request of its own isn't over; no worker and no caller turns for ever;
--- and in the log of one worker alone no party makes as many quiet lines as the smaller bound.
+-- is unfinished, and a closing worker sleeps only while a request of its own isn't over; and no worker and no caller turns for ever.
 pub record IsTheLogOf (p : Plan) (steps : List Step) (told : List Told) : Type 0 where
   pub runs : RunsBy p.config (begin p) (lines_of told) (choices_of told)
   pub plays : Plays p steps told
   pub orderly : AreOrderly p.config (first_playing p) told
   pub rests : AreResting p.config (first_playing p) told
   pub asleep : RightlyAsleepBy p.config (begin p) (lines_of told) (choices_of told)
-  pub turns : turns_end p.config (begin p) no_stretch (lines_of told) (choices_of told) ≡ true
-  pub calls : calls_end p.config (begin p) no_stretch (lines_of told) (choices_of told) ≡ true
-  pub alone : IsOfOne p told → IsLogOf p steps (lines_of told)
+  pub solo : is_solo p.config (begin p) no_stretch (lines_of told) (choices_of told) ≡ true
 
 -- what is told of such lines
 abbrev pub told_text : Bool → List Told → List ℕ

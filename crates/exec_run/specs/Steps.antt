@@ -2,12 +2,11 @@
 use Rattle.std.specs.Prelude.{◌≡◌, ℕ, Bool, false, ◌+◌, ◌⊎◌, List, [], ◌∷◌, ◌++◌, Option, Some}
 use Rattle.exec_base.specs.Io.{Rose}
 use Rattle.exec_task.specs.declared.body.Said.{Said}
-use Rattle.exec_machine.specs.{declared.{config.Configuration.Configuration, event.Line.Line, step.{Step.Step, Action.Action}}, Run.{Follows, after_work, after_steps}, Progress.Plan, Credited.{Standing, Account}, Examples.{Told, lines_of}, Text.{text_of_line, text_of_log, told_lines}}
-use Rattle.exec_credit.specs.Minded.{begins_call}
-use Rattle.exec_moves.specs.{Plays.{Playing, by_step, credit_of}, Departures.played}
+use Rattle.exec_machine.specs.{declared.{config.Configuration.Configuration, event.Line.Line, step.{Step.Step, Action.Action}}, Run.{Follows, after_work, after_steps}, Progress.Plan, Examples.{Told, lines_of}, Text.{text_of_line, text_of_log, told_lines}}
+use Rattle.exec_moves.specs.{Plays.{Playing, by_step}, Departures.played}
 use Rattle.exec_progress.specs.Paced.{IsPaced}
 use Rattle.exec_parts.specs.Spots.{Spot}
-use Rattle.exec_core.specs.{declared.executor.Core.Core, Lift.{IsMinded, IsReady, Pays, Shows}, Steady.{IsSteady, IsSteadyThere, KeepsOn}, Turns.IsOrderly}
+use Rattle.exec_core.specs.{declared.executor.Core.Core, Lift.{IsReady, Shows}, Steady.{IsSteady, IsSteadyThere, KeepsOn}, Turns.IsOrderly}
 use Rattle.exec_text.specs.Grammar.{Meaning}
 use Rattle.exec_run.specs.{declared.{trace_error.TraceError.{TraceError, TheVariants.{ReadFault, TooLong, Syntax, Config, WriteFault, NoMemory}}, complaint.Complaint.Complaint}, Refusal.status_of, Explains.complaint_line, Log.{Gave, GaveFront, GaveFrontOfLog, AreTaken, told_text}}
 
@@ -32,30 +31,19 @@ whole_line l = text_of_line l ++ 10 ∷ []
 abbrev pub told_of_line : Bool → Line → List ℕ
 told_of_line quiet l = text_of_log (told_lines quiet (l ∷ []))
 
--- A line, with what it leaves open, is what its step tells: it follows in the machine, to an orderly state; it keeps what each state
--- has, so that nobody sleeps on work and no worker turns for ever; and of one worker alone a quiet line costs credit, of which there
--- is less than the bound.
+-- A line, with what it leaves open, is what its step tells: it follows in the machine, to an orderly state; and it keeps what each state
+-- has, so that nobody sleeps on work and no worker turns for ever.
 pub record IsStep (p : Plan) (x : Playing) (it : Told) : Type 0 where
   pub tells : it ≡ (by_step p.config x it.0.action).told
   pub follows : Follows p.config x.world it.0.action it.0.said it.1
   pub orderly : IsOrderly (by_step p.config x it.0.action).next
   pub rests : IsSteady p.config x → IsSteadyThere p.config (by_step p.config x it.0.action).next
   pub turns : (n : ℕ) → IsSteady p.config x → IsPaced n p.config x → KeepsOn n p.config x it.0.action
-  pub pays : begins_call it.0.action ≡ false → IsMinded p x → Pays p x it.0.action it.0
 
 -- so is each of these, one after another
 abbrev pub Goes : Plan → Playing → List Told → Type 0
 Goes p x [] = Unit {0}
 Goes p x (it ∷ told) = IsStep p x it × Goes p (by_step p.config x it.0.action).next told
-
--- where lines are paid from, and what each of them leaves to pay with
-abbrev pub standing : Configuration → Playing → Standing
-standing c x = record { world = x.world; credit = λ party. credit_of c x }
-
-abbrev pub accounts_of : Configuration → Playing → List Told → List Account
-accounts_of c x [] = []
-accounts_of c x (it ∷ told) =
-    let next = (by_step c x it.0.action).next in record { choice = it.1; credit = λ party. credit_of c next } ∷ accounts_of c next told
 
 -- A line could not be taken, or not be told as a whole.
 pub record BreaksLine (quiet : Bool) (p : Plan) (x : Playing) (a : Action) (old new : Option (List ℕ)) : Type 0 where

@@ -2,8 +2,8 @@
 
 ghost use Rattle.std.specs.Prelude.{◌≡◌, ◌≢◌, true, false, [], ◌∷◌, ◌++◌, codes};
 ghost use Rattle.std.specs.Fmt.{decimal};
-ghost use Rattle.exec_run.specs.{Examples.at_first, declared.{field.Field.TheVariants.{Workers, Layout}, complaint.Complaint.TheVariants.{Usage, Syntax, Config, TooLong}}, Explains.complaint_line, Log.{calls_end, longer_call, turns_end}, Refusal.{status_of, text_of_complaint, words_of_trace}};
-ghost use Rattle.exec_machine.specs.{declared.{event.{Event.TheVariants.{Enter, Rouse, Stage, Turn}, StepResult.TheVariants.{Refused, Did}}, step.Action.TheVariants.{GoOn, Work}}, Choice.Choice.Plain, Examples.usual, Progress.{Party.{Caller, Worker}, no_stretch}, Text.told_lines};
+ghost use Rattle.exec_run.specs.{Examples.at_first, declared.{field.Field.TheVariants.{Workers, Layout}, complaint.Complaint.TheVariants.{Usage, Syntax, Config, TooLong}}, Explains.complaint_line, Refusal.{status_of, text_of_complaint, words_of_trace}};
+ghost use Rattle.exec_machine.specs.{declared.{event.{Event.TheVariants.{Enter, Rouse, Stage, Turn}, StepResult.TheVariants.{Refused, Did}}, step.Action.TheVariants.{GoOn, Work}}, Choice.Choice.Plain, Examples.usual, Progress.{Party.{Caller, Worker}, is_solo, longer, no_stretch}, Text.told_lines};
 
 /// Complaints, and the status that each ends with.
 pub fn complaints()
@@ -29,27 +29,21 @@ pub fn words()
     ensures one { words_of_trace false ≢ words_of_trace true }
 {}
 
-/// How many quiet lines a caller has made on end: one more by its own, none after a worker's.
-pub fn quiet_lines_of_a_caller()
-    ensures longer { longer_call at_first (GoOn 3) (Did Turn) (record { party = Caller 3; count = 7 }) ≡ record { party = Caller 3; count = 8 } }
-    ensures of_another { longer_call at_first (GoOn 4) (Did Turn) (record { party = Caller 3; count = 7 }) ≡ record { party = Caller 4; count = 1 } }
-    ensures refused { longer_call at_first (GoOn 3) Refused (record { party = Caller 3; count = 7 }) ≡ record { party = Caller 3; count = 7 } }
-    ensures of_a_worker { longer_call at_first (Work 0) (Did Turn) (record { party = Caller 3; count = 7 }) ≡ no_stretch }
-    ensures not_quiet { longer_call at_first (GoOn 3) (Did (Rouse 0)) (record { party = Caller 3; count = 7 }) ≢ record { party = Caller 3; count = 8 } }
+/// How many quiet lines a party has made on end: one more by its own; another party's are its first, and a line that isn't
+/// quiet ends them.
+pub fn quiet_lines()
+    ensures more { longer at_first (GoOn 3) (Did Turn) (record { party = Caller 3; count = 7 }) ≡ record { party = Caller 3; count = 8 } }
+    ensures of_another { longer at_first (GoOn 4) (Did Turn) (record { party = Caller 3; count = 7 }) ≡ record { party = Caller 4; count = 1 } }
+    ensures of_a_worker { longer at_first (Work 0) (Did Turn) (record { party = Caller 3; count = 7 }) ≡ record { party = Worker 0; count = 1 } }
+    ensures refused { longer at_first (GoOn 3) Refused (record { party = Caller 3; count = 7 }) ≡ record { party = Caller 3; count = 7 } }
+    ensures not_quiet { longer at_first (GoOn 3) (Did (Rouse 0)) (record { party = Caller 3; count = 7 }) ≡ no_stretch }
 {}
 
-/// With one worker that doesn't spin, and no request made, the bound is 2,176: a caller may make one quiet line less on end.
-pub fn callers_that_end()
-    ensures below { calls_end usual at_first (record { party = Caller 3; count = 2174 }) (record { action = GoOn 3; said = Did Turn } ∷ []) (Plain ∷ []) ≡ true }
-    ensures for_ever { calls_end usual at_first (record { party = Caller 3; count = 2175 }) (record { action = GoOn 3; said = Did Turn } ∷ []) (Plain ∷ []) ≡ false }
-    ensures of_a_worker { calls_end usual at_first (record { party = Caller 3; count = 2175 }) (record { action = Work 0; said = Did Turn } ∷ []) (Plain ∷ []) ≡ true }
-{}
-
-/// With the same worker and one open file the longest stretch is 2,202: a worker may make one quiet line less on end, and a line of
-/// a caller ends that.
-pub fn turns_that_end()
-    ensures below { turns_end usual at_first (record { party = Worker 0; count = 2200 }) (record { action = Work 0; said = Did Turn } ∷ []) (Plain ∷ []) ≡ true }
-    ensures for_ever { turns_end usual at_first (record { party = Worker 0; count = 2201 }) (record { action = Work 0; said = Did Turn } ∷ []) (Plain ∷ []) ≡ false }
-    ensures not_quiet { turns_end usual at_first (record { party = Worker 0; count = 2201 }) (record { action = Work 0; said = Did (Rouse 0) } ∷ []) (Plain ∷ []) ≡ true }
-    ensures of_a_caller { turns_end usual at_first (record { party = Worker 0; count = 2201 }) (record { action = GoOn 3; said = Did Turn } ∷ []) (Plain ∷ []) ≡ true }
+/// With one worker that doesn't spin, and no request made, the bound is 2,176: a party may make one quiet line less on end.
+pub fn parties_that_end()
+    ensures below { is_solo usual at_first (record { party = Worker 0; count = 2174 }) (record { action = Work 0; said = Did Turn } ∷ []) (Plain ∷ []) ≡ true }
+    ensures for_ever { is_solo usual at_first (record { party = Worker 0; count = 2175 }) (record { action = Work 0; said = Did Turn } ∷ []) (Plain ∷ []) ≡ false }
+    ensures not_quiet { is_solo usual at_first (record { party = Worker 0; count = 2175 }) (record { action = Work 0; said = Did (Rouse 0) } ∷ []) (Plain ∷ []) ≡ true }
+    ensures of_a_caller { is_solo usual at_first (record { party = Worker 0; count = 2175 }) (record { action = GoOn 3; said = Did Turn } ∷ []) (Plain ∷ []) ≡ true }
+    ensures caller_for_ever { is_solo usual at_first (record { party = Caller 3; count = 2175 }) (record { action = GoOn 3; said = Did Turn } ∷ []) (Plain ∷ []) ≡ false }
 {}

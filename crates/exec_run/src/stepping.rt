@@ -25,7 +25,6 @@ use exec_base::io::Output;
 use exec_core::executor::Core;
 use exec_machine::config::{Configuration, ScriptWord};
 use exec_machine::event::{Line, StepResult};
-use exec_machine::laws::paid_lines_are_runs;
 use exec_machine::step::{Action, Step};
 use exec_parts::scripted::Scripted;
 use exec_text::trace::Trace;
@@ -206,8 +205,6 @@ pub fn log_trace<O: Output>(
     ensures why { IfErr result (λ e. BrokeBy e (O.faults sink.old) (O.faults sink.new)) }
     ensures front { IfErr result (λ e. GaveUpTo e quiet (meaning_of trace) (O.given sink.old) (O.given sink.new)) }
 {
-    // Lines that are paid for are a run in which nobody turns for ever and nobody sleeps on work.
-    paid_lines_are_runs();
     let config = config_of(&trace.config);
     let Configuration {
         workers,

@@ -1,11 +1,10 @@
 -- What each telling leaves of the lists of what is to be told: what stands in them stays, but for the awaited one that is told of.
-use Rattle.std.proofs.Common.{◌≡◌, ℕ, zero, suc, ◌==◌, ◌||◌, ◌&&◌, Bool, true, false, not, List, [], ◌∷◌, ◌++◌, filter, cond, set, get_or, Option, Some, None, refl, sym, ap, ◌∙◌, subst, inl, inr, if◌then◌else◌}
+use Rattle.std.proofs.Common.{◌≡◌, ℕ, zero, suc, ◌==◌, ◌||◌, ◌&&◌, Bool, true, false, not, List, [], ◌∷◌, ◌++◌, filter, cond, set, get_or, Option, Some, refl, sym, ap, ◌∙◌, subst, inl, inr, if◌then◌else◌}
 use Rattle.std.proofs.lemmas.Bool.{true≢false, false≢true, or_cases, or_left, or_right, eq-eqb, eqb-true}
 use Rattle.std.specs.Prelude.{◌⊎◌}
 use Rattle.exec_machine.specs.{declared.state.{MailMessage.TheVariants.{CancelRequest, CancelTimer}, Request.Request, Sleeper.Sleeper, Waiting.Waiting}, Requests.{dropped, ends_by_drop}, Tasks.requests_after_drops, Tests.{is_applied, is_resolved}, World.{Common, Task, no_request, request_of, sleeper_of}}
 use Rattle.exec_machine.specs.declared.state.Waiting.TheVariants as waiting
-use Rattle.exec_moves.specs.{Slots.{is_in_slots, numbers_in}, State.Desk, Told.{awaits, awaits_no_more, has_number, lets_go_all, lets_go_request, lets_go_requests, lets_go_sleep, one_completion, one_output, one_result, owes, told_if_ended, told_of_cancel, told_of_drop, told_of_end, told_of_fire, told_of_forward, told_of_timer_forward, waker_of, without_request, without_timer, woken_where_awaited}}
-use Rattle.exec_outcomes.specs.declared.outcome.Outcome.{Outcome}
+use Rattle.exec_moves.specs.{Slots.{is_in_slots, numbers_in}, State.Desk, Told.{awaits, awaits_no_more, has_number, lets_go_all, lets_go_request, lets_go_requests, lets_go_sleep, one_completion, one_output, one_result, owes, told_of_cancel, told_of_drop, told_of_end, told_of_fire, told_of_forward, told_of_timer_forward, waker_of, without_request, without_timer, woken_where_awaited}}
 use Rattle.exec_settled.proofs.TellsEvents.{drops, dropped_observed, one_dropped}
 
 -- LISTS
@@ -110,10 +109,6 @@ module _ (r : ℕ) (it : Request) (d : Desk) where
       by true true here = stays_told _ (more_results d r _ refl refl refl) refl
       by true false true = leaves_told _ (more_wakes d (waker_of it.waiter) _ refl refl refl) refl
       by true false false = leaves_told _ (adds d _ refl refl refl) refl
-
-  pub if_ended_told : (how : Option Outcome) → Told r d (told_if_ended how r it d)
-  if_ended_told None = no_told
-  if_ended_told (Some how) = end_told
 
   pub sent_at_end : it.observed ≡ true → is_applied it.forwarding ≡ true → has_number r (told_of_end r it d).results ≡ true
   sent_at_end = by it.observed (is_applied it.forwarding)

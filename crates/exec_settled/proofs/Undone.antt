@@ -3,8 +3,7 @@ use Rattle.std.proofs.Common.{◌≡◌, ℕ, zero, suc, ◌==◌, ◌&&◌, ◌
 use Rattle.std.proofs.lemmas.Bool.{true≢false, false≢true, ltb-true, leb-true, leb-false, lt-ltb, lt-leb}
 use Rattle.std.specs.Prelude.{nat_le, nat_lt}
 use Rattle.std.specs.List.{list_any, list_all}
-use Rattle.exec_machine.specs.{declared.state.{Request.Request, Sleeper.Sleeper}, Deadlines.{earlier, first_timer, first_until, is_after, is_due}, Tests.{is_asleep, is_empty, is_resolved}, World.{no_request, no_sleeper}}
-use Rattle.exec_books.specs.Listed.{is_in}
+use Rattle.exec_machine.specs.{declared.state.{Request.Request, Sleeper.Sleeper}, Deadlines.{earlier, first_timer, first_until, is_after, is_due}, Tests.{is_asleep, is_resolved}, World.{no_request, no_sleeper}}
 
 and_no : (a b : Bool) → b ≡ false → (a && b) ≡ false
 and_no true b h = h
@@ -53,14 +52,6 @@ none_slept i clock (z ∷ zs) h k = by (is_asleep i z) refl h (λ h j. none_slep
     by false other h later (suc k) = later h k
 
 -- LISTS AND REQUESTS
-
-pub no_member : (k : ℕ) (list : List ℕ) → is_empty list ≡ true → is_in k list ≡ true → ⊥
-no_member k [] h member = false≢true member
-no_member k (q ∷ list) h member = false≢true h
-
-pub empty_of : (b : Bool) → not b ≡ false → b ≡ true
-empty_of true h = refl
-empty_of false h = absurd (true≢false h)
 
 pub not_true : (b : Bool) → (b ≡ true → ⊥) → b ≡ false
 not_true true h = absurd (h refl)

@@ -4,10 +4,10 @@ use Rattle.std.proofs.lemmas.Bool.{false≢true}
 use Rattle.exec_words.specs.declared.word.WaitTarget.{WaitTarget}
 use Rattle.exec_machine.specs.{Tests.is_asleep, World.{no_sleeper, own_of}}
 use Rattle.exec_moves.specs.{declared.place.{InPoll.InPoll, Place.Place}, Credit.one_if, Plays.desk_of, Seen.serves_at, Slots.numbers_in, State.{queue_of, word_of}}
-use Rattle.exec_credit.specs.Minded.{IsShort}
+use Rattle.exec_credit.specs.Spins.{IsShort}
 use Rattle.exec_rest.specs.{Examples.{rested, two_waiting}, Places.waits_on, Rested.{is_in_pool, place_at}}
 use Rattle.exec_settled.proofs.TwoAsleep.{each, is_at, not_at}
-use Rattle.exec_progress.specs.{Going.{KnowsAside, KnowsTail, is_moving, is_of_closing, is_seeking, loads_queues, raises_itself}, Granted.{IsGranted, KnowsRoom}, Paced.IsPaced}
+use Rattle.exec_progress.specs.{Going.{KnowsAside, KnowsTail, has_called_back, is_moving, is_of_closing, is_seeking, loads_queues, raises_itself}, Granted.{IsGranted, KnowsRoom}, Paced.IsPaced}
 use Rattle.exec_progress.proofs.examples.two_at_rest.Goals as goal
 
 abbrev is_begin : Place → Bool
@@ -70,6 +70,7 @@ paced =
       pace = λ i. record {
         loads = not_at loads_queues refl refl i;
         moves = not_at is_moving refl refl i;
+        called_back = not_at has_called_back refl refl i;
         budget = record { budget = omega (arith, spins i); floor = omega (arith, floors i); least = omega (arith, leasts i); most = omega (arith, mosts i); none = λ h. spins i };
         short = each (λ i. IsShort two_waiting.config.spin (place_at two_waiting.config rested i)) tt tt (λ i. tt) i;
       };
@@ -80,7 +81,8 @@ paced =
       };
       narrow = record { narrow = λ j. omega (arith, filled j); low = λ j. omega (arith, given j) };
       outputs = λ i. omega (arith, outputs i);
+      opens = omega arith;
     }
 
 pub returns : goal.returns
-returns c = record { granted = granted; paced = paced; left = refl; stretch = refl }
+returns c = record { granted = granted; paced = paced; left = refl; bound = refl }

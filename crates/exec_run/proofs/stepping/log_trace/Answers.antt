@@ -3,7 +3,7 @@ use Rattle.exec_core.proofs.InTurn.{orderly}
 use Rattle.exec_moves.specs.Plays.{first_playing}
 use Rattle.exec_text.specs.Grammar.{StepFits, StepNames, meaning_of}
 use Rattle.exec_run.specs.{Asking.limits_of, Script.{IsProgram, Runs, held_told, itself, spot_told, words_of_all}, Steps.StandsAt}
-use Rattle.exec_run.proofs.{Told.on_ok, Logs.{BeginsWell, PaidIsRun}, Plans.{known_of, plan_of}, First.first_fair, RunLemmas.{logged, front_logged, all_logged, gave_up}}
+use Rattle.exec_run.proofs.{Told.on_ok, Logs.BeginsWell, Plans.{known_of, plan_of}, RunLemmas.{logged, front_logged, all_logged, gave_up}}
 use Rattle.exec_run.proofs.stepping.log_trace.Goals as goal
 
 pub new-requires-clause-plan : goal.new-requires-clause-plan
@@ -37,16 +37,13 @@ returns-in_err-take_steps-clause-front g c =
       knows = known_of t c.as_slice-scripts.result.now c.requires.fits c.requires.in_range c.requires.few c.as_slice-scripts.ensures.value;
     } in
     let names = subst (All (StepNames (length m.plan.scripts))) (sym c.as_slice-2.ensures.value) c.requires.fits.named.steps in
-    let law : PaidIsRun = record { runs = c.paid_lines_are_runs.ensures.runs; solo = c.paid_lines_are_runs.ensures.solo; asleep = c.paid_lines_are_runs.ensures.asleep } in
     let begins : BeginsWell m.plan = record {
       orderly = orderly itself Runs held_told spot_told m.plan c.in_ok-core.core (first_playing m.plan) stands.ready.stands stands.shows;
       rests = c.in_ok-core.ensures.rests m.plan is;
       paced = c.in_ok-core.ensures.paced m.plan is;
-      minded = c.in_ok-core.ensures.minded m.plan is;
-      fair = first_fair m.plan;
     } in
     gave_up c.from_residual-in_err-take_steps.result c.args.quiet m _ _
-    (front_logged law c.args.quiet m c.as_slice-2.result.now _ _ _ begins c.requires.steps c.as_slice-2.ensures.value
+    (front_logged c.args.quiet m c.as_slice-2.result.now _ _ _ begins c.requires.steps c.as_slice-2.ensures.value
     (c.in_err-take_steps.ensures.breaks m.plan (first_playing m.plan) stands names) refl)
 
 pub returns-clause-ok : goal.returns-clause-ok
@@ -60,16 +57,13 @@ returns-clause-ok g c =
       knows = known_of t c.as_slice-scripts.result.now c.requires.fits c.requires.in_range c.requires.few c.as_slice-scripts.ensures.value;
     } in
     let names = subst (All (StepNames (length m.plan.scripts))) (sym c.as_slice-2.ensures.value) c.requires.fits.named.steps in
-    let law : PaidIsRun = record { runs = c.paid_lines_are_runs.ensures.runs; solo = c.paid_lines_are_runs.ensures.solo; asleep = c.paid_lines_are_runs.ensures.asleep } in
     let begins : BeginsWell m.plan = record {
       orderly = orderly itself Runs held_told spot_told m.plan c.in_ok-core.core (first_playing m.plan) stands.ready.stands stands.shows;
       rests = c.in_ok-core.ensures.rests m.plan is;
       paced = c.in_ok-core.ensures.paced m.plan is;
-      minded = c.in_ok-core.ensures.minded m.plan is;
-      fair = first_fair m.plan;
     } in
     on_ok c.flush_all.result
-    (logged _ _ _ _ _ law c.args.quiet m c.as_slice-2.result.now c.take_steps.new.core _ _ _ begins c.requires.steps c.as_slice-2.ensures.value
+    (logged _ _ _ _ _ c.args.quiet m c.as_slice-2.result.now c.take_steps.new.core _ _ _ begins c.requires.steps c.as_slice-2.ensures.value
     (c.in_ok-take_steps.ensures.leads m.plan (first_playing m.plan) stands names) c.flush_all.ensures.same)
 
 pub returns-clause-front : goal.returns-clause-front
@@ -83,14 +77,11 @@ returns-clause-front g c =
       knows = known_of t c.as_slice-scripts.result.now c.requires.fits c.requires.in_range c.requires.few c.as_slice-scripts.ensures.value;
     } in
     let names = subst (All (StepNames (length m.plan.scripts))) (sym c.as_slice-2.ensures.value) c.requires.fits.named.steps in
-    let law : PaidIsRun = record { runs = c.paid_lines_are_runs.ensures.runs; solo = c.paid_lines_are_runs.ensures.solo; asleep = c.paid_lines_are_runs.ensures.asleep } in
     let begins : BeginsWell m.plan = record {
       orderly = orderly itself Runs held_told spot_told m.plan c.in_ok-core.core (first_playing m.plan) stands.ready.stands stands.shows;
       rests = c.in_ok-core.ensures.rests m.plan is;
       paced = c.in_ok-core.ensures.paced m.plan is;
-      minded = c.in_ok-core.ensures.minded m.plan is;
-      fair = first_fair m.plan;
     } in
     gave_up c.flush_all.result c.args.quiet m _ _
-    (all_logged _ _ _ _ _ law c.args.quiet m c.as_slice-2.result.now c.take_steps.new.core _ _ _ begins c.requires.steps c.as_slice-2.ensures.value
+    (all_logged _ _ _ _ _ c.args.quiet m c.as_slice-2.result.now c.take_steps.new.core _ _ _ begins c.requires.steps c.as_slice-2.ensures.value
     (c.in_ok-take_steps.ensures.leads m.plan (first_playing m.plan) stands names) c.flush_all.ensures.same)

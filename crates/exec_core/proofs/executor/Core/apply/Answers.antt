@@ -1,11 +1,10 @@
 use Rattle.std.proofs.Common.{sym, ◌∙◌}
-use Rattle.exec_core.proofs.{Enabling.enabled_as, Paying.IsPaid, Playing.{applied, refused}, Taking.on_err}
+use Rattle.exec_core.proofs.{Enabling.enabled_as, Playing.{applied, refused}, Taking.on_err}
 use Rattle.exec_core.proofs.executor.Core.apply.Goals as goal
 
 pub returns-then-not-may_take-clause-applies : goal.returns-then-not-may_take-clause-applies
 returns-then-not-may_take-clause-applies g c = λ p x shows carries.
-    let paid : IsPaid = record { kept = c.a_step_is_minded.ensures.kept; falls = c.a_step_is_minded.ensures.falls; fair = c.minded_is_fair.ensures } in
-    refused g.B.Body.left g.B.Scripted.runs g.B.Scripted.holds g.B.Scripted.spot g.B.Body.name_of paid p x c.args.self.now c.args.action c.requires.ready.1.stands (sym c.may_take.ensures ∙ c.if-not-may_take.true) shows
+    refused g.B.Body.left g.B.Scripted.runs g.B.Scripted.holds g.B.Scripted.spot g.B.Body.name_of p x c.args.self.now c.args.action c.requires.ready.1.stands (sym c.may_take.ensures ∙ c.if-not-may_take.true) shows
 
 pub returns-then-not-may_take-clause-ready : goal.returns-then-not-may_take-clause-ready
 returns-then-not-may_take-clause-ready g c = λ p ready carries. ready
@@ -28,8 +27,7 @@ returns-in_err-event-clause-spent g c = on_err c.from_residual.result _ c.in_err
 
 pub returns-clause-applies : goal.returns-clause-applies
 returns-clause-applies g c = λ p x shows carries.
-    let paid : IsPaid = record { kept = c.a_step_is_minded.ensures.kept; falls = c.a_step_is_minded.ensures.falls; fair = c.minded_is_fair.ensures } in
-    applied g.B.Body.left g.B.Scripted.runs g.B.Scripted.holds g.B.Scripted.spot g.B.Body.name_of paid p x c.args.self.now c.take.new.self c.args.action c.in_ok-event.event c.args.body c.requires.ready.1.stands c.in_ok-event.ensures.stands.0 shows c.in_ok-event.ensures.keeps
+    applied g.B.Body.left g.B.Scripted.runs g.B.Scripted.holds g.B.Scripted.spot g.B.Body.name_of p x c.args.self.now c.take.new.self c.args.action c.in_ok-event.event c.args.body c.requires.ready.1.stands c.in_ok-event.ensures.stands.0 shows c.in_ok-event.ensures.keeps
     carries (c.in_ok-event.ensures.takes p shows.config shows.performs)
 
 pub returns-clause-ready : goal.returns-clause-ready

@@ -1,6 +1,6 @@
 use Rattle.std.proofs.Common.{◌≡◌, ◌≤◌, ◌++◌, ◌∷◌, [], replicate, length, false, refl, sym, ap, subst, ◌∙◌, arith}
 use Rattle.exec_core.specs.{Configs.configuration_of, Firsts.{AllBegin, IsFirst}}
-use Rattle.exec_core.proofs.{Beginning.free_caller, CoreFirsts.with_store, Pacing.first_turns, Powers.in_range, Steady.{first_rests, first_steady}, Started.{first_minded, first_ready, first_shown, free_many, one_more_free}}
+use Rattle.exec_core.proofs.{Beginning.free_caller, CoreFirsts.with_store, Pacing.first_turns, Powers.in_range, Steady.first_rests, Started.{first_ready, first_shown, free_many, one_more_free}}
 use Rattle.exec_core.proofs.executor.Core.new.Goals as goal
 
 pub first_workers-requires-clause-few : goal.first_workers-requires-clause-few
@@ -48,9 +48,4 @@ returns-clause-rests g c = λ p plan.
 pub returns-clause-paced : goal.returns-clause-paced
 returns-clause-paced g c = λ p plan.
     let range = in_range (configuration_of c.args.config.now c.args.iters_per_us c.args.files c.args.sockets) c.requires.config in
-    first_turns g.B.Body.left g.B.Scripted.runs g.B.Scripted.holds g.B.Scripted.spot p _ (subst (λ x. x.spin.budget ≤ x.spin.most) (sym plan.config) range.spins) (returns-clause-ready g c p plan).stands (returns-clause-begins g c p plan)
-
-pub returns-clause-minded : goal.returns-clause-minded
-returns-clause-minded g c = λ p plan lone scripts played.
-    let range = in_range (configuration_of c.args.config.now c.args.iters_per_us c.args.files c.args.sockets) c.requires.config in
-    first_minded p lone scripts played (c.a_step_is_minded.ensures.first p lone (subst (λ x. x.spin.budget ≤ x.spin.most) (sym plan.config) range.spins)) (first_steady p)
+    first_turns g.B.Body.left g.B.Scripted.runs g.B.Scripted.holds g.B.Scripted.spot p _ (subst (λ x. x.spin.budget ≤ x.spin.most) (sym plan.config) range.spins) (subst (λ x. x.files ≤ 64) (sym plan.config) range.files) (returns-clause-ready g c p plan).stands (returns-clause-begins g c p plan)
