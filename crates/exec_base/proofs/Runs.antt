@@ -1,14 +1,13 @@
 -- No id is given twice, over any calls on a slab.
-use Rattle.std.proofs.Common.{◌≡◌, ℕ, ◌+◌, ◌^◌, ◌<◌, List, [], ◌∷◌, length, set, if◌then◌else◌, Option, Some, None, is_some, Bool, true, false, ltb, refl, sym, ap, subst, ◌∙◌, inl, inr, arith}
+use Rattle.std.proofs.Common.{◌≡◌, ℕ, ◌+◌, ◌^◌, ◌<◌, List, [], ◌∷◌, length, set, if◌then◌else◌, Option, Some, None, is_some, Bool, true, false, ltb, refl, ap, subst, ◌∙◌, inl, inr, arith}
 use Rattle.std.proofs.lemmas.List.{get_or_default, get_or_past, get_or-set_same}
-use Rattle.std.proofs.lemmas.Bool.Decides.{eqb_tells}
 use Rattle.exec_base.specs.declared.slab.Id.{Id}
 use Rattle.exec_base.specs.declared.slab.Slot.{Slot}
 use Rattle.exec_base.specs.declared.slab.Slot.TheVariants.{Live, Vacant, Retired}
 use Rattle.exec_base.specs.Slab.{Slab, slot_at, value_at, generation_of, next_id, inserted, filled, removed, freed, written, IsPast}
 use Rattle.exec_base.specs.SlabLayout.{Lacks, AreVacant}
 use Rattle.exec_base.specs.SlabRuns.{Change, Insert, Remove, Write, IsNew, NoneTwice, empty_from, insert_at, after, given_then, ids_given}
-use Rattle.exec_base.proofs.Slots.{some_of_if, ltb_tells, vacant_within, AreVacant-set, AreVacant-push, Lacks-live, IsLiveAt-from_value, live_within, was_live, Changed, Changed-set, Changed-push, Changed-write, Fills, NextIs, TakesId-fill, new-from_fill, past-free, past-write}
+use Rattle.exec_base.proofs.Slots.{some_of_if, ltb_tells, vacant_within, AreVacant-set, Lacks-live, IsLiveAt-from_value, live_within, was_live, Changed, Changed-set, Changed-push, Changed-write, Fills, NextIs, TakesId-fill, new-from_fill, past-free, past-write}
 
 module _ {T : Type 0} where
   -- the generation of a slot is one of 64 bits
@@ -22,11 +21,7 @@ module _ {T : Type 0} where
     pub generations : (j : ℕ) → HasGeneration (slot_at s j)
 
   generations-changed : (old new : Slab T) (i : ℕ) (slot : Slot T) → Changed old new i slot → HasGeneration slot → ((j : ℕ) → HasGeneration (slot_at old j)) → (j : ℕ) → HasGeneration (slot_at new j)
-  generations-changed old new i slot changed has all j =
-      elim (eqb_tells j i) [
-        | inl e ↦ subst HasGeneration (sym (ap (λ (n : ℕ). slot_at new n) e.1 ∙ changed.here)) has
-        | inr e ↦ subst HasGeneration (sym (changed.there j e.1)) (all j)
-      ]
+  generations-changed = grind arith
 
   -- an insert
   pub record Inserts (s new : Slab T) (id : Id) (v : T) : Type 0 where
@@ -39,13 +34,7 @@ module _ {T : Type 0} where
       let named = rw past at (some_of_if _ _ _ next) in
       let changed = Changed-push s (filled s [] v) (Live s.first v) refl refl in
       let has : s.first < 2 ^ 64 = subst HasGeneration past (sound.generations (length s.slots)) in
-      rw (← named) (record {
-        fills = record { was = past; changed = changed };
-        sound = record {
-          vacant_ones = AreVacant-push s.slots s.vacant (Live s.first v) sound.vacant_ones;
-          generations = generations-changed s (filled s [] v) (length s.slots) (Live s.first v) changed has sound.generations;
-        };
-      })
+      grind arith
   inserts s (i ∷ rest) v id is sound next =
       let are = rw is at sound.vacant_ones in
       let within = vacant_within s.slots i are.0.generation are.0.is in
@@ -100,13 +89,7 @@ module _ {T : Type 0} where
       let fits : id.generation < 2 ^ 64 = subst HasGeneration was.1 (sound.generations id.index) in
       let changed = Changed-set s (removed s id) id.index (freed id.generation) refl refl within in
       let lacks = Lacks-live s.slots s.vacant id.index id.generation live.value live.is sound.vacant_ones in
-      record {
-        sound = record {
-          vacant_ones = vacant-freed s.slots s.vacant id.index id.generation within lacks sound.vacant_ones;
-          generations = generations-changed s (removed s id) id.index (freed id.generation) changed (has-freed None id.generation) sound.generations;
-        };
-        past = λ other past. (past-free s (removed s id) id was.0 fits changed was.1 other).1 past;
-      }
+      grind (arith, vacant-freed, generations-changed, has-freed, past-free)
 
   keeps-write : (s : Slab T) (id : Id) (v : T) (b : Bool) → is_some (value_at s id) ≡ b → IsSound s → Keeps s (if b then written s id v else s)
   keeps-write s id v false is sound = keeps-same s sound
@@ -123,9 +106,7 @@ module _ {T : Type 0} where
       }
 
   keeps : (s : Slab T) (c : Change T) → IsSound s → Keeps s (after s c)
-  keeps s (Insert value) sound = keeps-insert s value (next_id s) refl sound
-  keeps s (Remove id) sound = keeps-remove s id (is_some (value_at s id)) refl sound
-  keeps s (Write id value) sound = keeps-write s id value (is_some (value_at s id)) refl sound
+  keeps = grind (arith, keeps-insert, keeps-remove, keeps-write)
 
   -- the ids of later calls are new, and an insert gives one that isn't past
   abbrev pub AreNew : Slab T → List Id → Type 0

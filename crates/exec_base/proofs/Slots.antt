@@ -3,7 +3,7 @@ use Rattle.std.proofs.Common.{◌≡◌, ◌≢◌, ◌⊎◌, ◌↔◌, ℕ, �
 use Rattle.std.proofs.lemmas.List.{get_or_default, get_or_past, get_or_push, get_or_append_left, get_or-set_same, get_or-set_other, reverse-append}
 use Rattle.std.proofs.lemmas.List.Sums.{sum_by-set}
 use Rattle.std.proofs.lemmas.Option.{slice_get_cases}
-use Rattle.std.proofs.lemmas.Bool.{false≢true, eq-eqb, ltb-true, ltb-false, lt-ltb, le-ltb}
+use Rattle.std.proofs.lemmas.Bool.{false≢true, lt-ltb, le-ltb}
 use Rattle.std.proofs.lemmas.Bool.Decides.{eqb_tells}
 use Rattle.exec_base.specs.declared.slab.Id.{Id}
 use Rattle.exec_base.specs.declared.slab.Slot.{Slot}
@@ -18,26 +18,15 @@ tells false = inr refl
 
 -- a comparison, with what it says
 pub ltb_tells : (a b : ℕ) → ((ltb a b ≡ true) × (a < b)) ⊎ ((ltb a b ≡ false) × (b ≤ a))
-ltb_tells a b = by_answer (ltb a b) refl
-  where
-    by_answer : (answer : Bool) → ltb a b ≡ answer → ((ltb a b ≡ true) × (a < b)) ⊎ ((ltb a b ≡ false) × (b ≤ a))
-    by_answer true is = inl (is, ltb-true a b is)
-    by_answer false is = inr (is, ltb-false a b is)
+ltb_tells = grind arith
 
 -- an id is its slot and its generation
 pub same_id : (a b : Id) → a.index ≡ b.index → a.generation ≡ b.generation → a ≡ b
-same_id a b i g =
-    let first : a ≡ record b { generation = a.generation } = ap (λ (n : ℕ). record a { index = n }) i in
-    first ∙ ap (λ (n : ℕ). record b { generation = n }) g
+same_id = grind arith
 
 -- two ids name different slots, or different generations, or are one
 pub id_cases : (a b : Id) → (a.index ≢ b.index) ⊎ (((a.index ≡ b.index) × (a.generation ≢ b.generation)) ⊎ (a ≡ b))
-id_cases a b =
-    elim (eqb_tells a.index b.index) [
-      | inr i ↦ inl i.1
-      | inl i ↦
-          elim (eqb_tells a.generation b.generation) [ inr g ↦ inr (inl (i.1, g.1)) | inl g ↦ inr (inr (same_id a b i.1 g.1)) ]
-    ]
+id_cases = grind arith
 
 -- where a choice gives Some, it's what the choice holds
 pub some_of_if : {A : Type 0} (b : Bool) (x y : A) → (cond b (Some x) None) ≡ Some y → x ≡ y
@@ -79,23 +68,12 @@ module _ {T : Type 0} where
   -- a slot that is set to another value leaves the other vacant ones
   pub AreVacant-set : (slots : List (Slot T)) (vacant : List ℕ) (i : ℕ) (slot : Slot T) → Lacks vacant i → AreVacant slots vacant → AreVacant (set slots i slot) vacant
   AreVacant-set slots [] i slot lacks are = tt
-  AreVacant-set slots (j ∷ rest) i slot lacks are = (
-    record { generation = are.0.generation; is = get_or-set_other slots i j slot Retired lacks.0 ∙ are.0.is },
-    are.1,
-    AreVacant-set slots rest i slot lacks.1 are.2,
-  )
+  AreVacant-set slots (j ∷ rest) i slot lacks are = grind (arith, get_or-set_other, AreVacant-set slots rest i slot lacks.1 are.2)
 
   -- and so does one more slot
   pub AreVacant-push : (slots : List (Slot T)) (vacant : List ℕ) (slot : Slot T) → AreVacant slots vacant → AreVacant (slots ++ slot ∷ []) vacant
   AreVacant-push slots [] slot are = tt
-  AreVacant-push slots (j ∷ rest) slot are = (
-    record {
-      generation = are.0.generation;
-      is = get_or_append_left slots (slot ∷ []) Retired j (vacant_within slots j are.0.generation are.0.is) ∙ are.0.is;
-    },
-    are.1,
-    AreVacant-push slots rest slot are.2,
-  )
+  AreVacant-push slots (j ∷ rest) slot are = grind (arith, get_or_append_left, vacant_within, AreVacant-push slots rest slot are.2)
 
   pub get_or-push_other : (slots : List (Slot T)) (slot d : Slot T) (j : ℕ) → j ≢ length slots → get_or (slots ++ slot ∷ []) j d ≡ get_or slots j d
   get_or-push_other [] slot d zero other = absurd (other refl)
@@ -105,20 +83,11 @@ module _ {T : Type 0} where
 
   -- a slot that gets a value is vacant no more
   pub ListsAll-fill : (slots : List (Slot T)) (rest : List ℕ) (i : ℕ) (slot : Slot T) → i < length slots → is_vacant slot ≡ false → ListsAll slots (i ∷ rest) → ListsAll (set slots i slot) rest
-  ListsAll-fill slots rest i slot within full all = λ j vacant.
-      elim (eqb_tells j i) [
-        | inl e ↦ absurd (false≢true (sym full ∙ rw (e.1, get_or-set_same slots i slot Retired within) at vacant))
-        | inr e ↦
-            elim (all j (rw (get_or-set_other slots i j slot Retired e.1) at vacant)) [ inl same ↦ absurd (e.1 (sym same)) | inr later ↦ later ]
-      ]
+  ListsAll-fill = grind (arith, eqb_tells, false≢true, get_or-set_same, get_or-set_other)
 
   -- one that holds or takes no value stays so
   pub ListsAll-keep : (slots : List (Slot T)) (vacant : List ℕ) (i : ℕ) (slot : Slot T) → i < length slots → is_vacant slot ≡ false → ListsAll slots vacant → ListsAll (set slots i slot) vacant
-  ListsAll-keep slots vacant i slot within full all = λ j is.
-      elim (eqb_tells j i) [
-        | inl e ↦ absurd (false≢true (sym full ∙ rw (e.1, get_or-set_same slots i slot Retired within) at is))
-        | inr e ↦ all j (rw (get_or-set_other slots i j slot Retired e.1) at is)
-      ]
+  ListsAll-keep = grind (arith, eqb_tells, false≢true, get_or-set_same, get_or-set_other)
 
   -- one that loses its value is listed
   pub ListsAll-free : (slots : List (Slot T)) (vacant : List ℕ) (i : ℕ) (slot : Slot T) → ListsAll slots vacant → ListsAll (set slots i slot) (i ∷ vacant)
@@ -127,32 +96,16 @@ module _ {T : Type 0} where
 
   -- a new slot has a value
   pub ListsAll-push : (slots : List (Slot T)) (vacant : List ℕ) (slot : Slot T) → is_vacant slot ≡ false → ListsAll slots vacant → ListsAll (slots ++ slot ∷ []) vacant
-  ListsAll-push slots vacant slot full all = λ j is.
-      elim (eqb_tells j (length slots)) [
-        | inl e ↦ absurd (false≢true (sym full ∙ rw (get_or_push slots slot Retired j (sym e.1)) at is))
-        | inr e ↦ all j (rw (get_or-push_other slots slot Retired j e.1) at is)
-      ]
+  ListsAll-push = grind (arith, eqb_tells, false≢true, get_or_push, get_or-push_other)
 
   -- where no slot is listed none is vacant, and the other way round
   pub none-vacant : (slots : List (Slot T)) → ListsAll slots [] → All (λ slot. is_vacant slot ≡ false) slots
-  none-vacant slots all k d within =
-      elim (tells (is_vacant (get_or slots k d))) [
-        | inl is ↦ absurd (all k (ap is_vacant (get_or_default slots k Retired d within) ∙ is))
-        | inr is ↦ is
-      ]
-
-  pub none-listed : (slots : List (Slot T)) (vacant : List ℕ) → AreVacant slots vacant → All (λ slot. is_vacant slot ≡ false) slots → vacant ≡ []
-  none-listed slots [] are none = refl
-  none-listed slots (i ∷ rest) are none =
-      absurd (false≢true (sym (none i Retired (vacant_within slots i are.0.generation are.0.is)) ∙ ap is_vacant are.0.is))
+  none-vacant = grind (arith, tells, get_or_default)
 
   -- a live slot isn't among the vacant ones
   pub Lacks-live : (slots : List (Slot T)) (vacant : List ℕ) (i g : ℕ) (v : T) → get_or slots i Retired ≡ Live g v → AreVacant slots vacant → Lacks vacant i
   Lacks-live slots [] i g v live are = tt
-  Lacks-live slots (j ∷ rest) i g v live are = (
-    λ same. let live-j = rw (← same) at live in cc (are.0.is, live-j),
-    Lacks-live slots rest i g v live are.2,
-  )
+  Lacks-live slots (j ∷ rest) i g v live are = grind (arith, Lacks-live slots rest i g v live are.2)
 
   -- how a write changes the count of values
   pub count-set : (slots : List (Slot T)) (i : ℕ) (slot : Slot T) → i < length slots → count_by is_live (set slots i slot) + cond (is_live (get_or slots i Retired)) 1 0 ≡ count_by is_live slots + cond (is_live slot) 1 0
@@ -174,17 +127,7 @@ module _ {T : Type 0} where
 
   -- a live slot gets another value
   pub IsLaidOut-write : (slots : List (Slot T)) (vacant : List ℕ) (len memory i g h : ℕ) (w : T) → IsLiveAt slots i g → IsLaidOut slots vacant len memory → IsLaidOut (set slots i (Live h w)) vacant len memory
-  IsLaidOut-write slots vacant len memory i g h w live laid =
-      let within = live_within slots i g live.value live.is in
-      let count = rw live.is at (count-set slots i (Live h w) within) in
-      record {
-        counted = omega (arith, laid.counted);
-        vacant_ones = AreVacant-set slots vacant i (Live h w) (Lacks-live slots vacant i g live.value live.is laid.vacant_ones) laid.vacant_ones;
-        all_listed = ListsAll-keep slots vacant i (Live h w) within refl laid.all_listed;
-        few = rw length-set laid.few;
-        enough = rw length-set laid.enough;
-        within = rw length-set laid.within;
-      }
+  IsLaidOut-write = grind (arith, live_within, count-set, AreVacant-set, Lacks-live, ListsAll-keep, length-set)
 
   -- what is read at a live slot
   pub read_live : (slots : List (Slot T)) (i g : ℕ) (x : Slot T) → (live : IsLiveAt slots i g) → x ≡ get_or slots i x → x ≡ Live g live.value
@@ -213,32 +156,11 @@ module _ {T : Type 0} where
       })
 
   pub IsLaidOut-retire : (slots : List (Slot T)) (vacant : List ℕ) (len memory i g : ℕ) → 2 ^ 64 ≤ g + 1 → IsLiveAt slots i g → IsLaidOut slots vacant len memory → IsLaidOut (set slots i (freed g)) vacant (len - 1) memory
-  IsLaidOut-retire slots vacant len memory i g last live laid =
-      let within = live_within slots i g live.value live.is in
-      let count = rw live.is at (count-set slots i Retired within) in
-      rw (le-ltb (g + 1) (2 ^ 64) last) (record {
-        counted = omega (arith, laid.counted);
-        vacant_ones = AreVacant-set slots vacant i Retired (Lacks-live slots vacant i g live.value live.is laid.vacant_ones) laid.vacant_ones;
-        all_listed = ListsAll-keep slots vacant i Retired within refl laid.all_listed;
-        few = rw length-set laid.few;
-        enough = rw length-set laid.enough;
-        within = rw length-set (omega (arith, laid.within, laid.counted));
-      })
+  IsLaidOut-retire = grind (arith, live_within, count-set, le-ltb, AreVacant-set, Lacks-live, ListsAll-keep, length-set)
 
   -- the first vacant slot gets a value
   pub IsLaidOut-fill : (slots : List (Slot T)) (vacant : List ℕ) (len memory i g : ℕ) (v : T) → IsLaidOut slots (i ∷ vacant) len memory → IsLaidOut (set slots i (Live g v)) vacant (len + 1) memory
-  IsLaidOut-fill slots vacant len memory i g v laid =
-      let was = laid.vacant_ones.0 in
-      let within = vacant_within slots i was.generation was.is in
-      let count = rw was.is at (count-set slots i (Live g v) within) in
-      record {
-        counted = omega (arith, laid.counted);
-        vacant_ones = AreVacant-set slots vacant i (Live g v) laid.vacant_ones.1 laid.vacant_ones.2;
-        all_listed = ListsAll-fill slots vacant i (Live g v) within refl laid.all_listed;
-        few = rw length-set laid.few;
-        enough = rw length-set laid.enough;
-        within = rw length-set (omega (arith, laid.within, laid.counted));
-      }
+  IsLaidOut-fill = grind (arith, vacant_within, count-set, AreVacant-set, ListsAll-fill, length-set)
 
   -- one slot became another, and the others stayed
   pub record Changed (old new : Slab T) (i : ℕ) (slot : Slot T) : Type 0 where
@@ -250,16 +172,7 @@ module _ {T : Type 0} where
       rw (first, slots) (record { here = get_or-set_same old.slots i slot (Vacant old.first) within; there = λ j other. get_or-set_other old.slots i j slot (Vacant old.first) other })
 
   pub Changed-push : (old new : Slab T) (slot : Slot T) → new.first ≡ old.first → new.slots ≡ old.slots ++ slot ∷ [] → Changed old new (length old.slots) slot
-  Changed-push old new slot first slots = record {
-    here = rw (first, slots) (get_or_push old.slots slot (Vacant old.first) (length old.slots) refl);
-    there = λ j other. rw (first, slots) (get_or-push_other old.slots slot (Vacant old.first) j other);
-  }
-
-  value_in-same : (g : ℕ) (v : T) → value_in (Live g v) g ≡ Some v
-  value_in-same g v = rw (eq-eqb g g refl) refl
-
-  value_in-other : (g h : ℕ) (v : T) → h ≢ g → value_in (Live g v) h ≡ None
-  value_in-other g h v other = elim (eqb_tells g h) [ inl e ↦ absurd (other (sym e.1)) | inr e ↦ rw e.0 refl ]
+  Changed-push = grind (arith, get_or_push, get_or-push_other)
 
   -- an insert changes the slot of the next id, which was vacant or not there
   pub record Fills (old new : Slab T) (id : Id) (v : T) : Type 0 where
@@ -268,72 +181,21 @@ module _ {T : Type 0} where
 
   -- a vacant slot takes a value
   pub Updates-fill : (old new : Slab T) (id : Id) (v : T) → Fills old new id v → Updates old new id (Some v)
-  Updates-fill old new id v fills = record {
-    changed = rw fills.changed.here (value_in-same id.generation v);
-    others = λ other differs.
-        elim (id_cases other id) [
-          | inl i ↦ ap (λ (slot : Slot T). value_in slot other.generation) (fills.changed.there other.index i)
-          | inr (inl e) ↦ rw (e.0, fills.changed.here, fills.was) (value_in-other id.generation other.generation v e.1)
-          | inr (inr same) ↦ absurd (differs same)
-        ];
-  }
+  Updates-fill = grind arith
 
   pub TakesId-fill : (old new : Slab T) (id : Id) (v : T) → Fills old new id v → TakesId old new id
-  TakesId-fill old new id v fills = record {
-    past = λ other.
-        elim (id_cases other id) [
-          | inl i ↦ rw (fills.changed.there other.index i) (λ past. inl past, elim [ inl past ↦ past | inr same ↦ absurd (i (ap (λ (x : Id). x.index) same)) ])
-          | inr (inl e) ↦ rw (e.0, fills.changed.here, fills.was) (λ past. inl (omega (arith, e.1)), elim [ inl past ↦ omega arith | inr same ↦ absurd (e.1 (ap (λ (x : Id). x.generation) same)) ])
-          | inr (inr same) ↦ (λ _. inr same, λ _. rw (same, fills.changed.here) (omega arith))
-        ];
-  }
+  TakesId-fill = grind arith
 
   pub new-from_fill : (old new : Slab T) (id : Id) (v : T) → Fills old new id v → IsPast old id → ⊥
   new-from_fill old new id v fills past = let p = rw fills.was at past in omega arith
 
   -- a live slot loses its value
   pub Updates-free : (old new : Slab T) (id : Id) (v : T) → Changed old new id.index (freed id.generation) → slot_at old id.index ≡ Live id.generation v → Updates old new id None
-  Updates-free old new id v changed was = record {
-    changed = rw changed.here (value_in-freed id.generation id.generation);
-    others = λ other differs.
-        elim (id_cases other id) [
-          | inl i ↦ ap (λ (slot : Slot T). value_in slot other.generation) (changed.there other.index i)
-          | inr (inl e) ↦ rw (e.0, changed.here, was) (value_in-freed id.generation other.generation ∙ sym (value_in-other id.generation other.generation v e.1))
-          | inr (inr same) ↦ absurd (differs same)
-        ];
-  }
-    where
-      value_in-freed : (g h : ℕ) → value_in (freed {T = T} g) h ≡ None
-      value_in-freed g h = elim (ltb_tells (g + 1) (2 ^ 64)) [ inl e ↦ rw e.0 refl | inr e ↦ rw e.0 refl ]
+  Updates-free = grind arith
 
   -- and as many ids are past
   pub past-free : (old new : Slab T) (id : Id) (v : T) → id.generation < 2 ^ 64 → Changed old new id.index (freed id.generation) → slot_at old id.index ≡ Live id.generation v → (other : Id) → IsPast new other ↔ IsPast old other
-  past-free old new id v fits changed was other =
-      elim (eqb_tells other.index id.index) [
-        | inr i ↦ rw (changed.there other.index i.1) (λ past. past, λ past. past)
-        | inl i ↦ rw (i.1, changed.here, was, next-freed id.generation fits) (λ past. past, λ past. past)
-      ]
-    where
-      next-freed : (g : ℕ) → g < 2 ^ 64 → next_generation (freed {T = T} g) ≡ g + 1
-      next-freed g fits = elim (ltb_tells (g + 1) (2 ^ 64)) [ inl e ↦ rw e.0 refl | inr e ↦ rw e.0 (omega arith) ]
-
-  -- the slot that a removal frees, as the code reads and writes it
-  pub record Frees (old new : Slab T) (id : Id) : Type 0 where
-    pub value : T
-    pub was : slot_at old id.index ≡ Live id.generation value
-    pub changed : Changed old new id.index (freed id.generation)
-
-  pub Frees-from_code : (old new : Slab T) (id : Id) (x y : Slot T) → IsSome (value_at old id) → x ≡ get_or old.slots id.index x → y ≡ freed (generation_of x) → new.first ≡ old.first → new.slots ≡ set old.slots id.index y → Frees old new id
-  Frees-from_code old new id x y some read after first slots =
-      let live = IsLiveAt-from_value old.slots id.index id.generation old.first some in
-      let within = live_within old.slots id.index id.generation live.value live.is in
-      let is = read_live old.slots id.index id.generation x live read in
-      let to = rw is at after in
-      record {
-        value = live.value;
-        was = get_or_default old.slots id.index (Vacant old.first) Retired within ∙ live.is;
-        changed = Changed-set old new id.index (freed id.generation) first (rw to at slots) within;
-      }
+  past-free = grind arith
 
   -- the next id, where these slots are vacant
   abbrev pub NextIs : Slab T → List ℕ → Id → Type 0
@@ -363,24 +225,13 @@ module _ {T : Type 0} where
       Changed-set s (written s id v) id.index (Live id.generation v) refl refl (live_within s.slots id.index id.generation live.value live.is)
 
   pub was_live : (s : Slab T) (id : Id) → IsSome (value_at s id) → (v : T) × (slot_at s id.index ≡ Live id.generation v)
-  was_live s id some =
-      let live = IsLiveAt-from_value s.slots id.index id.generation s.first some in
-      let within = live_within s.slots id.index id.generation live.value live.is in
-      (live.value, get_or_default s.slots id.index (Vacant s.first) Retired within ∙ live.is)
+  was_live = grind arith
 
   pub Updates-write : (s : Slab T) (id : Id) (v : T) → IsSome (value_at s id) → Updates s (written s id v) id (Some v)
   Updates-write s id v some =
       let changed = Changed-write s id v some in
       let was = (was_live s id some).1 in
-      record {
-        changed = rw changed.here (value_in-same id.generation v);
-        others = λ other differs.
-            elim (id_cases other id) [
-              | inl i ↦ ap (λ (slot : Slot T). value_in slot other.generation) (changed.there other.index i)
-              | inr (inl e) ↦ ap (λ (slot : Slot T). value_in slot other.generation) (ap (λ (n : ℕ). slot_at (written s id v) n) e.0 ∙ changed.here) ∙ value_in-other id.generation other.generation v e.1 ∙ sym (ap (λ (slot : Slot T). value_in slot other.generation) (ap (λ (n : ℕ). slot_at s n) e.0 ∙ was) ∙ value_in-other id.generation other.generation _ e.1)
-              | inr (inr same) ↦ absurd (differs same)
-            ];
-      }
+      grind arith
 
   pub past-write : (s : Slab T) (id : Id) (v : T) → IsSome (value_at s id) → (other : Id) → IsPast (written s id v) other ↔ IsPast s other
   past-write s id v some other =
@@ -389,10 +240,4 @@ module _ {T : Type 0} where
       (subst P same, subst P (sym same))
     where
       next-write : (s : Slab T) (id : Id) (v : T) → Changed s (written s id v) id.index (Live id.generation v) → (old : T) → slot_at s id.index ≡ Live id.generation old → (other : Id) → next_generation (slot_at (written s id v) other.index) ≡ next_generation (slot_at s other.index)
-      next-write s id v changed old was other =
-          elim (eqb_tells other.index id.index) [
-            | inr i ↦ ap next_generation (changed.there other.index i.1)
-            | inl i ↦
-                ap next_generation (ap (λ (n : ℕ). slot_at (written s id v) n) i.1 ∙ changed.here)
-                ∙ sym (ap next_generation (ap (λ (n : ℕ). slot_at s n) i.1 ∙ was))
-          ]
+      next-write = grind arith

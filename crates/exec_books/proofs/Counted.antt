@@ -18,19 +18,13 @@ module _ (c : Configuration) (w : World) (i : ℕ) (e : Event) (choice : Choice)
   undated_then k file = elim (each_request c (own_of w i) w.common i e choice may k) [ inl it ↦ it.undated (held.undated k) file | inr new ↦ (new.undated file, new.timer) ]
 
   pub let_go_then : (k : ℕ) → (request_of late.common k).released ≡ true → is_resolved (request_of late.common k).phase ≡ true
-  let_go_then k released = elim (each_request c (own_of w i) w.common i e choice may k) [
-    | inl it ↦ it.let_go (held.let_go k) released
-    | inr new ↦ absurd (true≢false (sym released ∙ new.released))
-  ]
+  let_go_then = grind (arith, each_request, true≢false)
 
   pub counted_then : (j : ℕ) → (own_of late j).unreleased ≡ unreleased_of j late.common.requests
   counted_then j = by (j == i) refl
     where
       by : (b : Bool) → (j == i) ≡ b → (own_of late j).unreleased ≡ unreleased_of j late.common.requests
-      by true is =
-          let same = eqb-true j i is in
-          subst (λ n. (own_of late n).unreleased ≡ unreleased_of n late.common.requests) (sym same)
-          (ap (λ (x : Books). x.unreleased) (own_own c w i e choice (omega (arith, owns, here))) ∙ counted_here c (own_of w i) w.common i e choice may own (held.counted i))
+      by true is = grind (arith, eqb-true, own_own, counted_here)
       by false is =
           let apart = eqb-false j i is in (other_own c w i e choice j apart).unreleased ∙ held.counted j ∙ sym (counted_elsewhere c (own_of w i) w.common i e choice may own j apart)
 

@@ -1,29 +1,19 @@
 -- What an event of a worker leaves of each request and each sleeper, also of those that it makes.
-use Rattle.std.proofs.Common.{◌≡◌, ℕ, Bool, true, false, Option, None, Some, refl, sym, ap, ◌∙◌, subst, inl, inr}
-use Rattle.std.proofs.lemmas.Bool.{true≢false, false≢true}
+use Rattle.std.proofs.Common.{◌≡◌, ℕ, Bool, true, false, Option, None, Some, refl, inl, arith}
+use Rattle.std.proofs.lemmas.Bool.{true≢false}
 use Rattle.std.specs.Prelude.{◌⊎◌}
 use Rattle.exec_outcomes.specs.declared.outcome.{Outcome.Outcome}
-use Rattle.exec_machine.specs.{declared.{config.{Configuration.Configuration, ScriptWord.ScriptWord}, event.Event.Event, state.{Forwarding.TheVariants.Unsent, Operation.Operation, Request.Request, Sleeper.Sleeper}}, After.{common_after, polled}, Allowed.Allowed, Choice.Choice, Deadlines.new_sleeper, Requests.{asked_now, new_request, operation_asked, operation_or_none, resolved_if, with_seen}, Tests.is_of_file, Words.{next_word, polled_task}, World.{Common, Own as Books, no_request, no_sleeper, request_of, sleeper_of}}
-use Rattle.exec_machine.specs.declared.config.ScriptWord.TheVariants as word
+use Rattle.exec_machine.specs.{declared.{config.{Configuration.Configuration, ScriptWord.ScriptWord}, event.Event.Event, state.{Forwarding.TheVariants.Unsent, Operation.Operation, Request.Request, Sleeper.Sleeper}}, After.{common_after}, Allowed.Allowed, Choice.Choice, Requests.{asked_now, new_request, operation_asked, operation_or_none, resolved_if, with_seen}, Tests.is_of_file, Words.{next_word, polled_task}, World.{Common, Own as Books, request_of, sleeper_of}}
 use Rattle.exec_machine.specs.declared.event.Event.TheVariants as event
 use Rattle.exec_books.proofs.{CountedLeaves.leaves_each, CountedTurns.{Naps, Turns, each_push, napped, turned}}
 
 -- WHAT A WORD ASKS FOR: an operation of a file has no deadline
 
 asked_undated : (c : Configuration) (sampled : ℕ) (w : ScriptWord) → is_of_file (operation_or_none (operation_asked c sampled w)).kind ≡ true → (operation_or_none (operation_asked c sampled w)).deadline ≡ None
-asked_undated c sampled (word.Poll l) file = absurd (false≢true file)
-asked_undated c sampled (word.Send s n) file = absurd (false≢true file)
-asked_undated c sampled (word.Recv s n) file = absurd (false≢true file)
-asked_undated c sampled (word.Fill s n) file = absurd (false≢true file)
-asked_undated c sampled (word.Connect s) file = absurd (false≢true file)
-asked_undated c sampled _ file = refl
+asked_undated = grind arith
 
 seen_undated : (o : Operation) (s : Common) → (is_of_file o.kind ≡ true → o.deadline ≡ None) → is_of_file (with_seen o s).kind ≡ true → (with_seen o s).deadline ≡ None
-seen_undated o s was = by (is_of_file o.kind) refl
-  where
-    by : (b : Bool) → is_of_file o.kind ≡ b → is_of_file (with_seen o s).kind ≡ true → (with_seen o s).deadline ≡ None
-    by true file again = rw file (was file)
-    by false other again = let same : with_seen o s ≡ o = rw other refl in absurd (false≢true (sym other ∙ ap (λ (x : Operation). is_of_file x.kind) (sym same) ∙ again))
+seen_undated = grind arith
 
 -- A NEW REQUEST OR SLEEPER
 
@@ -61,17 +51,10 @@ module _ (c : Configuration) (me : Books) (s : Common) (i : ℕ) where
 
   pub each_request : (e : Event) (choice : Choice) → Allowed c me s i e choice → (k : ℕ)
       → (Turns e k (request_of s k) (request_of (common_after c me s i e choice) k)) ⊎ (Fresh i (request_of (common_after c me s i e choice) k))
-  each_request (event.Admit r kind outcome) choice h k = elim (each_push no_request s.requests (made outcome) k) [
-    | inl is ↦ inl (subst (Turns (event.Admit r kind outcome) k (request_of s k)) (sym is) turned)
-    | inr is ↦ inr (subst (Fresh i) (sym is.0) (made_is outcome))
-  ]
-  each_request e choice h k = inl (no_made e choice h refl k)
+  each_request = grind (arith, each_push, turned, made_is, no_made)
 
   pub each_sleeper : (e : Event) (choice : Choice) → Allowed c me s i e choice → (z : ℕ)
       → (Naps e z (sleeper_of s z) (sleeper_of (common_after c me s i e choice) z)) ⊎ (Bedded i (sleeper_of (common_after c me s i e choice) z))
-  each_sleeper (event.Timer q until) choice h z = elim (each_push no_sleeper s.sleepers (new_sleeper until i (polled me)) z) [
-    | inl is ↦ inl (subst (Naps (event.Timer q until) z (sleeper_of s z)) (sym is) napped)
-    | inr is ↦ inr (subst (Bedded i) (sym is.0) (record { worker = refl; forwarding = refl }))
-  ]
+  each_sleeper (event.Timer q until) choice h z = grind (arith, each_push, napped)
   each_sleeper (event.Admit r kind outcome) choice h z = inl napped
   each_sleeper e choice h z = inl ((leaves_each c me s i e choice h refl).sleepers z)

@@ -1,11 +1,10 @@
 -- What each event of a worker leaves of the requests and the sleepers that were there.
-use Rattle.std.proofs.Common.{◌≡◌, ℕ, ◌==◌, ◌&&◌, Bool, true, false, not, List, [], ◌∷◌, Option, Some, None, refl, sym, ap, subst, inl, inr, get_or, set, if◌then◌else◌}
+use Rattle.std.proofs.Common.{◌≡◌, ℕ, ◌==◌, ◌&&◌, Bool, true, false, not, List, [], ◌∷◌, Option, Some, None, refl, sym, ap, subst, inl, inr, get_or, set, if◌then◌else◌, arith}
 use Rattle.std.proofs.lemmas.Bool.{true≢false, false≢true, cases_Bool, eq-eqb}
-use Rattle.std.specs.Prelude.{unwrap_or}
 use Rattle.exec_outcomes.specs.declared.outcome.{OpResult.OpResult, Outcome.Outcome}
 use Rattle.exec_outcomes.specs.Outcomes.{refuses_hint}
 use Rattle.exec_machine.specs.{declared.{config.Configuration.Configuration, event.Event.Event, state.{Forwarding.TheVariants.{Applied, Sent}, MailMessage.MailMessage, Next.Next, Request.Request, RequestPhase.RequestPhase, Sleeper.Sleeper, Waiting.Waiting}}}
-use Rattle.exec_machine.specs.{After.{common_after, polled}, Allowed.Allowed, Choice.{Choice, Payer, Choice.{Plain, Passes, Pays, Posts}, Payer.{ByRequest, BySleeper, ByAct, ByCall, ByStop}}, Closing.{after_clear, after_next, ends_by_clear, gone_with, with_cleared}, Deadlines.{enrolled, expired, fires_at}, Mail.{after_message, after_post, after_sending, is_left_out, is_root_message, posted}, Requests.{after_reap, staged, common_after_refusal, dropped, flown, granted, judged_of, reaped}, Same.is_none, Tasks.{after_over, pended_phase, after_payment, after_pend, after_wake, after_word, removed, requests_after_drops, sleepers_after_waking_up}, Tests.{is_applied, is_gated, is_landed_with, is_queued, is_resolved, set_seat, set_task}, World.{Common, Own as Books, no_request, no_sleeper, request_of, seat_of, sleeper_of, task_of}}
+use Rattle.exec_machine.specs.{After.{common_after, polled}, Allowed.Allowed, Choice.{Choice, Payer, Choice.{Plain, Passes, Pays, Posts}}, Closing.{after_clear, after_next, ends_by_clear, gone_with, with_cleared}, Deadlines.{expired}, Mail.{after_message, after_post, after_sending, is_left_out, is_root_message, posted}, Requests.{after_reap, staged, common_after_refusal, dropped, flown, granted, judged_of, reaped}, Tasks.{after_over, pended_phase, after_payment, after_pend, after_wake, after_word, removed, requests_after_drops, sleepers_after_waking_up}, Tests.{is_applied, is_gated, is_landed_with, is_queued, is_resolved, set_seat, set_task}, World.{Common, Own as Books, no_request, no_sleeper, request_of, seat_of, sleeper_of, task_of}}
 use Rattle.exec_machine.specs.declared.event.Event.TheVariants as event
 use Rattle.exec_machine.specs.declared.state.MailMessage.TheVariants as message
 use Rattle.exec_machine.specs.declared.state.Next.TheVariants as next
@@ -48,11 +47,7 @@ leaves = record { requests = λ k. turned; sleepers = λ z. napped }
 
 -- nothing of it changes but tasks, opens and the like
 beside : {e : Event} {s late : Common} → late.requests ≡ s.requests → late.sleepers ≡ s.sleepers → Leaves e s late
-beside {e} {s} requests sleepers =
-    record {
-      requests = λ k. subst (λ rs. Turns e k (request_of s k) (get_or rs k no_request)) (sym requests) turned;
-      sleepers = λ z. subst (λ zs. Naps e z (sleeper_of s z) (get_or zs z no_sleeper)) (sym sleepers) napped;
-    }
+beside = grind arith
 
 pub set_turns : (e : Event) (rs : List Request) (r : ℕ) (y : Request) → Turns e r (get_or rs r no_request) y → (k : ℕ) → Turns e k (get_or rs k no_request) (get_or (set rs r y) k no_request)
 set_turns e rs r y here = each_set no_request (Turns e) rs r y (λ j apart x. turned) here (λ j. turned)
@@ -99,22 +94,14 @@ module _ (e : Event) (s : Common) (i : ℕ) where
   pends t = either (task_of s t).cleared (after_over s i t) (set_task s t (record (task_of s t) { phase = pended_phase (task_of s t).phase })) (over t) (beside refl refl)
 
   by_next : (n : Next) → Leaves e s (after_next s i n)
-  by_next next.Free = leaves
-  by_next (next.Joins r) = beside refl refl
-  by_next next.ClosesQueue = beside refl refl
-  by_next next.ClosesMailbox = beside refl refl
+  by_next = grind arith
 
   by_word : (polls : Option ℕ) → Leaves e s (after_word s polls)
   by_word None = leaves
   by_word (Some t) = beside refl refl
 
   pays : (polls : Option ℕ) (payer : Payer) → Leaves e s (after_payment s polls payer)
-  pays polls (ByRequest r) = by_request r _ (marked (same refl refl refl refl refl) refl refl)
-  pays polls (BySleeper z) = by_sleeper z _ (noted refl refl refl (λ h. h))
-  pays None ByAct = leaves
-  pays (Some t) ByAct = beside refl refl
-  pays polls ByCall = leaves
-  pays polls ByStop = leaves
+  pays = grind (arith, by_request, marked, same, by_sleeper, noted, leaves, beside)
 
   wakes : (me : Books) (t : ℕ) (choice : Choice) → Leaves e s (after_wake me s t choice)
   wakes me t (Pays payer) = leaves_then (pays me.polls payer) (beside refl refl)
@@ -143,11 +130,7 @@ module _ (e : Event) (s : Common) (i : ℕ) where
       }
 
   gone : (z : ℕ) (x : Sleeper) → Naps e z x (gone_with i x)
-  gone z x = by (x.worker == i)
-    where
-      by : (b : Bool) → Naps e z x (if b then removed x else x)
-      by true = removed_naps e z x
-      by false = napped
+  gone = grind arith
 
 clears : (e : Event) (s : Common) (i t : ℕ) → Leaves e s (after_clear s i t)
 clears e s i t =
@@ -192,10 +175,7 @@ module _ (c : Configuration) (me : Books) (s : Common) (i : ℕ) where
   leaves_each (event.Grant r outcome) choice h calm =
       let x = request_of s r in
       leaves_then (by_request r (granted outcome x) (grant_turns (event.Grant r outcome) r x outcome (gated_open x.phase h.1.1.0))) (beside refl refl)
-  leaves_each (event.Enrol r outcome) choice h calm =
-      let x = request_of s r in
-      by_request r (enrolled (fires_at c me (unwrap_or x.operation.deadline 0)) outcome x)
-      (enrol_turns (event.Enrol r outcome) r x (fires_at c me (unwrap_or x.operation.deadline 0)) outcome (queued_open x.phase h.1.1.1.0) (not_true (is_none x.operation.deadline) h.1.1.1.1.1.0))
+  leaves_each (event.Enrol r outcome) choice h calm = grind (arith, by_request, enrol_turns, queued_open, not_true)
   leaves_each (event.Stage r) choice h calm =
       let x = request_of s r in by_request r (staged s x) (goes_on (same refl refl refl refl refl) (queued_open x.phase h.1.1.1.0) refl refl)
   leaves_each event.Enter choice h calm =
@@ -204,9 +184,7 @@ module _ (c : Configuration) (me : Books) (s : Common) (i : ℕ) where
   leaves_each (event.Expire r outcome) choice h calm = by_request r (expired outcome (request_of s r)) (expire_turns (event.Expire r outcome) r (request_of s r) outcome)
   leaves_each (event.Cancel r) choice h calm = by_request r (record (request_of s r) { cancel_staged = true }) (marked (same refl refl refl refl refl) refl refl)
   leaves_each (event.Orphan r outcome) choice h calm = by_request r (dropped (request_of s r)) (drop_turns (event.Orphan r outcome) r (request_of s r))
-  leaves_each (event.Release r) choice h calm =
-      by_request r (record (request_of s r) { released = true })
-      (record { worker = refl; released = λ no. absurd (true≢false no); timed = λ was. was; undated = λ was. was; let_go = λ was gone. h.1.1.1.0; sent = λ told. inl told })
+  leaves_each (event.Release r) choice h calm = grind (arith, by_request, true≢false, gone)
   leaves_each (event.Fire z) choice h calm = by_sleeper z (record (sleeper_of s z) { fired = true }) (fired_naps (event.Fire z) z (sleeper_of s z))
   leaves_each (event.Send to m) choice h calm = leaves_then (sends s to me.polls m) (by_post (event.Send to m) (after_sending s me.polls m) i to m choice)
   leaves_each (event.Apply m) choice h calm = leaves_then (applies (event.Apply m) s i m me) (beside refl refl)

@@ -3,7 +3,6 @@ use Rattle.std.proofs.Common.{◌≡◌, ◌≢◌, ℕ, zero, suc, ◌<◌, ◌
 use Rattle.std.proofs.lemmas.Bool.{true≢false, false≢true, eq-eqb, ne_eqb, ltb-true, ltb-false}
 use Rattle.std.proofs.lemmas.List.{get_or_past}
 use Rattle.std.proofs.lemmas.List.Sums.{sum_by-cons, sum_by-set, sum_by_push}
-use Rattle.std.specs.Prelude.{nat_lt}
 use Rattle.exec_outcomes.specs.declared.outcome.{Outcome.Outcome}
 use Rattle.exec_machine.specs.{declared.{config.Configuration.Configuration, event.Event.Event, state.Request.Request}, After.{common_after, own_after}, Allowed.Allowed, Choice.Choice, Requests.asked_now, World.{Common, Own as Books, no_request, request_of}}
 use Rattle.exec_machine.specs.declared.event.Event.TheVariants as event
@@ -38,11 +37,7 @@ nobody j = no_and (0 == j)
 
 -- a request that isn't over for good is there
 pub within_by : (s : Common) (r : ℕ) → (request_of s r).released ≡ false → r < length s.requests
-within_by s r kept = by (nat_lt r (length s.requests)) refl
-  where
-    by : (b : Bool) → nat_lt r (length s.requests) ≡ b → r < length s.requests
-    by true less = ltb-true r (length s.requests) less
-    by false more = absurd (true≢false (sym (ap (λ (x : Request). x.released) (get_or_past s.requests r no_request (ltb-false r (length s.requests) more))) ∙ kept))
+within_by = grind (arith, ltb-true, true≢false, get_or_past, ltb-false)
 
 not_true : (b : Bool) → not b ≡ true → b ≡ false
 not_true false h = refl
@@ -66,21 +61,12 @@ module _ (c : Configuration) (me : Books) (s : Common) (i : ℕ) where
 
   -- a request that is made counts for its worker
   made_counts : (outcome : Option Outcome) (j : ℕ) (b : Bool) → (i == j) ≡ b → unreleased_of j (s.requests ++ made c me s i outcome ∷ []) ≡ unreleased_of j s.requests + cond b 1 0
-  made_counts outcome j b is =
-      let it = made_is c me s i outcome in
-      let tells : is_counted j (made c me s i outcome) ≡ b = rw (it.worker, it.released) (and_true (i == j) b is) in
-      sum_by_push (λ y. cond (is_counted j y) 1 0) s.requests (made c me s i outcome) ∙ ap (λ x. unreleased_of j s.requests + cond x 1 0) tells
+  made_counts = grind (arith, made_is, made, and_true, sum_by_push)
 
   -- and one that is released doesn't any more
   released_counts : (r j : ℕ) (b : Bool) → (request_of s r).released ≡ false → ((request_of s r).worker == j) ≡ b
       → unreleased_of j (set s.requests r (record (request_of s r) { released = true })) + cond b 1 0 ≡ unreleased_of j s.requests
-  released_counts r j b kept whose =
-      let x = request_of s r in
-      let y : Request = record x { released = true } in
-      let was : is_counted j x ≡ b = rw kept (and_true (x.worker == j) b whose) in
-      let gone : is_counted j y ≡ false = no_and (x.worker == j) in
-      let sums = sum_by-set (λ z. cond (is_counted j z) 1 0) s.requests r y no_request (within_by s r kept) in
-      ap (λ n. unreleased_of j (set s.requests r y) + cond n 1 0) (sym was) ∙ sums ∙ ap (λ n. unreleased_of j s.requests + cond n 1 0) gone ∙ omega arith
+  released_counts = grind (arith, and_true, no_and, sum_by-set, within_by)
 
   -- an event counts for its own worker alone
   pub counted_elsewhere : (e : Event) (choice : Choice) → Allowed c me s i e choice → IsOwn s i e → (j : ℕ) → j ≢ i → unreleased_of j (common_after c me s i e choice).requests ≡ unreleased_of j s.requests

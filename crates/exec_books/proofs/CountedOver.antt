@@ -1,29 +1,21 @@
 -- A worker that has ended has nothing after an event of a worker that hadn't.
-use Rattle.std.proofs.Common.{◌≡◌, ◌≢◌, ℕ, ◌<◌, ◌==◌, ◌&&◌, Bool, true, false, not, length, refl, sym, ap, ◌∙◌, subst, inl, inr, arith}
+use Rattle.std.proofs.Common.{◌≡◌, ◌≢◌, ℕ, ◌<◌, ◌&&◌, Bool, true, false, not, length, refl, sym, ap, ◌∙◌, subst, inl, inr, arith}
 use Rattle.std.proofs.lemmas.Bool.{true≢false, eqb-true, ne_eqb}
-use Rattle.exec_machine.specs.{declared.{config.Configuration.Configuration, event.Event.Event, state.Sleeper.Sleeper}, After.after, Allowed.Allowed, Choice.Choice, Closing.gone_with, Tasks.removed, Tests.{has_ended, is_asleep}, World.{Own as Books, World, no_sleeper, own_of, seat_of, sleeper_of}}
+use Rattle.exec_machine.specs.{declared.{config.Configuration.Configuration, event.Event.Event, state.Sleeper.Sleeper}, After.after, Allowed.Allowed, Choice.Choice, Closing.gone_with, Tests.{has_ended, is_asleep}, World.{Own as Books, World, no_sleeper, own_of, seat_of, sleeper_of}}
 use Rattle.exec_machine.specs.declared.event.Event.TheVariants as event
 use Rattle.exec_rest.proofs.Events.{seats_after}
 use Rattle.exec_books.specs.Booked.{IsBooked}
-use Rattle.exec_books.proofs.{CountedFresh.each_sleeper, CountedOwn.{other_own, own_own}, CountedTurns.{each_map, removed_awake}}
+use Rattle.exec_books.proofs.{CountedFresh.each_sleeper, CountedOwn.{other_own, own_own}, CountedTurns.{each_map}}
 
 not_for : (a f r : Bool) → a ≡ false → (a && not f && not r) ≡ false
 not_for a f r is = rw is refl
 
 nobody : (i : ℕ) → is_asleep i no_sleeper ≡ false
-nobody i = by (0 == i)
-  where
-    by : (b : Bool) → (b && not true && not true) ≡ false
-    by true = refl
-    by false = refl
+nobody = grind arith
 
 -- who ends takes its sleepers with it
 gone_awake : (i : ℕ) (x : Sleeper) → is_asleep i (gone_with i x) ≡ false
-gone_awake i x = by (x.worker == i) refl
-  where
-    by : (b : Bool) → (x.worker == i) ≡ b → is_asleep i (gone_with i x) ≡ false
-    by true is = let there : removed x ≡ gone_with i x = rw is refl in subst (λ y. is_asleep i y ≡ false) there (removed_awake i x)
-    by false is = let there : x ≡ gone_with i x = rw is refl in subst (λ y. is_asleep i y ≡ false) there (not_for (x.worker == i) x.fired x.removed is)
+gone_awake = grind arith
 
 module _ (c : Configuration) (w : World) (i : ℕ) (choice : Choice) (owns : length w.workers ≡ length w.common.seats) (here : i < length w.common.seats) (held : IsBooked w) where
   abbrev HasNone : World → ℕ → Type 0
@@ -36,13 +28,7 @@ module _ (c : Configuration) (w : World) (i : ℕ) (choice : Choice) (owns : len
   )
 
   by_another : (e : Event) → Allowed c (own_of w i) w.common i e choice → (j : ℕ) → j ≢ i → HasNone w j → HasNone (after c w i e choice) j
-  by_another e may j apart was = ((other_own c w i e choice j apart).unreleased ∙ was.0, still)
-    where
-      still : (z : ℕ) → is_asleep j (sleeper_of (after c w i e choice).common z) ≡ false
-      still z = elim (each_sleeper c (own_of w i) w.common i e choice may z) [
-        | inl it ↦ it.asleep j (was.1 z)
-        | inr new ↦ let y = sleeper_of (after c w i e choice).common z in not_for (y.worker == j) y.fired y.removed (ne_eqb y.worker j (λ is. apart (sym is ∙ new.worker)))
-      ]
+  by_another = grind (arith, other_own, each_sleeper, not_for, ne_eqb)
 
   -- It has to be told that the worker itself hasn't ended: no test of an event says so.
   pub over_live : (e : Event) → Allowed c (own_of w i) w.common i e choice → has_ended (seat_of w.common i).phase ≡ false

@@ -1,11 +1,11 @@
 -- Seats after an event of a worker: none is lost, and a message stays under way but where it is applied.
-use Rattle.std.proofs.Common.{◌≡◌, ℕ, ◌<◌, ◌≤◌, ◌&&◌, Bool, true, false, List, [], ◌∷◌, ◌++◌, length, Option, None, Some, refl, sym, ap, ◌∙◌, subst, inl, inr, arith, get_or, set, if◌then◌else◌}
-use Rattle.std.proofs.lemmas.Bool.{true≢false, false≢true, cases_Bool, or_cases, or_left, or_right, eqb-true}
+use Rattle.std.proofs.Common.{◌≡◌, ℕ, ◌<◌, ◌≤◌, ◌&&◌, Bool, true, false, List, [], ◌∷◌, ◌++◌, length, Option, None, Some, refl, sym, ap, subst, inl, inr, arith, get_or, set, if◌then◌else◌}
+use Rattle.std.proofs.lemmas.Bool.{false≢true, cases_Bool, or_cases, or_left, or_right}
 use Rattle.std.proofs.lemmas.List.{get_or_append_left, get_or-set_same, length-append, length-set}
 use Rattle.std.specs.Prelude.{drop}
 use Rattle.std.specs.List.{list_any}
 use Rattle.exec_machine.specs.declared.{config.Configuration.Configuration, event.Event.Event, state.{MailMessage.MailMessage, Next.Next}}
-use Rattle.exec_machine.specs.{After.common_after, Allowed.Allowed, Choice.{Choice, Payer, Choice.{Plain, Passes, Pays, Posts}, Payer.{ByRequest, BySleeper, ByAct, ByCall, ByStop}}, Closing.{after_clear, after_next, ends_by_clear, with_closed_mailbox}, Deadlines.rest_until, Mail.{after_apply, after_message, after_post, after_sending, is_first_message, is_left_out, is_root_message, posted}, Same.same_message, Tasks.{after_payment, after_pend, after_wake, after_word, new_seat}, World.{Common, Own as Books, Seat, no_seat, seat_of, task_of}}
+use Rattle.exec_machine.specs.{After.common_after, Allowed.Allowed, Choice.{Choice, Choice.{Plain, Passes, Pays, Posts}}, Closing.{after_clear, after_next, ends_by_clear, with_closed_mailbox}, Deadlines.rest_until, Mail.{after_apply, after_message, after_post, after_sending, is_first_message, is_left_out, is_root_message, posted}, Same.same_message, Tasks.{after_pend, after_wake, after_word}, World.{Common, Own as Books, Seat, no_seat, seat_of, task_of}}
 use Rattle.exec_machine.specs.declared.event.Event.TheVariants as event
 use Rattle.exec_machine.specs.declared.state.MailMessage.TheVariants as message
 use Rattle.exec_machine.specs.declared.state.Next.TheVariants as next
@@ -15,14 +15,6 @@ use Rattle.exec_books.specs.Booked.{IsUnderWay}
 use Rattle.exec_books.proofs.CountedTurns.{each_set}
 
 -- A MESSAGE IN AN INBOX
-
-same_is : (m n : MailMessage) → same_message m n ≡ true → m ≡ n
-same_is message.Root message.Root h = refl
-same_is (message.ForwardRequest m) (message.ForwardRequest n) h = ap message.ForwardRequest (eqb-true m n h)
-same_is (message.ForwardTimer m) (message.ForwardTimer n) h = ap message.ForwardTimer (eqb-true m n h)
-same_is (message.CancelRequest m) (message.CancelRequest n) h = ap message.CancelRequest (eqb-true m n h)
-same_is (message.CancelTimer m) (message.CancelTimer n) h = ap message.CancelTimer (eqb-true m n h)
-same_is m n h = absurd (true≢false (sym h))
 
 in_front : (p : MailMessage → Bool) (xs more : List MailMessage) → list_any p xs ≡ true → list_any p (xs ++ more) ≡ true
 in_front p [] more h = absurd (false≢true h)
@@ -37,11 +29,7 @@ in_last p m (x ∷ xs) is = or_right (p x) (list_any p (xs ++ m ∷ [])) (in_las
 
 -- the first was another one
 in_rest : (m n : MailMessage) (xs : List MailMessage) (seat : Seat) → seat.inbox ≡ xs → same_message m n ≡ false → is_first_message n seat ≡ true → list_any (same_message m) xs ≡ true → list_any (same_message m) (drop 1 xs) ≡ true
-in_rest m n [] seat are other first h = absurd (false≢true h)
-in_rest m n (x ∷ xs) seat are other first h = elim (or_cases (same_message m x) (list_any (same_message m) xs) h) [
-  | inl this ↦ let is : same_message n x ≡ true = sym (rw are refl) ∙ first in absurd (true≢false (sym this ∙ ap (same_message m) (sym (same_is n x is)) ∙ other))
-  | inr later ↦ later
-]
+in_rest = grind arith
 
 -- COMMON PARTS
 
@@ -51,14 +39,10 @@ pub record Way (m : MailMessage) (s late : Common) : Type 0 where
   pub under : (j : ℕ) → j < length s.seats → IsUnderWay m (seat_of s j) → IsUnderWay m (seat_of late j)
 
 way_then : {m : MailMessage} {s late later : Common} → Way m s late → Way m late later → Way m s later
-way_then a b =
-    let more = a.many in let yet = b.many in
-    record { many = omega (arith, more, yet); under = λ j within h. b.under j (omega (arith, within, more)) (a.under j within h) }
+way_then = grind arith
 
 seats_same : {m : MailMessage} {s late : Common} → late.seats ≡ s.seats → Way m s late
-seats_same {m} {s} {late} same =
-    let long : length late.seats ≡ length s.seats = ap length same in
-    record { many = omega (arith, long); under = λ j within h. subst (λ xs. IsUnderWay m (get_or xs j no_seat)) (sym same) h }
+seats_same = grind arith
 
 seat_set : {m : MailMessage} {s : Common} (i : ℕ) (y : Seat) → (IsUnderWay m (seat_of s i) → IsUnderWay m y) → Way m s (record s { seats = set s.seats i y })
 seat_set {m} {s} i y here =
@@ -75,34 +59,14 @@ word_same : (s : Common) (polls : Option ℕ) → (after_word s polls).seats ≡
 word_same s None = refl
 word_same s (Some t) = refl
 
-payment_same : (s : Common) (polls : Option ℕ) (payer : Payer) → (after_payment s polls payer).seats ≡ s.seats
-payment_same s polls (ByRequest r) = refl
-payment_same s polls (BySleeper z) = refl
-payment_same s None ByAct = refl
-payment_same s (Some t) ByAct = refl
-payment_same s polls ByCall = refl
-payment_same s polls ByStop = refl
-
 wake_same : (me : Books) (s : Common) (t : ℕ) (choice : Choice) → (after_wake me s t choice).seats ≡ s.seats
-wake_same me s t (Pays payer) = payment_same s me.polls payer
-wake_same me s t Plain = refl
-wake_same me s t Passes = refl
-wake_same me s t (Posts payer left_out) = refl
+wake_same = grind arith
 
 pub sending_same : (s : Common) (polls : Option ℕ) (m : MailMessage) → (after_sending s polls m).seats ≡ s.seats
-sending_same s None m = refl
-sending_same s (Some t) message.Root = refl
-sending_same s (Some t) (message.ForwardRequest r) = refl
-sending_same s (Some t) (message.ForwardTimer z) = refl
-sending_same s (Some t) (message.CancelRequest r) = refl
-sending_same s (Some t) (message.CancelTimer z) = refl
+sending_same = grind arith
 
 message_same : (me : Books) (s : Common) (m : MailMessage) → (after_message me s m).seats ≡ s.seats
-message_same me s message.Root = refl
-message_same me s (message.ForwardRequest r) = refl
-message_same me s (message.ForwardTimer z) = refl
-message_same me s (message.CancelRequest r) = refl
-message_same me s (message.CancelTimer z) = refl
+message_same = grind arith
 
 pend_same : (s : Common) (i t : ℕ) → (after_pend s i t).seats ≡ s.seats
 pend_same s i t = elim (cases_Bool (task_of s t).cleared) [ inl over ↦ rw over refl | inr stays ↦ rw stays refl ]
@@ -144,11 +108,7 @@ takes_from m _ = false
 
 module _ (c : Configuration) (me : Books) (s : Common) (i : ℕ) (m : MailMessage) where
   dedicated_way : (t j : ℕ) (choice : Choice) → Way m s (common_after c me s i (event.Dedicated t j) choice)
-  dedicated_way t j choice =
-      record {
-        many = omega (arith, length-append s.seats (new_seat false ∷ []));
-        under = λ n within h. subst (IsUnderWay m) (sym (get_or_append_left s.seats (new_seat false ∷ []) no_seat n within)) h;
-      }
+  dedicated_way = grind (arith, length-append, get_or_append_left)
 
   way : (e : Event) (choice : Choice) → Allowed c me s i e choice → takes_from m e ≡ false → Way m s (common_after c me s i e choice)
   way event.Turn Plain h other = next_way m s i me.next

@@ -1,10 +1,8 @@
 -- What an event leaves of each request and each sleeper, told of one request and one sleeper.
-use Rattle.std.proofs.Common.{◌≡◌, ◌≢◌, ℕ, zero, suc, ◌==◌, ◌&&◌, ◌||◌, Bool, true, false, not, List, [], ◌∷◌, ◌++◌, length, map, Option, None, Some, refl, sym, ap, ◌∙◌, subst, inl, inr, arith, get_or, set}
-use Rattle.std.proofs.lemmas.Bool.{true≢false, false≢true}
+use Rattle.std.proofs.Common.{◌≡◌, ◌≢◌, ℕ, zero, suc, ◌==◌, ◌&&◌, ◌||◌, Bool, true, false, not, List, [], ◌∷◌, ◌++◌, length, map, Option, None, Some, refl, sym, ap, ◌∙◌, inl, inr, arith, get_or, set}
 use Rattle.std.specs.Prelude.{◌⊎◌}
-use Rattle.exec_outcomes.specs.declared.outcome.{OpResult.OpResult, Outcome.{Outcome, TheVariants.Failure}}
-use Rattle.exec_base.specs.declared.error.Error.TheVariants.{Timeout}
-use Rattle.exec_machine.specs.{declared.{event.Event.Event, state.{Forwarding.TheVariants.Sent, Request.Request, RequestPhase.RequestPhase, Sleeper.Sleeper}}, Deadlines.{enrolled, expired}, Requests.{dropped, ends_by_drop, flown, granted, is_cancelled_by_drop, reaped, resolved}, Same.is_none, Tasks.removed, Tests.{is_asleep, is_of_file, is_resolved, is_staged}}
+use Rattle.exec_outcomes.specs.declared.outcome.{OpResult.OpResult, Outcome.{Outcome}}
+use Rattle.exec_machine.specs.{declared.{event.Event.Event, state.{Forwarding.TheVariants.Sent, Request.Request, Sleeper.Sleeper}}, Deadlines.{enrolled, expired}, Requests.{dropped, ends_by_drop, flown, granted, is_cancelled_by_drop, reaped}, Same.is_none, Tasks.removed, Tests.{is_asleep, is_of_file, is_resolved}}
 use Rattle.exec_machine.specs.declared.event.Event.TheVariants as event
 use Rattle.exec_machine.specs.declared.state.MailMessage.TheVariants as message
 use Rattle.exec_machine.specs.declared.state.RequestPhase.TheVariants as phase
@@ -70,15 +68,7 @@ pub turned : {e : Event} {k : ℕ} {x : Request} → Turns e k x x
 turned = record { worker = refl; released = λ calm. refl; timed = λ was. was; undated = λ was. was; let_go = λ was. was; sent = λ h. inl h }
 
 pub turns_then : {e : Event} {k : ℕ} {x y z : Request} → Turns e k x y → Turns e k y z → Turns e k x z
-turns_then a b =
-    record {
-      worker = b.worker ∙ a.worker;
-      released = λ calm. b.released calm ∙ a.released calm;
-      timed = λ was. b.timed (a.timed was);
-      undated = λ was. b.undated (a.undated was);
-      let_go = λ was. b.let_go (a.let_go was);
-      sent = λ h. elim (b.sent h) [ inl mid ↦ a.sent mid | inr told ↦ inr told ];
-    }
+turns_then = grind arith
 
 -- no change of a request changes these
 pub record Same (x y : Request) : Type 0 where
@@ -91,81 +81,30 @@ pub record Same (x y : Request) : Type 0 where
 pub same : {x y : Request} → y.worker ≡ x.worker → y.released ≡ x.released → y.operation.kind ≡ x.operation.kind → y.operation.deadline ≡ x.operation.deadline → y.forwarding ≡ x.forwarding → Same x y
 same worker released kind deadline forwarding = record { worker = worker; released = released; kind = kind; deadline = deadline; sent = λ h. sym forwarding ∙ h }
 
-dated : {x y : Request} → Same x y → Undated x → is_of_file y.operation.kind ≡ true → (y.operation.deadline ≡ None) × (x.timer ≡ None)
-dated a was file = let it = was (ap is_of_file (sym a.kind) ∙ file) in (a.deadline ∙ it.0, it.1)
-
 module _ {e : Event} {k : ℕ} {x y : Request} (a : Same x y) where
   -- its phase and its timer stay
   pub marked : y.phase ≡ x.phase → y.timer ≡ x.timer → Turns e k x y
-  marked stays timer =
-      record {
-        worker = a.worker;
-        released = λ calm. a.released;
-        timed = λ was over. timer ∙ was (ap is_resolved (sym stays) ∙ over);
-        undated = λ was file. let it = dated a was file in (it.0, timer ∙ it.1);
-        let_go = λ was gone. ap is_resolved stays ∙ was (sym a.released ∙ gone);
-        sent = λ h. inl (a.sent h);
-      }
+  marked = grind arith
 
   -- its deadline is off the wheel
   pub untimed : y.phase ≡ x.phase → y.timer ≡ None → Turns e k x y
-  untimed stays none =
-      record {
-        worker = a.worker;
-        released = λ calm. a.released;
-        timed = λ was over. none;
-        undated = λ was file. ((dated a was file).0, none);
-        let_go = λ was gone. ap is_resolved stays ∙ was (sym a.released ∙ gone);
-        sent = λ h. inl (a.sent h);
-      }
+  untimed = grind arith
 
   -- it is over
   pub finished : is_resolved y.phase ≡ true → y.timer ≡ None → Turns e k x y
-  finished over none =
-      record {
-        worker = a.worker;
-        released = λ calm. a.released;
-        timed = λ was late. none;
-        undated = λ was file. ((dated a was file).0, none);
-        let_go = λ was gone. over;
-        sent = λ h. inl (a.sent h);
-      }
+  finished = grind arith
 
   -- it goes on
   pub goes_on : is_resolved x.phase ≡ false → is_resolved y.phase ≡ false → y.timer ≡ x.timer → Turns e k x y
-  goes_on before still timer =
-      record {
-        worker = a.worker;
-        released = λ calm. a.released;
-        timed = λ was over. absurd (true≢false (sym over ∙ still));
-        undated = λ was file. let it = dated a was file in (it.0, timer ∙ it.1);
-        let_go = λ was gone. absurd (true≢false (sym (was (sym a.released ∙ gone)) ∙ before));
-        sent = λ h. inl (a.sent h);
-      }
+  goes_on = grind arith
 
   -- its deadline, which it asks for, goes on the wheel
   pub wheeled : is_resolved x.phase ≡ false → y.phase ≡ x.phase → is_none x.operation.deadline ≡ false → Turns e k x y
-  wheeled before stays asks =
-      record {
-        worker = a.worker;
-        released = λ calm. a.released;
-        timed = λ was over. absurd (true≢false (sym over ∙ ap is_resolved stays ∙ before));
-        undated = λ was file. absurd (true≢false (ap is_none (sym (was (ap is_of_file (sym a.kind) ∙ file)).0) ∙ asks));
-        let_go = λ was gone. ap is_resolved stays ∙ was (sym a.released ∙ gone);
-        sent = λ h. inl (a.sent h);
-      }
+  wheeled = grind arith
 
 module _ (e : Event) (k : ℕ) (r : Request) where
   pub dropped_turns : (ends cancels : Bool) → ends_by_drop r ≡ ends → is_cancelled_by_drop r ≡ cancels → Turns e k r (dropped r)
-  dropped_turns true cancels is so =
-      let y : Request = record (resolved (Failure Timeout) r) { observed = false } in
-      let there : y ≡ dropped r = rw is refl in subst (Turns e k r) there (finished (same refl refl refl refl refl) refl refl)
-  dropped_turns false true is so =
-      let y : Request = record r { observed = false; cancelled = true; timer = None } in
-      let there : y ≡ dropped r = rw (is, so) refl in subst (Turns e k r) there (untimed (same refl refl refl refl refl) refl refl)
-  dropped_turns false false is so =
-      let y : Request = record r { observed = false } in
-      let there : y ≡ dropped r = rw (is, so) refl in subst (Turns e k r) there (marked (same refl refl refl refl refl) refl refl)
+  dropped_turns = grind arith
 
   pub drop_turns : Turns e k r (dropped r)
   drop_turns = dropped_turns (ends_by_drop r) (is_cancelled_by_drop r) refl refl
@@ -187,22 +126,7 @@ module _ (e : Event) (k : ℕ) (r : Request) where
   reap_turns n (Some outcome) before = finished (same refl refl refl refl refl) refl refl
 
   pub flown_turns : (i : ℕ) → Turns e k r (flown i r)
-  flown_turns i = by ((r.worker == i) && is_staged r.phase) refl
-    where
-      by : (b : Bool) → ((r.worker == i) && is_staged r.phase) ≡ b → Turns e k r (flown i r)
-      by true flies =
-          let y : Request = record r { phase = phase.Flying } in
-          let there : y ≡ flown i r = rw flies refl in
-          subst (Turns e k r) there (goes_on (same refl refl refl refl refl) (staged_open r.phase (both (r.worker == i) (is_staged r.phase) flies)) refl refl)
-        where
-          both : (a b : Bool) → (a && b) ≡ true → b ≡ true
-          both true b h = h
-          both false b h = absurd (false≢true h)
-
-          staged_open : (p : RequestPhase) → is_staged p ≡ true → is_resolved p ≡ false
-          staged_open (phase.Resolved o) h = absurd (false≢true h)
-          staged_open _ h = refl
-      by false stays = let there : r ≡ flown i r = rw stays refl in subst (Turns e k r) there turned
+  flown_turns = grind arith
 
 -- ONE SLEEPER
 
@@ -227,10 +151,7 @@ no_and_and true b = refl
 no_and_and false b = refl
 
 awake_then : (w f r : Bool) → (w && not f && not (r || not f)) ≡ false
-awake_then true true r = refl
-awake_then true false true = refl
-awake_then true false false = refl
-awake_then false f r = refl
+awake_then = grind arith
 
 -- one that was taken away is not asleep
 pub removed_awake : (j : ℕ) (x : Sleeper) → is_asleep j (removed x) ≡ false

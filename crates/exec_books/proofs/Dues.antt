@@ -1,34 +1,22 @@
 -- A worker that sleeps does so until what is due next, also after an event of a worker.
-use Rattle.std.proofs.Common.{◌≡◌, ◌≢◌, ℕ, ◌<◌, true, false, length, Option, Some, None, refl, sym, ap, ◌∙◌, subst, inl, inr, get_or, set}
-use Rattle.std.proofs.lemmas.Bool.{false≢true, true≢false, cases_eq, eqb-true}
+use Rattle.std.proofs.Common.{◌≡◌, ◌≢◌, ℕ, ◌<◌, true, false, length, Option, sym, subst, inl, inr, arith}
+use Rattle.std.proofs.lemmas.Bool.{true≢false, cases_eq}
 use Rattle.std.proofs.lemmas.List.{get_or-set_same}
 use Rattle.std.specs.Prelude.{◌⊎◌}
-use Rattle.exec_machine.specs.{declared.{config.Configuration.Configuration, event.Event.Event}, After.{after, common_after}, Allowed.Allowed, Choice.Choice, Deadlines.{is_after, next_due, rest_until}, Same.same_number, Tests.{is_awake, set_seat}, World.{Common, Own as Books, Seat, World, no_seat, own_of, seat_of}}
+use Rattle.exec_machine.specs.{declared.{config.Configuration.Configuration, event.Event.Event}, After.{after, common_after}, Allowed.Allowed, Choice.Choice, Deadlines.{is_after, next_due, rest_until}, Same.same_number, Tests.{is_awake, set_seat}, World.{Common, Own as Books, World, own_of, seat_of}}
 use Rattle.exec_rest.proofs.Events.{seats_after}
 use Rattle.exec_books.specs.Booked.{IsBooked}
 use Rattle.exec_books.proofs.{Own.IsOwn, DuesLists.{HasDue, dues_kept}, DuesAfter.event_dues}
 
 same_moment : (m n : Option ℕ) → same_number m n ≡ true → m ≡ n
-same_moment None None same = refl
-same_moment (Some m) (Some n) same = ap (λ k. Some k) (eqb-true m n same)
-same_moment None (Some n) same = absurd (false≢true same)
-same_moment (Some m) None same = absurd (false≢true same)
+same_moment = grind arith
 
 -- the event that lets it sleep says until when
 sleeps_here : (s : Common) (i : ℕ) (until : Option ℕ) → i < length s.seats → until ≡ next_due s i → is_after s.clock until ≡ true → HasDue (set_seat s i (record (seat_of s i) { rest = rest_until until })) i
-sleeps_here s i until here due ahead asleep =
-    let y : Seat = record (seat_of s i) { rest = rest_until until } in
-    let there : get_or (set s.seats i y) i no_seat ≡ y = get_or-set_same s.seats i y no_seat here in
-    let same : until ≡ next_due (set_seat s i y) i = due ∙ sym (rw there refl) in
-    (ap (λ (z : Seat). z.rest) there ∙ ap rest_until same, subst (λ m. is_after s.clock m ≡ true) same ahead)
+sleeps_here = grind (arith, get_or-set_same)
 
 own_due : (c : Configuration) (me : Books) (s : Common) (i : ℕ) (e : Event) (choice : Choice) → i < length s.seats → is_awake (seat_of s i).rest ≡ true → Allowed c me s i e choice → HasDue (common_after c me s i e choice) i
-own_due c me s i e choice here awake may asleep = elim ((seats_after c me s i e choice i).asleep asleep) [
-  | inl slept ↦ absurd (true≢false (sym awake ∙ slept.0))
-  | inr (own, (until, is)) ↦
-      let told = subst (λ e. Allowed c me s i e choice) is may in
-      subst (λ e. HasDue (common_after c me s i e choice) i) (sym is) (sleeps_here s i until here (same_moment until (next_due s i) told.1.0) told.1.1.0) asleep
-]
+own_due = grind (arith, seats_after, true≢false, sleeps_here, same_moment)
 
 pub dues_then : (c : Configuration) (w : World) (i : ℕ) (e : Event) (choice : Choice) → length w.workers ≡ length w.common.seats → i < length w.common.seats → is_awake (seat_of w.common i).rest ≡ true
     → Allowed c (own_of w i) w.common i e choice → IsOwn w.common i e → IsBooked w

@@ -1,13 +1,12 @@
 -- An event of another worker leaves what is due at a worker that sleeps.
-use Rattle.std.proofs.Common.{◌≡◌, ◌≢◌, ℕ, ◌==◌, Bool, true, false, ◌&&◌, List, [], ◌∷◌, Option, Some, None, refl, sym, ap, ◌∙◌, inl, inr, get_or, set, if◌then◌else◌}
+use Rattle.std.proofs.Common.{◌≡◌, ◌≢◌, ℕ, ◌==◌, Bool, true, false, ◌&&◌, List, [], ◌∷◌, Option, Some, None, refl, sym, ◌∙◌, inl, inr, set, if◌then◌else◌, arith}
 use Rattle.std.proofs.lemmas.Bool.{cases_Bool, eqb-true, ne_eqb}
-use Rattle.std.specs.Prelude.{drop, unwrap_or}
+use Rattle.std.specs.Prelude.{drop}
 use Rattle.exec_outcomes.specs.declared.outcome.{OpResult.OpResult, Outcome.Outcome}
 use Rattle.exec_outcomes.specs.Outcomes.{refuses_hint}
 use Rattle.exec_machine.specs.{declared.{config.Configuration.Configuration, event.Event.Event, state.{MailMessage.MailMessage, Next.Next, Request.Request, Sleeper.Sleeper, Waiting.Waiting}}}
-use Rattle.exec_machine.specs.{After.{common_after, polled}, Choice.{Choice, Payer, Choice.{Plain, Passes, Pays, Posts}, Payer.{ByRequest, BySleeper, ByAct, ByCall, ByStop}}, Closing.{after_clear, after_next, ends_by_clear, gone_with, with_cleared, with_closed_mailbox}, Deadlines.{earlier, enrolled, expired, fires_at, first_timer, first_until, new_sleeper, rest_until}, Mail.{after_message, after_sending}, Requests.{after_reap, asked_now, staged, with_seen, common_after_refusal, dropped, ends_by_drop, flown, granted, is_cancelled_by_drop, judged_of, new_request, reaped, resolved_if}, Tasks.{after_over, pended_phase, after_payment, after_pend, after_wake, after_word, removed, requests_after_drops, sleepers_after_waking_up}, Tests.{is_asleep, is_staged, set_task}, World.{Common, Own as Books, Seat, no_request, request_of, seat_of, sleeper_of, task_of}}
+use Rattle.exec_machine.specs.{After.{common_after, polled}, Choice.{Choice, Payer, Choice.{Plain, Passes, Pays, Posts}}, Closing.{after_clear, after_next, ends_by_clear, gone_with, with_cleared}, Deadlines.{enrolled, expired, first_timer, first_until, rest_until}, Mail.{after_message, after_sending}, Requests.{after_reap, staged, common_after_refusal, dropped, ends_by_drop, flown, granted, is_cancelled_by_drop, judged_of, reaped, resolved_if}, Tasks.{after_over, pended_phase, after_payment, after_pend, after_wake, after_word, requests_after_drops, sleepers_after_waking_up}, Tests.{is_staged, set_task}, World.{Common, Own as Books, Seat, request_of, seat_of, sleeper_of, task_of}}
 use Rattle.exec_machine.specs.declared.event.Event.TheVariants as event
-use Rattle.exec_machine.specs.declared.state.MailMessage.TheVariants as message
 use Rattle.exec_machine.specs.declared.state.Next.TheVariants as next
 use Rattle.exec_machine.specs.declared.state.Waiting.TheVariants as waiting
 use Rattle.exec_machine.specs.declared.state.WorkerPhase.TheVariants as worker
@@ -16,9 +15,7 @@ use Rattle.exec_books.proofs.DuesLists.{Dues, Slept, Timed, beside, by_request, 
 
 -- no change of a request gives it to another worker
 dropped_whose : (r : Request) (ends cancels : Bool) → ends_by_drop r ≡ ends → is_cancelled_by_drop r ≡ cancels → (dropped r).worker ≡ r.worker
-dropped_whose r true cancels is so = rw is refl
-dropped_whose r false true is so = rw (is, so) refl
-dropped_whose r false false is so = rw (is, so) refl
+dropped_whose = grind arith
 
 whose : (r : Request) → (dropped r).worker ≡ r.worker
 whose r = dropped_whose r (ends_by_drop r) (is_cancelled_by_drop r) refl refl
@@ -64,22 +61,10 @@ module _ (c : Configuration) (me : Books) (s : Common) (i k : ℕ) (apart : k �
   -- what a task held
   drops : (held : List ℕ) (rs : List Request) → first_timer k (requests_after_drops i held rs) ≡ first_timer k rs
   drops [] rs = refl
-  drops (r ∷ held) rs = drop_one (drops held) ((get_or rs r no_request).worker == i) refl
-    where
-      drop_one : ((ss : List Request) → first_timer k (requests_after_drops i held ss) ≡ first_timer k ss) → (b : Bool) → ((get_or rs r no_request).worker == i) ≡ b
-          → first_timer k (requests_after_drops i held (if b then set rs r (dropped (get_or rs r no_request)) else rs)) ≡ first_timer k rs
-      drop_one more true own =
-          let it = get_or rs r no_request in
-          more (set rs r (dropped it)) ∙ timer_set k r rs (dropped it) (timed_elsewhere k it (dropped it) (elsewhere it.worker (eqb-true it.worker i own)) (whose it))
-      drop_one more false other = more rs
+  drops (r ∷ held) rs = grind (arith, timer_set, timed_elsewhere, elsewhere, eqb-true, whose, drops held)
 
   wakes_up : (what : Waiting) → first_until k (sleepers_after_waking_up s i what) ≡ first_until k s.sleepers
-  wakes_up (waiting.Timer z) = remove ((sleeper_of s z).worker == i) refl
-    where
-      remove : (b : Bool) → ((sleeper_of s z).worker == i) ≡ b → first_until k (if b then set s.sleepers z (removed (sleeper_of s z)) else s.sleepers) ≡ first_until k s.sleepers
-      remove true own = until_set k z s.sleepers (removed (sleeper_of s z)) (own_sleeper z (removed (sleeper_of s z)) (eqb-true (sleeper_of s z).worker i own) refl)
-      remove false other = refl
-  wakes_up _ = refl
+  wakes_up = grind (arith, until_set, own_sleeper, eqb-true)
 
   over : (t : ℕ) → Dues k s (after_over s i t)
   over t = record { clock = refl; timers = drops (task_of s t).held s.requests; sleepers = wakes_up (task_of s t).waiting; seat = lies (seat_of s k) }
@@ -88,50 +73,26 @@ module _ (c : Configuration) (me : Books) (s : Common) (i k : ℕ) (apart : k �
   pends t = either (task_of s t).cleared (after_over s i t) (set_task s t (record (task_of s t) { phase = pended_phase (task_of s t).phase })) (over t) (beside refl refl refl refl)
 
   after_next_dues : (n : Next) → Dues k s (after_next s i n)
-  after_next_dues next.Free = dues k s
-  after_next_dues (next.Joins r) = beside refl refl refl refl
-  after_next_dues next.ClosesQueue = beside refl refl refl refl
-  after_next_dues next.ClosesMailbox = own_seat (with_closed_mailbox (seat_of s i))
+  after_next_dues = grind (arith, dues, beside, own_seat)
 
   gone : (z : Sleeper) → Slept k z (gone_with i z)
-  gone z m = gone_if (z.worker == i) refl
-    where
-      gone_if : (b : Bool) → (z.worker == i) ≡ b → (if is_asleep k (if b then removed z else z) then earlier (Some (if b then removed z else z).until) m else m) ≡ (if is_asleep k z then earlier (Some z.until) m else m)
-      gone_if true own = slept_elsewhere k z (removed z) (elsewhere z.worker (eqb-true z.worker i own)) refl m
-      gone_if false other = refl
+  gone = grind arith
 
   word : (polls : Option ℕ) → Dues k s (after_word s polls)
   word None = dues k s
   word (Some t) = beside refl refl refl refl
 
   pays : (polls : Option ℕ) (payer : Payer) → Dues k s (after_payment s polls payer)
-  pays polls (ByRequest r) = by_request r _ (λ m. refl)
-  pays polls (BySleeper z) = by_sleeper z _ (λ m. refl)
-  pays None ByAct = dues k s
-  pays (Some t) ByAct = beside refl refl refl refl
-  pays polls ByCall = dues k s
-  pays polls ByStop = dues k s
+  pays = grind (arith, by_request, by_sleeper, dues, beside)
 
   wakes : (t : ℕ) (choice : Choice) → Dues k s (after_wake me s t choice)
-  wakes t (Pays payer) = dues_then (pays me.polls payer) (beside refl refl refl refl)
-  wakes t Plain = dues k s
-  wakes t Passes = dues k s
-  wakes t (Posts payer left_out) = dues k s
+  wakes = grind (arith, dues_then, pays, beside, dues)
 
   sends : (polls : Option ℕ) (m : MailMessage) → Dues k s (after_sending s polls m)
-  sends None m = dues k s
-  sends (Some t) message.Root = beside refl refl refl refl
-  sends (Some t) (message.ForwardRequest r) = dues_then (by_request r _ (λ m. refl)) (beside refl refl refl refl)
-  sends (Some t) (message.ForwardTimer z) = by_sleeper z _ (λ m. refl)
-  sends (Some t) (message.CancelRequest r) = beside refl refl refl refl
-  sends (Some t) (message.CancelTimer z) = dues k s
+  sends = grind (arith, dues, beside, dues_then, by_request, by_sleeper)
 
   applies : (m : MailMessage) → IsOwn s i (event.Apply m) → Dues k s (after_message me s m)
-  applies message.Root own = beside refl refl refl refl
-  applies (message.ForwardRequest r) own = by_request r _ (λ m. refl)
-  applies (message.ForwardTimer z) own = by_sleeper z _ (λ m. refl)
-  applies (message.CancelRequest r) own = by_request r (dropped (request_of s r)) (own_request r (dropped (request_of s r)) own (whose (request_of s r)))
-  applies (message.CancelTimer z) own = by_sleeper z (removed (sleeper_of s z)) (own_sleeper z (removed (sleeper_of s z)) own refl)
+  applies = grind (arith, beside, by_request, by_sleeper, own_request, whose, own_sleeper)
 
   told_clock : (r : ℕ) (n : OpResult) → (common_after_refusal s (request_of s r) n).clock ≡ s.clock
   told_clock r n = elim (cases_Bool (refuses_hint (judged_of (request_of s r) n))) [ inl refused ↦ rw refused refl | inr other ↦ rw other refl ]
@@ -140,13 +101,7 @@ module _ (c : Configuration) (me : Books) (s : Common) (i k : ℕ) (apart : k �
   told_sleepers r n = elim (cases_Bool (refuses_hint (judged_of (request_of s r) n))) [ inl refused ↦ rw refused refl | inr other ↦ rw other refl ]
 
   reaps : (r : ℕ) (n : OpResult) (outcome : Option Outcome) → (request_of s r).worker ≡ i → Dues k s (after_reap s i r n outcome)
-  reaps r n outcome own =
-      record {
-        clock = told_clock r n;
-        timers = timer_set k r s.requests (reaped n outcome (request_of s r)) (own_request r (reaped n outcome (request_of s r)) own (reaped_whose n outcome (request_of s r)));
-        sleepers = ap (first_until k) (told_sleepers r n);
-        seat = seat_apart s i (record (seat_of s i) { landed = drop 1 (seat_of s i).landed }) k apart;
-      }
+  reaps = grind (arith, told_clock, timer_set, own_request, reaped_whose, told_sleepers, seat_apart)
 
 module _ (c : Configuration) (me : Books) (s : Common) (i k : ℕ) (apart : k ≢ i) where
   clears : (t : ℕ) → Dues k s (after_clear s i t)
@@ -165,38 +120,19 @@ module _ (c : Configuration) (me : Books) (s : Common) (i k : ℕ) (apart : k �
   event_dues (event.Done t) choice own = over c me s i k apart t
   event_dues (event.Fault t n) choice own = over c me s i k apart t
   event_dues (event.Spawn t n) choice own = dues_then (word c me s i k apart me.polls) (beside refl refl refl refl)
-  event_dues (event.Dedicated t n) choice own =
-      let a = word c me s i k apart me.polls in
-      record { clock = a.clock; timers = a.timers; sleepers = a.sleepers; seat = seat_push s.seats k }
+  event_dues (event.Dedicated t n) choice own = grind (arith, word, seat_push)
   event_dues event.Closed choice own = word c me s i k apart me.polls
   event_dues (event.Clear t) choice own = clears t
-  event_dues (event.Admit r kind outcome) choice own =
-      let y : Request = resolved_if outcome (new_request i (with_seen (asked_now c me s) s)) in
-      record {
-        clock = refl;
-        timers = timer_push k s.requests y (elsewhere c me s i k apart y.worker (resolved_whose outcome (new_request i (with_seen (asked_now c me s) s))));
-        sleepers = refl;
-        seat = lies (seat_of s k);
-      }
+  event_dues (event.Admit r kind outcome) choice own = grind (arith, timer_push, elsewhere, resolved_whose, lies)
   event_dues (event.Wait None) choice own = beside refl refl refl refl
   event_dues (event.Wait (Some r)) choice own = dues_then (by_request r (record (request_of s r) { waiter = Some (polled me) }) (λ m. refl)) (beside refl refl refl refl)
   event_dues (event.Got r outcome) choice own = dues_then (by_request r (record (request_of s r) { observed = false }) (λ m. refl)) (beside refl refl refl refl)
   event_dues (event.Drop r) choice own =
       let y : Request = dropped (request_of s r) in dues_then (by_request r y (own_request c me s i k apart r y own (whose (request_of s r)))) (beside refl refl refl refl)
-  event_dues (event.Timer z until) choice own =
-      record {
-        clock = refl;
-        timers = refl;
-        sleepers = until_push k s.sleepers (new_sleeper until i (polled me)) (elsewhere c me s i k apart i refl);
-        seat = lies (seat_of s k);
-      }
+  event_dues (event.Timer z until) choice own = grind (arith, until_push, elsewhere, lies)
   event_dues (event.Wake t) choice own = wakes c me s i k apart t choice
-  event_dues (event.Grant r outcome) choice own =
-      let y : Request = granted outcome (request_of s r) in
-      dues_then (by_request r y (own_request c me s i k apart r y own (granted_whose outcome (request_of s r)))) (beside refl refl refl refl)
-  event_dues (event.Enrol r outcome) choice own =
-      let moment = fires_at c me (unwrap_or (request_of s r).operation.deadline 0) in
-      let y : Request = enrolled moment outcome (request_of s r) in by_request r y (own_request c me s i k apart r y own (enrolled_whose moment outcome (request_of s r)))
+  event_dues (event.Grant r outcome) choice own = grind (arith, dues_then, by_request, own_request, granted_whose, beside)
+  event_dues (event.Enrol r outcome) choice own = grind (arith, by_request, own_request, enrolled_whose)
   event_dues (event.Stage r) choice own = by_request r (staged s (request_of s r)) (λ m. refl)
   event_dues event.Enter choice own = record { clock = refl; timers = timer_map k (flown i) (flown_timed k i) s.requests; sleepers = refl; seat = lies (seat_of s k) }
   event_dues event.Busy choice own = own_seat c me s i k apart (record (seat_of s i) { busy = false })
@@ -216,14 +152,6 @@ module _ (c : Configuration) (me : Books) (s : Common) (i k : ℕ) (apart : k �
       dues_then (applies c me s i k apart m own) (own_seat c me told i k apart y)
   event_dues (event.Rouse other) choice own = rouses k s other
   event_dues (event.Sleep until) choice own = own_seat c me s i k apart (record (seat_of s i) { rest = rest_until until })
-  event_dues event.Close choice own =
-      let y : Seat = record (seat_of s i) { phase = worker.Closing } in
-      dues_then (own_seat c me s i k apart y) (beside refl refl refl refl)
-  event_dues event.End choice own =
-      record {
-        clock = refl;
-        timers = refl;
-        sleepers = until_map k (gone_with i) (gone c me s i k apart) s.sleepers;
-        seat = seat_apart s i (record (seat_of s i) { phase = worker.Ended; inbox = [] }) k apart;
-      }
+  event_dues event.Close choice own = grind (arith, dues_then, own_seat, beside)
+  event_dues event.End choice own = grind (arith, until_map, gone, seat_apart)
   event_dues _ choice own = beside refl refl refl refl

@@ -1,9 +1,9 @@
 -- A worker that sleeps until a moment sleeps no longer than until what is due next at it.
-use Rattle.std.proofs.Common.{◌≡◌, ◌≢◌, ℕ, zero, suc, ◌==◌, Bool, true, false, ◌&&◌, List, [], ◌∷◌, ◌++◌, map, Option, Some, refl, sym, ap, ◌∙◌, subst, get_or, set, if◌then◌else◌}
+use Rattle.std.proofs.Common.{◌≡◌, ◌≢◌, ℕ, zero, suc, ◌==◌, Bool, true, false, List, [], ◌∷◌, ◌++◌, map, Option, Some, refl, sym, ap, ◌∙◌, subst, get_or, set, if◌then◌else◌, arith}
 use Rattle.std.proofs.lemmas.Bool.{true≢false}
 use Rattle.std.proofs.lemmas.List.{get_or-set_other}
 use Rattle.exec_machine.specs.declared.state.{MailMessage.MailMessage, Request.Request, Sleeper.Sleeper}
-use Rattle.exec_machine.specs.{Choice.{Choice}, Deadlines.{earlier, is_after, first_timer, first_until, next_due, rest_until}, Mail.{after_post, is_left_out, after_rouse, is_root_message, posted}, Tasks.{new_seat}, Tests.{is_asleep, is_awake, set_seat}, World.{Common, Seat, no_request, no_seat, no_sleeper, request_of, seat_of, sleeper_of}}
+use Rattle.exec_machine.specs.{Choice.{Choice}, Deadlines.{earlier, is_after, first_timer, first_until, next_due, rest_until}, Mail.{after_post, after_rouse}, Tasks.{new_seat}, Tests.{is_asleep, is_awake}, World.{Common, Seat, no_request, no_seat, no_sleeper, request_of, seat_of, sleeper_of}}
 use Rattle.exec_machine.specs.declared.state.Rest.TheVariants as rest
 use Rattle.exec_rest.proofs.Others.{set_like}
 
@@ -82,14 +82,8 @@ pub record Dues (k : ℕ) (s late : Common) : Type 0 where
   pub sleepers : first_until k late.sleepers ≡ first_until k s.sleepers
   pub seat : Lies (seat_of s k) (seat_of late k)
 
-pub due_same : (k : ℕ) (s late : Common) → Dues k s late → is_awake (seat_of late k).rest ≡ false → next_due late k ≡ next_due s k
-due_same k s late a asleep = rw (a.timers, a.sleepers, (a.seat asleep).1) refl
-
 pub dues_kept : (k : ℕ) (s late : Common) → Dues k s late → HasDue s k → HasDue late k
-dues_kept k s late a held asleep =
-    let was = held (ap is_awake (sym (a.seat asleep).0) ∙ asleep) in
-    let same = due_same k s late a asleep in
-    ((a.seat asleep).0 ∙ was.0 ∙ ap rest_until (sym same), rw (a.clock, same) was.1)
+dues_kept = grind arith
 
 pub dues : (k : ℕ) (s : Common) → Dues k s s
 dues k s = record { clock = refl; timers = refl; sleepers = refl; seat = lies (seat_of s k) }
@@ -106,13 +100,7 @@ by_sleeper {k} {s} z y h = record { clock = refl; timers = refl; sleepers = unti
 
 -- one after another
 pub dues_then : {k : ℕ} {s late later : Common} → Dues k s late → Dues k late later → Dues k s later
-dues_then a b =
-    record {
-      clock = b.clock ∙ a.clock;
-      timers = b.timers ∙ a.timers;
-      sleepers = b.sleepers ∙ a.sleepers;
-      seat = λ asleep. let now = b.seat asleep in let was = a.seat (ap is_awake (sym now.0) ∙ asleep) in (now.0 ∙ was.0, now.1 ∙ was.1);
-    }
+dues_then = grind arith
 
 pub either : {k : ℕ} {s : Common} (b : Bool) (y z : Common) → Dues k s y → Dues k s z → Dues k s (if b then y else z)
 either true y z a b = a
@@ -120,21 +108,11 @@ either false y z a b = b
 
 -- nothing of it changes but tasks, opens and the like
 pub beside : {k : ℕ} {s late : Common} → late.clock ≡ s.clock → late.requests ≡ s.requests → late.sleepers ≡ s.sleepers → late.seats ≡ s.seats → Dues k s late
-beside {k} {s} clock requests sleepers seats =
-    record {
-      clock = clock;
-      timers = ap (first_timer k) requests;
-      sleepers = ap (first_until k) sleepers;
-      seat = subst (λ xs. Lies (seat_of s k) (get_or xs k no_seat)) (sym seats) (lies (seat_of s k));
-    }
+beside = grind arith
 
 -- what is posted to a worker doesn't wake it
 pub posts : (k : ℕ) (s : Common) (to : ℕ) (m : MailMessage) (choice : Choice) → Dues k s (after_post s to m choice)
-posts k s to m choice =
-    either (is_root_message m && is_left_out choice) s (set_seat s to (posted m (seat_of s to))) (dues k s)
-    (by_seats (set s.seats to (posted m (seat_of s to))) (seat_set s to (posted m (seat_of s to)) k (λ asleep. (refl, refl))))
+posts = grind (arith, either, dues, by_seats, seat_set)
 
 pub rouses : (k : ℕ) (s : Common) (other : ℕ) → Dues k s (after_rouse s other)
-rouses k s other =
-    let y : Seat = record (seat_of s other) { rest = rest.Awake } in
-    by_seats (set s.seats other y) (seat_set s other y k (λ asleep. absurd (true≢false asleep)))
+rouses = grind (arith, by_seats, seat_set, true≢false)

@@ -1,5 +1,5 @@
 -- Each line of a run keeps the books.
-use Rattle.std.proofs.Common.{◌≡◌, ℕ, zero, suc, ◌==◌, Bool, true, false, not, ◌&&◌, length, refl, sym, ap, ◌∙◌, get_or, arith}
+use Rattle.std.proofs.Common.{◌≡◌, ℕ, zero, suc, Bool, true, false, not, ◌&&◌, length, refl, sym, ap, ◌∙◌, get_or, arith}
 use Rattle.std.proofs.lemmas.Bool.{true≢false, false≢true, and_parts, not-true}
 use Rattle.exec_machine.specs.{declared.{config.Configuration.Configuration, event.{Event.Event, StepResult.{StepResult, TheVariants.{Refused, Did}}}, state.Forwarding.{Forwarding, TheVariants.Sent}, step.Action.{Action, TheVariants.Work}}, After.after, Allowed.Allowed, Callers.{is_enabled, is_held}, Choice.Choice, Progress.{Plan, begin}, Run.{Follows, after_line, first_owns}, Tasks.new_seat, Tests.{has_ended, is_asleep, is_awake}, World.{Seat, World, no_own, no_seat, no_sleeper, own_of, seat_of}}
 use Rattle.exec_books.specs.Listed.{is_in}
@@ -16,11 +16,7 @@ first_own (suc n) from zero = (refl, λ k. refl)
 first_own (suc n) from (suc i) = first_own n (suc from) i
 
 nobody_asleep : (i : ℕ) → is_asleep i no_sleeper ≡ false
-nobody_asleep i = by (0 == i)
-  where
-    by : (b : Bool) → (b && not true && not true) ≡ false
-    by true = refl
-    by false = refl
+nobody_asleep = grind arith
 
 abbrev is_sent : Forwarding → Bool
 is_sent Sent = true

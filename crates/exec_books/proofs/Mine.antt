@@ -1,14 +1,11 @@
 -- The requests of a worker stand in its lists after an event of its own.
-use Rattle.std.proofs.Common.{◌≡◌, ℕ, ◌+◌, ◌<◌, ◌&&◌, Bool, true, false, List, length, set, drop, get_or, Option, Some, None, if◌then◌else◌, ◌∙◌, refl, sym, ap, subst, arith, inl, inr}
-use Rattle.std.proofs.lemmas.Bool.{cases_Bool, ltb-true, ltb-false}
+use Rattle.std.proofs.Common.{◌≡◌, ℕ, ◌<◌, Bool, true, false, length, set, Option, Some, None, if◌then◌else◌, ◌∙◌, refl, sym, ap, subst, arith}
+use Rattle.std.proofs.lemmas.Bool.{ltb-true, ltb-false}
 use Rattle.std.proofs.lemmas.Grind.{get_or-set_at}
 use Rattle.std.proofs.lemmas.List.{set_past}
-use Rattle.std.specs.Prelude.{nat_lt}
-use Rattle.exec_machine.specs.{declared.{config.Configuration.Configuration, event.Event.Event, state.{MailMessage.MailMessage, Next.Next, Request.Request}}, After.{common_after, own_after, polled}, Allowed.Allowed, Choice.{Choice, Payer, Choice.{Plain, Passes, Pays, Posts}, Payer.{ByRequest, BySleeper, ByAct, ByCall, ByStop}}, Closing.{after_next, ends_by_clear, with_cleared}, Mail.{after_post, after_sending, is_left_out, is_root_message, own_after_letter}, Same.is_none, Tasks.{after_over, after_payment, after_word, own_after_over, pended_phase, requests_after_drops, unpolled}, Tests.{set_task}, World.{Common, Own as Books, Task, no_task, request_of, seat_of, task_of}}
+use Rattle.exec_machine.specs.{declared.{config.Configuration.Configuration, event.Event.Event, state.{MailMessage.MailMessage, Request.Request}}, After.{common_after, own_after}, Allowed.Allowed, Choice.{Choice, Choice.{Plain, Passes, Pays, Posts}}, Closing.{ends_by_clear, with_cleared}, Mail.{after_post, after_sending, own_after_letter}, Tasks.{after_over, after_word, own_after_over, requests_after_drops}, World.{Common, Own as Books, request_of, seat_of, task_of}}
 use Rattle.exec_machine.specs.declared.event.Event.TheVariants as event
-use Rattle.exec_machine.specs.declared.state.Forwarding.TheVariants as forwarding
 use Rattle.exec_machine.specs.declared.state.MailMessage.TheVariants as message
-use Rattle.exec_machine.specs.declared.state.Next.TheVariants as next
 use Rattle.exec_books.specs.Listed.{IsListed}
 use Rattle.exec_rest.proofs.Events.{landed_by, seats_after}
 use Rattle.exec_books.proofs.{Own.{IsOwn}, MineLists.{AllMine, SameLists, mark_mine, marked, same_lists, still}, MineDrops.{over_mine}, MineEvents.{admits, cancels_one, enrols, enters, expires, grants, lets_go, reaps, releases, stages}}
@@ -19,28 +16,12 @@ word_requests : (s : Common) (polls : Option ℕ) → (after_word s polls).reque
 word_requests s None = refl
 word_requests s (Some t) = refl
 
-next_requests : (s : Common) (i : ℕ) (n : Next) → (after_next s i n).requests ≡ s.requests
-next_requests s i next.Free = refl
-next_requests s i (next.Joins r) = refl
-next_requests s i next.ClosesQueue = refl
-next_requests s i next.ClosesMailbox = refl
-
 post_requests : (s : Common) (to : ℕ) (m : MailMessage) (choice : Choice) → (after_post s to m choice).requests ≡ s.requests
-post_requests s to m choice = elim (cases_Bool (is_root_message m && is_left_out choice)) [
-  | inl out ↦ rw out refl
-  | inr in_it ↦ rw in_it refl
-]
+post_requests = grind arith
 
 -- a task that is cleared holds what it held
 cleared_held : (s : Common) (t : ℕ) → (task_of (with_cleared s t) t).held ≡ (task_of s t).held
-cleared_held s t = by (nat_lt t (length s.tasks)) refl
-  where
-    y : Task
-    y = record (task_of s t) { cleared = true }
-
-    by : (within : Bool) → nat_lt t (length s.tasks) ≡ within → (get_or (set s.tasks t y) t no_task).held ≡ (task_of s t).held
-    by true h = ap (λ (it : Task). it.held) (get_or-set_at s.tasks t t y no_task refl (ltb-true t (length s.tasks) h))
-    by false h = ap (λ (xs : List Task). (get_or xs t no_task).held) (set_past s.tasks t y (omega (arith, ltb-false t (length s.tasks) h)))
+cleared_held = grind (arith, get_or-set_at, ltb-true, set_past, ltb-false)
 
 module _ (c : Configuration) (me : Books) (s : Common) (i : ℕ) (here : i < length s.seats) where
   abbrev pub AreMine : Type 0
@@ -60,12 +41,7 @@ module _ (c : Configuration) (me : Books) (s : Common) (i : ℕ) (here : i < len
   over mine me' t same = still i same refl (over_mine i s (seat_of s i).landed me mine t)
 
   pends : AreMine → (t : ℕ) (choice : Choice) → After (event.Pend t) choice
-  pends mine t choice = by (task_of s t).cleared
-    where
-      by : (b : Bool) → AllMine i (record (unpolled (if b then own_after_over me s i t else me)) { serving = false }) (seat_of s i).landed
-          (if b then after_over s i t else set_task s t (record (task_of s t) { phase = pended_phase (task_of s t).phase })).requests
-      by true = over mine (record (unpolled (own_after_over me s i t)) { serving = false }) t (same_lists refl refl refl refl)
-      by false = still i (same_lists refl refl refl refl) refl mine
+  pends = grind (arith, over, same_lists, still)
 
   clears : AreMine → (t : ℕ) (choice : Choice) → After (event.Clear t) choice
   clears mine t choice = by (ends_by_clear (task_of s t).phase)
@@ -77,11 +53,7 @@ module _ (c : Configuration) (me : Books) (s : Common) (i : ℕ) (here : i < len
   -- LETTERS
 
   letter_lists : SameLists me (record (own_after_letter me) { serving = false })
-  letter_lists = by (is_none me.polls)
-    where
-      by : (b : Bool) → SameLists me (record (if b then record me { owed = drop 1 me.owed } else me) { serving = false })
-      by true = same_lists refl refl refl refl
-      by false = same_lists refl refl refl refl
+  letter_lists = grind arith
 
   sends : AreMine → (to : ℕ) (m : MailMessage) (choice : Choice) → After (event.Send to m) choice
   sends mine to m choice = still i letter_lists (post_requests (after_sending s me.polls m) to m choice) (sending me.polls m)
@@ -89,18 +61,14 @@ module _ (c : Configuration) (me : Books) (s : Common) (i : ℕ) (here : i < len
       sending : (polls : Option ℕ) (m : MailMessage) → AllMine i me (seat_of s i).landed (after_sending s polls m).requests
       sending None m = mine
       sending (Some t) message.Root = mine
-      sending (Some t) (message.ForwardRequest r) =
-          let y = record (request_of s r) { waiter = Some t; forwarding = forwarding.Sent } in
-          touches me mine (same_lists refl refl refl refl) r y refl (marked me (seat_of s i).landed r (request_of s r) y refl refl refl refl refl refl)
+      sending (Some t) (message.ForwardRequest r) = grind (arith, touches, same_lists, marked)
       sending (Some t) (message.ForwardTimer z) = mine
       sending (Some t) (message.CancelRequest r) = mine
       sending (Some t) (message.CancelTimer z) = mine
 
   applies : AreMine → (m : MailMessage) (choice : Choice) → IsOwn s i (event.Apply m) → After (event.Apply m) choice
   applies mine message.Root choice own = still i (same_lists refl refl refl refl) refl mine
-  applies mine (message.ForwardRequest r) choice own =
-      let y = record (request_of s r) { forwarding = forwarding.Applied } in
-      touches (record me { serving = false }) mine (same_lists refl refl refl refl) r y refl (marked me (seat_of s i).landed r (request_of s r) y refl refl refl refl refl refl)
+  applies mine (message.ForwardRequest r) choice own = grind (arith, touches, same_lists, marked)
   applies mine (message.ForwardTimer z) choice own = still i (same_lists refl refl refl refl) refl mine
   applies mine (message.CancelRequest r) choice own = still i (same_lists refl refl refl refl) refl (lets_go c me s i mine r own)
   applies mine (message.CancelTimer z) choice own = still i (same_lists refl refl refl refl) refl mine
@@ -111,30 +79,13 @@ module _ (c : Configuration) (me : Books) (s : Common) (i : ℕ) (here : i < len
   pays mine t Plain = still i (same_lists refl refl refl refl) refl mine
   pays mine t Passes = still i (same_lists refl refl refl refl) refl mine
   pays mine t (Posts payer left_out) = still i (same_lists refl refl refl refl) refl mine
-  pays mine t (Pays payer) = paid me.polls payer
-    where
-      paid : (polls : Option ℕ) (payer : Payer) → AllMine i (record me { serving = false }) (seat_of s i).landed (after_payment s polls payer).requests
-      paid polls (ByRequest r) =
-          let y = record (request_of s r) { wakes_paid = (request_of s r).wakes_paid + 1 } in
-          touches (record me { serving = false }) mine (same_lists refl refl refl refl) r y refl (marked me (seat_of s i).landed r (request_of s r) y refl refl refl refl refl refl)
-      paid polls (BySleeper z) = still i (same_lists refl refl refl refl) refl mine
-      paid None ByAct = still i (same_lists refl refl refl refl) refl mine
-      paid (Some u) ByAct = still i (same_lists refl refl refl refl) refl mine
-      paid polls ByCall = still i (same_lists refl refl refl refl) refl mine
-      paid polls ByStop = still i (same_lists refl refl refl refl) refl mine
+  pays mine t (Pays payer) = grind (arith, touches, same_lists, marked, still)
 
   turns : AreMine → (choice : Choice) → After event.Turn choice
-  turns mine Plain = still i (same_lists refl refl refl refl) (next_requests s i me.next) mine
-  turns mine Passes = still i (same_lists refl refl refl refl) refl mine
-  turns mine (Pays payer) = still i (same_lists refl refl refl refl) (next_requests s i me.next) mine
-  turns mine (Posts payer left_out) = still i (same_lists refl refl refl refl) (next_requests s i me.next) mine
+  turns = grind arith
 
   serve_lists : SameLists me (own_after c me s i event.Serve Plain)
-  serve_lists = by me.serving
-    where
-      by : (b : Bool) → SameLists me (record (if b then me else record me { sampled = s.clock; sampled_before = me.sampled }) { serving = true })
-      by true = same_lists refl refl refl refl
-      by false = same_lists refl refl refl refl
+  serve_lists = grind arith
 
   -- EACH EVENT
 
@@ -150,9 +101,7 @@ module _ (c : Configuration) (me : Books) (s : Common) (i : ℕ) (here : i < len
   stood mine (event.Clear t) choice may own = clears mine t choice
   stood mine (event.Admit r kind o) choice may own = admits c me s i mine r kind o choice may
   stood mine (event.Wait None) choice may own = still i (same_lists refl refl refl refl) refl mine
-  stood mine (event.Wait (Some r)) choice may own =
-      let y = record (request_of s r) { waiter = Some (polled me) } in
-      touches (own_after c me s i (event.Wait (Some r)) choice) mine (same_lists refl refl refl refl) r y refl (marked me (seat_of s i).landed r (request_of s r) y refl refl refl refl refl refl)
+  stood mine (event.Wait (Some r)) choice may own = grind (arith, touches, same_lists, marked)
   stood mine (event.Got r o) choice may own =
       let y = record (request_of s r) { observed = false } in
       touches (own_after c me s i (event.Got r o) choice) mine (same_lists refl refl refl refl) r y refl (marked me (seat_of s i).landed r (request_of s r) y refl refl refl refl refl refl)

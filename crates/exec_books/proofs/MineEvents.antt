@@ -1,11 +1,9 @@
 -- The requests of a worker stand in its lists after each event that changes one of them, or makes one.
-use Rattle.std.proofs.Common.{◌≡◌, ℕ, ◌+◌, ◌==◌, ◌&&◌, ◌||◌, Bool, true, false, not, List, [], ◌∷◌, ◌++◌, length, map, set, get_or, drop, Option, Some, None, if◌then◌else◌, ◌∙◌, refl, sym, ap, subst}
+use Rattle.std.proofs.Common.{◌≡◌, ℕ, ◌+◌, ◌==◌, ◌&&◌, ◌||◌, Bool, true, false, List, [], ◌∷◌, ◌++◌, length, map, set, get_or, drop, Option, Some, None, if◌then◌else◌, ◌∙◌, refl, sym, ap, subst, arith}
 use Rattle.std.proofs.lemmas.Bool.{true≢false, false≢true, eqb-true}
 use Rattle.std.proofs.Math.ListN.{get_or-map}
-use Rattle.std.specs.Prelude.{unwrap_or}
 use Rattle.exec_outcomes.specs.{declared.outcome.{Outcome.Outcome, OpResult.OpResult, Kind.Kind}, Accounts.is_durable}
-use Rattle.exec_machine.specs.{declared.{config.{Configuration.Configuration, ScriptWord.ScriptWord}, event.Event.Event, state.{Request.Request, Operation.Operation}}, After.{own_after, common_after}, Allowed.Allowed, Choice.Choice, Deadlines.{enrolled, expired, fires_at}, Requests.{account_after_admit, asked_now, dropped, ends_by_drop, first_phase, flown, granted, is_cancelled_by_drop, new_request, operation_asked, operation_or_none, own_after_drop, own_after_end, reaped, resolved_if, staged, with_seen}, Same.{is_none}, Tests.{is_in_flight, is_landed, is_of_file, is_queued, is_resolved, is_staged}, Words.{next_word, polled_task}, World.{Own as Books, Common, no_request, request_of, seat_of, open_of}}
-use Rattle.exec_machine.specs.declared.config.ScriptWord.TheVariants as word
+use Rattle.exec_machine.specs.{declared.{config.{Configuration.Configuration, ScriptWord.ScriptWord}, event.Event.Event, state.{Request.Request, Operation.Operation}}, After.{own_after, common_after}, Allowed.Allowed, Choice.Choice, Deadlines.{expired}, Requests.{asked_now, dropped, ends_by_drop, first_phase, flown, granted, is_cancelled_by_drop, new_request, operation_asked, operation_or_none, own_after_drop, own_after_end, reaped, resolved_if, with_seen}, Same.{is_none}, Tests.{is_in_flight, is_landed, is_resolved}, Words.{next_word, polled_task}, World.{Own as Books, Common, no_request, request_of, seat_of}}
 use Rattle.exec_machine.specs.declared.event.Event.TheVariants as event
 use Rattle.exec_machine.specs.declared.state.Next.TheVariants as next
 use Rattle.exec_machine.specs.declared.state.RequestPhase.TheVariants as phase
@@ -16,37 +14,11 @@ use Rattle.exec_books.proofs.{MineLists.{AllMine, SameLists, books, keeps_same, 
 
 -- an operation that waits at a gate has no deadline
 durable_undated : (c : Configuration) (sampled : ℕ) (w : ScriptWord) → is_durable (operation_or_none (operation_asked c sampled w)).kind ≡ true → is_none (operation_or_none (operation_asked c sampled w)).deadline ≡ true
-durable_undated c sampled (word.Poll l) h = absurd (false≢true h)
-durable_undated c sampled (word.Send s n) h = absurd (false≢true h)
-durable_undated c sampled (word.Recv s n) h = absurd (false≢true h)
-durable_undated c sampled (word.Fill s n) h = absurd (false≢true h)
-durable_undated c sampled (word.Connect s) h = absurd (false≢true h)
-durable_undated c sampled (word.Read f o n) h = refl
-durable_undated c sampled (word.Hint f o n) h = refl
-durable_undated c sampled (word.Direct f o n) h = refl
-durable_undated c sampled (word.Write f o n) h = refl
-durable_undated c sampled (word.Dsync f o n) h = refl
-durable_undated c sampled (word.Many f o n) h = refl
-durable_undated c sampled (word.Sync f) h = refl
-durable_undated c sampled _ h = refl
+durable_undated = grind arith
 
 -- what is left of a request that joins a gate is in no list
 gated_listed : (me : Books) (landed : List ℕ) (k : ℕ) (y : Request) → y.phase ≡ phase.Gated → y.operation.deadline ≡ None → IsListed me landed k y
-gated_listed me landed k y gated undated =
-    record {
-      queued = λ h. absurd (false≢true (subst (λ p. is_queued p ≡ true) gated h));
-      landed_in = λ h. absurd (false≢true (subst (λ p. is_landed p ≡ true) gated h));
-      unenrolled = λ h.
-          let opened = subst (λ p. (is_resolved p || y.cancelled || not (is_none y.timer) || is_none y.operation.deadline) ≡ false) gated h in
-          absurd (no_deadline y.cancelled (not (is_none y.timer)) (subst (λ d. (false || y.cancelled || not (is_none y.timer) || is_none d) ≡ false) undated opened));
-      cancels = λ h. absurd (false≢true (subst (λ p. (is_in_flight p && y.cancelled && not y.cancel_staged) ≡ true) gated h));
-      over = λ h. absurd (false≢true (subst (λ p. (is_resolved p && not y.released) ≡ true) gated h));
-    }
-  where
-    no_deadline : (a t : Bool) → (false || a || t || true) ≡ false → ⊥
-    no_deadline true t h = true≢false h
-    no_deadline false true h = true≢false h
-    no_deadline false false h = true≢false h
+gated_listed = grind arith
 
 -- what stood in the lists of others than r stands there still where r is over
 keeps_end : (me me' : Books) (landed landed' : List ℕ) (r k : ℕ) → SameLists (own_after_end true r me) me' → (k == r) ≡ false → (is_in k landed ≡ true → is_in k landed' ≡ true) → KeepsIn k me me' landed landed'
@@ -86,24 +58,7 @@ module _ (c : Configuration) (me : Books) (s : Common) (i : ℕ) (mine : AllMine
       (ready_listed me landed r it (mine r own) me' landed (granted None it) (gated_open it.phase may.1.1.0) refl refl refl refl (in_last r me.ready) refl)
 
   pub enrols : (r : ℕ) (o : Option Outcome) (choice : Choice) → (request_of s r).worker ≡ i → Allowed c me s i (event.Enrol r o) choice → After (event.Enrol r o) choice
-  enrols r (Some o) choice own may =
-      let me' = own_after c me s i (event.Enrol r (Some o)) choice in
-      let m = fires_at c me (unwrap_or (request_of s r).operation.deadline 0) in
-      changes me' r (enrolled m (Some o) (request_of s r))
-      (λ k other. record {
-        ready = kept_left true k r me.ready other;
-        landed_in = λ h. h;
-        unenrolled = λ h. kept_left true k r (drop 1 me.unenrolled) other (kept_drop k r me.unenrolled may.1.0 other h);
-        cancels = kept_left true k r me.cancels other;
-        ended = kept_joined true k r me.ended;
-      })
-      (over_listed me' landed r (enrolled m (Some o) (request_of s r)) o refl (in_last r me.ended))
-  enrols r None choice own may =
-      let me' = own_after c me s i (event.Enrol r None) choice in
-      let m = fires_at c me (unwrap_or (request_of s r).operation.deadline 0) in
-      changes me' r (enrolled m None (request_of s r))
-      (λ k other. record { ready = λ h. h; landed_in = λ h. h; unenrolled = λ h. kept_drop k r me.unenrolled may.1.0 other h; cancels = λ h. h; ended = λ h. h })
-      (enrolled_listed me landed r (request_of s r) (mine r own) me' m refl refl refl)
+  enrols = grind (arith, changes, kept_left, kept_drop, kept_joined, over_listed, in_last, enrolled_listed)
 
   pub expires : (r : ℕ) (o : Option Outcome) (choice : Choice) → (request_of s r).worker ≡ i → After (event.Expire r o) choice
   expires r (Some o) choice own =
@@ -118,36 +73,13 @@ module _ (c : Configuration) (me : Books) (s : Common) (i : ℕ) (mine : AllMine
       (cancelled_listed me landed r (request_of s r) (mine r own) me' (expired None (request_of s r)) refl refl refl refl (in_last r me.cancels) refl)
 
   pub stages : (r : ℕ) (choice : Choice) → (request_of s r).worker ≡ i → Allowed c me s i (event.Stage r) choice → After (event.Stage r) choice
-  stages r choice own may =
-      let me' = own_after c me s i (event.Stage r) choice in
-      let it = request_of s r in
-      changes me' r (staged s it)
-      (λ k other. record { ready = λ h. kept_drop k r me.ready may.1.0 other h; landed_in = λ h. h; unenrolled = λ h. h; cancels = λ h. h; ended = λ h. h })
-      (record {
-        queued = λ h. absurd (false≢true h);
-        landed_in = λ h. absurd (false≢true h);
-        unenrolled = λ h. (mine r own).unenrolled (put_unenrolled it.phase phase.Staged it.cancelled (not (is_none it.timer)) (is_none it.operation.deadline) (queued_open it.phase may.1.1.1.0) h);
-        cancels = λ h. absurd (false≢true (sym (not_cancelled it.cancelled it.cancel_staged may.1.1.1.1.0) ∙ h));
-        over = λ h. absurd (false≢true h);
-      })
+  stages = grind (arith, changes, kept_drop, false≢true, put_unenrolled, queued_open, not_cancelled)
 
   pub cancels_one : (r : ℕ) (choice : Choice) → (request_of s r).worker ≡ i → Allowed c me s i (event.Cancel r) choice → After (event.Cancel r) choice
-  cancels_one r choice own may =
-      let me' = own_after c me s i (event.Cancel r) choice in
-      let it = request_of s r in
-      let was = mine r own in
-      changes me' r (record it { cancel_staged = true })
-      (λ k other. record { ready = λ h. h; landed_in = λ h. h; unenrolled = λ h. h; cancels = λ h. kept_drop k r me.cancels may.1.0 other h; ended = λ h. h })
-      (record { queued = was.queued; landed_in = was.landed_in; unenrolled = was.unenrolled; cancels = λ h. absurd (told_staged (is_in_flight it.phase) it.cancelled h); over = was.over })
+  cancels_one = grind (arith, changes, kept_drop, told_staged)
 
   pub releases : (r : ℕ) (choice : Choice) → (request_of s r).worker ≡ i → Allowed c me s i (event.Release r) choice → After (event.Release r) choice
-  releases r choice own may =
-      let me' = own_after c me s i (event.Release r) choice in
-      let it = request_of s r in
-      let was = mine r own in
-      changes me' r (record it { released = true })
-      (λ k other. record { ready = λ h. h; landed_in = λ h. h; unenrolled = λ h. h; cancels = λ h. h; ended = λ h. kept_drop k r me.ended may.1.0 other h })
-      (record { queued = was.queued; landed_in = was.landed_in; unenrolled = was.unenrolled; cancels = was.cancels; over = λ h. absurd (no_more (is_resolved it.phase) h) })
+  releases = grind (arith, changes, kept_drop, no_more)
 
   -- somebody lets go of one: by a word, by a message, or as the worker closes
   pub lets_go : (r : ℕ) → (request_of s r).worker ≡ i → AllMine i (own_after_drop me s r) landed (set s.requests r (dropped (request_of s r)))
@@ -169,18 +101,10 @@ module _ (c : Configuration) (me : Books) (s : Common) (i : ℕ) (mine : AllMine
       (λ whose. ready_listed me landed r it (mine r own) me' (drop 1 landed) (reaped n None it) (landed_open n it.phase may.1.1.1.0) refl refl refl refl (in_last r me.ready) refl)
 
   flown_worker : (it : Request) → (flown i it).worker ≡ it.worker
-  flown_worker it = by ((it.worker == i) && is_staged it.phase)
-    where
-      by : (b : Bool) → (if b then record it { phase = phase.Flying } else it).worker ≡ it.worker
-      by true = refl
-      by false = refl
+  flown_worker = grind arith
 
   flown_none : flown i no_request ≡ no_request
-  flown_none = by (0 == i)
-    where
-      by : (b : Bool) → (if b && false then record no_request { phase = phase.Flying } else no_request) ≡ no_request
-      by true = refl
-      by false = refl
+  flown_none = grind arith
 
   pub enters : (choice : Choice) → After event.Enter choice
   enters choice k =
@@ -192,12 +116,7 @@ module _ (c : Configuration) (me : Books) (s : Common) (i : ℕ) (mine : AllMine
   -- ADMIT
 
   same_kind_seen : (o : Operation) → ((with_seen o s).kind ≡ o.kind) × ((with_seen o s).deadline ≡ o.deadline)
-  same_kind_seen o = by (is_of_file o.kind)
-    where
-      by : (b : Bool) → ((if b then record o { seen = (account_after_admit o.kind (open_of s o.target).account).mutations } else o).kind ≡ o.kind)
-          × ((if b then record o { seen = (account_after_admit o.kind (open_of s o.target).account).mutations } else o).deadline ≡ o.deadline)
-      by true = (refl, refl)
-      by false = (refl, refl)
+  same_kind_seen = grind arith
 
   pub admits : (r : ℕ) (kind : Kind) (o : Option Outcome) (choice : Choice) → Allowed c me s i (event.Admit r kind o) choice → After (event.Admit r kind o) choice
   admits r kind (Some x) choice may =

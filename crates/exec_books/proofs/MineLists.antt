@@ -31,14 +31,7 @@ books me me' landed k y same it = listed_by k me me' landed landed y (keeps_same
 -- what the lists don't tell of a request
 pub marked : (me : Books) (landed : List ℕ) (k : ℕ) (it y : Request) → y.phase ≡ it.phase → y.cancelled ≡ it.cancelled → y.cancel_staged ≡ it.cancel_staged → y.timer ≡ it.timer
     → y.operation.deadline ≡ it.operation.deadline → y.released ≡ it.released → IsListed me landed k it → IsListed me landed k y
-marked me landed k it y phase cancelled staged timer deadline released was =
-    record {
-      queued = λ h. was.queued (rw⁻¹ phase h);
-      landed_in = λ h. was.landed_in (rw⁻¹ phase h);
-      unenrolled = λ h. was.unenrolled (rw⁻¹ (phase, cancelled, timer, deadline) h);
-      cancels = λ h. was.cancels (rw⁻¹ (phase, cancelled, staged) h);
-      over = λ h. was.over (rw⁻¹ (phase, released) h);
-    }
+marked = grind arith
 
 module _ (i : ℕ) where
   -- those of worker i stand there

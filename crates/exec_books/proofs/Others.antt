@@ -1,11 +1,11 @@
 -- A step that is no worker's keeps the books.
 use Rattle.std.proofs.Common.{◌≡◌, ℕ, ◌+◌, ◌<◌, ◌==◌, Bool, true, false, ◌&&◌, List, [], ◌∷◌, ◌++◌, length, refl, sym, ap, ◌∙◌, subst, inl, inr, arith, get_or, set, Option, Some, None, if◌then◌else◌}
-use Rattle.std.proofs.lemmas.Bool.{true≢false, false≢true, and_parts, or_left, eqb-true, eqb-false, leb-false, lt-ltb, ltb-true, ltb-false}
+use Rattle.std.proofs.lemmas.Bool.{true≢false, false≢true, and_parts, or_left, eqb-true, eqb-false, ltb-true, ltb-false}
 use Rattle.std.proofs.lemmas.List.{get_or-set_same, get_or-set_other, get_or_past, length-set, length-map, Folds.list_any-append}
-use Rattle.std.specs.Prelude.{◌⊎◌, nat_le, nat_lt}
+use Rattle.std.specs.Prelude.{◌⊎◌, nat_lt}
 use Rattle.std.specs.List.{list_any}
 use Rattle.exec_outcomes.specs.declared.outcome.OpResult.{OpResult}
-use Rattle.exec_machine.specs.{declared.{config.Configuration.Configuration, event.Event.Event, state.{MailMessage.MailMessage, Request.Request, RequestPhase.RequestPhase, Rest.Rest}, step.Action.{Action, TheVariants.Work}}, Callers.{after_clock, after_going_on, after_landing, after_peer, after_spawn_by_call, after_wake_by_call, common_by, half_done, is_enabled}, Choice.Choice, Deadlines.{next_due, rest_until, roused_at, is_after}, Mail.{after_post, after_rouse, is_left_out, is_root_message, posted}, Run.{after_event}, Same.same_message, Tests.{is_awake, is_flying, is_in_flight, is_landed, is_queued, is_resolved, set_seat}, World.{Common, Seat, World, no_request, no_seat, request_of, seat_of}}
+use Rattle.exec_machine.specs.{declared.{config.Configuration.Configuration, event.Event.Event, state.{MailMessage.MailMessage, Request.Request, Rest.Rest}, step.Action.{Action, TheVariants.Work}}, Callers.{after_clock, after_going_on, after_landing, after_peer, after_spawn_by_call, after_wake_by_call, common_by, half_done, is_enabled}, Choice.Choice, Deadlines.{next_due, rest_until, roused_at, is_after}, Mail.{after_post, after_rouse, is_left_out, is_root_message, posted}, Run.{after_event}, Same.same_message, Tests.{is_awake, is_flying, is_landed, set_seat}, World.{Common, Seat, World, no_request, no_seat, request_of, seat_of}}
 use Rattle.exec_machine.specs.declared.event.Event.TheVariants as event
 use Rattle.exec_machine.specs.declared.state.RequestPhase.TheVariants as phase
 use Rattle.exec_machine.specs.declared.state.Rest.TheVariants as rest
@@ -27,21 +27,12 @@ still_ahead : (clock : ℕ) (r : Rest) (m : Option ℕ) → r ≡ rest_until m �
 still_ahead clock r None is ahead = refl
 still_ahead clock r (Some u) is ahead = ap (is_ahead clock) (sym is) ∙ ahead
 
-later : (u clock : ℕ) → nat_le u clock ≡ false → nat_lt clock u ≡ true
-later u clock ahead = lt-ltb clock u (omega (arith, leb-false u clock ahead))
-
 -- who slept until then is awake
 abbrev Roused : ℕ → Seat → Seat → Type 0
 Roused clock x y = is_awake y.rest ≡ false → ((y.rest ≡ x.rest) × (y.phase ≡ x.phase)) × (is_ahead clock x.rest ≡ true)
 
 rouse_at : (clock : ℕ) (x : Seat) (r : Rest) → x.rest ≡ r → Roused clock x (roused_at clock x)
-rouse_at clock x rest.Awake is asleep = absurd (true≢false (sym (rw is refl) ∙ asleep))
-rouse_at clock x rest.Forever is asleep = ((rw is refl, refl), rw is refl)
-rouse_at clock x (rest.Until u) is asleep = by (nat_le u clock) refl
-  where
-    by : (b : Bool) → nat_le u clock ≡ b → (((roused_at clock x).rest ≡ x.rest) × ((roused_at clock x).phase ≡ x.phase)) × (is_ahead clock x.rest ≡ true)
-    by true come = absurd (true≢false (sym (rw (is, come) refl) ∙ asleep))
-    by false ahead = ((rw (is, ahead) refl, refl), rw is (later u clock ahead))
+rouse_at = grind arith
 
 clock_due : (k : ℕ) (s : Common) (d : ℕ) → HasDue s k → HasDue (after_clock s d) k
 clock_due k s d held asleep =
@@ -61,32 +52,10 @@ wake_dues k s t (event.Send to m) choice = posts k s to m choice
 wake_dues k s t _ choice = dues k s
 
 going_dues : (k : ℕ) (s : Common) (j : ℕ) (e : Event) → Dues k s (after_going_on s j e)
-going_dues k s j (event.Rouse other) = rouses k s other
-going_dues k s j event.Return = beside refl refl refl refl
-going_dues k s j _ = dues k s
+going_dues = grind (arith, rouses, beside, dues)
 
 due_by_other : (k : ℕ) (s : Common) (a : Action) (e : Event) (choice : Choice) → HasDue s k → HasDue (common_by s a e choice) k
-due_by_other k s (action.Work i) e choice held = held
-due_by_other k s (action.Spawn j n) e choice held = dues_kept k s (half_done (after_spawn_by_call s n e) j) (dues_then (spawn_dues k s n e) (beside refl refl refl refl)) held
-due_by_other k s (action.Wake j t) e choice held = dues_kept k s (half_done (after_wake_by_call s t e choice) j) (dues_then (wake_dues k s t e choice) (beside refl refl refl refl)) held
-due_by_other k s (action.GoOn j) e choice held = dues_kept k s (after_going_on s j e) (going_dues k s j e) held
-due_by_other k s (action.Clock d) e choice held = clock_due k s d held
-due_by_other k s (action.Land r n) e choice held =
-    let it = request_of s r in
-    let y : Seat = record (seat_of s it.worker) { landed = (seat_of s it.worker).landed ++ r ∷ []; rest = rest.Awake } in
-    dues_kept k s (after_landing s r n)
-    (record {
-      clock = refl;
-      timers = timer_set k r s.requests (record it { phase = phase.Landed n }) (λ m. refl);
-      sleepers = refl;
-      seat = seat_set s it.worker y k (λ asleep. absurd (true≢false asleep));
-    }) held
-due_by_other k s (action.SetBusy i) e choice held =
-    let y : Seat = record (seat_of s i) { busy = true } in
-    dues_kept k s (set_seat s i y) (by_seats (set s.seats i y) (seat_set s i y k (λ asleep. (refl, refl)))) held
-due_by_other k s (action.EndPoll i) e choice held = held
-due_by_other k s (action.Stir i) e choice held = dues_kept k s (after_rouse s i) (rouses k s i) held
-due_by_other k s (action.Peer l) e choice held = dues_kept k s (after_peer s l) (beside refl refl refl refl) held
+due_by_other = grind (arith, dues_kept, dues_then, spawn_dues, beside, wake_dues, going_dues, clock_due, timer_set, seat_set, true≢false, by_seats, rouses)
 
 -- WHAT IT LEAVES
 
@@ -138,15 +107,6 @@ clock_leaves s d =
     leaves_by_seats s (after_clock s d) refl refl (length-map s.seats (roused_at (s.clock + d)))
     (map_like SameSeat (roused_at (s.clock + d)) no_seat (same_seat no_seat) (roused_seat (s.clock + d)) s.seats)
 
--- it flies, and so it is one of the requests, and its worker one of the workers
-landed_phase : (p : RequestPhase) (n : OpResult) → is_flying p ≡ true → (is_queued (phase.Landed n) ≡ is_queued p) × (is_in_flight (phase.Landed n) ≡ is_in_flight p) × (is_resolved (phase.Landed n) ≡ is_resolved p)
-landed_phase phase.Flying n flies = (refl, refl, refl)
-landed_phase phase.Gated n flies = absurd (false≢true flies)
-landed_phase phase.Queued n flies = absurd (false≢true flies)
-landed_phase phase.Staged n flies = absurd (false≢true flies)
-landed_phase (phase.Landed m) n flies = absurd (false≢true flies)
-landed_phase (phase.Resolved o) n flies = absurd (false≢true flies)
-
 module _ (w : World) (held : IsBooked w) (r : ℕ) (n : OpResult) where
   abbrev s : Common
   s = w.common
@@ -161,18 +121,14 @@ module _ (w : World) (held : IsBooked w) (r : ℕ) (n : OpResult) where
   seat = record (seat_of s it.worker) { landed = (seat_of s it.worker).landed ++ r ∷ []; rest = rest.Awake }
 
   same_but : is_flying it.phase ≡ true → SameRequest it y
-  same_but flies =
-      let phases = landed_phase it.phase n flies in
-      record { worker = refl; operation = refl; timer = refl; cancelled = refl; cancel_staged = refl; released = refl; forwarding = refl; queued = phases.0; in_flight = phases.1; resolved = phases.2 }
+  same_but = grind arith
 
   within : (b : Bool) → nat_lt r (length s.requests) ≡ b → is_flying it.phase ≡ true → r < length s.requests
   within true h flies = ltb-true r (length s.requests) h
   within false h flies = absurd (false≢true (sym (ap (λ (x : Request). is_flying x.phase) (get_or_past s.requests r no_request (omega (arith, ltb-false r (length s.requests) h)))) ∙ flies))
 
   lands_in : is_flying it.phase ≡ true → is_in r (seat_of (after_landing s r n) it.worker).landed ≡ true
-  lands_in flies =
-      let here = held.requests r (within (nat_lt r (length s.requests)) refl flies) in
-      ap (λ (x : Seat). is_in r x.landed) (get_or-set_same s.seats it.worker seat no_seat here) ∙ in_last r (seat_of s it.worker).landed
+  lands_in = grind (arith, within, get_or-set_same, in_last)
 
   landed_then : is_flying it.phase ≡ true → (k : ℕ) (b : Bool) → (k == r) ≡ b → is_landed (request_of (after_landing s r n) k).phase ≡ true
       → (is_landed (request_of s k).phase ≡ true) ⊎ (is_in k (seat_of (after_landing s r n) (request_of s k).worker).landed ≡ true)

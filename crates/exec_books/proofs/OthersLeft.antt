@@ -1,10 +1,10 @@
 -- What a step that is no worker's leaves, and that this is enough for the books.
-use Rattle.std.proofs.Common.{◌≡◌, ℕ, zero, suc, ◌+◌, ◌<◌, ◌==◌, Bool, true, not, ◌&&◌, ◌||◌, List, [], ◌∷◌, length, refl, sym, ap, ◌∙◌, subst, inl, inr, get_or, set, fold, cond}
+use Rattle.std.proofs.Common.{◌≡◌, ℕ, zero, suc, ◌+◌, ◌<◌, ◌==◌, Bool, true, not, ◌&&◌, List, [], ◌∷◌, length, refl, sym, ap, ◌∙◌, subst, inl, inr, get_or, set, fold, cond, arith}
 use Rattle.std.specs.Prelude.{◌⊎◌}
 use Rattle.std.specs.List.{list_any}
-use Rattle.exec_machine.specs.{declared.state.{MailMessage.MailMessage, Operation.Operation, Request.Request, Sleeper.Sleeper}, Same.{is_none, same_message}, Tests.{has_ended, is_asleep, is_in_flight, is_landed, is_of_file, is_queued, is_resolved}, World.{Common, Seat, World, no_request, no_sleeper, own_of, request_of, seat_of, sleeper_of}}
+use Rattle.exec_machine.specs.{declared.state.{MailMessage.MailMessage, Operation.Operation, Request.Request}, Same.{same_message}, Tests.{has_ended, is_asleep, is_in_flight, is_landed, is_of_file, is_queued, is_resolved}, World.{Common, Seat, World, no_request, no_sleeper, request_of, seat_of}}
 use Rattle.exec_machine.specs.declared.state.MailMessage.TheVariants as message
-use Rattle.exec_books.specs.Listed.{IsListed, is_in}
+use Rattle.exec_books.specs.Listed.{is_in}
 use Rattle.exec_books.specs.{Booked.{IsBooked, IsUnderWay, unreleased_of}, Listed.AreListed}
 use Rattle.exec_books.proofs.DuesLists.{HasDue}
 
@@ -47,16 +47,7 @@ pub record Leaves (s late : Common) : Type 0 where
 
 -- neither a request nor a sleeper changes
 pub leaves_by_seats : (s late : Common) → late.requests ≡ s.requests → late.sleepers ≡ s.sleepers → length late.seats ≡ length s.seats → ((i : ℕ) → SameSeat (seat_of s i) (seat_of late i)) → Leaves s late
-leaves_by_seats s late requests sleepers seats seat =
-    record {
-      seats = seats;
-      seat = seat;
-      requests = ap length requests;
-      request = λ k. subst (λ rs. SameRequest (request_of s k) (get_or rs k no_request)) (sym requests) (same_request (request_of s k));
-      landed = λ k h. inl (ap (λ rs. is_landed (get_or rs k no_request).phase) (sym requests) ∙ h);
-      counts = λ i. ap (unreleased_of i) requests;
-      sleepers = sleepers;
-    }
+leaves_by_seats = grind arith
 
 -- an element that counts as the one before it
 count_set : (test : Request → Bool) (n : ℕ) (rs : List Request) (r : ℕ) (y : Request) → test y ≡ test (get_or rs r no_request) → fold (λ a x. a + cond (test x) 1 0) n (set rs r y) ≡ fold (λ a x. a + cond (test x) 1 0) n rs
@@ -72,44 +63,7 @@ module _ (w : World) (late : Common) (left : Leaves w.common late) (held : IsBoo
   s = w.common
 
   listed_still : AreListed (record w { common = late })
-  listed_still k = subst (λ i. IsListed (own_of w i) (seat_of late i).landed k y) (sym same.worker) it
-    where
-      x : Request
-      x = request_of s k
-
-      y : Request
-      y = request_of late k
-
-      same : SameRequest x y
-      same = left.request k
-
-      was : IsListed (own_of w x.worker) (seat_of s x.worker).landed k x
-      was = held.listed k
-
-      landed_in : is_landed y.phase ≡ true → is_in k (seat_of late x.worker).landed ≡ true
-      landed_in h = elim (left.landed k h) [
-        | inl before ↦ (left.seat x.worker).landed k (was.landed_in before)
-        | inr now ↦ now
-      ]
-
-      undated : (is_resolved y.phase || y.cancelled || not (is_none y.timer) || is_none y.operation.deadline) ≡ (is_resolved x.phase || x.cancelled || not (is_none x.timer) || is_none x.operation.deadline)
-      undated = rw (same.resolved, same.cancelled, same.timer, same.operation) refl
-
-      cancels : (is_in_flight y.phase && y.cancelled && not y.cancel_staged) ≡ (is_in_flight x.phase && x.cancelled && not x.cancel_staged)
-      cancels = rw (same.in_flight, same.cancelled, same.cancel_staged) refl
-
-      over : (is_resolved y.phase && not y.released) ≡ (is_resolved x.phase && not x.released)
-      over = rw (same.resolved, same.released) refl
-
-      it : IsListed (own_of w x.worker) (seat_of late x.worker).landed k y
-      it =
-          record {
-            queued = λ h. was.queued (sym same.queued ∙ h);
-            landed_in = landed_in;
-            unenrolled = λ h. was.unenrolled (sym undated ∙ h);
-            cancels = λ h. was.cancels (sym cancels ∙ h);
-            over = λ h. was.over (sym over ∙ h);
-          }
+  listed_still = grind arith
 
   under_way : (m : MailMessage) (i j : ℕ) → j ≡ i → IsUnderWay m (seat_of s i) → IsUnderWay m (seat_of late j)
   under_way m i j same (inl within) = inl (subst (λ n. list_any (same_message m) (seat_of late n).inbox ≡ true) (sym same) ((left.seat i).inbox m within))
@@ -128,8 +82,6 @@ module _ (w : World) (late : Common) (left : Leaves w.common late) (held : IsBoo
         requests = λ k h. rw ((left.request k).worker, left.seats) (held.requests k (subst (λ n. k < n) left.requests h));
         sleepers = λ z h. rw (left.sleepers, left.seats) (held.sleepers z (subst (λ zs. z < length zs) left.sleepers h));
         sent = λ k h. let same = left.request k in under_way (message.ForwardRequest k) (request_of s k).worker (request_of late k).worker same.worker (held.sent k (sym same.forwarding ∙ h));
-        sent_too = λ z h.
-            let same = ap (λ zs. get_or zs z no_sleeper) left.sleepers in
-            under_way (message.ForwardTimer z) (sleeper_of s z).worker (sleeper_of late z).worker (ap (λ (y : Sleeper). y.worker) same) (held.sent_too z (ap (λ (y : Sleeper). y.forwarding) (sym same) ∙ h));
+        sent_too = grind arith;
         dues = dues;
       }

@@ -1,6 +1,6 @@
 -- Whose request or sleeper an event of a worker changes.
-use Rattle.std.proofs.Common.{◌≡◌, ℕ, Bool, true, false, Option, Some, None, refl, sym, ◌∙◌, subst}
-use Rattle.std.proofs.lemmas.Bool.{true≢false, false≢true, and_parts, eqb-true}
+use Rattle.std.proofs.Common.{◌≡◌, ℕ, Bool, true, false, Option, Some, None, refl, sym, ◌∙◌, arith}
+use Rattle.std.proofs.lemmas.Bool.{false≢true}
 use Rattle.std.specs.Prelude.{slice_get}
 use Rattle.exec_machine.specs.{declared.{config.Configuration.Configuration, event.Event.Event, state.{MailMessage.MailMessage}}}
 use Rattle.exec_machine.specs.{Allowed.Allowed, Choice.{Choice}, Mail.{is_first_message}, Same.same_message, World.{Common, Own as Books, Seat, request_of, seat_of, sleeper_of}}
@@ -34,36 +34,13 @@ is_cancel_applied (event.Apply (message.CancelTimer z)) = true
 is_cancel_applied _ = false
 
 pub own_by_allowed : (c : Configuration) (me : Books) (s : Common) (i : ℕ) (e : Event) (choice : Choice) → Allowed c me s i e choice → is_cancel_applied e ≡ false → IsOwn s i e
-own_by_allowed c me s i (event.Drop r) choice h calm = eqb-true (request_of s r).worker i h.1.1.0
-own_by_allowed c me s i (event.Grant r outcome) choice h calm = eqb-true (request_of s r).worker i h.1.0
-own_by_allowed c me s i (event.Enrol r outcome) choice h calm = eqb-true (request_of s r).worker i h.1.1.0
-own_by_allowed c me s i (event.Reap r n outcome) choice h calm = eqb-true (request_of s r).worker i h.1.1.0
-own_by_allowed c me s i (event.Expire r outcome) choice h calm = eqb-true (request_of s r).worker i (and_parts _ _ (and_parts _ _ h.1.0).0).0
-own_by_allowed c me s i (event.Orphan r outcome) choice h calm = eqb-true (request_of s r).worker i h.1.1.1.0
-own_by_allowed c me s i (event.Stage r) choice h calm = eqb-true (request_of s r).worker i h.1.1.0
-own_by_allowed c me s i (event.Cancel r) choice h calm = eqb-true (request_of s r).worker i h.1.1.0
-own_by_allowed c me s i (event.Release r) choice h calm = eqb-true (request_of s r).worker i h.1.1.0
-own_by_allowed c me s i (event.Fire z) choice h calm = eqb-true (sleeper_of s z).worker i (and_parts _ _ (and_parts _ _ h.1.1.0).0).0
-own_by_allowed c me s i (event.Apply (message.CancelRequest r)) choice h calm = absurd (true≢false calm)
-own_by_allowed c me s i (event.Apply (message.CancelTimer z)) choice h calm = absurd (true≢false calm)
-own_by_allowed c me s i (event.Apply message.Root) choice h calm = tt
-own_by_allowed c me s i (event.Apply (message.ForwardRequest r)) choice h calm = tt
-own_by_allowed c me s i (event.Apply (message.ForwardTimer z)) choice h calm = tt
-own_by_allowed c me s i _ choice h calm = tt
+own_by_allowed = grind arith
 
 cancel_first : (s : Common) (i r : ℕ) (first : MailMessage) → same_message (message.CancelRequest r) first ≡ true → IsOwnMessage s i first → (request_of s r).worker ≡ i
-cancel_first s i r (message.CancelRequest q) same own = subst (λ n. (request_of s n).worker ≡ i) (sym (eqb-true r q same)) own
-cancel_first s i r message.Root same own = absurd (false≢true same)
-cancel_first s i r (message.ForwardRequest q) same own = absurd (false≢true same)
-cancel_first s i r (message.ForwardTimer q) same own = absurd (false≢true same)
-cancel_first s i r (message.CancelTimer q) same own = absurd (false≢true same)
+cancel_first = grind arith
 
 timer_first : (s : Common) (i z : ℕ) (first : MailMessage) → same_message (message.CancelTimer z) first ≡ true → IsOwnMessage s i first → (sleeper_of s z).worker ≡ i
-timer_first s i z (message.CancelTimer q) same own = subst (λ n. (sleeper_of s n).worker ≡ i) (sym (eqb-true z q same)) own
-timer_first s i z message.Root same own = absurd (false≢true same)
-timer_first s i z (message.ForwardRequest q) same own = absurd (false≢true same)
-timer_first s i z (message.ForwardTimer q) same own = absurd (false≢true same)
-timer_first s i z (message.CancelRequest q) same own = absurd (false≢true same)
+timer_first = grind arith
 
 -- the first of the inbox is the message that is applied
 first_message : (m : MailMessage) (seat : Seat) (first : Option MailMessage) → slice_get seat.inbox 0 ≡ first → is_first_message m seat ≡ true

@@ -1,10 +1,10 @@
 -- An event of a worker leaves the requests and sleepers of all others, but for who waits for them.
-use Rattle.std.proofs.Common.{◌≡◌, ℕ, zero, suc, ◌<◌, ◌≤◌, ◌+◌, ◌==◌, ◌&&◌, Bool, true, false, List, [], ◌∷◌, ◌++◌, length, map, Option, Some, None, refl, sym, ap, ◌∙◌, subst, arith, inl, inr, get_or, set, if◌then◌else◌}
-use Rattle.std.proofs.lemmas.Bool.{cases_Bool, and_parts, eqb-true}
+use Rattle.std.proofs.Common.{◌≡◌, ℕ, zero, suc, ◌<◌, ◌≤◌, ◌+◌, ◌==◌, ◌&&◌, Bool, true, false, List, [], ◌∷◌, ◌++◌, length, map, Option, Some, None, refl, sym, ◌∙◌, subst, arith, inl, inr, get_or, set, if◌then◌else◌}
+use Rattle.std.proofs.lemmas.Bool.{cases_Bool, eqb-true}
 use Rattle.std.proofs.lemmas.List.{get_or_append_left, get_or_push, length-append, length-map, length-set}
 use Rattle.exec_outcomes.specs.declared.outcome.{OpResult.OpResult, Outcome.Outcome}
 use Rattle.exec_machine.specs.declared.{config.Configuration.Configuration, event.Event.Event, state.{Forwarding.{Forwarding, TheVariants.{Applied, Sent}}, MailMessage.MailMessage, Next.Next, Request.Request}}
-use Rattle.exec_machine.specs.{After.{common_after, polled}, Choice.{Choice, Payer, Choice.{Plain, Passes, Pays, Posts}, Payer.{ByRequest, BySleeper, ByAct, ByCall, ByStop}}, Closing.{after_clear, after_next, ends_by_clear, with_cleared}, Deadlines.{enrolled, expired}, Mail.{after_post, after_sending, is_left_out, is_root_message}, Requests.{dropped, ends_by_drop, flown, granted, is_cancelled_by_drop, new_request, reaped, resolved_if}, Tasks.{after_over, after_payment, after_pend, after_word, requests_after_drops}, Tests.is_staged, World.{Common, Own as Books, no_request, request_of, task_of}}
+use Rattle.exec_machine.specs.{After.{common_after, polled}, Choice.{Choice, Payer, Choice.{Plain, Passes, Pays, Posts}, Payer.{ByRequest, BySleeper, ByAct, ByCall, ByStop}}, Closing.{after_clear, after_next, ends_by_clear, with_cleared}, Deadlines.{enrolled, expired}, Mail.{after_post, after_sending, is_left_out, is_root_message}, Requests.{dropped, flown, granted, new_request, reaped, resolved_if}, Tasks.{after_over, after_payment, after_pend, after_word, requests_after_drops}, World.{Common, Own as Books, no_request, request_of, task_of}}
 use Rattle.exec_machine.specs.declared.event.Event.TheVariants as event
 use Rattle.exec_machine.specs.declared.state.MailMessage.TheVariants as message
 use Rattle.exec_machine.specs.declared.state.Next.TheVariants as next
@@ -32,16 +32,7 @@ spared_same : {x : Request} → Spared x x
 spared_same = record { worker = refl; operation = refl; phase = refl; timer = refl; cancelled = refl; cancel_staged = refl; released = refl }
 
 spared_then : {x y z : Request} → Spared x y → Spared y z → Spared x z
-spared_then a b =
-    record {
-      worker = b.worker ∙ a.worker;
-      operation = b.operation ∙ a.operation;
-      phase = b.phase ∙ a.phase;
-      timer = b.timer ∙ a.timer;
-      cancelled = b.cancelled ∙ a.cancelled;
-      cancel_staged = b.cancel_staged ∙ a.cancel_staged;
-      released = b.released ∙ a.released;
-    }
+spared_then = grind arith
 
 -- who waits for it is no part of that
 touched : (x : Request) (observed : Bool) (waiter : Option ℕ) (paid : ℕ) (forwarding : Forwarding)
@@ -62,12 +53,7 @@ its_own : {i : ℕ} {own : Type 0} {x y : Request} → (own → x.worker ≡ i) 
 its_own own same = record { whose = same; spared = λ h apart. absurd (apart (own h)) }
 
 dropped_worker : (r : Request) → (dropped r).worker ≡ r.worker
-dropped_worker r = by (ends_by_drop r) refl (is_cancelled_by_drop r) refl
-  where
-    by : (ends : Bool) → ends_by_drop r ≡ ends → (cancels : Bool) → is_cancelled_by_drop r ≡ cancels → (dropped r).worker ≡ r.worker
-    by true e cancels f = rw e refl
-    by false e true f = rw (e, f) refl
-    by false e false f = rw (e, f) refl
+dropped_worker = grind arith
 
 granted_worker : (outcome : Option Outcome) (r : Request) → (granted outcome r).worker ≡ r.worker
 granted_worker None r = refl
@@ -90,11 +76,7 @@ resolved_worker None r = refl
 resolved_worker (Some outcome) r = refl
 
 flown_kept : {own : Type 0} (i : ℕ) (r : Request) → Kept i own r (flown i r)
-flown_kept {own} i r = by ((r.worker == i) && is_staged r.phase) refl
-  where
-    by : (b : Bool) → ((r.worker == i) && is_staged r.phase) ≡ b → Kept i own r (flown i r)
-    by true h = rw h (its_own (λ own. eqb-true r.worker i (and_parts (r.worker == i) (is_staged r.phase) h).0) refl)
-    by false h = rw h (but spared_same)
+flown_kept = grind arith
 
 -- THE LIST OF REQUESTS
 
@@ -141,12 +123,7 @@ map_kept {i} (x ∷ rs) zero = flown_kept i x
 map_kept (x ∷ rs) (suc k) = map_kept rs k
 
 push_leaves : {i : ℕ} {own : Type 0} (rs : List Request) (y : Request) → y.worker ≡ i → Leaves i own rs (rs ++ y ∷ [])
-push_leaves {i} {own} rs y whose =
-    record {
-      each = λ k within. subst (λ it. Kept i own (get_or rs k no_request) it) (sym (get_or_append_left rs (y ∷ []) no_request k within)) (but spared_same);
-      long = omega (arith, length-append rs (y ∷ []));
-      made = λ k past within. ap (λ (it : Request). it.worker) (get_or_push rs y no_request k (omega (arith, length-append rs (y ∷ []), past, within))) ∙ whose;
-    }
+push_leaves = grind (arith, get_or_append_left, but, spared_same, length-append, get_or_push)
 
 drops_stay : {i : ℕ} {own : Type 0} (held : List ℕ) (rs : List Request) → Stays i own rs (requests_after_drops i held rs)
 drops_stay [] rs = stays_same
@@ -163,10 +140,7 @@ drops_stay {i} {own} (r ∷ held) rs = by (it.worker == i) refl (drops_stay held
 -- EACH EVENT
 
 next_requests : (s : Common) (i : ℕ) (n : Next) → (after_next s i n).requests ≡ s.requests
-next_requests s i next.Free = refl
-next_requests s i (next.Joins r) = refl
-next_requests s i next.ClosesQueue = refl
-next_requests s i next.ClosesMailbox = refl
+next_requests = grind arith
 
 word_requests : (s : Common) (polls : Option ℕ) → (after_word s polls).requests ≡ s.requests
 word_requests s None = refl

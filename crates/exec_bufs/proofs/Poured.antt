@@ -1,10 +1,10 @@
 -- What the loops over chunks do.
 use Rattle.std.proofs.Common.{◌≡◌, ℕ, suc, ◌+◌, ◌-◌, ◌<◌, ◌≤◌, List, [], ◌∷◌, ◌++◌, length, take, drop, min, set, get_or, sum_by, replicate, refl, sym, ap, ◌∙◌, arith, add-one, append_assoc, length-append, length-drop, drop-cons}
 use Rattle.std.proofs.Math.Seq.{take-suc-set}
-use Rattle.std.proofs.lemmas.List.{take-append-drop, length-take, length-take-le, length-replicate, drop-set-lt, append-nil}
+use Rattle.std.proofs.lemmas.List.{take-append-drop, length-take, length-take-le, length-replicate, drop-set-lt}
 use Rattle.std.proofs.lemmas.List.Sums.{sum_by-cons}
 use Rattle.std.proofs.lemmas.List.Concat.{length-flat_map}
-use Rattle.exec_bufs.specs.Buffers.{Buffer, resized, bytes_of, filled, room, cuts, spread, joined}
+use Rattle.exec_bufs.specs.Buffers.{Buffer, resized, bytes_of, filled, room, cuts, spread}
 
 -- buffers that keep their lengths, with these bytes in them
 abbrev pub poured : List ℕ → List Buffer → List Buffer
@@ -97,12 +97,6 @@ room-spread n [] = refl
 room-spread n (b ∷ bs) =
     let first : Buffer = record b { bytes = resized (min n b.capacity) b.bytes } in
     room-cons first (spread (n - b.capacity) bs) ∙ ap (λ m. b.capacity + m) (room-spread (n - b.capacity) bs) ∙ sym (room-cons b bs)
-
--- the bytes of buffers as one
-pub bytes-joined : (bs : List Buffer) → (joined bs).bytes ≡ bytes_of bs
-bytes-joined [] = refl
-bytes-joined (b ∷ []) = sym (append-nil b.bytes)
-bytes-joined (b ∷ c ∷ bs) = refl
 
 -- as many bytes as the buffers have
 pub length-bytes_of : (bs : List Buffer) → length (bytes_of bs) ≡ filled bs

@@ -6,7 +6,7 @@ use Rattle.exec_machine.specs.{declared.{event.Event.{Event, TheVariants.Turn}, 
 use Rattle.exec_moves.specs.{declared.place.{InClosing.InClosing, Place.Place}, Close.{after_letting_go, batches_closed, close_mailbox, first_asleep, first_held}, Move.move_at, Seen.{next_at, serves_at}, Thing.{set_inbox, with_inbox}}
 use Rattle.exec_parts.{specs.{declared.parts.{held.Held.Held, mail.Subject.Subject, seat.Seat.Seat as Chair, shared.Shared.Shared, task_slot.TaskSlot.TaskSlot, worker.Worker.Worker}, Ending.ClosesOn, Phased.{IsGoing, IsPhased, Stage, TurnsChair, closes_at, closing_in, is_complete, stage_of}, Pooled.OfChair, MailPosts.IsMailbox, Spots.Spot, View.{Visible, common_of, desk_of, driver_of, inbox_at, message_of, own_of, owed_at, seat_seen, seats_seen, things_with, visible, with_view}}, proofs.{Facts.{same_number, same_thing}, Showing.map_set}}
 use Rattle.exec_invariants.{specs.{Drained.IsLetOn, Holding.{Hands, Holder, IsAbout, IsOf, Mail, MayHave, Thing, box_of, holder_of, holdings, mail_in, mail_of_letters, nap_of, same_mail, thing_of}, Places.{drops_at, is_pooled_at, no_drops}, Sound.{Aims, HasBatch, IsMineIn, IsMyMail, LetsGoAt, SoundAt, has_wakes_at}, Whole.{IsWhole, Profile, duties_of, hands_of, with_worker}, Works.Steps}, proofs.{Aside.{queue_of_chair, queues_set, seats_own}, Closes.closed_by, Dedicated.own_root, LetsNext.lets_next, Mailing.{inbox_shows, own_inbox_seen}, PoolKept.all_over, Seats.own_seat, Shutting.{Follows, Holds, mail_there}, SparedRecord.there_within}}
-use Rattle.exec_closing.proofs.{Parting.{follows_drain, on_seats, ready_own}, ShutHeld.shut_holding, Unmailed.pools_unmailed}
+use Rattle.exec_closing.proofs.{Parting.{on_seats, ready_own}, ShutHeld.shut_holding, Unmailed.pools_unmailed}
 
 no_mail : (m : Mail) → Contains [] m → ⊥
 no_mail m (k, few, is) = omega (arith, few)
@@ -26,10 +26,7 @@ count_none p xs none = sum_none (λ x. cond (p x) 1 0) xs (λ j x at. ap (λ b. 
 
 -- what is one of a list that was made of another
 mapped_back : {A C : Type 0} (f : A → C) (xs : List A) (k : ℕ) (y : C) → slice_get (map f xs) k ≡ Some y → (x : A) × (slice_get xs k ≡ Some x) × (f x ≡ y)
-mapped_back f xs k y at =
-    let within : k < length xs = subst (λ n. k < n) (length-map xs f) (slice_get_within (map f xs) k y at) in
-    let it = there_within xs k within in
-    (it.0, it.1, same_thing (f it.0) y (sym (slice_get-map f xs k ∙ ap (option_map f) it.1) ∙ at))
+mapped_back = grind (arith, length-map, slice_get_within, there_within, same_thing, slice_get-map)
 
 mapped : {A C : Type 0} (f : A → C) (xs : List A) (k : ℕ) (x : A) → slice_get xs k ≡ Some x → slice_get (map f xs) k ≡ Some (f x)
 mapped f xs k x at = slice_get-map f xs k ∙ ap (option_map f) at
@@ -50,10 +47,7 @@ taken_empty : (i : Inbox Subject Subject) (b : Reserved Mail) → (batch_taken i
 taken_empty i b = by_list i.messages (λ none. ap (λ (x : Inbox Subject Subject). x.messages) (taken_as i b none) ∙ none) (λ m ms some. ap (λ (x : Inbox Subject Subject). x.messages) (taken_some i b m ms some))
 
 taken_places : (i : Inbox Subject Subject) (b : Reserved Mail) → (i.messages ≡ [] → 0 < i.places) → 0 < b.places → 0 < (batch_taken i b).places
-taken_places i b own other =
-    by_list i.messages
-    (λ none. subst (λ (x : Inbox Subject Subject). 0 < x.places) (sym (taken_as i b none)) (own none))
-    (λ m ms some. subst (λ (x : Inbox Subject Subject). 0 < x.places) (sym (taken_some i b m ms some)) other)
+taken_places = grind arith
 
 few_batches : (ms : List Mail) (n : ℕ) → n < 2 ^ 29 → batches_closed (map message_of ms) n < 2 ^ 29
 few_batches [] n few = few
@@ -68,12 +62,6 @@ seats_twice (x ∷ vs) (c ∷ seats) zero v chair = refl
 seats_twice (x ∷ vs) (c ∷ seats) (suc i) v chair = ap (λ ys. seat_seen x c ∷ ys) (seats_twice vs seats i v chair)
 
 -- WHERE IT GOES ON: to what it lets go, or to the callbacks
-
-follows_orphan : Follows (Place.Closing InClosing.Orphan)
-follows_orphan = record { polls = refl; served = refl; unarmed = refl; begins = refl; hands_on = refl; calls = refl; searches = refl; claims = refl; counts = refl; published = refl; passes = refl; joins = refl; spare = refl; cancels = refl; sends = refl; heard = refl; queue = λ own none. none }
-
-follows_sleeper : Follows (Place.Closing InClosing.CloseSleeper)
-follows_sleeper = record { polls = refl; served = refl; unarmed = refl; begins = refl; hands_on = refl; calls = refl; searches = refl; claims = refl; counts = refl; published = refl; passes = refl; joins = refl; spare = refl; cancels = refl; sends = refl; heard = refl; queue = λ own none. none }
 
 module _ {B : Type 0} where
   -- all of the closing is behind it, but what is let go; of the stage this became
@@ -94,51 +82,7 @@ module _ {B : Type 0} where
     pub past : (st : Stage) → PastMail q w.home.closing w.index w.root w.names.unreleased st s.tasks.items
 
   pub goes_to : (q : Place) (w : Worker) (s : Shared B) → ClosesOn (driver_of w) w.home.timers q → GoesTo q w s
-  goes_to q w s (ClosesOn.holds id first is) =
-      subst (λ x. GoesTo x w s) (sym is)
-      (record {
-        follows = follows_orphan;
-        lets_go = (id, first.held);
-        drops = refl;
-        unpooled = refl;
-        wakes = refl;
-        free = refl;
-        unserved = refl;
-        owes = λ n. refl;
-        aims = λ i seats. tt;
-        batch = λ ms none. none;
-        past = λ st going was. record { told = was.told; opened = was.opened; ended = λ h. absurd (false≢true (sym going ∙ h)); root = was.root; left = was.left; shut = refl; by_zero = was.by_zero; by_other = was.by_other; closed = was.closed; prepared = tt };
-      })
-  goes_to q w s (ClosesOn.sleeps none some is) =
-      subst (λ x. GoesTo x w s) (sym is)
-      (record {
-        follows = follows_sleeper;
-        lets_go = (none, some);
-        drops = refl;
-        unpooled = refl;
-        wakes = refl;
-        free = refl;
-        unserved = refl;
-        owes = λ n. refl;
-        aims = λ i seats. tt;
-        batch = λ ms none. none;
-        past = λ st going was. record { told = was.told; opened = was.opened; ended = λ h. absurd (false≢true (sym going ∙ h)); root = was.root; left = was.left; shut = refl; by_zero = was.by_zero; by_other = was.by_other; closed = was.closed; prepared = tt };
-      })
-  goes_to q w s (ClosesOn.nothing none gone is) =
-      subst (λ x. GoesTo x w s) (sym is)
-      (record {
-        follows = follows_drain;
-        lets_go = λ h. gone;
-        drops = refl;
-        unpooled = refl;
-        wakes = refl;
-        free = refl;
-        unserved = refl;
-        owes = λ n. refl;
-        aims = λ i seats. tt;
-        batch = λ ms none h. none;
-        past = λ st going was. record { told = was.told; opened = was.opened; ended = λ h. absurd (false≢true (sym going ∙ h)); root = was.root; left = was.left; shut = refl; by_zero = was.by_zero; by_other = was.by_other; closed = was.closed; prepared = tt };
-      })
+  goes_to = grind arith
 
   -- NOBODY HOLDS ANYTHING OF IT: who could, was polled by the pool, which has passed the barrier, or is its root; and is over
 

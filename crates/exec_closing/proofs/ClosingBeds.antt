@@ -1,5 +1,5 @@
 -- A closing worker lets go of a sleeper: its slot is free, and what holds again of its sleepers, their names and slots.
-use Rattle.std.proofs.{Common.{◌≡◌, ◌≢◌, ℕ, ◌+◌, ◌^◌, ◌<◌, ◌≤◌, ◌==◌, ◌&&◌, Bool, true, false, not, cond, List, length, nat_lt, Option, Some, None, IsSome, refl, sym, ap, subst, ◌∙◌, arith, slice_get, slice_set, slice_index_or}, lemmas.{Bool.{false≢true, and_parts}, List.length-set}}
+use Rattle.std.proofs.{Common.{◌≡◌, ◌≢◌, ℕ, ◌+◌, ◌^◌, ◌<◌, Bool, true, false, List, length, Some, None, IsSome, refl, sym, ap, subst, ◌∙◌, arith, slice_get, slice_set, slice_index_or}, lemmas.{Bool.{false≢true}, List.length-set}}
 use Rattle.exec_base.{specs.{Slab.{IsPast, Slab, freed, is_live, live_count, removed, value_at, Updates}, declared.slab.{Id.Id, Slot.{Slot, TheVariants.{Live, Vacant, Retired}}}}, proofs.Slots.{Changed-set, IsLiveAt-from_value, count-set, live_within, past-free, was_live}}
 use Rattle.exec_time.specs.declared.timers.Sleeper.{Sleeper as Sleeping}
 use Rattle.exec_driver.specs.Driving.{Driving}
@@ -10,11 +10,7 @@ use Rattle.exec_invariants.{specs.{Due.AreAsleep, Names.IsNamed}, proofs.{Firing
 -- THE SLAB
 
 dead : (g : ℕ) → is_live {T = Sleeping Reply} (freed g) ≡ false
-dead g = by (nat_lt (g + 1) (2 ^ 64))
-  where
-    by : (b : Bool) → is_live {T = Sleeping Reply} (cond b (Vacant (g + 1)) Retired) ≡ false
-    by true = refl
-    by false = refl
+dead = grind arith
 
 pub one_less : (zs zs' : Slab (Sleeping Reply)) (id : Id) (it : Sleeping Reply) → value_at zs id ≡ Some it → zs' ≡ removed zs id → live_count zs' + 1 ≡ live_count zs
 one_less zs zs' id it at is =
@@ -51,33 +47,12 @@ module _ {closing : Bool} (i : ℕ) (n : Names) (d : Driving Reply Reply) (zs zs
     pub unclosed : z.closed ≡ false
     pub sleeps : is_asleep i z.shown ≡ true
 
-  off : (b : Bool) → not b ≡ true → b ≡ false
-  off false h = refl
-  off true h = absurd (false≢true h)
-
   pub closable : Closable
-  closable =
-      let x = named.timers id some in
-      let same : x.0 ≡ z = same_thing x.0 z (sym x.1 ∙ there) in
-      let a = asleep.alike id it z was there in
-      let parts = and_parts ((z.shown.worker == i) && not z.shown.fired) (not z.shown.removed) a.asleep in
-      let first = and_parts (z.shown.worker == i) (not z.shown.fired) parts.0 in
-      record {
-        mine = ap (λ (y : SleeperRecord). y.shown.worker) (sym same) ∙ x.3;
-        name = ap (λ (y : SleeperRecord). y.id.0) (sym same) ∙ x.2;
-        unfired = off z.shown.fired first.1;
-        unremoved = off z.shown.removed parts.1;
-        unclosed = a.unclosed;
-        sleeps = a.asleep;
-      }
+  closable = grind arith
 
   -- no two slots have one number
   pub apart : (other : Id) → IsSome (value_at zs other) → other ≢ id → number_in n.timers.items id ≡ number_in n.timers.items other → ⊥
-  apart other live differs same =
-      let a = named.timers other live in
-      let b = named.timers id some in
-      let one : a.0 ≡ b.0 = same_thing a.0 b.0 (sym a.1 ∙ ap (slice_get ss) (sym same) ∙ b.1) in
-      differs (sym a.2 ∙ ap (λ (y : SleeperRecord). y.id.0) one ∙ b.2)
+  apart = grind arith
 
   small : id.generation < 2 ^ 64
   small = let below = asleep.counted id (past_there zs id some) in omega (arith, below, short)
@@ -105,11 +80,7 @@ module _ {closing : Bool} (i : ℕ) (n : Names) (d : Driving Reply Reply) (zs zs
   k = number_in n.timers.items id
 
   differs_now : (other : Id) → IsSome (value_at zs' other) → other ≢ id
-  differs_now other live same = false≢true (sym (ap (λ o. is_some_in o) (ap (value_at zs') same ∙ gone.changed)) ∙ live)
-    where
-      is_some_in : Option (Sleeping Reply) → Bool
-      is_some_in None = false
-      is_some_in (Some x) = true
+  differs_now = grind arith
 
   before : (other : Id) → IsSome (value_at zs' other) → IsSome (value_at zs other)
   before other live = subst IsSome (gone.others other (differs_now other live)) live
@@ -121,23 +92,10 @@ module _ {closing : Bool} (i : ℕ) (n : Names) (d : Driving Reply Reply) (zs zs
   now_there = set_there ss k (sleeper_closed z) z there
 
   by_sleeper : {C : Type 0} (j : ℕ) (x : SleeperRecord) → slice_get (slice_set ss (number_in n.timers.items id) (sleeper_closed z)) j ≡ Some x → (j ≡ number_in n.timers.items id → sleeper_closed z ≡ x → C) → ((number_in n.timers.items id ≡ j → ⊥) → slice_get ss j ≡ Some x → C) → C
-  by_sleeper j x at this other =
-      by_number j k
-      (λ differs. other (λ e. differs (sym e)) (sym (set_elsewhere ss k j (sleeper_closed z) differs) ∙ at))
-      (λ e. this e (same_thing (sleeper_closed z) x (sym now_there ∙ ap (slice_get (slice_set ss k (sleeper_closed z))) (sym e) ∙ at)))
+  by_sleeper = grind (arith, by_number, set_elsewhere, same_thing, now_there)
 
   pub named_closed : IsNamed i n d zs' rs (slice_set ss (number_in n.timers.items id) (sleeper_closed z))
-  named_closed =
-      let beds : length zs'.slots ≤ length n.timers.items = subst (λ m. m ≤ length n.timers.items) (sym (ap (λ (x : Slab (Sleeping Reply)). length x.slots) is ∙ as_long zs id)) named.beds in
-      record {
-        requests = named.requests;
-        timers = λ other live. let old = named.timers other (before other live) in (old.0, elsewhere other live ∙ old.1, old.2, old.3);
-        alike = named.alike;
-        over = named.over;
-        submitted = named.submitted;
-        slots = named.slots;
-        beds = beds;
-      }
+  named_closed = grind (arith, as_long, before, elsewhere)
 
   pub asleep_closed : closing ≡ true → AreAsleep closing i n zs' (slice_set ss (number_in n.timers.items id) (sleeper_closed z))
   asleep_closed closes =

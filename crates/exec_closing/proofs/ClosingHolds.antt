@@ -4,7 +4,7 @@ use Rattle.std.proofs.{Common.{◌≡◌, ◌⊎◌, ℕ, zero, suc, ◌+◌, �
 use Rattle.exec_words.specs.declared.inbox.Message.{Message}
 use Rattle.exec_machine.specs.Tests.{is_unsent}
 use Rattle.exec_parts.proofs.Facts.{same_thing, set_there}
-use Rattle.exec_invariants.{specs.Holding.{Awaits, Box, Hands, Holder, IsHolding, IsOwed, Mail, Nap, NapOwes, Owes, Thing, IsForwarded, mail_in, under_way, waiters}, proofs.HoldSleeps.nap_redone}
+use Rattle.exec_invariants.{specs.Holding.{Awaits, Box, Hands, Holder, IsHolding, IsOwed, Mail, Nap, Owes, Thing, IsForwarded, mail_in, under_way, waiters}, proofs.HoldSleeps.nap_redone}
 use Rattle.exec_parts.specs.declared.parts.mail.Subject.TheVariants as subject
 
 -- WHAT TASKS HOLD AND ARE OWED
@@ -29,13 +29,7 @@ module _ (h h' : Hands) (workers : ℕ) (hs : List Holder) (ts : List Thing) (na
 
   -- and was owed no wake
   none_before : (i : ℕ) → 0 < h.wakes i z.task → ⊥
-  none_before i some =
-      let owed = (old.owed i z.task some).1 in
-      let same : owed.it ≡ waits.it = same_thing owed.it waits.it (sym owed.there ∙ waits.there) in
-      let owes : Owes i z.task (Some (subject.Timer n)) ts naps boxes = subst (λ o. Owes i z.task o ts naps boxes) (ap (λ (x : Holder). x.awaits) same ∙ waits.awaits) owed.owes in
-      let is : owes.0 ≡ z = same_thing owes.0 z (sym owes.1 ∙ there) in
-      let by : NapOwes i z.task z = subst (NapOwes i z.task) is owes.2 in
-      asleep by.over
+  none_before = grind (arith, waits, same_thing, asleep)
 
   -- who is over and waits still is no root
   homeless : (o : Option ℕ) → waits.it.home ≡ o → waits.it.home ≡ None

@@ -1,6 +1,7 @@
 -- A closing worker lets go of a request that somebody holds, or of a sleeper: where it goes on, what holds of it there, and what
 -- others rely on. By what holds again of its own requests and sleepers, and of what tasks hold.
 use Rattle.std.proofs.{Common.{◌≡◌, ◌+◌, true, false, Contains, [], map, option_to_list, Some, None, refl, sym, ap, subst, ◌∙◌, slice_get}, lemmas.Bool.false≢true}
+use Rattle.std.proofs.Common.{arith}
 use Rattle.exec_task.specs.declared.runnable.Runnable.{Runnable}
 use Rattle.exec_moves.specs.{declared.place.{InClosing.InClosing, Place.Place}, Seen.polls_at}
 use Rattle.exec_parts.specs.{declared.parts.{mail.Subject.Subject, seat.Seat.Seat as Chair, shared.Shared.Shared, worker.Worker.Worker}, Ending.ClosesOn, Phased.{IsGoing, IsPhased, closes_at, closing_in, stage_of}, Roles.is_pool, Calls.IsTold, View.driver_of}

@@ -1,6 +1,6 @@
 -- The sleepers of a worker that has ended: each that it let go as it closed counts as removed already, so what tasks hold, and
 -- what others rely on, says the same of each.
-use Rattle.std.proofs.{Common.{◌≡◌, ◌≢◌, ℕ, suc, ◌+◌, ◌<◌, ◌≤◌, ◌==◌, ◌&&◌, ◌||◌, Bool, true, false, not, Contains, List, [], ◌∷◌, length, map, option_map, Some, None, IsSome, refl, sym, ap, subst, ◌∙◌, arith, slice_get, if◌then◌else◌}, lemmas.{Bool.false≢true, List.length-map, Option.slice_get-map}}
+use Rattle.std.proofs.{Common.{◌≡◌, ◌≢◌, ℕ, suc, ◌+◌, ◌<◌, ◌≤◌, ◌&&◌, ◌||◌, true, false, Contains, List, [], ◌∷◌, length, map, option_map, Some, None, IsSome, refl, sym, ap, subst, ◌∙◌, arith, slice_get, if◌then◌else◌}, lemmas.{Bool.false≢true, List.length-map, Option.slice_get-map}}
 use Rattle.exec_base.specs.{Slab.value_at, declared.slab.Id.Id}
 use Rattle.exec_time.specs.declared.timers.Sleeper.{Sleeper as Sleeping}
 use Rattle.exec_machine.specs.{Closing.gone_with, Tasks.removed, Tests.{is_applied, is_asleep, is_unsent}}
@@ -8,14 +8,6 @@ use Rattle.exec_moves.specs.declared.{handing.Heard.Heard, place.{InClosing.InCl
 use Rattle.exec_parts.{specs.{declared.parts.{mail.Reply.Reply, shared.Shared.Shared, sleeping.SleeperRecord.SleeperRecord, worker.Worker.Worker}, Calls.{sleeper_gone_with, sleeper_removed}, Records.number_in, View.{driver_of, numbers_of_passing}}, proofs.Facts.not_same}
 use Rattle.exec_invariants.{specs.{Due.{AreAsleep, IsDue}, Holding.{IsHolding, Mail, Nap, box_of, holder_of, nap_of, thing_of}, Places.one_if, Rooted.{IsRooted, SleeperPays, completions_of, ends_elsewhere}, Sound.{HasLetters, IsMyMail, SoundAt}, Names.IsNamed, Spares.{SleepersEndure, SparedSleepers, Spares, SparesSleepers}, Whole.{IsWhole, Profile, hands_of}}, proofs.{FiringNames.naps_on, Lined.unmapped}}
 use Rattle.exec_closing.proofs.NoneAsleep.{none_live}
-
-and_no : (b : Bool) → (b && false) ≡ false
-and_no true = refl
-and_no false = refl
-
-and_left : (b : Bool) → ((b && false) && true) ≡ false
-and_left true = refl
-and_left false = refl
 
 no_mail : (m : Mail) → Contains [] m → ⊥
 no_mail m (k, few, is) = omega (arith, few)
@@ -26,35 +18,14 @@ no_mail m (k, few, is) = omega (arith, few)
 abbrev pub IsLetGo : ℕ → SleeperRecord → Type 0
 IsLetGo i z = is_asleep i z.shown ≡ true → z.closed ≡ true
 
-removed_twice : (fired removed closed : Bool) → ((not fired && not removed) ≡ true → closed ≡ true) → ((removed || not fired) || closed) ≡ (removed || closed)
-removed_twice true true closed h = refl
-removed_twice true false closed h = refl
-removed_twice false true closed h = refl
-removed_twice false false closed h = sym (h refl)
-
-asleep_by : (i : ℕ) (z : SleeperRecord) → (z.shown.worker == i) ≡ true → (not z.shown.fired && not z.shown.removed) ≡ true → is_asleep i z.shown ≡ true
-asleep_by i z is awake = ap (λ b. (b && not z.shown.fired) && not z.shown.removed) is ∙ awake
-
 pub nap_gone : (i : ℕ) (z : SleeperRecord) → IsLetGo i z → nap_of (sleeper_gone_with i z) ≡ nap_of z
-nap_gone i z let_go = by (z.shown.worker == i) refl
-  where
-    by : (b : Bool) → (z.shown.worker == i) ≡ b → nap_of (if b then sleeper_removed z else z) ≡ nap_of z
-    by false is = refl
-    by true is = ap (λ b. record (nap_of z) { removed = b }) (removed_twice z.shown.fired z.shown.removed z.closed (λ awake. let_go (asleep_by i z is awake)))
+nap_gone = grind arith
 
 closed_gone : (i : ℕ) (z : SleeperRecord) → (sleeper_gone_with i z).closed ≡ z.closed
-closed_gone i z = by (z.shown.worker == i)
-  where
-    by : (b : Bool) → (if b then sleeper_removed z else z).closed ≡ z.closed
-    by true = refl
-    by false = refl
+closed_gone = grind arith
 
 id_gone : (i : ℕ) (z : SleeperRecord) → (sleeper_gone_with i z).id.0 ≡ z.id.0
-id_gone i z = by (z.shown.worker == i)
-  where
-    by : (b : Bool) → (if b then sleeper_removed z else z).id.0 ≡ z.id.0
-    by true = refl
-    by false = refl
+id_gone = grind arith
 
 -- one of another worker stays as it is
 other_stays : (i : ℕ) (z : SleeperRecord) → z.shown.worker ≢ i → sleeper_gone_with i z ≡ z
@@ -62,17 +33,7 @@ other_stays i z other = ap (λ b. if b then sleeper_removed z else z) (not_same 
 
 -- and an own one doesn't sleep
 never_asleep : (i : ℕ) (z : SleeperRecord) → is_asleep i (sleeper_gone_with i z).shown ≡ false
-never_asleep i z = by (z.shown.worker == i) refl
-  where
-    over : (own fired removed : Bool) → ((own && not fired) && not (removed || not fired)) ≡ false
-    over own true true = and_no (own && false)
-    over own true false = and_left own
-    over own false true = and_no (own && true)
-    over own false false = and_no (own && true)
-
-    by : (b : Bool) → (z.shown.worker == i) ≡ b → is_asleep i (if b then sleeper_removed z else z).shown ≡ false
-    by true is = over (z.shown.worker == i) z.shown.fired z.shown.removed
-    by false is = ap (λ b. (b && not z.shown.fired) && not z.shown.removed) is
+never_asleep = grind arith
 
 pub ends_gone : (i : ℕ) (z : SleeperRecord) → IsLetGo i z → ends_elsewhere (sleeper_gone_with i z) ≡ ends_elsewhere z
 ends_gone i z let_go = ap (λ (n : Nap). is_applied n.forwarding && (n.fired || n.removed)) (nap_gone i z let_go)
@@ -86,22 +47,12 @@ naps_gone i (z ∷ zs) all = ap (λ n. n ∷ map nap_of (map (sleeper_gone_with 
 -- what the machine makes of them
 pub shown_gone : (i : ℕ) (zs : List SleeperRecord) → map (λ (z : SleeperRecord). z.shown) (map (sleeper_gone_with i) zs) ≡ map (gone_with i) (map (λ (z : SleeperRecord). z.shown) zs)
 shown_gone i [] = refl
-shown_gone i (z ∷ zs) = ap (λ x. x ∷ map (λ (z : SleeperRecord). z.shown) (map (sleeper_gone_with i) zs)) (by (z.shown.worker == i)) ∙ ap (λ xs. gone_with i z.shown ∷ xs) (shown_gone i zs)
-  where
-    by : (b : Bool) → (if b then sleeper_removed z else z).shown ≡ (if b then removed z.shown else z.shown)
-    by true = refl
-    by false = refl
+shown_gone i (z ∷ zs) = grind (arith, shown_gone i zs)
 
 -- their ends were sent as before
 pub alarms_gone : (i k : ℕ) (zs : List SleeperRecord) → numbers_of_passing (λ (z : SleeperRecord). z.sent) k (map (sleeper_gone_with i) zs) ≡ numbers_of_passing (λ (z : SleeperRecord). z.sent) k zs
 alarms_gone i k [] = refl
-alarms_gone i k (z ∷ zs) =
-    ap (λ b. if b then k ∷ numbers_of_passing (λ (z : SleeperRecord). z.sent) (suc k) (map (sleeper_gone_with i) zs) else numbers_of_passing (λ (z : SleeperRecord). z.sent) (suc k) (map (sleeper_gone_with i) zs)) (by (z.shown.worker == i))
-    ∙ ap (λ ks. if z.sent then k ∷ ks else ks) (alarms_gone i (suc k) zs)
-  where
-    by : (b : Bool) → (if b then sleeper_removed z else z).sent ≡ z.sent
-    by true = refl
-    by false = refl
+alarms_gone i k (z ∷ zs) = grind (arith, alarms_gone i (suc k) zs)
 
 mapped : (i : ℕ) (zs : List SleeperRecord) (k : ℕ) (z : SleeperRecord) → slice_get zs k ≡ Some z → slice_get (map (sleeper_gone_with i) zs) k ≡ Some (sleeper_gone_with i z)
 mapped i zs k z at = slice_get-map (sleeper_gone_with i) zs k ∙ ap (option_map (sleeper_gone_with i)) at

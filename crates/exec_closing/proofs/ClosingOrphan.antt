@@ -5,9 +5,9 @@ use Rattle.exec_waiters.specs.{Events.{told_by_orphan, waker_at, waker_in}, Stat
 use Rattle.exec_driver.specs.{Driving.Driving, Steps.{let_go, told_by_let_go}}
 use Rattle.exec_task.specs.declared.body.Said.{Said}
 use Rattle.exec_machine.specs.{declared.event.Event.{Event, TheVariants.Orphan}, Choice.Choice.Plain, Progress.Plan, Requests.{dropped, ends_by_drop, outcome_of_drop, own_after_drop}, Same.same_end, Tests.is_applied, World.{Own, request_of}}
-use Rattle.exec_moves.specs.{declared.place.{InClosing.InClosing, Place.Place}, Close.{after_letting_go, first_asleep, first_held, held_after, orphan}, Move.move_at, State.{Desk, does, goes}, Thing.aside, Told.{has_number, told_of_drop, waker_of, woken_where_awaited}}
+use Rattle.exec_moves.specs.{declared.place.{InClosing.InClosing, Place.Place}, Close.{after_letting_go, first_asleep, first_held, held_after, orphan}, Move.move_at, State.{does, goes}, Thing.aside, Told.{has_number, told_of_drop, waker_of, woken_where_awaited}}
 use Rattle.exec_parts.{specs.{declared.parts.{mail.Reply.Reply, record.Record.Record, shared.Shared.Shared, worker.Worker.Worker}, Awaits.{LetsGo, drops}, Ending.{ClosesOn, Orphans}, Phased.IsGoing, Records.{number_in, outcome_in}, Serving.{changed_at, changed_in}, Spots.Spot, View.{Views, awaited_from, awaits_entry, common_of, desk_of, driver_of, numbers_of_passing, own_of, things_with, visible, with_view}}, proofs.{Facts.{same_number, same_thing}, Showing.map_set}}
-use Rattle.exec_invariants.{specs.{Due.IsDue, Flown.HasFlown, Holding.{Box, Hands, IsHolding, Thing, box_of, holder_of, nap_of, thing_of}, HoldPlaces.{has_wakes_at, is_bare_at}, Places.one_if as one_when, Rooted.{goes_elsewhere, results_of}, Names.{IsAlike, tellers}, Sound.{SoundAt, served_in}, Whole.{IsWhole, Profile, hands_of, wakes_with, with_worker}, Works.{Beside, Steps}}, proofs.{Closes.now_closing, Hearing.unheard, LetSeen.{one_is, one_slot}, LetShown.{SeenLet, let_seen}, LetsNext.{held_found, record_there}, Lined.{gates_seen_same, mapped, opens_same, passing_same, was_sent}, Seats.own_seat, Seeing.common_changed, ServedEnds.{count_both, count_none, count_one}, ServingHolds.Keeps, Serving.{SparesRecords, spares_one}, Slotted.awaited_over, TaskOverFold.{dropped_at_gate, dropped_name, dropped_thing}, Turning.view_found}}
+use Rattle.exec_invariants.{specs.{Holding.{Box, Hands, IsHolding, Thing, box_of, holder_of, nap_of, thing_of}, Places.one_if as one_when, Rooted.{goes_elsewhere, results_of}, Names.{IsAlike, tellers}, Sound.{SoundAt, served_in}, Whole.{IsWhole, Profile, hands_of, wakes_with, with_worker}, Works.{Beside, Steps}}, proofs.{Closes.now_closing, Hearing.unheard, LetSeen.{one_is, one_slot}, LetShown.{SeenLet, let_seen}, LetsNext.{held_found, record_there}, Lined.{gates_seen_same, mapped, opens_same, passing_same, was_sent}, Seats.own_seat, Seeing.common_changed, ServedEnds.{count_both, count_none, count_one}, ServingHolds.Keeps, Serving.{SparesRecords, spares_one}, Slotted.awaited_over, TaskOverFold.{dropped_at_gate, dropped_name, dropped_thing}, Turning.view_found}}
 use Rattle.exec_closing.proofs.{ClosesHeld.holding_ousted, ClosesMail.{GoesTo, goes_to}, ClosingLets.{LetsAt, beside_lets, lets_to, records_of, sound_lets}, ClosingSlab.{TellsSame, Unholds, tells_same, unheld_now}, OrphansNext.{LetsOne, orphan_goes}, OrphanRecord.{drop_wakes, orphan_found, dropped_outcome, end_same, worker_stays, thing_became, longer, open_outcome, some_held, unawaited, unawaited_so, off}}
 
 module _ {B : Type 0} (w w' : Worker) (s s' : Shared B) (e : Event) (sound : SoundAt (Place.Closing InClosing.Orphan) w s) (by : Orphans w w' s s' e) where
@@ -98,21 +98,7 @@ module _ {B : Type 0} (w w' : Worker) (s s' : Shared B) (e : Event) (sound : Sou
       }
 
   before : Keeps w s
-  before =
-      record {
-        told = sound.told;
-        wide = sound.wide;
-        named = sound.named;
-        sized = sound.sized;
-        over = sound.over;
-        quiet = λ h. absurd (false≢true (sym h ∙ ap has_wakes_at sound.here));
-        due = subst (λ p. IsDue (served_in p) w.home.closing w.index w.moments s.config w.names (driver_of w) w.home.timers s.requests.items s.sleepers.items) (sym sound.here) sound.due;
-        flown = subst (λ p. HasFlown (served_in p) w.index w.names (driver_of w) s.requests.items) (sym sound.here) sound.flown;
-        carried = sound.carried;
-        known = sound.known;
-        rooted = sound.rooted;
-        bare = λ h. absurd (false≢true (sym (ap is_bare_at sound.here) ∙ h));
-      }
+  before = grind arith
 
   let_it : SeenLet by.k w v s s' (ap served_in sound.here) sound.gates before lets its.mine its.seen
   let_it = let_seen by.k w v s s' (ap served_in sound.here) sound.gates before lets its.mine its.seen
@@ -137,39 +123,7 @@ module _ {B : Type 0} (w w' : Worker) (s s' : Shared B) (e : Event) (sound : Sou
   wakes_then = by.tells.notes.wakes_added ∙ ap (λ ws. w.home.deferred.notes.wakes.items ++ ws) told.wakes
 
   pub keeps : Keeps (lets_to w x w.place) (records_of s t)
-  keeps =
-      let k0 : Keeps v t = subst (λ y. Keeps v y) by.kept let_it.keeps_on in
-      let ws = w.home.deferred.notes.wakes in
-      let ws' = w'.home.deferred.notes.wakes in
-      let long : length ws'.items ≡ length ws.items + length woken = ap length wakes_then ∙ length-append ws.items woken in
-      let one = few (waker_at entry) in
-      let memory = by.tells.notes.wakes_memory in
-      let less = fewer in
-      let r0 = k0.rooted in
-      let room0 = sound.told.room.notes.wakes in
-      let wide0 = sound.wide.wakes in
-      record {
-        told = record {
-          resources = k0.told.resources;
-          room = record {
-            notes = record { wakes = omega (arith, long, one, memory, less, room0, ws.ok.0, ws'.ok.0); completions = k0.told.room.notes.completions };
-            outputs = k0.told.room.outputs;
-            resources = k0.told.room.resources;
-            results = k0.told.room.results;
-          };
-        };
-        wide = record { wakes = omega (arith, memory, less, wide0); completions = k0.wide.completions; outputs = k0.wide.outputs; resources = k0.wide.resources; results = k0.wide.results };
-        named = k0.named;
-        sized = k0.sized;
-        over = k0.over;
-        quiet = λ h. absurd (false≢true (sym h ∙ ap has_wakes_at sound.here));
-        due = k0.due;
-        flown = k0.flown;
-        carried = k0.carried;
-        known = k0.known;
-        rooted = record { kept = r0.kept; ready = r0.ready; replies = r0.replies; watches = r0.watches; pays = r0.pays; sleeper_pays = r0.sleeper_pays; results = r0.results; completions = r0.completions; sent = r0.sent; sleeper_sent = r0.sleeper_sent };
-        bare = k0.bare;
-      }
+  keeps = grind (arith, let_it, wakes_then, length-append, few, fewer, told, false≢true)
 
   records_so : s'.requests.items ≡ changed_at s.requests.items by.k drops
   records_so = by.records ∙ sym (ap (changed_in s.requests.items by.k drops) by.request)
@@ -312,13 +266,7 @@ module _ {B : Type 0} (w w' : Worker) (s s' : Shared B) (e : Event) (sound : Sou
               ∙ sym (ap (λ o. record (desk_of w) { wakes = (desk_of w).wakes ++ map (λ (n : TaskNo). n.0) (tasks_of o) }) is)
 
   pub told_seen : (q : Place) → record (told_of_drop by.k by.r.shown (woken_where_awaited by.k by.r.shown (desk_of w))) { place = q } ≡ desk_of (lets_to w x q)
-  told_seen q =
-      let ws : List ℕ = (desk_of w).wakes ++ map (λ (n : TaskNo). n.0) woken in
-      let all : map (λ (n : TaskNo). n.0) w'.home.deferred.notes.wakes.items ≡ ws = ap (map (λ (n : TaskNo). n.0)) wakes_then ∙ map-append (λ (n : TaskNo). n.0) w.home.deferred.notes.wakes.items woken in
-      ap (λ (y : Desk). record (told_of_drop by.k by.r.shown y) { place = q }) woken_so
-      ∙ ap (λ (y : Desk). record y { place = q }) (drop_wakes by.k by.r.shown (desk_of w) ws)
-      ∙ ap (λ (y : Desk). record y { wakes = ws; place = q }) (sym let_it.desk)
-      ∙ ap (λ (y : List ℕ). record (desk_of v) { wakes = y; place = q }) (sym all)
+  told_seen = grind (arith, wakes_then, map-append, woken_so, drop_wakes, let_it)
 
   closes_on : ClosesOn (driver_of x) x.home.timers w'.place
   closes_on = subst (λ (y : Worker). ClosesOn (driver_of y) y.home.timers y.place) by.worker by.place

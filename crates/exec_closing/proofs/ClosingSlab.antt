@@ -1,9 +1,9 @@
 -- A request that somebody holds is let go: of the requests at its driver this one is held no more, and the others are as they were.
-use Rattle.std.proofs.{Common.{◌≡◌, ◌≢◌, ◌+◌, ◌&&◌, Bool, true, false, not, List, [], ◌++◌, Option, Some, None, IsSome, refl, sym, ap, subst, ◌∙◌, arith, if◌then◌else◌}, lemmas.{Bool.false≢true, List.append-nil}}
-use Rattle.exec_base.{specs.{Slab.{Slab, freed, removed, value_at, written}, declared.{task_no.TaskNo.TaskNo, slab.Id.Id}}, proofs.Slots.{Changed-set, IsLiveAt-from_value, Updates-free, Updates-write, live_within, was_live}}
+use Rattle.std.proofs.{Common.{◌≡◌, ◌≢◌, ◌+◌, ◌&&◌, Bool, true, false, not, [], Option, Some, None, IsSome, refl, sym, ap, subst, ◌∙◌, arith, if◌then◌else◌}, lemmas.{Bool.false≢true, List.append-nil}}
+use Rattle.exec_base.{specs.{Slab.{Slab, freed, removed, value_at, written}, declared.{slab.Id.Id}}, proofs.Slots.{Changed-set, IsLiveAt-from_value, Updates-free, Updates-write, live_within, was_live}}
 use Rattle.exec_request.specs.{Requests.goes_on_alone, States.asks_cancel}
-use Rattle.exec_waiters.{specs.{Events.{asks_cancel_by_orphan, cancelled as cancelled_of, orphaned_from, told_by_close, told_by_finish, told_by_orphan, told_to, waker_at, with_observer}, States.{is_held, is_held_at, is_held_by}, Told.{Told, nothing_told, tasks_of}, declared.{observer.Observer.{Observer, TheVariants.{DetachedSync, Forwarded, Local, Orphaned}}, waiter.{Entry.{Entry, TheVariants.{Pending, Ready}}, Waiter.Waiter}, waiter_id.WaiterId.WaiterId}}, proofs.Changes.one_if}
-use Rattle.exec_driver.specs.{Driving.{Driving, request_at}, Steps.{both, cancelled_at, cancelled_from, cancelling, ended, let_go, timed_out, told_by_cancel, told_by_let_go, without_observer}}
+use Rattle.exec_waiters.{specs.{Events.{asks_cancel_by_orphan, cancelled as cancelled_of, orphaned_from, told_by_close, told_by_finish, told_by_orphan, waker_at, with_observer}, States.{is_held, is_held_at, is_held_by}, Told.{nothing_told, tasks_of}, declared.{observer.Observer.{TheVariants.{Orphaned}}, waiter.{Entry.{Entry, TheVariants.{Pending, Ready}}, Waiter.Waiter}, waiter_id.WaiterId.WaiterId}}, proofs.Changes.one_if}
+use Rattle.exec_driver.specs.{Driving.{Driving, request_at}, Steps.{cancelled_at, cancelled_from, cancelling, ended, let_go, timed_out, told_by_cancel, told_by_let_go, without_observer}}
 use Rattle.exec_parts.specs.declared.parts.mail.Reply.{Reply}
 use Rattle.exec_invariants.{specs.Names.held_count, proofs.{Changing.changes_one, HeldCounts.{held_removed, held_written}}}
 
@@ -36,9 +36,7 @@ module _ (s : Slab (Entry Reply Reply)) (id : Id) (e : Entry Reply Reply) (at : 
 
 -- after one that is held no more another change of it
 unheld_on : (s s1 s' : Slab (Entry Reply Reply)) (id : Id) → Unholds s s1 id → ((other : Id) → other ≢ id → value_at s' other ≡ value_at s1 other) → is_held_at (value_at s' id) ≡ false → held_count s' ≡ held_count s1 → Unholds s s' id
-unheld_on s s1 s' id first others this same =
-    let count = first.fewer in
-    record { others = λ other apart. others other apart ∙ first.others other apart; this = this; fewer = omega (arith, count, same) }
+unheld_on = grind arith
 
 module _ (d : Driving Reply Reply) (id : WaiterId) where
   abbrev e : Option (Entry Reply Reply)
@@ -97,9 +95,7 @@ module _ (d : Driving Reply Reply) (id : WaiterId) where
   pub unheld_now : (o : Option (Entry Reply Reply)) → value_at d.requests id.0 ≡ o → is_held_at o ≡ true → Unholds d.requests (let_go d id).requests id.0
   unheld_now None at held = absurd (false≢true held)
   unheld_now (Some (Pending it)) at held = pending_unheld it at held (goes_on_alone it.request) refl
-  unheld_now (Some (Ready told)) at held =
-      let same : let_go d id ≡ record d { requests = removed d.requests id.0 } = ap (λ o. if asks_cancel_by_orphan o then cancelled_at (without_observer d id) id else without_observer d id) at ∙ ap (λ o. record d { requests = orphaned_from d.requests id.0 o }) at in
-      subst (λ (x : Driving Reply Reply). Unholds d.requests x.requests id.0) (sym same) (unheld_removed d.requests id.0 (Ready told) at refl)
+  unheld_now (Some (Ready told)) at held = grind (arith, unheld_removed)
 
   -- WHAT IS TOLD: who waits here is woken besides, and nobody else is
 
@@ -119,15 +115,7 @@ module _ (d : Driving Reply Reply) (id : WaiterId) where
       by it false = refl
 
   orphan_wakes : (o : Option (Entry Reply Reply)) → (told_by_orphan id.0 o).wakes ≡ []
-  orphan_wakes None = refl
-  orphan_wakes (Some (Ready told)) = refl
-  orphan_wakes (Some (Pending it)) = by it.observer
-    where
-      by : (x : Observer Reply Reply) → (told_to id.0 x).wakes ≡ []
-      by (Local waker) = refl
-      by (Forwarded reply) = refl
-      by (DetachedSync reply) = refl
-      by Orphaned = refl
+  orphan_wakes = grind arith
 
   -- but for the wakes the same
   pub record TellsSame : Type 0 where
@@ -139,30 +127,4 @@ module _ (d : Driving Reply Reply) (id : WaiterId) where
     pub results : (told_by_let_go d id (told_by_close id.0 (value_at d.requests id.0))).results ≡ (told_by_let_go d id (told_by_orphan id.0 (value_at d.requests id.0))).results
 
   pub tells_same : TellsSame
-  tells_same =
-      record {
-        none = none (asks_cancel_by_orphan e) (cancel_wakes e refl);
-        wakes = wakes (asks_cancel_by_orphan e) (cancel_wakes e refl);
-        completions = same (λ t. t.completions) (λ ws. refl) (λ ws. refl) (asks_cancel_by_orphan e);
-        outputs = same (λ t. t.outputs) (λ ws. refl) (λ ws. refl) (asks_cancel_by_orphan e);
-        resources = same (λ t. t.resources) (λ ws. refl) (λ ws. refl) (asks_cancel_by_orphan e);
-        results = same (λ t. t.results) (λ ws. refl) (λ ws. refl) (asks_cancel_by_orphan e);
-      }
-    where
-      c : Told Reply Reply
-      c = told_by_cancel id (request_at (without_observer d id) id)
-
-      o : Told Reply Reply
-      o = told_by_orphan id.0 (value_at d.requests id.0)
-
-      none : (b : Bool) → (b ≡ true → c.wakes ≡ []) → (if b then both o c else o).wakes ≡ []
-      none true h = ap (λ ws. ws ++ c.wakes) (orphan_wakes e) ∙ h refl
-      none false h = orphan_wakes e
-
-      wakes : (b : Bool) → (b ≡ true → c.wakes ≡ []) → (if b then both (told_by_close id.0 e) c else told_by_close id.0 e).wakes ≡ tasks_of (waker_at e)
-      wakes true h = ap (λ ws. tasks_of (waker_at e) ++ ws) (h refl) ∙ append-nil (tasks_of (waker_at e))
-      wakes false h = refl
-
-      same : {A : Type 0} (f : Told Reply Reply → A) → ((ws : List TaskNo) → f (both (record o { wakes = ws }) c) ≡ f (both o c)) → ((ws : List TaskNo) → f (record o { wakes = ws }) ≡ f o) → (b : Bool) → f (if b then both (record o { wakes = tasks_of (waker_at e) }) c else record o { wakes = tasks_of (waker_at e) }) ≡ f (if b then both o c else o)
-      same f with_it alone_it true = with_it (tasks_of (waker_at e))
-      same f with_it alone_it false = alone_it (tasks_of (waker_at e))
+  tells_same = grind (arith, cancel_wakes, orphan_wakes, append-nil)

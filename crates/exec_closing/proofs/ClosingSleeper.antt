@@ -96,9 +96,7 @@ module _ {B : Type 0} (w w' : Worker) (s s' : Shared B) (e : Event) (sound : Sou
   over = record { worker = refl; task = refl; forwarding = refl; paid = refl; sent = refl; over = last z.shown.fired z.shown.removed }
     where
       last : (a b : Bool) → (a || (b || true)) ≡ true
-      last true b = refl
-      last false true = refl
-      last false false = refl
+      last = grind arith
 
   -- WHAT HOLDS OF IT AGAIN
 
@@ -205,13 +203,7 @@ module _ {B : Type 0} (w w' : Worker) (s s' : Shared B) (e : Event) (sound : Sou
       (apart w.index w.names (driver_of w) zs zs' s.requests.items s.sleepers.items id sleeps z sound.named sound.due.asleep by.ends.was by.ends.is by.ends.gone there short) refl by.ends.notes
 
   naps_then : map nap_of s'.sleepers.items ≡ slice_set (map nap_of s.sleepers.items) (number_in w.names.timers.items by.id.0) (record (nap_of by.it) { removed = true; closed = true })
-  naps_then =
-      ap (map nap_of) items ∙ map_set nap_of s.sleepers.items k (sleeper_closed z)
-      ∙ ap (λ b. slice_set (map nap_of s.sleepers.items) k (record (nap_of z) { removed = b; closed = true })) (last z.shown.removed)
-    where
-      last : (b : Bool) → (b || true) ≡ true
-      last true = refl
-      last false = refl
+  naps_then = grind (arith, items, map_set)
 
   pub holds : (q : Place) (others : Profile) → IsWhole (with_worker others w) s → IsHolding (hands_of (with_worker others (lets_to w v q))) s.config.workers (map holder_of s.tasks.items) (map thing_of s.requests.items) (map nap_of s'.sleepers.items) (map box_of s.seats.items)
   holds q others whole =

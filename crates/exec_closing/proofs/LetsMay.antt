@@ -8,13 +8,7 @@ use Rattle.exec_parts.specs.{declared.parts.{mail.Reply.Reply, record.Record.Rec
 use Rattle.exec_invariants.{specs.{Sound.SoundAt, Names.tellers}, proofs.{HoldMail.sum_least, LetsNext.{live_slot, live_value, named_at}}}
 
 fewer_places : (d : Deferred Reply Reply) (n m : ℕ) → m ≤ n → HasPlaces d n → HasPlaces d m
-fewer_places d n m few room =
-    record {
-      notes = record { wakes = omega (arith, few, room.notes.wakes); completions = omega (arith, few, room.notes.completions) };
-      outputs = omega (arith, few, room.outputs);
-      resources = omega (arith, few, room.resources);
-      results = omega (arith, few, room.results);
-    }
+fewer_places = grind arith
 
 -- one that is there
 pub some_live : {T : Type 0} (slots : List (Slot T)) → 0 < count_by is_live slots → (j : ℕ) × (g : ℕ) × (e : T) × (slice_get slots j ≡ Some (Live g e))
@@ -25,11 +19,7 @@ some_live (Retired ∷ slots) some = let it = some_live slots some in (suc it.0,
 
 module _ {B : Type 0} (w : Worker) (s : Shared B) where
   some_held : (id : Id) → is_held_at (value_at (driver_of w).requests id) ≡ true → IsSome (value_at (driver_of w).requests id)
-  some_held id held = by (value_at (driver_of w).requests id) held
-    where
-      by : (o : Option (Entry Reply Reply)) → is_held_at o ≡ true → IsSome o
-      by None h = absurd (false≢true h)
-      by (Some e) h = refl
+  some_held = grind arith
 
   -- one that waits for nothing of the kernel isn't over
   still_pending : SoundAt (Place.Closing InClosing.Orphan) w s → (id : Id) (r : Record) (o : Option (Entry Reply Reply)) → value_at (driver_of w).requests id ≡ o → is_held_at o ≡ true → slice_get s.requests.items (number_in w.names.requests.items id) ≡ Some r → ends_by_drop r.shown ≡ true → 0 < pending_count (driver_of w).requests

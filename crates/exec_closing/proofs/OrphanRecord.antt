@@ -1,9 +1,7 @@
 -- A closing worker lets go of a request: the desk, the move, the record.
-use Rattle.std.proofs.{Common.{◌≡◌, ℕ, ◌≤◌, ◌&&◌, Bool, true, false, not, List, [], ◌∷◌, length, Option, Some, None, IsSome, refl, sym, arith, if◌then◌else◌}, lemmas.{Bool.false≢true, List.length-append}}
-use Rattle.exec_base.specs.declared.error.Error.TheVariants.{Timeout}
-use Rattle.exec_outcomes.specs.declared.outcome.Outcome.TheVariants.{Failure}
+use Rattle.std.proofs.{Common.{◌≡◌, ℕ, ◌≤◌, ◌&&◌, Bool, true, false, not, List, [], ◌∷◌, length, Option, Some, None, IsSome, refl, arith, if◌then◌else◌}, lemmas.{Bool.false≢true, List.length-append}}
 use Rattle.exec_waiters.specs.{States.is_held_at, declared.waiter.Entry.{Entry, TheVariants.{Pending, Ready}}}
-use Rattle.exec_machine.specs.{declared.{event.Event.TheVariants.Orphan, state.{Request.Request, RequestPhase.RequestPhase}}, Requests.{dropped, ends_by_drop, is_cancelled_by_drop, joined_if, outcome_of_drop, resolved}, Same.same_end, Tests.{is_applied, is_resolved}, World.{Common, request_of}}
+use Rattle.exec_machine.specs.{declared.{event.Event.TheVariants.Orphan, state.{Request.Request, RequestPhase.RequestPhase}}, Requests.{dropped, ends_by_drop, joined_if, outcome_of_drop}, Same.same_end, Tests.{is_applied, is_resolved}, World.{Common, request_of}}
 use Rattle.exec_moves.specs.{Close.{after_letting_go, first_asleep, first_held, held_after, orphan}, Slots.is_in_slots, State.{Desk, does, goes}, Told.{awaits_no_more, one_output, one_result, told_of_drop, without_request, woken_where_awaited}}
 use Rattle.exec_parts.specs.{declared.parts.{mail.Reply.Reply, record.Record.Record}, Awaits.drops, Records.outcome_in, View.awaits_entry}
 use Rattle.exec_invariants.{specs.{Holding.thing_of, Places.one_if as one_when}, proofs.LetKept.without_waiter}
@@ -19,12 +17,7 @@ told_as a b c f k d =
     else if f then one_result k d else awaits_no_more k d
 
 told_wakes : (a b c f : Bool) (k : ℕ) (d : Desk) (ws : List ℕ) → told_as a b c f k (record d { wakes = ws }) ≡ record (told_as a b c f k d) { wakes = ws }
-told_wakes false b c f k d ws = refl
-told_wakes true true c f k d ws = refl
-told_wakes true false true true k d ws = refl
-told_wakes true false true false k d ws = refl
-told_wakes true false false true k d ws = refl
-told_wakes true false false false k d ws = refl
+told_wakes = grind arith
 
 pub drop_wakes : (k : ℕ) (r : Request) (d : Desk) (ws : List ℕ) → told_of_drop k r (record d { wakes = ws }) ≡ record (told_of_drop k r d) { wakes = ws }
 drop_wakes k r d ws = told_wakes (r.observed && is_in_slots k d.requests) (is_resolved r.phase) (ends_by_drop r) (is_applied r.forwarding) k d ws
@@ -37,49 +30,23 @@ orphan_found i s d r found = rw found refl
 -- THE RECORD
 
 pub dropped_outcome : (r : Request) → (if ends_by_drop r then outcome_in (dropped r).phase else None) ≡ outcome_of_drop r
-dropped_outcome r = by (ends_by_drop r) refl
-  where
-    by : (b : Bool) → ends_by_drop r ≡ b → (if ends_by_drop r then outcome_in (dropped r).phase else None) ≡ (if ends_by_drop r then Some (Failure Timeout) else None)
-    by true is = rw is refl
-    by false is = rw is refl
+dropped_outcome = grind arith
 
 pub end_same : (r : Request) → same_end (outcome_of_drop r) (outcome_of_drop r) ≡ true
-end_same r = by (ends_by_drop r)
-  where
-    by : (b : Bool) → same_end (if b then Some (Failure Timeout) else None) (if b then Some (Failure Timeout) else None) ≡ true
-    by true = refl
-    by false = refl
-
-abbrev dropped_as : Bool → Bool → Request → Request
-dropped_as a b r = if a then record (resolved (Failure Timeout) r) { observed = false } else if b then record r { observed = false; cancelled = true; timer = None } else record r { observed = false }
+end_same = grind arith
 
 pub worker_stays : (r : Record) → (drops r).shown.worker ≡ r.shown.worker
-worker_stays r = by (ends_by_drop r.shown) (is_cancelled_by_drop r.shown)
-  where
-    by : (a b : Bool) → (dropped_as a b r.shown).worker ≡ r.shown.worker
-    by true b = refl
-    by false true = refl
-    by false false = refl
+worker_stays = grind arith
 
 pub thing_became : (r : Record) → thing_of (drops r) ≡ record (thing_of r) { observed = false; ended = (thing_of (drops r)).ended }
-thing_became r = by (ends_by_drop r.shown) (is_cancelled_by_drop r.shown)
-  where
-    by : (a b : Bool) → thing_of (record r { shown = dropped_as a b r.shown }) ≡ record (thing_of r) { observed = false; ended = (thing_of (record r { shown = dropped_as a b r.shown })).ended }
-    by true b = refl
-    by false true = refl
-    by false false = refl
+thing_became = grind arith
 
 pub longer : (b : Bool) (xs : List ℕ) (k : ℕ) → length xs ≤ length (joined_if b xs k)
 longer false xs k = omega arith
 longer true xs k = let e = length-append xs (k ∷ []) in omega (arith, e)
 
 pub open_outcome : (p : RequestPhase) → is_resolved p ≡ false → outcome_in p ≡ None
-open_outcome (RequestPhase.Resolved o) h = absurd (false≢true (sym h))
-open_outcome RequestPhase.Staged h = refl
-open_outcome RequestPhase.Flying h = refl
-open_outcome (RequestPhase.Landed n) h = refl
-open_outcome RequestPhase.Queued h = refl
-open_outcome RequestPhase.Gated h = refl
+open_outcome = grind arith
 
 pub some_held : (o : Option (Entry Reply Reply)) → is_held_at o ≡ true → IsSome o
 some_held None h = absurd (false≢true h)

@@ -1,12 +1,12 @@
 -- Where a closing worker goes on once it has let go of a request, as the machine's worker finds it by its slots.
-use Rattle.std.proofs.{Common.{◌≡◌, ◌≢◌, ℕ, ◌+◌, ◌==◌, ◌&&◌, Bool, true, false, not, Option, Some, None, IsSome, refl, sym, ap, subst, ◌∙◌, arith, slice_get}, lemmas.Bool.{eq-eqb, false≢true}}
+use Rattle.std.proofs.{Common.{◌≡◌, ◌≢◌, ℕ, ◌+◌, ◌==◌, ◌&&◌, Bool, true, false, not, Option, Some, None, IsSome, refl, sym, ap, ◌∙◌, arith}, lemmas.Bool.{eq-eqb, false≢true}}
 use Rattle.exec_base.specs.{Slab.value_at, declared.slab.Id.Id}
 use Rattle.exec_waiters.specs.{Events.IsFirstHeld, States.{is_held, is_held_at}, declared.waiter.Entry.Entry}
 use Rattle.exec_driver.specs.Driving.{Driving}
 use Rattle.exec_task.specs.declared.body.Said.{Said}
 use Rattle.exec_machine.specs.{Progress.Plan, World.request_of}
 use Rattle.exec_moves.specs.{declared.{handing.AfterCallbacks.AfterCallbacks, place.{InCallbacks.InCallbacks, InClosing.InClosing, Place.Place}}, Close.{after_letting_go, first_asleep, held_after, or_else_at}}
-use Rattle.exec_parts.{specs.{declared.parts.{mail.Reply.Reply, shared.Shared.Shared, worker.Worker.Worker}, Ending.ClosesOn, Records.number_in, Spots.Spot, View.{Views, common_of, desk_of, driver_of}}, proofs.Facts.{by_name, not_same, same_thing}}
+use Rattle.exec_parts.{specs.{declared.parts.{mail.Reply.Reply, shared.Shared.Shared, worker.Worker.Worker}, Ending.ClosesOn, Records.number_in, Spots.Spot, View.{Views, common_of, desk_of, driver_of}}, proofs.Facts.{by_name, not_same}}
 use Rattle.exec_invariants.{specs.Sound.SoundAt, proofs.LetsNext.{first_found, first_none, live_slot, live_value, named_at, none_asleep, number_at, observed_in, some_asleep}}
 
 and_false : (b : Bool) → (b && false) ≡ false
@@ -30,11 +30,7 @@ module _ {B L : Type 0} (left : B → L) (spot : L → Option Said → Spot) (p 
 
   -- no two slots have one number
   apart : (other : Id) (e : Entry Reply Reply) → value_at (driver_of w).requests other ≡ Some e → other ≢ id → number_in w.names.requests.items other ≢ k
-  apart other e at differs same =
-      let a = sound.named.requests other (subst IsSome (sym at) refl) in
-      let b = sound.named.requests id there in
-      let is : a.0 ≡ b.0 = same_thing a.0 b.0 (sym a.1 ∙ ap (slice_get s.requests.items) same ∙ b.1) in
-      differs (sym a.2 ∙ ap (λ r. r.id.0) is ∙ b.2)
+  apart = grind arith
 
   -- one that nobody holds then doesn't pass
   unheld : LetsOne → (other : Id) (e : Entry Reply Reply) → value_at (driver_of w).requests other ≡ Some e → is_held_at (value_at d'.requests other) ≡ false → test (number_in w.names.requests.items other) ≡ false

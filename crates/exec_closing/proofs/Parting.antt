@@ -1,11 +1,11 @@
 -- The last steps of a closing, each as a step of the machine: the barrier is passed, the mailbox closed, and the worker ends.
-use Rattle.std.{proofs.{Common.{◌≡◌, inl, ℕ, suc, ◌*◌, ◌+◌, ◌^◌, ◌≤◌, ◌&&◌, ◌||◌, ◌<◌, Bool, true, false, not, Contains, List, [], ◌∷◌, ◌++◌, length, map, Option, None, Some, refl, sym, ap, subst, ◌∙◌, arith, slice_get, slice_set}, lemmas.{Bool.false≢true, List.length-set}}, specs.List.list_all}
+use Rattle.std.{proofs.{Common.{◌≡◌, inl, ℕ, suc, ◌*◌, ◌+◌, ◌^◌, ◌≤◌, ◌&&◌, ◌||◌, ◌<◌, Bool, true, false, not, Contains, List, [], ◌∷◌, ◌++◌, map, Option, None, Some, refl, sym, ap, subst, ◌∙◌, arith, slice_get, slice_set}, lemmas.{Bool.false≢true, List.length-set}}, specs.List.list_all}
 use Rattle.exec_words.specs.Reserved.{Reserved}
-use Rattle.exec_task.specs.{Phases.is_polled, TaskSet.shard_at, declared.body.Said.Said}
+use Rattle.exec_task.specs.{Phases.is_polled, declared.body.Said.Said}
 use Rattle.exec_machine.specs.{declared.{event.Event.{Event, TheVariants.{Turn, End}}, state.WorkerPhase.WorkerPhase}, Choice.Choice.{Plain, Passes}, Closing.{gone_with, is_over_or_root, is_pool_over}, Tests.{all_left, is_open}}
-use Rattle.exec_moves.specs.{declared.{handing.AfterCallbacks.AfterCallbacks, place.{InCallbacks.InCallbacks, InClosing.InClosing, Place.Place}}, Move.move_at, Seen.polls_at}
+use Rattle.exec_moves.specs.{declared.{place.{InClosing.InClosing, Place.Place}}, Move.move_at, Seen.polls_at}
 use Rattle.exec_parts.{specs.{Calls.sleeper_gone_with, declared.parts.{seat.Seat.Seat as Chair, shared.Shared.Shared, sleeping.SleeperRecord.SleeperRecord, task_slot.TaskSlot.TaskSlot, worker.Worker.Worker}, Phased.{IsGoing, IsPhased, TurnsChair, closes_at, closing_in, has_stopped, is_complete, root_over, stage_of}, Roles.is_pool, MailPosts.IsMailbox, Spots.Spot, View.{common_of, desk_of, driver_of, message_of, numbers_of_passing, own_of, task_seen, things_with, visible, with_view}}, proofs.{Facts.{by_number, set_there}, Showing.map_kept}}
-use Rattle.exec_invariants.{specs.{Hearing.StillHears, Drained.{Duties, HaveLeft, IsPool}, Holding.{Mail, box_of}, Places.{drops_at, is_pooled_at}, Sound.{Aims, HasBatch, IsMyMail, LetsGoAt, SoundAt, has_wakes_at}, Whole.{HasWhole, duties_of, with_worker}, Works.{Beside, Steps}}, proofs.{Dedicated.{as_long, chair_of_pool}, Aside.{queue_of_chair, queues_set, seats_own}, Closes.{closed_by, follows_in, now_closing, now_done, seats_on}, PoolShards.none_in_set, PoolClosing.pool_left, PoolKept.{all_over, chosen_own, gates_set, pool_of}, Seats.{own_seat, seats_all}, Hearing.unheard, Shutting.{beside_closing, holds_calm, onward, sound_closing, Follows, GoesOnlyOn, Pools, Ready, pools_calm, seats_show, shown_as}, Turning.view_found}}
+use Rattle.exec_invariants.{specs.{Hearing.StillHears, Drained.{Duties, HaveLeft, IsPool}, Holding.{Mail, box_of}, Places.{drops_at, is_pooled_at}, Sound.{Aims, HasBatch, IsMyMail, LetsGoAt, SoundAt, has_wakes_at}, Whole.{HasWhole, duties_of, with_worker}, Works.{Beside, Steps}}, proofs.{Dedicated.{as_long, chair_of_pool}, Aside.{queue_of_chair, queues_set, seats_own}, Closes.{closed_by, follows_in, now_closing, seats_on}, PoolShards.none_in_set, PoolClosing.pool_left, PoolKept.{all_over, chosen_own, gates_set, pool_of}, Seats.{own_seat, seats_all}, Hearing.unheard, Shutting.{beside_closing, holds_calm, onward, sound_closing, GoesOnlyOn, Pools, Ready, pools_calm, seats_show, shown_as}, Turning.view_found}}
 use Rattle.exec_closing.proofs.{NoneAsleep.none_asleep, ClosingNaps.{AreGone, alarms_gone, shown_gone, sound_gone, spares_gone, whole_gone}}
 
 -- LISTS
@@ -22,9 +22,6 @@ and_no : (b : Bool) → (b && false) ≡ false
 and_no true = refl
 and_no false = refl
 
-pub follows_drain : Follows (Place.Callbacks InCallbacks.TakeBatch AfterCallbacks.Drain)
-follows_drain = record { polls = refl; served = refl; unarmed = refl; begins = refl; hands_on = refl; calls = refl; searches = refl; claims = refl; counts = refl; published = refl; passes = refl; joins = refl; spare = refl; cancels = refl; sends = refl; heard = refl; queue = λ own none. none }
-
 module _ {B : Type 0} where
   -- the own chair became this, in which the run queue is as it was
   pub ready_own : (x : InClosing) (q : Place) (batch : Reserved Mail) (n : ℕ) (w : Worker) (s s' : Shared B) (chair : Chair) (sound : SoundAt (Place.Closing x) w s) → s' ≡ record s { seats = s'.seats } → s'.seats.items ≡ slice_set s.seats.items w.index chair
@@ -33,33 +30,11 @@ module _ {B : Type 0} where
   ready_own x q batch n w s s' chair sound kept items mail waker queue aims pool batch_then mine place few pooled lets_go quiet phased =
       let seat = sound.seated.seat in
       let found : slice_get s'.seats.items w.index ≡ Some chair = ap (λ xs. slice_get xs w.index) items ∙ set_there s.seats.items w.index chair seat sound.seated.there in
-      record {
-        kept = subst (λ (z : Shared B). z ≡ record s { seats = z.seats; set = z.set; global = z.global; barrier_open = z.barrier_open; stopped = z.stopped }) (sym kept) refl;
-        seated = record { many = as_long (ap length items ∙ length-set s.seats.items w.index chair) sound.seated.many; pool = pool ∙ sound.seated.pool; seat = chair; there = found; unarmed = λ h. ap (λ word. word.target) waker ∙ sound.seated.unarmed refl; mail = mail };
-        queue = λ own at_own. let is : chair ≡ own = cc (found, at_own) in rw (← is, queue) (sound.queue seat sound.seated.there);
-        aims = aims;
-        batch = batch_then;
-        mine = mine;
-        place = λ own at_own. let is : chair ≡ own = cc (found, at_own) in subst (λ (c : Chair). c.mailbox.inbox.closed ≡ false → 2 * c.made + 1 ≤ batch.places) is place;
-        few = few;
-        many = ap length items ∙ length-set s.seats.items w.index chair;
-        pooled = pooled;
-        lets_go = lets_go;
-        quiet = quiet;
-        shards = ap (λ (z : Shared B). length z.set.shards) kept;
-        closing = λ h. h;
-        phased = λ own at_own.
-            let is : chair ≡ own = cc (found, at_own) in
-            let stage : stage_of own s' ≡ stage_of chair s = rw (← is, ap (λ (z : Shared B). z.stopped) kept, ap (λ (z : Shared B). z.set) kept) refl in
-            subst (λ st. IsPhased w.index (closes_at q) (closing_in q) w.home.closing w.root w.names.unreleased st s.tasks.items) (sym stage) phased;
-      }
+      grind (arith, as_long, length-set)
 
   -- only the seats change
   pub on_seats : (i : ℕ) (s s' : Shared B) → s' ≡ record s { seats = s'.seats } → GoesOnlyOn i s s'
-  on_seats i s s' kept =
-      let stopped : s'.stopped ≡ s.stopped = ap (λ (z : Shared B). z.stopped) kept in
-      let closed : s'.set.closed ≡ s.set.closed = ap (λ (z : Shared B). z.set.closed) kept in
-      record { stopped = λ h. stopped ∙ h; closed = λ h. closed ∙ h; by_zero = λ other. (stopped, closed); shards = ap (λ (z : Shared B). length z.set.shards) kept; emptied = λ shut k none. ap (λ (z : Shared B). shard_at z.set k) kept ∙ none }
+  on_seats = grind arith
 
   -- a closing worker past the stop sees it
   pub stopped_now : (x : InClosing) (w : Worker) (s : Shared B) → SoundAt (Place.Closing x) w s → has_stopped (closes_at (Place.Closing x)) (Some x) ≡ true → root_over (closes_at (Place.Closing x)) (Some x) ≡ true → is_pool w.role ≡ true → s.stopped ≡ true
@@ -183,8 +158,4 @@ module _ {B L : Type 0} (left : B → L) (spot : L → Option Said → Spot) (w 
       boxed opened = rw opened refl
 
       over_or_root : (slot : TaskSlot B) → (slot.home ≡ None → is_complete slot.cell.phase ≡ true) → is_over_or_root (task_seen left spot slot) ≡ true
-      over_or_root slot h = by slot.home refl
-        where
-          by : (home : Option ℕ) → slot.home ≡ home → is_over_or_root (task_seen left spot slot) ≡ true
-          by (Some i) is = rw is refl
-          by None is = rw is (now_done slot.cell.phase slot.poller ∙ h is)
+      over_or_root = grind arith

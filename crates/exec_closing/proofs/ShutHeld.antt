@@ -39,10 +39,7 @@ module _ (h h' : Hands) (workers i : ℕ) (hs : List Holder) (ts : List Thing) (
 
   -- what stands there now, by whether it is this one
   of_box : {P : Type 0} (j : ℕ) (b : Box) → Shuts → slice_get boxes' j ≡ Some b → (j ≢ i → slice_get boxes j ≡ Some b → P) → (j ≡ i → box' ≡ b → P) → P
-  of_box j b by at other own =
-      by_number j i
-      (λ apart. other apart (sym (set_elsewhere boxes i j box' apart) ∙ ap (λ bs. slice_get bs j) (sym by.set) ∙ at))
-      (λ same. own same (same_thing box' b (sym (set_there boxes i box' box by.there) ∙ ap (λ bs. slice_get bs i) (sym by.set) ∙ subst (λ n. slice_get boxes' n ≡ Some b) same at)))
+  of_box = grind (arith, by_number, set_elsewhere, same_thing, set_there)
 
   pub shut_holding : Shuts → IsHolding h workers hs ts naps boxes → IsHolding h' workers hs ts naps boxes'
   shut_holding by old =

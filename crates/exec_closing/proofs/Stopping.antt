@@ -13,15 +13,10 @@ follows_signal j n = record { polls = refl; served = refl; unarmed = refl; begin
 
 -- the letters that are left once the first was sent
 letters_on : (n j : ℕ) → j < n → drop 1 (letters_to_roots (n - j) j) ≡ letters_to_roots (n - (j + 1)) (j + 1)
-letters_on n j some =
-    let more : n - j ≡ suc (n - (j + 1)) = omega (arith, some) in
-    let next : suc j ≡ j + 1 = omega arith in
-    rw (more, next) refl
+letters_on = grind arith
 
 none_left : (n j : ℕ) → nat_lt (j + 1) n ≡ false → j < n → drop 1 (letters_to_roots (n - j) j) ≡ []
-none_left n j last some =
-    let one : n - j ≡ 1 = grind (arith, nat_tests, last, some) in
-    rw one refl
+none_left = grind arith
 
 -- there is a place for a wake of the root, where none is there
 pub has_root_place : (m : PureMailbox Subject Subject) → IsMailbox m → HasRootPlace m
@@ -65,10 +60,7 @@ module _ {B L : Type 0} (left : B → L) (spot : L → Option Said → Spot) (w 
   queue = by a
     where
       by : (b : Arrival) → (chair_by b its).queue ≡ its.queue
-      by Arrival.Shut = refl
-      by Arrival.LeftOut = refl
-      by Arrival.First = refl
-      by Arrival.More = refl
+      by = grind arith
 
   spares : SparesChair its its'
   spares = posted_spares a its is_a

@@ -1,5 +1,6 @@
 -- A TASK IS CLEARED that a visit took out of the set: it may be, what the machine sees of it, and the step where it isn't over by that.
 use Rattle.std.proofs.{Common.{◌≡◌, ℕ, ◌<◌, ◌==◌, ◌&&◌, not, Bool, true, false, List, [], ◌∷◌, ◌++◌, length, map, Option, Some, None, refl, sym, ap, subst, ◌∙◌, slice_get, slice_set, if◌then◌else◌}, lemmas.{Bool.false≢true, List.map-set, Option.slice_get_within}}
+use Rattle.std.proofs.Common.{arith}
 use Rattle.exec_base.specs.Slab.{Slab}
 use Rattle.exec_time.specs.declared.timers.Sleeper.{Sleeper as Sleeping}
 use Rattle.exec_waiters.specs.declared.waiter.Entry.{Entry}
@@ -39,11 +40,7 @@ pub tells_visiting : (x : Drain) → IsAside (Place.SendCancel (AfterCancels.Vis
 tells_visiting x = record { spare = refl; wakes = refl; served = refl; bare = refl; polls = refl; calls = refl; heard = refl; lets = visits_let (x.left == 0) x }
 
 pub owes_visiting : (x : Drain) → IsOwing (Place.Closing (after_visit x)) (AfterCancels.Visit x)
-owes_visiting x = by (x.left == 0) refl
-  where
-    by : (b : Bool) → (x.left == 0) ≡ b → IsOwing (Place.Closing (visit_by b x)) (AfterCancels.Visit x)
-    by true is = record { aside = visits_aside true x; after = tells_visiting x; begins = refl; hands = refl; loot = refl; unarmed = refl; queue = λ y h. h; closes = refl; closing = ap (λ c. Some (visit_by c x)) is }
-    by false is = record { aside = visits_aside false x; after = tells_visiting x; begins = refl; hands = refl; loot = refl; unarmed = refl; queue = λ y h. h; closes = refl; closing = ap (λ c. Some (visit_by c x)) is }
+owes_visiting = grind arith
 
 and_none : (b : Bool) → (b && false) ≡ false
 and_none true = refl
@@ -51,12 +48,7 @@ and_none false = refl
 
 -- it lets go of sleepers whether it was cleared or not
 pub sleepers_beside : (c : Common) (ts : List Task) (i : ℕ) (u : Waiting) → sleepers_after_waking_up (record c { tasks = ts }) i u ≡ sleepers_after_waking_up c i u
-sleepers_beside c ts i Waiting.Nothing = refl
-sleepers_beside c ts i Waiting.Yielded = refl
-sleepers_beside c ts i (Waiting.Request r) = refl
-sleepers_beside c ts i (Waiting.Timer z) = refl
-sleepers_beside c ts i Waiting.Wake = refl
-sleepers_beside c ts i Waiting.Woken = refl
+sleepers_beside = grind arith
 
 module _ {B L : Type 0} (left : B → L) (spot : L → Option Said → Spot) (t : ℕ) (drain : Drain) (w : Worker) (s : Shared B) (sound : SoundAt (Place.Closing (InClosing.Clear t drain)) w s) (has : HasWhole w s) (going : IsGoing w.index s.seats.items) where
   abbrev p0 : Place

@@ -1,21 +1,14 @@
 -- A TASK IS CLEARED that a visit took out of the set: its slot, and what that leaves of the balances.
-use Rattle.std.proofs.{Common.{◌≡◌, ◌≢◌, ℕ, ◌+◌, ◌<◌, ◌≤◌, ◌==◌, ◌&&◌, ◌||◌, not, sum_by, Bool, true, false, Contains, List, length, map, option_to_list, Option, Some, None, refl, sym, ap, subst, ◌∙◌, arith, slice_get, slice_set, if◌then◌else◌}, lemmas.{Bool.false≢true, List.length-set}}
+use Rattle.std.proofs.{Common.{◌≡◌, ◌≢◌, ℕ, ◌+◌, ◌<◌, ◌≤◌, ◌==◌, ◌&&◌, ◌||◌, not, sum_by, Bool, true, false, Contains, List, length, map, option_to_list, Option, Some, None, refl, sym, ap, subst, ◌∙◌, arith, slice_get, slice_set, if◌then◌else◌}, lemmas.{List.length-set}}
 use Rattle.std.specs.List.{range_with_len}
 use Rattle.exec_words.specs.Idle.{is_in}
 use Rattle.exec_task.specs.{Phases.{is_polled, cleared}, declared.{drain.Drain.Drain, runnable.Runnable.Runnable, task.Phase.Phase}}
 use Rattle.exec_moves.specs.{declared.place.{InClosing.InClosing, Place.Place}, Seen.polls_at}
 use Rattle.exec_parts.{specs.{declared.parts.{letters.Letters.Letters, seat.Seat.Seat as Chair, shared.Shared.Shared, task_slot.TaskSlot.TaskSlot, worker.Worker.Worker}, Ending.ends_by_clear, Phased.{IsPhased, closes_at, is_complete, stage_of}, Pooled.cleared_slot, View.body_in}, proofs.Facts.{by_number, never_true, not_same, same_thing, set_elsewhere, set_there}}
-use Rattle.exec_invariants.{specs.{Drained.in_set, Holding.{IsHolding, box_of, holder_of, nap_of, thing_of}, Places.{claims_at, clears_at, drops_at, has_count_at, is_published_at, no_drops, one_if}, Sound.{AreHome, AreResting, HasRunnable, IsHeld, IsResting, IsTied, SoundAt, is_told}, Spares.SparesPolled, Whole.{HasOne, HasWhole, IsGenuine, IsLeftOver, IsWhole, Profile, duties_of, hands_of, is_number, may_let_go, stock, with_worker}}, proofs.{Here.going_on, Lined.{KeepsLines, gates_kept}, Onces.has_at_most, PoolClosing.{Clears, IsCleared, pool_cleared}, PoolKept.{chosen_other, chosen_own, is_its}, Shutting.none_in, Slots.gates_free, SlotTasks.{Keeps, genuine_set, homes_set, resting_set}, TaskOverActs.over_untold, TaskOverWhole.IsPast}}
-
-and_both : (a b : Bool) → (a && not b) ≡ true → (a ≡ true) × (b ≡ false)
-and_both true false h = (refl, refl)
-and_both true true h = absurd (false≢true h)
-and_both false b h = absurd (false≢true h)
+use Rattle.exec_invariants.{specs.{Drained.in_set, Holding.{IsHolding, box_of, holder_of, nap_of, thing_of}, Places.{claims_at, clears_at, drops_at, has_count_at, is_published_at, no_drops, one_if}, Sound.{AreHome, AreResting, HasRunnable, IsHeld, IsResting, IsTied, SoundAt}, Spares.SparesPolled, Whole.{HasOne, HasWhole, IsGenuine, IsWhole, Profile, duties_of, hands_of, is_number, may_let_go, stock, with_worker}}, proofs.{Here.going_on, Lined.{KeepsLines, gates_kept}, PoolClosing.{Clears, IsCleared, pool_cleared}, PoolKept.{chosen_other, chosen_own, is_its}, Shutting.none_in, Slots.gates_free, SlotTasks.{Keeps, genuine_set, homes_set, resting_set}, TaskOverWhole.IsPast}}
 
 and_other : (a b : Bool) → (a && not b) ≡ false → a ≡ true → b ≡ true
-and_other true true h is = refl
-and_other true false h is = absurd (false≢true (sym h))
-and_other false b h is = absurd (false≢true is)
+and_other = grind arith
 
 -- WHERE ITS WORKER GOES ON
 abbrev pub cleared_to : Place → Letters → Worker → Worker → Worker
@@ -27,11 +20,7 @@ module _ {B : Type 0} where
   cleared_with h slot = record slot { cell = cleared slot.cell; cleared = true; body = body_in slot.cell.phase slot.body; held = h.held }
 
   pub polled_cleared : (slot : TaskSlot B) → is_polled (cleared slot.cell).phase ≡ is_polled slot.cell.phase
-  polled_cleared slot = by (is_polled slot.cell.phase) refl
-    where
-      by : (b : Bool) → is_polled slot.cell.phase ≡ b → is_polled (cleared slot.cell).phase ≡ is_polled slot.cell.phase
-      by true is = rw is is
-      by false is = rw is refl
+  polled_cleared = grind arith
 
   pub complete_cleared : (slot : TaskSlot B) → is_polled slot.cell.phase ≡ false → is_complete (cleared slot.cell).phase ≡ true
   complete_cleared slot unpolled = rw unpolled refl
@@ -41,72 +30,32 @@ module _ {B : Type 0} where
 
   -- whether it ends by that
   pub ends_so : (slot : TaskSlot B) → ends_by_clear slot ≡ true → (is_polled slot.cell.phase ≡ false) × (is_complete slot.cell.phase ≡ false)
-  ends_so slot ends = by (is_polled slot.cell.phase) refl
-    where
-      both : (is_complete (cleared slot.cell).phase ≡ true) × (is_complete slot.cell.phase ≡ false)
-      both = and_both (is_complete (cleared slot.cell).phase) (is_complete slot.cell.phase) ends
-
-      by : (b : Bool) → is_polled slot.cell.phase ≡ b → (is_polled slot.cell.phase ≡ false) × (is_complete slot.cell.phase ≡ false)
-      by true is = absurd (false≢true (sym (going_cleared slot is) ∙ both.0))
-      by false is = (is, both.1)
+  ends_so = grind arith
 
   pub ends_not : (slot : TaskSlot B) → ends_by_clear slot ≡ false → is_polled slot.cell.phase ≡ false → is_complete slot.cell.phase ≡ true
   ends_not slot ends unpolled = and_other (is_complete (cleared slot.cell).phase) (is_complete slot.cell.phase) ends (complete_cleared slot unpolled)
 
   body_polled : (p : Phase B) (b : Option B) → is_polled p ≡ true → body_in p b ≡ b
-  body_polled (Phase.Idle x) b h = absurd (false≢true h)
-  body_polled (Phase.Queued x) b h = absurd (false≢true h)
-  body_polled Phase.Complete b h = absurd (false≢true h)
-  body_polled Phase.Running b h = refl
-  body_polled Phase.Notified b h = refl
+  body_polled = grind arith
 
   pub body_again : (slot : TaskSlot B) → body_in (cleared_slot slot).cell.phase (cleared_slot slot).body ≡ body_in slot.cell.phase slot.body
-  body_again slot = by (is_polled slot.cell.phase) refl
-    where
-      by : (b : Bool) → is_polled slot.cell.phase ≡ b → body_in (cleared_slot slot).cell.phase (cleared_slot slot).body ≡ body_in slot.cell.phase slot.body
-      by true is = rw is (body_polled slot.cell.phase (body_in slot.cell.phase slot.body) is)
-      by false is = rw is refl
+  body_again = grind arith
 
   pub keeps_cleared : (h slot : TaskSlot B) → Keeps slot (cleared_with h slot)
-  keeps_cleared h slot = by (is_polled slot.cell.phase) refl
-    where
-      by : (b : Bool) → is_polled slot.cell.phase ≡ b → Keeps slot (cleared_with h slot)
-      by true is = rw is (record { home = refl; number = refl; owner = refl })
-      by false is = rw is (record { home = refl; number = refl; owner = refl })
+  keeps_cleared = grind arith
 
   pub spares_cleared : (slot : TaskSlot B) → is_polled slot.cell.phase ≡ true → SparesPolled slot (cleared_slot slot)
   spares_cleared slot polled = rw (polled, body_polled slot.cell.phase slot.body polled) (record { polled = polled; number = refl; cancelled = λ h. refl; kept = refl })
 
   rests_cleared : (h slot : TaskSlot B) → IsResting slot → is_polled slot.cell.phase ≡ false → IsResting (cleared_with h slot)
-  rests_cleared h slot it unpolled =
-      let over : is_complete (cleared slot.cell).phase ≡ true = complete_cleared slot unpolled in
-      record {
-        uncleared = λ going. absurd (false≢true (sym going ∙ over));
-        told = λ told. absurd (false≢true (sym (ap (is_told slot.waiting) over ∙ over_untold slot.waiting) ∙ told));
-        untold = it.untold;
-      }
+  rests_cleared = grind arith
 
   is_cleared : (h slot : TaskSlot B) → IsCleared slot (cleared_with h slot)
-  is_cleared h slot =
-      record {
-        home = refl;
-        poller = refl;
-        cleared = refl;
-        polled = polled_cleared slot;
-        over = by (is_polled slot.cell.phase) refl;
-      }
-    where
-      by : (b : Bool) → is_polled slot.cell.phase ≡ b → is_complete slot.cell.phase ≡ true → is_complete (cleared slot.cell).phase ≡ true
-      by true is over = absurd (false≢true (sym (going_on slot.cell.phase is) ∙ over))
-      by false is over = complete_cleared slot is
+  is_cleared = grind arith
 
   -- a drain clears it, of a closed set
   one_cleared : (g : Bool) (slot : TaskSlot B) (n : ℕ) → g ≡ true → HasOne g slot.cell.phase n → HasOne g (cleared slot.cell).phase n
-  one_cleared g slot n gone h = by (is_polled slot.cell.phase) refl
-    where
-      by : (b : Bool) → is_polled slot.cell.phase ≡ b → HasOne g (cleared slot.cell).phase n
-      by true is = rw is h
-      by false is = rw is (subst (λ x. IsLeftOver x n) (sym gone) (has_at_most g slot.cell.phase n h))
+  one_cleared = grind arith
 
   -- THE TASK THAT IS CLEARED is there, an ordinary one, and wasn't cleared before
   pub record ToClear (t : ℕ) (s : Shared B) : Type 0 where

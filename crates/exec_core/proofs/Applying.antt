@@ -1,15 +1,15 @@
 -- Steps of the clock, the kernel and peers: how the whole takes them.
-use Rattle.std.proofs.{Common.{◌<◌, ◌≡◌, ℕ, zero, suc, ◌+◌, ◌&&◌, ◌||◌, Bool, true, false, not, List, [], ◌∷◌, length, map, Option, Some, None, refl, sym, ap, subst, ◌∙◌, arith, slice_get, slice_set, option_map}, lemmas.{Bool.{false≢true, and_parts}, List.{map-set}, Option.{slice_get-map, slice_get_within, get_or_from_slice_get}}}
-use Rattle.std.specs.Prelude.{slice_index_or, nat_le, if◌then◌else◌}
+use Rattle.std.proofs.{Common.{◌<◌, ◌≡◌, ℕ, zero, suc, ◌+◌, ◌&&◌, ◌||◌, Bool, true, false, not, List, [], ◌∷◌, length, map, Option, Some, None, refl, sym, ap, ◌∙◌, arith, slice_get, slice_set, option_map}, lemmas.{Bool.{false≢true, and_parts}, List.{map-set}, Option.{slice_get-map, slice_get_within, get_or_from_slice_get}}}
+use Rattle.std.specs.Prelude.{slice_index_or}
 use Rattle.exec_outcomes.specs.declared.outcome.OpResult.{OpResult}
 use Rattle.exec_task.specs.declared.body.Said.{Said}
 use Rattle.exec_machine.specs.declared.event.Event.TheVariants as event
-use Rattle.exec_machine.specs.{declared.{event.{Event.Event, StepResult.TheVariants.Did}, state.{Rest.Rest, Request.Request}, step.Action.Action}, Callers.{after_landing, common_by}, Choice.Choice.Plain, Deadlines.roused_at, Progress.Plan, Tests.{is_awake, has_ended}, World.{Common, no_seat, no_request, request_of}}
+use Rattle.exec_machine.specs.{declared.{event.{Event.Event, StepResult.TheVariants.Did}, state.{Rest.Rest, Request.Request}, step.Action.Action}, Callers.{after_landing, common_by}, Choice.Choice.Plain, Deadlines.roused_at, Progress.Plan, Tests.{has_ended}, World.{Common, no_seat, no_request, request_of}}
 use Rattle.exec_machine.specs.declared.state.Rest.TheVariants as rest
 use Rattle.exec_machine.specs.declared.step.Action.TheVariants as action
 use Rattle.exec_moves.specs.{Plays.{Played, Playing, desk_of as desk_at, last_told}, State.{Desk, WakePoll, wake_poll_of, passed}, Thing.set_wake_poll}
-use Rattle.exec_parts.specs.{declared.parts.{record.Record.Record, seat.Seat.Seat as Chair, shared.Shared.Shared, worker.Worker.Worker}, Phased.TurnsChair, Records.{rest_at, reached, roused}, Spots.Spot, View.{Views, Visible, visible, with_view, own_of, desk_of, common_of, seats_seen, seat_seen, polls_seen, gate_seen, numbers_of_passing, queue_at, inbox_at, tasks_of, things_with, word_at}}
-use Rattle.exec_polling.specs.{declared.caller.Caller.Caller, Calling.{call_of, desk_of_caller}}
+use Rattle.exec_parts.specs.{declared.parts.{record.Record.Record, seat.Seat.Seat as Chair, shared.Shared.Shared, worker.Worker.Worker}, Phased.TurnsChair, Records.{rest_at, reached, roused}, Spots.Spot, View.{Views, Visible, visible, with_view, own_of, desk_of, common_of, seats_seen, seat_seen, polls_seen, queue_at, inbox_at, things_with, word_at}}
+use Rattle.exec_polling.specs.{Calling.{desk_of_caller}}
 use Rattle.exec_invariants.specs.Drained.{HaveLeft, IsLetOn}
 use Rattle.exec_invariants.proofs.SparedRecord.{there_within}
 use Rattle.exec_core.proofs.{Enabling.enabled_as, Lifting.{set_found, unchanged, suits_it, desk_there, views_with, playing_by, world_by}}
@@ -17,37 +17,20 @@ use Rattle.exec_core.specs.{Lift.{may_land_in, Stands, world, playing, views, Ta
 
 -- WHAT MAY BE TAKEN IS THERE
 
-going_by : (a b c : Bool) → ((a && not b) && c) ≡ true → b ≡ false
-going_by true true c h = absurd (false≢true h)
-going_by true false c h = refl
-going_by false b c h = absurd (false≢true h)
-
 pub going_there : (seats : List Chair) (o : Option Chair) → may_work_in seats o ≡ true → (chair : Chair) → o ≡ Some chair → has_ended chair.phase ≡ false
-going_there seats None h chair is = absurd (cc)
-going_there seats (Some c) h chair is =
-    let same : c ≡ chair = cc in
-    subst (λ x. has_ended x.phase ≡ false) same (going_by (is_awake c.rest) (has_ended c.phase) (not (c.pool && c.left && not (all_left_of seats))) h)
+going_there = grind arith
 
 -- who has passed the barrier may work only once all have
 left_by : (a pool left all : Bool) → (a && not (pool && left && not all)) ≡ true → pool ≡ true → left ≡ true → all ≡ true
-left_by a pool left true h is passed = refl
-left_by true true true false h is passed = absurd (false≢true h)
-left_by true false left false h is passed = absurd (false≢true is)
-left_by true true false false h is passed = absurd (false≢true passed)
-left_by false pool left false h is passed = absurd (false≢true h)
+left_by = grind arith
 
 all_left : (seats : List Chair) → all_left_of seats ≡ true → HaveLeft seats
 all_left [] all j chair there = absurd (cc)
-all_left (seat ∷ seats) all zero chair there =
-    let same : seat ≡ chair = cc in
-    subst (λ (x : Chair). (x.left || not x.pool) ≡ true) same (and_parts (seat.left || not seat.pool) (all_left_of seats) all).0
+all_left (seat ∷ seats) all zero chair there = grind (arith, and_parts)
 all_left (seat ∷ seats) all (suc j) chair there = all_left seats (and_parts (seat.left || not seat.pool) (all_left_of seats) all).1 j chair there
 
 let_on_by : (seats : List Chair) (o : Option Chair) → may_work_in seats o ≡ true → (chair : Chair) → o ≡ Some chair → chair.pool ≡ true → chair.left ≡ true → HaveLeft seats
-let_on_by seats None h chair is pool passed = absurd (cc)
-let_on_by seats (Some c) h chair is pool passed =
-    let same : c ≡ chair = cc in
-    all_left seats (left_by (is_awake c.rest && not (has_ended c.phase)) c.pool c.left (all_left_of seats) h (ap (λ (x : Chair). x.pool) same ∙ pool) (ap (λ (x : Chair). x.left) same ∙ passed))
+let_on_by = grind (arith, all_left, left_by)
 
 pub begun_there : (o : Option Chair) → has_begun o ≡ true → (chair : Chair) × (o ≡ Some chair)
 begun_there None h = absurd (false≢true h)
@@ -84,9 +67,7 @@ module _ {B : Type 0} where
 -- WHAT IS SEEN OF THE SEATS
 
 roused_one : (clock : ℕ) (v : Visible) (chair : Chair) (x : Rest) → seat_seen v (record chair { rest = rest_at clock x }) ≡ roused_at clock (seat_seen v (record chair { rest = x }))
-roused_one clock v chair rest.Awake = refl
-roused_one clock v chair (rest.Until moment) = elim (nat_le moment clock) as (λ b. seat_seen v (record chair { rest = if b then rest.Awake else rest.Until moment }) ≡ record (seat_seen v chair) { rest = if b then rest.Awake else rest.Until moment }) [ true ↦ refl | false ↦ refl ]
-roused_one clock v chair rest.Forever = refl
+roused_one = grind arith
 
 all_roused : (clock : ℕ) (vs : List Visible) (seats : List Chair) → seats_seen vs (map (reached clock) seats) ≡ map (roused_at clock) (seats_seen vs seats)
 all_roused clock [] seats = refl
@@ -96,26 +77,19 @@ all_roused clock (v ∷ vs) (chair ∷ chairs) = rw (all_roused clock vs chairs,
 chair_set : (vs : List Visible) (seats : List Chair) (i : ℕ) (v : Visible) (chair : Chair) → slice_get vs i ≡ Some v → seats_seen vs (slice_set seats i chair) ≡ slice_set (seats_seen vs seats) i (seat_seen v chair)
 chair_set [] seats i v chair seen = absurd (cc)
 chair_set (x ∷ vs) [] i v chair seen = refl
-chair_set (x ∷ vs) (seat ∷ seats) zero v chair seen =
-    let same : x ≡ v = cc in
-    ap (λ y. seat_seen y chair ∷ seats_seen vs seats) same
+chair_set (x ∷ vs) (seat ∷ seats) zero v chair seen = grind arith
 chair_set (x ∷ vs) (seat ∷ seats) (suc i) v chair seen = ap (λ xs. seat_seen x seat ∷ xs) (chair_set vs seats i v chair seen)
 
 visible_set : (vs : List Visible) (seats : List Chair) (i : ℕ) (v : Visible) (chair : Chair) → slice_get seats i ≡ Some chair → seats_seen (slice_set vs i v) seats ≡ slice_set (seats_seen vs seats) i (seat_seen v chair)
 visible_set [] seats i v chair there = refl
 visible_set (x ∷ vs) [] i v chair there = absurd (cc)
-visible_set (x ∷ vs) (seat ∷ seats) zero v chair there =
-    let same : seat ≡ chair = cc in
-    ap (λ c. seat_seen v c ∷ seats_seen vs seats) same
+visible_set (x ∷ vs) (seat ∷ seats) zero v chair there = grind arith
 visible_set (x ∷ vs) (seat ∷ seats) (suc i) v chair there = ap (λ xs. seat_seen x seat ∷ xs) (visible_set vs seats i v chair there)
 
 seat_there : (vs : List Visible) (seats : List Chair) (i : ℕ) (v : Visible) (chair : Chair) → slice_get vs i ≡ Some v → slice_get seats i ≡ Some chair → slice_index_or (seats_seen vs seats) i no_seat ≡ seat_seen v chair
 seat_there [] seats i v chair seen there = absurd (cc)
 seat_there (x ∷ vs) [] i v chair seen there = absurd (cc)
-seat_there (x ∷ vs) (seat ∷ seats) zero v chair seen there =
-    let one : x ≡ v = cc in
-    let two : seat ≡ chair = cc in
-    rw (one, two) refl
+seat_there (x ∷ vs) (seat ∷ seats) zero v chair seen there = grind arith
 seat_there (x ∷ vs) (seat ∷ seats) (suc i) v chair seen there = seat_there vs seats i v chair seen there
 
 -- WHAT PARTIES SHARE, where only the rests of seats change, or a ring is busy
@@ -132,53 +106,28 @@ polls_reached clock (v ∷ vs) (seat ∷ seats) = rw (polls_reached clock vs sea
 polls_roused : (vs : List Visible) (seats : List Chair) (i : ℕ) (chair : Chair) → slice_get seats i ≡ Some chair → polls_seen vs (slice_set seats i (roused chair)) ≡ polls_seen vs seats
 polls_roused [] seats i chair there = refl
 polls_roused (v ∷ vs) [] i chair there = absurd (cc)
-polls_roused (v ∷ vs) (seat ∷ seats) zero chair there =
-    let same : chair ≡ seat = cc in
-    rw same refl
+polls_roused (v ∷ vs) (seat ∷ seats) zero chair there = grind arith
 polls_roused (v ∷ vs) (seat ∷ seats) (suc i) chair there = rw (polls_roused vs seats i chair there) refl
 
 polls_busy : (vs : List Visible) (seats : List Chair) (i : ℕ) (v : Visible) → slice_get vs i ≡ Some v → polls_seen (slice_set vs i (record v { busy = true })) seats ≡ polls_seen vs seats
 polls_busy [] seats i v there = absurd (cc)
 polls_busy (x ∷ vs) [] zero v there = refl
 polls_busy (x ∷ vs) [] (suc i) v there = refl
-polls_busy (x ∷ vs) (seat ∷ seats) zero v there =
-    let same : v ≡ x = cc in
-    rw same refl
+polls_busy (x ∷ vs) (seat ∷ seats) zero v there = grind arith
 polls_busy (x ∷ vs) (seat ∷ seats) (suc i) v there = rw (polls_busy vs seats i v there) refl
 
 module _ {B : Type 0} where
   things_kept : (vs : Views) (s s' : Shared B) → s'.global ≡ s.global → s'.idle ≡ s.idle → s'.barrier_open ≡ s.barrier_open → s'.set ≡ s.set → s'.requests ≡ s.requests → s'.sleepers ≡ s.sleepers → s'.opens ≡ s.opens
       → map queue_at s'.seats.items ≡ map queue_at s.seats.items → map word_at s'.seats.items ≡ map word_at s.seats.items → map inbox_at s'.seats.items ≡ map inbox_at s.seats.items
       → polls_seen vs.workers s'.seats.items ≡ polls_seen vs.workers s.seats.items → things_with vs s' ≡ things_with vs s
-  things_kept vs s s' global idle barrier set requests sleepers opens queues words inboxes polls = λ i.
-      record {
-        queues = queues i;
-        words = words i;
-        inboxes = inboxes i;
-        wake_polls = polls i;
-        global = tasks_of (global i).values;
-        idle = idle i;
-        barrier = barrier i;
-        shards = map (map (λ e. e.0)) (set i).shards;
-        gates = map (gate_seen (requests i).items) (opens i);
-        answers = numbers_of_passing (λ r. r.sent) 0 (requests i).items;
-        alarms = numbers_of_passing (λ z. z.sent) 0 (sleepers i).items;
-      }
-
-  views_kept : (c d : Core B) → d.workers ≡ c.workers → d.callers ≡ c.callers → views d ≡ views c
-  views_kept c d workers callers = λ i. record { workers = map visible (workers i).items; calls = map (λ (x : Caller). call_of x.place) (callers i).items }
+  things_kept = grind arith
 
 module _ {B L : Type 0} (left : B → L) (spot : L → Option Said → Spot) where
   -- a step of no party: the whole is as before, but for what all share, and what the machine has of that
   by_nobody : (p : Plan) (c d : Core B) (a : Action) (e : Event) → d.workers ≡ c.workers → d.callers ≡ c.callers
       → common_of left spot p (views c) d.shared ≡ common_by (common_of left spot p (views c) c.shared) a e Plain → things_with (views c) d.shared ≡ things_with (views c) c.shared
       → playing left spot p d ≡ record (playing left spot p c) { world = record (world left spot p c) { common = common_by (common_of left spot p (views c) c.shared) a e Plain } }
-  by_nobody p c d a e workers callers common things =
-      let seen = views_kept c d workers callers in
-      playing_by _ _ _ _ _ _ _ _
-      (world_by _ _ _ _ (ap (λ ws. map own_of ws.items) workers) (ap (λ vs. common_of left spot p vs d.shared) seen ∙ common))
-      (ap (λ ws. map desk_of ws.items) workers) (ap (λ cs. map desk_of_caller cs.items) callers)
-      (ap (λ vs. things_with vs d.shared) seen ∙ things)
+  by_nobody = grind arith
 
   played_as : (a : Action) (e : Event) (x y : Playing) → x ≡ y → (let it : Played = record { told = (record { action = a; said = Did e }, Plain); next = y } in it) ≡ record { told = (record { action = a; said = Did e }, Plain); next = x }
   played_as a e x y same = ap (λ n. (let it : Played = record { told = (record { action = a; said = Did e }, Plain); next = n } in it)) (sym same)
@@ -186,21 +135,7 @@ module _ {B L : Type 0} (left : B → L) (spot : L → Option Said → Spot) whe
   pub clock_moved : (p : Plan) (c d : Core B) (by : ℕ) → Stands c → may_take c (action.Clock by) ≡ true → d.workers ≡ c.workers → d.callers ≡ c.callers
       → d.shared.seats.items ≡ map (reached (c.shared.clock + by)) c.shared.seats.items → d.shared ≡ record c.shared { clock = c.shared.clock + by; seats = d.shared.seats }
       → Takes left spot p c (action.Clock by) event.Clock d
-  clock_moved p c d by stands may workers callers seats kept =
-      let vs = views c in
-      let now : ℕ = c.shared.clock + by in
-      let common : common_of left spot p vs d.shared ≡ record (common_of left spot p vs c.shared) { clock = now; seats = map (roused_at now) (seats_seen vs.workers c.shared.seats.items) } =
-      ap (λ s. common_of left spot p vs s) kept ∙ ap (λ xs. record (common_of left spot p vs c.shared) { clock = now; seats = xs }) (ap (seats_seen vs.workers) seats ∙ all_roused now vs.workers c.shared.seats.items) in
-      let things = things_kept vs c.shared d.shared (ap (λ s. s.global) kept) (ap (λ s. s.idle) kept) (ap (λ s. s.barrier_open) kept) (ap (λ s. s.set) kept) (ap (λ s. s.requests) kept) (ap (λ s. s.sleepers) kept) (ap (λ s. s.opens) kept)
-      (ap (map queue_at) seats ∙ reached_kept queue_at now c.shared.seats.items (λ chair. refl)) (ap (map word_at) seats ∙ reached_kept word_at now c.shared.seats.items (λ chair. refl))
-      (ap (map inbox_at) seats ∙ reached_kept inbox_at now c.shared.seats.items (λ chair. refl)) (ap (polls_seen vs.workers) seats ∙ polls_reached now vs.workers c.shared.seats.items) in
-      record {
-        choice = Plain;
-        follows = (sym (enabled_as left spot p c (action.Clock by) stands) ∙ may, (refl, tt));
-        becomes = ap (λ (y : Playing). y.world) (by_nobody p c d (action.Clock by) event.Clock workers callers common things);
-        callers = λ h. callers;
-        goes = played_as (action.Clock by) event.Clock (playing left spot p d) _ (by_nobody p c d (action.Clock by) event.Clock workers callers common things);
-      }
+  clock_moved = grind (arith, all_roused, things_kept, reached_kept, polls_reached, enabled_as, by_nobody, played_as)
 
   pub stirred : (p : Plan) (c d : Core B) (i : ℕ) → Stands c → may_take c (action.Stir i) ≡ true → d.workers ≡ c.workers → d.callers ≡ c.callers
       → TurnsChair i roused c.shared d.shared → d.shared ≡ record c.shared { seats = d.shared.seats }
@@ -219,28 +154,12 @@ module _ {B L : Type 0} (left : B → L) (spot : L → Option Said → Spot) whe
       let things = things_kept vs c.shared d.shared (ap (λ s. s.global) kept) (ap (λ s. s.idle) kept) (ap (λ s. s.barrier_open) kept) (ap (λ s. s.set) kept) (ap (λ s. s.requests) kept) (ap (λ s. s.sleepers) kept) (ap (λ s. s.opens) kept)
       (unchanged queue_at c.shared.seats.items d.shared.seats.items i chair.0 (roused chair.0) chair.1 seats refl) (unchanged word_at c.shared.seats.items d.shared.seats.items i chair.0 (roused chair.0) chair.1 seats refl)
       (unchanged inbox_at c.shared.seats.items d.shared.seats.items i chair.0 (roused chair.0) chair.1 seats refl) (ap (polls_seen vs.workers) seats ∙ polls_roused vs.workers c.shared.seats.items i chair.0 chair.1) in
-      record {
-        choice = Plain;
-        follows = (sym (enabled_as left spot p c (action.Stir i) stands) ∙ may, (refl, tt));
-        becomes = ap (λ (y : Playing). y.world) (by_nobody p c d (action.Stir i) event.Stir workers callers common things);
-        callers = λ h. callers;
-        goes = played_as (action.Stir i) event.Stir (playing left spot p d) _ (by_nobody p c d (action.Stir i) event.Stir workers callers common things);
-      }
+      grind arith
 
   pub peer_came : (p : Plan) (c d : Core B) (l : ℕ) → Stands c → may_take c (action.Peer l) ≡ true → d.workers ≡ c.workers → d.callers ≡ c.callers
       → d.shared.listeners.items ≡ slice_set c.shared.listeners.items l (slice_index_or c.shared.listeners.items l 0 + 1) → d.shared ≡ record c.shared { listeners = d.shared.listeners }
       → Takes left spot p c (action.Peer l) event.Peer d
-  peer_came p c d l stands may workers callers more kept =
-      let vs = views c in
-      let common : common_of left spot p vs d.shared ≡ record (common_of left spot p vs c.shared) { listeners = slice_set c.shared.listeners.items l (slice_index_or c.shared.listeners.items l 0 + 1) } =
-      ap (λ s. common_of left spot p vs s) kept ∙ ap (λ xs. record (common_of left spot p vs c.shared) { listeners = xs }) more in
-      record {
-        choice = Plain;
-        follows = (sym (enabled_as left spot p c (action.Peer l) stands) ∙ may, (refl, tt));
-        becomes = ap (λ (y : Playing). y.world) (by_nobody p c d (action.Peer l) event.Peer workers callers common (ap (things_with vs) kept));
-        callers = λ h. callers;
-        goes = played_as (action.Peer l) event.Peer (playing left spot p d) _ (by_nobody p c d (action.Peer l) event.Peer workers callers common (ap (things_with vs) kept));
-      }
+  peer_came = grind arith
 
   -- of a worker another thing is visible
   pub set_busy : (p : Plan) (c d : Core B) (i : ℕ) → Stands c → may_take c (action.SetBusy i) ≡ true → Sees i (λ seen. record seen { busy = true }) c d
@@ -263,13 +182,7 @@ module _ {B L : Type 0} (left : B → L) (spot : L → Option Said → Spot) whe
       (world_by _ _ _ _ (unchanged own_of c.workers.items d.workers.items i sees.before sees.after sees.was sees.workers sees.own) (ap (common_of left spot p (views d)) shared ∙ ap (λ v. common_of left spot p v c.shared) views_are ∙ common))
       (unchanged desk_of c.workers.items d.workers.items i sees.before sees.after sees.was sees.workers sees.desk) (ap (λ cs. map desk_of_caller cs.items) callers)
       (ap (things_with (views d)) shared ∙ ap (λ v. things_with v c.shared) views_are ∙ things)) in
-      record {
-        choice = Plain;
-        follows = (sym (enabled_as left spot p c (action.SetBusy i) stands) ∙ may, (refl, tt));
-        becomes = ap (λ (y : Playing). y.world) then_is;
-        callers = λ h. callers;
-        goes = played_as (action.SetBusy i) event.Set (playing left spot p d) _ then_is;
-      }
+      grind arith
 
   -- A RING takes its wakes, and more
 

@@ -1,16 +1,15 @@
 -- The first state: nobody has anything, and so all balances hold.
-use Rattle.std.proofs.{Common.{◌≡◌, ℕ, zero, suc, ◌==◌, ◌&&◌, Bool, true, false, not, Contains, List, [], ◌∷◌, ◌++◌, length, map, replicate, Some, None, refl, sym, ap, subst, ◌∙◌, arith, if◌then◌else◌, slice_get, slice_index_or, count_by, sum_by}, lemmas.{Bool.false≢true, List.Sums.sum_by-cons, Option.slice_get_within}}
+use Rattle.std.proofs.{Common.{◌≡◌, ℕ, zero, suc, ◌==◌, ◌&&◌, Bool, true, false, not, Contains, List, [], ◌∷◌, ◌++◌, length, map, replicate, Some, None, refl, sym, ap, subst, ◌∙◌, arith, if◌then◌else◌, slice_get, slice_index_or, sum_by}, lemmas.{Bool.false≢true, List.Sums.sum_by-cons, Option.slice_get_within}}
 use Rattle.std.specs.List.{range_with_len}
 use Rattle.exec_task.specs.declared.runnable.Runnable.{Runnable}
 use Rattle.exec_task.specs.TaskSet.{AreAtHome, Set, at_number}
 use Rattle.exec_words.specs.Idle.{is_in}
 use Rattle.exec_machine.specs.declared.config.Configuration.{Configuration}
 use Rattle.exec_moves.specs.{Pop.shard_count}
-use Rattle.exec_parts.specs.{declared.parts.{mail.Subject.Subject, role.Role.TheVariants.Pool, seat.Seat.Seat as Chair, shared.Shared.Shared, task_slot.TaskSlot.TaskSlot, worker.Worker.Worker}, Dedicated.Begins, Phased.is_complete, Records.IsFreshSeat}
+use Rattle.exec_parts.specs.{declared.parts.{role.Role.TheVariants.Pool, seat.Seat.Seat as Chair, shared.Shared.Shared, task_slot.TaskSlot.TaskSlot, worker.Worker.Worker}, Dedicated.Begins, Records.IsFreshSeat}
 use Rattle.exec_polling.specs.{declared.caller.Caller.Caller, Calling.CallSound}
-use Rattle.exec_invariants.specs.{Drained.in_set, Holding.{Box, Holder, IsHolding, Mail, awaited_in, box_of, holder_of, nap_of, thing_of}, Places.{Drops, no_drops, one_if}, Whole.{IsWhole, Profile, claimed_count, hands_of, queued, runnables_in, stock, with_worker}}
+use Rattle.exec_invariants.specs.{Drained.in_set, Holding.{IsHolding, Mail, box_of, holder_of, nap_of, thing_of}, Places.{Drops, no_drops, one_if}, Whole.{IsWhole, Profile, claimed_count, hands_of, stock, with_worker}}
 use Rattle.exec_steps.specs.Together.{StandTogether, all_have, callers_have}
-use Rattle.exec_parts.specs.declared.parts.mail.Subject.TheVariants as subject
 use Rattle.exec_parts.proofs.Facts.{same_thing}
 use Rattle.exec_polling.proofs.Begun.{fresh_mailbox, left_quiet, none_has, none_there, not_both}
 use Rattle.exec_core.proofs.{Beginning.{config_sound, first_sound, free_caller, homes_begun, less_is}, Powers.{InRange, shards_of}, QueuedOnce.slot_of}
@@ -33,41 +32,14 @@ record IsEmptyProfile (x : Profile) : Type 0 where
 
 callers_nothing : (n : ℕ) → IsEmptyProfile (callers_have (replicate n free_caller))
 callers_nothing zero = record { runnables = λ t. refl; polls = λ t. refl; claims = λ j. refl; counts = refl; published = λ j. refl; clears = λ t. refl; polled_by = λ j. refl; drops_by = λ j. refl; mail = λ m. refl; wakes = λ j t. refl }
-callers_nothing (suc n) =
-    let rest = callers_nothing n in
-    record {
-      runnables = λ t. rw (rest.runnables t) refl;
-      polls = rest.polls;
-      claims = rest.claims;
-      counts = rw rest.counts refl;
-      published = rest.published;
-      clears = rest.clears;
-      polled_by = rest.polled_by;
-      drops_by = rest.drops_by;
-      mail = rest.mail;
-      wakes = rest.wakes;
-    }
+callers_nothing (suc n) = grind (arith, callers_nothing n)
 
 either_way : {A : Type 0} (b : Bool) (x y z : A) → x ≡ z → y ≡ z → (if b then x else y) ≡ z
 either_way true x y z first second = first
 either_way false x y z first second = second
 
 with_first : (c : Configuration) (i : ℕ) (r : Runnable) (w : Worker) (x : Profile) → Begins c (Pool i) i i r 0 w → IsEmptyProfile x → IsEmptyProfile (with_worker x w)
-with_first c i r w x begins rest =
-    let left = left_quiet w.home.deferred begins.untold in
-    subst (λ v. IsEmptyProfile (with_worker x v)) (sym begins.parts)
-    (record {
-      runnables = λ t. rw (rest.runnables t) refl;
-      polls = λ t. rw (rest.polls t) refl;
-      claims = λ j. rw (rest.claims j) refl;
-      counts = rw rest.counts refl;
-      published = λ j. either_way (j == i) _ _ false refl (rest.published j);
-      clears = λ t. rw (rest.clears t) refl;
-      polled_by = λ j. either_way (j == i) _ _ None refl (rest.polled_by j);
-      drops_by = λ j. either_way (j == i) _ _ no_drops refl (rest.drops_by j);
-      mail = λ m. rw (rest.mail m, begins.letters.0, begins.letters.1) refl;
-      wakes = λ j t. either_way (j == i) _ _ 0 (rw left.wakes refl) (rest.wakes j t);
-    })
+with_first = grind (arith, left_quiet, either_way)
 
 all_nothing : (c : Configuration) (ws : List Worker) (cs : List Caller) → ((i : ℕ) (w : Worker) → slice_get ws i ≡ Some w → (j : ℕ) × (r : Runnable) × Begins c (Pool j) j j r 0 w) → IsEmptyProfile (callers_have cs) → IsEmptyProfile (all_have ws cs)
 all_nothing c [] cs each rest = rest
@@ -88,10 +60,7 @@ unset (suc n) (suc j) = unset n j
 
 in_none : (t n : ℕ) → in_set t (let set : Set (Unit {0}) = record { shards = replicate n []; closed = false; id = 1 } in set) ≡ 0
 in_none t zero = refl
-in_none t (suc n) =
-    let none : List (ℕ × Unit {0}) = [] in
-    let more = sum_by-cons (λ (shard : List (ℕ × Unit {0})). count_by (λ (e : ℕ × Unit {0}). e.0 == t) shard) none (replicate n none) in
-    omega (arith, more, in_none t n)
+in_none t (suc n) = grind (arith, sum_by-cons, in_none t n)
 
 empty_at : (n i : ℕ) → slice_index_or (replicate n (let none : List (ℕ × Unit {0}) = [] in none)) i [] ≡ []
 empty_at zero i = refl
@@ -102,9 +71,7 @@ at_home : (n : ℕ) → AreAtHome {T = Unit {0}} (replicate n [])
 at_home n index number some = absurd (some (ap (λ xs. at_number xs number) (empty_at n index)))
 
 worker_at : (c : Configuration) (rs : List Runnable) (ws : List Worker) → AllBegin c rs ws → (i : ℕ) (w : Worker) → slice_get ws i ≡ Some w → (j : ℕ) × (r : Runnable) × Begins c (Pool j) j j r 0 w
-worker_at c rs ws begin i w there =
-    let it = begin.each i w there in
-    (i, it.0, it.2)
+worker_at = grind arith
 
 free_there : (n j : ℕ) (x : Caller) → slice_get (replicate n free_caller) j ≡ Some x → free_caller ≡ x
 free_there zero j x there = absurd (cc)
@@ -114,9 +81,7 @@ free_there (suc n) (suc j) x there = free_there n j x there
 module _ {B : Type 0} where
   -- no runnable is anywhere
   stock_none : (t : ℕ) (s : Shared B) → ((j : ℕ) (chair : Chair) → slice_get s.seats.items j ≡ Some chair → IsFreshSeat true chair) → s.global.values ≡ [] → stock t s ≡ 0
-  stock_none t s fresh global =
-      let seats : sum_by (λ chair. runnables_in t (queued chair)) s.seats.items ≡ 0 = sum_none (λ chair. runnables_in t (queued chair)) s.seats.items (λ j chair there. rw (fresh j chair there).queue refl) in
-      rw (seats, global) refl
+  stock_none = grind (arith, sum_none)
 
   claimed_none : (x : Profile) (s : Shared B) → IsEmptyProfile x → claimed_count x s ≡ 0
   claimed_none x s none = sum_none (λ j. one_if (x.published j && not (is_in s.idle.published j))) (range_with_len 0 s.config.workers) (λ i j there. rw (none.published j) refl)
@@ -124,51 +89,7 @@ module _ {B : Type 0} where
   -- nobody holds anything, and no message is under way
   holding_begun : (c : Configuration) (roots : List B) (s : Shared B) (rs : List Runnable) (x : Profile) → IsFirst c roots s rs → IsEmptyProfile x
       → IsHolding (hands_of x) s.config.workers (map holder_of s.tasks.items) (map thing_of s.requests.items) (map nap_of s.sleepers.items) (map box_of s.seats.items)
-  holding_begun c roots s rs x first none =
-      let things : map thing_of s.requests.items ≡ [] = ap (map thing_of) first.bare.requests in
-      let naps : map nap_of s.sleepers.items ≡ [] = ap (map nap_of) first.bare.sleepers in
-      subst (λ ths. IsHolding (hands_of x) s.config.workers (map holder_of s.tasks.items) ths (map nap_of s.sleepers.items) (map box_of s.seats.items)) (sym things)
-      (subst (λ nps. IsHolding (hands_of x) s.config.workers (map holder_of s.tasks.items) [] nps (map box_of s.seats.items)) (sym naps)
-      (record {
-        held = λ k r box there. absurd (cc);
-        forwarded = λ k r box there. absurd (cc);
-        asked = λ k r there. absurd (cc);
-        waited = λ k r t there. absurd (cc);
-        holds = λ t it j h there has.
-            let slot = slot_of holder_of s.tasks.items t it there in
-            absurd (none_there it.held j h (ap (λ (y : Holder). y.held) (sym slot.2) ∙ (first.rooted.root t slot.0 slot.1).2.held) has);
-        awaiting = λ t it k there is. absurd (no_wait t it there (subject.Request k) is);
-        asleep = λ t it n there is. absurd (no_wait t it there (subject.Timer n) is);
-        over = λ t it there over.
-            let slot = slot_of holder_of s.tasks.items t it there in
-            absurd (false≢true (sym (ap (λ (y : TaskSlot B). is_complete y.cell.phase) (first.rooted.root t slot.0 slot.1).2.is) ∙ ap (λ (y : Holder). y.over) slot.2 ∙ over));
-        sleeps = λ n z there. absurd (cc);
-        let_go = λ n z box there. absurd (cc);
-        asked_too = λ n z there. absurd (cc);
-        let_be = λ n z there. absurd (cc);
-        woken = λ n z box there. absurd (cc);
-        owed = λ i t some. absurd (let no = none.wakes i t in omega (arith, no, some));
-        about = λ j box m there has.
-            let chair = slot_of box_of s.seats.items j box there in
-            let empty : box.messages ≡ [] = ap (λ (y : Box). y.messages) (sym chair.2) ∙ ap (λ y. y.messages) (first.rooted.fresh j chair.0 chair.1).inbox in
-            absurd (none_has box.messages m empty has);
-        room = λ j box there.
-            let chair = slot_of box_of s.seats.items j box there in
-            let fresh = first.rooted.fresh j chair.0 chair.1 in
-            let made : box.made ≡ 0 = ap (λ (y : Box). y.made) (sym chair.2) ∙ fresh.made in
-            let places : box.places ≡ 1 = ap (λ (y : Box). y.places) (sym chair.2) ∙ ap (λ y. y.places) fresh.inbox in
-            record { made = omega arith; places = λ open_still. omega (arith, made, places) };
-        made = λ m some. absurd (let no = none.mail m in omega (arith, no, some));
-        sent = λ k r there. absurd (cc);
-        sent_too = λ n z there. absurd (cc);
-        of_worker = λ k r there. absurd (cc);
-        of_worker_too = λ n z there. absurd (cc);
-      }))
-    where
-      no_wait : (t : ℕ) (it : Holder) → slice_get (map holder_of s.tasks.items) t ≡ Some it → (what : Subject) → it.awaits ≡ Some what → ⊥
-      no_wait t it there what is =
-          let slot = slot_of holder_of s.tasks.items t it there in
-          not_both it.awaits what (ap (λ (y : Holder). y.awaits) (sym slot.2) ∙ ap (λ (y : TaskSlot B). awaited_in y.waiting) (first.rooted.root t slot.0 slot.1).2.is) is
+  holding_begun = grind (arith, slot_of, none_there, false≢true, none_has, not_both)
 
   whole_begun : (c : Configuration) (roots : List B) (s : Shared B) (rs : List Runnable) (x : Profile) → InRange c → length roots ≡ c.workers → IsFirst c roots s rs → IsEmptyProfile x → IsWhole x s
   whole_begun c roots s rs x range many first none =

@@ -12,7 +12,7 @@ use Rattle.exec_invariants.specs.{Gates.{AreLinedUp, IsLinedUp}, Sound.{AreHome,
 use Rattle.exec_parts.proofs.Facts.{same_thing}
 use Rattle.exec_polling.proofs.Begun.{begun_sound, none_there, not_both}
 use Rattle.exec_invariants.proofs.SparedRecord.{there_within}
-use Rattle.exec_core.proofs.Powers.{InRange, may_begin, shards_of}
+use Rattle.exec_core.proofs.Powers.{InRange, shards_of}
 use Rattle.exec_core.specs.Firsts.{IsFirst}
 
 pub opens_begun : (n : ℕ) → map (open_seen []) (replicate n fresh_open) ≡ replicate n no_open
@@ -20,17 +20,7 @@ opens_begun zero = refl
 opens_begun (suc n) = ap (λ xs. no_open ∷ xs) (opens_begun n)
 
 pub config_sound : (c : Configuration) → InRange c → IsConfig c
-config_sound c r =
-    record {
-      interval = omega (arith, r.interval);
-      some_tick = omega (arith, r.tick.0);
-      tick = omega (arith, r.tick.1);
-      rw = omega (arith, r.rw.1);
-      connect = omega (arith, r.connect.1);
-      workers = omega (arith, r.some_workers);
-      few = r.workers;
-      begins = may_begin c r;
-    }
+config_sound = grind arith
 
 -- a caller without a call
 abbrev pub free_caller : Caller
@@ -48,27 +38,10 @@ fresh_at (suc n) zero o there = same_thing fresh_open o there
 fresh_at (suc n) (suc file) o there = fresh_at n file o there
 
 none_lined : (file : ℕ) (records : List Record) → records ≡ [] → IsLinedUp file fresh_open records
-none_lined file records none =
-    record {
-      named = λ n key there. absurd (cc);
-      durable = λ n key k r there. absurd (cc);
-      waits = λ n key k r past there. absurd (cc);
-      once = λ m n key there. absurd (cc);
-      held = λ k r there. absurd (none_there records k r none there);
-      first = λ h. refl;
-      kept = refl;
-      places = rw none (omega arith);
-    }
+none_lined = grind arith
 
 pub gates_begun : (n : ℕ) (records : List Record) → n ≤ 64 → records ≡ [] → AreLinedUp (replicate n fresh_open) records
-gates_begun n records most none =
-    record {
-      lines = λ file o there. subst (λ x. IsLinedUp file x records) (fresh_at n file o there) (none_lined file records none);
-      there = λ k r there. absurd (none_there records k r none there);
-      durable = λ k r there. absurd (none_there records k r none there);
-      few = (let many = opens_many n in omega (arith, many, most));
-      unique = λ k l r x there. absurd (none_there records k r none there);
-    }
+gates_begun = grind (arith, fresh_at, none_lined, none_there, opens_many)
 
 pub less_is : (a b : ℕ) → a < b → nat_lt a b ≡ true
 less_is a b h = grind (arith, nat_tests)
@@ -85,17 +58,7 @@ module _ {B : Type 0} (c : Configuration) (roots : List B) (s : Shared B) (rs : 
 
   -- the roots of the first state are those of the workers, and no other task is there
   pub homes_begun : AreHome c.workers (length s.seats.items) s.tasks.items
-  homes_begun =
-      record {
-        many = omega (arith, seats_many);
-        roots = omega (arith, tasks_many);
-        few = omega (arith, tasks_many, range.workers);
-        home = λ t slot there within. its_home t slot there;
-        dedicated = λ t j slot there past home. absurd (let within = slice_get_within s.tasks.items t slot there in omega (arith, within, past, tasks_many));
-        once = λ t u j slot other there also home same.
-            same_thing t u (sym (its_home t slot there) ∙ home ∙ sym same ∙ its_home u other also);
-        number = λ t slot there. ap (λ (x : TaskSlot B). x.cell.number) (first.rooted.root t slot there).2.is;
-      }
+  homes_begun = grind (arith, seats_many, tasks_many, its_home, slice_get_within, same_thing)
 
   pub resting_begun : AreResting s.tasks.items
   resting_begun t slot there ordinary unpolled = absurd (not_both slot.home t ordinary (its_home t slot there))

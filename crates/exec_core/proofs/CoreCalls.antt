@@ -1,12 +1,13 @@
 -- Steps of outside callers: how the whole takes them.
 use Rattle.std.proofs.{Common.{◌≡◌, ℕ, ◌<◌, Bool, true, false, List, length, map, get_or, Option, refl, sym, ap, subst, ◌∙◌, slice_set}, lemmas.{Bool.true≢false, List.{map-set, length-set, length-map}, Option.{slice_get_within, slice_get-get_or, get_or_from_slice_get}}}
+use Rattle.std.proofs.Common.{arith}
 use Rattle.std.specs.Prelude.{if◌then◌else◌}
 use Rattle.exec_task.specs.declared.body.Said.{Said}
-use Rattle.exec_machine.specs.{declared.{event.{Event.Event, StepResult.TheVariants.Did}, step.Action.Action}, Callers.common_by, Choice.Choice, Mail.{posted}, Progress.Plan, Run.{after_event}, Tasks.woken, Tests.set_seat, World.{Common, seat_of, task_of}}
+use Rattle.exec_machine.specs.{declared.{event.{Event.Event, StepResult.TheVariants.Did}, step.Action.Action}, Callers.common_by, Choice.Choice, Progress.Plan, Run.{after_event}, World.{Common}}
 use Rattle.exec_machine.specs.declared.event.Event.TheVariants as event
 use Rattle.exec_machine.specs.declared.step.Action.TheVariants as action
 use Rattle.exec_moves.specs.{Call.{Called, no_call}, MoveOfCaller.move_of_caller, Plays.{Played, Playing, by_action, by_call, caller_of}, State.Things}
-use Rattle.exec_parts.specs.{declared.parts.task_slot.TaskSlot.TaskSlot, Spots.Spot, View.{Views, own_of, visible, desk_of, common_of, task_seen, things_with}}
+use Rattle.exec_parts.specs.{declared.parts.task_slot.TaskSlot.TaskSlot, Spots.Spot, View.{desk_of, common_of, task_seen, things_with}}
 use Rattle.exec_polling.specs.{declared.caller.Caller.Caller, Calling.{CallSuits, CallWorks, call_of, desk_of_caller, with_call}}
 use Rattle.exec_invariants.proofs.Still.{performs_still}
 use Rattle.exec_core.proofs.Lifting.{playing_by, world_by, seen_there, stands_called}
@@ -19,35 +20,22 @@ if_tasks true s t same = refl
 if_tasks false s t same = same
 
 wake_many : (s : Common) (j t : ℕ) (e : Event) (choice : Choice) → length (common_by s (action.Wake j t) e choice).tasks ≡ length s.tasks
-wake_many s j t (event.Wake other) choice = length-set s.tasks t (woken (task_of s t))
-wake_many s j t (event.Send to m) choice = if_tasks _ s (set_seat s to (posted m (seat_of s to))) refl
-wake_many s j t _ choice = refl
+wake_many = grind (arith, length-set, if_tasks)
 
 go_on_many : (s : Common) (j : ℕ) (e : Event) (choice : Choice) → length (common_by s (action.GoOn j) e choice).tasks ≡ length s.tasks
-go_on_many s j (event.Rouse other) choice = refl
-go_on_many s j event.Return choice = refl
-go_on_many s j _ choice = refl
+go_on_many = grind arith
 
 module _ {B L : Type 0} (left : B → L) (spot : L → Option Said → Spot) where
   call_suits : (a : Action) (j : ℕ) (p : Plan) (c d : Core B) (e : Event) → Stands c → c.shared.config ≡ p.config → (calls : Calls left spot a j c e d) → CallSuits p (views c) j calls.before c.shared
-  call_suits a j p c d e stands config calls =
-      record {
-        config = config;
-        seen = seen_there (λ (x : Caller). call_of x.place) c.callers.items j calls.before calls.was;
-        workers = length-map c.workers.items visible ∙ stands.together.seats;
-      }
+  call_suits = grind (arith, seen_there, length-map)
 
   views_called : (j : ℕ) (c d : Core B) (x : Caller) → d.callers.items ≡ slice_set c.callers.items j x → d.workers ≡ c.workers → views d ≡ with_call (views c) j (call_of x.place)
-  views_called j c d x callers workers =
-      ap (λ ws. (let v : Views = record { workers = map visible ws.items; calls = map (λ (y : Caller). call_of y.place) d.callers.items } in v)) workers
-      ∙ ap (λ cs. record (views c) { calls = cs }) (ap (map (λ (y : Caller). call_of y.place)) callers ∙ map-set (λ (y : Caller). call_of y.place) c.callers.items j x)
+  views_called = grind (arith, map-set)
 
   becomes_called : (a : Action) (j : ℕ) (p : Plan) (c d : Core B) (e : Event) (calls : Calls left spot a j c e d) (works : CallWorks left spot p (views c) a j calls.before c.shared e calls.after d.shared)
       → ((choice : Choice) → after_event p.config (world left spot p c) a e choice ≡ record (world left spot p c) { common = common_by (world left spot p c).common a e choice })
       → world left spot p d ≡ after_event p.config (world left spot p c) a e works.choice
-  becomes_called a j p c d e calls works after =
-      let seen = views_called j c d calls.after calls.callers calls.workers in
-      world_by _ _ _ _ (ap (λ ws. map own_of ws.items) calls.workers) (ap (λ v. common_of left spot p v d.shared) seen ∙ works.common) ∙ sym (after works.choice)
+  becomes_called = grind (arith, views_called, world_by)
 
   -- the caller's move, and what it leads to
   called_as : (a : Action) (j : ℕ) (p : Plan) (c d : Core B) (e : Event) (calls : Calls left spot a j c e d) (works : CallWorks left spot p (views c) a j calls.before c.shared e calls.after d.shared)

@@ -1,15 +1,13 @@
 -- The seats, the roots and the workers of a new executor, one after another.
 use Rattle.std.proofs.Common.{◌≡◌, ℕ, zero, suc, ◌+◌, ◌<◌, true, false, List, [], ◌∷◌, ◌++◌, length, Some, None, refl, sym, ap, subst, ◌∙◌, arith, inl, inr, slice_get}
 use Rattle.std.proofs.lemmas.List.{length-append}
-use Rattle.std.specs.Prelude.{max}
 use Rattle.exec_base.specs.declared.one_shot.OneShotState.TheVariants as shot
 use Rattle.exec_task.specs.{Phases.runnable_of, declared.{body.Said.TheVariants.Start, runnable.Runnable.Runnable, task.Phase.TheVariants.Queued}}
 use Rattle.exec_machine.specs.declared.{config.Configuration.Configuration, state.Waiting.TheVariants.Nothing}
-use Rattle.exec_words.specs.Global.{Global}
 use Rattle.exec_ring.specs.declared.store.Store.{Store}
-use Rattle.exec_parts.specs.{declared.parts.{role.Role.TheVariants.Pool, seat.Seat.Seat as Chair, shared.Shared.Shared, task_slot.TaskSlot.TaskSlot, worker.Worker.Worker}, Dedicated.{Begins, root_slot}, Firsts.IsFresh as IsFreshShared, Records.IsFreshSeat}
+use Rattle.exec_parts.specs.{declared.parts.{role.Role.TheVariants.Pool, seat.Seat.Seat as Chair, shared.Shared.Shared, task_slot.TaskSlot.TaskSlot, worker.Worker.Worker}, Dedicated.{Begins}, Records.IsFreshSeat}
 use Rattle.exec_steps.proofs.Together.{last_or_before}
-use Rattle.exec_core.specs.Firsts.{AllBegin, HasRoots, IsBare, IsFirst, IsRoot, shared_with}
+use Rattle.exec_core.specs.Firsts.{AllBegin, HasRoots, IsBare, IsFirst, IsRoot}
 
 -- ONE MORE at the end of a list
 
@@ -32,43 +30,16 @@ nothing_left [] h = refl
 nothing_left (x ∷ xs) h = absurd (omega (arith, h))
 
 pub within_yielded : {X : Type 0} (yielded : List X) (x : X) (rest left all : List X) → yielded ++ left ≡ all → left ≡ x ∷ rest → length yielded < length all
-within_yielded yielded x rest left all split steps =
-    let parts : length (yielded ++ left) ≡ length yielded + length left = length-append yielded left in
-    omega (arith, parts, ap length split, ap length steps)
+within_yielded = grind (arith, length-append)
 
 -- WORKERS
 
-pub begin_none : (c : Configuration) → AllBegin c [] []
-begin_none c = record { many = refl; each = λ i w there. absurd (cc) }
-
 pub begin_more : (c : Configuration) (rs : List Runnable) (ws : List Worker) (r : Runnable) (w : Worker) → AllBegin c rs ws → Begins c (Pool (length ws)) (length ws) (length ws) r 0 w → AllBegin c (rs ++ r ∷ []) (ws ++ w ∷ [])
 begin_more c rs ws r w all begins =
-    record {
-      many = one_more ws rs w r all.many;
-      each = λ i v there.
-          elim (last_or_before ws i w v there) [
-            | inl found ↦ let it = all.each i v found in (it.0, on_front rs (r ∷ []) i it.0 it.1, it.2)
-            | inr last ↦ (
-              r,
-              ap (slice_get (rs ++ r ∷ [])) (last.0 ∙ all.many) ∙ on_end rs r,
-              subst (λ k. Begins c (Pool k) k k r 0 v) (sym last.0) (subst (Begins c (Pool (length ws)) (length ws) (length ws) r 0) last.1 begins),
-            )
-          ];
-    }
+    grind (arith, one_more, last_or_before, on_front, on_end)
 
 module _ {B : Type 0} where
   -- SEATS AND ROOTS
-
-  pub roots_none : HasRoots {B = B} [] [] [] []
-  roots_none =
-      record {
-        seats_many = refl;
-        tasks_many = refl;
-        runnables_many = refl;
-        fresh = λ i chair there. absurd (cc);
-        root = λ i slot there. absurd (cc);
-        queued = λ i r there. absurd (cc);
-      }
 
   pub roots_more : (roots : List B) (seats : List Chair) (tasks : List (TaskSlot B)) (rs : List Runnable) (body : B) (chair : Chair) (slot : TaskSlot B) (r : Runnable) → HasRoots roots seats tasks rs
       → IsFreshSeat true chair → IsRoot (length tasks) body slot → r ≡ runnable_of slot.cell → HasRoots (roots ++ body ∷ []) (seats ++ chair ∷ []) (tasks ++ slot ∷ []) (rs ++ r ∷ [])
@@ -104,52 +75,14 @@ module _ {B : Type 0} where
 
   pub root_is : (i n owner : ℕ) (body : B) (slot : TaskSlot B) → n ≡ i → owner ≡ 1 → slot.cell ≡ record { number = record { 0 = n }; owner = owner; phase = Queued body; cancelled = false }
       → slot ≡ record { cell = slot.cell; body = None; told = Some Start; held = slot.held; waiting = Nothing; output = shot.Open; fresh = false; cleared = false; home = Some n; poller = 0 } → slot.held.items ≡ [] → IsRoot i body slot
-  root_is i n owner body slot same mine cell is held =
-      let its : slot.cell ≡ (root_slot (record { 0 = i }) 1 i body slot).cell = cell ∙ (λ k. record { number = record { 0 = same k }; owner = mine k; phase = Queued body; cancelled = false }) in
-      record {
-        is = is ∙ (λ k. record { cell = its k; body = None; told = Some Start; held = slot.held; waiting = Nothing; output = shot.Open; fresh = false; cleared = false; home = Some (same k); poller = 0 });
-        held = held;
-      }
+  root_is = grind arith
 
   -- WHAT IS SHARED beside them
 
-  pub bare_first : (c : Configuration) (n : ℕ) (s : Shared B) (g : Global Runnable) (k : ℕ) → IsFreshShared c s → g ≡ record s.global { places = max s.global.places k } → k ≡ n → IsBare c n (record s { global = g })
-  bare_first c n s g k fresh places many =
-      let values : g.values ≡ [] = ap (λ x. x.values) places ∙ ap (λ (x : Shared B). x.global.values) fresh.parts in
-      let opened : g.closed ≡ false = ap (λ x. x.closed) places ∙ ap (λ (x : Shared B). x.global.closed) fresh.parts in
-      record {
-        parts = ap (λ (x : Shared B). record x { global = g }) fresh.parts ∙ (λ i. record (shared_with c s) { global = record { values = values i; places = g.places; closed = opened i } });
-        shards = fresh.shards;
-        places = (let some = ap (λ x. x.places) places in omega (arith, some, many));
-        requests = fresh.requests;
-        sleepers = fresh.sleepers;
-        listeners = fresh.listeners;
-      }
-
   -- seats and tasks are put in
   pub bare_with : (c : Configuration) (n : ℕ) (s u : Shared B) → IsBare c n s → u ≡ record s { seats = u.seats; tasks = u.tasks } → IsBare c n u
-  bare_with c n s u bare same =
-      subst (IsBare c n) (sym same)
-      (record {
-        parts = ap (λ (x : Shared B). record x { seats = u.seats; tasks = u.tasks }) bare.parts;
-        shards = bare.shards;
-        places = bare.places;
-        requests = bare.requests;
-        sleepers = bare.sleepers;
-        listeners = bare.listeners;
-      })
+  bare_with = grind arith
 
   -- the bytes of sockets and files are another's
   pub with_store : (c : Configuration) (roots : List B) (s : Shared B) (rs : List Runnable) (x : Store) → IsFirst c roots s rs → IsFirst c roots (record s { store = x }) rs
-  with_store c roots s rs x first =
-      record {
-        bare = record {
-          parts = ap (λ (t : Shared B). record t { store = x }) first.bare.parts;
-          shards = first.bare.shards;
-          places = first.bare.places;
-          requests = first.bare.requests;
-          sleepers = first.bare.sleepers;
-          listeners = first.bare.listeners;
-        };
-        rooted = first.rooted;
-      }
+  with_store = grind arith

@@ -1,10 +1,9 @@
 -- Of each executor holds what the laws of what is settled take for granted.
-use Rattle.std.proofs.Common.{◌≡◌, ℕ, true, false, Bool, not, List, length, Option, refl, sym, ap, subst, ◌∙◌}
+use Rattle.std.proofs.Common.{◌≡◌, ℕ, true, false, Bool, not, List, length, Option, refl, sym, ap, subst, ◌∙◌, arith}
 use Rattle.std.proofs.lemmas.{Bool.{false≢true, not-true}, List.length-map}
 use Rattle.exec_task.specs.declared.body.Said.{Said}
 use Rattle.exec_machine.specs.{declared.{config.Configuration.Configuration, state.WorkerPhase.WorkerPhase}, Progress.Plan, Tests.{is_closing, is_done, is_open}, World.{Common, Task, no_task, own_of as own_at, seat_of, task_of}}
-use Rattle.exec_machine.specs.declared.state.WorkerPhase.TheVariants as worker
-use Rattle.exec_moves.specs.{declared.{idling.{AfterWait.AfterWait, InRingWait.InRingWait, Stay.Stay}, place.Place.Place}, Plays.Playing, Seen.{next_at, polls_at}}
+use Rattle.exec_moves.specs.{declared.{idling.{AfterWait.AfterWait, InRingWait.InRingWait}, place.Place.Place}, Plays.Playing, Seen.{next_at, polls_at}}
 use Rattle.exec_invariants.{specs.Sound.Aims, proofs.Closes.now_done}
 use Rattle.exec_parts.specs.{declared.parts.seat.Seat.Seat as Chair, Phased.{closes_at, closing_in, root_over}, Spots.Spot, View.{own_of, task_seen}}
 use Rattle.exec_rest.specs.{AtRest.stays_closing, Places.is_abed, Rested.place_at}
@@ -14,22 +13,15 @@ use Rattle.exec_core.proofs.{GivenGates.{as_many_gates, at_gate, behind, gated, 
 
 -- who is closing isn't open
 closing_closes : (phase : WorkerPhase) (closes : Bool) → is_open phase ≡ not closes → is_closing phase ≡ true → closes ≡ true
-closing_closes worker.Closing true opened closing = refl
-closing_closes worker.Closing false opened closing = absurd (false≢true opened)
-closing_closes _ closes opened closing = absurd (false≢true closing)
+closing_closes = grind arith
 
 -- where it sleeps it closes in a wait of one that closes alone
 closes_abed : (place : Place) → is_abed place ≡ true → closes_at place ≡ true → stays_closing place ≡ true
-closes_abed (Place.RingWait x Stay.Closing) abed closes = refl
-closes_abed (Place.RingWait x Stay.Turn) abed closes = absurd (false≢true closes)
-closes_abed (Place.WordWait x) abed closes = absurd (false≢true closes)
-closes_abed _ abed closes = absurd (false≢true abed)
+closes_abed = grind arith
 
 -- and there its root is over only where it closes
 over_abed : (place : Place) → is_abed place ≡ true → root_over (closes_at place) (closing_in place) ≡ closes_at place
-over_abed (Place.RingWait x y) abed = refl
-over_abed (Place.WordWait x) abed = refl
-over_abed _ abed = absurd (false≢true abed)
+over_abed = grind arith
 
 -- a wait on the ring ends with a turn or a service
 goes_on : (p : Place) (c : Configuration) (i : ℕ) (seats : List Chair) → Aims p c i seats → ends_in_search p ≡ false

@@ -1,31 +1,25 @@
 -- What is known of the gates of an executor, by what holds of all parties together.
-use Rattle.std.proofs.{Common.{◌≡◌, ℕ, suc, ◌<◌, true, List, [], length, option_map, slice_get, Option, Some, None, refl, sym, ap, ◌∙◌, inl, inr, arith}, lemmas.{Bool.false≢true, List.length-map, Option.{slice_get_cases, slice_get-map}}}
+use Rattle.std.proofs.{Common.{◌≡◌, ℕ, suc, ◌<◌, true, List, [], length, option_map, slice_get, Option, Some, refl, sym, ap, ◌∙◌, inl, inr, arith}, lemmas.{Bool.false≢true, List.length-map, Option.{slice_get_cases, slice_get-map}}}
 use Rattle.exec_outcomes.specs.Accounts.{is_durable}
 use Rattle.exec_driver.specs.{Opens.OpenState, declared.opens.WaiterKey.WaiterKey}
 use Rattle.exec_task.specs.declared.body.Said.{Said}
 use Rattle.exec_machine.specs.{declared.{config.Configuration.Configuration, state.Request.Request}, Progress.Plan, Tests.{is_gated, is_resolved}, World.{Common, Open, no_open, no_request, open_of, request_of}}
-use Rattle.exec_moves.specs.{declared.place.{InPoll.InPoll, InService.InService, Place.Place}, Plays.{Playing, first_desk}, State.{Desk, gate_of}}
+use Rattle.exec_moves.specs.{declared.place.{InPoll.InPoll, Place.Place}, Plays.{Playing, first_desk}, State.{Desk, gate_of}}
 use Rattle.exec_parts.{specs.{declared.parts.{record.Record.Record, worker.Worker.Worker}, Spots.Spot, View.{desk_of, gate_seen, number_of_key, open_seen}}, proofs.Facts.both_true}
 use Rattle.exec_rest.specs.Rested.{place_at}
 use Rattle.exec_settled.specs.Given.{gives_up, in_line, passes_at}
-use Rattle.exec_invariants.{specs.{Gates.{AreLinedUp, JoinsGate, PassesPermit, key_for, line_at}, Places.{Drops, drops_at, joins_at, passes_at as passes_there}, Whole.Profile}, proofs.{Gated.durable_of_file, PoolKept.chosen_own, Seen.request_at, SparedRecord.there_within}}
+use Rattle.exec_invariants.{specs.{Gates.{AreLinedUp, JoinsGate, PassesPermit, key_for, line_at}, Places.{Drops, drops_at, joins_at, passes_at as passes_there}}, proofs.{Gated.durable_of_file, Seen.request_at, SparedRecord.there_within}}
 use Rattle.exec_steps.{specs.Together.all_have, proofs.Together.others_of}
 use Rattle.exec_core.specs.{Lift.{Stands, playing}, declared.executor.Core.Core}
 use Rattle.exec_core.proofs.{GivenGatesLines.{line_seen, number_there, stood}, GivenWorkers.{by_one, mapped, mapped_past, mapped_within}}
 
 -- both say of a place which permit is passed on there
 passes_same : (p : Place) → passes_there p ≡ passes_at p
-passes_same (Place.Service (InService.PassPermit file b) v) = refl
-passes_same (Place.Service _ v) = refl
-passes_same _ = refl
+passes_same = grind arith
 
 -- who has the permit is the first in the line
 first_holds : (o : OpenState) (key : WaiterKey) → o.holder ≡ Some key → slice_get (line_at o) 0 ≡ Some key
-first_holds o key holds = by o.holder holds
-  where
-    by : (h : Option WaiterKey) → h ≡ Some key → slice_get (line_at (record o { holder = h })) 0 ≡ Some key
-    by (Some x) is = is
-    by None is = absurd (cc)
+first_holds = grind arith
 
 module _ {B L : Type 0} (left : B → L) (spot : L → Option Said → Spot) (p : Plan) (c : Core B) (stands : Stands c) (k : Configuration) where
   abbrev shown : Playing
@@ -61,9 +55,7 @@ module _ {B L : Type 0} (left : B → L) (spot : L → Option Said → Spot) (p 
   drops i w there =
       let its = (stands.together.sound i w there).0 in
       let rest = others_of c.workers.items c.callers.items i w there (λ j x at other same. other (sym (stands.together.sound j x at).0 ∙ same ∙ its)) in
-      ap (all_have c.workers.items c.callers.items).drops_by (sym its)
-      ∙ ap (λ (all : Profile). all.drops_by w.index) rest.now
-      ∙ chosen_own w.index (drops_at w.place) (rest.others.drops_by w.index)
+      grind arith
 
   pub as_many_gates : length shown.things.gates ≡ length s.opens
   as_many_gates = length-map opens (gate_seen rs) ∙ sym (length-map opens (open_seen rs))

@@ -1,6 +1,6 @@
 -- Who stands at a gate, as that is shown: the numbers of the requests whose keys stand there.
 use Rattle.std.proofs.{Common.{◌≡◌, ℕ, List, [], ◌∷◌, map, slice_get, Some, if◌then◌else◌, refl, sym, ap, ◌∙◌, inl, inr, arith}, lemmas.{Option.{slice_get_cases}}}
-use Rattle.exec_driver.specs.{Opens.OpenState, declared.opens.WaiterKey.WaiterKey}
+use Rattle.exec_driver.specs.{Opens.OpenState}
 use Rattle.exec_machine.specs.{World.{Common, no_request, request_of}}
 use Rattle.exec_parts.{specs.{declared.parts.{record.Record.Record}, View.{gate_seen, has_given_up, line_of, number_of_key}}}
 use Rattle.exec_invariants.{specs.{Gates.{AreLinedUp, key_for, line_at}}, proofs.{GateLines.key_number, Seen.request_at}}
@@ -22,11 +22,7 @@ module _ (opens : List OpenState) (rs : List Record) (lined : AreLinedUp opens r
       let found = slot_of (number_of_key 0 rs) (line_at o) n k there in
       let who = (lined.lines file o open_there).named n found.0 found.1 in
       let same : who.0 ≡ k = sym (number_there who.0 who.1 who.2) ∙ ap (number_of_key 0 rs) who.3 ∙ found.2 in
-      record {
-        r = who.1;
-        there = ap (slice_get rs) (sym same) ∙ who.2;
-        placed = found.1 ∙ ap (λ (x : WaiterKey). Some x) (sym who.3);
-      }
+      grind arith
 
 -- THE LINE of those who stand there without one that is over is the same by what is shown of the requests.
 module _ (of : Common) (rs : List Record) where

@@ -1,5 +1,5 @@
 -- What is known of the slots of the workers of an executor, by what holds of each worker.
-use Rattle.std.proofs.Common.{◌≡◌, ℕ, zero, suc, ◌+◌, ◌==◌, ◌&&◌, ◌||◌, List, [], ◌∷◌, if◌then◌else◌, not, true, false, Bool, get_or, IsSome, slice_get, slice_index_or, Option, Some, None, refl, sym, ap, subst, ◌∙◌, arith}
+use Rattle.std.proofs.Common.{◌≡◌, ℕ, zero, suc, ◌+◌, ◌==◌, ◌&&◌, List, [], ◌∷◌, if◌then◌else◌, not, true, false, Bool, get_or, IsSome, slice_get, slice_index_or, Option, Some, None, refl, sym, ap, subst, ◌∙◌, arith}
 use Rattle.std.proofs.lemmas.Bool.{eq-eqb, false_from_ne_true, false≢true, or_right, true≢false}
 use Rattle.exec_base.specs.{Slab.{is_live, value_at}, declared.slab.{Slot.{Slot, TheVariants.{Vacant}}}}
 use Rattle.exec_waiters.specs.{States.waiter_of, declared.waiter.Entry.Entry}
@@ -19,13 +19,8 @@ numbered_one false n m later h = h
 numbered_in_slots : {T : Type 0} (n k : ℕ) (numbers : List ℕ) (slots : List (Slot T)) (i : ℕ) (d : Slot T) → is_live d ≡ false → is_live (get_or slots i d) ≡ true → slice_index_or numbers (k + i) 0 ≡ n
     → has_number n (numbers_in (slots_from k numbers slots)) ≡ true
 numbered_in_slots n k numbers [] i d dead live same = absurd (false≢true (sym dead ∙ live))
-numbered_in_slots n k numbers (x ∷ slots) zero d dead live same =
-    let here : slice_index_or numbers k 0 ≡ n = ap (λ j. slice_index_or numbers j 0) (plus_none k) ∙ same in
-    ap (λ (b : Bool). has_number n (numbers_in ((if b then Some (slice_index_or numbers k 0) else None) ∷ slots_from (suc k) numbers slots))) live
-    ∙ ap (λ (b : Bool). b || has_number n (numbers_in (slots_from (suc k) numbers slots))) (eq-eqb (slice_index_or numbers k 0) n here)
-numbered_in_slots n k numbers (x ∷ slots) (suc i) d dead live same =
-    numbered_one (is_live x) n (slice_index_or numbers k 0) (slots_from (suc k) numbers slots)
-    (numbered_in_slots n (suc k) numbers slots i d dead live (ap (λ j. slice_index_or numbers j 0) (plus_one k i) ∙ same))
+numbered_in_slots n k numbers (x ∷ slots) zero d dead live same = grind (arith, slots, plus_none, eq-eqb)
+numbered_in_slots n k numbers (x ∷ slots) (suc i) d dead live same = grind (arith, slots, numbered_one, plus_one, numbered_in_slots n (suc k) numbers slots i d dead live (ap (λ j. slice_index_or numbers j 0) (plus_one k i) ∙ same))
 
 -- one that isn't over is in the slab
 still_there : (o : Option (Entry Reply Reply)) (over : Bool) → (waiter_of o ≡ None → over ≡ true) → over ≡ false → IsSome o
@@ -33,9 +28,7 @@ still_there None over gone going = absurd (false≢true (sym going ∙ gone refl
 still_there (Some e) over gone going = refl
 
 unfired : (mine fired removed : Bool) → (mine && not fired && not removed) ≡ true → fired ≡ false
-unfired true true removed h = absurd (false≢true h)
-unfired true false removed h = refl
-unfired false fired removed h = absurd (false≢true h)
+unfired = grind arith
 
 module _ {B L : Type 0} (left : B → L) (spot : L → Option Said → Spot) (p : Plan) (c : Core B) (stands : Stands c) (k : Configuration) where
   abbrev shown : Playing

@@ -6,7 +6,6 @@ use Rattle.exec_task.specs.{declared.body.Said.{Said}}
 use Rattle.exec_machine.specs.{declared.{config.Configuration.Configuration, state.{MailMessage.MailMessage, Request.Request, Sleeper.Sleeper, Waiting.Waiting}}, Progress.Plan, Tests.is_done, World.{Common, Seat, Task, no_task, request_of, seat_of, sleeper_of}}
 use Rattle.exec_machine.specs.declared.state.Waiting.TheVariants as waiting
 use Rattle.exec_moves.specs.{declared.place.InClosing.InClosing, Plays.Playing}
-use Rattle.exec_moves.specs.declared.place.InClosing.TheVariants as closing
 use Rattle.exec_parts.specs.{declared.parts.{record.Record.Record, seat.Seat.Seat as Chair, sleeping.SleeperRecord.SleeperRecord, task_slot.TaskSlot.TaskSlot, worker.Worker.Worker}, Phased.{closes_at, closing_in, has_shut, is_complete, root_over}, Records.numbers_held, Spots.Spot, View.task_seen}
 use Rattle.exec_parts.specs.declared.parts.mail.Subject.TheVariants as subject
 use Rattle.exec_invariants.specs.{Holding.{AwaitsNap, AwaitsThing, IsHeldBy, MayHave, awaited_in, box_of, holder_of, holdings, nap_of, thing_of, under_way}, Sound.IsMyMail, Whole.hands_of}
@@ -19,19 +18,7 @@ use Rattle.exec_core.proofs.{GivenWaitsSeen.{first_among, found_as, own_message}
 
 -- where its mailbox isn't closed, as long as its root isn't over
 open_shut : (b : Bool) (x : Option InClosing) → root_over b x ≡ false → has_shut b x ≡ false
-open_shut b None h = h
-open_shut b (Some closing.Close) h = absurd (true≢false h)
-open_shut b (Some closing.CloseQueue) h = refl
-open_shut b (Some closing.OpenBarrier) h = refl
-open_shut b (Some closing.Stop) h = refl
-open_shut b (Some (closing.TellRoot worker)) h = refl
-open_shut b (Some (closing.Visit drain)) h = refl
-open_shut b (Some (closing.Clear t drain)) h = refl
-open_shut b (Some closing.LeaveBarrier) h = refl
-open_shut b (Some closing.CloseMailbox) h = refl
-open_shut b (Some closing.Orphan) h = h
-open_shut b (Some closing.CloseSleeper) h = h
-open_shut b (Some closing.End) h = h
+open_shut = grind arith
 
 -- what is held has an open mailbox at its worker
 held_open : (shut observed : Bool) (held told : ℕ) → 0 < held → IsHeldBy shut observed held told → shut ≡ false

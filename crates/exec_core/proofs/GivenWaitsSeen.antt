@@ -1,9 +1,8 @@
 -- The first message of a worker, and whose it is by what is shown of requests and sleepers.
-use Rattle.std.proofs.Common.{◌≡◌, ◌⊎◌, ℕ, Contains, List, [], ◌∷◌, ◌++◌, map, slice_get, Option, Some, refl, sym, ap, subst, ◌∙◌, inl, inr, arith}
-use Rattle.exec_words.specs.declared.inbox.Message.{Message}
+use Rattle.std.proofs.Common.{◌≡◌, ◌⊎◌, ℕ, Contains, List, [], ◌∷◌, ◌++◌, map, slice_get, Option, Some, refl, inl, inr, arith}
 use Rattle.exec_task.specs.declared.{body.Said.Said}
-use Rattle.exec_machine.specs.{declared.state.{MailMessage.MailMessage, Request.Request, Sleeper.Sleeper}, Progress.Plan, World.{Common}}
-use Rattle.exec_parts.specs.{declared.parts.{mail.Subject.Subject}, Spots.Spot, View.{message_of}}
+use Rattle.exec_machine.specs.{declared.state.{MailMessage.MailMessage}, Progress.Plan, World.{Common}}
+use Rattle.exec_parts.specs.{Spots.Spot, View.{message_of}}
 use Rattle.exec_parts.proofs.Facts.{same_thing}
 use Rattle.exec_invariants.specs.{Holding.{Mail}, Sound.{IsMyMail}}
 use Rattle.exec_invariants.proofs.Seen.{request_at, sleeper_at}
@@ -13,9 +12,7 @@ use Rattle.exec_core.proofs.QueuedOnce.{slot_of}
 
 -- what holds of that holds of what it is of
 pub found_as : {A C : Type 0} (f : A → C) (P : C → Type 0) (xs : List A) (i : ℕ) (y : C) → slice_get (map f xs) i ≡ Some y → P y → (x : A) × (slice_get xs i ≡ Some x) × (slice_get (map f xs) i ≡ Some (f x)) × P (f x)
-found_as f P xs i y there it =
-    let found = slot_of f xs i y there in
-    (found.0, found.1, there ∙ ap (λ z. Some z) (sym found.2), subst P (sym found.2) it)
+found_as = grind (arith, slot_of)
 
 -- THE FIRST MESSAGE of those that were taken and those that weren't is one of them.
 pub record IsAmong (batch messages : List Mail) (m : MailMessage) : Type 0 where
@@ -34,8 +31,4 @@ module _ {B L : Type 0} (left : B → L) (spot : L → Option Said → Spot) (p 
 
   -- a message about what a worker has is about its own
   pub own_message : (i : ℕ) (m : Mail) → IsMyMail c.shared.config.workers i m c.shared.requests.items c.shared.sleepers.items → IsOwnMessage s i (message_of m)
-  own_message i Message.WakeRoot mine = tt
-  own_message i (Message.Forward (Subject.Request k)) mine = ap (λ (r : Request). r.worker) (request_at c.shared.requests.items k mine.0 mine.1) ∙ mine.2
-  own_message i (Message.Forward (Subject.Timer n)) mine = ap (λ (z : Sleeper). z.worker) (sleeper_at c.shared.sleepers.items n mine.0 mine.1) ∙ mine.2
-  own_message i (Message.Cancel (Subject.Request k)) mine = ap (λ (r : Request). r.worker) (request_at c.shared.requests.items k mine.0 mine.1) ∙ mine.2
-  own_message i (Message.Cancel (Subject.Timer n)) mine = ap (λ (z : Sleeper). z.worker) (sleeper_at c.shared.sleepers.items n mine.0 mine.1) ∙ mine.2
+  own_message = grind (arith, request_at, sleeper_at)

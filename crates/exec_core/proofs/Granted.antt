@@ -1,9 +1,8 @@
 -- Of each executor holds what the law takes for granted that no worker turns for ever.
-use Rattle.std.proofs.Common.{◌≡◌, ℕ, true, List, Option, Some, refl, sym, subst}
-use Rattle.std.proofs.lemmas.Option.{none-some}
+use Rattle.std.proofs.Common.{◌≡◌, ℕ, true, List, Option, Some, sym, subst, arith}
 use Rattle.exec_task.specs.declared.body.Said.{Said}
 use Rattle.exec_machine.specs.{declared.config.Configuration.Configuration, Progress.Plan}
-use Rattle.exec_moves.specs.{declared.{idling.InScan.InScan, place.Place.Place}, Plays.Playing}
+use Rattle.exec_moves.specs.{declared.{place.Place.Place}, Plays.Playing}
 use Rattle.exec_parts.specs.Spots.{Spot}
 use Rattle.exec_credit.proofs.Rings.{some_ring}
 use Rattle.exec_invariants.specs.Places.{claims_at}
@@ -14,9 +13,7 @@ use Rattle.exec_core.proofs.{GrantedBeds.beds, GrantedCounts.counted, GrantedEnd
 
 -- who has claimed some of a run queue seeks
 claims_seek : (p : Place) (n : ℕ) → claims_at p ≡ Some n → is_seeking p ≡ true
-claims_seek (Place.Scan (InScan.MoveHalf from h)) n is = refl
-claims_seek (Place.Scan (InScan.ReleaseHalf from h)) n is = refl
-claims_seek _ n is = absurd (none-some n is)
+claims_seek = grind arith
 
 module _ {B L : Type 0} (left : B → L) (runs : L → Plan → Option ℕ → Type 0) (holds : L → Option Said → List ℕ) (spot : L → Option Said → Spot) where
   granted : (p : Plan) (c : Core B) (k : Configuration) → Stands c → c.shared.config ≡ k → IsShut (playing left spot p c) → HaveCounts k (playing left spot p c) → IsGranted k (playing left spot p c)

@@ -4,7 +4,7 @@ use Rattle.std.proofs.Common.{◌≡◌, ◌≢◌, ℕ, zero, suc, ◌+◌, ◌
 use Rattle.std.proofs.lemmas.Bool.{cases_Bool, eqb-true, false≢true}
 use Rattle.exec_task.specs.declared.body.Said.{Said}
 use Rattle.exec_machine.specs.{declared.config.Configuration.Configuration, Progress.Plan}
-use Rattle.exec_moves.specs.{declared.{idling.InScan.InScan, place.Place.Place}, Credit.one_if as one_at, Plays.{Playing, desk_of, first_desk}, State.{Desk, queue_of}}
+use Rattle.exec_moves.specs.{declared.{place.Place.Place}, Counts.one_if as one_at, Plays.{Playing, desk_of, first_desk}, State.{Desk, queue_of}}
 use Rattle.exec_parts.specs.{declared.parts.{seat.Seat.Seat as Chair, worker.Worker.Worker}, Spots.Spot, View.{desk_of as desk_seen}}
 use Rattle.exec_parts.proofs.Facts.{same_thing}
 use Rattle.exec_invariants.{specs.{Places.{claims_at, is_number, one_if}, Sound.{Aims}}}
@@ -15,9 +15,7 @@ use Rattle.exec_core.{specs.{declared.executor.Core.Core, Lift.{Stands, playing}
 
 -- who has claimed the run queue of this number is another worker
 claims_other : (q : Place) (c : Configuration) (i n : ℕ) (seats : List Chair) → Aims q c i seats → is_number (claims_at q) n ≡ true → n ≢ i
-claims_other (Place.Scan (InScan.MoveHalf from h)) c i n seats aims it = λ same. aims.0 (eqb-true from n it ∙ same)
-claims_other (Place.Scan (InScan.ReleaseHalf from h)) c i n seats aims it = λ same. aims.0 (eqb-true from n it ∙ same)
-claims_other _ c i n seats aims it = absurd (false≢true it)
+claims_other = grind arith
 
 -- a number is the one that is named
 named : (o : Option ℕ) (n : ℕ) → is_number o n ≡ true → o ≡ Some n
@@ -61,14 +59,8 @@ count_in (x ∷ ws) cs (suc i) w there = let rest = count_in ws cs i w there in 
 counts_in : (ws : List Worker) (cs : List Caller) (i j : ℕ) (w v : Worker) → slice_get ws i ≡ Some w → slice_get ws j ≡ Some v → i ≢ j → one_if w.searching + one_if v.searching ≤ (all_have ws cs).counts
 counts_in [] cs i j w v at_i at_j apart = absurd (cc)
 counts_in (x ∷ ws) cs zero zero w v at_i at_j apart = absurd (apart refl)
-counts_in (x ∷ ws) cs zero (suc j) w v at_i at_j apart =
-    let same = ap (λ (y : Worker). one_if y.searching) (same_thing x w at_i) in
-    let rest = count_in ws cs j v at_j in
-    omega (arith, same, rest)
-counts_in (x ∷ ws) cs (suc i) zero w v at_i at_j apart =
-    let same = ap (λ (y : Worker). one_if y.searching) (same_thing x v at_j) in
-    let rest = count_in ws cs i w at_i in
-    omega (arith, same, rest)
+counts_in (x ∷ ws) cs zero (suc j) w v at_i at_j apart = grind (arith, same_thing, count_in)
+counts_in (x ∷ ws) cs (suc i) zero w v at_i at_j apart = grind (arith, same_thing, count_in)
 counts_in (x ∷ ws) cs (suc i) (suc j) w v at_i at_j apart = let rest = counts_in ws cs i j w v at_i at_j (λ same. apart (ap suc same)) in omega (arith, rest)
 
 module _ {B L : Type 0} (left : B → L) (spot : L → Option Said → Spot) (p : Plan) (c : Core B) (stands : Stands c) (k : Configuration) where

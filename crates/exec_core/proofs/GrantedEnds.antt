@@ -49,12 +49,7 @@ module _ {A : Type 0} (is : ℕ → A → Bool) where
 
   few_of_each : (n : ℕ) (xs : List A) → ((k : ℕ) (x : A) → Contains xs x → is k x ≡ true → count_by (is k) xs ≤ 1) → of_all n xs ≤ n
   few_of_each zero xs each = omega arith
-  few_of_each (suc n) xs each =
-      let rest = few_of_each n xs each in
-      elim (some_of n xs) [
-        | inl none ↦ omega (arith, rest, none)
-        | inr some ↦ (let one = each n some.0 some.1 some.2 in omega (arith, rest, one))
-      ]
+  few_of_each (suc n) xs each = grind (arith, some_of, few_of_each n xs each)
 
   all_counted : (n : ℕ) (xs : List A) → ((x : A) → Contains xs x → (k : ℕ) × (k < n) × (is k x ≡ true)) → length xs ≤ of_all n xs
   all_counted n [] each = omega arith

@@ -1,13 +1,13 @@
 -- What is granted of each state of an executor, of the run queues: what a place has loaded of its own one, and of the one that it is to
 -- steal from; and where nothing is kept aside.
-use Rattle.std.proofs.Common.{◌≡◌, map, ℕ, ◌+◌, ◌<◌, ◌≤◌, List, [], length, Option, sym, ap, subst, ◌∙◌, arith}
+use Rattle.std.proofs.Common.{◌≡◌, ℕ, ◌+◌, ◌<◌, ◌≤◌, List, [], length, Option, sym, ap, subst, ◌∙◌, arith}
 use Rattle.std.proofs.lemmas.{List.length-map, Nat.mod_below}
 use Rattle.exec_words.specs.Queue.{Queue, head_of, room_of, tail_of}
 use Rattle.exec_words.specs.Head.{room_at}
 use Rattle.exec_task.specs.declared.{body.Said.Said, runnable.Runnable.Runnable}
 use Rattle.exec_machine.specs.{declared.config.Configuration.Configuration, Progress.Plan}
-use Rattle.exec_moves.specs.{declared.{handing.{InPop.InPop, InPush.InPush}, idling.{InScan.InScan}, place.{InPick.InPick, Place.Place}}, Plays.Playing, Search.from_of, State.{no_queue, queue_of}}
-use Rattle.exec_parts.specs.{declared.parts.seat.Seat.Seat as Chair, Spots.Spot, View.{queue_at, queue_seen, tasks_of}}
+use Rattle.exec_moves.specs.{declared.{handing.{InPush.InPush}, idling.{InScan.InScan}, place.{InPick.InPick, Place.Place}}, Plays.Playing, Search.from_of, State.{no_queue, queue_of}}
+use Rattle.exec_parts.specs.{declared.parts.seat.Seat.Seat as Chair, Spots.Spot, View.{queue_at, queue_seen}}
 use Rattle.exec_invariants.{specs.Sound.{Aims, HasQueue}, proofs.SparedRecord.there_within}
 use Rattle.exec_rest.specs.Rested.{place_at}
 use Rattle.exec_progress.specs.{Going.{KnowsAside, KnowsTail}, Granted.KnowsRoom}
@@ -21,9 +21,6 @@ seen_tail q = ap (λ n. q.real + n) (length-map q.values (λ (r : Runnable). r.t
 
 seen_room : (q : Queue Runnable) → room_of (queue_seen q) ≡ room_of q
 seen_room q = ap (room_at (head_of q)) (seen_tail q)
-
-seen_aside : (q : Queue Runnable) → q.held ≡ [] → (queue_seen q).held ≡ []
-seen_aside q none = ap tasks_of none
 
 -- WHAT A PLACE KNOWS
 
@@ -40,16 +37,7 @@ knows_room (Place.Scan InScan.StoreMoved) q has = subst (λ n. 128 ≤ n) (sym (
 knows_room _ q has = tt
 
 knows_aside : (p : Place) (q : Queue Runnable) → HasQueue p q → KnowsAside p (queue_seen q)
-knows_aside (Place.Pick (InPick.TakeShare first room held)) q has = seen_aside q has.0
-knows_aside (Place.Push (InPush.StoreValue n) b) q has = seen_aside q has.0
-knows_aside (Place.Scan InScan.StoreMoved) q has = seen_aside q has.0
-knows_aside (Place.Push (InPush.FlowOver h) b) q has = seen_aside q has.0
-knows_aside (Place.Push InPush.StoreOldest b) q has = ap (map (λ (r : Runnable). r.task.0)) has
-knows_aside (Place.Pop InPop.PopAlone b) q has = seen_aside q has
-knows_aside (Place.Pop InPop.LoadPopHead b) q has = seen_aside q has
-knows_aside (Place.Pop (InPop.ExchangePop h) b) q has = seen_aside q has.0
-knows_aside (Place.Pop InPop.StorePop b) q has = seen_aside q has.0
-knows_aside _ q has = tt
+knows_aside = grind arith
 
 module _ {B L : Type 0} (left : B → L) (spot : L → Option Said → Spot) (p : Plan) (c : Core B) (stands : Stands c) (k : Configuration) where
   abbrev shown : Playing

@@ -1,15 +1,14 @@
 -- While nobody closes and a worker is open, the task whose poll begins at it is to be polled. Its runnable is in the hand: that of
 -- the root says so; one of an ordinary task is the only one of that, as long as neither the task set nor the global queue is closed.
 -- Worker zero closes the set, and is open too: had it ended, all of the pool would have passed the barrier, and be closing.
-use Rattle.std.proofs.Common.{◌≡◌, ◌≢◌, ℕ, zero, suc, ◌+◌, ◌<◌, ◌==◌, Bool, true, false, not, Contains, List, [], ◌∷◌, ◌++◌, option_to_list, get_or, slice_get, Option, Some, None, if◌then◌else◌, refl, sym, ap, subst, ◌∙◌, arith, inl, inr}
+use Rattle.std.proofs.Common.{◌≡◌, ◌≢◌, ℕ, zero, suc, ◌+◌, ◌<◌, Bool, true, false, not, Contains, List, [], ◌∷◌, option_to_list, get_or, slice_get, Option, Some, None, if◌then◌else◌, refl, sym, ap, subst, ◌∙◌, arith, inl, inr}
 use Rattle.std.specs.List.{list_any}
 use Rattle.std.proofs.lemmas.{Bool.{cases_eq, eq-eqb, false_from_ne_true, false≢true, lt-ltb, not-true, or_parts, true≢false}}
 use Rattle.exec_task.specs.{declared.{body.Said.Said, runnable.Runnable.Runnable, task.Phase.Phase}}
 use Rattle.exec_machine.specs.{declared.{config.Configuration.Configuration, state.WorkerPhase.WorkerPhase}, Progress.{Plan, is_anyone_closing}, Tests.{has_ended, is_closing, is_open, is_ready}, World.{Seat, Task, no_seat, no_task, seat_of, task_of}}
-use Rattle.exec_machine.specs.declared.state.WorkerPhase.TheVariants as worker
 use Rattle.exec_moves.specs.{declared.place.{InPoll.InPoll, Place.Place}, Plays.Playing}
 use Rattle.exec_parts.{specs.{declared.parts.{seat.Seat.Seat as Chair, task_slot.TaskSlot.TaskSlot, worker.Worker.Worker}, Phased.{closes_at, has_shut}, Spots.Spot, View.{phase_seen, task_seen}}, proofs.Facts.same_thing}
-use Rattle.exec_invariants.{specs.{Drained.{IsBefore}, Sound.{IsHeld, IsRunnable, SoundAt, one_of, root_in_hand}, Whole.{HasOne, IsGenuine, may_let_go, runnables_in, stock}}, proofs.{ServedEnds.{count_both, count_one}, Slots.before_in_poll}}
+use Rattle.exec_invariants.{specs.{Drained.{IsBefore}, Sound.{IsHeld, IsRunnable, SoundAt, one_of, root_in_hand}, Whole.{HasOne, IsGenuine, may_let_go, stock}}, proofs.{ServedEnds.{count_both, count_one}, Slots.before_in_poll}}
 use Rattle.exec_polling.specs.declared.caller.Caller.{Caller}
 use Rattle.exec_steps.specs.Together.{all_have}
 use Rattle.exec_rest.specs.{AtRest.IsShut, Rested.place_at}
@@ -25,47 +24,27 @@ nobody (x ∷ seats) none (suc i) = nobody seats (or_parts (is_closing x.phase) 
 
 -- so who hasn't ended is open
 still_open : (phase : WorkerPhase) → is_closing phase ≡ false → has_ended phase ≡ false → is_open phase ≡ true
-still_open worker.Open going on = refl
-still_open worker.Closing going on = absurd (true≢false going)
-still_open worker.Ended going on = absurd (true≢false on)
+still_open = grind arith
 
 ended_closes : (phase : WorkerPhase) (closes : Bool) → has_ended phase ≡ true → is_open phase ≡ not closes → closes ≡ true
-ended_closes worker.Ended true ended opened = refl
-ended_closes worker.Ended false ended opened = absurd (false≢true opened)
-ended_closes _ closes ended opened = absurd (false≢true ended)
+ended_closes = grind arith
 
 -- A RUNNABLE IN THE HAND
 
 -- the one of this task that all have
 held_in : (ws : List Worker) (cs : List Caller) (i : ℕ) (w : Worker) (r : Runnable) (t : ℕ) → slice_get ws i ≡ Some w → w.hand ≡ Some r → r.task.0 ≡ t → 0 < (all_have ws cs).runnables t
 held_in [] cs i w r t there hand same = absurd (cc)
-held_in (x ∷ ws) cs zero w r t there hand same =
-    let mine : runnables_in t (option_to_list x.hand ++ x.loot.values) ≡ runnables_in t (r ∷ x.loot.values) =
-    ap (λ o. runnables_in t (option_to_list o ++ x.loot.values)) (ap (λ (v : Worker). v.hand) (same_thing x w there) ∙ hand) in
-    let more = count_both (λ (q : Runnable). q.task.0 == t) (r ∷ []) x.loot.values in
-    let one = count_one (λ (q : Runnable). q.task.0 == t) r true (eq-eqb r.task.0 t same) in
-    omega (arith, mine, more, one)
+held_in (x ∷ ws) cs zero w r t there hand same = grind (arith, same_thing, count_both, count_one, eq-eqb)
 held_in (x ∷ ws) cs (suc i) w r t there hand same = let rest = held_in ws cs i w r t there hand same in omega (arith, rest)
 
 module _ {B : Type 0} where
   -- one that has a runnable is queued, unless some may be let go
   queued_by : (phase : Phase B) (i n : ℕ) → HasOne false phase n → 0 < n → is_ready (phase_seen phase i) ≡ true
-  queued_by (Phase.Queued b) i n has some = refl
-  queued_by (Phase.Idle b) i n has some = absurd (omega (arith, has, some))
-  queued_by Phase.Running i n has some = absurd (omega (arith, has, some))
-  queued_by Phase.Notified i n has some = absurd (omega (arith, has, some))
-  queued_by Phase.Complete i n has some = absurd (omega (arith, has, some))
+  queued_by = grind arith
 
   -- and so is the root that has one
   root_queued : (flag hand : Option Runnable) (r : Runnable) (slot : TaskSlot B) → hand ≡ Some r → IsRunnable (one_of flag hand) slot → is_ready (phase_seen slot.cell.phase slot.poller) ≡ true
-  root_queued flag hand r slot is once = by flag (subst (λ o. IsRunnable (one_of flag o) slot) is once)
-    where
-      ready_by : (b : B) → slot.cell.phase ≡ Phase.Queued b → is_ready (phase_seen slot.cell.phase slot.poller) ≡ true
-      ready_by b queued = ap (λ phase. is_ready (phase_seen phase slot.poller)) queued
-
-      by : (f : Option Runnable) → IsRunnable (one_of f (Some r)) slot → is_ready (phase_seen slot.cell.phase slot.poller) ≡ true
-      by None h = ready_by h.1.0 h.1.1
-      by (Some other) h = ready_by h.1.0 h.1.1
+  root_queued = grind arith
 
   -- one that isn't the root's is that of an ordinary task
   genuine_of : (t root : ℕ) (tasks : List (TaskSlot B)) (r : Runnable) → t ≢ root → IsHeld (Some t) root tasks r → IsGenuine tasks r

@@ -4,71 +4,18 @@ use Rattle.std.proofs.Common.{◌≡◌, ℕ, ◌<◌, ◌≤◌, true, false, l
 use Rattle.std.proofs.lemmas.{Bool.{not-true}, List.length-map}
 use Rattle.exec_task.specs.declared.{body.Said.Said, runnable.Runnable.Runnable}
 use Rattle.exec_machine.specs.{declared.{config.Configuration.Configuration}, Progress.Plan, Tests.is_open, World.{own_of as own_at, seat_of}}
-use Rattle.exec_moves.specs.{declared.{handing.{AfterCallbacks.AfterCallbacks, AfterCancels.AfterCancels, AfterClaim.AfterClaim, AfterKick.AfterKick, AfterLeave.AfterLeave, AfterPop.AfterPop, AfterPush.AfterPush, AfterSend.AfterSend, AfterSignal.AfterSignal}, idling.Stay.Stay, place.{AfterService.AfterService, InClosing.InClosing, Place.Place}}, Plays.{Playing, desk_of as desk_at}, Seen.serves_at}
-use Rattle.exec_parts.specs.{Phased.{closes_after, closes_after_cancels, closes_after_claim, closes_after_kick, closes_after_leave, closes_after_push, closes_after_send, closes_after_signal, closes_at, closes_before}, Spots.Spot}
+use Rattle.exec_moves.specs.{declared.{place.{Place.Place}}, Plays.{Playing, desk_of as desk_at}, Seen.serves_at}
+use Rattle.exec_parts.specs.{Phased.{closes_at}, Spots.Spot}
 use Rattle.exec_rest.specs.Rested.{is_in_pool, place_at}
-use Rattle.exec_progress.specs.Going.{closes_callbacks, closes_cancels, closes_claim, closes_kick, closes_leave, closes_push, closes_send, closes_service, closes_signal, is_of_closing}
+use Rattle.exec_progress.specs.Going.{is_of_closing}
 use Rattle.exec_core.specs.{Lift.{Stands, playing}, declared.executor.Core.Core}
 use Rattle.exec_invariants.proofs.SparedRecord.{there_within}
 use Rattle.exec_core.proofs.GivenWorkers.{as_many_seats, by_worker}
 
 -- WHERE A WORKER CLOSES, by the parts and by the law: the same places
 
-before_same : (n : AfterCallbacks) → closes_callbacks n ≡ closes_before n
-before_same AfterCallbacks.Drain = refl
-before_same AfterCallbacks.Finish = refl
-before_same _ = refl
-
-push_same : (b : AfterPush) → closes_push b ≡ closes_after_push b
-push_same (AfterPush.CallBack n) = before_same n
-push_same _ = refl
-
-leave_same : (b : AfterLeave) → closes_leave b ≡ closes_after_leave b
-leave_same (AfterLeave.CallBack n) = before_same n
-leave_same _ = refl
-
-kick_same : (b : AfterKick) → closes_kick b ≡ closes_after_kick b
-kick_same (AfterKick.Leave b) = leave_same b
-kick_same (AfterKick.Push b) = push_same b
-
-claim_same : (b : AfterClaim) → closes_claim b ≡ closes_after_claim b
-claim_same (AfterClaim.Kick b) = kick_same b
-claim_same (AfterClaim.Global b) = push_same b
-
-cancels_same : (b : AfterCancels) → closes_cancels b ≡ closes_after_cancels b
-cancels_same (AfterCancels.Visit drain) = refl
-cancels_same _ = refl
-
-send_same : (b : AfterSend) → closes_send b ≡ closes_after_send b
-send_same (AfterSend.Cancels b) = cancels_same b
-send_same (AfterSend.Tell worker) = refl
-send_same _ = refl
-
-signal_same : (b : AfterSignal) → closes_signal b ≡ closes_after_signal b
-signal_same (AfterSignal.Claim b) = claim_same b
-signal_same (AfterSignal.Send b) = send_same b
-
-service_same : (b : AfterService) → closes_service b ≡ closes_after b
-service_same AfterService.Finish = refl
-service_same _ = refl
-
 pub closing_same : (p : Place) → is_of_closing p ≡ closes_at p
-closing_same (Place.Closing InClosing.Close) = refl
-closing_same (Place.Closing _) = refl
-closing_same (Place.Callbacks x n) = before_same n
-closing_same (Place.Service x v) = service_same v.back
-closing_same (Place.RingWait x Stay.Closing) = refl
-closing_same (Place.RingWait x _) = refl
-closing_same (Place.Pop x AfterPop.Discard) = refl
-closing_same (Place.Pop x _) = refl
-closing_same (Place.LeaveSearch b) = leave_same b
-closing_same (Place.Push x b) = push_same b
-closing_same (Place.Global x b) = push_same b
-closing_same (Place.Kick x b) = kick_same b
-closing_same (Place.ClaimWorker set b) = claim_same b
-closing_same (Place.Signal x j b) = signal_same b
-closing_same (Place.SendCancel b) = cancels_same b
-closing_same _ = refl
+closing_same = grind arith
 
 module _ {B L : Type 0} (left : B → L) (spot : L → Option Said → Spot) (p : Plan) (c : Core B) (stands : Stands c) (k : Configuration) where
   abbrev shown : Playing

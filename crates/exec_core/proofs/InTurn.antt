@@ -1,13 +1,14 @@
 -- In each state of an executor durable requests take turns, by the gates, and no write and no sync is cancelled, by what each
 -- worker has of its own requests. Once an open keeps a failure, no durable request of it ends well.
-use Rattle.std.proofs.{Common.{◌≡◌, ℕ, ◌&&◌, ◌||◌, Bool, true, false, not, List, map, slice_get, Option, Some, None, if◌then◌else◌, refl, sym, ap, subst, ◌∙◌}, lemmas.Bool.false≢true}
-use Rattle.exec_base.specs.{Slab.value_at, declared.error.Error.Error}
-use Rattle.exec_outcomes.specs.{Accounts.{Account, by_failure, is_durable, outcome_at_grant}, declared.outcome.{Kind.Kind, Outcome.{Outcome, TheVariants.{Failure, Success}}}}
+use Rattle.std.proofs.{Common.{◌≡◌, ℕ, ◌&&◌, ◌||◌, Bool, true, false, not, List, map, slice_get, Option, Some, None, refl, sym, ap, subst, ◌∙◌}, lemmas.Bool.false≢true}
+use Rattle.std.proofs.Common.{arith}
+use Rattle.exec_base.specs.{Slab.value_at}
+use Rattle.exec_outcomes.specs.{Accounts.{is_durable}}
 use Rattle.exec_request.specs.States.{asks_cancel}
 use Rattle.exec_task.specs.declared.body.Said.{Said}
 use Rattle.exec_waiters.{specs.{States.waiter_at, declared.waiter.Waiter.Waiter}, proofs.Changes.entry_of}
 use Rattle.exec_driver.specs.Opens.{OpenState}
-use Rattle.exec_machine.specs.{declared.state.Request.Request, Progress.Plan, Requests.outcome_shown, Same.same_end, Tests.{is_gated, is_kept, is_resolved}}
+use Rattle.exec_machine.specs.{declared.state.Request.Request, Progress.Plan, Tests.{is_gated, is_kept, is_resolved}}
 use Rattle.exec_moves.specs.Plays.{Playing}
 use Rattle.exec_parts.specs.{declared.parts.{mail.Reply.Reply, record.Record.Record, shared.Shared.Shared, worker.Worker.Worker}, Records.number_in, Spots.Spot, View.driver_of}
 use Rattle.exec_invariants.specs.{Gates.{AreLinedUp, key_for}, Sound.Sound}
@@ -19,10 +20,7 @@ use Rattle.exec_core.proofs.QueuedOnce.{queues_once, slot_of}
 -- THE PERMIT
 
 permit_parts : (durable gated over : Bool) → (durable && not (gated || over)) ≡ true → (durable ≡ true) × (gated ≡ false) × (over ≡ false)
-permit_parts true false false h = (refl, refl, refl)
-permit_parts true true over h = absurd (false≢true h)
-permit_parts true false true h = absurd (false≢true h)
-permit_parts false gated over h = absurd (false≢true h)
+permit_parts = grind arith
 
 -- who has the permit stands first at the gate of its open
 holder_is : (opens : List OpenState) (rs : List Record) → AreLinedUp opens rs → (k : ℕ) (r : Record) → slice_get rs k ≡ Some r → has_permit r.shown ≡ true
@@ -35,12 +33,7 @@ holder_is opens rs lined k r there has =
 
 one_has : (opens : List OpenState) (rs : List Record) → AreLinedUp opens rs → (j k : ℕ) (q r : Record) → slice_get rs j ≡ Some q → slice_get rs k ≡ Some r
     → has_permit q.shown ≡ true → has_permit r.shown ≡ true → q.shown.operation.target ≡ r.shown.operation.target → j ≡ k
-one_has opens rs lined j k q r at_j at_k mine yours same =
-    let a = holder_is opens rs lined j q at_j mine in
-    let b = holder_is opens rs lined k r at_k yours in
-    let opens_same : a.0 ≡ b.0 = cc (a.1, b.1, same) in
-    let keys : key_for q ≡ key_for r = cc (a.2, b.2, opens_same) in
-    lined.unique j k q r at_j at_k keys
+one_has = grind (arith, holder_is)
 
 -- NOTHING THAT CHANGES A FILE IS CANCELLED
 
@@ -85,20 +78,3 @@ module _ {B L : Type 0} (left : B → L) (runs : L → Plan → Option ℕ → T
   orderly p c x stands shows = record { once = queues_once left runs holds spot p c x stands shows; turns = take_turns p c x stands shows }
 
 -- A KEPT FAILURE
-
-fails_told : (durable : Bool) (error : Error) (outcome : Outcome) → durable ≡ true → same_end (Some Success) (Some (if durable then by_failure (Some error) outcome else outcome)) ≡ true → ⊥
-fails_told true error Success is h = false≢true h
-fails_told true error (Failure e) is h = false≢true h
-fails_told false error outcome is h = false≢true is
-
-pub fails_over : (kind : Kind) (account : Account) (error : Error) (given : Option Outcome) → is_durable kind ≡ true → account.failure ≡ Some error → same_end (Some Success) (outcome_shown account kind given) ≡ true → ⊥
-fails_over kind account error None durable kept h = false≢true h
-fails_over kind account error (Some outcome) durable kept h =
-    fails_told (is_durable kind) error outcome durable (subst (λ f. same_end (Some Success) (Some (if is_durable kind then by_failure f outcome else outcome)) ≡ true) kept h)
-
-fails_granted : (kind : Kind) (account : Account) (error : Error) → same_end (Some Success) (outcome_at_grant kind (record account { failure = Some error })) ≡ true → ⊥
-fails_granted Kind.Sync account error h = false≢true h
-fails_granted _ account error h = false≢true h
-
-pub fails_at_grant : (kind : Kind) (account : Account) (error : Error) → account.failure ≡ Some error → same_end (Some Success) (outcome_at_grant kind account) ≡ true → ⊥
-fails_at_grant kind account error kept h = fails_granted kind account error (subst (λ f. same_end (Some Success) (outcome_at_grant kind (record account { failure = f })) ≡ true) kept h)

@@ -2,7 +2,7 @@
 -- the machine, and that of the moves.
 use Rattle.std.proofs.{Common.{◌≡◌, ◌≢◌, ℕ, suc, ◌+◌, ◌<◌, ◌≤◌, Bool, true, false, List, [], ◌∷◌, ◌++◌, length, map, Option, None, Some, refl, sym, ap, subst, ◌∙◌, ⊎_elim, arith, option_to_list, slice_get, slice_set, option_map}, lemmas.{Bool.cases_lt, List.{map-append, map-set, length-set, length-map, length-append, append-nil, set-get_or}, Option.{slice_get-map, slice_get_within, get_or_from_slice_get}}}
 use Rattle.exec_task.specs.declared.body.Said.{Said}
-use Rattle.exec_machine.specs.{declared.{config.Configuration.Configuration, event.{Event.Event, StepResult.TheVariants.Did}}, Tests.AllTrue, Allowed.allowed, After.{own_after, common_after, made_by}, Callers.is_enabled, Choice.Choice, Progress.Plan, Run.after_event, Tasks.new_seat, World.{World, Own, Common, no_own, own_of as own_at}}
+use Rattle.exec_machine.specs.{declared.{config.Configuration.Configuration, event.{Event.Event, StepResult.TheVariants.Did}}, After.{own_after, common_after, made_by}, Callers.is_enabled, Choice.Choice, Progress.Plan, Run.after_event, World.{World, Own, Common, no_own, own_of as own_at}}
 use Rattle.exec_machine.specs.declared.event.Event.TheVariants as event
 use Rattle.exec_machine.specs.declared.step.Action.TheVariants as action
 use Rattle.exec_moves.specs.{Pop.shard_count, Call.CallDesk, Move.move, Plays.{Played, Playing, by_action, by_move, desk_of as desk_at, first_desk, newcomers}, State.{Desk, Things}}
@@ -28,9 +28,7 @@ set_found xs k x found = ap (λ y. slice_set xs k y) (sym (get_or_from_slice_get
 
 -- What has been put in the place of its like can't be told apart.
 pub unchanged : {A B : Type 0} (f : A → B) (xs ys : List A) (i : ℕ) (x y : A) → slice_get xs i ≡ Some x → ys ≡ slice_set xs i y → f y ≡ f x → map f ys ≡ map f xs
-unchanged f xs ys i x y was now same =
-    ap (map f) now ∙ map-set f xs i y ∙ ap (slice_set (map f xs) i) same
-    ∙ set_found (map f xs) i (f x) (slice_get-map f xs i ∙ ap (option_map f) was)
+unchanged = grind (arith, map-set, set_found, slice_get-map)
 
 -- what stands in its place is seen there
 pub seen_there : {A B : Type 0} (f : A → B) (xs : List A) (i : ℕ) (x : A) → slice_get xs i ≡ Some x → slice_get (map f xs) i ≡ Some (f x)
@@ -51,9 +49,7 @@ seats_length (v ∷ vs) (seat ∷ seats) h = ap suc (seats_length vs seats (suc_
 
 -- A step after which there are as many seats makes no worker.
 none_made : (c : Configuration) (me : Own) (s s' : Common) (i : ℕ) (e : Event) (choice : Choice) → s' ≡ common_after c me s i e choice → length s'.seats ≡ length s.seats → (made_by s e ≡ []) × (newcomers c e ≡ [])
-none_made c me s s' i (event.Dedicated t j) choice is same =
-    absurd (not_longer (length s.seats) (sym same ∙ ap (λ x. length x.seats) is ∙ length-append s.seats (new_seat false ∷ [])))
-none_made c me s s' i e choice is same = (refl, refl)
+none_made = grind (arith, not_longer, length-append)
 
 -- WHAT AN EXECUTOR IS, part by part
 
@@ -70,16 +66,11 @@ views_by vs vs' v same = ap (λ xs. record v { workers = xs }) same
 module _ {B : Type 0} where
   -- what is visible once one worker is another
   pub views_with : (c d : Core B) (i : ℕ) (w' : Worker) → d.workers.items ≡ slice_set c.workers.items i w' → d.callers ≡ c.callers → views d ≡ with_view (views c) i (visible w')
-  views_with c d i w' workers callers =
-      ap (λ xs. record (views c) { workers = map visible d.workers.items; calls = map (λ (x : Caller). call_of x.place) xs.items }) callers
-      ∙ views_by _ _ (views c) (ap (map visible) workers ∙ map-set visible c.workers.items i w')
+  views_with = grind (arith, views_by, map-set)
 
   -- and one more was made
   pub views_with_born : (c d : Core B) (i : ℕ) (w' : Worker) (born : Option Worker) → d.workers.items ≡ slice_set c.workers.items i w' ++ option_to_list born → d.callers ≡ c.callers → views d ≡ with_born born (with_view (views c) i (visible w'))
-  views_with_born c d i w' None workers callers = views_with c d i w' (workers ∙ append-nil (slice_set c.workers.items i w')) callers
-  views_with_born c d i w' (Some v) workers callers =
-      ap (λ xs. record (views c) { workers = map visible d.workers.items; calls = map (λ (x : Caller). call_of x.place) xs.items }) callers
-      ∙ views_by _ _ (views c) (ap (map visible) workers ∙ seen_with visible c.workers.items i w' v)
+  views_with_born = grind (arith, views_with, append-nil, views_by, seen_with)
 
   -- WHAT STANDS THEN
 
@@ -124,13 +115,7 @@ module _ {B : Type 0} where
       let owned : AreOwned (length d.workers.items) d.shared =
       owned_more false (length c.workers.items) (length d.workers.items) c.shared d.shared (owned_in c stands) (omega (arith, many))
       (λ j past. beside.spares j (λ same. omega (arith, same, past, many, within, mine))) in
-      record {
-        some = omega (arith, many, stands.some);
-        callers = ap (λ xs. length xs.items) callers ∙ stands.callers;
-        together = subst (λ xs. StandTogether d.workers.items xs.items d.shared) (sym callers) (subst (λ xs. StandTogether xs c.callers.items d.shared) (sym workers) then);
-        owned = owned.owned;
-        asleep = owned.asleep;
-      }
+      grind arith
 
   -- the same, where it made a worker
   stands_born : (c d : Core B) (i : ℕ) (w w' v : Worker) (e : Event) → Stands c → slice_get c.workers.items i ≡ Some w → d.workers.items ≡ slice_set c.workers.items i w' ++ v ∷ [] → d.callers ≡ c.callers
@@ -143,13 +128,7 @@ module _ {B : Type 0} where
       let owned : AreOwned (length d.workers.items) d.shared =
       owned_more true (length c.workers.items) (length d.workers.items) c.shared d.shared (owned_in c stands) (omega (arith, many))
       (λ j past. beside.spares j (λ same. omega (arith, same, past, many, within, mine))) in
-      record {
-        some = omega (arith, many, stands.some);
-        callers = ap (λ xs. length xs.items) callers ∙ stands.callers;
-        together = subst (λ xs. StandTogether d.workers.items xs.items d.shared) (sym callers) (subst (λ xs. StandTogether xs c.callers.items d.shared) (sym workers) then);
-        owned = owned.owned;
-        asleep = owned.asleep;
-      }
+      grind arith
 
   -- who has the same root has the same number
   old_number : (more : Bool) (c d : Core B) (w w' : Worker) → Stands c → Sound w c.shared → Sound w' d.shared → w'.root ≡ w.root → ((j : ℕ) → j ≢ w.index → SparesBy more j c.shared d.shared) → w'.index < length c.workers.items → w'.index ≡ w.index
@@ -193,13 +172,7 @@ module _ {B : Type 0} where
       let then : StandTogether c.workers.items (slice_set c.callers.items j x') d.shared = caller_stepped c.workers.items c.callers.items c.shared stands.together j x x' d.shared was sound beside in
       let owned : AreOwned (length d.workers.items) d.shared =
       owned_more false (length c.workers.items) (length d.workers.items) c.shared d.shared (owned_in c stands) (omega (arith, many)) (λ k past. beside.spares k) in
-      record {
-        some = omega (arith, many, stands.some);
-        callers = ap length callers ∙ length-set c.callers.items j x' ∙ stands.callers;
-        together = subst (λ xs. StandTogether xs.items d.callers.items d.shared) (sym workers) (subst (λ xs. StandTogether c.workers.items xs d.shared) (sym callers) then);
-        owned = owned.owned;
-        asleep = owned.asleep;
-      }
+      grind (arith, length-set)
 
   -- what stands after a step of no party that keeps what is sound
   pub stands_by : (c d : Core B) → Stands c → d.workers ≡ c.workers → d.callers ≡ c.callers → length d.shared.seats.items ≡ length c.shared.seats.items
@@ -253,10 +226,7 @@ module _ {B L : Type 0} (left : B → L) (spot : L → Option Said → Spot) whe
 
   -- as many seats are seen where as many stand
   pub as_many_seen : (p : Plan) (c d : Core B) → Stands c → Stands d → length d.workers.items ≡ length c.workers.items → length (world left spot p d).common.seats ≡ length (world left spot p c).common.seats
-  as_many_seen p c d stands still many =
-      seats_length (map visible d.workers.items) d.shared.seats.items (length-map d.workers.items visible ∙ still.together.seats)
-      ∙ length-map d.workers.items visible ∙ many ∙ sym (length-map c.workers.items visible)
-      ∙ sym (seats_length (map visible c.workers.items) c.shared.seats.items (length-map c.workers.items visible ∙ stands.together.seats))
+  as_many_seen = grind (arith, seats_length, length-map)
 
   -- WHERE THERE IS NO MEMORY
   pub as_before : (i : ℕ) (c d : Core B) → WorkerStays left spot i c d → IsAsBefore left spot c d
@@ -324,13 +294,7 @@ module _ {B L : Type 0} (left : B → L) (runs : L → Plan → Option ℕ → T
       let next : by_move p.config x i (record { event = e; choice = works.choice; desk = desk_of w'; thing = things_with then d.shared }) ≡ record { told = (record { action = action.Work i; said = Did e }, works.choice); next = playing left spot p d } =
       ap (λ n. (let it : Played = record { told = (record { action = action.Work i; said = Did e }, works.choice); next = n } in it))
       (playing_by _ _ _ _ _ _ _ _ (sym becomes) (sym desks) (ap (λ xs. map desk_of_caller xs.items) (sym callers)) (ap (λ v. things_with v d.shared) (sym seen))) in
-      record {
-        choice = works.choice;
-        follows = (enabled, subst (λ me. AllTrue (allowed p.config me all i e works.choice)) (sym mine) works.may);
-        becomes = becomes;
-        callers = λ h. callers;
-        goes = goes ∙ next;
-      }
+      grind arith
 
   -- THE LIFT
   pub lifted : (i : ℕ) (p : Plan) (c d : Core B) (e : Event) → Stands c → WorkerSteps left runs holds spot i c e d

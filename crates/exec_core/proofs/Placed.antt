@@ -1,12 +1,12 @@
 -- Each worker and each caller of an executor is at a place where it may be, by what holds of each worker and of all parties
 -- together. The law that no wake is lost rests on that.
-use Rattle.std.proofs.Common.{◌≡◌, ◌≢◌, ℕ, suc, ◌+◌, ◌<◌, ◌≤◌, ◌==◌, Bool, true, false, not, List, [], ◌∷◌, ◌++◌, length, map, slice_get, Option, Some, None, option_map, is_some, nat_lt, if◌then◌else◌, refl, sym, ap, subst, ◌∙◌, inl, inr, ⊎_elim, arith}
+use Rattle.std.proofs.Common.{◌≡◌, ◌≢◌, ℕ, suc, ◌+◌, ◌<◌, ◌≤◌, Bool, true, false, not, List, [], ◌∷◌, ◌++◌, length, map, slice_get, Option, Some, None, option_map, is_some, nat_lt, refl, sym, ap, subst, ◌∙◌, ⊎_elim, arith}
 use Rattle.std.proofs.lemmas.{Bool.{or_from, not_from_true, cases_lt, false≢true, true≢false, false_from_ne_true, true_from_ne_false, lt-ltb, ltb-true, not-true}, List.{length-map}}
 use Rattle.exec_words.specs.{Queue.Queue, Reserved.Reserved}
 use Rattle.exec_task.specs.{Phases.is_polled, declared.{body.Said.Said, runnable.Runnable.Runnable, task.Phase.Phase}}
 use Rattle.exec_machine.specs.{declared.{config.Configuration.Configuration}, Progress.{Plan, is_runnable}, Tests.{has_ended, is_open}, World.{Task}}
-use Rattle.exec_moves.specs.{declared.{handing.{AfterCancels.AfterCancels, AfterPop.AfterPop, AfterPush.AfterPush, AfterSend.AfterSend, AfterSignal.AfterSignal, CallPlace.CallPlace}, idling.Stay.Stay, place.{InClosing.InClosing, Place.Place}}, Call.{CallDesk, no_call}, Plays.{Playing, caller_of, desk_of as desk_at}}
-use Rattle.exec_parts.specs.{declared.parts.{seat.Seat.Seat as Chair, task_slot.TaskSlot.TaskSlot, worker.Worker.Worker}, Phased.{closes_at, closing_after_cancels, closing_in, has_shut, is_complete, root_over}, Spots.Spot, View.{Visible, desk_of, inbox_at, message_of, phase_seen, polls_seen, queue_at, task_seen, tasks_of, visible, word_at}}
+use Rattle.exec_moves.specs.{declared.{handing.{CallPlace.CallPlace}, idling.Stay.Stay, place.{InClosing.InClosing, Place.Place}}, Call.{CallDesk, no_call}, Plays.{Playing, caller_of, desk_of as desk_at}}
+use Rattle.exec_parts.specs.{declared.parts.{seat.Seat.Seat as Chair, task_slot.TaskSlot.TaskSlot, worker.Worker.Worker}, Phased.{closes_at, closing_in, has_shut, is_complete, root_over}, Spots.Spot, View.{Visible, desk_of, inbox_at, message_of, phase_seen, polls_seen, queue_at, task_seen, tasks_of, visible, word_at}}
 use Rattle.exec_invariants.specs.{Drained.{HaveLeft, IsBefore, in_set}, Holding.Mail, Places.{begins_at, hands_on_at, has_loot_at, is_pooled_at, polled_in}, Sound.{AreHome, HasBatch, HasQueue, IsInHand, IsLoot, IsRunnable, one_of, root_in_hand}}
 use Rattle.exec_parts.proofs.Facts.{same_thing}
 use Rattle.exec_invariants.proofs.{SparedRecord.there_within}
@@ -20,11 +20,7 @@ use Rattle.exec_core.proofs.{GivenWorkers.{Sits, as_many_seats, by_one, by_worke
 
 -- only a worker of the pool writes its run queue in a pick, a steal, or after a poll
 fed_is_pooled : (p : Place) → is_fed p ≡ true → is_pooled_at p ≡ true
-fed_is_pooled (Place.Pick y) h = refl
-fed_is_pooled (Place.Pop y b) h = refl
-fed_is_pooled (Place.Push y AfterPush.Pick) h = refl
-fed_is_pooled (Place.Scan y) h = refl
-fed_is_pooled _ h = absurd (false≢true h)
+fed_is_pooled = grind arith
 
 -- a worker that is closing stays so
 closes_there : (p : Place) → stays_closing p ≡ true → closes_at p ≡ true
@@ -36,44 +32,18 @@ abbrev ends : Option InClosing → Bool
 ends (Some InClosing.End) = true
 ends _ = false
 
-end_in_closing : (y : InClosing) → ends (Some y) ≡ is_end (Place.Closing y)
-end_in_closing InClosing.End = refl
-end_in_closing _ = refl
-
-none_after_cancels : (b : AfterCancels) → ends (closing_after_cancels b) ≡ false
-none_after_cancels (AfterCancels.Visit drain) = by (drain.left == 0)
-  where
-    by : (last : Bool) → ends (Some (if last then InClosing.LeaveBarrier else InClosing.Visit drain)) ≡ false
-    by true = refl
-    by false = refl
-none_after_cancels _ = refl
-
 end_seen : (p : Place) → ends (closing_in p) ≡ is_end p
-end_seen (Place.Closing y) = end_in_closing y
-end_seen (Place.Pop y AfterPop.Discard) = refl
-end_seen (Place.Signal y j (AfterSignal.Send (AfterSend.Cancels b))) = none_after_cancels b
-end_seen (Place.Signal y j (AfterSignal.Send _)) = refl
-end_seen (Place.SendCancel b) = none_after_cancels b
-end_seen _ = refl
+end_seen = grind arith
 
 -- where it sleeps or has ended it has no runnable: in its hand, on their way between queues, aside
 idle_hand : (p : Place) (hand : Option Runnable) → is_idle p ≡ true → IsInHand (begins_at p) (hands_on_at p) hand → hand ≡ None
-idle_hand (Place.Closing y) hand h held = held
-idle_hand (Place.WordWait y) hand h held = held
-idle_hand (Place.RingWait y z) hand h held = held
-idle_hand _ hand h held = absurd (false≢true h)
+idle_hand = grind arith
 
 idle_loot : (p : Place) (loot : Reserved Runnable) → is_idle p ≡ true → IsLoot (has_loot_at p) loot → loot.values ≡ []
-idle_loot (Place.Closing y) loot h it = it.none refl
-idle_loot (Place.WordWait y) loot h it = it.none refl
-idle_loot (Place.RingWait y z) loot h it = it.none refl
-idle_loot _ loot h it = absurd (false≢true h)
+idle_loot = grind arith
 
 idle_queue : (p : Place) (q : Queue Runnable) → is_idle p ≡ true → HasQueue p q → q.held ≡ []
-idle_queue (Place.Closing y) q h it = it
-idle_queue (Place.WordWait y) q h it = it
-idle_queue (Place.RingWait y z) q h it = it
-idle_queue _ q h it = absurd (false≢true h)
+idle_queue = grind arith
 
 -- nor has a caller that is in no call
 free_hand : (p : CallPlace) (hand : Option Runnable) → is_in_call p ≡ false → IsInHand None (hands_on_in p) hand → hand ≡ None
@@ -104,31 +74,14 @@ module _ {B : Type 0} where
   over_for_good Phase.Complete i over = refl
   over_for_good _ i over = absurd (false≢true over)
 
-  none_queued : (phase : Phase B) (i : ℕ) → ((b : B) → phase ≢ Phase.Queued b) → is_polled phase ≡ false → is_runnable (phase_seen phase i) ≡ true → ⊥
-  none_queued (Phase.Idle b) i apart polled runs = false≢true runs
-  none_queued (Phase.Queued b) i apart polled runs = apart b refl
-  none_queued Phase.Running i apart polled runs = true≢false polled
-  none_queued Phase.Notified i apart polled runs = true≢false polled
-  none_queued Phase.Complete i apart polled runs = false≢true runs
-
-  flag_set : (flag : Option Runnable) (slot : TaskSlot B) → IsRunnable (one_of flag None) slot → is_polled slot.cell.phase ≡ false → is_runnable (phase_seen slot.cell.phase slot.poller) ≡ true → is_some flag ≡ true
-  flag_set (Some r) slot once polled runs = refl
-  flag_set None slot once polled runs = absurd (none_queued slot.cell.phase slot.poller once polled runs)
-
   -- that of a root is in the flag, where its worker sleeps
   abed_flag : (p : Place) (root : ℕ) (hand flag : Option Runnable) (slot : TaskSlot B) → is_abed p ≡ true → IsRunnable (one_of flag (root_in_hand (begins_at p) root hand)) slot
       → is_polled slot.cell.phase ≡ is_some (polled_in root p) → is_runnable (phase_seen slot.cell.phase slot.poller) ≡ true → is_some flag ≡ true
-  abed_flag (Place.WordWait y) root hand flag slot h once polled runs = flag_set flag slot once polled runs
-  abed_flag (Place.RingWait y z) root hand flag slot h once polled runs = flag_set flag slot once polled runs
-  abed_flag _ root hand flag slot h once polled runs = absurd (false≢true h)
+  abed_flag = grind arith
 
   -- a root is that of a worker
   home_within : (n count : ℕ) (tasks : List (TaskSlot B)) → AreHome n count tasks → (t j : ℕ) (slot : TaskSlot B) → slice_get tasks t ≡ Some slot → slot.home ≡ Some j → j < count
-  home_within n count tasks homes t j slot there home =
-      elim (cases_lt t n) [
-        | inl first ↦ (let same : t ≡ j = same_thing t j (sym (homes.home t slot there first) ∙ home) in omega (arith, first, same, homes.many))
-        | inr other ↦ (homes.dedicated t j slot there other home).1
-      ]
+  home_within = grind arith
 
 -- LISTS
 

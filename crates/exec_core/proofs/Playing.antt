@@ -1,5 +1,5 @@
 -- From a step of the machine to one of a log by moves.
-use Rattle.std.proofs.Common.{◌≡◌, ℕ, true, false, not, List, Option, refl, sym, ap, subst, ◌∙◌}
+use Rattle.std.proofs.Common.{◌≡◌, ℕ, true, false, not, List, Option, refl, sym, ap, subst, ◌∙◌, arith}
 use Rattle.std.specs.Prelude.{if◌then◌else◌}
 use Rattle.exec_task.specs.declared.body.Said.{Said}
 use Rattle.exec_machine.specs.{declared.{event.{Event.Event, Line.Line, StepResult.TheVariants.{Refused, Did}}, step.Action.Action}, Callers.is_enabled, Examples.refuses, Progress.Plan, Run.Follows}

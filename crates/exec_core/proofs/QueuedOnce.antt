@@ -1,15 +1,15 @@
 -- In each state of an executor a task is queued once, by the balances of all parties.
-use Rattle.std.proofs.Common.{◌≡◌, ℕ, ◌+◌, ◌≤◌, ◌==◌, ◌&&◌, ◌||◌, Bool, true, false, not, List, [], ◌∷◌, ◌++◌, cond, map, sum_by, option_map, option_to_list, slice_get, Option, Some, None, refl, sym, ap, subst, ◌∙◌, arith}
+use Rattle.std.proofs.Common.{◌≡◌, ℕ, ◌+◌, ◌==◌, ◌&&◌, ◌||◌, Bool, true, false, not, List, [], ◌∷◌, ◌++◌, cond, map, sum_by, option_map, option_to_list, slice_get, Option, Some, None, refl, sym, ap, subst, ◌∙◌, arith}
 use Rattle.std.specs.Prelude.{if◌then◌else◌}
-use Rattle.std.proofs.lemmas.{Bool.true≢false, List.Sums.sum_by-cons, Option.slice_get-map}
+use Rattle.std.proofs.lemmas.{List.Sums.sum_by-cons, Option.slice_get-map}
 use Rattle.exec_task.specs.{Phases.is_polled, declared.{body.Said.Said, runnable.Runnable.Runnable, task.Phase.Phase}}
-use Rattle.exec_machine.specs.{declared.state.{MailMessage.TheVariants.{CancelRequest, CancelTimer}, Request.Request, Sleeper.Sleeper, Waiting.Waiting}, Progress.Plan, Requests.ends_by_drop, Tests.{is_applied, is_resolved}, World.{Common, Task, request_of, sleeper_of}}
+use Rattle.exec_machine.specs.{declared.state.{MailMessage.TheVariants.{CancelRequest}, Request.Request, Waiting.Waiting}, Progress.Plan, World.{Common, Task, request_of}}
 use Rattle.exec_machine.specs.declared.state.Waiting.TheVariants as waiting
-use Rattle.exec_moves.specs.{Call.CallDesk, Plays.Playing, Poll.{after_pend, is_noted, pend, requeued_if, told_of_end}, Slots.is_in_slots, Told.{awaits_no_more, lets_go_all, lets_go_request, lets_go_requests, lets_go_sleep, lets_go_timer, one_completion, one_output, one_result, owes, told_of_cancel, told_of_drop, turned_away, without_request, without_timer}, Seen.polls_at, State.Desk}
+use Rattle.exec_moves.specs.{Call.CallDesk, Plays.Playing, Poll.{is_noted, pend, requeued_if}, Told.{lets_go_all, lets_go_request, lets_go_requests, lets_go_sleep, owes, told_of_drop}, Seen.polls_at, State.Desk}
 use Rattle.exec_words.specs.Queue.{Queue}
 use Rattle.exec_parts.specs.{declared.parts.{seat.Seat.Seat as Chair, task_slot.TaskSlot.TaskSlot, worker.Worker.Worker}, Spots.Spot, View.{desk_of, phase_seen, queue_at, task_seen}}
 use Rattle.exec_polling.specs.{declared.caller.Caller.Caller, Calling.desk_of_caller}
-use Rattle.exec_invariants.specs.{Places.{is_number, one_if}, Whole.{HasOne, IsLeftOver, IsQueuedOnce, queued, runnables_in, stock}}
+use Rattle.exec_invariants.specs.{Places.{is_number, one_if}, Whole.{HasOne, queued, runnables_in, stock}}
 use Rattle.exec_steps.specs.Together.{all_have}
 use Rattle.exec_core.specs.{declared.executor.Core.Core, Lift.{Stands, Shows, playing}, Once.{IsOnce, QueuesOnce, polls_of, runnables_of, times}}
 
@@ -73,30 +73,14 @@ queues_so t (chair ∷ seats) =
 
 -- OF ONE TASK
 
-once_queued : (gone : Bool) (n : ℕ) → IsQueuedOnce gone n → (n ≤ 1) × (gone ≡ false → n ≡ 1)
-once_queued true n h = (h, λ never. absurd (true≢false never))
-once_queued false n h = (omega (arith, h), λ same. h)
-
-once_left : (gone : Bool) (n : ℕ) → IsLeftOver gone n → (n ≤ 1) × (gone ≡ false → n ≡ 0)
-once_left true n h = (h, λ never. absurd (true≢false never))
-once_left false n h = (omega (arith, h), λ same. h)
-
 module _ {B : Type 0} where
   -- what its cell says
   once_by : (gone : Bool) (p : Phase B) (i n m : ℕ) → HasOne gone p n → m ≡ one_if (is_polled p) → IsOnce gone (phase_seen p i) n m
-  once_by gone (Phase.Idle b) i n m has polled = (has, polled)
-  once_by gone (Phase.Queued b) i n m has polled = let one = once_queued gone n has in (one.0, one.1, polled)
-  once_by gone Phase.Running i n m has polled = (has, polled)
-  once_by gone Phase.Notified i n m has polled = (has, polled)
-  once_by gone Phase.Complete i n m has polled = let left = once_left gone n has in (left.0, left.1, polled)
+  once_by = grind arith
 
 -- A TASK OF THE MACHINE is that of a slot
 pub slot_of : {A C : Type 0} (f : A → C) (xs : List A) (t : ℕ) (y : C) → slice_get (map f xs) t ≡ Some y → (x : A) × (slice_get xs t ≡ Some x) × (f x ≡ y)
-slot_of {A} {C} f xs t y there = by_option (slice_get xs t) refl (sym (slice_get-map f xs t) ∙ there)
-  where
-    by_option : (o : Option A) → slice_get xs t ≡ o → option_map f o ≡ Some y → (x : A) × (slice_get xs t ≡ Some x) × (f x ≡ y)
-    by_option (Some x) is same = (x, is, cc)
-    by_option None is same = absurd (cc)
+slot_of = grind (arith, slice_get-map)
 
 module _ {B L : Type 0} (left : B → L) (runs : L → Plan → Option ℕ → Type 0) (holds : L → Option Said → List ℕ) (spot : L → Option Said → Spot) where
   pub queues_once : (p : Plan) (c : Core B) (x : Playing) → Stands c → Shows left runs holds spot p c x → QueuesOnce x
@@ -133,16 +117,8 @@ one_hand : (h : Option ℕ) (b : Bool) (x y : Desk) → x.hand ≡ h → y.hand 
 one_hand h true x y first second = first
 one_hand h false x y first second = second
 
-turned_hand : (r : ℕ) (it : Request) (d : Desk) → (turned_away r it d).hand ≡ d.hand
-turned_hand r it d = one_hand d.hand (is_applied it.forwarding) (one_result r d) (awaits_no_more r d) refl refl
-
 dropped_hand : (r : ℕ) (it : Request) (d : Desk) → (told_of_drop r it d).hand ≡ d.hand
-dropped_hand r it d =
-    let turned = turned_hand r it d in
-    let over = one_output (without_request r (turned_away r it d)) in
-    one_hand d.hand (not (it.observed && is_in_slots r d.requests)) d _ refl
-    (one_hand d.hand (is_resolved it.phase) (one_output (without_request r d)) _ refl
-    (one_hand d.hand (ends_by_drop it) over (turned_away r it d) turned turned))
+dropped_hand = grind arith
 
 request_hand : (i r : ℕ) (it : Request) (d : Desk) → (lets_go_request i r it d).hand ≡ d.hand
 request_hand i r it d = one_hand d.hand (it.worker == i) (told_of_drop r it d) (owes it.worker (CancelRequest r) d) (dropped_hand r it d) refl
@@ -151,33 +127,11 @@ requests_hand : (i : ℕ) (s : Common) (held : List ℕ) (d : Desk) → (lets_go
 requests_hand i s [] d = refl
 requests_hand i s (r ∷ held) d = requests_hand i s held (lets_go_request i r (request_of s r) d) ∙ request_hand i r (request_of s r) d
 
-timer_hand : (i z : ℕ) (it : Sleeper) (d : Desk) → (lets_go_timer i z it d).hand ≡ d.hand
-timer_hand i z it d =
-    one_hand d.hand (it.worker == i) (told_of_cancel z it d) (owes it.worker (CancelTimer z) d)
-    (one_hand d.hand (not (is_in_slots z d.timers)) d _ refl (one_hand d.hand (is_applied it.forwarding) (one_completion z (without_timer z d)) (without_timer z d) refl refl)) refl
-
 sleep_hand : (i : ℕ) (s : Common) (w : Waiting) (d : Desk) → (lets_go_sleep i s w d).hand ≡ d.hand
-sleep_hand i s (waiting.Timer z) d = timer_hand i z (sleeper_of s z) d
-sleep_hand i s (waiting.Request r) d = refl
-sleep_hand i s waiting.Nothing d = refl
-sleep_hand i s waiting.Wake d = refl
-sleep_hand i s waiting.Woken d = refl
-sleep_hand i s waiting.Yielded d = refl
+sleep_hand = grind arith
 
 ended_hand : (i : ℕ) (s : Common) (d : Desk) (it : Task) → (lets_go_all i s it d).hand ≡ d.hand
 ended_hand i s d it = sleep_hand i s it.waiting (lets_go_requests i s it.held d) ∙ requests_hand i s it.held d
 
 pub again : (i t : ℕ) (s : Common) (d : Desk) (it : Task) → it.home ≡ None → d.hand ≡ None → (pend i t s d it).desk.hand ≡ (if is_noted it.phase && not it.cleared then Some t else None)
-again i t s d it ordinary empty = ap (λ home. (after_pend i t s d it home).hand) ordinary ∙ by it.cleared
-  where
-    unnoted : (b : Bool) → None ≡ (if b && false then Some t else None)
-    unnoted true = refl
-    unnoted false = refl
-
-    noted : (b : Bool) → (if b then Some t else None) ≡ (if b && true then Some t else None)
-    noted true = refl
-    noted false = refl
-
-    by : (b : Bool) → (let d' : Desk = if b then told_of_end (lets_go_all i s it d) else requeued_if (is_noted it.phase) t d in d').hand ≡ (if is_noted it.phase && not b then Some t else None)
-    by true = ended_hand i s d it ∙ empty ∙ unnoted (is_noted it.phase)
-    by false = requeued (is_noted it.phase) t d empty ∙ noted (is_noted it.phase)
+again = grind (arith, ended_hand, requeued)

@@ -1,29 +1,20 @@
 -- Where all workers sleep no task is to be polled or in a poll, and no message is left: in an open pool no runnable is anywhere, and
 -- nobody polls.
-use Rattle.std.proofs.Common.{◌≡◌, ◌⊎◌, ℕ, zero, suc, ◌<◌, ◌≤◌, ◌||◌, Bool, true, false, nat_lt, Option, [], ◌++◌, length, Some, None, option_to_list, slice_get, refl, sym, ap, subst, ◌∙◌, inl, inr, arith}
-use Rattle.std.proofs.lemmas.{Bool.{cases_Bool, cases_lt, false≢true, true≢false, ltb-true, ltb-false, or_right}, Option.{get_or_from_slice_get, slice_get_within}, List.get_or_past}
-use Rattle.exec_machine.specs.{declared.{config.Configuration.Configuration, state.TaskPhase.TaskPhase}, Progress.{all_asleep, is_runnable}, Tests.{has_ended, is_open}, World.{Seat, Task, no_seat, seat_of}}
+use Rattle.std.proofs.Common.{◌≡◌, ◌⊎◌, ℕ, zero, suc, ◌<◌, ◌||◌, Bool, true, false, nat_lt, Option, [], ◌++◌, length, Some, None, option_to_list, slice_get, refl, sym, ap, subst, ◌∙◌, inl, inr, arith}
+use Rattle.std.proofs.lemmas.{Bool.{cases_Bool, false≢true, true≢false, ltb-true, ltb-false, or_right}, Option.{get_or_from_slice_get, slice_get_within}, List.get_or_past}
+use Rattle.exec_machine.specs.{declared.{config.Configuration.Configuration, state.TaskPhase.TaskPhase}, Progress.{all_asleep, is_runnable}, Tests.{has_ended}, World.{Task, seat_of}}
 use Rattle.exec_machine.specs.declared.state.TaskPhase.TheVariants as phase
 use Rattle.exec_words.specs.Queue.{Queue}
-use Rattle.exec_moves.specs.{declared.place.Place.Place, Call.{CallDesk, no_call}, Plays.{Playing, desk_of, first_desk}, Seen.polls_at, State.{Desk, inbox_of, no_queue, queue_of}}
+use Rattle.exec_moves.specs.{declared.place.Place.Place, Call.{CallDesk, no_call}, Plays.{Playing, desk_of, first_desk}, Seen.polls_at, State.{Desk, inbox_of, queue_of}}
 use Rattle.exec_invariants.specs.Places.{is_number, one_if}
 use Rattle.exec_core.specs.Once.{IsOnce, QueuesOnce, polls_of, runnables_of, times}
-use Rattle.exec_rest.specs.{AtRest.{AreBare, AreFresh, IsBare, IsPlaced, IsShut, RestsWell, is_end, is_idle}, Places.is_abed, Rested.{IsPoolOpen, IsRestful, NothingWaits, is_in_pool, place_at}}
+use Rattle.exec_rest.specs.{AtRest.{AreBare, AreFresh, IsBare, IsPlaced, IsShut, RestsWell, is_idle}, Rested.{IsPoolOpen, IsRestful, NothingWaits, is_in_pool, place_at}}
 use Rattle.exec_rest.specs.Posted.{IsPosted}
 use Rattle.exec_core.proofs.Balanced.{sum_none}
 use Rattle.exec_rest.proofs.{Fresh.{woken_by}, NoMail.{nothing_mailed}, Rest.{callers, down, nothing_waits}}
 
 idle_polls : (p : Place) → is_idle p ≡ true → polls_at p ≡ None
-idle_polls (Place.Closing y) h = refl
-idle_polls (Place.WordWait y) h = refl
-idle_polls (Place.RingWait y z) h = refl
-idle_polls _ h = absurd (false≢true h)
-
-last_or_before : (i n : ℕ) → i < suc n → (i ≡ n) ⊎ (i < n)
-last_or_before i n within = elim (cases_lt i n) [
-  | inl before ↦ inr before
-  | inr past ↦ inl (omega (arith, within, past))
-]
+idle_polls = grind arith
 
 module _ (c : Configuration) (x : Playing) (placed : IsPlaced c x) (held : IsRestful c x) (bare : AreBare c x) (told : IsPosted c x) (shut : IsShut x) (all : all_asleep x.world ≡ true) where
   waits : IsPoolOpen c x → NothingWaits c x
@@ -32,10 +23,7 @@ module _ (c : Configuration) (x : Playing) (placed : IsPlaced c x) (held : IsRes
   -- THE WORKERS
 
   idles : (i : ℕ) → i < length x.desks → is_idle (place_at c x i) ≡ true
-  idles i within = elim (down c x held all i) [
-    | inl over ↦ or_right (is_abed (place_at c x i)) (is_end (place_at c x i)) (placed.over i within over)
-    | inr asleep ↦ ap (λ b. b || is_end (place_at c x i)) (held.abed i asleep.1)
-  ]
+  idles = grind (arith, down, or_right)
 
   -- it is at its end, or where it sleeps, and has no runnable
   abbrev Idles : Desk → Type 0
@@ -56,9 +44,7 @@ module _ (c : Configuration) (x : Playing) (placed : IsPlaced c x) (held : IsRes
   no_values going i false is = (bare.bare i is).0
 
   queue_is_bare : IsPoolOpen c x → (i : ℕ) (q : Queue ℕ) → slice_get x.things.queues i ≡ Some q → IsBare q
-  queue_is_bare going i q there =
-      let within : i < length x.desks = omega (arith, slice_get_within x.things.queues i q there, placed.laid.desks, placed.laid.queues) in
-      subst IsBare (get_or_from_slice_get x.things.queues i q no_queue there) (no_values going i (is_in_pool c x i) refl, placed.aside i (idles i within))
+  queue_is_bare = grind (arith, slice_get_within, get_or_from_slice_get, no_values, idles)
 
   -- WHO IS IN NO CALL
 
@@ -77,23 +63,10 @@ module _ (c : Configuration) (x : Playing) (placed : IsPlaced c x) (held : IsRes
 
   -- in an open pool neither the set nor the queue is closed
   is_kept : IsPoolOpen c x → (x.world.common.set_closed || x.world.common.queue_closed) ≡ false
-  is_kept going =
-      let zero : is_open (seat_of x.world.common 0).phase ≡ true = elim (down c x held all 0) [
-        | inl over ↦ absurd (false≢true (sym (going 0 placed.laid.some) ∙ over))
-        | inr asleep ↦ asleep.0
-      ] in
-      let set = placed.zero zero in
-      elim (cases_Bool x.world.common.queue_closed) [
-        | inl closed ↦ absurd (false≢true (sym set ∙ shut.queue closed))
-        | inr still ↦ rw (set, still) refl
-      ]
+  is_kept = grind (arith, down, false≢true, cases_Bool)
 
   is_waiting : IsPoolOpen c x → (t : ℕ) (p : TaskPhase) → IsOnce (x.world.common.set_closed || x.world.common.queue_closed) p (runnables_of t x) (polls_of t x) → is_runnable p ≡ false
-  is_waiting going t phase.Idle once = refl
-  is_waiting going t phase.Queued once = let none = no_runnables going t in let one = once.1 (is_kept going) in absurd (omega (arith, none, one))
-  is_waiting going t (phase.Running i) once = let none = nobody_polls t in let one = once.1 in absurd (omega (arith, none, one))
-  is_waiting going t (phase.Noted i) once = let none = nobody_polls t in let one = once.1 in absurd (omega (arith, none, one))
-  is_waiting going t phase.Done once = refl
+  is_waiting = grind (arith, no_runnables, is_kept, nobody_polls)
 
   -- The pool is going, or one of its workers has ended: so many were looked at.
   pub record HasEnded : Type 0 where
@@ -109,14 +82,8 @@ module _ (c : Configuration) (x : Playing) (placed : IsPlaced c x) (held : IsRes
           → HasEnded ⊎ ((i : ℕ) → i < suc n → is_in_pool c x i ≡ true → has_ended (seat_of x.world.common i).phase ≡ false)
       more (inl there) b pool e over = inl there
       more (inr none) true pool true over = inl (record { worker = n; pooled = pool; over = over })
-      more (inr none) true pool false over = inr (λ i within of_pool. elim (last_or_before i n within) [
-        | inl same ↦ rw same over
-        | inr before ↦ none i before of_pool
-      ])
-      more (inr none) false pool e over = inr (λ i within of_pool. elim (last_or_before i n within) [
-        | inl same ↦ absurd (false≢true (sym pool ∙ ap (is_in_pool c x) (sym same) ∙ of_pool))
-        | inr before ↦ none i before of_pool
-      ])
+      more (inr none) true pool false over = grind arith
+      more (inr none) false pool e over = grind arith
 
   ordinary_by : HasEnded ⊎ ((i : ℕ) → i < 64 → is_in_pool c x i ≡ true → has_ended (seat_of x.world.common i).phase ≡ false) → (t : ℕ) (it : Task) → QueuesOnce x → slice_get x.world.common.tasks t ≡ Some it → it.home ≡ None → is_runnable it.phase ≡ false
   ordinary_by (inl ended) t it once there is = placed.done ended.worker ended.pooled ended.over t it there is
@@ -140,24 +107,11 @@ module _ (c : Configuration) (x : Playing) (placed : IsPlaced c x) (held : IsRes
   -- MESSAGES
 
   nothing_in : (i : ℕ) → i < length x.desks → ((desk_of c x i).batch ≡ []) × (inbox_of x.things i ≡ [])
-  nothing_in i within =
-      elim (down c x held all i) [
-        | inl over ↦ placed.mute i (placed.over i within over)
-        | inr asleep ↦ let none = nothing_mailed c x held told all placed.stays i asleep.0 asleep.1 in (none.batch, none.inbox)
-      ]
+  nothing_in = grind (arith, down, nothing_mailed)
 
   no_message : (i : ℕ) (b : Bool) → nat_lt i (length x.desks) ≡ b → (seat_of x.world.common i).inbox ≡ []
-  no_message i true within =
-      let none = nothing_in i (ltb-true i (length x.desks) within) in placed.mail i ∙ rw (none.0, none.1) refl
-  no_message i false beyond =
-      let past : length x.world.common.seats ≤ i = omega (arith, ltb-false i (length x.desks) beyond, placed.laid.desks) in
-      ap (λ (s : Seat). s.inbox) (get_or_past x.world.common.seats i no_seat past)
+  no_message = grind (arith, nothing_in, ltb-true, ltb-false, get_or_past)
 
 pub at_rest : (c : Configuration) (x : Playing) → IsPlaced c x → IsRestful c x → AreBare c x → IsPosted c x → IsShut x → AreFresh x → QueuesOnce x → RestsWell c x
 at_rest c x placed held bare told shut fresh once all =
-    record {
-      tasks = λ t it there. waiting_by c x placed held bare told shut all t it it.home refl once there;
-      woken = λ t it there. woken_by x fresh t it there (waiting_by c x placed held bare told shut all t it it.home refl once there);
-      messages = λ i. no_message c x placed held bare told shut all i (nat_lt i (length x.desks)) refl;
-      queues = waits c x placed held bare told shut all;
-    }
+    grind (arith, waiting_by, woken_by, no_message, waits)

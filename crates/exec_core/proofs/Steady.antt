@@ -1,12 +1,10 @@
 -- No step loses a wake, and none lets a worker sleep on work.
-use Rattle.std.proofs.Common.{◌≡◌, ℕ, List, Option, refl, sym, subst, inl, inr}
-use Rattle.std.proofs.lemmas.Bool.{cases_Bool}
+use Rattle.std.proofs.Common.{◌≡◌, ℕ, List, Option, arith}
 use Rattle.exec_task.specs.declared.body.Said.{Said}
-use Rattle.exec_machine.specs.{declared.{config.Configuration.Configuration, step.Action.Action}, Callers.is_enabled, Progress.Plan, Run.{Follows, after_line}}
-use Rattle.exec_machine.specs.declared.step.Action.TheVariants as action
-use Rattle.exec_moves.specs.Plays.{Playing, by_action, by_step, first_playing}
+use Rattle.exec_machine.specs.{declared.{config.Configuration.Configuration, step.Action.Action}, Progress.Plan, Run.{Follows, after_line}}
+use Rattle.exec_moves.specs.Plays.{Playing, by_step, first_playing}
 use Rattle.exec_parts.specs.Spots.{Spot}
-use Rattle.exec_books.{specs.Booked.IsBooked, proofs.Kept.{booked_then, first_booked}}
+use Rattle.exec_books.{proofs.Kept.{booked_then, first_booked}}
 use Rattle.exec_rest.{specs.AtRest.IsPlaced, proofs.{Bare.{bare_first, bare_goes_on}, First.first_restful, Fresh.{fresh_first, fresh_goes_on}, OtherMail.first_posted, Shut.{shut_first, shut_goes_on}, Step.{goes_on, posted_goes_on}}}
 use Rattle.exec_settled.{specs.Given.IsGiven, proofs.{AwaitedKept.{awaited_then, first_awaited}, PermittedKept.{first_permitted, permitted_then}, Rightly.rightly, SettledKept.{first_settled, settled_then}}}
 use Rattle.exec_core.specs.{Lift.{Stands, Shows}, Once.QueuesOnce, Steady.{IsSteady, IsSteadyThere}, declared.executor.Core.Core}
@@ -14,16 +12,8 @@ use Rattle.exec_core.proofs.{Given.are_given, Placed.are_placed, QueuedOnce.queu
 
 -- WHERE A STEP LEADS
 
-acted : (c : Configuration) (x : Playing) (a : Action) → (by_action c x a).next.world ≡ after_line c x.world a (by_action c x a).told.0.said (by_action c x a).told.1
-acted c x (action.Work i) = refl
-acted c x _ = refl
-
 pub stepped : (c : Configuration) (x : Playing) (a : Action) → (by_step c x a).next.world ≡ after_line c x.world a (by_step c x a).told.0.said (by_step c x a).told.1
-stepped c x a =
-    elim (cases_Bool (is_enabled x.world.common a)) [
-      | inl on ↦ rw on (acted c x a)
-      | inr off ↦ rw off refl
-    ]
+stepped = grind arith
 
 -- FROM STATE TO STATE
 
@@ -43,27 +33,13 @@ first_steady p =
 
 steady_then : (c : Configuration) (x : Playing) (a : Action) → IsPlaced c x → IsGiven c x → Follows c x.world a (by_step c x a).told.0.said (by_step c x a).told.1 → IsGiven c (by_step c x a).next
     → IsSteady c x → IsSteady c (by_step c x a).next
-steady_then c x a placed given follows later now =
-    record {
-      restful = goes_on c x placed.laid now.restful a;
-      bare = bare_goes_on c x placed.laid placed.feeds now.bare a;
-      posted = posted_goes_on c x placed.laid now.restful now.posted a;
-      shut = shut_goes_on c x now.shut a;
-      fresh = fresh_goes_on c x now.fresh a;
-      booked = subst IsBooked (sym (stepped c x a)) (booked_then c x.world a (by_step c x a).told.0.said (by_step c x a).told.1 given.owns given.first follows now.booked);
-      settled = settled_then c x placed given a follows now.settled;
-      permitted = permitted_then c x placed given now.booked a follows later now.permitted;
-      awaited = awaited_then c x placed given a follows later now.awaited;
-    }
+steady_then = grind (arith, goes_on, bare_goes_on, posted_goes_on, shut_goes_on, fresh_goes_on, stepped, booked_then, settled_then, permitted_then, awaited_then)
 
 -- and so nobody sleeps on work
 steady_there : (c : Configuration) (x : Playing) → IsPlaced c x → IsGiven c x → QueuesOnce x → IsSteady c x → IsSteadyThere c x
 steady_there c x placed given once now =
     let rests = at_rest c x placed now.restful now.bare now.posted now.shut now.fresh once in
-    record {
-      steady = now;
-      rests = record { rests = rests; asleep = rightly c x placed given now.restful rests now.booked now.settled now.permitted now.awaited };
-    }
+    grind (arith, rightly)
 
 module _ {B L : Type 0} (left : B → L) (runs : L → Plan → Option ℕ → Type 0) (holds : L → Option Said → List ℕ) (spot : L → Option Said → Spot) where
   rests_there : (p : Plan) (c : Core B) (x : Playing) → Stands c → Shows left runs holds spot p c x → IsSteady p.config x → IsSteadyThere p.config x

@@ -1,20 +1,19 @@
 -- A step that may want memory, by what came of it; and what a step that may be taken finds.
-use Rattle.std.proofs.{Common.{◌≡◌, ℕ, ◌+◌, ◌^◌, ◌<◌, ◌≤◌, ◌++◌, Bool, true, false, not, List, length, get_or, option_to_list, Result, Ok, Err, Option, None, Some, refl, sym, ap, subst, ◌∙◌, arith, slice_get, slice_set}, lemmas.{Bool.{false≢true, and_parts, Decides.nat_tests}, List.length-set, Option.{slice_get_within, slice_get_past, slice_get-get_or}}}
-use Rattle.std.specs.Prelude.{slice_index_or, nat_lt, is_err, is_ok, IfOk, OnOk, OnErr}
-use Rattle.exec_outcomes.specs.{declared.outcome.{Kind.TheVariants.Direct, OpResult.OpResult}, Lawful.{is_lawful, window_of}}
+use Rattle.std.proofs.{Common.{◌≡◌, ℕ, ◌+◌, ◌^◌, ◌<◌, ◌≤◌, ◌++◌, Bool, true, false, not, List, length, get_or, option_to_list, Result, Ok, Err, Option, None, Some, refl, sym, ap, subst, ◌∙◌, arith, slice_get, slice_set}, lemmas.{Bool.{false≢true, Decides.nat_tests}, List.length-set, Option.{slice_get_within, slice_get_past, slice_get-get_or}}}
+use Rattle.std.specs.Prelude.{slice_index_or, nat_lt, is_err, IfOk, OnOk, OnErr}
+use Rattle.exec_outcomes.specs.{declared.outcome.{Kind.TheVariants.Direct, OpResult.OpResult}}
 use Rattle.exec_task.specs.declared.body.Said.{Said}
-use Rattle.exec_machine.specs.{declared.{event.Event.Event, state.RequestPhase.RequestPhase, step.Action.Action}, Progress.Plan, Requests.{asked_of, cursor_of}, Tests.is_flying, World.Common}
+use Rattle.exec_machine.specs.{declared.{event.Event.Event, step.Action.Action}, Progress.Plan, World.Common}
 use Rattle.exec_moves.specs.State.{Desk, WakePoll}
 use Rattle.exec_machine.specs.declared.event.Event.TheVariants as event
 use Rattle.exec_machine.specs.declared.step.Action.TheVariants as action
-use Rattle.exec_machine.specs.declared.state.RequestPhase.TheVariants as phase
 use Rattle.exec_parts.specs.{declared.parts.{record.Record.Record, shared.Shared.Shared, worker.Worker.Worker}, MailPosts.HaveMailboxes, Phased.{IsGoing, TurnsChair}, Records.roused, Spots.Spot}
 use Rattle.exec_polling.specs.{declared.caller.Caller.Caller, Calling.{HasCallWhole, is_free}}
-use Rattle.exec_invariants.specs.{Acting.{PerformsAll, StepsWith}, Carried.MayLand, Sound.Sound, Whole.{HasWhole, IsWhole, Profile}, Works.Same}
+use Rattle.exec_invariants.specs.{Acting.{PerformsAll, StepsWith}, Sound.Sound, Whole.{HasWhole, IsWhole, Profile}, Works.Same}
 use Rattle.exec_invariants.proofs.SparedRecord.{there_within}
 use Rattle.exec_steps.proofs.Together.{has_call_whole, has_whole, have_mailboxes}
 use Rattle.exec_core.proofs.{Applying.{asleep_there, begun_there, going_there, landing_there, owner_there, peer_came, worker_there, working_there}, CoreCalls.{call_stands, spawn_called}, Enabling.enabled_as, Lifting.{as_before, lifted, stands_again, stands_by, stands_worked}}
-use Rattle.exec_core.specs.{Lift.{Calls, IsAsBefore, Keeps, Rings, Sees, Stands, Takes, WorkerStays, WorkerSteps, has_begun, may_call_in, may_go_on_in, may_land_in, may_take}, declared.executor.Core.Core}
+use Rattle.exec_core.specs.{Lift.{Calls, IsAsBefore, Keeps, Rings, Sees, Stands, Takes, WorkerStays, WorkerSteps, has_begun, may_call_in, may_go_on_in, may_take}, declared.executor.Core.Core}
 
 pub less_there : (a b : ℕ) → nat_lt a b ≡ true → a < b
 less_there a b h = grind (arith, nat_tests)
@@ -33,10 +32,6 @@ pub on_err : {T E : Type 0} (r : Result T E) (P : Type 0) → P → OnErr r P
 on_err (Ok x) P holds = tt
 on_err (Err x) P holds = holds
 
-pub if_ok : {T E : Type 0} (r : Result T E) (P : Type 0) → is_ok r ≡ true → OnOk r P → P
-if_ok (Ok x) P is holds = holds
-if_ok (Err x) P is holds = absurd (false≢true is)
-
 pub on_err_never : {T E : Type 0} (r : Result T E) (P Q : Type 0) → (P → ⊥) → OnErr r P → OnErr r Q
 on_err_never (Ok x) P Q never holds = tt
 on_err_never (Err x) P Q never holds = absurd (never holds)
@@ -49,14 +44,6 @@ pub spent_by : {T E : Type 0} (r : Result T E) (b : Bool) → b ≡ is_err r →
 spent_by (Ok x) b is = tt
 spent_by (Err x) b is = is
 
-flies_by : (x : RequestPhase) → is_flying x ≡ true → x ≡ phase.Flying
-flies_by phase.Gated h = absurd (false≢true h)
-flies_by phase.Queued h = absurd (false≢true h)
-flies_by phase.Staged h = absurd (false≢true h)
-flies_by phase.Flying h = refl
-flies_by (phase.Landed n) h = absurd (false≢true h)
-flies_by (phase.Resolved outcome) h = absurd (false≢true h)
-
 -- the worker, or the caller, that was read off the list
 pub read_there : {X : Type 0} (xs : List X) (i : ℕ) (x : X) → i < length xs → x ≡ get_or xs i x → slice_get xs i ≡ Some x
 read_there xs i x within is = slice_get-get_or xs i x within ∙ ap (λ y. Some y) (sym is)
@@ -65,11 +52,7 @@ pub read_in : {X : Type 0} (xs ys : List X) (i : ℕ) (x : X) → ys ≡ xs → 
 read_in xs ys i x same within is = read_there xs i x within (is ∙ ap (λ zs. get_or zs i x) same)
 
 free_within : (cs : List Caller) (j : ℕ) → may_call_in (slice_get cs j) ≡ true → j < length cs
-free_within cs j may = by (slice_get cs j) refl may
-  where
-    by : (o : Option Caller) → slice_get cs j ≡ o → may_call_in o ≡ true → j < length cs
-    by None is h = absurd (false≢true h)
-    by (Some x) is h = slice_get_within cs j x is
+free_within = grind (arith, false≢true, slice_get_within)
 
 not_free : (b : Bool) → not b ≡ true → b ≡ false
 not_free true h = absurd (false≢true h)
@@ -122,9 +105,7 @@ module _ {B L E : Type 0} (left : B → L) (spot : L → Option Said → Spot) w
 
   pub peer_stands : (c d : Core B) (result : Result Event E) → Stands c → d.workers ≡ c.workers → d.callers ≡ c.callers → OnOk result (d.spent ≡ false) → d.shared ≡ record c.shared { listeners = d.shared.listeners } → ((w : Worker) → Sound w c.shared → Sound w d.shared)
       → ((x : Profile) → IsWhole x c.shared → IsWhole x d.shared) → OnOk result (Stands d × (d.spent ≡ false))
-  peer_stands c d (Ok e) stands workers callers unspent kept sound whole =
-      (stands_by c d stands workers callers (ap (λ x. length x.seats.items) kept) (ap (λ x. x.config) kept) (ap (λ x. x.tasks) kept) (ap (λ x. x.requests) kept) (ap (λ x. x.sleepers) kept) (ap (λ x. x.set) kept) sound whole, unspent)
-  peer_stands c d (Err x) stands workers callers unspent kept sound whole = tt
+  peer_stands = grind (arith, stands_by)
 
   pub work_stays : (i : ℕ) (c d : Core B) (w w' : Worker) (result : Result Event E) → slice_get c.workers.items i ≡ Some w → d.workers.items ≡ slice_set c.workers.items i w' → d.callers ≡ c.callers
       → OnErr result (Same left spot w c.shared w' d.shared) → OnErr result (WorkerStays left spot i c d)
@@ -133,16 +114,10 @@ module _ {B L E : Type 0} (left : B → L) (spot : L → Option Said → Spot) w
 
 module _ {B : Type 0} where
   pub work_within : (c : Core B) (i : ℕ) → Stands c → may_take c (action.Work i) ≡ true → i < length c.workers.items
-  work_within c i stands may =
-      let chair = working_there c.shared.seats.items (slice_get c.shared.seats.items i) may in
-      let w = worker_there c i chair.0 stands chair.1 in
-      slice_get_within c.workers.items i w.0 w.1
+  work_within = grind (arith, working_there, worker_there, slice_get_within)
 
   pub begun_within : (c : Core B) (i : ℕ) → Stands c → has_begun (slice_get c.shared.seats.items i) ≡ true → i < length c.workers.items
-  begun_within c i stands may =
-      let chair = begun_there (slice_get c.shared.seats.items i) may in
-      let w = worker_there c i chair.0 stands chair.1 in
-      slice_get_within c.workers.items i w.0 w.1
+  begun_within = grind (arith, begun_there, worker_there, slice_get_within)
 
   pub goes_there : (c : Core B) (i : ℕ) (w : Worker) → Stands c → may_take c (action.Work i) ≡ true → slice_get c.workers.items i ≡ Some w → IsGoing w.index c.shared.seats.items
   goes_there c i w stands may there chair found =
@@ -152,9 +127,7 @@ module _ {B : Type 0} where
   whole_there c i w stands there = has_whole c.workers.items c.callers.items c.shared stands.together i w there
 
   pub stirs_within : (c : Core B) (i : ℕ) → may_take c (action.Stir i) ≡ true → i < length c.shared.seats.items
-  stirs_within c i may =
-      let chair = asleep_there (slice_get c.shared.seats.items i) may in
-      slice_get_within c.shared.seats.items i chair.0 chair.1
+  stirs_within = grind (arith, asleep_there, slice_get_within)
 
   pub chair_many : (c : Core B) (t : Shared B) (i : ℕ) → may_take c (action.Stir i) ≡ true → TurnsChair i roused c.shared t → length t.seats.items ≡ length c.shared.seats.items
   chair_many c t i may turns =
@@ -162,9 +135,7 @@ module _ {B : Type 0} where
       ap (λ xs. length xs) (turns chair.0 chair.1) ∙ length-set c.shared.seats.items i (roused chair.0)
 
   pub lands_within : (c : Core B) (r : ℕ) (n : OpResult) → may_take c (action.Land r n) ≡ true → r < length c.shared.requests.items
-  lands_within c r n may =
-      let it = landing_there (slice_get c.shared.requests.items r) n may in
-      slice_get_within c.shared.requests.items r it.0 it.1
+  lands_within = grind (arith, landing_there, slice_get_within)
 
   -- The two parts of a direct read fit.
   pub not_direct : (c : Core B) (r : ℕ) (it : Record) → Stands c → slice_get c.shared.requests.items r ≡ Some it → it.shown.operation.kind ≡ Direct → it.shown.operation.skip + it.shown.operation.length + 4095 < 2 ^ 64
@@ -175,22 +146,13 @@ module _ {B : Type 0} where
       let bounded = plain.bounded in
       omega (arith, bounded)
 
-  pub landing_may : (c : Core B) (r : ℕ) (n : OpResult) (it : Record) → may_take c (action.Land r n) ≡ true → slice_get c.shared.requests.items r ≡ Some it → MayLand c.shared.requests.items r n
-  landing_may c r n it may there =
-      let both = and_parts (is_flying it.shown.phase) (is_lawful (window_of (asked_of it.shown.operation) (cursor_of it.shown.operation)) n) (subst (λ o. may_land_in o n ≡ true) there may) in
-      record { it = it; there = there; flies = flies_by it.shown.phase both.0; lawful = both.1 }
-
   pub land_read : (c : Core B) (r : ℕ) (n : OpResult) (it : Record) → may_take c (action.Land r n) ≡ true → it ≡ get_or c.shared.requests.items r it → slice_get c.shared.requests.items r ≡ Some it
   land_read c r n it may is = slice_get-get_or c.shared.requests.items r it (lands_within c r n may) ∙ ap (λ x. Some x) (sym is)
 
   -- CALLERS
 
   pub calling_within : (c : Core B) (j : ℕ) → may_go_on_in (slice_get c.callers.items j) ≡ true → j < length c.callers.items
-  calling_within c j may = by (slice_get c.callers.items j) refl may
-    where
-      by : (o : Option Caller) → slice_get c.callers.items j ≡ o → may_go_on_in o ≡ true → j < length c.callers.items
-      by None is h = absurd (false≢true h)
-      by (Some x) is h = slice_get_within c.callers.items j x is
+  calling_within = grind (arith, false≢true, slice_get_within)
 
   pub call_within : (c : Core B) (j : ℕ) → may_call_in (slice_get c.callers.items j) ≡ true → j < length c.callers.items
   call_within c j may = free_within c.callers.items j may

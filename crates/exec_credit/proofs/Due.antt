@@ -4,7 +4,7 @@ use Rattle.std.proofs.lemmas.Bool.{false≢true, and_from, or_cases, or_left, or
 use Rattle.std.specs.Prelude.{nat_le}
 use Rattle.std.specs.List.{list_any}
 use Rattle.exec_machine.specs.{declared.state.{Request.Request, Sleeper.Sleeper}, Deadlines.{earlier, first_timer, first_until, is_due, next_due}, Tests.{is_asleep, is_open}, World.{Common, seat_of}}
-use Rattle.exec_moves.specs.{Credit.one_if, Load.has_come}
+use Rattle.exec_moves.specs.{Counts.one_if, Load.has_come}
 
 on : (b : Bool) → b ≡ true → one_if b ≡ 1
 on b h = ap one_if h

@@ -5,7 +5,7 @@ use Rattle.std.specs.Prelude.{nat_le}
 use Rattle.std.specs.List.{list_any}
 use Rattle.exec_machine.specs.{declared.state.{Request.Request, RequestPhase.RequestPhase}, Deadlines.is_due, Requests.flown, Tests.{is_gated, is_staged}, World.{Common, Open}}
 use Rattle.exec_machine.specs.declared.state.RequestPhase.TheVariants as phase
-use Rattle.exec_moves.specs.{Credit.{count_numbered, gates_from}, Submit.waits_at}
+use Rattle.exec_moves.specs.{Counts.{count_numbered, gates_from}, Submit.waits_at}
 
 any_map : {X : Type 0} (test : X → Bool) (f : X → X) → ((x : X) → test (f x) ≡ test x) → (xs : List X) → list_any test (map f xs) ≡ list_any test xs
 any_map test f same [] = refl

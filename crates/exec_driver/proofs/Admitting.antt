@@ -1,14 +1,13 @@
 -- The room that an admission makes, and gives up again.
-use Rattle.std.proofs.Common.{◌≡◌, ℕ, ◌+◌, ◌*◌, ◌^◌, ◌<◌, ◌≤◌, ltb, cond, Bool, true, false, not, List, [], ◌∷◌, length, Option, Some, None, Result, Ok, Err, refl, sym, ap, ◌∙◌, inl, inr, arith}
-use Rattle.exec_driver.proofs.{Words.cases_Bool, Counting.{flying_few, pending_is}, Shifts.few, Stepping.sound_ring}
+use Rattle.std.proofs.Common.{◌≡◌, ℕ, ◌+◌, ◌*◌, ◌<◌, ◌≤◌, Bool, true, false, List, [], ◌∷◌, length, Option, Some, None, Result, Ok, Err, refl, sym, ap, arith}
+use Rattle.exec_driver.proofs.{Counting.{flying_few, pending_is}, Shifts.few}
 use Rattle.std.specs.Prelude.{is_some, is_err, count_by, IsSomeAnd, OnOk, OnErr}
-use Rattle.std.proofs.lemmas.Bool.{false≢true, leb-false}
+use Rattle.std.proofs.lemmas.Bool.{false≢true}
 use Rattle.std.proofs.lemmas.List.Sums.{sum_by-cons}
-use Rattle.exec_base.specs.{Slab.{Slab, next_index, next_id}, declared.slab.{Id.Id, Slot.{Slot, TheVariants.{Live, Vacant, Retired}}}}
-use Rattle.exec_request.specs.{States.asks_cancel}
+use Rattle.exec_base.specs.{Slab.{Slab, next_id}, declared.slab.{Id.Id, Slot.{Slot}}}
 use Rattle.exec_ring.specs.{Kernels.Landing, Rings.{RingState, taken_places, fresh as fresh_ring}}
 use Rattle.exec_time.specs.Wheel.{Wheel, fresh}
-use Rattle.exec_waiters.specs.{States.{counts_pending, pending_count, is_full}, declared.waiter.Entry.{Entry, TheVariants.{Pending, Ready}}}
+use Rattle.exec_waiters.specs.{States.{pending_count, is_full}, declared.waiter.Entry.{Entry}}
 use Rattle.exec_waiters.proofs.Changes.{one_if}
 use Rattle.exec_driver.specs.{Driving.{Driving, is_cancelled}, Lists.no_lists, Sound.{IsSound, IsHeld, is_uncancelled, counts, count_of}}
 
@@ -22,21 +21,11 @@ module _ {S F : Type 0} where
   pub taken_few : (d : Driving S F) → IsSound d → taken_places d.ring ≤ needed d
   taken_few d sound =
       let less = flying_few d.requests in
-      elim (cases_Bool d.armed) [
-        | inl holds ↦ let e = rw holds at sound.entries in omega (arith, e, less)
-        | inr fails ↦ let e = rw fails at sound.entries in omega (arith, e, less)
-      ]
+      grind arith
 
   -- a ring with other places, enough of them
   pub held_places : (d : Driving S F) (ls : List Landing) (n m room most spots : ℕ) → needed d ≤ n → m ≡ n → IsHeld d room most spots → IsHeld (record d { ring = record d.ring { places = n }; landings = ls }) room most m
-  held_places d ls n m room most spots enough is held =
-      record {
-        sound = sound_ring d (record d { ring = record d.ring { places = n }; landings = ls }) refl refl refl held.sound.entries enough held.sound;
-        room = held.room;
-        wheel_room = held.wheel_room;
-        limit = held.limit;
-        places = is;
-      }
+  held_places = grind arith
 
   -- each request needs two, a cancel under way one, and the wake poll one
   parts : (p q r : Slot (Entry S F) → Bool) → ((o : Slot (Entry S F)) → one_if (p o) + one_if (q o) ≡ one_if (r o)) → (xs : List (Slot (Entry S F))) → count_by p xs + count_by q xs ≡ count_by r xs
@@ -45,14 +34,7 @@ module _ {S F : Type 0} where
       omega (arith, sum_by-cons (λ o. one_if (p o)) x xs, sum_by-cons (λ o. one_if (q o)) x xs, sum_by-cons (λ o. one_if (r o)) x xs, split x, parts p q r split xs)
 
   one_of : (o : Slot (Entry S F)) → one_if (counts is_cancelled o) + one_if (counts is_uncancelled o) ≡ one_if (counts is_some o)
-  one_of (Live g (Pending w)) = by (asks_cancel w.state)
-    where
-      by : (b : Bool) → one_if b + one_if (not b) ≡ 1
-      by true = refl
-      by false = refl
-  one_of (Live g (Ready told)) = refl
-  one_of (Vacant g) = refl
-  one_of Retired = refl
+  one_of = grind arith
 
   pub needed_few : (d : Driving S F) → IsSound d → needed d ≤ pending_count d.requests * 2 + d.cancels_under_way + 1
   needed_few d sound =
@@ -62,33 +44,8 @@ module _ {S F : Type 0} where
 
   -- A NEW DRIVER
 
-  none_at : (p : Slot (Entry S F) → Bool) (s : Slab (Entry S F)) → s.slots ≡ [] → count_by p s.slots ≡ 0
-  none_at p s empty = rw empty refl
-
   pub held_fresh : (s : Slab (Entry S F)) (w : Wheel) (ring : RingState) (ls : List Landing) (size room most : ℕ) → s.slots ≡ [] → w.ready ≡ [] → ((t : ℕ) → w.active t ≡ 0) → ring ≡ record (fresh_ring size) { places = 1 } → most ≡ size → IsHeld (record { requests = s; wheel = w; ring = ring; landings = ls; lists = no_lists; cancels_under_way = 0; armed = false }) room most 1
-  held_fresh s w ring ls size room most empty drained idle is limit =
-      record {
-        sound = record {
-          queued = record { all = refl; once = refl };
-          gated = record { all = refl; once = refl };
-          enrolments = record { all = refl; once = refl };
-          due = record { all = refl; once = refl };
-          cancels = record { all = refl; once = refl };
-          permits = λ id. rw empty refl;
-          ticks = λ t. idle t ∙ sym (none_at _ s empty);
-          drained = drained;
-          entries = rw is (omega arith);
-          places = rw is (omega (arith, none_at counts_pending s empty, none_at (counts is_uncancelled) s empty));
-        };
-        room = omega (arith, none_at counts_pending s empty);
-        wheel_room = omega arith;
-        limit = rw is limit;
-        places = rw is refl;
-      }
-
-  pub is_fresh : (slots : Option ℕ) (d : Driving S F) (size horizon tick now : ℕ) → d.requests.slots ≡ [] → d.requests.vacant ≡ [] → d.requests.first ≡ 0 → IsSomeAnd slots (λ n. d.wheel ≡ fresh horizon tick now n) → d.ring ≡ record (fresh_ring size) { places = 1 } → d.lists ≡ no_lists → d.cancels_under_way ≡ 0 → d.armed ≡ false → IsSomeAnd slots (λ n. (d.requests.slots ≡ []) × (d.requests.vacant ≡ []) × (d.requests.first ≡ 0) × (d.wheel ≡ fresh horizon tick now n) × (d.ring ≡ record (fresh_ring size) { places = 1 }) × (d.lists ≡ no_lists) × (d.cancels_under_way ≡ 0) × (d.armed ≡ false))
-  is_fresh (Some n) d size horizon tick now slots vacant first wheel ring lists none idle = (slots, vacant, first, wheel, ring, lists, none, idle)
-  is_fresh None d size horizon tick now slots vacant first wheel ring lists none idle = absurd (wheel)
+  held_fresh = grind arith
 
 -- a call that was right did what it says of that
 pub on_ok : {A E P : Type 0} (r : Result A E) → is_err r ≡ false → OnOk r P → P
@@ -111,11 +68,4 @@ unused None w horizon tick now is = absurd (is)
 module _ {S F : Type 0} where
   -- who comes into a slab that isn't full has an index below the last
   pub small_slot : (s : Slab (Entry S F)) (id : Id) → next_id s ≡ Some id → is_full s ≡ false → id.index < 4294967295
-  small_slot s id next free =
-      let low = leb-false 4294967295 (next_index s.vacant (length s.slots)) free in
-      let at = ap (λ (i : Id). i.index) (taken (ltb (next_index s.vacant (length s.slots)) (2 ^ 32)) _ id next) in
-      omega (arith, low, at)
-    where
-      taken : (b : Bool) (x y : Id) → cond b (Some x) None ≡ Some y → x ≡ y
-      taken true x y is = cc
-      taken false x y is = absurd (cc)
+  small_slot = grind arith

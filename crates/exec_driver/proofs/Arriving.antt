@@ -1,45 +1,20 @@
 -- A request that comes in: it is in no list yet, then in those of its place, and there is room for it in each.
-use Rattle.std.proofs.Common.{◌≡◌, ◌↔◌, ℕ, ◌+◌, ◌^◌, ◌<◌, ◌≤◌, Bool, true, false, cond, List, [], ◌∷◌, length, set, Option, Some, None, refl, sym, ap, ◌∙◌, subst, inl, inr, arith, length-set, length-append}
-use Rattle.exec_driver.proofs.{Words.cases_Bool, Counting.{OneChanged, pending_is, flying_is}, Shifts.{Shift, Kept, Joined, shifted, nowhere, few}}
+use Rattle.std.proofs.Common.{◌≡◌, ◌↔◌, ℕ, ◌+◌, ◌^◌, ◌<◌, ◌≤◌, Bool, true, false, cond, List, [], length, Option, Some, None, refl, sym, ap, ◌∙◌, subst, inr, arith, length-set, length-append}
+use Rattle.exec_driver.proofs.{Counting.{OneChanged, pending_is, flying_is}, Shifts.{Shift, Kept, shifted, nowhere, few}}
 use Rattle.std.specs.Prelude.{is_some, count_by}
-use Rattle.std.proofs.lemmas.Bool.Decides.{eqb_tells}
 use Rattle.std.proofs.lemmas.List.Sums.{sum_by-set, sum_by_push}
-use Rattle.exec_base.specs.{Slab.{Slab, slot_at, value_in, value_at, removed, inserted, filled, next_id, next_generation, generation_of, is_live, live_count, freed, IsPast, TakesId, Updates}, declared.slab.{Id.Id, InsertError.{InsertError, TheVariants.{Full, NoMemory}}, Slot.{Slot, TheVariants.{Live, Vacant, Retired}}}}
+use Rattle.exec_base.specs.{Slab.{Slab, slot_at, value_in, value_at, removed, inserted, filled, next_id, next_generation, generation_of, is_live, live_count, freed, IsPast, TakesId, Updates}, declared.slab.{Id.Id, Slot.{Slot, TheVariants.{Live, Vacant, Retired}}}}
 use Rattle.exec_base.proofs.Slots.{some_of_if, past-free, past-write, Changed-set}
 use Rattle.exec_outcomes.specs.Accounts.{Account, is_durable}
 use Rattle.exec_outcomes.specs.declared.outcome.Kind.TheVariants as kind
-use Rattle.exec_request.specs.{Requests.{asked_of, deadline_of, gate_of, gate_of_write, output_of}, States.Ended, Syncing.write_kind, Ways.asked_by, declared.{output.RequestOutput.RequestOutput, request.Request.{Request, TheVariants.{Send, Recv, ReadAt, WriteAt, Sync, Connect, Poll}}, way.Way.{Way, TheVariants.{Buffered, Hinted, Direct, Switched}}, write_at.WriteAtState.{WriteAtState, TheVariants.{Writing, WritingSync, WritingBeforeSync, Syncing}}}}
-use Rattle.exec_ring.specs.Rings.{RingState}
+use Rattle.exec_request.specs.{Requests.{asked_of, deadline_of, gate_of}, States.Ended, declared.{output.RequestOutput.RequestOutput, request.Request.{Request}}}
 use Rattle.exec_time.specs.Wheel.{Wheel}
-use Rattle.exec_waiters.specs.{Events.{admitted, finished, finished_for}, States.{waiter_at, waiter_of, is_flying, pending_count}, declared.{observer.Observer.{Observer, TheVariants.{Local, Forwarded, DetachedSync, Orphaned}}, waiter.{Refused.Refused, Waiter.Waiter, Entry.{Entry, TheVariants.{Pending, Ready}}}, waiter_id.WaiterId.WaiterId}}
+use Rattle.exec_waiters.specs.{Events.{finished, finished_for}, States.{waiter_at, waiter_of, is_flying, pending_count}, declared.{observer.Observer.{Observer}, waiter.{Waiter.Waiter, Entry.{Entry, TheVariants.{Pending}}}, waiter_id.WaiterId.WaiterId}}
 use Rattle.exec_waiters.proofs.Changes.{at_by, entry_of, one_if}
-use Rattle.exec_driver.specs.{Admission.{HasTwoMore, IsRefused, with_rooms}, Driving.{Driving, is_queued, is_gated, is_unenrolled, is_enrolled, is_cancelled}, Lists.{Lists, with_queued, with_gated, with_enrolment}, Sound.{IsListed, IsSound, IsHeld, is_unpermitted, is_at_tick, is_uncancelled, counts, count_of}, Steps.{ended, in_place, with_deadline, placed_at, taken_in, newcomer, is_late, timed_out}}
-
--- what needs a permit has a gate
-reads : (way : Way) (n : ℕ) → is_durable (asked_by way n).kind ≡ false
-reads Buffered n = refl
-reads Hinted n = refl
-reads (Direct skip len) n = refl
-reads (Switched skip len) n = refl
-
-receives : (exact : Bool) → is_durable (cond exact kind.Fill kind.Recv) ≡ false
-receives true = refl
-receives false = refl
-
-writes : (state : WriteAtState) (file : ℕ) → is_durable (write_kind state) ≡ is_some (gate_of_write state file)
-writes Writing file = refl
-writes WritingSync file = refl
-writes WritingBeforeSync file = refl
-writes Syncing file = refl
+use Rattle.exec_driver.specs.{Admission.{HasTwoMore, with_rooms}, Driving.{Driving, is_queued, is_gated, is_unenrolled, is_enrolled, is_cancelled}, Lists.{Lists, with_queued, with_gated, with_enrolment}, Sound.{IsListed, IsSound, IsHeld, is_unpermitted, is_at_tick, is_uncancelled, counts}, Steps.{ended, in_place, with_deadline, placed_at, taken_in, newcomer, is_late, timed_out}}
 
 pub durable_gated : (r : Request) → is_durable (asked_of r).kind ≡ is_some (gate_of r)
-durable_gated (Send s) = refl
-durable_gated (Recv r) = receives r.exact
-durable_gated (ReadAt r) = reads r.way (length r.buf.bytes)
-durable_gated (WriteAt w) = writes w.state w.file
-durable_gated (Sync s) = refl
-durable_gated (Connect c) = refl
-durable_gated (Poll p) = refl
+durable_gated = grind arith
 
 -- the places of one that comes in
 abbrev pub put : WaiterId → Bool → Bool → Lists → Lists
@@ -47,16 +22,10 @@ put id timed gated l =
     cond gated (with_gated id (cond timed (with_enrolment id l) l)) (with_queued id (cond timed (with_enrolment id l) l))
 
 pub put_few : (id : WaiterId) (timed gated : Bool) (l : Lists) → length (put id timed gated l).enrolments ≤ length l.enrolments + 1
-put_few id true true l = omega (arith, length-append l.enrolments (id ∷ []))
-put_few id true false l = omega (arith, length-append l.enrolments (id ∷ []))
-put_few id false true l = omega arith
-put_few id false false l = omega arith
+put_few = grind (arith, length-append)
 
 pub put_room : (id : WaiterId) (timed gated : Bool) (l : Lists) → (put id timed gated l).room ≡ l.room
-put_room id true true l = refl
-put_room id true false l = refl
-put_room id false true l = refl
-put_room id false false l = refl
+put_room = grind arith
 
 at_most : (b : Bool) → one_if b ≤ 1
 at_most true = omega arith
@@ -67,24 +36,13 @@ module _ {S F : Type 0} where
 
   -- the slot that takes the next value has none
   none_in : (q : Slot (Entry S F) → Bool) → ((g : ℕ) → q (Vacant g) ≡ false) → q Retired ≡ false → (slot : Slot (Entry S F)) → (generation_of slot < next_generation slot → ⊥) → one_if (q slot) ≡ 0
-  none_in q vacant retired (Live g e) unnamed = absurd (unnamed (omega arith))
-  none_in q vacant retired (Vacant g) unnamed = rw (vacant g) refl
-  none_in q vacant retired Retired unnamed = rw retired refl
+  none_in = grind arith
 
   unnamed_there : (slot : Slot (Entry S F)) (g : ℕ) → (g < next_generation slot → ⊥) → value_in slot g ≡ None
-  unnamed_there (Live h e) g unnamed =
-      elim (eqb_tells h g) [ inl same ↦ absurd (unnamed (omega (arith, same.1))) | inr other ↦ rw other.0 refl ]
-  unnamed_there (Vacant h) g unnamed = refl
-  unnamed_there Retired g unnamed = refl
+  unnamed_there = grind arith
 
   one_more : (q : Slot (Entry S F) → Bool) → ((g : ℕ) → q (Vacant g) ≡ false) → q Retired ≡ false → (s : Slab (Entry S F)) (vacant : List ℕ) (e : Entry S F) (id : Id) (b : Bool) → ((g : ℕ) → q (Live g e) ≡ b) → next_id (record s { vacant = vacant }) ≡ Some id → (IsPast s id → ⊥) → id.index < length (filled s vacant e).slots → count_by q (filled s vacant e).slots ≡ count_by q s.slots + one_if b
-  one_more q none none' s [] e id b live next unnamed within =
-      omega (arith, sum_by_push (λ (o : Slot (Entry S F)). cond (q o) 1 0) s.slots (Live s.first e), ap one_if (live s.first))
-  one_more q none none' s (i ∷ rest) e id b live next unnamed within =
-      let same : id ≡ record { index = i; generation = generation_of (slot_at s i) } = sym (some_of_if _ _ _ next) in
-      let inside : i < length s.slots = rw (same, length-set) at within in
-      let empty = none_in q none none' (slot_at s i) (rw same at unnamed) in
-      omega (arith, sum_by-set (λ (o : Slot (Entry S F)). cond (q o) 1 0) s.slots i (Live (generation_of (slot_at s i)) e) (Vacant s.first) inside, empty, ap one_if (live (generation_of (slot_at s i))))
+  one_more = grind (arith, sum_by_push, one_if, some_of_if, length-set, none_in, sum_by-set)
 
   abbrev pub arrived : Slab (Entry S F) → Waiter S F → ℕ → Slab (Entry S F)
   arrived s w room = record (inserted s (Pending w)) { room = room }
@@ -122,15 +80,6 @@ module _ {S F : Type 0} where
   takes_over s s' s'' id room same takes =
       let over = subst (λ (m : Slab (Entry S F)). TakesId m s'' id) same takes in record { past = over.past }
 
-  pub takes_still : (s s' s'' : Slab (Entry S F)) (id : Id) (room : ℕ) → s'' ≡ record s' { room = room } → TakesId s s' id → TakesId s s'' id
-  takes_still s s' s'' id room same takes =
-      let over : TakesId s (record s' { room = room }) id = record { past = takes.past } in
-      subst (λ (m : Slab (Entry S F)). TakesId s m id) (sym same) over
-
-  pub refused_over : (s s' : Slab (Entry S F)) (room : ℕ) (back : Refused S F) (error : InsertError (Refused S F)) → s' ≡ record s { room = room } → IsRefused s' back error → IsRefused s back error
-  refused_over s s' room back (Full v) same is = subst (λ (m : Slab (Entry S F)). IsRefused m back (Full v)) same is
-  refused_over s s' room back (NoMemory v) same is = is
-
   -- nor does the end of the request
   past_freed : (s : Slab (Entry S F)) (id : Id) (e : Entry S F) → id.generation < 2 ^ 64 → value_at s id ≡ Some e → (other : Id) → IsPast (removed s id) other ↔ IsPast s other
   past_freed s id e within at =
@@ -138,31 +87,14 @@ module _ {S F : Type 0} where
       past-free s (removed s id) id e within (Changed-set s (removed s id) id.index (freed id.generation) refl refl there.within) there.slot
 
   past_for : (s : Slab (Entry S F)) (id : Id) (e : Entry S F) (told : RequestOutput) (observer : Observer S F) → id.generation < 2 ^ 64 → value_at s id ≡ Some e → (other : Id) → IsPast (finished_for s id told observer) other ↔ IsPast s other
-  past_for s id e told (Local waker) within at = past-write s id (Ready told) (rw at refl)
-  past_for s id e told (Forwarded sender) within at = past_freed s id e within at
-  past_for s id e told (DetachedSync sender) within at = past_freed s id e within at
-  past_for s id e told Orphaned within at = past_freed s id e within at
+  past_for = grind (arith, past-write, past_freed)
 
   pub takes_finished : (s s' : Slab (Entry S F)) (id : Id) (w : Waiter S F) (how : Ended) (account : Option Account) → waiter_at s' id ≡ Some w → id.generation < 2 ^ 64 → TakesId s s' id → TakesId s (finished s' id w how account) id
-  takes_finished s s' id w how account at within takes =
-      let past = past_for s' id (Pending w) (output_of w.request how account) w.observer within (entry_of _ w at) in
-      record { past = λ other. (λ is. (takes.past other).0 ((past other).0 is), λ is. (past other).1 ((takes.past other).1 is)) }
+  takes_finished = grind (arith, past_for, entry_of)
 
   -- what ends adds no name
   live_set : (s : Slab (Entry S F)) (id : Id) (w : Waiter S F) (told : RequestOutput) (observer : Observer S F) → waiter_at s id ≡ Some w → live_count (finished_for s id told observer) ≤ live_count s
-  live_set s id w told observer at =
-      let there = at_by s id (Pending w) (entry_of _ w at) in
-      by_slot observer there.within (ap is_live there.slot)
-    where
-      set_to : (slot : Slot (Entry S F)) → id.index < length s.slots → is_live (slot_at s id.index) ≡ true → count_by is_live (set s.slots id.index slot) ≤ count_by is_live s.slots
-      set_to slot within lives =
-          omega (arith, sum_by-set (λ (o : Slot (Entry S F)). cond (is_live o) 1 0) s.slots id.index slot (Vacant s.first) within, ap one_if lives, at_most (is_live slot))
-
-      by_slot : (o : Observer S F) → id.index < length s.slots → is_live (slot_at s id.index) ≡ true → live_count (finished_for s id told o) ≤ live_count s
-      by_slot (Local waker) within lives = set_to _ within lives
-      by_slot (Forwarded sender) within lives = set_to _ within lives
-      by_slot (DetachedSync sender) within lives = set_to _ within lives
-      by_slot Orphaned within lives = set_to _ within lives
+  live_set = grind (arith, at_by, entry_of, sum_by-set, one_if, at_most)
 
   pub live_finished : (s : Slab (Entry S F)) (id : Id) (w : Waiter S F) (how : Ended) (account : Option Account) → waiter_at s id ≡ Some w → live_count (finished s id w how account) ≤ live_count s
   live_finished s id w how account at = live_set s id w _ w.observer at
@@ -188,14 +120,7 @@ module _ {S F : Type 0} where
       record { queued = Kept refl (inr refl); gated = Kept refl (inr refl); enrolments = Kept refl (inr refl); due = refl; cancels = refl }
 
   pub joins_put : (id : WaiterId) (request : Request) (observer : Observer S F) (l : Lists) (timed gated : Bool) → is_some (deadline_of request) ≡ timed → is_durable (asked_of request).kind ≡ gated → Joins id (newcomer request observer) l (put id timed gated l)
-  joins_put id request observer l true true has durable =
-      record { queued = Kept refl (inr refl); gated = Joined refl refl (rw durable refl); enrolments = Joined refl refl (rw has refl); due = refl; cancels = refl }
-  joins_put id request observer l true false has durable =
-      record { queued = Joined refl refl (rw durable refl); gated = Kept refl (inr refl); enrolments = Joined refl refl (rw has refl); due = refl; cancels = refl }
-  joins_put id request observer l false true has durable =
-      record { queued = Kept refl (inr refl); gated = Joined refl refl (rw durable refl); enrolments = Kept refl (inr refl); due = refl; cancels = refl }
-  joins_put id request observer l false false has durable =
-      record { queued = Joined refl refl (rw durable refl); gated = Kept refl (inr refl); enrolments = Kept refl (inr refl); due = refl; cancels = refl }
+  joins_put = grind arith
 
   sound_joined : (d : Driving S F) (s' : Slab (Entry S F)) (l' : Lists) (id : WaiterId) (request : Request) (observer : Observer S F) → OneChanged d.requests s' id.0 None (Some (newcomer request observer)) → Joins id (newcomer request observer) d.lists l' → HasTwoMore d → IsSound d → IsSound (record d { requests = s'; lists = l' })
   sound_joined d s' l' id request observer one joins two sound =
@@ -228,34 +153,8 @@ module _ {S F : Type 0} where
 
   -- THE EQUATION
 
-  -- rooms that changed before change nothing of what comes in
-  inserted_apart : (s : Slab (Entry S F)) (vacant : List ℕ) (e : Entry S F) (room : ℕ) → filled (record s { room = room }) vacant e ≡ record (filled s vacant e) { room = room }
-  inserted_apart s [] e room = refl
-  inserted_apart s (i ∷ rest) e room = refl
-
-  finished_apart : (s : Slab (Entry S F)) (id : Id) (told : RequestOutput) (observer : Observer S F) (room : ℕ) → finished_for (record s { room = room }) id told observer ≡ record (finished_for s id told observer) { room = room }
-  finished_apart s id told (Local waker) room = refl
-  finished_apart s id told (Forwarded sender) room = refl
-  finished_apart s id told (DetachedSync sender) room = refl
-  finished_apart s id told Orphaned room = refl
-
-  put_apart : (new like d : Driving S F) (id : WaiterId) (request : Request) (observer : Observer S F) (deadline gate : Option ℕ) → with_rooms new (in_place (with_deadline (taken_in (with_rooms like d) request observer) id deadline) id gate) ≡ with_rooms new (in_place (with_deadline (taken_in d request observer) id deadline) id gate)
-  put_apart new like d id request observer None None =
-      rw (inserted_apart d.requests d.requests.vacant (admitted request observer) like.requests.room) refl
-  put_apart new like d id request observer None (Some file) =
-      rw (inserted_apart d.requests d.requests.vacant (admitted request observer) like.requests.room) refl
-  put_apart new like d id request observer (Some deadline) None =
-      rw (inserted_apart d.requests d.requests.vacant (admitted request observer) like.requests.room) refl
-  put_apart new like d id request observer (Some deadline) (Some file) =
-      rw (inserted_apart d.requests d.requests.vacant (admitted request observer) like.requests.room) refl
-
   placed_apart : (new like d : Driving S F) (id : WaiterId) (request : Request) (observer : Observer S F) (now : ℕ) → with_rooms new (placed_at (taken_in (with_rooms like d) request observer) id (newcomer request observer) now) ≡ with_rooms new (placed_at (taken_in d request observer) id (newcomer request observer) now)
-  placed_apart new like d id request observer now =
-      elim (cases_Bool (is_late (deadline_of request) now)) [
-        | inl late ↦
-            rw (late, inserted_apart d.requests d.requests.vacant (admitted request observer) like.requests.room, finished_apart (inserted d.requests (admitted request observer)) id.0 (output_of request timed_out None) observer like.requests.room) refl
-        | inr early ↦ rw early (put_apart new like d id request observer (deadline_of request) (gate_of request))
-      ]
+  placed_apart = grind arith
 
   pub placed_over : (d d' new : Driving S F) (id : WaiterId) (request : Request) (observer : Observer S F) (now : ℕ) → d' ≡ with_rooms d' d → new ≡ with_rooms new (placed_at (taken_in d' request observer) id (newcomer request observer) now) → new ≡ with_rooms new (placed_at (taken_in d request observer) id (newcomer request observer) now)
   placed_over d d' new id request observer now same placed =
@@ -265,30 +164,14 @@ module _ {S F : Type 0} where
   rooms_over a b c one other = other ∙ ap (with_rooms c) one
 
   pub placed_is : (d : Driving S F) (id : WaiterId) (deadline gate : Option ℕ) → in_place (with_deadline d id deadline) id gate ≡ record d { lists = put id (is_some deadline) (is_some gate) d.lists }
-  placed_is d id None None = refl
-  placed_is d id None (Some file) = refl
-  placed_is d id (Some deadline) None = refl
-  placed_is d id (Some deadline) (Some file) = refl
-
-  -- it stands in its places, or ended at once
-  pub is_placed : (d : Driving S F) (s' : Slab (Entry S F)) (wheel : Wheel) (l' : Lists) (id : WaiterId) (request : Request) (observer : Observer S F) (now : ℕ) (timed gated : Bool) → s' ≡ arrived d.requests (newcomer request observer) s'.room → wheel ≡ d.wheel → l' ≡ put id timed gated d.lists → is_late (deadline_of request) now ≡ false → is_some (deadline_of request) ≡ timed → is_some (gate_of request) ≡ gated → record d { requests = s'; wheel = wheel; lists = l' } ≡ with_rooms (record d { requests = s'; wheel = wheel; lists = l' }) (placed_at (taken_in d request observer) id (newcomer request observer) now)
-  is_placed d s' wheel l' id request observer now timed gated slab turned lists early has durable =
-      rw (turned, lists, early, placed_is (taken_in d request observer) id (deadline_of request) (gate_of request), has, durable) (ap (λ (s : Slab (Entry S F)). record d { requests = s; lists = put id timed gated d.lists }) slab)
+  placed_is = grind arith
 
   pub is_refused : (d new : Driving S F) (s' : Slab (Entry S F)) (wheel : Wheel) (id : WaiterId) (request : Request) (observer : Observer S F) (now : ℕ) → s' ≡ arrived d.requests (newcomer request observer) s'.room → wheel ≡ d.wheel → is_late (deadline_of request) now ≡ true → new ≡ ended (record d { requests = s'; wheel = wheel }) id (newcomer request observer) timed_out None → new ≡ with_rooms new (placed_at (taken_in d request observer) id (newcomer request observer) now)
-  is_refused d new s' wheel id request observer now slab turned late is =
-      let whole = is ∙ ap (λ (w : Wheel). ended (record d { requests = s'; wheel = w }) id (newcomer request observer) timed_out None) turned ∙ ap (λ (s : Slab (Entry S F)). ended (record d { requests = s }) id (newcomer request observer) timed_out None) slab in
-      rw (whole, late, finished_apart (inserted d.requests (admitted request observer)) id.0 (output_of request timed_out None) observer s'.room) refl
+  is_refused = grind arith
 
   -- who needs two more needs them still
   pub two_still : (d d' : Driving S F) → d' ≡ with_rooms d' d → d'.ring ≡ d.ring → HasTwoMore d → HasTwoMore d'
-  two_still d d' same ring two =
-      let pending = ap (λ (m : Driving S F). pending_count m.requests) same in
-      let uncancelled = ap (λ (m : Driving S F). count_of is_uncancelled m.requests) same in
-      let cancels = ap (λ (m : Driving S F). length m.lists.cancels) same in
-      let staged = ap (λ (m : Driving S F). m.cancels_under_way) same in
-      let places = ap (λ (r : RingState). r.places) ring in
-      omega (arith, two, pending, uncancelled, cancels, staged, places)
+  two_still = grind arith
 
   -- a driver with room for one more, of which only the rooms changed
   pub record IsReady (d d' : Driving S F) (count room : ℕ) : Type 0 where

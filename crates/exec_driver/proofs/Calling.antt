@@ -1,8 +1,8 @@
 -- What a call does to the requests of a worker keeps where they stand.
-use Rattle.std.proofs.Common.{◌≡◌, ℕ, Bool, true, false, cond, List, [], ◌∷◌, Option, Some, None, Result, Ok, Err, refl, sym, ap, subst}
-use Rattle.exec_request.specs.Requests.{gate_of, output_of}
+use Rattle.std.proofs.Common.{◌≡◌, ℕ, Bool, true, false, cond, List, [], ◌∷◌, Option, Some, None, Result, Ok, Err, refl, ap, arith}
+use Rattle.exec_request.specs.Requests.{output_of}
 use Rattle.exec_waiters.specs.{Events.{taken_from, forwarded_from, orphaned_from, changed_from, with_observer, with_waker}, States.{is_local, is_held_by}}
-use Rattle.exec_driver.specs.{Sharing.Gates, Steps.{cancelled_at, cancelled_from, cancelling, let_go, without_observer, enrolled_by, granted_as, placed_at, timed_out, is_late, swept_from, ended, is_control, noted}}
+use Rattle.exec_driver.specs.{Sharing.Gates, Steps.{cancelled_at, cancelled_from, cancelling, let_go, without_observer, enrolled_by, granted_as, placed_at, timed_out, swept_from, ended, noted}}
 use Rattle.exec_driver.proofs.{Words.{TaskNo, Ended, Account, Posted, asks_cancel, cancelled, with_tick, deadline_of, asks_cancel_by_orphan, Slab, value_at, waiter_of, Waiter, Entry, Pending, Ready, WaiterId, Driving, request_at, Forwarded, Orphaned}, Arriving.placed_is, Standing.{AllFit, IsLast, there_last, asking_last, removed_fits, becomes, finished_fits}}
 use Rattle.exec_base.specs.declared.error.Error.{Error}
 
@@ -18,9 +18,7 @@ module _ {S F : Type 0} where
   either_way g worker false d d' one other = other
 
   pub taken_fits : (g : Gates) (worker : ℕ) (s : Slab (Entry S F)) (id : WaiterId) (o : Option (Entry S F)) → value_at s id.0 ≡ o → AllFit g worker s → AllFit g worker (taken_from s id.0 o)
-  taken_fits g worker s id None at all = all
-  taken_fits g worker s id (Some (Pending w)) at all = all
-  taken_fits g worker s id (Some (Ready told)) at all = removed_fits g worker s id (there_last s id.0 (Ready told) at) all
+  taken_fits = grind (arith, removed_fits, there_last)
 
   pub waked_fits : (g : Gates) (worker : ℕ) (s : Slab (Entry S F)) (id : WaiterId) (task : TaskNo) (o : Option (Entry S F)) → value_at s id.0 ≡ o → AllFit g worker s → AllFit g worker (changed_from s id.0 (with_waker task) o)
   waked_fits g worker s id task None at all = all
@@ -66,14 +64,8 @@ module _ {S F : Type 0} where
   granted_fits g worker d id w (Some how) account last all = ended_fits g worker d id w how account last all
 
   pub placed_fits : (g : Gates) (worker : ℕ) (d : Driving S F) (id : WaiterId) (w : Waiter S F) (now : ℕ) → IsLast d.requests id.0 → AllFit g worker d.requests → AllFit g worker (placed_at d id w now).requests
-  placed_fits g worker d id w now last all =
-      let there = ap (λ (m : Driving S F). m.requests) (placed_is d id (deadline_of w.request) (gate_of w.request)) in
-      either_way g worker (is_late (deadline_of w.request) now) _ _ (ended_fits g worker d id w timed_out None last all) (subst (AllFit g worker) (sym there) all)
+  placed_fits = grind (arith, placed_is, deadline_of, either_way, ended_fits)
 
   pub swept_requests : (ps : List Posted) (d : Driving S F) → (swept_from ps d).requests ≡ d.requests
   swept_requests [] d = refl
-  swept_requests (p ∷ ps) d = by (is_control p.completion) (swept_requests ps (noted p.completion d))
-    where
-      by : (b : Bool) → (swept_from ps (noted p.completion d)).requests ≡ d.requests → (cond b (swept_from ps (noted p.completion d)) (record d { ring = record d.ring { posted = record p { wakes = 0 } ∷ ps } })).requests ≡ d.requests
-      by true rest = rest
-      by false rest = refl
+  swept_requests (p ∷ ps) d = grind (arith, swept_requests ps (noted p.completion d))

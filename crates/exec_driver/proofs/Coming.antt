@@ -12,12 +12,7 @@ is_itself id = elim (same_tells id id) [ inl same ↦ same.0 | inr other ↦ abs
 
 -- who was due stays so, and who joins is
 due_there : (x id : WaiterId) (l : Lists) → (is_among x l.due ≡ true) ⊎ (x ≡ id) → is_among x (with_due id l).due ≡ true
-due_there x id l there =
-    elim (cases_Bool (is_among id l.due)) [
-      | inl in_it ↦ rw in_it (elim there [ inl is ↦ is | inr same ↦ rw same in_it ])
-      | inr out ↦
-          rw out (list_any-append (λ other. is_same other x) l.due (id ∷ []) ∙ elim there [ inl is ↦ or_left _ (is_among x (id ∷ [])) is | inr same ↦ or_right (is_among x l.due) _ (rw (same, is_itself id) refl) ])
-    ]
+due_there = grind (arith, cases_Bool, is_among, list_any-append, is_same, or_left, or_right, is_itself)
 
 -- a wheel that goes on to a tick before this one stands before it
 turned_before : (w : Wheel) (tick t : ℕ) (o : Option ℕ) → tick < t → (turned w tick o).wheel.current < t

@@ -1,10 +1,10 @@
 -- What stands under each name, and how many are in a place, once one entry changed.
-use Rattle.std.proofs.Common.{◌≡◌, ◌≢◌, ℕ, ◌+◌, ◌^◌, ltb, ◌≤◌, Bool, true, false, cond, List, set, Option, Some, None, refl, ap, arith}
+use Rattle.std.proofs.Common.{◌≡◌, ◌≢◌, ℕ, ◌+◌, ◌≤◌, Bool, true, false, cond, Option, Some, None, refl, arith}
 use Rattle.std.specs.Prelude.{count_by}
 use Rattle.std.proofs.lemmas.List.{set-get_or}
 use Rattle.std.proofs.lemmas.List.Sums.{sum_by-set, sum_by-le-sum_by}
-use Rattle.exec_driver.proofs.Words.{is_some, Slab, value_at, written, Id, waiter_at, waiter_in, waiter_of, is_flying, pending_count, flying_count, Waiter, Entry, Pending, Ready, one_if, count_of}
-use Rattle.exec_base.specs.{Slab.{removed, freed}, declared.slab.Slot.{Slot, TheVariants.{Live, Vacant, Retired}}}
+use Rattle.exec_driver.proofs.Words.{is_some, Slab, value_at, written, Id, waiter_at, waiter_in, waiter_of, is_flying, pending_count, flying_count, Waiter, Entry, one_if, count_of}
+use Rattle.exec_base.specs.{Slab.{removed, freed}, declared.slab.Slot.{Slot, TheVariants.{Vacant, Retired}}}
 use Rattle.exec_base.proofs.Slots.{Changed-set, Updates-write, Updates-free}
 use Rattle.exec_waiters.specs.States.{counts_pending, counts_flying}
 use Rattle.exec_waiters.proofs.Changes.{at_by}
@@ -12,16 +12,10 @@ use Rattle.exec_driver.specs.Sound.{counts}
 
 module _ {S F : Type 0} where
   asking_of : (o : Slot (Entry S F)) → counts_pending o ≡ counts is_some o
-  asking_of (Live g (Pending w)) = refl
-  asking_of (Live g (Ready told)) = refl
-  asking_of (Vacant g) = refl
-  asking_of Retired = refl
+  asking_of = grind arith
 
   flying_of : (o : Slot (Entry S F)) → counts_flying o ≡ counts is_flying o
-  flying_of (Live g (Pending w)) = refl
-  flying_of (Live g (Ready told)) = refl
-  flying_of (Vacant g) = refl
-  flying_of Retired = refl
+  flying_of = grind arith
 
   pub pending_is : (s : Slab (Entry S F)) → pending_count s ≡ count_of is_some s
   pending_is s = λ i. count_by (λ o. asking_of o i) s.slots
@@ -42,46 +36,24 @@ module _ {S F : Type 0} where
 
   -- an entry that is there, written again
   pub same_written : (s : Slab (Entry S F)) (id : Id) (e : Entry S F) → value_at s id ≡ Some e → written s id e ≡ s
-  same_written s id e at =
-      let there = at_by s id e at in
-      let same : set s.slots id.index (Live id.generation e) ≡ s.slots = rw (← there.slot) (set-get_or s.slots id.index (Vacant s.first)) in
-      ap (λ (slots : List (Slot (Entry S F))). record s { slots = slots }) same
+  same_written = grind (arith, at_by, set-get_or)
 
   -- an entry becomes another
   pub one_written : (s : Slab (Entry S F)) (id : Id) (was is : Entry S F) → value_at s id ≡ Some was → OneChanged s (written s id is) id (waiter_in was) (waiter_in is)
   one_written s id was is at =
       let there = at_by s id was at in
       let map = Updates-write s id is (rw at refl) in
-      record {
-        was_at = ap waiter_of at;
-        is_at = ap waiter_of map.changed;
-        others = λ other apart. ap waiter_of (map.others other apart);
-        numbers = λ place none. rw (ap (λ (o : Slot (Entry S F)). one_if (counts place o)) there.slot) at (sum_by-set (λ o. cond (counts place o) 1 0) s.slots id.index (Live id.generation is) (Vacant s.first) there.within);
-      }
+      grind (arith, waiter_of, one_if, sum_by-set)
 
   -- an entry goes
   pub one_removed : (s : Slab (Entry S F)) (id : Id) (was : Entry S F) → value_at s id ≡ Some was → OneChanged s (removed s id) id (waiter_in was) None
   one_removed s id was at =
       let there = at_by s id was at in
       let map = Updates-free s (removed s id) id was (Changed-set s (removed s id) id.index (freed id.generation) refl refl there.within) there.slot in
-      record {
-        was_at = ap waiter_of at;
-        is_at = ap waiter_of map.changed;
-        others = λ other apart. ap waiter_of (map.others other apart);
-        numbers = λ place none.
-            let moved = rw (ap (λ (o : Slot (Entry S F)). one_if (counts place o)) there.slot, freed_by place (ltb (id.generation + 1) (2 ^ 64)) (id.generation + 1)) at (sum_by-set (λ o. cond (counts place o) 1 0) s.slots id.index (freed id.generation) (Vacant s.first) there.within) in
-            rw none moved;
-      }
+      grind (arith, waiter_of, one_if, freed_by, sum_by-set)
 
   flies_less : (o : Slot (Entry S F)) → one_if (counts_flying o) ≤ one_if (counts_pending o)
-  flies_less (Live g (Pending w)) = at_most w.in_flight
-    where
-      at_most : (b : Bool) → one_if b ≤ 1
-      at_most true = omega arith
-      at_most false = omega arith
-  flies_less (Live g (Ready told)) = omega arith
-  flies_less (Vacant g) = omega arith
-  flies_less Retired = omega arith
+  flies_less = grind arith
 
   -- no more requests are in flight than aren't over
   pub flying_few : (s : Slab (Entry S F)) → flying_count s ≤ pending_count s

@@ -1,7 +1,7 @@
 -- A request that ends, or is cancelled, keeps a driver sound.
-use Rattle.std.proofs.Common.{◌≡◌, ℕ, ◌+◌, ◌<◌, ◌≤◌, Bool, true, false, not, [], ◌∷◌, length, Option, Some, None, refl, sym, ap, ◌∙◌, inl, inr, arith, length-append}
+use Rattle.std.proofs.Common.{◌≡◌, ℕ, ◌+◌, ◌<◌, ◌≤◌, true, false, [], ◌∷◌, length, Option, Some, None, refl, sym, ap, ◌∙◌, inr, arith, length-append}
 use Rattle.std.specs.Option.{IfSome}
-use Rattle.exec_driver.proofs.{Words.{is_some, false≢true, eqb_tells, Slab, value_at, written, Id, Account, Ended, asks_cancel, Wheel, told_by_finish, cancelled, changed, waiter_at, is_flying, pending_count, tick_in, Observer, Local, Forwarded, DetachedSync, Orphaned, Waiter, Entry, Pending, Ready, WaiterId, WaiterState, Active, CancelRequested, entry_of, one_if, Driving, request_at, is_queued, is_gated, is_unenrolled, is_enrolled, is_cancelled, without, IsSound, IsHeld, is_tick, is_unpermitted, is_at_tick, is_uncancelled, count_of, Tells, Deferred, ended, cancelling, not-true, not-false}, Names.fewer_without, Counting.{OneChanged, same_written, one_written, one_removed, pending_is, flying_is}, Shifts.{Left, Kept, Joined, shifted, nowhere, room_for}}
+use Rattle.exec_driver.proofs.{Words.{is_some, false≢true, Slab, value_at, written, Id, Account, Ended, asks_cancel, Wheel, told_by_finish, cancelled, changed, waiter_at, is_flying, pending_count, tick_in, Observer, Local, Forwarded, DetachedSync, Orphaned, Waiter, Entry, Pending, Ready, WaiterId, WaiterState, Active, CancelRequested, entry_of, one_if, Driving, request_at, is_queued, is_gated, is_unenrolled, is_enrolled, is_cancelled, without, IsSound, IsHeld, is_tick, is_unpermitted, is_at_tick, is_uncancelled, count_of, Tells, Deferred, ended, cancelling, not-true, not-false}, Names.fewer_without, Counting.{OneChanged, same_written, one_written, one_removed, pending_is, flying_is}, Shifts.{Left, Kept, Joined, shifted, nowhere, room_for}}
 use Rattle.exec_request.specs.{Requests.output_of, declared.output.RequestOutput.RequestOutput}
 use Rattle.exec_time.specs.Wheel.{removed}
 use Rattle.exec_waiters.specs.{Events.{finished, finished_for, may_cancel}, States.is_idle}
@@ -10,13 +10,7 @@ use Rattle.exec_driver.specs.Steps.{unscheduled, told_by_cancel, timed_out}
 -- the active entries of the wheel without one
 pub ticks_after : (w : Wheel) (tick : Option ℕ) (n n' : ℕ → ℕ) → ((t : ℕ) → w.active t ≡ n t) → ((t : ℕ) → n' t + one_if (is_tick t tick) ≡ n t) → (t : ℕ) → (unscheduled w tick).active t ≡ n' t
 unfolding removed
-ticks_after w None n n' active less t = omega (arith, active t, less t)
-ticks_after w (Some k) n n' active less t =
-    let fact = less t in
-    elim (eqb_tells t k) [
-      | inl same ↦ let fact' = rw same.0 at fact in rw same.0 (omega (arith, active t, fact'))
-      | inr other ↦ let fact' = rw other.0 at fact in rw other.0 (omega (arith, active t, fact'))
-    ]
+ticks_after = grind arith
 
 pub ready_after : (w : Wheel) (tick : Option ℕ) → (unscheduled w tick).ready ≡ w.ready
 unfolding removed
@@ -25,10 +19,7 @@ ready_after w (Some k) = refl
 
 -- what stands in the wheel is active there
 pub active_there : (tick : Option ℕ) (n : ℕ → ℕ) → ((t : ℕ) → one_if (is_tick t tick) ≤ n t) → IfSome tick (λ t. 0 < n t)
-active_there None n some = tt
-active_there (Some k) n some =
-    let here = some k in
-    elim (eqb_tells k k) [ inl same ↦ let here' = rw same.0 at here in omega (arith, here') | inr other ↦ absurd (other.1 refl) ]
+active_there = grind arith
 
 -- who asked for a cancel
 state_of : (s : WaiterState) → asks_cancel s ≡ true → s ≡ CancelRequested
@@ -43,12 +34,7 @@ module _ {S F : Type 0} where
     pub idle : w.in_flight ≡ false
 
   pub idle_there : (o : Option (Waiter S F)) → is_idle o ≡ true → IsIdle o
-  idle_there None is = absurd (false≢true is)
-  idle_there (Some w) is = record { w = w; is = refl; idle = by w.in_flight is }
-    where
-      by : (b : Bool) → not b ≡ true → b ≡ false
-      by false is = refl
-      by true is = absurd (false≢true is)
+  idle_there = grind arith
 
   -- a request in flight is there
   pub record IsFlying (o : Option (Waiter S F)) : Type 0 where

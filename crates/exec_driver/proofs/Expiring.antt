@@ -1,20 +1,10 @@
 -- Who is taken out of what is due, or of what is to be enrolled, leaves a driver as it should be.
-use Rattle.std.proofs.Common.{◌≡◌, ◌<◌, ◌≤◌, ◌+◌, ◌^◌, ltb, cond, true, false, Ok, Err, ℕ, Bool, List, [], ◌∷◌, length, Option, Some, None, refl, ap, ◌∙◌, arith}
-use Rattle.exec_driver.proofs.{Words.{false≢true, ltb-true, Slab, Wheel, target_of, moment_of, waiter_at, Waiter, Entry, WaiterId, Driving, is_unenrolled, is_enrolled, first_of, rest_of, after_due, IsListed, IsHeld, tick_for, count_of, is_at_tick, and_parts}, Granting.{IsUnset, unset_tells}, Stepping.first_in, Timing.target_tells}
-use Rattle.exec_base.specs.declared.error.Error.{Error}
+use Rattle.std.proofs.Common.{◌≡◌, ◌<◌, ◌≤◌, ◌+◌, ◌^◌, true, Ok, ℕ, Bool, List, [], ◌∷◌, length, Option, Some, None, refl, arith}
+use Rattle.exec_driver.proofs.{Words.{false≢true, Slab, Wheel, target_of, moment_of, waiter_at, Waiter, Entry, WaiterId, Driving, is_unenrolled, is_enrolled, first_of, rest_of, after_due, IsListed, IsHeld, tick_for, and_parts}, Granting.{IsUnset, unset_tells}, Stepping.first_in, Timing.target_tells}
 use Rattle.exec_driver.specs.Steps.{tick_by}
 
--- an enrolment that gives a tick gives one that the wheel takes
-ticks : (b : Bool) (t tick : ℕ) (e : Error) → cond b (Ok t) (Err e) ≡ Ok tick → (b ≡ true) × (t ≡ tick)
-ticks true t tick e is = (refl, cc)
-ticks false t tick e is = absurd (cc)
-
 by_target : (w : Wheel) (o : Option (Option ℕ)) (tick : ℕ) → tick_by w o ≡ Ok tick → (o ≡ Some (Some tick)) × (moment_of w tick < 2 ^ 64)
-by_target w None tick is = absurd (cc)
-by_target w (Some None) tick is = absurd (cc)
-by_target w (Some (Some t)) tick is =
-    let got = ticks (ltb (moment_of w t) (2 ^ 64)) t tick _ is in
-    (ap (λ (k : ℕ). Some (Some k)) got.1, rw (← got.1) (ltb-true (moment_of w t) (2 ^ 64) got.0))
+by_target = grind arith
 
 pub record IsTaken (w : Wheel) (tick : ℕ) : Type 0 where
   pub ahead : w.current < tick
@@ -22,10 +12,7 @@ pub record IsTaken (w : Wheel) (tick : ℕ) : Type 0 where
   pub in_time : moment_of w tick < 2 ^ 64
 
 pub tick_tells : (w : Wheel) (deadline now tick : ℕ) → tick_for w deadline now ≡ Ok tick → IsTaken w tick
-tick_tells w deadline now tick is =
-    let by = by_target w (target_of w deadline now) tick is in
-    let range = target_tells w deadline now tick by.0 in
-    record { ahead = range.0; span = range.1; in_time = by.1 }
+tick_tells = grind (arith, by_target, target_of, target_tells)
 
 pub some_first : (ids : List WaiterId) (id : WaiterId) → first_of ids ≡ Some id → 0 < length ids
 some_first [] id is = absurd (cc)
@@ -38,10 +25,7 @@ module _ {S F : Type 0} where
 
   -- a change of what is due, and of the wheel but for what is active in it
   pub held_due : (d : Driving S F) (w : Wheel) (due : List WaiterId) (room room' most spots : ℕ) → ((t : ℕ) → w.active t ≡ d.wheel.active t) → w.ready ≡ [] → IsListed is_enrolled d.requests due → room ≤ room' → IsHeld d room most spots → IsHeld (record d { wheel = w; lists = record d.lists { due = due } }) room' most spots
-  held_due d w due room room' most spots active ready listed more held =
-      let ticks : (t : ℕ) → w.active t ≡ count_of (is_at_tick t) d.requests = λ t. active t ∙ held.sound.ticks t in
-      let wheel_room : length d.lists.enrolments ≤ room' = omega (arith, held.wheel_room, more) in
-      assumption (ready, listed, ticks, wheel_room)
+  held_due = grind arith
 
   pub held_undue : (d : Driving S F) (room most spots : ℕ) → IsHeld d room most spots → IsHeld (record d { lists = after_due d.lists }) room most spots
   held_undue d room most spots held =

@@ -1,7 +1,7 @@
 -- What comes next of a wheel is the deadline of a request.
-use Rattle.std.proofs.Common.{◌≡◌, ℕ, ◌+◌, ◌-◌, ◌<◌, ◌≤◌, Bool, true, false, List, [], ◌∷◌, Option, Some, None, refl, sym, ◌∙◌, arith}
+use Rattle.std.proofs.Common.{◌≡◌, ℕ, ◌+◌, ◌-◌, ◌<◌, ◌≤◌, Bool, true, List, [], ◌∷◌, Option, Some, None, refl, sym, ◌∙◌, arith}
 use Rattle.std.proofs.lemmas.Bool.Decides.{nat_tests}
-use Rattle.std.specs.Prelude.{find, nat_lt, if◌then◌else◌}
+use Rattle.std.specs.Prelude.{find, nat_lt}
 use Rattle.std.specs.List.{range_with_len}
 use Rattle.exec_time.specs.Wheel.{Wheel, IsSettled, IsWithinReach, least_active}
 use Rattle.exec_time.proofs.Passes.{least_before}
@@ -12,11 +12,7 @@ use Rattle.exec_driver.proofs.{Coming.tick_there, Punctual.{counted, named_there
 
 found_passes : (p : ℕ → Bool) (xs : List ℕ) (x : ℕ) → find p xs ≡ Some x → p x ≡ true
 found_passes p [] x is = absurd (cc)
-found_passes p (y ∷ ys) x is = by (p y) refl (found_passes p ys x) is
-  where
-    by : (b : Bool) → p y ≡ b → (find p ys ≡ Some x → p x ≡ true) → (if b then Some y else find p ys) ≡ Some x → p x ≡ true
-    by true passes rest is = let same : y ≡ x = cc in rw (← same) passes
-    by false fails rest is = rest is
+found_passes p (y ∷ ys) x is = grind (arith, found_passes p ys x)
 
 least_is_active : (w : Wheel) (t : ℕ) → least_active w ≡ Some t → 0 < w.active t
 unfolding least_active

@@ -1,27 +1,17 @@
 -- A permit, a deadline that is enrolled, and one that has come, keep a driver as it should be.
 use Rattle.std.proofs.Common.{◌≡◌, ℕ, ◌+◌, ◌<◌, ◌≤◌, Bool, true, false, not, ◌&&◌, List, [], ◌∷◌, ◌++◌, length, Option, Some, None, refl, ap, ◌∙◌, inl, inr, arith}
-use Rattle.exec_driver.proofs.{Words.{is_some, false≢true, eqb_tells, Slab, written, Id, deadline_of, asks_cancel, WaiterState, Active, CancelRequested, Wheel, with_permit, with_tick, waiter_at, is_flying, needs_permit, takes_tick, Waiter, Entry, Pending, WaiterId, one_if, Driving, request_at, is_queued, is_gated, is_unenrolled, is_enrolled, is_cancelled, first_of, rest_of, is_among, with_queued, after_enrolment, IsSound, IsHeld, is_unpermitted, is_at_tick, is_tick, is_uncancelled, are_all, is_once, count_of, and_parts, not-true}, Names.same_tells, Counting.{pending_is, flying_is}, Shifts.{Left, Kept, Joined, First, shifted, nowhere, room_for}, Endings.one_changed, Stepping.{stays, there_by, first_tells}}
+use Rattle.exec_driver.proofs.{Words.{is_some, false≢true, Slab, written, Id, deadline_of, asks_cancel, Active, Wheel, with_permit, with_tick, waiter_at, is_flying, needs_permit, Waiter, Entry, Pending, WaiterId, one_if, Driving, request_at, is_queued, is_gated, is_unenrolled, is_enrolled, is_cancelled, first_of, rest_of, is_among, with_queued, after_enrolment, IsSound, IsHeld, is_unpermitted, is_at_tick, is_tick, is_uncancelled, are_all, is_once, count_of, and_parts}, Names.same_tells, Counting.{pending_is, flying_is}, Shifts.{Left, Kept, Joined, First, shifted, nowhere, room_for}, Endings.one_changed, Stepping.{stays, there_by, first_tells}}
 use Rattle.exec_driver.specs.{Placed.ListsRequests, Lists.without_gated}
 use Rattle.exec_time.specs.Wheel.{scheduled}
 
 -- one more is active at a tick
 ticks_more : (w : Wheel) (id : Id) (tick : ℕ) (n n' : ℕ → ℕ) → ((t : ℕ) → w.active t ≡ n t) → ((t : ℕ) → n' t ≡ n t + one_if (is_tick t (Some tick))) → (t : ℕ) → (scheduled w id tick).active t ≡ n' t
 unfolding scheduled
-ticks_more w id tick n n' active more t =
-    let fact = more t in
-    elim (eqb_tells t tick) [
-      | inl same ↦ let fact' = rw same.0 at fact in rw same.0 (omega (arith, active t, fact'))
-      | inr other ↦ let fact' = rw other.0 at fact in rw other.0 (omega (arith, active t, fact'))
-    ]
+ticks_more = grind arith
 
 ready_scheduled : (w : Wheel) (id : Id) (tick : ℕ) → (scheduled w id tick).ready ≡ w.ready
 unfolding scheduled
 ready_scheduled w id tick = refl
-
-takes_tells : (s : WaiterState) → takes_tick s ≡ true → s ≡ Active None
-takes_tells (Active None) is = refl
-takes_tells (Active (Some tick)) is = absurd (false≢true is)
-takes_tells CancelRequested is = absurd (false≢true is)
 
 permit_there : (b : Bool) → (b && not true) ≡ false
 permit_there true = refl
@@ -33,10 +23,7 @@ same_some o x y a b = cc
 
 -- the first of a list isn't there twice
 pub once_first : (id : WaiterId) (ids : List WaiterId) → is_once ids ≡ true → first_of ids ≡ Some id → is_among id (rest_of ids) ≡ false
-once_first id (x ∷ ids) once is =
-    let same : x ≡ id = cc in
-    not-true (is_among id ids) (and_parts (not (is_among id ids)) (is_once ids) (rw (← same) once)).0
-once_first id [] once is = refl
+once_first = grind arith
 
 module _ {S F : Type 0} where
   -- what is listed is in its place
@@ -50,15 +37,7 @@ module _ {S F : Type 0} where
       ]
 
   pub lists_requests : (d : Driving S F) → IsSound d → ListsRequests d
-  lists_requests d sound =
-      record {
-        queued = λ id among. among_in is_queued d.requests id d.lists.queued sound.queued.all among;
-        gated = λ id among. among_in is_gated d.requests id d.lists.gated sound.gated.all among;
-        enrolments = λ id among. among_in is_unenrolled d.requests id d.lists.enrolments sound.enrolments.all among;
-        due = λ id among. among_in is_enrolled d.requests id d.lists.due sound.due.all among;
-        cancels = λ id among. among_in is_cancelled d.requests id d.lists.cancels sound.cancels.all among;
-        cancelled_once = λ id first. once_first id d.lists.cancels sound.cancels.once first;
-      }
+  lists_requests = grind (arith, among_in, is_queued, is_gated, is_unenrolled, is_enrolled, is_cancelled, once_first)
 
   -- one that waits at a gate
   pub record IsWaiting (w : Waiter S F) : Type 0 where
@@ -67,10 +46,7 @@ module _ {S F : Type 0} where
     pub active : asks_cancel w.state ≡ false
 
   pub waiting_tells : (w : Waiter S F) → is_gated (Some w) ≡ true → IsWaiting w
-  waiting_tells w is =
-      let outer = and_parts (not w.in_flight && needs_permit w) (not (asks_cancel w.state)) is in
-      let inner = and_parts (not w.in_flight) (needs_permit w) outer.0 in
-      record { idle = not-true _ inner.0; lacks = inner.1; active = not-true _ outer.1 }
+  waiting_tells = grind arith
 
   pub permitted_now : (w : Waiter S F) → needs_permit (with_permit w) ≡ false
   permitted_now w = permit_there _
@@ -136,10 +112,7 @@ module _ {S F : Type 0} where
     pub deadline : is_some (deadline_of w.request) ≡ true
 
   pub unset_tells : (w : Waiter S F) → is_unenrolled (Some w) ≡ true → IsUnset w
-  unset_tells w is =
-      let outer = and_parts (not w.in_flight && takes_tick w.state) (is_some (deadline_of w.request)) is in
-      let inner = and_parts (not w.in_flight) (takes_tick w.state) outer.0 in
-      record { idle = not-true _ inner.0; state = takes_tells w.state inner.1; deadline = outer.1 }
+  unset_tells = grind arith
 
   pub held_enrolled : (d : Driving S F) (id : WaiterId) (w : Waiter S F) (tick room room' most spots : ℕ) → request_at d id ≡ Some w → first_of d.lists.enrolments ≡ Some id → IsUnset w → room ≤ room' + 1 → IsHeld d room most spots → IsHeld (record d { requests = written d.requests id.0 (Pending (with_tick tick w)); wheel = scheduled d.wheel id.0 tick; lists = after_enrolment d.lists }) room' most spots
   held_enrolled d id w tick room room' most spots at first unset more held =

@@ -1,10 +1,10 @@
 -- Each call keeps a driver punctual: whose deadline stands in the wheel is due, or comes out at its tick.
-use Rattle.std.proofs.Common.{zero, suc, ◌≡◌, ◌⊎◌, ℕ, ◌<◌, Bool, true, false, cond, List, [], ◌∷◌, set, slice_get, Option, Some, None, refl, sym, ap, subst, ◌∙◌, inl, inr}
+use Rattle.std.proofs.Common.{zero, suc, ◌≡◌, ◌⊎◌, ℕ, ◌<◌, Bool, true, false, cond, List, [], ◌∷◌, set, slice_get, Option, Some, None, refl, inl, inr, arith}
 use Rattle.std.specs.Option.{IfSome}
-use Rattle.exec_driver.proofs.{Words.{Slab, value_at, written, TaskNo, Account, asks_cancel, cancelled, changed, waiter_in, tick_in, tick_of, Observer, Local, Forwarded, Orphaned, Waiter, Entry, Pending, Ready, WaiterId, Driving, request_at, Ended, OpenState, cases_Bool}, Names.same_tells, Counting.{OneChanged, one_written, one_removed}, Endings.one_changed, Lines.placed_there, Serving.{keeps_one, keeps_punctual, like_unscheduled, eases_ended}}
+use Rattle.exec_driver.proofs.{Words.{Slab, value_at, written, TaskNo, Account, asks_cancel, cancelled, changed, waiter_in, tick_in, tick_of, Observer, Waiter, Entry, Pending, WaiterId, Driving, request_at, Ended, OpenState, cases_Bool}, Counting.{OneChanged, one_written, one_removed}, Endings.one_changed, Lines.placed_there, Serving.{keeps_one, keeps_punctual, like_unscheduled, eases_ended}}
 use Rattle.exec_base.specs.Slab.{removed}
-use Rattle.exec_waiters.specs.{Events.{taken_from, taken, forwarded_from, forwarded, orphaned_from, changed_from, with_observer, with_waker, asks_cancel_by_orphan}, States.{is_local, is_held_by}}
-use Rattle.exec_driver.specs.{Admission.with_rooms, Opens.{open_at, open_named, with_open_in, with_named, placed, writing}, Punctual.IsPunctual, Steps.{cancelled_from, cancelled_at, cancelling, without_observer, let_go, timed_out, ended, entered}, Turns.made_way, Driving.is_full}
+use Rattle.exec_waiters.specs.{Events.{taken, forwarded, with_observer, with_waker}}
+use Rattle.exec_driver.specs.{Admission.with_rooms, Opens.{open_at, open_named, with_named, placed, writing}, Punctual.IsPunctual, Steps.{cancelled_at, cancelling, without_observer, let_go, ended}, Turns.made_way}
 
 -- WHO WAS ADMITTED MAY JOIN
 
@@ -17,16 +17,10 @@ got_after (x ∷ opens) (suc n) (suc file) o is some = got_after opens n file o 
 
 -- a plain write of an open leaves the places in its line
 still_there : (opens : List OpenState) (n file : ℕ) → IfSome (open_at opens file) (λ p. 0 < p.coming) → IfSome (open_at (with_named opens (Some n) writing) file) (λ p. 0 < p.coming)
-still_there opens n file some = by (open_at opens n) refl
-  where
-    by : (o : Option OpenState) → open_at opens n ≡ o → IfSome (open_at (with_open_in opens n writing o) file) (λ p. 0 < p.coming)
-    by None is = some
-    by (Some o) is = got_after opens n file o is some
+still_there = grind (arith, got_after)
 
 place_stays : (opens : List OpenState) (changed gate : Option ℕ) → IfSome (open_named opens gate) (λ p. 0 < p.coming) → IfSome (open_named (with_named opens changed writing) gate) (λ p. 0 < p.coming)
-place_stays opens changed None some = tt
-place_stays opens None (Some file) some = some
-place_stays opens (Some n) (Some file) some = still_there opens n file some
+place_stays = grind (arith, changed, still_there)
 
 -- its open has a place for it, or it needs none
 pub place_made : (opens opens' : List OpenState) (gate changed named : Option ℕ) → opens' ≡ with_named (with_named opens gate placed) changed writing → (named ≡ gate) ⊎ (named ≡ None) → IfSome (open_named opens' named) (λ p. 0 < p.coming)
@@ -40,23 +34,11 @@ module _ {S F : Type 0} where
       record { ahead = λ id t is out. let no : None ≡ Some t = rw none at is in absurd (cc) }
 
   pub rooms_punctual : (d d' : Driving S F) → d' ≡ with_rooms d' d → IsPunctual d → IsPunctual d'
-  rooms_punctual d d' is punctual =
-      let same : IsPunctual (with_rooms d' d) = record { ahead = punctual.ahead } in
-      subst (λ (e : Driving S F). IsPunctual e) (sym is) same
+  rooms_punctual = grind arith
 
   -- one request changed whose deadline stays where it is, or goes, or that had none and has none
   pub punctual_one : (d d' : Driving S F) (id : WaiterId) (was is : Option (Waiter S F)) → OneChanged d.requests d'.requests id.0 was is → ((t : ℕ) → tick_of is ≡ Some t → tick_of was ≡ Some t) → d'.wheel ≡ d.wheel → d'.lists.due ≡ d.lists.due → IsPunctual d → IsPunctual d'
-  punctual_one d d' id was is one ticks wheel due punctual =
-      record {
-        ahead = λ other t at out.
-            let before : tick_of (request_at d other) ≡ Some t =
-            elim (same_tells other id) [
-              | inl same ↦ rw same.1 (ap tick_of one.was_at ∙ ticks t (ap tick_of (sym one.is_at) ∙ rw same.1 at at))
-              | inr apart ↦ ap tick_of (sym (one.others other.0 apart.1)) ∙ at
-            ]
-            in
-            rw wheel (punctual.ahead other t before (rw due at out));
-      }
+  punctual_one = grind arith
 
   -- WHO WAITS
 
@@ -68,40 +50,20 @@ module _ {S F : Type 0} where
   taken_away d id e at punctual = punctual_one d _ id (waiter_in e) None (one_removed d.requests id.0 e at) (λ t is. absurd (cc)) refl refl punctual
 
   pub observed_punctual : (d : Driving S F) (id : WaiterId) → IsPunctual d → IsPunctual (record d { requests = taken d.requests id.0 })
-  observed_punctual d id punctual = by (value_at d.requests id.0) refl
-    where
-      by : (o : Option (Entry S F)) → value_at d.requests id.0 ≡ o → IsPunctual (record d { requests = taken_from d.requests id.0 o })
-      by None at = punctual
-      by (Some (Pending w)) at = punctual
-      by (Some (Ready told)) at = taken_away d id (Ready told) at punctual
+  observed_punctual = grind (arith, value_at, taken_away)
 
   pub waked_punctual : (d : Driving S F) (id : WaiterId) (waker : TaskNo) → IsPunctual d → IsPunctual (record d { requests = changed d.requests id.0 (with_waker waker) })
-  waked_punctual d id waker punctual = by (value_at d.requests id.0) refl
-    where
-      by : (o : Option (Entry S F)) → value_at d.requests id.0 ≡ o → IsPunctual (record d { requests = changed_from d.requests id.0 (with_waker waker) o })
-      by None at = punctual
-      by (Some (Pending w)) at = seen_by_others d id w (Local (Some waker)) at punctual
-      by (Some (Ready told)) at = punctual
+  waked_punctual = grind (arith, value_at, seen_by_others)
 
   choose : (b : Bool) (d : Driving S F) (s s' : Slab (Entry S F)) → IsPunctual (record d { requests = s }) → IsPunctual (record d { requests = s' }) → IsPunctual (record d { requests = cond b s s' })
   choose true d s s' one other = one
   choose false d s s' one other = other
 
   pub forwarded_punctual : (d : Driving S F) (id : WaiterId) (sender : F) → IsPunctual d → IsPunctual (record d { requests = forwarded d.requests id.0 sender })
-  forwarded_punctual d id sender punctual = by (value_at d.requests id.0) refl
-    where
-      by : (o : Option (Entry S F)) → value_at d.requests id.0 ≡ o → IsPunctual (record d { requests = forwarded_from d.requests id.0 sender o })
-      by None at = punctual
-      by (Some (Pending w)) at = choose (is_local w.observer) d _ _ (seen_by_others d id w (Forwarded sender) at punctual) punctual
-      by (Some (Ready told)) at = taken_away d id (Ready told) at punctual
+  forwarded_punctual = grind (arith, value_at, choose, seen_by_others, taken_away)
 
   pub orphaned_punctual : (d : Driving S F) (id : WaiterId) → IsPunctual d → IsPunctual (without_observer d id)
-  orphaned_punctual d id punctual = by (value_at d.requests id.0) refl
-    where
-      by : (o : Option (Entry S F)) → value_at d.requests id.0 ≡ o → IsPunctual (record d { requests = orphaned_from d.requests id.0 o })
-      by None at = punctual
-      by (Some (Pending w)) at = choose (is_held_by w.observer) d _ _ (seen_by_others d id w Orphaned at punctual) punctual
-      by (Some (Ready told)) at = taken_away d id (Ready told) at punctual
+  orphaned_punctual = grind (arith, value_at, choose, seen_by_others, taken_away)
 
   -- CANCELS
 
@@ -113,32 +75,13 @@ module _ {S F : Type 0} where
   ended_punctual d id w how account at = keeps_punctual d _ (eases_ended d id w how account at).keeps
 
   pub cancelled_punctual : (d : Driving S F) (id : WaiterId) → IsPunctual d → IsPunctual (cancelled_at d id)
-  cancelled_punctual d id punctual = by (request_at d id) refl
-    where
-      by : (o : Option (Waiter S F)) → request_at d id ≡ o → IsPunctual (cancelled_from d id o)
-      by None at = punctual
-      by (Some w) at =
-          elim (cases_Bool w.in_flight) [
-            | inr idle ↦ rw idle (ended_punctual d id w timed_out None at punctual)
-            | inl flies ↦
-                elim (cases_Bool (asks_cancel w.state)) [
-                  | inl asks ↦ rw (flies, asks) punctual
-                  | inr un ↦ let is : cancelled_from d id (Some w) ≡ cancelling d id w = rw (flies, un) refl in subst (λ (e : Driving S F). IsPunctual e) (sym is) (cancelling_punctual d id w at punctual)
-                ]
-          ]
+  cancelled_punctual = grind (arith, request_at, cases_Bool, ended_punctual, asks_cancel, cancelling_punctual)
 
   pub let_go_punctual : (d : Driving S F) (id : WaiterId) → IsPunctual d → IsPunctual (let_go d id)
   let_go_punctual d id punctual =
       let mid = orphaned_punctual d id punctual in
-      elim (cases_Bool (asks_cancel_by_orphan (value_at d.requests id.0))) [
-        | inl asks ↦ rw asks (cancelled_punctual (without_observer d id) id mid)
-        | inr goes_on ↦ rw goes_on mid
-      ]
+      grind (arith, cases_Bool, value_at, cancelled_punctual)
 
   -- a full queue that is entered first
   pub way_punctual : (d d' : Driving S F) → d' ≡ record (made_way d) { landings = d'.landings } → IsPunctual d → IsPunctual d'
-  way_punctual d d' is punctual = subst (λ (e : Driving S F). IsPunctual e) (sym is) (by (is_full d))
-    where
-      by : (full : Bool) → IsPunctual (record (cond full (entered d) d) { landings = d'.landings })
-      by true = record { ahead = punctual.ahead }
-      by false = record { ahead = punctual.ahead }
+  way_punctual = grind arith

@@ -1,11 +1,11 @@
 -- An operation that ends in a ring in memory keeps a driver as it should be.
-use Rattle.std.proofs.Common.{◌≡◌, ℕ, Bool, true, not, ◌&&◌, cond, Some, Result, Ok, Err, refl, ap, inl, inr}
+use Rattle.std.proofs.Common.{◌≡◌, ℕ, Bool, true, not, ◌&&◌, cond, Some, Result, Ok, Err, refl, ap, inl, inr, arith}
 use Rattle.std.specs.Prelude.{OnOk, OnErr}
 use Rattle.exec_driver.proofs.{Words.{Slab, written, is_durable, Asked, OpResult, asked_of, Request, landed, may_land, flight_of, RingState, is_flying, needs_permit, Waiter, Entry, Pending, WaiterId, Driving, request_at, IsHeld, cases_Bool}, Endings.{one_changed, flying_there}, Entering.landed_within, Keeping.punctual_one, Observing.held_alike, Stepping.held_ring}
 use Rattle.exec_ring.specs.declared.{landing.Unlawful.Unlawful, store.Store.Store}
 use Rattle.exec_waiters.specs.{Events.Lands, Ids.user_data_of}
 use Rattle.exec_waiters.proofs.Fits.{asked_after}
-use Rattle.exec_driver.specs.{Punctual.IsPunctual, Steps.LandsOne}
+use Rattle.exec_driver.specs.{Punctual.IsPunctual}
 
 -- what came of a landing: the answer, the ring, and the requests with the store
 pub record Landed {S F : Type 0} (d : Driving S F) (s' : Slab (Entry S F)) (ring' : RingState) (id : WaiterId) (given : OpResult) (answer : Result (Unit {0}) Unlawful) (st st' : Store) : Type 0 where
@@ -35,15 +35,6 @@ module _ {S F : Type 0} where
             let step = held_moved d id there.w one.request room most spots there.is there.flies (asked_after (Ok tt) _ given _ _ st st' one.moved tt) held in
             rw (one.slab, rw may at so.ring_is) (held_ring (record d { requests = written d.requests id.0 (Pending (moved_to there.w one.request)) }) (landed d.ring (user_data_of id.0) given) d.landings room most spots (landed_within d.ring (user_data_of id.0) given may) step)
         | inr bars ↦ rw (rw (rw bars at so.answer_is) at so.same, rw bars at so.ring_is) held
-      ]
-
-  pub lands_one : (d : Driving S F) (s' : Slab (Entry S F)) (ring' : RingState) (id : WaiterId) (given : OpResult) (answer : Result (Unit {0}) Unlawful) (st st' : Store) → Landed d s' ring' id given answer st st' → OnOk answer ((w : Waiter S F) → request_at d id ≡ Some w → LandsOne d (record d { requests = s'; ring = ring' }) id w given st st')
-  lands_one d s' ring' id given answer st st' so =
-      elim (cases_Bool (may_land d.ring (user_data_of id.0) given)) [
-        | inl may ↦
-            let lands = rw (rw may at so.answer_is) at so.moved in
-            rw (rw may at so.answer_is) (λ w at. record { lands = lands w at; driver = ap (λ (r : RingState). record d { requests = s'; ring = r }) (rw may at so.ring_is) })
-        | inr bars ↦ rw (rw bars at so.answer_is) tt
       ]
 
   -- and keeps each deadline

@@ -1,5 +1,5 @@
 -- A place in the line of an open that was made, and given up again.
-use Rattle.std.proofs.Common.{◌≡◌, ℕ, ◌+◌, ◌-◌, ◌<◌, zero, suc, List, [], ◌∷◌, set, slice_get, Option, Some, None, refl, ap, ◌∙◌, arith}
+use Rattle.std.proofs.Common.{◌≡◌, ℕ, ◌+◌, ◌-◌, ◌<◌, zero, suc, List, [], ◌∷◌, set, slice_get, Option, Some, None, refl, ap, arith}
 use Rattle.std.specs.Option.{IfSome}
 use Rattle.exec_driver.specs.Opens.{OpenState, open_at, open_named, with_open, with_open_in, with_named, placed, displaced}
 
@@ -17,18 +17,11 @@ back_of : (o : OpenState) → displaced (placed o) ≡ o
 back_of o = let same : (o.coming + 1) - 1 ≡ o.coming = omega arith in ap (λ (n : ℕ). record o { coming = n }) same
 
 given_up : (opens : List OpenState) (file : ℕ) (o : Option OpenState) → open_at opens file ≡ o → with_open (with_open_in opens file placed o) file displaced ≡ opens
-given_up opens file None is = rw is refl
-given_up opens file (Some o) is =
-    rw (set_there opens file o (placed o) is) (ap (set (set opens file (placed o)) file) (back_of o) ∙ set_back opens file o (placed o) is)
+given_up = grind (arith, set_there, back_of, set_back)
 
 pub placed_back : (opens : List OpenState) (gate : Option ℕ) → with_named (with_named opens gate placed) gate displaced ≡ opens
 placed_back opens None = refl
 placed_back opens (Some file) = given_up opens file (open_at opens file) refl
 
 pub placed_there : (opens : List OpenState) (gate : Option ℕ) → IfSome (open_named (with_named opens gate placed) gate) (λ o. 0 < o.coming)
-placed_there opens None = tt
-placed_there opens (Some file) = by (open_at opens file) refl
-  where
-    by : (o : Option OpenState) → open_at opens file ≡ o → IfSome (open_at (with_open_in opens file placed o) file) (λ p. 0 < p.coming)
-    by None is = rw is tt
-    by (Some o) is = rw (set_there opens file o (placed o) is) (omega arith)
+placed_there = grind (arith, set_there)

@@ -1,27 +1,14 @@
 -- Lists of names: one more, one less, and what is said of each.
-use Rattle.std.proofs.Common.{◌≡◌, ◌≢◌, ◌⊎◌, ◌≤◌, true, false, not, List, [], ◌∷◌, ◌++◌, length, refl, sym, ap, ◌∙◌, inl, inr, arith}
+use Rattle.std.proofs.Common.{◌≡◌, ◌≢◌, ◌⊎◌, ◌≤◌, true, false, not, List, [], ◌∷◌, ◌++◌, length, refl, inl, inr, arith}
 use Rattle.std.proofs.lemmas.List.Sums.{length-filter, count_by-le-length}
-use Rattle.exec_driver.proofs.Words.{false≢true, eqb_tells, Id, WaiterId, is_same, without, is_among, is_once, and_parts, not-true, or_parts}
-use Rattle.exec_base.proofs.Slots.{same_id}
+use Rattle.exec_driver.proofs.Words.{WaiterId, is_same, without, is_among, is_once, and_parts, not-true, or_parts}
 
 -- two names are one, or two
 pub same_tells : (a b : WaiterId) → ((is_same a b ≡ true) × (a ≡ b)) ⊎ ((is_same a b ≡ false) × (a.0 ≢ b.0))
-same_tells a b =
-    elim (eqb_tells a.0.index b.0.index) [
-      | inr i ↦ inr (rw i.0 refl, λ e. i.1 (ap (λ (n : Id). n.index) e))
-      | inl i ↦
-          elim (eqb_tells a.0.generation b.0.generation) [
-            | inr g ↦ inr (rw (i.0, g.0) refl, λ e. g.1 (ap (λ (n : Id). n.generation) e))
-            | inl g ↦ inl (rw (i.0, g.0) refl, ap (λ (n : Id). let w : WaiterId = record { 0 = n } in w) (same_id a.0 b.0 i.1 g.1))
-          ]
-    ]
+same_tells = grind arith
 
 pub same_flips : (a b : WaiterId) → is_same a b ≡ false → is_same b a ≡ false
-same_flips a b is =
-    elim (same_tells b a) [
-      | inr other ↦ other.0
-      | inl same ↦ absurd (false≢true (sym is ∙ rw same.1 (rw same.1 at same.0)))
-    ]
+same_flips = grind arith
 
 -- a name that was left out isn't there
 pub among_without : (id : WaiterId) (ids : List WaiterId) → is_among id (without id ids) ≡ false

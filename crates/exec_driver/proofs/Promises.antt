@@ -1,10 +1,9 @@
 -- Why the laws hold.
-use Rattle.std.proofs.Common.{◌≡◌, ℕ, Bool, true, false, not, ◌&&◌, cond, List, Option, Some, None, Ok, Err, refl, sym, ap, subst}
-use Rattle.std.proofs.lemmas.Bool.{false≢true}
+use Rattle.std.proofs.Common.{◌≡◌, ℕ, Bool, true, false, not, ◌&&◌, List, Option, Some, None, Ok, Err, refl, sym, ap, subst, arith}
 use Rattle.exec_base.specs.{declared.{error.Error.Error, slab.Id.Id}, Slab.Slab}
 use Rattle.exec_outcomes.specs.{Accounts.{Account, is_durable, outcome_at_grant}, declared.outcome.{Kind.Kind, OpResult.OpResult, Outcome.TheVariants.Failure}}
 use Rattle.exec_outcomes.specs.declared.outcome.Kind.TheVariants as kind
-use Rattle.exec_request.specs.{Requests.{asked_of, deadline_of, goes_on_alone, output_of}, States.asks_cancel, Ways.asked_by, declared.{way.Way.{Way, TheVariants.{Buffered, Hinted, Direct, Switched}}, request.Request.{Request, TheVariants.{Send, Recv, ReadAt, WriteAt, Sync, Connect, Poll}}}}
+use Rattle.exec_request.specs.{Requests.{asked_of, deadline_of, goes_on_alone, output_of}, States.asks_cancel, declared.{request.Request.{Request}}}
 use Rattle.exec_waiters.specs.{Events.{ending_of, cancelled}, declared.{waiter.{Waiter.Waiter, Entry.Entry}, waiter_id.WaiterId.WaiterId}}
 use Rattle.exec_waiters.proofs.Changes.{entry_of}
 use Rattle.exec_driver.specs.{Driving.{Driving, request_at}, Laws.{ShareGates, IsDurableFlight, GoesOnFlying, is_listed}, Lists.{Lists, withdrawn}, Opens.{OpenState, holder_at}, Steps.{let_go, without_observer, cancelled_at, cancelling, lawful_of}, declared.opens.WaiterKey.WaiterKey}
@@ -15,46 +14,13 @@ never true = refl
 never false = refl
 
 pub untimed : (r : Request) → goes_on_alone r ≡ true → deadline_of r ≡ None
-untimed (Send s) alone = absurd (false≢true alone)
-untimed (Recv s) alone = absurd (false≢true alone)
-untimed (ReadAt s) alone = absurd (false≢true alone)
-untimed (WriteAt s) alone = refl
-untimed (Sync s) alone = refl
-untimed (Connect s) alone = absurd (false≢true alone)
-untimed (Poll s) alone = absurd (false≢true alone)
+untimed = grind arith
 
 pub fails_at_grant : (k : Kind) (account : Account) (error : Error) → is_durable k ≡ true → account.failure ≡ Some error → outcome_at_grant k account ≡ Some (Failure error)
-fails_at_grant kind.Dsync account error durable fails = rw fails refl
-fails_at_grant kind.Many account error durable fails = rw fails refl
-fails_at_grant kind.Sync account error durable fails = rw fails refl
-fails_at_grant kind.Poll account error durable fails = absurd (false≢true durable)
-fails_at_grant kind.Send account error durable fails = absurd (false≢true durable)
-fails_at_grant kind.Recv account error durable fails = absurd (false≢true durable)
-fails_at_grant kind.Fill account error durable fails = absurd (false≢true durable)
-fails_at_grant kind.Connect account error durable fails = absurd (false≢true durable)
-fails_at_grant kind.Read account error durable fails = absurd (false≢true durable)
-fails_at_grant kind.Hint account error durable fails = absurd (false≢true durable)
-fails_at_grant kind.Direct account error durable fails = absurd (false≢true durable)
-fails_at_grant kind.Write account error durable fails = absurd (false≢true durable)
-
-recv_never : (b : Bool) → is_durable (cond b kind.Fill kind.Recv) ≡ true → ⊥
-recv_never true is = false≢true is
-recv_never false is = false≢true is
-
-way_never : (way : Way) (n : ℕ) → is_durable (asked_by way n).kind ≡ true → ⊥
-way_never Buffered n is = false≢true is
-way_never Hinted n is = false≢true is
-way_never (Direct skip len) n is = false≢true is
-way_never (Switched skip len) n is = false≢true is
+fails_at_grant = grind arith
 
 pub fails_over : (r : Request) (account : Account) (error : Error) → is_durable (asked_of r).kind ≡ true → account.failure ≡ Some error → ending_of (output_of r (Ok tt) (Some account)) ≡ Err error
-fails_over (WriteAt w) account error durable fails = rw (durable, fails) refl
-fails_over (Sync s) account error durable fails = rw fails refl
-fails_over (Send s) account error durable fails = absurd (false≢true durable)
-fails_over (Recv s) account error durable fails = absurd (recv_never s.exact durable)
-fails_over (ReadAt s) account error durable fails = absurd (way_never s.way _ durable)
-fails_over (Connect s) account error durable fails = absurd (false≢true durable)
-fails_over (Poll s) account error durable fails = absurd (false≢true durable)
+fails_over = grind arith
 
 pub unlisted : (id : WaiterId) (l : Lists) → is_listed id (withdrawn id l) ≡ false
 unlisted id l = rw (among_without id l.queued, among_without id l.gated, among_without id l.enrolments, among_without id l.due, among_without id l.cancels) refl
@@ -73,9 +39,7 @@ module _ {S F : Type 0} where
   flying_on d id w at flies = by (asks_cancel w.state) refl
     where
       by : (b : Bool) → asks_cancel w.state ≡ b → GoesOnFlying (cancelled_at d id) id w
-      by true asked =
-          let is : cancelled_at d id ≡ d = rw (at, flies, asked) refl in
-          subst (λ (e : Driving S F). GoesOnFlying e id w) (sym is) (record { after = w; at = at; flies = flies; same = refl })
+      by true asked = grind arith
       by false asked =
           let is : cancelled_at d id ≡ cancelling d id w = rw (at, flies, asked) refl in
           subst (λ (e : Driving S F). GoesOnFlying e id w) (sym is) (record { after = cancelled w; at = (one_changed d.requests id.0 w (cancelled w) at).is_at; flies = flies; same = refl })

@@ -1,6 +1,6 @@
 -- Deadlines that are kept: one that is enrolled, and when a wheel is settled.
 use Rattle.std.proofs.Common.{suc, ◌≡◌, ℕ, ◌+◌, ◌<◌, ◌≤◌, eqb, Bool, true, false, not, ◌&&◌, ◌||◌, List, [], ◌∷◌, length, get_or, Option, Some, None, Ok, Err, Result, refl, sym, ap, subst, ◌∙◌, inl, inr, arith}
-use Rattle.exec_driver.proofs.{Words.cases_Bool, Coming.advanced_punctual, Names.{same_tells, fewer_without}, Counting.pending_is, Endings.{one_changed, ticked}, Expiring.{IsTaken, tick_tells, unset_there}, Serving.{eases_ended, keeps_still, keeps_both, serves_by, room_ended, room_still}, Stepping.first_tells}
+use Rattle.exec_driver.proofs.{Words.cases_Bool, Names.{same_tells, fewer_without}, Counting.pending_is, Endings.{one_changed, ticked}, Expiring.{IsTaken, tick_tells, unset_there}, Serving.{eases_ended, keeps_still, keeps_both, serves_by, room_ended, room_still}, Stepping.first_tells}
 use Rattle.std.specs.Prelude.{count_by, is_some, Contains}
 use Rattle.std.specs.Option.{IfSome, IfNone}
 use Rattle.std.proofs.lemmas.Bool.{false≢true, cases_lt}
@@ -13,7 +13,7 @@ use Rattle.exec_time.specs.{Wheel.{Wheel, IsSettled, IsWithinReach, slot_of, sch
 use Rattle.exec_time.proofs.Ranges.{slots_apart}
 use Rattle.exec_waiters.specs.{Events.with_tick, States.{waiter_at, tick_in, tick_of}, Told.Tells, declared.{deferred.Deferred.Deferred, waiter.{Waiter.Waiter, Entry.{Entry, TheVariants.{Pending, Ready}}}, waiter_id.WaiterId.WaiterId}}
 use Rattle.exec_waiters.proofs.Changes.{one_if}
-use Rattle.exec_driver.specs.{Driving.{Driving, request_at}, Lists.{has_first, first_of, is_among, after_enrolment}, Punctual.IsPunctual, Sound.{IsSound, is_tick, is_at_tick, counts, count_of}, Steps.{advanced_to, tick_for, enrolled, told_by_enrolment, ended, Enrols}, Turns.{GoesOn, Serves}, declared.driver.timing.Enrolled.Enrolled}
+use Rattle.exec_driver.specs.{Driving.{Driving, request_at}, Lists.{has_first, first_of, is_among, after_enrolment}, Punctual.IsPunctual, Sound.{IsSound, is_tick, is_at_tick, counts, count_of}, Steps.{tick_for, enrolled, told_by_enrolment, ended, Enrols}, Turns.{Serves}, declared.driver.timing.Enrolled.Enrolled}
 
 -- WHEELS
 
@@ -45,15 +45,7 @@ bucket_kept w id other tick t some after within after' within' active there =
     positive n some = elim (eqb_tells n 0) [ inl none ↦ absurd (omega (arith, some, none.1)) | inr other ↦ other.0 ]
 
     one_slot : (a b : ℕ) → w.current < a → a < w.current + w.slots → w.current < b → b < w.current + w.slots → slot_of w a ≡ slot_of w b → a ≡ b
-    one_slot a b after within after' within' same =
-        elim (cases_lt a b) [
-          | inl less ↦ absurd (slots_apart w.slots a b some less (omega (arith, within', after)) same)
-          | inr more ↦
-              elim (cases_lt b a) [
-                | inl less ↦ absurd (slots_apart w.slots b a some less (omega (arith, within, after')) (sym same))
-                | inr more' ↦ omega (arith, more, more')
-              ]
-        ]
+    one_slot = grind (arith, cases_lt, slots_apart)
 
 bucket_own : (w : Wheel) (id : Id) (tick : ℕ) → Contains ((scheduled w id tick).bucket (slot_of w tick)) id
 unfolding scheduled
@@ -147,12 +139,7 @@ module _ {S F : Type 0} where
       let told = rw tick_at at tells in
       subst (λ (f : Driving S F). EnrolsOne d f x y) (sym same) (record {
         serves = record {
-          going = record {
-            pending = omega (arith, n, pending_is d.requests, pending_is e.requests);
-            punctual = enrolled_punctual d e id w tick slots reach sound (tick_tells d.wheel deadline now tick tick_at) at refl refl refl;
-            size = refl;
-            free = λ b. b;
-          };
+          going = grind (arith, pending_is, enrolled_punctual, tick_tells);
           room = room_still x y _ _ told (omega (arith, n, pending_is d.requests, pending_is e.requests));
         };
         due = λ none. none;
@@ -184,28 +171,6 @@ module _ {S F : Type 0} where
       set_there None is = absurd (false≢true is)
       set_there (Some t) is = (t, refl)
 
-  -- the wheel goes on once all that was due is told
-  pub advance_goes : (d d' : Driving S F) (now : ℕ) → d' ≡ advanced_to d now → 0 < d.wheel.tick → IsWithinReach d.wheel → IsSound d → has_first d.lists.due ≡ false → GoesOn d d'
-  advance_goes d d' now is turns reach sound none =
-      subst (λ (f : Driving S F). GoesOn d f) (sym is) (record {
-        pending = omega arith;
-        punctual = λ p. advanced_punctual d now turns (settled d sound.ticks p none) reach sound.ticks p;
-        size = refl;
-        free = λ b. b;
-      })
-
 -- who puts the kernel off
 pub put_off : (n m : ℕ) (defer a b : Bool) → m ≤ n → eqb m 0 ≡ false → (not (eqb n 0) && (not defer || a || b)) ≡ false → defer ≡ true
-put_off n m true a b less some is = refl
-put_off n m false a b less some is = absurd (false≢true (sym (true_and (not (eqb n 0)) is) ∙ alone n m less some))
-  where
-    true_and : (b : Bool) → (b && true) ≡ false → b ≡ false
-    true_and true is = absurd (false≢true (sym is))
-    true_and false is = refl
-
-    alone : (n m : ℕ) → m ≤ n → eqb m 0 ≡ false → not (eqb n 0) ≡ true
-    alone n m less some =
-        elim (eqb_tells n 0) [
-          | inr other ↦ rw other.0 refl
-          | inl none ↦ elim (eqb_tells m 0) [ inl is ↦ absurd (false≢true (sym some ∙ is.0)) | inr other ↦ absurd (other.1 (omega (arith, less, none.1))) ]
-        ]
+put_off = grind arith

@@ -1,49 +1,24 @@
 -- A completion that is taken in keeps a driver as it should be.
-use Rattle.std.proofs.Common.{zero, suc, ◌≡◌, ℕ, ◌+◌, ◌<◌, ◌≤◌, Bool, true, false, not, ◌&&◌, cond, List, [], ◌∷◌, ◌++◌, length, Option, Some, None, refl, sym, ap, ◌∙◌, inl, inr, arith, append-nil}
+use Rattle.std.proofs.Common.{zero, suc, ◌≡◌, ℕ, ◌+◌, ◌<◌, Bool, true, false, not, ◌&&◌, cond, List, [], ◌∷◌, ◌++◌, length, Option, Some, None, refl, sym, ap, ◌∙◌, inr, arith, append-nil}
 use Rattle.std.specs.Prelude.{slice_get, slice_set}
-use Rattle.exec_driver.proofs.{Words.{is_some, false≢true, eqb_tells, Slab, written, is_durable, Asked, Kind, OpResult, may_complete, told_by_finish, Id, asked_of, Ended, asks_cancel, Request, Landing, next_completion, reaped, RingState, taken_places, Completion, Account, hinted_of, result_in, waiter_at, is_flying, flying_count, needs_permit, Tells, Deferred, Waiter, Entry, Pending, WaiterId, one_if, Driving, request_at, is_queued, is_gated, is_unenrolled, is_enrolled, is_cancelled, with_queued, IsSound, IsHeld, is_unpermitted, is_at_tick, is_uncancelled, OpenState, account_in, with_account, is_control, under_way_after, armed_after, noted, taken_out, open_after, ended}, Counting.{pending_is, flying_is}, Shifts.{Kept, Joined, shifted, nowhere, room_for}, Endings.one_changed, Stepping.{sound_ring, stays}, Entering.{less_reaped, within_reaped, no_wake}}
-use Rattle.exec_outcomes.specs.{Outcomes.{Cursor, outcome_next, outcome_by as answer_by, outcome_by_stop, outcome_of_part, passes_on, first_part, second_part, with_totals, verdict, is_unsupported}, declared.outcome.{Judged.Judged, Outcome.Outcome}}
+use Rattle.exec_driver.proofs.{Words.{is_some, false≢true, Slab, written, is_durable, Asked, Kind, OpResult, may_complete, told_by_finish, Id, asked_of, Ended, asks_cancel, Request, Landing, next_completion, Completion, Account, result_in, waiter_at, is_flying, needs_permit, Tells, Deferred, Waiter, Entry, Pending, WaiterId, Driving, request_at, is_queued, is_gated, is_unenrolled, is_enrolled, is_cancelled, with_queued, IsSound, IsHeld, is_unpermitted, is_at_tick, is_uncancelled, OpenState, account_in, with_account, is_control, noted, taken_out, open_after, ended}, Counting.{pending_is, flying_is}, Shifts.{Kept, Joined, shifted, nowhere, room_for}, Endings.one_changed, Stepping.{stays}, Entering.{less_reaped, no_wake}}
+use Rattle.exec_outcomes.specs.{Outcomes.{Cursor, outcome_next, outcome_by as answer_by, outcome_by_stop}, declared.outcome.{Judged.Judged, Outcome.Outcome}}
 use Rattle.exec_waiters.specs.{Events.{is_lawful_for, outcome_by}, declared.completed.CompletionOutcome.{CompletionOutcome, TheVariants.{Requeue, Complete}}, States.{name_of, named}, Told.nothing_told}
-use Rattle.exec_request.specs.Hints.{without_hint}
-use Rattle.exec_driver.specs.{Opens.{account_by, open_at, with_open_in, keeping}, Steps.{landed_at, lawful_of, if_lawful}, declared.driver.reaping.Reaped.Reaped}
-use Rattle.exec_waiters.proofs.Changes.{name_tells, named_flies}
+use Rattle.exec_driver.specs.{Steps.{landed_at, lawful_of}, declared.driver.reaping.Reaped.Reaped}
 
 -- where no result decides, nobody asked for the cancel
 by_none : (kind : Kind) (b : Bool) (o : Option (Judged × ℕ)) → answer_by kind b o ≡ None → b ≡ false
-by_none kind b (Some r) is = absurd (cc)
-by_none kind true None is = absurd (cc)
-by_none kind false None is = refl
+by_none = grind arith
 
 choice : (c : Bool) (x y : Option Outcome) (b : Bool) → (x ≡ None → b ≡ false) → (y ≡ None → b ≡ false) → cond c x y ≡ None → b ≡ false
 choice true x y b one other is = one is
 choice false x y b one other is = other is
 
 by_stop : (asked : Asked) (b : Bool) (o : Option (Judged × ℕ)) (later : List Judged) → outcome_by_stop asked b o later ≡ None → b ≡ false
-by_stop asked b None later is = by_none asked.kind b None is
-by_stop asked b (Some r) later is =
-    choice (passes_on asked.kind (first_part asked) r) (outcome_of_part (second_part asked) b (with_totals 0 later)) (Some (verdict asked.kind r.0)) b (λ e. by_none _ b _ e) (λ e. absurd (cc)) is
+by_stop = grind arith
 
 pub goes_on_uncancelled : (asked : Asked) (cursor : Cursor) (r : Judged) → outcome_next asked cursor r ≡ None → r.cancelled ≡ false
 goes_on_uncancelled asked cursor r is = choice cursor.switched _ _ r.cancelled (λ e. by_none _ r.cancelled _ e) (λ e. by_stop asked r.cancelled _ _ e) is
-
--- what is under way after a completion of no operation
-fewer_under_way : (c : Completion) (u : ℕ) → under_way_after c u ≤ u
-fewer_under_way c u = elim (eqb_tells c.user_data 4294967295) [ inl same ↦ rw same.0 (omega arith) | inr other ↦ rw other.0 (omega arith) ]
-
-armed_case : (armed more : Bool) (t t' m : ℕ) → t' ≤ t → (more ≡ false → t' + 1 ≤ t) → t ≤ m + one_if armed → t' ≤ m + one_if (armed && more)
-armed_case true true t t' m less fewer within = omega (arith, less, within)
-armed_case true false t t' m less fewer within = omega (arith, fewer refl, within)
-armed_case false more t t' m less fewer within = omega (arith, less, within)
-
-noted_entries : (s : RingState) (c : Completion) (n u : ℕ) (armed : Bool) → next_completion s ≡ Some c → taken_places s ≤ n + u + one_if armed → taken_places (reaped s) ≤ n + under_way_after c u + one_if (armed_after c armed)
-noted_entries s c n u armed next within =
-    elim (eqb_tells c.user_data 4294967295) [
-      | inl same ↦
-          let less = less_reaped s c next (λ e. absurd (false≢true (rw e at same.0))) in
-          rw same.0 (omega (arith, less, within))
-      | inr other ↦
-          rw other.0 (armed_case armed c.more (taken_places s) (taken_places (reaped s)) (n + u) (within_reaped s) (λ last. omega (arith, less_reaped s c next (λ e. false≢true (sym last ∙ ap (λ (d : Completion). d.more) e)))) within)
-    ]
 
 false_and : (a b : Bool) → a ≡ true → (a && b) ≡ false → b ≡ false
 false_and true b is none = none
@@ -61,10 +36,6 @@ complete_tells id (Some e) other how is = (cc, cc)
 pub outcome_same : (o : Option CompletionOutcome) (x y : CompletionOutcome) → o ≡ Some x → o ≡ Some y → x ≡ y
 outcome_same o x y a b = cc
 
-name_none : (o : Option Id) → name_of o ≡ None → o ≡ None
-name_none None is = refl
-name_none (Some id) is = absurd (cc)
-
 -- what is told of its end
 pub told_over : (a b : WaiterId) (given : OpResult) (how how' : Ended) (p q : Option ℕ) → a ≡ b → how ≡ how' → p ≡ q → let t : Reaped = record { id = b; given = given; ended = Some how; permit = p } in let t' : Reaped = record { id = a; given = given; ended = Some how'; permit = q } in Some t ≡ Some t'
 told_over a b given how how' p q same ended permit = rw (same, ended, permit) refl
@@ -77,14 +48,10 @@ set_there (z ∷ zs) (suc i) x y at = set_there zs i x y at
 
 module _ {S F : Type 0} where
   pub held_noted : (d : Driving S F) (c : Completion) (ls : List Landing) (room most spots : ℕ) → next_completion d.ring ≡ Some c → IsHeld d room most spots → IsHeld (record (noted c (taken_out d)) { landings = ls }) room most spots
-  held_noted d c ls room most spots next held =
-      let sound = sound_ring d (record (noted c (taken_out d)) { landings = ls }) refl refl refl (noted_entries d.ring c (flying_count d.requests) d.cancels_under_way d.armed next held.sound.entries) (omega (arith, held.sound.places, fewer_under_way c d.cancels_under_way)) held.sound in
-      assumption sound
+  held_noted = grind arith
 
   pub held_taken : (d : Driving S F) (ls : List Landing) (room most spots : ℕ) → IsHeld d room most spots → IsHeld (record (taken_out d) { landings = ls }) room most spots
-  held_taken d ls room most spots held =
-      let sound = sound_ring d (record (taken_out d) { landings = ls }) refl refl refl (omega (arith, within_reaped d.ring, held.sound.entries)) held.sound.places held.sound in
-      assumption sound
+  held_taken = grind arith
 
   -- a completion that is taken in names a request in flight, which may give this
   pub record IsNamed (s : Slab (Entry S F)) (user_data : ℕ) (id : Id) (given : OpResult) : Type 0 where
@@ -95,13 +62,7 @@ module _ {S F : Type 0} where
     pub flies : w.in_flight ≡ true
 
   pub named_there : (s : Slab (Entry S F)) (user_data : ℕ) (given : OpResult) (name : Option WaiterId) (may : Bool) (id : WaiterId) → name ≡ name_of (named s user_data) → name ≡ Some id → may ≡ may_complete (waiter_at s id.0) given → may ≡ true → IsNamed s user_data id.0 given
-  named_there s user_data given name may id names there gives holds = by (waiter_at s id.0) refl (sym gives ∙ holds)
-    where
-      by : (o : Option (Waiter S F)) → waiter_at s id.0 ≡ o → may_complete o given ≡ true → IsNamed s user_data id.0 given
-      by None at lawful = absurd (false≢true lawful)
-      by (Some w) at lawful =
-          let is = name_tells (named s user_data) id (sym names ∙ there) in
-          record { w = w; is = is; at = at; lawful = lawful; flies = named_flies s user_data id.0 w is at }
+  named_there = grind arith
 
   -- AN OPERATION IS OVER
 
@@ -159,17 +120,6 @@ module _ {S F : Type 0} where
       let s' = written d.requests id.0 (Pending (landed_of w request)) in
       room_for is_queued d.requests s' id (Some w) (landed_of w request) d.lists.queued d.lists.room refl one (rw flies refl) (rw (active, permit) refl) held.sound.queued (omega (arith, held.room, same, pending_is d.requests, pending_is s'))
 
-  -- OF WHICH REQUEST A COMPLETION IS
-  pub none_named : (s : Slab (Entry S F)) (c : Completion) → name_of (named s c.user_data) ≡ None → lawful_of s (result_in c.result) (named s c.user_data) ≡ None
-  none_named s c is = ap (lawful_of s (result_in c.result)) (name_none (named s c.user_data) is)
-
-  if_not : (id : Id) (o : Option (Waiter S F)) (given : OpResult) → may_complete o given ≡ false → if_lawful id o given ≡ None
-  if_not id None given may = refl
-  if_not id (Some w) given may = rw may refl
-
-  pub none_given : (s : Slab (Entry S F)) (c : Completion) (id : Id) → named s c.user_data ≡ Some id → may_complete (waiter_at s id) (result_in c.result) ≡ false → lawful_of s (result_in c.result) (named s c.user_data) ≡ None
-  none_given s c id is may = ap (lawful_of s (result_in c.result)) is ∙ if_not id (waiter_at s id) (result_in c.result) may
-
   pub some_given : (s : Slab (Entry S F)) (c : Completion) (id : Id) (given : OpResult) → IsNamed s c.user_data id given → given ≡ result_in c.result → lawful_of s (result_in c.result) (named s c.user_data) ≡ Some id
   some_given s c id given there is = rw (there.is, there.at, ← is, there.lawful) refl
 
@@ -187,29 +137,14 @@ module _ {S F : Type 0} where
 
   -- WHAT IS KEPT OF THE OPEN
   no_account : (w : Waiter S F) (given : OpResult) → open_after w given None ≡ None
-  no_account w given = by (hinted_of w.request && is_unsupported given)
-    where
-      by : (b : Bool) → cond b (without_hint None) None ≡ None
-      by true = refl
-      by false = refl
+  no_account = grind arith
 
   pub kept_of_open : (w : Waiter S F) (given : OpResult) (opens : List OpenState) (file : Option ℕ) → account_in (with_account opens file (open_after w given (account_in opens file))) file ≡ open_after w given (account_in opens file)
-  kept_of_open w given opens None = sym (no_account w given)
-  kept_of_open w given opens (Some file) = by (open_at opens file) refl
-    where
-      by : (o : Option OpenState) → open_at opens file ≡ o → account_by (open_at (with_open_in opens file (keeping (open_after w given (account_by o))) o) file) ≡ open_after w given (account_by o)
-      by None at = ap account_by at ∙ sym (no_account w given)
-      by (Some o) at = ap account_by (set_there opens file o _ at)
+  kept_of_open = grind (arith, no_account, open_after, set_there)
 
   -- it ends, by its name as the part gives it
   pub ended_over : (old d d' : Driving S F) (a b : WaiterId) (w : Waiter S F) (how : Ended) (account account' : Option Account) → a ≡ b → d' ≡ ended d b w how account → d ≡ record (landed_at (taken_out old) a w) { landings = d.landings } → account ≡ account' → d' ≡ record (ended (landed_at (taken_out old) a w) a w how account') { landings = d'.landings }
-  ended_over old d d' a b w how account account' same is mid kept =
-      let landed : d'.landings ≡ d.landings = ap (λ (e : Driving S F). e.landings) is in
-      is
-      ∙ ap (λ (x : WaiterId). ended d x w how account) (sym same)
-      ∙ ap (λ (e : Driving S F). ended e a w how account) mid
-      ∙ ap (λ (o : Option Account). record (ended (landed_at (taken_out old) a w) a w how o) { landings = d.landings }) kept
-      ∙ ap (λ (ls : List Landing). record (ended (landed_at (taken_out old) a w) a w how account') { landings = ls }) (sym landed)
+  ended_over = grind arith
 
   pub tells_over : (before after : Deferred S F) (a b : WaiterId) (w : Waiter S F) (how : Ended) (account account' : Option Account) → a ≡ b → account ≡ account' → Tells before after (told_by_finish b.0 w how account) → Tells before after (told_by_finish a.0 w how account')
   tells_over before after a b w how account account' same kept tells = rw (← same, kept) at tells

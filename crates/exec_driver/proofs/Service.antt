@@ -1,12 +1,12 @@
 -- The steps of a service, as its parts make them.
-use Rattle.std.proofs.Common.{◌≡◌, ℕ, ◌+◌, ◌^◌, ◌<◌, Bool, true, false, not, ◌&&◌, ◌||◌, cond, List, [], Option, Some, None, refl, sym, ap, subst, ◌∙◌, inl, inr}
+use Rattle.std.proofs.Common.{◌≡◌, ℕ, ◌+◌, ◌^◌, ◌<◌, Bool, true, false, not, ◌&&◌, ◌||◌, cond, List, [], Option, Some, None, refl, sym, ap, subst, ◌∙◌, inl, inr, arith}
 use Rattle.std.specs.Prelude.{is_none}
 use Rattle.std.specs.Option.{IfSome, IfNone, SomeIff}
 use Rattle.std.proofs.lemmas.Bool.{false≢true}
 use Rattle.exec_time.specs.Turning.{advanced}
 use Rattle.exec_waiters.specs.{States.file_of, Told.Tells, declared.{deferred.Deferred.Deferred, waiter.Waiter.Waiter, waiter_id.WaiterId.WaiterId}}
-use Rattle.exec_driver.specs.{Driving.{Driving, request_at, is_full, may_stage_one, has_pending}, Examples.idle, Lists.{has_first, first_of}, Opens.{OpenState, account_in, holder_at}, Sharing.permit_by, Service.{Repeats, NoStep, OneMore, Passes, permit_of, reached, ReapsOne, ExpiresOne, EnrolsOne, GrantsAt, Turn, NoTurn, StagesEntry, Cancel, Request, WakePoll, Staged, is_unstaged, Parks, Refused, Waited, NoGate, ServesInOrder, entered_if}, Steps.{ReapsNext, Grants, Enrols, StagesOne, is_turn_of, expired, told_by_cancel, cancel_staged, poll_staged, with_landings}, declared.driver.{reaping.Reaped.Reaped, staging.Granted.Granted, timing.Enrolled.Enrolled}, Turns.{made_way, may_wait}}
-use Rattle.exec_driver.proofs.{Queues.IsEntered, Turns.{no_first, none_staged, never, way_may}, Words.{cases_Bool, and_parts, and_from, or_parts, or_left, or_right, not-false}}
+use Rattle.exec_driver.specs.{Driving.{Driving, request_at, is_full, may_stage_one, has_pending}, Examples.idle, Lists.{has_first, first_of}, Opens.{OpenState, account_in, holder_at}, Sharing.permit_by, Service.{Repeats, NoStep, OneMore, Passes, permit_of, reached, ReapsOne, ExpiresOne, EnrolsOne, GrantsAt, Turn, NoTurn, StagesEntry, Cancel, Request, WakePoll, Staged, Parks, Refused, Waited, NoGate, ServesInOrder, entered_if}, Steps.{ReapsNext, Grants, Enrols, StagesOne, is_turn_of, expired, told_by_cancel, cancel_staged, poll_staged, with_landings}, declared.driver.{reaping.Reaped.Reaped, staging.Granted.Granted, timing.Enrolled.Enrolled}, Turns.{made_way, may_wait}}
+use Rattle.exec_driver.proofs.{Turns.{no_first, none_staged, way_may}, Words.{cases_Bool, and_parts, and_from}}
 
 module _ {A : Type 0} (Step : A → A → Type 0) where
   pub repeats_both : (a b c : A) → Repeats Step a b → Repeats Step b c → Repeats Step a c
@@ -73,20 +73,6 @@ module _ {S F : Type 0} where
             ]
       ]
 
-  -- something is to be staged: a cancel or a request, or the wake poll, where the queue has no room for it
-  pub unstaged_so : (d : Driving S F) → (has_first d.lists.cancels || may_stage_one d) ≡ true → is_unstaged d ≡ true
-  unstaged_so d some =
-      elim (cases_Bool (has_first d.lists.cancels)) [
-        | inl some_cancel ↦ or_left (has_first d.lists.cancels) _ some_cancel
-        | inr none ↦ let may : may_stage_one d ≡ true = rw none at some in or_right (has_first d.lists.cancels) _ (or_left (may_stage_one d) (not d.armed) may)
-      ]
-
-  pub poll_left : (d d' : Driving S F) → (d.armed || not (is_full d)) ≡ false → ((d.armed || is_full d) ≡ true → d' ≡ d) → is_unstaged d' ≡ true
-  poll_left d d' refused same =
-      let parts = or_parts d.armed (not (is_full d)) refused in
-      let same_now = same (or_right d.armed (is_full d) (not-false (is_full d) parts.1)) in
-      ap (λ (x : Driving S F). is_unstaged x) same_now ∙ or_right (has_first d.lists.cancels) _ (or_right (may_stage_one d) (not d.armed) (ap not parts.0))
-
   -- PARK
 
   pub may_after : (d e : Driving S F) → e ≡ with_landings e (made_way d) → has_pending e ≡ false → (e.armed || not (is_full e)) ≡ true → may_wait d ≡ true
@@ -95,22 +81,11 @@ module _ {S F : Type 0} where
   pub pending_refused : (calm : Bool) (d e : Driving S F) → e ≡ with_landings e (made_way d) → has_pending e ≡ true → Parks calm d e
   pending_refused calm d e way pending = Refused (way_may d e way ∙ ap (λ (b : Bool). not b && (e.armed || not (is_full e))) pending) way
 
-  pub no_wait : (calm : Bool) (d e d' : Driving S F) → e ≡ with_landings e (made_way d) → (e.armed || not (is_full e)) ≡ false → ((e.armed || is_full e) ≡ true → d' ≡ e) → Parks calm d d'
-  no_wait calm d e d' way room same =
-      let full : (e.armed || is_full e) ≡ true = or_right e.armed (is_full e) (not-false (is_full e) ((or_parts e.armed (not (is_full e)) room).1)) in
-      subst (λ (x : Driving S F). Parks calm d x) (sym (same full)) (Refused (way_may d e way ∙ ap (λ (b : Bool). not (has_pending e) && b) room ∙ never (not (has_pending e))) way)
-
   pub waited : (calm : Bool) (d e f d' : Driving S F) → e ≡ with_landings e (made_way d) → has_pending e ≡ false → (e.armed || not (is_full e)) ≡ true → f ≡ with_landings f (cond e.armed e (cond (is_full e) e (poll_staged e))) → d' ≡ with_landings d' (entered_if calm f) → Parks calm d d'
   waited calm d e f d' way calls room polls enters = Waited e f (may_after d e way calls room) way (out (is_full e) e.armed polls room) enters
     where
       out : (full armed : Bool) → f ≡ with_landings f (cond armed e (cond full e (poll_staged e))) → (armed || not full) ≡ true → f ≡ with_landings f (cond armed e (poll_staged e))
-      out full true is room = is
-      out false false is room = is
-      out true false is room = absurd (false≢true room)
-
-  -- an enter that takes nothing leaves the queue full
-  pub still_full : (d d' : Driving S F) → IsEntered d.ring d'.ring → d.ring.busy ≡ true → is_full d ≡ true → is_full d' ≡ true
-  still_full d d' e busy full = rw (e.left busy, e.size) full
+      out = grind arith
 
 -- A service of a driver without requests stages the wake poll, and makes no other step.
 pub idle_served : (told : Deferred ℕ ℕ) → ServesInOrder 3 0 false false (reached idle [] told None) (reached (poll_staged idle) [] told None)

@@ -8,9 +8,9 @@ use Rattle.exec_outcomes.specs.{Accounts.Account, declared.outcome.OpResult.OpRe
 use Rattle.exec_request.specs.States.{Ended}
 use Rattle.exec_ring.specs.{Kernels.reaped, declared.completion.Posted.Posted}
 use Rattle.exec_time.specs.Wheel.{Wheel, removed}
-use Rattle.exec_waiters.specs.{Events.told_by_finish, States.{pending_count, tick_in, tick_of, file_of}, Told.{HasPlaces, Tells, nothing_told}, declared.{deferred.Deferred.Deferred, waiter.{Waiter.Waiter, Entry.TheVariants.Pending}, waiter_id.WaiterId.WaiterId}}
+use Rattle.exec_waiters.specs.{Events.told_by_finish, States.{pending_count, tick_in, tick_of}, Told.{HasPlaces, Tells, nothing_told}, declared.{deferred.Deferred.Deferred, waiter.{Waiter.Waiter, Entry.TheVariants.Pending}, waiter_id.WaiterId.WaiterId}}
 use Rattle.exec_waiters.proofs.Changes.{one_if}
-use Rattle.exec_driver.specs.{Driving.{Driving, request_at}, Lists.{Lists, has_first, is_among, is_same, without}, Opens.{OpenState, account_in}, Steps.{open_after, is_control, unscheduled, ended, noted, swept_from, taken_out, landed_at, judged_as_over, told_by_end, Reaps}, Punctual.IsPunctual, Turns.{CanTell, GoesOn, Serves, StaysDone}, declared.driver.reaping.Reaped.Reaped}
+use Rattle.exec_driver.specs.{Driving.{Driving, request_at}, Lists.{has_first, is_among, is_same, without}, Opens.{OpenState}, Steps.{is_control, unscheduled, ended, noted, swept_from, taken_out, landed_at, judged_as_over, told_by_end, Reaps}, Punctual.IsPunctual, Turns.{CanTell, GoesOn, Serves, StaysDone}, declared.driver.reaping.Reaped.Reaped}
 
 -- a list without a name is empty where it was, and has every other that it had
 pub none_without : (id : WaiterId) (ids : List WaiterId) → has_first ids ≡ false → has_first (without id ids) ≡ false
@@ -48,13 +48,7 @@ module _ {S F : Type 0} where
   goes_itself d = record { pending = omega arith; punctual = λ p. p; size = refl; free = λ b. b }
 
   pub goes_both : (d e f : Driving S F) → GoesOn d e → GoesOn e f → GoesOn d f
-  goes_both d e f one other =
-      record {
-        pending = omega (arith, one.pending, other.pending);
-        punctual = λ p. other.punctual (one.punctual p);
-        size = other.size ∙ one.size;
-        free = λ b. other.free (one.free b);
-      }
+  goes_both = grind arith
 
   pub serves_itself : (d : Driving S F) (told : Deferred S F) → Serves d d told told
   serves_itself d told = record { going = goes_itself d; room = λ r. r }
@@ -66,26 +60,12 @@ module _ {S F : Type 0} where
   done_itself d = record { due = λ n. n; enrolments = λ n. n; cancels = λ n. n }
 
   pub done_both : (d e f : Driving S F) → StaysDone d e → StaysDone e f → StaysDone d f
-  done_both d e f one other =
-      record {
-        due = λ n. other.due (one.due n);
-        enrolments = λ n. other.enrolments (one.enrolments n);
-        cancels = λ n. other.cancels (one.cancels n);
-      }
+  done_both = grind arith
 
   -- WHAT IS TOLD
 
   pub room_still : (d d' : Deferred S F) (n m : ℕ) → Tells d d' nothing_told → m ≤ n → HasPlaces d (n + 1) → HasPlaces d' (m + 1)
-  room_still d d' n m tells fewer room =
-      record {
-        notes = record {
-          wakes = omega (arith, fewer, room.notes.wakes, tells.notes.wakes_memory, same_long d.notes.wakes.items d'.notes.wakes.items tells.notes.wakes_added, d.notes.wakes.ok.0, d'.notes.wakes.ok.0);
-          completions = omega (arith, fewer, room.notes.completions, tells.notes.completions_memory, same_long d.notes.completions.items d'.notes.completions.items tells.notes.completions_added, d.notes.completions.ok.0, d'.notes.completions.ok.0);
-        };
-        outputs = omega (arith, fewer, room.outputs, tells.outputs_memory, same_long d.outputs.items d'.outputs.items tells.outputs_added, d.outputs.ok.0, d'.outputs.ok.0);
-        resources = omega (arith, fewer, room.resources, tells.resources_memory, same_long d.resources.items d'.resources.items tells.resources_added, d.resources.ok.0, d'.resources.ok.0);
-        results = omega (arith, fewer, room.results, tells.results_memory, same_long d.results.items d'.results.items tells.results_added, d.results.ok.0, d'.results.ok.0);
-      }
+  room_still = grind (arith, same_long)
 
   -- WHAT A STEP CHANGES
 
@@ -99,47 +79,19 @@ module _ {S F : Type 0} where
     pub free : d.ring.busy ≡ false → d'.ring.busy ≡ false
 
   pub keeps_both : (d e f : Driving S F) → Keeps d e → Keeps e f → Keeps d f
-  keeps_both d e f one other =
-      record {
-        pending = omega (arith, one.pending, other.pending);
-        ticks = λ id t is. one.ticks id t (other.ticks id t is);
-        due = λ id t is among. other.due id t is (one.due id t (other.ticks id t is) among);
-        wheel = record { current = other.wheel.current ∙ one.wheel.current; bucket = other.wheel.bucket ∙ one.wheel.bucket; slots = other.wheel.slots ∙ one.wheel.slots };
-        size = other.size ∙ one.size;
-        free = λ b. other.free (one.free b);
-      }
+  keeps_both = grind arith
 
   -- a change of neither requests, wheel nor what is due
   pub keeps_still : (d d' : Driving S F) → d'.requests ≡ d.requests → d'.wheel ≡ d.wheel → d'.lists.due ≡ d.lists.due → d'.ring.size ≡ d.ring.size → (d.ring.busy ≡ false → d'.ring.busy ≡ false) → Keeps d d'
-  keeps_still d d' requests wheel due size free =
-      record {
-        pending = rw requests (omega arith);
-        ticks = λ id t is. rw requests at is;
-        due = λ id t is among. rw due among;
-        wheel = record { current = ap (λ (w : Wheel). w.current) wheel; bucket = ap (λ (w : Wheel). w.bucket) wheel; slots = ap (λ (w : Wheel). w.slots) wheel };
-        size = size;
-        free = free;
-      }
+  keeps_still = grind arith
 
   -- one request changed, and its deadline stays where it is, or goes
   pub keeps_one : (d d' : Driving S F) (id : WaiterId) (w : Waiter S F) (is : Option (Waiter S F)) → OneChanged d.requests d'.requests id.0 (Some w) is → ((t : ℕ) → tick_of is ≡ Some t → (tick_in w.state ≡ Some t) × (d'.lists.due ≡ d.lists.due)) → (d'.lists.due ≡ d.lists.due) ⊎ (d'.lists.due ≡ without id d.lists.due) → IsLike d.wheel d'.wheel → d'.ring.size ≡ d.ring.size → d'.ring.busy ≡ d.ring.busy → Keeps d d'
   keeps_one d d' id w is one at due wheel size busy =
       record {
         pending = let n = one.numbers is_some refl in omega (arith, n, at_most_one (is_some is), pending_is d.requests, pending_is d'.requests);
-        ticks = λ other t at'.
-            elim (same_tells other id) [
-              | inl same ↦ rw same.1 (ap tick_of one.was_at ∙ (at t (ap tick_of (sym one.is_at) ∙ rw same.1 at at')).0)
-              | inr apart ↦ ap tick_of (sym (one.others other.0 apart.1)) ∙ at'
-            ];
-        due = λ other t at' among.
-            elim due [
-              | inl kept ↦ rw kept among
-              | inr left ↦
-                  elim (same_tells other id) [
-                    | inl same ↦ rw ((at t (ap tick_of (sym one.is_at) ∙ rw same.1 at at')).1) among
-                    | inr apart ↦ rw left (among_others other id d.lists.due apart.1 among)
-                  ]
-            ];
+        ticks = grind arith;
+        due = grind (arith, same_tells, among_others);
         wheel = wheel;
         size = size;
         free = λ b. busy ∙ b;
@@ -147,12 +99,7 @@ module _ {S F : Type 0} where
 
   -- so each deadline in the wheel is kept
   pub keeps_punctual : (d d' : Driving S F) → Keeps d d' → IsPunctual d → IsPunctual d'
-  keeps_punctual d d' keeps punctual =
-      record {
-        ahead = λ id t is out.
-            let before : is_among id d.lists.due ≡ false = elim (cases_Bool (is_among id d.lists.due)) [ inl among ↦ absurd (false≢true (sym out ∙ keeps.due id t is among)) | inr apart ↦ apart ] in
-            rw (keeps.wheel.current, keeps.wheel.bucket, keeps.wheel.slots) (punctual.ahead id t (keeps.ticks id t is) before);
-      }
+  keeps_punctual = grind arith
 
   pub goes_by : (d d' : Driving S F) → Keeps d d' → GoesOn d d'
   goes_by d d' keeps = record { pending = keeps.pending; punctual = keeps_punctual d d' keeps; size = keeps.size; free = keeps.free }
@@ -160,27 +107,17 @@ module _ {S F : Type 0} where
   pub serves_by : (d d' : Driving S F) (x y : Deferred S F) → Keeps d d' → (CanTell d x → CanTell d' y) → Serves d d' x y
   serves_by d d' x y keeps room = record { going = goes_by d d' keeps; room = room }
 
-  pub serves_untold : (d d' : Driving S F) (x : Deferred S F) → GoesOn d d' → Serves d d' x x
-  serves_untold d d' x going = record { going = going; room = room_within _ _ x (omega (arith, going.pending)) }
-
   -- and what was done with is done with
   pub record Eases (d d' : Driving S F) : Type 0 where
     pub keeps : Keeps d d'
     pub done : StaysDone d d'
-
-  pub eases_itself : (d : Driving S F) → Eases d d
-  eases_itself d = record { keeps = keeps_still d d refl refl refl refl (λ b. b); done = done_itself d }
 
   pub eases_both : (d e f : Driving S F) → Eases d e → Eases e f → Eases d f
   eases_both d e f one other = record { keeps = keeps_both d e f one.keeps other.keeps; done = done_both d e f one.done other.done }
 
   -- a change of the ring alone
   pub eases_ring : (d d' : Driving S F) → d'.requests ≡ d.requests → d'.wheel ≡ d.wheel → d'.lists ≡ d.lists → d'.ring.size ≡ d.ring.size → (d.ring.busy ≡ false → d'.ring.busy ≡ false) → Eases d d'
-  eases_ring d d' requests wheel lists size free =
-      record {
-        keeps = keeps_still d d' requests wheel (ap (λ (l : Lists). l.due) lists) size free;
-        done = record { due = λ n. rw lists n; enrolments = λ n. rw lists n; cancels = λ n. rw lists n };
-      }
+  eases_ring = grind arith
 
   pub eases_is : (d x d' : Driving S F) → d' ≡ record x { landings = d'.landings } → Eases d x → Eases d d'
   eases_is d x d' is eases = subst (λ (e : Driving S F). Eases d e) (sym is) (eases_both d x (record x { landings = d'.landings }) eases (eases_ring x (record x { landings = d'.landings }) refl refl refl refl (λ b. b)))
@@ -220,10 +157,6 @@ module _ {S F : Type 0} where
   eases_judged d id w None account at = record { keeps = keeps_still d _ refl refl refl refl (λ b. b); done = record { due = λ n. n; enrolments = λ n. n; cancels = λ n. n } }
   eases_judged d id w (Some how) account at = eases_ended d id w how account at
 
-  pub judged_ring : (d : Driving S F) (id : WaiterId) (w : Waiter S F) (answer : Option Ended) (account : Option Account) → (judged_as_over d id w answer account).ring ≡ d.ring
-  judged_ring d id w None account = refl
-  judged_ring d id w (Some how) account = refl
-
   pub room_judged : (d : Driving S F) (id : WaiterId) (w : Waiter S F) (answer : Option Ended) (account : Option Account) (x y : Deferred S F) → request_at d id ≡ Some w → Tells x y (told_by_end id w answer account) → CanTell d x → CanTell (judged_as_over d id w answer account) y
   room_judged d id w None account x y at tells room = room_still x y _ _ tells (omega arith) room
   room_judged d id w (Some how) account x y at tells room = room_ended d id w how account account x y at tells room
@@ -234,9 +167,7 @@ module _ {S F : Type 0} where
     pub room : CanTell d x → CanTell d' y
 
   pub reaps_ring : (d d' : Driving S F) (opens opens' : List OpenState) (x y : Deferred S F) (id : WaiterId) (w : Waiter S F) (given : OpResult) (told : Option Reaped) → Reaps d d' opens opens' x y id w given told → d'.ring ≡ reaped d.ring
-  reaps_ring d d' opens opens' x y id w given told r =
-      let w' : Waiter S F = record w { in_flight = false; request = r.request } in
-      ap (λ (e : Driving S F). e.ring) r.driver ∙ judged_ring (landed_at (taken_out d) id w') id w' r.answer (open_after w given (account_in opens (file_of w.request)))
+  reaps_ring = grind arith
 
   pub after_reap : (d d' : Driving S F) (opens opens' : List OpenState) (x y : Deferred S F) (id : WaiterId) (w : Waiter S F) (given : OpResult) (told : Option Reaped) → request_at d id ≡ Some w → Reaps d d' opens opens' x y id w given told → Answers d d' x y
   after_reap d d' opens opens' x y id w given told at r =
@@ -248,12 +179,4 @@ module _ {S F : Type 0} where
       record {
         eases = eases_is d _ d' r.driver (eases_both d e _ first last);
         room = λ room. subst (λ (f : Driving S F). CanTell f y) (sym r.driver) (room_judged e id w' r.answer _ x y there r.tells (room_within _ _ x (omega (arith, first.keeps.pending)) room));
-      }
-
-  -- a cancel is staged, or the wake poll, or the kernel was entered
-  pub eases_queued : (d d' : Driving S F) → d'.requests ≡ d.requests → d'.wheel ≡ d.wheel → d'.lists.due ≡ d.lists.due → d'.lists.enrolments ≡ d.lists.enrolments → (has_first d.lists.cancels ≡ false → has_first d'.lists.cancels ≡ false) → d'.ring.size ≡ d.ring.size → (d.ring.busy ≡ false → d'.ring.busy ≡ false) → Eases d d'
-  eases_queued d d' requests wheel due enrolments cancels size free =
-      record {
-        keeps = keeps_still d d' requests wheel due size free;
-        done = record { due = λ n. rw due n; enrolments = λ n. rw enrolments n; cancels = cancels };
       }

@@ -1,20 +1,16 @@
 -- Drivers that share gates go on sharing them: what each call keeps of where requests stand.
-use Rattle.std.proofs.Common.{◌≡◌, ◌≢◌, ◌⊎◌, ℕ, zero, suc, ◌<◌, ◌^◌, eqb, true, false, cond, List, get_or, Option, Some, None, refl, sym, ap, subst, ◌∙◌, inl, inr, arith}
+use Rattle.std.proofs.Common.{◌≡◌, ◌≢◌, ◌⊎◌, ℕ, zero, suc, ◌<◌, ◌^◌, eqb, true, false, cond, List, Option, Some, None, refl, sym, ap, subst, ◌∙◌, inl, inr, arith}
 use Rattle.std.specs.Prelude.{replicate}
-use Rattle.exec_base.specs.{Slab.{next_id, IsPast}, declared.slab.Slot.{Slot, TheVariants.Vacant}}
+use Rattle.exec_base.specs.{Slab.{next_id, IsPast}}
 use Rattle.exec_request.specs.Requests.{gate_of, output_of, record_after}
-use Rattle.exec_waiters.proofs.{Changes.{at_by, named_flies}, Over.over}
-use Rattle.exec_driver.specs.{Opens.{holder_in, holder_at, open_at, with_open, with_named, joined, passed, placed, writing, keeping}, Sharing.{Gates, IsGiven, StandsIn, StandsAt, key_of, at_gate, with_leaving, leaving_by, permit_by, with_lines, passed_on, LineUp, FliesPermitted, Call, Admit, Join, Observe, SetWaker, Forward, Orphan, Expire, Enrol, Grant, Stage, Land, Reap, Leave, Other, CallsOne, AreFresh, IsRun}, declared.{opens.WaiterKey.WaiterKey, driver.{reaping.Reaped.Reaped, staging.Granted.Granted}}, Steps.{granted_as, permitted, taken_in, newcomer, opens_after_end, Grants, Reaps, ReapsNext, completed_in, plainly_written, taken_out, tick_for, landed_at, lawful_of, open_after, permit_after}, Laws.IsDurableFlight, Admission.Admits, Lists.{after_due, after_enrolment}}
-use Rattle.exec_driver.proofs.{Words.{is_some, IsSound, is_unpermitted, false≢true, Ended, Account, with_permit, file_of, account_in, next_completion, result_in, Completion, Deferred, eqb_tells, Slab, value_at, waiter_at, Id, asked_of, Request, is_durable, OpResult, Waiter, Entry, Pending, WaiterId, Driving, request_at, OpenState, fresh_open, Observer, entry_of}, Arriving.durable_gated, Turns.{completed_there, if_tells}, Endings.one_changed, Granting.same_some, Promises.at_most_one, Calling.{taken_fits, waked_fits, forwarded_fits, cancelled_fits, let_go_fits, enrolled_fits, granted_fits, placed_fits, swept_requests}, Standing.{gate_kept, gate_moved, open_tells, SameLines, named_lines, unmoved, then_lines, joined_holds, joined_stands, left_stands, holder_stands, granted_by, Fits, AllFit, asking_last, all_over, reads, none_past, written_fits, filled_fits, filled_last, becomes}}
+use Rattle.exec_waiters.proofs.{Changes.{at_by}, Over.over}
+use Rattle.exec_driver.specs.{Opens.{holder_at, open_at, with_open, with_named, joined, passed, placed, writing, keeping}, Sharing.{Gates, IsGiven, StandsIn, StandsAt, key_of, at_gate, with_leaving, leaving_by, permit_by, with_lines, passed_on, LineUp, FliesPermitted, Call, Admit, Join, Observe, SetWaker, Forward, Orphan, Expire, Enrol, Grant, Stage, Land, Reap, Leave, Other, CallsOne, AreFresh, IsRun}, declared.{opens.WaiterKey.WaiterKey, driver.{reaping.Reaped.Reaped, staging.Granted.Granted}}, Steps.{granted_as, permitted, taken_in, newcomer, opens_after_end, Grants, Reaps, ReapsNext, completed_in, plainly_written, taken_out, tick_for, landed_at, lawful_of, open_after, permit_after}, Laws.IsDurableFlight, Admission.Admits, Lists.{after_due, after_enrolment}}
+use Rattle.exec_driver.proofs.{Words.{is_some, IsSound, is_unpermitted, false≢true, Ended, Account, with_permit, file_of, account_in, next_completion, result_in, Completion, Deferred, eqb_tells, Slab, value_at, waiter_at, Id, asked_of, Request, is_durable, OpResult, Waiter, Entry, Pending, WaiterId, Driving, request_at, OpenState, fresh_open, Observer, entry_of}, Arriving.durable_gated, Turns.{completed_there}, Endings.one_changed, Granting.same_some, Promises.at_most_one, Calling.{taken_fits, waked_fits, forwarded_fits, cancelled_fits, let_go_fits, enrolled_fits, granted_fits, placed_fits, swept_requests}, Standing.{gate_kept, gate_moved, open_tells, SameLines, named_lines, unmoved, then_lines, joined_holds, joined_stands, left_stands, holder_stands, granted_by, Fits, AllFit, asking_last, all_over, reads, none_past, written_fits, filled_fits, filled_last, becomes}}
 use Rattle.exec_waiters.specs.States.{gate_in, named}
 
 -- who is to leave a gate, where one was named
 leaving_tells : (gate : ℕ) (who : Option WaiterKey) (leaving : ℕ → Option WaiterKey) (file : ℕ) (key : WaiterKey) → at_gate gate who leaving file ≡ Some key → ((file ≡ gate) × (who ≡ Some key)) ⊎ ((file ≢ gate) × (leaving file ≡ Some key))
-leaving_tells gate who leaving file key is =
-    elim (eqb_tells file gate) [
-      | inl same ↦ inl (same.1, rw same.0 at is)
-      | inr other ↦ inr (other.1, rw other.0 at is)
-    ]
+leaving_tells = grind arith
 
 same_gates : (g : Gates) (opens : List OpenState) (leaving : ℕ → Option WaiterKey) → g.opens ≡ opens → g.leaving ≡ leaving → g ≡ record { opens = opens; leaving = leaving }
 same_gates g opens leaving o l i = record { opens = o i; leaving = l i }
@@ -39,11 +35,7 @@ module _ {S F : Type 0} where
   end_lines g w (Some how) = named_lines g (file_of w.request) (keeping (record_after w.request how (account_in g.opens (file_of w.request)))) (λ o. (refl, refl))
 
   flying_there : (s : Slab (Entry S F)) (given : OpResult) (user_data : ℕ) (id : Id) (w : Waiter S F) → lawful_of s given (named s user_data) ≡ Some id → waiter_at s id ≡ Some w → w.in_flight ≡ true
-  flying_there s given user_data id w is at = by (named s user_data) refl is
-    where
-      by : (o : Option Id) → named s user_data ≡ o → lawful_of s given o ≡ Some id → w.in_flight ≡ true
-      by None names none = absurd (cc)
-      by (Some other) names some = let t = if_tells other id (waiter_at s other) given some in named_flies s user_data id w (names ∙ ap Some t.2) at
+  flying_there = grind arith
 
   -- WHAT A CALL KEEPS: where the worker's own requests stand, where those of the others do, and who is to leave holds
 
@@ -58,12 +50,7 @@ module _ {S F : Type 0} where
     pub hold : Hold g'
 
   by_lines : (worker : ℕ) (s : Slab (Entry S F)) (g g' : Gates) → SameLines g g' → Hold g → AllFit g worker s → Keeps worker s g g'
-  by_lines worker s g g' same hold all =
-      record {
-        mine = all_over g g' worker s same all;
-        theirs = λ other s' apart. all_over g g' other s' same;
-        hold = λ key file leaves. same.holder file ∙ hold key file (sym (same.leaving file) ∙ leaves);
-      }
+  by_lines = grind (arith, all_over)
 
   by_driver : (worker : ℕ) (new d : Driving S F) (g g' : Gates) → g' ≡ g → new ≡ d → Hold g → AllFit g worker d.requests → Keeps worker new.requests g g'
   by_driver worker new d g g' same is hold all =
@@ -96,12 +83,7 @@ module _ {S F : Type 0} where
         fits = λ id w at.
             let fits = all.fits id w at in
             record {
-              holds = λ other has is.
-                  let holds = fits.holds other has is in
-                  elim (open_tells g.opens file (joined who) other) [
-                    | inl same ↦ ap holder_in same ∙ holds
-                    | inr here ↦ ap holder_in here.3 ∙ joined_holds who here.0 (key_of worker id) (sym (ap (holder_at g.opens) here.1 ∙ ap holder_in here.2) ∙ holds)
-                  ];
+              holds = grind (arith, open_tells, joined_holds);
               lines = λ other stands. elim (stood id other stands) [ inl before ↦ fits.lines other before | inr same ↦ own id w same.1 at ∙ ap Some (sym same.0) ];
               stays = fits.stays;
             };
@@ -126,12 +108,7 @@ module _ {S F : Type 0} where
         fits = λ id w at.
             let fits = all.fits id w at in
             record {
-              holds = λ other has is.
-                  let holds = fits.holds other has is in
-                  elim (open_tells g.opens file passed other) [
-                    | inl same ↦ ap holder_in same ∙ holds
-                    | inr here ↦ absurd (fits.stays file (leaves ∙ sym (hold who file leaves) ∙ sym (ap (holder_at g.opens) here.1) ∙ holds))
-                  ];
+              holds = grind (arith, open_tells);
               lines = λ other stands. fits.lines other (stood id other stands);
               stays = λ other is. elim (leaving_tells file None g.leaving other (key_of worker id) is) [ inl none ↦ cc | inr before ↦ fits.stays other before.1 ];
             };
@@ -139,11 +116,7 @@ module _ {S F : Type 0} where
       }
     where
       stood : (id : WaiterId) (other : ℕ) → StandsAt (with_open g.opens file passed) other (key_of worker id) → StandsAt g.opens other (key_of worker id)
-      stood id other stands =
-          elim (open_tells g.opens file passed other) [
-            | inl same ↦ subst (StandsIn (key_of worker id)) same stands
-            | inr here ↦ subst (StandsIn (key_of worker id)) (sym (ap (open_at g.opens) here.1 ∙ here.2)) (inr (left_stands here.0.waiting (key_of worker id) (subst (StandsIn (key_of worker id)) here.3 stands)))
-          ]
+      stood = grind (arith, open_tells, left_stands)
 
   -- a request that is over is to leave the gate that it holds
   said_all : (g : Gates) (gate : ℕ) (who : WaiterKey) (worker : ℕ) (s : Slab (Entry S F)) → ((id : WaiterId) (w : Waiter S F) → who ≡ key_of worker id → waiter_at s id.0 ≡ Some w → ⊥) → AllFit g worker s → AllFit (record g { leaving = at_gate gate (Some who) g.leaving }) worker s
@@ -151,11 +124,7 @@ module _ {S F : Type 0} where
       record {
         fits = λ id w at.
             let fits = all.fits id w at in
-            record {
-              holds = fits.holds;
-              lines = fits.lines;
-              stays = λ file is. elim (leaving_tells gate (Some who) g.leaving file (key_of worker id) is) [ inl same ↦ ends id w (cc) at | inr before ↦ fits.stays file before.1 ];
-            };
+            grind arith;
         given = all.given;
       }
 
@@ -170,37 +139,14 @@ module _ {S F : Type 0} where
       }
 
   joined_keeps : (worker : ℕ) (old : Driving S F) (g : Gates) (id : WaiterId) (gate : Option ℕ) → id.0.generation < 2 ^ 64 → gate_in (request_at old id) ≡ gate → Stand worker old g → Keeps worker old.requests g (with_lines g (with_named g.opens gate (joined (key_of worker id))))
-  joined_keeps worker old g id None fits at stand = by_lines worker old.requests g g (unmoved g g refl) stand.hold stand.all
-  joined_keeps worker old g id (Some file) fits at stand =
-      record {
-        mine = joined_all g file (key_of worker id) worker old.requests (λ id' w same there. ap gate_in (sym there ∙ ap (λ (k : WaiterKey). request_at old k.id) (sym same)) ∙ at) (λ id' same. subst (λ (k : WaiterKey). IsGiven old.requests k.id) same (given (request_at old id) refl at)) stand.all;
-        theirs = λ other s' apart. joined_all g file (key_of worker id) other s' (λ id' w same there. absurd (apart (sym (ap (λ (k : WaiterKey). k.worker) same)))) (λ id' same. absurd (apart (sym (ap (λ (k : WaiterKey). k.worker) same))));
-        hold = λ key other leaves.
-            let holds = stand.hold key other leaves in
-            elim (open_tells g.opens file (joined (key_of worker id)) other) [
-              | inl same ↦ ap holder_in same ∙ holds
-              | inr here ↦ ap holder_in here.3 ∙ joined_holds (key_of worker id) here.0 key (sym (ap (holder_at g.opens) here.1 ∙ ap holder_in here.2) ∙ holds)
-            ];
-      }
-    where
-      given : (o : Option (Waiter S F)) → request_at old id ≡ o → gate_in o ≡ Some file → IsGiven old.requests id
-      given None at none = absurd (cc)
-      given (Some w) at is = let there = at_by old.requests id.0 (Pending w) (entry_of _ w at) in record { fits = fits; past = rw there.slot (omega arith) }
+  joined_keeps = grind (arith, by_lines, unmoved, joined_all, request_at, open_tells, joined_holds, at_by, entry_of)
 
   left_keeps : (worker : ℕ) (old : Driving S F) (g : Gates) (who : WaiterKey) (file : ℕ) → g.leaving file ≡ Some who → Stand worker old g → Keeps worker old.requests g (passed_on g file)
   left_keeps worker old g who file leaves stand =
       record {
         mine = left_all g file who worker old.requests leaves stand.hold stand.all;
         theirs = λ other s' apart. left_all g file who other s' leaves stand.hold;
-        hold = λ key other is.
-            elim (leaving_tells file None g.leaving other key is) [
-              | inl none ↦ absurd (cc)
-              | inr before ↦
-                  elim (open_tells g.opens file passed other) [
-                    | inl same ↦ ap holder_in same ∙ stand.hold key other before.1
-                    | inr here ↦ absurd (before.0 here.1)
-                  ]
-            ];
+        hold = grind (arith, leaving_tells, open_tells);
       }
 
   granted_over : (d : Driving S F) (id : WaiterId) (w : Waiter S F) (how : Option Ended) (account : Option Account) (file : ℕ) → request_at d id ≡ Some w → cond (is_some how) (Some file) None ≡ Some file → request_at (granted_as d id w how account) id ≡ None
@@ -301,9 +247,7 @@ module _ {S F : Type 0} where
   call_keeps worker old new g g' stand (Grant before after file granted w at grants leaving) = granted_keeps worker old new g g' before after file granted w at grants leaving stand
   call_keeps worker old new g g' stand (Stage id w account at stages same) =
       by_driver worker new _ g g' same stages.driver stand.hold (becomes g worker old.requests id w _ at (gate_kept w.request stages.request stages.kept) (λ has. has) stand.all)
-  call_keeps worker old new g g' stand (Land id w given store store' at lands same) =
-      let all = becomes g worker old.requests id w _ at (gate_moved _ given w.request lands.lands.request store store' lands.lands.moved) (λ has. has) stand.all in
-      subst (λ (s : Slab (Entry S F)). Keeps worker s g g') (sym lands.lands.slab) (by_lines worker _ g g' (unmoved g g' same) stand.hold all)
+  call_keeps worker old new g g' stand (Land id w given store store' at lands same) = grind (arith, becomes, gate_moved, by_lines, unmoved)
   call_keeps worker old new g g' stand (Reap before after told reap leaving) = reap_keeps worker old new g g' before after told reap leaving stand
   call_keeps worker old new g g' stand (Leave id file leaves same is) =
       subst (λ (h : Gates). Keeps worker new.requests g h) (sym is) (subst (λ (m : Driving S F). Keeps worker m.requests g (passed_on g file)) (sym same) (left_keeps worker old g (key_of worker id) file leaves stand))
@@ -354,17 +298,7 @@ module _ {S F : Type 0} where
 
   -- a driver without requests has none by any name
   pub line_up_first : (drivers : ℕ → Driving S F) (g : Gates) → AreFresh drivers g → LineUp drivers g
-  line_up_first drivers g fresh =
-      record {
-        share = record { holds = λ key w file at. absurd (none key w at); flies = λ key w file at. absurd (none key w at) };
-        lines = λ key w file at. absurd (none key w at);
-        given = λ key file stands. absurd (nobody_stands fresh.count file key (subst (λ (o : List OpenState). StandsAt o file key) fresh.opens stands));
-        holds = λ key file leaves. let no : None ≡ Some key = sym (fresh.leaving file) ∙ leaves in absurd (cc);
-        over = λ key file leaves. let no : None ≡ Some key = sym (fresh.leaving file) ∙ leaves in absurd (cc);
-      }
-    where
-      none : (key : WaiterKey) (w : Waiter S F) → request_at (drivers key.worker) key.id ≡ Some w → ⊥
-      none key w at = none_past (drivers key.worker).requests.first key.id.0.generation w (reads _ (Vacant (drivers key.worker).requests.first) key.id.0.generation w (ap (λ (l : List (Slot (Entry S F))). get_or l key.id.0.index (Vacant (drivers key.worker).requests.first)) (fresh.requests key.worker)) at)
+  line_up_first = grind (arith, nobody_stands, over, request_at, none_past, reads)
 
   pub line_up_always : (drivers : ℕ → ℕ → Driving S F) (gates : ℕ → Gates) → IsRun drivers gates → (n : ℕ) → LineUp (drivers n) (gates n)
   line_up_always drivers gates run zero = line_up_first (drivers 0) (gates 0) run.first

@@ -1,8 +1,7 @@
 -- How the list of a place follows one request that changed.
 use Rattle.std.proofs.Common.{◌≡◌, ◌≢◌, ◌⊎◌, ℕ, ◌<◌, ◌≤◌, Bool, true, false, not, List, [], ◌∷◌, ◌++◌, length, Option, Some, None, refl, sym, ap, ◌∙◌, inl, inr, arith, length-append}
-use Rattle.exec_driver.proofs.{Words.{is_some, false≢true, Slab, value_at, Id, waiter_at, waiter_of, pending_count, Waiter, Entry, Pending, Ready, WaiterId, is_same, without, is_among, is_once, are_all, IsListed, count_of, and_from, and_parts, not-true, or_parts}, Names.{same_tells, once_without, once_push}, Counting.{OneChanged, one_removed, pending_is}}
+use Rattle.exec_driver.proofs.{Words.{is_some, false≢true, Slab, value_at, Id, waiter_at, waiter_of, pending_count, Waiter, Entry, Pending, WaiterId, is_same, without, is_among, is_once, are_all, IsListed, count_of, and_from, and_parts, not-true, or_parts}, Names.{same_tells, once_without, once_push}, Counting.{OneChanged, one_removed, pending_is}}
 use Rattle.exec_base.specs.Slab.{removed}
-use Rattle.exec_base.proofs.Slots.{id_cases}
 
 -- a list without a name that it hasn't
 pub unchanged : (x : WaiterId) (ids : List WaiterId) → is_among x ids ≡ false → without x ids ≡ ids
@@ -38,14 +37,7 @@ module _ {S F : Type 0} where
   all_kept p s s' id (x ∷ ids) others stays all =
       let parts = and_parts (p (waiter_at s x.0)) (are_all p s ids) all in
       let rest = all_kept p s s' id ids others stays parts.1 in
-      elim (same_tells x id) [
-        | inr other ↦ and_from _ _ (ap p (others x.0 other.1) ∙ parts.0) rest
-        | inl same ↦
-            elim stays [
-              | inl still ↦ and_from _ _ (rw same.1 still) rest
-              | inr out ↦ absurd (false≢true (sym (rw (← same.1) at out) ∙ parts.0))
-            ]
-      ]
+      grind arith
 
   all_push : (p : Option (Waiter S F) → Bool) (s : Slab (Entry S F)) (id : WaiterId) (ids : List WaiterId) → are_all p s ids ≡ true → p (waiter_at s id.0) ≡ true → are_all p s (ids ++ id ∷ []) ≡ true
   all_push p s id [] all fits = rw fits refl
@@ -63,17 +55,8 @@ module _ {S F : Type 0} where
   pub shifted : (p : Option (Waiter S F) → Bool) (s s' : Slab (Entry S F)) (id : WaiterId) (was is : Option (Waiter S F)) (ids ids' : List WaiterId) → OneChanged s s' id.0 was is → Shift p was is id ids ids' → IsListed p s ids → IsListed p s' ids'
   shifted p s s' id was is ids ids' one (Left e) listed =
       rw e (record { all = all_without p s s' id ids one.others listed.all; once = once_without id ids listed.once })
-  shifted p s s' id was is ids ids' one (Kept e stays) listed =
-      let at = one.was_at in
-      let to = one.is_at in
-      rw e (record { all = all_kept p s s' id ids one.others (elim stays [ inl still ↦ inl (rw to still) | inr out ↦ inr (rw at out) ]) listed.all; once = listed.once })
-  shifted p s s' id was is ids ids' one (Joined e out fits) listed =
-      let out' : p (waiter_at s id.0) ≡ false = rw one.was_at out in
-      let none = not_there p s id ids listed.all out' in
-      rw e (record {
-        all = all_push p s' id ids (all_kept p s s' id ids one.others (inr out') listed.all) (rw one.is_at fits);
-        once = once_push id ids listed.once none;
-      })
+  shifted p s s' id was is ids ids' one (Kept e stays) listed = grind (arith, all_kept)
+  shifted p s s' id was is ids ids' one (Joined e out fits) listed = grind (arith, waiter_at, not_there, all_push, all_kept, once_push)
   shifted p s s' id was is ids ids' one (First e) listed =
       let all = and_parts (p (waiter_at s id.0)) (are_all p s ids') (rw e at listed.all) in
       let once = and_parts (not (is_among id ids')) (is_once ids') (rw e at listed.once) in
@@ -91,21 +74,11 @@ module _ {S F : Type 0} where
 
   -- what held of no request holds of none
   pub nowhere : (p : Option (Waiter S F) → Bool) (s s' : Slab (Entry S F)) (id : Id) (was is : Option (Waiter S F)) → OneChanged s s' id was is → p is ≡ false → ((other : Id) → p (waiter_at s other) ≡ false) → (other : Id) → p (waiter_at s' other) ≡ false
-  nowhere p s s' id was is one out none other =
-      elim (id_cases other id) [
-        | inl apart ↦ ap p (one.others other (λ e. apart (ap (λ (n : Id). n.index) e))) ∙ none other
-        | inr more ↦
-            elim more [
-              | inl apart ↦ ap p (one.others other (λ e. apart.1 (ap (λ (n : Id). n.generation) e))) ∙ none other
-              | inr same ↦ rw (same, one.is_at) out
-            ]
-      ]
+  nowhere = grind arith
 
   -- a list of requests in a place is no longer than there are such requests
   there_of : (p : Option (Waiter S F) → Bool) (o : Option (Entry S F)) → p None ≡ false → p (waiter_of o) ≡ true → (w : Waiter S F) × (o ≡ Some (Pending w))
-  there_of p None none is = absurd (false≢true (sym none ∙ is))
-  there_of p (Some (Pending w)) none is = (w, refl)
-  there_of p (Some (Ready told)) none is = absurd (false≢true (sym none ∙ is))
+  there_of = grind arith
 
   pub few : (p q : Option (Waiter S F) → Bool) → p None ≡ false → q None ≡ false → ((w : Waiter S F) → p (Some w) ≡ true → q (Some w) ≡ true) → (ids : List WaiterId) (s : Slab (Entry S F)) → are_all p s ids ≡ true → is_once ids ≡ true → length ids ≤ count_of q s
   few p q none none' fits [] s all once = omega arith

@@ -1,5 +1,5 @@
 -- The counts of slots, as names come and go.
-use Rattle.std.proofs.Common.{◌≡◌, ℕ, ◌+◌, ◌<◌, ◌≤◌, ◌==◌, true, false, if◌then◌else◌, List, [], ◌∷◌, ◌++◌, length, length-set, get_or, Bool, refl, sym, ap, ◌∙◌, arith, inl, inr}
+use Rattle.std.proofs.Common.{◌≡◌, ℕ, ◌+◌, ◌<◌, ◌≤◌, ◌==◌, false, if◌then◌else◌, List, [], ◌∷◌, ◌++◌, length, length-set, get_or, refl, ◌∙◌, arith, inl, inr}
 use Rattle.std.proofs.lemmas.Grind.{common_steps, elements, get_or-set_at}
 use Rattle.std.proofs.lemmas.Bool.Decides.{nat_tests}
 use Rattle.std.proofs.lemmas.List.{get_or_default}
@@ -44,23 +44,10 @@ read_count ids counts slot n counted within is = is ∙ get_or_default counts sl
 
 -- where the count of the one slot that changes is set, and where there is none
 pub counted_set : (ids ids' : List WaiterId) (counts : List ℕ) (at n : ℕ) → AreCounted ids counts → at < length counts → n ≡ in_slot at ids' → ((slot : ℕ) → (at == slot) ≡ false → in_slot slot ids' ≡ in_slot slot ids) → AreCounted ids' (slice_set counts at n)
-counted_set ids ids' counts at n counted inside is others slot within = by (at == slot) refl
-  where
-    there : slot < length counts
-    there = omega (arith, length-set counts at n, within)
-
-    by : (b : Bool) → (at == slot) ≡ b → get_or (slice_set counts at n) slot 0 ≡ in_slot slot ids'
-    by true e =
-        let one : slot ≡ at = grind (arith, nat_tests, e) in
-        get_or-set_at counts at slot n 0 one inside ∙ is ∙ ap (λ s. in_slot s ids') (sym one)
-    by false e =
-        let kept : get_or (slice_set counts at n) slot 0 ≡ get_or counts slot 0 = grind (arith, elements, nat_tests, e) in
-        kept ∙ counted slot there ∙ sym (others slot e)
+counted_set = grind (arith, length-set, nat_tests, get_or-set_at, elements)
 
 pub counted_beyond : (ids ids' : List WaiterId) (counts : List ℕ) (at : ℕ) → AreCounted ids counts → length counts ≤ at → ((slot : ℕ) → (at == slot) ≡ false → in_slot slot ids' ≡ in_slot slot ids) → AreCounted ids' counts
-counted_beyond ids ids' counts at counted past others slot within =
-    let apart : (at == slot) ≡ false = grind (arith, nat_tests, past, within) in
-    counted slot within ∙ sym (others slot apart)
+counted_beyond = grind arith
 
 -- one more name changes the count of its slot alone
 pub pushed_here : (id : WaiterId) (ids : List WaiterId) → in_slot id.0.index (ids ++ id ∷ []) ≡ in_slot id.0.index ids + 1

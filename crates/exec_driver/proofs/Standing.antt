@@ -8,52 +8,24 @@ use Rattle.std.proofs.lemmas.List.{get_or_past, get_or_push, get_or_append_left,
 use Rattle.std.proofs.lemmas.List.Elements.{Contains-push_cases}
 use Rattle.exec_base.specs.{Slab.{slot_at, value_at, value_in, removed, freed, filled, next_id, generation_of, next_generation}, declared.slab.Slot.{Slot, TheVariants.{Live, Vacant, Retired}}}
 use Rattle.exec_base.proofs.Slots.{same_id, some_of_if}
-use Rattle.exec_outcomes.specs.declared.outcome.OpResult.TheVariants.{Count, Errno}
-use Rattle.exec_request.specs.{Kept.{Kept, kept_of}, Requests.{gate_of, gate_of_write, target_of}, Syncing.write_kind, declared.{output.RequestOutput.RequestOutput, window.{Opcode.Opcode, Window.Window}, write_at.WriteAtState.{WriteAtState, TheVariants.{Writing, WritingSync, WritingBeforeSync, Syncing}}}}
+use Rattle.exec_request.specs.{Kept.{Kept, kept_of}, Requests.{gate_of, target_of}, declared.{output.RequestOutput.RequestOutput}}
 use Rattle.exec_request.specs.declared.request.Request.TheVariants as request
-use Rattle.exec_request.specs.declared.window.Opcode.TheVariants as opcode
-use Rattle.exec_ring.specs.{Landings.{MovesBy, Moves}, declared.store.Store.Store}
+use Rattle.exec_ring.specs.{Landings.{Moves}, declared.store.Store.Store}
 use Rattle.exec_waiters.proofs.Changes.{at_by, entry_of}
 use Rattle.exec_waiters.specs.Events.{finished_for}
-use Rattle.exec_driver.specs.{Opens.{holder_in, holder_at, open_at, with_open, with_open_in, with_named, joined}, Sharing.{Gates, IsGiven, StandsIn, StandsAt, key_of, with_lines}, declared.opens.WaiterKey.WaiterKey}
-use Rattle.exec_driver.proofs.{Words.{false≢true, eqb_tells, Slab, written, Id, asked_of, Request, is_durable, OpResult, Submission, waiter_at, waiter_in, waiter_of, Waiter, Entry, Pending, Ready, WaiterId, OpenState, Observer, Local, Forwarded, DetachedSync, Orphaned}, Arriving.durable_gated, Lines.set_there}
+use Rattle.exec_driver.specs.{Opens.{holder_in, holder_at, open_at, with_open, with_named, joined}, Sharing.{Gates, IsGiven, StandsIn, StandsAt, key_of, with_lines}, declared.opens.WaiterKey.WaiterKey}
+use Rattle.exec_driver.proofs.{Words.{eqb_tells, Slab, written, Id, asked_of, Request, OpResult, Submission, waiter_at, waiter_in, waiter_of, Waiter, Entry, Pending, WaiterId, OpenState, Observer}, Lines.set_there}
 
 -- THE GATE OF A REQUEST: what its operations leave as it is tells it
 
-gate_by : (state : WriteAtState) (file : ℕ) → gate_of_write state file ≡ cond (is_durable (write_kind state)) (Some file) None
-gate_by Writing file = refl
-gate_by WritingSync file = refl
-gate_by WritingBeforeSync file = refl
-gate_by Syncing file = refl
-
-gate_is : (r : Request) → gate_of r ≡ cond (is_durable (asked_of r).kind) (Some (target_of r)) None
-gate_is (request.Send s) = refl
-gate_is (request.Recv s) = rw (durable_gated (request.Recv s)) refl
-gate_is (request.ReadAt s) = rw (durable_gated (request.ReadAt s)) refl
-gate_is (request.WriteAt w) = gate_by w.state w.file
-gate_is (request.Sync s) = refl
-gate_is (request.Connect s) = refl
-gate_is (request.Poll s) = refl
-
 gate_same : (r r' : Request) → asked_of r' ≡ asked_of r → target_of r' ≡ target_of r → gate_of r' ≡ gate_of r
-gate_same r r' asked target =
-    let both : cond (is_durable (asked_of r').kind) (Some (target_of r')) None ≡ cond (is_durable (asked_of r).kind) (Some (target_of r)) None = λ i. cond (is_durable (asked i).kind) (Some (target i)) None in
-    gate_is r' ∙ both ∙ sym (gate_is r)
+gate_same = grind arith
 
 pub gate_kept : (r r' : Request) → kept_of r' ≡ kept_of r → gate_of r' ≡ gate_of r
 gate_kept r r' kept = gate_same r r' (ap (λ (k : Kept). k.asked) kept) (ap (λ (k : Kept). k.target) kept)
 
-gate_filled : (kind : Opcode) (w : Window) (n : ℕ) (r r' : Request) (st st' : Store) → MovesBy kind w n r r' st st' → gate_of r' ≡ gate_of r
-gate_filled opcode.Send w n r r' st st' moved = ap gate_of moved.1
-gate_filled opcode.Recv w n r r' st st' moved = gate_same r r' (ap (λ (k : Kept). k.asked) moved.1.kept) (ap (λ (k : Kept). k.target) moved.1.kept)
-gate_filled opcode.Read w n r r' st st' moved = gate_same r r' (ap (λ (k : Kept). k.asked) moved.1.kept) (ap (λ (k : Kept). k.target) moved.1.kept)
-gate_filled opcode.Write w n r r' st st' moved = ap gate_of moved.1
-gate_filled _ w n r r' st st' moved = ap gate_of moved.1
-
 pub gate_moved : (flight : Option Submission) (given : OpResult) (r r' : Request) (st st' : Store) → Moves flight given r r' st st' → gate_of r' ≡ gate_of r
-gate_moved None given r r' st st' moved = absurd moved
-gate_moved (Some e) (Count n) r r' st st' moved = gate_filled e.window.kind e.window n r r' st st' moved
-gate_moved (Some e) (Errno c) r r' st st' moved = ap gate_of moved.1
+gate_moved = grind arith
 
 -- THE LINES
 
@@ -66,15 +38,7 @@ set_elsewhere (x ∷ opens) (suc file) (suc other) o apart = set_elsewhere opens
 
 -- another open stays, or this one changed
 pub open_tells : (opens : List OpenState) (file : ℕ) (change : OpenState → OpenState) (other : ℕ) → (open_at (with_open opens file change) other ≡ open_at opens other) ⊎ ((o : OpenState) × (other ≡ file) × (open_at opens file ≡ Some o) × (open_at (with_open opens file change) other ≡ Some (change o)))
-open_tells opens file change other = by (open_at opens file) refl
-  where
-    by : (o : Option OpenState) → open_at opens file ≡ o → (open_at (with_open_in opens file change o) other ≡ open_at opens other) ⊎ ((p : OpenState) × (other ≡ file) × (open_at opens file ≡ Some p) × (open_at (with_open_in opens file change o) other ≡ Some (change p)))
-    by None at = inl refl
-    by (Some o) at =
-        elim (eqb_tells other file) [
-          | inl same ↦ inr (o, same.1, at, ap (slice_get (set opens file (change o))) same.1 ∙ set_there opens file o (change o) at)
-          | inr apart ↦ inl (set_elsewhere opens file other (change o) apart.1)
-        ]
+open_tells = grind (arith, eqb_tells, set_there, set_elsewhere)
 
 -- nobody else holds a gate, nobody more stands in a line, and the same are to leave
 pub record SameLines (g g' : Gates) : Type 0 where
@@ -83,29 +47,10 @@ pub record SameLines (g g' : Gates) : Type 0 where
   pub leaving : (file : ℕ) → g'.leaving file ≡ g.leaving file
 
 pub named_lines : (g : Gates) (file : Option ℕ) (change : OpenState → OpenState) → ((o : OpenState) → ((change o).holder ≡ o.holder) × ((change o).waiting ≡ o.waiting)) → SameLines g (with_lines g (with_named g.opens file change))
-named_lines g None change keeps = record { holder = λ file. refl; stands = λ file key is. is; leaving = λ file. refl }
-named_lines g (Some file) change keeps =
-    record {
-      holder = λ other.
-          elim (open_tells g.opens file change other) [
-            | inl same ↦ ap holder_in same
-            | inr here ↦ ap holder_in here.3 ∙ (keeps here.0).0 ∙ sym (ap (holder_at g.opens) here.1 ∙ ap holder_in here.2)
-          ];
-      stands = λ other key is.
-          elim (open_tells g.opens file change other) [
-            | inl same ↦ subst (StandsIn key) same is
-            | inr here ↦
-                let now = subst (StandsIn key) here.3 is in
-                let was : StandsIn key (Some here.0) = elim now [ inl holds ↦ inl (sym (keeps here.0).0 ∙ holds) | inr waits ↦ inr (subst (λ (l : List WaiterKey). Contains l key) (keeps here.0).1 waits) ] in
-                subst (StandsIn key) (sym (ap (open_at g.opens) here.1 ∙ here.2)) was
-          ];
-      leaving = λ file. refl;
-    }
+named_lines = grind (arith, open_tells)
 
 pub unmoved : (g g' : Gates) → g' ≡ g → SameLines g g'
-unmoved g g' is =
-    let none : SameLines g g = record { holder = λ file. refl; stands = λ file key stands. stands; leaving = λ file. refl } in
-    subst (SameLines g) (sym is) none
+unmoved = grind arith
 
 pub then_lines : (a b c : Gates) → SameLines a b → SameLines b c → SameLines a c
 then_lines a b c one other =
@@ -140,10 +85,7 @@ holder_stands None key is = absurd (cc)
 holder_stands (Some o) key is = inl is
 
 pub granted_by : (flies durable permit : Bool) → (flies && (durable && not permit)) ≡ false → flies ≡ true → durable ≡ true → permit ≡ true
-granted_by true true true is flying kind = refl
-granted_by true true false is flying kind = absurd (false≢true (sym is))
-granted_by true false permit is flying kind = absurd (false≢true kind)
-granted_by false durable permit is flying kind = absurd (false≢true flying)
+granted_by = grind arith
 
 none_freed : {S F : Type 0} (b : Bool) (h n : ℕ) (w : Waiter S F) → waiter_of (value_in (cond b (Vacant h) Retired) n) ≡ Some w → ⊥
 none_freed true h n w is = cc
@@ -155,9 +97,7 @@ past_freed T true g n is fits past = past
 past_freed T false g n is fits past = fits
 
 past_filled : {T : Type 0} (slot : Slot T) (n : ℕ) → n < next_generation slot → n < generation_of slot + 1
-past_filled (Live g value) n past = past
-past_filled (Vacant g) n past = omega (arith, past)
-past_filled Retired n past = omega (arith, past)
+past_filled = grind arith
 
 module _ {S F : Type 0} where
   -- Who was granted a permit has it, it stands in the line of its own open alone, and isn't to leave it yet.
@@ -207,28 +147,13 @@ module _ {S F : Type 0} where
   none_past h g w is = cc
 
   pub live_tells : (g : ℕ) (e : Entry S F) (n : ℕ) (w : Waiter S F) → waiter_of (value_in (Live g e) n) ≡ Some w → (g ≡ n) × (waiter_in e ≡ Some w)
-  live_tells g e n w is =
-      elim (eqb_tells g n) [
-        | inl same ↦ (same.1, rw same.0 at is)
-        | inr other ↦ let none : None ≡ Some w = rw other.0 at is in absurd (cc)
-      ]
+  live_tells = grind arith
 
   past_reads : (o o' : Slot (Entry S F)) (n : ℕ) → o ≡ o' → n < next_generation o → n < next_generation o'
   past_reads o o' n same past = subst (λ (x : Slot (Entry S F)). n < next_generation x) same past
 
   slot_past : (s : Slab (Entry S F)) (i j n : ℕ) (slot : Slot (Entry S F)) → (n < next_generation (slot_at s i) → n < next_generation slot) → n < next_generation (slot_at s j) → n < next_generation (get_or (set s.slots i slot) j (Vacant s.first))
-  slot_past s i j n slot grows past =
-      elim (eqb_tells j i) [
-        | inr other ↦ past_reads _ _ n (sym (get_or-set_other s.slots i j slot (Vacant s.first) other.1)) past
-        | inl same ↦
-            elim (cases_lt i (length s.slots)) [
-              | inl within ↦
-                  past_reads _ _ n (sym (get_or-set_at s.slots i j slot (Vacant s.first) same.1 within)) (grows (past_reads _ _ n (ap (slot_at s) same.1) past))
-              | inr beyond ↦
-                  let after : length (set s.slots i slot) ≤ j = rw length-set (omega (arith, beyond, same.1)) in
-                  past_reads _ _ n (get_or_past s.slots j (Vacant s.first) (omega (arith, beyond, same.1)) ∙ sym (get_or_past (set s.slots i slot) j (Vacant s.first) after)) past
-            ]
-      ]
+  slot_past = grind (arith, eqb_tells, past_reads, get_or-set_other, cases_lt, get_or-set_at, length-set, get_or_past)
 
   slot_fits : (g : Gates) (worker : ℕ) (s s' : Slab (Entry S F)) (i : ℕ) (slot : Slot (Entry S F)) → s'.slots ≡ set s.slots i slot → s'.first ≡ s.first → ((id : WaiterId) (w : Waiter S F) → id.0.index ≡ i → waiter_of (value_in slot id.0.generation) ≡ Some w → Fits g (key_of worker id) w) → ((n : ℕ) → n < 2 ^ 64 → n < next_generation (slot_at s i) → n < next_generation slot) → AllFit g worker s → AllFit g worker s'
   slot_fits g worker s s' i slot slots first new grows all =
@@ -273,18 +198,7 @@ module _ {S F : Type 0} where
     where
       -- a slot is as it was, or the new one
       places : (j : ℕ) → (get_or (s.slots ++ slot ∷ []) j (Vacant s.first) ≡ get_or s.slots j (Vacant s.first)) ⊎ ((j ≡ length s.slots) × (get_or (s.slots ++ slot ∷ []) j (Vacant s.first) ≡ slot))
-      places j =
-          elim (cases_lt j (length s.slots)) [
-            | inl within ↦ inl (get_or_append_left s.slots (slot ∷ []) (Vacant s.first) j within)
-            | inr past ↦
-                elim (eqb_tells j (length s.slots)) [
-                  | inl same ↦ inr (same.1, get_or_push s.slots slot (Vacant s.first) j (sym same.1))
-                  | inr other ↦
-                      let apart : j ≢ length s.slots = other.1 in
-                      let beyond : length (s.slots ++ slot ∷ []) ≤ j = omega (arith, past, apart, length-append s.slots (slot ∷ [])) in
-                      inl (get_or_past (s.slots ++ slot ∷ []) j (Vacant s.first) beyond ∙ sym (get_or_past s.slots j (Vacant s.first) (omega (arith, past))))
-                ]
-          ]
+      places = grind (arith, cases_lt, get_or_append_left, eqb_tells, get_or_push, length-append, get_or_past)
 
   -- the slot of a request
   live_fits : (g : Gates) (worker : ℕ) (id : WaiterId) (i n : ℕ) (e : Entry S F) → record { index = i; generation = n } ≡ id.0 → ((w : Waiter S F) → waiter_in e ≡ Some w → Fits g (key_of worker id) w) → (other : WaiterId) (w : Waiter S F) → other.0.index ≡ i → waiter_of (value_in (Live n e) other.0.generation) ≡ Some w → Fits g (key_of worker other) w
@@ -316,21 +230,10 @@ module _ {S F : Type 0} where
       slot_fits g worker s _ i (Live (generation_of (slot_at s i)) (Pending w)) refl refl (live_fits g worker id i (generation_of (slot_at s i)) (Pending w) (some_of_if _ _ _ next) (λ v same. subst (Fits g (key_of worker id)) (cc) fits)) (λ n within past. past_filled (slot_at s i) n past) all
 
   filled_slot : (s : Slab (Entry S F)) (i n : ℕ) (w : Waiter S F) → n < next_generation (get_or (set s.slots i (Live (generation_of (slot_at s i)) (Pending w))) i (Vacant s.first)) → n < generation_of (slot_at s i) + 1
-  filled_slot s i n w past =
-      let slot : Slot (Entry S F) = Live (generation_of (slot_at s i)) (Pending w) in
-      elim (cases_lt i (length s.slots)) [
-        | inl within ↦ past_reads _ slot n (get_or-set_at s.slots i i slot (Vacant s.first) refl within) past
-        | inr beyond ↦
-            let after : length (set s.slots i slot) ≤ i = rw length-set (omega (arith, beyond)) in
-            past_filled (slot_at s i) n (past_reads _ _ n (get_or_past (set s.slots i slot) i (Vacant s.first) after ∙ sym (get_or_past s.slots i (Vacant s.first) (omega (arith, beyond)))) past)
-      ]
+  filled_slot = grind (arith, cases_lt, past_reads, get_or-set_at, length-set, past_filled, get_or_past)
 
   pub filled_last : (s : Slab (Entry S F)) (vacant : List ℕ) (id : WaiterId) (w : Waiter S F) → next_id (record s { vacant = vacant }) ≡ Some id.0 → IsLast (filled s vacant (Pending w)) id.0
-  filled_last s [] id w next =
-      subst (IsLast (filled s [] (Pending w))) (pushed_id s id next) (λ n past. past_reads _ (Live s.first (Pending w)) n (get_or_push s.slots (Live s.first (Pending w)) (Vacant s.first) (length s.slots) refl) past)
-  filled_last s (i ∷ rest) id w next =
-      let is : record { index = i; generation = generation_of (slot_at s i) } ≡ id.0 = some_of_if _ _ _ next in
-      subst (IsLast (filled s (i ∷ rest) (Pending w))) is (λ n past. filled_slot s i n w past)
+  filled_last = grind (arith, pushed_id, past_reads, get_or_push, some_of_if, filled_slot)
 
   -- a request became another with the same gate, and with no permit that it hadn't
   pub becomes : (g : Gates) (worker : ℕ) (s : Slab (Entry S F)) (id : WaiterId) (w w' : Waiter S F) → waiter_at s id.0 ≡ Some w → gate_of w'.request ≡ gate_of w.request → (w'.permit ≡ true → w.permit ≡ true) → AllFit g worker s → AllFit g worker (written s id.0 (Pending w'))
@@ -338,7 +241,4 @@ module _ {S F : Type 0} where
       written_fits g worker s id (Pending w') (asking_last s id.0 w at) (λ v same. subst (Fits g (key_of worker id)) (cc) (alike g (key_of worker id) w w' gate permit (all.fits id w at))) all
 
   pub finished_fits : (g : Gates) (worker : ℕ) (s : Slab (Entry S F)) (id : WaiterId) (told : RequestOutput) (observer : Observer S F) → IsLast s id.0 → AllFit g worker s → AllFit g worker (finished_for s id.0 told observer)
-  finished_fits g worker s id told (Local waker) last all = written_fits g worker s id (Ready told) last (λ v same. absurd (cc)) all
-  finished_fits g worker s id told (Forwarded sender) last all = removed_fits g worker s id last all
-  finished_fits g worker s id told (DetachedSync sender) last all = removed_fits g worker s id last all
-  finished_fits g worker s id told Orphaned last all = removed_fits g worker s id last all
+  finished_fits = grind (arith, written_fits, removed_fits)

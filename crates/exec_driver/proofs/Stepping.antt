@@ -1,6 +1,6 @@
 -- Each other step keeps a driver sound.
-use Rattle.std.proofs.Common.{◌≡◌, ℕ, ◌+◌, ◌<◌, ◌≤◌, Bool, true, false, not, ◌&&◌, cond, List, [], ◌∷◌, length, Option, Some, None, refl, sym, ap, ◌∙◌, inl, inr, arith, length-append}
-use Rattle.exec_driver.proofs.{Words.{is_some, false≢true, Slab, written, is_durable, Asked, asked_of, asks_cancel, Request, Landing, RingState, taken_places, Submission, waiter_at, is_flying, pending_count, flying_count, needs_permit, Waiter, Entry, Pending, WaiterId, Driving, request_at, is_queued, is_gated, is_unenrolled, is_enrolled, is_cancelled, first_of, rest_of, IsListed, IsSound, IsHeld, is_unpermitted, is_at_tick, is_uncancelled, count_of, are_all, cases_Bool, and_parts, not-true}, Counting.{pending_is, flying_is, flying_few}, Shifts.{Shift, Left, Kept, First, shifted, nowhere}, Endings.one_changed, Entering.Within}
+use Rattle.std.proofs.Common.{◌≡◌, ℕ, ◌<◌, ◌≤◌, Bool, true, false, not, ◌&&◌, List, [], ◌∷◌, length, Option, Some, None, refl, sym, ap, ◌∙◌, inl, inr, arith, length-append}
+use Rattle.exec_driver.proofs.{Words.{is_some, false≢true, Slab, written, is_durable, Asked, asked_of, asks_cancel, Request, Landing, RingState, taken_places, Submission, waiter_at, is_flying, pending_count, needs_permit, Waiter, Entry, Pending, WaiterId, Driving, request_at, is_queued, is_gated, is_unenrolled, is_enrolled, is_cancelled, first_of, rest_of, IsListed, IsSound, IsHeld, is_unpermitted, is_at_tick, is_uncancelled, are_all, cases_Bool, and_parts}, Counting.{pending_is, flying_is, flying_few}, Shifts.{Shift, Left, Kept, First, shifted, nowhere}, Endings.one_changed, Entering.Within}
 use Rattle.exec_driver.specs.{Lists.{after_queued, has_first}, Steps.with_staged}
 
 -- a list with a first
@@ -33,22 +33,6 @@ module _ {S F : Type 0} where
   pub permit_same : (w : Waiter S F) (request : Request) → asked_of request ≡ asked_of w.request → needs_permit (record w { in_flight = true; request = request }) ≡ needs_permit w
   permit_same w request same = ap (λ (a : Asked). is_durable a.kind && not w.permit) same
 
-  -- a change of the ring alone
-  pub sound_ring : (d : Driving S F) (d' : Driving S F) → d'.requests ≡ d.requests → d'.wheel ≡ d.wheel → d'.lists ≡ d.lists → taken_places d'.ring ≤ flying_count d.requests + d'.cancels_under_way + cond d'.armed 1 0 → pending_count d.requests + count_of is_uncancelled d.requests + length d.lists.cancels + d'.cancels_under_way + 1 ≤ d'.ring.places → IsSound d → IsSound d'
-  sound_ring d d' requests wheel lists entries places sound =
-      record {
-        queued = rw (requests, lists) sound.queued;
-        gated = rw (requests, lists) sound.gated;
-        enrolments = rw (requests, lists) sound.enrolments;
-        due = rw (requests, lists) sound.due;
-        cancels = rw (requests, lists) sound.cancels;
-        permits = rw requests sound.permits;
-        ticks = rw (requests, wheel) sound.ticks;
-        drained = rw wheel sound.drained;
-        entries = rw requests entries;
-        places = rw (requests, lists) places;
-      }
-
   -- what lands within the next enter is nothing that is held
   pub relanded : (d : Driving S F) (ls : List Landing) (room most spots : ℕ) → IsHeld d room most spots → IsHeld (record d { landings = ls }) room most spots
   relanded d ls room most spots held = assumption held
@@ -60,10 +44,7 @@ module _ {S F : Type 0} where
     pub permitted : needs_permit w ≡ false
 
   pub queued_tells : (w : Waiter S F) → is_queued (Some w) ≡ true → IsQueued w
-  queued_tells w is =
-      let outer = and_parts (not w.in_flight && not (asks_cancel w.state)) (not (needs_permit w)) is in
-      let inner = and_parts (not w.in_flight) (not (asks_cancel w.state)) outer.0 in
-      record { idle = not-true _ inner.0; active = not-true _ inner.1; permitted = not-true _ outer.1 }
+  queued_tells = grind arith
 
   abbrev pub flown : Waiter S F → Request → Waiter S F
   flown w request = record w { in_flight = true; request = request }
@@ -118,10 +99,7 @@ module _ {S F : Type 0} where
       let some : d.lists.cancels ≡ id ∷ rest_of d.lists.cancels = first_tells d.lists.cancels id first in
       let long = ap length some in
       let less = flying_few d.requests in
-      elim (cases_Bool d.armed) [
-        | inl holds ↦ let e = rw holds at sound.entries in omega (arith, e, sound.places, long, less)
-        | inr fails ↦ let e = rw fails at sound.entries in omega (arith, e, sound.places, long, less)
-      ]
+      grind arith
 
   pub place_for_poll : (d : Driving S F) → d.armed ≡ false → IsSound d → taken_places d.ring < d.ring.places
   place_for_poll d fails sound =
@@ -131,8 +109,4 @@ module _ {S F : Type 0} where
 
   -- a change of the ring that adds no entry
   pub held_ring : (d : Driving S F) (ring : RingState) (ls : List Landing) (room most spots : ℕ) → Within d.ring ring 0 → IsHeld d room most spots → IsHeld (record d { ring = ring; landings = ls }) room most spots
-  held_ring d ring ls room most spots within held =
-      let sound = sound_ring d (record d { ring = ring; landings = ls }) refl refl refl (omega (arith, within.taken, held.sound.entries)) (rw within.places held.sound.places) held.sound in
-      let limit : most ≡ ring.size = rw within.size held.limit in
-      let places : spots ≡ ring.places = rw within.places held.places in
-      assumption (sound, limit, places)
+  held_ring = grind arith

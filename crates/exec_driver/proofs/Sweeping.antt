@@ -1,32 +1,10 @@
 -- Completions of no operation are swept away one after the other.
-use Rattle.std.proofs.Common.{◌≡◌, ℕ, suc, ltb, ◌+◌, ◌-◌, ◌<◌, Bool, true, false, ◌&&◌, cond, List, [], ◌∷◌, Option, Some, None, refl, sym, ap, ◌∙◌, inl, inr, arith}
-use Rattle.exec_driver.proofs.Words.{false≢true, ltb-true, ltb-false, Landing, next_in, next_completion, posted_left, reaped, wake_completion, RingState, Completion, Posted, Driving, is_control, noted, taken_out, cases_Bool}
-use Rattle.exec_ring.specs.Kernels.{wakes_left}
-use Rattle.exec_driver.specs.{Steps.{is_next_control, swept_from, swept, after_next_control}, Turns.waiting}
-
-pub one_less : (w : ℕ) → 0 < w → w - 1 < w
-one_less w some = omega (arith, some)
-
-one_fewer : (k n : ℕ) → 0 < k → suc (k - 1 + n) < suc (k + n)
-one_fewer k n some = omega (arith, some)
-
-first_fewer : (k n : ℕ) → n < suc (k + n)
-first_fewer k n = omega arith
+use Rattle.std.proofs.Common.{◌≡◌, ℕ, ltb, ◌-◌, Bool, true, false, ◌&&◌, cond, List, [], ◌∷◌, Option, Some, None, refl, sym, ap, ◌∙◌, arith}
+use Rattle.exec_driver.proofs.Words.{false≢true, ltb-false, Landing, next_in, next_completion, wake_completion, Completion, Posted, Driving, is_control, noted, taken_out, cases_Bool}
+use Rattle.exec_driver.specs.{Steps.{is_next_control, swept_from, swept, after_next_control}}
 
 pub none_left : (w : ℕ) → ltb 0 w ≡ false → w ≡ 0
 none_left w is = let no = ltb-false 0 w is in omega (arith, no)
-
-pub fewer_by : (b : Bool) (p : Posted) (ps : List Posted) (w : ℕ) → ltb 0 p.wakes ≡ b → waiting (cond b (record p { wakes = p.wakes - 1 } ∷ ps) ps) w < waiting (p ∷ ps) w
-fewer_by true p ps w some = one_fewer p.wakes (waiting ps w) (ltb-true 0 p.wakes some)
-fewer_by false p ps w none = first_fewer p.wakes (waiting ps w)
-
-fewer_wakes : (b : Bool) (w : ℕ) → ltb 0 w ≡ b → is_next_control (cond b (Some (wake_completion true)) None) ≡ true → w - 1 < w
-fewer_wakes true w some is = one_less w (ltb-true 0 w some)
-fewer_wakes false w none is = absurd (false≢true is)
-
-pub fewer : (ps : List Posted) (w : ℕ) → is_next_control (next_in ps w) ≡ true → waiting (posted_left ps) (wakes_left ps w) < waiting ps w
-fewer [] w is = fewer_wakes (ltb 0 w) w refl is
-fewer (p ∷ ps) w is = fewer_by (ltb 0 p.wakes) p ps w refl
 
 and_true : (b : Bool) → (b && true) ≡ b
 and_true true = refl
@@ -72,10 +50,6 @@ module _ {S F : Type 0} where
   still [] w d is = still_wakes (ltb 0 w) w d refl is
   still (p ∷ ps) w d is = still_by (ltb 0 p.wakes) p ps w d refl is
 
-  after_control : (d : Driving S F) (o : Option Completion) → is_next_control o ≡ true → (after_next_control d o).ring ≡ reaped d.ring
-  after_control d None is = absurd (false≢true is)
-  after_control d (Some c) is = rw is refl
-
   after_other : (d : Driving S F) (o : Option Completion) → is_next_control o ≡ false → after_next_control d o ≡ d
   after_other d None is = refl
   after_other d (Some c) is = rw is refl
@@ -93,13 +67,6 @@ module _ {S F : Type 0} where
         swept_alike = λ fs. ap (λ (e : Driving S F). record (swept e) { landings = fs }) taken ∙ step_by d.ring.posted d.ring.wakes d d'.landings fs is ∙ so.swept_alike fs;
       }
 
-  pub sweeps_less : (d d' : Driving S F) → is_next_control (next_completion d.ring) ≡ true → d' ≡ record (after_next_control d (next_completion d.ring)) { landings = d'.landings } → waiting d'.ring.posted d'.ring.wakes < waiting d.ring.posted d.ring.wakes
-  sweeps_less d d' is taken =
-      let ring : d'.ring ≡ reaped d.ring = ap (λ (e : Driving S F). e.ring) taken ∙ after_control d (next_completion d.ring) is in
-      let same = ap (λ (s : RingState). waiting s.posted s.wakes) ring in
-      let less = fewer d.ring.posted d.ring.wakes is in
-      omega (arith, same, less)
-
   pub all_swept : (d d' first : Driving S F) → is_next_control (next_completion d.ring) ≡ false → d' ≡ record (after_next_control d (next_completion d.ring)) { landings = d'.landings } → SweepsAlike d first → d' ≡ record (swept first) { landings = d'.landings }
   all_swept d d' first is taken so =
       taken
@@ -109,17 +76,10 @@ module _ {S F : Type 0} where
   -- what is swept has no completion of no operation before the first of one
   after_sweep : (ps : List Posted) (d : Driving S F) → is_next_control (next_completion (swept_from ps d).ring) ≡ false
   after_sweep [] d = refl
-  after_sweep (p ∷ ps) d =
-      elim (cases_Bool (is_control p.completion)) [
-        | inl holds ↦ rw holds (after_sweep ps (noted p.completion d))
-        | inr fails ↦ rw fails fails
-      ]
+  after_sweep (p ∷ ps) d = grind (arith, cases_Bool, is_control, noted, after_sweep ps (noted p.completion d))
 
   pub operation_next : (first d : Driving S F) (c : Completion) → first ≡ record (swept d) { landings = first.landings } → next_completion first.ring ≡ Some c → is_control c ≡ false
   operation_next first d c is next = ap is_next_control (sym next) ∙ ap (λ (e : Driving S F). is_next_control (next_completion e.ring)) is ∙ after_sweep d.ring.posted d
 
   pub stale_swept : (first second new : Driving S F) → second ≡ record (taken_out first) { landings = second.landings } → new ≡ record (swept second) { landings = new.landings } → new ≡ record (swept (taken_out first)) { landings = new.landings }
-  stale_swept first second new taken is =
-      is
-      ∙ ap (λ (e : Driving S F). record (swept e) { landings = new.landings }) taken
-      ∙ alike (taken_out first).ring.posted (taken_out first) (taken_out first).ring.posted second.landings new.landings
+  stale_swept = grind (arith, alike, taken_out)

@@ -1,43 +1,25 @@
 -- The steps of a service: completions, deadlines, permits.
-use Rattle.std.proofs.Common.{zero, suc, ◌≡◌, ◌⊎◌, ℕ, ◌+◌, ◌^◌, ◌<◌, ◌≤◌, eqb, ltb, Bool, true, false, not, ◌&&◌, ◌||◌, cond, List, [], ◌∷◌, length, Option, Some, None, refl, sym, ap, subst, ◌∙◌, inl, inr, arith}
-use Rattle.exec_driver.proofs.{Words.{and_from, and_parts, cases_Bool, not-false, or_parts}, Names.{same_tells, fewer_without}, Endings.{one_changed, one_finished}, Granting.gated_there, Queues.{IsEntered, enters}, Serving.{Eases, Answers, eases_itself, eases_both, eases_is, eases_ring, eases_swept, eases_written, eases_judged, after_reap, reaps_ring, room_still, room_judged, room_ended, keeps_one, like_unscheduled, serves_by, serves_itself, done_itself, eases_queued}, Stepping.{first_in, first_there, first_tells}, Telling.room_within, Sweeping.{one_less, none_left, fewer_by}}
-use Rattle.std.specs.Prelude.{is_some, is_none, min}
+use Rattle.std.proofs.Common.{zero, suc, ◌≡◌, ℕ, ◌+◌, ◌^◌, ◌<◌, ◌≤◌, eqb, ltb, Bool, true, false, not, ◌&&◌, ◌||◌, cond, List, [], ◌∷◌, length, Option, Some, None, refl, sym, ap, subst, ◌∙◌, inl, inr, arith}
+use Rattle.exec_driver.proofs.{Words.{and_from, and_parts, cases_Bool}, Names.{same_tells, fewer_without}, Endings.{one_changed, one_finished}, Granting.gated_there, Queues.{IsEntered, enters}, Serving.{Eases, Answers, eases_both, eases_is, eases_ring, eases_swept, eases_written, eases_judged, after_reap, reaps_ring, room_still, room_judged, room_ended, keeps_one, like_unscheduled, serves_by, serves_itself, done_itself}, Stepping.{first_in, first_there, first_tells}, Telling.room_within}
+use Rattle.std.specs.Prelude.{is_some, is_none}
 use Rattle.std.specs.Option.{IfSome, IfNone, SomeIff}
-use Rattle.std.proofs.lemmas.Bool.{false≢true, ltb-true, ltb-false}
+use Rattle.std.proofs.lemmas.Bool.{false≢true}
 use Rattle.exec_base.specs.{Slab.{Slab, written}, declared.slab.Id.Id}
-use Rattle.exec_base.proofs.Slots.{ltb_tells}
 use Rattle.exec_outcomes.specs.{Accounts.Account, declared.outcome.OpResult.OpResult}
 use Rattle.exec_request.specs.{States.{Ended, asks_cancel}, declared.results.WaiterState.{WaiterState, TheVariants.{Active, CancelRequested}}}
-use Rattle.exec_ring.specs.{Completions.{result_in, wake_completion}, Kernels.{is_quiet, has_none, next_completion, next_in, posted_left, wakes_left, reaped}, declared.completion.{Completion.Completion, Posted.Posted}}
-use Rattle.exec_waiters.specs.{Events.{is_lawful_for, cancelled, with_permit}, States.{waiter_at, flying_count, tick_in, file_of, gate_in}, Told.Tells, declared.{deferred.Deferred.Deferred, waiter.{Waiter.Waiter, Entry.{Entry, TheVariants.Pending}}, waiter_id.WaiterId.WaiterId}}
+use Rattle.exec_ring.specs.{Completions.{result_in}, Kernels.{is_quiet, has_none, next_completion, next_in, posted_left, wakes_left, reaped}, declared.completion.{Completion.Completion, Posted.Posted}}
+use Rattle.exec_waiters.specs.{Events.{cancelled, with_permit}, States.{waiter_at, flying_count, tick_in, file_of, gate_in}, Told.Tells, declared.{deferred.Deferred.Deferred, waiter.{Waiter.Waiter, Entry.{Entry, TheVariants.Pending}}, waiter_id.WaiterId.WaiterId}}
 use Rattle.exec_waiters.proofs.Changes.{one_if}
-use Rattle.exec_driver.specs.{Driving.{Driving, request_at, is_enrolled, is_queued, is_full, may_stage_one, has_pending}, Lists.{has_first, first_of, rest_of, is_same, without, after_due, after_queued}, Opens.{OpenState, account_in}, Sound.IsSound, Steps.{is_control, noted, swept, swept_from, taken_out, judged_as_over, granted_as, permitted, ReapsNext, completed_in, lawful_of, if_lawful, expired, told_by_cancel, timed_out, cancelling, ended, Grants, StagesOne, with_staged, poll_staged, entered, lower, lower_of, lowest_gate}, Turns.{Serves, StaysDone, waiting, unreaped, unstaged, made_way, may_wait}, declared.driver.{reaping.Reaped.Reaped, staging.Granted.Granted}}
+use Rattle.exec_driver.specs.{Driving.{Driving, request_at, is_enrolled, is_queued, is_full, may_stage_one, has_pending}, Lists.{has_first, first_of, rest_of, is_same, without, after_due, after_queued}, Opens.{OpenState, account_in}, Sound.IsSound, Steps.{noted, swept, swept_from, taken_out, judged_as_over, granted_as, permitted, ReapsNext, completed_in, lawful_of, if_lawful, expired, told_by_cancel, timed_out, cancelling, ended, Grants, StagesOne, with_staged, poll_staged, entered, lower, lowest_gate}, Turns.{Serves, StaysDone, waiting, unreaped, unstaged, made_way, may_wait}, declared.driver.{reaping.Reaped.Reaped, staging.Granted.Granted}}
 
 -- HOW MANY COMPLETIONS
 
 fewer_reaped : (ps : List Posted) (w : ℕ) (c : Completion) → next_in ps w ≡ Some c → waiting (posted_left ps) (wakes_left ps w) < waiting ps w
-fewer_reaped [] w c is =
-    elim (cases_Bool (ltb 0 w)) [
-      | inl some ↦ one_less w (ltb-true 0 w some)
-      | inr none ↦ let no : None ≡ Some c = rw none at is in absurd (cc)
-    ]
-fewer_reaped (p ∷ ps) w c is = fewer_by (ltb 0 p.wakes) p ps w refl
-
-none_waiting : (ps : List Posted) (w : ℕ) → next_in ps w ≡ None → waiting ps w ≡ 0
-none_waiting [] w is =
-    elim (cases_Bool (ltb 0 w)) [
-      | inl some ↦ let no : Some (wake_completion true) ≡ None = rw some at is in absurd (cc)
-      | inr none ↦ none_left w none
-    ]
-none_waiting (p ∷ ps) w is = absurd (cc)
+fewer_reaped = grind arith
 
 above : (w : ℕ) → eqb w 0 ≡ false → 0 < w
 above zero is = absurd (false≢true (sym is))
 above (suc n) is = omega arith
-
-zero_or : (n : ℕ) → (n ≡ 0) ⊎ (0 < n)
-zero_or zero = inl refl
-zero_or (suc n) = inr (omega arith)
 
 some_waiting : (ps : List Posted) (w : ℕ) → (has_none ps && eqb w 0) ≡ false → 0 < waiting ps w
 some_waiting [] w is = above w is
@@ -58,50 +40,25 @@ pub no_first : (ids : List WaiterId) → has_first ids ≡ true → None ≡ fir
 no_first [] some is = false≢true some
 no_first (x ∷ ids) some is = absurd (cc)
 
-lower_of_from : (from file : ℕ) (least : Option ℕ) → from ≤ file → ((f : ℕ) → least ≡ Some f → from ≤ f) → (f : ℕ) → lower_of from file least ≡ Some f → from ≤ f
-lower_of_from from file None le so f is = let e : file ≡ f = cc in rw (← e) le
-lower_of_from from file (Some l) le so f is = let e : min l file ≡ f = cc in let low = so l refl in omega (arith, low, le, e)
-
 lower_from : (from : ℕ) (least o : Option ℕ) → ((f : ℕ) → least ≡ Some f → from ≤ f) → (f : ℕ) → lower from least o ≡ Some f → from ≤ f
-lower_from from least None so f is = so f is
-lower_from from least (Some file) so f is =
-    elim (cases_Bool (ltb file from)) [
-      | inl low ↦ so f (rw low at is)
-      | inr high ↦ lower_of_from from file least (ltb-false file from high) so f (rw high at is)
-    ]
+lower_from = grind arith
 
 -- what a sum that fits is
 pub added_tells : (a : ℕ) (o : Option ℕ) (b : ℕ) → SomeIff o (a + 1 < 2 ^ 32) (a + 1) → o ≡ Some b → (a + 1 < 2 ^ 32) × (b ≡ a + 1)
 added_tells a None b is some = absurd (cc)
 added_tells a (Some x) b is some = let same : x ≡ b = cc in (is.0, sym same ∙ is.1)
 
-pub never : (b : Bool) → (b && false) ≡ false
-never true = refl
-never false = refl
-
 module _ {S F : Type 0} where
   waiting_swept : (ps : List Posted) (d : Driving S F) → unreaped (swept_from ps d).ring ≤ waiting ps d.ring.wakes
   waiting_swept [] d = omega arith
-  waiting_swept (p ∷ ps) d =
-      elim (cases_Bool (is_control p.completion)) [
-        | inl holds ↦ let rest = waiting_swept ps (noted p.completion d) in rw holds (omega (arith, rest))
-        | inr fails ↦ rw fails (omega arith)
-      ]
+  waiting_swept (p ∷ ps) d = grind (arith, cases_Bool, waiting_swept ps (noted p.completion d))
 
   waiting_is : (d d' : Driving S F) → d' ≡ record (swept d) { landings = d'.landings } → unreaped d'.ring ≤ unreaped d.ring
-  waiting_is d d' is =
-      let same : unreaped d'.ring ≡ unreaped (swept d).ring = ap (λ (e : Driving S F). unreaped e.ring) is in
-      let less = waiting_swept d.ring.posted d in
-      omega (arith, same, less)
+  waiting_is = grind (arith, waiting_swept)
 
   -- whose operation is over is there
   pub if_tells : (id id' : Id) (o : Option (Waiter S F)) (given : OpResult) → if_lawful id o given ≡ Some id' → (w : Waiter S F) × (o ≡ Some w) × (id ≡ id')
-  if_tells id id' None given is = absurd (cc)
-  if_tells id id' (Some w) given is =
-      elim (cases_Bool (is_lawful_for w given)) [
-        | inl lawful ↦ let same : Some id ≡ Some id' = rw lawful at is in (w, refl, cc)
-        | inr fails ↦ let none : None ≡ Some id' = rw fails at is in absurd (cc)
-      ]
+  if_tells = grind arith
 
   pub completed_there : (s : Slab (Entry S F)) (given : OpResult) (o : Option Id) (id : Id) → lawful_of s given o ≡ Some id → (w : Waiter S F) × (waiter_at s id ≡ Some w)
   completed_there s given None id is = absurd (cc)
@@ -119,11 +76,7 @@ module _ {S F : Type 0} where
       let e = eases_is r.first (swept (taken_out r.first)) new n.0 (eases_both r.first (taken_out r.first) _ (eases_ring r.first (taken_out r.first) refl refl refl refl (λ b. b)) (eases_swept (taken_out r.first).ring.posted (taken_out r.first))) in
       let less = fewer_reaped r.first.ring.posted r.first.ring.wakes c next in
       let after = waiting_is (taken_out r.first) new n.0 in
-      record {
-        answers = record { eases = e; room = λ room. rw n.3 (room_within _ _ x (omega (arith, e.keeps.pending)) room) };
-        fewer = λ some. omega (arith, less, after);
-        no_more = omega (arith, less, after);
-      }
+      grind arith
   reap_of old new opens opens' x y told r c (Some id) next is =
       let there = completed_there r.first.requests (result_in c.result) _ id is in
       let f = r.some c id there.0 next is there.1 in
@@ -139,15 +92,7 @@ module _ {S F : Type 0} where
       }
 
   reap_from : (old new : Driving S F) (opens opens' : List OpenState) (x y : Deferred S F) (told : Option Reaped) (r : ReapsNext old new opens opens' x y told) (o : Option Completion) → next_completion r.first.ring ≡ o → Reaches r.first new x y
-  reap_from old new opens opens' x y told r None is =
-      let n = r.none is in
-      let nothing = none_waiting r.first.ring.posted r.first.ring.wakes is in
-      let same : unreaped new.ring ≡ unreaped r.first.ring = ap (λ (e : Driving S F). unreaped e.ring) n.0 in
-      record {
-        answers = record { eases = subst (λ (e : Driving S F). Eases r.first e) (sym n.0) (eases_itself r.first); room = λ room. rw (n.0, n.3) room };
-        fewer = λ some. omega (arith, nothing, some);
-        no_more = omega (arith, same);
-      }
+  reap_from old new opens opens' x y told r None is = grind arith
   reap_from old new opens opens' x y told r (Some c) is = reap_of old new opens opens' x y told r c (completed_in r.first c) is refl
 
   -- A reap keeps what a service needs, and leaves fewer completions.
@@ -161,10 +106,7 @@ module _ {S F : Type 0} where
         all.done,
         λ loud.
             let some = some_waiting old.ring.posted old.ring.wakes loud in
-            elim (zero_or (unreaped r.first.ring)) [
-              | inl none ↦ omega (arith, rest.no_more, none, some)
-              | inr more ↦ let fewer = rest.fewer more in omega (arith, less, fewer)
-            ],
+            grind arith,
       )
 
   -- PERMITS
@@ -195,11 +137,7 @@ module _ {S F : Type 0} where
     pub fewer : length d'.lists.due < length d.lists.due
 
   expires : (d e d' : Driving S F) (id : WaiterId) (x y : Deferred S F) → d' ≡ e → first_of d.lists.due ≡ Some id → e.lists.due ≡ without id (rest_of d.lists.due) → Serves d e x y → Expires d d' x y
-  expires d e d' id x y is first due serves =
-      let list = ap length (first_tells d.lists.due id first) in
-      let left = ap length due in
-      let less = fewer_without id (rest_of d.lists.due) in
-      subst (λ (f : Driving S F). Expires d f x y) (sym is) (record { serves = serves; fewer = omega (arith, list, left, less) })
+  expires = grind (arith, first_tells, fewer_without)
 
   expire_by : (d d' : Driving S F) (id : WaiterId) (w : Waiter S F) (x y : Deferred S F) (flies asks : Bool) → request_at d id ≡ Some w → w.in_flight ≡ flies → asks_cancel w.state ≡ asks → is_some (tick_in w.state) ≡ true → first_of d.lists.due ≡ Some id → d' ≡ expired d id → Tells x y (told_by_cancel id (request_at d id)) → Expires d d' x y
   expire_by d d' id w x y false asks at idle asked ticks first is tells =
@@ -260,45 +198,21 @@ module _ {S F : Type 0} where
 
   -- where no cancel is to be staged, a request is
   pub stage_none : (d e f : Driving S F) (o p : Option WaiterId) (account : Waiter S F → Option Account) → is_none o ≡ true → o ≡ first_of d.lists.cancels → IfNone o (e ≡ d) → (has_first d.lists.cancels || may_stage_one d) ≡ true → IsSound d → p ≡ first_of e.lists.queued → IfSome p (λ id. (w : Waiter S F) → request_at e id ≡ Some w → StagesOne e f id w (account w)) → Stages d f × (unstaged f < unstaged d)
-  stage_none d e f o p account none first is some sound next staged =
-      let mid = none_staged d e o none first is some in
-      subst (λ (x : Driving S F). Stages x f × (unstaged f < unstaged x)) mid.0 (stage_any e f p account (subst (λ (x : Driving S F). IsSound x) (sym mid.0) sound) (subst (λ (x : Driving S F). may_stage_one x ≡ true) (sym mid.0) mid.1) next staged)
+  stage_none = grind (arith, none_staged, stage_any)
 
   pub poll_any : (d d' : Driving S F) → d' ≡ record (cond d.armed d (cond (is_full d) d (poll_staged d))) { landings = d'.landings } → Stages d d'
-  poll_any d d' is =
-      let e = cond d.armed d (cond (is_full d) d (poll_staged d)) in
-      let lists = ap (λ (e : Driving S F). unstaged e) is in
-      let by = polled d.armed (is_full d) d refl in
-      record { eases = eases_is d e d' is by.eases; no_more = omega (arith, lists, by.no_more) }
-    where
-      polled : (armed full : Bool) (d : Driving S F) → d.armed ≡ armed → Stages d (cond armed d (cond full d (poll_staged d)))
-      polled true full d at = record { eases = eases_itself d; no_more = omega arith }
-      polled false true d at = record { eases = eases_itself d; no_more = omega arith }
-      polled false false d at = record { eases = eases_queued d (poll_staged d) refl refl refl refl (λ n. n) refl (λ b. b); no_more = rw at (omega arith) }
-
-  pub poll_refused : (d : Driving S F) → (d.armed || not (is_full d)) ≡ false → is_full d ≡ true
-  poll_refused d is = not-false (is_full d) ((or_parts d.armed (not (is_full d)) is).1)
+  poll_any = grind arith
 
   -- an enter stages nothing, and leaves an empty queue unless the kernel is busy
   pub enter_any : (d d' : Driving S F) → d' ≡ record (entered d) { landings = d'.landings } → Stages d d' × IsEntered d.ring d'.ring
-  enter_any d d' is =
-      let e = enters d.landings d.ring in
-      let lists = ap (λ (e : Driving S F). unstaged e) is in
-      (record { eases = eases_is d (entered d) d' is (eases_ring d (entered d) refl refl refl e.size (λ b. e.free)); no_more = omega (arith, lists) }, subst (λ (f : Driving S F). IsEntered d.ring f.ring) (sym is) e)
+  enter_any = grind (arith, enters, eases_is, eases_ring)
 
   -- a queue that was filled and entered is not full again with less staged
   pub filled_less : (d e f : Driving S F) → unstaged e ≤ unstaged d → (is_full d ≡ false → unstaged e < unstaged d) → unstaged f ≤ unstaged e → is_full f ≡ false → unstaged f + unstaged f + one_if (is_full f) < unstaged d + unstaged d + one_if (is_full d)
-  filled_less d e f less some no_more free =
-      elim (cases_Bool (is_full d)) [
-        | inl full ↦ rw (full, free) (omega (arith, less, no_more))
-        | inr room ↦ let fewer = some room in rw (room, free) (omega (arith, fewer, no_more))
-      ]
+  filled_less = grind arith
 
   pub not_full : (d : Driving S F) → 0 < d.ring.size → d.ring.staged ≡ [] → is_full d ≡ false
-  not_full d some none = rw none (by d.ring.size some)
-    where
-      by : (n : ℕ) → 0 < n → not (ltb 0 n) ≡ false
-      by n some = elim (ltb_tells 0 n) [ inl less ↦ rw less.0 refl | inr more ↦ absurd (omega (arith, some, more.1)) ]
+  not_full = grind arith
 
   -- GATES
 
@@ -323,11 +237,7 @@ module _ {S F : Type 0} where
 
   -- a queue that is entered where it is full leaves as much pending
   pub way_may : (d d' : Driving S F) → d' ≡ record (made_way d) { landings = d'.landings } → may_wait d ≡ (not (has_pending d') && (d'.armed || not (is_full d')))
-  way_may d d' is =
-      let pending : has_pending d' ≡ has_pending d = ap (λ (e : Driving S F). has_pending e) is ∙ pending_entered (is_full d) d in
-      let armed : d'.armed ≡ d.armed = ap (λ (e : Driving S F). e.armed) is ∙ armed_entered (is_full d) d in
-      let full : is_full d' ≡ is_full (made_way d) = ap (λ (e : Driving S F). is_full e) is in
-      rw (pending, armed, full) refl
+  way_may = grind (arith, pending_entered, armed_entered)
 
   pub way_free : (d d' : Driving S F) → d' ≡ record (made_way d) { landings = d'.landings } → d.ring.busy ≡ false → d'.ring.busy ≡ false
   way_free d d' is free = ap (λ (e : Driving S F). e.ring.busy) is ∙ free_entered (is_full d) d free

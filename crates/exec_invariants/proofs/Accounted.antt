@@ -1,10 +1,11 @@
 -- What is kept of opens, as operations on them are judged and requests of them end: their lines stay, and the machine keeps the
 -- same of them.
 use Rattle.std.proofs.{Common.{◌≡◌, ℕ, zero, suc, ◌<◌, ◌&&◌, Bool, true, false, List, [], ◌∷◌, length, map, Option, Some, None, IsSome, is_some, if◌then◌else◌, refl, sym, ap, subst, ◌∙◌, slice_get, slice_index_or, slice_set}, lemmas.Bool.false≢true}
+use Rattle.std.proofs.Common.{arith}
 use Rattle.exec_outcomes.specs.{Accounts.Account, Outcomes.is_unsupported, declared.outcome.OpResult.OpResult}
-use Rattle.exec_request.specs.{Hints.{has_hint, without_hint}, Requests.{asked_of, hinted_of, target_of}, Syncing.write_kind, Ways.asked_by, declared.{request.Request.Request as Asking, way.Way.Way, write_at.WriteAtState.WriteAtState}}
+use Rattle.exec_request.specs.{Hints.{without_hint}, Requests.{asked_of, hinted_of, target_of}, declared.{request.Request.Request as Asking}}
 use Rattle.exec_waiters.specs.{States.file_of, declared.waiter.Waiter.Waiter}
-use Rattle.exec_driver.specs.{Opens.{OpenState, account_by, account_in, keeping, open_at, with_account, with_open_in}, Steps.open_after}
+use Rattle.exec_driver.specs.{Opens.{OpenState, account_in, keeping, with_account, with_open_in}, Steps.open_after}
 use Rattle.exec_machine.specs.{Tests.is_of_file, World.{Open, no_open}}
 use Rattle.exec_parts.{specs.{declared.parts.{mail.Reply.Reply, record.Record.Record}, View.{account_seen, open_seen}}, proofs.{Facts.{and_parts, by_number, same_thing, set_elsewhere, set_there}, Showing.{map_kept, map_set}}}
 use Rattle.exec_invariants.{specs.Gates.{AreLinedUp, has_hint_at}, proofs.{Hinting.open_there, Lined.{SameLines, accounts_kept, only_line, opens_same}, SparedRecord.there_within}}
@@ -19,22 +20,7 @@ account_set opens file o a there = ap (with_open_in opens file (keeping (Some a)
 
 -- lines stay, and a hint that was refused stays so
 pub lines_account : (opens : List OpenState) (rs : List Record) (file : ℕ) (o : OpenState) (a : Account) → AreLinedUp opens rs → slice_get opens file ≡ Some o → (has_hint_at opens file ≡ false → a.hinted ≡ false) → SameLines opens (slice_set opens file (with_its a o))
-lines_account opens rs file o a lined there refused =
-    record {
-      lines = map_kept only_line opens file (with_its a o) o there refl;
-      kept = λ f x at.
-          by_number f file
-          (λ apart. accounts_kept opens rs lined f x (sym (set_elsewhere opens file f (with_its a o) apart) ∙ at))
-          (λ same.
-          let is : with_its a o ≡ x = same_thing (with_its a o) x (sym (set_there opens file (with_its a o) o there) ∙ ap (slice_get (slice_set opens file (with_its a o))) (sym same) ∙ at) in
-          subst (λ y. IsSome y.account) is refl);
-      hints = λ f none.
-          by_number f file
-          (λ apart. ap (λ x. has_hint (account_by x)) (set_elsewhere opens file f (with_its a o) apart) ∙ none)
-          (λ same.
-          let before : has_hint_at opens file ≡ false = ap (has_hint_at opens) (sym same) ∙ none in
-          ap (λ x. has_hint (account_by x)) (ap (slice_get (slice_set opens file (with_its a o))) same ∙ set_there opens file (with_its a o) o there) ∙ refused before);
-    }
+lines_account = grind (arith, map_kept, only_line, by_number, accounts_kept, set_elsewhere, same_thing, set_there)
 
 -- and it is seen
 pub account_shown : (rs : List Record) (opens : List OpenState) (file : ℕ) (o : OpenState) (a : Account) → map (open_seen rs) (slice_set opens file (with_its a o)) ≡ slice_set (map (open_seen rs) opens) file (record (open_seen rs o) { account = a })
@@ -47,12 +33,7 @@ set_same (y ∷ xs) (suc k) x there = ap (λ zs. y ∷ zs) (set_same xs k x ther
 
 -- what is kept as it is
 pub account_still : (opens : List OpenState) (file : Option ℕ) → with_account opens file (account_in opens file) ≡ opens
-account_still opens None = refl
-account_still opens (Some file) = by (slice_get opens file) refl
-  where
-    by : (o : Option OpenState) → slice_get opens file ≡ o → with_open_in opens file (keeping (account_by (open_at opens file))) (open_at opens file) ≡ opens
-    by None none = ap (λ x. with_open_in opens file (keeping (account_by x)) x) none
-    by (Some o) there = ap (λ x. with_open_in opens file (keeping (account_by x)) x) there ∙ set_same opens file o there
+account_still = grind (arith, set_same)
 
 -- the open of a request of a file, which is there
 pub record HasOpen (opens : List OpenState) (file : ℕ) : Type 0 where
@@ -77,11 +58,7 @@ refused a = record a { hinted = false }
 
 -- what the driver keeps of it then
 pub refusal : (q : Asking) (opens : List OpenState) (file : ℕ) (has : HasOpen opens file) → file_of q ≡ Some file → with_account opens (file_of q) (without_hint (account_in opens (file_of q))) ≡ slice_set opens file (with_its (refused has.a) has.o)
-refusal q opens file has is =
-    ap (λ f. with_account opens f (without_hint (account_in opens f))) is
-    ∙ ap (λ x. with_account opens (Some file) (without_hint (account_by x))) has.there
-    ∙ ap (λ x. with_account opens (Some file) (without_hint x)) has.account
-    ∙ account_set opens file has.o (refused has.a) has.there
+refusal = grind arith
 
 -- and the machine of what it sees
 pub refusal_shown : (rs : List Record) (opens : List OpenState) (file : ℕ) (has : HasOpen opens file)
@@ -90,32 +67,12 @@ pub refusal_shown : (rs : List Record) (opens : List OpenState) (file : ℕ) (ha
 refusal_shown rs opens file has =
     let seen : slice_index_or (map (open_seen rs) opens) file no_open ≡ open_seen rs has.o = open_there rs opens file has.o has.there in
     let account : (open_seen rs has.o).account ≡ has.a = ap account_seen has.account in
-    account_shown rs opens file has.o (refused has.a)
-    ∙ ap (λ a. slice_set (map (open_seen rs) opens) file (record (open_seen rs has.o) { account = record a { hinted = false } })) (sym account)
-    ∙ ap (λ (x : Open). slice_set (map (open_seen rs) opens) file (record x { account = record x.account { hinted = false } })) (sym seen)
+    grind (arith, account_shown)
 
 -- WHAT A JUDGEMENT DOES to what is kept of opens, where its request goes on
 
 hinted_file : (q : Asking) → hinted_of q ≡ true → (file_of q ≡ Some (target_of q)) × (is_of_file (asked_of q).kind ≡ true)
-hinted_file (Asking.Send s) h = absurd (false≢true h)
-hinted_file (Asking.Recv r) h = absurd (false≢true h)
-hinted_file (Asking.ReadAt r) h = (refl, by r.way)
-  where
-    by : (x : Way) → is_of_file (asked_by x (length r.buf.bytes)).kind ≡ true
-    by Way.Buffered = refl
-    by Way.Hinted = refl
-    by (Way.Direct skip len) = refl
-    by (Way.Switched skip len) = refl
-hinted_file (Asking.WriteAt w) h = (refl, by w.state)
-  where
-    by : (x : WriteAtState) → is_of_file (write_kind x) ≡ true
-    by WriteAtState.Writing = refl
-    by WriteAtState.WritingSync = refl
-    by WriteAtState.WritingBeforeSync = refl
-    by WriteAtState.Syncing = refl
-hinted_file (Asking.Sync s) h = absurd (false≢true h)
-hinted_file (Asking.Connect c) h = absurd (false≢true h)
-hinted_file (Asking.Poll p) h = absurd (false≢true h)
+hinted_file = grind arith
 
 -- the machine's opens, by whether a hint is refused
 abbrev pub opens_refused : Bool → List Open → ℕ → List Open

@@ -1,10 +1,10 @@
 -- Acts of a polled body that change its slot alone: a pass, a wait for a wake, a yield.
-use Rattle.std.proofs.{Common.{◌≡◌, ◌≢◌, ◌⊎◌, inl, inr, ℕ, suc, ◌+◌, ◌-◌, ◌==◌, ◌&&◌, arith, Bool, true, false, List, [], ◌∷◌, length, map, Option, Some, None, IsSome, refl, sym, ap, subst, ◌∙◌, option_to_list, slice_get, slice_index_or, slice_set, if◌then◌else◌}, lemmas.{Bool.{false≢true, eq-eqb}, List.{map-set, set-set}}}
-use Rattle.exec_task.specs.{Phases.{is_polled, woken as cell_woken}, Sight.Sight, declared.{body.{Act.Act, Said.Said}, task.Phase.Phase}}
-use Rattle.exec_machine.specs.{Choice.{Choice, Choice.{Plain, Pays}, Payer.ByAct}, declared.{config.ScriptWord.ScriptWord, event.Event.{Event, TheVariants.{Pass, Wake}}, state.{Next.Next, Waiting.Waiting}}, Progress.Plan, Requests.operation_asked, Tasks.{after_taking, after_waking_word, is_woken_here, polls_waiting, waits_for, woken, woken_phase}, Tests.{is_woken, waits_for_nothing}, Words.{acts, asks_no_sleep, asks_wake, asks_yield, moved_on, next_word}, World.{Own, Task, Common, no_task, task_of}}
-use Rattle.exec_moves.specs.{declared.place.{Place.Place, InPoll.InPoll}, Move.move_act, Poll.act_asked, Seen.{next_in_poll, polls_at, polls_in}, State.{Moved, Things}}
+use Rattle.std.proofs.{Common.{◌≡◌, ◌≢◌, ◌⊎◌, inl, inr, ℕ, suc, ◌-◌, ◌&&◌, arith, Bool, true, false, List, [], ◌∷◌, length, map, Option, Some, None, IsSome, refl, sym, ap, subst, ◌∙◌, slice_get, slice_index_or, slice_set, if◌then◌else◌}, lemmas.{Bool.{false≢true, eq-eqb}, List.{map-set, set-set}}}
+use Rattle.exec_task.specs.{Phases.{is_polled, woken as cell_woken}, Sight.Sight, declared.{body.{Act.Act, Said.Said}}}
+use Rattle.exec_machine.specs.{Choice.{Choice, Choice.{Plain, Pays}, Payer.ByAct}, declared.{config.ScriptWord.ScriptWord, event.Event.{Event, TheVariants.{Pass, Wake}}, state.{Next.Next, Waiting.Waiting}}, Progress.Plan, Requests.operation_asked, Tasks.{after_waking_word, is_woken_here, waits_for, woken, woken_phase}, Tests.{waits_for_nothing}, Words.{acts, asks_yield, moved_on, next_word}, World.{Own, Task, Common, no_task, task_of}}
+use Rattle.exec_moves.specs.{declared.place.{Place.Place, InPoll.InPoll}, Move.move_act, Poll.act_asked, Seen.{next_in_poll, polls_in}, State.{Moved, Things}}
 use Rattle.exec_parts.{specs.{declared.parts.{record.Record.Record, shared.Shared.Shared, sleeping.SleeperRecord.SleeperRecord, task_slot.TaskSlot.TaskSlot, worker.Worker.Worker}, Phased.is_complete, Polls.yielded_slot, Scripts.{GoesOn, IsAnswered, is_last}, Spots.{Spot, spot_of, standing_at}, View.{Views, own_of, desk_of, common_of, phase_seen, task_seen, spot_by, body_in, things_with}, Things.TurnsSlot}, proofs.Facts.{by_number, same_thing, set_there, or_right, both_true}}
-use Rattle.exec_invariants.{specs.{Acting.{ActsAs, HasActed, Performs, StepsOf}, Holding.{awaited_in, holder_of}, Places.{begins_at, hands_on_at, is_pooled_at, joins_at, one_if, polled_in, removes_at}, Sound.{HasGuest, IsGuest, IsInHand, SoundAt, IsRunnable, Stands, StopsIn, WaitsAt, acts_next, is_told, one_of}, Whole.{HasOne, is_number as is_counted, runnables_in}, Works.Beside}, proofs.{Here.{IsHere, going_on, polled_here, unflagged_there}, Pending.{in_poll, polled_none}, Performing.{performs_passed, performs_yielded, still_performs, wakes_as}, Polling.{at_phase, home_mine, in_own_poll, number_apart, number_there, on_in_poll, removes_none}, PoolKept.unremoved, Slots.{Balances, IsEvent, beside_slot, task_there, works_slot}, SlotTasks.{IsAfter, Keeps, Sits, Tasked, guest_tasked, none_in, root_tasked, sound_tasked, stops_own}}}
+use Rattle.exec_invariants.{specs.{Acting.{ActsAs, HasActed, Performs, StepsOf}, Holding.{holder_of}, Places.{begins_at, hands_on_at, is_pooled_at, joins_at, polled_in}, Sound.{HasGuest, IsGuest, IsInHand, SoundAt, IsRunnable, StopsIn, WaitsAt, acts_next, is_told, one_of}, Works.Beside}, proofs.{Here.{IsHere, going_on, polled_here, unflagged_there}, Pending.{in_poll}, Performing.{performs_passed, performs_yielded, still_performs, wakes_as}, Polling.{at_phase, home_mine, in_own_poll, on_in_poll}, Slots.{Balances, IsEvent, beside_slot, task_there, works_slot}, SlotTasks.{IsAfter, Keeps, Sits, Tasked, guest_tasked, none_in, root_tasked, sound_tasked, stops_own}}}
 
 -- nothing is newest where nothing is held
 pub none_held : (held : List ℕ) → slice_get held (length held - 1) ≡ None → held ≡ []
@@ -43,16 +43,6 @@ module _ {B : Type 0} where
     pub unpooled : is_pooled_at (Place.Poll t y) ≡ false
     pub free : next_in_poll y ≡ Next.Free
 
-  none_polled : (g : Bool) (p : Phase B) (n : ℕ) → is_polled p ≡ true → n ≡ 0 → HasOne g p n
-  none_polled g Phase.Running n h none = none
-  none_polled g Phase.Notified n h none = none
-  none_polled g (Phase.Idle x) n h none = absurd (false≢true h)
-  none_polled g (Phase.Queued x) n h none = absurd (false≢true h)
-  none_polled g Phase.Complete n h none = absurd (false≢true h)
-
-  unqueued : (p : Phase B) → is_polled p ≡ true → (b : B) → p ≡ Phase.Queued b → ⊥
-  unqueued p polled b is = absurd (false≢true (sym (ap is_polled is) ∙ polled))
-
   pub stays_tasked : (t : ℕ) (y : InPoll) (w : Worker) (s : Shared B) (slot' : TaskSlot B) → (sound : SoundAt (Place.Poll t InPoll.Act) w s) → (it : IsHere InPoll.Act t w s) → StaysOn y t it.slot slot'
       → Tasked (Place.Poll t y) w w.root_ready None s (slice_set s.tasks.items t slot')
   stays_tasked t y w s slot' sound it on = by_number t w.root other root
@@ -68,17 +58,7 @@ module _ {B : Type 0} where
           let unflagged : w.root_ready ≡ None = unflagged_there w.root_ready None slot it.polled (subst (λ (o : TaskSlot B). IsRunnable (one_of w.root_ready None) o) (sym same_root) sound.runnable.once) in
           let over : is_complete slot.cell.phase ≡ false = going_on slot.cell.phase it.polled in
           let over' : is_complete slot'.cell.phase ≡ false = going_on slot'.cell.phase on.polled in
-          let sits : Sits q w w.root_ready s slot slot' = record {
-            there = there;
-            keeps = on.keeps;
-            stands = subst (λ x. Stands x w.index slot') (sym own) (record { polled = on.polled; body = λ some. on.body; poller = λ some. on.poller ∙ it.poller; kept = on.cancelled ∙ old.kept; uncleared = on.cleared ∙ old.uncleared; told = λ h. on.told (ap (is_told slot'.waiting) (sym over') ∙ h); untold = on.untold; waits = on.waits });
-            once = subst (λ o. IsRunnable o slot') (sym unflagged) (unqueued slot'.cell.phase on.polled);
-            hand = on.hands;
-            polls = λ n is. same_thing n t (sym is ∙ on.polls) ∙ same;
-            complete = over' ∙ sym over;
-            unpooled = on.unpooled;
-            stops = on.stops w.index s.requests.items s.sleepers.items;
-          } in
+          let sits : Sits q w w.root_ready s slot slot' = grind arith in
           subst (λ n. Tasked q w w.root_ready None s (slice_set s.tasks.items n slot')) (sym same) (root_tasked t InPoll.Act q w w.root_ready s slot slot' sound sits)
 
       other : t ≢ w.root → Tasked (Place.Poll t y) w w.root_ready None s (slice_set s.tasks.items t slot')
@@ -109,20 +89,7 @@ module _ {B : Type 0} where
           })
 
   pub stays_balances : (t : ℕ) (y : InPoll) (w : Worker) (s : Shared B) (slot' : TaskSlot B) → SoundAt (Place.Poll t InPoll.Act) w s → (it : IsHere InPoll.Act t w s) → StaysOn y t it.slot slot' → Balances t (Place.Poll t y) w None it.slot slot'
-  stays_balances t y w s slot' sound it on =
-      let slot = it.slot in
-      let empty : w.hand ≡ None = sound.hand in
-      record {
-        keeps = on.keeps;
-        holder = on.holder;
-        apart = λ u other. sym (ap (λ o. runnables_in u (option_to_list o)) empty);
-        one = λ g home n one. none_polled g slot'.cell.phase (n + 0) on.polled (polled_none g slot.cell.phase (n + 0) it.polled (subst (λ o. HasOne g slot.cell.phase (n + runnables_in t (option_to_list o))) empty one));
-        polls_apart = λ u other. number_apart t u (polls_in t y) on.polls other ∙ sym (ap (λ q. is_counted (polls_at q) u) sound.here ∙ number_apart t u (Some t) refl other);
-        polls = λ home n polls.
-            ap (λ b. n + one_if b) (number_there t (polls_in t y) on.polls ∙ sym (ap (λ q. is_counted (polls_at q) t) sound.here ∙ number_there t (Some t) refl)) ∙ polls ∙ ap one_if (it.polled ∙ sym on.polled);
-        remains = λ home. record { cleared = on.cleared; over = λ h. absurd (false≢true (sym (going_on slot.cell.phase it.polled) ∙ h)); poller = λ polled. inl (on.poller ∙ it.poller, on.polls) };
-        removes = λ u is. absurd (unremoved (removes_at (Place.Poll t y)) (removes_none t y on.polls) u is);
-      }
+  stays_balances = grind arith
 
   pub home_here : (x : InPoll) (t : ℕ) (w : Worker) (s : Shared B) → (it : IsHere x t w s) → (it.slot.home ≡ Some w.index) ⊎ (it.slot.home ≡ None)
   home_here x t w s it = by_number t w.root (λ apart. inr (it.ordinary apart).1) (λ same. inl (it.root same).1)
@@ -138,27 +105,7 @@ module _ {B : Type 0} where
 
   -- the body is told this, and acts again
   pub tells_on : (t : ℕ) (slot : TaskSlot B) (b' : B) (x : Said) → is_polled slot.cell.phase ≡ true → slot.waiting ≡ Waiting.Nothing → StaysOn InPoll.Act t slot (record slot { body = Some b'; told = Some x })
-  tells_on t slot b' x polled waits =
-      record {
-        keeps = record { home = refl; number = refl; owner = refl };
-        polled = polled;
-        body = refl;
-        poller = refl;
-        cancelled = refl;
-        cleared = refl;
-        held = refl;
-        holder = refl;
-        waits = waits;
-        told = λ h. refl;
-        untold = λ h. absurd (false≢true (sym h ∙ ap acts_next waits));
-        stops = λ i rs ss. tt;
-        polls = refl;
-        begins = refl;
-        hands = refl;
-        joins = refl;
-        unpooled = refl;
-        free = refl;
-      }
+  tells_on = grind arith
 
 module _ {B L : Type 0} (left : B → L) (spot : L → Option Said → Spot) where
   -- the body past its word, and what it is told then
@@ -192,9 +139,7 @@ module _ {B L : Type 0} (left : B → L) (spot : L → Option Said → Spot) whe
 
   pub moves_so : (t : ℕ) (p : Plan) (all : Common) (w : Worker) (s : Shared B) (vs : Views) (slot : TaskSlot B) (x : ScriptWord) → IsPlainWord x → task_of all t ≡ task_seen left spot slot → next_word all (task_seen left spot slot) ≡ x
       → word_move t p all w s vs (next_word all (task_of all t)) ≡ move_by t p all w s vs (task_seen left spot slot) x
-  moves_so t p all w s vs slot x plain it is =
-      by_word t p all w s vs slot x it is ∙ plain t p all w s vs
-      ∙ ap (λ y. move_by t p all w s vs y (next_word all y)) it ∙ ap (move_by t p all w s vs (task_seen left spot slot)) is
+  moves_so = grind arith
 
 module _ {B L : Type 0} (left : B → L) (runs : L → Plan → Option ℕ → Type 0) (holds : L → Option Said → List ℕ) (spot : L → Option Said → Spot) (gives : L → Option Sight → Said → Act B → L → Option Sight → Type 0) where
   -- what an act leaves that changed the slot, and then what it asks for did
@@ -261,30 +206,14 @@ module _ {B L : Type 0} (left : B → L) (runs : L → Plan → Option ℕ → T
       let m = h.made in
       let it : IsHere InPoll.Act t w s = polled_here InPoll.Act t w s h.sound refl in
       let is : it.slot ≡ m.slot = same_thing it.slot m.slot (sym it.there ∙ m.there) in
-      record {
-        polled = ap (λ (o : TaskSlot B). is_polled o.cell.phase) (sym is) ∙ it.polled;
-        waits = ap (λ (o : TaskSlot B). o.waiting) (sym is) ∙ it.waits;
-        home = subst (λ (o : TaskSlot B). (o.home ≡ Some w.index) ⊎ (o.home ≡ None)) is (home_here InPoll.Act t w s it);
-      }
+      grind arith
 
   -- A PASS
 
   pass_event : IsAnswered spot → (t : ℕ) (w : Worker) (s : Shared B) (slot : TaskSlot B) (b' : B) → w.hand ≡ None → slice_get s.tasks.items t ≡ Some slot → slot.waiting ≡ Waiting.Nothing → is_polled slot.cell.phase ≡ true → (p : Plan) (vs : Views)
       → ActsAs left runs holds spot gives (common_of left spot p vs s) p w.moments.sampled slot b' (Act.Sleep 0)
       → IsEvent left spot (Place.Poll t InPoll.Act) (Place.Poll t InPoll.Act) t w w.root_ready None s (record slot { body = Some b'; told = Some Said.Pass }) Pass Plain p vs
-  pass_event answered t w s slot b' empty there waits is p vs does_so =
-      let all = common_of left spot p vs s in
-      let me = me_at t w in
-      let it : task_of all t ≡ task_seen left spot slot = task_there left spot s.tasks.items t slot there in
-      let past : spot (left b') (Some Said.Pass) ≡ spot_of (moved_on all (task_seen left spot slot)) = answered (left b') Said.Pass (λ h. absurd (cc)) ∙ does_so.stands in
-      record {
-        moves = moves_so left spot t p all w s vs slot (ScriptWord.Sleep 0) (λ k q c v x us. refl) it does_so.asks ∙ ap (λ o. record { event = Pass; choice = Plain; desk = desk_of (record w { place = Place.Poll t InPoll.Act; hand = o }); thing = things_with vs s }) empty;
-        may = (or_right (polls_waiting me all is_woken) (acts me all asks_no_sleep) (acts_so left spot t all w slot asks_no_sleep it waits (ap asks_no_sleep does_so.asks)), tt);
-        own = refl;
-        common = ap (λ y. record all { tasks = slice_set all.tasks t (after_taking all y) }) it
-            ∙ ap (λ u. record all { tasks = slice_set all.tasks t (if waits_for_nothing u then moved_on all (task_seen left spot slot) else record (task_seen left spot slot) { waiting = Waiting.Nothing }) }) waits
-            ∙ ap (λ y. record all { tasks = slice_set all.tasks t y }) (sym (moved_seen left spot all slot b' (Some Said.Pass) is past));
-      }
+  pass_event = grind (arith, task_there, moves_so, or_right, acts_so, moved_seen)
 
   pub passed_by : IsAnswered spot → (t : ℕ) (w w' : Worker) (s s1 s' : Shared B) (e : Event) → (h : HasActed left runs holds spot gives t w s s1 (Act.Sleep 0))
       → e ≡ Pass → w' ≡ record w { place = Place.Poll t InPoll.Act } → TurnsSlot t s1 s' (λ slot. record slot { told = Some Said.Pass }) → StepsOf left runs holds spot w s e w' s'
@@ -319,18 +248,7 @@ module _ {B L : Type 0} (left : B → L) (runs : L → Plan → Option ℕ → T
       let found : slice_index_or (map (task_seen left spot) (slice_set s.tasks.items t mid)) t no_task ≡ task_seen left spot mid =
       task_there left spot (slice_set s.tasks.items t mid) t mid (set_there s.tasks.items t mid slot there) in
       let at_mid : slice_index_or (slice_set all.tasks t (task_seen left spot mid)) t no_task ≡ task_seen left spot mid = ap (λ ts. slice_index_or ts t no_task) listed ∙ found in
-      record {
-        moves = moves_so left spot t p all w s vs slot ScriptWord.Yield (λ k q c v x us. refl) it does_so.asks ∙ ap (λ o. record { event = Wake t; choice = Pays ByAct; desk = desk_of (record w { place = Place.Poll t InPoll.Pend; hand = o }); thing = things_with vs s }) empty;
-        may = (
-          or_right (acts me all (asks_wake t)) (acts me all asks_yield && (t == t)) (both_true (acts me all asks_yield) (t == t) (acts_so left spot t all w slot asks_yield it waits (ap asks_yield does_so.asks)) (eq-eqb t t refl)),
-          (ap (λ y. is_woken_here w.index y.home) it ∙ woken_here w.index slot.home home, tt),
-        );
-        own = refl;
-        common = ap (λ y. wake_in (slice_set all.tasks t y)) word_done
-            ∙ ap (λ y. record all { tasks = slice_set (slice_set all.tasks t (task_seen left spot mid)) t (woken y) }) at_mid
-            ∙ ap (λ ts. record all { tasks = ts }) (set-set all.tasks t (task_seen left spot mid) (woken (task_seen left spot mid)))
-            ∙ ap (λ y. record all { tasks = slice_set all.tasks t y }) woken_seen;
-      }
+      grind (arith, moves_so, or_right, both_true, acts_so, eq-eqb, woken_here, set-set)
 
   pub yielded_by : IsAnswered spot → (t : ℕ) (w w' : Worker) (s s1 s' : Shared B) (e : Event) → (h : HasActed left runs holds spot gives t w s s1 Act.Yield)
       → e ≡ Wake t → w' ≡ record w { place = Place.Poll t InPoll.Pend } → TurnsSlot t s1 s' yielded_slot → StepsOf left runs holds spot w s e w' s'
@@ -338,26 +256,7 @@ module _ {B L : Type 0} (left : B → L) (runs : L → Plan → Option ℕ → T
       let m = h.made in
       let it = actor t w s s1 Act.Yield h in
       let wakes = wakes_as m.slot.cell.phase (Some m.acts.body') m.slot.poller it.polled in
-      let stays : StaysOn InPoll.Pend t m.slot (yielded_slot (acted_slot m.slot m.acts.body')) = record {
-        keeps = record { home = refl; number = refl; owner = refl };
-        polled = wakes.polled;
-        body = refl;
-        poller = refl;
-        cancelled = refl;
-        cleared = refl;
-        held = refl;
-        holder = ap (λ b. record (holder_of m.slot) { awaits = None; over = b }) wakes.complete ∙ ap (λ u. record (holder_of m.slot) { awaits = awaited_in u }) (sym it.waits);
-        waits = refl;
-        told = λ h. refl;
-        untold = λ h. absurd (false≢true (sym h));
-        stops = λ i rs ss. tt;
-        polls = refl;
-        begins = refl;
-        hands = refl;
-        joins = refl;
-        unpooled = refl;
-        free = refl;
-      } in
+      let stays : StaysOn InPoll.Pend t m.slot (yielded_slot (acted_slot m.slot m.acts.body')) = grind arith in
       subst (λ z. StepsOf left runs holds spot w s z w' s') (sym event)
       (acted t InPoll.Pend w w' s s1 s' (Wake t) (Pays ByAct) Act.Yield yielded_slot h stays
       (λ p vs so. yield_event answered t w s m.slot m.acts.body' h.sound.hand m.there it.waits it.polled it.home p vs so) (λ p goes. performs_yielded left runs holds spot gives p m.slot m.acts.body' it.polled goes) refl same turns)

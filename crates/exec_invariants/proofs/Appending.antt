@@ -5,7 +5,7 @@ use Rattle.exec_task.specs.declared.{body.Said.Said, runnable.Runnable.Runnable}
 use Rattle.exec_machine.specs.{declared.event.Event.{Event, TheVariants.Turn}, Choice.Choice.Plain, Progress.Plan}
 use Rattle.exec_moves.specs.{declared.{handing.{AfterPush.AfterPush, InGlobal.InGlobal}, place.Place.Place}, Global.appended_if, Parts.after_push, Push.in_hand, State.{Moved, Things}, Thing.set_global}
 use Rattle.exec_parts.{specs.{declared.parts.{shared.Shared.Shared, task_slot.TaskSlot.TaskSlot, worker.Worker.Worker}, Spots.Spot, Tests.after_push_of, View.{Views, common_of, desk_of, own_of, tasks_of, things_with}}, proofs.Facts.{by_number, not_same, or_right}}
-use Rattle.exec_invariants.{specs.{Sound.SoundAt, Whole.{HasOne, HasWhole, IsGenuine, IsWhole, Profile, may_let_go, runnables_in, stock, with_worker}, Works.{Steps, Suits}}, proofs.{PushLeads.{ArrivesAt, CarriesNone, push_reaches}, Handed.{IsPushFor, PushNext, push_seen}, Flagging.none_of, Onces.{has_at_most, has_fewer}, Pushing.{among_none, ordinary}, Queued.hands_of, Queueing.{Reaches, as_many, poses, rehanded, whole_handed}, Thieves.in_both}}
+use Rattle.exec_invariants.{specs.{Sound.SoundAt, Whole.{HasOne, HasWhole, IsGenuine, IsWhole, Profile, may_let_go, runnables_in, stock, with_worker}, Works.{Steps, Suits}}, proofs.{PushLeads.{ArrivesAt, CarriesNone, push_reaches}, Handed.{IsPushFor, PushNext, push_seen}, Flagging.none_of, Onces.{has_at_most, has_fewer}, Pushing.{ordinary}, Queued.hands_of, Queueing.{Reaches, as_many, poses, rehanded, whole_handed}, Thieves.in_both}}
 
 -- WHERE EACH OF THESE IS BELOW A NUMBER, and none is there twice, they are so few
 
@@ -138,20 +138,7 @@ module _ {B L : Type 0} (left : B → L) (spot : L → Option Said → Spot) (b 
           record { seated = rw armed sound.seated; queue = λ chair there. queue chair.queue (sound.queue chair there); aims = aims; batch = batch; batch_place = sound.batch_place; lets_go = lets_go; phased = phased }
 
       carries : (gone : Bool) → CarriesNone w (v gone) s
-      carries gone p begins hands loot searching pooled serves left_then told =
-          record {
-            runnable = rw begins sound.runnable;
-            hand = rw (begins, hands) refl;
-            loot = record { places = sound.loot.places; few = omega arith; none = λ is_none. refl };
-            genuine = λ r among. among_none r among;
-            stolen = λ r among. among_none r among;
-            searching = rw sound.searching searching;
-            pooled = pooled;
-            serves = serves;
-            calm = sound.calm;
-            left = left_then;
-            told = told;
-          }
+      carries = grind arith
 
       is : IsPushFor b q
       is = record { callbacks = refl; closes = refl; closing = refl; spare = refl; bare = refl; held = λ x h. h; batch = λ ms h. h }
@@ -168,12 +155,7 @@ module _ {B L : Type 0} (left : B → L) (spot : L → Option Said → Spot) (b 
 
       -- what stands in the queue then, as it is seen
       shows : (gone : Bool) → appended_if gone (tasks_of s.global.values) (tasks_of w.loot.values ++ in_hand (option_map (λ r. r.task.0) w.hand)) ≡ tasks_of (g gone).values
-      shows true = refl
-      shows false =
-          let number : Runnable → ℕ = λ r. r.task.0 in
-          ap (λ xs. tasks_of s.global.values ++ (tasks_of w.loot.values ++ xs)) (hand_seen w.hand)
-          ∙ ap (λ xs. tasks_of s.global.values ++ xs) (sym (map-append number w.loot.values (option_to_list w.hand)))
-          ∙ sym (map-append number s.global.values all)
+      shows = grind (arith, hand_seen, map-append)
 
       -- what it leads to there
       seen : (gone : Bool) (p : Plan) (vs : Views) → Suits p vs w s → ◌≡◌ {A = Moved Things} (record { event = Turn; choice = Plain; desk = record (desk_of w) { place = (if gone then after_push p.config w.index (own_of w) (common_of left spot p vs s) b (desk_of w) else Place.Global InGlobal.LoadGlobalSet b); hand = None; loot = [] }; thing = set_global (things_with vs s) (appended_if gone (tasks_of s.global.values) (tasks_of w.loot.values ++ in_hand (option_map (λ r. r.task.0) w.hand))) })

@@ -6,7 +6,7 @@ use Rattle.exec_task.specs.declared.body.Said.{Said}
 use Rattle.exec_machine.specs.{declared.{event.Event.{Event, TheVariants.Turn}, state.Next.Next}, Choice.Choice.Plain, Progress.Plan}
 use Rattle.exec_moves.specs.{declared.place.Place.Place, Move.move_at, Seen.{next_at, polls_at, serves_at}, State.Moved}
 use Rattle.exec_parts.{specs.{declared.parts.{record.Record.Record, sleeping.SleeperRecord.SleeperRecord, seat.Seat.Seat as Chair, shared.Shared.Shared, worker.Worker.Worker}, Spots.Spot, View.{Views, common_of, desk_of, own_of, things_with}, Things.{Goes, Makes}}, proofs.Facts.{by_number, set_elsewhere, set_there}}
-use Rattle.exec_invariants.{specs.{Holding.{IsHolding, box_of, holder_of, nap_of, thing_of}, Kinds.{kind_of, lowered}, Places.{claims_at, clears_at, drops_at, has_count_at, is_pooled_at, is_published_at, removes_at}, Spares.{Spares, SparesChair, SparesRecord, SparesSleeper}, Whole.{claimed_count, duties_of, hands_of, IsWhole, may_let_go, Profile, queued, runnables_in, stock, with_worker}, Sound.{SoundAt, has_wakes_at}, Works.{Beside, Steps, Suits}}, proofs.{PoolKept.{KeepsGates, gates_same, pool_seats}, Spared.{records_endure, sleepers_endure}, Turning.{GoesOn, Keeps, Lands, Shares, arrives, by_place, fits_here, turn_alike, turned}}}
+use Rattle.exec_invariants.{specs.{Holding.{IsHolding, box_of, holder_of, nap_of, thing_of}, Kinds.{kind_of, lowered}, Places.{claims_at, drops_at, has_count_at, is_pooled_at, is_published_at}, Spares.{Spares, SparesChair, SparesRecord, SparesSleeper}, Whole.{claimed_count, duties_of, hands_of, IsWhole, may_let_go, Profile, queued, runnables_in, stock, with_worker}, Sound.{SoundAt, has_wakes_at}, Works.{Beside, Steps, Suits}}, proofs.{PoolKept.{KeepsGates, gates_same, pool_seats}, Spared.{records_endure, sleepers_endure}, Turning.{GoesOn, Keeps, Lands, Shares, arrives, by_place, fits_here, turn_alike, turned}}}
 
 -- SEATS
 
@@ -38,39 +38,15 @@ seats_same i seats seats' same =
 -- the tail of a chair that was set, and of any other
 tails_set : (i : ℕ) (seats seats' : List Chair) (mine mine' : Chair) → seats' ≡ slice_set seats i mine' → slice_get seats i ≡ Some mine → tail_of mine.queue ≤ tail_of mine'.queue
     → (k : ℕ) (chair chair' : Chair) → slice_get seats k ≡ Some chair → slice_get seats' k ≡ Some chair' → tail_of chair.queue ≤ tail_of chair'.queue
-tails_set i seats seats' mine mine' set there grows k chair chair' at_k at_k' =
-    by_number k i
-    (λ other.
-    let is : chair ≡ chair' = cc (sym at_k ∙ sym (set_elsewhere seats i k mine' other) ∙ ap (λ xs. slice_get xs k) (sym set) ∙ at_k') in
-    subst (λ c. tail_of chair.queue ≤ tail_of c.queue) is (omega arith))
-    (λ same.
-    let is : mine ≡ chair = cc (there, subst (λ n. slice_get seats n ≡ Some chair) same at_k) in
-    let is' : mine' ≡ chair' = cc (sym (set_there seats i mine' mine there), ap (λ xs. slice_get xs i) (sym set), subst (λ n. slice_get seats' n ≡ Some chair') same at_k') in
-    subst (λ c. tail_of c.queue ≤ tail_of chair'.queue) is (subst (λ c. tail_of mine.queue ≤ tail_of c.queue) is' grows))
+tails_set = grind (arith, by_number, set_elsewhere, set_there)
 
 -- the own seat was set
 pub seats_own : (i : ℕ) (seats seats' : List Chair) (mine mine' : Chair) → seats' ≡ slice_set seats i mine' → slice_get seats i ≡ Some mine → tail_of mine.queue ≤ tail_of mine'.queue → SparesSeats i seats seats'
-seats_own i seats seats' mine mine' set there grows =
-    record {
-      many = ap length set ∙ length-set seats i mine';
-      chair = λ j chair other at_j. (chair, ap (λ xs. slice_get xs j) set ∙ set_elsewhere seats i j mine' other ∙ at_j, spared chair);
-      tails = tails_set i seats seats' mine mine' set there grows;
-    }
+seats_own = grind (arith, length-set, set_elsewhere, spared, tails_set)
 
 -- that of worker k was set, and spares it
 pub seats_other : (i k : ℕ) (seats seats' : List Chair) (its its' : Chair) → seats' ≡ slice_set seats k its' → slice_get seats k ≡ Some its → tail_of its.queue ≤ tail_of its'.queue → SparesChair its its' → SparesSeats i seats seats'
-seats_other i k seats seats' its its' set there grows spares =
-    record {
-      many = ap length set ∙ length-set seats k its';
-      chair = λ j chair other at_j.
-          by_number j k
-          (λ apart. (chair, ap (λ xs. slice_get xs j) set ∙ set_elsewhere seats k j its' apart ∙ at_j, spared chair))
-          (λ same.
-          let is : its ≡ chair = cc (there, subst (λ n. slice_get seats n ≡ Some chair) same at_j) in
-          let now : slice_get seats' j ≡ Some its' = ap (λ xs. slice_get xs j) set ∙ subst (λ n. slice_get (slice_set seats k its') n ≡ Some its') (sym same) (set_there seats k its' its there) in
-          (its', now, subst (λ c. SparesChair c its') is spares));
-      tails = tails_set k seats seats' its its' set there grows;
-    }
+seats_other = grind (arith, length-set, by_number, set_elsewhere, spared, set_there, tails_set)
 
 -- QUEUES
 
@@ -79,9 +55,7 @@ queue_of_chair chair = chair.queue
 
 pub queues_set : (seats : List Chair) (i : ℕ) (chair chair' : Chair) → slice_get seats i ≡ Some chair → chair'.queue ≡ chair.queue → map queue_of_chair (slice_set seats i chair') ≡ map queue_of_chair seats
 queues_set [] i chair chair' there same = refl
-queues_set (c ∷ cs) zero chair chair' there same =
-    let is : chair ≡ c = cc in
-    ap (λ q. q ∷ map queue_of_chair cs) (same ∙ ap queue_of_chair is)
+queues_set (c ∷ cs) zero chair chair' there same = grind arith
 queues_set (c ∷ cs) (suc i) chair chair' there same = ap (λ qs. c.queue ∷ qs) (queues_set cs i chair chair' there same)
 
 -- of seats with the same queues the same is in them, and each has one as before
@@ -142,12 +116,7 @@ pub record SameProfile (w w' : Worker) : Type 0 where
   pub told : SameTold w w'
 
 pub profile_same : (x : Profile) (w w' : Worker) → SameProfile w w' → with_worker x w' ≡ with_worker x w
-profile_same x w w' same =
-    let clears : clears_at w'.place ≡ clears_at w.place = ap (λ d. d.clears) same.drops in
-    let removes : removes_at w'.place ≡ removes_at w.place = ap (λ d. d.removes) same.drops in
-    let passes : (drops_at w'.place).passes ≡ (drops_at w.place).passes = ap (λ d. d.passes) same.drops in
-    let joins : (drops_at w'.place).joins ≡ (drops_at w.place).joins = ap (λ d. d.joins) same.drops in
-    rw (same.hand, same.loot, same.polls, same.claims, same.searching, same.counts, same.index, same.published, clears, removes, passes, joins, same.told.batch, same.told.letters, same.told.left) refl
+profile_same = grind arith
 
 module _ {B : Type 0} where
   pub spares_turn : (i j : ℕ) (s s' : Shared B) → j ≢ i → Shares s s' → SparesSeats i s.seats.items s'.seats.items → Spares j s s'
@@ -242,19 +211,7 @@ told_on w w' clock on = record { batch = ap (λ (v : Worker). v.batch) on.same; 
 
 -- a place of the same kind, with the hands as they were
 pub profile_alike : (q q' : Place) (w w' : Worker) → w.place ≡ q → w'.place ≡ q' → kind_of q' ≡ lowered w.role (is_pooled_at q') (kind_of q) → Keeps w w' → w'.index ≡ w.index → SameTold w w' → SameProfile w w'
-profile_alike q q' w w' here there same keeps index told =
-    record {
-      hand = keeps.hand;
-      loot = keeps.loot;
-      polls = rw (here, there) (ap (λ k. k.polls) same);
-      claims = rw (here, there) (ap (λ k. k.claims) same);
-      searching = keeps.searching;
-      counts = rw (here, there) (ap (λ k. k.counts) same);
-      index = index;
-      published = rw (here, there) (ap (λ k. k.published) same);
-      drops = ap drops_at there ∙ ap (λ k. k.drops) same ∙ sym (ap drops_at here);
-      told = told;
-    }
+profile_alike = grind arith
 
 module _ {B L : Type 0} (left : B → L) (spot : L → Option Said → Spot) where
   -- The worker goes on to a place of the same kind, and nothing that is shared changes.

@@ -1,23 +1,17 @@
 -- A TASK IS ABOUT TO ASK another worker for an end: that worker's inbox is open, has a place, and what tasks hold once it is asked.
 use Rattle.std.proofs.{Common.{◌≡◌, ◌≢◌, inl, ℕ, ◌+◌, ◌<◌, ◌≤◌, Bool, true, false, nat_lt, cond, List, [], ◌∷◌, count_by, length, map, Some, None, IsSome, refl, sym, ap, subst, ◌∙◌, arith, slice_get, slice_set, option_map}, lemmas.{Bool.{false≢true, Decides.nat_tests}, Option.slice_get-map}}
 use Rattle.exec_words.specs.{Inbox.is_wake_root, declared.inbox.Message.{Message}}
-use Rattle.exec_machine.specs.{declared.state.Forwarding.{Forwarding, TheVariants.{Applied, Sent as Forwarded, Unsent}}, Tests.is_unsent}
+use Rattle.exec_machine.specs.{declared.state.Forwarding.{Forwarding, TheVariants.{Sent as Forwarded}}, Tests.is_unsent}
 use Rattle.exec_moves.specs.declared.place.{InPoll.InPoll, Place.Place}
 use Rattle.exec_parts.{specs.declared.parts.{mail.Subject.Subject, seat.Seat.Seat as Chair, shared.Shared.Shared, task_slot.TaskSlot.TaskSlot, worker.Worker.Worker}, proofs.Facts.never_true}
 use Rattle.exec_invariants.{specs.{Holding.{Box, Hands, Holder, IsAbout, IsForwarded, IsHolding, IsOrdinary, Mail, Nap, Thing, box_of, mail_in, same_mail, under_way}, Sound.SoundAt, Whole.HasWhole}, proofs.{HoldMail.{mail_is, is_never, is_once, sum_least}, HoldPosts.{has_place, with_mail}, HoldSleeps.nap_redone, Slots.before_for}}
 
 -- what isn't asked for is in no inbox
 pub none_sent : (shut : Bool) (f : Forwarding) (n : ℕ) → shut ≡ false → is_unsent f ≡ true → IsForwarded shut f n → n ≡ 0
-none_sent true f n open_box unsent fact = absurd (false≢true (sym open_box))
-none_sent false Unsent n open_box unsent fact = fact
-none_sent false Forwarded n open_box unsent fact = absurd (false≢true unsent)
-none_sent false Applied n open_box unsent fact = absurd (false≢true unsent)
+none_sent = grind arith
 
 pub one_sent : (shut : Bool) (f : Forwarding) (n m : ℕ) → is_unsent f ≡ true → m ≡ n + 1 → IsForwarded shut f n → IsForwarded shut Forwarded m
-one_sent true f n m unsent more fact = tt
-one_sent false Unsent n m unsent more fact = omega (arith, more, fact)
-one_sent false Forwarded n m unsent more fact = absurd (false≢true unsent)
-one_sent false Applied n m unsent more fact = absurd (false≢true unsent)
+one_sent = grind arith
 
 -- one more is under way
 pub one_more_way : (h : Hands) (m : Mail) (boxes : List Box) → under_way (with_mail m h) m boxes ≡ under_way h m boxes + 1

@@ -2,15 +2,13 @@
 use Rattle.std.proofs.{Common.{◌≡◌, ◌≢◌, ◌⊎◌, inl, inr, ℕ, ◌<◌, ◌==◌, Bool, true, false, not, map, Option, Some, None, refl, sym, ap, subst, ◌∙◌, arith, slice_get, slice_set, option_map, if◌then◌else◌}, lemmas.{Bool.{false≢true, eq-eqb}, List.map-set, Option.{get_or_from_slice_get, slice_get-map, slice_get_within}}}
 use Rattle.exec_words.specs.declared.inbox.Message.{Message}
 use Rattle.exec_task.specs.declared.body.Said.{Said}
-use Rattle.exec_machine.specs.{declared.{event.Event.{Event, TheVariants.{Closed, GotTimer, Send}}, state.{Forwarding.{Forwarding, TheVariants.{Applied, Sent as Forwarded, Unsent}}, MailMessage.TheVariants.ForwardTimer, Waiting.Waiting}}, Mail.posted as seat_posted, Progress.Plan, Tests.{is_unsent, waits_for_timer}, World.{Task, no_seat, seat_of, sleeper_of, task_of}}
+use Rattle.exec_machine.specs.{declared.{event.Event.{Event, TheVariants.{Closed, GotTimer, Send}}, state.{Forwarding.{Forwarding, TheVariants.{Sent as Forwarded, Unsent}}, MailMessage.TheVariants.ForwardTimer, Waiting.Waiting}}, Mail.posted as seat_posted, Progress.Plan, Tests.{is_unsent, waits_for_timer}, World.{Task, no_seat, seat_of, sleeper_of, task_of}}
 use Rattle.exec_moves.specs.{declared.{handing.AfterSend.AfterSend, place.{InPoll.InPoll, Place.Place}}, Move.move_look_at, Poll.{Sight.{Asks, HearsTimer}, acts_on, pend, resume, sight_by, sight_of}, State.{Moved, Things, does}, Thing.aside}
 use Rattle.exec_parts.{specs.{declared.parts.{mail.Subject.Subject, seat.Seat.Seat as Chair, shared.Shared.Shared, sleeping.SleeperRecord.SleeperRecord, task_slot.TaskSlot.TaskSlot, worker.Worker.Worker}, Calls.sleeper_forwarded, MailPosts.{AsksEnd, Sends, asks_by, chair_sent}, Spots.Spot, View.{Views, common_of, desk_of, numbers_of_passing, own_of, seat_seen, seats_seen, task_seen, things_with}}, proofs.Facts.{by_number, never_true, not_same, same_thing, set_there}}
-use Rattle.exec_invariants.{specs.{Holding.{Holder, IsAbout, IsHolding, IsOrdinary, MayHave, awaited_in, box_of, holder_of, nap_of, thing_of}, Sound.{MayStop, SoundAt, is_told, may_end}, Spares.SparesSleeper, Whole.{HasWhole, Profile, hands_of, with_worker}, Works.{Steps, Suits, Works}}, proofs.{AskBoxes.{asks_place, box_there, nap_asked, pool_open}, Here.IsHere, HoldBeside.Holds, HoldPosts.{posted, with_mail}, HoldThings.{Touches, touches_sleeper}, LetterPosts.{chair_open, forwards_timer, open_spares, sent_open}, Lined.passing_same, Polling.home_mine, Seats.seat_there, Seen.sleeper_at, Slots.task_there, SparedRecord.there_within, TaskAsks.{Posts, asked, asked_works, led_to, leads_to, to_pend}, TaskDeals.{Dealt, ends as to_end, from_look}, TaskHears.hears_same, TaskTakes.{holder_there, nap_there}, Turning.set_found}}
+use Rattle.exec_invariants.{specs.{Holding.{Holder, IsAbout, IsHolding, IsOrdinary, MayHave, awaited_in, box_of, holder_of, nap_of, thing_of}, Sound.{MayStop, SoundAt}, Spares.SparesSleeper, Whole.{HasWhole, Profile, hands_of, with_worker}, Works.{Steps, Suits, Works}}, proofs.{AskBoxes.{asks_place, box_there, nap_asked, pool_open}, Here.IsHere, HoldBeside.Holds, HoldPosts.{posted, with_mail}, HoldThings.{Touches, touches_sleeper}, LetterPosts.{chair_open, forwards_timer, open_spares, sent_open}, Lined.passing_same, Polling.home_mine, Seats.seat_there, Seen.sleeper_at, Slots.task_there, SparedRecord.there_within, TaskAsks.{Posts, asked, asked_works, led_to, leads_to, to_pend}, TaskDeals.{Dealt, ends as to_end, from_look}, TaskHears.hears_same, TaskTakes.{holder_there, nap_there}, Turning.set_found}}
 
 is_unsent_so : (f : Forwarding) → is_unsent f ≡ true → f ≡ Unsent
-is_unsent_so Unsent h = refl
-is_unsent_so Forwarded h = absurd (false≢true h)
-is_unsent_so Applied h = absurd (false≢true h)
+is_unsent_so = grind arith
 
 module _ {B : Type 0} where
   -- who waits for a sleeper elsewhere is an ordinary task, and its worker is of the pool
@@ -123,17 +121,7 @@ module _ {B L : Type 0} (left : B → L) (spot : L → Option Said → Spot) whe
       let items : mid.tasks.items ≡ slice_set s.tasks.items t slot = ap (λ y. y.items) mid_tasks ∙ sym (set_found s.tasks.items t slot at.there) in
       let touches : Touches s (record s { requests = mid.requests; sleepers = mid.sleepers }) = subst (λ y. Touches s (record s { requests = y; sleepers = mid.sleepers })) (sym mid_requests) (touches_sleeper s mid z it (sleeper_forwarded it) at_z spares sleepers) in
       let stop : MayStop w.index (Waiting.Timer z) mid.requests.items mid.sleepers.items = (sleeper_forwarded it, ap (λ zs. slice_get zs z) sleepers ∙ set_there s.sleepers.items z (sleeper_forwarded it) it at_z, inl refl) in
-      let to : Dealt InPoll.Pend w.index slot slot mid.requests.items mid.sleepers.items = record {
-        cell = refl;
-        home = refl;
-        cleared = refl;
-        poller = refl;
-        body = at.body;
-        told = λ h. absurd (false≢true (sym (ap (λ u. is_told u false) waits) ∙ h));
-        untold = at.untold;
-        waits = ap may_end waits;
-        stops = subst (λ u. MayStop w.index u mid.requests.items mid.sleepers.items) (sym waits) stop;
-      } in
+      let to : Dealt InPoll.Pend w.index slot slot mid.requests.items mid.sleepers.items = grind arith in
       let worker : w' ≡ record w { place = led_to t InPoll.Pend b j (asks_by (ForwardTimer z) chair.mailbox) } = sends.worker chair mid_there ∙ ap (λ q. record w { place = q }) (leads_to t InPoll.Pend b (to_pend t) mid.config j (asks_by (ForwardTimer z) chair.mailbox) (desk_of w)) in
       let event : e ≡ Send j (ForwardTimer z) = sends.event chair mid_there ∙ ap (λ c. if c then Closed else Send j (ForwardTimer z)) whom.open_box in
       let held : (others : Profile) → Holds (with_worker others w) s → Holds (with_worker others w) s' = λ others old.

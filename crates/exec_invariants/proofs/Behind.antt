@@ -1,6 +1,6 @@
 -- What stands behind in a list of completions, and what is left of it once all of no operation before the first of an operation
 -- was dropped.
-use Rattle.std.proofs.{Common.{◌≡◌, ℕ, suc, ◌+◌, ◌≤◌, ◌==◌, ◌&&◌, ◌||◌, Bool, true, false, not, List, [], ◌∷◌, length, map, filter, Option, Some, None, refl, sym, ap, subst, ◌∙◌, arith, nat_le, if◌then◌else◌}, lemmas.{Bool.{false≢true, eqb-true, Decides.nat_tests}, List.length-map}}
+use Rattle.std.proofs.{Common.{◌≡◌, ℕ, suc, ◌+◌, ◌≤◌, ◌==◌, ◌&&◌, ◌||◌, Bool, true, false, not, List, [], ◌∷◌, map, filter, Option, Some, None, refl, sym, ap, ◌∙◌, arith, nat_le, if◌then◌else◌}, lemmas.{Bool.{Decides.nat_tests}, List.length-map}}
 use Rattle.exec_ring.specs.{Completions.is_wake, declared.completion.Completion.Completion}
 use Rattle.exec_driver.specs.Steps.{is_control, armed_after}
 use Rattle.exec_moves.specs.State.{is_dropped, others_left, told_left}
@@ -26,69 +26,24 @@ armed_through [] a = a
 armed_through (c ∷ cs) a = if is_control c then armed_through cs (armed_after c a) else a
 
 pub end_controls : (c : Completion) → is_end c ≡ true → is_control c ≡ true
-end_controls c h = by (c.user_data == 18446744073709551615) refl
-  where
-    by : (b : Bool) → (c.user_data == 18446744073709551615) ≡ b → is_control c ≡ true
-    by true is = rw is refl
-    by false is = absurd (false≢true (rw is at h))
+end_controls = grind arith
 
 pub op_ends : (c : Completion) → is_control c ≡ false → is_end c ≡ false
-op_ends c h = by (is_end c) refl
-  where
-    by : (b : Bool) → is_end c ≡ b → is_end c ≡ false
-    by true is = absurd (false≢true (sym h ∙ end_controls c is))
-    by false is = is
+op_ends = grind arith
 
 pub op_wakes : (c : Completion) → is_control c ≡ false → is_wake c ≡ false
-op_wakes c h = by (is_wake c) refl
-  where
-    by : (b : Bool) → is_wake c ≡ b → is_wake c ≡ false
-    by true is = absurd (false≢true (sym h ∙ rw is refl))
-    by false is = is
+op_wakes = grind arith
 
 pub op_acks : (c : Completion) → is_control c ≡ false → (c.user_data == 4294967295) ≡ false
-op_acks c h = by (c.user_data == 4294967295) refl (c.user_data == 18446744073709551615) refl
-  where
-    by : (b : Bool) → (c.user_data == 4294967295) ≡ b → (x : Bool) → (c.user_data == 18446744073709551615) ≡ x → (c.user_data == 4294967295) ≡ false
-    by true is true wake = absurd (false≢true (sym h ∙ rw wake refl))
-    by true is false wake = absurd (false≢true (sym h ∙ rw (wake, is) refl))
-    by false is x wake = is
+op_acks = grind arith
 
 armed_control : (c : Completion) (a : Bool) → is_control c ≡ true → armed_after c a ≡ (a && not (is_end c))
-armed_control c a control = by (c.user_data == 4294967295) refl (c.user_data == 18446744073709551615) refl
-  where
-    and_true : (b : Bool) → b ≡ (b && true)
-    and_true true = refl
-    and_true false = refl
-
-    twice : (b : Bool) → b ≡ not (not b)
-    twice true = refl
-    twice false = refl
-
-    by : (x : Bool) → (c.user_data == 4294967295) ≡ x → (y : Bool) → (c.user_data == 18446744073709551615) ≡ y → armed_after c a ≡ (a && not (is_end c))
-    by true is y max =
-        let tag : c.user_data ≡ 4294967295 = eqb-true c.user_data 4294967295 is in
-        rw tag (and_true a)
-    by false is true max = rw (is, max) (ap (λ b. a && b) (twice c.more))
-    by false is false max = absurd (false≢true (rw (max, is) at control))
+armed_control = grind arith
 
 pub armed_through_is : (cs : List Completion) (a : Bool) → armed_through cs a ≡ (a && not (ends_first cs))
 armed_through_is [] true = refl
 armed_through_is [] false = refl
-armed_through_is (c ∷ cs) a = by (is_control c) refl (armed_through_is cs (armed_after c a))
-  where
-    both : (a e f : Bool) → ((a && not e) && not f) ≡ (a && not (e || f))
-    both true true f = refl
-    both true false f = refl
-    both false e f = refl
-
-    alone : (b : Bool) → b ≡ (b && true)
-    alone true = refl
-    alone false = refl
-
-    by : (b : Bool) → is_control c ≡ b → armed_through cs (armed_after c a) ≡ (armed_after c a && not (ends_first cs)) → armed_through (c ∷ cs) a ≡ (a && not (ends_first (c ∷ cs)))
-    by true is more = rw is (more ∙ ap (λ b. b && not (ends_first cs)) (armed_control c a is) ∙ both a (is_end c) (ends_first cs))
-    by false is more = rw is (alone a)
+armed_through_is (c ∷ cs) a = grind (arith, armed_control, armed_through_is cs (armed_after c a))
 
 -- one by one
 pub passes : (c : Completion) (cs : List Completion) → is_control c ≡ true → after_controls (c ∷ cs) ≡ after_controls cs
@@ -109,11 +64,7 @@ no_end (c ∷ cs) none = by (is_end c) refl (λ h. no_end cs h)
 
 ends_after_le : (cs : List Completion) → ends_in (after_controls cs) ≤ ends_in cs
 ends_after_le [] = omega arith
-ends_after_le (c ∷ cs) = by (is_control c) refl (ends_after_le cs)
-  where
-    by : (b : Bool) → is_control c ≡ b → ends_in (after_controls cs) ≤ ends_in cs → ends_in (after_controls (c ∷ cs)) ≤ ends_in (c ∷ cs)
-    by true is rest = subst (λ xs. ends_in xs ≤ ends_in (c ∷ cs)) (sym (passes c cs is)) (omega arith)
-    by false is rest = subst (λ xs. ends_in xs ≤ ends_in (c ∷ cs)) (sym (stays c cs is)) (omega arith)
+ends_after_le (c ∷ cs) = grind (arith, passes, stays, ends_after_le cs)
 
 -- not so many operations stand behind
 behind_most : (cs : List Completion) (n : ℕ) → behind_end cs ≡ Some n → n ≤ operations_in cs
@@ -121,12 +72,7 @@ behind_most [] n h = absurd (cc)
 behind_most (c ∷ cs) n h = by (is_end c) refl (is_control c) refl (λ some. behind_most cs n some)
   where
     by : (b : Bool) → is_end c ≡ b → (x : Bool) → is_control c ≡ x → (behind_end cs ≡ Some n → n ≤ operations_in cs) → n ≤ operations_in (c ∷ cs)
-    by true is x control rest =
-        let same : Some (operations_in cs) ≡ Some n = rw is at h in
-        let it : operations_in cs ≡ n = cc in
-        rw (end_controls c is) (omega arith)
-    by false is true control rest = rw control (rest (rw is at h))
-    by false is false control rest = rw control (let most = rest (rw is at h) in omega arith)
+    by = grind arith
 
 le_self : (n : ℕ) → nat_le n n ≡ true
 le_self n = grind (arith, nat_tests)
@@ -138,31 +84,14 @@ module _ (f : Completion → ℕ) where
   -- whether the end stands before the first operation, by how many have landed behind it
   pub dropped_first : (cs : List Completion) → is_dropped (map f (filter is_op cs)) (behind_end cs) ≡ ends_first cs
   dropped_first [] = refl
-  dropped_first (c ∷ cs) = by (is_end c) refl (is_control c) refl (dropped_first cs)
-    where
-      less : (e : Option ℕ) → behind_end cs ≡ e → is_dropped (f c ∷ map f (filter is_op cs)) e ≡ false
-      less None is = refl
-      less (Some n) is = ap (λ m. nat_le (suc m) n) (length-map (filter is_op cs) f) ∙ le_less n (operations_in cs) (behind_most cs n is)
-
-      by : (b : Bool) → is_end c ≡ b → (x : Bool) → is_control c ≡ x → is_dropped (map f (filter is_op cs)) (behind_end cs) ≡ ends_first cs → is_dropped (map f (filter is_op (c ∷ cs))) (behind_end (c ∷ cs)) ≡ ends_first (c ∷ cs)
-      by true is x control rest =
-          let all : is_control c ≡ true = end_controls c is in
-          rw (is, all) (ap (λ m. nat_le m (operations_in cs)) (length-map (filter is_op cs) f) ∙ le_self (operations_in cs))
-      by false is true control rest = rw (is, control) rest
-      by false is false control rest = rw (is, control) (less (behind_end cs) refl)
+  dropped_first (c ∷ cs) = grind (arith, length-map, le_less, behind_most, end_controls, le_self, dropped_first cs)
 
   pub ended_after : (cs : List Completion) → ends_in cs ≤ 1 → behind_end (after_controls cs) ≡ (if ends_first cs then None else behind_end cs)
   ended_after [] few = refl
   ended_after (c ∷ cs) few = by (is_control c) refl (is_end c) refl (λ h. ended_after cs h)
     where
       by : (x : Bool) → is_control c ≡ x → (b : Bool) → is_end c ≡ b → (ends_in cs ≤ 1 → behind_end (after_controls cs) ≡ (if ends_first cs then None else behind_end cs)) → behind_end (after_controls (c ∷ cs)) ≡ (if ends_first (c ∷ cs) then None else behind_end (c ∷ cs))
-      by true control true is rest =
-          let most : 1 + ends_in cs ≤ 1 = rw is at few in
-          rw (control, is) (no_end (after_controls cs) (let less = ends_after_le cs in omega arith))
-      by true control false is rest =
-          let most : 0 + ends_in cs ≤ 1 = rw is at few in
-          rw (control, is) (rest (omega arith))
-      by false control b is rest = rw (control, op_ends c control) refl
+      by = grind (arith, no_end, ends_after_le, op_ends)
 
   pub ends_after : (cs : List Completion) → ends_in cs ≤ 1 → ends_in (after_controls cs) ≡ (if ends_first cs then 0 else ends_in cs)
   ends_after [] few = refl
@@ -173,14 +102,7 @@ module _ (f : Completion → ℕ) where
       plus_none false n = omega arith
 
       by : (x : Bool) → is_control c ≡ x → (b : Bool) → is_end c ≡ b → (ends_in cs ≤ 1 → ends_in (after_controls cs) ≡ (if ends_first cs then 0 else ends_in cs)) → ends_in (after_controls (c ∷ cs)) ≡ (if ends_first (c ∷ cs) then 0 else ends_in (c ∷ cs))
-      by true control true is rest =
-          let most : 1 + ends_in cs ≤ 1 = rw is at few in
-          let less = ends_after_le cs in
-          rw (control, is) (omega arith)
-      by true control false is rest =
-          let most : 0 + ends_in cs ≤ 1 = rw is at few in
-          rw (control, is) (rest (omega arith) ∙ plus_none (ends_first cs) (ends_in cs))
-      by false control b is rest = rw (control, op_ends c control) refl
+      by = grind arith
 
 -- WHAT STANDS BEHIND THE LAST
 
@@ -229,22 +151,11 @@ first_is [] c cs h = absurd (cc)
 first_is (x ∷ xs) c cs h = by (is_control x) refl (λ some. first_is xs c cs some)
   where
     by : (k : Bool) → is_control x ≡ k → (filter is_op xs ≡ c ∷ cs → FirstIs xs c cs) → FirstIs (x ∷ xs) c cs
-    by true control later =
-        let it = later (rw control at h) in
-        record { rest = it.rest; first = passes x xs control ∙ it.first; operates = it.operates; later = it.later }
-    by false control later =
-        let both : x ∷ filter is_op xs ≡ c ∷ cs = rw control at h in
-        let one : x ≡ c = cc in
-        let more : filter is_op xs ≡ cs = cc in
-        record { rest = xs; first = stays x xs control ∙ ap (λ y. y ∷ xs) one; operates = subst (λ y. is_control y ≡ false) one control; later = more }
+    by = grind arith
 
 pub ops_after : (xs : List Completion) → filter is_op (after_controls xs) ≡ filter is_op xs
 ops_after [] = refl
-ops_after (x ∷ xs) = by (is_control x) refl (ops_after xs)
-  where
-    by : (k : Bool) → is_control x ≡ k → filter is_op (after_controls xs) ≡ filter is_op xs → filter is_op (after_controls (x ∷ xs)) ≡ filter is_op (x ∷ xs)
-    by true control rest = ap (filter is_op) (passes x xs control) ∙ rest ∙ sym (rw control refl)
-    by false control rest = ap (filter is_op) (stays x xs control)
+ops_after (x ∷ xs) = grind (arith, passes, stays, ops_after xs)
 
 pub none_left : (xs : List Completion) → filter is_op xs ≡ [] → after_controls xs ≡ []
 none_left [] h = refl
@@ -270,46 +181,20 @@ module _ (f : Completion → ℕ) (xs : List Completion) (c : Completion) (cs : 
       ∙ ap (λ b. if b then 0 else ends_in xs) (sym (dropped_first f xs) ∙ ap (λ ys. is_dropped (map f ys) (behind_end xs)) is)
 
   rest_few : ends_in it.rest ≤ 1
-  rest_few = by (is_dropped (map f (c ∷ cs)) (behind_end xs)) rest_ends
-    where
-      by : (b : Bool) → ends_in it.rest ≡ (if b then 0 else ends_in xs) → ends_in it.rest ≤ 1
-      by true h = omega arith
-      by false h = omega arith
+  rest_few = grind (arith, rest_ends)
 
   -- dropped before the first is dropped before the next
   later_dropped : (e : Option ℕ) → is_dropped (map f (c ∷ cs)) e ≡ true → is_dropped (map f cs) e ≡ true
-  later_dropped None h = absurd (false≢true h)
-  later_dropped (Some n) h = by_le (length (map f cs)) n h
-    where
-      by_le : (m n : ℕ) → nat_le (suc m) n ≡ true → nat_le m n ≡ true
-      by_le m n h = grind (arith, nat_tests)
+  later_dropped = grind arith
 
   rest_dropped : ends_first it.rest ≡ is_dropped (map f cs) (if is_dropped (map f (c ∷ cs)) (behind_end xs) then None else behind_end xs)
   rest_dropped = sym (dropped_first f it.rest) ∙ ap (λ ys. is_dropped (map f ys) (behind_end it.rest)) it.later ∙ ap (is_dropped (map f cs)) rest_ended
 
   pub reaped_ended : behind_end (after_controls it.rest) ≡ (if is_dropped (map f cs) (behind_end xs) then None else behind_end xs)
-  reaped_ended =
-      ended_after f it.rest rest_few
-      ∙ ap (λ b. if b then None else behind_end it.rest) rest_dropped
-      ∙ ap (λ e. if is_dropped (map f cs) (if is_dropped (map f (c ∷ cs)) (behind_end xs) then None else behind_end xs) then None else e) rest_ended
-      ∙ by (is_dropped (map f (c ∷ cs)) (behind_end xs)) refl
-    where
-      by : (b : Bool) → is_dropped (map f (c ∷ cs)) (behind_end xs) ≡ b
-          → (if is_dropped (map f cs) (if b then None else behind_end xs) then None else (if b then None else behind_end xs)) ≡ (if is_dropped (map f cs) (behind_end xs) then None else behind_end xs)
-      by true h = rw (later_dropped (behind_end xs) h) refl
-      by false h = refl
+  reaped_ended = grind (arith, ended_after, rest_few, rest_dropped, rest_ended, later_dropped)
 
   pub reaped_ends : ends_in (after_controls it.rest) ≡ (if is_dropped (map f cs) (behind_end xs) then 0 else ends_in xs)
-  reaped_ends =
-      ends_after f it.rest rest_few
-      ∙ ap (λ b. if b then 0 else ends_in it.rest) rest_dropped
-      ∙ ap (λ e. if is_dropped (map f cs) (if is_dropped (map f (c ∷ cs)) (behind_end xs) then None else behind_end xs) then 0 else e) rest_ends
-      ∙ by (is_dropped (map f (c ∷ cs)) (behind_end xs)) refl
-    where
-      by : (b : Bool) → is_dropped (map f (c ∷ cs)) (behind_end xs) ≡ b
-          → (if is_dropped (map f cs) (if b then None else behind_end xs) then 0 else (if b then 0 else ends_in xs)) ≡ (if is_dropped (map f cs) (behind_end xs) then 0 else ends_in xs)
-      by true h = rw (later_dropped (behind_end xs) h) refl
-      by false h = refl
+  reaped_ends = grind (arith, ends_after, rest_few, rest_dropped, rest_ends, later_dropped)
 
   pub reaped_armed : (a : Bool) → armed_through it.rest (armed_through xs a) ≡ (a && not (is_dropped (map f cs) (behind_end xs)))
   reaped_armed a =
@@ -321,10 +206,7 @@ module _ (f : Completion → ℕ) (xs : List Completion) (c : Completion) (cs : 
     where
       by : (b : Bool) → is_dropped (map f (c ∷ cs)) (behind_end xs) ≡ b → (a : Bool)
           → ((a && not b) && not (is_dropped (map f cs) (if b then None else behind_end xs))) ≡ (a && not (is_dropped (map f cs) (behind_end xs)))
-      by true h true = rw (later_dropped (behind_end xs) h) refl
-      by true h false = refl
-      by false h true = refl
-      by false h false = refl
+      by = grind arith
 
   pub reaped_told : trails_wake false (after_controls it.rest) ≡ told_left (map f cs) (trails_wake false xs)
   reaped_told = by cs it.later

@@ -1,8 +1,7 @@
 -- What tasks hold, where a worker begins to close: no message moved, and what it owed it owes.
-use Rattle.std.proofs.{Common.{◌≡◌, ℕ, ◌⊎◌, inl, inr, true, Contains, List, length, map, Option, Some, None, refl, sym, ap, subst, ◌∙◌, arith, slice_get, slice_set, option_map}, lemmas.{List.length-set, Option.slice_get-map}}
-use Rattle.exec_words.specs.declared.inbox.Message.{Message}
+use Rattle.std.proofs.{Common.{◌≡◌, ℕ, ◌⊎◌, inl, inr, true, List, length, map, Option, Some, None, sym, ap, subst, ◌∙◌, arith, slice_get, slice_set, option_map}, lemmas.{List.length-set, Option.slice_get-map}}
 use Rattle.exec_parts.{specs.declared.parts.{mail.Subject.Subject, seat.Seat.Seat as Chair}, proofs.{Facts.{by_number, same_thing, set_elsewhere, set_there}, Showing.map_set}}
-use Rattle.exec_invariants.{specs.Holding.{Box, Hands, HasPlace, Holder, IsClosing, IsHolding, Mail, Nap, Owes, Thing, box_of, mail_in, under_way}, proofs.HoldRedo.sum_set}
+use Rattle.exec_invariants.{specs.Holding.{Box, Hands, HasPlace, Holder, IsClosing, IsHolding, Mail, Nap, Owes, Thing, box_of, under_way}, proofs.HoldRedo.sum_set}
 
 -- such a box
 abbrev that_closes : Box → Box
@@ -14,12 +13,7 @@ module _ (h : Hands) (workers : ℕ) (holders : List Holder) (things : List Thin
 
   -- what a box was
   was : (i : ℕ) (now : Box) → slice_get boxes' i ≡ Some now → (old : Box) × (slice_get boxes i ≡ Some old) × ((now ≡ old) ⊎ (now ≡ that_closes old))
-  was i now at =
-      by_number i j
-      (λ other. (now, sym (set_elsewhere boxes j i (that_closes box) other) ∙ at, inl refl))
-      (λ same.
-      let is : that_closes box ≡ now = same_thing (that_closes box) now (sym (set_there boxes j (that_closes box) box there) ∙ subst (λ n. slice_get boxes' n ≡ Some now) same at) in
-      (box, subst (λ n. slice_get boxes n ≡ Some box) (sym same) there, inr (sym is)))
+  was = grind (arith, by_number, set_elsewhere, same_thing, set_there)
 
   shut_was : (now old : Box) → (now ≡ old) ⊎ (now ≡ that_closes old) → now.shut ≡ old.shut
   shut_was now old (inl is) = ap (λ (b : Box). b.shut) is
@@ -38,9 +32,7 @@ module _ (h : Hands) (workers : ℕ) (holders : List Holder) (things : List Thin
   room_was i now old (inr is) place = subst (HasPlace i things naps) (sym is) (record { made = place.made; places = place.places })
 
   same_way : (m : Mail) → under_way h m boxes' ≡ under_way h m boxes
-  same_way m =
-      let f : Box → ℕ = λ b. mail_in m b.messages in
-      omega (arith, sum_set f boxes j box (that_closes box) there)
+  same_way = grind (arith, sum_set)
 
   closes_then : (i : ℕ) → IsClosing i boxes → IsClosing i boxes'
   closes_then i closing now at = let old = was i now at in closing_was now old.0 old.2 (closing old.0 old.1)
@@ -55,36 +47,7 @@ module _ (h : Hands) (workers : ℕ) (holders : List Holder) (things : List Thin
   many = length-set boxes j (that_closes box)
 
   holding_closes : IsHolding h workers holders things naps boxes → IsHolding h workers holders things naps boxes'
-  holding_closes holding =
-      record {
-        held = λ k r now at_k at. let old = was r.worker now at in
-            rw (shut_was now old.0 old.2, same_way (Message.Cancel (Subject.Request k))) (holding.held k r old.0 at_k old.1);
-        forwarded = λ k r now at_k at. let old = was r.worker now at in
-            rw (shut_was now old.0 old.2, same_way (Message.Forward (Subject.Request k))) (holding.forwarded k r old.0 at_k old.1);
-        asked = holding.asked;
-        waited = holding.waited;
-        holds = holding.holds;
-        awaiting = holding.awaiting;
-        asleep = holding.asleep;
-        over = holding.over;
-        sleeps = holding.sleeps;
-        let_go = λ n z now at_n at opened. let old = was z.worker now at in
-            rw (same_way (Message.Cancel (Subject.Timer n))) (holding.let_go n z old.0 at_n old.1 (sym (shut_was now old.0 old.2) ∙ opened));
-        asked_too = holding.asked_too;
-        let_be = holding.let_be;
-        sent = holding.sent;
-        sent_too = holding.sent_too;
-        woken = λ n z now at_n at. let old = was z.worker now at in
-            rw (shut_was now old.0 old.2, same_way (Message.Forward (Subject.Timer n))) (holding.woken n z old.0 at_n old.1);
-        owed = λ i t some.
-            let it = holding.owed i t some in
-            (it.0, record { it = it.1.it; there = it.1.there; owes = owes_then i t it.1.it.awaits it.1.owes });
-        about = λ i now m at has. let old = was i now at in holding.about i old.0 m old.1 (subst (λ ms. Contains ms m) (messages_were now old.0 old.2) has);
-        room = λ i now at. let old = was i now at in room_was i now old.0 old.2 (holding.room i old.0 old.1);
-        made = holding.made;
-        of_worker = λ k r at_k. rw many (holding.of_worker k r at_k);
-        of_worker_too = λ n z at_n. rw many (holding.of_worker_too n z at_n);
-      }
+  holding_closes = grind (arith, was, shut_was, same_way, owes_then, messages_were, room_was, many)
 
 -- OVER SEATS
 pub holding_began : (h : Hands) (workers : ℕ) (holders : List Holder) (things : List Thing) (naps : List Nap) (seats : List Chair) (j : ℕ) (seat chair : Chair) → slice_get seats j ≡ Some seat → box_of chair ≡ that_closes (box_of seat)

@@ -1,15 +1,14 @@
 -- Where the callbacks lead once an item is told: for a worker, for the machine, and after a push of a task that one woke.
 use Rattle.std.proofs.{Common.{◌≡◌, ℕ, ◌+◌, ◌==◌, ◌&&◌, ◌||◌, Bool, true, false, not, List, [], ◌∷◌, length, map, Option, Some, None, refl, sym, ap, subst, ◌∙◌, arith, slice_get, nat_lt, if◌then◌else◌}, lemmas.Bool.{false≢true, Decides.nat_tests}}
-use Rattle.exec_base.specs.{Slab.live_count, declared.task_no.TaskNo.TaskNo}
-use Rattle.exec_time.specs.declared.notes.ForwardedResult.{ForwardedResult}
+use Rattle.exec_base.specs.{Slab.live_count}
 use Rattle.exec_words.specs.Queue.{Queue}
-use Rattle.exec_waiters.specs.{States.pending_count, Told.is_untold, declared.deferred.{Answer.Answer, Deferred.Deferred}}
+use Rattle.exec_waiters.specs.{States.pending_count, Told.is_untold, declared.deferred.{Deferred.Deferred}}
 use Rattle.exec_driver.specs.Driving.{is_full as is_ring_full}
 use Rattle.exec_task.specs.declared.{body.Said.Said, runnable.Runnable.Runnable}
 use Rattle.exec_machine.specs.{declared.config.Configuration.Configuration, Progress.Plan, Ranges.ring_size, Tests.is_empty}
 use Rattle.exec_moves.specs.{declared.{handing.{AfterCallbacks.AfterCallbacks, AfterKick.AfterKick, AfterPush.AfterPush, InKick.InKick}, idling.{InRingWait.InRingWait, Stay.Stay}, place.{InCallbacks.InCallbacks, InClosing.InClosing, InLoads.InLoads, Place.Place, Round.Round}}, Callback.{after_callbacks, has_callbacks, has_requests, is_full, next_callback}}
-use Rattle.exec_parts.{specs.{declared.parts.{mail.Reply.Reply, seat.Seat.Seat as Chair, shared.Shared.Shared, worker.Worker.Worker}, Phased.{IsPhased, closes_at, closes_before, stage_of}, Roles.is_pool, Calls.IsTold, Spots.Spot, Tests.{after_callbacks_of, has_open_requests, is_anything_told, next_callback_of, ring_wait_of}, View.{Views, common_of, desk_of, driver_of, number_heard, own_of}}, proofs.Facts.{by_not, by_not_not, zero_false, true_false}}
-use Rattle.exec_invariants.{specs.{HoldPlaces.{is_bare_at, is_bare_before, spare_before}, Sound.{Aims, HasQueue, LetsGo, SoundAt}, Names.{HasWidth, tellers}, Works.Suits}, proofs.{DedicatedSeen.pool_seen, Handed.{CallComes, IsPushFor, out}, Idled.{Comes, hush_of}, Phased.phased_end, Standing.requests_seen}}
+use Rattle.exec_parts.{specs.{declared.parts.{mail.Reply.Reply, seat.Seat.Seat as Chair, shared.Shared.Shared, worker.Worker.Worker}, Phased.{IsPhased, closes_at, closes_before, stage_of}, Roles.is_pool, Calls.IsTold, Spots.Spot, Tests.{after_callbacks_of, has_open_requests, is_anything_told, next_callback_of, ring_wait_of}, View.{Views, common_of, desk_of, driver_of, own_of}}, proofs.Facts.{by_not_not, zero_false, true_false}}
+use Rattle.exec_invariants.{specs.{HoldPlaces.{is_bare_at, is_bare_before, spare_before}, Sound.{Aims, HasQueue, LetsGo, SoundAt}, Names.{HasWidth, tellers}, Works.Suits}, proofs.{DedicatedSeen.pool_seen, Handed.{CallComes, IsPushFor, out}, Idled.{Comes}, Phased.phased_end, Standing.requests_seen}}
 
 -- NOTHING IS LEFT
 
@@ -40,33 +39,11 @@ pub record NoneLeft (left : Deferred Reply Reply) : Type 0 where
   pub results : length left.results.items ≡ 0
 
 pub none_left : (left : Deferred Reply Reply) → is_untold left ≡ true → NoneLeft left
-none_left left h =
-    let a = length left.notes.wakes.items in
-    let b = length left.notes.completions.items in
-    let c = length left.outputs.items in
-    let d = length left.resources.items in
-    let e = length left.results.items in
-    record {
-      wakes = none_in left.notes.wakes.items (first_zero a b c d e h);
-      completions = second_zero a b c d e h;
-      outputs = third_zero a b c d e h;
-      resources = fourth_zero a b c d e h;
-      results = fifth_zero a b c d e h;
-    }
+none_left = grind (arith, none_in, first_zero, second_zero, third_zero, fourth_zero, fifth_zero)
 
 -- then the lists have all their places
 pub all_places : (ended : List ℕ) (left : Deferred Reply Reply) (n m : ℕ) → IsTold ended left m → HasWidth left n → NoneLeft left → IsTold ended left n
-all_places ended left n m told wide none =
-    let wakes = ap length none.wakes in
-    record {
-      resources = told.resources;
-      room = record {
-        notes = record { wakes = omega (arith, wide.wakes, wakes, left.notes.wakes.ok.0); completions = omega (arith, wide.completions, none.completions, left.notes.completions.ok.0) };
-        outputs = omega (arith, wide.outputs, none.outputs, left.outputs.ok.0);
-        resources = omega (arith, wide.resources, none.resources, left.resources.ok.0);
-        results = omega (arith, wide.results, none.results, left.results.ok.0);
-      };
-    }
+all_places = grind arith
 
 -- FOR THE MACHINE something waits for the callbacks just where something does
 
@@ -85,19 +62,11 @@ one_of_five : (a b c d e : Bool) → (not a || not b || not c || not d || not e)
 one_of_five a b c d e = grind arith
 
 pub callbacks_seen : (w : Worker) (live : ℕ) → IsTold w.names.ended.items w.home.deferred live → has_callbacks (own_of w) (desk_of w) ≡ is_anything_told w
-callbacks_seen w live told =
-    let left = w.home.deferred in
-    let number : TaskNo → ℕ = λ t. t.0 in
-    let completed : ForwardedResult Reply → ℕ = λ c. number_heard c.sender.of in
-    let answered : Answer Reply → ℕ = λ a. number_heard a.sender.of in
-    rw (empty_mapped number left.notes.wakes.items, positive (length left.outputs.items), empty_list w.names.ended.items, told.resources, empty_mapped completed left.notes.completions.items, empty_mapped answered left.results.items)
-    (one_of_five (length left.notes.wakes.items == 0) (length left.outputs.items == 0) (length left.resources.items == 0) (length left.notes.completions.items == 0) (length left.results.items == 0))
+callbacks_seen = grind (arith, empty_mapped, positive, empty_list, one_of_five)
 
 module _ {B L : Type 0} (left : B → L) (spot : L → Option Said → Spot) (p : Plan) (vs : Views) (q : Place) (w : Worker) (s : Shared B) (sound : SoundAt q w s) (suits : Suits p vs w s) where
   full_seen : is_full (ring_size p.config) (desk_of w) ≡ is_ring_full (driver_of w)
-  full_seen =
-      let sized : (driver_of w).ring.size ≡ ring_size p.config = sound.sized ∙ ap ring_size suits.config in
-      ap (λ n. not (nat_lt (length (driver_of w).ring.staged) n)) (sym sized)
+  full_seen = grind arith
 
   pub after_seen : (n : AfterCallbacks) → after_callbacks (ring_size p.config) w.index (common_of left spot p vs s) n (desk_of w) ≡ after_callbacks_of n w
   after_seen AfterCallbacks.Look = rw (pool_seen left spot p vs q w s sound suits) refl
@@ -118,13 +87,6 @@ module _ {B L : Type 0} (left : B → L) (spot : L → Option Said → Spot) (p 
 
 abbrev pub pushed : AfterCallbacks → Place
 pushed n = Place.Kick InKick.LoadKickCount (AfterKick.Push (AfterPush.CallBack n))
-
-pub same_call : (n : AfterCallbacks) → hush_of (Place.Callbacks InCallbacks.CallBack n) ≡ hush_of (pushed n)
-same_call AfterCallbacks.Look = refl
-same_call AfterCallbacks.Test = refl
-same_call AfterCallbacks.Begin = refl
-same_call AfterCallbacks.Drain = refl
-same_call AfterCallbacks.Finish = refl
 
 module _ {B : Type 0} where
   pub record To (n : AfterCallbacks) (q' : Place) (w : Worker) (s : Shared B) : Type 0 where
@@ -163,12 +125,7 @@ module _ {B : Type 0} where
 
   -- the next item
   pub to_call : (n : AfterCallbacks) (w : Worker) (s : Shared B) → Pushed n w s → is_anything_told w ≡ true → To n (Place.Callbacks InCallbacks.CallBack n) w s
-  to_call n w s it some =
-      record {
-        to = record { same = same_call n; searches = refl; counts = refl; published = refl; queue = it.held; aims = tt; batch = it.batch; quiet = λ h. true_false h; left = by_not (is_untold w.home.deferred) some; told = it.told; lets_go = it.bare; phased = it.phased };
-        queue = λ x h. h;
-        aims = λ c i seats. tt;
-      }
+  to_call = grind arith
 
   -- the end of a closing, once each request is released
   to_end : (w : Worker) (s : Shared B) → Pushed AfterCallbacks.Finish w s → NoneLeft w.home.deferred → has_open_requests w ≡ false → To AfterCallbacks.Finish (Place.Closing InClosing.End) w s
@@ -210,18 +167,8 @@ module _ {B : Type 0} where
         queue = λ x h. h;
         aims = λ c i seats. tt;
       })
-  to_after AfterCallbacks.Begin w s it none =
-      record {
-        to = record { same = refl; searches = tt; counts = refl; published = refl; queue = it.held; aims = tt; batch = λ no. absurd (false≢true no); quiet = λ h. none.wakes; left = tt; told = it.told; lets_go = λ no. absurd (false≢true no); phased = it.phased };
-        queue = λ x h. h;
-        aims = λ c i seats. tt;
-      }
-  to_after AfterCallbacks.Drain w s it none =
-      record {
-        to = record { same = refl; searches = refl; counts = refl; published = refl; queue = it.held; aims = tt; batch = λ h. it.batch refl; quiet = λ h. true_false h; left = tt; told = it.told; lets_go = λ h. it.bare refl; phased = it.phased };
-        queue = λ x h. h;
-        aims = λ c i seats. tt;
-      }
+  to_after AfterCallbacks.Begin w s it none = grind arith
+  to_after AfterCallbacks.Drain w s it none = grind arith
   to_after AfterCallbacks.Finish w s it none =
       either AfterCallbacks.Finish (has_open_requests w) (ring_wait_of Stay.Closing w) (Place.Closing InClosing.End) w s
       (λ some. either AfterCallbacks.Finish (is_ring_full (driver_of w)) (Place.RingWait InRingWait.EnterFullRing Stay.Closing) (Place.RingWait InRingWait.TestRing Stay.Closing) w s

@@ -1,5 +1,5 @@
 -- A deadline that has come cancels its request, which the kernel has.
-use Rattle.std.proofs.{Common.{◌⊎◌, ⊎_elim, ◌++◌, ◌||◌, ◌≡◌, ℕ, ◌==◌, Bool, true, false, List, [], ◌∷◌, map, Option, Some, None, refl, sym, ap, subst, ◌∙◌, arith, inl, inr, is_some, slice_set, if◌then◌else◌}, lemmas.{Bool.false≢true, List.{append-nil, map-append}}}
+use Rattle.std.proofs.{Common.{◌⊎◌, ⊎_elim, ◌++◌, ◌||◌, ◌≡◌, ℕ, ◌==◌, Bool, true, false, List, [], ◌∷◌, map, Option, Some, None, refl, sym, ap, subst, ◌∙◌, arith, inl, is_some, slice_set, if◌then◌else◌}, lemmas.{Bool.false≢true, List.{append-nil, map-append}}}
 use Rattle.exec_base.specs.{Slab.value_at, declared.{slab.Id.Id, error.Error.TheVariants.Timeout}}
 use Rattle.exec_outcomes.specs.declared.outcome.Outcome.TheVariants.{Failure}
 use Rattle.exec_request.specs.{Requests.{asked_of, deadline_of}, States.asks_cancel}
@@ -19,11 +19,7 @@ last_by other x ids true is later = inl refl
 last_by other x ids false is later = later refl
 
 pub among_last : (other id : WaiterId) (ids : List WaiterId) → is_among other (ids ++ id ∷ []) ≡ true → (is_among other ids ≡ true) ⊎ (other.0 ≡ id.0)
-among_last other id [] h =
-    elim (same_tells id other) [
-      | inl same ↦ inr (ap (λ (y : WaiterId). y.0) (sym same.1))
-      | inr differs ↦ absurd (false≢true (rw differs.0 at h))
-    ]
+among_last other id [] h = grind (arith, same_tells, false≢true)
 among_last other id (x ∷ ids) h = last_by other x ids (is_same x other) refl (λ none. among_last other id ids (rw none at h))
 
 -- THE RECORD
@@ -147,17 +143,7 @@ module _ {B : Type 0} (w : Worker) (s : Shared B) (new : IsDueIn w s) (id : Wait
       let wheel : IsWheelAt s.config w.moments.start w.moments.sampled d.wheel = sound.due.wheel in
       let a = who.alike in
       let on : GoesOn who.r (cancels who.r) = record { same = refl; over = refl; ended = λ h. refl } in
-      let one : OneGoesOn w.names w.names d cancelled_driver s.requests.items id.0 it cancelled_waiter who.r cancels = record {
-        at = who.live;
-        there = who.there;
-        slab = refl;
-        on = on;
-        alike = alike_cancelled;
-        start = unticked_start d.wheel (tick_in it.state);
-        tick = unticked_tick d.wheel (tick_in it.state);
-        requests = refl;
-        timers = refl;
-      } in
+      let one : OneGoesOn w.names w.names d cancelled_driver s.requests.items id.0 it cancelled_waiter who.r cancels = grind (arith, alike_cancelled, unticked_start, unticked_tick) in
       keeps_one q q w.put_off w.names w s cancelled_driver id.0 it cancelled_waiter who.r cancels sound (stages_again gate v) one punctual (λ h. absurd (false≢true (sym h)))
       (eased (eases_written d.requests id.0 it cancelled_waiter who.live (λ t is. absurd (cc)) (λ none. refl)) (alike_unticked d.wheel (tick_in it.state)) (part_self d.lists.enrolments) (part_after id d.lists.due) sound.due.order)
       (unticked_at s.config w.moments.start w.moments.sampled d.wheel (tick_in it.state) wheel) refl submitted_cancelled flown_cancelled

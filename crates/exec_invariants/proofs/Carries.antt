@@ -1,13 +1,13 @@
 -- What keeps what the kernel has, where other steps change the requests.
-use Rattle.std.proofs.{Common.{◌≡◌, ◌≢◌, ℕ, ◌<◌, ◌≤◌, ◌==◌, Bool, true, false, List, [], Option, Some, None, refl, sym, ap, subst, ◌∙◌, arith, slice_get, sum_by, if◌then◌else◌}, lemmas.Bool.{false≢true, eq-eqb}}
+use Rattle.std.proofs.{Common.{◌≡◌, ◌≢◌, ℕ, ◌<◌, ◌==◌, Bool, true, false, List, [], Some, None, refl, sym, ap, subst, ◌∙◌, arith, slice_get, if◌then◌else◌}, lemmas.Bool.{false≢true, eq-eqb}}
 use Rattle.exec_base.specs.{Slab.{Slab, written}, declared.slab.Id.Id}
 use Rattle.exec_outcomes.specs.declared.outcome.Outcome.{Outcome}
 use Rattle.exec_request.specs.Requests.{target_of}
-use Rattle.exec_ring.specs.{Rings.RingState, Stores.socket_of, declared.store.Store.Store}
+use Rattle.exec_ring.specs.{Rings.RingState, declared.store.Store.Store}
 use Rattle.exec_waiters.specs.{Ids.{user_data_of, index_in}, States.waiter_at, declared.waiter.{Entry.{Entry, TheVariants.Pending}, Waiter.Waiter}}
 use Rattle.exec_machine.specs.declared.state.RequestPhase.{RequestPhase}
 use Rattle.exec_parts.{specs.{declared.parts.{mail.Reply.Reply, record.Record.Record}, Records.number_in, Serving.changed_at}, proofs.Facts.{by_name, same_number, not_same}}
-use Rattle.exec_invariants.{specs.Carried.{HasStretchFor, IsCarried, IsUnderWay, IsWhole, may_move, moves_by, room_for, those_of, unlanded}, proofs.{Carrying.sum_changed, Changing.changes_one, Marking.{mark_if, was_marked}}}
+use Rattle.exec_invariants.{specs.Carried.{HasStretchFor, IsCarried, IsUnderWay, IsWhole, may_move, moves_by, those_of, unlanded}, proofs.{Carrying.sum_changed, Changing.changes_one, Marking.{mark_if, was_marked}}}
 
 nothing : (b : Bool) → let none : ℕ = 0 in (if b then none else none) ≡ none
 nothing true = refl
@@ -27,36 +27,7 @@ module _ (numbers : List ℕ) (s : Slab (Entry Reply Reply)) (ring : RingState) 
   -- a record whose operation and phase stay
   pub carried_marked : (k : ℕ) (f : Record → Record) → ((r : Record) → slice_get rs k ≡ Some r → (f r).shown.operation ≡ r.shown.operation) → ((r : Record) → slice_get rs k ≡ Some r → (f r).shown.phase ≡ r.shown.phase)
       → IsCarried numbers s ring (changed_at rs k f) st
-  carried_marked k f operation phase =
-      record {
-        slots = carried.slots;
-        whole = carried.whole;
-        target = λ id it r live there.
-            let old = was_marked f rs k (number_in numbers id) r there in
-            ap (λ z. z.shown.operation.target) old.2 ∙ ap (λ o. o.target) (mark_operation f (k == number_in numbers id) old.0 (λ is. operation old.0 (at (number_in numbers id) old.0 is old.1)))
-            ∙ carried.target id it old.0 live old.1;
-        carried = λ id it r live there.
-            let old = was_marked f rs k (number_in numbers id) r there in
-            let same : r.shown.phase ≡ old.0.shown.phase = ap (λ z. z.shown.phase) old.2 ∙ mark_phase f (k == number_in numbers id) old.0 (λ is. phase old.0 (at (number_in numbers id) old.0 is old.1)) in
-            subst (λ p. IsUnderWay p (user_data_of id) it.request ring) (sym same) (carried.carried id it old.0 live old.1);
-        nobody = carried.nobody;
-        room = λ out socket. room_by out socket (slice_get rs k) refl;
-        stretch = carried.stretch;
-      }
-    where
-      at : (j : ℕ) (r : Record) → (k == j) ≡ true → slice_get rs j ≡ Some r → slice_get rs k ≡ Some r
-      at j r is there = ap (slice_get rs) (same_number k j is) ∙ there
-
-      sends : (out : Bool) (socket : ℕ) (r : Record) → slice_get rs k ≡ Some r → may_move out socket (f r) ≡ may_move out socket r
-      sends out socket r there = rw (operation r there, phase r there) refl
-
-      room_by : (out : Bool) (socket : ℕ) (o : Option Record) → slice_get rs k ≡ o → sum_by (may_move out socket) (changed_at rs k f) ≤ room_for out (socket_of st socket)
-      room_by out socket None none = rw none (carried.room out socket)
-      room_by out socket (Some r) there =
-          let sum = sum_changed (may_move out socket) rs k r f there in
-          let same = sends out socket r there in
-          let room = carried.room out socket in
-          omega (arith, sum, same, room)
+  carried_marked = grind (arith, was_marked, mark_operation, mark_phase, same_number, sum_changed)
 
   -- what waits there keeps its request
   pub carried_waiter : (id : Id) (it it' : Waiter Reply Reply) → waiter_at s id ≡ Some it → it'.request ≡ it.request → IsCarried numbers (written s id (Pending it')) ring rs st
@@ -89,16 +60,7 @@ module _ (numbers : List ℕ) (s : Slab (Entry Reply Reply)) (ring : RingState) 
 
   -- the same requests in another slab
   pub carried_slab : (s' : Slab (Entry Reply Reply)) → ((id : Id) → waiter_at s' id ≡ waiter_at s id) → IsCarried numbers s' ring rs st
-  carried_slab s' same =
-      record {
-        slots = λ id it at. carried.slots id it (sym (same id) ∙ at);
-        whole = λ id it at. carried.whole id it (sym (same id) ∙ at);
-        target = λ id it r at there. carried.target id it r (sym (same id) ∙ at) there;
-        carried = λ id it r at there. carried.carried id it r (sym (same id) ∙ at) there;
-        nobody = λ u small free. carried.nobody u small (λ id it at named. free id it (same id ∙ at) named);
-        room = carried.room;
-        stretch = λ id it at. carried.stretch id it (sym (same id) ∙ at);
-      }
+  carried_slab = grind arith
 
   -- a request of which the ring has nothing is over
   module _ (s' : Slab (Entry Reply Reply)) (id : Id) (it : Waiter Reply Reply) (r : Record) (f : Record → Record) (outcome : Outcome) (live : waiter_at s id ≡ Some it) (there : slice_get rs (number_in numbers id) ≡ Some r)

@@ -1,12 +1,12 @@
 -- What the kernel has of a request whose result lands: one operation, which leaves; and one completion more.
-use Rattle.std.{proofs.{Common.{◌≡◌, ℕ, suc, ◌+◌, ◌%◌, ◌<◌, ◌≤◌, ◌==◌, ◌&&◌, ◌||◌, Bool, true, false, not, cond, List, [], ◌∷◌, ◌++◌, filter, Some, refl, sym, ap, subst, ◌∙◌, arith, slice_get, slice_set, sum_by, nat_le}, lemmas.{Bool.{and_parts, Decides.nat_tests}, List.{Sums.{sum_by-set, get_or-le-sum_by}}, Option.{slice_get_within, get_or_from_slice_get}}}, specs.{List.{list_any, remove}}}
+use Rattle.std.{proofs.{Common.{◌≡◌, ℕ, suc, ◌+◌, ◌%◌, ◌<◌, ◌≤◌, ◌&&◌, ◌||◌, Bool, true, false, not, cond, List, [], ◌∷◌, ◌++◌, filter, Some, refl, sym, ap, subst, ◌∙◌, arith, slice_get, slice_set, sum_by}, lemmas.{Bool.{and_parts, Decides.nat_tests}, List.{Sums.{sum_by-set, get_or-le-sum_by}}, Option.{slice_get_within, get_or_from_slice_get}}}, specs.{List.{list_any, remove}}}
 use Rattle.exec_base.specs.declared.slab.Id.{Id}
-use Rattle.exec_outcomes.specs.{Lawful.{is_lawful}, declared.outcome.{OpResult.{OpResult, TheVariants.{Count, Errno}}}}
-use Rattle.exec_ring.specs.{Completions.{completed, number_of, result_in}, Kernels.{is_of, last_place, without_flight, landed}, Rings.{RingState, completions}, declared.{completion.{Submission.Submission}}}
+use Rattle.exec_outcomes.specs.{Lawful.{is_lawful}, declared.outcome.{OpResult.{OpResult}}}
+use Rattle.exec_ring.specs.{Completions.{completed, number_of, result_in}, Kernels.{last_place, without_flight, landed}, Rings.{RingState, completions}}
 use Rattle.exec_waiters.specs.Ids.{user_data_of, index_in, generation_in}
 use Rattle.exec_driver.specs.Steps.{is_control}
 use Rattle.exec_moves.specs.State.{passed}
-use Rattle.exec_parts.{specs.{declared.parts.record.Record.Record, Serving.{changed_at, changed_in}, View.{trailing, wake_poll_in}}, proofs.Facts.same_number}
+use Rattle.exec_parts.{specs.{declared.parts.record.Record.Record, Serving.{changed_at, changed_in}, View.{trailing, wake_poll_in}}}
 use Rattle.exec_invariants.{specs.{Carried.those_of, Flown.{IsPolled, operations}}, proofs.WokenEntered.landing as landing_added}
 
 -- THE LAST THAT PASSES A TEST
@@ -21,11 +21,7 @@ module _ {A : Type 0} (p : A → Bool) where
   none_passes (y ∷ ys) h = head_fails (p y) y ys (none_passes ys) h
 
   head_found : (b any : Bool) (y x : A) (ys zs : List A) (n : ℕ) → (b ≡ false → slice_get ys n ≡ Some x) → (zs ≡ [] → any ≡ false) → cond b (y ∷ zs) (filter p ys) ≡ x ∷ [] → slice_get (y ∷ ys) (cond (b && not any) 0 (1 + n)) ≡ Some x
-  head_found true any y x ys zs n more none h =
-      let last : zs ≡ [] = cc h in
-      let no : any ≡ false = none last in
-      rw no (cc h)
-  head_found false any y x ys zs n more none h = let e : 1 + n ≡ suc n = omega arith in rw e (more refl)
+  head_found = grind arith
 
   -- where one passes, it is found
   pub lone_found : (xs : List A) (x : A) → filter p xs ≡ x ∷ [] → slice_get xs (last_place p xs) ≡ Some x
@@ -34,11 +30,7 @@ module _ {A : Type 0} (p : A → Bool) where
       head_found (p y) (list_any p ys) y x ys (filter p ys) (last_place p ys) (λ no. lone_found ys x (sym (ap (λ b. cond b (y ∷ filter p ys) (filter p ys)) no) ∙ h)) (none_passes ys) h
 
   head_removed : (b any : Bool) (y x : A) (ys : List A) (n : ℕ) → p y ≡ b → (b ≡ false → filter p (remove ys n) ≡ []) → (filter p ys ≡ [] → any ≡ false) → cond b (y ∷ filter p ys) (filter p ys) ≡ x ∷ [] → filter p (remove (y ∷ ys) (cond (b && not any) 0 (1 + n))) ≡ []
-  head_removed true any y x ys n is more none h =
-      let last : filter p ys ≡ [] = cc h in
-      let no : any ≡ false = none last in
-      rw no last
-  head_removed false any y x ys n is more none h = let e : 1 + n ≡ suc n = omega arith in rw (e, is) (more refl)
+  head_removed = grind arith
 
   -- and once it is taken out none passes
   pub lone_removed : (xs : List A) (x : A) → filter p xs ≡ x ∷ [] → filter p (remove xs (last_place p xs)) ≡ []
@@ -66,20 +58,12 @@ generation_told id small = omega (arith, small)
 
 -- an operation of a request is no control
 pub no_control : (u : ℕ) (n : OpResult) → index_in u < 4294967295 → is_control (completed u n) ≡ false
-no_control u n small = by (u == 18446744073709551615) (u == 4294967295) refl refl
-  where
-    by : (a b : Bool) → (u == 18446744073709551615) ≡ a → (u == 4294967295) ≡ b → is_control (completed u n) ≡ false
-    by true b is is' = let e = same_number u 18446744073709551615 is in absurd (omega (arith, small, e))
-    by false true is is' = let e = same_number u 4294967295 is' in absurd (omega (arith, small, e))
-    by false false is is' = rw (is, is') refl
+no_control = grind arith
 
 -- RESULTS
 
 pub result_told : (window : ℕ) (n : OpResult) → is_lawful window n ≡ true → result_in (number_of n) ≡ n
-result_told window (Count n) h = refl
-result_told window (Errno c) h =
-    let one : 1 ≤ c = (let a = (and_parts (nat_le 1 c) (nat_le c 4095) h).0 in grind (arith, nat_tests)) in
-    ap (λ k. Errno k) (omega (arith, one))
+result_told = grind arith
 
 -- THE ROOM FOR BYTES
 
@@ -95,14 +79,7 @@ part_within f rs k r there = subst (λ x. f x ≤ sum_by f rs) (get_or_from_slic
 -- THE FLIGHT
 
 pub others_fly : (u v : ℕ) (r : RingState) (n : OpResult) → (u ≡ v → ⊥) → those_of v (landed r u n).flying ≡ those_of v r.flying
-others_fly u v r n apart = others_left (is_of u) (is_of v) (λ e is. other e is (e.user_data == v) refl) r.flying
-  where
-    same : (a b : ℕ) → (a == b) ≡ true → a ≡ b
-    same a b h = grind (arith, nat_tests)
-
-    other : (e : Submission) → is_of u e ≡ true → (b : Bool) → (e.user_data == v) ≡ b → is_of v e ≡ false
-    other e is true at = absurd (apart (sym (same e.user_data u is) ∙ same e.user_data v at))
-    other e is false at = at
+others_fly = grind (arith, others_left, nat_tests)
 
 -- COMPLETIONS
 

@@ -3,21 +3,18 @@ use Rattle.std.proofs.{Common.{◌≡◌, ◌≢◌, ℕ, ◌+◌, ◌==◌, Boo
 use Rattle.exec_base.{specs.{Slab.{Slab, value_at, written, live_count}, declared.slab.{Id.Id, Slot.TheVariants.Live}}, proofs.Slots.{Updates-write, count-set, IsLiveAt-from_value, live_within}}
 use Rattle.exec_time.specs.declared.timers.Sleeper.{Sleeper as Sleeping}
 use Rattle.exec_request.specs.declared.output.RequestOutput.{RequestOutput}
-use Rattle.exec_waiters.{specs.{States.{waiter_at, pending_count, flying_count, is_flying, is_held_by}, declared.waiter.{Entry.{Entry, TheVariants.{Pending, Ready}}, Waiter.Waiter}}, proofs.Changes.{entry_of, one_if}}
+use Rattle.exec_waiters.{specs.{States.{waiter_at, pending_count, flying_count, is_flying}, declared.waiter.{Entry.{Entry, TheVariants.{Pending, Ready}}, Waiter.Waiter}}, proofs.Changes.{entry_of, one_if}}
 use Rattle.exec_driver.{specs.{Driving.Driving, Punctual.IsPunctual}, proofs.Counting.{OneChanged, pending_is, flying_is, one_written}}
 use Rattle.exec_machine.specs.Tests.{is_resolved}
 use Rattle.exec_moves.specs.declared.place.Place.{Place}
 use Rattle.exec_parts.{specs.{declared.parts.{mail.Reply.Reply, names.Names.Names, record.Record.Record, shared.Shared.Shared, sleeping.SleeperRecord.SleeperRecord, worker.{PutOff.PutOff, Worker.Worker}}, Records.number_in, Serving.changed_at, Calls.IsTold, View.driver_of}, proofs.Facts.{by_name, same_number}}
-use Rattle.exec_invariants.{specs.{Carried.IsCarried, Due.{AreTimed, IsWheelAt, may_be_due, wheel_moment}, Flown.HasFlown, Gates.IsKnown, Ordered.{IsOrdered, went_round}, Names.{HasWidth, IsNamed, IsAlike, IsSubmitted, tellers}, Sound.{SoundAt, served_in}}, proofs.{Going.{GoesOn, AllGoOn, still, same_worker, same_id, over_on, rooted_on}, HeldCounts.held_written, Marking.{mark_if, marked, was_marked}, ServingHolds.{Follows, KeepsBy}, Serving.kept, ServingPlaces.calm}}
+use Rattle.exec_invariants.{specs.{Carried.IsCarried, Due.{AreTimed, IsWheelAt, may_be_due, wheel_moment}, Flown.HasFlown, Gates.IsKnown, Ordered.{IsOrdered, went_round}, Names.{HasWidth, IsNamed, IsAlike, IsSubmitted, tellers}, Sound.{SoundAt, served_in}}, proofs.{Going.{GoesOn, AllGoOn, same_worker, same_id, over_on, rooted_on}, HeldCounts.held_written, Marking.{mark_if, marked, was_marked}, ServingHolds.{Follows, KeepsBy}, Serving.kept, ServingPlaces.calm}}
 
 -- THE RECORDS
 
 module _ (rs : List Record) (k : ℕ) (f : Record → Record) (r : Record) (there : slice_get rs k ≡ Some r) (on : GoesOn r (f r)) where
   goes_if : (j : ℕ) (b : Bool) (x : Record) → (k == j) ≡ b → slice_get rs j ≡ Some x → GoesOn x (mark_if f b x)
-  goes_if j true x is at =
-      let same : r ≡ x = cc (there, at, same_number k j is) in
-      subst (λ y. GoesOn y (f y)) same on
-  goes_if j false x is at = still x
+  goes_if = grind arith
 
   pub all_go_one : AllGoOn rs (changed_at rs k f)
   all_go_one =
@@ -37,9 +34,7 @@ module _ (rs : List Record) (k : ℕ) (f : Record → Record) (r : Record) (ther
   other_number j apart false is = refl
 
   pub others_there : (j : ℕ) (x : Record) → (k ≡ j → ⊥) → slice_get (changed_at rs k f) j ≡ Some x → slice_get rs j ≡ Some x
-  others_there j x apart at =
-      let old = was_marked f rs k j x at in
-      old.1 ∙ ap (λ y. Some y) (sym (old.2 ∙ ap (λ b. mark_if f b old.0) (other_number j apart (k == j) refl)))
+  others_there = grind (arith, was_marked, mark_if, other_number)
 
 -- THE SLAB
 
@@ -86,18 +81,11 @@ module _ {S F : Type 0} (s : Slab (Entry S F)) (id : Id) (it it' : Waiter S F) (
 
   -- who waits for another was there, and who waits for this is the same
   pub watched_before : it'.observer ≡ it.observer → (other : Id) (x : Waiter S F) → waiter_at (written s id (Pending it')) other ≡ Some x → (y : Waiter S F) × (waiter_at s other ≡ Some y) × (x.observer ≡ y.observer)
-  watched_before watched other x h =
-      by_name other id
-      (λ apart. (x, sym (changes_one.others other apart) ∙ h, refl))
-      (λ same.
-      let is : x ≡ it' = cc (h, same, changes_one.is_at) in
-      (it, ap (waiter_at s) same ∙ at, ap (λ y. y.observer) is ∙ watched))
+  watched_before = grind (arith, by_name, changes_one)
 
 -- as much may be told
 pub tellers_still : (s : Slab (Entry Reply Reply)) (id : Id) (it it' : Waiter Reply Reply) → waiter_at s id ≡ Some it → it'.observer ≡ it.observer → (zs : Slab (Sleeping Reply)) → tellers (written s id (Pending it')) zs ≡ tellers s zs
-tellers_still s id it it' at watched zs =
-    let held = held_written s id (Pending it) (Pending it') (entry_of (value_at s id) it at) in
-    omega (arith, held, ap (λ o. one_if (is_held_by o)) watched, pending_still s id it it' at)
+tellers_still = grind (arith, held_written, entry_of, one_if, pending_still)
 
 -- THE NAMES
 
@@ -115,11 +103,7 @@ pub record OneGoesOn (n n' : Names) (d d' : Driving Reply Reply) (rs : List Reco
 module _ (i : ℕ) (n n' : Names) (d d' : Driving Reply Reply) (zs : Slab (Sleeping Reply)) (rs : List Record) (ss : List SleeperRecord) (id : Id) (it it' : Waiter Reply Reply) (r : Record) (f : Record → Record) (one : OneGoesOn n n' d d' rs id it it' r f) where
   -- another request has another number
   pub apart_number : (named : IsNamed i n d zs rs ss) (other : Id) → IsSome (value_at d.requests other) → other ≢ id → number_in n.requests.items id ≡ number_in n.requests.items other → ⊥
-  apart_number named other there apart same =
-      let a = named.requests id (rw (entry_of (value_at d.requests id) it one.at) refl) in
-      let b = named.requests other there in
-      let both : a.0 ≡ b.0 = cc (a.1, b.1, same) in
-      apart (sym b.2 ∙ ap (λ x. x.id.0) (sym both) ∙ a.2)
+  apart_number = grind arith
 
   alike_by : (named : IsNamed i n d zs rs ss) (other : Id) (w : Waiter Reply Reply) (x : Record) → waiter_at (written d.requests id (Pending it')) other ≡ Some w
       → slice_get (changed_at rs (number_in n.requests.items id) f) (number_in n.requests.items other) ≡ Some x → IsAlike d.wheel.start d.wheel.tick w x.shown

@@ -8,16 +8,10 @@ use Rattle.exec_parts.{specs.{declared.parts.{seat.Seat.Seat as Chair, shared.Sh
 use Rattle.exec_invariants.{specs.{Whole.with_worker, Holding.{box_of, Hands, holder_of, IsHolding, Mail, nap_of, thing_of}, Places.{drops_at, is_pooled_at, no_drops}, Sound.{Aims, HasBatch, IsSeated, LetsGoAt, SoundAt, has_wakes_at}, Works.{Steps, Suits, Works}}, proofs.{BoxBegan.holding_began, Dedicated.{as_long, chair_of_pool}, DedicatedSeen.pool_seen, Aside.{SparesSeats, queue_of_chair, queues_set, seats_own}, Hearing.unheard, PoolKept.gates_set, Seats.{chair_set, own_seat}, Shutting.{beside_closing, Closes, Empties, Follows, GoesOnlyOn, Holds, mail_there, onward, Pools, pools_calm, Ready, seats_show, shown_as, sound_closing}, Turning.view_found}}
 
 pub now_closing : (p : WorkerPhase) → is_open p ≡ false → has_ended p ≡ false → is_closing p ≡ true
-now_closing WorkerPhase.Open h k = absurd (false≢true (sym h))
-now_closing WorkerPhase.Closing h k = refl
-now_closing WorkerPhase.Ended h k = absurd (false≢true (sym k))
+now_closing = grind arith
 
 pub now_done : {B : Type 0} (p : Phase B) (i : ℕ) → is_done (phase_seen p i) ≡ is_complete p
-now_done (Phase.Idle b) i = refl
-now_done (Phase.Queued b) i = refl
-now_done Phase.Running i = refl
-now_done Phase.Notified i = refl
-now_done Phase.Complete i = refl
+now_done = grind arith
 
 -- the places that a closing leads to
 pub follows_in : (x : InClosing) → Follows (Place.Closing x)

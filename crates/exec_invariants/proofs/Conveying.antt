@@ -1,82 +1,34 @@
 -- What keeps what the kernel has, where a request goes on and where an entry goes into the submission queue.
-use Rattle.std.proofs.{Common.{◌≡◌, ◌≢◌, ℕ, ◌+◌, ◌-◌, ◌<◌, ◌≤◌, ◌==◌, ◌&&◌, Bool, true, false, cond, List, [], ◌∷◌, ◌++◌, filter, Some, refl, sym, ap, subst, ◌∙◌, arith, slice_get, slice_index_or, if◌then◌else◌}, lemmas.{Bool.{false≢true, eq-eqb}, List.{append-nil, Elements.filter-append}}}
+use Rattle.std.proofs.{Common.{◌≡◌, ◌≢◌, ℕ, ◌+◌, ◌-◌, ◌<◌, ◌≤◌, ◌==◌, Bool, true, false, cond, List, [], ◌∷◌, ◌++◌, filter, Some, refl, sym, ap, subst, ◌∙◌, arith, slice_get, slice_index_or, if◌then◌else◌}, lemmas.{Bool.{eq-eqb}, List.{append-nil, Elements.filter-append}}}
 use Rattle.exec_base.specs.{Slab.{Slab, written}, declared.slab.Id.Id}
-use Rattle.exec_outcomes.specs.{Outcomes.bytes_of, declared.outcome.{Kind.Kind, OpResult.OpResult}}
+use Rattle.exec_outcomes.specs.{Outcomes.bytes_of, declared.outcome.{OpResult.OpResult}}
 use Rattle.exec_request.specs.{Requests.{target_of, window_by}, declared.{request.Request.Request as Asking, window.Window.Window}}
 use Rattle.exec_ring.specs.{Kernels.{is_of, with_entry}, Rings.RingState, declared.{completion.Submission.Submission, store.Store.Store}}
 use Rattle.exec_waiters.specs.{Ids.{user_data_of, index_in}, States.waiter_at, declared.waiter.{Entry.{Entry, TheVariants.Pending}, Waiter.Waiter}}
 use Rattle.exec_machine.specs.declared.state.RequestPhase.{RequestPhase}
 use Rattle.exec_parts.{specs.{declared.parts.{mail.Reply.Reply, record.Record.Record}, Records.number_in, Serving.changed_at}, proofs.Facts.{by_name, same_number}}
-use Rattle.exec_invariants.{specs.Carried.{HasStretchFor, IsCarried, is_moved_by, IsUnderWay, IsWhole, may_move, moves_by, those_of, unlanded}, proofs.{Carrying.{index_told, sum_changed}, Changing.changes_one, Judging.is_of_bytes, Marking.{mark_if, marked, was_marked}}}
+use Rattle.exec_invariants.{specs.Carried.{HasStretchFor, IsCarried, IsUnderWay, IsWhole, may_move, moves_by, those_of, unlanded}, proofs.{Carrying.{index_told, sum_changed}, Changing.changes_one, Judging.is_of_bytes, Marking.{mark_if, marked, was_marked}}}
 
 -- one more entry in the submission queue is none of another request
 other_entry : (w : Window) (u v : ℕ) (r : RingState) → (u ≡ v → ⊥) → those_of v (with_entry r w u).staged ≡ those_of v r.staged
-other_entry w u v r apart =
-    filter-append (is_of v) r.staged (record { window = w; user_data = u } ∷ [])
-    ∙ ap (λ b. those_of v r.staged ++ cond b (record { window = w; user_data = u } ∷ []) []) (by (u == v) refl)
-    ∙ append-nil (those_of v r.staged)
-  where
-    by : (b : Bool) → (u == v) ≡ b → (u == v) ≡ false
-    by true is = absurd (apart (same_number u v is))
-    by false is = is
+other_entry = grind (arith, filter-append, append-nil, same_number)
 
 under_same : (p : RequestPhase) (v : ℕ) (q : Asking) (r r' : RingState) → those_of v r'.flying ≡ those_of v r.flying → those_of v r'.staged ≡ those_of v r.staged → IsUnderWay p v q r → IsUnderWay p v q r'
-under_same RequestPhase.Staged v q r r' flying staged h = (flying ∙ h.0, record { e = h.1.e; lone = staged ∙ h.1.lone; window = h.1.window })
-under_same RequestPhase.Flying v q r r' flying staged h = (record { e = h.0.e; lone = flying ∙ h.0.lone; window = h.0.window }, staged ∙ h.1)
-under_same RequestPhase.Queued v q r r' flying staged h = (flying ∙ h.0, staged ∙ h.1)
-under_same RequestPhase.Gated v q r r' flying staged h = (flying ∙ h.0, staged ∙ h.1)
-under_same (RequestPhase.Landed n) v q r r' flying staged h = (flying ∙ h.0, staged ∙ h.1)
-under_same (RequestPhase.Resolved o) v q r r' flying staged h = (flying ∙ h.0, staged ∙ h.1)
+under_same = grind arith
 
 -- nor is an entry of no request that of one
 pub control_entry : (e : Submission) (v : ℕ) (r : RingState) → (index_in e.user_data < 4294967295 → ⊥) → index_in v < 4294967295 → those_of v (with_entry r e.window e.user_data).staged ≡ those_of v r.staged
 control_entry e v r control small = other_entry e.window e.user_data v r (λ same. control (subst (λ x. index_in x < 4294967295) (sym same) small))
 
-moves_kind : (out : Bool) (k : Kind) (b : Bool) → (is_moved_by out k && b) ≡ true → is_of_bytes k ≡ true
-moves_kind true Kind.Send b h = refl
-moves_kind true _ b h = absurd (false≢true h)
-moves_kind false Kind.Recv b h = refl
-moves_kind false Kind.Fill b h = refl
-moves_kind false _ b h = absurd (false≢true h)
-
 -- what a result has taken of the room is taken
 judged_room : (out : Bool) (socket : ℕ) (r r' : Record) (given : OpResult) → r.shown.phase ≡ RequestPhase.Landed given → r'.shown.phase ≡ RequestPhase.Queued → r'.shown.operation ≡ record r.shown.operation { moved = r'.shown.operation.moved; switched = r'.shown.operation.switched; unrefused = r'.shown.operation.unrefused }
     → (is_of_bytes r.shown.operation.kind ≡ true → r'.shown.operation.moved ≡ r.shown.operation.moved + bytes_of given) → may_move out socket r' ≤ may_move out socket r
-judged_room out socket r r' given landed queued operation moved = by (moves_by out socket r.shown.operation) refl
-  where
-    same : moves_by out socket r'.shown.operation ≡ moves_by out socket r.shown.operation
-    same = ap (moves_by out socket) operation
-
-    by : (b : Bool) → moves_by out socket r.shown.operation ≡ b → may_move out socket r' ≤ may_move out socket r
-    by false is =
-        let before : may_move out socket r ≡ 0 = ap (λ b. if b then unlanded r.shown.phase r.shown.operation else 0) is in
-        let after : may_move out socket r' ≡ 0 = ap (λ b. if b then unlanded r'.shown.phase r'.shown.operation else 0) (same ∙ is) in
-        omega (arith, before, after)
-    by true is =
-        let o = r.shown.operation in
-        let more = moved (moves_kind out o.kind (o.target == socket) is) in
-        let length : r'.shown.operation.length ≡ o.length = ap (λ x. x.length) operation in
-        let before : may_move out socket r ≡ (o.length - o.moved) - bytes_of given = ap (λ b. if b then unlanded r.shown.phase o else 0) is ∙ ap (λ p. unlanded p o) landed in
-        let after : may_move out socket r' ≡ r'.shown.operation.length - r'.shown.operation.moved = ap (λ b. if b then unlanded r'.shown.phase r'.shown.operation else 0) (same ∙ is) ∙ ap (λ p. unlanded p r'.shown.operation) queued in
-        omega (arith, before, after, more, length)
+judged_room = grind arith
 
 module _ (numbers : List ℕ) (s : Slab (Entry Reply Reply)) (ring : RingState) (rs : List Record) (st : Store) (carried : IsCarried numbers s ring rs st) where
   -- another ring, in which each request has what it had
   pub carried_ring : (ring' : RingState) → ((v : ℕ) → index_in v < 4294967295 → those_of v ring'.flying ≡ those_of v ring.flying) → ((v : ℕ) → index_in v < 4294967295 → those_of v ring'.staged ≡ those_of v ring.staged) → IsCarried numbers s ring' rs st
-  carried_ring ring' flying staged =
-      record {
-        slots = carried.slots;
-        whole = carried.whole;
-        target = carried.target;
-        carried = λ id it r live there.
-            let small : index_in (user_data_of id) < 4294967295 = rw (index_told id (carried.slots id it live)) (carried.slots id it live) in
-            under_same r.shown.phase (user_data_of id) it.request ring ring' (flying (user_data_of id) small) (staged (user_data_of id) small) (carried.carried id it r live there);
-        nobody = λ v small free.
-            let none = carried.nobody v small free in
-            (flying v small ∙ none.0, staged v small ∙ none.1);
-        room = carried.room;
-        stretch = carried.stretch;
-      }
+  carried_ring = grind (arith, index_told, under_same)
 
   -- an entry of no request goes into the submission queue
   pub carried_beside : (w : Window) (u : ℕ) → (index_in u < 4294967295 → ⊥) → IsCarried numbers s (with_entry ring w u) rs st

@@ -9,10 +9,7 @@ use Rattle.exec_invariants.{specs.{Gates.HaveGates, Places.{claims_at, drops_at,
 
 pub sum_above : (f g : ℕ → ℕ) (i a n : ℕ) → i < a → ((j : ℕ) → j ≢ i → g j ≡ f j) → sum_by g (range_with_len a n) ≡ sum_by f (range_with_len a n)
 sum_above f g i a zero above same = refl
-sum_above f g i a (suc n) above same =
-    let apart : a ≢ i = λ is. let less : i < i = subst (λ k. i < k) is above in absurd (omega arith) in
-    let rest = sum_above f g i (a + 1) n (omega arith) same in
-    sum_by-cons g a (range_with_len (a + 1) n) ∙ omega (arith, same a apart, rest) ∙ sym (sum_by-cons f a (range_with_len (a + 1) n))
+sum_above f g i a (suc n) above same = grind (arith, sum_by-cons, sum_above f g i (a + 1) n (omega arith) same)
 
 -- where the term of one number changed
 pub sum_one : (f g : ℕ → ℕ) (i a n : ℕ) → a ≤ i → i < a + n → ((j : ℕ) → j ≢ i → g j ≡ f j) → sum_by g (range_with_len a n) + f i ≡ sum_by f (range_with_len a n) + g i
@@ -33,9 +30,7 @@ sum_one f g i a (suc n) from to same =
 -- where the term of a number behind them changed
 pub sum_past : (f g : ℕ → ℕ) (i a n : ℕ) → a + n ≤ i → ((j : ℕ) → j ≢ i → g j ≡ f j) → sum_by g (range_with_len a n) ≡ sum_by f (range_with_len a n)
 sum_past f g i a zero past same = refl
-sum_past f g i a (suc n) past same =
-    let rest = sum_past f g i (a + 1) n (omega (arith, past)) same in
-    sum_by-cons g a (range_with_len (a + 1) n) ∙ omega (arith, same a (λ is. omega (arith, past, is)), rest) ∙ sym (sum_by-cons f a (range_with_len (a + 1) n))
+sum_past f g i a (suc n) past same = grind (arith, sum_by-cons, sum_past f g i (a + 1) n (omega (arith, past)) same)
 
 -- of at most one each
 pub sum_few : (f : ℕ → ℕ) (a n : ℕ) → ((j : ℕ) → f j ≤ 1) → sum_by f (range_with_len a n) ≤ n
@@ -137,27 +132,17 @@ module _ {B : Type 0} where
 
   -- who holds a count can return it
   pub has_count : (z : Stance) (w : Worker) (s : Shared B) → Stands z w → HasWhole w s → 0 < own_counts z → 0 < s.idle.count
-  has_count z w s here has some =
-      let own : own_counts z ≡ one_if w.searching + one_if (has_count_at w.place) = rw (here.searching, here.counted) refl in
-      omega (arith, has.whole.counts, some, own)
+  has_count = grind arith
 
   -- and one more fits
   pub count_fits : (w : Worker) (s : Shared B) → HasWhole w s → s.config.workers ≤ 64 → s.idle.count + 1 < 2 ^ 64
-  count_fits w s has many =
-      let x = with_worker has.others w in
-      let claimed : claimed_count x s ≤ s.config.workers = sum_few (λ j. one_if (x.published j && not (is_in s.idle.published j))) 0 (s.config.workers) (λ j. at_most (x.published j && not (is_in s.idle.published j))) in
-      omega (arith, has.whole.counts, has.few, claimed, at_most w.searching, at_most (has_count_at w.place), many)
+  count_fits = grind (arith, sum_few, at_most)
 
   -- WHERE THE COUNT ALONE CHANGES
 
   pub counts_alone : (z : Stance) (searching counted : Bool) (w : Worker) (s : Shared B) (x : Idle) → Stands z w → x.published ≡ s.idle.published → x.count + own_counts z ≡ s.idle.count + (one_if searching + one_if counted)
       → Counts z (record z { searching = searching; counted = counted }) w s x
-  counts_alone z searching counted w s x here set moved =
-      record {
-        sized = ap length set;
-        counts = λ others whole. rw set (omega (arith, moved));
-        bits = λ others whole j h. rw (← here.published) (whole.bits j (rw (← set) h));
-      }
+  counts_alone = grind arith
 
   -- and where neither does
   pub counts_same : (z : Stance) (w : Worker) (s : Shared B) → Stands z w → Counts z z w s s.idle
@@ -183,13 +168,7 @@ module _ {B : Type 0} where
 
   -- the same bits in the set of those who show so
   bits_beside : (z : Stance) (w : Worker) (s : Shared B) (others : Profile) (i : ℕ) (b b' : Bool) → Stands z w → IsWhole (with_worker others w) s → (j : ℕ) → j ≢ i → (i ≡ w.index ⊎ b' ≡ z.published) → is_in (slice_set s.idle.published i b) j ≡ true → (shown_by others w.index b' j ≡ true) × (j < s.config.workers)
-  bits_beside z w s others i b b' here whole j other by h =
-      let was = whole.bits j (sym (set_beside s.idle.published i j b other) ∙ h) in
-      let shown : shown_by others w.index z.published j ≡ true = rw (← here.published) was.0 in
-      elim by as (λ x. (shown_by others w.index b' j ≡ true) × (j < s.config.workers)) [
-        | inl is ↦ (beside others w.index j z.published b' (λ same. other (same ∙ sym is)) ∙ shown, was.1)
-        | inr is ↦ (rw is shown, was.1)
-      ]
+  bits_beside = grind (arith, set_beside, beside)
 
   -- a worker publishes its bit
   pub counts_published : (z : Stance) (w : Worker) (s : Shared B) (x : Idle) → Stands z w → z.published ≡ false → w.index < s.config.workers → w.index < 64 → x ≡ record s.idle { published = slice_set s.idle.published w.index true } → Counts z (record z { published = true }) w s x
@@ -214,13 +193,7 @@ module _ {B : Type 0} where
       within others whole = omega (arith, whole.set, few)
 
       balance : (others : Profile) → IsWhole (with_worker others w) s → claimed_of n others i true set' ≡ claimed_of n others i z.published set
-      balance others whole =
-          let f = is_claimed others i z.published set in
-          let g = is_claimed others i true set' in
-          let same : (j : ℕ) → j ≢ i → g j ≡ f j = λ j other. rw (beside others i j z.published true other, set_beside set i j true other) refl in
-          let at_f : f i ≡ 0 = rw (here_shown others i z.published, out) refl in
-          let at_g : g i ≡ 0 = rw (here_shown others i true, set_at set i true (within others whole)) refl in
-          omega (arith, sum_one f g i 0 n (omega arith) (omega (arith, there)) same, at_f, at_g)
+      balance = grind (arith, beside, set_beside, here_shown, set_at, sum_one)
 
       done : Counts z (record z { published = true }) w s x1
       done = record {

@@ -1,5 +1,5 @@
 -- Workers of the pool and dedicated ones: what the numbers of workers and of their roots say.
-use Rattle.std.proofs.{Common.{◌≡◌, ℕ, ◌<◌, ◌≤◌, Bool, true, false, List, Option, Some, None, refl, sym, ap, ◌∙◌, length, slice_get, nat_lt, arith}, lemmas.{Bool.{false≢true, Decides.nat_tests}, Option.slice_get_within}}
+use Rattle.std.proofs.{Common.{◌≡◌, ℕ, ◌<◌, ◌≤◌, true, false, List, Option, Some, None, sym, ◌∙◌, length, slice_get, nat_lt, arith}, lemmas.{Bool.{false≢true, Decides.nat_tests}, Option.slice_get_within}}
 use Rattle.exec_moves.specs.declared.place.Place.{Place}
 use Rattle.exec_parts.specs.{declared.parts.{role.Role.Role, seat.Seat.Seat as Chair, shared.Shared.Shared, task_slot.TaskSlot.TaskSlot, worker.Worker.Worker}, Roles.is_pool}
 use Rattle.exec_invariants.specs.{Places.is_pooled_at, Sound.{AreHome, Serves, SoundAt}}
@@ -17,14 +17,6 @@ less_of a b h = grind (arith, nat_tests, h)
 most_of : (a b : ℕ) → nat_lt a b ≡ false → b ≤ a
 most_of a b h = grind (arith, nat_tests, h)
 
--- one number or the other is less
-pub less_or : {P : Type 0} (a b : ℕ) → (a < b → P) → (b ≤ a → P) → P
-less_or {P} a b less more = by (nat_lt a b) refl
-  where
-    by : (x : Bool) → nat_lt a b ≡ x → P
-    by true is = less (less_of a b is)
-    by false is = more (most_of a b is)
-
 -- a worker of the pool may poll any task
 pub all_serve : (o : Option ℕ) (root : ℕ) (role : Role) → is_pool role ≡ true → Serves o root role
 all_serve None root role pool = tt
@@ -35,13 +27,7 @@ module _ {B : Type 0} where
 
   -- each root is that of a worker
   pub home_within : (workers count t j : ℕ) (tasks : List (TaskSlot B)) (slot : TaskSlot B) → AreHome workers count tasks → slice_get tasks t ≡ Some slot → slot.home ≡ Some j → j < count
-  home_within workers count t j tasks slot homes there home =
-      less_or t workers
-      (λ few.
-      let is : Some t ≡ Some j = sym (homes.home t slot there few) ∙ home in
-      let same : t ≡ j = cc in
-      omega (arith, few, same, homes.many))
-      (λ past. (homes.dedicated t j slot there past home).1)
+  home_within = grind arith
 
   -- its own seat is there
   pub own_there : (p : Place) (w : Worker) (s : Shared B) → SoundAt p w s → w.index < length s.seats.items
@@ -60,9 +46,7 @@ module _ {B : Type 0} where
 
   -- its seat says which it is
   pub chair_of_pool : (p : Place) (w : Worker) (s : Shared B) → SoundAt p w s → (chair : Chair) → slice_get s.seats.items w.index ≡ Some chair → chair.pool ≡ is_pool w.role
-  chair_of_pool p w s sound chair there =
-      let is : sound.seated.seat ≡ chair = cc (sound.seated.there, there) in
-      ap (λ (c : Chair). c.pool) (sym is) ∙ sound.seated.pool ∙ sym sound.role.pool
+  chair_of_pool = grind arith
 
   -- no other task is its root
   pub own_root : (p : Place) (w : Worker) (s : Shared B) → SoundAt p w s → (t : ℕ) (slot : TaskSlot B) → slice_get s.tasks.items t ≡ Some slot → slot.home ≡ Some w.index → t ≡ w.root

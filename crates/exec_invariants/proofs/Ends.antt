@@ -1,11 +1,11 @@
 -- What is seen of a request's end.
-use Rattle.std.proofs.{Common.{◌≡◌, ◌≢◌, ℕ, ◌==◌, Bool, true, false, not, List, [], ◌∷◌, filter, Option, Some, refl, sym, ap, ◌∙◌, arith, inl, inr}, lemmas.Bool.eq-eqb}
+use Rattle.std.proofs.{Common.{◌≡◌, ◌≢◌, ℕ, ◌==◌, true, false, not, List, [], ◌∷◌, filter, Option, Some, refl, sym, ◌∙◌, arith}}
 use Rattle.exec_base.specs.{Slab.Slab, declared.slab.Id.Id}
 use Rattle.exec_outcomes.specs.Accounts.{Account}
 use Rattle.exec_request.specs.States.{Ended}
 use Rattle.exec_waiters.specs.{Events.finished, States.{is_flying, flying_count, waiter_at}, declared.{waiter.{Entry.Entry, Waiter.Waiter}, waiter_id.WaiterId.WaiterId}}
-use Rattle.exec_driver.{specs.Lists.{is_among, is_same, without}, proofs.{Counting.flying_is, Endings.one_finished, Names.same_tells}}
-use Rattle.exec_parts.{specs.{declared.parts.mail.Reply.Reply, Records.number_in, View.numbers_of}, proofs.Facts.{same_self, not_same}}
+use Rattle.exec_driver.{specs.Lists.{is_among, without}, proofs.{Counting.flying_is, Endings.one_finished}}
+use Rattle.exec_parts.{specs.{declared.parts.mail.Reply.Reply, Records.number_in, View.numbers_of}, proofs.Facts.{same_self}}
 
 -- THE NUMBERS of those that are left
 
@@ -13,20 +13,12 @@ first_in : (x : WaiterId) (ids : List WaiterId) → is_among x (x ∷ ids) ≡ t
 first_in x ids = rw (same_self x) refl
 
 pub later_in : (x y : WaiterId) (ids : List WaiterId) → is_among y ids ≡ true → is_among y (x ∷ ids) ≡ true
-later_in x y ids h = by (is_same x y) refl
-  where
-    by : (b : Bool) → is_same x y ≡ b → is_among y (x ∷ ids) ≡ true
-    by true is = rw is refl
-    by false is = rw is h
+later_in = grind arith
 
 numbers_step : (numbers : List ℕ) (id x : WaiterId) (ids : List WaiterId) → numbers_of numbers (without id ids) ≡ filter (λ q. not (q == number_in numbers id.0)) (numbers_of numbers ids)
     → (x.0 ≢ id.0 → number_in numbers x.0 ≡ number_in numbers id.0 → ⊥)
     → numbers_of numbers (without id (x ∷ ids)) ≡ filter (λ q. not (q == number_in numbers id.0)) (numbers_of numbers (x ∷ ids))
-numbers_step numbers id x ids rest apart =
-    elim (same_tells x id) [
-      | inl same ↦ rw (same.0, ap (λ (y : WaiterId). number_in numbers y.0) same.1, eq-eqb (number_in numbers id.0) (number_in numbers id.0) refl) rest
-      | inr differs ↦ rw (differs.0, not_same (number_in numbers x.0) (number_in numbers id.0) (apart differs.1)) (ap (λ ns. number_in numbers x.0 ∷ ns) rest)
-    ]
+numbers_step = grind arith
 
 pub numbers_without : (numbers : List ℕ) (id : WaiterId) (ids : List WaiterId) → ((x : WaiterId) → is_among x ids ≡ true → x.0 ≢ id.0 → number_in numbers x.0 ≡ number_in numbers id.0 → ⊥)
     → numbers_of numbers (without id ids) ≡ filter (λ q. not (q == number_in numbers id.0)) (numbers_of numbers ids)

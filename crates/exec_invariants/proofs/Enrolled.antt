@@ -7,28 +7,19 @@ use Rattle.exec_waiters.{specs.{States.{waiter_at, takes_tick}, declared.{waiter
 use Rattle.exec_driver.specs.{Driving.{request_at, is_unenrolled}, Lists.first_of, Punctual.IsPunctual, Steps.EnrolsAs}
 use Rattle.exec_machine.specs.{declared.{event.Event.{Event, TheVariants.Enrol}, state.RequestPhase.RequestPhase}, Deadlines.enrolled, Requests.joined_if, Tests.is_kept}
 use Rattle.exec_parts.{specs.{declared.parts.{mail.Reply.Reply, record.Record.Record, shared.Shared.Shared, worker.Worker.Worker}, Records.number_in, Serving.{changed_at, first_tick, outcome_of_error}, View.driver_of}, proofs.Facts.some_of}
-use Rattle.exec_invariants.{specs.{Names.IsAlike, Submits.IsNewIn}, proofs.{Known.low_there, ReapKinds.{durable_kept, kept_alone}, Staging.among_first, Starting.queued_phase}}
+use Rattle.exec_invariants.{specs.{Names.IsAlike, Submits.IsNewIn}, proofs.{Known.low_there, ReapKinds.{durable_kept}, Staging.among_first, Starting.queued_phase}}
 
 -- THE FIRST NEW DEADLINE
 
 -- what has a deadline is no write and no sync, so it needs no permit
 pub timed_kept : (q : Asking) → is_some (deadline_of q) ≡ true → is_kept (asked_of q).kind ≡ false
-timed_kept (Asking.Send s) h = refl
-timed_kept (Asking.Recv r) h = kept_alone (Asking.Recv r)
-timed_kept (Asking.ReadAt r) h = absurd (false≢true h)
-timed_kept (Asking.WriteAt w) h = absurd (false≢true h)
-timed_kept (Asking.Sync s) h = absurd (false≢true h)
-timed_kept (Asking.Connect c) h = refl
-timed_kept (Asking.Poll p) h = refl
+timed_kept = grind arith
 
 pub timed_free : (q : Asking) → is_some (deadline_of q) ≡ true → is_durable (asked_of q).kind ≡ false
 timed_free q h = durable_kept (asked_of q).kind (timed_kept q h)
 
 new_parts : (a b c : Bool) → (not a && b && c) ≡ true → (a ≡ false) × (b ≡ true) × (c ≡ true)
-new_parts true b c h = absurd (false≢true h)
-new_parts false true true h = (refl, refl, refl)
-new_parts false true false h = absurd (false≢true h)
-new_parts false false c h = absurd (false≢true h)
+new_parts = grind arith
 
 -- whose it is
 pub record NewAt {B : Type 0} (w : Worker) (s : Shared B) (id : WaiterId) : Type 0 where

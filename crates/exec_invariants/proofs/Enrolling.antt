@@ -1,5 +1,5 @@
 -- What an enrolment of a deadline gives, for the driver and for the machine.
-use Rattle.std.{proofs.{Common.{◌≡◌, ℕ, ◌+◌, ◌-◌, ◌*◌, ◌/◌, ◌%◌, ◌^◌, ◌<◌, ◌≤◌, ◌&&◌, ◌||◌, Bool, true, false, not, Option, Some, None, refl, sym, ap, ◌∙◌, arith, nat_le, nat_lt, min, if◌then◌else◌, Result, Ok, Err}, lemmas.{Bool.{false≢true, Decides.nat_tests}, Grind.div_ceil_times}, Math.Nat.{div-eq_of_lt-le, div-lt_iff_lt-mul}}, specs.Int.div_ceil}
+use Rattle.std.{proofs.{Common.{◌≡◌, ℕ, ◌+◌, ◌-◌, ◌*◌, ◌/◌, ◌^◌, ◌<◌, ◌≤◌, ◌&&◌, ◌||◌, Bool, true, false, not, Option, Some, None, refl, ap, ◌∙◌, arith, nat_le, nat_lt, if◌then◌else◌, Result, Ok, Err}, lemmas.{Bool.{Decides.nat_tests}}}, specs.Int.div_ceil}
 use Rattle.exec_base.specs.declared.error.{Cause.TheVariants.InvalidInput, Error.{Error, TheVariants.{Timeout, Io}}}
 use Rattle.exec_outcomes.specs.declared.outcome.Outcome.{Outcome, TheVariants.Failure}
 use Rattle.exec_time.specs.Wheel.{Wheel, target_of, moment_of}
@@ -12,18 +12,11 @@ use Rattle.exec_invariants.specs.Due.{IsWheelAt}
 
 -- the two ways to round a quotient up
 pub rounded_up : (x y : ℕ) → 0 < y → (x + (y - 1)) / y ≡ div_ceil x y
-rounded_up x y some =
-    let bounds = div_ceil_times x y some in
-    let k : ℕ = x / y + min 1 (x % y) in
-    let more : (k + 1) * y ≡ k * y + y = grind (arith) in
-    div-eq_of_lt-le y (omega (arith, bounds.0, bounds.1, some)) (omega (arith, bounds.0, bounds.1, some, more))
+rounded_up = grind arith
 
 -- a deadline that is ahead rounds to a tick that is ahead
 ahead_of : (start now deadline tick : ℕ) → 0 < tick → start ≤ now → now < deadline → (now - start) / tick < div_ceil (deadline - start) tick
-ahead_of start now deadline tick some begun later =
-    let bounds = div_ceil_times (deadline - start) tick some in
-    let under : now - start < div_ceil (deadline - start) tick * tick = omega (arith, bounds.0, begun, later) in
-    (div-lt_iff_lt-mul some).1 under
+ahead_of = grind arith
 
 lt_is : (a b : ℕ) → a < b → nat_lt a b ≡ true
 lt_is a b h = grind (arith, nat_tests)
@@ -49,25 +42,11 @@ target_seen w deadline now = refl
 
 same_all : (le far above below beyond : Bool) (w : Wheel) (t : ℕ) → (le ≡ false → above ≡ true) → below ≡ not beyond → (le ≡ false → nat_lt (moment_of w t) (2 ^ 64) ≡ true)
     → outcome_of_error (ended_by (tick_by w (chosen le far above below t))) ≡ outcome_by le far beyond
-same_all true far above below beyond w t a b fits = refl
-same_all false true above below beyond w t a b fits = refl
-same_all false false false below beyond w t a b fits = absurd (false≢true (a refl))
-same_all false false true true true w t a b fits = absurd (false≢true (sym b))
-same_all false false true true false w t a b fits = rw (fits refl) refl
-same_all false false true false true w t a b fits = refl
-same_all false false true false false w t a b fits = absurd (false≢true b)
-
-fit_is : (w : Wheel) (t m : ℕ) (b : Bool) → (if b then Ok t else Err (Io InvalidInput)) ≡ Ok m → m ≡ t
-fit_is w t m true is = cc
-fit_is w t m false is = absurd (cc)
+same_all = grind arith
 
 -- the tick that it gets
 ok_is : (le far above below : Bool) (w : Wheel) (t m : ℕ) → tick_by w (chosen le far above below t) ≡ Ok m → (m ≡ t) × (le ≡ false)
-ok_is true far above below w t m is = absurd (cc)
-ok_is false true above below w t m is = absurd (cc)
-ok_is false false false below w t m is = absurd (cc)
-ok_is false false true false w t m is = absurd (cc)
-ok_is false false true true w t m is = (fit_is w t m (nat_lt (moment_of w t) (2 ^ 64)) is, refl)
+ok_is = grind arith
 
 pub ended_not : (r : Result ℕ Error) → ended_by r ≡ None → (t : ℕ) × (r ≡ Ok t)
 ended_not (Ok t) is = (t, refl)
@@ -81,9 +60,7 @@ module _ (c : Configuration) (me : Own) (w : Wheel) (now deadline : ℕ) (at : I
   ticks_are = ap (λ x. div_ceil (deadline - x) w.tick) at.start ∙ ap (λ x. div_ceil (deadline - me.start) x) at.tick
 
   in_time_then : now < deadline → me.start + ticks * c.tick < 2 ^ 64
-  in_time_then later =
-      let bounds = div_ceil_times (deadline - me.start) c.tick some in
-      omega (arith, bounds.1, fits, begun, later)
+  in_time_then = grind arith
 
   above : nat_le deadline now ≡ false → nat_lt w.current (div_ceil (deadline - w.start) w.tick) ≡ true
   above is =
@@ -91,30 +68,14 @@ module _ (c : Configuration) (me : Own) (w : Wheel) (now deadline : ℕ) (at : I
       ∙ lt_is ((now - me.start) / c.tick) ticks (ahead_of me.start now deadline c.tick some begun (not_le deadline now is))
 
   below : nat_lt (div_ceil (deadline - w.start) w.tick) (w.current + w.slots) ≡ not (nat_le ((now - me.start) / c.tick + wheel_slots c) (tick_from c me deadline))
-  below =
-      ap (λ t. nat_lt t (w.current + w.slots)) ticks_are ∙ ap (λ m. nat_lt ticks (m + w.slots)) at.current ∙ ap (λ m. nat_lt ticks ((now - me.start) / c.tick + m)) at.slots
-      ∙ lt_not_le ticks ((now - me.start) / c.tick + wheel_slots c)
-      ∙ ap (λ t. not (nat_le ((now - me.start) / c.tick + wheel_slots c) t)) (sym (rounded_up (deadline - me.start) c.tick some))
+  below = grind (arith, ticks_are, lt_not_le, rounded_up)
 
   in_range : nat_le deadline now ≡ false → nat_lt (moment_of w (div_ceil (deadline - w.start) w.tick)) (2 ^ 64) ≡ true
-  in_range is =
-      ap (λ t. nat_lt (w.start + t * w.tick) (2 ^ 64)) ticks_are ∙ ap (λ x. nat_lt (x + ticks * w.tick) (2 ^ 64)) at.start ∙ ap (λ x. nat_lt (me.start + ticks * x) (2 ^ 64)) at.tick
-      ∙ lt_is (me.start + ticks * c.tick) (2 ^ 64) (in_time_then (not_le deadline now is))
+  in_range = grind (arith, ticks_are, lt_is, in_time_then, not_le)
 
   pub enrol_same : outcome_of_error (ended_by (tick_for w deadline now)) ≡ outcome_at_enrol c me (Some deadline)
-  enrol_same =
-      ap (λ o. outcome_of_error (ended_by (tick_by w o))) (target_seen w deadline now)
-      ∙ same_all (nat_le deadline now) (nat_lt w.horizon (deadline - now)) (nat_lt w.current (div_ceil (deadline - w.start) w.tick)) (nat_lt (div_ceil (deadline - w.start) w.tick) (w.current + w.slots))
-      (nat_le ((now - me.start) / c.tick + wheel_slots c) (tick_from c me deadline)) w (div_ceil (deadline - w.start) w.tick) above below in_range
-      ∙ ap (λ h. outcome_by (nat_le deadline now) (nat_lt h (deadline - now)) (nat_le ((now - me.start) / c.tick + wheel_slots c) (tick_from c me deadline))) at.horizon
-      ∙ ap (λ m. outcome_by (nat_le deadline m) (nat_lt (horizon c) (deadline - m)) (nat_le ((m - me.start) / c.tick + wheel_slots c) (tick_from c me deadline))) (sym sampled)
+  enrol_same = grind (arith, target_seen, same_all, above, below, in_range)
 
   -- where it goes on the wheel
   pub enrolled_at : (t : ℕ) → tick_for w deadline now ≡ Ok t → (w.start + t * w.tick ≡ first_tick me.start c.tick deadline) × (now < deadline)
-  enrolled_at t is =
-      let at_tick = ok_is (nat_le deadline now) (nat_lt w.horizon (deadline - now)) (nat_lt w.current (div_ceil (deadline - w.start) w.tick)) (nat_lt (div_ceil (deadline - w.start) w.tick) (w.current + w.slots)) w (div_ceil (deadline - w.start) w.tick) t
-      (ap (tick_by w) (sym (target_seen w deadline now)) ∙ is) in
-      let tick : t ≡ (deadline - me.start + (c.tick - 1)) / c.tick = at_tick.0 ∙ ticks_are ∙ sym (rounded_up (deadline - me.start) c.tick some) in (
-        ap (λ x. w.start + x * w.tick) tick ∙ ap (λ x. x + ((deadline - me.start + (c.tick - 1)) / c.tick) * w.tick) at.start ∙ ap (λ x. me.start + ((deadline - me.start + (c.tick - 1)) / c.tick) * x) at.tick,
-        not_le deadline now at_tick.1,
-      )
+  enrolled_at = grind (arith, ok_is, target_seen, ticks_are, rounded_up, not_le)

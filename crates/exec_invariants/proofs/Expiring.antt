@@ -1,5 +1,5 @@
 -- The request whose deadline has come first.
-use Rattle.std.{proofs.{Common.{◌≡◌, ℕ, suc, ◌<◌, ◌^◌, ◌&&◌, not, arith, Bool, true, false, List, [], ◌∷◌, length, Option, Some, None, refl, sym, ap, subst, ◌∙◌, slice_get, slice_set, is_some, if◌then◌else◌, Err}, lemmas.Bool.false≢true}, specs.VecDeque.deque_capacity}
+use Rattle.std.{proofs.{Common.{◌≡◌, ℕ, suc, ◌<◌, ◌^◌, ◌&&◌, not, arith, Bool, true, false, List, [], ◌∷◌, length, Option, Some, None, refl, sym, ap, ◌∙◌, slice_get, slice_set, is_some, if◌then◌else◌, Err}, lemmas.Bool.false≢true}, specs.VecDeque.deque_capacity}
 use Rattle.exec_base.specs.{Slab.value_at, declared.error.Error.TheVariants.Timeout}
 use Rattle.exec_time.specs.Wheel.{Wheel, removed}
 use Rattle.exec_request.specs.{Requests.deadline_of, States.asks_cancel, declared.results.WaiterState.{WaiterState, TheVariants.{Active, CancelRequested}}}
@@ -86,12 +86,7 @@ pub same_change : (rs : List Record) (k : ℕ) (r : Record) (f g : Record → Re
 same_change rs k r f g there same = ap (changed_in rs k f) there ∙ ap (slice_set rs k) same ∙ sym (ap (changed_in rs k g) there)
 
 pub flies_not_queued : (p : RequestPhase) → is_in_flight p ≡ true → is_queued p ≡ false
-flies_not_queued RequestPhase.Staged h = refl
-flies_not_queued RequestPhase.Flying h = refl
-flies_not_queued (RequestPhase.Landed n) h = refl
-flies_not_queued RequestPhase.Queued h = absurd (false≢true h)
-flies_not_queued RequestPhase.Gated h = absurd (false≢true h)
-flies_not_queued (RequestPhase.Resolved o) h = absurd (false≢true h)
+flies_not_queued = grind arith
 
 -- THE WHEEL without it
 
@@ -115,10 +110,7 @@ unticked_tick w (Some t) = removed_tick w t
 
 -- what is found passes the test
 passes_by : {X : Type 0} (test : ℕ → X → Bool) (n k : ℕ) (x : X) (xs : List X) (b : Bool) → test n x ≡ b → (first_numbered test (suc n) xs ≡ Some k → (y : X) × (test k y ≡ true)) → (if b then Some n else first_numbered test (suc n) xs) ≡ Some k → (y : X) × (test k y ≡ true)
-passes_by test n k x xs true is later h =
-    let same : n ≡ k = cc in
-    (x, subst (λ j. test j x ≡ true) same is)
-passes_by test n k x xs false is later h = later h
+passes_by = grind arith
 
 found_passes : {X : Type 0} (test : ℕ → X → Bool) (n k : ℕ) (xs : List X) → first_numbered test n xs ≡ Some k → (x : X) × (test k x ≡ true)
 found_passes test n k [] h = absurd (cc)

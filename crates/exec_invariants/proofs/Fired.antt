@@ -24,12 +24,7 @@ pub fired_there : (ss : List SleeperRecord) (k : ℕ) (z : SleeperRecord) → sl
 fired_there ss k z there = get_set ss k k (fires z) z there ∙ ap (λ b. if b then Some (fires z) else slice_get ss k) (eq-eqb k k refl)
 
 pub other_there : (ss : List SleeperRecord) (k j : ℕ) (z : SleeperRecord) → slice_get ss k ≡ Some z → (k ≡ j → ⊥) → slice_get (slice_set ss k (fires z)) j ≡ slice_get ss j
-other_there ss k j z there apart =
-    get_set ss k j (fires z) z there ∙ ap (λ b. if b then Some (fires z) else slice_get ss j) (not_same (k == j) refl)
-  where
-    not_same : (b : Bool) → (k == j) ≡ b → b ≡ false
-    not_same true is = absurd (apart (same_number k j is))
-    not_same false is = refl
+other_there = grind (arith, get_set, same_number)
 
 -- THOSE WHO SLEEP STILL
 

@@ -1,12 +1,12 @@
 -- The end of a service: a sleeper is told, or the service leads on.
-use Rattle.std.{specs.Option.option_map, proofs.{Common.{◌≡◌, ℕ, zero, suc, ◌≤◌, ◌<◌, ◌==◌, length, slice_index_or, ◌&&◌, Bool, true, false, not, List, [], ◌∷◌, map, Option, Some, None, IsSome, refl, sym, ap, subst, ◌∙◌, arith, slice_get, nat_le, if◌then◌else◌}, lemmas.{Bool.{false≢true, Decides.nat_tests}, Option.slice_get-map}}}
+use Rattle.std.{specs.Option.option_map, proofs.{Common.{◌≡◌, ℕ, zero, suc, ◌≤◌, ◌==◌, slice_index_or, ◌&&◌, Bool, true, false, not, List, [], ◌∷◌, map, Option, Some, None, IsSome, refl, sym, ap, subst, ◌∙◌, arith, slice_get, nat_le, if◌then◌else◌}, lemmas.{Bool.{false≢true}, Option.slice_get-map}}}
 use Rattle.exec_base.specs.{Slab.{Slab, value_at}, declared.slab.Id.Id}
 use Rattle.exec_time.specs.{Sleepers.IsDue as IsSleepDue, declared.{notes.Notes.Notes, timers.Sleeper.Sleeper as Sleeping}}
 use Rattle.exec_task.specs.declared.body.Said.{Said}
 use Rattle.exec_machine.specs.{declared.{event.Event.{Event, TheVariants.Serve}, state.{Sleeper.Sleeper, Next.Next}}, Deadlines.is_none_earlier, Tests.{is_asleep, is_empty, is_open}, World.{Own, Common, no_sleeper, seat_of}}
 use Rattle.exec_moves.specs.{Seen.{polls_at, next_at, serves_at}, State.Desk, Serve.{after_service, first_to_fire, is_to_fire}, Slots.first_in, declared.{handing.AfterCallbacks.AfterCallbacks, place.{AfterService.AfterService, Service.Service, Place.Place, InCallbacks.InCallbacks, InMail.InMail, InService.InService}}}
 use Rattle.exec_parts.{specs.{declared.parts.{mail.Reply.Reply, names.Names.Names, shared.Shared.Shared, sleeping.SleeperRecord.SleeperRecord, worker.{Moments.Moments, Worker.Worker}}, Phased.closes_at, Spots.Spot, View.{visible, own_of, owed_at, desk_of, driver_of, common_of, seat_seen, things_with, message_of}}, proofs.Facts.and_none}
-use Rattle.exec_invariants.{specs.{Due.{AreAsleep, IsWheelAt, wheel_moment}, Holding.Mail, HoldPlaces.{has_wakes_at, is_bare_at}, Places.{is_armed_at, is_published_at, passes_at, searches_at}, Sound.{HasBatch, SoundAt, served_in}, Works.Steps}, proofs.{Unclosed.unclosed, Seats.own_seat, Seen.sleeper_at, ServingHolds.{IsServed, Serves, Keeps, KeepsBy}, Serving.{SparesRecords, at_large, balances_still, kept, spares_same}, ServingPlaces.{calm, is_calm}, Seeing.{makes, served, common_same, things_kept}}}
+use Rattle.exec_invariants.{specs.{Due.{AreAsleep, wheel_moment}, Holding.Mail, HoldPlaces.{has_wakes_at, is_bare_at}, Places.{is_armed_at, is_published_at, passes_at, searches_at}, Sound.{HasBatch, SoundAt, served_in}, Works.Steps}, proofs.{Unclosed.unclosed, Seats.own_seat, Seen.sleeper_at, ServingHolds.{Serves, Keeps, KeepsBy}, Serving.{SparesRecords, at_large, balances_still, kept, spares_same}, ServingPlaces.{calm, is_calm}, Seeing.{makes, served, common_same, things_kept}}}
 
 -- WHO IS NEXT
 
@@ -16,14 +16,7 @@ slept_there (z ∷ ss) zero x there = (z, refl, cc)
 slept_there (z ∷ ss) (suc k) x there = slept_there ss k x there
 
 not_yet : (m t : ℕ) → (t ≤ m → ⊥) → nat_le t m ≡ false
-not_yet m t h = by (nat_le t m) refl
-  where
-    come : (a b : ℕ) → nat_le a b ≡ true → a ≤ b
-    come a b is = grind (arith, nat_tests)
-
-    by : (b : Bool) → nat_le t m ≡ b → nat_le t m ≡ false
-    by true is = absurd (h (come t m is))
-    by false is = is
+not_yet = grind arith
 
 -- one that sleeps isn't due, where none of those that are there is
 undue_sleeper : {closing : Bool} (i now : ℕ) (n : Names) (zs : Slab (Sleeping Reply)) (ss : List SleeperRecord) → AreAsleep closing i n zs ss → closing ≡ false → ((id : Id) → IsSleepDue zs now id → ⊥)
@@ -104,20 +97,11 @@ pub record Leads (q q' : Place) (ms : List Mail) : Type 0 where
   pub next : next_at q' ≡ Next.Free
   pub passes : passes_at q' ≡ None
 
-some_there : (m : Mail) (ms : List Mail) → 0 < length (m ∷ ms)
-some_there m ms = omega arith
-
 leads_to : (d : Bool) (x : AfterService) (ms : List Mail) → Leads (Place.Service InService.EndService (record { defer = d; back = x })) (place_after x (is_empty ms)) ms
-leads_to d AfterService.Mail [] = record { to = refl; serves = refl; armed = refl; closes = refl; wakes = refl; moment = λ m. refl; searches = refl; published = refl; bare = refl; batch = λ h. refl; owes = λ n. refl; polls = refl; next = refl; passes = refl }
-leads_to d AfterService.Mail (m ∷ ms) = record { to = refl; serves = refl; armed = refl; closes = refl; wakes = refl; moment = λ m. refl; searches = refl; published = refl; bare = refl; batch = λ h. some_there m ms; owes = λ n. refl; polls = refl; next = refl; passes = refl }
-leads_to d AfterService.Begin ms = record { to = refl; serves = refl; armed = refl; closes = refl; wakes = refl; moment = λ m. refl; searches = refl; published = refl; bare = refl; batch = λ h. h; owes = λ n. refl; polls = refl; next = refl; passes = refl }
-leads_to d AfterService.Finish ms = record { to = refl; serves = refl; armed = refl; closes = refl; wakes = refl; moment = λ m. refl; searches = refl; published = refl; bare = refl; batch = λ h. h; owes = λ n. refl; polls = refl; next = refl; passes = refl }
+leads_to = grind arith
 
 leads_on : (x : AfterService) (d : Desk) (ms : List Mail) → d.batch ≡ map message_of ms → after_service x d ≡ place_after x (is_empty ms)
-leads_on AfterService.Mail d [] is = rw is refl
-leads_on AfterService.Mail d (m ∷ ms) is = rw is refl
-leads_on AfterService.Begin d ms is = refl
-leads_on AfterService.Finish d ms is = refl
+leads_on = grind arith
 
 -- the worker where the service leads, with these sleepers and notes
 abbrev pub gone_on : AfterService → Worker → Slab (Sleeping Reply) → Notes Reply → Worker
@@ -138,33 +122,10 @@ module _ {B L : Type 0} (left : B → L) (spot : L → Option Said → Spot) whe
       let same : w' ≡ record w { place = p } = is ∙ ap (λ x. record w { place = x }) goes in
       let there : w'.place ≡ p = ap (λ x. x.place) same in
       let to = leads_to v.defer v.back w.batch.values in
-      let serves : Serves q w w' s s = record {
-        worker = subst (IsServed w) (sym same) refl;
-        shared = refl;
-        from = refl;
-        to = ap is_calm there ∙ to.to;
-        armed = ap is_armed_at there ∙ to.armed;
-        closes = ap closes_at there ∙ to.closes;
-        searches = ap searches_at there ∙ to.searches;
-        published = ap is_published_at there ∙ to.published;
-        batch = λ h. subst (λ y. HasBatch y w.batch.values) (sym there) (to.batch h);
-      } in
+      let serves : Serves q w w' s s = grind arith in
       let k = kept q w s sound (calm q refl) in
       let undue = sound.due.told refl in
-      let by : KeepsBy (record w { place = p }) (driver_of w) w.home.timers s.requests.items s.sleepers.items s = record {
-        told = k.told;
-        wide = k.wide;
-        named = k.named;
-        sized = k.sized;
-        over = k.over;
-        quiet = λ h. absurd (false≢true (sym h ∙ to.wakes));
-        due = record { punctual = sound.due.punctual; told = λ h. undue; wheel = subst (λ m. IsWheelAt s.config w.moments.start m (driver_of w).wheel) (sym (to.moment w.moments)) sound.due.wheel; timed = sound.due.timed; asleep = sound.due.asleep; order = sound.due.order };
-        flown = record { ending = k.flown.ending; staging = k.flown.staging; telling = k.flown.telling; entries = k.flown.entries; gated = k.flown.gated; plain = k.flown.plain; enrolling = k.flown.enrolling; polled = k.flown.polled; owning = k.flown.owning; landed = k.flown.landed; uncancelled = k.flown.uncancelled };
-        carried = k.carried;
-        known = k.known;
-        rooted = k.rooted;
-        bare = λ h. k.bare (ap is_bare_at sound.here ∙ sym to.bare ∙ h);
-      } in
+      let by : KeepsBy (record w { place = p }) (driver_of w) w.home.timers s.requests.items s.sleepers.items s = grind arith in
       let keeps : Keeps w' s = subst (λ x. Keeps x s) (sym same) by in
       let spares : SparesRecords w.index s s = spares_same w.index s s sound.gates refl refl refl in
       subst (λ x. Steps left spot w s x w' s) (sym event)

@@ -33,10 +33,7 @@ module _ (i : ℕ) (n : Names) (d : Driving Reply Reply) (zs zs' : Slab (Sleepin
 
   -- what stands there then is it, or stood there
   by_sleeper : {C : Type 0} (j : ℕ) (x : SleeperRecord) → slice_get (slice_set ss k z') j ≡ Some x → (j ≡ k → z' ≡ x → C) → ((k ≡ j → ⊥) → slice_get ss j ≡ Some x → C) → C
-  by_sleeper j x at this other =
-      by_number j k
-      (λ differs. other (λ e. differs (sym e)) (sym (set_elsewhere ss k j z' differs) ∙ at))
-      (λ e. this e (same_thing z' x (sym now_there ∙ ap (slice_get (slice_set ss k z')) (sym e) ∙ at)))
+  by_sleeper = grind (arith, by_number, set_elsewhere, same_thing, now_there)
 
   before : (other : Id) → IsSome (value_at zs' other) → IsSome (value_at zs other)
   before other live = subst IsSome (leaves.others other live).0 live
@@ -45,16 +42,7 @@ module _ (i : ℕ) (n : Names) (d : Driving Reply Reply) (zs zs' : Slab (Sleepin
   elsewhere other live = set_elsewhere ss k (number_in n.timers.items other) z' (λ e. (leaves.others other live).1 (sym e))
 
   pub named_over : IsNamed i n d zs rs ss → IsNamed i n d zs' rs (slice_set ss k z')
-  named_over named =
-      record {
-        requests = named.requests;
-        timers = λ other live. (let old = named.timers other (before other live) in (old.0, elsewhere other live ∙ old.1, old.2, old.3));
-        alike = named.alike;
-        over = named.over;
-        submitted = named.submitted;
-        slots = named.slots;
-        beds = subst (λ m. m ≤ length n.timers.items) (sym leaves.many) named.beds;
-      }
+  named_over = grind (arith, before, elsewhere)
 
   pub asleep_over : {closing : Bool} → AreAsleep closing i n zs ss → AreAsleep closing i n zs' (slice_set ss k z')
   asleep_over asleep =

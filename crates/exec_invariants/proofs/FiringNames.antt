@@ -31,43 +31,12 @@ naps_on i zs zs' ss ss' was past names =
 -- one that was set has its name still
 pub naps_set : (i : ℕ) (zs zs' : Slab (Sleeping Reply)) (ss : List SleeperRecord) (n : ℕ) (z z' : SleeperRecord) → slice_get ss n ≡ Some z → z'.id.0 ≡ z.id.0 → z'.shown.worker ≡ z.shown.worker → ((id : Id) → IsPast zs id → IsPast zs' id)
     → AreNapsNamed i zs ss → AreNapsNamed i zs' (slice_set ss n z')
-naps_set i zs zs' ss n z z' there name worker past names =
-    naps_on i zs zs' ss (slice_set ss n z')
-    (λ k r' at mine.
-    by_number k n
-    (λ apart. was_same i ss k r' (sym (set_elsewhere ss n k z' apart) ∙ at) mine)
-    (λ same.
-    let is : z' ≡ r' = same_thing z' r' (sym (set_there ss n z' z there) ∙ ap (slice_get (slice_set ss n z')) (sym same) ∙ at) in
-    record { r = z; there = ap (slice_get ss) same ∙ there; mine = sym worker ∙ ap (λ (y : SleeperRecord). y.shown.worker) is ∙ mine; name = sym name ∙ ap (λ (y : SleeperRecord). y.id.0) is }))
-    past names
+naps_set = grind (arith, naps_on, by_number, was_same, set_elsewhere, same_thing, set_there)
 
 -- one more comes under a name that none had
 module _ (i : ℕ) (zs zs' : Slab (Sleeping Reply)) (ss : List SleeperRecord) (z : SleeperRecord) (takes : TakesId zs zs' z.id.0) (unused : next_generation (slot_at zs z.id.0.index) ≤ z.id.0.generation) where
   pub naps_joined : AreNapsNamed i zs ss → AreNapsNamed i zs' (ss ++ z ∷ [])
-  naps_joined names =
-      let fresh : (k : ℕ) (r : SleeperRecord) → slice_get ss k ≡ Some r → r.shown.worker ≡ i → r.id.0 ≡ z.id.0 → ⊥ = λ k r there mine same.
-      let past : IsPast zs z.id.0 = subst (IsPast zs) same (names.past k r there mine) in
-      omega (arith, past, unused) in
-      record {
-        past = λ k r there mine.
-            elim (was_got ss z r k there) [
-              | inl old ↦ (takes.past r.id.0).1 (inl (names.past k r old mine))
-              | inr last ↦ (takes.past r.id.0).1 (inr (ap (λ (y : SleeperRecord). y.id.0) (sym last.1)))
-            ];
-        unique = λ j k x y at_j at_k mine mine' same.
-            elim (was_got ss z x j at_j) [
-              | inl old ↦
-                  elim (was_got ss z y k at_k) [
-                    | inl old' ↦ names.unique j k x y old old' mine mine' same
-                    | inr last ↦ absurd (fresh j x old mine (same ∙ ap (λ (v : SleeperRecord). v.id.0) (sym last.1)))
-                  ]
-              | inr last ↦
-                  elim (was_got ss z y k at_k) [
-                    | inl old ↦ absurd (fresh k y old mine' (sym same ∙ ap (λ (v : SleeperRecord). v.id.0) (sym last.1)))
-                    | inr last' ↦ last.0 ∙ sym last'.0
-                  ]
-            ];
-      }
+  naps_joined = grind (arith, was_got)
 
   -- and no slot was taken more often than there are sleepers
   pub counted_joined : ((id : Id) → IsPast zs id → id.generation < length ss) → (id : Id) → IsPast zs' id → id.generation < length (ss ++ z ∷ [])
@@ -101,6 +70,4 @@ removed_past zs id some small other =
 -- A sleeper whose name is there has the number of that.
 pub stands : (i : ℕ) (n : Names) (d : Driving Reply Reply) (zs : Slab (Sleeping Reply)) (rs : List Record) (ss : List SleeperRecord) → IsNamed i n d zs rs ss → AreNapsNamed i zs ss
     → (k : ℕ) (r : SleeperRecord) → slice_get ss k ≡ Some r → r.shown.worker ≡ i → IsSome (value_at zs r.id.0) → number_in n.timers.items r.id.0 ≡ k
-stands i n d zs rs ss named names k r there mine live =
-    let found = named.timers r.id.0 live in
-    names.unique (number_in n.timers.items r.id.0) k found.0 r found.1 there found.3 mine found.2
+stands = grind arith

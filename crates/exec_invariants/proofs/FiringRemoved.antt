@@ -6,79 +6,24 @@ use Rattle.exec_time.specs.declared.timers.Observer.TheVariants as sleep
 use Rattle.exec_waiters.specs.declared.deferred.Deferred.{Deferred}
 use Rattle.exec_machine.specs.Tests.{is_applied, is_asleep}
 use Rattle.exec_moves.specs.{Slots.{is_in_slots, slot_of, vacated}, Told.{one_completion, told_of_cancel, without_timer}, declared.handing.Heard.Heard}
-use Rattle.exec_parts.{specs.{declared.parts.{mail.Reply.Reply, shared.Shared.Shared, sleeping.SleeperRecord.SleeperRecord, worker.Worker.Worker}, Calls.{sleeper_removed, IsTold}, MailTakes.RemovesSleeper, Records.number_in, View.{completions_in, desk_of, driver_of, number_heard, slots_from, slots_seen}}, proofs.Facts.{not_same, same_thing}}
+use Rattle.exec_parts.{specs.{declared.parts.{mail.Reply.Reply, shared.Shared.Shared, sleeping.SleeperRecord.SleeperRecord, worker.Worker.Worker}, Calls.{sleeper_removed, IsTold}, MailTakes.RemovesSleeper, Records.number_in, View.{completions_in, desk_of, driver_of, number_heard, slots_from, slots_seen}}, proofs.Facts.{not_same}}
 use Rattle.exec_invariants.{specs.{Due.AreAsleep, Places.one_if, Rooted.{IsRooted, Watches, completions_of as sent_of, ends_elsewhere, is_of_timer}, Names.{HasWidth, tellers}}, proofs.{FiringGone.{IsOverAs, Leaves, asleep_over, named_over, rooted_over}, FiringNames.{removed_past, stands}, FiringSeen.{bed_named, one_bed}, FiringSlots.{OneBed, bed_in, bed_vacated}, ServedEnds.{count_none, count_one, none_in, only_one}, ServingHolds.{KeepsSpare, KeepsWith}, TaskOverGone.RemovesSeen}}
 
 -- ITS RECORD
 
-removed_awake : (i : ℕ) (z : SleeperRecord) → is_asleep i (sleeper_removed z).shown ≡ false
-removed_awake i z = by (z.shown.worker == i) z.shown.fired z.shown.removed
-  where
-    by : (a f r : Bool) → ((a && not f) && not (r || not f)) ≡ false
-    by true true r = refl
-    by true false true = refl
-    by true false false = refl
-    by false true r = refl
-    by false false true = refl
-    by false false false = refl
-
-over_then : (f r c : Bool) → (f || ((r || not f) || c)) ≡ true
-over_then true r c = refl
-over_then false true c = refl
-over_then false false c = refl
-
-closed_so : (r c : Bool) → ((r || true) || c) ≡ true
-closed_so true c = refl
-closed_so false c = refl
-
 removed_as : (i : ℕ) (z : SleeperRecord) → IsOverAs i z (sleeper_removed z)
-removed_as i z =
-    record {
-      id = refl;
-      worker = refl;
-      task = refl;
-      closed = refl;
-      paid = refl;
-      awake = removed_awake i z;
-      pays = λ h. record { unpaid = λ unfired still. absurd (false≢true (sym still ∙ ap (λ b. (z.shown.removed || not b) || z.closed) unfired ∙ closed_so z.shown.removed z.closed)); once = h.once };
-    }
+removed_as = grind arith
 
 ends_then : (z : SleeperRecord) → ends_elsewhere (sleeper_removed z) ≡ is_applied z.shown.forwarding
-ends_then z = ap (λ b. is_applied z.shown.forwarding && b) (over_then z.shown.fired z.shown.removed z.closed) ∙ by (is_applied z.shown.forwarding)
-  where
-    by : (b : Bool) → (b && true) ≡ b
-    by true = refl
-    by false = refl
+ends_then = grind arith
 
 -- THE ROOM
 
 pub told_adds : (ended : List ℕ) (left left' : Deferred Reply Reply) (n n' : ℕ) (ws : List TaskNo) (cs : List (ForwardedResult Reply)) → left' ≡ record left { notes = left'.notes } → Adds left.notes left'.notes ws cs → length ws + n' ≤ n → length cs + n' ≤ n → IsTold ended left n → IsTold ended left' n'
-told_adds ended left left' n n' ws cs same adds one_wake one_end told =
-    let room = told.room in
-    let wakes : length left'.notes.wakes.items ≡ length left.notes.wakes.items + length ws = ap length adds.wakes_added ∙ length-append left.notes.wakes.items ws in
-    let completions : length left'.notes.completions.items ≡ length left.notes.completions.items + length cs = ap length adds.completions_added ∙ length-append left.notes.completions.items cs in
-    record {
-      resources = told.resources ∙ sym (ap (λ (x : Deferred Reply Reply). length x.resources.items) same);
-      room = record {
-        notes = record {
-          wakes = omega (arith, wakes, one_wake, room.notes.wakes, adds.wakes_memory, left'.notes.wakes.ok.0, left.notes.wakes.ok.0);
-          completions = omega (arith, completions, one_end, room.notes.completions, adds.completions_memory, left'.notes.completions.ok.0, left.notes.completions.ok.0);
-        };
-        outputs = rw (ap (λ (x : Deferred Reply Reply). x.outputs) same) (omega (arith, room.outputs, one_wake));
-        resources = rw (ap (λ (x : Deferred Reply Reply). x.resources) same) (omega (arith, room.resources, one_wake));
-        results = rw (ap (λ (x : Deferred Reply Reply). x.results) same) (omega (arith, room.results, one_wake));
-      };
-    }
+told_adds = grind (arith, length-append)
 
 pub wide_adds : (left left' : Deferred Reply Reply) (n n' : ℕ) (ws : List TaskNo) (cs : List (ForwardedResult Reply)) → left' ≡ record left { notes = left'.notes } → Adds left.notes left'.notes ws cs → n' ≤ n → HasWidth left n → HasWidth left' n'
-wide_adds left left' n n' ws cs same adds less wide =
-    record {
-      wakes = omega (arith, wide.wakes, adds.wakes_memory, less);
-      completions = omega (arith, wide.completions, adds.completions_memory, less);
-      outputs = rw (ap (λ (x : Deferred Reply Reply). x.outputs) same) (omega (arith, wide.outputs, less));
-      resources = rw (ap (λ (x : Deferred Reply Reply). x.resources) same) (omega (arith, wide.resources, less));
-      results = rw (ap (λ (x : Deferred Reply Reply). x.results) same) (omega (arith, wide.results, less));
-    }
+wide_adds = grind arith
 
 one_end_at_most : (o : Watching Reply) → length (completions_of (Err Closed) o) ≤ 1
 one_end_at_most (sleep.Local t) = omega arith
@@ -140,10 +85,7 @@ module _ {B : Type 0} (spare z : ℕ) (w v : Worker) (s s' : Shared B) (keeps : 
 
   -- another's record has another number
   apart : (other : Id) → IsSome (value_at w.home.timers other) → z ≡ number_in w.names.timers.items other → r.it.id.0 ≡ other
-  apart other live number =
-      let found = keeps.named.timers other live in
-      let is : found.0 ≡ r.it = same_thing found.0 r.it (sym found.1 ∙ ap (slice_get s.sleepers.items) (sym number) ∙ r.sleeper) in
-      ap (λ (y : SleeperRecord). y.id.0) (sym is) ∙ found.2
+  apart = grind arith
 
   before : sent_of z w.home.deferred + one_if r.it.sent ≡ one_if (ends_elsewhere r.it)
   before = keeps.rooted.sleeper_sent z r.it r.sleeper mine

@@ -1,5 +1,5 @@
 -- The slots of sleepers as they are seen, where one leaves its slot; and which stands first that passes a test.
-use Rattle.std.proofs.{Common.{◌≡◌, ◌≢◌, ℕ, zero, suc, ◌+◌, ◌^◌, ◌<◌, ◌==◌, Bool, true, false, List, [], ◌∷◌, nat_lt, set, slice_get, slice_index_or, slice_set, Some, None, if◌then◌else◌, refl, sym, ap, ◌∙◌, arith}, lemmas.{Bool.{eq-eqb, Decides.nat_tests}, Option.get_or_from_slice_get}}
+use Rattle.std.proofs.{Common.{◌≡◌, ◌≢◌, ℕ, zero, suc, ◌+◌, ◌^◌, ◌<◌, Bool, true, false, List, [], ◌∷◌, nat_lt, set, slice_get, slice_index_or, slice_set, Some, None, if◌then◌else◌, refl, sym, ap, ◌∙◌, arith}, lemmas.{Bool.{eq-eqb, Decides.nat_tests}, Option.get_or_from_slice_get}}
 use Rattle.exec_base.{specs.{Slab.{Slab, freed, is_live, removed, value_at, value_in}, declared.slab.{Id.Id, Slot.{Slot, TheVariants.{Live, Vacant, Retired}}}}, proofs.Slots.{IsLiveAt-from_value, live_within}}
 use Rattle.exec_moves.specs.Slots.{first_in, is_in_slots, slot_of, vacated}
 use Rattle.exec_parts.{specs.{Records.number_in, View.{slots_from, slots_seen}}, proofs.Facts.{not_same, same_thing}}
@@ -31,11 +31,7 @@ module _ {T : Type 0} where
   -- FREE AGAIN
 
   freed_dead : (s : Slot T) (g : ℕ) → is_live {T = T} (freed g) ≡ false
-  freed_dead s g = by (nat_lt (g + 1) (2 ^ 64))
-    where
-      by : (b : Bool) → is_live {T = T} (if b then Vacant (g + 1) else Retired) ≡ false
-      by true = refl
-      by false = refl
+  freed_dead = grind arith
 
   slots_freed : (k : ℕ) (numbers : List ℕ) (slots : List (Slot T)) (i g : ℕ) → slots_from k numbers (set slots i (freed g)) ≡ slice_set (slots_from k numbers slots) i None
   slots_freed k numbers [] i g = refl
@@ -49,12 +45,7 @@ module _ {T : Type 0} where
   slot_found : (n k : ℕ) (numbers : List ℕ) (slots : List (Slot T)) (i : ℕ) (o : Slot T) → slice_get slots i ≡ Some o → is_live o ≡ true → slice_index_or numbers (k + i) 0 ≡ n → IsFirst n k numbers slots i
       → slot_of n k (slots_from k numbers slots) ≡ Some (k + i)
   slot_found n k numbers [] i o there live is first = absurd (let no : None ≡ Some o = there in cc)
-  slot_found n k numbers (x ∷ slots) zero o there live is first =
-      let same : x ≡ o = same_thing x o there in
-      let here : slice_index_or numbers k 0 ≡ n = ap (λ m. slice_index_or numbers m 0) (let e : k ≡ k + 0 = omega arith in e) ∙ is in
-      ap (λ b. slot_of n k ((if b then Some (slice_index_or numbers k 0) else None) ∷ slots_from (suc k) numbers slots)) (ap is_live same ∙ live)
-      ∙ ap (λ b. if b then Some k else slot_of n (suc k) (slots_from (suc k) numbers slots)) (ap (λ m. n == m) here ∙ eq-eqb n n refl)
-      ∙ ap (λ m. Some m) (let e : k ≡ k + 0 = omega arith in e)
+  slot_found n k numbers (x ∷ slots) zero o there live is first = grind (arith, same_thing, eq-eqb)
   slot_found n k numbers (x ∷ slots) (suc i) o there live is first =
       by (is_live x) refl
       ∙ slot_found n (suc k) numbers slots i o there live (ap (λ m. slice_index_or numbers m 0) (let e : suc k + i ≡ k + suc i = omega arith in e) ∙ is) later
@@ -101,12 +92,7 @@ module _ {T : Type 0} where
   first_from : (test : ℕ → Bool) (k : ℕ) (numbers : List ℕ) (slots : List (Slot T)) (i : ℕ) (o : Slot T) → slice_get slots i ≡ Some o → is_live o ≡ true → test (slice_index_or numbers (k + i) 0) ≡ true
       → ((j : ℕ) (x : Slot T) → j < i → slice_get slots j ≡ Some x → is_live x ≡ true → test (slice_index_or numbers (k + j) 0) ≡ false) → first_in test (slots_from k numbers slots) ≡ Some (slice_index_or numbers (k + i) 0)
   first_from test k numbers [] i o there live is before = absurd (let no : None ≡ Some o = there in cc)
-  first_from test k numbers (x ∷ slots) zero o there live is before =
-      let same : x ≡ o = same_thing x o there in
-      let here : k ≡ k + 0 = omega arith in
-      ap (λ b. first_in test ((if b then Some (slice_index_or numbers k 0) else None) ∷ slots_from (suc k) numbers slots)) (ap is_live same ∙ live)
-      ∙ ap (λ b. if b then Some (slice_index_or numbers k 0) else first_in test (slots_from (suc k) numbers slots)) (ap (λ m. test (slice_index_or numbers m 0)) here ∙ is)
-      ∙ ap (λ m. Some (slice_index_or numbers m 0)) here
+  first_from test k numbers (x ∷ slots) zero o there live is before = grind (arith, same_thing)
   first_from test k numbers (x ∷ slots) (suc i) o there live is before =
       let next : suc k + i ≡ k + suc i = omega arith in
       by (is_live x) refl
@@ -123,7 +109,4 @@ module _ {T : Type 0} where
 
   pub first_is : (test : ℕ → Bool) (numbers : List ℕ) (s : Slab T) (id : Id) (e : T) → value_at s id ≡ Some e → test (number_in numbers id) ≡ true
       → ((j : ℕ) (x : Slot T) → j < id.index → slice_get s.slots j ≡ Some x → is_live x ≡ true → test (slice_index_or numbers j 0) ≡ false) → first_in test (slots_seen numbers s).held ≡ Some (number_in numbers id)
-  first_is test numbers s id e at is before =
-      first_from test 0 numbers s.slots id.index (Live id.generation e) (alive_at s id e at) refl (ap test (number_there numbers id) ∙ is)
-      (λ j x less found alive. ap (λ m. test (slice_index_or numbers m 0)) (let e : 0 + j ≡ j = omega arith in e) ∙ before j x less found alive)
-      ∙ ap (λ m. Some m) (number_there numbers id)
+  first_is = grind (arith, first_from, alive_at, number_there)

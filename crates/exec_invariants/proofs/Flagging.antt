@@ -1,6 +1,5 @@
 -- What the taking of the root flag is to the machine.
 use Rattle.std.proofs.{Common.{◌≡◌, ◌≢◌, ℕ, ◌+◌, ◌==◌, inl, false, [], ◌∷◌, ◌++◌, Option, Some, None, refl, sym, ap, subst, ◌∙◌, arith, length, option_to_list, slice_get, ◌<◌, ◌≤◌}, lemmas.{Bool.{eq-eqb, false≢true}, Option.slice_get_within}}
-use Rattle.exec_base.specs.declared.task_no.TaskNo.{TaskNo}
 use Rattle.exec_task.specs.declared.{body.Said.Said, runnable.Runnable.Runnable}
 use Rattle.exec_machine.specs.{declared.event.Event.{Event, TheVariants.Turn}}
 use Rattle.exec_moves.specs.{declared.{handing.AfterCallbacks.AfterCallbacks, place.{InCallbacks.InCallbacks, InPoll.InPoll, Place.Place}}}
@@ -14,9 +13,7 @@ none_of t r other = rw other refl
 module _ {B : Type 0} where
   -- the flag has the root's runnable
   flagged : (w : Worker) (s : Shared B) (r : Runnable) → SoundAt Place.TakeRootFlag w s → w.root_ready ≡ Some r → r.task.0 ≡ w.root
-  flagged w s r sound flag =
-      let once = subst (λ o. IsRunnable (one_of o None) sound.runnable.root) flag sound.runnable.once in
-      ap (λ (x : Runnable). x.task.0) once.0 ∙ ap (λ (n : TaskNo). n.0) sound.runnable.number
+  flagged = grind arith
 
 module _ {B L : Type 0} (left : B → L) (spot : L → Option Said → Spot) (w w' : Worker) (s : Shared B) (e : Event) where
   pub root_flag_taken : SoundAt Place.TakeRootFlag w s → e ≡ Turn → w' ≡ with_flag w.root_ready w → Steps left spot w s e w' s

@@ -1,8 +1,7 @@
 -- What has landed, as a driver and the records of its requests change.
 use Rattle.std.{proofs.Common.{◌≡◌, ℕ, ◌≤◌, ◌==◌, Bool, true, false, List, [], ◌∷◌, map, Option, Some, refl, sym, ap, subst, ◌∙◌, arith, slice_get, slice_index_or}, specs.VecDeque.deque_capacity}
 use Rattle.exec_base.specs.declared.slab.Id.{Id}
-use Rattle.exec_outcomes.specs.{declared.outcome.OpResult.OpResult, Lawful.{is_lawful, window_of}}
-use Rattle.exec_request.specs.Requests.{asked_of, cursor_of}
+use Rattle.exec_outcomes.specs.{declared.outcome.OpResult.OpResult}
 use Rattle.exec_ring.specs.{Completions.result_in, declared.completion.Completion.Completion}
 use Rattle.exec_waiters.specs.{States.waiter_at, declared.waiter.Waiter.Waiter}
 use Rattle.exec_driver.specs.Driving.{Driving}
@@ -39,18 +38,7 @@ module _ (n n' : Names) (d d' : Driving Reply Reply) (rs rs' : List Record) wher
   pub has_landed_on : (c : Completion) → HasLanded n d rs c → AllFlyOn → HasLanded n' d' rs' c
   has_landed_on c h keeps =
       let on = keeps h.id h.it h.r (result_in c.result) h.live h.flies h.there h.landed in
-      record {
-        id = h.id;
-        it = on.it';
-        r = on.r';
-        index = h.index;
-        generation = h.generation;
-        live = on.live;
-        flies = on.flies ∙ h.flies;
-        lawful = ap (λ q. is_lawful (window_of (asked_of q) (cursor_of q)) (result_in c.result)) on.same ∙ h.lawful;
-        there = ap (slice_get rs') on.number ∙ on.there;
-        landed = on.phase ∙ h.landed;
-      }
+      grind arith
 
   pub landed_on : (cs : List Completion) → AreLanded n d rs cs → AllFlyOn → AreLanded n' d' rs' cs
   landed_on [] are keeps = tt
@@ -59,9 +47,7 @@ module _ (n n' : Names) (d d' : Driving Reply Reply) (rs rs' : List Record) wher
 
 -- the same requests, with other things of the driver
 pub landed_as : (n : Names) (d d' : Driving Reply Reply) (rs : List Record) (cs : List Completion) → d'.requests ≡ d.requests → AreLanded n d rs cs → AreLanded n d' rs cs
-landed_as n d d' rs cs same are =
-    landed_on n n d d' rs rs cs are
-    (λ id it r given at flies there landed. record { it' = it; r' = r; live = ap (λ s. waiter_at s id) same ∙ at; flies = refl; same = refl; number = refl; there = there; phase = refl })
+landed_as = grind (arith, landed_on)
 
 -- A mark of a record, as released, as one that has paid, or whose end was sent elsewhere.
 module _ (f : Record → Record) (marks : (r : Record) → f r ≡ record r { shown = record r.shown { wakes_paid = (f r).shown.wakes_paid; released = (f r).shown.released }; sent = (f r).sent }) where

@@ -8,9 +8,9 @@ use Rattle.exec_request.specs.Requests.{asked_of, cursor_of, target_of}
 use Rattle.exec_waiters.specs.{States.{gate_in, needs_permit, waiter_at}, declared.waiter.Waiter.Waiter}
 use Rattle.exec_driver.specs.{Driving.request_at, Opens.{OpenState, joined, open_named, with_named, with_open_in}, declared.opens.WaiterKey.WaiterKey}
 use Rattle.exec_task.specs.declared.body.Said.{Said}
-use Rattle.exec_machine.specs.{declared.{event.Event.{Event, TheVariants.Turn}, state.Request.Request}, Choice.Choice.Plain, Progress.Plan, Requests.open_joined_by, World.{no_open, open_of, request_of}}
+use Rattle.exec_machine.specs.{declared.{event.Event.{Event, TheVariants.Turn}}, Progress.Plan, Requests.open_joined_by, World.{no_open, open_of, request_of}}
 use Rattle.exec_moves.specs.{declared.place.{InPoll.InPoll, Place.Place}, State.gate_of}
-use Rattle.exec_parts.{specs.{declared.parts.{mail.Reply.Reply, record.Record.Record, seat.Seat.Seat as Chair, shared.Shared.Shared, task_slot.TaskSlot.TaskSlot, worker.Worker.Worker}, Admitting.{HasPlaceAt, joined_at}, Records.number_in, Spots.Spot, View.{Views, common_of, desk_of, driver_of, gate_seen, open_seen, things_with, visible, with_view}}, proofs.Facts.{and_parts, same_thing}}
+use Rattle.exec_parts.{specs.{declared.parts.{mail.Reply.Reply, record.Record.Record, seat.Seat.Seat as Chair, shared.Shared.Shared, task_slot.TaskSlot.TaskSlot, worker.Worker.Worker}, Admitting.{HasPlaceAt, joined_at}, Records.number_in, Spots.Spot, View.{Views, common_of, driver_of, gate_seen, open_seen, things_with, visible, with_view}}, proofs.Facts.{and_parts, same_thing}}
 use Rattle.exec_invariants.{specs.{Drained.{Duties, IsPool}, Gates.{AreLinedUp, HaveGates, IsKnown, has_hint_at, key_for, may_ask_hint}, Places.{Drops, drops_at, polled_in}, Sound.{HasGuest, IsTied, SoundAt, Stands, served_in}, Spares.Spares, Whole.{HasWhole, IsWhole, Profile, duties_of, with_worker}, Works.{Beside, Steps, Suits, Works}}, proofs.{Aside.{record_spared, sleeper_spared, spared}, GateLines.{MayJoin, gate_then, gates_joined, hints_joined, joined_in, lined_joined, open_then, place_made}, Gated.{durable_of_file, gate_there, stands_there, ungated_open}, Hearing.unheard, PoolKept.{chosen_other, chosen_own}, Recorded.request_seen, Slots.gates_free, Spared.{records_endure, sleepers_endure}, SparedRecord.there_within, Turning.view_found}}
 
 abbrev joins_here : ℕ → ℕ → Place
@@ -43,15 +43,7 @@ module _ {B : Type 0} where
       let o = there_within s.opens it.r.shown.operation.target within in
       let may : MayJoin k it.r o.0 s.opens s.requests.items = record { there = it.there; open_there = o.1; gated = it.gated; apart = λ n. it.apart o.0 n o.1 } in
       let line = sound.gates.lines it.r.shown.operation.target o.0 o.1 in
-      record {
-        r = it.r;
-        o = o.0;
-        may = may;
-        mine = it.mine;
-        first = line.first;
-        gate = ap gate_in stands.live ∙ gate_there stands.it.request durable ∙ ap (λ m. Some m) (sym target);
-        place = place_made k it.r o.0 s.opens s.requests.items may line;
-      }
+      grind (arith, gate_there, place_made)
 
   module _ (t k : ℕ) (w : Worker) (s : Shared B) (it : Joiner t k w s) where
     pub place_at : (r : Record) → slice_get s.requests.items k ≡ Some r → HasPlaceAt (driver_of w) r.id s.opens
@@ -197,19 +189,7 @@ module _ {B L : Type 0} (left : B → L) (spot : L → Option Said → Spot) (t 
       ap (λ g. slice_set (map (gate_seen rs) s.opens) file (g ++ k ∷ [])) gate ∙ ap (slice_set (map (gate_seen rs) s.opens) file) (sym (gate_then k it.r it.o s.opens rs it.may sound.gates)) ∙ sym (map-set (gate_seen rs) s.opens file (joined (key_for it.r) it.o)) in
       let opens : slice_set (map (open_seen rs) s.opens) file (open_joined_by k (open_of cs file)) ≡ map (open_seen rs) opens_then =
       ap (λ o. slice_set (map (open_seen rs) s.opens) file (open_joined_by k o)) one ∙ ap (slice_set (map (open_seen rs) s.opens) file) (sym (open_then k it.r it.o s.opens rs it.may sound.gates)) ∙ sym (map-set (open_seen rs) s.opens file (joined (key_for it.r) it.o)) in
-      record {
-        choice = Plain;
-        moves =
-            ap (λ (q : Request). record { event = Turn; choice = Plain; desk = desk_of after; thing = record x { gates = slice_set x.gates q.operation.target (gate_of x q.operation.target ++ k ∷ []) } }) request
-            ∙ ap (λ gs. record { event = Turn; choice = Plain; desk = desk_of after; thing = record x { gates = gs } }) gates
-            ∙ ap (λ y. record { event = Turn; choice = Plain; desk = desk_of after; thing = things_with y shared_then }) (sym again);
-        may = tt;
-        own = refl;
-        common =
-            ap (λ y. common_of left spot p y shared_then) again
-            ∙ ap (λ os. record cs { opens = os }) (sym opens)
-            ∙ ap (λ (q : Request). record cs { opens = slice_set cs.opens q.operation.target (open_joined_by k (open_of cs q.operation.target)) }) (sym request);
-      }
+      grind arith
 
   pub goes_steps : Steps left spot before s Turn after shared_then
   goes_steps = (goes_works, goes_sound, unheard refl refl refl, goes_beside)

@@ -1,10 +1,9 @@
 -- A durable request joins the line at its gate, behind all who stand there.
-use Rattle.std.{proofs.{Common.{◌≡◌, ◌≢◌, ◌⊎◌, inl, inr, ℕ, zero, suc, ◌+◌, ◌-◌, ◌<◌, ◌≤◌, ◌==◌, ◌&&◌, ◌||◌, ◌++◌, arith, Bool, true, false, not, List, [], ◌∷◌, cond, count_by, drop, length, map, Option, Some, None, IsSome, refl, sym, ap, subst, ◌∙◌, slice_get, slice_set, if◌then◌else◌}, lemmas.{Bool.{eq-eqb, false≢true}, List.{length-set, map-append, Folds.list_any-append, Recursion.is_count_by}}}, specs.List.list_any}
+use Rattle.std.{proofs.{Common.{◌≡◌, ◌≢◌, ◌⊎◌, inl, inr, ℕ, zero, suc, ◌+◌, ◌-◌, ◌<◌, ◌≤◌, ◌==◌, ◌&&◌, ◌||◌, ◌++◌, arith, Bool, true, false, not, List, [], ◌∷◌, cond, count_by, drop, length, map, Some, None, IsSome, refl, sym, ap, subst, ◌∙◌, slice_get, slice_set}, lemmas.{Bool.{eq-eqb, false≢true}, List.{length-set, map-append, Folds.list_any-append, Recursion.is_count_by}}}, specs.List.list_any}
 use Rattle.exec_outcomes.specs.Accounts.{Account, is_durable}
-use Rattle.exec_driver.specs.{Opens.{OpenState, account_by, joined}, declared.opens.WaiterKey.WaiterKey}
-use Rattle.exec_request.specs.Hints.{has_hint}
-use Rattle.exec_machine.specs.{declared.state.RequestPhase.RequestPhase, Requests.open_joined_by, Tests.{is_gated, is_resolved}, World.Open}
-use Rattle.exec_parts.{specs.{declared.parts.record.Record.Record, View.{account_seen, gate_seen, has_given_up, line_of, number_of_key, open_seen}}, proofs.Facts.{and_parts, both_true, by_not, by_number, never_true, or_right, same_number, same_thing, set_elsewhere, set_there}}
+use Rattle.exec_driver.specs.{Opens.{OpenState, joined}, declared.opens.WaiterKey.WaiterKey}
+use Rattle.exec_machine.specs.{Requests.open_joined_by, Tests.{is_gated}, World.Open}
+use Rattle.exec_parts.{specs.{declared.parts.record.Record.Record, View.{gate_seen, line_of, number_of_key, open_seen}}, proofs.Facts.{and_parts, both_true, by_not, by_number, never_true, or_right, same_thing, set_elsewhere, set_there}}
 use Rattle.exec_invariants.specs.{Gates.{AreLinedUp, HaveGates, IsLinedUp, at_gate, has_hint_at, is_coming, is_in_line, key_for, line_at, same_key}, Places.Drops}
 
 -- LISTS
@@ -13,11 +12,7 @@ snoc_get : {A : Type 0} (xs : List A) (x y : A) (n : ℕ) → slice_get (xs ++ x
 snoc_get [] x y zero at = inr (refl, same_thing x y at)
 snoc_get [] x y (suc n) at = absurd (let no : None ≡ Some y = at in cc)
 snoc_get (z ∷ zs) x y zero at = inl at
-snoc_get (z ∷ zs) x y (suc n) at =
-    elim (snoc_get zs x y n at) [
-      | inl before ↦ inl before
-      | inr last ↦ inr (ap suc last.0, last.1)
-    ]
+snoc_get (z ∷ zs) x y (suc n) at = grind (arith, snoc_get zs x y n at)
 
 any_found : {A : Type 0} (test : A → Bool) (xs : List A) → list_any test xs ≡ true → (n : ℕ) × (x : A) × (slice_get xs n ≡ Some x) × (test x ≡ true)
 any_found test [] h = absurd (false≢true h)
@@ -41,56 +36,27 @@ tallied p xs = is_count_by (tally p) p refl (λ x ys. refl) xs
 no_more : {A : Type 0} (p q : A → Bool) (xs : List A) → ((x : A) → q x ≡ true → p x ≡ true) → tally q xs ≤ tally p xs
 unfolding tally
 no_more p q [] less = omega arith
-no_more p q (x ∷ xs) less = by (no_more p q xs less) (p x) (q x) refl refl
-  where
-    by : tally q xs ≤ tally p xs → (a b : Bool) → p x ≡ a → q x ≡ b → cond b (1 + tally q xs) (tally q xs) ≤ cond a (1 + tally p xs) (tally p xs)
-    by rest true true is so = omega (arith, rest)
-    by rest true false is so = omega (arith, rest)
-    by rest false true is so = absurd (false≢true (sym is ∙ less x so))
-    by rest false false is so = omega (arith, rest)
+no_more p q (x ∷ xs) less = grind (arith, tally, false≢true, no_more p q xs less)
 
 -- and one fewer where one doesn't pass it
 one_fewer : {A : Type 0} (p q : A → Bool) (xs : List A) (k : ℕ) (x : A) → ((x : A) → q x ≡ true → p x ≡ true) → slice_get xs k ≡ Some x → p x ≡ true → q x ≡ false → tally q xs + 1 ≤ tally p xs
 unfolding tally
 one_fewer p q [] k x less there passes fails = absurd (let never : None ≡ Some x = there in cc)
-one_fewer p q (y ∷ ys) zero x less there passes fails =
-    let is : y ≡ x = same_thing y x there in
-    let rest : tally q ys ≤ tally p ys = no_more p q ys less in
-    rw (ap p is ∙ passes, ap q is ∙ fails) (omega (arith, rest))
-one_fewer p q (y ∷ ys) (suc k) x less there passes fails = by (one_fewer p q ys k x less there passes fails) (p y) (q y) refl refl
-  where
-    by : tally q ys + 1 ≤ tally p ys → (a b : Bool) → p y ≡ a → q y ≡ b → cond b (1 + tally q ys) (tally q ys) + 1 ≤ cond a (1 + tally p ys) (tally p ys)
-    by rest true true is so = omega (arith, rest)
-    by rest true false is so = omega (arith, rest)
-    by rest false true is so = absurd (false≢true (sym is ∙ less y so))
-    by rest false false is so = omega (arith, rest)
+one_fewer p q (y ∷ ys) zero x less there passes fails = grind (arith, same_thing, tally, no_more)
+one_fewer p q (y ∷ ys) (suc k) x less there passes fails = grind (arith, tally, false≢true, one_fewer p q ys k x less there passes fails)
 
 -- KEYS
 
-abbrev key_of : ℕ → ℕ → ℕ → WaiterKey
-key_of worker index generation = record { worker = worker; id = record { 0 = record { index = index; generation = generation } } }
-
 pub key_is : (a b : WaiterKey) → same_key a b ≡ true → a ≡ b
-key_is a b h =
-    let one = and_parts (a.worker == b.worker) ((a.id.0.index == b.id.0.index) && (a.id.0.generation == b.id.0.generation)) h in
-    let two = and_parts (a.id.0.index == b.id.0.index) (a.id.0.generation == b.id.0.generation) one.1 in
-    ap (λ n. key_of n a.id.0.index a.id.0.generation) (same_number a.worker b.worker one.0)
-    ∙ ap (λ n. key_of b.worker n a.id.0.generation) (same_number a.id.0.index b.id.0.index two.0)
-    ∙ ap (λ n. key_of b.worker b.id.0.index n) (same_number a.id.0.generation b.id.0.generation two.1)
+key_is = grind arith
 
 pub key_self : (a b : WaiterKey) → a ≡ b → same_key a b ≡ true
-key_self a b is =
-    subst (λ x. same_key a x ≡ true) is
-    (both_true (a.worker == a.worker) ((a.id.0.index == a.id.0.index) && (a.id.0.generation == a.id.0.generation)) (eq-eqb a.worker a.worker refl)
-    (both_true (a.id.0.index == a.id.0.index) (a.id.0.generation == a.id.0.generation) (eq-eqb a.id.0.index a.id.0.index refl) (eq-eqb a.id.0.generation a.id.0.generation refl)))
+key_self = grind arith
 
 -- the number of a key is that of the request that alone has it
 pub key_number : (rs : List Record) (n k : ℕ) (r : Record) (key : WaiterKey) → slice_get rs k ≡ Some r → key_for r ≡ key → ((l : ℕ) (x : Record) → slice_get rs l ≡ Some x → key_for x ≡ key → k ≡ l) → number_of_key n rs key ≡ n + k
 key_number [] n k r key there is alone = absurd (let never : None ≡ Some r = there in cc)
-key_number (y ∷ ys) n zero r key there is alone =
-    let same : y ≡ r = same_thing y r there in
-    let yes : same_key (key_for y) key ≡ true = key_self (key_for y) key (ap key_for same ∙ is) in
-    rw yes (omega arith)
+key_number (y ∷ ys) n zero r key there is alone = grind (arith, same_thing, key_self)
 key_number (y ∷ ys) n (suc k) r key there is alone =
     let no : same_key (key_for y) key ≡ false = never_true (same_key (key_for y) key) (λ h. let never : suc k ≡ zero = alone zero y refl (key_is (key_for y) key h) in absurd (omega (arith, never))) in
     let later : number_of_key (suc n) ys key ≡ suc n + k = key_number ys (suc n) k r key there is (λ l x at same. let more : suc k ≡ suc l = alone (suc l) x at same in omega (arith, more)) in
@@ -105,26 +71,7 @@ pub record HasJoined (key : WaiterKey) (o o' : OpenState) : Type 0 where
   pub some : o'.holder ≡ None → ⊥
 
 pub has_joined : (key : WaiterKey) (o : OpenState) → (o.holder ≡ None → o.waiting ≡ []) → HasJoined key o (joined key o)
-has_joined key o first = by o.holder o.waiting o.coming o.account first
-  where
-    by : (h : Option WaiterKey) (waiting : List WaiterKey) (coming : ℕ) (account : Option Account) → (h ≡ None → waiting ≡ [])
-        → (let x : OpenState = record { holder = h; waiting = waiting; coming = coming; account = account } in HasJoined key x (joined key x))
-    by None waiting coming account first =
-        record {
-          line = rw (first refl) refl;
-          coming = refl;
-          account = refl;
-          holds = λ x is. absurd (let never : None ≡ Some x = is in cc);
-          some = λ is. absurd (let never : Some key ≡ None = is in cc);
-        }
-    by (Some h) waiting coming account first =
-        record {
-          line = refl;
-          coming = refl;
-          account = refl;
-          holds = λ x is. is;
-          some = λ is. absurd (let never : Some h ≡ None = is in cc);
-        }
+has_joined = grind arith
 
 -- the opens then
 abbrev pub joined_in : List OpenState → Record → OpenState → List OpenState
@@ -141,10 +88,7 @@ pub record MayJoin (k : ℕ) (r : Record) (o : OpenState) (opens : List OpenStat
 -- an open is as before, or the one that was joined
 which_open : {P : Type 0} (opens : List OpenState) (r : Record) (o : OpenState) (file : ℕ) (x : OpenState) → slice_get opens r.shown.operation.target ≡ Some o → slice_get (joined_in opens r o) file ≡ Some x
     → (file ≢ r.shown.operation.target → slice_get opens file ≡ Some x → P) → (file ≡ r.shown.operation.target → joined (key_for r) o ≡ x → P) → P
-which_open opens r o file x open_there at other same =
-    by_number file r.shown.operation.target
-    (λ apart. other apart (sym (set_elsewhere opens r.shown.operation.target file (joined (key_for r) o) apart) ∙ at))
-    (λ is. same is (same_thing (joined (key_for r) o) x (sym (set_there opens r.shown.operation.target (joined (key_for r) o) o open_there) ∙ ap (slice_get (joined_in opens r o)) (sym is) ∙ at)))
+which_open = grind (arith, by_number, set_elsewhere, same_thing, set_there)
 
 module _ (k : ℕ) (r : Record) (o : OpenState) (opens : List OpenState) (rs : List Record) (may : MayJoin k r o opens rs) where
   not_in_line : is_in_line (key_for r) o ≡ false
@@ -242,14 +186,7 @@ module _ (k : ℕ) (r : Record) (o : OpenState) (opens : List OpenState) (rs : L
 
   -- no hint comes back
   pub hints_joined : (o.holder ≡ None → o.waiting ≡ []) → (file : ℕ) → has_hint_at opens file ≡ false → has_hint_at (joined_in opens r o) file ≡ false
-  hints_joined first file none =
-      let has = has_joined (key_for r) o first in
-      by_number file r.shown.operation.target
-      (λ other. ap (λ y. has_hint (account_by y)) (set_elsewhere opens r.shown.operation.target file (joined (key_for r) o) other) ∙ none)
-      (λ same.
-      let now : slice_get (joined_in opens r o) file ≡ Some (joined (key_for r) o) = subst (λ n. slice_get (joined_in opens r o) n ≡ Some (joined (key_for r) o)) (sym same) (set_there opens r.shown.operation.target (joined (key_for r) o) o may.open_there) in
-      let was : slice_get opens file ≡ Some o = ap (slice_get opens) same ∙ may.open_there in
-      ap (λ y. has_hint (account_by y)) now ∙ ap has_hint has.account ∙ ap (λ y. has_hint (account_by y)) (sym was) ∙ none)
+  hints_joined = grind (arith, has_joined, by_number, set_elsewhere, set_there)
 
   -- where the others are
   pub gates_joined : (drops : ℕ → Drops) → (o.holder ≡ None → o.waiting ≡ []) → ((j l : ℕ) → (drops j).joins ≡ Some l → j ≢ r.shown.worker) → HaveGates drops opens rs → HaveGates drops (joined_in opens r o) rs
@@ -298,23 +235,8 @@ module _ (k : ℕ) (r : Record) (o : OpenState) (opens : List OpenState) (rs : L
       let number : number_of_key 0 rs (key_for r) ≡ k = key_number rs 0 k r (key_for r) may.there refl (λ l x at is. lined.unique k l r x may.there at (sym is)) ∙ omega arith in
       ap (map (number_of_key 0 rs)) has.line ∙ map-append (number_of_key 0 rs) (line_at o) (key_for r ∷ []) ∙ ap (λ n. gate_seen rs o ++ n ∷ []) number
 
-  given_not : has_given_up (slice_get rs k) ≡ false
-  given_not = ap has_given_up may.there ∙ by r.shown.phase may.gated
-    where
-      open_still : (p : RequestPhase) → is_gated p ≡ true → is_resolved p ≡ false
-      open_still RequestPhase.Gated h = refl
-      open_still _ h = absurd (false≢true h)
-
-      by : (p : RequestPhase) → is_gated p ≡ true → (is_resolved p && is_durable r.shown.operation.kind) ≡ false
-      by p h = ap (λ b. b && is_durable r.shown.operation.kind) (open_still p h)
-
   line_then : (ns : List ℕ) → line_of rs (ns ++ k ∷ []) ≡ line_of rs ns ++ k ∷ []
-  line_then [] = rw given_not refl
-  line_then (n ∷ later) = by (has_given_up (slice_get rs n))
-    where
-      by : (b : Bool) → (if b then (later ++ k ∷ []) else (n ∷ (later ++ k ∷ []))) ≡ (if b then later else (n ∷ later)) ++ k ∷ []
-      by true = refl
-      by false = refl
+  line_then = grind arith
 
   abbrev shows : Account → List ℕ → Open
   shows account line = record { account = account; holder = slice_get line 0; waiting = drop 1 line }
@@ -324,9 +246,4 @@ module _ (k : ℕ) (r : Record) (o : OpenState) (opens : List OpenState) (rs : L
   behind_all account (n ∷ later) = refl
 
   pub open_then : AreLinedUp opens rs → open_seen rs (joined (key_for r) o) ≡ open_joined_by k (open_seen rs o)
-  open_then lined =
-      let has = has_joined (key_for r) o (lined.lines r.shown.operation.target o may.open_there).first in
-      ap (λ a. shows (account_seen a) (line_of rs (gate_seen rs (joined (key_for r) o)))) has.account
-      ∙ ap (λ ns. shows (account_seen o.account) (line_of rs ns)) (gate_then lined)
-      ∙ ap (shows (account_seen o.account)) (line_then (gate_seen rs o))
-      ∙ behind_all (account_seen o.account) (line_of rs (gate_seen rs o))
+  open_then = grind (arith, has_joined, gate_then, line_then, behind_all)

@@ -1,41 +1,21 @@
 -- At which gate a request of a worker waits first: its driver says it as the machine does.
-use Rattle.std.{proofs.{Common.{◌≡◌, ◌⊎◌, ℕ, zero, suc, ◌+◌, ◌<◌, ◌≤◌, ◌==◌, ◌&&◌, ◌||◌, Bool, true, false, not, List, [], ◌∷◌, length, map, min, nat_le, nat_lt, Option, Some, None, if◌then◌else◌, refl, sym, ap, subst, ◌∙◌, arith, inl, inr, slice_get}, lemmas.Bool.{false≢true, Decides.nat_tests, eq-eqb}}, specs.List.list_any}
+use Rattle.std.{proofs.{Common.{◌≡◌, ◌⊎◌, ℕ, zero, suc, ◌+◌, ◌<◌, ◌≤◌, ◌&&◌, ◌||◌, Bool, true, false, not, List, [], ◌∷◌, length, map, nat_le, Option, Some, None, refl, sym, ap, subst, ◌∙◌, arith, inl, inr, slice_get}, lemmas.Bool.{false≢true, Decides.nat_tests, eq-eqb}}, specs.List.list_any}
 use Rattle.exec_base.specs.{Slab.{Slab, value_at}, declared.slab.Id.Id}
 use Rattle.exec_outcomes.specs.{Accounts.is_durable, declared.outcome.Kind.Kind}
 use Rattle.exec_time.specs.declared.timers.Sleeper.{Sleeper as Sleeping}
-use Rattle.exec_request.specs.{Requests.{asked_of, gate_of, gate_of_write, target_of}, States.asks_cancel, Syncing.write_kind, Ways.asked_by, declared.{request.Request.Request as Asking, way.Way.Way, write_at.WriteAtState.WriteAtState}}
+use Rattle.exec_request.specs.{Requests.{asked_of, gate_of, target_of}, States.asks_cancel, declared.{request.Request.Request as Asking}}
 use Rattle.exec_waiters.{specs.{States.{gate_in, needs_permit, waiter_at}, declared.{waiter.{Entry.Entry, Waiter.Waiter}, waiter_id.WaiterId.WaiterId}}, proofs.Changes.entry_of}
-use Rattle.exec_driver.{specs.{Driving.{Driving, request_at, is_gated as waits_gated}, Lists.{is_among, is_same}, Opens.OpenState, declared.opens.WaiterKey.WaiterKey, Placed.ListsRequests, Steps.{lower, lower_of, lowest_gate}}, proofs.{Names.same_tells, Turns.gate_from}}
+use Rattle.exec_driver.{specs.{Driving.{Driving, request_at, is_gated as waits_gated}, Lists.{is_among}, Opens.OpenState, declared.opens.WaiterKey.WaiterKey, Placed.ListsRequests, Steps.{lower, lowest_gate}}, proofs.{Names.same_tells, Turns.gate_from}}
 use Rattle.exec_ring.specs.declared.store.Store.{Store}
 use Rattle.exec_machine.specs.{declared.state.{Request.Request, RequestPhase.RequestPhase}, Tests.{is_gated, is_of_file, is_resolved}, World.Common}
 use Rattle.exec_moves.specs.{declared.place.InService.InService, Serve.first_numbered, Submit.{next_gate, waits_at}}
-use Rattle.exec_parts.{specs.{declared.parts.{mail.Reply.Reply, names.Names.Names, record.Record.Record, sleeping.SleeperRecord.SleeperRecord}, Records.number_in}, proofs.Facts.{and_none, and_parts, both_true, never_true, or_right, same_number, same_thing}}
+use Rattle.exec_parts.{specs.{declared.parts.{mail.Reply.Reply, names.Names.Names, record.Record.Record, sleeping.SleeperRecord.SleeperRecord}, Records.number_in}, proofs.Facts.{and_none, and_parts, both_true, never_true, or_right, same_thing}}
 use Rattle.exec_invariants.{specs.{Carried.IsCarried, Flown.HasFlown, Gates.AreLinedUp, Names.{IsAlike, IsNamed}}, proofs.{Idling.{first_none, none_any, shown_at}, Lined.mapped, SparedRecord.there_within}}
 
 -- ITS GATE
 
 pub gate_there : (q : Asking) → is_durable (asked_of q).kind ≡ true → gate_of q ≡ Some (target_of q)
-gate_there (Asking.Send s) h = absurd (false≢true h)
-gate_there (Asking.Recv r) h = by r.exact h
-  where
-    by : (b : Bool) → is_durable (if b then Kind.Fill else Kind.Recv) ≡ true → gate_of (Asking.Recv r) ≡ Some r.fd
-    by true h = absurd (false≢true h)
-    by false h = absurd (false≢true h)
-gate_there (Asking.ReadAt r) h = by r.way h
-  where
-    by : (x : Way) → is_durable (asked_by x (length r.buf.bytes)).kind ≡ true → gate_of (Asking.ReadAt r) ≡ Some r.file
-    by Way.Buffered h = absurd (false≢true h)
-    by Way.Hinted h = absurd (false≢true h)
-    by (Way.Direct skip len) h = absurd (false≢true h)
-    by (Way.Switched skip len) h = absurd (false≢true h)
-gate_there (Asking.WriteAt w) h = by w.state h
-  where
-    by : (x : WriteAtState) → is_durable (write_kind x) ≡ true → gate_of_write x w.file ≡ Some w.file
-    by WriteAtState.Writing h = absurd (false≢true h)
-    by _ h = refl
-gate_there (Asking.Sync s) h = refl
-gate_there (Asking.Connect c) h = absurd (false≢true h)
-gate_there (Asking.Poll p) h = absurd (false≢true h)
+gate_there = grind arith
 
 -- THE LEAST
 
@@ -46,11 +26,7 @@ pub record StandsIn (s : Slab (Entry Reply Reply)) (ids : List WaiterId) (file :
   pub gate : gate_in (waiter_at s id.0) ≡ Some file
 
 later : (s : Slab (Entry Reply Reply)) (x : WaiterId) (ids : List WaiterId) (file : ℕ) → StandsIn s ids file → StandsIn s (x ∷ ids) file
-later s x ids file it = record { id = it.id; among = or_after (is_same x it.id) it.among; gate = it.gate }
-  where
-    or_after : (a : Bool) {b : Bool} → b ≡ true → (a || b) ≡ true
-    or_after true h = refl
-    or_after false h = h
+later = grind arith
 
 pub first_in : (id : WaiterId) (ids : List WaiterId) → is_among id (id ∷ ids) ≡ true
 first_in id ids = rw (eq-eqb id.0.index id.0.index refl, eq-eqb id.0.generation id.0.generation refl) refl
@@ -58,34 +34,7 @@ first_in id ids = rw (eq-eqb id.0.index id.0.index refl, eq-eqb id.0.generation 
 -- whichever is the least stands there, or was known before
 pub least_stands : (from : ℕ) (s : Slab (Entry Reply Reply)) (ids : List WaiterId) (least : Option ℕ) (file : ℕ) → lowest_gate from s ids least ≡ Some file → (least ≡ Some file) ⊎ StandsIn s ids file
 least_stands from s [] least file is = inl is
-least_stands from s (id ∷ ids) least file is =
-    by (least_stands from s ids (lower from least (gate_in (waiter_at s id.0))) file is) (gate_in (waiter_at s id.0)) refl
-  where
-    here : (g : ℕ) → gate_in (waiter_at s id.0) ≡ Some g → g ≡ file → StandsIn s (id ∷ ids) file
-    here g at same = record { id = id; among = first_in id ids; gate = at ∙ ap (λ n. Some n) same }
-
-    lowered : (g : ℕ) (o : Option ℕ) → gate_in (waiter_at s id.0) ≡ Some g → lower_of from g o ≡ Some file → (o ≡ Some file) ⊎ StandsIn s (id ∷ ids) file
-    lowered g None at h = inr (here g at (let same : g ≡ file = cc in same))
-    lowered g (Some m) at h = which (nat_le m g) refl
-      where
-        both : min m g ≡ file
-        both = let same : min m g ≡ file = cc in same
-
-        which : (b : Bool) → nat_le m g ≡ b → (Some m ≡ Some file) ⊎ StandsIn s (id ∷ ids) file
-        which true is = let le : m ≤ g = grind (arith, nat_tests) in let same : m ≡ file = omega (arith, le, both) in inl (ap (λ n. Some n) same)
-        which false is = let gt : g < m = grind (arith, nat_tests) in let same : g ≡ file = omega (arith, gt, both) in inr (here g at same)
-
-    stepped : (o : Option ℕ) → gate_in (waiter_at s id.0) ≡ o → lower from least o ≡ Some file → (least ≡ Some file) ⊎ StandsIn s (id ∷ ids) file
-    stepped None at h = inl h
-    stepped (Some g) at h = tested (nat_lt g from) refl h
-      where
-        tested : (b : Bool) → nat_lt g from ≡ b → (if b then least else lower_of from g least) ≡ Some file → (least ≡ Some file) ⊎ StandsIn s (id ∷ ids) file
-        tested true is h = inl h
-        tested false is h = lowered g least at h
-
-    by : (lower from least (gate_in (waiter_at s id.0)) ≡ Some file) ⊎ StandsIn s ids file → (o : Option ℕ) → gate_in (waiter_at s id.0) ≡ o → (least ≡ Some file) ⊎ StandsIn s (id ∷ ids) file
-    by (inl h) o at = stepped o at (ap (lower from least) (sym at) ∙ h)
-    by (inr h) o at = inr (later s id ids file h)
+least_stands from s (id ∷ ids) least file is = grind (arith, first_in, nat_tests, later, least_stands from s ids (lower from least (gate_in (waiter_at s id.0))) file is)
 
 -- no gate from this number on is below it
 abbrev pub IsBelow : Option ℕ → ℕ → Type 0
@@ -93,12 +42,7 @@ IsBelow None g = ⊥
 IsBelow (Some file) g = file ≤ g
 
 below_lowered : (from g m : ℕ) (o : Option ℕ) → IsBelow o m → IsBelow (lower from o (Some g)) m
-below_lowered from g m None h = absurd h
-below_lowered from g m (Some n) h = tested (nat_lt g from) refl
-  where
-    tested : (b : Bool) → nat_lt g from ≡ b → IsBelow (if b then Some n else Some (min n g)) m
-    tested true is = h
-    tested false is = omega (arith, h)
+below_lowered = grind arith
 
 below_step : (from m : ℕ) (least o : Option ℕ) → IsBelow least m → IsBelow (lower from least o) m
 below_step from m least None h = h
@@ -109,32 +53,18 @@ below_rest from m s [] least h = h
 below_rest from m s (id ∷ ids) least h = below_rest from m s ids (lower from least (gate_in (waiter_at s id.0))) (below_step from m least (gate_in (waiter_at s id.0)) h)
 
 below_here : (from g : ℕ) (o : Option ℕ) → from ≤ g → IsBelow (lower from o (Some g)) g
-below_here from g o from_le = tested (nat_lt g from) refl
-  where
-    lowered : (o : Option ℕ) → IsBelow (lower_of from g o) g
-    lowered None = omega arith
-    lowered (Some n) = omega arith
-
-    tested : (b : Bool) → nat_lt g from ≡ b → IsBelow (if b then o else lower_of from g o) g
-    tested true is = absurd (let less : g < from = grind (arith, nat_tests) in omega (arith, less, from_le))
-    tested false is = lowered o
+below_here = grind arith
 
 pub least_below : (from : ℕ) (s : Slab (Entry Reply Reply)) (ids : List WaiterId) (least : Option ℕ) (id : WaiterId) (g : ℕ) → is_among id ids ≡ true → gate_in (waiter_at s id.0) ≡ Some g → from ≤ g → IsBelow (lowest_gate from s ids least) g
 least_below from s [] least id g among at from_le = absurd (false≢true among)
 least_below from s (x ∷ ids) least id g among at from_le =
     elim (same_tells x id) [
-      | inl is ↦
-          let there : gate_in (waiter_at s x.0) ≡ Some g = ap (λ (y : WaiterId). gate_in (waiter_at s y.0)) is.1 ∙ at in
-          below_rest from g s ids (lower from least (gate_in (waiter_at s x.0)))
-          (subst (λ o. IsBelow (lower from least o) g) (sym there) (below_here from g least from_le))
+      | inl is ↦ grind (arith, below_rest, below_here)
       | inr other ↦ least_below from s ids (lower from least (gate_in (waiter_at s x.0))) id g (sym (ap (λ b. b || is_among id ids) other.0) ∙ among) at from_le
     ]
 
 pub durable_of_file : (k : Kind) → is_durable k ≡ true → is_of_file k ≡ true
-durable_of_file Kind.Dsync h = refl
-durable_of_file Kind.Many h = refl
-durable_of_file Kind.Sync h = refl
-durable_of_file _ h = absurd (false≢true h)
+durable_of_file = grind arith
 
 abbrev key_with : ℕ → WaiterId → WaiterKey
 key_with worker id = record { worker = worker; id = id }
@@ -147,11 +77,7 @@ same_keys a b x y same is = ap (λ n. key_with n x) same ∙ ap (key_with b) is
 first_some : {X : Type 0} (test : ℕ → X → Bool) (n : ℕ) (xs : List X) (k : ℕ) (x : X) → slice_get xs k ≡ Some x → ((m : ℕ) → m ≡ n + k → test m x ≡ true)
     → ((j m : ℕ) (y : X) → j < k → slice_get xs j ≡ Some y → m ≡ n + j → test m y ≡ false) → (f : ℕ) → f ≡ n + k → first_numbered test n xs ≡ Some f
 first_some test n [] k x there is before f so = absurd (let no : None ≡ Some x = there in cc)
-first_some test n (y ∷ xs) zero x there is before f so =
-    let same : y ≡ x = same_thing y x there in
-    let yes : test n y ≡ true = ap (test n) same ∙ is n (omega arith) in
-    let here : f ≡ n = omega (arith, so) in
-    rw (yes, here) refl
+first_some test n (y ∷ xs) zero x there is before f so = grind (arith, same_thing)
 first_some test n (y ∷ xs) (suc k) x there is before f so =
     rw (before zero n y (omega arith) refl (omega arith))
     (first_some test (suc n) xs k x there (λ m at. is m (omega (arith, at)))
@@ -163,13 +89,7 @@ some_any test (y ∷ xs) zero x there is = rw (same_thing y x there, is) refl
 some_any test (y ∷ xs) (suc k) x there is = or_right (test y) (list_any test xs) (some_any test xs k x there is)
 
 waiting_by : (i file : ℕ) (r : Request) → waits_at i file r ≡ true → (r.worker ≡ i) × (is_gated r.phase ≡ true) × (r.operation.target ≡ file)
-waiting_by i file r h =
-    let a = and_parts ((r.worker == i) && is_gated r.phase) (r.operation.target == file) h in
-    let b = and_parts (r.worker == i) (is_gated r.phase) a.0 in (
-      same_number r.worker i b.0,
-      b.1,
-      same_number r.operation.target file a.1,
-    )
+waiting_by = grind arith
 
 waiting_is : (i file : ℕ) (r : Request) → r.worker ≡ i → is_gated r.phase ≡ true → r.operation.target ≡ file → waits_at i file r ≡ true
 waiting_is i file r mine gated target = rw (mine, gated, target, eq-eqb i i refl, eq-eqb file file refl) refl

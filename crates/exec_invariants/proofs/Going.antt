@@ -1,12 +1,13 @@
 -- Requests that go on: none ends, nor begins, nor is let go of. What that leaves as it was.
-use Rattle.std.proofs.{Common.{◌≡◌, ℕ, ◌+◌, ◌≤◌, ◌&&◌, ◌||◌, Bool, true, false, not, List, map, Some, None, IsSome, refl, sym, ap, subst, ◌∙◌, slice_get}, Math.Seq.map-set_same, lemmas.{Bool.false≢true, Option.get_or_from_slice_get}}
+use Rattle.std.proofs.{Common.{◌≡◌, ℕ, ◌+◌, ◌≤◌, true, false, List, map, Some, IsSome, refl, sym, ap, subst, ◌∙◌, slice_get}, Math.Seq.map-set_same, lemmas.{Option.get_or_from_slice_get}}
+use Rattle.std.proofs.Common.{arith}
 use Rattle.exec_base.specs.{Slab.{Slab, value_at}, declared.slab.Id.Id}
 use Rattle.exec_time.specs.declared.timers.Sleeper.{Sleeper as Sleeping}
 use Rattle.exec_request.specs.declared.output.RequestOutput.{RequestOutput}
 use Rattle.exec_waiters.specs.{States.waiter_at, declared.{deferred.Deferred.Deferred, waiter.{Entry.TheVariants.Ready, Waiter.Waiter}}}
 use Rattle.exec_driver.specs.Driving.{Driving}
-use Rattle.exec_machine.specs.{declared.state.RequestPhase.{RequestPhase, TheVariants.Resolved}, Tests.{is_applied, is_resolved}}
-use Rattle.exec_parts.specs.{declared.parts.{mail.Reply.Reply, names.Names.Names, record.Record.Record, sleeping.SleeperRecord.SleeperRecord}, Records.{number_in, outcome_in}, Serving.{changed_at, changed_in}}
+use Rattle.exec_machine.specs.{Tests.{is_applied, is_resolved}}
+use Rattle.exec_parts.specs.{declared.parts.{mail.Reply.Reply, names.Names.Names, record.Record.Record, sleeping.SleeperRecord.SleeperRecord}, Records.{number_in}, Serving.{changed_at, changed_in}}
 use Rattle.exec_invariants.specs.{Holding.{IsAnswerOf, thing_of}, Places.one_if, Rooted.{IsReplyFor, IsRooted, Watches, goes_elsewhere, results_of}, Sound.AreOver}
 
 -- of a request how far its operation came, its deadline and its cancel may change
@@ -52,17 +53,9 @@ same_waiter r r' on = ap (λ x. x.shown.waiter) on.same
 pub same_paid : (r r' : Record) → GoesOn r r' → r'.shown.wakes_paid ≡ r.shown.wakes_paid
 same_paid r r' on = ap (λ x. x.shown.wakes_paid) on.same
 
-outcome_open : (p : RequestPhase) → is_resolved p ≡ false → outcome_in p ≡ None
-outcome_open (Resolved outcome) h = absurd (false≢true (sym h))
-outcome_open _ h = refl
-
 -- it ends no more than before
 pub thing_on : (r r' : Record) → GoesOn r r' → thing_of r' ≡ thing_of r
-thing_on r r' on = ap (λ x. record (thing_of x) { ended = outcome_in r'.shown.phase }) on.same ∙ ap (λ o. record (thing_of r) { ended = o }) (by (is_resolved r.shown.phase) refl)
-  where
-    by : (b : Bool) → is_resolved r.shown.phase ≡ b → outcome_in r'.shown.phase ≡ outcome_in r.shown.phase
-    by true is = ap outcome_in (on.ended is)
-    by false is = outcome_open r'.shown.phase (on.over ∙ is) ∙ sym (outcome_open r.shown.phase is)
+thing_on = grind arith
 
 module _ (rs rs' : List Record) (all : AllGoOn rs rs') where
   pub owning_on : ((k : ℕ) (r : Record) → slice_get rs k ≡ Some r → is_resolved r.shown.phase ≡ false → r.shown.released ≡ false)
@@ -86,10 +79,7 @@ module _ (rs rs' : List Record) (all : AllGoOn rs rs') where
   -- WHAT IS TOLD ELSEWHERE
 
   pub elsewhere_same : (r r' : Record) → GoesOn r r' → goes_elsewhere r' ≡ goes_elsewhere r
-  elsewhere_same r r' on =
-      ap (λ f. is_applied f && (is_resolved r'.shown.phase || not r'.shown.observed)) (ap (λ x. x.shown.forwarding) on.same)
-      ∙ ap (λ b. is_applied r.shown.forwarding && (b || not r'.shown.observed)) on.over
-      ∙ ap (λ b. is_applied r.shown.forwarding && (is_resolved r.shown.phase || not b)) (same_observed r r' on)
+  elsewhere_same = grind arith
 
   reply_on : (i : ℕ) (reply : Reply) (k : ℕ) (r r' : Record) → GoesOn r r' → IsReplyFor k reply r → IsReplyFor k reply r'
   reply_on i reply k r r' on h = record { of = h.of; task = same_waiter r r' on ∙ h.task }

@@ -1,26 +1,19 @@
 -- Where a place leads that hands something on: a search count, a kick, a signal. It is of the kind of what comes after.
-use Rattle.std.proofs.{Common.{◌≡◌, ℕ, ◌<◌, ◌≤◌, ◌==◌, ◌&&◌, ◌||◌, Bool, true, false, IsSome, List, [], None, Option, Some, refl, sym, ap, ◌∙◌, slice_get, nat_lt, arith}, lemmas.Bool.Decides.nat_tests}
+use Rattle.std.proofs.{Common.{◌≡◌, ℕ, ◌<◌, ◌≤◌, ◌==◌, Bool, true, false, IsSome, List, [], None, Option, Some, refl, sym, ap, ◌∙◌, slice_get, nat_lt, arith}, lemmas.Bool.Decides.nat_tests}
 use Rattle.exec_words.specs.{Idle.{Idle, lowest_of}, Queue.Queue}
 use Rattle.exec_task.specs.declared.{body.Said.Said, runnable.Runnable.Runnable}
 use Rattle.exec_machine.specs.{declared.config.Configuration.Configuration, Progress.Plan, Ranges.ring_size}
 use Rattle.exec_moves.specs.{declared.{handing.{AfterCallbacks.AfterCallbacks, AfterKick.AfterKick, AfterLeave.AfterLeave, AfterPush.AfterPush, InKick.InKick}, place.{AfterService.AfterService, InCallbacks.InCallbacks, InPick.InPick, InPoll.InPoll, Place.Place}}, Callback.{next_callback, serve}, Global.has_any, Load.{leaves_for_turn, next_turn}, Parts.{after_kick, after_leave, after_push, after_return}}
 use Rattle.exec_parts.proofs.Facts.{true_false}
-use Rattle.exec_parts.specs.{Phased.{closes_at, closing_in}, Roles.is_pool, declared.parts.{role.Role.Role, seat.Seat.Seat as Chair, shared.Shared.Shared, worker.Worker.Worker}, Spots.Spot, Tests.{after_kick_of, after_leave_of, after_push_of, after_return_of, has_put_off, leaves_turn_of, next_callback_of, next_pick_of, next_turn_of}, View.{Views, common_of, desk_of, driver_of, own_of}}
-use Rattle.exec_invariants.{specs.{Works.Suits, Holding.Mail, HoldPlaces.{callbacks_after_push, callbacks_at, is_bare_at, spare_at}, Kinds.{Kind, lowered}, Places.{has_count_at, is_pooled_at, is_published_at, searches_at}, Sound.{Aims, has_wakes_at, HasBatch, HasQueue, IsSearching, SoundAt}}, proofs.{Turning.{and_or, lower_on}, Counting.Stance, Idled.{calm_of, Comes, comes, hush_of, Settles, settles_either}, Standing.{requests_seen, submissions_seen}}}
+use Rattle.exec_parts.specs.{Phased.{closes_at, closing_in}, declared.parts.{role.Role.Role, seat.Seat.Seat as Chair, shared.Shared.Shared, worker.Worker.Worker}, Spots.Spot, Tests.{after_kick_of, after_leave_of, after_push_of, after_return_of, has_put_off, leaves_turn_of, next_callback_of, next_pick_of, next_turn_of}, View.{Views, common_of, desk_of, driver_of, own_of}}
+use Rattle.exec_invariants.{specs.{Works.Suits, Holding.Mail, HoldPlaces.{callbacks_after_push, callbacks_at, is_bare_at, spare_at}, Kinds.{lowered}, Places.{has_count_at, is_pooled_at, is_published_at, searches_at}, Sound.{Aims, has_wakes_at, HasBatch, HasQueue, IsSearching, SoundAt}}, proofs.{Turning.{lower_on}, Counting.Stance, Idled.{calm_of, Comes, comes, Settles, settles_either}, Standing.{requests_seen, submissions_seen}}}
 
 calls_alike : (n : AfterCallbacks) → calm_of (Place.Callbacks InCallbacks.CallBack n) ≡ calm_of (Place.LeaveSearch (AfterLeave.CallBack n))
-calls_alike AfterCallbacks.Look = refl
-calls_alike AfterCallbacks.Test = refl
-calls_alike AfterCallbacks.Begin = refl
-calls_alike AfterCallbacks.Drain = refl
-calls_alike AfterCallbacks.Finish = refl
+calls_alike = grind arith
 
 -- the very same kind
 pub same_kick : (role : Role) (p r : Place) → calm_of r ≡ calm_of p → calm_of r ≡ lowered role (is_pooled_at r) (calm_of p)
-same_kick role p r same = same ∙ kept (calm_of p) (is_pooled_at r) (ap (λ k. k.pooled) same)
-  where
-    kept : (k : Kind) (b : Bool) → b ≡ k.pooled → k ≡ lowered role b k
-    kept k b is = ap (λ (c : Bool). record k { pooled = c }) (and_or k.pooled (is_pool role) ∙ ap (λ c. c && (k.pooled || is_pool role)) (sym is))
+same_kick = grind arith
 
 -- who leaves a search after a kick is where it left it
 kick_alike : (b : AfterLeave) (role : Role) → calm_of (Place.LeaveSearch b) ≡ lowered role (is_pooled_at (Place.LeaveSearch b)) (calm_of (Place.Kick InKick.LoadKickCount (AfterKick.Leave b)))
@@ -39,11 +32,7 @@ most_by a b h = grind (arith, nat_tests, h)
 
 -- somebody is in the set
 pub someone : (x : Idle) → has_any x ≡ true → IsSome (lowest_of x.published)
-someone x h = by (lowest_of x.published) refl
-  where
-    by : (o : Option ℕ) → lowest_of x.published ≡ o → IsSome (lowest_of x.published)
-    by None none = let no : has_any x ≡ false = rw none refl in true_false (sym h ∙ no)
-    by (Some k) some = rw some refl
+someone = grind arith
 
 module _ {B : Type 0} where
   -- place p has what place q has, and neither knows anything of queue or batch but that nothing is aside
@@ -106,23 +95,7 @@ module _ {B : Type 0} where
       (settles_either q (w.picks == 0) Place.TakeRootFlag (Place.Pick InPick.CountDown) (out false) w s
       (settles_at q p Place.TakeRootFlag (out false) w s h refl tt refl refl h.held tt h.batch (λ is. refl))
       (settles_at q p (Place.Pick InPick.CountDown) (out false) w s h refl tt refl refl h.held tt h.batch (λ is. refl)))
-  push_comes (AfterPush.CallBack n) q w s sound next h =
-      let p = Place.Kick InKick.LoadKickCount (AfterKick.Push (AfterPush.CallBack n)) in
-      let it = next.to in
-      record {
-        same = lower_on w.role (hush_of q) (hush_of p) (hush_of (next_callback_of n w)) it.same (ap (λ (k : Kind). record k { closes = false; closing = None; calls = None; spare = 0; bare = false }) h.same);
-        searches = it.searches;
-        counts = it.counts;
-        published = it.published;
-        queue = it.queue;
-        aims = it.aims;
-        batch = it.batch;
-        quiet = it.quiet;
-        left = it.left;
-        told = it.told;
-        lets_go = it.lets_go;
-        phased = it.phased;
-      }
+  push_comes (AfterPush.CallBack n) q w s sound next h = grind arith
 
   pub kick_comes : (b : AfterKick) (q : Place) (w : Worker) (s : Shared B) → SoundAt q w s → KickComes b w s → Between q (Place.Kick InKick.LoadKickCount b) w s → Comes q (after_kick_of b w) (out false) w s
   kick_comes (AfterKick.Leave b) q w s sound next h =
@@ -160,14 +133,10 @@ module _ {B L : Type 0} (left : B → L) (spot : L → Option Said → Spot) (p 
   leaves_seen false = next_seen
 
   pub leave_seen : (b : AfterLeave) → after_leave p.config w.index (own_of w) (common_of left spot p vs s) b (desk_of w) ≡ after_leave_of b w
-  leave_seen (AfterLeave.Poll t) = refl
-  leave_seen (AfterLeave.CallBack n) = refl
-  leave_seen AfterLeave.Begin = next_seen
+  leave_seen = grind (arith, next_seen)
 
   pub push_seen : (b : AfterPush) → NextSeen left spot b p vs w s → after_push p.config w.index (own_of w) (common_of left spot p vs s) b (desk_of w) ≡ after_push_of b w
-  push_seen (AfterPush.Act t) seen = refl
-  push_seen AfterPush.Pick seen = refl
-  push_seen (AfterPush.CallBack n) seen = seen
+  push_seen = grind arith
 
   pub kick_seen : (b : AfterKick) → KickSeen left spot b p vs w s → after_kick p.config w.index (own_of w) (common_of left spot p vs s) b (desk_of w) ≡ after_kick_of b w
   kick_seen (AfterKick.Leave b) seen = leave_seen b

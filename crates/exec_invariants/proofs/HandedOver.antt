@@ -1,6 +1,6 @@
 -- What a take of the mailbox hands over, by what is there.
-use Rattle.std.proofs.Common.{◌≡◌, ℕ, zero, suc, ◌+◌, ◌≤◌, List, [], ◌∷◌, map, Some, refl, ap, ◌∙◌, arith, slice_get, slice_set, if◌then◌else◌}
-use Rattle.exec_words.specs.{Inbox.{Inbox, batch_handed, batch_taken, has_any}, Reserved.Reserved, Word.next_batch, declared.inbox.Message.Message}
+use Rattle.std.proofs.Common.{◌≡◌, ℕ, zero, suc, ◌+◌, ◌≤◌, List, [], ◌∷◌, map, Some, refl, ap, arith, slice_get, slice_set, if◌then◌else◌}
+use Rattle.exec_words.specs.{Inbox.{Inbox, batch_handed, batch_taken, has_any}, Reserved.Reserved, Word.next_batch}
 use Rattle.exec_moves.specs.declared.place.Place.{Place}
 use Rattle.exec_parts.specs.{declared.parts.{mail.Subject.Subject, record.Record.Record, seat.Seat.Seat as Chair, sleeping.SleeperRecord.SleeperRecord, worker.Worker.Worker}, Calls.IsTold, View.{Visible, driver_of, polls_seen, raised_times, seat_seen, seats_seen}}
 use Rattle.exec_invariants.{specs.{Holding.{IsAbout, IsOf, Mail, nap_of, thing_of}, Places.{claims_at, drops_at, has_count_at, is_published_at}, Sound.{IsMineIn, IsMyMail}, Names.tellers}, proofs.{Lined.unmapped, Resolving.places_fewer, Turning.IsTurn}}
@@ -29,36 +29,23 @@ pub seats_both : (vs : List Visible) (seats : List Chair) (i : ℕ) (v v' : Visi
     → seats_seen (slice_set vs i v') (slice_set seats i chair') ≡ seats_seen vs seats
 seats_both [] seats i v v' chair chair' seen there same = absurd (cc)
 seats_both (x ∷ vs) [] i v v' chair chair' seen there same = absurd (cc)
-seats_both (x ∷ vs) (seat ∷ seats) zero v v' chair chair' seen there same =
-    let one : v ≡ x = cc in
-    let two : chair ≡ seat = cc in
-    ap (λ y. y ∷ seats_seen vs seats) (same ∙ ap (λ u. seat_seen u chair) one ∙ ap (seat_seen x) two)
+seats_both (x ∷ vs) (seat ∷ seats) zero v v' chair chair' seen there same = grind arith
 seats_both (x ∷ vs) (seat ∷ seats) (suc i) v v' chair chair' seen there same = ap (λ ys. seat_seen x seat ∷ ys) (seats_both vs seats i v v' chair chair' seen there same)
 
 pub polls_both : (vs : List Visible) (seats : List Chair) (i : ℕ) (v v' : Visible) (chair chair' : Chair) → slice_get vs i ≡ Some v → slice_get seats i ≡ Some chair → v'.wakes ≡ v.wakes → chair'.raised ≡ chair.raised
     → polls_seen (slice_set vs i v') (slice_set seats i chair') ≡ polls_seen vs seats
 polls_both [] seats i v v' chair chair' seen there wakes raised = absurd (cc)
 polls_both (x ∷ vs) [] i v v' chair chair' seen there wakes raised = absurd (cc)
-polls_both (x ∷ vs) (seat ∷ seats) zero v v' chair chair' seen there wakes raised =
-    let one : v ≡ x = cc in
-    let two : chair ≡ seat = cc in
-    ap (λ y. y ∷ polls_seen vs seats) (rw (wakes, raised, one, two) refl)
+polls_both (x ∷ vs) (seat ∷ seats) zero v v' chair chair' seen there wakes raised = grind arith
 polls_both (x ∷ vs) (seat ∷ seats) (suc i) v v' chair chair' seen there wakes raised = ap (λ ys. raised_times seat.raised x.wakes ∷ ys) (polls_both vs seats i v v' chair chair' seen there wakes raised)
 
 -- what an inbox has is about what its worker has
 
 mine_of : (workers i : ℕ) (x : Subject) (rs : List Record) (zs : List SleeperRecord) → IsOf workers i x (map thing_of rs) (map nap_of zs) → IsMineIn workers i x rs zs
-mine_of workers i (Subject.Request k) rs zs of =
-    let r = unmapped thing_of rs k of.0 of.1 in
-    (r.0, r.1, ap (λ y. y.worker) r.2 ∙ of.2, of.3)
-mine_of workers i (Subject.Timer n) rs zs of =
-    let z = unmapped nap_of zs n of.0 of.1 in
-    (z.0, z.1, ap (λ y. y.worker) z.2 ∙ of.2, of.3)
+mine_of = grind (arith, unmapped)
 
 pub my_mail : (workers i : ℕ) (m : Mail) (rs : List Record) (zs : List SleeperRecord) → IsAbout workers i m (map thing_of rs) (map nap_of zs) → IsMyMail workers i m rs zs
-my_mail workers i Message.WakeRoot rs zs about = tt
-my_mail workers i (Message.Forward x) rs zs about = mine_of workers i x rs zs about
-my_mail workers i (Message.Cancel x) rs zs about = mine_of workers i x rs zs about
+my_mail = grind (arith, mine_of)
 
 -- what a place of the mail, or the callbacks after it, says as the mail does
 pub record LeadsOn (n : ℕ) (q q' : Place) : Type 0 where

@@ -1,37 +1,28 @@
 -- Of how many requests somebody may take or let go the output, once one changed; and the slots, as they are seen then.
-use Rattle.std.proofs.{Common.{◌≡◌, ℕ, zero, suc, ◌+◌, ◌^◌, ltb, Bool, true, false, cond, List, [], ◌∷◌, set, slice_get, slice_index_or, Some, None, refl, ap, sym, ◌∙◌, arith, if◌then◌else◌}, lemmas.List.Sums.sum_by-set}
-use Rattle.exec_base.specs.{Slab.{Slab, freed, is_live, removed, value_at, written}, declared.slab.{Id.Id, Slot.{Slot, TheVariants.{Live, Vacant, Retired}}}}
+use Rattle.std.proofs.{Common.{◌≡◌, ℕ, zero, suc, ◌+◌, Bool, true, false, cond, List, [], ◌∷◌, set, slice_get, slice_index_or, Some, None, refl, ap, arith, if◌then◌else◌}, lemmas.List.Sums.sum_by-set}
+use Rattle.exec_base.specs.{Slab.{Slab, is_live, removed, value_at, written}, declared.slab.{Id.Id, Slot.{Slot, TheVariants.{Live, Vacant, Retired}}}}
 use Rattle.exec_waiters.{specs.{States.is_held, declared.waiter.Entry.Entry}, proofs.Changes.{at_by, one_if}}
 use Rattle.exec_parts.specs.{declared.parts.mail.Reply.Reply, View.{awaited_from, awaits_entry, is_awaited, slots_from}}
 use Rattle.exec_invariants.specs.Names.{counts_held, held_count}
 
 pub held_written : (s : Slab (Entry Reply Reply)) (id : Id) (was is : Entry Reply Reply) → value_at s id ≡ Some was → held_count (written s id is) + one_if (is_held was) ≡ held_count s + one_if (is_held is)
-held_written s id was is at =
-    let there = at_by s id was at in
-    rw (ap (λ (o : Slot (Entry Reply Reply)). one_if (counts_held o)) there.slot) at (sum_by-set (λ o. cond (counts_held o) 1 0) s.slots id.index (Live id.generation is) (Vacant s.first) there.within)
+held_written = grind (arith, at_by, one_if, sum_by-set)
 
 freed_held : (b : Bool) (h : ℕ) → one_if (counts_held (cond b (Vacant h) Retired)) ≡ 0
 freed_held true h = refl
 freed_held false h = refl
 
 pub held_removed : (s : Slab (Entry Reply Reply)) (id : Id) (was : Entry Reply Reply) → value_at s id ≡ Some was → held_count (removed s id) + one_if (is_held was) ≡ held_count s
-held_removed s id was at =
-    let there = at_by s id was at in
-    let moved = rw (ap (λ (o : Slot (Entry Reply Reply)). one_if (counts_held o)) there.slot, freed_held (ltb (id.generation + 1) (2 ^ 64)) (id.generation + 1)) at (sum_by-set (λ o. cond (counts_held o) 1 0) s.slots id.index (freed id.generation) (Vacant s.first) there.within) in
-    omega (arith, moved)
+held_removed = grind (arith, at_by, one_if, freed_held, sum_by-set)
 
 -- THE SLOTS AS THEY ARE SEEN, where a live one is written again
 
 pub slots_set : (k : ℕ) (numbers : List ℕ) (slots : List (Slot (Entry Reply Reply))) (i g : ℕ) (o : Slot (Entry Reply Reply)) (e : Entry Reply Reply) → slice_get slots i ≡ Some o → is_live o ≡ true → slots_from k numbers (set slots i (Live g e)) ≡ slots_from k numbers slots
 slots_set k numbers [] i g o e there live = refl
-slots_set k numbers (x ∷ slots) zero g o e there live =
-    let is : x ≡ o = cc in
-    ap (λ b. (if b then Some (slice_index_or numbers k 0) else None) ∷ slots_from (suc k) numbers slots) (sym (ap is_live is ∙ live))
+slots_set k numbers (x ∷ slots) zero g o e there live = grind arith
 slots_set k numbers (x ∷ slots) (suc i) g o e there live = ap (λ xs. (if is_live x then Some (slice_index_or numbers k 0) else None) ∷ xs) (slots_set (suc k) numbers slots i g o e there live)
 
 pub awaited_set : (k : ℕ) (numbers : List ℕ) (slots : List (Slot (Entry Reply Reply))) (i g : ℕ) (o : Slot (Entry Reply Reply)) (e : Entry Reply Reply) → slice_get slots i ≡ Some o → is_awaited o ≡ awaits_entry e → awaited_from k numbers (set slots i (Live g e)) ≡ awaited_from k numbers slots
 awaited_set k numbers [] i g o e there same = refl
-awaited_set k numbers (x ∷ slots) zero g o e there same =
-    let is : x ≡ o = cc in
-    ap (λ b. if b then slice_index_or numbers k 0 ∷ awaited_from (suc k) numbers slots else awaited_from (suc k) numbers slots) (sym (ap is_awaited is ∙ same))
+awaited_set k numbers (x ∷ slots) zero g o e there same = grind arith
 awaited_set k numbers (x ∷ slots) (suc i) g o e there same = ap (λ xs. if is_awaited x then slice_index_or numbers k 0 ∷ xs else xs) (awaited_set (suc k) numbers slots i g o e there same)

@@ -1,5 +1,6 @@
 -- The task that a worker polls, be it the root or an ordinary one.
 use Rattle.std.proofs.{Common.{◌≡◌, ◌≢◌, ℕ, true, false, Option, Some, None, IsSome, refl, sym, ap, subst, ◌∙◌, slice_get}, lemmas.Bool.false≢true}
+use Rattle.std.proofs.Common.{arith}
 use Rattle.exec_task.specs.{Phases.is_polled, declared.{runnable.Runnable.Runnable, task.Phase.Phase}}
 use Rattle.exec_moves.specs.{declared.place.{InPoll.InPoll, Place.Place}, Seen.polls_in}
 use Rattle.exec_parts.{specs.{declared.parts.{shared.Shared.Shared, task_slot.TaskSlot.TaskSlot, worker.Worker.Worker}, Phased.is_complete}, proofs.Facts.by_number}
@@ -21,11 +22,7 @@ module _ {B : Type 0} where
     pub ordinary : t ≢ w.root → IsGuest x w.index slot × (slot.home ≡ None)
 
   pub going_on : (p : Phase B) → is_polled p ≡ true → is_complete p ≡ false
-  going_on (Phase.Idle b) h = refl
-  going_on (Phase.Queued b) h = refl
-  going_on Phase.Running h = refl
-  going_on Phase.Notified h = refl
-  going_on Phase.Complete h = absurd (false≢true h)
+  going_on = grind arith
 
   pub polled_here : (x : InPoll) (t : ℕ) (w : Worker) (s : Shared B) → SoundAt (Place.Poll t x) w s → polls_in t x ≡ Some t → IsHere x t w s
   polled_here x t w s sound polls = by_number t w.root other root

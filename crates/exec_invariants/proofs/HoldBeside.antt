@@ -1,5 +1,6 @@
 -- WHAT A STEP OF A POLL LEAVES OF OTHERS, where the polled task takes, or waits for, or lets go of what another worker may have.
 use Rattle.std.proofs.{Common.{◌≡◌, ◌≢◌, inl, ℕ, ◌+◌, ◌≤◌, ◌==◌, not, Contains, List, ◌++◌, length, map, Some, refl, sym, ap, subst, ◌∙◌, slice_get, slice_set}, lemmas.List.length-set}
+use Rattle.std.proofs.Common.{arith}
 use Rattle.exec_words.specs.Queue.{Queue}
 use Rattle.exec_task.specs.{Phases.{is_polled, runnable_of}, declared.{runnable.Runnable.Runnable, task.Task.{Task as TaskCell}}}
 use Rattle.exec_parts.{specs.{declared.parts.{shared.Shared.Shared, task_slot.TaskSlot.TaskSlot, worker.Worker.Worker}, Phased.is_complete}, proofs.Facts.{by_number, same_thing, set_elsewhere, set_there}}
@@ -120,31 +121,7 @@ module _ {B : Type 0} where
       let keeps : Keeps slot slot' = record { home = it.home; number = ap (λ (c : TaskCell B). c.number) it.cell; owner = ap (λ (c : TaskCell B). c.owner) it.cell } in
       let a : Spares j s (record s { requests = s'.requests; sleepers = s'.sleepers }) = spares_touched s (record s { requests = s'.requests; sleepers = s'.sleepers }) touches j in
       let b : Spares j s (record s { tasks = s'.tasks }) = spares_slot i j t s s' slot slot' other it.there it.items keeps (λ is. other (home j is)) (λ polled mine. absurd (other (sym mine ∙ poller))) homes in
-      let done : Spares j s (record s { tasks = s'.tasks; requests = s'.requests; sleepers = s'.sleepers; seats = s'.seats }) = record {
-        config = refl;
-        clock = refl;
-        gates = a.gates;
-        hints = λ file h. h;
-        many = seats.many;
-        chair = λ chair at. seats.chair j chair other at;
-        tails = seats.tails;
-        records = a.records;
-        records_only = a.records_only;
-        sleepers = a.sleepers;
-        sleepers_only = a.sleepers_only;
-        endure = a.endure;
-        endure_too = a.endure_too;
-        root = b.root;
-        polled = b.polled;
-        room = a.room;
-        stretch = λ file offset n h. h;
-        stopped = λ h. h;
-        closed = λ h. h;
-        by_zero = λ h. (refl, refl);
-        shards = refl;
-        emptied = λ shut k none. none;
-        genuine = b.genuine;
-      } in
+      let done : Spares j s (record s { tasks = s'.tasks; requests = s'.requests; sleepers = s'.sleepers; seats = s'.seats }) = grind arith in
       subst (Spares j s) (sym kept) done
 
   pub beside_dealt : (t : ℕ) (w w' : Worker) (s s' : Shared B) (slot slot' : TaskSlot B) → Deals t w w' s s' slot slot' → slot.poller ≡ w.index → ((j : ℕ) → slot.home ≡ Some j → j ≡ w.index) → AreHome s.config.workers (length s.seats.items) s.tasks.items

@@ -84,16 +84,12 @@ module _ (h h' : Hands) (workers : ℕ) (hs : List Holder) (ts : List Thing) (na
       }) old)
     where
       none_left : (shut held : Bool) → held_in k it.held ≡ held_in k it'.held + 1 → held_in k it.held ≤ holdings k hs → IsHeldBy shut held (holdings k hs) (under_way h (Message.Cancel (subject.Request k)) boxes) → held_in k it'.held ≡ 0
-      none_left true held more least fact = absurd (omega (arith, more, least, fact))
-      none_left false false more least fact = absurd (omega (arith, more, least, fact))
-      none_left false true more least fact = omega (arith, more, least, fact)
+      none_left = grind arith
 
       told_on : (shut held : Bool) → held_in k it.held ≡ held_in k it'.held + 1 → held_in k it.held ≤ holdings k hs → holdings k (slice_set hs t it') + held_in k it.held ≡ holdings k hs + held_in k it'.held
           → IsHeldBy shut held (holdings k hs) (under_way h (Message.Cancel (subject.Request k)) boxes) → h'.mail (Message.Cancel (subject.Request k)) ≡ h.mail (Message.Cancel (subject.Request k)) + 1
           → IsHeldBy shut held (holdings k (slice_set hs t it')) (under_way h' (Message.Cancel (subject.Request k)) boxes)
-      told_on true held more least after fact told = absurd (omega (arith, more, least, fact))
-      told_on false false more least after fact told = absurd (omega (arith, more, least, fact))
-      told_on false true more least after fact told = omega (arith, more, least, after, fact, told)
+      told_on = grind arith
 
 -- ITS WORKER changes a request, and no task
 module _ (h h' : Hands) (workers : ℕ) (hs : List Holder) (ts : List Thing) (naps : List Nap) (boxes : List Box) (k : ℕ) (r r' : Thing) where
@@ -157,11 +153,4 @@ module _ (h h' : Hands) (workers : ℕ) (hs : List Holder) (ts : List Thing) (na
       }) old
     where
       owes_on : RedoesAlone → (i u : ℕ) → 0 < h'.wakes i u → (a : Option Subject) → Owes i u a ts naps boxes → Owes i u a (slice_set ts k r') naps boxes
-      owes_on by i u some None owes = owes
-      owes_on by i u some (Some (subject.Timer n)) owes = owes
-      owes_on by i u some (Some (subject.Request n)) owes =
-          by_number n k
-          (λ apart. (owes.0, set_elsewhere ts k n r' apart ∙ owes.1, owes.2))
-          (λ same.
-          let is : owes.0 ≡ r = same_thing owes.0 r (sym owes.1 ∙ ap (slice_get ts) same ∙ by.thing) in
-          (r', subst (λ m. slice_get (slice_set ts k r') m ≡ Some r') (sym same) (set_there ts k r' r by.thing), by.owes i u some (subst (λ x. ThingOwes i u x boxes) is owes.2)))
+      owes_on = grind (arith, by_number, set_elsewhere, same_thing, set_there)

@@ -1,44 +1,20 @@
 -- MESSAGES: which are the same, how few are in an inbox, and what one that is sent changes.
-use Rattle.std.proofs.{Common.{◌≡◌, ◌≢◌, ℕ, zero, suc, ◌+◌, ◌*◌, ◌≤◌, ◌==◌, Bool, true, false, cond, Contains, List, [], ◌∷◌, ◌++◌, count_by, length, sum_by, Some, refl, sym, ap, subst, ◌∙◌, arith, slice_get}, lemmas.{Bool.{false≢true, eq-eqb}, List.{Elements.Contains-append_right, Sums.{sum_by-cons, sum_by-append}}}}
+use Rattle.std.proofs.{Common.{◌≡◌, ◌≢◌, ℕ, zero, suc, ◌+◌, ◌*◌, ◌≤◌, ◌==◌, true, cond, Contains, List, [], ◌∷◌, ◌++◌, count_by, length, sum_by, Some, refl, sym, ap, subst, ◌∙◌, arith, slice_get}, lemmas.{List.{Elements.Contains-append_right, Sums.{sum_by-cons, sum_by-append}}}}
 use Rattle.exec_words.specs.{Inbox.is_wake_root, declared.inbox.Message.{Message}}
-use Rattle.exec_parts.{specs.declared.parts.mail.Subject.Subject, proofs.Facts.{never_true, same_number, same_thing}}
-use Rattle.exec_invariants.specs.Holding.{IsAbout, IsOf, Mail, Nap, Thing, mail_in, same_mail, same_subject}
+use Rattle.exec_parts.{specs.declared.parts.mail.Subject.Subject, proofs.Facts.{never_true, same_thing}}
+use Rattle.exec_invariants.specs.Holding.{IsAbout, IsOf, Mail, Nap, Thing, mail_in, same_mail}
 
 -- WHICH ARE THE SAME
 
-subject_is : (a b : Subject) → same_subject a b ≡ true → a ≡ b
-subject_is (Subject.Request a) (Subject.Request b) h = ap (λ n. Subject.Request n) (same_number a b h)
-subject_is (Subject.Timer a) (Subject.Timer b) h = ap (λ n. Subject.Timer n) (same_number a b h)
-subject_is (Subject.Request a) (Subject.Timer b) h = absurd (false≢true h)
-subject_is (Subject.Timer a) (Subject.Request b) h = absurd (false≢true h)
-
 pub mail_is : (a b : Mail) → same_mail a b ≡ true → a ≡ b
-mail_is Message.WakeRoot Message.WakeRoot h = refl
-mail_is (Message.Forward x) (Message.Forward y) h = ap (λ s. Message.Forward s) (subject_is x y h)
-mail_is (Message.Cancel x) (Message.Cancel y) h = ap (λ s. Message.Cancel s) (subject_is x y h)
-mail_is Message.WakeRoot (Message.Forward y) h = absurd (false≢true h)
-mail_is Message.WakeRoot (Message.Cancel y) h = absurd (false≢true h)
-mail_is (Message.Forward x) Message.WakeRoot h = absurd (false≢true h)
-mail_is (Message.Forward x) (Message.Cancel y) h = absurd (false≢true h)
-mail_is (Message.Cancel x) Message.WakeRoot h = absurd (false≢true h)
-mail_is (Message.Cancel x) (Message.Forward y) h = absurd (false≢true h)
-
-subject_self : (a : Subject) → same_subject a a ≡ true
-subject_self (Subject.Request a) = eq-eqb a a refl
-subject_self (Subject.Timer a) = eq-eqb a a refl
+mail_is = grind arith
 
 pub mail_self : (m : Mail) → same_mail m m ≡ true
-mail_self Message.WakeRoot = refl
-mail_self (Message.Forward x) = subject_self x
-mail_self (Message.Cancel x) = subject_self x
+mail_self = grind arith
 
 -- how often one message is another: once or never
 pub once_or_never : (a b : Mail) → mail_in a (b ∷ []) ≤ 1
-once_or_never a b = by (same_mail a b)
-  where
-    by : (c : Bool) → 0 + cond c 1 0 ≤ 1
-    by true = omega arith
-    by false = omega arith
+once_or_never = grind arith
 
 pub is_once : (a : Mail) → mail_in a (a ∷ []) ≡ 1
 is_once a = ap (λ c. 0 + cond c 1 0) (mail_self a)
@@ -63,10 +39,7 @@ later_of m x ms has = Contains-append_right (m ∷ []) ms x has
 
 pub mail_none : (x : Mail) (ms : List Mail) → (Contains ms x → ⊥) → mail_in x ms ≡ 0
 mail_none x [] none = refl
-mail_none x (m ∷ ms) none =
-    let here : mail_in x (m ∷ []) ≡ 0 = is_never x m (λ same. none (subst (Contains (m ∷ ms)) (sym same) (first_of m ms))) in
-    let rest = mail_none x ms (λ has. none (later_of m x ms has)) in
-    omega (arith, mail_first x m ms, here, rest)
+mail_none x (m ∷ ms) none = grind (arith, is_never, first_of, later_of, mail_first, mail_none x ms (λ has. none (later_of m x ms has)))
 
 -- A SUM OVER PLACES
 
@@ -81,10 +54,7 @@ tally_both f g h a (x ∷ xs) both = omega (arith, both a, tally_both f g h (suc
 tally_some : {A : Type 0} (f : ℕ → ℕ) (a k : ℕ) (xs : List A) (x : A) → slice_get xs k ≡ Some x → f (a + k) ≤ tally f a xs
 tally_some f a k [] x at = absurd (cc)
 tally_some f a zero (y ∷ ys) x at = let same : f (a + 0) ≡ f a = ap f (omega arith) in omega (arith, same)
-tally_some f a (suc k) (y ∷ ys) x at =
-    let same : f (a + suc k) ≡ f (suc a + k) = ap f (omega arith) in
-    let rest = tally_some f (suc a) k ys x at in
-    omega (arith, same, rest)
+tally_some f a (suc k) (y ∷ ys) x at = grind (arith, tally_some f (suc a) k ys x at)
 
 tally_most : {A : Type 0} (f : ℕ → ℕ) (g : A → ℕ) (a : ℕ) (xs : List A) → ((k : ℕ) (x : A) → slice_get xs k ≡ Some x → f (a + k) ≤ g x) → tally f a xs ≤ sum_by g xs
 tally_most f g a [] most = omega arith
@@ -103,14 +73,8 @@ tally_within f g xs most = tally_most f g 0 xs (λ k x at. subst (λ n. f n ≤ 
 
 pub sum_least : {A : Type 0} (f : A → ℕ) (xs : List A) (i : ℕ) (x : A) → slice_get xs i ≡ Some x → f x ≤ sum_by f xs
 sum_least f [] i x at = absurd (cc)
-sum_least f (y ∷ ys) zero x at =
-    let same : f y ≡ f x = ap f (same_thing y x at) in
-    let sums = sum_by-cons f y ys in
-    omega (arith, same, sums)
-sum_least f (y ∷ ys) (suc i) x at =
-    let rest = sum_least f ys i x at in
-    let sums = sum_by-cons f y ys in
-    omega (arith, rest, sums)
+sum_least f (y ∷ ys) zero x at = grind (arith, same_thing, sum_by-cons)
+sum_least f (y ∷ ys) (suc i) x at = grind (arith, sum_by-cons, sum_least f ys i x at)
 
 -- SO FEW ARE IN AN INBOX, of messages about what worker j has, each once
 
@@ -131,11 +95,7 @@ module _ (workers j : ℕ) (ts : List Thing) (naps : List Nap) where
   all_of ms = (count_by is_wake_root ms + (tally (forwards ms) 0 ts + tally (cancels ms) 0 ts)) + (tally (ends ms) 0 naps + tally (removes ms) 0 naps)
 
   one_of_all : (m : Mail) → IsAbout workers j m ts naps → 1 ≤ all_of (m ∷ [])
-  one_of_all Message.WakeRoot about = omega arith
-  one_of_all (Message.Forward (Subject.Request k)) about = let one = is_once (Message.Forward (Subject.Request k)) in let some = tally_here (forwards (Message.Forward (Subject.Request k) ∷ [])) k ts about.0 about.1 in omega (arith, one, some)
-  one_of_all (Message.Cancel (Subject.Request k)) about = let one = is_once (Message.Cancel (Subject.Request k)) in let some = tally_here (cancels (Message.Cancel (Subject.Request k) ∷ [])) k ts about.0 about.1 in omega (arith, one, some)
-  one_of_all (Message.Forward (Subject.Timer n)) about = let one = is_once (Message.Forward (Subject.Timer n)) in let some = tally_here (ends (Message.Forward (Subject.Timer n) ∷ [])) n naps about.0 about.1 in omega (arith, one, some)
-  one_of_all (Message.Cancel (Subject.Timer n)) about = let one = is_once (Message.Cancel (Subject.Timer n)) in let some = tally_here (removes (Message.Cancel (Subject.Timer n) ∷ [])) n naps about.0 about.1 in omega (arith, one, some)
+  one_of_all = grind (arith, is_once, tally_here)
 
   within_all : (ms : List Mail) → ((m : Mail) → Contains ms m → IsAbout workers j m ts naps) → length ms ≤ all_of ms
   within_all [] about = omega arith
@@ -151,11 +111,7 @@ module _ (workers j : ℕ) (ts : List Thing) (naps : List Nap) where
 
   -- one at most of each that the worker has, and none of another's
   by_owner : (n i : ℕ) → (i ≡ j → n ≤ 1) → (i ≢ j → n ≡ 0) → n ≤ cond (i == j) 1 0
-  by_owner n i own other = by (i == j) refl
-    where
-      by : (b : Bool) → (i == j) ≡ b → n ≤ cond b 1 0
-      by true is = own (same_number i j is)
-      by false is = let none : n ≡ 0 = other (λ same. false≢true (sym is ∙ eq-eqb i j same)) in omega (arith, none)
+  by_owner = grind arith
 
   pub few_mail : (ms : List Mail) → ((m : Mail) → Contains ms m → IsAbout workers j m ts naps)
       → ((k : ℕ) (r : Thing) → slice_get ts k ≡ Some r → r.worker ≡ j → (forwards ms k ≤ 1) × (cancels ms k ≤ 1))

@@ -2,7 +2,7 @@
 use Rattle.std.proofs.{Common.{◌≡◌, ℕ, ◌<◌, ◌&&◌, ◌||◌, Bool, true, false, not, cond, List, Some, None, IsSome, sym, ap, subst, ◌∙◌, arith, slice_get, slice_set}, lemmas.Bool.false≢true}
 use Rattle.exec_words.specs.declared.inbox.Message.{Message}
 use Rattle.exec_parts.proofs.Facts.{and_none, by_number, same_thing, set_elsewhere, set_there}
-use Rattle.exec_invariants.{specs.Holding.{Box, Hands, Holder, HoldsRequest, IsHeldBy, IsHolding, MayHave, Nap, NapOwes, Owes, Thing, holdings, is_awaited_by, under_way}, proofs.{HoldRedo.sum_set, HoldSteps.{awaits_on, held_in, holdings_on, homes_on}}}
+use Rattle.exec_invariants.{specs.Holding.{Box, Hands, Holder, HoldsRequest, IsHeldBy, IsHolding, MayHave, Nap, Owes, Thing, holdings, is_awaited_by, under_way}, proofs.{HoldRedo.sum_set, HoldSteps.{awaits_on, held_in, holdings_on, homes_on}}}
 use Rattle.exec_parts.specs.declared.parts.mail.Subject.TheVariants as subject
 
 module _ (h : Hands) (workers : ℕ) (hs : List Holder) (ts : List Thing) (naps : List Nap) (boxes : List Box) (t n : ℕ) (it it' : Holder) (z : Nap) where
@@ -99,14 +99,7 @@ module _ (h : Hands) (workers : ℕ) (hs : List Holder) (ts : List Thing) (naps 
       same_timer a b h = cc
 
       neither : (a b : Bool) → a ≡ false → b ≡ false → (a || b) ≡ true → ⊥
-      neither false false x y is = false≢true is
-      neither true b x y is = false≢true (sym x)
-      neither false true x y is = false≢true (sym y)
+      neither = grind arith
 
       unpaid : Wakens → (i : ℕ) → 0 < h.wakes i t → Owes i t (Some (subject.Timer n)) ts naps boxes → ⊥
-      unpaid by i some owes =
-          let is : owes.0 ≡ z = same_thing owes.0 z (sym owes.1 ∙ by.nap) in
-          let it_owes : NapOwes i t z = subst (NapOwes i t) is owes.2 in
-          let none = by.unowed it_owes.unsent in
-          let more : 0 < h.wakes z.worker t = subst (λ j. 0 < h.wakes j t) (sym it_owes.worker) some in
-          omega (arith, none, more)
+      unpaid = grind arith

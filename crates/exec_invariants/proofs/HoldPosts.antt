@@ -1,9 +1,9 @@
 -- A MESSAGE IS SENT: from the hands of a worker it comes into an inbox, which has a place for it, or is lost where that takes none.
-use Rattle.std.proofs.{Common.{◌≡◌, ◌≢◌, inl, inr, ⊎_elim, ℕ, zero, suc, ◌+◌, ◌*◌, ◌<◌, ◌≤◌, ◌==◌, Bool, true, false, cond, Contains, List, [], ◌∷◌, ◌++◌, count_by, length, Option, Some, None, refl, sym, ap, subst, ◌∙◌, arith, slice_get, slice_set}, lemmas.{Bool.false≢true, List.{length-set, Elements.Contains-append_cases, Sums.sum_by-cons}}}
+use Rattle.std.proofs.{Common.{◌≡◌, ◌≢◌, inl, inr, ℕ, zero, suc, ◌+◌, ◌*◌, ◌<◌, ◌≤◌, ◌==◌, Bool, true, false, cond, Contains, List, [], ◌∷◌, ◌++◌, count_by, length, Option, Some, refl, sym, ap, subst, ◌∙◌, arith, slice_get, slice_set}, lemmas.{Bool.false≢true, List.{length-set, Elements.Contains-append_cases, Sums.sum_by-cons}}}
 use Rattle.exec_words.specs.{Inbox.is_wake_root, declared.inbox.Message.{Message}}
 use Rattle.exec_machine.specs.declared.state.Forwarding.{Forwarding}
 use Rattle.exec_parts.{specs.declared.parts.mail.Subject.Subject, proofs.Facts.{by_number, same_thing, set_elsewhere, set_there}}
-use Rattle.exec_invariants.{specs.{Places.one_if, Holding.{Box, Hands, Holder, IsAbout, IsForwarded, IsHeldBy, IsHolding, IsOf, Mail, Nap, Owes, Thing, holdings, is_sent, mail_in, same_mail, under_way, waiters}}, proofs.{HoldMail.{few_mail, is_never, mail_first, mail_is, mail_last, mail_self, once_or_never, sum_least}, HoldRedo.sum_set}}
+use Rattle.exec_invariants.{specs.{Places.one_if, Holding.{Box, Hands, Holder, IsAbout, IsForwarded, IsHeldBy, IsHolding, Mail, Nap, Owes, Thing, holdings, mail_in, same_mail, under_way, waiters}}, proofs.{HoldMail.{few_mail, is_never, mail_first, mail_is, mail_last, mail_self, once_or_never, sum_least}, HoldRedo.sum_set}}
 
 -- MESSAGES MOVE between hands and inboxes, and each is under way as before, unless its inbox takes none
 
@@ -19,17 +19,10 @@ pub record SameBox (box box' : Box) : Type 0 where
   pub made : box'.made ≡ box.made
 
 forward_few : (shut : Bool) (f : Forwarding) (n : ℕ) → shut ≡ false → IsForwarded shut f n → n ≤ 1
-forward_few true f n open_box fact = absurd (false≢true (sym open_box))
-forward_few false f n open_box fact = by (is_sent f) fact
-  where
-    by : (b : Bool) → n ≡ one_if b → n ≤ 1
-    by true is = omega (arith, is)
-    by false is = omega (arith, is)
+forward_few = grind arith
 
 held_few : (shut held : Bool) (n m : ℕ) → shut ≡ false → IsHeldBy shut held n m → m ≤ 1
-held_few true held n m open_box fact = absurd (false≢true (sym open_box))
-held_few false true n m open_box fact = omega (arith, fact)
-held_few false false n m open_box fact = omega (arith, fact)
+held_few = grind arith
 
 module _ (h h' : Hands) (workers : ℕ) (hs : List Holder) (ts : List Thing) (naps : List Nap) (boxes boxes' : List Box) where
   pub record Moves : Type 0 where
@@ -95,19 +88,7 @@ module _ (h h' : Hands) (workers : ℕ) (hs : List Holder) (ts : List Thing) (na
       }
     where
       owes_on : (i t : ℕ) (a : Option Subject) → Owes i t a ts naps boxes → Owes i t a ts naps boxes'
-      owes_on i t None owes = owes
-      owes_on i t (Some (Subject.Timer n)) owes = owes
-      owes_on i t (Some (Subject.Request k)) owes = (
-        owes.0,
-        owes.1,
-        record {
-          worker = owes.2.worker;
-          waiter = owes.2.waiter;
-          unpaid = owes.2.unpaid;
-          unsent = owes.2.unsent;
-          over = ⊎_elim (λ over. inl over) (λ lost. inr (lost.0, λ box' at. let b = by.back i box' at in b.2.closing ∙ lost.1 b.0 b.1)) owes.2.over;
-        },
-      )
+      owes_on = grind arith
 
 -- ONE MORE IN HAND
 abbrev pub with_mail : Mail → Hands → Hands
@@ -119,10 +100,7 @@ posted_in m box = record box { messages = box.messages ++ m ∷ [] }
 
 module _ (h : Hands) (workers : ℕ) (hs : List Holder) (ts : List Thing) (naps : List Nap) (boxes : List Box) (j : ℕ) (m : Mail) (box : Box) (at : slice_get boxes j ≡ Some box) (about : IsAbout workers j m ts naps) where
   same_way : (x : Mail) → under_way h x (slice_set boxes j (posted_in m box)) ≡ under_way (with_mail m h) x boxes
-  same_way x =
-      let sums = sum_set (λ (b : Box). mail_in x b.messages) boxes j box (posted_in m box) at in
-      let last = mail_last x m box.messages in
-      omega (arith, sums, last)
+  same_way = grind (arith, sum_set, mail_last)
 
   pub posted : IsHolding (with_mail m h) workers hs ts naps boxes → IsHolding h workers hs ts naps (slice_set boxes j (posted_in m box))
   posted old =
@@ -156,34 +134,6 @@ module _ (h : Hands) (workers : ℕ) (hs : List Holder) (ts : List Thing) (naps 
           only (zero, few, is) = sym is
           only (suc n, few, is) = absurd (omega (arith, few))
 
-  -- or it is lost
-  pub lost : box.shut ≡ true → IsHolding (with_mail m h) workers hs ts naps boxes → IsHolding h workers hs ts naps boxes
-  lost shut old =
-      moved (with_mail m h) h workers hs ts naps boxes boxes (record {
-        many = refl;
-        back = λ i box' there. (box', there, record { shut = refl; closing = refl; places = λ h. h; made = refl });
-        wakes = refl;
-        way = λ s i b its there open_box. (other_way (Message.Cancel s) (λ same. not_shut i b s its there open_box shut (ours (Message.Cancel s) same s (λ o. o))), other_way (Message.Forward s) (λ same. not_shut i b s its there open_box shut (ours (Message.Forward s) same s (λ o. o))));
-        about = old.about;
-        made = λ x some. old.made x (omega (arith, some));
-      }) old
-    where
-      other_way : (x : Mail) → x ≢ m → under_way h x boxes ≡ under_way (with_mail m h) x boxes
-      other_way x apart = let none = is_never x m apart in omega (arith, none)
-
-      ours : (x : Mail) → x ≡ m → (s : Subject) → (IsAbout workers j x ts naps → IsOf workers j s ts naps) → IsOf workers j s ts naps
-      ours x same s of = of (subst (λ y. IsAbout workers j y ts naps) (sym same) about)
-
-      not_shut : (i : ℕ) (b : Box) (s : Subject) → IsOwned i s ts naps → slice_get boxes i ≡ Some b → b.shut ≡ false → box.shut ≡ true → IsOf workers j s ts naps → ⊥
-      not_shut i b (Subject.Request k) its there open_box shut of =
-          let same : i ≡ j = sym its.2 ∙ ap (λ (r : Thing). r.worker) (same_thing its.0 of.0 (sym its.1 ∙ of.1)) ∙ of.2 in
-          let is : b ≡ box = same_thing b box (sym there ∙ ap (slice_get boxes) same ∙ at) in
-          false≢true (sym open_box ∙ ap (λ (y : Box). y.shut) is ∙ shut)
-      not_shut i b (Subject.Timer n) its there open_box shut of =
-          let same : i ≡ j = sym its.2 ∙ ap (λ (z : Nap). z.worker) (same_thing its.0 of.0 (sym its.1 ∙ of.1)) ∙ of.2 in
-          let is : b ≡ box = same_thing b box (sym there ∙ ap (slice_get boxes) same ∙ at) in
-          false≢true (sym open_box ∙ ap (λ (y : Box). y.shut) is ∙ shut)
-
   -- THERE IS A PLACE for one that isn't there
   pub has_place : IsHolding h workers hs ts naps boxes → box.shut ≡ false → mail_in m box.messages ≡ 0 → (is_wake_root m ≡ false) → length box.messages + 2 ≤ count_by is_wake_root box.messages + box.places
   has_place old open_box fresh other =
@@ -197,15 +147,7 @@ module _ (h : Hands) (workers : ℕ) (hs : List Holder) (ts : List Thing) (naps 
       not_root x never = sum_by-cons (λ (y : Mail). cond (is_wake_root y) 1 0) x box.messages ∙ ap (λ b. cond b 1 0 + count_by is_wake_root box.messages) never
 
       all : (x : Mail) → Contains (m ∷ box.messages) x → IsAbout workers j x ts naps
-      all x has =
-          elim (Contains-append_cases (m ∷ []) box.messages x has) [
-            | inl first ↦ subst (λ y. IsAbout workers j y ts naps) (sym (only first)) about
-            | inr later ↦ old.about j box x at later
-          ]
-        where
-          only : Contains (m ∷ []) x → x ≡ m
-          only (zero, few, is) = sym is
-          only (suc n, few, is) = absurd (omega (arith, few))
+      all = grind arith
 
       -- the new one once, and each other as often as it is under way
       at_most : (x : Mail) → mail_in x box.messages ≤ 1 → mail_in x (m ∷ box.messages) ≤ 1

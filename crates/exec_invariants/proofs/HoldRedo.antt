@@ -1,5 +1,5 @@
 -- WHAT TASKS HOLD, where one request changes, and one task at most that holds or waits for it.
-use Rattle.std.proofs.{Common.{◌≡◌, ◌≢◌, ℕ, ◌+◌, ◌<◌, ◌≤◌, ◌==◌, Bool, true, false, cond, List, count_by, length, sum_by, Option, Some, None, IsSome, sym, ap, subst, ◌∙◌, arith, slice_get, slice_set}, lemmas.{List.Sums.sum_by-set, Option.{get_or_from_slice_get, slice_get_within}}}
+use Rattle.std.proofs.{Common.{◌≡◌, ◌≢◌, ℕ, ◌+◌, ◌<◌, ◌≤◌, ◌==◌, Bool, true, false, List, count_by, length, sum_by, Option, Some, None, IsSome, sym, ap, subst, ◌∙◌, arith, slice_get, slice_set}, lemmas.{List.Sums.sum_by-set, Option.{get_or_from_slice_get, slice_get_within}}}
 use Rattle.exec_machine.specs.{declared.state.Forwarding.TheVariants.Applied, Tests.is_unsent}
 use Rattle.exec_words.specs.declared.inbox.Message.{Message}
 use Rattle.exec_parts.{specs.declared.parts.{held.Held.Held, mail.Subject.Subject}, proofs.Facts.{by_number, same_thing, set_elsewhere, set_there}}
@@ -17,11 +17,7 @@ sum_set f xs i x y there =
     ap (λ z. sum_by f (slice_set xs i y) + f z) (sym (get_or_from_slice_get xs i x x there)) ∙ sum_by-set f xs i y x (slice_get_within xs i x there)
 
 pub count_set : {A : Type 0} (p : A → Bool) (xs : List A) (i : ℕ) (x y : A) → slice_get xs i ≡ Some x → p y ≡ p x → count_by p (slice_set xs i y) ≡ count_by p xs
-count_set p xs i x y there same =
-    let weigh : Bool → ℕ = λ b. cond b 1 0 in
-    let sums : count_by p (slice_set xs i y) + weigh (p x) ≡ count_by p xs + weigh (p y) = sum_set (λ z. weigh (p z)) xs i x y there in
-    let now : weigh (p y) ≡ weigh (p x) = ap weigh same in
-    omega (arith, sums, now)
+count_set = grind (arith, sum_set)
 
 -- a message that isn't about request k
 pub record IsApart (k : ℕ) (m : Mail) : Type 0 where
@@ -60,12 +56,7 @@ module _ (h h' : Hands) (workers : ℕ) (hs hs' : List Holder) (ts : List Thing)
 
   -- what holds of a thing that stood there, by whether it is this one
   of_thing : (P : ℕ → Thing → Type 0) → slice_get ts k ≡ Some r → P k r' → ((n : ℕ) (x : Thing) → n ≢ k → slice_get ts n ≡ Some x → P n x) → (n : ℕ) (x : Thing) → slice_get (slice_set ts k r') n ≡ Some x → P n x
-  of_thing P there now others n x at_n =
-      by_number n k
-      (λ apart. others n x apart (sym (set_elsewhere ts k n r' apart) ∙ at_n))
-      (λ same.
-      let is : r' ≡ x = same_thing r' x (sym (set_there ts k r' r there) ∙ subst (λ m. slice_get (slice_set ts k r') m ≡ Some x) same at_n) in
-      subst (λ m. P m x) (sym same) (subst (P k) is now))
+  of_thing = grind (arith, by_number, set_elsewhere, same_thing, set_there)
 
   pub holding_redone : Redo → IsHolding h workers hs ts naps boxes → IsHolding h' workers hs' (slice_set ts k r') naps boxes
   holding_redone by old =
@@ -130,13 +121,7 @@ module _ (h h' : Hands) (workers : ℕ) (hs hs' : List Holder) (ts : List Thing)
       }
     where
       of_on : slice_get ts k ≡ Some r → (j : ℕ) (s : Subject) → IsOf workers j s ts naps → IsOf workers j s (slice_set ts k r') naps
-      of_on there j (subject.Request n) is =
-          by_number n k
-          (λ apart. (is.0, set_elsewhere ts k n r' apart ∙ is.1, is.2, is.3))
-          (λ same.
-          let it : is.0 ≡ r = same_thing is.0 r (sym is.1 ∙ ap (slice_get ts) same ∙ there) in
-          (r', subst (λ m. slice_get (slice_set ts k r') m ≡ Some r') (sym same) (set_there ts k r' r there), by.worker ∙ ap (λ (x : Thing). x.worker) (sym it) ∙ is.2, is.3))
-      of_on there j (subject.Timer n) is = is
+      of_on = grind (arith, by_number, set_elsewhere, same_thing, set_there)
 
       about_on : slice_get ts k ≡ Some r → (j : ℕ) (m : Mail) → IsAbout workers j m ts naps → IsAbout workers j m (slice_set ts k r') naps
       about_on there j Message.WakeRoot is = tt

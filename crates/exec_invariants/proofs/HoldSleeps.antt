@@ -1,5 +1,5 @@
 -- WHAT TASKS HOLD, where a sleeper changes and no task: it is waited for elsewhere, fires, is removed, or pays a wake.
-use Rattle.std.proofs.Common.{◌≡◌, ◌≢◌, ◌⊎◌, ⊎_elim, ℕ, ◌+◌, ◌<◌, ◌≤◌, ◌==◌, ◌||◌, true, false, List, count_by, length, sum_by, Option, Some, None, IsSome, sym, ap, subst, ◌∙◌, slice_get, slice_set}
+use Rattle.std.proofs.Common.{◌≡◌, ◌≢◌, ◌⊎◌, ⊎_elim, ℕ, ◌+◌, ◌<◌, ◌≤◌, ◌==◌, ◌||◌, true, false, List, count_by, length, sum_by, Option, Some, IsSome, sym, ap, subst, ◌∙◌, slice_get, slice_set, arith}
 use Rattle.exec_machine.specs.{declared.state.Forwarding.TheVariants.Applied, Tests.is_unsent}
 use Rattle.exec_words.specs.declared.inbox.Message.{Message}
 use Rattle.exec_parts.{specs.declared.parts.mail.Subject.Subject, proofs.Facts.{by_number, same_thing, set_elsewhere, set_there}}
@@ -32,26 +32,13 @@ module _ (h h' : Hands) (workers : ℕ) (hs : List Holder) (ts : List Thing) (na
 
   -- what holds of a sleeper that stood there, by whether it is this one
   of_nap : (P : ℕ → Nap → Type 0) → slice_get naps n ≡ Some z → P n z' → ((m : ℕ) (x : Nap) → m ≢ n → slice_get naps m ≡ Some x → P m x) → (m : ℕ) (x : Nap) → slice_get (slice_set naps n z') m ≡ Some x → P m x
-  of_nap P there now others m x at_m =
-      by_number m n
-      (λ apart. others m x apart (sym (set_elsewhere naps n m z' apart) ∙ at_m))
-      (λ same.
-      let is : z' ≡ x = same_thing z' x (sym (set_there naps n z' z there) ∙ subst (λ k. slice_get (slice_set naps n z') k ≡ Some x) same at_m) in
-      subst (λ k. P k x) (sym same) (subst (P n) is now))
+  of_nap = grind (arith, by_number, set_elsewhere, same_thing, set_there)
 
   of_on : slice_get naps n ≡ Some z → z'.worker ≡ z.worker → (j : ℕ) (s : Subject) → IsOf workers j s ts naps → IsOf workers j s ts (slice_set naps n z')
-  of_on there worker j (subject.Request k) is = is
-  of_on there worker j (subject.Timer m) is =
-      by_number m n
-      (λ apart. (is.0, set_elsewhere naps n m z' apart ∙ is.1, is.2, is.3))
-      (λ same.
-      let it : is.0 ≡ z = same_thing is.0 z (sym is.1 ∙ ap (slice_get naps) same ∙ there) in
-      (z', subst (λ k. slice_get (slice_set naps n z') k ≡ Some z') (sym same) (set_there naps n z' z there), worker ∙ ap (λ (x : Nap). x.worker) (sym it) ∙ is.2, is.3))
+  of_on = grind (arith, by_number, set_elsewhere, same_thing, set_there)
 
   about_on : slice_get naps n ≡ Some z → z'.worker ≡ z.worker → (j : ℕ) (m : Mail) → IsAbout workers j m ts naps → IsAbout workers j m ts (slice_set naps n z')
-  about_on there worker j Message.WakeRoot is = tt
-  about_on there worker j (Message.Forward s) is = of_on there worker j s is
-  about_on there worker j (Message.Cancel s) is = of_on there worker j s is
+  about_on = grind (arith, of_on)
 
   pub nap_redone : RedoesNap → IsHolding h workers hs ts naps boxes → IsHolding h' workers hs ts (slice_set naps n z') boxes
   nap_redone by old =
@@ -116,11 +103,4 @@ module _ (h h' : Hands) (workers : ℕ) (hs : List Holder) (ts : List Thing) (na
       }
     where
       owes_on : RedoesNap → (i t : ℕ) → 0 < h'.wakes i t → (a : Option Subject) → Owes i t a ts naps boxes → Owes i t a ts (slice_set naps n z') boxes
-      owes_on by i t some None owes = owes
-      owes_on by i t some (Some (subject.Request k)) owes = owes
-      owes_on by i t some (Some (subject.Timer m)) owes =
-          by_number m n
-          (λ apart. (owes.0, set_elsewhere naps n m z' apart ∙ owes.1, owes.2))
-          (λ same.
-          let is : owes.0 ≡ z = same_thing owes.0 z (sym owes.1 ∙ ap (slice_get naps) same ∙ by.nap) in
-          (z', subst (λ k. slice_get (slice_set naps n z') k ≡ Some z') (sym same) (set_there naps n z' z by.nap), by.owes i t some (subst (NapOwes i t) is owes.2)))
+      owes_on = grind (arith, by_number, set_elsewhere, same_thing, set_there)

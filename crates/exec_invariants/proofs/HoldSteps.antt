@@ -1,11 +1,11 @@
 -- WHAT TASKS HOLD, where a task takes an output, waits for a request, or lets go of one.
-use Rattle.std.proofs.{Common.{◌≡◌, ◌≢◌, ◌⊎◌, inl, inr, ⊎_elim, ℕ, zero, suc, ◌+◌, ◌<◌, ◌≤◌, ◌==◌, ◌&&◌, Bool, true, false, not, cond, List, [], ◌∷◌, ◌++◌, count_by, Option, Some, None, IsSome, is_some, Result, Ok, Err, refl, sym, ap, subst, ◌∙◌, arith, slice_get, slice_set}, lemmas.{Bool.{false≢true, eq-eqb}, List.Sums.{sum_by-cons, sum_by-append}}}
-use Rattle.exec_base.specs.declared.{error.Error.Error, one_shot.OneShotState.{OneShotState, TheVariants.{Open, Sent, Closed}}}
+use Rattle.std.proofs.{Common.{◌≡◌, ◌≢◌, ◌⊎◌, inl, inr, ⊎_elim, ℕ, zero, suc, ◌+◌, ◌<◌, ◌≤◌, ◌==◌, ◌&&◌, Bool, true, false, not, cond, List, [], ◌∷◌, ◌++◌, count_by, Option, Some, None, IsSome, is_some, Result, refl, sym, ap, subst, ◌∙◌, arith, slice_get, slice_set}, lemmas.{Bool.{false≢true, eq-eqb}, List.Sums.{sum_by-cons, sum_by-append}}}
+use Rattle.exec_base.specs.declared.{error.Error.Error, one_shot.OneShotState.{OneShotState}}
 use Rattle.exec_outcomes.specs.declared.outcome.Outcome.{Outcome}
 use Rattle.exec_request.specs.declared.output.RequestOutput.{RequestOutput}
 use Rattle.exec_machine.specs.Tests.{is_unsent}
 use Rattle.exec_words.specs.declared.inbox.Message.{Message}
-use Rattle.exec_parts.{specs.declared.parts.{held.Held.Held, mail.Subject.Subject}, proofs.Facts.{and_none, by_number, not_same, same_thing, set_elsewhere, set_there}}
+use Rattle.exec_parts.{specs.declared.parts.{held.Held.Held, mail.Subject.Subject}, proofs.Facts.{by_number, not_same, same_thing, set_elsewhere, set_there}}
 use Rattle.exec_invariants.{specs.Holding.{Awaits, Box, Hands, HasAnswer, Holder, HoldsRequest, IsHeldBy, IsHolding, IsOrdinary, IsOwed, MayHave, Nap, Owes, Thing, ThingOwes, holdings, is_awaited_by, under_way, waiters}, proofs.HoldRedo.{count_set, holding_redone, sum_set}}
 use Rattle.exec_parts.specs.declared.parts.mail.Subject.TheVariants as subject
 
@@ -57,20 +57,10 @@ hold_once k hs t it at_t =
 -- A TASK BECAME ANOTHER, of the same home
 module _ (hs : List Holder) (t : ℕ) (it it' : Holder) (there : slice_get hs t ≡ Some it) where
   pub homes_on : it'.home ≡ it.home → (u : ℕ) → IsOrdinary u hs → IsOrdinary u (slice_set hs t it')
-  homes_on home u is =
-      by_number u t
-      (λ other. record { it = is.it; there = set_elsewhere hs t u it' other ∙ is.there; home = is.home })
-      (λ same.
-      let e : it ≡ is.it = same_thing it is.it (sym there ∙ subst (λ m. slice_get hs m ≡ Some is.it) same is.there) in
-      record { it = it'; there = subst (λ m. slice_get (slice_set hs t it') m ≡ Some it') (sym same) (set_there hs t it' it there); home = home ∙ ap (λ (x : Holder). x.home) e ∙ is.home })
+  homes_on = grind (arith, by_number, set_elsewhere, same_thing, set_there)
 
   pub awaits_on : (s : Subject) (u : ℕ) → (u ≡ t → it.awaits ≡ Some s → it'.awaits ≡ Some s) → Awaits s u hs → Awaits s u (slice_set hs t it')
-  awaits_on s u kept is =
-      by_number u t
-      (λ other. record { it = is.it; there = set_elsewhere hs t u it' other ∙ is.there; awaits = is.awaits })
-      (λ same.
-      let e : it ≡ is.it = same_thing it is.it (sym there ∙ subst (λ m. slice_get hs m ≡ Some is.it) same is.there) in
-      record { it = it'; there = subst (λ m. slice_get (slice_set hs t it') m ≡ Some it') (sym same) (set_there hs t it' it there); awaits = kept same (ap (λ (x : Holder). x.awaits) e ∙ is.awaits) })
+  awaits_on = grind (arith, by_number, set_elsewhere, same_thing, set_there)
 
   pub holdings_on : (n : ℕ) → holdings n (slice_set hs t it') + held_in n it.held ≡ holdings n hs + held_in n it'.held
   holdings_on n = sum_set (λ (x : Holder). held_in n x.held) hs t it it' there
@@ -96,25 +86,10 @@ module _ (k : ℕ) (held fewer : List Held) (new : IsNewest k held fewer) where
   fewer_held j x at = ap (λ hs. slice_get hs j) new.all ∙ get_front fewer (new.x ∷ []) j x at
 
   pub one_more : held_in k held ≡ held_in k fewer + 1
-  one_more =
-      let last : held_in k (new.x ∷ []) ≡ 1 = ap (λ b. held_in_if b) (ap (λ n. n == k) new.number ∙ eq-eqb k k refl) in
-      let all : held_in k held ≡ held_in k fewer + held_in k (new.x ∷ []) = ap (held_in k) new.all ∙ sum_by-append (λ (h : Held). cond (h.number == k) 1 0) fewer (new.x ∷ []) in
-      omega (arith, last, all)
-    where
-      held_in_if : Bool → ℕ
-      held_in_if b = 0 + cond b 1 0
+  one_more = grind (arith, eq-eqb, sum_by-append)
 
   pub same_else : (n : ℕ) → n ≢ k → held_in n held ≡ held_in n fewer
-  same_else n apart =
-      let last : held_in n (new.x ∷ []) ≡ 0 = ap (λ b. held_in_if b) (ap (λ m. m == n) new.number ∙ never n apart) in
-      let all : held_in n held ≡ held_in n fewer + held_in n (new.x ∷ []) = ap (held_in n) new.all ∙ sum_by-append (λ (h : Held). cond (h.number == n) 1 0) fewer (new.x ∷ []) in
-      omega (arith, last, all)
-    where
-      held_in_if : Bool → ℕ
-      held_in_if b = 0 + cond b 1 0
-
-      never : (n : ℕ) → n ≢ k → (k == n) ≡ false
-      never n apart = not_same k n (λ e. apart (sym e))
+  same_else = grind (arith, sum_by-append, not_same)
 
 module _ (h : Hands) (workers : ℕ) (hs : List Holder) (ts : List Thing) (naps : List Nap) (boxes : List Box) (t k : ℕ) (it it' : Holder) (r : Thing) (e : Option Outcome) where
   pub record TakesThing : Type 0 where
@@ -148,9 +123,7 @@ module _ (h : Hands) (workers : ℕ) (hs : List Holder) (ts : List Thing) (naps 
     where
       by_shut : (shut held : Bool) → r.observed ≡ held → held_in k it.held ≡ held_in k it'.held + 1 → held_in k it.held ≤ holdings k hs → holdings k (slice_set hs t it') + held_in k it.held ≡ holdings k hs + held_in k it'.held
           → IsHeldBy shut held (holdings k hs) (under_way h (Message.Cancel (subject.Request k)) boxes) → HeldOne
-      by_shut true held is more least after fact = absurd (omega (arith, more, least, fact))
-      by_shut false false is more least after fact = absurd (omega (arith, more, least, fact))
-      by_shut false true is more least after fact = record { left = omega (arith, more, least, fact); after = omega (arith, more, least, after, fact); some = omega (arith, more, least); observed = is }
+      by_shut = grind arith
 
   pub thing_taken : TakesThing → IsHolding h workers hs ts naps boxes → IsHolding h workers (slice_set hs t it') (slice_set ts k (record r { observed = false; ended = e })) naps boxes
   thing_taken by old =
@@ -215,37 +188,23 @@ module _ (h : Hands) (workers : ℕ) (hs : List Holder) (ts : List Thing) (naps 
       same_request n m e = cc
 
       waits_same : TakesThing → (n : ℕ) → it'.awaits ≡ None → (not it'.over && is_awaited_by (subject.Timer n) it'.awaits) ≡ (not it.over && is_awaited_by (subject.Timer n) it.awaits)
-      waits_same by n nothing =
-          let now : is_awaited_by (subject.Timer n) it'.awaits ≡ false = ap (is_awaited_by (subject.Timer n)) nothing in
-          let was : is_awaited_by (subject.Timer n) it.awaits ≡ false = ⊎_elim (λ none. ap (is_awaited_by (subject.Timer n)) none) (λ its. ap (is_awaited_by (subject.Timer n)) its) by.awaited in
-          and_none (not it'.over) (is_awaited_by (subject.Timer n) it'.awaits) now ∙ sym (and_none (not it.over) (is_awaited_by (subject.Timer n) it.awaits) was)
+      waits_same = grind arith
 
       unheld : (shut held : Bool) → held ≡ true → holdings k (slice_set hs t it') ≡ 0 → 0 < holdings k hs → IsHeldBy shut held (holdings k hs) (under_way h (Message.Cancel (subject.Request k)) boxes) → IsHeldBy shut false (holdings k (slice_set hs t it')) (under_way h (Message.Cancel (subject.Request k)) boxes)
-      unheld true held is none some fact = none
-      unheld false false is none some fact = absurd (false≢true is)
-      unheld false true is none some fact = omega (arith, none, some, fact)
+      unheld = grind arith
 
       answered : TakesThing → (o : OneShotState (Result RequestOutput Error)) → HasAnswer o r → HasAnswer o (record r { observed = false; ended = e })
-      answered by Open a = a
-      answered by (Sent (Ok told)) a = (a.0, by.ended (ap is_some a.1) ∙ a.1)
-      answered by (Sent (Err error)) a = (a.0, refl)
-      answered by Closed a = a
+      answered = grind arith
 
       by_sent : TakesThing → (b : Bool) → is_unsent r.forwarding ≡ b → 0 < h.wakes r.worker t → r.sent ≡ false → ⊥
       by_sent by true is some unsent = let none = by.unowed is in omega (arith, none, some)
       by_sent by false is some unsent = false≢true (sym unsent ∙ by.sent is)
 
       unpaid_by : TakesThing → (i : ℕ) → 0 < h.wakes i t → Owes i t (Some (subject.Request k)) ts naps boxes → ⊥
-      unpaid_by by i some owes =
-          let same : owes.0 ≡ r = same_thing owes.0 r (sym owes.1 ∙ by.thing) in
-          let it_owes : ThingOwes i t r boxes = subst (λ x. ThingOwes i t x boxes) same owes.2 in
-          by_sent by (is_unsent r.forwarding) refl (subst (λ j. 0 < h.wakes j t) (sym it_owes.worker) some) it_owes.unsent
+      unpaid_by = grind arith
 
       unpaid : TakesThing → (i : ℕ) → 0 < h.wakes i t → IsOwed i t hs ts naps boxes → ⊥
-      unpaid by i some o =
-          let same : it ≡ o.it = same_thing it o.it (sym by.there ∙ o.there) in
-          let owes : Owes i t it.awaits ts naps boxes = subst (λ (x : Holder). Owes i t x.awaits ts naps boxes) (sym same) o.owes in
-          ⊎_elim (λ none. subst (λ a. Owes i t a ts naps boxes) none owes) (λ its. unpaid_by by i some (subst (λ a. Owes i t a ts naps boxes) its owes)) by.awaited
+      unpaid = grind arith
 
       owes_on : TakesThing → (i u : ℕ) → (a : Option Subject) → Owes i u a ts naps boxes → Owes i u a (slice_set ts k (record r { observed = false; ended = e })) naps boxes
       owes_on by i u None owes = owes

@@ -78,17 +78,7 @@ module _ {B : Type 0} where
       }
 
   pub touches_none : (s : Shared B) → Touches s s
-  touches_none s =
-      record {
-        kept = refl;
-        records = λ n x at. (x, at, spared_same x);
-        records_only = λ n x at. (x, at, spared_same x);
-        sleepers = λ n x at. (x, at, sleeper_spared x);
-        sleepers_only = λ n x at. (x, at, sleeper_spared x);
-        many = refl;
-        lines = lines_same s.requests.items s.requests.items refl;
-        room = λ h. h;
-      }
+  touches_none = grind arith
 
   module _ (s s' : Shared B) (to : Touches s s') where
     pub keeps_mine : (i : ℕ) → KeepsMine i s.requests.items s'.requests.items s.sleepers.items s'.sleepers.items

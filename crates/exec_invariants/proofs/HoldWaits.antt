@@ -3,7 +3,7 @@ use Rattle.std.proofs.{Common.{◌≡◌, ◌≢◌, ◌⊎◌, ⊎_elim, ℕ, z
 use Rattle.exec_base.specs.declared.one_shot.OneShotState.TheVariants.{Open}
 use Rattle.exec_machine.specs.{declared.state.Forwarding.Forwarding, Tests.is_unsent}
 use Rattle.exec_words.specs.declared.inbox.Message.{Message}
-use Rattle.exec_parts.{specs.{declared.parts.{held.Held.Held, mail.Subject.Subject}, Records.numbers_held}, proofs.Facts.{and_none, by_number, same_thing, set_elsewhere, set_there}}
+use Rattle.exec_parts.{specs.{declared.parts.{held.Held.Held, mail.Subject.Subject}, Records.numbers_held}, proofs.Facts.{by_number, same_thing, set_elsewhere, set_there}}
 use Rattle.exec_invariants.{specs.Holding.{Awaits, AwaitsThing, Box, Hands, HasAnswer, Holder, HoldsRequest, IsAbout, IsForwarded, IsHeldBy, IsHolding, Mail, MayHave, Nap, Owes, Thing, ThingOwes, holdings, is_awaited_by, mail_in, under_way}, proofs.{HoldRedo.holding_redone, HoldSteps.{awaits_on, held_in, held_there, hold_twice, holdings_on, homes_on, waiters_on}}}
 use Rattle.exec_parts.specs.declared.parts.mail.Subject.TheVariants as subject
 
@@ -59,9 +59,7 @@ module _ (h h' : Hands) (workers : ℕ) (hs : List Holder) (ts : List Thing) (na
       }
     where
       by_shut : (shut held : Bool) → 2 ≤ holdings k hs → IsHeldBy shut held (holdings k hs) (under_way h (Message.Cancel (subject.Request k)) boxes) → ⊥
-      by_shut true held some fact = omega (arith, some, fact)
-      by_shut false false some fact = omega (arith, some, fact)
-      by_shut false true some fact = omega (arith, some, fact)
+      by_shut = grind arith
 
   pub thing_awaited : WaitsFor → IsHolding h workers hs ts naps boxes → IsHolding h' workers (slice_set hs t it') (slice_set ts k (record r { waiter = Some t; forwarding = f })) naps boxes
   thing_awaited by old =
@@ -174,27 +172,14 @@ module _ (h h' : Hands) (workers : ℕ) (hs : List Holder) (ts : List Thing) (na
       never_sent true is by old = absurd (false≢true (sym (ap is_unsent (old.sent k r by.thing is)) ∙ by.unsent))
 
       same_holdings : (n : ℕ) → it'.held ≡ it.held → slice_get hs t ≡ Some it → holdings n (slice_set hs t it') ≡ holdings n hs
-      same_holdings n same there =
-          let after = holdings_on hs t it it' there n in
-          let both : held_in n it'.held ≡ held_in n it.held = ap (held_in n) same in
-          omega (arith, after, both)
+      same_holdings = grind (arith, holdings_on, held_in)
 
       waits_same : WaitsFor → (n : ℕ) → it'.awaits ≡ Some (subject.Request k) → (not it'.over && is_awaited_by (subject.Timer n) it'.awaits) ≡ (not it.over && is_awaited_by (subject.Timer n) it.awaits)
-      waits_same by n awaits =
-          let now : is_awaited_by (subject.Timer n) it'.awaits ≡ false = ap (is_awaited_by (subject.Timer n)) awaits in
-          let was : is_awaited_by (subject.Timer n) it.awaits ≡ false = ⊎_elim (λ none. ap (is_awaited_by (subject.Timer n)) none) (λ its. ap (is_awaited_by (subject.Timer n)) its) by.awaited in
-          and_none (not it'.over) (is_awaited_by (subject.Timer n) it'.awaits) now ∙ sym (and_none (not it.over) (is_awaited_by (subject.Timer n) it.awaits) was)
+      waits_same = grind arith
 
       -- another task isn't owed a wake by it
       owes_on : WaitsFor → (i u : ℕ) → (a : Option Subject) → (r.waiter ≡ Some u → ⊥) → Owes i u a ts naps boxes → Owes i u a (slice_set ts k (record r { waiter = Some t; forwarding = f })) naps boxes
-      owes_on by i u None never owes = owes
-      owes_on by i u (Some (subject.Timer n)) never owes = owes
-      owes_on by i u (Some (subject.Request n)) never owes =
-          by_number n k
-          (λ apart. (owes.0, set_elsewhere ts k n (record r { waiter = Some t; forwarding = f }) apart ∙ owes.1, owes.2))
-          (λ same.
-          let is : owes.0 ≡ r = same_thing owes.0 r (sym owes.1 ∙ ap (slice_get ts) same ∙ by.thing) in
-          absurd (never (ap (λ (y : Thing). y.waiter) (sym is) ∙ owes.2.waiter)))
+      owes_on = grind (arith, by_number, set_elsewhere, same_thing)
 
       owes_its : WaitsFor → (i u : ℕ) → u ≡ t → Owes i u (Some (subject.Request k)) ts naps boxes → Owes i u (Some (subject.Request k)) (slice_set ts k (record r { waiter = Some t; forwarding = f })) naps boxes
       owes_its by i u me owes =

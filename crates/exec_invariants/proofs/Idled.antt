@@ -1,12 +1,12 @@
 -- Steps that are a plain turn to the machine and change the idle set alone: the worker goes to a place that may hold other
 -- counts, and may have published its bit or not.
-use Rattle.std.proofs.Common.{[], ◌≡◌, ℕ, ◌≤◌, ◌+◌, Bool, true, false, Contains, List, Option, Some, None, refl, sym, ap, subst, ◌∙◌, slice_get, option_to_list, if◌then◌else◌}
+use Rattle.std.proofs.Common.{[], ◌≡◌, ℕ, ◌≤◌, ◌+◌, Bool, true, false, Contains, List, Option, Some, None, refl, sym, ap, subst, ◌∙◌, slice_get, option_to_list, if◌then◌else◌, arith}
 use Rattle.exec_words.specs.Idle.{Idle}
 use Rattle.exec_task.specs.declared.{body.Said.Said, runnable.Runnable.Runnable}
 use Rattle.exec_machine.specs.{declared.{event.Event.{Event, TheVariants.Turn}, state.Next.Next}, Choice.Choice.Plain, Progress.Plan}
 use Rattle.exec_moves.specs.{declared.{place.{InPoll.InPoll, Place.Place}}, Move.move_at, Seen.{next_at, polls_at, serves_at}, Thing.set_idle}
 use Rattle.exec_parts.{specs.{Phased.{IsPhased, closes_at, closing_in, stage_of}, declared.parts.{record.Record.Record, sleeping.SleeperRecord.SleeperRecord, seat.Seat.Seat as Chair, shared.Shared.Shared, task_slot.TaskSlot.TaskSlot, worker.Worker.Worker}, Roles.is_pool, Calls.IsTold, Spots.Spot, View.{common_of, desk_of, driver_of, own_of, things_with, Views}}, proofs.Leaves.with_read}
-use Rattle.exec_invariants.{specs.{Rooted.HearsNext, Flown.HasFlown, Due.IsDue, HoldPlaces.{cancels_at, sends_cancel_at, spare_at}, Kinds.{Kind, kind_of, lowered}, Places.{calls_back_at, drops_at, has_count_at, in_poll_of, is_pooled_at, is_published_at, or_polls, searches_at, step_of_poll}, Sound.{Aims, has_wakes_at, HasBatch, HasGuest, HasLetters, HasQueue, HasRunnable, IsHeld, IsInHand, IsLeft, IsLoot, IsSearching, IsSeated, IsTied, LetsGoAt, root_in_hand, Serves, SoundAt, Stops}, Names.tellers, Works.{Steps, Suits}}, proofs.{Aside.{seats_same, spares_turn, told_on}, Counting.{Counts, SameHands, Stance, stance_at, stance_here, whole_counted}, Turning.{Arrives, GoesOn, IsTurn, OfKind, pool_low, turned}}}
+use Rattle.exec_invariants.{specs.{Rooted.HearsNext, Flown.HasFlown, Due.IsDue, HoldPlaces.{cancels_at, sends_cancel_at, spare_at}, Kinds.{Kind, kind_of, lowered}, Places.{calls_back_at, has_count_at, in_poll_of, is_pooled_at, is_published_at, or_polls, searches_at, step_of_poll}, Sound.{Aims, has_wakes_at, HasBatch, HasGuest, HasLetters, HasQueue, HasRunnable, IsHeld, IsInHand, IsLeft, IsLoot, IsSearching, IsSeated, IsTied, LetsGoAt, root_in_hand, Serves, SoundAt, Stops}, Names.tellers, Works.{Steps, Suits}}, proofs.{Aside.{seats_same, spares_turn}, Counting.{Counts, SameHands, Stance, stance_at, stance_here, whole_counted}, Turning.{Arrives, GoesOn, IsTurn, OfKind, pool_low, turned}}}
 
 -- what a place says but of search counts and the idle set; and where it is in a poll only within one
 abbrev pub step_if : Option ℕ → InPoll → InPoll
@@ -126,20 +126,7 @@ module _ {B : Type 0} where
   pub comes : (q q' : Place) (z : Stance) (w : Worker) (s : Shared B) → SoundAt q w s → Settles q q' z w s → Comes q q' z w s
   comes q q' z w s sound to =
       let it = of_calm q q' w s sound to.same in
-      record {
-        same = ap (λ (k : Kind). record k { closes = false; closing = None; calls = None; spare = 0; bare = false }) to.same;
-        searches = to.searches;
-        counts = to.counts;
-        published = to.published;
-        queue = to.queue;
-        aims = to.aims;
-        batch = to.batch;
-        quiet = λ h. sound.quiet (to.quiet h);
-        left = it.left;
-        told = it.told;
-        lets_go = it.lets_go;
-        phased = it.phased;
-      }
+      grind arith
 
   pub comes_either : (q : Place) (b : Bool) (x y : Place) (z : Stance) (w : Worker) (s : Shared B) → Comes q x z w s → Comes q y z w s → Comes q (if b then x else y) z w s
   comes_either q true x y z w s h k = h
@@ -162,45 +149,11 @@ module _ {B : Type 0} where
     tied : IsTied (in_poll_of w.root k.polls k.step) w.index w.root s.tasks.items
 
   of_plain : (q q' : Place) (w : Worker) (s : Shared B) → SoundAt q w s → plain_of q' ≡ lowered w.role (is_pooled_at q') (plain_of q) → OfPlain (plain_of q') w s
-  of_plain q q' w s sound same =
-      let here : OfPlain (lowered w.role (is_pooled_at q') (plain_of q)) w s =
-      record {
-        runnable = sound.runnable;
-        seated = sound.seated;
-        hand = sound.hand;
-        loot = sound.loot;
-        genuine = sound.genuine;
-        pooled = pool_low (is_pooled_at q') (is_pooled_at q) (is_pool w.role) sound.pooled;
-        serves = sound.serves;
-        guest = guest_calm (polls_at q) (step_of_poll q) w.index w.root s.tasks.items sound.guest;
-        due = sound.due;
-        flown = sound.flown;
-        stops = stops_calm (polls_at q) (step_of_poll q) w.index s.tasks.items s.requests.items s.sleepers.items sound.stops;
-        hears = sound.hears;
-        tied = rw (step_again w.root (polls_at q) (step_of_poll q)) sound.tied;
-      } in
-      subst (λ k. OfPlain k w s) (sym same) here
+  of_plain = grind (arith, pool_low, guest_calm, stops_calm, step_again)
 
   -- with letters as before
   pub fares : (q q' : Place) (z : Stance) (w : Worker) (s : Shared B) → SoundAt q w s → Comes q q' z w s → Fares q q' z w s
-  fares q q' z w s sound to =
-      let here : HasLetters (hush_of q').sends_cancel (hush_of q').cancels w.index s.config.workers w.letters s.requests.items s.sleepers.items =
-      subst (λ (k : Kind). HasLetters k.sends_cancel k.cancels w.index s.config.workers w.letters s.requests.items s.sleepers.items) (sym to.same) sound.letters in
-      record {
-        same = ap (λ (k : Kind). record k { owes = λ n. []; sends_cancel = false; cancels = false; serves = false }) to.same;
-        searches = to.searches;
-        counts = to.counts;
-        published = to.published;
-        queue = to.queue;
-        aims = to.aims;
-        batch = to.batch;
-        quiet = to.quiet;
-        left = to.left;
-        told = to.told;
-        letters = here;
-        lets_go = to.lets_go;
-        phased = to.phased;
-      }
+  fares = grind arith
 
   pub settled : (q q' : Place) (z : Stance) (w v : Worker) (s t : Shared B) → SoundAt q w s → t.seats ≡ s.seats → Holds w v → v.searching ≡ z.searching → (is_pool w.role ≡ false → z.searching ≡ false) → Fares q q' z w s → Arrives q' w v s t
   settled q q' z w v s t sound seats holds searching calm to =
@@ -248,15 +201,7 @@ module _ {B L : Type 0} (left : B → L) (spot : L → Option Said → Spot) whe
         unserved = ap (λ k. k.serves) to.same ∙ unserved;
         owes = ap (λ k. k.owes w.workers) to.same;
       } in
-      let same : SameHands w w' = record {
-        hand = holds.hand;
-        loot = holds.loot;
-        polls = rw sound.here (ap (λ k. k.polls) to.same);
-        claims = rw sound.here (ap (λ k. k.claims) to.same);
-        index = ap (λ v. v.index) on.same;
-        drops = ap (λ k. k.drops) to.same ∙ sym (ap drops_at sound.here);
-        told = told_on w w' s.clock on;
-      } in
+      let same : SameHands w w' = grind arith in
       turned left spot q w w' s s' e sound event on refl refl (λ vs. refl) is (settled q q' z w w' s s' sound refl holds searching calm (fares q q' z w s sound to))
       (record {
         spares = λ j other. spares_turn w.index j s s' other refl (seats_same w.index s.seats.items s.seats.items refl);

@@ -31,9 +31,7 @@ not_yet m t h = grind (arith, nat_tests)
 -- DEADLINES
 
 due_by : (i moment : ℕ) (r : Request) (b : Bool) (t : Option ℕ) → (r.worker == i) ≡ b → r.timer ≡ t → (b ≡ true → (m : ℕ) → t ≡ Some m → nat_le m moment ≡ false) → is_due i moment r ≡ false
-due_by i moment r false t is timer h = rw is refl
-due_by i moment r true None is timer h = rw (is, timer) refl
-due_by i moment r true (Some m) is timer h = rw (is, timer) (h refl m refl)
+due_by = grind arith
 
 module _ {closing : Bool} (x : Option InService) (i : ℕ) (m : Moments) (c : Configuration) (n : Names) (d : Driving Reply Reply) (zs : Slab (Sleeping Reply)) (rs : List Record) (ss : List SleeperRecord)
     (due : IsDue x closing i m c n d zs rs ss) (named : IsNamed i n d zs rs ss) (some : 0 < c.tick) (begun : m.start ≤ wheel_moment x m) where
@@ -47,10 +45,7 @@ module _ {closing : Bool} (x : Option InService) (i : ℕ) (m : Moments) (c : Co
     pub moment : t ≡ m.start + tick * c.tick
 
   timer_at : (o : Option ℕ) (t : ℕ) → option_map (λ j. d.wheel.start + j * d.wheel.tick) o ≡ Some t → (j : ℕ) × (o ≡ Some j) × (t ≡ m.start + j * c.tick)
-  timer_at None t h = absurd (cc)
-  timer_at (Some j) t h =
-      let same : d.wheel.start + j * d.wheel.tick ≡ t = cc in
-      (j, refl, rw (← due.wheel.start, ← due.wheel.tick) (sym same))
+  timer_at = grind arith
 
   pub stands_timed : (k : ℕ) (r : Record) (t : ℕ) → slice_get rs k ≡ Some r → r.shown.worker ≡ i → r.shown.timer ≡ Some t → StandsTimed k r t
   stands_timed k r t there mine timer =
@@ -80,9 +75,7 @@ module _ {closing : Bool} (x : Option InService) (i : ℕ) (m : Moments) (c : Co
       omega (arith, less, it.moment, begun)
 
   undue : d.lists.due ≡ [] → (k : ℕ) (r : Record) → slice_get rs k ≡ Some r → is_due i (wheel_moment x m) r.shown ≡ false
-  undue none k r there =
-      due_by i (wheel_moment x m) r.shown (r.shown.worker == i) r.shown.timer refl refl
-      (λ mine t timer. not_yet (wheel_moment x m) t (ahead k r t none there (same_number r.shown.worker i mine) timer))
+  undue = grind (arith, due_by, not_yet, ahead, same_number)
 
   pub none_due : (me : Own) (s : Common) → s.requests ≡ map (λ r. r.shown) rs → me.sampled ≡ wheel_moment x m → d.lists.due ≡ [] → first_due c i me s ≡ None
   none_due me s shown sampled none =

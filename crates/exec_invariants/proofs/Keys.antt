@@ -1,10 +1,9 @@
 -- The opens and their gates show the same while the names of all requests stay, and no durable one ends.
-use Rattle.std.proofs.{Common.{◌≡◌, ℕ, suc, ◌==◌, ◌&&◌, ◌++◌, Bool, true, false, List, [], ◌∷◌, drop, map, Option, Some, None, option_map, option_to_list, refl, sym, ap, ◌∙◌, slice_get, if◌then◌else◌}, Math.Seq.map-set_same, lemmas.{Bool.false≢true, Option.{get_or_from_slice_get, slice_get-map}}}
+use Rattle.std.proofs.{Common.{◌≡◌, ℕ, suc, ◌==◌, ◌&&◌, ◌++◌, Bool, false, List, [], ◌∷◌, map, Option, Some, None, option_to_list, refl, sym, ap, ◌∙◌, slice_get, if◌then◌else◌}, Math.Seq.map-set_same, lemmas.{Option.{get_or_from_slice_get, slice_get-map}}}
+use Rattle.std.proofs.Common.{arith}
 use Rattle.exec_base.specs.declared.slab.Id.{Id}
-use Rattle.exec_outcomes.specs.Accounts.{is_durable}
 use Rattle.exec_driver.specs.{Opens.OpenState, declared.opens.WaiterKey.WaiterKey}
-use Rattle.exec_machine.specs.{declared.state.RequestPhase.{RequestPhase, TheVariants.{Flying, Resolved}}, Tests.{is_resolved, is_staged}}
-use Rattle.exec_parts.specs.{declared.parts.record.Record.Record, Serving.{changed_in, changed_at, flies, flown_in}, View.{account_seen, gate_seen, gives_up, has_given_up, line_of, number_of_key, open_seen}}
+use Rattle.exec_parts.specs.{declared.parts.record.Record.Record, Serving.{changed_in, changed_at, flies, flown_in}, View.{gate_seen, gives_up, has_given_up, line_of, number_of_key, open_seen}}
 
 -- whose a request is, its name in its driver, and whether it has given a permit up
 pub record Named : Type 0 where
@@ -33,11 +32,7 @@ over_named (Some r) = r.over
 
 given_by_names : (rs : List Record) (n : ℕ) → has_given_up (slice_get rs n) ≡ over_named (slice_get (map name_in rs) n)
 unfolding over_named
-given_by_names rs n = rw (slice_get-map name_in rs n) (by_record (slice_get rs n))
-  where
-    by_record : (o : Option Record) → has_given_up o ≡ over_named (option_map name_in o)
-    by_record None = refl
-    by_record (Some r) = refl
+given_by_names = grind (arith, slice_get-map, over_named)
 
 module _ (rs rs' : List Record) (same : map name_in rs' ≡ map name_in rs) where
   same_number : (key : WaiterKey) → number_of_key 0 rs' key ≡ number_of_key 0 rs key
@@ -58,9 +53,7 @@ module _ (rs rs' : List Record) (same : map name_in rs' ≡ map name_in rs) wher
   same_line (n ∷ later) = ap (λ b. if b then later else n ∷ later) (same_given n)
 
   pub same_open : (o : OpenState) → open_seen rs' o ≡ open_seen rs o
-  same_open o =
-      ap (λ (line : List ℕ). record { account = account_seen o.account; holder = slice_get line 0; waiting = drop 1 line })
-      (ap (λ ns. line_of rs' ns) (same_gate o) ∙ same_line (gate_seen rs o))
+  same_open = grind (arith, same_gate, same_line)
 
   pub same_opens : (opens : List OpenState) → map (open_seen rs') opens ≡ map (open_seen rs) opens
   same_opens [] = refl
@@ -82,17 +75,8 @@ names_kept rs k f keeps =
 pub names_changed : (rs : List Record) (k : ℕ) (r : Record) (f : Record → Record) → slice_get rs k ≡ Some r → name_in (f r) ≡ name_in r → map name_in (changed_at rs k f) ≡ map name_in rs
 names_changed rs k r f there same = ap (λ o. map name_in (changed_in rs k f o)) there ∙ map-set_same name_in rs k (f r) r (same ∙ ap name_in (sym (get_or_from_slice_get rs k r r there)))
 
-open_staged : (p : RequestPhase) → is_staged p ≡ true → is_resolved p ≡ false
-open_staged (Resolved outcome) staged = absurd (false≢true staged)
-open_staged _ staged = refl
-
 flies_named : (r : Record) → name_in (flies r) ≡ name_in r
-flies_named r = by (r.shown.worker == r.shown.worker) (is_staged r.shown.phase) refl
-  where
-    by : (a b : Bool) → is_staged r.shown.phase ≡ b → name_in (record r { shown = if a && b then (record r.shown { phase = Flying }) else r.shown }) ≡ name_in r
-    by true true staged = ap (λ o. record (name_in r) { over = o && is_durable r.shown.operation.kind }) (sym (open_staged r.shown.phase staged))
-    by true false staged = refl
-    by false b staged = refl
+flies_named = grind arith
 
 pub flown_names : (ks : List ℕ) (rs : List Record) → map name_in (flown_in ks rs) ≡ map name_in rs
 flown_names [] rs = refl

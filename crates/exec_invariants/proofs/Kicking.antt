@@ -1,6 +1,6 @@
 -- What the steps by which search counts go from one party to another are to the machine: the leave of a search, a kick, a
 -- claim.
-use Rattle.std.proofs.Common.{◌≡◌, ℕ, ◌+◌, ◌-◌, ◌<◌, ◌==◌, length, Bool, true, false, IsSome, Option, None, Some, refl, sym, ap, subst, ◌∙◌, arith, if◌then◌else◌}
+use Rattle.std.proofs.Common.{◌≡◌, ℕ, ◌+◌, ◌-◌, ◌<◌, ◌==◌, length, Bool, true, false, IsSome, Option, Some, refl, sym, ap, subst, ◌∙◌, arith, if◌then◌else◌}
 use Rattle.exec_words.specs.{Idle.{Idle, lowest_of}, declared.idle.WorkerSet.WorkerSet}
 use Rattle.exec_task.specs.declared.body.Said.{Said}
 use Rattle.exec_machine.specs.{declared.event.Event.{Event, TheVariants.Turn}, Progress.Plan}
@@ -28,14 +28,10 @@ module _ {B : Type 0} where
 -- WHAT A CLAIM FINDS
 
 pub lowest_claimed : (same : Bool) (found : WorkerSet) (o : Option ℕ) (k : ℕ) → claimed_if same found o ≡ Claimed.Worker k → o ≡ Some k
-lowest_claimed same found None k is = absurd (cc)
-lowest_claimed true found (Some l) k is = cc
-lowest_claimed false found (Some l) k is = absurd (cc)
+lowest_claimed = grind arith
 
 pub again_some : (same : Bool) (found : WorkerSet) (o : Option ℕ) (set : WorkerSet) → claimed_if same found o ≡ Claimed.Again set → (set ≡ found) × IsSome o
-again_some same found None set is = absurd (cc)
-again_some true found (Some l) set is = absurd (cc)
-again_some false found (Some l) set is = (cc, refl)
+again_some = grind arith
 
 module _ {B L : Type 0} (left : B → L) (spot : L → Option Said → Spot) (w w' : Worker) (s : Shared B) (e : Event) where
   pub search_left : (b : AfterLeave) (x : Idle) → SoundAt (Place.LeaveSearch b) w s → 0 < s.idle.count → e ≡ Turn → w' ≡ record w { place = after_return_of (s.idle.count == 1) b w; searching = false } → x ≡ record s.idle { count = s.idle.count - 1 }

@@ -1,6 +1,6 @@
 -- What a worker's records say that its driver has forgotten stays so, as requests go on and end.
-use Rattle.std.proofs.{Common.{◌≡◌, ℕ, ◌+◌, ◌<◌, ◌≤◌, ◌^◌, ◌==◌, length, arith, Bool, true, false, List, Some, IsSome, refl, sym, ap, subst, ◌∙◌, slice_get, ◌⊎◌, inl, inr}, lemmas.Bool.{eq-eqb, false≢true}}
-use Rattle.exec_base.{specs.{Slab.{Slab, IsPast, next_generation, value_at, written}, declared.slab.Id.Id}, proofs.Slots.{past-write, was_live}}
+use Rattle.std.proofs.{Common.{◌≡◌, ℕ, ◌+◌, ◌<◌, ◌≤◌, ◌^◌, length, arith, Bool, true, false, List, Some, IsSome, refl, sym, ap, subst, ◌∙◌, slice_get, ◌⊎◌, inl, inr}, lemmas.Bool.{eq-eqb}}
+use Rattle.exec_base.{specs.{Slab.{Slab, IsPast, value_at, written}, declared.slab.Id.Id}, proofs.Slots.{past-write}}
 use Rattle.exec_request.specs.Requests.{cursor_of}
 use Rattle.exec_waiters.{specs.{States.waiter_at, declared.waiter.{Entry.{Entry, TheVariants.Pending}, Waiter.Waiter}}, proofs.Changes.entry_of}
 use Rattle.exec_driver.{specs.Opens.OpenState, proofs.Counting.{OneChanged, one_written}}
@@ -31,10 +31,7 @@ pub known_on : (i : ℕ) (numbers numbers' : List ℕ) (requests requests' : Sla
     → IsKnown i numbers requests opens rs → IsKnown i numbers' requests' opens' rs'
 known_on i numbers numbers' requests requests' opens opens' rs rs' past back many was hints asks known =
     record {
-      past = λ k r' there mine.
-          let old = was k r' there mine in
-          let it = known.past k old.0 old.1 old.2 in
-          subst (λ y. (y.0.generation < 2 ^ 64) × IsPast requests' y.0) (sym old.3) (it.0, past old.0.id.0 it.0 it.1);
+      past = grind arith;
       counted = λ id past. subst (λ n. id.generation < n) (sym many) (known.counted id (back id past));
       few = subst (λ n. n ≤ 2 ^ 32) (sym many) known.few;
       hints = λ id it' r' live there may unrefused none. by id it' r' may unrefused none (asks id it' r' live there);
@@ -42,10 +39,7 @@ known_on i numbers numbers' requests requests' opens opens' rs rs' past back man
   where
     lost : (id : Id) (it' : Waiter Reply Reply) (r' : Record) (old : WasThere numbers requests rs id it' r') → may_ask_hint r'.shown.operation.kind ≡ true → r'.shown.operation.unrefused ≡ true
         → ((cursor_of old.it.request).hinted ≡ false) ⊎ (r'.shown.operation.unrefused ≡ false) → has_hint_at opens' r'.shown.operation.target ≡ false
-    lost id it' r' old may unrefused (inl none) =
-        subst (λ n. has_hint_at opens' n ≡ false) (sym old.asks.target)
-        (hints old.r.shown.operation.target (known.hints id old.it old.r old.live old.there (ap may_ask_hint (sym old.asks.kind) ∙ may) (old.asks.unrefused unrefused) none))
-    lost id it' r' old may unrefused (inr refused) = absurd (false≢true (sym refused ∙ unrefused))
+    lost = grind arith
 
     by : (id : Id) (it' : Waiter Reply Reply) (r' : Record) → may_ask_hint r'.shown.operation.kind ≡ true → r'.shown.operation.unrefused ≡ true → (cursor_of it'.request).hinted ≡ false
         → WasThere numbers requests rs id it' r' ⊎ (has_hint_at opens' r'.shown.operation.target ≡ false) → has_hint_at opens' r'.shown.operation.target ≡ false
@@ -54,12 +48,7 @@ known_on i numbers numbers' requests requests' opens opens' rs rs' past back man
 
 -- a name that is given has room for one more generation
 pub low_there : (i : ℕ) (numbers : List ℕ) (requests : Slab (Entry Reply Reply)) (opens : List OpenState) (rs : List Record) → IsKnown i numbers requests opens rs → (id : Id) → IsSome (value_at requests id) → id.generation + 1 < 2 ^ 64
-low_there i numbers requests opens rs known id some =
-    let is = was_live requests id some in
-    let past : IsPast requests id = subst (λ x. id.generation < next_generation x) (sym is.1) (omega arith) in
-    let below = known.counted id past in
-    let few = known.few in
-    omega (arith, below, few)
+low_there = grind arith
 
 -- ONE REQUEST GOES ON
 
@@ -77,9 +66,7 @@ keeps_if f keeps false y = record { id = refl; worker = refl; kind = refl; targe
 
 module _ (i : ℕ) (numbers : List ℕ) (requests : Slab (Entry Reply Reply)) (opens opens' : List OpenState) (rs : List Record) (k : ℕ) (f : Record → Record) (keeps : (y : Record) → KeepsAsk y (f y)) (hints : (file : ℕ) → has_hint_at opens file ≡ false → has_hint_at opens' file ≡ false) where
   was_there : (j : ℕ) (r' : Record) → slice_get (changed_at rs k f) j ≡ Some r' → (r : Record) × (slice_get rs j ≡ Some r) × KeepsAsk r r'
-  was_there j r' there =
-      let old = was_marked f rs k j r' there in
-      (old.0, old.1, subst (KeepsAsk old.0) (sym old.2) (keeps_if f keeps (k == j) old.0))
+  was_there = grind (arith, was_marked, keeps_if)
 
   mine_there : (j : ℕ) (r' : Record) → slice_get (changed_at rs k f) j ≡ Some r' → r'.shown.worker ≡ i → (r : Record) × (slice_get rs j ≡ Some r) × (r.shown.worker ≡ i) × (r'.id ≡ r.id)
   mine_there j r' there mine = let old = was_there j r' there in (old.0, old.1, sym old.2.worker ∙ mine, old.2.id)
@@ -110,22 +97,7 @@ module _ (i : ℕ) (numbers : List ℕ) (requests : Slab (Entry Reply Reply)) (o
       let at_k : slice_get (changed_at rs k f) k ≡ Some r' = subst (λ j. slice_get (changed_at rs k f) j ≡ Some r') (ap (number_in numbers) same ∙ sym number) found in
       let here : f r ≡ r' = cc (at_k, now_there rs k f r there) in
       let was : r ≡ old.0 = cc (there, old.1, number, ap (number_in numbers) same) in
-      elim asks [
-        | inl as_before ↦
-            inl (record {
-              it = it;
-              r = old.0;
-              live = ap (waiter_at requests) same ∙ live;
-              there = old.1;
-              asks = record {
-                driver = λ h. subst (λ (y : Record). ((cursor_of it.request).hinted ≡ false) ⊎ (y.shown.operation.unrefused ≡ false)) here (as_before (ap (λ (y : Waiter Reply Reply). (cursor_of y.request).hinted) (sym is) ∙ h));
-                kind = old.2.kind;
-                target = old.2.target;
-                unrefused = old.2.unrefused;
-              };
-            })
-        | inr gone ↦ inr (subst (λ (y : Record). has_hint_at opens' y.shown.operation.target ≡ false) here gone)
-      ]))
+      grind arith))
       known
     where
       some : IsSome (value_at requests id)

@@ -1,13 +1,13 @@
 -- A deadline that has passed, or is beyond the wheel, ends its request.
-use Rattle.std.{proofs.{Common.{◌≡◌, ◌≢◌, ℕ, ◌+◌, ◌*◌, ◌^◌, ◌<◌, ◌≤◌, ◌==◌, ◌&&◌, Bool, true, false, not, [], ◌∷◌, ◌++◌, map, filter, is_some, Option, Some, None, IsSome, IfSome, refl, sym, ap, subst, ◌∙◌, arith, slice_get, slice_set, drop, Result, Ok, Err}, lemmas.Bool.{false≢true, eq-eqb}}, specs.Option.option_map}
+use Rattle.std.{proofs.{Common.{◌≡◌, ◌≢◌, ℕ, ◌+◌, ◌*◌, ◌^◌, ◌<◌, ◌≤◌, ◌==◌, ◌&&◌, true, false, not, [], ◌∷◌, ◌++◌, map, filter, is_some, Option, Some, None, IsSome, IfSome, refl, sym, ap, subst, ◌∙◌, arith, slice_get, slice_set, drop, Result, Ok, Err}, lemmas.Bool.{eq-eqb}}, specs.Option.option_map}
 use Rattle.exec_base.specs.{Slab.value_at, declared.error.Error.Error}
 use Rattle.exec_outcomes.specs.{Accounts.is_durable, declared.outcome.Outcome.{Outcome, TheVariants.Failure}}
 use Rattle.exec_request.specs.{Requests.{deadline_of, output_of}, declared.request.Request.Request as Asking}
 use Rattle.exec_waiters.specs.{Events.{finished, told_by_finish, waker_in}, States.{tick_in, flying_count}, Told.{Tells, Told}, declared.waiter_id.WaiterId.WaiterId}
 use Rattle.exec_driver.specs.{Driving.{Driving, request_at, is_queued, is_unenrolled, is_cancelled}, Lists.{first_of, rest_of, is_among, after_enrolment, without, withdrawn}, Punctual.IsPunctual, Steps.{enrolled_by, told_by_enrolment, tick_for, ended_by, unscheduled}}
 use Rattle.exec_task.specs.declared.body.Said.{Said}
-use Rattle.exec_machine.specs.{declared.{event.Event.{Event, TheVariants.Enrol}, state.Request.Request}, Deadlines.outcome_at_enrol, Same.{is_none, is_number, same_end}, Tests.{is_applied, is_gated, is_queued as is_phase_queued, is_resolved}, World.{Common, request_of}, Requests.resolved}
-use Rattle.exec_moves.specs.{Move.move_submit, Slots.vacated, Told.{has_number, told_of_end, waker_of}, State.Desk, Submit.{due_next, first_due, submits, Due.Enrols}, declared.place.{Service.Service, Place.Place, InService.InService}}
+use Rattle.exec_machine.specs.{declared.{event.Event.{Event, TheVariants.Enrol}, state.Request.Request}, Deadlines.outcome_at_enrol, Same.{is_none, is_number, same_end}, Tests.{is_gated, is_queued as is_phase_queued, is_resolved}, World.{Common, request_of}, Requests.resolved}
+use Rattle.exec_moves.specs.{Move.move_submit, Told.{told_of_end}, State.Desk, Submit.{due_next, first_due, submits, Due.Enrols}, declared.place.{Service.Service, Place.Place, InService.InService}}
 use Rattle.exec_parts.{specs.{declared.parts.{mail.Reply.Reply, record.Record.Record, shared.Shared.Shared, worker.Worker.Worker}, Records.number_in, Serving.{changed_at, outcome_of_error}, Spots.Spot, View.{visible, with_view, own_of, desk_of, driver_of, common_of, seat_seen, things_with, numbers_of}}, proofs.Facts.and_none}
 use Rattle.exec_invariants.{specs.{Due.IsWheelAt, Gates.at_gate, Holding.nap_of, HoldPlaces.is_bare_at, Places.passes_at, Submits.IsNewIn, Works.Steps, Rooted.outcome_told}, proofs.{Serving.{at_large, SparesRecords, kept, spares_one}, ServingHolds.{serves_to, IsServed, OthersKept, keeps_home, Serves, Keeps, KeepsBy}, ServingPlaces.calm, Recorded.request_seen, EndsServed.{desk_over, ends_thing}, Lined.opens_same, ServedEnds.{TellsEnd, ends_told}, ServedWakes.balances_ended, Enrolled.{HasEnrolled, new_first, timed_free}, Keys.name_in, Enrolling.enrol_same, Idling.none_due, Seeing.{makes, shows, served, common_changed, common_same, things_kept, desk_with}, Staging.{split_first, stages_again}, Ends.{flying_ended, later_in, numbers_without, without_first}, Orders.alike_unticked, Ousting.keeps_ended, Over.OneEnds, Resolving.{slab_after, unticked_at}, Timed.{comes_to_new, move_enrol, unset}}}
 pub use Rattle.exec_invariants.proofs.Results.{same_error_self}
@@ -21,26 +21,11 @@ ended_is (Err y) x is = cc
 
 -- what its task hears is what the log tells
 pub tells_error : (q : Asking) (x : Error) → is_some (deadline_of q) ≡ true → outcome_told (output_of q (Err x) None) ≡ Failure x
-tells_error (Asking.Send s) x h = refl
-tells_error (Asking.Poll p) x h = refl
-tells_error (Asking.Recv r) x h = refl
-tells_error (Asking.ReadAt r) x h = absurd (false≢true h)
-tells_error (Asking.WriteAt w) x h = absurd (false≢true h)
-tells_error (Asking.Sync s) x h = absurd (false≢true h)
-tells_error (Asking.Connect c) x h = refl
+tells_error = grind arith
 
 -- the place stays
 pub same_place : (k : ℕ) (r : Request) (d : Desk) (v : Service) (gate : ℕ) → d.place ≡ Place.Service (InService.Submit gate) v → submits v gate (told_of_end k r d) ≡ told_of_end k r d
-same_place k r d v gate there = by r.observed (is_applied r.forwarding) (has_number k d.awaited) refl refl refl
-  where
-    q : Place
-    q = Place.Service (InService.Submit gate) v
-
-    by : (a b c : Bool) → r.observed ≡ a → is_applied r.forwarding ≡ b → has_number k d.awaited ≡ c → record (told_of_end k r d) { place = q } ≡ told_of_end k r d
-    by false b c is at has = rw is (ap (λ p. record (told_of_end k (record r { observed = false }) d) { place = p }) (sym there))
-    by true true c is at has = rw (is, at) (ap (λ p. record d { place = p; results = d.results ++ k ∷ []; requests = vacated k d.requests }) (sym there))
-    by true false true is at has = rw (is, at, has) (ap (λ p. record d { place = p; wakes = d.wakes ++ waker_of r.waiter; awaited = filter (λ n. not (n == k)) d.awaited }) (sym there))
-    by true false false is at has = rw (is, at, has) (ap (λ p. record d { place = p; awaited = filter (λ n. not (n == k)) d.awaited }) (sym there))
+same_place = grind arith
 
 abbrev pub ends_as : Outcome → Record → Record
 ends_as outcome r = record r { shown = resolved outcome r.shown }

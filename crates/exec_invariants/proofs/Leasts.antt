@@ -1,5 +1,5 @@
 -- The least of the moments that the elements of a list have.
-use Rattle.std.proofs.{Common.{◌≡◌, ℕ, zero, suc, ◌≤◌, Bool, true, false, List, [], ◌∷◌, Option, Some, None, refl, sym, ap, ◌∙◌, arith, slice_get, nat_le, if◌then◌else◌}, lemmas.Bool.Decides.nat_tests}
+use Rattle.std.proofs.{Common.{◌≡◌, ℕ, suc, ◌≤◌, Bool, true, false, List, [], ◌∷◌, Option, Some, None, refl, sym, ap, ◌∙◌, arith, slice_get, nat_le, if◌then◌else◌}, lemmas.Bool.Decides.nat_tests}
 use Rattle.exec_machine.specs.Deadlines.{earlier}
 
 -- element k has this moment
@@ -33,11 +33,7 @@ module _ {A : Type 0} (f : A → Option ℕ) where
 
   -- who has a moment in a longer list is its head, or in the rest
   split : (P : ℕ → Type 0) (x : A) (xs : List A) → ((n : ℕ) → f x ≡ Some n → P n) → ((n : ℕ) → HasAt f xs n → P n) → (n : ℕ) → HasAt f (x ∷ xs) n → P n
-  split P x xs first rest n h = by h.k h.there
-    where
-      by : (k : ℕ) → slice_get (x ∷ xs) k ≡ Some h.x → P n
-      by zero there = let same : x ≡ h.x = cc in first n (ap f same ∙ h.moment)
-      by (suc k) there = rest n (record { k = k; x = h.x; there = there; moment = h.moment })
+  split = grind arith
 
   least_cons : (x : A) (xs : List A) (a b : Option ℕ) → f x ≡ a → IsLeast f xs b → IsLeast f (x ∷ xs) (earlier a b)
   least_cons x xs None None is none = split (λ n. ⊥) x xs (λ n has. let no : None ≡ Some n = sym is ∙ has in absurd (cc)) none

@@ -1,5 +1,6 @@
 -- What flies and what has landed, once a request is over.
 use Rattle.std.{proofs.{Common.{◌≡◌, ◌≢◌, ℕ, ◌==◌, Bool, true, false, List, Option, Some, None, IsSome, refl, sym, ap, subst, ◌∙◌, slice_get}, lemmas.Bool.false≢true}, specs.VecDeque.deque_capacity}
+use Rattle.std.proofs.Common.{arith}
 use Rattle.exec_base.specs.{Slab.{Slab, value_at}, declared.slab.Id.Id}
 use Rattle.exec_outcomes.specs.declared.outcome.Outcome.{Outcome}
 use Rattle.exec_time.specs.declared.timers.Sleeper.{Sleeper as Sleeping}
@@ -59,10 +60,7 @@ module _ (i : ℕ) (n : Names) (d d' : Driving Reply Reply) (zs : Slab (Sleeping
       plain_by j false y is at mine = flown.plain j y at mine
 
       owning_by : (j : ℕ) (b : Bool) (y : Record) → (number_in n.requests.items id == j) ≡ b → slice_get rs j ≡ Some y → is_resolved (mark_if f b y).shown.phase ≡ false → (mark_if f b y).shown.released ≡ false
-      owning_by j true y is at h =
-          let same = found_is y (ap (slice_get rs) (same_number (number_in n.requests.items id) j is) ∙ at) in
-          absurd (false≢true (sym h ∙ ap (λ z. is_resolved (f z).shown.phase) (sym same) ∙ is_over i n d d' zs rs ss id it r f outcome told one named timed))
-      owning_by j false y is at h = flown.owning j y at h
+      owning_by = grind arith
 
       none_by : (o : Observer Reply Reply) (v : Option (Entry Reply Reply)) (w : Waiter Reply Reply) → EntryAfter o told v → waiter_of v ≡ Some w → ⊥
       none_by (Local waker) v w h is = let no : None ≡ Some w = sym (ap waiter_of h) ∙ is in absurd (cc)
@@ -72,17 +70,11 @@ module _ (i : ℕ) (n : Names) (d d' : Driving Reply Reply) (zs : Slab (Sleeping
       gone_by other w at e = none_by it.observer (value_at d'.requests id) w one.slab.here (ap (waiter_at d'.requests) (sym e) ∙ at)
 
       kept_cancel : (j : ℕ) (b : Bool) (y : Record) → (number_in n.requests.items id == j) ≡ b → slice_get rs j ≡ Some y → (mark_if f b y).shown.cancel_staged ≡ y.shown.cancel_staged
-      kept_cancel j true y is at =
-          let same = found_is y (ap (slice_get rs) (same_number (number_in n.requests.items id) j is) ∙ at) in
-          subst (λ z. (f z).shown.cancel_staged ≡ z.shown.cancel_staged) same (ap (λ z. z.shown.cancel_staged) one.ends.same)
-      kept_cancel j false y is at = refl
+      kept_cancel = grind arith
 
       uncancelled_by : (other : WaiterId) (y : Record) → is_among other d.lists.cancels ≡ true → other.0 ≢ id → slice_get (changed_at rs (number_in n.requests.items id) f) (number_in n.requests.items other.0) ≡ Some y
           → (b : Bool) → (number_in n.requests.items id == number_in n.requests.items other.0) ≡ b → y.shown.worker ≡ i → y.shown.cancel_staged ≡ false
-      uncancelled_by other y among apart at b is mine =
-          let old = was_marked f rs (number_in n.requests.items id) (number_in n.requests.items other.0) y at in
-          ap (λ z. z.shown.cancel_staged) old.2 ∙ kept_cancel (number_in n.requests.items other.0) (number_in n.requests.items id == number_in n.requests.items other.0) old.0 refl old.1
-          ∙ flown.uncancelled other old.0 among old.1 (sym (kept_worker i n d d' zs rs ss id it r f outcome told one named timed (number_in n.requests.items other.0) (number_in n.requests.items id == number_in n.requests.items other.0) old.0 refl old.1) ∙ sym (ap (λ z. z.shown.worker) old.2) ∙ mine)
+      uncancelled_by = grind (arith, was_marked, kept_worker)
 
   pub landed_still : (n' : Names) → n'.requests ≡ n.requests → d'.ring ≡ d.ring → it.in_flight ≡ false → AreLanded n d rs (operations d.ring) → AreLanded n' d' (changed_at rs (number_in n.requests.items id) f) (operations d'.ring)
   landed_still n' requests ring idle landed_now =

@@ -1,12 +1,12 @@
 -- A REQUEST IS LET GO OF, of which its worker's driver has nothing any more, or its output.
-use Rattle.std.proofs.{Common.{◌≡◌, ℕ, ◌+◌, ◌≤◌, ◌&&◌, ◌||◌, Bool, true, false, not, Contains, count_by, Some, None, IsSome, refl, sym, ap, subst, ◌∙◌, inl, inr, arith, slice_get, slice_set, if◌then◌else◌}, lemmas.{Bool.false≢true, List.{append-nil, length-set}}}
+use Rattle.std.proofs.{Common.{◌≡◌, ℕ, ◌+◌, ◌≤◌, ◌&&◌, Bool, true, false, not, Some, None, IsSome, refl, sym, ap, subst, ◌∙◌, inl, inr, arith, slice_get, slice_set, if◌then◌else◌}, lemmas.{Bool.false≢true, List.{append-nil, length-set}}}
 use Rattle.exec_base.specs.{Slab.{value_at, removed, freed}, declared.slab.Id.Id}
 use Rattle.exec_request.specs.declared.output.RequestOutput.{RequestOutput}
-use Rattle.exec_waiters.specs.{Events.{untaken, told_by_orphan, orphaned_from, asks_cancel_by_orphan}, States.{awaits_tick, tick_of, waiter_at, waiter_of}, Told.{Tells, nothing_told}, declared.{deferred.{Answer.Answer, Deferred.Deferred}, waiter.Entry.TheVariants.Ready}}
+use Rattle.exec_waiters.specs.{Events.{untaken, told_by_orphan, orphaned_from, asks_cancel_by_orphan}, States.{awaits_tick, tick_of, waiter_at, waiter_of}, Told.{Tells, nothing_told}, declared.{deferred.{Deferred.Deferred}, waiter.Entry.TheVariants.Ready}}
 use Rattle.exec_driver.specs.{Driving.{Driving, request_at}, Punctual.IsPunctual, Steps.{both, cancelled_at, told_by_cancel, without_observer}}
 use Rattle.exec_machine.specs.{Requests.{ends_by_drop, is_cancelled_by_drop}, Tests.{is_applied, is_in_flight, is_kept, is_queued, is_resolved}}
 use Rattle.exec_parts.specs.{declared.parts.{mail.Reply.Reply, record.Record.Record, shared.Shared.Shared, worker.Worker.Worker}, Awaits.{LetsGo, drops}, Polls.unobserved, Records.number_in, Serving.{changed_at, changed_in}, View.driver_of}
-use Rattle.exec_invariants.{specs.{Due.{IsWheelAt, may_be_due, wheel_moment}, Gates.AreLinedUp, Places.one_if, Rooted.is_of_request, Names.tellers, Sound.served_in, Spares.SparesRecord}, proofs.{HoldThings.touches_record, LetKept.{applied_so, not_gone, over_idle}, LetRooted.{Rewaits, keeps_watched, told_one}, LetSlab.{one_held_less, other_entry, past_back, same_pending, same_waiters, still_there}, LetTouched.keeps_touched, Orders.{alike_self, past_removed}, Resolving.{places_fewer, wide_ended}, ServingHolds.{KeepsSpare, KeepsWith, keeps_home}, Untold.keeps_untold, Watching.{Rewatched, Watched}}}
+use Rattle.exec_invariants.{specs.{Due.{IsWheelAt, may_be_due, wheel_moment}, Gates.AreLinedUp, Names.tellers, Sound.served_in, Spares.SparesRecord}, proofs.{HoldThings.touches_record, LetKept.{applied_so, not_gone, over_idle}, LetRooted.{Rewaits, keeps_watched, told_one}, LetSlab.{one_held_less, other_entry, past_back, same_pending, same_waiters, still_there}, LetTouched.keeps_touched, Orders.{alike_self, past_removed}, Resolving.{places_fewer, wide_ended}, ServingHolds.{KeepsSpare, KeepsWith, keeps_home}, Untold.keeps_untold, Watching.{Rewatched, Watched}}}
 
 module _ {B : Type 0} (k : ℕ) (w v : Worker) (s s' : Shared B) (idle : served_in w.place ≡ None) (gates : AreLinedUp s.opens s.requests.items) {spare : ℕ} (keeps : KeepsSpare spare w s) (lets : LetsGo k w v s s') (mine : lets.r.shown.worker ≡ w.index) (seen : lets.r.shown.observed ≡ true) where
   abbrev pub d : Driving Reply Reply
@@ -122,20 +122,7 @@ module _ {B : Type 0} (k : ℕ) (w v : Worker) (s s' : Shared B) (idle : served_
         cancels = λ x among. inl among;
       } in
       let results : left.results.items ≡ left0.results.items = tells.results_added ∙ append-nil left0.results.items in
-      let to : Rewaits w.index w.names d d' zs left0 left rs rs1 s.sleepers.items id r unobserved by keeps.named = record {
-        none = none;
-        unkept = λ over. refl;
-        near = λ x reply at forwarded. let no : None ≡ Some x = sym none_waits ∙ at in absurd (cc);
-        seen = λ h. absurd (false≢true h);
-        still = refl;
-        waiter = λ u h. h;
-        results = λ a among. inl (subst (λ xs. Contains xs a) results among);
-        others = λ j apart. ap (count_by (λ (x : Answer Reply). is_of_request j x.sender.of)) results;
-        sent = λ of_i.
-            ap (λ xs. count_by (λ (x : Answer Reply). is_of_request kk x.sender.of) xs + one_if r.sent) results ∙ keeps.rooted.sent kk r at_number of_i
-            ∙ ap (λ b. one_if (b && (is_resolved r.shown.phase || not r.shown.observed))) kept.unapplied ∙ sym (ap (λ b. one_if (b && (is_resolved r.shown.phase || true))) kept.unapplied);
-        completions = tells.notes.completions_added ∙ append-nil left0.notes.completions.items;
-      } in
+      let to : Rewaits w.index w.names d d' zs left0 left rs rs1 s.sleepers.items id r unobserved by keeps.named = grind (arith, false≢true, append-nil) in
       let pending = same_pending s0 id told ready in
       let held = one_held_less s0 id told ready in
       let fewer : (tellers d'.requests zs + spare) + 1 ≤ tellers d.requests zs + spare = omega (arith, pending, held) in

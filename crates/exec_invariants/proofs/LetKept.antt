@@ -1,9 +1,9 @@
 -- NOBODY HOLDS A REQUEST ANY MORE, and its worker lets go of it: all of the worker's own that holds again, wherever it is outside a
 -- service.
-use Rattle.std.proofs.{Common.{◌≡◌, ◌⊎◌, ℕ, ◌+◌, ◌≤◌, ◌==◌, ◌&&◌, ◌||◌, Bool, true, false, not, Contains, List, [], ◌∷◌, ◌++◌, count_by, cond, Some, None, Err, refl, sym, ap, subst, ◌∙◌, inl, inr, arith, slice_get, is_some}, lemmas.{Bool.{false≢true, eq-eqb}, List.{append-nil, set-set, Elements.Contains-append_cases, Sums.sum_by-append}}}
-use Rattle.exec_base.specs.{Slab.{Slab, value_at, written}, declared.{error.Error.TheVariants.{Closed, Timeout}, task_no.TaskNo.TaskNo, slab.{Id.Id, Slot.TheVariants.Live}}}
+use Rattle.std.proofs.{Common.{◌≡◌, ◌⊎◌, ℕ, ◌+◌, ◌≤◌, ◌==◌, ◌&&◌, ◌||◌, Bool, true, false, not, Contains, List, [], ◌∷◌, ◌++◌, count_by, Some, None, Err, refl, sym, ap, subst, ◌∙◌, inl, inr, arith, slice_get}, lemmas.{Bool.{false≢true, eq-eqb}, List.{append-nil, set-set, Elements.Contains-append_cases, Sums.sum_by-append}}}
+use Rattle.exec_base.specs.{Slab.{Slab, value_at, written}, declared.{error.Error.TheVariants.{Closed, Timeout}, slab.{Id.Id, Slot.TheVariants.Live}}}
 use Rattle.exec_outcomes.specs.declared.outcome.Outcome.TheVariants.{Failure}
-use Rattle.exec_request.specs.Requests.{asked_of, deadline_of}
+use Rattle.exec_request.specs.Requests.{asked_of}
 use Rattle.exec_waiters.{specs.{Events.{cancelled as cancelled_of, told_to, with_observer}, States.{is_held_by, pending_count, tick_in, tick_of, waiter_at}, Told.{Told, Tells}, declared.{deferred.{Answer.Answer, Deferred.Deferred}, observer.Observer.{Observer, TheVariants.{DetachedSync, Forwarded, Local, Orphaned}}, waiter.{Entry.{Entry, TheVariants.Pending}, Waiter.Waiter}}}, proofs.Changes.{entry_of, one_if}}
 use Rattle.exec_driver.specs.{Driving.Driving, Punctual.IsPunctual}
 use Rattle.exec_machine.specs.{declared.state.{Forwarding.{Forwarding, TheVariants.Applied}, Request.Request, RequestPhase.RequestPhase}, Requests.{dropped, ends_by_drop, is_cancelled_by_drop, resolved}, Tests.{is_applied, is_in_flight, is_kept, is_queued, is_resolved}}
@@ -33,19 +33,10 @@ abbrev pub without_waiter : Waiter Reply Reply → Waiter Reply Reply
 without_waiter it = with_observer Orphaned it
 
 pub alike_orphaned : (start tick : ℕ) (it : Waiter Reply Reply) (r : Record) → IsAlike start tick it r.shown → IsAlike start tick (without_waiter it) (unobserved r).shown
-alike_orphaned start tick it r a =
-    let waiter : (t : TaskNo) → None ≡ Some t → r.shown.waiter ≡ Some t.0 = λ t h. absurd (cc) in
-    let near : IsNear Orphaned r.shown.forwarding = tt in
-    assumption (waiter, near, a)
+alike_orphaned = grind arith
 
 pub alike_cancelled : (start tick : ℕ) (it : Waiter Reply Reply) (r : Record) → it.in_flight ≡ true → is_kept (asked_of it.request).kind ≡ false → IsAlike start tick it r.shown → IsAlike start tick (cancelled_of (without_waiter it)) (let_cancel r).shown
-alike_cancelled start tick it r flies lets_it a =
-    let waiter : (t : TaskNo) → None ≡ Some t → r.shown.waiter ≡ Some t.0 = λ t h. absurd (cc) in
-    let near : IsNear Orphaned r.shown.forwarding = tt in
-    let going : true ≡ true → it.in_flight ≡ true = λ h. flies in
-    let dated : false ≡ true → is_some (deadline_of it.request) ≡ true = λ h. absurd (false≢true h) in
-    let alone : true ≡ true → is_kept (asked_of it.request).kind ≡ false = λ h. lets_it in
-    assumption (waiter, near, going, dated, alone, a)
+alike_cancelled = grind arith
 
 -- the wheel has what it had
 pub punctual_watched : (d d' : Driving Reply Reply) (id : Id) (it it' : Waiter Reply Reply) → waiter_at d.requests id ≡ Some it → d' ≡ record d { requests = written d.requests id (Pending it') } → it'.state ≡ it.state → IsPunctual d → IsPunctual d'
@@ -60,17 +51,10 @@ punctual_watched d d' id it it' at is state punctual =
     })
 
 pub over_idle : (p : RequestPhase) → is_resolved p ≡ true → (is_queued p ≡ false) × (is_in_flight p ≡ false)
-over_idle (RequestPhase.Resolved o) h = (refl, refl)
-over_idle RequestPhase.Staged h = absurd (false≢true h)
-over_idle RequestPhase.Flying h = absurd (false≢true h)
-over_idle (RequestPhase.Landed n) h = absurd (false≢true h)
-over_idle RequestPhase.Queued h = absurd (false≢true h)
-over_idle RequestPhase.Gated h = absurd (false≢true h)
+over_idle = grind arith
 
 pub applied_so : (f : Forwarding) → is_applied f ≡ true → f ≡ Applied
-applied_so Applied h = refl
-applied_so Forwarding.Unsent h = absurd (false≢true h)
-applied_so Forwarding.Sent h = absurd (false≢true h)
+applied_so = grind arith
 
 pub asks_once : (staged cancelled : Bool) → (staged ≡ true → cancelled ≡ true) → cancelled ≡ false → staged ≡ false
 asks_once true c once none = absurd (false≢true (sym none ∙ once refl))
@@ -81,10 +65,7 @@ written_twice s id a b = ap (λ slots. record s { slots = slots }) (set-set s.sl
 
 -- WHAT WHO WAITS ELSEWHERE IS TOLD: that there is nothing to wait for
 told_to_one : (id : Id) (o : Observer Reply Reply) → TellsOne (told_to id o)
-told_to_one id (Local waker) = record { wakes = omega arith; outputs = omega arith; resources = refl; completions = omega arith; results = omega arith }
-told_to_one id (Forwarded reply) = record { wakes = omega arith; outputs = omega arith; resources = refl; completions = omega arith; results = omega arith }
-told_to_one id (DetachedSync reply) = record { wakes = omega arith; outputs = omega arith; resources = refl; completions = omega arith; results = omega arith }
-told_to_one id Orphaned = record { wakes = omega arith; outputs = omega arith; resources = refl; completions = omega arith; results = omega arith }
+told_to_one = grind arith
 
 pub record ToldTo (t : Told Reply Reply) : Type 0 where
   pub wakes : t.wakes ≡ []
@@ -93,20 +74,11 @@ pub record ToldTo (t : Told Reply Reply) : Type 0 where
   pub completions : t.completions ≡ []
 
 pub told_to_so : (id : Id) (o : Observer Reply Reply) → ToldTo (told_to id o)
-told_to_so id (Local waker) = record { wakes = refl; outputs = refl; resources = refl; completions = refl }
-told_to_so id (Forwarded reply) = record { wakes = refl; outputs = refl; resources = refl; completions = refl }
-told_to_so id (DetachedSync reply) = record { wakes = refl; outputs = refl; resources = refl; completions = refl }
-told_to_so id Orphaned = record { wakes = refl; outputs = refl; resources = refl; completions = refl }
+told_to_so = grind arith
 
 -- it comes at the end of the results
 pub count_last : (k : ℕ) (xs : List (Answer Reply)) (a : Answer Reply) → a.sender.of ≡ Heard.Request k → (j : ℕ) → count_by (λ (x : Answer Reply). is_of_request j x.sender.of) (xs ++ a ∷ []) ≡ count_by (λ (x : Answer Reply). is_of_request j x.sender.of) xs + one_when (k == j)
-count_last k xs a of j =
-    sum_by-append (λ (x : Answer Reply). cond (is_of_request j x.sender.of) 1 0) xs (a ∷ []) ∙ ap (λ h. count_by (λ (x : Answer Reply). is_of_request j x.sender.of) xs + (0 + cond (is_of_request j h) 1 0)) of
-    ∙ by (k == j)
-  where
-    by : (b : Bool) → count_by (λ (x : Answer Reply). is_of_request j x.sender.of) xs + (0 + cond b 1 0) ≡ count_by (λ (x : Answer Reply). is_of_request j x.sender.of) xs + one_when b
-    by true = refl
-    by false = refl
+count_last = grind (arith, sum_by-append)
 
 -- THE REQUEST IS PENDING AT ITS DRIVER, and nobody waits for it there any more
 module _ {B : Type 0} (w : Worker) (s : Shared B) (d d' : Driving Reply Reply) (id : Id) (it it' : Waiter Reply Reply) (r : Record) (f : Record → Record) (left' : Deferred Reply Reply) {spare : ℕ} (keeps : KeepsWith spare w d w.home.timers s.requests.items s.sleepers.items s) where

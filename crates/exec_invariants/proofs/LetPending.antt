@@ -3,12 +3,12 @@ use Rattle.std.proofs.{Common.{◌≡◌, ⊎_elim, ℕ, ◌&&◌, Bool, true, f
 use Rattle.exec_base.specs.{Slab.{value_at, written}, declared.{error.Error.TheVariants.Timeout, slab.Id.Id}}
 use Rattle.exec_outcomes.specs.declared.outcome.Outcome.TheVariants.{Failure}
 use Rattle.exec_request.specs.{Requests.{asked_of, goes_on_alone, output_of}, States.asks_cancel}
-use Rattle.exec_waiters.{specs.{Events.{cancelled as cancelled_of, told_by_finish, told_to, told_by_orphan, orphaned_from, asks_cancel_by_orphan}, States.{is_held_by, tick_in, waiter_at, waiter_of}, Told.{Told, Tells, nothing_told}, declared.{deferred.Deferred.Deferred, waiter.{Entry.TheVariants.{Pending, Ready}, Waiter.Waiter}, waiter_id.WaiterId.WaiterId}}, proofs.Changes.entry_of}
-use Rattle.exec_driver.specs.{Driving.{Driving, request_at}, Lists.without, Punctual.IsPunctual, Steps.{both, cancelling, cancelled_at, cancelled_from, ended, timed_out, told_by_cancel, without_observer}}
+use Rattle.exec_waiters.{specs.{Events.{cancelled as cancelled_of, told_by_finish, told_to, orphaned_from}, States.{is_held_by, tick_in, waiter_at, waiter_of}, Told.{Told, Tells, nothing_told}, declared.{deferred.Deferred.Deferred, waiter.{Entry.TheVariants.{Pending, Ready}, Waiter.Waiter}, waiter_id.WaiterId.WaiterId}}, proofs.Changes.entry_of}
+use Rattle.exec_driver.specs.{Driving.{Driving}, Lists.without, Punctual.IsPunctual, Steps.{both, cancelling, cancelled_from, ended, timed_out, told_by_cancel, without_observer}}
 use Rattle.exec_machine.specs.{declared.state.RequestPhase.RequestPhase, Requests.{ends_by_drop, is_cancelled_by_drop, joined_if}, Tests.{is_gated, is_in_flight, is_kept, is_queued}}
 use Rattle.exec_moves.specs.declared.{handing.AfterCallbacks.AfterCallbacks, place.{InCallbacks.InCallbacks, Place.Place}}
 use Rattle.exec_parts.{specs.{declared.parts.{mail.Reply.Reply, record.Record.Record, shared.Shared.Shared, worker.Worker.Worker}, Awaits.{LetsGo, drops}, Polls.unobserved, Records.number_in, Serving.{changed_at, changed_in}, View.driver_of}, proofs.Facts.and_none}
-use Rattle.exec_invariants.{specs.{Due.{IsDue, IsWheelAt, may_be_due, wheel_moment}, Flown.HasFlown, Gates.AreLinedUp, HoldPlaces.{has_wakes_at, is_bare_at}, Names.IsAlike, Sound.served_in}, proofs.{ReapKinds.{durable_kept, kept_alone}, Cancelling.among_last, Changing.changes_one, Expiring.{flies_not_queued, unticked_start, unticked_tick}, LetKept.{alike_cancelled, alike_orphaned, asks_once, cancels_now, ends_it, ends_now, let_cancel, not_gone, pending_let, punctual_watched, told_to_so, without_waiter, written_twice}, Orders.{alike_self, alike_unticked}, Ousting.keeps_ended, Over.OneEnds, Resolving.{slab_after, unticked_at}, ServedEnds.ends_told, ServingHolds.{KeepsSpare, KeepsWith}, Starting.queued_phase, Watching.{Watched, now_there, watched}, LetGone.{number, final, still_on, records_are, gone, output_gone}}}
+use Rattle.exec_invariants.{specs.{Due.{IsDue, IsWheelAt}, Flown.HasFlown, Gates.AreLinedUp, HoldPlaces.{has_wakes_at, is_bare_at}, Names.IsAlike, Sound.served_in}, proofs.{ReapKinds.{durable_kept, kept_alone}, Cancelling.among_last, Changing.changes_one, Expiring.{flies_not_queued, unticked_start, unticked_tick}, LetKept.{alike_cancelled, alike_orphaned, asks_once, cancels_now, ends_it, ends_now, let_cancel, not_gone, pending_let, punctual_watched, told_to_so, without_waiter, written_twice}, Orders.{alike_self, alike_unticked}, Ousting.keeps_ended, Over.OneEnds, Resolving.{slab_after, unticked_at}, ServedEnds.ends_told, ServingHolds.{KeepsSpare, KeepsWith}, Starting.queued_phase, Watching.{Watched, now_there, watched}, LetGone.{number, final, still_on, records_are, gone, output_gone}}}
 
 none_cleared : (id : WaiterId) (ids : List WaiterId) → ids ≡ [] → without id ids ≡ []
 none_cleared id ids none = ap (without id) none
@@ -64,43 +64,11 @@ module _ {B : Type 0} (k : ℕ) (w v : Worker) (s s' : Shared B) (idle : served_
       let without_it : without_observer d r.id ≡ d1 =
       ap (λ o. record d { requests = orphaned_from d.requests id o }) value ∙ ap (λ b. record d { requests = if b then written d.requests id (Pending it1) else d.requests }) held in
       let alone : waiter_at d1.requests id ≡ Some it1 = (changes_one d.requests id it it1 live).is_at in
-      record {
-        live = live;
-        is = is;
-        at_number = at_number;
-        alike = a;
-        held = held;
-        without_it = without_it;
-        driver = lets.driver ∙ ap (λ o. if asks_cancel_by_orphan o then cancelled_at (without_observer d r.id) r.id else without_observer d r.id) value
-            ∙ ap (λ x. if is_held_by it.observer && not (goes_on_alone it.request) then cancelled_at x r.id else x) without_it
-            ∙ ap (λ o. if is_held_by it.observer && not (goes_on_alone it.request) then cancelled_from d1 r.id o else d1) alone;
-        tells = subst (λ x. Tells left0 left x)
-            (ap (λ o. if asks_cancel_by_orphan o then both (told_by_orphan id o) (told_by_cancel r.id (request_at (without_observer d r.id) r.id)) else told_by_orphan id o) value
-            ∙ ap (λ x. if is_held_by it.observer && not (goes_on_alone it.request) then both (told_to id it.observer) (told_by_cancel r.id (request_at x r.id)) else told_to id it.observer) without_it
-            ∙ ap (λ o. if is_held_by it.observer && not (goes_on_alone it.request) then both (told_to id it.observer) (told_by_cancel r.id o) else told_to id it.observer) alone) lets.tells;
-        alone = alone;
-        undue = keeps.due.told (ap may_be_due idle);
-        wheel = subst (λ x. IsWheelAt s.config w.moments.start (wheel_moment x w.moments) d.wheel) idle keeps.due.wheel;
-      }
+      grind arith
 
   -- it is told to who waits elsewhere alone
   pub told_alone : (it : Waiter Reply Reply) → Tells left0 left (both (told_to id it.observer) nothing_told) → Tells left0 left (told_to id it.observer)
-  told_alone it tells =
-      let t : Told Reply Reply = told_to id it.observer in
-      record {
-        notes = record {
-          wakes_added = tells.notes.wakes_added ∙ ap (λ xs. left0.notes.wakes.items ++ xs) (append-nil t.wakes);
-          completions_added = tells.notes.completions_added ∙ ap (λ xs. left0.notes.completions.items ++ xs) (append-nil t.completions);
-          wakes_memory = tells.notes.wakes_memory;
-          completions_memory = tells.notes.completions_memory;
-        };
-        outputs_added = tells.outputs_added ∙ ap (λ xs. left0.outputs.items ++ xs) (append-nil t.outputs);
-        resources_added = tells.resources_added ∙ ap (λ xs. left0.resources.items ++ xs) (append-nil t.resources);
-        results_added = tells.results_added ∙ ap (λ xs. left0.results.items ++ xs) (append-nil t.results);
-        outputs_memory = tells.outputs_memory;
-        resources_memory = tells.resources_memory;
-        results_memory = tells.results_memory;
-      }
+  told_alone = grind arith
 
   -- nobody waits for it: its record and the driver, where it isn't cancelled by this
   orphaned_by : (it : Waiter Reply Reply) → IsGoing it → Watched w.names d (alone_driver it) s.requests.items (changed_at s.requests.items kk unobserved) id r unobserved
@@ -188,34 +156,8 @@ module _ {B : Type 0} (k : ℕ) (w v : Worker) (s s' : Shared B) (idle : served_
       let t : Told Reply Reply = told_by_finish id it1 timed_out None in
       let to = told_to_so id it.observer in
       let left1 : Deferred Reply Reply = record left0 { results = left.results } in
-      let tells1 : Tells left0 left1 t1 = record {
-        notes = record {
-          wakes_added = sym (append-nil left0.notes.wakes.items) ∙ ap (λ xs. left0.notes.wakes.items ++ xs) (sym to.wakes);
-          completions_added = sym (append-nil left0.notes.completions.items) ∙ ap (λ xs. left0.notes.completions.items ++ xs) (sym to.completions);
-          wakes_memory = omega arith;
-          completions_memory = omega arith;
-        };
-        outputs_added = sym (append-nil left0.outputs.items) ∙ ap (λ xs. left0.outputs.items ++ xs) (sym to.outputs);
-        resources_added = sym (append-nil left0.resources.items) ∙ ap (λ xs. left0.resources.items ++ xs) (sym to.resources);
-        results_added = tells.results_added ∙ ap (λ xs. left0.results.items ++ xs) (append-nil t1.results);
-        outputs_memory = omega arith;
-        resources_memory = omega arith;
-        results_memory = tells.results_memory;
-      } in
-      let tells2 : Tells left1 left t = record {
-        notes = record {
-          wakes_added = tells.notes.wakes_added ∙ ap (λ xs. left0.notes.wakes.items ++ (xs ++ t.wakes)) to.wakes;
-          completions_added = tells.notes.completions_added ∙ ap (λ xs. left0.notes.completions.items ++ (xs ++ t.completions)) to.completions;
-          wakes_memory = tells.notes.wakes_memory;
-          completions_memory = tells.notes.completions_memory;
-        };
-        outputs_added = tells.outputs_added ∙ ap (λ xs. left0.outputs.items ++ (xs ++ t.outputs)) to.outputs;
-        resources_added = tells.resources_added ∙ ap (λ xs. left0.resources.items ++ (xs ++ t.resources)) to.resources;
-        results_added = sym (append-nil left.results.items);
-        outputs_memory = tells.outputs_memory;
-        resources_memory = tells.resources_memory;
-        results_memory = omega arith;
-      } in
+      let tells1 : Tells left0 left1 t1 = grind (arith, append-nil) in
+      let tells2 : Tells left1 left t = grind (arith, append-nil) in
       let rs1 = changed_at s.requests.items kk unobserved in
       let r1 = unobserved r in
       let first = orphaned_keeps it going left1 tells1 in
@@ -263,21 +205,7 @@ module _ {B : Type 0} (k : ℕ) (w v : Worker) (s s' : Shared B) (idle : served_
       -- the same at a place that is in no service either
       elsewhere : (x : Worker) (left1 : Deferred Reply Reply) (d1 : Driving Reply Reply) (rs1 : List Record) (q : Place) → served_in q ≡ None → has_wakes_at q ≡ true → is_bare_at q ≡ false
           → KeepsWith spare (record w { home = record w.home { deferred = left1 } }) d1 w.home.timers rs1 s.sleepers.items s → KeepsWith spare (record w { place = q; home = record w.home { deferred = left1 } }) d1 w.home.timers rs1 s.sleepers.items s
-      elsewhere x left1 d1 rs1 q served wakes bare first =
-          record {
-            told = first.told;
-            wide = first.wide;
-            named = first.named;
-            sized = first.sized;
-            over = first.over;
-            quiet = λ h. absurd (false≢true (sym h ∙ wakes));
-            due = subst (λ y. IsDue y w.home.closing w.index w.moments s.config w.names d1 w.home.timers rs1 s.sleepers.items) (idle ∙ sym served) first.due;
-            flown = subst (λ y. HasFlown y w.index w.names d1 rs1) (idle ∙ sym served) first.flown;
-            carried = first.carried;
-            known = first.known;
-            rooted = first.rooted;
-            bare = λ h. absurd (false≢true (sym bare ∙ h));
-          }
+      elsewhere = grind arith
 
   -- by what its driver has of it
   pub let_kept : KeepsSpare spare v s'

@@ -1,5 +1,5 @@
 -- WHO HOLDS OR AWAITS ONE REQUEST CHANGES: what its worker keeps for others then, and all else that holds again of the worker's own.
-use Rattle.std.proofs.{Common.{◌≡◌, ◌≢◌, ◌⊎◌, ⊎_elim, ℕ, ◌+◌, ◌≤◌, true, false, Contains, List, [], ◌++◌, count_by, length, Some, None, IsSome, Result, Ok, Err, refl, sym, ap, subst, ◌∙◌, arith, slice_get, length-append}, lemmas.{Bool.false≢true, List.append-nil}}
+use Rattle.std.proofs.{Common.{◌≡◌, ◌≢◌, ◌⊎◌, ⊎_elim, ℕ, ◌+◌, ◌≤◌, true, false, Contains, List, [], count_by, length, Some, None, IsSome, Result, Ok, Err, refl, sym, ap, subst, ◌∙◌, arith, slice_get, length-append}, lemmas.{Bool.false≢true, List.append-nil}}
 use Rattle.exec_base.specs.{Slab.{Slab, value_at}, declared.{error.Error.Error, slab.Id.Id}}
 use Rattle.exec_time.specs.declared.{notes.ForwardedResult.ForwardedResult, timers.Sleeper.{Sleeper as Sleeping}}
 use Rattle.exec_request.specs.declared.output.RequestOutput.{RequestOutput}
@@ -19,26 +19,7 @@ pub record TellsOne (t : Told Reply Reply) : Type 0 where
   pub results : length t.results ≤ 1
 
 pub told_one : (ended : List ℕ) (n : ℕ) (left left' : Deferred Reply Reply) (t : Told Reply Reply) → Tells left left' t → TellsOne t → IsTold ended left (n + 1) → IsTold ended left' n
-told_one ended n left left' t tells one told =
-    let room = told.room in
-    let wakes : length left'.notes.wakes.items ≡ length left.notes.wakes.items + length t.wakes = ap length tells.notes.wakes_added ∙ length-append left.notes.wakes.items t.wakes in
-    let completions : length left'.notes.completions.items ≡ length left.notes.completions.items + length t.completions = ap length tells.notes.completions_added ∙ length-append left.notes.completions.items t.completions in
-    let outputs : length left'.outputs.items ≡ length left.outputs.items + length t.outputs = ap length tells.outputs_added ∙ length-append left.outputs.items t.outputs in
-    let results : length left'.results.items ≡ length left.results.items + length t.results = ap length tells.results_added ∙ length-append left.results.items t.results in
-    let resources : length left'.resources.items ≡ length left.resources.items =
-    ap length (tells.resources_added ∙ ap (λ xs. left.resources.items ++ xs) one.resources ∙ append-nil left.resources.items) in
-    record {
-      resources = told.resources ∙ sym resources;
-      room = record {
-        notes = record {
-          wakes = omega (arith, wakes, one.wakes, room.notes.wakes, tells.notes.wakes_memory);
-          completions = omega (arith, completions, one.completions, room.notes.completions, tells.notes.completions_memory);
-        };
-        outputs = omega (arith, outputs, one.outputs, room.outputs, tells.outputs_memory);
-        resources = omega (arith, resources, room.resources, tells.resources_memory);
-        results = omega (arith, results, one.results, room.results, tells.results_memory);
-      };
-    }
+told_one = grind (arith, length-append, append-nil)
 
 -- WHAT IS KEPT FOR OTHERS
 module _ (i : ℕ) (n : Names) (d d' : Driving Reply Reply) (zs : Slab (Sleeping Reply)) (left left' : Deferred Reply Reply) (rs rs' : List Record) (ss : List SleeperRecord) (id : Id) (r : Record) (f : Record → Record)

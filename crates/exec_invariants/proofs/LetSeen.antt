@@ -1,13 +1,13 @@
 -- WHAT IS SEEN of a request that its worker has let go of: the machine's lists, what stands on the desk, and what others see.
-use Rattle.std.proofs.{Common.{◌≡◌, ◌≢◌, ℕ, suc, ◌+◌, ◌&&◌, Bool, true, false, not, List, [], ◌∷◌, ◌++◌, length, map, slice_index_or, Some, None, IsSome, is_some, refl, sym, ap, subst, ◌∙◌, arith, slice_get, Err, if◌then◌else◌}, lemmas.{Bool.{false≢true, eq-eqb}, List.{append-nil, length-append, map-append}, Option.get_or_from_slice_get}}
-use Rattle.exec_base.specs.{Slab.{Slab, is_live, slot_at, value_at, value_in, written, removed}, declared.{error.Error.TheVariants.Closed, slab.{Id.Id, Slot.{Slot, TheVariants.{Live, Vacant, Retired}}}}}
+use Rattle.std.proofs.{Common.{◌≡◌, ◌≢◌, ℕ, suc, ◌+◌, ◌&&◌, Bool, true, false, not, List, [], ◌∷◌, ◌++◌, length, slice_index_or, Some, None, IsSome, is_some, refl, sym, ap, subst, ◌∙◌, arith, slice_get, Err, if◌then◌else◌}, lemmas.{Bool.{false≢true, eq-eqb}, List.{append-nil, length-append, map-append}, Option.get_or_from_slice_get}}
+use Rattle.exec_base.specs.{Slab.{Slab, is_live, value_at, written, removed}, declared.{error.Error.TheVariants.Closed, slab.{Id.Id, Slot.{Slot, TheVariants.{Live, Vacant, Retired}}}}}
 use Rattle.exec_request.specs.declared.output.RequestOutput.{RequestOutput}
-use Rattle.exec_ring.specs.Rings.{RingState, completions}
+use Rattle.exec_ring.specs.Rings.{completions}
 use Rattle.exec_waiters.specs.{Events.{told_to, untaken, told_by_orphan, orphaned_from, asks_cancel_by_orphan, waker_in}, States.{flying_count, is_held_by, waiter_of}, Told.{Tells, nothing_told}, declared.{deferred.{Answer.Answer, Deferred.Deferred}, observer.Observer.{Observer, TheVariants.{DetachedSync, Forwarded, Local, Orphaned}}, waiter.{Entry.{Entry, TheVariants.{Pending, Ready}}, Waiter.Waiter}}}
 use Rattle.exec_driver.specs.{Driving.{Driving, request_at}, Steps.{both, cancelled_at, told_by_cancel, without_observer}}
-use Rattle.exec_machine.specs.{declared.state.Request.Request, Requests.{ends_by_drop, is_cancelled_by_drop, joined_if, left_if, own_after_drop}, Tests.{is_in_flight, is_kept, is_queued, is_resolved}, World.{Common, Own, request_of}}
+use Rattle.exec_machine.specs.{declared.state.Request.Request, Requests.{ends_by_drop, is_cancelled_by_drop, joined_if, left_if, own_after_drop}, Tests.{is_in_flight, is_kept, is_queued, is_resolved}, World.{Common, request_of}}
 use Rattle.exec_moves.specs.{declared.handing.Heard.Heard, Slots.{is_in_slots, is_some_slot, slot_of, vacated}, State.Desk, Told.{awaits_no_more, one_output, one_result, told_of_drop, turned_away, without_request}}
-use Rattle.exec_parts.{specs.{declared.parts.{mail.Reply.Reply, record.Record.Record, shared.Shared.Shared, worker.Worker.Worker}, Awaits.LetsGo, Records.number_in, View.{Visible, awaited_from, awaits_entry, completions_in, desk_of, driver_of, landed_in, message_of, number_heard, numbers_of, own_of, results_in, slots_from, slots_seen, trailing, visible, wake_poll_in}}, proofs.Facts.{and_none, not_same, same_thing}}
+use Rattle.exec_parts.{specs.{declared.parts.{mail.Reply.Reply, record.Record.Record, shared.Shared.Shared, worker.Worker.Worker}, Awaits.LetsGo, Records.number_in, View.{awaited_from, awaits_entry, desk_of, driver_of, number_heard, numbers_of, own_of, results_in, slots_from, slots_seen, visible}}, proofs.Facts.{and_none, not_same, same_thing}}
 use Rattle.exec_invariants.{specs.{Gates.AreLinedUp, Rooted.IsNear, Sound.served_in}, proofs.{Known.low_there, LetGone.number, LetKept.over_idle, LetSlab.same_flying, ServingHolds.KeepsSpare, Slotted.{OneSlot, awaited_over, awaited_removed, awaited_written, slot_in, slots_vacated, slots_written}}}
 
 -- THE SLOTS: no slot has a number that no live one has
@@ -25,9 +25,7 @@ not_in n k numbers (x ∷ slots) never =
 
 -- what is live has a value
 pub value_live : (s : Slab (Entry Reply Reply)) (j g : ℕ) (e : Entry Reply Reply) → slice_get s.slots j ≡ Some (Live g e) → value_at s (record { index = j; generation = g }) ≡ Some e
-value_live s j g e at =
-    let slot : slot_at s j ≡ Live g e = get_or_from_slice_get s.slots j (Live g e) (Vacant s.first) at in
-    ap (λ x. value_in x g) slot ∙ ap (λ b. if b then Some e else None) (eq-eqb g g refl)
+value_live = grind (arith, get_or_from_slice_get, eq-eqb)
 
 -- what the desk is then of one that stands in a slot
 abbrev pub dropped_desk : ℕ → Request → Desk → Desk
@@ -104,47 +102,13 @@ module _ {B : Type 0} (k : ℕ) (w v : Worker) (s s' : Shared B) (idle : served_
     } ≡ told_of_drop k r.shown (desk_of w)
 
   pub own_so : IsSeen → (all : Common) → request_of all k ≡ r.shown → own_of v ≡ own_after_drop (own_of w) all k
-  own_so is all request =
-      let me = own_of w in
-      let D = driver_of v in
-      let made : List ℕ → List ℕ → List ℕ → List ℕ → ℕ → Own = λ ready unenrolled cancels ended flying. record me { ready = ready; unenrolled = unenrolled; cancels = cancels; ended = ended; in_flight = flying } in
-      let R = left_if (ends_by_drop r.shown) me.ready k in
-      let U = left_if (ends_by_drop r.shown) me.unenrolled k in
-      let C = joined_if (is_cancelled_by_drop r.shown) (left_if (ends_by_drop r.shown) me.cancels k) k in
-      ap own_of lets.worker
-      ∙ ap (λ x. made x (numbers_of n D.lists.enrolments) (numbers_of n D.lists.cancels) v.names.ended.items (flying_count D.requests)) is.ready
-      ∙ ap (λ x. made R x (numbers_of n D.lists.cancels) v.names.ended.items (flying_count D.requests)) is.unenrolled
-      ∙ ap (λ x. made R U x v.names.ended.items (flying_count D.requests)) is.cancels
-      ∙ ap (λ x. made R U C x (flying_count D.requests)) lets.ended
-      ∙ ap (λ x. made R U C (joined_if (ends_by_drop r.shown) me.ended k) x) is.flying
-      ∙ ap (λ (q : Request). made (left_if (ends_by_drop q) me.ready k) (left_if (ends_by_drop q) me.unenrolled k) (joined_if (is_cancelled_by_drop q) (left_if (ends_by_drop q) me.cancels k) k) (joined_if (ends_by_drop q) me.ended k) me.in_flight) (sym request)
+  own_so = grind arith
 
   pub desk_so : IsSeen → desk_of v ≡ told_of_drop k r.shown (desk_of w)
-  desk_so is =
-      let D = driver_of v in
-      let d0 = desk_of w in
-      let made : List ℕ → List ℕ → ℕ → Bool → ℕ → Desk = λ wakes completions entries polled others. record d0 {
-        wakes = wakes;
-        completions = completions;
-        entries = entries;
-        polled = polled;
-        others = others;
-        outputs = length left.outputs.items;
-        results = results_in left.results.items;
-        requests = slots_seen n D.requests;
-        awaited = awaited_from 0 n D.requests.slots;
-      } in
-      ap desk_of lets.worker
-      ∙ ap (λ x. made (map (λ t. t.0) left.notes.wakes.items) (completions_in left.notes.completions.items) (length x.staged) D.armed (trailing 0 (completions x))) is.ring
-      ∙ ap (λ x. made (map (λ t. t.0) left.notes.wakes.items) (completions_in left.notes.completions.items) d0.entries x d0.others) is.armed
-      ∙ ap (λ x. made (map (λ t. t.0) x) (completions_in left.notes.completions.items) d0.entries d0.polled d0.others) is.wakes
-      ∙ ap (λ x. made d0.wakes (completions_in x) d0.entries d0.polled d0.others) is.completed
-      ∙ is.desk
+  desk_so = grind arith
 
   pub visible_so : IsSeen → visible v ≡ visible w
-  visible_so is =
-      let made : RingState → Visible = λ x. record { busy = x.busy; landed = landed_in n x; wakes = wake_poll_in x; taken = map message_of w.batch.values } in
-      ap visible lets.worker ∙ ap made is.ring
+  visible_so = grind arith
 
   -- it isn't there any more
   pub seen_gone : value_at d.requests id ≡ None → IsSeen
@@ -159,20 +123,7 @@ module _ {B : Type 0} (k : ℕ) (w v : Worker) (s s' : Shared B) (idle : served_
       let absent : is_in_slots k (slots_seen n d.requests) ≡ false = ap is_some_slot (not_in k 0 n d.requests.slots (λ j x at alive same. no_slot none j x at alive (ap (λ m. slice_index_or n m 0) (let e : j ≡ 0 + j = omega arith in e) ∙ same))) in
       let outputs : left.outputs.items ≡ left0.outputs.items = tells.outputs_added ∙ append-nil left0.outputs.items in
       let results : left.results.items ≡ left0.results.items = tells.results_added ∙ append-nil left0.results.items in
-      record {
-        ring = ap (λ x. x.ring) drv;
-        armed = ap (λ x. x.armed) drv;
-        ready = ap (λ x. numbers_of n x.lists.queued) drv ∙ ap (λ b. left_if b (numbers_of n d.lists.queued) k) (sym ends);
-        unenrolled = ap (λ x. numbers_of n x.lists.enrolments) drv ∙ ap (λ b. left_if b (numbers_of n d.lists.enrolments) k) (sym ends);
-        cancels = ap (λ x. numbers_of n x.lists.cancels) drv ∙ ap (λ b. left_if b (numbers_of n d.lists.cancels) k) (sym ends) ∙ ap (λ b. joined_if b (left_if (ends_by_drop r.shown) (numbers_of n d.lists.cancels) k) k) (sym unasked);
-        flying = ap (λ x. flying_count x.requests) drv;
-        wakes = tells.notes.wakes_added ∙ append-nil left0.notes.wakes.items;
-        completed = tells.notes.completions_added ∙ append-nil left0.notes.completions.items;
-        desk = ap (λ x. record (desk_of w) { outputs = length x; results = results_in left.results.items; requests = slots_seen n (driver_of v).requests; awaited = awaited_from 0 n (driver_of v).requests.slots }) outputs
-            ∙ ap (λ x. record (desk_of w) { results = results_in x; requests = slots_seen n (driver_of v).requests; awaited = awaited_from 0 n (driver_of v).requests.slots }) results
-            ∙ ap (λ x. record (desk_of w) { requests = slots_seen n x.requests; awaited = awaited_from 0 n x.requests.slots }) drv
-            ∙ sym (ap (λ b. if not (r.shown.observed && b) then desk_of w else dropped_desk k r.shown (desk_of w)) absent ∙ ap (λ b. if not b then desk_of w else dropped_desk k r.shown (desk_of w)) (and_none r.shown.observed false refl));
-      }
+      grind (arith, append-nil, and_none)
     where
       no_slot : value_at d.requests id ≡ None → (j : ℕ) (x : Slot (Entry Reply Reply)) → slice_get d.requests.slots j ≡ Some x → is_live x ≡ true → slice_index_or n j 0 ≡ k → ⊥
       no_slot none j (Live g e) at alive same =

@@ -4,8 +4,8 @@ use Rattle.exec_base.specs.{Slab.{Slab, value_at, written, removed}, declared.sl
 use Rattle.exec_request.specs.{Requests.{asked_of, goes_on_alone}, States.asks_cancel}
 use Rattle.exec_waiters.{specs.{Events.{cancelled as cancelled_of, told_by_finish, told_to}, States.{flying_count, is_held_by, waiter_at, waiter_of}, Told.{Told, Tells, nothing_told}, declared.{deferred.Deferred.Deferred, observer.Observer.TheVariants.{Forwarded, Orphaned}, waiter.{Entry.{Entry, TheVariants.{Pending, Ready}}, Waiter.Waiter}, waiter_id.WaiterId.WaiterId}}, proofs.Changes.{entry_of, one_if}}
 use Rattle.exec_driver.specs.{Driving.{Driving, request_at, is_queued as is_listed_queued, is_unenrolled, is_cancelled}, Lists.{is_among, without}, Steps.{both, cancelling, cancelled_from, ended, timed_out, told_by_cancel}}
-use Rattle.exec_machine.specs.{declared.state.{RequestPhase.RequestPhase}, Requests.{ends_by_drop, is_cancelled_by_drop, joined_if, left_if, own_after_drop}, Tests.{is_applied, is_gated, is_in_flight, is_kept, is_queued}, World.{Common, request_of}}
-use Rattle.exec_moves.specs.{declared.handing.Heard.Heard, Slots.vacated, State.Desk, Told.{awaits_no_more, one_output, one_result, told_of_drop, turned_away, without_request}}
+use Rattle.exec_machine.specs.{declared.state.{RequestPhase.RequestPhase}, Requests.{ends_by_drop, is_cancelled_by_drop, joined_if, left_if, own_after_drop}, Tests.{is_gated, is_in_flight, is_kept, is_queued}, World.{Common, request_of}}
+use Rattle.exec_moves.specs.{declared.handing.Heard.Heard, Slots.vacated, State.Desk, Told.{one_output, told_of_drop, turned_away, without_request}}
 use Rattle.exec_parts.{specs.{declared.parts.{mail.Reply.Reply, record.Record.Record, shared.Shared.Shared, worker.Worker.Worker}, Awaits.LetsGo, Records.number_in, View.{awaited_from, awaits_entry, desk_of, driver_of, numbers_of, own_of, results_in, slots_seen, visible}}, proofs.Facts.{and_none, by_number, same_thing, set_elsewhere}}
 use Rattle.exec_invariants.{specs.{Gates.AreLinedUp, Sound.served_in}, proofs.{ReapKinds.{durable_kept, kept_alone}, Changing.flying_after, Ends.{flying_ended, numbers_without}, Expiring.flies_not_queued, LetPending.{IsGoing, alone_driver, is_going, let_kept, told_alone}, LetKept.{told_to_so, without_waiter, written_twice}, LetSeen.{IsSeen, desk_so, desk_there, one_slot, own_so, seen_gone, seen_over, turned_so, visible_so}, Mine.stands, ServingHolds.KeepsSpare, Slotted.{OneSlot, awaited_removed, slot_in, slots_vacated}, Starting.queued_phase}}
 
@@ -163,11 +163,7 @@ module _ {B : Type 0} (k : ℕ) (w v : Worker) (s s' : Shared B) (idle : served_
       }
     where
       outputs_back : (x : Desk) → turned_away kk r.shown (desk_of w) ≡ x → one_output (without_request kk (record x { outputs = (desk_of w).outputs })) ≡ one_output (without_request kk x)
-      outputs_back x is = ap (λ m. one_output (without_request kk (record x { outputs = m }))) (same_outputs (is_applied r.shown.forwarding) refl ∙ ap (λ (y : Desk). y.outputs) is)
-        where
-          same_outputs : (b : Bool) → is_applied r.shown.forwarding ≡ b → (desk_of w).outputs ≡ (turned_away kk r.shown (desk_of w)).outputs
-          same_outputs true at = ap (λ b. (if b then one_result kk (desk_of w) else awaits_no_more kk (desk_of w)).outputs) (sym at)
-          same_outputs false at = ap (λ b. (if b then one_result kk (desk_of w) else awaits_no_more kk (desk_of w)).outputs) (sym at)
+      outputs_back = grind arith
 
   -- by what its driver has of it
   seen_so : IsSeen k w v s s' idle gates keeps lets mine seen

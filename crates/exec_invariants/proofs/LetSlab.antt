@@ -1,5 +1,5 @@
 -- AN OUTPUT LEAVES THE DRIVER: nothing is where it was kept, and no request that isn't over changes.
-use Rattle.std.proofs.{Common.{◌≡◌, ◌≢◌, ◌+◌, ◌^◌, ◌<◌, Some, None, IsSome, refl, sym, ap, subst, ◌∙◌, arith, is_some}, lemmas.Bool.false≢true}
+use Rattle.std.proofs.{Common.{◌≡◌, ◌≢◌, ◌+◌, ◌^◌, ◌<◌, Some, None, IsSome, refl, sym, ap, ◌∙◌, arith, is_some}, lemmas.Bool.false≢true}
 use Rattle.exec_base.{specs.{Slab.{IsPast, Slab, value_at, removed, freed}, declared.slab.Id.Id}, proofs.Slots.{Changed-set, IsLiveAt-from_value, Updates-free, live_within, past-free, was_live}}
 use Rattle.exec_request.specs.declared.output.RequestOutput.{RequestOutput}
 use Rattle.exec_waiters.specs.{States.{waiter_at, pending_count, flying_count, is_flying}, declared.waiter.Entry.{Entry, TheVariants.Ready}}
@@ -15,10 +15,7 @@ module _ (s : Slab (Entry Reply Reply)) (id : Id) (told : RequestOutput) (at : v
   there = rw at refl
 
   pub same_waiters : (x : Id) → waiter_at (removed s id) x ≡ waiter_at s x
-  same_waiters x =
-      by_name x id
-      (λ apart. gone.others x apart)
-      (λ same. subst (λ y. waiter_at (removed s id) y ≡ waiter_at s y) (sym same) (gone.is_at ∙ sym gone.was_at))
+  same_waiters = grind (arith, by_name, gone)
 
   pub same_pending : pending_count (removed s id) ≡ pending_count s
   same_pending =

@@ -1,15 +1,14 @@
 -- The slot of a request at its driver is its own: no other has its number.
-use Rattle.std.proofs.{Common.{◌≡◌, ℕ, true, slice_get, slice_index_or, Some, refl, sym, ap, ◌∙◌, if◌then◌else◌, None}, lemmas.{Bool.{false≢true, eq-eqb}, Option.get_or_from_slice_get}}
-use Rattle.exec_base.specs.{Slab.{Slab, is_live, slot_at, value_at, value_in}, declared.slab.{Id.Id, Slot.{Slot, TheVariants.{Live, Vacant, Retired}}}}
+use Rattle.std.proofs.{Common.{◌≡◌, ℕ, true, slice_get, slice_index_or, Some, refl, sym, ap, ◌∙◌}, lemmas.{Bool.{false≢true, eq-eqb}, Option.get_or_from_slice_get}}
+use Rattle.std.proofs.Common.{arith}
+use Rattle.exec_base.specs.{Slab.{Slab, is_live, value_at}, declared.slab.{Id.Id, Slot.{Slot, TheVariants.{Live, Vacant, Retired}}}}
 use Rattle.exec_waiters.specs.declared.waiter.Entry.{Entry}
 use Rattle.exec_moves.specs.declared.place.Place.{Place}
 use Rattle.exec_parts.{specs.{declared.parts.{mail.Reply.Reply, record.Record.Record, shared.Shared.Shared, worker.Worker.Worker}, Records.number_in, View.driver_of}, proofs.Facts.same_thing}
 use Rattle.exec_invariants.{specs.Sound.SoundAt, proofs.{Known.low_there, Slotted.OneSlot}}
 
 pub value_live : (s : Slab (Entry Reply Reply)) (j g : ℕ) (e : Entry Reply Reply) → slice_get s.slots j ≡ Some (Live g e) → value_at s (record { index = j; generation = g }) ≡ Some e
-value_live s j g e at =
-    let slot : slot_at s j ≡ Live g e = get_or_from_slice_get s.slots j (Live g e) (Vacant s.first) at in
-    ap (λ x. value_in x g) slot ∙ ap (λ b. if b then Some e else None) (eq-eqb g g refl)
+value_live = grind (arith, get_or_from_slice_get, eq-eqb)
 
 module _ {B : Type 0} (q : Place) (w : Worker) (s : Shared B) (sound : SoundAt q w s) (id : Id) (e : Entry Reply Reply) (value : value_at (driver_of w).requests id ≡ Some e) where
   pub slot_here : OneSlot w.names.requests.items (driver_of w).requests id

@@ -1,11 +1,11 @@
 -- What a closing worker lets go next, as the machine's worker finds it by its slots.
 use Rattle.std.proofs.{Common.{◌≡◌, ℕ, zero, suc, ◌+◌, ◌<◌, Bool, true, false, cond, List, [], ◌∷◌, count_by, map, option_map, Option, Some, None, IsSome, refl, sym, ap, subst, ◌∙◌, arith, slice_get, slice_index_or, if◌then◌else◌}, lemmas.{Bool.{eq-eqb, false≢true}, List.Sums.sum_by-cons, Option.{get_or_from_slice_get, slice_get-map}}}
-use Rattle.exec_base.specs.{Slab.{Slab, is_live, live_count, value_at, value_in}, declared.slab.{Id.Id, Slot.{Slot, TheVariants.{Live, Vacant, Retired}}}}
+use Rattle.exec_base.specs.{Slab.{Slab, is_live, live_count, value_at}, declared.slab.{Id.Id, Slot.{Slot, TheVariants.{Live, Vacant, Retired}}}}
 use Rattle.exec_time.specs.declared.timers.Sleeper.{Sleeper as Sleeping}
 use Rattle.exec_waiters.{specs.{Events.IsFirstHeld, States.{is_held, is_held_at}, declared.waiter.Entry.{Entry, TheVariants.{Pending, Ready}}}, proofs.Changes.at_by}
 use Rattle.exec_task.specs.declared.body.Said.{Said}
 use Rattle.exec_machine.specs.{Progress.Plan, Tests.is_asleep, World.{no_request, no_sleeper, request_of, sleeper_of}}
-use Rattle.exec_moves.specs.{declared.{handing.AfterCallbacks.AfterCallbacks, place.{InCallbacks.InCallbacks, InClosing.InClosing, Place.Place}}, Close.{after_letting_go, first_asleep, first_held, or_else_at}, Slots.first_in}
+use Rattle.exec_moves.specs.{declared.{place.{Place.Place}}, Close.{after_letting_go, first_asleep, first_held}, Slots.first_in}
 use Rattle.exec_parts.{specs.{declared.parts.{mail.Reply.Reply, record.Record.Record, shared.Shared.Shared, sleeping.SleeperRecord.SleeperRecord, worker.Worker.Worker}, Ending.ClosesOn, Records.number_in, Spots.Spot, View.{Views, common_of, desk_of, driver_of, slots_from}}, proofs.Facts.same_thing}
 use Rattle.exec_invariants.{specs.Sound.SoundAt, proofs.SparedRecord.there_within}
 
@@ -32,21 +32,13 @@ module _ {T : Type 0} where
   pub first_found : (test : ℕ → Bool) (numbers : List ℕ) (k : ℕ) (slots : List (Slot T)) (i g : ℕ) (e : T) → slice_get slots i ≡ Some (Live g e) → test (number_at numbers (k + i)) ≡ true
       → ((j h : ℕ) (x : T) → j < i → slice_get slots j ≡ Some (Live h x) → test (number_at numbers (k + j)) ≡ false) → first_in test (slots_from k numbers slots) ≡ Some (number_at numbers (k + i))
   first_found test numbers k [] i g e at passes none = absurd (let no : None ≡ Some (Live g e) = at in cc)
-  first_found test numbers k (x ∷ slots) zero g e at passes none =
-      let same : x ≡ Live g e = same_thing x (Live g e) at in
-      ap (λ y. first_in test ((if is_live y then Some (number_at numbers k) else None) ∷ slots_from (suc k) numbers slots)) same
-      ∙ ap (λ b. if b then Some (number_at numbers k) else first_in test (slots_from (suc k) numbers slots)) (at_first test numbers k true passes)
-      ∙ ap (λ j. Some (number_at numbers j)) (let e : k ≡ k + 0 = omega arith in e)
+  first_found test numbers k (x ∷ slots) zero g e at passes none = grind (arith, same_thing, at_first)
   first_found test numbers k (Live h y ∷ slots) (suc i) g e at passes none =
       ap (λ b. if b then Some (number_at numbers k) else first_in test (slots_from (suc k) numbers slots)) (at_first test numbers k false (none 0 h y (omega arith) refl))
       ∙ first_found test numbers (suc k) slots i g e at (at_later test numbers k i true passes) (λ j z x less at_j. at_later test numbers k j false (none (suc j) z x (omega (arith, less)) at_j))
       ∙ ap (λ j. Some (number_at numbers j)) (let e : suc k + i ≡ k + suc i = omega arith in e)
-  first_found test numbers k (Vacant h ∷ slots) (suc i) g e at passes none =
-      first_found test numbers (suc k) slots i g e at (at_later test numbers k i true passes) (λ j z x less at_j. at_later test numbers k j false (none (suc j) z x (omega (arith, less)) at_j))
-      ∙ ap (λ j. Some (number_at numbers j)) (let e : suc k + i ≡ k + suc i = omega arith in e)
-  first_found test numbers k (Retired ∷ slots) (suc i) g e at passes none =
-      first_found test numbers (suc k) slots i g e at (at_later test numbers k i true passes) (λ j z x less at_j. at_later test numbers k j false (none (suc j) z x (omega (arith, less)) at_j))
-      ∙ ap (λ j. Some (number_at numbers j)) (let e : suc k + i ≡ k + suc i = omega arith in e)
+  first_found test numbers k (Vacant h ∷ slots) (suc i) g e at passes none = grind (arith, at_later, first_found test numbers (suc k) slots i g e at (at_later test numbers k i true passes) (λ j z x less at_j. at_later test numbers k j false (none (suc j) z x (omega (arith, less)) at_j)))
+  first_found test numbers k (Retired ∷ slots) (suc i) g e at passes none = grind (arith, at_later, first_found test numbers (suc k) slots i g e at (at_later test numbers k i true passes) (λ j z x less at_j. at_later test numbers k j false (none (suc j) z x (omega (arith, less)) at_j)))
 
   -- where all that are there pass, the first is there where any is
   first_some : (test : ℕ → Bool) (numbers : List ℕ) (k : ℕ) (slots : List (Slot T)) → 0 < count_by is_live slots → ((j g : ℕ) (e : T) → slice_get slots j ≡ Some (Live g e) → test (number_at numbers (k + j)) ≡ true) → (n : ℕ) × (first_in test (slots_from k numbers slots) ≡ Some n)
@@ -71,9 +63,7 @@ abbrev pub named_at : ℕ → ℕ → Id
 named_at j g = record { index = j; generation = g }
 
 pub live_value : {T : Type 0} (s : Slab T) (j g : ℕ) (e : T) → slice_get s.slots j ≡ Some (Live g e) → value_at s (named_at j g) ≡ Some e
-live_value s j g e at =
-    ap (λ x. value_in x g) (get_or_from_slice_get s.slots j (Live g e) (Vacant s.first) at)
-    ∙ ap (λ b. if b then Some e else None) (eq-eqb g g refl)
+live_value = grind (arith, get_or_from_slice_get, eq-eqb)
 
 -- what is live stands in its slot
 pub live_slot : (s : Slab (Entry Reply Reply)) (id : Id) (e : Entry Reply Reply) → value_at s id ≡ Some e → slice_get s.slots id.index ≡ Some (Live id.generation e)
@@ -152,11 +142,5 @@ module _ {B L : Type 0} (left : B → L) (spot : L → Option Said → Spot) (p 
   pub lets_next : (next : Place) → ClosesOn (driver_of w) w.home.timers next → after_letting_go (first_held (common_of left spot p vs s) (desk_of w)) (first_asleep w.index (common_of left spot p vs s) (desk_of w)) ≡ next
   lets_next next (ClosesOn.holds id first is) =
       ap (λ o. after_letting_go o (first_asleep w.index (common_of left spot p vs s) (desk_of w))) (held_found id first) ∙ sym is
-  lets_next next (ClosesOn.sleeps none some is) =
-      ap (λ o. after_letting_go o (first_asleep w.index (common_of left spot p vs s) (desk_of w))) (none_held none)
-      ∙ ap (λ o. or_else_at o InClosing.CloseSleeper (Place.Callbacks InCallbacks.TakeBatch AfterCallbacks.Drain)) (some_asleep some).1
-      ∙ sym is
-  lets_next next (ClosesOn.nothing none gone is) =
-      ap (λ o. after_letting_go o (first_asleep w.index (common_of left spot p vs s) (desk_of w))) (none_held none)
-      ∙ ap (λ o. or_else_at o InClosing.CloseSleeper (Place.Callbacks InCallbacks.TakeBatch AfterCallbacks.Drain)) (none_asleep gone)
-      ∙ sym is
+  lets_next next (ClosesOn.sleeps none some is) = grind (arith, none_held, some_asleep)
+  lets_next next (ClosesOn.nothing none gone is) = grind (arith, none_held, none_asleep)

@@ -1,7 +1,7 @@
 -- A MESSAGE ABOUT WHAT A WORKER HAS comes into its inbox, which is open: its seat then, and what is seen of that.
-use Rattle.std.proofs.{Common.{◌≡◌, ◌++◌, ◌+◌, ◌≤◌, ◌&&◌, ℕ, Bool, true, false, not, List, [], ◌∷◌, append_assoc, cond, count_by, length, map, Some, refl, sym, ap, ◌∙◌, arith, slice_get, slice_set, inl, if◌then◌else◌}, lemmas.{Bool.false≢true, List.{length-append, map-append, Sums.sum_by-append}}}
+use Rattle.std.proofs.{Common.{◌≡◌, ◌++◌, ◌+◌, ◌≤◌, ◌&&◌, ℕ, Bool, true, false, not, List, [], ◌∷◌, append_assoc, cond, count_by, length, map, Some, refl, sym, ap, ◌∙◌, arith, slice_get, slice_set, if◌then◌else◌}, lemmas.{Bool.false≢true, List.{length-append, map-append, Sums.sum_by-append}}}
 use Rattle.std.specs.List.{list_any}
-use Rattle.exec_words.specs.{Inbox.{has_any, is_dropped, is_wake_root, opens_batch, sent, word_after}, Word.{asks_signal, next_batch}, declared.word.PureWord.PureWord}
+use Rattle.exec_words.specs.{Inbox.{has_any, is_wake_root, opens_batch, word_after}, Word.{asks_signal, next_batch}, declared.word.PureWord.PureWord}
 use Rattle.exec_machine.specs.{declared.state.MailMessage.{MailMessage, TheVariants.{ForwardRequest, ForwardTimer, CancelRequest, CancelTimer}}, Mail.{is_root_message, posted as seat_posted}, Tests.is_empty}
 use Rattle.exec_moves.specs.{Send.{Mailbox as Box, asks, posted, published_if}, State.{Things, word_of}, Thing.{mailbox_of, set_mailbox}}
 use Rattle.exec_parts.{specs.{declared.parts.{seat.Seat.Seat as Chair, shared.Shared.Shared}, MailPosts.{asks_by, chair_sent}, View.{Views, Visible, inbox_at, mail_of, message_of, polls_seen, queue_at, seat_seen, things_with, word_at}}, proofs.Showing.own_word_seen}
@@ -29,9 +29,6 @@ module _ (m : MailMessage) (letter : IsLetter m) (chair : Chair) (open_box : cha
   abbrev messages : List Mail
   messages = chair.mailbox.inbox.messages
 
-  undropped : is_dropped chair.mailbox.inbox (mail_of m) ≡ false
-  undropped = ap (λ b. b && list_any is_wake_root messages) letter.mail
-
   -- the seat then
   abbrev pub chair_open : Chair
   chair_open =
@@ -43,9 +40,7 @@ module _ (m : MailMessage) (letter : IsLetter m) (chair : Chair) (open_box : cha
       }
 
   pub sent_open : chair_sent m chair ≡ chair_open
-  sent_open =
-      ap (λ c. if c then chair else record chair { mailbox = record chair.mailbox { inbox = sent chair.mailbox.inbox (mail_of m); waker = word_after chair.mailbox.inbox (mail_of m) chair.mailbox.waker } }) open_box
-      ∙ ap (λ d. record chair { mailbox = record chair.mailbox { inbox = (if d then chair.mailbox.inbox else record chair.mailbox.inbox { messages = messages ++ mail_of m ∷ []; published = (if opens_batch chair.mailbox.inbox (mail_of m) then next_batch chair.mailbox.inbox.published else chair.mailbox.inbox.published) }); waker = word_after chair.mailbox.inbox (mail_of m) chair.mailbox.waker } }) undropped
+  sent_open = grind arith
 
   one_more : length (messages ++ mail_of m ∷ []) ≡ length messages + 1
   one_more = length-append messages (mail_of m ∷ [])
@@ -56,27 +51,11 @@ module _ (m : MailMessage) (letter : IsLetter m) (chair : Chair) (open_box : cha
 
   -- others see it still as their own
   pub open_spares : length messages + 2 ≤ count_by is_wake_root messages + chair.mailbox.inbox.places → SparesChair chair chair_open
-  open_spares room =
-      record {
-        phase = refl;
-        pool = refl;
-        left = refl;
-        closed = refl;
-        target = same_target (opens_batch chair.mailbox.inbox (mail_of m)) chair.mailbox.waker;
-        mail = λ h. record { roots = omega (arith, h.roots, same_roots); empty = λ shut. absurd (false≢true (sym open_box ∙ shut)); place = λ none. omega (arith, none, room, one_more, same_roots) };
-        made = refl;
-        queue = inl refl;
-      }
-    where
-      same_target : (b : Bool) (w : PureWord) → (if b then (record w { batch = next_batch w.batch }) else w).target ≡ w.target
-      same_target true w = refl
-      same_target false w = refl
+  open_spares = grind (arith, same_roots, false≢true, one_more)
 
   -- WHAT IS SEEN
   pub seat_open : (v : Visible) → seat_seen v chair_open ≡ seat_posted m (seat_seen v chair)
-  seat_open v =
-      ap (λ ms. record (seat_seen v chair) { inbox = v.taken ++ ms }) (map-append message_of messages (mail_of m ∷ []) ∙ ap (λ x. map message_of messages ++ x ∷ []) letter.back)
-      ∙ ap (λ ms. record (seat_seen v chair) { inbox = ms }) (sym (append_assoc v.taken (map message_of messages) (m ∷ [])))
+  seat_open = grind (arith, map-append, append_assoc)
 
   module _ {B : Type 0} (vs : Views) (j : ℕ) (s : Shared B) (there : slice_get s.seats.items j ≡ Some chair) where
     box_seen : mailbox_of (things_with vs s) j ≡ record { messages = map message_of messages; word = chair.mailbox.waker }

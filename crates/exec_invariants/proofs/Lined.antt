@@ -1,11 +1,11 @@
 -- Who stands at gates, as records change: what counts there is a request's key, its kind and open, and whether it waits for the
 -- permit; and that one that is over stays so.
 use Rattle.std.proofs.{Common.{◌≡◌, ℕ, zero, suc, ◌≤◌, ◌<◌, ◌+◌, ◌^◌, ◌==◌, ◌&&◌, Bool, true, false, List, [], ◌∷◌, cond, count_by, length, map, Option, Some, None, IsSome, option_map, refl, sym, ap, subst, ◌∙◌, slice_get, if◌then◌else◌}, Math.Seq.map-set_same, lemmas.{List.Recursion.is_count_by, Bool.false≢true, Option.{get_or_from_slice_get, slice_get-map}}}
+use Rattle.std.proofs.Common.{arith}
 use Rattle.exec_outcomes.specs.Accounts.{is_durable}
 use Rattle.exec_driver.specs.{Opens.OpenState, declared.opens.WaiterKey.WaiterKey}
-use Rattle.exec_machine.specs.Tests.{is_gated, is_of_file, is_resolved, is_staged, is_unsent}
-use Rattle.exec_machine.specs.declared.state.RequestPhase.{RequestPhase, TheVariants.Flying}
-use Rattle.exec_parts.{specs.{declared.parts.record.Record.Record, Serving.{changed_in, changed_at, flies, flown_in}, View.{gate_seen, number_of_key, numbers_of_passing}}, proofs.Facts.same_number}
+use Rattle.exec_machine.specs.Tests.{is_of_file, is_resolved, is_unsent}
+use Rattle.exec_parts.{specs.{declared.parts.record.Record.Record, Serving.{changed_in, changed_at, flies, flown_in}, View.{gate_seen, number_of_key, numbers_of_passing}}}
 use Rattle.exec_invariants.{specs.{Gates.{AreLinedUp, AtGate, HaveGates, IsLinedUp, at_gate, has_hint_at, is_coming, line_at}, Places.Drops}, proofs.Marking.{marked, mark_if}}
 
 -- LISTS
@@ -55,17 +55,7 @@ pub record KeepsLines (rs rs' : List Record) : Type 0 where
   pub forwarded : (k : ℕ) (r r' : Record) → slice_get rs k ≡ Some r → slice_get rs' k ≡ Some r' → is_unsent r.shown.forwarding ≡ false → is_unsent r'.shown.forwarding ≡ false
 
 pub lines_same : (rs rs' : List Record) → rs' ≡ rs → KeepsLines rs rs'
-lines_same rs rs' same =
-    record {
-      at = ap (map at_gate) same;
-      over = λ k r r' there there' over.
-          let is : r ≡ r' = some_same (sym there ∙ sym (ap (λ xs. slice_get xs k) same) ∙ there') in
-          subst (λ x. is_resolved x.shown.phase ≡ true) is over;
-      sent = ap (map was_sent) same;
-      forwarded = λ k r r' there there' h.
-          let is : r ≡ r' = some_same (sym there ∙ sym (ap (λ xs. slice_get xs k) same) ∙ there') in
-          subst (λ x. is_unsent x.shown.forwarding ≡ false) is h;
-    }
+lines_same = grind arith
 
 -- one record changed, and counts as before
 pub lines_changed : (rs : List Record) (k : ℕ) (r : Record) (f : Record → Record) → slice_get rs k ≡ Some r → SameAtGate r (f r) → KeepsLines rs (changed_at rs k f)
@@ -82,16 +72,10 @@ lines_changed rs k r f there same =
     }
   where
     still : (j : ℕ) (x : Record) (b : Bool) → (k == j) ≡ b → slice_get rs j ≡ Some x → is_unsent x.shown.forwarding ≡ false → is_unsent (mark_if f b x).shown.forwarding ≡ false
-    still j x true is at h =
-        let here : r ≡ x = some_same (sym there ∙ ap (slice_get rs) (same_number k j is) ∙ at) in
-        subst (λ y. is_unsent (f y).shown.forwarding ≡ false) here (same.forwarded (subst (λ y. is_unsent y.shown.forwarding ≡ false) (sym here) h))
-    still j x false is at h = h
+    still = grind arith
 
     by : (j : ℕ) (x : Record) (b : Bool) → (k == j) ≡ b → slice_get rs j ≡ Some x → is_resolved x.shown.phase ≡ true → is_resolved (mark_if f b x).shown.phase ≡ true
-    by j x true is at over =
-        let here : r ≡ x = some_same (sym there ∙ ap (slice_get rs) (same_number k j is) ∙ at) in
-        subst (λ y. is_resolved (f y).shown.phase ≡ true) here (same.over (subst (λ y. is_resolved y.shown.phase ≡ true) (sym here) over))
-    by j x false is at over = over
+    by = grind arith
 
 -- one record changed, of which this stays
 pub map_changed : {A : Type 0} (p : Record → A) (rs : List Record) (k : ℕ) (r : Record) (f : Record → Record) → slice_get rs k ≡ Some r → p (f r) ≡ p r → map p (changed_at rs k f) ≡ map p rs
@@ -216,19 +200,8 @@ gates_kept rs rs' keeps = gates_at rs rs' (kept_at rs rs' keeps)
 
 -- WHAT FLIES counts as before
 
-staged_open : (p : RequestPhase) → is_staged p ≡ true → (is_resolved p ≡ false) × (is_gated p ≡ false)
-staged_open RequestPhase.Staged h = (refl, refl)
-staged_open _ h = absurd (false≢true h)
-
 flies_same : (r : Record) → SameAtGate r (flies r)
-flies_same r = by (r.shown.worker == r.shown.worker) (is_staged r.shown.phase) refl
-  where
-    by : (a b : Bool) → is_staged r.shown.phase ≡ b → SameAtGate r (record r { shown = if a && b then (record r.shown { phase = Flying }) else r.shown })
-    by true true is =
-        let p = staged_open r.shown.phase is in
-        record { at = ap (λ b. record (at_gate r) { gated = b }) (sym p.1); over = λ h. absurd (false≢true (sym p.0 ∙ h)); sent = refl; forwarded = λ h. h }
-    by true false is = record { at = refl; over = λ h. h; sent = refl; forwarded = λ h. h }
-    by false b is = record { at = refl; over = λ h. h; sent = refl; forwarded = λ h. h }
+flies_same = grind arith
 
 one_flown : (k : ℕ) (xs : List Record) → KeepsLines xs (changed_at xs k flies)
 one_flown k xs = by (slice_get xs k) refl
@@ -256,12 +229,7 @@ pub accounts_kept : (opens : List OpenState) (rs : List Record) → AreLinedUp o
 accounts_kept opens rs lined file o there = (lined.lines file o there).kept
 
 pub opens_same : (opens opens' : List OpenState) (rs : List Record) → AreLinedUp opens rs → opens' ≡ opens → SameLines opens opens'
-opens_same opens opens' rs lined same =
-    record {
-      lines = ap (map only_line) same;
-      kept = λ file o there. accounts_kept opens rs lined file o (ap (λ os. slice_get os file) (sym same) ∙ there);
-      hints = λ file none. ap (λ os. has_hint_at os file) same ∙ none;
-    }
+opens_same = grind arith
 
 pub length_map : {A X : Type 0} (f : A → X) (xs : List A) → length (map f xs) ≡ length xs
 length_map f [] = refl
@@ -331,9 +299,7 @@ number_at n (r ∷ rs) key =
 
 same_numbers : (rs rs' : List Record) → map at_gate rs' ≡ map at_gate rs → (keys : List WaiterKey) → map (number_of_key 0 rs') keys ≡ map (number_of_key 0 rs) keys
 same_numbers rs rs' at [] = refl
-same_numbers rs rs' at (key ∷ keys) =
-    let one : number_of_key 0 rs' key ≡ number_of_key 0 rs key = number_at 0 rs' key ∙ ap (λ xs. first_at 0 xs key) at ∙ sym (number_at 0 rs key) in
-    rw (one, same_numbers rs rs' at keys) refl
+same_numbers rs rs' at (key ∷ keys) = grind (arith, number_at, first_at, same_numbers rs rs' at keys)
 
 gates_by_lines : (rs : List Record) (os : List OpenState) → map (gate_seen rs) os ≡ map (gate_seen rs) (map only_line os)
 gates_by_lines rs [] = refl

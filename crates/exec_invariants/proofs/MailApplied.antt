@@ -1,72 +1,31 @@
 -- A message of the batch is applied: all together.
-use Rattle.std.proofs.{Common.{◌≡◌, ℕ, ◌+◌, ◌-◌, Bool, false, map, Option, Some, refl, sym, ap, subst, ◌∙◌, arith, slice_get}, lemmas.Bool.false≢true}
+use Rattle.std.proofs.{Common.{◌≡◌, ℕ, ◌+◌, ◌-◌, Bool, false, map, Option, Some, refl, sym, ap, subst, ◌∙◌, arith, slice_get}}
 use Rattle.exec_task.specs.declared.body.Said.{Said}
 use Rattle.exec_machine.specs.{declared.event.Event.{Event, TheVariants.Apply}, Mail.{after_message as made_by, own_after_apply}, Progress.Plan, World.Own as Books}
 use Rattle.exec_moves.specs.{declared.place.{InMail.InMail, Place.Place}, Mail.{after_message, told_by_message}, State.Desk}
-use Rattle.exec_parts.{specs.{declared.parts.{shared.Shared.Shared, worker.Worker.Worker}, Spots.Spot, View.{Views, Visible, common_of, desk_of, driver_of, message_of, own_of, visible}}, proofs.Facts.true_false}
-use Rattle.exec_invariants.{specs.{Due.IsDue, Flown.HasFlown, Gates.HaveGates, HoldPlaces.is_bare_at, Holding.{IsHolding, Mail, box_of, holder_of, nap_of, thing_of}, Sound.{SoundAt, has_wakes_at, served_in}, Whole.{IsWhole, Profile, hands_of, with_worker}, Works.{Steps, Suits}}, proofs.{Aside.profile_same, Hearing.unheard, Lined.{KeepsLines, gates_kept}, Resolving.places_fewer, Seeing.things_kept, ServingHolds.{KeepsSpare, OthersKept}, Serving.{SparesRecords, spares_service}, MailApplies.{applied_sound, rest_of, passed_on, AppliedKeeps, Leads, leads, profile_there, applied_works}}}
+use Rattle.exec_parts.{specs.{declared.parts.{shared.Shared.Shared, worker.Worker.Worker}, Spots.Spot, View.{Views, Visible, common_of, desk_of, message_of, own_of, visible}}}
+use Rattle.exec_invariants.{specs.{Holding.{IsHolding, Mail, box_of, holder_of, nap_of, thing_of}, Sound.{SoundAt}, Whole.{IsWhole, Profile, hands_of, with_worker}, Works.{Steps, Suits}}, proofs.{Aside.profile_same, Hearing.unheard, Lined.{KeepsLines, gates_kept}, Seeing.things_kept, ServingHolds.{KeepsSpare, OthersKept}, Serving.{SparesRecords, spares_service}, MailApplies.{applied_sound, rest_of, passed_on, AppliedKeeps, Leads, leads, profile_there, applied_works}}}
 
 -- ALL TOGETHER
 
 module _ {B : Type 0} where
   -- what the worker has already, and what holds of it again
   pub kept_there : (applied : ℕ) (taken : Bool) (w : Worker) (s : Shared B) → SoundAt (Place.Mail (InMail.Apply applied taken)) w s → KeepsSpare (64 - applied) (passed_on w) s
-  kept_there applied taken w s sound =
-      let here = sound.here in
-      record {
-        told = sound.told;
-        wide = sound.wide;
-        named = sound.named;
-        sized = sound.sized;
-        over = sound.over;
-        quiet = λ h. true_false (sym (ap has_wakes_at here) ∙ h);
-        due = subst (λ p. IsDue (served_in p) w.home.closing w.index w.moments s.config w.names (driver_of w) w.home.timers s.requests.items s.sleepers.items) (sym here) sound.due;
-        flown = subst (λ p. HasFlown (served_in p) w.index w.names (driver_of w) s.requests.items) (sym here) sound.flown;
-        carried = sound.carried;
-        known = sound.known;
-        rooted = sound.rooted;
-        bare = λ h. absurd (false≢true (sym (ap is_bare_at here) ∙ h));
-      }
+  kept_there = grind arith
 
   -- with the room of one message less
   pub kept_again : (applied : ℕ) (taken : Bool) (v : Worker) (s : Shared B) → v.place ≡ Place.Mail (InMail.Apply applied taken) → KeepsSpare (64 - applied) v s → AppliedKeeps (64 - (applied + 1)) v s
-  kept_again applied taken v s here keeps =
-      record {
-        told = places_fewer (omega arith) keeps.told;
-        wide = keeps.wide;
-        named = keeps.named;
-        sized = keeps.sized;
-        over = keeps.over;
-        due = subst (λ p. IsDue (served_in p) v.home.closing v.index v.moments s.config v.names (driver_of v) v.home.timers s.requests.items s.sleepers.items) here keeps.due;
-        flown = subst (λ p. HasFlown (served_in p) v.index v.names (driver_of v) s.requests.items) here keeps.flown;
-        carried = keeps.carried;
-        known = keeps.known;
-        rooted = keeps.rooted;
-      }
+  kept_again = grind arith
 
   -- with that room already
   pub kept_so : (applied : ℕ) (taken : Bool) (v : Worker) (s : Shared B) → v.place ≡ Place.Mail (InMail.Apply applied taken) → KeepsSpare (64 - (applied + 1)) v s → AppliedKeeps (64 - (applied + 1)) v s
-  kept_so applied taken v s here keeps =
-      record {
-        told = keeps.told;
-        wide = keeps.wide;
-        named = keeps.named;
-        sized = keeps.sized;
-        over = keeps.over;
-        due = subst (λ p. IsDue (served_in p) v.home.closing v.index v.moments s.config v.names (driver_of v) v.home.timers s.requests.items s.sleepers.items) here keeps.due;
-        flown = subst (λ p. HasFlown (served_in p) v.index v.names (driver_of v) s.requests.items) here keeps.flown;
-        carried = keeps.carried;
-        known = keeps.known;
-        rooted = keeps.rooted;
-      }
+  kept_so = grind arith
 
   -- the balances of all but of messages, wakes and what tasks hold
   whole_applied : (x : Profile) (mail : Mail → ℕ) (wakes : ℕ → ℕ → ℕ) (s t : Shared B) → KeepsLines s.requests.items t.requests.items
       → IsHolding (record { mail = mail; wakes = wakes }) s.config.workers (map holder_of s.tasks.items) (map thing_of t.requests.items) (map nap_of t.sleepers.items) (map box_of s.seats.items)
       → IsWhole x s → IsWhole (record x { mail = mail; wakes = wakes }) (record s { requests = t.requests; sleepers = t.sleepers })
-  whole_applied x mail wakes s t lines holding whole =
-      let gates : HaveGates x.drops_by s.opens t.requests.items = gates_kept s.requests.items t.requests.items lines x.drops_by s.opens whole.gates in
-      assumption (gates, holding, whole)
+  whole_applied = grind (arith, gates_kept)
 
 -- what a message that takes effect leaves of its worker, but for the batch and the place
 abbrev pub touched : Worker → Worker → Worker

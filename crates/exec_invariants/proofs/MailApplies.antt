@@ -1,10 +1,10 @@
 -- A MESSAGE OF THE BATCH IS APPLIED: what that is to the machine, whatever the message does, and where the worker goes on.
-use Rattle.std.proofs.{Common.{◌≡◌, ℕ, zero, suc, ◌+◌, ◌-◌, ◌<◌, ◌==◌, ◌||◌, nat_le, Bool, true, false, cond, Contains, List, [], ◌∷◌, ◌++◌, drop, length, map, Option, Some, None, refl, sym, ap, subst, ◌∙◌, arith, slice_get, slice_set, if◌then◌else◌}, lemmas.{Bool.{false≢true, eq-eqb, Decides.nat_tests}, List.Sums.sum_by-append}}
+use Rattle.std.proofs.{Common.{◌≡◌, ℕ, zero, suc, ◌+◌, ◌-◌, ◌<◌, ◌||◌, nat_le, Bool, true, false, cond, Contains, List, [], ◌∷◌, ◌++◌, drop, length, map, Option, Some, None, refl, sym, ap, subst, ◌∙◌, arith, slice_get, slice_set, if◌then◌else◌}, lemmas.{Bool.{false≢true, Decides.nat_tests}, List.Sums.sum_by-append}}
 use Rattle.exec_waiters.specs.States.{pending_count}
 use Rattle.exec_task.specs.declared.body.Said.{Said}
-use Rattle.exec_machine.specs.{declared.{event.Event.TheVariants.Apply, state.{MailMessage.{MailMessage, TheVariants.{Root, ForwardRequest, ForwardTimer, CancelRequest, CancelTimer}}, Next.Next}}, Choice.Choice.Plain, Mail.{after_message as made_by, is_first_message, own_after_apply}, Progress.Plan, Ranges.ring_size, Same.same_message, Tests.is_empty, World.{Common, Seat, seat_of}}
+use Rattle.exec_machine.specs.{declared.{event.Event.TheVariants.Apply, state.{MailMessage.{MailMessage}, Next.Next}}, Choice.Choice.Plain, Mail.{after_message as made_by, is_first_message, own_after_apply}, Progress.Plan, Ranges.ring_size, Same.same_message, Tests.is_empty, World.{Common, Seat, seat_of}}
 use Rattle.exec_moves.specs.{declared.place.{InMail.InMail, Place.Place}, Mail.{after_message, to_callbacks, told_by_message}, Move.move_at, Seen.{next_at, polls_at, serves_at}, State.Desk}
-use Rattle.exec_parts.{specs.{declared.parts.{mail.Subject.Subject, seat.Seat.Seat as Chair, shared.Shared.Shared, worker.Worker.Worker}, Calls.IsTold, Spots.Spot, View.{Views, Visible, common_of, desk_of, driver_of, message_of, own_of, owed_at, polls_seen, raised_times, seat_seen, seats_seen, things_with, visible, with_view}}, proofs.Facts.{and_none, same_thing, true_false}}
+use Rattle.exec_parts.{specs.{declared.parts.{mail.Subject.Subject, seat.Seat.Seat as Chair, shared.Shared.Shared, worker.Worker.Worker}, Calls.IsTold, Spots.Spot, View.{Views, Visible, common_of, desk_of, driver_of, message_of, own_of, owed_at, polls_seen, raised_times, seat_seen, seats_seen, things_with, visible, with_view}}, proofs.Facts.{same_thing, true_false}}
 use Rattle.exec_invariants.{specs.{Carried.IsCarried, Due.IsDue, Flown.HasFlown, Gates.{AreLinedUp, IsKnown}, Holding.{Mail, mail_in, mail_of_letters, same_mail}, Places.{begins_at, claims_at, drops_at, has_count_at, is_published_at, no_drops, polled_in}, Rooted.IsRooted, Sound.{AreOver, HasLetters, IsMyMail, SoundAt}, Names.{HasWidth, IsNamed, tellers}, Whole.{Profile, with_worker}, Works.{Suits, Works}}, proofs.{Aside.SameProfile, HoldMail.mail_first, Lined.lined_kept, Resolving.places_fewer, Seats.own_seat, Serving.{SparesRecords, letter_kept, mail_kept}}}
 
 pub split_first : {A : Type 0} (xs : List A) (x : A) → slice_get xs 0 ≡ Some x → xs ≡ x ∷ drop 1 xs
@@ -16,19 +16,13 @@ rest_had [] x (k, few, is) = (k, few, is)
 rest_had (y ∷ ys) x (k, few, is) = (suc k, (omega (arith, few)), is)
 
 same_self : (m : MailMessage) → same_message m m ≡ true
-same_self Root = refl
-same_self (ForwardRequest k) = eq-eqb k k refl
-same_self (ForwardTimer k) = eq-eqb k k refl
-same_self (CancelRequest k) = eq-eqb k k refl
-same_self (CancelTimer k) = eq-eqb k k refl
+same_self = grind arith
 
 -- what is seen of seats, once another is visible of worker i
 pub seats_viewed : (vs : List Visible) (seats : List Chair) (i : ℕ) (v : Visible) (chair : Chair) → slice_get seats i ≡ Some chair → seats_seen (slice_set vs i v) seats ≡ slice_set (seats_seen vs seats) i (seat_seen v chair)
 seats_viewed [] seats i v chair there = refl
 seats_viewed (x ∷ vs) [] i v chair there = absurd (cc)
-seats_viewed (x ∷ vs) (seat ∷ seats) zero v chair there =
-    let is : seat ≡ chair = cc in
-    ap (λ c. seat_seen v c ∷ seats_seen vs seats) is
+seats_viewed (x ∷ vs) (seat ∷ seats) zero v chair there = grind arith
 seats_viewed (x ∷ vs) (seat ∷ seats) (suc i) v chair there = ap (λ ys. seat_seen x seat ∷ ys) (seats_viewed vs seats i v chair there)
 
 -- WHERE IT LEADS
@@ -73,19 +67,7 @@ pub record AppliedKeeps {B : Type 0} (spare : ℕ) (w : Worker) (s : Shared B) :
 module _ {B : Type 0} where
   -- what the worker has already
   pub applied_keeps : (applied : ℕ) (taken : Bool) (w : Worker) (s : Shared B) → SoundAt (Place.Mail (InMail.Apply applied taken)) w s → AppliedKeeps (64 - applied) w s
-  applied_keeps applied taken w s sound =
-      record {
-        told = sound.told;
-        wide = sound.wide;
-        named = sound.named;
-        sized = sound.sized;
-        over = sound.over;
-        due = sound.due;
-        flown = sound.flown;
-        carried = sound.carried;
-        known = sound.known;
-        rooted = sound.rooted;
-      }
+  applied_keeps = grind arith
 
   module _ (applied : ℕ) (taken : Bool) (w v : Worker) (s t : Shared B) (sound : SoundAt (Place.Mail (InMail.Apply applied taken)) w s)
       (spares : SparesRecords w.index s (record s { requests = t.requests; sleepers = t.sleepers }))
@@ -234,11 +216,7 @@ pub record Leads (q : Place) : Type 0 where
   pub stands : (root : ℕ) → polled_in root q ≡ None
 
 pub leads : (applied : ℕ) (ms : List MailMessage) → Leads (after_message (applied + 1) ms)
-leads applied ms = by (ends_turn applied ms)
-  where
-    by : (b : Bool) → Leads (led_by b applied)
-    by true = record { polls = refl; free = refl; unserved = refl; owes = λ n. refl; begins = refl; claims = refl; counts = refl; published = refl; drops = refl; stands = λ root. refl }
-    by false = record { polls = refl; free = refl; unserved = and_none (applied + 1 == 0) false refl; owes = λ n. refl; begins = refl; claims = refl; counts = refl; published = refl; drops = refl; stands = λ root. refl }
+leads = grind arith
 
 -- one message less is in hand
 pub one_less : (others : Profile) (w : Worker) (mail : Mail) → slice_get w.batch.values 0 ≡ Some mail → (k : Mail) → (with_worker others w).mail k ≡ (with_worker others (passed_on w)).mail k + mail_in k (mail ∷ [])
@@ -255,9 +233,7 @@ polls_viewed : (vs : List Visible) (seats : List Chair) (i : ℕ) (v mine : Visi
 polls_viewed [] seats i v mine seen wakes = refl
 polls_viewed (x ∷ vs) [] zero v mine seen wakes = refl
 polls_viewed (x ∷ vs) [] (suc i) v mine seen wakes = refl
-polls_viewed (x ∷ vs) (seat ∷ seats) zero v mine seen wakes =
-    let is : x ≡ mine = cc in
-    ap (λ p. raised_times seat.raised p ∷ polls_seen vs seats) (wakes ∙ ap (λ (u : Visible). u.wakes) (sym is))
+polls_viewed (x ∷ vs) (seat ∷ seats) zero v mine seen wakes = grind arith
 polls_viewed (x ∷ vs) (seat ∷ seats) (suc i) v mine seen wakes = ap (λ ys. raised_times seat.raised x.wakes ∷ ys) (polls_viewed vs seats i v mine seen wakes)
 
 module _ {B : Type 0} where
@@ -266,20 +242,7 @@ module _ {B : Type 0} where
 
 -- the same of what others rely on
 pub profile_there : (applied : ℕ) (taken : Bool) (w v u : Worker) → w.place ≡ Place.Mail (InMail.Apply applied taken) → u ≡ record v { place = u.place } → v.place ≡ w.place → Leads u.place → SameProfile v u
-profile_there applied taken w v u here same at to =
-    let was : v.place ≡ Place.Mail (InMail.Apply applied taken) = at ∙ here in
-    record {
-      hand = ap (λ (x : Worker). x.hand) same;
-      loot = ap (λ (x : Worker). x.loot) same;
-      polls = to.polls ∙ sym (ap polls_at was);
-      claims = to.claims ∙ sym (ap claims_at was);
-      searching = ap (λ (x : Worker). x.searching) same;
-      counts = to.counts ∙ sym (ap has_count_at was);
-      index = ap (λ (x : Worker). x.index) same;
-      published = to.published ∙ sym (ap is_published_at was);
-      drops = to.drops ∙ sym (ap drops_at was);
-      told = record { batch = ap (λ (x : Worker). x.batch) same; letters = ap (λ (x : Worker). x.letters) same; left = ap (λ (x : Worker). x.home.deferred) same };
-    }
+profile_there = grind arith
 
 module _ {B L : Type 0} (left : B → L) (spot : L → Option Said → Spot) where
   -- WHAT THE MACHINE MAKES OF IT

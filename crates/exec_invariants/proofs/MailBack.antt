@@ -2,96 +2,39 @@
 use Rattle.std.proofs.{Common.{map, ◌≡◌, ℕ, [], ◌&&◌, ◌+◌, ◌<◌, ◌-◌, Bool, length, drop, nat_lt, arith, true, false, Option, Some, None, refl, sym, ap, subst, ◌∙◌, if◌then◌else◌}, lemmas.{Bool.Decides.nat_tests, List.length-drop}}
 use Rattle.std.specs.Vec.{vec_capacity}
 use Rattle.exec_waiters.specs.{Told.is_untold, declared.deferred.Deferred.Deferred}
-use Rattle.exec_driver.specs.Driving.{is_full}
 use Rattle.exec_task.specs.declared.body.Said.{Said}
 use Rattle.exec_machine.specs.{declared.{event.Event.{Event, TheVariants.Turn}, state.Next.Next}, After.common_after, Choice.Choice.Plain, Ranges.ring_size, World.{Common, Own as Books}}
-use Rattle.exec_moves.specs.{declared.{handing.{AfterCallbacks.AfterCallbacks, AfterLeave.AfterLeave}, idling.{InRingWait.InRingWait, Stay.Stay}, place.{InCallbacks.InCallbacks, InClosing.InClosing, Place.Place}}, Callback.{Item.LetsGo, item_next, next_callback}, State.Desk, Move.{move_at, move_item}, Seen.{next_at, polls_at, serves_at}}
-use Rattle.exec_parts.{specs.{declared.parts.{mail.Reply.Reply, shared.Shared.Shared, worker.Worker.Worker}, Calls.{KeepsRoom, IsTold}, Spots.Spot, Tests.{after_callbacks_of, has_open_requests, is_anything_told, leave_of, next_callback_of}, Roles.is_pool, View.{common_of, desk_of, driver_of, owed_at, own_of, things_with, visible, with_view}}, proofs.Facts.{by_not, by_not_not, true_false}}
-use Rattle.exec_invariants.{specs.{HoldPlaces.spare_before, Kinds.{Kind, lowered}, Places.{claims_at, drops_at, has_count_at, is_pooled_at, is_published_at, searches_at, searches_before}, Rooted.IsRooted, Sound.{HasLetters, IsSearching, SoundAt, has_wakes_at}, Names.{HasWidth, tellers}, Works.{Beside, Steps, Suits}}, proofs.{PoolKept.gates_same, Aside.{SameProfile, beside_calm, seats_same, spares_turn, told_on}, CallsBack.{Pushed, To, callback_seen, callbacks_seen, none_left, pushed, to_after, to_call}, Counting.{SameHands, Stance, counts_same, stance_at, stance_here, whole_counted}, Hearing.unheard, Idled.{Fares, Holds, plain_of, settled}, Turning.{GoesOn, IsTurn, sound_on, turned, view_found}}}
-
-same_batch : (n : AfterCallbacks) → plain_of (Place.Callbacks InCallbacks.TakeBatch n) ≡ plain_of (pushed n)
-same_batch AfterCallbacks.Look = refl
-same_batch AfterCallbacks.Test = refl
-same_batch AfterCallbacks.Begin = refl
-same_batch AfterCallbacks.Drain = refl
-same_batch AfterCallbacks.Finish = refl
-
-same_leave : (n : AfterCallbacks) → plain_of (Place.LeaveSearch (AfterLeave.CallBack n)) ≡ plain_of (pushed n)
-same_leave AfterCallbacks.Look = refl
-same_leave AfterCallbacks.Test = refl
-same_leave AfterCallbacks.Begin = refl
-same_leave AfterCallbacks.Drain = refl
-same_leave AfterCallbacks.Finish = refl
+use Rattle.exec_moves.specs.{declared.{handing.{AfterCallbacks.AfterCallbacks, AfterLeave.AfterLeave}, place.{InCallbacks.InCallbacks, Place.Place}}, Callback.{Item.LetsGo, item_next, next_callback}, State.Desk, Move.{move_at, move_item}, Seen.{next_at, polls_at, serves_at}}
+use Rattle.exec_parts.{specs.{declared.parts.{mail.Reply.Reply, shared.Shared.Shared, worker.Worker.Worker}, Calls.{KeepsRoom, IsTold}, Spots.Spot, Tests.{after_callbacks_of, is_anything_told, leave_of, next_callback_of}, View.{common_of, desk_of, driver_of, owed_at, own_of, things_with, visible, with_view}}, proofs.Facts.{by_not_not, true_false}}
+use Rattle.exec_invariants.{specs.{HoldPlaces.spare_before, Places.{claims_at, drops_at, searches_at, searches_before}, Rooted.IsRooted, Sound.{IsSearching, SoundAt, has_wakes_at}, Names.{HasWidth, tellers}, Works.{Beside, Steps, Suits}}, proofs.{PoolKept.gates_same, Aside.{SameProfile, beside_calm, seats_same, spares_turn, told_on}, CallsBack.{Pushed, To, callback_seen, callbacks_seen, none_left, to_after, to_call}, Counting.{SameHands, Stance, counts_same, stance_at, stance_here, whole_counted}, Hearing.unheard, Idled.{Fares, Holds, settled}, Turning.{GoesOn, IsTurn, sound_on, turned, view_found}}}
 
 -- where the batch leads
 abbrev pub from_batch : AfterCallbacks → Worker → Place
 from_batch n w = if is_anything_told w then leave_of (AfterLeave.CallBack n) w else after_callbacks_of n w
 
 by_leave : {A : Type 0} (b t : Bool) (l c a : A) → (if b && t then l else if t then c else a) ≡ (if t then (if b then l else c) else a)
-by_leave true true l c a = refl
-by_leave true false l c a = refl
-by_leave false true l c a = refl
-by_leave false false l c a = refl
-
-searching_either : (b : Bool) (x y : Place) (seek : Bool) → IsSearching (searches_at x) seek → IsSearching (searches_at y) seek → IsSearching (searches_at (if b then x else y)) seek
-searching_either true x y seek h k = h
-searching_either false x y seek h k = k
+by_leave = grind arith
 
 still_searching : (n : AfterCallbacks) (w : Worker) → IsSearching (searches_before n) w.searching → IsSearching (searches_at (after_callbacks_of n w)) w.searching
-still_searching AfterCallbacks.Look w h = searching_either (is_pool w.role) _ _ w.searching tt tt
-still_searching AfterCallbacks.Test w h = searching_either (is_pool w.role) _ _ w.searching tt tt
-still_searching AfterCallbacks.Begin w h = tt
-still_searching AfterCallbacks.Drain w h = h
-still_searching AfterCallbacks.Finish w h =
-    searching_either (has_open_requests w) _ _ w.searching (searching_either (is_full (driver_of w)) (Place.RingWait InRingWait.EnterFullRing Stay.Closing) (Place.RingWait InRingWait.TestRing Stay.Closing) w.searching h h) h
+still_searching = grind arith
 
 -- nobody is served there, and no letters are owed
 pub record Rests (m : ℕ) (q : Place) : Type 0 where
   pub unserved : serves_at q ≡ false
   pub owes : owed_at m q ≡ []
 
-rests_either : (m : ℕ) (b : Bool) (x y : Place) → Rests m x → Rests m y → Rests m (if b then x else y)
-rests_either m true x y h k = h
-rests_either m false x y h k = k
-
-rests_after : (m : ℕ) (n : AfterCallbacks) (w : Worker) → Rests m (after_callbacks_of n w)
-rests_after m AfterCallbacks.Look w = rests_either m (is_pool w.role) _ _ (record { unserved = refl; owes = refl }) (record { unserved = refl; owes = refl })
-rests_after m AfterCallbacks.Test w = rests_either m (is_pool w.role) _ _ (record { unserved = refl; owes = refl }) (record { unserved = refl; owes = refl })
-rests_after m AfterCallbacks.Begin w = record { unserved = refl; owes = refl }
-rests_after m AfterCallbacks.Drain w = record { unserved = refl; owes = refl }
-rests_after m AfterCallbacks.Finish w =
-    let still : Rests m (Place.Closing InClosing.End) = record { unserved = refl; owes = refl } in
-    let full : Rests m (Place.RingWait InRingWait.EnterFullRing Stay.Closing) = record { unserved = refl; owes = refl } in
-    let test : Rests m (Place.RingWait InRingWait.TestRing Stay.Closing) = record { unserved = refl; owes = refl } in
-    rests_either m (has_open_requests w) _ _ (rests_either m (is_full (driver_of w)) _ _ full test) still
-
 rests_from : (m : ℕ) (n : AfterCallbacks) (w : Worker) → Rests m (from_batch n w)
-rests_from m n w =
-    let leave : Rests m (Place.LeaveSearch (AfterLeave.CallBack n)) = record { unserved = refl; owes = refl } in
-    let call : Rests m (Place.Callbacks InCallbacks.CallBack n) = record { unserved = refl; owes = refl } in
-    rests_either m (is_anything_told w) _ _ (rests_either m w.searching _ _ leave call) (rests_after m n w)
+rests_from = grind arith
 
 pub idle_before : (n : AfterCallbacks) (b : Bool) → b ≡ false → IsSearching (searches_before n) b
-idle_before AfterCallbacks.Look b h = tt
-idle_before AfterCallbacks.Test b h = tt
-idle_before AfterCallbacks.Begin b h = tt
-idle_before AfterCallbacks.Drain b h = h
-idle_before AfterCallbacks.Finish b h = h
+idle_before = grind arith
 
 -- the machine's next item rests on no place
 pub place_unread : (size i : ℕ) (me : Books) (s : Common) (n : AfterCallbacks) (d : Desk) (q : Place) → next_callback size i me s n (record d { place = q }) ≡ next_callback size i me s n d
-place_unread size i me s AfterCallbacks.Look d q = refl
-place_unread size i me s AfterCallbacks.Test d q = refl
-place_unread size i me s AfterCallbacks.Begin d q = refl
-place_unread size i me s AfterCallbacks.Drain d q = refl
-place_unread size i me s AfterCallbacks.Finish d q = refl
+place_unread = grind arith
 
 own_unread : (n : AfterCallbacks) (w : Worker) (q : Place) → next_callback_of n (record w { place = q }) ≡ next_callback_of n w
-own_unread AfterCallbacks.Look w q = refl
-own_unread AfterCallbacks.Test w q = refl
-own_unread AfterCallbacks.Begin w q = refl
-own_unread AfterCallbacks.Drain w q = refl
-own_unread AfterCallbacks.Finish w q = refl
+own_unread = grind arith
 
 pub positive : (n : ℕ) → 0 < n → nat_lt 0 n ≡ true
 positive n h = grind (arith, nat_tests)
@@ -104,9 +47,7 @@ pub item_let_go : (me : Books) (d : Desk) → d.wakes ≡ [] → nat_lt 0 d.outp
 item_let_go me d none some = rw (none, some) refl
 
 pub rests_next : (m : ℕ) (n : AfterCallbacks) (w : Worker) → Rests m (next_callback_of n w)
-rests_next m n w =
-    let call : Rests m (Place.Callbacks InCallbacks.CallBack n) = record { unserved = refl; owes = refl } in
-    rests_either m (is_anything_told w) _ _ call (rests_after m n w)
+rests_next = grind arith
 
 abbrev pub stance : Worker → Stance
 stance w = record { searching = w.searching; counted = false; published = false }
@@ -117,42 +58,10 @@ module _ {B : Type 0} where
   pushed_batch n w s sound = record { told = sound.told; wide = sound.wide; bare = sound.lets_go; batch = sound.batch; held = sound.queue; phased = sound.phased; counted = sound.over.counted }
 
   fare_to : (n : AfterCallbacks) (q' : Place) (w : Worker) (s : Shared B) → SoundAt (Place.Callbacks InCallbacks.TakeBatch n) w s → To n q' w s → IsSearching (searches_at q') w.searching → Fares (Place.Callbacks InCallbacks.TakeBatch n) q' (stance w) w s
-  fare_to n q' w s sound it searches =
-      let to = it.to in
-      record {
-        same = ap (λ (k : Kind). record k { owes = λ m. []; sends_cancel = false; cancels = false; serves = false }) to.same ∙ ap (lowered w.role (is_pooled_at q')) (sym (same_batch n));
-        searches = searches;
-        counts = to.counts;
-        published = to.published;
-        queue = to.queue;
-        aims = to.aims;
-        batch = to.batch;
-        quiet = to.quiet;
-        left = to.left;
-        told = to.told;
-        letters = subst (λ (k : Kind). HasLetters k.sends_cancel k.cancels w.index s.config.workers w.letters s.requests.items s.sleepers.items) (sym to.same) sound.letters;
-        lets_go = to.lets_go;
-        phased = to.phased;
-      }
+  fare_to = grind arith
 
   fare_leave : (n : AfterCallbacks) (w : Worker) (s : Shared B) → SoundAt (Place.Callbacks InCallbacks.TakeBatch n) w s → w.searching ≡ true → is_anything_told w ≡ true → Fares (Place.Callbacks InCallbacks.TakeBatch n) (Place.LeaveSearch (AfterLeave.CallBack n)) (stance w) w s
-  fare_leave n w s sound seeks some =
-      let it = pushed_batch n w s sound in
-      record {
-        same = same_leave n ∙ sym (same_batch n);
-        searches = seeks;
-        counts = refl;
-        published = refl;
-        queue = it.held;
-        aims = tt;
-        batch = it.batch;
-        quiet = λ h. true_false h;
-        left = by_not (is_untold w.home.deferred) some;
-        told = it.told;
-        letters = sound.letters;
-        lets_go = it.bare;
-        phased = it.phased;
-      }
+  fare_leave = grind arith
 
   fares_either : (n : AfterCallbacks) (b : Bool) (x y : Place) (w : Worker) (s : Shared B)
       → (b ≡ true → Fares (Place.Callbacks InCallbacks.TakeBatch n) x (stance w) w s) → (b ≡ false → Fares (Place.Callbacks InCallbacks.TakeBatch n) y (stance w) w s) → Fares (Place.Callbacks InCallbacks.TakeBatch n) (if b then x else y) (stance w) w s
@@ -303,18 +212,7 @@ module _ {B L : Type 0} (left : B → L) (spot : L → Option Said → Spot) whe
       let free : next_at q' ≡ Next.Free = ap (λ k. k.next) to.same in
       let fewer : length w.home.deferred.outputs.items - 1 ≡ length left'.outputs.items = sym (ap length items ∙ length-drop 1 w.home.deferred.outputs.items) in
       let u : Worker = record w { place = q' } in
-      let alike : SameProfile w u = record {
-        hand = refl;
-        loot = refl;
-        polls = polls ∙ sym (ap polls_at sound.here);
-        claims = ap (λ k. k.claims) to.same ∙ sym (ap claims_at sound.here);
-        searching = refl;
-        counts = to.counts ∙ sym (ap has_count_at sound.here);
-        index = refl;
-        published = to.published ∙ sym (ap is_published_at sound.here);
-        drops = ap (λ k. k.drops) to.same ∙ sym (ap drops_at sound.here);
-        told = record { batch = refl; letters = refl; left = refl };
-      } in
+      let alike : SameProfile w u = grind arith in
       let by : Beside w s u s = beside_calm w u s s alike refl (seats_same w.index s.seats.items s.seats.items refl) (gates_same s.seats.items s.seats.items refl) refl refl refl refl in (
         (λ p vs suits.
             let cs = common_of left spot p vs s in

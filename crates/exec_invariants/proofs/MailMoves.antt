@@ -54,11 +54,7 @@ module _ (h h' : Hands) (workers : ℕ) (hs : List Holder) (ts : List Thing) (na
       nothing m (k, few, is) = omega (arith, few)
 
       way : (x : Mail) → under_way h' x (slice_set boxes i box') ≡ under_way h x boxes
-      way x =
-          let sums = sum_set (λ (b : Box). mail_in x b.messages) boxes i box box' by.there in
-          let none : mail_in x box'.messages ≡ 0 = ap (mail_in x) by.none in
-          let more = by.mail x in
-          omega (arith, sums, none, more)
+      way = grind (arith, sum_set)
 
       by_hand : (m : Mail) (n : ℕ) → h.mail m ≡ n → 0 < h'.mail m → (j : ℕ) × IsAbout workers j m ts naps
       by_hand m (suc n) is some = old.made m (omega (arith, is))

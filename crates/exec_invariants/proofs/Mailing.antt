@@ -4,7 +4,7 @@ use Rattle.exec_words.specs.{Inbox.{Inbox, batch_handed, batch_taken}, Reserved.
 use Rattle.exec_task.specs.declared.body.Said.{Said}
 use Rattle.exec_machine.specs.{declared.event.Event.{Event, TheVariants.Turn}, Choice.Choice.Plain}
 use Rattle.exec_moves.specs.{declared.place.{InMail.InMail, Place.Place}, Load.has_mail, Mail.{load_mail_word, take_mail, to_callbacks}, Move.move_at, Seen.polls_at, State.{Moved, inbox_of, turns, word_of}, Thing.{set_inbox, with_inbox, with_word}}
-use Rattle.exec_parts.{specs.{declared.parts.{mail.Subject.Subject, seat.Seat.Seat as Chair, shared.Shared.Shared, worker.Worker.Worker}, Phased.{IsPhased, TurnsChair, stage_of}, Pooled.OfChair, MailPosts.IsMailbox, Spots.Spot, View.{Views, Visible, common_of, desk_of, inbox_at, message_of, own_of, polls_seen, queue_at, seat_seen, seats_seen, things_of, things_with, visible, with_view, word_at}, Things.{Goes, Makes}}, proofs.{Facts.{same_thing, set_there, true_false}, Showing.{map_kept, map_set}}}
+use Rattle.exec_parts.{specs.{declared.parts.{mail.Subject.Subject, seat.Seat.Seat as Chair, shared.Shared.Shared, worker.Worker.Worker}, Phased.{IsPhased, TurnsChair, stage_of}, Pooled.OfChair, MailPosts.IsMailbox, Spots.Spot, View.{Views, Visible, common_of, desk_of, inbox_at, message_of, own_of, seat_seen, seats_seen, things_of, things_with, visible, with_view}, Things.{Goes, Makes}}, proofs.{Facts.{same_thing, set_there, true_false}, Showing.{map_kept, map_set}}}
 use Rattle.exec_invariants.{specs.{Holding.{IsHolding, Mail, box_of, holder_of, mail_in, mail_of_letters, nap_of, same_mail, thing_of}, Places.{claims_at, drops_at, has_count_at, is_published_at}, Sound.{IsMyMail, IsSeated, SoundAt}, Whole.{HasWhole, IsWhole, Profile, hands_of, with_worker}, Works.Steps}, proofs.{AskBoxes.box_there, Aside.{HoldsIn, SameProfile, SparesSeats, beside_calm, queue_of_chair, queues_set, seats_own, seats_same}, Dedicated.as_long, Hearing.unheard, Idled.{Fares, Holds, settled}, MailBack.stance, MailMoves.{all_taken, beside_moved}, PoolKept.{gates_same, gates_set}, Turning.{Shares, set_found, turned, word_back_again}, HandedOver.{taken_none, taken_some, handed_none, handed_some, by_list, seats_both, polls_both, my_mail, LeadsOn, told_past}}}
 
 below : (n : ℕ) → n % 2 ^ 29 < 2 ^ 29
@@ -14,50 +14,17 @@ module _ {B : Type 0} where
   -- the inbox of worker j became this
   pub inbox_shows : (vs : Views) (j : ℕ) (v : Visible) (s s' : Shared B) (chair chair' : Chair) (mine : Visible) → slice_get vs.workers j ≡ Some mine → slice_get s.seats.items j ≡ Some chair → s' ≡ record s { seats = s'.seats } → s'.seats.items ≡ slice_set s.seats.items j chair'
       → chair'.queue ≡ chair.queue → chair'.mailbox.waker ≡ chair.mailbox.waker → chair'.raised ≡ chair.raised → v.wakes ≡ mine.wakes → things_with (with_view vs j v) s' ≡ set_inbox j (things_with vs s) (inbox_at chair')
-  inbox_shows vs j v s s' chair chair' mine seen there kept set queue word raised wakes =
-      ap (λ (z : Shared B). things_with (with_view vs j v) z) kept
-      ∙ ap (λ (cs : List Chair). record (things_with (with_view vs j v) s) { queues = map queue_at cs; words = map word_at cs; inboxes = map inbox_at cs; wake_polls = polls_seen (slice_set vs.workers j v) cs }) set
-      ∙ rw (map_kept queue_at s.seats.items j chair' chair there (rw queue refl), map_kept word_at s.seats.items j chair' chair there word, map_set inbox_at s.seats.items j chair', polls_both vs.workers s.seats.items j mine v chair chair' seen there wakes raised) refl
+  inbox_shows = grind (arith, map_kept, map_set, polls_both)
 
   pub own_inbox_seen : (j : ℕ) (s : Shared B) (chair : Chair) → slice_get s.seats.items j ≡ Some chair → inbox_of (things_of s) j ≡ inbox_at chair
   own_inbox_seen j s chair there = get_or_from_slice_get (map inbox_at s.seats.items) j (inbox_at chair) [] (slice_get-map inbox_at s.seats.items j ∙ ap (option_map inbox_at) there)
 
   -- WHAT HOLDS of a worker without mail
   to_take : (w : Worker) (s : Shared B) → SoundAt (Place.Mail InMail.LoadMailWord) w s → Fares (Place.Mail InMail.LoadMailWord) (Place.Mail InMail.TakeMail) (stance w) w s
-  to_take w s sound =
-      record {
-        same = refl;
-        searches = tt;
-        counts = refl;
-        published = refl;
-        queue = sound.queue;
-        aims = tt;
-        batch = sound.batch;
-        quiet = λ h. true_false h;
-        left = tt;
-        told = sound.told;
-        letters = sound.letters;
-        lets_go = sound.lets_go;
-        phased = sound.phased;
-      }
+  to_take = grind arith
 
   to_back : (w : Worker) (s : Shared B) → SoundAt (Place.Mail InMail.LoadMailWord) w s → Fares (Place.Mail InMail.LoadMailWord) to_callbacks (stance w) w s
-  to_back w s sound =
-      record {
-        same = refl;
-        searches = tt;
-        counts = refl;
-        published = refl;
-        queue = sound.queue;
-        aims = tt;
-        batch = λ h. sound.batch;
-        quiet = λ h. true_false h;
-        left = tt;
-        told = told_past w 64 0 (omega arith) sound.told;
-        letters = sound.letters;
-        lets_go = sound.lets_go;
-        phased = sound.phased;
-      }
+  to_back = grind arith
 
   -- with the batch that it took
   sound_taken : (w : Worker) (s s' : Shared B) (batch : Reserved Mail) (n : ℕ) (seat' : Chair) → (sound : SoundAt (Place.Mail InMail.TakeMail) w s) → s'.seats.items ≡ slice_set s.seats.items w.index seat' → IsMailbox seat'.mailbox → seat'.mailbox.waker ≡ sound.seated.seat.mailbox.waker → seat'.pool ≡ sound.seated.seat.pool
@@ -238,18 +205,7 @@ module _ {B L : Type 0} (left : B → L) (spot : L → Option Said → Spot) whe
       let shares : Shares s s' = subst (λ (z : Shared B). z ≡ record s { seats = z.seats; idle = z.idle; global = z.global }) (sym kept) refl in
       let queue : seat'.queue ≡ seat.queue = ap (λ (c : Chair). c.queue) shape in
       let seats : SparesSeats w.index s.seats.items s'.seats.items = seats_own w.index s.seats.items s'.seats.items seat seat' items there (rw queue (omega arith)) in
-      let profile : SameProfile (record w { batch = batch }) w1 = record {
-        hand = refl;
-        loot = refl;
-        polls = on.turn.polls ∙ sym (ap polls_at sound.here);
-        claims = on.claims ∙ sym (ap claims_at sound.here);
-        searching = refl;
-        counts = on.counts ∙ sym (ap has_count_at sound.here);
-        index = refl;
-        published = on.published ∙ sym (ap is_published_at sound.here);
-        drops = on.drops ∙ sym (ap drops_at sound.here);
-        told = record { batch = refl; letters = refl; left = refl };
-      } in
+      let profile : SameProfile (record w { batch = batch }) w1 = grind arith in
       let gates = gates_set w.index s.seats.items s'.seats.items seat seat' items there (record { left = ap (λ (c : Chair). c.left) shape; pool = ap (λ (c : Chair). c.pool) shape; closed = closed; mail = λ h. mail }) in
       let shows : seat_seen (visible w1) seat' ≡ seat_seen (visible w) seat = ap (λ (c : Chair). seat_seen (visible w1) c) shape ∙ rw (over, closed) refl in (
         (λ p vs suits.
@@ -299,10 +255,7 @@ module _ {B L : Type 0} (left : B → L) (spot : L → Option Said → Spot) whe
 
       by_desk : (q' : Place) (new : Reserved Mail) (processed : ℕ) → w'.batch ≡ new → take_mail (desk_of w) (inbox_of (things_of s) w.index) ≡ turns q' (record (desk_of w) { batch = map message_of new.values; processed = processed }) []
           → Steps left spot w s Turn (record w { place = q'; batch = new; processed = processed }) s' → Steps left spot w s e w' s'
-      by_desk q' new processed is how steps =
-          let desk : desk_of w' ≡ record (desk_of w) { place = q'; batch = map message_of new.values; processed = processed } = makes.desk ∙ ap (λ m. m.desk) how in
-          let worker : w' ≡ record w { place = q'; batch = new; processed = processed } = same ∙ rw (is, ap (λ d. d.place) desk, ap (λ d. d.processed) desk) refl in
-          subst (λ v. Steps left spot w s e v s') (sym worker) (subst (λ x. Steps left spot w s x (record w { place = q'; batch = new; processed = processed }) s') (sym (makes.event ∙ ap (λ m. m.event) how)) steps)
+      by_desk = grind arith
 
       nothing : inbox.messages ≡ [] → Steps left spot w s e w' s'
       nothing none =

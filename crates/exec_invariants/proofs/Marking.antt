@@ -1,5 +1,6 @@
 -- A record that is marked, as released or as one that has paid: what is named by it stays.
 use Rattle.std.{proofs.{Common.{◌≡◌, ℕ, ◌==◌, Bool, true, false, List, [], ◌∷◌, length, Option, Some, None, refl, sym, ap, subst, ◌∙◌, slice_get, if◌then◌else◌}, lemmas.List.length-set}, specs.Option.option_map}
+use Rattle.std.proofs.Common.{arith}
 use Rattle.exec_base.specs.{Slab.{Slab}}
 use Rattle.exec_time.specs.declared.timers.Sleeper.{Sleeper as Sleeping}
 use Rattle.exec_ring.specs.Rings.{RingState}
@@ -39,10 +40,7 @@ marks_if f marks false r = refl
 
 module _ (f : Record → Record) (rs : List Record) (q : ℕ) where
   marked_by : (b : Bool) (o : Option Record) → (if b then option_map f o else o) ≡ option_map (mark_if f b) o
-  marked_by true None = refl
-  marked_by true (Some r) = refl
-  marked_by false None = refl
-  marked_by false (Some r) = refl
+  marked_by = grind arith
 
   pub get_marked : (k : ℕ) → slice_get (changed_at rs q f) k ≡ option_map (mark_if f (q == k)) (slice_get rs k)
   get_marked k = get_changed rs q k f ∙ marked_by (q == k) (slice_get rs k)
@@ -51,15 +49,7 @@ module _ (f : Record → Record) (rs : List Record) (q : ℕ) where
   marked k r there = get_marked k ∙ ap (option_map (mark_if f (q == k))) there
 
   pub was_marked : (k : ℕ) (x : Record) → slice_get (changed_at rs q f) k ≡ Some x → (r : Record) × (slice_get rs k ≡ Some r) × (x ≡ mark_if f (q == k) r)
-  was_marked k x there = from (slice_get rs k) refl
-    where
-      from : (o : Option Record) → slice_get rs k ≡ o → (r : Record) × (slice_get rs k ≡ Some r) × (x ≡ mark_if f (q == k) r)
-      from None none =
-          let no : option_map (mark_if f (q == k)) None ≡ Some x = ap (option_map (mark_if f (q == k))) (sym none) ∙ sym (get_marked k) ∙ there in
-          absurd (cc)
-      from (Some r) found =
-          let yes : Some (mark_if f (q == k) r) ≡ Some x = ap (option_map (mark_if f (q == k))) (sym found) ∙ sym (get_marked k) ∙ there in
-          (r, found, cc)
+  was_marked = grind (arith, get_marked)
 
   pub marked_length : length (changed_at rs q f) ≡ length rs
   marked_length =

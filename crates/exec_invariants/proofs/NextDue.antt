@@ -2,10 +2,10 @@
 use Rattle.std.{proofs.{Common.{◌≡◌, ℕ, ◌+◌, ◌*◌, ◌≤◌, ◌==◌, Bool, true, false, not, List, [], ◌∷◌, map, Option, Some, None, IsSome, refl, sym, ap, subst, ◌∙◌, arith, slice_get, if◌then◌else◌}, lemmas.Bool.{false≢true, eq-eqb, Decides.nat_tests}}, specs.Option.option_map}
 use Rattle.exec_base.specs.{Slab.{Slab, value_at}, declared.slab.Id.Id}
 use Rattle.exec_time.specs.{Wheel.{Wheel, moment_of, next_moment, least_active}, declared.timers.Sleeper.Sleeper as Sleeping}
-use Rattle.exec_waiters.specs.{States.{waiter_at, waiter_of, tick_in, tick_of}, declared.waiter.{Entry.Entry, Waiter.Waiter}}
+use Rattle.exec_waiters.specs.{States.{waiter_at, tick_in, tick_of}, declared.waiter.{Entry.Entry, Waiter.Waiter}}
 use Rattle.exec_driver.specs.{Driving.Driving, Lists.has_first, Punctual.IsFirstTick}
 use Rattle.exec_task.specs.declared.body.Said.{Said}
-use Rattle.exec_machine.specs.{Deadlines.{earlier, first_timer, first_until, next_due}, Progress.Plan, Tests.{is_asleep, is_open, is_resolved}}
+use Rattle.exec_machine.specs.{Deadlines.{first_timer, first_until, next_due}, Progress.Plan, Tests.{is_asleep, is_open, is_resolved}}
 use Rattle.exec_moves.specs.declared.place.Place.{Place}
 use Rattle.exec_parts.specs.{declared.parts.{mail.Reply.Reply, names.Names.Names, record.Record.Record, shared.Shared.Shared, sleeping.SleeperRecord.SleeperRecord, worker.Worker.Worker}, Records.number_in, Spots.Spot, Tests.{HasToldDue, IsFirstSleep, IsNextIn, IsNextMoment}, View.{Views, driver_of, common_of}}
 use Rattle.exec_invariants.{specs.{Due.{AreAsleep, AreTimed, may_be_due}, Names.IsNamed, Sound.{SoundAt, served_in}, Works.Suits}, proofs.{Unclosed.unclosed, Leasts.{HasAt, IsLeast, least_in, least_there, least_once}, Seats.own_seat}}
@@ -20,21 +20,11 @@ sleeps_until i z = if is_asleep i z.shown then Some z.shown.until else None
 
 timers_seen : (i : ℕ) (rs : List Record) → first_timer i (map (λ r. r.shown) rs) ≡ least_in (deadline_of i) rs
 timers_seen i [] = refl
-timers_seen i (r ∷ rs) = by (r.shown.worker == i) (timers_seen i rs)
-  where
-    by : (b : Bool) → first_timer i (map (λ x. x.shown) rs) ≡ least_in (deadline_of i) rs
-        → (if b then earlier r.shown.timer (first_timer i (map (λ x. x.shown) rs)) else first_timer i (map (λ x. x.shown) rs)) ≡ earlier (if b then r.shown.timer else None) (least_in (deadline_of i) rs)
-    by true same = ap (earlier r.shown.timer) same
-    by false same = same
+timers_seen i (r ∷ rs) = grind (arith, least_in, timers_seen i rs)
 
 sleeps_seen : (i : ℕ) (zs : List SleeperRecord) → first_until i (map (λ z. z.shown) zs) ≡ least_in (sleeps_until i) zs
 sleeps_seen i [] = refl
-sleeps_seen i (z ∷ zs) = by (is_asleep i z.shown) (sleeps_seen i zs)
-  where
-    by : (b : Bool) → first_until i (map (λ x. x.shown) zs) ≡ least_in (sleeps_until i) zs
-        → (if b then earlier (Some z.shown.until) (first_until i (map (λ x. x.shown) zs)) else first_until i (map (λ x. x.shown) zs)) ≡ earlier (if b then Some z.shown.until else None) (least_in (sleeps_until i) zs)
-    by true same = ap (earlier (Some z.shown.until)) same
-    by false same = same
+sleeps_seen i (z ∷ zs) = grind (arith, least_in, sleeps_seen i zs)
 
 -- who has a moment by a test has passed the test
 tested : (b : Bool) (o : Option ℕ) (m : ℕ) → (if b then o else None) ≡ Some m → (b ≡ true) × (o ≡ Some m)
@@ -42,11 +32,7 @@ tested true o m is = (refl, is)
 tested false o m is = absurd (cc)
 
 is_there : (s : Slab (Entry Reply Reply)) (id : Id) (it : Waiter Reply Reply) → waiter_at s id ≡ Some it → IsSome (value_at s id)
-is_there s id it is = by (value_at s id) refl
-  where
-    by : (o : Option (Entry Reply Reply)) → value_at s id ≡ o → IsSome (value_at s id)
-    by None none = let no : None ≡ Some it = sym (ap waiter_of none) ∙ is in absurd (cc)
-    by (Some entry) some = rw some refl
+is_there = grind arith
 
 no_later : (w : Wheel) (t u : ℕ) → t ≤ u → moment_of w t ≤ moment_of w u
 no_later w t u h = grind (arith, h)

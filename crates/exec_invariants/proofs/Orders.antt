@@ -1,6 +1,6 @@
 -- What keeps the order of deadlines: that ticks go, that one comes, that a new request waits for one.
-use Rattle.std.{proofs.{Common.{◌≡◌, ◌≢◌, ◌⊎◌, ℕ, ◌+◌, ◌%◌, ◌^◌, ◌<◌, eqb, Bool, true, false, List, [], ◌∷◌, ◌++◌, Option, Some, None, IsSome, refl, sym, ap, subst, ◌∙◌, arith, inl, inr, if◌then◌else◌, length, nat_lt}, lemmas.Bool.{false≢true, Decides.eqb_tells}}, specs.List.AllByRecursion}
-use Rattle.exec_base.{specs.{Slab.{Slab, IsPast, freed, generation_of, next_generation, next_id, next_index, removed, slot_at, value_at, written}, declared.slab.{Id.Id, Slot.TheVariants.Live}}, proofs.Slots.{Changed-set, IsLiveAt-from_value, live_within, ltb_tells, past-write, was_live}}
+use Rattle.std.{proofs.{Common.{◌≡◌, ◌≢◌, ◌⊎◌, ℕ, ◌+◌, ◌%◌, ◌^◌, ◌<◌, Bool, true, false, List, [], ◌∷◌, ◌++◌, Option, Some, None, IsSome, refl, sym, ap, subst, ◌∙◌, arith, inl, inr}, lemmas.Bool.{false≢true, Decides.eqb_tells}}, specs.List.AllByRecursion}
+use Rattle.exec_base.{specs.{Slab.{Slab, IsPast, freed, next_id, removed, value_at, written}, declared.slab.{Id.Id}}, proofs.Slots.{Changed-set, IsLiveAt-from_value, live_within, past-write, was_live}}
 use Rattle.exec_time.specs.Wheel.{Wheel, fresh, scheduled, removed as unticked}
 use Rattle.exec_waiters.{specs.{Events.with_tick, States.{awaits_tick, takes_tick, tick_in, tick_of, waiter_at}, declared.{waiter.{Entry.{Entry, TheVariants.Pending}, Waiter.Waiter}, waiter_id.WaiterId.WaiterId}}, proofs.Changes.entry_of}
 use Rattle.exec_driver.{specs.{Lists.{rest_of, without}, Steps.unscheduled}, proofs.{Counting.{OneChanged, one_written}, Names.same_tells}}
@@ -109,9 +109,7 @@ eased {round} {numbers} {s} {s'} {w} {w'} {es} {es'} {ds} {ds'} eases turns new 
 
 -- of a worker that samples the clock, with nothing due
 pub unordered : {round round' : Bool} {numbers : List ℕ} {s : Slab (Entry Reply Reply)} {w : Wheel} {es ds : List WaiterId} → ds ≡ [] → IsOrdered round numbers s w es ds → IsOrdered round' numbers s w es ds
-unordered {round} {round'} {numbers} {s} {w} {es} {ds} none it =
-    subst (λ x. IsOrdered round' numbers s w es x) (sym none)
-    (record { drained = it.drained; reach = it.reach; rise = it.rise; newer = it.newer; stands = it.stands; buckets = it.buckets; come = tt; told = tt })
+unordered = grind arith
 
 -- ONE REQUEST
 
@@ -120,62 +118,29 @@ module _ (s s' : Slab (Entry Reply Reply)) (id : Id) (was is : Option (Waiter Re
     (others : (other : Id) → other ≢ id → waiter_at s' other ≡ waiter_at s other) where
   pub eases_one : ((t : ℕ) → tick_of is ≡ Some t → tick_of was ≡ Some t) → (awaits_tick was ≡ false → awaits_tick is ≡ false)
       → ((other : Id) → other.generation < 2 ^ 64 → IsPast s other → IsPast s' other) → Eases s s'
-  eases_one tick taken past =
-      record {
-        ticks = λ other t at.
-            let differs : other ≢ id → tick_at s other ≡ Some t = λ apart. sym (ap tick_of (others other apart)) ∙ at in
-            by_name other id differs
-            (λ same. ap (tick_at s) same ∙ ap tick_of here ∙ tick t (ap tick_of (sym after) ∙ ap (tick_at s') (sym same) ∙ at));
-        taken = λ other there none.
-            let differs : other ≢ id → awaits_tick (waiter_at s' other) ≡ false = λ apart. ap awaits_tick (others other apart) ∙ none in
-            by_name other id differs
-            (λ same.
-            ap (λ x. awaits_tick (waiter_at s' x)) same ∙ ap awaits_tick after ∙ taken (ap awaits_tick (sym here) ∙ ap (λ x. awaits_tick (waiter_at s x)) (sym same) ∙ none));
-        past = past;
-      }
+  eases_one = grind arith
 
 -- an id that is there is past, and one that is given next was not there
 pub live_past : (s : Slab (Entry Reply Reply)) (id : Id) → IsSome (value_at s id) → IsPast s id
 live_past s id some = let was = was_live s id some in rw was.1 (omega arith)
 
-next_by : (s : Slab (Entry Reply Reply)) (id : Id) (b : Bool) → (if b then Some (record { index = next_index s.vacant (length s.slots); generation = generation_of (slot_at s (next_index s.vacant (length s.slots))) }) else None) ≡ Some id
-    → id.generation ≡ generation_of (slot_at s id.index)
-next_by s id true is =
-    let same : record { index = next_index s.vacant (length s.slots); generation = generation_of (slot_at s (next_index s.vacant (length s.slots))) } ≡ id = cc in
-    subst (λ (x : Id). x.generation ≡ generation_of (slot_at s x.index)) same refl
-next_by s id false is = absurd (cc)
-
 pub vacant_next : (s : Slab (Entry Reply Reply)) (id : Id) → next_id s ≡ Some id → (IsPast s id → ⊥) → (other : Id) → IsSome (value_at s other) → other.index ≢ id.index
-vacant_next s id next new other some same =
-    let was = was_live s other some in
-    let here : slot_at s id.index ≡ Live other.generation was.0 = ap (slot_at s) (sym same) ∙ was.1 in
-    let given : id.generation ≡ other.generation = next_by s id (nat_lt (next_index s.vacant (length s.slots)) (2 ^ 32)) next ∙ ap generation_of here in
-    new (rw here (omega (arith, given)))
+vacant_next = grind arith
 
 pub past_written : (s : Slab (Entry Reply Reply)) (id : Id) (e : Entry Reply Reply) → IsSome (value_at s id) → (other : Id) → other.generation < 2 ^ 64 → IsPast s other → IsPast (written s id e) other
 past_written s id e some other bounded past = (past-write s id e some other).1 past
-
-freed_past : (g h : ℕ) → h < 2 ^ 64 → h < g + 1 → h < next_generation (freed {T = Entry Reply Reply} g)
-freed_past g h bounded past = elim (ltb_tells (g + 1) (2 ^ 64)) [ inl e ↦ rw e.0 past | inr e ↦ rw e.0 bounded ]
 
 pub past_removed : (s : Slab (Entry Reply Reply)) (id : Id) → IsSome (value_at s id) → (other : Id) → other.generation < 2 ^ 64 → IsPast s other → IsPast (removed s id) other
 past_removed s id some other bounded past =
     let live = IsLiveAt-from_value s.slots id.index id.generation s.first some in
     let changed = Changed-set s (removed s id) id.index (freed id.generation) refl refl (live_within s.slots id.index id.generation live.value live.is) in
-    elim (eqb_tells other.index id.index) [
-      | inr i ↦ rw (changed.there other.index i.1) past
-      | inl i ↦ rw (i.1, changed.here) (freed_past id.generation other.generation bounded (rw (i.1, (was_live s id some).1) at past))
-    ]
+    grind arith
 
 is_live : (s : Slab (Entry Reply Reply)) (id : Id) (it : Waiter Reply Reply) → waiter_at s id ≡ Some it → IsSome (value_at s id)
 is_live s id it at = rw (entry_of (value_at s id) it at) refl
 
 pub ticked_live : (s : Slab (Entry Reply Reply)) (id : Id) (t : ℕ) → tick_at s id ≡ Some t → IsSome (value_at s id)
-ticked_live s id t at = by (waiter_at s id) refl at
-  where
-    by : (o : Option (Waiter Reply Reply)) → waiter_at s id ≡ o → tick_of o ≡ Some t → IsSome (value_at s id)
-    by None is at = absurd (cc)
-    by (Some it) is at = is_live s id it is
+ticked_live = grind arith
 
 pub eases_written : (s : Slab (Entry Reply Reply)) (id : Id) (it it' : Waiter Reply Reply) → waiter_at s id ≡ Some it → ((t : ℕ) → tick_in it'.state ≡ Some t → tick_in it.state ≡ Some t)
     → (takes_tick it.state ≡ false → takes_tick it'.state ≡ false) → Eases s (written s id (Pending it'))
@@ -205,32 +170,15 @@ module _ (round : Bool) (numbers : List ℕ) (s : Slab (Entry Reply Reply)) (w :
   tick_back slot u x h at = sym (ap tick_of (one.others x (apart x h.taken))) ∙ at
 
   stays : (slot : ℕ) (x : Id) → StandsIn s w.slots slot x → StandsIn slab_timed w.slots slot x
-  stays slot x h =
-      record {
-        bounded = h.bounded;
-        past = past_written s e.0 (Pending (with_tick t it)) (is_live s e.0 it live) x h.bounded h.past;
-        taken = ap awaits_tick (one.others x (apart x h.taken)) ∙ h.taken;
-        slot_is = λ u at. h.slot_is u (tick_back slot u x h at);
-      }
+  stays = grind (arith, past_written, is_live, one, apart, tick_back)
 
   own : StandsIn slab_timed w.slots (t % w.slots) e.0
-  own =
-      record {
-        bounded = bounded;
-        past = live_past slab_timed e.0 (is_live slab_timed e.0 (with_tick t it) one.is_at);
-        taken = ap awaits_tick one.is_at;
-        slot_is = λ u at. let now : Some t ≡ Some u = ap tick_of (sym one.is_at) ∙ at in let same : t ≡ u = cc in rw (← same) refl;
-      }
+  own = grind (arith, live_past, is_live, one)
 
   -- its own bucket, in which what is stale may be gone, and any other
   bucket_so : (F : List Id → Type 0) (slot : ℕ) → F (w.bucket slot) → (slot ≡ t % w.slots → (ids : List Id) → IsPartOf ids (w.bucket slot) → F (ids ++ e.0 ∷ [])) → F ((scheduled w e.0 t).bucket slot)
   unfolding scheduled
-  bucket_so F slot same ends =
-      elim (eqb_tells slot (t % w.slots)) [
-        | inr other ↦ rw other.0 same
-        | inl is ↦ rw is.0
-            (elim (eqb (w.active t) 0) as (λ b. F ((if b then [] else w.bucket slot) ++ e.0 ∷ [])) [ true ↦ ends is.1 [] (part_none (w.bucket slot)) | false ↦ ends is.1 (w.bucket slot) (part_self (w.bucket slot)) ])
-      ]
+  bucket_so = grind (arith, eqb_tells, part_none, part_self)
 
   like_scheduled : ((scheduled w e.0 t).ready ≡ w.ready) × ((scheduled w e.0 t).current ≡ w.current) × ((scheduled w e.0 t).slots ≡ w.slots)
   unfolding scheduled
@@ -310,15 +258,4 @@ module _ (round : Bool) (numbers numbers' : List ℕ) (s s' : Slab (Entry Reply 
 
 -- before the first request
 pub begins_ordered : {round : Bool} {numbers : List ℕ} {s : Slab (Entry Reply Reply)} {w : Wheel} {es ds : List WaiterId} (horizon tick start slots : ℕ) → s.slots ≡ [] → w ≡ fresh horizon tick start slots → es ≡ [] → ds ≡ [] → IsOrdered round numbers s w es ds
-begins_ordered {round} {numbers} {s} {w} {es} {ds} horizon tick start slots empty wheel new due =
-    subst (λ v. IsOrdered round numbers s v es ds) (sym wheel) (subst (λ xs. IsOrdered round numbers s (fresh horizon tick start slots) xs ds) (sym new)
-    (subst (λ xs. IsOrdered round numbers s (fresh horizon tick start slots) [] xs) (sym due) (record {
-      drained = refl;
-      reach = λ id t at. absurd (false≢true (rw empty at (ticked_live s id t at)));
-      rise = tt;
-      newer = λ id t at. tt;
-      stands = λ slot. tt;
-      buckets = λ slot. tt;
-      come = tt;
-      told = tt;
-    })))
+begins_ordered = grind arith

@@ -14,9 +14,7 @@ use Rattle.exec_invariants.{specs.{Carried.{IsCarried, IsUnderWay, those_of}, Du
 
 -- the kernel has nothing of it where it isn't in flight
 nothing_has : (p : RequestPhase) (u : ℕ) (q : Asking) (r : RingState) → is_in_flight p ≡ false → IsUnderWay p u q r → (those_of u r.flying ≡ []) × (those_of u r.staged ≡ [])
-nothing_has RequestPhase.Staged u q r idle h = absurd (false≢true (sym idle))
-nothing_has RequestPhase.Flying u q r idle h = absurd (false≢true (sym idle))
-nothing_has _ u q r idle h = h
+nothing_has = grind arith
 
 module _ {B : Type 0} (w : Worker) (s : Shared B) (d d' : Driving Reply Reply) (zs : Slab (Sleeping Reply)) (rs : List Record) (ss : List SleeperRecord) (id : Id) (it : Waiter Reply Reply) (r : Record) (f : Record → Record) (outcome : Outcome) (told : RequestOutput)
     (q' : Place) (v : Names) (left : Deferred Reply Reply) (t : Told Reply Reply)
@@ -43,10 +41,7 @@ module _ {B : Type 0} (w : Worker) (s : Shared B) (d d' : Driving Reply Reply) (
       }
     where
       staged_by : (j : ℕ) (b : Bool) (x : Record) → (number_in w.names.requests.items id == j) ≡ b → slice_get rs j ≡ Some x → x.shown.worker ≡ w.index → is_staged (mark_if f b x).shown.phase ≡ true → is_one_of j w.names.staged.items ≡ true
-      staged_by j true x is at mine staged =
-          let same : r ≡ x = cc (one.there, at, same_number (number_in w.names.requests.items id) j is) in
-          absurd (false≢true (sym (ap (λ y. is_staged y.shown.phase) one.ends.same) ∙ ap (λ y. is_staged (f y).shown.phase) same ∙ staged))
-      staged_by j false x is at mine staged = keeps.named.submitted.all j x at mine staged
+      staged_by = grind (arith, same_number, false≢true)
 
   carried_ended : d'.ring.flying ≡ d.ring.flying → d'.ring.staged ≡ d.ring.staged → (those_of (user_data_of id) d.ring.flying ≡ []) × (those_of (user_data_of id) d.ring.staged ≡ []) → IsCarried w.names.requests.items d'.requests d'.ring rs_ended s.store
   carried_ended flying entries none =

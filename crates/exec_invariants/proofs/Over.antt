@@ -1,14 +1,14 @@
 -- What holds again once a request is over, which the kernel doesn't have.
-use Rattle.std.proofs.{Common.{◌≡◌, ◌≢◌, ◌⊎◌, ℕ, zero, suc, ◌+◌, ◌==◌, Bool, true, false, List, [], ◌∷◌, ◌++◌, length, Option, Some, None, IsSome, refl, sym, ap, subst, ◌∙◌, arith, inl, inr, slice_get}, lemmas.{Bool.{false≢true, eq-eqb}, List.length-append}}
+use Rattle.std.proofs.{Common.{◌≡◌, ◌≢◌, ◌⊎◌, ℕ, zero, suc, ◌+◌, ◌==◌, Bool, true, false, List, [], ◌∷◌, ◌++◌, length, Some, None, IsSome, refl, sym, ap, subst, ◌∙◌, arith, inl, inr, slice_get}, lemmas.{Bool.{false≢true, eq-eqb}, List.length-append}}
 use Rattle.exec_base.specs.{Slab.{Slab, value_at}, declared.slab.Id.Id}
 use Rattle.exec_outcomes.specs.declared.outcome.Outcome.{Outcome}
 use Rattle.exec_time.specs.declared.timers.Sleeper.{Sleeper as Sleeping}
 use Rattle.exec_request.specs.declared.output.RequestOutput.{RequestOutput}
-use Rattle.exec_waiters.{specs.{States.{waiter_at, waiter_of}, declared.{observer.Observer.{Observer, TheVariants.Local}, waiter.{Entry.{Entry, TheVariants.Pending}, Waiter.Waiter}}}, proofs.Changes.entry_of}
+use Rattle.exec_waiters.{specs.{States.{waiter_at, waiter_of}, declared.{waiter.{Entry.{Entry}, Waiter.Waiter}}}, proofs.Changes.entry_of}
 use Rattle.exec_driver.specs.Driving.{Driving}
 use Rattle.exec_machine.specs.{declared.state.RequestPhase.TheVariants.Resolved, Tests.is_resolved}
 use Rattle.exec_parts.{specs.{declared.parts.{mail.Reply.Reply, names.Names.Names, record.Record.Record, sleeping.SleeperRecord.SleeperRecord}, Records.number_in, Serving.changed_at}, proofs.Facts.{by_name, same_number}}
-use Rattle.exec_invariants.{specs.{Due.AreTimed, Sound.AreOver, Names.{IsNamed, IsAlike, IsSubmitted}}, proofs.{Marking.{mark_if, marked, was_marked}, Resolving.{EntryAfter, SlabAfter}}}
+use Rattle.exec_invariants.{specs.{Due.AreTimed, Sound.AreOver, Names.{IsNamed, IsAlike, IsSubmitted}}, proofs.{Marking.{mark_if, marked, was_marked}, Resolving.{SlabAfter}}}
 
 -- what stands in a list with one more at its end
 module _ {A : Type 0} where
@@ -16,10 +16,7 @@ module _ {A : Type 0} where
   in_append [] k zero m h = inr (refl, cc)
   in_append [] k (suc j) m h = absurd (cc)
   in_append (x ∷ e) k zero m h = inl h
-  in_append (x ∷ e) k (suc j) m h = elim (in_append e k j m h) [ inl old ↦ inl old | inr last ↦ inr (last_in e j last.0, last.1) ]
-    where
-      last_in : (e : List A) (j : ℕ) → j ≡ length e → suc j ≡ length (x ∷ e)
-      last_in e j is = omega (arith, is)
+  in_append (x ∷ e) k (suc j) m h = grind (arith, in_append e k j m h)
 
 resolved_unless : (b : Bool) → (b ≡ false → ⊥) → b ≡ true
 resolved_unless true h = refl
@@ -44,10 +41,7 @@ pub record OneEnds (n : Names) (d : Driving Reply Reply) (s' : Slab (Entry Reply
 module _ (i : ℕ) (n : Names) (d d' : Driving Reply Reply) (zs : Slab (Sleeping Reply)) (rs : List Record) (ss : List SleeperRecord) (id : Id) (it : Waiter Reply Reply) (r : Record) (f : Record → Record) (outcome : Outcome) (told : RequestOutput)
     (one : OneEnds n d d'.requests rs id it r f outcome told) (named : IsNamed i n d zs rs ss) (timed : AreTimed i n rs) where
   ends_here : (j : ℕ) (b : Bool) (x : Record) → (number_in n.requests.items id == j) ≡ b → slice_get rs j ≡ Some x → b ≡ true → Resolves x (mark_if f b x) outcome
-  ends_here j true x is at h =
-      let same : r ≡ x = cc (one.there, at, same_number (number_in n.requests.items id) j is) in
-      subst (λ y. Resolves y (f y) outcome) same one.ends
-  ends_here j false x is at h = absurd (false≢true h)
+  ends_here = grind arith
 
   -- what stays of each record
   pub kept_id : (j : ℕ) (b : Bool) (x : Record) → (number_in n.requests.items id == j) ≡ b → slice_get rs j ≡ Some x → (mark_if f b x).id ≡ x.id
@@ -64,40 +58,25 @@ module _ (i : ℕ) (n : Names) (d d' : Driving Reply Reply) (zs : Slab (Sleeping
   pub is_over : is_resolved (f r).shown.phase ≡ true
   is_over = ap (λ y. is_resolved y.shown.phase) one.ends.same
 
-  value_before : value_at d.requests id ≡ Some (Pending it)
-  value_before = entry_of (value_at d.requests id) it one.at
-
   -- nobody waits under its name any more
   pub gone_here : waiter_at d'.requests id ≡ None
-  gone_here = by it.observer (value_at d'.requests id) one.slab.here
-    where
-      by : (o : Observer Reply Reply) (e : Option (Entry Reply Reply)) → EntryAfter o told e → waiter_of e ≡ None
-      by (Local waker) e h = ap waiter_of h
-      by _ e h = ap waiter_of h
+  gone_here = grind arith
 
   some_before : (other : Id) → IsSome (value_at d'.requests other) → IsSome (value_at d.requests other)
-  some_before other h =
-      let differs : other ≢ id → IsSome (value_at d.requests other) = λ apart. subst IsSome (one.slab.others other apart) h in
-      by_name other id differs (λ same. rw (same, value_before) refl)
+  some_before = grind arith
 
   apart_there : (other : Id) (w : Waiter Reply Reply) → waiter_at d'.requests other ≡ Some w → other ≢ id
   apart_there other w at e = let no : Some w ≡ None = sym at ∙ ap (waiter_at d'.requests) e ∙ gone_here in absurd (cc)
 
   pub apart_number : (other : Id) → IsSome (value_at d.requests other) → other ≢ id → number_in n.requests.items id ≡ number_in n.requests.items other → ⊥
-  apart_number other there apart same =
-      let a = named.requests id (rw value_before refl) in
-      let b = named.requests other there in
-      let both : a.0 ≡ b.0 = cc (a.1, b.1, same) in
-      apart (sym b.2 ∙ ap (λ x. x.id.0) (sym both) ∙ a.2)
+  apart_number = grind arith
 
   not_same : (j : ℕ) → (number_in n.requests.items id ≡ j → ⊥) → (b : Bool) → (number_in n.requests.items id == j) ≡ b → b ≡ false
   not_same j apart true is = absurd (apart (same_number (number_in n.requests.items id) j is))
   not_same j apart false is = refl
 
   pub other_record : (j : ℕ) (x : Record) → (number_in n.requests.items id ≡ j → ⊥) → slice_get (changed_at rs (number_in n.requests.items id) f) j ≡ Some x → slice_get rs j ≡ Some x
-  other_record j x apart found =
-      let old = was_marked f rs (number_in n.requests.items id) j x found in
-      old.1 ∙ ap (λ y. Some y) (sym (old.2 ∙ ap (λ b. mark_if f b old.0) (not_same j apart (number_in n.requests.items id == j) refl)))
+  other_record = grind (arith, was_marked, mark_if, not_same)
 
   pub named_ended : (n' : Names) → n'.requests ≡ n.requests → n'.timers ≡ n.timers → d'.wheel.start ≡ d.wheel.start → d'.wheel.tick ≡ d.wheel.tick
       → IsSubmitted i n'.staged.items n'.untold.items d'.ring (changed_at rs (number_in n.requests.items id) f) → IsNamed i n' d' zs (changed_at rs (number_in n.requests.items id) f) ss
@@ -145,10 +124,7 @@ module _ (i : ℕ) (n : Names) (d d' : Driving Reply Reply) (zs : Slab (Sleeping
       let b = number_in n.requests.items id == j in
       let of_i : old.0.shown.worker ≡ i = sym (kept_worker j b old.0 refl old.1) ∙ sym (ap (λ y. y.shown.worker) old.2) ∙ mine in
       let t = timed_by j b old.0 refl old.1 of_i in
-      record {
-        named = λ unresolved. rw (requests, ap (λ y. y.id) old.2 ∙ kept_id j b old.0 refl old.1) (t.named (sym (ap (λ y. is_resolved y.shown.phase) old.2) ∙ unresolved));
-        over = λ done. ap (λ y. y.shown.timer) old.2 ∙ t.over (sym (ap (λ y. is_resolved y.shown.phase) old.2) ∙ done);
-      }
+      grind (arith, kept_id)
     where
       timed_by : (j : ℕ) (b : Bool) (x : Record) → (number_in n.requests.items id == j) ≡ b → slice_get rs j ≡ Some x → x.shown.worker ≡ i → TimedBy n j x (mark_if f b x)
       timed_by j true x is at mine =
@@ -166,10 +142,7 @@ module _ (i : ℕ) (n : Names) (d d' : Driving Reply Reply) (zs : Slab (Sleeping
       })
     where
       apart_over : (j m : ℕ) → slice_get e j ≡ Some m → number_in n.requests.items id ≡ m → ⊥
-      apart_over j m found same =
-          let x = over.over j m found in
-          let both : x.0 ≡ r = cc (x.1, one.there, same) in
-          false≢true (sym unresolved_before ∙ ap (λ y. is_resolved y.shown.phase) (sym both) ∙ x.3.0)
+      apart_over = grind (arith, false≢true, unresolved_before)
 
       over_at : (j m : ℕ) → (slice_get e j ≡ Some m) ⊎ ((j ≡ length e) × (m ≡ number_in n.requests.items id)) → (x : Record) × (slice_get (changed_at rs (number_in n.requests.items id) f) m ≡ Some x) × (x.shown.worker ≡ i) × ((is_resolved x.shown.phase ≡ true) × (x.shown.released ≡ false))
       over_at j m (inl old) =

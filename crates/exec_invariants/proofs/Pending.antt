@@ -1,10 +1,11 @@
 -- What the end of a poll is to the machine, where the task waits.
-use Rattle.std.proofs.{Common.{◌≡◌, inl, ⊎_elim, ℕ, ◌<◌, ◌==◌, ◌&&◌, ◌||◌, Bool, true, false, not, length, Option, Some, None, IsSome, refl, sym, ap, subst, ◌∙◌, slice_get, slice_set, is_some, option_to_list, IsTrue, if◌then◌else◌}, lemmas.{Bool.{false≢true, eq-eqb}, Option.slice_get_within}}
+use Rattle.std.proofs.{Common.{◌≡◌, inl, ℕ, ◌<◌, ◌||◌, Bool, true, false, length, Option, Some, None, IsSome, refl, sym, ap, subst, ◌∙◌, slice_get, slice_set, is_some, option_to_list, IsTrue, if◌then◌else◌}, lemmas.{Bool.{false≢true, eq-eqb}, Option.slice_get_within}}
+use Rattle.std.proofs.Common.{arith}
 use Rattle.exec_task.specs.{Phases.{is_polled, given_back, over, requeue_where, runnable_of, pend_answer}, declared.{body.Said.Said, runnable.{AfterPoll.AfterPoll, Runnable.Runnable}, task.Phase.Phase}}
-use Rattle.exec_machine.specs.{declared.{event.Event.{Event, TheVariants.Pend}, state.{Waiting.Waiting, Next.Next}}, Choice.Choice.Plain, Progress.Plan, Same.is_number, Tasks.{may_stop, pended_phase, after_over}, Tests.{is_settled, is_unsent, is_resolved}, World.task_of}
+use Rattle.exec_machine.specs.{declared.{event.Event.{Event, TheVariants.Pend}, state.{Waiting.Waiting, Next.Next}}, Choice.Choice.Plain, Progress.Plan, Same.is_number, Tasks.{may_stop, pended_phase, after_over}, Tests.{is_settled}, World.task_of}
 use Rattle.exec_moves.specs.{declared.{handing.{AfterCallbacks.AfterCallbacks, AfterPush.AfterPush, InPush.InPush}, place.{InPoll.InPoll, Place.Place, InCallbacks.InCallbacks}}, Move.move_at, Poll.{after_pend, is_noted, pend as pend_moves}, Seen.{polls_at, polls_in, next_in_poll}, State.{Desk, Moved, Things}}
 use Rattle.exec_parts.{specs.{declared.parts.{shared.Shared.Shared, task_slot.TaskSlot.TaskSlot, worker.Worker.Worker}, Phased.is_complete, Polls.{OfSlot, flag_after, pended_with, pended_slot}, Pooled.queued_again, Spots.Spot, Tests.after_poll_of, View.{Views, own_of, desk_of, common_of, phase_seen, task_seen, body_in, things_with}, Things.TurnsSlot}, proofs.Facts.same_thing}
-use Rattle.exec_invariants.{specs.{Places.{begins_at, hands_on_at, removes_at}, Holding.holder_of, Sound.{IsInHand, IsRunnable, MayStop, SoundAt, is_told, may_end, one_of, root_in_hand}, Whole.{HasOne, is_number as is_counted, runnables_in}, Works.{Suits, Steps}}, proofs.{Here.{IsHere, polled_here, unflagged_there}, Polling.{IsOutside, at_phase, home_mine, number_apart}, PoolKept.unremoved, Slots.{Balances, IsEvent, slotted, task_there}, SlotTasks.{IsAfter, Sits, root_tasked}, Seen.{request_at, sleeper_at}}}
+use Rattle.exec_invariants.{specs.{Places.{begins_at, hands_on_at, removes_at}, Holding.holder_of, Sound.{IsInHand, IsRunnable, MayStop, SoundAt, may_end, one_of, root_in_hand}, Whole.{HasOne, is_number as is_counted, runnables_in}, Works.{Suits, Steps}}, proofs.{Here.{IsHere, polled_here, unflagged_there}, Polling.{IsOutside, home_mine, number_apart}, PoolKept.unremoved, Slots.{Balances, IsEvent, slotted, task_there}, SlotTasks.{IsAfter, Sits, root_tasked}, Seen.{request_at, sleeper_at}}}
 
 -- WHAT IT WAITS FOR ISN'T OVER
 
@@ -14,18 +15,7 @@ either_way false b h = h
 
 module _ {B L : Type 0} (left : B → L) (spot : L → Option Said → Spot) where
   pub stops : (p : Plan) (vs : Views) (w : Worker) (s : Shared B) (u : Waiting) → may_end u ≡ true → MayStop w.index u s.requests.items s.sleepers.items → may_stop (common_of left spot p vs s) w.index u ≡ true
-  stops p vs w s (Waiting.Request k) may h =
-      ap (λ it. not (is_unsent it.forwarding) || ((it.worker == w.index) && not (is_resolved it.phase))) (request_at s.requests.items k h.0 h.1)
-      ∙ ⊎_elim (λ sent. ap (λ b. not b || ((h.0.shown.worker == w.index) && not (is_resolved h.0.shown.phase))) sent)
-      (λ own. either_way (not (is_unsent h.0.shown.forwarding)) ((h.0.shown.worker == w.index) && not (is_resolved h.0.shown.phase)) (rw (own.0, own.1, eq-eqb w.index w.index refl) refl)) h.2
-  stops p vs w s (Waiting.Timer k) may h =
-      ap (λ it. not (is_unsent it.forwarding) || ((it.worker == w.index) && not it.fired && not it.removed)) (sleeper_at s.sleepers.items k h.0 h.1)
-      ∙ ⊎_elim (λ sent. ap (λ b. not b || ((h.0.shown.worker == w.index) && not h.0.shown.fired && not h.0.shown.removed)) sent)
-      (λ own. either_way (not (is_unsent h.0.shown.forwarding)) ((h.0.shown.worker == w.index) && not h.0.shown.fired && not h.0.shown.removed) (rw (own.0, own.1, own.2, eq-eqb w.index w.index refl) refl)) h.2
-  stops p vs w s Waiting.Wake may h = refl
-  stops p vs w s Waiting.Yielded may h = refl
-  stops p vs w s Waiting.Nothing may h = absurd (false≢true may)
-  stops p vs w s Waiting.Woken may h = absurd (false≢true may)
+  stops = grind (arith, request_at, either_way, eq-eqb, sleeper_at, false≢true)
 
 -- THE CELL
 
@@ -38,13 +28,7 @@ module _ {B : Type 0} where
     pub flag : is_some (flag_after (requeue_where r p) f) ≡ (is_some f || is_noted (phase_seen p i))
 
   ends_as : (p : Phase B) (b : B) (o : Option B) (i : ℕ) (r : Runnable) (f : Option Runnable) → is_polled p ≡ true → o ≡ Some b → EndsAs p b o i r f
-  ends_as Phase.Running b o i r None h has = record { shown = refl; same_body = sym has; polled = refl; complete = refl; flag = refl }
-  ends_as Phase.Running b o i r (Some q) h has = record { shown = refl; same_body = sym has; polled = refl; complete = refl; flag = refl }
-  ends_as Phase.Notified b o i r None h has = record { shown = refl; same_body = sym has; polled = refl; complete = refl; flag = refl }
-  ends_as Phase.Notified b o i r (Some q) h has = record { shown = refl; same_body = sym has; polled = refl; complete = refl; flag = refl }
-  ends_as (Phase.Idle x) b o i r f h has = absurd (false≢true h)
-  ends_as (Phase.Queued x) b o i r f h has = absurd (false≢true h)
-  ends_as Phase.Complete b o i r f h has = absurd (false≢true h)
+  ends_as = grind arith
 
   abbrev given_slot : B → TaskSlot B → TaskSlot B
   given_slot b slot = record slot { cell = record slot.cell { phase = given_back b slot.cell.phase }; body = None }
@@ -55,14 +39,6 @@ module _ {B : Type 0} where
 
   answer_given : (slot : TaskSlot B) → slot.cell.cancelled ≡ false → pend_answer slot.cell ≡ requeue_where (runnable_of slot.cell) slot.cell.phase
   answer_given slot kept = rw kept refl
-
-  runnable_given : (slot : TaskSlot B) (b : B) (p : Phase B) → is_polled p ≡ true
-      → IsRunnable (flag_after (requeue_where (runnable_of slot.cell) p) None) (record slot { cell = record slot.cell { phase = given_back b p }; body = None })
-  runnable_given slot b Phase.Running h = λ x never. absurd (cc)
-  runnable_given slot b Phase.Notified h = (refl, (b, refl))
-  runnable_given slot b (Phase.Idle x) h = absurd (false≢true h)
-  runnable_given slot b (Phase.Queued x) h = absurd (false≢true h)
-  runnable_given slot b Phase.Complete h = absurd (false≢true h)
 
   pub has_body : (o : Option B) → IsSome o → (b : B) × (o ≡ Some b)
   has_body None some = absurd (false≢true some)
@@ -105,11 +81,7 @@ module _ {B : Type 0} where
 
   -- who is polled has no runnable
   pub polled_none : (g : Bool) (p : Phase B) (n : ℕ) → is_polled p ≡ true → HasOne g p n → n ≡ 0
-  polled_none g Phase.Running n h one = one
-  polled_none g Phase.Notified n h one = one
-  polled_none g (Phase.Idle x) n h one = absurd (false≢true h)
-  polled_none g (Phase.Queued x) n h one = absurd (false≢true h)
-  polled_none g Phase.Complete n h one = absurd (false≢true h)
+  polled_none = grind arith
 
 abbrev pub to : Place
 to = Place.Callbacks InCallbacks.TakeBatch AfterCallbacks.Look
@@ -125,9 +97,7 @@ to_push = record { after = record { open_still = refl; closing = refl; served = 
 module _ {B L : Type 0} (left : B → L) (spot : L → Option Said → Spot) where
   given_seen : (slot : TaskSlot B) (b : B) (i : ℕ) (r : Runnable) (f : Option Runnable) → EndsAs slot.cell.phase b slot.body slot.poller r f
       → task_seen left spot (given_slot b slot) ≡ record (task_seen left spot slot) { phase = pended_phase (task_seen left spot slot).phase }
-  given_seen slot b i r f how =
-      ap (λ o. at_phase left spot slot o (phase_seen (given_back b slot.cell.phase) slot.poller) slot.waiting slot.fresh) how.same_body
-      ∙ ap (λ p. at_phase left spot slot (body_in slot.cell.phase slot.body) p slot.waiting slot.fresh) how.shown
+  given_seen = grind arith
 
   -- the move there is the end of the poll
   abbrev pub EndsThere : InPoll → Worker → Shared B → Type 0
@@ -162,12 +132,7 @@ module _ {B L : Type 0} (left : B → L) (spot : L → Option Said → Spot) whe
       }
 
   requeued_root : (w : Worker) (a : AfterPoll) → queued_again w.root a (record w { place = after_poll_of w.root w }) ≡ record w { place = to; root_ready = flag_after a w.root_ready }
-  requeued_root w a = by a (w.root == w.root) (eq-eqb w.root w.root refl)
-    where
-      by : (a : AfterPoll) (b : Bool) → b ≡ true → queued_again w.root a (record w { place = after_poll_of w.root w }) ≡ record w { place = to; root_ready = flag_after a w.root_ready }
-      by AfterPoll.Done b is = rw (eq-eqb w.root w.root refl) refl
-      by (AfterPoll.Requeue r) b is = rw (eq-eqb w.root w.root refl) refl
-      by (AfterPoll.Retire n how) b is = rw (eq-eqb w.root w.root refl) refl
+  requeued_root = grind arith
 
   pub poll_ended : (x : InPoll) (w w' : Worker) (s s' : Shared B) (e : Event) → SoundAt (Place.Poll w.root x) w s → MayEnd x w.root → EndsThere x w s → e ≡ Pend w.root
       → ((slot : TaskSlot B) → slice_get s.tasks.items w.root ≡ Some slot → w' ≡ queued_again w.root (pend_answer slot.cell) (record w { place = after_poll_of w.root w })) → TurnsSlot w.root s s' pended_slot
@@ -188,17 +153,7 @@ module _ {B L : Type 0} (left : B → L) (spot : L → Option Said → Spot) whe
       let f : Option Runnable = flag_after a w.root_ready in
       let same_root : slot ≡ sound.runnable.root = same_thing slot sound.runnable.root (sym there ∙ sound.runnable.there) in
       let unflagged : w.root_ready ≡ None = unflagged_there w.root_ready (root_in_hand (begins_at (Place.Poll w.root x)) w.root w.hand) slot is_on (subst (λ (o : TaskSlot B). IsRunnable (one_of w.root_ready (root_in_hand (begins_at (Place.Poll w.root x)) w.root w.hand)) o) (sym same_root) sound.runnable.once) in
-      let sits : Sits to w f s slot slot' = record {
-        there = there;
-        keeps = record { home = refl; number = refl; owner = refl };
-        stands = record { polled = how.polled; body = λ never. absurd (false≢true never); poller = λ never. absurd (false≢true never); kept = old.kept; uncleared = old.uncleared; told = λ h. old.told (ap (is_told slot.waiting) (sym how.complete) ∙ h); untold = old.untold; waits = tt };
-        once = subst (λ o. IsRunnable (flag_after a o) slot') (sym unflagged) (runnable_given slot body.0 slot.cell.phase is_on);
-        hand = refl;
-        polls = λ n never. let no : None ≡ Some n = never in absurd (cc);
-        complete = how.complete;
-        unpooled = refl;
-        stops = tt;
-      } in
+      let sits : Sits to w f s slot slot' = grind arith in
       let bal : Balances w.root to w None slot slot' = record {
         keeps = record { home = refl; number = refl; owner = refl };
         holder = ap (λ o. record (holder_of slot) { over = o }) how.complete;
@@ -220,8 +175,4 @@ module _ {B L : Type 0} (left : B → L) (spot : L → Option Said → Spot) whe
 
 module _ {B : Type 0} where
   pub in_poll : (p : Phase B) (o : Option B) → is_polled p ≡ true → body_in p o ≡ o
-  in_poll (Phase.Idle b) o h = absurd (false≢true h)
-  in_poll (Phase.Queued b) o h = absurd (false≢true h)
-  in_poll Phase.Running o h = refl
-  in_poll Phase.Notified o h = refl
-  in_poll Phase.Complete o h = absurd (false≢true h)
+  in_poll = grind arith

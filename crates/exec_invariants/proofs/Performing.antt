@@ -1,10 +1,11 @@
 -- A cell in its poll; what a body runs and holds after its act; and what is seen of an act that got no memory.
-use Rattle.std.proofs.{Common.{◌≡◌, ℕ, true, List, map, Option, Some, None, refl, sym, ap, subst, ◌∙◌, slice_get, slice_set}, lemmas.{Bool.false≢true, List.{map-set, set-get_or}, Option.get_or_from_slice_get}}
+use Rattle.std.proofs.{Common.{◌≡◌, ℕ, true, List, map, Option, Some, None, refl, sym, ap, subst, ◌∙◌, slice_get, slice_set}, lemmas.{List.{map-set, set-get_or}, Option.get_or_from_slice_get}}
+use Rattle.std.proofs.Common.{arith}
 use Rattle.exec_base.specs.declared.error.Error.TheVariants.{NoMemory}
 use Rattle.exec_task.specs.{Phases.{is_polled, woken as cell_woken}, Sight.Sight, declared.{body.{Act.Act, Said.Said}, task.Phase.Phase}}
 use Rattle.exec_machine.specs.{declared.state.Waiting.Waiting, Progress.Plan, Tasks.woken_phase, World.Task}
-use Rattle.exec_parts.{specs.{Records.numbers_held, declared.parts.{shared.Shared.Shared, task_slot.TaskSlot.TaskSlot, worker.Worker.Worker}, Phased.is_complete, Polls.yielded_slot, Scripts.{GoesOn, IsAnswer, held_after}, Spots.{Spot, spot_of, standing_at}, View.{common_of, things_with, phase_seen, task_seen, spot_by, body_in}, Things.TurnsSlot}, proofs.Facts.{by_number, same_thing, set_elsewhere, set_there}}
-use Rattle.exec_invariants.{specs.{Acting.{Performs, StillPerforms}, Hearing.{CanHear, held_once_come}, Works.Same}, proofs.Pending.in_poll}
+use Rattle.exec_parts.{specs.{Records.numbers_held, declared.parts.{shared.Shared.Shared, task_slot.TaskSlot.TaskSlot, worker.Worker.Worker}, Phased.is_complete, Polls.yielded_slot, Scripts.{GoesOn, IsAnswer, held_after}, Spots.{Spot, spot_of}, View.{phase_seen, task_seen, body_in}, Things.TurnsSlot}, proofs.Facts.{by_number, same_thing, set_elsewhere, set_there}}
+use Rattle.exec_invariants.{specs.{Acting.{Performs, StillPerforms}, Hearing.{CanHear, held_once_come}, Works.Same}}
 
 -- A CELL IN ITS POLL
 
@@ -17,11 +18,7 @@ module _ {B : Type 0} where
     pub complete : is_complete (cell_woken p) ≡ is_complete p
 
   pub wakes_as : (p : Phase B) (o : Option B) (i : ℕ) → is_polled p ≡ true → WakesAs p o i
-  wakes_as (Phase.Idle b) o i h = absurd (false≢true h)
-  wakes_as (Phase.Queued b) o i h = absurd (false≢true h)
-  wakes_as Phase.Running o i h = record { shown = refl; same_body = refl; polled = refl; complete = refl }
-  wakes_as Phase.Notified o i h = record { shown = refl; same_body = refl; polled = refl; complete = refl }
-  wakes_as Phase.Complete o i h = absurd (false≢true h)
+  wakes_as = grind arith
 
 -- WHAT IT RUNS AND HOLDS THEN
 
@@ -45,37 +42,19 @@ module _ {B L : Type 0} (left : B → L) (runs : L → Plan → Option ℕ → T
   -- A body that goes on performs the plan, where each thing that it can be told answers its act.
   pub performs_on : (p : Plan) (t : Task) (a : Act B) (slot' : TaskSlot B) (b' : B) → GoesOn runs holds spot gives p t a (left b') → slot'.home ≡ t.home → body_in slot'.cell.phase slot'.body ≡ Some b'
       → ((answer : Said) → CanHear slot'.told slot'.waiting answer → IsAnswer a answer × (held_after a answer t.held ≡ held_once_come slot'.waiting (numbers_held slot'.held.items))) → Performs left runs holds p slot'
-  performs_on p t a slot' b' goes home body answers =
-      record {
-        runs_it = λ b answer is hears going. let same : b' ≡ b = cc (body, is) in subst (λ x. runs (left x) p slot'.home) same (subst (runs (left b') p) (sym home) goes.runs_on);
-        holding = λ b answer is hears going.
-            let same : b' ≡ b = cc (body, is) in
-            let fits = answers answer hears in
-            ap (λ x. holds (left x) (Some answer)) (sym same) ∙ goes.holding answer fits.0 ∙ fits.1;
-      }
+  performs_on = grind arith
 
   pub performs_passed : (p : Plan) (slot : TaskSlot B) (b' : B) → is_polled slot.cell.phase ≡ true → slot.waiting ≡ Waiting.Nothing → GoesOn runs holds spot gives p (task_seen left spot slot) (Act.Sleep 0) (left b')
       → Performs left runs holds p (record slot { body = Some b'; told = Some Said.Pass })
-  performs_passed p slot b' is nothing goes =
-      performs_on p (task_seen left spot slot) (Act.Sleep 0) (record slot { body = Some b'; told = Some Said.Pass }) b' goes refl (in_poll slot.cell.phase (Some b') is)
-      (λ answer hears. subst (λ y. IsAnswer {B = B} (Act.Sleep 0) y × (held_after {B = B} (Act.Sleep 0) y (numbers_held slot.held.items) ≡ held_once_come slot.waiting (numbers_held slot.held.items))) (sym hears) (tt, sym (ap (λ u. held_once_come u (numbers_held slot.held.items)) nothing)))
+  performs_passed = grind arith
 
   pub performs_waiting : (p : Plan) (slot : TaskSlot B) (b' : B) (r : Option ℕ) → is_polled slot.cell.phase ≡ true → GoesOn runs holds spot gives p (task_seen left spot slot) (Act.Await r) (left b')
       → Performs left runs holds p (record slot { body = Some b'; told = None; waiting = Waiting.Wake })
-  performs_waiting p slot b' r is goes =
-      performs_on p (task_seen left spot slot) (Act.Await r) (record slot { body = Some b'; told = None; waiting = Waiting.Wake }) b' goes refl (in_poll slot.cell.phase (Some b') is) (woken_by r)
-    where
-      woken_by : (o : Option ℕ) (answer : Said) → CanHear None Waiting.Wake answer → IsAnswer {B = B} (Act.Await o) answer × (held_after {B = B} (Act.Await o) answer (numbers_held slot.held.items) ≡ (numbers_held slot.held.items))
-      woken_by None Said.Pass h = (tt, refl)
-      woken_by (Some k) Said.Pass h = (tt, refl)
-      woken_by o answer h = absurd h
+  performs_waiting = grind arith
 
   pub performs_yielded : (p : Plan) (slot : TaskSlot B) (b' : B) → is_polled slot.cell.phase ≡ true → GoesOn runs holds spot gives p (task_seen left spot slot) Act.Yield (left b')
       → Performs left runs holds p (yielded_slot (record slot { body = Some b'; told = None }))
-  performs_yielded p slot b' is goes =
-      let wakes = wakes_as slot.cell.phase (Some b') slot.poller is in
-      performs_on p (task_seen left spot slot) Act.Yield (yielded_slot (record slot { body = Some b'; told = None })) b' goes refl (wakes.same_body ∙ in_poll slot.cell.phase (Some b') is)
-      (λ answer hears. subst (λ y. IsAnswer {B = B} Act.Yield y × (held_after {B = B} Act.Yield y (numbers_held slot.held.items) ≡ (numbers_held slot.held.items))) (sym hears) (tt, refl))
+  performs_yielded = grind arith
 
 -- WHERE THERE IS NO MEMORY
 
@@ -83,9 +62,7 @@ module _ {B L : Type 0} (left : B → L) (spot : L → Option Said → Spot) whe
   -- a body that is told so stands where it stood
   pub unmoved_seen : (slot : TaskSlot B) (b' : B) → is_polled slot.cell.phase ≡ true → spot (left b') (Some (Said.Refused NoMemory)) ≡ spot_of (task_seen left spot slot)
       → task_seen left spot (record slot { body = Some b'; told = Some (Said.Refused NoMemory) }) ≡ task_seen left spot slot
-  unmoved_seen slot b' is back =
-      ap (λ o. standing_at (spot_by left spot o (Some (Said.Refused NoMemory))) (task_seen left spot slot)) (in_poll slot.cell.phase (Some b') is)
-      ∙ ap (λ x. standing_at x (task_seen left spot slot)) back
+  unmoved_seen = grind arith
 
   -- nothing is seen of a slot that became another which looks the same
   pub same_slot : (t : ℕ) (w : Worker) (s s' : Shared B) (slot slot' : TaskSlot B) → slice_get s.tasks.items t ≡ Some slot → task_seen left spot slot' ≡ task_seen left spot slot
@@ -95,13 +72,7 @@ module _ {B L : Type 0} (left : B → L) (spot : L → Option Said → Spot) whe
       let back : slice_set s.tasks.items t slot ≡ s.tasks.items = ap (slice_set s.tasks.items t) (sym (get_or_from_slice_get s.tasks.items t slot slot there)) ∙ set-get_or s.tasks.items t slot in
       let all : map seen s'.tasks.items ≡ map seen s.tasks.items =
       ap (map seen) items ∙ map-set seen s.tasks.items t slot' ∙ ap (slice_set (map seen s.tasks.items) t) alike ∙ sym (map-set seen s.tasks.items t slot) ∙ ap (map seen) back in
-      record {
-        own = refl;
-        desk = refl;
-        things = λ vs. ap (things_with vs) kept;
-        common = λ p vs. ap (common_of left spot p vs) kept ∙ ap (λ ts. record (common_of left spot p vs s) { tasks = ts }) all;
-        visible_same = refl;
-      }
+      grind arith
 
   -- a body whose act got no memory made none
   pub unacted : (t : ℕ) (w : Worker) (s s' : Shared B) (slot : TaskSlot B) → slice_get s.tasks.items t ≡ Some slot → TurnsSlot t s s' (λ o. o) → Same left spot w s w s'

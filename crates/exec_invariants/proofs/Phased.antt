@@ -1,13 +1,12 @@
 -- How far a worker has come, where something of what that speaks of changes.
-use Rattle.std.proofs.{Common.{◌≡◌, ℕ, ◌<◌, Bool, true, false, List, Some, None, refl, sym, ap, ◌∙◌, slice_get, slice_set}, lemmas.Bool.false≢true}
+use Rattle.std.proofs.{Common.{◌≡◌, ℕ, ◌<◌, Bool, true, false, List, Some, None, slice_get, slice_set}, lemmas.Bool.false≢true}
+use Rattle.std.proofs.Common.{arith}
 use Rattle.exec_machine.specs.{declared.state.WorkerPhase.WorkerPhase, Tests.{is_open, has_ended}}
 use Rattle.exec_moves.specs.declared.place.InClosing.{InClosing}
 use Rattle.exec_parts.{specs.{declared.parts.task_slot.TaskSlot.TaskSlot, Phased.{IsPhased, Stage, is_complete}}, proofs.Facts.{set_there, same_thing}}
 
 not_ended : (p : WorkerPhase) → is_open p ≡ true → has_ended p ≡ false
-not_ended WorkerPhase.Open h = refl
-not_ended WorkerPhase.Closing h = absurd (false≢true h)
-not_ended WorkerPhase.Ended h = absurd (false≢true h)
+not_ended = grind arith
 
 module _ {B : Type 0} where
   -- the root's slot changes, and is over then or not
@@ -15,11 +14,7 @@ module _ {B : Type 0} where
   -- It is over by this, so the worker is about to close; any but worker zero once the pool is stopped.
   pub phased_over : (i : ℕ) (told : Bool) (t n : ℕ) (st : Stage) (tasks : List (TaskSlot B)) (slot slot' : TaskSlot B)
       → slice_get tasks t ≡ Some slot → is_complete slot'.cell.phase ≡ true → (0 < i → st.pool ≡ true → st.stopped ≡ true) → IsPhased i false None told t n st tasks → IsPhased i false (Some InClosing.Close) told t n st (slice_set tasks t slot')
-  phased_over i told t n st tasks slot slot' there over stopped phased =
-      let ended : has_ended st.phase ≡ true → Some InClosing.Close ≡ Some InClosing.End = λ h. absurd (false≢true (sym (not_ended st.phase phased.opened) ∙ h)) in
-      let root : (other : TaskSlot B) → slice_get (slice_set tasks t slot') t ≡ Some other → is_complete other.cell.phase ≡ true = λ other found. ap (λ o. is_complete o.cell.phase) (same_thing other slot' (sym found ∙ set_there tasks t slot' slot there)) ∙ over in
-      let by_other : 0 < i → st.pool ≡ true → true ≡ true → st.stopped ≡ true = λ some of_pool h. stopped some of_pool in
-      assumption (ended, root, by_other, phased)
+  phased_over = grind (arith, false≢true, not_ended, same_thing, set_there)
 
   -- Another number of requests is unreleased.
   pub phased_count : (i : ℕ) (closes : Bool) (told : Bool) (t n m : ℕ) (st : Stage) (tasks : List (TaskSlot B)) → IsPhased i closes None told t n st tasks → IsPhased i closes None told t m st tasks

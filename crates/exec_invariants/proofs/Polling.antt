@@ -1,10 +1,10 @@
 -- A poll begins: what the worker has in its hand then, and what the step is to the machine.
-use Rattle.std.proofs.{Common.{◌≡◌, ◌≢◌, ◌⊎◌, inl, inr, ⊎_elim, ℕ, ◌+◌, ◌==◌, ◌&&◌, Bool, true, false, Contains, List, [], Option, Some, None, IsSome, refl, sym, ap, subst, ◌∙◌, arith, lit<, slice_get, slice_set, option_map, is_some, option_to_list, if◌then◌else◌}, lemmas.{Bool.{false≢true, eq-eqb}, Option.slice_get-map}}
+use Rattle.std.proofs.{Common.{◌≡◌, ◌≢◌, ◌⊎◌, inl, inr, ⊎_elim, ℕ, ◌+◌, ◌==◌, Bool, true, false, Contains, [], Option, Some, None, IsSome, refl, sym, ap, subst, ◌∙◌, arith, lit<, slice_get, slice_set, is_some, option_to_list, if◌then◌else◌}, lemmas.{Bool.{false≢true, eq-eqb}, Option.slice_get-map}}
 use Rattle.exec_task.specs.{Phases.{is_polled, queued_body, begun as cell_begun, runnable_of}, declared.{body.Said.Said, runnable.Runnable.Runnable, task.Phase.Phase}}
-use Rattle.exec_machine.specs.{declared.{event.Event.{Event, TheVariants.{Begin, Turn}}, state.{Letter.Letter, TaskPhase.TaskPhase, Waiting.Waiting, Next.Next}}, Choice.Choice.Plain, Progress.Plan, Tasks.{begun, begun_waiting, is_polled_here}, Tests.{is_empty, is_open, is_ready}, World.{Seat, Task, task_of, seat_of}}
+use Rattle.exec_machine.specs.{declared.{event.Event.{Event, TheVariants.{Begin, Turn}}, state.{TaskPhase.TaskPhase, Waiting.Waiting, Next.Next}}, Choice.Choice.Plain, Progress.Plan, Tasks.{begun, begun_waiting, is_polled_here}, Tests.{is_ready}, World.{Seat, Task, task_of}}
 use Rattle.exec_moves.specs.{declared.place.{InPick.InPick, InPoll.InPoll, Place.Place}, Parts.after_poll, Poll.{after_begin, begin_poll, let_go}, Seen.{next_at, polls_at, polls_in, serves_at}, State.{Moved, Things, does, goes, turns}}
 use Rattle.exec_parts.{specs.{declared.parts.{shared.Shared.Shared, task_slot.TaskSlot.TaskSlot, worker.Worker.Worker}, Phased.is_complete, Polls.{begun_slot, begun_slot_if}, Records.numbers_held, Spots.Spot, Tests.next_pick_of, View.{Views, own_of, owed_at, desk_of, common_of, phase_seen, task_seen, spot_by, body_in, things_with}, Things.TurnsSlot}, proofs.Facts.{by_number, not_same, same_thing, set_there}}
-use Rattle.exec_invariants.{specs.{Holding.holder_of, Places.{begins_at, hands_on_at, in_poll_of, joins_at, one_if, polled_in, removes_at, step_of_poll}, Sound.{HasGuest, IsGuest, IsInHand, IsRunnable, SoundAt, Stands, Stops, WaitsAt, is_told, one_of, root_in_hand}, Whole.{HasOne, IsGenuine, is_number, runnables_in}, Works.{Steps, Suits}}, proofs.{Begins.{awaits_before, begins_waiting, begins_with, begun_place, stops_later, told_before, waits_before}, Dedicated.chair_of_pool, Onces.{at_most_once, fewer_left}, Hearing.hears_begun, PoolKept.unremoved, Seats.own_seat, Slots.{Balances, IsEvent, Remains, slotted, task_there}, SlotTasks.{IsAfter, Keeps, Sits, Tasked, Visits, guest_tasked, none_in, root_tasked}, Turning.set_found}}
+use Rattle.exec_invariants.{specs.{Holding.holder_of, Places.{begins_at, hands_on_at, in_poll_of, joins_at, one_if, polled_in, removes_at}, Sound.{HasGuest, IsGuest, IsInHand, IsRunnable, SoundAt, Stops, WaitsAt, is_told, one_of, root_in_hand}, Whole.{HasOne, IsGenuine, is_number, runnables_in}, Works.{Steps, Suits}}, proofs.{Begins.{awaits_before, begins_waiting, begins_with, begun_place, stops_later, told_before, waits_before}, Dedicated.chair_of_pool, Hearing.hears_begun, PoolKept.unremoved, Seats.own_seat, Slots.{Balances, IsEvent, Remains, slotted, task_there}, SlotTasks.{IsAfter, Keeps, Sits, Tasked, Visits, guest_tasked, none_in, root_tasked}, Turning.set_found}}
 
 -- WHERE IT LEADS
 
@@ -22,10 +22,7 @@ pub record IsOutside (q : Place) : Type 0 where
   pub removes : removes_at q ≡ None
 
 pub next_outside : (b : Bool) → IsOutside (if b then Place.TakeRootFlag else Place.Pick InPick.CountDown)
-next_outside true =
-    record { after = record { passes = refl; joins = refl; open_still = refl; closing = refl; served = refl; unarmed = refl; calls = refl; begins = refl; queue = λ x h. h; searching = λ b h. tt; aims = λ c i seats. tt; batch = λ ms h. absurd (false≢true h); spare = refl; cancels = refl; sends_cancel = refl; heard = refl; bare = refl; claims = refl; counts = refl; published = refl; clears = refl }; polls = refl; free = refl; unserved = refl; owes = λ n. refl; removes = refl }
-next_outside false =
-    record { after = record { passes = refl; joins = refl; open_still = refl; closing = refl; served = refl; unarmed = refl; calls = refl; begins = refl; queue = λ x h. h; searching = λ b h. tt; aims = λ c i seats. tt; batch = λ ms h. absurd (false≢true h); spare = refl; cancels = refl; sends_cancel = refl; heard = refl; bare = refl; claims = refl; counts = refl; published = refl; clears = refl }; polls = refl; free = refl; unserved = refl; owes = λ n. refl; removes = refl }
+next_outside = grind arith
 
 pub next_hands : (b : Bool) → hands_on_at (if b then Place.TakeRootFlag else Place.Pick InPick.CountDown) ≡ false
 next_hands true = refl
@@ -51,13 +48,7 @@ number_apart t u o is apart = ap (λ y. is_number y u) is ∙ not_same t u (λ e
 
 -- where it is polled it isn't being taken out of the set
 pub removes_none : (t : ℕ) (y : InPoll) → polls_in t y ≡ Some t → removes_at (Place.Poll t y) ≡ None
-removes_none t InPoll.RemoveTask h = let never : None ≡ Some t = h in absurd (cc)
-removes_none t InPoll.BeginPoll h = refl
-removes_none t InPoll.Resume h = refl
-removes_none t InPoll.Act h = refl
-removes_none t (InPoll.JoinGate k) h = refl
-removes_none t InPoll.LoadSpawnHead h = refl
-removes_none t InPoll.Pend h = refl
+removes_none = grind arith
 
 pub number_there : (t : ℕ) (o : Option ℕ) → o ≡ Some t → is_number o t ≡ true
 number_there t o is = ap (λ y. is_number y t) is ∙ eq-eqb t t refl
@@ -78,9 +69,7 @@ module _ {B : Type 0} where
     pub polls : (n : ℕ) → n + 0 ≡ one_if (is_polled p) → n + 1 ≡ one_if (is_polled (cell_begun p))
 
   begins_as : (p : Phase B) (o : Option B) (i : ℕ) (b : B) → p ≡ Phase.Queued b → BeginsAs p o i
-  begins_as p o i b is =
-      subst (λ q. BeginsAs q o i) (sym is)
-      (record { polled = refl; body = refl; same_body = refl; shown = refl; complete = refl; going = refl; ready = λ k. refl; unpolled = refl; unqueued = λ c h. absurd (cc); one = λ g n h. let few = at_most_once g (n + 1) h in omega (arith, few); polls = λ n h. omega (arith, h) })
+  begins_as = grind arith
 
   -- a cell that has nothing to begin
   pub record IsStale (p : Phase B) : Type 0 where
@@ -89,11 +78,7 @@ module _ {B : Type 0} where
     pub one : (g : Bool) (n : ℕ) → HasOne g p (n + 1) → HasOne g p (n + 0)
 
   queued_or : (p : Phase B) → ((b : B) × (p ≡ Phase.Queued b)) ⊎ IsStale p
-  queued_or (Phase.Idle b) = inr (record { none = refl; unready = λ i. refl; one = λ g n h. absurd (omega (arith, h)) })
-  queued_or (Phase.Queued b) = inl (b, refl)
-  queued_or Phase.Running = inr (record { none = refl; unready = λ i. refl; one = λ g n h. absurd (omega (arith, h)) })
-  queued_or Phase.Notified = inr (record { none = refl; unready = λ i. refl; one = λ g n h. absurd (omega (arith, h)) })
-  queued_or Phase.Complete = inr (record { none = refl; unready = λ i. refl; one = λ g n h. fewer_left g (n + 1) (n + 0) (omega arith) h })
+  queued_or = grind arith
 
   -- WHAT IS IN THE HAND: the right to poll this task. The root is queued, and not flagged.
   pub record IsAtStart (t : ℕ) (w : Worker) (s : Shared B) : Type 0 where
@@ -176,9 +161,7 @@ module _ {B L : Type 0} (left : B → L) (spot : L → Option Said → Spot) whe
       }
 
   begun_seen : (i : ℕ) (slot : TaskSlot B) → BeginsAs slot.cell.phase slot.body i → task_seen left spot (begun_slot i slot) ≡ begun i (task_seen left spot slot)
-  begun_seen i slot how =
-      ap (λ b. at_phase slot b (phase_seen (cell_begun slot.cell.phase) i) (begun_waiting slot.waiting) true) how.same_body
-      ∙ ap (λ p. at_phase slot (body_in slot.cell.phase slot.body) p (begun_waiting slot.waiting) true) how.shown
+  begun_seen = grind arith
 
   polled_here : (i : ℕ) (seat : Seat) (home : Option ℕ) → (home ≡ None → seat.pool ≡ true) → (home ≡ Some i) ⊎ (home ≡ None) → is_polled_here i seat home ≡ true
   polled_here i seat home pool (inl is) = ap (is_polled_here i seat) is ∙ eq-eqb i i refl
@@ -186,10 +169,7 @@ module _ {B L : Type 0} (left : B → L) (spot : L → Option Said → Spot) whe
 
   -- the root isn't an ordinary task
   pub rootless : (t : ℕ) (w : Worker) (s : Shared B) (slot : TaskSlot B) → SoundAt (Place.Poll t InPoll.BeginPoll) w s → slice_get s.tasks.items t ≡ Some slot → slot.home ≡ None → t ≢ w.root
-  rootless t w s slot sound there none = λ same.
-      let is : slot ≡ sound.runnable.root = same_thing slot sound.runnable.root (sym there ∙ ap (slice_get s.tasks.items) same ∙ sound.runnable.there) in
-      let no : None ≡ Some w.index = sym none ∙ ap (λ (o : TaskSlot B). o.home) is ∙ sound.runnable.home in
-      absurd (cc)
+  rootless = grind arith
 
   begun_event : (t : ℕ) (w : Worker) (s : Shared B) (slot : TaskSlot B) → SoundAt (Place.Poll t InPoll.BeginPoll) w s → slice_get s.tasks.items t ≡ Some slot → BeginsAs slot.cell.phase slot.body w.index → (slot.home ≡ Some w.index) ⊎ (slot.home ≡ None)
       → (p : Plan) (vs : Views) → Suits p vs w s
@@ -203,21 +183,7 @@ module _ {B L : Type 0} (left : B → L) (spot : L → Option Said → Spot) whe
       let begins = begins_with t (begun_waiting slot.waiting) in
       let made : Task → Moved Things = λ y. let m = begin_poll t d y in record { event = m.event; choice = m.choice; desk = m.desk; thing = things_with vs s } in
       let made_if : Bool → Moved Things = λ b. let m = (if b then does (Begin t) (goes (Place.Poll t (after_begin (begun_waiting slot.waiting))) (let_go d)) (task_seen left spot slot) else turns (after_poll slot.home d) (let_go d) (task_seen left spot slot)) in record { event = m.event; choice = m.choice; desk = m.desk; thing = things_with vs s } in
-      record {
-        moves = ap made it ∙ ap made_if (how.ready slot.poller);
-        may = (
-          ap (λ (ls : List Letter). is_empty ls && true) (sound.letters.none refl),
-          (
-            ap (λ x. is_open x.phase) seat ∙ (sound.phased chair sound.seated.there).opened,
-            (
-              ap (λ x. is_ready x.phase) it ∙ how.ready slot.poller,
-              (ap (λ x. is_polled_here w.index (seat_of all w.index) x.home) it ∙ polled_here w.index (seat_of all w.index) slot.home (λ none. ap (λ x. x.pool) seat ∙ chair_of_pool (Place.Poll t InPoll.BeginPoll) w s sound chair sound.seated.there ∙ sound.serves (rootless t w s slot sound there none)) home, tt),
-            ),
-          ),
-        );
-        own = rw (begins.0, begins.1) refl;
-        common = ap (λ x. record all { tasks = slice_set all.tasks t (begun w.index x) }) it ∙ ap (λ x. record all { tasks = slice_set all.tasks t x }) (sym (begun_seen w.index slot how));
-      }
+      grind (arith, polled_here, chair_of_pool, rootless, begun_seen)
 
   begun_tasked : (t : ℕ) (w : Worker) (s : Shared B) → (sound : SoundAt (Place.Poll t InPoll.BeginPoll) w s) → (it : IsAtStart t w s) → BeginsAs it.slot.cell.phase it.slot.body w.index
       → Tasked (Place.Poll t (after_begin (begun_waiting it.slot.waiting))) w w.root_ready None s (slice_set s.tasks.items t (begun_slot w.index it.slot))
@@ -247,17 +213,7 @@ module _ {B L : Type 0} (left : B → L) (spot : L → Option Said → Spot) whe
           let own : polled_in w.root q ≡ Some (after_begin u) = in_own_poll w.root (polls_in t (after_begin u)) (after_begin u) (polls ∙ ap (λ n. Some n) same) in
           let before : polled_in w.root (Place.Poll t InPoll.BeginPoll) ≡ None = refl in
           let old = sound.tied.stands it.slot there in
-          let sits : Sits q w w.root_ready s it.slot slot' = record {
-            there = there;
-            keeps = record { home = refl; number = refl; owner = refl };
-            stands = subst (λ x. Stands x w.index slot') (sym own) (record { polled = how.polled; body = λ some. how.body; poller = λ some. refl; kept = old.kept; uncleared = old.uncleared; told = λ h. old.told (told_before it.slot.waiting (is_complete it.slot.cell.phase) (ap (is_told u) (sym how.complete) ∙ h)); untold = λ h. old.untold (waits_before it.slot.waiting h); waits = waits });
-            once = subst (λ o. IsRunnable o slot') (sym (it.root same).0) (λ b h. how.unqueued b h);
-            hand = (begun_place t u).1;
-            polls = λ n is. same_thing n t (sym is ∙ polls) ∙ same;
-            unpooled = (begun_place t u).3;
-            complete = how.complete;
-            stops = stops_later u u w.index s.requests.items s.sleepers.items;
-          } in
+          let sits : Sits q w w.root_ready s it.slot slot' = grind arith in
           subst (λ n. Tasked q w w.root_ready None s (slice_set s.tasks.items n slot')) (sym same) (root_tasked t InPoll.BeginPoll q w w.root_ready s it.slot slot' sound sits)
 
       other : t ≢ w.root → Tasked q w w.root_ready None s (slice_set s.tasks.items t slot')
@@ -320,12 +276,7 @@ module _ {B L : Type 0} (left : B → L) (spot : L → Option Said → Spot) whe
       let it : task_of all t ≡ task_seen left spot slot = task_there left spot s.tasks.items t slot there in
       let made : Task → Moved Things = λ y. let m = begin_poll t d y in record { event = m.event; choice = m.choice; desk = m.desk; thing = things_with vs s } in
       let made_if : Bool → Option ℕ → Moved Things = λ b h. let m = (if b then does (Begin t) (goes (Place.Poll t (after_begin (begun_waiting slot.waiting))) (let_go d)) (task_seen left spot slot) else turns (after_poll h d) (let_go d) (task_seen left spot slot)) in record { event = m.event; choice = m.choice; desk = m.desk; thing = things_with vs s } in
-      record {
-        moves = ap made it ∙ ap (λ b. made_if b slot.home) (stale.unready slot.poller) ∙ ap (made_if false) ordinary;
-        may = tt;
-        own = own_outside (next_pick_of w) w None (next_outside (w.picks == 0));
-        common = ap (λ ts. record all { tasks = ts }) (sym (set_found all.tasks t (task_seen left spot slot) (slice_get-map (task_seen left spot) s.tasks.items t ∙ ap (option_map (task_seen left spot)) there)));
-      }
+      grind (arith, own_outside, next_outside, set_found, slice_get-map)
 
   stale_steps : (t : ℕ) (w : Worker) (s s' : Shared B) → SoundAt (Place.Poll t InPoll.BeginPoll) w s → (it : IsAtStart t w s) → IsStale it.slot.cell.phase → s'.tasks.items ≡ slice_set s.tasks.items t it.slot
       → Steps left spot w s Turn (record w { place = next_pick_of w; root_ready = w.root_ready; hand = None }) (record s { tasks = s'.tasks })
@@ -335,17 +286,7 @@ module _ {B L : Type 0} (left : B → L) (spot : L → Option Said → Spot) whe
       let apart : t ≢ w.root = λ same. let queued = (it.root same).1 in let never : Some queued.0 ≡ None = sym (ap queued_body queued.1) ∙ stale.none in absurd (cc) in
       let ordinary = it.ordinary apart in
       let keeps : Keeps it.slot it.slot = record { home = refl; number = refl; owner = refl } in
-      let visits : Visits q t w None s it.slot it.slot = record {
-        apart = apart;
-        there = it.there;
-        keeps = keeps;
-        hand = subst (λ b. IsInHand None b None) (sym (next_hands (w.picks == 0))) refl;
-        genuine = λ r has. absurd (none_in r has);
-        polls = λ n is. let never : None ≡ Some n = sym out.polls ∙ is in absurd (cc);
-        guest = subst (λ o. HasGuest o (step_of_poll q) w.index w.root (slice_set s.tasks.items t it.slot)) (sym out.polls) tt;
-        stops = subst (λ o. Stops o (step_of_poll q) w.index (slice_set s.tasks.items t it.slot) s.requests.items s.sleepers.items) (sym out.polls) tt;
-        rests = λ unpolled. sound.resting t it.slot it.there ordinary unpolled;
-      } in
+      let visits : Visits q t w None s it.slot it.slot = grind arith in
       let bal : Balances t q w None it.slot it.slot = start_balances t q w it.slot it.slot sound.here it.hand it.number keeps refl stale.one (λ k other. ap (λ o. is_number o k) out.polls) (λ n h. ap (λ o. n + one_if (is_number o t)) out.polls ∙ h)
       out.removes (λ home. record { cleared = refl; over = λ h. h; poller = λ polled. inr (refl, polled) }) in
       slotted left spot t InPoll.BeginPoll q w w.root_ready None s s' it.slot it.slot Turn Plain sound out.after (guest_tasked t InPoll.BeginPoll q w None s it.slot it.slot sound visits) it.there items bal

@@ -56,12 +56,7 @@ module _ {B : Type 0} where
       at_least m n few some = omega (arith, few, some)
 
       more : (u : ℕ) → 0 < d'.clears u + in_set u set' → 0 < d.clears u + in_set u set
-      more u some =
-          by_number u t
-          (λ other. as_much (d'.clears u + in_set u set') (d.clears u + in_set u set) (it.beside u other) some)
-          (λ same.
-          subst (λ m. 0 < d.clears m + in_set m set) (sym same)
-          (at_least (d'.clears t + in_set t set') (d.clears t + in_set t set) it.most (subst (λ m. 0 < d'.clears m + in_set m set') same some)))
+      more = grind arith
 
   -- the set closes, or stays
   pub pool_set : (d : Duties) (tasks : List (TaskSlot B)) (set set' : Set (Unit {0})) (seats : List Chair) → set'.shards ≡ set.shards → (set.closed ≡ true → set'.closed ≡ true) → IsPool d tasks set seats → IsPool d tasks set' seats
@@ -99,10 +94,7 @@ module _ (i : ℕ) (seats seats' : List Chair) (chair chair' : Chair) (there : s
   before_on j other it = record { chair = it.chair; there = seat_on j it.chair other it.there; going = it.going }
 
   all_on : (has_gone chair ≡ true → has_gone chair' ≡ true) → HaveLeft seats → HaveLeft seats'
-  all_on gone all = λ j c at.
-      by_number j i
-      (λ other. all j c (seat_was j c other at))
-      (λ same. subst (λ x. has_gone x ≡ true) (seat_is j c same at) (gone (all i chair there)))
+  all_on = grind (arith, by_number, seat_was, seat_is)
 
 -- TASK t IS CLEARED by worker i, who took it out of the set
 pub record Clears (t i : ℕ) (d d' : Duties) : Type 0 where
@@ -187,13 +179,7 @@ module _ {B : Type 0} where
 
       -- who hasn't passed the barrier still hasn't
       before : (j : ℕ) → IsBefore j seats → IsBefore j seats'
-      before j it =
-          by_number j i
-          (λ other. before_on i seats seats' chair chair' there items j other it)
-          (λ same.
-          let is : chair ≡ it.chair = same_thing chair it.chair (sym there ∙ subst (λ n. slice_get seats n ≡ Some it.chair) same it.there) in
-          let now : slice_get seats' i ≡ Some chair' = ap (λ xs. slice_get xs i) items ∙ set_there seats i chair' chair there in
-          record { chair = chair'; there = subst (λ n. slice_get seats' n ≡ Some chair') (sym same) now; going = gone ∙ ap has_gone is ∙ it.going })
+      before = grind (arith, by_number, before_on, same_thing, set_there)
 
   pub record IsCleared (slot slot' : TaskSlot B) : Type 0 where
     pub home : slot'.home ≡ slot.home

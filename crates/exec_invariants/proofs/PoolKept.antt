@@ -3,7 +3,7 @@ use Rattle.std.proofs.{Common.{◌≡◌, ◌≢◌, ◌⊎◌, inl, inr, ⊎_el
 use Rattle.exec_task.specs.{Phases.is_polled, TaskSet.Set}
 use Rattle.exec_moves.specs.Seen.{polls_at}
 use Rattle.exec_parts.{specs.{declared.parts.{seat.Seat.Seat as Chair, task_slot.TaskSlot.TaskSlot, worker.Worker.Worker}, MailPosts.IsMailbox, Phased.is_complete}, proofs.Facts.{by_number, never_true, not_same, same_number, same_thing, set_elsewhere, set_there}}
-use Rattle.exec_invariants.specs.{Drained.{Duties, HaveLeft, IsBefore, IsHeldOnce, IsOver, IsPool, has_gone, in_set}, Places.{Drops, drops_at, is_number, one_if}, Spares.SparesChair, Whole.{Profile, duties_of, with_worker}}
+use Rattle.exec_invariants.specs.{Drained.{Duties, HaveLeft, IsBefore, IsHeldOnce, IsOver, IsPool, in_set}, Places.{Drops, drops_at, is_number}, Spares.SparesChair, Whole.{Profile, duties_of, with_worker}}
 
 -- SEATS show the same of the shutdown, and hold one message at most
 
@@ -49,18 +49,11 @@ gates_set i seats seats' chair chair' set there keeps = subst (KeepsGates seats)
         let is : chair' ≡ c = same_thing chair' c (sym now ∙ subst (λ n. slice_get (slice_set seats i chair') n ≡ Some c) same at) in
         (chair, subst (λ n. slice_get seats n ≡ Some chair) (sym same) there, subst (KeepsGate chair) is keeps))
 
-pub gone_kept : (chair chair' : Chair) → KeepsGate chair chair' → has_gone chair' ≡ has_gone chair
-gone_kept chair chair' keeps = rw (keeps.left, keeps.pool) refl
-
 pub before_kept : (j : ℕ) (seats seats' : List Chair) → KeepsGates seats seats' → IsBefore j seats → IsBefore j seats'
-before_kept j seats seats' keeps it =
-    let now = keeps.on j it.chair it.there in
-    record { chair = now.0; there = now.1; going = gone_kept it.chair now.0 now.2 ∙ it.going }
+before_kept = grind arith
 
 pub left_kept : (seats seats' : List Chair) → KeepsGates seats seats' → HaveLeft seats → HaveLeft seats'
-left_kept seats seats' keeps all = λ j chair at.
-    let was = keeps.back j chair at in
-    gone_kept was.0 chair was.2 ∙ all j was.0 was.1
+left_kept = grind arith
 
 -- WHAT A WORKER DOES is as before
 
@@ -81,19 +74,8 @@ is_its o t is = ap (λ y. is_number y t) is ∙ eq-eqb t t refl
 pub unremoved : (o : Option ℕ) → o ≡ None → (u : ℕ) → o ≡ Some u → ⊥
 unremoved o none u is = let never : None ≡ Some u = sym none ∙ is in cc
 
-abbrev duties_by : Profile → ℕ → Option ℕ → Drops → Duties
-duties_by others i polls drops =
-    record {
-      clears = λ t. others.clears t + one_if (is_number drops.clears t);
-      polled_by = λ j. if j == i then polls else others.polled_by j;
-      drops_by = λ j. if j == i then drops else others.drops_by j;
-    }
-
 pub duties_same : (others : Profile) (w w' : Worker) → w'.index ≡ w.index → polls_at w'.place ≡ polls_at w.place → drops_at w'.place ≡ drops_at w.place → duties_of (with_worker others w') ≡ duties_of (with_worker others w)
-duties_same others w w' index polls drops =
-    ap (λ i. duties_by others i (polls_at w'.place) (drops_at w'.place)) index
-    ∙ ap (λ p. duties_by others w.index p (drops_at w'.place)) polls
-    ∙ ap (duties_by others w.index (polls_at w.place)) drops
+duties_same = grind arith
 
 pub drops_same : (others : Profile) (w w' : Worker) → w'.index ≡ w.index → drops_at w'.place ≡ drops_at w.place → (with_worker others w').drops_by ≡ (with_worker others w).drops_by
 drops_same others w w' index drops =
@@ -145,12 +127,7 @@ module _ {B : Type 0} where
     pub removes_next : (u : ℕ) → (d'.drops_by i).removes ≡ Some u → ((d.drops_by i).removes ≡ Some u) ⊎ ((u ≡ t) × (slot.home ≡ None) × (is_complete slot'.cell.phase ≡ true) × (is_complete slot.cell.phase ≡ false))
 
   held_again : (slot slot' : TaskSlot B) (n m : ℕ) → n ≡ m → slot'.cleared ≡ slot.cleared → (is_complete slot.cell.phase ≡ true → is_complete slot'.cell.phase ≡ true) → IsHeldOnce slot n → IsHeldOnce slot' m
-  held_again slot slot' n m same cleared over it =
-      subst (IsHeldOnce slot') same (record {
-        most = it.most;
-        cleared = λ is. it.cleared (sym cleared ∙ is);
-        live = λ is going. it.live (sym cleared ∙ is) (never_true (is_complete slot.cell.phase) (λ is_over. false≢true (sym going ∙ over is_over)));
-      })
+  held_again = grind arith
 
   module _ (t i : ℕ) (d d' : Duties) (tasks tasks' : List (TaskSlot B)) (set : Set (Unit {0})) (seats : List Chair) (slot slot' : TaskSlot B) (there : slice_get tasks t ≡ Some slot) (items : tasks' ≡ slice_set tasks t slot') (redoes : Redoes t i d d' slot slot' seats) (pool : IsPool d tasks set seats) where
     now : slice_get tasks' t ≡ Some slot'

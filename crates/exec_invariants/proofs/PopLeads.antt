@@ -1,5 +1,5 @@
 -- Where a pop of the own run queue leads, and what is so there.
-use Rattle.std.proofs.{Common.{[], ◌≡◌, ◌≢◌, ℕ, zero, suc, ◌+◌, ◌-◌, ◌*◌, ◌%◌, ◌<◌, ◌==◌, ◌&&◌, inl, inr, Bool, true, false, Contains, List, ◌∷◌, length, None, Some, refl, sym, ap, subst, ◌∙◌, arith, option_to_list, slice_get, if◌then◌else◌, nat_le, ⊎_elim}, lemmas.{Nat.mod_below, Bool.{Decides.nat_tests, false≢true}, List.{length-map, Elements.Contains-push_cases}}}
+use Rattle.std.proofs.{Common.{[], ◌≡◌, ◌≢◌, ℕ, zero, suc, ◌+◌, ◌-◌, ◌*◌, ◌<◌, ◌==◌, ◌&&◌, inl, inr, Bool, true, false, Contains, List, ◌∷◌, length, None, Some, refl, ap, subst, ◌∙◌, arith, option_to_list, if◌then◌else◌}, lemmas.{Bool.{Decides.nat_tests, false≢true}, List.{length-map, Elements.Contains-push_cases}}}
 use Rattle.exec_words.specs.Queue.{Queue, head_of, popped, tail_of}
 use Rattle.exec_task.specs.{TaskSet.{IsFor, Set}, declared.{drain.Drain.Drain, runnable.Runnable.Runnable}}
 use Rattle.exec_machine.specs.declared.{config.Configuration.Configuration, event.Event.TheVariants.Turn}
@@ -27,11 +27,7 @@ both_hold false b h = absurd (false≢true h)
 
 -- beside a claim the gap grows, and it never goes from 0 or to it
 pub gap_popped : (gap : ℕ) → ((if gap == 0 then 0 else gap + 1) == 0) ≡ (gap == 0)
-gap_popped gap = by (gap == 0) refl
-  where
-    by : (b : Bool) → (gap == 0) ≡ b → ((if b then 0 else gap + 1) == 0) ≡ b
-    by true is = refl
-    by false is = grind (arith, nat_tests)
+gap_popped = grind arith
 
 -- so many behind a count
 pub behind : (a b : ℕ) → (a + b) - a ≡ b
@@ -49,33 +45,18 @@ four_times n some = omega (arith, some)
 -- there are some shards
 some_power : (more power n : ℕ) → 0 < power → 0 < power_from more power n
 some_power zero power n some = some
-some_power (suc more) power n some = by (nat_le n power) (some_power more (power * 2) n (omega (arith, some)))
-  where
-    by : (b : Bool) → 0 < power_from more (power * 2) n → 0 < (if b then power else power_from more (power * 2) n)
-    by true rest = some
-    by false rest = rest
+some_power (suc more) power n some = grind (arith, some_power more (power * 2) n (omega (arith, some)))
 
 pub some_shards : (c : Configuration) → 0 < shard_count c
 some_shards c = four_times (power_from 6 1 c.workers) (some_power 6 1 c.workers (omega arith))
 
-fits_set : {T : Type 0} (i count : ℕ) (set : Set T) → 0 < count → length set.shards ≡ count → IsFor (drain_by i count) set × (0 < (drain_by i count).left)
-fits_set i count set some same =
-    let within : i * 4 % count < count = mod_below (i * 4) count some in
-    (record { there = omega (arith, within, same); few = omega (arith, same) }, some)
-
 drain_fits : (i count : ℕ) (set : Set (Unit {0})) → 0 < count → length set.shards ≡ count → IsFor (drain_by i count) set × (0 < (drain_by i count).left) × HasPassed (drain_by i count) set
-drain_fits i count set some same =
-    let its = fits_set i count set some same in
-    (its.0, its.1, λ k few side all. absurd (⊎_elim (λ before. omega (arith, before, all, same)) (λ past. omega (arith, past, few, same)) side))
+drain_fits = grind arith
 
 module _ {B : Type 0} where
   -- an ordinary task isn't the root
   pub not_root : (q : Place) (w : Worker) (s : Shared B) (r : Runnable) → SoundAt q w s → IsGenuine s.tasks.items r → r.task.0 ≡ w.root → ⊥
-  not_root q w s r sound genuine same =
-      let there : slice_get s.tasks.items w.root ≡ Some genuine.slot = subst (λ t. slice_get s.tasks.items t ≡ Some genuine.slot) same genuine.there in
-      let is : genuine.slot ≡ sound.runnable.root = cc (there, sound.runnable.there) in
-      let home : None ≡ Some w.index = sym genuine.ordinary ∙ ap (λ x. x.home) is ∙ sound.runnable.home in
-      absurd (cc (home))
+  not_root = grind arith
 
   -- THE POLL OF WHAT CAME: its runnable is in the hand
   pub begins_poll : (q : Place) (r : Runnable) (w v : Worker) (s t : Shared B) → SoundAt q w s → still_of (Place.Poll r.task.0 InPoll.BeginPoll) ≡ still_of q → has_wakes_at q ≡ false → has_loot_at q ≡ false
@@ -120,16 +101,4 @@ module _ {B : Type 0} where
 
   -- where the closing goes on to the drain
   pub phased_drain : (stage : Stage) (d : Drain) (w : Worker) (s : Shared B) → IsFor d stage.set × (0 < d.left) × HasPassed d stage.set → IsPhased w.index true (Some (InClosing.TellRoot 0)) w.home.closing w.root w.names.unreleased stage s.tasks.items → IsPhased w.index true (Some (InClosing.Visit d)) w.home.closing w.root w.names.unreleased stage s.tasks.items
-  phased_drain stage d w s its was =
-      record {
-        told = was.told;
-        opened = was.opened;
-        ended = λ h. absurd (cc (was.ended h));
-        root = was.root;
-        left = was.left;
-        shut = was.shut;
-        by_zero = was.by_zero;
-        by_other = was.by_other;
-        closed = was.closed;
-        prepared = its;
-      }
+  phased_drain = grind arith

@@ -1,10 +1,10 @@
 -- What a message that wakes the root of a worker makes of its seat, and what is seen of that.
 --
 -- Into a closed inbox it doesn't go, beside another one it is left out, and else it is the first of a batch, or joins one.
-use Rattle.std.{proofs.{Common.{◌≡◌, ◌++◌, inl, ℕ, Bool, true, false, not, List, [], ◌∷◌, append_assoc, cond, count_by, map, Some, refl, sym, ap, ◌∙◌, arith, slice_get, slice_set, option_map, if◌then◌else◌}, lemmas.{Bool.false≢true, List.{map-append, set-get_or, Folds.list_any-append, Sums.{sum_by-append, sum_by-cons}}, Option.{get_or_from_slice_get, slice_get-map}}}, specs.List.list_any}
-use Rattle.exec_words.specs.{Inbox.{has_any, is_wake_root, opens_batch, sent, word_after}, Word.{asks_signal, next_batch}, declared.{inbox.Message.Message, mailbox.Mailbox.Mailbox as Box, word.PureWord.PureWord}}
-use Rattle.exec_machine.specs.{declared.{event.Event.{Event, TheVariants.{Closed, Send}}, state.MailMessage.{MailMessage, TheVariants.Root}}, Choice.{Choice, Payer, Choice.{Plain, Posts}}, Mail.{has_root_message, is_root_message, posted}, Tests.is_empty, World.{Common, Seat, seat_of}}
-use Rattle.exec_moves.specs.{Send.{Mailbox, posting}, State.{Things, inbox_of, no_word, word_of}, Thing.{mailbox_of, set_inbox, set_mailbox, set_word}}
+use Rattle.std.{proofs.{Common.{◌≡◌, ◌++◌, ℕ, Bool, true, false, not, List, [], ◌∷◌, append_assoc, cond, count_by, map, Some, refl, sym, ap, ◌∙◌, arith, slice_get, slice_set, option_map}, lemmas.{Bool.false≢true, List.{map-append, set-get_or, Folds.list_any-append, Sums.{sum_by-append, sum_by-cons}}, Option.{get_or_from_slice_get, slice_get-map}}}, specs.List.list_any}
+use Rattle.exec_words.specs.{Inbox.{has_any, is_wake_root}, Word.{asks_signal, next_batch}, declared.{inbox.Message.Message, mailbox.Mailbox.Mailbox as Box, word.PureWord.PureWord}}
+use Rattle.exec_machine.specs.{declared.{event.Event.{Event, TheVariants.{Closed, Send}}, state.MailMessage.{TheVariants.Root}}, Choice.{Choice, Payer, Choice.{Plain, Posts}}, Mail.{has_root_message, is_root_message, posted}, Tests.is_empty, World.{Common, Seat, seat_of}}
+use Rattle.exec_moves.specs.{Send.{Mailbox, posting}, State.{Things, inbox_of}, Thing.{mailbox_of, set_inbox, set_mailbox, set_word}}
 use Rattle.exec_parts.{specs.{declared.parts.{mail.Subject.Subject, seat.Seat.Seat as Chair, shared.Shared.Shared}, Pooled.{HasRootPlace, asks_in, chair_posted, event_posted}, MailPosts.IsMailbox, View.{Views, Visible, inbox_at, message_of, polls_seen, queue_at, seat_seen, things_with, word_at}}, proofs.{Facts.or_right, Showing.{map_kept, map_set, own_word_seen, polls_kept}}}
 use Rattle.exec_invariants.{specs.{Holding.Mail, Spares.SparesChair}, proofs.{Aside.spared, Turning.set_found}}
 
@@ -89,18 +89,7 @@ some_mail [] h = absurd (false≢true h)
 some_mail (m ∷ ms) h = refl
 
 pub posted_as : (a : Arrival) (chair : Chair) → IsArrival a chair.mailbox → chair_posted chair ≡ chair_by a chair
-posted_as Arrival.Shut chair is = rw is refl
-posted_as Arrival.LeftOut chair is =
-    let i = chair.mailbox.inbox in
-    let w = chair.mailbox.waker in
-    let posted : Chair = record chair { mailbox = record chair.mailbox { inbox = sent i Message.WakeRoot; waker = word_after i Message.WakeRoot w } } in
-    let kept : sent i Message.WakeRoot ≡ i = ap (λ b. if b then i else record i { messages = i.messages ++ Message.WakeRoot ∷ []; published = if opens_batch i Message.WakeRoot then next_batch i.published else i.published }) is.1 in
-    let word : word_after i Message.WakeRoot w ≡ w = ap (λ b. if not b then record w { batch = next_batch w.batch } else w) (some_mail i.messages is.1) in
-    ap (λ b. if b then chair else posted) is.0
-    ∙ ap (λ x. record chair { mailbox = record chair.mailbox { inbox = x; waker = word_after i Message.WakeRoot w } }) kept
-    ∙ ap (λ x. record chair { mailbox = record chair.mailbox { waker = x } }) word
-posted_as Arrival.First chair is = rw (is.0, is.1) refl
-posted_as Arrival.More chair is = rw (is.0, is.1, is.2) refl
+posted_as = grind arith
 
 -- a signal is asked for by the first alone, where its worker waits and nobody has signalled it
 abbrev pub asks_by : Arrival → Box Subject Subject → Bool
@@ -108,39 +97,11 @@ asks_by Arrival.First m = asks_signal m.waker
 asks_by _ m = false
 
 pub asks_as : (a : Arrival) (m : Box Subject Subject) → IsArrival a m → asks_in m ≡ asks_by a m
-asks_as Arrival.Shut m is = rw is refl
-asks_as Arrival.LeftOut m is = rw (is.0, some_mail m.inbox.messages is.1) refl
-asks_as Arrival.First m is = rw (is.0, is.1) refl
-asks_as Arrival.More m is = rw (is.0, is.1) refl
+asks_as = grind arith
 
 -- what its worker relies on stays
 pub posted_spares : (a : Arrival) (chair : Chair) → IsArrival a chair.mailbox → SparesChair chair (chair_by a chair)
-posted_spares Arrival.Shut chair is = spared chair
-posted_spares Arrival.LeftOut chair is = spared chair
-posted_spares Arrival.First chair is =
-    record {
-      phase = refl;
-      pool = refl;
-      left = refl;
-      closed = refl;
-      target = refl;
-      mail = λ h. record { roots = omega arith; empty = λ shut. absurd (false≢true (sym is.0 ∙ shut)); place = λ none. absurd (omega (arith, none)) };
-      made = refl;
-      queue = inl refl;
-    }
-posted_spares Arrival.More chair is =
-    record {
-      phase = refl;
-      pool = refl;
-      left = refl;
-      closed = refl;
-      target = refl;
-      mail = λ h.
-          let one : count_by is_wake_root (chair.mailbox.inbox.messages ++ Message.WakeRoot ∷ []) ≡ 1 = one_root chair.mailbox.inbox.messages is.2 in
-          record { roots = omega (arith, one); empty = λ shut. absurd (false≢true (sym is.0 ∙ shut)); place = λ none. absurd (omega (arith, none, one)) };
-      made = refl;
-      queue = inl refl;
-    }
+posted_spares = grind (arith, spared, false≢true, one_root)
 
 -- WHAT IS SEEN
 
@@ -168,41 +129,19 @@ mailbox_by Arrival.More m = record m { messages = m.messages ++ Root ∷ [] }
 mailbox_by _ m = m
 
 pub event_as : (j : ℕ) (a : Arrival) (m : Box Subject Subject) → IsArrival a m → event_posted j m ≡ event_by j a
-event_as j Arrival.Shut m is = rw is refl
-event_as j Arrival.LeftOut m is = rw is.0 refl
-event_as j Arrival.First m is = rw is.0 refl
-event_as j Arrival.More m is = rw is.0 refl
+event_as = grind arith
 
 pub seat_as : (a : Arrival) (v : Visible) (chair : Chair) → IsArrival a chair.mailbox → seat_seen v (chair_by a chair) ≡ seat_by a (seat_seen v chair)
-seat_as Arrival.Shut v chair is = refl
-seat_as Arrival.LeftOut v chair is = refl
-seat_as Arrival.First v chair is =
-    ap (λ ms. record (seat_seen v chair) { inbox = ms }) (sym (append_assoc v.taken [] (Root ∷ []))) ∙ ap (λ xs. record (seat_seen v chair) { inbox = (v.taken ++ map message_of xs) ++ Root ∷ [] }) (sym is.1)
-seat_as Arrival.More v chair is =
-    ap (λ ms. record (seat_seen v chair) { inbox = v.taken ++ ms }) (map-append message_of chair.mailbox.inbox.messages (Message.WakeRoot ∷ []))
-    ∙ ap (λ ms. record (seat_seen v chair) { inbox = ms }) (sym (append_assoc v.taken (map message_of chair.mailbox.inbox.messages) (Root ∷ [])))
+seat_as = grind (arith, append_assoc, map-append)
 
 -- a wake of the root that is left out stands beside another
 pub root_message_as : (v : Visible) (chair : Chair) → IsArrival Arrival.LeftOut chair.mailbox → has_root_message (seat_seen v chair) ≡ true
-root_message_as v chair is =
-    list_any-append is_root_message v.taken (map message_of chair.mailbox.inbox.messages)
-    ∙ or_right (list_any is_root_message v.taken) (list_any is_root_message (map message_of chair.mailbox.inbox.messages)) (roots_seen chair.mailbox.inbox.messages ∙ is.1)
+root_message_as = grind (arith, list_any-append, or_right, roots_seen)
 
 -- the posting of the moves, where this is seen of the seat
 pub posting_as : (a : Arrival) (s : Common) (j : ℕ) (payer : Payer) (m : Mailbox) (chair : Chair) (v : Visible) → IsArrival a chair.mailbox → seat_of s j ≡ seat_seen v chair → m.messages ≡ map message_of chair.mailbox.inbox.messages → m.word ≡ chair.mailbox.waker
     → posting s j payer m ≡ record { event = event_by j a; choice = choice_by a payer; signals = asks_by a chair.mailbox; mailbox = mailbox_by a m }
-posting_as Arrival.Shut s j payer m chair v is seat messages word = rw (seat, is) refl
-posting_as Arrival.LeftOut s j payer m chair v is seat messages word =
-    let root : list_any is_root_message m.messages ≡ true = ap (list_any is_root_message) messages ∙ roots_seen chair.mailbox.inbox.messages ∙ is.1 in
-    let some : is_empty m.messages ≡ false = ap is_empty messages ∙ none_seen chair.mailbox.inbox.messages ∙ ap not (some_mail chair.mailbox.inbox.messages is.1) in
-    rw (seat, is.0, root, some) refl
-posting_as Arrival.First s j payer m chair v is seat messages word =
-    let ms : m.messages ≡ [] = messages ∙ ap (map message_of) is.1 in
-    rw (seat, is.0, ms, ← word) refl
-posting_as Arrival.More s j payer m chair v is seat messages word =
-    let root : list_any is_root_message m.messages ≡ false = ap (list_any is_root_message) messages ∙ roots_seen chair.mailbox.inbox.messages ∙ is.2 in
-    let some : is_empty m.messages ≡ false = ap is_empty messages ∙ none_seen chair.mailbox.inbox.messages ∙ ap not is.1 in
-    rw (seat, is.0, root, some) refl
+posting_as = grind (arith, roots_seen, none_seen, some_mail)
 
 module _ {B : Type 0} where
   pub inbox_seen : (vs : Views) (j : ℕ) (s : Shared B) (chair : Chair) → slice_get s.seats.items j ≡ Some chair → inbox_of (things_with vs s) j ≡ inbox_at chair
@@ -211,26 +150,12 @@ module _ {B : Type 0} where
   -- nothing of the seat has changed
   unposted : (vs : Views) (j : ℕ) (s : Shared B) (seats : List Chair) (chair : Chair) → slice_get s.seats.items j ≡ Some chair → seats ≡ slice_set s.seats.items j chair
       → (x : Things) → x ≡ record (things_with vs s) { queues = map queue_at seats; words = map word_at seats; inboxes = map inbox_at seats; wake_polls = polls_seen vs.workers seats } → x ≡ set_mailbox j (things_with vs s) (mailbox_of (things_with vs s) j)
-  unposted vs j s seats chair there set x shown =
-      let same : seats ≡ s.seats.items = set ∙ set_found s.seats.items j chair there in
-      shown
-      ∙ ap (λ (cs : List Chair). record (things_with vs s) { queues = map queue_at cs; words = map word_at cs; inboxes = map inbox_at cs; wake_polls = polls_seen vs.workers cs }) same
-      ∙ ap (λ ws. record (things_with vs s) { words = ws }) (sym (set-get_or (things_with vs s).words j no_word))
-      ∙ ap (λ ms. record (things_with vs s) { words = slice_set (things_with vs s).words j (word_of (things_with vs s) j); inboxes = ms }) (sym (set-get_or (things_with vs s).inboxes j []))
+  unposted = grind (arith, set_found, set-get_or)
 
   -- the seat has another mailbox
   pub posted_both : (vs : Views) (j : ℕ) (s : Shared B) (seats : List Chair) (chair its : Chair) → slice_get s.seats.items j ≡ Some chair → seats ≡ slice_set s.seats.items j its → its.queue ≡ chair.queue → its.raised ≡ chair.raised
       → (x : Things) → x ≡ record (things_with vs s) { queues = map queue_at seats; words = map word_at seats; inboxes = map inbox_at seats; wake_polls = polls_seen vs.workers seats } → x ≡ set_word j (set_inbox j (things_with vs s) (inbox_at its)) its.mailbox.waker
-  posted_both vs j s seats chair its there set queue raised x shown =
-      let old : List Chair = s.seats.items in
-      let inbox : List MailMessage = inbox_at its in
-      let word : PureWord = its.mailbox.waker in
-      shown
-      ∙ ap (λ (cs : List Chair). record (things_with vs s) { queues = map queue_at cs; words = map word_at cs; inboxes = map inbox_at cs; wake_polls = polls_seen vs.workers cs }) set
-      ∙ ap (λ ws. record (things_with vs s) { queues = map queue_at (slice_set old j its); words = ws; inboxes = map inbox_at (slice_set old j its); wake_polls = polls_seen vs.workers (slice_set old j its) }) (map_set word_at old j its)
-      ∙ ap (λ ms. record (set_word j (things_with vs s) word) { queues = map queue_at (slice_set old j its); inboxes = ms; wake_polls = polls_seen vs.workers (slice_set old j its) }) (map_set inbox_at old j its)
-      ∙ ap (λ qs. record (set_word j (set_inbox j (things_with vs s) inbox) word) { queues = qs; wake_polls = polls_seen vs.workers (slice_set old j its) }) (map_kept queue_at old j its chair there (rw queue refl))
-      ∙ ap (λ ps. record (set_word j (set_inbox j (things_with vs s) inbox) word) { wake_polls = ps }) (polls_kept vs.workers old j chair its there raised)
+  posted_both = grind (arith, map_set, map_kept, polls_kept)
 
   -- the inbox and the wake word show it
   pub posted_shows : (a : Arrival) (vs : Views) (j : ℕ) (s : Shared B) (seats : List Chair) (chair : Chair) → IsArrival a chair.mailbox → slice_get s.seats.items j ≡ Some chair → seats ≡ slice_set s.seats.items j (chair_by a chair)

@@ -1,5 +1,6 @@
 -- Where a push leads whose runnable is in a queue now, or was let go: the hands are empty.
 use Rattle.std.proofs.{Common.{[], ◌≡◌, ◌+◌, ◌==◌, ◌&&◌, ◌||◌, Bool, true, false, Some, None, refl, sym, ap, subst, ◌∙◌, slice_get}, lemmas.Bool.false≢true}
+use Rattle.std.proofs.Common.{arith}
 use Rattle.exec_words.specs.Queue.{Queue}
 use Rattle.exec_task.specs.declared.runnable.Runnable.{Runnable}
 use Rattle.exec_moves.specs.{declared.{handing.{AfterKick.AfterKick, AfterPush.AfterPush, InKick.InKick}, place.{InPick.InPick, InPoll.InPoll, Place.Place}}, Seen.{polls_at, polls_for}}
@@ -11,10 +12,7 @@ abbrev stilled : Kind → Kind
 stilled k = record k { closing = None; closes = false; begins = None; hands_on = false; loot = true; searches = None; pooled = false; calls = None; spare = 0; bare = false }
 
 still_hushed : (k : Kind) (p : Place) → hush_of p ≡ record k { pooled = is_pooled_at p } → has_count_at p ≡ false → is_published_at p ≡ false → still_of p ≡ record (stilled k) { counts = false; published = false }
-still_hushed k p same counts published =
-    ap (λ (c : Bool). record (stilled (hush_of p)) { counts = c; published = is_published_at p }) counts
-    ∙ ap (λ (c : Bool). record (stilled (hush_of p)) { counts = false; published = c }) published
-    ∙ ap (λ (x : Kind). record (stilled x) { counts = false; published = false }) same
+still_hushed = grind arith
 
 module _ {B : Type 0} where
   -- what the seat needs of such a place, and the worker with empty hands

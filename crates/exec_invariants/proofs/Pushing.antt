@@ -21,10 +21,6 @@ less_than a b is = grind (arith, nat_tests)
 not_less : (a b : ℕ) → nat_lt a b ≡ false → b ≤ a
 not_less a b is = grind (arith, nat_tests)
 
--- nothing is among none
-pub among_none : {P : Type 0} (r : Runnable) → Contains [] r → P
-among_none r has = absurd (omega (arith, has.1))
-
 -- what is in the hand of who pushes is an ordinary task's
 pub ordinary : {B : Type 0} (q : Place) (w : Worker) (s : Shared B) → SoundAt q w s → begins_at q ≡ None → (r : Runnable) → Contains (option_to_list w.hand) r → IsGenuine s.tasks.items r
 ordinary q w s sound none r has =
@@ -187,20 +183,7 @@ module _ {B L : Type 0} (left : B → L) (spot : L → Option Said → Spot) (b 
           ∙ ap (turns next (record (desk_of w) { hand = None })) (published_seen its.queue more)
 
       carries : CarriesNone w v s
-      carries p begins hands loot searching pooled serves left_then told =
-          record {
-            runnable = rw begins sound.runnable;
-            hand = rw (begins, hands) refl;
-            loot = rw loot sound.loot;
-            genuine = λ r has. among_none r has;
-            stolen = sound.stolen;
-            searching = rw sound.searching searching;
-            pooled = pooled;
-            serves = serves;
-            calm = sound.calm;
-            left = left_then;
-            told = told;
-          }
+      carries = grind arith
 
       arrives_at : ArrivesAt w s s'
       arrives_at p armed queue aims batch lets_go phased = around_own p w s s' its y there set (rw armed sound.seated) (queue y (sound.queue its there).0) aims batch (sound.batch_place its there) lets_go (phased its there)

@@ -11,10 +11,7 @@ use Rattle.exec_invariants.{specs.{Gates.HaveGates, Holding.box_of, Kinds.{Kind,
 
 pub sum_set : (f : Chair → ℕ) (xs : List Chair) (k : ℕ) (x y : Chair) → slice_get xs k ≡ Some x → sum_by f (slice_set xs k y) + f x ≡ sum_by f xs + f y
 sum_set f [] k x y there = absurd (cc)
-sum_set f (z ∷ zs) zero x y there =
-    let is : z ≡ x = cc in
-    let same : f z ≡ f x = ap f is in
-    omega (arith, sum_by-cons f y zs, sum_by-cons f z zs, same)
+sum_set f (z ∷ zs) zero x y there = grind (arith, sum_by-cons)
 sum_set f (z ∷ zs) (suc k) x y there = omega (arith, sum_by-cons f z (slice_set zs k y), sum_by-cons f z zs, sum_set f zs k x y there)
 
 -- THE BALANCES
@@ -226,13 +223,7 @@ module _ {B L : Type 0} (left : B → L) (spot : L → Option Said → Spot) whe
       → Steps left spot w s e w' s'
   requeued k its x q w w' s s' e sound event on kept there set free unserved to spares whole moves =
       let shares : s' ≡ record s { seats = s'.seats; idle = s'.idle; global = s'.global } = subst (λ (z : Shared B). z ≡ record s { seats = z.seats; idle = z.idle; global = z.global }) (sym kept) refl in
-      let is : IsTurn w.workers q w'.place = record {
-        polls = ap (λ n. n.polls) to.same;
-        free = free;
-        free_then = ap (λ n. n.next) to.same ∙ free;
-        unserved = ap (λ n. n.serves) to.same ∙ unserved;
-        owes = ap (λ n. n.owes w.workers) to.same;
-      } in
+      let is : IsTurn w.workers q w'.place = grind arith in
       turned left spot q w w' s s' e sound event on shares (ap (λ (z : Shared B). z.global.closed) kept)
       (λ vs. ap (seats_seen vs) set ∙ seats_kept vs s.seats.items k its (record its { queue = x }) there (λ v. refl)) is (led_on q w'.place w w' s s' sound to)
       (record { spares = λ j other. spares_turn w.index j s s' other shares spares; whole = whole })

@@ -29,19 +29,7 @@ pub record Poses (w w' : Worker) : Type 0 where
 
 -- runnables go between its hands and its run queue, where no claim of that comes or goes
 pub hands_own : (k : ℕ) (q q' : Queue Runnable) (w w' : Worker) → Poses w w' → ((t : ℕ) → runnables_in t (hands_of w') + runnables_in t (q'.values ++ q'.held) ≡ runnables_in t (hands_of w) + runnables_in t (q.values ++ q.held)) → (q'.gap == 0) ≡ (q.gap == 0) → Hands k q q' w w'
-hands_own k q q' w w' same runnables gap =
-    record {
-      runnables = runnables;
-      polls = same.polls;
-      searching = same.searching;
-      counts = same.counts;
-      index = same.index;
-      published = same.published;
-      drops = same.drops;
-      told = same.told;
-      claims_beside = λ j other. rw same.claims refl;
-      claims = rw (same.claims, gap) refl;
-    }
+hands_own = grind arith
 
 module _ {B : Type 0} where
   -- the hands and the global queue change
@@ -85,10 +73,7 @@ seated_own i workers armed seats seats' its x there set seated =
 
 -- it is there then
 pub own_now : (i : ℕ) (seats seats' : List Chair) (its chair : Chair) (x : Queue Runnable) → slice_get seats i ≡ Some its → seats' ≡ slice_set seats i (record its { queue = x }) → slice_get seats' i ≡ Some chair → record its { queue = x } ≡ chair
-own_now i seats seats' its chair x there set found =
-    let its' : Chair = record its { queue = x } in
-    let now : slice_get seats' i ≡ Some its' = ap (λ xs. slice_get xs i) set ∙ set_there seats i its' its there in
-    cc (now, found)
+own_now = grind (arith, set_there)
 
 -- WHERE IT LEADS
 
@@ -107,18 +92,7 @@ module _ {B : Type 0} where
     tied : IsTied (in_poll_of w.root k.polls k.step) w.index w.root s.tasks.items
 
   of_still : (q q' : Place) (w : Worker) (s : Shared B) → SoundAt q w s → still_of q' ≡ still_of q → Still (still_of q') w s
-  of_still q q' w s sound same =
-      let here : Still (still_of q) w s =
-      record {
-        guest = guest_calm (polls_at q) (step_of_poll q) w.index w.root s.tasks.items sound.guest;
-        due = sound.due;
-        flown = sound.flown;
-        letters = sound.letters;
-        stops = stops_calm (polls_at q) (step_of_poll q) w.index s.tasks.items s.requests.items s.sleepers.items sound.stops;
-        hears = sound.hears;
-        tied = rw (step_again w.root (polls_at q) (step_of_poll q)) sound.tied;
-      } in
-      subst (λ k. Still k w s) (sym same) here
+  of_still = grind (arith, guest_calm, stops_calm, step_again)
 
   -- what a place needs of the seat, and of the batch
   pub record Around (q : Place) (w : Worker) (s t : Shared B) : Type 0 where
@@ -168,50 +142,11 @@ module _ {B : Type 0} where
     pub carries : Carries q' w v s
 
   pub reached : (q q' : Place) (w v : Worker) (s t : Shared B) → SoundAt q w s → Reaches q q' w v s t → Arrives q' w v s t
-  reached q q' w v s t sound to =
-      let it = of_still q q' w s sound to.same in
-      record {
-        runnable = to.carries.runnable;
-        seated = to.around.seated;
-        queue = to.around.queue;
-        hand = to.carries.hand;
-        loot = to.carries.loot;
-        genuine = to.carries.genuine;
-        stolen = to.carries.stolen;
-        searching = to.carries.searching;
-        pooled = to.carries.pooled;
-        serves = to.carries.serves;
-        calm = to.carries.calm;
-        aims = to.around.aims;
-        guest = guest_again (polls_at q') (step_of_poll q') w.index w.root s.tasks.items it.guest;
-        left = to.carries.left;
-        batch = to.around.batch;
-        batch_place = to.around.batch_place;
-        quiet = to.quiet;
-        due = it.due;
-        flown = it.flown;
-        told = to.carries.told;
-        letters = it.letters;
-        stops = stops_again (polls_at q') (step_of_poll q') w.index s.tasks.items s.requests.items s.sleepers.items it.stops;
-        hears = it.hears;
-        lets_go = to.around.lets_go;
-        phased = to.around.phased;
-        tied = rw (← step_again w.root (polls_at q') (step_of_poll q')) it.tied;
-      }
+  reached = grind (arith, of_still, guest_again, stops_again, step_again)
 
   -- what a place says of its worker's profile stays
   pub poses : (q : Place) (w w' : Worker) (s : Shared B) → SoundAt q w s → still_of w'.place ≡ still_of q → w'.searching ≡ w.searching → w'.index ≡ w.index → SameTold w w' → Poses w w'
-  poses q w w' s sound same searching index told =
-      record {
-        polls = rw sound.here (ap (λ k. k.polls) same);
-        claims = rw sound.here (ap (λ k. k.claims) same);
-        searching = searching;
-        counts = rw sound.here (ap (λ k. k.counts) same);
-        index = index;
-        published = rw sound.here (ap (λ k. k.published) same);
-        drops = ap (λ k. k.drops) same ∙ sym (ap drops_at sound.here);
-        told = told;
-      }
+  poses = grind arith
 
 -- to the machine it is a turn
 turn_still : (n : ℕ) (q q' : Place) → still_of q' ≡ still_of q → next_at q ≡ Next.Free → serves_at q ≡ false → IsTurn n q q'

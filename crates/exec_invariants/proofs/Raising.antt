@@ -1,14 +1,12 @@
 -- A step that first takes in the wakes which wait at its worker's seat is to the machine what the rest of it is: the machine's
 -- wake poll is the ring's with those raised.
-use Rattle.std.proofs.{Common.{◌≡◌, ◌≢◌, ℕ, zero, suc, ◌+◌, ◌*◌, ◌<◌, ◌≤◌, false, List, [], ◌∷◌, length, map, Option, Some, refl, sym, ap, subst, ◌∙◌, arith, slice_get, slice_set}, lemmas.{List.length-set, Option.get_or_from_slice_get}}
-use Rattle.exec_ring.specs.Rings.{completions}
-use Rattle.exec_words.specs.Queue.{tail_of}
+use Rattle.std.proofs.{Common.{◌≡◌, ◌≢◌, ℕ, zero, suc, ◌+◌, ◌*◌, ◌≤◌, false, List, [], ◌∷◌, length, map, Option, Some, refl, sym, ap, subst, ◌∙◌, arith, slice_get, slice_set}, lemmas.{List.length-set, Option.get_or_from_slice_get}}
 use Rattle.exec_driver.specs.{Driving.Driving, Placed.ListsRequests}
 use Rattle.exec_task.specs.declared.body.Said.{Said}
 use Rattle.exec_machine.specs.{declared.{config.Configuration.Configuration, event.Event.Event, state.Rest.Rest}, Tests.AllTrue, Allowed.allowed, After.{own_after, common_after}, Progress.Plan, World.{Common, Own}}
-use Rattle.exec_moves.specs.{declared.{handing.{InGlobal.InGlobal, InKick.InKick}, idling.{InLook.InLook, InRingWait.InRingWait, InScan.InScan}, place.{InMail.InMail, InClosing.InClosing, InService.InService, Place.Place}}, Move.move, State.{Moved, Things, no_wake_poll, wake_poll_of}, Thing.set_wake_poll}
-use Rattle.exec_parts.{specs.{declared.parts.{mail.Reply.Reply, seat.Seat.Seat as Chair, shared.Shared.Shared, worker.Worker.Worker}, Phased.{IsPhased, closes_at, closing_in, stage_of}, Pooled.with_raises, Raises.TakesRaises, Spots.Spot, Submitting.must_flush, View.{Views, Visible, visible, with_view, driver_of, own_of, desk_of, common_of, inbox_at, number_told, polls_seen, queue_at, raised_times, seat_seen, seats_seen, things_with, trailing, wake_poll_in, word_at}}, proofs.{Facts.{by_number, set_elsewhere, set_there}, Showing.{map_kept, polls_kept}}}
-use Rattle.exec_invariants.{specs.{Flown.operations, Holding.box_of, Places.is_armed_at, Sound.{Aims, AreHome, HasQueue, IsSeated, Sound, SoundAt}, Spares.Spares, Works.{Beside, Works, Suits, Steps}}, proofs.{Aside.{SameProfile, beside_calm, queues_set, seats_own}, PoolKept.gates_set, Ringed.{SameIn, sound_ring}, Shown.{own_with, desk_with}, Swept.{RaisesTo, raises_to}}}
+use Rattle.exec_moves.specs.{declared.{place.{Place.Place}}, Move.move, State.{Moved, Things, no_wake_poll, wake_poll_of}, Thing.set_wake_poll}
+use Rattle.exec_parts.{specs.{declared.parts.{mail.Reply.Reply, seat.Seat.Seat as Chair, shared.Shared.Shared, worker.Worker.Worker}, Phased.{IsPhased, closes_at, closing_in, stage_of}, Pooled.with_raises, Raises.TakesRaises, Spots.Spot, Submitting.must_flush, View.{Views, Visible, visible, with_view, driver_of, own_of, desk_of, common_of, inbox_at, polls_seen, queue_at, raised_times, seat_seen, seats_seen, things_with, word_at}}, proofs.{Facts.{by_number, set_elsewhere, set_there}, Showing.{map_kept, polls_kept}}}
+use Rattle.exec_invariants.{specs.{Holding.box_of, Places.is_armed_at, Sound.{Aims, AreHome, HasQueue, IsSeated, Sound, SoundAt}, Spares.Spares, Works.{Beside, Works, Suits, Steps}}, proofs.{Aside.{SameProfile, beside_calm, queues_set, seats_own}, PoolKept.gates_set, Ringed.{SameIn, sound_ring}, Shown.{own_with, desk_with}, Swept.{RaisesTo, raises_to}}}
 
 -- WHAT TWO CHANGES AT ONE PLACE SHOW
 
@@ -16,20 +14,14 @@ polls_taken : (vs : List Visible) (seats : List Chair) (i : ℕ) (v v' : Visible
     → polls_seen (slice_set vs i v') (slice_set seats i chair') ≡ polls_seen vs seats
 polls_taken [] seats i v v' chair chair' seen there same = absurd (cc)
 polls_taken (x ∷ vs) [] i v v' chair chair' seen there same = absurd (cc)
-polls_taken (x ∷ vs) (seat ∷ seats) zero v v' chair chair' seen there same =
-    let one : x ≡ v = cc in
-    let two : seat ≡ chair = cc in
-    ap (λ p. p ∷ polls_seen vs seats) (same ∙ rw (one, two) refl)
+polls_taken (x ∷ vs) (seat ∷ seats) zero v v' chair chair' seen there same = grind arith
 polls_taken (x ∷ vs) (seat ∷ seats) (suc i) v v' chair chair' seen there same = ap (λ ps. raised_times seat.raised x.wakes ∷ ps) (polls_taken vs seats i v v' chair chair' seen there same)
 
 seats_taken : (vs : List Visible) (seats : List Chair) (i : ℕ) (v v' : Visible) (chair chair' : Chair) → slice_get vs i ≡ Some v → slice_get seats i ≡ Some chair → seat_seen v' chair' ≡ seat_seen v chair
     → seats_seen (slice_set vs i v') (slice_set seats i chair') ≡ seats_seen vs seats
 seats_taken [] seats i v v' chair chair' seen there same = absurd (cc)
 seats_taken (x ∷ vs) [] i v v' chair chair' seen there same = absurd (cc)
-seats_taken (x ∷ vs) (seat ∷ seats) zero v v' chair chair' seen there same =
-    let one : x ≡ v = cc in
-    let two : seat ≡ chair = cc in
-    ap (λ y. y ∷ seats_seen vs seats) (same ∙ rw (one, two) refl)
+seats_taken (x ∷ vs) (seat ∷ seats) zero v v' chair chair' seen there same = grind arith
 seats_taken (x ∷ vs) (seat ∷ seats) (suc i) v v' chair chair' seen there same = ap (λ ys. seat_seen x seat ∷ ys) (seats_taken vs seats i v v' chair chair' seen there same)
 
 -- a view that shows the same of a seat
@@ -37,17 +29,13 @@ pub views_kept : (vs : List Visible) (seats : List Chair) (i : ℕ) (v v' : Visi
 views_kept [] seats i v v' seen same = absurd (cc)
 views_kept (x ∷ vs) [] zero v v' seen same = refl
 views_kept (x ∷ vs) [] (suc i) v v' seen same = refl
-views_kept (x ∷ vs) (seat ∷ seats) zero v v' seen same =
-    let one : x ≡ v = cc in
-    ap (λ y. y ∷ seats_seen vs seats) (same seat ∙ ap (λ y. seat_seen y seat) (sym one))
+views_kept (x ∷ vs) (seat ∷ seats) zero v v' seen same = grind arith
 views_kept (x ∷ vs) (seat ∷ seats) (suc i) v v' seen same = ap (λ ys. seat_seen x seat ∷ ys) (views_kept vs seats i v v' seen same)
 
 pub seats_set : (vs : List Visible) (seats : List Chair) (i : ℕ) (v : Visible) (chair : Chair) → slice_get seats i ≡ Some chair → seats_seen (slice_set vs i v) seats ≡ slice_set (seats_seen vs seats) i (seat_seen v chair)
 seats_set [] seats i v chair there = refl
 seats_set (x ∷ vs) [] i v chair there = absurd (cc)
-seats_set (x ∷ vs) (seat ∷ seats) zero v chair there =
-    let same : seat ≡ chair = cc in
-    ap (λ c. seat_seen v c ∷ seats_seen vs seats) same
+seats_set (x ∷ vs) (seat ∷ seats) zero v chair there = grind arith
 seats_set (x ∷ vs) (seat ∷ seats) (suc i) v chair there = ap (λ xs. seat_seen x seat ∷ xs) (seats_set vs seats i v chair there)
 
 pub set_twice : {A : Type 0} (xs : List A) (i : ℕ) (x y : A) → slice_set (slice_set xs i x) i y ≡ slice_set xs i y
@@ -65,18 +53,7 @@ same_made {T} {i} {i'} {o} {o'} {c} {c'} index own common f = ap (λ x. f x o' c
 -- A PLACE LOOKS AT OTHER WORKERS' SEATS ALONE
 
 aims_kept : (p : Place) (c : Configuration) (i : ℕ) (seats seats' : List Chair) → length seats' ≡ length seats → ((j : ℕ) → j ≢ i → slice_get seats' j ≡ slice_get seats j) → Aims p c i seats → Aims p c i seats'
-aims_kept (Place.Scan (InScan.ClaimHalf x h tail)) c i seats seats' many others may =
-    (record { other = may.0.other; unclaimed = may.0.unclaimed; some = may.0.some; most = may.0.most; behind = λ chair there. may.0.behind chair (sym (others _ may.0.other) ∙ there) }, may.1)
-aims_kept (Place.Look (InLook.LookAtHead j)) c i seats seats' many others may = may
-aims_kept (Place.RingWait (InRingWait.DisarmRing next) x) c i seats seats' many others may = may
-aims_kept (Place.Kick (InKick.ExchangeKickCount set) b) c i seats seats' many others may = may
-aims_kept (Place.Global (InGlobal.AddGlobalCount set) b) c i seats seats' many others may = may
-aims_kept (Place.Mail (InMail.Apply applied taken)) c i seats seats' many others may = may
-aims_kept (Place.Closing (InClosing.TellRoot j)) c i seats seats' many others may = may
-aims_kept (Place.Signal x j b) c i seats seats' many others may = (subst (λ n. j < n) (sym many) may.0, may.1)
-aims_kept (Place.Service (InService.Signal j b) v) c i seats seats' many others may = subst (λ n. j < n) (sym many) may
-aims_kept (Place.Service (InService.Raise ring j b) v) c i seats seats' many others may = subst (λ n. j < n) (sym many) may
-aims_kept _ c i seats seats' many others may = may
+aims_kept = grind arith
 
 module _ {B : Type 0} where
   -- what holds again, where its worker rests otherwise, and another number of wakes waits there
@@ -108,37 +85,7 @@ module _ {B : Type 0} where
       let chair' : Chair = record chair { raised = 0 } in
       let s2 : Shared B = record s { seats = s1.seats } in
       let by : Spares j s2 s' = subst (λ x. Spares j x s') shared it in
-      record {
-        config = by.config;
-        clock = by.clock;
-        gates = by.gates;
-        hints = by.hints;
-        many = by.many ∙ ap length set ∙ length-set s.seats.items i chair';
-        chair = λ c at. by.chair c (ap (λ xs. slice_get xs j) set ∙ set_elsewhere s.seats.items i j chair' other ∙ at);
-        tails = λ k c c' at at'.
-            by_number k i
-            (λ apart. by.tails k c c' (ap (λ xs. slice_get xs k) set ∙ set_elsewhere s.seats.items i k chair' apart ∙ at) at')
-            (λ same.
-            let is : chair ≡ c = cc (there, subst (λ n. slice_get s.seats.items n ≡ Some c) same at) in
-            let now : slice_get s1.seats.items k ≡ Some chair' = ap (λ xs. slice_get xs k) set ∙ subst (λ n. slice_get (slice_set s.seats.items i chair') n ≡ Some chair') (sym same) (set_there s.seats.items i chair' chair there) in
-            subst (λ y. tail_of y.queue ≤ tail_of c'.queue) is (by.tails k chair' c' now at'));
-        records = by.records;
-        records_only = by.records_only;
-        sleepers = by.sleepers;
-        sleepers_only = by.sleepers_only;
-        endure = by.endure;
-        endure_too = by.endure_too;
-        root = by.root;
-        polled = by.polled;
-        room = by.room;
-        stretch = by.stretch;
-        stopped = by.stopped;
-        closed = by.closed;
-        by_zero = by.by_zero;
-        shards = by.shards;
-        emptied = by.emptied;
-        genuine = by.genuine;
-      }
+      grind (arith, length-set, set_elsewhere, by_number, set_there)
 
 module _ {B : Type 0} (q : Place) (w w1 : Worker) (s s1 : Shared B) (sound : SoundAt q w s) (takes : TakesRaises w s w1 s1) where
   to : RaisesTo sound.seated.seat.raised (driver_of w) (with_raises sound.seated.seat.raised (driver_of w))
@@ -183,20 +130,10 @@ module _ {B : Type 0} (q : Place) (w w1 : Worker) (s s1 : Shared B) (sound : Sou
   own_taken = ap own_of takes.worker ∙ ap (own_with w w.place w.names.ended.items w.names.untold.items) driver_is
 
   pub desk_taken : desk_of w1 ≡ desk_of w
-  desk_taken =
-      ap desk_of takes.worker ∙ ap (desk_with w w.place w.put_off w.home.deferred) driver_is
-      ∙ ap (λ es. record (desk_of w) { entries = length es; others = trailing 0 (completions (with_raises sound.seated.seat.raised (driver_of w)).ring) }) to.raises.staged
-      ∙ ap (λ n. record (desk_of w) { others = n }) to.raises.others
-
-  abbrev shown_by : Driving Reply Reply → Visible
-  shown_by x = record (visible w) { busy = x.ring.busy; landed = map (number_told w.names.requests.items) (operations x.ring); wakes = wake_poll_in x.ring }
+  desk_taken = grind (arith, desk_with, driver_is, to)
 
   pub seen_taken : visible w1 ≡ record (visible w) { wakes = raised_times sound.seated.seat.raised (visible w).wakes }
-  seen_taken =
-      ap visible takes.worker ∙ ap shown_by driver_is
-      ∙ ap (λ b. record (visible w) { busy = b; landed = map (number_told w.names.requests.items) (operations (with_raises sound.seated.seat.raised (driver_of w)).ring); wakes = wake_poll_in (with_raises sound.seated.seat.raised (driver_of w)).ring }) to.raises.busy
-      ∙ ap (λ cs. record (visible w) { landed = map (number_told w.names.requests.items) cs; wakes = wake_poll_in (with_raises sound.seated.seat.raised (driver_of w)).ring }) to.raises.landed
-      ∙ ap (λ p. record (visible w) { wakes = p }) to.poll
+  seen_taken = grind (arith, driver_is, to)
 
   seats_are : s1.seats.items ≡ slice_set s.seats.items w.index (record sound.seated.seat { raised = 0 })
   seats_are = takes.seats sound.seated.seat sound.seated.there
@@ -295,18 +232,13 @@ module _ {B : Type 0} (q : Place) (w w1 : Worker) (s s1 : Shared B) (sound : Sou
 polls_set : (vs : List Visible) (seats : List Chair) (i : ℕ) (v' : Visible) (chair : Chair) → slice_get seats i ≡ Some chair → polls_seen (slice_set vs i v') seats ≡ slice_set (polls_seen vs seats) i (raised_times chair.raised v'.wakes)
 polls_set [] seats i v' chair there = refl
 polls_set (x ∷ vs) [] i v' chair there = absurd (cc)
-polls_set (x ∷ vs) (seat ∷ seats) zero v' chair there =
-    let one : seat ≡ chair = cc in
-    ap (λ c. raised_times c.raised v'.wakes ∷ polls_seen vs seats) one
+polls_set (x ∷ vs) (seat ∷ seats) zero v' chair there = grind arith
 polls_set (x ∷ vs) (seat ∷ seats) (suc i) v' chair there = ap (λ ps. raised_times seat.raised x.wakes ∷ ps) (polls_set vs seats i v' chair there)
 
 poll_at : (vs : List Visible) (seats : List Chair) (i : ℕ) (v : Visible) (chair : Chair) → slice_get vs i ≡ Some v → slice_get seats i ≡ Some chair → slice_get (polls_seen vs seats) i ≡ Some (raised_times chair.raised v.wakes)
 poll_at [] seats i v chair seen there = absurd (cc)
 poll_at (x ∷ vs) [] i v chair seen there = absurd (cc)
-poll_at (x ∷ vs) (seat ∷ seats) zero v chair seen there =
-    let one : x ≡ v = cc in
-    let two : seat ≡ chair = cc in
-    rw (one, two) refl
+poll_at (x ∷ vs) (seat ∷ seats) zero v chair seen there = grind arith
 poll_at (x ∷ vs) (seat ∷ seats) (suc i) v chair seen there = poll_at vs seats i v chair seen there
 
 module _ {B : Type 0} (vs : Views) (i : ℕ) (s : Shared B) (chair : Chair) (there : slice_get s.seats.items i ≡ Some chair) (none : chair.raised ≡ 0) where
@@ -328,10 +260,4 @@ module _ {B : Type 0} where
   -- nor does how its worker rests
   pub rest_shows : (vs : Views) (i : ℕ) (s : Shared B) (chair : Chair) → slice_get s.seats.items i ≡ Some chair → (x : Rest) (seats : List Chair) → seats ≡ slice_set s.seats.items i (record chair { rest = x })
       → record (things_with vs s) { queues = map queue_at seats; words = map word_at seats; inboxes = map inbox_at seats; wake_polls = polls_seen vs.workers seats } ≡ things_with vs s
-  rest_shows vs i s chair there x seats set =
-      let chair' : Chair = record chair { rest = x } in
-      ap (λ (cs : List Chair). record (things_with vs s) { queues = map queue_at cs; words = map word_at cs; inboxes = map inbox_at cs; wake_polls = polls_seen vs.workers cs }) set
-      ∙ ap (λ qs. record (things_with vs s) { queues = qs; words = map word_at (slice_set s.seats.items i chair'); inboxes = map inbox_at (slice_set s.seats.items i chair'); wake_polls = polls_seen vs.workers (slice_set s.seats.items i chair') }) (map_kept queue_at s.seats.items i chair' chair there refl)
-      ∙ ap (λ ws. record (things_with vs s) { words = ws; inboxes = map inbox_at (slice_set s.seats.items i chair'); wake_polls = polls_seen vs.workers (slice_set s.seats.items i chair') }) (map_kept word_at s.seats.items i chair' chair there refl)
-      ∙ ap (λ ms. record (things_with vs s) { inboxes = ms; wake_polls = polls_seen vs.workers (slice_set s.seats.items i chair') }) (map_kept inbox_at s.seats.items i chair' chair there refl)
-      ∙ ap (λ ps. record (things_with vs s) { wake_polls = ps }) (polls_kept vs.workers s.seats.items i chair chair' there refl)
+  rest_shows = grind (arith, map_kept, polls_kept)

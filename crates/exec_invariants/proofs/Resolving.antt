@@ -1,32 +1,20 @@
 -- A request is over: its driver lets go of it, and what its end leaves is told.
-use Rattle.std.proofs.{Common.{◌≡◌, ◌≢◌, ℕ, ◌+◌, ◌^◌, ◌<◌, ◌≤◌, true, List, [], ◌∷◌, ◌++◌, length, Option, Some, None, IsSome, refl, sym, ap, subst, ◌∙◌, arith, inl, inr, is_some}, lemmas.{Bool.false≢true, List.{length-append, length-set}}}
+use Rattle.std.proofs.{Common.{◌≡◌, ◌≢◌, ℕ, ◌+◌, ◌^◌, ◌<◌, ◌≤◌, true, List, [], ◌∷◌, ◌++◌, length, Option, Some, None, IsSome, refl, sym, ap, subst, ◌∙◌, arith, is_some}, lemmas.{Bool.false≢true, List.{length-append, length-set}}}
 use Rattle.exec_base.{specs.{Slab.{Slab, IsPast, value_at, written, removed, freed}, declared.{slab.Id.Id}}, proofs.Slots.{past-free, past-write, Changed-set, IsLiveAt-from_value, Updates-free, Updates-write, live_within, was_live}}
 use Rattle.exec_outcomes.specs.Accounts.{Account}
 use Rattle.exec_time.specs.Wheel.{Wheel, removed as unticked}
 use Rattle.exec_request.specs.{Requests.output_of, States.Ended, declared.output.RequestOutput.RequestOutput}
 use Rattle.exec_waiters.{specs.{Events.{finished, finished_for}, States.{is_held_by, waiter_at, pending_count}, Told.{Told, Tells}, declared.{deferred.{Deferred.Deferred}, observer.Observer.{Observer, TheVariants.{DetachedSync, Forwarded, Local, Orphaned}}, waiter.{Entry.{Entry, TheVariants.{Pending, Ready}}, Waiter.Waiter}, waiter_id.WaiterId.WaiterId}}, proofs.Changes.{entry_of, one_if}}
-use Rattle.exec_driver.{specs.{Lists.{is_among, is_same, without}, Steps.{ended, unscheduled}}, proofs.{Counting.pending_is, Endings.one_finished, Names.same_tells}}
+use Rattle.exec_driver.{specs.{Lists.{is_among, without}, Steps.{ended, unscheduled}}, proofs.{Counting.pending_is, Endings.one_finished}}
 use Rattle.exec_machine.specs.declared.config.Configuration.{Configuration}
-use Rattle.exec_parts.{specs.{declared.parts.mail.Reply.Reply, Calls.IsTold}, proofs.Facts.or_right}
+use Rattle.exec_parts.{specs.{declared.parts.mail.Reply.Reply, Calls.IsTold}}
 use Rattle.exec_invariants.{specs.{Due.IsWheelAt, Names.{HasWidth, held_count}}, proofs.{HeldCounts.{held_removed, held_written}, Orders.{past_removed, past_written}}}
 
 -- THE LISTS
 
 left_step : (other id x : WaiterId) (ids : List WaiterId) → (is_among other (without id ids) ≡ true → (is_among other ids ≡ true) × (other.0 ≢ id.0)) → is_among other (without id (x ∷ ids)) ≡ true
     → (is_among other (x ∷ ids) ≡ true) × (other.0 ≢ id.0)
-left_step other id x ids rest h =
-    elim (same_tells x id) [
-      | inl same ↦
-          let back = rest (rw same.0 at h) in
-          (or_right (is_same x other) (is_among other ids) back.0, back.1)
-      | inr apart ↦
-          elim (same_tells x other) [
-            | inl eq ↦ (rw eq.0 refl, λ e. apart.1 (ap (λ (y : WaiterId). y.0) eq.1 ∙ e))
-            | inr ne ↦
-                let back = rest (rw (apart.0, ne.0) at h) in
-                (rw ne.0 back.0, back.1)
-          ]
-    ]
+left_step = grind arith
 
 -- who is left when another is taken out
 pub left_among : (other id : WaiterId) (ids : List WaiterId) → is_among other (without id ids) ≡ true → (is_among other ids ≡ true) × (other.0 ≢ id.0)
@@ -34,17 +22,7 @@ left_among other id [] h = absurd (false≢true h)
 left_among other id (x ∷ ids) h = left_step other id x ids (left_among other id ids) h
 
 among_step : (other id x : WaiterId) (ids : List WaiterId) → (is_among other ids ≡ true → is_among other (without id ids) ≡ true) → other.0 ≢ id.0 → is_among other (x ∷ ids) ≡ true → is_among other (without id (x ∷ ids)) ≡ true
-among_step other id x ids rest apart h =
-    elim (same_tells x other) [
-      | inl eq ↦
-          elim (same_tells x id) [
-            | inl same ↦ absurd (apart (ap (λ (y : WaiterId). y.0) (sym eq.1 ∙ same.1)))
-            | inr differs ↦ rw (differs.0, eq.0) refl
-          ]
-      | inr ne ↦
-          let back = rest (rw ne.0 at h) in
-          elim (same_tells x id) [ inl same ↦ rw same.0 back | inr differs ↦ rw (differs.0, ne.0) back ]
-    ]
+among_step = grind arith
 
 pub among_still : (other id : WaiterId) (ids : List WaiterId) → other.0 ≢ id.0 → is_among other ids ≡ true → is_among other (without id ids) ≡ true
 among_still other id [] apart h = absurd (false≢true h)
@@ -64,10 +42,7 @@ unticked_at c start moment w (Some tick) it = one_unticked c start moment w tick
 
 -- of no more requests somebody may take or let go the output
 held_same : (s : Slab (Entry Reply Reply)) (id : Id) (it : Waiter Reply Reply) (told : RequestOutput) → is_held_by it.observer ≡ true → value_at s id ≡ Some (Pending it) → held_count (written s id (Ready told)) ≤ held_count s
-held_same s id it told held at =
-    let moved = held_written s id (Pending it) (Ready told) at in
-    let was : one_if (is_held_by it.observer) ≡ 1 = ap one_if held in
-    omega (arith, moved, was)
+held_same = grind (arith, held_written, one_if)
 
 held_less : (s : Slab (Entry Reply Reply)) (id : Id) (it : Waiter Reply Reply) → value_at s id ≡ Some (Pending it) → held_count (removed s id) ≤ held_count s
 held_less s id it at = let moved = held_removed s id (Pending it) at in omega (arith, moved)
@@ -128,47 +103,10 @@ pub record ToldOnce (t : Told Reply Reply) : Type 0 where
   pub results : length t.results ≤ 1
 
 pub told_ended : (ended e' : List ℕ) (k n : ℕ) (left left' : Deferred Reply Reply) (t : Told Reply Reply) → Tells left left' t → ToldOnce t → e' ≡ ended ++ k ∷ [] → IsTold ended left (n + 1) → IsTold e' left' n
-told_ended ended e' k n left left' t tells once is told =
-    let room = told.room in
-    let wakes : length left'.notes.wakes.items ≡ length left.notes.wakes.items + length t.wakes = ap length tells.notes.wakes_added ∙ length-append left.notes.wakes.items t.wakes in
-    let completions : length left'.notes.completions.items ≡ length left.notes.completions.items + length t.completions = ap length tells.notes.completions_added ∙ length-append left.notes.completions.items t.completions in
-    let outputs : length left'.outputs.items ≡ length left.outputs.items + length t.outputs = ap length tells.outputs_added ∙ length-append left.outputs.items t.outputs in
-    let results : length left'.results.items ≡ length left.results.items + length t.results = ap length tells.results_added ∙ length-append left.results.items t.results in
-    let resources : length left'.resources.items ≡ length left.resources.items + 1 =
-    ap length tells.resources_added ∙ length-append left.resources.items t.resources ∙ ap (λ m. length left.resources.items + m) once.resources in
-    let long : length e' ≡ length ended + 1 = ap length is ∙ length-append ended (k ∷ []) in
-    record {
-      resources = omega (arith, long, resources, told.resources);
-      room = record {
-        notes = record {
-          wakes = omega (arith, wakes, once.wakes, room.notes.wakes, tells.notes.wakes_memory);
-          completions = omega (arith, completions, once.completions, room.notes.completions, tells.notes.completions_memory);
-        };
-        outputs = omega (arith, outputs, once.outputs, room.outputs, tells.outputs_memory);
-        resources = omega (arith, resources, room.resources, tells.resources_memory);
-        results = omega (arith, results, once.results, room.results, tells.results_memory);
-      };
-    }
+told_ended = grind (arith, length-append)
 
 pub wide_ended : (n m : ℕ) (left left' : Deferred Reply Reply) (t : Told Reply Reply) → m ≤ n → Tells left left' t → HasWidth left n → HasWidth left' m
-wide_ended n m left left' t less tells wide =
-    record {
-      wakes = omega (arith, less, wide.wakes, tells.notes.wakes_memory);
-      completions = omega (arith, less, wide.completions, tells.notes.completions_memory);
-      outputs = omega (arith, less, wide.outputs, tells.outputs_memory);
-      resources = omega (arith, less, wide.resources, tells.resources_memory);
-      results = omega (arith, less, wide.results, tells.results_memory);
-    }
+wide_ended = grind arith
 
 pub places_fewer : {left : Deferred Reply Reply} {ended : List ℕ} {n m : ℕ} → m ≤ n → IsTold ended left n → IsTold ended left m
-places_fewer less told =
-    let room = told.room in
-    record {
-      resources = told.resources;
-      room = record {
-        notes = record { wakes = omega (arith, less, room.notes.wakes); completions = omega (arith, less, room.notes.completions) };
-        outputs = omega (arith, less, room.outputs);
-        resources = omega (arith, less, room.resources);
-        results = omega (arith, less, room.results);
-      };
-    }
+places_fewer = grind arith

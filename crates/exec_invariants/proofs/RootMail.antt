@@ -1,8 +1,8 @@
 -- What tasks hold, where a message to a root joins an inbox: all that is told of requests and sleepers is as it was.
-use Rattle.std.proofs.{Common.{◌≡◌, ℕ, ◌⊎◌, inl, inr, false, Contains, List, [], ◌∷◌, ◌++◌, cond, length, map, Option, Some, None, refl, sym, ap, subst, ◌∙◌, arith, slice_get, slice_set, option_map}, lemmas.{List.{length-set, Elements.Contains-push_cases, Sums.sum_by-append}, Option.slice_get-map}}
+use Rattle.std.proofs.{Common.{◌≡◌, ℕ, ◌⊎◌, inl, inr, false, Contains, List, [], ◌∷◌, ◌++◌, length, map, Option, Some, None, refl, sym, ap, subst, ◌∙◌, arith, slice_get, slice_set, option_map}, lemmas.{List.{length-set, Elements.Contains-push_cases, Sums.sum_by-append}, Option.slice_get-map}}
 use Rattle.exec_words.specs.declared.inbox.Message.{Message}
 use Rattle.exec_parts.{specs.declared.parts.{mail.Subject.Subject, seat.Seat.Seat as Chair}, proofs.{Facts.{by_number, same_thing, set_elsewhere, set_there}, Showing.map_set}}
-use Rattle.exec_invariants.{specs.Holding.{Box, Hands, HasPlace, Holder, IsAbout, IsClosing, IsHolding, Mail, Nap, Owes, Thing, box_of, mail_in, same_mail, under_way}, proofs.{HoldRedo.sum_set, Posting.{Arrival, IsArrival, chair_by}, Turning.set_found}}
+use Rattle.exec_invariants.{specs.Holding.{Box, Hands, HasPlace, Holder, IsAbout, IsClosing, IsHolding, Mail, Nap, Owes, Thing, box_of, same_mail, under_way}, proofs.{HoldRedo.sum_set, Posting.{Arrival, IsArrival, chair_by}, Turning.set_found}}
 
 -- such a box
 abbrev with_root : Box → Box
@@ -14,12 +14,7 @@ module _ (h : Hands) (workers : ℕ) (holders : List Holder) (things : List Thin
 
   -- what a box was
   was : (i : ℕ) (now : Box) → slice_get boxes' i ≡ Some now → (old : Box) × (slice_get boxes i ≡ Some old) × ((now ≡ old) ⊎ (now ≡ with_root old))
-  was i now at =
-      by_number i j
-      (λ other. (now, sym (set_elsewhere boxes j i (with_root box) other) ∙ at, inl refl))
-      (λ same.
-      let is : with_root box ≡ now = same_thing (with_root box) now (sym (set_there boxes j (with_root box) box there) ∙ subst (λ n. slice_get boxes' n ≡ Some now) same at) in
-      (box, subst (λ n. slice_get boxes n ≡ Some box) (sym same) there, inr (sym is)))
+  was = grind (arith, by_number, set_elsewhere, same_thing, set_there)
 
   shut_was : (i : ℕ) (now old : Box) → (now ≡ old) ⊎ (now ≡ with_root old) → now.shut ≡ old.shut
   shut_was i now old (inl is) = ap (λ (b : Box). b.shut) is
@@ -31,10 +26,7 @@ module _ (h : Hands) (workers : ℕ) (holders : List Holder) (things : List Thin
 
   -- of no other message there are more
   same_way : (m : Mail) → same_mail m Message.WakeRoot ≡ false → under_way h m boxes' ≡ under_way h m boxes
-  same_way m other =
-      let f : Box → ℕ = λ b. mail_in m b.messages in
-      let more : f (with_root box) ≡ f box = sum_by-append (λ x. cond (same_mail m x) 1 0) box.messages (Message.WakeRoot ∷ []) ∙ rw other (omega arith) in
-      omega (arith, sum_set f boxes j box (with_root box) there, more)
+  same_way = grind (arith, sum_by-append, sum_set)
 
   closes_then : (i : ℕ) → IsClosing i boxes → IsClosing i boxes'
   closes_then i closing now at = let old = was i now at in closing_was now old.0 old.2 ∙ closing old.0 old.1
@@ -57,48 +49,13 @@ module _ (h : Hands) (workers : ℕ) (holders : List Holder) (things : List Thin
       ]
 
   room_then : (i : ℕ) (now : Box) → slice_get boxes' i ≡ Some now → IsHolding h workers holders things naps boxes → HasPlace i things naps now
-  room_then i now at holding =
-      let old = was i now at in
-      let place = holding.room i old.0 old.1 in
-      elim old.2 as (λ x. HasPlace i things naps now) [
-        | inl is ↦ subst (HasPlace i things naps) (sym is) place
-        | inr is ↦ subst (HasPlace i things naps) (sym is) (record { made = place.made; places = place.places })
-      ]
+  room_then = grind (arith, was)
 
   many : length boxes' ≡ length boxes
   many = length-set boxes j (with_root box)
 
   pub holding_rooted : IsHolding h workers holders things naps boxes → IsHolding h workers holders things naps boxes'
-  holding_rooted holding =
-      record {
-        held = λ k r now at_k at. let old = was r.worker now at in
-            rw (shut_was r.worker now old.0 old.2, same_way (Message.Cancel (Subject.Request k)) refl) (holding.held k r old.0 at_k old.1);
-        forwarded = λ k r now at_k at. let old = was r.worker now at in
-            rw (shut_was r.worker now old.0 old.2, same_way (Message.Forward (Subject.Request k)) refl) (holding.forwarded k r old.0 at_k old.1);
-        asked = holding.asked;
-        waited = holding.waited;
-        holds = holding.holds;
-        awaiting = holding.awaiting;
-        asleep = holding.asleep;
-        over = holding.over;
-        sleeps = holding.sleeps;
-        let_go = λ n z now at_n at opened. let old = was z.worker now at in
-            rw (same_way (Message.Cancel (Subject.Timer n)) refl) (holding.let_go n z old.0 at_n old.1 (sym (shut_was z.worker now old.0 old.2) ∙ opened));
-        asked_too = holding.asked_too;
-        let_be = holding.let_be;
-        sent = holding.sent;
-        sent_too = holding.sent_too;
-        woken = λ n z now at_n at. let old = was z.worker now at in
-            rw (shut_was z.worker now old.0 old.2, same_way (Message.Forward (Subject.Timer n)) refl) (holding.woken n z old.0 at_n old.1);
-        owed = λ i t some.
-            let it = holding.owed i t some in
-            (it.0, record { it = it.1.it; there = it.1.there; owes = owes_then i t it.1.it.awaits it.1.owes });
-        about = λ i now m at has. about_then i now m at has holding;
-        room = λ i now at. room_then i now at holding;
-        made = holding.made;
-        of_worker = λ k r at_k. rw many (holding.of_worker k r at_k);
-        of_worker_too = λ n z at_n. rw many (holding.of_worker_too n z at_n);
-      }
+  holding_rooted = grind (arith, was, shut_was, same_way, owes_then, about_then, room_then, many)
 
 -- a message to the root of worker j arrives so
 pub holding_posted : (a : Arrival) (h : Hands) (workers : ℕ) (holders : List Holder) (things : List Thing) (naps : List Nap) (seats seats' : List Chair) (j : ℕ) (chair : Chair) → IsArrival a chair.mailbox → slice_get seats j ≡ Some chair → seats' ≡ slice_set seats j (chair_by a chair)

@@ -1,5 +1,6 @@
 -- What the machine sees of seats.
 use Rattle.std.{proofs.{Common.{◌≡◌, ℕ, zero, suc, Bool, true, List, [], ◌∷◌, Some, Option, refl, ap, slice_get, slice_set}, lemmas.Option.get_or_from_slice_get}, specs.List.list_all}
+use Rattle.std.proofs.Common.{arith}
 use Rattle.exec_task.specs.declared.body.Said.{Said}
 use Rattle.exec_machine.specs.{Progress.Plan, World.{Seat, seat_of, no_seat}}
 use Rattle.exec_parts.specs.{declared.parts.{seat.Seat.Seat as Chair, shared.Shared.Shared, worker.Worker.Worker}, Spots.Spot, View.{Views, Visible, visible, common_of, seats_seen, seat_seen}}
@@ -10,10 +11,7 @@ pub seat_there : (vs : List Visible) (seats : List Chair) (i : ℕ) (v : Visible
     → slice_get (seats_seen vs seats) i ≡ Some (seat_seen v chair)
 seat_there [] seats i v chair seen there = absurd (cc)
 seat_there (x ∷ vs) [] i v chair seen there = absurd (cc)
-seat_there (x ∷ vs) (seat ∷ seats) zero v chair seen there =
-    let one : x ≡ v = cc in
-    let two : seat ≡ chair = cc in
-    rw (one, two) refl
+seat_there (x ∷ vs) (seat ∷ seats) zero v chair seen there = grind arith
 seat_there (x ∷ vs) (seat ∷ seats) (suc i) v chair seen there = seat_there vs seats i v chair seen there
 
 -- The machine sees the chair that was changed.
@@ -21,9 +19,7 @@ pub chair_set : (vs : List Visible) (seats : List Chair) (i : ℕ) (v : Visible)
     → seats_seen vs (slice_set seats i chair) ≡ slice_set (seats_seen vs seats) i (seat_seen v chair)
 chair_set [] seats i v chair seen = absurd (cc)
 chair_set (x ∷ vs) [] i v chair seen = refl
-chair_set (x ∷ vs) (seat ∷ seats) zero v chair seen =
-    let same : x ≡ v = cc in
-    ap (λ y. seat_seen y chair ∷ seats_seen vs seats) same
+chair_set (x ∷ vs) (seat ∷ seats) zero v chair seen = grind arith
 chair_set (x ∷ vs) (seat ∷ seats) (suc i) v chair seen = ap (λ xs. seat_seen x seat ∷ xs) (chair_set vs seats i v chair seen)
 
 -- what each chair passes is passed by what is seen of it

@@ -1,10 +1,11 @@
 -- What is seen of a worker after a step of a service, by its driver.
-use Rattle.std.proofs.{Common.{◌≡◌, ℕ, zero, suc, List, [], ◌∷◌, map, Option, Some, refl, sym, ap, subst, ◌∙◌, slice_get, slice_set}, lemmas.List.set-get_or}
+use Rattle.std.proofs.{Common.{◌≡◌, ℕ, zero, suc, List, [], ◌∷◌, map, Option, Some, refl, sym, ap, subst, slice_get, slice_set}, lemmas.List.set-get_or}
+use Rattle.std.proofs.Common.{arith}
 use Rattle.exec_driver.specs.Driving.{Driving}
 use Rattle.exec_task.specs.declared.body.Said.{Said}
 use Rattle.exec_machine.specs.{declared.event.Event.Event, Allowed.allowed, After.{own_after, common_after}, Choice.Choice.Plain, Progress.Plan, Tests.AllTrue, World.Common}
 use Rattle.exec_moves.specs.{declared.place.Place.Place, Move.move_at, State.{Things, no_wake_poll}, Thing.{ring_of, set_ring}}
-use Rattle.exec_parts.specs.{declared.parts.{mail.Reply.Reply, record.Record.Record, seat.Seat.Seat as Chair, shared.Shared.Shared, worker.Worker.Worker}, Serving.changed_at, Spots.Spot, View.{Views, Visible, visible, with_view, own_of, desk_of, driver_of, common_of, gate_seen, numbers_of_passing, open_seen, polls_seen, raised_times, seat_seen, slots_seen, things_with}}
+use Rattle.exec_parts.specs.{declared.parts.{mail.Reply.Reply, record.Record.Record, seat.Seat.Seat as Chair, shared.Shared.Shared, worker.Worker.Worker}, Serving.changed_at, Spots.Spot, View.{Views, Visible, visible, with_view, own_of, desk_of, driver_of, common_of, polls_seen, raised_times, seat_seen, things_with}}
 use Rattle.exec_invariants.{specs.{Sound.SoundAt, Works.{Works, Suits, Steps}}, proofs.{Hearing.unheard, Recorded.shown_changed, Keys.{name_in, same_opens, names_changed}, Lined.{gates_seen_same, passing_same, was_sent}, Raising.views_kept, Serving.{Balances, SparesGates, SparesRecords, beside_service_by, sound_again_by, spares_gates}, ServingHolds.{OthersKept, Serves, Keeps, nap_sent}, Shown.{makes, own_with, desk_with, visible_with}}}
 pub use Rattle.exec_invariants.proofs.Shown.{makes, own_with, desk_with, visible_with}
 
@@ -18,9 +19,7 @@ polls_alike : (vs : List Visible) (seats : List Chair) (i : ℕ) (v v' : Visible
 polls_alike [] seats i v v' seen same = refl
 polls_alike (x ∷ vs) [] zero v v' seen same = refl
 polls_alike (x ∷ vs) [] (suc i) v v' seen same = refl
-polls_alike (x ∷ vs) (seat ∷ seats) zero v v' seen same =
-    let one : x ≡ v = cc in
-    ap (λ p. raised_times seat.raised p ∷ polls_seen vs seats) (same ∙ ap (λ y. y.wakes) (sym one))
+polls_alike (x ∷ vs) (seat ∷ seats) zero v v' seen same = grind arith
 polls_alike (x ∷ vs) (seat ∷ seats) (suc i) v v' seen same = ap (λ ps. raised_times seat.raised x.wakes ∷ ps) (polls_alike vs seats i v v' seen same)
 
 -- a ring whose wake poll is written as it is
@@ -29,26 +28,11 @@ ring_again x i s = ap (λ ps. record x { wake_polls = ps }) (set-get_or x.wake_p
 
 module _ {B : Type 0} where
   pub shows : (q : Place) (w w' : Worker) (s s' : Shared B) (d : Driving Reply Reply) → Serves q w w' s s' → driver_of w' ≡ d → w'.home.timers ≡ w.home.timers → Shows w w' d
-  shows q w w' s s' d serves driver timers =
-      record {
-        own = ap own_of serves.worker ∙ ap (own_with w w'.place w'.names.ended.items w'.names.untold.items) driver;
-        desk =
-            ap desk_of serves.worker ∙ ap (λ x. record (desk_with w w'.place w'.put_off w'.home.deferred (driver_of w')) { timers = slots_seen w.names.timers.items x }) timers
-            ∙ ap (desk_with w w'.place w'.put_off w'.home.deferred) driver;
-        seen = ap visible serves.worker ∙ ap (λ (x : Driving Reply Reply). visible_with w.names.requests.items (visible w).taken x.ring) driver;
-      }
+  shows = grind arith
 
   -- what stands beside the machine, where the worker's wake poll shows the same
   pub things_kept : (vs : Views) (i : ℕ) (v v' : Visible) (s s' : Shared B) → slice_get vs.workers i ≡ Some v → v'.wakes ≡ v.wakes → OthersKept s s' → SparesRecords i s s' → things_with (with_view vs i v') s' ≡ things_with vs s
-  things_kept vs i v v' s s' seen same shared spares =
-      let t0 = things_with vs s in
-      let rs' = s'.requests.items in
-      let ss' = s'.sleepers.items in
-      ap (things_with (with_view vs i v')) shared
-      ∙ ap (λ ps. record t0 { wake_polls = ps; gates = map (gate_seen rs') s'.opens; answers = numbers_of_passing was_sent 0 rs'; alarms = numbers_of_passing nap_sent 0 ss' }) (polls_alike vs.workers s.seats.items i v v' seen same)
-      ∙ ap (λ gs. record t0 { gates = gs; answers = numbers_of_passing was_sent 0 rs'; alarms = numbers_of_passing nap_sent 0 ss' }) (gates_seen_same s.requests.items rs' s.opens s'.opens spares.lines spares.opens)
-      ∙ ap (λ ns. record t0 { answers = ns; alarms = numbers_of_passing nap_sent 0 ss' }) (passing_same was_sent s.requests.items rs' spares.lines.sent)
-      ∙ ap (λ ns. record t0 { alarms = ns }) (passing_same nap_sent s.sleepers.items ss' spares.sent)
+  things_kept = grind (arith, was_sent, nap_sent, polls_alike, gates_seen_same, passing_same)
 
 module _ {B L : Type 0} (left : B → L) (spot : L → Option Said → Spot) where
   -- what a step of a service is to the machine
@@ -59,15 +43,7 @@ module _ {B L : Type 0} (left : B → L) (spot : L → Option Said → Spot) whe
     pub common : common_of left spot p (with_view vs w.index (visible w')) s' ≡ common_after p.config (own_of w) (common_of left spot p vs s) w.index e Plain
 
   sees_there : (q : Place) (w w' : Worker) (s s' : Shared B) (e : Event) → w.place ≡ q → (p : Plan) (vs : Views) → Sees q w w' s s' e p vs → Works left spot p vs w s e w' s'
-  sees_there q w w' s s' e here p vs sees =
-      record {
-        choice = Plain;
-        moves =
-            subst (λ y. move_at p.config w.index (own_of w) (common_of left spot p vs s) (desk_of w) (things_with vs s) y ≡ makes e (desk_of w') (things_with (with_view vs w.index (visible w')) s')) (sym here) sees.moves;
-        may = sees.may;
-        own = sees.own;
-        common = sees.common;
-      }
+  sees_there = grind arith
 
   -- From a place that is known: what is seen by that place, and what holds again. Who stands at gates may change.
   pub served_by : (q : Place) (w w' : Worker) (s s' : Shared B) (e : Event) → SoundAt q w s → Serves q w w' s s' → Keeps w' s' → SparesGates w.index s s' → Balances w w' s s'
@@ -95,10 +71,4 @@ module _ {B L : Type 0} (left : B → L) (spot : L → Option Said → Spot) whe
   pub common_changed : (p : Plan) (vs : Views) (s s' : Shared B) (k : ℕ) (r : Record) (f : Record → Record) → s' ≡ record s { requests = s'.requests } → s'.requests.items ≡ changed_at s.requests.items k f
       → slice_get s.requests.items k ≡ Some r → name_in (f r) ≡ name_in r
       → common_of left spot p vs s' ≡ record (common_of left spot p vs s) { requests = slice_set (map (λ x. x.shown) s.requests.items) k (f r).shown }
-  common_changed p vs s s' k r f shared records there name =
-      let rs = changed_at s.requests.items k f in
-      let all = common_of left spot p vs s in
-      ap (common_of left spot p vs) shared
-      ∙ ap (λ xs. record all { requests = map (λ x. x.shown) xs; opens = map (open_seen xs) s.opens }) records
-      ∙ ap (λ os. record all { requests = map (λ x. x.shown) rs; opens = os }) (same_opens s.requests.items rs (names_changed s.requests.items k r f there name) s.opens)
-      ∙ ap (λ xs. record all { requests = xs }) (shown_changed f s.requests.items k r there)
+  common_changed = grind (arith, same_opens, names_changed, shown_changed)

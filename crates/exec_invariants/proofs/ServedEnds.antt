@@ -3,8 +3,8 @@ use Rattle.std.proofs.{Common.{◌≡◌, ◌≢◌, ℕ, zero, suc, ◌+◌, �
 use Rattle.exec_base.specs.{Slab.{Slab, value_at}, declared.{error.Error.Error, slab.Id.Id}}
 use Rattle.exec_outcomes.specs.{Accounts.Account, declared.outcome.Outcome.Outcome}
 use Rattle.exec_time.specs.declared.{notes.ForwardedResult.ForwardedResult, timers.Sleeper.Sleeper as Sleeping}
-use Rattle.exec_request.specs.{Requests.{output_of, retired_of}, States.Ended, declared.output.RequestOutput.RequestOutput}
-use Rattle.exec_waiters.{specs.{Events.{output_told, told_by_finish, waker_in}, States.{is_held_by, waiter_at, waiter_of}, Told.{Tells, Told, tasks_of}, declared.{deferred.{Answer.Answer, Deferred.Deferred}, observer.Observer.{Observer, TheVariants.{DetachedSync, Forwarded, Local, Orphaned}}, waiter.{Entry.{Entry, TheVariants.{Pending, Ready}}, Waiter.Waiter}}}, proofs.Changes.entry_of}
+use Rattle.exec_request.specs.{Requests.{output_of}, States.Ended, declared.output.RequestOutput.RequestOutput}
+use Rattle.exec_waiters.{specs.{Events.{told_by_finish, waker_in}, States.{is_held_by, waiter_at, waiter_of}, Told.{Tells, Told, tasks_of}, declared.{deferred.{Answer.Answer, Deferred.Deferred}, observer.Observer.{Observer, TheVariants.{DetachedSync, Forwarded, Local, Orphaned}}, waiter.{Entry.{Entry, TheVariants.{Ready}}, Waiter.Waiter}}}, proofs.Changes.entry_of}
 use Rattle.exec_driver.specs.Driving.{Driving}
 use Rattle.exec_machine.specs.{declared.state.{Forwarding.Forwarding, RequestPhase.{RequestPhase, TheVariants.Resolved}}, Tests.{is_applied, is_resolved}}
 use Rattle.exec_parts.{specs.{declared.parts.{mail.Reply.Reply, names.Names.Names, record.Record.Record, sleeping.SleeperRecord.SleeperRecord}, Records.{number_in, outcome_in}, Serving.changed_at}, proofs.Facts.{by_name, by_number, not_same, same_thing}}
@@ -30,17 +30,7 @@ pub record TellsEnd (id : Id) (told : RequestOutput) (o : Observer Reply Reply) 
 
 -- so does each end
 pub ends_told : (id : Id) (it : Waiter Reply Reply) (how : Ended) (account : Option Account) (f : Forwarding) → IsNear it.observer f → TellsEnd id (output_of it.request how account) it.observer (told_by_finish id it how account)
-ends_told id it how account f near = by it.observer near
-  where
-    told : RequestOutput
-    told = output_of it.request how account
-
-    by : (o : Observer Reply Reply) → IsNear o f → TellsEnd id told o (record (output_told id told o) { resources = record { id = record { 0 = id }; resources = retired_of it.request } ∷ [] })
-    by (Local None) near = record { once = record { wakes = omega arith; outputs = omega arith; resources = refl; completions = omega arith; results = omega arith }; wakes = refl; results = refl; completions = refl; outputs = refl }
-    by (Local (Some u)) near = record { once = record { wakes = omega arith; outputs = omega arith; resources = refl; completions = omega arith; results = omega arith }; wakes = refl; results = refl; completions = refl; outputs = refl }
-    by (Forwarded reply) near = record { once = record { wakes = omega arith; outputs = omega arith; resources = refl; completions = omega arith; results = omega arith }; wakes = refl; results = refl; completions = refl; outputs = refl }
-    by (DetachedSync reply) near = absurd near
-    by Orphaned near = record { once = record { wakes = omega arith; outputs = omega arith; resources = refl; completions = omega arith; results = omega arith }; wakes = refl; results = refl; completions = refl; outputs = refl }
+ends_told = grind arith
 
 -- LISTS
 
@@ -55,11 +45,7 @@ tallied p xs = is_count_by (tally p) p refl (λ x ys. refl) xs
 tally_both : {X : Type 0} (p : X → Bool) (xs ys : List X) → tally p (xs ++ ys) ≡ tally p xs + tally p ys
 unfolding tally
 tally_both p [] ys = let none : tally p [] ≡ 0 = refl in omega (arith, none)
-tally_both p (x ∷ xs) ys = by (p x) (tally_both p xs ys)
-  where
-    by : (b : Bool) → tally p (xs ++ ys) ≡ tally p xs + tally p ys → cond b (1 + tally p (xs ++ ys)) (tally p (xs ++ ys)) ≡ cond b (1 + tally p xs) (tally p xs) + tally p ys
-    by true h = omega (arith, h)
-    by false h = h
+tally_both p (x ∷ xs) ys = grind (arith, tally, tally_both p xs ys)
 
 pub count_both : {X : Type 0} (p : X → Bool) (xs ys : List X) → count_by p (xs ++ ys) ≡ count_by p xs + count_by p ys
 count_both p xs ys = sym (tallied p (xs ++ ys)) ∙ tally_both p xs ys ∙ ap (λ n. n + tally p ys) (tallied p xs) ∙ ap (λ n. count_by p xs + n) (tallied p ys)
@@ -70,11 +56,7 @@ count_none p = sym (tallied p [])
 
 pub count_one : {X : Type 0} (p : X → Bool) (x : X) (b : Bool) → p x ≡ b → count_by p (x ∷ []) ≡ cond b 1 0
 unfolding tally
-count_one p x b is = sym (tallied p (x ∷ [])) ∙ ap (λ c. cond c (1 + tally p []) (tally p [])) is ∙ by b
-  where
-    by : (b : Bool) → cond b (1 + tally p []) (tally p []) ≡ cond b 1 0
-    by true = refl
-    by false = refl
+count_one = grind arith
 
 pub only_one : {X : Type 0} (x y : X) → Contains (x ∷ []) y → x ≡ y
 only_one x y (zero, within, is) = is
@@ -94,9 +76,6 @@ module _ (i : ℕ) (n n' : Names) (d d' : Driving Reply Reply) (zs : Slab (Sleep
 
   alike : IsAlike d.wheel.start d.wheel.tick it r.shown
   alike = named.alike id it r one.at one.there
-
-  value_there : value_at d.requests id ≡ Some (Pending it)
-  value_there = entry_of (value_at d.requests id) it one.at
 
   unresolved : is_resolved r.shown.phase ≡ false
   unresolved = unresolved_before i n d d' zs rs ss id it r f outcome told one named timed
@@ -123,12 +102,7 @@ module _ (i : ℕ) (n n' : Names) (d d' : Driving Reply Reply) (zs : Slab (Sleep
   completions_then = adds.notes.completions_added ∙ ap (λ xs. left.notes.completions.items ++ xs) tells.completions ∙ append-nil left.notes.completions.items
 
   goes_then : goes_elsewhere (f r) ≡ is_applied r.shown.forwarding
-  goes_then =
-      ap (λ (y : Record). is_applied y.shown.forwarding && (is_resolved y.shown.phase || not y.shown.observed)) one.ends.same ∙ and_one (is_applied r.shown.forwarding)
-    where
-      and_one : (b : Bool) → (b && true) ≡ b
-      and_one true = refl
-      and_one false = refl
+  goes_then = grind arith
 
   outcome_open : (p : RequestPhase) → is_resolved p ≡ false → outcome_in p ≡ None
   outcome_open (Resolved x) h = absurd (false≢true (sym h))
@@ -140,39 +114,11 @@ module _ (i : ℕ) (n n' : Names) (d d' : Driving Reply Reply) (zs : Slab (Sleep
 
   -- so many of its ends are new
   sent_here : (o : Observer Reply Reply) → it.observer ≡ o → count_by (λ (a : Answer Reply). is_of_request k a.sender.of) (answers_by id told o) + one_if (goes_elsewhere r) ≡ one_if (is_applied r.shown.forwarding)
-  sent_here (Local waker) is =
-      let none : is_applied r.shown.forwarding ≡ false = subst (λ o. IsNear o r.shown.forwarding) is alike.near in
-      let zero_of : one_if (is_applied r.shown.forwarding) ≡ 0 = ap one_if none in
-      let zero_too : one_if (goes_elsewhere r) ≡ 0 = ap one_if (goes_now false r.shown.observed none refl) in
-      omega (arith, zero_of, zero_too, count_none (λ (a : Answer Reply). is_of_request k a.sender.of))
-  sent_here (Forwarded reply) is =
-      let some : is_applied r.shown.forwarding ≡ true = subst (λ o. IsNear o r.shown.forwarding) is alike.near in
-      let held : r.shown.observed ≡ true = sym held_is ∙ ap is_held_by is in
-      let of = (rooted.replies id it reply r one.at is one.there).of in
-      let made : Answer Reply = record { id = record { 0 = id }; sender = reply; result = Ok told } in
-      let counts : count_by (λ (a : Answer Reply). is_of_request k a.sender.of) (made ∷ []) ≡ 1 = count_one (λ (a : Answer Reply). is_of_request k a.sender.of) made true (ap (is_of_request k) of ∙ eq-eqb k k refl) in
-      let zero_of : one_if (goes_elsewhere r) ≡ 0 = ap one_if (goes_now true true some held) in
-      let one_of : one_if (is_applied r.shown.forwarding) ≡ 1 = ap one_if some in
-      omega (arith, counts, zero_of, one_of)
-  sent_here (DetachedSync reply) is = absurd (subst (λ o. IsNear o r.shown.forwarding) is alike.near)
-  sent_here Orphaned is =
-      let free : r.shown.observed ≡ false = sym held_is ∙ ap is_held_by is in
-      let same : one_if (goes_elsewhere r) ≡ one_if (is_applied r.shown.forwarding) = ap one_if (goes_now (is_applied r.shown.forwarding) false refl free ∙ by (is_applied r.shown.forwarding)) in
-      omega (arith, same, count_none (λ (a : Answer Reply). is_of_request k a.sender.of))
-    where
-      by : (b : Bool) → (b && (false || not false)) ≡ b
-      by true = refl
-      by false = refl
+  sent_here = grind (arith, alike, goes_now, count_none, held_is, count_one, eq-eqb)
 
   -- another has as many
   sent_other : (j : ℕ) (o : Observer Reply Reply) → it.observer ≡ o → (k ≡ j → ⊥) → count_by (λ (a : Answer Reply). is_of_request j a.sender.of) (answers_by id told o) ≡ 0
-  sent_other j (Local waker) is apart = count_none (λ (a : Answer Reply). is_of_request j a.sender.of)
-  sent_other j (Forwarded reply) is apart =
-      let of = (rooted.replies id it reply r one.at is one.there).of in
-      let made : Answer Reply = record { id = record { 0 = id }; sender = reply; result = Ok told } in
-      count_one (λ (a : Answer Reply). is_of_request j a.sender.of) made false (ap (is_of_request j) of ∙ not_same k j apart)
-  sent_other j (DetachedSync reply) is apart = count_none (λ (a : Answer Reply). is_of_request j a.sender.of)
-  sent_other j Orphaned is apart = count_none (λ (a : Answer Reply). is_of_request j a.sender.of)
+  sent_other = grind arith
 
   results_at : (j : ℕ) → results_of j left' ≡ results_of j left + count_by (λ (a : Answer Reply). is_of_request j a.sender.of) (answers_by id told it.observer)
   results_at j = ap (count_by (λ (a : Answer Reply). is_of_request j a.sender.of)) results_then ∙ count_both (λ (a : Answer Reply). is_of_request j a.sender.of) left.results.items (answers_by id told it.observer)
@@ -247,27 +193,14 @@ module _ (i : ℕ) (n n' : Names) (d d' : Driving Reply Reply) (zs : Slab (Sleep
   -- WHAT IS KEPT
 
   ready_here : (o : Observer Reply Reply) (e : Option (Entry Reply Reply)) (out : RequestOutput) → it.observer ≡ o → EntryAfter o told e → e ≡ Some (Ready out) → IsKept out (f r)
-  ready_here (Local waker) e out is h at =
-      let same : told ≡ out = let both : Some (Ready told) ≡ Some (Ready out) = sym h ∙ at in cc in
-      record {
-        over = ap (λ (y : Record). y.shown.phase) one.ends.same ∙ ap (λ x. Resolved x) (fits (ap is_held_by is)) ∙ ap (λ x. Resolved (outcome_told x)) same;
-        observed = ap (λ (y : Record). y.shown.observed) one.ends.same ∙ sym held_is ∙ ap is_held_by is;
-        unapplied = ap (λ (y : Record). is_applied y.shown.forwarding) one.ends.same ∙ subst (λ o. IsNear o r.shown.forwarding) is alike.near;
-      }
-  ready_here _ e out is h at = absurd (let no : None ≡ Some (Ready out) = sym h ∙ at in cc)
+  ready_here = grind (arith, held_is, alike)
 
   -- who holds it finds its output
   held_after : (o : Observer Reply Reply) (e : Option (Entry Reply Reply)) → it.observer ≡ o → r.shown.observed ≡ true → is_applied r.shown.forwarding ≡ false → EntryAfter o told e → IsSome e
-  held_after (Local waker) e is seen near h = rw h refl
-  held_after (Forwarded reply) e is seen near h = absurd (false≢true (sym near ∙ subst (λ o. IsNear o r.shown.forwarding) is alike.near))
-  held_after (DetachedSync reply) e is seen near h = absurd (subst (λ o. IsNear o r.shown.forwarding) is alike.near)
-  held_after Orphaned e is seen near h = absurd (false≢true (sym (sym held_is ∙ ap is_held_by is) ∙ seen))
+  held_after = grind (arith, false≢true, alike, held_is)
 
   named_id : r.id.0 ≡ id
-  named_id =
-      let a = named.requests id (rw value_there refl) in
-      let same : a.0 ≡ r = same_thing a.0 r (sym a.1 ∙ one.there) in
-      ap (λ (y : Record). y.id.0) (sym same) ∙ a.2
+  named_id = grind arith
 
   ready_then : (j : ℕ) (x : Record) → slice_get rs_then j ≡ Some x → x.shown.worker ≡ i → is_resolved x.shown.phase ≡ true → x.shown.observed ≡ true → is_applied x.shown.forwarding ≡ false → StandsAt j n' d' x
   ready_then j x there of_i over seen unapplied =
@@ -276,17 +209,11 @@ module _ (i : ℕ) (n n' : Names) (d d' : Driving Reply Reply) (zs : Slab (Sleep
       let name : x.id.0 ≡ id = ap (λ (y : Record). y.id.0) (sym same) ∙ ap (λ (y : Record). y.id.0) one.ends.same ∙ named_id in
       let observed : r.shown.observed ≡ true = sym (ap (λ (y : Record). y.shown.observed) one.ends.same) ∙ ap (λ (y : Record). y.shown.observed) same ∙ seen in
       let near : is_applied r.shown.forwarding ≡ false = sym (ap (λ (y : Record). is_applied y.shown.forwarding) one.ends.same) ∙ ap (λ (y : Record). is_applied y.shown.forwarding) same ∙ unapplied in
-      record {
-        named = ap (λ v. number_in v.items x.id.0) requests ∙ ap (number_in n.requests.items) name ∙ is;
-        live = subst (λ y. IsSome (value_at d'.requests y)) (sym name) (held_after it.observer (value_at d'.requests id) refl observed near one.slab.here);
-      })
+      grind (arith, held_after))
       (λ apart at.
       let was = rooted.ready j x at of_i over seen unapplied in
       let other : x.id.0 ≢ id = λ e. apart (ap (number_in n.requests.items) (sym e) ∙ was.named) in
-      record {
-        named = ap (λ v. number_in v.items x.id.0) requests ∙ was.named;
-        live = subst IsSome (sym (one.slab.others x.id.0 other)) was.live;
-      })
+      grind arith)
 
   some_there : (other : Id) (e : Entry Reply Reply) → value_at d.requests other ≡ Some e → IsSome (value_at d.requests other)
   some_there other e at = rw at refl

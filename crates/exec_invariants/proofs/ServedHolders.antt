@@ -1,10 +1,10 @@
 -- What tasks hold and are owed, once a request is over within a service.
-use Rattle.std.proofs.{Common.{◌≡◌, ◌⊎◌, ℕ, zero, suc, ◌+◌, ◌<◌, true, false, List, sum_by, Option, Some, None, Result, Ok, Err, refl, sym, ap, subst, ◌∙◌, arith, inl, inr, slice_get, slice_set, is_some}, lemmas.Bool.false≢true}
+use Rattle.std.proofs.{Common.{◌≡◌, ◌⊎◌, ℕ, zero, suc, ◌+◌, ◌<◌, true, false, List, sum_by, Option, Some, None, Result, refl, sym, ap, subst, ◌∙◌, arith, inl, inr, slice_get, slice_set}}
 use Rattle.exec_base.specs.declared.{error.Error.Error, one_shot.OneShotState.OneShotState}
 use Rattle.exec_outcomes.specs.declared.outcome.Outcome.{Outcome}
 use Rattle.exec_request.specs.declared.output.RequestOutput.{RequestOutput}
 use Rattle.exec_parts.{specs.declared.parts.mail.Subject.Subject, proofs.Facts.{by_number, same_thing, set_elsewhere, set_there}}
-use Rattle.exec_invariants.{specs.Holding.{Awaits, Box, Hands, HasAnswer, Holder, IsForwarded, IsHeldBy, IsHolding, IsOwed, Mail, Nap, Owes, Thing, ThingOwes, holdings, mail_in, under_way}, proofs.HoldRedo.holding_redone}
+use Rattle.exec_invariants.{specs.Holding.{Awaits, Box, Hands, HasAnswer, Holder, IsForwarded, IsHeldBy, IsHolding, IsOwed, Mail, Nap, Owes, Thing, holdings, mail_in, under_way}, proofs.HoldRedo.holding_redone}
 use Rattle.exec_words.specs.declared.inbox.Message.{Message}
 use Rattle.exec_parts.specs.declared.parts.mail.Subject.TheVariants as subject
 
@@ -31,27 +31,11 @@ module _ (h h' : Hands) (workers : ℕ) (hs : List Holder) (ts : List Thing) (na
   never_some h = absurd (cc)
 
   owes_on : (i u : ℕ) (o : Option Subject) → Owes i u o ts naps boxes → Owes i u o (slice_set ts k ended) naps boxes
-  owes_on i u None owes = owes
-  owes_on i u (Some (subject.Timer n)) owes = owes
-  owes_on i u (Some (subject.Request n)) owes =
-      by_number n k
-      (λ apart. (owes.0, set_elsewhere ts k n ended apart ∙ owes.1, owes.2))
-      (λ same.
-      let is : owes.0 ≡ r = same_thing owes.0 r (sym owes.1 ∙ ap (slice_get ts) same ∙ there) in
-      let by : ThingOwes i u r boxes = subst (λ x. ThingOwes i u x boxes) is owes.2 in
-      (ended, ap (slice_get (slice_set ts k ended)) same ∙ now_ended, record { worker = by.worker; waiter = by.waiter; unpaid = by.unpaid; unsent = by.unsent; over = inl refl }))
+  owes_on = grind (arith, by_number, set_elsewhere, same_thing, now_ended)
 
   -- it owed none before
   none_before : (i u : ℕ) (a : Awaits (subject.Request k) u hs) → r.observed ≡ true → 0 < h.wakes i u → ⊥
-  none_before i u a seen some =
-      let owed = (old.owed i u some).1 in
-      let same : owed.it ≡ a.it = same_thing owed.it a.it (sym owed.there ∙ a.there) in
-      let owes : Owes i u (Some (subject.Request k)) ts naps boxes = subst (λ o. Owes i u o ts naps boxes) (ap (λ (x : Holder). x.awaits) same ∙ a.awaits) owed.owes in
-      let is : owes.0 ≡ r = same_thing owes.0 r (sym owes.1 ∙ there) in
-      elim owes.2.over [
-        | inl over ↦ false≢true (ap is_some (sym going) ∙ ap (λ (x : Thing). is_some x.ended) (sym is) ∙ over)
-        | inr let_go ↦ false≢true (sym let_go.0 ∙ ap (λ (x : Thing). x.observed) is ∙ seen)
-      ]
+  none_before = grind arith
 
   owed_then : (i u : ℕ) → 0 < h'.wakes i u → (h'.wakes i u ≡ 1) × IsOwed i u hs (slice_set ts k ended) naps boxes
   owed_then i u some =
@@ -76,10 +60,7 @@ module _ (h h' : Hands) (workers : ℕ) (hs : List Holder) (ts : List Thing) (na
       by_zero (suc n) h = absurd (h (omega arith))
 
   answer_on : (o : OneShotState (Result RequestOutput Error)) → HasAnswer o r → HasAnswer o ended
-  answer_on OneShotState.Open h = h
-  answer_on (OneShotState.Sent (Ok out)) h = absurd (never_some (sym going ∙ h.1))
-  answer_on (OneShotState.Sent (Err error)) h = h
-  answer_on OneShotState.Closed h = h
+  answer_on = grind arith
 
   pub holding_ended : IsHolding h' workers hs (slice_set ts k ended) naps boxes
   holding_ended =

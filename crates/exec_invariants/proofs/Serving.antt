@@ -1,38 +1,22 @@
 -- Steps of a service: what they keep.
 use Rattle.std.proofs.{Common.{◌≡◌, ◌≢◌, ℕ, ◌+◌, ◌<◌, ◌≤◌, ◌==◌, Bool, true, false, Contains, List, [], count_by, map, Option, Some, None, ◌⊎◌, if◌then◌else◌, refl, sym, ap, subst, ◌∙◌, arith, slice_get, slice_set, option_to_list}, lemmas.Bool.false≢true}
-use Rattle.exec_base.specs.{Slab.live_count, declared.task_no.TaskNo.TaskNo}
-use Rattle.exec_words.specs.{Queue.tail_of, declared.inbox.Message.Message}
+use Rattle.exec_base.specs.{declared.task_no.TaskNo.TaskNo}
+use Rattle.exec_words.specs.{Queue.tail_of}
 use Rattle.exec_driver.specs.Driving.{seen}
 use Rattle.exec_task.specs.{TaskSet.Set, declared.runnable.Runnable.Runnable}
 use Rattle.exec_machine.specs.Tests.{is_at_large}
 use Rattle.exec_moves.specs.{declared.place.Place.Place, Seen.polls_at}
-use Rattle.exec_parts.{specs.{Calls.IsTold, declared.parts.{mail.Subject.Subject, record.Record.Record, sleeping.SleeperRecord.SleeperRecord, seat.Seat.Seat as Chair, shared.Shared.Shared, task_slot.TaskSlot.TaskSlot, worker.Worker.Worker}, Phased.{IsPhased, closes_at, closing_in, stage_of}, Roles.is_pool, Serving.changed_at, View.{driver_of, letters_in, own_of}}, proofs.{Facts.{by_number, not_same, set_elsewhere, set_there}, Showing.map_kept}}
-use Rattle.exec_invariants.{specs.{Sound.{HasBatch, HasGuest, HasLetters, HasQueue, HasRunnable, IsHeld, IsInHand, IsLeft, IsLetter, IsLoot, IsMineIn, IsMyMail, IsSearching, IsSeated, IsTied, LetsGoAt, SoundAt, Stands, Stops, Serves as ServesTask, root_in_hand, served_in}, Names.tellers, Carried.HasRoom, Due.IsDue, Drained.{Duties, IsBefore, IsOver, IsPool, in_set}, Flown.HasFlown, Gates.{AreLinedUp, HaveGates, has_hint_at}, Holding.{Hands, IsHolding, Mail, holder_of, nap_of, thing_of, box_of}, HoldPlaces.{cancels_at, has_wakes_at, heard_at, is_bare_at, sends_cancel_at, spare_at}, Places.{Drops, begins_at, passes_at, calls_back_at, claims_at, clears_at, drops_at, hands_on_at, has_count_at, is_armed_at, is_number, is_pooled_at, is_published_at, joins_at, one_if, or_polls, polled_in, removes_at, searches_at, step_of_poll, task_at}, Rooted.HearsNext, Spares.{RecordsEndure, SleeperEndures, SleepersEndure, Spares}, Whole.{IsWhole, Profile, duties_of, hands_of, wakes_with, with_worker}, Works.Beside}, proofs.{Aside.spared, Lined.{KeepsLines, SameAtGate, SameLines, gates_kept, gates_opens, lined_kept, lined_opens, lines_changed, lines_same, now, opens_same}, Marking.{mark_if, marked, was_marked}, SparedRecord.{sleeper_spared, spared_same}, Spared.sleepers_endure, ServingPlaces.{is_calm, IsCalm, calm}, ServingHolds.{OthersKept, Serves, Keeps, nap_sent}}}
+use Rattle.exec_parts.{specs.{Calls.IsTold, declared.parts.{mail.Subject.Subject, record.Record.Record, sleeping.SleeperRecord.SleeperRecord, seat.Seat.Seat as Chair, shared.Shared.Shared, task_slot.TaskSlot.TaskSlot, worker.Worker.Worker}, Phased.{IsPhased, closes_at, closing_in, stage_of}, Roles.is_pool, Serving.changed_at, View.{letters_in, own_of}}, proofs.{Facts.{by_number, not_same, set_elsewhere, set_there}, Showing.map_kept}}
+use Rattle.exec_invariants.{specs.{Sound.{HasBatch, HasGuest, HasLetters, HasQueue, HasRunnable, IsHeld, IsInHand, IsLeft, IsLetter, IsLoot, IsMineIn, IsMyMail, IsSearching, IsSeated, IsTied, LetsGoAt, SoundAt, Stops, Serves as ServesTask, root_in_hand}, Names.tellers, Carried.HasRoom, Drained.{Duties, IsBefore, IsOver, IsPool, in_set}, Gates.{AreLinedUp, HaveGates, has_hint_at}, Holding.{Hands, IsHolding, Mail, holder_of, nap_of, thing_of, box_of}, HoldPlaces.{cancels_at, heard_at, sends_cancel_at, spare_at}, Places.{Drops, begins_at, passes_at, calls_back_at, claims_at, clears_at, drops_at, hands_on_at, has_count_at, is_armed_at, is_number, is_pooled_at, is_published_at, joins_at, one_if, or_polls, polled_in, removes_at, searches_at, step_of_poll, task_at}, Rooted.HearsNext, Spares.{RecordsEndure, SleeperEndures, SleepersEndure, Spares}, Whole.{IsWhole, Profile, duties_of, hands_of, wakes_with, with_worker}, Works.Beside}, proofs.{Aside.spared, Lined.{KeepsLines, SameAtGate, SameLines, gates_kept, gates_opens, lined_kept, lined_opens, lines_changed, lines_same, now, opens_same}, Marking.{mark_if, marked, was_marked}, SparedRecord.{sleeper_spared, spared_same}, Spared.sleepers_endure, ServingPlaces.{is_calm, IsCalm, calm}, ServingHolds.{OthersKept, Serves, Keeps, nap_sent}}}
 
 module _ {B : Type 0} where
   -- it owes nobody anything there
   pub at_large : (q : Place) (w : Worker) (s : Shared B) → SoundAt q w s → is_calm q ≡ true → is_at_large (own_of (record w { place = q })) ≡ true
-  at_large q w s sound from =
-      let it = calm q from in
-      rw (it.polls, it.free, it.owes w.workers, sound.letters.none it.cancels) refl
+  at_large = grind arith
 
   -- what holds at a calm place, of those
   pub kept : (q : Place) (w : Worker) (s : Shared B) → SoundAt q w s → IsCalm q → Keeps w s
-  kept q w s sound from =
-      record {
-        told = subst (λ n. IsTold w.names.ended.items w.home.deferred (tellers (driver_of w).requests w.home.timers + n)) from.spare sound.told;
-        wide = sound.wide;
-        named = sound.named;
-        sized = sound.sized;
-        over = sound.over;
-        quiet = subst (λ p. has_wakes_at p ≡ false → w.home.deferred.notes.wakes.items ≡ []) (sym sound.here) sound.quiet;
-        due = subst (λ p. IsDue (served_in p) w.home.closing w.index w.moments s.config w.names (driver_of w) w.home.timers s.requests.items s.sleepers.items) (sym sound.here) sound.due;
-        flown = subst (λ p. HasFlown (served_in p) w.index w.names (driver_of w) s.requests.items) (sym sound.here) sound.flown;
-        carried = sound.carried;
-        known = sound.known;
-        rooted = sound.rooted;
-        bare = subst (λ p. is_bare_at p ≡ true → live_count w.home.timers ≡ 0) (sym sound.here) (from.lets_in (driver_of w).requests w.home.timers sound.lets_go);
-      }
+  kept = grind arith
 
   -- WHAT OTHERS RELY ON: each record and sleeper of another worker is as it was, and none is new
 
@@ -73,17 +57,11 @@ module _ {B : Type 0} where
       }
 
   mine_kept : (workers i : ℕ) (x : Subject) (s s' : Shared B) → SparesGates i s s' → IsMineIn workers i x s.requests.items s.sleepers.items → IsMineIn workers i x s'.requests.items s'.sleepers.items
-  mine_kept workers i (Subject.Request k) s s' spares mine =
-      let new = spares.endure k mine.0 mine.1 in
-      (new.0, new.1, new.2.worker ∙ mine.2, mine.3)
-  mine_kept workers i (Subject.Timer k) s s' spares mine =
-      let new = spares.naps k mine.0 mine.1 in
-      (new.0, new.1, new.2.worker ∙ mine.2, mine.3)
+  mine_kept workers i (Subject.Request k) s s' spares mine = grind arith
+  mine_kept workers i (Subject.Timer k) s s' spares mine = grind arith
 
   mail_by : (workers i : ℕ) (m : Mail) (s s' : Shared B) → SparesGates i s s' → IsMyMail workers i m s.requests.items s.sleepers.items → IsMyMail workers i m s'.requests.items s'.sleepers.items
-  mail_by workers i Message.WakeRoot s s' spares mine = tt
-  mail_by workers i (Message.Forward x) s s' spares mine = mine_kept workers i x s s' spares mine
-  mail_by workers i (Message.Cancel x) s s' spares mine = mine_kept workers i x s s' spares mine
+  mail_by = grind (arith, mine_kept)
 
   letter_by : (workers i : ℕ) (x : Subject) (j : ℕ) (s s' : Shared B) → SparesGates i s s' → IsLetter workers i x j s.requests.items s.sleepers.items → IsLetter workers i x j s'.requests.items s'.sleepers.items
   letter_by workers i (Subject.Request k) j s s' spares (mine, apart) = ((mine.0, spares.records k mine.0 mine.1 (λ is. apart (sym mine.2 ∙ is)), mine.2, mine.3), apart)
@@ -131,9 +109,7 @@ module _ {B : Type 0} where
       let phased : (chair : Chair) → slice_get s.seats.items w.index ≡ Some chair → IsPhased w.index (closes_at v.place) (closing_in v.place) w.home.closing w.root w.names.unreleased (stage_of chair s) s.tasks.items = λ chair there.
       subst (λ c. IsPhased w.index c (closing_in v.place) w.home.closing w.root w.names.unreleased (stage_of chair s) s.tasks.items) (sym closes)
       (subst (λ x. IsPhased w.index (closes_at q) x w.home.closing w.root w.names.unreleased (stage_of chair s) s.tasks.items) (from.closing ∙ sym to.closing) (sound.phased chair there)) in
-      let tied : IsTied (polled_in w.root v.place) w.index w.root s.tasks.items = record {
-        stands = subst (λ x. (slot : TaskSlot B) → slice_get s.tasks.items w.root ≡ Some slot → Stands x w.index slot) (from.stands w.root ∙ sym (to.stands w.root)) sound.tied.stands;
-      } in
+      let tied : IsTied (polled_in w.root v.place) w.index w.root s.tasks.items = grind arith in
       assumption (gates, seated, runnable, genuine, hand, loot, searching, guest, stops, hears, left, queue, pooled, serves, told, mine, letters, lets, to.aims s.config w.index s.seats.items, has, phased, tied, sound, keeps)
 
   pub sound_again_by : (q : Place) (w w' : Worker) (s s' : Shared B) → SoundAt q w s → Serves q w w' s s' → SparesGates w.index s s' → Keeps w' s' → SoundAt w'.place w' s'

@@ -1,5 +1,5 @@
 -- What holds again of a worker after a step of its service.
-use Rattle.std.proofs.Common.{◌≡◌, ℕ, ◌+◌, Bool, true, false, List, [], sym, ap, subst, ◌∙◌}
+use Rattle.std.proofs.Common.{◌≡◌, ℕ, ◌+◌, Bool, true, false, List, [], arith}
 use Rattle.exec_base.specs.Slab.{Slab, live_count}
 use Rattle.exec_time.specs.declared.timers.Sleeper.{Sleeper as Sleeping}
 use Rattle.exec_waiters.specs.States.{pending_count}
@@ -49,18 +49,7 @@ pub record Serves {B : Type 0} (q : Place) (w w' : Worker) (s s' : Shared B) : T
 
 -- by where the worker is then
 pub serves_to : {B : Type 0} (q q' : Place) (w w' : Worker) (s s' : Shared B) → IsServed w w' → OthersKept s s' → w'.place ≡ q' → Follows q q' → Serves q w w' s s'
-serves_to q q' w w' s s' worker shared there follows =
-    record {
-      worker = worker;
-      shared = shared;
-      from = follows.from;
-      to = ap is_calm there ∙ follows.to;
-      armed = ap is_armed_at there ∙ follows.armed;
-      closes = ap closes_at there ∙ follows.closes;
-      searches = ap searches_at there ∙ follows.searches;
-      published = ap is_published_at there ∙ follows.published;
-      batch = λ has. subst (λ p. HasBatch p w.batch.values) (sym there) (follows.batch w.batch.values has);
-    }
+serves_to = grind arith
 
 -- What must hold again then, of a worker with this driver and these sleepers, and of the records.
 pub record KeepsWith {B : Type 0} (spare : ℕ) (w : Worker) (d : Driving Reply Reply) (zs : Slab (Sleeping Reply)) (rs : List Record) (ss : List SleeperRecord) (s : Shared B) : Type 0 where
@@ -91,15 +80,7 @@ Keeps w s = KeepsBy w (driver_of w) w.home.timers s.requests.items s.sleepers.it
 pub keeps_home : {B : Type 0} {spare : ℕ} (w1 w' : Worker) (s s' : Shared B) (rs : List Record) (d : Driving Reply Reply)
     → w' ≡ record w1 { home = record w1.home { driver = w'.home.driver } } → s' ≡ record s { requests = s'.requests } → driver_of w' ≡ d → s'.requests.items ≡ rs
     → KeepsWith spare w1 d w1.home.timers rs s.sleepers.items s → KeepsSpare spare w' s'
-keeps_home {spare = spare} w1 w' s s' rs d worker shared driver records keeps =
-    let w2 : Worker = record w1 { home = record w1.home { driver = w'.home.driver } } in
-    let zs = w1.home.timers in
-    let by_records : KeepsWith spare w1 d zs s'.requests.items s.sleepers.items s = subst (λ x. KeepsWith spare w1 d zs x s.sleepers.items s) (sym records) keeps in
-    let by_driver : KeepsWith spare w1 (driver_of w') zs s'.requests.items s.sleepers.items s = subst (λ x. KeepsWith spare w1 x zs s'.requests.items s.sleepers.items s) (sym driver) by_records in
-    let by_home : KeepsWith spare w2 (driver_of w') zs s'.requests.items s.sleepers.items s = assumption by_driver in
-    let by_worker : KeepsWith spare w' (driver_of w') w'.home.timers s'.requests.items s.sleepers.items s =
-    subst (λ x. KeepsWith spare x (driver_of w') x.home.timers s'.requests.items s.sleepers.items s) (sym worker) by_home in
-    subst (λ y. KeepsWith spare w' (driver_of w') w'.home.timers s'.requests.items y.sleepers.items y) (sym shared) (assumption by_worker)
+keeps_home = grind arith
 
 -- the same where the worker's place, what it put off and some of its numbers have changed
 pub keeps_all : {B : Type 0} (w w' : Worker) (s s' : Shared B) (rs : List Record) (d : Driving Reply Reply) →

@@ -1,10 +1,10 @@
 -- What a step of the closing leaves: what is sound of the worker, what others rely on, and the balances of all.
-use Rattle.std.proofs.{Common.{◌≡◌, ◌≢◌, ◌⊎◌, inl, inr, ℕ, ◌*◌, ◌+◌, ◌^◌, ◌<◌, ◌≤◌, ◌||◌, Bool, true, false, Contains, List, [], length, map, sum_by, option_to_list, Option, None, Some, refl, sym, ap, subst, ◌∙◌, arith, if◌then◌else◌, slice_get, slice_set, nat_lt, ◌++◌, ◌==◌}, lemmas.{Bool.{eq-eqb, false≢true}, Option.slice_get_within}}
+use Rattle.std.proofs.{Common.{◌≡◌, ◌≢◌, ◌⊎◌, inl, inr, ℕ, ◌*◌, ◌+◌, ◌^◌, ◌<◌, ◌≤◌, ◌||◌, Bool, true, false, Contains, List, [], length, map, sum_by, option_to_list, None, Some, refl, sym, ap, subst, ◌∙◌, arith, slice_get, slice_set, nat_lt, ◌++◌}, lemmas.{Bool.{false≢true}, Option.slice_get_within}}
 use Rattle.exec_words.specs.{Queue.Queue, Reserved.Reserved}
 use Rattle.exec_task.specs.{TaskSet.shard_at, declared.{runnable.Runnable.Runnable, task.Phase.Phase}}
 use Rattle.exec_moves.specs.{Pop.shard_count, declared.place.{InClosing.InClosing, Place.Place}, Seen.polls_at}
-use Rattle.exec_parts.{specs.{declared.parts.{seat.Seat.Seat as Chair, shared.Shared.Shared, task_slot.TaskSlot.TaskSlot, worker.Worker.Worker}, Phased.{IsPhased, closes_at, closing_in, stage_of}, Roles.is_pool, Calls.IsTold, View.{Views, driver_of, inbox_at, polls_seen, queue_at, things_with, word_at}}, proofs.{Facts.{by_number, not_same}, Showing.{map_kept, polls_kept}}}
-use Rattle.exec_invariants.{specs.{Drained.{Duties, IsPool}, Due.{AreAsleep, IsDue}, Flown.HasFlown, Gates.HaveGates, Holding.{IsHolding, Mail, box_of, holder_of, mail_in, mail_of_letters, nap_of, thing_of}, HoldPlaces.{cancels_at, heard_at, sends_cancel_at, spare_at}, Places.{begins_at, calls_back_at, claims_at, drops_at, hands_on_at, has_count_at, has_loot_at, in_poll_of, is_armed_at, is_number, is_pooled_at, is_published_at, one_if, polled_in, searches_at, step_of_poll, task_at}, Rooted.HearsNext, Sound.{Aims, AreHome, HasBatch, HasGuest, HasLetters, HasQueue, HasRunnable, IsHeld, IsInHand, IsLeft, IsLoot, IsMyMail, IsSearching, IsSeated, IsTied, LetsGoAt, Serves, SoundAt, Stops, has_wakes_at, root_in_hand, served_in}, Names.tellers, Spares.Spares, Whole.{HasOne, IsGenuine, IsWhole, Profile, duties_of, may_let_go, queued, runnables_in, stock, wakes_with, with_worker}, Works.Beside}, proofs.{Aside.{SparesSeats, length_same, queue_back, queue_of_chair, record_spared, sleeper_spared, stock_same}, Onces.{has_fewer, has_more}, PoolClosing.pool_set, PoolKept.{KeepsGates, pool_of, pool_seats}, Slots.gates_free, Spared.{records_endure, sleepers_endure}, SparedRecord.there_within}}
+use Rattle.exec_parts.{specs.{declared.parts.{seat.Seat.Seat as Chair, shared.Shared.Shared, task_slot.TaskSlot.TaskSlot, worker.Worker.Worker}, Phased.{IsPhased, closes_at, closing_in, stage_of}, Roles.is_pool, Calls.IsTold, View.{Views, driver_of, inbox_at, polls_seen, queue_at, things_with, word_at}}, proofs.{Facts.{by_number}, Showing.{map_kept, polls_kept}}}
+use Rattle.exec_invariants.{specs.{Drained.{Duties, IsPool}, Due.{AreAsleep, IsDue}, Flown.HasFlown, Gates.HaveGates, Holding.{IsHolding, Mail, box_of, holder_of, mail_in, mail_of_letters, nap_of, thing_of}, HoldPlaces.{cancels_at, heard_at, sends_cancel_at, spare_at}, Places.{begins_at, calls_back_at, claims_at, drops_at, hands_on_at, has_count_at, has_loot_at, in_poll_of, is_armed_at, is_pooled_at, is_published_at, polled_in, searches_at, step_of_poll, task_at}, Rooted.HearsNext, Sound.{Aims, AreHome, HasBatch, HasGuest, HasLetters, HasQueue, HasRunnable, IsHeld, IsInHand, IsLeft, IsLoot, IsMyMail, IsSearching, IsSeated, IsTied, LetsGoAt, Serves, SoundAt, Stops, has_wakes_at, root_in_hand, served_in}, Names.tellers, Spares.Spares, Whole.{HasOne, IsGenuine, IsWhole, Profile, duties_of, may_let_go, queued, runnables_in, stock, with_worker}, Works.Beside}, proofs.{Aside.{SparesSeats, length_same, queue_back, queue_of_chair, record_spared, sleeper_spared, stock_same}, Onces.{has_fewer}, PoolClosing.pool_set, PoolKept.{KeepsGates, pool_of, pool_seats}, Spared.{records_endure, sleepers_endure}, SparedRecord.there_within}}
 
 -- what is shown of these views is shown of those
 pub shown_as : {A : Type 0} (m : A) (f : Views → A) (v v' : Views) → v' ≡ v → m ≡ f v → m ≡ f v'
@@ -49,31 +49,9 @@ with_duties x d mail = record x { clears = d.clears; polled_by = d.polled_by; dr
 abbrev pub mail_there : Profile → Reserved Mail → Worker → Mail → ℕ
 mail_there others batch w m = others.mail m + mail_in m (mail_of_letters w.letters ++ batch.values)
 
--- the worker there has the same but for that
-abbrev profile_by : Profile → Worker → Duties → (Mail → ℕ) → Option ℕ → Option ℕ → Bool → Bool → Profile
-profile_by others w d mail polls claims counted published =
-    record {
-      runnables = λ t. others.runnables t + runnables_in t (option_to_list w.hand ++ w.loot.values);
-      polls = λ t. others.polls t + one_if (is_number polls t);
-      claims = λ j. others.claims j + one_if (is_number claims j);
-      counts = others.counts + (one_if w.searching + one_if counted);
-      published = λ j. if j == w.index then published else others.published j;
-      clears = d.clears;
-      polled_by = d.polled_by;
-      drops_by = d.drops_by;
-      mail = mail;
-      wakes = λ j t. if j == w.index then wakes_with t w else others.wakes j t;
-    }
-
 pub but_duties : (others : Profile) (q : Place) (closes : Bool) (batch : Reserved Mail) (n : ℕ) (w : Worker) → polls_at q ≡ polls_at w.place → claims_at q ≡ claims_at w.place → has_count_at q ≡ has_count_at w.place → is_published_at q ≡ is_published_at w.place
     → with_worker others (onward q closes batch n w) ≡ with_duties (with_worker others w) (duties_of (with_worker others (onward q closes batch n w))) (mail_there others batch w)
-but_duties others q closes batch n w polls claims counts published =
-    let d : Duties = duties_of (with_worker others (onward q closes batch n w)) in
-    let m : Mail → ℕ = mail_there others batch w in
-    ap (λ x. profile_by others w d m x (claims_at q) (has_count_at q) (is_published_at q)) polls
-    ∙ ap (λ x. profile_by others w d m (polls_at w.place) x (has_count_at q) (is_published_at q)) claims
-    ∙ ap (λ x. profile_by others w d m (polls_at w.place) (claims_at w.place) x (is_published_at q)) counts
-    ∙ ap (profile_by others w d m (polls_at w.place) (claims_at w.place) (has_count_at w.place)) published
+but_duties = grind arith
 
 module _ {B : Type 0} where
   -- of what is shared the seats, the set, the global queue, the barrier and the stop may change
@@ -147,9 +125,7 @@ module _ {B : Type 0} where
   -- what things show of seats of which one was set, where none of that is in it
   pub seats_show : (vs : Views) (i : ℕ) (s : Shared B) (xs : List Chair) (chair chair' : Chair) → slice_get s.seats.items i ≡ Some chair → xs ≡ slice_set s.seats.items i chair' → queue_at chair' ≡ queue_at chair → word_at chair' ≡ word_at chair → inbox_at chair' ≡ inbox_at chair → chair'.raised ≡ chair.raised
       → record (things_with vs s) { queues = map queue_at xs; words = map word_at xs; inboxes = map inbox_at xs; wake_polls = polls_seen vs.workers xs } ≡ things_with vs s
-  seats_show vs i s xs chair chair' there set queue word inbox raised =
-      ap (λ (cs : List Chair). record (things_with vs s) { queues = map queue_at cs; words = map word_at cs; inboxes = map inbox_at cs; wake_polls = polls_seen vs.workers cs }) set
-      ∙ rw (map_kept queue_at s.seats.items i chair' chair there queue, map_kept word_at s.seats.items i chair' chair there word, map_kept inbox_at s.seats.items i chair' chair there inbox, polls_kept vs.workers s.seats.items i chair chair' there raised) refl
+  seats_show = grind (arith, map_kept, polls_kept)
 
   -- WHAT OTHERS RELY ON
 
@@ -198,9 +174,7 @@ module _ {B : Type 0} where
   Empties s s' = (s'.global ≡ s.global) ⊎ ((s'.global.values ≡ []) × (s'.global.closed ≡ true))
 
   gone_too : (gone gone' : Bool) (p : Phase B) (n : ℕ) → (gone ≡ true → gone' ≡ true) → HasOne gone p n → HasOne gone' p n
-  gone_too true gone' p n on h = subst (λ g. HasOne g p n) (sym (on refl)) h
-  gone_too false true p n on h = has_more p n h
-  gone_too false false p n on h = h
+  gone_too = grind arith
 
   -- which workers are of the pool
   abbrev pub ArePools : Shared B → Type 0
@@ -286,10 +260,7 @@ module _ {B : Type 0} where
 
   -- it has nothing to do with gates
   gates_closing : (q : Place) (closes : Bool) (batch : Reserved Mail) (n : ℕ) (w : Worker) (s : Shared B) → Follows q → (others : Profile) → IsWhole (with_worker others w) s → HaveGates (with_worker others (onward q closes batch n w)).drops_by s.opens s.requests.items
-  gates_closing q closes batch n w s to others whole =
-      let here : (w.index == w.index) ≡ true = eq-eqb w.index w.index refl in
-      gates_free w.index (with_worker others w).drops_by (with_worker others (onward q closes batch n w)).drops_by s.opens s.requests.items
-      (λ j other. rw (not_same j w.index other) refl) (rw here to.passes) (rw here to.joins) whole.gates
+  gates_closing = grind arith
 
   -- where it takes nothing out of the set, and seats show the same
   pub pools_calm : (x : InClosing) (q : Place) (closes : Bool) (batch : Reserved Mail) (n : ℕ) (w : Worker) (s s' : Shared B) → SoundAt (Place.Closing x) w s → Follows q → drops_at q ≡ drops_at (Place.Closing x) → KeepsGates s.seats.items s'.seats.items → s'.set.shards ≡ s.set.shards → (s.set.closed ≡ true → s'.set.closed ≡ true)

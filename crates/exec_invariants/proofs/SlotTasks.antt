@@ -39,23 +39,11 @@ elsewhere r None x apart = refl
 elsewhere r (Some u) x apart = ap (λ b. if b then Some x else None) (not_same u r (λ e. apart (ap (λ n. Some n) e)))
 
 pub polls_other : (t r : ℕ) (x : InPoll) → t ≢ r → polls_in t x ≡ Some r → ⊥
-polls_other t r InPoll.BeginPoll apart h = let never : None ≡ Some r = h in absurd (cc)
-polls_other t r InPoll.RemoveTask apart h = let never : None ≡ Some r = h in absurd (cc)
-polls_other t r InPoll.Resume apart h = apart (same_thing t r h)
-polls_other t r InPoll.Act apart h = apart (same_thing t r h)
-polls_other t r (InPoll.JoinGate k) apart h = apart (same_thing t r h)
-polls_other t r InPoll.LoadSpawnHead apart h = apart (same_thing t r h)
-polls_other t r InPoll.Pend apart h = apart (same_thing t r h)
+polls_other = grind arith
 
 -- nothing of the root is in the hand where another task is polled
 idle_hand : (t r : ℕ) (x : InPoll) (hand : Option Runnable) → t ≢ r → root_in_hand (begins_at (Place.Poll t x)) r hand ≡ None
-idle_hand t r InPoll.BeginPoll hand apart = ap (λ b. if b then hand else None) (not_same t r apart)
-idle_hand t r InPoll.RemoveTask hand apart = refl
-idle_hand t r InPoll.Resume hand apart = refl
-idle_hand t r InPoll.Act hand apart = refl
-idle_hand t r (InPoll.JoinGate k) hand apart = refl
-idle_hand t r InPoll.LoadSpawnHead hand apart = refl
-idle_hand t r InPoll.Pend hand apart = refl
+idle_hand = grind arith
 
 -- nothing is in an empty hand
 pub none_in : (r : Runnable) → Contains [] r → ⊥
@@ -204,10 +192,7 @@ module _ {B : Type 0} where
 
   -- the slot of the task that it polls, where that is this one
   pub stops_own : (o : Option ℕ) (x : InPoll) (i t : ℕ) (tasks : List (TaskSlot B)) (slot : TaskSlot B) (rs : List Record) (ss : List SleeperRecord) → ((u : ℕ) → o ≡ Some u → u ≡ t) → slice_get tasks t ≡ Some slot → StopsIn x i slot.waiting rs ss → Stops o x i tasks rs ss
-  stops_own None x i t tasks slot rs ss polls there stops = tt
-  stops_own (Some u) x i t tasks slot rs ss polls there stops = λ o at_u.
-      let is : slot ≡ o = same_thing slot o (sym there ∙ subst (λ m. slice_get tasks m ≡ Some o) (polls u refl) at_u) in
-      subst (λ (y : TaskSlot B). StopsIn x i y.waiting rs ss) is stops
+  stops_own = grind arith
 
   pub root_tasked : (t : ℕ) (x : InPoll) (q : Place) (w : Worker) (f : Option Runnable) (s : Shared B) (slot slot' : TaskSlot B) → SoundAt (Place.Poll t x) w s → Sits q w f s slot slot' → Tasked q w f None s (slice_set s.tasks.items w.root slot')
   root_tasked t x q w f s slot slot' sound sits =
@@ -233,13 +218,7 @@ module _ {B : Type 0} where
 
   -- who polls another task than its root is of the pool
   pub guest_pool : (t : ℕ) (x : InPoll) (w : Worker) (s : Shared B) → SoundAt (Place.Poll t x) w s → t ≢ w.root → is_pool w.role ≡ true
-  guest_pool t InPoll.BeginPoll w s sound apart = sound.serves apart
-  guest_pool t InPoll.RemoveTask w s sound apart = sound.pooled refl
-  guest_pool t InPoll.Resume w s sound apart = sound.serves apart
-  guest_pool t InPoll.Act w s sound apart = sound.serves apart
-  guest_pool t (InPoll.JoinGate k) w s sound apart = sound.serves apart
-  guest_pool t InPoll.LoadSpawnHead w s sound apart = sound.serves apart
-  guest_pool t InPoll.Pend w s sound apart = sound.serves apart
+  guest_pool = grind arith
 
   -- THE SLOT OF AN ORDINARY TASK became another, the worker is there, with this hand
   pub record Visits (q : Place) (t : ℕ) (w : Worker) (h : Option Runnable) (s : Shared B) (slot slot' : TaskSlot B) : Type 0 where

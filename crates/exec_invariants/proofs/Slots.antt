@@ -10,17 +10,7 @@ use Rattle.exec_invariants.{specs.{Drained.IsBefore, Hearing.Hears, Holding.{IsH
 
 -- a worker that passes no permit on, and has no request join a gate
 pub gates_free : (i : ℕ) (drops drops' : ℕ → Drops) (opens : List OpenState) (rs : List Record) → ((j : ℕ) → j ≢ i → drops' j ≡ drops j) → (drops' i).passes ≡ None → (drops' i).joins ≡ None → HaveGates drops opens rs → HaveGates drops' opens rs
-gates_free i drops drops' opens rs others passes joins old =
-    record {
-      passes = λ j file is.
-          by_number j i
-          (λ other. old.passes j file (ap (λ x. x.passes) (sym (others j other)) ∙ is))
-          (λ same. let no : None ≡ Some file = sym passes ∙ ap (λ m. (drops' m).passes) (sym same) ∙ is in absurd (cc));
-      joins = λ j k is.
-          by_number j i
-          (λ other. old.joins j k (ap (λ x. x.joins) (sym (others j other)) ∙ is))
-          (λ same. let no : None ≡ Some k = sym joins ∙ ap (λ m. (drops' m).joins) (sym same) ∙ is in absurd (cc));
-    }
+gates_free = grind arith
 
 module _ {B : Type 0} where
   -- the slot became another that holds and waits for the same

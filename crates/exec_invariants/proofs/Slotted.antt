@@ -1,6 +1,6 @@
 -- The slots of requests as they are seen, where one is written again, or is free again; and which of them are awaited.
-use Rattle.std.proofs.{Common.{◌≡◌, ◌≢◌, ℕ, zero, suc, ◌+◌, ◌^◌, ◌<◌, ◌==◌, ◌||◌, not, cond, Bool, true, false, List, [], ◌∷◌, filter, nat_lt, set, slice_get, slice_index_or, slice_set, Some, None, if◌then◌else◌, refl, sym, ap, ◌∙◌, arith}, lemmas.{Bool.{false≢true, eq-eqb, Decides.nat_tests}, Option.get_or_from_slice_get}}
-use Rattle.exec_base.specs.{Slab.{Slab, freed, is_live, removed, value_at, written}, declared.slab.{Id.Id, Slot.{Slot, TheVariants.{Live, Vacant, Retired}}}}
+use Rattle.std.proofs.{Common.{◌≡◌, ◌≢◌, ℕ, zero, suc, ◌+◌, ◌^◌, ◌<◌, ◌==◌, ◌||◌, not, cond, Bool, true, false, List, [], ◌∷◌, filter, set, slice_get, slice_index_or, slice_set, Some, None, if◌then◌else◌, refl, sym, ap, ◌∙◌, arith}, lemmas.{Bool.{eq-eqb, Decides.nat_tests}, Option.get_or_from_slice_get}}
+use Rattle.exec_base.specs.{Slab.{Slab, freed, is_live, removed, value_at, written}, declared.slab.{Id.Id, Slot.{Slot, TheVariants.{Live, Vacant}}}}
 use Rattle.exec_waiters.{specs.declared.waiter.Entry.Entry, proofs.Changes.at_by}
 use Rattle.exec_moves.specs.{Slots.{is_in_slots, slot_of, vacated}, Told.has_number}
 use Rattle.exec_parts.{specs.{declared.parts.mail.Reply.Reply, Records.number_in, View.{awaited_from, awaits_entry, is_awaited, slots_from, slots_seen}}, proofs.Facts.{not_same, same_thing}}
@@ -26,18 +26,10 @@ awaited_written numbers s id was is at same = awaited_set 0 numbers s.slots id.i
 -- FREE AGAIN
 
 freed_dead : (g : ℕ) → is_live {T = Entry Reply Reply} (freed g) ≡ false
-freed_dead g = by (nat_lt (g + 1) (2 ^ 64))
-  where
-    by : (b : Bool) → is_live {T = Entry Reply Reply} (if b then Vacant (g + 1) else Retired) ≡ false
-    by true = refl
-    by false = refl
+freed_dead = grind arith
 
 freed_unawaited : (g : ℕ) → is_awaited (freed g) ≡ false
-freed_unawaited g = by (nat_lt (g + 1) (2 ^ 64))
-  where
-    by : (b : Bool) → is_awaited (if b then Vacant (g + 1) else Retired) ≡ false
-    by true = refl
-    by false = refl
+freed_unawaited = grind arith
 
 slots_freed : (k : ℕ) (numbers : List ℕ) (slots : List (Slot (Entry Reply Reply))) (i g : ℕ) → slots_from k numbers (set slots i (freed g)) ≡ slice_set (slots_from k numbers slots) i None
 slots_freed k numbers [] i g = refl
@@ -51,12 +43,7 @@ IsFirst n k numbers slots i = (j : ℕ) (x : Slot (Entry Reply Reply)) → j < i
 slot_found : (n k : ℕ) (numbers : List ℕ) (slots : List (Slot (Entry Reply Reply))) (i : ℕ) (o : Slot (Entry Reply Reply)) → slice_get slots i ≡ Some o → is_live o ≡ true → slice_index_or numbers (k + i) 0 ≡ n → IsFirst n k numbers slots i
     → slot_of n k (slots_from k numbers slots) ≡ Some (k + i)
 slot_found n k numbers [] i o there live is first = absurd (let no : None ≡ Some o = there in cc)
-slot_found n k numbers (x ∷ slots) zero o there live is first =
-    let same : x ≡ o = same_thing x o there in
-    let here : slice_index_or numbers k 0 ≡ n = ap (λ m. slice_index_or numbers m 0) (let e : k ≡ k + 0 = omega arith in e) ∙ is in
-    ap (λ b. slot_of n k ((if b then Some (slice_index_or numbers k 0) else None) ∷ slots_from (suc k) numbers slots)) (ap is_live same ∙ live)
-    ∙ ap (λ b. if b then Some k else slot_of n (suc k) (slots_from (suc k) numbers slots)) (ap (λ m. n == m) here ∙ eq-eqb n n refl)
-    ∙ ap (λ m. Some m) (let e : k ≡ k + 0 = omega arith in e)
+slot_found n k numbers (x ∷ slots) zero o there live is first = grind (arith, there, same_thing, eq-eqb)
 slot_found n k numbers (x ∷ slots) (suc i) o there live is first =
     by (is_live x) refl
     ∙ slot_found n (suc k) numbers slots i o there live (ap (λ m. slice_index_or numbers m 0) (let e : suc k + i ≡ k + suc i = omega arith in e) ∙ is) later
@@ -91,28 +78,19 @@ module _ (numbers : List ℕ) (s : Slab (Entry Reply Reply)) (id : Id) (one : On
   there = live_at s id one.e one.live
 
   slot_is : slot_of (number_in numbers id) 0 (slots_from 0 numbers s.slots) ≡ Some id.index
-  slot_is =
-      slot_found (number_in numbers id) 0 numbers s.slots id.index (Live id.generation one.e) there refl (number_there numbers id)
-      (λ j x less at alive same. let is : j ≡ id.index = one.alone j x at alive (at_zero numbers j (number_in numbers id) same) in omega (arith, less, is))
-      ∙ ap (λ m. Some m) (let e : 0 + id.index ≡ id.index = omega arith in e)
+  slot_is = grind (arith, slot_found, there, number_there, at_zero)
 
   pub slot_in : is_in_slots (number_in numbers id) (slots_seen numbers s) ≡ true
   slot_in = rw slot_is refl
 
   pub slots_vacated : slots_seen numbers (removed s id) ≡ vacated (number_in numbers id) (slots_seen numbers s)
-  slots_vacated =
-      let small : nat_lt (id.generation + 1) (2 ^ 64) ≡ true = let low = one.low in grind (arith, nat_tests) in
-      ap (λ b. record { held = slots_from 0 numbers (set s.slots id.index (freed id.generation)); vacant = if b then id.index ∷ s.vacant else s.vacant }) small
-      ∙ ap (λ xs. record { held = xs; vacant = id.index ∷ s.vacant }) (slots_freed 0 numbers s.slots id.index id.generation)
-      ∙ rw slot_is refl
+  slots_vacated = grind (arith, nat_tests, slots_freed, slot_is)
 
 -- WHO IS AWAITED
 
 awaited_freed : (k : ℕ) (numbers : List ℕ) (slots : List (Slot (Entry Reply Reply))) (i g : ℕ) (o : Slot (Entry Reply Reply)) → slice_get slots i ≡ Some o → is_awaited o ≡ false → awaited_from k numbers (set slots i (freed g)) ≡ awaited_from k numbers slots
 awaited_freed k numbers [] i g o at none = refl
-awaited_freed k numbers (x ∷ slots) zero g o at none =
-    let same : x ≡ o = same_thing x o at in
-    ap (λ b. if b then slice_index_or numbers k 0 ∷ awaited_from (suc k) numbers slots else awaited_from (suc k) numbers slots) (freed_unawaited g ∙ sym (ap is_awaited same ∙ none))
+awaited_freed k numbers (x ∷ slots) zero g o at none = grind (arith, same_thing, freed_unawaited)
 awaited_freed k numbers (x ∷ slots) (suc i) g o at none = ap (λ xs. if is_awaited x then slice_index_or numbers k 0 ∷ xs else xs) (awaited_freed (suc k) numbers slots i g o at none)
 
 -- others have other numbers
@@ -143,12 +121,7 @@ none_kept n k numbers (x ∷ slots) others =
           ap (λ b. keep (if b then m ∷ ns else ns)) is ∙ ap (λ b. cond (not b) (m ∷ keep ns) (keep ns)) other ∙ ap (λ ys. m ∷ ys) rest.0 ∙ sym (ap (λ b. if b then m ∷ ns else ns) is),
           ap (λ b. has_number n (if b then m ∷ ns else ns)) is ∙ ap (λ b. b || has_number n ns) other ∙ rest.1,
         )
-    by false is rest =
-        let m = slice_index_or numbers k 0 in
-        let ns = awaited_from (suc k) numbers slots in (
-          ap (λ b. keep (if b then m ∷ ns else ns)) is ∙ rest.0 ∙ sym (ap (λ b. if b then m ∷ ns else ns) is),
-          ap (λ b. has_number n (if b then m ∷ ns else ns)) is ∙ rest.1,
-        )
+    by false is rest = grind arith
 
 -- one is awaited no more
 awaited_dropped : (n k : ℕ) (numbers : List ℕ) (slots : List (Slot (Entry Reply Reply))) (i g : ℕ) (o : Slot (Entry Reply Reply)) (e : Entry Reply Reply) → slice_get slots i ≡ Some o → awaits_entry e ≡ false → slice_index_or numbers (k + i) 0 ≡ n → AreOthers n k numbers slots i
@@ -168,16 +141,7 @@ awaited_dropped n k numbers (x ∷ slots) zero g o e there none is others =
 
     by : (b : Bool) → is_awaited x ≡ b → (keep ns ≡ ns) × (has_number n ns ≡ false) → (slice_index_or numbers k 0 == n) ≡ true → is_awaited x ≡ is_awaited o
         → (awaited_from k numbers (set (x ∷ slots) zero (Live g e)) ≡ keep (awaited_from k numbers (x ∷ slots))) × (has_number n (awaited_from k numbers (x ∷ slots)) ≡ is_awaited o)
-    by true at rest mine same =
-        let m = slice_index_or numbers k 0 in (
-          ap (λ b. if b then m ∷ ns else ns) none ∙ sym (ap (λ b. keep (if b then m ∷ ns else ns)) at ∙ ap (λ b. cond (not b) (m ∷ keep ns) (keep ns)) mine ∙ rest.0),
-          ap (λ b. has_number n (if b then m ∷ ns else ns)) at ∙ ap (λ b. b || has_number n ns) mine ∙ sym at ∙ same,
-        )
-    by false at rest mine same =
-        let m = slice_index_or numbers k 0 in (
-          ap (λ b. if b then m ∷ ns else ns) none ∙ sym (ap (λ b. keep (if b then m ∷ ns else ns)) at ∙ rest.0),
-          ap (λ b. has_number n (if b then m ∷ ns else ns)) at ∙ rest.1 ∙ sym at ∙ same,
-        )
+    by = grind arith
 awaited_dropped n k numbers (x ∷ slots) (suc i) g o e there none is others =
     let rest = awaited_dropped n (suc k) numbers slots i g o e there none (ap (λ m. slice_index_or numbers m 0) (let e : suc k + i ≡ k + suc i = omega arith in e) ∙ is) (others_later n k numbers x slots i others) in
     by (is_awaited x) refl rest
@@ -206,9 +170,7 @@ awaited_dropped n k numbers (x ∷ slots) (suc i) g o e there none is others =
         )
 
 awaited_live : (x : Slot (Entry Reply Reply)) → is_awaited x ≡ true → is_live x ≡ true
-awaited_live (Live g e) h = refl
-awaited_live (Vacant g) h = absurd (false≢true h)
-awaited_live Retired h = absurd (false≢true h)
+awaited_live = grind arith
 
 module _ (numbers : List ℕ) (s : Slab (Entry Reply Reply)) (id : Id) (one : OneSlot numbers s id) where
   -- it goes, and nobody of the worker awaited it

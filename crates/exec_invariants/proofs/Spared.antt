@@ -1,15 +1,14 @@
 -- What holds of a worker by the records of its requests and sleepers alone, where a step of another leaves those.
-use Rattle.std.proofs.{Common.{◌≡◌, ⊎_elim, ℕ, ◌+◌, ◌≤◌, ◌<◌, ◌==◌, ◌||◌, Bool, true, false, List, [], ◌∷◌, length, Option, Some, None, IsSome, refl, sym, ap, subst, ◌∙◌, arith, inl, inr, slice_get}, lemmas.{Bool.{false≢true, eq-eqb}, Option.slice_get_within}}
+use Rattle.std.proofs.{Common.{◌≡◌, ℕ, ◌+◌, ◌≤◌, ◌<◌, ◌==◌, ◌||◌, Bool, true, false, List, [], ◌∷◌, length, Option, Some, IsSome, refl, sym, ap, subst, ◌∙◌, arith, slice_get}, lemmas.{Bool.{false≢true, eq-eqb}, Option.slice_get_within}}
 use Rattle.exec_base.specs.{Slab.{Slab, value_at}, declared.slab.Id.Id}
 use Rattle.exec_time.specs.declared.timers.Sleeper.{Sleeper as Sleeping}
 use Rattle.exec_ring.specs.declared.completion.Completion.{Completion}
 use Rattle.exec_waiters.specs.{States.waiter_at, declared.deferred.Deferred.Deferred}
 use Rattle.exec_driver.specs.Driving.{Driving}
-use Rattle.exec_words.specs.declared.inbox.Message.{Message}
 use Rattle.exec_machine.specs.{declared.state.Waiting.Waiting, Tests.{is_asleep, is_resolved, is_staged}}
 use Rattle.exec_moves.specs.declared.{handing.Heard.Heard, place.{InPoll.InPoll, InService.InService}}
 use Rattle.exec_parts.{specs.{declared.parts.{mail.{Reply.Reply, Subject.Subject}, names.Names.Names, record.Record.Record, sleeping.SleeperRecord.SleeperRecord}, Records.number_in, Serving.{AreKnown, is_one_of}}, proofs.Facts.{same_number, or_left, or_right}}
-use Rattle.exec_invariants.{specs.{Due.{AreAsleep, AreTimed}, Flown.{AreLanded, HasFlown, operations}, Holding.Mail, HoldPlaces.Hearing, Places.one_if, Rooted.{HasHeard, HearsNext, IsRooted, completions_of, results_of}, Sound.{AreOver, IsLetter, IsMineIn, IsMyMail, MayStop, StopsIn}, Names.{IsNamed, IsSubmitted}, Spares.{RecordsEndure, SleepersEndure, SparedRecords, SparedSleepers, SparesRecord, SparesRecords, SparesSleeper, SparesSleepers}}, proofs.{FiringNames.naps_on, SparedRecord.{there_within, live_of, mine_asleep, applied_still, worker_still, over_still, was_held, goes_still, answer_by, alike_by, timed_by, plain_by, kept_by, reply_by, stands_by, paid_still, pays_by, sleeper_worker_still, ends_still, watches_by, sleeper_pays_by}}}
+use Rattle.exec_invariants.{specs.{Due.{AreAsleep, AreTimed}, Flown.{AreLanded, HasFlown, operations}, Holding.Mail, HoldPlaces.Hearing, Places.one_if, Rooted.{HearsNext, IsRooted, completions_of, results_of}, Sound.{AreOver, IsLetter, IsMineIn, IsMyMail, MayStop, StopsIn}, Names.{IsNamed, IsSubmitted}, Spares.{RecordsEndure, SleepersEndure, SparedRecords, SparedSleepers, SparesRecord, SparesRecords, SparesSleeper, SparesSleepers}}, proofs.{FiringNames.naps_on, SparedRecord.{there_within, live_of, mine_asleep, applied_still, worker_still, over_still, was_held, goes_still, answer_by, alike_by, timed_by, plain_by, kept_by, reply_by, stands_by, paid_still, pays_by, sleeper_worker_still, ends_still, watches_by, sleeper_pays_by}}}
 
 -- THE RECORDS OF A WORKER'S REQUESTS AND SLEEPERS are spared
 pub record KeepsMine (i : ℕ) (rs rs' : List Record) (ss ss' : List SleeperRecord) : Type 0 where
@@ -21,16 +20,10 @@ pub record KeepsMine (i : ℕ) (rs rs' : List Record) (ss ss' : List SleeperReco
 module _ (i : ℕ) (rs rs' : List Record) (ss ss' : List SleeperRecord) (keeps : KeepsMine i rs rs' ss ss') where
   -- who stands there was spared
   back : (k : ℕ) (r x : Record) → slice_get rs k ≡ Some r → r.shown.worker ≡ i → slice_get rs' k ≡ Some x → SparesRecord r x
-  back k r x there mine found =
-      let now = keeps.records k r there mine in
-      let is : now.0 ≡ x = cc (now.1, found) in
-      subst (SparesRecord r) is now.2
+  back = grind arith
 
   sleeper_back : (k : ℕ) (z x : SleeperRecord) → slice_get ss k ≡ Some z → z.shown.worker ≡ i → slice_get ss' k ≡ Some x → SparesSleeper z x
-  sleeper_back k z x there mine found =
-      let now = keeps.sleepers k z there mine in
-      let is : now.0 ≡ x = cc (now.1, found) in
-      subst (SparesSleeper z) is now.2
+  sleeper_back = grind arith
 
   -- one of worker i that stands there was the worker's before
   was_mine : (k : ℕ) (x : Record) (there : slice_get rs' k ≡ Some x) (mine : x.shown.worker ≡ i) → (keeps.records_only k x there mine).0.shown.worker ≡ i
@@ -216,41 +209,10 @@ module _ (i : ℕ) (rs rs' : List Record) (ss ss' : List SleeperRecord) (keeps :
   -- WHAT IS OVER, AND WHAT WAS HEARD
 
   pub over_apart : (ended : List ℕ) (unreleased others : ℕ) → AreOver i ended unreleased others rs → AreOver i ended unreleased others rs'
-  over_apart ended unreleased others over =
-      record {
-        over = λ k n at.
-            let r = over.over k n at in
-            let now = keeps.records n r.0 r.1 r.2 in
-            (now.0, now.1, worker_still r.0 now.0 now.2 ∙ r.2, (over_still r.0 now.0 now.2 ∙ r.3.0, ap (λ (x : Record). x.shown.released) now.2.kept ∙ r.3.1));
-        once = over.once;
-        counted = over.counted;
-      }
+  over_apart = grind arith
 
   pub heard_apart : (h : Option Hearing) → HearsNext h i rs ss → HearsNext h i rs' ss'
-  heard_apart None h = tt
-  heard_apart (Some x) h = by x.of h
-    where
-      by : (of : Heard) → HasHeard i x.task of rs ss → HasHeard i x.task of rs' ss'
-      by (Heard.Request k) h =
-          let now = keeps.records k h.0 h.1 h.2 in (
-            now.0,
-            now.1,
-            worker_still h.0 now.0 now.2 ∙ h.2,
-            now.2.waiter x.task h.3,
-            goes_still h.0 now.0 now.2 ∙ h.4,
-            subst (λ m. m ≤ 1) (sym (paid_still h.0 now.0 now.2)) h.5,
-            ap (λ (y : Record). y.sent) now.2.kept ∙ h.6,
-          )
-      by (Heard.Timer n) h =
-          let now = keeps.sleepers n h.0 h.1 h.2 in (
-            now.0,
-            now.1,
-            sleeper_worker_still h.0 now.0 now.2 ∙ h.2,
-            ap (λ (y : SleeperRecord). y.shown.task) now.2.kept ∙ h.3,
-            ends_still h.0 now.0 now.2 ∙ h.4,
-            subst (λ m. m ≤ 1) (sym (ap (λ (y : SleeperRecord). y.shown.wakes_paid) now.2.kept)) h.5,
-            ap (λ (y : SleeperRecord). y.sent) now.2.kept ∙ h.6,
-          )
+  heard_apart = grind arith
 
 -- WHAT MESSAGES ARE ABOUT, whose ever it is
 
@@ -260,32 +222,14 @@ module _ (rs rs' : List Record) (ss ss' : List SleeperRecord) (endure : RecordsE
   mine_in_apart workers j (Subject.Timer n) h = let now = endure_too n h.0 h.1 in (now.0, now.1, now.2.worker ∙ h.2, h.3)
 
   pub mail_apart : (workers j : ℕ) (m : Mail) → IsMyMail workers j m rs ss → IsMyMail workers j m rs' ss'
-  mail_apart workers j Message.WakeRoot h = tt
-  mail_apart workers j (Message.Forward s) h = mine_in_apart workers j s h
-  mail_apart workers j (Message.Cancel s) h = mine_in_apart workers j s h
+  mail_apart = grind arith
 
   pub letter_apart : (workers i : ℕ) (s : Subject) (j : ℕ) → IsLetter workers i s j rs ss → IsLetter workers i s j rs' ss'
   letter_apart workers i s j h = (mine_in_apart workers j s h.0, h.1)
 
   -- where a poll ends
   pub may_stop_apart : (i : ℕ) → KeepsMine i rs rs' ss ss' → (w : Waiting) → MayStop i w rs ss → MayStop i w rs' ss'
-  may_stop_apart i keeps (Waiting.Request k) h =
-      let now = endure k h.0 h.1 in
-      (now.0, now.1, ⊎_elim (λ sent. inl (now.2.forwarded sent)) (λ own. let sp = back i rs rs' ss ss' keeps k h.0 now.0 h.1 own.0 now.1 in inr (now.2.worker ∙ own.0, over_still h.0 now.0 sp ∙ own.1)) h.2)
-  may_stop_apart i keeps (Waiting.Timer n) h =
-      let now = endure_too n h.0 h.1 in (
-        now.0,
-        now.1,
-        ⊎_elim (λ sent. inl (now.2.forwarded sent))
-            (λ own.
-            let sp = sleeper_back i rs rs' ss ss' keeps n h.0 now.0 h.1 own.0 now.1 in
-            inr (now.2.worker ∙ own.0, ap (λ (y : SleeperRecord). y.shown.fired) sp.kept ∙ own.1, ap (λ (y : SleeperRecord). y.shown.removed) sp.kept ∙ own.2))
-            h.2,
-      )
-  may_stop_apart i keeps Waiting.Nothing h = tt
-  may_stop_apart i keeps Waiting.Wake h = tt
-  may_stop_apart i keeps Waiting.Woken h = tt
-  may_stop_apart i keeps Waiting.Yielded h = tt
+  may_stop_apart = grind arith
 
   pub stops_apart : (x : InPoll) (i : ℕ) → KeepsMine i rs rs' ss ss' → (w : Waiting) → StopsIn x i w rs ss → StopsIn x i w rs' ss'
   stops_apart InPoll.Pend i keeps w h = may_stop_apart i keeps w h

@@ -1,10 +1,10 @@
 -- What the stagings of a service are to the machine.
-use Rattle.std.{proofs.{Common.{◌≡◌, ◌⊎◌, ℕ, ◌+◌, ◌<◌, ◌≤◌, ◌==◌, ◌&&◌, ◌||◌, Bool, true, false, not, List, [], ◌∷◌, ◌++◌, length, map, Option, Some, None, IsSome, refl, sym, ap, subst, ◌∙◌, arith, inl, inr, slice_get, slice_set, nat_lt}, lemmas.{Bool.{false≢true, eq-eqb, Decides.nat_tests}, List.length-append, Option.slice_get_within}}, specs.Vec.vec_capacity}
+use Rattle.std.{proofs.{Common.{◌≡◌, ◌⊎◌, ℕ, ◌+◌, ◌<◌, ◌≤◌, ◌==◌, ◌&&◌, ◌||◌, Bool, true, false, not, List, [], ◌∷◌, ◌++◌, length, map, Option, Some, None, IsSome, refl, sym, ap, subst, ◌∙◌, arith, slice_get, slice_set, nat_lt}, lemmas.{Bool.{false≢true, eq-eqb}, List.length-append, Option.slice_get_within}}, specs.Vec.vec_capacity}
 use Rattle.exec_base.specs.Slab.{Slab, value_at}
 use Rattle.exec_time.specs.declared.timers.Sleeper.{Sleeper as Sleeping}
 use Rattle.exec_request.specs.States.{asks_cancel}
 use Rattle.exec_ring.specs.{Rings.completions, declared.completion.Submission.Submission}
-use Rattle.exec_waiters.{specs.{States.{waiter_at, flying_count}, declared.{waiter.{Entry.TheVariants.Pending, Waiter.Waiter}, waiter_id.WaiterId.WaiterId}}, proofs.Changes.entry_of}
+use Rattle.exec_waiters.{specs.{States.{waiter_at}, declared.{waiter.{Waiter.Waiter}, waiter_id.WaiterId.WaiterId}}, proofs.Changes.entry_of}
 use Rattle.exec_driver.{specs.{Driving.{Driving, request_at, is_cancelled, is_queued, is_full as is_ring_full, may_stage_one}, Lists.{has_first, first_of, rest_of, is_among}, Punctual.IsPunctual, Steps.{cancel_entry, cancel_staged}}, proofs.Counting.same_written}
 use Rattle.exec_task.specs.declared.body.Said.{Said}
 use Rattle.exec_machine.specs.{declared.{config.Configuration.Configuration, event.Event.{Event, TheVariants.Cancel}}, Progress.Plan, Ranges.ring_size, Same.is_number, Tests.{is_empty, is_in_flight, is_staged}, World.{Common, request_of}}
@@ -14,17 +14,10 @@ use Rattle.exec_invariants.{specs.{Flown.{HasFlown, IsPlain, ends_in, operations
 
 -- WHAT IS SEEN
 
-some_numbered : (numbers : List ℕ) (ids : List WaiterId) → has_first ids ≡ not (is_empty (numbers_of numbers ids))
-some_numbered numbers [] = refl
-some_numbered numbers (id ∷ ids) = refl
-
 -- the queue must be entered first, for the machine too
 pub flush_seen : (c : Configuration) (w : Worker) → (driver_of w).ring.size ≡ ring_size c
     → (is_full (ring_size c) (desk_of w) && (not (is_empty (own_of w).cancels) || may_stage c (own_of w) || not (desk_of w).polled)) ≡ must_flush (driver_of w)
-flush_seen c w sized =
-    let d = driver_of w in
-    let n = w.names.requests.items in
-    rw (some_numbered n d.lists.cancels, some_numbered n d.lists.queued, sized) refl
+flush_seen = grind arith
 
 -- the same at the place as it is
 abbrev pub idle_at : {B : Type 0} (v : Service) (w : Worker) (s : Shared B) → (idle : IsIdle v w s) → IsIdle v (record w { place = Place.Service (InService.Submit idle.gate) v }) s
@@ -78,11 +71,7 @@ marks_plain : (r : Record) → IsPlain r.shown → IsPlain (marks_cancel r).show
 marks_plain r p = record { bounded = p.bounded; moved = p.moved; deadline = p.deadline }
 
 among_later : (id other : WaiterId) (ids : List WaiterId) → is_among other ids ≡ true → is_among other (id ∷ ids) ≡ true
-among_later id other ids h = rw h (or_true ((id.0.index == other.0.index) && (id.0.generation == other.0.generation)))
-  where
-    or_true : (b : Bool) → (b || true) ≡ true
-    or_true true = refl
-    or_true false = refl
+among_later = grind arith
 
 live_by : (o : Option (Waiter Reply Reply)) → is_cancelled o ≡ true → (it : Waiter Reply Reply) × (o ≡ Some it)
 live_by None h = absurd (false≢true h)
@@ -90,10 +79,7 @@ live_by (Some it) h = (it, refl)
 
 -- the first of a list stands in it
 pub among_first : (id : WaiterId) (ids : List WaiterId) → first_of ids ≡ Some id → is_among id ids ≡ true
-among_first id [] h = absurd (cc)
-among_first id (x ∷ ids) h =
-    let same : x ≡ id = cc in
-    rw (same, eq-eqb id.0.index id.0.index refl, eq-eqb id.0.generation id.0.generation refl) refl
+among_first = grind arith
 
 pub split_first : (id : WaiterId) (ids : List WaiterId) → first_of ids ≡ Some id → ids ≡ id ∷ rest_of ids
 split_first id [] h = absurd (cc)
@@ -108,11 +94,7 @@ none_there [] h = refl
 none_there (id ∷ ids) h = absurd (false≢true (sym h))
 
 pub first_may : (d : Driving Reply Reply) → may_stage_one d ≡ true → (id : WaiterId) × (first_of d.lists.queued ≡ Some id)
-first_may d may = by (has_first d.lists.queued) (nat_lt (flying_count d.requests) d.ring.size) refl may
-  where
-    by : (a b : Bool) → has_first d.lists.queued ≡ a → (a && b) ≡ true → (id : WaiterId) × (first_of d.lists.queued ≡ Some id)
-    by true b is h = first_there d.lists.queued is
-    by false b is h = absurd (false≢true h)
+first_may = grind (arith, first_there, false≢true)
 
 -- each has the number of a record
 pub all_named : (i : ℕ) (n : Names) (d : Driving Reply Reply) (zs : Slab (Sleeping Reply)) (rs : List Record) (ss : List SleeperRecord) → IsNamed i n d zs rs ss → (ids : List WaiterId) → ((id : WaiterId) → is_among id ids ≡ true → IsSome (value_at d.requests id.0)) → AreNamed n.requests.items ids rs
@@ -123,9 +105,7 @@ all_named i n d zs rs ss named (id ∷ ids) live =
 
 -- where the queue isn't full the lists of numbers have room
 pub rooms_there : (n m e size cap : ℕ) → n + m ≤ e → nat_lt e size ≡ true → size ≤ cap → (n < cap) × (m < cap)
-rooms_there n m e size cap few less room =
-    let below : e < size = grind (arith, nat_tests) in
-    (omega (arith, few, below, room), omega (arith, few, below, room))
+rooms_there = grind arith
 
 module _ {B : Type 0} (v : Service) (w : Worker) (s : Shared B) (idle : IsIdle v w s) (id : WaiterId) (first : first_of (driver_of w).lists.cancels ≡ Some id) where
   -- the request that asks for it
@@ -166,21 +146,9 @@ module _ {B : Type 0} (v : Service) (w : Worker) (s : Shared B) (idle : IsIdle v
 -- a name that is another's isn't this one, and its request has another number
 -- WHAT A STAGING NEEDS
 
-unfull : (f x y z : Bool) → (f && (x || y || z)) ≡ false → (x || y || z) ≡ true → f ≡ false
-unfull true x y z h some = absurd (false≢true (sym h ∙ some))
-unfull false x y z h some = refl
-
-some_of_three : (x y z : Bool) → (x ≡ true) ⊎ (y ≡ true) → (x || y || z) ≡ true
-some_of_three true y z h = refl
-some_of_three false true z h = refl
-some_of_three false false z (inl h) = absurd (false≢true h)
-some_of_three false false z (inr h) = absurd (false≢true h)
-
 module _ {B : Type 0} (v : Service) (w : Worker) (s : Shared B) (idle : IsIdle v w s) (unflushed : must_flush (driver_of w) ≡ false) where
   pub has_room : (has_first (driver_of w).lists.cancels ≡ true) ⊎ (may_stage_one (driver_of w) ≡ true) → is_ring_full (driver_of w) ≡ false
-  has_room some =
-      let d = driver_of w in
-      unfull (is_ring_full d) (has_first d.lists.cancels) (may_stage_one d) (not d.armed) unflushed (some_of_three (has_first d.lists.cancels) (may_stage_one d) (not d.armed) some)
+  has_room = grind arith
 
   pub has_places : (has_first (driver_of w).lists.cancels ≡ true) ⊎ (may_stage_one (driver_of w) ≡ true) → (length w.names.staged.items < vec_capacity w.names.staged) × (length w.names.untold.items < vec_capacity w.names.untold)
   has_places some =
@@ -226,17 +194,7 @@ module _ {B L : Type 0} (left : B → L) (spot : L → Option Said → Spot) whe
       let split = split_first id d.lists.cancels first in
       let on : GoesOn ask.r (marks_cancel ask.r) = record { same = refl; over = refl; ended = λ h. refl } in
       let a = ask.alike in
-      let one : OneGoesOn w.names (record w.names { staged = w'.names.staged; untold = w'.names.untold }) d d' rs id.0 ask.it ask.it ask.r marks_cancel = record {
-        at = ask.live;
-        there = ask.there;
-        slab = sym (same_written d.requests id.0 (Pending ask.it) (entry_of (value_at d.requests id.0) ask.it ask.live));
-        on = on;
-        alike = record { asked = a.asked; moved = a.moved; switched = a.switched; come = a.come; hinted = a.hinted; asks_hint = a.asks_hint; seen = a.seen; deadline = a.deadline; cancelled = a.cancelled; timer = a.timer; observed = a.observed; waiter = a.waiter; flying = a.flying; permit = a.permit; open_still = a.open_still; near = a.near; going = a.going; told_once = λ h. ask.cancelled; dated = a.dated; alone = a.alone };
-        start = refl;
-        tick = refl;
-        requests = refl;
-        timers = refl;
-      } in
+      let one : OneGoesOn w.names (record w.names { staged = w'.names.staged; untold = w'.names.untold }) d d' rs id.0 ask.it ask.it ask.r marks_cancel = grind (arith, same_written, entry_of) in
       let all = all_go_one rs k marks_cancel ask.r ask.there on in
       let rs' = changed_at rs k marks_cancel in
       let sub = sound.named.submitted in

@@ -1,10 +1,10 @@
 -- What the records and the driver of a worker say alike: which requests stand, and what may go into the submission queue.
-use Rattle.std.{proofs.{Common.{◌≡◌, ℕ, zero, suc, ◌+◌, ◌==◌, ◌&&◌, ◌||◌, Bool, true, false, not, cond, List, [], ◌∷◌, map, get_or, Option, Some, None, refl, sym, ap, ◌∙◌, arith, slice_get, count_by, if◌then◌else◌}, lemmas.{Bool.{Decides.nat_tests, false≢true, eq-eqb}, List.{Folds.list_any_at, Recursion.is_count_by}, Option.{slice_get_within, get_or_from_slice_get}}}, specs.List.list_any}
-use Rattle.exec_base.specs.{Slab.{Slab, value_at, value_in, slot_at}, declared.slab.{Id.Id, Slot.{Slot, TheVariants.{Live, Vacant, Retired}}}}
+use Rattle.std.{proofs.{Common.{◌≡◌, ℕ, zero, suc, ◌+◌, ◌==◌, ◌&&◌, ◌||◌, Bool, true, false, not, cond, List, [], ◌∷◌, map, get_or, Option, Some, None, refl, sym, ap, ◌∙◌, arith, slice_get, count_by}, lemmas.{Bool.{Decides.nat_tests, false≢true, eq-eqb}, List.{Folds.list_any_at, Recursion.is_count_by}, Option.{slice_get_within, get_or_from_slice_get}}}, specs.List.list_any}
+use Rattle.exec_base.specs.{Slab.{Slab, value_at, value_in, slot_at}, declared.slab.{Id.Id, Slot.{Slot, TheVariants.{Live, Vacant}}}}
 use Rattle.exec_time.specs.declared.timers.Sleeper.{Sleeper as Sleeping}
-use Rattle.exec_waiters.specs.{States.{waiter_at, waiter_of, counts_pending, pending_count}, declared.{waiter.{Waiter.Waiter, Entry.{Entry, TheVariants.{Pending, Ready}}}, waiter_id.WaiterId.WaiterId}}
-use Rattle.exec_driver.specs.{Driving.{Driving, has_pending}, Lists.has_first}
-use Rattle.exec_machine.specs.{declared.{config.Configuration.Configuration, state.Request.Request}, Ranges.ring_size, Tests.{is_empty, is_resolved}}
+use Rattle.exec_waiters.specs.{States.{waiter_at, waiter_of, counts_pending, pending_count}, declared.{waiter.{Waiter.Waiter, Entry.{Entry, TheVariants.{Pending}}}}}
+use Rattle.exec_driver.specs.{Driving.{Driving, has_pending}}
+use Rattle.exec_machine.specs.{declared.{config.Configuration.Configuration, state.Request.Request}, Ranges.ring_size, Tests.{is_resolved}}
 use Rattle.exec_moves.specs.Load.{has_submissions}
 use Rattle.exec_parts.{specs.{declared.parts.{mail.Reply.Reply, names.Names.Names, record.Record.Record, sleeping.SleeperRecord.SleeperRecord, worker.Worker.Worker}, Records.number_in, View.{own_of, driver_of}}, proofs.Facts.{same_number, or_right, by_not}}
 use Rattle.exec_invariants.specs.Names.{IsNamed}
@@ -12,10 +12,7 @@ use Rattle.exec_invariants.specs.Names.{IsNamed}
 -- TESTS OVER LISTS
 
 bool_same : (a b : Bool) → (a ≡ true → b ≡ true) → (b ≡ true → a ≡ true) → a ≡ b
-bool_same true true to from = refl
-bool_same true false to from = sym (to refl)
-bool_same false true to from = from refl
-bool_same false false to from = refl
+bool_same = grind arith
 
 and_both : (a b : Bool) → (a && b) ≡ true → (a ≡ true) × (b ≡ true)
 and_both true b h = (refl, h)
@@ -63,19 +60,10 @@ list_any-map p f (x ∷ xs) = ap (λ b. p (f x) || b) (list_any-map p f xs)
 
 module _ {S F : Type 0} where
   stands : (slot : Slot (Entry S F)) → counts_pending slot ≡ true → (g : ℕ) × (it : Waiter S F) × (slot ≡ Live g (Pending it))
-  stands (Live g (Pending it)) h = (g, it, refl)
-  stands (Live g (Ready o)) h = absurd (false≢true h)
-  stands (Vacant g) h = absurd (false≢true h)
-  stands Retired h = absurd (false≢true h)
+  stands = grind arith
 
   asks : (slot : Slot (Entry S F)) (g : ℕ) (it : Waiter S F) → waiter_of (value_in slot g) ≡ Some it → counts_pending slot ≡ true
-  asks (Live h (Pending w)) g it is = refl
-  asks (Live h (Ready o)) g it is =
-      let none : waiter_of {S = S} {F = F} (value_in (Live h (Ready o)) g) ≡ None =
-      elim (h == g) as (λ b. waiter_of {S = S} {F = F} (if b then Some (Ready o) else None) ≡ None) [ true ↦ refl | false ↦ refl ] in
-      absurd (cc (none, is))
-  asks (Vacant h) g it is = absurd (cc)
-  asks Retired g it is = absurd (cc)
+  asks = grind arith
 
   there_by_slot : (s : Slab (Entry S F)) (k g : ℕ) (it : Waiter S F) → slice_get s.slots k ≡ Some (Live g (Pending it)) → value_at s (record { index = k; generation = g }) ≡ Some (Pending it)
   there_by_slot s k g it there =
@@ -110,12 +98,5 @@ requests_seen i n d zs records sleepers named =
     at_driver (waiter_at d.requests f.1.id.0) refl in
     sym (any_counts counts_pending slots) ∙ bool_same (list_any counts_pending slots) (list_any (λ r. is_of i r.shown) records) to from ∙ sym (list_any-map (is_of i) (λ r. r.shown) records)
 
-has_first_numbered : (numbers : List ℕ) (ids : List WaiterId) → has_first ids ≡ not (is_empty (map (λ id. number_in numbers id.0) ids))
-has_first_numbered numbers [] = refl
-has_first_numbered numbers (id ∷ ids) = refl
-
 pub submissions_seen : (c : Configuration) (w : Worker) → (driver_of w).ring.size ≡ ring_size c → has_pending (driver_of w) ≡ has_submissions c (own_of w)
-submissions_seen c w sized =
-    let d = driver_of w in
-    let n = w.names.requests.items in
-    rw (has_first_numbered n d.lists.enrolments, has_first_numbered n d.lists.cancels, has_first_numbered n d.lists.queued, sized) refl
+submissions_seen = grind arith

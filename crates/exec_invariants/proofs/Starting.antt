@@ -1,12 +1,13 @@
 -- What the staging of a request's operation is to the machine.
-use Rattle.std.{proofs.{Common.{◌≡◌, ℕ, ◌+◌, ◌*◌, ◌<◌, ◌&&◌, ◌||◌, Bool, true, false, not, List, [], ◌∷◌, ◌++◌, length, Option, Some, None, refl, sym, ap, ◌∙◌, slice_get, is_some}, lemmas.Bool.false≢true}, specs.Option.option_map}
+use Rattle.std.{proofs.{Common.{◌≡◌, ℕ, ◌+◌, ◌*◌, ◌<◌, ◌&&◌, Bool, true, false, not, List, [], ◌∷◌, ◌++◌, length, Option, Some, None, refl, sym, ap, ◌∙◌, slice_get, is_some}, lemmas.Bool.false≢true}, specs.Option.option_map}
+use Rattle.std.proofs.Common.{arith}
 use Rattle.exec_base.specs.Slab.{value_at}
-use Rattle.exec_outcomes.specs.{Accounts.is_durable, declared.outcome.Judged.Judged, Outcomes.{HasCome, stop_of, present, moved_by}}
-use Rattle.exec_request.specs.{Kept.{kept_of, seen_by}, Requests.{asked_of, cursor_of, hinted_of, deadline_of}, States.asks_cancel, declared.{request.Request.Request as Asking, results.WaiterState.{WaiterState, TheVariants.{Active, CancelRequested}}}}
+use Rattle.exec_outcomes.specs.{declared.outcome.Judged.Judged, Outcomes.{HasCome}}
+use Rattle.exec_request.specs.{Kept.{kept_of, seen_by}, Requests.{asked_of, cursor_of, hinted_of, deadline_of}, States.asks_cancel, declared.{request.Request.Request as Asking, results.WaiterState.{WaiterState}}}
 use Rattle.exec_ring.specs.declared.completion.Submission.{Submission}
 use Rattle.exec_waiters.{specs.{States.{waiter_at, takes_tick, tick_in, needs_permit}, declared.{waiter.Waiter.Waiter, waiter_id.WaiterId.WaiterId}}, proofs.Changes.entry_of}
 use Rattle.exec_driver.specs.{Driving.{request_at, is_queued}, Lists.{first_of, is_among}, Opens.OpenState}
-use Rattle.exec_machine.specs.{declared.state.{Request.Request, RequestPhase.RequestPhase}, Requests.is_enrolled, Same.is_none, Tests.{is_gated, is_in_flight, is_kept, is_resolved}}
+use Rattle.exec_machine.specs.{declared.state.{Request.Request, RequestPhase.RequestPhase}, Requests.is_enrolled, Tests.{is_gated, is_in_flight, is_resolved}}
 use Rattle.exec_moves.specs.declared.place.Service.{Service}
 use Rattle.exec_parts.specs.{declared.parts.{mail.Reply.Reply, record.Record.Record, shared.Shared.Shared, worker.Worker.Worker}, Records.number_in, Serving.{AreKnown, AreTagged, cancels_in, is_cancel}, Submitting.staged_with, View.driver_of}
 use Rattle.exec_invariants.{specs.{Flown.IsPlain, Names.IsAlike, Submits.IsIdle}, proofs.{Going.GoesOn, Marking.mark_if, Staging.among_first}}
@@ -15,18 +16,11 @@ use Rattle.exec_invariants.{specs.{Flown.IsPlain, Names.IsAlike, Submits.IsIdle}
 
 -- it waits to be staged
 pub queued_phase : (p : RequestPhase) → is_in_flight p ≡ false → is_resolved p ≡ false → is_gated p ≡ false → p ≡ RequestPhase.Queued
-queued_phase RequestPhase.Queued a b c = refl
-queued_phase RequestPhase.Gated a b c = absurd (false≢true (sym c))
-queued_phase RequestPhase.Staged a b c = absurd (false≢true (sym a))
-queued_phase RequestPhase.Flying a b c = absurd (false≢true (sym a))
-queued_phase (RequestPhase.Landed n) a b c = absurd (false≢true (sym a))
-queued_phase (RequestPhase.Resolved outcome) a b c = absurd (false≢true (sym b))
+queued_phase = grind arith
 
 -- with a deadline, and without a tick that is set, it is yet to be enrolled
 pub takes_by : (s : WaiterState) → asks_cancel s ≡ false → tick_in s ≡ None → takes_tick s ≡ true
-takes_by (Active None) a t = refl
-takes_by (Active (Some tick)) a t = absurd (cc)
-takes_by CancelRequested a t = absurd (false≢true (sym a))
+takes_by = grind arith
 
 -- WHAT HAS COME OF IT STAYS
 
@@ -38,15 +32,7 @@ pub record SameCursor (q q' : Asking) : Type 0 where
   pub come : (results : List Judged) × HasCome (asked_of q') (cursor_of q') results
 
 pub came_on : (q q' : Asking) (results : List Judged) → kept_of q' ≡ kept_of q → HasCome (asked_of q) (cursor_of q) results → HasCome (asked_of q') (cursor_of q') results → SameCursor q q'
-came_on q q' results kept before after =
-    let same : asked_of q' ≡ asked_of q = ap (λ k. k.asked) kept in
-    record {
-      asked = same;
-      deadline = ap (λ k. k.deadline) kept;
-      moved = after.amount ∙ ap (λ a. moved_by (present a results)) same ∙ sym before.amount;
-      switched = after.part ∙ ap (λ a. is_some (stop_of a results)) same ∙ sym before.part;
-      come = (results, after);
-    }
+came_on = grind arith
 
 -- THE SUBMISSION QUEUE
 
@@ -68,37 +54,12 @@ starts_on opens r unresolved = record { same = refl; over = sym unresolved; ende
 
 pub starts_alike : (opens : List OpenState) (start tick : ℕ) (it : Waiter Reply Reply) (q : Asking) (r : Record) → IsAlike start tick it r.shown → SameCursor it.request q → (starts opens r).shown.operation.hinted ≡ hinted_of q
     → ((cursor_of q).hinted ≡ true → (cursor_of it.request).hinted ≡ true) → seen_by q ≡ seen_by it.request → asks_cancel it.state ≡ false → needs_permit it ≡ false → IsAlike start tick (record it { in_flight = true; request = q }) (starts opens r).shown
-starts_alike opens start tick it q r a same hint asks seen unasked free =
-    record {
-      asked = a.asked ∙ sym same.asked;
-      moved = a.moved ∙ sym same.moved;
-      switched = a.switched ∙ sym same.switched;
-      come = same.come;
-      hinted = λ flies. hint;
-      asks_hint = λ h. a.asks_hint (asks h);
-      seen = λ durable. a.seen durable ∙ sym seen;
-      deadline = a.deadline ∙ sym same.deadline;
-      cancelled = a.cancelled;
-      timer = a.timer;
-      observed = a.observed;
-      waiter = a.waiter;
-      flying = refl;
-      permit = sym (ap (λ x. is_durable x.kind && not it.permit) same.asked ∙ free);
-      open_still = refl;
-      near = a.near;
-      going = λ h. refl;
-      told_once = a.told_once;
-      dated = λ h. ap is_some same.deadline ∙ a.dated h;
-      alone = λ h. ap (λ x. is_kept x.kind) same.asked ∙ a.alone h;
-    }
+starts_alike = grind arith
 
 -- A STEP
 
 queued_parts : (a b c : Bool) → (not a && not b && not c) ≡ true → (a ≡ false) × (b ≡ false) × (c ≡ false)
-queued_parts true b c h = absurd (false≢true h)
-queued_parts false true c h = absurd (false≢true h)
-queued_parts false false true h = absurd (false≢true h)
-queued_parts false false false h = (refl, refl, refl)
+queued_parts = grind arith
 
 pub starts_if_worker : (opens : List OpenState) (b : Bool) (r : Record) → (mark_if (starts opens) b r).shown.worker ≡ r.shown.worker
 starts_if_worker opens true r = refl
@@ -132,12 +93,7 @@ pub record Starts {B : Type 0} (w : Worker) (s : Shared B) (id : WaiterId) : Typ
 
 module _ {B : Type 0} (v : Service) (w : Worker) (s : Shared B) (idle : IsIdle v w s) (id : WaiterId) (first : first_of (driver_of w).lists.queued ≡ Some id) where
   enrolled_by : (it : Waiter Reply Reply) (r : Request) (t d : Option ℕ) → r.timer ≡ t → r.operation.deadline ≡ d → (t ≡ None → d ≡ None) → is_enrolled r ≡ true
-  enrolled_by it r (Some m) d timer deadline h = rw timer (or_right (is_none r.operation.deadline))
-    where
-      or_right : (b : Bool) → (b || true) ≡ true
-      or_right true = refl
-      or_right false = refl
-  enrolled_by it r None d timer deadline h = rw (deadline ∙ h refl) refl
+  enrolled_by = grind arith
 
   tickless : (start tick : ℕ) (o : Option ℕ) → option_map (λ t. start + t * tick) o ≡ None → o ≡ None
   tickless start tick None h = refl

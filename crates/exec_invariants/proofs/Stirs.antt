@@ -1,53 +1,15 @@
 -- A task wakes an ordinary task, or itself: what holds then, and what the step is to the machine.
-use Rattle.std.proofs.{Common.{◌≡◌, ◌≢◌, inr, ℕ, zero, suc, ◌+◌, ◌&&◌, arith, Bool, true, false, Contains, List, [], length, map, Option, Some, None, refl, sym, ap, subst, ◌∙◌, option_to_list, slice_get, slice_index_or, slice_set, if◌then◌else◌}, lemmas.{Bool.{false≢true, eq-eqb}, List.map-set}}
+use Rattle.std.proofs.{Common.{◌≡◌, ◌≢◌, inr, ℕ, zero, suc, ◌+◌, ◌&&◌, arith, Bool, true, false, Contains, List, [], length, map, Option, Some, None, refl, sym, ap, subst, ◌∙◌, option_to_list, slice_get, slice_set, if◌then◌else◌}, lemmas.{Bool.{false≢true, eq-eqb}, List.map-set}}
 use Rattle.exec_task.specs.{Phases.{runnable_of, woken as cell_woken, is_idle as is_cell_idle}, declared.{body.{Said.Said}, runnable.Runnable.Runnable, task.Phase.Phase}}
-use Rattle.exec_machine.specs.{Choice.{Choice.Pays, Payer.ByAct}, declared.{config.ScriptWord.ScriptWord, event.Event.TheVariants.Wake, state.{Next.Next, TaskPhase.TaskPhase, Waiting.Waiting}}, Progress.Plan, Same.is_number, Tasks.{after_wake, after_waking_word, is_woken_here, woken}, Tests.is_idle, Words.{acts, asks_wake, asks_yield, next_word}, World.{Common, Task, no_task, task_of}}
-use Rattle.exec_moves.specs.{Callback.{is_of_pool, to_queue}, declared.{handing.{AfterPush.AfterPush, InGlobal.InGlobal, InPush.InPush}, place.{InPoll.InPoll, Place.Place}}, Move.move_wake, Seen.{next_at, polls_at, serves_at}, Send.wake_task, State.{Desk, Moved, Things, goes}}
-use Rattle.exec_parts.{specs.{Roles.is_pool, Tests.first_push_of, declared.parts.{shared.Shared.Shared, task_slot.TaskSlot.TaskSlot, worker.Worker.Worker}, Pooled.woken_slot, Spots.Spot, View.{Views, common_of, desk_of, own_of, owed_at, task_seen, things_with, visible, with_view}}, proofs.Facts.{by_number, or_left, same_thing, set_elsewhere, set_there}}
-use Rattle.exec_invariants.{specs.{Drained.IsBefore, Holding.holder_of, Places.{claims_at, clears_at, hands_on_at, has_count_at, in_poll_of, is_pooled_at, is_published_at, one_if, polled_in, removes_at, step_of_poll}, Sound.{HasGuest, IsGuest, IsInHand, IsResting, Serves, SoundAt, Stands, Stops, is_told}, Whole.{HasOne, is_number as is_counted, runnables_in}, Works.{Beside, Suits, Works}}, proofs.{Acting.{acts_so, by_word, me_at}, Cells.{complete_woken, idle_seen, polled_woken, woken_seen}, Onces.once_queued, Polling.{in_hand_never, in_hand_once, on_in_poll}, PoolKept.unremoved, Slots.{Balances, before_for, spares_slot, task_there, whole_slot}, SlotTasks.{IsAfter, Keeps, Tasked, homes_set, none_in, resting_set, sound_tasked}, Turning.view_found}}
+use Rattle.exec_machine.specs.{Choice.{Choice.Pays, Payer.ByAct}, declared.{config.ScriptWord.ScriptWord, event.Event.TheVariants.Wake, state.{TaskPhase.TaskPhase, Waiting.Waiting}}, Progress.Plan, Same.is_number, Tasks.{after_wake, after_waking_word, is_woken_here}, Tests.is_idle, Words.{acts, asks_wake, asks_yield, next_word}, World.{Common, Task, task_of}}
+use Rattle.exec_moves.specs.{Callback.{is_of_pool, to_queue}, declared.{handing.{AfterPush.AfterPush}, place.{InPoll.InPoll, Place.Place}}, Move.move_wake, Seen.{polls_at}, Send.wake_task, State.{Desk, Moved, Things, goes}}
+use Rattle.exec_parts.{specs.{Roles.is_pool, Tests.first_push_of, declared.parts.{shared.Shared.Shared, task_slot.TaskSlot.TaskSlot, worker.Worker.Worker}, Pooled.woken_slot, Spots.Spot, View.{Views, common_of, desk_of, own_of, task_seen, things_with, visible, with_view}}, proofs.Facts.{by_number, or_left, same_thing, set_elsewhere, set_there}}
+use Rattle.exec_invariants.{specs.{Drained.IsBefore, Holding.holder_of, Places.{claims_at, clears_at, hands_on_at, has_count_at, in_poll_of, is_pooled_at, is_published_at, one_if, polled_in, removes_at, step_of_poll}, Sound.{HasGuest, IsGuest, IsInHand, IsResting, Serves, SoundAt, Stands, Stops}, Whole.{HasOne, is_number as is_counted, runnables_in}, Works.{Beside, Suits, Works}}, proofs.{Acting.{acts_so, by_word, me_at}, Cells.{complete_woken, idle_seen, polled_woken, woken_seen}, PoolKept.unremoved, Slots.{Balances, before_for, spares_slot, task_there, whole_slot}, SlotTasks.{IsAfter, Keeps, Tasked, homes_set, resting_set, sound_tasked}, Turning.view_found}}
 
 -- what a hand has
 pub only : (x y : Runnable) → Contains (option_to_list (Some y)) x → x ≡ y
 only x y (zero, few, is) = sym is
 only x y (suc n, few, is) = absurd (omega (arith, few))
-
--- the way into a queue
-record IsWay (t : ℕ) (q : Place) : Type 0 where
-  pub after : IsAfter q
-  pub polls : polls_at q ≡ Some t
-  pub step : step_of_poll q ≡ InPoll.Act
-  pub removes : removes_at q ≡ None
-  pub unpooled : is_pooled_at q ≡ false
-  pub hands : hands_on_at q ≡ true
-  pub free : next_at q ≡ Next.Free
-  pub unserved : serves_at q ≡ false
-  pub owes : (n : ℕ) → owed_at n q ≡ []
-
-is_way : (t : ℕ) (pool : Bool) → IsWay t (if pool then Place.Push InPush.LoadPushHead (AfterPush.Act t) else Place.Global InGlobal.Append (AfterPush.Act t))
-is_way t true =
-    record {
-      after = record { open_still = refl; closing = refl; served = refl; unarmed = refl; calls = refl; begins = refl; queue = λ x h. h; searching = λ b h. h; aims = λ c i seats. tt; batch = λ ms h. absurd (false≢true h); spare = refl; cancels = refl; sends_cancel = refl; heard = refl; bare = refl; claims = refl; counts = refl; published = refl; clears = refl; passes = refl; joins = refl };
-      polls = refl;
-      step = refl;
-      removes = refl;
-      unpooled = refl;
-      hands = refl;
-      free = refl;
-      unserved = refl;
-      owes = λ n. refl;
-    }
-is_way t false =
-    record {
-      after = record { open_still = refl; closing = refl; served = refl; unarmed = refl; calls = refl; begins = refl; queue = λ x h. h; searching = λ b h. h; aims = λ c i seats. tt; batch = λ ms h. absurd (false≢true h); spare = refl; cancels = refl; sends_cancel = refl; heard = refl; bare = refl; claims = refl; counts = refl; published = refl; clears = refl; passes = refl; joins = refl };
-      polls = refl;
-      step = refl;
-      removes = refl;
-      unpooled = refl;
-      hands = refl;
-      free = refl;
-      unserved = refl;
-      owes = λ n. refl;
-    }
 
 module _ {B : Type 0} where
   -- where the worker goes on, by whether the task was idle, and what is in its hand
@@ -67,74 +29,21 @@ module _ {B : Type 0} where
         ≡ desk_of (record w { place = q; hand = h })
 
   pub unwoken : (g : Bool) (p : Phase B) (n : ℕ) → is_cell_idle p ≡ false → HasOne g p n → HasOne g (cell_woken p) n
-  unwoken g (Phase.Idle b) n busy h = absurd (false≢true (sym busy))
-  unwoken g (Phase.Queued b) n busy h = h
-  unwoken g Phase.Running n busy h = h
-  unwoken g Phase.Notified n busy h = h
-  unwoken g Phase.Complete n busy h = h
-
-  pub idle_once : (g : Bool) (p : Phase B) (n k : ℕ) → is_cell_idle p ≡ true → k ≡ 1 → HasOne g p (n + 0) → HasOne g (cell_woken p) (n + k)
-  idle_once g (Phase.Idle b) n k is one h = once_queued g (n + k) (omega (arith, one, h))
-  idle_once g (Phase.Queued b) n k is one h = absurd (false≢true is)
-  idle_once g Phase.Running n k is one h = absurd (false≢true is)
-  idle_once g Phase.Notified n k is one h = absurd (false≢true is)
-  idle_once g Phase.Complete n k is one h = absurd (false≢true is)
+  unwoken = grind arith
 
   -- an idle task is to be queued
   pub leads_idle : (t u : ℕ) (w : Worker) (slot : TaskSlot B) → slot.cell.number ≡ record { 0 = u } → is_cell_idle slot.cell.phase ≡ true → LeadsOn t u w slot (first_push_of (AfterPush.Act t) w) (Some (runnable_of slot.cell))
-  leads_idle t u w slot number idle =
-      let r : Runnable = runnable_of slot.cell in
-      let at : r.task.0 ≡ u = ap (λ n. n.0) number in
-      let q : Place = first_push_of (AfterPush.Act t) w in
-      let way : IsWay t q = is_way t (is_pool w.role) in
-      let d = desk_of (record w { place = Place.Poll t InPoll.Act }) in
-      record {
-        after = way.after;
-        polls = way.polls;
-        step = way.step;
-        removes = way.removes;
-        unpooled = way.unpooled;
-        hands = subst (λ b. IsInHand None b (Some r)) (sym way.hands) refl;
-        genuine = λ x has. only x r has;
-        mine = λ k other. in_hand_never k u r at other;
-        one = λ g n h. idle_once g slot.cell.phase n (runnables_in u (option_to_list (Some r))) idle (in_hand_once u r at) h;
-        own = rw (way.polls, way.free, way.unserved, way.owes) refl;
-        desk = λ c phase pool is.
-            ap (λ b. if b then record d { hand = Some u; place = to_queue c w.index (AfterPush.Act t) } else goes (Place.Poll t InPoll.Act) d) (is ∙ idle)
-            ∙ ap (λ b. record d { hand = Some u; place = (if b then Place.Push InPush.LoadPushHead (AfterPush.Act t) else Place.Global InGlobal.Append (AfterPush.Act t)) }) pool
-            ∙ ap (λ n. record d { hand = Some n; place = q }) (sym at);
-      }
+  leads_idle = grind arith
 
   -- any other remembers the wake
   pub leads_on : (t u : ℕ) (w : Worker) (slot : TaskSlot B) → w.hand ≡ None → is_cell_idle slot.cell.phase ≡ false → LeadsOn t u w slot (Place.Poll t InPoll.Act) None
-  leads_on t u w slot empty busy =
-      let d = desk_of (record w { place = Place.Poll t InPoll.Act }) in
-      record {
-        after = on_in_poll t InPoll.Act refl refl;
-        polls = refl;
-        step = refl;
-        removes = refl;
-        unpooled = refl;
-        hands = refl;
-        genuine = λ x has. absurd (none_in x has);
-        mine = λ k other. refl;
-        one = λ g n h. unwoken g slot.cell.phase (n + 0) busy h;
-        own = refl;
-        desk = λ c phase pool is.
-            ap (λ b. if b then record d { hand = Some u; place = to_queue c w.index (AfterPush.Act t) } else goes (Place.Poll t InPoll.Act) d) (is ∙ busy)
-            ∙ ap (λ o. desk_of (record w { place = Place.Poll t InPoll.Act; hand = o })) empty;
-      }
+  leads_on = grind arith
 
   pub keeps_woken : (slot : TaskSlot B) → Keeps slot (woken_slot slot)
   keeps_woken slot = record { home = refl; number = refl; owner = refl }
 
   pub rests_woken : (slot : TaskSlot B) → IsResting slot → IsResting (woken_slot slot)
-  rests_woken slot it =
-      record {
-        uncleared = λ h. it.uncleared (sym (complete_woken slot.cell.phase) ∙ h);
-        told = λ h. it.told (ap (is_told slot.waiting) (sym (complete_woken slot.cell.phase)) ∙ h);
-        untold = it.untold;
-      }
+  rests_woken = grind arith
 
   guest_woken : (x : InPoll) (i : ℕ) (slot : TaskSlot B) → IsGuest x i slot → IsGuest x i (woken_slot slot)
   guest_woken x i slot it =
@@ -238,17 +147,7 @@ module _ {B L : Type 0} (left : B → L) (spot : L → Option Said → Spot) whe
   wake_common : (t u : ℕ) (p : Plan) (vs : Views) (w : Worker) (s m s' : Shared B) (slot mid other : TaskSlot B) → ToldFirst t s m slot mid → slice_get m.tasks.items u ≡ Some other → s'.tasks.items ≡ slice_set m.tasks.items u (woken_slot other)
       → after_waking_word (common_of left spot p vs s) (task_seen left spot slot) ≡ task_seen left spot mid
       → after_wake (me_at t w) (common_of left spot p vs s) u (Pays ByAct) ≡ record (common_of left spot p vs s) { tasks = map (task_seen left spot) s'.tasks.items }
-  wake_common t u p vs w s m s' slot mid other first there items word =
-      let all = common_of left spot p vs s in
-      let seen = task_seen left spot in
-      let wake_in : List Task → Common = λ ts. record all { tasks = slice_set ts u (woken (slice_index_or ts u no_task)) } in
-      let it : task_of all t ≡ seen slot = task_there left spot s.tasks.items t slot first.there in
-      let listed : slice_set all.tasks t (seen mid) ≡ map seen m.tasks.items = sym (map-set seen s.tasks.items t mid) ∙ ap (map seen) (sym first.items) in
-      ap (λ y. wake_in (slice_set all.tasks t y)) (ap (after_waking_word all) it ∙ word)
-      ∙ ap wake_in listed
-      ∙ ap (λ y. record all { tasks = slice_set (map seen m.tasks.items) u (woken y) }) (task_there left spot m.tasks.items u other there)
-      ∙ ap (λ y. record all { tasks = slice_set (map seen m.tasks.items) u y }) (sym (woken_seen left spot other))
-      ∙ ap (λ ts. record all { tasks = ts }) (sym (map-set seen m.tasks.items u (woken_slot other)) ∙ ap (map seen) (sym items))
+  wake_common = grind (arith, task_there, map-set, woken_seen)
 
   -- what the worker's own step is, where it wakes this task
   pub record IsWake (t u : ℕ) (q : Place) (f h : Option Runnable) (w : Worker) (s : Shared B) (other : TaskSlot B) (p : Plan) (vs : Views) : Type 0 where

@@ -1,7 +1,7 @@
 -- The ring of a driver after a reaping, and after wakes were raised.
 use Rattle.std.{proofs.{Common.{◌≡◌, ℕ, zero, suc, ◌+◌, ◌≤◌, ◌==◌, ◌&&◌, ◌||◌, Bool, true, false, not, List, [], ◌∷◌, ◌++◌, map, filter, Option, Some, None, refl, sym, ap, ◌∙◌, arith, nat_lt, replicate, if◌then◌else◌}, lemmas.{Bool.{false≢true, Decides.nat_tests}, List.append_assoc}}, specs.List.flat_map}
-use Rattle.exec_ring.specs.{Completions.{is_wake, wake_completion}, Kernels.{has_none, is_quiet, reaped, with_wake}, Rings.{RingState, completions, spelled}, declared.completion.{Completion.Completion, Posted.Posted}}
-use Rattle.exec_driver.specs.{Driving.Driving, Steps.{is_control, swept, with_landings}}
+use Rattle.exec_ring.specs.{Completions.{wake_completion}, Kernels.{has_none, is_quiet, reaped, with_wake}, Rings.{RingState, completions, spelled}, declared.completion.{Completion.Completion, Posted.Posted}}
+use Rattle.exec_driver.specs.{Driving.Driving, Steps.{swept, with_landings}}
 use Rattle.exec_machine.specs.Tests.{is_empty}
 use Rattle.exec_moves.specs.State.{dropped, is_dropped, others_left, told_left}
 use Rattle.exec_parts.specs.{declared.parts.mail.Reply.Reply, Pooled.with_raises, View.{trailing, trails_wake, behind_end, wake_poll_in, raised_times}}
@@ -10,13 +10,7 @@ use Rattle.exec_invariants.{specs.{Flown.{polls_in, ends_in, IsPolled}, Places.o
 -- what is dropped with the end of the wake poll is all that stood of that
 balanced : (drop : Bool) (e : Option ℕ) (cs : List Completion) (k : ℕ) (b a : Bool) → behind_end cs ≡ e → (drop ≡ true → (n : ℕ) × (e ≡ Some n)) → k + (one_if b + ends_in cs) ≡ one_if a
     → k + (one_if b + (if drop then 0 else ends_in cs)) ≡ one_if (a && not drop)
-balanced true e cs k b true is some it =
-    let at = some refl in
-    let one = ended_some cs at.0 (is ∙ at.1) in
-    omega (arith, it, one)
-balanced true e cs k b false is some it = omega (arith, it)
-balanced false e cs k b true is some it = it
-balanced false e cs k b false is some it = it
+balanced = grind (arith, ended_some)
 
 some_end : (xs : List ℕ) (e : Option ℕ) → is_dropped xs e ≡ true → (n : ℕ) × (e ≡ Some n)
 some_end xs None h = absurd (false≢true h)
@@ -145,54 +139,15 @@ is_positive n = grind (arith, nat_tests)
 -- what completions there are, some are of operations, or stand behind the last of those
 some_there : (f : Completion → ℕ) (n : ℕ) (told : Bool) (cs : List Completion)
     → (not (is_empty (map f (filter is_op cs))) || (nat_lt 0 (trailing n cs) || trails_wake told cs)) ≡ (nat_lt 0 n || (told || not (is_empty cs)))
-some_there f n told [] = ap (λ b. nat_lt 0 n || b) (or_false told)
-  where
-    or_false : (b : Bool) → b ≡ (b || false)
-    or_false true = refl
-    or_false false = refl
-some_there f n told (c ∷ cs) =
-    by (is_control c) refl (is_wake c) refl
-    (some_there f n true cs ∙ (all (nat_lt 0 n) true (not (is_empty cs)) refl)) (some_there f (suc n) told cs ∙ ap (λ b. b || (told || not (is_empty cs))) (is_positive n))
-  where
-    all : (a b x : Bool) → b ≡ true → (a || (b || x)) ≡ true
-    all true b x h = refl
-    all false true x h = refl
-    all false false x h = absurd (false≢true h)
-
-    ends : (a b : Bool) → (a || (b || true)) ≡ true
-    ends true b = refl
-    ends false b = or_true b
-
-    by : (k : Bool) → is_control c ≡ k → (w : Bool) → is_wake c ≡ w
-        → (not (is_empty (map f (filter is_op cs))) || (nat_lt 0 (trailing n cs) || trails_wake true cs)) ≡ true
-        → (not (is_empty (map f (filter is_op cs))) || (nat_lt 0 (trailing (suc n) cs) || trails_wake told cs)) ≡ true
-        → (not (is_empty (map f (filter is_op (c ∷ cs)))) || (nat_lt 0 (trailing n (c ∷ cs)) || trails_wake told (c ∷ cs))) ≡ (nat_lt 0 n || (told || true))
-    by k is true wake here later = rw wake (here ∙ sym (ends (nat_lt 0 n) told))
-    by true is false wake here later = wakeless (acks_of is wake)
-      where
-        acks_of : is_control c ≡ true → is_wake c ≡ false → (c.user_data == 4294967295) ≡ true
-        acks_of control no_wake = rw no_wake at control
-
-        wakeless : (c.user_data == 4294967295) ≡ true → (not (is_empty (map f (filter is_op (c ∷ cs)))) || (nat_lt 0 (trailing n (c ∷ cs)) || trails_wake told (c ∷ cs))) ≡ (nat_lt 0 n || (told || true))
-        wakeless acks = rw (wake, acks) (later ∙ sym (ends (nat_lt 0 n) told))
-    by false is false wake here later = ap (λ xs. not (is_empty (map f xs)) || (nat_lt 0 (trailing n (c ∷ cs)) || trails_wake told (c ∷ cs))) first ∙ sym (ends (nat_lt 0 n) told)
-      where
-        first : filter is_op (c ∷ cs) ≡ c ∷ filter is_op cs
-        first = rw is refl
+some_there f n told [] = grind arith
+some_there f n told (c ∷ cs) = grind (arith, is_positive, false≢true, or_true, is_op, some_there f n true cs, some_there f (suc n) told cs)
 
 some_spelled : (n : ℕ) (w c : Completion) (rest : List Completion) → is_empty ((replicate n w ++ c ∷ []) ++ rest) ≡ false
 some_spelled zero w c rest = refl
 some_spelled (suc n) w c rest = refl
 
 none_spelled : (ps : List Posted) (n : ℕ) → is_empty (flat_map spelled ps ++ replicate n (wake_completion true)) ≡ (has_none ps && (n == 0))
-none_spelled [] zero = refl
-none_spelled [] (suc n) = sym (zero_false n)
-  where
-    zero_false : (n : ℕ) → (suc n == 0) ≡ false
-    zero_false n = grind (arith, nat_tests)
-none_spelled (p ∷ ps) n =
-    ap is_empty (append_assoc (spelled p) (flat_map spelled ps) (replicate n (wake_completion true)))
-    ∙ some_spelled p.wakes (wake_completion true) p.completion (flat_map spelled ps ++ replicate n (wake_completion true))
+none_spelled = grind (arith, nat_tests, append_assoc, some_spelled)
 
 -- a completion is there just where one of an operation is, or some stand behind the last of those
 pub some_in_ring : (f : Completion → ℕ) (r : RingState) → (not (is_empty (map f (filter is_op (completions r)))) || (nat_lt 0 (trailing 0 (completions r)) || trails_wake false (completions r))) ≡ not (is_quiet r)

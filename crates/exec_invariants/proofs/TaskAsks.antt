@@ -32,18 +32,7 @@ profile_led : (x y : InPoll) (b : AfterSend) (t j : ℕ) (w : Worker) → LeadsB
 profile_led x y b t j w by false old = old
 profile_led x y b t j w by true old =
     let same = by.kind j in
-    record {
-      hand = refl;
-      loot = refl;
-      polls = ap (λ k. k.polls) same ∙ old.polls;
-      claims = ap (λ k. k.claims) same ∙ old.claims;
-      searching = refl;
-      counts = ap (λ k. k.counts) same ∙ old.counts;
-      index = refl;
-      published = ap (λ k. k.published) same ∙ old.published;
-      drops = ap (λ k. k.drops) same ∙ old.drops;
-      told = record { batch = refl; letters = refl; left = refl };
-    }
+    grind arith
 
 -- the seat of worker j was set, which isn't the own one
 pub record Posts (i j : ℕ) (seats seats' : List Chair) (chair chair' : Chair) : Type 0 where

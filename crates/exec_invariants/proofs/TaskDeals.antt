@@ -1,10 +1,11 @@
 -- A POLL GOES ON, by a slot of the same cell: the task took, or waits for, or let go of something, and nobody else is concerned.
-use Rattle.std.proofs.{Common.{◌≡◌, ◌≢◌, ◌⊎◌, inl, inr, ℕ, Bool, true, false, List, map, Option, Some, None, IsSome, refl, sym, ap, subst, ◌∙◌, slice_get, slice_set}, lemmas.Bool.false≢true}
-use Rattle.exec_task.specs.{Phases.is_polled, declared.{body.Said.Said, task.{Phase.Phase, Task.Task as TaskCell}}}
-use Rattle.exec_machine.specs.{declared.{event.Event.Event, state.Waiting.Waiting}, Progress.Plan}
-use Rattle.exec_moves.specs.{declared.place.{InPoll.InPoll, Place.Place}, Seen.{polls_at, polls_in}}
-use Rattle.exec_parts.{specs.{declared.parts.{record.Record.Record, shared.Shared.Shared, sleeping.SleeperRecord.SleeperRecord, task_slot.TaskSlot.TaskSlot, worker.Worker.Worker}, Phased.is_complete, Spots.Spot, View.Views}, proofs.Facts.{by_number, same_thing, set_there}}
-use Rattle.exec_invariants.{specs.{Hearing.Hears, Places.{begins_at, claims_at, has_count_at, is_published_at, hands_on_at, is_pooled_at, polled_in, drops_at}, Sound.{HasGuest, IsGuest, IsInHand, IsRunnable, SoundAt, Stands, Stops, StopsIn, WaitsAt, acts_next, is_told, one_of, root_in_hand}, Whole.{Profile, with_worker}, Works.{Beside, Steps, Suits, Works}}, proofs.{Aside.{SameProfile, queue_of_chair, seats_same}, Hearing.hears_so, Here.{IsHere, unflagged_there}, HoldBeside.{Deals, Handles, Holds, beside_dealt}, HoldThings.{Touches, sound_touched}, Polling.{home_mine, in_own_poll, on_in_poll}, PoolKept.gates_same, SlotTasks.{IsAfter, Sits, Tasked, guest_tasked, none_in, root_tasked, sound_tasked}}}
+use Rattle.std.proofs.{Common.{◌≡◌, ◌≢◌, ◌⊎◌, inl, inr, ℕ, true, false, List, Option, Some, None, IsSome, refl, sym, ap, subst, ◌∙◌, slice_get, slice_set}, lemmas.Bool.false≢true}
+use Rattle.std.proofs.Common.{arith}
+use Rattle.exec_task.specs.{Phases.is_polled, declared.{body.Said.Said, task.{Task.Task as TaskCell}}}
+use Rattle.exec_machine.specs.{declared.{event.Event.Event}, Progress.Plan}
+use Rattle.exec_moves.specs.{declared.place.{InPoll.InPoll, Place.Place}, Seen.{polls_in}}
+use Rattle.exec_parts.{specs.{declared.parts.{record.Record.Record, shared.Shared.Shared, sleeping.SleeperRecord.SleeperRecord, task_slot.TaskSlot.TaskSlot, worker.Worker.Worker}, Spots.Spot, View.Views}, proofs.Facts.{by_number, same_thing, set_there}}
+use Rattle.exec_invariants.{specs.{Hearing.Hears, Places.{begins_at, hands_on_at, is_pooled_at, polled_in, drops_at}, Sound.{HasGuest, IsGuest, IsInHand, IsRunnable, SoundAt, Stops, StopsIn, WaitsAt, acts_next, is_told, one_of, root_in_hand}, Whole.{Profile, with_worker}, Works.{Beside, Steps, Suits, Works}}, proofs.{Aside.{SameProfile, seats_same}, Hearing.hears_so, Here.{IsHere, unflagged_there}, HoldBeside.{Deals, Handles, Holds, beside_dealt}, HoldThings.{Touches, sound_touched}, Polling.{home_mine, in_own_poll, on_in_poll}, SlotTasks.{IsAfter, Sits, Tasked, guest_tasked, none_in, root_tasked, sound_tasked}}}
 
 -- where it goes on: it acts next, or its poll ends
 pub record GoesOn (t : ℕ) (y : InPoll) : Type 0 where
@@ -33,28 +34,8 @@ from_act t = record { polls = refl; begins = refl; hands = refl; drops = refl }
 pub from_look : (t : ℕ) → ComesFrom t InPoll.Resume
 from_look t = record { polls = refl; begins = refl; hands = refl; drops = refl }
 
-told_here : (u : Waiting) (over : Bool) → is_told u over ≡ true → is_told u false ≡ true
-told_here Waiting.Nothing over h = refl
-told_here Waiting.Yielded over h = refl
-told_here (Waiting.Request k) over h = absurd (false≢true h)
-told_here (Waiting.Timer k) over h = absurd (false≢true h)
-told_here Waiting.Wake over h = absurd (false≢true h)
-told_here Waiting.Woken over h = absurd (false≢true h)
-
 pub profile_here : (x y : InPoll) (t : ℕ) (w : Worker) → ComesFrom t x → GoesOn t y → w.place ≡ Place.Poll t x → SameProfile w (record w { place = Place.Poll t y })
-profile_here x y t w from on here =
-    record {
-      hand = refl;
-      loot = refl;
-      polls = on.polls ∙ sym from.polls ∙ sym (ap polls_at here);
-      claims = on.after.claims ∙ sym (ap claims_at here);
-      searching = refl;
-      counts = on.after.counts ∙ sym (ap has_count_at here);
-      index = refl;
-      published = on.after.published ∙ sym (ap is_published_at here);
-      drops = on.drops ∙ sym from.drops ∙ sym (ap drops_at here);
-      told = record { batch = refl; letters = refl; left = refl };
-    }
+profile_here = grind arith
 
 module _ {B : Type 0} where
   -- the slot then, where the worker goes on at y
@@ -68,9 +49,6 @@ module _ {B : Type 0} where
     pub untold : acts_next slot'.waiting ≡ false → slot'.told ≡ None
     pub waits : WaitsAt (Some y) slot'.waiting
     pub stops : StopsIn y i slot'.waiting rs ss
-
-  not_queued : (p : Phase B) → is_polled p ≡ true → (b : B) → p ≡ Phase.Queued b → ⊥
-  not_queued p polled b is = absurd (false≢true (sym (ap is_polled is) ∙ polled))
 
   pub dealt_tasked : (x y : InPoll) (t : ℕ) (w : Worker) (s : Shared B) (slot' : TaskSlot B) → (sound : SoundAt (Place.Poll t x) w s) → (it : IsHere x t w s) → Dealt y w.index it.slot slot' s.requests.items s.sleepers.items → GoesOn t y
       → Tasked (Place.Poll t y) w w.root_ready None s (slice_set s.tasks.items t slot')
@@ -93,26 +71,7 @@ module _ {B : Type 0} where
           let old = (it.root same).0 in
           let same_root : slot ≡ sound.runnable.root = same_thing slot sound.runnable.root (sym there ∙ sound.runnable.there) in
           let unflagged : w.root_ready ≡ None = unflagged_there w.root_ready (root_in_hand (begins_at (Place.Poll t x)) w.root w.hand) slot it.polled (subst (λ (o : TaskSlot B). IsRunnable (one_of w.root_ready (root_in_hand (begins_at (Place.Poll t x)) w.root w.hand)) o) (sym same_root) sound.runnable.once) in
-          let sits : Sits q w w.root_ready s slot slot' = record {
-            there = there;
-            keeps = record { home = to.home; number = number; owner = ap (λ (c : TaskCell B). c.owner) to.cell };
-            stands = subst (λ z. Stands z w.index slot') (sym own) (record {
-              polled = polled;
-              body = λ some. to.body;
-              poller = λ some. to.poller ∙ old.poller refl;
-              kept = ap (λ (c : TaskCell B). c.cancelled) to.cell ∙ old.kept;
-              uncleared = to.cleared ∙ old.uncleared;
-              told = λ h. to.told (told_here slot'.waiting (is_complete slot'.cell.phase) h);
-              untold = to.untold;
-              waits = to.waits;
-            });
-            once = subst (λ o. IsRunnable o slot') (sym unflagged) (not_queued slot'.cell.phase polled);
-            hand = on.hands;
-            polls = λ n is. same_thing n t (sym is ∙ on.polls) ∙ same;
-            unpooled = on.pooled;
-            complete = ap (λ (c : TaskCell B). is_complete c.phase) to.cell;
-            stops = to.stops;
-          } in
+          let sits : Sits q w w.root_ready s slot slot' = grind arith in
           subst (λ n. Tasked q w w.root_ready None s (slice_set s.tasks.items n slot')) (sym same) (root_tasked t x q w w.root_ready s slot slot' sound sits)
 
       other : t ≢ w.root → Tasked q w w.root_ready None s (slice_set s.tasks.items t slot')
@@ -170,14 +129,7 @@ module _ {B : Type 0} where
       let w1 : Worker = record w { place = Place.Poll t y } in
       let seats : s'.seats ≡ s.seats = ap (λ (z : Shared B). z.seats) kept in
       let handles : Handles t s s' it.slot slot' = record { there = it.there; items = items; cell = to.cell; home = to.home; cleared = to.cleared; poller = to.poller } in
-      let deals : Deals t w w1 s s' it.slot slot' = record {
-        kept = kept ∙ ap (λ z. record s { tasks = s'.tasks; requests = s'.requests; sleepers = s'.sleepers; seats = z }) (sym seats);
-        handles = handles;
-        profile = profile_here x y t w from on sound.here;
-        lines = touches.lines;
-        gates = gates_same s.seats.items s'.seats.items (ap (λ z. z.items) seats);
-        queues = ap (λ z. map queue_of_chair z.items) seats;
-      } in
+      let deals : Deals t w w1 s s' it.slot slot' = grind arith in
       let mine : (j : ℕ) → it.slot.home ≡ Some j → j ≡ w.index = home_mine w.index it.slot.home (here_or_none x t w s it) in (
         sound_dealt x y t w s s' slot' from on sound it kept items touches to,
         beside_dealt t w w1 s s' it.slot slot' deals it.poller mine sound.homes touches (seats_same w.index s.seats.items s'.seats.items (ap (λ z. z.items) seats)) holds,

@@ -1,16 +1,16 @@
 -- A POLLED TASK TAKES THE OUTPUT of a request of its worker's: by a look at what it waits for, or by an act.
-use Rattle.std.proofs.{Common.{◌≡◌, ◌⊎◌, inl, inr, ⊎_elim, ℕ, ◌+◌, ◌-◌, ◌≤◌, ◌==◌, ◌&&◌, ◌||◌, true, false, not, List, [], length, map, take, Option, Some, None, IsSome, option_map, refl, sym, ap, subst, ◌∙◌, arith, slice_get, slice_set}, lemmas.{Bool.{false≢true, eq-eqb}, List.{length-set, map-set}, Option.slice_get-map}}
-use Rattle.exec_base.specs.Slab.{freed, live_count, removed, value_at}
+use Rattle.std.proofs.{Common.{◌≡◌, ◌⊎◌, inl, inr, ⊎_elim, ℕ, ◌+◌, ◌-◌, ◌≤◌, ◌==◌, ◌||◌, true, false, List, [], length, map, take, Option, Some, None, IsSome, option_map, refl, sym, ap, subst, ◌∙◌, arith, slice_get, slice_set}, lemmas.{Bool.{false≢true, eq-eqb}, List.{length-set, map-set}, Option.slice_get-map}}
+use Rattle.exec_base.specs.Slab.{freed, removed, value_at}
 use Rattle.exec_outcomes.specs.declared.outcome.Outcome.{Outcome}
 use Rattle.exec_request.specs.declared.output.RequestOutput.{RequestOutput}
-use Rattle.exec_ring.specs.Rings.{RingState, completions}
-use Rattle.exec_waiters.specs.{Events.{taken, taken_from}, States.{awaits_tick, flying_count, tick_of, waiter_at, waiter_of}, declared.waiter.Entry.{Entry, TheVariants.{Pending, Ready}}}
+use Rattle.exec_ring.specs.Rings.{completions}
+use Rattle.exec_waiters.specs.{Events.{taken, taken_from}, States.{awaits_tick, tick_of, waiter_at, waiter_of}, declared.waiter.Entry.{Entry, TheVariants.{Pending, Ready}}}
 use Rattle.exec_driver.specs.{Driving.Driving, Punctual.IsPunctual}
 use Rattle.exec_task.specs.declared.body.Said.{Said}
-use Rattle.exec_machine.specs.{After.{common_after, own_after}, declared.{event.Event.TheVariants.Got, state.{Forwarding.{Forwarding, TheVariants.Unsent}, RequestPhase.TheVariants.Resolved, Waiting.Waiting}}, Choice.Choice.Plain, Progress.Plan, Same.is_number, Tasks.{after_taking, is_here, polls_waiting, without_newest}, Tests.{is_applied, is_resolved, is_resolved_with, is_unsent, waits_for_request}, Words.{acts, asks_await, newest_held, polled_task}, World.{Common, Own, Task, request_of, task_of}}
+use Rattle.exec_machine.specs.{After.{common_after, own_after}, declared.{event.Event.TheVariants.Got, state.{Forwarding.{Forwarding}, RequestPhase.TheVariants.Resolved, Waiting.Waiting}}, Choice.Choice.Plain, Progress.Plan, Same.is_number, Tasks.{after_taking, is_here, polls_waiting, without_newest}, Tests.{is_applied, is_resolved, is_resolved_with, is_unsent, waits_for_request}, Words.{acts, asks_await, newest_held, polled_task}, World.{Common, Task, request_of, task_of}}
 use Rattle.exec_moves.specs.{declared.place.{InPoll.InPoll, Place.Place}, Move.move_at, Poll.acts_on, Slots.vacated, State.Desk, Told.without_request}
-use Rattle.exec_parts.specs.{declared.parts.{mail.Reply.Reply, record.Record.Record, shared.Shared.Shared, task_slot.TaskSlot.TaskSlot, worker.Worker.Worker}, Awaits.newest_of, Phased.is_complete, Polls.unobserved, Records.number_in, Scripts.IsAnswered, Serving.{changed_at, changed_in}, Spots.Spot, View.{Views, Visible, common_of, desk_of, driver_of, landed_in, message_of, numbers_of, numbers_of_passing, own_of, slots_seen, awaited_from, awaits_entry, task_seen, things_with, trailing, visible, wake_poll_in, with_view}}
-use Rattle.exec_invariants.{specs.{Holding.{Holder, IsHolding, awaited_in, box_of, holder_of, nap_of, thing_of}, Due.IsDue, Flown.HasFlown, HoldPlaces.{has_wakes_at, is_bare_at}, Places.one_if as one_when, Sound.{SoundAt, acts_next, served_in}, Names.tellers, Whole.{Profile, hands_of, with_worker}, Works.{Beside, Suits, Works}}, proofs.{Here.{IsHere, going_on}, HoldBeside.Holds, HoldSteps.{IsNewest, thing_taken}, Keys.{name_in, names_changed, same_gates, same_opens}, LetRooted.{Rewaits, keeps_watched}, LetSlots.{slot_here, slot_here_is}, LetSlab.{one_held_less, other_entry, past_back, same_flying, same_pending, same_waiters, still_there}, Lined.{passing_same, opens_same}, Orders.{alike_self, past_removed}, Resolving.places_fewer, Seen.request_at, ServingHolds.KeepsBy, Serving.spares_one, Slots.task_there, Slotted.{awaited_removed, slots_vacated}, SparedRecord.there_within, TaskDeals.{ComesFrom, Dealt, acts as to_act}, TaskHears.{newest_split, resolved_self, thing_there}, TaskHomes.{Homes, IsFree, beside_goes, sound_goes}, TaskLooks.unsent_is, TaskTakes.{holder_there, holders_one, no_wakes}, Turning.{set_found, view_found}, Watching.{Rewatched, Watched}}}
+use Rattle.exec_parts.specs.{declared.parts.{mail.Reply.Reply, record.Record.Record, shared.Shared.Shared, task_slot.TaskSlot.TaskSlot, worker.Worker.Worker}, Awaits.newest_of, Phased.is_complete, Polls.unobserved, Records.number_in, Scripts.IsAnswered, Serving.{changed_at, changed_in}, Spots.Spot, View.{Views, common_of, desk_of, driver_of, numbers_of_passing, own_of, slots_seen, awaited_from, awaits_entry, task_seen, things_with, trailing, visible, with_view}}
+use Rattle.exec_invariants.{specs.{Holding.{Holder, IsHolding, awaited_in, box_of, holder_of, nap_of, thing_of}, HoldPlaces.{has_wakes_at}, Sound.{SoundAt, served_in}, Names.tellers, Whole.{Profile, hands_of, with_worker}, Works.{Beside, Suits, Works}}, proofs.{Here.{IsHere, going_on}, HoldBeside.Holds, HoldSteps.{IsNewest, thing_taken}, Keys.{name_in, names_changed, same_gates, same_opens}, LetRooted.{Rewaits, keeps_watched}, LetSlots.{slot_here, slot_here_is}, LetSlab.{one_held_less, other_entry, past_back, same_flying, same_pending, same_waiters, still_there}, Lined.{passing_same, opens_same}, Orders.{alike_self, past_removed}, Resolving.places_fewer, Seen.request_at, ServingHolds.KeepsBy, Serving.spares_one, Slots.task_there, Slotted.{awaited_removed, slots_vacated}, SparedRecord.there_within, TaskDeals.{ComesFrom, Dealt, acts as to_act}, TaskHears.{newest_split, resolved_self, thing_there}, TaskHomes.{Homes, IsFree, beside_goes, sound_goes}, TaskLooks.unsent_is, TaskTakes.{holder_there, holders_one, no_wakes}, Turning.{set_found, view_found}, Watching.{Rewatched, Watched}}}
 
 -- its output is there
 pub record IsThere (k : ℕ) (r : Record) (w : Worker) : Type 0 where
@@ -19,9 +19,7 @@ pub record IsThere (k : ℕ) (r : Record) (w : Worker) : Type 0 where
   pub number : number_in w.names.requests.items r.id.0 ≡ k
 
 unsent_unapplied : (f : Forwarding) → is_unsent f ≡ true → is_applied f ≡ false
-unsent_unapplied Unsent h = refl
-unsent_unapplied Forwarding.Sent h = absurd (false≢true h)
-unsent_unapplied Forwarding.Applied h = absurd (false≢true h)
+unsent_unapplied = grind arith
 
 abbrev desk_with : Worker → ℕ → Driving Reply Reply → Desk
 desk_with w t y =
@@ -34,26 +32,12 @@ desk_with w t y =
       others = trailing 0 (completions y.ring);
     }
 
-abbrev own_then : Worker → ℕ → Driving Reply Reply → Own
-own_then w t y =
-    record (own_of (record w { place = Place.Poll t InPoll.Act })) {
-      ready = numbers_of w.names.requests.items y.lists.queued;
-      unenrolled = numbers_of w.names.requests.items y.lists.enrolments;
-      cancels = numbers_of w.names.requests.items y.lists.cancels;
-      in_flight = flying_count y.requests;
-    }
-
 pub got_own : (t k : ℕ) (w w' : Worker) (r : Record) → (there : IsThere k r w) → w' ≡ record w { place = Place.Poll t InPoll.Act; home = record w.home { driver = w'.home.driver } } → driver_of w' ≡ record (driver_of w) { requests = taken (driver_of w).requests r.id.0 }
     → own_of w' ≡ own_of (record w { place = Place.Poll t InPoll.Act })
-got_own t k w w' r there worker driver =
-    let d = driver_of w in
-    let drv : driver_of w' ≡ record d { requests = removed d.requests r.id.0 } = driver ∙ ap (λ (o : Option (Entry Reply Reply)). record d { requests = taken_from d.requests r.id.0 o }) there.value in
-    ap own_of worker ∙ ap (own_then w t) drv ∙ ap (λ m. record (own_of (record w { place = Place.Poll t InPoll.Act })) { in_flight = m }) (same_flying d.requests r.id.0 there.told there.value)
+got_own = grind (arith, same_flying)
 
 pub ring_seen : (w w' : Worker) (p : Place) → w' ≡ record w { place = p; home = record w.home { driver = w'.home.driver } } → (driver_of w').ring ≡ (driver_of w).ring → visible w' ≡ visible w
-ring_seen w w' p worker ring =
-    let made : RingState → Visible = λ x. record { busy = x.busy; landed = landed_in w.names.requests.items x; wakes = wake_poll_in x; taken = map message_of w.batch.values } in
-    ap visible worker ∙ ap made ring
+ring_seen = grind arith
 
 module _ {B : Type 0} where
   -- the task then: its body may have acted, and is told the output
@@ -116,20 +100,7 @@ module _ {B : Type 0} where
       let none_waits : waiter_at (removed s0 id) id ≡ None = same_waiters s0 id told ready id ∙ ap waiter_of ready in
       let none : (out : RequestOutput) → value_at (removed s0 id) id ≡ Some (Ready out) → ⊥ = λ out e. (other_entry s0 id told ready id (rw e refl)).0 refl in
       let rs1 = changed_at rs kk unobserved in
-      let keeps : KeepsBy w d zs rs ss s = record {
-        told = sound.told;
-        wide = sound.wide;
-        named = sound.named;
-        sized = sound.sized;
-        over = sound.over;
-        quiet = subst (λ p. has_wakes_at p ≡ false → left.notes.wakes.items ≡ []) (sym sound.here) sound.quiet;
-        due = subst (λ p. IsDue (served_in p) w.home.closing w.index w.moments s.config w.names d zs rs ss) (sym sound.here) sound.due;
-        flown = subst (λ p. HasFlown (served_in p) w.index w.names d rs) (sym sound.here) sound.flown;
-        carried = sound.carried;
-        known = sound.known;
-        rooted = sound.rooted;
-        bare = subst (λ p. is_bare_at p ≡ true → live_count zs ≡ 0) (sym sound.here) (λ h. absurd (false≢true h));
-      } in
+      let keeps : KeepsBy w d zs rs ss s = grind arith in
       let watched : Watched w.names d d' rs rs1 id r unobserved = record {
         there = at_number;
         name = refl;
@@ -156,20 +127,7 @@ module _ {B : Type 0} where
         slots = length-set s0.slots id.index (freed id.generation);
         cancels = λ y among. inl among;
       } in
-      let to : Rewaits w.index w.names d d' zs left left rs rs1 ss id r unobserved watched keeps.named = record {
-        none = none;
-        unkept = λ over. refl;
-        near = λ y reply at forwarded. let no : None ≡ Some y = sym none_waits ∙ at in absurd (cc);
-        seen = λ h. absurd (false≢true h);
-        still = refl;
-        waiter = λ u h. h;
-        results = λ a among. inl among;
-        others = λ j apart. refl;
-        sent = λ of_i.
-            keeps.rooted.sent kk r at_number of_i
-            ∙ ap (λ b. one_when (b && (is_resolved r.shown.phase || not r.shown.observed))) unapplied ∙ sym (ap (λ b. one_when (b && (is_resolved r.shown.phase || true))) unapplied);
-        completions = refl;
-      } in
+      let to : Rewaits w.index w.names d d' zs left left rs rs1 ss id r unobserved watched keeps.named = grind arith in
       let pending = same_pending s0 id told ready in
       let held = one_held_less s0 id told ready in
       let less : tellers d'.requests zs + 64 ≤ tellers d.requests zs + 64 = omega (arith, pending, held) in
@@ -225,21 +183,7 @@ module _ {B : Type 0} where
       subst (Holds (with_worker others w)) (sym by.kept) there
 
   pub gets_deals : (x : InPoll) (t k : ℕ) (w w' : Worker) (s s' : Shared B) (slot slot' : TaskSlot B) (r : Record) (output : RequestOutput) (outcome : Outcome) → TakesOwn x t k w w' s s' slot slot' r output outcome → Dealt InPoll.Act w.index slot slot' s'.requests.items s'.sleepers.items
-  gets_deals x t k w w' s s' slot slot' r output outcome by =
-      let took = by.gets.took in
-      let told : slot'.told ≡ Some (Said.Output output) = ap (λ (y : TaskSlot B). y.told) took in
-      let waits : slot'.waiting ≡ Waiting.Nothing = ap (λ (y : TaskSlot B). y.waiting) took in
-      record {
-        cell = ap (λ (y : TaskSlot B). y.cell) took;
-        home = ap (λ (y : TaskSlot B). y.home) took;
-        cleared = ap (λ (y : TaskSlot B). y.cleared) took;
-        poller = ap (λ (y : TaskSlot B). y.poller) took;
-        body = by.gets.body;
-        told = λ h. subst (λ o. IsSome o) (sym told) refl;
-        untold = λ h. absurd (false≢true (sym h ∙ ap acts_next waits));
-        waits = waits;
-        stops = tt;
-      }
+  gets_deals = grind arith
 
   -- WHAT IT LEAVES
   pub record GotLeaves (t : ℕ) (w w' : Worker) (s s' : Shared B) : Type 0 where

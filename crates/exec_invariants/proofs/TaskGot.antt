@@ -1,25 +1,19 @@
 -- A POLLED TASK LOOKS at a request of its worker's that it waits for, which is over: it takes the output.
-use Rattle.std.proofs.{Common.{◌≡◌, inr, ℕ, arith, ◌-◌, ◌<◌, ◌==◌, ◌||◌, Bool, true, length, take, Option, Some, None, IsSome, refl, sym, ap, subst, ◌∙◌, slice_get, slice_set, if◌then◌else◌}, lemmas.{Bool.{false≢true, eq-eqb}, Option.slice_get_within}}
+use Rattle.std.proofs.{Common.{◌≡◌, ℕ, arith, ◌-◌, ◌<◌, ◌==◌, ◌||◌, Bool, true, length, take, Option, Some, None, refl, sym, ap, subst, ◌∙◌, slice_get}, lemmas.{Bool.{eq-eqb}, Option.slice_get_within}}
 use Rattle.exec_outcomes.specs.declared.outcome.Outcome.{Outcome}
 use Rattle.exec_request.specs.declared.output.RequestOutput.{RequestOutput}
 use Rattle.exec_task.specs.declared.body.Said.{Said}
-use Rattle.exec_waiters.specs.Events.{taken}
-use Rattle.exec_machine.specs.{declared.{event.Event.{Event, TheVariants.Got}, state.{MailMessage.TheVariants.ForwardRequest, Request.Request, RequestPhase.{RequestPhase, TheVariants.Resolved}, Waiting.Waiting}}, Progress.Plan, Tasks.without_newest, Tests.{is_resolved, is_unsent, waits_for_nothing, waits_for_request}, Words.{acts, asks_await, moved_on}, World.{Common, Task, request_of, task_of}}
+use Rattle.exec_machine.specs.{declared.{event.Event.{Event, TheVariants.Got}, state.{MailMessage.TheVariants.ForwardRequest, Request.Request, RequestPhase.{RequestPhase, TheVariants.Resolved}, Waiting.Waiting}}, Progress.Plan, Tests.{is_resolved, is_unsent, waits_for_request}, Words.{acts, asks_await}, World.{Common, Task, request_of, task_of}}
 use Rattle.exec_moves.specs.{declared.{handing.AfterSend.AfterSend, place.{InPoll.InPoll, Place.Place}}, Move.move_look_at, Poll.{Sight.{Asks, HearsRequest}, acts_on, resume, sight_by, sight_of}, State.{Desk, Moved, Things, does}, Thing.aside, Told.without_request}
-use Rattle.exec_parts.{specs.{declared.parts.{record.Record.Record, shared.Shared.Shared, task_slot.TaskSlot.TaskSlot, worker.Worker.Worker}, Awaits.newest_of, Phased.is_complete, Polls.{IsReady, TookOutput, unobserved}, Records.numbers_held, Scripts.IsAnswered, Spots.Spot, View.{Views, body_in, common_of, desk_of, driver_of, own_of, task_seen, things_with}}, proofs.Facts.same_thing}
-use Rattle.exec_invariants.{specs.{Hearing.{CanHear, Hears, held_once_come}, Sound.{SoundAt, acts_next}, Whole.HasWhole, Works.Steps}, proofs.{Hearing.hears_so, Here.IsHere, Seen.request_at, Slots.task_there, TaskDeals.from_look, TaskGets.{SeesGot, TakesOwn, got_works, gets_leaves, past_newest, there_is}, TaskHears.numbers_without, TaskLooks.newest_awaited, TaskTakes.spot_answered, TaskWants.newest_is}}
+use Rattle.exec_parts.{specs.{declared.parts.{record.Record.Record, shared.Shared.Shared, task_slot.TaskSlot.TaskSlot, worker.Worker.Worker}, Awaits.newest_of, Polls.{IsReady, TookOutput}, Records.numbers_held, Scripts.IsAnswered, Spots.Spot, View.{Views, common_of, desk_of, driver_of, own_of, task_seen, things_with}}, proofs.Facts.same_thing}
+use Rattle.exec_invariants.{specs.{Hearing.{Hears}, Sound.{SoundAt, acts_next}, Whole.HasWhole, Works.Steps}, proofs.{Hearing.hears_so, Here.IsHere, Seen.request_at, Slots.task_there, TaskDeals.from_look, TaskGets.{SeesGot, TakesOwn, got_works, gets_leaves, past_newest, there_is}, TaskHears.numbers_without, TaskLooks.newest_awaited, TaskTakes.spot_answered, TaskWants.newest_is}}
 
 -- a look at a request that is over
 looks_at : (i t k : ℕ) (s : Common) (d : Desk) (it : Task) (r : Request) (outcome : Outcome) → it.waiting ≡ Waiting.Request k → request_of s k ≡ r → r.phase ≡ Resolved outcome → resume i t s d it ≡ does (Got k outcome) (acts_on t (without_request k d)) it
 looks_at i t k s d it r outcome waits found is = rw (waits, found, is) refl
 
 resolved_is : (p : RequestPhase) → is_resolved p ≡ true → (outcome : Outcome) × (p ≡ Resolved outcome)
-resolved_is (Resolved outcome) is = (outcome, refl)
-resolved_is RequestPhase.Gated is = absurd (false≢true is)
-resolved_is RequestPhase.Queued is = absurd (false≢true is)
-resolved_is RequestPhase.Staged is = absurd (false≢true is)
-resolved_is RequestPhase.Flying is = absurd (false≢true is)
-resolved_is (RequestPhase.Landed n) is = absurd (false≢true is)
+resolved_is = grind arith
 
 module _ {B : Type 0} where
   -- it can be taken
@@ -34,33 +28,15 @@ module _ {B : Type 0} where
       let there = there_is (Place.Poll t x) k w s r sound at_k mine held.observed unsent over in
       let is = resolved_is r.shown.phase over in
       let within : length (numbers_held at.slot.held.items) - 1 < length (numbers_held at.slot.held.items) = slice_get_within (numbers_held at.slot.held.items) (length (numbers_held at.slot.held.items) - 1) k newest in
-      record {
-        holds = λ o found. subst (λ (y : TaskSlot B). 0 < length (numbers_held y.held.items)) (same_thing at.slot o (sym at.there ∙ found)) (omega (arith, within));
-        ready = λ o found. subst (λ y. IsReady y (driver_of w)) (same_thing r o (sym at_k ∙ found)) (record { outcome = is.0; is = is.1; output = there.told; kept = there.value });
-      }
+      grind arith
 
   pub hears_got : (k : ℕ) (slot slot' : TaskSlot B) (output : RequestOutput) → slot' ≡ record slot { held = slot'.held; waiting = Waiting.Nothing; told = Some (Said.Output output) } → slot'.held.items ≡ take (length slot.held.items - 1) slot.held.items → slot.told ≡ None → slot.waiting ≡ Waiting.Request k → Hears slot slot'
-  hears_got k slot slot' output took held untold waits =
-      record {
-        home = ap (λ (y : TaskSlot B). y.home) took;
-        body = ap (λ (y : TaskSlot B). body_in y.cell.phase y.body) took;
-        told = λ answer hears.
-            let is : answer ≡ Said.Output output = subst (λ (y : TaskSlot B). CanHear y.told y.waiting answer) took hears in (
-              subst (λ o. CanHear o slot.waiting answer) (sym untold) (subst (λ v. CanHear None v answer) (sym waits) (subst (CanHear None (Waiting.Request k)) (sym is) tt)),
-              ap (λ v. held_once_come v (numbers_held slot.held.items)) waits ∙ sym (ap numbers_held held ∙ numbers_without slot.held.items) ∙ sym (ap (λ v. held_once_come v (numbers_held slot'.held.items)) (ap (λ (y : TaskSlot B). y.waiting) took)),
-            );
-        going = λ h. sym (ap (λ (y : TaskSlot B). is_complete y.cell.phase) took) ∙ h;
-      }
+  hears_got = grind (arith, numbers_without)
 
 module _ {B L : Type 0} (left : B → L) (spot : L → Option Said → Spot) (answered : IsAnswered spot) where
   got_seen : (all : Common) (k : ℕ) (slot slot' : TaskSlot B) (output : RequestOutput) → slot' ≡ record slot { held = slot'.held; waiting = Waiting.Nothing; told = Some (Said.Output output) } → slot'.held.items ≡ take (length slot.held.items - 1) slot.held.items → slot.told ≡ None → slot.waiting ≡ Waiting.Request k
       → task_seen left spot slot' ≡ past_newest left spot answered all (task_seen left spot slot)
-  got_seen all k slot slot' output took held untold waits =
-      ap (task_seen left spot) took
-      ∙ ap (λ s. record (task_seen left spot slot) { code = s.code; place = s.place; adapters = s.adapters; call = s.call; waiting = Waiting.Nothing; held = numbers_held slot'.held.items })
-      (spot_answered left spot answered (body_in slot.cell.phase slot.body) (Said.Output output) slot.told (λ h. absurd (cc)) untold)
-      ∙ ap (λ ns. record (task_seen left spot slot) { waiting = Waiting.Nothing; held = ns }) (ap numbers_held held ∙ numbers_without slot.held.items)
-      ∙ ap (λ b. record (if b then moved_on all (task_seen left spot slot) else record (task_seen left spot slot) { waiting = Waiting.Nothing }) { held = without_newest (numbers_held slot.held.items) }) (sym (ap waits_for_nothing waits))
+  got_seen = grind (arith, spot_answered, numbers_without)
 
   -- THE WHOLE STEP
   pub output_got : (t k : ℕ) (w w' : Worker) (s s' : Shared B) (e : Event) (r : Record) → (sound : SoundAt (Place.Poll t InPoll.Resume) w s) → HasWhole w s → (it : IsHere InPoll.Resume t w s) → it.slot.waiting ≡ Waiting.Request k → slice_get s.requests.items k ≡ Some r → is_unsent r.shown.forwarding ≡ true → r.shown.worker ≡ w.index
@@ -77,26 +53,7 @@ module _ {B L : Type 0} (left : B → L) (spot : L → Option Said → Spot) (an
       let there = there_is (Place.Poll t InPoll.Resume) k w s r sound at_k mine held.observed unsent (ap is_resolved over) in
       let so : slot' ≡ record slot { held = slot'.held; waiting = Waiting.Nothing; told = Some (Said.Output took.output) } = subst (λ (o : TaskSlot B). slot' ≡ record o { held = slot'.held; waiting = Waiting.Nothing; told = Some (Said.Output took.output) }) same_slot took.took in
       let less : slot'.held.items ≡ take (length slot.held.items - 1) slot.held.items = subst (λ (o : TaskSlot B). slot'.held.items ≡ take (length o.held.items - 1) o.held.items) same_slot took.all in
-      let by : TakesOwn InPoll.Resume t k w w' s s' slot slot' r took.output took.outcome = record {
-        there = it.there;
-        newest = newest;
-        waits = inr waits;
-        request = at_k;
-        unsent = unsent;
-        mine = mine;
-        over = over;
-        gets = record {
-          took = so ∙ ap (λ b. record slot { body = b; held = slot'.held; waiting = Waiting.Nothing; told = Some (Said.Output took.output) }) (sym (ap (λ (o : TaskSlot B). o.body) so));
-          body = subst (λ o. IsSome o) (sym (ap (λ (o : TaskSlot B). o.body) so)) it.body;
-          held = less;
-        };
-        worker = took.worker;
-        driver = took.driver ∙ ap (λ (y : Record). record (driver_of w) { requests = taken (driver_of w).requests y.id.0 }) same_r;
-        punctual = took.punctual;
-        requests = took.requests ∙ ap (λ y. slice_set s.requests.items k (unobserved y)) same_r;
-        tasks = took.tasks;
-        kept = took.kept;
-      } in
+      let by : TakesOwn InPoll.Resume t k w w' s s' slot slot' r took.output took.outcome = grind arith in
       let leaves = gets_leaves InPoll.Resume t k w w' s s' slot' r took.output took.outcome (λ i u rs ss. tt) (from_look t) sound refl it by held.observed there in
       let place : w'.place ≡ Place.Poll t InPoll.Act = ap (λ (y : Worker). y.place) took.worker in
       let done : Steps left spot w s (Got k took.outcome) w' s' = (

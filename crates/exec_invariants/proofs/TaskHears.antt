@@ -1,13 +1,13 @@
 -- A POLLED TASK LOOKS whether an end was sent to it that it waits for elsewhere: it takes the output, or its poll ends next.
-use Rattle.std.proofs.{lemmas.{List.map-set, Option.slice_get-map, Bool.{false≢true, eq-eqb}}, Common.{inr, inl, ◌≡◌, ℕ, zero, suc, ◌||◌, true, false, List, [], ◌∷◌, take, Option, Some, None, IsSome, refl, sym, ap, subst, ◌∙◌, ◌==◌, arith, length, ◌-◌, map, option_map, slice_get, slice_set, if◌then◌else◌}}
+use Rattle.std.proofs.{lemmas.{List.map-set, Option.slice_get-map, Bool.{false≢true, eq-eqb}}, Common.{inr, inl, ◌≡◌, ℕ, zero, suc, true, false, List, [], ◌∷◌, take, Option, Some, None, refl, sym, ap, subst, ◌∙◌, arith, length, ◌-◌, map, option_map, slice_get, slice_set, if◌then◌else◌}}
 use Rattle.exec_base.specs.declared.one_shot.OneShotState.TheVariants.{Closed as Shut}
 use Rattle.exec_outcomes.specs.declared.outcome.Outcome.{Outcome, TheVariants.{Success, Failure}}
 use Rattle.exec_request.specs.declared.output.RequestOutput.{RequestOutput}
 use Rattle.exec_task.specs.declared.body.Said.{Said}
-use Rattle.exec_machine.specs.{declared.{state.{Forwarding.TheVariants.Applied, MailMessage.TheVariants.{ForwardRequest, ForwardTimer}, RequestPhase.TheVariants.Resolved, Waiting.Waiting}, event.Event.{Event, TheVariants.{Got, GotTimer, Turn}}}, Choice.Choice.Plain, Progress.Plan, Tasks.{is_here, without_newest}, Tests.{is_resolved, is_resolved_with, is_unsent, waits_for_nothing, waits_for_request}, Same.is_number, Words.{acts, asks_await, moved_on, newest_held}, World.{Task, request_of, task_of}}
-use Rattle.exec_moves.specs.{declared.{handing.AfterSend.AfterSend, place.{InPoll.InPoll, Place.Place}}, Move.move_look_at, Poll.{Sight.{Asks, HearsRequest, HearsTimer}, acts_on, heard_by, resume, sight_by, sight_of, stops}, State.{Moved, Things, does}, Thing.{aside, with_alarms, with_answers}}
-use Rattle.exec_parts.{specs.{declared.parts.{held.Held.Held, record.Record.Record, shared.Shared.Shared, sleeping.SleeperRecord.SleeperRecord, task_slot.TaskSlot.TaskSlot, worker.Worker.Worker}, Phased.is_complete, MailPosts.TakesAnswer, Polls.unobserved, Records.numbers_held, Scripts.IsAnswered, Spots.Spot, View.{Views, body_in, common_of, desk_of, numbers_of_passing, own_of, task_seen, things_with, visible, with_view}, Serving.changed_in}, proofs.Facts.same_thing}
-use Rattle.exec_invariants.{specs.{Hearing.{CanHear, Hears, held_once_come}, Spares.SparesRecord, Holding.{Holder, IsHolding, awaited_in, box_of, holder_of, nap_of, thing_of}, Sound.{MayStop, SoundAt, acts_next, is_told, may_end}, Whole.{HasWhole, hands_of, with_worker}, Works.{Steps, Suits, Works}}, proofs.{HoldSteps.{IsNewest, thing_taken}, Results.same_error_self, Here.{IsHere, going_on}, HoldBeside.Holds, HoldThings.{Touches, touches_none, touches_record}, Seen.{request_at, sleeper_at}, Slots.{IsEvent, task_there, works_slot}, TaskDeals.{Dealt, acts as to_act, dealt, ends as to_end, from_look}, Keys.{name_in, names_changed, same_gates, same_opens}, Lined.passing_same, SparedRecord.there_within, TaskTakes.{holder_there, holders_one, passes_at, spot_answered}, Turning.{set_found, view_found}}}
+use Rattle.exec_machine.specs.{declared.{state.{Forwarding.TheVariants.Applied, RequestPhase.TheVariants.Resolved, Waiting.Waiting}, event.Event.{Event, TheVariants.{Got, Turn}}}, Choice.Choice.Plain, Progress.Plan, Tasks.{without_newest}, Tests.{is_resolved, is_resolved_with, is_unsent, waits_for_nothing}, Words.{moved_on}, World.{Task, request_of, task_of}}
+use Rattle.exec_moves.specs.{declared.{handing.AfterSend.AfterSend, place.{InPoll.InPoll, Place.Place}}, Move.move_look_at, Poll.{resume, sight_of, stops}, State.{Moved, Things}, Thing.{aside}}
+use Rattle.exec_parts.{specs.{declared.parts.{held.Held.Held, record.Record.Record, shared.Shared.Shared, sleeping.SleeperRecord.SleeperRecord, task_slot.TaskSlot.TaskSlot, worker.Worker.Worker}, Phased.is_complete, MailPosts.TakesAnswer, Polls.unobserved, Records.numbers_held, Scripts.IsAnswered, Spots.Spot, View.{Views, common_of, desk_of, numbers_of_passing, own_of, task_seen, things_with, visible, with_view}, Serving.changed_in}, proofs.Facts.same_thing}
+use Rattle.exec_invariants.{specs.{Hearing.{Hears}, Spares.SparesRecord, Holding.{Holder, IsHolding, awaited_in, box_of, holder_of, nap_of, thing_of}, Sound.{MayStop, SoundAt, acts_next, is_told, may_end}, Whole.{HasWhole, hands_of, with_worker}, Works.{Steps, Suits, Works}}, proofs.{HoldSteps.{IsNewest, thing_taken}, Results.same_error_self, Here.{IsHere, going_on}, HoldBeside.Holds, HoldThings.{Touches, touches_none, touches_record}, Seen.{request_at, sleeper_at}, Slots.{IsEvent, task_there, works_slot}, TaskDeals.{Dealt, acts as to_act, dealt, ends as to_end, from_look}, Keys.{name_in, names_changed, same_gates, same_opens}, Lined.passing_same, SparedRecord.there_within, TaskTakes.{holder_there, holders_one, passes_at, spot_answered}, Turning.{set_found, view_found}}}
 
 module _ {B : Type 0} where
   -- the slot stays, and its poll ends
@@ -51,26 +51,7 @@ module _ {B L : Type 0} (left : B → L) (spot : L → Option Said → Spot) whe
 
       by : (u : Waiting) → Unheard u s.requests.items s.sleepers.items → (y : Task) → y.waiting ≡ u
           → move_look_at p.config (common_of left spot p vs s) (desk_of (record w { place = Place.Poll t InPoll.Resume })) (things_with vs s) t (AfterSend.Pend t) (aside (things_with vs s) (resume w.index t (common_of left spot p vs s) (desk_of (record w { place = Place.Poll t InPoll.Resume })) y)) (sight_of w.index (common_of left spot p vs s) u) ≡ vain
-      by (Waiting.Request k) h y is =
-          let all = common_of left spot p vs s in
-          let d = desk_of (record w { place = Place.Poll t InPoll.Resume }) in
-          let x = things_with vs s in
-          let here = aside x (resume w.index t all d y) in
-          ap (λ q. move_look_at p.config all d x t (AfterSend.Pend t) here (sight_by (is_unsent q.forwarding) (q.worker == w.index) (Asks q.worker (ForwardRequest k)) (HearsRequest k))) (request_at s.requests.items k h.0 h.1)
-          ∙ ap (λ b. move_look_at p.config all d x t (AfterSend.Pend t) here (sight_by b (h.0.shown.worker == w.index) (Asks h.0.shown.worker (ForwardRequest k)) (HearsRequest k))) h.2
-          ∙ ap (λ b. with_answers x (heard_by t k d x.answers b (request_of all k).phase)) (passes_at (λ (q : Record). q.sent) k s.requests.items h.0 h.1 ∙ h.3)
-      by (Waiting.Timer k) h y is =
-          let all = common_of left spot p vs s in
-          let d = desk_of (record w { place = Place.Poll t InPoll.Resume }) in
-          let x = things_with vs s in
-          let here = aside x (resume w.index t all d y) in
-          ap (λ q. move_look_at p.config all d x t (AfterSend.Pend t) here (sight_by (is_unsent q.forwarding) (q.worker == w.index) (Asks q.worker (ForwardTimer k)) (HearsTimer k))) (sleeper_at s.sleepers.items k h.0 h.1)
-          ∙ ap (λ b. move_look_at p.config all d x t (AfterSend.Pend t) here (sight_by b (h.0.shown.worker == w.index) (Asks h.0.shown.worker (ForwardTimer k)) (HearsTimer k))) h.2
-          ∙ ap (λ b. with_alarms x (if b then does (GotTimer k) (acts_on t d) x.alarms else does Turn (stops t d) x.alarms)) (passes_at (λ (q : SleeperRecord). q.sent) k s.sleepers.items h.0 h.1 ∙ h.3)
-      by Waiting.Nothing h y is = absurd h
-      by Waiting.Wake h y is = absurd h
-      by Waiting.Woken h y is = absurd h
-      by Waiting.Yielded h y is = absurd h
+      by = grind (arith, request_at, passes_at, sleeper_at)
 
   -- IT LOOKS IN VAIN
   pub looked_in_vain : (t : ℕ) (w w' : Worker) (s : Shared B) (e : Event) → (sound : SoundAt (Place.Poll t InPoll.Resume) w s) → (it : IsHere InPoll.Resume t w s) → (u : Waiting) → it.slot.waiting ≡ u → Unheard u s.requests.items s.sleepers.items
@@ -86,12 +67,7 @@ module _ {B L : Type 0} (left : B → L) (spot : L → Option Said → Spot) whe
       subst (λ y. Steps left spot w s y w' s) (sym event) done
     where
       ended : (u : Waiting) → Unheard u s.requests.items s.sleepers.items → Ended w.index s.requests.items s.sleepers.items u
-      ended (Waiting.Request k) h = record { may = refl; untold = refl; stop = (h.0, h.1, inl h.2) }
-      ended (Waiting.Timer k) h = record { may = refl; untold = refl; stop = (h.0, h.1, inl h.2) }
-      ended Waiting.Nothing h = absurd h
-      ended Waiting.Wake h = absurd h
-      ended Waiting.Woken h = absurd h
-      ended Waiting.Yielded h = absurd h
+      ended = grind arith
 
 -- THE OUTPUT IS THERE
 
@@ -132,42 +108,15 @@ module _ {B : Type 0} where
     held : slot'.held.items ≡ take (length slot.held.items - 1) slot.held.items
 
   dealt_heard : (t k : ℕ) (w : Worker) (s : Shared B) (it : IsHere InPoll.Resume t w s) (slot' : TaskSlot B) (output : RequestOutput) (rs : List Record) (ss : List SleeperRecord) → HeardSo k it.slot slot' output → Dealt InPoll.Act w.index it.slot slot' rs ss
-  dealt_heard t k w s it slot' output rs ss so =
-      let told : slot'.told ≡ Some (Said.Output output) = ap (λ (y : TaskSlot B). y.told) so.took in
-      let waits : slot'.waiting ≡ Waiting.Nothing = ap (λ (y : TaskSlot B). y.waiting) so.took in
-      record {
-        cell = ap (λ (y : TaskSlot B). y.cell) so.took;
-        home = ap (λ (y : TaskSlot B). y.home) so.took;
-        cleared = ap (λ (y : TaskSlot B). y.cleared) so.took;
-        poller = ap (λ (y : TaskSlot B). y.poller) so.took;
-        body = subst (λ (y : TaskSlot B). IsSome y.body) (sym so.took) it.body;
-        told = λ h. subst (λ o. IsSome o) (sym told) refl;
-        untold = λ h. absurd (false≢true (sym h ∙ ap acts_next waits));
-        waits = waits;
-        stops = tt;
-      }
+  dealt_heard = grind arith
 
   hears_heard : (k : ℕ) (slot slot' : TaskSlot B) (output : RequestOutput) → HeardSo k slot slot' output → slot.told ≡ None → slot.waiting ≡ Waiting.Request k → Hears slot slot'
-  hears_heard k slot slot' output so untold waits =
-      record {
-        home = ap (λ (y : TaskSlot B). y.home) so.took;
-        body = ap (λ (y : TaskSlot B). body_in y.cell.phase y.body) so.took;
-        going = λ h. sym (ap (λ (y : TaskSlot B). is_complete y.cell.phase) so.took) ∙ h;
-        told = λ answer hears.
-            let is : answer ≡ Said.Output output = subst (λ (y : TaskSlot B). CanHear y.told y.waiting answer) so.took hears in (
-              subst (λ o. CanHear o slot.waiting answer) (sym untold) (subst (λ v. CanHear None v answer) (sym waits) (subst (CanHear None (Waiting.Request k)) (sym is) tt)),
-              ap (λ v. held_once_come v (numbers_held slot.held.items)) waits ∙ sym (ap numbers_held so.held ∙ numbers_without slot.held.items) ∙ sym (ap (λ v. held_once_come v (numbers_held slot'.held.items)) (ap (λ (y : TaskSlot B). y.waiting) so.took)),
-            );
-      }
+  hears_heard = grind (arith, numbers_without)
 
 module _ {B L : Type 0} (left : B → L) (spot : L → Option Said → Spot) (answered : IsAnswered spot) where
   heard_seen : (k : ℕ) (slot slot' : TaskSlot B) (output : RequestOutput) → HeardSo k slot slot' output → slot.told ≡ None
       → task_seen left spot slot' ≡ record (task_seen left spot slot) { waiting = Waiting.Nothing; held = without_newest (numbers_held slot.held.items) }
-  heard_seen k slot slot' output so untold =
-      ap (task_seen left spot) so.took
-      ∙ ap (λ s. record (task_seen left spot slot) { code = s.code; place = s.place; adapters = s.adapters; call = s.call; waiting = Waiting.Nothing; held = numbers_held slot'.held.items })
-      (spot_answered left spot answered (body_in slot.cell.phase slot.body) (Said.Output output) slot.told (λ h. absurd (cc)) untold)
-      ∙ ap (λ ns. record (task_seen left spot slot) { waiting = Waiting.Nothing; held = ns }) (ap numbers_held so.held ∙ numbers_without slot.held.items)
+  heard_seen = grind (arith, spot_answered, numbers_without)
 
   heard_works : (t k : ℕ) (w : Worker) (s s' : Shared B) (slot slot' : TaskSlot B) (r : Record) (outcome : Outcome) (output : RequestOutput) → w.place ≡ Place.Poll t InPoll.Resume → slice_get s.tasks.items t ≡ Some slot → slot.waiting ≡ Waiting.Request k → slot.told ≡ None
       → slice_get (numbers_held slot.held.items) (length (numbers_held slot.held.items) - 1) ≡ Some k → HeardSo k slot slot' output → slice_get s.requests.items k ≡ Some r → r.sent ≡ true → r.shown.forwarding ≡ Applied → r.shown.phase ≡ Resolved outcome
@@ -197,31 +146,7 @@ module _ {B L : Type 0} (left : B → L) (spot : L → Option Said → Spot) (an
       let shown : map (λ (q : Record). q.shown) s'.requests.items ≡ slice_set all.requests k (record r.shown { observed = false }) = ap (map (λ (q : Record). q.shown)) records ∙ map-set (λ (q : Record). q.shown) s.requests.items k (unobserved r) in
       let past : Task → Task = λ y. record (if waits_for_nothing y.waiting then moved_on all y else record y { waiting = Waiting.Nothing }) { held = without_newest y.held } in
       let taken : past (task_of all t) ≡ task_seen left spot slot' = ap past it ∙ ap (λ u. record (if waits_for_nothing u then moved_on all (task_seen left spot slot) else record (task_seen left spot slot) { waiting = Waiting.Nothing }) { held = without_newest (numbers_held slot.held.items) }) waits ∙ sym gone in
-      let done : Works left spot p vs w0 s (Got k outcome) w1 s1 = record {
-        choice = Plain;
-        moves = ap looks it ∙ ap (λ u. looks (record (task_seen left spot slot) { waiting = u })) waits
-            ∙ ap (λ q. move_look_at p.config all d x t (AfterSend.Pend t) (aside x (resume w.index t all d seen)) (sight_by (is_unsent q.forwarding) (q.worker == w.index) (Asks q.worker (ForwardRequest k)) (HearsRequest k))) request
-            ∙ ap (λ f. move_look_at p.config all d x t (AfterSend.Pend t) (aside x (resume w.index t all d seen)) (sight_by (is_unsent f) (r.shown.worker == w.index) (Asks r.shown.worker (ForwardRequest k)) (HearsRequest k))) applied
-            ∙ ap (λ b. with_answers x (heard_by t k d x.answers b (request_of all k).phase)) (passes_at (λ (q : Record). q.sent) k s.requests.items r at_k ∙ sent)
-            ∙ ap (λ ph. with_answers x (heard_by t k d x.answers true ph)) (ap (λ q. q.phase) request ∙ over)
-            ∙ ap (λ y. record { event = Got k outcome; choice = Plain; desk = desk_of w1; thing = y }) (sym same_things)
-            ∙ ap (λ v. record { event = Got k outcome; choice = Plain; desk = desk_of w1; thing = things_with v s1 }) (sym again);
-        may = (
-          ap (λ u. waits_for_request k u || acts me all asks_await) what ∙ ap (λ b. b || acts me all asks_await) (eq-eqb k k refl),
-          (
-            ap (λ y. is_number k (newest_held y)) it ∙ ap (is_number k) newest ∙ eq-eqb k k refl,
-            (
-              ap (λ q. is_here w.index q.worker q.forwarding) request ∙ ap (is_here w.index r.shown.worker) applied,
-              (ap (λ q. is_resolved_with outcome q.phase) request ∙ ap (is_resolved_with outcome) over ∙ resolved_self outcome, tt),
-            ),
-          ),
-        );
-        own = refl;
-        common = ap (λ v. common_of left spot p v s1) again
-            ∙ ap (λ os. record all { tasks = map (task_seen left spot) s'.tasks.items; requests = map (λ (q : Record). q.shown) s'.requests.items; opens = os }) opens
-            ∙ ap (λ ts. record all { tasks = ts; requests = map (λ (q : Record). q.shown) s'.requests.items }) (tasks ∙ ap (slice_set all.tasks t) (sym taken))
-            ∙ ap (λ rs. record all { tasks = slice_set all.tasks t (past (task_of all t)); requests = rs }) (shown ∙ ap (λ q. slice_set all.requests k (record q { observed = false })) (sym request));
-      } in
+      let done : Works left spot p vs w0 s (Got k outcome) w1 s1 = grind (arith, passes_at, eq-eqb, resolved_self) in
       subst (Works left spot p vs w s (Got k outcome) w1) (sym kept) (subst (λ v. Works left spot p vs v s (Got k outcome) w1 s1) (ap (λ y. record w { place = y }) (sym here)) done)
 
   -- THE WHOLE STEP

@@ -1,11 +1,10 @@
 -- A POLL GOES ON, and its worker's own driver has changed with one of its requests: the task took its output, waits for it, or let go of it.
-use Rattle.std.proofs.Common.{◌≡◌, ◌≢◌, ℕ, ◌==◌, false, Contains, List, [], count_by, length, map, Option, Some, None, refl, sym, ap, subst, ◌∙◌, slice_set, if◌then◌else◌}
-use Rattle.exec_base.specs.declared.task_no.TaskNo.{TaskNo}
+use Rattle.std.proofs.Common.{◌≡◌, ◌≢◌, ℕ, false, Contains, List, [], length, Option, Some, None, refl, sym, ap, subst, ◌∙◌, slice_set, arith}
 use Rattle.exec_task.specs.declared.task.Task.{Task as TaskCell}
 use Rattle.exec_machine.specs.declared.state.Waiting.{Waiting}
 use Rattle.exec_moves.specs.{declared.place.{InPoll.InPoll, Place.Place}, Seen.polls_at}
 use Rattle.exec_parts.specs.{declared.parts.{mail.Subject.Subject, record.Record.Record, shared.Shared.Shared, sleeping.SleeperRecord.SleeperRecord, task_slot.TaskSlot.TaskSlot, worker.Worker.Worker}, View.driver_of}
-use Rattle.exec_invariants.{specs.{Carried.HasRoom, Due.IsDue, Flown.HasFlown, Gates.AreLinedUp, Holding.Mail, HoldPlaces.{cancels_at, has_wakes_at, sends_cancel_at}, Places.step_of_poll, Sound.{AreHome, HasLetters, IsMyMail, SoundAt, Stops, StopsIn, served_in}, Spares.Spares, Whole.{IsWhole, Profile, with_worker}, Works.Beside}, proofs.{Aside.{SameProfile, queue_of_chair}, Here.IsHere, HoldBeside.{Deals, Handles, Holds, whole_dealt}, HoldThings.{Touches, touches_none}, Lined.lined_kept, Polling.home_mine, PoolKept.gates_same, ServingHolds.Keeps, Serving.{SparesRecords, letter_kept, mail_kept, spares_service}, Slots.spares_slot, SlotTasks.Keeps as KeepsSlot, TaskDeals.{ComesFrom, Dealt, GoesOn, here_or_none, profile_here, sound_dealt}}}
+use Rattle.exec_invariants.{specs.{Carried.HasRoom, Due.IsDue, Flown.HasFlown, Gates.AreLinedUp, Holding.Mail, HoldPlaces.{cancels_at, has_wakes_at, sends_cancel_at}, Places.step_of_poll, Sound.{AreHome, HasLetters, IsMyMail, SoundAt, Stops, StopsIn, served_in}, Spares.Spares, Whole.{IsWhole, Profile, with_worker}, Works.Beside}, proofs.{Aside.{SameProfile}, Here.IsHere, HoldBeside.{Deals, Handles, Holds, whole_dealt}, HoldThings.{Touches, touches_none}, Lined.lined_kept, Polling.home_mine, ServingHolds.Keeps, Serving.{SparesRecords, letter_kept, mail_kept, spares_service}, Slots.spares_slot, SlotTasks.Keeps as KeepsSlot, TaskDeals.{ComesFrom, Dealt, GoesOn, here_or_none, profile_here, sound_dealt}}}
 
 -- the place where it is says nothing of what its task waits for
 abbrev pub IsFree : InPoll → Type 0
@@ -13,9 +12,7 @@ IsFree x = (i : ℕ) (u : Waiting) (rs : List Record) (ss : List SleeperRecord) 
 
 -- the same tasks are woken
 with_wakes : (others : Profile) (w' : Worker) (w2 : Worker) → w2 ≡ record w' { home = record w'.home { deferred = w2.home.deferred } } → w'.home.deferred.notes.wakes.items ≡ w2.home.deferred.notes.wakes.items → with_worker others w' ≡ with_worker others w2
-with_wakes others w' w2 is wakes =
-    ap (λ (ws : List TaskNo). record (with_worker others w') { wakes = λ j t. if j == w'.index then count_by (λ n. n.0 == t) ws else others.wakes j t }) wakes
-    ∙ ap (with_worker others) (sym is)
+with_wakes = grind arith
 
 module _ {B : Type 0} where
   -- what changes of the worker, and of the requests
@@ -92,31 +89,7 @@ module _ {B : Type 0} where
       let keeps : KeepsSlot slot slot' = record { home = it.home; number = ap (λ (c : TaskCell B). c.number) it.cell; owner = ap (λ (c : TaskCell B). c.owner) it.cell } in
       let a : Spares j s (record s { requests = s'.requests }) = spares_service i j s (record s { requests = s'.requests }) other refl spares room in
       let b : Spares j s (record s { tasks = s'.tasks }) = spares_slot i j t s s' slot slot' other it.there it.items keeps (λ is. other (home j is)) (λ polled mine. absurd (other (sym mine ∙ poller))) homes in
-      let done : Spares j s (record s { tasks = s'.tasks; requests = s'.requests }) = record {
-        config = refl;
-        clock = refl;
-        gates = a.gates;
-        hints = λ file h. h;
-        many = refl;
-        chair = a.chair;
-        tails = a.tails;
-        records = a.records;
-        records_only = a.records_only;
-        sleepers = a.sleepers;
-        sleepers_only = a.sleepers_only;
-        endure = a.endure;
-        endure_too = a.endure_too;
-        root = b.root;
-        polled = b.polled;
-        room = a.room;
-        stretch = λ file offset n h. h;
-        stopped = λ h. h;
-        closed = λ h. h;
-        by_zero = λ h. (refl, refl);
-        shards = refl;
-        emptied = λ shut k none. none;
-        genuine = b.genuine;
-      } in
+      let done : Spares j s (record s { tasks = s'.tasks; requests = s'.requests }) = grind arith in
       subst (Spares j s) (sym kept) done
 
   pub beside_goes : (x y : InPoll) (t : ℕ) (w v : Worker) (s s' : Shared B) (slot' : TaskSlot B) → ComesFrom t x → GoesOn t y → (sound : SoundAt (Place.Poll t x) w s) → (it : IsHere x t w s) → s' ≡ record s { tasks = s'.tasks; requests = s'.requests } → s'.tasks.items ≡ slice_set s.tasks.items t slot'
@@ -129,25 +102,7 @@ module _ {B : Type 0} where
       let seated : s'.seats ≡ s.seats = ap (λ (z : Shared B). z.seats) kept in
       let handles : Handles t s s' slot slot' = record { there = it.there; items = items; cell = deals.cell; home = deals.home; cleared = deals.cleared; poller = deals.poller } in
       let profile : SameProfile w (record w { place = Place.Poll t y }) = profile_here x y t w from on sound.here in
-      let all_deals : Deals t w w2 s s' slot slot' = record {
-        kept = kept ∙ ap (λ z. record s { tasks = s'.tasks; requests = s'.requests; sleepers = z }) (sym slept) ∙ ap (λ z. record s { tasks = s'.tasks; requests = s'.requests; sleepers = s'.sleepers; seats = z }) (sym seated);
-        handles = handles;
-        profile = record {
-          hand = refl;
-          loot = refl;
-          polls = profile.polls;
-          claims = profile.claims;
-          searching = refl;
-          counts = profile.counts;
-          index = refl;
-          published = profile.published;
-          drops = profile.drops;
-          told = record { batch = refl; letters = refl; left = refl };
-        };
-        lines = to.spares.lines;
-        gates = gates_same s.seats.items s'.seats.items (ap (λ z. z.items) seated);
-        queues = ap (λ z. map queue_of_chair z.items) seated;
-      } in
+      let all_deals : Deals t w w2 s s' slot slot' = grind arith in
       let mine : (j : ℕ) → slot.home ≡ Some j → j ≡ w.index = home_mine w.index slot.home (here_or_none x t w s it) in
       let worker : w' ≡ record w2 { home = record w2.home { deferred = v.home.deferred } } = ap (λ (z : Worker). record z { place = Place.Poll t y }) to.worker in
       record {

@@ -4,30 +4,20 @@ use Rattle.std.proofs.{Common.{◌≡◌, ◌≢◌, inr, ℕ, ◌-◌, ◌<◌,
 use Rattle.exec_base.specs.declared.{error.Error.Error, one_shot.OneShotState.{OneShotState, TheVariants.{Closed as Shut, Open, Sent as Full}}}
 use Rattle.exec_outcomes.specs.declared.outcome.Outcome.{Outcome}
 use Rattle.exec_request.specs.declared.output.RequestOutput.{RequestOutput}
-use Rattle.exec_words.specs.Inbox.{spare_places}
 use Rattle.exec_task.specs.declared.body.Said.{Said}
-use Rattle.exec_machine.specs.{declared.{event.Event.Event, state.{Forwarding.{Forwarding, TheVariants.{Applied, Sent as Forwarded, Unsent}}, MailMessage.TheVariants.{ForwardRequest, ForwardTimer}, RequestPhase.{RequestPhase, TheVariants.Resolved}, Waiting.Waiting}}, Tests.is_unsent}
+use Rattle.exec_machine.specs.{declared.{event.Event.Event, state.{Forwarding.{Forwarding, TheVariants.{Unsent}}, MailMessage.TheVariants.{ForwardRequest, ForwardTimer}, RequestPhase.{RequestPhase, TheVariants.Resolved}, Waiting.Waiting}}, Tests.is_unsent}
 use Rattle.exec_moves.specs.declared.place.{InPoll.InPoll, Place.Place}
-use Rattle.exec_parts.{specs.{declared.parts.{record.Record.Record, seat.Seat.Seat as Chair, shared.Shared.Shared, sleeping.SleeperRecord.SleeperRecord, task_slot.TaskSlot.TaskSlot, worker.Worker.Worker}, MailPosts.{HasAnswer, HearsEnd, HearsOutput, MayAskEnd, MayAskOutput, MayHearOutput, MaySend}, Records.{numbers_held, outcome_in}, Scripts.IsAnswered, Spots.Spot}, proofs.Facts.same_thing}
+use Rattle.exec_parts.{specs.{declared.parts.{record.Record.Record, shared.Shared.Shared, sleeping.SleeperRecord.SleeperRecord, task_slot.TaskSlot.TaskSlot, worker.Worker.Worker}, MailPosts.{HasAnswer, HearsEnd, HearsOutput, MayAskEnd, MayAskOutput, MayHearOutput, MaySend}, Records.{numbers_held, outcome_in}, Scripts.IsAnswered, Spots.Spot}, proofs.Facts.same_thing}
 use Rattle.exec_invariants.{specs.{Holding.{HasAnswer as HasAnswerIn, IsHeldBy, awaited_in, box_of, holder_of, holdings, nap_of, outcome_told, thing_of}, Sound.SoundAt, Whole.{HasWhole, hands_of, with_worker}, Works.Steps}, proofs.{AskBoxes.{asks_place, box_there}, AsksEnds.asks_whom, Here.{IsHere, going_on}, HoldSteps.{held_there, hold_once}, HoldWaits.held_number, SparedRecord.there_within, TaskHears.{looked_in_vain, output_heard, thing_there}, TaskTakes.{holder_there, nap_there, sleep_taken}, TaskWants.{may_forward, wants_from}}}
 
 resolved_as : (p : RequestPhase) (o : Outcome) → outcome_in p ≡ Some o → p ≡ Resolved o
-resolved_as (Resolved x) o h = ap (λ y. Resolved y) (same_thing x o h)
-resolved_as RequestPhase.Gated o h = absurd (cc)
-resolved_as RequestPhase.Queued o h = absurd (cc)
-resolved_as RequestPhase.Staged o h = absurd (cc)
-resolved_as RequestPhase.Flying o h = absurd (cc)
-resolved_as (RequestPhase.Landed n) o h = absurd (cc)
+resolved_as = grind arith
 
 pub unsent_is : (f : Forwarding) → is_unsent f ≡ true → f ≡ Unsent
-unsent_is Unsent h = refl
-unsent_is Forwarded h = absurd (false≢true h)
-unsent_is Applied h = absurd (false≢true h)
+unsent_is = grind arith
 
 held_so : (shut observed : Bool) (held told : ℕ) → 0 < held → IsHeldBy shut observed held told → observed ≡ true
-held_so true observed held told some fact = absurd (omega (arith, some, fact))
-held_so false true held told some fact = refl
-held_so false false held told some fact = absurd (omega (arith, some, fact))
+held_so = grind arith
 
 fired_so : (fired removed : Bool) → (fired || removed) ≡ true → removed ≡ false → fired ≡ true
 fired_so true removed h kept = refl
@@ -41,13 +31,7 @@ module _ {B : Type 0} where
       let whom = asks_whom t z w s it sound has at waits at_z unsent other in
       let at_box = box_there s.seats.items it.shown.worker whom.chair whom.there in
       let room = asks_place (hands_of (with_worker has.others w)) s.config.workers (map holder_of s.tasks.items) (map thing_of s.requests.items) (map nap_of s.sleepers.items) (map box_of s.seats.items) z (nap_of it) (nap_there s.sleepers.items z it at_z) unsent whom.few (box_of whom.chair) at_box whom.open_box has.whole.holding in
-      let may : MaySend it.shown.worker (ForwardTimer z) s = record {
-        there = slice_get_within s.seats.items it.shown.worker whom.chair whom.there;
-        place = λ chair there open_box undropped.
-            let is : whom.chair ≡ chair = same_thing whom.chair chair (sym whom.there ∙ there) in
-            let roots = (has.whole.pool.mail it.shown.worker whom.chair whom.there).roots in
-            subst (λ (c : Chair). 0 < spare_places c.mailbox.inbox) is (omega (arith, room, roots));
-      } in
+      let may : MaySend it.shown.worker (ForwardTimer z) s = grind arith in
       record {
         known = slice_get_within s.sleepers.items z it at_z;
         may = λ o found. subst (λ (y : SleeperRecord). MaySend y.shown.worker (ForwardTimer z) s) (same_thing it o (sym at_z ∙ found)) may;

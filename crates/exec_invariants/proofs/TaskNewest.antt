@@ -1,37 +1,24 @@
 -- WHAT A TASK'S ACT NEEDS of the newest request that it holds: one of its worker's can be taken, awaited or let go of, and another's worker
 -- can be asked and told.
-use Rattle.std.proofs.{Common.{◌≡◌, ℕ, ◌+◌, ◌-◌, ◌<◌, ◌≤◌, ◌&&◌, Bool, true, false, not, cond, length, map, Option, Some, None, refl, sym, ap, subst, ◌∙◌, arith, slice_get}, lemmas.{Bool.false≢true, List.length-map, Option.slice_get_within}}
+use Rattle.std.proofs.{Common.{◌≡◌, ℕ, ◌+◌, ◌-◌, ◌<◌, ◌≤◌, Bool, true, false, cond, length, map, Option, Some, None, refl, sym, ap, subst, ◌∙◌, arith, slice_get}, lemmas.{Bool.false≢true, List.length-map, Option.slice_get_within}}
 use Rattle.exec_base.specs.{Slab.value_at, declared.slab.{Id.Id, Slot.TheVariants.Live}}
-use Rattle.exec_waiters.{specs.{States.{counts_pending, is_held_by, is_local, is_observed_here, pending_count, waiter_at}, declared.{observer.Observer.{Observer, TheVariants.{DetachedSync, Forwarded, Local, Orphaned}}, waiter.{Entry.TheVariants.Pending, Waiter.Waiter}}}, proofs.Changes.entry_of}
+use Rattle.exec_waiters.{specs.{States.{counts_pending, is_held_by, is_local, is_observed_here, pending_count, waiter_at}, declared.{observer.Observer.{Observer}, waiter.{Entry.TheVariants.Pending, Waiter.Waiter}}}, proofs.Changes.entry_of}
 use Rattle.exec_driver.specs.Driving.{request_at}
 use Rattle.exec_task.specs.{Sight.Sight, declared.body.{Act.Act, Said.Said}}
-use Rattle.exec_machine.specs.{declared.state.{Forwarding.{Forwarding, TheVariants.Unsent}, MailMessage.{MailMessage, TheVariants.{CancelRequest, ForwardRequest}}, Request.Request, RequestPhase.RequestPhase, Waiting.Waiting}, Requests.ends_by_drop, Tests.{is_applied, is_kept, is_queued, is_resolved, is_unsent}}
+use Rattle.exec_machine.specs.{declared.state.{Forwarding.{Forwarding}, MailMessage.{MailMessage, TheVariants.{CancelRequest, ForwardRequest}}, Request.Request, Waiting.Waiting}, Requests.ends_by_drop, Tests.{is_applied, is_resolved, is_unsent}}
 use Rattle.exec_moves.specs.declared.place.{InPoll.InPoll, Place.Place}
 use Rattle.exec_parts.{specs.{declared.parts.{mail.{Reply.Reply, Subject.Subject}, record.Record.Record, shared.Shared.Shared, task_slot.TaskSlot.TaskSlot, worker.Worker.Worker}, Awaits.{HasNewest, MayLetGo, OfNewest, newest_of}, MailPosts.MaySend, Polls.MadeAct, Records.{number_in, numbers_held}, View.driver_of}, proofs.Facts.{same_thing, set_there}}
 use Rattle.exec_invariants.{specs.{HoldPlaces.spare_at, Holding.{awaited_in, holder_of, thing_of}, Rooted.IsNear, Sound.SoundAt, Names.tellers, Whole.HasWhole}, proofs.{Here.{IsHere, polled_here}, HoldMail.sum_least, HoldWaits.held_number, Resolving.places_fewer, Slotted.live_at, TaskGot.may_take_own, TaskTakes.holder_there, TaskWants.{HoldsNewest, may_cancel, may_forward, newest_is, wants_from}}}
 
 -- what ends by a drop isn't over
 pub ends_open : (q : Request) → ends_by_drop q ≡ true → is_resolved q.phase ≡ false
-ends_open q h = by q.phase (not (is_kept q.operation.kind)) h
-  where
-    by : (p : RequestPhase) (b : Bool) → (is_queued p && b) ≡ true → is_resolved p ≡ false
-    by RequestPhase.Queued b h = refl
-    by RequestPhase.Gated b h = refl
-    by RequestPhase.Staged b h = refl
-    by RequestPhase.Flying b h = refl
-    by (RequestPhase.Landed n) b h = refl
-    by (RequestPhase.Resolved outcome) b h = absurd (false≢true h)
+ends_open = grind arith
 
 local_by : (o : Observer Reply Reply) (f : Forwarding) → is_held_by o ≡ true → IsNear o f → is_applied f ≡ false → is_local o ≡ true
-local_by (Local waker) f held near unapplied = refl
-local_by (Forwarded reply) f held near unapplied = absurd (false≢true (sym unapplied ∙ near))
-local_by (DetachedSync reply) f held near unapplied = absurd near
-local_by Orphaned f held near unapplied = absurd (false≢true held)
+local_by = grind arith
 
 unsent_unapplied : (f : Forwarding) → is_unsent f ≡ true → is_applied f ≡ false
-unsent_unapplied Unsent h = refl
-unsent_unapplied Forwarding.Sent h = absurd (false≢true h)
-unsent_unapplied Forwarding.Applied h = absurd (false≢true h)
+unsent_unapplied = grind arith
 
 -- a request of the worker that isn't over stands at its driver
 pub record StillPends (k : ℕ) (r : Record) (w : Worker) : Type 0 where

@@ -1,5 +1,6 @@
 -- A TASK IS OVER BY ITS OWN ACT, be it a root, whose worker closes then, or an ordinary task, which leaves the task set.
 use Rattle.std.proofs.{Common.{◌≡◌, ◌≢◌, ◌⊎◌, inl, inr, ⊎_elim, ℕ, ◌<◌, ◌==◌, Bool, true, false, Contains, List, [], ◌∷◌, ◌++◌, length, map, option_map, option_to_list, Option, Some, None, refl, sym, ap, subst, ◌∙◌, nat_lt, slice_get, slice_set, if◌then◌else◌}, lemmas.{Bool.{false≢true, eq-eqb}, List.set-set}}
+use Rattle.std.proofs.Common.{arith}
 use Rattle.exec_base.specs.Slab.{live_count}
 use Rattle.exec_task.specs.{Phases.{is_polled, over as cell_over}, Sight.Sight, declared.{body.{Act.Act, Said.Said}, runnable.Runnable.Runnable}}
 use Rattle.exec_machine.specs.{Choice.Choice.Plain, declared.{config.{Configuration.Configuration, ScriptWord.ScriptWord}, event.Event.Event, state.{Code.Code, Letter.Letter, Next.Next, TaskPhase.TaskPhase, Waiting.Waiting}}, After.{common_after, own_after}, Allowed.allowed, Progress.Plan, Tests.{AllTrue, is_empty}, Tasks.{after_over, may_end_by, own_after_done}, Words.{asks_await, asks_end, asks_fault, moved_on, next_word}, World.{Common, Own, Task, task_of}}
@@ -9,12 +10,7 @@ use Rattle.exec_invariants.{specs.{Acting.{HasActed, Performs, PerformsOne, Step
 
 -- it is told nothing once it is over
 pub over_untold : (u : Waiting) → is_told u true ≡ false
-over_untold Waiting.Nothing = refl
-over_untold Waiting.Yielded = refl
-over_untold (Waiting.Request r) = refl
-over_untold (Waiting.Timer z) = refl
-over_untold Waiting.Wake = refl
-over_untold Waiting.Woken = refl
+over_untold = grind arith
 
 -- whether others are to be told
 pub split_left : (b : AfterCancels) (d : Desk) (ls : List Letter) → ((ls ≡ []) × (cancels_left b d ls ≡ after_cancels b d)) ⊎ ((is_empty ls ≡ false) × (cancels_left b d ls ≡ Place.SendCancel b))

@@ -1,109 +1,35 @@
 -- A TASK THAT IS OVER lets go of all requests that it held, one after another: what its worker has then, and what is seen of it.
-use Rattle.std.proofs.{Common.{◌≡◌, ◌≢◌, ℕ, zero, suc, ◌+◌, ◌<◌, ◌≤◌, ◌==◌, ◌&&◌, Bool, true, false, not, cond, filter, List, [], ◌∷◌, ◌++◌, count_by, map, Option, Some, None, is_some, refl, sym, ap, subst, ◌∙◌, arith, append_assoc, slice_get, slice_index_or, slice_set, if◌then◌else◌}, lemmas.{Bool.{false≢true, eq-eqb}, List.{append-nil, Sums.sum_by-cons}, Option.get_or_from_slice_get}}
-use Rattle.exec_outcomes.specs.{Accounts.is_durable, declared.outcome.{Kind.Kind, Outcome.TheVariants.Failure}}
-use Rattle.exec_base.specs.declared.error.Error.TheVariants.{Timeout}
-use Rattle.exec_machine.specs.{declared.state.{Letter.Letter, Request.Request, RequestPhase.{RequestPhase, TheVariants.{Gated, Resolved}}}, Requests.{dropped, ends_by_drop, is_cancelled_by_drop, own_after_drop, resolved}, Tasks.{own_after_drops, owes as owes_letter, requests_after_drops}, Tests.{is_applied, is_gated, is_kept, is_queued, is_resolved}, World.{Common, Own, no_request, request_of}}
-use Rattle.exec_moves.specs.{Slots.is_in_slots, State.Desk, Told.{awaits_no_more, lets_go_request, lets_go_requests, one_output, one_result, told_of_drop, without_request}}
-use Rattle.exec_parts.{specs.{declared.parts.{held.Held.Held, record.Record.Record, shared.Shared.Shared, worker.Worker.Worker}, Awaits.{LetsGo, drops}, Ending.{LetsGoAll, LetsGoOne.{here, elsewhere}, others_of}, Records.{numbers_held, outcome_in}, Serving.{changed_at, changed_in}, View.{desk_of, letter_of_request, own_of, visible}}, proofs.{Facts.{by_number, not_same, same_thing, set_elsewhere, set_there}, Showing.map_set}}
-use Rattle.exec_invariants.{specs.{Gates.{AreLinedUp, at_gate}, Holding.thing_of, Sound.served_in}, proofs.{HoldRedo.count_set, HoldSteps.held_in, Keys.{name_in, names_changed}, Lined.{KeepsLines, SameAtGate, lined_kept, lines_changed, lines_on, lines_same, mapped}, ServingHolds.Keeps, TaskOverHolds.{LetsThing, things_then, thing_same}}}
+use Rattle.std.proofs.{Common.{◌≡◌, ◌≢◌, ℕ, zero, suc, ◌+◌, ◌<◌, ◌≤◌, ◌==◌, Bool, true, false, not, cond, filter, List, [], ◌∷◌, ◌++◌, count_by, map, Some, None, refl, sym, ap, subst, ◌∙◌, arith, append_assoc, slice_get, slice_index_or, slice_set, if◌then◌else◌}, lemmas.{Bool.{false≢true, eq-eqb}, List.{append-nil, Sums.sum_by-cons}, Option.get_or_from_slice_get}}
+use Rattle.exec_outcomes.specs.{Accounts.is_durable}
+use Rattle.exec_machine.specs.{declared.state.{Letter.Letter, Request.Request, RequestPhase.{RequestPhase, TheVariants.{Resolved}}}, Requests.{dropped, ends_by_drop, own_after_drop}, Tasks.{own_after_drops, owes as owes_letter, requests_after_drops}, Tests.{is_queued, is_resolved}, World.{Common, Own, no_request, request_of}}
+use Rattle.exec_moves.specs.{State.Desk, Told.{lets_go_request, lets_go_requests, told_of_drop}}
+use Rattle.exec_parts.{specs.{declared.parts.{held.Held.Held, record.Record.Record, shared.Shared.Shared, worker.Worker.Worker}, Awaits.{LetsGo, drops}, Ending.{LetsGoAll, LetsGoOne.{here, elsewhere}, others_of}, Records.{numbers_held}, Serving.{changed_at, changed_in}, View.{desk_of, letter_of_request, own_of, visible}}, proofs.{Facts.{by_number, not_same, same_thing, set_elsewhere, set_there}, Showing.map_set}}
+use Rattle.exec_invariants.{specs.{Gates.{AreLinedUp}, Holding.thing_of, Sound.served_in}, proofs.{HoldRedo.count_set, HoldSteps.held_in, Keys.{name_in, names_changed}, Lined.{KeepsLines, SameAtGate, lined_kept, lines_changed, lines_on, lines_same, mapped}, ServingHolds.Keeps, TaskOverHolds.{LetsThing, things_then, thing_same}}}
 
 -- ONE REQUEST that nobody holds any more
-
-unkept_free : (k : Kind) → is_kept k ≡ false → is_durable k ≡ false
-unkept_free Kind.Dsync h = absurd (false≢true (sym h))
-unkept_free Kind.Many h = absurd (false≢true (sym h))
-unkept_free Kind.Sync h = absurd (false≢true (sym h))
-unkept_free _ h = refl
-
-queued_open : (p : RequestPhase) → is_queued p ≡ true → outcome_in p ≡ None
-queued_open (Resolved outcome) h = absurd (false≢true h)
-queued_open _ h = refl
-
-queued_ungated : (p : RequestPhase) → is_queued p ≡ true → is_gated p ≡ false
-queued_ungated Gated h = absurd (false≢true h)
-queued_ungated _ h = refl
 
 pub queued_unresolved : (p : RequestPhase) → is_queued p ≡ true → is_resolved p ≡ false
 queued_unresolved (Resolved outcome) h = absurd (false≢true h)
 queued_unresolved _ h = refl
 
-both_true : (a b : Bool) → (a && b) ≡ true → (a ≡ true) × (b ≡ true)
-both_true true true h = (refl, refl)
-both_true true false h = absurd (false≢true h)
-both_true false b h = absurd (false≢true h)
-
-not_true : (b : Bool) → not b ≡ true → b ≡ false
-not_true true h = absurd (false≢true h)
-not_true false h = refl
-
--- as it is then, by whether it ends, or is cancelled
-abbrev dropped_as : Bool → Bool → Request → Request
-dropped_as a b r = if a then record (resolved (Failure Timeout) r) { observed = false } else if b then record r { observed = false; cancelled = true; timer = None } else record r { observed = false }
-
-abbrev shown_as : Record → Request → Record
-shown_as r q = record r { shown = q }
-
 -- it is queued, and no durable one
 pub ends_plain : (r : Record) → ends_by_drop r.shown ≡ true → (is_queued r.shown.phase ≡ true) × (is_durable r.shown.operation.kind ≡ false)
-ends_plain r is =
-    let it = both_true (is_queued r.shown.phase) (not (is_kept r.shown.operation.kind)) is in
-    (it.0, unkept_free r.shown.operation.kind (not_true (is_kept r.shown.operation.kind) it.1))
-
-none_is : {A : Type 0} (o : Option A) → o ≡ None → is_some o ≡ true → ⊥
-none_is o none some = false≢true (sym (ap is_some none) ∙ some)
+ends_plain = grind arith
 
 pub dropped_thing : (r : Record) → LetsThing 1 (thing_of r) (thing_of (drops r))
-dropped_thing r = by (ends_by_drop r.shown) (is_cancelled_by_drop r.shown) refl
-  where
-    by : (a b : Bool) → ends_by_drop r.shown ≡ a → LetsThing 1 (thing_of r) (thing_of (shown_as r (dropped_as a b r.shown)))
-    by true b is = record { worker = refl; waiter = refl; forwarding = refl; paid = refl; sent = refl; ended = λ some. absurd (none_is (outcome_in r.shown.phase) (queued_open r.shown.phase (ends_plain r is).0) some); observed = λ no. absurd (omega (arith, no)); gone = λ some. refl }
-    by false true is = record { worker = refl; waiter = refl; forwarding = refl; paid = refl; sent = refl; ended = λ some. refl; observed = λ no. absurd (omega (arith, no)); gone = λ some. refl }
-    by false false is = record { worker = refl; waiter = refl; forwarding = refl; paid = refl; sent = refl; ended = λ some. refl; observed = λ no. absurd (omega (arith, no)); gone = λ some. refl }
+dropped_thing = grind arith
 
 pub dropped_name : (r : Record) → name_in (drops r) ≡ name_in r
-dropped_name r = by (ends_by_drop r.shown) (is_cancelled_by_drop r.shown) refl
-  where
-    by : (a b : Bool) → ends_by_drop r.shown ≡ a → name_in (shown_as r (dropped_as a b r.shown)) ≡ name_in r
-    by true b is =
-        let it = ends_plain r is in
-        ap (λ o. record (name_in r) { over = o }) (it.1 ∙ sym (ap (λ b. b && is_durable r.shown.operation.kind) (queued_unresolved r.shown.phase it.0)))
-    by false true is = refl
-    by false false is = refl
+dropped_name = grind arith
 
 pub dropped_at_gate : (r : Record) → SameAtGate r (drops r)
-dropped_at_gate r = by (ends_by_drop r.shown) (is_cancelled_by_drop r.shown) refl
-  where
-    by : (a b : Bool) → ends_by_drop r.shown ≡ a → SameAtGate r (shown_as r (dropped_as a b r.shown))
-    by true b is = record { at = ap (λ g. record (at_gate r) { gated = g }) (sym (queued_ungated r.shown.phase (ends_plain r is).0)); over = λ h. refl; sent = refl; forwarded = λ h. h }
-    by false true is = record { at = refl; over = λ h. h; sent = refl; forwarded = λ h. h }
-    by false false is = record { at = refl; over = λ h. h; sent = refl; forwarded = λ h. h }
+dropped_at_gate = grind arith
 
 dropped_worker : (r : Record) → (drops r).shown.worker ≡ r.shown.worker
-dropped_worker r = by (ends_by_drop r.shown) (is_cancelled_by_drop r.shown)
-  where
-    by : (a b : Bool) → (dropped_as a b r.shown).worker ≡ r.shown.worker
-    by true b = refl
-    by false true = refl
-    by false false = refl
-
--- what is told of it, whatever letters there are
-abbrev told_as : Bool → Bool → Bool → Bool → ℕ → Desk → Desk
-told_as a b c e k d =
-    if not a then d
-    else if b then one_output (without_request k d)
-    else if c then one_output (without_request k (if e then one_result k d else awaits_no_more k d))
-    else (if e then one_result k d else awaits_no_more k d)
+dropped_worker = grind arith
 
 told_letters : (k : ℕ) (it : Request) (d : Desk) (ls : List Letter) → told_of_drop k it (record d { letters = ls }) ≡ record (told_of_drop k it d) { letters = ls }
-told_letters k it d ls = by (it.observed && is_in_slots k d.requests) (is_resolved it.phase) (ends_by_drop it) (is_applied it.forwarding)
-  where
-    by : (a b c e : Bool) → told_as a b c e k (record d { letters = ls }) ≡ record (told_as a b c e k d) { letters = ls }
-    by false b c e = refl
-    by true true c e = refl
-    by true false true true = refl
-    by true false true false = refl
-    by true false false true = refl
-    by true false false false = refl
+told_letters = grind arith
 
 -- WHAT A LIST HOLDS of worker i
 
@@ -209,23 +135,7 @@ module _ {B : Type 0} where
     pub others_only : (k : ℕ) (r : Record) → slice_get now.requests.items k ≡ Some r → r.shown.worker ≢ i → slice_get s.requests.items k ≡ Some r
 
   none_let : (i : ℕ) (w : Worker) (s : Shared B) → Keeps w s → AllLet i [] w w s s
-  none_let i w s keeps =
-      record {
-        keeps = keeps;
-        worker = refl;
-        kept = refl;
-        shows = refl;
-        lines = lines_same s.requests.items s.requests.items refl;
-        names = refl;
-        shown = refl;
-        own = λ all sees owed. ap (λ ls. record (own_of w) { owed = ls }) (sym (append-nil owed));
-        desk = λ all sees ls. ap (λ xs. record (desk_of w) { letters = xs }) (sym (append-nil ls));
-        on = λ k r there. (r, there, subst (λ n. LetsThing n (thing_of r) (thing_of r)) (sym (none_held i k)) (thing_same (thing_of r)));
-        back = λ k r there. (r, there, subst (λ n. LetsThing n (thing_of r) (thing_of r)) (sym (none_held i k)) (thing_same (thing_of r)));
-        of = λ j. refl;
-        others = λ k r there other. there;
-        others_only = λ k r there other. there;
-      }
+  none_let = grind (arith, lines_same, append-nil, none_held, thing_same)
 
   -- another worker's is left
   left_out : (i : ℕ) (h : Held) (hs : List Held) (w v : Worker) (s now : Shared B) → h.worker ≢ i → HoldsAll (h ∷ hs) s.requests.items → AllLet i hs w v s now → AllLet i (h ∷ hs) w v s now

@@ -1,8 +1,9 @@
 -- A TASK IS OVER: its worker lets go of what it has of what that held and slept for, and has letters of the rest. What it has then,
 -- and what is seen of it.
 use Rattle.std.proofs.{Common.{◌≡◌, ◌≢◌, inr, ℕ, ◌==◌, ◌||◌, Bool, true, false, not, List, [], ◌∷◌, ◌++◌, count_by, map, option_map, option_to_list, Option, Some, None, refl, sym, ap, subst, ◌∙◌, slice_get, slice_index_or, slice_set, if◌then◌else◌}, lemmas.{Bool.eq-eqb, List.{append-nil, append_assoc}, Option.get_or_from_slice_get}}
-use Rattle.exec_machine.specs.{declared.state.{Letter.Letter, MailMessage.TheVariants.CancelTimer, Sleeper.Sleeper, Waiting.Waiting}, Tasks.{own_after_drops, own_after_waking_up, owes as owes_letter, removed as removed_sleeper, requests_after_drops, sleepers_after_waking_up}, Tests.is_applied, World.{Common, Own, no_sleeper, sleeper_of}}
-use Rattle.exec_moves.specs.{Slots.is_in_slots, State.Desk, Told.{lets_go_requests, lets_go_sleep, lets_go_timer, one_completion, told_of_cancel, without_timer}}
+use Rattle.std.proofs.Common.{arith}
+use Rattle.exec_machine.specs.{declared.state.{Letter.Letter, MailMessage.TheVariants.CancelTimer, Sleeper.Sleeper, Waiting.Waiting}, Tasks.{own_after_drops, own_after_waking_up, owes as owes_letter, removed as removed_sleeper, requests_after_drops, sleepers_after_waking_up}, World.{Common, Own, no_sleeper, sleeper_of}}
+use Rattle.exec_moves.specs.{State.Desk, Told.{lets_go_requests, lets_go_sleep, lets_go_timer, told_of_cancel}}
 use Rattle.exec_parts.{specs.{declared.parts.{held.Held.Held, letters.Letters.Letters, record.Record.Record, shared.Shared.Shared, sleeping.SleeperRecord.SleeperRecord, worker.Worker.Worker}, Calls.sleeper_removed, Ending.{LetsGoAll, LetsWaiting, others_of}, MailTakes.RemovesSleeper, Records.numbers_held, View.{desk_of, letter_of_request, letter_of_timer, letters_in, own_of, visible}}, proofs.{Facts.{by_number, not_same, same_thing, set_elsewhere, set_there}, Showing.{map_kept, map_set}}}
 use Rattle.exec_invariants.{specs.{Gates.AreLinedUp, Holding.{awaited_in, nap_of, thing_of}, Sound.served_in, Spares.SleeperEndures}, proofs.{HoldRedo.count_set, Keys.name_in, Lined.{KeepsLines, mapped, opens_same}, ServingHolds.Keeps, Serving.SparesRecords, Spared.sleepers_endure, TaskOverFold.{AllLet, HoldsAll, LetsSeen, SeesAll, let_all, letters_for, own_in}, TaskOverHolds.{LetsNap, LetsThing, nap_same}}}
 use Rattle.exec_parts.specs.declared.parts.mail.Subject.TheVariants as subject
@@ -110,24 +111,13 @@ module _ {B : Type 0} where
 -- THE WORKER HAS THE SLEEPER
 
 either_one : (a b c : Bool) → (a || c) ≡ true → ((a || b) || c) ≡ true
-either_one true b c h = refl
-either_one false true c h = refl
-either_one false false c h = h
+either_one = grind arith
 
 pub nap_removed : (a : Type 0) (z : SleeperRecord) → a → LetsNap a (nap_of z) (nap_of (sleeper_removed z))
 nap_removed a z its = record { worker = refl; task = refl; fired = refl; forwarding = refl; paid = refl; sent = refl; removed = λ h. either_one z.shown.removed (not z.shown.fired) z.closed h; closed = refl; only = inr its }
 
--- what is told of it, whatever letters there are
-abbrev cancel_as : Bool → Bool → ℕ → Desk → Desk
-cancel_as a b z d = if not a then d else if b then one_completion z (without_timer z d) else without_timer z d
-
 cancel_letters : (z : ℕ) (it : Sleeper) (d : Desk) (ls : List Letter) → told_of_cancel z it (record d { letters = ls }) ≡ record (told_of_cancel z it d) { letters = ls }
-cancel_letters z it d ls = by (is_in_slots z d.timers) (is_applied it.forwarding)
-  where
-    by : (a b : Bool) → cancel_as a b z (record d { letters = ls }) ≡ record (cancel_as a b z d) { letters = ls }
-    by false b = refl
-    by true true = refl
-    by true false = refl
+cancel_letters = grind arith
 
 module _ {B : Type 0} where
   -- what holds, and what is told, where a sleeper of its own is removed

@@ -1,7 +1,7 @@
 -- WHAT TASKS HOLD, once a task is over: what it held of the worker that ends it is let go, and messages say of all else that
 -- nobody holds it any more. All of it at once, in any order.
-use Rattle.std.proofs.{Common.{◌≡◌, ◌⊎◌, inl, inr, ⊎_elim, ℕ, zero, suc, ◌+◌, ◌<◌, ◌≤◌, ◌==◌, ◌&&◌, ◌||◌, Bool, true, false, not, cond, List, [], count_by, length, sum_by, Option, Some, None, IsSome, is_some, Result, Ok, Err, refl, sym, ap, subst, ◌∙◌, arith, slice_get, slice_set}, lemmas.Bool.false≢true}
-use Rattle.exec_base.specs.declared.{error.Error.Error, one_shot.OneShotState.{OneShotState, TheVariants.{Open, Sent, Closed}}}
+use Rattle.std.proofs.{Common.{◌≡◌, ◌⊎◌, inl, inr, ⊎_elim, ℕ, zero, suc, ◌+◌, ◌<◌, ◌≤◌, ◌==◌, ◌&&◌, ◌||◌, Bool, true, false, not, cond, List, [], count_by, length, sum_by, Option, Some, None, IsSome, is_some, Result, refl, sym, ap, subst, ◌∙◌, arith, slice_get, slice_set}, lemmas.Bool.false≢true}
+use Rattle.exec_base.specs.declared.{error.Error.Error, one_shot.OneShotState.{OneShotState}}
 use Rattle.exec_request.specs.declared.output.RequestOutput.{RequestOutput}
 use Rattle.exec_machine.specs.Tests.{is_unsent}
 use Rattle.exec_words.specs.declared.inbox.Message.{Message}
@@ -40,21 +40,7 @@ nap_same a z = record { worker = refl; task = refl; fired = refl; forwarding = r
 
 -- one after another
 pub things_then : (a b : ℕ) (r x y : Thing) → LetsThing a r x → LetsThing b x y → LetsThing (a + b) r y
-things_then a b r x y one two =
-    record {
-      worker = two.worker ∙ one.worker;
-      waiter = two.waiter ∙ one.waiter;
-      forwarding = two.forwarding ∙ one.forwarding;
-      paid = two.paid ∙ one.paid;
-      sent = two.sent ∙ one.sent;
-      ended = λ h. two.ended (ap is_some (one.ended h) ∙ h) ∙ one.ended h;
-      observed = λ none. two.observed (omega (arith, none)) ∙ one.observed (omega (arith, none));
-      gone = λ some. by b refl some;
-    }
-  where
-    by : (n : ℕ) → b ≡ n → 0 < a + b → y.observed ≡ false
-    by zero is some = two.observed is ∙ one.gone (omega (arith, is, some))
-    by (suc n) is some = two.gone (omega (arith, is))
+things_then = grind arith
 
 module _ (h h' : Hands) (workers : ℕ) (hs : List Holder) (ts ts' : List Thing) (naps naps' : List Nap) (boxes : List Box) (t : ℕ) (it it' : Holder) (own others : ℕ → ℕ) (told : ℕ → ℕ) where
   -- TASK t IS OVER: it held so often each request of the worker, and of others, and leaves so many messages about each sleeper
@@ -268,18 +254,7 @@ module _ (h h' : Hands) (workers : ℕ) (hs : List Holder) (ts ts' : List Thing)
       weighs false = refl
 
       held_then : (shut : Bool) (a b : ℕ) (o o' : Bool) (n n' all way way' : ℕ) → all ≡ a + b → n' + all ≡ n + 0 → way' ≡ way + b → (a ≡ 0 → o' ≡ o) → (0 < a → o' ≡ false) → IsHeldBy shut o n way → IsHeldBy shut o' n' way'
-      held_then true a b o o' n n' all way way' sums rest more kept gone fact = omega (arith, rest, fact)
-      held_then false zero b o o' n n' all way way' sums rest more kept gone fact =
-          let same : one_if o' ≡ one_if o = ap one_if (kept refl) in
-          omega (arith, sums, rest, more, same, fact)
-      held_then false (suc a) b o o' n n' all way way' sums rest more kept gone fact =
-          let none : one_if o' ≡ 0 = ap one_if (gone (omega arith)) in
-          let most : one_if o ≤ 1 = at_most o in
-          omega (arith, sums, rest, more, none, most, fact)
-        where
-          at_most : (c : Bool) → one_if c ≤ 1
-          at_most true = omega arith
-          at_most false = omega arith
+      held_then = grind arith
 
       seen_before : (a : ℕ) (r x : Thing) → LetsThing a r x → x.observed ≡ true → r.observed ≡ true
       seen_before zero r x lets is = sym (lets.observed refl) ∙ is
@@ -293,60 +268,23 @@ module _ (h h' : Hands) (workers : ℕ) (hs : List Holder) (ts ts' : List Thing)
       due_before a r x lets due = ⊎_elim (λ seen. inl (seen_before a r x lets seen)) (λ sent. inr (ap is_unsent (sym lets.forwarding) ∙ sent.0, sym lets.sent ∙ sent.1)) due
 
       answer_then : (a : ℕ) (r x : Thing) → LetsThing a r x → (o : OneShotState (Result RequestOutput Error)) → HasAnswer o r → HasAnswer o x
-      answer_then a r x lets Open is = lets.sent ∙ is
-      answer_then a r x lets (Sent (Ok answer)) is = (lets.sent ∙ is.0, lets.ended (ap is_some is.1) ∙ is.1)
-      answer_then a r x lets (Sent (Err error)) is = (lets.sent ∙ is.0, lost_then a r x lets is.1)
-      answer_then a r x lets Closed is = is
+      answer_then = grind arith
 
       unremoved : (a : Type 0) (z x : Nap) → LetsNap a z x → x.removed ≡ false → z.removed ≡ false
-      unremoved a z x lets is = by_bool z.removed refl
-        where
-          by_bool : (b : Bool) → z.removed ≡ b → z.removed ≡ false
-          by_bool true was = absurd (false≢true (sym is ∙ lets.removed was))
-          by_bool false was = was
+      unremoved = grind arith
 
       over_then : (a : Type 0) (z x : Nap) → LetsNap a z x → (z.fired || z.removed) ≡ true → (x.fired || x.removed) ≡ true
-      over_then a z x lets is = ap (λ b. b || x.removed) lets.fired ∙ by_bool z.fired z.removed refl is
-        where
-          by_bool : (f b : Bool) → z.removed ≡ b → (f || b) ≡ true → (f || x.removed) ≡ true
-          by_bool true b was h = refl
-          by_bool false b was h = lets.removed (was ∙ h)
+      over_then = grind arith
 
       of_then : (j : ℕ) (s : Subject) → IsOf workers j s ts naps → IsOf workers j s ts' naps'
       of_then j (subject.Request k) is = let now = by.things k is.0 is.1 in (now.0, now.1, now.2.worker ∙ is.2, is.3)
       of_then j (subject.Timer n) is = let now = by.naps_on n is.0 is.1 in (now.0, now.1, now.2.worker ∙ is.2, is.3)
 
       about_then : (j : ℕ) (m : Mail) → IsAbout workers j m ts naps → IsAbout workers j m ts' naps'
-      about_then j Message.WakeRoot is = tt
-      about_then j (Message.Forward s) is = of_then j s is
-      about_then j (Message.Cancel s) is = of_then j s is
+      about_then = grind arith
 
       owes_then : (j u : ℕ) (o : Option Subject) → Owes j u o ts naps boxes → Owes j u o ts' naps' boxes
-      owes_then j u None owes = owes
-      owes_then j u (Some (subject.Request k)) owes =
-          let now = by.things k owes.0 owes.1 in (
-            now.0,
-            now.1,
-            record {
-              worker = now.2.worker ∙ owes.2.worker;
-              waiter = now.2.waiter ∙ owes.2.waiter;
-              unpaid = now.2.paid ∙ owes.2.unpaid;
-              unsent = now.2.sent ∙ owes.2.unsent;
-              over = ⊎_elim (λ ended. inl (ap is_some (now.2.ended ended) ∙ ended)) (λ lost. inr (lost_then (own k) owes.0 now.0 now.2 lost.0, lost.1)) owes.2.over;
-            },
-          )
-      owes_then j u (Some (subject.Timer n)) owes =
-          let now = by.naps_on n owes.0 owes.1 in (
-            now.0,
-            now.1,
-            record {
-              worker = now.2.worker ∙ owes.2.worker;
-              task = now.2.task ∙ owes.2.task;
-              unpaid = now.2.paid ∙ owes.2.unpaid;
-              unsent = now.2.sent ∙ owes.2.unsent;
-              over = over_then (it.awaits ≡ Some (subject.Timer n)) owes.0 now.0 now.2 owes.2.over;
-            },
-          )
+      owes_then = grind arith
 
       owed_then : (j u : ℕ) → IsOwed j u hs ts naps boxes → IsOwed j u hs' ts' naps' boxes
       owed_then j u o =

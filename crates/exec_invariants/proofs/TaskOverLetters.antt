@@ -33,12 +33,7 @@ cancels_held k (h ∷ hs) =
 -- no other
 never_held : (m : Mail) → ((h : Held) → same_mail m (cancel_held h) ≡ false) → (hs : List Held) → mail_in m (map cancel_held hs) ≡ 0
 never_held m never [] = refl
-never_held m never (h ∷ hs) =
-    let nothing : ℕ = 0 in
-    let a = mail_cons m (cancel_held h) (map cancel_held hs) in
-    let none : cond (same_mail m (cancel_held h)) 1 0 ≡ nothing = ap (λ c. cond c 1 0) (never h) in
-    let rest = never_held m never hs in
-    omega (arith, a, none, rest)
+never_held m never (h ∷ hs) = grind (arith, mail_cons, never_held m never hs)
 
 never_sleep : (m : Mail) → ((h : Held) → same_mail m (cancel_sleep h) ≡ false) → (o : Option Held) → mail_in m (map cancel_sleep (option_to_list o)) ≡ 0
 never_sleep m never None = refl
@@ -66,13 +61,7 @@ removes_in n l =
 
 -- at most one of a sleeper, just of what is slept for
 sleeps_once : (n : ℕ) (u : Waiting) (o : Option Held) → ((h : Held) → o ≡ Some h → u ≡ Waiting.Timer h.number) → mail_in (Message.Cancel (subject.Timer n)) (map cancel_sleep (option_to_list o)) ≤ one_if (is_awaited_by (subject.Timer n) (awaited_in u))
-sleeps_once n u None is = omega arith
-sleeps_once n u (Some h) is =
-    subst (λ y. mail_in (Message.Cancel (subject.Timer n)) (map cancel_sleep (option_to_list (Some h))) ≤ one_if (is_awaited_by (subject.Timer n) (awaited_in y))) (sym (is h refl)) (by (n == h.number))
-  where
-    by : (b : Bool) → 0 + cond b 1 0 ≤ one_if b
-    by true = omega arith
-    by false = omega arith
+sleeps_once = grind arith
 
 -- none
 map_none : {A X : Type 0} (f : A → X) (xs : List A) (ys : List X) → map f xs ++ ys ≡ [] → (xs ≡ []) × (ys ≡ [])

@@ -1,5 +1,5 @@
 -- A TASK IS ABOUT TO BE OVER: what it holds is there, and may be let go of.
-use Rattle.std.proofs.{Common.{◌≡◌, ℕ, zero, suc, ◌<◌, ◌≤◌, ◌==◌, Bool, true, false, cond, List, [], ◌∷◌, length, map, Option, Some, None, refl, sym, ap, subst, ◌∙◌, arith, slice_get}, lemmas.{Bool.false≢true, Option.slice_get_within}}
+use Rattle.std.proofs.{Common.{◌≡◌, ℕ, zero, suc, ◌<◌, ◌≤◌, ◌==◌, Bool, true, cond, List, [], ◌∷◌, length, map, Option, Some, None, refl, sym, ap, subst, ◌∙◌, arith, slice_get}, lemmas.{Bool.false≢true, Option.slice_get_within}}
 use Rattle.exec_base.specs.{Slab.value_at, declared.slab.Slot.TheVariants.Live}
 use Rattle.exec_waiters.{specs.{States.{counts_pending, pending_count, waiter_at}, declared.waiter.{Entry.TheVariants.Pending, Waiter.Waiter}}, proofs.Changes.entry_of}
 use Rattle.exec_words.specs.declared.inbox.Message.{Message}
@@ -54,14 +54,10 @@ module _ {B : Type 0} where
       box_at r k at = found_within (map box_of s.seats.items) r.worker (old.of_worker k r at)
 
       seen_by : (shut o : Bool) (n told : ℕ) → 0 < n → IsHeldBy shut o n told → o ≡ true
-      seen_by true o n told some fact = absurd (omega (arith, some, fact))
-      seen_by false true n told some fact = refl
-      seen_by false false n told some fact = absurd (omega (arith, some, fact))
+      seen_by = grind arith
 
       once_by : (shut o : Bool) (n told : ℕ) → IsHeldBy shut o n told → n ≤ 1
-      once_by true o n told fact = omega (arith, fact)
-      once_by false true n told fact = omega (arith, fact)
-      once_by false false n told fact = omega (arith, fact)
+      once_by = grind arith
 
       seen : (k : ℕ) (r : Thing) → slice_get (map thing_of s.requests.items) k ≡ Some r → 0 < held_in k slot.held.items → r.observed ≡ true
       seen k r at some =
@@ -151,11 +147,4 @@ module _ {B : Type 0} where
       gates_in first kept = subst (λ (y : Shared B). AreLinedUp y.opens y.requests.items) (sym kept) gates
 
       by : (u : Waiting) → slot.waiting ≡ u → (v : Worker) (now : Shared B) → Keeps v now → now.sleepers.items ≡ s.sleepers.items → MayLetSleep u v now
-      by Waiting.Nothing is v now keeps same = tt
-      by Waiting.Wake is v now keeps same = tt
-      by Waiting.Woken is v now keeps same = tt
-      by Waiting.Yielded is v now keeps same = tt
-      by (Waiting.Request k) is v now keeps same = tt
-      by (Waiting.Timer z) is v now keeps same =
-          let inside : z < length now.sleepers.items = subst (λ zs. z < length zs) (sym same) (known z is) in
-          (inside, λ it at mine. record { known = inside; room = record { wakes = omega (arith, keeps.told.room.notes.wakes); completions = omega (arith, keeps.told.room.notes.completions) } })
+      by = grind arith

@@ -42,11 +42,7 @@ others_none i (h ∷ hs) each = ap (λ b. if not b then h ∷ others_of i hs els
 -- WHO MAY END
 
 pub waits_word : (c : Common) (t : Task) → t.code ≡ Code.Waits → next_word c t ≡ (if c.stopped then ScriptWord.End else ScriptWord.Await)
-waits_word c t code = ap (λ k. next_word c (record t { code = k })) code ∙ by c.stopped
-  where
-    by : (b : Bool) → next_word (record c { stopped = b }) (record t { code = Code.Waits }) ≡ (if b then ScriptWord.End else ScriptWord.Await)
-    by true = refl
-    by false = refl
+waits_word = grind arith
 
 pub stopped_so : (b : Bool) (x : ScriptWord) → asks_await x ≡ false → (if b then ScriptWord.End else ScriptWord.Await) ≡ x → b ≡ true
 stopped_so true x other is = refl

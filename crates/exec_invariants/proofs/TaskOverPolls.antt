@@ -1,5 +1,6 @@
 -- A POLLED TASK IS OVER: what the whole step is, but for what the machine is asked.
 use Rattle.std.proofs.{Common.{◌≡◌, ◌⊎◌, ⊎_elim, ℕ, true, false, List, [], Some, None, IsSome, refl, sym, ap, subst, ◌∙◌, slice_get, slice_set}, lemmas.Bool.false≢true}
+use Rattle.std.proofs.Common.{arith}
 use Rattle.exec_task.specs.Phases.{is_polled}
 use Rattle.exec_machine.specs.{declared.state.Waiting.Waiting, Tests.is_empty}
 use Rattle.exec_moves.specs.{declared.{handing.AfterCancels.AfterCancels, place.{InPoll.InPoll, Place.Place}}, Seen.polls_in}
@@ -58,26 +59,7 @@ module _ {B : Type 0} where
       let g : AllGone i hs u l w v (record s { tasks = ts }) now = subst (λ y. AllGone i hs u l w v y now) is gone in
       let keeps : Keeps v (record now { tasks = s.tasks }) = assumption g.keeps in
       let spares : SparesRecords i s (record now { tasks = s.tasks }) = assumption g.spares in
-      record {
-        keeps = keeps;
-        worker = g.worker;
-        kept = ap (λ (y : Shared B). record y { tasks = s.tasks }) g.kept;
-        shows = g.shows;
-        names = g.names;
-        shown = g.shown;
-        slept = g.slept;
-        own = g.own;
-        desk = g.desk;
-        on = g.on;
-        back = g.back;
-        of = g.of;
-        naps_on = g.naps_on;
-        naps_back = g.naps_back;
-        naps_of = g.naps_of;
-        spares = spares;
-        requests = g.requests;
-        timer = g.timer;
-      }
+      grind arith
 
   -- WHAT OTHERS RELY ON, AND THE BALANCES
   pub beside_over : (x : InPoll) (t : ℕ) (q : Place) (l : Letters) (w v : Worker) (s now s' : Shared B) (slot slot' : TaskSlot B) → InPollAt x t → SoundAt (Place.Poll t x) w s → OversPoll x t q l w v s now s' slot slot' → AreLetters s.config.workers w.index l s.requests.items s.sleepers.items

@@ -1,9 +1,10 @@
 -- WHAT THE MACHINE HAS, where a task is over and its worker has let go of what it has of that.
-use Rattle.std.proofs.{Common.{◌≡◌, ℕ, List, [], ◌++◌, map, Option, Some, refl, sym, ap, subst, ◌∙◌, slice_get, slice_set}, lemmas.List.map-set}
+use Rattle.std.proofs.{Common.{◌≡◌, ℕ, List, [], ◌++◌, Option, Some, refl, sym, ap, subst, ◌∙◌, slice_get, slice_set}, lemmas.List.map-set}
+use Rattle.std.proofs.Common.{arith}
 use Rattle.exec_task.specs.declared.body.Said.{Said}
-use Rattle.exec_machine.specs.{declared.state.{Letter.Letter, TaskPhase.TaskPhase}, Progress.Plan, Tasks.{after_over, own_after_drops, own_after_waking_up, requests_after_drops, sleepers_after_waking_up}, World.{Common, Task, task_of}}
+use Rattle.exec_machine.specs.{declared.state.{Letter.Letter, TaskPhase.TaskPhase}, Progress.Plan, Tasks.{after_over, own_after_drops, own_after_waking_up}, World.{Common, Task, task_of}}
 use Rattle.exec_moves.specs.{declared.place.Place.Place, Told.lets_go_all}
-use Rattle.exec_parts.specs.{declared.parts.{letters.Letters.Letters, record.Record.Record, shared.Shared.Shared, sleeping.SleeperRecord.SleeperRecord, task_slot.TaskSlot.TaskSlot, worker.Worker.Worker}, Records.numbers_held, Spots.Spot, View.{Views, common_of, desk_of, letters_in, open_seen, own_of, task_seen, things_with, visible, with_view}}
+use Rattle.exec_parts.specs.{declared.parts.{letters.Letters.Letters, shared.Shared.Shared, task_slot.TaskSlot.TaskSlot, worker.Worker.Worker}, Spots.Spot, View.{Views, common_of, desk_of, letters_in, own_of, task_seen, things_with, visible, with_view}}
 use Rattle.exec_invariants.{specs.Works.Suits, proofs.{Keys.same_opens, Seeing.things_kept, Seen.request_at, Serving.SparesRecords, Slots.task_there, TaskOverFold.SeesAll, TaskOverGone.AllGone, TaskOverPolls.{over_shared, over_worker}, Turning.view_found}}
 
 module _ {B L : Type 0} (left : B → L) (spot : L → Option Said → Spot) (p : Plan) (vs : Views) (t : ℕ) (q : Place) (l : Letters) (w v : Worker) (s now s' : Shared B) (slot slot' : TaskSlot B)
@@ -35,12 +36,4 @@ module _ {B L : Type 0} (left : B → L) (spot : L → Option Said → Spot) (p 
   desk_then none = gone.desk c sees refl (letters_in w.letters) ∙ ap (λ ls. record (desk_of v) { letters = ls ++ letters_in l }) none
 
   pub common_then : task_seen left spot slot' ≡ record (task_seen left spot slot) { phase = TaskPhase.Done; held = [] } → common_of left spot p (with_view vs w.index (visible (over_worker q l v w))) (over_shared s'.tasks.items s' now s) ≡ after_over c w.index t
-  common_then over =
-      let done : Task = record (task_seen left spot slot) { phase = TaskPhase.Done; held = [] } in
-      ap (λ us. common_of left spot p us (over_shared s'.tasks.items s' now s)) again
-      ∙ ap (λ ts. record c { tasks = ts; requests = map (λ (r : Record). r.shown) now.requests.items; sleepers = map (λ (z : SleeperRecord). z.shown) now.sleepers.items; opens = map (open_seen now.requests.items) s.opens })
-      (ap (map (task_seen left spot)) items ∙ map-set (task_seen left spot) s.tasks.items t slot' ∙ ap (slice_set c.tasks t) over)
-      ∙ ap (λ rs. record c { tasks = slice_set c.tasks t done; requests = rs; sleepers = map (λ (z : SleeperRecord). z.shown) now.sleepers.items; opens = map (open_seen now.requests.items) s.opens }) gone.shown
-      ∙ ap (λ zs. record c { tasks = slice_set c.tasks t done; requests = requests_after_drops w.index (numbers_held slot.held.items) c.requests; sleepers = zs; opens = map (open_seen now.requests.items) s.opens }) (gone.slept c refl)
-      ∙ ap (λ os. record c { tasks = slice_set c.tasks t done; requests = requests_after_drops w.index (numbers_held slot.held.items) c.requests; sleepers = sleepers_after_waking_up c w.index slot.waiting; opens = os }) (same_opens s.requests.items now.requests.items gone.names s.opens)
-      ∙ sym (ap (λ (y : Task). record c { tasks = slice_set c.tasks t (record y { phase = TaskPhase.Done; held = [] }); requests = requests_after_drops w.index y.held c.requests; sleepers = sleepers_after_waking_up c w.index y.waiting }) its)
+  common_then = grind (arith, over_shared, again, map-set, same_opens, its)

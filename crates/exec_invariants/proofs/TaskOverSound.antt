@@ -1,6 +1,7 @@
 -- WHAT HOLDS where a worker lets go of what a task held that is over: of its own things, at one place; and where it is told next to
 -- whom others of them are.
 use Rattle.std.proofs.{Common.{◌≡◌, ℕ, ◌+◌, true, false, Contains, [], Option, Some, None, sym, ap, subst, ◌∙◌, slice_get, option_to_list}, lemmas.Bool.false≢true}
+use Rattle.std.proofs.Common.{arith}
 use Rattle.exec_words.specs.Queue.{Queue}
 use Rattle.exec_task.specs.declared.runnable.Runnable.{Runnable}
 use Rattle.exec_base.specs.Slab.{Slab}
@@ -50,37 +51,10 @@ module _ {B : Type 0} where
     pub rooted : IsRooted w.index w.names (driver_of w) w.home.timers w.home.deferred s.requests.items s.sleepers.items
 
   pub keeps_own : (q : Place) (w : Worker) (s : Shared B) → w.place ≡ q → has_wakes_at q ≡ false → served_in q ≡ None → Keeps w s → KeepsOwn w s
-  keeps_own q w s here unwoken unserved keeps =
-      record {
-        told = keeps.told;
-        wide = keeps.wide;
-        named = keeps.named;
-        sized = keeps.sized;
-        over = keeps.over;
-        quiet = keeps.quiet (ap has_wakes_at here ∙ unwoken);
-        due = subst (λ y. IsDue y w.home.closing w.index w.moments s.config w.names (driver_of w) w.home.timers s.requests.items s.sleepers.items) (ap served_in here ∙ unserved) keeps.due;
-        flown = subst (λ y. HasFlown y w.index w.names (driver_of w) s.requests.items) (ap served_in here ∙ unserved) keeps.flown;
-        carried = keeps.carried;
-        known = keeps.known;
-        rooted = keeps.rooted;
-      }
+  keeps_own = grind arith
 
   pub own_keeps : (q : Place) (w : Worker) (s : Shared B) → spare_at q ≡ 64 → has_wakes_at q ≡ false → is_bare_at q ≡ false → SoundAt q w s → Keeps w s
-  own_keeps q w s spare unwoken unbare sound =
-      record {
-        told = subst (λ n. IsTold w.names.ended.items w.home.deferred (tellers (driver_of w).requests w.home.timers + n)) spare sound.told;
-        wide = sound.wide;
-        named = sound.named;
-        sized = sound.sized;
-        over = sound.over;
-        quiet = λ h. sound.quiet unwoken;
-        due = subst (λ y. IsDue (served_in y) w.home.closing w.index w.moments s.config w.names (driver_of w) w.home.timers s.requests.items s.sleepers.items) (sym sound.here) sound.due;
-        flown = subst (λ y. HasFlown (served_in y) w.index w.names (driver_of w) s.requests.items) (sym sound.here) sound.flown;
-        carried = sound.carried;
-        known = sound.known;
-        rooted = sound.rooted;
-        bare = λ is. absurd (false≢true (sym (ap is_bare_at sound.here ∙ unbare) ∙ is));
-      }
+  own_keeps = grind arith
 
   -- THE OWN THINGS changed, and nothing else
   pub sound_let : (q : Place) (w v : Worker) (s s' : Shared B) → IsAside q → SoundAt q w s → v ≡ record w { names = record w.names { ended = v.names.ended }; home = record w.home { driver = v.home.driver; timers = v.home.timers; deferred = v.home.deferred } } → s' ≡ record s { requests = s'.requests; sleepers = s'.sleepers }

@@ -1,5 +1,5 @@
 -- A POLLED TASK IS OVER: what that leaves of all parties' balances, and of what others rely on.
-use Rattle.std.proofs.{Common.{◌≡◌, ◌≢◌, inr, ℕ, ◌+◌, ◌<◌, ◌≤◌, ◌==◌, ◌&&◌, not, sum_by, Bool, true, false, ◌++◌, length, map, Some, None, refl, sym, ap, subst, ◌∙◌, arith, slice_get, slice_set, option_to_list, if◌then◌else◌}, lemmas.{Bool.false≢true, List.length-set, Option.slice_get_within}}
+use Rattle.std.proofs.{Common.{◌≡◌, ◌≢◌, ℕ, ◌+◌, ◌<◌, ◌≤◌, ◌==◌, ◌&&◌, not, sum_by, Bool, true, false, ◌++◌, length, map, Some, None, refl, sym, ap, subst, ◌∙◌, arith, slice_get, slice_set, option_to_list, if◌then◌else◌}, lemmas.{Bool.false≢true, List.length-set, Option.slice_get_within}}
 use Rattle.std.specs.List.{range_with_len}
 use Rattle.exec_words.specs.Idle.{is_in}
 use Rattle.exec_task.specs.{Phases.is_polled, declared.runnable.Runnable.Runnable}
@@ -29,24 +29,7 @@ module _ {B : Type 0} where
   -- what a worker that polled it does then
   redoes_done : (t : ℕ) (x : InPoll) (q : Place) (w w' : Worker) (s : Shared B) (slot slot' : TaskSlot B) (others : Profile) → w.place ≡ Place.Poll t x → polls_in t x ≡ Some t → clears_at (Place.Poll t x) ≡ None → IsPast q → w'.index ≡ w.index → w'.place ≡ q → IsDone slot slot'
       → is_complete slot.cell.phase ≡ false → ((u : ℕ) → removes_at q ≡ Some u → (u ≡ t) × (slot.home ≡ None)) → Redoes t w.index (duties_of (with_worker others w)) (duties_of (with_worker others w')) slot slot' s.seats.items
-  redoes_done t x q w w' s slot slot' others here polls uncleared past index place over going removes =
-      record {
-        home = over.keeps.home;
-        cleared = λ home. over.cleared;
-        over = λ home h. over.complete;
-        clears = λ u. ap (λ o. others.clears u + one_if (is_number o u)) (ap clears_at place ∙ past.clears ∙ sym (ap clears_at here ∙ uncleared));
-        polls_beside = λ j other. ap (λ i. if j == i then polls_at w'.place else others.polled_by j) index ∙ chosen_other j w.index (polls_at w'.place) (others.polled_by j) other ∙ sym (chosen_other j w.index (polls_at w.place) (others.polled_by j) other);
-        drops_beside = λ j other. ap (λ i. if j == i then drops_at w'.place else others.drops_by j) index ∙ chosen_other j w.index (drops_at w'.place) (others.drops_by j) other ∙ sym (chosen_other j w.index (drops_at w.place) (others.drops_by j) other);
-        polls_others = λ u other is.
-            let was : Some t ≡ Some u = sym (ap polls_at here ∙ polls) ∙ sym (chosen_own w.index (polls_at w.place) (others.polled_by w.index)) ∙ is in
-            absurd (other (sym (same_thing t u was)));
-        polls = λ home polled. absurd (false≢true (sym over.unpolled ∙ polled));
-        clears_next = ap (λ y. y.clears) now_drops ∙ past.clears ∙ sym (ap (λ y. y.clears) (chosen_own w.index (drops_at w.place) (others.drops_by w.index)) ∙ ap clears_at here ∙ uncleared);
-        removes_next = λ u is. let it = removes u (sym (ap (λ y. y.removes) now_drops) ∙ is) in inr (it.0, it.1, over.complete, going);
-      }
-    where
-      now_drops : (if w.index == w'.index then drops_at w'.place else others.drops_by w.index) ≡ drops_at q
-      now_drops = ap (λ i. if w.index == i then drops_at w'.place else others.drops_by w.index) index ∙ chosen_own w.index (drops_at w'.place) (others.drops_by w.index) ∙ ap drops_at place
+  redoes_done = grind (arith, chosen_other, chosen_own, same_thing, false≢true)
 
   -- THE BALANCES
   pub whole_done : (t : ℕ) (x : InPoll) (q : Place) (w w' : Worker) (s s' : Shared B) (slot slot' : TaskSlot B) (others : Profile) → w.place ≡ Place.Poll t x → polls_in t x ≡ Some t → clears_at (Place.Poll t x) ≡ None → claims_at (Place.Poll t x) ≡ None → has_count_at (Place.Poll t x) ≡ false → is_published_at (Place.Poll t x) ≡ false → IsPast q
@@ -141,29 +124,5 @@ module _ {B : Type 0} where
   spares_done i j t s s' slot slot' other there items keeps rootless unpolled homes kept spares room =
       let a : Spares j s (record s { requests = s'.requests; sleepers = s'.sleepers }) = spares_service i j s (record s { requests = s'.requests; sleepers = s'.sleepers }) other refl spares room in
       let b : Spares j s (record s { tasks = s'.tasks }) = spares_slot i j t s s' slot slot' other there items keeps rootless (λ polled mine. absurd (unpolled polled mine)) homes in
-      let done : Spares j s (record s { tasks = s'.tasks; requests = s'.requests; sleepers = s'.sleepers }) = record {
-        config = refl;
-        clock = refl;
-        gates = a.gates;
-        hints = λ file h. h;
-        many = refl;
-        chair = b.chair;
-        tails = b.tails;
-        records = a.records;
-        records_only = a.records_only;
-        sleepers = a.sleepers;
-        sleepers_only = a.sleepers_only;
-        endure = a.endure;
-        endure_too = a.endure_too;
-        root = b.root;
-        polled = b.polled;
-        room = a.room;
-        stretch = λ file offset n h. h;
-        stopped = λ h. h;
-        closed = λ h. h;
-        by_zero = λ h. (refl, refl);
-        shards = refl;
-        emptied = λ shut k none. none;
-        genuine = b.genuine;
-      } in
+      let done : Spares j s (record s { tasks = s'.tasks; requests = s'.requests; sleepers = s'.sleepers }) = grind arith in
       subst (Spares j s) (sym kept) done

@@ -2,38 +2,20 @@
 use Rattle.std.proofs.{lemmas.{List.map-set, Option.slice_get-map, Bool.{false≢true, eq-eqb}}, Common.{◌⊎◌, ⊎_elim, ◌≡◌, ℕ, zero, suc, ◌+◌, ◌||◌, Bool, true, false, List, [], ◌∷◌, count_by, Option, Some, None, refl, sym, ap, subst, ◌∙◌, ◌<◌, ◌==◌, arith, map, option_map, slice_get, slice_set, if◌then◌else◌}}
 use Rattle.exec_base.specs.declared.error.Error.TheVariants.{NoMemory}
 use Rattle.exec_task.specs.declared.body.Said.{Said}
-use Rattle.exec_machine.specs.{declared.{state.{Forwarding.TheVariants.{Applied, Unsent}, MailMessage.TheVariants.ForwardTimer, Waiting.Waiting}, event.Event.{Event, TheVariants.{Pass, GotTimer, Turn}}}, Choice.Choice.Plain, Progress.Plan, Tasks.{after_taken, after_taking, is_here}, Tests.{is_unsent, is_woken, waits_for_nothing, waits_for_timer}, Words.{acts, asks_no_sleep, moved_on}, World.{Task, Common, task_of}}
+use Rattle.exec_machine.specs.{declared.{state.{Forwarding.TheVariants.{Applied, Unsent}, MailMessage.TheVariants.ForwardTimer, Waiting.Waiting}, event.Event.{Event, TheVariants.{Pass, GotTimer, Turn}}}, Choice.Choice.Plain, Progress.Plan, Tasks.{is_here}, Tests.{is_unsent}, World.{Task, task_of}}
 use Rattle.exec_moves.specs.{declared.{handing.AfterSend.AfterSend, place.{InPoll.InPoll, Place.Place}}, Move.move_look_at, Poll.{Sight.{Asks, HearsTimer}, acts_on, pend, resume, sight_by, sight_of, stops}, State.{Moved, Things, does}, Thing.{aside, with_alarms}, Told.has_number}
-use Rattle.exec_parts.{specs.{declared.parts.{shared.Shared.Shared, sleeping.SleeperRecord.SleeperRecord, task_slot.TaskSlot.TaskSlot, worker.Worker.Worker}, Polls.{passed_slot, slept_slot}, Records.numbers_held, Scripts.IsAnswered, Spots.Spot, View.{Views, body_in, common_of, desk_of, numbers_of_passing, own_of, spot_by, task_seen, things_with}, Things.TurnsSlot}, proofs.Facts.{not_same, same_thing}}
+use Rattle.exec_parts.{specs.{declared.parts.{shared.Shared.Shared, sleeping.SleeperRecord.SleeperRecord, task_slot.TaskSlot.TaskSlot, worker.Worker.Worker}, Polls.{passed_slot, slept_slot}, Records.numbers_held, Scripts.IsAnswered, Spots.Spot, View.{Views, common_of, desk_of, numbers_of_passing, own_of, spot_by, task_seen, things_with}, Things.TurnsSlot}, proofs.Facts.{not_same, same_thing}}
 use Rattle.exec_invariants.{specs.{Hearing.{CanHear, held_once_come}, Holding.{Holder, IsHolding, awaited_in, box_of, holder_of, nap_of, thing_of}, Sound.{SoundAt, acts_next, has_wakes_at, may_resume}, Whole.{Profile, hands_of, wakes_with, with_worker}, Works.Steps}, proofs.{Hearing.hears_come, Here.{IsHere, going_on}, HoldBeside.Holds, HoldNaps.nap_taken, HoldThings.touches_none, PoolKept.chosen_own, Seen.sleeper_at, Slots.{IsEvent, holders_set, task_there, works_slot}, TaskDeals.{Dealt, acts as to_act, dealt, from_look}}}
 
 -- A number is among those that pass just where what stands there passes.
 past_none : {A : Type 0} (test : A → Bool) (n a : ℕ) (xs : List A) → n < a → has_number n (numbers_of_passing test a xs) ≡ false
 past_none test n a [] less = refl
-past_none test n a (x ∷ xs) less = by (test x) (past_none test n (suc a) xs (omega (arith, less)))
-  where
-    by : (b : Bool) → has_number n (numbers_of_passing test (suc a) xs) ≡ false → has_number n (if b then a ∷ numbers_of_passing test (suc a) xs else numbers_of_passing test (suc a) xs) ≡ false
-    by false rest = rest
-    by true rest = ap (λ c. c || has_number n (numbers_of_passing test (suc a) xs)) (not_same a n (λ same. omega (arith, less, same))) ∙ rest
+past_none test n a (x ∷ xs) less = grind (arith, not_same, past_none test n (suc a) xs (omega (arith, less)))
 
 passes_from : {A : Type 0} (test : A → Bool) (a k : ℕ) (xs : List A) (x : A) → slice_get xs k ≡ Some x → has_number (a + k) (numbers_of_passing test a xs) ≡ test x
 passes_from test a k [] x at = absurd (cc)
-passes_from test a zero (y ∷ ys) x at = by (test y) refl ∙ ap test (same_thing y x at)
-  where
-    here : a + 0 ≡ a
-    here = omega arith
-
-    by : (b : Bool) → test y ≡ b → has_number (a + 0) (if b then a ∷ numbers_of_passing test (suc a) ys else numbers_of_passing test (suc a) ys) ≡ test y
-    by true is = ap (λ n. has_number n (a ∷ numbers_of_passing test (suc a) ys)) here ∙ ap (λ c. c || has_number a (numbers_of_passing test (suc a) ys)) (eq-eqb a a refl) ∙ sym is
-    by false is = ap (λ n. has_number n (numbers_of_passing test (suc a) ys)) here ∙ past_none test a (suc a) ys (omega arith) ∙ sym is
-passes_from test a (suc k) (y ∷ ys) x at = by (test y) (passes_from test (suc a) k ys x at)
-  where
-    on : a + suc k ≡ suc a + k
-    on = omega arith
-
-    by : (b : Bool) → has_number (suc a + k) (numbers_of_passing test (suc a) ys) ≡ test x → has_number (a + suc k) (if b then a ∷ numbers_of_passing test (suc a) ys else numbers_of_passing test (suc a) ys) ≡ test x
-    by false rest = ap (λ n. has_number n (numbers_of_passing test (suc a) ys)) on ∙ rest
-    by true rest = ap (λ c. c || has_number (a + suc k) (numbers_of_passing test (suc a) ys)) (not_same a (a + suc k) (λ same. omega (arith, same))) ∙ ap (λ n. has_number n (numbers_of_passing test (suc a) ys)) on ∙ rest
+passes_from test a zero (y ∷ ys) x at = grind (arith, same_thing, eq-eqb, past_none)
+passes_from test a (suc k) (y ∷ ys) x at = grind (arith, not_same, passes_from test (suc a) k ys x at)
 
 pub passes_at : {A : Type 0} (test : A → Bool) (k : ℕ) (xs : List A) (x : A) → slice_get xs k ≡ Some x → has_number k (numbers_of_passing test 0 xs) ≡ test x
 passes_at test k xs x at = ap (λ n. has_number n (numbers_of_passing test 0 xs)) (omega arith) ∙ passes_from test 0 k xs x at
@@ -70,18 +52,6 @@ module _ {B L : Type 0} (left : B → L) (spot : L → Option Said → Spot) (an
   spot_answered None answer told heard untold = refl
   spot_answered (Some b) answer told heard untold = answered (left b) answer heard ∙ ap (spot (left b)) (sym untold)
 
-  told_seen : (answer : Said) (slot : TaskSlot B) → (answer ≡ Said.Refused NoMemory → ⊥) → slot.told ≡ None → task_seen left spot (told_slot answer slot) ≡ record (task_seen left spot slot) { waiting = Waiting.Nothing }
-  told_seen answer slot heard untold =
-      ap (λ s. record (task_seen left spot slot) { code = s.code; place = s.place; adapters = s.adapters; call = s.call; waiting = Waiting.Nothing })
-      (spot_answered (body_in slot.cell.phase slot.body) answer slot.told heard untold)
-
-  after_told_seen : (all : Common) (t : ℕ) (answer : Said) (slot : TaskSlot B) → task_of all t ≡ task_seen left spot slot → waits_for_nothing slot.waiting ≡ false → (answer ≡ Said.Refused NoMemory → ⊥) → slot.told ≡ None
-      → after_taken all t ≡ record all { tasks = slice_set all.tasks t (task_seen left spot (told_slot answer slot)) }
-  after_told_seen all t answer slot it waits heard untold =
-      ap (λ y. record all { tasks = slice_set all.tasks t (after_taking all y) }) it
-      ∙ ap (λ b. record all { tasks = slice_set all.tasks t (if b then moved_on all (task_seen left spot slot) else record (task_seen left spot slot) { waiting = Waiting.Nothing }) }) waits
-      ∙ ap (λ y. record all { tasks = slice_set all.tasks t y }) (sym (told_seen answer slot heard untold))
-
   -- the step, for what it waited for and was told
   told_by : (t : ℕ) (u : Waiting) (x : Said) (w w' : Worker) (s s' : Shared B) (e e' : Event) (change : TaskSlot B → TaskSlot B) → (sound : SoundAt (Place.Poll t InPoll.Resume) w s) → (it : IsHere InPoll.Resume t w s) → it.slot.waiting ≡ u → acts_next u ≡ false
       → CanHear None u x → held_once_come u (numbers_held it.slot.held.items) ≡ (numbers_held it.slot.held.items) → change it.slot ≡ told_slot x it.slot
@@ -111,12 +81,7 @@ module _ {B L : Type 0} (left : B → L) (spot : L → Option Said → Spot) (an
       let what : (task_of all t).waiting ≡ Waiting.Woken = ap (λ y. y.waiting) it ∙ waits in
       let d = desk_of (record w { place = Place.Poll t InPoll.Resume }) in
       let looks : Task → Moved Things = λ y. move_look_at p.config all d (things_with vs s) t (AfterSend.Pend t) (aside (things_with vs s) (resume w.index t all d y)) (sight_of w.index all y.waiting) in
-      record {
-        moves = ap looks it ∙ ap (λ u. looks (record (task_seen left spot slot) { waiting = u })) waits;
-        may = (ap (λ u. is_woken u || acts me all asks_no_sleep) what, tt);
-        own = refl;
-        common = after_told_seen all t Said.Pass slot it (ap waits_for_nothing waits) (λ h. absurd (cc)) untold;
-      }
+      grind arith
 
   pub wake_taken : (t : ℕ) (w w' : Worker) (s s' : Shared B) (e : Event) → (sound : SoundAt (Place.Poll t InPoll.Resume) w s) → (it : IsHere InPoll.Resume t w s) → it.slot.waiting ≡ Waiting.Woken → e ≡ Pass
       → w' ≡ record w { place = Place.Poll t InPoll.Act } → TurnsSlot t s s' passed_slot → Steps left spot w s e w' s'
@@ -155,14 +120,7 @@ module _ {B L : Type 0} (left : B → L) (spot : L → Option Said → Spot) (an
       ∙ ap (λ b. with_alarms x (if b then does (GotTimer k) (acts_on t d) x.alarms else does Turn (stops t d) x.alarms)) (passes_at (λ (y : SleeperRecord). y.sent) k s.sleepers.items z at_k ∙ heard.0)) whose in
       let here : is_here w.index z.shown.worker z.shown.forwarding ≡ true =
       ⊎_elim (λ own. ap (is_here w.index z.shown.worker) own.1 ∙ ap (λ n. n == w.index) own.0 ∙ eq-eqb w.index w.index refl) (λ heard. ap (is_here w.index z.shown.worker) heard.1) whose in
-      record {
-        moves = ap looks it ∙ ap (λ u. looks (record (task_seen left spot slot) { waiting = u })) waits
-            ∙ ap (λ y. move_look_at p.config all d x t (AfterSend.Pend t) (aside x (if y.fired then does (GotTimer k) (acts_on t d) asleep else pend w.index t all d asleep)) (sight_by (is_unsent y.forwarding) (y.worker == w.index) (Asks y.worker (ForwardTimer k)) (HearsTimer k))) sleeper
-            ∙ found;
-        may = (ap (waits_for_timer k) what ∙ eq-eqb k k refl, (ap (λ y. is_here w.index y.worker y.forwarding) sleeper ∙ here, (ap (λ y. y.fired) sleeper ∙ fired, tt)));
-        own = refl;
-        common = after_told_seen all t Said.Slept slot it (ap waits_for_nothing waits) (λ h. absurd (cc)) untold;
-      }
+      grind arith
 
   pub sleep_taken : (t k : ℕ) (w w' : Worker) (s s' : Shared B) (e : Event) (z : SleeperRecord) → (sound : SoundAt (Place.Poll t InPoll.Resume) w s) → (it : IsHere InPoll.Resume t w s) → it.slot.waiting ≡ Waiting.Timer k
       → slice_get s.sleepers.items k ≡ Some z → z.shown.fired ≡ true → SleepHere w.index z → e ≡ GotTimer k → w' ≡ record w { place = Place.Poll t InPoll.Act } → TurnsSlot t s s' slept_slot → Steps left spot w s e w' s'

@@ -1,21 +1,17 @@
 -- A POLLED TASK, ANOTHER WORKER'S REQUEST: the newest that it holds is another worker's. That may be told that the task waits for it
 -- elsewhere, or holds it no more: its mailbox is open, and has a place for that.
-use Rattle.std.proofs.{Common.{◌≡◌, ◌≢◌, ◌⊎◌, inl, inr, ℕ, ◌+◌, ◌-◌, ◌<◌, ◌≤◌, Bool, true, false, cond, List, [], ◌∷◌, count_by, length, map, Option, Some, None, refl, sym, ap, subst, ◌∙◌, arith, slice_get}, lemmas.{Bool.false≢true, Option.slice_get_within}}
-use Rattle.exec_words.specs.{Inbox.{is_wake_root, spare_places}, declared.inbox.Message.{Message}}
+use Rattle.std.proofs.{Common.{◌≡◌, ◌≢◌, ◌⊎◌, inl, inr, ℕ, ◌+◌, ◌-◌, ◌<◌, ◌≤◌, Bool, true, false, List, [], count_by, length, map, Option, Some, None, refl, sym, ap, subst, ◌∙◌, arith, slice_get}, lemmas.{Bool.false≢true, Option.slice_get_within}}
+use Rattle.exec_words.specs.{Inbox.{is_wake_root}, declared.inbox.Message.{Message}}
 use Rattle.exec_machine.specs.{declared.state.{Forwarding.TheVariants.Unsent, MailMessage.TheVariants.{CancelRequest, ForwardRequest}}, Tests.is_unsent}
 use Rattle.exec_moves.specs.declared.place.{InPoll.InPoll, Place.Place}
 use Rattle.exec_parts.{specs.{declared.parts.{mail.Subject.Subject, record.Record.Record, seat.Seat.Seat as Chair, shared.Shared.Shared, task_slot.TaskSlot.TaskSlot, worker.Worker.Worker}, Awaits.newest_of, MailPosts.MaySend, Records.numbers_held}, proofs.Facts.{by_number, never_true, same_thing}}
-use Rattle.exec_invariants.{specs.{Holding.{Box, Hands, Holder, IsAbout, IsHeldBy, IsHolding, Mail, MayHave, Nap, Thing, awaited_in, box_of, holder_of, holdings, mail_in, nap_of, same_mail, thing_of, under_way}, Sound.SoundAt, Whole.{HasWhole, hands_of, with_worker}}, proofs.{AskBoxes.{box_there, none_sent, pool_open}, Here.IsHere, HoldMail.{mail_is, sum_least}, HoldPosts.{has_place, with_mail}, HoldSteps.{held_there, hold_once}, HoldWaits.{held_number, holds_alone}, Polling.home_mine, SparedRecord.there_within, TaskHears.thing_there, TaskTakes.holder_there}}
+use Rattle.exec_invariants.{specs.{Holding.{Box, Hands, Holder, IsAbout, IsHeldBy, IsHolding, Mail, MayHave, Nap, Thing, awaited_in, box_of, holder_of, holdings, mail_in, nap_of, thing_of, under_way}, Sound.SoundAt, Whole.{HasWhole, hands_of, with_worker}}, proofs.{AskBoxes.{box_there, none_sent, pool_open}, Here.IsHere, HoldMail.{sum_least}, HoldPosts.{has_place, with_mail}, HoldSteps.{held_there, hold_once}, HoldWaits.{held_number, holds_alone}, Polling.home_mine, SparedRecord.there_within, TaskHears.thing_there, TaskTakes.holder_there}}
 
 none_told : (shut observed : Bool) (held told : ℕ) → shut ≡ false → 0 < held → IsHeldBy shut observed held told → told ≡ 0
-none_told true observed held told open_box some fact = absurd (false≢true (sym open_box))
-none_told false true held told open_box some fact = omega (arith, some, fact)
-none_told false false held told open_box some fact = omega (arith, some, fact)
+none_told = grind arith
 
 pub held_so : (shut observed : Bool) (held told : ℕ) → 0 < held → IsHeldBy shut observed held told → observed ≡ true
-held_so true observed held told some fact = absurd (omega (arith, some, fact))
-held_so false true held told some fact = refl
-held_so false false held told some fact = absurd (omega (arith, some, fact))
+held_so = grind arith
 
 -- WHO IS ASKED OR TOLD has a place for that
 module _ (h : Hands) (workers : ℕ) (hs : List Holder) (ts : List Thing) (naps : List Nap) (boxes : List Box) (k : ℕ) (r : Thing) (there : slice_get ts k ≡ Some r) (few : r.worker < workers)
@@ -36,13 +32,7 @@ module _ (h : Hands) (workers : ℕ) (hs : List Holder) (ts : List Thing) (naps 
 
 -- with one more in hand each message is still about something
 pub made_with : (h : Hands) (workers : ℕ) (ts : List Thing) (naps : List Nap) (m : Mail) (j : ℕ) → IsAbout workers j m ts naps → ((x : Mail) → 0 < h.mail x → (i : ℕ) × IsAbout workers i x ts naps) → (x : Mail) → 0 < (with_mail m h).mail x → (i : ℕ) × IsAbout workers i x ts naps
-made_with h workers ts naps m j about made x some = by (same_mail x m) refl
-  where
-    by : (b : Bool) → same_mail x m ≡ b → (i : ℕ) × IsAbout workers i x ts naps
-    by true is = (j, subst (λ y. IsAbout workers j y ts naps) (sym (mail_is x m is)) about)
-    by false is =
-        let none : mail_in x (m ∷ []) ≡ 0 = ap (λ c. 0 + cond c 1 0) is in
-        made x (omega (arith, none, some))
+made_with = grind arith
 
 module _ {B : Type 0} where
   pub record WantsFrom (t k : ℕ) (w : Worker) (s : Shared B) (slot : TaskSlot B) (r : Record) : Type 0 where
@@ -138,22 +128,10 @@ module _ {B : Type 0} where
   may_forward x t k w s slot r has wants at_k unsent =
       let at_box = box_there s.seats.items r.shown.worker wants.chair wants.there in
       let room = forward_place (hands_of (with_worker has.others w)) s.config.workers (map holder_of s.tasks.items) (map thing_of s.requests.items) (map nap_of s.sleepers.items) (map box_of s.seats.items) k (thing_of r) (thing_there s.requests.items k r at_k) wants.few (box_of wants.chair) at_box wants.open_box has.whole.holding unsent in
-      record {
-        there = slice_get_within s.seats.items r.shown.worker wants.chair wants.there;
-        place = λ chair there open_box undropped.
-            let is : wants.chair ≡ chair = same_thing wants.chair chair (sym wants.there ∙ there) in
-            let roots = (has.whole.pool.mail r.shown.worker wants.chair wants.there).roots in
-            subst (λ (c : Chair). 0 < spare_places c.mailbox.inbox) is (omega (arith, room, roots));
-      }
+      grind (arith, slice_get_within, same_thing)
 
   pub may_cancel : (x : InPoll) (t k : ℕ) (w : Worker) (s : Shared B) (slot : TaskSlot B) (r : Record) → (has : HasWhole w s) → WantsFrom t k w s slot r → slice_get s.requests.items k ≡ Some r → MaySend r.shown.worker (CancelRequest k) s
   may_cancel x t k w s slot r has wants at_k =
       let at_box = box_there s.seats.items r.shown.worker wants.chair wants.there in
       let room = cancel_place (hands_of (with_worker has.others w)) s.config.workers (map holder_of s.tasks.items) (map thing_of s.requests.items) (map nap_of s.sleepers.items) (map box_of s.seats.items) k (thing_of r) (thing_there s.requests.items k r at_k) wants.few (box_of wants.chair) at_box wants.open_box has.whole.holding wants.held in
-      record {
-        there = slice_get_within s.seats.items r.shown.worker wants.chair wants.there;
-        place = λ chair there open_box undropped.
-            let is : wants.chair ≡ chair = same_thing wants.chair chair (sym wants.there ∙ there) in
-            let roots = (has.whole.pool.mail r.shown.worker wants.chair wants.there).roots in
-            subst (λ (c : Chair). 0 < spare_places c.mailbox.inbox) is (omega (arith, room, roots));
-      }
+      grind (arith, slice_get_within, same_thing)

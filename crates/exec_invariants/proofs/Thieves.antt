@@ -1,19 +1,16 @@
 -- What a thief finds of another run queue and its seat, and leaves of them.
-use Rattle.std.proofs.{Common.{◌≡◌, ◌≢◌, ℕ, ◌+◌, ◌/◌, ◌<◌, ◌≤◌, ◌==◌, Bool, true, false, not, Contains, List, ◌++◌, length, take, drop, Some, refl, sym, ap, subst, ◌∙◌, arith, cond, slice_get, slice_set, div-add-mod', take-append-drop}, lemmas.{Bool.{eq-eqb, Decides.nat_tests}, List.{length-set, map-append, Elements.{Contains-append_left, Contains-append_right}, Sums.sum_by-append}, Nat.mod_below, Option.slice_get-get_or}}
+use Rattle.std.proofs.{Common.{◌≡◌, ◌≢◌, ℕ, ◌+◌, ◌/◌, ◌<◌, ◌≤◌, ◌==◌, Bool, not, Contains, List, ◌++◌, length, take, drop, Some, refl, sym, ap, subst, ◌∙◌, arith, cond, slice_get, slice_set, take-append-drop}, lemmas.{List.{length-set, map-append, Elements.{Contains-append_left, Contains-append_right}, Sums.sum_by-append}, Option.slice_get-get_or}}
 use Rattle.exec_words.specs.Queue.{Queue, published}
 use Rattle.exec_task.specs.declared.runnable.Runnable.{Runnable}
 use Rattle.exec_moves.specs.{declared.place.Place.Place, Seen.polls_at}
 use Rattle.exec_parts.{specs.{declared.parts.{seat.Seat.Seat as Chair, shared.Shared.Shared, worker.Worker.Worker}, Phased.stage_of, View.{queue_seen, tasks_of}}, proofs.Facts.set_elsewhere}
-use Rattle.exec_invariants.{specs.{Places.{claims_at, drops_at, has_count_at, is_published_at, one_if}, Sound.{IsSeated, SoundAt}, Whole.{HasWhole, is_number, runnables_in, with_worker}}, proofs.{Aside.SameTold, Dedicated.as_long, Queued.Hands}}
+use Rattle.exec_invariants.{specs.{Places.{claims_at, drops_at, has_count_at, is_published_at, one_if}, Sound.{IsSeated, SoundAt}, Whole.{HasWhole, runnables_in, with_worker}}, proofs.{Aside.SameTold, Dedicated.as_long, Queued.Hands}}
 
 -- HEADS AND HALVES
 
 -- half of so many, of two at least and 256 at most
 pub half_of : (n : ℕ) → 2 ≤ n → n ≤ 256 → (0 < n / 2) × (n / 2 < n) × (n / 2 ≤ 128)
-half_of n some most =
-    let split = div-add-mod' n 2 in
-    let less = mod_below n 2 (omega arith) in
-    (omega (arith, split, less, some), omega (arith, split, less, some), omega (arith, split, less, most))
+half_of = grind arith
 
 -- LISTS
 
@@ -48,15 +45,7 @@ module _ {B : Type 0} where
   own_still k chair' w s s' other set = ap (λ xs. slice_get xs w.index) set ∙ set_elsewhere s.seats.items k w.index chair' (λ is. other (sym is))
 
   pub seated_still : (k : ℕ) (chair' : Chair) (armed : Bool) (w : Worker) (s s' : Shared B) → k ≢ w.index → s'.seats.items ≡ slice_set s.seats.items k chair' → IsSeated w.index armed s.config.workers s.seats.items → IsSeated w.index armed s.config.workers s'.seats.items
-  seated_still k chair' armed w s s' other set seated =
-      record {
-        many = as_long (ap length set ∙ length-set s.seats.items k chair') seated.many;
-        pool = seated.pool;
-        seat = seated.seat;
-        there = own_still k chair' w s s' other set ∙ seated.there;
-        unarmed = seated.unarmed;
-        mail = seated.mail;
-      }
+  seated_still = grind (arith, as_long, length-set, own_still)
 
   pub stage_still : (k : ℕ) (chair' : Chair) (w : Worker) (s s' : Shared B) → k ≢ w.index → s'.seats.items ≡ slice_set s.seats.items k chair' → (chair : Chair) → slice_get s'.seats.items w.index ≡ Some chair → (was : Chair) × (slice_get s.seats.items w.index ≡ Some was) × (stage_of was s ≡ stage_of chair s)
   stage_still k chair' w s s' other set chair there = (chair, sym (own_still k chair' w s s' other set) ∙ there, refl)
@@ -66,7 +55,4 @@ module _ {B : Type 0} where
   has_claim k its w s has there claims = by (its.queue.gap == 0) refl (has.whole.claims k its there)
     where
       by : (b : Bool) → (its.queue.gap == 0) ≡ b → (with_worker has.others w).claims k ≡ one_if (not b) → 0 < its.queue.gap
-      by true is total =
-          let mine : one_if (is_number (claims_at w.place) k) ≡ 1 = rw (claims, eq-eqb k k refl) refl in
-          omega (arith, total, mine)
-      by false is total = grind (arith, nat_tests, is)
+      by = grind arith

@@ -1,12 +1,12 @@
 -- What holds again once a deadline is on the wheel.
-use Rattle.std.{proofs.{Common.{◌≡◌, ◌≢◌, ℕ, ◌+◌, ◌^◌, ◌<◌, ◌≤◌, ◌==◌, Bool, true, false, List, [], Option, Some, None, IfSome, is_some, refl, sym, ap, subst, ◌∙◌, arith, inl, inr, slice_get, Ok}, lemmas.Bool.false≢true}, specs.Prelude.unwrap_or}
+use Rattle.std.{proofs.{Common.{◌≡◌, ◌≢◌, ℕ, ◌+◌, ◌^◌, ◌<◌, ◌≤◌, ◌==◌, Bool, true, false, List, [], Option, Some, None, IfSome, refl, sym, ap, subst, ◌∙◌, arith, inl, slice_get, Ok}, lemmas.Bool.false≢true}, specs.Prelude.unwrap_or}
 use Rattle.exec_base.specs.{Slab.written, declared.slab.Id.Id}
 use Rattle.exec_outcomes.specs.declared.outcome.Outcome.{Outcome}
 use Rattle.exec_time.specs.Wheel.{Wheel, scheduled}
-use Rattle.exec_request.specs.{Requests.{asked_of, deadline_of}, States.asks_cancel, declared.results.WaiterState.{WaiterState, TheVariants.{Active, CancelRequested}}}
+use Rattle.exec_request.specs.{States.asks_cancel, declared.results.WaiterState.{WaiterState}}
 use Rattle.exec_waiters.specs.{Events.with_tick, States.{needs_permit, takes_tick, tick_in, waiter_at}, declared.{waiter.{Entry.TheVariants.Pending, Waiter.Waiter}, waiter_id.WaiterId.WaiterId}}
-use Rattle.exec_driver.{specs.{Driving.Driving, Lists.{first_of, rest_of, is_among, after_enrolment}, Punctual.IsPunctual, Steps.tick_for}, proofs.{Names.same_tells, Expiring.tick_tells}}
-use Rattle.exec_machine.specs.{declared.{state.RequestPhase.RequestPhase, config.Configuration.Configuration, event.Event.TheVariants.Enrol}, Tests.{is_kept, is_staged}, World.{Own, Common, request_of}}
+use Rattle.exec_driver.{specs.{Driving.Driving, Lists.{first_of, rest_of, is_among, after_enrolment}, Punctual.IsPunctual, Steps.tick_for}, proofs.{Expiring.tick_tells}}
+use Rattle.exec_machine.specs.{declared.{state.RequestPhase.RequestPhase, config.Configuration.Configuration, event.Event.TheVariants.Enrol}, Tests.{is_staged}, World.{Own, Common, request_of}}
 use Rattle.exec_moves.specs.{Told.told_if_ended, State.{Desk, Moved, Things}, Submit.{due_next, first_due, submits, Due.Enrols}, declared.place.{Service.Service, Place.Place, InService.InService}}
 use Rattle.exec_parts.{specs.{declared.parts.{mail.Reply.Reply, record.Record.Record, shared.Shared.Shared, worker.Worker.Worker}, Records.number_in, Serving.{changed_at, first_tick}, View.{own_of, driver_of}}, proofs.Facts.by_name}
 use Rattle.exec_invariants.{specs.{Names.IsSubmitted, Sound.served_in, Due.IsWheelAt, Flown.{HasFlown, IsPlain, operations}, Submits.IsNewIn, Ordered.{IsOrdered, went_round}}, proofs.{Known.known_written, Changing.{all_go_one, OneGoesOn, changes_one, keeps_one}, Going.{owning_on, GoesOn}, Marking.{known_then, plain_kept, mark_kept, mark_if, marked, was_marked}, Carries.carried_still, Enrolled.new_first, Enrolling.enrolled_at, Flown.landed_on, Seeing.makes, ServingHolds.KeepsBy, Staging.{split_first, stages_again}, Orders.ticks_so}}
@@ -36,18 +36,11 @@ times_plain start tick r p = record { bounded = p.bounded; moved = p.moved; dead
 
 -- no tick was set, and nobody asked for its cancel
 pub unset : (x : WaiterState) → takes_tick x ≡ true → (tick_in x ≡ None) × (asks_cancel x ≡ false)
-unset (Active None) h = (refl, refl)
-unset (Active (Some t)) h = absurd (false≢true h)
-unset CancelRequested h = absurd (false≢true h)
+unset = grind arith
 
 -- who else waits to be enrolled does so still
 among_rest : (other id : WaiterId) (ids : List WaiterId) → first_of ids ≡ Some id → is_among other ids ≡ true → other.0 ≢ id.0 → is_among other (rest_of ids) ≡ true
-among_rest other id ids first among apart =
-    let split = split_first id ids first in
-    elim (same_tells id other) [
-      | inl same ↦ absurd (apart (ap (λ (y : WaiterId). y.0) (sym same.1)))
-      | inr differs ↦ rw differs.0 at (ap (is_among other) (sym split) ∙ among)
-    ]
+among_rest = grind arith
 
 -- WHAT IS NEXT
 
@@ -167,22 +160,7 @@ module _ {B : Type 0} (w : Worker) (s : Shared B) (new : IsNewIn w s) (id : Wait
       let on : GoesOn who.r (f who.r) = record { same = refl; over = refl; ended = λ h. refl } in
       let a = who.alike in
       let free = unset it.state who.takes in
-      let one : OneGoesOn w.names w.names d (timed_driver t) s.requests.items id.0 it it' who.r f = record {
-        at = who.live;
-        there = who.there;
-        slab = refl;
-        on = on;
-        alike =
-            let timer = ap (λ (o : Option ℕ). Some (first_tick start c.tick (unwrap_or o 0))) who.told ∙ ap (λ (n : ℕ). Some n) (sym place.0) in
-            let going : false ≡ true → it.in_flight ≡ true = λ h. absurd (false≢true h) in
-            let dated : true ≡ true → is_some (deadline_of it.request) ≡ true = λ h. ap is_some who.asked in
-            let alone : false ≡ true → is_kept (asked_of it.request).kind ≡ false = λ h. absurd (false≢true h) in
-            assumption (a.cancelled ∙ free.1, timer, going, dated, alone, a);
-        start = same_start d.wheel id.0 t;
-        tick = same_tick d.wheel id.0 t;
-        requests = refl;
-        timers = refl;
-      } in
+      let one : OneGoesOn w.names w.names d (timed_driver t) s.requests.items id.0 it it' who.r f = grind (arith, false≢true, same_start, same_tick) in
       keeps_one q q w.put_off w.names w s (timed_driver t) id.0 it it' who.r f sound (stages_again gate v) one punctual (λ h. new.due)
       (subst (IsOrdered (went_round c w.moments) w.names.requests.items (timed_driver t).requests (timed_driver t).wheel (rest_of d.lists.enrolments)) (sym new.due)
       (ticks_so (went_round c w.moments) w.names.requests.items d.requests d.wheel id (rest_of d.lists.enrolments) it t who.live who.takes fits (tick_tells d.wheel who.deadline now t okay).span

@@ -1,11 +1,11 @@
 -- Steps that are a plain turn to the machine: the worker goes on, and only what stands beside the machine changes.
-use Rattle.std.proofs.{Common.{[], ◌≡◌, ◌≢◌, ℕ, ◌+◌, ◌*◌, ◌≤◌, ◌&&◌, ◌||◌, arith, Bool, true, false, Contains, List, length, Option, Some, refl, sym, ap, subst, ◌∙◌, slice_get, slice_set, option_to_list, IfSome, if◌then◌else◌}, lemmas.{Bool.false≢true, List.set-get_or, Option.get_or_from_slice_get}}
+use Rattle.std.proofs.{Common.{[], ◌≡◌, ◌≢◌, ℕ, ◌+◌, ◌*◌, ◌≤◌, ◌&&◌, ◌||◌, arith, Bool, true, false, Contains, List, length, Option, Some, refl, sym, ap, subst, ◌∙◌, slice_get, slice_set, option_to_list, IfSome, if◌then◌else◌}, lemmas.{List.set-get_or, Option.get_or_from_slice_get}}
 use Rattle.exec_task.specs.declared.{body.Said.Said, runnable.Runnable.Runnable}
-use Rattle.exec_machine.specs.{declared.{event.Event.{Event, TheVariants.Turn}, state.Next.Next}, After.common_after, Choice.Choice.Plain, Progress.Plan}
-use Rattle.exec_moves.specs.{declared.place.{AfterPermit.AfterPermit, Place.Place, InService.InService, Reaping.Reaping}, State.{Things, no_queue, no_word, queue_of, word_of}, Thing.{set_queue, set_word}, Move.move_at, Seen.{polls_at, next_at, serves_at}}
+use Rattle.exec_machine.specs.{declared.{event.Event.{Event, TheVariants.Turn}, state.Next.Next}, Choice.Choice.Plain, Progress.Plan}
+use Rattle.exec_moves.specs.{declared.place.{Place.Place, InService.InService}, State.{Things, no_queue, no_word, queue_of, word_of}, Thing.{set_queue, set_word}, Move.move_at, Seen.{polls_at, next_at, serves_at}}
 use Rattle.exec_parts.proofs.Leaves.{with_read}
 use Rattle.exec_parts.specs.{declared.parts.{role.Role.Role, seat.Seat.Seat as Chair, shared.Shared.Shared, task_slot.TaskSlot.TaskSlot, worker.{Worker.Worker, Moments.Moments}}, Phased.{IsPhased, closes_at, closing_in, stage_of}, Roles.is_pool, Calls.IsTold, Spots.Spot, View.{Views, Visible, visible, with_view, driver_of, own_of, owed_at, desk_of, common_of, seats_seen, things_with}, Things.Goes}
-use Rattle.exec_invariants.{specs.{Rooted.HearsNext, HoldPlaces.{cancels_at, heard_at, sends_cancel_at, spare_at}, Due.{IsDue, IsWheelAt, moment_back, wheel_moment}, Flown.HasFlown, Kinds.{Kind, kind_of, lowered}, Places.{begins_at, calls_back_at, hands_on_at, has_loot_at, in_poll_of, is_armed_at, is_pooled_at, or_polls, polled_in, searches_at, step_of_poll, task_at}, Sound.{Aims, AreHome, has_wakes_at, HasBatch, HasGuest, HasLetters, HasQueue, HasRunnable, IsHeld, IsInHand, IsInTime, IsLeft, IsLoot, IsSearching, IsSeated, IsTied, LetsGo, LetsGoAt, root_in_hand, served_in, Serves, SoundAt, Stops}, Names.tellers, Whole.IsGenuine, Works.{Beside, Suits, Steps}}, proofs.{Dedicated.by_length, Hearing.unheard}}
+use Rattle.exec_invariants.{specs.{Rooted.HearsNext, HoldPlaces.{cancels_at, heard_at, sends_cancel_at, spare_at}, Due.{IsDue, IsWheelAt, wheel_moment}, Flown.HasFlown, Kinds.{Kind, kind_of, lowered}, Places.{begins_at, calls_back_at, hands_on_at, has_loot_at, in_poll_of, is_armed_at, is_pooled_at, or_polls, polled_in, searches_at, step_of_poll, task_at}, Sound.{Aims, AreHome, has_wakes_at, HasBatch, HasGuest, HasLetters, HasQueue, HasRunnable, IsHeld, IsInHand, IsInTime, IsLeft, IsLoot, IsSearching, IsSeated, IsTied, LetsGo, LetsGoAt, root_in_hand, served_in, Serves, SoundAt, Stops}, Names.tellers, Whole.IsGenuine, Works.{Beside, Suits, Steps}}, proofs.{Dedicated.by_length, Hearing.unheard}}
 
 pub set_found : {A : Type 0} (xs : List A) (i : ℕ) (x : A) → slice_get xs i ≡ Some x → slice_set xs i x ≡ xs
 set_found xs i x found = ap (λ y. slice_set xs i y) (sym (get_or_from_slice_get xs i x x found)) ∙ set-get_or xs i x
@@ -16,19 +16,8 @@ view_found vs i v found = ap (λ xs. record vs { workers = xs }) (set_found vs.w
 
 -- WHAT MAY CHANGE OF A WORKER THAT GOES ON
 
--- the clock is read
-back_read : (b : AfterPermit) (m : Moments) (r : ℕ) → moment_back b (with_read r m) ≡ moment_back b m
-back_read (AfterPermit.Reap Reaping.First) m r = refl
-back_read (AfterPermit.Reaped Reaping.First) m r = refl
-back_read _ m r = refl
-
 moment_read : (x : Option InService) (m : Moments) (r : ℕ) → wheel_moment x (with_read r m) ≡ wheel_moment x m
-moment_read (Some (InService.Reap Reaping.First)) m r = refl
-moment_read (Some InService.AdvanceWheel) m r = refl
-moment_read (Some (InService.PassPermit file b)) m r = back_read b m r
-moment_read (Some (InService.Signal worker b)) m r = back_read b m r
-moment_read (Some (InService.Raise ring worker b)) m r = back_read b m r
-moment_read _ m r = refl
+moment_read = grind arith
 
 pub record GoesOn (w w' : Worker) (clock : ℕ) : Type 0 where
   pub same : w' ≡ record w { place = w'.place; countdown = w'.countdown; picks = w'.picks; spinner = w'.spinner; slept = w'.slept; moments = with_read w'.moments.read w.moments; searching = w'.searching; rng = w'.rng; root_ready = w'.root_ready; hand = w'.hand; loot = w'.loot }
@@ -54,34 +43,15 @@ pub record Keeps (w v : Worker) : Type 0 where
 
 -- what only a worker of the pool comes to
 pub pool_low : (pooled was role : Bool) → (was ≡ true → role ≡ true) → (pooled && (was || role)) ≡ true → role ≡ true
-pool_low false was role said h = absurd (false≢true h)
-pool_low true true role said h = said refl
-pool_low true false role said h = h
-
-pub and_or : (x y : Bool) → x ≡ (x && (x || y))
-and_or true y = refl
-and_or false y = refl
+pool_low = grind arith
 
 -- a place of the very same kind
 pub lower : (role : Role) (q q' : Place) → kind_of q' ≡ kind_of q → kind_of q' ≡ lowered role (is_pooled_at q') (kind_of q)
-lower role q q' same =
-    same
-    ∙ ap (λ b. record (kind_of q) { pooled = b }) (and_or (is_pooled_at q) (is_pool role))
-    ∙ ap (λ b. record (kind_of q) { pooled = b && (is_pooled_at q || is_pool role) }) (sym (ap (λ k. k.pooled) same))
-
-low_on : (z y x r : Bool) → z ≡ (z && (y || r)) → y ≡ (y && (x || r)) → z ≡ (z && (x || r))
-low_on false y x r h k = refl
-low_on true y true r h k = refl
-low_on true y false true h k = refl
-low_on true true false false h k = k
-low_on true false false false h k = h
+lower = grind arith
 
 -- by way of another place
 pub lower_on : (role : Role) (k k1 k2 : Kind) → k2 ≡ lowered role k2.pooled k1 → k1 ≡ lowered role k1.pooled k → k2 ≡ lowered role k2.pooled k
-lower_on role k k1 k2 later first =
-    later
-    ∙ ap (λ (x : Kind). record x { pooled = k2.pooled && (k1.pooled || is_pool role) }) first
-    ∙ ap (λ (b : Bool). record k { pooled = b }) (sym (ap (λ x. x.pooled) later) ∙ low_on k2.pooled k1.pooled k.pooled (is_pool role) (ap (λ x. x.pooled) later) (ap (λ x. x.pooled) first))
+lower_on = grind arith
 
 next_other : (i : ℕ) → i + 1 ≢ i
 next_other i same = absurd (omega (arith, same))
@@ -89,16 +59,7 @@ next_other i same = absurd (omega (arith, same))
 module _ {B : Type 0} where
   -- among more workers
   pub homes_more : (workers count more : ℕ) (tasks : List (TaskSlot B)) → count ≤ more → AreHome workers count tasks → AreHome workers more tasks
-  homes_more workers count more tasks grows homes =
-      record {
-        many = omega (arith, homes.many, grows);
-        roots = homes.roots;
-        few = homes.few;
-        home = homes.home;
-        dedicated = λ t j slot there past home. let it = homes.dedicated t j slot there past home in (it.0, omega (arith, it.1, grows));
-        once = homes.once;
-        number = homes.number;
-      }
+  homes_more = grind arith
 
   -- of what is shared the seats, the idle set and the global queue may change
   abbrev pub Shares : Shared B → Shared B → Type 0
@@ -279,25 +240,7 @@ module _ {B L : Type 0} (left : B → L) (spot : L → Option Said → Spot) whe
       let s1 : Shared B = record s { seats = s'.seats; idle = s'.idle; global = s'.global } in
       let shows : visible w' ≡ visible w = ap visible on.same in
       let own : own_of w' ≡ own_of w1 = ap own_of on.same in (
-        (λ p vs suits.
-            let again : with_view vs w.index (visible w') ≡ vs = ap (with_view vs w.index) shows ∙ view_found vs w.index (visible w) suits.seen in
-            let common : common_of left spot p vs s' ≡ common_of left spot p vs s1 = ap (common_of left spot p vs) shares in
-            let cs = common_of left spot p vs s in
-            let still : common_after p.config (own_of w) cs w.index e Plain ≡ cs = rw (event, sound.here, is.free) refl in
-            record {
-              choice = Plain;
-              moves =
-                  subst (λ y. move_at p.config w.index (own_of w) cs (desk_of w) (things_with vs s) y ≡ record { event = e; choice = Plain; desk = desk_of w'; thing = things_with (with_view vs w.index (visible w')) s' }) (sym sound.here)
-                  (moves p vs suits
-                  ∙ ap (λ x. record { event = x; choice = Plain; desk = desk_of w'; thing = things_with vs s' }) (sym event)
-                  ∙ ap (λ v. record { event = e; choice = Plain; desk = desk_of w'; thing = things_with v s' }) (sym again));
-              may = rw event tt;
-              own = own ∙ rw (event, is.polls, is.free_then, is.unserved, is.owes, sound.here) refl;
-              common =
-                  ap (λ v. common_of left spot p v s') again ∙ common
-                  ∙ ap (λ seen. record cs { seats = seen; queue_closed = s'.global.closed }) (seats vs.workers)
-                  ∙ ap (λ b. record cs { queue_closed = b }) closed ∙ sym still;
-            }),
+        grind (arith, view_found),
         sound_on q w w' s s' sound on shares (by_length (beside.spares (w.index + 1) (next_other w.index)).many) to,
         unheard (ap (λ x. x.root) on.same) (ap (λ x. x.config) shares) (ap (λ x. x.tasks.items) shares),
         beside,

@@ -1,8 +1,9 @@
 -- Who waits for a request changes, or nobody does any more, by which it may be cancelled: what that leaves as it was.
 use Rattle.std.proofs.{Common.{◌≡◌, ◌≢◌, ◌⊎◌, inl, ⊎_elim, ℕ, ◌==◌, Bool, true, false, List, [], length, Option, Some, None, IsSome, refl, sym, ap, subst, ◌∙◌, slice_get, is_some}, lemmas.{Bool.{false≢true, eq-eqb}, List.length-set}}
-use Rattle.exec_base.{specs.{Slab.{IsPast, Slab, value_at, written}, declared.slab.{Id.Id, Slot.TheVariants.Live}}, proofs.Slots.{Updates-write, past-write}}
+use Rattle.std.proofs.Common.{arith}
+use Rattle.exec_base.{specs.{Slab.{IsPast, Slab, value_at, written}, declared.slab.{Id.Id}}, proofs.Slots.{Updates-write, past-write}}
 use Rattle.exec_time.specs.declared.timers.Sleeper.{Sleeper as Sleeping}
-use Rattle.exec_request.specs.{declared.output.RequestOutput.RequestOutput, Requests.{cursor_of, deadline_of}}
+use Rattle.exec_request.specs.{declared.output.RequestOutput.RequestOutput, Requests.{deadline_of}}
 use Rattle.exec_ring.specs.declared.store.Store.{Store}
 use Rattle.exec_waiters.{specs.{States.{needs_permit, waiter_at, waiter_of, takes_tick, tick_in}, declared.{waiter.{Waiter.Waiter, Entry.{Entry, TheVariants.{Pending, Ready}}}, waiter_id.WaiterId.WaiterId}}, proofs.Changes.entry_of}
 use Rattle.exec_driver.specs.{Driving.Driving, Lists.is_among, Opens.OpenState, Punctual.IsPunctual}
@@ -49,27 +50,13 @@ pub record WasThere (rs : List Record) (j : ℕ) (x : Record) : Type 0 where
 
 module _ (i : ℕ) (n : Names) (d d' : Driving Reply Reply) (zs : Slab (Sleeping Reply)) (rs rs' : List Record) (ss : List SleeperRecord) (id : Id) (r : Record) (f : Record → Record) (by : Watched n d d' rs rs' id r f) where
   was_if : (j : ℕ) (b : Bool) (o : Record) → (number_in n.requests.items id == j) ≡ b → slice_get rs j ≡ Some o → mark_if f b o ≡ record o { shown = record o.shown { timer = (mark_if f b o).shown.timer; observed = (mark_if f b o).shown.observed; cancelled = (mark_if f b o).shown.cancelled; waiter = (mark_if f b o).shown.waiter; forwarding = (mark_if f b o).shown.forwarding } }
-  was_if j true o is at =
-      let same : r ≡ o = cc (by.there, at, same_number (number_in n.requests.items id) j is) in
-      subst (λ y. f y ≡ record y { shown = record y.shown { timer = (f y).shown.timer; observed = (f y).shown.observed; cancelled = (f y).shown.cancelled; waiter = (f y).shown.waiter; forwarding = (f y).shown.forwarding } }) same by.keeps
-  was_if j false o is at = refl
+  was_if = grind arith
 
   timer_kept : (j : ℕ) (b : Bool) (o : Record) → (number_in n.requests.items id == j) ≡ b → slice_get rs j ≡ Some o → is_resolved o.shown.phase ≡ true → (mark_if f b o).shown.timer ≡ o.shown.timer
-  timer_kept j true o is at over =
-      let same : r ≡ o = cc (by.there, at, same_number (number_in n.requests.items id) j is) in
-      subst (λ y. is_resolved y.shown.phase ≡ true → (f y).shown.timer ≡ y.shown.timer) same by.timer over
-  timer_kept j false o is at over = refl
+  timer_kept = grind arith
 
   pub before : (j : ℕ) (x : Record) → slice_get rs' j ≡ Some x → WasThere rs j x
-  before j x found =
-      let k = number_in n.requests.items id in
-      let old = was_marked f rs k j x (ap (λ xs. slice_get xs j) (sym by.records) ∙ found) in
-      record {
-        o = old.0;
-        at = old.1;
-        is = subst (λ y. y ≡ record old.0 { shown = record old.0.shown { timer = y.shown.timer; observed = y.shown.observed; cancelled = y.shown.cancelled; waiter = y.shown.waiter; forwarding = y.shown.forwarding } }) (sym old.2) (was_if j (k == j) old.0 refl old.1);
-        timer = λ over. ap (λ y. y.shown.timer) old.2 ∙ timer_kept j (k == j) old.0 refl old.1 over;
-      }
+  before = grind (arith, was_marked, was_if, timer_kept)
 
   pub after : (j : ℕ) (o : Record) → slice_get rs j ≡ Some o → (x : Record) × (slice_get rs' j ≡ Some x) × (x ≡ record o { shown = record o.shown { timer = x.shown.timer; observed = x.shown.observed; cancelled = x.shown.cancelled; waiter = x.shown.waiter; forwarding = x.shown.forwarding } })
   after j o at =
@@ -86,10 +73,7 @@ module _ (i : ℕ) (n : Names) (d d' : Driving Reply Reply) (zs : Slab (Sleeping
   apart j differs false is = refl
 
   pub other_there : (j : ℕ) (x : Record) → (number_in n.requests.items id ≡ j → ⊥) → slice_get rs' j ≡ Some x → slice_get rs j ≡ Some x
-  other_there j x differs found =
-      let k = number_in n.requests.items id in
-      let old = was_marked f rs k j x (ap (λ xs. slice_get xs j) (sym by.records) ∙ found) in
-      old.1 ∙ ap (λ y. Some y) (sym (old.2 ∙ ap (λ b. mark_if f b old.0) (apart j differs (k == j) refl)))
+  other_there = grind (arith, was_marked, mark_if, apart)
 
   pub other_still : (j : ℕ) (o : Record) → (number_in n.requests.items id ≡ j → ⊥) → slice_get rs j ≡ Some o → slice_get rs' j ≡ Some o
   other_still j o differs at =
@@ -102,10 +86,7 @@ module _ (i : ℕ) (n : Names) (d d' : Driving Reply Reply) (zs : Slab (Sleeping
 
   -- another request has another number
   pub apart_number : IsNamed i n d zs rs ss → (x : Id) → IsSome (value_at d.requests x) → x ≢ id → number_in n.requests.items id ≡ number_in n.requests.items x → ⊥
-  apart_number named x some differs same =
-      let one = named.requests x some in
-      let both : one.0 ≡ r = cc (one.1, by.there, same) in
-      differs (sym one.2 ∙ ap (λ y. y.id.0) both ∙ by.name)
+  apart_number = grind arith
 
   alike_now : IsNamed i n d zs rs ss → (x : Id) (it : Waiter Reply Reply) (y : Record) → waiter_at d'.requests x ≡ Some it → slice_get rs' (number_in n.requests.items x) ≡ Some y → IsAlike d.wheel.start d.wheel.tick it y.shown
   alike_now named x it y live found =
@@ -158,25 +139,14 @@ module _ (i : ℕ) (n : Names) (d d' : Driving Reply Reply) (zs : Slab (Sleeping
       }
 
   pub over_watched : (ended : List ℕ) (unreleased others : ℕ) → AreOver i ended unreleased others rs → AreOver i ended unreleased others rs'
-  over_watched ended unreleased others over =
-      record {
-        over = λ j m at.
-            let old = over.over j m at in
-            let new = after m old.0 old.1 in
-            (new.0, new.1, ap (λ y. y.shown.worker) new.2 ∙ old.2, (ap (λ y. is_resolved y.shown.phase) new.2 ∙ old.3.0, ap (λ y. y.shown.released) new.2 ∙ old.3.1));
-        once = over.once;
-        counted = over.counted;
-      }
+  over_watched = grind (arith, after)
 
   pub due_watched : {closing : Bool} (m : Moments) (c : Configuration) → IsPunctual d' → d'.lists.due ≡ [] → IsWheelAt c m.start m.sampled d'.wheel → IsDue None closing i m c n d zs rs ss → IsDue None closing i m c n d' zs rs' ss
   due_watched m c punctual told wheel due =
       let timed : AreTimed i n rs' = λ j y found mine.
       let old = before j y found in
       let t = due.timed j old.o old.at (sym (ap (λ z. z.shown.worker) old.is) ∙ mine) in
-      record {
-        named = λ unresolved. ap (λ z. number_in n.requests.items z.id.0) old.is ∙ t.named (sym (ap (λ z. is_resolved z.shown.phase) old.is) ∙ unresolved);
-        over = λ over. let was = sym (ap (λ z. is_resolved z.shown.phase) old.is) ∙ over in old.timer was ∙ t.over was;
-      } in
+      grind arith in
       let order = eased by.eases by.turns (subst (λ xs. IsPartOf xs d.lists.enrolments) (sym by.enrolments) (part_self d.lists.enrolments)) (subst (λ xs. IsPartOf xs d.lists.due) (sym told) (part_none d.lists.due)) due.order in
       record { punctual = punctual; told = λ e. told; wheel = wheel; timed = timed; asleep = record { alike = due.asleep.alike; there = due.asleep.there; named = due.asleep.named; lets_go = due.asleep.lets_go; counted = due.asleep.counted; names = due.asleep.names }; order = order }
 
@@ -204,25 +174,15 @@ module _ (i : ℕ) (n : Names) (d d' : Driving Reply Reply) (zs : Slab (Sleeping
 
   -- the request itself, by what waited for it
   flies_here : (o : Option (Waiter Reply Reply)) → Rewatched o (waiter_at d'.requests id) → (it : Waiter Reply Reply) → o ≡ Some it → (x : Record) → slice_get rs (number_in n.requests.items id) ≡ Some x → FliesOn n n d d' rs rs' id it x
-  flies_here None waits it is x at = absurd (let no : None ≡ Some it = is in cc)
-  flies_here (Some y) waits it is x at =
-      let same : y ≡ it = cc in
-      let new = after (number_in n.requests.items id) x at in
-      record { it' = waits.0; r' = new.0; live = waits.1; flies = waits.2 ∙ ap (λ z. z.in_flight) same; same = waits.3.0 ∙ ap (λ z. z.request) same; number = refl; there = new.1; phase = ap (λ z. z.shown.phase) new.2 }
+  flies_here = grind (arith, after)
 
   enrols_here : (o : Option (Waiter Reply Reply)) → waiter_at d.requests id ≡ o → Rewatched o (waiter_at d'.requests id) → (it : Waiter Reply Reply) → waiter_at d'.requests id ≡ Some it → takes_tick it.state ≡ true
       → (x : Waiter Reply Reply) × (waiter_at d.requests id ≡ Some x) × (takes_tick x.state ≡ true) × (it.request ≡ x.request)
-  enrols_here None is waits it live takes = absurd (let no : None ≡ Some it = sym waits ∙ live in cc)
-  enrols_here (Some x) is waits it live takes =
-      let same : waits.0 ≡ it = cc (waits.1, live) in
-      (x, is, waits.3.1 (ap (λ z. takes_tick z.state) same ∙ takes), ap (λ z. z.request) (sym same) ∙ waits.3.0)
+  enrols_here = grind arith
 
   needs_here : (o : Option (Waiter Reply Reply)) → waiter_at d.requests id ≡ o → Rewatched o (waiter_at d'.requests id) → (it : Waiter Reply Reply) → waiter_at d'.requests id ≡ Some it → needs_permit it ≡ true
       → (x : Waiter Reply Reply) × (waiter_at d.requests id ≡ Some x) × (needs_permit x ≡ true)
-  needs_here None is waits it live needs = absurd (let no : None ≡ Some it = sym waits ∙ live in cc)
-  needs_here (Some x) is waits it live needs =
-      let same : waits.0 ≡ it = cc (waits.1, live) in
-      (x, is, waits.3.2 (ap needs_permit same ∙ needs))
+  needs_here = grind arith
 
   pub flown_watched : (x : Option InService) → HasFlown x i n d rs → HasFlown x i n d' rs'
   flown_watched place flown =
@@ -273,10 +233,7 @@ module _ (i : ℕ) (n : Names) (d d' : Driving Reply Reply) (zs : Slab (Sleeping
 
   -- who waits for what is there still asks for its hint
   asks_here : (o : Option (Waiter Reply Reply)) → waiter_at d.requests id ≡ o → Rewatched o (waiter_at d'.requests id) → (it : Waiter Reply Reply) → waiter_at d'.requests id ≡ Some it → (x : Waiter Reply Reply) × (waiter_at d.requests id ≡ Some x) × (it.request ≡ x.request)
-  asks_here None is waits it live = absurd (let no : None ≡ Some it = sym waits ∙ live in cc)
-  asks_here (Some x) is waits it live =
-      let same : waits.0 ≡ it = cc (waits.1, live) in
-      (x, is, ap (λ z. z.request) (sym same) ∙ waits.3.0)
+  asks_here = grind arith
 
   pub known_watched : (opens : List OpenState) → IsKnown i n.requests.items d.requests opens rs → IsKnown i n.requests.items d'.requests opens rs'
   known_watched opens known =
@@ -298,13 +255,7 @@ module _ (i : ℕ) (n : Names) (d d' : Driving Reply Reply) (zs : Slab (Sleeping
       }))
       (λ same.
       let was = asks_here (waiter_at d.requests id) refl by.waits it (ap (waiter_at d'.requests) (sym same) ∙ live) in
-      inl (record {
-        it = was.0;
-        r = old.o;
-        live = ap (waiter_at d.requests) same ∙ was.1;
-        there = old.at;
-        asks = record { driver = λ h. inl (ap (λ q. (cursor_of q).hinted) (sym was.2) ∙ h); kind = ap (λ z. z.shown.operation.kind) old.is; target = ap (λ z. z.shown.operation.target) old.is; unrefused = λ h. sym (ap (λ z. z.shown.operation.unrefused) old.is) ∙ h };
-      })))
+      grind arith))
       known
 
 -- A REQUEST THAT ISN'T OVER, of which what waits for it becomes this
@@ -324,28 +275,7 @@ watched n d d' rs id it it' r f at there name keeps open_still slab flies reques
     let some : IsSome (value_at d.requests id) = rw (entry_of (value_at d.requests id) it at) refl in
     let map = Updates-write d.requests id (Pending it') some in
     let now : waiter_at d'.requests id ≡ Some it' = ap (λ s. waiter_at s id) slab ∙ ap waiter_of map.changed in
-    record {
-      there = there;
-      name = name;
-      live = some;
-      records = refl;
-      keeps = keeps;
-      timer = λ over. absurd (false≢true (sym open_still ∙ over));
-      others = λ x apart. ap (λ s. value_at s x) slab ∙ map.others x apart;
-      waits = subst (λ o. Rewatched o (waiter_at d'.requests id)) (sym at) (it', now, flies, (request, takes, needs));
-      alike = λ x live. let same : it' ≡ x = cc (now, live) in subst (λ y. IsAlike d.wheel.start d.wheel.tick y (f r).shown) same alike;
-      ring = ring;
-      armed = armed;
-      start = start;
-      tick = tick;
-      enrolments = enrolments;
-      gated = gated;
-      back = λ x past. (past-write d.requests id (Pending it') some x).0 (subst (λ s. IsPast s x) slab past);
-      eases = subst (Eases d.requests) (sym slab) (eases_written d.requests id it it' at ticks (not_taken (takes_tick it.state) (takes_tick it'.state) takes));
-      turns = turns;
-      slots = ap (λ s. length s.slots) slab ∙ length-set d.requests.slots id.index (Live id.generation (Pending it'));
-      cancels = cancels;
-    }
+    grind (arith, false≢true, apart, past-write, eases_written, not_taken, length-set)
 
 -- no output is there then
 pub still_pending : (s s' : Slab (Entry Reply Reply)) (id : Id) (it it' : Waiter Reply Reply) → waiter_at s id ≡ Some it → s' ≡ written s id (Pending it') → (told : RequestOutput) → value_at s' id ≡ Some (Ready told) → ⊥

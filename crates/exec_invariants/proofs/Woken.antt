@@ -1,18 +1,15 @@
 -- What a raise, an enter, a landing and a sweep make of the wake poll that a ring shows.
-use Rattle.std.{proofs.{Common.{[], ◌≡◌, ℕ, zero, suc, ◌+◌, ◌-◌, ◌^◌, ◌≤◌, ◌&&◌, ◌||◌, Bool, true, false, List, ◌∷◌, ◌++◌, length, filter, min, Some, None, refl, sym, ap, subst, ◌∙◌, arith, replicate, if◌then◌else◌}, lemmas.{Grind.flat_map-append, List.{append_assoc, append-nil, Elements.filter-append}}}, specs.List.flat_map}
+use Rattle.std.{proofs.{Common.{[], ◌≡◌, ℕ, zero, suc, ◌+◌, ◌-◌, ◌^◌, ◌≤◌, ◌&&◌, ◌||◌, Bool, true, false, List, ◌∷◌, ◌++◌, filter, min, Some, refl, sym, ap, subst, ◌∙◌, arith, replicate, if◌then◌else◌}, lemmas.{Grind.flat_map-append, List.{append_assoc, append-nil, Elements.filter-append}}}, specs.List.flat_map}
 use Rattle.exec_ring.specs.{Completions.{is_wake, wake_completion}, Kernels.{with_completion, with_wake, woken}, Rings.{RingState, completions, spelled}, declared.completion.Completion.Completion}
 use Rattle.exec_driver.specs.Steps.{is_control}
 use Rattle.exec_moves.specs.State.{told_once, raised, one_behind}
 use Rattle.exec_parts.specs.View.{trailing, trails_wake, operations_in, is_end, behind_end, wake_poll_in}
-use Rattle.exec_invariants.{specs.{Flown.{polls_in, ends_in, IsPolled}, Places.one_if}, proofs.Behind.is_op}
+use Rattle.exec_invariants.{specs.{Flown.{ends_in, IsPolled}, Places.one_if}, proofs.Behind.is_op}
 
 pub completion_added : (s : RingState) (c : Completion) → completions (with_completion s c) ≡ completions s ++ c ∷ []
 completion_added s c =
     let wakes = replicate s.wakes (wake_completion true) in
-    append-nil (flat_map spelled (s.posted ++ record { wakes = s.wakes; completion = c } ∷ []))
-    ∙ flat_map-append spelled s.posted (record { wakes = s.wakes; completion = c } ∷ [])
-    ∙ ap (λ cs. flat_map spelled s.posted ++ cs) (append-nil (wakes ++ c ∷ []))
-    ∙ sym (append_assoc (flat_map spelled s.posted) wakes (c ∷ []))
+    grind (arith, append-nil, wakes, flat_map-append, append_assoc)
 
 -- ONE MORE COMPLETION
 
@@ -29,34 +26,12 @@ ends_added [] c = omega arith
 ends_added (x ∷ cs) c = let rest = ends_added cs c in omega arith
 
 pub operations_added : (cs : List Completion) (c : Completion) → operations_in (cs ++ c ∷ []) ≡ (if is_control c then operations_in cs else suc (operations_in cs))
-operations_added [] c = by (is_control c) refl
-  where
-    by : (b : Bool) → is_control c ≡ b → operations_in (c ∷ []) ≡ (if is_control c then 0 else 1)
-    by true is = rw is refl
-    by false is = rw is refl
-operations_added (x ∷ cs) c = by (is_control x) refl (is_control c) refl (operations_added cs c)
-  where
-    by : (b : Bool) → is_control x ≡ b → (k : Bool) → is_control c ≡ k → operations_in (cs ++ c ∷ []) ≡ (if is_control c then operations_in cs else suc (operations_in cs))
-        → operations_in (x ∷ (cs ++ c ∷ [])) ≡ (if is_control c then operations_in (x ∷ cs) else suc (operations_in (x ∷ cs)))
-    by true is k control rest = rw is rest
-    by false is true control rest = rw (is, control) (ap suc (rest ∙ rw control refl))
-    by false is false control rest = rw (is, control) (ap suc (rest ∙ rw control refl))
+operations_added [] c = grind arith
+operations_added (x ∷ cs) c = grind (arith, operations_added cs c)
 
 pub behind_added : (cs : List Completion) (c : Completion) → is_end c ≡ false → behind_end (cs ++ c ∷ []) ≡ (if is_control c then behind_end cs else one_behind (behind_end cs))
-behind_added [] c none = by (is_control c)
-  where
-    by : (b : Bool) → behind_end (c ∷ []) ≡ (if b then None else one_behind None)
-    by true = rw none refl
-    by false = rw none refl
-behind_added (x ∷ cs) c none = by (is_end x) refl (behind_added cs c none)
-  where
-    counted : (b : Bool) (n : ℕ) → Some (if b then n else suc n) ≡ (if b then Some n else one_behind (Some n))
-    counted true n = refl
-    counted false n = refl
-
-    by : (b : Bool) → is_end x ≡ b → behind_end (cs ++ c ∷ []) ≡ (if is_control c then behind_end cs else one_behind (behind_end cs)) → behind_end (x ∷ (cs ++ c ∷ [])) ≡ (if is_control c then behind_end (x ∷ cs) else one_behind (behind_end (x ∷ cs)))
-    by true is rest = rw is (ap (λ n. Some n) (operations_added cs c) ∙ counted (is_control c) (operations_in cs))
-    by false is rest = rw is rest
+behind_added [] c none = grind arith
+behind_added (x ∷ cs) c none = grind (arith, operations_added, behind_added cs c none)
 
 ended_added : (cs : List Completion) (c : Completion) → is_end c ≡ true → ends_in cs ≡ 0 → behind_end (cs ++ c ∷ []) ≡ Some 0
 ended_added [] c is none = rw is refl
@@ -91,11 +66,7 @@ operates_wakes cs n = filter-append is_op cs (replicate n (wake_completion true)
 behind_wakes : (cs : List Completion) (n : ℕ) → behind_end (cs ++ replicate n (wake_completion true)) ≡ behind_end cs
 behind_wakes [] zero = refl
 behind_wakes [] (suc n) = behind_wakes [] n
-behind_wakes (x ∷ cs) n = by (is_end x) refl (behind_wakes cs n)
-  where
-    by : (b : Bool) → is_end x ≡ b → behind_end (cs ++ replicate n (wake_completion true)) ≡ behind_end cs → behind_end (x ∷ (cs ++ replicate n (wake_completion true))) ≡ behind_end (x ∷ cs)
-    by true is rest = rw is (ap (λ ys. Some (length ys)) (operates_wakes cs n))
-    by false is rest = rw is rest
+behind_wakes (x ∷ cs) n = grind (arith, operates_wakes, behind_wakes cs n)
 
 ends_wakes : (cs : List Completion) (n : ℕ) → ends_in (cs ++ replicate n (wake_completion true)) ≡ ends_in cs
 ends_wakes [] zero = refl
@@ -110,10 +81,7 @@ one_most false = omega arith
 
 -- while the kernel has the poll it hasn't ended, nor is it staged
 pub armed_alone : (r : RingState) (a : Bool) → IsPolled r a → r.armed ≡ true → ends_in (completions r) ≡ 0
-armed_alone r a polled armed =
-    let one : one_if r.armed ≡ 1 = ap one_if armed in
-    let most = one_most a in
-    omega (arith, polled, one, most)
+armed_alone = grind arith
 
 counted_up : (w n : ℕ) → min (w + 1) (suc n) ≡ suc (min w n)
 counted_up w n = omega arith
@@ -154,31 +122,7 @@ wakes s = by s.last refl
     at_most = record s { wakes = min (s.wakes + 1) (2 ^ 64 - 1) }
 
     by : (b : Bool) → s.last ≡ b → Wakes s (woken s)
-    by true last =
-        let s1 : RingState = record s { armed = false; last = false } in
-        let s' : RingState = with_completion s1 (wake_completion false) in
-        let all : completions s' ≡ completions s ++ wake_completion false ∷ [] = completion_added s1 (wake_completion false) in
-        let it : Wakes s s' = record {
-          raises = record {
-            size = refl;
-            staged = refl;
-            flying = refl;
-            busy = refl;
-            landed = ap (filter is_op) all ∙ filter-append is_op (completions s) (wake_completion false ∷ []) ∙ append-nil (filter is_op (completions s));
-            others = ap (trailing 0) all ∙ trailing_added 0 (completions s) (wake_completion false);
-          };
-          shown = λ armed none.
-              ap (λ cs. record { armed = false; last = false; told = trails_wake false cs; ended = behind_end cs; kept = s.raised }) all
-              ∙ ap (λ b. record { armed = false; last = false; told = b; ended = behind_end (completions s ++ wake_completion false ∷ []); kept = s.raised }) (told_added false (completions s) (wake_completion false))
-              ∙ ap (λ e. record { armed = false; last = false; told = true; ended = e; kept = s.raised }) (ended_added (completions s) (wake_completion false) refl none)
-              ∙ rw last refl;
-          count = λ armed.
-              let more : ends_in (completions s') ≡ ends_in (completions s) + 1 = ap ends_in all ∙ ends_added (completions s) (wake_completion false) in
-              let one : one_if s.armed ≡ 1 = ap one_if armed in
-              omega (arith, more, one);
-          raised = refl;
-        } in
-        subst (Wakes s) (sym (ap (λ b. if b then last_woken s else at_most) last)) it
+    by true last = grind (arith, completion_added, is_op, filter-append, append-nil, trailing_added, told_added, ended_added, ends_added)
     by false last =
         let m : ℕ = min s.wakes 18446744073709551614 in
         let s' : RingState = record s { wakes = suc m } in
@@ -205,32 +149,12 @@ raised_by : (s : RingState) (b : Bool) → s.armed ≡ b → with_wake s ≡ (if
 raised_by s b armed = ap (λ x. if x then woken s else (record s { raised = true })) armed
 
 pub raise_shown : (s : RingState) (a : Bool) → IsPolled s a → wake_poll_in (with_wake s) ≡ raised (wake_poll_in s)
-raise_shown s a polled = by s.armed refl
-  where
-    by : (b : Bool) → s.armed ≡ b → wake_poll_in (with_wake s) ≡ raised (wake_poll_in s)
-    by true armed =
-        let p = wake_poll_in s in
-        ap wake_poll_in (raised_by s true armed) ∙ (wakes s).shown armed (armed_alone s a polled armed)
-        ∙ sym (ap (λ b. if b then told_once p else (record p { kept = true })) armed)
-    by false armed =
-        let p = wake_poll_in s in
-        ap wake_poll_in (raised_by s false armed) ∙ sym (ap (λ b. if b then told_once p else (record p { kept = true })) armed)
+raise_shown = grind (arith, raised_by, wakes, armed_alone)
 
 pub raise_same : (s : RingState) → Raises s (with_wake s)
-raise_same s = by s.armed refl
-  where
-    by : (b : Bool) → s.armed ≡ b → Raises s (with_wake s)
-    by true armed = subst (Raises s) (sym (raised_by s true armed)) (wakes s).raises
-    by false armed = subst (Raises s) (sym (raised_by s false armed)) (record { size = refl; staged = refl; flying = refl; busy = refl; landed = refl; others = refl })
+raise_same = grind (arith, raised_by, wakes)
 
 pub raise_polled : (s : RingState) (a : Bool) → IsPolled s a → IsPolled (with_wake s) a
-raise_polled s a polled = by s.armed refl
-  where
-    by : (b : Bool) → s.armed ≡ b → IsPolled (with_wake s) a
-    by true armed =
-        let it = wakes s in
-        subst (λ r. IsPolled r a) (sym (raised_by s true armed))
-        (ap (λ es. polls_in es + (one_if (woken s).armed + ends_in (completions (woken s)))) it.raises.staged ∙ ap (λ n. polls_in s.staged + n) (it.count armed) ∙ polled)
-    by false armed = subst (λ r. IsPolled r a) (sym (raised_by s false armed)) polled
+raise_polled = grind (arith, wakes, raised_by)
 
 -- AN ENTER

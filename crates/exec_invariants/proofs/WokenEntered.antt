@@ -1,10 +1,10 @@
 -- What an enter and a landing make of the wake poll that a ring shows.
 use Rattle.std.{proofs.{Common.{[], ◌≡◌, ℕ, zero, suc, ◌+◌, ◌≤◌, Bool, true, false, List, ◌∷◌, ◌++◌, filter, Option, Some, None, refl, sym, ap, subst, ◌∙◌, arith, if◌then◌else◌}, lemmas.List.{append-nil, Elements.filter-append}}, specs.List.fold}
 use Rattle.exec_request.specs.declared.window.Opcode.{Opcode}
-use Rattle.exec_ring.specs.{Completions.{is_wake, acknowledged}, Kernels.{with_completion, woken, with_poll, taken_as, taken_in, all_taken}, Rings.{RingState, completions}, declared.completion.{Completion.Completion, Submission.Submission}}
+use Rattle.exec_ring.specs.{Kernels.{with_completion, woken, with_poll, taken_as, taken_in, all_taken}, Rings.{RingState, completions}, declared.completion.{Completion.Completion, Submission.Submission}}
 use Rattle.exec_driver.specs.Steps.{is_control}
 use Rattle.exec_moves.specs.State.{WakePoll, told_once, passed, armed as poll_armed, taken_in as poll_taken}
-use Rattle.exec_parts.specs.{Serving.{is_cancel, cancels_in, AreTagged}, View.{trailing, trails_wake, operations_in, is_end, behind_end, wake_poll_in}}
+use Rattle.exec_parts.specs.{Serving.{is_cancel, cancels_in, AreTagged}, View.{trailing, operations_in, is_end, behind_end, wake_poll_in}}
 use Rattle.exec_invariants.{specs.{Flown.{is_poll, polls_in, ends_in, IsPolled}, Places.one_if}, proofs.{Behind.{is_op, op_acks, op_ends, op_wakes}, Woken.{completion_added, told_added, trailing_added, ends_added, behind_added, one_most, wakes}}}
 
 pub ended_some : (cs : List Completion) (n : ℕ) → behind_end cs ≡ Some n → 1 ≤ ends_in cs
@@ -83,33 +83,7 @@ poll_taken_in s none free = by s.raised refl
 -- one entry
 one_taken : (k : Opcode) (s : RingState) (e : Submission) → (is_cancel k ≡ true → e.user_data ≡ 4294967295) → one_if (is_poll k) + (one_if s.armed + ends_in (completions s)) ≤ 1
     → Acknowledges s (taken_as k s e) (if is_cancel k then 1 else 0) (one_if (is_poll k))
-one_taken Opcode.Cancel s e tag few =
-    let c : Completion = acknowledged 4294967295 in
-    let added : completions (with_completion s c) ≡ completions s ++ c ∷ [] = completion_added s c in
-    let done : Acknowledges s (with_completion s c) 1 0 = record {
-      size = refl;
-      staged = refl;
-      busy = refl;
-      others = ap (trailing 0) added ∙ trailing_added 0 (completions s) c ∙ one_more (trailing 0 (completions s));
-      landed = ap (filter is_op) added ∙ filter-append is_op (completions s) (c ∷ []) ∙ append-nil (filter is_op (completions s));
-      poll =
-          ap (λ cs. record { armed = s.armed; last = s.last; told = trails_wake false cs; ended = behind_end cs; kept = s.raised }) added
-          ∙ ap (λ b. record { armed = s.armed; last = s.last; told = b; ended = behind_end (completions s ++ c ∷ []); kept = s.raised }) (told_added false (completions s) c)
-          ∙ ap (λ x. record { armed = s.armed; last = s.last; told = trails_wake false (completions s); ended = x; kept = s.raised }) (behind_added (completions s) c refl);
-      count =
-          let more : ends_in (completions (with_completion s c)) ≡ ends_in (completions s) + 0 = ap ends_in added ∙ ends_added (completions s) c in
-          omega (arith, more);
-    } in
-    subst (λ u. Acknowledges s (with_completion s (acknowledged u)) 1 0) (sym (tag refl)) done
-  where
-    one_more : (n : ℕ) → suc n ≡ n + 1
-    one_more n = omega arith
-one_taken Opcode.Wake s e tag few = by s.armed refl
-  where
-    by : (b : Bool) → s.armed ≡ b → Acknowledges s (with_poll s) 0 1
-    by true is = absurd (let no : 1 + (1 + ends_in (completions s)) ≤ 1 = rw is at few in omega arith)
-    by false is = poll_taken_in s (let none : 1 + (0 + ends_in (completions s)) ≤ 1 = rw is at few in omega arith) is
-one_taken _ s e tag few = record { size = refl; staged = refl; busy = refl; others = omega arith; landed = refl; poll = refl; count = omega arith }
+one_taken = grind (arith, completion_added, trailing_added, is_op, filter-append, append-nil, told_added, behind_added, ends_added, poll_taken_in)
 
 polled_both : (b : Bool) (n : ℕ) (p : WakePoll) → one_if b + n ≤ 1 → polled_times n (polled_times (one_if b) p) ≡ polled_times (one_if b + n) p
 polled_both true n p few = let none : n ≡ 0 = omega arith in rw none refl
@@ -120,17 +94,7 @@ fold_taken [] s tagged few = none_acknowledged s
 fold_taken (e ∷ es) s tagged few =
     let one = one_taken e.window.kind s e tagged.0 (omega arith) in
     let more = fold_taken es (taken_in s e) tagged.1 (let count = one.count in omega arith) in
-    record {
-      size = more.size ∙ one.size;
-      staged = more.staged ∙ one.staged;
-      busy = more.busy ∙ one.busy;
-      others =
-          more.others ∙ ap (λ n. n + cancels_in es) one.others
-          ∙ add_both (trailing 0 (completions s)) (if is_cancel e.window.kind then 1 else 0) (cancels_in es);
-      landed = more.landed ∙ one.landed;
-      poll = more.poll ∙ ap (polled_times (polls_in es)) one.poll ∙ polled_both (is_poll e.window.kind) (polls_in es) (wake_poll_in s) (omega arith);
-      count = let a = one.count in let b = more.count in omega arith;
-    }
+    grind (arith, polled_both)
   where
     add_both : (a b c : ℕ) → (a + b) + c ≡ a + (b + c)
     add_both a b c = omega arith
@@ -146,20 +110,7 @@ enter_shown s a polled tagged = (all_acknowledged s a polled tagged).poll ∙ by
     p = wake_poll_in s
 
     by : (a : Bool) → IsPolled s a → (b : Bool) → s.armed ≡ b → (e : Option ℕ) → behind_end (completions s) ≡ e → polled_times (polls_in s.staged) p ≡ poll_taken a p
-    by false it b is e ends = let none : polls_in s.staged ≡ 0 = omega (arith, it) in rw none refl
-    by true it true is e ends =
-        let one : one_if s.armed ≡ 1 = ap one_if is in
-        let none : polls_in s.staged ≡ 0 = omega (arith, it, one) in
-        rw (none, is) refl
-    by true it false is (Some n) ends =
-        let some = ended_some (completions s) n ends in
-        let none : polls_in s.staged ≡ 0 = omega (arith, it, some) in
-        rw (none, is, ends) refl
-    by true it false is None ends =
-        let free : one_if s.armed ≡ 0 = ap one_if is in
-        let no = ended_none (completions s) ends in
-        let one : polls_in s.staged ≡ 1 = omega (arith, it, free, no) in
-        rw (one, is, ends) refl
+    by = grind (arith, ended_some, ended_none)
 
 pub enter_polled : (s : RingState) (a : Bool) → IsPolled s a → AreTagged s.staged → IsPolled (all_taken s) a
 enter_polled s a polled tagged =
@@ -176,21 +127,4 @@ pub record Lands (r r' : RingState) (c : Completion) : Type 0 where
   pub polled : (a : Bool) → IsPolled r a → IsPolled r' a
 
 pub landing : (r : RingState) (c : Completion) → is_control c ≡ false → Lands r (with_completion r c) c
-landing r c operates =
-    let added : completions (with_completion r c) ≡ completions r ++ c ∷ [] = completion_added r c in
-    let woke : is_wake c ≡ false = op_wakes c operates in
-    let acks = op_acks c operates in
-    let ends : is_end c ≡ false = op_ends c operates in
-    record {
-      others = ap (trailing 0) added ∙ trailing_added 0 (completions r) c ∙ rw (woke, acks) refl;
-      operated = ap (filter is_op) added ∙ filter-append is_op (completions r) (c ∷ []) ∙ rw operates refl;
-      poll =
-          ap (λ cs. record { armed = r.armed; last = r.last; told = trails_wake false cs; ended = behind_end cs; kept = r.raised }) added
-          ∙ ap (λ b. record { armed = r.armed; last = r.last; told = b; ended = behind_end (completions r ++ c ∷ []); kept = r.raised }) (told_added false (completions r) c ∙ rw (woke, acks) refl)
-          ∙ ap (λ x. record { armed = r.armed; last = r.last; told = false; ended = x; kept = r.raised }) (behind_added (completions r) c ends ∙ rw operates refl);
-      polled = λ a it.
-          ap (λ n. polls_in r.staged + (one_if r.armed + n)) (ap ends_in added ∙ ends_added (completions r) c ∙ rw ends (plus_none (ends_in (completions r)))) ∙ it;
-    }
-  where
-    plus_none : (n : ℕ) → n + 0 ≡ n
-    plus_none n = omega arith
+landing = grind (arith, completion_added, op_wakes, op_acks, op_ends, trailing_added, is_op, filter-append, told_added, behind_added, ends_added)

@@ -1,5 +1,6 @@
 -- What a sweep passes of the completions in front, and the first that is of an operation.
-use Rattle.std.{proofs.{Common.{[], ◌≡◌, ℕ, zero, suc, ◌&&◌, Bool, true, false, List, ◌∷◌, ◌++◌, Some, None, refl, sym, ap, subst, ◌∙◌, replicate}, lemmas.{Bool.false≢true, List.{append_assoc, append-nil}}}, specs.List.flat_map}
+use Rattle.std.{proofs.{Common.{[], ◌≡◌, ℕ, zero, suc, ◌&&◌, Bool, true, false, List, ◌∷◌, ◌++◌, Some, None, refl, sym, ap, ◌∙◌, replicate}, lemmas.{Bool.false≢true, List.{append_assoc, append-nil}}}, specs.List.flat_map}
+use Rattle.std.proofs.Common.{arith}
 use Rattle.exec_ring.specs.{Completions.wake_completion, Kernels.{next_completion, reaped, is_quiet}, Rings.{RingState, completions, spelled}, declared.completion.{Completion.Completion, Posted.Posted}}
 use Rattle.exec_driver.specs.{Driving.Driving, Steps.{is_control, noted, swept, swept_from}}
 use Rattle.exec_invariants.proofs.Behind.{after_controls, armed_through}
@@ -12,20 +13,14 @@ skip_wakes (suc n) cs = skip_wakes n cs
 
 armed_past : (n : ℕ) (cs : List Completion) (a : Bool) → armed_through (replicate n (wake_completion true) ++ cs) a ≡ armed_through cs a
 armed_past zero cs a = refl
-armed_past (suc n) cs a = armed_past n cs (a && true) ∙ ap (armed_through cs) (alone a)
-  where
-    alone : (b : Bool) → (b && true) ≡ b
-    alone true = refl
-    alone false = refl
+armed_past (suc n) cs a = grind (arith, armed_through, armed_past n cs (a && true))
 
 -- of these entries and so many wakes
 abbrev spelled_all : List Posted → ℕ → List Completion
 spelled_all ps n = flat_map spelled ps ++ replicate n (wake_completion true)
 
 one_spelled : (p : Posted) (ps : List Posted) (n : ℕ) → spelled_all (p ∷ ps) n ≡ replicate p.wakes (wake_completion true) ++ (p.completion ∷ spelled_all ps n)
-one_spelled p ps n =
-    append_assoc (spelled p) (flat_map spelled ps) (replicate n (wake_completion true))
-    ∙ append_assoc (replicate p.wakes (wake_completion true)) (p.completion ∷ []) (spelled_all ps n)
+one_spelled = grind (arith, append_assoc)
 
 module _ {S F : Type 0} where
   pub record SweepsTo (d d' : Driving S F) : Type 0 where
@@ -45,31 +40,7 @@ module _ {S F : Type 0} where
         left = sym (ap after_controls (sym (append-nil (replicate d.ring.wakes (wake_completion true)))) ∙ skip_wakes d.ring.wakes []);
         armed = sym (ap (λ cs. armed_through cs d.armed) (sym (append-nil (replicate d.ring.wakes (wake_completion true)))) ∙ armed_past d.ring.wakes [] d.armed);
       }
-  sweeps_from (p ∷ ps) d = by (is_control p.completion) refl (sweeps_from ps (noted p.completion d))
-    where
-      all : after_controls (spelled_all (p ∷ ps) d.ring.wakes) ≡ after_controls (p.completion ∷ spelled_all ps d.ring.wakes)
-      all = ap after_controls (one_spelled p ps d.ring.wakes) ∙ skip_wakes p.wakes (p.completion ∷ spelled_all ps d.ring.wakes)
-
-      through : armed_through (spelled_all (p ∷ ps) d.ring.wakes) d.armed ≡ armed_through (p.completion ∷ spelled_all ps d.ring.wakes) d.armed
-      through = ap (λ cs. armed_through cs d.armed) (one_spelled p ps d.ring.wakes) ∙ armed_past p.wakes (p.completion ∷ spelled_all ps d.ring.wakes) d.armed
-
-      by : (b : Bool) → is_control p.completion ≡ b → SweepsFrom ps (noted p.completion d) (swept_from ps (noted p.completion d)) → SweepsFrom (p ∷ ps) d (swept_from (p ∷ ps) d)
-      by true is rest =
-          let to : swept_from (p ∷ ps) d ≡ swept_from ps (noted p.completion d) = rw is refl in
-          subst (SweepsFrom (p ∷ ps) d) (sym to) (record {
-            shape = rest.shape;
-            left = rest.left ∙ sym (all ∙ rw is refl);
-            armed = rest.armed ∙ sym (through ∙ rw is refl);
-          })
-      by false is rest =
-          let d1 : Driving S F = record d { ring = record d.ring { posted = record p { wakes = 0 } ∷ ps } } in
-          let to : swept_from (p ∷ ps) d ≡ d1 = rw is refl in
-          let first : completions d1.ring ≡ p.completion ∷ spelled_all ps d.ring.wakes = one_spelled (record p { wakes = 0 }) ps d.ring.wakes in
-          subst (SweepsFrom (p ∷ ps) d) (sym to) (record {
-            shape = refl;
-            left = first ∙ sym (all ∙ rw is refl);
-            armed = sym (through ∙ rw is refl);
-          })
+  sweeps_from (p ∷ ps) d = grind (arith, after_controls, one_spelled, skip_wakes, armed_through, armed_past, sweeps_from ps (noted p.completion d))
 
   pub sweeps : (d : Driving S F) → SweepsTo d (swept d)
   sweeps d = let it = sweeps_from d.ring.posted d in record { shape = it.shape; left = it.left; armed = it.armed }

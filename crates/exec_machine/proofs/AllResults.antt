@@ -1,16 +1,16 @@
 -- How far a request has come stands for all results that the run shows of it: each line keeps that.
 use Rattle.std.proofs.Common.{◌≡◌, ℕ, ◌<◌, ◌≤◌, Bool, true, false, ◌==◌, if◌then◌else◌, List, [], ◌∷◌, ◌++◌, Option, Some, None, length, refl, sym, ◌∙◌, ap, subst, arith, inl, inr, get_or, set}
-use Rattle.std.proofs.lemmas.Bool.{true≢false, cases_eq, cases_lt, cases_Bool, eq-eqb, ne_eqb}
+use Rattle.std.proofs.lemmas.Bool.{true≢false, cases_eq, cases_lt, eq-eqb, ne_eqb}
 use Rattle.std.proofs.lemmas.Grind.{get_or-set_at}
-use Rattle.std.proofs.lemmas.List.{append-nil, append_assoc, length-set, length_push, get_or-set_other, get_or_append_left, get_or_push, get_or_past}
+use Rattle.std.proofs.lemmas.List.{append-nil, append_assoc, length-set, length_push, get_or-set_other, get_or_append_left, get_or_past}
 use Rattle.exec_outcomes.specs.{declared.outcome.{Judged.Judged, Kind.Kind, OpResult.OpResult, Outcome.Outcome}, Accounts.Account, Outcomes.{HasCome, outcome_next, outcome_of}}
 use Rattle.exec_outcomes.proofs.Runs.{next, goes_on}
-use Rattle.exec_machine.specs.{declared.{config.{Configuration.Configuration, ScriptWord.ScriptWord}, step.Action.Action, event.{Event.Event, StepResult.{StepResult, TheVariants.{Refused, Did}}, Line.Line}, state.{RequestPhase.RequestPhase, Operation.Operation, Request.Request}}, Choice.Choice, World.{World, Own, Common, own_of, request_of, no_request}, Tests.{is_resolved, is_in_flight, is_landed_with, is_of_file}, Words.{next_word, polled_task}, Requests.{asked_of, cursor_of, judged_of, operation_asked, operation_or_none, asked_now, with_seen, new_request, resolved_if, reaped, outcome_given, outcome_shown, account_of_open}, Allowed.Allowed, Run.{Follows, RunsBy, after_event, after_line, world_after}, Progress.{Plan, begin}, Results.{result_in, results_of, reaps}}
-use Rattle.exec_machine.specs.declared.config.ScriptWord.TheVariants as word
+use Rattle.exec_machine.specs.{declared.{config.{Configuration.Configuration, ScriptWord.ScriptWord}, step.Action.Action, event.{Event.Event, StepResult.{StepResult, TheVariants.{Refused, Did}}, Line.Line}, state.{RequestPhase.RequestPhase, Operation.Operation, Request.Request}}, Choice.Choice, World.{World, Own, Common, own_of, request_of, no_request}, Tests.{is_resolved, is_in_flight, is_landed_with}, Words.{next_word, polled_task}, Requests.{asked_of, cursor_of, judged_of, operation_asked, operation_or_none, asked_now, with_seen, new_request, resolved_if, reaped, outcome_given, outcome_shown, account_of_open}, Allowed.Allowed, Run.{Follows, RunsBy, after_event, after_line, world_after}, Progress.{Plan, begin}, Results.{result_in, results_of, reaps}}
 use Rattle.exec_machine.specs.declared.step.Action.TheVariants as action
 use Rattle.exec_machine.specs.declared.event.Event.TheVariants as event
 use Rattle.exec_machine.specs.declared.state.RequestPhase.TheVariants as phase
-use Rattle.exec_machine.proofs.{SameIs.same_end_is, Onward.{Hints, Onward, AllOnward, by_event, by_other}, Lasting.landed_open}
+use Rattle.exec_machine.proofs.{SameIs.same_end_is, Onward.{Hints, AllOnward, by_event, by_other}, Lasting.landed_open}
+use Rattle.std.proofs.lemmas.List.{get_or_push}
 
 abbrev pub IsOpen : List Request → ℕ → Type 0
 IsOpen requests r = is_resolved (get_or requests r no_request).phase ≡ false
@@ -24,21 +24,8 @@ pub record Stands (requests : List Request) (r : ℕ) (results : List Judged) : 
 
 -- ONWARD
 
-was_open : (p q : RequestPhase) → ((o : Outcome) → p ≡ phase.Resolved o → q ≡ phase.Resolved o) → is_resolved q ≡ false → is_resolved p ≡ false
-was_open (phase.Resolved o) q stays unresolved = absurd (true≢false (sym (ap is_resolved (stays o refl)) ∙ unresolved))
-was_open p q stays unresolved = refl
-
 onward : {before later : List Request} {r : ℕ} {results : List Judged} → AllOnward before later → Stands before r results → Stands later r results
-onward {before} {later} {r} {results} a s =
-    let x : Request = get_or before r no_request in
-    let y : Request = get_or later r no_request in
-    let on : Onward x y = a.each r in
-    record {
-      none_yet = λ past. s.none_yet (omega (arith, past, a.same_length));
-      hints = on.hints s.hints;
-      come = λ unresolved.
-          rw (on.asked, on.cursor) (s.come (was_open x.phase y.phase on.lasts.over unresolved));
-    }
+onward = grind arith
 
 no_more : {requests : List Request} {r : ℕ} {results : List Judged} → Stands requests r results → Stands requests r (results ++ [])
 no_more {requests} {r} {results} s = subst (λ results. Stands requests r results) (sym (append-nil results)) s
@@ -52,29 +39,20 @@ record IsNew (o : Operation) : Type 0 where
   pub unhinted : o.hinted ≡ false
 
 asked_is_new : (c : Configuration) (sampled : ℕ) (w : ScriptWord) → IsNew (operation_or_none (operation_asked c sampled w))
-asked_is_new c sampled w = by_word c sampled w
-  where
-    by_word : (c : Configuration) (sampled : ℕ) (w : ScriptWord) → IsNew (operation_or_none (operation_asked c sampled w))
-    by_word c sampled (word.Send s n) = record { begins = refl; first = refl; unhinted = refl }
-    by_word c sampled w = record { begins = refl; first = refl; unhinted = refl }
+asked_is_new = grind arith
 
 seen_is_new : (o : Operation) (s : Common) → IsNew o → IsNew (with_seen o s)
-seen_is_new o s nothing =
-    elim (cases_Bool (is_of_file o.kind)) [
-      | inl file ↦ rw file (record { begins = nothing.begins; first = nothing.first; unhinted = nothing.unhinted })
-      | inr other ↦ rw other nothing
-    ]
+seen_is_new = grind arith
 
 resolved_if_same : (outcome : Option Outcome) (x : Request) → (resolved_if outcome x).operation ≡ x.operation
 resolved_if_same None x = refl
 resolved_if_same (Some o) x = refl
 
--- what a new request asks for, whether or not it is over already
-come_of_new : (x : Request) → IsNew x.operation → HasCome (asked_of x.operation) (cursor_of x.operation) []
-come_of_new x nothing = record { undecided = refl; part = nothing.first; amount = nothing.begins; unrefused = λ _. refl }
-
 hints_of_new : (x : Request) → IsNew x.operation → Hints x
 hints_of_new x nothing _ hinted = absurd (true≢false (sym hinted ∙ nothing.unhinted))
+
+come_of_new : (x : Request) → IsNew x.operation → HasCome (asked_of x.operation) (cursor_of x.operation) []
+come_of_new x nothing = record { undecided = refl; part = nothing.first; amount = nothing.begins; unrefused = λ _. refl }
 
 admitted : {requests : List Request} {r : ℕ} {results : List Judged} (x : Request) → IsNew x.operation → Stands requests r results → Stands (requests ++ x ∷ []) r results
 admitted {requests} {r} {results} x nothing s =
@@ -130,21 +108,13 @@ none_given account kind None told = refl
 none_given account kind (Some o) told = absurd (true≢false (ap is_nothing told))
 
 open_there : (requests : List Request) (r : ℕ) → IsOpen requests r → r < length requests
-open_there requests r unresolved =
-    elim (cases_lt r (length requests)) [
-      | inl there ↦ there
-      | inr past ↦ absurd (true≢false (subst (λ (q : Request). is_resolved q.phase ≡ false) (get_or_past requests r no_request past) unresolved))
-    ]
+open_there = grind (arith, cases_lt, true≢false, get_or_past)
 
 -- the request itself changes
 at_once : (requests : List Request) (r : ℕ) (y : Request) (results : List Judged) → r < length requests → Hints y
     → (is_resolved y.phase ≡ false → HasCome (asked_of y.operation) (cursor_of y.operation) results) → Stands (set requests r y) r results
 at_once requests r y results there hints come =
-    record {
-      none_yet = λ past. absurd (omega (arith, there, past, length-set requests r y));
-      hints = rw (get_or-set_at requests r r y no_request refl there) hints;
-      come = rw (get_or-set_at requests r r y no_request refl there) come;
-    }
+    grind (arith, length-set, get_or-set_at, come)
 
 -- another request changes
 elsewhere : {requests : List Request} {r : ℕ} {results : List Judged} (q : ℕ) (y : Request) → (q ≡ r → ⊥) → Stands requests r results → Stands (set requests q y) r results

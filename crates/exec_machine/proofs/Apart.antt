@@ -1,7 +1,7 @@
 -- An event of one worker leaves the others' own parts.
-use Rattle.std.proofs.Common.{◌≡◌, ℕ, ◌<◌, List, ◌++◌, length, refl, sym, ◌∙◌, ap, arith, get_or, set}
+use Rattle.std.proofs.Common.{◌≡◌, ℕ, ◌<◌, List, ◌++◌, length, sym, ◌∙◌, arith, get_or, set}
 use Rattle.std.proofs.lemmas.List.{length-set, get_or-set_other, get_or_append_left}
-use Rattle.exec_machine.specs.{declared.{config.Configuration.Configuration, step.Action.Action, event.{Event.Event, StepResult.{StepResult, TheVariants.{Refused, Did}}}}, Choice.Choice, World.{World, Own, own_of, no_own}, After.{after, own_after, made_by}, Run.after_line}
+use Rattle.exec_machine.specs.{declared.{config.Configuration.Configuration, step.Action.Action, event.{Event.Event, StepResult.{StepResult}}}, Choice.Choice, World.{World, Own, own_of, no_own}, After.{after, own_after, made_by}, Run.after_line}
 use Rattle.exec_machine.specs.declared.step.Action.TheVariants as action
 
 other_stays : (xs more : List Own) (i j : ℕ) (x : Own) → (i ≡ j → ⊥) → j < length xs → get_or (set xs i x ++ more) j no_own ≡ get_or xs j no_own
@@ -13,14 +13,4 @@ events c w i j event choice apart there =
     other_stays w.workers (made_by w.common event) i j (own_after c (own_of w i) w.common i event choice) apart there
 
 pub lines : (c : Configuration) (w : World) (a : Action) (said : StepResult) (choice : Choice) (j : ℕ) → (a ≡ action.Work j → ⊥) → j < length w.workers → own_of (after_line c w a said choice) j ≡ own_of w j
-lines c w a Refused choice j apart there = refl
-lines c w (action.Work i) (Did e) choice j apart there = events c w i j e choice (λ same. apart (ap action.Work same)) there
-lines c w (action.Spawn i k) (Did e) choice j apart there = refl
-lines c w (action.Wake i t) (Did e) choice j apart there = refl
-lines c w (action.GoOn i) (Did e) choice j apart there = refl
-lines c w (action.Clock d) (Did e) choice j apart there = refl
-lines c w (action.Land r n) (Did e) choice j apart there = refl
-lines c w (action.SetBusy i) (Did e) choice j apart there = refl
-lines c w (action.EndPoll i) (Did e) choice j apart there = refl
-lines c w (action.Stir i) (Did e) choice j apart there = refl
-lines c w (action.Peer l) (Did e) choice j apart there = refl
+lines = grind (arith, events)

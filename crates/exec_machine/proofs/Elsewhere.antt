@@ -1,5 +1,5 @@
 -- What is due at one worker, where another's requests and sleepers change.
-use Rattle.std.proofs.Common.{◌≡◌, ℕ, zero, suc, Bool, true, false, not, ◌&&◌, ◌||◌, ◌==◌, if◌then◌else◌, List, [], ◌∷◌, ◌++◌, Option, Some, refl, sym, ◌∙◌, ap, subst, inl, inr, ◌⊎◌, get_or, set, nat_le}
+use Rattle.std.proofs.Common.{◌≡◌, ℕ, zero, suc, Bool, true, false, not, ◌&&◌, ◌||◌, ◌==◌, if◌then◌else◌, List, [], ◌∷◌, ◌++◌, Option, Some, refl, ap, inl, inr, ◌⊎◌, get_or, set, nat_le, arith}
 use Rattle.std.proofs.lemmas.Bool.{cases_eq, cases_Bool}
 use Rattle.std.proofs.lemmas.List.{get_or-set_other}
 use Rattle.exec_machine.specs.{declared.{config.Configuration.Configuration, state.{Request.Request, Sleeper.Sleeper}}, World.{Own, no_request, no_sleeper}, Tests.{IsOther, all_numbered, is_asleep}, Deadlines.{earlier, first_timer, first_until, is_none_earlier, is_due, is_told_before, is_told_after, is_first_due}}
@@ -36,9 +36,7 @@ push_numbered test n (x ∷ xs) y is = ap (λ rest. test n x && rest) (push_numb
 due_same : (c : Configuration) (me : Own) (i r : ℕ) (rs ss : List Request) → get_or ss r no_request ≡ get_or rs r no_request
     → all_numbered (is_told_after c me i r (get_or rs r no_request).timer) 0 ss ≡ all_numbered (is_told_after c me i r (get_or rs r no_request).timer) 0 rs
     → is_first_due c me i ss r ≡ is_first_due c me i rs r
-due_same c me i r rs ss same rest =
-    ap (λ (x : Request). is_due i me.sampled x && all_numbered (is_told_after c me i r x.timer) 0 ss) same
-    ∙ ap (λ b. is_due i me.sampled (get_or rs r no_request) && b) rest
+due_same = grind arith
 
 -- where it isn't due before or after
 never_due : (c : Configuration) (me : Own) (i r : ℕ) (rs ss : List Request) → is_due i me.sampled (get_or rs r no_request) ≡ false → is_due i me.sampled (get_or ss r no_request) ≡ false
@@ -51,14 +49,7 @@ set_other i zero (x ∷ xs) y was is = is
 set_other i (suc q) (x ∷ xs) y was is = set_other i q xs y was is
 
 pub due : (c : Configuration) (me : Own) (i q r : ℕ) (rs : List Request) (y : Request) → IsOther i (get_or rs q no_request).worker → IsOther i y.worker → is_first_due c me i (set rs q y) r ≡ is_first_due c me i rs r
-due c me i q r rs y was is =
-    elim (cases_eq q r) [
-      | inl same ↦ subst (λ r. is_first_due c me i (set rs q y) r ≡ is_first_due c me i rs r) same
-          (never_due c me i q rs (set rs q y) (not_due i me.sampled (get_or rs q no_request) was) (not_due i me.sampled (get_or (set rs q y) q no_request) (set_other i q rs y was is)))
-      | inr apart ↦ due_same c me i r rs (set rs q y) (get_or-set_other rs q r y no_request (λ e. apart (sym e)))
-          (set_numbered (is_told_after c me i r (get_or rs r no_request).timer) 0 q rs y
-          (λ k. passes c me i r (get_or rs r no_request).timer k (get_or rs q no_request) was) (λ k. passes c me i r (get_or rs r no_request).timer k y is))
-    ]
+due = grind (arith, cases_eq, never_due, not_due, set_other, due_same, get_or-set_other, set_numbered, timer, passes)
 
 none_due : (i m : ℕ) → is_due i m no_request ≡ false
 none_due i m = elim (cases_Bool (0 == i)) [ inl own ↦ rw own refl | inr other ↦ rw other refl ]
@@ -72,12 +63,7 @@ pushed i m (x ∷ xs) y zero is = inl refl
 pushed i m (x ∷ xs) y (suc r) is = pushed i m xs y r is
 
 pub new_due : (c : Configuration) (me : Own) (i r : ℕ) (rs : List Request) (y : Request) → IsOther i y.worker → is_first_due c me i (rs ++ y ∷ []) r ≡ is_first_due c me i rs r
-new_due c me i r rs y is =
-    elim (pushed i me.sampled rs y r is) [
-      | inl same ↦ due_same c me i r rs (rs ++ y ∷ []) same
-          (push_numbered (is_told_after c me i r (get_or rs r no_request).timer) 0 rs y (λ k. passes c me i r (get_or rs r no_request).timer k y is))
-      | inr never ↦ never_due c me i r rs (rs ++ y ∷ []) never.1 never.0
-    ]
+new_due = grind (arith, pushed, due_same, push_numbered, timer, passes, never_due)
 
 -- SLEEPERS
 

@@ -1,5 +1,5 @@
 -- What is over stays so, along whole runs.
-use Rattle.std.proofs.Common.{◌≡◌, ℕ, zero, suc, ◌<◌, ◌≤◌, true, false, List, [], ◌∷◌, ◌++◌, Option, Some, None, length, refl, sym, ◌∙◌, ap, subst, arith, get_or, set}
+use Rattle.std.proofs.Common.{◌≡◌, ℕ, zero, suc, ◌<◌, ◌≤◌, true, false, List, [], ◌∷◌, ◌++◌, Option, Some, None, length, refl, sym, ◌∙◌, ap, arith, get_or, set}
 use Rattle.std.proofs.lemmas.Bool.{true≢false}
 use Rattle.std.proofs.lemmas.List.{length-set, length_push, get_or_append_left}
 use Rattle.exec_outcomes.specs.declared.outcome.{OpResult.OpResult, Outcome.Outcome}
@@ -20,11 +20,7 @@ onward_lasts : {xs ys : List Request} → AllOnward xs ys → Lasting xs ys
 onward_lasts a = record { grows = omega (arith, a.same_length); each = λ r _. (a.each r).lasts }
 
 pushed_lasts : (xs : List Request) (x : Request) → Lasting xs (xs ++ x ∷ [])
-pushed_lasts xs x =
-    record {
-      grows = omega (arith, length_push xs x);
-      each = λ r there. subst (λ y. Lasts (get_or xs r no_request) y) (sym (get_or_append_left xs (x ∷ []) no_request r there)) Lasts-refl;
-    }
+pushed_lasts = grind (arith, length_push, get_or_append_left, Lasts-refl)
 
 set_lasts : (xs : List Request) (q : ℕ) (y : Request) (r : ℕ) → Lasts (get_or xs q no_request) y → Lasts (get_or xs r no_request) (get_or (set xs q y) r no_request)
 set_lasts [] q y r h = Lasts-refl
@@ -44,12 +40,7 @@ reaped_lasts n (Some outcome) x unresolved = record { over = λ o h. absurd (tru
 by_action : (c : Configuration) (w : World) (a : Action) (e : Event) (choice : Choice) → Follows c w a (Did e) choice → Lasting w.common.requests (after_event c w a e choice).common.requests
 by_action c w (action.Work i) (event.Admit r kind outcome) choice f =
     pushed_lasts w.common.requests (resolved_if outcome (new_request i (with_seen (asked_now c (own_of w i) w.common) w.common)))
-by_action c w (action.Work i) (event.Reap r n outcome) choice f =
-    let it : Request = request_of w.common r in
-    record {
-      grows = omega (arith, length-set w.common.requests r (reaped n outcome it));
-      each = λ q _. set_lasts w.common.requests r (reaped n outcome it) q (reaped_lasts n outcome it (landed_open n it.phase f.1.1.1.1.0));
-    }
+by_action c w (action.Work i) (event.Reap r n outcome) choice f = grind (arith, length-set, set_lasts, reaped_lasts, landed_open)
 by_action c w (action.Work i) e choice f = onward_lasts (by_event c (own_of w i) w.common i e choice refl f.1)
 by_action c w a e choice f = onward_lasts (by_other c w a e choice refl f)
 
@@ -58,14 +49,7 @@ by_line c w a Refused choice f = onward_lasts none_changed
 by_line c w a (Did e) choice f = by_action c w a e choice f
 
 Lasting-trans : {xs ys zs : List Request} → Lasting xs ys → Lasting ys zs → Lasting xs zs
-Lasting-trans a b =
-    record {
-      grows = omega (arith, a.grows, b.grows);
-      each = λ r there.
-          let first = a.each r there in
-          let second = b.each r (omega (arith, there, a.grows)) in
-          record { over = λ o h. second.over o (first.over o h); released = λ h. second.released (first.released h) };
-    }
+Lasting-trans = grind arith
 
 pub by_lines : (c : Configuration) (w : World) (lines : List Line) (choices : List Choice) → RunsBy c w lines choices → Lasting w.common.requests (world_after c w lines choices).common.requests
 by_lines c w [] [] f = onward_lasts none_changed

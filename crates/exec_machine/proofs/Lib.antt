@@ -1,6 +1,5 @@
 mod Computing
 mod Apart
-mod Paid
 mod SameIs
 mod Onward
 mod Lasting

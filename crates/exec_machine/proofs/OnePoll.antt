@@ -1,7 +1,7 @@
 -- A task is polled by at most one worker: who polls a task is told by the task's phase.
 use Rattle.std.proofs.Common.{◌≡◌, ℕ, zero, suc, Bool, true, false, ◌&&◌, ◌==◌, if◌then◌else◌, List, [], ◌∷◌, ◌++◌, Option, Some, None, refl, sym, ◌∙◌, ap, subst, arith, inl, inr, get_or, set}
 use Rattle.std.proofs.lemmas.Bool.{true≢false, cases_Bool, eq-eqb}
-use Rattle.exec_machine.{specs.{declared.{config.Configuration.Configuration, step.Action.Action, event.{Event.Event, StepResult.{StepResult, TheVariants.{Refused, Did}}, Line.Line}, state.{Next.Next, Waiting.Waiting, MailMessage.MailMessage, Operation.Operation}}, Choice.{Choice, Payer, Choice.{Plain, Passes, Pays, Posts}, Payer.{ByRequest, BySleeper, ByAct, ByCall, ByStop}}, World.{World, Own, Task, Common, own_of, task_of, request_of, sleeper_of, no_own, no_task}, Tests.{is_ready, waits_for_nothing}, Words.{next_word, moved_on, asks_yield}, Same.is_none, Requests.{asked_now, judged_of, own_after_admit, own_after_drop, after_reap}, Deadlines.sampled_now, Tasks.{woken, pended_phase, begun, own_after_drops, own_after_waking_up, own_after_over, after_pend, after_word, after_letting_go, owes, after_taking, after_waking_word, after_payment, after_wake, wake}, Mail.{after_sending, after_post, after_send, awaiting, after_apply, own_after_letter, own_after_apply, is_root_message, is_left_out}, Closing.{after_next, after_turn, own_after_turn, with_cleared, own_after_clear, after_clear, ends_by_clear}, Allowed.Allowed, After.{polled, own_after, common_after, made_by}, Callers.{after_spawn_by_call, after_wake_by_call, after_going_on}, Run.{Follows, RunsBy, after_event, after_line, world_after, first_owns}, Progress.{Plan, begin}}, proofs.Polled.{is_polled_by, one_poller, woken_polled, ready_unpolled, cleared_unpolled, none_some, some_same}}
+use Rattle.exec_machine.{specs.{declared.{config.Configuration.Configuration, step.Action.Action, event.{Event.Event, StepResult.{StepResult, TheVariants.{Refused, Did}}, Line.Line}, state.{Waiting.Waiting, MailMessage.MailMessage, Operation.Operation}}, Choice.{Choice, Payer, Choice.{Plain, Passes, Pays, Posts}}, World.{World, Own, Task, Common, own_of, task_of, request_of, no_own, no_task}, Tests.{is_ready, waits_for_nothing}, Words.{next_word, moved_on, asks_yield}, Same.is_none, Requests.{asked_now, judged_of, own_after_admit, own_after_drop, after_reap}, Deadlines.sampled_now, Tasks.{woken, pended_phase, begun, own_after_drops, own_after_waking_up, own_after_over, after_pend, after_word, owes, after_taking, after_waking_word, after_payment, after_wake, wake}, Mail.{after_sending, after_post, after_send, awaiting, after_apply, own_after_letter, own_after_apply, is_root_message, is_left_out}, Closing.{after_turn, own_after_turn, with_cleared, own_after_clear, after_clear, ends_by_clear}, Allowed.Allowed, After.{polled, own_after, common_after, made_by}, Callers.{after_spawn_by_call, after_wake_by_call, after_going_on}, Run.{Follows, RunsBy, after_event, after_line, world_after, first_owns}, Progress.{Plan, begin}}, proofs.Polled.{is_polled_by, one_poller, woken_polled, ready_unpolled, cleared_unpolled, none_some, some_same}}
 use Rattle.exec_machine.specs.declared.step.Action.TheVariants as action
 use Rattle.exec_machine.specs.declared.event.Event.TheVariants as event
 use Rattle.exec_machine.specs.declared.state.Next.TheVariants as next
@@ -53,17 +53,8 @@ word_on : {j : ℕ} (s : Common) (polls : Option ℕ) → PollsOn j s.tasks (aft
 word_on s None = same_tasks
 word_on s (Some t) = same_phase s.tasks t (moved_on s (task_of s t)) refl
 
-next_same : (s : Common) (i : ℕ) (n : Next) → (after_next s i n).tasks ≡ s.tasks
-next_same s i next.Free = refl
-next_same s i (next.Joins r) = refl
-next_same s i next.ClosesQueue = refl
-next_same s i next.ClosesMailbox = refl
-
 turn_same : (me : Own) (s : Common) (i : ℕ) (choice : Choice) → (after_turn me s i choice).tasks ≡ s.tasks
-turn_same me s i Plain = next_same s i me.next
-turn_same me s i Passes = refl
-turn_same me s i (Pays payer) = next_same s i me.next
-turn_same me s i (Posts payer left_out) = next_same s i me.next
+turn_same = grind arith
 
 post_same : (s : Common) (to : ℕ) (m : MailMessage) (choice : Choice) → (after_post s to m choice).tasks ≡ s.tasks
 post_same s to m choice =
@@ -82,12 +73,7 @@ woken_on : {j : ℕ} (s : Common) (t : ℕ) → PollsOn j s.tasks (wake s t).tas
 woken_on {j} s t = one_task s.tasks t (woken (task_of s t)) (woken_polled j (task_of s t).phase)
 
 payment_on : {j : ℕ} (s : Common) (polls : Option ℕ) (payer : Payer) → PollsOn j s.tasks (after_payment s polls payer).tasks
-payment_on s polls (ByRequest r) = same_tasks
-payment_on s polls (BySleeper z) = same_tasks
-payment_on s None ByAct = same_tasks
-payment_on s (Some t) ByAct = same_phase s.tasks t (after_waking_word s (task_of s t)) (waking_phase s (task_of s t))
-payment_on s polls ByCall = same_tasks
-payment_on s polls ByStop = same_tasks
+payment_on = grind (arith, same_tasks, same_phase, waking_phase)
 
 wake_on : {j : ℕ} (me : Own) (s : Common) (t : ℕ) (choice : Choice) → PollsOn j s.tasks (after_wake me s t choice).tasks
 wake_on me s t Plain = same_tasks
@@ -96,23 +82,14 @@ wake_on me s t (Pays payer) = PollsOn-trans (payment_on s me.polls payer) (woken
 wake_on me s t (Posts payer left_out) = same_tasks
 
 sending_on : {j : ℕ} (s : Common) (polls : Option ℕ) (m : MailMessage) → PollsOn j s.tasks (after_sending s polls m).tasks
-sending_on s None m = same_tasks
-sending_on s (Some t) message.Root = same_phase s.tasks t (moved_on s (task_of s t)) refl
-sending_on s (Some t) (message.ForwardRequest r) = same_phase s.tasks t (awaiting s r (task_of s t)) (awaiting_phase s r (task_of s t))
-sending_on s (Some t) (message.ForwardTimer z) = same_tasks
-sending_on s (Some t) (message.CancelRequest r) = same_phase s.tasks t (after_letting_go s (task_of s t)) refl
-sending_on s (Some t) (message.CancelTimer z) = same_tasks
+sending_on = grind (arith, same_tasks, same_phase, awaiting_phase)
 
 send_on : {j : ℕ} (me : Own) (s : Common) (to : ℕ) (m : MailMessage) (choice : Choice) → PollsOn j s.tasks (after_send me s to m choice).tasks
 send_on {j} me s to m choice =
     subst (λ us. PollsOn j s.tasks us) (sym (post_same (after_sending s me.polls m) to m choice)) (sending_on s me.polls m)
 
 apply_on : {j : ℕ} (me : Own) (s : Common) (i : ℕ) (m : MailMessage) → PollsOn j s.tasks (after_apply me s i m).tasks
-apply_on me s i message.Root = woken_on s me.root
-apply_on me s i (message.ForwardRequest r) = same_tasks
-apply_on me s i (message.ForwardTimer z) = same_tasks
-apply_on me s i (message.CancelRequest r) = same_tasks
-apply_on me s i (message.CancelTimer z) = same_tasks
+apply_on = grind (arith, woken_on, same_tasks)
 
 marked_unpolled : (j : ℕ) (ts : List Task) (q : ℕ) → is_polled_by j (get_or ts q no_task).phase ≡ false
     → is_polled_by j (get_or (set ts q (record (get_or ts q no_task) { cleared = true })) q no_task).phase ≡ false
@@ -141,9 +118,6 @@ reap_same s i r n outcome =
 
 -- OWN PARTS
 
-drop_same : (me : Own) (s : Common) (r : ℕ) → (own_after_drop me s r).polls ≡ me.polls
-drop_same me s r = refl
-
 either_same : (b : Bool) (x y me : Own) → x.polls ≡ me.polls → y.polls ≡ me.polls → (if b then x else y).polls ≡ me.polls
 either_same true x y me one other = one
 either_same false x y me one other = other
@@ -157,9 +131,7 @@ drops_same s i (r ∷ held) me =
     ∙ either_same (home == i) (own_after_drop me s r) letter me refl refl
 
 waking_up_same : (s : Common) (i : ℕ) (what : Waiting) (me : Own) → (own_after_waking_up s i what me).polls ≡ me.polls
-waking_up_same s i (waiting.Timer z) me =
-    elim (cases_Bool ((sleeper_of s z).worker == i)) [ inl own ↦ rw own refl | inr other ↦ rw other refl ]
-waking_up_same s i what me = refl
+waking_up_same = grind arith
 
 over_same : (me : Own) (s : Common) (i t : ℕ) → (own_after_over me s i t).polls ≡ me.polls
 over_same me s i t =
@@ -174,10 +146,7 @@ admit_same o (Some outcome) r me = refl
 admit_same o None r me = elim (cases_Bool (is_durable o.kind)) [ inl durable ↦ rw durable refl | inr other ↦ rw other refl ]
 
 turn_own_same : (me : Own) (choice : Choice) → (own_after_turn me choice).polls ≡ me.polls
-turn_own_same me Plain = refl
-turn_own_same me Passes = refl
-turn_own_same me (Pays payer) = refl
-turn_own_same me (Posts payer left_out) = refl
+turn_own_same = grind arith
 
 sampled_same : (s : Common) (me : Own) → (sampled_now s me).polls ≡ me.polls
 sampled_same s me = elim (cases_Bool me.serving) [ inl on ↦ rw on refl | inr off ↦ rw off refl ]
@@ -232,11 +201,7 @@ by_event : (c : Configuration) (me : Own) (s : Common) (i : ℕ) (e : Event) (ch
     → PollsAfter i (own_after c me s i e choice) s (common_after c me s i e choice)
 by_event c me s i event.Turn choice a mine = polls_on i me _ s _ mine (turn_own_same me choice) (λ j. tasks_as_before (turn_same me s i choice))
 by_event c me s i event.Serve choice a mine = polls_on i me _ s _ mine (sampled_same s me) (λ j. same_tasks)
-by_event c me s i (event.Begin q) choice a mine =
-    record {
-      own = λ t h. subst (λ t. is_polled_by i (get_or (set s.tasks q (begun i (task_of s q))) t no_task).phase ≡ true) (some_same h) (begins i q s a.1.1.0);
-      others = λ j _. one_task s.tasks q (begun i (task_of s q)) (λ h. absurd (true≢false (sym h ∙ ready_unpolled j (task_of s q).phase a.1.1.0)));
-    }
+by_event c me s i (event.Begin q) choice a mine = grind (arith, is_polled_by, some_same, begins, one_task, true≢false, ready_unpolled)
 by_event c me s i (event.Pend t) choice a mine =
     let tasks = pended_tasks s i t in poll_ends i t me _ s _ tasks.0 mine (is_number_is t me.polls a.0) refl tasks.1
 by_event c me s i (event.Done t) choice a mine =
@@ -284,9 +249,7 @@ record PollsAre (w : World) : Type 0 where
 
 -- who is made polls nothing
 made_idle : (s : Common) (e : Event) (k : ℕ) → (get_or (made_by s e) k no_own).polls ≡ None
-made_idle s (event.Dedicated t n) zero = refl
-made_idle s (event.Dedicated t n) (suc k) = refl
-made_idle s e k = refl
+made_idle = grind arith
 
 old_or_idle : (xs made : List Own) (j t : ℕ) → ((k : ℕ) → (get_or made k no_own).polls ≡ None) → (get_or (xs ++ made) j no_own).polls ≡ Some t → (get_or xs j no_own).polls ≡ Some t
 old_or_idle [] made j t idle h = absurd (none_some (sym (idle j) ∙ h))
@@ -322,14 +285,10 @@ spawn_call_on s k (event.Spawn t script) = one_more_task s.tasks _
 spawn_call_on s k e = same_tasks
 
 wake_call_on : {j : ℕ} (s : Common) (t : ℕ) (e : Event) (choice : Choice) → PollsOn j s.tasks (after_wake_by_call s t e choice).tasks
-wake_call_on s t (event.Wake other) choice = woken_on s t
-wake_call_on s t (event.Send to m) choice = tasks_as_before (post_same s to m choice)
-wake_call_on s t e choice = same_tasks
+wake_call_on = grind (arith, woken_on, tasks_as_before, post_same, same_tasks)
 
 going_on_on : {j : ℕ} (s : Common) (k : ℕ) (e : Event) → PollsOn j s.tasks (after_going_on s k e).tasks
-going_on_on s k (event.Rouse other) = same_tasks
-going_on_on s k event.Return = same_tasks
-going_on_on s k e = same_tasks
+going_on_on = grind arith
 
 by_action : (c : Configuration) (w : World) (a : Action) (e : Event) (choice : Choice) → Follows c w a (Did e) choice → PollsAre w → PollsAre (after_event c w a e choice)
 by_action c w (action.Work i) e choice f before =

@@ -1,13 +1,12 @@
 -- What an event leaves of each request: one that is over stays so with its outcome, a released one stays released, and
 -- none but an admission and a judged result changes what a request asks for and how far it has come.
-use Rattle.std.proofs.Common.{◌≡◌, ℕ, zero, suc, ◌+◌, Bool, true, false, not, ◌&&◌, ◌==◌, List, [], ◌∷◌, Option, Some, None, length, map, refl, sym, ◌∙◌, ap, subst, inl, inr, get_or, set, unwrap_or}
+use Rattle.std.proofs.Common.{◌≡◌, ℕ, zero, suc, ◌+◌, Bool, true, false, ◌&&◌, ◌==◌, List, [], ◌∷◌, Option, Some, None, length, map, refl, sym, ◌∙◌, subst, inl, inr, get_or, set, unwrap_or, arith}
 use Rattle.std.proofs.lemmas.Bool.{true≢false, cases_Bool, and_parts}
 use Rattle.std.proofs.lemmas.List.{length-set, length-map}
 use Rattle.exec_outcomes.specs.{declared.outcome.{OpResult.OpResult, Outcome.Outcome}, Lawful.{window_of, is_lawful}}
-use Rattle.exec_machine.specs.{declared.{config.Configuration.Configuration, step.Action.Action, event.{Event.Event, StepResult.TheVariants.Did}, state.{Next.Next, MailMessage.MailMessage, Forwarding.TheVariants.{Sent, Applied}, RequestPhase.RequestPhase, Operation.Operation, Request.Request}}, Choice.{Choice, Payer, Choice.{Plain, Passes, Pays, Posts}, Payer.{ByRequest, BySleeper, ByAct, ByCall, ByStop}}, World.{World, Own, Common, task_of, request_of, no_request}, Tests.{is_gated, is_queued, is_staged, is_flying, is_resolved, is_in_flight, is_kept}, Requests.{asked_of, cursor_of, dropped, ends_by_drop, is_cancelled_by_drop, granted, staged, asks_hint, account_of_open, flown}, Deadlines.{fires_at, enrolled, expired, outcome_at_expiry}, Tasks.{requests_after_drops, after_word, after_wait, after_payment, after_wake, after_pend}, Mail.{after_sending, after_post, after_send, after_apply, is_root_message, is_left_out}, Closing.{after_next, after_turn, after_clear, with_cleared, ends_by_clear}, Allowed.Allowed, After.{common_after, polled}, Callers.{after_spawn_by_call, after_wake_by_call, after_going_on}, Run.{Follows, after_event}, Same.same_end}
+use Rattle.exec_machine.specs.{declared.{config.Configuration.Configuration, step.Action.Action, event.{Event.Event, StepResult.TheVariants.Did}, state.{MailMessage.MailMessage, Forwarding.TheVariants.{Sent, Applied}, RequestPhase.RequestPhase, Request.Request}}, Choice.{Choice, Payer, Choice.{Plain, Passes, Pays, Posts}, Payer.{ByRequest, BySleeper, ByAct, ByCall, ByStop}}, World.{World, Own, Common, task_of, request_of, no_request}, Tests.{is_gated, is_queued, is_flying, is_resolved, is_in_flight}, Requests.{asked_of, cursor_of, dropped, granted, staged, flown}, Deadlines.{fires_at, enrolled, expired, outcome_at_expiry}, Tasks.{requests_after_drops, after_word, after_wait, after_payment, after_wake, after_pend}, Mail.{after_sending, after_post, after_send, after_apply, is_root_message, is_left_out}, Closing.{after_turn, after_clear, with_cleared, ends_by_clear}, Allowed.Allowed, After.{common_after, polled}, Callers.{after_spawn_by_call, after_wake_by_call, after_going_on}, Run.{Follows, after_event}, Same.same_end}
 use Rattle.exec_machine.specs.declared.step.Action.TheVariants as action
 use Rattle.exec_machine.specs.declared.event.Event.TheVariants as event
-use Rattle.exec_machine.specs.declared.state.Next.TheVariants as next
 use Rattle.exec_machine.specs.declared.state.MailMessage.TheVariants as message
 use Rattle.exec_machine.specs.declared.state.RequestPhase.TheVariants as phase
 use Rattle.exec_machine.proofs.SameIs.{told_only_where}
@@ -33,49 +32,19 @@ pub Onward-refl : {x : Request} → Onward x x
 Onward-refl = record { lasts = record { over = λ o h. h; released = λ h. h }; asked = refl; cursor = refl; hints = λ h. h }
 
 Onward-trans : {x y z : Request} → Onward x y → Onward y z → Onward x z
-Onward-trans a b =
-    record {
-      lasts = record { over = λ o h. b.lasts.over o (a.lasts.over o h); released = λ h. b.lasts.released (a.lasts.released h) };
-      asked = b.asked ∙ a.asked;
-      cursor = b.cursor ∙ a.cursor;
-      hints = λ h. b.hints (a.hints h);
-    }
+Onward-trans = grind arith
 
 -- other fields than these change
 touched : {x y : Request} → y.phase ≡ x.phase → y.released ≡ x.released → y.operation ≡ x.operation → Onward x y
-touched {x} {y} same let_go alike =
-    record {
-      lasts = record { over = λ o h. same ∙ h; released = λ h. let_go ∙ h };
-      asked = ap asked_of alike;
-      cursor = ap cursor_of alike;
-      hints = λ h flying hinted.
-          subst (λ (o : Operation). o.unrefused ≡ true) (sym alike)
-          (h (subst (λ (p : RequestPhase). is_in_flight p ≡ true) same flying) (subst (λ (o : Operation). o.hinted ≡ true) alike hinted));
-    }
-
--- one that is not over is not over with an outcome
-not_over : (p q : RequestPhase) → is_resolved p ≡ false → (o : Outcome) → p ≡ phase.Resolved o → q ≡ phase.Resolved o
-not_over p q unresolved o h = absurd (true≢false (sym (ap is_resolved h) ∙ unresolved))
+touched = grind arith
 
 -- one that isn't over goes on to a phase in which it isn't in flight
 moved : {x y : Request} → is_resolved x.phase ≡ false → is_in_flight y.phase ≡ false → y.released ≡ x.released → y.operation ≡ x.operation → Onward x y
-moved {x} {y} unresolved grounded let_go alike =
-    record {
-      lasts = record { over = λ o h. not_over x.phase y.phase unresolved o h; released = λ h. let_go ∙ h };
-      asked = ap asked_of alike;
-      cursor = ap cursor_of alike;
-      hints = λ h flying hinted. absurd (true≢false (sym flying ∙ grounded));
-    }
+moved = grind arith
 
 -- one in flight stays so
 flies_on : {x y : Request} → is_resolved x.phase ≡ false → is_in_flight x.phase ≡ true → y.released ≡ x.released → y.operation ≡ x.operation → Onward x y
-flies_on {x} {y} unresolved flying let_go alike =
-    record {
-      lasts = record { over = λ o h. not_over x.phase y.phase unresolved o h; released = λ h. let_go ∙ h };
-      asked = ap asked_of alike;
-      cursor = ap cursor_of alike;
-      hints = λ h _ hinted. subst (λ (o : Operation). o.unrefused ≡ true) (sym alike) (h flying (subst (λ (o : Operation). o.hinted ≡ true) alike hinted));
-    }
+flies_on = grind arith
 
 -- PHASES
 
@@ -86,14 +55,6 @@ gated_open p h = absurd (true≢false (sym h))
 pub queued_open : (p : RequestPhase) → is_queued p ≡ true → is_resolved p ≡ false
 queued_open phase.Queued h = refl
 queued_open p h = absurd (true≢false (sym h))
-
-staged_open : (p : RequestPhase) → is_staged p ≡ true → is_resolved p ≡ false
-staged_open phase.Staged h = refl
-staged_open p h = absurd (true≢false (sym h))
-
-staged_flies : (p : RequestPhase) → is_staged p ≡ true → is_in_flight p ≡ true
-staged_flies phase.Staged h = refl
-staged_flies p h = absurd (true≢false (sym h))
 
 pub flying_open : (p : RequestPhase) → is_flying p ≡ true → is_resolved p ≡ false
 flying_open phase.Flying h = refl
@@ -106,15 +67,7 @@ flying_flies p h = absurd (true≢false (sym h))
 -- EACH CHANGE OF A REQUEST
 
 pub dropped_onward : (x : Request) → Onward x (dropped x)
-dropped_onward x =
-    elim (cases_Bool (ends_by_drop x)) [
-      | inl ends ↦ rw ends (moved (queued_open x.phase (and_parts (is_queued x.phase) (not (is_kept x.operation.kind)) ends).0) refl refl refl)
-      | inr stays ↦ rw stays (
-          elim (cases_Bool (is_cancelled_by_drop x)) [
-            | inl cancelled ↦ rw cancelled (touched refl refl refl)
-            | inr kept ↦ rw kept (touched refl refl refl)
-          ])
-    ]
+dropped_onward = grind arith
 
 granted_onward : (outcome : Option Outcome) (x : Request) → is_gated x.phase ≡ true → Onward x (granted outcome x)
 granted_onward None x gated = moved (gated_open x.phase gated) refl refl refl
@@ -129,23 +82,10 @@ expired_onward None x told = touched refl refl refl
 expired_onward (Some o) x told = moved (queued_open x.phase (told_only_where o _ (is_queued x.phase) told)) refl refl refl
 
 staged_onward : (s : Common) (x : Request) → is_queued x.phase ≡ true → Onward x (staged s x)
-staged_onward s x queued =
-    record {
-      lasts = record { over = λ o h. not_over x.phase phase.Staged (queued_open x.phase queued) o h; released = λ h. h };
-      asked = refl;
-      cursor = refl;
-      hints = λ h _ hinted.
-          (and_parts (asks_hint x.operation) x.operation.unrefused (and_parts (asks_hint x.operation && x.operation.unrefused) (account_of_open s x).hinted hinted).0).1;
-    }
+staged_onward = grind arith
 
 flown_onward : (i : ℕ) (x : Request) → Onward x (flown i x)
-flown_onward i x =
-    elim (cases_Bool ((x.worker == i) && is_staged x.phase)) [
-      | inl goes ↦
-          let on : is_staged x.phase ≡ true = (and_parts (x.worker == i) (is_staged x.phase) goes).1 in
-          rw goes (flies_on (staged_open x.phase on) (staged_flies x.phase on) refl refl)
-      | inr stays ↦ rw stays Onward-refl
-    ]
+flown_onward = grind arith
 
 -- ALL REQUESTS
 
@@ -192,17 +132,8 @@ word_keeps : (s : Common) (polls : Option ℕ) → (after_word s polls).requests
 word_keeps s None = refl
 word_keeps s (Some t) = refl
 
-next_keeps : (s : Common) (i : ℕ) (n : Next) → (after_next s i n).requests ≡ s.requests
-next_keeps s i next.Free = refl
-next_keeps s i (next.Joins r) = refl
-next_keeps s i next.ClosesQueue = refl
-next_keeps s i next.ClosesMailbox = refl
-
 turn_keeps : (me : Own) (s : Common) (i : ℕ) (choice : Choice) → (after_turn me s i choice).requests ≡ s.requests
-turn_keeps me s i Plain = next_keeps s i me.next
-turn_keeps me s i Passes = refl
-turn_keeps me s i (Pays payer) = next_keeps s i me.next
-turn_keeps me s i (Posts payer left_out) = next_keeps s i me.next
+turn_keeps = grind arith
 
 post_keeps : (s : Common) (to : ℕ) (m : MailMessage) (choice : Choice) → (after_post s to m choice).requests ≡ s.requests
 post_keeps s to m choice =
@@ -316,14 +247,10 @@ spawn_call_keeps s k (event.Spawn t script) = refl
 spawn_call_keeps s k e = refl
 
 wake_call_keeps : (s : Common) (t : ℕ) (e : Event) (choice : Choice) → (after_wake_by_call s t e choice).requests ≡ s.requests
-wake_call_keeps s t (event.Wake other) choice = refl
-wake_call_keeps s t (event.Send to m) choice = post_keeps s to m choice
-wake_call_keeps s t e choice = refl
+wake_call_keeps = grind arith
 
 going_on_keeps : (s : Common) (j : ℕ) (e : Event) → (after_going_on s j e).requests ≡ s.requests
-going_on_keeps s j (event.Rouse other) = refl
-going_on_keeps s j event.Return = refl
-going_on_keeps s j e = refl
+going_on_keeps = grind arith
 
 landed_onward : (n : OpResult) (x : Request) → is_flying x.phase ≡ true → Onward x (record x { phase = phase.Landed n })
 landed_onward n x flying = flies_on (flying_open x.phase flying) (flying_flies x.phase flying) refl refl

@@ -1,6 +1,6 @@
 -- Who polls a task, by its phase.
-use Rattle.std.proofs.Common.{◌≡◌, ℕ, Bool, true, false, ◌==◌, Option, Some, None, refl, sym, ◌∙◌, ap}
-use Rattle.std.proofs.lemmas.Bool.{true≢false, eqb-true}
+use Rattle.std.proofs.Common.{◌≡◌, ℕ, Bool, true, false, ◌==◌, Option, Some, None, refl, sym, ap, arith}
+use Rattle.std.proofs.lemmas.Bool.{true≢false}
 use Rattle.exec_machine.specs.{declared.state.TaskPhase.TaskPhase, Tests.is_ready, Tasks.woken_phase, Closing.ends_by_clear}
 use Rattle.exec_machine.specs.declared.state.TaskPhase.TheVariants as task
 
@@ -12,23 +12,17 @@ is_polled_by j (task.Noted k) = j == k
 is_polled_by j _ = false
 
 pub one_poller : (i j : ℕ) (p : TaskPhase) → is_polled_by i p ≡ true → is_polled_by j p ≡ true → i ≡ j
-one_poller i j (task.Running k) a b = eqb-true i k a ∙ sym (eqb-true j k b)
-one_poller i j (task.Noted k) a b = eqb-true i k a ∙ sym (eqb-true j k b)
-one_poller i j p a b = absurd (true≢false (sym a))
+one_poller = grind arith
 
 pub woken_polled : (j : ℕ) (p : TaskPhase) → is_polled_by j p ≡ true → is_polled_by j (woken_phase p) ≡ true
-woken_polled j (task.Running k) h = h
-woken_polled j (task.Noted k) h = h
-woken_polled j p h = absurd (true≢false (sym h))
+woken_polled = grind arith
 
 pub ready_unpolled : (j : ℕ) (p : TaskPhase) → is_ready p ≡ true → is_polled_by j p ≡ false
 ready_unpolled j task.Queued h = refl
 ready_unpolled j p h = absurd (true≢false (sym h))
 
 pub cleared_unpolled : (j : ℕ) (p : TaskPhase) → ends_by_clear p ≡ true → is_polled_by j p ≡ false
-cleared_unpolled j (task.Running k) h = absurd (true≢false (sym h))
-cleared_unpolled j (task.Noted k) h = absurd (true≢false (sym h))
-cleared_unpolled j p h = refl
+cleared_unpolled = grind arith
 
 abbrev pub is_nothing : Option ℕ → Bool
 is_nothing None = true

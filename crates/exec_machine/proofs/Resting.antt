@@ -58,13 +58,7 @@ record SixTrue (a b c d e f : Bool) : Type 0 where
   pub sixth : f ≡ true
 
 six_parts : (a b c d e f : Bool) → (a && b && c && d && e && f) ≡ true → SixTrue a b c d e f
-six_parts true true true true true true h = record { first = refl; second = refl; third = refl; fourth = refl; fifth = refl; sixth = refl }
-six_parts false b c d e f h = absurd (true≢false (sym h))
-six_parts true false c d e f h = absurd (true≢false (sym h))
-six_parts true true false d e f h = absurd (true≢false (sym h))
-six_parts true true true false e f h = absurd (true≢false (sym h))
-six_parts true true true true false f h = absurd (true≢false (sym h))
-six_parts true true true true true false h = absurd (true≢false (sym h))
+six_parts = grind arith
 
 six_true : (a b c d e f : Bool) → SixTrue a b c d e f → (a && b && c && d && e && f) ≡ true
 six_true a b c d e f h = rw (h.first, h.second, h.third, h.fourth, h.fifth, h.sixth) refl
@@ -90,16 +84,7 @@ abbrev pub workers_finished : World → Bool
 workers_finished w = all_numbered (λ i seat. not (has_to_close w i seat)) 0 w.common.seats
 
 nothing_unfinished : (c : Configuration) (w : World) → is_nothing_unfinished c w ≡ true → NothingUnfinished c w
-nothing_unfinished c w h =
-    let parts = six_parts (tasks_finished w) (mail_finished w) (requests_finished c w) (sleepers_finished w) (cancels_finished w) (workers_finished w) h in
-    record {
-      tasks = λ t. is_false _ (all_at (λ t. not (is_task_unfinished w.common t)) no_task w.common.tasks refl parts.first t);
-      messages = λ i. nothing_in _ (all_at (λ seat. is_empty seat.inbox) no_seat w.common.seats refl parts.second i);
-      requests = λ r. is_false _ (from_zero (λ r it. not (is_request_unfinished c w r it)) no_request w.common.requests (λ n. refl) parts.third r);
-      sleepers = λ z. is_false _ (all_at (λ z. not (is_sleeper_unfinished w.common z)) no_sleeper w.common.sleepers refl parts.fourth z);
-      cancels = λ i. is_false _ (all_at (λ me. not (is_cancel_untold w.common me)) no_own w.workers refl parts.fifth i);
-      workers = λ i. is_false _ (from_zero (λ i seat. not (has_to_close w i seat)) no_seat w.common.seats (λ n. refl) parts.sixth i);
-    }
+nothing_unfinished = grind (arith, six_parts, is_false, all_at, nothing_in, from_zero)
 
 all_finished : (c : Configuration) (w : World) → NothingUnfinished c w → is_nothing_unfinished c w ≡ true
 all_finished c w h =
@@ -121,16 +106,8 @@ implies : (a b : Bool) → (a ≡ true → b ≡ true) → (not a || b) ≡ true
 implies true b h = h refl
 implies false b h = refl
 
-abbrev pub closers_wait : World → Bool
-closers_wait w = all_numbered (λ i seat. not (sleeps_for_nothing w.common i seat)) 0 w.common.seats
-
 pub sound : (c : Configuration) (w : World) → is_rightly_asleep c w ≡ true → IsRightlyAsleep c w
-sound c w h =
-    let parts = and_parts (not (all_asleep w) || is_nothing_unfinished c w) (closers_wait w) h in
-    record {
-      asleep = λ all. nothing_unfinished c w (implied (all_asleep w) (is_nothing_unfinished c w) parts.0 all);
-      closing = λ i. is_false _ (from_zero (λ i seat. not (sleeps_for_nothing w.common i seat)) no_seat w.common.seats (λ n. refl) parts.1 i);
-    }
+sound = grind (arith, and_parts, nothing_unfinished, implied, is_false, from_zero)
 
 pub complete : (c : Configuration) (w : World) → IsRightlyAsleep c w → is_rightly_asleep c w ≡ true
 complete c w h =

@@ -15,7 +15,6 @@ pub mod Callers
 pub mod Run
 pub mod Text
 pub mod Progress
-pub mod Credited
 pub mod Results
 pub mod Unfinished
 pub mod Examples

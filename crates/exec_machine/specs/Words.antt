@@ -92,12 +92,6 @@ abbrev pub asks_dedicated : ScriptWord → Bool
 asks_dedicated (word.Dedicated k) = true
 asks_dedicated _ = false
 
--- a spawn of either sort
-abbrev pub asks_task : ScriptWord → Bool
-asks_task (word.Spawn k) = true
-asks_task (word.Dedicated k) = true
-asks_task _ = false
-
 -- a sleep of 0 is none
 abbrev pub asks_no_sleep : ScriptWord → Bool
 asks_no_sleep (word.Sleep time) = time == 0

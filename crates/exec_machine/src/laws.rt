@@ -3,7 +3,7 @@
 ghost use Rattle.std.specs.Prelude.{◌≡◌, ◌<◌, ℕ, true, false, List, [], ◌∷◌, ◌++◌, length};
 ghost use Rattle.std.specs.Prelude.{Option, Some, None, slice_index_or, slice_set};
 ghost use Rattle.exec_outcomes.specs.{declared.outcome.{OpResult.OpResult, Outcome.Outcome}, Outcomes.{HasCome, outcome_of}};
-ghost use Rattle.exec_machine.specs.{declared.{config.Configuration.Configuration, step.Action.{Action, TheVariants.Work}, event.{Event.Event, StepResult.StepResult, Line.Line}, state.{RequestPhase.TheVariants.Resolved, Request.Request, Sleeper.Sleeper}}, Choice.Choice, World.{World, Own, own_of, request_of, no_request, no_sleeper}, Tests.{IsOther, is_resolved}, Requests.{asked_of, cursor_of, judged_of, account_of_open, outcome_shown}, Deadlines.{first_timer, is_first_due, first_until, is_none_earlier}, After.after, Run.{RunsBy, is_run, after_line, world_after}, Results.{results_of, reaps}, Progress.{Plan, Party, quiet_bound, no_stretch, begin, is_solo, IsRightlyAsleep, is_rightly_asleep, RightlyAsleepBy, is_always_rightly_asleep}, Credited.{Standing, Account, choices_of, GoesBy}};
+ghost use Rattle.exec_machine.specs.{declared.{config.Configuration.Configuration, step.Action.{Action, TheVariants.Work}, event.{Event.Event, StepResult.StepResult, Line.Line}, state.{RequestPhase.TheVariants.Resolved, Request.Request, Sleeper.Sleeper}}, Choice.Choice, World.{World, Own, own_of, request_of, no_request, no_sleeper}, Tests.{IsOther, is_resolved}, Requests.{asked_of, cursor_of, judged_of, account_of_open, outcome_shown}, Deadlines.{first_timer, is_first_due, first_until, is_none_earlier}, After.after, Run.{RunsBy, is_run, after_line, world_after}, Results.{results_of, reaps}, Progress.{Plan, Party, quiet_bound, no_stretch, begin, is_solo, IsRightlyAsleep, is_rightly_asleep, RightlyAsleepBy, is_always_rightly_asleep}};
 
 /// What a run is can be computed: the test that computes says the same.
 pub fn runs_compute()
@@ -97,20 +97,4 @@ pub fn outcomes_are_of_all_results()
         outcome ≡ outcome_shown (account_of_open s it) it.operation.kind
         (outcome_of (asked_of it.operation)
         (results_of p.config (begin p) r lines choices ++ judged_of it n ∷ [])) }
-{}
-
-/// Where each line leaves every party a credit that is below the bound, and each quiet one its
-/// party less than there was, the lines are a run in which no stretch of quiet lines is as long as
-/// the bound. Where besides no worker sleeps on work, so it is in each state of the run.
-pub fn paid_lines_are_runs()
-    ensures runs { (c : Configuration) (s : Standing) (lines : List Line) (accounts : List Account)
-        →
-        GoesBy c s lines accounts → RunsBy c s.world lines (choices_of accounts) }
-    ensures solo { (c : Configuration) (s : Standing) (lines : List Line) (accounts : List Account)
-        →
-        ((p : Party) → s.credit p < quiet_bound c s.world) → GoesBy c s lines accounts →
-        is_solo c s.world no_stretch lines (choices_of accounts) ≡ true }
-    ensures asleep { (c : Configuration) (s : Standing) (lines : List Line)
-        (accounts : List Account) → IsRightlyAsleep c s.world → GoesBy c s lines accounts →
-        RightlyAsleepBy c s.world lines (choices_of accounts) }
 {}

@@ -1,7 +1,7 @@
 -- WHAT TASKS HOLD, where a worker pays a wake by what it wakes the task for, or sends the end of a thing to the task that waits
 -- for it elsewhere.
-use Rattle.std.proofs.{Common.{◌≡◌, inl, inr, ⊎_elim, ℕ, ◌+◌, ◌<◌, ◌||◌, true, false, List, length, Option, Some, None, IsSome, Result, Ok, Err, refl, sym, ap, subst, ◌∙◌, arith, slice_get, slice_set}, lemmas.Bool.false≢true}
-use Rattle.exec_base.specs.{OneShot.sent as sent_into, declared.{error.Error.Error, one_shot.OneShotState.{OneShotState, TheVariants.{Open, Sent, Closed}}}}
+use Rattle.std.proofs.{Common.{◌≡◌, inl, inr, ⊎_elim, ℕ, ◌+◌, ◌<◌, ◌||◌, true, false, List, length, Option, Some, IsSome, Result, Ok, Err, refl, sym, ap, subst, ◌∙◌, arith, slice_get, slice_set}, lemmas.Bool.false≢true}
+use Rattle.exec_base.specs.{OneShot.sent as sent_into, declared.{error.Error.Error, one_shot.OneShotState.{OneShotState, TheVariants.{Sent}}}}
 use Rattle.exec_request.specs.declared.output.RequestOutput.{RequestOutput}
 use Rattle.exec_machine.specs.{declared.state.Forwarding.TheVariants.Applied, Tests.is_unsent}
 use Rattle.exec_words.specs.declared.inbox.Message.{Message}
@@ -12,10 +12,7 @@ use Rattle.exec_parts.specs.declared.parts.mail.Subject.TheVariants as subject
 -- A WAKE IS PAID: of the worker's hands only what it is about to wake changes, and nobody else is owed by the same
 
 answer_paid : (o : OneShotState (Result RequestOutput Error)) (r : Thing) (n : ℕ) → HasAnswer o r → HasAnswer o (record r { paid = n })
-answer_paid Open r n h = h
-answer_paid (Sent (Ok told)) r n h = h
-answer_paid (Sent (Err e)) r n h = h
-answer_paid Closed r n h = h
+answer_paid = grind arith
 
 module _ (h : Hands) (wakes : ℕ → ℕ → ℕ) (workers : ℕ) (hs : List Holder) (ts : List Thing) (naps : List Nap) (boxes : List Box) (k : ℕ) (r : Thing) where
   pub record PaysThing : Type 0 where
@@ -99,9 +96,7 @@ module _ (h : Hands) (workers : ℕ) (hs : List Holder) (ts : List Thing) (naps 
       sym (ap (λ (x : Holder). x.awaits) same) ∙ waits.awaits
 
   empty_by : (o : OneShotState (Result RequestOutput Error)) → r.sent ≡ false → HasAnswer o r → sent_into o answer ≡ Sent answer
-  empty_by Open unsent has = refl
-  empty_by (Sent x) unsent has = absurd (false≢true (sym unsent ∙ has.0))
-  empty_by Closed unsent has = absurd has
+  empty_by = grind arith
 
   filled : SendsThing → IsHolding h workers hs ts naps boxes → sent_into it.output answer ≡ Sent answer
   filled by old =
@@ -206,12 +201,4 @@ module _ (h : Hands) (workers : ℕ) (hs : List Holder) (ts : List Thing) (naps 
       answered (Err e) is = is
 
       owes_on : SendsThing → (i u : ℕ) → 0 < h.wakes i u → (a : Option Subject) → Owes i u a ts naps boxes → Owes i u a (slice_set ts k sent_thing) naps boxes
-      owes_on by i u some None owes = owes
-      owes_on by i u some (Some (subject.Timer n)) owes = owes
-      owes_on by i u some (Some (subject.Request n)) owes =
-          by_number n k
-          (λ apart. (owes.0, set_elsewhere ts k n sent_thing apart ∙ owes.1, owes.2))
-          (λ same.
-          let is : owes.0 ≡ r = same_thing owes.0 r (sym owes.1 ∙ ap (slice_get ts) same ∙ by.thing) in
-          let it_owes : ThingOwes i u r boxes = subst (λ x. ThingOwes i u x boxes) is owes.2 in
-          absurd (by.unowed u (subst (λ j. 0 < h.wakes j u) (sym it_owes.worker) some)))
+      owes_on = grind (arith, by_number, set_elsewhere, same_thing)

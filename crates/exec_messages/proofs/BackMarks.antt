@@ -5,11 +5,10 @@ use Rattle.exec_base.specs.{Slab.{Slab, value_at}, declared.slab.Id.Id}
 use Rattle.exec_time.specs.declared.timers.Sleeper.{Sleeper as Sleeping}
 use Rattle.exec_waiters.specs.{States.pending_count, declared.deferred.Deferred.Deferred}
 use Rattle.exec_driver.specs.{Driving.Driving}
-use Rattle.exec_words.specs.declared.inbox.Message.{Message}
 use Rattle.exec_machine.specs.{declared.config.Configuration.Configuration, Tests.{is_asleep, is_resolved}}
 use Rattle.exec_moves.specs.declared.{handing.AfterCallbacks.AfterCallbacks, place.{InCallbacks.InCallbacks, InService.InService, Place.Place}}
-use Rattle.exec_parts.{specs.{declared.parts.{letters.Letters.Letters, mail.{Reply.Reply, Subject.Subject}, names.Names.Names, record.Record.Record, shared.Shared.Shared, sleeping.SleeperRecord.SleeperRecord, worker.{Moments.Moments, Worker.Worker}}, Records.number_in, Serving.changed_at, Calls.IsTold, View.driver_of}, proofs.Facts.{by_number, same_thing, set_elsewhere, set_there, true_false}}
-use Rattle.exec_invariants.{specs.{Carried.IsCarried, Due.{AreAsleep, IsAsleepAs, IsDue}, Flown.HasFlown, Gates.{AreLinedUp, IsKnown, at_gate}, HoldPlaces.spare_before, Holding.Mail, Places.searches_before, Rooted.IsRooted, Sound.{AreOver, HasLetters, IsLetter, IsMineIn, IsMyMail, IsSearching, SoundAt, has_wakes_at}, Names.{HasWidth, IsNamed, tellers}}, proofs.{Carries.carried_marked, FiringNames.naps_set, Flown.flown_marked, Known.known_marked, Lined.{KeepsAt, lined_at, map_changed}, MailBack.idle_before, Marking.{Marks, before, due_marked, mark_if, marked, marks_if, named_marked}, ServedEnds.{count_both, count_one}}}
+use Rattle.exec_parts.{specs.{declared.parts.{letters.Letters.Letters, mail.{Reply.Reply, Subject.Subject}, names.Names.Names, record.Record.Record, shared.Shared.Shared, sleeping.SleeperRecord.SleeperRecord, worker.{Moments.Moments, Worker.Worker}}, Records.number_in, Serving.changed_at, Calls.IsTold, View.driver_of}, proofs.Facts.{by_number, same_thing, set_elsewhere, set_there}}
+use Rattle.exec_invariants.{specs.{Carried.IsCarried, Due.{AreAsleep, IsAsleepAs, IsDue}, Flown.HasFlown, Gates.{AreLinedUp, IsKnown}, HoldPlaces.spare_before, Holding.Mail, Rooted.IsRooted, Sound.{AreOver, HasLetters, IsLetter, IsMineIn, IsMyMail, SoundAt}, Names.{HasWidth, IsNamed, tellers}}, proofs.{Carries.carried_marked, FiringNames.naps_set, Flown.flown_marked, Known.known_marked, Lined.{KeepsAt, lined_at, map_changed}, Marking.{Marks, before, due_marked, mark_if, marked, marks_if, named_marked}, ServedEnds.{count_both, count_one}}}
 
 -- what is in a list counts there
 pub count_some : {A : Type 0} (p : A → Bool) (xs : List A) (a : A) → Contains xs a → p a ≡ true → 0 < count_by p xs
@@ -38,9 +37,7 @@ module _ (rs rs' : List Record) (zs zs' : List SleeperRecord) (on : AreOn rs rs'
   mine_on workers j (Subject.Timer n) is = let new = too n is.0 is.1 in (new.0, new.1, new.2 ∙ is.2, is.3)
 
   pub mail_on : (workers j : ℕ) (m : Mail) → IsMyMail workers j m rs zs → IsMyMail workers j m rs' zs'
-  mail_on workers j Message.WakeRoot is = tt
-  mail_on workers j (Message.Forward x) is = mine_on workers j x is
-  mail_on workers j (Message.Cancel x) is = mine_on workers j x is
+  mail_on = grind arith
 
   letter_on : (workers i : ℕ) (x : Subject) (j : ℕ) → IsLetter workers i x j rs zs → IsLetter workers i x j rs' zs'
   letter_on workers i x j is = (mine_on workers j x is.0, is.1)
@@ -73,14 +70,7 @@ module _ (f : Record → Record) (marks : Marks f) (released : (r : Record) → 
       }
 
   pub marked_at : (r : Record) → slice_get rs q ≡ Some r → KeepsAt rs (changed_at rs q f)
-  marked_at r there =
-      record {
-        at = map_changed at_gate rs q r f there (ap at_gate (marks r));
-        over = λ k x y at_x at_y over.
-            let old = before f rs q marks k y at_y in
-            let same : x ≡ old.0 = same_thing x old.0 (sym at_x ∙ old.1) in
-            ap (λ v. is_resolved v.shown.phase) old.2 ∙ ap (λ v. is_resolved v.shown.phase) (sym same) ∙ over;
-      }
+  marked_at = grind (arith, map_changed, before, same_thing)
 
   pub marked_on : AreOn rs (changed_at rs q f)
   marked_on k r there = (mark_if f (q == k) r, marked f rs q k r there, ap (λ y. y.shown.worker) (marks_if f marks (q == k) r))
@@ -95,12 +85,7 @@ alike_itself z = record { kept = refl }
 
 module _ (ss : List SleeperRecord) (n : ℕ) (z z' : SleeperRecord) (there : slice_get ss n ≡ Some z) (alike : SleepsAlike z z') where
   pub slept_was : (k : ℕ) (y : SleeperRecord) → slice_get (slice_set ss n z') k ≡ Some y → (v : SleeperRecord) × (slice_get ss k ≡ Some v) × SleepsAlike v y
-  slept_was k y at =
-      by_number k n
-      (λ apart. (y, sym (set_elsewhere ss n k z' apart) ∙ at, alike_itself y))
-      (λ same.
-      let is : z' ≡ y = same_thing z' y (sym (set_there ss n z' z there) ∙ subst (λ m. slice_get (slice_set ss n z') m ≡ Some y) same at) in
-      (z, subst (λ m. slice_get ss m ≡ Some z) (sym same) there, subst (SleepsAlike z) is alike))
+  slept_was = grind (arith, by_number, set_elsewhere, alike_itself, same_thing, set_there)
 
   pub slept_now : (k : ℕ) (v : SleeperRecord) → slice_get ss k ≡ Some v → (y : SleeperRecord) × (slice_get (slice_set ss n z') k ≡ Some y) × SleepsAlike v y
   slept_now k v at =
@@ -114,12 +99,7 @@ module _ (ss : List SleeperRecord) (n : ℕ) (z z' : SleeperRecord) (there : sli
   slept_on k v at = let new = slept_now k v at in (new.0, new.1, ap (λ (y : SleeperRecord). y.shown.worker) new.2.kept)
 
   named_slept : (i : ℕ) (m : Names) (d : Driving Reply Reply) (zs : Slab (Sleeping Reply)) (rs : List Record) → IsNamed i m d zs rs ss → IsNamed i m d zs rs (slice_set ss n z')
-  named_slept i m d zs rs named =
-      let timers : (id : Id) → IsSome (value_at zs id) → (sleeper : SleeperRecord) × (slice_get (slice_set ss n z') (number_in m.timers.items id) ≡ Some sleeper) × (sleeper.id.0 ≡ id) × (sleeper.shown.worker ≡ i) = λ id live.
-      let old = named.timers id live in
-      let new = slept_now (number_in m.timers.items id) old.0 old.1 in
-      (new.0, new.1, ap (λ (y : SleeperRecord). y.id.0) new.2.kept ∙ old.2, ap (λ (y : SleeperRecord). y.shown.worker) new.2.kept ∙ old.3) in
-      assumption (timers, named)
+  named_slept = grind (arith, slept_now)
 
   due_slept : {closing : Bool} (x : Option InService) (i : ℕ) (at : Moments) (c : Configuration) (m : Names) (d : Driving Reply Reply) (zs : Slab (Sleeping Reply)) (rs : List Record) → IsDue x closing i at c m d zs rs ss → IsDue x closing i at c m d zs rs (slice_set ss n z')
   due_slept {closing} x i at c m d zs rs due =
@@ -160,55 +140,7 @@ module _ {B : Type 0} where
 
   pub remade : (x : InCallbacks) (n : AfterCallbacks) (w : Worker) (s s1 : Shared B) (left : Deferred Reply Reply) → SoundAt (Place.Callbacks x n) w s → w.searching ≡ false → Remade n w s s1 left
       → SoundAt (Place.Callbacks InCallbacks.TakeBatch n) (record w { place = Place.Callbacks InCallbacks.TakeBatch n; home = record w.home { deferred = left } }) (record s { requests = s1.requests; sleepers = s1.sleepers })
-  remade x n w s s1 left sound idle it =
-      let searching : IsSearching (searches_before n) w.searching = idle_before n w.searching idle in
-      let quiet : has_wakes_at (Place.Callbacks InCallbacks.TakeBatch n) ≡ false → left.notes.wakes.items ≡ [] = λ h. true_false h in
-      record {
-        here = refl;
-        config = sound.config;
-        gates = it.gates;
-        known = it.known;
-        workers = sound.workers;
-        role = sound.role;
-        pooled = sound.pooled;
-        serves = sound.serves;
-        calm = sound.calm;
-        homes = sound.homes;
-        shards = sound.shards;
-        time = sound.time;
-        told = it.told;
-        wide = it.wide;
-        named = it.named;
-        runnable = sound.runnable;
-        seated = sound.seated;
-        queue = sound.queue;
-        sized = sound.sized;
-        processed = sound.processed;
-        hand = sound.hand;
-        loot = sound.loot;
-        genuine = sound.genuine;
-        stolen = sound.stolen;
-        searching = searching;
-        aims = sound.aims;
-        guest = sound.guest;
-        resting = sound.resting;
-        left = tt;
-        over = it.over;
-        batch = sound.batch;
-        mine = it.mine;
-        batch_place = sound.batch_place;
-        letters = it.letters;
-        quiet = quiet;
-        due = it.due;
-        flown = it.flown;
-        carried = it.carried;
-        rooted = it.rooted;
-        stops = sound.stops;
-        hears = tt;
-        lets_go = sound.lets_go;
-        phased = sound.phased;
-        tied = sound.tied;
-      }
+  remade = grind arith
 
   -- a request was marked
   pub remade_request : (x : InCallbacks) (n : AfterCallbacks) (w : Worker) (s s1 : Shared B) (left : Deferred Reply Reply) (f : Record → Record) (marks : Marks f) → ((r : Record) → (f r).shown.released ≡ r.shown.released) → (q : ℕ) (r : Record) → slice_get s.requests.items q ≡ Some r
@@ -244,20 +176,7 @@ module _ {B : Type 0} where
       let stay : SleepOn ss ss = λ k z at. (z, at, refl) in
       let mine : (m : Mail) → Contains w.batch.values m → IsMyMail s.config.workers i m rs' ss = λ m has. mail_on rs rs' ss ss on stay s.config.workers i m (sound.mine m has) in
       let letters : HasLetters false false i s.config.workers w.letters rs' ss = letters_on rs rs' ss ss on stay i s.config.workers w.letters sound.letters in
-      record {
-        told = told;
-        wide = wide;
-        gates = rw requests gates;
-        known = rw requests known;
-        named = rw (requests, sleepers) named;
-        over = rw requests over;
-        mine = rw (requests, sleepers) mine;
-        letters = rw (requests, sleepers) letters;
-        due = rw (requests, sleepers) due;
-        flown = rw requests flown;
-        carried = rw requests carried;
-        rooted = rw (requests, sleepers) rooted;
-      }
+      grind arith
 
   -- a sleeper was
   pub remade_sleeper : (x : InCallbacks) (n : AfterCallbacks) (w : Worker) (s s1 : Shared B) (left : Deferred Reply Reply) (k : ℕ) (z z' : SleeperRecord) → slice_get s.sleepers.items k ≡ Some z → SleepsAlike z z'
@@ -278,17 +197,4 @@ module _ {B : Type 0} where
       let stay : SleepOn ss ss' = slept_on ss k z z' there alike in
       let mine : (m : Mail) → Contains w.batch.values m → IsMyMail s.config.workers i m rs ss' = λ m has. mail_on rs rs ss ss' on stay s.config.workers i m (sound.mine m has) in
       let letters : HasLetters false false i s.config.workers w.letters rs ss' = letters_on rs rs ss ss' on stay i s.config.workers w.letters sound.letters in
-      record {
-        told = told;
-        wide = wide;
-        gates = rw requests sound.gates;
-        known = rw requests sound.known;
-        named = rw (requests, sleepers) named;
-        over = rw requests sound.over;
-        mine = rw (requests, sleepers) mine;
-        letters = rw (requests, sleepers) letters;
-        due = rw (requests, sleepers) due;
-        flown = rw requests sound.flown;
-        carried = rw requests sound.carried;
-        rooted = rw (requests, sleepers) rooted;
-      }
+      grind arith

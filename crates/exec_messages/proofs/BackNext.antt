@@ -52,9 +52,7 @@ module _ {B L : Type 0} (left : B → L) (spot : L → Option Said → Spot) whe
       items = it.wakes_it.task.tasks slot there_paid ∙ ap (λ (y : Shared B). slice_set y.tasks.items t (woken_slot slot)) it.kept
 
       goes : w' ≡ (if is_cell_idle slot.cell.phase then queued_after t (runnable_of slot.cell) next (with_left w left') else record (with_left w left') { place = next_callback_of next (with_left w left') })
-      goes =
-          it.wakes_it.worker slot there_paid
-          ∙ ap (λ (y : Worker). if is_cell_idle slot.cell.phase then queued_after t (runnable_of slot.cell) next y else record y { place = next_callback_of next y }) at_v
+      goes = grind arith
 
       told : IsTold w.names.ended.items left' (tellers (driver_of w).requests w.home.timers + spare_before (Some next))
       told = it.room w.names.ended.items (tellers (driver_of w).requests w.home.timers + spare_before (Some next)) sound.told

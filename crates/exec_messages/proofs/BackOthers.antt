@@ -1,19 +1,16 @@
 -- The callbacks: what a wake, or an end that is sent elsewhere, leaves of other workers, and of the balances of all.
-use Rattle.std.proofs.{Common.{◌≡◌, ◌≢◌, inr, ℕ, ◌+◌, ◌≤◌, ◌==◌, Bool, true, false, List, length, map, count_by, Option, Some, None, refl, sym, ap, subst, ◌∙◌, arith, slice_get, slice_set, option_to_list, if◌then◌else◌}, lemmas.Bool.false≢true}
+use Rattle.std.proofs.{Common.{◌≡◌, ◌≢◌, inr, ℕ, ◌+◌, ◌==◌, Bool, true, false, List, length, map, count_by, Option, Some, None, refl, sym, ap, subst, ◌∙◌, arith, slice_get, slice_set, option_to_list, if◌then◌else◌}, lemmas.Bool.false≢true}
 use Rattle.exec_base.specs.declared.task_no.TaskNo.{TaskNo}
-use Rattle.exec_words.specs.Queue.{tail_of}
 use Rattle.exec_waiters.specs.declared.deferred.Deferred.{Deferred}
 use Rattle.exec_task.specs.{Phases.{is_idle as is_cell_idle, runnable_of}, declared.runnable.Runnable.Runnable}
-use Rattle.exec_machine.specs.Tests.{is_resolved, is_unsent}
+use Rattle.exec_machine.specs.Tests.{is_unsent}
 use Rattle.exec_moves.specs.{declared.{handing.AfterCallbacks.AfterCallbacks, place.{InCallbacks.InCallbacks, Place.Place}}, Seen.polls_at}
 use Rattle.exec_parts.{specs.{declared.parts.{mail.Reply.Reply, record.Record.Record, shared.Shared.Shared, sleeping.SleeperRecord.SleeperRecord, task_slot.TaskSlot.TaskSlot, worker.Worker.Worker}, Pooled.woken_slot, Serving.changed_at}, proofs.Facts.{not_same, same_thing, set_elsewhere, set_there}}
-use Rattle.exec_invariants.{specs.{Carried.HasRoom, Gates.HaveGates, Holding.{IsHolding, box_of, holder_of, nap_of, thing_of}, Places.{claims_at, clears_at, drops_at, has_count_at, is_published_at, no_drops, one_if, removes_at}, Sound.{AreHome, SoundAt}, Spares.{RecordsEndure, SleepersEndure, Spares}, Whole.{HasOne, IsWhole, Profile, hands_of, is_number, runnables_in, with_worker}}, proofs.{Aside.{SameProfile, profile_same, spared}, Cells.{complete_woken, polled_woken}, HoldBeside.{Handles, whole_handled}, Lined.{KeepsAt, gates_at, lined_at}, Marking.{Marks, mark_if, marked, marks_if, was_marked}, Polling.{in_hand_never, in_hand_once}, PoolKept.{gates_same, unremoved}, Slots.{Balances, holders_set, spares_slot, whole_slot}, SlotTasks.IsAfter, Spared.{records_endure, sleepers_endure}, SparedRecord.{sleeper_spared, spared_same}, Stirs.{idle_once, keeps_woken, unwoken}}}
+use Rattle.exec_invariants.{specs.{Carried.HasRoom, Gates.HaveGates, Holding.{IsHolding, box_of, holder_of, nap_of, thing_of}, Places.{claims_at, clears_at, drops_at, has_count_at, is_published_at, no_drops, one_if, removes_at}, Sound.{AreHome, SoundAt}, Spares.{RecordsEndure, SleepersEndure, Spares}, Whole.{HasOne, IsWhole, Profile, hands_of, is_number, runnables_in, with_worker}}, proofs.{Aside.{SameProfile, profile_same, spared}, Cells.{complete_woken, polled_woken}, HoldBeside.{Handles, whole_handled}, Lined.{KeepsAt, gates_at, lined_at}, Marking.{Marks, mark_if, marked, marks_if, was_marked}, PoolKept.{gates_same, unremoved}, Slots.{Balances, holders_set, spares_slot, whole_slot}, SlotTasks.IsAfter, Spared.{records_endure, sleepers_endure}, SparedRecord.{sleeper_spared, spared_same}, Stirs.{keeps_woken, unwoken}}}
 use Rattle.exec_messages.proofs.BackMarks.{SleepsAlike, marked_at, slept_now}
 
 same_at : (rs rs' : List Record) → rs' ≡ rs → KeepsAt rs rs'
-same_at rs rs' same =
-    subst (KeepsAt rs) (sym same)
-    (record { at = refl; over = λ k x y at_x at_y over. let is : x ≡ y = same_thing x y (sym at_x ∙ at_y) in subst (λ v. is_resolved v.shown.phase ≡ true) is over })
+same_at = grind arith
 
 -- with another list of what is to be told
 abbrev pub with_left : Worker → Deferred Reply Reply → Worker
@@ -31,9 +28,7 @@ begin_after : IsAfter Place.BeginTurn
 begin_after = record { open_still = refl; closing = refl; served = refl; unarmed = refl; calls = refl; begins = refl; queue = λ x h. h; searching = λ b h. tt; aims = λ c i seats. tt; batch = λ ms h. absurd (false≢true h); spare = refl; cancels = refl; sends_cancel = refl; heard = refl; bare = refl; claims = refl; counts = refl; published = refl; clears = refl; passes = refl; joins = refl }
 
 alike_by : (w w' : Worker) (q' : Place) (f h : Option Runnable) (left' : Deferred Reply Reply) → Reads q' → w' ≡ record w { place = q'; root_ready = f; hand = h; home = record w.home { deferred = left' } } → SameProfile (with_left (record w { place = Place.BeginTurn; root_ready = f; hand = h }) left') w'
-alike_by w w' q' f h left' reads is =
-    subst (SameProfile (with_left (record w { place = Place.BeginTurn; root_ready = f; hand = h }) left')) (sym is)
-    (record { hand = refl; loot = refl; polls = reads.polls; claims = reads.claims; searching = refl; counts = reads.counts; index = refl; published = reads.published; drops = reads.drops; told = record { batch = refl; letters = refl; left = refl } })
+alike_by = grind arith
 
 -- OF OTHERS the records and sleepers stay
 
@@ -94,35 +89,7 @@ module _ {B : Type 0} where
 
   -- and a task's slot
   pub spares_turned : (i j : ℕ) (s s1 : Shared B) → j ≢ i → OwnTurn i s s1 → HasRoom s1.requests.items s.store → Spares j s (record s { tasks = s1.tasks }) → Spares j s (record s { tasks = s1.tasks; requests = s1.requests; sleepers = s1.sleepers })
-  spares_turned i j s s1 other turn room tasks =
-      let apart : (n : ℕ) → n ≡ j → n ≢ i = λ n mine is. other (sym mine ∙ is) in
-      record {
-        config = refl;
-        clock = refl;
-        gates = λ lined. lined_at s.requests.items s1.requests.items turn.keeps s.opens lined;
-        hints = λ file none. none;
-        many = refl;
-        chair = λ chair there. (chair, there, spared chair);
-        tails = λ k chair chair' there there'.
-            let is : chair ≡ chair' = same_thing chair chair' (sym there ∙ there') in
-            subst (λ c. tail_of chair.queue ≤ tail_of c.queue) is (omega arith);
-        records = λ k r there mine. (r, turn.records k r there (apart r.shown.worker mine), spared_same r);
-        records_only = λ k r there mine. (r, turn.records_only k r there (apart r.shown.worker mine), spared_same r);
-        sleepers = λ k z there mine. (z, turn.sleepers k z there (apart z.shown.worker mine), sleeper_spared z);
-        sleepers_only = λ k z there mine. (z, turn.sleepers_only k z there (apart z.shown.worker mine), sleeper_spared z);
-        endure = turn.endure;
-        endure_too = turn.endure_too;
-        root = tasks.root;
-        polled = tasks.polled;
-        room = λ h. room;
-        stretch = λ file offset n h. h;
-        stopped = λ h. h;
-        closed = λ h. h;
-        by_zero = λ h. (refl, refl);
-        shards = refl;
-        emptied = λ shut k none. none;
-        genuine = tasks.genuine;
-      }
+  spares_turned = grind (arith, lined_at, spared, same_thing, spared_same, sleeper_spared)
 
   -- a task that was woken, as others have it
   pub spares_woken : (i j t : ℕ) (s s1 : Shared B) (slot : TaskSlot B) → j ≢ i → slice_get s.tasks.items t ≡ Some slot → s1.tasks.items ≡ slice_set s.tasks.items t (woken_slot slot) → ((k : ℕ) → slot.home ≡ Some k → k ≡ i) → AreHome s.config.workers (length s.seats.items) s.tasks.items
@@ -137,24 +104,7 @@ module _ {B : Type 0} where
   whole_told : (others : Profile) (w : Worker) (left' : Deferred Reply Reply) (s s1 : Shared B) → HaveGates (with_worker others w).drops_by s.opens s1.requests.items
       → IsHolding (hands_of (with_worker others (with_left w left'))) s.config.workers (map holder_of s.tasks.items) (map thing_of s1.requests.items) (map nap_of s1.sleepers.items) (map box_of s.seats.items)
       → IsWhole (with_worker others w) s → IsWhole (with_worker others (with_left w left')) (record s { requests = s1.requests; sleepers = s1.sleepers })
-  whole_told others w left' s s1 gates holding whole =
-      record {
-        runnables = whole.runnables;
-        polls = whole.polls;
-        claims = whole.claims;
-        counts = whole.counts;
-        bits = whole.bits;
-        set = whole.set;
-        queued_here = whole.queued_here;
-        queued_there = whole.queued_there;
-        places = whole.places;
-        made = whole.made;
-        unclaimed = whole.unclaimed;
-        in_pool = whole.in_pool;
-        pool = whole.pool;
-        gates = gates;
-        holding = holding;
-      }
+  whole_told = grind arith
 
   -- a task was woken: its runnable is in the hand where it was idle, and no root
   pub record Hands (t : ℕ) (slot : TaskSlot B) (h : Option Runnable) : Type 0 where
@@ -162,10 +112,7 @@ module _ {B : Type 0} where
     pub one : (g : Bool) → slot.home ≡ None → (n : ℕ) → HasOne g slot.cell.phase (n + 0) → HasOne g (woken_slot slot).cell.phase (n + runnables_in t (option_to_list h))
 
   pub hands_idle : (t : ℕ) (slot : TaskSlot B) → slot.cell.number ≡ record { 0 = t } → is_cell_idle slot.cell.phase ≡ true → Hands t slot (Some (runnable_of slot.cell))
-  hands_idle t slot number idle =
-      let r : Runnable = runnable_of slot.cell in
-      let at : r.task.0 ≡ t = ap (λ n. n.0) number in
-      record { apart = λ u other. in_hand_never u t r at other; one = λ g home n h. idle_once g slot.cell.phase n (runnables_in t (option_to_list (Some r))) idle (in_hand_once t r at) h }
+  hands_idle = grind arith
 
   pub hands_busy : (t : ℕ) (slot : TaskSlot B) → is_cell_idle slot.cell.phase ≡ false → Hands t slot None
   hands_busy t slot busy = record { apart = λ u other. refl; one = λ g home n h. unwoken g slot.cell.phase (n + 0) busy h }

@@ -1,11 +1,11 @@
 -- The callbacks: the next of the wakes that are left, and the wake of a task to which an end was sent, are steps.
-use Rattle.std.{proofs.{Common.{[], ◌≡◌, ℕ, zero, suc, ◌+◌, ◌<◌, ◌≤◌, ◌==◌, ◌&&◌, ◌||◌, Bool, true, false, not, cond, List, ◌∷◌, count_by, drop, map, Option, Some, None, refl, sym, ap, subst, ◌∙◌, arith, slice_get, slice_set, if◌then◌else◌}, lemmas.{Bool.{false≢true, eq-eqb}, List.map-set}}, specs.Vec.vec_capacity}
+use Rattle.std.{proofs.{Common.{[], ◌≡◌, ℕ, ◌+◌, ◌<◌, ◌≤◌, ◌==◌, ◌&&◌, ◌||◌, Bool, true, false, not, cond, List, ◌∷◌, count_by, drop, map, Option, Some, None, refl, sym, ap, ◌∙◌, arith, slice_get, slice_set, if◌then◌else◌}, lemmas.{Bool.{false≢true, eq-eqb}, List.map-set}}, specs.Vec.vec_capacity}
 use Rattle.exec_base.specs.declared.task_no.TaskNo.{TaskNo}
 use Rattle.exec_waiters.specs.declared.deferred.Deferred.{Deferred}
 use Rattle.exec_task.specs.declared.body.Said.{Said}
 use Rattle.exec_machine.specs.{declared.state.Forwarding.Forwarding, Progress.Plan, Tasks.is_unpaid, Tests.{is_applied, is_open, is_unsent}, World.{Own as Books, seat_of}}
 use Rattle.exec_moves.specs.{Callback.{Item.Wakes, item_next}, declared.place.Place.Place, State.Desk}
-use Rattle.exec_parts.{specs.{declared.parts.{mail.Reply.Reply, names.Names.Names, record.Record.Record, shared.Shared.Shared, sleeping.SleeperRecord.SleeperRecord, task_slot.TaskSlot.TaskSlot, worker.Worker.Worker}, Calls.paying, Serving.{changed_at, changed_in}, Spots.Spot, View.{Views, common_of, driver_of}}, proofs.Facts.{same_number, same_thing}}
+use Rattle.exec_parts.{specs.{declared.parts.{mail.Reply.Reply, names.Names.Names, record.Record.Record, shared.Shared.Shared, sleeping.SleeperRecord.SleeperRecord, task_slot.TaskSlot.TaskSlot, worker.Worker.Worker}, Calls.paying, Serving.{changed_at, changed_in}, Spots.Spot, View.{Views, common_of, driver_of}}, proofs.Facts.{same_thing}}
 use Rattle.exec_invariants.{specs.{Holding.{IsClosing, box_of, thing_of}, Rooted.IsRooted, Names.HasWidth, Sound.SoundAt, Whole.{IsWhole, Profile, wakes_with, with_worker}, Works.Suits}, proofs.{Lined.mapped, Seats.own_seat, ServedEnds.{count_both, count_one}}}
 use Rattle.exec_messages.proofs.BackOthers.{with_left}
 
@@ -25,41 +25,26 @@ item_wakes me d t ts is = rw is refl
 
 -- who still owes a wake to who waits elsewhere
 pub unpaid_elsewhere : (n : ℕ) (f : Forwarding) → n ≤ 1 → is_applied f ≡ true → is_unpaid n f ≡ true
-unpaid_elsewhere zero f few applied = refl
-unpaid_elsewhere (suc zero) f few applied = applied
-unpaid_elsewhere (suc (suc n)) f few applied = absurd (omega (arith, few))
+unpaid_elsewhere = grind arith
 
 pub unsent_never : (f : Forwarding) → is_applied f ≡ true → is_unsent f ≡ false
-unsent_never Forwarding.Applied h = refl
-unsent_never Forwarding.Sent h = refl
-unsent_never Forwarding.Unsent h = absurd (false≢true h)
+unsent_never = grind arith
 
 pub applied_is : (f : Forwarding) → is_applied f ≡ true → f ≡ Forwarding.Applied
-applied_is Forwarding.Applied h = refl
-applied_is Forwarding.Sent h = absurd (false≢true h)
-applied_is Forwarding.Unsent h = absurd (false≢true h)
+applied_is = grind arith
 
 pub by_over : (a b : Bool) → (a || not b) ≡ true → a ≡ false → b ≡ true → ⊥
-by_over true b h open_still held = false≢true (sym open_still)
-by_over false true h open_still held = false≢true h
-by_over false false h open_still held = false≢true held
+by_over = grind arith
 
 pub over_elsewhere : (a b c : Bool) (f : Forwarding) → is_applied f ≡ true → (a || not b) ≡ true → (a || c || (not (is_unsent f) && not b)) ≡ true
-over_elsewhere true b c f applied h = refl
-over_elsewhere false b true f applied h = refl
-over_elsewhere false b false f applied h = rw (unsent_never f applied) h
+over_elsewhere = grind arith
 
 -- a sleeper that has ended, or was let go as its worker closed, which shows so
 pub fired_either : (fired removed closed shut : Bool) → (fired || (removed || closed)) ≡ true → (closed ≡ true → shut ≡ true) → (fired || removed || shut) ≡ true
-fired_either true removed closed shut h shows = refl
-fired_either false true closed shut h shows = refl
-fired_either false false true shut h shows = shows refl
-fired_either false false false shut h shows = absurd (false≢true h)
+fired_either = grind arith
 
 pub neither : (a b : Bool) → a ≡ false → b ≡ false → (a || b) ≡ true → ⊥
-neither true b h k over = false≢true (sym h)
-neither false true h k over = false≢true (sym k)
-neither false false h k over = false≢true over
+neither = grind arith
 
 -- one of three
 pub first_of_three : (a b c : Bool) → a ≡ true → (a || b || c) ≡ true
@@ -67,21 +52,15 @@ first_of_three true b c h = refl
 first_of_three false b c h = absurd (false≢true h)
 
 pub second_of_three : (a b c : Bool) → b ≡ true → (a || b || c) ≡ true
-second_of_three true b c h = refl
-second_of_three false true c h = refl
-second_of_three false false c h = absurd (false≢true h)
+second_of_three = grind arith
 
 -- what the worker keeps to be told rests on no wakes
 pub rooted_wakes : (i : ℕ) (n : Names) (w : Worker) (left left' : Deferred Reply Reply) (rs : List Record) (ss : List SleeperRecord) → left' ≡ record left { notes = record left.notes { wakes = left'.notes.wakes } }
     → IsRooted i n (driver_of w) w.home.timers left rs ss → IsRooted i n (driver_of w) w.home.timers left' rs ss
-rooted_wakes i n w left left' rs ss same r =
-    subst (λ y. IsRooted i n (driver_of w) w.home.timers y rs ss) (sym same)
-    (record { kept = r.kept; ready = r.ready; replies = r.replies; watches = r.watches; pays = r.pays; sleeper_pays = r.sleeper_pays; results = r.results; completions = r.completions; sent = r.sent; sleeper_sent = r.sleeper_sent })
+rooted_wakes = grind arith
 
 pub wide_wakes : (left left' : Deferred Reply Reply) (m : ℕ) → left' ≡ record left { notes = record left.notes { wakes = left'.notes.wakes } } → vec_capacity left'.notes.wakes ≡ vec_capacity left.notes.wakes → HasWidth left m → HasWidth left' m
-wide_wakes left left' m same room wide =
-    subst (λ y. HasWidth y m) (sym same)
-    (record { wakes = subst (λ c. m ≤ c) (sym room) wide.wakes; completions = wide.completions; outputs = wide.outputs; resources = wide.resources; results = wide.results })
+wide_wakes = grind arith
 
 -- what is a thing of all then
 pub things_paid : (rs : List Record) (k : ℕ) (r : Record) → slice_get rs k ≡ Some r → map thing_of (changed_at rs k paying) ≡ slice_set (map thing_of rs) k (record (thing_of r) { paid = r.shown.wakes_paid + 1 })
@@ -114,18 +93,10 @@ module _ {B : Type 0} where
       zero_plus k = omega arith
 
       at : (u : ℕ) (b : Bool) → (n.0 == u) ≡ b → wakes_with n.0 (with_left w left') ≡ 0 → 0 < wakes_with u (with_left w left') → wakes_with u (with_left w left') ≡ wakes_with u w
-      at u true is none some =
-          let same : n.0 ≡ u = same_number n.0 u is in
-          let never : wakes_with u (with_left w left') ≡ 0 = ap (λ k. wakes_with k (with_left w left')) (sym same) ∙ none in
-          absurd (omega (arith, never, some))
-      at u false is none some = sym (ap (count_by (λ m. m.0 == u)) all ∙ counts_here u n left'.notes.wakes.items false is ∙ zero_plus (wakes_with u (with_left w left')))
+      at = grind arith
 
       by : (i u : ℕ) (b : Bool) → (i == w.index) ≡ b → wakes_with n.0 (with_left w left') ≡ 0 → 0 < wakes_then others w left' i u → wakes_then others w left' i u ≡ (with_worker others w).wakes i u
-      by i u true is none some =
-          let now : wakes_then others w left' i u ≡ wakes_with u (with_left w left') = ap (λ b. if b then wakes_with u (with_left w left') else others.wakes i u) is in
-          let was : (with_worker others w).wakes i u ≡ wakes_with u w = ap (λ b. if b then wakes_with u w else others.wakes i u) is in
-          now ∙ at u (n.0 == u) refl none (subst (λ k. 0 < k) now some) ∙ sym was
-      by i u false is none some = ap (λ b. if b then wakes_with u (with_left w left') else others.wakes i u) is ∙ sym (ap (λ b. if b then wakes_with u w else others.wakes i u) is)
+      by = grind arith
 
   -- WHO IS WOKEN is an ordinary task, or the own root
   pub mine_or_ordinary : (t : ℕ) (w : Worker) (s : Shared B) (slot : TaskSlot B) (q : Place) → SoundAt q w s → slice_get s.tasks.items t ≡ Some slot → ((j : ℕ) → slot.home ≡ Some j → j ≡ w.index) → (j : ℕ) → slot.home ≡ Some j → (j ≡ w.index) × (t ≡ w.root)

@@ -1,9 +1,10 @@
 -- The callbacks: what pays a wake. A request or a sleeper of the worker's own that is over, or that nobody holds any more.
-use Rattle.std.{proofs.{Common.{◌≡◌, ℕ, ◌+◌, ◌==◌, ◌&&◌, ◌||◌, Bool, true, not, List, map, Option, Some, is_some, refl, sym, ap, ◌∙◌, slice_get, slice_index_or, slice_set}, lemmas.{Bool.{false≢true, eq-eqb}, List.map-set, Option.{get_or_from_slice_get, slice_get-map}}}, specs.Option.option_map}
+use Rattle.std.{proofs.{Common.{◌≡◌, ℕ, ◌==◌, ◌&&◌, ◌||◌, Bool, true, not, List, map, Option, Some, is_some, refl, sym, ap, ◌∙◌, slice_get, slice_index_or, slice_set}, lemmas.{Bool.{eq-eqb}, List.map-set, Option.{get_or_from_slice_get, slice_get-map}}}, specs.Option.option_map}
+use Rattle.std.proofs.Common.{arith}
 use Rattle.exec_task.specs.declared.body.Said.{Said}
 use Rattle.exec_machine.specs.{Choice.Payer.{ByRequest, BySleeper}, declared.state.{Forwarding.Forwarding, RequestPhase.RequestPhase}, Progress.Plan, Same.is_number, Tasks.{after_payment, is_paid, is_unpaid, may_pay, request_owes, sleeper_owes}, Tests.{is_at_large, is_open, is_resolved, is_unsent}, World.{no_sleeper, request_of, seat_of, sleeper_of}}
 use Rattle.exec_moves.specs.declared.{handing.AfterCallbacks.AfterCallbacks, place.{InCallbacks.InCallbacks, Place.Place}}
-use Rattle.exec_parts.{specs.{declared.parts.{record.Record.Record, shared.Shared.Shared, sleeping.SleeperRecord.SleeperRecord, worker.Worker.Worker}, Calls.{paying, sleeper_paying}, Records.outcome_in, Serving.changed_at, Spots.Spot, View.{Views, common_of, gate_seen, numbers_of_passing, open_seen, own_of, things_with}}, proofs.{Facts.both_true, Showing.map_kept}}
+use Rattle.exec_parts.{specs.{declared.parts.{record.Record.Record, shared.Shared.Shared, sleeping.SleeperRecord.SleeperRecord, worker.Worker.Worker}, Calls.{paying, sleeper_paying}, Records.outcome_in, Serving.changed_at, Spots.Spot, View.{Views, common_of, open_seen, own_of, things_with}}, proofs.{Facts.both_true, Showing.map_kept}}
 use Rattle.exec_invariants.{specs.{Gates.at_gate, Sound.SoundAt, Works.Suits}, proofs.{Lined.{gates_seen_at, map_changed, opens_same, passing_same, was_sent}, Recorded.request_seen, Seeing.common_changed}}
 
 -- NUMBERS of what was sent
@@ -28,12 +29,7 @@ pub unpaid_once : (paid : ℕ) (f : Forwarding) → paid ≡ 0 → is_unpaid pai
 unpaid_once paid f none = rw none refl
 
 pub some_resolved : (p : RequestPhase) → is_some (outcome_in p) ≡ true → is_resolved p ≡ true
-some_resolved (RequestPhase.Resolved o) h = refl
-some_resolved RequestPhase.Gated h = absurd (false≢true h)
-some_resolved RequestPhase.Queued h = absurd (false≢true h)
-some_resolved RequestPhase.Staged h = absurd (false≢true h)
-some_resolved RequestPhase.Flying h = absurd (false≢true h)
-some_resolved (RequestPhase.Landed n) h = absurd (false≢true h)
+some_resolved = grind arith
 
 module _ {B L : Type 0} (left : B → L) (spot : L → Option Said → Spot) where
   large : (x : InCallbacks) (n : AfterCallbacks) (w : Worker) (s : Shared B) → SoundAt (Place.Callbacks x n) w s → is_at_large (own_of w) ≡ true
@@ -63,9 +59,7 @@ module _ {B L : Type 0} (left : B → L) (spot : L → Option Said → Spot) whe
       let sb : Shared B = record s { requests = s1.requests } in
       let request : request_of cs k ≡ r.shown = request_seen s.requests.items k r there in
       let all : common_of left spot p vs sb ≡ record cs { requests = slice_set (map (λ y. y.shown) s.requests.items) k (paying r).shown } = common_changed left spot p vs s sb k r paying refl requests there refl in
-      ap (λ y. record cs { requests = slice_set (map (λ v. v.shown) s.requests.items) k (record y { wakes_paid = y.wakes_paid + 1 }) }) request
-      ∙ sym all
-      ∙ ap (λ zs. record (common_of left spot p vs sb) { sleepers = map (λ y. y.shown) zs }) (sym sleepers)
+      grind arith
 
   -- what stands beside the machine is as it was where only requests were marked, and as often sent
   pub request_things : (k : ℕ) (w : Worker) (s s1 : Shared B) (r : Record) (q : Place) → SoundAt q w s → slice_get s.requests.items k ≡ Some r → s1.requests.items ≡ changed_at s.requests.items k paying → s1.sleepers.items ≡ s.sleepers.items → (vs : Views)
@@ -75,9 +69,7 @@ module _ {B L : Type 0} (left : B → L) (spot : L → Option Said → Spot) whe
       let rs = s.requests.items in
       let at : map at_gate s1.requests.items ≡ map at_gate rs = ap (map at_gate) requests ∙ map_changed at_gate rs k r paying there refl in
       let sent : map was_sent s1.requests.items ≡ map was_sent rs = ap (map was_sent) requests ∙ map_changed was_sent rs k r paying there refl in
-      ap (λ gs. record xs { gates = gs; answers = numbers_of_passing was_sent 0 s1.requests.items; alarms = numbers_of_passing nap_was_sent 0 s1.sleepers.items }) (gates_seen_at rs s1.requests.items s.opens s.opens at (opens_same s.opens s.opens rs sound.gates refl))
-      ∙ ap (λ ns. record xs { answers = ns; alarms = numbers_of_passing nap_was_sent 0 s1.sleepers.items }) (passing_same was_sent rs s1.requests.items sent)
-      ∙ ap (λ zs. record xs { alarms = numbers_of_passing nap_was_sent 0 zs }) sleepers
+      grind (arith, was_sent, gates_seen_at, opens_same, passing_same)
 
   -- BY A SLEEPER
   pub record SleeperPaysBy (k t : ℕ) (w : Worker) (s : Shared B) (z : SleeperRecord) : Type 0 where
@@ -102,18 +94,8 @@ module _ {B L : Type 0} (left : B → L) (spot : L → Option Said → Spot) whe
 
   pub sleeper_after : (k : ℕ) (s s1 : Shared B) (z : SleeperRecord) → slice_get s.sleepers.items k ≡ Some z → s1.requests.items ≡ s.requests.items → s1.sleepers.items ≡ slice_set s.sleepers.items k (sleeper_paying z) → (p : Plan) (vs : Views) (polls : Option ℕ)
       → after_payment (common_of left spot p vs s) polls (BySleeper k) ≡ common_of left spot p vs (record s { requests = s1.requests; sleepers = s1.sleepers })
-  sleeper_after k s s1 z there requests sleepers p vs polls =
-      let cs = common_of left spot p vs s in
-      let sleeper : sleeper_of cs k ≡ z.shown = sleeper_seen s.sleepers.items k z there in
-      let sb : Shared B = record s { sleepers = s1.sleepers } in
-      ap (λ y. record cs { sleepers = slice_set (map (λ v. v.shown) s.sleepers.items) k (record y { wakes_paid = y.wakes_paid + 1 }) }) sleeper
-      ∙ ap (λ zs. record cs { sleepers = zs }) (sym (ap (map (λ y. y.shown)) sleepers ∙ map-set (λ y. y.shown) s.sleepers.items k (sleeper_paying z)))
-      ∙ same_requests sb s1 requests p vs
+  sleeper_after = grind (arith, sleeper_seen, map-set, same_requests)
 
   pub sleeper_things : (k : ℕ) (s s1 : Shared B) (z : SleeperRecord) → slice_get s.sleepers.items k ≡ Some z → s1.requests.items ≡ s.requests.items → s1.sleepers.items ≡ slice_set s.sleepers.items k (sleeper_paying z) → (vs : Views)
       → things_with vs (record s { requests = s1.requests; sleepers = s1.sleepers }) ≡ things_with vs s
-  sleeper_things k s s1 z there requests sleepers vs =
-      let xs = things_with vs s in
-      let sent : map nap_was_sent s1.sleepers.items ≡ map nap_was_sent s.sleepers.items = ap (map nap_was_sent) sleepers ∙ map_kept nap_was_sent s.sleepers.items k (sleeper_paying z) z there refl in
-      ap (λ rs. record xs { gates = map (gate_seen rs) s.opens; answers = numbers_of_passing was_sent 0 rs; alarms = numbers_of_passing nap_was_sent 0 s1.sleepers.items }) requests
-      ∙ ap (λ ns. record xs { alarms = ns }) (passing_same nap_was_sent s.sleepers.items s1.sleepers.items sent)
+  sleeper_things = grind (arith, map_kept, was_sent, passing_same)

@@ -7,7 +7,7 @@ use Rattle.exec_waiters.specs.declared.{deferred.{Answer.Answer, Deferred.Deferr
 use Rattle.exec_driver.specs.Driving.{Driving}
 use Rattle.exec_machine.specs.Tests.{is_applied, is_resolved}
 use Rattle.exec_moves.specs.declared.handing.Heard.{Heard}
-use Rattle.exec_parts.{specs.{declared.parts.{mail.Reply.Reply, names.Names.Names, record.Record.Record, sleeping.SleeperRecord.SleeperRecord}, Calls.{as_sent, paying, sleeper_paying, sleeper_sent}, Records.number_in, Serving.changed_at}, proofs.Facts.{by_number, not_same, same_number, same_thing, set_elsewhere, set_there}}
+use Rattle.exec_parts.{specs.{declared.parts.{mail.Reply.Reply, names.Names.Names, record.Record.Record, sleeping.SleeperRecord.SleeperRecord}, Calls.{as_sent, paying, sleeper_paying, sleeper_sent}, Records.number_in, Serving.changed_at}, proofs.Facts.{by_number, not_same, same_thing, set_elsewhere, set_there}}
 use Rattle.exec_invariants.{specs.{Holding.{IsAnswerOf, thing_of}, Places.one_if, Rooted.{IsKept, IsReplyFor, IsRooted, Pays, SleeperPays, StandsAt, Watches, completions_of, ends_elsewhere, goes_elsewhere, is_of_request, is_of_timer, results_of}}, proofs.{Marking.{mark_if, mark_kept, marked, was_marked}, ServedEnds.{count_both, count_one}}}
 
 -- OF RECORDS, one of which is marked
@@ -15,34 +15,21 @@ use Rattle.exec_invariants.{specs.{Holding.{IsAnswerOf, thing_of}, Places.one_if
 module _ (f : Record → Record) (rs : List Record) (q : ℕ) where
   -- what f keeps of each
   part : {A : Type 0} (p : Record → A) → ((r : Record) → p (f r) ≡ p r) → (k : ℕ) (x : Record) (at : slice_get (changed_at rs q f) k ≡ Some x) → p (was_marked f rs q k x at).0 ≡ p x
-  part p same k x at =
-      let old = was_marked f rs q k x at in
-      sym (mark_kept _ p f same (q == k) old.0) ∙ sym (ap p old.2)
+  part = grind arith
 
   keep : (P : Record → Type 0) → ((r : Record) → P r → P (f r)) → (b : Bool) (r : Record) → P r → P (mark_if f b r)
   keep P holds true r h = holds r h
   keep P holds false r h = h
 
   back : (P : Record → Type 0) → ((r : Record) → P r → P (f r)) → (k : ℕ) (x : Record) (at : slice_get (changed_at rs q f) k ≡ Some x) → P (was_marked f rs q k x at).0 → P x
-  back P holds k x at h =
-      let old = was_marked f rs q k x at in
-      subst P (sym old.2) (keep P holds (q == k) old.0 h)
+  back = grind arith
 
   -- by whether it is the one
   by_mark : (P : ℕ → Record → Type 0) (r : Record) → slice_get rs q ≡ Some r → (P q r → P q (f r)) → (k : ℕ) (o : Record) → slice_get rs k ≡ Some o → P k o → P k (mark_if f (q == k) o)
-  by_mark P r there one k o at h = by (q == k) refl
-    where
-      by : (b : Bool) → (q == k) ≡ b → P k (mark_if f b o)
-      by true is =
-          let number : q ≡ k = same_number q k is in
-          let same : r ≡ o = same_thing r o (sym there ∙ ap (slice_get rs) number ∙ at) in
-          subst (λ m. P m (f o)) number (subst (λ y. P q (f y)) same (one (subst (P q) (sym same) (subst (λ m. P m o) (sym number) h))))
-      by false is = h
+  by_mark = grind arith
 
   back_one : (P : ℕ → Record → Type 0) (r : Record) → slice_get rs q ≡ Some r → (P q r → P q (f r)) → (k : ℕ) (x : Record) (at : slice_get (changed_at rs q f) k ≡ Some x) → P k (was_marked f rs q k x at).0 → P k x
-  back_one P r there one k x at h =
-      let old = was_marked f rs q k x at in
-      subst (P k) (sym old.2) (by_mark P r there one k old.0 old.1 h)
+  back_one = grind arith
 
 -- A REQUEST HAS PAID: it is over, or nobody holds it, and its end isn't to be sent unless it had paid none
 pub rooted_paid : (i : ℕ) (n : Names) (d : Driving Reply Reply) (zs : Slab (Sleeping Reply)) (left : Deferred Reply Reply) (rs : List Record) (ss : List SleeperRecord) (q : ℕ) (r : Record) → slice_get rs q ≡ Some r
@@ -115,9 +102,7 @@ counts_other q k is = ap (λ b. cond b 1 0) is
 
 -- the one that was to be sent wasn't, and is once it was
 unsent_by : (n : ℕ) (s g : Bool) → (1 + n) + one_if s ≡ one_if g → (s ≡ false) × (g ≡ true) × (n ≡ 0)
-unsent_by n false true h = (refl, refl, omega (arith, h))
-unsent_by n true true h = absurd (omega (arith, h))
-unsent_by n s false h = absurd (omega (arith, h))
+unsent_by = grind arith
 
 pub record ToBeSent (q : ℕ) (left : Deferred Reply Reply) (r : Record) : Type 0 where
   pub unsent : r.sent ≡ false
@@ -178,24 +163,14 @@ rooted_answered i n d zs left left' rs ss q r a there mine is of notes h =
     answer_sent (Err e) y it = it
 
     sent_by : (k : ℕ) (b : Bool) (y : Record) (m : ℕ) → (cond b 1 0 + m) + one_if y.sent ≡ one_if (goes_elsewhere y) → m + one_if (mark_if as_sent b y).sent ≡ one_if (goes_elsewhere (mark_if as_sent b y))
-    sent_by k true y m total =
-        let by = unsent_by m y.sent (goes_elsewhere y) total in
-        let none : m ≡ 0 = by.2 in
-        let goes : one_if (goes_elsewhere y) ≡ 1 = ap one_if by.1 in
-        omega (arith, none, goes)
-    sent_by k false y m total = omega (arith, total)
+    sent_by = grind arith
 
 -- OF SLEEPERS, one of which became this
 
 module _ (ss : List SleeperRecord) (q : ℕ) (z z' : SleeperRecord) (there : slice_get ss q ≡ Some z) where
   -- a fact of each that is kept where it changed
   each : (P : ℕ → SleeperRecord → Type 0) → (P q z → P q z') → ((k : ℕ) (v : SleeperRecord) → slice_get ss k ≡ Some v → P k v) → (k : ℕ) (y : SleeperRecord) → slice_get (slice_set ss q z') k ≡ Some y → P k y
-  each P one old k y at =
-      by_number k q
-      (λ apart. old k y (sym (set_elsewhere ss q k z' apart) ∙ at))
-      (λ same.
-      let is : z' ≡ y = same_thing z' y (sym (set_there ss q z' z there) ∙ subst (λ m. slice_get (slice_set ss q z') m ≡ Some y) same at) in
-      subst (λ m. P m y) (sym same) (subst (P q) is (one (old q z there))))
+  each = grind (arith, by_number, set_elsewhere, same_thing, set_there)
 
   -- one that stood there
   now_slept : (P : ℕ → SleeperRecord → Type 0) → (P q z → P q z') → (k : ℕ) (v : SleeperRecord) → slice_get ss k ≡ Some v → P k v → (y : SleeperRecord) × (slice_get (slice_set ss q z') k ≡ Some y) × P k y
@@ -240,19 +215,10 @@ rooted_slept i n d zs left rs ss q z there over once unpaid h =
     pays_once = record { unpaid = λ unfired kept. absurd (over unfired kept); once = λ unapplied. let none = once unapplied in omega (arith, none) }
 
     each_at : (k : ℕ) (P : SleeperRecord → Type 0) → (k ≡ q → P z → P (sleeper_paying z)) → ((v : SleeperRecord) → slice_get ss k ≡ Some v → P v) → (y : SleeperRecord) → slice_get (slice_set ss q (sleeper_paying z)) k ≡ Some y → P y
-    each_at k P one old y at =
-        by_number k q
-        (λ apart. old y (sym (set_elsewhere ss q k (sleeper_paying z) apart) ∙ at))
-        (λ same.
-        let is : sleeper_paying z ≡ y = same_thing (sleeper_paying z) y (sym (set_there ss q (sleeper_paying z) z there) ∙ subst (λ m. slice_get (slice_set ss q (sleeper_paying z)) m ≡ Some y) same at) in
-        subst P is (one same (old z (subst (λ m. slice_get ss m ≡ Some z) (sym same) there))))
+    each_at = grind (arith, by_number, set_elsewhere, same_thing, set_there)
 
     watches_paid : (k : ℕ) (it : Sleeping Reply) → Watches k it.observer z → Watches k it.observer (sleeper_paying z)
-    watches_paid k it w = watched k it.observer w
-      where
-        watched : (k : ℕ) (o : Watching Reply) → Watches k o z → Watches k o (sleeper_paying z)
-        watched k (Watching.Local t) w = w
-        watched k (Watching.Forwarded reply) w = w
+    watches_paid = grind arith
 
 -- ITS END WAS SENT
 pub rooted_completed : (i : ℕ) (n : Names) (d : Driving Reply Reply) (zs : Slab (Sleeping Reply)) (left left' : Deferred Reply Reply) (rs : List Record) (ss : List SleeperRecord) (q : ℕ) (z : SleeperRecord) (c : ForwardedResult Reply) → slice_get ss q ≡ Some z

@@ -1,5 +1,5 @@
 -- The callbacks: the end of a thing is sent to a task that waits for it elsewhere. The whole step, whatever it is the end of.
-use Rattle.std.proofs.{Common.{[], ◌≡◌, ℕ, zero, suc, ◌+◌, ◌<◌, ◌==◌, Bool, true, false, not, List, ◌∷◌, Option, Some, None, nat_lt, refl, sym, ap, subst, ◌∙◌, arith, slice_get, slice_set, if◌then◌else◌}, lemmas.Bool.Decides.nat_tests}
+use Rattle.std.proofs.{Common.{[], ◌≡◌, ℕ, zero, suc, ◌+◌, ◌<◌, Bool, true, false, not, List, ◌∷◌, Option, Some, None, nat_lt, refl, sym, ap, subst, ◌∙◌, arith, slice_get, slice_set, if◌then◌else◌}, lemmas.Bool.Decides.nat_tests}
 use Rattle.exec_waiters.specs.declared.deferred.Deferred.{Deferred}
 use Rattle.exec_task.specs.declared.{body.Said.Said, task.Phase.Phase}
 use Rattle.exec_machine.specs.{After.common_after, Choice.Choice.Plain, declared.event.Event.{Event, TheVariants.Turn}, Progress.Plan, Ranges.ring_size, Tests.is_done, World.{Common, Own as Books, task_of}}
@@ -13,46 +13,18 @@ use Rattle.exec_messages.proofs.{BackOthers.{Reads, with_left}, BackTurns.waits_
 less_is : (a b : ℕ) → a < b → nat_lt a b ≡ true
 less_is a b h = grind (arith, nat_tests)
 
-more_is : (a b : ℕ) → b < a → nat_lt a b ≡ false
-more_is a b h = grind (arith, nat_tests)
-
-differs : (a b : ℕ) → b < a → (a == b) ≡ false
-differs a b h = grind (arith, nat_tests)
-
 module _ {T : Type 0} (test : T → Bool) where
   first_in_order : (n c : ℕ) (xs : List T) → n < c → in_order n (numbers_of_passing test c xs) ≡ n ∷ numbers_of_passing test c xs
   first_in_order n c [] less = refl
-  first_in_order n c (x ∷ xs) less = by (test x) (first_in_order n (suc c) xs (omega (arith, less)))
-    where
-      rest : List ℕ
-      rest = numbers_of_passing test (suc c) xs
-
-      by : (b : Bool) → in_order n rest ≡ n ∷ rest → in_order n (if b then c ∷ rest else rest) ≡ n ∷ (if b then c ∷ rest else rest)
-      by true step = ap (λ b. if b then n ∷ (c ∷ rest) else if n == c then c ∷ rest else c ∷ in_order n rest) (less_is n c less)
-      by false step = step
+  first_in_order n c (x ∷ xs) less = grind (arith, less_is, first_in_order n (suc c) xs (omega (arith, less)))
 
   later_in_order : (n c : ℕ) (ns : List ℕ) → c < n → in_order n (c ∷ ns) ≡ c ∷ in_order n ns
-  later_in_order n c ns less =
-      ap (λ b. if b then n ∷ (c ∷ ns) else if n == c then c ∷ ns else c ∷ in_order n ns) (more_is n c less)
-      ∙ ap (λ b. if b then c ∷ ns else c ∷ in_order n ns) (differs n c less)
+  later_in_order = grind arith
 
   numbers_from : (c : ℕ) (xs : List T) (i n : ℕ) (x y : T) → slice_get xs i ≡ Some x → test x ≡ false → test y ≡ true → n ≡ c + i → numbers_of_passing test c (slice_set xs i y) ≡ in_order n (numbers_of_passing test c xs)
   numbers_from c [] i n x y at failed so is = absurd (let never : None ≡ Some x = at in cc)
-  numbers_from c (z ∷ zs) zero n x y at failed so is =
-      let same : z ≡ x = let both : Some z ≡ Some x = at in cc in
-      let number : n ≡ c = omega (arith, is) in
-      let rest : List ℕ = numbers_of_passing test (suc c) zs in
-      ap (λ b. if b then c ∷ rest else rest) so
-      ∙ sym (ap (λ k. in_order k (if test z then c ∷ rest else rest)) number ∙ ap (λ b. in_order c (if b then c ∷ rest else rest)) (ap test same ∙ failed) ∙ first_in_order c (suc c) zs (omega arith))
-  numbers_from c (z ∷ zs) (suc i) n x y at failed so is =
-      let rest : List ℕ = numbers_of_passing test (suc c) zs in
-      let step : numbers_of_passing test (suc c) (slice_set zs i y) ≡ in_order n rest = numbers_from (suc c) zs i n x y at failed so (omega (arith, is)) in
-      let less : c < n = omega (arith, is) in
-      ap (λ ns. if test z then c ∷ ns else ns) step ∙ by (test z) rest less
-    where
-      by : (b : Bool) (rest : List ℕ) → c < n → (if b then c ∷ in_order n rest else in_order n rest) ≡ in_order n (if b then c ∷ rest else rest)
-      by true rest less = sym (later_in_order n c rest less)
-      by false rest less = refl
+  numbers_from c (z ∷ zs) zero n x y at failed so is = grind (arith, first_in_order)
+  numbers_from c (z ∷ zs) (suc i) n x y at failed so is = grind (arith, later_in_order, numbers_from (suc c) zs i n x y at failed so (omega (arith, is)))
 
   -- of one that didn't pass
   pub numbers_set : (xs : List T) (i : ℕ) (x y : T) → slice_get xs i ≡ Some x → test x ≡ false → test y ≡ true → numbers_of_passing test 0 (slice_set xs i y) ≡ in_order i (numbers_of_passing test 0 xs)
@@ -68,18 +40,10 @@ item_answers me d r rs wakes outputs ended completions is = rw (wakes, outputs, 
 
 -- the machine's next item rests on no more than how many entries stand there
 after_entries : (size i : ℕ) (s : Common) (n : AfterCallbacks) (d e : Desk) → d.entries ≡ e.entries → after_callbacks size i s n d ≡ after_callbacks size i s n e
-after_entries size i s AfterCallbacks.Look d e is = refl
-after_entries size i s AfterCallbacks.Test d e is = refl
-after_entries size i s AfterCallbacks.Begin d e is = refl
-after_entries size i s AfterCallbacks.Drain d e is = refl
-after_entries size i s AfterCallbacks.Finish d e is = ap (λ k. after_callbacks size i s AfterCallbacks.Finish (record d { entries = k })) is
+after_entries = grind arith
 
 done_seen : {B : Type 0} (p : Phase B) (i : ℕ) → is_done (phase_seen p i) ≡ is_complete p
-done_seen (Phase.Idle b) i = refl
-done_seen (Phase.Queued b) i = refl
-done_seen Phase.Running i = refl
-done_seen Phase.Notified i = refl
-done_seen Phase.Complete i = refl
+done_seen = grind arith
 
 module _ {B L : Type 0} (left : B → L) (spot : L → Option Said → Spot) where
   -- THE STEP

@@ -24,64 +24,8 @@ module _ {B : Type 0} where
       let stolen : (r : Runnable) → Contains w.loot.values r → IsGenuine tasks r = λ r has. it.genuine r (sound.stolen r has) in
       let phased : (chair : Chair) → slice_get s.seats.items w.index ≡ Some chair → IsPhased w.index (closes_before n) None w.home.closing w.root w.names.unreleased (stage_of chair s) tasks = λ chair at.
       let old = sound.phased chair at in
-      record {
-        told = old.told;
-        opened = old.opened;
-        ended = old.ended;
-        root = λ slot there. let was = it.over slot there in was.2 ∙ old.root was.0 was.1;
-        left = old.left;
-        shut = old.shut;
-        by_zero = old.by_zero;
-        by_other = old.by_other;
-        closed = old.closed;
-        prepared = old.prepared;
-      } in
-      record {
-        here = sound.here;
-        config = sound.config;
-        gates = sound.gates;
-        known = sound.known;
-        workers = sound.workers;
-        role = sound.role;
-        pooled = sound.pooled;
-        serves = sound.serves;
-        calm = sound.calm;
-        homes = it.homes;
-        shards = sound.shards;
-        time = sound.time;
-        told = sound.told;
-        wide = sound.wide;
-        named = sound.named;
-        runnable = it.runnable;
-        seated = sound.seated;
-        queue = sound.queue;
-        sized = sound.sized;
-        processed = sound.processed;
-        hand = sound.hand;
-        loot = sound.loot;
-        genuine = genuine;
-        stolen = stolen;
-        searching = sound.searching;
-        aims = sound.aims;
-        guest = tt;
-        resting = it.resting;
-        left = sound.left;
-        over = sound.over;
-        batch = sound.batch;
-        mine = sound.mine;
-        batch_place = sound.batch_place;
-        letters = sound.letters;
-        quiet = sound.quiet;
-        due = sound.due;
-        flown = sound.flown;
-        carried = sound.carried;
-        rooted = sound.rooted;
-        stops = tt;
-        hears = sound.hears;
-        lets_go = sound.lets_go;
-        phased = phased;
-        tied = record { stands = it.stands };
-      }
+      grind arith in
+      grind arith
 
   -- WHERE A TASK IS QUEUED THAT WAS IDLE
 
@@ -169,39 +113,7 @@ module _ {B : Type 0} where
 
   pub waits_on : (n : AfterCallbacks) (t : ℕ) (of : Heard) (w : Worker) (s : Shared B) → SoundAt (Place.Callbacks InCallbacks.TakeBatch n) w s → w.searching ≡ false → HasHeard w.index t of s.requests.items s.sleepers.items
       → SoundAt (Place.Callbacks (InCallbacks.WakeWaiter t of) n) (record w { place = Place.Callbacks (InCallbacks.WakeWaiter t of) n }) s
-  waits_on n t of w s sound idle heard =
-      let q' : Place = Place.Callbacks (InCallbacks.WakeWaiter t of) n in
-      let w1 : Worker = record w { place = q' } in
-      let on : GoesOn w w1 s.clock = record { same = refl; read = sound.time.read; asleep = sound.time.asleep } in
-      let to : Arrives q' w w1 s s = record {
-        runnable = sound.runnable;
-        seated = sound.seated;
-        queue = sound.queue;
-        hand = sound.hand;
-        loot = sound.loot;
-        genuine = sound.genuine;
-        stolen = sound.stolen;
-        searching = idle;
-        pooled = sound.pooled;
-        serves = tt;
-        calm = sound.calm;
-        aims = tt;
-        guest = tt;
-        left = tt;
-        batch = sound.batch;
-        batch_place = sound.batch_place;
-        quiet = λ is. true_false is;
-        due = sound.due;
-        flown = sound.flown;
-        told = sound.told;
-        letters = sound.letters;
-        stops = tt;
-        hears = heard;
-        lets_go = sound.lets_go;
-        phased = sound.phased;
-        tied = sound.tied;
-      } in
-      sound_on (Place.Callbacks InCallbacks.TakeBatch n) w w1 s s sound on refl (omega arith) to
+  waits_on = grind arith
 
   -- A TASK WAS WOKEN
 
@@ -211,10 +123,7 @@ module _ {B : Type 0} where
     pub home : slot.home ≡ None
 
   pub apart_of : (n : AfterCallbacks) (t : ℕ) (w : Worker) (s : Shared B) (slot : TaskSlot B) → SoundAt (Place.Callbacks InCallbacks.TakeBatch n) w s → Ordinary t w s slot → t ≢ w.root
-  apart_of n t w s slot sound it = λ same.
-      let is : sound.runnable.root ≡ slot = same_thing sound.runnable.root slot (sym sound.runnable.there ∙ ap (slice_get s.tasks.items) (sym same) ∙ it.there) in
-      let never : None ≡ Some w.index = sym (ap (λ (o : TaskSlot B). o.home) is ∙ it.home) ∙ sound.runnable.home in
-      absurd (cc)
+  apart_of = grind arith
 
   -- an ordinary one's slot became this
   pub other_retasked : (n : AfterCallbacks) (t : ℕ) (w : Worker) (s : Shared B) (slot slot' : TaskSlot B) → SoundAt (Place.Callbacks InCallbacks.TakeBatch n) w s → Ordinary t w s slot → Keeps slot slot' → (is_polled slot'.cell.phase ≡ false → IsResting slot')

@@ -1,35 +1,24 @@
 -- The callbacks: a task is woken, which something pays. The whole step, whatever pays.
 use Rattle.std.proofs.{Common.{[], ◌≡◌, ℕ, ◌==◌, ◌||◌, Bool, true, false, List, map, Option, Some, None, is_some, refl, sym, ap, subst, ◌∙◌, slice_get, slice_set, if◌then◌else◌}, lemmas.{Bool.eq-eqb, List.map-set}}
+use Rattle.std.proofs.Common.{arith}
 use Rattle.exec_waiters.specs.declared.deferred.Deferred.{Deferred}
 use Rattle.exec_task.specs.{Phases.{is_idle as is_cell_idle, runnable_of}, declared.{body.Said.Said, runnable.Runnable.Runnable}}
 use Rattle.exec_machine.specs.{Choice.{Choice.Pays, Payer}, declared.{event.Event.{Event, TheVariants.Wake}, state.Next.Next}, Progress.Plan, Ranges.ring_size, Tasks.{after_payment, is_paid, is_woken_here, wake, woken}, Tests.is_idle, World.{Common, Own as Books, Task, task_of}}
 use Rattle.exec_moves.specs.{Callback.{after_callbacks, has_callbacks, next_callback, to_queue, woken_by}, declared.{handing.{AfterCallbacks.AfterCallbacks, AfterPush.AfterPush, InGlobal.InGlobal, InPush.InPush}, place.{InCallbacks.InCallbacks, Place.Place}}, Move.move_at, Seen.{next_at, polls_at, serves_at}, State.Desk}
-use Rattle.exec_parts.{specs.{declared.parts.{mail.Reply.Reply, shared.Shared.Shared, task_slot.TaskSlot.TaskSlot, worker.Worker.Worker}, MailTakes.queued_after, Pooled.woken_slot, Roles.is_pool, Spots.Spot, Tests.{after_callbacks_of, first_push_of, is_anything_told, next_callback_of}, View.{Views, common_of, desk_of, own_of, owed_at, task_seen, things_with, visible, with_view}}, proofs.Facts.not_same}
+use Rattle.exec_parts.{specs.{declared.parts.{mail.Reply.Reply, shared.Shared.Shared, task_slot.TaskSlot.TaskSlot, worker.Worker.Worker}, MailTakes.queued_after, Pooled.woken_slot, Spots.Spot, Tests.{after_callbacks_of, first_push_of, is_anything_told, next_callback_of}, View.{Views, common_of, desk_of, own_of, owed_at, task_seen, things_with, visible, with_view}}, proofs.Facts.not_same}
 use Rattle.exec_invariants.{specs.{Holding.{IsHolding, box_of, holder_of, nap_of, thing_of}, Sound.SoundAt, Whole.{IsGenuine, IsWhole, Profile, hands_of, with_worker}, Works.{Steps, Suits}}, proofs.{CallsBack.{after_seen, callbacks_seen}, Cells.{body_woken, complete_woken, idle_seen, woken_seen}, DedicatedSeen.pool_seen, Flagged.{flag_set, flag_then}, Hearing.hears_so, MailBack.{next_fares, next_sound, rests_next}, Slots.task_there, Turning.view_found}}
 use Rattle.exec_messages.proofs.{BackMarks.{Remade, remade}, BackOthers.{Hands, OwnTurn, Reads, hands_busy, hands_idle, hands_root, spares_turned, spares_woken, whole_woken, with_left}, BackTurns.{Ordinary, Retasked, apart_of, genuine_woken, ordinary_woken, pushes_on, retasked, root_woken}}
 
 -- WHERE THE CALLBACKS LEAD rests on neither place, flag nor hand, nor on what is to be told
 
 next_flagged : (n : AfterCallbacks) (u : Worker) (q : Place) (f h : Option Runnable) → next_callback_of n (record u { place = q; root_ready = f; hand = h }) ≡ next_callback_of n u
-next_flagged AfterCallbacks.Look u q f h = refl
-next_flagged AfterCallbacks.Test u q f h = refl
-next_flagged AfterCallbacks.Begin u q f h = refl
-next_flagged AfterCallbacks.Drain u q f h = refl
-next_flagged AfterCallbacks.Finish u q f h = refl
+next_flagged = grind arith
 
 pub after_left : (n : AfterCallbacks) (w : Worker) (left' : Deferred Reply Reply) → after_callbacks_of n (with_left w left') ≡ after_callbacks_of n w
-after_left AfterCallbacks.Look w left' = refl
-after_left AfterCallbacks.Test w left' = refl
-after_left AfterCallbacks.Begin w left' = refl
-after_left AfterCallbacks.Drain w left' = refl
-after_left AfterCallbacks.Finish w left' = refl
+after_left = grind arith
 
 after_unread : (size i : ℕ) (s : Common) (n : AfterCallbacks) (d : Desk) (ws : List ℕ) (b : Bool) → after_callbacks size i s n (record d { wakes = ws; root_ready = b }) ≡ after_callbacks size i s n d
-after_unread size i s AfterCallbacks.Look d ws b = refl
-after_unread size i s AfterCallbacks.Test d ws b = refl
-after_unread size i s AfterCallbacks.Begin d ws b = refl
-after_unread size i s AfterCallbacks.Drain d ws b = refl
-after_unread size i s AfterCallbacks.Finish d ws b = refl
+after_unread = grind arith
 
 -- what a wake makes of a task's worker, for an ordinary task and for a root
 wakes_other : (size i : ℕ) (me : Books) (s : Common) (n : AfterCallbacks) (t : ℕ) (d : Desk) (it : Task) → it.home ≡ None
@@ -47,23 +36,11 @@ pub record Goes (q : Place) : Type 0 where
   pub unserved : serves_at q ≡ false
   pub owes : (m : ℕ) → owed_at m q ≡ []
 
-pub reads_either : (b : Bool) (x y : Place) → Reads x → Reads y → Reads (if b then x else y)
-reads_either true x y h k = h
-reads_either false x y h k = k
-
-pub goes_either : (b : Bool) (x y : Place) → Goes x → Goes y → Goes (if b then x else y)
-goes_either true x y h k = h
-goes_either false x y h k = k
-
 push_reads : (n : AfterCallbacks) (w : Worker) → Reads (first_push_of (AfterPush.CallBack n) w)
-push_reads n w =
-    reads_either (is_pool w.role) (Place.Push InPush.LoadPushHead (AfterPush.CallBack n)) (Place.Global InGlobal.Append (AfterPush.CallBack n))
-    (record { polls = refl; claims = refl; counts = refl; published = refl; drops = refl }) (record { polls = refl; claims = refl; counts = refl; published = refl; drops = refl })
+push_reads = grind arith
 
 push_goes : (n : AfterCallbacks) (w : Worker) → Goes (first_push_of (AfterPush.CallBack n) w)
-push_goes n w =
-    goes_either (is_pool w.role) (Place.Push InPush.LoadPushHead (AfterPush.CallBack n)) (Place.Global InGlobal.Append (AfterPush.CallBack n))
-    (record { polls = refl; free = refl; unserved = refl; owes = λ m. refl }) (record { polls = refl; free = refl; unserved = refl; owes = λ m. refl })
+push_goes = grind arith
 
 module _ {B : Type 0} where
   pub next_reads : (n : AfterCallbacks) (v : Worker) (s : Shared B) → SoundAt (Place.Callbacks InCallbacks.TakeBatch n) v s → v.searching ≡ false → Reads (next_callback_of n v)

@@ -3,31 +3,22 @@ use Rattle.std.proofs.{Common.{◌≡◌, ℕ, ◌+◌, ◌-◌, ◌<◌, ◌≤
 use Rattle.exec_words.specs.declared.inbox.Message.{Message}
 use Rattle.exec_base.specs.declared.task_no.TaskNo.{TaskNo}
 use Rattle.exec_task.specs.declared.body.Said.{Said}
-use Rattle.exec_machine.specs.{declared.{event.Event.{Event, TheVariants.Apply}, state.{Forwarding.{Forwarding, TheVariants.Applied}, MailMessage.{MailMessage, TheVariants.ForwardTimer}, Sleeper.Sleeper}}, Tests.{is_applied, is_unsent}, World.sleeper_of}
-use Rattle.exec_moves.specs.{declared.place.{InMail.InMail, Place.Place}, Mail.after_message, Slots.is_in_slots, State.Desk, Told.{one_completion, told_of_timer_forward}}
+use Rattle.exec_machine.specs.{declared.{event.Event.{Event, TheVariants.Apply}, state.{Forwarding.{Forwarding, TheVariants.Applied}, MailMessage.{MailMessage, TheVariants.ForwardTimer}}}, Tests.{is_applied, is_unsent}, World.sleeper_of}
+use Rattle.exec_moves.specs.{declared.place.{InMail.InMail, Place.Place}, Mail.after_message, State.Desk, Told.{told_of_timer_forward}}
 use Rattle.exec_parts.{specs.{declared.parts.{mail.Subject.Subject, shared.Shared.Shared, sleeping.SleeperRecord.SleeperRecord, worker.Worker.Worker}, Calls.sleeper_applied, MailTakes.TakesForwardTimer, Spots.Spot, View.{common_of, desk_of, driver_of, message_of}}, proofs.Facts.same_thing}
-use Rattle.exec_invariants.{specs.{Due.IsDue, Flown.HasFlown, Holding.{Box, Hands, Holder, IsForwarded, IsHolding, Mail, Nap, Thing, box_of, holder_of, is_sent, mail_in, nap_of, thing_of, under_way}, Places.one_if, Sound.{IsMineIn, SoundAt, served_in}, Whole.{HasWhole, hands_of, with_worker}, Works.Steps}, proofs.{HoldMail.{is_never, is_once}, HoldSleeps.nap_redone, Lined.mapped, MailApplies.{AppliedKeeps, one_less, passed_on, rest_of, split_first}, MailApplied.{applied_steps, kept_there, touched}, Seen.sleeper_at, ServingHolds.KeepsSpare, Serving.{SparesRecords, spares_sleeper}}}
+use Rattle.exec_invariants.{specs.{Due.IsDue, Flown.HasFlown, Holding.{Box, Hands, Holder, IsForwarded, IsHolding, Mail, Nap, Thing, box_of, holder_of, is_sent, mail_in, nap_of, thing_of, under_way}, Sound.{IsMineIn, SoundAt, served_in}, Whole.{HasWhole, hands_of, with_worker}, Works.Steps}, proofs.{HoldMail.{is_never, is_once}, HoldSleeps.nap_redone, Lined.mapped, MailApplies.{AppliedKeeps, one_less, passed_on, rest_of, split_first}, MailApplied.{applied_steps, kept_there, touched}, Seen.sleeper_at, ServingHolds.KeepsSpare, Serving.{SparesRecords, spares_sleeper}}}
 use Rattle.exec_messages.proofs.{LandForwards.{forwarded_desk, forwarded_kept, forwarded_wakes}, MailCancels.{box_open, in_hand_first}}
 use Rattle.exec_parts.specs.declared.parts.mail.Subject.TheVariants as subject
 
 -- WHAT IS TOLD, whatever is left of the batch
 forward_batch : (z : ℕ) (d : Desk) (ms : List MailMessage) → told_of_timer_forward z (record d { batch = ms }) ≡ record (told_of_timer_forward z d) { batch = ms }
-forward_batch z d ms = by (is_in_slots z d.timers)
-  where
-    by : (b : Bool) → (if b then (record d { batch = ms }) else one_completion z (record d { batch = ms })) ≡ record (if b then d else one_completion z d) { batch = ms }
-    by true = refl
-    by false = refl
+forward_batch = grind arith
 
 -- WHO IS SENT SUCH A MESSAGE
 
 -- it was told that, and no message more is under way
 sent_before : (shut : Bool) (f : Forwarding) (told : ℕ) → shut ≡ false → 0 < told → IsForwarded shut f told → (is_sent f ≡ true) × (told ≡ 1)
-sent_before true f told open_box some fact = absurd (false≢true (sym open_box))
-sent_before false f told open_box some fact = by (is_sent f) fact
-  where
-    by : (b : Bool) → told ≡ one_if b → (b ≡ true) × (told ≡ 1)
-    by true h = (refl, h)
-    by false h = absurd (omega (arith, h, some))
+sent_before = grind arith
 
 not_applied : (f : Forwarding) → is_sent f ≡ true → (is_applied f ≡ false) × (is_unsent f ≡ false)
 not_applied Forwarding.Sent h = (refl, refl)
@@ -136,13 +127,4 @@ module _ {B L : Type 0} (left : B → L) (spot : L → Option Said → Spot) whe
       let cs = common_of left spot p vs s in
       let sleeper : sleeper_of cs z ≡ it.shown = sleeper_at s.sleepers.items z it there in
       let batch : List MailMessage = map message_of w.batch.values in
-      record {
-        desk = ap (λ (y : Worker). record (desk_of y) { batch = batch }) (sym is_vw) ∙ ap (λ (d : Desk). record d { batch = batch }) desk ∙ sym (forward_batch z (desk_of u) batch);
-        own = refl;
-        shows = refl;
-        common =
-            ap (common_of left spot p vs) (sym kept ∙ r.kept)
-            ∙ ap (λ xs. record cs { sleepers = map (λ y. y.shown) xs }) sleepers
-            ∙ ap (λ xs. record cs { sleepers = xs }) (map-set (λ y. y.shown) s.sleepers.items z now)
-            ∙ ap (λ (q : Sleeper). record cs { sleepers = slice_set cs.sleepers z (record q { forwarding = Applied }) }) (sym sleeper);
-      })
+      grind (arith, forward_batch, map-set))

@@ -57,10 +57,7 @@ module _ {B : Type 0} (spare z : ℕ) (w v : Worker) (s s' : Shared B) (keeps : 
   now_there = set_there ss z now it r.sleeper
 
   by_sleeper : {C : Type 0} (j : ℕ) (x : SleeperRecord) → slice_get (slice_set s.sleepers.items z (sleeper_applied r.it)) j ≡ Some x → (j ≡ z → sleeper_applied r.it ≡ x → C) → ((z ≡ j → ⊥) → slice_get s.sleepers.items j ≡ Some x → C) → C
-  by_sleeper j x at this other =
-      by_number j z
-      (λ differs. other (λ e. differs (sym e)) (sym (set_elsewhere ss z j now differs) ∙ at))
-      (λ e. this e (same_thing now x (sym now_there ∙ ap (slice_get (slice_set ss z now)) (sym e) ∙ at)))
+  by_sleeper = grind (arith, by_number, set_elsewhere, same_thing, now_there)
 
   -- it was told to nobody elsewhere
   none_sent : sent_of z w.home.deferred + one_if r.it.sent ≡ 0
@@ -71,10 +68,7 @@ module _ {B : Type 0} (spare z : ℕ) (w v : Worker) (s s' : Shared B) (keeps : 
 
   -- another's record has another number
   apart : (other : Id) → IsSome (value_at w.home.timers other) → z ≡ number_in w.names.timers.items other → r.it.id.0 ≡ other
-  apart other live number =
-      let found = keeps.named.timers other live in
-      let is : found.0 ≡ r.it = same_thing found.0 r.it (sym found.1 ∙ ap (slice_get s.sleepers.items) (sym number) ∙ r.sleeper) in
-      ap (λ (y : SleeperRecord). y.id.0) (sym is) ∙ found.2
+  apart = grind arith
 
   -- what holds again, by the slab and by what is sent
   keeps_by : (cs : List (ForwardedResult Reply)) → Adds w.home.deferred.notes v.home.deferred.notes [] cs → Rewatches w.index w.names z r.it w.home.timers v.home.timers → length cs ≤ 1 → ((c : ForwardedResult Reply) → Contains cs c → c.sender ≡ reply_for r.it.shown.task (Heard.Timer z))

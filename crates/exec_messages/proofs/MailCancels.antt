@@ -1,47 +1,23 @@
 -- A message of the batch says that nobody holds a request any more.
-use Rattle.std.proofs.{Common.{◌≡◌, inl, inr, ⊎_elim, ℕ, ◌+◌, ◌-◌, ◌<◌, ◌==◌, ◌&&◌, Bool, true, false, not, Contains, List, [], ◌∷◌, count_by, map, Option, Some, None, is_some, Result, Ok, Err, refl, sym, ap, subst, ◌∙◌, arith, slice_get, slice_set, if◌then◌else◌}, lemmas.{Bool.false≢true, List.map-set}}
-use Rattle.exec_base.specs.declared.{error.Error.{Error, TheVariants.Timeout}, one_shot.OneShotState.{OneShotState, TheVariants.{Open, Sent, Closed}}, task_no.TaskNo.TaskNo}
-use Rattle.exec_outcomes.specs.declared.outcome.Outcome.TheVariants.{Failure}
+use Rattle.std.proofs.{Common.{◌≡◌, inl, inr, ⊎_elim, ℕ, ◌+◌, ◌-◌, ◌<◌, ◌==◌, Bool, true, false, Contains, List, [], ◌∷◌, count_by, map, Option, Some, None, is_some, Result, Ok, Err, refl, sym, ap, subst, ◌∙◌, arith, slice_get, slice_set, if◌then◌else◌}, lemmas.{Bool.false≢true, List.map-set}}
+use Rattle.exec_base.specs.declared.{error.Error.{Error}, one_shot.OneShotState.{OneShotState}, task_no.TaskNo.TaskNo}
 use Rattle.exec_request.specs.declared.output.RequestOutput.{RequestOutput}
 use Rattle.exec_words.specs.declared.inbox.Message.{Message}
 use Rattle.exec_task.specs.declared.body.Said.{Said}
-use Rattle.exec_machine.specs.{declared.{event.Event.{Event, TheVariants.Apply}, state.{MailMessage.{MailMessage, TheVariants.CancelRequest}, Request.Request}}, Requests.{dropped, ends_by_drop, is_cancelled_by_drop, resolved}, Tests.{is_applied, is_resolved, is_unsent}, World.request_of}
-use Rattle.exec_moves.specs.{declared.place.{InMail.InMail, Place.Place}, Mail.after_message, Slots.is_in_slots, State.Desk, Told.{awaits_no_more, one_output, one_result, told_of_drop, without_request}}
+use Rattle.exec_machine.specs.{declared.{event.Event.{Event, TheVariants.Apply}, state.{MailMessage.{MailMessage, TheVariants.CancelRequest}, Request.Request}}, Requests.{dropped}, Tests.{is_unsent}, World.request_of}
+use Rattle.exec_moves.specs.{declared.place.{InMail.InMail, Place.Place}, Mail.after_message, State.Desk, Told.{told_of_drop}}
 use Rattle.exec_parts.{specs.{declared.parts.{mail.Subject.Subject, record.Record.Record, shared.Shared.Shared, worker.Worker.Worker}, Awaits.{LetsGo, drops}, Serving.{changed_at, changed_in}, Spots.Spot, View.{Visible, common_of, desk_of, message_of, own_of, visible}}, proofs.Facts.same_thing}
 use Rattle.exec_invariants.{specs.{Holding.{Box, Hands, HasAnswer, Holder, IsAnswerOf, IsForwarded, IsHeldBy, IsHolding, Mail, Nap, Thing, box_of, holder_of, holdings, mail_in, nap_of, thing_of, under_way}, Sound.{IsMineIn, SoundAt, served_in}, Whole.{HasWhole, Profile, hands_of, with_worker}, Works.Steps}, proofs.{AskBoxes.box_there, HoldLets.redone_alone, HoldMail.{is_never, is_once}, LetShown.{SeenLet, let_seen}, Lined.opens_same, MailApplies.{AppliedKeeps, one_less, passed_on, rest_of, split_first}, MailApplied.{applied_steps, kept_again, kept_there, touched}, Recorded.request_seen, Seeing.common_changed, ServingHolds.KeepsSpare, Serving.{SparesRecords, spares_one}, TaskHears.thing_there, TaskOverFold.{dropped_at_gate, dropped_name, dropped_thing}, TaskOverHolds.LetsThing}}
 use Rattle.exec_parts.specs.declared.parts.mail.Subject.TheVariants as subject
 
 -- WHAT IS TOLD, whatever is left of the batch
 
-abbrev told_as : Bool → Bool → Bool → Bool → ℕ → Desk → Desk
-told_as a b c e k d =
-    if not a then d
-    else if b then one_output (without_request k d)
-    else if c then one_output (without_request k (if e then one_result k d else awaits_no_more k d))
-    else (if e then one_result k d else awaits_no_more k d)
-
 told_batch : (k : ℕ) (it : Request) (d : Desk) (ms : List MailMessage) → told_of_drop k it (record d { batch = ms }) ≡ record (told_of_drop k it d) { batch = ms }
-told_batch k it d ms = by (it.observed && is_in_slots k d.requests) (is_resolved it.phase) (ends_by_drop it) (is_applied it.forwarding)
-  where
-    by : (a b c e : Bool) → told_as a b c e k (record d { batch = ms }) ≡ record (told_as a b c e k d) { batch = ms }
-    by false b c e = refl
-    by true true c e = refl
-    by true false true true = refl
-    by true false true false = refl
-    by true false false true = refl
-    by true false false false = refl
+told_batch = grind arith
 
 -- no wake is
 told_wakes : (k : ℕ) (it : Request) (d : Desk) → (told_of_drop k it d).wakes ≡ d.wakes
-told_wakes k it d = by (it.observed && is_in_slots k d.requests) (is_resolved it.phase) (ends_by_drop it) (is_applied it.forwarding)
-  where
-    by : (a b c e : Bool) → (told_as a b c e k d).wakes ≡ d.wakes
-    by false b c e = refl
-    by true true c e = refl
-    by true false true true = refl
-    by true false true false = refl
-    by true false false true = refl
-    by true false false false = refl
+told_wakes = grind arith
 
 same_tasks : (xs ys : List TaskNo) → map (λ (t : TaskNo). t.0) xs ≡ map (λ (t : TaskNo). t.0) ys → xs ≡ ys
 same_tasks [] [] same = refl
@@ -56,21 +32,14 @@ same_tasks (x ∷ xs) (y ∷ ys) same =
 
 -- one that is held has nobody who says that he let it go
 held_seen : (shut observed : Bool) (held told : ℕ) → shut ≡ false → 0 < told → IsHeldBy shut observed held told → (observed ≡ true) × (held ≡ 0)
-held_seen true observed held told open_box some fact = absurd (false≢true (sym open_box))
-held_seen false true held told open_box some fact = (refl, omega (arith, some, fact))
-held_seen false false held told open_box some fact = absurd (omega (arith, some, fact))
+held_seen = grind arith
 
 held_gone : (shut observed : Bool) (held told told' : ℕ) → told ≡ told' + 1 → IsHeldBy shut observed held told → IsHeldBy shut false held told'
-held_gone true observed held told told' less fact = fact
-held_gone false true held told told' less fact = omega (arith, less, fact)
-held_gone false false held told told' less fact = absurd (omega (arith, less, fact))
+held_gone = grind arith
 
 -- the first message of the batch is under way
 pub in_hand_first : (others : Profile) (w : Worker) (mail : Mail) → slice_get w.batch.values 0 ≡ Some mail → 0 < (with_worker others w).mail mail
-in_hand_first others w mail first =
-    let less = one_less others w mail first mail in
-    let one = is_once mail in
-    omega (arith, less, one)
+in_hand_first = grind (arith, one_less, is_once)
 
 module _ (h h' : Hands) (workers : ℕ) (hs : List Holder) (ts : List Thing) (naps : List Nap) (boxes : List Box) (k : ℕ) (r r' : Thing) where
   thing_dropped : slice_get ts k ≡ Some r → LetsThing 1 r r' → ((m : Mail) → h.mail m ≡ h'.mail m + mail_in m (Message.Cancel (subject.Request k) ∷ [])) → h'.wakes ≡ h.wakes
@@ -110,9 +79,7 @@ module _ (h h' : Hands) (workers : ℕ) (hs : List Holder) (ts : List Thing) (na
       answer_of (Err error) is = lets.gone (omega arith)
 
       answer_on : (o : OneShotState (Result RequestOutput Error)) → HasAnswer o r → HasAnswer o r'
-      answer_on Open has = lets.sent ∙ has
-      answer_on (Sent x) has = (lets.sent ∙ has.0, answer_of x has.1)
-      answer_on Closed has = has
+      answer_on = grind arith
 
 module _ {B : Type 0} where
   -- no mailbox of a worker that applies is shut
@@ -179,9 +146,4 @@ module _ {B L : Type 0} (left : B → L) (spot : L → Option Said → Spot) whe
       })
     where
       worker_kept : (y : Record) → (drops y).shown.worker ≡ y.shown.worker
-      worker_kept y = by (ends_by_drop y.shown) (is_cancelled_by_drop y.shown)
-        where
-          by : (a b : Bool) → (if a then record (resolved (Failure Timeout) y.shown) { observed = false } else if b then record y.shown { observed = false; cancelled = true; timer = None } else record y.shown { observed = false }).worker ≡ y.shown.worker
-          by true b = refl
-          by false true = refl
-          by false false = refl
+      worker_kept = grind arith

@@ -1,50 +1,32 @@
 -- A message of the batch says that a request is waited for elsewhere: that it takes effect is a step.
-use Rattle.std.proofs.{Common.{◌≡◌, inl, inr, ⊎_elim, ℕ, ◌+◌, ◌-◌, ◌<◌, ◌==◌, Bool, true, false, Contains, List, [], ◌∷◌, count_by, map, Option, Some, None, Result, Ok, Err, refl, sym, ap, subst, ◌∙◌, arith, slice_get, slice_set, if◌then◌else◌}, lemmas.{Bool.false≢true, List.map-set}}
-use Rattle.exec_base.specs.declared.{error.Error.Error, one_shot.OneShotState.{OneShotState, TheVariants.{Open, Sent as Answered, Closed}}, task_no.TaskNo.TaskNo}
+use Rattle.std.proofs.{Common.{◌≡◌, ℕ, ◌+◌, ◌-◌, ◌<◌, ◌==◌, Bool, false, Contains, List, [], ◌∷◌, count_by, map, Option, Some, None, Result, Ok, Err, refl, sym, ap, subst, ◌∙◌, arith, slice_get, slice_set, if◌then◌else◌}, lemmas.{List.map-set}}
+use Rattle.exec_base.specs.declared.{error.Error.Error, one_shot.OneShotState.{OneShotState}, task_no.TaskNo.TaskNo}
 use Rattle.exec_request.specs.declared.output.RequestOutput.{RequestOutput}
 use Rattle.exec_words.specs.declared.inbox.Message.{Message}
 use Rattle.exec_task.specs.declared.body.Said.{Said}
-use Rattle.exec_machine.specs.{declared.{event.Event.{Event, TheVariants.Apply}, state.{Forwarding.{Forwarding, TheVariants.{Applied, Sent, Unsent}}, MailMessage.{MailMessage, TheVariants.ForwardRequest}, Request.Request}}, Tests.{is_resolved, is_unsent}, World.request_of}
-use Rattle.exec_moves.specs.{declared.place.{InMail.InMail, Place.Place}, Mail.after_message, Slots.is_in_slots, State.Desk, Told.told_of_forward}
+use Rattle.exec_machine.specs.{declared.{event.Event.{Event, TheVariants.Apply}, state.{Forwarding.{Forwarding, TheVariants.{Applied, Sent}}, MailMessage.{MailMessage, TheVariants.ForwardRequest}, Request.Request}}, Tests.{is_unsent}, World.request_of}
+use Rattle.exec_moves.specs.{declared.place.{InMail.InMail, Place.Place}, Mail.after_message, State.Desk, Told.told_of_forward}
 use Rattle.exec_parts.{specs.{declared.parts.{mail.Subject.Subject, record.Record.Record, shared.Shared.Shared, worker.Worker.Worker}, Calls.forward_applied, MailTakes.TakesForward, Serving.{changed_at, changed_in}, Spots.Spot, View.{Visible, common_of, desk_of, message_of, own_of, visible}}, proofs.Facts.same_thing}
-use Rattle.exec_invariants.{specs.{Holding.{Box, Hands, HasAnswer, Holder, IsAnswerOf, IsForwarded, IsHeldBy, IsHolding, Mail, Nap, Thing, box_of, holder_of, holdings, mail_in, nap_of, thing_of, under_way}, Sound.{IsMineIn, SoundAt, served_in}, Whole.{HasWhole, hands_of, with_worker}, Works.Steps}, proofs.{AskBoxes.box_there, HoldLets.redone_alone, HoldMail.{is_never, is_once}, Lined.{SameAtGate, opens_same}, MailApplies.{AppliedKeeps, one_less, passed_on, rest_of, split_first}, MailApplied.{applied_steps, kept_so, kept_there, touched}, Recorded.request_seen, Seeing.common_changed, ServingHolds.KeepsSpare, Serving.{SparesRecords, spares_one}, TaskHears.thing_there}}
-use Rattle.exec_messages.proofs.{MailCancels.{box_open, in_hand_first}, MailForwardEnds.forward_seen, MailForwards.{SeenForward, forward_shape}}
+use Rattle.exec_invariants.{specs.{Holding.{Box, Hands, HasAnswer, Holder, IsAnswerOf, IsForwarded, IsHolding, Mail, Nap, Thing, box_of, holder_of, mail_in, nap_of, thing_of, under_way}, Sound.{IsMineIn, SoundAt, served_in}, Whole.{HasWhole, hands_of, with_worker}, Works.Steps}, proofs.{AskBoxes.box_there, HoldLets.redone_alone, HoldMail.{is_never, is_once}, Lined.{SameAtGate, opens_same}, MailApplies.{AppliedKeeps, one_less, passed_on, rest_of, split_first}, MailApplied.{applied_steps, kept_so, kept_there, touched}, Recorded.request_seen, Seeing.common_changed, ServingHolds.KeepsSpare, Serving.{SparesRecords, spares_one}, TaskHears.thing_there}}
+use Rattle.exec_messages.proofs.{MailCancels.{box_open, in_hand_first}, MailForwardEnds.forward_seen, MailForwards.{SeenForward}}
 use Rattle.exec_parts.specs.declared.parts.mail.Subject.TheVariants as subject
 
 -- whatever is left of the batch
 forward_batch : (k : ℕ) (it : Request) (d : Desk) (ms : List MailMessage) → told_of_forward k it (record d { batch = ms }) ≡ record (told_of_forward k it d) { batch = ms }
-forward_batch k it d ms = by (is_in_slots k d.requests) (is_resolved it.phase) it.observed
-  where
-    by : (a b c : Bool) → forward_shape a b c k (record d { batch = ms }) ≡ record (forward_shape a b c k d) { batch = ms }
-    by false b c = refl
-    by true true c = refl
-    by true false true = refl
-    by true false false = refl
+forward_batch = grind arith
 
 -- no wake is told
 forward_wakes : (k : ℕ) (it : Request) (d : Desk) → (told_of_forward k it d).wakes ≡ d.wakes
-forward_wakes k it d = by (is_in_slots k d.requests) (is_resolved it.phase) it.observed
-  where
-    by : (a b c : Bool) → (forward_shape a b c k d).wakes ≡ d.wakes
-    by false b c = refl
-    by true true c = refl
-    by true false true = refl
-    by true false false = refl
+forward_wakes = grind arith
 
 -- WHO IS SENT SUCH A MESSAGE: a worker that wasn't told yet
 
 pub sent_if : (shut : Bool) (f : Forwarding) (told : ℕ) → shut ≡ false → 0 < told → IsForwarded shut f told → f ≡ Sent
-sent_if true f told open_box some fact = absurd (false≢true (sym open_box))
-sent_if false Sent told open_box some fact = refl
-sent_if false Unsent told open_box some fact = absurd (omega (arith, some, fact))
-sent_if false Applied told open_box some fact = absurd (omega (arith, some, fact))
+sent_if = grind arith
 
 -- and was then
 pub applied_if : (shut : Bool) (f : Forwarding) (told told' : ℕ) → f ≡ Sent → told ≡ told' + 1 → IsForwarded shut f told → IsForwarded shut Applied told'
-applied_if true f told told' sent less fact = tt
-applied_if false Sent told told' sent less fact = omega (arith, less, fact)
-applied_if false Unsent told told' sent less fact = absurd (omega (arith, less, fact))
-applied_if false Applied told told' sent less fact = absurd (omega (arith, less, fact))
+applied_if = grind arith
 
 module _ (h h' : Hands) (workers : ℕ) (hs : List Holder) (ts : List Thing) (naps : List Nap) (boxes : List Box) (k : ℕ) (r : Thing) where
   thing_forwarded : slice_get ts k ≡ Some r → r.forwarding ≡ Sent → ((m : Mail) → h.mail m ≡ h'.mail m + mail_in m (Message.Forward (subject.Request k) ∷ [])) → h'.wakes ≡ h.wakes
@@ -52,31 +34,14 @@ module _ (h h' : Hands) (workers : ℕ) (hs : List Holder) (ts : List Thing) (na
   thing_forwarded there sent less wakes old =
       let m : Mail = Message.Forward (subject.Request k) in
       let unsent : is_unsent r.forwarding ≡ false = ap is_unsent sent in
-      redone_alone h h' workers hs ts naps boxes k r (record r { forwarding = Applied }) (record {
-        thing = there;
-        worker = refl;
-        waiter = refl;
-        mail = λ x apart. let few = less x in let none = is_never x m apart.forward in omega (arith, few, none);
-        made = λ x some. let few = less x in omega (arith, few, some);
-        held = λ box at fact.
-            subst (λ n. IsHeldBy box.shut r.observed (holdings k hs) n) (let few = less (Message.Cancel (subject.Request k)) in let none = is_never (Message.Cancel (subject.Request k)) m (λ e. absurd (cc)) in omega (arith, few, none)) fact;
-        forwarded = λ box at fact. applied_if box.shut r.forwarding (under_way h m boxes) (under_way h' m boxes) sent (let few = less m in let one = is_once m in omega (arith, few, one)) fact;
-        unsent = sym unsent;
-        sent = λ is. refl;
-        due = λ due. ⊎_elim (λ held. inl held) (λ goes. inr (unsent, goes.1)) due;
-        answer = λ u o at awaits has. answer_on o.output has;
-        fewer = λ i u some. ap (λ (f : ℕ → ℕ → ℕ). f i u) wakes;
-        owes = λ i u some o. record { worker = o.worker; waiter = o.waiter; unpaid = o.unpaid; unsent = o.unsent; over = o.over };
-      }) old
+      grind (arith, redone_alone, is_never, applied_if, is_once)
     where
       answer_of : (x : Result RequestOutput Error) → IsAnswerOf x r → IsAnswerOf x (record r { forwarding = Applied })
       answer_of (Ok told) is = is
       answer_of (Err error) is = is
 
       answer_on : (o : OneShotState (Result RequestOutput Error)) → HasAnswer o r → HasAnswer o (record r { forwarding = Applied })
-      answer_on Open has = has
-      answer_on (Answered x) has = (has.0, answer_of x has.1)
-      answer_on Closed has = has
+      answer_on = grind arith
 
 module _ {B : Type 0} where
   -- it wasn't told yet

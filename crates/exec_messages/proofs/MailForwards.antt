@@ -5,7 +5,7 @@ use Rattle.exec_request.specs.declared.output.RequestOutput.{RequestOutput}
 use Rattle.exec_waiters.specs.{Events.{answered, with_observer}, States.{flying_count, pending_count}, Told.Tells, declared.{deferred.{Answer.Answer, Deferred.Deferred}, observer.Observer.TheVariants.Forwarded, waiter.{Entry.Entry, Waiter.Waiter}}}
 use Rattle.exec_ring.specs.Rings.{RingState, completions}
 use Rattle.exec_driver.specs.{Driving.Driving, Punctual.IsPunctual}
-use Rattle.exec_machine.specs.{declared.state.{Forwarding.TheVariants.{Applied, Sent}}, Tests.{is_applied, is_resolved}}
+use Rattle.exec_machine.specs.{declared.state.{Forwarding.TheVariants.{Sent}}, Tests.{is_applied, is_resolved}}
 use Rattle.exec_moves.specs.{declared.handing.Heard.Heard, State.Desk, Told.{awaits_no_more, one_result, told_of_forward, without_request}}
 use Rattle.exec_parts.{specs.{declared.parts.{mail.Reply.Reply, record.Record.Record, shared.Shared.Shared, worker.Worker.Worker}, Calls.{forward_applied, IsTold}, MailTakes.{TakesForward, reply_for}, Records.number_in, Serving.{changed_at, changed_in}, View.{Visible, awaited_from, completions_in, desk_of, driver_of, landed_in, message_of, number_heard, numbers_of, own_of, results_in, slots_seen, trailing, visible, wake_poll_in}}, proofs.Facts.{not_same, same_thing}}
 use Rattle.exec_invariants.{specs.{Due.{IsDue, IsWheelAt, may_be_due, wheel_moment}, Flown.HasFlown, Gates.AreLinedUp, Holding.{IsAnswerOf, thing_of}, Places.one_if as one_when, Rooted.{IsResult, IsRooted, goes_elsewhere, is_of_request, results_of}, Sound.{AreOver, served_in}, Names.{HasWidth, IsAlike, tellers}}, proofs.{Carries.carried_marked, Known.{known_marked, low_there}, LetKept.count_last, LetRooted.{TellsOne, told_one}, LetSeen.value_live, Resolving.{places_fewer, wide_ended}, ServedEnds.only_one, ServingHolds.{KeepsSpare, KeepsWith, keeps_home}, Slotted.OneSlot, Watching.{Watched, carried_watched, due_watched, flown_watched, known_watched, named_watched, over_watched}}}
@@ -16,11 +16,7 @@ abbrev pub with_reply : Reply → Waiter Reply Reply → Waiter Reply Reply
 with_reply reply it = with_observer (Forwarded reply) it
 
 pub alike_forwarded : (start tick : ℕ) (it : Waiter Reply Reply) (reply : Reply) (r : Record) → r.shown.observed ≡ true → IsAlike start tick it r.shown → IsAlike start tick (with_reply reply it) (forward_applied r).shown
-alike_forwarded start tick it reply r seen a =
-    let waiter : (t : TaskNo) → None ≡ Some t → r.shown.waiter ≡ Some t.0 = λ t h. absurd (cc) in
-    let near : is_applied Applied ≡ true = refl in
-    let observed : r.shown.observed ≡ true = seen in
-    assumption (waiter, near, observed, a)
+alike_forwarded = grind arith
 
 -- what the desk is then
 abbrev pub forward_shape : Bool → Bool → Bool → ℕ → Desk → Desk
@@ -78,9 +74,7 @@ module _ {B : Type 0} (k : ℕ) (w v : Worker) (s s' : Shared B) (idle : served_
       sym (gates.unique k kk r there.0 takes.request there.1 (ap (λ i. record { worker = i; id = takes.r.id }) (mine ∙ sym there.3) ∙ ap (λ x. record { worker = there.0.shown.worker; id = record { 0 = x } }) (sym there.2)))
 
   pub apart_at : (q : ℕ) → slice_get rs q ≡ Some r → (x : Id) → IsSome (value_at d.requests x) → number_in n x ≡ q → x ≡ id
-  apart_at q at x some is =
-      let a = keeps.named.requests x some in
-      sym a.2 ∙ ap (λ (y : Record). y.id.0) (same_thing a.0 r (sym a.1 ∙ ap (slice_get rs) is ∙ at))
+  apart_at = grind arith
 
   pub unique_at : (j : ℕ) (x : Record) → slice_get rs j ≡ Some x → x.shown.worker ≡ w.index → x.id.0 ≡ id → j ≡ k
   unique_at j x at of_i same =

@@ -1,5 +1,5 @@
 -- The callbacks: what a request owned that is over is let go of.
-use Rattle.std.{proofs.{Common.{map, ◌≡◌, ℕ, suc, [], ◌∷◌, ◌==◌, ◌+◌, ◌<◌, ◌≤◌, ◌-◌, Bool, length, drop, nat_lt, arith, true, false, not, List, Contains, Option, Some, None, refl, sym, ap, subst, ◌∙◌, slice_get, slice_set, if◌then◌else◌}, lemmas.Bool.{false≢true, eq-eqb, Decides.nat_tests}}, specs.{Vec.vec_capacity, VecDeque.deque_capacity}}
+use Rattle.std.{proofs.{Common.{map, ◌≡◌, ℕ, suc, [], ◌∷◌, ◌==◌, ◌+◌, ◌<◌, ◌≤◌, ◌-◌, Bool, length, drop, nat_lt, arith, true, false, not, List, Contains, Option, Some, None, refl, sym, ap, subst, ◌∙◌, slice_get, slice_set, if◌then◌else◌}, lemmas.Bool.{false≢true, eq-eqb}}, specs.{Vec.vec_capacity, VecDeque.deque_capacity}}
 use Rattle.exec_base.specs.Slab.{Slab}
 use Rattle.exec_time.specs.declared.timers.Sleeper.{Sleeper as Sleeping}
 use Rattle.exec_waiters.specs.{States.pending_count, declared.deferred.Deferred.Deferred}
@@ -8,7 +8,7 @@ use Rattle.exec_task.specs.declared.body.Said.{Said}
 use Rattle.exec_machine.specs.{declared.{event.Event.{Event, TheVariants.Release}, state.{Next.Next}}, Choice.Choice.Plain, Ranges.ring_size, Same.is_number, Tests.{is_applied, is_resolved}, World.{request_of, Own as Books}}
 use Rattle.exec_moves.specs.{declared.{handing.AfterCallbacks.AfterCallbacks, place.{InCallbacks.InCallbacks, Place.Place}}, Callback.{Item.Releases, after_callbacks, has_callbacks, item_next, next_callback}, State.Desk, Move.{move_at, move_item}, Seen.{next_at, polls_at}}
 use Rattle.exec_parts.{specs.{Calls.{releasing, IsTold}, Phased.{IsPhased, closes_before, stage_of}, Records.number_in, Serving.{changed_at, changed_in}, Spots.Spot, Tests.{after_callbacks_of, is_anything_told, next_callback_of}, View.{common_of, desk_of, driver_of, own_of, numbers_of_passing, things_with, visible, with_view}, declared.parts.{mail.{Reply.Reply, Subject.Subject}, names.Names.Names, record.Record.Record, seat.Seat.Seat as Chair, shared.Shared.Shared, sleeping.SleeperRecord.SleeperRecord, worker.Worker.Worker}}, proofs.{Facts.true_false, Showing.map_kept}}
-use Rattle.exec_invariants.{specs.{Carried.{HasRoom, IsCarried}, Due.IsDue, Flown.HasFlown, Gates.{AreLinedUp, HaveGates, IsKnown}, HoldPlaces.spare_before, Holding.{Mail, IsAnswerOf, IsHolding, box_of, holder_of, nap_of, thing_of}, Places.{one_if, claims_at, drops_at, has_count_at, is_published_at, searches_before}, Rooted.{IsKept, IsReplyFor, IsRooted, Pays, StandsAt, goes_elsewhere, results_of}, Sound.{AreOver, HasLetters, IsMyMail, IsSearching, SoundAt, has_wakes_at}, Names.{HasWidth, IsNamed, tellers}, Whole.{IsWhole, hands_of, with_worker}, Works.{Beside, Steps, Suits}}, proofs.{Aside.{SameProfile, profile_same}, CallsBack.{after_seen, callbacks_seen}, Carries.carried_marked, Flown.flown_marked, Hearing.unheard, Idled.Fares, Known.known_marked, Lined.{SameAtGate, gates_kept, gates_seen_same, lined_kept, opens_same, passing_same, was_sent}, MailBack.{Rests, goes_next, idle_before, next_fares, next_sound, rests_next, stance}, Marking.{due_marked, mark_if, mark_kept, marked, named_marked, releases, was_marked}, Phased.phased_count, Recorded.request_seen, Seeing.common_changed, Serving.{SparesRecords, letter_kept, mail_kept, spares_one, spares_service}, Turning.view_found}}
+use Rattle.exec_invariants.{specs.{Carried.{HasRoom, IsCarried}, Due.IsDue, Flown.HasFlown, Gates.{AreLinedUp, HaveGates, IsKnown}, HoldPlaces.spare_before, Holding.{Mail, IsAnswerOf, IsHolding, box_of, holder_of, nap_of, thing_of}, Places.{one_if, searches_before}, Rooted.{IsKept, IsReplyFor, IsRooted, Pays, StandsAt, goes_elsewhere, results_of}, Sound.{AreOver, HasLetters, IsMyMail, IsSearching, SoundAt, has_wakes_at}, Names.{HasWidth, IsNamed, tellers}, Whole.{IsWhole, hands_of, with_worker}, Works.{Beside, Steps, Suits}}, proofs.{Aside.{SameProfile, profile_same}, CallsBack.{after_seen, callbacks_seen}, Carries.carried_marked, Flown.flown_marked, Hearing.unheard, Idled.Fares, Known.known_marked, Lined.{SameAtGate, gates_kept, gates_seen_same, lined_kept, opens_same, passing_same, was_sent}, MailBack.{Rests, goes_next, idle_before, next_fares, next_sound, rests_next, stance}, Marking.{due_marked, mark_if, mark_kept, marked, named_marked, releases, was_marked}, Phased.phased_count, Recorded.request_seen, Seeing.common_changed, Serving.{SparesRecords, letter_kept, mail_kept, spares_one, spares_service}, Turning.view_found}}
 
 -- OF RECORDS, one of which lets go
 
@@ -23,14 +23,7 @@ same_record : (x y : Record) → Some x ≡ Some y → x ≡ y
 same_record x y h = cc
 
 not_same : (n m : ℕ) → (n ≡ m → ⊥) → (n == m) ≡ false
-not_same n m other = by (n == m) refl
-  where
-    same_number : (a b : ℕ) → (a == b) ≡ true → a ≡ b
-    same_number a b h = grind (arith, nat_tests)
-
-    by : (b : Bool) → (n == m) ≡ b → (n == m) ≡ false
-    by true is = absurd (other (same_number n m is))
-    by false is = is
+not_same = grind arith
 
 over_rest : (i n : ℕ) (rest : List ℕ) (unreleased fewer others : ℕ) (rs : List Record) → fewer + 1 ≡ unreleased → AreOver i (n ∷ rest) unreleased others rs → AreOver i rest fewer others (changed_at rs n releasing)
 over_rest i n rest unreleased fewer others rs less over =
@@ -46,14 +39,10 @@ over_rest i n rest unreleased fewer others rs less over =
 module _ (rs : List Record) (q : ℕ) where
   -- what stands there was there, and is the same but for what it owns
   part : {A : Type 0} (f : Record → A) → ((r : Record) → f (releasing r) ≡ f r) → (k : ℕ) (x : Record) (at : slice_get (changed_at rs q releasing) k ≡ Some x) → f (was_marked releasing rs q k x at).0 ≡ f x
-  part f same k x at =
-      let old = was_marked releasing rs q k x at in
-      sym (mark_kept _ f releasing same (q == k) old.0) ∙ sym (ap f old.2)
+  part = grind arith
 
   back : (P : Record → Type 0) → ((r : Record) → P r → P (releasing r)) → (k : ℕ) (x : Record) (at : slice_get (changed_at rs q releasing) k ≡ Some x) → P (was_marked releasing rs q k x at).0 → P x
-  back P holds k x at h =
-      let old = was_marked releasing rs q k x at in
-      subst P (sym old.2) (keep P holds (q == k) old.0 h)
+  back = grind arith
 
   pub rooted_let_go : (i : ℕ) (n n' : Names) (d : Driving Reply Reply) (zs : Slab (Sleeping Reply)) (left left' : Deferred Reply Reply) (ss : List SleeperRecord) → IsRooted i n d zs left rs ss
       → IsRooted i (record n { ended = n'.ended; unreleased = n'.unreleased }) d zs (record left { resources = left'.resources }) (changed_at rs q releasing) ss
@@ -97,11 +86,7 @@ things_still rs n r there = ap (λ o. map thing_of (changed_in rs n releasing o)
 
 -- where the callbacks lead rests on nothing that is told
 after_as : (c : AfterCallbacks) (w : Worker) (q : Place) (names : Names) (left : Deferred Reply Reply) → after_callbacks_of c (record w { place = q; names = names; home = record w.home { deferred = left } }) ≡ after_callbacks_of c w
-after_as AfterCallbacks.Look w q names left = refl
-after_as AfterCallbacks.Test w q names left = refl
-after_as AfterCallbacks.Begin w q names left = refl
-after_as AfterCallbacks.Drain w q names left = refl
-after_as AfterCallbacks.Finish w q names left = refl
+after_as = grind arith
 
 module _ {B : Type 0} where
   -- What the request of this number owned, which ended first, is let go.
@@ -169,52 +154,7 @@ module _ {B : Type 0} where
       let carried : IsCarried w.names.requests.items d.requests d.ring rs' s.store = subst (λ xs. IsCarried w.names.requests.items d.requests d.ring xs s.store) (sym it.requests)
       (carried_marked w.names.requests.items d.requests d.ring rs s.store sound.carried n releasing (λ r there. refl) (λ r there. refl)) in
       let phased : (chair : Chair) → slice_get s.seats.items w.index ≡ Some chair → IsPhased w.index (closes_before c) None w.home.closing w.root w'.names.unreleased (stage_of chair s) s.tasks.items = λ chair there. phased_count w.index (closes_before c) w.home.closing w.root w.names.unreleased w'.names.unreleased (stage_of chair s) s.tasks.items (sound.phased chair there) in
-      record {
-        here = refl;
-        config = sound.config;
-        gates = gates;
-        known = known;
-        workers = sound.workers;
-        role = sound.role;
-        pooled = sound.pooled;
-        serves = sound.serves;
-        calm = sound.calm;
-        homes = sound.homes;
-        shards = sound.shards;
-        time = sound.time;
-        told = told;
-        wide = wide;
-        named = named;
-        runnable = sound.runnable;
-        seated = sound.seated;
-        queue = sound.queue;
-        sized = sound.sized;
-        processed = sound.processed;
-        hand = sound.hand;
-        loot = sound.loot;
-        genuine = sound.genuine;
-        stolen = sound.stolen;
-        searching = searching;
-        aims = sound.aims;
-        guest = sound.guest;
-        resting = sound.resting;
-        left = tt;
-        over = over;
-        batch = sound.batch;
-        mine = mine;
-        batch_place = sound.batch_place;
-        letters = letters;
-        quiet = quiet;
-        due = due;
-        flown = flown;
-        carried = carried;
-        rooted = rooted;
-        stops = sound.stops;
-        hears = sound.hears;
-        lets_go = sound.lets_go;
-        phased = phased;
-        tied = sound.tied;
-      }
+      grind arith
 
   pub beside_release : (c : AfterCallbacks) (n : ℕ) (w w' u : Worker) (s s' : Shared B) → SoundAt (Place.Callbacks InCallbacks.CallBack c) w s → HasReleased n w w' s s' → SameProfile w u
       → HasRoom s'.requests.items s.store → Beside w s u (record s { requests = s'.requests })
@@ -276,18 +216,7 @@ module _ {B L : Type 0} (left : B → L) (spot : L → Option Said → Spot) whe
       let spares = spares_release c n w w' s s' sound it in
       let fewer : w.names.unreleased - 1 ≡ w'.names.unreleased = omega (arith, it.unreleased) in
       let u : Worker = record w { place = q' } in
-      let alike : SameProfile w u = record {
-        hand = refl;
-        loot = refl;
-        polls = polls ∙ sym (ap polls_at sound.here);
-        claims = ap (λ k. k.claims) to.same ∙ sym (ap claims_at sound.here);
-        searching = refl;
-        counts = to.counts ∙ sym (ap has_count_at sound.here);
-        index = refl;
-        published = to.published ∙ sym (ap is_published_at sound.here);
-        drops = ap (λ k. k.drops) to.same ∙ sym (ap drops_at sound.here);
-        told = record { batch = refl; letters = refl; left = refl };
-      } in
+      let alike : SameProfile w u = grind arith in
       let by : Beside w s u s1 = beside_release c n w w' u s s' sound it alike there.carried.room in
       let done : Steps left spot w s (Release n) w1 s1 = (
         (λ p vs suits.

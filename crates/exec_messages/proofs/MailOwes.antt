@@ -17,18 +17,7 @@ none_by (x ∷ xs) true is h = absurd (false≢true (sym (is ∙ zero_false (len
 
 -- what its task waits for pays
 unpaid_by : (i t : ℕ) (waiting : Waiting) (rs : List Record) (zs : List SleeperRecord) (boxes : List Box) → Owes i t (awaited_in waiting) (map thing_of rs) (map nap_of zs) boxes → IsUnpaid waiting rs zs
-unpaid_by i t (Waiting.Request k) rs zs boxes h =
-    let it = unmapped thing_of rs k h.0 h.1 in
-    let paid : it.0.shown.wakes_paid ≡ 0 = ap (λ y. y.paid) it.2 ∙ h.2.unpaid in
-    (it.0, it.1, omega (arith, paid))
-unpaid_by i t (Waiting.Timer n) rs zs boxes h =
-    let it = unmapped nap_of zs n h.0 h.1 in
-    let paid : it.0.shown.wakes_paid ≡ 0 = ap (λ y. y.paid) it.2 ∙ h.2.unpaid in
-    (it.0, it.1, omega (arith, paid))
-unpaid_by i t Waiting.Nothing rs zs boxes h = h
-unpaid_by i t Waiting.Wake rs zs boxes h = h
-unpaid_by i t Waiting.Woken rs zs boxes h = h
-unpaid_by i t Waiting.Yielded rs zs boxes h = h
+unpaid_by = grind (arith, unmapped)
 
 -- it is among those that are to be woken
 pub counted_first : (xs : List TaskNo) (n : TaskNo) → slice_get xs 0 ≡ Some n → 0 < count_by (λ m. m.0 == n.0) xs

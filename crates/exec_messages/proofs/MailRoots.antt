@@ -1,17 +1,14 @@
 -- A message of the batch wakes the own root.
-use Rattle.std.proofs.{Common.{◌≡◌, ◌≢◌, ℕ, ◌+◌, ◌||◌, Bool, true, false, Contains, List, [], length, map, option_to_list, Option, Some, None, is_some, refl, sym, ap, subst, ◌∙◌, arith, slice_get, slice_set, if◌then◌else◌}, lemmas.{Bool.false≢true, List.map-set}}
+use Rattle.std.proofs.{Common.{◌≡◌, ◌≢◌, ℕ, ◌+◌, ◌||◌, Bool, Contains, List, [], length, map, option_to_list, Option, Some, None, is_some, refl, sym, ap, subst, ◌∙◌, arith, slice_get, slice_set, if◌then◌else◌}, lemmas.{Bool.false≢true, List.map-set}}
 use Rattle.exec_words.specs.declared.inbox.Message.{Message}
 use Rattle.exec_task.specs.{Phases.{is_idle, runnable_of}, declared.{body.Said.Said, runnable.Runnable.Runnable}}
 use Rattle.exec_machine.specs.{declared.{event.Event.{Event, TheVariants.Apply}, state.MailMessage.TheVariants.Root}, Tasks.woken, World.task_of}
-use Rattle.exec_moves.specs.{Callback.flagged_by, declared.place.{InMail.InMail, Place.Place}, Mail.after_message, Seen.polls_at, State.Desk}
-use Rattle.exec_parts.{specs.{declared.parts.{seat.Seat.Seat as Chair, shared.Shared.Shared, task_slot.TaskSlot.TaskSlot, worker.Worker.Worker}, Phased.{IsPhased, closes_at, closing_in, is_complete, stage_of}, Pooled.{WakesOwnRoot, woken_slot}, Spots.Spot, View.{common_of, desk_of, message_of, task_seen, visible, with_view}}, proofs.Facts.{same_thing, set_there}}
-use Rattle.exec_invariants.{specs.{Hearing.Hears, Holding.{IsHolding, Mail, box_of, holder_of, nap_of, thing_of}, Places.{begins_at, claims_at, clears_at, has_count_at, is_published_at, polled_in, removes_at, step_of_poll}, Sound.{AreHome, AreResting, HasGuest, HasRunnable, IsHeld, IsRunnable, IsTied, SoundAt, Stands, Stops, one_of, root_in_hand}, Whole.{IsGenuine, IsWhole, Profile, hands_of, is_number as is_counted, with_worker}, Works.Steps}, proofs.{Aside.{SameProfile, profile_same}, Cells.{body_woken, complete_woken, idle_seen, woken_seen}, Closes.root_there, Flagged.{flag_then, flag_woken, stands_woken}, Hearing.hears_so, HoldMail.is_never, HoldPosts.moved, MailApplies.{Leads, applied_keeps, applied_sound, applied_works, leads, one_less, passed_on, rest_of, things_viewed}, MailMoves.whole_moved, PoolKept.{gates_same, unremoved}, Resolving.places_fewer, Serving.spares_same, Slots.{Balances, spares_slot, whole_slot}, SlotTasks.{IsAfter, Keeps, homes_set, none_in, resting_set}, Turning.view_found}}
+use Rattle.exec_moves.specs.{Callback.flagged_by, declared.place.{InMail.InMail, Place.Place}, Mail.after_message, State.Desk}
+use Rattle.exec_parts.{specs.{declared.parts.{seat.Seat.Seat as Chair, shared.Shared.Shared, task_slot.TaskSlot.TaskSlot, worker.Worker.Worker}, Phased.{IsPhased, closes_at, closing_in, stage_of}, Pooled.{WakesOwnRoot, woken_slot}, Spots.Spot, View.{common_of, desk_of, message_of, task_seen, visible, with_view}}, proofs.Facts.{same_thing, set_there}}
+use Rattle.exec_invariants.{specs.{Hearing.Hears, Holding.{IsHolding, Mail, box_of, holder_of, nap_of, thing_of}, Places.{begins_at, claims_at, clears_at, has_count_at, is_published_at, polled_in, step_of_poll}, Sound.{AreHome, AreResting, HasGuest, HasRunnable, IsHeld, IsRunnable, IsTied, SoundAt, Stands, Stops, one_of, root_in_hand}, Whole.{IsGenuine, IsWhole, Profile, hands_of, with_worker}, Works.Steps}, proofs.{Aside.{SameProfile, profile_same}, Cells.{body_woken, complete_woken, idle_seen, woken_seen}, Closes.root_there, Flagged.{flag_then, flag_woken, stands_woken}, Hearing.hears_so, HoldMail.is_never, HoldPosts.moved, MailApplies.{Leads, applied_keeps, applied_sound, applied_works, leads, one_less, passed_on, rest_of, things_viewed}, MailMoves.whole_moved, PoolKept.{gates_same}, Resolving.places_fewer, Serving.spares_same, Slots.{Balances, spares_slot, whole_slot}, SlotTasks.{IsAfter, Keeps, homes_set, none_in, resting_set}, Turning.view_found}}
 
 or_some : (idle : Bool) (flag : Option Runnable) (r : Runnable) → (is_some flag || idle) ≡ is_some (if idle then Some r else flag)
-or_some true None r = refl
-or_some true (Some x) r = refl
-or_some false None r = refl
-or_some false (Some x) r = refl
+or_some = grind arith
 
 -- a place of which all others see as little
 at_start : IsAfter Place.BeginTurn
@@ -58,18 +55,7 @@ module _ {B : Type 0} where
       let stops = subst (λ o. Stops o (step_of_poll q) w.index tasks s.requests.items s.sleepers.items) (sym to.polls) tt in
       let phased : (chair : Chair) → slice_get s.seats.items w.index ≡ Some chair → IsPhased w.index (closes_at q) (closing_in q) w.home.closing w.root w.names.unreleased (stage_of chair s) tasks = λ chair at.
       let old = sound.phased chair at in
-      record {
-        told = old.told;
-        opened = old.opened;
-        ended = old.ended;
-        root = λ o at_root. ap (λ (y : TaskSlot B). is_complete y.cell.phase) (sym (is o at_root)) ∙ complete_woken slot.cell.phase ∙ old.root slot there;
-        left = old.left;
-        shut = old.shut;
-        by_zero = old.by_zero;
-        by_other = old.by_other;
-        closed = old.closed;
-        prepared = old.prepared;
-      } in
+      grind (arith, complete_woken) in
       let tied : IsTied (polled_in w.root q) w.index w.root tasks = record { stands = λ o at_root. subst (Stands (polled_in w.root q) w.index) (is o at_root) (stands_woken (polled_in w.root q) w.index slot (sound.tied.stands slot there)) } in
       assumption (homes, runnable, resting, genuine, stolen, guest, stops, phased, tied, sound)
 
@@ -89,40 +75,17 @@ module _ {B : Type 0} where
         many = refl;
         back = λ j box at. (box, at, record { shut = refl; closing = refl; places = λ h. h; made = refl });
         wakes = refl;
-        way = λ y j box its at open_box. (
-          (let same_mail = no_mail (Message.Cancel y) (λ e. absurd (cc)) in omega (arith, same_mail)),
-          (let same_mail = no_mail (Message.Forward y) (λ e. absurd (cc)) in omega (arith, same_mail)),
-        );
+        way = grind arith;
         about = whole.holding.about;
         made = λ k some. let less = one_less others w Message.WakeRoot first k in whole.holding.made k (omega (arith, less, some));
       }) whole.holding in
       let fewer : IsWhole xv s = whole_moved x xv.mail s s refl (gates_same s.seats.items s.seats.items refl) refl holding refl refl whole in
       let ordinary : slot.home ≡ None → ⊥ = λ none. let never : Some w.index ≡ None = sym home ∙ none in absurd (cc) in
-      let bal : Balances w.root Place.BeginTurn v w.hand slot slot' = record {
-        keeps = record { home = refl; number = refl; owner = refl };
-        holder = ap (λ b. record (holder_of slot) { over = b }) (complete_woken slot.cell.phase);
-        apart = λ k other. refl;
-        one = λ g none. absurd (ordinary none);
-        polls_apart = λ k other. sym (ap (λ p. is_counted (polls_at p) k) sound.here);
-        polls = λ none. absurd (ordinary none);
-        remains = λ none. absurd (ordinary none);
-        removes = λ u is. absurd (unremoved (removes_at Place.BeginTurn) refl u is);
-      } in
+      let bal : Balances w.root Place.BeginTurn v w.hand slot slot' = grind arith in
       let turned : IsWhole (with_worker others (record v { place = Place.BeginTurn; root_ready = f; hand = w.hand })) (record s { tasks = s'.tasks }) =
       whole_slot w.root Place.BeginTurn v f w.hand s s' slot slot' others (sound.loot.none refl) (ap claims_at sound.here) (ap has_count_at sound.here) (ap is_published_at sound.here) (ap clears_at sound.here) (λ none. absurd (ordinary none)) at_start there items bal fewer in
       let u : Worker = record v { place = Place.BeginTurn; root_ready = f } in
-      let alike : SameProfile u w1 = record {
-        hand = ap (λ (y : Worker). y.hand) same;
-        loot = ap (λ (y : Worker). y.loot) same;
-        polls = to.polls;
-        claims = to.claims;
-        searching = ap (λ (y : Worker). y.searching) same;
-        counts = to.counts;
-        index = ap (λ (y : Worker). y.index) same;
-        published = to.published;
-        drops = to.drops;
-        told = record { batch = ap (λ (y : Worker). y.batch) same; letters = ap (λ (y : Worker). y.letters) same; left = ap (λ (y : Worker). y.home.deferred) same };
-      } in
+      let alike : SameProfile u w1 = grind arith in
       rw (profile_same others u w1 alike) turned
 
 module _ {B L : Type 0} (left : B → L) (spot : L → Option Said → Spot) where

@@ -1,6 +1,7 @@
 -- A REQUEST'S END GOES ELSEWHERE from now on: what its worker keeps for others then; and all of its own that holds again where it
 -- has nothing of the request any more.
-use Rattle.std.proofs.{Common.{◌≡◌, ◌≢◌, ◌⊎◌, ⊎_elim, ℕ, ◌+◌, ◌≤◌, ◌==◌, Bool, true, false, Contains, List, count_by, Some, None, IsSome, Result, Ok, Err, refl, sym, ap, subst, ◌∙◌, slice_get}, lemmas.Bool.{false≢true, eq-eqb}}
+use Rattle.std.proofs.{Common.{◌≡◌, ◌≢◌, ◌⊎◌, ⊎_elim, ℕ, ◌+◌, ◌==◌, Bool, true, false, Contains, List, count_by, Some, None, IsSome, Result, Ok, Err, refl, sym, ap, subst, ◌∙◌, slice_get}, lemmas.Bool.{false≢true, eq-eqb}}
+use Rattle.std.proofs.Common.{arith}
 use Rattle.exec_base.specs.{Slab.{Slab, value_at}, declared.{error.Error.Error, slab.Id.Id}}
 use Rattle.exec_time.specs.declared.{notes.ForwardedResult.ForwardedResult, timers.Sleeper.{Sleeper as Sleeping}}
 use Rattle.exec_request.specs.declared.output.RequestOutput.{RequestOutput}
@@ -24,16 +25,11 @@ module _ (rs : List Record) (k : ℕ) (r : Record) (there : slice_get rs k ≡ S
   else_sent j x apart at = marked forward_applied rs k j x at ∙ ap (λ b. Some (mark_if forward_applied b x)) (not_same k j apart)
 
   pub was_else : (j : ℕ) (x : Record) → (k ≡ j → ⊥) → slice_get rs_sent j ≡ Some x → slice_get rs j ≡ Some x
-  was_else j x apart at =
-      let old = was_marked forward_applied rs k j x at in
-      old.1 ∙ ap (λ y. Some y) (sym (old.2 ∙ ap (λ b. mark_if forward_applied b old.0) (not_same k j apart)))
+  was_else = grind (arith, was_marked, mark_if, not_same)
 
   -- any other, and this
   pub by_sent : {P : Type 0} (j : ℕ) (x : Record) → slice_get rs_sent j ≡ Some x → (k ≡ j → forward_applied r ≡ x → P) → ((k ≡ j → ⊥) → slice_get rs j ≡ Some x → P) → P
-  by_sent j x at same other =
-      by_number j k
-      (λ apart. other (λ e. apart (sym e)) (was_else j x (λ e. apart (sym e)) at))
-      (λ is. same (sym is) (same_thing (forward_applied r) x (sym here_sent ∙ ap (slice_get rs_sent) (sym is) ∙ at)))
+  by_sent = grind (arith, by_number, was_else, same_thing, here_sent)
 
 -- what a record was
 pub record WasSent (rs : List Record) (j : ℕ) (x : Record) : Type 0 where
@@ -42,13 +38,7 @@ pub record WasSent (rs : List Record) (j : ℕ) (x : Record) : Type 0 where
   pub is : x ≡ record o { shown = record o.shown { forwarding = x.shown.forwarding } }
 
 pub was_sent_so : (rs : List Record) (k j : ℕ) (x : Record) → slice_get (changed_at rs k forward_applied) j ≡ Some x → WasSent rs j x
-was_sent_so rs k j x at =
-    let old = was_marked forward_applied rs k j x at in
-    record { o = old.0; at = old.1; is = subst (λ y. y ≡ record old.0 { shown = record old.0.shown { forwarding = y.shown.forwarding } }) (sym old.2) (by (k == j) old.0) }
-  where
-    by : (b : Bool) (o : Record) → mark_if forward_applied b o ≡ record o { shown = record o.shown { forwarding = (mark_if forward_applied b o).shown.forwarding } }
-    by true o = refl
-    by false o = refl
+was_sent_so = grind (arith, was_marked, mark_if)
 
 -- WHAT IS KEPT FOR OTHERS
 
@@ -116,20 +106,7 @@ module _ (i : ℕ) (n : Names) (d d' : Driving Reply Reply) (zs : Slab (Sleeping
       answers (Err error) h = h
 
       result_on : (a : Answer Reply) → IsResult i a rs → IsResult i a rs'
-      result_on a it =
-          by_number it.k k
-          (λ other. record { k = it.k; r = it.r; there = else_sent rs k r there it.k it.r (λ e. other (sym e)) it.there; worker = it.worker; reply = it.reply; answer = it.answer; paid = it.paid })
-          (λ same.
-          let is : it.r ≡ r = same_thing it.r r (sym it.there ∙ ap (slice_get rs) same ∙ there) in
-          record {
-            k = k;
-            r = forward_applied r;
-            there = here_sent rs k r there;
-            worker = ap (λ (y : Record). y.shown.worker) (sym is) ∙ it.worker;
-            reply = record { of = it.reply.of ∙ ap (λ m. Heard.Request m) same; task = ap (λ (y : Record). y.shown.waiter) (sym is) ∙ it.reply.task };
-            answer = answers a.result (subst (λ (y : Record). IsAnswerOf a.result (thing_of y)) is it.answer);
-            paid = subst (λ (y : Record). y.shown.wakes_paid ≤ 1) is it.paid;
-          })
+      result_on = grind (arith, by_number, else_sent, same_thing, here_sent)
 
 -- NOTHING OF IT IS AT THE DRIVER: all else is as it was
 
@@ -175,24 +152,13 @@ module _ (i : ℕ) (n : Names) (d : Driving Reply Reply) (zs : Slab (Sleeping Re
       }
 
   pub over_gone : (ended : List ℕ) (unreleased others : ℕ) → AreOver i ended unreleased others rs → AreOver i ended unreleased others rs_gone
-  over_gone ended unreleased others over =
-      record {
-        over = λ j m at.
-            let old = over.over j m at in
-            let new = after_gone m old.0 old.1 in
-            (new.0, new.1, ap (λ (y : Record). y.shown.worker) new.2 ∙ old.2, (ap (λ (y : Record). is_resolved y.shown.phase) new.2 ∙ old.3.0, ap (λ (y : Record). y.shown.released) new.2 ∙ old.3.1));
-        once = over.once;
-        counted = over.counted;
-      }
+  over_gone = grind (arith, after_gone)
 
   pub timed_gone : AreTimed i n rs → AreTimed i n rs_gone
   timed_gone timed j y found mine =
       let old = was_sent_so rs k j y found in
       let t = timed j old.o old.at (sym (ap (λ (z : Record). z.shown.worker) old.is) ∙ mine) in
-      record {
-        named = λ going. ap (λ (z : Record). number_in n.requests.items z.id.0) old.is ∙ t.named (sym (ap (λ (z : Record). is_resolved z.shown.phase) old.is) ∙ going);
-        over = λ over. ap (λ (z : Record). z.shown.timer) old.is ∙ t.over (sym (ap (λ (z : Record). is_resolved z.shown.phase) old.is) ∙ over);
-      }
+      grind arith
 
   pub flown_gone : HasFlown None i n d rs → HasFlown None i n d rs_gone
   flown_gone flown =

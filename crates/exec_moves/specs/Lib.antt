@@ -26,8 +26,7 @@ pub mod Move
 pub mod MoveOfCaller
 pub mod Touches
 pub mod Seen
-pub mod Heights
-pub mod Credit
+pub mod Counts
 pub mod Plays
 pub mod Departures
 pub mod PoolLogs

@@ -2,14 +2,14 @@
 --
 -- The machine says what may happen; the moves say what does. So the lines of a log by moves are not chosen: each is what
 -- the move at the party's place tells, and the next is told from where that move leads.
-use Rattle.std.specs.Prelude.{◌≡◌, ℕ, zero, suc, Bool, true, false, not, ◌+◌, ◌==◌, ◌&&◌, ◌++◌, List, [], ◌∷◌, replicate, slice_index_or, slice_set, Some, None, if◌then◌else◌, ◌||◌, nat_lt}
+use Rattle.std.specs.Prelude.{◌≡◌, ℕ, zero, suc, Bool, true, false, not, ◌+◌, ◌==◌, ◌&&◌, ◌++◌, List, [], ◌∷◌, replicate, slice_index_or, slice_set, Some, None, if◌then◌else◌}
 use Rattle.exec_base.specs.Spinner.{begun}
-use Rattle.exec_machine.specs.{declared.{config.Configuration.Configuration, event.{Event.{TheVariants.{Dedicated, Land, Clock, Set, Stir, Peer}, Event}, StepResult.TheVariants.Did}, step.{Action.Action, Step.Step}, state.{Letter.Letter, Next.Next}}, Choice.Choice.Plain, World.{World, Common, own_of, seat_of, request_of}, Same.{same_number, same_message}, Tests.all_numbered, Callers.{is_enabled, may_go_on}, Run.{after_event, after_steps, is_run}, Progress.{Plan, begin, is_quiet_step, quiet_bound}, Examples.{Example, Told, says, refuses, lines_of, choices_of}}
+use Rattle.exec_machine.specs.{declared.{config.Configuration.Configuration, event.{Event.{TheVariants.{Dedicated, Land, Clock, Set, Stir, Peer}, Event}, StepResult.TheVariants.Did}, step.{Action.Action, Step.Step}, state.{Letter.Letter, Next.Next}}, Choice.Choice.Plain, World.{World, Common, own_of, seat_of, request_of}, Same.{same_number, same_message}, Tests.all_numbered, Callers.{is_enabled, may_go_on}, Run.{after_event, after_steps, is_run}, Progress.{Plan, begin}, Examples.{Example, Told, says, refuses, lines_of, choices_of}}
 use Rattle.exec_machine.specs.declared.step.Action.TheVariants as action
 use Rattle.exec_machine.specs.declared.step.Step.TheVariants as step
 use Rattle.exec_machine.specs.declared.state.Next.TheVariants as next
 use Rattle.exec_moves.specs.declared.place.Place.TheVariants as at
-use Rattle.exec_moves.specs.{State.{Desk, Things, WakePoll, Moved, no_queue, no_word, no_wake_poll, wake_poll_of, passed}, Slots.no_slots, Thing.set_wake_poll, Pop.shard_count, Call.{CallDesk, Called, no_call}, Move.move, MoveOfCaller.move_of_caller, Seen.{polls_at, next_at, owes_at, left_at, serves_at, is_calling}, Credit.credit}
+use Rattle.exec_moves.specs.{State.{Desk, Things, WakePoll, Moved, no_queue, no_word, no_wake_poll, wake_poll_of, passed}, Slots.no_slots, Thing.set_wake_poll, Pop.shard_count, Call.{CallDesk, Called, no_call}, Move.move, MoveOfCaller.move_of_caller, Seen.{polls_at, next_at, owes_at, left_at, serves_at, is_calling}}
 
 -- an executor: what the machine knows of it, what each worker and each caller has of its own, and what they share
 pub record Playing : Type 0 where
@@ -253,29 +253,3 @@ pub record IsPlayed (e : Example) : Type 0 where
   pub lines : lines_of (log_by_moves e.plan e.steps) ≡ lines_of e.told
   pub runs : is_run e.plan.config (begin e.plan) (lines_of (log_by_moves e.plan e.steps)) (choices_of (log_by_moves e.plan e.steps)) ≡ true
   pub seen : are_as_seen e.plan.config e.steps (first_playing e.plan) ≡ true
-
--- CREDIT, of worker zero alone
-
-abbrev pub credit_of : Configuration → Playing → ℕ
-credit_of c p = credit c 0 (own_of p.world 0) p.world.common (desk_of c p 0) p.things
-
--- a quiet step costs credit, while the worker isn't closing, and there is never as much of it as the bound
-abbrev pub is_paid : Configuration → Playing → Played → Bool
-is_paid c p x = (not (is_quiet_step p.world x.told.0.said) || nat_lt (credit_of c x.next) (credit_of c p)) && nat_lt (credit_of c p) (quiet_bound c p.world)
-
-abbrev pub work_is_paid : Configuration → ℕ → ℕ → (Playing → Bool) → Playing → Bool
-work_is_paid c i zero later p = later p
-work_is_paid c i (suc n) later p =
-    if is_enabled p.world.common (action.Work i)
-    then is_paid c p (by_action c p (action.Work i)) && work_is_paid c i n later (by_action c p (action.Work i)).next
-    else later p
-
-abbrev pub are_paid : Configuration → List Step → Playing → Bool
-are_paid c [] p = true
-are_paid c (step.Work i n ∷ steps) p = work_is_paid c i n (are_paid c steps) p
-are_paid c (step.One a ∷ steps) p =
-    if is_enabled p.world.common a then are_paid c steps (by_action c p a).next else are_paid c steps p
-
--- each quiet step of the log is paid for
-abbrev pub IsPaidFor : Example → Type 0
-IsPaidFor e = are_paid e.plan.config e.steps (first_playing e.plan) ≡ true

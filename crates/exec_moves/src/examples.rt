@@ -10,7 +10,7 @@ ghost use Rattle.exec_moves.specs.declared.handing.AfterPop.TheVariants as poppe
 ghost use Rattle.exec_moves.specs.declared.handing.InPop.TheVariants as pop;
 ghost use Rattle.exec_moves.specs.declared.place.InPick.TheVariants as pick;
 ghost use Rattle.exec_moves.specs.declared.place.Place.TheVariants as at;
-ghost use Rattle.exec_moves.specs.{Pick.count_down, Plays.{first_desk, IsPlayed, IsPaidFor}, Departures.{Departs, two_sends}};
+ghost use Rattle.exec_moves.specs.{Pick.count_down, Plays.{first_desk, IsPlayed}, Departures.{Departs, two_sends}};
 
 /// The pick that brings the countdown to its end looks at the global queue first.
 pub fn the_global_look()
@@ -56,18 +56,4 @@ pub fn refused_lines()
         (does 0 Close) (does 0 Turn) }
     ensures never_stops { Departs a_send.plan (step.Work 0 36 ∷ step.One (action.Land 0 (Count 10)) ∷ step.Work 0 36 ∷ [])
         (does 0 Stop) (does 0 Turn) }
-{}
-
-/// Each quiet step costs credit.
-pub fn quiet_steps_are_paid()
-    ensures of_a_send { IsPaidFor a_send }
-    ensures of_a_deadline { IsPaidFor a_deadline }
-    ensures of_a_late_enrolment { IsPaidFor a_late_enrolment }
-    ensures of_deadlines_in_order { IsPaidFor deadlines_in_order }
-    ensures of_the_wheel_goes_round { IsPaidFor the_wheel_goes_round }
-    ensures of_a_clock_in_a_service { IsPaidFor a_clock_in_a_service }
-    ensures of_a_clock_between_samples { IsPaidFor a_clock_between_samples }
-    ensures of_a_cancel_in_time { IsPaidFor a_cancel_in_time }
-    ensures of_parts { IsPaidFor parts }
-    ensures of_what_a_task_held { IsPaidFor what_a_task_held }
 {}

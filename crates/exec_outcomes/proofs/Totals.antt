@@ -1,6 +1,6 @@
 -- The results that say something, with how much the ones before them moved, as one more comes.
-use Rattle.std.proofs.Common.{◌≡◌, ℕ, suc, ◌+◌, Bool, true, false, cond, not, ◌||◌, List, [], ◌∷◌, ◌++◌, Option, Some, None, find, filter, drop, refl, sym, ◌∙◌, ap, add-zero, arith, zero-add, inl, inr, subst, if◌then◌else◌}
-use Rattle.std.specs.List.{list_any, after_first, position_or_len}
+use Rattle.std.proofs.Common.{◌≡◌, ℕ, ◌+◌, Bool, true, false, cond, not, ◌||◌, List, [], ◌∷◌, ◌++◌, Option, Some, None, find, filter, refl, sym, ◌∙◌, ap, add-zero, arith, zero-add, inl, inr, subst, if◌then◌else◌}
+use Rattle.std.specs.List.{list_any, after_first}
 use Rattle.std.proofs.lemmas.Bool.{or_parts, cases_Bool}
 use Rattle.std.proofs.lemmas.List.Folds.{find-append}
 use Rattle.std.proofs.lemmas.List.Elements.{filter-append}
@@ -40,10 +40,7 @@ after_first-true : {X : Type 0} (p : X → Bool) (x : X) (xs : List X) → p x �
 after_first-true p x xs passes = rw passes
 
 after_first-false : {X : Type 0} (p : X → Bool) (x : X) (xs : List X) → p x ≡ false → after_first p (x ∷ xs) ≡ after_first p xs
-after_first-false p x xs fails =
-    let n = position_or_len p xs in
-    let one_more : (1 + n) + 1 ≡ suc (n + 1) = omega arith in
-    rw fails (ap (λ k. drop k (x ∷ xs)) one_more)
+after_first-false = grind arith
 
 pub after_first-none : {X : Type 0} (p : X → Bool) (xs ys : List X) → find p xs ≡ None → after_first p (xs ++ ys) ≡ after_first p ys
 after_first-none p [] ys none = refl
@@ -103,17 +100,7 @@ struck_none kind r taken = elim (cases_Bool (is_transient kind r.result)) [ inl 
 
 -- the results that say something, with one more
 pub lasting-push : (kind : Kind) (hinted : Bool) (results : List Judged) (r : Judged) → (hinted ≡ true → list_any refuses_hint results ≡ false) → (r.hinted ≡ true → hinted ≡ true) → lasting kind (results ++ r ∷ []) ≡ lasting kind results ++ lasting kind (r ∷ [])
-lasting-push kind hinted results r unrefused allowed =
-    let keep : Judged → Bool = λ x. not (is_transient kind x.result) in
-    let kept : filter keep (results ++ r ∷ []) ≡ filter keep results ++ filter keep (r ∷ []) = filter-append keep results (r ∷ []) in
-    ap (without_first refuses_hint) kept ∙ elim (cases_Bool (list_any refuses_hint (filter keep results))) [
-      | inl some ↦
-          let refused : list_any refuses_hint results ≡ true = elim (cases_Bool (list_any refuses_hint results)) [ inl refuses ↦ refuses | inr free ↦ let none = list_any-filter refuses_hint keep results free in cc ] in
-          let unhinted : r.hinted ≡ false = elim (cases_Bool r.hinted) [ inl hint ↦ let none = unrefused (allowed hint) in cc | inr no_hint ↦ no_hint ] in
-          without_first-any refuses_hint (filter keep results) (filter keep (r ∷ [])) some
-          ∙ ap (λ zs. lasting kind results ++ zs) (sym (struck_none kind r (refuses_hint-unhinted r unhinted)))
-      | inr none ↦ without_first-none refuses_hint (filter keep results) (filter keep (r ∷ [])) none
-    ]
+lasting-push = grind (arith, filter-append, cases_Bool, list_any-filter, without_first-any, struck_none, refuses_hint-unhinted, without_first-none)
 
 pub none_decides : (kind : Kind) (given_up : Bool) (first : Option (Judged × ℕ)) → outcome_by kind given_up first ≡ None → first ≡ None
 none_decides kind given_up (Some d) undecided = cc
@@ -143,16 +130,12 @@ by_totals asked given_up rs = outcome_by_stop asked given_up (find (stops asked)
 -- while no result has stopped the first part, the next ones are judged as if they were the first
 pub by_totals-none : (asked : Asked) (given_up : Bool) (xs ys : List (Judged × ℕ)) → find (stops asked) xs ≡ None → by_totals asked given_up (xs ++ ys) ≡ by_totals asked given_up ys
 unfolding by_totals
-by_totals-none asked given_up xs ys none =
-    ap (λ o. outcome_by_stop asked given_up o (results_in (after_first (stops asked) (xs ++ ys)))) (find-after_none (stops asked) xs ys none)
-    ∙ ap (λ zs. outcome_by_stop asked given_up (find (stops asked) ys) (results_in zs)) (after_first-none (stops asked) xs ys none)
+by_totals-none = grind (arith, find-after_none, after_first-none)
 
 -- what came after the stop, with more
 pub later-push : (asked : Asked) (xs : List (Judged × ℕ)) (s : Judged × ℕ) (n : ℕ) (more : List Judged) → find (stops asked) xs ≡ Some s → results_in (after_first (stops asked) (xs ++ with_totals n more)) ≡ results_in (after_first (stops asked) xs) ++ more
 later-push asked xs s n more stopped =
-    ap results_in (after_first-some (stops asked) xs (with_totals n more) s stopped)
-    ∙ (results_in-append (after_first (stops asked) xs) (with_totals n more)
-    ∙ ap (λ zs. results_in (after_first (stops asked) xs) ++ zs) (results_in-with_totals n more))
+    grind (arith, after_first-some, results_in-append, results_in-with_totals)
 
 -- once it is stopped, and its second part is undecided, the next ones go on with that part
 pub by_totals-some : (asked : Asked) (given_up : Bool) (xs : List (Judged × ℕ)) (s : Judged × ℕ) (n : ℕ) (more : List Judged) → find (stops asked) xs ≡ Some s → passes_on asked.kind (first_part asked) s ≡ true → find (decides (second_part asked)) (with_totals 0 (results_in (after_first (stops asked) xs))) ≡ None

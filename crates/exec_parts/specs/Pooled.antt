@@ -259,10 +259,6 @@ queued_again t (AfterPoll.Requeue r) w =
     if t == w.root then record w { root_ready = Some r } else record w { hand = Some r; place = at.Push pushes.LoadPushHead push.Pick }
 queued_again t _ w = w
 
--- a message wakes the root
-abbrev pub IsRootMail : Message Subject Subject → Type 0
-IsRootMail m = m ≡ Message.WakeRoot
-
 -- THE RING
 
 -- so many wakes are raised in the ring

@@ -21,11 +21,6 @@ module _ {B : Type 0} where
   abbrev pub HasChair : ℕ → Shared B → Chair → Type 0
   HasChair i s chair = slice_get s.seats.items i ≡ Some chair
 
-  -- nothing that can be seen has changed; a list may have other memory
-  pub record SameShared (s s' : Shared B) : Type 0 where
-    pub kept : s' ≡ record s { seats = s'.seats }
-    pub seats : s'.seats.items ≡ s.seats.items
-
   -- the wake word of worker i has become this, and nothing else has changed
   pub record TurnsWord (i : ℕ) (s s' : Shared B) (word : PureWord) : Type 0 where
     pub kept : s' ≡ record s { seats = s'.seats }

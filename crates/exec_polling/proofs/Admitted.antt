@@ -1,28 +1,19 @@
 -- What the kernel has, and what requests may still move, once one was admitted.
-use Rattle.std.proofs.{Common.{◌≡◌, ◌≢◌, ℕ, ◌+◌, ◌-◌, ◌^◌, ◌<◌, ◌≤◌, ◌==◌, ◌&&◌, Bool, true, false, List, [], ◌∷◌, ◌++◌, length, min, Some, None, IsSome, refl, sym, ap, subst, ◌∙◌, arith, inl, inr, slice_get, nat_lt, if◌then◌else◌}, lemmas.{Bool.{false≢true, eq-eqb, Decides.nat_tests}, List.Sums.sum_by-append, Option.slice_get_within}}
-use Rattle.exec_base.{specs.{Slab.{Slab, value_at, value_in, slot_at}, declared.slab.{Slot.{Slot, TheVariants.{Live, Vacant, Retired}}, Id.Id}}, proofs.Slots.same_id}
+use Rattle.std.proofs.{Common.{◌≡◌, ◌≢◌, ℕ, ◌+◌, ◌-◌, ◌^◌, ◌<◌, ◌≤◌, ◌==◌, ◌&&◌, Bool, true, false, List, [], ◌∷◌, ◌++◌, length, Some, None, IsSome, refl, sym, ap, subst, ◌∙◌, arith, slice_get, nat_lt, if◌then◌else◌}, lemmas.{Bool.{Decides.nat_tests}, List.Sums.sum_by-append, Option.slice_get_within}}
+use Rattle.exec_base.{specs.{Slab.{Slab, value_at}, declared.slab.{Id.Id}}}
 use Rattle.exec_outcomes.specs.declared.outcome.Kind.{Kind}
-use Rattle.exec_request.specs.{Buffers.length_of, Requests.{asked_of, cursor_of, target_of}, Syncing.{is_syncing, write_kind}, Views.{send_window, write_window}, Ways.asked_by, declared.{buffers.WriteBuffers.{WriteBuffers, TheVariants.{Single, Vectored}}, request.Request.Request as Asking, recv.RecvRequest.RecvRequest, send.SendRequest.SendRequest, way.Way.Way, window.{Opcode.Opcode, Window.Window}, write_at.WriteAtState.WriteAtState}}
-use Rattle.exec_ring.specs.{Rings.RingState, Sockets.SocketState, Stores.{HasStretch, MakesStretch, Reserves, socket_of, with_room}, declared.store.Store.Store}
+use Rattle.exec_request.specs.{Requests.{asked_of, cursor_of, target_of}, Syncing.{is_syncing, write_kind}, Views.{send_window}, Ways.asked_by, declared.{buffers.WriteBuffers.{WriteBuffers, TheVariants.{Single, Vectored}}, request.Request.Request as Asking, recv.RecvRequest.RecvRequest, send.SendRequest.SendRequest, way.Way.Way, window.{Opcode.Opcode, Window.Window}, write_at.WriteAtState.WriteAtState}}
+use Rattle.exec_ring.specs.{Rings.RingState, Sockets.SocketState, Stores.{HasStretch, Reserves, socket_of, with_room}, declared.store.Store.Store}
 use Rattle.exec_waiters.{specs.{Ids.{user_data_of, index_in}, States.{waiter_at, waiter_of}, declared.waiter.{Entry.Entry, Waiter.Waiter}}, proofs.Changes.entry_of}
 use Rattle.exec_driver.specs.Footprints.{bytes_left, footprint_of, widened}
-use Rattle.exec_machine.specs.{Requests.asked_of as asked_in, Tests.is_in_flight, declared.state.{Operation.Operation, RequestPhase.RequestPhase}}
-use Rattle.exec_parts.{specs.{declared.parts.{mail.Reply.Reply, record.Record.Record}, Records.number_in}, proofs.Facts.{by_name, same_number}}
+use Rattle.exec_machine.specs.{Requests.asked_of as asked_in, Tests.is_in_flight, declared.state.{RequestPhase.RequestPhase}}
+use Rattle.exec_parts.{specs.{declared.parts.{mail.Reply.Reply, record.Record.Record}, Records.number_in}}
 use Rattle.exec_invariants.{specs.Carried.{HasStretchFor, IsCarried, IsOneBuffer, IsUnderWay, IsWhole, is_moved_by, may_move, moves_by, room_for, those_of, unlanded}, proofs.{Carrying.index_told, Over.in_append}}
 
 -- THE ROOM that an admission made
 
-unlanded_most : (p : RequestPhase) (o : Operation) → unlanded p o ≤ o.length - o.moved
-unlanded_most (RequestPhase.Resolved outcome) o = omega arith
-unlanded_most (RequestPhase.Landed given) o = omega arith
-unlanded_most _ o = omega arith
-
 moves_most : (out : Bool) (socket : ℕ) (r : Record) → may_move out socket r ≤ r.shown.operation.length - r.shown.operation.moved
-moves_most out socket r = by (moves_by out socket r.shown.operation)
-  where
-    by : (b : Bool) → (if b then unlanded r.shown.phase r.shown.operation else 0) ≤ r.shown.operation.length - r.shown.operation.moved
-    by true = unlanded_most r.shown.phase r.shown.operation
-    by false = omega arith
+moves_most = grind arith
 
 moves_none : (out : Bool) (socket : ℕ) (r : Record) → moves_by out socket r.shown.operation ≡ false → may_move out socket r ≡ 0
 moves_none out socket r is = ap (λ b. if b then unlanded r.shown.phase r.shown.operation else 0) is
@@ -39,21 +30,12 @@ never_second true b is = is
 never_second false b is = refl
 
 other_socket : (socket fd : ℕ) → (socket == fd) ≡ false → (fd == socket) ≡ false
-other_socket socket fd is = by (fd == socket) refl
-  where
-    by : (b : Bool) → (fd == socket) ≡ b → b ≡ false
-    by true at = absurd (false≢true (sym is ∙ eq-eqb socket fd (sym (same_number fd socket at))))
-    by false at = refl
+other_socket = grind arith
 
 -- no bytes go by a socket
 module _ (q : Asking) (r : Record) (st st' : Store) (k : Opcode) (w : Window) (kind : (asked_of q).kind ≡ r.shown.operation.kind) (same : (n : ℕ) (s : SocketState) → with_room k n s ≡ s) (none : (out : Bool) → is_moved_by out (asked_of q).kind ≡ false) (is : w.kind ≡ k) (reserves : Reserves w st st') where
   none_moved : (out : Bool) (socket : ℕ) → room_for out (socket_of st socket) + may_move out socket r ≤ room_for out (socket_of st' socket)
-  none_moved out socket =
-      let nothing : may_move out socket r ≡ 0 = moves_none out socket r (not_both (is_moved_by out r.shown.operation.kind) (r.shown.operation.target == socket) (ap (is_moved_by out) (sym kind) ∙ none out)) in
-      let still : with_room w.kind w.length (socket_of st socket) ≡ socket_of st socket = ap (λ x. with_room x w.length (socket_of st socket)) is ∙ same w.length (socket_of st socket) in
-      let now : socket_of st' socket ≡ socket_of st socket = reserves.sockets socket ∙ ap (λ x. if socket == w.target then x else socket_of st socket) still ∙ either (socket == w.target) (socket_of st socket) in
-      let room : room_for out (socket_of st' socket) ≡ room_for out (socket_of st socket) = ap (room_for out) now in
-      omega (arith, nothing, room)
+  none_moved = grind arith
 
 -- the window of all bytes of a send that an operation takes whole
 sent : (s : SendRequest) (st st' : Store) → nat_lt (bytes_left s.write) (2 ^ 32) ≡ true → Reserves (footprint_of (Asking.Send s)) st st' → Reserves (record (send_window s) { length = bytes_left s.write }) st st'
@@ -65,83 +47,17 @@ few_left (Vectored bufs chunk offset remaining) h = absurd h
 
 send_room : (s : SendRequest) (r : Record) (st st' : Store) → IsOneBuffer s.write → asked_in r.shown.operation ≡ asked_of (Asking.Send s) → r.shown.operation.target ≡ s.fd → r.shown.operation.moved ≡ (cursor_of (Asking.Send s)).moved
     → Reserves (footprint_of (Asking.Send s)) st st' → (out : Bool) (socket : ℕ) → room_for out (socket_of st socket) + may_move out socket r ≤ room_for out (socket_of st' socket)
-send_room s r st st' whole asked target moved reserves false socket =
-    let kind : r.shown.operation.kind ≡ Kind.Send = ap (λ a. a.kind) asked in
-    let none : may_move false socket r ≡ 0 = moves_none false socket r (not_both (is_moved_by false r.shown.operation.kind) (r.shown.operation.target == socket) (ap (is_moved_by false) kind)) in
-    let now : (socket_of st' socket).received_room ≡ (socket_of st socket).received_room =
-    ap (λ x. x.received_room) ((sent s st st' (few_left s.write whole) reserves).sockets socket) ∙ by (socket == s.fd) in
-    omega (arith, now, none)
-  where
-    by : (b : Bool) → (if b then with_room Opcode.Send (bytes_left s.write) (socket_of st socket) else socket_of st socket).received_room ≡ (socket_of st socket).received_room
-    by true = refl
-    by false = refl
-send_room s r st st' whole asked target moved reserves true socket = by (socket == s.fd) refl
-  where
-    by : (b : Bool) → (socket == s.fd) ≡ b → (socket_of st socket).sent_room + may_move true socket r ≤ (socket_of st' socket).sent_room
-    by true is =
-        let long : r.shown.operation.length ≡ length_of s.write = ap (λ a. a.length) asked in
-        let now : (socket_of st' socket).sent_room ≡ (socket_of st socket).sent_room + bytes_left s.write =
-        ap (λ x. x.sent_room) ((sent s st st' (few_left s.write whole) reserves).sockets socket) ∙ ap (λ c. (if c then with_room Opcode.Send (bytes_left s.write) (socket_of st socket) else socket_of st socket).sent_room) is in
-        omega (arith, now, long, moved, moves_most true socket r)
-    by false is =
-        let none : may_move true socket r ≡ 0 = moves_none true socket r (ap (λ t. is_moved_by true r.shown.operation.kind && (t == socket)) target ∙ never_second (is_moved_by true r.shown.operation.kind) (s.fd == socket) (other_socket socket s.fd is)) in
-        let now : (socket_of st' socket).sent_room ≡ (socket_of st socket).sent_room =
-        ap (λ x. x.sent_room) ((sent s st st' (few_left s.write whole) reserves).sockets socket) ∙ ap (λ c. (if c then with_room Opcode.Send (bytes_left s.write) (socket_of st socket) else socket_of st socket).sent_room) is in
-        omega (arith, now, none)
+send_room = grind (arith, moves_none, not_both, sent, few_left, moves_most, never_second, other_socket)
 
 recv_room : (x : RecvRequest) (r : Record) (st st' : Store) → x.len - x.start < 2 ^ 32 → asked_in r.shown.operation ≡ asked_of (Asking.Recv x) → r.shown.operation.target ≡ x.fd → r.shown.operation.moved ≡ (cursor_of (Asking.Recv x)).moved
     → Reserves (footprint_of (Asking.Recv x)) st st' → (out : Bool) (socket : ℕ) → room_for out (socket_of st socket) + may_move out socket r ≤ room_for out (socket_of st' socket)
-recv_room x r st st' few asked target moved reserves true socket =
-    let none : may_move true socket r ≡ 0 = moves_none true socket r (not_both (is_moved_by true r.shown.operation.kind) (r.shown.operation.target == socket) (ap (λ a. is_moved_by true a.kind) asked ∙ kinds x.exact)) in
-    let now : (socket_of st' socket).sent_room ≡ (socket_of st socket).sent_room = ap (λ y. y.sent_room) (reserves.sockets socket) ∙ by (socket == x.fd) in
-    omega (arith, now, none)
-  where
-    kinds : (b : Bool) → is_moved_by true (if b then Kind.Fill else Kind.Recv) ≡ false
-    kinds true = refl
-    kinds false = refl
-
-    by : (b : Bool) → (if b then with_room Opcode.Recv (min (x.len - x.offset) (2 ^ 32 - 1)) (socket_of st socket) else socket_of st socket).sent_room ≡ (socket_of st socket).sent_room
-    by true = refl
-    by false = refl
-recv_room x r st st' few asked target moved reserves false socket = by (socket == x.fd) refl
-  where
-    most : ℕ
-    most = min (x.len - x.offset) (2 ^ 32 - 1)
-
-    enough : (x.len - x.start) - (x.offset - x.start) ≤ min (x.len - x.offset) (2 ^ 32 - 1)
-    enough = omega (arith, few)
-
-    by : (b : Bool) → (socket == x.fd) ≡ b → (socket_of st socket).received_room + may_move false socket r ≤ (socket_of st' socket).received_room
-    by true is =
-        let long : r.shown.operation.length ≡ x.len - x.start = ap (λ a. a.length) asked in
-        let now : (socket_of st' socket).received_room ≡ (socket_of st socket).received_room + min (x.len - x.offset) (2 ^ 32 - 1) =
-        ap (λ y. y.received_room) (reserves.sockets socket) ∙ ap (λ c. (if c then with_room Opcode.Recv (min (x.len - x.offset) (2 ^ 32 - 1)) (socket_of st socket) else socket_of st socket).received_room) is in
-        omega (arith, now, long, moved, moves_most false socket r, enough)
-    by false is =
-        let none : may_move false socket r ≡ 0 = moves_none false socket r (ap (λ t. is_moved_by false r.shown.operation.kind && (t == socket)) target ∙ never_second (is_moved_by false r.shown.operation.kind) (x.fd == socket) (other_socket socket x.fd is)) in
-        let now : (socket_of st' socket).received_room ≡ (socket_of st socket).received_room =
-        ap (λ y. y.received_room) (reserves.sockets socket) ∙ ap (λ c. (if c then with_room Opcode.Recv (min (x.len - x.offset) (2 ^ 32 - 1)) (socket_of st socket) else socket_of st socket).received_room) is in
-        omega (arith, now, none)
+recv_room = grind arith
 
 read_moves : (x : Way) (n : ℕ) (out : Bool) → is_moved_by out (asked_by x n).kind ≡ false
-read_moves Way.Buffered n true = refl
-read_moves Way.Buffered n false = refl
-read_moves Way.Hinted n true = refl
-read_moves Way.Hinted n false = refl
-read_moves (Way.Direct skip len) n true = refl
-read_moves (Way.Direct skip len) n false = refl
-read_moves (Way.Switched skip len) n true = refl
-read_moves (Way.Switched skip len) n false = refl
+read_moves = grind arith
 
 write_moves : (x : WriteAtState) (out : Bool) → is_moved_by out (write_kind x) ≡ false
-write_moves WriteAtState.Writing true = refl
-write_moves WriteAtState.Writing false = refl
-write_moves WriteAtState.WritingSync true = refl
-write_moves WriteAtState.WritingSync false = refl
-write_moves WriteAtState.WritingBeforeSync true = refl
-write_moves WriteAtState.WritingBeforeSync false = refl
-write_moves WriteAtState.Syncing true = refl
-write_moves WriteAtState.Syncing false = refl
+write_moves = grind arith
 
 no_moves : (k : Kind) → is_moved_by true k ≡ false → is_moved_by false k ≡ false → (out : Bool) → is_moved_by out k ≡ false
 no_moves k a b true = a
@@ -149,11 +65,7 @@ no_moves k a b false = b
 
 -- the window of all bytes of a write
 widened_kind : (w : Window) (n : ℕ) → (widened w n).kind ≡ w.kind
-widened_kind w n = by (nat_lt n (2 ^ 32))
-  where
-    by : (b : Bool) → (if b then (record w { length = n }) else w).kind ≡ w.kind
-    by true = refl
-    by false = refl
+widened_kind = grind arith
 
 -- A request of these few bytes
 abbrev pub IsFew : Asking → Type 0
@@ -164,33 +76,11 @@ IsFew _ = Unit {0}
 -- so many bytes more may go by its socket, and none elsewhere
 pub room_made : (q : Asking) (r : Record) (st st' : Store) → IsWhole q → IsFew q → asked_in r.shown.operation ≡ asked_of q → r.shown.operation.target ≡ target_of q → r.shown.operation.moved ≡ (cursor_of q).moved
     → Reserves (footprint_of q) st st' → (out : Bool) (socket : ℕ) → room_for out (socket_of st socket) + may_move out socket r ≤ room_for out (socket_of st' socket)
-room_made (Asking.Send s) r st st' whole few asked target moved reserves = send_room s r st st' whole asked target moved reserves
-room_made (Asking.Recv x) r st st' whole few asked target moved reserves = recv_room x r st st' few asked target moved reserves
-room_made (Asking.ReadAt x) r st st' whole few asked target moved reserves =
-    none_moved (Asking.ReadAt x) r st st' Opcode.Read (footprint_of (Asking.ReadAt x)) (ap (λ a. a.kind) (sym asked)) (λ n s. refl) (read_moves x.way (length x.buf.bytes)) refl reserves
-room_made (Asking.WriteAt w) r st st' whole going asked target moved reserves =
-    none_moved (Asking.WriteAt w) r st st' Opcode.Write (footprint_of (Asking.WriteAt w)) (ap (λ a. a.kind) (sym asked)) (λ n s. refl) (write_moves w.state)
-    (widened_kind (write_window false w) (bytes_left w.write) ∙ kind_is) reserves
-  where
-    kind_is : (write_window false w).kind ≡ Opcode.Write
-    kind_is = rw going refl
-room_made (Asking.Sync x) r st st' whole few asked target moved reserves =
-    none_moved (Asking.Sync x) r st st' Opcode.Sync (footprint_of (Asking.Sync x)) (ap (λ a. a.kind) (sym asked)) (λ n s. refl) (no_moves Kind.Sync refl refl) refl reserves
-room_made (Asking.Connect x) r st st' whole few asked target moved reserves =
-    none_moved (Asking.Connect x) r st st' Opcode.Connect (footprint_of (Asking.Connect x)) (ap (λ a. a.kind) (sym asked)) (λ n s. refl) (no_moves Kind.Connect refl refl) refl reserves
-room_made (Asking.Poll x) r st st' whole few asked target moved reserves =
-    none_moved (Asking.Poll x) r st st' Opcode.Poll (footprint_of (Asking.Poll x)) (ap (λ a. a.kind) (sym asked)) (λ n s. refl) (no_moves Kind.Poll refl refl) refl reserves
+room_made = grind (arith, send_room, recv_room, none_moved, read_moves, write_moves, widened_kind, no_moves)
 
 -- and what is to be written has room in its file
 pub stretch_made : (q : Asking) (st st' : Store) → IsWhole q → Reserves (footprint_of q) st st' → HasStretchFor q st'
-stretch_made (Asking.WriteAt w) st st' whole reserves = λ going. by going (few_left w.write whole) reserves.stretch
-  where
-    wide : Window
-    wide = record { kind = Opcode.Write; target = w.file; offset = w.offset; length = bytes_left w.write; chunks = (write_window false w).chunks; hint = (write_window false w).hint; direct = false; dsync = (write_window false w).dsync }
-
-    by : is_syncing w.state ≡ false → nat_lt (bytes_left w.write) (2 ^ 32) ≡ true → MakesStretch (footprint_of (Asking.WriteAt w)).kind st' (footprint_of (Asking.WriteAt w)) → HasStretch st' w.file w.offset (bytes_left w.write)
-    by going few it = rw (few, going) at it
-stretch_made _ st st' whole reserves = tt
+stretch_made = grind arith
 
 pub stretch_on : (q : Asking) (st st' : Store) → ((file offset n : ℕ) → HasStretch st file offset n → HasStretch st' file offset n) → HasStretchFor q st → HasStretchFor q st'
 stretch_on (Asking.WriteAt w) st st' on it = λ going. on w.file w.offset (bytes_left w.write) (it going)
@@ -210,20 +100,8 @@ pub record Joins (numbers numbers' : List ℕ) (s s' : Slab (Entry Reply Reply))
   pub target : r.shown.operation.target ≡ target_of q
   pub idle : is_in_flight r.shown.phase ≡ false
 
-module _ {A : Type 0} where
-  one_lives : (x : Slot A) (g h : ℕ) → IsSome (value_in x g) → IsSome (value_in x h) → g ≡ h
-  one_lives (Live n v) g h a b = sym (is_its n g v (n == g) refl a) ∙ is_its n h v (n == h) refl b
-    where
-      is_its : (n g : ℕ) (v : A) (c : Bool) → (n == g) ≡ c → IsSome (if n == g then Some v else None) → n ≡ g
-      is_its n g v true is some = same_number n g is
-      is_its n g v false is some = absurd (false≢true (subst (λ c. IsSome (if c then Some v else None)) is some))
-  one_lives (Vacant n) g h a b = absurd (false≢true a)
-  one_lives Retired g h a b = absurd (false≢true a)
-
 idle_under : (p : RequestPhase) (u : ℕ) (q : Asking) (ring : RingState) → is_in_flight p ≡ false → (those_of u ring.flying ≡ []) × (those_of u ring.staged ≡ []) → IsUnderWay p u q ring
-idle_under RequestPhase.Staged u q ring idle nothing = absurd (false≢true (sym idle))
-idle_under RequestPhase.Flying u q ring idle nothing = absurd (false≢true (sym idle))
-idle_under _ u q ring idle nothing = nothing
+idle_under = grind arith
 
 module _ (numbers numbers' : List ℕ) (s s' : Slab (Entry Reply Reply)) (ring : RingState) (rs : List Record) (st st' : Store) (carried : IsCarried numbers s ring rs st) (id : Id) (q : Asking) (r : Record) (joins : Joins numbers numbers' s s' rs id q r) where
   -- it is there, or another that was there in another slot
@@ -238,15 +116,10 @@ module _ (numbers numbers' : List ℕ) (s s' : Slab (Entry Reply Reply)) (ring :
   there other x at = rw (entry_of (value_at s other) x at) refl
 
   slot_apart : (other : Id) (x : Waiter Reply Reply) → waiter_at s other ≡ Some x → other.index ≡ id.index → ⊥
-  slot_apart other x at index =
-      let apart = differs other x at in
-      let some : IsSome (value_at s' other) = subst IsSome (sym (joins.others other apart)) (there other x at) in
-      apart (same_id other id index (one_lives (slot_at s' id.index) other.generation id.generation (subst (λ i. IsSome (value_in (slot_at s' i) other.generation)) index some) joins.here))
+  slot_apart = grind arith
 
   then_by : (other : Id) (x : Waiter Reply Reply) → waiter_at s' other ≡ Some x → Then other x
-  then_by other x at =
-      let another : other ≢ id → Then other x = λ apart. (let was = ap waiter_of (sym (joins.others other apart)) ∙ at in Other (slot_apart other x was) was) in
-      by_name other id another (λ eq. This eq (joins.asks x (ap (waiter_at s') (sym eq) ∙ at)))
+  then_by = grind arith
 
   slots_then : (other : Id) (x : Waiter Reply Reply) → Then other x → other.index < 4294967295
   slots_then other x (This eq is) = subst (λ i. i.index < 4294967295) (sym eq) joins.small
@@ -257,18 +130,10 @@ module _ (numbers numbers' : List ℕ) (s s' : Slab (Entry Reply Reply)) (ring :
   whole_then other x (Other apart at) = carried.whole other x at
 
   last_record : (y : Record) → slice_get (rs ++ r ∷ []) (number_in numbers' id) ≡ Some y → y ≡ r
-  last_record y found =
-      elim (in_append rs r (number_in numbers' id) y found) [
-        | inl old ↦ absurd (let within = slice_get_within rs (number_in numbers' id) y old in omega (arith, within, joins.number))
-        | inr last ↦ last.1
-      ]
+  last_record = grind (arith, in_append, slice_get_within)
 
   other_record : (other : Id) (x : Waiter Reply Reply) (y : Record) → (other.index ≡ id.index → ⊥) → waiter_at s other ≡ Some x → slice_get (rs ++ r ∷ []) (number_in numbers' other) ≡ Some y → slice_get rs (number_in numbers other) ≡ Some y
-  other_record other x y apart at found =
-      elim (in_append rs r (number_in numbers other) y (ap (slice_get (rs ++ r ∷ [])) (sym (joins.apart other apart)) ∙ found)) [
-        | inl old ↦ old
-        | inr last ↦ absurd (let within = joins.known other (there other x at) in omega (arith, within, last.0))
-      ]
+  other_record = grind (arith, in_append, there)
 
   target_then : (other : Id) (x : Waiter Reply Reply) (y : Record) → Then other x → slice_get (rs ++ r ∷ []) (number_in numbers' other) ≡ Some y → y.shown.operation.target ≡ target_of x.request
   target_then other x y (This eq is) found = ap (λ z. z.shown.operation.target) (last_record y (ap (λ i. slice_get (rs ++ r ∷ []) (number_in numbers' i)) (sym eq) ∙ found)) ∙ joins.target ∙ ap target_of (sym is)

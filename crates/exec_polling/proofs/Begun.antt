@@ -5,7 +5,7 @@ use Rattle.exec_base.specs.{Slab.{Slab, IsPast, value_at}, declared.slab.Id.Id}
 use Rattle.exec_task.specs.{Phases.runnable_of, declared.runnable.Runnable.Runnable}
 use Rattle.exec_driver.specs.{Driving.Driving, Lists.no_lists, Steps.IsFresh}
 use Rattle.exec_ring.specs.Rings.{fresh as fresh_ring}
-use Rattle.exec_time.specs.{Wheel.fresh, Layouts.slots_of, declared.timers.Sleeper.Sleeper as Sleeping}
+use Rattle.exec_time.specs.{Wheel.fresh, declared.timers.Sleeper.Sleeper as Sleeping}
 use Rattle.exec_waiters.specs.{States.waiter_at, Told.is_untold, declared.{deferred.Deferred.Deferred, waiter.Waiter.Waiter}}
 use Rattle.exec_machine.specs.{declared.{config.Configuration.Configuration, state.Sleeper.Sleeper}, Tasks.new_own, Tests.{is_asleep, is_open, is_resolved, has_ended}, Ranges.{ring_size, horizon, wheel_slots}}
 use Rattle.exec_moves.specs.{Plays.first_desk, Pop.shard_count, State.no_wake_poll}
@@ -38,10 +38,7 @@ by_length [] h = refl
 by_length (x ∷ xs) h = absurd (grind (arith, nat_tests))
 
 by_some : (o : Option ℕ) (P : ℕ → Type 0) (k : ℕ) → o ≡ Some k → IsSomeAnd o P → P k
-by_some None P k is h = absurd (cc)
-by_some (Some x) P k is h =
-    let same : x ≡ k = cc in
-    subst P same h
+by_some = grind arith
 
 not_both_bits : (b : Bool) → (b && false) ≡ false
 not_both_bits true = refl
@@ -65,11 +62,7 @@ pub record IsEmpty (c : Configuration) (now : ℕ) (d : Driving Reply Reply) : T
   pub armed : d.armed ≡ false
 
 pub driver_empty : (c : Configuration) (now : ℕ) (d : Driving Reply Reply) → MayBegin c → IsFresh d (ring_size c) (horizon c) c.tick now → IsEmpty c now d
-driver_empty c now d r made =
-    let new = by_some (slots_of (horizon c) c.tick)
-    (λ n. (d.requests.slots ≡ []) × (d.requests.vacant ≡ []) × (d.requests.first ≡ 0) × (d.wheel ≡ fresh (horizon c) c.tick now n) × (d.ring ≡ record (fresh_ring (ring_size c)) { places = 1 }) × (d.lists ≡ no_lists) × (d.cancels_under_way ≡ 0) × (d.armed ≡ false))
-    (wheel_slots c) (slots_of_wheel c r) made in
-    record { slots = new.0; vacant = new.1; first = new.2; wheel = new.3; ring = new.4; lists = new.5; armed = new.7 }
+driver_empty = grind (arith, by_some, slots_of_wheel)
 
 -- what is left to be told: nothing
 pub record IsQuiet (left : Deferred Reply Reply) : Type 0 where
@@ -80,27 +73,11 @@ pub record IsQuiet (left : Deferred Reply Reply) : Type 0 where
   pub results : left.results.items ≡ []
 
 pub left_quiet : (left : Deferred Reply Reply) → is_untold left ≡ true → IsQuiet left
-left_quiet left h =
-    let e = and_parts _ _ h in
-    let d = and_parts _ _ e.0 in
-    let c = and_parts _ _ d.0 in
-    let b = and_parts _ _ c.0 in
-    record {
-      wakes = by_length left.notes.wakes.items b.0;
-      completions = by_length left.notes.completions.items b.1;
-      outputs = by_length left.outputs.items c.1;
-      resources = by_length left.resources.items d.1;
-      results = by_length left.results.items e.1;
-    }
+left_quiet = grind (arith, and_parts, by_length)
 
 -- a mailbox without mail
 pub fresh_mailbox : (pool : Bool) (chair : Chair) → IsFreshSeat pool chair → IsMailbox chair.mailbox
-fresh_mailbox pool chair fresh =
-    record {
-      roots = rw fresh.inbox (omega arith);
-      empty = λ h. ap (λ x. x.messages) fresh.inbox;
-      place = λ h. rw fresh.inbox (omega arith);
-    }
+fresh_mailbox = grind arith
 
 -- WHAT IS SHOWN
 
@@ -118,17 +95,10 @@ module _ (c : Configuration) (role : Role) (i root : ℕ) (r : Runnable) (now : 
   visible_begun = ap visible begins.parts ∙ rw its_driver.ring refl
 
   pub own_begun : own_of w ≡ new_own now root
-  own_begun =
-      let d = its_driver in
-      let n = begins.names in
-      ap own_of begins.parts ∙ rw (d.lists, d.slots, n.untold, n.ended, n.unreleased, begins.letters.0, begins.letters.1) refl
+  own_begun = grind arith
 
   pub desk_begun : desk_of w ≡ first_desk c i
-  desk_begun =
-      let d = its_driver in
-      let quiet = its_left in
-      ap desk_of begins.parts
-      ∙ rw (quiet.wakes, quiet.outputs, quiet.completions, quiet.results, d.ring, d.armed, d.slots, d.vacant, begins.asleep.0, begins.asleep.1, begins.letters.0, begins.letters.1) refl
+  desk_begun = grind (arith, its_driver, its_left)
 
 -- WHAT HOLDS
 

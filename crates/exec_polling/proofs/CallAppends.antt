@@ -6,9 +6,9 @@ use Rattle.exec_machine.specs.{declared.event.Event.{Event, TheVariants.Turn}, C
 use Rattle.exec_moves.specs.{Global.appended_if, MoveOfCaller.call_on, Push.in_hand, Thing.set_global}
 use Rattle.exec_moves.specs.declared.handing.CallPlace.TheVariants as call
 use Rattle.exec_moves.specs.declared.handing.InGlobal.TheVariants as global
-use Rattle.exec_parts.{specs.{declared.parts.{shared.Shared.Shared, task_slot.TaskSlot.TaskSlot}, Spots.Spot, View.{Views, common_of, tasks_of, things_with}}, proofs.Facts.{or_right, some_of}}
+use Rattle.exec_parts.{specs.{declared.parts.{shared.Shared.Shared, task_slot.TaskSlot.TaskSlot}, Spots.Spot, View.{Views, common_of, tasks_of, things_with}}, proofs.Facts.{some_of}}
 use Rattle.exec_polling.{specs.{declared.caller.Caller.Caller, Calling.{CallSound, CallSteps, HasCallWhole, desk_of_caller, hands_on_in, has_count_in, is_free, place_after_append, with_caller}}, proofs.Outsiders.{beside_shares, call_turned, sound_shares}}
-use Rattle.exec_invariants.{specs.{Places.one_if, Whole.{HasOne, IsGenuine, IsWhole, Profile, claimed_count, may_let_go, runnables_in, stock}}, proofs.{Appending.{few_enough, hand_seen, not_among}, Aside.seats_same, Onces.{has_at_most, has_fewer}, Thieves.in_both}}
+use Rattle.exec_invariants.{specs.{Places.one_if, Whole.{HasOne, IsGenuine, IsWhole, Profile, claimed_count, may_let_go, runnables_in, stock}}, proofs.{Appending.{few_enough, hand_seen, not_among}, Aside.seats_same, Onces.{has_at_most}, Thieves.in_both}}
 
 module _ {B : Type 0} where
   -- of runnables that parties have or share there is one of each task
@@ -76,38 +76,10 @@ module _ {B L : Type 0} (left : B → L) (spot : L → Option Said → Spot) (c 
   -- THE BALANCES
 
   counts_still : (gone : Bool) (others : Profile) → IsWhole (with_caller others c) s → (others.counts + one_if (has_count_in (place_after_append gone))) + claimed_count others s ≡ s.idle.count
-  counts_still gone others whole =
-      let was : (others.counts + one_if (has_count_in c.place)) + claimed_count others s ≡ s.idle.count = whole.counts in
-      let a : one_if (has_count_in c.place) ≡ 0 = rw here refl in
-      omega (arith, was, a, b gone)
-    where
-      b : (gone : Bool) → one_if (has_count_in (place_after_append gone)) ≡ 0
-      b true = refl
-      b false = refl
+  counts_still = grind arith
 
   whole_gone : s.global.closed ≡ true → (others : Profile) → IsWhole (with_caller others c) s → IsWhole (with_caller others (caller_by true)) (record s { global = queue_by true })
-  whole_gone is others whole =
-      record {
-        runnables = λ t slot there home.
-            has_fewer (may_let_go s) slot.cell.phase ((others.runnables t + runnables_in t (option_to_list c.hand)) + stock t s) ((others.runnables t + 0) + stock t s) (or_right s.set.closed s.global.closed is) (omega arith) (whole.runnables t slot there home);
-        polls = whole.polls;
-        claims = whole.claims;
-        counts = counts_still true others whole;
-        bits = whole.bits;
-        set = whole.set;
-        queued_here = whole.queued_here;
-        queued_there = whole.queued_there;
-        places = whole.places;
-        made = λ t more. let none = whole.made t more in (fewer t others none.0, none.1);
-        unclaimed = whole.unclaimed;
-        in_pool = whole.in_pool;
-        pool = whole.pool;
-        gates = whole.gates;
-        holding = whole.holding;
-      }
-    where
-      fewer : (t : ℕ) (others : Profile) → (others.runnables t + runnables_in t (option_to_list c.hand)) + stock t s ≡ 0 → (others.runnables t + 0) + stock t s ≡ 0
-      fewer t others none = omega (arith, none)
+  whole_gone = grind arith
 
   whole_put : (others : Profile) → IsWhole (with_caller others c) s → IsWhole (with_caller others (caller_by false)) (record s { global = queue_by false })
   whole_put others whole =
@@ -132,10 +104,7 @@ module _ {B L : Type 0} (left : B → L) (spot : L → Option Said → Spot) (c 
 
   -- what stands in the queue then, as it is seen
   shows : (gone : Bool) → appended_if gone (tasks_of s.global.values) (in_hand (option_map (λ r. r.task.0) c.hand)) ≡ tasks_of (queue_by gone).values
-  shows true = refl
-  shows false =
-      let number : Runnable → ℕ = λ r. r.task.0 in
-      ap (λ xs. tasks_of s.global.values ++ xs) (hand_seen c.hand) ∙ sym (map-append number s.global.values (option_to_list c.hand))
+  shows = grind (arith, hand_seen, map-append)
 
   done : (gone : Bool) → s.global.closed ≡ gone → is_free (place_after_append gone) ≡ false → hands_on_in (place_after_append gone) ≡ false → e ≡ Turn
       → ((others : Profile) → IsWhole (with_caller others c) s → IsWhole (with_caller others (caller_by gone)) (record s { global = queue_by gone }))

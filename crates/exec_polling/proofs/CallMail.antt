@@ -12,10 +12,7 @@ use Rattle.exec_polling.{specs.{declared.caller.Caller.Caller, Calling.{CallSoun
 use Rattle.exec_invariants.{specs.{Holding.{holder_of, nap_of, thing_of}, Whole.{IsWhole, Profile, hands_of}}, proofs.{Aside.HoldsIn, Dedicated.home_within as root_within, RootMail.holding_posted, Posting.{Arrival, IsArrival, arrival, asks_as, asks_by, chair_by, choice_by, event_as, event_by, inbox_seen, mailbox_by, posted_as, posted_shows, posted_spares, posting_as, root_message_as, seat_as, seat_by}, Seats.{chair_set, seat_there as seen_there}, Slots.task_there, SparedRecord.there_within, Turning.set_found}}
 
 same_queue : (a : Arrival) (chair : Chair) → (chair_by a chair).queue ≡ chair.queue
-same_queue Arrival.Shut chair = refl
-same_queue Arrival.LeftOut chair = refl
-same_queue Arrival.First chair = refl
-same_queue Arrival.More chair = refl
+same_queue = grind arith
 
 goes_by : (home : ℕ) (asks : Bool) → after_posting home asks ≡ (if asks then call.Signal signals.SetLatch home else call.Return)
 goes_by home true = refl

@@ -10,35 +10,23 @@ use Rattle.exec_moves.specs.declared.handing.CallPlace.TheVariants as call
 use Rattle.exec_moves.specs.declared.handing.InGlobal.TheVariants as global
 use Rattle.exec_parts.{specs.{declared.parts.{shared.Shared.Shared, task_slot.TaskSlot.TaskSlot}, Phased.is_complete, Pooled.woken_slot, Spots.Spot, View.{Views, common_of, phase_seen, task_seen, things_with}, Things.TurnsSlot}, proofs.{Facts.{both_true, by_number, not_same, same_thing, set_elsewhere, set_there}, Showing.{map_kept, map_set}}}
 use Rattle.exec_polling.{specs.{declared.caller.Caller.Caller, Calling.{CallAims, CallBeside, CallSound, CallSuits, CallWorks, HoldsForAll, WakesByCall, call_of, desk_of_caller, hands_on_in, has_count_in, is_free, with_call, with_caller, with_woken}}, proofs.Outsiders.{no_other, hears_same}}
-use Rattle.exec_invariants.{specs.{Hearing.Hears, Holding.holder_of, Places.one_if, Sound.{IsInHand, IsResting}, Spares.Spares, Whole.{HasOne, IsGenuine, IsLeftOver, IsQueuedOnce, IsWhole, Profile, claimed_count, duties_of, may_let_go, runnables_in, stock}}, proofs.{Onces.once_queued, PoolKept.{Redoes, pool_slot}, SlotTasks.{Keeps, genuine_set, homes_set, resting_set}, Slots.{spares_slot, task_there}}}
+use Rattle.exec_invariants.{specs.{Hearing.Hears, Holding.holder_of, Places.one_if, Sound.{IsInHand, IsResting}, Spares.Spares, Whole.{HasOne, IsGenuine, IsWhole, Profile, claimed_count, duties_of, may_let_go, runnables_in, stock}}, proofs.{PoolKept.{Redoes, pool_slot}, SlotTasks.{Keeps, genuine_set, homes_set, resting_set}, Slots.{spares_slot, task_there}}}
 
 module _ {B : Type 0} where
   -- THE PHASE
 
   polled_woken : (p : Phase B) → is_polled (woken p) ≡ is_polled p
-  polled_woken (Phase.Idle b) = refl
-  polled_woken (Phase.Queued b) = refl
-  polled_woken Phase.Running = refl
-  polled_woken Phase.Notified = refl
-  polled_woken Phase.Complete = refl
+  polled_woken = grind arith
 
   complete_woken : (p : Phase B) → is_complete (woken p) ≡ is_complete p
-  complete_woken (Phase.Idle b) = refl
-  complete_woken (Phase.Queued b) = refl
-  complete_woken Phase.Running = refl
-  complete_woken Phase.Notified = refl
-  complete_woken Phase.Complete = refl
+  complete_woken = grind arith
 
   -- the runnable of an idle task
   abbrev handed : Bool → TaskSlot B → Option Runnable
   handed idle slot = if idle then Some (runnable_of slot.cell) else None
 
   one_woken : (gone : Bool) (p : Phase B) (n m : ℕ) → m ≡ (if is_idle p then 1 else 0) → HasOne gone p n → HasOne gone (woken p) (n + m)
-  one_woken gone (Phase.Idle b) n m more one = once_queued gone (n + m) (omega (arith, more, one))
-  one_woken gone (Phase.Queued b) n m more one = let same : n ≡ n + m = omega (arith, more) in subst (IsQueuedOnce gone) same one
-  one_woken gone Phase.Running n m more one = omega (arith, more, one)
-  one_woken gone Phase.Notified n m more one = omega (arith, more, one)
-  one_woken gone Phase.Complete n m more one = let same : n ≡ n + m = omega (arith, more) in subst (IsLeftOver gone) same one
+  one_woken = grind arith
 
   -- WHAT THE WAKE LEAVES
 
@@ -184,21 +172,10 @@ module _ {B : Type 0} where
 
 module _ {B L : Type 0} (left : B → L) (spot : L → Option Said → Spot) where
   pub task_woken : (slot : TaskSlot B) → task_seen left spot (woken_slot slot) ≡ woken_task (task_seen left spot slot)
-  task_woken slot = by slot.cell.phase refl
-    where
-      by : (p : Phase B) → slot.cell.phase ≡ p → task_seen left spot (woken_slot slot) ≡ woken_task (task_seen left spot slot)
-      by (Phase.Idle b) is = rw is refl
-      by (Phase.Queued b) is = rw is refl
-      by Phase.Running is = rw is refl
-      by Phase.Notified is = rw is refl
-      by Phase.Complete is = rw is refl
+  task_woken = grind arith
 
   idle_seen : (p : Phase B) (i : ℕ) → is_idle_seen (phase_seen p i) ≡ is_idle p
-  idle_seen (Phase.Idle b) i = refl
-  idle_seen (Phase.Queued b) i = refl
-  idle_seen Phase.Running i = refl
-  idle_seen Phase.Notified i = refl
-  idle_seen Phase.Complete i = refl
+  idle_seen = grind arith
 
   pub free_call : (p : CallPlace) → is_free p ≡ true → p ≡ call.Nothing
   free_call call.Nothing h = refl

@@ -1,7 +1,7 @@
 -- A request comes in, with the next number.
-use Rattle.std.{proofs.{Common.{◌≡◌, ◌≢◌, ℕ, ◌+◌, ◌≤◌, Bool, true, false, Contains, List, [], ◌∷◌, cond, count_by, length, suc, Some, None, refl, ap, ◌∙◌, arith, slice_get, if◌then◌else◌}, lemmas.List.Sums.sum_by-cons}, specs.VecDeque.deque_capacity}
+use Rattle.std.{proofs.{Common.{◌≡◌, ◌≢◌, ℕ, ◌+◌, ◌≤◌, Bool, false, Contains, List, [], ◌∷◌, count_by, length, suc, Some, None, refl, arith, slice_get}, lemmas.List.Sums.sum_by-cons}, specs.VecDeque.deque_capacity}
 use Rattle.exec_base.specs.{Slab.{IsPast, next_id}, declared.slab.Id.Id}
-use Rattle.exec_outcomes.specs.{Accounts.is_durable, declared.outcome.Kind.Kind}
+use Rattle.exec_outcomes.specs.{declared.outcome.Kind.Kind}
 use Rattle.exec_request.specs.Requests.{deadline_of, gate_of}
 use Rattle.exec_waiters.specs.declared.{observer.Observer.TheVariants.Local, waiter.{Entry.TheVariants.Pending, Waiter.Waiter}}
 use Rattle.exec_driver.specs.{Driving.Driving, Placed.ListsRequests}
@@ -46,15 +46,8 @@ pub record IsIdle (p : RequestPhase) : Type 0 where
   pub idle : is_in_flight p ≡ false
 
 pub first_idle : (k : Kind) → IsIdle (first_phase k)
-first_idle k = by (is_durable k)
-  where
-    by : (b : Bool) → IsIdle (if b then RequestPhase.Gated else RequestPhase.Queued)
-    by true = record { open_still = refl; unstaged = refl; idle = refl }
-    by false = record { open_still = refl; unstaged = refl; idle = refl }
+first_idle = grind arith
 
 pub none_of : {X : Type 0} (p : X → Bool) (xs : List X) → ((x : X) → Contains xs x → p x ≡ false) → count_by p xs ≡ 0
 none_of p [] none = refl
-none_of p (x ∷ xs) none =
-    let one : Bool → ℕ = λ b. cond b 1 0 in
-    let here : one (p x) ≡ 0 = ap one (none x (0, omega arith, refl)) in
-    sum_by-cons (λ y. cond (p y) 1 0) x xs ∙ omega (arith, here, none_of p xs (λ y has. let few = has.1 in none y (suc has.0, omega (arith, few), has.2)))
+none_of p (x ∷ xs) none = grind (arith, sum_by-cons, none_of p xs (λ y has. let few = has.1 in none y (suc has.0, omega (arith, few), has.2)))

@@ -25,9 +25,7 @@ pub record HasNewcomer (i : ℕ) (x y : Profile) : Type 0 where
 
 same_sum : (f g : ℕ → ℕ) (a n : ℕ) → ((j : ℕ) → j < a + n → g j ≡ f j) → sum_by g (range_with_len a n) ≡ sum_by f (range_with_len a n)
 same_sum f g a zero same = refl
-same_sum f g a (suc n) same =
-    let rest = same_sum f g (a + 1) n (λ j within. same j (omega (arith, within))) in
-    sum_by-cons g a (range_with_len (a + 1) n) ∙ omega (arith, same a (omega arith), rest) ∙ sym (sum_by-cons f a (range_with_len (a + 1) n))
+same_sum f g a (suc n) same = grind (arith, sum_by-cons, same_sum f g (a + 1) n (λ j within. same j (omega (arith, within))))
 
 module _ {B : Type 0} where
   pub record JoinsRoot (s s' : Shared B) : Type 0 where

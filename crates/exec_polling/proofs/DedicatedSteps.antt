@@ -1,12 +1,12 @@
 -- The act by which a task makes a task with a worker of its own: the whole step.
-use Rattle.std.{proofs.{Common.{[], ◌≡◌, inl, inr, ℕ, zero, suc, ◌+◌, ◌<◌, ◌≤◌, ◌^◌, arith, true, false, List, ◌∷◌, ◌++◌, length, map, Option, Some, None, IsSome, IfOk, OnErr, Result, Ok, Err, refl, sym, ap, subst, ◌∙◌, slice_get, slice_set}, lemmas.{Bool.{false≢true}, List.{length-append, length-set, set-set}, Option.{slice_get_within}}}, specs.Vec.with_item}
+use Rattle.std.{proofs.{Common.{[], ◌≡◌, inl, inr, ℕ, zero, suc, ◌+◌, ◌<◌, ◌≤◌, ◌^◌, arith, true, false, List, ◌∷◌, ◌++◌, length, map, Option, Some, None, refl, sym, ap, subst, ◌∙◌, slice_get, slice_set}, lemmas.{List.{length-append, length-set, set-set}, Option.{slice_get_within}}}, specs.Vec.with_item}
 use Rattle.exec_base.specs.declared.{error.Error.Error, task_no.TaskNo.TaskNo}
 use Rattle.exec_task.specs.{Phases.{is_polled, runnable_of}, Sight.Sight, declared.{body.{Act.Act, Said.Said}}}
 use Rattle.exec_machine.specs.{Choice.Choice.Plain, declared.{config.{Configuration.Configuration, ScriptWord.ScriptWord}, event.Event.Event, state.{Waiting.Waiting}}, Mail.meets_closed, Progress.Plan, Tasks.{new_own}, Words.{moved_on}, World.{task_of}}
 use Rattle.exec_ring.specs.Stores.{Same as SameStore}
 use Rattle.exec_moves.specs.{Plays.first_desk, declared.place.{InPoll.InPoll, Place.Place}}
-use Rattle.exec_parts.{specs.{Records.numbers_held, declared.parts.{nursery.Nursery.Nursery, role.Role.Role, seat.Seat.Seat as Chair, shared.Shared.Shared, task_slot.TaskSlot.TaskSlot, worker.Worker.Worker}, Dedicated.{Begins as BeginsWorker, Dedicates, DedicatesIf, DedicatesNone, MakesDedicated, RefusesDedicated, root_slot}, Phased.is_complete, Roles.MayBegin, Scripts.{GoesOn, held_after, IsAnswer, IsAnswered, IsBorn, MayRunScript}, Spots.{Spot, spot_of}, View.{Views, body_in, common_of, desk_of, own_of, polls_seen, queue_at, seats_seen, task_seen, things_with, visible, word_at, inbox_at}, Things.TurnsSlot}, proofs.Facts.{same_thing, set_there}}
-use Rattle.exec_invariants.{specs.{Spares.{Spares, SparesMore}, Acting.{ActsAs, HasActed, Performs, PerformsAll, StepsOf, StepsWith}, Hearing.{CanHear, held_once_come}, Sound.SoundAt, Whole.HasWhole, Works.{Beside, Same}}, proofs.{Acting.{Leaves, act_leaves, acted, actor, acts_so, by_word, me_at, moved_seen, tells_on}, Pending.in_poll, Performing.{performs_on, same_slot, still_performs, unmoved_seen}, Slots.{IsEvent, task_there}}}
+use Rattle.exec_parts.{specs.{Records.numbers_held, declared.parts.{nursery.Nursery.Nursery, role.Role.Role, seat.Seat.Seat as Chair, shared.Shared.Shared, task_slot.TaskSlot.TaskSlot, worker.Worker.Worker}, Dedicated.{Begins as BeginsWorker, Dedicates, DedicatesIf, DedicatesNone, MakesDedicated, RefusesDedicated, root_slot}, Phased.is_complete, Roles.MayBegin, Scripts.{GoesOn, held_after, IsAnswer, IsAnswered, IsBorn, MayRunScript}, Spots.{Spot, spot_of}, View.{Views, common_of, desk_of, own_of, polls_seen, queue_at, seats_seen, task_seen, things_with, visible, word_at, inbox_at}, Things.TurnsSlot}, proofs.Facts.{same_thing, set_there}}
+use Rattle.exec_invariants.{specs.{Spares.{Spares, SparesMore}, Acting.{ActsAs, HasActed, Performs, PerformsAll, StepsOf, StepsWith}, Sound.SoundAt, Whole.HasWhole, Works.{Beside, Same}}, proofs.{Acting.{Leaves, act_leaves, acted, actor, acts_so, by_word, me_at, moved_seen, tells_on}, Performing.{same_slot, still_performs, unmoved_seen}, Slots.{IsEvent, task_there}}}
 use Rattle.exec_polling.proofs.{DedicatedHolds.{newcomer_sound, sound_grown, whole_with}, DedicatedWorks.{closed_move, dedicated_works, root_seen}, Begun.{desk_begun, fresh_visible, own_begun, visible_begun}, DedicatedJoins.{JoinsRoot, more_seats, spares_grown}, SpawnLists.{found_again, found_which, set_within}}
 
 -- BESIDE IT: the task was told, and then its worker joined
@@ -59,19 +59,7 @@ may_run n (suc i) some few = few
 
 module _ {B L : Type 0} (left : B → L) (runs : L → Plan → Option ℕ → Type 0) (holds : L → Option Said → List ℕ) (spot : L → Option Said → Spot) where
   performs_root : (p : Plan) (k i owner : ℕ) (body : B) (number : TaskNo) (new : TaskSlot B) → new ≡ root_slot number owner i body new → new.held.items ≡ [] → MayRunScript p.config.workers (Some i) → IsBorn runs holds spot p k (left body) → Performs left runs holds p new
-  performs_root p k i owner body number new is held may born =
-      let its : body_in new.cell.phase new.body ≡ Some body = ap (λ (o : TaskSlot B). body_in o.cell.phase o.body) is in
-      let told : new.told ≡ Some Said.Start = ap (λ (o : TaskSlot B). o.told) is in
-      let waiting : new.waiting ≡ Waiting.Nothing = ap (λ (o : TaskSlot B). o.waiting) is in
-      let home : new.home ≡ Some i = ap (λ (o : TaskSlot B). o.home) is in
-      let none : numbers_held new.held.items ≡ [] = ap numbers_held held in
-      let starts : (answer : Said) → CanHear new.told new.waiting answer → answer ≡ Said.Start = λ answer hears. subst (λ o. CanHear o new.waiting answer) told hears in
-      record {
-        runs_it = λ b answer its_body hears going. subst (λ y. runs (left y) p new.home) (same_thing body b (sym its ∙ its_body)) (subst (runs (left body) p) (sym home) (born.runs_it (Some i) may));
-        holding = λ b answer its_body hears going.
-            ap (λ y. holds (left y) (Some answer)) (same_thing b body (sym its_body ∙ its)) ∙ ap (λ y. holds (left body) (Some y)) (starts answer hears) ∙ born.holding
-            ∙ sym (ap (λ u. held_once_come u (numbers_held new.held.items)) waiting ∙ none);
-      }
+  performs_root = grind arith
 
   performs_rooted : (p : Plan) (s s' : Shared B) → (it : JoinsRoot s s') → Performs left runs holds p it.new → PerformsAll left runs holds p s → PerformsAll left runs holds p s'
   performs_rooted p s s' it performs fits n o found =
@@ -84,9 +72,7 @@ module _ {B L : Type 0} (left : B → L) (runs : L → Plan → Option ℕ → T
   -- a task goes on that was told so of the one that it wanted
   performs_told : (p : Plan) (slot : TaskSlot B) (b' body : B) (x : Said) → IsAnswer (Act.Dedicated body) x → is_polled slot.cell.phase ≡ true → slot.waiting ≡ Waiting.Nothing → held_after (Act.Dedicated body) x (numbers_held slot.held.items) ≡ (numbers_held slot.held.items)
       → GoesOn runs holds spot gives p (task_seen left spot slot) (Act.Dedicated body) (left b') → Performs left runs holds p (record slot { body = Some b'; told = Some x })
-  performs_told p slot b' body x answers is nothing held goes =
-      performs_on left runs holds spot gives p (task_seen left spot slot) (Act.Dedicated body) (record slot { body = Some b'; told = Some x }) b' goes refl (in_poll slot.cell.phase (Some b') is)
-      (λ answer hears. subst (λ y. IsAnswer (Act.Dedicated body) y × (held_after (Act.Dedicated body) y (numbers_held slot.held.items) ≡ held_once_come slot.waiting (numbers_held slot.held.items))) (sym hears) (answers, held ∙ sym (ap (λ u. held_once_come u (numbers_held slot.held.items)) nothing)))
+  performs_told = grind arith
 
 -- THE WHOLE STEP
 
@@ -307,15 +293,6 @@ module _ {B L : Type 0} (left : B → L) (runs : L → Plan → Option ℕ → T
     pub dedicated_by : HasWhole w s → n.born ≡ None → (e : Event) → DedicatesIf t body w w' s1 s' n n' e → StepsWith left runs holds spot n'.born w s e w' s'
     dedicated_by has none e (inl it) = subst (λ o. StepsWith left runs holds spot o w s e w' s') (sym (ap (λ (x : Nursery). x.born) it.makes.nursery)) (dedicated_open e it has)
     dedicated_by has none e (inr it) = subst (λ o. StepsWith left runs holds spot o w s e w' s') (sym (ap (λ (x : Nursery). x.born) it.nursery ∙ none)) (dedicated_closed e it)
-
-    -- whoever was made has room for it
-    pub dedicated_room : n.born ≡ None → (e : Event) → DedicatesIf t body w w' s1 s' n n' e → IsSome n'.born → n.has_room ≡ true
-    dedicated_room none e (inl it) some = it.makes.room
-    dedicated_room none e (inr it) some = absurd (false≢true (subst (λ o. IsSome o) (ap (λ (x : Nursery). x.born) it.nursery ∙ none) some))
-
-    pub room_so : {E : Type 0} (r : Result Event E) → n.born ≡ None → IfOk r (λ e. DedicatesIf t body w w' s1 s' n n' e) → OnErr r (RefusesDedicated t w w' s1 s' n n') → IsSome n'.born → n.has_room ≡ true
-    room_so (Ok e) none so refused some = dedicated_room none e so some
-    room_so (Err x) none so refused some = absurd (false≢true (subst (λ o. IsSome o) (ap (λ (y : Nursery). y.born) refused.nobody.nursery ∙ none) some))
 
     -- THERE WAS NO MEMORY: nothing is seen of that
 

@@ -1,10 +1,10 @@
 -- The act by which a task makes one with a worker of its own: what it is to the machine.
-use Rattle.std.{proofs.{Common.{[], ◌≡◌, ℕ, suc, arith, true, false, not, List, ◌∷◌, ◌++◌, length, map, Option, Some, None, refl, sym, ap, subst, ◌∙◌, slice_get, slice_set}, lemmas.{Bool.{eq-eqb}, List.{length-map, map-append, map-set}}}}
+use Rattle.std.{proofs.{Common.{[], ◌≡◌, ℕ, suc, arith, true, false, not, List, ◌∷◌, ◌++◌, length, map, Option, Some, refl, sym, ap, subst, ◌∙◌, slice_get, slice_set}, lemmas.{Bool.{eq-eqb}, List.{length-map, map-append, map-set}}}}
 use Rattle.exec_base.specs.declared.{task_no.TaskNo.TaskNo}
 use Rattle.exec_task.specs.{declared.{body.{Said.Said}}}
 use Rattle.exec_machine.specs.{Choice.Choice.Plain, declared.{config.{Configuration.Configuration, ScriptWord.ScriptWord}, event.Event.Event, state.{Code.TheVariants.Script, Waiting.Waiting}}, Progress.Plan, Tasks.{after_dedicated, new_seat, new_task}, Words.{asks_dedicated, moved_on, next_word, script_asked}, World.{Common, Own, task_of}}
 use Rattle.exec_moves.specs.{Move.move_act, Send.{next_task, with_newcomer}, State.{Desk, Things, no_queue, no_wake_poll, no_word}, declared.place.{InPoll.InPoll, Place.Place}}
-use Rattle.exec_parts.specs.{Records.numbers_held, declared.parts.{seat.Seat.Seat as Chair, shared.Shared.Shared, task_slot.TaskSlot.TaskSlot, worker.Worker.Worker}, Dedicated.root_slot, Scripts.Begins, Spots.{Spot, standing_at}, View.{Views, Visible, common_of, desk_of, polls_seen, queue_at, seat_seen, seats_seen, task_seen, things_with, visible, with_view, word_at, inbox_at}}
+use Rattle.exec_parts.specs.{declared.parts.{seat.Seat.Seat as Chair, shared.Shared.Shared, task_slot.TaskSlot.TaskSlot, worker.Worker.Worker}, Dedicated.root_slot, Scripts.Begins, Spots.{Spot}, View.{Views, Visible, common_of, desk_of, polls_seen, queue_at, seat_seen, seats_seen, task_seen, things_with, visible, with_view, word_at, inbox_at}}
 use Rattle.exec_invariants.{specs.Works.{Suits, WorksWith, with_born}, proofs.{Acting.{acts_so, by_word, me_at}, Slots.task_there, Turning.view_found}}
 use Rattle.exec_polling.proofs.{Begun.fresh_visible, DedicatedJoins.JoinsRoot}
 
@@ -41,10 +41,7 @@ closed_move c i me s d x t k is = rw is refl
 module _ {B L : Type 0} (left : B → L) (spot : L → Option Said → Spot) where
   -- what is seen of the new task
   pub root_seen : (body : B) (number : TaskNo) (owner i k : ℕ) (new : TaskSlot B) → new ≡ root_slot number owner i body new → new.held.items ≡ [] → Begins (spot (left body)) k → task_seen left spot new ≡ new_task (Script k) (Some i)
-  root_seen body number owner i k new is held begins =
-      ap (task_seen left spot) is
-      ∙ ap (λ at. record (standing_at at (task_seen left spot (root_slot number owner i body new))) { held = numbers_held new.held.items }) begins
-      ∙ ap (λ hs. record (standing_at (record { code = Script k; place = 0; adapters = []; call = None }) (task_seen left spot (root_slot number owner i body new))) { held = numbers_held hs }) held
+  root_seen = grind arith
 
   module _ (t : ℕ) (w v : Worker) (s m s' : Shared B) (slot mid : TaskSlot B) (it : JoinsRoot m s') (there : slice_get s.tasks.items t ≡ Some slot) (waits : slot.waiting ≡ Waiting.Nothing) (items : m.tasks.items ≡ slice_set s.tasks.items t mid) (kept : m ≡ record s { tasks = m.tasks }) (visible_is : visible v ≡ fresh_visible) where
     same_seats : m.seats.items ≡ s.seats.items

@@ -9,7 +9,7 @@ use Rattle.exec_machine.specs.{Deadlines.new_sleeper, Tests.{is_applied, is_asle
 use Rattle.exec_moves.specs.declared.place.InService.{InService}
 pub use Rattle.exec_parts.proofs.LeafBeds.{bed_names, bed_room, bed_within}
 use Rattle.exec_parts.{specs.{declared.parts.{mail.Reply.Reply, names.Names.Names, record.Record.Record, sleeping.SleeperRecord.SleeperRecord}, Records.number_in}, proofs.{Facts.{by_name, not_same}, Taken.{Takes, got_new, got_old, name_apart, number_new, number_old, slot_apart, value_new, value_old, was_got}}}
-use Rattle.exec_invariants.{specs.{Carried.IsCarried, Due.{AreAsleep, AreTimed}, Ordered.IsOrdered, Flown.{HasFlown, operations}, Places.one_if, Rooted.{IsReplyFor, IsRooted, SleeperPays, Watches, completions_of, ends_elsewhere, is_of_timer}, Sound.AreOver, Names.IsNamed}, proofs.{FiringNames.{counted_joined, naps_joined}, Flown.landed_on}}
+use Rattle.exec_invariants.{specs.{Carried.IsCarried, Due.{AreAsleep, AreTimed}, Ordered.IsOrdered, Flown.{HasFlown}, Places.one_if, Rooted.{IsReplyFor, IsRooted, SleeperPays, Watches, completions_of, ends_elsewhere, is_of_timer}, Sound.AreOver, Names.IsNamed}, proofs.{FiringNames.{counted_joined, naps_joined}, Flown.landed_on}}
 use Rattle.exec_polling.proofs.Coming.{none_of}
 
 -- A sleeper came in under this name, with the next number; of the other numbers there may be more room.
@@ -114,21 +114,7 @@ module _ (i t until : ℕ) (n n' : Names) (d : Driving Reply Reply) (zs zs' : Sl
   carried_dozes st carried = rw one.requests carried
 
   pub flown_dozes : (x : Option InService) → HasFlown x i n d rs → HasFlown x i n' d rs
-  flown_dozes x flown =
-      record {
-        ending = omega (arith, one.unreleased, one.room, flown.ending);
-        staging = rw one.staged flown.staging;
-        telling = rw one.untold flown.telling;
-        entries = rw (one.staged, one.untold) flown.entries;
-        gated = flown.gated;
-        plain = flown.plain;
-        landed = landed_on n n' d d rs rs (operations d.ring) flown.landed
-            (λ id it r given at flies there landed. record { it' = it; r' = r; live = at; flies = refl; same = refl; number = ap (λ ns. number_in ns id) one.requests; there = there; phase = refl });
-        enrolling = flown.enrolling;
-        polled = flown.polled;
-        owning = flown.owning;
-        uncancelled = λ id r among there mine. flown.uncancelled id r among (rw (← one.requests) there) mine;
-      }
+  flown_dozes = grind (arith, landed_on)
 
   -- WHAT IS KEPT OF THEM
 

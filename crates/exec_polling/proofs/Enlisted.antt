@@ -5,11 +5,11 @@ use Rattle.exec_outcomes.specs.{Accounts.is_durable, declared.outcome.{Kind.Kind
 use Rattle.exec_request.specs.{Requests.{asked_of, deadline_of, gate_of, output_of, target_of}, declared.request.Request.Request as Asking}
 use Rattle.exec_ring.specs.Stores.{Reserves}
 use Rattle.exec_waiters.specs.{Events.{finished, told_by_finish}, States.{counts_pending, pending_count}, Told.{HasPlaces, Tells, nothing_told}, declared.{deferred.Deferred.Deferred, observer.Observer.TheVariants.Local, waiter.{Entry.TheVariants.Pending, Waiter.Waiter}}}
-use Rattle.exec_driver.specs.{Admission.with_rooms, Driving.{Driving, seen}, Lists.{withdrawn, without}, Opens.{OpenState, account_in, placed, with_named, writing}, Placed.ListsRequests, Punctual.IsPunctual, Footprints.footprint_of, Steps.{is_late, newcomer, placed_at, plainly_written, taken_in, timed_out, told_at_admission}}
-use Rattle.exec_machine.specs.{declared.{event.Event.Event, state.{Operation.Operation, Request.Request, RequestPhase.RequestPhase}}, Requests.{asked_of as asked_in, first_phase, new_request, outcome_if_late, resolved, resolved_if}, Tests.{is_gated, is_in_flight, is_of_file, is_resolved}}
+use Rattle.exec_driver.specs.{Admission.with_rooms, Driving.{Driving, seen}, Lists.{withdrawn, without}, Opens.{OpenState, placed, with_named, writing}, Placed.ListsRequests, Punctual.IsPunctual, Footprints.footprint_of, Steps.{is_late, newcomer, placed_at, plainly_written, taken_in, timed_out, told_at_admission}}
+use Rattle.exec_machine.specs.{declared.{event.Event.Event, state.{Operation.Operation}}, Requests.{asked_of as asked_in, first_phase, new_request, outcome_if_late, resolved}, Tests.{is_gated, is_in_flight, is_resolved}}
 use Rattle.exec_moves.specs.declared.{handing.AfterCallbacks.AfterCallbacks, place.{Place.Place, InCallbacks.InCallbacks, InPoll.InPoll}}
-use Rattle.exec_parts.{specs.{declared.parts.{mail.Reply.Reply, names.Names.Names, record.Record.Record, shared.Shared.Shared, worker.Worker.Worker}, Admitting.{Registers, has_open, most_told, seeing}, Records.{file_named, number_in, operation_in, seen_in}, Serving.{changed_at, changed_in}, Calls.IsTold, View.{account_seen, driver_of}}, proofs.{Enlisting.{cancels_are, due_are, enrolments_are, gated_are, driver_then, placed_late, placed_queued, placing, queued_driver, taken_by}, Growing.told_same, Taken.{Takes, enrolled_if, got_new}}}
-use Rattle.exec_invariants.{specs.{Due.{IsWheelAt, wheel_moment}, Gates.{key_for, may_ask_hint}, Ordered.went_round, Sound.{SoundAt, AreOver}, Names.{HasWidth, tellers}}, proofs.{Gated.durable_of_file, Late.tells_error, Orders.{TurnsAlike, alike_self}, Ousting.keeps_ended, Over.OneEnds, Resolving.{SlabAfter, places_fewer, slab_after}, ServedEnds.ends_told, ServingHolds.KeepsBy, Untold.{keeps_untold, rooted_told}}}
+use Rattle.exec_parts.{specs.{declared.parts.{mail.Reply.Reply, names.Names.Names, record.Record.Record, shared.Shared.Shared, worker.Worker.Worker}, Admitting.{Registers, has_open, most_told, seeing}, Records.{number_in, operation_in, seen_in}, Serving.{changed_at, changed_in}, Calls.IsTold, View.{driver_of}}, proofs.{Enlisting.{cancels_are, due_are, enrolments_are, gated_are, driver_then, placed_late, placed_queued, placing, queued_driver, taken_by}, Growing.told_same, Taken.{Takes, enrolled_if, got_new}}}
+use Rattle.exec_invariants.{specs.{Due.{IsWheelAt, wheel_moment}, Gates.{may_ask_hint}, Ordered.went_round, Sound.{SoundAt, AreOver}, Names.{HasWidth, tellers}}, proofs.{Late.tells_error, Orders.{TurnsAlike, alike_self}, Ousting.keeps_ended, Over.OneEnds, Resolving.{SlabAfter, places_fewer, slab_after}, ServedEnds.ends_told, ServingHolds.KeepsBy, Untold.{keeps_untold, rooted_told}}}
 use Rattle.exec_polling.proofs.{Rooms.few_tellers, Coming.OneComes, Newcomer.{carried_next, flown_next, is_here, known_next, named_next, order_next, over_next, punctual_next, rooted_next, timed_next}, RegisterOpens.{IsRegistered, Opened, hints_then, opened_so}, Unbegun.{late_is, none_come}, IsComing.IsComing}
 
 set_last : {A : Type 0} (xs : List A) (x y : A) → slice_set (xs ++ x ∷ []) (length xs) y ≡ xs ++ y ∷ []
@@ -22,44 +22,20 @@ changed_last rs r f k is =
 
 -- what is told at most has room
 pub wide_places : (left : Deferred Reply Reply) (n m : ℕ) → n ≤ m → HasPlaces left m → HasWidth left n
-wide_places left n m few room =
-    let notes = room.notes in
-    record {
-      wakes = omega (arith, few, notes.wakes);
-      completions = omega (arith, few, notes.completions);
-      outputs = omega (arith, few, room.outputs);
-      resources = omega (arith, few, room.resources);
-      results = omega (arith, few, room.results);
-    }
+wide_places = grind arith
 
 -- the changes that its open has are told in one field
 seeing_is : (opens : List OpenState) (o : Operation) → seeing opens o ≡ record o { seen = (seeing opens o).seen }
-seeing_is opens o = by (is_of_file o.kind) ((account_seen (account_in opens (file_named o.target))).mutations)
-  where
-    by : (b : Bool) (n : ℕ) → (if b then record o { seen = n } else o) ≡ record o { seen = (if b then record o { seen = n } else o).seen }
-    by true n = refl
-    by false n = refl
+seeing_is = grind arith
 
 first_gated : (k : Kind) → is_gated (first_phase k) ≡ is_durable k
-first_gated k = by (is_durable k)
-  where
-    by : (b : Bool) → is_gated (if b then RequestPhase.Gated else RequestPhase.Queued) ≡ b
-    by true = refl
-    by false = refl
+first_gated = grind arith
 
 first_grounded : (k : Kind) → is_in_flight (first_phase k) ≡ false
-first_grounded k = by (is_durable k)
-  where
-    by : (b : Bool) → is_in_flight (if b then RequestPhase.Gated else RequestPhase.Queued) ≡ false
-    by true = refl
-    by false = refl
+first_grounded = grind arith
 
 first_open : (k : Kind) → is_resolved (first_phase k) ≡ false
-first_open k = by (is_durable k)
-  where
-    by : (b : Bool) → is_resolved (if b then RequestPhase.Gated else RequestPhase.Queued) ≡ false
-    by true = refl
-    by false = refl
+first_open = grind arith
 
 and_true : (b : Bool) → b ≡ (b && not false)
 and_true true = refl
@@ -76,9 +52,7 @@ module _ {B : Type 0} (t : ℕ) (w w' : Worker) (s0 sx s' : Shared B) (q : Askin
   opens_all = ap (λ (x : Shared B). x.opens) reg.takes.rooms.shared
 
   pub opens_are : s'.opens ≡ with_named (with_named s0.opens (gate_of q) placed) (plainly_written q) writing
-  opens_are =
-      ap (λ (x : Shared B). x.opens) reg.shared ∙ reg.takes.admits.opens_after
-      ∙ ap (λ os. with_named (with_named os (gate_of q) placed) (plainly_written q) writing) opens_all
+  opens_are = grind arith
 
   pub has_its_open : has_open q s0.opens ≡ true
   has_its_open = ap (has_open q) (sym opens_all) ∙ reg.takes.opened
@@ -209,13 +183,7 @@ module _ {B : Type 0} (t : ℕ) (w w' : Worker) (s0 sx s' : Shared B) (q : Askin
 
   -- an end at once wakes nobody
   pub wakes_now : reg.mid.home.deferred.notes.wakes.items ≡ []
-  wakes_now =
-      tells_now.notes.wakes_added ∙ ap (λ ws. reg.takes.mid.home.deferred.notes.wakes.items ++ ws) (by (is_late (deadline_of q) w.moments.sampled))
-      ∙ append-nil reg.takes.mid.home.deferred.notes.wakes.items ∙ wakes_none
-    where
-      by : (b : Bool) → (if b then told_by_finish {S = Reply} {F = Reply} reg.id.0 (newcomer q (Local None)) timed_out None else nothing_told).wakes ≡ []
-      by true = refl
-      by false = refl
+  wakes_now = grind arith
 
   few_made : tellers driver_made.requests w.home.timers + 64 ≤ most_told reg.takes.mid
   few_made =
@@ -239,20 +207,7 @@ module _ {B : Type 0} (t : ℕ) (w w' : Worker) (s0 sx s' : Shared B) (q : Askin
   shared_made = record s0 { opens = s'.opens; store = s'.store }
 
   pub registered_made : IsRegistered q record_made s0.requests.items
-  registered_made =
-      let kind : operation.kind ≡ (asked_of q).kind = ap (λ (o : Operation). o.kind) operation_is in
-      record {
-        fresh = λ k x found same. unnamed_key k x found same;
-        kind = kind;
-        target = ap (λ (o : Operation). o.target) operation_is;
-        gated = first_gated operation.kind ∙ ap is_durable kind;
-      }
-    where
-      unnamed_key : (k : ℕ) (x : Record) → slice_get s0.requests.items k ≡ Some x → key_for x ≡ key_for record_made → ⊥
-      unnamed_key k x found same =
-          let mine : x.shown.worker ≡ w.index = ap (λ y. y.worker) same in
-          let name : x.id.0 ≡ reg.id.0 = ap (λ y. y.id.0) same in
-          unnamed (subst (λ i. IsPast (driver_of w).requests i) name (sound.known.past k x found mine).1)
+  registered_made = grind arith
 
   pub keeps_made : (is_durable (asked_of q).kind ≡ true → operation.seen ≡ seen_in q) → KeepsBy worker_made driver_made w.home.timers (s0.requests.items ++ record_made ∷ []) s0.sleepers.items (record s0 { opens = s'.opens; store = s'.store })
   keeps_made covers =
@@ -301,11 +256,7 @@ module _ {B : Type 0} (t : ℕ) (w w' : Worker) (s0 sx s' : Shared B) (q : Askin
 
   -- one that is late needs no permit
   pub late_plain : is_late (deadline_of q) w.moments.sampled ≡ true → is_durable (asked_of q).kind ≡ false
-  late_plain late = by (is_durable (asked_of q).kind) refl
-    where
-      by : (b : Bool) → is_durable (asked_of q).kind ≡ b → b ≡ false
-      by true durable = absurd (false≢true (sym (ap is_some (comes.undated (durable_of_file (asked_of q).kind durable))) ∙ late_some (deadline_of q) w.moments.sampled late))
-      by false undurable = refl
+  late_plain = grind arith
 
   -- NOW, late or not
 
@@ -316,18 +267,11 @@ module _ {B : Type 0} (t : ℕ) (w w' : Worker) (s0 sx s' : Shared B) (q : Askin
   number_made : number_in w'.names.requests.items reg.id.0 ≡ length s0.requests.items
   number_made = get_or_from_slice_get w'.names.requests.items reg.id.0.index (length s0.requests.items) 0 reg.names.number_is
 
-  pub made_by : (x : Request) → reg.made.shown ≡ x → reg.made ≡ record { shown = x; id = reg.id; sent = false }
-  made_by x is = ap (λ y. record { shown = y; id = reg.made.id; sent = reg.made.sent }) is ∙ ap (λ y. record { shown = x; id = y; sent = reg.made.sent }) reg.named ∙ ap (λ b. record { shown = x; id = reg.id; sent = b }) reg.unsent
-
   pub made_early : is_late (deadline_of q) w.moments.sampled ≡ false → reg.made ≡ record_made
-  made_early late =
-      let none : outcome_if_late w.moments.sampled (deadline_of q) ≡ None = late_is w.moments.sampled (deadline_of q) ∙ ap (λ b. if b then Some (Failure Timeout) else None) late in
-      made_by record_made.shown (reg.shown ∙ ap (λ o. resolved_if o (new_request w.index operation)) none)
+  made_early = grind arith
 
   pub made_late : is_late (deadline_of q) w.moments.sampled ≡ true → reg.made ≡ record record_made { shown = resolved (Failure Timeout) record_made.shown }
-  made_late late =
-      let some : outcome_if_late w.moments.sampled (deadline_of q) ≡ Some (Failure Timeout) = late_is w.moments.sampled (deadline_of q) ∙ ap (λ b. if b then Some (Failure Timeout) else None) late in
-      made_by (resolved (Failure Timeout) record_made.shown) (reg.shown ∙ ap (λ o. resolved_if o (new_request w.index operation)) some)
+  made_late = grind arith
 
   abbrev pub worker_now : Worker
   worker_now = record w { place = Place.Callbacks InCallbacks.TakeBatch AfterCallbacks.Look; names = w'.names; home = record w.home { deferred = reg.mid.home.deferred } }

@@ -16,11 +16,7 @@ use Rattle.exec_polling.proofs.{IsComing.IsComing, Enlisted.{driver_is, driver_l
 -- a placing leaves the ring
 ring_placed : (d : Driving Reply Reply) (id : WaiterId) (w : Waiter Reply Reply) (o g : Option ℕ) (b : Bool)
     → ((if b then ended d id w timed_out None else in_place (with_deadline d id o) id g).ring ≡ d.ring) × ((if b then ended d id w timed_out None else in_place (with_deadline d id o) id g).armed ≡ d.armed)
-ring_placed d id w o g true = (refl, refl)
-ring_placed d id w None None false = (refl, refl)
-ring_placed d id w None (Some f) false = (refl, refl)
-ring_placed d id w (Some n) None false = (refl, refl)
-ring_placed d id w (Some n) (Some f) false = (refl, refl)
+ring_placed = grind arith
 
 -- A WORKER, by what its driver is, its numbers are and is left to be told
 
@@ -66,10 +62,7 @@ module _ {B : Type 0} (t : ℕ) (w w' : Worker) (s sx s' : Shared B) (q : Asking
   goes_to = Place.Poll t (joins_gate (length s.requests.items) (asked_of q).kind)
 
   pub flat : w' ≡ record w { place = goes_to; names = w'.names; batch = reg.takes.mid.batch; home = record w.home { driver = reg.mid.home.driver; deferred = reg.mid.home.deferred } }
-  flat =
-      reg.worker
-      ∙ ap (λ (x : Worker). record x { place = goes_to; names = w'.names }) reg.takes.worker
-      ∙ ap (λ (x : Worker). record x { place = goes_to; names = w'.names; home = record x.home { driver = reg.mid.home.driver; deferred = reg.mid.home.deferred } }) reg.takes.rooms.worker
+  flat = grind arith
 
   one : OneComes w.index w.names (names_made t w w' s sx s' q e sound reg comes) (driver_of w) (driver_made t w w' s sx s' q e sound reg comes) s.requests.items reg.id.0 (newcomer q (Local None)) (record_made t w w' s sx s' q e sound reg comes)
   one = one_comes t w w' s sx s' q e sound reg comes covers
@@ -98,9 +91,7 @@ module _ {B : Type 0} (t : ℕ) (w w' : Worker) (s sx s' : Shared B) (q : Asking
 
   -- the new one is the last, or leaves
   joined : (ids : List WaiterId) → AllLive ids → numbers_of w'.names.requests.items (ids ++ reg.id ∷ []) ≡ numbers_of w.names.requests.items ids ++ length s.requests.items ∷ []
-  joined ids live =
-      map-append (λ x. number_in w'.names.requests.items x.0) ids (reg.id ∷ []) ∙ ap (λ xs. xs ++ number_in w'.names.requests.items reg.id.0 ∷ []) (still ids live)
-      ∙ ap (λ n. numbers_of w.names.requests.items ids ++ n ∷ []) here
+  joined = grind (arith, map-append, still, here)
 
   gone : (ids : List WaiterId) → AllLive ids → numbers_of w'.names.requests.items (without reg.id ids) ≡ filter (λ n. not (n == length s.requests.items)) (numbers_of w.names.requests.items ids)
   gone ids live =
@@ -130,11 +121,7 @@ module _ {B : Type 0} (t : ℕ) (w w' : Worker) (s sx s' : Shared B) (q : Asking
 
   own_flat : own_of w' ≡ parts (joins_gate (length s.requests.items) (asked_of q).kind) (numbers_of w'.names.requests.items (driver_of reg.mid).lists.queued) (numbers_of w'.names.requests.items (driver_of reg.mid).lists.enrolments)
       (numbers_of w'.names.requests.items (driver_of reg.mid).lists.cancels) w'.names.ended.items (flying_count (driver_of reg.mid).requests)
-  own_flat =
-      ap own_of flat
-      ∙ polled_same (joins_gate (length s.requests.items) (asked_of q).kind) (driver_of reg.mid) w'.names (is_durable (asked_of q).kind) refl
-      ∙ ap (λ xs. record (own_by (record w { place = Place.Poll t InPoll.Act }) (driver_of reg.mid) w'.names) { next = next_at goes_to; untold = xs }) (ap (λ x. x.items) one.untold)
-      ∙ ap (λ n. record (own_by (record w { place = Place.Poll t InPoll.Act }) (driver_of reg.mid) w'.names) { next = next_at goes_to; untold = w.names.untold.items; unreleased = n }) one.unreleased
+  own_flat = grind arith
 
   unenrolled_by : (o : Option ℕ) → numbers_of w'.names.requests.items (enrolled_if o reg.id (driver_of w).lists.enrolments)
       ≡ (if is_none o then numbers_of w.names.requests.items (driver_of w).lists.enrolments else numbers_of w.names.requests.items (driver_of w).lists.enrolments ++ length s.requests.items ∷ [])
@@ -228,19 +215,13 @@ module _ {B : Type 0} (t : ℕ) (w w' : Worker) (s sx s' : Shared B) (q : Asking
   tells_nobody false = record { outputs = refl; completions = refl; results = refl }
 
   outputs_none : reg.mid.home.deferred.outputs.items ≡ w.home.deferred.outputs.items
-  outputs_none =
-      (tells_now t w w' s sx s' q e sound reg comes).outputs_added ∙ ap (λ xs. reg.takes.mid.home.deferred.outputs.items ++ xs) (tells_nobody (is_late (deadline_of q) w.moments.sampled)).outputs
-      ∙ append-nil reg.takes.mid.home.deferred.outputs.items ∙ reg.takes.rooms.untold.outputs_added ∙ append-nil w.home.deferred.outputs.items
+  outputs_none = grind (arith, tells_now, tells_nobody, append-nil)
 
   completions_none : reg.mid.home.deferred.notes.completions.items ≡ w.home.deferred.notes.completions.items
-  completions_none =
-      (tells_now t w w' s sx s' q e sound reg comes).notes.completions_added ∙ ap (λ xs. reg.takes.mid.home.deferred.notes.completions.items ++ xs) (tells_nobody (is_late (deadline_of q) w.moments.sampled)).completions
-      ∙ append-nil reg.takes.mid.home.deferred.notes.completions.items ∙ reg.takes.rooms.untold.notes.completions_added ∙ append-nil w.home.deferred.notes.completions.items
+  completions_none = grind (arith, tells_now, tells_nobody, append-nil)
 
   results_none : reg.mid.home.deferred.results.items ≡ w.home.deferred.results.items
-  results_none =
-      (tells_now t w w' s sx s' q e sound reg comes).results_added ∙ ap (λ xs. reg.takes.mid.home.deferred.results.items ++ xs) (tells_nobody (is_late (deadline_of q) w.moments.sampled)).results
-      ∙ append-nil reg.takes.mid.home.deferred.results.items ∙ reg.takes.rooms.untold.results_added ∙ append-nil w.home.deferred.results.items
+  results_none = grind (arith, tells_now, tells_nobody, append-nil)
 
   -- its slot
   slots_then : (slots_seen w'.names.requests.items (driver_of reg.mid).requests ≡ entered (length s.requests.items) (slots_seen w.names.requests.items (driver_of w).requests))
@@ -268,25 +249,7 @@ module _ {B : Type 0} (t : ℕ) (w w' : Worker) (s sx s' : Shared B) (q : Asking
           )
 
   pub desk_asked : desk_of w' ≡ record (desk_of w) { place = goes_to; requests = entered (length s.requests.items) (slots_seen w.names.requests.items (driver_of w).requests) }
-  desk_asked =
-      let w0 : Worker = record w { place = goes_to } in
-      let left = reg.mid.home.deferred in
-      let n = w'.names in
-      let d = driver_of reg.mid in
-      let batch = reg.takes.mid.batch.values in
-      let wakes : left.notes.wakes.items ≡ w.home.deferred.notes.wakes.items = wakes_now t w w' s sx s' q e sound reg comes ∙ sym (sound.quiet refl) in
-      let shown : Desk → Desk = λ x. x in
-      ap desk_of flat
-      ∙ ap (λ (r : RingState). record (desk_by w0 d n left batch) { entries = length r.staged; others = trailing 0 (completions r) }) rings.0
-      ∙ ap (λ b. record (desk_by w0 d n left batch) { entries = length (driver_of w).ring.staged; others = trailing 0 (completions (driver_of w).ring); polled = b }) rings.1
-      ∙ ap (λ xs. record (desk_by w0 (driver_of w) n left batch) { requests = slots_seen n.requests.items d.requests; awaited = awaited_from 0 n.requests.items d.requests.slots; wakes = map (λ t. t.0) xs }) wakes
-      ∙ ap (λ xs. record (desk_by w0 (driver_of w) n left batch) { requests = slots_seen n.requests.items d.requests; awaited = awaited_from 0 n.requests.items d.requests.slots; wakes = map (λ t. t.0) w.home.deferred.notes.wakes.items; outputs = length xs }) outputs_none
-      ∙ ap (λ xs. record (desk_by w0 (driver_of w) n w.home.deferred batch) { requests = slots_seen n.requests.items d.requests; awaited = awaited_from 0 n.requests.items d.requests.slots; completions = completions_in xs; results = results_in left.results.items }) completions_none
-      ∙ ap (λ xs. record (desk_by w0 (driver_of w) n w.home.deferred batch) { requests = slots_seen n.requests.items d.requests; awaited = awaited_from 0 n.requests.items d.requests.slots; results = results_in xs }) results_none
-      ∙ ap (λ xs. record (desk_by w0 (driver_of w) n w.home.deferred batch) { requests = xs; awaited = awaited_from 0 n.requests.items d.requests.slots }) slots_then.0
-      ∙ ap (λ xs. record (desk_by w0 (driver_of w) n w.home.deferred batch) { requests = entered (length s.requests.items) (slots_seen w.names.requests.items (driver_of w).requests); awaited = xs }) slots_then.1
-      ∙ ap (λ ms. record (desk_of w0) { requests = entered (length s.requests.items) (slots_seen w.names.requests.items (driver_of w).requests); timers = slots_seen n.timers.items w.home.timers; batch = map message_of ms }) reg.takes.rooms.mails.mail.values
-      ∙ ap (λ ns. record (desk_of w0) { requests = entered (length s.requests.items) (slots_seen w.names.requests.items (driver_of w).requests); timers = slots_seen ns w.home.timers }) one.timers
+  desk_asked = grind (arith, wakes_now, flat, rings, outputs_none, completions_none, results_none, slots_then, one)
 
   pub visible_asked : visible w' ≡ visible w
   visible_asked =

@@ -17,11 +17,7 @@ last_or_before : {A : Type 0} (xs : List A) (x y : A) (n : ℕ) → slice_get (x
 last_or_before [] x y zero at = inr (refl, same_thing x y at)
 last_or_before [] x y (suc n) at = absurd (let no : None ≡ Some y = at in cc)
 last_or_before (z ∷ zs) x y zero at = inl at
-last_or_before (z ∷ zs) x y (suc n) at =
-    elim (last_or_before zs x y n at) [
-      | inl before ↦ inl before
-      | inr last ↦ inr (ap suc last.0, last.1)
-    ]
+last_or_before (z ∷ zs) x y (suc n) at = grind (arith, last_or_before zs x y n at)
 
 tally : {A : Type 0} → (A → Bool) → List A → ℕ
 tally p [] = 0
@@ -33,11 +29,7 @@ tallied p xs = is_count_by (tally p) p refl (λ x ys. refl) xs
 
 tally_more : {A : Type 0} (p : A → Bool) (xs : List A) (x : A) (n : ℕ) → tally p xs ≤ n → (p x ≡ true → tally p xs + 1 ≤ n) → tally p (xs ++ x ∷ []) ≤ n
 unfolding tally
-tally_more p [] x n le room = by (p x) refl
-  where
-    by : (b : Bool) → p x ≡ b → cond b 1 0 ≤ n
-    by true is = room is
-    by false is = le
+tally_more p [] x n le room = grind arith
 tally_more {A} p (y ∷ ys) x n le room = by (λ m. tally_more p ys x m) (p y) refl le room
   where
     one : (rest : (m : ℕ) → tally p ys ≤ m → (p x ≡ true → tally p ys + 1 ≤ m) → tally p (ys ++ x ∷ []) ≤ m) (m : ℕ) → 1 + tally p ys ≤ m → (p x ≡ true → 1 + tally p ys + 1 ≤ m) → 1 + tally p (ys ++ x ∷ []) ≤ m
@@ -52,9 +44,7 @@ tally_more {A} p (y ∷ ys) x n le room = by (λ m. tally_more p ys x m) (p y) r
 -- ONE MORE PLACE at the gate of an open
 
 line_placed : (file : ℕ) (o : OpenState) (rs : List Record) → IsLinedUp file o rs → IsLinedUp file (placed o) rs
-line_placed file o rs line =
-    let places : count_by (λ r. is_coming file (placed o) (at_gate r)) rs ≤ o.coming + 1 = omega (arith, line.places) in
-    assumption (places, line)
+line_placed = grind arith
 
 pub lined_placed : (opens : List OpenState) (rs : List Record) (file : ℕ) (o : OpenState) → slice_get opens file ≡ Some o → AreLinedUp opens rs → AreLinedUp (slice_set opens file (placed o)) rs
 lined_placed opens rs file o there lined =

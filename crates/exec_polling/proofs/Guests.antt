@@ -4,7 +4,7 @@ use Rattle.exec_task.specs.{Phases.{is_polled, given_back, over, requeue_where, 
 use Rattle.exec_machine.specs.{declared.event.Event.{Event, TheVariants.Pend}, Choice.Choice.Plain, Progress.Plan, Same.is_number, Tasks.{may_stop, pended_phase, after_over}, Tests.is_settled, World.{Task, task_of}}
 use Rattle.exec_moves.specs.{declared.{handing.{AfterPush.AfterPush, InPush.InPush}, place.{InPoll.InPoll, Place.Place}}, Move.move_at, Poll.{after_pend, is_noted, pend as pend_moves, requeued_if, told_of_end}, Told.lets_go_all, Seen.{polls_at, polls_in}, State.{Desk, Moved, Things}}
 use Rattle.exec_parts.{specs.{declared.parts.{shared.Shared.Shared, task_slot.TaskSlot.TaskSlot, worker.Worker.Worker}, Phased.is_complete, Polls.{pended_with, pended_slot}, Pooled.queued_again, Spots.Spot, Tests.{after_poll_of, next_pick_of}, View.{Views, own_of, desk_of, common_of, phase_seen, task_seen, body_in, things_with}, Things.TurnsSlot}, proofs.Facts.{by_number, not_same, same_thing, set_there}}
-use Rattle.exec_invariants.{specs.{Places.{hands_on_at, one_if, removes_at, step_of_poll}, Holding.holder_of, Sound.{HasGuest, IsInHand, MayStop, SoundAt, Stops, is_told, may_end}, Whole.{HasOne, is_number as is_counted, runnables_in}, Works.{Suits, Steps}}, proofs.{Pending.{MayEnd, hand_empty, has_body, in_poll, poll_ended, polled_none, stops, to, to_push}, Onces.once_queued, Here.{IsHere, going_on}, Polling.{IsOutside, at_phase, home_mine, in_hand_never, in_hand_once, next_hands, next_outside, number_apart, number_there}, PoolKept.unremoved, Slots.{Balances, IsEvent, slotted, task_there}, SlotTasks.{Keeps, Visits, guest_tasked, none_in}}}
+use Rattle.exec_invariants.{specs.{Places.{hands_on_at, one_if, removes_at, step_of_poll}, Holding.holder_of, Sound.{HasGuest, IsInHand, MayStop, SoundAt, Stops, is_told, may_end}, Whole.{HasOne, is_number as is_counted, runnables_in}, Works.{Suits, Steps}}, proofs.{Pending.{MayEnd, hand_empty, has_body, in_poll, poll_ended, polled_none, stops, to, to_push}, Onces.once_queued, Here.{IsHere, going_on}, Polling.{IsOutside, home_mine, in_hand_never, in_hand_once, next_hands, next_outside, number_apart, number_there}, PoolKept.unremoved, Slots.{Balances, IsEvent, slotted, task_there}, SlotTasks.{Keeps, Visits, guest_tasked, none_in}}}
 
 -- AN ORDINARY TASK'S POLL ENDS
 
@@ -37,9 +37,7 @@ module _ {B L : Type 0} (left : B → L) (spot : L → Option Said → Spot) whe
 
   guest_seen : (slot : TaskSlot B) (b : B) (p : Phase B) (k : Bool) (o : Option B) → body_in slot.cell.phase slot.body ≡ Some b → body_in p o ≡ Some b → phase_seen p slot.poller ≡ pended_phase (phase_seen slot.cell.phase slot.poller)
       → task_seen left spot (left_slot slot p k o) ≡ record (task_seen left spot slot) { phase = pended_phase (phase_seen slot.cell.phase slot.poller) }
-  guest_seen slot b p k o was is shown =
-      ap (λ x. at_phase left spot slot x (phase_seen p slot.poller) slot.waiting slot.fresh) (is ∙ sym was)
-      ∙ ap (λ x. at_phase left spot slot (body_in slot.cell.phase slot.body) x slot.waiting slot.fresh) shown
+  guest_seen = grind arith
 
   guest_event : (x : InPoll) (t : ℕ) (q : Place) (h : Option Runnable) (w : Worker) (s : Shared B) (slot : TaskSlot B) (b : B) (p : Phase B) (k : Bool) (o : Option B) → MayEnd x t → slice_get s.tasks.items t ≡ Some slot → slot.home ≡ None
       → body_in slot.cell.phase slot.body ≡ Some b → GuestEnds x t q h w slot b p k o → EndsHere x t w s → (plan : Plan) (vs : Views) → Suits plan vs w s → may_stop (common_of left spot plan vs s) w.index slot.waiting ≡ true

@@ -1,5 +1,6 @@
 -- A new task is in the hand: the look whether the own run queue takes it.
 use Rattle.std.proofs.{Common.{◌≡◌, ⊎_elim, ℕ, ◌==◌, Bool, true, false, Option, Some, None, refl, sym, ap, subst, ◌∙◌, if◌then◌else◌}, lemmas.Bool.false≢true}
+use Rattle.std.proofs.Common.{arith}
 use Rattle.exec_words.specs.Queue.{tail_of}
 use Rattle.exec_task.specs.declared.body.Said.{Said}
 use Rattle.exec_machine.specs.{declared.event.Event.{Event, TheVariants.Turn}, Choice.Choice.Plain}
@@ -18,28 +19,10 @@ record IsHandingOn (t : ℕ) (q : Place) : Type 0 where
   drops : drops_at q ≡ no_drops
 
 to_queue : (t : ℕ) → IsHandingOn t (Place.Push InPush.LoadPushHead (AfterPush.Act t))
-to_queue t =
-    record {
-      after = record { open_still = refl; closing = refl; served = refl; unarmed = refl; calls = refl; begins = refl; queue = λ x h. h; searching = λ b h. h; aims = λ c i seats. tt; batch = λ ms h. absurd (false≢true h); spare = refl; cancels = refl; sends_cancel = refl; heard = refl; bare = refl; claims = refl; counts = refl; published = refl; clears = refl; passes = refl; joins = refl };
-      polls = refl;
-      step = refl;
-      hands = refl;
-      unpooled = refl;
-      turn = λ n. record { polls = refl; free = refl; free_then = refl; unserved = refl; owes = refl };
-      drops = refl;
-    }
+to_queue = grind arith
 
 to_global : (t : ℕ) → IsHandingOn t (Place.Global InGlobal.Append (AfterPush.Act t))
-to_global t =
-    record {
-      after = record { open_still = refl; closing = refl; served = refl; unarmed = refl; calls = refl; begins = refl; queue = λ x h. h; searching = λ b h. h; aims = λ c i seats. tt; batch = λ ms h. absurd (false≢true h); spare = refl; cancels = refl; sends_cancel = refl; heard = refl; bare = refl; claims = refl; counts = refl; published = refl; clears = refl; passes = refl; joins = refl };
-      polls = refl;
-      step = refl;
-      hands = refl;
-      unpooled = refl;
-      turn = λ n. record { polls = refl; free = refl; free_then = refl; unserved = refl; owes = refl };
-      drops = refl;
-    }
+to_global = grind arith
 
 module _ {B : Type 0} where
   acts_there : (i : ℕ) (slot : TaskSlot B) (b : Bool) → Stands (if b then Some InPoll.LoadSpawnHead else None) i slot → Stands (if b then Some InPoll.Act else None) i slot

@@ -1,7 +1,7 @@
 -- What tasks hold, where a new one joins: it holds nothing and waits for nothing.
-use Rattle.std.proofs.{Common.{◌≡◌, ℕ, ◌==◌, ◌&&◌, Bool, false, not, List, [], ◌∷◌, ◌++◌, cond, count_by, length, Some, None, IsSome, refl, sym, ap, ◌∙◌, arith, inl, inr, slice_get}, lemmas.{Bool.false≢true, List.Sums.sum_by-append}}
+use Rattle.std.proofs.{Common.{◌≡◌, ℕ, false, List, [], ◌∷◌, ◌++◌, length, Some, None, IsSome, sym, ap, ◌∙◌, arith, inl, inr, slice_get}, lemmas.{Bool.false≢true, List.Sums.sum_by-append}}
 use Rattle.exec_parts.specs.declared.parts.{held.Held.Held, mail.Subject.Subject}
-use Rattle.exec_invariants.specs.Holding.{AwaitsNap, AwaitsThing, Awaits, Box, Hands, Holder, HoldsRequest, IsHolding, IsOrdinary, IsOwed, Nap, Thing, holdings, is_awaited_by, waiters}
+use Rattle.exec_invariants.specs.Holding.{AwaitsNap, AwaitsThing, Awaits, Box, Hands, Holder, HoldsRequest, IsHolding, IsOrdinary, IsOwed, Nap, Thing, holdings, waiters}
 use Rattle.exec_polling.proofs.SpawnLists.{found_again, found_which}
 
 module _ (h : Hands) (workers : ℕ) (holders : List Holder) (things : List Thing) (naps : List Nap) (boxes : List Box) (new : Holder) (held : new.held ≡ []) (awaits : new.awaits ≡ None) (going : new.over ≡ false) where
@@ -9,18 +9,10 @@ module _ (h : Hands) (workers : ℕ) (holders : List Holder) (things : List Thin
   more = holders ++ new ∷ []
 
   holdings_more : (k : ℕ) → holdings k more ≡ holdings k holders
-  holdings_more k =
-      let f : Holder → ℕ = λ it. count_by (λ x. x.number == k) it.held in
-      let none : f new ≡ 0 = ap (count_by (λ (x : Held). x.number == k)) held in
-      omega (arith, sum_by-append f holders (new ∷ []), none)
+  holdings_more = grind (arith, sum_by-append)
 
   waiters_more : (s : Subject) → waiters s more ≡ waiters s holders
-  waiters_more s =
-      let p : Holder → Bool = λ it. not it.over && is_awaited_by s it.awaits in
-      let none : p new ≡ false = rw (going, awaits) refl in
-      let one : Bool → ℕ = λ b. cond b 1 0 in
-      let zero_more : one (p new) ≡ 0 = ap one none in
-      omega (arith, sum_by-append (λ it. one (p it)) holders (new ∷ []), zero_more)
+  waiters_more = grind (arith, sum_by-append)
 
   awaits_more : (s : Subject) (t : ℕ) → Awaits s t holders → Awaits s t more
   awaits_more s t it = record { it = it.it; there = found_again holders (new ∷ []) t it.it it.there; awaits = it.awaits }
@@ -29,14 +21,10 @@ module _ (h : Hands) (workers : ℕ) (holders : List Holder) (things : List Thin
   ordinary_more t it = record { it = it.it; there = found_again holders (new ∷ []) t it.it it.there; home = it.home }
 
   none_held : (it : Holder) (j : ℕ) (x : Held) → new ≡ it → slice_get it.held j ≡ Some x → ⊥
-  none_held it j x is found =
-      let no : None ≡ Some x = sym (ap (λ xs. slice_get xs j) (ap (λ (o : Holder). o.held) (sym is) ∙ held)) ∙ found in
-      cc (no)
+  none_held = grind arith
 
   none_awaited : (it : Holder) (s : Subject) → new ≡ it → it.awaits ≡ Some s → ⊥
-  none_awaited it s is found =
-      let no : None ≡ Some s = sym (ap (λ (o : Holder). o.awaits) (sym is) ∙ awaits) ∙ found in
-      cc (no)
+  none_awaited = grind arith
 
   owed_more : (i t : ℕ) → IsOwed i t holders things naps boxes → IsOwed i t more things naps boxes
   owed_more i t it = record { it = it.it; there = found_again holders (new ∷ []) t it.it it.there; owes = it.owes }

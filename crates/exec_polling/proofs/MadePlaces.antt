@@ -61,12 +61,7 @@ module _ (h : Hands) (workers : ℕ) (hs : List Holder) (ts : List Thing) (naps 
     fits : j ≡ i → 2 * now.made + 1 ≤ now.places
 
   was_box : (j : ℕ) (now : Box) → slice_get (slice_set boxes i (placed_in n box)) j ≡ Some now → WasBox j now
-  was_box j now there =
-      by_number j i
-      (λ other. record { was = now; there = sym (set_elsewhere boxes i j (placed_in n box) other) ∙ there; shut = refl; closing = refl; messages = refl; made = omega arith; places = λ apart. (refl, refl); fits = λ same. absurd (other same) })
-      (λ same.
-      let is : placed_in n box ≡ now = same_thing (placed_in n box) now (sym (set_there boxes i (placed_in n box) box at) ∙ ap (slice_get (slice_set boxes i (placed_in n box))) (sym same) ∙ there) in
-      subst (WasBox j) is (record { was = box; there = ap (slice_get boxes) same ∙ at; shut = refl; closing = refl; messages = refl; made = omega arith; places = λ apart. absurd (apart same); fits = λ e. room }))
+  was_box = grind (arith, by_number, set_elsewhere, same_thing, set_there)
 
   way_on : (m : Mail) → under_way h m boxes_then ≡ under_way h m boxes
   way_on m = let sums = sum_set (λ (b : Box). mail_in m b.messages) boxes i box (placed_in n box) at in omega (arith, sums)

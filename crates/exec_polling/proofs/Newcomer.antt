@@ -1,15 +1,15 @@
 -- One more request is queued, or waits at its gate: what holds again of the requests.
-use Rattle.std.{proofs.{Common.{◌≡◌, ◌≢◌, ℕ, ◌+◌, ◌^◌, ◌<◌, ◌≤◌, ◌&&◌, ◌||◌, not, nat_lt, Bool, true, false, List, [], ◌∷◌, ◌++◌, length, suc, zero, Option, Some, None, IsSome, refl, sym, ap, subst, ◌∙◌, arith, inl, inr, slice_get, is_some, if◌then◌else◌}, lemmas.{Bool.false≢true, List.length-append, Option.slice_get_within}}, specs.List.AllByRecursion}
-use Rattle.exec_base.specs.{Slab.{Slab, IsPast, generation_of, next_generation, next_index, slot_at, value_at}, declared.slab.{Id.Id, Slot.{Slot, TheVariants.{Live, Vacant, Retired}}}}
+use Rattle.std.{proofs.{Common.{◌≡◌, ◌≢◌, ℕ, ◌+◌, ◌^◌, ◌<◌, ◌≤◌, ◌&&◌, ◌||◌, not, Bool, true, false, List, [], ◌∷◌, ◌++◌, length, suc, zero, Option, Some, None, IsSome, refl, sym, ap, subst, ◌∙◌, arith, inl, inr, slice_get, is_some}, lemmas.{Bool.false≢true, List.length-append, Option.slice_get_within}}, specs.List.AllByRecursion}
+use Rattle.exec_base.specs.{Slab.{Slab, IsPast, generation_of, next_generation, slot_at, value_at}, declared.slab.{Id.Id, Slot.{Slot}}}
 use Rattle.exec_outcomes.specs.Accounts.{is_durable}
 use Rattle.exec_time.specs.declared.timers.Sleeper.{Sleeper as Sleeping}
 use Rattle.exec_request.specs.{Requests.{asked_of, cursor_of, deadline_of, gate_of, target_of}, declared.request.Request.Request as Asking}
 use Rattle.exec_ring.specs.{Rings.RingState, Stores.Reserves, declared.store.Store.Store}
-use Rattle.exec_waiters.{specs.{States.{awaits_tick, waiter_at, waiter_of, tick_in, tick_of}, declared.{deferred.{Answer.Answer, Deferred.Deferred}, observer.Observer.TheVariants.{Forwarded, Local}, waiter.{Entry.{Entry, TheVariants.{Pending, Ready}}, Waiter.Waiter}}}, proofs.Changes.entry_of}
+use Rattle.exec_waiters.{specs.{States.{waiter_at, waiter_of, tick_in}, declared.{deferred.{Answer.Answer, Deferred.Deferred}, observer.Observer.TheVariants.{Forwarded, Local}, waiter.{Entry.{Entry, TheVariants.{Pending, Ready}}, Waiter.Waiter}}}, proofs.Changes.entry_of}
 use Rattle.exec_driver.specs.{Driving.{Driving, is_cancelled, is_unenrolled}, Lists.is_among, Opens.OpenState, Punctual.IsPunctual, Footprints.footprint_of}
 use Rattle.exec_machine.specs.{Requests.{asked_of as asked_in, first_phase}, Tests.{is_applied, is_in_flight, is_resolved, is_staged}}
 use Rattle.exec_moves.specs.declared.place.InService.{InService}
-use Rattle.exec_parts.{specs.{declared.parts.{mail.Reply.Reply, names.Names.Names, record.Record.Record, sleeping.SleeperRecord.SleeperRecord}, Records.number_in}, proofs.{Facts.{and_parts, by_name, by_number, not_same, same_thing}, Taken.{got_new, got_old, name_apart, number_new, number_old, past_still, slot_apart, some_still, value_before, value_new, value_old, was_got, enrolled_if, among_before, among_now, all_listed, known_more}}}
+use Rattle.exec_parts.{specs.{declared.parts.{mail.Reply.Reply, names.Names.Names, record.Record.Record, sleeping.SleeperRecord.SleeperRecord}, Records.number_in}, proofs.{Facts.{and_parts, by_name, by_number, not_same}, Taken.{got_new, got_old, name_apart, number_new, number_old, past_still, slot_apart, some_still, value_before, value_new, value_old, was_got, enrolled_if, among_before, among_now, all_listed, known_more}}}
 use Rattle.exec_invariants.{specs.{Carried.{IsCarried, IsWhole}, Due.AreTimed, Flown.{AreLanded, HasFlown, IsPlain, IsPolled, operations}, Gates.{IsKnown, has_hint_at, may_ask_hint}, Ordered.IsOrdered, Places.one_if, Rooted.{IsReplyFor, IsRooted, Pays, Watches, goes_elsewhere, is_of_request, results_of}, Sound.AreOver, Names.{IsNamed, IsSubmitted}}, proofs.{Flown.{AllFlyOn, landed_on}, Conveying.carried_ring, Gated.gate_there, Mine.stands, Orders.{Eases, comes_in, joins}}}
 use Rattle.exec_polling.proofs.{Admitted.{IsFew, carried_joined, room_made, stretch_made}, Coming.{OneComes, first_idle, none_of}}
 
@@ -45,11 +45,7 @@ module _ (i : ℕ) (n n' : Names) (d d' : Driving Reply Reply) (zs : Slab (Sleep
 
   -- what has a number that is known has that record still
   record_there : IsNamed i n d zs rs ss → (other : Id) (x : Record) → IsSome (value_at d.requests other) → slice_get (rs ++ r ∷ []) (number_in n'.requests.items other) ≡ Some x → slice_get rs (number_in n.requests.items other) ≡ Some x
-  record_there named other x some there =
-      let old = named.requests other some in
-      let now = ap (slice_get (rs ++ r ∷ [])) (number_there other some) ∙ got_old rs r old.0 (number_in n.requests.items other) old.1 in
-      let same : old.0 ≡ x = cc (now, there) in
-      old.1 ∙ ap (λ y. Some y) same
+  record_there = grind (arith, number_there, got_old)
 
   -- NAMED
 
@@ -103,20 +99,11 @@ module _ (i : ℕ) (n n' : Names) (d d' : Driving Reply Reply) (zs : Slab (Sleep
   -- OVER, TIMED
 
   pub over_next : (others : ℕ) → AreOver i n.ended.items n.unreleased others rs → AreOver i n'.ended.items n'.unreleased (others + 1) (rs ++ r ∷ [])
-  over_next others over =
-      rw (one.ended, one.unreleased) (record {
-        over = λ k m at. let old = over.over k m at in (old.0, got_old rs r old.0 m old.1, old.2, old.3);
-        once = over.once;
-        counted = omega (arith, over.counted);
-      })
+  over_next = grind (arith, got_old)
 
   -- what isn't over is at the driver
   at_driver : IsNamed i n d zs rs ss → (k : ℕ) (x : Record) → slice_get rs k ≡ Some x → x.shown.worker ≡ i → is_resolved x.shown.phase ≡ false → IsSome (value_at d.requests x.id.0)
-  at_driver named k x there mine open_still = by (waiter_at d.requests x.id.0) refl
-    where
-      by : (o : Option (Waiter Reply Reply)) → waiter_at d.requests x.id.0 ≡ o → IsSome (value_at d.requests x.id.0)
-      by None at = absurd (false≢true (sym open_still ∙ named.over k x there mine at))
-      by (Some w) at = some_of x.id.0 w at
+  at_driver = grind arith
 
   pub timed_next : IsNamed i n d zs rs ss → AreTimed i n rs → AreTimed i n' (rs ++ r ∷ [])
   timed_next named timed k x there mine =
@@ -134,28 +121,13 @@ module _ (i : ℕ) (n n' : Names) (d d' : Driving Reply Reply) (zs : Slab (Sleep
   -- DEADLINES
 
   pub punctual_next : tick_in it.state ≡ None → IsPunctual d → IsPunctual d'
-  punctual_next untimed punctual =
-      record {
-        ahead = λ other t at apart_due.
-            by_name other.0 id
-            (λ apart.
-            let old : tick_of (waiter_at d.requests other.0) ≡ Some t = ap tick_of (sym (still_at other.0 apart)) ∙ at in
-            rw one.wheel (punctual.ahead other t old (rw (← one.due) apart_due)))
-            (λ same. absurd (let no : None ≡ Some t = sym untimed ∙ ap tick_of (sym (ap (waiter_at d'.requests) same ∙ is_here)) ∙ at in cc));
-      }
+  punctual_next = grind arith
 
   largest : IsNamed i n d zs rs ss → (other : Id) → IsSome (value_at d.requests other) → number_in n.requests.items other < length rs
   largest named other some = let old = named.requests other some in slice_get_within rs (number_in n.requests.items other) old.0 old.1
 
   eases : tick_in it.state ≡ None → Eases d.requests d'.requests
-  eases untimed =
-      record {
-        ticks = λ other t at.
-            by_name other id (λ apart. sym (ap tick_of (still_at other apart)) ∙ at)
-            (λ same. absurd (let no : None ≡ Some t = sym untimed ∙ ap tick_of (sym (ap (waiter_at d'.requests) same ∙ is_here)) ∙ at in cc));
-        taken = λ other past was. by_name other id (λ apart. ap awaits_tick (still_at other apart) ∙ was) (λ same. absurd (one.new (subst (λ x. IsPast d.requests x) same past)));
-        past = λ other bounded past. past_still d.requests d'.requests id (Pending it) one.takes other past;
-      }
+  eases = grind arith
 
   pub order_next : (round : Bool) → tick_in it.state ≡ None → IsNamed i n d zs rs ss → d.lists.due ≡ [] → IsOrdered round n.requests.items d.requests d.wheel d.lists.enrolments d.lists.due
       → IsOrdered round n'.requests.items d'.requests d'.wheel d'.lists.enrolments d'.lists.due
@@ -201,18 +173,7 @@ module _ (i : ℕ) (n n' : Names) (d d' : Driving Reply Reply) (zs : Slab (Sleep
 
   -- what has landed has its number and its record still
   pub flies_on : AllFlyOn n n' d d' rs (rs ++ r ∷ [])
-  flies_on other w x given at flies there landed =
-      let some = some_of other w at in
-      record {
-        it' = w;
-        r' = x;
-        live = still_at other (name_apart d.requests d'.requests id (Pending it) one.takes other some) ∙ at;
-        flies = refl;
-        same = refl;
-        number = number_there other some;
-        there = got_old rs r x (number_in n.requests.items other) there;
-        phase = refl;
-      }
+  flies_on = grind (arith, some_of, still_at, name_apart, number_there, got_old)
 
   pub flown_next : (x : Option InService) → IsNamed i n d zs rs ss → HasFlown x i n d rs → HasFlown x i n' d' (rs ++ r ∷ [])
   flown_next x named flown =
@@ -254,21 +215,10 @@ module _ (i : ℕ) (n n' : Names) (d d' : Driving Reply Reply) (zs : Slab (Sleep
   -- WHAT WAS KNOWN
 
   generation_at : id.generation ≡ generation_of (slot_at d.requests id.index)
-  generation_at = by (nat_lt at_index (2 ^ 32)) one.next
-    where
-      at_index : ℕ
-      at_index = next_index d.requests.vacant (length d.requests.slots)
-
-      by : (b : Bool) → (if b then Some (record { index = at_index; generation = generation_of (slot_at d.requests at_index) }) else None) ≡ Some id → id.generation ≡ generation_of (slot_at d.requests id.index)
-      by true is =
-          let same : record { index = at_index; generation = generation_of (slot_at d.requests at_index) } ≡ id = same_thing (record { index = at_index; generation = generation_of (slot_at d.requests at_index) }) id is in
-          subst (λ (x : Id). x.generation ≡ generation_of (slot_at d.requests x.index)) same refl
-      by false is = absurd (let no : None ≡ Some id = is in cc)
+  generation_at = grind arith
 
   no_less : (slot : Slot (Entry Reply Reply)) → generation_of slot ≤ next_generation slot
-  no_less (Live g e) = omega arith
-  no_less (Vacant g) = omega arith
-  no_less Retired = omega arith
+  no_less = grind arith
 
   -- as many times as it was taken there is a request
   few_times : ((other : Id) → IsPast d.requests other → other.generation < length rs) → id.generation < length rs + 1

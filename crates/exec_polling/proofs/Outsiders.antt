@@ -1,5 +1,5 @@
 -- The steps of an outside caller: what each leaves of others, and what those on the idle set are to the machine.
-use Rattle.std.proofs.{Common.{◌≡◌, ◌≢◌, ℕ, ◌+◌, ◌-◌, ◌^◌, ◌<◌, ◌≤◌, ◌==◌, ◌&&◌, Bool, true, false, not, Contains, List, length, Option, Some, None, IsSome, refl, sym, ap, subst, ◌∙◌, arith, option_to_list, slice_get, slice_set, if◌then◌else◌}, lemmas.{Bool.false≢true, List.{length-set, Quantifiers.position-Some}, Option.get_or_from_slice_get}}
+use Rattle.std.proofs.{Common.{◌≡◌, ◌≢◌, ℕ, ◌+◌, ◌-◌, ◌^◌, ◌<◌, ◌==◌, ◌&&◌, Bool, true, false, not, Contains, List, length, Option, Some, None, IsSome, refl, sym, ap, subst, ◌∙◌, arith, option_to_list, slice_get, slice_set, if◌then◌else◌}, lemmas.{Bool.false≢true, List.{length-set, Quantifiers.position-Some}, Option.get_or_from_slice_get}}
 use Rattle.exec_words.specs.{Idle.{Idle, is_in, lowest_of}, declared.idle.WorkerSet.WorkerSet}
 use Rattle.exec_task.specs.declared.{body.Said.Said, runnable.Runnable.Runnable}
 use Rattle.exec_machine.specs.{declared.{event.Event.{Event, TheVariants.{Turn, Return}}}, Callers.{common_by, is_half_done, may_go_on}, Choice.Choice.Plain, Progress.Plan}
@@ -44,26 +44,7 @@ module _ {B : Type 0} where
   -- the search count changes with what the caller holds of it
   pub whole_idled : (c c' : Caller) (s : Shared B) (x : Idle) → c'.hand ≡ c.hand → x.published ≡ s.idle.published → x.count + one_if (has_count_in c.place) ≡ s.idle.count + one_if (has_count_in c'.place)
       → (others : Profile) → IsWhole (with_caller others c) s → IsWhole (with_caller others c') (record s { idle = x })
-  whole_idled c c' s x hand set moved others whole =
-      let was : (others.counts + one_if (has_count_in c.place)) + claimed_count others s ≡ s.idle.count = whole.counts in
-      let now : (others.counts + one_if (has_count_in c'.place)) + claimed_count others s ≡ x.count = omega (arith, was, moved) in
-      record {
-        runnables = λ t slot there home. rw hand (whole.runnables t slot there home);
-        polls = whole.polls;
-        claims = whole.claims;
-        counts = rw set now;
-        bits = λ j h. whole.bits j (rw (← set) h);
-        set = ap length set ∙ whole.set;
-        queued_here = whole.queued_here;
-        queued_there = whole.queued_there;
-        places = whole.places;
-        made = λ t more. rw hand (whole.made t more);
-        unclaimed = whole.unclaimed;
-        in_pool = whole.in_pool;
-        pool = whole.pool;
-        gates = whole.gates;
-        holding = whole.holding;
-      }
+  whole_idled = grind arith
 
   -- a claim hands the count over to the worker whose bit it takes
   pub whole_claimed : (c c' : Caller) (s : Shared B) (k : ℕ) (x : Idle) → c'.hand ≡ c.hand → has_count_in c.place ≡ true → has_count_in c'.place ≡ false → lowest_of s.idle.published ≡ Some k → x ≡ record s.idle { published = slice_set s.idle.published k false }
@@ -129,18 +110,10 @@ module _ {B : Type 0} where
 
   -- one more count fits, and who holds one can return it
   pub call_count_fits : (c : Caller) (s : Shared B) → CallSound c s → HasCallWhole c s → s.idle.count + 1 < 2 ^ 64
-  call_count_fits c s sound has =
-      let others = has.others in
-      let claims : claimed_count others s ≤ s.config.workers =
-      sum_few (λ j. one_if (others.published j && not (is_in s.idle.published j))) 0 s.config.workers (λ j. at_most (others.published j && not (is_in s.idle.published j))) in
-      let was : (others.counts + one_if (has_count_in c.place)) + claimed_count others s ≡ s.idle.count = has.whole.counts in
-      omega (arith, was, has.few, claims, at_most (has_count_in c.place), sound.many, sound.config.few)
+  call_count_fits = grind (arith, sum_few, at_most)
 
   pub call_has_count : (c : Caller) (s : Shared B) → has_count_in c.place ≡ true → HasCallWhole c s → 0 < s.idle.count
-  call_has_count c s counted has =
-      let was : (has.others.counts + one_if (has_count_in c.place)) + claimed_count has.others s ≡ s.idle.count = has.whole.counts in
-      let own : one_if (has_count_in c.place) ≡ 1 = rw counted refl in
-      omega (arith, was, own)
+  call_has_count = grind arith
 
   -- who can be claimed is a worker
   call_claims : (c : Caller) (s : Shared B) (k : ℕ) → CallSound c s → HasCallWhole c s → lowest_of s.idle.published ≡ Some k → k < length s.seats.items

@@ -1,5 +1,5 @@
 -- A shard, and the task set, without a task that leaves it.
-use Rattle.std.{proofs.{Common.{[], ◌≡◌, ◌≢◌, ℕ, zero, suc, ◌+◌, ◌%◌, ◌<◌, ◌≤◌, ◌==◌, nat_lt, not, Bool, true, false, cond, List, ◌∷◌, length, map, filter, Some, None, IsSome, refl, sym, ap, subst, ◌∙◌, arith, slice_index_or, is_some}, lemmas.{Bool.{false≢true, eq-eqb, Decides.nat_tests}, List.Sums.sum_by-cons}}, specs.{Ordering.nat_cmp, BTreeMap.is_at}}
+use Rattle.std.{proofs.{Common.{[], ◌≡◌, ◌≢◌, ℕ, zero, suc, ◌+◌, ◌%◌, ◌<◌, ◌≤◌, ◌==◌, not, Bool, true, false, cond, List, ◌∷◌, length, map, filter, None, IsSome, refl, sym, ap, subst, ◌∙◌, arith, slice_index_or, is_some}, lemmas.{Bool.{false≢true}, List.Sums.sum_by-cons}}, specs.{Ordering.nat_cmp, BTreeMap.is_at}}
 use Rattle.exec_task.specs.TaskSet.{AreAtHome, Set, at_number, held, shard_at, without_task}
 use Rattle.exec_parts.proofs.Facts.{not_same, same_number}
 use Rattle.exec_invariants.{specs.{Drained.in_set, Places.one_if}, proofs.PoolShards.{in_shard, in_shards}}
@@ -13,20 +13,7 @@ abbrev pub shard_without : ℕ → List (ℕ × Unit {0}) → List (ℕ × Unit 
 shard_without t shard = without_task shard t
 
 at_its_number : (t n : ℕ) → is_at (nat_cmp t) n ≡ (n == t)
-at_its_number t n = by (n == t) (nat_lt t n) refl refl
-  where
-    by : (b c : Bool) → (n == t) ≡ b → nat_lt t n ≡ c → is_at (nat_cmp t) n ≡ (n == t)
-    by true true same less =
-        let is : n ≡ t = same_number n t same in
-        let far : t < n = grind (arith, nat_tests, less) in
-        absurd (omega (arith, is, far))
-    by true false same less =
-        let two : (t == n) ≡ true = eq-eqb t n (sym (same_number n t same)) in
-        rw (less, two, same) refl
-    by false true same less = rw (less, same) refl
-    by false false same less =
-        let two : (t == n) ≡ false = not_same t n (λ is. false≢true (sym same ∙ eq-eqb n t (sym is))) in
-        rw (less, two, same) refl
+at_its_number = grind arith
 
 taken_here : (t : ℕ) (e : ℕ × Unit {0}) (es : List (ℕ × Unit {0})) → (e.0 == t) ≡ true → shard_without t (e ∷ es) ≡ es
 taken_here t e es is = ap (λ b. cond b es (e ∷ shard_without t es)) (at_its_number t e.0 ∙ is)
@@ -43,22 +30,11 @@ counted t e es = sum_by-cons (λ (y : ℕ × Unit {0}). cond (y.0 == t) 1 0) e e
 
 pub others_stay : (t u : ℕ) (shard : List (ℕ × Unit {0})) → u ≢ t → in_shard u (shard_without t shard) ≡ in_shard u shard
 others_stay t u [] other = refl
-others_stay t u (e ∷ es) other = by (e.0 == t) refl (others_stay t u es other)
-  where
-    by : (b : Bool) → (e.0 == t) ≡ b → in_shard u (shard_without t es) ≡ in_shard u es → in_shard u (shard_without t (e ∷ es)) ≡ in_shard u (e ∷ es)
-    by true is rest =
-        let no : one_if (e.0 == u) ≡ 0 = ap one_if (not_same e.0 u (λ same. other (sym same ∙ same_number e.0 t is))) in
-        ap (in_shard u) (taken_here t e es is) ∙ omega (arith, counted u e es, no)
-    by false is rest =
-        ap (in_shard u) (kept_here t e es is) ∙ omega (arith, counted u e es, counted u e (shard_without t es), rest)
+others_stay t u (e ∷ es) other = grind (arith, in_shard, not_same, same_number, taken_here, counted, kept_here, others_stay t u es other)
 
 pub as_few : (t : ℕ) (shard : List (ℕ × Unit {0})) → in_shard t (shard_without t shard) ≤ in_shard t shard
 as_few t [] = omega arith
-as_few t (e ∷ es) = by (e.0 == t) refl (as_few t es)
-  where
-    by : (b : Bool) → (e.0 == t) ≡ b → in_shard t (shard_without t es) ≤ in_shard t es → in_shard t (shard_without t (e ∷ es)) ≤ in_shard t (e ∷ es)
-    by true is rest = omega (arith, ap (in_shard t) (taken_here t e es is), counted t e es)
-    by false is rest = omega (arith, ap (in_shard t) (kept_here t e es is), counted t e es, counted t e (shard_without t es), rest)
+as_few t (e ∷ es) = grind (arith, in_shard, taken_here, counted, kept_here, as_few t es)
 
 -- what is seen of it: one that stands there once at most is gone
 abbrev pub but : ℕ → List ℕ → List ℕ
@@ -66,35 +42,16 @@ but t ns = filter (λ n. not (n == t)) ns
 
 none_filtered : (t : ℕ) (shard : List (ℕ × Unit {0})) → in_shard t shard ≡ 0 → but t (numbers shard) ≡ numbers shard
 none_filtered t [] none = refl
-none_filtered t (e ∷ es) none = by (e.0 == t) refl (none_filtered t es)
-  where
-    by : (b : Bool) → (e.0 == t) ≡ b → (in_shard t es ≡ 0 → but t (numbers es) ≡ numbers es) → but t (numbers (e ∷ es)) ≡ numbers (e ∷ es)
-    by true is rest = let one : one_if (e.0 == t) ≡ 1 = ap one_if is in absurd (omega (arith, none, counted t e es, one))
-    by false is rest = ap (λ b. cond (not b) (e.0 ∷ but t (numbers es)) (but t (numbers es))) is ∙ ap (λ ns. e.0 ∷ ns) (rest (omega (arith, none, counted t e es)))
+none_filtered t (e ∷ es) none = grind (arith, in_shard, counted, none_filtered t es)
 
 pub filtered : (t : ℕ) (shard : List (ℕ × Unit {0})) → in_shard t shard ≤ 1 → but t (numbers shard) ≡ numbers (shard_without t shard)
 filtered t [] few = refl
-filtered t (e ∷ es) few = by (e.0 == t) refl (filtered t es)
-  where
-    by : (b : Bool) → (e.0 == t) ≡ b → (in_shard t es ≤ 1 → but t (numbers es) ≡ numbers (shard_without t es)) → but t (numbers (e ∷ es)) ≡ numbers (shard_without t (e ∷ es))
-    by true is rest =
-        let one : one_if (e.0 == t) ≡ 1 = ap one_if is in
-        let none : in_shard t es ≡ 0 = omega (arith, few, counted t e es, one) in
-        ap (λ b. cond (not b) (e.0 ∷ but t (numbers es)) (but t (numbers es))) is ∙ none_filtered t es none ∙ ap numbers (sym (taken_here t e es is))
-    by false is rest =
-        ap (λ b. cond (not b) (e.0 ∷ but t (numbers es)) (but t (numbers es))) is ∙ ap (λ ns. e.0 ∷ ns) (rest (omega (arith, few, counted t e es))) ∙ ap numbers (sym (kept_here t e es is))
+filtered t (e ∷ es) few = grind (arith, in_shard, counted, none_filtered, taken_here, kept_here, filtered t es)
 
 -- what isn't found there isn't then
 pub without_none : (t : ℕ) (shard : List (ℕ × Unit {0})) (n : ℕ) → at_number shard n ≡ None → at_number (shard_without t shard) n ≡ None
 without_none t [] n none = refl
-without_none t (e ∷ es) n none = by (is_at (nat_cmp n) e.0) (e.0 == t) refl refl (without_none t es n)
-  where
-    by : (b c : Bool) → is_at (nat_cmp n) e.0 ≡ b → (e.0 == t) ≡ c → (at_number es n ≡ None → at_number (shard_without t es) n ≡ None) → at_number (shard_without t (e ∷ es)) n ≡ None
-    by true c is same rest = let never : Some e.1 ≡ None = sym (ap (λ b. cond b (Some e.1) (at_number es n)) is) ∙ none in absurd (cc)
-    by false true is same rest = ap (λ zs. at_number zs n) (taken_here t e es same) ∙ sym (ap (λ b. cond b (Some e.1) (at_number es n)) is) ∙ none
-    by false false is same rest =
-        ap (λ zs. at_number zs n) (kept_here t e es same) ∙ ap (λ b. cond b (Some e.1) (at_number (shard_without t es) n)) is
-        ∙ rest (sym (ap (λ b. cond b (Some e.1) (at_number es n)) is) ∙ none)
+without_none t (e ∷ es) n none = grind (arith, taken_here, kept_here, without_none t es n)
 
 -- THE SET that it leaves
 
@@ -106,13 +63,7 @@ at_most_all t (x ∷ xs) (suc k) = omega (arith, sum_by-cons (in_shard t) x xs, 
 -- where it stands, that is its own shard
 found_in : (t : ℕ) (shard : List (ℕ × Unit {0})) → 0 < in_shard t shard → IsSome (at_number shard t)
 found_in t [] some = absurd (omega (arith, some))
-found_in t (e ∷ es) some = by (e.0 == t) refl (found_in t es)
-  where
-    by : (b : Bool) → (e.0 == t) ≡ b → (0 < in_shard t es → IsSome (at_number es t)) → IsSome (at_number (e ∷ es) t)
-    by true is rest = subst IsSome (sym (ap (λ b. cond b (Some e.1) (at_number es t)) (at_its_number t e.0 ∙ is))) refl
-    by false is rest =
-        let none : one_if (e.0 == t) ≡ 0 = ap one_if is in
-        subst IsSome (sym (ap (λ b. cond b (Some e.1) (at_number es t)) (at_its_number t e.0 ∙ is))) (rest (omega (arith, some, counted t e es, none)))
+found_in t (e ∷ es) some = grind (arith, in_shard, at_its_number, counted, found_in t es)
 
 which_shard : (t : ℕ) (shards : List (List (ℕ × Unit {0}))) → 0 < in_shards t shards → (k : ℕ) × (0 < in_shard t (slice_index_or shards k []))
 which_shard t [] some = absurd (omega (arith, some))

@@ -1,5 +1,6 @@
 -- An act that got no memory: what is seen is as before.
 use Rattle.std.proofs.{Common.{◌≡◌, ℕ, zero, suc, ◌++◌, false, List, [], ◌∷◌, length, map, Option, Some, None, refl, sym, ap, ◌∙◌, slice_get, slice_set}, Math.Seq.map-set_same, lemmas.{List.{append-nil, set-set}, Option.get_or_from_slice_get}}
+use Rattle.std.proofs.Common.{arith}
 use Rattle.exec_base.specs.declared.error.Error.TheVariants.{NoMemory}
 use Rattle.exec_ring.specs.Rings.{completions}
 use Rattle.exec_waiters.specs.{States.flying_count, Told.{Tells, nothing_told}, declared.deferred.Deferred.Deferred}

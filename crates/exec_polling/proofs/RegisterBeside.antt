@@ -1,11 +1,11 @@
 -- What a worker leaves of others that has made a request or a sleeper for the task that it polls.
-use Rattle.std.proofs.{Common.{◌≡◌, ◌≢◌, inl, inr, ℕ, ◌+◌, ◌≤◌, ◌==◌, not, Contains, Bool, true, false, ◌++◌, count_by, length, map, Some, None, refl, sym, ap, subst, ◌∙◌, arith, slice_get, if◌then◌else◌}, lemmas.List.length-set}
+use Rattle.std.proofs.{Common.{◌≡◌, ◌≢◌, inl, inr, ℕ, ◌+◌, ◌≤◌, ◌==◌, not, Contains, Bool, true, false, ◌++◌, count_by, length, map, Some, refl, sym, ap, subst, ◌∙◌, arith, slice_get, if◌then◌else◌}, lemmas.List.length-set}
 use Rattle.exec_words.specs.Queue.{Queue}
 use Rattle.exec_ring.specs.Stores.{HasStretch}
 use Rattle.exec_task.specs.{Phases.is_polled, declared.{runnable.Runnable.Runnable, task.Task.Task as TaskCell}}
 use Rattle.exec_moves.specs.declared.place.{InPoll.InPoll, Place.Place}
-use Rattle.exec_parts.{specs.{declared.parts.{record.Record.Record, shared.Shared.Shared, sleeping.SleeperRecord.SleeperRecord, task_slot.TaskSlot.TaskSlot, worker.Worker.Worker}, Phased.is_complete}, proofs.Facts.by_number}
-use Rattle.exec_invariants.{specs.{Drained.{IsBefore, IsPool}, Gates.{HaveGates, JoinsGate, has_hint_at}, Holding.{mail_in, mail_of_letters}, Places.{Drops, drops_at, one_if}, Sound.SoundAt, Spares.Spares, Whole.{HasOne, IsWhole, Profile, duties_of, may_let_go, runnables_in, stock, with_worker}, Works.Beside}, proofs.{Aside.{SparesSeats, length_same, profile_same, queue_back, queue_of_chair, queues_set, seats_own, stock_same}, GateJoins.pool_drops, HoldBeside.{Handles, Holds, genuine_still, was_there}, PoolKept.{KeepsGates, chosen_other, chosen_own, gates_set, pool_seats, pool_slot}, Slots.spares_slot, SlotTasks.Keeps, SparedRecord.{sleeper_spared, spared_same}, TaskDeals.{GoesOn, from_act, profile_here}}}
+use Rattle.exec_parts.{specs.{declared.parts.{record.Record.Record, shared.Shared.Shared, sleeping.SleeperRecord.SleeperRecord, task_slot.TaskSlot.TaskSlot, worker.Worker.Worker}, Phased.is_complete}}
+use Rattle.exec_invariants.{specs.{Drained.{IsBefore, IsPool}, Gates.{HaveGates, JoinsGate, has_hint_at}, Holding.{mail_in, mail_of_letters}, Places.{Drops, drops_at, one_if}, Sound.SoundAt, Spares.Spares, Whole.{HasOne, IsWhole, Profile, duties_of, may_let_go, runnables_in, stock, with_worker}, Works.Beside}, proofs.{Aside.{SparesSeats, length_same, profile_same, queue_back, queue_of_chair, queues_set, seats_own, stock_same}, GateJoins.pool_drops, HoldBeside.{Handles, Holds, genuine_still, was_there}, PoolKept.{KeepsGates, gates_set, pool_seats, pool_slot}, Slots.spares_slot, SlotTasks.Keeps, SparedRecord.{sleeper_spared, spared_same}, TaskDeals.{GoesOn, from_act, profile_here}}}
 use Rattle.exec_polling.proofs.RegisterSound.{Makes, made_at}
 
 module _ {B : Type 0} (t : ℕ) (w v : Worker) (s s' : Shared B) (slot slot' : TaskSlot B) (sound : SoundAt (Place.Poll t InPoll.Act) w s) (m : Makes w v s (record s' { tasks = s.tasks })) (handles : Handles t s s' slot slot') where
@@ -57,11 +57,7 @@ module _ {B : Type 0} (t : ℕ) (w v : Worker) (s s' : Shared B) (slot slot' : T
 
   -- THE BALANCES
   gates : KeepsGates s.seats.items s'.seats.items
-  gates =
-      let it = m.seat in
-      let more = it.more in
-      gates_set w.index s.seats.items s'.seats.items it.chair (made_at it.places it.chair) it.set it.there
-      (record { left = refl; pool = refl; closed = refl; mail = λ mail. record { roots = mail.roots; empty = mail.empty; place = λ none. let some = mail.place none in omega (arith, some, more) } })
+  gates = grind (arith, gates_set, made_at)
 
   queues : map queue_of_chair s'.seats.items ≡ map queue_of_chair s.seats.items
   queues = ap (map queue_of_chair) m.seat.set ∙ queues_set s.seats.items w.index m.seat.chair (made_at m.seat.places m.seat.chair) m.seat.there refl
@@ -148,18 +144,7 @@ module _ {B : Type 0} (t k : ℕ) (w : Worker) (s : Shared B) where
       let d = duties_of (with_worker others acts_here) in
       let d1 = duties_of (with_worker others joins_here) in
       let pool : IsPool d1 s.tasks.items s.set s.seats.items = pool_drops d d1 s.tasks.items s.set s.seats.items refl refl (λ j. clears (j == w.index) (others.drops_by j)) (λ j. removes (j == w.index) (others.drops_by j)) whole.pool in
-      let gates : HaveGates (with_worker others joins_here).drops_by s.opens s.requests.items = record {
-        passes = λ j file is.
-            by_number j w.index
-            (λ other. whole.gates.passes j file (ap (λ (x : Drops). x.passes) (chosen_other j w.index a (others.drops_by j) other ∙ sym (chosen_other j w.index b (others.drops_by j) other)) ∙ is))
-            (λ same. let no : None ≡ Some file = sym (ap (λ (x : Drops). x.passes) (chosen_own w.index b (others.drops_by w.index))) ∙ ap (λ n. ((with_worker others joins_here).drops_by n).passes) (sym same) ∙ is in absurd (cc));
-        joins = λ j l is.
-            by_number j w.index
-            (λ other. whole.gates.joins j l (ap (λ (x : Drops). x.joins) (chosen_other j w.index a (others.drops_by j) other ∙ sym (chosen_other j w.index b (others.drops_by j) other)) ∙ is))
-            (λ same.
-            let which : k ≡ l = let both : Some k ≡ Some l = sym (ap (λ (x : Drops). x.joins) (chosen_own w.index b (others.drops_by w.index))) ∙ ap (λ n. ((with_worker others joins_here).drops_by n).joins) (sym same) ∙ is in cc in
-            subst (λ n. JoinsGate n l s.opens s.requests.items) (sym same) (subst (λ n. JoinsGate w.index n s.opens s.requests.items) which joins));
-      } in
+      let gates : HaveGates (with_worker others joins_here).drops_by s.opens s.requests.items = grind arith in
       assumption (pool, gates, whole)
     where
       clears : (b : Bool) (o : Drops) → (if b then drops_at (Place.Poll t (InPoll.JoinGate k)) else o).clears ≡ (if b then drops_at (Place.Poll t InPoll.Act) else o).clears

@@ -48,11 +48,7 @@ module _ (h : Hands) (workers i t : ℕ) (hs : List Holder) (ts : List Thing) (n
 
   -- nor held, nor waited for
   unheld : holdings (length ts) hs ≡ 0
-  unheld = none_summed (λ (o : Holder). count_by (λ (x : Held). x.number == length ts) o.held) hs (λ u o at.
-      none_counted (λ (x : Held). x.number == length ts) o.held (λ j x there.
-      let held = old.holds u o j x at there in
-      let within = slice_get_within ts x.number held.0 held.1 in
-      not_same x.number (length ts) (λ same. omega (arith, within, same))))
+  unheld = grind (arith, none_summed, none_counted, slice_get_within, not_same)
 
   unawaited : waiters (subject.Timer (length naps)) hs ≡ 0
   unawaited = none_counted (λ (o : Holder). not o.over && is_awaited_by (subject.Timer (length naps)) o.awaits) hs (λ u o at. by u o at o.awaits refl)
@@ -69,52 +65,25 @@ module _ (h : Hands) (workers i t : ℕ) (hs : List Holder) (ts : List Thing) (n
           let within = slice_get_within naps k nap.0 nap.1 in
           and_no (not o.over) (length naps == k) (not_same (length naps) k (λ same. omega (arith, within, same)))
 
-  -- what was there is so still
-  subject_on : (ts' : List Thing) (naps' : List Nap) → ((k : ℕ) (r : Thing) → slice_get ts k ≡ Some r → slice_get ts' k ≡ Some r) → ((k : ℕ) (z : Nap) → slice_get naps k ≡ Some z → slice_get naps' k ≡ Some z) → (j : ℕ) (s : Subject) → IsOf workers j s ts naps → IsOf workers j s ts' naps'
-  subject_on ts' naps' things_on naps_on j (subject.Request k) is = (is.0, things_on k is.0 is.1, is.2, is.3)
-  subject_on ts' naps' things_on naps_on j (subject.Timer k) is = (is.0, naps_on k is.0 is.1, is.2, is.3)
-
   about_on : (ts' : List Thing) (naps' : List Nap) → ((k : ℕ) (r : Thing) → slice_get ts k ≡ Some r → slice_get ts' k ≡ Some r) → ((k : ℕ) (z : Nap) → slice_get naps k ≡ Some z → slice_get naps' k ≡ Some z) → (j : ℕ) (m : Mail) → IsAbout workers j m ts naps → IsAbout workers j m ts' naps'
-  about_on ts' naps' things_on naps_on j Message.WakeRoot is = tt
-  about_on ts' naps' things_on naps_on j (Message.Forward s) is = subject_on ts' naps' things_on naps_on j s is
-  about_on ts' naps' things_on naps_on j (Message.Cancel s) is = subject_on ts' naps' things_on naps_on j s is
+  about_on = grind arith
 
   owes_still : (ts' : List Thing) (naps' : List Nap) → ((k : ℕ) (r : Thing) → slice_get ts k ≡ Some r → slice_get ts' k ≡ Some r) → ((k : ℕ) (z : Nap) → slice_get naps k ≡ Some z → slice_get naps' k ≡ Some z) → (j u : ℕ) (a : Option Subject) → Owes j u a ts naps boxes → Owes j u a ts' naps' boxes
-  owes_still ts' naps' things_on naps_on j u None owes = owes
-  owes_still ts' naps' things_on naps_on j u (Some (subject.Request k)) owes = (owes.0, things_on k owes.0 owes.1, owes.2)
-  owes_still ts' naps' things_on naps_on j u (Some (subject.Timer k)) owes = (owes.0, naps_on k owes.0 owes.1, owes.2)
+  owes_still = grind arith
 
   -- another task, or this one
   by_holder : {P : Type 0} (it' : Holder) (u : ℕ) (o : Holder) → slice_get (slice_set hs t it') u ≡ Some o → (u ≡ t → it' ≡ o → P) → ((u ≡ t → ⊥) → slice_get hs u ≡ Some o → P) → P
-  by_holder it' u o at same other =
-      by_number u t
-      (λ apart. other apart (sym (set_elsewhere hs t u it' apart) ∙ at))
-      (λ is. same is (same_thing it' o (sym (set_there hs t it' may.it may.there) ∙ ap (slice_get (slice_set hs t it')) (sym is) ∙ at)))
+  by_holder = grind (arith, by_number, set_elsewhere, same_thing, set_there)
 
   -- who waits for something is another
   awaits_on : (it' : Holder) (s : Subject) (u : ℕ) → Awaits s u hs → Awaits s u (slice_set hs t it')
-  awaits_on it' s u a =
-      by_number u t
-      (λ apart. record { it = a.it; there = set_elsewhere hs t u it' apart ∙ a.there; awaits = a.awaits })
-      (λ same.
-      let is : may.it ≡ a.it = same_thing may.it a.it (sym may.there ∙ ap (slice_get hs) (sym same) ∙ a.there) in
-      absurd (let no : None ≡ Some s = sym may.waits ∙ ap (λ (x : Holder). x.awaits) is ∙ a.awaits in cc))
+  awaits_on = grind (arith, by_number, set_elsewhere, same_thing)
 
   ordinary_on : (it' : Holder) → it'.home ≡ may.it.home → (u : ℕ) → IsOrdinary u hs → IsOrdinary u (slice_set hs t it')
-  ordinary_on it' home u is =
-      by_number u t
-      (λ apart. record { it = is.it; there = set_elsewhere hs t u it' apart ∙ is.there; home = is.home })
-      (λ same.
-      let one : may.it ≡ is.it = same_thing may.it is.it (sym may.there ∙ ap (slice_get hs) (sym same) ∙ is.there) in
-      record { it = it'; there = ap (slice_get (slice_set hs t it')) same ∙ set_there hs t it' may.it may.there; home = home ∙ ap (λ (x : Holder). x.home) one ∙ is.home })
+  ordinary_on = grind (arith, by_number, set_elsewhere, same_thing, set_there)
 
   owed_on : (it' : Holder) (ts' : List Thing) (naps' : List Nap) → ((k : ℕ) (r : Thing) → slice_get ts k ≡ Some r → slice_get ts' k ≡ Some r) → ((k : ℕ) (z : Nap) → slice_get naps k ≡ Some z → slice_get naps' k ≡ Some z) → (j u : ℕ) → IsOwed j u hs ts naps boxes → IsOwed j u (slice_set hs t it') ts' naps' boxes
-  owed_on it' ts' naps' things_on naps_on j u o =
-      by_number u t
-      (λ apart. record { it = o.it; there = set_elsewhere hs t u it' apart ∙ o.there; owes = owes_still ts' naps' things_on naps_on j u o.it.awaits o.owes })
-      (λ same.
-      let is : may.it ≡ o.it = same_thing may.it o.it (sym may.there ∙ ap (slice_get hs) (sym same) ∙ o.there) in
-      absurd (subst (λ a. Owes j u a ts naps boxes) (sym (ap (λ (x : Holder). x.awaits) is) ∙ may.waits) o.owes))
+  owed_on = grind (arith, by_number, set_elsewhere, owes_still, same_thing)
 
   in_last : {A : Type 0} (xs : List A) (y x : A) (k : ℕ) → slice_get (xs ++ y ∷ []) k ≡ Some x → (slice_get xs k ≡ Some x) ⊎ ((k ≡ length xs) × (y ≡ x))
   in_last xs y x k at = was_got xs y x k at

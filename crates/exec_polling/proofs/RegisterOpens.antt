@@ -1,11 +1,11 @@
 -- The opens once a request was registered: a durable one has a place at the gate of its open, and a plain write counts there.
-use Rattle.std.proofs.{Common.{◌≡◌, ◌≢◌, ℕ, suc, zero, ◌+◌, ◌^◌, ◌<◌, ◌≤◌, ◌==◌, ◌&&◌, Bool, true, false, not, List, [], ◌∷◌, ◌++◌, count_by, drop, length, map, nat_lt, Option, Some, None, IsSome, is_some, refl, sym, ap, subst, ◌∙◌, arith, slice_get, slice_index_or, slice_set, option_map, if◌then◌else◌}, lemmas.{Bool.{false≢true, eq-eqb, Decides.nat_tests}, List.length-set, Option.{get_or_from_slice_get, slice_get-map, slice_get_within}}}
+use Rattle.std.proofs.{Common.{◌≡◌, ◌≢◌, ℕ, suc, zero, ◌+◌, ◌<◌, ◌≤◌, ◌==◌, ◌&&◌, Bool, true, false, List, [], ◌∷◌, ◌++◌, count_by, drop, length, map, Some, None, is_some, refl, sym, ap, subst, ◌∙◌, arith, slice_get, slice_index_or, slice_set, option_map, if◌then◌else◌}, lemmas.{Bool.{false≢true, eq-eqb, Decides.nat_tests}, List.length-set, Option.{get_or_from_slice_get, slice_get-map, slice_get_within}}}
 use Rattle.exec_outcomes.specs.{Accounts.{Account, changed, is_durable}, declared.outcome.Kind.Kind}
 use Rattle.exec_request.specs.{Requests.{asked_of, gate_of, target_of}, declared.request.Request.Request as Asking}
-use Rattle.exec_driver.specs.{Opens.{OpenState, account_by, account_in, placed, with_named, with_open_in, writing}, Steps.plainly_written, declared.opens.WaiterKey.WaiterKey}
+use Rattle.exec_driver.specs.{Opens.{OpenState, account_by, account_in, placed, with_named, writing}, Steps.plainly_written, declared.opens.WaiterKey.WaiterKey}
 use Rattle.exec_machine.specs.{Requests.account_after_admit, Same.same_kind, Tests.{is_gated, is_of_file}, World.{Open, no_open}}
 use Rattle.exec_parts.{specs.{declared.parts.record.Record.Record, Admitting.has_open, Records.file_named, View.{account_seen, gate_seen, has_given_up, line_of, number_of_key, open_seen}}, proofs.Facts.{and_parts, by_number, same_number, same_thing, set_there, set_elsewhere}}
-use Rattle.exec_invariants.{specs.{Gates.{AreLinedUp, HaveGates, JoinsGate, at_gate, has_hint_at, is_coming, is_in_line, key_for, line_at}, Places.Drops}, proofs.{Accounted.{account_shown, lines_account, with_its}, Gated.{durable_of_file, gate_there}, Lined.{SameLines, gates_opens, lined_opens}}}
+use Rattle.exec_invariants.{specs.{Gates.{AreLinedUp, HaveGates, JoinsGate, at_gate, has_hint_at, is_coming, key_for, line_at}, Places.Drops}, proofs.{Accounted.{account_shown, lines_account, with_its}, Gated.{durable_of_file}, Lined.{SameLines, gates_opens, lined_opens}}}
 use Rattle.exec_polling.proofs.{GateGrown.{IsNew, gates_grown, gates_placed, joins_new, lined_grown, lined_placed}, Unbegun.IsUnbegun}
 
 -- a record of this request, which nobody has a name for
@@ -18,28 +18,14 @@ pub record IsRegistered (q : Asking) (r : Record) (rs : List Record) : Type 0 wh
 -- ITS OPEN is there, where it is of a file
 
 account_there : (opens : List OpenState) (file : ℕ) → is_some (account_in opens (Some file)) ≡ true → (o : OpenState) × (slice_get opens file ≡ Some o)
-account_there opens file h = by (slice_get opens file) refl h
-  where
-    by : (o : Option OpenState) → slice_get opens file ≡ o → is_some (account_by o) ≡ true → (o : OpenState) × (slice_get opens file ≡ Some o)
-    by None at h = absurd (false≢true h)
-    by (Some o) at h = (o, at)
+account_there = grind arith
 
 socket_kind : (b : Bool) → is_of_file (if b then Kind.Fill else Kind.Recv) ≡ false
 socket_kind true = refl
 socket_kind false = refl
 
 pub open_there : (q : Asking) (opens : List OpenState) → has_open q opens ≡ true → is_of_file (asked_of q).kind ≡ true → (o : OpenState) × (slice_get opens (target_of q) ≡ Some o)
-open_there (Asking.ReadAt r) opens opened file = account_there opens r.file opened
-open_there (Asking.WriteAt w) opens opened file = account_there opens w.file opened
-open_there (Asking.Sync s) opens opened file = account_there opens s.file opened
-open_there (Asking.Recv r) opens opened file = absurd (false≢true (sym (socket_kind r.exact) ∙ file))
-open_there (Asking.Send s) opens opened file = absurd (false≢true file)
-open_there (Asking.Connect s) opens opened file = absurd (false≢true file)
-open_there (Asking.Poll s) opens opened file = absurd (false≢true file)
-
-write_only : (k : Kind) → same_kind k Kind.Write ≡ true → k ≡ Kind.Write
-write_only Kind.Write h = refl
-write_only _ h = absurd (false≢true h)
+open_there = grind (arith, account_there, false≢true, socket_kind)
 
 -- WHO STANDS AT GATES, whatever records come behind theirs
 
@@ -142,47 +128,9 @@ pub data Opened (k : Kind) (opens opens' : List OpenState) (file : ℕ) : Type 0
   Writes : k ≡ Kind.Write → IsWritten opens opens' file → Opened k opens opens' file
   Stays : is_durable k ≡ false → same_kind k Kind.Write ≡ false → opens' ≡ opens → Opened k opens opens' file
 
-some_account : (a : Option Account) → IsSome a → (x : Account) × (a ≡ Some x)
-some_account None h = absurd (false≢true h)
-some_account (Some x) h = (x, refl)
-
 pub opened_so : (q : Asking) (opens opens' : List OpenState) (rs : List Record) → AreLinedUp opens rs → IsUnbegun q → has_open q opens ≡ true → opens' ≡ with_named (with_named opens (gate_of q) placed) (plainly_written q) writing
     → Opened (asked_of q).kind opens opens' (target_of q)
-opened_so q opens opens' rs lined made opened is = by (same_kind (asked_of q).kind Kind.Write) refl (is_durable (asked_of q).kind) refl
-  where
-    k : Kind
-    k = (asked_of q).kind
-
-    file : ℕ
-    file = target_of q
-
-    by : (b : Bool) → same_kind (asked_of q).kind Kind.Write ≡ b → (c : Bool) → is_durable (asked_of q).kind ≡ c → Opened (asked_of q).kind opens opens' (target_of q)
-    by true write c durable =
-        let kind : (asked_of q).kind ≡ Kind.Write = write_only (asked_of q).kind write in
-        let o = open_there q opens opened (ap is_of_file kind) in
-        let a = some_account o.0.account (lined.lines (target_of q) o.0 o.1).kept in
-        let gate : gate_of q ≡ None = made.gateless (ap is_durable kind) in
-        let written : plainly_written q ≡ Some (target_of q) = made.written ∙ ap (λ b. if b then Some (target_of q) else None) write in
-        Writes kind (record {
-          o = o.0;
-          a = a.0;
-          there = o.1;
-          account = a.1;
-          set = is ∙ ap (λ g. with_named (with_named opens g placed) (plainly_written q) writing) gate ∙ ap (λ f. with_named opens f writing) written
-              ∙ ap (with_open_in opens (target_of q) writing) o.1 ∙ ap (λ x. slice_set opens (target_of q) (record o.0 { account = option_map changed x })) a.1;
-        })
-    by false write true durable =
-        let o = open_there q opens opened (durable_of_file (asked_of q).kind durable) in
-        let gate = gate_there q durable in
-        let written : plainly_written q ≡ None = made.written ∙ ap (λ b. if b then Some (target_of q) else None) write in
-        Joins durable (record {
-          o = o.0;
-          there = o.1;
-          set = is ∙ ap (λ f. with_named (with_named opens (gate_of q) placed) f writing) written ∙ ap (λ g. with_named opens g placed) gate ∙ ap (with_open_in opens (target_of q) placed) o.1;
-        })
-    by false write false durable =
-        let written : plainly_written q ≡ None = made.written ∙ ap (λ b. if b then Some (target_of q) else None) write in
-        Stays durable write (is ∙ ap (λ f. with_named (with_named opens (gate_of q) placed) f writing) written ∙ ap (λ g. with_named opens g placed) (made.gateless durable))
+opened_so = grind arith
 
 -- WHAT HOLDS THEN
 
@@ -192,14 +140,7 @@ module _ (q : Asking) (opens opens' : List OpenState) (rs : List Record) (r : Re
       subst (SameLines opens) (sym it.set) (lines_account opens rs (target_of q) it.o (changed it.a) lined it.there (λ none. hint_is it none))
     where
       hint_is : (it : IsWritten opens opens' (target_of q)) → has_hint_at opens (target_of q) ≡ false → it.a.hinted ≡ false
-      hint_is it none = sym (ap (λ o. has_hint_in o) it.there ∙ ap has_hint_of it.account) ∙ none
-        where
-          has_hint_of : Option Account → Bool
-          has_hint_of None = false
-          has_hint_of (Some account) = account.hinted
-
-          has_hint_in : Option OpenState → Bool
-          has_hint_in o = has_hint_of (account_by o)
+      hint_is = grind arith
 
   still_lined : Opened (asked_of q).kind opens opens' (target_of q) → AreLinedUp opens' rs
   still_lined (Joins durable it) = subst (λ os. AreLinedUp os rs) (sym it.set) (lined_placed opens rs (target_of q) it.o it.there lined)
@@ -207,66 +148,24 @@ module _ (q : Asking) (opens opens' : List OpenState) (rs : List Record) (r : Re
   still_lined (Stays undurable plain is) = subst (λ os. AreLinedUp os rs) (sym is) lined
 
   still_many : Opened (asked_of q).kind opens opens' (target_of q) → length opens' ≡ length opens
-  still_many (Joins durable it) = ap length it.set ∙ length-set opens (target_of q) (placed it.o)
-  still_many (Writes kind it) = ap length it.set ∙ length-set opens (target_of q) (with_its (changed it.a) it.o)
-  still_many (Stays undurable plain is) = ap length is
+  still_many = grind (arith, length-set, with_its)
 
   -- it has room at its gate
   room_for_it : Opened (asked_of q).kind opens opens' (target_of q) → (file : ℕ) (o : OpenState) → slice_get opens' file ≡ Some o → is_coming file o (at_gate r) ≡ true → count_by (λ x. is_coming file o (at_gate x)) rs + 1 ≤ o.coming
-  room_for_it how file o there comes = by how
-    where
-      parts : (is_gated r.shown.phase ≡ true) × (((r.shown.operation.target == file) && not (is_in_line (at_gate r).key o)) ≡ true)
-      parts = and_parts (is_gated r.shown.phase) ((r.shown.operation.target == file) && not (is_in_line (at_gate r).key o)) comes
-
-      at_file : target_of q ≡ file
-      at_file = sym new.target ∙ same_number r.shown.operation.target file (and_parts (r.shown.operation.target == file) (not (is_in_line (at_gate r).key o)) parts.1).0
-
-      by : Opened (asked_of q).kind opens opens' (target_of q) → count_by (λ x. is_coming file o (at_gate x)) rs + 1 ≤ o.coming
-      by (Joins durable it) =
-          let is : placed it.o ≡ o = same_thing (placed it.o) o (sym (set_there opens (target_of q) (placed it.o) it.o it.there) ∙ ap (λ os. slice_get os (target_of q)) (sym it.set) ∙ ap (slice_get opens') at_file ∙ there) in
-          let line = lined.lines file it.o (ap (slice_get opens) (sym at_file) ∙ it.there) in
-          let places = line.places in
-          let more : count_by (λ x. is_coming file (placed it.o) (at_gate x)) rs + 1 ≤ it.o.coming + 1 = omega (arith, places) in
-          subst (λ y. count_by (λ x. is_coming file y (at_gate x)) rs + 1 ≤ y.coming) is more
-      by (Writes kind it) = absurd (false≢true (sym (ap is_durable kind) ∙ sym new.gated ∙ parts.0))
-      by (Stays undurable plain is) = absurd (false≢true (sym undurable ∙ sym new.gated ∙ parts.0))
+  room_for_it = grind (arith, and_parts, same_number, same_thing, set_there, false≢true)
 
   pub is_new : Opened (asked_of q).kind opens opens' (target_of q) → IsNew r opens' rs
-  is_new how =
-      record {
-        fresh = new.fresh;
-        there = λ file.
-            let o = open_there q opens opened (ap is_of_file (sym new.kind) ∙ file) in
-            let within = slice_get_within opens (target_of q) o.0 o.1 in
-            let many = still_many how in
-            omega (arith, within, many, new.target);
-        durable = λ gated. ap is_durable new.kind ∙ sym new.gated ∙ gated;
-        waits = λ durable ungated going. false≢true (sym ungated ∙ new.gated ∙ ap is_durable (sym new.kind) ∙ durable);
-        room = room_for_it how;
-      }
+  is_new = grind (arith, open_there, slice_get_within, still_many, false≢true, room_for_it)
 
   pub lined_then : Opened (asked_of q).kind opens opens' (target_of q) → AreLinedUp opens' (rs ++ r ∷ [])
   lined_then how = lined_grown opens' rs r (is_new how) (still_lined how)
 
   -- what others know of hints stays so
   pub hints_then : Opened (asked_of q).kind opens opens' (target_of q) → (file : ℕ) → has_hint_at opens file ≡ false → has_hint_at opens' file ≡ false
-  hints_then (Joins durable it) file none =
-      by_number file (target_of q)
-      (λ apart. ap (λ x. hint_of (account_by x)) (ap (λ os. slice_get os file) it.set ∙ set_elsewhere opens (target_of q) file (placed it.o) apart) ∙ none)
-      (λ same.
-      let before : has_hint_at opens (target_of q) ≡ false = ap (has_hint_at opens) (sym same) ∙ none in
-      ap (has_hint_at opens') same ∙ ap (λ x. hint_of (account_by x)) (ap (λ os. slice_get os (target_of q)) it.set ∙ set_there opens (target_of q) (placed it.o) it.o it.there) ∙ sym (ap (λ x. hint_of (account_by x)) it.there) ∙ before)
-    where
-      hint_of : Option Account → Bool
-      hint_of None = false
-      hint_of (Some account) = account.hinted
-  hints_then (Writes kind it) file none = (lines_of_write it).hints file none
-  hints_then (Stays undurable plain is) file none = ap (λ os. has_hint_at os file) is ∙ none
+  hints_then = grind (arith, by_number, set_elsewhere, set_there, lines_of_write)
 
   still_gates : Opened (asked_of q).kind opens opens' (target_of q) → (drops : ℕ → Drops) → HaveGates drops opens rs → HaveGates drops opens' rs
-  still_gates (Joins durable it) drops have = subst (λ os. HaveGates drops os rs) (sym it.set) (gates_placed drops opens rs (target_of q) it.o it.there have)
-  still_gates (Writes kind it) drops have = gates_opens opens opens' (lines_of_write it) drops rs have
-  still_gates (Stays undurable plain is) drops have = subst (λ os. HaveGates drops os rs) (sym is) have
+  still_gates = grind (arith, gates_placed, gates_opens, lines_of_write)
 
   -- nobody joins yet
   pub gates_then : Opened (asked_of q).kind opens opens' (target_of q) → (drops : ℕ → Drops) (i : ℕ) → (drops i).passes ≡ None → (drops i).joins ≡ None → HaveGates drops opens rs → HaveGates drops opens' (rs ++ r ∷ [])
@@ -281,9 +180,7 @@ module _ (q : Asking) (opens opens' : List OpenState) (rs : List Record) (r : Re
   gates_seen_then how = each_same (gate_seen (rs ++ r ∷ [])) (gate_seen rs) opens' (gate_on opens' rs r (still_lined how)) ∙ before how
     where
       before : Opened (asked_of q).kind opens opens' (target_of q) → map (gate_seen rs) opens' ≡ map (gate_seen rs) opens
-      before (Joins durable it) = ap (map (gate_seen rs)) it.set ∙ set_back (gate_seen rs) opens (target_of q) it.o (placed it.o) it.there refl
-      before (Writes kind it) = ap (map (gate_seen rs)) it.set ∙ set_back (gate_seen rs) opens (target_of q) it.o (with_its (changed it.a) it.o) it.there refl
-      before (Stays undurable plain is) = ap (map (gate_seen rs)) is
+      before = grind (arith, set_back, with_its)
 
   durable_no_write : (k : Kind) → is_durable k ≡ true → same_kind k Kind.Write ≡ false
   durable_no_write Kind.Write h = absurd (false≢true h)
@@ -303,23 +200,11 @@ module _ (q : Asking) (opens opens' : List OpenState) (rs : List Record) (r : Re
   opens_seen_then how = each_same (open_seen (rs ++ r ∷ [])) (open_seen rs) opens' (open_on opens' rs r (still_lined how)) ∙ before how
     where
       before : Opened (asked_of q).kind opens opens' (target_of q) → map (open_seen rs) opens' ≡ opens_with (same_kind (asked_of q).kind Kind.Write)
-      before (Joins durable it) = ap (map (open_seen rs)) it.set ∙ set_back (open_seen rs) opens (target_of q) it.o (placed it.o) it.there refl ∙ ap opens_with (sym (durable_no_write (asked_of q).kind durable))
-      before (Writes kind it) =
-          let shown = shown_there it.o it.there in
-          ap (map (open_seen rs)) it.set ∙ account_shown rs opens (target_of q) it.o (changed it.a)
-          ∙ ap (λ a. slice_set (map (open_seen rs) opens) (target_of q) (record (open_seen rs it.o) { account = changed (account_seen a) })) (sym it.account)
-          ∙ ap (λ (x : Open). slice_set (map (open_seen rs) opens) (target_of q) (record x { account = changed x.account })) (sym shown)
-          ∙ ap (λ k. opens_with (same_kind k Kind.Write)) (sym kind)
-      before (Stays undurable plain is) = ap (map (open_seen rs)) is ∙ ap opens_with (sym plain)
+      before = grind (arith, set_back, durable_no_write, shown_there, account_shown)
 
   -- what its record says of the changes
   named_file : is_of_file (asked_of q).kind ≡ true → file_named (target_of q) ≡ Some (target_of q)
-  named_file file =
-      let o = open_there q opens opened file in
-      let within = slice_get_within opens (target_of q) o.0 o.1 in
-      let few = lined.few in
-      let small : nat_lt (target_of q) (2 ^ 32) ≡ true = let low : target_of q < 2 ^ 32 = omega (arith, within, few) in grind (arith, nat_tests, low) in
-      ap (λ b. if b then Some (target_of q) else None) small
+  named_file = grind (arith, open_there, slice_get_within, nat_tests)
 
   pub seen_then : Opened (asked_of q).kind opens opens' (target_of q) → is_of_file (asked_of q).kind ≡ true
       → (account_seen (account_in opens' (file_named (target_of q)))).mutations ≡ (account_after_admit (asked_of q).kind (slice_index_or (map (open_seen rs) opens) (target_of q) no_open).account).mutations

@@ -1,5 +1,6 @@
 -- What is seen of all once a worker has made a request or a sleeper: its seat's places show nothing.
 use Rattle.std.proofs.{Common.{◌≡◌, ℕ, suc, zero, Bool, false, List, [], ◌∷◌, ◌++◌, map, Option, Some, refl, sym, ap, ◌∙◌, slice_get, slice_set, if◌then◌else◌}, Math.Seq.map-set_same, lemmas.Option.get_or_from_slice_get}
+use Rattle.std.proofs.Common.{arith}
 use Rattle.exec_task.specs.declared.body.Said.{Said}
 use Rattle.exec_machine.specs.{Progress.Plan, World.{Common, Open, Task}, declared.state.{Request.Request, Sleeper.Sleeper}}
 use Rattle.exec_parts.{specs.{declared.parts.{record.Record.Record, seat.Seat.Seat as Chair, shared.Shared.Shared, sleeping.SleeperRecord.SleeperRecord}, Spots.Spot, View.{Views, Visible, common_of, gate_seen, inbox_at, numbers_of_passing, open_seen, polls_seen, queue_at, seat_seen, seats_seen, task_seen, things_with, word_at}}, proofs.Facts.same_thing}
@@ -31,14 +32,7 @@ pub record SameSeats (vs : Views) (before after : List Chair) : Type 0 where
   pub inboxes : map inbox_at after ≡ map inbox_at before
 
 pub seats_alike : (vs : Views) (seats seats' : List Chair) (i batch : ℕ) → MakesAt i batch seats seats' → SameSeats vs seats seats'
-seats_alike vs seats seats' i batch it =
-    record {
-      seats = ap (seats_seen vs.workers) it.set ∙ seats_placed it.places vs.workers seats i it.chair it.there;
-      polls = ap (polls_seen vs.workers) it.set ∙ polls_placed it.places vs.workers seats i it.chair it.there;
-      queues = ap (map queue_at) it.set ∙ part_placed queue_at it.places seats i it.chair it.there refl;
-      words = ap (map word_at) it.set ∙ part_placed word_at it.places seats i it.chair it.there refl;
-      inboxes = ap (map inbox_at) it.set ∙ part_placed inbox_at it.places seats i it.chair it.there refl;
-    }
+seats_alike = grind (arith, seats_placed, polls_placed, part_placed)
 
 -- what was not sent adds nothing to what was
 pub unsent_last : {A : Type 0} (test : A → Bool) (n : ℕ) (xs : List A) (x : A) → test x ≡ false → numbers_of_passing test n (xs ++ x ∷ []) ≡ numbers_of_passing test n xs
@@ -56,17 +50,7 @@ module _ {B : Type 0} where
     pub alarms : numbers_of_passing (λ (z : SleeperRecord). z.sent) 0 s'.sleepers.items ≡ numbers_of_passing (λ (z : SleeperRecord). z.sent) 0 s.sleepers.items
 
   pub things_then : (vs : Views) (s s' : Shared B) → SeesAlike vs s s' → things_with vs s' ≡ things_with vs s
-  things_then vs s s' it =
-      let s1 : Shared B = record s { seats = s'.seats; requests = s'.requests; sleepers = s'.sleepers; opens = s'.opens } in
-      let x = things_with vs s in
-      ap (things_with vs) it.kept
-      ∙ ap (λ qs. record (things_with vs s1) { queues = qs }) it.seats.queues
-      ∙ ap (λ ws. record (things_with vs s1) { queues = x.queues; words = ws }) it.seats.words
-      ∙ ap (λ bs. record (things_with vs s1) { queues = x.queues; words = x.words; inboxes = bs }) it.seats.inboxes
-      ∙ ap (λ ps. record (things_with vs s1) { queues = x.queues; words = x.words; inboxes = x.inboxes; wake_polls = ps }) it.seats.polls
-      ∙ ap (λ gs. record x { gates = gs; answers = numbers_of_passing (λ (r : Record). r.sent) 0 s'.requests.items; alarms = numbers_of_passing (λ (z : SleeperRecord). z.sent) 0 s'.sleepers.items }) it.gates
-      ∙ ap (λ ns. record x { answers = ns; alarms = numbers_of_passing (λ (z : SleeperRecord). z.sent) 0 s'.sleepers.items }) it.answers
-      ∙ ap (λ ns. record x { alarms = ns }) it.alarms
+  things_then = grind arith
 
 module _ {B L : Type 0} (left : B → L) (spot : L → Option Said → Spot) where
   -- by lists of what is seen
@@ -75,6 +59,4 @@ module _ {B L : Type 0} (left : B → L) (spot : L → Option Said → Spot) whe
 
   pub common_then : (p : Plan) (vs : Views) (s s' : Shared B) → SeesAlike vs s s'
       → common_of left spot p vs s' ≡ seen_with (common_of left spot p vs s) (map (task_seen left spot) s'.tasks.items) (map (λ (r : Record). r.shown) s'.requests.items) (map (open_seen s'.requests.items) s'.opens) (map (λ (z : SleeperRecord). z.shown) s'.sleepers.items)
-  common_then p vs s s' it =
-      ap (common_of left spot p vs) it.kept
-      ∙ ap (λ ss. record (common_of left spot p vs s) { tasks = map (task_seen left spot) s'.tasks.items; requests = map (λ (r : Record). r.shown) s'.requests.items; opens = map (open_seen s'.requests.items) s'.opens; sleepers = map (λ (z : SleeperRecord). z.shown) s'.sleepers.items; seats = ss }) it.seats.seats
+  common_then = grind arith

@@ -1,6 +1,5 @@
 -- What holds of a worker that has made a request or a sleeper for the task that it polls: that the task holds it comes after.
-use Rattle.std.proofs.{Common.{◌≡◌, ◌⊎◌, inl, inr, ℕ, ◌+◌, ◌*◌, ◌≤◌, ◌==◌, Bool, true, false, Contains, List, ◌∷◌, [], ◌++◌, length, Some, None, refl, sym, ap, subst, ◌∙◌, arith, slice_get, slice_set, if◌then◌else◌}, lemmas.{Bool.false≢true, List.length-set}}
-use Rattle.exec_words.specs.declared.inbox.Message.{Message}
+use Rattle.std.proofs.{Common.{◌≡◌, ◌⊎◌, inl, ℕ, ◌+◌, ◌*◌, ◌≤◌, ◌==◌, Bool, true, false, Contains, List, ◌∷◌, [], ◌++◌, length, Some, None, refl, sym, ap, subst, ◌∙◌, arith, slice_get, slice_set, if◌then◌else◌}, lemmas.{Bool.false≢true, List.length-set}}
 use Rattle.exec_moves.specs.declared.{handing.AfterCallbacks.AfterCallbacks, place.{InCallbacks.InCallbacks, InPoll.InPoll, Place.Place}}
 use Rattle.exec_parts.{specs.{declared.parts.{mail.Subject.Subject, record.Record.Record, seat.Seat.Seat as Chair, shared.Shared.Shared, sleeping.SleeperRecord.SleeperRecord, task_slot.TaskSlot.TaskSlot, worker.Worker.Worker}, MailPosts.IsMailbox, Phased.{IsPhased, closes_at, closing_in, stage_of}, View.driver_of}, proofs.{Facts.{same_thing, set_there}, Taken.{got_old, was_got}}}
 use Rattle.exec_invariants.{specs.{Gates.AreLinedUp, Holding.Mail, Places.polled_in, Sound.{AreHome, HasBatch, HasGuest, HasLetters, HasQueue, IsMineIn, IsMyMail, IsSeated, IsTied, SoundAt, Stands}}, proofs.ServingHolds.KeepsBy}
@@ -16,10 +15,7 @@ module _ {A : Type 0} where
   grows_same mine xs ys same = subst (Grows mine xs) (sym same) (record { on = λ k x at. at; back = λ k x at. inl at })
 
   pub grows_last : (mine : A → Type 0) (xs ys : List A) (x : A) → ys ≡ xs ++ x ∷ [] → mine x → Grows mine xs ys
-  grows_last mine xs ys x is its = subst (Grows mine xs) (sym is) (record {
-    on = λ k y at. got_old xs x y k at;
-    back = λ k y at. elim (was_got xs x y k at) [ inl was ↦ inl was | inr last ↦ inr (subst mine last.1 its) ];
-  })
+  grows_last = grind (arith, got_old, was_got)
 
 -- A SEAT where something was made
 
@@ -47,9 +43,7 @@ mine_on rs rs' zs zs' records sleepers workers j (Subject.Timer k) is = (is.0, s
 
 mail_on : (rs rs' : List Record) (zs zs' : List SleeperRecord) → ((k : ℕ) (r : Record) → slice_get rs k ≡ Some r → slice_get rs' k ≡ Some r) → ((k : ℕ) (z : SleeperRecord) → slice_get zs k ≡ Some z → slice_get zs' k ≡ Some z)
     → (workers j : ℕ) (m : Mail) → IsMyMail workers j m rs zs → IsMyMail workers j m rs' zs'
-mail_on rs rs' zs zs' records sleepers workers j Message.WakeRoot is = tt
-mail_on rs rs' zs zs' records sleepers workers j (Message.Forward x) is = mine_on rs rs' zs zs' records sleepers workers j x is
-mail_on rs rs' zs zs' records sleepers workers j (Message.Cancel x) is = mine_on rs rs' zs zs' records sleepers workers j x is
+mail_on = grind arith
 
 module _ {B : Type 0} where
   -- THE WORKER with its numbers, its driver, its sleepers and what is told; and what is shared

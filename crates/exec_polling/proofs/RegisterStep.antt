@@ -1,5 +1,5 @@
 -- The act by which a task makes a request: what holds then, and what that leaves of others.
-use Rattle.std.proofs.{Common.{◌≡◌, ◌⊎◌, inl, inr, ℕ, ◌+◌, ◌*◌, ◌^◌, ◌<◌, ◌≤◌, nat_lt, Bool, true, false, List, [], ◌∷◌, ◌++◌, length, map, Option, Some, None, IfSome, refl, sym, ap, subst, ◌∙◌, arith, slice_get, slice_set, option_map, if◌then◌else◌}, lemmas.{Bool.{false≢true, Decides.nat_tests}, List.{length-map, map-append, map-set, set-set}, Option.slice_get-map}}
+use Rattle.std.proofs.{Common.{◌≡◌, ◌⊎◌, inl, inr, ℕ, ◌+◌, ◌^◌, ◌<◌, ◌≤◌, Bool, true, false, List, [], ◌∷◌, ◌++◌, length, map, Option, Some, None, IfSome, refl, sym, ap, subst, ◌∙◌, arith, slice_get, slice_set, option_map, if◌then◌else◌}, lemmas.{Bool.{Decides.nat_tests}, List.{length-map, map-append, map-set, set-set}, Option.slice_get-map}}
 use Rattle.exec_outcomes.specs.{Accounts.is_durable, declared.outcome.Outcome.Outcome}
 use Rattle.exec_request.specs.{Requests.{asked_of, cursor_of, deadline_of, target_of}, declared.request.Request.Request as Asking}
 use Rattle.exec_ring.specs.Stores.{Reserves}
@@ -7,8 +7,8 @@ use Rattle.exec_driver.specs.{Opens.account_in, Footprints.footprint_of, Steps.i
 use Rattle.exec_task.specs.{Phases.is_polled, Sight.Sight, declared.body.{Act.Act, Said.Said}}
 use Rattle.exec_machine.specs.{declared.{config.Configuration.Configuration, event.Event.Event, state.{Forwarding.TheVariants.Unsent, Request.Request, Waiting.Waiting}}, Progress.Plan, Requests.{new_request, outcome_if_late, resolved_if}}
 use Rattle.exec_moves.specs.declared.{handing.AfterCallbacks.AfterCallbacks, place.{InCallbacks.InCallbacks, InPoll.InPoll, Place.Place}}
-use Rattle.exec_parts.{specs.{declared.parts.{record.Record.Record, seat.Seat.Seat as Chair, shared.Shared.Shared, sleeping.SleeperRecord.SleeperRecord, task_slot.TaskSlot.TaskSlot, worker.Worker.Worker}, Admitting.{Registers, joins_gate, one_made, seeing}, Records.{file_named, numbers_held, operation_in, outcome_in, seen_in}, Scripts.{IsAnswer, IsPlainRequest, held_after}, Spots.Spot, View.{Views, account_seen, body_in, driver_of, task_seen}}, proofs.Facts.{by_number, same_thing, set_there}}
-use Rattle.exec_invariants.{specs.{Acting.{HasActed, StillPerforms}, Gates.{AreLinedUp, HaveGates, JoinsGate}, Hearing.{CanHear, held_once_come}, Holding.{Box, IsHolding, MayHave, Thing, awaited_in, box_of, holder_of, nap_of, thing_of}, Places.{Drops, drops_at}, Sound.{SoundAt, acts_next}, Whole.{Profile, hands_of, with_worker}, Works.Beside}, proofs.{Gated.durable_of_file, Here.{IsHere, going_on, polled_here}, HoldBeside.{Handles, Holds}, HoldThings.touches_none, Pending.in_poll, Performing.{performs_on, still_performs}, PoolKept.chosen_own, ServingHolds.KeepsBy, SlotTasks.guest_pool, TaskDeals.{Dealt, acts, from_act, sound_dealt}}}
+use Rattle.exec_parts.{specs.{declared.parts.{record.Record.Record, seat.Seat.Seat as Chair, shared.Shared.Shared, sleeping.SleeperRecord.SleeperRecord, task_slot.TaskSlot.TaskSlot, worker.Worker.Worker}, Admitting.{Registers, joins_gate, seeing}, Records.{file_named, numbers_held, operation_in, outcome_in, seen_in}, Scripts.{IsAnswer, IsPlainRequest, held_after}, Spots.Spot, View.{Views, account_seen, body_in, driver_of, task_seen}}, proofs.Facts.{by_number, same_thing, set_there}}
+use Rattle.exec_invariants.{specs.{Acting.{HasActed, StillPerforms}, Gates.{AreLinedUp, HaveGates, JoinsGate}, Hearing.{CanHear, held_once_come}, Holding.{Box, IsHolding, MayHave, Thing, awaited_in, box_of, holder_of, nap_of, thing_of}, Places.{Drops, drops_at}, Sound.{SoundAt}, Whole.{Profile, hands_of, with_worker}, Works.Beside}, proofs.{Gated.durable_of_file, Here.{IsHere, going_on, polled_here}, HoldBeside.{Handles, Holds}, HoldThings.touches_none, Pending.in_poll, Performing.{performs_on, still_performs}, PoolKept.chosen_own, ServingHolds.KeepsBy, SlotTasks.guest_pool, TaskDeals.{Dealt, acts, from_act, sound_dealt}}}
 use Rattle.exec_polling.proofs.{Admitted.IsFew, IsComing.IsComing, Enlisted.{has_its_open, keeps_now, late_plain, made_early, made_late, opened, operation, record_made, registered_made, wakes_now}, Enlists.flat, RegisterBeside.{beside_joins, beside_made}, RegisterHolds.{MayHold, holding_registered}, MadePlaces.{holding_placed, placed_in}, RegisterOpens.{IsRegistered, Opened, covers_then, gates_then, hints_then, joins_then, lined_then}, RegisterSound.{Makes, MakesAt, grows_last, grows_same, made_at, sound_joins, sound_made}, Unbegun.{unbegun, wanted}}
 
 -- nothing is visible of anybody
@@ -21,13 +21,7 @@ bounded_by None n few h = tt
 bounded_by (Some d) n few h = omega (arith, few, h)
 
 few_of : (q : Asking) → IsPlainRequest q → (cursor_of q).switched ≡ false → IsFew q
-few_of (Asking.Recv r) plain going = plain
-few_of (Asking.WriteAt w) plain going = going
-few_of (Asking.Send s) plain going = tt
-few_of (Asking.ReadAt r) plain going = tt
-few_of (Asking.Sync s) plain going = tt
-few_of (Asking.Connect c) plain going = tt
-few_of (Asking.Poll p) plain going = tt
+few_of = grind arith
 
 -- whose inbox is open may have what this worker has
 pub may_have : (workers i : ℕ) (home : Option ℕ) → (home ≡ Some i) ⊎ ((home ≡ None) × (i < workers)) → MayHave workers home i
@@ -46,15 +40,7 @@ module _ {B L : Type 0} (left : B → L) (runs : L → Plan → Option ℕ → T
       let it = wanted c w.moments.sampled _ q asks.1 asks.2 fits in
       let rw_few : c.rw < 2 ^ 60 = subst (λ (x : Configuration). x.rw < 2 ^ 60) h.one.1 h.sound.config.rw in
       let connect_few : c.connect < 2 ^ 60 = subst (λ (x : Configuration). x.connect < 2 ^ 60) h.one.1 h.sound.config.connect in
-      record {
-        made = unbegun q asks.0 fits.unswitched;
-        few = few_of q asks.0 fits.unswitched;
-        unmoved = fits.unmoved;
-        going = fits.unswitched;
-        hint = it.hint;
-        near = bounded_by (deadline_of q) (w.moments.sampled + c.rw + c.connect) (omega (arith, rw_few, connect_few, h.sound.time.not_after, h.sound.time.bounded)) it.near;
-        undated = it.undated;
-      }
+      grind (arith, unbegun, few_of, bounded_by)
 
   abbrev pub how : Opened (asked_of q).kind s.opens s'.opens (target_of q)
   how = opened t w w' s s1 s' q e h.sound reg comes
@@ -92,10 +78,7 @@ module _ {B L : Type 0} (left : B → L) (runs : L → Plan → Option ℕ → T
   flat_is = flat t w w' s s1 s' q e h.sound reg comes covers
 
   flat_shared : s' ≡ record s { seats = s'.seats; tasks = s'.tasks; requests = s'.requests; sleepers = reg.takes.all.sleepers; opens = reg.all.opens; store = reg.all.store }
-  flat_shared =
-      reg.shared
-      ∙ ap (λ (x : Shared B). record x { seats = s'.seats; tasks = s'.tasks; requests = s'.requests }) reg.takes.shared
-      ∙ ap (λ (x : Shared B). record x { seats = s'.seats; tasks = s'.tasks; requests = s'.requests; opens = reg.all.opens; store = reg.all.store }) reg.takes.rooms.shared
+  flat_shared = grind (arith, reg)
 
   pub sleepers_are : s'.sleepers.items ≡ s.sleepers.items
   sleepers_are = ap (λ (x : Shared B). x.sleepers.items) flat_shared ∙ reg.takes.rooms.sleepers
@@ -114,15 +97,7 @@ module _ {B L : Type 0} (left : B → L) (runs : L → Plan → Option ℕ → T
       let batch : w'.batch ≡ reg.takes.mid.batch = ap (λ (x : Worker). x.batch) flat_is in
       let inbox_room = room.inbox in
       let batch_room = room.batch_places in
-      record {
-        chair = mails.chair;
-        there = within;
-        places = mail.places;
-        more = mail.more;
-        room = omega (arith, inbox_room, made, places);
-        batch_room = subst (λ b. 2 * (mails.chair.made + 1) + 1 ≤ b.places) (sym batch) (omega (arith, batch_room, made));
-        set = reg.seats ∙ ap (λ (c : Chair). slice_set s.seats.items w.index (one_made c)) same;
-      }
+      grind arith
 
   pub makes : Makes w (record w' { place = w.place }) s (record s' { tasks = s.tasks })
   makes =
@@ -180,27 +155,13 @@ module _ {B L : Type 0} (left : B → L) (runs : L → Plan → Option ℕ → T
   polled_is = ap (λ (x : TaskSlot B). is_polled x.cell.phase) (sym was_is) ∙ was.polled
 
   pub handles : Handles t s s' h.made.slot reg.slot'
-  handles =
-      record {
-        there = h.made.there;
-        items = items_are;
-        cell = ap (λ (x : TaskSlot B). x.cell) slot_is;
-        home = ap (λ (x : TaskSlot B). x.home) slot_is;
-        cleared = ap (λ (x : TaskSlot B). x.cleared) slot_is;
-        poller = ap (λ (x : TaskSlot B). x.poller) slot_is;
-      }
+  handles = grind (arith, items_are, slot_is)
 
   pub poller_is : h.made.slot.poller ≡ w.index
   poller_is = ap (λ (x : TaskSlot B). x.poller) (sym was_is) ∙ was.poller
 
   home_is : (h.made.slot.home ≡ Some w.index) ⊎ ((h.made.slot.home ≡ None) × (w.index < s.config.workers))
-  home_is =
-      by_number t w.root
-      (λ apart. inr (ap (λ (x : TaskSlot B). x.home) (sym was_is) ∙ (was.ordinary apart).1, low (sym h.sound.role.pool ∙ guest_pool t InPoll.Act w s h.sound apart)))
-      (λ own. inl (ap (λ (x : TaskSlot B). x.home) (sym was_is) ∙ (was.root own).1))
-    where
-      low : nat_lt w.index s.config.workers ≡ true → w.index < s.config.workers
-      low is = grind (arith, nat_tests, is)
+  home_is = grind (arith, by_number, was_is, was, guest_pool, nat_tests)
 
   pub home_mine : (j : ℕ) → h.made.slot.home ≡ Some j → j ≡ w.index
   home_mine j is = elim home_is [ inl own ↦ same_thing j w.index (sym is ∙ own) | inr of_pool ↦ absurd (let no : None ≡ Some j = sym of_pool.0 ∙ is in cc) ]
@@ -211,17 +172,7 @@ module _ {B L : Type 0} (left : B → L) (runs : L → Plan → Option ℕ → T
       let before : SoundAt (Place.Poll t InPoll.Act) (record w' { place = w.place }) (record s' { tasks = s.tasks }) = sound_made t w (record w' { place = w.place }) s (record s' { tasks = s.tasks }) h.sound makes in
       let it : IsHere InPoll.Act t (record w' { place = w.place }) (record s' { tasks = s.tasks }) = polled_here InPoll.Act t (record w' { place = w.place }) (record s' { tasks = s.tasks }) before refl in
       let is : it.slot ≡ h.made.slot = same_thing it.slot h.made.slot (sym it.there ∙ h.made.there) in
-      let to : Dealt InPoll.Act w'.index h.made.slot (record final { held = reg.slot'.held }) s'.requests.items s'.sleepers.items = record {
-        cell = refl;
-        home = refl;
-        cleared = refl;
-        poller = refl;
-        body = refl;
-        told = λ some. refl;
-        untold = λ none. absurd (false≢true (sym none ∙ ap acts_next waits_is));
-        waits = waits_is;
-        stops = tt;
-      } in
+      let to : Dealt InPoll.Act w'.index h.made.slot (record final { held = reg.slot'.held }) s'.requests.items s'.sleepers.items = grind arith in
       let dealt : Dealt InPoll.Act w'.index it.slot reg.slot' s'.requests.items s'.sleepers.items = subst (λ x. Dealt InPoll.Act w'.index x reg.slot' s'.requests.items s'.sleepers.items) (sym is) (subst (λ x. Dealt InPoll.Act w'.index h.made.slot x s'.requests.items s'.sleepers.items) (sym slot_is) to) in
       sound_dealt InPoll.Act InPoll.Act t (record w' { place = w.place }) (record s' { tasks = s.tasks }) s' reg.slot' (from_act t) (acts t) before it refl items_are (touches_none (record s' { tasks = s.tasks })) dealt
 
@@ -305,10 +256,7 @@ module _ {B L : Type 0} (left : B → L) (runs : L → Plan → Option ℕ → T
       (sound_joins t (length s.requests.items) w' s' sound_acts, beside_joins t (length s.requests.items) w' s' w s joins beside_acts)
 
   pub goes_on : SoundAt w'.place w' s' × Beside w s w' s'
-  goes_on =
-      let both = goes_by (is_durable (asked_of q).kind) refl in
-      let place : w'.place ≡ Place.Poll t (joins_gate (length s.requests.items) (asked_of q).kind) = ap (λ (x : Worker). x.place) flat_is in
-      (subst (λ p. SoundAt p (record w' { place = p }) s') (sym place) both.0, subst (λ p. Beside w s (record w' { place = p }) s') (sym place) both.1)
+  goes_on = grind (arith, goes_by, flat_is)
 
   -- it is told of the request, and holds it
   pub performs_asked : StillPerforms left runs holds w s w' s'

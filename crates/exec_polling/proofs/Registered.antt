@@ -1,10 +1,11 @@
 -- The act by which a task makes a request is a step.
-use Rattle.std.proofs.{Common.{◌≡◌, ℕ, ◌+◌, ◌==◌, Bool, true, false, List, [], ◌∷◌, ◌++◌, length, map, Option, Some, None, refl, sym, ap, subst, ◌∙◌, slice_index_or, slice_set, if◌then◌else◌}, lemmas.{Bool.eq-eqb, List.{length-map, map-append, map-set}}}
+use Rattle.std.proofs.{Common.{◌≡◌, ℕ, ◌+◌, ◌==◌, Bool, true, false, List, [], ◌∷◌, ◌++◌, length, map, Option, Some, refl, sym, ap, subst, ◌∙◌, slice_index_or, slice_set, if◌then◌else◌}, lemmas.{Bool.eq-eqb, List.{length-map, map-append, map-set}}}
+use Rattle.std.proofs.Common.{arith}
 use Rattle.exec_outcomes.specs.{Accounts.{is_durable, changed as account_changed}, declared.outcome.{Outcome.Outcome, Kind.Kind}}
 use Rattle.exec_request.specs.{Requests.{asked_of, deadline_of, target_of}, declared.request.Request.Request as Asking}
 use Rattle.exec_driver.specs.Opens.{account_in}
 use Rattle.exec_task.specs.{Sight.Sight, declared.body.{Act.Act, Said.Said}}
-use Rattle.exec_machine.specs.{Choice.Choice.Plain, declared.{config.{Configuration.Configuration, ScriptWord.ScriptWord}, event.Event.{Event, TheVariants.Admit}, state.{Next.Next, Operation.Operation}}, Progress.Plan, Requests.{account_after_admit, asked_now, asks_kind, new_request, operation_asked, operation_or_none, outcome_if_late, own_after_admit, resolved_if, with_seen}, Same.{is_none, same_end, same_kind}, Tests.{is_of_file, is_open}, Words.{moved_on, next_word}, World.{Task, Common, no_open, open_of, task_of}}
+use Rattle.exec_machine.specs.{Choice.Choice.Plain, declared.{config.{Configuration.Configuration, ScriptWord.ScriptWord}, event.Event.{Event, TheVariants.Admit}, state.{Operation.Operation}}, Progress.Plan, Requests.{account_after_admit, asked_now, asks_kind, new_request, operation_asked, operation_or_none, outcome_if_late, own_after_admit, resolved_if, with_seen}, Same.{same_end, same_kind}, Tests.{is_of_file, is_open}, Words.{moved_on, next_word}, World.{Task, Common, no_open, open_of, task_of}}
 use Rattle.exec_moves.specs.{Poll.act_asked, Slots.entered, State.{Desk, Moved, Things}, declared.place.{InPoll.InPoll, Place.Place}}
 use Rattle.exec_parts.specs.{declared.parts.{record.Record.Record, shared.Shared.Shared, sleeping.SleeperRecord.SleeperRecord, worker.Worker.Worker}, Admitting.{Registers, seeing}, Records.{file_named, numbers_held, operation_in, seen_in}, Scripts.IsAnswered, Spots.{Spot, spot_of}, View.{Views, account_seen, common_of, desk_of, driver_of, gate_seen, numbers_of_passing, open_seen, own_of, slots_seen, task_seen, things_with, visible, with_view}}
 use Rattle.exec_invariants.{specs.{Acting.{HasActed, Performs, PerformsAll, StepsOf}, Works.{Suits, Works}}, proofs.{Seats.own_seat, Acting.{IsPlainWord, acts_so, me_at, moved_seen, moves_so}, Slots.task_there, Turning.view_found}}
@@ -13,12 +14,7 @@ use Rattle.exec_polling.proofs.{Enlisted.has_its_open, Enlists.{desk_asked, own_
 module _ {B L : Type 0} (left : B → L) (spot : L → Option Said → Spot) where
   -- a word that asks for a request is neither about another task nor about what is held
   request_word : (c : Configuration) (moment : ℕ) (x : ScriptWord) (o : Operation) → operation_asked c moment x ≡ Some o → IsPlainWord left spot x
-  request_word c moment (ScriptWord.Spawn k) o is = absurd (let never : None ≡ Some o = is in cc)
-  request_word c moment (ScriptWord.Wake u) o is = absurd (let never : None ≡ Some o = is in cc)
-  request_word c moment (ScriptWord.Dedicated k) o is = absurd (let never : None ≡ Some o = is in cc)
-  request_word c moment ScriptWord.Await o is = absurd (let never : None ≡ Some o = is in cc)
-  request_word c moment ScriptWord.Drop o is = absurd (let never : None ≡ Some o = is in cc)
-  request_word c moment x o is = λ t p all w s vs. refl
+  request_word = grind arith
 
 module _ {B L : Type 0} (left : B → L) (runs : L → Plan → Option ℕ → Type 0) (holds : L → Option Said → List ℕ) (spot : L → Option Said → Spot) (gives : L → Option Sight → Said → Act B → L → Option Sight → Type 0)
     (t : ℕ) (w w' : Worker) (s s1 s' : Shared B) (e : Event) (q : Asking) (h : HasActed left runs holds spot gives t w s s1 (Act.Register q)) (reg1 : Registers t q w w' s1 s' e) where
@@ -88,13 +84,7 @@ module _ {B L : Type 0} (left : B → L) (runs : L → Plan → Option ℕ → T
   desk_by_kind false = refl
 
   unserved : (o : Operation) (l : Option Outcome) → own_after_admit o l (length s.requests.items) (own_of (record w { place = Place.Poll t InPoll.Act })) ≡ record (own_after_admit o l (length s.requests.items) (own_of (record w { place = Place.Poll t InPoll.Act }))) { serving = false }
-  unserved o (Some outcome) = refl
-  unserved o None = by (is_durable o.kind)
-    where
-      by : (b : Bool) → (if b then (record (own_of (record w { place = Place.Poll t InPoll.Act })) { next = Next.Joins (length s.requests.items); unreleased = w.names.unreleased + 1 }) else (record (own_of (record w { place = Place.Poll t InPoll.Act })) { ready = (own_of (record w { place = Place.Poll t InPoll.Act })).ready ++ length s.requests.items ∷ []; unenrolled = if is_none o.deadline then (own_of (record w { place = Place.Poll t InPoll.Act })).unenrolled else (own_of (record w { place = Place.Poll t InPoll.Act })).unenrolled ++ length s.requests.items ∷ []; unreleased = w.names.unreleased + 1 }))
-          ≡ record (if b then (record (own_of (record w { place = Place.Poll t InPoll.Act })) { next = Next.Joins (length s.requests.items); unreleased = w.names.unreleased + 1 }) else (record (own_of (record w { place = Place.Poll t InPoll.Act })) { ready = (own_of (record w { place = Place.Poll t InPoll.Act })).ready ++ length s.requests.items ∷ []; unenrolled = if is_none o.deadline then (own_of (record w { place = Place.Poll t InPoll.Act })).unenrolled else (own_of (record w { place = Place.Poll t InPoll.Act })).unenrolled ++ length s.requests.items ∷ []; unreleased = w.names.unreleased + 1 })) { serving = false }
-      by true = refl
-      by false = refl
+  unserved = grind arith
 
   pub works_asked : IsAnswered spot → (p : Plan) (vs : Views) → Suits p vs w s → PerformsAll left runs holds p s → Works left spot p vs w s (Admit (length s.requests.items) (asked_of q).kind (outcome_if_late w.moments.sampled (deadline_of q))) w' s'
   works_asked answered p vs suits performs =

@@ -1,14 +1,14 @@
 -- The act by which a task sleeps: what holds then, and what that leaves of others.
-use Rattle.std.{proofs.{Common.{◌≡◌, ◌⊎◌, inl, inr, ℕ, suc, ◌+◌, ◌*◌, ◌<◌, ◌≤◌, nat_lt, ◌||◌, min, Bool, true, false, List, [], ◌∷◌, ◌++◌, length, map, Option, Some, None, refl, sym, ap, subst, ◌∙◌, arith, slice_get, slice_set, option_map}, lemmas.{Bool.{false≢true, Decides.nat_tests}, List.{append-nil, length-map, map-append, map-set, set-set}, Option.{slice_get-map, slice_get_within}}}, specs.VecDeque.deque_capacity}
-use Rattle.exec_base.specs.{Slab.{IsPast, Slab, TakesId, inserted, is_live, live_count, next_id}, declared.{limits.TheConstants.LONGEST_TIMEOUT, task_no.TaskNo.TaskNo}}
+use Rattle.std.{proofs.{Common.{◌≡◌, ◌⊎◌, inl, inr, ℕ, suc, ◌+◌, ◌<◌, ◌≤◌, ◌||◌, min, Bool, true, false, List, [], ◌∷◌, ◌++◌, length, map, Option, Some, None, refl, sym, ap, subst, ◌∙◌, arith, slice_get, slice_set, option_map}, lemmas.{Bool.{false≢true, Decides.nat_tests}, List.{append-nil, length-map, map-append, map-set, set-set}, Option.{slice_get-map, slice_get_within}}}}
+use Rattle.exec_base.specs.{Slab.{IsPast, Slab, TakesId, inserted, is_live, live_count, next_id}, declared.{limits.TheConstants.LONGEST_TIMEOUT}}
 use Rattle.exec_time.specs.declared.timers.{Sleeper.Sleeper as Sleeping, Observer.Observer}
 use Rattle.exec_ring.specs.Stores.{HasStretch}
 use Rattle.exec_driver.specs.Driving.{seen}
 use Rattle.exec_task.specs.{Phases.is_polled, Sight.Sight, declared.body.{Act.Act, Said.Said}}
 use Rattle.exec_machine.specs.{Progress.Plan, declared.{event.Event.Event, state.{Forwarding.TheVariants.Unsent, Sleeper.Sleeper as Asleep, Waiting.Waiting}}}
 use Rattle.exec_moves.specs.declared.{handing.AfterCallbacks.AfterCallbacks, place.{InCallbacks.InCallbacks, InPoll.InPoll, Place.Place}}
-use Rattle.exec_parts.{specs.{declared.parts.{mail.Reply.Reply, names.Names.Names, record.Record.Record, seat.Seat.Seat as Chair, shared.Shared.Shared, sleeping.SleeperRecord.SleeperRecord, task_slot.TaskSlot.TaskSlot, worker.Worker.Worker}, Admitting.{Sleeps, most_told, one_made}, Records.numbers_held, Scripts.{IsAnswer, held_after}, Calls.IsTold, Spots.Spot, View.{Views, body_in, driver_of, task_seen}}, proofs.{Facts.{by_number, same_thing, set_there}, Growing.told_same, Taken.{got_new, takes_inserted}}}
-use Rattle.exec_invariants.{specs.{Acting.{HasActed, StillPerforms}, Gates.{AreLinedUp, HaveGates, IsKnown, has_hint_at}, Hearing.{CanHear, held_once_come}, Holding.{Box, IsHolding, Nap, awaited_in, box_of, holder_of, nap_of, thing_of}, Sound.SoundAt, Names.tellers, Whole.{Profile, hands_of, with_worker}, Works.Beside}, proofs.{Here.{IsHere, going_on, polled_here}, HoldBeside.{Handles, Holds}, HoldThings.touches_none, Pending.in_poll, Performing.{performs_on, still_performs}, Resolving.places_fewer, ServingHolds.KeepsBy, SlotTasks.guest_pool, TaskDeals.{Dealt, ends, from_act, sound_dealt}, Untold.rooted_told}}
+use Rattle.exec_parts.{specs.{declared.parts.{mail.Reply.Reply, seat.Seat.Seat as Chair, shared.Shared.Shared, task_slot.TaskSlot.TaskSlot, worker.Worker.Worker}, Admitting.{Sleeps, most_told}, Records.numbers_held, Scripts.{IsAnswer, held_after}, Calls.IsTold, Spots.Spot, View.{Views, body_in, driver_of, task_seen}}, proofs.{Facts.{by_number, same_thing, set_there}, Growing.told_same, Taken.{got_new, takes_inserted}}}
+use Rattle.exec_invariants.{specs.{Acting.{HasActed, StillPerforms}, Gates.{HaveGates, IsKnown, has_hint_at}, Hearing.{CanHear, held_once_come}, Holding.{Box, IsHolding, Nap, awaited_in, box_of, holder_of, nap_of, thing_of}, Sound.SoundAt, Names.tellers, Whole.{Profile, hands_of, with_worker}, Works.Beside}, proofs.{Here.{IsHere, going_on, polled_here}, HoldBeside.{Handles, Holds}, HoldThings.touches_none, Pending.in_poll, Performing.{performs_on, still_performs}, Resolving.places_fewer, ServingHolds.KeepsBy, SlotTasks.guest_pool, TaskDeals.{Dealt, ends, from_act, sound_dealt}, Untold.rooted_told}}
 use Rattle.exec_polling.proofs.{Dozing.{OneDozes, asleep_dozes, carried_dozes, flown_dozes, named_dozes, order_dozes, over_dozes, rooted_dozes, timed_dozes}, Enlisted.wide_places, Rooms.few_tellers, RegisterBeside.beside_made, RegisterHolds.{MayHold, holding_slept}, MadePlaces.{holding_placed, placed_in}, RegisterSound.{Makes, MakesAt, grows_last, grows_same, made_at, sound_made}, RegisterStep.may_have}
 use Rattle.exec_parts.specs.declared.parts.mail.Subject.TheVariants as subject
 
@@ -41,13 +41,7 @@ module _ {B L : Type 0} (left : B → L) (runs : L → Plan → Option ℕ → T
   poller_is = ap (λ (x : TaskSlot B). x.poller) (sym was_is) ∙ was.poller
 
   home_is : (h.made.slot.home ≡ Some w.index) ⊎ ((h.made.slot.home ≡ None) × (w.index < s.config.workers))
-  home_is =
-      by_number t w.root
-      (λ apart. inr (ap (λ (x : TaskSlot B). x.home) (sym was_is) ∙ (was.ordinary apart).1, low (sym h.sound.role.pool ∙ guest_pool t InPoll.Act w s h.sound apart)))
-      (λ own. inl (ap (λ (x : TaskSlot B). x.home) (sym was_is) ∙ (was.root own).1))
-    where
-      low : nat_lt w.index s.config.workers ≡ true → w.index < s.config.workers
-      low is = grind (arith, nat_tests, is)
+  home_is = grind (arith, by_number, was_is, was, guest_pool, nat_tests)
 
   pub home_mine : (j : ℕ) → h.made.slot.home ≡ Some j → j ≡ w.index
   home_mine j is = elim home_is [ inl own ↦ same_thing j w.index (sym is ∙ own) | inr of_pool ↦ absurd (let no : None ≡ Some j = sym of_pool.0 ∙ is in cc) ]
@@ -97,9 +91,7 @@ module _ {B L : Type 0} (left : B → L) (runs : L → Plan → Option ℕ → T
   opens_are = ap (λ (x : Shared B). x.opens) flat_shared
 
   pub timers_are : w'.home.timers ≡ record (inserted w.home.timers (record { deadline = until; observer = Observer.Local (record { 0 = t }) })) { room = w'.home.timers.room }
-  timers_are =
-      so.timers ∙ ap (λ (x : Slab (Sleeping Reply)). record (inserted x (record { deadline = until; observer = Observer.Local so.rooms.slot.cell.number })) { room = w'.home.timers.room }) timers_were
-      ∙ ap (λ (n : TaskNo). record (inserted w.home.timers (record { deadline = until; observer = Observer.Local n })) { room = w'.home.timers.room }) number
+  timers_are = grind (arith, so, number, timers_were)
 
   pub next_is : next_id w.home.timers ≡ Some so.made.id.0
   next_is = subst (λ (x : Slab (Sleeping Reply)). next_id x ≡ Some so.made.id.0) timers_were so.next
@@ -112,22 +104,7 @@ module _ {B L : Type 0} (left : B → L) (runs : L → Plan → Option ℕ → T
       (subst (λ (x : Slab (Sleeping Reply)). IsPast x so.made.id.0 → ⊥) timers_were so.unnamed) past in
       let within = slice_get_within w'.names.timers.items so.made.id.0.index (length s.sleepers.items) so.number_is in
       let long : length w.names.timers.items ≤ length w'.names.timers.items = rw (← n.timers) so.longer in
-      record {
-        takes = taken;
-        number_is = so.number_is;
-        others = λ k apart. so.others k apart ∙ ap (λ xs. slice_get xs k) n.timers;
-        beds = elim taken.longer [ inl as_long ↦ omega (arith, as_long, h.sound.named.beds, long) | inr more ↦ omega (arith, more, within) ];
-        shown = so.shown;
-        unclosed = so.unclosed;
-        past = past;
-        requests = ap (λ (x : Names). x.requests.items) so.names ∙ n.requests;
-        staged = ap (λ (x : Names). x.staged) so.names ∙ n.staged;
-        untold = ap (λ (x : Names). x.untold) so.names ∙ n.untold;
-        ended = ap (λ (x : Names). x.ended.items) so.names ∙ n.ended;
-        room = let as_wide : deque_capacity w'.names.ended ≡ deque_capacity so.mid.names.ended = ap (λ (x : Names). deque_capacity x.ended) so.names in omega (arith, as_wide, n.ended_room);
-        unreleased = ap (λ (x : Names). x.unreleased) so.names ∙ n.unreleased;
-        unsent = so.unsent;
-      }
+      grind (arith, so)
 
   pub wakes_none : so.mid.home.deferred.notes.wakes.items ≡ []
   wakes_none = so.rooms.untold.notes.wakes_added ∙ append-nil w.home.deferred.notes.wakes.items ∙ h.sound.quiet refl
@@ -197,50 +174,13 @@ module _ {B L : Type 0} (left : B → L) (runs : L → Plan → Option ℕ → T
       let batch : w'.batch ≡ so.mid.batch = ap (λ (x : Worker). x.batch) flat in
       let inbox_room = room.inbox in
       let batch_room = room.batch_places in
-      record {
-        chair = mails.chair;
-        there = within;
-        places = mail.places;
-        more = mail.more;
-        room = omega (arith, inbox_room, made, places);
-        batch_room = subst (λ b. 2 * (mails.chair.made + 1) + 1 ≤ b.places) (sym batch) (omega (arith, batch_room, made));
-        set = so.seats ∙ ap (λ (c : Chair). slice_set s.seats.items w.index (one_made c)) like;
-      }
+      grind arith
 
   pub makes : Makes w (record w' { place = w.place }) s (record s' { tasks = s.tasks })
-  makes =
-      let by_driver : KeepsBy worker_now (driver_of so.mid) w'.home.timers s.requests.items (s.sleepers.items ++ so.made ∷ []) (record s { store = s'.store }) = subst (λ d. KeepsBy worker_now d w'.home.timers s.requests.items (s.sleepers.items ++ so.made ∷ []) (record s { store = s'.store })) (sym driver_is) keeps_now in
-      let by_lists : KeepsBy worker_now (driver_of so.mid) w'.home.timers s'.requests.items s'.sleepers.items (record s { store = s'.store }) =
-      subst (λ xs. KeepsBy worker_now (driver_of so.mid) w'.home.timers xs s'.sleepers.items (record s { store = s'.store })) (sym requests_are)
-      (subst (λ xs. KeepsBy worker_now (driver_of so.mid) w'.home.timers s.requests.items xs (record s { store = s'.store })) (sym so.sleepers) by_driver) in
-      let by_worker : KeepsBy (record w { place = Place.Callbacks InCallbacks.TakeBatch AfterCallbacks.Look; names = w'.names; home = record w.home { deferred = w'.home.deferred } }) (driver_of w') w'.home.timers s'.requests.items s'.sleepers.items (record s { store = s'.store }) =
-      subst (λ (x : Worker). KeepsBy (record w { place = Place.Callbacks InCallbacks.TakeBatch AfterCallbacks.Look; names = w'.names; home = record w.home { deferred = x.home.deferred } }) (driver_of x) w'.home.timers s'.requests.items s'.sleepers.items (record s { store = s'.store })) (sym flat) by_lists in
-      let bare : record s' { tasks = s.tasks } ≡ record s { seats = s'.seats; requests = s'.requests; sleepers = s'.sleepers; store = s'.store } =
-      subst (λ (x : Shared B). record x { tasks = s.tasks } ≡ record s { seats = x.seats; requests = x.requests; sleepers = x.sleepers; store = x.store }) (sym flat_shared) refl in
-      let shared : record s' { tasks = s.tasks } ≡ record s { seats = s'.seats; requests = s'.requests; sleepers = s'.sleepers; opens = s'.opens; store = s'.store } =
-      subst (λ (x : Shared B). record x { tasks = s.tasks } ≡ record s { seats = x.seats; requests = x.requests; sleepers = x.sleepers; opens = x.opens; store = x.store }) (sym flat_shared) refl in
-      record {
-        worker = subst (λ (x : Worker). record x { place = w.place } ≡ record w { names = x.names; batch = x.batch; home = record w.home { driver = x.home.driver; timers = x.home.timers; deferred = x.home.deferred } }) (sym flat) refl;
-        shared = shared;
-        batch = ap (λ (x : Worker). x.batch.values) flat ∙ so.rooms.mails.mail.values;
-        seat = seat_made;
-        records = grows_same (λ (r : Record). r.shown.worker ≡ w.index) s.requests.items s'.requests.items requests_are;
-        sleepers = grows_last (λ (z : SleeperRecord). z.shown.worker ≡ w.index) s.sleepers.items s'.sleepers.items so.made so.sleepers (ap (λ z. z.worker) so.shown);
-        lined = subst (λ os. AreLinedUp os s'.requests.items) (sym opens_are) (subst (AreLinedUp s.opens) (sym requests_are) h.sound.gates);
-        wakes = ap (λ (x : Worker). x.home.deferred.notes.wakes.items) flat ∙ wakes_none;
-        keeps = subst (KeepsBy (record w { place = Place.Callbacks InCallbacks.TakeBatch AfterCallbacks.Look; names = w'.names; home = record w.home { deferred = w'.home.deferred } }) (driver_of w') w'.home.timers s'.requests.items s'.sleepers.items) (sym bare) (assumption by_worker);
-      }
+  makes = grind (arith, so, driver_is, keeps_now, requests_are, flat, flat_shared, seat_made, grows_same, grows_last, opens_are, wakes_none)
 
   pub handles : Handles t s s' h.made.slot so.slot'
-  handles =
-      record {
-        there = h.made.there;
-        items = items_are;
-        cell = ap (λ (x : TaskSlot B). x.cell) slot_is;
-        home = ap (λ (x : TaskSlot B). x.home) slot_is;
-        cleared = ap (λ (x : TaskSlot B). x.cleared) slot_is;
-        poller = ap (λ (x : TaskSlot B). x.poller) slot_is;
-      }
+  handles = grind (arith, items_are, slot_is)
 
   -- WHAT HOLDS where its poll ends
   pub sound_sleeps : SoundAt (Place.Poll t InPoll.Pend) (record w' { place = Place.Poll t InPoll.Pend }) s'
@@ -250,17 +190,7 @@ module _ {B L : Type 0} (left : B → L) (runs : L → Plan → Option ℕ → T
       let is : it.slot ≡ h.made.slot = same_thing it.slot h.made.slot (sym it.there ∙ h.made.there) in
       let there : slice_get s'.sleepers.items (length s.sleepers.items) ≡ Some so.made = ap (λ xs. slice_get xs (length s.sleepers.items)) so.sleepers ∙ got_new s.sleepers.items so.made in
       let mine : so.made.shown.worker ≡ w'.index = ap (λ z. z.worker) so.shown ∙ sym (ap (λ (x : Worker). x.index) flat) in
-      let to : Dealt InPoll.Pend w'.index h.made.slot (record final { held = so.slot'.held }) s'.requests.items s'.sleepers.items = record {
-        cell = refl;
-        home = refl;
-        cleared = refl;
-        poller = refl;
-        body = refl;
-        told = λ some. absurd (false≢true some);
-        untold = λ none. refl;
-        waits = refl;
-        stops = (so.made, there, inr (mine, ap (λ z. z.fired) so.shown, ap (λ z. z.removed) so.shown));
-      } in
+      let to : Dealt InPoll.Pend w'.index h.made.slot (record final { held = so.slot'.held }) s'.requests.items s'.sleepers.items = grind arith in
       let dealt : Dealt InPoll.Pend w'.index it.slot so.slot' s'.requests.items s'.sleepers.items = subst (λ x. Dealt InPoll.Pend w'.index x so.slot' s'.requests.items s'.sleepers.items) (sym is) (subst (λ x. Dealt InPoll.Pend w'.index h.made.slot x s'.requests.items s'.sleepers.items) (sym slot_is) to) in
       sound_dealt InPoll.Act InPoll.Pend t (record w' { place = w.place }) (record s' { tasks = s.tasks }) s' so.slot' (from_act t) (ends t) before it refl items_are (touches_none (record s' { tasks = s.tasks })) dealt
 

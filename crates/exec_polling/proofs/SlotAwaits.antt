@@ -11,9 +11,7 @@ abbrev Tests : (ℕ → Bool) → ℕ → List ℕ → List (Slot (Entry Reply R
 Tests P k numbers xs = (j : ℕ) (x : Slot (Entry Reply Reply)) → slice_get xs j ≡ Some x → is_live x ≡ true → P (slice_index_or numbers (k + j) 0) ≡ is_awaited x
 
 dead_unawaited : (x : Slot (Entry Reply Reply)) → is_live x ≡ false → is_awaited x ≡ false
-dead_unawaited (Live g e) h = absurd (false≢true (sym h))
-dead_unawaited (Vacant g) h = refl
-dead_unawaited Retired h = refl
+dead_unawaited = grind arith
 
 by_test : (P : ℕ → Bool) (k : ℕ) (numbers : List ℕ) (xs : List (Slot (Entry Reply Reply))) → Tests P k numbers xs → awaited_from k numbers xs ≡ filter P (numbers_in (slots_from k numbers xs))
 by_test P k numbers [] h = refl

@@ -15,11 +15,7 @@ module _ {A : Type 0} where
   found_which [] x y zero found = inr (refl, cc)
   found_which [] x y (suc k) found = absurd (cc)
   found_which (z ∷ xs) x y zero found = inl found
-  found_which (z ∷ xs) x y (suc k) found =
-      elim (found_which xs x y k found) as (λ o. (slice_get xs k ≡ Some y) ⊎ ((suc k ≡ suc (length xs)) × (x ≡ y))) [
-        | inl there ↦ inl there
-        | inr last ↦ inr (ap suc last.0, last.1)
-      ]
+  found_which (z ∷ xs) x y (suc k) found = grind (arith, found_which xs x y k found)
 
   pub set_within : (xs : List A) (x y : A) (k : ℕ) → k < length xs → slice_set (xs ++ x ∷ []) k y ≡ slice_set xs k y ++ x ∷ []
   set_within [] x y k few = absurd (omega (arith, few))

@@ -1,11 +1,11 @@
 -- Where a task's spawn of another one leads, and what holds then.
 use Rattle.std.proofs.lemmas.Bool.{false≢true}
-use Rattle.std.proofs.Common.{[], ◌≡◌, ℕ, ◌+◌, ◌==◌, arith, Bool, true, false, List, ◌∷◌, ◌++◌, length, Option, Some, None, refl, sym, ap, subst, ◌∙◌, slice_get, option_to_list, if◌then◌else◌}
+use Rattle.std.proofs.Common.{[], ◌≡◌, ℕ, ◌+◌, arith, Bool, true, false, List, ◌∷◌, ◌++◌, length, Option, Some, None, refl, sym, ap, subst, ◌∙◌, slice_get, option_to_list, if◌then◌else◌}
 use Rattle.exec_task.specs.{TaskSet.Set, declared.{runnable.Runnable.Runnable}}
 use Rattle.exec_machine.specs.{declared.config.Configuration.Configuration, World.Common}
 use Rattle.exec_moves.specs.{Callback.is_of_pool, Parts.has_others, Pop.shard_count, Seen.polls_at, Send.after_spawn, declared.{handing.{AfterPush.AfterPush, InGlobal.InGlobal, InPush.InPush}, place.{InPoll.InPoll, Place.Place}}}
 use Rattle.exec_parts.{specs.{declared.parts.{record.Record.Record, seat.Seat.Seat as Chair, shared.Shared.Shared, sleeping.SleeperRecord.SleeperRecord, task_slot.TaskSlot.TaskSlot, worker.Worker.Worker}, Phased.{IsPhased, closes_at, closing_in, stage_of}, View.own_of}, proofs.Facts.same_thing}
-use Rattle.exec_invariants.{specs.{Places.{hands_on_at, is_pooled_at, polled_in, step_of_poll}, Sound.{HasGuest, IsInHand, Serves, SoundAt, Stands, Stops}, Whole.{IsGenuine, Profile, runnables_in, with_worker}, Works.Beside}, proofs.{Acting.me_at, Polling.on_in_poll, SlotTasks.{IsAfter, Tasked, sound_tasked}, Stirs.only}}
+use Rattle.exec_invariants.{specs.{Places.{hands_on_at, is_pooled_at, polled_in, step_of_poll}, Sound.{HasGuest, IsInHand, Serves, SoundAt, Stands, Stops}, Whole.{IsGenuine, Profile, runnables_in, with_worker}, Works.Beside}, proofs.{Acting.me_at, SlotTasks.{IsAfter, Tasked, sound_tasked}, Stirs.only}}
 use Rattle.exec_polling.proofs.{SpawnJoins.{HasOneMore, Joins, genuine_new, homes_joined, resting_joined, shards_same, spares_joined, whole_joined}, SpawnLists.found_again}
 
 -- WHERE IT LEADS
@@ -20,29 +20,19 @@ spawn_leads c i s t true is = rw is refl
 spawn_leads c i s t false is = rw is refl
 
 after_by : (t : ℕ) (pool others : Bool) → IsAfter (next_by t pool others)
-after_by t true true = on_in_poll t InPoll.LoadSpawnHead refl refl
-after_by t true false = record { open_still = refl; closing = refl; served = refl; unarmed = refl; calls = refl; begins = refl; queue = λ x h. h; searching = λ b h. h; aims = λ c i seats. tt; batch = λ ms h. absurd (false≢true h); spare = refl; cancels = refl; sends_cancel = refl; heard = refl; bare = refl; claims = refl; clears = refl; counts = refl; published = refl; passes = refl; joins = refl }
-after_by t false others = record { open_still = refl; closing = refl; served = refl; unarmed = refl; calls = refl; begins = refl; queue = λ x h. h; searching = λ b h. h; aims = λ c i seats. tt; batch = λ ms h. absurd (false≢true h); spare = refl; cancels = refl; sends_cancel = refl; heard = refl; bare = refl; claims = refl; clears = refl; counts = refl; published = refl; passes = refl; joins = refl }
+after_by = grind arith
 
 polls_by : (t : ℕ) (pool others : Bool) → polls_at (next_by t pool others) ≡ Some t
-polls_by t true true = refl
-polls_by t true false = refl
-polls_by t false others = refl
+polls_by = grind arith
 
 unpooled_by : (t : ℕ) (pool others : Bool) → is_pooled_at (next_by t pool others) ≡ false
-unpooled_by t true true = refl
-unpooled_by t true false = refl
-unpooled_by t false others = refl
+unpooled_by = grind arith
 
 pub own_by : (t : ℕ) (w : Worker) (hand : Option Runnable) (pool others : Bool) → own_of (record w { place = next_by t pool others; hand = hand }) ≡ me_at t w
-own_by t w hand true true = refl
-own_by t w hand true false = refl
-own_by t w hand false others = refl
+own_by = grind arith
 
 hand_by : (t : ℕ) (pool others : Bool) (r : Runnable) → IsInHand None (hands_on_at (next_by t pool others)) (Some r)
-hand_by t true true r = refl
-hand_by t true false r = refl
-hand_by t false others r = refl
+hand_by = grind arith
 
 module _ {B : Type 0} where
   guest_by : (t : ℕ) (pool others : Bool) (i root : ℕ) (tasks : List (TaskSlot B)) → HasGuest (Some t) InPoll.Act i root tasks → HasGuest (polls_at (next_by t pool others)) (step_of_poll (next_by t pool others)) i root tasks
@@ -54,18 +44,10 @@ module _ {B : Type 0} where
       (it.0, it.1, record { ordinary = old.ordinary; polled = old.polled; body = old.body; poller = old.poller; cancelled = old.cancelled; told = old.told; untold = old.untold; there = old.there })
 
   stops_by : (t : ℕ) (pool others : Bool) (i : ℕ) (tasks : List (TaskSlot B)) (rs : List Record) (ss : List SleeperRecord) → Stops (polls_at (next_by t pool others)) (step_of_poll (next_by t pool others)) i tasks rs ss
-  stops_by t true true i tasks rs ss = λ slot found. tt
-  stops_by t true false i tasks rs ss = λ slot found. tt
-  stops_by t false others i tasks rs ss = λ slot found. tt
-
-  stands_in : (here : Bool) (i : ℕ) (slot : TaskSlot B) → Stands (if here then Some InPoll.Act else None) i slot → Stands (if here then Some InPoll.LoadSpawnHead else None) i slot
-  stands_in false i slot it = it
-  stands_in true i slot it = record { polled = it.polled; body = it.body; poller = it.poller; kept = it.kept; uncleared = it.uncleared; told = it.told; untold = it.untold; waits = it.waits }
+  stops_by = grind arith
 
   stands_by : (t root i : ℕ) (pool others : Bool) (slot : TaskSlot B) → Stands (polled_in root (Place.Poll t InPoll.Act)) i slot → Stands (polled_in root (next_by t pool others)) i slot
-  stands_by t root i true false slot it = it
-  stands_by t root i false others slot it = it
-  stands_by t root i true true slot it = stands_in (t == root) i slot it
+  stands_by = grind arith
 
 -- WHAT HOLDS THEN
 

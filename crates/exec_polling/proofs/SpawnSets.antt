@@ -1,27 +1,13 @@
 -- A task of a number above all others joins the task set: it stands last in its shard.
-use Rattle.std.{proofs.{Common.{◌≡◌, ◌≢◌, ℕ, zero, suc, ◌+◌, ◌%◌, ◌<◌, ◌==◌, nat_lt, arith, Bool, true, false, cond, List, [], ◌∷◌, ◌++◌, length, map, count_by, sum_by, Some, None, refl, sym, ap, ◌∙◌, slice_index_or, slice_set}, lemmas.{Bool.{eq-eqb, Decides.nat_tests}, List.{map-set, Sums.{get_or-le-sum_by, sum_by-append, sum_by-cons, sum_by-set}}}}, specs.{Ordering.nat_cmp, Map.lookup, BTreeMap.{insert_entry, is_at}}}
+use Rattle.std.{proofs.{Common.{◌≡◌, ◌≢◌, ℕ, zero, suc, ◌+◌, ◌%◌, ◌<◌, ◌==◌, arith, true, false, cond, List, [], ◌∷◌, ◌++◌, length, map, count_by, sum_by, Some, None, refl, ap, ◌∙◌, slice_index_or, slice_set}, lemmas.{Bool.{eq-eqb}, List.{map-set, Sums.{get_or-le-sum_by, sum_by-append, sum_by-cons, sum_by-set}}}}, specs.{Ordering.nat_cmp, Map.lookup, BTreeMap.{insert_entry, is_at}}}
 use Rattle.std.specs.declared.cmp.Ordering.{Ordering}
 use Rattle.exec_task.specs.TaskSet.{Set, held, inserted, shard_at}
 
 greater : (n k : ℕ) → k < n → nat_cmp n k ≡ Ordering.Greater
-greater n k less =
-    let one : nat_lt n k ≡ false = grind (arith, nat_tests, less) in
-    let two : (n == k) ≡ false = grind (arith, nat_tests, less) in
-    rw (one, two) refl
+greater = grind arith
 
 unequal : (k n : ℕ) → k ≢ n → is_at (nat_cmp k) n ≡ false
-unequal k n other = by (nat_lt k n) refl
-  where
-    two : (k == n) ≡ false
-    two = never (k == n) refl
-      where
-        never : (b : Bool) → (k == n) ≡ b → (k == n) ≡ false
-        never true is = absurd (other (grind (arith, nat_tests, is)))
-        never false is = is
-
-    by : (b : Bool) → nat_lt k n ≡ b → is_at (nat_cmp k) n ≡ false
-    by true is = rw is refl
-    by false is = rw (is, two) refl
+unequal = grind arith
 
 module _ {T : Type 0} where
   -- how often a number stands in a shard
@@ -61,12 +47,7 @@ module _ {T : Type 0} where
   -- another number isn't found then where it wasn't
   pub last_none : (shard : List (ℕ × T)) (n : ℕ) (v : T) (k : ℕ) → k ≢ n → lookup (is_at (nat_cmp k)) shard ≡ None → lookup (is_at (nat_cmp k)) (shard ++ (n, v) ∷ []) ≡ None
   last_none [] n v k other none = ap (λ b. cond b (Some v) None) (unequal k n other)
-  last_none (e ∷ es) n v k other none = by (is_at (nat_cmp k) e.0) refl (last_none es n v k other)
-    where
-      by : (b : Bool) → is_at (nat_cmp k) e.0 ≡ b → (lookup (is_at (nat_cmp k)) es ≡ None → lookup (is_at (nat_cmp k)) (es ++ (n, v) ∷ []) ≡ None) → lookup (is_at (nat_cmp k)) ((e ∷ es) ++ (n, v) ∷ []) ≡ None
-      by true is rest = let never : Some e.1 ≡ None = sym (ap (λ b. cond b (Some e.1) (lookup (is_at (nat_cmp k)) es)) is) ∙ none in absurd (cc)
-      by false is rest =
-          ap (λ b. cond b (Some e.1) (lookup (is_at (nat_cmp k)) (es ++ (n, v) ∷ []))) is ∙ rest (sym (ap (λ b. cond b (Some e.1) (lookup (is_at (nat_cmp k)) es)) is) ∙ none)
+  last_none (e ∷ es) n v k other none = grind (arith, last_none es n v k other)
 
   -- THE SET
 
@@ -85,20 +66,12 @@ module _ {T : Type 0} where
       ap (slice_set s.shards k) (inserted_last n v (shard_at s k) (below_at n k s below (within n s some)))
 
   pub joined_count : (t n : ℕ) (v : T) (s : Set T) → 0 < length s.shards → ((u : ℕ) → 0 < count_in u s → u < n) → count_in t (inserted s (record { 0 = n }) v) ≡ count_in t s + cond (n == t) 1 0
-  joined_count t n v s some below =
-      let k = n % length s.shards in
-      let shard = shard_at s k in
-      let sum = sum_by-set (count_of t) s.shards k (shard ++ (n, v) ∷ []) [] (within n s some) in
-      ap (sum_by (count_of t)) (joined_shards n v s some below) ∙ omega (arith, sum, counted_last t n v shard)
+  joined_count = grind (arith, sum_by-set, within, joined_shards, counted_last)
 
   -- what is seen of the shards
   pub joined_seen : (n : ℕ) (v : T) (s : Set T) → 0 < length s.shards → ((t : ℕ) → 0 < count_in t s → t < n)
       → (let k = n % length s.shards in map (map (λ e. e.0)) (inserted s (record { 0 = n }) v).shards ≡ slice_set (map (map (λ e. e.0)) s.shards) k (map (λ e. e.0) (shard_at s k) ++ n ∷ []))
-  joined_seen n v s some below =
-      let k = n % length s.shards in
-      ap (map (map (λ e. e.0))) (joined_shards n v s some below)
-      ∙ map-set (map (λ e. e.0)) s.shards k (shard_at s k ++ (n, v) ∷ [])
-      ∙ ap (slice_set (map (map (λ e. e.0)) s.shards) k) (keys_last n v (shard_at s k))
+  joined_seen = grind (arith, joined_shards, map-set, keys_last)
 
   pub shard_shown : (shards : List (List (ℕ × T))) (k : ℕ) → slice_index_or (map (map (λ e. e.0)) shards) k [] ≡ map (λ e. e.0) (slice_index_or shards k [])
   shard_shown [] k = refl

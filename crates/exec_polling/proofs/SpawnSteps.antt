@@ -1,11 +1,11 @@
 -- The act by which a task makes another one: the whole step, where the task set is open.
 use Rattle.std.{proofs.{Common.{[], ◌≡◌, inl, inr, ℕ, ◌+◌, ◌%◌, ◌<◌, arith, Bool, true, false, not, List, ◌∷◌, ◌++◌, length, map, Option, Some, None, refl, sym, ap, subst, ◌∙◌, slice_get, slice_index_or, slice_set}, lemmas.{Bool.eq-eqb, List.{length-append, length-map, length-set, map-append, map-set, set-get_or, set-set}, Option.slice_get_within}}, specs.Vec.with_item}
 use Rattle.exec_base.specs.declared.{error.Error.Error, task_no.TaskNo.TaskNo}
-use Rattle.exec_task.specs.{Phases.is_polled, Sight.Sight, TaskSet.{Set, held, inserted}, declared.{body.{Act.Act, Said.Said}, runnable.Runnable.Runnable}}
-use Rattle.exec_machine.specs.{Choice.Choice.Plain, declared.{config.{Configuration.Configuration, ScriptWord.ScriptWord}, event.Event.Event, state.{Code.TheVariants.Script, TaskPhase.TaskPhase, Waiting.Waiting}}, Mail.meets_closed, Progress.Plan, Tasks.{after_spawn as after_spawn_by, after_word, new_task}, Words.{asks_spawn, moved_on, next_word}, World.{Common, Own, Task, task_of}}
+use Rattle.exec_task.specs.{Phases.is_polled, Sight.Sight, TaskSet.{held, inserted}, declared.{body.{Act.Act, Said.Said}, runnable.Runnable.Runnable}}
+use Rattle.exec_machine.specs.{Choice.Choice.Plain, declared.{config.{Configuration.Configuration, ScriptWord.ScriptWord}, event.Event.Event, state.{Code.TheVariants.Script, Waiting.Waiting}}, Mail.meets_closed, Progress.Plan, Tasks.{after_spawn as after_spawn_by, after_word, new_task}, Words.{asks_spawn, moved_on, next_word}, World.{Common, Own, task_of}}
 use Rattle.exec_moves.specs.{Cells.shard_of, Move.move_act, Parts.has_others, Pop.shard_count, Send.{after_spawn, next_task}, State.{Desk, Things}, Thing.set_shard, declared.place.{InPoll.InPoll, Place.Place}}
-use Rattle.exec_parts.{specs.{Records.numbers_held, Roles.is_pool, declared.parts.{shared.Shared.Shared, task_slot.TaskSlot.TaskSlot, worker.Worker.Worker}, Pooled.{IsNewTask, MakesTask, Spawns, SpawnsNone, event_of_made, told_of_made, with_made}, Scripts.{Begins, GoesOn, IsAnswer, IsAnswered, IsBorn, IsNamed, held_after}, Spots.{Spot, spot_of, standing_at}, View.{Views, body_in, phase_seen, common_of, desk_of, spot_by, task_seen, things_with, visible, with_view}, Things.TurnsSlot}, proofs.Facts.{by_not, by_not_not, same_thing, set_there}}
-use Rattle.exec_invariants.{specs.{Acting.{ActsAs, HasActed, Performs, PerformsAll, StepsOf}, Drained.in_set, Hearing.{CanHear, held_once_come}, Sound.SoundAt, Whole.{HasWhole, duties_of, with_worker}, Works.{Beside, Same, Suits, Works}}, proofs.{Acting.{Leaves, act_leaves, acted, actor, acts_so, by_word, me_at, moved_seen, tells_on}, Pending.in_poll, Performing.{performs_on, same_slot, still_performs, unmoved_seen}, PopLeads.some_shards, Slots.{IsEvent, task_there}, Turning.view_found, DedicatedSeen.pool_seen}}
+use Rattle.exec_parts.{specs.{Records.numbers_held, Roles.is_pool, declared.parts.{shared.Shared.Shared, task_slot.TaskSlot.TaskSlot, worker.Worker.Worker}, Pooled.{IsNewTask, MakesTask, Spawns, SpawnsNone, event_of_made, told_of_made, with_made}, Scripts.{Begins, GoesOn, IsAnswer, IsAnswered, IsBorn, IsNamed, held_after}, Spots.{Spot, spot_of}, View.{Views, common_of, desk_of, task_seen, things_with, visible, with_view}, Things.TurnsSlot}, proofs.Facts.{by_not, by_not_not, same_thing, set_there}}
+use Rattle.exec_invariants.{specs.{Acting.{ActsAs, HasActed, Performs, PerformsAll, StepsOf}, Drained.in_set, Sound.SoundAt, Whole.{HasWhole, duties_of, with_worker}, Works.{Beside, Same, Suits, Works}}, proofs.{Acting.{Leaves, act_leaves, acted, actor, acts_so, by_word, me_at, moved_seen, tells_on}, Performing.{same_slot, still_performs, unmoved_seen}, PopLeads.some_shards, Slots.{IsEvent, task_there}, Turning.view_found, DedicatedSeen.pool_seen}}
 use Rattle.exec_polling.proofs.{SpawnJoins.{Joins, none_yet}, SpawnLists.{found_again, found_which, set_within}, SpawnSets.{joined_seen, shard_shown}, WakeThere.spares_on, SpawnPlaces.{next_by, own_by, joined_sound, joined_beside, spawn_leads}}
 
 -- WHAT IT IS TO THE MACHINE
@@ -21,20 +21,11 @@ open_move c i me s d x t k is = rw is refl
 module _ {B L : Type 0} (left : B → L) (spot : L → Option Said → Spot) where
   -- what is seen of a new task
   pub new_seen : (body : B) (number : TaskNo) (k : ℕ) (new : TaskSlot B) → IsNewTask number body new → Begins (spot (left body)) k → task_seen left spot new ≡ new_task (Script k) None
-  new_seen body number k new fresh begins =
-      let shown : TaskSlot B → Option Said → Task = λ o told. record (standing_at (spot_by left spot (body_in o.cell.phase o.body) told) (task_seen left spot o)) { held = (numbers_held o.held.items) } in
-      let code : spot_by left spot (body_in new.cell.phase new.body) new.told ≡ record { code = Script k; place = 0; adapters = []; call = None } =
-      ap (λ p. spot_by left spot (body_in p new.body) new.told) (ap (λ c. c.phase) fresh.cell) ∙ ap (λ (o : TaskSlot B). spot (left body) o.told) fresh.rest ∙ begins in
-      ap (λ at. record (standing_at at (task_seen left spot new)) { held = (numbers_held new.held.items) }) code
-      ∙ ap (λ hs. record (standing_at (record { code = Script k; place = 0; adapters = []; call = None }) (task_seen left spot new)) { held = hs }) fresh.held
-      ∙ ap (λ p. record (standing_at (record { code = Script k; place = 0; adapters = []; call = None }) (task_seen left spot new)) { held = []; phase = phase_seen p new.poller }) (ap (λ c. c.phase) fresh.cell)
-      ∙ ap (λ (o : TaskSlot B). record { code = Script k; place = 0; adapters = []; call = None; held = []; phase = TaskPhase.Queued; cleared = o.cleared; home = o.home; waiting = o.waiting; fresh = o.fresh }) fresh.rest
+  new_seen = grind arith
 
   -- and what tasks show
   pub tasks_seen : (body : B) (r : Runnable) (k : ℕ) (s s' : Shared B) → (it : Joins body r s s') → Begins (spot (left body)) k → map (task_seen left spot) s'.tasks.items ≡ map (task_seen left spot) s.tasks.items ++ new_task (Script k) None ∷ []
-  tasks_seen body r k s s' it begins =
-      ap (map (task_seen left spot)) it.items ∙ map-append (task_seen left spot) s.tasks.items (it.new ∷ [])
-      ∙ ap (λ y. map (task_seen left spot) s.tasks.items ++ y ∷ []) (new_seen body r.task k it.new it.fresh begins)
+  tasks_seen = grind (arith, map-append, new_seen)
 
   -- the shard of the new task shows it
   pub shards_show : (body : B) (r : Runnable) (vs : Views) (c : Configuration) (s s' : Shared B) → (it : Joins body r s s') → ((t : ℕ) → 0 < in_set t s.set → t < length s.tasks.items) → length s.set.shards ≡ shard_count c
@@ -45,11 +36,7 @@ module _ {B L : Type 0} (left : B → L) (spot : L → Option Said → Spot) whe
       let k = m % length s.set.shards in
       let under : (t : ℕ) → 0 < in_set t s.set → t < m = λ t some. subst (λ j. t < j) (sym it.number) (below t some) in
       let shown : things_with vs s' ≡ record x { shards = map (map (λ e. e.0)) s'.set.shards } = ap (things_with vs) it.kept in
-      shown
-      ∙ ap (λ (y : Set (Unit {0})). record x { shards = map (map (λ e. e.0)) y.shards }) it.set
-      ∙ ap (λ ys. record x { shards = ys }) (joined_seen m tt s.set it.shards under)
-      ∙ ap (λ y. record x { shards = slice_set x.shards k (y ++ m ∷ []) }) (sym (shard_shown s.set.shards k))
-      ∙ ap (λ j. set_shard (m % j) x (slice_index_or x.shards (m % j) [] ++ m ∷ [])) many
+      grind (arith, joined_seen, shard_shown)
 
   module _ (t : ℕ) (w : Worker) (s m s' : Shared B) (slot mid : TaskSlot B) (body : B) (r : Runnable) (pool others : Bool) (it : Joins body r m s') (there : slice_get s.tasks.items t ≡ Some slot) (waits : slot.waiting ≡ Waiting.Nothing) (items : m.tasks.items ≡ slice_set s.tasks.items t mid) (kept : m ≡ record s { tasks = m.tasks })
       (below : (n : ℕ) → 0 < in_set n m.set → n < length m.tasks.items) (many : length s.set.shards ≡ shard_count s.config) where
@@ -110,18 +97,7 @@ module _ {B L : Type 0} (left : B → L) (spot : L → Option Said → Spot) whe
 module _ {B L : Type 0} (left : B → L) (runs : L → Plan → Option ℕ → Type 0) (holds : L → Option Said → List ℕ) (spot : L → Option Said → Spot) where
   -- a new task performs the plan in which its body begins a script
   pub performs_new : (p : Plan) (k : ℕ) (body : B) (number : TaskNo) (new : TaskSlot B) → IsNewTask number body new → IsBorn runs holds spot p k (left body) → Performs left runs holds p new
-  performs_new p k body number new fresh born =
-      let its : body_in new.cell.phase new.body ≡ Some body = ap (λ y. body_in y new.body) (ap (λ c. c.phase) fresh.cell) in
-      let told : new.told ≡ Some Said.Start = ap (λ (o : TaskSlot B). o.told) fresh.rest in
-      let waiting : new.waiting ≡ Waiting.Nothing = ap (λ (o : TaskSlot B). o.waiting) fresh.rest in
-      let home : new.home ≡ None = ap (λ (o : TaskSlot B). o.home) fresh.rest in
-      let starts : (answer : Said) → CanHear new.told new.waiting answer → answer ≡ Said.Start = λ answer hears. subst (λ o. CanHear o new.waiting answer) told hears in
-      record {
-        runs_it = λ b answer is hears going. subst (λ y. runs (left y) p new.home) (same_thing body b (sym its ∙ is)) (subst (runs (left body) p) (sym home) (born.runs_it None tt));
-        holding = λ b answer is hears going.
-            ap (λ y. holds (left y) (Some answer)) (same_thing b body (sym is ∙ its)) ∙ ap (λ y. holds (left body) (Some y)) (starts answer hears) ∙ born.holding
-            ∙ sym (ap (λ u. held_once_come u (numbers_held new.held.items)) waiting ∙ fresh.held);
-      }
+  performs_new = grind arith
 
   pub performs_joined : (p : Plan) (k : ℕ) (body : B) (r : Runnable) (s s' : Shared B) → Joins body r s s' → IsBorn runs holds spot p k (left body) → PerformsAll left runs holds p s → PerformsAll left runs holds p s'
   performs_joined p k body r s s' it born fits n o found =
@@ -134,9 +110,7 @@ module _ {B L : Type 0} (left : B → L) (runs : L → Plan → Option ℕ → T
   -- a task goes on that was told so of the one that it wanted
   performs_told : (p : Plan) (slot : TaskSlot B) (b' body : B) (x : Said) → IsAnswer (Act.Spawn body) x → is_polled slot.cell.phase ≡ true → slot.waiting ≡ Waiting.Nothing → held_after (Act.Spawn body) x (numbers_held slot.held.items) ≡ (numbers_held slot.held.items)
       → GoesOn runs holds spot gives p (task_seen left spot slot) (Act.Spawn body) (left b') → Performs left runs holds p (record slot { body = Some b'; told = Some x })
-  performs_told p slot b' body x answers is nothing held goes =
-      performs_on left runs holds spot gives p (task_seen left spot slot) (Act.Spawn body) (record slot { body = Some b'; told = Some x }) b' goes refl (in_poll slot.cell.phase (Some b') is)
-      (λ answer hears. subst (λ y. IsAnswer (Act.Spawn body) y × (held_after (Act.Spawn body) y (numbers_held slot.held.items) ≡ held_once_come slot.waiting (numbers_held slot.held.items))) (sym hears) (answers, held ∙ sym (ap (λ u. held_once_come u (numbers_held slot.held.items)) nothing)))
+  performs_told = grind arith
 
   module _ (answered : IsAnswered spot) (t : ℕ) (body : B) (w w' : Worker) (s s1 s' : Shared B) (h : HasActed left runs holds spot gives t w s s1 (Act.Spawn body)) where
     abbrev slot : TaskSlot B

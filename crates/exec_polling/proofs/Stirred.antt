@@ -1,20 +1,16 @@
 -- The act by which a task wakes an ordinary task, or itself: the whole step.
-use Rattle.std.proofs.{Common.{MatchBool, ◌≡◌, ◌≢◌, ℕ, suc, ◌<◌, arith, Bool, true, false, List, [], ◌∷◌, length, nat_le, Option, Some, None, refl, sym, ap, subst, ◌∙◌, slice_get, slice_index_or, slice_set, get_or, if◌then◌else◌}, lemmas.{Bool.{eq-eqb, Decides.nat_tests}, List.{length-map, length-set}, Option.slice_get-get_or}}
+use Rattle.std.proofs.{Common.{MatchBool, ◌≡◌, ◌≢◌, ℕ, suc, ◌<◌, arith, Bool, true, false, List, [], ◌∷◌, length, Option, Some, None, refl, sym, ap, subst, ◌∙◌, slice_get, slice_index_or, slice_set, get_or, if◌then◌else◌}, lemmas.{Bool.{eq-eqb}, List.{length-map, length-set}, Option.slice_get-get_or}}
 use Rattle.exec_base.specs.declared.task_no.TaskNo.{TaskNo}
 use Rattle.exec_task.specs.{Phases.{is_polled, is_idle as is_cell_idle, runnable_of}, Sight.Sight, declared.{body.{Act.Act, Said.Said}, runnable.Runnable.Runnable}}
 use Rattle.exec_machine.specs.{declared.{config.ScriptWord.ScriptWord, event.Event.{Event, TheVariants.Wake}, state.Waiting.Waiting}, Progress.Plan, Tasks.{after_waking_word, waits_for}, Words.{asks_yield, idle_words, is_idle_word, moved_on, next_word, words_left}, World.{Common, Task}}
 use Rattle.exec_moves.specs.declared.{handing.AfterPush.AfterPush, place.{InPoll.InPoll, Place.Place}}
 use Rattle.exec_parts.{specs.{Records.numbers_held, Tests.first_push_of, declared.parts.{shared.Shared.Shared, task_slot.TaskSlot.TaskSlot, worker.Worker.Worker}, Pooled.{WakesBy, WakesHere, WakesOrdinary, WakesTask, WakesThere, woken_slot}, Scripts.{GoesOn, IsAnswer, IsAnswered, held_after}, Spots.{Spot, spot_of}, View.{Views, common_of, task_seen}}, proofs.Facts.{by_number, set_there}}
-use Rattle.exec_invariants.{specs.{Acting.{HasActed, Performs, StepsOf}, Hearing.held_once_come, Sound.SoundAt, Spares.Spares, Works.{Beside, Suits}}, proofs.{Flagged.{Flags, flag_then, flags, wakes_root}, Acting.{Leaves, act_leaves, actor, moved_seen, tells_on}, Aside.spared, DedicatedSeen.pool_seen, Spared.{records_endure, sleepers_endure}, SparedRecord.{sleeper_spared, spared_same}, Cells.{body_woken, complete_woken}, Performing.{performs_on, still_performs}, Pending.in_poll, Still.performs_still, Stirs.{IsWake, LeadsOn, Stirs, ToldFirst, leads_idle, leads_on, stirs, wakes_ordinary, wakes_works}}}
+use Rattle.exec_invariants.{specs.{Acting.{HasActed, Performs, StepsOf}, Sound.SoundAt, Spares.Spares, Works.{Beside, Suits}}, proofs.{Flagged.{Flags, flag_then, flags, wakes_root}, Acting.{Leaves, act_leaves, actor, moved_seen, tells_on}, Aside.spared, DedicatedSeen.pool_seen, Spared.{records_endure, sleepers_endure}, SparedRecord.{sleeper_spared, spared_same}, Cells.{body_woken, complete_woken}, Performing.{still_performs}, Still.performs_still, Stirs.{IsWake, LeadsOn, Stirs, ToldFirst, leads_idle, leads_on, stirs, wakes_ordinary, wakes_works}}}
 
 -- who is woken by a word is a task that there is
 by_first : (s : Common) (it : Task) (u : ℕ) (x : ScriptWord) (ws : List ScriptWord) → (slice_index_or ws (idle_words s it ws) ScriptWord.End ≡ ScriptWord.Wake u → u < length s.tasks)
     → (b : Bool) → is_idle_word s it x ≡ b → slice_index_or (x ∷ ws) (if b then suc (idle_words s it ws) else 0) ScriptWord.End ≡ ScriptWord.Wake u → u < length s.tasks
-by_first s it u x ws rest true idle found = rest found
-by_first s it u x ws rest false busy found =
-    let word : x ≡ ScriptWord.Wake u = found in
-    let unfit : nat_le (length s.tasks) u ≡ false = ap (is_idle_word s it) (sym word) ∙ busy in
-    grind (arith, nat_tests, unfit)
+by_first = grind arith
 
 among_words : (s : Common) (it : Task) (u : ℕ) (ws : List ScriptWord) → slice_index_or ws (idle_words s it ws) ScriptWord.End ≡ ScriptWord.Wake u → u < length s.tasks
 among_words s it u [] found = let never : ScriptWord.End ≡ ScriptWord.Wake u = found in absurd (cc)
@@ -70,9 +66,7 @@ module _ {B L : Type 0} (left : B → L) (runs : L → Plan → Option ℕ → T
 
   pub performs_passing : (p : Plan) (slot : TaskSlot B) (b' : B) (a : Act B) → IsAnswer a Said.Pass → held_after a Said.Pass (numbers_held slot.held.items) ≡ (numbers_held slot.held.items) → is_polled slot.cell.phase ≡ true → slot.waiting ≡ Waiting.Nothing → GoesOn runs holds spot gives p (task_seen left spot slot) a (left b')
       → Performs left runs holds p (record slot { body = Some b'; told = Some Said.Pass })
-  performs_passing p slot b' a answers held is nothing goes =
-      performs_on left runs holds spot gives p (task_seen left spot slot) a (record slot { body = Some b'; told = Some Said.Pass }) b' goes refl (in_poll slot.cell.phase (Some b') is)
-      (λ answer hears. subst (λ y. IsAnswer a y × (held_after a y (numbers_held slot.held.items) ≡ held_once_come slot.waiting (numbers_held slot.held.items))) (sym hears) (answers, held ∙ sym (ap (λ u. held_once_come u (numbers_held slot.held.items)) nothing)))
+  performs_passing = grind arith
 
   -- the task that woke has gone on past its word, and the other was woken then
   module _ (answered : IsAnswered spot) (t : ℕ) (n : TaskNo) (w w' : Worker) (s s1 s' : Shared B) (e : Event) (h : HasActed left runs holds spot gives t w s s1 (Act.Wake n)) (it : WakesTask t n.0 w w' s1 s' e) (other : TaskSlot B) (there : slice_get it.middle.tasks.items n.0 ≡ Some other) where

@@ -1,5 +1,6 @@
 -- A POLLED TASK AWAITS the newest request that it holds: it takes the output of one that is over, or asks the worker that has it.
 use Rattle.std.proofs.{Common.{◌≡◌, ◌≢◌, inl, ℕ, ◌-◌, ◌==◌, Bool, true, false, List, [], length, take, Option, Some, None, IsSome, refl, sym, ap, subst, ◌∙◌, slice_get, slice_set, if◌then◌else◌}, lemmas.{Bool.eq-eqb, List.set-set}}
+use Rattle.std.proofs.Common.{arith}
 use Rattle.exec_base.specs.declared.{error.Error.TheVariants.NoMemory, one_shot.OneShotState.TheVariants.Open}
 use Rattle.exec_outcomes.specs.declared.outcome.Outcome.{Outcome}
 use Rattle.exec_request.specs.declared.output.RequestOutput.{RequestOutput}
@@ -36,36 +37,19 @@ module _ {B L : Type 0} (left : B → L) (spot : L → Option Said → Spot) whe
       let by_task : Task → Moved Things = λ z. move_look_at p.config all d x t b (aside x (act p.config w.index t me all d z)) (sight_of_newest w.index all (newest_held z)) in
       let by_its_word : ScriptWord → Moved Things = λ z. move_look_at p.config all d x t b (aside x (act_asked w.index t me all d y z (operation_asked p.config me.sampled z))) (sight_of_newest w.index all (newest_held y)) in
       let by_held : Option ℕ → Moved Things = λ o. move_look_at p.config all d x t b (aside x (await t all d y o)) (sight_of_newest w.index all o) in
-      by_word left spot t p all w s vs slot ScriptWord.Await it word
-      ∙ ap by_task it ∙ ap by_its_word word ∙ ap by_held newest
-      ∙ ap (λ q. move_look_at p.config all d x t b (aside x (await t all d y (Some k))) (sight_by (is_unsent q.forwarding) (q.worker == w.index) (Asks q.worker (ForwardRequest k)) (HearsRequest k))) request
+      grind arith
 
   -- with nothing held
   pub await_nothing : (t : ℕ) (p : Plan) (w : Worker) (s : Shared B) (vs : Views) (slot : TaskSlot B) → slice_get s.tasks.items t ≡ Some slot → next_word (common_of left spot p vs s) (task_seen left spot slot) ≡ ScriptWord.Await → newest_of slot ≡ None
       → word_move left spot t p (common_of left spot p vs s) w s vs (next_word (common_of left spot p vs s) (task_of (common_of left spot p vs s) t))
       ≡ aside (things_with vs s) (await t (common_of left spot p vs s) (desk_of (record w { place = Place.Poll t InPoll.Act })) (task_seen left spot slot) None)
-  await_nothing t p w s vs slot there word newest =
-      let all = common_of left spot p vs s in
-      let d = desk_of (record w { place = Place.Poll t InPoll.Act }) in
-      let me = me_at t w in
-      let x = things_with vs s in
-      let b : AfterSend = AfterSend.Pend t in
-      let y : Task = task_seen left spot slot in
-      let it : task_of all t ≡ y = task_there left spot s.tasks.items t slot there in
-      let by_task : Task → Moved Things = λ z. move_look_at p.config all d x t b (aside x (act p.config w.index t me all d z)) (sight_of_newest w.index all (newest_held z)) in
-      let by_its_word : ScriptWord → Moved Things = λ z. move_look_at p.config all d x t b (aside x (act_asked w.index t me all d y z (operation_asked p.config me.sampled z))) (sight_of_newest w.index all (newest_held y)) in
-      let by_held : Option ℕ → Moved Things = λ o. move_look_at p.config all d x t b (aside x (await t all d y o)) (sight_of_newest w.index all o) in
-      by_word left spot t p all w s vs slot ScriptWord.Await it word ∙ ap by_task it ∙ ap by_its_word word ∙ ap by_held newest
+  await_nothing = grind (arith, me_at, task_there, by_word)
 
 module _ {B L : Type 0} (left : B → L) (runs : L → Plan → Option ℕ → Type 0) (holds : L → Option Said → List ℕ) (spot : L → Option Said → Spot) (gives : L → Option Sight → Said → Act B → L → Option Sight → Type 0) (answered : IsAnswered spot) where
   -- IT IS OVER
   got_seen : (all : Common) (slot slot' : TaskSlot B) (b' : B) (output : RequestOutput) → slot' ≡ record slot { body = Some b'; held = slot'.held; waiting = Waiting.Nothing; told = Some (Said.Output output) } → numbers_held slot'.held.items ≡ without_newest (numbers_held slot.held.items) → slot.waiting ≡ Waiting.Nothing
       → task_seen left spot (record slot { body = Some b'; told = Some (Said.Output output) }) ≡ moved_on all (task_seen left spot slot) → task_seen left spot slot' ≡ past_newest left spot answered all (task_seen left spot slot)
-  got_seen all slot slot' b' output took fewer waits seen =
-      ap (task_seen left spot) took ∙ ap (λ (y : Task). record y { held = numbers_held slot'.held.items; waiting = Waiting.Nothing }) seen
-      ∙ ap (λ u. record (moved_on all (task_seen left spot slot)) { held = numbers_held slot'.held.items; waiting = u }) (sym waits)
-      ∙ ap (λ xs. record (moved_on all (task_seen left spot slot)) { held = xs }) fewer
-      ∙ ap (λ u. record (if waits_for_nothing u then moved_on all (task_seen left spot slot) else record (task_seen left spot slot) { waiting = Waiting.Nothing }) { held = without_newest (numbers_held slot.held.items) }) (sym waits)
+  got_seen = grind arith
 
   pub awaits_got : (t k : ℕ) (w w' : Worker) (s s1 s' : Shared B) (e : Event) (r : Record) → (h : HasActed left runs holds spot gives t w s s1 (Act.Await (Some k))) → HasWhole w s → newest_of h.made.slot ≡ Some k → slice_get s.requests.items k ≡ Some r → r.shown.worker ≡ w.index
       → TookOutput t k w w' s1 s' e → StepsOf left runs holds spot w s e w' s'

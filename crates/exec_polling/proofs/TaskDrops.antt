@@ -1,57 +1,25 @@
 -- A POLLED TASK LETS GO of the newest request that it holds, which its worker has.
-use Rattle.std.proofs.{Common.{◌≡◌, inl, ℕ, ◌-◌, ◌==◌, ◌&&◌, Bool, true, false, not, List, [], length, map, take, Option, Some, None, IsSome, option_map, refl, sym, ap, subst, ◌∙◌, slice_get, slice_set, if◌then◌else◌}, lemmas.{Bool.{false≢true, eq-eqb}, List.{map-set, set-set}, Option.slice_get-map}}
-use Rattle.exec_base.specs.{Slab.live_count, declared.error.Error.TheVariants.{NoMemory, Timeout}}
-use Rattle.exec_outcomes.specs.declared.outcome.Outcome.{Outcome, TheVariants.Failure}
+use Rattle.std.proofs.{Common.{◌≡◌, inl, ℕ, ◌-◌, ◌==◌, Bool, true, false, List, [], length, map, take, Option, Some, None, option_map, refl, sym, ap, subst, ◌∙◌, slice_get, slice_set, if◌then◌else◌}, lemmas.{Bool.{false≢true, eq-eqb}, List.{map-set, set-set}, Option.slice_get-map}}
+use Rattle.std.proofs.Common.{arith}
+use Rattle.exec_base.specs.{Slab.live_count, declared.error.Error.TheVariants.{NoMemory}}
+use Rattle.exec_outcomes.specs.declared.outcome.Outcome.{Outcome}
 use Rattle.exec_task.specs.{Phases.is_polled, Sight.Sight, declared.body.{Act.Act, Said.Said}}
-use Rattle.exec_machine.specs.{declared.{config.ScriptWord.ScriptWord, event.Event.{Event, TheVariants.Drop}, state.{MailMessage.TheVariants.CancelRequest, Request.Request, Waiting.Waiting}}, Choice.Choice.Plain, Progress.Plan, Requests.{dropped, ends_by_drop, is_cancelled_by_drop, operation_asked, own_after_drop, resolved}, Same.is_number, Tasks.after_letting_go, Tests.{is_applied, is_resolved, is_unsent}, Words.{asks_drop, moved_on, newest_held, next_word}, World.{Common, Task, request_of, task_of}}
-use Rattle.exec_moves.specs.{declared.{handing.AfterSend.AfterSend, place.{InPoll.InPoll, Place.Place}}, Move.move_look_at, Poll.{Sight.{Asks, Here}, act, act_asked, acts_on, cancels_elsewhere, drop_newest}, Slots.is_in_slots, State.{Desk, Moved, Things, does}, Thing.aside, Told.{awaits_no_more, one_output, one_result, told_of_drop, without_request}}
+use Rattle.exec_machine.specs.{declared.{config.ScriptWord.ScriptWord, event.Event.{Event, TheVariants.Drop}, state.{MailMessage.TheVariants.CancelRequest, Request.Request, Waiting.Waiting}}, Choice.Choice.Plain, Progress.Plan, Requests.{dropped, operation_asked, own_after_drop}, Same.is_number, Tasks.after_letting_go, Tests.{is_unsent}, Words.{asks_drop, moved_on, newest_held, next_word}, World.{Common, Task, request_of, task_of}}
+use Rattle.exec_moves.specs.{declared.{handing.AfterSend.AfterSend, place.{InPoll.InPoll, Place.Place}}, Move.move_look_at, Poll.{Sight.{Asks, Here}, act, act_asked, acts_on, cancels_elsewhere, drop_newest}, State.{Desk, Moved, Things, does}, Thing.aside, Told.{told_of_drop}}
 use Rattle.exec_parts.{specs.{declared.parts.{record.Record.Record, shared.Shared.Shared, task_slot.TaskSlot.TaskSlot, worker.Worker.Worker}, Awaits.{DropsHere, Forgets, LetsGo, drops, newest_of}, Records.{numbers_held, outcome_in}, Scripts.{IsAnswer, IsAnswered, held_after}, Serving.changed_in, Spots.{Spot, spot_of}, View.{Views, body_in, common_of, desk_of, driver_of, numbers_of_passing, own_of, task_seen, things_with, visible, with_view}}, proofs.Facts.{same_thing, set_there}}
-use Rattle.exec_invariants.{specs.{Acting.{HasActed, Performs, StepsOf}, Due.IsDue, Flown.HasFlown, Hearing.{CanHear, held_once_come}, Holding.{Holder, IsHolding, awaited_in, box_of, holder_of, nap_of, thing_of}, HoldPlaces.{has_wakes_at, is_bare_at}, Sound.{SoundAt, acts_next, served_in}, Whole.{HasWhole, Profile, hands_of, with_worker}, Works.{Beside, Suits, Works}}, proofs.{Acting.{IsActor, actor, acts_so, by_word, me_at, moved_seen, word_move}, Here.{IsHere, going_on, polled_here}, HoldBeside.Holds, HoldSteps.{IsNewest, thing_taken}, Keys.{name_in, names_changed, same_gates, same_opens}, LetShown.{SeenLet, let_seen}, Lined.{opens_same, passing_same}, Pending.in_poll, Performing.{performs_on, still_performs}, Seen.request_at, ServingHolds.Keeps, Serving.spares_one, Slots.task_there, SparedRecord.there_within, TaskDeals.{Dealt, acts as to_act, from_act}, TaskHears.{newest_split, numbers_without, thing_there}, TaskHomes.{Homes, beside_goes, sound_goes}, TaskNewest.newest_unsent, TaskOverFold.{dropped_at_gate, dropped_name, dropped_thing}, TaskTakes.{holder_there, holders_one, no_wakes}, TaskWants.{HoldsNewest, newest_is}, Turning.{set_found, view_found}}}
+use Rattle.exec_invariants.{specs.{Acting.{HasActed, Performs, StepsOf}, Due.IsDue, Flown.HasFlown, Hearing.{CanHear, held_once_come}, Holding.{Holder, IsHolding, awaited_in, box_of, holder_of, nap_of, thing_of}, HoldPlaces.{has_wakes_at, is_bare_at}, Sound.{SoundAt, served_in}, Whole.{HasWhole, Profile, hands_of, with_worker}, Works.{Beside, Suits, Works}}, proofs.{Acting.{IsActor, actor, acts_so, me_at, moved_seen, word_move}, Here.{IsHere, going_on, polled_here}, HoldBeside.Holds, HoldSteps.{IsNewest, thing_taken}, Keys.{name_in, names_changed, same_gates, same_opens}, LetShown.{SeenLet, let_seen}, Lined.{opens_same, passing_same}, Pending.in_poll, Performing.{performs_on, still_performs}, Seen.request_at, ServingHolds.Keeps, Serving.spares_one, Slots.task_there, SparedRecord.there_within, TaskDeals.{Dealt, acts as to_act, from_act}, TaskHears.{newest_split, numbers_without, thing_there}, TaskHomes.{Homes, beside_goes, sound_goes}, TaskNewest.newest_unsent, TaskOverFold.{dropped_at_gate, dropped_name, dropped_thing}, TaskTakes.{holder_there, holders_one, no_wakes}, TaskWants.{HoldsNewest, newest_is}, Turning.{set_found, view_found}}}
 
 pass_heard : Said.Pass ≡ Said.Refused NoMemory → ⊥
 pass_heard h = cc
 
--- as it is then, by whether it ends, or is cancelled
-abbrev dropped_as : Bool → Bool → Request → Request
-dropped_as a b r = if a then record (resolved (Failure Timeout) r) { observed = false } else if b then record r { observed = false; cancelled = true; timer = None } else record r { observed = false }
-
-abbrev shown_as : Record → Request → Record
-shown_as r q = record r { shown = q }
-
 let_thing : (r : Record) → thing_of (drops r) ≡ record (thing_of r) { observed = false; ended = outcome_in (drops r).shown.phase }
-let_thing r = by (ends_by_drop r.shown) (is_cancelled_by_drop r.shown)
-  where
-    by : (a b : Bool) → thing_of (shown_as r (dropped_as a b r.shown)) ≡ record (thing_of r) { observed = false; ended = outcome_in (dropped_as a b r.shown).phase }
-    by true b = refl
-    by false true = refl
-    by false false = refl
+let_thing = grind arith
 
 dropped_worker : (r : Record) → (drops r).shown.worker ≡ r.shown.worker
-dropped_worker r = by (ends_by_drop r.shown) (is_cancelled_by_drop r.shown)
-  where
-    by : (a b : Bool) → (dropped_as a b r.shown).worker ≡ r.shown.worker
-    by true b = refl
-    by false true = refl
-    by false false = refl
-
--- what is told of it, at the place where it is
-abbrev told_as : Bool → Bool → Bool → Bool → ℕ → Desk → Desk
-told_as a b c e k d =
-    if not a then d
-    else if b then one_output (without_request k d)
-    else if c then one_output (without_request k (if e then one_result k d else awaits_no_more k d))
-    else (if e then one_result k d else awaits_no_more k d)
+dropped_worker = grind arith
 
 told_place : (k : ℕ) (it : Request) (d : Desk) (p : Place) → d.place ≡ p → record (told_of_drop k it d) { place = p } ≡ told_of_drop k it d
-told_place k it d p here = by (it.observed && is_in_slots k d.requests) (is_resolved it.phase) (ends_by_drop it) (is_applied it.forwarding)
-  where
-    by : (a b c e : Bool) → record (told_as a b c e k d) { place = p } ≡ told_as a b c e k d
-    by false b c e = ap (λ q. record d { place = q }) (sym here)
-    by true true c e = ap (λ q. record (told_as true true c e k d) { place = q }) (sym here)
-    by true false true true = ap (λ q. record (told_as true false true true k d) { place = q }) (sym here)
-    by true false true false = ap (λ q. record (told_as true false true false k d) { place = q }) (sym here)
-    by true false false true = ap (λ q. record (told_as true false false true k d) { place = q }) (sym here)
-    by true false false false = ap (λ q. record (told_as true false false false k d) { place = q }) (sym here)
+told_place = grind arith
 
 module _ {B : Type 0} where
   -- the slot then
@@ -64,30 +32,12 @@ module _ {B : Type 0} where
   drops_so t s s1 mid slot acted b' there acted_is items f =
       let found : slice_get s1.tasks.items t ≡ Some acted = ap (λ ts. slice_get ts t) items ∙ set_there s.tasks.items t acted slot there in
       let is : f.slot ≡ record slot { body = Some b'; told = None } = same_thing f.slot acted (sym f.there ∙ found) ∙ acted_is in (
-        record {
-          took = f.took ∙ ap (λ (o : TaskSlot B). record o { held = f.slot'.held; told = Some Said.Pass }) is;
-          held = f.all ∙ ap (λ (o : TaskSlot B). take (length o.held.items - 1) o.held.items) is;
-        },
+        grind arith,
         f.tasks ∙ ap (λ ts. slice_set ts t f.slot') items ∙ set-set s.tasks.items t acted f.slot',
       )
 
   pub drops_deals : (i : ℕ) (slot slot' : TaskSlot B) (b' : B) (s' : Shared B) → slot.waiting ≡ Waiting.Nothing → DropsSo slot slot' b' → Dealt InPoll.Act i slot slot' s'.requests.items s'.sleepers.items
-  drops_deals i slot slot' b' s' idle so =
-      let took = so.took in
-      let told : slot'.told ≡ Some Said.Pass = ap (λ (y : TaskSlot B). y.told) took in
-      let body : slot'.body ≡ Some b' = ap (λ (y : TaskSlot B). y.body) took in
-      let waits : slot'.waiting ≡ Waiting.Nothing = ap (λ (y : TaskSlot B). y.waiting) took ∙ idle in
-      record {
-        cell = ap (λ (y : TaskSlot B). y.cell) took;
-        home = ap (λ (y : TaskSlot B). y.home) took;
-        cleared = ap (λ (y : TaskSlot B). y.cleared) took;
-        poller = ap (λ (y : TaskSlot B). y.poller) took;
-        body = subst (λ o. IsSome o) (sym body) refl;
-        told = λ h. subst (λ o. IsSome o) (sym told) refl;
-        untold = λ h. absurd (false≢true (sym h ∙ ap acts_next waits));
-        waits = waits;
-        stops = tt;
-      }
+  drops_deals = grind arith
 
   pub record LetsNewest (t k : ℕ) (w v : Worker) (s s' : Shared B) (slot slot' : TaskSlot B) (b' : B) (r : Record) : Type 0 where
     pub there : slice_get s.tasks.items t ≡ Some slot
@@ -207,16 +157,12 @@ module _ {B L : Type 0} (left : B → L) (spot : L → Option Said → Spot) whe
       let by_task : Task → Moved Things = λ z. move_look_at p.config all d x t b (aside x (act p.config w.index t me all d z)) (cancels_elsewhere w.index all (newest_held z)) in
       let by_its_word : ScriptWord → Moved Things = λ z. move_look_at p.config all d x t b (aside x (act_asked w.index t me all d y z (operation_asked p.config me.sampled z))) (cancels_elsewhere w.index all (newest_held y)) in
       let by_held : Option ℕ → Moved Things = λ o. move_look_at p.config all d x t b (aside x (drop_newest t all d y o)) (cancels_elsewhere w.index all o) in
-      by_word left spot t p all w s vs slot ScriptWord.Drop it word
-      ∙ ap by_task it ∙ ap by_its_word word ∙ ap by_held newest
-      ∙ ap (λ q. move_look_at p.config all d x t b (aside x (does (Drop k) (acts_on t (told_of_drop k q d)) y)) (if q.worker == w.index then Here else Asks q.worker (CancelRequest k))) request
+      grind arith
 
 module _ {B L : Type 0} (left : B → L) (runs : L → Plan → Option ℕ → Type 0) (holds : L → Option Said → List ℕ) (spot : L → Option Said → Spot) (gives : L → Option Sight → Said → Act B → L → Option Sight → Type 0) (answered : IsAnswered spot) where
   -- the task then
   pub let_go_seen : (all : Common) (slot slot' : TaskSlot B) (b' : B) → DropsSo slot slot' b' → is_polled slot.cell.phase ≡ true → spot (left b') None ≡ spot_of (moved_on all (task_seen left spot slot)) → task_seen left spot slot' ≡ after_letting_go all (task_seen left spot slot)
-  let_go_seen all slot slot' b' so polled stands =
-      ap (task_seen left spot) so.took ∙ ap (λ (y : Task). record y { held = numbers_held slot'.held.items }) (moved_seen left spot all slot b' (Some Said.Pass) polled (answered (left b') Said.Pass pass_heard ∙ stands))
-      ∙ ap (λ xs. record (moved_on all (task_seen left spot slot)) { held = xs }) (ap numbers_held so.held ∙ numbers_without slot.held.items)
+  let_go_seen = grind (arith, moved_seen, pass_heard, numbers_without)
 
   -- what it runs and holds then
   pub drops_perform : (t k : ℕ) (w w' : Worker) (s s1 s' : Shared B) (slot' : TaskSlot B) → (h : HasActed left runs holds spot gives t w s s1 (Act.Drop k)) → is_polled h.made.slot.cell.phase ≡ true → h.made.slot.waiting ≡ Waiting.Nothing → DropsSo h.made.slot slot' h.made.acts.body'

@@ -1,17 +1,15 @@
 -- A POLLED TASK ASKS FOR AN OUTPUT that another worker has: it waits for that elsewhere, and the worker is sent the message.
-use Rattle.std.proofs.{Common.{◌≡◌, ◌≢◌, ◌⊎◌, inl, inr, ℕ, ◌==◌, ◌&&◌, ◌||◌, Bool, true, false, not, map, Option, Some, None, IsSome, refl, sym, ap, subst, ◌∙◌, arith, slice_get, slice_set, option_map, if◌then◌else◌}, lemmas.{Bool.{false≢true, eq-eqb}, List.map-set, Option.{get_or_from_slice_get, slice_get-map, slice_get_within}}}
+use Rattle.std.proofs.{Common.{◌≡◌, ◌≢◌, ◌⊎◌, inl, inr, ℕ, ◌==◌, ◌&&◌, ◌||◌, Bool, true, false, not, map, Option, Some, None, IsSome, refl, sym, ap, subst, ◌∙◌, arith, slice_get, slice_set, option_map, if◌then◌else◌}, lemmas.{Bool.{eq-eqb}, List.map-set, Option.{get_or_from_slice_get, slice_get-map, slice_get_within}}}
 use Rattle.exec_base.specs.declared.one_shot.OneShotState.TheVariants.{Open}
 use Rattle.exec_words.specs.declared.inbox.Message.{Message}
 use Rattle.exec_task.specs.declared.body.Said.{Said}
-use Rattle.exec_machine.specs.{After.own_after, declared.{event.Event.{Event, TheVariants.{Closed, Send}}, state.{Forwarding.{Forwarding, TheVariants.{Applied, Sent as Forwarded, Unsent}}, MailMessage.TheVariants.ForwardRequest, Waiting.Waiting}}, Choice.Choice.Plain, Mail.{after_post, after_sending, awaiting, posted as seat_posted}, Progress.Plan, Same.is_number, Tasks.{polls_waiting, waits_for}, Tests.{is_unsent, waits_for_nothing, waits_for_request}, Words.{acts, asks_await, newest_held, polled_task}, World.{Task, no_seat, request_of, seat_of, task_of}}
+use Rattle.exec_machine.specs.{After.own_after, declared.{event.Event.{Event, TheVariants.{Closed, Send}}, state.{Forwarding.{Forwarding, TheVariants.{Sent as Forwarded, Unsent}}, MailMessage.TheVariants.ForwardRequest, Waiting.Waiting}}, Choice.Choice.Plain, Mail.{after_post, after_sending, awaiting, posted as seat_posted}, Progress.Plan, Same.is_number, Tasks.{polls_waiting, waits_for}, Tests.{is_unsent, waits_for_nothing, waits_for_request}, Words.{acts, asks_await, newest_held, polled_task}, World.{Task, no_seat, request_of, seat_of, task_of}}
 use Rattle.exec_moves.specs.{declared.{handing.AfterSend.AfterSend, place.{InPoll.InPoll, Place.Place}}, Move.{move_at, move_look_at}, Poll.{Sight.{Asks, HearsRequest}, resume, sight_by, sight_of}, Seen.polls_in, Send.send_message, State.{Moved, Things}, Thing.{aside, mailbox_of, with_mailbox}}
 use Rattle.exec_parts.{specs.{declared.parts.{mail.Subject.Subject, record.Record.Record, seat.Seat.Seat as Chair, shared.Shared.Shared, task_slot.TaskSlot.TaskSlot, worker.Worker.Worker}, Awaits.newest_of, Calls.forwarded_for, MailPosts.{AsksOutput, Sends, asks_by, chair_sent}, Serving.changed_in, Spots.Spot, View.{Views, common_of, desk_of, numbers_of_passing, own_of, seat_seen, seats_seen, task_seen, things_with}}, proofs.Facts.{not_same, same_thing, set_there}}
-use Rattle.exec_invariants.{specs.{Holding.{IsAbout, IsHolding, awaited_in, box_of, holder_of, nap_of, thing_of, under_way}, Sound.{MayStop, SoundAt, acts_next, is_told, may_end}, Spares.SparesRecord, Whole.{HasWhole, Profile, hands_of, with_worker}, Works.{Beside, Steps, Suits, Works}}, proofs.{AskBoxes.{box_there, one_more_way, one_sent, same_else}, Hearing.hears_so, Here.{IsHere, going_on}, HoldBeside.Holds, HoldPosts.{posted, with_mail}, HoldThings.{Touches, touches_record}, HoldWaits.thing_awaited, Keys.{name_in, names_changed, same_gates, same_opens}, LetterPosts.{chair_open, forwards_request, open_spares, sent_open}, Lined.passing_same, Seats.seat_there, Seen.request_at, Slots.task_there, SparedRecord.there_within, TaskAsks.{Posts, asked, asked_leaves, asked_works, led_to, leads_to, to_pend}, TaskDeals.{ComesFrom, Dealt, ends as to_end, from_look}, TaskHears.thing_there, TaskTakes.{holder_there, holders_one}, TaskWants.{forward_place, made_with, wants_from}, Turning.set_found}}
+use Rattle.exec_invariants.{specs.{Holding.{IsAbout, IsHolding, awaited_in, box_of, holder_of, nap_of, thing_of, under_way}, Sound.{MayStop, SoundAt, acts_next}, Spares.SparesRecord, Whole.{HasWhole, Profile, hands_of, with_worker}, Works.{Beside, Steps, Suits, Works}}, proofs.{AskBoxes.{box_there, one_more_way, one_sent, same_else}, Hearing.hears_so, Here.{IsHere, going_on}, HoldBeside.Holds, HoldPosts.{posted, with_mail}, HoldThings.{Touches, touches_record}, HoldWaits.thing_awaited, Keys.{name_in, names_changed, same_gates, same_opens}, LetterPosts.{chair_open, forwards_request, open_spares, sent_open}, Lined.passing_same, Seats.seat_there, Seen.request_at, Slots.task_there, SparedRecord.there_within, TaskAsks.{Posts, asked, asked_leaves, asked_works, led_to, leads_to, to_pend}, TaskDeals.{ComesFrom, Dealt, ends as to_end, from_look}, TaskHears.thing_there, TaskTakes.{holder_there, holders_one}, TaskWants.{forward_place, made_with, wants_from}, Turning.set_found}}
 
 unsent_so : (f : Forwarding) → is_unsent f ≡ true → f ≡ Unsent
-unsent_so Unsent h = refl
-unsent_so Forwarded h = absurd (false≢true h)
-unsent_so Applied h = absurd (false≢true h)
+unsent_so = grind arith
 
 module _ {B : Type 0} where
   -- the slot then: its body may have acted, and is told nothing
@@ -72,17 +70,7 @@ module _ {B : Type 0} where
       let took = by.slot_so.took in
       let waits_then : slot'.waiting ≡ Waiting.Request k = ap (λ (y : TaskSlot B). y.waiting) took in
       let stop : MayStop w.index (Waiting.Request k) mid.requests.items mid.sleepers.items = (r', ap (λ xs. slice_get xs k) by.requests ∙ set_there s.requests.items k r' r by.request, inl refl) in
-      let to : Dealt InPoll.Pend w.index slot slot' mid.requests.items mid.sleepers.items = record {
-        cell = ap (λ (y : TaskSlot B). y.cell) took;
-        home = ap (λ (y : TaskSlot B). y.home) took;
-        cleared = ap (λ (y : TaskSlot B). y.cleared) took;
-        poller = ap (λ (y : TaskSlot B). y.poller) took;
-        body = by.slot_so.body;
-        told = λ h. absurd (false≢true (sym (ap (λ u. is_told u false) waits_then) ∙ h));
-        untold = λ h. ap (λ (y : TaskSlot B). y.told) took;
-        waits = ap may_end waits_then;
-        stops = subst (λ u. MayStop w.index u mid.requests.items mid.sleepers.items) (sym waits_then) stop;
-      } in
+      let to : Dealt InPoll.Pend w.index slot slot' mid.requests.items mid.sleepers.items = grind arith in
       let worker : w' ≡ record w { place = led_to t InPoll.Pend b j (asks_by (ForwardRequest k) chair.mailbox) } = by.sends.worker chair mid_there ∙ ap (λ q. record w { place = q }) (leads_to t InPoll.Pend b (to_pend t) mid.config j (asks_by (ForwardRequest k) chair.mailbox) (desk_of w)) in
       let event : e ≡ Send j (ForwardRequest k) = by.sends.event chair mid_there ∙ ap (λ c. if c then Closed else Send j (ForwardRequest k)) wants.open_box in
       let all : s' ≡ record s { tasks = mid.tasks; requests = mid.requests; seats = s'.seats } = by.sends.kept ∙ ap (λ (y : Shared B). record y { seats = s'.seats }) by.kept in
@@ -119,16 +107,7 @@ module _ {B : Type 0} where
       (subst (λ xs. IsHolding h s.config.workers (slice_set hs t (holder_of slot')) xs naps (map box_of s'.seats.items)) (sym same_things)
       (subst (λ xs. IsHolding h s.config.workers (slice_set hs t (holder_of slot')) (slice_set ts k (thing_of r')) naps xs) (sym same_boxes) there))) in
       let leaves = asked_leaves x InPoll.Pend b t j (ForwardRequest k) (forwards_request k) w s mid s' slot' chair wants.open_box from (to_end t) (to_pend t) sound at midkept by.tasks by.sends.kept posts touches to held in
-      record {
-        chair = chair;
-        open_box = wants.open_box;
-        posts = posts;
-        worker = worker;
-        event = event;
-        sound = leaves.0;
-        beside = leaves.1;
-        items = ap (λ (y : Shared B). y.tasks.items) by.sends.kept ∙ by.tasks;
-      }
+      grind arith
 
 -- WHAT THE MACHINE AND THE MOVES MAKE OF IT
 module _ {B L : Type 0} (left : B → L) (spot : L → Option Said → Spot) where

@@ -1,5 +1,5 @@
 -- WHAT A TASK'S ACT DOES with the newest request that it holds: the whole steps, by where that is and whether it is over.
-use Rattle.std.proofs.Common.{◌≡◌, ℕ, true, false, List, [], Option, Some, None, IsSome, refl, sym, ap, subst, ◌∙◌, slice_get}
+use Rattle.std.proofs.Common.{◌≡◌, ℕ, true, false, List, [], Option, Some, None, IsSome, refl, sym, ap, subst, ◌∙◌, slice_get, arith}
 use Rattle.exec_task.specs.{Sight.Sight, declared.body.{Act.Act, Said.Said}}
 use Rattle.exec_machine.specs.{declared.event.Event.Event, Progress.Plan, Tests.is_resolved}
 use Rattle.exec_parts.{specs.{declared.parts.{shared.Shared.Shared, task_slot.TaskSlot.TaskSlot, worker.Worker.Worker}, Awaits.{AwaitsNewest, DropsRequest, OfNewest, newest_of}, Polls.OfSlot, Scripts.IsAnswered, Spots.Spot}, proofs.Facts.{by_number, same_thing, set_there}}

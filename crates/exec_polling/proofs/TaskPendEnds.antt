@@ -1,5 +1,6 @@
 -- A POLL ENDS where it stands (Pend, or at what its task waits for): whether its task was cleared meanwhile or not.
 use Rattle.std.proofs.{Common.{◌≡◌, Bool, true, false, ℕ, Option, refl, sym, ap, subst, ◌∙◌}, lemmas.Bool.false≢true}
+use Rattle.std.proofs.Common.{arith}
 use Rattle.exec_task.specs.{Phases.pend_answer, declared.body.Said.Said}
 use Rattle.exec_machine.specs.declared.event.Event.{Event, TheVariants.Pend}
 use Rattle.exec_moves.specs.declared.place.{InPoll.InPoll, Place.Place}

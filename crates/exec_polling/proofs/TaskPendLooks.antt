@@ -1,25 +1,12 @@
 -- A POLL ENDS AT A LOOK: what its task waits for is its worker's, and hasn't come.
-use Rattle.std.proofs.{Common.{◌≡◌, inr, ℕ, ◌==◌, ◌||◌, Bool, true, false, Option, Some, refl, sym, ap, subst, ◌∙◌, slice_get}, lemmas.Bool.{false≢true, eq-eqb}}
+use Rattle.std.proofs.{Common.{◌≡◌, inr, ℕ, ◌||◌, Bool, true, false, Option, Some, refl, sym, ap, subst, ◌∙◌, slice_get}, lemmas.Bool.{false≢true}}
+use Rattle.std.proofs.Common.{arith}
 use Rattle.exec_task.specs.declared.body.Said.{Said}
-use Rattle.exec_machine.specs.{declared.{event.Event.TheVariants.Pend, state.{MailMessage.TheVariants.{ForwardRequest, ForwardTimer}, RequestPhase.RequestPhase, Waiting.Waiting}}, Choice.Choice.Plain, Tests.{is_resolved, is_unsent}, World.{Common, Task, request_of, sleeper_of, task_of}}
-use Rattle.exec_moves.specs.{declared.{handing.AfterSend.AfterSend, place.{InPoll.InPoll, Place.Place}}, Move.move_look_at, Poll.{Sight.{Asks, HearsRequest, HearsTimer}, pend, resume, sight_by, sight_of}, State.{Desk, Moved, Things}, Thing.aside}
+use Rattle.exec_machine.specs.{declared.{event.Event.TheVariants.Pend, state.{MailMessage.TheVariants.{ForwardRequest, ForwardTimer}, Waiting.Waiting}}, Tests.{is_resolved, is_unsent}, World.{Task, request_of, sleeper_of, task_of}}
+use Rattle.exec_moves.specs.{declared.{handing.AfterSend.AfterSend, place.{InPoll.InPoll, Place.Place}}, Move.move_look_at, Poll.{Sight.{Asks, HearsRequest, HearsTimer}, resume, sight_by, sight_of}, State.{Moved, Things}, Thing.aside}
 use Rattle.exec_parts.{specs.{declared.parts.{record.Record.Record, shared.Shared.Shared, sleeping.SleeperRecord.SleeperRecord, task_slot.TaskSlot.TaskSlot, worker.Worker.Worker}, Spots.Spot, View.{common_of, desk_of, task_seen, things_with}}, proofs.Facts.same_thing}
 use Rattle.exec_invariants.{specs.{Holding.{awaited_in, holder_of, nap_of}, Sound.{MayStop, may_end}, Whole.HasWhole}, proofs.{Here.{IsHere, going_on}, Seen.{request_at, sleeper_at}, Slots.task_there, TaskTakes.{holder_there, nap_there}}}
 use Rattle.exec_polling.proofs.Guests.{EndsHere}
-
-request_on : (i t k : ℕ) (s : Common) (d : Desk) (it : Task) (p : RequestPhase) → it.waiting ≡ Waiting.Request k → (request_of s k).phase ≡ p → is_resolved p ≡ false → resume i t s d it ≡ pend i t s d it
-request_on i t k s d it RequestPhase.Gated waits is going = rw (waits, is) refl
-request_on i t k s d it RequestPhase.Queued waits is going = rw (waits, is) refl
-request_on i t k s d it RequestPhase.Staged waits is going = rw (waits, is) refl
-request_on i t k s d it RequestPhase.Flying waits is going = rw (waits, is) refl
-request_on i t k s d it (RequestPhase.Landed n) waits is going = rw (waits, is) refl
-request_on i t k s d it (RequestPhase.Resolved outcome) waits is going = absurd (false≢true (sym going))
-
-timer_on : (i t k : ℕ) (s : Common) (d : Desk) (it : Task) → it.waiting ≡ Waiting.Timer k → (sleeper_of s k).fired ≡ false → resume i t s d it ≡ pend i t s d it
-timer_on i t k s d it waits none = rw (waits, none) refl
-
-abbrev pended : ℕ → Desk → Things → Moved Things
-pended t d x = record { event = Pend t; choice = Plain; desk = d; thing = x }
 
 module _ {B L : Type 0} (left : B → L) (spot : L → Option Said → Spot) where
   pub request_pends : (t k : ℕ) (w : Worker) (s : Shared B) (slot : TaskSlot B) (r : Record) → slice_get s.tasks.items t ≡ Some slot → slot.waiting ≡ Waiting.Request k → slice_get s.requests.items k ≡ Some r → is_unsent r.shown.forwarding ≡ true → r.shown.worker ≡ w.index → is_resolved r.shown.phase ≡ false
@@ -35,11 +22,7 @@ module _ {B L : Type 0} (left : B → L) (spot : L → Option Said → Spot) whe
       let request : request_of all k ≡ r.shown = request_at s.requests.items k r at_k in
       let looks : Task → Moved Things = λ z. move_look_at p.config all d x t b (aside x (resume w.index t all d z)) (sight_of w.index all z.waiting) in
       let finds : Bool → Bool → Moved Things = λ u m. move_look_at p.config all d x t b (aside x (resume w.index t all d y)) (sight_by u m (Asks r.shown.worker (ForwardRequest k)) (HearsRequest k)) in
-      ap looks seen
-      ∙ ap (λ q. move_look_at p.config all d x t b (aside x (resume w.index t all d y)) (sight_by (is_unsent q.forwarding) (q.worker == w.index) (Asks q.worker (ForwardRequest k)) (HearsRequest k))) request
-      ∙ ap (λ u. finds u (r.shown.worker == w.index)) unsent ∙ ap (λ i. finds true (i == w.index)) mine ∙ ap (finds true) (eq-eqb w.index w.index refl)
-      ∙ ap (aside x) (request_on w.index t k all d y r.shown.phase refl (ap (λ q. q.phase) request) going)
-      ∙ ap (λ z. pended t (pend w.index t all d z).desk x) (sym seen)
+      grind arith
 
   pub timer_pends : (t k : ℕ) (w : Worker) (s : Shared B) (slot : TaskSlot B) (z : SleeperRecord) → slice_get s.tasks.items t ≡ Some slot → slot.waiting ≡ Waiting.Timer k → slice_get s.sleepers.items k ≡ Some z → is_unsent z.shown.forwarding ≡ true → z.shown.worker ≡ w.index → z.shown.fired ≡ false
       → EndsHere left spot InPoll.Resume t w s
@@ -54,11 +37,7 @@ module _ {B L : Type 0} (left : B → L) (spot : L → Option Said → Spot) whe
       let sleeper : sleeper_of all k ≡ z.shown = sleeper_at s.sleepers.items k z at_k in
       let looks : Task → Moved Things = λ v. move_look_at p.config all d x t b (aside x (resume w.index t all d v)) (sight_of w.index all v.waiting) in
       let finds : Bool → Bool → Moved Things = λ u m. move_look_at p.config all d x t b (aside x (resume w.index t all d y)) (sight_by u m (Asks z.shown.worker (ForwardTimer k)) (HearsTimer k)) in
-      ap looks seen
-      ∙ ap (λ q. move_look_at p.config all d x t b (aside x (resume w.index t all d y)) (sight_by (is_unsent q.forwarding) (q.worker == w.index) (Asks q.worker (ForwardTimer k)) (HearsTimer k))) sleeper
-      ∙ ap (λ u. finds u (z.shown.worker == w.index)) unsent ∙ ap (λ i. finds true (i == w.index)) mine ∙ ap (finds true) (eq-eqb w.index w.index refl)
-      ∙ ap (aside x) (timer_on w.index t k all d y refl (ap (λ q. q.fired) sleeper ∙ going))
-      ∙ ap (λ v. pended t (pend w.index t all d v).desk x) (sym seen)
+      grind arith
 
 module _ {B : Type 0} where
   -- what it waits for may still come

@@ -87,16 +87,7 @@ module _ {B : Type 0} where
       (subst (λ xs. IsHolding h s.config.workers xs ts naps (map box_of s'.seats.items)) (sym same_holders)
       (subst (λ xs. IsHolding h s.config.workers (slice_set hs t (holder_of slot')) ts naps xs) (sym same_boxes) there)) in
       let leaves = asked_leaves InPoll.Act InPoll.Act b t j (CancelRequest k) (cancels_request k) w s mid s' slot' chair wants.open_box (from_act t) (to_act t) (leads_on t) sound at midkept by.tasks by.sends.kept posts touches to held in
-      record {
-        chair = chair;
-        open_box = wants.open_box;
-        posts = posts;
-        worker = worker;
-        event = event;
-        sound = leaves.0;
-        beside = leaves.1;
-        items = ap (λ (y : Shared B). y.tasks.items) by.sends.kept ∙ by.tasks;
-      }
+      grind arith
 
 module _ {B L : Type 0} (left : B → L) (runs : L → Plan → Option ℕ → Type 0) (holds : L → Option Said → List ℕ) (spot : L → Option Said → Spot) (gives : L → Option Sight → Said → Act B → L → Option Sight → Type 0) (answered : IsAnswered spot) where
   -- WHAT THE MACHINE AND THE MOVES MAKE OF IT

@@ -1,55 +1,25 @@
 -- The act by which a task that holds nothing waits for a wake.
-use Rattle.std.proofs.{Common.{◌≡◌, ℕ, ◌-◌, true, List, length, Option, Some, None, refl, sym, ap, subst, ◌∙◌, slice_get, slice_set}, lemmas.Bool.false≢true}
+use Rattle.std.proofs.{Common.{◌≡◌, ℕ, ◌-◌, true, List, length, Option, Some, None, refl, sym, subst, slice_get}}
+use Rattle.std.proofs.Common.{arith}
 use Rattle.exec_task.specs.{Phases.is_polled, Sight.Sight, declared.body.{Act.Act, Said.Said}}
-use Rattle.exec_machine.specs.{Choice.Choice.Plain, declared.{event.Event.{Event, TheVariants.{Wait}}, state.Waiting.Waiting}, Progress.Plan, Tasks.waits_for, Tests.is_empty, Words.{asks_await}, World.{Task, task_of}}
+use Rattle.exec_machine.specs.{Choice.Choice.Plain, declared.{event.Event.{Event, TheVariants.{Wait}}, state.Waiting.Waiting}, Progress.Plan}
 use Rattle.exec_moves.specs.declared.place.{Place.Place, InPoll.InPoll}
-use Rattle.exec_parts.specs.{declared.parts.{shared.Shared.Shared, task_slot.TaskSlot.TaskSlot, worker.Worker.Worker}, Records.numbers_held, Spots.Spot, View.{Views, desk_of, common_of, task_seen, things_with}, Things.TurnsSlot}
-use Rattle.exec_invariants.{specs.{Acting.{ActsAs, HasActed, StepsOf}, Holding.{awaited_in, holder_of}}, proofs.{Acting.{StaysOn, acted, actor, acts_so, me_at, moved_seen, none_held}, Performing.performs_waiting, Slots.{IsEvent, task_there}}}
+use Rattle.exec_parts.specs.{declared.parts.{shared.Shared.Shared, task_slot.TaskSlot.TaskSlot, worker.Worker.Worker}, Records.numbers_held, Spots.Spot, View.{Views, common_of}, Things.TurnsSlot}
+use Rattle.exec_invariants.{specs.{Acting.{ActsAs, HasActed, StepsOf}}, proofs.{Acting.{StaysOn, acted, actor, acts_so, me_at, moved_seen, none_held}, Performing.performs_waiting, Slots.{IsEvent, task_there}}}
 use Rattle.exec_polling.proofs.TaskAwaits.{await_nothing}
 
 module _ {B L : Type 0} (left : B → L) (runs : L → Plan → Option ℕ → Type 0) (holds : L → Option Said → List ℕ) (spot : L → Option Said → Spot) (gives : L → Option Sight → Said → Act B → L → Option Sight → Type 0) where
   wait_event : (t : ℕ) (w : Worker) (s : Shared B) (slot : TaskSlot B) (b' : B) (r : Option ℕ) → w.hand ≡ None → slice_get s.tasks.items t ≡ Some slot → slot.waiting ≡ Waiting.Nothing → is_polled slot.cell.phase ≡ true → slice_get (numbers_held slot.held.items) (length (numbers_held slot.held.items) - 1) ≡ None
       → (p : Plan) (vs : Views) → ActsAs left runs holds spot gives (common_of left spot p vs s) p w.moments.sampled slot b' (Act.Await r)
       → IsEvent left spot (Place.Poll t InPoll.Act) (Place.Poll t InPoll.Pend) t w w.root_ready None s (record slot { body = Some b'; told = None; waiting = Waiting.Wake }) (Wait None) Plain p vs
-  wait_event t w s slot b' r empty there waits is none p vs does_so =
-      let all = common_of left spot p vs s in
-      let me = me_at t w in
-      let d = desk_of (record w { place = Place.Poll t InPoll.Act }) in
-      let it : task_of all t ≡ task_seen left spot slot = task_there left spot s.tasks.items t slot there in
-      let seen = ap (λ (y : Task). record y { waiting = Waiting.Wake }) (moved_seen left spot all slot b' None is does_so.stands) in
-      record {
-        moves = await_nothing left spot t p w s vs slot there does_so.asks.0 none
-            ∙ ap (λ o. record { event = Wait None; choice = Plain; desk = desk_of (record w { place = Place.Poll t InPoll.Pend; hand = o }); thing = things_with vs s }) empty;
-        may = (acts_so left spot t all w slot asks_await it waits (ap asks_await does_so.asks.0), (ap (λ y. is_empty y.held) it ∙ ap is_empty (none_held (numbers_held slot.held.items) none), tt));
-        own = refl;
-        common = ap (λ y. record all { tasks = slice_set all.tasks t (waits_for all y Waiting.Wake) }) it ∙ ap (λ y. record all { tasks = slice_set all.tasks t y }) (sym seen);
-      }
+  wait_event = grind (arith, me_at, task_there, moved_seen, await_nothing, acts_so, none_held)
 
   pub waited_by : (t : ℕ) (w w' : Worker) (s s1 s' : Shared B) (e : Event) (r : Option ℕ) → (h : HasActed left runs holds spot gives t w s s1 (Act.Await r)) → slice_get (numbers_held h.made.slot.held.items) (length (numbers_held h.made.slot.held.items) - 1) ≡ None
       → e ≡ Wait None → w' ≡ record w { place = Place.Poll t InPoll.Pend } → TurnsSlot t s1 s' (λ slot. record slot { waiting = Waiting.Wake }) → StepsOf left runs holds spot w s e w' s'
   waited_by t w w' s s1 s' e r h none event same turns =
       let m = h.made in
       let it = actor left runs holds spot gives t w s s1 (Act.Await r) h in
-      let stays : StaysOn InPoll.Pend t m.slot (record m.slot { body = Some m.acts.body'; told = None; waiting = Waiting.Wake }) = record {
-        keeps = record { home = refl; number = refl; owner = refl };
-        polled = it.polled;
-        body = refl;
-        poller = refl;
-        cancelled = refl;
-        cleared = refl;
-        held = refl;
-        holder = ap (λ u. record (holder_of m.slot) { awaits = awaited_in u }) (sym it.waits);
-        waits = refl;
-        told = λ h. absurd (false≢true h);
-        untold = λ h. refl;
-        stops = λ i rs ss. tt;
-        polls = refl;
-        begins = refl;
-        hands = refl;
-        joins = refl;
-        unpooled = refl;
-        free = refl;
-      } in
+      let stays : StaysOn InPoll.Pend t m.slot (record m.slot { body = Some m.acts.body'; told = None; waiting = Waiting.Wake }) = grind arith in
       subst (λ z. StepsOf left runs holds spot w s z w' s') (sym event)
       (acted left runs holds spot gives t InPoll.Pend w w' s s1 s' (Wait None) Plain (Act.Await r) (λ slot. record slot { waiting = Waiting.Wake }) h stays
       (λ p vs so. wait_event t w s m.slot m.acts.body' r h.sound.hand m.there it.waits it.polled none p vs so) (λ p goes. performs_waiting left runs holds spot gives p m.slot m.acts.body' r it.polled goes) refl same turns)

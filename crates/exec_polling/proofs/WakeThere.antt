@@ -1,5 +1,5 @@
 -- The act by which a task wakes the root of another worker: that worker is sent a message.
-use Rattle.std.proofs.{Common.{MatchBool, ◌≡◌, ◌≢◌, ℕ, ◌<◌, ◌≤◌, ◌==◌, nat_lt, arith, Bool, true, false, not, List, [], length, map, Option, Some, None, get_or, refl, sym, ap, subst, ◌∙◌, slice_get, slice_set, if◌then◌else◌}, lemmas.{Bool.{eq-eqb, Decides.nat_tests}, List.{length-set, map-set}, Option.{get_or_from_slice_get, slice_get-get_or, slice_get_within}}}
+use Rattle.std.proofs.{Common.{MatchBool, ◌≡◌, ◌≢◌, ℕ, ◌<◌, ◌≤◌, ◌==◌, arith, Bool, true, false, not, List, [], length, map, Option, Some, None, get_or, refl, sym, ap, subst, ◌∙◌, slice_get, slice_set, if◌then◌else◌}, lemmas.{Bool.{eq-eqb}, List.{length-set, map-set}, Option.{get_or_from_slice_get, slice_get-get_or, slice_get_within}}}
 use Rattle.exec_base.specs.declared.task_no.TaskNo.{TaskNo}
 use Rattle.exec_words.specs.Queue.{tail_of}
 use Rattle.exec_task.specs.{Sight.Sight, declared.body.{Act.Act, Said.Said}}
@@ -10,10 +10,7 @@ use Rattle.exec_invariants.{specs.{Acting.{HasActed, StepsOf}, Holding.{holder_o
 use Rattle.exec_polling.proofs.Stirred.{performs_passing}
 
 same_queue : (a : Arrival) (chair : Chair) → (chair_by a chair).queue ≡ chair.queue
-same_queue Arrival.Shut chair = refl
-same_queue Arrival.LeftOut chair = refl
-same_queue Arrival.First chair = refl
-same_queue Arrival.More chair = refl
+same_queue = grind arith
 
 other_root_move : (c : Configuration) (i : ℕ) (s : Common) (d : Desk) (x : Things) (t u home : ℕ) → (home == i) ≡ false
     → move_wake c i s d x t u (Some home) ≡ with_mailbox home x (send_root c s home (AfterSend.Act t) d (mailbox_of x home))
@@ -32,26 +29,12 @@ own_by t j w true = refl
 own_by t j w false = refl
 
 own_then : (c : Configuration) (t j i : ℕ) (w : Worker) (all : Common) (a : Arrival) → me_at t w ≡ own_after c (me_at t w) all i (event_by j a) (choice_by a ByAct)
-own_then c t j i w all Arrival.Shut = refl
-own_then c t j i w all Arrival.LeftOut = refl
-own_then c t j i w all Arrival.First = refl
-own_then c t j i w all Arrival.More = refl
+own_then = grind arith
 
 module _ {B : Type 0} where
   -- who has a root is a worker
   pub home_few : (workers count t j : ℕ) (tasks : List (TaskSlot B)) (slot : TaskSlot B) → AreHome workers count tasks → slice_get tasks t ≡ Some slot → slot.home ≡ Some j → j < count
-  home_few workers count t j tasks slot homes there home = by (nat_lt t workers) refl
-    where
-      by : (b : Bool) → nat_lt t workers ≡ b → j < count
-      by true is =
-          let less : t < workers = grind (arith, nat_tests, is) in
-          let same : Some j ≡ Some t = sym home ∙ homes.home t slot there less in
-          let at : j ≡ t = cc in
-          let many : workers ≤ count = homes.many in
-          omega (arith, less, at, many)
-      by false is =
-          let past : workers ≤ t = grind (arith, nat_tests, is) in
-          (homes.dedicated t j slot there past home).1
+  home_few = grind arith
 
   -- one change of tasks, and then another step
   pub spares_on : (j : ℕ) (s m s' : Shared B) → Spares j s (record s { tasks = m.tasks }) → Spares j (record s { tasks = m.tasks }) s' → Spares j s s'

@@ -1,10 +1,10 @@
 -- The wake word of each worker says what it waits on, and none ends a wait of its own: so it is in the first state, and each step keeps it.
-use Rattle.std.proofs.Common.{◌≡◌, ◌≢◌, ℕ, ◌<◌, ◌==◌, ◌&&◌, Bool, true, false, not, length, if◌then◌else◌, get_or, set, refl, sym, ap, ◌∙◌, subst, arith, inl, inr}
-use Rattle.std.proofs.lemmas.{Bool.{and_parts, cases_Bool, cases_eq, cases_lt, eqb-true, false≢true, true≢false}, List.{get_or_past, get_or-set_same}}
+use Rattle.std.proofs.Common.{◌≡◌, ◌≢◌, ℕ, ◌<◌, ◌==◌, Bool, true, false, length, if◌then◌else◌, get_or, set, refl, sym, ap, ◌∙◌, arith, inl, inr}
+use Rattle.std.proofs.lemmas.{Bool.{and_parts, cases_Bool, cases_eq, cases_lt, false≢true}, List.{get_or_past, get_or-set_same}}
 use Rattle.std.specs.Prelude.{nat_lt}
-use Rattle.exec_words.specs.{declared.word.{PureWord.PureWord, WaitTarget.WaitTarget}, Queue.head_of, Word.{asks_signal, is_armed, is_idle_at}}
+use Rattle.exec_words.specs.{declared.word.{PureWord.PureWord, WaitTarget.WaitTarget}, Queue.head_of, Word.{asks_signal, is_idle_at}}
 use Rattle.exec_words.specs.declared.word.WaitTarget.TheVariants as target
-use Rattle.exec_machine.specs.{declared.{config.Configuration.Configuration, step.Action.Action}, Callers.{is_enabled, is_held, may_call}, Deadlines.next_due, Progress.Plan, Tests.{has_ended, is_awake}, World.{Common, Own as Books, Seat, no_seat, own_of, seat_of, task_of}}
+use Rattle.exec_machine.specs.{declared.{config.Configuration.Configuration, step.Action.Action}, Callers.{is_enabled}, Deadlines.next_due, Progress.Plan, World.{Common, Own as Books, own_of}}
 use Rattle.exec_machine.specs.declared.step.Action.TheVariants as action
 use Rattle.exec_moves.specs.{declared.{handing.AfterSignal.AfterSignal, idling.{InRingWait.InRingWait, Stay.Stay}, place.{AfterPermit.AfterPermit, Place.Place, Service.Service}}, Callback.is_of_pool, Claim.is_ring, Load.{has_come, has_mail}, Move.{move, move_at}, Parts.after_signal, Plays.{Playing, by_action, by_move, by_step, caller_of, desk_of, first_desk, first_playing}, Pop.same_head, Search.from_of, Serve.{Ring, after_permit, entered as taken}, State.{Desk, Moved, Things, no_word, queue_of, taken_in, word_of}, Thing.ring_of, Wait.{enter_ring, has_completion, sleep_on_word}}
 use Rattle.exec_moves.specs.declared.handing.InSignal.TheVariants as signals
@@ -16,7 +16,7 @@ use Rattle.exec_moves.specs.declared.idling.InWordWait.TheVariants as word
 use Rattle.exec_moves.specs.declared.place.InService.TheVariants as step
 use Rattle.exec_moves.specs.declared.place.Place.TheVariants as at
 use Rattle.exec_rest.specs.{AtRest.IsPlaced, Places.waits_on, Rested.{IsLaidOut, IsRaised, IsRestful, place_at}}
-use Rattle.exec_rest.proofs.{Calls.at_nothing, CallMoves.{call_heeds, spawn_heeds, wake_heeds}, First.of_equal, Frames.{desk_other, desk_own}, Heeds.Heeds, Others.{Beside, beside, is_other}, Step.heeds_at}
+use Rattle.exec_rest.proofs.{Calls.at_nothing, CallMoves.{call_heeds, spawn_heeds, wake_heeds}, First.of_equal, Frames.{desk_other, desk_own}, Heeds.Heeds, Others.{beside, is_other}, Step.heeds_at}
 use Rattle.exec_progress.specs.{Going.{has_called_back, loads_queues, raises_itself}, Owed.quiet_items, Paced.{AreAimed, HavePace}}
 use Rattle.exec_progress.proofs.{Pace.each_first, PaceParts.{is_wild, Calm, calm_raises, calm_waits, headed, permitted, signalled, withdrawing}, PaceMoves.in_place, WordMoves.target_kept}
 
@@ -44,12 +44,7 @@ waits_then (at.WordWait word.SleepOnWord) = target.Sleeping
 waits_then _ = target.None
 
 tame_then : (p : Place) → is_wild p ≡ false → waits_then p ≡ target.None
-tame_then (at.RingWait ring.ArmRing y) tame = absurd (true≢false tame)
-tame_then (at.RingWait ring.EnterRing y) tame = absurd (true≢false tame)
-tame_then (at.RingWait ring.SleepOnRing y) tame = absurd (true≢false tame)
-tame_then (at.WordWait word.ArmWord) tame = absurd (true≢false tame)
-tame_then (at.WordWait word.SleepOnWord) tame = absurd (true≢false tame)
-tame_then _ tame = refl
+tame_then = grind arith
 
 module _ (c : Configuration) (i : ℕ) (me : Books) (s : Common) (d : Desk) (x : Things) where
   -- the own word is this one then
@@ -88,9 +83,7 @@ module _ (c : Configuration) (i : ℕ) (me : Books) (s : Common) (d : Desk) (x :
   entered y r false h = rw h (ring_if (has_completion (taken (length me.untold) d) (record r { wakes = taken_in d.polled r.wakes })) y (ring.DisarmRing later.Begin) ring.SleepOnRing (refl, refl) (refl, refl))
 
   bedded : (w : PureWord) (idle : Bool) → is_idle_at w d.processed ≡ idle → (come : Bool) → has_come s.clock (next_due s i) ≡ come → Off target.Sleeping (sleep_on_word i s d w).desk.place
-  bedded w true h true is = rw (h, is) (refl, refl)
-  bedded w true h false is = rw (h, is) (refl, refl)
-  bedded w false h come is = rw h (refl, refl)
+  bedded = grind arith
 
   armed : (b : Bool) → Off target.Sleeping (at.WordWait (if b then word.SleepOnWord else word.DisarmWord))
   armed true = (refl, refl)
@@ -98,13 +91,7 @@ module _ (c : Configuration) (i : ℕ) (me : Books) (s : Common) (d : Desk) (x :
 
   -- of whoever asks for a signal a wait is to be ended, and so that isn't the own one
   unasked : (word_of x i).target ≡ target.None → (j : ℕ) → asks_signal (word_of x j) ≡ true → (j == i) ≡ false
-  unasked none j asks = elim (cases_Bool (j == i)) [
-    | inr h ↦ h
-    | inl h ↦
-        let is : j ≡ i = eqb-true j i h in
-        let on : is_armed (word_of x j).target ≡ true = (and_parts (is_armed (word_of x j).target) (not (word_of x j).latch) asks).0 in
-        absurd (false≢true (sym (ap is_armed none) ∙ ap (λ n. is_armed (word_of x n).target) (sym is) ∙ on))
-  ]
+  unasked = grind arith
 
   signals_on : (b is_ring : Bool) (j : ℕ) (a : AfterSignal) → (b ≡ true → (j == i) ≡ false) → Off target.None (if b then at.Signal (signals.Raise is_ring) j a else after_signal c i me s a d)
   signals_on true is_ring j a other = (refl, other refl)
@@ -139,9 +126,7 @@ module _ (c : Configuration) (i : ℕ) (me : Books) (s : Common) (d : Desk) (x :
       → ((word_of (move c i me s d x).thing i).target ≡ waits_on (move c i me s d x).desk.place) × (raises_itself i (move c i me s d x).desk.place ≡ false)
   aimed_at within loads called h = elim (cases_Bool (is_wild d.place)) [
     | inl wild ↦ let off = wild_off d.place h wild in (word_then within d.place h ∙ sym off.0, off.1)
-    | inr tame ↦
-        let off = calm_off _ _ (in_place c i me s d x d.place refl loads called tame).1 in
-        (word_then within d.place h ∙ tame_then d.place tame ∙ sym off.0, off.1)
+    | inr tame ↦ grind (arith, calm_off, in_place, word_then, within, tame_then)
   ]
 
 -- EACH STEP
@@ -155,12 +140,7 @@ module _ (c : Configuration) (x : Playing) (placed : IsPlaced c x) (held : IsRes
 
   -- who may go on is one of the workers
   within : (i : ℕ) → is_enabled s (action.Work i) ≡ true → i < length s.seats
-  within i may =
-      let up = and_parts (is_awake (seat_of s i).rest) (not (has_ended (seat_of s i).phase)) (and_parts (is_awake (seat_of s i).rest && not (has_ended (seat_of s i).phase)) (not (is_held s (seat_of s i))) may).0 in
-      elim (cases_lt i (length s.seats)) [
-        | inl lt ↦ lt
-        | inr past ↦ absurd (false≢true (subst (λ (y : Seat). not (has_ended y.phase) ≡ true) (get_or_past s.seats i no_seat past) up.1))
-      ]
+  within = grind (arith, and_parts, cases_lt, false≢true, get_or_past)
 
   by_work : (i : ℕ) → is_enabled s (action.Work i) ≡ true → AreAimed c (by_action c x (action.Work i)).next
   by_work i may = record { target = λ j. (each j).0; unraised = λ j. (each j).1 }
@@ -196,24 +176,16 @@ module _ (c : Configuration) (x : Playing) (placed : IsPlaced c x) (held : IsRes
 
   -- a step that isn't a worker's lets each stand where it does, and changes no target
   by_others : (y : Playing) → ((j : ℕ) → (desk_of c y j).place ≡ place_at c x j) → ((j : ℕ) → (word_of y.things j).target ≡ (word_of x.things j).target) → AreAimed c y
-  by_others y places targets =
-      record {
-        target = λ j. targets j ∙ aimed.target j ∙ ap waits_on (sym (places j));
-        unraised = λ j. ap (raises_itself j) (places j) ∙ aimed.unraised j;
-      }
+  by_others = grind arith
 
   by_other : (a : Action) → is_other a ≡ true → AreAimed c (by_action c x a).next
-  by_other a is =
-      let b : Beside c x (by_action c x a).next = beside c x laid a is in
-      by_others (by_action c x a).next (λ j. (b.workers j).place) (λ j. ap (λ words. (get_or words j no_word).target) b.words)
+  by_other = grind (arith, beside, laid, by_others)
 
   by_any : (a : Action) → is_enabled s a ≡ true → AreAimed c (by_action c x a).next
   by_any (action.Work i) may = by_work i may
   by_any (action.Spawn j k) may =
       by_others (by_action c x (action.Spawn j k)).next (λ n. refl) (spawn_heeds c s (caller_of x j) x.things (at_nothing c x laid held j may) k).targets
-  by_any (action.Wake j t) may =
-      let free = (and_parts (may_call s j) (nat_lt t (length s.tasks)) may).0 in
-      by_others (by_action c x (action.Wake j t)).next (λ n. refl) (wake_heeds c s (caller_of x j) x.things (at_nothing c x laid held j free) t (task_of s t).home).targets
+  by_any (action.Wake j t) may = grind (arith, and_parts, by_others, wake_heeds, at_nothing, laid)
   by_any (action.GoOn j) may =
       by_others (by_action c x (action.GoOn j)).next (λ n. refl) (call_heeds c s (caller_of x j) x.things (caller_of x j).place refl).targets
   by_any (action.Clock n) may = by_other (action.Clock n) refl
@@ -225,7 +197,4 @@ module _ (c : Configuration) (x : Playing) (placed : IsPlaced c x) (held : IsRes
 
   -- a step that is not enabled changes nothing
   pub aimed_then : (a : Action) → AreAimed c (by_step c x a).next
-  aimed_then a = elim (cases_Bool (is_enabled s a)) [
-    | inl may ↦ rw may (by_any a may)
-    | inr off ↦ rw off aimed
-  ]
+  aimed_then = grind (arith, cases_Bool, by_any)

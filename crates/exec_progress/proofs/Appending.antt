@@ -1,38 +1,19 @@
 -- A push into the global queue.
-use Rattle.std.proofs.Common.{◌≡◌, ℕ, ◌+◌, ◌==◌, ◌≤◌, ◌<◌, ◌++◌, Bool, true, false, not, ◌&&◌, List, [], ◌∷◌, Option, Some, None, is_some, refl, arith}
+use Rattle.std.proofs.Common.{◌≡◌, ℕ, ◌+◌, ◌==◌, ◌≤◌, ◌<◌, ◌++◌, Bool, false, not, ◌&&◌, List, [], None, arith}
 use Rattle.exec_words.specs.{Idle.Idle}
 use Rattle.exec_machine.specs.{declared.config.Configuration.Configuration, Tests.is_empty, World.{Common, Own as Books}}
-use Rattle.exec_moves.specs.{declared.{handing.{AfterClaim.AfterClaim, AfterPush.AfterPush, InGlobal.InGlobal}, place.Place.Place}, Callback.is_of_pool, Claim.set_of, Credit.one_if, Global.{appended_if, has_any, one_count_less, one_count_more}, Parts.after_push, Push.in_hand, State.{Desk, Things}, Thing.set_global}
-use Rattle.exec_progress.{specs.{Effort.{is_short_push, stagings_of_push}, Going.{FallsAt, closes_push, seen, stands}, Owed.stage_of_push, Ranks.{below_push, claims, in_global}}, proofs.{Arriving.{Reaches, push_to}, Between.{at_if, comes_claim, comes_global, first_claim, idle_kept, leaves_global, set_bounds, with_idle as only_idle}, Hopping.{Gets, Kept, hops}}}
-
--- what was in the hands is in the queue, and nothing else is new
-all_appended : (pool : Bool) (global loot : List ℕ) (hand : Option ℕ)
-    → one_if (pool && not (is_empty (global ++ (loot ++ in_hand hand)))) ≤ one_if (pool && not (is_empty global)) + one_if (is_some hand) + one_if (not (is_empty loot))
-all_appended false global loot hand = omega arith
-all_appended true (t ∷ global) loot hand = omega arith
-all_appended true [] (t ∷ loot) hand = omega arith
-all_appended true [] [] (Some t) = omega arith
-all_appended true [] [] None = omega arith
+use Rattle.exec_moves.specs.{declared.{handing.{AfterPush.AfterPush, InGlobal.InGlobal}, place.Place.Place}, Claim.set_of, Counts.one_if, Global.{appended_if, has_any, one_count_less}, Parts.after_push, Push.in_hand, State.{Desk, Things}, Thing.set_global}
+use Rattle.exec_progress.{specs.{Effort.{is_short_push, stagings_of_push}, Going.{FallsAt, closes_push, seen, stands}, Owed.stage_of_push, Ranks.{below_push, in_global}}, proofs.{Arriving.{Reaches, push_to}, Between.{at_if, comes_global, first_claim, idle_kept, leaves_global, set_bounds, with_idle as only_idle}, Hopping.{Gets, Kept, hops}}}
 
 pub longer : (pool : Bool) (xs more : List ℕ) → one_if (pool && not (is_empty xs)) ≤ one_if (pool && not (is_empty (xs ++ more)))
-longer false xs more = omega arith
-longer true [] more = omega arith
-longer true (t ∷ xs) more = omega arith
+longer = grind arith
 
 module _ (c : Configuration) (i : ℕ) (me : Books) (s : Common) (d : Desk) (x : Things) where
   abbrev appended : Bool → Gets c i me s d x
   appended closed = record { hand = None; loot = []; searching = d.searching; things = set_global x (appended_if closed x.global (d.loot ++ in_hand d.hand)) }
 
   append_kept : (closed : Bool) (b : AfterPush) → Kept c i me s d x (Place.Global InGlobal.Append b) (appended closed)
-  append_kept true b = record { queue_kept = omega arith; global_kept = omega arith; wants = λ h. omega (arith, h); poll = refl; mail = refl; latch = λ n. omega arith }
-  append_kept false b = record {
-    queue_kept = omega arith;
-    global_kept = longer (is_of_pool s i) x.global (d.loot ++ in_hand d.hand);
-    wants = λ h. omega (arith, h, all_appended (is_of_pool s i) x.global d.loot d.hand);
-    poll = refl;
-    mail = refl;
-    latch = λ n. omega arith;
-  }
+  append_kept = grind arith
 
   abbrev counted : Idle → Gets c i me s d x
   counted idle = only_idle c i me s d x d.searching idle
@@ -40,10 +21,7 @@ module _ (c : Configuration) (i : ℕ) (me : Books) (s : Common) (d : Desk) (x :
   -- from one step to another, or to what follows
   within : (f t : InGlobal) (b : AfterPush) (idle : Idle) → in_global idle (below_push c.workers b) t < in_global x.idle (below_push c.workers b) f
       → Reaches c i me s d x (Place.Global f b) (counted idle) (Place.Global t b)
-  within f t b idle less =
-      let r = in_global idle (below_push c.workers b) t in
-      hops c i me s d x (Place.Global f b) (Place.Global t b) (counted idle) (is_short_push b) (stage_of_push d.picks b) (stagings_of_push b) r
-      (leaves_global c i me s d x f b r less) (comes_global c i me s d x t b (counted idle) r (omega arith)) (idle_kept c i me s d x (Place.Global f b) d.searching idle)
+  within = grind arith
 
   ends : (f : InGlobal) (b : AfterPush) (idle : Idle) → closes_push b ≡ false → below_push c.workers b < in_global x.idle (below_push c.workers b) f
       → Reaches c i me s d x (Place.Global f b) (counted idle) (after_push c i (seen (Place.Global f b) me) s b (stands (Place.Global f b) d))
@@ -65,13 +43,7 @@ module _ (c : Configuration) (i : ℕ) (me : Books) (s : Common) (d : Desk) (x :
       at_if c i me s d x p (counted x.idle) (has_any x.idle) (Place.Global (InGlobal.AddGlobalCount (set_of x.idle)) b) (after_push c i (seen p me) s b (stands p d))
       (λ h. within InGlobal.LoadGlobalSet (InGlobal.AddGlobalCount (set_of x.idle)) b x.idle (omega (arith, first_claim x.idle h)))
       (λ h. ends InGlobal.LoadGlobalSet b x.idle it.open_still (let some = set_bounds (has_any x.idle) in omega (arith, some.0)))
-  goes_global (InGlobal.AddGlobalCount set) b it quiet =
-      let p = Place.Global (InGlobal.AddGlobalCount set) b in
-      let u = counted (one_count_more x.idle) in
-      let r = below_push c.workers b + claims set x.idle in
-      hops c i me s d x p (Place.ClaimWorker set (AfterClaim.Global b)) u (is_short_push b) (stage_of_push d.picks b) (stagings_of_push b) r
-      (leaves_global c i me s d x (InGlobal.AddGlobalCount set) b r (omega arith)) (comes_claim c i me s d x set (AfterClaim.Global b) u r (omega arith))
-      (idle_kept c i me s d x p d.searching (one_count_more x.idle))
+  goes_global (InGlobal.AddGlobalCount set) b it quiet = grind arith
   goes_global InGlobal.ReturnGlobalCount b it quiet =
       let p = Place.Global InGlobal.ReturnGlobalCount b in
       let less = one_count_less x.idle in

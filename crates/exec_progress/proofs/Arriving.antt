@@ -2,8 +2,9 @@
 use Rattle.std.proofs.Common.{◌≡◌, ℕ, suc, ◌==◌, ◌<◌, Bool, true, false, ◌&&◌, ◌||◌, if◌then◌else◌, List, [], ◌∷◌, refl, sym, ap, arith}
 use Rattle.std.proofs.lemmas.{Bool.{true≢false}}
 use Rattle.exec_machine.specs.{declared.{config.Configuration.Configuration, state.{Letter.Letter, Next.Next}}, Ranges.ring_size, World.{Common, Own as Books}}
-use Rattle.exec_moves.specs.{declared.{handing.{AfterCallbacks.AfterCallbacks, AfterCancels.AfterCancels, AfterClaim.AfterClaim, AfterKick.AfterKick, AfterLeave.AfterLeave, AfterPush.AfterPush, AfterSend.AfterSend, AfterSignal.AfterSignal}, place.{AfterService.AfterService, InCallbacks.InCallbacks, InPick.InPick, InPoll.InPoll, Place.Place}}, Callback.{after_callbacks, has_callbacks, has_requests, serve}, Heights.call_back, Load.has_submissions, Parts.{after_kick, after_leave, after_push, after_send, after_signal, cancels_left}, State.{Desk, Things}}
-use Rattle.exec_progress.{specs.{Effort.{is_short_kick, is_short_leave, is_short_push, is_short_send, is_short_signal, stagings_of_callbacks, stagings_of_kick, stagings_of_leave, stagings_of_push, stagings_of_signal}, Going.{closes_callbacks, closes_cancels, closes_kick, closes_push, closes_send, closes_signal, seen, stands}, Owed.{beginning, flagging, stage_of_callbacks, stage_of_kick, stage_of_leave, stage_of_pick, stage_of_push, stage_of_send, stage_of_signal}, Ranks.{act, below_callbacks, below_kick, below_leave, below_push, below_send, below_signal, count_down, next_turn}}, proofs.{Dropping.drops, Hopping.{Gets, Kept, Leaves, desk_at, hops, later}, Tools.{before, left}}}
+use Rattle.exec_moves.specs.{declared.{handing.{AfterCallbacks.AfterCallbacks, AfterCancels.AfterCancels, AfterClaim.AfterClaim, AfterKick.AfterKick, AfterLeave.AfterLeave, AfterPush.AfterPush, AfterSend.AfterSend, AfterSignal.AfterSignal}, place.{AfterService.AfterService, InCallbacks.InCallbacks, InPick.InPick, InPoll.InPoll, Place.Place}}, Callback.{after_callbacks, has_callbacks, has_requests, serve}, Load.has_submissions, Parts.{after_kick, after_leave, after_push, after_send, after_signal, cancels_left}, State.{Desk, Things}}
+use Rattle.exec_progress.specs.Heights.{call_back}
+use Rattle.exec_progress.{specs.{Effort.{is_short_kick, is_short_leave, is_short_push, is_short_send, is_short_signal, stagings_of_callbacks, stagings_of_kick, stagings_of_leave, stagings_of_push, stagings_of_signal}, Going.{closes_callbacks, closes_cancels, closes_kick, closes_push, closes_send, closes_signal, seen, stands}, Owed.{beginning, flagging, stage_of_callbacks, stage_of_kick, stage_of_leave, stage_of_pick, stage_of_push, stage_of_send, stage_of_signal}, Ranks.{below_callbacks, below_kick, below_leave, below_push, below_send, below_signal, count_down, next_turn}}, proofs.{Dropping.drops, Hopping.{Gets, Kept, Leaves, desk_at, hops, later}, Tools.{before, left}}}
 
 both : (m n k : ℕ) → m < n → n < k → m < k
 both m n k h l = omega (arith, h, l)
@@ -58,17 +59,13 @@ module _ (c : Configuration) (i : ℕ) (me : Books) (s : Common) (d : Desk) (x :
   pub push_to : (p : Place) (u : Gets c i me s d x) (b : AfterPush) → closes_push b ≡ false
       → Leaves c i me s d x p (is_short_push b) (stage_of_push d.picks b) (stagings_of_push b) (below_push c.workers b) → Kept c i me s d x p u
       → Reaches p u (after_push c i (seen p me) s b (stands p d))
-  push_to p u (AfterPush.Act t) still from it =
-      hops c i me s d x p (Place.Poll t InPoll.Act) u true 0 1 act from
-      (record { short_here = refl; stage_here = refl; stagings_here = omega arith; below = omega arith; no_gate = refl; no_scan = refl; nothing_found = refl; not_itself = refl }) it
+  push_to p u (AfterPush.Act t) still from it = grind arith
   push_to p u AfterPush.Pick still from it = to_pick p u from it (d.picks == 0) refl
   push_to p u (AfterPush.CallBack n) still from it = to_callbacks p u n still from it (has_callbacks me d) refl
 
   pub leave_to : (p : Place) (u : Gets c i me s d x) (b : AfterLeave) → Leaves c i me s d x p (is_short_leave b) (stage_of_leave b) (stagings_of_leave b) (below_leave c.workers b) → Kept c i me s d x p u
       → Reaches p u (after_leave c i (seen p me) s b (stands p d))
-  leave_to p u (AfterLeave.Poll t) from it =
-      hops c i me s d x p (Place.Poll t InPoll.BeginPoll) u true 0 2 0 from
-      (record { short_here = refl; stage_here = refl; stagings_here = omega arith; below = omega arith; no_gate = refl; no_scan = refl; nothing_found = refl; not_itself = refl }) it
+  leave_to p u (AfterLeave.Poll t) from it = grind arith
   leave_to p u (AfterLeave.CallBack n) from it = to_calls p u n from it
   leave_to p u AfterLeave.Begin from it = by ((d.put_off && has_requests i s) || (d.may_put_off && has_submissions c me)) refl
     where
@@ -108,14 +105,7 @@ module _ (c : Configuration) (i : ℕ) (me : Books) (s : Common) (d : Desk) (x :
   send_to : (p : Place) (u : Gets c i me s d x) (b : AfterSend) → closes_send b ≡ false → Leaves c i me s d x p (is_short_send b) (stage_of_send d.picks b) 1 (below_send c.workers b)
       → Kept c i me s d x p u
       → Reaches p u (after_send c b (stands p d))
-  send_to p u (AfterSend.Act t) still from it =
-      hops c i me s d x p (Place.Poll t InPoll.Act) u true 0 1 act from
-      (record { short_here = refl; stage_here = refl; stagings_here = omega arith; below = omega arith; no_gate = refl; no_scan = refl; nothing_found = refl; not_itself = refl }) it
-  send_to p u (AfterSend.Pend t) still from it =
-      hops c i me s d x p (Place.Poll t InPoll.Pend) u true 0 1 0 from
-      (record { short_here = refl; stage_here = refl; stagings_here = omega arith; below = omega arith; no_gate = refl; no_scan = refl; nothing_found = refl; not_itself = refl }) it
-  send_to p u (AfterSend.Cancels b) still from it = to_letters p u b still from it d.letters
-  send_to p u (AfterSend.Tell worker) still from it = absurd (true≢false still)
+  send_to = grind (arith, hops, to_letters, true≢false)
 
   pub signal_to : (p : Place) (u : Gets c i me s d x) (b : AfterSignal) → closes_signal b ≡ false
       → Leaves c i me s d x p (is_short_signal b) (stage_of_signal d.picks b) (stagings_of_signal b) (below_signal c.workers b) → Kept c i me s d x p u

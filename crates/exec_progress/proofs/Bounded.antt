@@ -3,7 +3,7 @@ use Rattle.std.proofs.Common.{◌≡◌, ℕ, ◌+◌, ◌*◌, ◌≤◌, ◌<�
 use Rattle.std.specs.Prelude.{is_some, nat_lt}
 use Rattle.std.proofs.lemmas.Bool.{le-ltb}
 use Rattle.exec_machine.specs.{declared.config.Configuration.Configuration, Progress.quiet_bound, Ranges.{largest_spin, ring_size}, Tests.is_empty, World.{Common, Own as Books, World, seat_of}}
-use Rattle.exec_moves.specs.{declared.{handing.{AfterCallbacks.AfterCallbacks, AfterClaim.AfterClaim, AfterKick.AfterKick, AfterLeave.AfterLeave, AfterPush.AfterPush, AfterSignal.AfterSignal}, idling.{AfterWait.AfterWait, InRingWait.InRingWait, InWordWait.InWordWait}, place.{AfterPermit.AfterPermit, AfterService.AfterService, InService.InService, Place.Place, Reaping.Reaping, Round.Round}}, Callback.is_full, Credit.{gates_from, one_if}, Load.has_submissions, State.{Desk, Things, word_of, wake_poll_of}}
+use Rattle.exec_moves.specs.{declared.{handing.{AfterCallbacks.AfterCallbacks, AfterClaim.AfterClaim, AfterKick.AfterKick, AfterLeave.AfterLeave, AfterPush.AfterPush, AfterSignal.AfterSignal}, idling.{AfterWait.AfterWait, InRingWait.InRingWait, InWordWait.InWordWait}, place.{AfterService.AfterService, InService.InService, Place.Place, Round.Round}}, Callback.is_full, Counts.{gates_from, one_if}, Load.has_submissions, State.{Desk, Things, word_of, wake_poll_of}}
 use Rattle.exec_credit.specs.Spins.{IsShort}
 use Rattle.exec_rest.specs.Posted.{has_tested}
 use Rattle.exec_progress.specs.{Effort.{begun_gates, gates_left, is_short, scans_again, second_scan, stagings, stagings_of_callbacks, stagings_of_claim, stagings_of_kick, stagings_of_leave, stagings_of_push, stagings_of_service, stagings_of_signal, steps_left, turn_left, whole_spin, whole_turn}, Going.{has_called_back, is_of_closing}, Owed.{ahead, all_others, finds, has_stray, is_before_spin, others, quiet_items, signals_itself, signs, spins_of_signs, spins_owed, stage, staging, turns_owed, wanted}, Ranks.rank}
@@ -19,21 +19,13 @@ times : (k g n : ℕ) → k ≤ 2 → g ≤ n → k * g ≤ 2 * n
 times k g n h l = grind (arith, h, l)
 
 callbacks : (n : AfterCallbacks) → stagings_of_callbacks n ≤ 2
-callbacks AfterCallbacks.Look = omega arith
-callbacks AfterCallbacks.Test = omega arith
-callbacks AfterCallbacks.Begin = omega arith
-callbacks AfterCallbacks.Drain = omega arith
-callbacks AfterCallbacks.Finish = omega arith
+callbacks = grind arith
 
 push : (b : AfterPush) → stagings_of_push b ≤ 2
-push (AfterPush.Act t) = omega arith
-push AfterPush.Pick = omega arith
-push (AfterPush.CallBack n) = callbacks n
+push = grind arith
 
 leave : (b : AfterLeave) → stagings_of_leave b ≤ 2
-leave (AfterLeave.Poll t) = omega arith
-leave (AfterLeave.CallBack n) = callbacks n
-leave AfterLeave.Begin = omega arith
+leave = grind arith
 
 kick : (b : AfterKick) → stagings_of_kick b ≤ 2
 kick (AfterKick.Leave b) = leave b
@@ -56,36 +48,10 @@ module _ (i : ℕ) (s : Common) where
 
   -- a staging that has begun, and maybe another one
   service : (b : AfterService) (n g : ℕ) → n ≤ 1 → (g ≡ 0) ⊎ ((n ≡ 0) × (g ≤ gates_from i 0 s)) → g + stagings_of_service b n * gates_from i 0 s ≤ 2 * gates_from i 0 s
-  service AfterService.Mail n g h (inl none) = omega (arith, none, times n (gates_from i 0 s) (gates_from i 0 s) (omega (arith, h)) all_gates)
-  service AfterService.Mail n g h (inr (none, most)) = rw none (omega (arith, most))
-  service AfterService.Begin n g h (inl none) = omega (arith, none, times (1 + n) (gates_from i 0 s) (gates_from i 0 s) (omega (arith, h)) all_gates)
-  service AfterService.Begin n g h (inr (none, most)) = rw none (omega (arith, most, all_gates))
-  service AfterService.Finish n g h (inl none) = omega (arith, none, times (1 + n) (gates_from i 0 s) (gates_from i 0 s) (omega (arith, h)) all_gates)
-  service AfterService.Finish n g h (inr (none, most)) = rw none (omega (arith, most, all_gates))
+  service = grind (arith, times, all_gates)
 
   serves : (b : AfterService) (defer : Bool) (p : InService) → Most (Place.Service p (record { defer = defer; back = b }))
-  serves b defer InService.Sample = service b 1 0 (omega arith) (inl refl)
-  serves b defer (InService.Reap Reaping.First) = service b 1 0 (omega arith) (inl refl)
-  serves b defer (InService.Reap Reaping.Last) = service b 0 0 (omega arith) (inl refl)
-  serves b defer InService.AdvanceWheel = service b 1 0 (omega arith) (inl refl)
-  serves b defer (InService.Submit gate) = service b 0 (gates_from i gate s) (omega arith) (inr (refl, gates_within i gate s))
-  serves b defer InService.EnterLast = service b 0 0 (omega arith) (inl refl)
-  serves b defer InService.EndService = service b 0 0 (omega arith) (inl refl)
-  serves b defer (InService.PassPermit file (AfterPermit.Reap Reaping.First)) = service b 1 0 (omega arith) (inl refl)
-  serves b defer (InService.PassPermit file (AfterPermit.Reap Reaping.Last)) = service b 0 0 (omega arith) (inl refl)
-  serves b defer (InService.PassPermit file (AfterPermit.Reaped Reaping.First)) = service b 1 0 (omega arith) (inl refl)
-  serves b defer (InService.PassPermit file (AfterPermit.Reaped Reaping.Last)) = service b 0 0 (omega arith) (inl refl)
-  serves b defer (InService.PassPermit file (AfterPermit.Submit gate)) = service b 0 (gates_from i gate s) (omega arith) (inr (refl, gates_within i gate s))
-  serves b defer (InService.Signal j (AfterPermit.Reap Reaping.First)) = service b 1 0 (omega arith) (inl refl)
-  serves b defer (InService.Signal j (AfterPermit.Reap Reaping.Last)) = service b 0 0 (omega arith) (inl refl)
-  serves b defer (InService.Signal j (AfterPermit.Reaped Reaping.First)) = service b 1 0 (omega arith) (inl refl)
-  serves b defer (InService.Signal j (AfterPermit.Reaped Reaping.Last)) = service b 0 0 (omega arith) (inl refl)
-  serves b defer (InService.Signal j (AfterPermit.Submit gate)) = service b 0 (gates_from i gate s) (omega arith) (inr (refl, gates_within i gate s))
-  serves b defer (InService.Raise ring j (AfterPermit.Reap Reaping.First)) = service b 1 0 (omega arith) (inl refl)
-  serves b defer (InService.Raise ring j (AfterPermit.Reap Reaping.Last)) = service b 0 0 (omega arith) (inl refl)
-  serves b defer (InService.Raise ring j (AfterPermit.Reaped Reaping.First)) = service b 1 0 (omega arith) (inl refl)
-  serves b defer (InService.Raise ring j (AfterPermit.Reaped Reaping.Last)) = service b 0 0 (omega arith) (inl refl)
-  serves b defer (InService.Raise ring j (AfterPermit.Submit gate)) = service b 0 (gates_from i gate s) (omega arith) (inr (refl, gates_within i gate s))
+  serves = grind (arith, service, gates_within)
 
   by_number : (k : ℕ) → k ≤ 2 → 0 + k * gates_from i 0 s ≤ 2 * gates_from i 0 s
   by_number k h = omega (arith, times k (gates_from i 0 s) (gates_from i 0 s) h all_gates)
@@ -127,16 +93,9 @@ module _ (c : Configuration) (i : ℕ) (me : Books) (s : Common) (d : Desk) (x :
   if_none true m n h = omega arith
   if_none false m n h = h
 
-  none_beside : (full unpolled : Bool) → one_if (full && (unpolled && false)) ≤ 0
-  none_beside true true = omega arith
-  none_beside true false = omega arith
-  none_beside false unpolled = omega arith
-
   -- a worker with something to submit isn't one with a wake poll that has no place
   one_of : (low submits busy full unpolled : Bool) → one_if (low && (submits && busy)) + one_if (low && (full && (unpolled && not submits))) ≤ 1
-  one_of false submits busy full unpolled = omega arith
-  one_of true true busy full unpolled = omega (arith, one busy, none_beside full unpolled)
-  one_of true false busy full unpolled = omega (arith, one (full && (unpolled && true)))
+  one_of = grind arith
 
   passed : (n m : ℕ) (b : Bool) → m ≤ n → one_if (nat_lt n m && b) ≡ 0
   passed n m b h = ap (λ v. one_if (v && b)) (le-ltb n m h)
@@ -177,21 +136,7 @@ module _ (c : Configuration) (i : ℕ) (me : Books) (s : Common) (d : Desk) (x :
 
   -- before the staging only a latch, what the kernel has to tell and a busy ring are good for a turn
   fewest_others : staging ≤ n → finds d.place ≡ false → all_others (others c i me s d x) ≤ 6
-  fewest_others high h =
-      let w = wake_poll_of x i in
-      omega (
-        arith,
-        one (nat_lt n 8 && (signals_itself i d.place || (word_of x i).latch)),
-        passed n 5 (has_stray d w) (omega (arith, high)),
-        one (not (is_empty me.untold)),
-        one w.kept,
-        one (is_some w.ended),
-        one (seat_of s i).busy,
-        passed n 6 (has_submissions c me && (seat_of s i).busy) high,
-        passed n 6 (is_full (ring_size c) d && (not d.polled && not (has_submissions c me))) high,
-        passed n 1 (nat_lt 0 (quiet_items d)) (omega (arith, high)),
-        unfound h,
-      )
+  fewest_others = grind (arith, one, passed, unfound)
 
   turns_most : (k : ℕ) → all_others (others c i me s d x) ≤ k → turns_owed c i me s d x ≤ 1 + k
   turns_most k h = if_none (nat_lt 0 (ahead c i me s d x)) (one_if (nat_lt 0 (wanted c i me s d x)) + all_others (others c i me s d x)) (1 + k) (omega (arith, one (nat_lt 0 (wanted c i me s d x)), h))

@@ -1,38 +1,22 @@
 -- The callbacks: a quiet one uses up what is left in them.
 use Rattle.std.proofs.Common.{◌≡◌, ℕ, ◌+◌, ◌-◌, ◌≤◌, ◌<◌, Bool, true, false, not, ◌&&◌, ◌||◌, if◌then◌else◌, List, [], ◌∷◌, drop, Option, Some, None, refl, sym, ap, ◌∙◌, arith}
 use Rattle.std.specs.Prelude.{nat_lt}
-use Rattle.std.proofs.lemmas.Bool.{true≢false, false≢true, ltb-true, ltb-false}
+use Rattle.std.proofs.lemmas.Bool.{true≢false, false≢true, ltb-true}
 use Rattle.exec_machine.specs.{declared.{config.Configuration.Configuration, event.Event.TheVariants.Turn}, Choice.Choice.Plain, After.{own_after, common_after}, Ranges.ring_size, Tests.{is_done, is_empty}, World.{Common, Own as Books, request_of, sleeper_of, task_of}}
-use Rattle.exec_moves.specs.{declared.{handing.{AfterCallbacks.AfterCallbacks, AfterLeave.AfterLeave, Heard.Heard}, place.{InCallbacks.InCallbacks, InLoads.InLoads, Round.Round, Place.Place}}, Callback.{Item, Item.{Answers, Completes, LetsGo, Nothing, Releases, Wakes}, after_callbacks, first_of, has_callbacks, is_of_pool, next_callback, tells_waiter}, Credit.one_if, Move.{move_at, move_item}, State.{Desk, Things}, Told.in_order}
+use Rattle.exec_moves.specs.{declared.{handing.{AfterCallbacks.AfterCallbacks, AfterLeave.AfterLeave, Heard.Heard}, place.{InCallbacks.InCallbacks, InLoads.InLoads, Round.Round, Place.Place}}, Callback.{Item, Item.{Answers, Completes, LetsGo, Nothing, Releases, Wakes}, after_callbacks, first_of, has_callbacks, is_of_pool, next_callback, tells_waiter}, Counts.one_if, Move.{move_at, move_item}, State.{Desk, Things}, Told.in_order}
 use Rattle.exec_progress.{specs.{Going.{Falls, FallsAt, closes_callbacks, seen, stands}, Owed.{calling_back, has_wakes, quiet_items, stage_of_callbacks}, Ranks.{below_callbacks, in_callbacks}}, proofs.Tools.{Now, before, goes_down, keeps_turns, left}}
 
 -- WHAT IS LEFT IN THE CALLBACKS
 
-is_no_list : (xs : List ℕ) → not (is_empty xs) ≡ false → xs ≡ []
-is_no_list [] h = refl
-is_no_list (x ∷ xs) h = absurd (true≢false h)
-
 none_of : (a b e f g : Bool) → (a || b || e || f || g) ≡ false → ((a || e) ≡ false) × ((b ≡ false) × ((f ≡ false) × (g ≡ false)))
-none_of true b e f g h = absurd (true≢false h)
-none_of false true e f g h = absurd (true≢false h)
-none_of false false true f g h = absurd (true≢false h)
-none_of false false false true g h = absurd (true≢false h)
-none_of false false false false true h = absurd (true≢false h)
-none_of false false false false false h = (refl, (refl, (refl, refl)))
+none_of = grind arith
 
 parts : (me : Books) (d : Desk) → has_callbacks me d ≡ false
     → (has_wakes me d ≡ false) × ((nat_lt 0 d.outputs ≡ false) × ((not (is_empty d.completions) ≡ false) × (not (is_empty d.results) ≡ false)))
 parts me d h = none_of (not (is_empty d.wakes)) (nat_lt 0 d.outputs) (not (is_empty me.ended)) (not (is_empty d.completions)) (not (is_empty d.results)) h
 
 nothing_left : (me : Books) (d : Desk) → has_callbacks me d ≡ false → quiet_items d ≡ 0
-nothing_left me d h =
-    let all = parts me d h in
-    omega (
-      arith,
-      ltb-false 0 d.outputs all.1.0,
-      ap (λ l. quiet_items (record d { completions = l; results = d.results })) (is_no_list d.completions all.1.1.0),
-      ap (λ l. quiet_items (record d { completions = []; results = l })) (is_no_list d.results all.1.1.1),
-    )
+nothing_left = grind arith
 
 one_completion : (d : Desk) (z : ℕ) (zs : List ℕ) → d.completions ≡ z ∷ zs → quiet_items (record d { completions = drop 1 d.completions }) + 1 ≡ quiet_items d
 one_completion d z zs h =
@@ -44,16 +28,10 @@ one_result d r rs h =
 
 -- those that don't close
 open_stage : (n : AfterCallbacks) → closes_callbacks n ≡ false → nat_lt (stage_of_callbacks n) calling_back ≡ false
-open_stage AfterCallbacks.Look h = refl
-open_stage AfterCallbacks.Test h = refl
-open_stage AfterCallbacks.Begin h = refl
-open_stage AfterCallbacks.Drain h = absurd (true≢false h)
-open_stage AfterCallbacks.Finish h = absurd (true≢false h)
+open_stage = grind arith
 
 low : (w : ℕ) (n : AfterCallbacks) (p : InCallbacks) → below_callbacks w n < in_callbacks w n p
-low w n InCallbacks.TakeBatch = omega arith
-low w n InCallbacks.CallBack = omega arith
-low w n (InCallbacks.WakeWaiter t of) = omega arith
+low = grind arith
 
 module _ (c : Configuration) (i : ℕ) (me : Books) (s : Common) (d : Desk) (x : Things) where
   -- a turn that leads to place q, with what is left then
@@ -73,17 +51,7 @@ module _ (c : Configuration) (i : ℕ) (me : Books) (s : Common) (d : Desk) (x :
   -- it goes on with less
   again : (p q : InCallbacks) (n : AfterCallbacks) → closes_callbacks n ≡ false → (k : ℕ) (zs rs answers alarms : List ℕ)
       → in_callbacks c.workers n q + quiet_items (leaves k zs rs) < in_callbacks c.workers n p + quiet_items d → Leads p n k zs rs answers alarms (Place.Callbacks q n)
-  again p q n h k zs rs answers alarms less =
-      let a = before me s d x (Place.Callbacks p n) in
-      let b = later (Place.Callbacks p n) k zs rs (told answers alarms) (Place.Callbacks q n) in
-      let none = ap (λ v. one_if (v && nat_lt 0 (quiet_items (leaves k zs rs)))) (open_stage n h) in
-      goes_down c i a b (record {
-        long_before = refl;
-        long_after = refl;
-        less = omega (arith, less);
-        gates_kept = omega arith;
-        owes = keeps_turns c i a b (record { kept = λ k. omega (arith, k); wanted_kept = λ l k. omega (arith, k); others_kept = λ l. omega (arith, none); spun_kept = λ l. omega arith });
-      })
+  again = grind (arith, before, open_stage, goes_down, keeps_turns)
 
   -- nothing is left in them
   to_first : (p : InCallbacks) (k : ℕ) (zs rs answers alarms : List ℕ) → has_callbacks me (leaves k zs rs) ≡ false → (v : Bool)
@@ -92,24 +60,12 @@ module _ (c : Configuration) (i : ℕ) (me : Books) (s : Common) (d : Desk) (x :
       let a = before me s d x (Place.Callbacks p AfterCallbacks.Look) in
       let b = later (Place.Callbacks p AfterCallbacks.Look) k zs rs (told answers alarms) (Place.Loads InLoads.LoadOwnHead Round.First) in
       let none = nothing_left me (leaves k zs rs) off in
-      goes_down c i a b (record {
-        long_before = refl;
-        long_after = refl;
-        less = omega (arith, low c.workers AfterCallbacks.Look p, none);
-        gates_kept = omega arith;
-        owes = keeps_turns c i a b (record { kept = λ k. omega (arith, k); wanted_kept = λ l k. omega (arith, k); others_kept = λ l. omega arith; spun_kept = λ l. omega arith });
-      })
+      grind arith
   to_first p k zs rs answers alarms off false =
       let a = before me s d x (Place.Callbacks p AfterCallbacks.Look) in
       let b = later (Place.Callbacks p AfterCallbacks.Look) k zs rs (told answers alarms) (Place.Loads (InLoads.LoadOwnWord (record { ready = false })) Round.First) in
       let none = nothing_left me (leaves k zs rs) off in
-      goes_down c i a b (record {
-        long_before = refl;
-        long_after = refl;
-        less = omega (arith, low c.workers AfterCallbacks.Look p, none);
-        gates_kept = omega arith;
-        owes = keeps_turns c i a b (record { kept = λ k. omega (arith, k); wanted_kept = λ l k. omega (arith, k); others_kept = λ l. omega arith; spun_kept = λ l. omega arith });
-      })
+      grind arith
 
   to_second : (p : InCallbacks) (k : ℕ) (zs rs answers alarms : List ℕ) → has_callbacks me (leaves k zs rs) ≡ false → (v : Bool)
       → Leads p AfterCallbacks.Test k zs rs answers alarms (if v then Place.Loads InLoads.LoadOwnHead Round.Second else Place.Loads (InLoads.LoadOwnWord (record { ready = false })) Round.Second)
@@ -183,16 +139,7 @@ module _ (c : Configuration) (i : ℕ) (me : Books) (s : Common) (d : Desk) (x :
     where
       by : (v : Bool) → left c i (later (taking n) d.outputs d.completions d.results x (if v then Place.LeaveSearch (AfterLeave.CallBack n) else next_callback (ring_size c) i me s n (stands (taking n) d)))
           < left c i (before me s d x (taking n))
-      by true =
-          let a = before me s d x (taking n) in
-          let b = later (taking n) d.outputs d.completions d.results x (Place.LeaveSearch (AfterLeave.CallBack n)) in
-          goes_down c i a b (record {
-            long_before = refl;
-            long_after = refl;
-            less = omega arith;
-            gates_kept = omega arith;
-            owes = keeps_turns c i a b (record { kept = λ k. omega (arith, k); wanted_kept = λ l k. omega (arith, k); others_kept = λ l. omega arith; spun_kept = λ l. omega arith });
-          })
+      by true = grind arith
       by false = goes_next InCallbacks.TakeBatch n h d.outputs d.completions d.results x.answers x.alarms (stands (taking n) d) (λ on. omega arith)
 
   -- the end of an item was sent to who waits for it

@@ -1,12 +1,11 @@
 -- A published worker is claimed, and a worker is signalled.
 use Rattle.std.proofs.Common.{◌≡◌, ℕ, ◌+◌, ◌==◌, ◌≤◌, ◌<◌, Bool, true, false, ◌&&◌, if◌then◌else◌, length, ◌≢◌, Option, Some, None, refl, sym, ap, ◌∙◌, arith}
-use Rattle.std.specs.Prelude.{nat_lt}
 use Rattle.std.proofs.lemmas.{Bool.{true≢false, false≢true, eq-eqb, eqb-true}, List.{get_or-set_same, get_or-set_other}}
 use Rattle.std.proofs.lemmas.List.Quantifiers.{position-Some}
-use Rattle.exec_words.specs.{declared.{idle.WorkerSet.WorkerSet, word.PureWord.PureWord}, Idle.{Idle, is_in, lowest_of}, Word.asks_signal}
+use Rattle.exec_words.specs.{declared.{idle.WorkerSet.WorkerSet}, Idle.{Idle, is_in, lowest_of}, Word.asks_signal}
 use Rattle.exec_machine.specs.{declared.{config.Configuration.Configuration, event.Event.{TheVariants.{Turn, Rouse}}}, Tests.is_awake, World.{Common, Own as Books, seat_of}}
-use Rattle.exec_moves.specs.{declared.{handing.{AfterClaim.AfterClaim, AfterSignal.AfterSignal, InGlobal.InGlobal, InKick.InKick, InSignal.InSignal}, place.Place.Place}, Claim.{after_claim, claimed_if, idle_after, is_ring, latched, raised_if, same_bools, set_of}, Credit.one_if, Global.{has_any}, Parts.after_signal, State.{Desk, Things, goes, no_wake_poll, no_word, turns, does, word_of, wake_poll_of}, Thing.{set_wake_poll, set_word, with_idle, with_wake_poll}}
-use Rattle.exec_progress.{specs.{Effort.{is_short_claim, is_short_signal, stagings_of_claim, stagings_of_signal}, Going.{Falls, FallsAt, seen, stands}, Owed.{sampling, stage_of_claim, stage_of_signal}, Ranks.{below_claim, below_signal, claim_worker, load_set}}, proofs.{Arriving.{Reaches, signal_to}, Between.{at_if, comes_claim, comes_global, comes_kick, comes_signal, idle_kept, leaves_claim, leaves_signal, same_self, with_idle as only_idle}, Hopping.{Gets, Kept, hops}}}
+use Rattle.exec_moves.specs.{declared.{handing.{AfterClaim.AfterClaim, AfterSignal.AfterSignal, InSignal.InSignal}, place.Place.Place}, Claim.{after_claim, claimed_if, idle_after, is_ring, latched, raised_if, same_bools, set_of}, Counts.one_if, Global.{has_any}, Parts.after_signal, State.{Desk, Things, goes, turns, does, word_of, wake_poll_of}, Thing.{set_wake_poll, set_word, with_idle, with_wake_poll}}
+use Rattle.exec_progress.{specs.{Effort.{is_short_claim, is_short_signal, stagings_of_claim, stagings_of_signal}, Going.{Falls, FallsAt, seen, stands}, Owed.{stage_of_claim, stage_of_signal}, Ranks.{below_claim, below_signal, claim_worker}}, proofs.{Arriving.{Reaches, signal_to}, Between.{at_if, comes_claim, comes_signal, idle_kept, leaves_claim, leaves_signal, same_self, with_idle as only_idle}, Hopping.{Gets, Kept, hops}}}
 
 none_there : (x : Idle) → lowest_of x.published ≡ None → has_any x ≡ false
 none_there x h = rw h refl
@@ -15,9 +14,7 @@ some_there : (x : Idle) (k : ℕ) → lowest_of x.published ≡ Some k → has_a
 some_there x k h = rw h refl
 
 one_of : (v w : Bool) → 3 ≤ claim_worker v w
-one_of true true = omega arith
-one_of true false = omega arith
-one_of false w = omega arith
+one_of = grind arith
 
 module _ (c : Configuration) (i : ℕ) (me : Books) (s : Common) (d : Desk) (x : Things) where
   abbrev counted : Idle → Gets c i me s d x
@@ -25,20 +22,7 @@ module _ (c : Configuration) (i : ℕ) (me : Books) (s : Common) (d : Desk) (x :
 
   -- nobody is there any more, and the count is returned
   nobody : (set : WorkerSet) (b : AfterClaim) → has_any x.idle ≡ false → Reaches c i me s d x (Place.ClaimWorker set b) (counted x.idle) (after_claim b (claimed_if false (set_of x.idle) None))
-  nobody set (AfterClaim.Kick b) none =
-      let p = Place.ClaimWorker set (AfterClaim.Kick b) in
-      let r = below_claim c.workers (AfterClaim.Kick b) + 3 in
-      let set_rank = ap load_set none in
-      hops c i me s d x p (Place.Kick InKick.ReturnKickCount b) (counted x.idle) (is_short_claim (AfterClaim.Kick b)) (stage_of_claim d.picks (AfterClaim.Kick b)) (stagings_of_claim (AfterClaim.Kick b)) r
-      (leaves_claim c i me s d x set (AfterClaim.Kick b) r (omega (arith, ap (λ v. claim_worker v (same_bools set.has x.idle.published)) none)))
-      (comes_kick c i me s d x InKick.ReturnKickCount b (counted x.idle) r (omega (arith, set_rank))) (idle_kept c i me s d x p d.searching x.idle)
-  nobody set (AfterClaim.Global b) none =
-      let p = Place.ClaimWorker set (AfterClaim.Global b) in
-      let r = below_claim c.workers (AfterClaim.Global b) + 3 in
-      let set_rank = ap load_set none in
-      hops c i me s d x p (Place.Global InGlobal.ReturnGlobalCount b) (counted x.idle) (is_short_claim (AfterClaim.Global b)) (stage_of_claim d.picks (AfterClaim.Global b)) (stagings_of_claim (AfterClaim.Global b)) r
-      (leaves_claim c i me s d x set (AfterClaim.Global b) r (omega (arith, ap (λ v. claim_worker v (same_bools set.has x.idle.published)) none)))
-      (comes_global c i me s d x InGlobal.ReturnGlobalCount b (counted x.idle) r (omega (arith, set_rank))) (idle_kept c i me s d x p d.searching x.idle)
+  nobody = grind arith
 
   -- another set was found
   again : (set : WorkerSet) (b : AfterClaim) → has_any x.idle ≡ true → same_bools set.has x.idle.published ≡ false
@@ -53,23 +37,11 @@ module _ (c : Configuration) (i : ℕ) (me : Books) (s : Common) (d : Desk) (x :
 
   -- a worker was claimed, which is another one, since its bit was in
   other : (k : ℕ) → lowest_of x.idle.published ≡ Some k → is_in x.idle.published i ≡ false → (k == i) ≡ false
-  other k lowest out = by (k == i) refl
-    where
-      by : (v : Bool) → (k == i) ≡ v → (k == i) ≡ false
-      by true is =
-          let there = position-Some (λ (v : Bool). v) x.idle.published k false lowest in
-          absurd (true≢false (sym there.1 ∙ ap (is_in x.idle.published) (eqb-true k i is) ∙ out))
-      by false is = is
+  other = grind (arith, position-Some, true≢false, eqb-true)
 
   to_signal : (set : WorkerSet) (b : AfterClaim) (k : ℕ) (idle : Idle) → (k == i) ≡ false
       → Reaches c i me s d x (Place.ClaimWorker set b) (counted idle) (Place.Signal InSignal.SetLatch k (AfterSignal.Claim b))
-  to_signal set b k idle it =
-      let p = Place.ClaimWorker set b in
-      let r = below_claim c.workers b + 2 in
-      let high = one_of (has_any x.idle) (same_bools set.has x.idle.published) in
-      hops c i me s d x p (Place.Signal InSignal.SetLatch k (AfterSignal.Claim b)) (counted idle) (is_short_claim b) (stage_of_claim d.picks b) (stagings_of_claim b) r
-      (leaves_claim c i me s d x set b r (omega (arith, high))) (comes_signal c i me s d x InSignal.SetLatch k (AfterSignal.Claim b) (counted idle) r (omega arith) it)
-      (idle_kept c i me s d x p d.searching idle)
+  to_signal = grind (arith, one_of, hops, leaves_claim, comes_signal, idle_kept)
 
   pub claims_worker : (set : WorkerSet) (b : AfterClaim) → FallsAt c i me s d x (Place.ClaimWorker set b)
   claims_worker set b it = by (lowest_of x.idle.published) refl (same_bools set.has x.idle.published) refl
@@ -91,50 +63,21 @@ module _ (c : Configuration) (i : ℕ) (me : Books) (s : Common) (d : Desk) (x :
   differs j h same = true≢false (sym (eq-eqb j i (sym same)) ∙ h)
 
   bounded : (v w : Bool) → one_if (v && w) ≤ one_if (v && true)
-  bounded true true = omega arith
-  bounded true false = omega arith
-  bounded false w = omega arith
+  bounded = grind arith
 
   abbrev with_latch : ℕ → Gets c i me s d x
   with_latch j = record { hand = d.hand; loot = d.loot; searching = d.searching; things = set_word j x (latched (word_of x j)) }
 
   -- its own signal becomes a latch
   latch_kept : (j : ℕ) (b : AfterSignal) → i < length x.words → (v : Bool) → (j == i) ≡ v → Kept c i me s d x (Place.Signal InSignal.SetLatch j b) (with_latch j)
-  latch_kept j b there true is =
-      let k : j ≡ i = eqb-true j i is in
-      let w : word_of (set_word j x (latched (word_of x j))) i ≡ latched (word_of x i) = rw k (get_or-set_same x.words i (latched (word_of x i)) no_word there) in
-      record {
-        queue_kept = omega arith;
-        global_kept = omega arith;
-        wants = λ h. h;
-        poll = refl;
-        mail = ap (λ (z : PureWord). z.batch) w;
-        latch = λ n. rw is (bounded (nat_lt n sampling) (word_of (set_word j x (latched (word_of x j))) i).latch);
-      }
-  latch_kept j b there false is =
-      let w : word_of (set_word j x (latched (word_of x j))) i ≡ word_of x i = get_or-set_other x.words j i (latched (word_of x j)) no_word (differs j is) in
-      record {
-        queue_kept = omega arith;
-        global_kept = omega arith;
-        wants = λ h. h;
-        poll = refl;
-        mail = ap (λ (z : PureWord). z.batch) w;
-        latch = λ n. rw is (omega (arith, ap (λ (z : PureWord). one_if (nat_lt n sampling && z.latch)) w));
-      }
+  latch_kept = grind (arith, eqb-true, get_or-set_same, bounded, get_or-set_other, differs)
 
   abbrev with_raised : Bool → ℕ → Gets c i me s d x
   with_raised ring j = record { hand = d.hand; loot = d.loot; searching = d.searching; things = set_wake_poll j x (raised_if ring (wake_poll_of x j)) }
 
   -- it ends the wait of another one
   raise_kept : (ring : Bool) (j : ℕ) (b : AfterSignal) → (j == i) ≡ false → Kept c i me s d x (Place.Signal (InSignal.Raise ring) j b) (with_raised ring j)
-  raise_kept ring j b other = record {
-    queue_kept = omega arith;
-    global_kept = omega arith;
-    wants = λ h. h;
-    poll = get_or-set_other x.wake_polls j i (raised_if ring (wake_poll_of x j)) no_wake_poll (differs j other);
-    mail = refl;
-    latch = λ n. omega arith;
-  }
+  raise_kept = grind (arith, other, get_or-set_other, differs)
 
   pub signals : (p : InSignal) (j : ℕ) (b : AfterSignal) → FallsAt c i me s d x (Place.Signal p j b)
   signals InSignal.SetLatch j b it quiet =

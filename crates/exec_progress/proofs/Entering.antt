@@ -1,11 +1,11 @@
 -- What an enter leaves of the signs and of what is owed, at any place of worker i.
-use Rattle.std.proofs.Common.{◌≡◌, ℕ, ◌+◌, ◌*◌, ◌≤◌, ◌<◌, Bool, true, false, not, ◌&&◌, ◌||◌, List, [], ◌∷◌, length, get_or, if◌then◌else◌, Some, refl, ap, ◌∙◌, arith, ◌⊎◌, inl, inr}
+use Rattle.std.proofs.Common.{◌≡◌, ℕ, ◌+◌, ◌*◌, ◌≤◌, ◌<◌, Bool, true, false, not, ◌&&◌, ◌||◌, List, [], ◌∷◌, length, get_or, refl, ap, ◌∙◌, arith, ◌⊎◌, inl, inr}
 use Rattle.std.specs.Prelude.{nat_lt, nat_le, is_some}
-use Rattle.std.proofs.lemmas.{Bool.{ltb-true, ltb-false}, List.{get_or-set_same, set-get_or}}
+use Rattle.std.proofs.lemmas.{List.{get_or-set_same, set-get_or}}
 use Rattle.exec_machine.specs.{declared.{config.Configuration.Configuration, event.Event.TheVariants.{Enter, Busy}}, After.{own_after, common_after}, Choice.Choice.Plain, Ranges.ring_size, Tests.{is_empty}, World.{Common, Own as Books, Seat, no_seat, seat_of}}
-use Rattle.exec_moves.specs.{declared.place.Place.Place, Callback.is_full, Credit.{gates_from, one_if}, Load.has_submissions, Serve.entered, State.{Desk, Things, WakePoll, no_wake_poll, queue_of, taken_in, wake_poll_of, word_of}, Thing.set_wake_poll}
+use Rattle.exec_moves.specs.{declared.place.Place.Place, Callback.is_full, Counts.{gates_from, one_if}, Load.has_submissions, Serve.entered, State.{Desk, Things, WakePoll, no_wake_poll, taken_in, wake_poll_of, word_of}, Thing.set_wake_poll}
 use Rattle.exec_credit.proofs.Entering.{due_same, gates_same}
-use Rattle.exec_progress.{specs.Owed.{Signs, calling_back, finds, has_stray, is_before_spin, quiet_items, reaping, sampling, signals_itself, signs, signs_ahead, stage, staging}, proofs.Tools.{KeepsTurns, Now, PaysWant, ahead_at, others_at, spun, wanted_at, or_more}}
+use Rattle.exec_progress.{specs.Owed.{calling_back, finds, has_stray, is_before_spin, quiet_items, reaping, sampling, signals_itself, signs, signs_ahead, stage, staging}, proofs.Tools.{KeepsTurns, Now, PaysWant, ahead_at, others_at, spun, wanted_at, or_more}}
 
 at_most_one : (b : Bool) → one_if b ≤ 1
 at_most_one true = omega arith
@@ -13,12 +13,7 @@ at_most_one false = omega arith
 
 -- what counts below a stage counts less further up
 pub lower : (m n k : ℕ) (b : Bool) → m ≤ n → one_if (nat_lt n k && b) ≤ one_if (nat_lt m k && b)
-lower m n k b le = by (nat_lt n k) refl (nat_lt m k) refl
-  where
-    by : (p : Bool) → nat_lt n k ≡ p → (q : Bool) → nat_lt m k ≡ q → one_if (p && b) ≤ one_if (q && b)
-    by false h q g = omega arith
-    by true h true g = omega arith
-    by true h false g = let no : ⊥ = omega (arith, le, ltb-true n k h, ltb-false m k g) in absurd no
+lower = grind arith
 
 gated : (g a b : Bool) (m n : ℕ) → one_if a + m ≤ one_if b + n → m ≤ n → one_if (g && a) + m ≤ one_if (g && b) + n
 gated true a b m n h k = h
@@ -36,9 +31,7 @@ and_on true = refl
 and_on false = refl
 
 more_sure : (g a b : Bool) → one_if (g && (a && not b)) ≤ one_if (g && a)
-more_sure true true b = omega (arith, at_most_one (not b))
-more_sure true false b = omega arith
-more_sure false a b = omega arith
+more_sure = grind arith
 
 -- THE WAKE POLL that an enter takes in: as it was, or it pays with the wake that was kept for what that makes
 
@@ -47,16 +40,7 @@ pub record IsTaken (v w : WakePoll) : Type 0 where
   pub told_pays : (v.told ≡ w.told) ⊎ (1 + 2 * one_if v.kept + one_if (is_some v.ended) ≤ 2 * one_if w.kept + one_if (is_some w.ended))
 
 pub takes_poll : (polled : Bool) (w : WakePoll) → IsTaken (taken_in polled w) w
-takes_poll false w = record { kept_pays = omega arith; told_pays = inl refl }
-takes_poll true w = by w.armed (is_some w.ended) w.kept refl w.last
-  where
-    by : (has ended kept : Bool) → w.kept ≡ kept → (last : Bool) → IsTaken (if has then w else if ended then w
-        else if kept then record w { armed = not last; kept = false; told = true; ended = if last then Some 0 else w.ended; last = false } else record w { armed = true }) w
-    by true ended kept h last = record { kept_pays = omega arith; told_pays = inl refl }
-    by false true kept h last = record { kept_pays = omega arith; told_pays = inl refl }
-    by false false false h last = record { kept_pays = omega arith; told_pays = inl refl }
-    by false false true h true = record { kept_pays = omega (arith, ap one_if h); told_pays = inr (omega (arith, ap one_if h)) }
-    by false false true h false = let le = at_most_one (is_some w.ended) in record { kept_pays = omega (arith, le, ap one_if h); told_pays = inr (omega (arith, le, ap one_if h)) }
+takes_poll = grind arith
 
 -- each cancel that the kernel takes in is acknowledged
 acknowledged : (n : ℕ) (cancels : List ℕ) (told : Bool) → one_if (nat_lt 0 (n + length cancels) || told) ≤ one_if (nat_lt 0 n || told) + one_if (not (is_empty cancels))
@@ -165,17 +149,7 @@ module _ (c : Configuration) (i : ℕ) (me : Books) (s : Common) (d : Desk) (x :
   busy_poll q = ap (λ ws. get_or ws i no_wake_poll) (set-get_or x.wake_polls i no_wake_poll)
 
   pub busy_signs : (q : Place) → i < length s.seats → let b = busy_to q in signs c i b.me b.s b.d b.x ≡ record (signs c i me s d x) { submissions = has_submissions c me }
-  busy_signs q there = ap at_seat (busy_seat there) ∙ ap (λ v. record (signs c i me s d x) { submissions = v }) (and_on (has_submissions c me))
-    where
-      at_seat : Seat → Signs
-      at_seat z =
-          record (signs c i me s d x) {
-            queue = z.pool && not (is_empty (queue_of x i).values);
-            aside = z.pool && not (is_empty (queue_of x i).held);
-            global = z.pool && not (is_empty x.global);
-            landed = not (is_empty z.landed);
-            submissions = has_submissions c me && not z.busy;
-          }
+  busy_signs = grind (arith, busy_seat, and_on)
 
   pub busy_ahead : (q : Place) → i < length s.seats → signs_ahead (stage d.picks q) q (signs c i me s d x) ≤ ahead_at c i (busy_to q)
   busy_ahead q there = omega (arith, ap (signs_ahead (stage d.picks q) q) (busy_signs q there), more_sure (nat_le staging (stage d.picks q)) (has_submissions c me) (seat_of s i).busy)
@@ -201,9 +175,7 @@ module _ (c : Configuration) (i : ℕ) (me : Books) (s : Common) (d : Desk) (x :
       ))
     where
       never : (g a : Bool) → one_if (g && (a && false)) ≡ 0
-      never true true = refl
-      never true false = refl
-      never false a = refl
+      never = grind arith
 
   pub busy_spun : (q : Place) → stage d.picks d.place ≤ stage d.picks q → signals_itself i q ≡ false → one_if (is_before_spin q) ≤ one_if (is_before_spin d.place) → spun c i (busy_to q) ≤ spun c i here
   busy_spun q up still before = omega (arith, latch_lower q up still, before)
@@ -221,9 +193,4 @@ module _ (c : Configuration) (i : ℕ) (me : Books) (s : Common) (d : Desk) (x :
 
   pub busy_pays : (q : Place) → i < length s.seats → (seat_of s i).busy ≡ true → stage d.picks d.place ≤ stage d.picks q → signals_itself i q ≡ false → finds q ≡ false
       → one_if (is_before_spin q) ≤ one_if (is_before_spin d.place) → ahead_at c i here ≤ signs_ahead (stage d.picks q) q (signs c i me s d x) → PaysWant c i here (busy_to q)
-  busy_pays q there is up still unfound before on =
-      record {
-        kept = λ h. omega (arith, h, on, busy_ahead q there);
-        others_paid = λ h. busy_others q there is up still unfound;
-        spun_kept = λ h. busy_spun q up still before;
-      }
+  busy_pays = grind (arith, busy_ahead, busy_others, busy_spun)

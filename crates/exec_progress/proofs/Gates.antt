@@ -1,9 +1,9 @@
 -- So many gates are looked at in a staging: no more than there are opens, and no more than there are requests, each of which waits at one.
-use Rattle.std.proofs.Common.{◌≡◌, ℕ, suc, ◌+◌, ◌≤◌, ◌<◌, ◌==◌, Bool, true, false, ◌&&◌, ◌||◌, List, [], ◌∷◌, length, refl, arith, inl, inr}
+use Rattle.std.proofs.Common.{◌≡◌, ℕ, suc, ◌+◌, ◌≤◌, ◌<◌, ◌==◌, Bool, true, false, ◌&&◌, ◌||◌, List, [], ◌∷◌, length, refl, arith}
 use Rattle.std.specs.{Prelude.nat_le, List.list_any}
 use Rattle.std.proofs.lemmas.Bool.{cases_Bool, eqb-true, le-leb}
 use Rattle.exec_machine.specs.{World.{Common, Open}, Tests.{is_gated}, declared.state.Request.Request}
-use Rattle.exec_moves.specs.{Credit.{count_numbered, gates_from, one_if}, Submit.waits_at}
+use Rattle.exec_moves.specs.{Counts.{count_numbered, gates_from, one_if}, Submit.waits_at}
 
 one : (b : Bool) → one_if b ≤ 1
 one true = omega arith
@@ -23,19 +23,14 @@ module _ {X : Type 0} where
   at_most f n (x ∷ xs) = omega (arith, one (f n x), at_most f (suc n) xs)
 
 off : (a b : Bool) → one_if (a && b && false) ≡ 0
-off true true = refl
-off true false = refl
-off false b = refl
+off = grind arith
 
 never : (a : Bool) → one_if (a && false) ≡ 0
 never true = refl
 never false = refl
 
 either : (a b c : Bool) → one_if (a && (b || c)) ≤ one_if (a && c) + one_if b
-either true true true = omega arith
-either true true false = omega arith
-either true false c = omega arith
-either false b c = omega arith
+either = grind arith
 
 fewer : (a b c : Bool) → c ≡ true → one_if (a && b) ≤ one_if (c && b) + one_if (c && false)
 fewer true b c h = rw h (omega arith)
@@ -49,20 +44,11 @@ module _ (i : ℕ) (r : Request) where
 
   before : (n : ℕ) (os : List Open) → r.operation.target < n → count_numbered (λ file o. waits_at i file r) n os ≡ 0
   before n [] h = refl
-  before n (o ∷ os) h = omega (arith, not_here, before (suc n) os (omega (arith, h)))
-    where
-      not_here : one_if (waits_at i n r) ≡ 0
-      not_here = elim (cases_Bool (r.operation.target == n)) [
-        | inl is ↦ absurd (omega (arith, eqb-true r.operation.target n is, h))
-        | inr other ↦ elsewhere n other
-      ]
+  before n (o ∷ os) h = grind (arith, cases_Bool, eqb-true, elsewhere, before (suc n) os (omega (arith, h)))
 
   at_one : (n : ℕ) (os : List Open) → count_numbered (λ file o. waits_at i file r) n os ≤ 1
   at_one n [] = omega arith
-  at_one n (o ∷ os) = elim (cases_Bool (r.operation.target == n)) [
-    | inl is ↦ omega (arith, one (waits_at i n r), before (suc n) os (omega (arith, eqb-true r.operation.target n is)))
-    | inr other ↦ omega (arith, elsewhere n other, at_one (suc n) os)
-  ]
+  at_one n (o ∷ os) = grind (arith, cases_Bool, one, before, eqb-true, elsewhere, at_one (suc n) os)
 
 for_each : (i : ℕ) (rs : List Request) (n : ℕ) (os : List Open) → count_numbered (λ file o. nat_le 0 file && list_any (waits_at i file) rs) n os ≤ length rs
 for_each i [] n os = omega (arith, none (λ file (o : Open). nat_le 0 file && false) (λ file o. never (nat_le 0 file)) n os)

@@ -1,24 +1,19 @@
 -- A step from one place to another of the same stage, by which nothing that is ahead goes, and nothing comes that wasn't wanted.
-use Rattle.std.proofs.Common.{◌≡◌, ℕ, zero, suc, ◌+◌, ◌*◌, ◌==◌, ◌≤◌, ◌<◌, Bool, true, false, not, ◌&&◌, ◌||◌, List, Option, is_some, refl, sym, ap, ◌∙◌, arith}
+use Rattle.std.proofs.Common.{◌≡◌, ℕ, ◌+◌, ◌*◌, ◌==◌, ◌≤◌, ◌<◌, Bool, true, false, not, ◌&&◌, ◌||◌, List, Option, is_some, sym, ap, ◌∙◌, arith}
 use Rattle.std.specs.Prelude.{nat_lt, nat_le}
-use Rattle.std.proofs.lemmas.{Bool.{true≢false}}
-use Rattle.exec_machine.specs.{declared.{config.Configuration.Configuration, state.Next.Next}, Ranges.ring_size, Tests.is_empty, World.{Common, Own as Books, seat_of}}
-use Rattle.exec_moves.specs.{declared.place.Place.Place, Callback.{is_full, is_of_pool}, Credit.{gates_from, one_if}, Load.has_submissions, State.{Desk, Things, WakePoll, queue_of, word_of, wake_poll_of}}
-use Rattle.exec_progress.{specs.{Effort.{begun_gates, is_short, scans_again, second_scan, stagings}, Owed.{Signs, calling_back, can_steal, finds, has_stray, is_before_spin, pops_own, quiet_items, reaping, sampling, staging, signals_itself, signs, signs_ahead, stage, takes_share}, Ranks.rank}, proofs.Tools.{Now, ahead_at, before, goes_down, keeps_turns, left, others_at, spun, to_poll, wanted_at}}
+use Rattle.exec_machine.specs.{declared.{config.Configuration.Configuration, state.Next.Next}, Tests.is_empty, World.{Common, Own as Books}}
+use Rattle.exec_moves.specs.{declared.place.Place.Place, Callback.{is_of_pool}, Counts.{gates_from, one_if}, State.{Desk, Things, queue_of, word_of, wake_poll_of}}
+use Rattle.exec_progress.{specs.{Effort.{begun_gates, is_short, scans_again, second_scan, stagings}, Owed.{Signs, can_steal, finds, is_before_spin, pops_own, sampling, signals_itself, signs, signs_ahead, stage, takes_share}, Ranks.rank}, proofs.Tools.{Now, ahead_at, before, goes_down, keeps_turns, left, others_at, spun, to_poll, wanted_at}}
 
 mul_up : (m n v : ℕ) → m ≤ n → m * v ≤ n * v
 mul_up m n v h = grind (arith, h)
 
 -- a sign that stays on stays ahead, and so do two of which as many stay on
 stays_ahead : (u o w v z : Bool) → o ≡ false → one_if v ≤ one_if z → one_if ((u || o) && v) ≤ one_if ((u || w) && z)
-stays_ahead true o w v z off h = h
-stays_ahead false true w v z off h = absurd (true≢false off)
-stays_ahead false false w v z off h = omega arith
+stays_ahead = grind arith
 
 both_ahead : (u o w a b v z : Bool) → o ≡ false → one_if a + one_if b ≤ one_if v + one_if z → one_if ((u || o) && a) + one_if ((u || o) && b) ≤ one_if ((u || w) && v) + one_if ((u || w) && z)
-both_ahead true o w a b v z off h = h
-both_ahead false true w a b v z off h = absurd (true≢false off)
-both_ahead false false w a b v z off h = omega arith
+both_ahead = grind arith
 
 -- what the signs are afterwards: only those of the queues differ
 abbrev with_queues : Signs → Bool → Bool → Bool → Signs
@@ -106,34 +101,14 @@ module _ (c : Configuration) (i : ℕ) (me : Books) (s : Common) (d : Desk) (x :
       )
 
   wanted_less : (p q : Place) (u : Gets) → Kept p u → 1 ≤ wanted_at c i (later q u) → 1 ≤ wanted_at c i (before me s d x p)
-  wanted_less p q u it h = by_wants (of_queue u.things + of_aside u.things + of_global u.things + one_if (can_steal u.things) + one_if (is_some u.hand) + one_if (not (is_empty u.loot))) refl
-    where
-      by_wants : (n : ℕ) → of_queue u.things + of_aside u.things + of_global u.things + one_if (can_steal u.things) + one_if (is_some u.hand) + one_if (not (is_empty u.loot)) ≡ n → 1 ≤ wanted_at c i (before me s d x p)
-      by_wants zero is = omega (arith, h, is, ap (λ k. one_if (not (k == d.processed))) it.mail)
-      by_wants (suc n) is = omega (arith, it.wants (omega (arith, is)))
+  wanted_less = grind arith
 
   latch_kept : (p q : Place) (u : Gets) → stage d.picks q ≡ stage d.picks p → signals_itself i q ≡ false → Kept p u
       → one_if (nat_lt (stage d.picks q) sampling && (signals_itself i q || (word_of u.things i).latch)) ≤ one_if (nat_lt (stage d.picks p) sampling && (signals_itself i p || (word_of x i).latch))
-  latch_kept p q u same other it =
-      let latch = (word_of u.things i).latch in
-      omega (arith, it.latch (stage d.picks p), ap (λ n. one_if (nat_lt n sampling && latch)) same, ap (λ v. one_if (nat_lt (stage d.picks q) sampling && (v || latch))) other)
+  latch_kept = grind arith
 
   others_fewer : (p q : Place) (u : Gets) → stage d.picks q ≡ stage d.picks p → finds q ≡ false → signals_itself i q ≡ false → Kept p u → others_at c i (later q u) ≤ others_at c i (before me s d x p)
-  others_fewer p q u same none other it =
-      let z = signs_of (later q u) in
-      let m = stage d.picks p in
-      omega (
-        arith,
-        latch_kept p q u same other it,
-        ap (λ w. one_if (nat_lt (stage d.picks q) reaping && has_stray d w)) it.poll,
-        ap (λ n. one_if (nat_lt n reaping && has_stray d (wake_poll_of x i))) same,
-        ap (λ (w : WakePoll). one_if w.kept) it.poll,
-        ap (λ (w : WakePoll). one_if (is_some w.ended)) it.poll,
-        ap (λ n. one_if (nat_lt n staging && (has_submissions c me && (seat_of s i).busy))) same,
-        ap (λ n. one_if (nat_lt n staging && (is_full (ring_size c) d && (not d.polled && not (has_submissions c me))))) same,
-        ap (λ n. one_if (nat_lt n calling_back && nat_lt 0 (quiet_items d))) same,
-        ap (λ v. one_if (v && not (z.queue || (z.global || z.mail)))) none,
-      )
+  others_fewer = grind arith
 
   spun_less : (p q : Place) (u : Gets) → stage d.picks q ≡ stage d.picks p → signals_itself i q ≡ false → is_before_spin p ≡ true → Kept p u → spun c i (later q u) ≤ spun c i (before me s d x p)
   spun_less p q u same other first it = omega (arith, latch_kept p q u same other it, ap one_if first, one_at_most (is_before_spin q))

@@ -3,7 +3,7 @@ use Rattle.std.proofs.Common.{◌≡◌, ℕ, ◌+◌, ◌==◌, ◌<◌, false,
 use Rattle.exec_words.specs.{declared.idle.WorkerSet.WorkerSet, Idle.Idle}
 use Rattle.exec_machine.specs.{declared.config.Configuration.Configuration, World.{Common, Own as Books}}
 use Rattle.exec_moves.specs.{declared.{handing.{AfterClaim.AfterClaim, AfterKick.AfterKick, AfterLeave.AfterLeave, InKick.InKick}, place.Place.Place}, Claim.set_of, Global.{has_any, one_count_less, one_count_more}, Parts.{after_kick, after_leave}, State.{Desk, Moved, Things, turns}, Thing.with_idle}
-use Rattle.exec_progress.{specs.{Effort.{is_short_kick, is_short_leave, stagings_of_kick, stagings_of_leave}, Going.{FallsAt, closes_kick, seen, stands}, Owed.{stage_of_kick, stage_of_leave}, Ranks.{below_kick, below_leave, claims, in_kick}}, proofs.{Arriving.{Reaches, kick_to, leave_to}, Between.{at_if, comes_claim, comes_kick, idle_kept, leaves_kick, first_claim, leaves_search, set_bounds, with_idle as only_idle}, Hopping.{Gets, hops}, Tools.either}}
+use Rattle.exec_progress.{specs.{Effort.{is_short_leave, stagings_of_leave}, Going.{FallsAt, closes_kick, seen, stands}, Owed.{stage_of_leave}, Ranks.{below_kick, below_leave, in_kick}}, proofs.{Arriving.{Reaches, kick_to, leave_to}, Between.{at_if, comes_kick, idle_kept, leaves_kick, first_claim, leaves_search, set_bounds, with_idle as only_idle}, Hopping.{Gets, hops}, Tools.either}}
 
 module _ (c : Configuration) (i : ℕ) (me : Books) (s : Common) (d : Desk) (x : Things) where
   pub leaves : (b : AfterLeave) → FallsAt c i me s d x (Place.LeaveSearch b)
@@ -24,10 +24,7 @@ module _ (c : Configuration) (i : ℕ) (me : Books) (s : Common) (d : Desk) (x :
   -- from one step of a kick to another, or to what follows it
   within : (f t : InKick) (b : AfterKick) (idle : Idle) → in_kick idle (below_kick c.workers b) t < in_kick x.idle (below_kick c.workers b) f
       → Reaches c i me s d x (Place.Kick f b) (counted idle) (Place.Kick t b)
-  within f t b idle less =
-      let r = in_kick idle (below_kick c.workers b) t in
-      hops c i me s d x (Place.Kick f b) (Place.Kick t b) (counted idle) (is_short_kick b) (stage_of_kick d.picks b) (stagings_of_kick b) r
-      (leaves_kick c i me s d x f b r less) (comes_kick c i me s d x t b (counted idle) r (omega arith)) (idle_kept c i me s d x (Place.Kick f b) d.searching idle)
+  within = grind arith
 
   ends : (f : InKick) (b : AfterKick) (idle : Idle) → closes_kick b ≡ false → below_kick c.workers b < in_kick x.idle (below_kick c.workers b) f
       → Reaches c i me s d x (Place.Kick f b) (counted idle) (after_kick c i (seen (Place.Kick f b) me) s b (stands (Place.Kick f b) d))
@@ -35,13 +32,7 @@ module _ (c : Configuration) (i : ℕ) (me : Books) (s : Common) (d : Desk) (x :
       (idle_kept c i me s d x (Place.Kick f b) d.searching idle)
 
   to_claim : (set : WorkerSet) (b : AfterKick) → Reaches c i me s d x (Place.Kick (InKick.ExchangeKickCount set) b) (counted (one_count_more x.idle)) (Place.ClaimWorker set (AfterClaim.Kick b))
-  to_claim set b =
-      let r = below_kick c.workers b + claims set x.idle in
-      let p = Place.Kick (InKick.ExchangeKickCount set) b in
-      let u = counted (one_count_more x.idle) in
-      hops c i me s d x p (Place.ClaimWorker set (AfterClaim.Kick b)) u (is_short_kick b) (stage_of_kick d.picks b) (stagings_of_kick b) r
-      (leaves_kick c i me s d x (InKick.ExchangeKickCount set) b r (omega arith)) (comes_claim c i me s d x set (AfterClaim.Kick b) u r (omega arith))
-      (idle_kept c i me s d x p d.searching (one_count_more x.idle))
+  to_claim = grind arith
 
   pub kicks : (p : InKick) (b : AfterKick) → FallsAt c i me s d x (Place.Kick p b)
   kicks InKick.LoadKickCount b it quiet =

@@ -1,22 +1,10 @@
 -- The loads of the own words, before a service and before the tests.
-use Rattle.std.proofs.Common.{◌≡◌, ℕ, ◌≤◌, ◌<◌, Bool, true, false, not, ◌&&◌, ◌||◌, List, slice_set, refl, sym, ap, subst, arith}
-use Rattle.std.proofs.lemmas.{Bool.{and_from, false≢true, or_left, or_right}, List.set-get_or}
+use Rattle.std.proofs.Common.{◌≡◌, ℕ, ◌<◌, true, not, List, slice_set, refl, sym, subst, arith}
+use Rattle.std.proofs.lemmas.{List.set-get_or}
 use Rattle.exec_words.specs.{Queue.Queue, declared.word.PureWord.PureWord}
 use Rattle.exec_machine.specs.{declared.{config.Configuration.Configuration, event.Event.TheVariants.Turn}, Choice.Choice.Plain, After.{own_after, common_after}, Tests.is_empty, World.{Common, Own as Books}}
-use Rattle.exec_moves.specs.{declared.place.{Found.Found, InLoads.InLoads, Round.Round, Place.Place}, Callback.is_of_pool, Credit.one_if, Load.{after_loads, found_also, has_mail}, State.{Desk, Things, no_queue, no_word, queue_of, word_of}}
-use Rattle.exec_progress.{specs.{Going.{FallsAt, seen, stands}, Owed.signs}, proofs.Tools.{Now, before, goes_down, keeps_turns, left}}
-
--- what was found is there, or was found before
-found_there : (pool ready others : Bool) → pool ≡ true → one_if (ready && not ((pool && ready) || others)) ≡ 0
-found_there pool false others h = refl
-found_there false true others h = absurd (false≢true h)
-found_there true true others h = refl
-
-found_before : (f new q g m : Bool) → (new ≡ true → (g || m) ≡ true) → one_if ((f || new) && not (q || (g || m))) ≤ one_if (f && not (q || (g || m)))
-found_before true new q g m h = omega arith
-found_before false false q g m h = omega arith
-found_before false true true g m h = omega arith
-found_before false true false g m h = omega (arith, ap (λ v. one_if (not v)) (h refl))
+use Rattle.exec_moves.specs.{declared.place.{Found.Found, InLoads.InLoads, Round.Round, Place.Place}, Callback.is_of_pool, Load.{after_loads, found_also, has_mail}, State.{Desk, Things, no_queue, no_word, queue_of, word_of}}
+use Rattle.exec_progress.{specs.{Going.{FallsAt, seen, stands}}, proofs.Tools.{Now, before, left}}
 
 module _ (c : Configuration) (i : ℕ) (me : Books) (s : Common) (d : Desk) (x : Things) where
   -- a turn that leads to place q
@@ -54,83 +42,23 @@ module _ (c : Configuration) (i : ℕ) (me : Books) (s : Common) (d : Desk) (x :
 
   -- BEFORE A SERVICE: what is found is no sign
   first_head : Leads (head Round.First) x (mirror Round.First queued)
-  first_head =
-      let a = before me s d x (head Round.First) in
-      let b = later (head Round.First) x (mirror Round.First queued) in
-      goes_down c i a b (record {
-        long_before = refl;
-        long_after = refl;
-        less = omega arith;
-        gates_kept = omega arith;
-        owes = keeps_turns c i a b (record { kept = λ h. omega (arith, h); wanted_kept = λ h k. omega (arith, k); others_kept = λ h. omega arith; spun_kept = λ h. omega arith });
-      })
+  first_head = grind arith
 
   first_mirror : (f : Found) → Leads (mirror Round.First f) x (word Round.First (queued_also f))
-  first_mirror f =
-      let a = before me s d x (mirror Round.First f) in
-      let b = later (mirror Round.First f) x (word Round.First (queued_also f)) in
-      goes_down c i a b (record {
-        long_before = refl;
-        long_after = refl;
-        less = omega arith;
-        gates_kept = omega arith;
-        owes = keeps_turns c i a b (record { kept = λ h. omega (arith, h); wanted_kept = λ h k. omega (arith, k); others_kept = λ h. omega arith; spun_kept = λ h. omega arith });
-      })
+  first_mirror = grind arith
 
   first_word : (f : Found) → Leads (word Round.First f) x (after_loads me Round.First (mail_also f) d)
-  first_word f =
-      let a = before me s d x (word Round.First f) in
-      let b = later (word Round.First f) x (after_loads me Round.First (mail_also f) d) in
-      goes_down c i a b (record {
-        long_before = refl;
-        long_after = refl;
-        less = omega arith;
-        gates_kept = omega arith;
-        owes = keeps_turns c i a b (record { kept = λ h. omega (arith, h); wanted_kept = λ h k. omega (arith, k); others_kept = λ h. omega arith; spun_kept = λ h. omega arith });
-      })
+  first_word = grind arith
 
   -- BEFORE THE TESTS: what is found is there
   second_head : is_of_pool s i ≡ true → Leads (head Round.Second) x (mirror Round.Second queued)
-  second_head pool =
-      let a = before me s d x (head Round.Second) in
-      let b = later (head Round.Second) x (mirror Round.Second queued) in
-      let y = signs c i me s d x in
-      let none = found_there (is_of_pool s i) queued.ready (y.global || y.mail) pool in
-      goes_down c i a b (record {
-        long_before = refl;
-        long_after = refl;
-        less = omega arith;
-        gates_kept = omega arith;
-        owes = keeps_turns c i a b (record { kept = λ h. omega (arith, h); wanted_kept = λ h k. omega (arith, k); others_kept = λ h. omega (arith, none); spun_kept = λ h. omega arith });
-      })
+  second_head = grind arith
 
   second_mirror : is_of_pool s i ≡ true → (f : Found) → Leads (mirror Round.Second f) x (word Round.Second (queued_also f))
-  second_mirror pool f =
-      let a = before me s d x (mirror Round.Second f) in
-      let b = later (mirror Round.Second f) x (word Round.Second (queued_also f)) in
-      let y = signs c i me s d x in
-      let no_more = found_before f.ready (not (is_empty x.global)) y.queue y.global y.mail (λ h. or_left y.global y.mail (and_from (is_of_pool s i) (not (is_empty x.global)) pool h)) in
-      goes_down c i a b (record {
-        long_before = refl;
-        long_after = refl;
-        less = omega arith;
-        gates_kept = omega arith;
-        owes = keeps_turns c i a b (record { kept = λ h. omega (arith, h); wanted_kept = λ h k. omega (arith, k); others_kept = λ h. omega (arith, no_more); spun_kept = λ h. omega arith });
-      })
+  second_mirror = grind arith
 
   second_word : (f : Found) → Leads (word Round.Second f) x (Place.TestForWork (mail_also f))
-  second_word f =
-      let a = before me s d x (word Round.Second f) in
-      let b = later (word Round.Second f) x (Place.TestForWork (mail_also f)) in
-      let y = signs c i me s d x in
-      let no_more = found_before f.ready y.mail y.queue y.global y.mail (λ h. or_right y.global y.mail h) in
-      goes_down c i a b (record {
-        long_before = refl;
-        long_after = refl;
-        less = omega arith;
-        gates_kept = omega arith;
-        owes = keeps_turns c i a b (record { kept = λ h. omega (arith, h); wanted_kept = λ h k. omega (arith, k); others_kept = λ h. omega (arith, no_more); spun_kept = λ h. omega arith });
-      })
+  second_word = grind arith
 
   pub loads : (p : InLoads) (r : Round) → FallsAt c i me s d x (Place.Loads p r)
   loads InLoads.LoadOwnHead Round.First it = λ quiet. with_same_queue (head Round.First) (mirror Round.First queued) first_head

@@ -1,18 +1,14 @@
 -- The look: a turn begins anew for what is in the global queue, a scan for what can be stolen; and else the worker comes to its wait.
-use Rattle.std.proofs.Common.{◌≡◌, ℕ, ◌+◌, ◌-◌, ◌≤◌, ◌<◌, ◌==◌, Bool, true, false, not, ◌&&◌, ◌||◌, List, [], ◌∷◌, if◌then◌else◌, refl, sym, ap, subst, arith, inl, inr}
-use Rattle.std.specs.Prelude.{nat_lt, slice_set}
+use Rattle.std.proofs.Common.{◌≡◌, ℕ, ◌+◌, ◌-◌, ◌≤◌, ◌<◌, ◌==◌, Bool, true, not, ◌&&◌, ◌||◌, List, [], ◌∷◌, refl, sym, ap, subst, arith, inl, inr}
+use Rattle.std.specs.Prelude.{nat_lt}
 use Rattle.std.proofs.lemmas.{Bool.{and_from, and_parts, eqb-true, eq-eqb, ltb-true, or_cases}, List.set-get_or}
-use Rattle.exec_words.specs.{declared.head.Head.Head, Head.is_stealable_at, Idle.Idle, Queue.{head_of, tail_of}}
+use Rattle.exec_words.specs.{declared.head.Head.Head, Head.is_stealable_at, Queue.{head_of, tail_of}}
 use Rattle.exec_machine.specs.{declared.{config.Configuration.Configuration, event.Event.TheVariants.Turn}, Choice.Choice.Plain, Tests.is_empty, World.{Common, Own as Books}}
-use Rattle.exec_moves.specs.{declared.{idling.{AfterWait.AfterWait, InLook.InLook, InScan.InScan}, place.Place.Place}, Callback.is_of_pool, Credit.one_if, Global.{one_count_less, one_count_more}, Look.{look_at_mirror, looks_from, past_own}, State.{Desk, Things, no_queue, queue_of, turns}, Thing.{set_queue, with_global, with_idle}, Wait.waits}
-use Rattle.exec_progress.{specs.{Effort.{searches_alone, second_scan}, Going.{Falls, FallsAt, IsGoing, seen, stands}, Owed.{can_steal, is_stealable}}, proofs.{Idling.{FallsTo, chosen, counts, desk_to, height, in_look, in_scan, loads}, Passing.{can_at, second_le}, Tools.{afterwards, before, goes_up, taken_up}, Upward.to_wait}}
+use Rattle.exec_moves.specs.{declared.{idling.{AfterWait.AfterWait, InLook.InLook, InScan.InScan}, place.Place.Place}, Callback.is_of_pool, Counts.one_if, Global.{one_count_less, one_count_more}, Look.{look_at_mirror, looks_from, past_own}, State.{Desk, Things, no_queue, queue_of, turns}, Thing.{set_queue, with_global, with_idle}, Wait.waits}
+use Rattle.exec_progress.{specs.{Effort.{second_scan}, Going.{Falls, FallsAt, IsGoing, seen, stands}, Owed.{can_steal, is_stealable}}, proofs.{Idling.{FallsTo, chosen, counts, desk_to, height, in_look, in_scan, loads}, Passing.{can_at, second_le}, Tools.{afterwards, before, goes_up, taken_up}, Upward.to_wait}}
 
 from_on : (i j : ℕ) → j ≤ past_own i j
-from_on i j = by (j == i)
-  where
-    by : (b : Bool) → j ≤ (if b then j + 1 else j)
-    by true = omega arith
-    by false = omega arith
+from_on = grind arith
 
 module _ (c : Configuration) (i : ℕ) (me : Books) (s : Common) (d : Desk) (x : Things) where
   abbrev at : InLook → Place
@@ -61,27 +57,11 @@ module _ (c : Configuration) (i : ℕ) (me : Books) (s : Common) (d : Desk) (x :
       (λ h. waits_then p it high)
 
   publishes : FallsAt c i me s d x (at InLook.Publish)
-  publishes it =
-      let p = InLook.Publish in
-      let z : Idle = record x.idle { published = slice_set x.idle.published i true } in
-      chosen (λ (l : InLook). FallsTo c i me s d x (at p) d.rng d.loot d.searching (record x { idle = z }) (at l)) d.searching InLook.ReturnLookCount (InLook.LookAtMirror false)
-      (λ h. counts c i me s d x (at p) (at InLook.ReturnLookCount) d.searching z (in_look i s p) (in_look i s InLook.ReturnLookCount) (omega arith))
-      (λ h. counts c i me s d x (at p) (at (InLook.LookAtMirror false)) d.searching z (in_look i s p) (in_look i s (InLook.LookAtMirror false))
-      (omega (arith, ap (λ b. second_scan c ((x.idle.count == one_if b) && can_steal x)) h)))
+  publishes = grind arith
 
   -- the last count is returned where nobody else searched
   returns_count : FallsAt c i me s d x (at InLook.ReturnLookCount)
-  returns_count it =
-      let p = InLook.ReturnLookCount in
-      let q = InLook.LookAtMirror (x.idle.count == 1) in
-      let one = ap one_if (it.seeks refl) in
-      counts c i me s d x (at p) (at q) false (one_count_less x.idle) (in_look i s p) (in_look i s q)
-      (omega (
-        arith,
-        second_le c ((x.idle.count - 1 == 0) && can_steal x) (searches_alone d x && can_steal x) (λ k.
-            let last = eqb-true (x.idle.count - 1) 0 (and_parts _ _ k).0 in
-            and_from _ _ (eq-eqb x.idle.count (one_if d.searching) (omega (arith, one, last, it.counted))) (and_parts _ _ k).1),
-      ))
+  returns_count = grind (arith, counts, in_look, second_le, eqb-true, and_parts, and_from, eq-eqb)
 
   -- something is in the global queue: a turn begins anew for it, once the own bit is out
   looks_at_mirror : (last : Bool) → FallsAt c i me s d x (at (InLook.LookAtMirror last))

@@ -1,28 +1,20 @@
 -- The mailbox: its wake word, a batch, and the messages of that.
-use Rattle.std.proofs.Common.{◌≡◌, ℕ, ◌<◌, ◌==◌, Bool, true, false, not, List, [], ◌∷◌, length, refl, sym, ap, ◌∙◌, arith, inl, inr}
-use Rattle.std.proofs.lemmas.{Bool.{false≢true, eq-eqb, eqb-true}, List.get_or-set_same}
-use Rattle.exec_words.specs.{Word.next_batch, declared.word.PureWord.PureWord}
-use Rattle.exec_machine.specs.{declared.{config.Configuration.Configuration, state.MailMessage.MailMessage}, Tests.is_empty, World.{Common, Own as Books}}
-use Rattle.exec_moves.specs.{declared.place.{InMail.InMail, Place.Place}, Credit.one_if, Load.has_mail, Mail.{apply, load_mail_word, take_mail, to_callbacks}, State.{Desk, Moved, Own, Things, inbox_of, no_word, turns as turning, word_of}, Thing.{aside, set_word, with_inbox, with_word}}
+use Rattle.std.proofs.Common.{◌≡◌, ℕ, ◌<◌, Bool, true, false, not, List, [], ◌∷◌, length, refl, ap, arith, inl, inr}
+use Rattle.std.proofs.lemmas.{Bool.{false≢true, eq-eqb}, List.get_or-set_same}
+use Rattle.exec_words.specs.{declared.word.PureWord.PureWord}
+use Rattle.exec_machine.specs.{declared.{config.Configuration.Configuration, state.MailMessage.MailMessage}, World.{Common, Own as Books}}
+use Rattle.exec_moves.specs.{declared.place.{InMail.InMail, Place.Place}, Counts.one_if, Load.has_mail, Mail.{apply, load_mail_word, take_mail, to_callbacks}, State.{Desk, Moved, Things, inbox_of, no_word, turns as turning, word_of}, Thing.{aside, set_word, with_inbox, with_word}}
 use Rattle.exec_rest.specs.Posted.{IsNumbered}
 use Rattle.exec_progress.{specs.Going.{Falls, FallsAt, seen, stands}, proofs.{Submitting.sinks, Tools.{Now, afterwards, before, either}}}
 
 -- BATCHES ARE NUMBERED
-
-moves_on : (n : ℕ) → next_batch n ≡ n → ⊥
-moves_on n h = omega (arith, h)
 
 no_mail : (d : Desk) (w : PureWord) → IsNumbered w.batch d.processed [] → has_mail d w ≡ false
 no_mail d w (inl it) = ap not (eq-eqb w.batch d.processed it.0)
 no_mail d w (inr it) = absurd (it.1 refl)
 
 some_mail : (d : Desk) (w : PureWord) (m : MailMessage) (ms : List MailMessage) → IsNumbered w.batch d.processed (m ∷ ms) → has_mail d w ≡ true
-some_mail d w m ms (inl it) = let no : m ∷ ms ≡ [] = it.1 in absurd (cc)
-some_mail d w m ms (inr it) = by (w.batch == d.processed) refl
-  where
-    by : (b : Bool) → (w.batch == d.processed) ≡ b → not b ≡ true
-    by true same = absurd (moves_on d.processed (sym it.0 ∙ eqb-true w.batch d.processed same))
-    by false other = refl
+some_mail = grind arith
 
 module _ (c : Configuration) (i : ℕ) (me : Books) (s : Common) (d : Desk) (x : Things) where
   abbrev FallsBy : InMail → Moved Things → Type 0
@@ -57,9 +49,7 @@ module _ (c : Configuration) (i : ℕ) (me : Books) (s : Common) (d : Desk) (x :
 
   -- A BATCH, which is there where one was published
   takes : (inbox : List MailMessage) → IsNumbered (word_of x i).batch d.processed inbox → FallsBy InMail.TakeMail (with_inbox i x (take_mail (stands (Place.Mail InMail.TakeMail) d) inbox))
-  takes [] it quiet =
-      sinks c i (first InMail.TakeMail) (later InMail.TakeMail (with_inbox i x (take_mail (stands (Place.Mail InMail.TakeMail) d) [])))
-      refl refl (omega arith) (omega arith) (λ k. omega (arith, k, ap one_if (no_mail d (word_of x i) it))) (λ k. omega (arith, k)) (omega arith) (omega arith)
+  takes [] it quiet = grind (arith, sinks, no_mail)
   takes (m ∷ ms) it quiet =
       sinks c i (first InMail.TakeMail) (later InMail.TakeMail (with_inbox i x (take_mail (stands (Place.Mail InMail.TakeMail) d) (m ∷ ms))))
       refl refl (omega arith) (omega arith) (λ k. omega arith) (λ k. omega (arith, ap one_if (some_mail d (word_of x i) m ms it))) (omega arith) (omega arith)
@@ -70,10 +60,7 @@ module _ (c : Configuration) (i : ℕ) (me : Books) (s : Common) (d : Desk) (x :
     where
       by : (batch : List MailMessage) → d.batch ≡ batch → FallsBy (InMail.Apply applied taken) (aside x (apply applied me.root s (stands (Place.Mail (InMail.Apply applied taken)) (record d { batch = batch }))))
       by (m ∷ ms) some = λ q. absurd (false≢true q)
-      by [] none = λ quiet.
-          let unread = ap (λ ms. one_if (not (is_empty ms))) none in
-          sinks c i (first (InMail.Apply applied taken)) (later (InMail.Apply applied taken) (aside x (turning {T = Own} to_callbacks (stands (Place.Mail (InMail.Apply applied taken)) (record d { batch = [] })) tt)))
-          refl refl (omega arith) (omega arith) (λ k. omega (arith, k, unread)) (λ k. omega (arith, k)) (omega arith) (omega arith)
+      by [] none = grind arith
 
   pub opens_mail : (p : InMail) → FallsAt c i me s d x (Place.Mail p)
   opens_mail InMail.LoadMailWord it = loads it.word_there

@@ -1,12 +1,12 @@
 -- No run queue has more than fits into it, nor gave out more than 256 values in each step.
-use Rattle.std.proofs.Common.{◌≡◌, ℕ, zero, suc, ◌≤◌, ◌+◌, ◌-◌, ◌*◌, ◌==◌, Bool, true, false, List, [], ◌∷◌, ◌++◌, length, take, drop, get_or, replicate, Option, Some, None, if◌then◌else◌, refl, sym, ap, subst, arith, inl, inr, div-add-mod'}
+use Rattle.std.proofs.Common.{◌≡◌, ℕ, zero, suc, ◌≤◌, ◌+◌, ◌-◌, ◌*◌, Bool, true, false, List, [], ◌∷◌, ◌++◌, length, take, drop, get_or, replicate, Option, Some, None, if◌then◌else◌, refl, arith}
 use Rattle.std.proofs.lemmas.{Bool.{and_parts, cases_Bool, eqb-true}, List.{length-append, length-drop, length-take}}
-use Rattle.exec_words.specs.{declared.head.Head.Head, Global.share_of, Head.{claim_at, is_spent}, Queue.{Queue, claimed, head_of, overflowed, popped, published, released, restored, room_of, tail_of}}
-use Rattle.exec_machine.specs.{declared.config.{Configuration.Configuration, ScriptWord.ScriptWord}, Callers.is_enabled, Progress.Plan, World.{Common, Own as Books, own_of, task_of}, Words.next_word}
+use Rattle.exec_words.specs.{declared.head.Head.Head, Global.share_of, Head.{claim_at}, Queue.{Queue, claimed, head_of, overflowed, popped, published, released, restored, room_of, tail_of}}
+use Rattle.exec_machine.specs.{declared.config.{Configuration.Configuration, ScriptWord.ScriptWord}, Progress.Plan, World.{Common, Own as Books, own_of, task_of}, Words.next_word}
 use Rattle.exec_machine.specs.declared.config.ScriptWord.TheVariants as script
 use Rattle.exec_machine.specs.declared.step.Action.{Action}
 use Rattle.exec_machine.specs.declared.step.Action.TheVariants as action
-use Rattle.exec_moves.specs.{declared.{handing.{AfterCallbacks.AfterCallbacks, AfterPop.AfterPop, AfterSend.AfterSend, First.First}, place.{Place.Place, Service.Service}}, Callback.{Item, Item.{Answers, Completes}, item_next}, Move.{move_act, move_at, move_item, move_look_at, move_submit, move_wake}, Pick.take_share, Plays.{Playing, by_action, by_step, caller_of, desk_of, first_playing}, Poll.{Sight, Sight.{Asks, HearsRequest, HearsTimer, Here}, sight_of, sight_of_act}, Pop.{pops, same_head}, Push.in_hand, Search.from_of, Send.{send_root, wake_own_root, with_newcomer}, State.{Desk, Moved, Own, Things, no_queue, queue_of}, Submit.{Due, Due.{AtGate, Enrols, Expires}, due_next}, Thing.{aside, mailbox_of, set_queue, with_mailbox}}
+use Rattle.exec_moves.specs.{declared.{handing.{AfterCallbacks.AfterCallbacks, AfterPop.AfterPop, AfterSend.AfterSend, First.First}, place.{Place.Place, Service.Service}}, Callback.{Item, item_next}, Move.{move_act, move_at, move_item, move_look_at, move_submit, move_wake}, Pick.take_share, Plays.{Playing, by_action, by_step, desk_of, first_playing}, Poll.{Sight, sight_of, sight_of_act}, Pop.{pops, same_head}, Push.in_hand, Search.from_of, Send.{with_newcomer}, State.{Desk, Moved, Own, Things, no_queue, queue_of}, Submit.{Due, due_next}, Thing.{aside, set_queue}}
 use Rattle.exec_moves.specs.declared.handing.AfterSend.TheVariants as send
 use Rattle.exec_moves.specs.declared.handing.InGlobal.TheVariants as global
 use Rattle.exec_moves.specs.declared.handing.InKick.TheVariants as kick
@@ -47,30 +47,13 @@ module _ (n : ℕ) (q : Queue ℕ) (fits : Fits n q) where
   later = record { narrow = fits.narrow; low = omega (arith, fits.low) }
 
   fits_popped : (t : ℕ) (ts : List ℕ) → q.values ≡ t ∷ ts → Fits (suc n) (popped q)
-  fits_popped t ts is =
-      let some : length q.values ≡ suc (length ts) = ap length is in
-      let less : length (drop 1 q.values) ≡ length ts = ap (λ vs. length (drop 1 vs)) is in
-      record { narrow = omega (arith, fits.narrow, some, less, more (q.gap == 0)); low = omega (arith, fits.low) }
-    where
-      more : (b : Bool) → (if b then 0 else q.gap + 1) ≤ q.gap + 1
-      more true = omega arith
-      more false = omega arith
+  fits_popped = grind arith
 
   fits_published : (more : List ℕ) → q.held ≡ [] → length more ≤ room_of q → Fits (suc n) (published q more)
-  fits_published more none few = record { narrow = by (is_spent (tail_of q)) refl; low = omega (arith, fits.low) }
-    where
-      by : (spent : Bool) → is_spent (tail_of q) ≡ spent → length (q.values ++ more) + length q.held + q.gap ≤ 256
-      by true is = let no : length more ≤ 0 = subst (λ b. length more ≤ (if b then 0 else 256 - (tail_of q - q.real) - q.gap)) is few in omega (arith, length-append q.values more, fits.narrow, no)
-      by false is =
-          let some : length more ≤ 256 - (tail_of q - q.real) - q.gap = subst (λ b. length more ≤ (if b then 0 else 256 - (tail_of q - q.real) - q.gap)) is few in
-          rw none (omega (arith, length-append q.values more, fits.narrow, some))
+  fits_published = grind (arith, length-append)
 
   fits_claimed : (h : Head) (tail : ℕ) → same_head h (head_of q) ≡ true → tail ≤ tail_of q → Fits (suc n) (claimed q (claim_at h tail))
-  fits_claimed h tail same behind =
-      let real : h.real ≡ q.real = eqb-true h.real q.real (and_parts (h.real == q.real) (h.gap == q.gap) same).0 in
-      let half : claim_at h tail ≤ tail - h.real = omega (arith, div-add-mod' (tail - h.real) 2) in
-      let less : claim_at h tail ≤ length q.values = omega (arith, half, real, behind) in
-      record { narrow = omega (arith, fits.narrow, less, length-drop (claim_at h tail) q.values); low = omega (arith, fits.low, fits.narrow, less) }
+  fits_claimed = grind (arith, eqb-true, and_parts, length-drop)
 
   fits_released : Fits (suc n) (released q)
   fits_released = record { narrow = omega (arith, fits.narrow); low = omega (arith, fits.low) }
@@ -136,18 +119,10 @@ module _ (n : ℕ) (c : Configuration) (i : ℕ) (me : Books) (s : Common) (d : 
   one (Some t) = omega arith
 
   wakes : (t u : ℕ) (home : Option ℕ) → Fit (move_wake c i s d x t u home).thing
-  wakes t u None = still
-  wakes t u (Some home) = by (home == i)
-    where
-      by : (b : Bool) → Fit (if b then aside x (wake_own_root t u d (task_of s u)) else with_mailbox home x (send_root c s home (send.Act t) d (mailbox_of x home))).thing
-      by true = still
-      by false = still
+  wakes = grind arith
 
   looks_at : (t : ℕ) (b : AfterSend) (m : Moved Own) (y : Sight) → Fit (move_look_at c s d x t b (aside x m) y).thing
-  looks_at t b m Here = still
-  looks_at t b m (Asks k message) = still
-  looks_at t b m (HearsRequest r) = still
-  looks_at t b m (HearsTimer z) = still
+  looks_at = grind arith
 
   acts : (t : ℕ) (w : ScriptWord) → Fit (move_act c i me s d x t w).thing
   acts t (script.Spawn k) = still
@@ -162,15 +137,10 @@ module _ (n : ℕ) (c : Configuration) (i : ℕ) (me : Books) (s : Common) (d : 
   acts t _ = still
 
   items : (k : AfterCallbacks) (it : Item) → Fit (move_item c i me s d x k it).thing
-  items k (Completes z) = still
-  items k (Answers r) = still
-  items k _ = still
+  items = grind arith
 
   submits : (from : ℕ) (v : Service) (due : Due) → Fit (move_submit c i me s d x from v due).thing
-  submits from v (Expires r) = still
-  submits from v (Enrols r) = still
-  submits from v (AtGate file) = still
-  submits from v _ = still
+  submits = grind arith
 
   -- by its place, which knows what it has loaded
   at_place : (p : Place) → KnowsRoom p q → KnowsAside p q → KnowsTail c x p → Fit (move_at c i me s d x p).thing
@@ -240,19 +210,11 @@ module _ (n : ℕ) (c : Configuration) (x : Playing) (granted : IsGranted c x) (
       record { narrow = λ j. (fits j).narrow; low = λ j. (fits j).low }
 
   kept : (y : Playing) → y.things.queues ≡ x.things.queues → AreNarrow (suc n) y
-  kept y same =
-      let fits : (j : ℕ) → Fits (suc n) (queue_of y.things j) = λ j. subst (λ qs. Fits (suc n) (get_or qs j no_queue)) (sym same) (later n (queue_of x.things j) (fit j)) in
-      record { narrow = λ j. (fits j).narrow; low = λ j. (fits j).low }
+  kept = grind arith
 
   by_any : (a : Action) → AreNarrow (suc n) (by_action c x a).next
-  by_any (action.Work i) = by_work i
-  by_any (action.Wake k t) = kept _ (wake_kept x.world.common (caller_of x k) x.things t (task_of x.world.common t).home)
-  by_any (action.GoOn k) = kept _ (call_kept x.world.common (caller_of x k) x.things (caller_of x k).place)
-  by_any _ = kept _ refl
+  by_any = grind (arith, by_work, kept, wake_kept, call_kept)
 
 -- A step that is not enabled changes nothing.
 pub narrow_then : (n : ℕ) (c : Configuration) (x : Playing) → IsGranted c x → AreNarrow n x → (a : Action) → AreNarrow (suc n) (by_step c x a).next
-narrow_then n c x granted are a = elim (cases_Bool (is_enabled x.world.common a)) [
-  | inl may ↦ rw may (by_any n c x granted are a)
-  | inr off ↦ rw off (kept n c x granted are x refl)
-]
+narrow_then = grind (arith, cases_Bool, by_any, kept)

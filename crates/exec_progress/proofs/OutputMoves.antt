@@ -1,22 +1,20 @@
 -- No move makes more of outputs and slots of requests together, but one that makes a request: that takes one slot.
 use Rattle.std.proofs.Common.{◌≡◌, ℕ, ◌+◌, ◌-◌, ◌≤◌, ◌⊎◌, Bool, true, false, if◌then◌else◌, List, [], ◌∷◌, length, nat_lt, nat_le, Option, Some, None, refl, sym, ◌∙◌, arith, le_refl, le_trans, inl, inr}
 use Rattle.std.proofs.lemmas.Bool.{false≢true, and_parts, eqb-true}
-use Rattle.std.specs.Prelude.{drop, slice_get, slice_index_or}
+use Rattle.std.specs.Prelude.{slice_get, slice_index_or}
 use Rattle.exec_base.specs.declared.error.Error.TheVariants.{Timeout}
-use Rattle.exec_outcomes.specs.{declared.outcome.Outcome.{Outcome, TheVariants.Failure}, Accounts.{is_durable, outcome_at_grant}}
+use Rattle.exec_outcomes.specs.{declared.outcome.Outcome.{Outcome, TheVariants.Failure}, Accounts.{is_durable}}
 use Rattle.exec_task.specs.declared.drain.Drain.{Drain}
 use Rattle.exec_words.specs.{Queue.Queue, declared.word.PureWord.PureWord}
-use Rattle.exec_machine.specs.{declared.{config.{Configuration.Configuration, ScriptWord.ScriptWord}, event.Event.{Event, TheVariants.{Sleep, Turn}}, state.{MailMessage.MailMessage, Operation.Operation, RequestPhase.RequestPhase, Waiting.Waiting}}, Allowed.allowed, Closing.ends_by_clear, Deadlines.{next_due, outcome_at_enrol, outcome_at_expiry}, Requests.{account_of_open, operation_asked, outcome_given}, Ranges.ring_size, Tests.{AllTrue, is_gated, is_landed_with, is_queued, is_resolved}, Words.{newest_held, next_word, sleep_asked}, World.{Common, Task, seat_of, request_of, sleeper_of, task_of, Own as Books}}
+use Rattle.exec_machine.specs.{declared.{config.{Configuration.Configuration, ScriptWord.ScriptWord}, event.Event.{Event, TheVariants.{Sleep, Turn}}, state.{MailMessage.MailMessage, Operation.Operation, RequestPhase.RequestPhase, Waiting.Waiting}}, Allowed.allowed, Closing.ends_by_clear, Deadlines.{next_due}, Requests.{operation_asked}, Ranges.ring_size, Tests.{AllTrue, is_resolved}, Words.{next_word}, World.{Common, Task, seat_of, request_of, sleeper_of, task_of, Own as Books}}
 use Rattle.exec_machine.specs.declared.config.ScriptWord.TheVariants as script
 use Rattle.exec_machine.specs.declared.event.Event.TheVariants as event
 use Rattle.exec_machine.specs.declared.state.RequestPhase.TheVariants as phase
 use Rattle.exec_machine.specs.declared.state.Waiting.TheVariants as waiting
-use Rattle.exec_moves.specs.declared.handing.{AfterCallbacks.AfterCallbacks, AfterPop.AfterPop, AfterSend.AfterSend, First.First, Heard.Heard}
+use Rattle.exec_moves.specs.declared.handing.{AfterCallbacks.AfterCallbacks, AfterPop.AfterPop, AfterSend.AfterSend, First.First}
 use Rattle.exec_moves.specs.declared.place.{InPoll.InPoll, Place.Place, Reaping.Reaping, Service.Service}
-use Rattle.exec_moves.specs.{Callback.{Item, Item.{Answers, Completes, LetsGo, Wakes}, item_next, tells_waiter, woken_by}, Close.{close_sleeper, first_asleep, first_held, orphan, visit}, Load.has_come, Mail.{apply, take_mail}, Move.{move_act, move_at, move_item, move_look_at, move_poll, move_submit, move_wake}, Look.look_at_mirror, Pick.{load_mirror, take_share}, Poll.{Sight, Sight.{Asks, HearsRequest, HearsTimer, Here}, act, act_asked, act_by, after_pend, await, drop_newest, heard_by, requeued_if, resume, sight_of, sight_of_act, sleep_for}, Pop.{pops, shard_count}, Serve.{Ring, end_service, enter, first_to_fire, others_after_reap, reap, result_in}, State.{Desk, Moved, Things, WakePoll, does, gate_of, inbox_of, queue_of, wake_poll_of, word_of}, Submit.{after_grant, Due, Due.{AtGate, Cancels, Ends, Enrols, Expires, Flushes, Stages}, due_next, granted_at, stage_next, try_gate, with_poll}, Thing.ring_of, Told.{has_number, without_request, woken_where_awaited}, Slots.numbers_in, Wait.{after_sleep, has_completion, noting_sleep}}
-use Rattle.exec_moves.specs.declared.handing.AfterPop.TheVariants as after_pop
+use Rattle.exec_moves.specs.{Callback.{Item, item_next, woken_by}, Close.{close_sleeper, first_asleep, first_held, orphan, visit}, Load.has_come, Mail.{apply, take_mail}, Move.{move_act, move_at, move_item, move_look_at, move_poll, move_submit, move_wake}, Look.look_at_mirror, Pick.{load_mirror, take_share}, Poll.{Sight, Sight.{Asks, HearsRequest, HearsTimer, Here}, act, act_asked, act_by, after_pend, await, drop_newest, heard_by, requeued_if, resume, sight_of, sight_of_act, sleep_for}, Pop.{pops, shard_count}, Serve.{Ring, end_service, enter, first_to_fire, reap}, State.{Desk, Moved, Things, WakePoll, does, inbox_of, queue_of, wake_poll_of, word_of}, Submit.{after_grant, Due, Due.{Flushes}, due_next, granted_at, stage_next, try_gate, with_poll}, Thing.ring_of, Told.{has_number, without_request, woken_where_awaited}, Slots.numbers_in, Wait.{after_sleep, has_completion, noting_sleep}}
 use Rattle.exec_moves.specs.declared.handing.AfterSend.TheVariants as send
-use Rattle.exec_moves.specs.declared.handing.Heard.TheVariants as heard
 use Rattle.exec_moves.specs.declared.handing.InGlobal.TheVariants as global
 use Rattle.exec_moves.specs.declared.handing.InKick.TheVariants as kick
 use Rattle.exec_moves.specs.declared.handing.InPop.TheVariants as pop
@@ -87,12 +85,7 @@ module _ (c : Configuration) (i : ℕ) (me : Books) (s : Common) (d : Desk) (x :
   resumed_by t it r _ h is = rw (h, is) (pended t (record it { waiting = waiting.Request r }) it.home)
 
   resumed : (t : ℕ) (it : Task) (w : Waiting) → it.waiting ≡ w → Keeps (resume i t s d it)
-  resumed t it (waiting.Request r) h = resumed_by t it r _ h refl
-  resumed t it (waiting.Timer z) h = rw h (moved_if _ _ _ same (pended t (record it { waiting = waiting.Timer z }) it.home))
-  resumed t it waiting.Woken h = rw h same
-  resumed t it waiting.Nothing h = rw h (pended t (record it { waiting = waiting.Nothing }) it.home)
-  resumed t it waiting.Wake h = rw h (pended t (record it { waiting = waiting.Wake }) it.home)
-  resumed t it waiting.Yielded h = rw h (pended t (record it { waiting = waiting.Yielded }) it.home)
+  resumed = grind (arith, resumed_by, moved_if, same, pended)
 
   hears : (t r : ℕ) (answers : List ℕ) (b : Bool) (p : RequestPhase) → Keeps (heard_by t r d answers b p)
   hears t r answers true (phase.Resolved outcome) = same
@@ -121,12 +114,7 @@ module _ (c : Configuration) (i : ℕ) (me : Books) (s : Common) (d : Desk) (x :
   slept_for t it (Some until) = same
 
   acted_by : (t : ℕ) (it : Task) (w : ScriptWord) → Keeps (act_by i t me s d it w)
-  acted_by t it script.Await = awaited_newest t it (newest_held it)
-  acted_by t it script.Drop = dropped_newest t it (newest_held it)
-  acted_by t it (script.Sleep time) = slept_for t it (sleep_asked me.sampled (script.Sleep time))
-  acted_by t it (script.Fault code) = all_let_go i s it d
-  acted_by t it script.End = all_let_go i s it d
-  acted_by t it _ = same
+  acted_by = grind (arith, awaited_newest, dropped_newest, slept_for, all_let_go, same)
 
   asked : (t : ℕ) (it : Task) (w : ScriptWord) (o : Option Operation) → Fits (act_asked i t me s d it w o)
   asked t it w None = inl (acted_by t it w)
@@ -159,35 +147,19 @@ module _ (c : Configuration) (i : ℕ) (me : Books) (s : Common) (d : Desk) (x :
   wakes_by n t e it None h = rw h (kept_if _ _ _ (le_refl _) (le_refl _))
   wakes_by n t e it (Some home) h = rw h (le_refl _)
 
-  tells : (n : AfterCallbacks) (waiter : Option ℕ) (of : Heard) (e : Desk) → NoMore e (tells_waiter (ring_size c) i me s n waiter of e)
-  tells n None of e = le_refl _
-  tells n (Some t) of e = kept_if _ _ _ (le_refl _) (le_refl _)
-
   by_item : (n : AfterCallbacks) (it : Item) → Keeps (move_item c i me s d x n it)
-  by_item n (Wakes t) = wakes_by n t (record d { wakes = drop 1 d.wakes }) (task_of s t) _ refl
-  by_item n LetsGo = omega arith
-  by_item n (Completes z) = tells n (Some (sleeper_of s z).task) (heard.Timer z) (record d { completions = drop 1 d.completions })
-  by_item n (Answers r) = tells n (request_of s r).waiter (heard.Request r) (record d { results = drop 1 d.results })
-  by_item n _ = same
+  by_item = grind arith
 
   -- A SERVICE: each request that is over by it was in a slot
   reaps : (v : Service) (r : Reaping) (busy : Bool) (landed : List ℕ) (wakes : WakePoll) → let m = reap i v r s d (record { busy = busy; landed = landed; wakes = wakes }) in May m → Keeps m
-  reaps v r busy [] wakes may = same
-  reaps v r busy (q ∷ later) wakes may =
-      let it = request_of s q in
-      ended q it (others_after_reap later wakes d) (outcome_given it (result_in it.phase))
-      (λ o h. slots q (eqb-true it.worker i may.1.1.0) (alive (is_landed_with (result_in it.phase)) (λ o. refl) it.phase may.1.1.1.0))
+  reaps = grind (arith, same, ended, eqb-true, alive)
 
   granted : (v : Service) (file : ℕ) (outcome : Option Outcome) (e : Desk) → NoMore e (after_grant v file outcome e)
   granted v file None e = le_refl _
   granted v file (Some outcome) e = le_refl _
 
   tries : (v : Service) (file : ℕ) (gate : List ℕ) (first : Option ℕ) → granted_at i gate s ≡ first → May (try_gate i v file s d gate) → Keeps (try_gate i v file s d gate)
-  tries v file gate None h = rw h (λ may. same)
-  tries v file gate (Some r) h =
-      let it = request_of s r in
-      let how = outcome_at_grant it.operation.kind (account_of_open s it) in
-      rw h (λ may. le_trans (granted v file how _) (ended r it d how (λ o h. slots r (eqb-true it.worker i may.1.0) (alive is_gated (λ o. refl) it.phase may.1.1.0))))
+  tries = grind (arith, same, granted, ended, eqb-true, alive)
 
   flushes : (from : ℕ) (v : Service) (busy : Bool) (landed : List ℕ) (wakes : WakePoll) → Keeps (stage_next c i v from me s d (record { busy = busy; landed = landed; wakes = wakes }) Flushes)
   flushes from v true landed wakes = same
@@ -197,18 +169,7 @@ module _ (c : Configuration) (i : ℕ) (me : Books) (s : Common) (d : Desk) (x :
   polled size = kept_if _ _ _ same same
 
   submits : (from : ℕ) (v : Service) (due : Due) → May (move_submit c i me s d x from v due) → Keeps (move_submit c i me s d x from v due)
-  submits from v (Expires r) may =
-      let it = request_of s r in
-      let due = and_parts _ _ (and_parts _ _ may.1.0).0 in
-      ended r it d (outcome_at_expiry it) (λ o h. slots r (eqb-true it.worker i due.0) (alive is_queued (λ o. refl) it.phase (given_if (is_queued it.phase) o h)))
-  submits from v (Enrols r) may =
-      let it = request_of s r in
-      ended r it d (outcome_at_enrol c me it.operation.deadline) (λ o h. slots r (eqb-true it.worker i may.1.1.0) (alive is_queued (λ o. refl) it.phase may.1.1.1.0))
-  submits from v (AtGate file) may = tries v file (gate_of x file) _ refl may
-  submits from v Flushes may = flushes from v (seat_of s i).busy (seat_of s i).landed (wake_poll_of x i)
-  submits from v (Cancels r) may = same
-  submits from v (Stages r) may = same
-  submits from v Ends may = polled (ring_size c)
+  submits = grind (arith, and_parts, ended, eqb-true, alive, given_if, tries, flushes, same, polled)
 
   fires : (v : Service) (first : Option ℕ) → first_to_fire i me s d ≡ first → Keeps (end_service i v me s d)
   fires v None h = rw h same
@@ -227,9 +188,7 @@ module _ (c : Configuration) (i : ℕ) (me : Books) (s : Common) (d : Desk) (x :
   share f room held own (t ∷ g) = same
 
   popped : (b : AfterPop) (q : Queue ℕ) (vs : List ℕ) → q.values ≡ vs → Keeps (pops c i b d q)
-  popped b q [] h = rw h same
-  popped (after_pop.Pick f) q (t ∷ ts) h = rw h same
-  popped after_pop.Discard q (t ∷ ts) h = rw h same
+  popped = grind arith
 
   takes_mail : (ms : List MailMessage) → Keeps (take_mail d ms)
   takes_mail [] = same
@@ -248,9 +207,7 @@ module _ (c : Configuration) (i : ℕ) (me : Books) (s : Common) (d : Desk) (x :
   noted w false e = le_refl _
 
   slept : (signalled : Bool) (since : Option ℕ) → NoMore d (after_sleep s.clock signalled since d)
-  slept true (Some since) = same
-  slept true None = same
-  slept false since = same
+  slept = grind arith
 
   visited : (drain : Drain) (shard : List ℕ) (newest : Option ℕ) → slice_get shard (length shard - 1) ≡ newest → Keeps (visit (shard_count c) drain d shard)
   visited drain shard None h = rw h same

@@ -1,8 +1,7 @@
 -- The outputs that are left beside the slots of requests: what is told makes no more of both together.
-use Rattle.std.proofs.Common.{◌≡◌, ℕ, zero, suc, ◌+◌, ◌≤◌, ◌==◌, ◌⊎◌, ◌&&◌, Bool, true, false, not, if◌then◌else◌, List, [], ◌∷◌, ◌++◌, length, set, Option, Some, None, refl, sym, ap, ◌∙◌, arith, le_refl, le_trans, inl, inr}
+use Rattle.std.proofs.Common.{◌≡◌, ℕ, zero, suc, ◌+◌, ◌≤◌, ◌==◌, ◌&&◌, Bool, true, false, not, if◌then◌else◌, List, [], ◌∷◌, ◌++◌, length, set, Option, Some, None, refl, sym, ◌∙◌, arith, le_refl, le_trans}
 use Rattle.std.proofs.lemmas.Bool.{true≢false, false≢true, eq-eqb, eqb-true, or_cases}
-use Rattle.exec_machine.specs.{declared.state.{MailMessage.MailMessage, Request.Request, Sleeper.Sleeper, Waiting.Waiting}, Requests.ends_by_drop, Tests.{is_applied, is_resolved}, World.{Common, Task, request_of, sleeper_of}}
-use Rattle.exec_machine.specs.declared.state.MailMessage.TheVariants as message
+use Rattle.exec_machine.specs.{declared.state.{MailMessage.MailMessage, Request.Request, Sleeper.Sleeper, Waiting.Waiting}, Tests.{is_applied, is_resolved}, World.{Common, Task, request_of, sleeper_of}}
 use Rattle.exec_machine.specs.declared.state.Waiting.TheVariants as waiting
 use Rattle.exec_moves.specs.{Mail.told_by_message, Slots.{Slots, entered, is_in_slots, is_some_slot, numbers_in, slot_of, vacated}, State.Desk, Told.{awaits_no_more, has_number, lets_go_all, lets_go_request, lets_go_requests, lets_go_sleep, told_if_ended, told_of_cancel, told_of_drop, told_of_fire, told_of_forward, turned_away, one_output, one_result, without_request, woken_where_awaited}}
 
@@ -25,30 +24,16 @@ freed n k (Some m ∷ later) at h = by (n == m) refl (freed n (suc k) later at)
     by false is rest = let it = rest (sym (rw is refl) ∙ h) in (suc it.0, omega (arith, it.1), omega (arith, it.2))
 
 vacates : (n : ℕ) (x : Slots) → is_in_slots n x ≡ true → used (vacated n x).held + 1 ≡ used x.held
-vacates n x = by (slot_of n 0 x.held) refl
-  where
-    by : (o : Option ℕ) → slot_of n 0 x.held ≡ o → is_in_slots n x ≡ true → used (vacated n x).held + 1 ≡ used x.held
-    by None h there = absurd (false≢true (sym (ap is_some_slot h) ∙ there))
-    by (Some at) h there = let it = freed n 0 x.held at h in let same : at ≡ it.0 = omega (arith, it.1) in rw (h, same) it.2
+vacates = grind (arith, false≢true, freed)
 
 -- a number stands in a slot of its own
 in_slot : (n k : ℕ) (held : List (Option ℕ)) → has_number n (numbers_in held) ≡ true → is_some_slot (slot_of n k held) ≡ true
 in_slot n k [] h = absurd (false≢true h)
 in_slot n k (None ∷ later) h = in_slot n (suc k) later h
-in_slot n k (Some m ∷ later) h = by (n == m) refl (or_cases (m == n) (has_number n (numbers_in later)) h) (in_slot n (suc k) later)
-  where
-    by : (b : Bool) → (n == m) ≡ b → ((m == n) ≡ true) ⊎ (has_number n (numbers_in later) ≡ true) → (has_number n (numbers_in later) ≡ true → is_some_slot (slot_of n (suc k) later) ≡ true)
-        → is_some_slot (slot_of n k (Some m ∷ later)) ≡ true
-    by true is at rest = rw is refl
-    by false is (inl this) rest = absurd (true≢false (sym (eq-eqb n m (sym (eqb-true m n this))) ∙ is))
-    by false is (inr there) rest = rw is (rest there)
+in_slot n k (Some m ∷ later) h = grind (arith, or_cases, true≢false, eq-eqb, eqb-true, in_slot n (suc k) later)
 
 pub vacates_no_more : (n : ℕ) (x : Slots) → used (vacated n x).held ≤ used x.held
-vacates_no_more n x = by (slot_of n 0 x.held) refl
-  where
-    by : (o : Option ℕ) → slot_of n 0 x.held ≡ o → used (vacated n x).held ≤ used x.held
-    by None h = rw h (le_refl _)
-    by (Some at) h = let there = vacates n x (ap is_some_slot h) in omega (arith, there)
+vacates_no_more = grind (arith, vacates)
 
 -- one that comes takes one slot more
 takes_last : (n : ℕ) (held : List (Option ℕ)) → used (held ++ Some n ∷ []) ≡ used held + 1
@@ -64,11 +49,7 @@ takes n (suc k) (None ∷ later) = takes n k later
 takes n (suc k) (Some m ∷ later) = omega (arith, takes n k later)
 
 pub enters : (n : ℕ) (x : Slots) → used (entered n x).held ≤ used x.held + 1
-enters n x = by x.vacant refl
-  where
-    by : (ks : List ℕ) → x.vacant ≡ ks → used (entered n x).held ≤ used x.held + 1
-    by [] h = rw h (omega (arith, takes_last n x.held))
-    by (k ∷ ks) h = rw h (takes n k x.held)
+enters = grind (arith, takes_last, takes)
 
 -- WHAT IS TOLD
 
@@ -83,9 +64,7 @@ kept_if true d e one other = one
 kept_if false d e one other = other
 
 kept_unless : {n : ℕ} (held there : Bool) (d e : Desk) → fill d ≤ n → (there ≡ true → fill e ≤ n) → fill (if not (held && there) then d else e) ≤ n
-kept_unless true true d e one other = other refl
-kept_unless true false d e one other = one
-kept_unless false there d e one other = one
+kept_unless = grind arith
 
 module _ (r : ℕ) (it : Request) (d : Desk) where
   without : d.outputs + used (vacated r d.requests).held ≤ fill d
@@ -103,9 +82,7 @@ module _ (r : ℕ) (it : Request) (d : Desk) where
 
   -- one that ends stands in a slot
   pub ended : {X : Type 0} (how : Option X) → ((o : X) → how ≡ Some o → has_number r (numbers_in d.requests.held) ≡ true) → NoMore d (told_if_ended how r it d)
-  ended None there = le_refl _
-  ended (Some o) there =
-      kept_if (not it.observed) _ _ (instead (in_slot r 0 d.requests.held (there o refl))) (kept_if (is_applied it.forwarding) _ _ without woken)
+  ended = grind (arith, kept_if, instead, in_slot, without, woken)
 
   -- the output of one that is over by the drop
   over : (applied : Bool) → is_in_slots r d.requests ≡ true → NoMore d (one_output (without_request r (if applied then one_result r d else awaits_no_more r d)))
@@ -113,9 +90,7 @@ module _ (r : ℕ) (it : Request) (d : Desk) where
   over false there = instead there
 
   pub dropped : NoMore d (told_of_drop r it d)
-  dropped =
-      kept_unless it.observed (is_in_slots r d.requests) _ _ (le_refl _)
-      (λ there. kept_if (is_resolved it.phase) _ _ (instead there) (kept_if (ends_by_drop it) _ _ (over (is_applied it.forwarding) there) turned))
+  dropped = grind (arith, kept_unless, kept_if, instead, over, turned)
 
   forwarded : NoMore d (told_of_forward r it d)
   forwarded = kept_if (not (is_in_slots r d.requests)) _ _ (le_refl _) (kept_if (is_resolved it.phase) _ _ without (kept_if it.observed _ _ (le_refl _) (le_refl _)))
@@ -140,8 +115,4 @@ pub all_let_go : (i : ℕ) (s : Common) (it : Task) (d : Desk) → NoMore d (let
 all_let_go i s it d = le_trans (sleep_let_go i s it.waiting (lets_go_requests i s it.held d)) (requests_let_go i s it.held d)
 
 pub told_by : (s : Common) (root : ℕ) (m : MailMessage) (d : Desk) → NoMore d (told_by_message s root m d)
-told_by s root message.Root d = le_refl _
-told_by s root (message.ForwardRequest r) d = forwarded r (request_of s r) d
-told_by s root (message.ForwardTimer z) d = kept_if (is_in_slots z d.timers) _ _ (le_refl _) (le_refl _)
-told_by s root (message.CancelRequest r) d = dropped r (request_of s r) d
-told_by s root (message.CancelTimer z) d = cancelled z (sleeper_of s z) d
+told_by = grind (arith, forwarded, kept_if, dropped, cancelled)

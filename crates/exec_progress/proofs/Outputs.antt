@@ -1,7 +1,7 @@
 -- Each output that is left is of a request whose slot is free: in the first state, and after each step.
-use Rattle.std.proofs.Common.{◌≡◌, ℕ, zero, suc, ◌+◌, ◌≤◌, ◌&&◌, true, false, List, [], ◌∷◌, ◌++◌, length, get_or, set, refl, ap, subst, arith, inl, inr}
+use Rattle.std.proofs.Common.{◌≡◌, ℕ, zero, suc, ◌+◌, ◌≤◌, true, false, List, [], ◌∷◌, ◌++◌, length, get_or, set, refl, subst, arith, inl, inr}
 use Rattle.std.proofs.lemmas.{Bool.{cases_Bool, false≢true}, List.{length-append, length-set}}
-use Rattle.exec_machine.specs.{declared.{config.Configuration.Configuration, event.Event.Event, state.Request.Request, step.Action.Action}, After.common_after, Callers.{after_going_on, after_spawn_by_call, after_wake_by_call, common_by, is_enabled}, Choice.{Choice, Choice.Plain}, Mail.{is_left_out, is_root_message}, Progress.Plan, Run.Follows, Tests.is_resolved, World.{Common, Own as Books, own_of, request_of}}
+use Rattle.exec_machine.specs.{declared.{config.Configuration.Configuration, event.Event.Event, state.Request.Request, step.Action.Action}, After.common_after, Callers.{after_going_on, after_spawn_by_call, after_wake_by_call, common_by}, Choice.{Choice, Choice.Plain}, Progress.Plan, Run.Follows, Tests.is_resolved, World.{Common, Own as Books, own_of, request_of}}
 use Rattle.exec_machine.specs.declared.event.Event.TheVariants as event
 use Rattle.exec_machine.specs.declared.step.Action.TheVariants as action
 use Rattle.exec_moves.specs.{Move.move, MoveOfCaller.move_of_caller, Plays.{Playing, by_action, by_step, caller_of, desk_of, first_desk, first_desks, first_playing, newcomers}, Slots.numbers_in, State.{Desk, Moved, Things}, Told.has_number}
@@ -32,21 +32,13 @@ spawn_same s k (event.Spawn t script) = refl
 spawn_same s k _ = refl
 
 wake_same : (s : Common) (t : ℕ) (e : Event) (choice : Choice) → (after_wake_by_call s t e choice).requests ≡ s.requests
-wake_same s t (event.Send to m) choice = elim (cases_Bool (is_root_message m && is_left_out choice)) [ inl out ↦ rw out refl | inr in_it ↦ rw in_it refl ]
-wake_same s t (event.Wake other) choice = refl
-wake_same s t _ choice = refl
+wake_same = grind arith
 
 going_same : (s : Common) (j : ℕ) (e : Event) → (after_going_on s j e).requests ≡ s.requests
-going_same s j (event.Rouse other) = refl
-going_same s j event.Return = refl
-going_same s j _ = refl
+going_same = grind arith
 
 so_many : (s : Common) (a : Action) (e : Event) (choice : Choice) → length (common_by s a e choice).requests ≡ length s.requests
-so_many s (action.Spawn j k) e choice = ap length (spawn_same s k e)
-so_many s (action.Wake j t) e choice = ap length (wake_same s t e choice)
-so_many s (action.GoOn j) e choice = ap length (going_same s j e)
-so_many s (action.Land r n) e choice = length-set s.requests r _
-so_many s _ e choice = refl
+so_many = grind (arith, spawn_same, wake_same, going_same, length-set)
 
 -- DESKS: of one more at the end holds what holds of one that begins
 joined : (P : Desk → Type 0) (xs more : List Desk) (j : ℕ) (d : Desk) → ((n : ℕ) → P (get_or more n d)) → P (get_or xs j d) → P (get_or (xs ++ more) j d)
@@ -55,9 +47,7 @@ joined P (x ∷ xs) more zero d there h = h
 joined P (x ∷ xs) more (suc j) d there h = joined P xs more j d there h
 
 born : (c : Configuration) (e : Event) (j n : ℕ) → fill (get_or (newcomers c e) n (first_desk c j)) ≡ 0
-born c (event.Dedicated t k) j zero = refl
-born c (event.Dedicated t k) j (suc n) = refl
-born c _ j n = refl
+born = grind arith
 
 -- EACH STEP
 module _ (c : Configuration) (x : Playing) (given : IsGiven c x) (held : HaveOutputs c x) where
@@ -111,7 +101,4 @@ module _ (c : Configuration) (x : Playing) (given : IsGiven c x) (held : HaveOut
 
 pub outputs_then : (c : Configuration) (x : Playing) → IsGiven c x → HaveOutputs c x → (a : Action) → let it = (by_step c x a).told in
     Follows c x.world a it.0.said it.1 → HaveOutputs c (by_step c x a).next
-outputs_then c x given held a = elim (cases_Bool (is_enabled x.world.common a)) [
-  | inl may ↦ rw may (by_any c x given held a)
-  | inr off ↦ rw off (λ follows. held)
-]
+outputs_then = grind (arith, cases_Bool, by_any)

@@ -1,35 +1,21 @@
 -- A full run queue flows over: its oldest half stands aside for one step, and its newest half goes into the hand.
-use Rattle.std.proofs.Common.{◌≡◌, ℕ, zero, suc, ◌+◌, ◌-◌, ◌==◌, ◌≤◌, ◌<◌, Bool, true, false, not, ◌&&◌, ◌||◌, if◌then◌else◌, List, [], ◌∷◌, length, take, drop, set, refl, ap, ◌∙◌, arith}
+use Rattle.std.proofs.Common.{◌≡◌, ℕ, zero, suc, ◌+◌, ◌-◌, ◌==◌, ◌≤◌, ◌<◌, Bool, true, false, not, ◌&&◌, if◌then◌else◌, List, [], ◌∷◌, length, take, drop, set, refl, ap, ◌∙◌, arith}
 use Rattle.std.specs.Prelude.{nat_le}
 use Rattle.std.specs.List.{list_any}
 use Rattle.std.proofs.lemmas.{List.{get_or-set_same}}
 use Rattle.exec_words.specs.{declared.head.Head.Head, Queue.{Queue, head_of, newest, overflowed, restored}}
 use Rattle.exec_machine.specs.{declared.{config.Configuration.Configuration}, Tests.is_empty, World.{Common, Own as Books}}
-use Rattle.exec_moves.specs.{declared.{handing.{AfterPush.AfterPush, InGlobal.InGlobal, InPush.InPush}, place.Place.Place}, Callback.is_of_pool, Credit.one_if, Global.has_any, Pop.same_head, State.{Desk, Things, no_queue, queue_of}, Thing.set_queue}
+use Rattle.exec_moves.specs.{declared.{handing.{AfterPush.AfterPush, InGlobal.InGlobal, InPush.InPush}, place.Place.Place}, Callback.is_of_pool, Counts.one_if, Global.has_any, Pop.same_head, State.{Desk, Things, no_queue, queue_of}, Thing.set_queue}
 use Rattle.exec_progress.{specs.{Effort.{is_short_push, stagings_of_push}, Owed.{is_stealable, stage_of_push}, Ranks.below_push}, proofs.{Arriving.Reaches, Between.{comes_global, comes_push, leaves_push, set_bounds}, Hopping.{Gets, Kept, hops, of_aside, of_queue}}}
 
 -- what can be stolen with this queue put in could be stolen before, or from it
 stolen_from : (qs : List (Queue ℕ)) (i : ℕ) (w : Queue ℕ) → one_if (list_any is_stealable (set qs i w)) ≤ one_if (list_any is_stealable qs) + one_if (is_stealable w)
 stolen_from [] i w = omega arith
-stolen_from (v ∷ qs) zero w = by (is_stealable w) (is_stealable v) (list_any is_stealable qs)
-  where
-    by : (a b e : Bool) → one_if (a || e) ≤ one_if (b || e) + one_if a
-    by true b e = grind arith
-    by false true e = grind arith
-    by false false e = omega arith
-stolen_from (v ∷ qs) (suc i) w = by (is_stealable v) (list_any is_stealable (set qs i w)) (list_any is_stealable qs) (one_if (is_stealable w)) (stolen_from qs i w)
-  where
-    by : (a b e : Bool) (k : ℕ) → one_if b ≤ one_if e + k → one_if (a || b) ≤ one_if (a || e) + k
-    by true b e k h = omega arith
-    by false b e k h = h
+stolen_from (v ∷ qs) zero w = grind arith
+stolen_from (v ∷ qs) (suc i) w = grind (arith, stolen_from qs i w)
 
 few : (g n : ℕ) → one_if ((g == 0) && nat_le 2 ((n + 0) - n)) ≡ 0
-few g n = by (g == 0) ((n + 0) - n) (omega arith)
-  where
-    by : (v : Bool) (k : ℕ) → k ≡ 0 → one_if (v && nat_le 2 k) ≡ 0
-    by true zero h = refl
-    by true (suc k) h = omega (arith, h)
-    by false k h = refl
+few = grind arith
 
 at_most_one : (v : Bool) → one_if v ≤ 1
 at_most_one true = omega arith
@@ -71,14 +57,7 @@ module _ (c : Configuration) (i : ℕ) (me : Books) (s : Common) (d : Desk) (x :
   over_kept h b pool there none =
       let after = signs_then (newest q) (overflowed q) there in
       let half = one_sign pool (take 128 q.values) ∙ ap (λ e. one_if (not e)) (half_there q.values) in
-      record {
-        queue_kept = omega (arith, after, half, one_sign pool q.values, no_sign pool q.held none);
-        global_kept = omega arith;
-        wants = λ k. omega (arith, k, after, half, one_sign pool q.values, no_sign pool [] refl, some_newest q.values, stolen_from x.queues i (overflowed q), few 0 (q.real + 256));
-        poll = refl;
-        mail = refl;
-        latch = λ n. omega arith;
-      }
+      grind (arith, one_sign, no_sign, some_newest, stolen_from, few)
 
   pub flows_over : (h : Head) (b : AfterPush) → is_of_pool s i ≡ true → i < length x.queues → q.held ≡ [] → same_head h (head_of q) ≡ true
       → Reaches c i me s d x (Place.Push (InPush.FlowOver h) b) (with_own (newest q) (overflowed q)) (Place.Push InPush.StoreOldest b)
@@ -92,14 +71,7 @@ module _ (c : Configuration) (i : ℕ) (me : Books) (s : Common) (d : Desk) (x :
   back_kept : (b : AfterPush) → is_of_pool s i ≡ true → i < length x.queues → q.values ≡ [] → Kept c i me s d x (Place.Push InPush.StoreOldest b) (with_own d.loot (restored q))
   back_kept b pool there none =
       let after = signs_then d.loot (restored q) there in
-      record {
-        queue_kept = omega (arith, after, no_sign pool q.values none);
-        global_kept = omega arith;
-        wants = λ k. omega (arith, k, after, one_sign pool q.held, no_sign pool [] refl, some_oldest q q.held, stolen_from x.queues i (restored q));
-        poll = refl;
-        mail = refl;
-        latch = λ n. omega arith;
-      }
+      grind (arith, no_sign, one_sign, some_oldest, stolen_from)
 
   pub stores_oldest : (b : AfterPush) → is_of_pool s i ≡ true → i < length x.queues → q.values ≡ [] → Reaches c i me s d x (Place.Push InPush.StoreOldest b) (with_own d.loot (restored q)) (Place.Global InGlobal.Append b)
   stores_oldest b pool there none =

@@ -1,8 +1,7 @@
 -- Each worker keeps pace: so it does in the first state, and each step keeps it.
-use Rattle.std.proofs.Common.{◌≡◌, ℕ, zero, suc, ◌*◌, ◌≤◌, ◌==◌, Bool, true, length, get_or, set, refl, subst, arith, inl, inr}
-use Rattle.std.proofs.lemmas.{Bool.{cases_Bool, eqb-true}, List.get_or_past, Nat.mul-le}
-use Rattle.exec_base.specs.Spinner.{capped}
-use Rattle.exec_machine.specs.{declared.{config.{Configuration.Configuration}, event.Event.Event, step.Action.Action}, Callers.is_enabled, Progress.Plan, World.{Common, own_of, request_of, task_of}}
+use Rattle.std.proofs.Common.{◌≡◌, ℕ, zero, suc, ◌≤◌, Bool, true, length, get_or, set, refl, subst, arith}
+use Rattle.std.proofs.lemmas.{Bool.{cases_Bool}, List.get_or_past}
+use Rattle.exec_machine.specs.{declared.{config.{Configuration.Configuration}, event.Event.Event, step.Action.Action}, Progress.Plan, World.{Common, own_of, request_of, task_of}}
 use Rattle.exec_machine.specs.declared.event.Event.TheVariants as event
 use Rattle.exec_machine.specs.declared.step.Action.TheVariants as action
 use Rattle.exec_moves.specs.{Move.move, Plays.{Playing, by_action, by_step, caller_of, desk_of, first_desk, first_desks, first_playing, newcomers}, State.{Desk, Moved, Things}}
@@ -21,14 +20,8 @@ each_first P c first zero k i d past = past
 each_first P c first (suc n) k zero d past = first k
 each_first P c first (suc n) k (suc i) d past = each_first P c first n (suc k) i d past
 
-capped_zero : (n : ℕ) → (n == 0) ≡ true → capped n ≡ 0
-capped_zero n h = let none : n ≡ 0 = eqb-true n 0 h in omega (arith, none)
-
 first_within : (c : Configuration) → c.spin.budget ≤ c.spin.most → IsWithin c.spin (first_desk c 0).spinner
-first_within c le =
-    let spin = c.spin in
-    let least : capped (spin.budget * spin.iterations) ≤ spin.most * spin.iterations = omega (arith, mul-le spin.budget spin.iterations spin.most spin.iterations le (omega arith)) in
-    record { budget = least; floor = least; least = least; most = omega arith; none = capped_zero (spin.budget * spin.iterations) }
+first_within = grind arith
 
 begun_pace : (c : Configuration) (pool : Bool) → IsWithin c.spin (first_desk c 0).spinner → (k : ℕ) → KeepsPace c pool (first_desk c k)
 begun_pace c pool within k = off_pace c pool (first_desk c k) within refl refl refl tt
@@ -43,9 +36,7 @@ pace_first p le i =
 
 -- the desk of a worker that begins, or none
 pub newcomer : (P : Desk → Type 0) (c : Configuration) → ((k : ℕ) → P (first_desk c k)) → (e : Event) (j n : ℕ) → P (get_or (newcomers c e) n (first_desk c j))
-newcomer P c first (event.Dedicated t k) j zero = first k
-newcomer P c first (event.Dedicated t k) j (suc n) = first j
-newcomer P c first _ j n = first j
+newcomer = grind arith
 
 module _ (c : Configuration) (x : Playing) (laid : IsLaidOut c x) (pace : HavePace c x) (claims : (i : ℕ) → KnowsTail c x.things (place_at c x i)) where
   abbrev s : Common
@@ -94,7 +85,4 @@ module _ (c : Configuration) (x : Playing) (laid : IsLaidOut c x) (pace : HavePa
 
   -- a step that is not enabled changes nothing
   pub pace_then : (a : Action) → HavePace c (by_step c x a).next
-  pace_then a = elim (cases_Bool (is_enabled s a)) [
-    | inl may ↦ rw may (by_any a)
-    | inr off ↦ rw off pace
-  ]
+  pace_then = grind (arith, cases_Bool, by_any)

@@ -1,13 +1,12 @@
 -- Each move but the wild ones leads to a calm place, and leaves the spinner as it is.
-use Rattle.std.proofs.Common.{◌≡◌, ℕ, Bool, true, false, ◌+◌, ◌-◌, ◌*◌, ◌==◌, ◌&&◌, ◌||◌, List, [], ◌∷◌, length, Option, Some, None, ap, refl}
+use Rattle.std.proofs.Common.{◌≡◌, ℕ, Bool, true, false, ◌+◌, ◌-◌, ◌*◌, ◌==◌, ◌&&◌, ◌||◌, List, [], ◌∷◌, length, Option, Some, None, refl, arith}
 use Rattle.std.specs.Prelude.{drop, nat_le, nat_lt, not, slice_get, slice_index_or}
-use Rattle.exec_outcomes.specs.{declared.outcome.Outcome.Outcome}
 use Rattle.exec_words.specs.{Head.is_stealable_at, Idle.is_in, Queue.{head_of, room_of, tail_of}}
 use Rattle.exec_task.specs.declared.drain.Drain.{Drain}
-use Rattle.exec_machine.specs.{declared.{config.{Configuration.Configuration}, state.{MailMessage.MailMessage}}, Deadlines.next_due, Ranges.ring_size, Tests.{is_applied}, World.{Common, Own as Books, Task, request_of, sleeper_of, task_of}}
+use Rattle.exec_machine.specs.{declared.{config.{Configuration.Configuration}}, Deadlines.next_due, Ranges.ring_size, Tests.{is_applied}, World.{Common, Own as Books, Task, request_of, sleeper_of, task_of}}
 use Rattle.exec_moves.specs.declared.idling.{InLook.InLook, InRingWait.InRingWait, InScan.InScan, InSearch.InSearch, InWordWait.InWordWait, Stay.Stay}
 use Rattle.exec_moves.specs.declared.place.{InClosing.InClosing, InLoads.InLoads, InMail.InMail, InService.InService, Place.Place, Reaping.Reaping, Round.Round, Service.Service}
-use Rattle.exec_moves.specs.{Callback.{is_full, is_of_pool}, Claim.claimed, Close.{close_sleeper, first_asleep, first_held, orphan, visit}, Load.{has_come, has_mail, has_submissions, is_ready as has_ready}, Look.{look_at_mirror, searching_if}, Mail.{apply, take_mail}, Move.{move_at, move_closing, move_loads, move_look, move_mail, move_ring_wait, move_scan, move_search, move_service, move_submit, move_word_wait}, Pop.{shard_count}, Search.{begun_scan, from_of, half, stirred}, Send.first_letter, Serve.{Ring, end_service, first_to_fire, reap}, State.{Desk, Moved, Things, queue_of, inbox_of, word_of, gate_of}, Submit.{Due, Due.{AtGate, Cancels, Ends, Enrols, Expires, Flushes, Stages}, due_next, granted_at, after_grant, stage_next, try_gate}, Thing.ring_of}
+use Rattle.exec_moves.specs.{Callback.{is_full, is_of_pool}, Claim.claimed, Close.{close_sleeper, first_asleep, first_held, orphan, visit}, Load.{has_come, has_submissions, is_ready as has_ready}, Look.{look_at_mirror, searching_if}, Move.{move_at, move_closing, move_loads, move_look, move_mail, move_ring_wait, move_scan, move_search, move_service, move_submit, move_word_wait}, Pop.{shard_count}, Search.{begun_scan, from_of, half, stirred}, Send.first_letter, Serve.{Ring, end_service, first_to_fire, reap}, State.{Desk, Moved, Things, queue_of}, Submit.{Due, Due.{Cancels}, due_next}, Thing.ring_of}
 use Rattle.exec_moves.specs.declared.handing.AfterCancels.TheVariants as cancels
 use Rattle.exec_moves.specs.declared.handing.AfterSend.TheVariants as send
 use Rattle.exec_moves.specs.declared.idling.AfterWait.TheVariants as later
@@ -17,21 +16,16 @@ use Rattle.exec_moves.specs.declared.idling.InScan.TheVariants as scan
 use Rattle.exec_moves.specs.declared.idling.InSearch.TheVariants as search
 use Rattle.exec_moves.specs.declared.idling.InWordWait.TheVariants as word
 use Rattle.exec_moves.specs.declared.place.InClosing.TheVariants as closing
-use Rattle.exec_moves.specs.declared.place.InLoads.TheVariants as load
-use Rattle.exec_moves.specs.declared.place.InMail.TheVariants as mail
 use Rattle.exec_moves.specs.declared.place.InService.TheVariants as step
 use Rattle.exec_moves.specs.declared.place.Place.TheVariants as at
-use Rattle.std.proofs.Common.{◌∙◌, if◌then◌else◌}
 use Rattle.std.proofs.lemmas.Bool.{true≢false}
-use Rattle.exec_moves.specs.{Serve.{others_after_reap, enters, back_from_reap}, Submit.{with_poll, submits}, Told.{woken_where_awaited}}
+use Rattle.exec_moves.specs.{Serve.{others_after_reap, back_from_reap}}
 use Rattle.exec_progress.specs.{Going.{has_called_back, loads_queues}, Owed.quiet_items}
-use Rattle.exec_progress.proofs.PaceParts.{is_wild, Calm, cancelling, claiming, closed, fair_if, headed, leaving, letting_go, looking, passed_on, permitted, posted, read, reaped, returned, scanned, searching, served, serving_if, tailed, telling, waited, waiting_on, withdrawing, withdrawn}
+use Rattle.exec_progress.proofs.PaceParts.{is_wild, Calm, cancelling, claiming, closed, fair_if, headed, leaving, letting_go, looking, passed_on, permitted, posted, read, reaped, returned, scanned, searching, served, tailed, telling, waited, waiting_on, withdrawing, withdrawn}
 use Rattle.exec_machine.specs.{Closing.ends_by_clear}
 use Rattle.exec_moves.specs.{Close.told_of_clear}
 use Rattle.exec_moves.specs.declared.place.AfterPermit.TheVariants as permit
-use Rattle.exec_moves.specs.declared.place.Reaping.TheVariants as reaping
-use Rattle.exec_moves.specs.declared.place.Round.TheVariants as round
-use Rattle.exec_progress.proofs.PaceSpins.{all_same, awaited_same, drop_same, ended_same, enter_at, enter_same, fire_same, message_same, poll_same, same_if}
+use Rattle.exec_progress.proofs.PaceSpins.{all_same, ended_same, enter_at, enter_same, fire_same, poll_same, same_if}
 use Rattle.exec_progress.proofs.PacePolls.{Fine, desk_if, in_callbacks, in_global, in_kick, in_pick, in_poll, in_pop, in_push, in_signal, move_if, picking_one}
 
 module _ (c : Configuration) (i : ℕ) (me : Books) (s : Common) (d : Desk) (x : Things) where
@@ -51,41 +45,15 @@ module _ (c : Configuration) (i : ℕ) (me : Books) (s : Common) (d : Desk) (x :
 
   in_loads : (p : InLoads) (r : Round) → (loads_queues (at.Loads p r) ≡ true → pool ≡ true) → (has_called_back (at.Loads p r) ≡ true → quiet_items d ≡ 0)
       → Leads (move_loads i me d x p r)
-  in_loads load.LoadOwnHead round.First pooled called = (refl, pooled refl)
-  in_loads load.LoadOwnHead round.Second pooled called = (refl, (pooled refl, ap (λ n. n == 0) (called refl)))
-  in_loads (load.LoadOwnMirror f) round.First pooled called = no
-  in_loads (load.LoadOwnMirror f) round.Second pooled called = (refl, ap (λ n. n == 0) (called refl))
-  in_loads (load.LoadOwnWord f) round.First pooled called = no
-  in_loads (load.LoadOwnWord f) round.Second pooled called = (refl, ap (λ n. n == 0) (called refl))
+  in_loads = grind arith
 
   reaped_all : (r : Reaping) (v : Service) (y : Ring) (l : List ℕ) → y.landed ≡ l → Leads (reap i v r s d y)
   reaped_all r v y [] h = rw h (refl, permitted c i me s n true (permit.Reaped r) v)
   reaped_all r v y (q ∷ later) h =
       rw h (ended_same _ q (request_of s q) (others_after_reap later y.wakes d), reaped c i me s n true (request_of s q) _ (back_from_reap r later) v)
 
-  granted : (v : Service) (file : ℕ) (o : Option Outcome) (e : Desk) → e.spinner ≡ d.spinner → Fine c i me s d x (after_grant v file o e)
-  granted v file None e same = (same, tt)
-  granted v file (Some outcome) e same = (same, tt)
-
-  tried : (v : Service) (file : ℕ) (gate : List ℕ) (o : Option ℕ) → granted_at i gate s ≡ o → Leads (try_gate i v file s d gate)
-  tried v file gate None h = rw h no
-  tried v file gate (Some r) h = rw h (granted v file _ _ (ended_same _ r (request_of s r) d))
-
-  stays_in : (v : Service) (e : Desk) → Calm pool n (quiet_items e == 0) (at.Service (if enters c i v me s e then step.EnterLast else step.Reap reaping.Last) v)
-  stays_in v e = serving_if c i me s n true (enters c i v me s e) _ _ v tt tt
-
-  flushed : (gate : ℕ) (v : Service) (y : Ring) (busy : Bool) → y.busy ≡ busy → Leads (stage_next c i v gate me s d y Flushes)
-  flushed gate v y true h = rw h (refl, stays_in v (submits v gate d))
-  flushed gate v y false h = rw h no
-
   in_submit : (gate : ℕ) (v : Service) (due : Due) → Leads (move_submit c i me s d x gate v due)
-  in_submit gate v (Expires r) = (ended_same _ r (request_of s r) d, tt)
-  in_submit gate v (Enrols r) = (ended_same _ r (request_of s r) d, tt)
-  in_submit gate v (AtGate file) = tried v file (gate_of x file) _ refl
-  in_submit gate v Flushes = flushed gate v (ring_of s x i) _ refl
-  in_submit gate v (Cancels r) = no
-  in_submit gate v (Stages r) = no
-  in_submit gate v Ends = (poll_same (ring_size c) d, stays_in v (with_poll (ring_size c) d))
+  in_submit = grind arith
 
   fired : (v : Service) (o : Option ℕ) → first_to_fire i me s d ≡ o → ((quiet : Bool) → Calm pool n quiet d.place) → Leads (end_service i v me s d)
   fired v None h before = rw h (refl, served c i me s n _ v.back d)
@@ -104,27 +72,15 @@ module _ (c : Configuration) (i : ℕ) (me : Books) (s : Common) (d : Desk) (x :
 
   -- THE MAILBOX AND A CLOSING
 
-  taken : (ms : List MailMessage) → Leads (take_mail d ms)
-  taken [] = (refl, read c i me s n true 0 [])
-  taken (m ∷ ms) = (refl, read c i me s n true 0 (m ∷ ms))
-
-  applied_by : (k : ℕ) (ms : List MailMessage) → d.batch ≡ ms → Leads (apply k me.root s d)
-  applied_by k [] h = rw h no
-  applied_by k (m ∷ ms) h = rw h (message_same s me.root m (record d { batch = m ∷ ms }), read c i me s n _ _ ms)
-
   in_mail : (p : InMail) → Leads (move_mail i me s d x p)
-  in_mail mail.LoadMailWord = move_if c i me s d x (has_mail d (word_of x i)) _ _ no no
-  in_mail mail.TakeMail = taken (inbox_of x i)
-  in_mail (mail.Apply k taken) = applied_by k _ refl
+  in_mail = grind arith
 
   visited : (drain : Drain) (shard : List ℕ) (newest : Option ℕ) → slice_get shard (length shard - 1) ≡ newest → Leads (visit (shard_count c) drain d shard)
   visited drain shard None h = rw h no
   visited drain shard (Some t) h = rw h no
 
   orphaned : (held : Option ℕ) → first_held s d ≡ held → Leads (orphan i s d)
-  orphaned None h = rw h (refl, letting_go c i me s n _ None _)
-  orphaned (Some r) h =
-      rw h (drop_same r (request_of s r) (woken_where_awaited r (request_of s r) d) ∙ awaited_same r (request_of s r) d, letting_go c i me s n _ _ _)
+  orphaned = grind arith
 
   sleeper_closed : (asleep : Option ℕ) → first_asleep i s d ≡ asleep → Leads (close_sleeper i s d)
   sleeper_closed None h = rw h no

@@ -1,34 +1,25 @@
 -- Calm places, and that the parts lead to such.
-use Rattle.std.proofs.Common.{◌≡◌, ℕ, Bool, true, false, ◌-◌, ◌==◌, ◌&&◌, ◌||◌, List, [], ◌∷◌, Option, Some, None, refl, if◌then◌else◌}
-use Rattle.std.proofs.lemmas.Bool.{false≢true}
+use Rattle.std.proofs.Common.{◌≡◌, ℕ, Bool, true, false, ◌-◌, ◌==◌, ◌&&◌, ◌||◌, List, [], ◌∷◌, Option, Some, None, if◌then◌else◌, arith}
 use Rattle.std.specs.Prelude.{nat_le, nat_lt, not}
 use Rattle.exec_words.specs.declared.head.{Fit.Fit, Head.Head}
-use Rattle.exec_words.specs.declared.head.Fit.TheVariants as fit
-use Rattle.exec_machine.specs.{declared.{config.Configuration.Configuration, state.{Letter.Letter, MailMessage.MailMessage, Waiting.Waiting}}, Deadlines.next_due, Ranges.ring_size, Tests.is_empty, World.{Common, Own as Books}}
+use Rattle.exec_machine.specs.{declared.{config.Configuration.Configuration, state.{Letter.Letter, MailMessage.MailMessage, Waiting.Waiting}}, Ranges.ring_size, Tests.is_empty, World.{Common, Own as Books}}
 use Rattle.exec_machine.specs.declared.state.Waiting.TheVariants as waiting
 use Rattle.exec_moves.specs.declared.handing.{AfterCallbacks.AfterCallbacks, AfterCancels.AfterCancels, AfterClaim.AfterClaim, AfterKick.AfterKick, AfterLeave.AfterLeave, AfterPop.AfterPop, AfterPush.AfterPush, AfterSend.AfterSend, AfterSignal.AfterSignal, First.First}
 use Rattle.exec_moves.specs.declared.idling.{AfterWait.AfterWait, Scan.Scan, Stay.Stay}
 use Rattle.exec_moves.specs.declared.place.{AfterService.AfterService, Place.Place}
-use Rattle.exec_moves.specs.{Callback.{after_callbacks, first_load, has_callbacks, has_requests, is_full, is_of_pool, next_callback, ring_wait, to_queue}, Claim.{Claimed, Claimed.{Again, Nobody, Worker}, after_claim}, Close.{after_close, after_letting_go}, Load.{has_submissions, leaves_for_turn, next_turn}, Look.{after_withdrawal, looks_from, past_own}, Mail.after_message, Parts.{after_cancels, after_kick, after_leave, after_poll, after_push, after_return, after_send, after_signal, cancels_left, first_pop, has_others, next_pick, polls, tells_from}, Pick.after_empty_look, Poll.{after_begin, after_end}, Pop.{after_empty_pop, after_pop, judge_pop}, Push.after_fit, Search.{judge_head, judge_tail, looks_at, past, past_own as past_mine}, Send.{after_posting, after_spawn}, Serve.after_service, State.{Desk}, Wait.{after_wait, first_search, is_near, waits, withdraws}}
-use Rattle.exec_moves.specs.declared.handing.AfterCallbacks.TheVariants as after
+use Rattle.exec_moves.specs.{Callback.{has_callbacks, has_requests, is_of_pool, next_callback, to_queue}, Claim.{Claimed, after_claim}, Close.{after_close, after_letting_go}, Load.{has_submissions, leaves_for_turn, next_turn}, Look.{after_withdrawal, looks_from, past_own}, Mail.after_message, Parts.{after_cancels, after_kick, after_leave, after_poll, after_push, after_return, after_send, after_signal, cancels_left, first_pop, has_others, next_pick, polls, tells_from}, Poll.{after_begin, after_end}, Pop.{after_empty_pop, after_pop, judge_pop}, Push.after_fit, Search.{judge_head, judge_tail, looks_at, past, past_own as past_mine}, Send.{after_posting, after_spawn}, Serve.after_service, State.{Desk}, Wait.{after_wait, first_search, waits, withdraws}}
 use Rattle.exec_moves.specs.declared.handing.AfterCancels.TheVariants as cancels
 use Rattle.exec_moves.specs.declared.handing.AfterClaim.TheVariants as claim
 use Rattle.exec_moves.specs.declared.handing.AfterKick.TheVariants as kick
-use Rattle.exec_moves.specs.declared.handing.AfterLeave.TheVariants as leave
 use Rattle.exec_moves.specs.declared.handing.AfterPop.TheVariants as pop
 use Rattle.exec_moves.specs.declared.handing.AfterPush.TheVariants as push
-use Rattle.exec_moves.specs.declared.handing.AfterSend.TheVariants as send
 use Rattle.exec_moves.specs.declared.handing.AfterSignal.TheVariants as signal
-use Rattle.exec_moves.specs.declared.handing.First.TheVariants as first
 use Rattle.exec_moves.specs.declared.idling.AfterWait.TheVariants as later
 use Rattle.exec_moves.specs.declared.idling.Stay.TheVariants as stay
-use Rattle.exec_moves.specs.declared.place.AfterService.TheVariants as back
 use Rattle.exec_moves.specs.declared.place.Place.TheVariants as at
-use Rattle.exec_moves.specs.declared.place.InCallbacks.TheVariants as callback
 use Rattle.exec_moves.specs.declared.place.Round.TheVariants as round
-use Rattle.std.specs.Prelude.{◌≤◌}
 use Rattle.exec_outcomes.specs.{declared.outcome.Outcome.Outcome, Accounts.is_durable}
-use Rattle.exec_machine.specs.{declared.state.Request.Request, Ranges.largest_spin}
+use Rattle.exec_machine.specs.{declared.state.Request.Request}
 use Rattle.exec_words.specs.declared.word.WaitTarget.TheVariants as target
 use Rattle.exec_moves.specs.declared.place.{AfterPermit.AfterPermit, InService.InService, Service.Service}
 use Rattle.exec_moves.specs.Serve.{after_passing, after_permit, after_reap}
@@ -37,13 +28,10 @@ use Rattle.exec_moves.specs.declared.idling.InLook.TheVariants as look
 use Rattle.exec_moves.specs.declared.idling.InRingWait.TheVariants as ring
 use Rattle.exec_moves.specs.declared.idling.InScan.TheVariants as scan
 use Rattle.exec_moves.specs.declared.idling.InWordWait.TheVariants as word
-use Rattle.exec_moves.specs.declared.place.AfterPermit.TheVariants as permit
 use Rattle.exec_moves.specs.declared.place.InLoads.TheVariants as load
 use Rattle.exec_moves.specs.declared.place.InService.TheVariants as step
-use Rattle.exec_moves.specs.declared.place.Reaping.TheVariants as reaping
-use Rattle.exec_credit.specs.Spins.{IsShort}
 use Rattle.exec_rest.specs.Places.{waits_on}
-use Rattle.exec_progress.specs.Going.{has_called_back, is_moving, loads_queues, raises_itself}
+use Rattle.exec_progress.specs.Going.{raises_itself}
 
 -- CALM PLACES: nothing is to be known there beside what keeps from move to move. Queues are loaded by a worker of the pool alone, a spin begins with
 -- the budget, and nothing quiet is left of the callbacks before the test for work.
@@ -88,43 +76,11 @@ is_wild (at.Service (step.Signal j b) v) = true
 is_wild _ = false
 
 module _ (pool : Bool) (budget : ℕ) (quiet : Bool) where
-  pub calm_loads : (p : Place) → Calm pool budget quiet p → loads_queues p ≡ true → pool ≡ true
-  calm_loads (at.Loads load.LoadOwnHead round.First) calm h = calm
-  calm_loads (at.Loads load.LoadOwnHead round.Second) calm h = calm.0
-  calm_loads (at.Loads (load.LoadOwnMirror f) round.First) calm h = calm
-  calm_loads (at.Loads (load.LoadOwnMirror f) round.Second) calm h = calm.0
-  calm_loads _ calm h = absurd (false≢true h)
-
-  pub calm_called : (p : Place) → Calm pool budget quiet p → has_called_back p ≡ true → quiet ≡ true
-  calm_called (at.Loads load.LoadOwnHead round.Second) calm h = calm.1
-  calm_called (at.Loads (load.LoadOwnMirror f) round.Second) calm h = calm.1
-  calm_called (at.Loads (load.LoadOwnWord f) round.Second) calm h = calm
-  calm_called (at.TestForWork f) calm h = calm
-  calm_called _ calm h = absurd (false≢true h)
-
-  pub calm_moves : (p : Place) → Calm pool budget quiet p → is_moving p ≡ false
-  calm_moves (at.Scan (scan.MoveHalf from h)) calm = absurd calm
-  calm_moves (at.Scan (scan.ReleaseHalf from h)) calm = absurd calm
-  calm_moves (at.Scan scan.StoreMoved) calm = absurd calm
-  calm_moves _ calm = refl
-
-  pub calm_short : (c : Configuration) → budget ≤ largest_spin c.spin → (p : Place) → Calm pool budget quiet p → IsShort c.spin p
-  calm_short c le (at.WordWait (word.SpinOnBatch left)) calm = rw calm le
-  calm_short c le (at.WordWait (word.SpinOnLatch left)) calm = absurd calm
-  calm_short c le _ calm = tt
-
   pub calm_waits : (p : Place) → Calm pool budget quiet p → waits_on p ≡ target.None
-  calm_waits (at.RingWait ring.EnterRing y) calm = absurd calm
-  calm_waits (at.RingWait ring.SleepOnRing y) calm = absurd calm
-  calm_waits (at.RingWait (ring.DisarmRing n) y) calm = absurd calm
-  calm_waits (at.WordWait word.SleepOnWord) calm = absurd calm
-  calm_waits (at.WordWait word.DisarmWord) calm = absurd calm
-  calm_waits _ calm = refl
+  calm_waits = grind arith
 
   pub calm_raises : (i : ℕ) (p : Place) → Calm pool budget quiet p → raises_itself i p ≡ false
-  calm_raises i (at.Signal (signals.Raise is_ring) j b) calm = absurd calm
-  calm_raises i (at.Service (step.Raise is_ring j b) v) calm = absurd calm
-  calm_raises i _ calm = refl
+  calm_raises = grind arith
 
 module _ (c : Configuration) (i : ℕ) (me : Books) (s : Common) (budget : ℕ) (quiet : Bool) where
   abbrev pub Fair : Place → Type 0
@@ -153,10 +109,6 @@ module _ (c : Configuration) (i : ℕ) (me : Books) (s : Common) (budget : ℕ) 
   begun t waiting.Nothing = tt
   begun t _ = tt
 
-  pub empty_look : (f : First) → Fair (after_empty_look c f)
-  empty_look first.Own = tt
-  empty_look first.Global = popping (pop.Pick first.Global)
-
   pub picking : (d : Desk) → Fair (next_pick d)
   picking d = fair_if (d.picks == 0) _ _ tt tt
 
@@ -171,9 +123,7 @@ module _ (c : Configuration) (i : ℕ) (me : Books) (s : Common) (budget : ℕ) 
   leaving d = fair_if d.searching _ _ tt (turning d)
 
   pub left : (b : AfterLeave) (d : Desk) → Fair (after_leave c i me s b d)
-  left (leave.Poll t) d = tt
-  left (leave.CallBack n) d = tt
-  left leave.Begin d = turning d
+  left = grind arith
 
   pub returned : (last : Bool) (b : AfterLeave) (d : Desk) → Fair (after_return c i me s last b d)
   returned last b d = fair_if last _ _ tt (left b d)
@@ -182,55 +132,22 @@ module _ (c : Configuration) (i : ℕ) (me : Books) (s : Common) (budget : ℕ) 
   telling worker = fair_if (nat_lt worker c.workers) _ _ tt (popping pop.Discard)
 
   pub cancelled : (b : AfterCancels) (d : Desk) → Fair (after_cancels b d)
-  cancelled (cancels.Remove t) d = tt
-  cancelled cancels.Pick d = picking d
-  cancelled (cancels.Visit x) d = tt
+  cancelled = grind arith
 
   pub cancelling : (b : AfterCancels) (d : Desk) (letters : List Letter) → Fair (cancels_left b d letters)
   cancelling b d [] = cancelled b d
   cancelling b d (letter ∷ letters) = tt
 
   pub sent : (b : AfterSend) (d : Desk) → Fair (after_send c b d)
-  sent (send.Act t) d = tt
-  sent (send.Pend t) d = tt
-  sent (send.Cancels b) d = cancelling b d d.letters
-  sent (send.Tell worker) d = telling worker
+  sent = grind arith
 
   pub posted : (j : ℕ) (b : AfterSend) (asked : Bool) (d : Desk) → Fair (after_posting c j b asked d)
   posted j b true d = tt
   posted j b false d = sent b d
 
-  pub loading : Fair (first_load s i round.First)
-  loading = by (is_of_pool s i)
-    where
-      by : (pool : Bool) → Calm pool budget quiet (if pool then at.Loads load.LoadOwnHead round.First else at.Loads (load.LoadOwnWord (record { ready = false })) round.First)
-      by true = refl
-      by false = tt
-
-  pub loading_again : quiet ≡ true → Fair (first_load s i round.Second)
-  loading_again none = by (is_of_pool s i)
-    where
-      by : (pool : Bool) → Calm pool budget quiet (if pool then at.Loads load.LoadOwnHead round.Second else at.Loads (load.LoadOwnWord (record { ready = false })) round.Second)
-      by true = (refl, none)
-      by false = none
-
-  pub ringing : (y : Stay) (d : Desk) → Fair (ring_wait (ring_size c) y d)
-  ringing y d = fair_if (is_full (ring_size c) d) _ _ tt tt
-
-  pub called : (n : AfterCallbacks) (d : Desk) → quiet ≡ true → Fair (after_callbacks (ring_size c) i s n d)
-  called after.Look d none = loading
-  called after.Test d none = loading_again none
-  called after.Begin d none = tt
-  called after.Drain d none = tt
-  called after.Finish d none = fair_if (has_requests i s) _ _ (ringing stay.Closing d) tt
-
   -- once no callback is left nothing quiet is
   pub calling : (books : Books) (n : AfterCallbacks) (d : Desk) → (has_callbacks books d ≡ false → quiet ≡ true) → Fair (next_callback (ring_size c) i books s n d)
-  calling books n d none = by (has_callbacks books d) none
-    where
-      by : (some : Bool) → (some ≡ false → quiet ≡ true) → Fair (if some then at.Callbacks callback.CallBack n else after_callbacks (ring_size c) i s n d)
-      by true none = tt
-      by false none = called n d (none refl)
+  calling = grind arith
 
   pub pushed : (b : AfterPush) (d : Desk) → (has_callbacks me d ≡ false → quiet ≡ true) → Fair (after_push c i me s b d)
   pushed (push.Act t) d none = tt
@@ -238,9 +155,7 @@ module _ (c : Configuration) (i : ℕ) (me : Books) (s : Common) (budget : ℕ) 
   pushed (push.CallBack n) d none = calling me n d none
 
   pub fitted : (b : AfterPush) (h : Head) (f : Fit) → Fair (after_fit b h f)
-  fitted b h (fit.Room len) = tt
-  fitted b h fit.Overflow = tt
-  fitted b h _ = tt
+  fitted = grind arith
 
   pub kicked : (b : AfterKick) (d : Desk) → (has_callbacks me d ≡ false → quiet ≡ true) → Fair (after_kick c i me s b d)
   kicked (kick.Leave b) d none = left b d
@@ -252,15 +167,10 @@ module _ (c : Configuration) (i : ℕ) (me : Books) (s : Common) (budget : ℕ) 
   signalled (signal.Send b) d none = sent b d
 
   pub claiming : (b : AfterClaim) (y : Claimed) → Fair (after_claim b y)
-  claiming b (Worker lowest) = tt
-  claiming b (Again found) = tt
-  claiming (claim.Kick b) Nobody = tt
-  claiming (claim.Global b) Nobody = tt
+  claiming = grind arith
 
   pub emptied : (b : AfterPop) → Fair (after_empty_pop c i b)
-  emptied (pop.Pick first.Own) = tt
-  emptied (pop.Pick first.Global) = tt
-  emptied pop.Discard = tt
+  emptied = grind arith
 
   pub popped : (b : AfterPop) (t : ℕ) (d : Desk) → Fair (after_pop c b t d).place
   popped (pop.Pick f) t d = polling t d
@@ -270,9 +180,7 @@ module _ (c : Configuration) (i : ℕ) (me : Books) (s : Common) (budget : ℕ) 
   judged b h len = fair_if (len == 0) _ _ (emptied b) (fair_if ((len == 1) && (h.gap == 0)) _ _ tt tt)
 
   pub served : (b : AfterService) (d : Desk) → Fair (after_service b d)
-  served back.Mail d = fair_if (is_empty d.batch) _ _ tt tt
-  served back.Begin d = tt
-  served back.Finish d = tt
+  served = grind arith
 
   pub read : (applied : ℕ) (batch : List MailMessage) → Fair (after_message applied batch)
   read applied batch = fair_if (is_empty batch || nat_le 64 applied) _ _ tt tt
@@ -281,9 +189,7 @@ module _ (c : Configuration) (i : ℕ) (me : Books) (s : Common) (budget : ℕ) 
   closed = fair_if (i == 0) _ _ tt (fair_if (is_of_pool s i) _ _ (popping pop.Discard) tt)
 
   pub letting_go : (held asleep : Option ℕ) → Fair (after_letting_go held asleep)
-  letting_go None None = tt
-  letting_go None (Some z) = tt
-  letting_go (Some r) asleep = tt
+  letting_go = grind arith
 
   pub over : (t : ℕ) (home : Option ℕ) (d : Desk) → Fair (after_end t home d)
   over t None d = cancelling (cancels.Remove t) d d.letters
@@ -298,9 +204,7 @@ module _ (c : Configuration) (i : ℕ) (me : Books) (s : Common) (budget : ℕ) 
   waited stay.Closing n = tt
 
   pub waiting_on : (d : Desk) → d.spinner.budget ≡ budget → Fair (waits c i s d)
-  waiting_on d is =
-      fair_if (has_requests i s) _ _ (ringing stay.Turn d)
-      (fair_if (nat_lt 0 d.spinner.budget && not (is_near c d (next_due s i))) _ _ is tt)
+  waiting_on = grind arith
 
   pub searching : (d : Desk) → d.spinner.budget ≡ budget → Fair (first_search c i s d)
   searching d is = fair_if (not (is_of_pool s i)) _ _ (waiting_on d is) (fair_if (nat_le c.workers 1) _ _ tt (fair_if d.searching _ _ tt tt))
@@ -309,12 +213,7 @@ module _ (c : Configuration) (i : ℕ) (me : Books) (s : Common) (budget : ℕ) 
   looking j d is = fair_if (nat_lt (past_own i j) c.workers) _ _ tt (waiting_on d is)
 
   pub withdrawn : (came : Bool) (n : AfterWait) (d : Desk) → Fair (after_withdrawal c i me s came n d)
-  withdrawn came later.Begin d = tt
-  withdrawn came later.Serve d = tt
-  withdrawn true (later.MakeUp last) d = leaving d
-  withdrawn false (later.MakeUp last) d = returned last leave.Begin d
-  withdrawn true later.Search d = tt
-  withdrawn false later.Search d = tt
+  withdrawn = grind arith
 
   pub scanned : (y : Scan) → Fair (looks_at c i y)
   scanned y = fair_if (nat_lt (past_mine c i y).passed c.workers) _ _ tt tt
@@ -332,10 +231,7 @@ module _ (c : Configuration) (i : ℕ) (me : Books) (s : Common) (budget : ℕ) 
   serving_if false p q v one other = other
 
   pub permitted : (b : AfterPermit) (v : Service) → Fair (at.Service (after_permit b) v)
-  permitted (permit.Reap r) v = tt
-  permitted (permit.Reaped reaping.First) v = tt
-  permitted (permit.Reaped reaping.Last) v = tt
-  permitted (permit.Submit gate) v = tt
+  permitted = grind arith
 
   pub reaped : (it : Request) (o : Option Outcome) (b : AfterPermit) (v : Service) → Fair (at.Service (after_reap it o b) v)
   reaped it None b v = permitted b v

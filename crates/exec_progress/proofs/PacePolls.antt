@@ -1,5 +1,5 @@
 -- Picks, pushes, counts, polls and callbacks lead to calm places, and leave the spinner as it is.
-use Rattle.std.proofs.Common.{◌≡◌, ℕ, Bool, true, false, ◌-◌, ◌==◌, ◌&&◌, List, [], ◌∷◌, Option, Some, None, refl}
+use Rattle.std.proofs.Common.{◌≡◌, ℕ, Bool, true, false, ◌-◌, ◌==◌, ◌&&◌, List, [], ◌∷◌, Option, Some, None, refl, arith}
 use Rattle.std.specs.Prelude.{drop, nat_le}
 use Rattle.exec_outcomes.specs.{Accounts.is_durable}
 use Rattle.exec_words.specs.{Queue.{Queue, fit_of, head_of, tail_of}}
@@ -7,27 +7,24 @@ use Rattle.exec_machine.specs.{declared.{config.{Configuration.Configuration, Sc
 use Rattle.exec_machine.specs.declared.config.ScriptWord.TheVariants as script
 use Rattle.exec_machine.specs.declared.state.RequestPhase.TheVariants as phase
 use Rattle.exec_machine.specs.declared.state.Waiting.TheVariants as waiting
-use Rattle.exec_moves.specs.declared.handing.{AfterCallbacks.AfterCallbacks, AfterKick.AfterKick, AfterPop.AfterPop, AfterPush.AfterPush, AfterSend.AfterSend, AfterSignal.AfterSignal, First.First, Heard.Heard, InGlobal.InGlobal, InKick.InKick, InPop.InPop, InPush.InPush, InSignal.InSignal}
+use Rattle.exec_moves.specs.declared.handing.{AfterCallbacks.AfterCallbacks, AfterKick.AfterKick, AfterPop.AfterPop, AfterPush.AfterPush, AfterSend.AfterSend, AfterSignal.AfterSignal, Heard.Heard, InGlobal.InGlobal, InKick.InKick, InPop.InPop, InPush.InPush, InSignal.InSignal}
 use Rattle.exec_moves.specs.declared.place.{InCallbacks.InCallbacks, InPick.InPick, InPoll.InPoll}
-use Rattle.exec_moves.specs.{Callback.{Item, Item.{Answers, Completes, LetsGo, Nothing, Releases, Wakes}, flagged_by, has_callbacks, is_of_pool, item_next, tells_waiter, woken_by}, Global.has_any, Move.{move_act, move_callbacks, move_global, move_item, move_kick, move_look_at, move_pick, move_poll, move_pop, move_push, move_signal, move_wake}, Parts.has_others, Pick.{load_mirror, take_share}, Poll.{Sight, Sight.{Asks, HearsRequest, HearsTimer, Here}, act, act_asked, act_by, after_pend, await, drop_newest, heard_by, requeued_if, resume, sight_of, sight_of_act, sleep_for}, Pop.{load_pop_head, pops, same_head}, State.{Desk, Moved, Things, queue_of}, Told.{has_number, lets_go_all}}
+use Rattle.exec_moves.specs.{Callback.{Item, Item.{Answers, Completes, LetsGo, Nothing, Releases, Wakes}, flagged_by, has_callbacks, is_of_pool, item_next, tells_waiter, woken_by}, Global.has_any, Move.{move_act, move_callbacks, move_global, move_item, move_kick, move_look_at, move_pick, move_poll, move_pop, move_push, move_signal, move_wake}, Parts.has_others, Poll.{Sight, Sight.{Asks, HearsRequest, HearsTimer, Here}, act, act_asked, act_by, after_pend, await, drop_newest, heard_by, requeued_if, resume, sight_of, sight_of_act, sleep_for}, Pop.{load_pop_head, pops, same_head}, State.{Desk, Moved, Things, queue_of}, Told.{has_number, lets_go_all}}
 use Rattle.exec_moves.specs.declared.handing.AfterCancels.TheVariants as cancels
 use Rattle.exec_moves.specs.declared.handing.AfterPop.TheVariants as pop
 use Rattle.exec_moves.specs.declared.handing.AfterPush.TheVariants as push
 use Rattle.exec_moves.specs.declared.handing.AfterSend.TheVariants as send
-use Rattle.exec_moves.specs.declared.handing.First.TheVariants as first
 use Rattle.exec_moves.specs.declared.handing.Heard.TheVariants as heard
 use Rattle.exec_moves.specs.declared.handing.InGlobal.TheVariants as global
 use Rattle.exec_moves.specs.declared.handing.InKick.TheVariants as kicks
-use Rattle.exec_moves.specs.declared.handing.InPop.TheVariants as pop_at
 use Rattle.exec_moves.specs.declared.handing.InPush.TheVariants as pushes
 use Rattle.exec_moves.specs.declared.handing.InSignal.TheVariants as signals
 use Rattle.exec_moves.specs.declared.place.InCallbacks.TheVariants as callback
-use Rattle.exec_moves.specs.declared.place.InPick.TheVariants as pick
 use Rattle.exec_moves.specs.declared.place.InPoll.TheVariants as poll
 use Rattle.exec_moves.specs.declared.place.Place.TheVariants as at
 use Rattle.std.proofs.Common.{if◌then◌else◌}
 use Rattle.std.proofs.lemmas.Bool.{true≢false}
-use Rattle.exec_progress.proofs.PaceParts.{is_wild, Calm, begun, calling, cancelling, emptied, empty_look, fair_if, fitted, judged, kicked, over, picking, polled, polling, popping, posted, pushed, queued, signalled, spawned}
+use Rattle.exec_progress.proofs.PaceParts.{is_wild, Calm, begun, calling, cancelling, emptied, fair_if, fitted, judged, kicked, over, picking, polled, polling, popping, posted, pushed, queued, signalled, spawned}
 use Rattle.exec_moves.specs.{Parts.polls, Pop.after_pop}
 use Rattle.exec_settled.proofs.SettledPlaces.{told_by}
 use Rattle.exec_progress.specs.Owed.{quiet_items}
@@ -68,19 +65,8 @@ module _ (c : Configuration) (i : ℕ) (me : Books) (s : Common) (d : Desk) (x :
   pub picking_one : (t : ℕ) (e : Desk) → e.spinner ≡ d.spinner → Fine (polls t e)
   picking_one t e same = (same, polling c i me s n _ t e)
 
-  mirror : (f : First) (g : List ℕ) → Leads (load_mirror c f d g)
-  mirror f [] = (refl, empty_look c i me s n _ f)
-  mirror f (t ∷ g) = no
-
-  share : (f : First) (room held : ℕ) (own : Queue ℕ) (g : List ℕ) → Leads (take_share c f room held d (record { global = g; queue = own }))
-  share f room held own [] = (refl, empty_look c i me s n _ f)
-  share f room held own (t ∷ g) = picking_one t d refl
-
   pub in_pick : (p : InPick) → Leads (move_pick c i d x p)
-  in_pick pick.CountDown = move_if (nat_le d.countdown 1) _ _ no (refl, popping c i me s n _ (pop.Pick first.Own))
-  in_pick (pick.LoadMirror f) = mirror f x.global
-  in_pick (pick.LoadHead f) = no
-  in_pick (pick.TakeShare f room held) = share f room held (queue_of x i) x.global
+  in_pick = grind arith
 
   popped_one : (b : AfterPop) (t : ℕ) → Fine (after_pop c b t d)
   popped_one (pop.Pick f) t = picking_one t d refl
@@ -94,10 +80,7 @@ module _ (c : Configuration) (i : ℕ) (me : Books) (s : Common) (d : Desk) (x :
   head_loaded b q = (refl, judged c i me s n _ b (head_of q) (tail_of q - q.real))
 
   pub in_pop : (p : InPop) (b : AfterPop) → Leads (move_pop c i d x p b)
-  in_pop pop_at.PopAlone b = oldest b (queue_of x i) _ refl
-  in_pop pop_at.LoadPopHead b = head_loaded b (queue_of x i)
-  in_pop (pop_at.ExchangePop h) b = move_if (same_head h (head_of (queue_of x i))) _ _ (oldest b (queue_of x i) _ refl) (head_loaded b (queue_of x i))
-  in_pop pop_at.StorePop b = oldest b (queue_of x i) _ refl
+  in_pop = grind (arith, oldest, head_loaded, move_if)
 
   pub in_push : (p : InPush) (b : AfterPush) → Leads (move_push c i me s d x p b)
   in_push pushes.LoadPushHead b = (refl, fitted c i me s n _ b (head_of (queue_of x i)) (fit_of (queue_of x i)))
@@ -138,15 +121,10 @@ module _ (c : Configuration) (i : ℕ) (me : Books) (s : Common) (d : Desk) (x :
   on_request t it r _ h is = rw (h, is) (pended t (record it { waiting = waiting.Request r }) it.home)
 
   resumed : (t : ℕ) (it : Task) (w : Waiting) → it.waiting ≡ w → Leads (resume i t s d it)
-  resumed t it (waiting.Request r) h = on_request t it r _ h refl
-  resumed t it (waiting.Timer z) h = rw h (move_if (sleeper_of s z).fired _ _ no (pended t (record it { waiting = waiting.Timer z }) it.home))
-  resumed t it waiting.Woken h = rw h no
-  resumed t it w h = rw h (pended t (record it { waiting = w }) it.home)
+  resumed = grind (arith, on_request, move_if, no, pended)
 
   heard_of : (t r : ℕ) (b : Bool) (p : RequestPhase) → Leads (heard_by t r d x.answers b p)
-  heard_of t r true (phase.Resolved outcome) = no
-  heard_of t r true _ = no
-  heard_of t r false p = no
+  heard_of = grind arith
 
   seen : (t : ℕ) (b : AfterSend) (m : Moved Things) → Leads m → (y : Sight) → Leads (move_look_at c s d x t b m y)
   seen t b m one Here = one

@@ -1,12 +1,12 @@
 -- How far a scan has come: it passes no queue from which can be stolen, and comes to each of the pool.
-use Rattle.std.proofs.Common.{◌≡◌, ℕ, suc, ◌+◌, ◌-◌, ◌*◌, ◌%◌, ◌≤◌, ◌<◌, ◌==◌, Bool, true, false, not, ◌&&◌, ◌||◌, [], length, get_or, if◌then◌else◌, refl, sym, ap, subst, ◌∙◌, arith, inl, inr}
-use Rattle.std.specs.Prelude.{nat_lt, nat_le}
-use Rattle.std.specs.List.{list_any, range_with_len}
-use Rattle.std.proofs.lemmas.{Bool.{and_parts, and_from, cases_lt, eqb-true, eq-eqb, ltb-true, ltb-false, leb-true, true≢false}, List.{get_or_past, get_or_default}, List.FromFn.{length-range_with_len, get_or-range_with_len}, List.Folds.{Any-from_list_any, list_any_at}, Nat.{mod-mul-add, mod_below}}
+use Rattle.std.proofs.Common.{◌≡◌, ℕ, ◌+◌, ◌-◌, ◌*◌, ◌%◌, ◌≤◌, ◌<◌, ◌==◌, Bool, true, false, not, ◌&&◌, ◌||◌, [], length, get_or, if◌then◌else◌, refl, sym, ap, subst, ◌∙◌, arith, inl, inr}
+use Rattle.std.specs.Prelude.{nat_le}
+use Rattle.std.specs.List.{range_with_len}
+use Rattle.std.proofs.lemmas.{Bool.{and_parts, and_from, cases_lt, eqb-true, eq-eqb, true≢false}, List.{get_or_past, get_or_default}, List.FromFn.{length-range_with_len, get_or-range_with_len}, List.Folds.{Any-from_list_any, list_any_at}, Nat.{mod-mul-add, mod_below}}
 use Rattle.exec_words.specs.{declared.head.Head.Head, Queue.{Queue, head_of, tail_of}}
 use Rattle.exec_machine.specs.{declared.config.Configuration.Configuration, World.Common}
-use Rattle.exec_moves.specs.{declared.{idling.{InLook.InLook, InScan.InScan, Scan.Scan}, place.Place.Place}, Pop.same_head, Search.{begun_scan, from_of, judge_head, looks_at, past, scanning}, State.{Desk, Things, no_queue, queue_of}}
-use Rattle.exec_progress.{specs.{Effort.{comes_to, may_miss, scans_again, second_scan}, Owed.{can_steal, is_stealable}, Ranks.{passing, publish, rank}}, proofs.Idling.{IsIdling, chosen, in_look, in_scan}}
+use Rattle.exec_moves.specs.{declared.{idling.{InScan.InScan, Scan.Scan}, place.Place.Place}, Pop.same_head, Search.{begun_scan, from_of, judge_head, looks_at, past, scanning}, State.{Desk, Things, no_queue, queue_of}}
+use Rattle.exec_progress.{specs.{Effort.{comes_to, may_miss, scans_again, second_scan}, Owed.{can_steal, is_stealable}, Ranks.{passing, publish, rank}}, proofs.Idling.{IsIdling, chosen, in_scan}}
 
 -- HEADS
 
@@ -21,11 +21,7 @@ pub claimed_is_not : (q : Queue ℕ) → (q.gap == 0) ≡ false → is_stealable
 claimed_is_not q h = ap (λ b. b && nat_le 2 (tail_of q - q.real)) h
 
 pub few_are_not : (q : Queue ℕ) → length q.values < 2 → is_stealable q ≡ false
-few_are_not q h = by (is_stealable q) refl
-  where
-    by : (b : Bool) → is_stealable q ≡ b → b ≡ false
-    by false k = refl
-    by true k = let many : 2 ≤ tail_of q - q.real = leb-true 2 (tail_of q - q.real) (and_parts (q.gap == 0) (nat_le 2 (tail_of q - q.real)) k).1 in absurd (omega (arith, many, h))
+few_are_not = grind arith
 
 pub empty_is_not : (q : Queue ℕ) → q.values ≡ [] → is_stealable q ≡ false
 empty_is_not q none = few_are_not q (omega (arith, ap length none))
@@ -37,46 +33,24 @@ second_le c true b h = rw (h refl) (omega arith)
 module _ (c : Configuration) (x : Things) where
   -- where one is, something can be stolen
   pub can_at : (j : ℕ) → is_stealable (queue_of x j) ≡ true → can_steal x ≡ true
-  can_at j some = elim (cases_lt j (length x.queues)) [
-    | inl within ↦ list_any_at is_stealable x.queues j no_queue within some
-    | inr past ↦ absurd (true≢false (sym some ∙ ap is_stealable (get_or_past x.queues j no_queue (omega (arith, past)))))
-  ]
+  can_at = grind (arith, cases_lt, list_any_at, true≢false, get_or_past)
 
   abbrev is_next : ℕ → ℕ → Bool
   is_next start k = is_stealable (queue_of x ((start + k) % c.workers))
 
   pub comes_on : (start p : ℕ) → p < c.workers → comes_to c start p x ≡ (is_next start p || comes_to c start (p + 1) x)
-  comes_on start p h =
-      let more : c.workers - p ≡ suc (c.workers - (p + 1)) = omega (arith, h) in
-      ap (λ n. list_any (is_next start) (range_with_len p n)) more
+  comes_on = grind arith
 
   pub comes_no_more : (start p : ℕ) → c.workers ≤ p → comes_to c start p x ≡ false
-  comes_no_more start p h =
-      let none : c.workers - p ≡ 0 = omega (arith, h) in
-      ap (λ n. list_any (is_next start) (range_with_len p n)) none
+  comes_no_more = grind arith
 
   -- a queue is passed
   pub passes : (y : Scan) → is_stealable (queue_of x (from_of c y)) ≡ false → comes_to c y.start y.passed x ≡ comes_to c y.start (y.passed + 1) x
-  passes y none = elim (cases_lt y.passed c.workers) [
-    | inl within ↦ comes_on y.start y.passed within ∙ ap (λ b. b || comes_to c y.start (y.passed + 1) x) none
-    | inr over ↦ comes_no_more y.start y.passed (omega (arith, over)) ∙ sym (comes_no_more y.start (y.passed + 1) (omega (arith, over)))
-  ]
+  passes = grind arith
 
   -- whatever it is that is passed: it may be missed no less
   pub misses_more : (y : Scan) → may_miss c y true x ≡ true → may_miss c y false x ≡ true
-  misses_more y h = and_from _ _ (and_parts _ _ h).0 (by (comes_to c y.start (y.passed + 1) x) refl)
-    where
-      by : (b : Bool) → comes_to c y.start (y.passed + 1) x ≡ b → not b ≡ true
-      by false k = refl
-      by true k = elim (cases_lt y.passed c.workers) [
-        | inl within ↦ (let more = comes_on y.start y.passed within ∙ ap (λ b. is_next y.start y.passed || b) k in
-            absurd (true≢false (sym (and_parts _ _ h).1 ∙ ap not (more ∙ or_true (is_next y.start y.passed)))))
-        | inr over ↦ absurd (true≢false (sym k ∙ comes_no_more y.start (y.passed + 1) (omega (arith, over))))
-      ]
-        where
-          or_true : (b : Bool) → (b || true) ≡ true
-          or_true true = refl
-          or_true false = refl
+  misses_more = grind (arith, and_from, and_parts, cases_lt, comes_on, true≢false, comes_no_more)
 
   -- one that isn't stolen from is passed
   pub misses_same : (y : Scan) → is_stealable (queue_of x (from_of c y)) ≡ false → may_miss c y true x ≡ may_miss c y false x
@@ -131,17 +105,7 @@ module _ (c : Configuration) (i : ℕ) (s : Common) (e : Desk) (x : Things) (dry
   Within n again p = IsIdling i s p × (height p ≤ n + second_scan c again)
 
   scans_on : (y z : Scan) → y.passed ≤ z.passed → comes_to c z.start z.passed x ≡ comes_to c y.start y.passed x → Within (above y.passed) (may_miss c y true x) (scanning c z)
-  scans_on y z later same =
-      chosen (Within (above y.passed) (may_miss c y true x)) (nat_lt z.passed c.workers) (Place.Scan (InScan.LoadTheirHead z)) (Place.Look InLook.Publish)
-      (λ h. (
-        in_scan i s (InScan.LoadTheirHead z),
-        omega (arith, ltb-true z.passed c.workers h, later, second_le c (may_miss c z true x) (may_miss c y true x) (λ k. ap (λ b. can_steal x && not b) (sym same) ∙ k)),
-      ))
-      (λ h. (
-        in_look i s InLook.Publish,
-        let gone = sym same ∙ comes_no_more c x z.start z.passed (ltb-false z.passed c.workers h) in
-            omega (arith, second_le c (scans_again c e x (Place.Look InLook.Publish)) (may_miss c y true x) (λ k. ap (λ b. can_steal x && not b) gone ∙ and_from (can_steal x) true (and_parts _ _ k).1 refl)),
-      ))
+  scans_on = grind arith
 
   pub looks : (y : Scan) → Within (above y.passed) (may_miss c y true x) (looks_at c i y)
   looks y = by (from_of c y == i) refl

@@ -4,7 +4,8 @@ use Rattle.std.specs.Prelude.{nat_lt, is_some, slice_get}
 use Rattle.std.proofs.lemmas.{Bool.{false≢true, true≢false, eqb-true, eq-eqb}, Grind.get_or-set_at, List.get_or-set_other}
 use Rattle.exec_words.specs.{Word.asks_signal, declared.word.PureWord.PureWord}
 use Rattle.exec_machine.specs.{declared.{config.Configuration.Configuration, event.Event.TheVariants.{Rouse, Serve}}, Ranges.ring_size, Tests.is_awake, World.{Common, Own as Books, seat_of}}
-use Rattle.exec_moves.specs.{declared.place.{AfterPermit.AfterPermit, AfterService.AfterService, InService.InService, Place.Place, Reaping.Reaping, Service.Service}, Callback.is_full, Claim.{is_ring, latched, raised_if}, Credit.{one_if}, Heights.after_permit as height_after, Load.{has_mail, has_submissions}}
+use Rattle.exec_moves.specs.{declared.place.{AfterPermit.AfterPermit, AfterService.AfterService, InService.InService, Place.Place, Service.Service}, Callback.is_full, Claim.{is_ring, latched, raised_if}, Counts.{one_if}, Load.{has_mail, has_submissions}}
+use Rattle.exec_progress.specs.Heights.{after_permit as height_after}
 use Rattle.exec_moves.specs.{Serve.{after_passing, after_permit, left_by_first, worker_of}, State.{Desk, Things, WakePoll, does, gate_of, no_wake_poll, no_word, serves, wake_poll_of, word_of}, Thing.{with_gate, with_wake_poll, with_word}}
 use Rattle.exec_progress.specs.{Effort.{gates_left}, Going.{Falls, FallsAt, seen, stands}, Owed.{calling_back, has_stray, quiet_items, reaping, sampling, signals_itself, signs, signs_ahead, stage_in_service, stage_of_permit, stage_of_service, staging}, Ranks.{below_service, in_service}}
 use Rattle.exec_progress.proofs.{Tools.{Now, before, goes_down, keeps_turns, left}}
@@ -59,51 +60,27 @@ module _ (c : Configuration) (i : ℕ) (me : Books) (s : Common) (d : Desk) (x :
   -- WHAT FOLLOWS a permit that was given up
 
   stage_after : (v : Service) (b : AfterPermit) → stage_in_service (after_permit b) ≡ stage_of_permit b
-  stage_after v (AfterPermit.Reap r) = refl
-  stage_after v (AfterPermit.Reaped Reaping.First) = refl
-  stage_after v (AfterPermit.Reaped Reaping.Last) = refl
-  stage_after v (AfterPermit.Submit gate) = refl
+  stage_after = grind arith
 
   -- that stage is the one of each step of the way, whatever follows the service
   at_stage : (p q : InService) (back : AfterService) → stage_in_service q ≡ stage_in_service p → stage_of_service back q ≡ stage_of_service back p
-  at_stage p q AfterService.Mail same = same
-  at_stage p q AfterService.Begin same = refl
-  at_stage p q AfterService.Finish same = refl
+  at_stage = grind arith
 
   low_after : (full : Bool) (below : ℕ) (b : AfterPermit) → in_service full below (after_permit b) ≤ height_after below b
-  low_after full below (AfterPermit.Reap r) = omega arith
-  low_after full below (AfterPermit.Reaped Reaping.First) = omega arith
-  low_after full below (AfterPermit.Reaped Reaping.Last) = omega arith
-  low_after true below (AfterPermit.Submit gate) = omega arith
-  low_after false below (AfterPermit.Submit gate) = omega arith
+  low_after = grind arith
 
   gates_after : (file : ℕ) (v : Service) (b : AfterPermit) → gates_left i s (Place.Service (after_permit b) v) ≡ gates_left i s (Place.Service (InService.PassPermit file b) v)
-  gates_after file v (AfterPermit.Reap Reaping.First) = refl
-  gates_after file v (AfterPermit.Reap Reaping.Last) = refl
-  gates_after file v (AfterPermit.Reaped Reaping.First) = refl
-  gates_after file v (AfterPermit.Reaped Reaping.Last) = refl
-  gates_after file v (AfterPermit.Submit gate) = refl
+  gates_after = grind arith
 
   still_after : (v : Service) (b : AfterPermit) → signals_itself i (Place.Service (after_permit b) v) ≡ false
-  still_after v (AfterPermit.Reap r) = refl
-  still_after v (AfterPermit.Reaped Reaping.First) = refl
-  still_after v (AfterPermit.Reaped Reaping.Last) = refl
-  still_after v (AfterPermit.Submit gate) = refl
+  still_after = grind arith
 
   -- the gates of a step that carries what follows
   gates_of : (file j : ℕ) (v : Service) (b : AfterPermit) → gates_left i s (Place.Service (InService.Signal j b) v) ≡ gates_left i s (Place.Service (InService.PassPermit file b) v)
-  gates_of file j v (AfterPermit.Reap Reaping.First) = refl
-  gates_of file j v (AfterPermit.Reap Reaping.Last) = refl
-  gates_of file j v (AfterPermit.Reaped Reaping.First) = refl
-  gates_of file j v (AfterPermit.Reaped Reaping.Last) = refl
-  gates_of file j v (AfterPermit.Submit gate) = refl
+  gates_of = grind arith
 
   gates_in : (file j : ℕ) (ring : Bool) (v : Service) (b : AfterPermit) → gates_left i s (Place.Service (InService.Raise ring j b) v) ≡ gates_left i s (Place.Service (InService.PassPermit file b) v)
-  gates_in file j ring v (AfterPermit.Reap Reaping.First) = refl
-  gates_in file j ring v (AfterPermit.Reap Reaping.Last) = refl
-  gates_in file j ring v (AfterPermit.Reaped Reaping.First) = refl
-  gates_in file j ring v (AfterPermit.Reaped Reaping.Last) = refl
-  gates_in file j ring v (AfterPermit.Submit gate) = refl
+  gates_in = grind arith
 
   one_at_most : (b : Bool) → one_if b ≤ 1
   one_at_most true = omega arith
@@ -144,19 +121,7 @@ module _ (c : Configuration) (i : ℕ) (me : Books) (s : Common) (d : Desk) (x :
   -- worker j is signalled: the mail is as it was, and a latch comes only to who signals itself
   signalled : (j : ℕ) → i < length x.words → (has_mail d (get_or (slice_set x.words j (latched (word_of x j))) i no_word) ≡ has_mail d (word_of x i))
       × (one_if (get_or (slice_set x.words j (latched (word_of x j))) i no_word).latch ≤ one_if ((j == i) || (word_of x i).latch))
-  signalled j there = by (j == i) refl
-    where
-      w : PureWord
-      w = get_or (slice_set x.words j (latched (word_of x j))) i no_word
-
-      by : (same : Bool) → (j == i) ≡ same → (has_mail d w ≡ has_mail d (word_of x i)) × (one_if w.latch ≤ one_if ((j == i) || (word_of x i).latch))
-      by true h =
-          let own = eqb-true j i h in
-          let there_too : j < length x.words = omega (arith, own, there) in
-          (ap (has_mail d) (get_or-set_at x.words j i (latched (word_of x j)) no_word (sym own) there_too) ∙ ap (λ k. has_mail d (word_of x k)) own, rw h (one_at_most w.latch))
-      by false h =
-          let is = get_or-set_other x.words j i (latched (word_of x j)) no_word (λ e. true≢false (sym (eq-eqb j i (sym e)) ∙ h)) in
-          (ap (has_mail d) is, rw h (omega (arith, ap (λ (z : PureWord). one_if z.latch) is)))
+  signalled = grind (arith, eqb-true, get_or-set_at, one_at_most, get_or-set_other, true≢false, eq-eqb)
 
   pub signals_in_service : (j : ℕ) (b : AfterPermit) (v : Service) → FallsAt c i me s d x (Place.Service (InService.Signal j b) v)
   signals_in_service j b v it = by (asks_signal (word_of x j))

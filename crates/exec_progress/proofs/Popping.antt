@@ -1,11 +1,11 @@
 -- A pop of the own run queue.
-use Rattle.std.proofs.Common.{◌≡◌, ℕ, ◌+◌, ◌-◌, ◌<◌, ◌==◌, Bool, true, false, not, ◌&&◌, List, [], ◌∷◌, length, if◌then◌else◌, refl, sym, ap, subst, ◌∙◌, arith}
+use Rattle.std.proofs.Common.{◌≡◌, ℕ, ◌+◌, ◌-◌, ◌<◌, ◌==◌, Bool, true, false, not, ◌&&◌, List, [], ◌∷◌, length, if◌then◌else◌, refl, sym, ap, subst, arith}
 use Rattle.std.proofs.lemmas.Bool.{true≢false, eq-eqb, eqb-true}
 use Rattle.exec_words.specs.{declared.head.Head.Head, Queue.{Queue, head_of, popped, tail_of}}
 use Rattle.exec_machine.specs.{declared.config.Configuration.Configuration, Tests.is_empty, World.{Common, Own as Books}}
 use Rattle.exec_machine.specs.declared.event.Event.TheVariants as event
-use Rattle.exec_moves.specs.{declared.{handing.{AfterPop.AfterPop, First.First, InPop.InPop}, place.{InPick.InPick, Place.Place}}, Callback.is_of_pool, Credit.one_if, Move.move_pop, Parts.polls, Pop.{after_empty_pop, after_pop, judge_pop, load_pop_head, pops as pops_queue, same_head}, State.{Desk, Things, does, queue_of, turns}, Thing.{with_queue}}
-use Rattle.exec_progress.{specs.{Going.{Falls, FallsAt, seen, stands}, Ranks.{below_pop, exchange_pop, is_fresh, rank}}, proofs.{Steps.{Leads, none_there, polls_next, same_queue, leads}, Tools.{either}}}
+use Rattle.exec_moves.specs.{declared.{handing.{AfterPop.AfterPop, First.First, InPop.InPop}, place.{Place.Place}}, Callback.is_of_pool, Counts.one_if, Move.move_pop, Pop.{after_empty_pop, after_pop, judge_pop, load_pop_head, pops as pops_queue, same_head}, State.{Desk, Things, does, queue_of, turns}, Thing.{with_queue}}
+use Rattle.exec_progress.{specs.{Going.{Falls, FallsAt, seen, stands}, Ranks.{exchange_pop, is_fresh, rank}}, proofs.{Steps.{Leads, polls_next, same_queue, leads}, Tools.{either}}}
 
 -- a head that was loaded is the queue's
 same_again : (h : Head) → same_head h h ≡ true
@@ -39,39 +39,18 @@ module _ (c : Configuration) (i : ℕ) (me : Books) (s : Common) (d : Desk) (x :
 
   -- so where the queue is empty, both its signs are off
   no_queue : (queue_of x i).values ≡ [] → NoneAside → one_if (is_of_pool s i && not (is_empty (queue_of x i).values)) + one_if (is_of_pool s i && not (is_empty (queue_of x i).held)) ≡ 0
-  no_queue h k = omega (arith, off (queue_of x i).values h, off (queue_of x i).held k)
-    where
-      off : (vs : List ℕ) → vs ≡ [] → one_if (is_of_pool s i && not (is_empty vs)) ≡ 0
-      off vs is = ap (λ ts. one_if (is_of_pool s i && not (is_empty ts))) is ∙ none_there (is_of_pool s i)
+  no_queue = grind arith
 
   -- it is empty: the pick goes on
   empties : (p : InPop) (f : First) → (queue_of x i).values ≡ [] → NoneAside → Leads c i me s d x (Place.Pop p (AfterPop.Pick f)) (after_empty_pop c i (AfterPop.Pick f)) x
-  empties InPop.PopAlone First.Own h a =
-      leads c i me s d x (Place.Pop InPop.PopAlone (AfterPop.Pick First.Own)) (Place.Pick (InPick.LoadMirror First.Own)) x refl refl (omega arith) (omega arith)
-      (record { kept = λ k. omega (arith, k, no_queue h a); wanted_kept = λ k l. omega (arith, l); others_kept = λ k. omega arith; spun_kept = λ k. omega arith })
-  empties InPop.PopAlone First.Global h a =
-      leads c i me s d x (Place.Pop InPop.PopAlone (AfterPop.Pick First.Global)) Place.TakeRootFlag x refl refl (omega arith) (omega arith)
-      (record { kept = λ k. omega (arith, k, no_queue h a); wanted_kept = λ k l. omega (arith, l); others_kept = λ k. omega arith; spun_kept = λ k. omega arith })
-  empties InPop.LoadPopHead First.Own h a =
-      leads c i me s d x (Place.Pop InPop.LoadPopHead (AfterPop.Pick First.Own)) (Place.Pick (InPick.LoadMirror First.Own)) x refl refl (omega arith) (omega arith)
-      (record { kept = λ k. omega (arith, k, no_queue h a); wanted_kept = λ k l. omega (arith, l); others_kept = λ k. omega arith; spun_kept = λ k. omega arith })
-  empties InPop.LoadPopHead First.Global h a =
-      leads c i me s d x (Place.Pop InPop.LoadPopHead (AfterPop.Pick First.Global)) Place.TakeRootFlag x refl refl (omega arith) (omega arith)
-      (record { kept = λ k. omega (arith, k, no_queue h a); wanted_kept = λ k l. omega (arith, l); others_kept = λ k. omega arith; spun_kept = λ k. omega arith })
-  empties InPop.StorePop First.Own h a =
-      leads c i me s d x (Place.Pop InPop.StorePop (AfterPop.Pick First.Own)) (Place.Pick (InPick.LoadMirror First.Own)) x refl refl (omega arith) (omega arith)
-      (record { kept = λ k. omega (arith, k, no_queue h a); wanted_kept = λ k l. omega (arith, l); others_kept = λ k. omega arith; spun_kept = λ k. omega arith })
-  empties InPop.StorePop First.Global h a =
-      leads c i me s d x (Place.Pop InPop.StorePop (AfterPop.Pick First.Global)) Place.TakeRootFlag x refl refl (omega arith) (omega arith)
-      (record { kept = λ k. omega (arith, k, no_queue h a); wanted_kept = λ k l. omega (arith, l); others_kept = λ k. omega arith; spun_kept = λ k. omega arith })
-  empties (InPop.ExchangePop g) First.Own h a =
-      leads c i me s d x (Place.Pop (InPop.ExchangePop g) (AfterPop.Pick First.Own)) (Place.Pick (InPick.LoadMirror First.Own)) x
-      refl refl (omega (arith, exchange_high (below_pop c.workers (AfterPop.Pick First.Own)) (is_fresh x i g))) (omega arith)
-      (record { kept = λ k. omega (arith, k, no_queue h a); wanted_kept = λ k l. omega (arith, l); others_kept = λ k. omega arith; spun_kept = λ k. omega arith })
-  empties (InPop.ExchangePop g) First.Global h a =
-      leads c i me s d x (Place.Pop (InPop.ExchangePop g) (AfterPop.Pick First.Global)) Place.TakeRootFlag x
-      refl refl (omega (arith, exchange_high (below_pop c.workers (AfterPop.Pick First.Global)) (is_fresh x i g))) (omega arith)
-      (record { kept = λ k. omega (arith, k, no_queue h a); wanted_kept = λ k l. omega (arith, l); others_kept = λ k. omega arith; spun_kept = λ k. omega arith })
+  empties InPop.PopAlone First.Own h a = grind (arith, leads, no_queue)
+  empties InPop.PopAlone First.Global h a = grind (arith, leads, no_queue)
+  empties InPop.LoadPopHead First.Own h a = grind (arith, leads, no_queue)
+  empties InPop.LoadPopHead First.Global h a = grind (arith, leads, no_queue)
+  empties InPop.StorePop First.Own h a = grind (arith, leads, no_queue)
+  empties InPop.StorePop First.Global h a = grind (arith, leads, no_queue)
+  empties (InPop.ExchangePop g) First.Own h a = grind (arith, leads, exchange_high, no_queue)
+  empties (InPop.ExchangePop g) First.Global h a = grind (arith, leads, exchange_high, no_queue)
 
   -- it has something: that is loaded, and taken
   abbrev StoresOrExchanges : InPop → First → Type 0
@@ -80,38 +59,10 @@ module _ (c : Configuration) (i : ℕ) (me : Books) (s : Common) (d : Desk) (x :
       × Leads c i me s d x (Place.Pop p (AfterPop.Pick f)) (Place.Pop (InPop.ExchangePop (head_of (queue_of x i))) (AfterPop.Pick f)) x
 
   loaded : (f : First) → StoresOrExchanges InPop.LoadPopHead f
-  loaded First.Own = (
-    leads c i me s d x (Place.Pop InPop.LoadPopHead (AfterPop.Pick First.Own)) (Place.Pop InPop.StorePop (AfterPop.Pick First.Own)) x refl refl (omega arith) (omega arith)
-        (record { kept = λ k. omega (arith, k); wanted_kept = λ k l. omega (arith, l); others_kept = λ k. omega arith; spun_kept = λ k. omega arith }),
-    leads c i me s d x (Place.Pop InPop.LoadPopHead (AfterPop.Pick First.Own)) (Place.Pop (InPop.ExchangePop (head_of (queue_of x i))) (AfterPop.Pick First.Own)) x
-        refl refl (omega (arith, fresh_low (below_pop c.workers (AfterPop.Pick First.Own)) x)) (omega arith)
-        (record { kept = λ k. omega (arith, k); wanted_kept = λ k l. omega (arith, l); others_kept = λ k. omega arith; spun_kept = λ k. omega arith }),
-  )
-  loaded First.Global = (
-    leads c i me s d x (Place.Pop InPop.LoadPopHead (AfterPop.Pick First.Global)) (Place.Pop InPop.StorePop (AfterPop.Pick First.Global)) x refl refl (omega arith) (omega arith)
-        (record { kept = λ k. omega (arith, k); wanted_kept = λ k l. omega (arith, l); others_kept = λ k. omega arith; spun_kept = λ k. omega arith }),
-    leads c i me s d x (Place.Pop InPop.LoadPopHead (AfterPop.Pick First.Global)) (Place.Pop (InPop.ExchangePop (head_of (queue_of x i))) (AfterPop.Pick First.Global)) x
-        refl refl (omega (arith, fresh_low (below_pop c.workers (AfterPop.Pick First.Global)) x)) (omega arith)
-        (record { kept = λ k. omega (arith, k); wanted_kept = λ k l. omega (arith, l); others_kept = λ k. omega arith; spun_kept = λ k. omega arith }),
-  )
+  loaded = grind (arith, leads, fresh_low)
 
   lost : (g : Head) → is_fresh x i g ≡ false → (f : First) → StoresOrExchanges (InPop.ExchangePop g) f
-  lost g h First.Own = (
-    leads c i me s d x (Place.Pop (InPop.ExchangePop g) (AfterPop.Pick First.Own)) (Place.Pop InPop.StorePop (AfterPop.Pick First.Own)) x
-        refl refl (omega (arith, ap (exchange_pop (below_pop c.workers (AfterPop.Pick First.Own))) h)) (omega arith)
-        (record { kept = λ k. omega (arith, k); wanted_kept = λ k l. omega (arith, l); others_kept = λ k. omega arith; spun_kept = λ k. omega arith }),
-    leads c i me s d x (Place.Pop (InPop.ExchangePop g) (AfterPop.Pick First.Own)) (Place.Pop (InPop.ExchangePop (head_of (queue_of x i))) (AfterPop.Pick First.Own)) x
-        refl refl (omega (arith, ap (exchange_pop (below_pop c.workers (AfterPop.Pick First.Own))) h, fresh_low (below_pop c.workers (AfterPop.Pick First.Own)) x)) (omega arith)
-        (record { kept = λ k. omega (arith, k); wanted_kept = λ k l. omega (arith, l); others_kept = λ k. omega arith; spun_kept = λ k. omega arith }),
-  )
-  lost g h First.Global = (
-    leads c i me s d x (Place.Pop (InPop.ExchangePop g) (AfterPop.Pick First.Global)) (Place.Pop InPop.StorePop (AfterPop.Pick First.Global)) x
-        refl refl (omega (arith, ap (exchange_pop (below_pop c.workers (AfterPop.Pick First.Global))) h)) (omega arith)
-        (record { kept = λ k. omega (arith, k); wanted_kept = λ k l. omega (arith, l); others_kept = λ k. omega arith; spun_kept = λ k. omega arith }),
-    leads c i me s d x (Place.Pop (InPop.ExchangePop g) (AfterPop.Pick First.Global)) (Place.Pop (InPop.ExchangePop (head_of (queue_of x i))) (AfterPop.Pick First.Global)) x
-        refl refl (omega (arith, ap (exchange_pop (below_pop c.workers (AfterPop.Pick First.Global))) h, fresh_low (below_pop c.workers (AfterPop.Pick First.Global)) x)) (omega arith)
-        (record { kept = λ k. omega (arith, k); wanted_kept = λ k l. omega (arith, l); others_kept = λ k. omega arith; spun_kept = λ k. omega arith }),
-  )
+  lost = grind (arith, leads, fresh_low)
 
   -- by what was loaded
   judged : (p : InPop) (f : First) → NoneAside → StoresOrExchanges p f → Falls c i (seen (Place.Pop p (AfterPop.Pick f)) me) s (stands (Place.Pop p (AfterPop.Pick f)) d) x
@@ -133,14 +84,7 @@ module _ (c : Configuration) (i : ℕ) (me : Books) (s : Common) (d : Desk) (x :
 
   -- above all of a poll's beginning
   high : (p : InPop) (f : First) → 8 < rank c i (stands (Place.Pop p (AfterPop.Pick f)) d) x (Place.Pop p (AfterPop.Pick f))
-  high InPop.PopAlone First.Own = omega arith
-  high InPop.PopAlone First.Global = omega arith
-  high InPop.LoadPopHead First.Own = omega arith
-  high InPop.LoadPopHead First.Global = omega arith
-  high InPop.StorePop First.Own = omega arith
-  high InPop.StorePop First.Global = omega arith
-  high (InPop.ExchangePop g) First.Own = omega (arith, exchange_high (below_pop c.workers (AfterPop.Pick First.Own)) (is_fresh x i g))
-  high (InPop.ExchangePop g) First.Global = omega (arith, exchange_high (below_pop c.workers (AfterPop.Pick First.Global)) (is_fresh x i g))
+  high = grind arith
 
   -- the oldest leaves it
   takes : (p : InPop) (f : First) → NoneAside → Falls c i (seen (Place.Pop p (AfterPop.Pick f)) me) s (stands (Place.Pop p (AfterPop.Pick f)) d) x
@@ -149,14 +93,8 @@ module _ (c : Configuration) (i : ℕ) (me : Books) (s : Common) (d : Desk) (x :
     where
       by : (vs : List ℕ) → (queue_of x i).values ≡ vs → Falls c i (seen (Place.Pop p (AfterPop.Pick f)) me) s (stands (Place.Pop p (AfterPop.Pick f)) d) x
           (with_queue i x (pops_queue c i (AfterPop.Pick f) (stands (Place.Pop p (AfterPop.Pick f)) d) (queue_of x i)))
-      by [] h =
-          let e = stands (Place.Pop p (AfterPop.Pick f)) d in
-          subst (λ m. Falls c i (seen (Place.Pop p (AfterPop.Pick f)) me) s e x (with_queue i x m)) (sym (pops_none c i (AfterPop.Pick f) e (queue_of x i) h))
-          (subst (Leads c i me s d x (Place.Pop p (AfterPop.Pick f)) (after_empty_pop c i (AfterPop.Pick f))) (sym (same_queue i x)) (empties p f h a))
-      by (t ∷ ts) h =
-          let e = stands (Place.Pop p (AfterPop.Pick f)) d in
-          subst (λ m. Falls c i (seen (Place.Pop p (AfterPop.Pick f)) me) s e x (with_queue i x m)) (sym (pops_some c i (AfterPop.Pick f) e (queue_of x i) t ts h))
-          (polls_next c i me s d x (Place.Pop p (AfterPop.Pick f)) (with_queue i x (does event.Turn (polls t e) (popped (queue_of x i)))) t refl (high p f))
+      by [] h = grind (arith, pops_none, same_queue, empties)
+      by (t ∷ ts) h = grind (arith, pops_some, polls_next, high)
 
   exchanges : (g : Head) (f : First) → NoneAside → Falls c i (seen (Place.Pop (InPop.ExchangePop g) (AfterPop.Pick f)) me) s (stands (Place.Pop (InPop.ExchangePop g) (AfterPop.Pick f)) d) x
       (move_pop c i (stands (Place.Pop (InPop.ExchangePop g) (AfterPop.Pick f)) d) x (InPop.ExchangePop g) (AfterPop.Pick f))

@@ -1,10 +1,10 @@
 -- A push into the own run queue.
-use Rattle.std.proofs.Common.{◌≡◌, ℕ, ◌+◌, ◌==◌, ◌≤◌, ◌<◌, ◌++◌, Bool, true, false, not, ◌&&◌, if◌then◌else◌, List, [], ◌∷◌, length, Option, Some, None, is_some, refl, sym, ap, subst, ◌∙◌, arith}
+use Rattle.std.proofs.Common.{◌≡◌, ℕ, ◌+◌, ◌==◌, ◌≤◌, ◌<◌, ◌++◌, Bool, true, false, not, ◌&&◌, if◌then◌else◌, List, [], length, Option, None, is_some, refl, sym, ap, subst, ◌∙◌, arith}
 use Rattle.std.specs.Prelude.{nat_le}
 use Rattle.std.proofs.lemmas.{Bool.{eq-eqb, and_from}, List.{append-nil, get_or-set_same, set-get_or}}
 use Rattle.exec_words.specs.{declared.head.{Fit.Fit, Head.Head}, Queue.{Queue, fit_of, head_of, newest, overflowed, published}}
 use Rattle.exec_machine.specs.{declared.config.Configuration.Configuration, Tests.is_empty, World.{Common, Own as Books}}
-use Rattle.exec_moves.specs.{declared.{handing.{AfterKick.AfterKick, AfterPush.AfterPush, InGlobal.InGlobal, InKick.InKick, InPush.InPush}, place.Place.Place}, Callback.is_of_pool, Credit.one_if, Global.has_any, Parts.{after_push, has_others}, Pop.same_head, Push.{after_fit, in_hand}, State.{Desk, Moved, Things, no_queue, queue_of, turns}, Thing.{set_queue, with_queue}}
+use Rattle.exec_moves.specs.{declared.{handing.{AfterKick.AfterKick, AfterPush.AfterPush, InGlobal.InGlobal, InKick.InKick, InPush.InPush}, place.Place.Place}, Counts.one_if, Global.has_any, Parts.{after_push, has_others}, Pop.same_head, Push.{after_fit, in_hand}, State.{Desk, Moved, Things, no_queue, queue_of, turns}, Thing.{set_queue, with_queue}}
 use Rattle.exec_progress.{specs.{Effort.{is_short_push, stagings_of_push}, Going.{FallsAt, seen, stands}, Owed.{can_steal, stage_of_push}, Ranks.{below_push, is_fresh}}, proofs.{Arriving.{Reaches, push_to}, Between.{at_if, comes_global, comes_kick, comes_push, leaves_push, set_bounds}, Dropping.{kept_same}, Appending.longer, Hopping.{Gets, Kept, hops}, Overflowing.{flows_over, stores_oldest}, Tools.either}}
 
 -- a head is the same as itself
@@ -13,10 +13,7 @@ same_as_itself h = and_from (h.real == h.real) (h.gap == h.gap) (eq-eqb h.real h
 
 -- what was in the hand is in the queue
 one_pushed : (pool : Bool) (xs : List ℕ) (hand : Option ℕ) → one_if (pool && not (is_empty (xs ++ in_hand hand))) ≤ one_if (pool && not (is_empty xs)) + one_if (is_some hand)
-one_pushed false xs hand = omega arith
-one_pushed true (t ∷ xs) hand = omega arith
-one_pushed true [] (Some t) = omega arith
-one_pushed true [] None = omega arith
+one_pushed = grind arith
 
 at_most_one : (v : Bool) → one_if v ≤ 1
 at_most_one true = omega arith
@@ -67,24 +64,10 @@ module _ (c : Configuration) (i : ℕ) (me : Books) (s : Common) (d : Desk) (x :
   stored = record { hand = None; loot = d.loot; searching = d.searching; things = set_queue i x (published q (in_hand d.hand)) }
 
   stolen_then : (h : Option ℕ) → d.hand ≡ h → one_if (can_steal stored.things) ≤ one_if (can_steal x) + one_if (is_some d.hand)
-  stolen_then None is = omega (
-    arith,
-    ap (λ h. one_if (can_steal (set_queue i x (published q (in_hand h))))) is
-        ∙ ap (λ xs. one_if (can_steal (set_queue i x (record q { values = xs })))) (append-nil q.values) ∙ ap (λ y. one_if (can_steal y)) put_back,
-  )
-  stolen_then (Some t) is = omega (arith, at_most_one (can_steal stored.things), ap (λ h. one_if (is_some h)) is)
+  stolen_then = grind (arith, append-nil, put_back, at_most_one)
 
   store_kept : (len : ℕ) (b : AfterPush) → i < length x.queues → Kept c i me s d x (Place.Push (InPush.StoreValue len) b) stored
-  store_kept len b there =
-      let own = ap (λ (w : Queue ℕ). one_if (is_of_pool s i && not (is_empty w.values)) + one_if (is_of_pool s i && not (is_empty w.held))) (get_or-set_same x.queues i (published q (in_hand d.hand)) no_queue there) in
-      record {
-        queue_kept = omega (arith, own, longer (is_of_pool s i) q.values (in_hand d.hand));
-        global_kept = omega arith;
-        wants = λ h. omega (arith, h, own, one_pushed (is_of_pool s i) q.values d.hand, stolen_then d.hand refl);
-        poll = refl;
-        mail = refl;
-        latch = λ n. omega arith;
-      }
+  store_kept = grind (arith, get_or-set_same, longer, one_pushed, stolen_then)
 
   stores : (len : ℕ) (b : AfterPush) → FallsAt c i me s d x (Place.Push (InPush.StoreValue len) b)
   stores len b it quiet =

@@ -6,7 +6,7 @@ use Rattle.exec_words.specs.{Word.is_idle_at, declared.word.PureWord.PureWord}
 use Rattle.exec_words.specs.declared.word.WaitTarget.TheVariants as target
 use Rattle.exec_machine.specs.{declared.{config.Configuration.Configuration, event.Event.TheVariants.{Turn, Enter, Sleep}}, Deadlines.next_due, Ranges.ring_size, Tests.is_empty, World.{Common, Own as Books, seat_of}}
 use Rattle.exec_moves.specs.declared.place.AfterService.TheVariants as back
-use Rattle.exec_moves.specs.{declared.{idling.{AfterWait.AfterWait, InRingWait.InRingWait, Stay.Stay}, place.Place.Place}, Callback.{is_full, is_of_pool, serve}, Credit.{gates_from, one_if}, Load.{has_come, has_mail, has_submissions}, Serve.{Ring, entered}, State.{Desk, Moved, Own, Things, WakePoll, does, taken_in, turns, wake_poll_of, word_of}, Submit.{one_more, with_poll}, Thing.{aside, ring_of, with_ring, with_word}, Wait.{disarmed, enter_full_ring, enter_ring, goes_back, has_completion, sleep}}
+use Rattle.exec_moves.specs.{declared.{idling.{AfterWait.AfterWait, InRingWait.InRingWait, Stay.Stay}, place.Place.Place}, Callback.{is_full, is_of_pool, serve}, Counts.{gates_from, one_if}, Load.{has_come, has_mail, has_submissions}, Serve.{Ring, entered}, State.{Desk, Moved, Own, Things, WakePoll, does, taken_in, turns, wake_poll_of, word_of}, Submit.{one_more, with_poll}, Thing.{aside, ring_of, with_ring, with_word}, Wait.{disarmed, enter_full_ring, enter_ring, goes_back, has_completion, sleep}}
 use Rattle.exec_settled.specs.Given.{ends_in_search}
 use Rattle.exec_credit.proofs.Due.{due}
 use Rattle.exec_progress.{specs.{Going.{Falls, FallsAt, IsGoing, seen, stands}, Owed.has_stray}, proofs.{Entering.{busy_others, busy_pays, busy_spun, enter_gates, enter_keeps, enter_strays}, Tools.{Now, OwesLess, afterwards, before, either, gone, goes_down, keeps_turns, pays_want, taken_up}, WaitTools.{poll_is, rises, sinks, stirred, word_is}}}
@@ -28,11 +28,7 @@ data Stays (work busy polled full : Bool) : Type 0 where
   Unpolled : one_if (full && (not polled && not work)) ≡ 1 → Stays work busy polled full
 
 stays_for : (work busy polled full : Bool) → (work || (not polled && full)) ≡ true → Stays work busy polled full
-stays_for true false polled full h = Sure refl
-stays_for true true polled full h = Pressed refl
-stays_for false busy false true h = Unpolled refl
-stays_for false busy false false h = absurd (false≢true h)
-stays_for false busy true full h = absurd (false≢true h)
+stays_for = grind arith
 
 module _ (c : Configuration) (i : ℕ) (me : Books) (s : Common) (d : Desk) (x : Things) where
   abbrev w : PureWord
@@ -122,9 +118,7 @@ module _ (c : Configuration) (i : ℕ) (me : Books) (s : Common) (d : Desk) (x :
       by (Unpolled on) = gone c i a b refl (λ h k. omega (arith, k)) (λ h. omega (arith, on)) (omega (arith, on)) (λ h. omega arith)
 
   goes_on : ToMove InRingWait.TestRing (aside x (turns {T = Own} (at InRingWait.ArmRing) (stands (at InRingWait.TestRing) d) tt))
-  goes_on quiet =
-      sinks c i (was InRingWait.TestRing) (is InRingWait.TestRing (aside x (turns {T = Own} (at InRingWait.ArmRing) (stands (at InRingWait.TestRing) d) tt)))
-      refl refl (omega arith) (omega arith) (λ h. omega (arith, h)) (λ h k. omega (arith, k)) (λ h. omega arith) (λ h. omega arith)
+  goes_on = grind arith
 
   -- the wake poll goes into the submission queue
   polls : ToMove InRingWait.TestRing (aside x (turns {T = Own} (at InRingWait.ArmRing) (record (one_more (stands (at InRingWait.TestRing) d)) { polled = true }) tt))
@@ -153,11 +147,7 @@ module _ (c : Configuration) (i : ℕ) (me : Books) (s : Common) (d : Desk) (x :
   arming q = with_word i x (turns (at q) (stands (at InRingWait.ArmRing) d) armed)
 
   arms : i < length x.words → ToMove InRingWait.ArmRing (arming InRingWait.EnterRing)
-  arms there quiet =
-      let same = ap (λ v. one_if (has_mail d v)) (word_is i x armed there) in
-      let latch = ap (λ v. one_if v.latch) (word_is i x armed there) in
-      sinks c i (was InRingWait.ArmRing) (is InRingWait.ArmRing (arming InRingWait.EnterRing))
-      refl refl (omega arith) (omega arith) (λ h. omega (arith, h)) (λ h k. omega (arith, k, same)) (λ h. omega (arith, latch)) (λ h. omega (arith, latch))
+  arms = grind (arith, word_is, sinks)
 
   arms_in_vain : i < length x.words → is_idle_at w d.processed ≡ false → ToMove InRingWait.ArmRing (arming (InRingWait.DisarmRing AfterWait.Serve))
   arms_in_vain there h quiet =

@@ -1,10 +1,10 @@
 -- The scan: a queue after the other is passed, or some of its values are claimed, moved and published; and a turn begins anew for them.
-use Rattle.std.proofs.Common.{◌≡◌, ℕ, ◌+◌, ◌-◌, ◌≤◌, ◌<◌, ◌==◌, Bool, true, false, not, ◌&&◌, ◌++◌, List, [], ◌∷◌, length, if◌then◌else◌, refl, sym, ap, ◌∙◌, arith}
+use Rattle.std.proofs.Common.{◌≡◌, ℕ, ◌+◌, ◌-◌, ◌≤◌, ◌<◌, ◌==◌, Bool, true, false, not, ◌&&◌, ◌++◌, List, [], ◌∷◌, if◌then◌else◌, refl, sym, ap, ◌∙◌, arith}
 use Rattle.std.specs.Prelude.{nat_lt, take, slice_set}
 use Rattle.std.proofs.lemmas.{Bool.{and_from, eq-eqb, le-leb, ltb-true, ne_eqb}, List.get_or-set_same}
 use Rattle.exec_words.specs.{declared.head.Head.Head, Head.{claim_at, claimed_head, is_spent}, Queue.{Queue, claimed, head_of, published, released, room_of, tail_of}}
 use Rattle.exec_machine.specs.{declared.config.Configuration.Configuration, Tests.is_empty, World.{Common, Own as Books}}
-use Rattle.exec_moves.specs.{declared.{idling.{InLook.InLook, InScan.InScan, Scan.Scan}, place.Place.Place}, Callback.is_of_pool, Credit.one_if, Load.leaves_for_turn, Pop.same_head, Search.{begun_scan, from_of, half, judge_head, looks_at, past, stirred, store_moved}, State.{Desk, Things, no_queue, queue_of, turns}, Thing.{set_queue, with_queue}}
+use Rattle.exec_moves.specs.{declared.{idling.{InLook.InLook, InScan.InScan, Scan.Scan}, place.Place.Place}, Callback.is_of_pool, Counts.one_if, Load.leaves_for_turn, Pop.same_head, Search.{begun_scan, from_of, half, judge_head, looks_at, past, stirred, store_moved}, State.{Desk, Things, no_queue, queue_of, turns}, Thing.{set_queue, with_queue}}
 use Rattle.exec_progress.{specs.{Effort.{may_miss, second_scan}, Going.{Falls, FallsAt, IsGoing, seen, stands}, Owed.{can_steal, is_stealable}, Ranks.{is_fresh, passing, release}}, proofs.{Idling.{FallsTo, chosen, desk_to, height, idles, in_look, in_scan, loads}, Passing.{Within, above, can_at, comes_to_all, empty_is_not, few_are_not, judged, looks, looks_past, misses_more, misses_same, same_parts, same_refl, second_le}, Tools.{afterwards, before}, Upward.{for_sure, leaves_is_top, to_turn}}}
 
 none_behind : (xs ys : List ℕ) → is_empty ys ≡ false → is_empty (xs ++ ys) ≡ false
@@ -13,10 +13,7 @@ none_behind (n ∷ xs) ys some = refl
 
 -- with too little room the own queue, which is dry, is claimed
 narrow : (q : Queue ℕ) → q.values ≡ [] → is_spent (tail_of q) ≡ false → nat_lt (room_of q) half ≡ true → (q.gap == 0) ≡ false
-narrow q none unspent h =
-    let room : room_of q ≡ 256 - (tail_of q - q.real) - q.gap = ap (λ b. if b then 0 else 256 - (tail_of q - q.real) - q.gap) unspent in
-    let little = ltb-true (room_of q) half h in
-    ne_eqb q.gap 0 (λ e. absurd (omega (arith, room, little, e, ap length none)))
+narrow = grind arith
 
 release_low : (b : Bool) → release b ≤ 5
 release_low true = omega arith
@@ -82,19 +79,10 @@ module _ (c : Configuration) (i : ℕ) (me : Books) (s : Common) (d : Desk) (x :
       -- a head with more values than there can be is stale
       stale : (b : Bool) → is_fresh x (from_of c y) h ≡ b → nat_lt 256 (tail_of q - h.real) ≡ true
           → height c i me s d x (desk_to c i me s d x (at (InScan.LoadTheirHead y)) d.rng d.loot d.searching) x (at (InScan.LoadTheirHead y)) < here p
-      stale true is much =
-          let same = (same_parts h (head_of q) is).0 in
-          let most = it.within (from_of c y) in
-          let many = ltb-true 256 (tail_of q - h.real) much in
-          absurd (omega (arith, same, most, many))
-      stale false is much = rw is (omega (arith, second_le c (may_miss c y true x) (may_miss c y false x) (misses_more c x y)))
+      stale = grind (arith, same_parts, ltb-true, second_le, misses_more)
 
       passed : (b : Bool) → is_fresh x (from_of c y) h ≡ b → nat_lt (tail_of q - h.real) 2 ≡ true → passing c.workers y.passed + second_scan c (may_miss c y false x) < here p
-      passed true is few =
-          let same = (same_parts h (head_of q) is).0 in
-          let less = ltb-true (tail_of q - h.real) 2 few in
-          rw (is, misses_same c x y (few_are_not q (omega (arith, same, less)))) (omega arith)
-      passed false is few = rw is (omega arith)
+      passed = grind (arith, same_parts, ltb-true, misses_same, few_are_not)
 
       claims : (b : Bool) → is_fresh x (from_of c y) h ≡ b
           → height c i me s d x (desk_to c i me s d x (at (InScan.ClaimHalf y h (tail_of q))) d.rng d.loot d.searching) x (at (InScan.ClaimHalf y h (tail_of q))) < here p

@@ -1,11 +1,11 @@
 -- Who seeks holds a search count: so it is in the first state, and each step keeps it.
-use Rattle.std.proofs.Common.{◌≡◌, ℕ, ◌*◌, ◌+◌, ◌==◌, ◌&&◌, ◌||◌, Bool, true, false, List, [], ◌∷◌, set, if◌then◌else◌, refl, sym, inl, inr}
+use Rattle.std.proofs.Common.{◌≡◌, ℕ, ◌*◌, ◌+◌, ◌==◌, ◌&&◌, ◌||◌, Bool, true, false, List, [], ◌∷◌, set, if◌then◌else◌, refl, arith}
 use Rattle.std.proofs.lemmas.Bool.{cases_Bool, false≢true}
 use Rattle.std.specs.Prelude.{nat_le, nat_lt, not}
 use Rattle.exec_words.specs.{Head.is_stealable_at, Queue.{head_of, tail_of}, Word.{asks_signal, is_idle_at}}
-use Rattle.exec_machine.specs.{declared.{config.Configuration.Configuration, step.Action.Action}, Callers.is_enabled, Deadlines.next_due, Progress.Plan, Ranges.ring_size, World.{Common, Own as Books, own_of, request_of}}
+use Rattle.exec_machine.specs.{declared.{config.Configuration.Configuration, step.Action.Action}, Deadlines.next_due, Progress.Plan, Ranges.ring_size, World.{Common, Own as Books, own_of, request_of}}
 use Rattle.exec_machine.specs.declared.step.Action.TheVariants as action
-use Rattle.exec_moves.specs.{declared.{idling.{AfterWait.AfterWait, InRingWait.InRingWait, Stay.Stay}, place.Place.Place}, Callback.{has_requests, is_full, is_of_pool}, Load.{has_come, has_mail, has_submissions, is_ready, leaves_for_turn}, Look.{look_at_mirror, looks_from, past_own}, Move.{move, move_at}, Plays.{Playing, by_action, by_step, desk_of, first_desk, first_playing, newcomers}, Pop.same_head, Search.from_of, Serve.Ring, State.{Desk, Moved, Things, queue_of, word_of}, Thing.ring_of, Wait.{after_wait, enter_ring, has_completion, is_near, noting_sleep, waits}}
+use Rattle.exec_moves.specs.{declared.{idling.{AfterWait.AfterWait, InRingWait.InRingWait, Stay.Stay}, place.Place.Place}, Callback.{is_full, is_of_pool}, Load.{has_come, has_mail, has_submissions, is_ready, leaves_for_turn}, Look.{look_at_mirror, looks_from, past_own}, Move.{move, move_at}, Plays.{Playing, by_action, by_step, desk_of, first_desk, first_playing, newcomers}, Pop.same_head, Search.from_of, Serve.Ring, State.{Desk, Moved, Things, queue_of, word_of}, Thing.ring_of, Wait.{after_wait, enter_ring, has_completion, noting_sleep, waits}}
 use Rattle.exec_moves.specs.declared.handing.InSignal.TheVariants as signals
 use Rattle.exec_moves.specs.declared.idling.AfterWait.TheVariants as later
 use Rattle.exec_moves.specs.declared.idling.InLook.TheVariants as look
@@ -50,28 +50,16 @@ module _ (c : Configuration) (i : ℕ) (me : Books) (s : Common) (d : Desk) (x :
 
   -- nobody seeks at a calm place to which no test led
   off : (quiet : Bool) (q : Place) → has_tested q ≡ false → Calm (is_of_pool s i) d.spinner.budget quiet q → (b : Bool) → Counts b q
-  off quiet (at.Scan p) out calm b = no (sym out)
-  off quiet (at.Look p) out calm b = no (sym out)
-  off quiet (at.RingWait p stay.Turn) out calm b = no (sym out)
-  off quiet (at.RingWait (ring.DisarmRing n) stay.Closing) out calm b = absurd calm
-  off quiet (at.Withdraw later.Search) out calm b = no (sym out)
-  off quiet _ out calm b = no
+  off = grind arith
 
   leaves : Counts held (leaves_for_turn c i me s d)
   leaves = off true _ (calm_untested _ (calm_leaves_for_turn c i me s d)) (leaving c i me s d.spinner.budget true d) held
 
   waiting : (e : Desk) → Counts held (waits c i s e)
-  waiting e =
-      split (Counts held) (has_requests i s) _ _ (split (Counts held) (is_full (ring_size c) e) _ _ no no)
-      (split (Counts held) (nat_lt 0 e.spinner.budget && not (is_near c e (next_due s i))) _ _ no no)
+  waiting = grind arith
 
   looking : (j : ℕ) → Counts held (looks_from c i s j d)
   looking j = split (Counts held) (nat_lt (past_own i j) c.workers) _ _ no (waiting d)
-
-  -- with a search count a scan begins at once, and without one none has to be returned
-  sought : (b : Bool) → Counts b (if b then at.Scan scan.LoadScanHead else at.Search search.LoadSearchCount)
-  sought true = λ h. refl
-  sought false = no
 
   published : (b : Bool) → Counts b (at.Look (if b then look.ReturnLookCount else look.LookAtMirror false))
   published true = λ h. refl
@@ -82,9 +70,7 @@ module _ (c : Configuration) (i : ℕ) (me : Books) (s : Common) (d : Desk) (x :
   mirrored last (t ∷ ts) = no
 
   waited : (y : Stay) (n : AfterWait) (b : Bool) → Counts b (at.Withdraw n) → Counts b (after_wait s i y n)
-  waited stay.Turn later.Serve b on = split (Counts b) (is_of_pool s i) _ _ no no
-  waited stay.Turn _ b on = split (Counts b) (is_of_pool s i) _ _ on no
-  waited stay.Closing n b on = no
+  waited = grind arith
 
   ringing : (y : Stay) (b : Bool) (p q : InRingWait) → Counts held (at.RingWait p y) → Counts held (at.RingWait q y) → Counts held (at.RingWait (if b then p else q) y)
   ringing y b = split (λ p. Counts held (at.RingWait p y)) b
@@ -103,9 +89,7 @@ module _ (c : Configuration) (i : ℕ) (me : Books) (s : Common) (d : Desk) (x :
   in_place (at.Signal signals.SetLatch j b) here on =
       split (Counts held) (asks_signal (word_of x j)) _ _ no (off true _ (away_signal c i me s b d) (signalled c i me s d.spinner.budget true b d (λ h. refl)) held)
   in_place (at.TestForWork f) here on = split Leads (is_ready me f d || has_submissions c me) _ _ leaves no
-  in_place at.ReadClock here on =
-      split Leads (has_come s.clock (next_due s i)) _ _ leaves
-      (split (Counts held) (not (is_of_pool s i)) _ _ (waiting (record d { read = s.clock })) (split (Counts held) (nat_le c.workers 1) _ _ no (sought held)))
+  in_place at.ReadClock here on = grind arith
   in_place (at.Search search.LoadSearchCount) here on = split (Counts held) (nat_le c.workers (2 * x.idle.count)) _ _ no no
   in_place (at.Search search.AddSearchCount) here on = λ h. refl
   in_place (at.Scan (scan.ClaimHalf y h tail)) here on = split Leads (same_head h (head_of (queue_of x (from_of c y)))) _ _ (λ k. on refl) (λ k. on refl)
@@ -156,7 +140,4 @@ module _ (c : Configuration) (x : Playing) (counts : HaveCounts c x) where
 
   -- a step that is not enabled changes nothing
   pub counts_then : (a : Action) → HaveCounts c (by_step c x a).next
-  counts_then a = elim (cases_Bool (is_enabled x.world.common a)) [
-    | inl may ↦ rw may (by_any a)
-    | inr off ↦ rw off counts
-  ]
+  counts_then = grind (arith, cases_Bool, by_any, off)

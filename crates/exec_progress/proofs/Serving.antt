@@ -1,12 +1,13 @@
 -- A service, but for its permits and its staging.
-use Rattle.std.proofs.Common.{◌≡◌, ℕ, ◌+◌, ◌≤◌, ◌<◌, ◌==◌, Bool, true, false, not, ◌&&◌, ◌||◌, List, [], ◌∷◌, if◌then◌else◌, Option, Some, None, refl, ap, arith}
+use Rattle.std.proofs.Common.{◌≡◌, ℕ, ◌+◌, ◌≤◌, ◌<◌, Bool, true, false, not, ◌&&◌, List, [], ◌∷◌, if◌then◌else◌, Option, Some, None, refl, ap, arith}
 use Rattle.std.specs.{Prelude.{nat_le, is_some}, List.list_any}
 use Rattle.std.proofs.lemmas.{Bool.{false≢true, true≢false, and_from, and_parts, leb-true, le-leb}, List.get_or-set_same}
 use Rattle.exec_words.specs.{declared.word.PureWord.PureWord}
 use Rattle.exec_machine.specs.{declared.{config.Configuration.Configuration, event.Event.TheVariants.{Fire}, state.{Request.Request}}, Deadlines.is_due, Ranges.ring_size, Tests.{is_asleep, is_empty, is_open}, World.{Common, Own as Books, seat_of, sleeper_of}}
-use Rattle.exec_moves.specs.{declared.place.{AfterService.AfterService, InMail.InMail, InService.InService, Place.Place, Reaping.Reaping, Service.Service}, Callback.is_full, Credit.{one_if}, Load.{has_mail, has_submissions}, Heights.advance_wheel as advance_wheel_height}
+use Rattle.exec_moves.specs.{declared.place.{AfterService.AfterService, InMail.InMail, InService.InService, Place.Place, Reaping.Reaping, Service.Service}, Callback.is_full, Counts.{one_if}, Load.{has_mail, has_submissions}}
+use Rattle.exec_progress.specs.Heights.{advance_wheel as advance_wheel_height}
 use Rattle.exec_moves.specs.{Serve.{advance_wheel, after_service, enter_last, first_to_fire, reap, sample, unlatched}, Told.told_of_fire, State.{Desk, Moved, Own, Things, WakePoll, does, serves, dropped, is_dropped, no_wake_poll, no_word, wake_poll_of, word_of}, Thing.{aside, set_wake_poll, set_word, with_ring, with_word}}
-use Rattle.exec_progress.specs.{Effort.is_short, Going.{Falls, FallsAt, is_of_closing, seen, stands}, Owed.{is_any_due, is_any_to_fire}, Ranks.{below_service, submits}}
+use Rattle.exec_progress.specs.{Effort.is_short, Going.{Falls, FallsAt, is_of_closing, seen, stands}, Owed.{is_any_due, is_any_to_fire}, Ranks.{submits}}
 use Rattle.exec_credit.proofs.First.{sleepers}
 use Rattle.exec_progress.proofs.{Entering.{busy_pays, enter_gates, enter_keeps}, Tools.{KeepsTurns, OwesNoMore, afterwards, before, either, gates, goes_down, keeps_turns, pays_want, rest}}
 
@@ -20,32 +21,20 @@ drops_end None = refl
 drops_end (Some behind) = rw (le-leb 0 behind (omega arith)) refl
 
 drops : (full polled work : Bool) (e : Option ℕ) → one_if (full && (not (polled && not (is_dropped [] e)) && not work)) + one_if (is_some (if is_dropped [] e then None else e)) ≤ one_if (full && (not polled && not work)) + one_if (is_some e)
-drops full true work None = omega arith
-drops full false work None = omega arith
-drops full polled work (Some behind) = omega (arith, one_at_most (full && (not (polled && not (is_dropped [] (Some behind))) && not work)), drops_end (Some behind))
+drops = grind arith
 
 -- WHAT IS DUE by a moment is so by a later one
 
 pub any_more : {X : Type 0} (f g : X → Bool) → ((z : X) → f z ≡ true → g z ≡ true) → (zs : List X) → one_if (list_any f zs) ≤ one_if (list_any g zs)
 any_more f g more [] = omega arith
-any_more f g more (z ∷ zs) = by (f z) refl (any_more f g more zs)
-  where
-    by : (b : Bool) → f z ≡ b → one_if (list_any f zs) ≤ one_if (list_any g zs) → one_if (b || list_any f zs) ≤ one_if (g z || list_any g zs)
-    by true h le = rw (more z h) (omega arith)
-    by false h le = beside (g z) le
-      where
-        beside : (a : Bool) → one_if (list_any f zs) ≤ one_if (list_any g zs) → one_if (list_any f zs) ≤ one_if (a || list_any g zs)
-        beside true le = one_at_most (list_any f zs)
-        beside false le = le
+any_more f g more (z ∷ zs) = grind (arith, one_at_most, any_more f g more zs)
 
 module _ (i m k : ℕ) (le : m ≤ k) where
   later : (until : ℕ) → nat_le until m ≡ true → nat_le until k ≡ true
   later until h = le-leb until k (omega (arith, le, leb-true until m h))
 
   due_later : (r : Request) (t : Option ℕ) → is_due i m (record r { timer = t }) ≡ true → is_due i k (record r { timer = t }) ≡ true
-  due_later r None h = h
-  due_later r (Some until) h =
-      let parts = and_parts (r.worker == i) (nat_le until m) h in and_from (r.worker == i) (nat_le until k) parts.0 (later until parts.1)
+  due_later = grind arith
 
   pub due_by : (s : Common) → one_if (is_any_due i m s) ≤ one_if (is_any_due i k s)
   due_by s = any_more (is_due i m) (is_due i k) (λ r. due_later r r.timer) s.requests
@@ -131,20 +120,8 @@ module _ (c : Configuration) (i : ℕ) (me : Books) (s : Common) (d : Desk) (x :
 
       by : (b : AfterService) → is_of_closing (at b) ≡ false → Falls c i (seen (at b) me) s (stands (at b) d) x (moved b)
       by AfterService.Finish h = absurd (true≢false h)
-      by AfterService.Mail h =
-          goes (at AfterService.Mail) (moved AfterService.Mail) refl refl (omega (arith, lower (is_full (ring_size c) d) (below_service c.workers AfterService.Mail))) (omega arith) (keeps (at AfterService.Mail) (moved AfterService.Mail) (record {
-            kept = λ k. omega (arith, k);
-            wanted_kept = λ k l. omega (arith, l);
-            others_kept = λ k. omega arith;
-            spun_kept = λ k. omega arith;
-          }))
-      by AfterService.Begin h =
-          goes (at AfterService.Begin) (moved AfterService.Begin) refl refl (omega (arith, lower (is_full (ring_size c) d) (below_service c.workers AfterService.Begin))) (omega arith) (keeps (at AfterService.Begin) (moved AfterService.Begin) (record {
-            kept = λ k. omega (arith, k);
-            wanted_kept = λ k l. omega (arith, l);
-            others_kept = λ k. omega arith;
-            spun_kept = λ k. omega arith;
-          }))
+      by AfterService.Mail h = grind arith
+      by AfterService.Begin h = grind arith
 
   pub advances : (v : Service) → FallsAt c i me s d x (Place.Service InService.AdvanceWheel v)
   advances v = advances_by v v.back
@@ -283,12 +260,7 @@ module _ (c : Configuration) (i : ℕ) (me : Books) (s : Common) (d : Desk) (x :
             spun_kept = λ k. omega arith;
           }))))
       by None none AfterService.Begin h = λ g. rw none (
-          goes (at AfterService.Begin) (to AfterService.Begin (after_service AfterService.Begin d)) refl refl (omega arith) (omega arith) (keeps (at AfterService.Begin) (to AfterService.Begin (after_service AfterService.Begin d)) (record {
-            kept = λ k. omega (arith, k);
-            wanted_kept = λ k l. omega (arith, l);
-            others_kept = λ k. omega arith;
-            spun_kept = λ k. omega arith;
-          })))
+          grind arith)
 
   pub ends_service : (v : Service) → FallsAt c i me s d x (Place.Service InService.EndService v)
   ends_service v it = ends_by it.is_still_open v v.back it

@@ -3,7 +3,7 @@ use Rattle.std.proofs.Common.{◌≡◌, ℕ, ◌<◌, ◌≤◌, Bool, true, fa
 use Rattle.std.proofs.lemmas.{Bool.{false≢true}, List.set-get_or}
 use Rattle.exec_machine.specs.{declared.config.Configuration.Configuration, Choice.Choice.Plain, World.{Common, Own as Books}, Text.is_quiet}
 use Rattle.exec_machine.specs.declared.event.Event.TheVariants as event
-use Rattle.exec_moves.specs.{declared.{handing.{AfterPop.AfterPop, InPop.InPop}, place.Place.Place}, Credit.one_if, Parts.polls, State.{Desk, Moved, Things, no_queue, queue_of}, Thing.set_queue}
+use Rattle.exec_moves.specs.{declared.{handing.{AfterPop.AfterPop, InPop.InPop}, place.Place.Place}, Counts.one_if, Parts.polls, State.{Desk, Moved, Things, no_queue, queue_of}, Thing.set_queue}
 use Rattle.exec_progress.{specs.{Effort.is_short, Going.{Falls, seen, stands}, Ranks.rank}, proofs.Tools.{KeepsTurns, Now, afterwards, before, comes_to_poll, gates, goes_down, keeps_turns, left, rest}}
 
 -- a queue that is put back as it was

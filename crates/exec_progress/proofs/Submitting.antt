@@ -4,7 +4,7 @@ use Rattle.std.proofs.lemmas.{Bool.{true≢false, false≢true, and_left, and_ri
 use Rattle.std.specs.Prelude.{nat_lt, nat_le, is_some, slice_get}
 use Rattle.std.specs.List.{list_any}
 use Rattle.exec_machine.specs.{declared.{config.Configuration.Configuration, event.Event.TheVariants.{Serve, Busy}}, Ranges.ring_size, Tests.{is_empty, set_seat}, World.{Own as Books, Common, no_seat, seat_of}}
-use Rattle.exec_moves.specs.{declared.place.{AfterService.AfterService, InService.InService, Place.Place, Reaping.Reaping, Service.Service}, Callback.{has_requests, is_full, is_of_pool}, Credit.{count_numbered, gates_from, one_if}, Load.{has_submissions, may_stage}, Serve.{Ring, after_staging, enters, first_numbered}, State.{Desk, Moved, Things, WakePoll, does, no_wake_poll, queue_of, taken_in, wake_poll_of, gate_of}, Submit.{Due, due_next, first_due, granted_at, next_gate, one_more, or_else, request_due, stage_next, staging_due, submits as to_gate, try_gate, waits_at, Due.{Expires, Enrols, AtGate, Flushes, Cancels, Stages, Ends}}, Move.move_submit, Thing.{ring_of, set_wake_poll, with_gate, with_ring}}
+use Rattle.exec_moves.specs.{declared.place.{AfterService.AfterService, InService.InService, Place.Place, Reaping.Reaping, Service.Service}, Callback.{has_requests, is_full, is_of_pool}, Counts.{count_numbered, gates_from, one_if}, Load.{has_submissions, may_stage}, Serve.{Ring, after_staging, enters, first_numbered}, State.{Desk, Moved, Things, WakePoll, does, no_wake_poll, queue_of, taken_in, wake_poll_of, gate_of}, Submit.{Due, due_next, first_due, granted_at, next_gate, one_more, or_else, request_due, stage_next, staging_due, submits as to_gate, try_gate, waits_at, Due.{Expires, Enrols, AtGate, Flushes, Cancels, Stages, Ends}}, Move.move_submit, Thing.{ring_of, set_wake_poll, with_gate, with_ring}}
 use Rattle.exec_credit.proofs.{Entering.{due_same, gates_same}, First.deadlines, Rings.{no_first, polled_of, full_of}}
 use Rattle.exec_progress.{specs.{Effort.is_short, Going.{Falls, FallsAt, IsGoing, closes_service, seen, stands}, Owed.is_any_due, Ranks.{below_service, submits as rank_of_submit}}, proofs.{Tools.{Now, afterwards, ahead_at, before, either, gates, goes_down, keeps_turns, left, others_at, pays_want, rest, spun, wanted_at}}}
 
@@ -42,10 +42,7 @@ fewer_past waits from g n (x ∷ xs) is = by (nat_le from n && waits n) refl is 
     by : (b : Bool) → (nat_le from n && waits n) ≡ b → (if b then Some n else first_numbered (from_on waits from) (suc n) xs) ≡ Some g
         → (first_numbered (from_on waits from) (suc n) xs ≡ Some g → count_numbered (from_on waits (suc g)) (suc n) xs + 1 ≤ count_numbered (from_on waits from) (suc n) xs)
         → one_if (nat_le (suc g) n && waits n) + count_numbered (from_on waits (suc g)) (suc n) xs + 1 ≤ one_if (nat_le from n && waits n) + count_numbered (from_on waits from) (suc n) xs
-    by true h is later =
-        let same : n ≡ g = cc in
-        omega (arith, past (omega (arith, same)), ap one_if h, fewer_from waits from g (omega (arith, same, leb-true from n (and_parts (nat_le from n) (waits n) h).0)) (suc n) xs)
-    by false h is later = omega (arith, past (omega (arith, numbered_from (from_on waits from) (suc n) xs g is)), ap one_if h, later is)
+    by = grind (arith, fewer_from, leb-true, and_parts, numbered_from)
 
 -- BITS OF WHAT IS KNOWN
 
@@ -84,16 +81,7 @@ uses c i a b long later less gates_kept kept others spins =
 
 -- that a wake was kept for the wake poll pays for its end
 flush_taken : (polled : Bool) (w : WakePoll) → 2 * one_if (taken_in polled w).kept + one_if (is_some (taken_in polled w).ended) ≤ 2 * one_if w.kept + one_if (is_some w.ended)
-flush_taken false w = omega arith
-flush_taken true w = by w.armed w.kept w.last w.ended
-  where
-    by : (on kept last : Bool) (ended : Option ℕ) → let y = record w { armed = on; kept = kept; last = last; ended = ended } in
-        2 * one_if (taken_in true y).kept + one_if (is_some (taken_in true y).ended) ≤ 2 * one_if kept + one_if (is_some ended)
-    by true kept last ended = omega arith
-    by false kept last (Some n) = omega arith
-    by false false last None = omega arith
-    by false true true None = omega arith
-    by false true false None = omega arith
+flush_taken = grind arith
 
 one_at_most : (b : Bool) → one_if b ≤ 1
 one_at_most true = omega arith
@@ -121,13 +109,7 @@ module _ (c : Configuration) (i : ℕ) (me : Books) (s : Common) (d : Desk) (x :
   passes_by b file = with_gate file x (does {T = List ℕ} Serve (to_gate (via b) (suc file) (stands (here b) d)) (gate_of x file))
 
   looks_on : (file : ℕ) → gates_from i (suc file) s + 1 ≤ gates_from i gate s → (b : AfterService) → closes_service b ≡ false → FallsBy b (passes_by b file)
-  looks_on file less AfterService.Mail h quiet =
-      sinks c i (first AfterService.Mail) (later AfterService.Mail (passes_by AfterService.Mail file))
-      refl refl (omega (arith, less)) (omega arith) (λ h. omega (arith, h)) (λ h. omega (arith, h)) (omega arith) (omega arith)
-  looks_on file less AfterService.Begin h quiet =
-      sinks c i (first AfterService.Begin) (later AfterService.Begin (passes_by AfterService.Begin file))
-      refl refl (omega (arith, less)) (omega arith) (λ h. omega (arith, h)) (λ h. omega (arith, h)) (omega arith) (omega arith)
-  looks_on file less AfterService.Finish h quiet = absurd (true≢false h)
+  looks_on = grind arith
 
   at_gate : (file : ℕ) → next_gate i gate s ≡ Some file → (b : AfterService) → closes_service b ≡ false
       → FallsBy b (with_gate file x (try_gate i (via b) file s (stands (here b) d) (gate_of x file)))
@@ -150,29 +132,8 @@ module _ (c : Configuration) (i : ℕ) (me : Books) (s : Common) (d : Desk) (x :
   ends_by : AllDone → (polled : Bool) (entries : ℕ) → polled ≡ true → (off : Bool) (b : AfterService) → closes_service b ≡ false
       → FallsBy b (ends_to b InService.EnterLast (record d { polled = polled; entries = entries }) off)
       × FallsBy b (ends_to b (InService.Reap Reaping.Last) (record d { polled = polled; entries = entries }) off)
-  ends_by it polled entries on off AfterService.Mail h =
-      let idle = ap (λ v. one_if (v && not (seat_of s i).busy)) it.0 in
-      let unpressed = ap (λ v. one_if (v && (seat_of s i).busy)) it.0 in
-      let undue = ap one_if it.1 in
-      let unpolled = ap one_if (and_off (is_full (ring_size c) (record d { polled = polled; entries = entries })) (not polled && not (has_submissions c me))
-      (ap (λ v. not v && not (has_submissions c me)) on)) in
-      let kept = ap (λ (w : WakePoll). one_if w.kept) (put_back (wake_poll_of x i) it.2) in
-      let ended = ap (λ (w : WakePoll). one_if (is_some w.ended)) (put_back (wake_poll_of x i) it.2) in
-      let low = submit_low (below_service c.workers AfterService.Mail) (is_full (ring_size c) d) in (
-        λ quiet. sinks c i (first AfterService.Mail) (later AfterService.Mail (ends_to AfterService.Mail InService.EnterLast (record d { polled = polled; entries = entries }) off))
-            refl refl (omega (arith, low)) (omega arith) (λ k. omega (arith, k, idle, undue)) (λ k. omega (arith, k)) (omega (arith, unpressed, unpolled, kept, ended)) (omega arith),
-        λ quiet. sinks c i (first AfterService.Mail) (later AfterService.Mail (ends_to AfterService.Mail (InService.Reap Reaping.Last) (record d { polled = polled; entries = entries }) off))
-            refl refl (omega (arith, low)) (omega arith) (λ k. omega (arith, k, idle, undue)) (λ k. omega (arith, k)) (omega (arith, unpressed, unpolled, kept, ended)) (omega arith),
-      )
-  ends_by it polled entries on off AfterService.Begin h =
-      let kept = ap (λ (w : WakePoll). one_if w.kept) (put_back (wake_poll_of x i) it.2) in
-      let ended = ap (λ (w : WakePoll). one_if (is_some w.ended)) (put_back (wake_poll_of x i) it.2) in
-      let low = submit_low (below_service c.workers AfterService.Begin) (is_full (ring_size c) d) in (
-        λ quiet. sinks c i (first AfterService.Begin) (later AfterService.Begin (ends_to AfterService.Begin InService.EnterLast (record d { polled = polled; entries = entries }) off))
-            refl refl (omega (arith, low)) (omega arith) (λ k. omega (arith, k)) (λ k. omega (arith, k)) (omega (arith, kept, ended)) (omega arith),
-        λ quiet. sinks c i (first AfterService.Begin) (later AfterService.Begin (ends_to AfterService.Begin (InService.Reap Reaping.Last) (record d { polled = polled; entries = entries }) off))
-            refl refl (omega (arith, low)) (omega arith) (λ k. omega (arith, k)) (λ k. omega (arith, k)) (omega (arith, kept, ended)) (omega arith),
-      )
+  ends_by it polled entries on off AfterService.Mail h = grind (arith, and_off, put_back, submit_low, sinks)
+  ends_by it polled entries on off AfterService.Begin h = grind (arith, put_back, submit_low, sinks)
   ends_by it polled entries on off AfterService.Finish h = absurd (true≢false h)
 
   ends_at : AllDone → (polled : Bool) (entries : ℕ) → polled ≡ true → (b : AfterService) → closes_service b ≡ false
@@ -338,9 +299,7 @@ module _ (c : Configuration) (i : ℕ) (me : Books) (s : Common) (d : Desk) (x :
           (λ room. by (slice_get me.ready 0) refl) (λ full. last (and_right (not (is_empty me.ready)) (nat_lt me.in_flight (ring_size c)) full))
         where
           last : may_stage c me ≡ false → DoesNext b Ends
-          last unstaged =
-              let none_new = or_from (not (is_empty me.unenrolled)) (not (is_empty me.cancels)) (no_first me.unenrolled new) (no_first me.cancels none) in
-              ends_staging (or_from (not (is_empty me.unenrolled) || not (is_empty me.cancels)) (may_stage c me) none_new unstaged, undue, it.poll_there) unflushed b h
+          last = grind (arith, or_from, no_first, ends_staging)
 
           by : (o : Option ℕ) → slice_get me.ready 0 ≡ o → DoesNext b (or_else o Stages Ends)
           by (Some r) is = λ q. absurd (false≢true q)

@@ -1,16 +1,13 @@
 -- How a step is shown to cost some of what a worker has left.
-use Rattle.std.proofs.Common.{◌≡◌, ℕ, zero, suc, ◌+◌, ◌*◌, ◌≤◌, ◌<◌, Bool, true, false, ◌&&◌, ◌||◌, if◌then◌else◌, refl, ap, ◌∙◌, arith, ◌⊎◌, inl, inr}
+use Rattle.std.proofs.Common.{◌≡◌, ℕ, zero, suc, ◌+◌, ◌*◌, ◌≤◌, ◌<◌, Bool, true, false, ◌&&◌, ◌||◌, if◌then◌else◌, refl, ap, arith, ◌⊎◌, inl, inr}
 use Rattle.std.specs.Prelude.{nat_lt}
 use Rattle.exec_machine.specs.{declared.config.Configuration.Configuration, After.{own_after, common_after}, World.{Common, Own as Books}}
-use Rattle.exec_moves.specs.{declared.{handing.AfterLeave.AfterLeave, place.{InPoll.InPoll, Place.Place}}, Credit.{gates_from, one_if}, Parts.polls, State.{Desk, Moved, Things}}
+use Rattle.exec_moves.specs.{declared.{place.{Place.Place}}, Counts.{gates_from, one_if}, Parts.polls, State.{Desk, Moved, Things}}
 use Rattle.exec_progress.specs.{Effort.{is_short, steps_left, turn_left, whole_spin, whole_turn}, Going.{Falls, seen, stands}, Owed.{ahead, all_others, others, spins_of_signs, spins_owed, turns_owed, wanted}, Ranks.rank}
 
 -- with one more reason for it
 pub or_more : (g a b : Bool) → one_if (g && b) ≤ one_if (g && (a || b))
-or_more true true true = omega arith
-or_more true true false = omega arith
-or_more true false b = omega arith
-or_more false a b = omega arith
+or_more = grind arith
 
 -- a state of worker i, as far as it counts
 pub record Now : Type 0 where
@@ -97,9 +94,6 @@ module _ (c : Configuration) (i : ℕ) where
   long_left : (a : Now) → is_short a.d.place ≡ false → left a ≡ rest a + whole_turn c i a.s * turns a + whole_spin c * spins a
   long_left a long = ap (λ b. if b then rank c i a.d a.x a.d.place else rest a + whole_turn c i a.s * turns a + whole_spin c * spins a) long
 
-  short_left : (a : Now) → is_short a.d.place ≡ true → left a ≡ rank c i a.d a.x a.d.place
-  short_left a short = ap (λ b. if b then rank c i a.d a.x a.d.place else rest a + whole_turn c i a.s * turns a + whole_spin c * spins a) short
-
   whole_kept : (a b : Now) → gates b ≤ gates a → whole_turn c i b.s ≤ whole_turn c i a.s
   whole_kept a b h = omega (arith, h)
 
@@ -123,23 +117,11 @@ module _ (c : Configuration) (i : ℕ) where
       rw (long_left a it.long_before, long_left b it.long_after) (omega (arith, it.less, wt, mul_suc (whole_spin c) (spins b), ws))
 
   pub to_poll : (a b : Now) → ToPoll a b → left b < left a
-  to_poll a b it = by (is_short a.d.place) refl
-    where
-      by : (v : Bool) → is_short a.d.place ≡ v → left b < left a
-      by true short = rw (short_left a short, short_left b it.short_after) it.less
-      by false long = rw (long_left a long, short_left b it.short_after) (omega (arith, it.less))
+  to_poll = grind arith
 
   -- a task is to be polled next, which a search count is returned before
   pub comes_to_poll : (a b : Now) (t : ℕ) (e : Desk) → b.d ≡ polls t e → 8 < rank c i a.d a.x a.d.place → left b < left a
-  comes_to_poll a b t e is high = by e.searching refl
-    where
-      at_place : (p : Place) → b.d.place ≡ p → is_short p ≡ true → rank c i b.d b.x p ≤ 8 → left b < left a
-      at_place p there short low =
-          to_poll a b (record { short_after = ap is_short there ∙ short; less = rw there (omega (arith, low, high)) })
-
-      by : (v : Bool) → e.searching ≡ v → left b < left a
-      by true h = at_place (Place.LeaveSearch (AfterLeave.Poll t)) (ap (λ (f : Desk). f.place) is ∙ ap (λ v. if v then Place.LeaveSearch (AfterLeave.Poll t) else Place.Poll t InPoll.BeginPoll) h) refl (omega arith)
-      by false h = at_place (Place.Poll t InPoll.BeginPoll) (ap (λ (f : Desk). f.place) is ∙ ap (λ v. if v then Place.LeaveSearch (AfterLeave.Poll t) else Place.Poll t InPoll.BeginPoll) h) refl (omega arith)
+  comes_to_poll = grind (arith, to_poll)
 
   -- WHAT IS OWED
 
@@ -218,9 +200,7 @@ module _ (c : Configuration) (i : ℕ) where
       → 1 ≤ wanted_at a + others_at a → (ahead_at b ≡ 0 → spun b ≤ spun a) → OwesLess a b
   gone a b none wants less some fewer = elim (by_ahead (ahead_at b)) [
     | inr on ↦ taken_by (by_ahead (wanted_at a)) on
-    | inl off ↦ (let owed = all_owed a none in
-        let left = all_owed b off in
-        record { turn_paid = omega (arith, owed.0, left.0, wants_kept (wanted_at a) (wanted_at b) (wants off), less off); spins_kept = omega (arith, owed.1, left.1, fewer off) })
+    | inl off ↦ grind (arith, all_owed, wants_kept)
   ]
     where
       taken_by : (wanted_at a ≡ 0) ⊎ (1 ≤ wanted_at a) → 1 ≤ ahead_at b → OwesLess a b

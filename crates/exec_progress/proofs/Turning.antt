@@ -1,11 +1,10 @@
 -- The beginning of a turn, its picks, and the root flag.
-use Rattle.std.proofs.Common.{◌≡◌, ℕ, ◌-◌, Bool, true, false, not, ◌&&◌, List, [], ◌∷◌, length, if◌then◌else◌, refl, sym, ap, subst, arith}
+use Rattle.std.proofs.Common.{◌≡◌, ℕ, ◌-◌, Bool, true, false, List, [], ◌∷◌, if◌then◌else◌, refl, arith}
 use Rattle.std.specs.Prelude.{nat_le}
-use Rattle.exec_words.specs.Queue.{room_of}
-use Rattle.exec_machine.specs.{declared.config.Configuration.Configuration, Tests.is_empty, World.{Common, Own as Books}}
-use Rattle.exec_moves.specs.{declared.{handing.{AfterCallbacks.AfterCallbacks, AfterPop.AfterPop, First.First, InPop.InPop}, place.{InCallbacks.InCallbacks, InPick.InPick, Place.Place}}, Callback.is_of_pool, Credit.one_if, Parts.{first_pop, has_others, polls}, Pick.{after_empty_look, one_pick_less, picks_of_turn, take_share}, State.{Desk, Own, Things, queue_of, turns as turning, does}, Thing.{aside, with_queues}}
+use Rattle.exec_machine.specs.{declared.config.Configuration.Configuration, World.{Common, Own as Books}}
+use Rattle.exec_moves.specs.{declared.{handing.{AfterCallbacks.AfterCallbacks, AfterPop.AfterPop, First.First, InPop.InPop}, place.{InCallbacks.InCallbacks, InPick.InPick, Place.Place}}, Callback.is_of_pool, Parts.{first_pop, has_others, polls}, Pick.{after_empty_look, one_pick_less, picks_of_turn}, State.{Desk, Own, Things, turns as turning, does}, Thing.{aside}}
 use Rattle.exec_machine.specs.declared.event.Event.TheVariants as event
-use Rattle.exec_progress.{specs.{Going.{Falls, FallsAt, seen, stands}}, proofs.{Steps.{Leads, leads, none_there, polls_next, pop_either, same_queue, sinks}, Tools.{afterwards, before, comes_to_poll, either, goes_down, keeps_turns}}}
+use Rattle.exec_progress.{specs.{Going.{Falls, FallsAt, seen, stands}}, proofs.{Steps.{Leads, leads, none_there, pop_either, same_queue, sinks}, Tools.{afterwards, before, comes_to_poll, either}}}
 
 module _ (c : Configuration) (i : ℕ) (me : Books) (s : Common) (d : Desk) (x : Things) where
   begin_to : (q : Place) → (q ≡ Place.Pick InPick.CountDown) → Falls c i (seen Place.BeginTurn me) s (stands Place.BeginTurn d) x (aside x (turning {T = Own} q (record (stands Place.BeginTurn d) { picks = picks_of_turn }) tt))
@@ -13,30 +12,11 @@ module _ (c : Configuration) (i : ℕ) (me : Books) (s : Common) (d : Desk) (x :
       let m = aside x (turning {T = Own} (Place.Pick InPick.CountDown) (record (stands Place.BeginTurn d) { picks = picks_of_turn }) tt) in
       let a = before me s d x Place.BeginTurn in
       let b = afterwards c i me s Place.BeginTurn m in
-      goes_down c i a b (record {
-        long_before = refl;
-        long_after = refl;
-        less = omega arith;
-        gates_kept = omega arith;
-        owes = keeps_turns c i a b (record { kept = λ h. omega (arith, h); wanted_kept = λ h k. omega (arith, k); others_kept = λ h. omega arith; spun_kept = λ h. omega arith });
-      }))
+      grind arith)
 
   -- a dedicated worker has no queue
   begin_alone : is_of_pool s i ≡ false → Falls c i (seen Place.BeginTurn me) s (stands Place.BeginTurn d) x (aside x (turning {T = Own} Place.TakeRootFlag (record (stands Place.BeginTurn d) { picks = picks_of_turn }) tt))
-  begin_alone h quiet =
-      let m = aside x (turning {T = Own} Place.TakeRootFlag (record (stands Place.BeginTurn d) { picks = picks_of_turn }) tt) in
-      let a = before me s d x Place.BeginTurn in
-      let b = afterwards c i me s Place.BeginTurn m in
-      let no_queue = ap (λ v. one_if (v && not (is_empty (queue_of x i).values))) h in
-      let none_aside = ap (λ v. one_if (v && not (is_empty (queue_of x i).held))) h in
-      let no_global = ap (λ v. one_if (v && not (is_empty x.global))) h in
-      goes_down c i a b (record {
-        long_before = refl;
-        long_after = refl;
-        less = omega arith;
-        gates_kept = omega arith;
-        owes = keeps_turns c i a b (record { kept = λ k. omega (arith, k, no_queue, none_aside, no_global); wanted_kept = λ k l. omega (arith, l); others_kept = λ k. omega arith; spun_kept = λ k. omega arith });
-      })
+  begin_alone = grind arith
 
   pub begins : FallsAt c i me s d x Place.BeginTurn
   begins it = by (is_of_pool s i) refl
@@ -56,13 +36,7 @@ module _ (c : Configuration) (i : ℕ) (me : Books) (s : Common) (d : Desk) (x :
       let m = aside x (turning {T = Own} (Place.Callbacks InCallbacks.TakeBatch AfterCallbacks.Look) (stands Place.TakeRootFlag d) tt) in
       let a = before me s d x Place.TakeRootFlag in
       let b = afterwards c i me s Place.TakeRootFlag m in
-      goes_down c i a b (record {
-        long_before = refl;
-        long_after = refl;
-        less = omega arith;
-        gates_kept = omega arith;
-        owes = keeps_turns c i a b (record { kept = λ k. omega (arith, k, ap one_if h); wanted_kept = λ k l. omega (arith, l); others_kept = λ k. omega arith; spun_kept = λ k. omega arith });
-      }))
+      grind arith)
 
   -- THE PICKS
 
@@ -94,9 +68,7 @@ module _ (c : Configuration) (i : ℕ) (me : Books) (s : Common) (d : Desk) (x :
 
   -- nothing is in the global queue
   bare_mirror : (f : First) → Leads c i me s d bare (Place.Pick (InPick.LoadMirror f)) (after_empty_look c f) bare
-  bare_mirror First.Own =
-      leads c i me s d bare (Place.Pick (InPick.LoadMirror First.Own)) Place.TakeRootFlag bare refl refl (omega arith) (omega arith)
-      (record { kept = λ k. omega (arith, k, none_there (is_of_pool s i)); wanted_kept = λ k l. omega (arith, l); others_kept = λ k. omega arith; spun_kept = λ k. omega arith })
+  bare_mirror First.Own = grind (arith, leads, none_there)
   bare_mirror First.Global =
       pop_either (λ q. Leads c i me s d bare (Place.Pick (InPick.LoadMirror First.Global)) q bare) (AfterPop.Pick First.Global) (has_others c)
       (leads c i me s d bare (Place.Pick (InPick.LoadMirror First.Global)) (Place.Pop InPop.LoadPopHead (AfterPop.Pick First.Global)) bare refl refl (omega arith) (omega arith)
@@ -105,9 +77,7 @@ module _ (c : Configuration) (i : ℕ) (me : Books) (s : Common) (d : Desk) (x :
       (record { kept = λ k. omega (arith, k, none_there (is_of_pool s i)); wanted_kept = λ k l. omega (arith, l); others_kept = λ k. omega arith; spun_kept = λ k. omega arith }))
 
   bare_share : (f : First) (room held : ℕ) → Leads c i me s d bare (Place.Pick (InPick.TakeShare f room held)) (after_empty_look c f) bare
-  bare_share First.Own room held =
-      leads c i me s d bare (Place.Pick (InPick.TakeShare First.Own room held)) Place.TakeRootFlag bare refl refl (omega arith) (omega arith)
-      (record { kept = λ k. omega (arith, k, none_there (is_of_pool s i)); wanted_kept = λ k l. omega (arith, l); others_kept = λ k. omega arith; spun_kept = λ k. omega arith })
+  bare_share First.Own room held = grind (arith, leads, none_there)
   bare_share First.Global room held =
       pop_either (λ q. Leads c i me s d bare (Place.Pick (InPick.TakeShare First.Global room held)) q bare) (AfterPop.Pick First.Global) (has_others c)
       (leads c i me s d bare (Place.Pick (InPick.TakeShare First.Global room held)) (Place.Pop InPop.LoadPopHead (AfterPop.Pick First.Global)) bare refl refl (omega arith) (omega arith)
@@ -116,46 +86,21 @@ module _ (c : Configuration) (i : ℕ) (me : Books) (s : Common) (d : Desk) (x :
       (record { kept = λ k. omega (arith, k, none_there (is_of_pool s i)); wanted_kept = λ k l. omega (arith, l); others_kept = λ k. omega arith; spun_kept = λ k. omega arith }))
 
   full_mirror : (f : First) (t : ℕ) (global : List ℕ) → Leads c i me s d (full t global) (Place.Pick (InPick.LoadMirror f)) (Place.Pick (InPick.LoadHead f)) (full t global)
-  full_mirror First.Own t global =
-      leads c i me s d (full t global) (Place.Pick (InPick.LoadMirror First.Own)) (Place.Pick (InPick.LoadHead First.Own)) (full t global) refl refl (omega arith) (omega arith)
-      (record { kept = λ k. omega (arith, k); wanted_kept = λ k l. omega (arith, l); others_kept = λ k. omega arith; spun_kept = λ k. omega arith })
-  full_mirror First.Global t global =
-      leads c i me s d (full t global) (Place.Pick (InPick.LoadMirror First.Global)) (Place.Pick (InPick.LoadHead First.Global)) (full t global) refl refl (omega arith) (omega arith)
-      (record { kept = λ k. omega (arith, k); wanted_kept = λ k l. omega (arith, l); others_kept = λ k. omega arith; spun_kept = λ k. omega arith })
+  full_mirror = grind arith
 
   loads_mirror : (f : First) (global : List ℕ) → FallsAt c i me s d (record x { global = global }) (Place.Pick (InPick.LoadMirror f))
   loads_mirror f [] it = bare_mirror f
   loads_mirror f (t ∷ global) it = full_mirror f t global
 
   head_loaded : (f : First) (room held : ℕ) → Leads c i me s d x (Place.Pick (InPick.LoadHead f)) (Place.Pick (InPick.TakeShare f room held)) x
-  head_loaded First.Own room held =
-      leads c i me s d x (Place.Pick (InPick.LoadHead First.Own)) (Place.Pick (InPick.TakeShare First.Own room held)) x refl refl (omega arith) (omega arith)
-      (record { kept = λ k. omega (arith, k); wanted_kept = λ k l. omega (arith, l); others_kept = λ k. omega arith; spun_kept = λ k. omega arith })
-  head_loaded First.Global room held =
-      leads c i me s d x (Place.Pick (InPick.LoadHead First.Global)) (Place.Pick (InPick.TakeShare First.Global room held)) x refl refl (omega arith) (omega arith)
-      (record { kept = λ k. omega (arith, k); wanted_kept = λ k l. omega (arith, l); others_kept = λ k. omega arith; spun_kept = λ k. omega arith })
+  head_loaded = grind arith
 
   loads_head : (f : First) → FallsAt c i me s d x (Place.Pick (InPick.LoadHead f))
-  loads_head f it =
-      let q = queue_of x i in
-      subst (Leads c i me s d x (Place.Pick (InPick.LoadHead f)) (Place.Pick (InPick.TakeShare f (room_of q) (length q.values)))) (sym (same_queue i x)) (head_loaded f (room_of q) (length q.values))
+  loads_head = grind (arith, same_queue, head_loaded)
 
   shares : (f : First) (room held : ℕ) (global : List ℕ) → FallsAt c i me s d (record x { global = global }) (Place.Pick (InPick.TakeShare f room held))
-  shares f room held [] it =
-      let y = record x { global = [] } in
-      subst (Leads c i me s d y (Place.Pick (InPick.TakeShare f room held)) (after_empty_look c f)) (sym (same_queue i y)) (bare_share f room held)
-  shares f room held (t ∷ global) it = polled f
-    where
-      polled : (f : First) → Falls c i (seen (Place.Pick (InPick.TakeShare f room held)) me) s (stands (Place.Pick (InPick.TakeShare f room held)) d) (record x { global = t ∷ global })
-          (with_queues i (record x { global = t ∷ global }) (take_share c f room held (stands (Place.Pick (InPick.TakeShare f room held)) d) (record { global = t ∷ global; queue = queue_of x i })))
-      polled First.Own =
-          let p = Place.Pick (InPick.TakeShare First.Own room held) in
-          let y = record x { global = t ∷ global } in
-          polls_next c i me s d y p (with_queues i y (take_share c First.Own room held (stands p d) (record { global = t ∷ global; queue = queue_of x i }))) t refl (omega arith)
-      polled First.Global =
-          let p = Place.Pick (InPick.TakeShare First.Global room held) in
-          let y = record x { global = t ∷ global } in
-          polls_next c i me s d y p (with_queues i y (take_share c First.Global room held (stands p d) (record { global = t ∷ global; queue = queue_of x i }))) t refl (omega arith)
+  shares f room held [] it = grind (arith, same_queue, bare_share)
+  shares f room held (t ∷ global) it = grind arith
 
   pub picks : (p : InPick) → FallsAt c i me s d x (Place.Pick p)
   picks InPick.CountDown = counts_down

@@ -1,8 +1,8 @@
 -- What many places have in common: a turn begins anew, or the worker comes to its wait.
-use Rattle.std.proofs.Common.{◌≡◌, ℕ, ◌+◌, ◌≤◌, ◌<◌, Bool, true, false, not, ◌&&◌, ◌||◌, if◌then◌else◌, refl, ap, arith, ◌⊎◌, inl, inr}
+use Rattle.std.proofs.Common.{◌≡◌, ℕ, ◌+◌, ◌≤◌, ◌<◌, Bool, true, false, not, ◌&&◌, if◌then◌else◌, refl, ap, arith, ◌⊎◌, inl, inr}
 use Rattle.std.specs.Prelude.{nat_lt}
 use Rattle.exec_machine.specs.{declared.config.Configuration.Configuration, Deadlines.next_due, Ranges.{largest_spin, ring_size}, World.{Common, Own as Books}}
-use Rattle.exec_moves.specs.{declared.{handing.AfterLeave.AfterLeave, idling.{InRingWait.InRingWait, InWordWait.InWordWait, Stay.Stay}, place.{AfterService.AfterService, Place.Place}}, Callback.{has_requests, is_full, ring_wait, serve}, Credit.one_if, Load.{has_submissions, leaves_for_turn, next_turn}, State.Desk, Wait.{is_near, waits, word_wait}}
+use Rattle.exec_moves.specs.{declared.{handing.AfterLeave.AfterLeave, idling.{InRingWait.InRingWait, InWordWait.InWordWait, Stay.Stay}, place.{AfterService.AfterService, Place.Place}}, Callback.{has_requests, is_full, ring_wait, serve}, Counts.one_if, Load.{leaves_for_turn}, State.Desk, Wait.{is_near, waits, word_wait}}
 use Rattle.exec_progress.{specs.{Effort.is_short, Owed.{quiet_items, signs, signs_on}}, proofs.Tools.{Now, OwesLess, OwesNoMore, ahead_at, at_most, gates, goes_down, goes_up, into_spin, keeps_turns, left, others_at, rest, spun, taken_up, wanted_at}}
 
 -- the same at another place
@@ -14,19 +14,8 @@ abbrev pub IsTop : Place → Type 0
 IsTop q = (q ≡ Place.LeaveSearch AfterLeave.Begin) ⊎ ((q ≡ serve AfterService.Begin) ⊎ (q ≡ Place.BeginTurn))
 
 module _ (c : Configuration) (i : ℕ) where
-  pub next_is_top : (me : Books) (s : Common) (e : Desk) → IsTop (next_turn c i me s e)
-  next_is_top me s e = by ((e.put_off && has_requests i s) || (e.may_put_off && has_submissions c me))
-    where
-      by : (v : Bool) → IsTop (if v then serve AfterService.Begin else Place.BeginTurn)
-      by true = inr (inl refl)
-      by false = inr (inr refl)
-
   pub leaves_is_top : (me : Books) (s : Common) (e : Desk) → IsTop (leaves_for_turn c i me s e)
-  leaves_is_top me s e = by e.searching
-    where
-      by : (v : Bool) → IsTop (if v then Place.LeaveSearch AfterLeave.Begin else next_turn c i me s e)
-      by true = inl refl
-      by false = next_is_top me s e
+  leaves_is_top = grind arith
 
   -- b is the state afterwards, whatever its place
   pub record Anew (a b : Now) : Type 0 where

@@ -27,14 +27,10 @@ module _ (c : Configuration) (i : ℕ) (me : Books) (s : Common) (d : Desk) (x :
 
   -- IT GOES DOWN, at the beginning of a turn
   begins_after_wait : (searches : Bool) → To AfterWait.Begin searches Place.BeginTurn
-  begins_after_wait searches quiet =
-      sinks c i (before me s d x (Place.Withdraw AfterWait.Begin)) (afterwards c i me s (Place.Withdraw AfterWait.Begin) (leads AfterWait.Begin searches Place.BeginTurn))
-      refl refl (omega arith) (omega arith) (λ h. omega (arith, h)) (λ h k. omega (arith, k)) (λ h. omega arith) (λ h. omega arith)
+  begins_after_wait = grind arith
 
   serves_after_wait : (searches : Bool) → To AfterWait.Serve searches (serve back.Begin)
-  serves_after_wait searches quiet =
-      sinks c i (before me s d x (Place.Withdraw AfterWait.Serve)) (afterwards c i me s (Place.Withdraw AfterWait.Serve) (leads AfterWait.Serve searches (serve back.Begin)))
-      refl refl (omega arith) (omega arith) (λ h. omega (arith, h)) (λ h k. omega (arith, k)) (λ h. omega arith) (λ h. omega arith)
+  serves_after_wait = grind arith
 
   -- what was put off is made up
   module _ (last : Bool) where
@@ -72,14 +68,10 @@ module _ (c : Configuration) (i : ℕ) (me : Books) (s : Common) (d : Desk) (x :
 
   -- a scan follows
   returns_claimed : (searches : Bool) → To AfterWait.Search searches (Place.Look look.ReturnClaimed)
-  returns_claimed searches quiet =
-      sinks c i (before me s d x (Place.Withdraw AfterWait.Search)) (afterwards c i me s (Place.Withdraw AfterWait.Search) (leads AfterWait.Search searches (Place.Look look.ReturnClaimed)))
-      refl refl (omega arith) (omega arith) (λ h. omega (arith, h)) (λ h k. omega (arith, k)) (λ h. omega arith) (λ h. omega arith)
+  returns_claimed = grind arith
 
   scans : (searches : Bool) → To AfterWait.Search searches (Place.Scan scan.LoadScanHead)
-  scans searches quiet =
-      sinks c i (before me s d x (Place.Withdraw AfterWait.Search)) (afterwards c i me s (Place.Withdraw AfterWait.Search) (leads AfterWait.Search searches (Place.Scan scan.LoadScanHead)))
-      refl refl (omega arith) (omega arith) (λ h. omega (arith, h)) (λ h k. omega (arith, k)) (λ h. omega arith) (λ h. omega arith)
+  scans = grind arith
 
   -- by whether a claim came
   with_claim : (n : AfterWait) (came : Bool) → To n (d.searching || came) (after_withdrawal c i (seen (Place.Withdraw n) me) s came n (record (stands (Place.Withdraw n) d) { searching = d.searching || came }))

@@ -1,10 +1,10 @@
 -- A move leaves what the own wake word says that its worker waits on, but where it arms or disarms that.
-use Rattle.std.proofs.Common.{◌≡◌, ℕ, zero, suc, ◌+◌, ◌==◌, Bool, true, false, List, [], ◌∷◌, ◌++◌, get_or, Option, Some, None, if◌then◌else◌, refl, sym, ap, ◌∙◌}
+use Rattle.std.proofs.Common.{◌≡◌, ℕ, zero, suc, ◌+◌, ◌==◌, Bool, true, false, List, [], ◌∷◌, ◌++◌, get_or, Option, Some, None, if◌then◌else◌, refl, sym, ap, ◌∙◌, arith}
 use Rattle.std.proofs.lemmas.Bool.{true≢false}
 use Rattle.exec_words.specs.{declared.word.PureWord.PureWord, Word.{is_idle_at}}
-use Rattle.exec_machine.specs.{declared.{config.{Configuration.Configuration, ScriptWord.ScriptWord}, state.MailMessage.MailMessage}, Choice.Choice, Deadlines.next_due, Tests.is_empty, World.{Common, Own as Books, seat_of, task_of}, Words.next_word}
+use Rattle.exec_machine.specs.{declared.{config.{Configuration.Configuration, ScriptWord.ScriptWord}, state.MailMessage.MailMessage}, Choice.Choice, Deadlines.next_due, World.{Common, Own as Books, task_of}, Words.next_word}
 use Rattle.exec_machine.specs.declared.config.ScriptWord.TheVariants as script
-use Rattle.exec_moves.specs.{declared.{handing.{AfterCallbacks.AfterCallbacks, AfterKick.AfterKick, AfterPop.AfterPop, AfterPush.AfterPush, AfterSend.AfterSend, AfterSignal.AfterSignal, InGlobal.InGlobal, InKick.InKick, InPop.InPop, InPush.InPush, InSignal.InSignal}, idling.{InLook.InLook, InRingWait.InRingWait, InScan.InScan, InSearch.InSearch, InWordWait.InWordWait, Stay.Stay}, place.{InCallbacks.InCallbacks, InClosing.InClosing, InLoads.InLoads, InMail.InMail, InPick.InPick, InPoll.InPoll, InService.InService, Place.Place, Round.Round, Service.Service}}, Callback.{Item, Item.{Wakes, LetsGo, Releases, Completes, Answers, Nothing}, item_next}, Load.{has_come, has_mail}, Move.{move_act, move_at, move_callbacks, move_closing, move_global, move_item, move_kick, move_loads, move_look, move_look_at, move_mail, move_pick, move_poll, move_pop, move_push, move_ring_wait, move_scan, move_search, move_service, move_signal, move_submit, move_wake, move_word_wait}, Poll.{Sight, Sight.{Here, Asks, HearsRequest, HearsTimer}, sight_of, sight_of_act}, Send.{Mailbox, is_left_out, leaves_out, payer_of_send, posted, posting_of, published_if, send_root, wake_own_root, with_newcomer}, State.{Desk, Moved, Own, Things, no_word, word_of}, Submit.{Due, Due.{AtGate, Enrols, Expires}, due_next}, Thing.{aside, mailbox_of, set_word, with_mailbox}, Wait.sleep_on_word}
+use Rattle.exec_moves.specs.{declared.{handing.{AfterCallbacks.AfterCallbacks, AfterKick.AfterKick, AfterPop.AfterPop, AfterPush.AfterPush, AfterSend.AfterSend, AfterSignal.AfterSignal, InGlobal.InGlobal, InKick.InKick, InPop.InPop, InPush.InPush, InSignal.InSignal}, idling.{InLook.InLook, InRingWait.InRingWait, InScan.InScan, InSearch.InSearch, InWordWait.InWordWait, Stay.Stay}, place.{InCallbacks.InCallbacks, InClosing.InClosing, InLoads.InLoads, InMail.InMail, InPick.InPick, InPoll.InPoll, InService.InService, Place.Place, Round.Round, Service.Service}}, Load.{has_come, has_mail}, Move.{move_act, move_at, move_callbacks, move_closing, move_global, move_kick, move_loads, move_look, move_look_at, move_mail, move_pick, move_poll, move_pop, move_push, move_ring_wait, move_scan, move_search, move_service, move_signal, move_submit, move_wake, move_word_wait}, Poll.{Sight, Sight.{Here, Asks, HearsRequest, HearsTimer}, sight_of, sight_of_act}, Send.{Mailbox, is_left_out, payer_of_send, posting_of, send_root, wake_own_root}, State.{Desk, Moved, Own, Things, no_word, word_of}, Submit.{Due}, Thing.{aside, mailbox_of, set_word, with_mailbox}, Wait.sleep_on_word}
 use Rattle.exec_machine.specs.Choice.Choice.{Plain, Posts}
 use Rattle.exec_machine.specs.declared.state.MailMessage.TheVariants as message
 use Rattle.exec_moves.specs.declared.handing.AfterSend.TheVariants as send
@@ -18,13 +18,10 @@ use Rattle.exec_moves.specs.declared.idling.InRingWait.TheVariants as ring
 use Rattle.exec_moves.specs.declared.idling.InScan.TheVariants as scan
 use Rattle.exec_moves.specs.declared.idling.InSearch.TheVariants as search
 use Rattle.exec_moves.specs.declared.idling.InWordWait.TheVariants as word
-use Rattle.exec_moves.specs.declared.place.InCallbacks.TheVariants as callback
 use Rattle.exec_moves.specs.declared.place.InClosing.TheVariants as closing
-use Rattle.exec_moves.specs.declared.place.InLoads.TheVariants as load
 use Rattle.exec_moves.specs.declared.place.InMail.TheVariants as mail
 use Rattle.exec_moves.specs.declared.place.InPick.TheVariants as pick
 use Rattle.exec_moves.specs.declared.place.InPoll.TheVariants as poll
-use Rattle.exec_moves.specs.declared.place.InService.TheVariants as step
 use Rattle.exec_moves.specs.declared.place.Place.TheVariants as at
 use Rattle.exec_rest.proofs.BareMoves.{put_in}
 
@@ -36,24 +33,8 @@ is_arming (at.WordWait word.ArmWord) = true
 is_arming (at.WordWait word.DisarmWord) = true
 is_arming _ = false
 
--- a batch is published, and nothing else in the wake word changes
-published_target : (b : Bool) (w : PureWord) → (published_if b w).target ≡ w.target
-published_target true w = refl
-published_target false w = refl
-
-posted_target : (m : MailMessage) (box : Mailbox) → (posted m box).word.target ≡ box.word.target
-posted_target m box = by (leaves_out m box)
-  where
-    by : (b : Bool) → (let n : Mailbox = if b then box else record { messages = box.messages ++ m ∷ []; word = published_if (is_empty box.messages) box.word } in n.word.target ≡ box.word.target)
-    by true = refl
-    by false = published_target (is_empty box.messages) box.word
-
 posting_target : (s : Common) (j : ℕ) (m : MailMessage) (choice : Choice) (box : Mailbox) → (posting_of s j m choice box).mailbox.word.target ≡ box.word.target
-posting_target s j m choice box = by (seat_of s j).mailbox_closed refl
-  where
-    by : (b : Bool) → (seat_of s j).mailbox_closed ≡ b → (posting_of s j m choice box).mailbox.word.target ≡ box.word.target
-    by true h = rw h refl
-    by false h = rw h (posted_target m box)
+posting_target = grind arith
 
 -- a worker that begins waits on nothing, as one that isn't there
 past_end : (ws : List PureWord) (j : ℕ) → (get_or (ws ++ no_word ∷ []) j no_word).target ≡ (get_or ws j no_word).target
@@ -117,11 +98,7 @@ module _ (c : Configuration) (i : ℕ) (me : Books) (s : Common) (d : Desk) (x :
   in_act : (t : ℕ) (w : ScriptWord) → Kept (move_act c i me s d x t w)
   in_act t (script.Spawn k) = refl
   in_act t (script.Wake u) = in_wake t u (task_of s u).home
-  in_act t (script.Dedicated k) = by s.set_closed
-    where
-      by : (b : Bool) → (word_of (if b then x else with_newcomer x) i).target ≡ (word_of x i).target
-      by true = refl
-      by false = past_end x.words i
+  in_act t (script.Dedicated k) = grind (arith, past_end)
   in_act t script.Await = seen t (send.Pend t) _ (sight_of_act i s (task_of s t) script.Await)
   in_act t script.Drop = seen t (send.Act t) _ (sight_of_act i s (task_of s t) script.Drop)
   in_act t _ = refl
@@ -131,35 +108,17 @@ module _ (c : Configuration) (i : ℕ) (me : Books) (s : Common) (d : Desk) (x :
   in_poll t poll.Resume = seen t (send.Pend t) _ (sight_of i s (task_of s t).waiting)
   in_poll t _ = refl
 
-  in_item : (n : AfterCallbacks) (it : Item) → Kept (move_item c i me s d x n it)
-  in_item n (Wakes t) = refl
-  in_item n LetsGo = refl
-  in_item n (Releases r) = refl
-  in_item n (Completes z) = refl
-  in_item n (Answers r) = refl
-  in_item n Nothing = refl
-
   in_callbacks : (p : InCallbacks) (n : AfterCallbacks) → Kept (move_callbacks c i me s d x p n)
-  in_callbacks callback.TakeBatch n = refl
-  in_callbacks callback.CallBack n = in_item n (item_next me d)
-  in_callbacks (callback.WakeWaiter t of) n = refl
+  in_callbacks = grind arith
 
   in_loads : (p : InLoads) (r : Round) → Kept (move_loads i me d x p r)
-  in_loads load.LoadOwnHead r = refl
-  in_loads (load.LoadOwnMirror f) r = refl
-  in_loads (load.LoadOwnWord f) r = word_put i _ refl
+  in_loads = grind (arith, word_put)
 
   in_submit : (gate : ℕ) (v : Service) (due : Due) → Kept (move_submit c i me s d x gate v due)
-  in_submit gate v (Expires r) = refl
-  in_submit gate v (Enrols r) = refl
-  in_submit gate v (AtGate file) = refl
-  in_submit gate v _ = refl
+  in_submit = grind arith
 
   in_service : (p : InService) (v : Service) → Kept (move_service c i me s d x p v)
-  in_service step.Sample v = word_put i _ refl
-  in_service (step.Signal j b) v = word_put j _ refl
-  in_service (step.Submit gate) v = in_submit gate v (due_next c i gate me s d)
-  in_service _ v = refl
+  in_service = grind (arith, word_put, in_submit)
 
   mail_loaded : (b : Bool) → has_mail d (word_of x i) ≡ b → Kept (move_mail i me s d x mail.LoadMailWord)
   mail_loaded true h = rw h (word_put i (word_of x i) refl)
@@ -182,21 +141,13 @@ module _ (c : Configuration) (i : ℕ) (me : Books) (s : Common) (d : Desk) (x :
   in_look _ = refl
 
   in_ring_wait : (p : InRingWait) (y : Stay) → is_arming (at.RingWait p y) ≡ false → Kept (move_ring_wait c i me s d x p y)
-  in_ring_wait ring.ArmRing y off = absurd (true≢false off)
-  in_ring_wait (ring.DisarmRing n) y off = absurd (true≢false off)
-  in_ring_wait _ y off = refl
+  in_ring_wait = grind arith
 
   slept : (w : PureWord) (idle : Bool) → is_idle_at w d.processed ≡ idle → (come : Bool) → has_come s.clock (next_due s i) ≡ come → (sleep_on_word i s d w).thing ≡ w
-  slept w true h true is = rw (h, is) refl
-  slept w true h false is = rw (h, is) refl
-  slept w false h come is = rw h refl
+  slept = grind arith
 
   in_word_wait : (p : InWordWait) → is_arming (at.WordWait p) ≡ false → Kept (move_word_wait i s d x p)
-  in_word_wait (word.SpinOnBatch left) off = word_put i _ refl
-  in_word_wait (word.SpinOnLatch left) off = word_put i _ refl
-  in_word_wait word.TakeLatch off = word_put i _ refl
-  in_word_wait word.SleepOnWord off = word_put i _ (ap (λ (w : PureWord). w.target) (slept (word_of x i) _ refl _ refl))
-  in_word_wait _ off = absurd (true≢false off)
+  in_word_wait = grind (arith, word_put, slept, true≢false)
 
   in_closing : (p : InClosing) → Kept (move_closing c i s d x p)
   in_closing closing.Close = refl

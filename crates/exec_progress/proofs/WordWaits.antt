@@ -6,7 +6,7 @@ use Rattle.exec_base.specs.Spinner.{Spinner, after_wake}
 use Rattle.exec_words.specs.{Word.is_idle_at, declared.word.PureWord.PureWord}
 use Rattle.exec_words.specs.declared.word.WaitTarget.TheVariants as target
 use Rattle.exec_machine.specs.{declared.{config.Configuration.Configuration, event.Event.TheVariants.{Turn, Sleep}}, Deadlines.next_due, World.{Common, Own as Books}}
-use Rattle.exec_moves.specs.{declared.{idling.{AfterWait.AfterWait, InWordWait.InWordWait}, place.Place.Place}, Callback.is_of_pool, Credit.one_if, Load.{has_come, has_mail}, State.{Desk, Moved, Things, does, turns, word_of}, Thing.with_word, Wait.{after_sleep, disarmed, hit, missed, noting_sleep}}
+use Rattle.exec_moves.specs.{declared.{idling.{AfterWait.AfterWait, InWordWait.InWordWait}, place.Place.Place}, Callback.is_of_pool, Counts.one_if, Load.{has_come, has_mail}, State.{Desk, Moved, Things, does, turns, word_of}, Thing.with_word, Wait.{after_sleep, disarmed, hit, missed, noting_sleep}}
 use Rattle.exec_credit.proofs.Due.{due}
 use Rattle.exec_progress.{specs.{Going.{Falls, FallsAt, seen, stands}}, proofs.{Tools.{Now, afterwards, before, either, gone, taken_up}, WaitTools.{rises, sinks, stirred, word_is}}}
 
@@ -50,39 +50,19 @@ module _ (c : Configuration) (i : ℕ) (me : Books) (s : Common) (d : Desk) (x :
   -- DOWN
 
   looks_for_latch : i < length x.words → (n : ℕ) → To (InWordWait.SpinOnBatch n) (record d { place = at (InWordWait.SpinOnLatch n) }) w
-  looks_for_latch there n quiet =
-      let a = was (InWordWait.SpinOnBatch n) in
-      let b = is (InWordWait.SpinOnBatch n) (record d { place = at (InWordWait.SpinOnLatch n) }) w in
-      let same = ap (λ v. one_if (has_mail d v)) (word_is i x w there) in
-      let latch = ap (λ v. one_if v.latch) (word_is i x w there) in
-      sinks c i a b refl refl (omega arith) (omega arith) (λ h. omega (arith, h)) (λ h k. omega (arith, k, same)) (λ h. omega (arith, latch)) (λ h. omega (arith, latch))
+  looks_for_latch = grind (arith, word_is, sinks)
 
   looks_again : i < length x.words → (n : ℕ) → nat_lt 1 n ≡ true → To (InWordWait.SpinOnLatch n) (record (stands (at (InWordWait.SpinOnLatch n)) d) { place = at (InWordWait.SpinOnBatch (n - 1)) }) w
-  looks_again there n more quiet =
-      let a = was (InWordWait.SpinOnLatch n) in
-      let b = is (InWordWait.SpinOnLatch n) (record (stands (at (InWordWait.SpinOnLatch n)) d) { place = at (InWordWait.SpinOnBatch (n - 1)) }) w in
-      let same = ap (λ v. one_if (has_mail d v)) (word_is i x w there) in
-      let latch = ap (λ v. one_if v.latch) (word_is i x w there) in
-      sinks c i a b refl refl (omega (arith, ltb-true 1 n more)) (omega arith) (λ h. omega (arith, h)) (λ h k. omega (arith, k, same)) (λ h. omega (arith, latch)) (λ h. omega (arith, latch))
+  looks_again = grind (arith, word_is, sinks, ltb-true)
 
   missed_all : i < length x.words → (n : ℕ) → To (InWordWait.SpinOnLatch n) (record (missed 0 (stands (at (InWordWait.SpinOnLatch n)) d)) { place = at InWordWait.ArmWord }) w
-  missed_all there n quiet =
-      let a = was (InWordWait.SpinOnLatch n) in
-      let b = is (InWordWait.SpinOnLatch n) (record (missed 0 (stands (at (InWordWait.SpinOnLatch n)) d)) { place = at InWordWait.ArmWord }) w in
-      let same = ap (λ v. one_if (has_mail d v)) (word_is i x w there) in
-      let latch = ap (λ v. one_if v.latch) (word_is i x w there) in
-      sinks c i a b refl refl (omega arith) (omega arith) (λ h. omega (arith, h)) (λ h k. omega (arith, k, same)) (λ h. omega (arith, latch)) (λ h. omega (arith, latch))
+  missed_all = grind (arith, word_is, sinks)
 
   abbrev armed : PureWord
   armed = record w { target = target.Sleeping }
 
   arms : i < length x.words → To InWordWait.ArmWord (record d { place = at InWordWait.SleepOnWord; slept = None }) armed
-  arms there quiet =
-      let a = was InWordWait.ArmWord in
-      let b = is InWordWait.ArmWord (record d { place = at InWordWait.SleepOnWord; slept = None }) armed in
-      let same = ap (λ v. one_if (has_mail d v)) (word_is i x armed there) in
-      let latch = ap (λ v. one_if v.latch) (word_is i x armed there) in
-      sinks c i a b refl refl (omega arith) (omega arith) (λ h. omega (arith, h)) (λ h k. omega (arith, k, same)) (λ h. omega (arith, latch)) (λ h. omega (arith, latch))
+  arms = grind (arith, word_is, sinks)
 
   arms_in_vain : i < length x.words → is_idle_at w d.processed ≡ false → To InWordWait.ArmWord (record d { place = at InWordWait.DisarmWord; slept = None }) armed
   arms_in_vain there h quiet =
@@ -117,37 +97,17 @@ module _ (c : Configuration) (i : ℕ) (me : Books) (s : Common) (d : Desk) (x :
   -- OUT OF THE WAIT
 
   takes_latch : i < length x.words → To InWordWait.TakeLatch (record d { place = Place.Withdraw AfterWait.Begin }) (record w { latch = false })
-  takes_latch there quiet =
-      let v = record w { latch = false } in
-      let a = was InWordWait.TakeLatch in
-      let b = is InWordWait.TakeLatch (record d { place = Place.Withdraw AfterWait.Begin }) v in
-      let same = ap (λ v. one_if (has_mail d v)) (word_is i x v there) in
-      sinks c i a b refl refl (omega arith) (omega arith) (λ h. omega (arith, h, same)) (λ h k. omega (arith, k, same)) (λ h. omega arith) (λ h. omega arith)
+  takes_latch = grind (arith, word_is, sinks)
 
   takes_latch_alone : i < length x.words → To InWordWait.TakeLatch (record d { place = Place.BeginTurn }) (record w { latch = false })
-  takes_latch_alone there quiet =
-      let v = record w { latch = false } in
-      let a = was InWordWait.TakeLatch in
-      let b = is InWordWait.TakeLatch (record d { place = Place.BeginTurn }) v in
-      let same = ap (λ v. one_if (has_mail d v)) (word_is i x v there) in
-      sinks c i a b refl refl (omega arith) (omega arith) (λ h. omega (arith, h, same)) (λ h k. omega (arith, k, same)) (λ h. omega arith) (λ h. omega arith)
+  takes_latch_alone = grind (arith, word_is, sinks)
 
   -- whatever it has learned of its sleep
   disarms : i < length x.words → (learned : Spinner) → To InWordWait.DisarmWord (record d { place = Place.Withdraw AfterWait.Begin; spinner = learned; slept = None }) (disarmed w)
-  disarms there learned quiet =
-      let v = disarmed w in
-      let a = was InWordWait.DisarmWord in
-      let b = is InWordWait.DisarmWord (record d { place = Place.Withdraw AfterWait.Begin; spinner = learned; slept = None }) v in
-      let same = ap (λ v. one_if (has_mail d v)) (word_is i x v there) in
-      sinks c i a b refl refl (omega arith) (omega arith) (λ h. omega (arith, h, same)) (λ h k. omega (arith, k, same)) (λ h. omega arith) (λ h. omega arith)
+  disarms = grind (arith, word_is, sinks)
 
   disarms_alone : i < length x.words → (learned : Spinner) → To InWordWait.DisarmWord (record d { place = Place.BeginTurn; spinner = learned; slept = None }) (disarmed w)
-  disarms_alone there learned quiet =
-      let v = disarmed w in
-      let a = was InWordWait.DisarmWord in
-      let b = is InWordWait.DisarmWord (record d { place = Place.BeginTurn; spinner = learned; slept = None }) v in
-      let same = ap (λ v. one_if (has_mail d v)) (word_is i x v there) in
-      sinks c i a b refl refl (omega arith) (omega arith) (λ h. omega (arith, h, same)) (λ h k. omega (arith, k, same)) (λ h. omega arith) (λ h. omega arith)
+  disarms_alone = grind (arith, word_is, sinks)
 
   -- a test at this place of the wait decides of the desk
   decides : (p : InWordWait) (t : Bool) (e f : Desk) (v : PureWord) → (t ≡ true → To p e v) → (t ≡ false → To p f v)

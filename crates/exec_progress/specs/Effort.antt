@@ -6,7 +6,7 @@ use Rattle.std.specs.Prelude.{ℕ, Bool, true, false, not, ◌+◌, ◌*◌, ◌
 use Rattle.std.specs.List.{list_any, range_with_len}
 use Rattle.exec_words.specs.{Head.is_stealable_at, Queue.tail_of}
 use Rattle.exec_machine.specs.{declared.config.Configuration.Configuration, Ranges.{largest_spin}, World.{Common, Own as Books}}
-use Rattle.exec_moves.specs.{declared.{handing.{AfterCallbacks.AfterCallbacks, AfterClaim.AfterClaim, AfterKick.AfterKick, AfterLeave.AfterLeave, AfterPush.AfterPush, AfterSend.AfterSend, AfterSignal.AfterSignal}, idling.{AfterWait.AfterWait, InLook.InLook, InRingWait.InRingWait, InScan.InScan, InSearch.InSearch, InWordWait.InWordWait, Scan.Scan}, place.{InPoll.InPoll, AfterPermit.AfterPermit, AfterService.AfterService, InService.InService, Reaping.Reaping, Round.Round, Place.Place}}, Credit.{gates_from, one_if}, Search.from_of, State.{Desk, Things, queue_of}}
+use Rattle.exec_moves.specs.{declared.{handing.{AfterCallbacks.AfterCallbacks, AfterClaim.AfterClaim, AfterKick.AfterKick, AfterLeave.AfterLeave, AfterPush.AfterPush, AfterSend.AfterSend, AfterSignal.AfterSignal}, idling.{AfterWait.AfterWait, InLook.InLook, InRingWait.InRingWait, InScan.InScan, InSearch.InSearch, InWordWait.InWordWait, Scan.Scan}, place.{InPoll.InPoll, AfterPermit.AfterPermit, AfterService.AfterService, InService.InService, Reaping.Reaping, Round.Round, Place.Place}}, Counts.{gates_from, one_if}, Search.from_of, State.{Desk, Things, queue_of}}
 use Rattle.exec_progress.specs.{Owed.{can_steal, is_stealable, quiet_items, spins_owed, turns_owed}, Ranks.{is_fresh, rank, withdraw_to_search}}
 
 -- WITHIN A POLL, or about to begin one

@@ -2,7 +2,7 @@
 use Rattle.std.specs.Prelude.{◌≡◌, ◌≤◌, ◌<◌, ℕ, Bool, true, false, not, ◌+◌, ◌==◌, [], length, nat_lt}
 use Rattle.exec_words.specs.{Idle.{is_in as is_in_set}, Queue.{Queue, tail_of}, Head.{is_spent}}
 use Rattle.exec_machine.specs.{declared.config.Configuration.Configuration, Ranges.{ring_size, largest_spin}, Tests.{is_asleep, is_empty, is_open, is_ready}, Text.is_quiet, After.{own_after, common_after}, World.{Common, Own as Books, seat_of, sleeper_of, task_of}}
-use Rattle.exec_moves.specs.{declared.{handing.{AfterCallbacks.AfterCallbacks, AfterCancels.AfterCancels, AfterClaim.AfterClaim, AfterKick.AfterKick, AfterLeave.AfterLeave, AfterPop.AfterPop, AfterPush.AfterPush, AfterSend.AfterSend, AfterSignal.AfterSignal, InPush.InPush, InSignal.InSignal}, idling.{AfterWait.AfterWait, InLook.InLook, InRingWait.InRingWait, InScan.InScan, Stay.Stay}, place.{AfterService.AfterService, InClosing.InClosing, InLoads.InLoads, InPick.InPick, InPoll.InPoll, InService.InService, Round.Round, Place.Place}}, Callback.is_of_pool, Credit.one_if, Move.move_at, Search.from_of, Seen.{next_at, serves_at}, Slots.is_in_slots, State.{Desk, Moved, Things, inbox_of, queue_of, word_of}}
+use Rattle.exec_moves.specs.{declared.{handing.{AfterCallbacks.AfterCallbacks, AfterCancels.AfterCancels, AfterClaim.AfterClaim, AfterKick.AfterKick, AfterLeave.AfterLeave, AfterPop.AfterPop, AfterPush.AfterPush, AfterSend.AfterSend, AfterSignal.AfterSignal, InPush.InPush, InSignal.InSignal}, idling.{AfterWait.AfterWait, InLook.InLook, InRingWait.InRingWait, InScan.InScan, Stay.Stay}, place.{AfterService.AfterService, InClosing.InClosing, InLoads.InLoads, InPick.InPick, InPoll.InPoll, InService.InService, Round.Round, Place.Place}}, Callback.is_of_pool, Counts.one_if, Move.move_at, Search.from_of, Seen.{next_at, serves_at}, Slots.is_in_slots, State.{Desk, Moved, Things, inbox_of, queue_of, word_of}}
 use Rattle.exec_rest.specs.{Places.{is_dry, is_pooled, is_published, waits_on}, Posted.IsNumbered}
 use Rattle.exec_settled.specs.Given.{ends_in_search}
 use Rattle.exec_progress.specs.Effort.{steps_left}

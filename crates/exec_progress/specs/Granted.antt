@@ -2,7 +2,7 @@
 use Rattle.std.specs.Prelude.{◌≡◌, ◌≤◌, ◌<◌, ℕ, true, false, not, ◌+◌, ◌==◌, length, nat_lt}
 use Rattle.exec_words.specs.Queue.{Queue, room_of}
 use Rattle.exec_machine.specs.{declared.config.Configuration.Configuration, Progress.is_anyone_closing, Ranges.ring_size, Tests.{is_asleep, is_open, is_ready}, World.{own_of, seat_of, sleeper_of, task_of}}
-use Rattle.exec_moves.specs.{declared.{handing.InPush.InPush, idling.InScan.InScan, place.{InPick.InPick, InPoll.InPoll, Place.Place}}, Credit.one_if, Plays.{Playing, desk_of}, Seen.serves_at, Slots.is_in_slots, State.queue_of}
+use Rattle.exec_moves.specs.{declared.{handing.InPush.InPush, idling.InScan.InScan, place.{InPick.InPick, InPoll.InPoll, Place.Place}}, Counts.one_if, Plays.{Playing, desk_of}, Seen.serves_at, Slots.is_in_slots, State.queue_of}
 use Rattle.exec_rest.specs.Rested.{is_in_pool, place_at}
 use Rattle.exec_progress.specs.Going.{KnowsAside, KnowsTail, is_of_closing}
 

@@ -1,3 +1,4 @@
+pub mod Heights
 pub mod Ranks
 pub mod Owed
 pub mod Effort

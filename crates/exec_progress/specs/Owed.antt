@@ -8,7 +8,7 @@ use Rattle.std.specs.List.{list_any}
 use Rattle.exec_words.specs.Queue.{Queue, head_of, tail_of}
 use Rattle.exec_words.specs.Head.{is_stealable_at}
 use Rattle.exec_machine.specs.{declared.config.Configuration.Configuration, Ranges.ring_size, World.{Common, seat_of, Own as Books}, Tests.{is_empty, is_asleep}, Deadlines.is_due}
-use Rattle.exec_moves.specs.{declared.{handing.{First.First, AfterCallbacks.AfterCallbacks, AfterClaim.AfterClaim, AfterKick.AfterKick, AfterLeave.AfterLeave, AfterPop.AfterPop, AfterPush.AfterPush, AfterSend.AfterSend, AfterSignal.AfterSignal, InSignal.InSignal}, idling.{AfterWait.AfterWait, InRingWait.InRingWait, InWordWait.InWordWait}, place.{InPick.InPick, InPoll.InPoll, AfterPermit.AfterPermit, AfterService.AfterService, InLoads.InLoads, InMail.InMail, InService.InService, Reaping.Reaping, Round.Round, Place.Place}}, Callback.{is_full, is_of_pool}, Credit.one_if, Load.{has_mail, has_submissions}, State.{Desk, Things, WakePoll, queue_of, word_of, wake_poll_of}}
+use Rattle.exec_moves.specs.{declared.{handing.{First.First, AfterCallbacks.AfterCallbacks, AfterClaim.AfterClaim, AfterKick.AfterKick, AfterLeave.AfterLeave, AfterPop.AfterPop, AfterPush.AfterPush, AfterSend.AfterSend, AfterSignal.AfterSignal, InSignal.InSignal}, idling.{AfterWait.AfterWait, InRingWait.InRingWait, InWordWait.InWordWait}, place.{InPick.InPick, InPoll.InPoll, AfterPermit.AfterPermit, AfterService.AfterService, InLoads.InLoads, InMail.InMail, InService.InService, Reaping.Reaping, Round.Round, Place.Place}}, Callback.{is_full, is_of_pool}, Counts.one_if, Load.{has_mail, has_submissions}, State.{Desk, Things, WakePoll, queue_of, word_of, wake_poll_of}}
 
 -- THE STAGES OF A TURN, from its end up to its beginning: where the turn takes something up, and may do so from there on up
 abbrev pub calling_back : ℕ

@@ -6,7 +6,8 @@
 use Rattle.std.specs.Prelude.{ℕ, suc, Bool, true, false, ◌+◌, ◌-◌, ◌*◌, if◌then◌else◌}
 use Rattle.exec_words.specs.Idle.{Idle}
 use Rattle.exec_machine.specs.{declared.config.Configuration.Configuration, Ranges.ring_size}
-use Rattle.exec_moves.specs.{declared.{handing.{First.First, AfterCallbacks.AfterCallbacks, AfterClaim.AfterClaim, AfterKick.AfterKick, AfterLeave.AfterLeave, AfterPop.AfterPop, AfterPush.AfterPush, AfterSend.AfterSend, AfterSignal.AfterSignal, InGlobal.InGlobal, InKick.InKick, InPop.InPop, InPush.InPush, InSignal.InSignal}, idling.{AfterWait.AfterWait, InLook.InLook, InRingWait.InRingWait, InScan.InScan, InSearch.InSearch, InWordWait.InWordWait}, place.{InPick.InPick, InPoll.InPoll, InCallbacks.InCallbacks, AfterService.AfterService, InLoads.InLoads, InMail.InMail, InService.InService, Round.Round, Place.Place}}, Callback.is_full, Claim.same_bools, Global.has_any, Heights.{end_service, enter_last, submit, flush, advance_wheel, sample, reap, after_permit, call_back}, Pop.same_head, Search.from_of, State.{Desk, Things, queue_of}}
+use Rattle.exec_moves.specs.{declared.{handing.{First.First, AfterCallbacks.AfterCallbacks, AfterClaim.AfterClaim, AfterKick.AfterKick, AfterLeave.AfterLeave, AfterPop.AfterPop, AfterPush.AfterPush, AfterSend.AfterSend, AfterSignal.AfterSignal, InGlobal.InGlobal, InKick.InKick, InPop.InPop, InPush.InPush, InSignal.InSignal}, idling.{AfterWait.AfterWait, InLook.InLook, InRingWait.InRingWait, InScan.InScan, InSearch.InSearch, InWordWait.InWordWait}, place.{InPick.InPick, InPoll.InPoll, InCallbacks.InCallbacks, AfterService.AfterService, InLoads.InLoads, InMail.InMail, InService.InService, Round.Round, Place.Place}}, Callback.is_full, Claim.same_bools, Global.has_any, Pop.same_head, Search.from_of, State.{Desk, Things, queue_of}}
+use Rattle.exec_progress.specs.Heights.{end_service, enter_last, submit, flush, advance_wheel, sample, reap, after_permit, call_back}
 use Rattle.exec_words.specs.{declared.{head.Head.Head, idle.WorkerSet.WorkerSet}, Queue.head_of}
 
 -- THE WAITS, from the sleep up
@@ -14,16 +15,16 @@ abbrev pub sleep : ℕ
 sleep = 0
 
 abbrev pub enter_ring : ℕ
-enter_ring = 1
+enter_ring = suc sleep
 
 abbrev pub arm : ℕ
-arm = 2
+arm = suc enter_ring
 
 abbrev pub test_ring : ℕ
-test_ring = 3
+test_ring = suc arm
 
 abbrev pub full_ring : ℕ
-full_ring = 4
+full_ring = suc test_ring
 
 -- a spin of so many looks, of two loads each
 abbrev pub spin : ℕ → ℕ
@@ -34,25 +35,26 @@ second_load left = arm + 2 * left + 1
 
 -- THE LOOK at w run queues
 abbrev pub claim_count : ℕ
-claim_count = 5
+claim_count = suc full_ring
 
 abbrev pub look_at_tail : ℕ → ℕ → ℕ
-look_at_tail w j = 6 + 2 * (w - j)
+look_at_tail w j = suc claim_count + 2 * (w - j)
 
 abbrev pub look_at_head : ℕ → ℕ → ℕ
-look_at_head w j = 7 + 2 * (w - j)
+look_at_head w j = suc (look_at_tail w j)
 
+-- above both loads of the first
 abbrev pub look_at_count : ℕ → ℕ
-look_at_count w = 8 + 2 * w
+look_at_count w = claim_count + 3 + 2 * w
 
 abbrev pub look_at_mirror : ℕ → ℕ
-look_at_mirror w = 9 + 2 * w
+look_at_mirror w = suc (look_at_count w)
 
 abbrev pub return_look_count : ℕ → ℕ
-return_look_count w = 10 + 2 * w
+return_look_count w = suc (look_at_mirror w)
 
 abbrev pub publish : ℕ → ℕ
-publish w = 11 + 2 * w
+publish w = suc (return_look_count w)
 
 -- THE SCAN: what was stolen is moved, and a turn begins anew
 abbrev pub store_moved : ℕ
@@ -81,31 +83,32 @@ their_tail below false = below + 4
 abbrev pub their_head : ℕ → ℕ
 their_head below = below + 3
 
+-- above the loads and the claim at the first queue
 abbrev pub load_scan_head : ℕ → ℕ
-load_scan_head w = 15 + 5 * w
+load_scan_head w = publish w + 4 + 3 * w
 
 abbrev pub return_claimed : ℕ → ℕ
-return_claimed w = 16 + 5 * w
+return_claimed w = suc (load_scan_head w)
 
 -- the last look finds something to steal: the own bit goes out, and a scan follows
 abbrev pub withdraw_to_search : ℕ → ℕ
-withdraw_to_search w = 17 + 5 * w
+withdraw_to_search w = suc (return_claimed w)
 
 -- THE TESTS, and the loads before them
 abbrev pub read_clock : ℕ → ℕ
-read_clock w = 18 + 5 * w
+read_clock w = suc (withdraw_to_search w)
 
 abbrev pub test_for_work : ℕ → ℕ
-test_for_work w = 19 + 5 * w
+test_for_work w = suc (read_clock w)
 
 abbrev pub load_word : ℕ → ℕ
-load_word below = below + 1
+load_word below = suc below
 
 abbrev pub load_mirror : ℕ → ℕ
-load_mirror below = below + 2
+load_mirror below = suc (load_word below)
 
 abbrev pub load_head : ℕ → ℕ
-load_head below = below + 3
+load_head below = suc (load_mirror below)
 
 -- HANDING ON, above where it leads: by whether somebody is published, and whether the idle set is as it was loaded
 abbrev pub load_set : Bool → ℕ

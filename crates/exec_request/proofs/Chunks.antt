@@ -5,26 +5,13 @@ use Rattle.std.proofs.lemmas.List.{get_or-drop, take_all, get_or-take, get_or_pa
 use Rattle.std.proofs.lemmas.List.Sums.{sum_by_more, sum_by_more_le, sum_by-take-le, sum_by-take-drop}
 use Rattle.exec_bufs.specs.Buffers.{total}
 
--- the sum with the chunk after a place
-pub total-next : (bufs : List (List ℕ)) (at : ℕ) → at < length bufs → total (take (at + 1) bufs) ≡ total (take at bufs) + length (get_or bufs at [])
-total-next bufs at there = sum_by_more length bufs at [] there
-
-pub total-within : (bufs : List (List ℕ)) (at : ℕ) → total (take at bufs) ≤ total bufs
-total-within bufs at = sum_by-take-le length bufs at
-
--- nothing lies past the end of the list
-pub past_the_end : (bufs : List (List ℕ)) (at : ℕ) → length bufs ≤ at → total (take at bufs) ≡ total bufs
-past_the_end bufs at after = ap total (take_all at bufs after)
-
 -- the sum of the next chunks from a place on, with one more
 pub batch-next : (bufs : List (List ℕ)) (chunk at : ℕ) → chunk ≤ at → at < length bufs → total (take (at + 1 - chunk) (drop chunk bufs)) ≡ total (take (at - chunk) (drop chunk bufs)) + length (get_or bufs at [])
 batch-next bufs chunk at after there =
     let there' : at - chunk < length (drop chunk bufs) = omega (arith, length-drop chunk bufs) in
     let sum : chunk + (at - chunk) ≡ at = omega arith in
     let one : at + 1 - chunk ≡ (at - chunk) + 1 = omega arith in
-    ap (λ n. total (take n (drop chunk bufs))) one
-    ∙ (sum_by_more length (drop chunk bufs) (at - chunk) [] there'
-    ∙ ap (λ (b : List ℕ). total (take (at - chunk) (drop chunk bufs)) + length b) (get_or-drop chunk bufs (at - chunk) [] ∙ ap (λ i. get_or bufs i []) sum))
+    grind (arith, sum_by_more, get_or-drop)
 
 pub batch-within : (bufs : List (List ℕ)) (chunk at : ℕ) → chunk ≤ at → at < length bufs → total (take (at - chunk) (drop chunk bufs)) + length (get_or bufs at []) ≤ total bufs
 batch-within bufs chunk at after there =

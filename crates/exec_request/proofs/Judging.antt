@@ -1,14 +1,13 @@
 -- What a request promises that judges one result by its cursor.
-use Rattle.std.proofs.Common.{◌≡◌, ℕ, ◌+◌, Bool, true, false, not, ◌&&◌, List, [], ◌∷◌, Option, refl, sym, ◌∙◌, if◌then◌else◌}
-use Rattle.std.specs.List.{list_any}
+use Rattle.std.proofs.Common.{◌≡◌, ℕ, ◌+◌, Bool, true, false, not, ◌&&◌, [], Option, sym, ◌∙◌, if◌then◌else◌, arith}
 use Rattle.exec_outcomes.specs.declared.outcome.Judged.{Judged}
 use Rattle.exec_outcomes.specs.declared.outcome.Outcome.{Outcome}
-use Rattle.exec_outcomes.specs.Outcomes.{Asked, Cursor, outcome_next, cursor_next, passes_on, first_part, with_totals, lasting, part_now, counted_for, refuses_hint}
+use Rattle.exec_outcomes.specs.Outcomes.{Asked, Cursor, outcome_next, cursor_next, passes_on, first_part, part_now, counted_for, refuses_hint}
 use Rattle.exec_outcomes.proofs.Runs.{next, goes_on}
 use Rattle.exec_request.specs.Judging.{Judges}
 use Rattle.exec_request.specs.Hints.{asks_hint}
 use Rattle.exec_request.specs.declared.cache.Cache.{Cache}
-use Rattle.exec_request.specs.declared.cache.Cache.TheVariants.{Enabled, Disabled}
+use Rattle.exec_request.specs.declared.cache.Cache.TheVariants.{Enabled}
 
 pub judges : (asked : Asked) (before after : Cursor) (r : Judged) (answer : Option Outcome) → answer ≡ outcome_next asked before r → after ≡ cursor_next asked before r → (r.hinted ≡ true → before.hinted ≡ true) → Judges asked before after r answer
 judges asked before after r answer by moves allowed =
@@ -19,17 +18,11 @@ judges asked before after r answer by moves allowed =
       cursor = moves;
     }
 
-list_any-never : {X : Type 0} (p : X → Bool) (xs : List X) → ((x : X) → p x ≡ false) → list_any p xs ≡ false
-list_any-never p [] never = refl
-list_any-never p (x ∷ xs) never = rw (never x) (list_any-never p xs never)
-
 -- a request of one part stays in it
 pub cursor_next-plain : (asked : Asked) (moved : ℕ) (switched hinted : Bool) (r : Judged) → ((x : Judged × ℕ) → passes_on asked.kind (first_part asked) x ≡ false)
     → let before : Cursor = record { moved = moved; switched = switched; hinted = hinted } in
     cursor_next asked before r ≡ record { moved = moved + counted_for (part_now asked before) r.result; switched = switched; hinted = hinted && not (refuses_hint r) }
-cursor_next-plain asked moved true hinted r never = refl
-cursor_next-plain asked moved false hinted r never =
-    rw (list_any-never (passes_on asked.kind (first_part asked)) (with_totals moved (lasting asked.kind (r ∷ []))) never) refl
+cursor_next-plain = grind arith
 
 -- a hint that was refused is given up
 abbrev pub given_up : Bool → Cache → Cache
@@ -37,8 +30,4 @@ given_up refused cache = if refused then Enabled else cache
 
 -- what is left of it
 pub hint_left : (cache : Cache) (may refused : Bool) → asks_hint (given_up ((may && asks_hint cache) && refused) cache) ≡ (asks_hint cache && not ((may && asks_hint cache) && refused))
-hint_left Enabled true refused = refl
-hint_left Enabled false refused = refl
-hint_left Disabled true true = refl
-hint_left Disabled true false = refl
-hint_left Disabled false refused = refl
+hint_left = grind arith

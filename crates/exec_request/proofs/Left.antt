@@ -1,14 +1,13 @@
 -- What one more result means depends on what is left alone.
-use Rattle.std.proofs.Common.{◌≡◌, ℕ, zero-add, ◌+◌, ◌-◌, ◌≤◌, ◌<◌, Bool, true, false, not, ◌||◌, ◌&&◌, List, [], ◌∷◌, Option, Some, None, find, refl, sym, ap, ◌∙◌, inl, inr, arith, if◌then◌else◌, leb, le-leb, leb-false}
+use Rattle.std.proofs.Common.{◌≡◌, ℕ, ◌+◌, ◌-◌, Bool, true, false, not, ◌||◌, ◌&&◌, [], ◌∷◌, Option, Some, None, find, refl, sym, ap, ◌∙◌, inl, inr, arith, if◌then◌else◌, leb}
 use Rattle.std.specs.List.{after_first}
-use Rattle.std.proofs.lemmas.Bool.{cases_Bool, leb-true, lt-leb}
+use Rattle.std.proofs.lemmas.Bool.{cases_Bool}
 use Rattle.exec_outcomes.specs.declared.outcome.Kind.{Kind}
-use Rattle.exec_outcomes.specs.declared.outcome.Kind.TheVariants.{Poll, Send, Recv, Fill, Connect, Read, Hint, Direct, Write, Dsync, Many, Sync}
+use Rattle.exec_outcomes.specs.declared.outcome.Kind.TheVariants.{Read, Direct, Write, Dsync, Many, Sync}
 use Rattle.exec_outcomes.specs.declared.outcome.OpResult.{OpResult}
-use Rattle.exec_outcomes.specs.declared.outcome.OpResult.TheVariants.{Count, Errno}
 use Rattle.exec_outcomes.specs.declared.outcome.Judged.{Judged}
 use Rattle.exec_outcomes.specs.declared.outcome.Outcome.{Outcome}
-use Rattle.exec_outcomes.specs.Outcomes.{Asked, Part, first_length, first_part, bytes_of, is_positive, takes_any, suits_direct, is_transient, is_unsupported, refuses_hint, lasting, with_totals, results_in, completes, decides, passes_on, stops, verdict, verdict_of, outcome_by, outcome_of_part, outcome_by_stop, outcome_next, moves_on}
+use Rattle.exec_outcomes.specs.Outcomes.{Asked, Part, first_length, first_part, bytes_of, is_positive, takes_any, is_transient, refuses_hint, lasting, with_totals, results_in, completes, decides, passes_on, stops, verdict, verdict_of, outcome_by, outcome_by_stop, outcome_next}
 use Rattle.exec_outcomes.proofs.Runs.{one_lasts, after_only}
 use Rattle.exec_request.specs.Judging.{whole, judged_alone, is_enough, passes, ends}
 use Rattle.exec_request.specs.Ways.{asked_by, is_direct, is_switched, size_for}
@@ -21,11 +20,7 @@ use Rattle.exec_request.specs.declared.way.Way.TheVariants as way
 
 -- so many bytes are enough where they are as many as are left
 leb-left : (n m b : ℕ) → leb n (m + b) ≡ leb (n - m) (0 + b)
-leb-left n m b =
-    elim (cases_Bool (leb n (m + b))) [
-      | inl enough ↦ let e : n ≤ m + b = leb-true n (m + b) enough in enough ∙ sym (le-leb (n - m) (0 + b) (omega arith))
-      | inr short ↦ let s : m + b < n = leb-false n (m + b) short in short ∙ sym (lt-leb (n - m) (0 + b) (omega arith))
-    ]
+leb-left = grind arith
 
 completes-left : (kind : Kind) (n m left : ℕ) (r : Judged) → left ≡ n - m → completes (record { kind = kind; length = n }) (r, m + bytes_of r.result) ≡ completes (record { kind = kind; length = left }) (r, 0 + bytes_of r.result)
 completes-left kind n m left r e =
@@ -33,18 +28,7 @@ completes-left kind n m left r e =
 
 -- whether a request passes on depends on whether the part is complete
 passes-left : (kind : Kind) (p q : Part) (x y : Judged × ℕ) → x.0.result ≡ y.0.result → completes p x ≡ completes q y → passes_on kind p x ≡ passes_on kind q y
-passes-left Direct p q x y same e = ap (λ t. not (t || suits_direct x.0.result)) e ∙ ap (λ (r : OpResult). not (completes q y || suits_direct r)) same
-passes-left Many p q x y same e = e
-passes-left Poll p q x y same e = refl
-passes-left Send p q x y same e = refl
-passes-left Recv p q x y same e = refl
-passes-left Fill p q x y same e = refl
-passes-left Connect p q x y same e = refl
-passes-left Read p q x y same e = refl
-passes-left Hint p q x y same e = refl
-passes-left Write p q x y same e = refl
-passes-left Dsync p q x y same e = refl
-passes-left Sync p q x y same e = refl
+passes-left = grind arith
 
 -- what one result that says something means, by its tests
 one_form : Kind → Bool → Judged → Bool → Bool → Option Outcome
@@ -54,12 +38,7 @@ one-form : (asked : Asked) (m : ℕ) (h : Bool) (r : Judged) → lasting asked.k
     let x : Judged × ℕ = (r, m + bytes_of r.result) in
     outcome_next asked (record { moved = m; switched = false; hinted = h }) r ≡ one_form asked.kind r.cancelled r (stops asked x) (passes_on asked.kind (first_part asked) x)
 unfolding one_form
-one-form asked m h r itself =
-    let x : Judged × ℕ = (r, m + bytes_of r.result) in
-    let later : List Judged → List Judged = λ l. results_in (after_first (stops asked) (with_totals m l)) in
-    ap (λ l. outcome_by_stop asked r.cancelled (find (stops asked) (with_totals m l)) (later l)) itself
-    ∙ (ap (λ l. outcome_by_stop asked r.cancelled (find (stops asked) (x ∷ [])) (results_in l)) (after_only (stops asked) x)
-    ∙ elim (stops asked x) as (λ s. outcome_by_stop asked r.cancelled (if s then Some x else None) [] ≡ (if s then (if passes_on asked.kind (first_part asked) x then outcome_by asked.kind r.cancelled None else Some (verdict asked.kind r)) else outcome_by asked.kind r.cancelled None)) [ true ↦ refl | false ↦ refl ])
+one-form = grind (arith, after_only)
 
 nothing-form : (asked : Asked) (m : ℕ) (h : Bool) (r : Judged) → lasting asked.kind (r ∷ []) ≡ [] → outcome_next asked (record { moved = m; switched = false; hinted = h }) r ≡ outcome_by asked.kind r.cancelled None
 nothing-form asked m h r nothing =
@@ -82,151 +61,43 @@ module _ (kind : Kind) (n s left : ℕ) (m : ℕ) (h g : Bool) (e : first_length
         | inr itself ↦ one-form a m h r itself ∙ (ap (λ t. one_form kind r.cancelled r t (passes_on kind (first_part a) x)) stop ∙ (ap (λ t. one_form kind r.cancelled r (stops b y) t) pass ∙ sym (one-form b 0 g r itself)))
       ]
 
-  pub moves-left : (r : OpResult) (hinted c d : Bool) → moves_on (record { kind = kind; length = n; skip = s }) (record { moved = m; switched = false; hinted = h }) (record { result = r; hinted = hinted; cancelled = c }) ≡ moves_on (record { kind = kind; length = left; skip = 0 }) (record { moved = 0; switched = false; hinted = g }) (record { result = r; hinted = hinted; cancelled = d })
-  moves-left r hinted c d =
-      let a : Asked = record { kind = kind; length = n; skip = s } in
-      let b : Asked = record { kind = kind; length = left; skip = 0 } in
-      let x : Judged × ℕ = (record { result = r; hinted = hinted; cancelled = c }, m + bytes_of r) in
-      let y : Judged × ℕ = (record { result = r; hinted = hinted; cancelled = d }, 0 + bytes_of r) in
-      let done : completes (first_part a) x ≡ completes (first_part b) y = completes-left kind (first_length kind n s) m (first_length kind left 0) x.0 e in
-      let pass : passes_on kind (first_part a) x ≡ passes_on kind (first_part b) y = passes-left kind (first_part a) (first_part b) x y refl done in
-      elim (cases_Bool (is_transient kind r)) [
-        | inl transient ↦ rw transient refl
-        | inr lasts ↦ elim (cases_Bool (hinted && is_unsupported r)) [
-          | inl refused ↦ rw (lasts, refused) refl
-          | inr taken ↦ rw (lasts, taken) (ap (λ t. t || false) pass)
-        ]
-      ]
-
--- a request of one part is judged by that part
-pub single-form : (kind : Kind) (n m : ℕ) (h : Bool) (r : Judged) → ((x : Judged × ℕ) → passes_on kind (record { kind = kind; length = first_length kind n 0 }) x ≡ false)
-    → outcome_next (record { kind = kind; length = n; skip = 0 }) (record { moved = m; switched = false; hinted = h }) r ≡ outcome_of_part (record { kind = kind; length = first_length kind n 0 }) r.cancelled (with_totals m (lasting kind (r ∷ [])))
-unfolding one_form
-single-form kind n m h r never =
-    let a : Asked = record { kind = kind; length = n; skip = 0 } in
-    let part : Part = first_part a in
-    let x : Judged × ℕ = (r, m + bytes_of r.result) in
-    let by : List Judged → Option Outcome = λ l. outcome_of_part part r.cancelled (with_totals m l) in
-    elim (one_lasts kind r.result r.hinted r.cancelled) [
-      | inl nothing ↦ nothing-form a m h r nothing.0 ∙ ap by (sym nothing.0)
-      | inr itself ↦
-          one-form a m h r itself
-          ∙ (ap (λ q. one_form kind r.cancelled r (decides part x || q) q) (never x)
-          ∙ (elim (decides part x) as (λ d. one_form kind r.cancelled r (d || false) false ≡ outcome_by kind r.cancelled (if d then Some x else None)) [ true ↦ refl | false ↦ refl ]
-          ∙ ap by (sym itself)))
-    ]
-
--- the results of some kinds say the same
-lasting-alike : (given : OpResult) (hinted c : Bool) → let r : Judged = record { result = given; hinted = hinted; cancelled = c } in (lasting Direct (r ∷ []) ≡ lasting Read (r ∷ [])) × (lasting Hint (r ∷ []) ≡ lasting Read (r ∷ [])) × (lasting Many (r ∷ []) ≡ lasting Sync (r ∷ []))
-lasting-alike (Count n) hinted c = (refl, refl, refl)
-lasting-alike (Errno k) hinted c = (refl, refl, refl)
-
-verdict-alike : (given : OpResult) (c : Bool) → verdict_of Hint given c ≡ verdict_of Read given c
-verdict-alike (Count n) c = refl
-verdict-alike (Errno k) c = refl
-
-by-alike : (g : Bool) (o : Option (Judged × ℕ)) → outcome_by Hint g o ≡ outcome_by Read g o
-by-alike g None = refl
-by-alike g (Some x) = ap Some (verdict-alike x.0.result x.0.cancelled)
-
 -- a buffered read, however it was made
 pub buffered : (way : Way) (n read : ℕ) (h c : Bool) (given : OpResult) → is_direct way ≡ false → n ≡ size_for way n →
     let r : Judged = record { result = given; hinted = h; cancelled = c } in
     outcome_next (asked_by way n) (record { moved = read; switched = is_switched way; hinted = h }) r ≡ outcome_next (record { kind = Read; length = n - read; skip = 0 }) (record { moved = 0; switched = false; hinted = h }) r
 buffered Buffered n read h c given other sized = outcome-left Read n 0 (n - read) read h h refl (record { result = given; hinted = h; cancelled = c })
-buffered Hinted n read h c given other sized =
-    let r : Judged = record { result = given; hinted = h; cancelled = c } in
-    let alike = lasting-alike given h c in
-    let part : Part = record { kind = Read; length = n } in
-    single-form Hint n read h r (λ x. refl)
-    ∙ (ap (λ l. outcome_by Hint c (find (decides part) (with_totals read l))) alike.1
-    ∙ (by-alike c (find (decides part) (with_totals read (lasting Read (r ∷ []))))
-    ∙ (sym (single-form Read n read h r (λ x. refl)) ∙ outcome-left Read n 0 (n - read) read h h refl r)))
+buffered Hinted n read h c given other sized = grind arith
 buffered (way.Direct skip len) n read h c given other sized = cc
-buffered (Switched skip len) n read h c given other sized =
-    let r : Judged = record { result = given; hinted = h; cancelled = c } in
-    let alike = lasting-alike given h c in
-    ap (λ l. outcome_of_part (record { kind = Read; length = len }) c (with_totals read l)) alike.0
-    ∙ (sym (single-form Read len read h r (λ x. refl))
-    ∙ outcome-left Read len 0 (n - read) read h h (ap (λ k. k - read) sized) r)
+buffered (Switched skip len) n read h c given other sized = grind arith
 
 -- a sync that trails a write
 pub trailing : (n : ℕ) (h c : Bool) (given : OpResult) →
     let r : Judged = record { result = given; hinted = false; cancelled = c } in
     outcome_next (record { kind = Many; length = n; skip = 0 }) (record { moved = 0; switched = true; hinted = h }) r ≡ outcome_next (record { kind = Sync; length = 1; skip = 0 }) (record { moved = 0; switched = false; hinted = false }) r
-trailing n h c given =
-    let r : Judged = record { result = given; hinted = false; cancelled = c } in
-    let alike = lasting-alike given false c in
-    ap (λ l. outcome_of_part (record { kind = Sync; length = n }) c (with_totals 0 l)) alike.2
-    ∙ sym (single-form Sync 1 0 false r (λ x. refl))
+trailing = grind arith
 
 -- what isn't direct isn't
 pub not_direct : (w : Way) → ((skip len : ℕ) → w ≡ way.Direct skip len → ⊥) → is_direct w ≡ false
-not_direct Buffered other = refl
-not_direct Hinted other = refl
-not_direct (way.Direct skip len) other = absurd (other skip len refl)
-not_direct (Switched skip len) other = refl
+not_direct = grind arith
 
 -- a result that says nothing is struck out
 silent : (kind : Kind) (r : Judged) → (is_transient kind r.result || refuses_hint r) ≡ true → lasting kind (r ∷ []) ≡ []
-silent kind r nothing =
-    elim (cases_Bool (is_transient kind r.result)) [
-      | inl transient ↦ rw transient refl
-      | inr lasts ↦
-          let refused : refuses_hint r ≡ true = sym (ap (λ b. b || refuses_hint r) lasts) ∙ nothing in
-          rw (lasts, refused) refl
-    ]
+silent = grind arith
 
 -- and one that says something stays
 audible : (kind : Kind) (r : Judged) → (is_transient kind r.result || refuses_hint r) ≡ false → lasting kind (r ∷ []) ≡ r ∷ []
-audible kind r something =
-    elim (cases_Bool (is_transient kind r.result)) [
-      | inl transient ↦ let e : true ≡ false = sym (ap (λ b. b || refuses_hint r) transient) ∙ something in cc
-      | inr lasts ↦
-          let taken : refuses_hint r ≡ false = sym (ap (λ b. b || refuses_hint r) lasts) ∙ something in
-          rw (lasts, taken) refl
-    ]
-
-whole-length : (kind : Kind) (left : ℕ) → first_length kind left 0 ≡ left
-whole-length Direct left = zero-add left
-whole-length Poll left = refl
-whole-length Send left = refl
-whole-length Recv left = refl
-whole-length Fill left = refl
-whole-length Connect left = refl
-whole-length Read left = refl
-whole-length Hint left = refl
-whole-length Write left = refl
-whole-length Dsync left = refl
-whole-length Many left = refl
-whole-length Sync left = refl
+audible = grind arith
 
 completes-alone : (kind : Kind) (left : ℕ) (r : Judged) → completes (first_part (whole kind left)) (r, 0 + bytes_of r.result) ≡ is_enough kind left r.result
-completes-alone kind left r =
-    ap (λ k. is_positive r.result && (takes_any kind || leb k (0 + bytes_of r.result))) (whole-length kind left)
-    ∙ ap (λ n. is_positive r.result && (takes_any kind || leb left n)) (zero-add (bytes_of r.result))
+completes-alone = grind arith
 
 passes-alone : (kind : Kind) (left : ℕ) (r : Judged) → completes (first_part (whole kind left)) (r, 0 + bytes_of r.result) ≡ is_enough kind left r.result → passes_on kind (first_part (whole kind left)) (r, 0 + bytes_of r.result) ≡ passes kind left r.result
-passes-alone Direct left r e = ap (λ t. not (t || suits_direct r.result)) e
-passes-alone Many left r e = e
-passes-alone Poll left r e = refl
-passes-alone Send left r e = refl
-passes-alone Recv left r e = refl
-passes-alone Fill left r e = refl
-passes-alone Connect left r e = refl
-passes-alone Read left r e = refl
-passes-alone Hint left r e = refl
-passes-alone Write left r e = refl
-passes-alone Dsync left r e = refl
-passes-alone Sync left r e = refl
+passes-alone = grind arith
 
 -- a part that passes on doesn't end the request
 ends-form : (kind : Kind) (given_up d p : Bool) (r : Judged) → one_form kind given_up r (d || p) p ≡ (if d && not p then Some (verdict kind r) else outcome_by kind given_up None)
 unfolding one_form
-ends-form kind given_up true true r = refl
-ends-form kind given_up true false r = refl
-ends-form kind given_up false true r = refl
-ends-form kind given_up false false r = refl
+ends-form = grind arith
 
 -- what one result alone means, by whether it ends the request
 pub judged_by : (kind : Kind) (left : ℕ) (hinted cancelled : Bool) (given : OpResult) → judged_alone kind left hinted cancelled given ≡ (if ends kind left hinted given then Some (verdict_of kind given cancelled) else outcome_by kind cancelled None)

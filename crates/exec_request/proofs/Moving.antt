@@ -1,14 +1,13 @@
 -- Lists whose parts are written over, and copied one after another.
-use Rattle.std.proofs.Common.{◌≡◌, ℕ, ◌+◌, ◌-◌, ◌≤◌, ◌<◌, ◌==◌, true, List, [], ◌∷◌, ◌++◌, length, take, drop, get_or, replicate, min, refl, sym, ap, ◌∙◌, arith, inl, inr, append_assoc, length-append, length-drop, length-take-le}
+use Rattle.std.proofs.Common.{◌≡◌, ℕ, ◌+◌, ◌-◌, ◌≤◌, ◌<◌, true, List, [], ◌++◌, length, take, drop, get_or, replicate, min, refl, sym, ap, ◌∙◌, arith, inl, inr, append_assoc, length-append, length-drop, length-take-le}
 use Rattle.std.specs.List.{concat, flat_map}
-use borrow.Author.Tests.{eqb-true}
 use borrow.Rule.Slice.PartMut.{put_mid}
-use Rattle.std.proofs.lemmas.Bool.{cases_lt, and_parts, leb-true}
+use Rattle.std.proofs.lemmas.Bool.{cases_lt}
 use Rattle.std.proofs.lemmas.List.{append-nil, drop-drop, take-append-le, drop-append-le, take_all, drop_all, take_at, drop_more, drop-take, take-take, take_rest, take-append-drop, length-take, length-replicate, take-replicate, take_min, drop_min}
 use Rattle.std.proofs.lemmas.Slice.{take-put_mid, drop-put_mid}
 use Rattle.std.proofs.Math.Seq.{take-append-add, drop-append-add}
 use Rattle.std.proofs.lemmas.List.Concat.{concat_is, length-flat_map, flat_map-append}
-use Rattle.std.proofs.lemmas.List.Sums.{sum_by-take-le, sum_by-take-drop}
+use Rattle.std.proofs.lemmas.List.Sums.{sum_by-take-le}
 use Rattle.exec_bufs.specs.Buffers.{Buffer, resized, total}
 use Rattle.exec_request.specs.Buffers.{is_sound, batch_of}
 use Rattle.exec_request.specs.Bytes.{filled_at, batch_bytes}
@@ -19,28 +18,14 @@ use Rattle.exec_request.proofs.Chunks.{batch-first}
 pub take-app : (n : ℕ) (xs ys : List ℕ) → take n (xs ++ ys) ≡ take n xs ++ take (n - length xs) ys
 take-app n xs ys =
     elim (cases_lt n (length xs)) [
-      | inl short ↦
-          let none : n - length xs ≡ 0 = omega arith in
-          take-append-le n xs ys (omega arith) ∙ (sym (append-nil (take n xs)) ∙ ap (λ k. take n xs ++ take k ys) (sym none))
+      | inl short ↦ grind (arith, take-append-le, append-nil)
       | inr long ↦
           let sum : n ≡ length xs + (n - length xs) = omega arith in
-          ap (λ k. take k (xs ++ ys)) sum
-          ∙ (take-append-add xs ys (n - length xs)
-          ∙ ap (λ (l : List ℕ). l ++ take (n - length xs) ys) (sym (take_all n xs (omega arith))))
+          grind (arith, take-append-add, take_all)
     ]
 
 pub drop-app : (n : ℕ) (xs ys : List ℕ) → drop n (xs ++ ys) ≡ drop n xs ++ drop (n - length xs) ys
-drop-app n xs ys =
-    elim (cases_lt n (length xs)) [
-      | inl short ↦
-          let none : n - length xs ≡ 0 = omega arith in
-          drop-append-le n xs ys (omega arith) ∙ ap (λ k. drop n xs ++ drop k ys) (sym none)
-      | inr long ↦
-          let sum : n ≡ length xs + (n - length xs) = omega arith in
-          ap (λ k. drop k (xs ++ ys)) sum
-          ∙ (drop-append-add xs ys (n - length xs)
-          ∙ ap (λ (l : List ℕ). l ++ drop (n - length xs) ys) (sym (drop_all n xs (omega arith))))
-    ]
+drop-app = grind (arith, cases_lt, drop-append-le, drop-append-add, drop_all)
 
 -- a list in which bytes were written over a part, and zeros over the part behind it
 pub overwritten : (at count : ℕ) (old w z : List ℕ) → length w ≤ count → at + count ≤ length old → z ≡ replicate (count - length w) 0 →
@@ -54,11 +39,7 @@ overwritten at count old w z fits within zeros =
     ∙ (ap (λ k. drop k p) (omega (arith, fits))
     ∙ drop-put_mid at (edge - at) old w (at + count) (omega (arith, fits)) (omega (arith, within)) (omega arith)) in
     let filled : w ++ z ≡ resized count w = ap (λ (l : List ℕ). w ++ l) zeros ∙ ap (λ (l : List ℕ). l ++ replicate (count - length w) 0) (sym (take_all count w fits)) in
-    ap (λ (l : List ℕ). l ++ (z ++ drop (at + count - edge) (drop edge p))) front
-    ∙ (ap (λ (l : List ℕ). (take at old ++ w) ++ (z ++ l)) behind
-    ∙ (append_assoc (take at old) w (z ++ drop (at + count) old)
-    ∙ (ap (λ (l : List ℕ). take at old ++ l) (sym (append_assoc w z (drop (at + count) old)))
-    ∙ ap (λ (l : List ℕ). take at old ++ (l ++ drop (at + count) old)) filled)))
+    grind (arith, append_assoc, filled)
 
 length-resized : (n : ℕ) (xs : List ℕ) → length (resized n xs) ≡ n
 length-resized n xs = omega (arith, length-append (take n xs) (replicate (n - length xs) 0), length-take n xs, length-replicate {A = ℕ} (n - length xs) 0)
@@ -67,27 +48,12 @@ length-resized n xs = omega (arith, length-append (take n xs) (replicate (n - le
 pub filled : (at count : ℕ) (b : Buffer) (w new : List ℕ) →
     let grown : List ℕ = b.bytes ++ replicate (at + count - length b.bytes) 0 in
     new ≡ take at grown ++ (resized count w ++ drop (at + count) grown) → new ≡ (filled_at at (resized count w) b).bytes
-filled at count b w new made =
-    let xs : List ℕ = b.bytes in
-    let zeros : List ℕ = replicate (at + count - length xs) 0 in
-    let front : take at (xs ++ zeros) ≡ resized at xs = take-app at xs zeros ∙ ap (λ (l : List ℕ). take at xs ++ l) (take-replicate (at - length xs) (at + count - length xs) 0 (omega arith)) in
-    let gone : drop (at + count - length xs) zeros ≡ [] = drop_all (at + count - length xs) zeros (omega (arith, length-replicate {A = ℕ} (at + count - length xs) 0)) in
-    let behind : drop (at + count) (xs ++ zeros) ≡ drop (at + count) xs = drop-app (at + count) xs zeros ∙ (ap (λ (l : List ℕ). drop (at + count) xs ++ l) gone ∙ append-nil (drop (at + count) xs)) in
-    let long : at + length (resized count w) ≡ at + count = ap (λ n. at + n) (length-resized count w) in
-    made
-    ∙ (ap (λ (l : List ℕ). l ++ (resized count w ++ drop (at + count) (xs ++ zeros))) front
-    ∙ (ap (λ (l : List ℕ). resized at xs ++ (resized count w ++ l)) behind
-    ∙ ap (λ n. resized at xs ++ (resized count w ++ drop n xs)) (sym long)))
+filled = grind (arith, take-app, take-replicate, drop_all, length-replicate, drop-app, append-nil, length-resized)
 
 -- a part of one list that was copied over a part of another
 pub copied : (into b w : List ℕ) (done skip n from : ℕ) → from ≡ min skip (length b) → w ≡ take (from + n - from) (drop from b) →
     put_mid done (done + n - done) into w ≡ take done into ++ (take n (drop skip b) ++ drop (done + n) into)
-copied into b w done skip n from clipped taken =
-    let count : from + n - from ≡ n = omega arith in
-    let part : w ≡ take n (drop skip b) = taken ∙ (ap (λ k. take k (drop from b)) count ∙ (ap (λ k. take n (drop k b)) clipped ∙ ap (take n) (drop_min skip b))) in
-    let behind : drop (done + n - done) (drop done into) ≡ drop (done + n) into = drop-drop (done + n - done) done into ∙ ap (λ k. drop k into) (omega arith) in
-    ap (λ (l : List ℕ). take done into ++ (l ++ drop (done + n - done) (drop done into))) part
-    ∙ ap (λ (l : List ℕ). take done into ++ (take n (drop skip b) ++ l)) behind
+copied = grind (arith, drop_min, drop-drop)
 
 -- one more chunk is copied, as far as it fits
 pub copied-next : (bufs : List (List ℕ)) (at done ahead n : ℕ) (into new : List ℕ) → done ≤ length into → at < length bufs →
@@ -115,13 +81,7 @@ copied-next bufs at done ahead n into new fits there count made =
     ∙ (take-app m xs ys
     ∙ (ap (λ (l : List ℕ). l ++ take (m - length xs) ys) cut
     ∙ ap (λ k. take n xs ++ take k ys) left))) in
-    ap (λ (l : List ℕ). l ++ take (length into - (done + n)) ys) front
-    ∙ (append_assoc (take done into) (take n xs) (take (length into - (done + n)) ys)
-    ∙ ap (λ (l : List ℕ). take done into ++ l) (sym whole))
-
-pub length-copied : (done n : ℕ) (into part : List ℕ) → done + n ≤ length into → length part ≡ n → length (take done into ++ (part ++ drop (done + n) into)) ≡ length into
-length-copied done n into part fits size =
-    omega (arith, length-append (take done into) (part ++ drop (done + n) into), length-append part (drop (done + n) into), length-drop (done + n) into, length-take-le done into (omega (arith, fits)), size, fits)
+    grind (arith, append_assoc)
 
 pub length-concat : (bufs : List (List ℕ)) → length (concat bufs) ≡ total bufs
 length-concat bufs = ap length (concat_is bufs) ∙ length-flat_map (λ (x : List ℕ). x) bufs
@@ -143,9 +103,7 @@ copied-all bufs chunk skip at done ahead into size same fits past enough made =
 pub within-batch : (n at m : ℕ) (xs : List ℕ) → at + n ≤ m → take n (drop at (take m xs)) ≡ take n (drop at xs)
 within-batch n at m xs fits =
     let sum : m ≡ at + (m - at) = omega (arith, fits) in
-    ap (λ k. take n (drop at (take k xs))) sum
-    ∙ (ap (take n) (drop-take at (m - at) xs)
-    ∙ take-take n (m - at) (drop at xs) (omega (arith, fits)))
+    grind (arith, drop-take, take-take)
 
 concat-split : (chunk : ℕ) (bufs : List (List ℕ)) → concat bufs ≡ concat (take chunk bufs) ++ concat (drop chunk bufs)
 concat-split chunk bufs =
@@ -169,9 +127,7 @@ pub record Placed (bufs : List (List ℕ)) (chunk offset remaining : ℕ) : Type
   pub begun : offset ≤ length (get_or bufs chunk [])
 
 pub placed : (bufs : List (List ℕ)) (chunk offset remaining : ℕ) → is_sound (Vectored bufs chunk offset remaining) ≡ true → Placed bufs chunk offset remaining
-placed bufs chunk offset remaining sound =
-    let parts = and_parts ((total (take chunk bufs) + offset) + remaining == total bufs) _ sound in
-    record { sum = eqb-true _ _ parts.0; begun = leb-true _ _ parts.1 }
+placed = grind arith
 
 -- a part of a batch of several chunks lies in them
 pub part-fits : (bufs : List (List ℕ)) (chunk offset remaining at n : ℕ) → is_sound (Vectored bufs chunk offset remaining) ≡ true → at + n ≤ batch_of (Vectored bufs chunk offset remaining) → (offset + at) + n ≤ total (drop chunk bufs)
@@ -179,27 +135,10 @@ part-fits bufs chunk offset remaining at n sound fits =
     let at_place = placed bufs chunk offset remaining sound in
     omega (arith, at_place.begun, fits, batch-first bufs chunk, sum_by-take-le length (drop chunk bufs) 1024)
 
-pub part-small : (bufs : List (List ℕ)) (chunk offset remaining at n : ℕ) → is_sound (Vectored bufs chunk offset remaining) ≡ true → at + n ≤ batch_of (Vectored bufs chunk offset remaining) → offset + at ≤ total bufs
-part-small bufs chunk offset remaining at n sound fits =
-    omega (arith, part-fits bufs chunk offset remaining at n sound fits, sum_by-take-drop length bufs chunk)
-
 -- a part of a batch, as it was copied
 pub part-of-several : (bufs : List (List ℕ)) (chunk offset remaining at n : ℕ) → is_sound (Vectored bufs chunk offset remaining) ≡ true → at + n ≤ batch_of (Vectored bufs chunk offset remaining) →
     take n (drop (offset + at) (concat (drop chunk bufs))) ≡ take n (drop at (batch_bytes (Vectored bufs chunk offset remaining)))
-part-of-several bufs chunk offset remaining at n sound fits =
-    let at_place = placed bufs chunk offset remaining sound in
-    let gone : total bufs - remaining ≡ total (take chunk bufs) + offset = omega (arith, at_place.sum) in
-    let rest : drop (total bufs - remaining) (concat bufs) ≡ drop offset (concat (drop chunk bufs)) = ap (λ k. drop k (concat bufs)) gone ∙ moved-drop bufs chunk offset in
-    ap (take n) (sym (drop-drop at offset (concat (drop chunk bufs))))
-    ∙ (ap (λ (l : List ℕ). take n (drop at l)) (sym rest)
-    ∙ sym (within-batch n at (batch_of (Vectored bufs chunk offset remaining)) (drop (total bufs - remaining) (concat bufs)) fits))
+part-of-several = grind (arith, placed, moved-drop, drop-drop, within-batch)
 
 pub part-of-one : (buf new : List ℕ) (offset at n : ℕ) → at + n ≤ batch_of (Single buf offset) → new ≡ take (at + n - at) (drop at (take (length buf - offset) (drop offset buf))) → new ≡ take n (drop at (batch_bytes (Single buf offset)))
-part-of-one buf new offset at n fits copied =
-    let count : at + n - at ≡ n = omega arith in
-    let rest : drop offset buf ≡ drop offset (concat (buf ∷ [])) = ap (drop offset) (sym (append-nil buf)) in
-    copied
-    ∙ (ap (λ k. take k (drop at (take (length buf - offset) (drop offset buf)))) count
-    ∙ (ap (λ (l : List ℕ). take n (drop at l)) (take_rest buf offset)
-    ∙ (ap (λ (l : List ℕ). take n (drop at l)) rest
-    ∙ sym (within-batch n at (batch_of (Single buf offset)) (drop offset (concat (buf ∷ []))) fits))))
+part-of-one = grind (arith, copied, append-nil, take_rest, within-batch)

@@ -1,10 +1,9 @@
 -- What a request of any kind asks for, how far it has come, and what comes of it.
-use Rattle.std.specs.Prelude.{ℕ, Bool, true, false, List, [], ◌∷◌, Option, Some, None}
+use Rattle.std.specs.Prelude.{ℕ, Bool, true, false, [], Option, Some, None}
 use Rattle.exec_outcomes.specs.Accounts.{Account, outcome_at_grant}
 use Rattle.exec_outcomes.specs.Outcomes.{Asked, Cursor}
 use Rattle.exec_outcomes.specs.declared.outcome.Kind.TheVariants as kind
 use Rattle.exec_outcomes.specs.declared.outcome.Outcome.{Outcome}
-use Rattle.exec_request.specs.Buffers.{owners_of}
 use Rattle.exec_request.specs.States.{Ended, received, range_read, told_by, account_by}
 use Rattle.exec_request.specs.Syncing.{write_kind, is_syncing}
 use Rattle.exec_request.specs.Ways.{narrowed}
@@ -61,14 +60,6 @@ deadline_of (WriteAt w) = None
 deadline_of (Sync s) = None
 deadline_of (Connect c) = c.deadline
 deadline_of (Poll p) = p.deadline
-
--- the bytes that it owns: of a read those of its range
-abbrev pub owned_bytes : Request → List (List ℕ)
-owned_bytes (Send s) = owners_of s.write
-owned_bytes (Recv r) = r.buf.bytes ∷ []
-owned_bytes (ReadAt r) = (narrowed r.way r.buf).bytes ∷ []
-owned_bytes (WriteAt w) = owners_of w.write
-owned_bytes _ = []
 
 -- What was begun goes on to its end also where nobody waits for it: a change of a file.
 abbrev pub goes_on_alone : Request → Bool

@@ -1,14 +1,13 @@
 -- What requests ask for, how far they have come, and the windows of their next operations.
 use Rattle.std.specs.Prelude.{◌≡◌, ℕ, Bool, false, not, ◌+◌, ◌-◌, ◌%◌, ◌^◌, ◌&&◌, length, replicate, min, if◌then◌else◌}
 use Rattle.exec_outcomes.specs.declared.outcome.Kind.TheVariants as kind
-use Rattle.exec_bufs.specs.Buffers.{Buffer}
 use Rattle.exec_outcomes.specs.Lawful.{aligned}
 use Rattle.exec_outcomes.specs.Outcomes.{Asked, Cursor}
 use Rattle.exec_request.specs.Buffers.{length_of, moved_of, batch_of, chunks_of}
 use Rattle.exec_request.specs.Hints.{asks_hint}
 use Rattle.exec_request.specs.Windows.{plain_window}
 use Rattle.exec_request.specs.Syncing.{write_kind, is_syncing, is_dsync}
-use Rattle.exec_request.specs.Ways.{asked_by, is_direct, is_switched, skipped, narrowed}
+use Rattle.exec_request.specs.Ways.{asked_by, is_direct, is_switched}
 use Rattle.exec_request.specs.declared.cache.Cache.TheVariants.{Disabled}
 use Rattle.exec_request.specs.declared.way.Way.TheVariants.{Direct}
 use Rattle.exec_request.specs.declared.send.SendRequest.{SendRequest}
@@ -65,10 +64,6 @@ read_window hinted r =
       direct = is_direct r.way;
       dsync = false;
     }
-
--- where its range begins in the file, and the buffer of the range alone
-abbrev pub reads_range : ReadAtRequest → ℕ × Buffer
-reads_range r = (r.offset + skipped r.way, narrowed r.way r.buf)
 
 -- a direct read of so many bytes from this offset on, of which nothing has come yet
 pub record IsDirectRead (r : ReadAtRequest) (file offset len : ℕ) : Type 0 where

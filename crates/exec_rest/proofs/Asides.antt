@@ -1,11 +1,11 @@
 -- What parties share stays as it was, as far as waking goes, where a worker puts one thing back.
-use Rattle.std.proofs.Common.{◌≡◌, ℕ, zero, suc, Bool, List, [], ◌∷◌, ◌++◌, refl, ap, ◌∙◌, slice_set, slice_index_or}
+use Rattle.std.proofs.Common.{◌≡◌, ℕ, zero, suc, Bool, List, [], ◌∷◌, ◌++◌, refl, slice_set, slice_index_or, arith}
 use Rattle.std.proofs.lemmas.List.{get_or-set_other}
 use Rattle.exec_words.specs.Idle.{Idle}
 use Rattle.exec_words.specs.Queue.{Queue}
 use Rattle.exec_words.specs.declared.word.PureWord.{PureWord}
 use Rattle.exec_machine.specs.declared.state.MailMessage.{MailMessage}
-use Rattle.exec_moves.specs.{State.{Things, no_queue, no_word, no_wake_poll, word_of}, Pick.Queues, Send.{Mailbox, with_newcomer}, Thing.{set_queue, set_queues, set_word, set_inbox, set_mailbox, set_global, set_idle, set_barrier, set_shard, set_gate, set_answers, set_alarms}}
+use Rattle.exec_moves.specs.{State.{Things, no_word, word_of}, Pick.Queues, Send.{Mailbox, with_newcomer}, Thing.{set_queue, set_queues, set_word, set_inbox, set_mailbox, set_global, set_idle, set_barrier, set_shard, set_gate, set_answers, set_alarms}}
 use Rattle.exec_rest.proofs.Plain.{Aside}
 
 -- one of a list is another one, of which f is the same: so it is of all
@@ -28,26 +28,10 @@ same i x =
     record { bits = refl; global = λ h. h; targets = λ j. refl; latches = λ j. refl; polls = λ j. refl; queues = λ j apart h. h }
 
 pub own_queue : (i : ℕ) (x : Things) (q : Queue ℕ) → Aside i x (set_queue i x q)
-own_queue i x q =
-    record {
-      bits = refl;
-      global = λ h. h;
-      targets = λ j. refl;
-      latches = λ j. refl;
-      polls = λ j. refl;
-      queues = λ j apart h. ap (λ (v : Queue ℕ). v.values) (get_or-set_other x.queues i j q no_queue apart) ∙ h;
-    }
+own_queue = grind (arith, get_or-set_other)
 
 pub share_put : (i : ℕ) (x : Things) (q : Queues) → ((q.global ≡ [] → ⊥) → x.global ≡ [] → ⊥) → Aside i x (set_queues i x q)
-share_put i x q less =
-    record {
-      bits = refl;
-      global = less;
-      targets = λ j. refl;
-      latches = λ j. refl;
-      polls = λ j. refl;
-      queues = λ j apart h. ap (λ (v : Queue ℕ). v.values) (get_or-set_other x.queues i j q.queue no_queue apart) ∙ h;
-    }
+share_put = grind (arith, get_or-set_other)
 
 pub global_less : (i : ℕ) (x : Things) (g : List ℕ) → ((g ≡ [] → ⊥) → x.global ≡ [] → ⊥) → Aside i x (set_global x g)
 global_less i x g less =
@@ -107,12 +91,4 @@ idle_put i x v bits =
 
 -- a new worker has nothing yet, as one that isn't there
 pub newcomer : (i : ℕ) (x : Things) → Aside i x (with_newcomer x)
-newcomer i x =
-    record {
-      bits = refl;
-      global = λ h. h;
-      targets = λ j. ap (λ (w : PureWord). w.target) (none_more x.words j no_word);
-      latches = λ j. ap (λ (w : PureWord). w.latch) (none_more x.words j no_word);
-      polls = λ j. none_more x.wake_polls j no_wake_poll;
-      queues = λ j apart h. ap (λ (v : Queue ℕ). v.values) (none_more x.queues j no_queue) ∙ h;
-    }
+newcomer = grind (arith, none_more)

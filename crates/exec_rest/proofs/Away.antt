@@ -1,43 +1,28 @@
 -- Away from the places to which the test for work leads: where the parts lead, a poll and the callbacks.
-use Rattle.std.proofs.Common.{◌≡◌, ℕ, ◌-◌, ◌==◌, Bool, true, false, ◌&&◌, List, Option, Some, None, refl, if◌then◌else◌}
-use Rattle.std.proofs.lemmas.Bool.{false≢true}
+use Rattle.std.proofs.Common.{◌≡◌, ℕ, ◌-◌, ◌==◌, Bool, true, false, List, Option, Some, None, refl, if◌then◌else◌, arith}
 use Rattle.std.specs.Prelude.{drop}
 use Rattle.exec_outcomes.specs.{Accounts.{is_durable}}
-use Rattle.exec_words.specs.{Queue.{tail_of}}
-use Rattle.exec_machine.specs.{declared.{config.{Configuration.Configuration, ScriptWord.ScriptWord}, state.{MailMessage.MailMessage, Operation.Operation, RequestPhase.RequestPhase, Waiting.Waiting}}, Choice.Choice.Plain, Requests.{operation_asked}, Ranges.ring_size, Tests.{is_done, is_idle, is_ready}, World.{Common, Task, request_of, sleeper_of, task_of, Own as Books}, Words.{newest_held, next_word, sleep_asked}}
-use Rattle.exec_machine.specs.declared.config.ScriptWord.TheVariants as script
+use Rattle.exec_machine.specs.{declared.{config.{Configuration.Configuration, ScriptWord.ScriptWord}, state.{MailMessage.MailMessage, Operation.Operation, RequestPhase.RequestPhase, Waiting.Waiting}}, Choice.Choice.Plain, Requests.{operation_asked}, Ranges.ring_size, Tests.{is_done, is_idle}, World.{Common, Task, request_of, sleeper_of, task_of, Own as Books}, Words.{next_word}}
 use Rattle.exec_machine.specs.declared.state.RequestPhase.TheVariants as phase
 use Rattle.exec_machine.specs.declared.state.Waiting.TheVariants as waiting
 use Rattle.exec_moves.specs.declared.handing.{AfterCallbacks.AfterCallbacks, AfterClaim.AfterClaim, AfterKick.AfterKick, AfterPush.AfterPush, AfterSend.AfterSend, AfterSignal.AfterSignal, Heard.Heard}
 use Rattle.exec_moves.specs.declared.place.{InCallbacks.InCallbacks, InPoll.InPoll, Place.Place}
-use Rattle.exec_moves.specs.{Callback.{Item, Item.{Answers, Completes, LetsGo, Nothing, Releases, Wakes}, after_callbacks, flagged_by, has_callbacks, has_requests, is_full, is_of_pool, item_next, next_callback, tells_waiter, woken_by}, Claim.{Claimed, Claimed.{Again, Nobody, Worker}, after_claim}, Look.{after_withdrawal}, Move.{move_act, move_callbacks, move_item, move_look_at, move_poll, move_wake}, Parts.{after_kick, after_push, after_signal}, Poll.{Sight, Sight.{Asks, HearsRequest, HearsTimer, Here}, act, act_asked, act_by, after_pend, await, drop_newest, heard_by, requeued_if, resume, sight_of, sight_of_act, sleep_for}, Send.{Mailbox, payer_of_send, posting, posting_of, send_message, send_root}, State.{Desk, Moved, Things, queue_of}, Thing.mailbox_of, Told.{has_number, lets_go_all}}
-use Rattle.exec_moves.specs.declared.handing.AfterCallbacks.TheVariants as after
+use Rattle.exec_moves.specs.{Callback.{Item, Item.{Answers, Completes, LetsGo, Nothing, Releases, Wakes}, after_callbacks, flagged_by, has_callbacks, next_callback, tells_waiter, woken_by}, Claim.{Claimed, after_claim}, Look.{after_withdrawal}, Move.{move_act, move_callbacks, move_item, move_look_at, move_poll, move_wake}, Parts.{after_kick, after_push, after_signal}, Poll.{Sight, Sight.{Asks, HearsRequest, HearsTimer, Here}, act, act_asked, act_by, after_pend, heard_by, requeued_if, resume}, Send.{Mailbox, payer_of_send, posting, posting_of, send_message, send_root}, State.{Desk, Moved, Things}, Thing.mailbox_of, Told.{has_number, lets_go_all}}
 use Rattle.exec_moves.specs.declared.handing.AfterCancels.TheVariants as cancels
-use Rattle.exec_moves.specs.declared.handing.AfterClaim.TheVariants as claim
 use Rattle.exec_moves.specs.declared.handing.AfterKick.TheVariants as kicks
 use Rattle.exec_moves.specs.declared.handing.AfterLeave.TheVariants as leave
 use Rattle.exec_moves.specs.declared.handing.AfterPush.TheVariants as pushes
 use Rattle.exec_moves.specs.declared.handing.AfterSend.TheVariants as send
-use Rattle.exec_moves.specs.declared.handing.AfterSignal.TheVariants as signal
 use Rattle.exec_moves.specs.declared.handing.Heard.TheVariants as heard
 use Rattle.exec_moves.specs.declared.idling.AfterWait.TheVariants as later
-use Rattle.exec_moves.specs.declared.place.InCallbacks.TheVariants as callback
-use Rattle.exec_moves.specs.declared.place.InPoll.TheVariants as poll
 use Rattle.exec_rest.specs.{Posted.has_tested}
-use Rattle.exec_rest.proofs.Continuing.{calm_after_end, calm_after_leave, calm_after_poll, calm_after_posting, calm_after_return, calm_after_send, calm_after_spawn, calm_cancels_left, calm_leaves_for_turn, calm_next_pick, calm_to_queue}
+use Rattle.exec_rest.proofs.Continuing.{calm_after_leave, calm_after_poll, calm_after_posting, calm_after_return, calm_after_send, calm_after_spawn, calm_cancels_left, calm_leaves_for_turn, calm_next_pick, calm_to_queue}
 use Rattle.exec_rest.proofs.{Plain.is_calm}
 
 -- AWAY: the place isn't one to which the test leads
 
 pub calm_untested : (q : Place) → is_calm q ≡ true → has_tested q ≡ false
-calm_untested Place.ReadClock h = absurd (false≢true h)
-calm_untested (Place.Search x) h = absurd (false≢true h)
-calm_untested (Place.Scan x) h = absurd (false≢true h)
-calm_untested (Place.Look x) h = absurd (false≢true h)
-calm_untested (Place.RingWait x y) h = absurd (false≢true h)
-calm_untested (Place.WordWait x) h = absurd (false≢true h)
-calm_untested (Place.Withdraw n) h = absurd (false≢true h)
-calm_untested _ h = refl
+calm_untested = grind arith
 
 -- by a test, this or that: of two places, of two desks, and of two moves
 pub away_if : (b : Bool) (q r : Place) → has_tested q ≡ false → has_tested r ≡ false → has_tested (if b then q else r) ≡ false
@@ -58,35 +43,24 @@ away_moved_if false m m' one other = other
 -- WHERE THE PARTS LEAD that aren't known to lead to calm places
 module _ (c : Configuration) (i : ℕ) (me : Books) (s : Common) where
   away_callbacks : (size : ℕ) (n : AfterCallbacks) (d : Desk) → has_tested (after_callbacks size i s n d) ≡ false
-  away_callbacks size after.Look d = away_if (is_of_pool s i) _ _ refl refl
-  away_callbacks size after.Test d = away_if (is_of_pool s i) _ _ refl refl
-  away_callbacks size after.Begin d = refl
-  away_callbacks size after.Drain d = refl
-  away_callbacks size after.Finish d = away_if (has_requests i s) _ _ (away_if (is_full size d) _ _ refl refl) refl
+  away_callbacks = grind arith
 
   -- with what the worker has by then
   away_callback : (mine : Books) (size : ℕ) (n : AfterCallbacks) (d : Desk) → has_tested (next_callback size i mine s n d) ≡ false
   away_callback mine size n d = away_if (has_callbacks mine d) _ _ refl (away_callbacks size n d)
 
   pub away_push : (b : AfterPush) (d : Desk) → has_tested (after_push c i me s b d) ≡ false
-  away_push (pushes.Act t) d = refl
-  away_push pushes.Pick d = calm_untested _ (calm_next_pick d)
-  away_push (pushes.CallBack n) d = away_callback me (ring_size c) n d
+  away_push = grind (arith, calm_untested, calm_next_pick, away_callback)
 
   pub away_kick : (b : AfterKick) (d : Desk) → has_tested (after_kick c i me s b d) ≡ false
   away_kick (kicks.Leave b) d = calm_untested _ (calm_after_leave c i me s b d)
   away_kick (kicks.Push b) d = away_push b d
 
   pub away_signal : (b : AfterSignal) (d : Desk) → has_tested (after_signal c i me s b d) ≡ false
-  away_signal (signal.Claim (claim.Kick b)) d = away_kick b d
-  away_signal (signal.Claim (claim.Global b)) d = away_push b d
-  away_signal (signal.Send b) d = calm_untested _ (calm_after_send c b d)
+  away_signal = grind (arith, away_kick, away_push, calm_untested, calm_after_send)
 
   pub away_claim : (b : AfterClaim) (it : Claimed) → has_tested (after_claim b it) ≡ false
-  away_claim b (Worker lowest) = refl
-  away_claim b (Again found) = refl
-  away_claim (claim.Kick b) Nobody = refl
-  away_claim (claim.Global b) Nobody = refl
+  away_claim = grind arith
 
   pub away_made_up : (came last : Bool) (d : Desk) → has_tested (after_withdrawal c i me s came (later.MakeUp last) d) ≡ false
   away_made_up true last d = calm_untested _ (calm_leaves_for_turn c i me s d)
@@ -111,29 +85,13 @@ module _ (c : Configuration) (i : ℕ) (me : Books) (s : Common) (d : Desk) (x :
   pended t it (Some home) = refl
 
   resumed_by : (t : ℕ) (it : Task) (r : ℕ) (p : RequestPhase) → it.waiting ≡ waiting.Request r → (request_of s r).phase ≡ p → IsAway (resume i t s d it)
-  resumed_by t it r (phase.Resolved outcome) h is = rw (h, is) refl
-  resumed_by t it r phase.Gated h is = rw (h, is) (pended t (record it { waiting = waiting.Request r }) it.home)
-  resumed_by t it r phase.Queued h is = rw (h, is) (pended t (record it { waiting = waiting.Request r }) it.home)
-  resumed_by t it r phase.Staged h is = rw (h, is) (pended t (record it { waiting = waiting.Request r }) it.home)
-  resumed_by t it r phase.Flying h is = rw (h, is) (pended t (record it { waiting = waiting.Request r }) it.home)
-  resumed_by t it r (phase.Landed n) h is = rw (h, is) (pended t (record it { waiting = waiting.Request r }) it.home)
+  resumed_by = grind (arith, pended)
 
   resumed : (t : ℕ) (it : Task) (w : Waiting) → it.waiting ≡ w → IsAway (resume i t s d it)
-  resumed t it (waiting.Request r) h = resumed_by t it r _ h refl
-  resumed t it (waiting.Timer z) h = rw h (away_moved_if (sleeper_of s z).fired _ _ refl (pended t (record it { waiting = waiting.Timer z }) it.home))
-  resumed t it waiting.Woken h = rw h refl
-  resumed t it waiting.Nothing h = rw h (pended t (record it { waiting = waiting.Nothing }) it.home)
-  resumed t it waiting.Wake h = rw h (pended t (record it { waiting = waiting.Wake }) it.home)
-  resumed t it waiting.Yielded h = rw h (pended t (record it { waiting = waiting.Yielded }) it.home)
+  resumed = grind (arith, resumed_by, away_moved_if, pended)
 
   heard_one : (t r : ℕ) (answers : List ℕ) (b : Bool) (p : RequestPhase) → IsAway (heard_by t r d answers b p)
-  heard_one t r answers true (phase.Resolved outcome) = refl
-  heard_one t r answers true phase.Gated = refl
-  heard_one t r answers true phase.Queued = refl
-  heard_one t r answers true phase.Staged = refl
-  heard_one t r answers true phase.Flying = refl
-  heard_one t r answers true (phase.Landed n) = refl
-  heard_one t r answers false p = refl
+  heard_one = grind arith
 
   looked : (t : ℕ) (b : AfterSend) (m : Moved Things) → IsAway m → (y : Sight) → IsAway (move_look_at c s d x t b m y)
   looked t b m away Here = away
@@ -141,34 +99,8 @@ module _ (c : Configuration) (i : ℕ) (me : Books) (s : Common) (d : Desk) (x :
   looked t b m away (HearsRequest r) = heard_one t r x.answers (has_number r x.answers) (request_of s r).phase
   looked t b m away (HearsTimer z) = away_moved_if (has_number z x.alarms) _ _ refl refl
 
-  awaited_by : (t : ℕ) (it : Task) (r : ℕ) (p : RequestPhase) → (request_of s r).phase ≡ p → IsAway (await t s d it (Some r))
-  awaited_by t it r (phase.Resolved outcome) h = rw h refl
-  awaited_by t it r phase.Gated h = rw h refl
-  awaited_by t it r phase.Queued h = rw h refl
-  awaited_by t it r phase.Staged h = rw h refl
-  awaited_by t it r phase.Flying h = rw h refl
-  awaited_by t it r (phase.Landed n) h = rw h refl
-
-  awaited_newest : (t : ℕ) (it : Task) (newest : Option ℕ) → IsAway (await t s d it newest)
-  awaited_newest t it None = refl
-  awaited_newest t it (Some r) = awaited_by t it r _ refl
-
-  dropped_newest : (t : ℕ) (it : Task) (newest : Option ℕ) → IsAway (drop_newest t s d it newest)
-  dropped_newest t it None = here
-  dropped_newest t it (Some r) = refl
-
-  slept_for : (t : ℕ) (it : Task) (until : Option ℕ) → IsAway (sleep_for t s d it until)
-  slept_for t it None = refl
-  slept_for t it (Some until) = refl
-
   acts_by : (t : ℕ) (it : Task) (w : ScriptWord) → IsAway (act_by i t me s d it w)
-  acts_by t it script.Await = awaited_newest t it (newest_held it)
-  acts_by t it script.Drop = dropped_newest t it (newest_held it)
-  acts_by t it (script.Sleep time) = slept_for t it (sleep_asked me.sampled (script.Sleep time))
-  acts_by t it script.Yield = refl
-  acts_by t it (script.Fault code) = calm_untested _ (calm_after_end t it.home (lets_go_all i s it d))
-  acts_by t it script.End = calm_untested _ (calm_after_end t it.home (lets_go_all i s it d))
-  acts_by t it _ = here
+  acts_by = grind arith
 
   acts_asked : (t : ℕ) (it : Task) (w : ScriptWord) (asked : Option Operation) → IsAway (act_asked i t me s d it w asked)
   acts_asked t it w None = acts_by t it w
@@ -182,21 +114,10 @@ module _ (c : Configuration) (i : ℕ) (me : Books) (s : Common) (d : Desk) (x :
   wakes t u (Some home) = away_moved_if (home == i) _ _ refl (posts_root c i me s home (send.Act t) d (mailbox_of x home))
 
   acts_as : (t : ℕ) (w : ScriptWord) → IsAway (move_act c i me s d x t w)
-  acts_as t (script.Spawn k) = away_desk_if s.set_closed _ _ refl (calm_untested _ (calm_after_spawn c i s t))
-  acts_as t (script.Wake u) = wakes t u (task_of s u).home
-  acts_as t (script.Dedicated k) = refl
-  acts_as t script.Await = looked t (send.Pend t) _ (acts t (task_of s t)) (sight_of_act i s (task_of s t) script.Await)
-  acts_as t script.Drop = looked t (send.Act t) _ (acts t (task_of s t)) (sight_of_act i s (task_of s t) script.Drop)
-  acts_as t _ = acts t (task_of s t)
+  acts_as = grind (arith, away_desk_if, calm_untested, calm_after_spawn, wakes, looked, acts)
 
   pub polls : (t : ℕ) (p : InPoll) → IsAway (move_poll c i me s d x t p)
-  polls t poll.BeginPoll = away_moved_if (is_ready (task_of s t).phase) _ _ refl (calm_untested _ (calm_after_poll (task_of s t).home d))
-  polls t poll.Resume = looked t (send.Pend t) _ (resumed t (task_of s t) _ refl) (sight_of i s (task_of s t).waiting)
-  polls t poll.Act = acts_as t (next_word s (task_of s t))
-  polls t (poll.JoinGate r) = refl
-  polls t poll.LoadSpawnHead = away_if (tail_of (queue_of x i) == (queue_of x i).real) _ _ refl refl
-  polls t poll.Pend = pended t (task_of s t) (task_of s t).home
-  polls t poll.RemoveTask = calm_untested _ (calm_next_pick d)
+  polls = grind (arith, away_moved_if, calm_untested, calm_after_poll, looked, resumed, acts_as, away_if, pended, calm_next_pick)
 
   -- THE CALLBACKS
   woken : (n : AfterCallbacks) (t : ℕ) (e : Desk) (it : Task) (home : Option ℕ) → it.home ≡ home → has_tested (woken_by (ring_size c) i me s n t e it).place ≡ false
@@ -216,6 +137,4 @@ module _ (c : Configuration) (i : ℕ) (me : Books) (s : Common) (d : Desk) (x :
   items n Nothing = away_callback c i me s me (ring_size c) n d
 
   pub calls : (p : InCallbacks) (n : AfterCallbacks) → IsAway (move_callbacks c i me s d x p n)
-  calls callback.TakeBatch n = away_if (d.searching && has_callbacks me d) _ _ refl (away_callback c i me s me (ring_size c) n d)
-  calls callback.CallBack n = items n (item_next me d)
-  calls (callback.WakeWaiter t of) n = woken n t d (task_of s t) _ refl
+  calls = grind (arith, away_if, away_callback, items, woken)

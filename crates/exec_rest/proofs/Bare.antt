@@ -1,10 +1,10 @@
 -- Workers that are not of the pool: nothing is given to their run queues, and these stay empty.
-use Rattle.std.proofs.Common.{◌≡◌, ℕ, zero, suc, ◌+◌, Bool, true, false, ◌&&◌, List, [], ◌∷◌, ◌++◌, map, get_or, set, replicate, refl, sym, ap, ◌∙◌, subst, inl, inr}
+use Rattle.std.proofs.Common.{◌≡◌, ℕ, zero, suc, ◌+◌, Bool, true, false, List, [], ◌∷◌, ◌++◌, map, get_or, set, replicate, refl, sym, ap, ◌∙◌, subst, inl, inr, arith}
 use Rattle.std.proofs.lemmas.{Bool.{true≢false, cases_Bool}}
-use Rattle.exec_machine.specs.{declared.{config.{Configuration.Configuration}, event.Event.Event, state.{Rest.{TheVariants.{Awake}}}, step.Action.Action}, Callers.{after_going_on, after_spawn_by_call, after_wake_by_call, is_enabled}, Choice.Choice, Deadlines.roused_at, Mail.{is_left_out, is_root_message, posted}, Progress.Plan, World.{Common, Own as Books, Seat, no_seat, own_of, request_of, seat_of, task_of}}
+use Rattle.exec_machine.specs.{declared.{config.{Configuration.Configuration}, event.Event.Event, step.Action.Action}, Callers.{after_going_on, after_spawn_by_call, after_wake_by_call}, Choice.Choice, Deadlines.roused_at, Progress.Plan, World.{Common, Own as Books, Seat, no_seat, own_of, request_of, seat_of}}
 use Rattle.exec_machine.specs.declared.event.Event.TheVariants as event
 use Rattle.exec_machine.specs.declared.step.Action.TheVariants as action
-use Rattle.exec_moves.specs.{declared.{place.{Place.Place}}, Callback.{is_of_pool}, Move.{move}, Plays.{Playing, by_action, by_step, caller_of, desk_of, first_desk, first_desks, first_playing, newcomers}, State.{Desk, Moved, Things, no_queue}}
+use Rattle.exec_moves.specs.{declared.{place.{Place.Place}}, Callback.{is_of_pool}, Move.{move}, Plays.{Playing, by_action, by_step, desk_of, first_desk, first_desks, first_playing, newcomers}, State.{Desk, Moved, Things, no_queue}}
 use Rattle.exec_rest.specs.{AtRest.{AreBare, IsBare, is_fed, is_given}, Rested.{IsLaidOut, is_in_pool, place_at}}
 use Rattle.exec_rest.proofs.{Frames.{pool_after}, BareMoves.{call_kept, put_in, wake_kept, worker_bare}, Given.{given_move}}
 
@@ -28,11 +28,7 @@ all_begin c (suc n) k (suc i) = elsewhere (first_desks c n (suc k)) i (all_begin
     elsewhere (d ∷ ds) (suc j) h = elsewhere ds j h
 
 pub bare_first : (p : Plan) → AreBare p.config (first_playing p)
-bare_first p =
-    record {
-      given = λ i h. absurd (true≢false (sym h ∙ all_begin p.config p.config.workers 0 i));
-      bare = λ i outside. all_bare p.config.workers i;
-    }
+bare_first = grind (arith, true≢false, all_begin, all_bare)
 
 abbrev is_work : Action → Bool
 is_work (action.Work i) = true
@@ -57,17 +53,10 @@ module _ (s : Common) (j : ℕ) where
   spawn_pooled k _ = refl
 
   wake_pooled : (t : ℕ) (e : Event) (choice : Choice) → Pooled (after_wake_by_call s t e choice)
-  wake_pooled t (event.Wake other) choice = refl
-  wake_pooled t (event.Send to m) choice = elim (cases_Bool (is_root_message m && is_left_out choice)) [
-    | inl out ↦ rw out refl
-    | inr in_it ↦ rw in_it (seat_pooled to (posted m (seat_of s to)) refl)
-  ]
-  wake_pooled t _ choice = refl
+  wake_pooled = grind (arith, cases_Bool, seat_pooled)
 
   going_pooled : (k : ℕ) (e : Event) → Pooled (after_going_on s k e)
-  going_pooled k (event.Rouse other) = seat_pooled other (record (seat_of s other) { rest = Awake }) refl
-  going_pooled k event.Return = refl
-  going_pooled k _ = refl
+  going_pooled = grind (arith, seat_pooled)
 
 -- WHO IS GIVEN SOMETHING
 
@@ -79,9 +68,7 @@ joined P (x ∷ xs) more (suc j) d there h = joined P xs more j d there h
 
 -- a worker that a step makes begins a turn
 born : (c : Configuration) (e : Event) (j n : ℕ) → is_given (get_or (newcomers c e) n (first_desk c j)).place ≡ false
-born c (event.Dedicated t k) j zero = refl
-born c (event.Dedicated t k) j (suc n) = refl
-born c _ j n = refl
+born = grind arith
 
 -- EACH STEP
 
@@ -95,26 +82,10 @@ module _ (c : Configuration) (x : Playing) (are : AreBare c x) where
 
   -- no run queue is touched, and no seat goes over into the pool or out of it
   kept : (y : Playing) → ((j : ℕ) → is_in_pool c y j ≡ is_in_pool c x j) → ((j : ℕ) → MayHave j (desk_of c y j)) → y.things.queues ≡ x.things.queues → AreBare c y
-  kept y pool may queues =
-      record {
-        given = λ j h. pool j ∙ may j h;
-        bare = λ j outside. subst (λ qs. IsBare (get_or qs j no_queue)) (sym queues) (are.bare j (sym (pool j) ∙ outside));
-      }
+  kept = grind arith
 
   pool_kept : (a : Action) → is_work a ≡ false → (j : ℕ) → is_in_pool c (by_action c x a).next j ≡ is_in_pool c x j
-  pool_kept (action.Work i) idle j = absurd (true≢false idle)
-  pool_kept (action.Spawn k script) idle j = spawn_pooled s j script _
-  pool_kept (action.Wake k t) idle j = wake_pooled s j t _ _
-  pool_kept (action.GoOn k) idle j = going_pooled s j k _
-  pool_kept (action.Clock d) idle j = clock_pooled (s.clock + d) s.seats j
-  pool_kept (action.Land r n) idle j =
-      let i = (request_of s r).worker in
-      let seat = seat_of s i in
-      seat_pooled s j i (record seat { landed = seat.landed ++ r ∷ []; rest = Awake }) refl
-  pool_kept (action.SetBusy i) idle j = seat_pooled s j i (record (seat_of s i) { busy = true }) refl
-  pool_kept (action.EndPoll i) idle j = refl
-  pool_kept (action.Stir i) idle j = seat_pooled s j i (record (seat_of s i) { rest = Awake }) refl
-  pool_kept (action.Peer l) idle j = refl
+  pool_kept = grind (arith, true≢false, spawn_pooled, wake_pooled, going_pooled, clock_pooled, seat_pooled)
 
   -- none but a worker goes elsewhere by its steps
   places_kept : (a : Action) → is_work a ≡ false → (j : ℕ) → MayHave j (desk_of c (by_action c x a).next j)
@@ -162,15 +133,8 @@ module _ (c : Configuration) (x : Playing) (are : AreBare c x) where
           (put_in (MayHave j) x.desks i j m.desk (first_desk c j) (λ is h. ap (is_in_pool c x) is ∙ given_move c i me s d x.things (are.given i) h) (are.given j))
 
 bare_then : (c : Configuration) (x : Playing) → ((i : ℕ) → is_fed (place_at c x i) ≡ true → is_in_pool c x i ≡ true) → AreBare c x → (a : Action) → AreBare c (by_action c x a).next
-bare_then c x fed are (action.Work i) = by_worker c x are fed i
-bare_then c x fed are (action.Wake k t) =
-    let s = x.world.common in by_other c x are (action.Wake k t) refl (wake_kept s (caller_of x k) x.things t (task_of s t).home)
-bare_then c x fed are (action.GoOn k) = by_other c x are (action.GoOn k) refl (call_kept x.world.common (caller_of x k) x.things (caller_of x k).place)
-bare_then c x fed are a = by_other c x are a refl refl
+bare_then = grind (arith, by_worker, by_other, wake_kept, call_kept)
 
 -- a step that is not enabled changes nothing
 pub bare_goes_on : (c : Configuration) (x : Playing) → IsLaidOut c x → ((i : ℕ) → is_fed (place_at c x i) ≡ true → is_in_pool c x i ≡ true) → AreBare c x → (a : Action) → AreBare c (by_step c x a).next
-bare_goes_on c x laid fed are a = elim (cases_Bool (is_enabled x.world.common a)) [
-  | inl may ↦ rw may (bare_then c x fed are a)
-  | inr off ↦ rw off are
-]
+bare_goes_on = grind (arith, cases_Bool, bare_then)

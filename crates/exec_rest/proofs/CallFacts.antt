@@ -1,12 +1,12 @@
 -- The step of an outside caller keeps what holds of each worker.
-use Rattle.std.proofs.Common.{◌≡◌, ◌≢◌, ℕ, zero, suc, ◌==◌, ◌<◌, Bool, true, false, ◌&&◌, ◌||◌, List, [], ◌∷◌, length, get_or, slice_set, Some, if◌then◌else◌, refl, sym, ap, ◌∙◌, subst, inl, inr, arith}
-use Rattle.std.proofs.lemmas.Bool.{true≢false, false≢true, cases_Bool, eqb-true, eqb-false}
+use Rattle.std.proofs.Common.{◌≡◌, ◌≢◌, ℕ, zero, suc, ◌<◌, Bool, true, false, ◌&&◌, ◌||◌, List, [], ◌∷◌, length, get_or, slice_set, Some, refl, sym, ap, ◌∙◌, subst, inl, inr, arith}
+use Rattle.std.proofs.lemmas.Bool.{true≢false, false≢true, cases_Bool}
 use Rattle.std.proofs.lemmas.List.{get_or-set_same, get_or-set_other}
-use Rattle.std.specs.Prelude.{◌⊎◌, is_some, nat_lt, not}
+use Rattle.std.specs.Prelude.{◌⊎◌, is_some, not}
 use Rattle.exec_words.specs.{Word.is_armed}
 use Rattle.exec_words.specs.declared.word.WaitTarget.TheVariants as target
 use Rattle.exec_machine.specs.{declared.{config.Configuration.Configuration, event.Event.TheVariants.{Rouse}}, Callers.may_go_on, Tests.{has_ended, is_awake, is_empty}, World.{Common, Seat, no_seat, seat_of}}
-use Rattle.exec_moves.specs.{declared.{handing.CallPlace.CallPlace, idling.{AfterWait.AfterWait, InRingWait.InRingWait, InWordWait.InWordWait}, place.Place.Place}, Call.{CallDesk, Called, no_call}, Claim.is_ring, Plays.{Playing, desk_of, caller_of, first_desk}, Serve.Ring, State.{Desk, Things, WakePoll, no_queue, raised, told_once, word_of, wake_poll_of}, Thing.ring_of, Wait.has_completion}
+use Rattle.exec_moves.specs.{declared.{handing.CallPlace.CallPlace, idling.{InRingWait.InRingWait}, place.Place.Place}, Call.{CallDesk, Called, no_call}, Claim.is_ring, Plays.{Playing, caller_of, first_desk}, Serve.Ring, State.{Desk, Things, WakePoll, no_queue, raised, word_of, wake_poll_of}}
 use Rattle.exec_rest.specs.Places.{Raising, call_owes, call_raises, call_signals, has_looked, is_abed, is_in_call, is_published, is_to_enter, is_to_sleep_on_ring, is_withdrawing, owes, raises, signals, waits_on}
 use Rattle.exec_rest.specs.Rested.{IsLaidOut, IsOwed, IsRaised, IsRestful, IsSignalled, Someone, Someone.{Worker, Caller}, has_bit, is_in_pool, is_latched, is_told, place_at, sleeps}
 use Rattle.exec_rest.proofs.{CallHeeds.CallHeeds, CallSeats.{Halved, Seated}}
@@ -14,9 +14,7 @@ use Rattle.exec_rest.proofs.{CallHeeds.CallHeeds, CallSeats.{Halved, Seated}}
 -- PLACES
 
 pub abed_armed : (p : Place) → is_abed p ≡ true → is_armed (waits_on p) ≡ true
-abed_armed (Place.WordWait InWordWait.DisarmWord) h = refl
-abed_armed (Place.RingWait (InRingWait.DisarmRing AfterWait.Begin) y) h = refl
-abed_armed _ h = absurd (false≢true h)
+abed_armed = grind arith
 
 pub enters_ring : (p : Place) → is_to_enter p ≡ true → waits_on p ≡ target.Ring
 enters_ring (Place.RingWait InRingWait.EnterRing y) h = refl
@@ -39,81 +37,25 @@ seat_there (seat ∷ seats) (suc i) pool = let later = seat_there seats i pool i
 
 -- WAKE POLLS
 
-raised_told : (w : WakePoll) → w.told ≡ true → (raised w).told ≡ true
-raised_told w h = by w.armed
-  where
-    by : (b : Bool) → (if b then told_once w else record w { kept = true }).told ≡ true
-    by true = refl
-    by false = h
-
-raised_armed : (w : WakePoll) → w.armed ≡ true → (raised w).told ≡ true
-raised_armed w armed = rw armed refl
-
-raised_heard : (w : WakePoll) → ((raised w).told ≡ true) ⊎ ((raised w).kept ≡ true)
-raised_heard w = by w.armed
-  where
-    by : (b : Bool) → ((if b then told_once w else record w { kept = true }).told ≡ true) ⊎ ((if b then told_once w else record w { kept = true }).kept ≡ true)
-    by true = inl refl
-    by false = inr refl
-
-and_false : (a b : Bool) → b ≡ false → (a && b) ≡ false
-and_false true b h = h
-and_false false b h = refl
-
 raised_kept : (w : WakePoll) → (w.armed && w.kept) ≡ false → ((raised w).armed && (raised w).kept) ≡ false
-raised_kept w h = by w.armed refl
-  where
-    by : (b : Bool) → w.armed ≡ b → (let v : WakePoll = if b then told_once w else record w { kept = true } in (v.armed && v.kept) ≡ false)
-    by true armed = and_false (not w.last) w.kept (sym (ap (λ b. b && w.kept) armed) ∙ h)
-    by false unarmed = ap (λ b. b && true) unarmed
-
-or_true : (a b : Bool) → b ≡ true → (a || b) ≡ true
-or_true true b h = refl
-or_true false b h = h
+raised_kept = grind arith
 
 raised_ended : (landed : Bool) (w : WakePoll) → (is_some w.ended ≡ true → (landed || w.told) ≡ true) → is_some (raised w).ended ≡ true → (landed || (raised w).told) ≡ true
-raised_ended landed w h = by w.armed
-  where
-    by : (b : Bool) → (let v : WakePoll = if b then told_once w else record w { kept = true } in is_some v.ended ≡ true → (landed || v.told) ≡ true)
-    by true ended = or_true landed true refl
-    by false ended = h ended
-
--- a completion stays
-completes : (d : Desk) (r r' : Ring) → r'.landed ≡ r.landed → (r.wakes.told ≡ true → r'.wakes.told ≡ true) → has_completion d r ≡ true → has_completion d r' ≡ true
-completes d r r' same more h = rw same (by (not (is_empty r.landed)) (nat_lt 0 d.others) r.wakes.told r'.wakes.told more h)
-  where
-    by : (a b told told' : Bool) → (told ≡ true → told' ≡ true) → (a || b || told) ≡ true → (a || b || told') ≡ true
-    by true b told told' more h = refl
-    by false true told told' more h = refl
-    by false false told told' more h = more h
-
-told_completes : (d : Desk) (r : Ring) → r.wakes.told ≡ true → has_completion d r ≡ true
-told_completes d r h = by (not (is_empty r.landed)) (nat_lt 0 d.others)
-  where
-    by : (a b : Bool) → (a || b || r.wakes.told) ≡ true
-    by true b = refl
-    by false true = refl
-    by false false = h
+raised_ended = grind arith
 
 or_either : (a b : Bool) → (a || b) ≡ true → (a ≡ true) ⊎ (b ≡ true)
 or_either true b h = inl refl
 or_either false b h = inr h
 
 either_or : (a b : Bool) → (a ≡ true) ⊎ (b ≡ true) → (a || b) ≡ true
-either_or true b h = refl
-either_or false b (inl h) = absurd (false≢true h)
-either_or false b (inr h) = h
+either_or = grind arith
 
 not_so : (b : Bool) → not b ≡ true → b ≡ false
 not_so true h = absurd (false≢true h)
 not_so false h = refl
 
 pub same_or_not : (k j : ℕ) → (k ≡ j) ⊎ (k ≡ j → ⊥)
-same_or_not k j = by (k == j) refl
-  where
-    by : (b : Bool) → (k == j) ≡ b → (k ≡ j) ⊎ (k ≡ j → ⊥)
-    by true h = inl (eqb-true k j h)
-    by false h = inr (eqb-false k j h)
+same_or_not = grind arith
 
 -- THE STEP of caller j, which leaves t and what its move m does
 module _ (c : Configuration) (x : Playing) (laid : IsLaidOut c x) (held : IsRestful c x) (j : ℕ) (t : Common) (m : Called Things)
@@ -202,37 +144,18 @@ module _ (c : Configuration) (x : Playing) (laid : IsLaidOut c x) (held : IsRest
 
   -- RINGS
 
-  abbrev ring_with : ℕ → WakePoll → Ring
-  ring_with i w = record { busy = (seat_of t i).busy; landed = (seat_of t i).landed; wakes = w }
-
   polls_then : (P : WakePoll → Type 0) (i : ℕ) → P (wake_poll_of x.things i) → P (raised (wake_poll_of x.things i)) → P (wake_poll_of m.thing i)
   polls_then P i same raises = elim (heeds.polls i) [ inl is ↦ subst P (sym is) same | inr is ↦ subst P (sym is) raises ]
 
   told_still : (i : ℕ) → is_told c x i ≡ true → is_told c next i ≡ true
-  told_still i h =
-      let w = wake_poll_of x.things i in
-      polls_then (λ v. has_completion (desk_of c x i) (ring_with i v) ≡ true) i
-      (completes (desk_of c x i) (ring_of x.world.common x.things i) (ring_with i w) (seated.landed i) (λ told. told) h)
-      (completes (desk_of c x i) (ring_of x.world.common x.things i) (ring_with i (raised w)) (seated.landed i) (raised_told w) h)
-
-  told_now : (i : ℕ) → (wake_poll_of m.thing i).told ≡ true → is_told c next i ≡ true
-  told_now i h = told_completes (desk_of c x i) (ring_of t m.thing i) h
+  told_still = grind arith
 
   -- a wake of worker i is raised by the step
   heard_now : (i : ℕ) → wake_poll_of m.thing i ≡ raised (wake_poll_of x.things i) → (is_told c next i || (wake_poll_of m.thing i).kept) ≡ true
-  heard_now i is = elim (raised_heard (wake_poll_of x.things i)) [
-    | inl told ↦ either_or (is_told c next i) (wake_poll_of m.thing i).kept (inl (told_now i (ap (λ (w : WakePoll). w.told) is ∙ told)))
-    | inr kept ↦ either_or (is_told c next i) (wake_poll_of m.thing i).kept (inr (ap (λ (w : WakePoll). w.kept) is ∙ kept))
-  ]
+  heard_now = grind arith
 
   heard_still : (i : ℕ) → (is_told c x i || (wake_poll_of x.things i).kept) ≡ true → (is_told c next i || (wake_poll_of m.thing i).kept) ≡ true
-  heard_still i h = elim (heeds.polls i) [
-    | inr is ↦ heard_now i is
-    | inl is ↦ elim (or_either (is_told c x i) (wake_poll_of x.things i).kept h) [
-      | inl told ↦ either_or (is_told c next i) (wake_poll_of m.thing i).kept (inl (told_still i told))
-      | inr kept ↦ either_or (is_told c next i) (wake_poll_of m.thing i).kept (inr (ap (λ (w : WakePoll). w.kept) is ∙ kept))
-    ]
-  ]
+  heard_still = grind arith
 
   -- a latch that was put in by the step: its wait on the ring is ended next
   rings_next : (i : ℕ) → waits_on (place_at c x i) ≡ target.Ring → (call_raises m.desk.place ≡ Some (of i (is_ring (word_of x.things i).target))) ⊎ ((word_of x.things i).target ≡ target.None) → IsRaised c next i true
@@ -249,10 +172,7 @@ module _ (c : Configuration) (x : Playing) (laid : IsLaidOut c x) (held : IsRest
   ]
 
   told_by : (i : ℕ) → is_to_sleep_on_ring (place_at c x i) ≡ true → wake_poll_of m.thing i ≡ raised (wake_poll_of x.things i) → is_told c next i ≡ true
-  told_by i at is = elim (or_either (wake_poll_of x.things i).armed (is_told c x i) (held.polled i at)) [
-    | inl armed ↦ told_now i (ap (λ (w : WakePoll). w.told) is ∙ raised_armed (wake_poll_of x.things i) armed)
-    | inr told ↦ told_still i told
-  ]
+  told_by = grind arith
 
   sleeping : (i : ℕ) → is_to_sleep_on_ring (place_at c next i) ≡ true → is_latched c next i ≡ true → IsRaised c next i true ⊎ (is_told c next i ≡ true)
   sleeping i at latch = elim (heeds.latch_in i latch) [
@@ -266,10 +186,7 @@ module _ (c : Configuration) (x : Playing) (laid : IsLaidOut c x) (held : IsRest
   polled : (i : ℕ) → is_to_sleep_on_ring (place_at c next i) ≡ true → ((wake_poll_of m.thing i).armed || is_told c next i) ≡ true
   polled i at = elim (heeds.polls i) [
     | inr is ↦ either_or (wake_poll_of m.thing i).armed (is_told c next i) (inr (told_by i at is))
-    | inl is ↦ elim (or_either (wake_poll_of x.things i).armed (is_told c x i) (held.polled i at)) [
-      | inl armed ↦ either_or (wake_poll_of m.thing i).armed (is_told c next i) (inl (ap (λ (w : WakePoll). w.armed) is ∙ armed))
-      | inr told ↦ either_or (wake_poll_of m.thing i).armed (is_told c next i) (inr (told_still i told))
-    ]
+    | inl is ↦ grind arith
   ]
 
   kept : (i : ℕ) → ((wake_poll_of m.thing i).armed && (wake_poll_of m.thing i).kept) ≡ false
@@ -284,10 +201,7 @@ module _ (c : Configuration) (x : Playing) (laid : IsLaidOut c x) (held : IsRest
   -- BITS AND THE GLOBAL QUEUE
 
   bit_gone : (i : ℕ) → has_bit c x i ≡ false → has_bit c next i ≡ false
-  bit_gone i gone = elim (cases_Bool (has_bit c next i)) [
-    | inl h ↦ absurd (true≢false (sym (heeds.bit_in i h) ∙ gone))
-    | inr h ↦ h
-  ]
+  bit_gone = grind arith
 
   bits : (i : ℕ) → has_bit c next i ≡ true → (is_published (place_at c next i) ≡ true) × (is_in_pool c next i ≡ true)
   bits i h = let was = held.bits i (heeds.bit_in i h) in (was.0, pool_same i ∙ was.1)
@@ -314,10 +228,7 @@ module _ (c : Configuration) (x : Playing) (laid : IsLaidOut c x) (held : IsRest
   look_over : call_owes d.place ≡ true → IsCovered
   look_over mine = elim (heeds.owing mine) [
     | inl h ↦ owed_now h
-    | inr over ↦ elim over [
-      | inl none ↦ inr (0, pool_same 0 ∙ laid.some, λ looked. none 0)
-      | inr one ↦ inr (one.0, pool_same one.0 ∙ (held.bits one.0 one.1).1, λ looked. one.2)
-    ]
+    | inr over ↦ grind arith
   ]
 
   covered : (m.thing.global ≡ [] → ⊥) → IsCovered

@@ -1,23 +1,18 @@
 -- What the move of an outside caller does as far as waking goes, and the moves that do none of it.
-use Rattle.std.proofs.Common.{◌≡◌, ℕ, ◌==◌, ◌<◌, Bool, true, false, List, [], length, set, get_or, Some, None, refl, sym, ap, ◌∙◌, inl, inr, arith}
-use Rattle.std.proofs.lemmas.Bool.{true≢false, false≢true, eqb-true, eqb-false, ltb-true, ltb-false}
+use Rattle.std.proofs.Common.{◌≡◌, ℕ, ◌<◌, Bool, true, false, List, [], length, set, get_or, Some, None, sym, ◌∙◌, inl, arith}
+use Rattle.std.proofs.lemmas.Bool.{false≢true, eqb-true, eqb-false, ltb-true, ltb-false}
 use Rattle.std.proofs.lemmas.List.{get_or-set_other, set_past}
-use Rattle.std.proofs.lemmas.{Grind.{get_or-set_at}, Option.{none-some}}
-use Rattle.std.specs.Prelude.{◌⊎◌, nat_lt}
+use Rattle.std.proofs.lemmas.{Grind.{get_or-set_at}}
+use Rattle.std.specs.Prelude.{◌⊎◌}
 use Rattle.exec_words.specs.Idle.{is_in}
 use Rattle.exec_words.specs.declared.word.WaitTarget.TheVariants as target
 use Rattle.exec_machine.specs.{declared.event.Event.{TheVariants.{Rouse}}, Tests.{is_awake}, World.{Common, seat_of}}
-use Rattle.exec_moves.specs.{declared.handing.CallPlace.CallPlace, Call.{CallDesk, Called}, Claim.is_ring, State.{Things, no_wake_poll, word_of, wake_poll_of, raised}}
+use Rattle.exec_moves.specs.{declared.handing.CallPlace.CallPlace, Call.{CallDesk, Called}, Claim.is_ring, State.{Things, word_of, wake_poll_of, raised}}
 use Rattle.exec_rest.specs.Places.{call_owes, call_raises, call_signals}
 
 -- an element after one was set
 pub set_at : {A : Type 0} (xs : List A) (i k : ℕ) (y d : A) → (get_or (set xs i y) k d ≡ get_or xs k d) ⊎ ((k ≡ i) × (i < length xs) × (get_or (set xs i y) k d ≡ y))
-set_at xs i k y d = by (k == i) refl (nat_lt i (length xs)) refl
-  where
-    by : (b : Bool) → (k == i) ≡ b → (within : Bool) → nat_lt i (length xs) ≡ within → (get_or (set xs i y) k d ≡ get_or xs k d) ⊎ ((k ≡ i) × (i < length xs) × (get_or (set xs i y) k d ≡ y))
-    by false other within h = inl (get_or-set_other xs i k y d (eqb-false k i other))
-    by true same true h = let is = eqb-true k i same in inr (is, ltb-true i (length xs) h, get_or-set_at xs i k y d is (ltb-true i (length xs) h))
-    by true same false h = inl (ap (λ ys. get_or ys k d) (set_past xs i y (omega (arith, ltb-false i (length xs) h))))
+set_at = grind (arith, get_or-set_other, eqb-false, eqb-true, ltb-true, get_or-set_at, set_past, ltb-false)
 
 -- The move of a caller from d over x.
 module _ (s : Common) (d : CallDesk) (x : Things) (m : Called Things) where
@@ -60,21 +55,7 @@ pub record CallAside (x y : Things) : Type 0 where
 module _ (s : Common) (d : CallDesk) (x : Things) (m : Called Things) (no_signal : call_signals d.place ≡ None) (no_raise : call_raises d.place ≡ None) (aside : CallAside x m.thing) where
   -- a move of who signals nobody
   pub looking_call : ((m.thing.global ≡ [] → ⊥) → (x.global ≡ [] → ⊥) ⊎ (call_owes m.desk.place ≡ true)) → (call_owes d.place ≡ true → (call_owes m.desk.place ≡ true) ⊎ ((j : ℕ) → is_in m.thing.idle.published j ≡ false)) → CallHeeds s d x m
-  looking_call global owing =
-      record {
-        bit_in = λ j h. rw (← aside.bits) h;
-        bit_out = λ j h gone. absurd (true≢false (sym h ∙ ap (λ b. is_in b j) (sym aside.bits) ∙ gone));
-        global = global;
-        owing = λ h. elim (owing h) [ inl still ↦ inl still | inr none ↦ inr (inl none) ];
-        targets = aside.targets;
-        latch_in = λ j h. inl (sym (aside.latches j) ∙ h);
-        latch_kept = λ j h. aside.latches j ∙ h;
-        signalling = λ j h within. absurd (none-some j (sym no_signal ∙ h));
-        rouses = λ j ring h. absurd (none-some (record { worker = j; ring = ring }) (sym no_raise ∙ h));
-        polls = λ j. inl (ap (λ ps. get_or ps j no_wake_poll) aside.polls);
-        raising = λ j h within. absurd (none-some (record { worker = j; ring = true }) (sym no_raise ∙ h));
-        queues = aside.queues;
-      }
+  looking_call = grind arith
 
   -- the same of who owes nothing, and leaves the global queue as it is
   pub plain_call : call_owes d.place ≡ false → m.thing.global ≡ x.global → CallHeeds s d x m

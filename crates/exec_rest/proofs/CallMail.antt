@@ -1,20 +1,19 @@
 -- The steps of outside callers leave no message unheard: the first one of a batch publishes that, and is followed by a signal where
 -- its worker waits and nobody has signalled it.
-use Rattle.std.proofs.Common.{◌≡◌, ℕ, ◌<◌, ◌≤◌, Bool, true, false, ◌&&◌, List, [], ◌∷◌, ◌++◌, length, get_or, Option, Some, None, if◌then◌else◌, refl, sym, ap, ◌∙◌, subst, inl, inr, arith}
-use Rattle.std.proofs.lemmas.Bool.{false≢true, and_parts, cases_Bool, ltb-true, ltb-false, or_cases}
+use Rattle.std.proofs.Common.{◌≡◌, ℕ, ◌<◌, Bool, true, false, List, [], length, get_or, Option, Some, None, refl, sym, ap, ◌∙◌, subst, inl, inr, arith}
+use Rattle.std.proofs.lemmas.Bool.{false≢true, and_parts, ltb-true, ltb-false, or_cases}
 use Rattle.std.proofs.lemmas.List.{get_or-set_other, get_or-set_same, set_past}
 use Rattle.std.specs.Prelude.{◌⊎◌, nat_lt}
-use Rattle.exec_words.specs.{declared.word.PureWord.PureWord, Word.{asks_signal, is_armed, next_batch}}
+use Rattle.exec_words.specs.{Word.{is_armed}}
 use Rattle.exec_words.specs.declared.word.WaitTarget.TheVariants as target
-use Rattle.exec_machine.specs.{declared.{config.Configuration.Configuration, event.Event.{TheVariants.{Closed, Send}}, state.MailMessage.{MailMessage, TheVariants.Root}, step.Action.Action}, Callers.{after_going_on, after_spawn_by_call, after_wake_by_call, half_done, is_enabled, may_call}, Choice.{Choice, Choice.{Plain, Posts}, Payer.ByCall}, Tests.is_empty, World.{Common, seat_of, task_of}}
+use Rattle.exec_machine.specs.{declared.{config.Configuration.Configuration, state.MailMessage.{MailMessage, TheVariants.Root}, step.Action.Action}, Callers.{after_going_on, after_spawn_by_call, after_wake_by_call, half_done, is_enabled, may_call}, Choice.{Choice, Choice.{Posts}, Payer.ByCall}, World.{Common, task_of}}
 use Rattle.exec_machine.specs.declared.step.Action.TheVariants as action
 use Rattle.exec_moves.specs.declared.{handing.CallPlace.CallPlace, place.Place.Place}
 use Rattle.exec_moves.specs.declared.handing.CallPlace.TheVariants as call
-use Rattle.exec_moves.specs.declared.handing.InGlobal.TheVariants as global
 use Rattle.exec_moves.specs.declared.handing.InSignal.TheVariants as signal
-use Rattle.exec_moves.specs.{Call.{CallDesk, Called, after_posting}, Claim.latched, MoveOfCaller.{call_on, call_spawn, call_wake}, Plays.{Playing, by_action, caller_of, desk_of, first_desk}, Send.{Mailbox, Posting, asks, is_left_out, leaves_out, posting, posting_of, published_if}, State.{Things, inbox_of, no_word, word_of}, Thing.{mailbox_of, set_mailbox}}
+use Rattle.exec_moves.specs.{Call.{CallDesk, Called, after_posting}, MoveOfCaller.{call_on, call_spawn, call_wake}, Plays.{Playing, by_action, caller_of, desk_of, first_desk}, Send.{Mailbox, is_left_out, posting, posting_of}, State.{Things, inbox_of, no_word, word_of}, Thing.{mailbox_of, set_mailbox}}
 use Rattle.exec_rest.specs.{Places.{call_signals, is_to_enter, is_to_sleep_on_ring, signals, waits_on}, Posted.{IsNumbered, IsPosted, IsTold, is_early}, Rested.{IsLaidOut, IsRestful, place_at, sleeps}}
-use Rattle.exec_rest.proofs.{CallFacts.{abed_armed, desk_there, enters_ring, next, now, same_or_not, sleeps_on_ring, slept, some_target, still}, CallHeeds.{CallHeeds, set_at}, CallMoves.{call_heeds, spawn_heeds, unasked, wake_heeds}, CallSeats.{Halved, Seated, begins_half, goes_half, going_seated, spawn_begun, wake_begun}, Calls.{at_nothing, is_call}}
+use Rattle.exec_rest.proofs.{CallFacts.{abed_armed, desk_there, enters_ring, next, now, same_or_not, sleeps_on_ring, slept, still}, CallHeeds.{CallHeeds, set_at}, CallMoves.{call_heeds, spawn_heeds, wake_heeds}, CallSeats.{Halved, Seated, begins_half, goes_half, going_seated, spawn_begun, wake_begun}, Calls.{at_nothing, is_call}}
 
 -- A MAILBOX before and after a message was sent to it, where it is asked for a signal or not
 
@@ -22,40 +21,8 @@ pub record Heard (m n : Mailbox) (asked : Bool) : Type 0 where
   pub numbered : (processed : ℕ) → IsNumbered m.word.batch processed m.messages → IsNumbered n.word.batch processed n.messages
   pub told : (n.messages ≡ [] → ⊥) → (m.messages ≡ [] → ⊥) ⊎ ((asked ≡ true) ⊎ ((m.word.latch ≡ true) ⊎ (m.word.target ≡ target.None)))
 
-left_alone : (m : Mailbox) (asked : Bool) → Heard m m asked
-left_alone m asked = record { numbered = λ processed h. h; told = λ some. inl some }
-
-some_left : {T : Type 0} (a : T) (xs : List T) → a ∷ xs ≡ [] → ⊥
-some_left a xs none = false≢true (ap is_empty none)
-
-some_put : {T : Type 0} (xs : List T) (a : T) → xs ++ a ∷ [] ≡ [] → ⊥
-some_put [] a none = some_left a [] none
-some_put (x ∷ xs) a none = some_left x (xs ++ a ∷ []) none
-
--- a message that is not left out; the first one publishes its batch
-put_in : (message : MailMessage) (ms : List MailMessage) (w : PureWord)
-    → Heard (record { messages = ms; word = w }) (record { messages = ms ++ message ∷ []; word = published_if (is_empty ms) w }) (is_empty ms && asks_signal w)
-put_in message [] w =
-    record {
-      numbered = λ processed h. elim h [ inl it ↦ inr (ap next_batch it.0, some_put [] message) | inr it ↦ absurd (it.1 refl) ];
-      told = λ some. elim (cases_Bool (asks_signal w)) [ inl asked ↦ inr (inl asked) | inr unheard ↦ inr (inr (unasked w unheard)) ];
-    }
-put_in message (first ∷ ms) w =
-    record {
-      numbered = λ processed h. elim h [ inl it ↦ absurd (some_left first ms it.1) | inr it ↦ inr (it.0, some_put (first ∷ ms) message) ];
-      told = λ some. inl (some_left first ms);
-    }
-
 pub posting_heard : (s : Common) (j : ℕ) (message : MailMessage) (choice : Choice) (m : Mailbox) → (let it = posting_of s j message choice m in Heard m it.mailbox it.signals)
-posting_heard s j message choice m = by (seat_of s j).mailbox_closed (leaves_out message m)
-  where
-    by : (closed left_out : Bool)
-        → (let put : Mailbox = if left_out then m else record { messages = m.messages ++ message ∷ []; word = published_if (is_empty m.messages) m.word } in
-        let it : Posting = if closed then (record { event = Closed; choice = Plain; signals = false; mailbox = m }) else (record { event = Send j message; choice = choice; signals = asks m; mailbox = put }) in
-        Heard m it.mailbox it.signals)
-    by true left_out = left_alone m false
-    by false true = left_alone m (asks m)
-    by false false = put_in message m.messages m.word
+posting_heard = grind arith
 
 -- ALL MAILBOXES before and after a step, where S says who is signalled next
 
@@ -69,12 +36,7 @@ numbered_like batch batch' processed ms ms' same_batch same h =
 
 -- no message, and no batch
 pub no_message : (x y : Things) (S : ℕ → Type 0) → y.inboxes ≡ x.inboxes → ((i : ℕ) → (word_of y i).batch ≡ (word_of x i).batch) → Mails x y S
-no_message x y S same batches =
-    let boxes = λ (i : ℕ). ap (λ (is : List (List MailMessage)). get_or is i []) same in
-    record {
-      numbered = λ i processed h. numbered_like (word_of x i).batch (word_of y i).batch processed (inbox_of x i) (inbox_of y i) (batches i) (boxes i) h;
-      told = λ i some. inl (λ none. some (boxes i ∙ none));
-    }
+no_message = grind arith
 
 module _ (x : Things) (k : ℕ) (n : Mailbox) (boxes : length x.inboxes ≡ length x.words) where
   abbrev y : Things
@@ -94,18 +56,12 @@ module _ (x : Things) (k : ℕ) (n : Mailbox) (boxes : length x.inboxes ≡ leng
       here true h =
           let within : k < length x.words = ltb-true k (length x.words) h in
           inr (refl, get_or-set_same x.words k n.word no_word within, get_or-set_same x.inboxes k n.messages [] (omega (arith, within, boxes)))
-      here false h =
-          let past : length x.words ≤ k = omega (arith, ltb-false k (length x.words) h) in
-          inl (ap (λ ws. get_or ws k no_word) (set_past x.words k n.word past), ap (λ is. get_or is k []) (set_past x.inboxes k n.messages (omega (arith, past, boxes))))
+      here false h = grind (arith, ltb-false, set_past)
 
   pub mail_put : (asked : Bool) (S : ℕ → Type 0) → (asked ≡ true → S k) → Heard (mailbox_of x k) n asked → Mails x y S
   mail_put asked S signals heard =
       record {
-        numbered = λ i processed h. elim (mail_at i) [
-          | inl same ↦ numbered_like (word_of x i).batch (word_of y i).batch processed (inbox_of x i) (inbox_of y i) (ap (λ (w : PureWord). w.batch) same.0) same.1 h
-          | inr here ↦ numbered_like n.word.batch (word_of y i).batch processed n.messages (inbox_of y i) (ap (λ (w : PureWord). w.batch) here.1) here.2
-              (heard.numbered processed (subst (λ j. IsNumbered (word_of x j).batch processed (inbox_of x j)) here.0 h))
-        ];
+        numbered = grind (arith, mail_at, numbered_like);
         told = λ i some. elim (mail_at i) [
           | inl same ↦ inl (λ none. some (same.1 ∙ none))
           | inr here ↦ subst Told (sym here.0) (at_k (heard.told (λ none. some (here.2 ∙ none))))
@@ -116,9 +72,7 @@ module _ (x : Things) (k : ℕ) (n : Mailbox) (boxes : length x.inboxes ≡ leng
       Told i = (inbox_of x i ≡ [] → ⊥) ⊎ (S i ⊎ (((word_of x i).latch ≡ true) ⊎ ((word_of x i).target ≡ target.None)))
 
       at_k : (inbox_of x k ≡ [] → ⊥) ⊎ ((asked ≡ true) ⊎ (((word_of x k).latch ≡ true) ⊎ ((word_of x k).target ≡ target.None))) → Told k
-      at_k (inl some) = inl some
-      at_k (inr (inl is)) = inr (inl (signals is))
-      at_k (inr (inr h)) = inr (inr h)
+      at_k = grind arith
 
 -- EACH MOVE of an outside caller
 
@@ -145,24 +99,10 @@ module _ (c : Configuration) (s : Common) (d : CallDesk) (x : Things) where
       (posting_heard s home Root (Posts ByCall (is_left_out (mailbox_of x home))) (mailbox_of x home))
 
   latch_mails : (j : ℕ) → CallMails x (call_on s d x (call.Signal signal.SetLatch j))
-  latch_mails j =
-      let m = call_on s d x (call.Signal signal.SetLatch j) in
-      no_message x m.thing (λ i. call_signals m.desk.place ≡ Some i) refl
-      (λ i. elim (set_at x.words j i (latched (word_of x j)) no_word) [
-        | inl same ↦ ap (λ (w : PureWord). w.batch) same
-        | inr here ↦ ap (λ (w : PureWord). w.batch) here.2 ∙ ap (λ n. (word_of x n).batch) (sym here.0)
-      ])
+  latch_mails = grind (arith, no_message, set_at)
 
   on_mails : (p : CallPlace) → CallMails x (call_on s d x p)
-  on_mails call.Nothing = untouched (call_on s d x call.Nothing) refl refl
-  on_mails (call.Global global.Append) = untouched (call_on s d x (call.Global global.Append)) refl refl
-  on_mails (call.Global global.LoadGlobalSet) = untouched (call_on s d x (call.Global global.LoadGlobalSet)) refl refl
-  on_mails (call.Global (global.AddGlobalCount set)) = untouched (call_on s d x (call.Global (global.AddGlobalCount set))) refl refl
-  on_mails (call.Global global.ReturnGlobalCount) = untouched (call_on s d x (call.Global global.ReturnGlobalCount)) refl refl
-  on_mails (call.ClaimWorker set) = untouched (call_on s d x (call.ClaimWorker set)) refl refl
-  on_mails (call.Signal signal.SetLatch j) = latch_mails j
-  on_mails (call.Signal (signal.Raise ring) j) = untouched (call_on s d x (call.Signal (signal.Raise ring) j)) refl refl
-  on_mails call.Return = untouched (call_on s d x call.Return) refl refl
+  on_mails = grind (arith, untouched, latch_mails)
 
 -- THE STEP of caller j, which leaves t and what its move m does
 
@@ -190,10 +130,7 @@ module _ (c : Configuration) (x : Playing) (laid : IsLaidOut c x) (held : IsRest
     | inl before ↦ told_still i waits (was before)
     | inr first ↦ elim first [
       | inl asked ↦ inr (now c x laid held j t m heeds seated halved (λ p. signals p ≡ Some i) (λ p. call_signals p ≡ Some i) asked)
-      | inr unasked_for ↦ elim unasked_for [
-        | inl latch ↦ inl (heeds.latch_kept i latch)
-        | inr none ↦ absurd (some_target c x laid held j t m heeds seated halved i waits none)
-      ]
+      | inr unasked_for ↦ grind arith
     ]
   ]
 

@@ -1,16 +1,13 @@
 -- What the event of an outside caller leaves of seats and callers.
-use Rattle.std.proofs.Common.{◌≡◌, ◌≢◌, ℕ, zero, suc, ◌<◌, Bool, true, false, ◌&&◌, List, [], ◌∷◌, length, set, get_or, Option, Some, None, if◌then◌else◌, refl, sym, ap, ◌∙◌, subst, inl, inr, arith}
+use Rattle.std.proofs.Common.{◌≡◌, ◌≢◌, ℕ, zero, suc, ◌<◌, Bool, true, false, ◌&&◌, List, [], ◌∷◌, length, set, get_or, Option, if◌then◌else◌, refl, sym, ap, ◌∙◌, arith}
 use Rattle.std.proofs.lemmas.Bool.{true≢false, false≢true}
 use Rattle.std.proofs.lemmas.List.{get_or-set_same, get_or-set_other}
 use Rattle.std.specs.Prelude.{not}
-use Rattle.exec_machine.specs.{declared.{event.Event.Event, state.{Call.Call, MailMessage.{MailMessage, TheVariants.Root}, Rest.TheVariants.Awake}}, Callers.{after_going_on, after_spawn_by_call, after_wake_by_call, half_done, is_half_done, may_call, may_go_on}, Choice.{Choice, Choice.{Plain, Posts}, Payer.ByCall}, Mail.{after_post, is_left_out, is_root_message, posted}, Tests.{is_awake, set_seat}, World.{Common, Seat, no_seat, seat_of}}
+use Rattle.exec_machine.specs.{declared.{event.Event.Event, state.{Call.Call, MailMessage.{MailMessage}, Rest.TheVariants.Awake}}, Callers.{after_going_on, after_spawn_by_call, after_wake_by_call, half_done, is_half_done, may_call, may_go_on}, Choice.{Choice}, Mail.{after_post, is_left_out, is_root_message, posted}, Tests.{is_awake, set_seat}, World.{Common, Seat, no_seat, seat_of}}
 use Rattle.exec_machine.specs.declared.event.Event.TheVariants as event
 use Rattle.exec_machine.specs.declared.state.Call.TheVariants as calls
 use Rattle.exec_moves.specs.declared.handing.{CallPlace.CallPlace}
-use Rattle.exec_moves.specs.declared.handing.CallPlace.TheVariants as call
-use Rattle.exec_moves.specs.declared.handing.InGlobal.TheVariants as global
-use Rattle.exec_moves.specs.declared.handing.InSignal.TheVariants as signals
-use Rattle.exec_moves.specs.{Call.CallDesk, Claim.rousing, MoveOfCaller.{call_on, call_wake}, Send.{Mailbox, Posting, asks, is_left_out as left_out, next_task, posted as posted_to, told_of_spawn}, State.Things, Thing.mailbox_of}
+use Rattle.exec_moves.specs.{Call.CallDesk, MoveOfCaller.{call_on, call_wake}, Send.{told_of_spawn}, State.Things}
 use Rattle.exec_rest.specs.Places.{is_in_call}
 use Rattle.exec_rest.proofs.CallHeeds.{set_at}
 
@@ -39,10 +36,7 @@ same_seats seats e not_so = record { pool = λ i. refl; phase = λ i. refl; land
 -- one seat is put back
 module _ (seats : List Seat) (k : ℕ) (y : Seat) where
   same_at : {T : Type 0} (f : Seat → T) → f y ≡ f (get_or seats k no_seat) → (i : ℕ) → f (get_or (set seats k y) i no_seat) ≡ f (get_or seats i no_seat)
-  same_at f same i = elim (set_at seats k i y no_seat) [
-    | inl is ↦ ap f is
-    | inr here ↦ ap f here.2 ∙ same ∙ ap (λ n. f (get_or seats n no_seat)) (sym here.0)
-  ]
+  same_at = grind (arith, set_at)
 
 post_seated : (s : Common) (to : ℕ) (m : MailMessage) (choice : Choice) → Seated s.seats (after_post s to m choice).seats (event.Send to m)
 post_seated s to m choice = by (is_root_message m && is_left_out choice)
@@ -58,10 +52,6 @@ post_seated s to m choice = by (is_root_message m && is_left_out choice)
           asleep = λ i h. (sym (same_at s.seats to y (λ (it : Seat). is_awake it.rest) refl i) ∙ h, no_rouse (event.Send to m) i refl);
         }
 
-abbrev roused : Event → ℕ
-roused (event.Rouse k) = k
-roused _ = 0
-
 -- a worker that isn't there is awake too
 awake_set : (seats : List Seat) (k : ℕ) (y : Seat) → is_awake y.rest ≡ true → is_awake (get_or (set seats k y) k no_seat).rest ≡ true
 awake_set [] k y awake = refl
@@ -69,19 +59,7 @@ awake_set (seat ∷ seats) zero y awake = awake
 awake_set (seat ∷ seats) (suc k) y awake = awake_set seats k y awake
 
 rouse_seated : (s : Common) (k : ℕ) → Seated s.seats (set s.seats k (record (seat_of s k) { rest = Awake })) (event.Rouse k)
-rouse_seated s k =
-    record {
-      pool = same_at s.seats k y (λ (it : Seat). it.pool) refl;
-      phase = same_at s.seats k y (λ (it : Seat). it.phase) refl;
-      landed = same_at s.seats k y (λ (it : Seat). it.landed) refl;
-      asleep = λ i h. elim (set_at s.seats k i y no_seat) [
-        | inl is ↦ (sym (ap (λ (it : Seat). is_awake it.rest) is) ∙ h, λ same. absurd (true≢false (sym (awake_set s.seats k y refl) ∙ ap (λ n. is_awake (get_or (set s.seats k y) n no_seat).rest) (ap roused same) ∙ h)))
-        | inr here ↦ absurd (true≢false (sym (ap (λ (it : Seat). is_awake it.rest) here.2) ∙ h))
-      ];
-    }
-  where
-    y : Seat
-    y = record (seat_of s k) { rest = Awake }
+rouse_seated = grind (arith, same_at, set_at, true≢false, awake_set)
 
 -- THE FIRST STEP
 
@@ -90,65 +68,28 @@ pub record Begun (s t : Common) (e : Event) : Type 0 where
   pub callers : t.callers ≡ s.callers
 
 pub spawn_begun : (s : Common) (k : ℕ) → Begun s (after_spawn_by_call s k (told_of_spawn s k)) (told_of_spawn s k)
-spawn_begun s k = by s.set_closed
-  where
-    by : (b : Bool) → (let e : Event = if b then event.Closed else event.Spawn (next_task s) k in Begun s (after_spawn_by_call s k e) e)
-    by true = record { seats = same_seats s.seats event.Closed refl; callers = refl }
-    by false = record { seats = same_seats s.seats (event.Spawn (next_task s) k) refl; callers = refl }
+spawn_begun = grind arith
 
 post_callers : (s : Common) (to : ℕ) (m : MailMessage) (choice : Choice) → (after_post s to m choice).callers ≡ s.callers
-post_callers s to m choice = by (is_root_message m && is_left_out choice)
-  where
-    by : (b : Bool) → (if b then s else set_seat s to (posted m (seat_of s to))).callers ≡ s.callers
-    by true = refl
-    by false = refl
+post_callers = grind arith
 
 pub wake_begun : (s : Common) (d : CallDesk) (x : Things) (t : ℕ) (home : Option ℕ) → (let m = call_wake s d x t home in Begun s (after_wake_by_call s t m.event m.choice) m.event)
-wake_begun s d x t None = record { seats = same_seats s.seats (event.Wake t) refl; callers = refl }
-wake_begun s d x t (Some home) = by (seat_of s home).mailbox_closed
-  where
-    mail : Mailbox
-    mail = mailbox_of x home
-
-    by : (b : Bool) → (let it : Posting = if b then (record { event = event.Closed; choice = Plain; signals = false; mailbox = mail }) else (record { event = event.Send home Root; choice = Posts ByCall (left_out mail); signals = asks mail; mailbox = posted_to Root mail }) in Begun s (after_wake_by_call s t it.event it.choice) it.event)
-    by true = record { seats = same_seats s.seats event.Closed refl; callers = refl }
-    by false = record { seats = post_seated s home Root (Posts ByCall (left_out mail)); callers = post_callers s home Root (Posts ByCall (left_out mail)) }
+wake_begun = grind (arith, same_seats, post_seated, post_callers)
 
 -- A STEP FURTHER
 
 pub going_seated : (s : Common) (j : ℕ) (e : Event) → Seated s.seats (after_going_on s j e).seats e
-going_seated s j (event.Rouse other) = rouse_seated s other
-going_seated s j event.Return = same_seats s.seats event.Return refl
-going_seated s j e = same_seats s.seats e refl
+going_seated = grind (arith, rouse_seated, same_seats)
 
 going_others : (s : Common) (j : ℕ) (e : Event) (k : ℕ) → k ≢ j → may_go_on (after_going_on s j e) k ≡ may_go_on s k
-going_others s j event.Return k apart = ap is_half_done (get_or-set_other s.callers j k calls.Nothing calls.Nothing apart)
-going_others s j (event.Rouse other) k apart = refl
-going_others s j _ k apart = refl
+going_others = grind (arith, get_or-set_other)
 
 going_own : (s : Common) (j : ℕ) (e : Event) → is_return e ≡ false → may_go_on (after_going_on s j e) j ≡ may_go_on s j
-going_own s j event.Return h = absurd (true≢false h)
-going_own s j (event.Rouse other) h = refl
-going_own s j _ h = refl
-
-rousing_stays : (s : Common) (j : ℕ) → is_return (rousing s j) ≡ false
-rousing_stays s j = by (is_awake (seat_of s j).rest)
-  where
-    by : (b : Bool) → is_return (if b then event.Turn else event.Rouse j) ≡ false
-    by true = refl
-    by false = refl
+going_own = grind arith
 
 -- who returns has no call then
 pub returned : (s : Common) (d : CallDesk) (x : Things) (p : CallPlace) → is_in_call (call_on s d x p).desk.place ≡ true → is_return (call_on s d x p).event ≡ false
-returned s d x call.Nothing h = absurd (false≢true h)
-returned s d x call.Return h = absurd (false≢true h)
-returned s d x (call.ClaimWorker set) h = refl
-returned s d x (call.Global global.Append) h = refl
-returned s d x (call.Global global.LoadGlobalSet) h = refl
-returned s d x (call.Global (global.AddGlobalCount set)) h = refl
-returned s d x (call.Global global.ReturnGlobalCount) h = refl
-returned s d x (call.Signal signals.SetLatch j) h = refl
-returned s d x (call.Signal (signals.Raise ring) j) h = rousing_stays s j
+returned = grind arith
 
 -- CALLERS
 
@@ -176,16 +117,7 @@ free_now s j may = (may_begin s.callers j may).1
 pub begins_half : (s t : Common) (j : ℕ) (q : CallPlace) → may_call s j ≡ true → t.callers ≡ s.callers → Halved s (half_done t j) j q
 begins_half s t j q may same =
     let within = (may_begin s.callers j may).0 in
-    record {
-      within = within;
-      others = λ k apart. ap is_half_done (get_or-set_other t.callers j k calls.HalfDone calls.Nothing apart ∙ ap (λ cs. get_or cs k calls.Nothing) same);
-      own = λ h. ap is_half_done (get_or-set_same t.callers j calls.HalfDone calls.Nothing (subst (λ (cs : List Call). j < length cs) (sym same) within));
-    }
+    grind (arith, get_or-set_other, get_or-set_same)
 
 pub goes_half : (s : Common) (d : CallDesk) (x : Things) (j : ℕ) (p : CallPlace) → may_go_on s j ≡ true → (let m = call_on s d x p in Halved s (after_going_on s j m.event) j m.desk.place)
-goes_half s d x j p may =
-    record {
-      within = half_within s.callers j may;
-      others = going_others s j (call_on s d x p).event;
-      own = λ h. going_own s j (call_on s d x p).event (returned s d x p h) ∙ may;
-    }
+goes_half = grind (arith, half_within, going_others, going_own, returned)

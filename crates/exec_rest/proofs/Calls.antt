@@ -1,5 +1,5 @@
 -- The steps of outside callers keep what holds.
-use Rattle.std.proofs.Common.{◌≡◌, ℕ, Bool, true, false, length, refl, sym, ◌∙◌, inl, inr}
+use Rattle.std.proofs.Common.{◌≡◌, ℕ, Bool, true, false, length, refl, arith}
 use Rattle.std.proofs.lemmas.Bool.{true≢false, false≢true, and_parts, cases_Bool}
 use Rattle.std.specs.Prelude.{nat_lt}
 use Rattle.exec_machine.specs.{declared.{config.Configuration.Configuration, step.Action.Action}, Callers.{after_going_on, after_spawn_by_call, after_wake_by_call, half_done, is_enabled, may_call}, World.{Common, task_of}}
@@ -27,10 +27,7 @@ module _ (c : Configuration) (x : Playing) (laid : IsLaidOut c x) (held : IsRest
 
   -- who may begin a call is in none
   pub at_nothing : (j : ℕ) → may_call s j ≡ true → (caller_of x j).place ≡ call.Nothing
-  at_nothing j may = elim (cases_Bool (is_in_call (caller_of x j).place)) [
-    | inr h ↦ no_call_at (caller_of x j).place h
-    | inl h ↦ absurd (true≢false (sym (held.calls j h) ∙ free_now s j may))
-  ]
+  at_nothing = grind (arith, cases_Bool, no_call_at, true≢false, free_now)
 
   pub by_caller : (a : Action) → is_call a ≡ true → is_enabled s a ≡ true → IsRestful c (by_action c x a).next
   by_caller (action.Spawn j k) is may =

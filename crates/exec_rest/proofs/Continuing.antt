@@ -1,29 +1,19 @@
 -- Where the parts lead: to places at which nothing is known of a worker, but for what follows the callbacks.
-use Rattle.std.proofs.Common.{◌≡◌, ℕ, Bool, true, false, List, [], ◌∷◌, Option, Some, None, refl, sym, ◌∙◌, ◌==◌, ◌&&◌, ◌||◌, if◌then◌else◌}
+use Rattle.std.proofs.Common.{◌≡◌, ℕ, Bool, true, false, List, [], ◌∷◌, Option, Some, None, refl, ◌==◌, ◌&&◌, ◌||◌, if◌then◌else◌, arith}
 use Rattle.std.specs.Prelude.{nat_lt, nat_le, not}
-use Rattle.std.proofs.lemmas.Bool.{true≢false}
 use Rattle.exec_words.specs.declared.head.{Fit.Fit, Head.Head}
-use Rattle.exec_words.specs.declared.head.Fit.TheVariants as fit
 use Rattle.exec_words.specs.declared.word.WaitTarget.TheVariants as target
 use Rattle.exec_machine.specs.{declared.{config.Configuration.Configuration, state.{Letter.Letter, MailMessage.MailMessage}}, Tests.is_empty, World.{Common, Own as Books}}
-use Rattle.exec_moves.specs.{declared.{handing.{AfterCallbacks.AfterCallbacks, AfterCancels.AfterCancels, AfterKick.AfterKick, AfterLeave.AfterLeave, AfterPop.AfterPop, AfterPush.AfterPush, AfterSend.AfterSend, AfterSignal.AfterSignal, First.First}, place.{AfterService.AfterService, Place.Place, Round.Round}}, Callback.{after_callbacks, first_load, has_callbacks, has_requests, is_full, is_of_pool, next_callback, ring_wait, to_queue}, Close.{after_close, after_letting_go}, Load.{has_submissions, leaves_for_turn, next_turn}, Mail.{after_message}, Parts.{after_cancels, after_kick, after_leave, after_poll, after_push, after_return, after_send, after_signal, cancels_left, first_pop, has_others, next_pick, polls, tells_from}, Pick.{after_empty_look, first_pick}, Poll.after_end, Pop.{after_empty_pop, after_pop, judge_pop}, Push.{after_fit, after_store}, Send.{after_posting, after_spawn}, Serve.after_service, State.Desk}
-use Rattle.exec_moves.specs.declared.handing.AfterCallbacks.TheVariants as after
+use Rattle.exec_moves.specs.{declared.{handing.{AfterCallbacks.AfterCallbacks, AfterCancels.AfterCancels, AfterKick.AfterKick, AfterLeave.AfterLeave, AfterPop.AfterPop, AfterPush.AfterPush, AfterSend.AfterSend, AfterSignal.AfterSignal, First.First}, place.{AfterService.AfterService, Place.Place}}, Callback.{after_callbacks, has_callbacks, has_requests, is_of_pool, next_callback, to_queue}, Close.{after_close, after_letting_go}, Load.{has_submissions, leaves_for_turn, next_turn}, Mail.{after_message}, Parts.{after_cancels, after_kick, after_leave, after_poll, after_push, after_return, after_send, after_signal, cancels_left, first_pop, has_others, next_pick, polls, tells_from}, Pick.{after_empty_look, first_pick}, Poll.after_end, Pop.{after_empty_pop, after_pop, judge_pop}, Push.{after_fit, after_store}, Send.{after_posting, after_spawn}, Serve.after_service, State.Desk}
 use Rattle.exec_moves.specs.declared.handing.AfterCancels.TheVariants as cancels
 use Rattle.exec_moves.specs.declared.handing.AfterClaim.TheVariants as claim
 use Rattle.exec_moves.specs.declared.handing.AfterKick.TheVariants as kick
-use Rattle.exec_moves.specs.declared.handing.AfterLeave.TheVariants as leave
 use Rattle.exec_moves.specs.declared.handing.AfterPop.TheVariants as pop
 use Rattle.exec_moves.specs.declared.handing.AfterPush.TheVariants as push
-use Rattle.exec_moves.specs.declared.handing.AfterSend.TheVariants as send
 use Rattle.exec_moves.specs.declared.handing.AfterSignal.TheVariants as signal
 use Rattle.exec_moves.specs.declared.handing.First.TheVariants as first
-use Rattle.exec_moves.specs.declared.idling.Stay.TheVariants as stay
-use Rattle.exec_moves.specs.declared.place.AfterService.TheVariants as back
-use Rattle.exec_moves.specs.declared.place.InLoads.TheVariants as load
-use Rattle.exec_moves.specs.declared.place.Place.TheVariants as at
-use Rattle.exec_moves.specs.declared.place.Round.TheVariants as round
 use Rattle.exec_rest.specs.Places.{asked_for_poll, has_looked, is_dry, is_pooled, is_published, is_to_enter, is_to_sleep_on_ring, waits_on}
-use Rattle.exec_rest.proofs.Plain.{calm, is_calm}
+use Rattle.exec_rest.proofs.Plain.{is_calm}
 
 -- TO CALM PLACES
 
@@ -63,9 +53,7 @@ pub calm_leaves_for_turn : (c : Configuration) (i : ℕ) (me : Books) (s : Commo
 calm_leaves_for_turn c i me s d = calm_if d.searching _ _ refl (calm_next_turn c i me s d)
 
 pub calm_after_leave : (c : Configuration) (i : ℕ) (me : Books) (s : Common) (b : AfterLeave) (d : Desk) → is_calm (after_leave c i me s b d) ≡ true
-calm_after_leave c i me s (leave.Poll t) d = refl
-calm_after_leave c i me s (leave.CallBack n) d = refl
-calm_after_leave c i me s leave.Begin d = calm_next_turn c i me s d
+calm_after_leave = grind arith
 
 pub calm_after_return : (c : Configuration) (i : ℕ) (me : Books) (s : Common) (last : Bool) (b : AfterLeave) (d : Desk) → is_calm (after_return c i me s last b d) ≡ true
 calm_after_return c i me s last b d = calm_if last _ _ refl (calm_after_leave c i me s b d)
@@ -74,19 +62,14 @@ pub calm_tells_from : (c : Configuration) (worker : ℕ) → is_calm (tells_from
 calm_tells_from c worker = calm_if (nat_lt worker c.workers) _ _ refl (calm_first_pop c pop.Discard)
 
 pub calm_after_cancels : (b : AfterCancels) (d : Desk) → is_calm (after_cancels b d) ≡ true
-calm_after_cancels (cancels.Remove t) d = refl
-calm_after_cancels cancels.Pick d = calm_next_pick d
-calm_after_cancels (cancels.Visit x) d = refl
+calm_after_cancels = grind arith
 
 pub calm_cancels_left : (b : AfterCancels) (d : Desk) (letters : List Letter) → is_calm (cancels_left b d letters) ≡ true
 calm_cancels_left b d [] = calm_after_cancels b d
 calm_cancels_left b d (letter ∷ letters) = refl
 
 pub calm_after_send : (c : Configuration) (b : AfterSend) (d : Desk) → is_calm (after_send c b d) ≡ true
-calm_after_send c (send.Act t) d = refl
-calm_after_send c (send.Pend t) d = refl
-calm_after_send c (send.Cancels b) d = calm_cancels_left b d d.letters
-calm_after_send c (send.Tell worker) d = calm_tells_from c worker
+calm_after_send = grind arith
 
 pub calm_after_posting : (c : Configuration) (j : ℕ) (b : AfterSend) (asked : Bool) (d : Desk) → is_calm (after_posting c j b asked d) ≡ true
 calm_after_posting c j b true d = refl
@@ -95,24 +78,17 @@ calm_after_posting c j b false d = calm_after_send c b d
 pub calm_to_queue : (s : Common) (i : ℕ) (b : AfterPush) → is_calm (to_queue s i b) ≡ true
 calm_to_queue s i b = calm_if (is_of_pool s i) _ _ refl refl
 
-pub calm_first_load : (s : Common) (i : ℕ) → is_calm (first_load s i round.First) ≡ true
-calm_first_load s i = calm_if (is_of_pool s i) _ _ refl refl
-
 pub calm_after_close : (c : Configuration) (i : ℕ) (s : Common) → is_calm (after_close c i s) ≡ true
 calm_after_close c i s = calm_if (i == 0) _ _ refl (calm_if (is_of_pool s i) _ _ (calm_first_pop c pop.Discard) refl)
 
 pub calm_after_letting_go : (held asleep : Option ℕ) → is_calm (after_letting_go held asleep) ≡ true
-calm_after_letting_go None None = refl
-calm_after_letting_go None (Some z) = refl
-calm_after_letting_go (Some r) asleep = refl
+calm_after_letting_go = grind arith
 
 pub calm_after_message : (applied : ℕ) (batch : List MailMessage) → is_calm (after_message applied batch) ≡ true
 calm_after_message applied batch = calm_if (is_empty batch || nat_le 64 applied) _ _ refl refl
 
 pub calm_after_fit : (b : AfterPush) (h : Head) (f : Fit) → is_calm (after_fit b h f) ≡ true
-calm_after_fit b h (fit.Room len) = refl
-calm_after_fit b h fit.Overflow = refl
-calm_after_fit b h _ = refl
+calm_after_fit = grind arith
 
 pub calm_after_spawn : (c : Configuration) (i : ℕ) (s : Common) (t : ℕ) → is_calm (after_spawn c i s t) ≡ true
 calm_after_spawn c i s t = calm_if (not (is_of_pool s i)) _ _ refl (calm_if (has_others c) _ _ refl refl)
@@ -126,17 +102,13 @@ calm_after_pop c (pop.Pick f) t d = calm_polls t d
 calm_after_pop c pop.Discard t d = calm_first_pop c pop.Discard
 
 pub calm_after_empty_pop : (c : Configuration) (i : ℕ) (b : AfterPop) → is_calm (after_empty_pop c i b) ≡ true
-calm_after_empty_pop c i (pop.Pick first.Own) = refl
-calm_after_empty_pop c i (pop.Pick first.Global) = refl
-calm_after_empty_pop c i pop.Discard = refl
+calm_after_empty_pop = grind arith
 
 pub calm_judge_pop : (c : Configuration) (i : ℕ) (b : AfterPop) (h : Head) (len : ℕ) → is_calm (judge_pop c i b h len) ≡ true
 calm_judge_pop c i b h len = calm_if (len == 0) _ _ (calm_after_empty_pop c i b) (calm_if ((len == 1) && (h.gap == 0)) _ _ refl refl)
 
 pub calm_after_service : (b : AfterService) (d : Desk) → is_calm (after_service b d) ≡ true
-calm_after_service back.Mail d = calm_if (is_empty d.batch) _ _ refl refl
-calm_after_service back.Begin d = refl
-calm_after_service back.Finish d = refl
+calm_after_service = grind arith
 
 -- TO NEARLY CALM ONES: the callbacks of a dedicated worker lead to the load of its wake word, as if it had found its run queue
 -- empty, which it has none of; and those of a closing one to a wait on its ring, at which nothing is known of it yet.
@@ -152,9 +124,7 @@ pub record Nearly (s : Common) (i : ℕ) (q : Place) : Type 0 where
 
 module _ (s : Common) (i : ℕ) where
   pub near_calm : (q : Place) → is_calm q ≡ true → Nearly s i q
-  near_calm q h =
-      let it = calm q h in
-      record { published = it.published; looked = it.looked; pooled = it.pooled; dry = λ pool. it.dry; waits = it.waits; to_enter = it.to_enter; to_sleep = it.to_sleep; asked = it.asked }
+  near_calm = grind arith
 
   pub near_if : (b : Bool) (q r : Place) → Nearly s i q → Nearly s i r → Nearly s i (if b then q else r)
   near_if true q r one other = one
@@ -164,27 +134,8 @@ module _ (s : Common) (i : ℕ) where
   near_desk_if true d e one other = one
   near_desk_if false d e one other = other
 
-  pub near_first_load : (r : Round) → Nearly s i (first_load s i r)
-  near_first_load round.First = near_calm (first_load s i round.First) (calm_first_load s i)
-  near_first_load round.Second = by (is_of_pool s i) refl
-    where
-      by : (b : Bool) → is_of_pool s i ≡ b → Nearly s i (if b then at.Loads load.LoadOwnHead round.Second else at.Loads (load.LoadOwnWord (record { ready = false })) round.Second)
-      by true h = near_calm _ refl
-      by false h =
-          record { published = refl; looked = refl; pooled = refl; dry = λ pool. absurd (true≢false (sym pool ∙ h)); waits = refl; to_enter = refl; to_sleep = refl; asked = refl }
-
-  pub near_ring_wait : (size : ℕ) (d : Desk) → Nearly s i (ring_wait size stay.Closing d)
-  near_ring_wait size d =
-      near_if (is_full size d) _ _
-      (record { published = refl; looked = refl; pooled = refl; dry = λ pool. refl; waits = refl; to_enter = refl; to_sleep = refl; asked = refl })
-      (record { published = refl; looked = refl; pooled = refl; dry = λ pool. refl; waits = refl; to_enter = refl; to_sleep = refl; asked = refl })
-
   pub near_after_callbacks : (size : ℕ) (n : AfterCallbacks) (d : Desk) → Nearly s i (after_callbacks size i s n d)
-  near_after_callbacks size after.Look d = near_first_load round.First
-  near_after_callbacks size after.Test d = near_first_load round.Second
-  near_after_callbacks size after.Begin d = near_calm _ refl
-  near_after_callbacks size after.Drain d = near_calm _ refl
-  near_after_callbacks size after.Finish d = near_if (has_requests i s) _ _ (near_ring_wait size d) (near_calm _ refl)
+  near_after_callbacks = grind arith
 
   pub near_next_callback : (size : ℕ) (me : Books) (n : AfterCallbacks) (d : Desk) → Nearly s i (next_callback size i me s n d)
   near_next_callback size me n d = near_if (has_callbacks me d) _ _ (near_calm _ refl) (near_after_callbacks size n d)

@@ -1,13 +1,10 @@
 -- What an event of a worker leaves of each seat and of the callers.
-use Rattle.std.proofs.Common.{◌≡◌, ◌≢◌, ℕ, zero, suc, Bool, true, false, ◌&&◌, List, [], ◌∷◌, ◌++◌, Option, Some, None, refl, sym, ap, ◌∙◌, subst, arith, inl, inr, get_or, set, drop}
+use Rattle.std.proofs.Common.{◌≡◌, ◌≢◌, ℕ, zero, suc, Bool, true, false, List, [], ◌∷◌, ◌++◌, Option, Some, None, refl, sym, ap, ◌∙◌, subst, arith, inl, inr, get_or, set, drop}
 use Rattle.std.proofs.lemmas.Bool.{true≢false, false≢true, cases_Bool}
 use Rattle.std.specs.Prelude.{◌⊎◌}
-use Rattle.exec_outcomes.specs.{declared.outcome.{OpResult.OpResult, Outcome.Outcome}, Outcomes.refuses_hint}
 use Rattle.exec_machine.specs.declared.{config.Configuration.Configuration, event.Event.Event, state.{MailMessage.MailMessage, Next.Next}}
-use Rattle.exec_machine.specs.{After.common_after, Choice.{Choice, Payer, Choice.{Plain, Passes, Pays, Posts}, Payer.{ByRequest, BySleeper, ByAct, ByCall, ByStop}}, Closing.{after_clear, after_next, ends_by_clear, with_closed_mailbox}, Deadlines.rest_until, Mail.{after_apply, after_message, after_post, after_sending, is_left_out, is_root_message, posted}, Requests.{after_reap, judged_of}, Tasks.{after_payment, after_pend, after_wake, after_word, new_seat}, Tests.{has_ended, is_awake}, World.{Common, Own as Books, Seat, no_seat, request_of, seat_of, task_of}}
+use Rattle.exec_machine.specs.{After.common_after, Choice.{Choice}, Closing.{after_clear, after_next}, Deadlines.rest_until, Mail.{after_apply, after_message, after_post, after_sending}, Tasks.{after_pend, after_wake, after_word, new_seat}, Tests.{has_ended, is_awake}, World.{Common, Own as Books, Seat, no_seat, seat_of}}
 use Rattle.exec_machine.specs.declared.event.Event.TheVariants as event
-use Rattle.exec_machine.specs.declared.state.MailMessage.TheVariants as message
-use Rattle.exec_machine.specs.declared.state.Next.TheVariants as next
 use Rattle.exec_machine.specs.declared.state.Rest.TheVariants as rest
 use Rattle.exec_machine.specs.declared.state.WorkerPhase.TheVariants as worker
 use Rattle.exec_rest.proofs.Heeds.{landed_after}
@@ -66,14 +63,7 @@ unroused rouses_none j is = true≢false (sym (ap is_rouse is) ∙ rouses_none)
 
 -- a seat that is as before
 still : {i : ℕ} {e : Event} {x y : Seat} → is_rouse e ≡ false → ((l : List ℕ) → landed_by e l ≡ l) → (j : ℕ) → Like x y → Seated i e j x y
-still rouses_none keeps j a =
-    record {
-      pool = a.pool;
-      ended = λ h. inl (a.ended h);
-      landed = λ apart. a.landed;
-      own = λ at. a.landed ∙ sym (keeps _);
-      asleep = λ h. inl (ap is_awake (sym a.rest) ∙ h, unroused rouses_none j);
-    }
+still = grind arith
 
 -- the seat of another worker
 untouched : {i : ℕ} {e : Event} {x : Seat} → is_rouse e ≡ false → (j : ℕ) → j ≢ i → Seated i e j x x
@@ -139,95 +129,32 @@ word_same s None = same
 word_same s (Some t) = keep refl refl
 
 next_stays : (s : Common) (i : ℕ) (n : Next) → Stays s (after_next s i n)
-next_stays s i next.Free = stays_same same
-next_stays s i (next.Joins r) = record { seats = λ j. like; callers = refl }
-next_stays s i next.ClosesQueue = record { seats = λ j. like; callers = refl }
-next_stays s i next.ClosesMailbox = record { seats = seat_set s i (with_closed_mailbox (seat_of s i)) (alike refl refl refl refl); callers = refl }
-
-payment_same : (s : Common) (polls : Option ℕ) (payer : Payer) → Same s (after_payment s polls payer)
-payment_same s polls (ByRequest r) = keep refl refl
-payment_same s polls (BySleeper z) = keep refl refl
-payment_same s None ByAct = same
-payment_same s (Some t) ByAct = keep refl refl
-payment_same s polls ByCall = same
-payment_same s polls ByStop = same
+next_stays = grind (arith, stays_same, same, like, seat_set, alike)
 
 wake_same : (me : Books) (s : Common) (t : ℕ) (choice : Choice) → Same s (after_wake me s t choice)
-wake_same me s t (Pays payer) = let a = payment_same s me.polls payer in keep a.seats a.callers
-wake_same me s t Plain = same
-wake_same me s t Passes = same
-wake_same me s t (Posts payer left_out) = same
+wake_same = grind arith
 
 sending_same : (s : Common) (polls : Option ℕ) (m : MailMessage) → Same s (after_sending s polls m)
-sending_same s None m = same
-sending_same s (Some t) message.Root = keep refl refl
-sending_same s (Some t) (message.ForwardRequest r) = keep refl refl
-sending_same s (Some t) (message.ForwardTimer z) = keep refl refl
-sending_same s (Some t) (message.CancelRequest r) = keep refl refl
-sending_same s (Some t) (message.CancelTimer z) = same
+sending_same = grind arith
 
 post_stays : (s : Common) (to : ℕ) (m : MailMessage) (choice : Choice) → Stays s (after_post s to m choice)
-post_stays s to m choice = elim (cases_Bool (is_root_message m && is_left_out choice)) [
-  | inl out ↦ rw out (stays_same same)
-  | inr in_it ↦ rw in_it (record { seats = seat_set s to (posted m (seat_of s to)) (alike refl refl refl refl); callers = refl })
-]
+post_stays = grind (arith, cases_Bool, stays_same, same, seat_set, alike)
 
 message_same : (me : Books) (s : Common) (m : MailMessage) → Same s (after_message me s m)
-message_same me s message.Root = keep refl refl
-message_same me s (message.ForwardRequest r) = keep refl refl
-message_same me s (message.ForwardTimer z) = keep refl refl
-message_same me s (message.CancelRequest r) = keep refl refl
-message_same me s (message.CancelTimer z) = keep refl refl
+message_same = grind arith
 
 apply_stays : (me : Books) (s : Common) (i : ℕ) (m : MailMessage) → Stays s (after_apply me s i m)
-apply_stays me s i m =
-    let told = message_same me s m in
-    let y : Seat = record (seat_of s i) { inbox = drop 1 (seat_of s i).inbox } in
-    record {
-      seats = subst (λ xs. AllLike s.seats (set xs i y)) (sym told.seats) (seat_set s i y (alike refl refl refl refl));
-      callers = told.callers;
-    }
+apply_stays = grind (arith, message_same, seat_set, alike)
 
 pend_same : (s : Common) (i t : ℕ) → Same s (after_pend s i t)
-pend_same s i t = elim (cases_Bool (task_of s t).cleared) [
-  | inl over ↦ rw over (keep refl refl)
-  | inr stays ↦ rw stays (keep refl refl)
-]
+pend_same = grind arith
 
 clear_same : (s : Common) (i t : ℕ) → Same s (after_clear s i t)
-clear_same s i t = elim (cases_Bool (ends_by_clear (task_of s t).phase)) [
-  | inl ends ↦ rw ends (keep refl refl)
-  | inr stays ↦ rw stays (keep refl refl)
-]
-
-reap_callers : (s : Common) (i r : ℕ) (n : OpResult) (outcome : Option Outcome) → (after_reap s i r n outcome).callers ≡ s.callers
-reap_callers s i r n outcome =
-    elim (cases_Bool (refuses_hint (judged_of (request_of s r) n))) [ inl refused ↦ rw refused refl | inr other ↦ rw other refl ]
+clear_same = grind arith
 
 module _ (c : Configuration) (me : Books) (s : Common) (i : ℕ) where
   stays : (e : Event) (choice : Choice) → is_still e ≡ true → Stays s (common_after c me s i e choice)
-  stays event.Turn Plain calm = next_stays s i me.next
-  stays event.Turn Passes calm = record { seats = seat_set s i (record (seat_of s i) { left = true }) (alike refl refl refl refl); callers = refl }
-  stays event.Turn (Pays payer) calm = next_stays s i me.next
-  stays event.Turn (Posts payer left_out) calm = next_stays s i me.next
-  stays (event.Pend t) choice calm = stays_same (pend_same s i t)
-  stays (event.Spawn t k) choice calm = let a = word_same s me.polls in stays_same (keep a.seats a.callers)
-  stays (event.Dedicated t k) choice calm = record { seats = seat_push s.seats; callers = (word_same s me.polls).callers }
-  stays event.Closed choice calm = stays_same (word_same s me.polls)
-  stays (event.Clear t) choice calm = stays_same (clear_same s i t)
-  stays (event.Wait None) choice calm = record { seats = λ j. like; callers = refl }
-  stays (event.Wait (Some r)) choice calm = record { seats = λ j. like; callers = refl }
-  stays (event.Wake t) choice calm = stays_same (wake_same me s t choice)
-  stays event.Busy choice calm = record { seats = seat_set s i (record (seat_of s i) { busy = false }) (alike refl refl refl refl); callers = refl }
-  stays (event.Send to m) choice calm = after_same (sending_same s me.polls m) (post_stays (after_sending s me.polls m) to m choice)
-  stays (event.Apply m) choice calm = apply_stays me s i m
-  stays event.Close choice calm =
-      record { seats = seat_set s i (record (seat_of s i) { phase = worker.Closing }) (record { pool = refl; ended = λ h. absurd (false≢true h); landed = refl; rest = refl }); callers = refl }
-  stays (event.Reap r n outcome) choice calm = absurd (false≢true calm)
-  stays (event.Rouse other) choice calm = absurd (false≢true calm)
-  stays (event.Sleep until) choice calm = absurd (false≢true calm)
-  stays event.End choice calm = absurd (false≢true calm)
-  stays _ choice calm = record { seats = λ j. like; callers = refl }
+  stays = grind (arith, next_stays, seat_set, alike, stays_same, pend_same, word_same, keep, seat_push, clear_same, like, wake_same, after_same, sending_same, post_stays, apply_stays, false≢true)
 
   -- EACH EVENT
 
@@ -252,8 +179,4 @@ module _ (c : Configuration) (me : Books) (s : Common) (i : ℕ) where
   seats_after e choice = λ j. still refl (λ l. refl) j ((stays e choice refl).seats j)
 
   pub callers_after : (e : Event) (choice : Choice) → (common_after c me s i e choice).callers ≡ s.callers
-  callers_after (event.Reap r n outcome) choice = reap_callers s i r n outcome
-  callers_after (event.Rouse other) choice = refl
-  callers_after (event.Sleep until) choice = refl
-  callers_after event.End choice = refl
-  callers_after e choice = (stays e choice refl).callers
+  callers_after = grind arith

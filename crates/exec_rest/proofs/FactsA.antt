@@ -1,47 +1,21 @@
 -- What holds after a move of a worker that heeds: of the idle set, the global queue and the run queues, and that who has
 -- ended, or calls, does so still.
-use Rattle.std.proofs.Common.{◌≡◌, ◌≢◌, ℕ, ◌<◌, Bool, true, false, ◌&&◌, ◌||◌, [], length, Some, if◌then◌else◌, refl, sym, ap, ◌∙◌, subst, inl, inr, slice_index_or}
+use Rattle.std.proofs.Common.{◌≡◌, ◌≢◌, ℕ, ◌<◌, Bool, true, false, ◌||◌, [], length, Some, refl, sym, ap, ◌∙◌, subst, inl, inr, slice_index_or, arith}
 use Rattle.std.proofs.lemmas.{Bool.{true≢false, false≢true, and_parts, cases_Bool, cases_eq, cases_lt, or_cases, or_left, or_right}, List.get_or_past}
 use Rattle.std.specs.Prelude.{◌⊎◌, not}
-use Rattle.exec_machine.specs.{declared.config.Configuration.Configuration, Callers.{is_enabled, is_half_done, is_held, may_go_on}, Tests.{has_ended, is_awake}, World.{Common, Own as Books, Seat, no_seat, own_of, seat_of}}
+use Rattle.exec_machine.specs.{declared.config.Configuration.Configuration, Callers.{is_enabled, is_half_done, may_go_on}, Tests.{has_ended}, World.{Common, Own as Books, Seat, no_seat, own_of, seat_of}}
 use Rattle.exec_machine.specs.declared.state.Call.TheVariants as call
 use Rattle.exec_machine.specs.declared.step.Action.TheVariants as action
-use Rattle.exec_moves.specs.{declared.{handing.CallPlace.CallPlace, idling.AfterWait.AfterWait, place.Place.Place}, Callback.{has_requests, serve}, Load.{has_submissions, next_turn}, Look.{after_withdrawal, searching_if}, Move.{move, move_at}, Plays.{Playing, by_move, caller_of, desk_of}, State.{Desk, Moved, Things, queue_of}}
-use Rattle.exec_moves.specs.declared.handing.AfterKick.TheVariants as kick
-use Rattle.exec_moves.specs.declared.handing.AfterLeave.TheVariants as leave
-use Rattle.exec_moves.specs.declared.handing.InKick.TheVariants as kicks
-use Rattle.exec_moves.specs.declared.idling.AfterWait.TheVariants as later
-use Rattle.exec_moves.specs.declared.place.AfterService.TheVariants as back
-use Rattle.exec_moves.specs.declared.place.Place.TheVariants as at
-use Rattle.exec_words.specs.Idle.{is_in}
+use Rattle.exec_moves.specs.{declared.{handing.CallPlace.CallPlace, place.Place.Place}, Move.{move}, Plays.{Playing, by_move, caller_of, desk_of}, State.{Desk, Moved, Things, queue_of}}
 use Rattle.exec_rest.specs.Places.{call_owes, call_signals, has_looked, is_dry, is_in_call, is_pooled, is_published, is_withdrawing, owes, owes_nothing, signals}
 use Rattle.exec_rest.specs.Rested.{IsLaidOut, IsOwed, IsRestful, IsSignalled, Someone, Someone.{Worker, Caller}, has_bit, is_in_pool, is_latched, place_at}
 use Rattle.exec_rest.proofs.{Frames.{callers_same, desk_other, desk_own, ended_after, pool_after}, Heeds.Heeds}
 
 -- WHO WITHDRAWS isn't published then, and so needs no answer any more where it was claimed before. (No field of `Heeds` says so.)
 
-unpublished_either : (b : Bool) (p q : Place) → is_published p ≡ false → is_published q ≡ false → is_published (if b then p else q) ≡ false
-unpublished_either true p q h k = h
-unpublished_either false p q h k = k
-
 module _ (c : Configuration) (i : ℕ) (me : Books) (s : Common) where
-  next_unpublished : (d : Desk) → is_published (next_turn c i me s d) ≡ false
-  next_unpublished d = unpublished_either ((d.put_off && has_requests i s) || (d.may_put_off && has_submissions c me)) (serve back.Begin) at.BeginTurn refl refl
-
-  leaves_unpublished : (came : Bool) (n : AfterWait) (d : Desk) → is_published (after_withdrawal c i me s came n d) ≡ false
-  leaves_unpublished came later.Begin d = refl
-  leaves_unpublished came later.Serve d = refl
-  leaves_unpublished true (later.MakeUp last) d = unpublished_either d.searching (at.LeaveSearch leave.Begin) (next_turn c i me s d) refl (next_unpublished d)
-  leaves_unpublished false (later.MakeUp last) d = unpublished_either last (at.Kick kicks.LoadKickCount (kick.Leave leave.Begin)) (next_turn c i me s d) refl (next_unpublished d)
-  leaves_unpublished true later.Search d = refl
-  leaves_unpublished false later.Search d = refl
-
   pub withdrawn : (d : Desk) (x : Things) → is_withdrawing d.place ≡ true → is_published (move c i me s d x).desk.place ≡ false
-  withdrawn d x = by d.place
-    where
-      by : (p : Place) → is_withdrawing p ≡ true → is_published (move_at c i me s d x p).desk.place ≡ false
-      by (at.Withdraw n) h = let came = not (is_in x.idle.published i) in leaves_unpublished came n (searching_if came d)
-      by _ h = absurd (false≢true h)
+  withdrawn = grind arith
 
 not_true : (b : Bool) → not b ≡ true → b ≡ false
 not_true true h = absurd (false≢true h)
@@ -53,10 +27,7 @@ at_each i P own other k = elim (cases_eq k i) [ inl here ↦ subst P (sym here) 
 
 -- whatever is known of a worker that isn't known where there is none tells that there is one
 pub seated : (s : Common) (f : Seat → Bool) (b : Bool) → f no_seat ≢ b → (k : ℕ) → f (seat_of s k) ≡ b → k < length s.seats
-seated s f b none k h = elim (cases_lt k (length s.seats)) [
-  | inl within ↦ within
-  | inr past ↦ absurd (none (sym (ap f (get_or_past s.seats k no_seat past)) ∙ h))
-]
+seated = grind (arith, cases_lt, get_or_past)
 
 module _ (c : Configuration) (x : Playing) (laid : IsLaidOut c x) (held : IsRestful c x) (i : ℕ) (may : is_enabled x.world.common (action.Work i) ≡ true) (m : Moved Things) (R : Type 0) (heeds : Heeds R i x.world.common (desk_of c x i) x.things m) where
   abbrev s : Common
@@ -74,9 +45,7 @@ module _ (c : Configuration) (x : Playing) (laid : IsLaidOut c x) (held : IsRest
   -- WHERE EACH STANDS
 
   pub going : has_ended (seat_of s i).phase ≡ false
-  going =
-      let awake = and_parts (is_awake (seat_of s i).rest && not (has_ended (seat_of s i).phase)) (not (is_held s (seat_of s i))) may in
-      not_true (has_ended (seat_of s i).phase) (and_parts (is_awake (seat_of s i).rest) (not (has_ended (seat_of s i).phase)) awake.0).1
+  going = grind (arith, and_parts, not_true)
 
   pub here : place_at c next i ≡ q
   here = ap (λ d. d.place) (desk_own c x i m (subst (λ n. i < n) (sym laid.desks) (seated s (λ seat. has_ended seat.phase) false true≢false i going)))
@@ -115,10 +84,7 @@ module _ (c : Configuration) (x : Playing) (laid : IsLaidOut c x) (held : IsRest
   bits_then = at_each i (λ k. has_bit c next k ≡ true → (is_published (place_at c next k) ≡ true) × (is_in_pool c next k ≡ true)) own other
     where
       own : has_bit c next i ≡ true → (is_published (place_at c next i) ≡ true) × (is_in_pool c next i ≡ true)
-      own bit = elim (heeds.bit_in i bit) [
-        | inl was ↦ (ap is_published here ∙ heeds.unpublished (held.bits i was).1 (held.bits i was).0 bit, pool_still i ∙ (held.bits i was).1)
-        | inr put ↦ (ap is_published here ∙ put.2, pool_still i ∙ held.pooled i put.1)
-      ]
+      own = grind (arith, here, pool_still)
 
       other : (k : ℕ) → k ≢ i → has_bit c next k ≡ true → (is_published (place_at c next k) ≡ true) × (is_in_pool c next k ≡ true)
       other k apart bit =
@@ -221,25 +187,7 @@ module _ (c : Configuration) (x : Playing) (laid : IsLaidOut c x) (held : IsRest
   LooksStill k = is_in_pool c x k ≡ true → (has_looked (place_at c x k) ≡ true → has_bit c x k ≡ false) → has_looked (place_at c next k) ≡ true → has_bit c next k ≡ false
 
   looks_still : (x.things.global ≡ [] → ⊥) → (k : ℕ) → LooksStill k
-  looks_still some = at_each i LooksStill own other
-    where
-      own : LooksStill i
-      own pool clear looked = elim (cases_Bool (has_bit c next i)) [
-        | inr none ↦ none
-        | inl bit ↦ elim (heeds.bit_in i bit) [
-          | inr put ↦ absurd (false≢true (sym put.3 ∙ (sym (ap has_looked here) ∙ looked)))
-          | inl was ↦ elim (heeds.looked pool (sym (ap has_looked here) ∙ looked)) [
-            | inl before ↦ absurd (false≢true (sym (clear before) ∙ was))
-            | inr empty ↦ absurd (some empty)
-          ]
-        ]
-      ]
-
-      other : (k : ℕ) → k ≢ i → LooksStill k
-      other k apart pool clear looked = elim (cases_Bool (has_bit c next k)) [
-        | inr none ↦ none
-        | inl bit ↦ absurd (false≢true (sym (clear (sym (ap has_looked (there k apart)) ∙ looked)) ∙ bit_before k apart bit))
-      ]
+  looks_still = grind (arith, at_each, cases_Bool, false≢true, here, there, bit_before)
 
   pub covered_then : (next.things.global ≡ [] → ⊥) → IsOwed c next ⊎ ((k : ℕ) × (is_in_pool c next k ≡ true) × (has_looked (place_at c next k) ≡ true → has_bit c next k ≡ false))
   covered_then some = elim (heeds.global some) [
@@ -253,18 +201,13 @@ module _ (c : Configuration) (x : Playing) (laid : IsLaidOut c x) (held : IsRest
   -- THE RUN QUEUES
 
   pub dried_then : (k : ℕ) → is_in_pool c next k ≡ true → is_dry (place_at c next k) ≡ true → (queue_of next.things k).values ≡ []
-  dried_then = at_each i (λ k. is_in_pool c next k ≡ true → is_dry (place_at c next k) ≡ true → (queue_of next.things k).values ≡ [])
-      (λ pool dry. heeds.dry (pool_before i pool) (held.dried i (pool_before i pool)) (sym (ap is_dry here) ∙ dry))
-      (λ k apart pool dry. heeds.queues k apart (held.dried k (pool_before k pool) (sym (ap is_dry (there k apart)) ∙ dry)))
+  dried_then = grind (arith, at_each, pool_before, here, there)
 
   -- WHO HAS ENDED, AND WHO CALLS
 
   pub over_then : (k : ℕ) → has_ended (seat_of next.world.common k).phase ≡ true → owes_nothing (place_at c next k) ≡ true
   over_then = at_each i (λ k. has_ended (seat_of next.world.common k).phase ≡ true → owes_nothing (place_at c next k) ≡ true)
-      (λ h. elim (ended_after c (own_of x.world i) s i m.event m.choice i h) [
-        | inl before ↦ absurd (false≢true (sym going ∙ before))
-        | inr it ↦ ap owes_nothing here ∙ heeds.ends it.1
-      ])
+      grind (arith, ended_after, false≢true, going, here)
       (λ k apart h. elim (ended_after c (own_of x.world i) s i m.event m.choice k h) [
         | inl before ↦ ap owes_nothing (there k apart) ∙ held.over k before
         | inr it ↦ absurd (apart it.0)

@@ -1,14 +1,13 @@
 -- From one move of a worker to what holds afterwards of sleepers, of who is about to sleep, and of wake polls.
-use Rattle.std.proofs.Common.{◌≡◌, ◌≢◌, ℕ, ◌<◌, Bool, true, false, ◌&&◌, ◌||◌, if◌then◌else◌, List, length, Option, Some, refl, sym, ap, ap₂, ◌∙◌, subst, inl, inr}
-use Rattle.std.proofs.lemmas.Bool.{true≢false, false≢true, and_parts, and_right, or_cases, or_left, or_right, cases_Bool, cases_eq, cases_lt}
+use Rattle.std.proofs.Common.{◌≡◌, ◌≢◌, ℕ, ◌<◌, Bool, true, false, ◌&&◌, ◌||◌, List, length, Option, Some, refl, sym, ap, ap₂, ◌∙◌, subst, inl, inr, arith}
+use Rattle.std.proofs.lemmas.Bool.{true≢false, false≢true, and_parts, or_right, cases_eq, cases_lt}
 use Rattle.std.proofs.lemmas.List.{get_or_past}
-use Rattle.std.specs.Prelude.{◌⊎◌, is_some, nat_lt, not}
+use Rattle.std.specs.Prelude.{◌⊎◌, is_some, not}
 use Rattle.exec_words.specs.declared.word.WaitTarget.{WaitTarget}
 use Rattle.exec_words.specs.declared.word.WaitTarget.TheVariants as target
 use Rattle.exec_machine.specs.declared.step.Action.TheVariants as action
-use Rattle.exec_machine.specs.{declared.{config.Configuration.Configuration, event.Event.TheVariants.{Rouse, Sleep}}, Callers.{is_enabled, is_held}, Tests.{has_ended, is_awake, is_empty}, World.{Common, Own as Books, Seat, no_seat, own_of, seat_of}}
-use Rattle.exec_moves.specs.{declared.{idling.{AfterWait.AfterWait, InRingWait.InRingWait, InWordWait.InWordWait}, place.Place.Place}, Claim.is_ring, Plays.{Playing, by_move, desk_of, first_desk}, Serve.Ring, State.{Desk, Moved, Things, WakePoll, raised, told_once, word_of, wake_poll_of}, Thing.ring_of, Wait.has_completion}
-use Rattle.exec_machine.specs.Same.{is_none}
+use Rattle.exec_machine.specs.{declared.{config.Configuration.Configuration, event.Event.TheVariants.{Rouse, Sleep}}, Callers.{is_enabled, is_held}, Tests.{has_ended, is_awake, is_empty}, World.{Common, Own as Books, own_of, seat_of}}
+use Rattle.exec_moves.specs.{declared.{idling.{InRingWait.InRingWait}, place.Place.Place}, Claim.is_ring, Plays.{Playing, by_move, desk_of}, Serve.Ring, State.{Desk, Moved, Things, WakePoll, raised, word_of, wake_poll_of}, Thing.ring_of, Wait.has_completion}
 use Rattle.exec_rest.specs.Places.{Raising, asked_for_poll, is_abed, is_to_enter, is_to_sleep_on_ring, raises, waits_on}
 use Rattle.exec_rest.specs.Rested.{IsLaidOut, IsRaised, IsRestful, Someone.{Worker, Caller}, is_latched, is_told, place_at, poll_at, ring_at, sleeps}
 use Rattle.exec_rest.proofs.Heeds.{Heeds, Rings, ring_after}
@@ -16,73 +15,18 @@ use Rattle.exec_rest.proofs.Frames.{asleep_after, desk_other, desk_own, landed_o
 
 -- A WAKE THAT IS RAISED
 
-raised_on : (p : WakePoll) → p.armed ≡ true → raised p ≡ told_once p
-raised_on p on = ap (λ b. if b then told_once p else record p { kept = true }) on
-
-raised_off : (p : WakePoll) → p.armed ≡ false → raised p ≡ record p { kept = true }
-raised_off p off = ap (λ b. if b then told_once p else record p { kept = true }) off
-
--- it is told where the kernel has the poll, else kept
-told_or_kept : (p : WakePoll) → ((raised p).told ≡ true) ⊎ ((raised p).kept ≡ true)
-told_or_kept p =
-    elim (cases_Bool p.armed) [ inl on ↦ inl (ap (λ (w : WakePoll). w.told) (raised_on p on)) | inr off ↦ inr (ap (λ (w : WakePoll). w.kept) (raised_off p off)) ]
-
-told_on : (p : WakePoll) → p.armed ≡ true → (raised p).told ≡ true
-told_on p on = ap (λ (w : WakePoll). w.told) (raised_on p on)
-
--- what was told stays so
-told_still : (p : WakePoll) → p.told ≡ true → (raised p).told ≡ true
-told_still p told =
-    elim (cases_Bool p.armed) [ inl on ↦ told_on p on | inr off ↦ ap (λ (w : WakePoll). w.told) (raised_off p off) ∙ told ]
-
-either_last : (a b t u : Bool) → (t ≡ true → u ≡ true) → (a || b || t) ≡ true → (a || b || u) ≡ true
-either_last true b t u f h = refl
-either_last false true t u f h = refl
-either_last false false t u f h = f h
-
-last_true : (a b t : Bool) → t ≡ true → (a || b || t) ≡ true
-last_true true b t h = refl
-last_true false true t h = refl
-last_true false false t h = h
-
 abbrev with_wakes : Ring → WakePoll → Ring
 with_wakes r w = record r { wakes = w }
 
-completion_told : (d : Desk) (r : Ring) → r.wakes.told ≡ true → has_completion d r ≡ true
-completion_told d r told = last_true (not (is_empty r.landed)) (nat_lt 0 d.others) r.wakes.told told
-
-completion_still : (d : Desk) (r : Ring) → has_completion d r ≡ true → has_completion d (with_wakes r (raised r.wakes)) ≡ true
-completion_still d r h = either_last (not (is_empty r.landed)) (nat_lt 0 d.others) r.wakes.told (raised r.wakes).told (told_still r.wakes) h
-
 -- where the kernel has the poll or a completion is there, one is there then
 completion_raised : (d : Desk) (r : Ring) → (r.wakes.armed || has_completion d r) ≡ true → has_completion d (with_wakes r (raised r.wakes)) ≡ true
-completion_raised d r h =
-    elim (or_cases r.wakes.armed (has_completion d r) h) [
-      | inl on ↦ completion_told d (with_wakes r (raised r.wakes)) (told_on r.wakes on)
-      | inr there ↦ completion_still d r there
-    ]
-
--- in any case a completion is there, or the wake is kept
-completion_or_kept : (d : Desk) (r : Ring) → (has_completion d (with_wakes r (raised r.wakes)) || (raised r.wakes).kept) ≡ true
-completion_or_kept d r =
-    elim (told_or_kept r.wakes) [
-      | inl told ↦ or_left (has_completion d (with_wakes r (raised r.wakes))) (raised r.wakes).kept (completion_told d (with_wakes r (raised r.wakes)) told)
-      | inr kept ↦ or_right (has_completion d (with_wakes r (raised r.wakes))) (raised r.wakes).kept kept
-    ]
+completion_raised = grind arith
 
 kept_still : (p : WakePoll) → (p.armed && p.kept) ≡ false → ((raised p).armed && (raised p).kept) ≡ false
-kept_still p h =
-    elim (cases_Bool p.armed) [
-      | inl on ↦ rw (raised_on p on) (and_right (not p.last) p.kept (ap (λ b. b && p.kept) (sym on) ∙ h))
-      | inr off ↦ rw (raised_off p off) (ap (λ b. b && true) off)
-    ]
+kept_still = grind arith
 
 ended_still : (landed : Bool) (p : WakePoll) → (is_some p.ended ≡ true → (landed || p.told) ≡ true) → is_some (raised p).ended ≡ true → (landed || (raised p).told) ≡ true
-ended_still landed p before h =
-    elim (cases_Bool p.armed) [
-      | inl on ↦ or_right landed (raised p).told (told_on p on)
-      | inr off ↦ rw (raised_off p off) (before (sym (ap (λ (w : WakePoll). is_some w.ended) (raised_off p off)) ∙ h))
-    ]
+ended_still = grind arith
 
 -- PLACES
 
@@ -91,9 +35,7 @@ is_waiting target.None = false
 is_waiting _ = true
 
 pub abed_waits : (p : Place) → is_abed p ≡ true → is_waiting (waits_on p) ≡ true
-abed_waits (Place.WordWait InWordWait.DisarmWord) h = refl
-abed_waits (Place.RingWait (InRingWait.DisarmRing AfterWait.Begin) y) h = refl
-abed_waits _ h = absurd (false≢true h)
+abed_waits = grind arith
 
 pub enter_waits : (p : Place) → is_to_enter p ≡ true → waits_on p ≡ target.Ring
 enter_waits (Place.RingWait InRingWait.EnterRing y) h = refl
@@ -105,9 +47,7 @@ sleep_waits _ h = absurd (false≢true h)
 
 -- who waits on its ring raises nobody's
 ring_raises : (p : Place) → waits_on p ≡ target.Ring → (r : Raising) → raises p ≡ Some r → ⊥
-ring_raises (Place.Signal y j b) h r is = absurd (false≢true (ap is_waiting h))
-ring_raises (Place.Service y v) h r is = absurd (false≢true (ap is_waiting h))
-ring_raises _ h r is = absurd (true≢false (ap is_none is))
+ring_raises = grind arith
 
 -- AFTER A MOVE OF WORKER i
 
@@ -130,11 +70,7 @@ module _ (c : Configuration) (x : Playing) (laid : IsLaidOut c x) (held : IsRest
   up = and_parts (is_awake (seat_of s i).rest) (not (has_ended (seat_of s i).phase)) (and_parts (is_awake (seat_of s i).rest && not (has_ended (seat_of s i).phase)) (not (is_held s (seat_of s i))) may).0
 
   within : i < length s.seats
-  within =
-      elim (cases_lt i (length s.seats)) [
-        | inl lt ↦ lt
-        | inr past ↦ absurd (false≢true (subst (λ (y : Seat). not (has_ended y.phase) ≡ true) (get_or_past s.seats i no_seat past) up.1))
-      ]
+  within = grind (arith, cases_lt, false≢true, get_or_past, up)
 
   elsewhere : (k : ℕ) → is_awake (seat_of s k).rest ≡ false → k ≢ i
   elsewhere k asleep is = true≢false (sym up.0 ∙ (rw is at asleep))
@@ -163,11 +99,7 @@ module _ (c : Configuration) (x : Playing) (laid : IsLaidOut c x) (held : IsRest
 
   -- whoever is at another place than a new worker is one of the workers
   placed : (P : Place → Bool) → P Place.BeginTurn ≡ false → (k : ℕ) → P (place_at c x k) ≡ true → k < length x.desks
-  placed P first k h =
-      elim (cases_lt k (length x.desks)) [
-        | inl lt ↦ lt
-        | inr past ↦ absurd (false≢true (sym first ∙ subst (λ (d : Desk). P d.place ≡ true) (get_or_past x.desks k (first_desk c k) past) h))
-      ]
+  placed = grind (arith, cases_lt, false≢true, get_or_past)
 
   has_poll : (k : ℕ) → k < length x.desks → k < length x.things.wake_polls
   has_poll k lt = rw (laid.polls, ← laid.desks) lt
@@ -288,9 +220,7 @@ module _ (c : Configuration) (x : Playing) (laid : IsLaidOut c x) (held : IsRest
   kept_same k apart same = ap₂ (λ a b. a || b) (told_other k apart (wake_poll_of x.things k) same) (ap (λ (w : WakePoll). w.kept) same)
 
   kept_by : (k : ℕ) → k ≢ i → wake_poll_of m.thing k ≡ raised (wake_poll_of x.things k) → (is_told c next k || (poll_at c next k).kept) ≡ true
-  kept_by k apart raise =
-      ap₂ (λ a b. a || b) (told_other k apart (raised (wake_poll_of x.things k)) raise) (ap (λ (w : WakePoll). w.kept) raise)
-      ∙ completion_or_kept (desk_of c x k) (ring_of s x.things k)
+  kept_by = grind arith
 
   told_by : (k : ℕ) → k ≢ i → wake_poll_of m.thing k ≡ raised (wake_poll_of x.things k) → ((poll_at c x k).armed || is_told c x k) ≡ true → is_told c next k ≡ true
   told_by k apart raise h = told_other k apart (raised (wake_poll_of x.things k)) raise ∙ completion_raised (desk_of c x k) (ring_of s x.things k) h

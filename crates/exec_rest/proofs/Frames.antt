@@ -1,5 +1,5 @@
 -- What the event of a worker's move leaves of seats and callers, and what the move leaves of the places of all others.
-use Rattle.std.proofs.Common.{◌≡◌, ◌≢◌, ℕ, zero, suc, ◌<◌, ◌+◌, true, false, List, [], ◌∷◌, ◌++◌, length, Option, refl, ap, ◌∙◌, arith, get_or, set}
+use Rattle.std.proofs.Common.{◌≡◌, ◌≢◌, ℕ, zero, suc, ◌<◌, ◌+◌, true, false, List, [], ◌∷◌, ◌++◌, length, Option, refl, ◌∙◌, arith, get_or, set}
 use Rattle.std.proofs.lemmas.List.{get_or_append_left, get_or-set_other, get_or-set_same, length-set}
 use Rattle.std.specs.Prelude.{◌⊎◌}
 use Rattle.exec_machine.specs.{declared.{config.Configuration.Configuration, event.Event.{Event, TheVariants.{Dedicated, End, Rouse, Sleep}}}, After.common_after, Choice.Choice, Tests.{has_ended, is_awake}, World.{Common, Own as Books, seat_of}}
@@ -49,10 +49,4 @@ module _ (c : Configuration) (x : Playing) (i : ℕ) (m : Moved Things) where
       get_or_append_left (set x.desks i m.desk) (newcomers c m.event) (first_desk c i) i (omega (arith, length-set x.desks i m.desk, within)) ∙ get_or-set_same x.desks i m.desk (first_desk c i) within
 
   pub desk_other : ((t k : ℕ) → m.event ≡ Dedicated t k → k ≡ length x.desks) → (j : ℕ) → j ≢ i → desk_of c next j ≡ desk_of c x j
-  desk_other born j apart =
-      more_same (set x.desks i m.desk) (newcomers c m.event) (first_desk c j) j (fresh m.event refl) ∙ get_or-set_other x.desks i j m.desk (first_desk c j) apart
-    where
-      fresh : (e : Event) → m.event ≡ e → (n : ℕ) → j ≡ length (set x.desks i m.desk) + n → get_or (newcomers c e) n (first_desk c j) ≡ first_desk c j
-      fresh (Dedicated t k) is zero past = ap (first_desk c) (omega (arith, born t k is, past, length-set x.desks i m.desk))
-      fresh (Dedicated t k) is (suc n) past = refl
-      fresh _ is n past = refl
+  desk_other = grind (arith, more_same, get_or-set_other, length-set)

@@ -1,17 +1,15 @@
 -- A task that is Idle or Running began its last poll after its last wake: at first, and after each step of any party. A poll begins fresh,
 -- and who is woken is Queued, Noted or over. It is a fact of the events alone, whatever is chosen and whether or not they may come.
-use Rattle.std.proofs.Common.{◌≡◌, ℕ, zero, suc, Bool, true, false, ◌||◌, ◌&&◌, List, [], ◌∷◌, ◌++◌, Option, Some, None, get_or, set, refl, sym, ap, ◌∙◌, subst, inl, inr}
+use Rattle.std.proofs.Common.{◌≡◌, ℕ, zero, suc, Bool, true, false, ◌||◌, ◌&&◌, List, [], ◌∷◌, ◌++◌, Option, Some, None, get_or, set, refl, sym, ap, ◌∙◌, subst, inl, inr, arith}
 use Rattle.std.proofs.lemmas.Bool.{false≢true, cases_Bool}
 use Rattle.std.specs.Prelude.{if◌then◌else◌, is_some, slice_get, unwrap_or}
 use Rattle.exec_outcomes.specs.{declared.outcome.OpResult.OpResult, Outcomes.refuses_hint}
 use Rattle.exec_machine.specs.declared.{config.Configuration.Configuration, event.Event.Event, state.{MailMessage.MailMessage, Next.Next, Request.Request, TaskPhase.TaskPhase}, step.Action.Action}
-use Rattle.exec_machine.specs.{After.{common_after, polled}, Callers.{after_going_on, after_spawn_by_call, after_wake_by_call, is_enabled}, Choice.{Choice, Payer, Choice.{Plain, Passes, Pays, Posts}, Payer.{ByRequest, BySleeper, ByAct, ByCall, ByStop}}, Closing.{after_clear, after_next, ends_by_clear, with_cleared}, Mail.{after_message, after_post, after_sending, is_left_out, is_root_message}, Progress.{Plan, is_runnable}, Requests.{common_after_refusal, judged_of}, Run.first_tasks, Tasks.{after_over, after_payment, after_pend, after_taking, after_wake, after_word, pended_phase, wake, woken_phase}, Tests.{is_done, waits_for_nothing}, Words.{asks_yield, next_word}, World.{Common, Own as Books, Task, no_task, own_of, request_of, task_of}}
+use Rattle.exec_machine.specs.{After.{common_after}, Callers.{after_going_on, after_spawn_by_call, after_wake_by_call, is_enabled}, Choice.{Choice, Payer}, Closing.{after_clear, after_next, ends_by_clear, with_cleared}, Mail.{after_message, after_post, after_sending, is_left_out, is_root_message}, Progress.{Plan, is_runnable}, Requests.{common_after_refusal, judged_of}, Run.first_tasks, Tasks.{after_over, after_payment, after_pend, after_taking, after_wake, after_word, pended_phase, wake, woken_phase}, Tests.{is_done, waits_for_nothing}, World.{Common, Own as Books, Task, no_task, own_of, task_of}}
 use Rattle.exec_machine.specs.declared.event.Event.TheVariants as event
-use Rattle.exec_machine.specs.declared.state.MailMessage.TheVariants as message
 use Rattle.exec_machine.specs.declared.state.Next.TheVariants as next
 use Rattle.exec_machine.specs.declared.state.TaskPhase.TheVariants as phase
-use Rattle.exec_machine.specs.declared.step.Action.TheVariants as action
-use Rattle.exec_moves.specs.{Move.move, MoveOfCaller.move_of_caller, Plays.{Playing, by_action, by_move, by_step, caller_of, desk_of, first_playing}, State.{Moved, Things}}
+use Rattle.exec_moves.specs.{Plays.{Playing, by_action, by_move, by_step, first_playing}, State.{Moved, Things}}
 use Rattle.exec_rest.specs.AtRest.{AreFresh, is_unnoted}
 use Rattle.exec_rest.proofs.Sides.{put_cases}
 
@@ -29,18 +27,10 @@ one_fresh true one other f g = f
 one_fresh false one other f g = g
 
 woken_noted : (p : TaskPhase) → is_unnoted (woken_phase p) ≡ false
-woken_noted phase.Idle = refl
-woken_noted phase.Queued = refl
-woken_noted (phase.Running i) = refl
-woken_noted (phase.Noted i) = refl
-woken_noted phase.Done = refl
+woken_noted = grind arith
 
 pended_noted : (p : TaskPhase) → is_unnoted (pended_phase p) ≡ true → is_unnoted p ≡ true
-pended_noted (phase.Running i) h = refl
-pended_noted (phase.Noted i) h = h
-pended_noted phase.Idle h = h
-pended_noted phase.Queued h = h
-pended_noted phase.Done h = h
+pended_noted = grind arith
 
 -- LISTS OF TASKS
 
@@ -49,10 +39,7 @@ AllFresh xs = (t : ℕ) → IsFresh (get_or xs t no_task)
 
 -- one is another one
 fresh_set : (xs : List Task) (k : ℕ) (a : Task) → AllFresh xs → IsFresh a → AllFresh (set xs k a)
-fresh_set xs k a all it t = elim (put_cases xs k t a no_task) [
-  | inl old ↦ subst IsFresh (sym old) (all t)
-  | inr new ↦ subst IsFresh (sym new.2) it
-]
+fresh_set = grind (arith, put_cases)
 
 -- one more
 fresh_push : (xs : List Task) (a : Task) → AllFresh xs → IsFresh a → AllFresh (xs ++ a ∷ [])
@@ -99,42 +86,25 @@ module _ (s : Common) (all : Holds s) where
   word (Some t) = put t _ (all t)
 
   turned : (i : ℕ) (n : Next) → Holds (after_next s i n)
-  turned i next.Free = all
-  turned i (next.Joins r) = all
-  turned i next.ClosesQueue = all
-  turned i next.ClosesMailbox = all
+  turned = grind arith
 
   taking : (t : ℕ) → IsFresh (after_taking s (task_of s t))
   taking t = one_fresh (waits_for_nothing (task_of s t).waiting) _ _ (all t) (all t)
 
   payment : (polls : Option ℕ) (payer : Payer) → Holds (after_payment s polls payer)
-  payment polls (ByRequest r) = all
-  payment polls (BySleeper z) = all
-  payment None ByAct = all
-  payment (Some t) ByAct = put t _ (one_fresh (asks_yield (next_word s (task_of s t))) _ _ (all t) (all t))
-  payment polls ByCall = all
-  payment polls ByStop = all
+  payment = grind (arith, put, one_fresh)
 
   wake_kept : (t : ℕ) → Holds (wake s t)
   wake_kept t = put t _ (λ h. noted (sym (woken_noted (task_of s t).phase) ∙ h))
 
   sending : (polls : Option ℕ) (m : MailMessage) → Holds (after_sending s polls m)
-  sending None m = all
-  sending (Some t) message.Root = put t _ (all t)
-  sending (Some t) (message.ForwardRequest r) = put t _ (one_fresh (waits_for_nothing (task_of s t).waiting) _ _ (all t) (all t))
-  sending (Some t) (message.ForwardTimer z) = all
-  sending (Some t) (message.CancelRequest r) = put t _ (all t)
-  sending (Some t) (message.CancelTimer z) = all
+  sending = grind (arith, put, one_fresh)
 
   post : (to : ℕ) (m : MailMessage) (choice : Choice) → Holds (after_post s to m choice)
   post to m choice = one_of (is_root_message m && is_left_out choice) _ _ all all
 
   told : (me : Books) (m : MailMessage) → Holds (after_message me s m)
-  told me message.Root = wake_kept me.root
-  told me (message.ForwardRequest r) = all
-  told me (message.ForwardTimer z) = all
-  told me (message.CancelRequest r) = all
-  told me (message.CancelTimer z) = all
+  told = grind (arith, wake_kept)
 
   over : (i t : ℕ) → Holds (after_over s i t)
   over i t = put t _ noted
@@ -150,10 +120,7 @@ module _ (s : Common) (all : Holds s) where
 
 -- paid, and then woken
 wake_paid : (s : Common) → Holds s → (me : Books) (t : ℕ) (choice : Choice) → Holds (after_wake me s t choice)
-wake_paid s all me t (Pays payer) = wake_kept (after_payment s me.polls payer) (payment s all me.polls payer) t
-wake_paid s all me t Plain = all
-wake_paid s all me t Passes = all
-wake_paid s all me t (Posts payer left_out) = all
+wake_paid = grind (arith, wake_kept, payment)
 
 clear : (s : Common) → Holds s → (i t : ℕ) → Holds (after_clear s i t)
 clear s all i t = one_of (ends_by_clear (task_of s t).phase) _ _ (over (with_cleared s t) (cleared s all t) i t) (cleared s all t)
@@ -162,31 +129,7 @@ clear s all i t = one_of (ends_by_clear (task_of s t).phase) _ _ (over (with_cle
 
 module _ (c : Configuration) (me : Books) (s : Common) (all : Holds s) (i : ℕ) where
   kept : (e : Event) (choice : Choice) → Holds (common_after c me s i e choice)
-  kept event.Turn Passes = all
-  kept event.Turn Plain = turned s all i me.next
-  kept event.Turn (Pays payer) = turned s all i me.next
-  kept event.Turn (Posts payer left_out) = turned s all i me.next
-  kept (event.Begin t) choice = put s all t _ (λ h. refl)
-  kept (event.Pend t) choice = pend s all i t
-  kept (event.Done t) choice = over s all i t
-  kept (event.Fault t n) choice = over s all i t
-  kept (event.Spawn t k) choice = fresh_push (after_word s me.polls).tasks _ (word s all me.polls) noted
-  kept (event.Dedicated t k) choice = fresh_push (after_word s me.polls).tasks _ (word s all me.polls) noted
-  kept event.Closed choice = word s all me.polls
-  kept (event.Clear t) choice = clear s all i t
-  kept (event.Admit r kind outcome) choice = put s all (polled me) _ (all (polled me))
-  kept (event.Wait None) choice = put s all (polled me) _ (all (polled me))
-  kept (event.Wait (Some r)) choice = put s all (polled me) _ (all (polled me))
-  kept (event.Got r outcome) choice = put s all (polled me) _ (taking s all (polled me))
-  kept (event.Drop r) choice = put s all (polled me) _ (all (polled me))
-  kept (event.Timer z until) choice = put s all (polled me) _ (all (polled me))
-  kept (event.GotTimer z) choice = put s all (polled me) _ (taking s all (polled me))
-  kept event.Pass choice = put s all (polled me) _ (taking s all (polled me))
-  kept (event.Wake t) choice = wake_paid s all me t choice
-  kept (event.Reap r n outcome) choice = refusal s all (request_of s r) n
-  kept (event.Send to m) choice = post (after_sending s me.polls m) (sending s all me.polls m) to m choice
-  kept (event.Apply m) choice = told s all me m
-  kept _ choice = all
+  kept = grind (arith, turned, put, pend, over, fresh_push, word, noted, clear, taking, wake_paid, refusal, post, sending, told)
 
 -- EACH STEP
 
@@ -198,14 +141,10 @@ spawn_by_call s all k (event.Spawn t script) = fresh_push s.tasks _ all noted
 spawn_by_call s all k _ = all
 
 wake_by_call : (s : Common) → Holds s → (t : ℕ) (e : Event) (choice : Choice) → Holds (after_wake_by_call s t e choice)
-wake_by_call s all t (event.Wake other) choice = wake_kept s all t
-wake_by_call s all t (event.Send to m) choice = post s all to m choice
-wake_by_call s all t _ choice = all
+wake_by_call = grind (arith, wake_kept, post)
 
 going_on : (s : Common) → Holds s → (j : ℕ) (e : Event) → Holds (after_going_on s j e)
-going_on s all j (event.Rouse other) = all
-going_on s all j event.Return = all
-going_on s all j _ = all
+going_on = grind arith
 
 module _ (c : Configuration) (x : Playing) (all : Holds x.world.common) where
   abbrev s : Common
@@ -215,16 +154,7 @@ module _ (c : Configuration) (x : Playing) (all : Holds x.world.common) where
   by_worker i m = kept c (own_of x.world i) s all i m.event m.choice
 
   by_any : (a : Action) → Holds (by_action c x a).next.world.common
-  by_any (action.Work i) = by_worker i (move c i (own_of x.world i) s (desk_of c x i) x.things)
-  by_any (action.Spawn j k) = let m = move_of_caller c s (caller_of x j) x.things (action.Spawn j k) in spawn_by_call s all k m.event
-  by_any (action.Wake j t) = let m = move_of_caller c s (caller_of x j) x.things (action.Wake j t) in wake_by_call s all t m.event m.choice
-  by_any (action.GoOn j) = let m = move_of_caller c s (caller_of x j) x.things (action.GoOn j) in going_on s all j m.event
-  by_any (action.Clock d) = all
-  by_any (action.Land r n) = all
-  by_any (action.SetBusy i) = all
-  by_any (action.EndPoll i) = all
-  by_any (action.Stir i) = all
-  by_any (action.Peer l) = all
+  by_any = grind (arith, by_worker, spawn_by_call, wake_by_call, going_on)
 
 -- a step that is not enabled changes nothing
 pub fresh_goes_on : (c : Configuration) (x : Playing) → AreFresh x → (a : Action) → AreFresh (by_step c x a).next
@@ -237,11 +167,7 @@ fresh_goes_on c x held a = elim (cases_Bool (is_enabled x.world.common a)) [
 
 -- what is not to be polled nor in a poll is Idle or over
 resting : (p : TaskPhase) (b : Bool) → (is_unnoted p ≡ true → b ≡ true) → is_runnable p ≡ false → (is_done p || b) ≡ true
-resting phase.Idle b it h = it refl
-resting phase.Done b it h = refl
-resting phase.Queued b it h = noted (sym h)
-resting (phase.Running i) b it h = it refl
-resting (phase.Noted i) b it h = noted (sym h)
+resting = grind arith
 
 pub woken_by : (x : Playing) → AreFresh x → (t : ℕ) (it : Task) → slice_get x.world.common.tasks t ≡ Some it → is_runnable it.phase ≡ false → (is_done it.phase || it.fresh) ≡ true
 woken_by x held t it is rests = resting it.phase it.fresh (held t it is) rests

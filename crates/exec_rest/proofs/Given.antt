@@ -1,44 +1,33 @@
 -- Only a worker of the pool comes to a place at which its own run queue is given a task that it made or woke.
-use Rattle.std.proofs.Common.{◌≡◌, ℕ, Bool, true, false, ◌+◌, ◌-◌, ◌*◌, ◌==◌, ◌&&◌, ◌||◌, List, [], ◌∷◌, length, Option, Some, None, refl}
-use Rattle.std.specs.Prelude.{drop, nat_le, nat_lt, not, slice_get, slice_index_or}
-use Rattle.exec_outcomes.specs.{declared.outcome.Outcome.Outcome, Accounts.is_durable}
-use Rattle.exec_words.specs.{Head.is_stealable_at, Idle.is_in, Queue.{Queue, fit_of, head_of, room_of, tail_of}, Word.{asks_signal, is_idle_at}, declared.word.PureWord.PureWord}
-use Rattle.exec_task.specs.declared.drain.Drain.{Drain}
-use Rattle.exec_machine.specs.{declared.{config.{Configuration.Configuration, ScriptWord.ScriptWord}, state.{MailMessage.MailMessage, Operation.Operation, RequestPhase.RequestPhase, Waiting.Waiting}}, Deadlines.next_due, Ranges.ring_size, Requests.operation_asked, Tasks.begun_waiting, Tests.{is_applied, is_done, is_idle, is_ready}, World.{Common, Own as Books, Task, request_of, sleeper_of, task_of}, Words.{newest_held, next_word, sleep_asked}}
-use Rattle.exec_machine.specs.declared.config.ScriptWord.TheVariants as script
+use Rattle.std.proofs.Common.{◌≡◌, ℕ, Bool, true, false, ◌+◌, ◌-◌, ◌*◌, ◌==◌, ◌&&◌, ◌||◌, List, [], ◌∷◌, Option, Some, None, refl, arith}
+use Rattle.std.specs.Prelude.{drop, nat_le, not}
+use Rattle.exec_outcomes.specs.{Accounts.is_durable}
+use Rattle.exec_words.specs.{Head.is_stealable_at, Idle.is_in, Queue.{Queue, head_of, tail_of}, Word.{asks_signal}}
+use Rattle.exec_machine.specs.{declared.{config.{Configuration.Configuration, ScriptWord.ScriptWord}, state.{Operation.Operation, RequestPhase.RequestPhase, Waiting.Waiting}}, Deadlines.next_due, Ranges.ring_size, Requests.operation_asked, Tasks.begun_waiting, Tests.{is_applied, is_done, is_idle, is_ready}, World.{Common, Own as Books, Task, request_of, sleeper_of, task_of}, Words.{next_word}}
 use Rattle.exec_machine.specs.declared.state.RequestPhase.TheVariants as phase
 use Rattle.exec_machine.specs.declared.state.Waiting.TheVariants as waiting
-use Rattle.exec_moves.specs.declared.handing.{AfterCallbacks.AfterCallbacks, AfterKick.AfterKick, AfterPop.AfterPop, AfterPush.AfterPush, AfterSend.AfterSend, AfterSignal.AfterSignal, First.First, Heard.Heard, InGlobal.InGlobal, InKick.InKick, InPop.InPop, InPush.InPush, InSignal.InSignal}
+use Rattle.exec_moves.specs.declared.handing.{AfterCallbacks.AfterCallbacks, AfterKick.AfterKick, AfterPop.AfterPop, AfterPush.AfterPush, AfterSend.AfterSend, AfterSignal.AfterSignal, Heard.Heard, InGlobal.InGlobal, InKick.InKick, InPop.InPop, InPush.InPush, InSignal.InSignal}
 use Rattle.exec_moves.specs.declared.idling.{InLook.InLook, InRingWait.InRingWait, InScan.InScan, InSearch.InSearch, InWordWait.InWordWait, Stay.Stay}
 use Rattle.exec_moves.specs.declared.place.{InCallbacks.InCallbacks, InClosing.InClosing, InLoads.InLoads, InMail.InMail, InPick.InPick, InPoll.InPoll, InService.InService, Place.Place, Reaping.Reaping, Round.Round, Service.Service}
-use Rattle.exec_moves.specs.{Callback.{Item, Item.{Answers, Completes, LetsGo, Nothing, Releases, Wakes}, flagged_by, has_callbacks, is_full, is_of_pool, item_next, tells_waiter, woken_by}, Claim.claimed, Close.{close_sleeper, first_asleep, first_held, orphan, told_of_clear, visit}, Global.has_any, Load.{has_come, has_mail, has_submissions, is_ready as has_ready}, Look.{look_at_mirror, searching_if}, Mail.{apply, take_mail}, Move.{move, move_act, move_at, move_callbacks, move_closing, move_global, move_item, move_kick, move_loads, move_look, move_look_at, move_mail, move_pick, move_poll, move_pop, move_push, move_ring_wait, move_scan, move_search, move_service, move_signal, move_submit, move_wake, move_word_wait}, Parts.has_others, Pick.{load_mirror, take_share}, Poll.{Sight, Sight.{Asks, HearsRequest, HearsTimer, Here}, act, act_asked, act_by, after_pend, await, drop_newest, heard_by, requeued_if, resume, sight_of, sight_of_act, sleep_for}, Pop.{load_pop_head, pops, same_head, shard_count}, Search.{begun_scan, from_of, half, stirred}, Send.first_letter, Serve.{Ring, end_service, first_to_fire, reap}, State.{Desk, Moved, Things, queue_of, inbox_of, word_of, gate_of}, Submit.{Due, Due.{AtGate, Cancels, Ends, Enrols, Expires, Flushes, Stages}, due_next, granted_at, after_grant, stage_next, try_gate}, Thing.ring_of, Told.{has_number, lets_go_all}, Wait.{enter_ring, has_completion, sleep_on_word}}
+use Rattle.exec_moves.specs.{Callback.{Item, Item.{Answers, Completes, LetsGo, Nothing, Releases, Wakes}, flagged_by, has_callbacks, is_full, is_of_pool, item_next, tells_waiter, woken_by}, Claim.claimed, Global.has_any, Load.{has_come, has_submissions, is_ready as has_ready}, Look.{look_at_mirror, searching_if}, Move.{move, move_act, move_at, move_callbacks, move_closing, move_global, move_item, move_kick, move_loads, move_look, move_look_at, move_mail, move_pick, move_poll, move_pop, move_push, move_ring_wait, move_scan, move_search, move_service, move_signal, move_submit, move_wake, move_word_wait}, Poll.{Sight, act, act_asked, act_by, after_pend, heard_by, requeued_if, resume, sight_of}, Pop.{load_pop_head, pops}, Send.first_letter, Serve.{Ring, end_service, first_to_fire, reap}, State.{Desk, Moved, Things, queue_of, word_of}, Submit.{Due, Due.{Cancels}, due_next}, Thing.ring_of, Told.{lets_go_all}, Wait.{enter_ring, has_completion}}
 use Rattle.exec_moves.specs.declared.handing.AfterCancels.TheVariants as cancels
-use Rattle.exec_moves.specs.declared.handing.AfterPop.TheVariants as pop
 use Rattle.exec_moves.specs.declared.handing.AfterPush.TheVariants as push
 use Rattle.exec_moves.specs.declared.handing.AfterSend.TheVariants as send
-use Rattle.exec_moves.specs.declared.handing.First.TheVariants as first
 use Rattle.exec_moves.specs.declared.handing.Heard.TheVariants as heard
 use Rattle.exec_moves.specs.declared.handing.InGlobal.TheVariants as global
 use Rattle.exec_moves.specs.declared.handing.InKick.TheVariants as kicks
-use Rattle.exec_moves.specs.declared.handing.InPop.TheVariants as pop_at
-use Rattle.exec_moves.specs.declared.handing.InPush.TheVariants as pushes
 use Rattle.exec_moves.specs.declared.handing.InSignal.TheVariants as signals
 use Rattle.exec_moves.specs.declared.idling.AfterWait.TheVariants as later
 use Rattle.exec_moves.specs.declared.idling.InLook.TheVariants as look
 use Rattle.exec_moves.specs.declared.idling.InRingWait.TheVariants as ring
-use Rattle.exec_moves.specs.declared.idling.InScan.TheVariants as scan
 use Rattle.exec_moves.specs.declared.idling.InSearch.TheVariants as search
-use Rattle.exec_moves.specs.declared.idling.InWordWait.TheVariants as word
 use Rattle.exec_moves.specs.declared.place.InCallbacks.TheVariants as callback
-use Rattle.exec_moves.specs.declared.place.InClosing.TheVariants as closing
 use Rattle.exec_moves.specs.declared.place.InLoads.TheVariants as load
-use Rattle.exec_moves.specs.declared.place.InMail.TheVariants as mail
-use Rattle.exec_moves.specs.declared.place.InPick.TheVariants as pick
 use Rattle.exec_moves.specs.declared.place.InPoll.TheVariants as poll
 use Rattle.exec_moves.specs.declared.place.InService.TheVariants as step
 use Rattle.exec_moves.specs.declared.place.Place.TheVariants as at
 use Rattle.exec_rest.specs.AtRest.{is_given}
-use Rattle.exec_rest.proofs.Giving.{Fair, begun, calling, cancelling, claiming, closed, desk_if, emptied, empty_look, fair_if, fitted, headed, judged, kicked, leaving, letting_go, loaded, looking, move_if, none, over, picking, polled, polling, popped, popping, posted, push_on, pushed, queued, read, returned, scanned, searching, served, signalled, spawned, tailed, telling, waited, waiting_on, withdrawing, withdrawn}
+use Rattle.exec_rest.proofs.Giving.{Fair, begun, calling, cancelling, claiming, desk_if, emptied, fair_if, headed, judged, kicked, leaving, loaded, looking, move_if, none, picking, polled, polling, popped, posted, pushed, queued, read, returned, scanned, searching, served, signalled, spawned, tailed, waited, waiting_on, withdrawn}
 
 module _ (c : Configuration) (i : ℕ) (me : Books) (s : Common) (d : Desk) (x : Things) (before : Fair c i me s d.place) where
   -- a move after which it is fair
@@ -50,19 +39,8 @@ module _ (c : Configuration) (i : ℕ) (me : Books) (s : Common) (d : Desk) (x :
 
   -- PICKS, POPS AND PUSHES
 
-  mirror : (f : First) (g : List ℕ) → Leads (load_mirror c f d g)
-  mirror f [] = empty_look c i me s f
-  mirror f (t ∷ g) = no
-
-  share : (f : First) (room held : ℕ) (own : Queue ℕ) (g : List ℕ) → Leads (take_share c f room held d (record { global = g; queue = own }))
-  share f room held own [] = empty_look c i me s f
-  share f room held own (t ∷ g) = polling c i me s t d
-
   in_pick : (p : InPick) → Leads (move_pick c i d x p)
-  in_pick pick.CountDown = move_if c i me s (nat_le d.countdown 1) _ _ no (popping c i me s (pop.Pick first.Own))
-  in_pick (pick.LoadMirror f) = mirror f x.global
-  in_pick (pick.LoadHead f) = no
-  in_pick (pick.TakeShare f room held) = share f room held (queue_of x i) x.global
+  in_pick = grind arith
 
   oldest : (b : AfterPop) (q : Queue ℕ) (vs : List ℕ) → q.values ≡ vs → Leads (pops c i b d q)
   oldest b q [] h = rw h (emptied c i me s b)
@@ -72,17 +50,10 @@ module _ (c : Configuration) (i : ℕ) (me : Books) (s : Common) (d : Desk) (x :
   head_loaded b q = judged c i me s b (head_of q) (tail_of q - q.real)
 
   in_pop : (p : InPop) (b : AfterPop) → Leads (move_pop c i d x p b)
-  in_pop pop_at.PopAlone b = oldest b (queue_of x i) _ refl
-  in_pop pop_at.LoadPopHead b = head_loaded b (queue_of x i)
-  in_pop (pop_at.ExchangePop h) b = move_if c i me s (same_head h (head_of (queue_of x i))) _ _ (oldest b (queue_of x i) _ refl) (head_loaded b (queue_of x i))
-  in_pop pop_at.StorePop b = oldest b (queue_of x i) _ refl
+  in_pop = grind (arith, oldest, head_loaded, move_if)
 
   in_push : (p : InPush) (b : AfterPush) → Fair c i me s (at.Push p b) → Leads (move_push c i me s d x p b)
-  in_push pushes.LoadPushHead b fair = fitted c i me s pushes.LoadPushHead b (head_of (queue_of x i)) (fit_of (queue_of x i)) fair
-  in_push (pushes.StoreValue len) b fair = fair_if c i me s (nat_le 2 len && has_others c) _ _ no (pushed c i me s b d)
-  in_push (pushes.FlowOver h) b fair =
-      move_if c i me s (same_head h (head_of (queue_of x i))) _ _ (push_on c i me s (pushes.FlowOver h) pushes.StoreOldest b fair) (push_on c i me s (pushes.FlowOver h) pushes.LoadPushHead b fair)
-  in_push pushes.StoreOldest b fair = no
+  in_push = grind arith
 
   -- COUNTS AND SIGNALS
 
@@ -113,12 +84,7 @@ module _ (c : Configuration) (i : ℕ) (me : Books) (s : Common) (d : Desk) (x :
   pended t it (Some home) = no
 
   on_request : (t : ℕ) (it : Task) (r : ℕ) (p : RequestPhase) → it.waiting ≡ waiting.Request r → (request_of s r).phase ≡ p → Leads (resume i t s d it)
-  on_request t it r (phase.Resolved outcome) h is = rw (h, is) no
-  on_request t it r phase.Gated h is = rw (h, is) (pended t (record it { waiting = waiting.Request r }) it.home)
-  on_request t it r phase.Queued h is = rw (h, is) (pended t (record it { waiting = waiting.Request r }) it.home)
-  on_request t it r phase.Staged h is = rw (h, is) (pended t (record it { waiting = waiting.Request r }) it.home)
-  on_request t it r phase.Flying h is = rw (h, is) (pended t (record it { waiting = waiting.Request r }) it.home)
-  on_request t it r (phase.Landed n) h is = rw (h, is) (pended t (record it { waiting = waiting.Request r }) it.home)
+  on_request = grind (arith, no, pended)
 
   resumed : (t : ℕ) (it : Task) (w : Waiting) → it.waiting ≡ w → Leads (resume i t s d it)
   resumed t it (waiting.Request r) h = on_request t it r _ h refl
@@ -129,48 +95,13 @@ module _ (c : Configuration) (i : ℕ) (me : Books) (s : Common) (d : Desk) (x :
   resumed t it waiting.Yielded h = rw h (pended t (record it { waiting = waiting.Yielded }) it.home)
 
   heard_of : (t r : ℕ) (b : Bool) (p : RequestPhase) → Leads (heard_by t r d x.answers b p)
-  heard_of t r true (phase.Resolved outcome) = no
-  heard_of t r true phase.Gated = no
-  heard_of t r true phase.Queued = no
-  heard_of t r true phase.Staged = no
-  heard_of t r true phase.Flying = no
-  heard_of t r true (phase.Landed n) = no
-  heard_of t r false p = no
+  heard_of = grind arith
 
   seen : (t : ℕ) (b : AfterSend) (m : Moved Things) → Leads m → (y : Sight) → Leads (move_look_at c s d x t b m y)
-  seen t b m one Here = one
-  seen t b m one (Asks j message) = posted c i me s j b _ d
-  seen t b m one (HearsRequest r) = heard_of t r (has_number r x.answers) (request_of s r).phase
-  seen t b m one (HearsTimer z) = move_if c i me s (has_number z x.alarms) _ _ no no
-
-  awaited_by : (t : ℕ) (it : Task) (r : ℕ) (p : RequestPhase) → (request_of s r).phase ≡ p → Leads (await t s d it (Some r))
-  awaited_by t it r (phase.Resolved outcome) h = rw h no
-  awaited_by t it r phase.Gated h = rw h no
-  awaited_by t it r phase.Queued h = rw h no
-  awaited_by t it r phase.Staged h = rw h no
-  awaited_by t it r phase.Flying h = rw h no
-  awaited_by t it r (phase.Landed n) h = rw h no
-
-  awaited : (t : ℕ) (it : Task) (held : Option ℕ) → Leads (await t s d it held)
-  awaited t it None = no
-  awaited t it (Some r) = awaited_by t it r _ refl
-
-  dropped : (t : ℕ) (it : Task) (held : Option ℕ) → Leads (drop_newest t s d it held)
-  dropped t it None = before
-  dropped t it (Some r) = no
-
-  slept : (t : ℕ) (it : Task) (until : Option ℕ) → Leads (sleep_for t s d it until)
-  slept t it None = no
-  slept t it (Some until) = no
+  seen = grind (arith, posted, heard_of, move_if, no)
 
   acted_by : (t : ℕ) (it : Task) (w : ScriptWord) → Leads (act_by i t me s d it w)
-  acted_by t it script.Await = awaited t it (newest_held it)
-  acted_by t it script.Drop = dropped t it (newest_held it)
-  acted_by t it (script.Sleep time) = slept t it (sleep_asked me.sampled (script.Sleep time))
-  acted_by t it script.Yield = no
-  acted_by t it (script.Fault code) = over c i me s t it.home (lets_go_all i s it d)
-  acted_by t it script.End = over c i me s t it.home (lets_go_all i s it d)
-  acted_by t it _ = before
+  acted_by = grind arith
 
   asked : (t : ℕ) (it : Task) (w : ScriptWord) (o : Option Operation) → Leads (act_asked i t me s d it w o)
   asked t it w None = acted_by t it w
@@ -184,12 +115,7 @@ module _ (c : Configuration) (i : ℕ) (me : Books) (s : Common) (d : Desk) (x :
   waking t u (Some home) = move_if c i me s (home == i) _ _ no (posted c i me s home (send.Act t) _ d)
 
   in_act : (t : ℕ) (w : ScriptWord) → Leads (move_act c i me s d x t w)
-  in_act t (script.Spawn k) = desk_if c i me s s.set_closed _ _ no (spawned c i me s t)
-  in_act t (script.Wake u) = waking t u (task_of s u).home
-  in_act t (script.Dedicated k) = no
-  in_act t script.Await = seen t (send.Pend t) _ (acted t (task_of s t)) (sight_of_act i s (task_of s t) script.Await)
-  in_act t script.Drop = seen t (send.Act t) _ (acted t (task_of s t)) (sight_of_act i s (task_of s t) script.Drop)
-  in_act t _ = acted t (task_of s t)
+  in_act = grind (arith, desk_if, no, spawned, waking, seen, acted)
 
   in_poll : (t : ℕ) (p : InPoll) → Fair c i me s (at.Poll t p) → Leads (move_poll c i me s d x t p)
   in_poll t poll.BeginPoll fair =
@@ -234,26 +160,8 @@ module _ (c : Configuration) (i : ℕ) (me : Books) (s : Common) (d : Desk) (x :
   reaped r v y [] h = rw h no
   reaped r v y (q ∷ later) h = rw h no
 
-  granted : (v : Service) (file : ℕ) (o : Option Outcome) (e : Desk) → Fair c i me s (after_grant v file o e).place
-  granted v file None e = no
-  granted v file (Some outcome) e = no
-
-  tried : (v : Service) (file : ℕ) (gate : List ℕ) (o : Option ℕ) → granted_at i gate s ≡ o → Leads (try_gate i v file s d gate)
-  tried v file gate None h = rw h no
-  tried v file gate (Some r) h = rw h (granted v file _ _)
-
-  flushed : (gate : ℕ) (v : Service) (y : Ring) (busy : Bool) → y.busy ≡ busy → Leads (stage_next c i v gate me s d y Flushes)
-  flushed gate v y true h = rw h no
-  flushed gate v y false h = rw h no
-
   in_submit : (gate : ℕ) (v : Service) (due : Due) → Leads (move_submit c i me s d x gate v due)
-  in_submit gate v (Expires r) = no
-  in_submit gate v (Enrols r) = no
-  in_submit gate v (AtGate file) = tried v file (gate_of x file) _ refl
-  in_submit gate v Flushes = flushed gate v (ring_of s x i) _ refl
-  in_submit gate v (Cancels r) = no
-  in_submit gate v (Stages r) = no
-  in_submit gate v Ends = no
+  in_submit = grind arith
 
   fired : (v : Service) (o : Option ℕ) → first_to_fire i me s d ≡ o → Leads (end_service i v me s d)
   fired v None h = rw h (served c i me s v.back d)
@@ -267,41 +175,11 @@ module _ (c : Configuration) (i : ℕ) (me : Books) (s : Common) (d : Desk) (x :
 
   -- THE MAILBOX AND A CLOSING
 
-  taken : (ms : List MailMessage) → Leads (take_mail d ms)
-  taken [] = read c i me s 0 []
-  taken (m ∷ ms) = read c i me s 0 (m ∷ ms)
-
-  applied_by : (n : ℕ) (ms : List MailMessage) → d.batch ≡ ms → Leads (apply n me.root s d)
-  applied_by n [] h = rw h no
-  applied_by n (m ∷ ms) h = rw h (read c i me s _ ms)
-
   in_mail : (p : InMail) → Leads (move_mail i me s d x p)
-  in_mail mail.LoadMailWord = move_if c i me s (has_mail d (word_of x i)) _ _ no no
-  in_mail mail.TakeMail = taken (inbox_of x i)
-  in_mail (mail.Apply n taken) = applied_by n _ refl
-
-  visited : (drain : Drain) (shard : List ℕ) (newest : Option ℕ) → slice_get shard (length shard - 1) ≡ newest → Leads (visit (shard_count c) drain d shard)
-  visited drain shard None h = rw h no
-  visited drain shard (Some t) h = rw h no
-
-  orphaned : (held : Option ℕ) → first_held s d ≡ held → Leads (orphan i s d)
-  orphaned None h = rw h (letting_go c i me s None _)
-  orphaned (Some r) h = rw h (letting_go c i me s _ _)
-
-  sleeper_closed : (asleep : Option ℕ) → first_asleep i s d ≡ asleep → Leads (close_sleeper i s d)
-  sleeper_closed None h = rw h no
-  sleeper_closed (Some z) h = rw h (letting_go c i me s None _)
+  in_mail = grind arith
 
   in_closing : (p : InClosing) → Leads (move_closing c i s d x p)
-  in_closing closing.Close = closed c i me s
-  in_closing closing.Stop = telling c i me s 1
-  in_closing (closing.TellRoot j) = posted c i me s j (send.Tell (j + 1)) _ d
-  in_closing (closing.Visit drain) = visited drain (slice_index_or x.shards drain.at []) _ refl
-  in_closing (closing.Clear t drain) = cancelling c i me s (cancels.Visit drain) (told_of_clear i s d (task_of s t)) _
-  in_closing closing.CloseMailbox = letting_go c i me s _ _
-  in_closing closing.Orphan = orphaned _ refl
-  in_closing closing.CloseSleeper = sleeper_closed _ refl
-  in_closing _ = no
+  in_closing = grind arith
 
   -- A SEARCH AND THE WAITS
 
@@ -310,14 +188,7 @@ module _ (c : Configuration) (i : ℕ) (me : Books) (s : Common) (d : Desk) (x :
   in_search search.AddSearchCount = no
 
   in_scan : (p : InScan) → Leads (move_scan c i me s d x p)
-  in_scan scan.LoadScanHead = fair_if c i me s (nat_lt (room_of (queue_of x i)) half) _ _ no (scanned c i me s (begun_scan c (stirred d.rng)))
-  in_scan (scan.LoadTheirHead y) = headed c i me s y (head_of (queue_of x (from_of c y)))
-  in_scan (scan.LoadTheirTail y h) = tailed c i me s y h (tail_of (queue_of x (from_of c y)))
-  in_scan (scan.ClaimHalf y h tail) =
-      let q = queue_of x (from_of c y) in move_if c i me s (same_head h (head_of q)) _ _ no (headed c i me s y (head_of q))
-  in_scan (scan.MoveHalf from h) = no
-  in_scan (scan.ReleaseHalf from h) = move_if c i me s (same_head h (head_of (queue_of x from))) _ _ no no
-  in_scan scan.StoreMoved = leaving c i me s d
+  in_scan = grind (arith, fair_if, no, scanned, headed, tailed, move_if, leaving)
 
   mirrored : (last : Bool) (g : List ℕ) → Leads (look_at_mirror last d g)
   mirrored last [] = no
@@ -343,18 +214,8 @@ module _ (c : Configuration) (i : ℕ) (me : Books) (s : Common) (d : Desk) (x :
   in_ring_wait ring.SleepOnRing y = move_if c i me s (has_completion d (ring_of s x i)) _ _ no (move_if c i me s (has_come s.clock (next_due s i)) _ _ no no)
   in_ring_wait (ring.DisarmRing n) y = waited c i me s y n
 
-  bedded : (w : PureWord) (idle : Bool) → is_idle_at w d.processed ≡ idle → (come : Bool) → has_come s.clock (next_due s i) ≡ come → Leads (sleep_on_word i s d w)
-  bedded w true h true is = rw (h, is) no
-  bedded w true h false is = rw (h, is) no
-  bedded w false h come is = rw h no
-
   in_word_wait : (p : InWordWait) → Leads (move_word_wait i s d x p)
-  in_word_wait (word.SpinOnBatch left) = desk_if c i me s (has_mail d (word_of x i)) _ _ no no
-  in_word_wait (word.SpinOnLatch left) = desk_if c i me s (word_of x i).latch _ _ no (desk_if c i me s (nat_lt 1 left) _ _ no no)
-  in_word_wait word.TakeLatch = withdrawing c i me s later.Begin
-  in_word_wait word.ArmWord = no
-  in_word_wait word.SleepOnWord = bedded (word_of x i) _ refl _ refl
-  in_word_wait word.DisarmWord = withdrawing c i me s later.Begin
+  in_word_wait = grind arith
 
   -- EACH PLACE
 

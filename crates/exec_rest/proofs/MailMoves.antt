@@ -1,11 +1,9 @@
 -- Each move does to mailboxes what `MailHeeds` says: a message is sent, the own inbox is taken, or nothing changes.
-use Rattle.std.proofs.Common.{◌≡◌, ℕ, ◌+◌, ◌==◌, Bool, true, false, Option, Some, None, refl, if◌then◌else◌}
+use Rattle.std.proofs.Common.{◌≡◌, ℕ, ◌+◌, ◌==◌, Bool, true, false, Option, Some, None, refl, if◌then◌else◌, arith}
 use Rattle.std.proofs.lemmas.Bool.{true≢false}
 use Rattle.std.specs.Prelude.{drop}
-use Rattle.exec_words.specs.{Word.is_idle_at}
-use Rattle.exec_machine.specs.{declared.{config.{Configuration.Configuration, ScriptWord.ScriptWord}, state.MailMessage.TheVariants.Root}, Choice.Choice.{Plain, Posts}, Words.next_word, World.{Common, Own as Books, task_of}, Deadlines.next_due}
-use Rattle.exec_machine.specs.declared.config.ScriptWord.TheVariants as script
-use Rattle.exec_moves.specs.{declared.{handing.{AfterCallbacks.AfterCallbacks, AfterSend.AfterSend, AfterSignal.AfterSignal, InSignal.InSignal}, idling.{InRingWait.InRingWait, InWordWait.InWordWait, Stay.Stay}, place.{InCallbacks.InCallbacks, InClosing.InClosing, InLoads.InLoads, InMail.InMail, InPoll.InPoll, InService.InService, Place.Place, Round.Round, Service.Service}}, Callback.{Item, Item.Wakes, item_next}, Load.{has_come, has_mail}, Move.{move_at, move_act, move_callbacks, move_closing, move_item, move_loads, move_look_at, move_mail, move_poll, move_ring_wait, move_service, move_signal, move_submit, move_wake, move_word_wait}, Poll.{Sight, Sight.{Asks, HearsRequest, HearsTimer, Here}, sight_of, sight_of_act}, Send.{first_letter, is_left_out, payer_of_send, send_root, with_newcomer}, State.{Desk, Moved, Things, word_of}, Submit.{Due, Due.Expires, due_next}, Thing.{mailbox_of, with_mailbox, with_word}, Wait.noting_sleep}
+use Rattle.exec_machine.specs.{declared.{config.{Configuration.Configuration, ScriptWord.ScriptWord}, state.MailMessage.TheVariants.Root}, Choice.Choice.{Plain, Posts}, World.{Common, Own as Books}}
+use Rattle.exec_moves.specs.{declared.{handing.{AfterCallbacks.AfterCallbacks, AfterSend.AfterSend, AfterSignal.AfterSignal, InSignal.InSignal}, idling.{InRingWait.InRingWait, InWordWait.InWordWait, Stay.Stay}, place.{InCallbacks.InCallbacks, InClosing.InClosing, InLoads.InLoads, InMail.InMail, InPoll.InPoll, InService.InService, Place.Place, Round.Round, Service.Service}}, Callback.{Item, Item.Wakes, item_next}, Move.{move_at, move_act, move_callbacks, move_closing, move_item, move_loads, move_look_at, move_mail, move_poll, move_ring_wait, move_service, move_signal, move_submit, move_wake, move_word_wait}, Poll.{Sight, Sight.{Asks, HearsRequest, HearsTimer, Here}}, Send.{first_letter, is_left_out, payer_of_send, send_root, with_newcomer}, State.{Desk, Moved, Things, word_of}, Submit.{Due, Due.Expires}, Thing.{mailbox_of, with_mailbox}}
 use Rattle.exec_moves.specs.declared.handing.AfterSend.TheVariants as send
 use Rattle.exec_moves.specs.declared.handing.InGlobal.TheVariants as global
 use Rattle.exec_moves.specs.declared.handing.InKick.TheVariants as kick
@@ -18,11 +16,8 @@ use Rattle.exec_moves.specs.declared.idling.InScan.TheVariants as scan
 use Rattle.exec_moves.specs.declared.idling.InSearch.TheVariants as search
 use Rattle.exec_moves.specs.declared.idling.InWordWait.TheVariants as word
 use Rattle.exec_moves.specs.declared.place.InPick.TheVariants as pick
-use Rattle.exec_moves.specs.declared.place.InPoll.TheVariants as poll
 use Rattle.exec_moves.specs.declared.place.InCallbacks.TheVariants as callback
 use Rattle.exec_moves.specs.declared.place.InLoads.TheVariants as load
-use Rattle.exec_moves.specs.declared.place.InService.TheVariants as step
-use Rattle.exec_moves.specs.declared.place.InMail.TheVariants as mail
 use Rattle.exec_moves.specs.declared.place.InClosing.TheVariants as closing
 use Rattle.exec_moves.specs.declared.place.Place.TheVariants as at
 use Rattle.exec_rest.proofs.{MailHeeds.{Mails, calm, newcomer, posts, word_put}, Processed.takes_mail}
@@ -57,16 +52,10 @@ module _ (c : Configuration) (i : ℕ) (me : Books) (s : Common) (d : Desk) (x :
   made false q = newcomer x q
 
   acts : (t : ℕ) (w : ScriptWord) → Keeps (move_act c i me s d x t w)
-  acts t (script.Wake u) = wakes t u (task_of s u).home
-  acts t (script.Dedicated k) = made s.set_closed _
-  acts t script.Await = looks t (send.Pend t) _ (calm refl refl) (sight_of_act i s (task_of s t) script.Await)
-  acts t script.Drop = looks t (send.Act t) _ (calm refl refl) (sight_of_act i s (task_of s t) script.Drop)
-  acts t _ = calm refl refl
+  acts = grind (arith, wakes, made, looks, calm)
 
   polls : (t : ℕ) (p : InPoll) → Keeps (move_poll c i me s d x t p)
-  polls t poll.Resume = looks t (send.Pend t) _ (calm refl refl) (sight_of i s (task_of s t).waiting)
-  polls t poll.Act = acts t (next_word s (task_of s t))
-  polls t _ = calm refl refl
+  polls = grind (arith, looks, calm, acts)
 
   items : (n : AfterCallbacks) (it : Item) → Keeps (move_item c i me s d x n it)
   items n (Wakes t) = calm refl refl
@@ -85,34 +74,19 @@ module _ (c : Configuration) (i : ℕ) (me : Books) (s : Common) (d : Desk) (x :
   submits from v _ = calm refl refl
 
   services : (p : InService) (v : Service) → Keeps (move_service c i me s d x p v)
-  services step.Sample v = word_put i x _ refl
-  services (step.Signal j b) v = word_put j x _ refl
-  services (step.Submit from) v = submits from v (due_next c i from me s d)
-  services _ v = calm refl refl
+  services = grind (arith, word_put, submits, calm)
 
   mails : (p : InMail) → takes_mail (at.Mail p) ≡ false → Keeps (move_mail i me s d x p)
-  mails mail.LoadMailWord free = either (with_word i x) (has_mail d (word_of x i)) _ _ (word_put i x (word_of x i) refl) (word_put i x (word_of x i) refl)
-  mails mail.TakeMail free = absurd (true≢false free)
-  mails (mail.Apply applied taken) free = calm refl refl
+  mails = grind (arith, either, word_put, true≢false, calm)
 
   rings : (p : InRingWait) (y : Stay) → Keeps (move_ring_wait c i me s d x p y)
-  rings ring.ArmRing y = word_put i x _ refl
-  rings (ring.DisarmRing n) y = word_put i x _ refl
-  rings _ y = calm refl refl
+  rings = grind (arith, word_put, calm)
 
   sleeps_on : Keeps (move_word_wait i s d x word.SleepOnWord)
-  sleeps_on =
-      either (with_word i x) (is_idle_at (word_of x i) d.processed) _ _
-      (either (λ m. with_word i x (noting_sleep s.clock m)) (has_come s.clock (next_due s i)) _ _ (word_put i x (word_of x i) refl) (word_put i x (word_of x i) refl))
-      (word_put i x (word_of x i) refl)
+  sleeps_on = grind (arith, either, word_put)
 
   words : (p : InWordWait) → Keeps (move_word_wait i s d x p)
-  words (word.SpinOnBatch left) = word_put i x _ refl
-  words (word.SpinOnLatch left) = word_put i x _ refl
-  words word.TakeLatch = word_put i x _ refl
-  words word.ArmWord = word_put i x _ refl
-  words word.SleepOnWord = sleeps_on
-  words word.DisarmWord = word_put i x _ refl
+  words = grind (arith, word_put, sleeps_on)
 
   closes : (p : InClosing) → takes_mail (at.Closing p) ≡ false → Keeps (move_closing c i s d x p)
   closes (closing.TellRoot j) free = tells j (send.Tell (j + 1))

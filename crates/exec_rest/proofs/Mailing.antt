@@ -1,27 +1,20 @@
 -- Each move of a worker does to mailboxes what `MailHeeds` says. After such a move batches are numbered as before; and who sleeps,
 -- or is about to on its ring, and has a message was signalled, or is signalled by somebody next.
-use Rattle.std.proofs.Common.{◌≡◌, ◌≢◌, ℕ, ◌<◌, Bool, true, false, ◌&&◌, List, [], ◌∷◌, length, Option, Some, None, refl, sym, ap, ◌∙◌, subst, inl, inr, if◌then◌else◌}
+use Rattle.std.proofs.Common.{◌≡◌, ◌≢◌, ℕ, ◌<◌, true, false, ◌&&◌, List, [], ◌∷◌, length, Option, Some, refl, sym, ap, ◌∙◌, subst, inl, inr, arith}
 use Rattle.std.proofs.lemmas.{Bool.{true≢false, false≢true, and_parts, cases_Bool, cases_lt, or_cases}, List.{get_or_past}}
 use Rattle.std.specs.Prelude.{◌⊎◌, not}
-use Rattle.exec_words.specs.{Word.{is_armed, is_idle_at}}
+use Rattle.exec_words.specs.{Word.{is_armed}}
 use Rattle.exec_words.specs.declared.word.WaitTarget.TheVariants as target
 use Rattle.exec_machine.specs.declared.step.Action.TheVariants as action
-use Rattle.exec_moves.specs.declared.idling.AfterWait.TheVariants as later
-use Rattle.exec_moves.specs.declared.idling.InRingWait.TheVariants as ring
-use Rattle.exec_moves.specs.declared.idling.InWordWait.TheVariants as word
 use Rattle.exec_moves.specs.declared.place.InClosing.TheVariants as closing
 use Rattle.exec_moves.specs.declared.place.InMail.TheVariants as mail
 use Rattle.exec_moves.specs.declared.place.Place.TheVariants as at
-use Rattle.exec_machine.specs.{declared.{config.Configuration.Configuration, event.Event.{Event, TheVariants.{Rouse, Sleep, Turn}}, state.MailMessage.MailMessage}, Callers.{is_enabled, is_held}, Deadlines.next_due, Tests.{has_ended, is_awake}, World.{Common, Own as Books, own_of, seat_of}}
-use Rattle.exec_moves.specs.{declared.{idling.{AfterWait.AfterWait, InRingWait.InRingWait, InWordWait.InWordWait, Stay.Stay}, place.Place.Place}, Close.{batches_closed, close_mailbox}, Load.has_come, Mail.take_mail, Move.{move, move_at}, Plays.{Playing, by_move, desk_of, first_desk}, State.{Desk, Moved, Things, does, inbox_of, turns, word_of}, Thing.with_word, Wait.noting_sleep}
+use Rattle.exec_machine.specs.{declared.{config.Configuration.Configuration, event.Event.{TheVariants.{Rouse, Sleep}}, state.MailMessage.MailMessage}, Callers.{is_enabled, is_held}, Tests.{has_ended, is_awake}, World.{Common, Own as Books, own_of, seat_of}}
+use Rattle.exec_moves.specs.{declared.{place.Place.Place}, Close.{batches_closed, close_mailbox}, Mail.take_mail, Move.{move, move_at}, Plays.{Playing, by_move, desk_of}, State.{Desk, Moved, Things, inbox_of, word_of}}
 use Rattle.exec_rest.specs.{Places.{call_signals, is_abed, is_to_enter, is_to_sleep_on_ring, signals, waits_on}, Posted.{IsNumbered, IsPosted, IsTold, is_early}, Rested.{IsLaidOut, IsRestful, IsSignalled, Someone.Worker, is_latched, place_at, sleeps}}
-use Rattle.exec_rest.proofs.{FactsA.{at_each, going, here, seated, stays}, FactsB.{abed_waits, enter_waits, is_waiting, off, sleep_waits}, Frames.{asleep_after, desk_other, desk_own}, Heeds.Heeds, MailHeeds.{IsMatched, MailHeeds, Rests, none_published, taken, untaken}, MailMoves.mails_at, MailRests.{frees, is_free, is_of_wait}, Processed.{processed_kept, takes_mail}}
+use Rattle.exec_rest.proofs.{FactsA.{at_each, going, here, seated, stays}, FactsB.{abed_waits, enter_waits, is_waiting, off, sleep_waits}, Frames.{asleep_after, desk_other, desk_own}, Heeds.Heeds, MailHeeds.{IsMatched, MailHeeds, Rests, taken, untaken}, MailMoves.mails_at, MailRests.{frees, is_free, is_of_wait}, Processed.{processed_kept, takes_mail}}
 
 -- EACH MOVE
-
-abbrev is_sleep : Event → Bool
-is_sleep (Sleep until) = true
-is_sleep _ = false
 
 early_waits : (p : Place) → is_early p ≡ true → waits_on p ≡ target.Ring
 early_waits p h = elim (or_cases (is_to_enter p) (is_to_sleep_on_ring p) h) [ inl enter ↦ enter_waits p enter | inr sleep ↦ sleep_waits p sleep ]
@@ -30,9 +23,7 @@ early_unfree : (p : Place) → is_early p ≡ true → is_free p ≡ false
 early_unfree p h = ap (λ t. not (is_armed t)) (early_waits p h)
 
 abed_unfree : (p : Place) → is_abed p ≡ true → is_free p ≡ false
-abed_unfree (Place.WordWait InWordWait.DisarmWord) h = refl
-abed_unfree (Place.RingWait (InRingWait.DisarmRing AfterWait.Begin) y) h = refl
-abed_unfree _ h = absurd (false≢true h)
+abed_unfree = grind arith
 
 module _ (c : Configuration) (i : ℕ) (me : Books) (s : Common) (d : Desk) (x : Things) where
   -- WHERE IT LEADS
@@ -45,34 +36,8 @@ module _ (c : Configuration) (i : ℕ) (me : Books) (s : Common) (d : Desk) (x :
   rests_free m free abed (inl early) h = absurd (false≢true (sym (early_unfree m.desk.place early) ∙ free))
   rests_free m free abed (inr sleep) h = absurd (false≢true (sym (abed_unfree m.desk.place (abed sleep.0 sleep.1)) ∙ free))
 
-  -- no batch is published at its wake word, and so there is no message
-  unpublished : is_idle_at (word_of x i) d.processed ≡ true → IsNumbered (word_of x i).batch d.processed (inbox_of x i) → inbox_of x i ≡ []
-  unpublished idle h = none_published (word_of x i) d.processed (inbox_of x i) idle h
-
-  arms_ring : (y : Stay) (b : Bool) → is_idle_at (word_of x i) d.processed ≡ b
-      → Rests i d x (with_word i x (turns (at.RingWait (if b then ring.EnterRing else ring.DisarmRing later.Serve) y) d (record (word_of x i) { target = target.Ring })))
-  arms_ring y true idle to h = inl (unpublished idle h)
-  arms_ring y false busy (inl early) h = absurd (false≢true early)
-  arms_ring y false busy (inr sleep) h = absurd (false≢true (ap is_sleep sleep.1))
-
-  sleeps_on_word : (b come : Bool) → is_idle_at (word_of x i) d.processed ≡ b
-      → (let left = record d { place = at.WordWait word.DisarmWord } in
-      Rests i d x (with_word i x (if b then noting_sleep s.clock (if come then does Turn left (word_of x i) else does (Sleep (next_due s i)) left (word_of x i)) else does Turn left (word_of x i))))
-  sleeps_on_word true come idle to h = inl (unpublished idle h)
-  sleeps_on_word false come busy (inl early) h = absurd (false≢true early)
-  sleeps_on_word false come busy (inr sleep) h = absurd (false≢true (ap is_sleep sleep.1))
-
-  arms_word : (b : Bool) → Rests i d x (with_word i x (turns (at.WordWait (if b then word.SleepOnWord else word.DisarmWord)) (record d { slept = None }) (record (word_of x i) { target = target.Sleeping })))
-  arms_word b (inl early) h = absurd (false≢true early)
-  arms_word b (inr sleep) h = absurd (false≢true (ap is_sleep sleep.1))
-
   of_wait : (p : Place) → d.place ≡ p → is_of_wait p ≡ true → RestsAt p
-  of_wait (at.RingWait ring.ArmRing y) is h = arms_ring y _ refl
-  of_wait (at.RingWait ring.EnterRing y) is h = λ to n. inr (ap is_early is, refl, refl)
-  of_wait (at.RingWait ring.SleepOnRing y) is h = λ to n. inr (ap is_early is, refl, refl)
-  of_wait (at.WordWait word.ArmWord) is h = arms_word (is_idle_at (word_of x i) d.processed)
-  of_wait (at.WordWait word.SleepOnWord) is h = sleeps_on_word _ (has_come s.clock (next_due s i)) refl
-  of_wait _ is h = absurd (false≢true h)
+  of_wait = grind arith
 
   -- ALL OF IT
 
@@ -97,10 +62,7 @@ module _ (c : Configuration) (i : ℕ) (me : Books) (s : Common) (d : Desk) (x :
   ]
     where
       rests : RestsAt d.place
-      rests = elim (cases_Bool (is_of_wait d.place)) [
-        | inl h ↦ of_wait d.place refl h
-        | inr h ↦ rests_free (move c i me s d x) (frees c i me s d x d.place refl h) (λ until sleep. (heeds.sleep until sleep).0)
-      ]
+      rests = grind (arith, cases_Bool, is_of_wait, of_wait, rests_free, frees)
 
 -- AFTER A MOVE OF WORKER i
 
@@ -133,10 +95,7 @@ module _ (c : Configuration) (x : Playing) (laid : IsLaidOut c x) (held : IsRest
   sleeper_within k asleep = subst (λ n. k < n) (sym laid.words) (seated s (λ seat. is_awake seat.rest) false true≢false k asleep)
 
   early_within : (k : ℕ) → is_early (place_at c x k) ≡ true → k < length x.things.words
-  early_within k early = elim (cases_lt k (length x.desks)) [
-    | inl within ↦ subst (λ n. k < n) (laid.desks ∙ sym laid.words) within
-    | inr past ↦ absurd (false≢true (subst (λ (d : Desk). is_early d.place ≡ true) (get_or_past x.desks k (first_desk c k) past) early))
-  ]
+  early_within = grind (arith, cases_lt, false≢true, get_or_past)
 
   -- BATCHES
 

@@ -1,5 +1,5 @@
 -- Moves that change nothing of waking: of the beginning of a turn, of the own run queue, of kicks, of the mailbox.
-use Rattle.std.proofs.Common.{◌≡◌, ℕ, false, List, [], ◌∷◌, ◌-◌, ◌==◌, refl, ap}
+use Rattle.std.proofs.Common.{◌≡◌, ℕ, List, [], ◌∷◌, ◌-◌, ◌==◌, refl, ap, arith}
 use Rattle.std.proofs.lemmas.Bool.{false≢true}
 use Rattle.std.specs.Prelude.{nat_le}
 use Rattle.exec_words.specs.Queue.{Queue, head_of, tail_of}
@@ -13,15 +13,13 @@ use Rattle.exec_moves.specs.declared.place.InPick.TheVariants as pick
 use Rattle.exec_moves.specs.declared.place.Place.TheVariants as at
 use Rattle.exec_rest.proofs.Heeds.{Heeds}
 use Rattle.exec_rest.proofs.Asides.{global_less, idle_put, inbox_put, own_queue, same, share_put, word_put}
-use Rattle.exec_rest.proofs.Continuing.{calm_after_empty_pop, calm_after_fit, calm_after_message, calm_after_pop, calm_after_return, calm_empty_look, calm_first_pick, calm_first_pop, calm_judge_pop, calm_polls, near_after_kick, near_after_store, near_calm, near_if}
+use Rattle.exec_rest.proofs.Continuing.{calm_after_empty_pop, calm_after_fit, calm_after_message, calm_after_pop, calm_after_return, calm_empty_look, calm_first_pop, calm_judge_pop, calm_polls, near_after_kick, near_after_store, near_calm, near_if}
 use Rattle.exec_rest.proofs.Nearly.{Quiet, calmly, quiet, quiet_if, quietly}
 
 module _ (R : Type 0) (c : Configuration) (i : ℕ) (me : Books) (s : Common) (d : Desk) (x : Things) where
   -- THE BEGINNING OF A TURN
   pub begins : d.place ≡ at.BeginTurn → Heeds R i s d x (aside x (begin_turn i s d))
-  begins is =
-      quiet R i s d x _ at.BeginTurn is (record { calm = refl; signals = refl; raises = refl; owes = refl })
-      (calmly i s x _ (calm_first_pick s i) (same i x) refl)
+  begins = grind arith
 
   mirror : (f : First) (g : List ℕ) → ((g ≡ [] → ⊥) → x.global ≡ [] → ⊥) → Quiet i s x (with_global x (load_mirror c f d g))
   mirror f [] less = calmly i s x _ (calm_empty_look c f) (global_less i x [] less) refl
@@ -43,9 +41,7 @@ module _ (R : Type 0) (c : Configuration) (i : ℕ) (me : Books) (s : Common) (d
   picks p is = quiet R i s d x _ (at.Pick p) is (record { calm = refl; signals = refl; raises = refl; owes = refl }) (picked p)
 
   pub takes_flag : d.place ≡ at.TakeRootFlag → Heeds R i s d x (aside x (take_root_flag me.root d))
-  takes_flag is =
-      quiet R i s d x _ at.TakeRootFlag is (record { calm = refl; signals = refl; raises = refl; owes = refl })
-      (quiet_if i s x (λ (u : Own). x) d.root_ready _ _ (calmly i s x _ (calm_polls me.root (record d { root_ready = false })) (same i x) refl) (calmly i s x _ refl (same i x) refl))
+  takes_flag = grind arith
 
   -- POPS AND PUSHES
   popped : (b : AfterPop) (q : Queue ℕ) (vs : List ℕ) → q.values ≡ vs → Quiet i s x (with_queue i x (pops c i b d q))

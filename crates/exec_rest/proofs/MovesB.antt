@@ -1,10 +1,9 @@
 -- Moves that change nothing of waking: those by which a message is sent, of a closing, and of the callbacks.
-use Rattle.std.proofs.Common.{◌≡◌, ℕ, Bool, true, false, List, [], ◌∷◌, ◌++◌, ◌+◌, ◌-◌, Option, Some, None, refl, ap, if◌then◌else◌, length}
-use Rattle.std.proofs.lemmas.Bool.{false≢true}
+use Rattle.std.proofs.Common.{◌≡◌, ℕ, Bool, true, false, List, [], ◌+◌, ◌-◌, Option, Some, None, refl, if◌then◌else◌, length, arith}
 use Rattle.std.specs.Prelude.{◌&&◌, drop, slice_get, slice_index_or}
 use Rattle.exec_task.specs.declared.drain.Drain.{Drain}
-use Rattle.exec_machine.specs.{declared.{config.Configuration.Configuration, event.Event.{Event, TheVariants.{Closed, Send, Dedicated, Sleep}}, state.MailMessage.{MailMessage, TheVariants.Root}}, Choice.{Choice, Choice.{Plain, Posts}}, Ranges.ring_size, Tests.{is_done, is_empty, is_idle}, World.{Common, Task, request_of, seat_of, sleeper_of, task_of, Own as Books}}
-use Rattle.exec_moves.specs.{declared.{handing.{AfterCallbacks.AfterCallbacks, AfterCancels.AfterCancels, AfterSend.AfterSend, Heard.Heard}, place.{InCallbacks.InCallbacks, InClosing.InClosing}}, Callback.{Item, Item.{Answers, Completes, LetsGo, Nothing, Releases, Wakes}, flagged_by, has_callbacks, item_next, tells_waiter, woken_by}, Close.{close_sleeper, first_asleep, first_held, orphan, told_of_clear, visit}, Move.{move_callbacks, move_closing, move_item}, Pop.shard_count, Send.{Mailbox, asks, first_letter, is_left_out, leaves_out, payer_of_send, posted, posting_of, published_if, send_cancel, send_root, sent}, State.{Desk, Things}, Thing.{aside, mailbox_of, with_mailbox, with_shard}}
+use Rattle.exec_machine.specs.{declared.{config.Configuration.Configuration, event.Event.{TheVariants.{Closed, Send}}, state.MailMessage.{MailMessage, TheVariants.Root}}, Choice.{Choice, Choice.{Plain, Posts}}, Ranges.ring_size, Tests.{is_done, is_idle}, World.{Common, Task, request_of, seat_of, sleeper_of, task_of, Own as Books}}
+use Rattle.exec_moves.specs.{declared.{handing.{AfterCallbacks.AfterCallbacks, AfterCancels.AfterCancels, AfterSend.AfterSend, Heard.Heard}, place.{InCallbacks.InCallbacks, InClosing.InClosing}}, Callback.{Item, Item.{Answers, Completes, LetsGo, Nothing, Releases, Wakes}, flagged_by, has_callbacks, item_next, tells_waiter, woken_by}, Close.{close_sleeper, first_asleep, first_held, orphan, told_of_clear, visit}, Move.{move_callbacks, move_closing, move_item}, Pop.shard_count, Send.{Mailbox, asks, first_letter, is_left_out, payer_of_send, posted, posting_of, send_cancel, send_root, sent}, State.{Desk, Things}, Thing.{aside, mailbox_of, with_mailbox, with_shard}}
 use Rattle.exec_moves.specs.declared.handing.AfterCancels.TheVariants as cancels
 use Rattle.exec_moves.specs.declared.handing.AfterPush.TheVariants as push
 use Rattle.exec_moves.specs.declared.handing.AfterSend.TheVariants as send
@@ -19,20 +18,10 @@ use Rattle.exec_rest.proofs.Nearly.{Quiet, calmly, quiet, quietly}
 
 -- A MESSAGE: of the wake word the batch alone changes
 posted_target : (message : MailMessage) (m : Mailbox) → (posted message m).word.target ≡ m.word.target
-posted_target message m = by (leaves_out message m) (is_empty m.messages)
-  where
-    by : (out first : Bool) → (if out then m else record { messages = m.messages ++ message ∷ []; word = published_if first m.word }).word.target ≡ m.word.target
-    by true first = refl
-    by false true = refl
-    by false false = refl
+posted_target = grind arith
 
 posted_latch : (message : MailMessage) (m : Mailbox) → (posted message m).word.latch ≡ m.word.latch
-posted_latch message m = by (leaves_out message m) (is_empty m.messages)
-  where
-    by : (out first : Bool) → (if out then m else record { messages = m.messages ++ message ∷ []; word = published_if first m.word }).word.latch ≡ m.word.latch
-    by true first = refl
-    by false true = refl
-    by false false = refl
+posted_latch = grind arith
 
 module _ (c : Configuration) (i : ℕ) (s : Common) (x : Things) where
   -- to worker j
@@ -50,15 +39,6 @@ module _ (c : Configuration) (i : ℕ) (s : Common) (x : Things) where
 
   pub posts_root : (j : ℕ) (b : AfterSend) (d : Desk) → Quiet i s x (with_mailbox j x (send_root c s j b d (mailbox_of x j)))
   posts_root j b d = posts j Root (Posts (payer_of_send b) (is_left_out (mailbox_of x j))) b d
-
--- an end is neither a sleep nor the making of a worker
-abbrev is_sleep : Event → Bool
-is_sleep (Sleep until) = true
-is_sleep _ = false
-
-abbrev is_born : Event → Bool
-is_born (Dedicated t k) = true
-is_born _ = false
 
 module _ (R : Type 0) (c : Configuration) (i : ℕ) (me : Books) (s : Common) (d : Desk) (x : Things) where
   pub sends_cancel : (b : AfterCancels) → d.place ≡ at.SendCancel b
@@ -92,15 +72,7 @@ module _ (R : Type 0) (c : Configuration) (i : ℕ) (me : Books) (s : Common) (d
   closes closing.CloseMailbox = calmly i s x _ (calm_after_letting_go _ _) (inbox_put i i x _) refl
   closes closing.Orphan = orphans _ refl
   closes closing.CloseSleeper = closes_sleeper _ refl
-  closes closing.End =
-      record {
-        near = near_calm s i (at.Closing closing.End) refl;
-        aside = same i x;
-        landed = refl;
-        sleep = λ until h. false≢true (ap is_sleep h);
-        ends = λ h. refl;
-        born = λ t k h. absurd (false≢true (ap is_born h));
-      }
+  closes closing.End = grind arith
 
   pub closings : (p : InClosing) → d.place ≡ at.Closing p → Heeds R i s d x (move_closing c i s d x p)
   closings p is = quiet R i s d x _ (at.Closing p) is (record { calm = refl; signals = refl; raises = refl; owes = refl }) (closes p)

@@ -1,5 +1,5 @@
 -- Moves of a poll, which change nothing of waking.
-use Rattle.std.proofs.Common.{◌≡◌, ℕ, Bool, true, false, ◌==◌, Option, Some, None, refl, sym, ap, if◌then◌else◌, length}
+use Rattle.std.proofs.Common.{◌≡◌, ℕ, Bool, true, false, ◌==◌, Option, Some, None, refl, sym, ap, if◌then◌else◌, length, arith}
 use Rattle.std.proofs.lemmas.Bool.{true≢false}
 use Rattle.exec_words.specs.Queue.{tail_of}
 use Rattle.exec_outcomes.specs.Accounts.{is_durable}
@@ -14,7 +14,7 @@ use Rattle.exec_moves.specs.declared.handing.AfterSend.TheVariants as send
 use Rattle.exec_moves.specs.declared.place.InPoll.TheVariants as poll
 use Rattle.exec_moves.specs.declared.place.Place.TheVariants as at
 use Rattle.exec_rest.proofs.Heeds.{Heeds}
-use Rattle.exec_rest.proofs.Asides.{alarms_put, answers_put, gate_put, newcomer, own_queue, same, shard_put}
+use Rattle.exec_rest.proofs.Asides.{alarms_put, gate_put, newcomer, own_queue, same, shard_put}
 use Rattle.exec_rest.proofs.Continuing.{calm_after_end, calm_after_poll, calm_after_spawn, calm_cancels_left, calm_desk_if, calm_if, calm_next_pick, calm_to_queue, near_calm}
 use Rattle.exec_rest.proofs.Plain.{is_calm, is_mute}
 use Rattle.exec_rest.proofs.Nearly.{Quiet, calmly, quiet, quiet_if}
@@ -63,13 +63,7 @@ module _ (c : Configuration) (i : ℕ) (me : Books) (s : Common) (d : Desk) (x :
   resumes it waiting.Yielded h = rw h (pends (record it { waiting = waiting.Yielded }))
 
   hears : (r : ℕ) (b : Bool) (p : RequestPhase) → Quiet i s x (with_answers x (heard_by t r d x.answers b p))
-  hears r true (phase.Resolved outcome) = calmly i s x _ refl (answers_put i x _) refl
-  hears r true phase.Gated = calmly i s x _ refl (answers_put i x _) refl
-  hears r true phase.Queued = calmly i s x _ refl (answers_put i x _) refl
-  hears r true phase.Staged = calmly i s x _ refl (answers_put i x _) refl
-  hears r true phase.Flying = calmly i s x _ refl (answers_put i x _) refl
-  hears r true (phase.Landed n) = calmly i s x _ refl (answers_put i x _) refl
-  hears r false p = calmly i s x _ refl (answers_put i x _) refl
+  hears = grind arith
 
   looks_at : (b : AfterSend) (m : Moved Things) → Quiet i s x m → (y : Sight) → Quiet i s x (move_look_at c s d x t b m y)
   looks_at b m one Here = one
@@ -79,12 +73,7 @@ module _ (c : Configuration) (i : ℕ) (me : Books) (s : Common) (d : Desk) (x :
 
   -- ACTS
   awaits_by : (it : Task) (r : ℕ) (p : RequestPhase) → (request_of s r).phase ≡ p → Quiet i s x (aside x (await t s d it (Some r)))
-  awaits_by it r (phase.Resolved outcome) h = rw h (calmly i s x _ refl (same i x) refl)
-  awaits_by it r phase.Gated h = rw h (calmly i s x _ refl (same i x) refl)
-  awaits_by it r phase.Queued h = rw h (calmly i s x _ refl (same i x) refl)
-  awaits_by it r phase.Staged h = rw h (calmly i s x _ refl (same i x) refl)
-  awaits_by it r phase.Flying h = rw h (calmly i s x _ refl (same i x) refl)
-  awaits_by it r (phase.Landed n) h = rw h (calmly i s x _ refl (same i x) refl)
+  awaits_by = grind arith
 
   awaits_newest : (it : Task) (held : Option ℕ) → Quiet i s x (aside x (await t s d it held))
   awaits_newest it None = calmly i s x _ refl (same i x) refl

@@ -1,5 +1,5 @@
 -- What a worker heeds that pushes into the global queue, claims a worker, or signals one.
-use Rattle.std.proofs.Common.{◌≡◌, ℕ, ◌<◌, ◌==◌, Bool, true, false, List, ◌++◌, length, slice_set, Option, Some, None, refl, sym, ap, ◌∙◌, inl, inr, if◌then◌else◌}
+use Rattle.std.proofs.Common.{◌≡◌, ℕ, ◌<◌, ◌==◌, Bool, true, false, List, ◌++◌, length, slice_set, Option, Some, None, refl, sym, ap, ◌∙◌, inl, inr, if◌then◌else◌, arith}
 use Rattle.std.proofs.lemmas.Bool.{true≢false, false≢true}
 use Rattle.std.proofs.lemmas.List.{get_or-set_same, length-set}
 use Rattle.std.specs.Prelude.{◌⊎◌}
@@ -7,13 +7,13 @@ use Rattle.exec_words.specs.Idle.{Idle, is_in, lowest_of}
 use Rattle.exec_words.specs.Word.{asks_signal}
 use Rattle.exec_words.specs.declared.{idle.WorkerSet.WorkerSet}
 use Rattle.exec_machine.specs.{declared.{config.Configuration.Configuration, event.Event.{Event, TheVariants.{Rouse, Sleep, Turn}}}, Tests.{is_awake}, World.{Common, Own as Books, seat_of}}
-use Rattle.exec_moves.specs.{declared.{handing.{AfterClaim.AfterClaim, AfterPush.AfterPush, AfterSignal.AfterSignal, InGlobal.InGlobal, InSignal.InSignal}, place.Place.Place}, Callback.is_of_pool, Claim.{after_claim, after_nobody, claim_worker, claimed_if, idle_after, is_ring, raised_if, same_bools, set_of}, Global.{appended_if, empty_handed, has_any, one_count_less, one_count_more}, Move.{move_global, move_signal}, Parts.{after_push, after_signal}, Push.in_hand, State.{Desk, Things, does, goes, turns, word_of, wake_poll_of, queue_of}, Thing.{set_global, set_idle, with_global, with_idle, with_wake_poll}}
+use Rattle.exec_moves.specs.{declared.{handing.{AfterClaim.AfterClaim, AfterPush.AfterPush, AfterSignal.AfterSignal, InGlobal.InGlobal, InSignal.InSignal}, place.Place.Place}, Callback.is_of_pool, Claim.{after_claim, after_nobody, claim_worker, claimed_if, idle_after, is_ring, raised_if, same_bools, set_of}, Global.{appended_if, empty_handed, has_any, one_count_less}, Move.{move_global, move_signal}, Parts.{after_push, after_signal}, Push.in_hand, State.{Desk, Things, does, goes, turns, word_of, wake_poll_of, queue_of}, Thing.{set_global, set_idle, with_global, with_idle, with_wake_poll}}
 use Rattle.exec_moves.specs.declared.handing.AfterClaim.TheVariants as claim
 use Rattle.exec_moves.specs.declared.handing.AfterSignal.TheVariants as signal
 use Rattle.exec_moves.specs.declared.handing.InGlobal.TheVariants as global
 use Rattle.exec_moves.specs.declared.handing.InSignal.TheVariants as signals
 use Rattle.exec_moves.specs.declared.place.Place.TheVariants as at
-use Rattle.exec_rest.specs.Places.{owes, raises, signals as signals_next}
+use Rattle.exec_rest.specs.Places.{raises, signals as signals_next}
 use Rattle.exec_rest.proofs.Heeds.{Heeds}
 use Rattle.exec_rest.proofs.Sides.{OfIdleSet, at_place, awake, is_tame, is_unreaped, itself, no_idles, no_words, of_all, put_cases, same_bits, still_rings}
 use Rattle.exec_rest.proofs.Claims.{latched_words, lowest_there, none_there, raised_rings}
@@ -30,10 +30,7 @@ module _ (R : Type 0) (c : Configuration) (i : ℕ) (me : Books) (s : Common) (d
   turned : (p q : Place) (e : Desk) (y : Things) → signals_next p ≡ None → raises p ≡ None → Nearly s i q
       → ((j : ℕ) → word_of y j ≡ word_of x j) → ((j : ℕ) → wake_poll_of y j ≡ wake_poll_of x j) → ((j : ℕ) → queue_of y j ≡ queue_of x j)
       → OfIdleSet R i s (record d { place = p }) x (turns q e y) → Heeds R i s (record d { place = p }) x (turns q e y)
-  turned p q e y no_signal no_raise to words polls queues idles =
-      let here = record d { place = p } in
-      let m = turns q e y in
-      of_all R i s here x m idles (no_words R i s here x m to.waits no_signal words) (still_rings R i s here x m to no_raise polls refl (awake Turn refl)) (itself R i s here x m queues to refl)
+  turned = grind arith
 
   -- GLOBAL
 
@@ -41,21 +38,13 @@ module _ (R : Type 0) (c : Configuration) (i : ℕ) (me : Books) (s : Common) (d
   appends b true e more =
       turned (at.Global global.Append b) (after_push c i me s b (on (at.Global global.Append b))) e (set_global x x.global) refl refl (near_after_push s i c me b (on (at.Global global.Append b))) (λ j. refl) (λ j. refl) (λ j. refl)
       (no_idles R i s _ x _ (near_calm s i _ refl) (near_after_push s i c me b (on (at.Global global.Append b))) refl refl (λ h. h))
-  appends b false e more =
-      turned (at.Global global.Append b) (at.Global global.LoadGlobalSet b) e (set_global x (x.global ++ more)) refl refl (near_calm s i _ refl) (λ j. refl) (λ j. refl) (λ j. refl)
-      (same_bits R i s _ x _ (near_calm s i _ refl) (near_calm s i _ refl) refl (λ some. inr refl) (λ h. absurd (false≢true h)))
+  appends b false e more = grind arith
 
   nobody : (y : Idle) → has_any y ≡ false → (j : ℕ) → is_in y.published j ≡ false
-  nobody y h = by (lowest_of y.published) refl
-    where
-      by : (o : Option ℕ) → lowest_of y.published ≡ o → (j : ℕ) → is_in y.published j ≡ false
-      by None none = none_there y.published none
-      by (Some k) some = let any : has_any y ≡ true = rw some refl in absurd (true≢false (sym any ∙ h))
+  nobody = grind (arith, none_there, true≢false)
 
   loads_set : (b : AfterPush) (any : Bool) → has_any x.idle ≡ any → Heeds R i s (record d { place = at.Global global.LoadGlobalSet b }) x (with_idle x (turns (if any then at.Global (global.AddGlobalCount (set_of x.idle)) b else after_push c i me s b (on (at.Global global.LoadGlobalSet b))) d x.idle))
-  loads_set b true is =
-      turned (at.Global global.LoadGlobalSet b) (at.Global (global.AddGlobalCount (set_of x.idle)) b) d (set_idle x x.idle) refl refl (near_calm s i _ refl) (λ j. refl) (λ j. refl) (λ j. refl)
-      (same_bits R i s _ x _ (near_calm s i _ refl) (near_calm s i _ refl) refl (λ some. inl some) (λ h. inl refl))
+  loads_set b true is = grind arith
   loads_set b false is =
       turned (at.Global global.LoadGlobalSet b) (after_push c i me s b (on (at.Global global.LoadGlobalSet b))) d (set_idle x x.idle) refl refl (near_after_push s i c me b (on (at.Global global.LoadGlobalSet b))) (λ j. refl) (λ j. refl) (λ j. refl)
       (same_bits R i s _ x _ (near_calm s i _ refl) (near_after_push s i c me b (on (at.Global global.LoadGlobalSet b))) refl (λ some. inl some) (λ h. inr (nobody x.idle is)))
@@ -63,9 +52,7 @@ module _ (R : Type 0) (c : Configuration) (i : ℕ) (me : Books) (s : Common) (d
   on_global : (p : InGlobal) (b : AfterPush) → Heeds R i s (record d { place = at.Global p b }) x (move_global c i me s (record d { place = at.Global p b }) x p b)
   on_global global.Append b = appends b s.queue_closed (empty_handed d) (d.loot ++ in_hand d.hand)
   on_global global.LoadGlobalSet b = loads_set b (has_any x.idle) refl
-  on_global (global.AddGlobalCount set) b =
-      turned (at.Global (global.AddGlobalCount set) b) (at.ClaimWorker set (claim.Global b)) d (set_idle x (one_count_more x.idle)) refl refl (near_calm s i _ refl) (λ j. refl) (λ j. refl) (λ j. refl)
-      (same_bits R i s _ x _ (near_calm s i _ refl) (near_calm s i _ refl) refl (λ some. inl some) (λ h. inl refl))
+  on_global (global.AddGlobalCount set) b = grind arith
   on_global global.ReturnGlobalCount b =
       let to = near_if s i (x.idle.count == 1) _ _ (near_calm s i (at.Global global.LoadGlobalSet b) refl) (near_after_push s i c me b (on (at.Global global.ReturnGlobalCount b))) in
       turned (at.Global global.ReturnGlobalCount b) (if x.idle.count == 1 then at.Global global.LoadGlobalSet b else after_push c i me s b (on (at.Global global.ReturnGlobalCount b))) d (set_idle x (one_count_less x.idle)) refl refl to (λ j. refl) (λ j. refl) (λ j. refl)
@@ -77,18 +64,10 @@ module _ (R : Type 0) (c : Configuration) (i : ℕ) (me : Books) (s : Common) (d
   near_nobody (claim.Kick b) = near_calm s i _ refl
   near_nobody (claim.Global b) = near_calm s i _ refl
 
-  still_owes : (set found : WorkerSet) (b : AfterClaim) → owes (at.ClaimWorker set b) ≡ true → owes (at.ClaimWorker found b) ≡ true
-  still_owes set found (claim.Kick b) h = h
-  still_owes set found (claim.Global b) h = h
-
   claims_by : (set : WorkerSet) (b : AfterClaim) (same : Bool) (o : Option ℕ) → lowest_of x.idle.published ≡ o
       → (let m = claimed_if same (set_of x.idle) o in Heeds R i s (record d { place = at.ClaimWorker set b }) x (with_idle x (turns (after_claim b m) d (idle_after m x.idle))))
-  claims_by set b same None none =
-      turned (at.ClaimWorker set b) (after_nobody b) d (set_idle x x.idle) refl refl (near_nobody b) (λ j. refl) (λ j. refl) (λ j. refl)
-      (same_bits R i s _ x _ (near_calm s i _ refl) (near_nobody b) refl (λ some. inl some) (λ h. inr (none_there x.idle.published none)))
-  claims_by set b false (Some k) is =
-      turned (at.ClaimWorker set b) (at.ClaimWorker (set_of x.idle) b) d (set_idle x x.idle) refl refl (near_calm s i _ refl) (λ j. refl) (λ j. refl) (λ j. refl)
-      (same_bits R i s _ x _ (near_calm s i _ refl) (near_calm s i _ refl) refl (λ some. inl some) (λ h. inl (still_owes set (set_of x.idle) b h)))
+  claims_by set b same None none = grind (arith, turned, near_nobody, same_bits, near_calm, none_there)
+  claims_by set b false (Some k) is = grind arith
   claims_by set b true (Some k) is =
       turned (at.ClaimWorker set b) (at.Signal signals.SetLatch k (signal.Claim b)) d (set_idle x (record x.idle { published = slice_set bits k false })) refl refl (near_calm s i _ refl) (λ j. refl) (λ j. refl) (λ j. refl)
       (record {

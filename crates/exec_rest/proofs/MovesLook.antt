@@ -1,10 +1,10 @@
 -- What the moves do as far as waking goes, of a worker that looks whether it may wait: the loads, the tests, the look with its
 -- bit in the idle set, and the withdrawal of that.
-use Rattle.std.proofs.Common.{◌≡◌, ℕ, ◌+◌, ◌==◌, Bool, true, false, ◌&&◌, ◌||◌, List, [], ◌∷◌, refl, sym, ap, ◌∙◌, inl, inr, slice_set, if◌then◌else◌, nat_lt}
+use Rattle.std.proofs.Common.{◌≡◌, ℕ, ◌+◌, ◌==◌, Bool, true, false, ◌&&◌, ◌||◌, List, [], ◌∷◌, refl, sym, ap, ◌∙◌, slice_set, if◌then◌else◌, nat_lt, arith}
 use Rattle.std.proofs.lemmas.{Bool.{true≢false, false≢true, and_parts}, List.{get_or-set_same, length-set}}
 use Rattle.std.specs.Prelude.{not, nat_le}
 use Rattle.exec_words.specs.{Head.is_stealable_at, Idle.{Idle, is_in}, Queue.tail_of}
-use Rattle.exec_machine.specs.{declared.config.Configuration.Configuration, Ranges.ring_size, Tests.is_empty, World.{Common, Own as Books}, Deadlines.next_due}
+use Rattle.exec_machine.specs.{declared.config.Configuration.Configuration, Tests.is_empty, World.{Common, Own as Books}, Deadlines.next_due}
 use Rattle.exec_moves.specs.declared.handing.AfterLeave.TheVariants as leave
 use Rattle.exec_moves.specs.declared.idling.AfterWait.TheVariants as next
 use Rattle.exec_moves.specs.declared.idling.InLook.TheVariants as looking
@@ -17,9 +17,9 @@ use Rattle.exec_moves.specs.declared.place.AfterService.TheVariants as back
 use Rattle.exec_moves.specs.declared.place.InLoads.TheVariants as load
 use Rattle.exec_moves.specs.declared.place.Place.TheVariants as at
 use Rattle.exec_moves.specs.declared.place.Round.TheVariants as round
-use Rattle.exec_moves.specs.{declared.{idling.{AfterWait.AfterWait, InLook.InLook}, place.{Found.Found, InLoads.InLoads, Place.Place, Round.Round}}, Callback.{has_callbacks, has_requests, ring_wait, serve, is_full, is_of_pool}, Global.one_count_more, Load.{has_come, has_mail, has_submissions, is_ready, leaves_for_turn, test_for_work}, Look.{after_withdrawal, past_own, look_at_mirror, looks_from, searching_if, withdraw}, Move.{move_loads, move_look}, State.{Desk, Own, Things, queue_of, word_of, turns}, Thing.{aside, set_idle, with_global, with_idle}, Wait.{first_search, is_near, read_clock, waits, word_wait}}
-use Rattle.exec_rest.specs.Places.{has_looked, is_pooled, is_published}
-use Rattle.exec_rest.proofs.{Asides.{global_less, idle_put, same, word_put}, Continuing.{calm_after_return, calm_leaves_for_turn}, Heeds.Heeds, Plain.{calm, is_calm}, Waiting.{Knows, calm_loose, calms, either, goes_on, is_loose, is_out, may_go, nothing_known, off, onward, put_in, put_in_own, queue_put, same_set, steady, still_empty, taken_out, taken_out_own, with_set}}
+use Rattle.exec_moves.specs.{declared.{idling.{AfterWait.AfterWait, InLook.InLook}, place.{Found.Found, InLoads.InLoads, Place.Place, Round.Round}}, Callback.{has_callbacks, serve, is_of_pool}, Global.one_count_more, Load.{has_come, has_mail, has_submissions, is_ready, leaves_for_turn, test_for_work}, Look.{after_withdrawal, past_own, look_at_mirror, looks_from, searching_if, withdraw}, Move.{move_loads, move_look}, State.{Desk, Own, Things, queue_of, word_of, turns}, Thing.{aside, set_idle, with_global, with_idle}, Wait.{first_search, read_clock, waits}}
+use Rattle.exec_rest.specs.Places.{has_looked, is_published}
+use Rattle.exec_rest.proofs.{Asides.{idle_put, same, word_put}, Continuing.{calm_after_return, calm_leaves_for_turn}, Heeds.Heeds, Plain.{calm, is_calm}, Waiting.{Knows, calm_loose, calms, either, goes_on, is_loose, is_out, may_go, nothing_known, off, onward, put_in, put_in_own, queue_put, steady, still_empty, taken_out, taken_out_own}}
 
 -- A QUEUE THAT IS EMPTY, by what was found
 
@@ -53,10 +53,7 @@ module _ (c : Configuration) (i : ℕ) (me : Books) (s : Common) (d : Desk) wher
   -- a test that the first places of all waits pass
   pub waits_at : (test : Place → Bool) → test (at.RingWait ring.EnterFullRing stay.Turn) ≡ true → test (at.RingWait ring.TestRing stay.Turn) ≡ true
       → ((n : ℕ) → test (at.WordWait (word.SpinOnBatch n)) ≡ true) → test (at.WordWait word.ArmWord) ≡ true → test (waits c i s d) ≡ true
-  waits_at test full tests spins arms =
-      either test (has_requests i s) (ring_wait (ring_size c) stay.Turn d) (word_wait c i s d)
-      (either test (is_full (ring_size c) d) (at.RingWait ring.EnterFullRing stay.Turn) (at.RingWait ring.TestRing stay.Turn) full tests)
-      (either test (nat_lt 0 d.spinner.budget && not (is_near c d (next_due s i))) (at.WordWait (word.SpinOnBatch d.spinner.budget)) (at.WordWait word.ArmWord) (spins d.spinner.budget) arms)
+  waits_at = grind arith
 
 module _ (R : Type 0) (c : Configuration) (i : ℕ) (me : Books) (s : Common) (d : Desk) (x : Things) where
   abbrev with_bit : Bool → Idle
@@ -66,13 +63,9 @@ module _ (R : Type 0) (c : Configuration) (i : ℕ) (me : Books) (s : Common) (d
 
   pub loads : (p : InLoads) (r : Round) → d.place ≡ at.Loads p r → Heeds R i s d x (move_loads i me d x p r)
   loads load.LoadOwnHead round.First is = calms R i s d x _ (at.Loads load.LoadOwnHead round.First) is refl refl refl (queue_put i x i (queue_of x i) (λ h. h)) refl
-  loads load.LoadOwnHead round.Second is =
-      onward R i s d x _ (at.Loads load.LoadOwnHead round.Second) is refl refl (queue_put i x i (queue_of x i) (λ h. h)) refl
-      (λ pool before h. still_empty i x i (queue_of x i) (λ it. it) i (none_there (queue_of x i).values h))
+  loads load.LoadOwnHead round.Second is = grind (arith, onward, queue_put, still_empty, none_there)
   loads (load.LoadOwnMirror f) round.First is = calms R i s d x _ (at.Loads (load.LoadOwnMirror f) round.First) is refl refl refl (same i x) refl
-  loads (load.LoadOwnMirror f) round.Second is =
-      onward R i s d x _ (at.Loads (load.LoadOwnMirror f) round.Second) is refl refl (same i x) refl
-      (λ pool before h. before (not_before f.ready (not (is_empty x.global)) h))
+  loads (load.LoadOwnMirror f) round.Second is = grind arith
   loads (load.LoadOwnWord f) round.First is = calms R i s d x _ (at.Loads (load.LoadOwnWord f) round.First) is refl refl refl (word_put i i x (word_of x i) refl refl) refl
   loads (load.LoadOwnWord f) round.Second is =
       onward R i s d x _ (at.Loads (load.LoadOwnWord f) round.Second) is refl refl (word_put i i x (word_of x i) refl refl) refl
@@ -89,25 +82,9 @@ module _ (R : Type 0) (c : Configuration) (i : ℕ) (me : Books) (s : Common) (d
 
   -- THE CLOCK
 
-  -- only a worker of the pool comes to the places of a search
-  searches : (e : Desk) → d.place ≡ at.ReadClock → (q : Place) → is_unseen q ≡ true → is_of_pool s i ≡ true → Heeds R i s d x (aside x (turns {T = Own} q e tt))
-  searches e is q to pool =
-      let two = and_parts (is_loose q && not (is_published q)) (not (has_looked q)) to in
-      let one = and_parts (is_loose q) (not (is_published q)) two.0 in
-      steady R i s d x (aside x (turns {T = Own} q e tt)) at.ReadClock is refl one.0 (same i x) refl
-      (same_set i s x at.ReadClock q x refl (λ pool h. absurd (false≢true h)) (λ pool h. absurd (false≢true (sym (off (is_published q) one.1) ∙ h))))
-      (record { looked = λ pool h. absurd (false≢true (sym (off (has_looked q) two.1) ∙ h)); dry = λ pool before h. before refl; pooled = λ before h. pool })
-
   -- any other one waits
   waits_alone : (e : Desk) → d.place ≡ at.ReadClock → is_of_pool s i ≡ false → Heeds R i s d x (aside x (turns {T = Own} (waits c i s e) e tt))
-  waits_alone e is apart =
-      steady R i s d x (aside x (turns {T = Own} (waits c i s e) e tt)) at.ReadClock is refl (waits_at c i me s e is_loose refl refl (λ n. refl) refl) (same i x) refl
-      (same_set i s x at.ReadClock (waits c i s e) x refl (λ pool h. absurd (false≢true h)) (λ pool h. absurd (true≢false (sym pool ∙ apart))))
-      (record {
-        looked = λ pool h. absurd (true≢false (sym pool ∙ apart));
-        dry = λ pool before h. absurd (true≢false (sym pool ∙ apart));
-        pooled = λ before h. absurd (true≢false (sym h ∙ off (is_pooled (waits c i s e)) (waits_at c i me s e (λ q. not (is_pooled q)) refl refl (λ n. refl) refl)));
-      })
+  waits_alone = grind arith
 
   pub reads : d.place ≡ at.ReadClock → Heeds R i s d x (aside x (read_clock c i me s d))
   reads is = by (has_come s.clock (next_due s i))
@@ -122,9 +99,7 @@ module _ (R : Type 0) (c : Configuration) (i : ℕ) (me : Books) (s : Common) (d
       in_search = if nat_le c.workers 1 then at.Look looking.Publish else by_count
 
       first : (pool : Bool) → is_of_pool s i ≡ pool → Heeds R i s d x (aside x (turns {T = Own} (if not pool then waits c i s e else in_search) e tt))
-      first true pool =
-          searches e is in_search
-          (either is_unseen (nat_le c.workers 1) (at.Look looking.Publish) by_count refl (either is_unseen d.searching (at.Scan scanning.LoadScanHead) (at.Search searching.LoadSearchCount) refl refl)) pool
+      first true pool = grind arith
       first false apart = waits_alone e is apart
 
       by : (come : Bool) → Heeds R i s d x (aside x (if come then turns {T = Own} (leaves_for_turn c i me s d) e tt else turns {T = Own} (first_search c i s e) e tt))
@@ -135,31 +110,11 @@ module _ (R : Type 0) (c : Configuration) (i : ℕ) (me : Books) (s : Common) (d
 
   -- its own bit goes in
   publishes : (q : Place) → d.place ≡ at.Look looking.Publish → is_seen q ≡ true → Heeds R i s d x (with_idle x (turns q d (with_bit true)))
-  publishes q is to =
-      let two = and_parts (is_loose q && is_published q) (not (has_looked q)) to in
-      let one = and_parts (is_loose q) (is_published q) two.0 in
-      let out = off (has_looked q) two.1 in
-      steady R i s d x _ (at.Look looking.Publish) is refl one.0 (same i _) refl
-      (record {
-        bit_in = λ j h. elim (put_in_own x.idle.published i j h) [
-          | inl was ↦ inl was
-          | inr own ↦ inr (own, refl, one.1, out)
-        ];
-        bit_out = λ j h gone. absurd (true≢false (sym (put_in x.idle.published i j h) ∙ gone));
-        unpublished = λ pool h within. one.1;
-        published = λ pool within h. inr (get_or-set_same x.idle.published i true false within);
-        bits = length-set x.idle.published i true;
-      })
-      (record { looked = λ pool h. absurd (false≢true (sym out ∙ h)); dry = λ pool before h. before refl; pooled = λ before h. before refl })
+  publishes = grind (arith, and_parts, is_loose, off, steady, same, put_in_own, true≢false, put_in, get_or-set_same, length-set, false≢true)
 
   -- the global queue is found empty, or not
   finds : (last : Bool) (g : List ℕ) → x.global ≡ g → d.place ≡ at.Look (looking.LookAtMirror last) → Heeds R i s d x (with_global x (look_at_mirror last d g))
-  finds last [] none is =
-      steady R i s d x _ (at.Look (looking.LookAtMirror last)) is refl refl (with_set (global_less i x [] (λ some _. some refl))) refl
-      (same_set i s x (at.Look (looking.LookAtMirror last)) (at.Look looking.LookAtCount) _ refl (λ pool h. refl) (λ pool h. refl))
-      (record { looked = λ pool h. inr none; dry = λ pool before h. before refl; pooled = λ before h. before refl })
-  finds last (t ∷ ts) some is =
-      goes_on R i s d x _ (at.Look (looking.LookAtMirror last)) is refl refl refl (global_less i x (t ∷ ts) (λ more none. more (sym some ∙ none))) refl (λ h. h)
+  finds = grind arith
 
   -- once it found that empty: to the next worker, or to the wait
   abbrev looks_on : Place → Bool
@@ -199,16 +154,7 @@ module _ (R : Type 0) (c : Configuration) (i : ℕ) (me : Books) (s : Common) (d
   takes_out : (n : AfterWait) → d.place ≡ at.Withdraw n → (q : Place) (e : Desk) → is_loose q ≡ true → is_published q ≡ false
       → Knows i s x (at.Withdraw n) q (set_idle x (with_bit false))
       → Heeds R i s d x (with_idle x (turns q e (with_bit false)))
-  takes_out n is q e free out knows =
-      steady R i s d x _ (at.Withdraw n) is refl free (same i _) refl
-      (record {
-        bit_in = λ j h. inl (taken_out x.idle.published i j h);
-        bit_out = λ j h gone. (taken_out_own x.idle.published i j h gone, out);
-        unpublished = λ pool h within. absurd (false≢true (sym (is_out x.idle.published i) ∙ within));
-        published = λ pool within h. absurd (false≢true (sym out ∙ h));
-        bits = length-set x.idle.published i false;
-      })
-      knows
+  takes_out = grind (arith, steady, same, taken_out, taken_out_own, false≢true, is_out, length-set)
 
   leaves_off : (n : AfterWait) → d.place ≡ at.Withdraw n → (q : Place) (e : Desk) → is_calm q ≡ true → Heeds R i s d x (with_idle x (turns q e (with_bit false)))
   leaves_off n is q e h = takes_out n is q e (calm_loose q h) (calm q h).published (nothing_known i s x (at.Withdraw n) q _ (calm q h))

@@ -1,12 +1,12 @@
 -- What a worker heeds in a wait on its ring.
-use Rattle.std.proofs.Common.{◌≡◌, ◌≢◌, ℕ, ◌+◌, Bool, true, false, ◌&&◌, ◌||◌, List, length, nat_lt, Option, refl, sym, ap, ◌∙◌, subst, inl, inr, if◌then◌else◌}
-use Rattle.std.proofs.lemmas.Bool.{true≢false, false≢true, or_parts}
+use Rattle.std.proofs.Common.{◌≡◌, ◌≢◌, ℕ, ◌+◌, Bool, true, false, ◌&&◌, ◌||◌, List, length, nat_lt, Option, refl, sym, ap, ◌∙◌, subst, inl, inr, if◌then◌else◌, arith}
+use Rattle.std.proofs.lemmas.Bool.{true≢false, false≢true}
 use Rattle.std.specs.Prelude.{not}
 use Rattle.exec_words.specs.Word.{is_idle_at}
 use Rattle.exec_words.specs.declared.word.PureWord.{PureWord}
 use Rattle.exec_words.specs.declared.word.WaitTarget.TheVariants as target
 use Rattle.exec_machine.specs.{declared.{config.Configuration.Configuration, event.Event.{Event, TheVariants.{Busy, Enter, Sleep, Turn}}}, Deadlines.next_due, Ranges.ring_size, Tests.{is_empty}, World.{Common, Own as Books, seat_of}, Choice.Choice.{Plain}}
-use Rattle.exec_moves.specs.{declared.{idling.{AfterWait.AfterWait, InRingWait.InRingWait, Stay.Stay}, place.Place.Place}, Callback.{is_full, is_of_pool}, Load.{has_come, has_submissions}, Move.{move_ring_wait}, Serve.{Ring, entered}, State.{Desk, Moved, Own, Things, WakePoll, does, taken_in, turns, word_of, wake_poll_of}, Submit.{one_more, with_poll}, Thing.{aside, ring_of, set_wake_poll, with_ring, with_word}, Wait.{after_wait, disarmed, enter_full_ring, enter_ring, has_completion, sleep}}
+use Rattle.exec_moves.specs.{declared.{idling.{AfterWait.AfterWait, InRingWait.InRingWait, Stay.Stay}, place.Place.Place}, Callback.{is_full, is_of_pool}, Load.{has_come, has_submissions}, Move.{move_ring_wait}, Serve.{Ring, entered}, State.{Desk, Moved, Own, Things, WakePoll, does, taken_in, turns, word_of, wake_poll_of}, Submit.{with_poll}, Thing.{aside, ring_of, set_wake_poll, with_ring, with_word}, Wait.{after_wait, disarmed, enter_full_ring, enter_ring, has_completion, sleep}}
 use Rattle.exec_moves.specs.declared.idling.AfterWait.TheVariants as next
 use Rattle.exec_moves.specs.declared.idling.InRingWait.TheVariants as ring
 use Rattle.exec_moves.specs.declared.place.Place.TheVariants as at
@@ -14,7 +14,7 @@ use Rattle.exec_rest.specs.Places.{is_abed, waits_on}
 use Rattle.exec_rest.proofs.Heeds.{Heeds, Rings}
 use Rattle.exec_rest.proofs.Sides.{Keeps, at_place, awake, is_tame, is_unreaped, keeps, of_all, unreaped}
 use Rattle.exec_rest.proofs.Stays.{IsOff, idle_unlatched, off_rings, off_ring, on_ring, own_rings, own_words, ring_off, ring_quiet, ring_withdrawing, same_latch, stay_idles, stay_itself, stay_rings, stay_words}
-use Rattle.exec_rest.proofs.Polled.{keeps_taken, more_others, polled_by_enter, told_by_enter}
+use Rattle.exec_rest.proofs.Polled.{keeps_taken, more_others, polled_by_enter}
 
 waits : target.Ring ≢ target.None
 waits h = cc
@@ -80,39 +80,10 @@ module _ (R : Type 0) (c : Configuration) (i : ℕ) (me : Books) (s : Common) (d
   enters_full true = passes ring.EnterFullRing ring.TestRing Busy (on (inside ring.TestRing)) v (λ h. absurd (h refl)) (record { to_enter = refl; to_sleep = refl; asked = refl }) (keeps v landed) refl refl (awake Busy refl)
   enters_full false = passes ring.EnterFullRing ring.TestRing Enter (entered (length me.untold) (on (inside ring.TestRing))) (taken_in d.polled v) (λ h. absurd (h refl)) (record { to_enter = refl; to_sleep = refl; asked = refl }) (keeps_taken d.polled v landed) refl refl (awake Enter refl)
 
-  polled_then : (e : Desk) (polled full : Bool) → e.polled ≡ polled → (not polled && full) ≡ false → (if polled || full then e else (record (one_more e) { polled = true })).polled ≡ true
-  polled_then e true full is h = is
-  polled_then e false true is h = absurd (true≢false h)
-  polled_then e false false is h = refl
-
   -- the test for submissions
   tests : (out : Bool) → (has_submissions c me || (not d.polled && is_full (ring_size c) d)) ≡ out
       → (let here = on (inside ring.TestRing) in Heeds R i s here x (aside x (if out then turns {T = Own} (after_wait s i y next.Serve) here tt else turns {T = Own} (inside ring.ArmRing) (with_poll (ring_size c) here) tt)))
-  tests true is =
-      let here = on (inside ring.TestRing) in
-      let m = aside x (turns {T = Own} (after_wait s i y next.Serve) here tt) in
-      of_all R i s here x m
-      (stay_idles R i s here x m (off_ring s i ring.TestRing y next.Serve) refl refl refl)
-      (stay_words R i s here x m refl (λ h. absurd (h (ring_quiet s i y next.Serve))) refl)
-      (stay_rings R i s here x m refl refl (λ same. off_rings R i s here x m (ring_off s i y next.Serve) (keeps v landed)) (awake Turn refl))
-      (stay_itself R i s here x m (off_ring s i ring.TestRing y next.Serve) (λ j. refl) refl)
-  tests false is =
-      let here = on (inside ring.TestRing) in
-      let m = aside x (turns {T = Own} (inside ring.ArmRing) (with_poll (ring_size c) here) tt) in
-      of_all R i s here x m
-      (stay_idles R i s here x m (on_ring pool ring.TestRing ring.ArmRing y) refl refl refl)
-      (stay_words R i s here x m refl (λ h. absurd (h refl)) refl)
-      (stay_rings R i s here x m refl refl
-      (λ same before. record {
-        entering = λ h. absurd (false≢true h);
-        sleeping = λ h. absurd (false≢true h);
-        asked = λ h. polled_then here d.polled (is_full (ring_size c) d) refl (or_parts (has_submissions c me) (not d.polled && is_full (ring_size c) d) is).1;
-        polled = λ h. absurd (false≢true h);
-        kept = before.kept;
-        ended = before.ended;
-      })
-      (awake Turn refl))
-      (stay_itself R i s here x m (on_ring pool ring.TestRing ring.ArmRing y) (λ j. refl) refl)
+  tests = grind arith
 
   -- the ring bit goes into the wake word
   arms : (idle : Bool) → is_idle_at w d.processed ≡ idle
@@ -164,11 +135,7 @@ module _ (R : Type 0) (c : Configuration) (i : ℕ) (me : Books) (s : Common) (d
       ringed ring.EnterRing ring.SleepOnRing Enter entering taken.wakes (λ h. (waits, refl))
       (λ same before. record {
         entering = λ h. absurd (false≢true h);
-        sleeping = λ h latch. elim (before.entering refl latch) [
-          | inl raised ↦ inl raised
-          | inr told ↦ absurd (true≢false (sym (subst (λ b. (not (is_empty landed) || nat_lt 0 (d.others + cancels) || (taken_in b v).told) ≡ true) (sym (before.asked refl))
-              (told_by_enter (not (is_empty landed)) (nat_lt 0 d.others) (nat_lt 0 (d.others + cancels)) (more_others d.others cancels) v before.kept before.ended told)) ∙ is))
-        ];
+        sleeping = grind arith;
         asked = λ h. before.asked refl;
         polled = λ h. subst (λ (u : WakePoll). (u.armed || (not (is_empty landed) || nat_lt 0 (d.others + cancels) || u.told)) ≡ true) (sym (same ∙ ap (λ b. taken_in b v) (before.asked refl)))
             (polled_by_enter (not (is_empty landed)) (nat_lt 0 d.others) (nat_lt 0 (d.others + cancels)) (more_others d.others cancels) v before.ended);

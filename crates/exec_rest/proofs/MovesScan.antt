@@ -1,14 +1,13 @@
 -- What the moves do as far as waking goes, of a worker of the pool that searches: what comes before a scan, and the scan of the
 -- other run queues, out of which it takes values.
-use Rattle.std.proofs.Common.{◌≡◌, ℕ, zero, suc, ◌-◌, ◌*◌, ◌==◌, Bool, true, false, [], take, drop, refl, ap, ◌∙◌, if◌then◌else◌, nat_lt, nat_le}
+use Rattle.std.proofs.Common.{◌≡◌, ℕ, zero, suc, ◌==◌, Bool, true, false, [], take, drop, refl, ap, ◌∙◌, if◌then◌else◌, nat_lt, arith}
 use Rattle.exec_words.specs.{declared.head.Head.Head, Head.{claim_at, claimed_head}, Queue.{Queue, claimed, head_of, released, room_of, tail_of}}
 use Rattle.exec_machine.specs.{declared.config.Configuration.Configuration, World.{Common, Own as Books}}
 use Rattle.exec_moves.specs.declared.idling.InLook.TheVariants as looking
 use Rattle.exec_moves.specs.declared.idling.InScan.TheVariants as scanning
-use Rattle.exec_moves.specs.declared.idling.InSearch.TheVariants as searching
 use Rattle.exec_moves.specs.declared.place.Place.TheVariants as at
 use Rattle.exec_moves.specs.{declared.{idling.{InScan.InScan, InSearch.InSearch, Scan.Scan}, place.Place.Place}, Move.{move_search, move_scan}, Pop.same_head, Search.{begun_scan, from_of, half, judge_head, judge_tail, looks_at, past, past_own, stirred}, State.{Desk, Things, queue_of, turns}, Thing.with_queue}
-use Rattle.exec_rest.proofs.{Asides.{idle_put, own_queue, same}, Continuing.calm_leaves_for_turn, Heeds.Heeds, Waiting.{calms, either, goes_on, may_go, queue_put, still_empty}}
+use Rattle.exec_rest.proofs.{Asides.{own_queue, same}, Continuing.calm_leaves_for_turn, Heeds.Heeds, Waiting.{calms, either, goes_on, may_go, queue_put, still_empty}}
 
 none_dropped : (n : ℕ) → drop {A = ℕ} n [] ≡ []
 none_dropped zero = refl
@@ -26,16 +25,11 @@ module _ (c : Configuration) (i : ℕ) where
   on_head y h = either scans_on (h.gap == 0) (at.Scan (scanning.LoadTheirTail y h)) (looks_at c i (past y)) refl (on_at (past y))
 
   on_tail : (y : Scan) (h : Head) (tail : ℕ) → scans_on (judge_tail c i y h tail) ≡ true
-  on_tail y h tail =
-      either scans_on (nat_lt 256 (tail - h.real)) (at.Scan (scanning.LoadTheirHead y)) (if nat_lt (tail - h.real) 2 then looks_at c i (past y) else at.Scan (scanning.ClaimHalf y h tail)) refl
-      (either scans_on (nat_lt (tail - h.real) 2) (looks_at c i (past y)) (at.Scan (scanning.ClaimHalf y h tail)) (on_at (past y)) refl)
+  on_tail = grind arith
 
 module _ (R : Type 0) (c : Configuration) (i : ℕ) (me : Books) (s : Common) (d : Desk) (x : Things) where
   pub search : (p : InSearch) → d.place ≡ at.Search p → Heeds R i s d x (move_search c d x p)
-  search searching.LoadSearchCount is =
-      goes_on R i s d x _ (at.Search searching.LoadSearchCount) is refl
-      (either (scans_on c i) (nat_le c.workers (2 * x.idle.count)) (at.Look looking.Publish) (at.Search searching.AddSearchCount) refl refl) refl (idle_put i x _ refl) refl (λ h. h)
-  search searching.AddSearchCount is = goes_on R i s d x _ (at.Search searching.AddSearchCount) is refl refl refl (idle_put i x _ refl) refl (λ h. h)
+  search = grind arith
 
   -- a queue, of this worker or another one, of which it may take something
   over : (p : InScan) → d.place ≡ at.Scan p → (q : Place) (e : Desk) (k : ℕ) (v : Queue ℕ) → scans_on c i q ≡ true

@@ -1,10 +1,10 @@
 -- What a worker heeds in a service.
-use Rattle.std.proofs.Common.{◌≡◌, ℕ, Bool, true, false, List, ◌∷◌, slice_index_or, Option, Some, None, refl, sym, ap, ◌∙◌, inl, inr, if◌then◌else◌, []}
+use Rattle.std.proofs.Common.{◌≡◌, ℕ, Bool, true, false, List, ◌∷◌, Option, Some, None, refl, sym, inl, inr, if◌then◌else◌, [], arith}
 use Rattle.std.proofs.lemmas.Bool.{false≢true}
 use Rattle.std.specs.Prelude.{◌⊎◌}
 use Rattle.exec_outcomes.specs.declared.outcome.Outcome.{Outcome}
 use Rattle.exec_machine.specs.{declared.{config.Configuration.Configuration, event.Event.{Event, TheVariants.{Busy, Cancel, Enter, Fire, Rouse, Serve, Sleep, Stage}}}, Choice.Choice.{Plain}, Tests.{is_awake}, World.{Common, Own as Books, seat_of}}
-use Rattle.exec_moves.specs.{declared.place.{AfterPermit.AfterPermit, InService.InService, Place.Place, Reaping.Reaping, Service.Service}, Claim.{raised_if}, Move.{move_service, move_submit}, Serve.{after_permit, end_service, enter_last, first_to_fire, reap, sample, signal, unlatched}, State.{Desk, Moved, Things, WakePoll, dropped, gate_of, no_queue, no_wake_poll, no_word, taken_in, word_of, wake_poll_of}, Submit.{Due, Due.{AtGate, Cancels, Ends, Enrols, Expires, Flushes, Stages}, after_grant, due_next, granted_at, stage_next, try_gate}, Thing.{aside, ring_of, set_gate, set_wake_poll, with_gate, with_ring, with_word}}
+use Rattle.exec_moves.specs.{declared.place.{AfterPermit.AfterPermit, InService.InService, Place.Place, Reaping.Reaping, Service.Service}, Claim.{raised_if}, Move.{move_service, move_submit}, Serve.{after_permit, end_service, enter_last, first_to_fire, reap, sample, signal, unlatched}, State.{Desk, Moved, Things, WakePoll, dropped, gate_of, taken_in, word_of, wake_poll_of}, Submit.{Due, Due.{AtGate, Cancels, Ends, Enrols, Expires, Flushes, Stages}, after_grant, due_next, granted_at, stage_next, try_gate}, Thing.{aside, ring_of, set_gate, set_wake_poll, with_gate, with_ring, with_word}}
 use Rattle.exec_moves.specs.declared.place.InService.TheVariants as step
 use Rattle.exec_moves.specs.declared.place.Place.TheVariants as at
 use Rattle.exec_rest.specs.Places.{raises}
@@ -35,12 +35,7 @@ module _ (R : Type 0) (c : Configuration) (i : ℕ) (me : Books) (s : Common) (d
   -- a step that changes no word, no poll and no bit
   serves_on : (p : InService) (e : Event) (f : Desk) (y : Things) → raises (inside p) ≡ None → Nearly s i f.place → is_mute e ≡ true
       → y.words ≡ x.words → y.wake_polls ≡ x.wake_polls → y.queues ≡ x.queues → y.idle ≡ x.idle → y.global ≡ x.global → Heeds R i s (on p) x (did e f y)
-  serves_on p e f y no_raise to mute words polls queues idle global =
-      of_all R i s (on p) x (did e f y)
-      (no_idles R i s (on p) x (did e f y) (near_calm s i (inside p) refl) to refl (ap (λ k. k.published) idle) (λ some none. some (global ∙ none)))
-      (no_words R i s (on p) x (did e f y) to.waits refl (λ j. ap (λ ws. slice_index_or ws j no_word) words))
-      (still_rings R i s (on p) x (did e f y) to no_raise (λ j. ap (λ ps. slice_index_or ps j no_wake_poll) polls) (mute_unreaped e mute) (awake e mute))
-      (itself R i s (on p) x (did e f y) (λ j. ap (λ qs. slice_index_or qs j no_queue) queues) to (mute_tame e mute))
+  serves_on = grind arith
 
   -- a step at the own ring
   at_ring : (p : InService) (e : Event) (f : Desk) (k : WakePoll) → raises (inside p) ≡ None → Nearly s i f.place → Keeps polled k landed (landed_after s i e) → is_tame e ≡ true → ((until : Option ℕ) → e ≡ Sleep until → ⊥)

@@ -1,9 +1,8 @@
 -- No message is left where all sleep: its worker would have been signalled, or somebody would signal it next. And what a worker took
 -- it has applied, unless it sleeps while it closes.
-use Rattle.std.proofs.Common.{◌≡◌, ℕ, true, false, [], refl, inl, inr}
-use Rattle.std.proofs.lemmas.Bool.{true≢false, false≢true}
+use Rattle.std.proofs.Common.{◌≡◌, ℕ, true, false, [], inl, inr, arith}
 use Rattle.exec_machine.specs.{declared.config.Configuration.Configuration, Progress.all_asleep, Tests.is_open, World.seat_of}
-use Rattle.exec_moves.specs.{declared.{idling.Stay.Stay, place.Place.Place}, Plays.{Playing, desk_of}, State.inbox_of}
+use Rattle.exec_moves.specs.{declared.{place.Place.Place}, Plays.{Playing, desk_of}, State.inbox_of}
 use Rattle.exec_rest.specs.{AtRest.stays_closing, Places.is_abed, Posted.{IsPosted, has_tested}, Rested.{IsRestful, place_at, sleeps}}
 use Rattle.exec_rest.proofs.Rest.{none_or_some, unlatched, unsignalled}
 
@@ -18,10 +17,7 @@ no_mail c x held told all i asleep = elim (none_or_some (inbox_of x.things i)) [
 
 -- who sleeps in a turn has made its last test
 abed_tested : (p : Place) → is_abed p ≡ true → stays_closing p ≡ false → has_tested p ≡ true
-abed_tested (Place.WordWait y) h turn = refl
-abed_tested (Place.RingWait y Stay.Turn) h turn = refl
-abed_tested (Place.RingWait y Stay.Closing) h turn = absurd (true≢false turn)
-abed_tested _ h turn = absurd (false≢true h)
+abed_tested = grind arith
 
 pub nothing_taken : (c : Configuration) (x : Playing) → IsRestful c x → IsPosted c x → (i : ℕ) → sleeps c x i ≡ true → stays_closing (place_at c x i) ≡ false
     → ((desk_of c x i).root_ready ≡ false) × ((desk_of c x i).batch ≡ [])
@@ -37,6 +33,4 @@ pub record IsMailed (c : Configuration) (x : Playing) (i : ℕ) : Type 0 where
 pub nothing_mailed : (c : Configuration) (x : Playing) → IsRestful c x → IsPosted c x → all_asleep x.world ≡ true
     → (open_stays : (i : ℕ) → is_open (seat_of x.world.common i).phase ≡ true → stays_closing (place_at c x i) ≡ false)
     → (i : ℕ) → is_open (seat_of x.world.common i).phase ≡ true → sleeps c x i ≡ true → IsMailed c x i
-nothing_mailed c x held told all open_stays i opens asleep =
-    let taken = nothing_taken c x held told i asleep (open_stays i opens) in
-    record { inbox = no_mail c x held told all i asleep; root = taken.0; batch = taken.1 }
+nothing_mailed = grind (arith, nothing_taken, no_mail)

@@ -1,9 +1,8 @@
 -- Steps of the clock, the kernel and the peers send no message and take none; and no message is there in the first state.
-use Rattle.std.proofs.Common.{◌≡◌, ℕ, zero, suc, true, List, [], get_or, set, refl, sym, ap, ◌∙◌, subst, inl, inr}
+use Rattle.std.proofs.Common.{◌≡◌, ℕ, zero, suc, true, List, [], get_or, set, refl, sym, ap, ◌∙◌, subst, inl, inr, arith}
 use Rattle.std.proofs.lemmas.Bool.{true≢false, false≢true}
 use Rattle.exec_words.specs.declared.word.PureWord.{PureWord}
-use Rattle.exec_machine.specs.{declared.{config.Configuration.Configuration, state.MailMessage.MailMessage, step.Action.Action}, Callers.is_enabled, Progress.Plan, World.request_of}
-use Rattle.exec_machine.specs.declared.step.Action.TheVariants as action
+use Rattle.exec_machine.specs.{declared.{config.Configuration.Configuration, state.MailMessage.MailMessage, step.Action.Action}, Callers.is_enabled, Progress.Plan}
 use Rattle.exec_moves.specs.{Plays.{Playing, by_action, desk_of, first_desk, first_desks, first_playing}, State.{Desk, inbox_of, no_word, word_of}}
 use Rattle.exec_rest.specs.{Posted.{IsNumbered, IsPosted, IsTold, has_tested, is_early}, Rested.{IsLaidOut, IsRestful}}
 use Rattle.exec_rest.proofs.{CallHeeds.set_at, CallMail.numbered_like, First.{awake_first, not_there, of_equal}, Others.{Beside, at_place, beside, is_other, latch_then, signalled_then}}
@@ -20,36 +19,13 @@ same_desk d = record { processed = refl; root = refl; batch = refl }
 module _ (c : Configuration) (x : Playing) where
   -- a completion lands: no other completion stands behind it
   landed_unread : (i k : ℕ) → Unread (desk_of c x k) (get_or (set x.desks i (record (desk_of c x i) { others = 0 })) k (first_desk c k))
-  landed_unread i k =
-      let d = record (desk_of c x i) { others = 0 } in
-      elim (set_at x.desks i k d (first_desk c k)) [
-        | inl same ↦ subst (Unread (desk_of c x k)) (sym same) (same_desk (desk_of c x k))
-        | inr here ↦ subst (Unread (desk_of c x k)) (sym here.2) (subst (λ n. Unread (desk_of c x n) d) (sym here.0) (record { processed = refl; root = refl; batch = refl }))
-      ]
+  landed_unread = grind (arith, set_at, same_desk)
 
   unread : (a : Action) → is_other a ≡ true → (k : ℕ) → Unread (desk_of c x k) (desk_of c (by_action c x a).next k)
-  unread (action.Land r n) other k = landed_unread (request_of x.world.common r).worker k
-  unread (action.Clock n) other k = same_desk (desk_of c x k)
-  unread (action.SetBusy i) other k = same_desk (desk_of c x k)
-  unread (action.EndPoll i) other k = same_desk (desk_of c x k)
-  unread (action.Stir i) other k = same_desk (desk_of c x k)
-  unread (action.Peer l) other k = same_desk (desk_of c x k)
-  unread (action.Work i) other k = absurd (false≢true other)
-  unread (action.Spawn j n) other k = absurd (false≢true other)
-  unread (action.Wake j t) other k = absurd (false≢true other)
-  unread (action.GoOn j) other k = absurd (false≢true other)
+  unread = grind (arith, landed_unread, same_desk, false≢true)
 
   unsent : (a : Action) → is_other a ≡ true → (by_action c x a).next.things.inboxes ≡ x.things.inboxes
-  unsent (action.Land r n) other = refl
-  unsent (action.Clock n) other = refl
-  unsent (action.SetBusy i) other = refl
-  unsent (action.EndPoll i) other = refl
-  unsent (action.Stir i) other = refl
-  unsent (action.Peer l) other = refl
-  unsent (action.Work i) other = absurd (false≢true other)
-  unsent (action.Spawn j n) other = absurd (false≢true other)
-  unsent (action.Wake j t) other = absurd (false≢true other)
-  unsent (action.GoOn j) other = absurd (false≢true other)
+  unsent = grind arith
 
 module _ (c : Configuration) (x y : Playing) (beside : Beside c x y) (unread : (k : ℕ) → Unread (desk_of c x k) (desk_of c y k)) (unsent : y.things.inboxes ≡ x.things.inboxes) (told : IsPosted c x) where
   box : (i : ℕ) → inbox_of y.things i ≡ inbox_of x.things i
@@ -71,9 +47,7 @@ module _ (c : Configuration) (x y : Playing) (beside : Beside c x y) (unread : (
         numbered = numbered;
         posted = λ i asleep some. told_then i (told.posted i ((beside.workers i).asleep asleep) (λ none. some (box i ∙ none)));
         early = λ i at some. told_then i (told.early i (sym (at_place c x y beside is_early i) ∙ at) (λ none. some (box i ∙ none)));
-        tested = λ i at.
-            let was = told.tested i (sym (at_place c x y beside has_tested i) ∙ at) in
-            ((unread i).root ∙ was.0, (unread i).batch ∙ was.1);
+        tested = grind arith;
       }
 
 pub posted_by_other : (c : Configuration) (x : Playing) → IsLaidOut c x → IsRestful c x → IsPosted c x → (a : Action) → is_other a ≡ true → is_enabled x.world.common a ≡ true → IsPosted c (by_action c x a).next

@@ -1,12 +1,12 @@
 -- Steps of the clock, the kernel and the peers: they move nobody, and let nobody sleep, and what lands is seen.
-use Rattle.std.proofs.Common.{◌≡◌, ℕ, zero, suc, ◌+◌, ◌<◌, ◌≤◌, ◌==◌, Bool, true, false, ◌||◌, List, [], ◌∷◌, ◌++◌, length, map, get_or, set, Option, Some, None, is_some, refl, sym, ap, ◌∙◌, subst, inl, inr, arith}
+use Rattle.std.proofs.Common.{◌≡◌, ℕ, zero, suc, ◌+◌, ◌<◌, ◌≤◌, ◌==◌, Bool, true, false, ◌||◌, List, [], ◌∷◌, ◌++◌, length, map, get_or, set, is_some, refl, sym, ap, ◌∙◌, subst, inl, inr, arith}
 use Rattle.std.proofs.lemmas.Bool.{false≢true, eqb-true, eqb-false, ltb-true, ltb-false, or_cases, or_left, or_right}
 use Rattle.std.proofs.lemmas.List.{get_or-set_same, get_or-set_other, set_past}
 use Rattle.std.specs.Prelude.{◌⊎◌, nat_lt, not}
-use Rattle.exec_machine.specs.{declared.{config.Configuration.Configuration, state.Rest.{Rest, TheVariants.{Awake, Until, Forever}}, step.Action.Action}, Callers.{is_enabled, is_half_done}, Deadlines.roused_at, Tests.{has_ended, is_awake, is_empty}, World.{Seat, no_seat, request_of, seat_of}}
+use Rattle.exec_machine.specs.{declared.{config.Configuration.Configuration, state.Rest.{Rest, TheVariants.{Awake}}, step.Action.Action}, Callers.{is_enabled, is_half_done}, Deadlines.roused_at, Tests.{has_ended, is_awake, is_empty}, World.{Seat, no_seat, request_of, seat_of}}
 use Rattle.exec_machine.specs.declared.step.Action.TheVariants as action
 use Rattle.exec_machine.specs.declared.state.Call.TheVariants as call
-use Rattle.exec_moves.specs.{declared.{handing.CallPlace.CallPlace, place.Place.Place}, Call.no_call, Plays.{Playing, by_action, caller_of, desk_of, first_desk, last_told}, State.{Desk, WakePoll, no_queue, no_wake_poll, no_word, one_behind, passed, queue_of, wake_poll_of}}
+use Rattle.exec_moves.specs.{declared.{handing.CallPlace.CallPlace, place.Place.Place}, Call.no_call, Plays.{Playing, by_action, caller_of, desk_of, first_desk, last_told}, State.{Desk, WakePoll, no_queue, no_wake_poll, no_word, passed, queue_of, wake_poll_of}}
 use Rattle.exec_rest.specs.{Places.{asked_for_poll, call_owes, call_raises, call_signals, has_looked, is_abed, is_dry, is_in_call, is_pooled, is_published, is_to_enter, is_to_sleep_on_ring, is_withdrawing, owes, owes_nothing, raises, signals, waits_on}, Rested.{IsLaidOut, IsOwed, IsRaised, IsRestful, IsSignalled, Someone, has_bit, is_in_pool, is_latched, is_told, place_at, poll_at, sleeps}}
 
 -- a step of the clock, the kernel or a peer
@@ -168,17 +168,11 @@ some_behind : (xs : List ℕ) (r : ℕ) → is_empty (xs ++ r ∷ []) ≡ false
 some_behind [] r = refl
 some_behind (a ∷ xs) r = refl
 
-ended_still : (ended : Option ℕ) → is_some (one_behind ended) ≡ is_some ended
-ended_still None = refl
-ended_still (Some behind) = refl
-
 -- EACH STEP
 
 -- who slept until then is awake
 rest_then : (clock : ℕ) (s : Seat) (rest : Rest) → s.rest ≡ rest → not (is_awake (roused_at clock s).rest) ≡ true → not (is_awake s.rest) ≡ true
-rest_then clock s Awake is h = absurd (false≢true (subst (λ rest. not (is_awake (roused_at clock (record s { rest = rest })).rest) ≡ true) is h))
-rest_then clock s (Until u) is h = rw is refl
-rest_then clock s Forever is h = rw is refl
+rest_then = grind arith
 
 clocked : (clock : ℕ) (s : Seat) (d : Desk) (w : WakePoll) → Alike s (roused_at clock s) d d w w
 clocked clock s d w =
@@ -200,18 +194,7 @@ ends_poll s d w =
 -- a completion lands, behind all others
 landed : (s : Seat) (d : Desk) (w : WakePoll) (r : ℕ) → Alike s (record s { landed = s.landed ++ r ∷ []; rest = Awake }) d (record d { others = 0 }) w (passed w)
 landed s d w r =
-    record {
-      pool = refl;
-      phase = refl;
-      asleep = λ h. absurd (false≢true h);
-      place = refl;
-      polled = refl;
-      armed = refl;
-      kept = refl;
-      ended = ended_still w.ended;
-      told = λ h. or_left (not (is_empty (s.landed ++ r ∷ [])) || nat_lt 0 0) false (or_left (not (is_empty (s.landed ++ r ∷ []))) (nat_lt 0 0) some);
-      noticed = λ h. or_left (not (is_empty (s.landed ++ r ∷ []))) false some;
-    }
+    grind arith
   where
     some : not (is_empty (s.landed ++ r ∷ [])) ≡ true
     some = ap not (some_behind s.landed r)
@@ -302,28 +285,10 @@ module _ (c : Configuration) (x : Playing) (laid : IsLaidOut c x) where
   beside (action.Land r n) other =
       let i = (request_of x.world.common r).worker in
       record { workers = λ j. lands i r j (j == i) refl; words = refl; queues = refl; global = refl; idle = refl; calls = refl; callers = refl }
-  beside (action.SetBusy i) other =
-      record {
-        workers = by_seat i (record (seat_of x.world.common i) { busy = true }) (made_busy (seat_of x.world.common i));
-        words = refl;
-        queues = refl;
-        global = refl;
-        idle = refl;
-        calls = refl;
-        callers = refl;
-      }
+  beside (action.SetBusy i) other = grind (arith, by_seat, made_busy)
   beside (action.EndPoll i) other =
       record { workers = by_poll i; words = refl; queues = refl; global = refl; idle = refl; calls = refl; callers = refl }
-  beside (action.Stir i) other =
-      record {
-        workers = by_seat i (record (seat_of x.world.common i) { rest = Awake }) (stirred (seat_of x.world.common i));
-        words = refl;
-        queues = refl;
-        global = refl;
-        idle = refl;
-        calls = refl;
-        callers = refl;
-      }
+  beside (action.Stir i) other = grind (arith, by_seat, stirred)
   beside (action.Peer l) other =
       record { workers = λ j. itself (seat_of x.world.common j) (desk_of c x j) (wake_poll_of x.things j); words = refl; queues = refl; global = refl; idle = refl; calls = refl; callers = refl }
 

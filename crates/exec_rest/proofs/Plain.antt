@@ -1,6 +1,5 @@
 -- Moves that change nothing of waking: from a place at which nothing is known of the worker to another one.
-use Rattle.std.proofs.Common.{◌≡◌, ◌≢◌, ℕ, Bool, true, false, [], refl}
-use Rattle.std.proofs.lemmas.Bool.{false≢true}
+use Rattle.std.proofs.Common.{◌≡◌, ◌≢◌, ℕ, Bool, true, false, [], arith}
 use Rattle.exec_words.specs.declared.word.WaitTarget.TheVariants as target
 use Rattle.exec_machine.specs.{declared.event.Event.{Event, TheVariants.{Dedicated, End, Reap, Sleep}}}
 use Rattle.exec_moves.specs.{declared.{place.{InLoads.InLoads, Place.Place, Round.Round}}, State.{Things, queue_of, word_of, wake_poll_of}}
@@ -31,24 +30,7 @@ pub record Calm (q : Place) : Type 0 where
   pub asked : asked_for_poll q ≡ false
 
 pub calm : (q : Place) → is_calm q ≡ true → Calm q
-calm (Place.Look x) h = absurd (false≢true h)
-calm (Place.Search x) h = absurd (false≢true h)
-calm (Place.Scan x) h = absurd (false≢true h)
-calm (Place.RingWait x y) h = absurd (false≢true h)
-calm (Place.WordWait x) h = absurd (false≢true h)
-calm (Place.Withdraw n) h = absurd (false≢true h)
-calm (Place.TestForWork f) h = absurd (false≢true h)
-calm Place.ReadClock h = absurd (false≢true h)
-calm (Place.Loads (InLoads.LoadOwnMirror f) Round.Second) h = absurd (false≢true h)
-calm (Place.Loads (InLoads.LoadOwnWord f) Round.Second) h = absurd (false≢true h)
-calm (Place.Loads (InLoads.LoadOwnMirror f) Round.First) h =
-    record { published = refl; looked = refl; pooled = refl; dry = refl; waits = refl; to_enter = refl; to_sleep = refl; asked = refl }
-calm (Place.Loads (InLoads.LoadOwnWord f) Round.First) h =
-    record { published = refl; looked = refl; pooled = refl; dry = refl; waits = refl; to_enter = refl; to_sleep = refl; asked = refl }
-calm (Place.Loads InLoads.LoadOwnHead r) h =
-    record { published = refl; looked = refl; pooled = refl; dry = refl; waits = refl; to_enter = refl; to_sleep = refl; asked = refl }
-calm _ h =
-    record { published = refl; looked = refl; pooled = refl; dry = refl; waits = refl; to_enter = refl; to_sleep = refl; asked = refl }
+calm = grind arith
 
 -- no sleep, no end, no completion, and no new worker
 abbrev pub is_mute : Event → Bool

@@ -1,11 +1,11 @@
 -- Where all workers sleep, nobody has to do anything for others any more; and so nothing is left to be run.
-use Rattle.std.proofs.Common.{◌≡◌, ℕ, zero, suc, Bool, true, false, ◌&&◌, List, [], ◌∷◌, get_or, Option, Some, refl, sym, ap, ◌∙◌, inl, inr}
+use Rattle.std.proofs.Common.{◌≡◌, ℕ, zero, suc, Bool, true, false, List, [], ◌∷◌, get_or, Option, Some, refl, sym, ap, ◌∙◌, inl, inr, arith}
 use Rattle.std.proofs.lemmas.Bool.{true≢false, false≢true, and_parts, false_from_ne_true, or_cases}
 use Rattle.std.specs.Prelude.{◌⊎◌, not}
 use Rattle.std.specs.List.{list_all}
-use Rattle.exec_machine.specs.{declared.config.Configuration.Configuration, Callers.{is_half_done, may_go_on}, Progress.{all_asleep, is_down}, Tests.{has_ended, is_awake, is_open}, World.{no_seat, seat_of}}
+use Rattle.exec_machine.specs.{declared.config.Configuration.Configuration, Callers.{is_half_done, may_go_on}, Progress.{all_asleep, is_down}, Tests.{has_ended, is_open}, World.{seat_of}}
 use Rattle.exec_machine.specs.declared.state.Call.TheVariants as call
-use Rattle.exec_moves.specs.{declared.{handing.CallPlace.CallPlace, idling.Stay.Stay, place.Place.Place}, Plays.{Playing, caller_of}}
+use Rattle.exec_moves.specs.{declared.{handing.CallPlace.CallPlace, place.Place.Place}, Plays.{Playing, caller_of}}
 use Rattle.exec_machine.specs.Same.{is_none}
 use Rattle.exec_rest.specs.{AtRest.{IsPlaced, stays_closing}, Places.{call_owes, call_raises, call_signals, has_looked, is_abed, is_dry, is_in_call, is_published, is_withdrawing, owes, owes_nothing, raises, signals}, Rested.{IsLaidOut, IsOwed, IsPoolOpen, IsRaised, IsRestful, IsSignalled, NothingWaits, Someone, has_bit, is_in_pool, is_latched, place_at, sleeps}}
 
@@ -24,18 +24,12 @@ some_at_all o a none is = false≢true (sym (ap is_none is) ∙ none)
 
 pub none_or_some : {T : Type 0} (xs : List T) → (xs ≡ []) ⊎ (xs ≡ [] → ⊥)
 none_or_some [] = inl refl
-none_or_some (x ∷ xs) = inr (λ h. absurd (true≢false (ap (λ ys. is_cons ys) h)))
-  where
-    is_cons : {T : Type 0} → List T → Bool
-    is_cons [] = false
-    is_cons (y ∷ ys) = true
+none_or_some (x ∷ xs) = grind arith
 
 -- A PLACE AT WHICH IT SLEEPS
 
 abed_owes_nothing : (p : Place) → is_abed p ≡ true → owes_nothing p ≡ true
-abed_owes_nothing (Place.WordWait y) h = refl
-abed_owes_nothing (Place.RingWait y z) h = refl
-abed_owes_nothing _ h = absurd (false≢true h)
+abed_owes_nothing = grind arith
 
 record Abed (p : Place) : Type 0 where
   pub looked : has_looked p ≡ true
@@ -44,10 +38,7 @@ record Abed (p : Place) : Type 0 where
   pub dry : is_dry p ≡ true
 
 abed : (p : Place) → is_abed p ≡ true → stays_closing p ≡ false → Abed p
-abed (Place.WordWait y) h turn = record { looked = refl; published = refl; stays = refl; dry = refl }
-abed (Place.RingWait y Stay.Turn) h turn = record { looked = refl; published = refl; stays = refl; dry = refl }
-abed (Place.RingWait y Stay.Closing) h turn = absurd (true≢false turn)
-abed _ h turn = absurd (false≢true h)
+abed = grind arith
 
 -- who has no call half done owes nothing
 pub record NoCall (p : CallPlace) : Type 0 where
@@ -66,25 +57,13 @@ module _ (c : Configuration) (x : Playing) (held : IsRestful c x) (all : all_asl
 
   -- past the list of seats a worker has ended
   pub down : (i : ℕ) → (has_ended (seat_of x.world.common i).phase ≡ true) ⊎ ((is_open (seat_of x.world.common i).phase ≡ true) × (sleeps c x i ≡ true))
-  down i =
-      let seat = seat_of x.world.common i in
-      elim (or_cases (has_ended seat.phase) (is_open seat.phase && not (is_awake seat.rest)) (all_at is_down no_seat refl x.world.common.seats both.0 i)) [
-        | inl over ↦ inl over
-        | inr asleep ↦ inr (and_parts (is_open seat.phase) (not (is_awake seat.rest)) asleep)
-      ]
+  down = grind (arith, or_cases, all_at, both, and_parts)
 
   idle : (i : ℕ) → owes_nothing (place_at c x i) ≡ true
-  idle i = elim (down i) [
-    | inl over ↦ held.over i over
-    | inr asleep ↦ abed_owes_nothing (place_at c x i) (held.abed i asleep.1)
-  ]
+  idle = grind (arith, down, abed_owes_nothing, abed)
 
   idle_parts : (i : ℕ) → (is_none (signals (place_at c x i)) ≡ true) × (is_none (raises (place_at c x i)) ≡ true) × (not (owes (place_at c x i)) ≡ true)
-  idle_parts i =
-      let p = place_at c x i in
-      let it = and_parts (is_none (signals p) && is_none (raises p)) (not (owes p)) (idle i) in
-      let first = and_parts (is_none (signals p)) (is_none (raises p)) it.0 in
-      (first.0, first.1, it.1)
+  idle_parts = grind (arith, and_parts, idle)
 
   pub callers : (j : ℕ) → NoCall (caller_of x j).place
   callers j =

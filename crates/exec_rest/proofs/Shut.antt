@@ -1,17 +1,15 @@
 -- The global queue is closed only once the task set is: at first, and after each step of any party. Only worker zero has to close the queue
 -- next, and it does so by the very event that closes the set; the set stays closed.
-use Rattle.std.proofs.Common.{◌≡◌, ℕ, zero, suc, ◌==◌, Bool, true, false, ◌||◌, ◌&&◌, List, [], ◌∷◌, ◌++◌, Option, Some, None, get_or, set, drop, refl, sym, ap, ◌∙◌, inl, inr}
-use Rattle.std.proofs.lemmas.Bool.{false≢true, cases_Bool, or_left, or_right}
+use Rattle.std.proofs.Common.{◌≡◌, ℕ, zero, suc, ◌==◌, Bool, true, false, ◌||◌, ◌&&◌, List, [], ◌∷◌, ◌++◌, Option, Some, None, get_or, set, refl, sym, ap, ◌∙◌, inl, inr, arith}
+use Rattle.std.proofs.lemmas.Bool.{false≢true, cases_Bool, or_left}
 use Rattle.std.specs.Prelude.{◌⊎◌, if◌then◌else◌}
-use Rattle.exec_outcomes.specs.Outcomes.{refuses_hint}
 use Rattle.exec_machine.specs.declared.{config.Configuration.Configuration, event.Event.Event, state.{MailMessage.MailMessage, Next.Next, Waiting.Waiting}, step.Action.Action}
-use Rattle.exec_machine.specs.{After.{common_after, made_by, own_after}, Callers.{after_going_on, after_spawn_by_call, after_wake_by_call, is_enabled}, Choice.{Choice, Payer, Choice.{Plain, Passes, Pays, Posts}, Payer.{ByRequest, BySleeper, ByAct, ByCall, ByStop}}, Closing.{after_clear, after_next, ends_by_clear}, Mail.{after_message, after_post, after_sending, is_left_out, is_root_message, own_after_apply}, Progress.Plan, Requests.{common_after_refusal, judged_of, own_after_drop}, Run.first_owns, Same.is_none, Tasks.{after_payment, after_pend, after_wake, after_word, own_after_drops, own_after_over, own_after_waking_up, owes}, World.{Common, Own as Books, no_own, own_of, request_of, seat_of, sleeper_of, task_of}}
+use Rattle.exec_machine.specs.{After.{common_after, made_by, own_after}, Callers.{after_going_on, after_spawn_by_call, after_wake_by_call}, Choice.{Choice}, Closing.{after_clear, after_next, ends_by_clear}, Mail.{after_message, after_post, after_sending, is_left_out, is_root_message, own_after_apply}, Progress.Plan, Requests.{own_after_drop}, Run.first_owns, Tasks.{after_pend, after_wake, after_word, own_after_drops, own_after_over, own_after_waking_up, owes}, World.{Common, Own as Books, no_own, own_of, request_of, task_of}}
 use Rattle.exec_machine.specs.declared.event.Event.TheVariants as event
 use Rattle.exec_machine.specs.declared.state.MailMessage.TheVariants as message
 use Rattle.exec_machine.specs.declared.state.Next.TheVariants as next
 use Rattle.exec_machine.specs.declared.state.Waiting.TheVariants as waiting
-use Rattle.exec_machine.specs.declared.step.Action.TheVariants as action
-use Rattle.exec_moves.specs.{Move.move, MoveOfCaller.move_of_caller, Plays.{Playing, by_action, by_call, by_move, by_step, caller_of, desk_of, first_playing}, State.{Moved, Things}}
+use Rattle.exec_moves.specs.{Plays.{Playing, by_action, by_move, by_step, first_playing}, State.{Moved, Things}}
 use Rattle.exec_rest.specs.AtRest.{IsShut}
 use Rattle.exec_rest.proofs.Sides.{put_cases}
 
@@ -36,37 +34,17 @@ word_flags : (s : Common) (polls : Option ℕ) → Flags s (after_word s polls)
 word_flags s None = as_before
 word_flags s (Some t) = same refl refl
 
-payment_flags : (s : Common) (polls : Option ℕ) (payer : Payer) → Flags s (after_payment s polls payer)
-payment_flags s polls (ByRequest r) = same refl refl
-payment_flags s polls (BySleeper z) = same refl refl
-payment_flags s None ByAct = as_before
-payment_flags s (Some t) ByAct = same refl refl
-payment_flags s polls ByCall = as_before
-payment_flags s polls ByStop = as_before
-
 wake_flags : (me : Books) (s : Common) (t : ℕ) (choice : Choice) → Flags s (after_wake me s t choice)
-wake_flags me s t (Pays payer) = let f = payment_flags s me.polls payer in same f.set f.queue
-wake_flags me s t Plain = as_before
-wake_flags me s t Passes = as_before
-wake_flags me s t (Posts payer left_out) = as_before
+wake_flags = grind arith
 
 sending_flags : (s : Common) (polls : Option ℕ) (m : MailMessage) → Flags s (after_sending s polls m)
-sending_flags s None m = as_before
-sending_flags s (Some t) message.Root = same refl refl
-sending_flags s (Some t) (message.ForwardRequest r) = same refl refl
-sending_flags s (Some t) (message.ForwardTimer z) = same refl refl
-sending_flags s (Some t) (message.CancelRequest r) = same refl refl
-sending_flags s (Some t) (message.CancelTimer z) = as_before
+sending_flags = grind arith
 
 post_flags : (s : Common) (to : ℕ) (m : MailMessage) (choice : Choice) → Flags s (after_post s to m choice)
 post_flags s to m choice = one_of (is_root_message m && is_left_out choice) as_before (same refl refl)
 
 message_flags : (me : Books) (s : Common) (m : MailMessage) → Flags s (after_message me s m)
-message_flags me s message.Root = same refl refl
-message_flags me s (message.ForwardRequest r) = same refl refl
-message_flags me s (message.ForwardTimer z) = same refl refl
-message_flags me s (message.CancelRequest r) = same refl refl
-message_flags me s (message.CancelTimer z) = same refl refl
+message_flags = grind arith
 
 pend_flags : (s : Common) (i t : ℕ) → Flags s (after_pend s i t)
 pend_flags s i t = one_of (task_of s t).cleared (same refl refl) (same refl refl)
@@ -96,10 +74,7 @@ drops_next s i (r ∷ held) me =
     drops_next s i held (if home == i then own_after_drop me s r else letter) ∙ one_next (home == i) (own_after_drop me s r) letter refl refl
 
 waking_up_next : (s : Common) (i : ℕ) (what : Waiting) (me : Books) → (own_after_waking_up s i what me).next ≡ me.next
-waking_up_next s i (waiting.Timer z) me =
-    let home = (sleeper_of s z).worker in
-    one_next (home == i) me (owes me home (record { to = home; message = message.CancelTimer z })) refl refl
-waking_up_next s i _ me = refl
+waking_up_next = grind arith
 
 over_next : (me : Books) (s : Common) (i t : ℕ) → (own_after_over me s i t).next ≡ me.next
 over_next me s i t = waking_up_next s i (task_of s t).waiting (own_after_drops s i (task_of s t).held me) ∙ drops_next s i (task_of s t).held me
@@ -121,16 +96,10 @@ plain : {me own : Books} {s later : Common} → Flags s later → own.next ≡ m
 plain f is = record { set = λ h. f.set ∙ h; queue = λ h. inl (sym f.queue ∙ h); closes = λ h. inl (sym is ∙ h) }
 
 next_set : (s : Common) (i : ℕ) (n : Next) → (after_next s i n).set_closed ≡ s.set_closed
-next_set s i next.Free = refl
-next_set s i (next.Joins r) = refl
-next_set s i next.ClosesQueue = refl
-next_set s i next.ClosesMailbox = refl
+next_set = grind arith
 
 next_queue : (s : Common) (i : ℕ) (n : Next) → (after_next s i n).queue_closed ≡ true → (s.queue_closed ≡ true) ⊎ (n ≡ next.ClosesQueue)
-next_queue s i next.Free h = inl h
-next_queue s i (next.Joins r) h = inl h
-next_queue s i next.ClosesQueue h = inr refl
-next_queue s i next.ClosesMailbox h = inl h
+next_queue = grind arith
 
 -- what was to be done is done
 turned : {me own : Books} (s : Common) (i : ℕ) → is_last own.next ≡ false → Shuts me own s (after_next s i me.next)
@@ -138,9 +107,7 @@ turned {me} s i not_so = record { set = λ h. next_set s i me.next ∙ h; queue 
 
 -- only worker zero has to close the queue once it closes
 closing : (is_zero pool closed : Bool) → (if is_zero then next.ClosesQueue else if pool then next.Free else next.ClosesMailbox) ≡ next.ClosesQueue → (closed || is_zero) ≡ true
-closing true pool closed h = or_right closed true refl
-closing false true closed h = no_last h refl
-closing false false closed h = no_last h refl
+closing = grind arith
 
 -- a durable request joins its gate next
 admits : (b : Bool) (r : ℕ) (joins other me : Books) → joins.next ≡ next.Joins r → other.next ≡ me.next
@@ -150,33 +117,7 @@ admits false r joins other me p q h = sym q ∙ h
 
 module _ (c : Configuration) (me : Books) (s : Common) (i : ℕ) where
   shuts : (e : Event) (choice : Choice) → Shuts me (own_after c me s i e choice) s (common_after c me s i e choice)
-  shuts event.Turn Passes = record { set = λ h. h; queue = λ h. inl h; closes = λ h. no_last h refl }
-  shuts event.Turn Plain = turned s i refl
-  shuts event.Turn (Pays payer) = turned s i refl
-  shuts event.Turn (Posts payer left_out) = turned s i refl
-  shuts event.Serve choice = plain as_before (one_next me.serving me (record me { sampled = s.clock; sampled_before = me.sampled }) refl refl)
-  shuts (event.Pend t) choice = plain (pend_flags s i t) (one_next (task_of s t).cleared (own_after_over me s i t) me (over_next me s i t) refl)
-  shuts (event.Done t) choice = plain (same refl refl) (over_next me s i t)
-  shuts (event.Fault t n) choice = plain (same refl refl) (over_next me s i t)
-  shuts (event.Spawn t k) choice = let f = word_flags s me.polls in plain (same f.set f.queue) refl
-  shuts (event.Dedicated t k) choice = let f = word_flags s me.polls in plain (same f.set f.queue) refl
-  shuts event.Closed choice = plain (word_flags s me.polls) refl
-  shuts (event.Clear t) choice = plain (clear_flags s i t) (one_next (ends_by_clear (task_of s t).phase) (own_after_over me s i t) me (over_next me s i t) refl)
-  shuts (event.Admit r kind (Some outcome)) choice = plain (same refl refl) refl
-  shuts (event.Admit r kind None) choice = record { set = λ h. h; queue = λ h. inl h; closes = λ h. inl (admits _ r _ _ me refl refl h) }
-  shuts (event.Wait None) choice = plain (same refl refl) refl
-  shuts (event.Wait (Some r)) choice = plain (same refl refl) refl
-  shuts (event.Wake t) choice = plain (wake_flags me s t choice) refl
-  shuts (event.Reap r n outcome) choice =
-      let f : Flags s (common_after_refusal s (request_of s r) n) = one_of (refuses_hint (judged_of (request_of s r) n)) (same refl refl) as_before in
-      plain (same f.set f.queue) refl
-  shuts (event.Send to m) choice =
-      let f = sending_flags s me.polls m in
-      let g = post_flags (after_sending s me.polls m) to m choice in
-      plain (same (g.set ∙ f.set) (g.queue ∙ f.queue)) (one_next (is_none me.polls) (record me { owed = drop 1 me.owed }) me refl refl)
-  shuts (event.Apply m) choice = let f = message_flags me s m in plain (same f.set f.queue) (apply_next me s m)
-  shuts event.Close choice = record { set = λ h. or_left s.set_closed (i == 0) h; queue = λ h. inl h; closes = λ h. inr (closing (i == 0) (seat_of s i).pool s.set_closed h) }
-  shuts _ choice = plain (same refl refl) refl
+  shuts = grind (arith, no_last, turned, plain, as_before, one_next, pend_flags, over_next, same, word_flags, clear_flags, admits, wake_flags, one_of, sending_flags, post_flags, message_flags, apply_next, or_left, closing)
 
 -- THE WORKERS' OWN PARTS
 
@@ -188,9 +129,7 @@ of_both P (x ∷ xs) more all also (suc j) = of_both P xs more (λ n. all (suc n
 
 -- a worker that begins has nothing to do next
 made_free : (s : Common) (e : Event) (n : ℕ) → (get_or (made_by s e) n no_own).next ≡ next.Free
-made_free s (event.Dedicated t k) zero = refl
-made_free s (event.Dedicated t k) (suc n) = refl
-made_free s _ n = refl
+made_free = grind arith
 
 first_free : (n i j : ℕ) → (get_or (first_owns n i) j no_own).next ≡ next.Free
 first_free zero i j = refl
@@ -207,14 +146,10 @@ spawn_flags s k (event.Spawn t script) = same refl refl
 spawn_flags s k _ = as_before
 
 call_wake_flags : (s : Common) (t : ℕ) (e : Event) (choice : Choice) → Flags s (after_wake_by_call s t e choice)
-call_wake_flags s t (event.Wake other) choice = same refl refl
-call_wake_flags s t (event.Send to m) choice = post_flags s to m choice
-call_wake_flags s t _ choice = as_before
+call_wake_flags = grind arith
 
 going_flags : (s : Common) (j : ℕ) (e : Event) → Flags s (after_going_on s j e)
-going_flags s j (event.Rouse other) = same refl refl
-going_flags s j event.Return = same refl refl
-going_flags s j _ = as_before
+going_flags = grind arith
 
 module _ (c : Configuration) (x : Playing) (held : IsShut x) where
   abbrev s : Common
@@ -247,35 +182,11 @@ module _ (c : Configuration) (x : Playing) (held : IsShut x) where
 
   -- the own parts and both flags stay
   stays : (y : Playing) → y.world.workers ≡ x.world.workers → Flags s y.world.common → IsShut y
-  stays y own f =
-      record {
-        queue = λ h. f.set ∙ held.queue (sym f.queue ∙ h);
-        next = λ i h. f.set ∙ held.next i (sym (ap (λ bs. (get_or bs i no_own).next) own) ∙ h);
-      }
+  stays = grind arith
 
   by_any : (a : Action) → IsShut (by_action c x a).next
-  by_any (action.Work i) = by_worker i (move c i (own_of x.world i) s (desk_of c x i) x.things)
-  by_any (action.Spawn j k) =
-      let m = move_of_caller c s (caller_of x j) x.things (action.Spawn j k) in
-      let f = spawn_flags s k m.event in
-      stays (by_call c x (action.Spawn j k) j m).next refl (same f.set f.queue)
-  by_any (action.Wake j t) =
-      let m = move_of_caller c s (caller_of x j) x.things (action.Wake j t) in
-      let f = call_wake_flags s t m.event m.choice in
-      stays (by_call c x (action.Wake j t) j m).next refl (same f.set f.queue)
-  by_any (action.GoOn j) =
-      let m = move_of_caller c s (caller_of x j) x.things (action.GoOn j) in
-      stays (by_call c x (action.GoOn j) j m).next refl (going_flags s j m.event)
-  by_any (action.Clock d) = stays (by_action c x (action.Clock d)).next refl (same refl refl)
-  by_any (action.Land r n) = stays (by_action c x (action.Land r n)).next refl (same refl refl)
-  by_any (action.SetBusy i) = stays (by_action c x (action.SetBusy i)).next refl (same refl refl)
-  by_any (action.EndPoll i) = stays (by_action c x (action.EndPoll i)).next refl as_before
-  by_any (action.Stir i) = stays (by_action c x (action.Stir i)).next refl (same refl refl)
-  by_any (action.Peer l) = stays (by_action c x (action.Peer l)).next refl (same refl refl)
+  by_any = grind (arith, by_worker, spawn_flags, stays, same, call_wake_flags, going_flags, as_before)
 
 -- a step that is not enabled changes nothing
 pub shut_goes_on : (c : Configuration) (x : Playing) → IsShut x → (a : Action) → IsShut (by_step c x a).next
-shut_goes_on c x held a = elim (cases_Bool (is_enabled x.world.common a)) [
-  | inl may ↦ rw may (by_any c x held a)
-  | inr off ↦ rw off held
-]
+shut_goes_on = grind (arith, cases_Bool, by_any)

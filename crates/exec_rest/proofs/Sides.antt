@@ -27,10 +27,7 @@ put_cases [] i j a e = inl refl
 put_cases (x ∷ xs) zero zero a e = inr (refl, omega arith, refl)
 put_cases (x ∷ xs) zero (suc j) a e = inl refl
 put_cases (x ∷ xs) (suc i) zero a e = inl refl
-put_cases (x ∷ xs) (suc i) (suc j) a e = elim (put_cases xs i j a e) [
-  | inl h ↦ inl h
-  | inr h ↦ inr (ap suc h.0, omega (arith, h.1), h.2)
-]
+put_cases (x ∷ xs) (suc i) (suc j) a e = grind (arith, put_cases xs i j a e)
 
 -- what happens to a wake poll, with what has landed: what holds of it still does
 pub record Keeps (w v : WakePoll) (landed landed' : List ℕ) : Type 0 where
@@ -51,9 +48,7 @@ unreaped s i _ h = refl
 
 -- a mute event is none of those that count
 pub mute_tame : (e : Event) → is_mute e ≡ true → is_tame e ≡ true
-mute_tame End h = absurd (false≢true h)
-mute_tame (Dedicated t k) h = absurd (false≢true h)
-mute_tame _ h = refl
+mute_tame = grind arith
 
 pub mute_unreaped : (e : Event) → is_mute e ≡ true → is_unreaped e ≡ true
 mute_unreaped (Reap r n outcome) h = absurd (false≢true h)
@@ -104,32 +99,7 @@ module _ (R : Type 0) (i : ℕ) (s : Common) (d : Desk) (x : Things) (m : Moved 
     pub tame : is_tame m.event ≡ true
 
   pub of_all : OfIdleSet → OfWords → OfRings → Itself → Heeds R i s d x m
-  of_all idles words rings self =
-      record {
-        bit_in = idles.bit_in;
-        bit_out = idles.bit_out;
-        unpublished = idles.unpublished;
-        published = idles.published;
-        bits = idles.bits;
-        looked = idles.looked;
-        global = idles.global;
-        owing = idles.owing;
-        targets = words.targets;
-        waits = words.waits;
-        latch_in = words.latch_in;
-        latch_out = words.latch_out;
-        signalling = words.signalling;
-        rouses = rings.rouses;
-        polls = rings.polls;
-        raising = rings.raising;
-        rings = rings.rings;
-        queues = λ j apart h. rw (self.queues j) h;
-        dry = λ pool before h. rw (self.queues i) (before (self.dry pool h));
-        pooled = self.pooled;
-        sleep = rings.sleep;
-        ends = λ h. absurd (true≢false (sym self.tame ∙ ap is_tame h));
-        born = λ t k h. absurd (true≢false (sym self.tame ∙ ap is_tame h));
-      }
+  of_all = grind arith
 
   -- WHERE NOTHING OF THAT CHANGES
 
@@ -139,51 +109,19 @@ module _ (R : Type 0) (i : ℕ) (s : Common) (d : Desk) (x : Things) (m : Moved 
 
   -- from a place of no wait to another one
   pub same_bits : Nearly s i p → Nearly s i q → y.idle.published ≡ x.idle.published → ((y.global ≡ [] → ⊥) → (x.global ≡ [] → ⊥) ⊎ (owes q ≡ true)) → (owes p ≡ true → (owes q ≡ true) ⊎ ((j : ℕ) → is_in y.idle.published j ≡ false)) → OfIdleSet
-  same_bits from to bits global owing =
-      record {
-        bit_in = λ j h. inl (rw (← bits) h);
-        bit_out = λ j h gone. absurd (true≢false (sym h ∙ ap (λ b. is_in b j) (sym bits) ∙ gone));
-        unpublished = λ pool h. absurd (false≢true (sym from.published ∙ h));
-        published = λ pool within h. absurd (false≢true (sym to.published ∙ h));
-        bits = ap length bits;
-        looked = λ pool h. absurd (false≢true (sym to.looked ∙ h));
-        global = global;
-        owing = λ h. elim (owing h) [ inl k ↦ inl k | inr none ↦ inr (inl none) ];
-      }
+  same_bits = grind arith
 
   pub no_idles : Nearly s i p → Nearly s i q → owes p ≡ false → y.idle.published ≡ x.idle.published → ((y.global ≡ [] → ⊥) → x.global ≡ [] → ⊥) → OfIdleSet
   no_idles from to owes_not bits global = same_bits from to bits (λ some. inl (global some)) (λ h. absurd (false≢true (sym owes_not ∙ h)))
 
   pub no_words : waits_on q ≡ target.None → signals p ≡ None → ((j : ℕ) → word_of y j ≡ word_of x j) → OfWords
-  no_words quiet no_signal same =
-      record {
-        targets = λ j apart. ap (λ w. w.target) (same j);
-        waits = λ within before h. absurd (h quiet);
-        latch_in = λ j h. inl (sym (ap (λ w. w.latch) (same j)) ∙ h);
-        latch_out = λ j h gone. absurd (true≢false (sym h ∙ sym (ap (λ w. w.latch) (same j)) ∙ gone));
-        signalling = λ j h within. absurd (some_none (sym h ∙ no_signal));
-      }
+  no_words = grind arith
 
   pub near_rings : Nearly s i q → Keeps (wake_poll_of x i) (wake_poll_of y i) (seat_of s i).landed (landed_after s i m.event) → Rings R d (ring_of s x i) (word_of x i).latch → Rings R m.desk (ring_after i s m) (word_of y i).latch
-  near_rings to k rings =
-      record {
-        entering = λ h. absurd (false≢true (sym to.to_enter ∙ h));
-        sleeping = λ h. absurd (false≢true (sym to.to_sleep ∙ h));
-        asked = λ h. absurd (false≢true (sym to.asked ∙ h));
-        polled = λ h. absurd (false≢true (sym to.to_sleep ∙ h));
-        kept = k.kept rings.kept;
-        ended = k.ended rings.ended;
-      }
+  near_rings = grind arith
 
   pub still_rings : Nearly s i q → raises p ≡ None → ((j : ℕ) → wake_poll_of y j ≡ wake_poll_of x j) → is_unreaped m.event ≡ true → ((until : Option ℕ) → m.event ≡ Sleep until → ⊥) → OfRings
-  still_rings to no_raise same reaps_not wakes =
-      record {
-        rouses = λ j ring h. absurd (some_none (sym h ∙ no_raise));
-        polls = λ j apart. inl (same j);
-        raising = λ j h within. absurd (some_none (sym h ∙ no_raise));
-        rings = λ within. near_rings to (rw (same i, unreaped s i m.event reaps_not) (keeps (wake_poll_of x i) (seat_of s i).landed));
-        sleep = λ until h. absurd (wakes until h);
-      }
+  still_rings = grind arith
   -- the same desk, at a place that is known
 
 pub at_place : (R : Type 0) (i : ℕ) (s : Common) (d : Desk) (x : Things) (f : Desk → Moved Things) (p : Place) → d.place ≡ p → Heeds R i s (record d { place = p }) x (f (record d { place = p })) → Heeds R i s d x (f d)

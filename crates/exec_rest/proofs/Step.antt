@@ -1,5 +1,5 @@
 -- One step of any party keeps what holds, and so it holds along every log by moves.
-use Rattle.std.proofs.Common.{◌≡◌, ℕ, true, refl, sym, ◌∙◌, inl, inr}
+use Rattle.std.proofs.Common.{◌≡◌, ℕ, true, refl, sym, ◌∙◌, inl, inr, arith}
 use Rattle.std.proofs.lemmas.Bool.{cases_Bool}
 use Rattle.exec_machine.specs.{declared.{config.Configuration.Configuration, step.Action.Action}, Callers.is_enabled, World.{Common, Own as Books, own_of}}
 use Rattle.exec_machine.specs.declared.step.Action.TheVariants as action
@@ -65,24 +65,11 @@ module _ (c : Configuration) (x : Playing) (laid : IsLaidOut c x) (held : IsRest
       }
 
   pub by_any : (a : Action) → is_enabled x.world.common a ≡ true → IsRestful c (by_action c x a).next
-  by_any (action.Work i) may = by_work i may
-  by_any (action.Spawn j k) may = by_caller c x laid held (action.Spawn j k) refl may
-  by_any (action.Wake j t) may = by_caller c x laid held (action.Wake j t) refl may
-  by_any (action.GoOn j) may = by_caller c x laid held (action.GoOn j) refl may
-  by_any (action.Clock d) may = by_other c x laid held (action.Clock d) refl may
-  by_any (action.Land r n) may = by_other c x laid held (action.Land r n) refl may
-  by_any (action.SetBusy i) may = by_other c x laid held (action.SetBusy i) refl may
-  by_any (action.EndPoll i) may = by_other c x laid held (action.EndPoll i) refl may
-  by_any (action.Stir i) may = by_other c x laid held (action.Stir i) refl may
-  by_any (action.Peer l) may = by_other c x laid held (action.Peer l) refl may
+  by_any = grind (arith, by_work, by_caller, by_other)
 
   -- a step that is not enabled changes nothing
   pub goes_on : (a : Action) → IsRestful c (by_step c x a).next
-  goes_on a =
-      elim (cases_Bool (is_enabled x.world.common a)) [
-        | inl may ↦ rw may (by_any a may)
-        | inr off ↦ rw off held
-      ]
+  goes_on = grind (arith, cases_Bool, by_any)
 
   -- MESSAGES
 

@@ -1,19 +1,15 @@
 -- Whose last test found nothing to do still has nothing to do: nobody comes to such a place but from the test or from another
 -- such place, and on the way nothing comes in.
-use Rattle.std.proofs.Common.{◌≡◌, ℕ, ◌<◌, ◌==◌, Bool, true, false, ◌&&◌, ◌||◌, List, [], ◌∷◌, length, Option, Some, None, refl, sym, ◌∙◌, subst, inl, inr, if◌then◌else◌}
-use Rattle.std.proofs.lemmas.Bool.{true≢false, false≢true, and_parts, cases_Bool, cases_eq}
-use Rattle.std.specs.Prelude.{nat_lt, not}
-use Rattle.exec_words.specs.{Queue.{head_of}, Word.{is_idle_at}, declared.word.PureWord.PureWord}
-use Rattle.exec_machine.specs.{declared.{config.{Configuration.Configuration}, event.Event.TheVariants.{Dedicated, Sleep, Turn}, state.{MailMessage.MailMessage}}, Callers.{is_enabled, is_held}, Deadlines.next_due, Ranges.ring_size, Tests.{has_ended, is_awake, is_empty}, World.{Common, seat_of, own_of, Own as Books}}
+use Rattle.std.proofs.Common.{◌≡◌, ℕ, ◌<◌, Bool, true, false, ◌||◌, List, [], length, refl, sym, ◌∙◌, subst, inl, inr, if◌then◌else◌, arith}
+use Rattle.std.proofs.lemmas.Bool.{false≢true, cases_Bool, cases_eq}
+use Rattle.std.specs.Prelude.{not}
+use Rattle.exec_words.specs.{declared.word.PureWord.PureWord}
+use Rattle.exec_machine.specs.{declared.{config.{Configuration.Configuration}, event.Event.TheVariants.{Dedicated, Sleep, Turn}, state.{MailMessage.MailMessage}}, Callers.{is_enabled}, Deadlines.next_due, Tests.{has_ended, is_empty}, World.{Common, seat_of, own_of, Own as Books}}
 use Rattle.exec_machine.specs.declared.step.Action.TheVariants as action
 use Rattle.exec_moves.specs.declared.idling.{InLook.InLook, InRingWait.InRingWait, InScan.InScan, InSearch.InSearch, InWordWait.InWordWait, Stay.Stay}
 use Rattle.exec_moves.specs.declared.place.{Found.Found, Place.Place}
-use Rattle.exec_moves.specs.{Callback.{has_callbacks, is_full}, Load.{has_come, has_mail, has_submissions, is_ready, leaves_for_turn, test_for_work}, Look.{look_at_mirror}, Move.{move, move_at, move_look, move_ring_wait, move_scan, move_search, move_word_wait}, Plays.{Playing, by_move, desk_of}, Pop.{same_head}, Serve.{Ring, enter}, State.{Desk, Moved, Own, Things, does, queue_of, turns, word_of}, Submit.{one_more}, Thing.ring_of, Search.from_of, Wait.{after_sleep, has_completion, noting_sleep}}
-use Rattle.exec_moves.specs.declared.idling.InLook.TheVariants as look
-use Rattle.exec_moves.specs.declared.idling.InRingWait.TheVariants as ring
-use Rattle.exec_moves.specs.declared.idling.InScan.TheVariants as scan
+use Rattle.exec_moves.specs.{Callback.{has_callbacks}, Load.{has_come, has_submissions, is_ready, leaves_for_turn, test_for_work}, Move.{move, move_at, move_look, move_ring_wait, move_scan, move_search, move_word_wait}, Plays.{Playing, by_move, desk_of}, State.{Desk, Moved, Own, Things, does, turns}, Wait.{noting_sleep}}
 use Rattle.exec_moves.specs.declared.idling.InSearch.TheVariants as search
-use Rattle.exec_moves.specs.declared.idling.InWordWait.TheVariants as word
 use Rattle.exec_moves.specs.declared.place.Place.TheVariants as at
 use Rattle.exec_rest.specs.{Posted.has_tested, Rested.{IsLaidOut, place_at}}
 use Rattle.exec_rest.proofs.Continuing.{calm_leaves_for_turn}
@@ -33,70 +29,27 @@ left_if : {T : Type 0} (d : Desk) (b : Bool) (m m' : Moved T) → IsLeft d m.des
 left_if d true m m' one other = one
 left_if d false m m' one other = other
 
-left_desk_if : (d : Desk) (b : Bool) (e f : Desk) → IsLeft d e → IsLeft d f → IsLeft d (if b then e else f)
-left_desk_if d true e f one other = one
-left_desk_if d false e f one other = other
-
 module _ (c : Configuration) (i : ℕ) (me : Books) (s : Common) (d : Desk) (x : Things) where
   searches : (p : InSearch) → IsLeft d (move_search c d x p).desk
   searches search.LoadSearchCount = (refl, refl)
   searches search.AddSearchCount = (refl, refl)
 
   scans : (p : InScan) → IsLeft d (move_scan c i me s d x p).desk
-  scans scan.LoadScanHead = (refl, refl)
-  scans (scan.LoadTheirHead y) = (refl, refl)
-  scans (scan.LoadTheirTail y h) = (refl, refl)
-  scans (scan.ClaimHalf y h tail) = left_if d (same_head h (head_of (queue_of x (from_of c y)))) _ _ (refl, refl) (refl, refl)
-  scans (scan.MoveHalf from h) = (refl, refl)
-  scans (scan.ReleaseHalf from h) = left_if d (same_head h (head_of (queue_of x from))) _ _ (refl, refl) (refl, refl)
-  scans scan.StoreMoved = (refl, refl)
-
-  looks_at_mirror : (last : Bool) (g : List ℕ) → IsLeft d (look_at_mirror last d g).desk
-  looks_at_mirror last [] = (refl, refl)
-  looks_at_mirror last (t ∷ g) = (refl, refl)
+  scans = grind arith
 
   looks : (p : InLook) → IsLeft d (move_look c i s d x p).desk
-  looks look.Publish = (refl, refl)
-  looks look.ReturnLookCount = (refl, refl)
-  looks (look.LookAtMirror last) = looks_at_mirror last x.global
-  looks look.LookAtCount = (refl, refl)
-  looks (look.LookAtHead j) = (refl, refl)
-  looks (look.LookAtTail j h) = (refl, refl)
-  looks look.ExchangeLookCount = left_if d (x.idle.count == 0) _ _ (refl, refl) (refl, refl)
-  looks look.ReturnClaimed = (refl, refl)
-
-  entered : (e : Desk) (r : Ring) → IsLeft e (enter me e r).desk
-  entered e r = left_if e r.busy _ _ (refl, refl) (refl, refl)
+  looks = grind arith
 
   waits_on_ring : (p : InRingWait) (y : Stay) → IsLeft d (move_ring_wait c i me s d x p y).desk
-  waits_on_ring ring.EnterFullRing y = entered (record d { place = at.RingWait ring.TestRing y }) (ring_of s x i)
-  waits_on_ring ring.TestRing y =
-      left_if d (has_submissions c me || (not d.polled && is_full (ring_size c) d)) _ _ (refl, refl)
-      (left_desk_if d (d.polled || is_full (ring_size c) d) d (record (one_more d) { polled = true }) (refl, refl) (refl, refl))
-  waits_on_ring ring.ArmRing y = (refl, refl)
-  waits_on_ring ring.EnterRing y = entered d (ring_of s x i)
-  waits_on_ring ring.SleepOnRing y =
-      left_if d (has_completion d (ring_of s x i)) _ _ (refl, refl) (left_if d (has_come s.clock (next_due s i)) _ _ (refl, refl) (refl, refl))
-  waits_on_ring (ring.DisarmRing n) y = (refl, refl)
+  waits_on_ring = grind arith
 
   -- the moment of a sleep is noted
   noted : (w : PureWord) (due : Bool) (e : Desk) → IsLeft e (noting_sleep s.clock (if due then does Turn e w else does (Sleep (next_due s i)) e w)).desk
   noted w true e = (refl, refl)
   noted w false e = (refl, refl)
 
-  slept : (signalled : Bool) (since : Option ℕ) → IsLeft d (after_sleep s.clock signalled since d)
-  slept true (Some since) = (refl, refl)
-  slept true None = (refl, refl)
-  slept false since = (refl, refl)
-
   waits_on_word : (p : InWordWait) → IsLeft d (move_word_wait i s d x p).desk
-  waits_on_word (word.SpinOnBatch left) = left_desk_if d (has_mail d (word_of x i)) _ _ (refl, refl) (refl, refl)
-  waits_on_word (word.SpinOnLatch left) = left_desk_if d (word_of x i).latch _ _ (refl, refl) (left_desk_if d (nat_lt 1 left) _ _ (refl, refl) (refl, refl))
-  waits_on_word word.TakeLatch = (refl, refl)
-  waits_on_word word.ArmWord = (refl, refl)
-  waits_on_word word.SleepOnWord =
-      left_if d (is_idle_at (word_of x i) d.processed) _ _ (noted (word_of x i) (has_come s.clock (next_due s i)) (record d { place = at.WordWait word.DisarmWord })) (refl, refl)
-  waits_on_word word.DisarmWord = slept (word_of x i).latch d.slept
+  waits_on_word = grind arith
 
   left_there : (p : Place) → has_tested p ≡ true → IsLeft d (move_at c i me s d x p).desk
   left_there at.ReadClock within = left_if d (has_come s.clock (next_due s i)) _ _ (refl, refl) (refl, refl)
@@ -110,11 +63,7 @@ module _ (c : Configuration) (i : ℕ) (me : Books) (s : Common) (d : Desk) (x :
 
   -- FROM THE TEST: it finds nothing
   clear_by : (found flag calls work : Bool) (ms : List MailMessage) → ((found || flag || calls || not (is_empty ms)) || work) ≡ false → (flag ≡ false) × (ms ≡ [])
-  clear_by true flag calls work ms h = absurd (true≢false h)
-  clear_by false true calls work ms h = absurd (true≢false h)
-  clear_by false false true work ms h = absurd (true≢false h)
-  clear_by false false false work [] h = (refl, refl)
-  clear_by false false false work (m ∷ ms) h = absurd (true≢false h)
+  clear_by = grind arith
 
   tested_now : (f : Found) → has_tested (test_for_work c i me s f d).desk.place ≡ true → IsClear (test_for_work c i me s f d).desk
   tested_now f = by (is_ready me f d || has_submissions c me) (clear_by f.ready d.root_ready (has_callbacks me d) (has_submissions c me) d.batch)
@@ -132,10 +81,7 @@ module _ (c : Configuration) (i : ℕ) (me : Books) (s : Common) (d : Desk) (x :
   pub tested_move : (has_tested d.place ≡ true → IsClear d) → has_tested (move c i me s d x).desk.place ≡ true → IsClear (move c i me s d x).desk
   tested_move before after = elim (cases_Bool (has_tested d.place)) [
     | inl within ↦ let same = left_there d.place within in let clear = before within in (same.0 ∙ clear.0, same.1 ∙ clear.1)
-    | inr out ↦ elim (cases_Bool (is_test d.place)) [
-      | inl is ↦ tested_by d.place is after
-      | inr other ↦ absurd (false≢true (sym (untested c i me s d x out d.place out other) ∙ after))
-    ]
+    | inr out ↦ grind (arith, cases_Bool, is_test, tested_by, false≢true, untested)
   ]
 
 -- A STEP OF A WORKER, after which all others stand where they stood
@@ -151,9 +97,7 @@ module _ (c : Configuration) (x : Playing) (laid : IsLaidOut c x) (i : ℕ) (may
 
   -- it hasn't ended, and so it is one of the workers
   going : not (has_ended (seat_of s i).phase) ≡ true
-  going =
-      (and_parts (is_awake (seat_of s i).rest) (not (has_ended (seat_of s i).phase))
-      (and_parts (is_awake (seat_of s i).rest && not (has_ended (seat_of s i).phase)) (not (is_held s (seat_of s i))) may).0).1
+  going = grind arith
 
   within : i < length x.desks
   within = subst (λ n. i < n) (sym laid.desks) (seated s (λ seat. not (has_ended seat.phase)) true false≢true i going)

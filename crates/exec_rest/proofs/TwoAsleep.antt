@@ -20,9 +20,7 @@ seen (suc zero) = Place.WordWait InWordWait.DisarmWord
 seen (suc (suc i)) = Place.BeginTurn
 
 by_place : (P : Place → Type 0) → P (Place.WordWait InWordWait.DisarmWord) → P Place.BeginTurn → (i : ℕ) → P (seen i)
-by_place P here past zero = here
-by_place P here past (suc zero) = here
-by_place P here past (suc (suc i)) = past
+by_place = grind arith
 
 place : (i : ℕ) → place_at two rested i ≡ seen i
 place zero = refl
@@ -132,28 +130,13 @@ two_of_each : AreTwo
 two_of_each = record { seats = refl; desks = refl; queues = refl; words = refl; polls = refl; boxes = refl; callers = refl; calls = refl }
 
 laid : IsLaidOut two rested
-laid =
-    let n = two_of_each in
-    record {
-      desks = n.desks ∙ sym n.seats;
-      queues = n.queues ∙ sym n.seats;
-      words = n.words ∙ sym n.seats;
-      polls = n.polls ∙ sym n.seats;
-      boxes = n.boxes ∙ sym n.seats;
-      callers = n.callers ∙ sym n.calls;
-      bits = refl;
-      some = refl;
-      pool = first_ones;
-    }
+laid = grind (arith, two_of_each, bits, first_ones)
 
 -- who has ended would stand past the list
 over : (i : ℕ) → i < length rested.desks → has_ended (seat_of rested.world.common i).phase ≡ true → is_end (place_at two rested i) ≡ true
 over zero lt ended = absurd (false≢true ended)
 over (suc zero) lt ended = absurd (false≢true ended)
-over (suc (suc i)) lt ended = absurd (past lt)
-  where
-    past : suc (suc i) < 2 → ⊥
-    past lt = omega (arith, lt)
+over (suc (suc i)) lt ended = grind arith
 
 hands : (i : ℕ) → is_idle (place_at two rested i) ≡ true → ((desk_of two rested i).hand ≡ None) × ((desk_of two rested i).loot ≡ [])
 hands zero h = (refl, refl)

@@ -1,5 +1,5 @@
 -- The advance of the wheel in a service.
-use Rattle.std.proofs.{Common.{◌≡◌, ℕ, ◌-◌, ◌/◌, ◌<◌, ◌≤◌, Bool, true, false, List, [], ◌∷◌, ◌++◌, Option, Some, None, refl, sym, ap, subst, ◌∙◌, arith, nat_le, nat_lt, if◌then◌else◌, is_some}, lemmas.{Bool.{false≢true, Decides.nat_tests}, Nat.le-div}, Math.Nat.div-mul-le_self}
+use Rattle.std.proofs.{Common.{◌≡◌, ℕ, ◌-◌, ◌/◌, ◌<◌, ◌≤◌, Bool, true, false, List, [], ◌∷◌, ◌++◌, Option, Some, None, refl, sym, ap, subst, ◌∙◌, arith, nat_le, nat_lt, if◌then◌else◌, is_some}, lemmas.{Bool.{false≢true, Decides.nat_tests}}}
 use Rattle.exec_base.specs.{Slab.Slab, declared.slab.Id.Id}
 use Rattle.exec_time.specs.{Wheel.{Wheel, tick_at, least_active}, Turning.{advanced, turned, turned_out}}
 use Rattle.exec_waiters.specs.{States.{waiter_at, tick_in}, declared.{waiter.{Entry.Entry, Waiter.Waiter}, waiter_id.WaiterId.WaiterId}}
@@ -42,21 +42,10 @@ advances w now = advanced_by w now (nat_le (tick_at w now) w.current) refl
 
 -- it goes on from a moment to a later one
 later_tick : (start tick before now : ℕ) → 0 < tick → before ≤ now → (before - start) / tick ≤ (now - start) / tick
-later_tick start tick before now some after =
-    let under = div-mul-le_self (before - start) tick in
-    le-div ((before - start) / tick) (now - start) tick some (omega (arith, under, after))
+later_tick = grind arith
 
 pub wheel_advances : (c : Configuration) (start before now : ℕ) (w : Wheel) → 0 < c.tick → before ≤ now → IsWheelAt c start before w → IsWheelAt c start now (advanced w now).wheel
-wheel_advances c start before now w some after at =
-    let on = advances w now in
-    let there : tick_at w now ≡ (now - start) / c.tick = rw (at.start, at.tick) refl in
-    record {
-      start = on.start ∙ at.start;
-      tick = on.tick ∙ at.tick;
-      horizon = on.horizon ∙ at.horizon;
-      slots = on.slots ∙ at.slots;
-      current = on.current (rw (at.current, there) (later_tick start c.tick before now some after)) ∙ there;
-    }
+wheel_advances = grind (arith, advances, later_tick)
 
 -- THE LISTS: only of what is due there is more
 
@@ -84,10 +73,7 @@ module _ {S F : Type 0} where
   with_wheel d w ids = record d { wheel = w; lists = record d.lists { due = ids } }
 
   pub advanced_shows : (d : Driving S F) (now : ℕ) → (w : Wheel) × (ids : List WaiterId) × (advanced_to d now ≡ with_wheel d (record w { ready = [] }) ids) × (w ≡ (advanced d.wheel now).wheel) × (ids ≡ (all_due d.requests (advanced d.wheel now).wheel.ready d.lists).due)
-  advanced_shows d now =
-      let turned = (advanced d.wheel now).wheel in
-      let lists = all_due d.requests turned.ready d.lists in
-      (turned, lists.due, ap (λ (l : Lists). record d { wheel = record turned { ready = [] }; lists = l }) (all_fall d.requests turned.ready d.lists), refl, refl)
+  advanced_shows = grind (arith, all_fall)
 
 -- A STEP
 

@@ -1,13 +1,13 @@
 -- The end of the stagings of a service.
 use Rattle.std.proofs.{Common.{◌≡◌, ℕ, ◌+◌, ◌==◌, ◌&&◌, ◌||◌, Bool, true, false, not, List, [], ◌∷◌, ◌++◌, length, Option, None, refl, sym, ap, subst, ◌∙◌, arith, nat_lt, if◌then◌else◌}, lemmas.{Bool.false≢true, List.length-append}}
-use Rattle.exec_ring.specs.{Kernels.{all_taken, entered as entered_ring}, Rings.RingState, declared.completion.Submission.Submission}
-use Rattle.exec_waiters.specs.{States.{pending_count, flying_count}, Told.is_untold, declared.waiter_id.WaiterId.WaiterId}
+use Rattle.exec_ring.specs.{declared.completion.Submission.Submission}
+use Rattle.exec_waiters.specs.{States.{pending_count}, Told.is_untold}
 use Rattle.exec_driver.specs.{Driving.{Driving, has_pending, may_stage_one, is_full as is_ring_full}, Steps.{wake_entry, lowest_gate, poll_staged}}
 use Rattle.exec_task.specs.declared.body.Said.{Said}
 use Rattle.exec_machine.specs.{declared.{config.Configuration.Configuration, event.Event.{Event, TheVariants.{Serve, Busy}}, state.MailMessage.MailMessage}, Choice.Choice.Plain, Progress.Plan, Ranges.ring_size}
-use Rattle.exec_moves.specs.{Callback.{has_requests, has_callbacks, is_full}, Load.has_submissions, Serve.{Ring, enter, enters, after_staging}, Move.{move_at, move_submit}, Seen.serves_at, State.Desk, Submit.{stage_next, staging_due, request_due, with_poll, Due.{Ends, Flushes}}, Thing.{ring_of, set_wake_poll, with_ring}, declared.place.{InService.InService, Service.Service, Place.Place, Reaping.Reaping}}
+use Rattle.exec_moves.specs.{Callback.{has_requests, is_full}, Serve.{Ring, enter, enters, after_staging}, Move.{move_at, move_submit}, Seen.serves_at, State.Desk, Submit.{stage_next, staging_due, request_due, with_poll, Due.{Ends, Flushes}}, Thing.{ring_of, set_wake_poll, with_ring}, declared.place.{InService.InService, Service.Service, Place.Place, Reaping.Reaping}}
 use Rattle.exec_invariants.proofs.Keeping.{SameButRing, keeps_ring, same_ring}
-use Rattle.exec_parts.specs.{declared.parts.{mail.Reply.Reply, shared.Shared.Shared, worker.{PutOff.PutOff, Worker.Worker}}, Raises.{Enters, TakesRaises}, Serving.{AreTagged, EntersRing, cancels_in, enters_after, with_staging_ended}, Spots.Spot, Submitting.{EndsStaging, with_wake_poll, must_flush, after_flush}, Tests.{has_open_requests, is_anything_told}, View.{Views, visible, own_of, desk_of, driver_of, common_of, seat_seen, things_with}}
+use Rattle.exec_parts.specs.{declared.parts.{mail.Reply.Reply, shared.Shared.Shared, worker.{PutOff.PutOff, Worker.Worker}}, Raises.{Enters, TakesRaises}, Serving.{AreTagged, EntersRing, cancels_in, enters_after, with_staging_ended}, Spots.Spot, Submitting.{EndsStaging, with_wake_poll, must_flush, after_flush}, Tests.{has_open_requests}, View.{Views, visible, own_of, desk_of, driver_of, common_of, seat_seen, things_with}}
 use Rattle.exec_invariants.{specs.{Flown.{IsPolled, is_poll, polls_in}, Places.{one_if, passes_at}, Sound.SoundAt, Submits.IsIdle, Works.{Suits, Steps}}, proofs.{Serving.{at_large, balances_still, SparesRecords, spares_same}, ServingHolds.{serves_to, IsServed, Follows, Serves, Keeps, KeepsBy}, Conveying.control_entry, Raising.{driver_is, flush_taken, lists_taken, sound_taken, still_lists}, Seeing.{makes, own_with, desk_with, visible_with, served, common_same, ring_again, things_kept}, Staging.{staging_next, flush_seen, stages_again, idle_at, suits_at}, Standing.{requests_seen, submissions_seen}, Untold.{ToldOnDesk, told_there}}}
 use Rattle.exec_serving.proofs.Entered.{MovesBy, entered, led_to, ring_seen}
 
@@ -26,10 +26,7 @@ polls_more [] e = omega arith
 polls_more (x ∷ es) e = let rest = polls_more es e in omega (arith, rest)
 
 staged_polled : (d : Driving Reply Reply) → d.armed ≡ false → IsPolled d.ring d.armed → IsPolled (poll_staged d).ring true
-staged_polled d free polled =
-    let more : polls_in (d.ring.staged ++ wake_entry ∷ []) ≡ polls_in d.ring.staged + 1 = polls_more d.ring.staged wake_entry in
-    let none : one_if d.armed ≡ 0 = ap one_if free in
-    omega (arith, polled, more, none)
+staged_polled = grind (arith, polls_more)
 
 polled_ring : (d : Driving Reply Reply) → d.armed ≡ false → SameButRing d (poll_staged d)
 polled_ring d free =
@@ -72,9 +69,7 @@ module _ {B L : Type 0} (left : B → L) (spot : L → Option Said → Spot) whe
       let requests = requests_seen w.index w.names (driver_of w) w.home.timers s.requests.items s.sleepers.items sound.named in
       let told = told_there me x w.home.deferred _ sound.told on in
       let submissions = submissions_seen c w (sound.sized ∙ ap ring_size suits.config) in
-      ap (λ b. b && (not v.defer || has_callbacks me x || has_submissions c me)) (sym requests)
-      ∙ ap (λ b. has_open_requests w && (not v.defer || b || has_submissions c me)) told
-      ∙ ap (λ b. has_open_requests w && (not v.defer || is_anything_told w || b)) (sym submissions)
+      grind arith
 
   requests_open : (v : Service) (gate : ℕ) (w : Worker) (s : Shared B) (p : Plan) (vs : Views) → SoundAt (Place.Service (InService.Submit gate) v) w s
       → has_requests w.index (common_of left spot p vs s) ≡ has_open_requests w
@@ -93,40 +88,22 @@ module _ {B L : Type 0} (left : B → L) (spot : L → Option Said → Spot) whe
 poll_seen : (w : Worker) (q : Place) (o : PutOff) (d : Driving Reply Reply) (a f : Bool)
     → desk_with w q o w.home.deferred (if a then d else (if f then d else poll_staged d))
     ≡ record (if a || f then desk_with w q o w.home.deferred d else (record (desk_with w q o w.home.deferred d) { entries = length d.ring.staged + 1; polled = true })) { place = q }
-poll_seen w q o d true f = refl
-poll_seen w q o d false true = refl
-poll_seen w q o d false false = ap (λ n. record (desk_with w q o w.home.deferred d) { entries = n; polled = true }) (length-append d.ring.staged (wake_entry ∷ []))
+poll_seen = grind (arith, desk_with, length-append)
 
 -- nothing may be staged
 request_none : (c : Configuration) (w : Worker) → (driver_of w).ring.size ≡ ring_size c → may_stage_one (driver_of w) ≡ false → request_due c (own_of w) ≡ Ends
-request_none c w sized none = by (driver_of w).lists.queued refl
-  where
-    either : (b : Bool) → (if b then Ends else Ends) ≡ Ends
-    either true = refl
-    either false = refl
-
-    by : (ids : List WaiterId) → (driver_of w).lists.queued ≡ ids → request_due c (own_of w) ≡ Ends
-    by [] is = rw is (either (nat_lt (flying_count (driver_of w).requests) (ring_size c)))
-    by (id ∷ ids) is =
-        let full : nat_lt (flying_count (driver_of w).requests) (ring_size c) ≡ false = ap (nat_lt (flying_count (driver_of w).requests)) (sym sized) ∙ rw is at none in
-        rw full refl
+request_none = grind arith
 
 busy_same : (a f : Bool) (d : Driving Reply Reply) (numbers : List ℕ) (taken : List MailMessage) → visible_with numbers taken (if a then d else (if f then d else poll_staged d)).ring ≡ visible_with numbers taken d.ring
-busy_same true f d numbers taken = refl
-busy_same false true d numbers taken = refl
-busy_same false false d numbers taken = refl
+busy_same = grind arith
 
 own_polled : (a f : Bool) (w : Worker) (q : Place) → own_with w q w.names.ended.items w.names.untold.items (if a then driver_of w else (if f then driver_of w else poll_staged (driver_of w))) ≡ own_with w q w.names.ended.items w.names.untold.items (driver_of w)
-own_polled true f w q = refl
-own_polled false true w q = refl
-own_polled false false w q = refl
+own_polled = grind arith
 
 -- the machine's desk with the wake poll is that of the driver
 with_poll_seen : (size : ℕ) (w : Worker) (a f : Bool) → (driver_of w).armed ≡ a → is_full size (desk_of w) ≡ f
     → with_poll size (desk_of w) ≡ (if a || f then desk_of w else (record (desk_of w) { entries = length (driver_of w).ring.staged + 1; polled = true }))
-with_poll_seen size w true f armed full = rw armed refl
-with_poll_seen size w false true armed full = rw (armed, full) refl
-with_poll_seen size w false false armed full = rw (armed, full) refl
+with_poll_seen = grind arith
 
 module _ {B L : Type 0} (left : B → L) (spot : L → Option Said → Spot) where
   pub staging_ended : (v : Service) (w w' w1 : Worker) (s : Shared B) (e : Event) → (idle : IsIdle v w s) → must_flush (driver_of w) ≡ false → (driver_of w).lists.cancels ≡ [] → may_stage_one (driver_of w) ≡ false
@@ -233,16 +210,7 @@ module _ {B : Type 0} where
   -- with a worker that has the same driver but for its ring and landings
   after_same : (v : Service) (w w1 : Worker) (s s' : Shared B) (e : Event) → EntersRing w s e w1 s' → (driver_of w).ring.busy ≡ true
       → (enters_after v w1 ≡ enters_after v w) × (has_open_requests w1 ≡ has_open_requests w)
-  after_same v w w1 s s' e it busy =
-      let d = driver_of w in
-      let r' : RingState = record d.ring { busy = false } in
-      let d' : Driving Reply Reply = record d { ring = r'; landings = (driver_of w1).landings } in
-      let ring : entered_ring d.ring ≡ r' = ap (λ b. if b then (record d.ring { busy = false }) else all_taken d.ring) busy in
-      let driver : driver_of w1 ≡ d' = it.driver ∙ ap (λ x. record d { ring = x; landings = (driver_of w1).landings }) ring in (
-        ap (λ (x : Worker). not (pending_count (driver_of w1).requests == 0) && (not v.defer || not (is_untold x.home.deferred) || has_pending (driver_of w1))) it.worker
-            ∙ ap (λ (x : Driving Reply Reply). not (pending_count x.requests == 0) && (not v.defer || not (is_untold w.home.deferred) || has_pending x)) driver,
-        ap (λ (x : Driving Reply Reply). not (pending_count x.requests == 0)) driver,
-      )
+  after_same = grind arith
 
 module _ {B L : Type 0} (left : B → L) (spot : L → Option Said → Spot) where
   -- the machine enters next

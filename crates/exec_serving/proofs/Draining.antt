@@ -1,10 +1,10 @@
 -- What comes out of the wheel as it goes on is due in order.
-use Rattle.std.{proofs.{Common.{◌≡◌, ◌⊎◌, ℕ, zero, suc, ◌+◌, ◌-◌, ◌/◌, ◌%◌, ◌<◌, ◌≤◌, ◌==◌, Bool, true, false, List, [], ◌∷◌, ◌++◌, map, Option, Some, None, refl, sym, ap, subst, ◌∙◌, arith, inl, inr, is_some, nat_le, nat_lt, if◌then◌else◌}, lemmas.{Bool.{cases_lt, Decides.nat_tests}, List.{append_assoc, append-nil}}, Math.Nat.mod-eq_of_lt}, specs.List.{AllByRecursion, list_any, range_with_len}}
+use Rattle.std.{proofs.{Common.{◌≡◌, ◌⊎◌, ℕ, zero, suc, ◌+◌, ◌-◌, ◌%◌, ◌<◌, ◌≤◌, ◌==◌, Bool, true, false, List, [], ◌∷◌, ◌++◌, map, Option, Some, None, refl, sym, ap, subst, ◌∙◌, arith, inl, inr, nat_le, nat_lt, if◌then◌else◌}, lemmas.{Bool.{cases_lt, Decides.nat_tests}, List.{append_assoc, append-nil}}, Math.Nat.mod-eq_of_lt}, specs.List.{AllByRecursion, list_any, range_with_len}}
 use Rattle.exec_base.specs.{Slab.Slab, declared.slab.Id.Id}
 use Rattle.exec_time.{specs.{Wheel.{Wheel, least_active, tick_at as tick_now}, Turning.{advanced, ids_in, is_full_turn, slots_passed, turned, turned_out}}, proofs.Ranges.slots_apart}
-use Rattle.exec_waiters.specs.{States.{tick_in, waiter_at}, declared.{waiter.{Entry.Entry, Waiter.Waiter}, waiter_id.WaiterId.WaiterId}}
+use Rattle.exec_waiters.specs.{States.{waiter_at}, declared.{waiter.{Entry.Entry, Waiter.Waiter}, waiter_id.WaiterId.WaiterId}}
 use Rattle.exec_driver.specs.{Driving.Driving, Lists.{Lists, is_among}, Punctual.IsPunctual, Steps.{all_due, fallen_due}}
-use Rattle.exec_machine.specs.{declared.config.Configuration.Configuration, Ranges.wheel_slots}
+use Rattle.exec_machine.specs.{declared.config.Configuration.Configuration}
 use Rattle.exec_parts.specs.declared.parts.{mail.Reply.Reply, worker.Moments.Moments}
 use Rattle.exec_invariants.{specs.{Due.IsWheelAt, Ordered.{HasCome, IsOrdered, IsToldBefore, Pairwise, StandsBefore, StandsIn, tick_at, turn_of, went_round}}, proofs.Orders.{IsPartOf, all_append, all_part, pairs_append, pairs_part, pairs_where, part_self}}
 
@@ -18,27 +18,15 @@ part_beside [] zs ys y part = inl part
 part_beside (x ∷ xs) zs ys y (inl part) = inl (part_beside xs zs ys y part)
 part_beside (x ∷ xs) zs ys y (inr part) = inr (part.0, part.1, part_beside xs part.0 ys y part.2)
 
-falls_by : (b : Bool) (id : WaiterId) (l : Lists) → ((if b then l else record l { due = l.due ++ id ∷ [] }).due ≡ l.due) ⊎ ((if b then l else record l { due = l.due ++ id ∷ [] }).due ≡ l.due ++ id ∷ [])
-falls_by true id l = inl refl
-falls_by false id l = inr refl
-
 falls : (id : WaiterId) (o : Option (Waiter Reply Reply)) (l : Lists) → ((fallen_due id o l).due ≡ l.due) ⊎ ((fallen_due id o l).due ≡ l.due ++ id ∷ [])
-falls id None l = inl refl
-falls id (Some it) l = by (is_some (tick_in it.state))
-  where
-    by : (b : Bool) → ((if b then (if is_among id l.due then l else record l { due = l.due ++ id ∷ [] }) else l).due ≡ l.due) ⊎ ((if b then (if is_among id l.due then l else record l { due = l.due ++ id ∷ [] }) else l).due ≡ l.due ++ id ∷ [])
-    by true = falls_by (is_among id l.due) id l
-    by false = inl refl
+falls = grind arith
 
 pub due_part : (s : Slab (Entry Reply Reply)) (ids : List Id) (l : Lists) → IsPartOf (all_due s ids l).due (l.due ++ map wrap ids)
 due_part s [] l = subst (IsPartOf l.due) (sym (append-nil l.due)) (part_self l.due)
 due_part s (id ∷ ids) l =
     let l1 = fallen_due (wrap id) (waiter_at s id) l in
     let rest = due_part s ids l1 in
-    elim (falls (wrap id) (waiter_at s id) l) [
-      | inl same ↦ part_beside l.due (all_due s ids l1).due (map wrap ids) (wrap id) (subst (λ xs. IsPartOf (all_due s ids l1).due (xs ++ map wrap ids)) same rest)
-      | inr more ↦ subst (IsPartOf (all_due s ids l1).due) (append_assoc l.due (wrap id ∷ []) (map wrap ids)) (subst (λ xs. IsPartOf (all_due s ids l1).due (xs ++ map wrap ids)) more rest)
-    ]
+    grind (arith, falls, part_beside, append_assoc)
 
 all_wrapped : (P : Id → Type 0) (ids : List Id) → AllByRecursion P ids → AllByRecursion (λ id. P id.0) (map wrap ids)
 all_wrapped P [] all = tt
@@ -116,9 +104,7 @@ module _ (round : Bool) (numbers : List ℕ) (s : Slab (Entry Reply Reply)) (w :
 
   -- where nothing comes out
   turns_none : (v : Wheel) → WentOn w v → v.ready ≡ w.ready → Turns v
-  turns_none v on same =
-      let none = same ∙ o.drained in
-      record { on = on; come = subst (AllByRecursion (HasCome s v.current)) (sym none) tt; told = subst (Pairwise (IsToldBefore round w.slots numbers s)) (sym none) tt }
+  turns_none = grind arith
 
   turns_still : Turns w
   turns_still = turns_none w (record { current = omega arith; slots = refl; bucket = λ slot. inl refl }) refl
@@ -185,13 +171,7 @@ module _ (round : Bool) (numbers : List ℕ) (s : Slab (Entry Reply Reply)) (w :
 
 -- The machine's wheel goes round where this one does.
 pub round_so : (c : Configuration) (m : Moments) (w : Wheel) → IsWheelAt c m.start m.before w → w.current < tick_now w m.sampled → went_round c m ≡ is_full_turn w (tick_now w m.sampled)
-round_so c m w it later =
-    let same : tick_now w m.sampled ≡ (m.sampled - m.start) / c.tick = rw (it.start, it.tick) refl in
-    ap (λ n. nat_le (n + wheel_slots c) ((m.sampled - m.start) / c.tick)) (sym it.current) ∙ shift w.current (wheel_slots c) ((m.sampled - m.start) / c.tick) (rw (← same) later)
-    ∙ ap (λ n. nat_le n ((m.sampled - m.start) / c.tick - w.current)) (sym it.slots) ∙ ap (λ n. nat_le w.slots (n - w.current)) (sym same)
-  where
-    shift : (a n b : ℕ) → a < b → nat_le (a + n) b ≡ nat_le n (b - a)
-    shift a n b less = grind (arith, nat_tests)
+round_so = grind arith
 
 pub ahead_of : (d : Driving Reply Reply) → IsPunctual d → d.lists.due ≡ [] → (id : Id) (t : ℕ) → tick_at d.requests id ≡ Some t → d.wheel.current < t
 ahead_of d punctual none id t at = (punctual.ahead (wrap id) t at (ap (is_among (wrap id)) none)).0

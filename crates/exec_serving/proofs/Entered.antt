@@ -1,5 +1,5 @@
 -- An enter of a worker, from any place where it may let the kernel work, is a step of it.
-use Rattle.std.proofs.Common.{◌≡◌, ℕ, ◌+◌, ◌≤◌, Bool, true, false, not, List, [], length, map, Option, refl, sym, ap, subst, ◌∙◌, arith, slice_get, slice_set, if◌then◌else◌}
+use Rattle.std.proofs.Common.{◌≡◌, ℕ, ◌+◌, ◌≤◌, true, false, not, List, [], length, map, Option, refl, sym, ap, subst, ◌∙◌, arith, slice_get, slice_set, if◌then◌else◌}
 use Rattle.exec_ring.specs.{Kernels.{all_taken, entered as entered_ring}, Rings.{RingState, completions}}
 use Rattle.exec_base.specs.Slab.{value_at}
 use Rattle.exec_waiters.{specs.States.pending_count, proofs.Changes.entry_of}
@@ -8,7 +8,7 @@ use Rattle.exec_task.specs.declared.body.Said.{Said}
 use Rattle.exec_machine.specs.{declared.event.Event.{Event, TheVariants.{Enter, Busy}}, Choice.Choice.Plain, World.{Own, Seat, Common}, Progress.Plan, Requests.flown}
 use Rattle.exec_moves.specs.{declared.{idling.{Stay.Stay, InRingWait.InRingWait}, place.{Service.Service, Place.Place, InService.InService, Reaping.Reaping}}, State.{Desk, Things, Moved, wake_poll_of, taken_in as poll_taken}, Thing.{ring_of, set_wake_poll, with_ring}, Move.move_at, Serve.{Ring, at_place, enter}}
 use Rattle.exec_parts.{specs.{declared.parts.{mail.Reply.Reply, shared.Shared.Shared, worker.{PutOff.PutOff, Worker.Worker}}, Raises.Enters, Records.number_in, Serving.{EntersRing, flown_in}, Spots.Spot, View.{Views, visible, with_view, own_of, desk_of, driver_of, common_of, seat_seen, numbers_of_passing, open_seen, number_told, things_with, trailing, wake_poll_in}}, proofs.Flying.all_flown}
-use Rattle.exec_invariants.{specs.{Carried.IsCarried, Sound.{SoundAt, served_in}, Names.{IsNamed, IsSubmitted}, Due.{IsWheelAt, may_be_due}, Flown.{IsPolled, operations}, Holding.{nap_of, thing_of}, Places.passes_at, Works.{Suits, Steps}}, proofs.{Spared.sleepers_endure, Seats.own_seat, Conveying.carried_ring, Lined.{KeepsLines, gates_seen_same, lines_flown, opens_same, passing_same, was_sent}, Serving.{balances_still, kept, SparesRecords, spares_same}, ServingHolds.{Follows, Serves, Keeps, KeepsBy, keeps_all, nap_sent, serves_to}, ServingPlaces.calm, Keys.{same_opens, flown_names}, Raising.{lists_taken, none_waits, poll_shows, poll_shown, raised_first, seats_set, sound_taken}, Seeing.{Sees, common_same, served, shows}, Shown.{desk_with, own_with}, WokenEntered.{all_acknowledged, enter_polled, enter_shown}, Going.{over_on, rooted_on}}}
+use Rattle.exec_invariants.{specs.{Carried.IsCarried, Sound.{SoundAt, served_in}, Names.{IsNamed, IsSubmitted}, Due.{IsWheelAt, may_be_due}, Flown.{IsPolled, operations}, Holding.{nap_of, thing_of}, Places.passes_at, Works.{Suits, Steps}}, proofs.{Spared.sleepers_endure, Seats.own_seat, Conveying.carried_ring, Lined.{KeepsLines, gates_seen_same, lines_flown, opens_same, passing_same, was_sent}, Serving.{balances_still, kept, SparesRecords, spares_same}, ServingHolds.{Follows, Serves, Keeps, KeepsBy, keeps_all, nap_sent}, ServingPlaces.calm, Keys.{same_opens, flown_names}, Raising.{lists_taken, none_waits, poll_shows, poll_shown, raised_first, seats_set, sound_taken}, Seeing.{Sees, common_same, served, shows}, Shown.{desk_with, own_with}, WokenEntered.{all_acknowledged, enter_polled, enter_shown}, Going.{over_on, rooted_on}}}
 use Rattle.exec_serving.proofs.{Carrier.carried_entered, Entering.{submitted_busy, submitted_free, named_beside, named_free, all_go, timed_flown, flown_entered, others_flown, others_were, known_flown, things_flown}}
 
 -- the ring that a worker shows, where no wake waits at its seat
@@ -31,10 +31,7 @@ module _ {B : Type 0} (w w' : Worker) (s s' : Shared B) (e : Event) (it : Enters
   shape = ap (λ (v : Worker). record v { place = w'.place; put_off = w'.put_off }) it.worker
 
   entered_serves : (q : Place) → Follows q w'.place → Serves q w w' s s'
-  entered_serves q to =
-      serves_to q w'.place w w' s s'
-      (subst (λ v. v ≡ record w { place = v.place; home = record w.home { driver = v.home.driver; timers = v.home.timers; deferred = v.home.deferred }; names = record w.names { ended = v.names.ended; staged = v.names.staged; untold = v.names.untold }; put_off = v.put_off }) (sym shape) refl)
-      (subst (λ (t : Shared B). t ≡ record s { requests = t.requests; sleepers = t.sleepers; opens = t.opens }) (sym it.shared) refl) refl to
+  entered_serves = grind arith
 
   -- what holds again, with another ring and these that fly
   keeps_entered : (q : Place) (r : RingState) (ks : List ℕ) → SoundAt q w s → Follows q w'.place → (may_be_due (served_in w'.place) ≡ false → (driver_of w).lists.due ≡ [])
@@ -270,11 +267,7 @@ module _ {B L : Type 0} (left : B → L) (spot : L → Option Said → Spot) whe
   follows_last v = record { from = refl; to = refl; serves = refl; armed = refl; closes = refl; wakes = refl; moment = λ m. refl; searches = refl; published = refl; bare = refl; batch = λ ms h. h }
 
   enter_there : (me : Own) (d : Desk) (p : Place) (i : ℕ) (x : Things) (y : Ring) → with_ring i x (at_place p (enter me d y)) ≡ with_ring i x (led_to p (record { defer = d.may_put_off; «enter» = d.put_off }) (enter me d y))
-  enter_there me d p i x y = by y.busy refl
-    where
-      by : (b : Bool) → y.busy ≡ b → with_ring i x (at_place p (enter me d y)) ≡ with_ring i x (led_to p (record { defer = d.may_put_off; «enter» = d.put_off }) (enter me d y))
-      by true is = rw is refl
-      by false is = rw is refl
+  enter_there = grind arith
 
   pub last_entered : (v : Service) (w w' : Worker) (s s' : Shared B) (e : Event) → SoundAt (Place.Service InService.EnterLast v) w s → (it : Enters w s e (record w' { place = w.place }) s')
       → w'.place ≡ Place.Service (InService.Reap Reaping.Last) v → Steps left spot w s e w' s'
@@ -294,11 +287,7 @@ module _ {B L : Type 0} (left : B → L) (spot : L → Option Said → Spot) whe
   follows_full y = record { from = refl; to = refl; serves = refl; armed = refl; closes = refl; wakes = refl; moment = λ m. refl; searches = refl; published = refl; bare = refl; batch = λ ms h. h }
 
   enter_from : (me : Own) (d : Desk) (p : Place) (i : ℕ) (x : Things) (y : Ring) → with_ring i x (enter me (record d { place = p }) y) ≡ with_ring i x (led_to p (record { defer = d.may_put_off; «enter» = d.put_off }) (enter me d y))
-  enter_from me d p i x y = by y.busy refl
-    where
-      by : (b : Bool) → y.busy ≡ b → with_ring i x (enter me (record d { place = p }) y) ≡ with_ring i x (led_to p (record { defer = d.may_put_off; «enter» = d.put_off }) (enter me d y))
-      by true is = rw is refl
-      by false is = rw is refl
+  enter_from = grind arith
 
   pub full_ring_entered : (y : Stay) (w w' : Worker) (s s' : Shared B) (e : Event) → SoundAt (Place.RingWait InRingWait.EnterFullRing y) w s → (it : Enters w s e (record w' { place = w.place }) s')
       → w'.place ≡ Place.RingWait InRingWait.TestRing y → Steps left spot w s e w' s'

@@ -1,36 +1,25 @@
 -- What an enter is to the machine.
-use Rattle.std.{proofs.{Common.{◌≡◌, ◌≢◌, ℕ, ◌+◌, ◌≤◌, ◌==◌, ◌&&◌, Bool, true, false, List, [], ◌∷◌, length, map, Option, Some, None, inl, refl, sym, ap, subst, ◌∙◌, slice_get, if◌then◌else◌}, lemmas.Bool.{false≢true, eq-eqb}}, specs.{Option.option_map, Vec.vec_capacity}}
+use Rattle.std.{proofs.{Common.{◌≡◌, ◌≢◌, ℕ, ◌+◌, ◌≤◌, ◌==◌, ◌&&◌, Bool, true, false, List, [], ◌∷◌, length, map, Option, Some, None, refl, sym, ap, subst, ◌∙◌, slice_get, if◌then◌else◌}, lemmas.Bool.{false≢true}}, specs.{Option.option_map, Vec.vec_capacity}}
+use Rattle.std.proofs.Common.{arith}
 use Rattle.exec_base.specs.Slab.{Slab}
 use Rattle.exec_outcomes.specs.declared.outcome.OpResult.{OpResult}
 use Rattle.exec_time.specs.declared.timers.Sleeper.{Sleeper as Sleeping}
 use Rattle.exec_ring.specs.{Kernels.Landing, Rings.RingState}
-use Rattle.exec_waiters.specs.{States.{needs_permit, waiter_at}, declared.waiter.{Entry.Entry, Waiter.Waiter}}
+use Rattle.exec_waiters.specs.{States.{waiter_at}, declared.waiter.{Entry.Entry, Waiter.Waiter}}
 use Rattle.exec_driver.specs.{Driving.Driving, Opens.OpenState}
-use Rattle.exec_machine.specs.{declared.state.{Request.Request, RequestPhase.RequestPhase}, Requests.flown, Tests.{is_gated, is_staged, is_in_flight, is_resolved}}
+use Rattle.exec_machine.specs.{declared.state.{Request.Request, RequestPhase.RequestPhase}, Requests.flown, Tests.{is_staged, is_resolved}}
 use Rattle.exec_moves.specs.declared.place.InService.{InService}
 use Rattle.exec_parts.{specs.{declared.parts.{mail.Reply.Reply, names.Names.Names, record.Record.Record, sleeping.SleeperRecord.SleeperRecord}, Records.number_in, Serving.{changed_at, changed_in, flies, flown_in, is_one_of}}, proofs.{Facts.and_right, Flying.{flies_if, worker_kept, get_flown}}}
-use Rattle.exec_invariants.{specs.{Due.AreTimed, Flown.{IsPlain, IsPolled, HasFlown, operations}, Gates.{IsKnown, at_gate}, Holding.thing_of, Names.{IsNamed, IsAlike, IsSubmitted}}, proofs.{Lined.{length_map, lines_flown}, Flown.landed_on, Going.{GoesOn, AllGoOn, still, same_worker, same_id, thing_on, things_changed}, Known.known_on}}
+use Rattle.exec_invariants.{specs.{Due.AreTimed, Flown.{IsPlain, IsPolled, HasFlown, operations}, Gates.{IsKnown, at_gate}, Holding.thing_of, Names.{IsNamed, IsAlike, IsSubmitted}}, proofs.{Lined.{length_map, lines_flown}, Flown.landed_on, Going.{GoesOn, AllGoOn, still, same_worker, thing_on, things_changed}, Known.known_on}}
 
 -- A REQUEST THAT FLIES
-
-staged_flies : (p : RequestPhase) → is_staged p ≡ true → is_in_flight p ≡ true
-staged_flies RequestPhase.Staged h = refl
-staged_flies _ h = absurd (false≢true h)
 
 staged_stands : (p : RequestPhase) → is_staged p ≡ true → is_resolved p ≡ false
 staged_stands RequestPhase.Staged h = refl
 staged_stands _ h = absurd (false≢true h)
 
-staged_ungated : (p : RequestPhase) → is_staged p ≡ true → is_gated p ≡ false
-staged_ungated RequestPhase.Staged h = refl
-staged_ungated _ h = absurd (false≢true h)
-
 alike_by : (start tick : ℕ) (b : Bool) (it : Waiter Reply Reply) (r : Request) → (b ≡ true → is_staged r.phase ≡ true) → IsAlike start tick it r → IsAlike start tick it (if b then (record r { phase = RequestPhase.Flying }) else r)
-alike_by start tick true it r staged a =
-    let flying = sym (staged_flies r.phase (staged refl)) ∙ a.flying in
-    let permit : false ≡ needs_permit it = sym (staged_ungated r.phase (staged refl)) ∙ a.permit in
-    assumption (flying, permit, a)
-alike_by start tick false it r staged a = a
+alike_by = grind arith
 
 alike_flown : (start tick i : ℕ) (it : Waiter Reply Reply) (r : Request) → IsAlike start tick it r → IsAlike start tick it (flown i r)
 alike_flown start tick i it r a = alike_by start tick ((r.worker == i) && is_staged r.phase) it r (and_right (r.worker == i) (is_staged r.phase)) a
@@ -56,12 +45,7 @@ worker_flies true r = worker_kept r.shown.worker r.shown
 worker_flies false r = refl
 
 flown_none : (b : Bool) (r : Request) → ((r.worker == r.worker) && is_staged r.phase) ≡ b → is_staged (if b then (record r { phase = RequestPhase.Flying }) else r).phase ≡ false
-flown_none true r is = refl
-flown_none false r is = not_staged (is_staged r.phase) (r.worker == r.worker) (eq-eqb r.worker r.worker refl) is
-  where
-    not_staged : (a b : Bool) → b ≡ true → (b && a) ≡ false → a ≡ false
-    not_staged a true same none = none
-    not_staged a false same none = absurd (false≢true same)
+flown_none = grind arith
 
 -- none that flies is staged any more
 still_staged : (b : Bool) (r : Record) → is_staged (flies_if b r).shown.phase ≡ true → (b ≡ false) × (is_staged r.shown.phase ≡ true)
@@ -70,9 +54,7 @@ still_staged false r h = (refl, h)
 
 -- a record that flies goes on
 goes_by : (i : ℕ) (b : Bool) (r : Record) → (b ≡ true → is_staged r.shown.phase ≡ true) → GoesOn r (record r { shown = (if b then (record r.shown { phase = RequestPhase.Flying }) else r.shown) })
-goes_by i true r staged =
-    record { same = refl; over = sym (staged_stands r.shown.phase (staged refl)); ended = λ h. absurd (false≢true (sym (staged_stands r.shown.phase (staged refl)) ∙ h)) }
-goes_by i false r staged = still r
+goes_by = grind arith
 
 goes_flies : (b : Bool) (r : Record) → GoesOn r (flies_if b r)
 goes_flies true r = goes_by r.shown.worker ((r.shown.worker == r.shown.worker) && is_staged r.shown.phase) r (and_right (r.shown.worker == r.shown.worker) (is_staged r.shown.phase))
@@ -96,14 +78,6 @@ plain_flies : (b : Bool) (r : Record) → IsPlain r.shown → IsPlain (flies_if 
 plain_flies true r p = plain_by ((r.shown.worker == r.shown.worker) && is_staged r.shown.phase) r.shown p
 plain_flies false r p = p
 
-timer_by : (b : Bool) (r : Request) → (if b then (record r { phase = RequestPhase.Flying }) else r).timer ≡ r.timer
-timer_by true r = refl
-timer_by false r = refl
-
-timer_flies : (b : Bool) (r : Record) → (flies_if b r).shown.timer ≡ r.shown.timer
-timer_flies true r = timer_by ((r.shown.worker == r.shown.worker) && is_staged r.shown.phase) r.shown
-timer_flies false r = refl
-
 cancel_by : (b : Bool) (r : Request) → (if b then (record r { phase = RequestPhase.Flying }) else r).cancel_staged ≡ r.cancel_staged
 cancel_by true r = refl
 cancel_by false r = refl
@@ -116,15 +90,7 @@ cancel_flies false r = refl
 
 -- what a flown record was
 was : (ks : List ℕ) (rs : List Record) (k : ℕ) (x : Record) → slice_get (flown_in ks rs) k ≡ Some x → (r : Record) × (slice_get rs k ≡ Some r) × (x ≡ flies_if (is_one_of k ks) r)
-was ks rs k x there = from (slice_get rs k) refl
-  where
-    from : (o : Option Record) → slice_get rs k ≡ o → (r : Record) × (slice_get rs k ≡ Some r) × (x ≡ flies_if (is_one_of k ks) r)
-    from None none =
-        let no : option_map (flies_if (is_one_of k ks)) None ≡ Some x = ap (option_map (flies_if (is_one_of k ks))) (sym none) ∙ sym (get_flown ks rs k) ∙ there in
-        absurd (cc)
-    from (Some r) found =
-        let yes : Some (flies_if (is_one_of k ks) r) ≡ Some x = ap (option_map (flies_if (is_one_of k ks))) (sym found) ∙ sym (get_flown ks rs k) ∙ there in
-        (r, found, cc)
+was = grind (arith, flies_if, get_flown)
 
 flies_there : (ks : List ℕ) (rs : List Record) (k : ℕ) (r : Record) → slice_get rs k ≡ Some r → slice_get (flown_in ks rs) k ≡ Some (flies_if (is_one_of k ks) r)
 flies_there ks rs k r there = get_flown ks rs k ∙ ap (option_map (flies_if (is_one_of k ks))) there
@@ -171,13 +137,7 @@ known_flown i numbers requests opens rs ks known =
     (λ id it x live there.
     let old = was ks rs (number_in numbers id) x there in
     let same : x.shown.operation ≡ old.0.shown.operation = ap (λ y. y.shown.operation) old.2 ∙ operation_flies (is_one_of (number_in numbers id) ks) old.0 in
-    inl (record {
-      it = it;
-      r = old.0;
-      live = live;
-      there = old.1;
-      asks = record { driver = λ h. inl h; kind = ap (λ o. o.kind) same; target = ap (λ o. o.target) same; unrefused = λ h. ap (λ o. o.unrefused) (sym same) ∙ h };
-    }))
+    grind arith)
     known
 
 pub timed_flown : (i : ℕ) (n n' : Names) (ks : List ℕ) (rs : List Record) → n'.requests ≡ n.requests → AreTimed i n rs → AreTimed i n' (flown_in ks rs)
@@ -187,10 +147,7 @@ timed_flown i n n' ks rs same timed k x there mine =
     let r = old.0 in
     let on : GoesOn r x = subst (λ y. GoesOn r y) (sym old.2) (goes_flies b r) in
     let it = timed k r old.1 (sym (same_worker r x on) ∙ mine) in
-    record {
-      named = λ unresolved. rw (same, same_id r x on) (it.named (sym on.over ∙ unresolved));
-      over = λ done. ap (λ y. y.shown.timer) old.2 ∙ timer_flies b r ∙ it.over (sym on.over ∙ done);
-    }
+    grind arith
 
 -- what has landed, with another ring in which the same has
 pub flown_entered : (x x' : Option InService) (i : ℕ) (n n' : Names) (d : Driving Reply Reply) (ring : RingState) (l : List Landing) (ks : List ℕ) (rs : List Record)
@@ -232,18 +189,7 @@ flown_entered x x' i n n' d ring l ks rs flown requests ended unreleased staged 
 
 module _ (i : ℕ) (n : Names) (d : Driving Reply Reply) (zs : Slab (Sleeping Reply)) (rs : List Record) (sleepers : List SleeperRecord) (named : IsNamed i n d zs rs sleepers) where
   pub submitted_free : (r : RingState) → r.staged ≡ [] → IsSubmitted i [] [] r (flown_in n.staged.items rs)
-  submitted_free r none =
-      record {
-        tagged = rw none tt;
-        cancels = rw none refl;
-        known = tt;
-        own = λ k x h there. absurd (false≢true h);
-        all = λ k x there mine staged.
-            let before = was n.staged.items rs k x there in
-            let still = still_staged (is_one_of k n.staged.items) before.0 (sym (ap (λ y. is_staged y.shown.phase) before.2) ∙ staged) in
-            let of_i : before.0.shown.worker ≡ i = sym (worker_flies (is_one_of k n.staged.items) before.0) ∙ sym (ap (λ y. y.shown.worker) before.2) ∙ mine in
-            absurd (false≢true (sym still.0 ∙ named.submitted.all k before.0 before.1 of_i still.1));
-      }
+  submitted_free = grind (arith, false≢true, was, still, still_staged, worker_flies)
 
   pub named_free : (n' : Names) (r : RingState) (l : List Landing) → n'.requests.items ≡ n.requests.items → n'.timers.items ≡ n.timers.items
       → IsSubmitted i n'.staged.items n'.untold.items r (flown_in n.staged.items rs) → IsNamed i n' (record d { ring = r; landings = l }) zs (flown_in n.staged.items rs) sleepers
@@ -285,24 +231,14 @@ module _ (i : ℕ) (n : Names) (d : Driving Reply Reply) (zs : Slab (Sleeping Re
       }
 
   pub submitted_busy : IsSubmitted i n.staged.items n.untold.items (record d.ring { busy = false }) rs
-  submitted_busy =
-      let sub = named.submitted in
-      record { tagged = sub.tagged; cancels = sub.cancels; known = sub.known; own = sub.own; all = sub.all }
+  submitted_busy = grind arith
 
   -- each record of another worker is as it was
   flown_of_i : (k : ℕ) (r : Record) → slice_get rs k ≡ Some r → r.shown.worker ≢ i → is_one_of k n.staged.items ≡ false
-  flown_of_i k r there other = by (is_one_of k n.staged.items) refl
-    where
-      by : (b : Bool) → is_one_of k n.staged.items ≡ b → is_one_of k n.staged.items ≡ false
-      by true is = absurd (other (named.submitted.own k r is there))
-      by false is = is
+  flown_of_i = grind arith
 
   pub others_flown : (k : ℕ) (r : Record) → slice_get rs k ≡ Some r → r.shown.worker ≢ i → slice_get (flown_in n.staged.items rs) k ≡ Some r
   others_flown k r there other = flies_there n.staged.items rs k r there ∙ ap (λ b. Some (flies_if b r)) (flown_of_i k r there other)
 
   pub others_were : (k : ℕ) (x : Record) → slice_get (flown_in n.staged.items rs) k ≡ Some x → x.shown.worker ≢ i → slice_get rs k ≡ Some x
-  others_were k x there other =
-      let old = was n.staged.items rs k x there in
-      let before : old.0.shown.worker ≢ i = λ is. other (ap (λ y. y.shown.worker) old.2 ∙ worker_flies (is_one_of k n.staged.items) old.0 ∙ is) in
-      let is : x ≡ old.0 = old.2 ∙ ap (λ b. flies_if b old.0) (flown_of_i k old.0 old.1 before) in
-      old.1 ∙ ap (λ y. Some y) (sym is)
+  others_were = grind (arith, was, worker_flies, flies_if, flown_of_i)

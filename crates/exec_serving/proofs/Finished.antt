@@ -1,16 +1,16 @@
 -- An operation that has landed, whose request is over: a step.
-use Rattle.std.{proofs.{Common.{◌≡◌, ◌≢◌, ℕ, ◌^◌, ◌<◌, Bool, true, false, List, [], ◌∷◌, ◌++◌, length, map, Option, Ok, Err, Some, None, IsSome, refl, sym, ap, subst, ◌∙◌, arith, if◌then◌else◌}, lemmas.List.length-set}, specs.VecDeque.deque_capacity}
+use Rattle.std.{proofs.{Common.{◌≡◌, ◌≢◌, ℕ, ◌^◌, ◌<◌, true, false, List, [], ◌∷◌, ◌++◌, map, Option, Some, IsSome, refl, sym, ap, subst, ◌∙◌, arith, if◌then◌else◌}, lemmas.List.length-set}, specs.VecDeque.deque_capacity}
 use Rattle.exec_base.{specs.Slab.{value_at, written}, proofs.Slots.{Updates-write, past-write}}
-use Rattle.exec_outcomes.specs.{Accounts.{Account, by_failure, is_durable}, declared.outcome.{Kind.Kind, OpResult.OpResult, Outcome.Outcome}}
-use Rattle.exec_request.specs.{Judging.{Judges, judged_as}, Kept.kept_of, Requests.{asked_of, cursor_of, hinted_of, output_of}, declared.{request.Request.Request as Asking, output.RequestOutput.RequestOutput, way.Way.Way}, States.{Ended, as_outcome, result_of, told_by}, Ways.asked_by}
+use Rattle.exec_outcomes.specs.{Accounts.{Account, is_durable}, declared.outcome.{Kind.Kind, OpResult.OpResult, Outcome.Outcome}}
+use Rattle.exec_request.specs.{Judging.{Judges, judged_as}, Kept.kept_of, Requests.{asked_of, cursor_of, hinted_of, output_of}, declared.{request.Request.Request as Asking, output.RequestOutput.RequestOutput}, States.{Ended, as_outcome, told_by}}
 use Rattle.exec_ring.specs.{Completions.result_in, declared.completion.Completion.Completion}
 use Rattle.exec_waiters.{specs.{Ids.user_data_of, States.{waiter_at, tick_in, waiter_of}, declared.{waiter.{Entry.TheVariants.Pending, Waiter.Waiter}, deferred.Deferred.Deferred}, Told.{Tells, Told}, Events.{finished, told_by_finish}}, proofs.Changes.entry_of}
 use Rattle.exec_driver.specs.{Driving.Driving, Lists.{without, withdrawn}, Punctual.IsPunctual, Steps.unscheduled}
 use Rattle.exec_machine.specs.{declared.{state.Request.Request}, Requests.reaped}
 use Rattle.exec_moves.specs.{declared.place.{AfterPermit.AfterPermit, Place.Place, Reaping.Reaping, Service.Service, InService.InService}, Seen.serves_at, Serve.{after_permit, back_from_reap}}
 use Rattle.exec_parts.{specs.{declared.parts.{mail.Reply.Reply, names.Names.Names, record.Record.Record, shared.Shared.Shared, worker.Worker.Worker}, Records.number_in, Serving.{changed_at, is_one_of}, View.{driver_of, number_told}}, proofs.Facts.not_same}
-use Rattle.exec_invariants.{specs.{Carried.IsUnderWay, Due.{IsWheelAt, wheel_moment}, Flown.{AreLanded, HasLanded, IsPlain, operations}, HoldPlaces.is_bare_at, Sound.{SoundAt, served_in}, Names.IsAlike, Rooted.outcome_told}, proofs.{Changing.{changes_one, pending_still}, HeldCounts.held_written, Known.low_there, Flown.landed_on, Marking.{mark_if, marked}, ServingHolds.{Follows, KeepsBy}, Serving.kept, ServingPlaces.calm, Swept.RingAfter, Mine.live_mine, ServedEnds.ends_told, Orders.{TurnsAlike, alike_unticked, past_written}, Ousting.keeps_over, Over.OneEnds, Resolving.{SlabAfter, slab_after, unticked_at}}}
-use Rattle.exec_serving.proofs.{Requeued.{fits_shown, landed_rest, lawful_shown, number_landed}, Returned.{follows_back, not_due, served_back}}
+use Rattle.exec_invariants.{specs.{Carried.IsUnderWay, Due.{IsWheelAt, wheel_moment}, Flown.{AreLanded, HasLanded, IsPlain, operations}, HoldPlaces.is_bare_at, Sound.{SoundAt, served_in}, Names.IsAlike, Rooted.outcome_told}, proofs.{Changing.{changes_one, pending_still}, HeldCounts.held_written, Flown.landed_on, Marking.{mark_if, marked}, ServingHolds.{Follows, KeepsBy}, Serving.kept, ServingPlaces.calm, Swept.RingAfter, Mine.live_mine, ServedEnds.ends_told, Orders.{TurnsAlike, alike_unticked, past_written}, Ousting.keeps_over, Over.OneEnds, Resolving.{SlabAfter, slab_after, unticked_at}}}
+use Rattle.exec_serving.proofs.{Requeued.{fits_shown, landed_rest, lawful_shown, number_landed}, Returned.{not_due}}
 
 -- WHAT THE DRIVER DID
 
@@ -28,71 +28,26 @@ pub record GoesOver {B : Type 0} (w : Worker) (s : Shared B) (d' : Driving Reply
 
 -- what its task hears is what the log tells
 pub ended_same : (e : Ended) (k : Kind) (account : Option Account) → is_durable k ≡ false → as_outcome (told_by k e account) ≡ as_outcome e
-ended_same e k None h = refl
-ended_same e k (Some a) h = ap (λ b. as_outcome (result_of (if b then by_failure a.failure (as_outcome e) else as_outcome e))) h ∙ by e
-  where
-    by : (e : Ended) → as_outcome (result_of (as_outcome e)) ≡ as_outcome e
-    by (Ok u) = refl
-    by (Err x) = refl
+ended_same = grind arith
 
 pub tells_ending : (q : Asking) (how : Ended) (account : Option Account) → outcome_told (output_of q how account) ≡ as_outcome (told_by (asked_of q).kind how account)
-tells_ending (Asking.Send x) how account = sym (ended_same how Kind.Send account refl)
-tells_ending (Asking.Poll x) how account = sym (ended_same how Kind.Poll account refl)
-tells_ending (Asking.Recv r) how account = by how ∙ sym (ended_same how (asked_of (Asking.Recv r)).kind account (kind_by r.exact))
-  where
-    kind_by : (b : Bool) → is_durable (if b then Kind.Fill else Kind.Recv) ≡ false
-    kind_by true = refl
-    kind_by false = refl
-
-    by : (e : Ended) → outcome_told (output_of (Asking.Recv r) e account) ≡ as_outcome e
-    by (Ok u) = refl
-    by (Err x) = refl
-tells_ending (Asking.ReadAt r) how account = by how ∙ sym (ended_same how (asked_of (Asking.ReadAt r)).kind account (kind_by r.way))
-  where
-    kind_by : (x : Way) → is_durable (asked_by x (length r.buf.bytes)).kind ≡ false
-    kind_by Way.Buffered = refl
-    kind_by Way.Hinted = refl
-    kind_by (Way.Direct skip len) = refl
-    kind_by (Way.Switched skip len) = refl
-
-    by : (e : Ended) → outcome_told (output_of (Asking.ReadAt r) e account) ≡ as_outcome e
-    by (Ok u) = refl
-    by (Err x) = refl
-tells_ending (Asking.WriteAt x) how account = refl
-tells_ending (Asking.Sync x) how account = refl
-tells_ending (Asking.Connect x) how account = sym (ended_same how Kind.Connect account refl)
+tells_ending = grind arith
 
 -- WHERE IT LEADS: a durable request gives its permit up
 abbrev pub over_step : Request → AfterPermit → InService
 over_step it b = if is_durable it.operation.kind then InService.PassPermit it.operation.target b else after_permit b
 
-follows_passing : (rp : Reaping) (v : Service) (later : List ℕ) (file : ℕ) → Follows (Place.Service (InService.Reap rp) v) (Place.Service (InService.PassPermit file (back_from_reap rp later)) v)
-follows_passing Reaping.First v [] file = record { from = refl; to = refl; serves = refl; armed = refl; closes = refl; wakes = refl; moment = λ m. refl; searches = refl; published = refl; bare = refl; batch = λ ms h. h }
-follows_passing Reaping.Last v [] file = record { from = refl; to = refl; serves = refl; armed = refl; closes = refl; wakes = refl; moment = λ m. refl; searches = refl; published = refl; bare = refl; batch = λ ms h. h }
-follows_passing Reaping.First v (k ∷ later) file = record { from = refl; to = refl; serves = refl; armed = refl; closes = refl; wakes = refl; moment = λ m. refl; searches = refl; published = refl; bare = refl; batch = λ ms h. h }
-follows_passing Reaping.Last v (k ∷ later) file = record { from = refl; to = refl; serves = refl; armed = refl; closes = refl; wakes = refl; moment = λ m. refl; searches = refl; published = refl; bare = refl; batch = λ ms h. h }
-
 pub follows_over : (rp : Reaping) (v : Service) (later : List ℕ) (it : Request) → Follows (Place.Service (InService.Reap rp) v) (Place.Service (over_step it (back_from_reap rp later)) v)
-follows_over rp v later it = by (is_durable it.operation.kind)
-  where
-    by : (b : Bool) → Follows (Place.Service (InService.Reap rp) v) (Place.Service (if b then InService.PassPermit it.operation.target (back_from_reap rp later) else after_permit (back_from_reap rp later)) v)
-    by true = follows_passing rp v later it.operation.target
-    by false = follows_back rp v later
+follows_over = grind arith
 
 pub served_over : (rp : Reaping) (v : Service) (later : List ℕ) (it : Request) → serves_at (Place.Service (over_step it (back_from_reap rp later)) v) ≡ true
-served_over rp v later it = by (is_durable it.operation.kind)
-  where
-    by : (b : Bool) → serves_at (Place.Service (if b then InService.PassPermit it.operation.target (back_from_reap rp later) else after_permit (back_from_reap rp later)) v) ≡ true
-    by true = refl
-    by false = served_back rp v later
+served_over = grind arith
 
 abbrev pub goes_over : OpResult → Outcome → Record → Record
 goes_over given outcome r = record r { shown = reaped given (Some outcome) r.shown }
 
 renamed : (n n' : Names) (d : Driving Reply Reply) (rs : List Record) (cs : List Completion) → n'.requests ≡ n.requests → AreLanded n d rs cs → AreLanded n' d rs cs
-renamed n n' d rs cs same are =
-    landed_on n n' d d rs rs cs are
-    (λ id it r given at flies there landed. record { it' = it; r' = r; live = at; flies = refl; same = refl; number = ap (λ v. number_in v.items id) same; there = there; phase = refl })
+renamed = grind (arith, landed_on)
 
 module _ {B : Type 0} (rp : Reaping) (v : Service) (w : Worker) (s : Shared B) (sound : SoundAt (Place.Service (InService.Reap rp) v) w s) (c : Completion) (cs : List Completion) (d' : Driving Reply Reply) (how : Ended) (account : Option Account) (over : GoesOver w s d' c cs how account) where
   abbrev pub over_waiter : Waiter Reply Reply
@@ -118,9 +73,7 @@ module _ {B : Type 0} (rp : Reaping) (v : Service) (w : Worker) (s : Shared B) (
   over_plain = sound.flown.plain (number_in w.names.requests.items over.h.id) over.h.r over.h.there (live_mine w.index w.names (driver_of w) w.home.timers s.requests.items s.sleepers.items sound.named over.h.id over.h.it over.h.r over.h.live over.h.there)
 
   over_small : over.h.id.generation < 2 ^ 64
-  over_small =
-      let low = low_there w.index w.names.requests.items (driver_of w).requests s.opens s.requests.items sound.known over.h.id (rw (entry_of (value_at (driver_of w).requests over.h.id) over.h.it over.h.live) refl) in
-      omega (arith, low)
+  over_small = grind arith
 
   pub over_written : waiter_at (written (driver_of w).requests over.h.id (Pending over_waiter)) over.h.id ≡ Some over_waiter
   over_written = (changes_one (driver_of w).requests over.h.id over.h.it over_waiter over.h.live).is_at
@@ -148,15 +101,7 @@ module _ {B : Type 0} (rp : Reaping) (v : Service) (w : Worker) (s : Shared B) (
   one_over = record { at = over.h.live; there = over.h.there; slab = slab_then; ends = record { same = refl } }
 
   plain_over : IsPlain (goes_over (result_in c.result) over_outcome over.h.r).shown
-  plain_over =
-      let r = over.h.r.shown in
-      let given = result_in c.result in
-      let p = over_plain in
-      record {
-        bounded = p.bounded;
-        moved = fits_shown r given p (lawful_shown (driver_of w).wheel.start (driver_of w).wheel.tick over.h.it r given over_alike over.h.lawful);
-        deadline = p.deadline;
-      }
+  plain_over = grind (arith, over_plain, fits_shown, lawful_shown, over_alike)
 
   landed_over : (n' : Names) → n'.requests ≡ w.names.requests → AreLanded n' d' (changed_at s.requests.items (number_in w.names.requests.items over.h.id) (goes_over (result_in c.result) over_outcome)) (operations d'.ring)
   landed_over n' same =

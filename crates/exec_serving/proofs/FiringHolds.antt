@@ -7,7 +7,7 @@ use Rattle.exec_words.specs.declared.inbox.Message.{Message}
 use Rattle.exec_machine.specs.Tests.{is_unsent}
 use Rattle.exec_moves.specs.declared.place.Place.{Place}
 use Rattle.exec_parts.{specs.declared.parts.{mail.Reply.Reply, shared.Shared.Shared, sleeping.SleeperRecord.SleeperRecord, worker.Worker.Worker}, proofs.{Facts.{same_number, same_thing, set_there}, Showing.map_set}}
-use Rattle.exec_invariants.{specs.{Holding.{Awaits, Box, Hands, Holder, IsHolding, IsOwed, Mail, Nap, NapOwes, Owes, Thing, box_of, holder_of, IsForwarded, mail_in, nap_of, thing_of, under_way, waiters}, Places.passes_at, Whole.{Profile, hands_of, wakes_with, with_worker}}, proofs.{Fired.fires, HoldSleeps.nap_redone, Lined.mapped, ServedEnds.{count_both, count_none, count_one}, Serving.{Balances, SparesRecords, gates_still, hands_served}, ServingHolds.Serves}}
+use Rattle.exec_invariants.{specs.{Holding.{Awaits, Box, Hands, Holder, IsHolding, IsOwed, Mail, Nap, Owes, Thing, box_of, holder_of, IsForwarded, mail_in, nap_of, thing_of, under_way, waiters}, Places.passes_at, Whole.{Profile, hands_of, wakes_with, with_worker}}, proofs.{Fired.fires, HoldSleeps.nap_redone, Lined.mapped, ServedEnds.{count_both, count_none, count_one}, Serving.{Balances, SparesRecords, gates_still, hands_served}, ServingHolds.Serves}}
 use Rattle.exec_parts.specs.declared.parts.mail.Subject.TheVariants as subject
 
 -- WHAT TASKS HOLD AND ARE OWED
@@ -32,13 +32,7 @@ module _ (h h' : Hands) (workers : ℕ) (hs : List Holder) (ts : List Thing) (na
 
   -- and was owed no wake
   none_before : (i : ℕ) → 0 < h.wakes i z.task → ⊥
-  none_before i some =
-      let owed = (old.owed i z.task some).1 in
-      let same : owed.it ≡ waits.it = same_thing owed.it waits.it (sym owed.there ∙ waits.there) in
-      let owes : Owes i z.task (Some (subject.Timer n)) ts naps boxes = subst (λ o. Owes i z.task o ts naps boxes) (ap (λ (x : Holder). x.awaits) same ∙ waits.awaits) owed.owes in
-      let is : owes.0 ≡ z = same_thing owes.0 z (sym owes.1 ∙ there) in
-      let by : NapOwes i z.task z = subst (NapOwes i z.task) is owes.2 in
-      asleep by.over
+  none_before = grind (arith, waits, same_thing, asleep)
 
   by_zero : (m : ℕ) → (0 < m → ⊥) → m ≡ 0
   by_zero zero never = refl

@@ -1,12 +1,11 @@
 -- A sleeper fires: what its worker keeps of sleepers, what is sent elsewhere, and the room for that.
-use Rattle.std.proofs.{Common.{◌≡◌, ◌≢◌, ℕ, ◌+◌, ◌≤◌, ◌&&◌, ◌||◌, Bool, true, false, Contains, List, ◌++◌, count_by, length, Some, None, IsSome, Ok, refl, sym, ap, subst, ◌∙◌, arith, inl, inr, slice_get, slice_set}, lemmas.{Bool.{false≢true, eq-eqb}, List.{length-append, Elements.Contains-append_cases}}}
+use Rattle.std.proofs.{Common.{◌≡◌, ◌≢◌, ℕ, ◌+◌, ◌≤◌, ◌||◌, false, Contains, List, ◌++◌, count_by, length, Some, None, IsSome, Ok, refl, sym, ap, subst, ◌∙◌, arith, inl, inr, slice_get, slice_set}, lemmas.{Bool.{false≢true, eq-eqb}, List.{length-append, Elements.Contains-append_cases}}}
 use Rattle.exec_base.specs.{Slab.{Slab, value_at}, declared.slab.Id.Id}
 use Rattle.exec_time.specs.{Notes.Adds, Sleepers.{completions_of, wakes_of}, declared.{notes.ForwardedResult.ForwardedResult, timers.{Observer.Observer as Watching, Sleeper.Sleeper as Sleeping}}}
 use Rattle.exec_time.specs.declared.timers.Observer.TheVariants as sleep
 use Rattle.exec_waiters.specs.declared.deferred.Deferred.{Deferred}
 use Rattle.exec_driver.specs.Driving.{Driving}
 use Rattle.exec_machine.specs.Tests.{is_applied}
-use Rattle.exec_moves.specs.declared.handing.Heard.{Heard}
 use Rattle.exec_parts.{specs.{declared.parts.{mail.Reply.Reply, names.Names.Names, record.Record.Record, sleeping.SleeperRecord.SleeperRecord}, Records.number_in, Calls.IsTold}, proofs.Facts.{by_number, not_same, same_thing, set_elsewhere}}
 use Rattle.exec_invariants.{specs.{Places.one_if, Rooted.{IsCompletion, IsRooted, SleeperPays, Watches, completions_of as sent_of, ends_elsewhere, goes_elsewhere, is_of_timer, results_of}, Names.HasWidth}, proofs.{Fired.{fired_there, fires}, ServedEnds.{count_both, count_none, count_one, none_in, only_one}}}
 
@@ -21,34 +20,10 @@ few_ends (sleep.Forwarded reply) = omega arith
 
 -- THE ROOM
 pub told_less : (ended : List ℕ) (left left' : Deferred Reply Reply) (n : ℕ) (o : Watching Reply) → left' ≡ record left { notes = left'.notes } → Adds left.notes left'.notes (wakes_of o) (completions_of (Ok tt) o) → IsTold ended left (n + 1) → IsTold ended left' n
-told_less ended left left' n o same adds told =
-    let room = told.room in
-    let wakes : length left'.notes.wakes.items ≡ length left.notes.wakes.items + length (wakes_of o) = ap length adds.wakes_added ∙ length-append left.notes.wakes.items (wakes_of o) in
-    let completions : length left'.notes.completions.items ≡ length left.notes.completions.items + length (completions_of (Ok tt) o) = ap length adds.completions_added ∙ length-append left.notes.completions.items (completions_of (Ok tt) o) in
-    let one_wake = few_wakes o in
-    let one_end = few_ends o in
-    record {
-      resources = told.resources ∙ sym (ap (λ (x : Deferred Reply Reply). length x.resources.items) same);
-      room = record {
-        notes = record {
-          wakes = omega (arith, wakes, one_wake, room.notes.wakes, adds.wakes_memory, left'.notes.wakes.ok.0, left.notes.wakes.ok.0);
-          completions = omega (arith, completions, one_end, room.notes.completions, adds.completions_memory, left'.notes.completions.ok.0, left.notes.completions.ok.0);
-        };
-        outputs = rw (ap (λ (x : Deferred Reply Reply). x.outputs) same) (omega (arith, room.outputs));
-        resources = rw (ap (λ (x : Deferred Reply Reply). x.resources) same) (omega (arith, room.resources));
-        results = rw (ap (λ (x : Deferred Reply Reply). x.results) same) (omega (arith, room.results));
-      };
-    }
+told_less = grind (arith, length-append, few_wakes, few_ends)
 
 pub wide_less : (left left' : Deferred Reply Reply) (n : ℕ) (o : Watching Reply) → left' ≡ record left { notes = left'.notes } → Adds left.notes left'.notes (wakes_of o) (completions_of (Ok tt) o) → HasWidth left (n + 1) → HasWidth left' n
-wide_less left left' n o same adds wide =
-    record {
-      wakes = omega (arith, wide.wakes, adds.wakes_memory);
-      completions = omega (arith, wide.completions, adds.completions_memory);
-      outputs = rw (ap (λ (x : Deferred Reply Reply). x.outputs) same) (omega (arith, wide.outputs));
-      resources = rw (ap (λ (x : Deferred Reply Reply). x.resources) same) (omega (arith, wide.resources));
-      results = rw (ap (λ (x : Deferred Reply Reply). x.results) same) (omega (arith, wide.results));
-    }
+wide_less = grind arith
 
 -- WHAT IS KEPT
 
@@ -67,10 +42,7 @@ module _ (i : ℕ) (n : Names) (d : Driving Reply Reply) (zs zs' : Slab (Sleepin
 
   -- what stands there then is it, or stood there
   by_sleeper : {C : Type 0} (j : ℕ) (x : SleeperRecord) → slice_get (slice_set ss (number_in n.timers.items id) (fires z)) j ≡ Some x → (j ≡ number_in n.timers.items id → fires z ≡ x → C) → ((number_in n.timers.items id ≡ j → ⊥) → slice_get ss j ≡ Some x → C) → C
-  by_sleeper j x at this other =
-      by_number j k
-      (λ differs. other (λ e. differs (sym e)) (sym (set_elsewhere ss k j (fires z) differs) ∙ at))
-      (λ e. this e (same_thing (fires z) x (sym now_there ∙ ap (slice_get (slice_set ss k (fires z))) (sym e) ∙ at)))
+  by_sleeper = grind (arith, by_number, set_elsewhere, fires, same_thing, now_there)
 
   -- it has paid none
   pub unpaid : z.shown.wakes_paid ≡ 0
@@ -78,21 +50,13 @@ module _ (i : ℕ) (n : Names) (d : Driving Reply Reply) (zs zs' : Slab (Sleepin
 
   -- and its end wasn't sent
   ends_none : ends_elsewhere z ≡ false
-  ends_none = ap (λ b. is_applied z.shown.forwarding && (b || (z.shown.removed || z.closed))) unfired ∙ ap (λ b. is_applied z.shown.forwarding && (b || z.closed)) unremoved ∙ ap (λ b. is_applied z.shown.forwarding && b) unclosed ∙ by (is_applied z.shown.forwarding)
-    where
-      by : (b : Bool) → (b && false) ≡ false
-      by true = refl
-      by false = refl
+  ends_none = grind arith
 
   none_sent : sent_of k left + one_if z.sent ≡ 0
   none_sent = rooted.sleeper_sent k z there mine ∙ ap one_if ends_none
 
   pub unsent : z.sent ≡ false
-  unsent = by z.sent (let e = none_sent in omega (arith, e))
-    where
-      by : (b : Bool) → one_if b ≡ 0 → b ≡ false
-      by true h = absurd (let no : 1 ≡ 0 = h in omega (arith, no))
-      by false h = refl
+  unsent = grind (arith, none_sent)
 
   completions_then : left'.notes.completions.items ≡ left.notes.completions.items ++ completions_of (Ok tt) it.observer
   completions_then = adds.completions_added
@@ -101,25 +65,13 @@ module _ (i : ℕ) (n : Names) (d : Driving Reply Reply) (zs zs' : Slab (Sleepin
   counted j = ap (count_by (λ (c : ForwardedResult Reply). is_of_timer j c.sender.of)) completions_then ∙ count_both (λ (c : ForwardedResult Reply). is_of_timer j c.sender.of) left.notes.completions.items (completions_of (Ok tt) it.observer)
 
   sent_other : (j : ℕ) → (k ≡ j → ⊥) → (o : Watching Reply) → it.observer ≡ o → count_by (λ (c : ForwardedResult Reply). is_of_timer j c.sender.of) (completions_of (Ok tt) o) ≡ 0
-  sent_other j differs (sleep.Local t) is = count_none (λ (c : ForwardedResult Reply). is_of_timer j c.sender.of)
-  sent_other j differs (sleep.Forwarded reply) is =
-      let w : Watches k (sleep.Forwarded reply) z = subst (λ o. Watches k o z) is watched in
-      count_one (λ (c : ForwardedResult Reply). is_of_timer j c.sender.of) (record { sender = reply; result = Ok tt }) false (ap (λ (r : Reply). is_of_timer j r.of) w.0 ∙ not_same k j differs)
+  sent_other = grind (arith, count_none, watched, count_one, not_same)
 
   sent_here : (o : Watching Reply) → it.observer ≡ o → count_by (λ (c : ForwardedResult Reply). is_of_timer k c.sender.of) (completions_of (Ok tt) o) ≡ one_if (is_applied z.shown.forwarding)
-  sent_here (sleep.Local t) is =
-      let w : Watches k (sleep.Local t) z = subst (λ o. Watches k o z) is watched in
-      count_none (λ (c : ForwardedResult Reply). is_of_timer k c.sender.of) ∙ sym (ap one_if w.1)
-  sent_here (sleep.Forwarded reply) is =
-      let w : Watches k (sleep.Forwarded reply) z = subst (λ o. Watches k o z) is watched in
-      count_one (λ (c : ForwardedResult Reply). is_of_timer k c.sender.of) (record { sender = reply; result = Ok tt }) true (ap (λ (r : Reply). is_of_timer k r.of) w.0 ∙ eq-eqb k k refl) ∙ sym (ap one_if w.1)
+  sent_here = grind (arith, watched, count_none, count_one, eq-eqb)
 
   ends_now : ends_elsewhere (fires z) ≡ is_applied z.shown.forwarding
-  ends_now = by (is_applied z.shown.forwarding)
-    where
-      by : (b : Bool) → (b && (true || (z.shown.removed || z.closed))) ≡ b
-      by true = refl
-      by false = refl
+  ends_now = grind arith
 
   sent_then : (j : ℕ) (x : SleeperRecord) → slice_get (slice_set ss (number_in n.timers.items id) (fires z)) j ≡ Some x → x.shown.worker ≡ i → sent_of j left' + one_if x.sent ≡ one_if (ends_elsewhere x)
   sent_then j x at of_i =
@@ -138,28 +90,10 @@ module _ (i : ℕ) (n : Names) (d : Driving Reply Reply) (zs zs' : Slab (Sleepin
       omega (arith, sum, none, old))
 
   end_old : (c : ForwardedResult Reply) → IsCompletion i c ss → IsCompletion i c (slice_set ss (number_in n.timers.items id) (fires z))
-  end_old c old =
-      by_number old.n k
-      (λ differs. record { n = old.n; z = old.z; there = set_elsewhere ss k old.n (fires z) differs ∙ old.there; worker = old.worker; reply = old.reply; paid = old.paid })
-      (λ e.
-      let is : old.z ≡ z = same_thing old.z z (sym old.there ∙ ap (slice_get ss) e ∙ there) in
-      record {
-        n = old.n;
-        z = fires z;
-        there = ap (slice_get (slice_set ss k (fires z))) e ∙ now_there;
-        worker = mine;
-        reply = old.reply ∙ ap (λ (y : SleeperRecord). record { task = record { 0 = y.shown.task }; of = Heard.Timer old.n }) is;
-        paid = subst (λ (y : SleeperRecord). y.shown.wakes_paid ≤ 1) is old.paid;
-      })
+  end_old = grind (arith, by_number, set_elsewhere, fires, same_thing, now_there)
 
   end_new : (o : Watching Reply) → it.observer ≡ o → (c : ForwardedResult Reply) → Contains (completions_of (Ok tt) o) c → IsCompletion i c (slice_set ss (number_in n.timers.items id) (fires z))
-  end_new (sleep.Local t) is c among = absurd (none_in c among)
-  end_new (sleep.Forwarded reply) is c among =
-      let w : Watches k (sleep.Forwarded reply) z = subst (λ o. Watches k o z) is watched in
-      let made : ForwardedResult Reply = record { sender = reply; result = Ok tt } in
-      let none = unpaid in
-      subst (λ (x : ForwardedResult Reply). IsCompletion i x (slice_set ss k (fires z))) (only_one made c among)
-      (record { n = k; z = fires z; there = now_there; worker = mine; reply = w.0; paid = omega (arith, none) })
+  end_new = grind (arith, none_in, watched, unpaid, fires, only_one, now_there)
 
   pub rooted_fired : IsRooted i n d zs' left' rs (slice_set ss (number_in n.timers.items id) (fires z))
   rooted_fired =

@@ -1,15 +1,16 @@
 -- An operation that has landed, whose request is over: a step.
 use Rattle.std.{proofs.{Common.{◌≡◌, ◌≢◌, ℕ, ◌<◌, ◌==◌, ◌&&◌, Bool, true, false, not, List, [], ◌∷◌, ◌++◌, length, map, Option, Some, None, IsSome, if◌then◌else◌, refl, sym, ap, subst, ◌∙◌, ◌-◌, filter, slice_get, slice_index_or}, lemmas.Bool.{eq-eqb, false≢true}}, specs.VecDeque.deque_capacity}
-use Rattle.exec_base.specs.{Slab.{Slab, value_at, written}, declared.slab.{Id.Id, Slot.TheVariants.Live}}
+use Rattle.std.proofs.Common.{arith}
+use Rattle.exec_base.specs.{Slab.{Slab, value_at, written}, declared.slab.{Id.Id}}
 use Rattle.exec_outcomes.specs.{Accounts.{Account, by_failure, is_durable, outcome_told as told_of}, Outcomes.{is_unsupported, refuses_hint}, declared.outcome.Outcome.{Outcome, TheVariants.{Failure, Success}}}
 use Rattle.exec_request.specs.{Hints.without_hint, Judging.judged_as, Requests.{asked_of, cursor_of, hinted_of, output_of, record_after, target_of}, declared.{output.RequestOutput.RequestOutput, request.Request.Request as Asking}, States.{Ended, as_outcome, asks_cancel, result_of, told_by}}
 use Rattle.exec_ring.specs.{Completions.result_in, declared.completion.Completion.Completion, Rings.completions}
 use Rattle.exec_waiters.{specs.{States.{file_of, flying_count}, Events.{waker_in, told_by_finish}, declared.{waiter.{Entry.{Entry, TheVariants.Pending}, Waiter.Waiter}, waiter_id.WaiterId.WaiterId}, Told.{Tells, Told}}, proofs.Changes.{one_if, entry_of}}
-use Rattle.exec_driver.specs.{Driving.{Driving, request_at, is_queued, is_unenrolled, is_cancelled}, Lists.without, Opens.{OpenState, account_by, account_in, with_account}, Punctual.IsPunctual, Placed.ListsRequests, Steps.open_after}
+use Rattle.exec_driver.specs.{Driving.{Driving, request_at, is_queued, is_unenrolled, is_cancelled}, Opens.{OpenState, account_by, account_in, with_account}, Punctual.IsPunctual, Placed.ListsRequests, Steps.open_after}
 use Rattle.exec_task.specs.declared.body.Said.{Said}
 use Rattle.exec_machine.specs.{declared.event.Event.{Event, TheVariants.Reap}, Requests.{judged_of, outcome_given}, Tests.{is_gated, is_of_file, is_resolved}, World.no_open}
 use Rattle.exec_moves.specs.{declared.place.{Place.Place, Reaping.Reaping, Service.Service, InService.InService}, Serve.{after_permit, back_from_reap, others_after_reap}, State.{Desk, dropped}, Thing.{set_wake_poll, with_ring}, Told.told_of_end}
-use Rattle.exec_parts.{specs.{declared.parts.{mail.Reply.Reply, record.Record.Record, shared.Shared.Shared, worker.Worker.Worker}, Records.number_in, Serving.changed_at, View.{account_seen, awaited_from, completions_in, driver_of, number_told, numbers_of_passing, open_seen, visible, own_of, desk_of, results_in, slots_seen, things_with, wake_poll_in, with_view, numbers_of, trailing}, Spots.Spot}, proofs.Facts.{and_none, by_number, never_true, same_thing, set_elsewhere}}
+use Rattle.exec_parts.{specs.{declared.parts.{mail.Reply.Reply, record.Record.Record, shared.Shared.Shared, worker.Worker.Worker}, Records.number_in, Serving.changed_at, View.{account_seen, awaited_from, completions_in, driver_of, number_told, numbers_of_passing, open_seen, visible, own_of, desk_of, results_in, slots_seen, things_with, wake_poll_in, with_view, trailing}, Spots.Spot}, proofs.Facts.{and_none, by_number, never_true, same_thing, set_elsewhere}}
 use Rattle.exec_invariants.{specs.{Flown.operations, Gates.{AreLinedUp, HaveGates, IsKnown, PassesPermit, at_gate, key_for}, Holding.nap_of, Places.{drops_at, passes_at}, Sound.SoundAt, Whole.{IsWhole, Profile, with_worker}, Works.Steps}, proofs.{Accounted.{OpensJudged, open_of_file, opens_judged}, DeskEnds.desk_ended, EndsServed.{ends_thing, one_slot}, Gated.durable_of_file, Hinting.open_there, Keys.name_in, ReapKinds.durable_kept, Lined.{SameLines, gates_kept, gates_opens, gates_seen_same, lined_opens, map_changed, passing_same, was_sent}, Mine.{live_mine, stands}, Raising.poll_shows, ServedEnds.ends_told, ServedWakes.holding_over, Serving.{Balances, SparesRecords, at_large, spares_one}, ServingHolds.{serves_to, IsServed, OthersKept, keeps_home, KeepsBy, Keeps, Serves}, Slotted.{OneSlot, awaited_written, slots_written}, SparedRecord.there_within, Changing.{changes_one, flying_after}, Judging.{given_is, judged_same}, Seeing.{desk_with, makes, own_with, served, shows}, Ends.{flying_ended, numbers_without}, Marking.{mark_if, marked}}}
 use Rattle.exec_serving.proofs.{PermitGates.{drops_others, drops_own, gates_passing}, PermitSeen.{opens_after, opens_ended}, ReapAccounts.{IsOperation, ends_unswitched, file_there, lines_counted, opens_counted, opens_uncounted, told_unhinted}, ReapViewed.{common_over, may_over, moves_over, told_place}, Returned.{one_fewer, passes_back}, Finished.{GoesOver, ended_same, follows_over, goes_over, keeps_gone, over_alike, over_outcome, over_place, served_over}}
 
@@ -19,13 +20,7 @@ lines_after : (a b c : List OpenState) → SameLines a b → SameLines b c → S
 lines_after a b c one two = record { lines = two.lines ∙ one.lines; kept = two.kept; hints = λ file none. two.hints file (one.hints file none) }
 
 pub known_opens : (i : ℕ) (numbers : List ℕ) (requests : Slab (Entry Reply Reply)) (opens opens' : List OpenState) (rs : List Record) → SameLines opens opens' → IsKnown i numbers requests opens rs → IsKnown i numbers requests opens' rs
-known_opens i numbers requests opens opens' rs same known =
-    record {
-      past = known.past;
-      counted = known.counted;
-      few = known.few;
-      hints = λ id it r live there asks unrefused none. same.hints r.shown.operation.target (known.hints id it r live there asks unrefused none);
-    }
+known_opens = grind arith
 
 -- WHAT IS TOLD of its end
 
@@ -62,16 +57,7 @@ told_seen rs opens q r how b lined kind target within = by (is_durable (asked_of
 -- ITS SLOT, once its result was taken
 
 pub one_written : (numbers : List ℕ) (s : Slab (Entry Reply Reply)) (id : Id) (e : Entry Reply Reply) → value_at (written s id e) id ≡ Some e → OneSlot numbers s id → OneSlot numbers (written s id e) id
-one_written numbers s id e live one =
-    record {
-      e = e;
-      live = live;
-      low = one.low;
-      alone = λ j x at alive same.
-          by_number j id.index
-          (λ apart. one.alone j x (sym (set_elsewhere s.slots id.index j (Live id.generation e) apart) ∙ at) alive same)
-          (λ is. is);
-    }
+one_written = grind (arith, by_number, set_elsewhere)
 
 pub one_written_is : (numbers : List ℕ) (s : Slab (Entry Reply Reply)) (id : Id) (e : Entry Reply Reply) (live : value_at (written s id e) id ≡ Some e) (one : OneSlot numbers s id) → (one_written numbers s id e live one).e ≡ e
 unfolding one_written
@@ -80,17 +66,11 @@ one_written_is numbers s id e live one = refl
 -- another has another number
 pub apart_by : {B : Type 0} (q : Place) (w : Worker) (s : Shared B) → SoundAt q w s → (id : Id) (r : Record) → slice_get s.requests.items (number_in w.names.requests.items id) ≡ Some r → r.id.0 ≡ id
     → (x : WaiterId) → IsSome (value_at (driver_of w).requests x.0) → x.0 ≢ id → number_in w.names.requests.items x.0 ≡ number_in w.names.requests.items id → ⊥
-apart_by q w s sound id r there name x some differs same =
-    let one = sound.named.requests x.0 some in
-    let both : one.0 ≡ r = cc (one.1, there, same) in
-    differs (sym one.2 ∙ ap (λ y. y.id.0) both ∙ name)
+apart_by = grind arith
 
 module _ {B L : Type 0} (left : B → L) (spot : L → Option Said → Spot) (rp : Reaping) (v : Service) (w : Worker) (s : Shared B) (sound : SoundAt (Place.Service (InService.Reap rp) v) w s) (waits : sound.seated.seat.raised ≡ 0) (lists : ListsRequests (driver_of w)) (c : Completion) (cs : List Completion) (is : operations (driver_of w).ring ≡ c ∷ cs) (how : Ended) (account : Option Account) where
   over_name : (d' : Driving Reply Reply) (over : GoesOver w s d' c cs how account) → over.h.r.id.0 ≡ over.h.id
-  over_name d' over =
-      let one = sound.named.requests over.h.id (rw (entry_of (value_at (driver_of w).requests over.h.id) over.h.it over.h.live) refl) in
-      let both : one.0 ≡ over.h.r = cc (one.1, over.h.there) in
-      ap (λ y. y.id.0) (sym both) ∙ one.2
+  over_name = grind arith
 
   pub own_gone : (d' : Driving Reply Reply) (over : GoesOver w s d' c cs how account) (ended : List ℕ) (q' : Place) →
       let n = w.names.requests.items in
@@ -113,11 +93,7 @@ module _ {B L : Type 0} (left : B → L) (spot : L → Option Said → Spot) (rp
       let ready = numbers_without n name d.lists.queued (λ x among. apart x (stands d x is_queued (request_at d x) refl refl (lists.queued x among))) in
       let unenrolled = numbers_without n name d.lists.enrolments (λ x among. apart x (stands d x is_unenrolled (request_at d x) refl refl (lists.enrolments x among))) in
       let cancels = numbers_without n name d.lists.cancels (λ x among. apart x (stands d x is_cancelled (request_at d x) refl refl (lists.cancels x among))) in
-      ap (λ l. record me' { ready = numbers_of n l.queued; unenrolled = numbers_of n l.enrolments; cancels = numbers_of n l.cancels }) over.lists
-      ∙ ap (λ ns. record me' { ready = ns; unenrolled = numbers_of n (without name d.lists.enrolments); cancels = numbers_of n (without name d.lists.cancels) }) ready
-      ∙ ap (λ ns. record me' { ready = filter (λ j. not (j == k)) (numbers_of n d.lists.queued); unenrolled = ns; cancels = numbers_of n (without name d.lists.cancels) }) unenrolled
-      ∙ ap (λ ns. record me' { ready = filter (λ j. not (j == k)) (numbers_of n d.lists.queued); unenrolled = filter (λ j. not (j == k)) (numbers_of n d.lists.enrolments); cancels = ns }) cancels
-      ∙ ap (λ m. record me' { ready = filter (λ j. not (j == k)) (numbers_of n d.lists.queued); unenrolled = filter (λ j. not (j == k)) (numbers_of n d.lists.enrolments); cancels = filter (λ j. not (j == k)) (numbers_of n d.lists.cancels); in_flight = m }) flying
+      grind arith
 
   -- where it is at its end
   abbrev place_over : (d' : Driving Reply Reply) → GoesOver w s d' c cs how account → Place

@@ -1,12 +1,12 @@
 -- A result lands: what its request and its kernel's store must be, and what becomes of them.
-use Rattle.std.{proofs.{Common.{◌≡◌, ℕ, ◌+◌, ◌-◌, ◌≤◌, ◌==◌, ◌&&◌, Bool, true, false, not, inl, inr, ◌⊎◌, List, length, Some, None, Option, refl, sym, ap, subst, ◌∙◌, arith, slice_get, sum_by, if◌then◌else◌}, lemmas.{Bool.{false≢true, eq-eqb}}}, specs.{BTreeMap.get, Ordering.nat_cmp}}
+use Rattle.std.{proofs.{Common.{◌≡◌, ℕ, ◌+◌, ◌-◌, ◌≤◌, ◌==◌, ◌&&◌, Bool, true, false, not, List, length, Some, None, Option, refl, sym, ap, subst, ◌∙◌, arith, slice_get, if◌then◌else◌}, lemmas.{Bool.{eq-eqb}}}, specs.{BTreeMap.get, Ordering.nat_cmp}}
 use Rattle.exec_outcomes.specs.{Lawful.{is_lawful, window_of}, Outcomes.{bytes_of}, declared.outcome.{OpResult.{OpResult, TheVariants.{Count, Errno}}, Kind.Kind}}
-use Rattle.exec_request.specs.{Buffers.{batch_of}, Kept.{seen_by}, Requests.{asked_of, cursor_of, deadline_of, hinted_of, target_of, window_by}, Syncing.{is_syncing, write_kind}, Views.{write_window}, Ways.{asked_by}, Windows.most_of, declared.{request.Request.Request as Asking, way.Way.Way, write_at.{WriteAtState.WriteAtState}}}
-use Rattle.exec_ring.specs.{Fillings.Fills, Kernels.{is_of, allows, flight_of, may_land}, Landings.{IsReady, IsReadyFor, Moves, MovesBytes}, Rings.{RingState}, Sockets.{SocketState}, Stores.{CoversIn, HasStretch, socket_of}, declared.{completion.{Submission.Submission}, file.File.File, store.Store.Store}}
+use Rattle.exec_request.specs.{Buffers.{batch_of}, Kept.{seen_by}, Requests.{asked_of, cursor_of, deadline_of, hinted_of, target_of, window_by}, Syncing.{is_syncing}, Views.{write_window}, Ways.{asked_by}, Windows.most_of, declared.{request.Request.Request as Asking, way.Way.Way}}
+use Rattle.exec_ring.specs.{Fillings.Fills, Kernels.{flight_of, may_land}, Landings.{IsReady, IsReadyFor, Moves, MovesBytes}, Rings.{RingState}, Sockets.{SocketState}, Stores.{CoversIn, HasStretch, socket_of}, declared.{completion.{Submission.Submission}, file.File.File, store.Store.Store}}
 use Rattle.exec_driver.specs.Footprints.{bytes_left}
 use Rattle.exec_machine.specs.{declared.state.{Operation.Operation, RequestPhase.{TheVariants.Flying}}, Requests.{asked_of as asked_in, cursor_of as cursor_in}}
-use Rattle.exec_parts.{specs.{declared.parts.record.Record.Record, Serving.changed_at}, proofs.Facts.same_number}
-use Rattle.exec_invariants.{specs.Carried.{HasRoom, HasStretchFor, IsWhole, IsLone, is_moved_by, may_move, moves_by, room_for, unlanded, landing}, proofs.Carrying.{lone_found, part_within, sum_changed}}
+use Rattle.exec_parts.{specs.{declared.parts.record.Record.Record, Serving.changed_at}}
+use Rattle.exec_invariants.{specs.Carried.{HasRoom, HasStretchFor, IsWhole, IsLone, is_moved_by, may_move, moves_by, room_for, landing}, proofs.Carrying.{lone_found, part_within, sum_changed}}
 use Rattle.exec_serving.proofs.LandWindows.{allowed_by, batch_few, batch_whole, counted, few_left, lawful_same}
 
 -- THE ROOM FOR BYTES
@@ -24,13 +24,7 @@ receives_there o socket b k t = ap (λ x. is_moved_by false x && (o.target == so
 -- so many of them have room
 room_of : (rs : List Record) (st : Store) (k : ℕ) (r : Record) (n : OpResult) (out : Bool) (socket : ℕ) → slice_get rs k ≡ Some r → r.shown.phase ≡ Flying → moves_by out socket r.shown.operation ≡ true
     → is_lawful (window_of (asked_in r.shown.operation) (cursor_in r.shown.operation)) n ≡ true → HasRoom rs st → bytes_of n ≤ room_for out (socket_of st socket)
-room_of rs st k r n out socket there flies moves lawful room =
-    let o = r.shown.operation in
-    let left : may_move out socket r ≡ o.length - o.moved = ap (λ b. if b then unlanded r.shown.phase o else 0) moves ∙ ap (λ p. unlanded p o) flies in
-    let part = part_within (may_move out socket) rs k r there in
-    let few = few_left o n out socket moves lawful in
-    let all = room out socket in
-    omega (arith, left, part, few, all)
+room_of = grind (arith, part_within, few_left)
 
 -- a part of a stretch
 stretch_within : (o : Option File) (offset n m : ℕ) → m ≤ n → CoversIn o offset n → CoversIn o offset m
@@ -85,52 +79,6 @@ pub record Leaves (o : Operation) (n : OpResult) (st st' : Store) : Type 0 where
 leaves_same : (o : Operation) (n : OpResult) (st st' : Store) → st' ≡ st → Leaves o n st st'
 leaves_same o n st st' same = rw same (record { some = λ out socket. omega arith; all = λ out socket h. omega arith; stretch = λ file offset m h. h })
 
--- one socket has moved bytes, in one direction
-module _ (o : Operation) (n : ℕ) (st st' : Store) (fd : ℕ) (x : SocketState) (way : Bool) (sockets : (socket : ℕ) → socket_of st' socket ≡ (if socket == fd then x else socket_of st socket)) (moves : moves_by way fd o ≡ true)
-    (same_way : room_for way x ≡ room_for way (socket_of st fd) - n) (other_way : room_for (not way) x ≡ room_for (not way) (socket_of st fd)) where
-  some_by : (out b : Bool) (socket : ℕ) → (socket == fd) ≡ b → out ≡ way → room_for out (socket_of st socket) ≤ room_for out (socket_of st' socket) + n
-  some_by out true socket is same =
-      let here : room_for way (socket_of st socket) ≡ room_for way (socket_of st fd) = ap (λ t. room_for way (socket_of st t)) (same_number socket fd is) in
-      let now : room_for way (socket_of st' socket) ≡ room_for way (socket_of st fd) - n = ap (room_for way) (sockets socket ∙ ap (λ b. if b then x else socket_of st socket) is) ∙ same_way in
-      rw same (omega (arith, here, now))
-  some_by out false socket is same =
-      let now : room_for way (socket_of st' socket) ≡ room_for way (socket_of st socket) = ap (room_for way) (sockets socket ∙ ap (λ b. if b then x else socket_of st socket) is) in
-      rw same (omega (arith, now))
-
-  all_by : (out b : Bool) (socket : ℕ) → (socket == fd) ≡ b → out ≡ not way → room_for out (socket_of st' socket) ≡ room_for out (socket_of st socket)
-  all_by out true socket is same =
-      let here : room_for (not way) (socket_of st socket) ≡ room_for (not way) (socket_of st fd) = ap (λ t. room_for (not way) (socket_of st t)) (same_number socket fd is) in
-      rw same (ap (room_for (not way)) (sockets socket ∙ ap (λ b. if b then x else socket_of st socket) is) ∙ other_way ∙ sym here)
-  all_by out false socket is same = ap (room_for out) (sockets socket ∙ ap (λ b. if b then x else socket_of st socket) is)
-
-  elsewhere_by : (out b : Bool) (socket : ℕ) → (socket == fd) ≡ b → out ≡ way → moves_by out socket o ≡ false → room_for out (socket_of st socket) ≤ room_for out (socket_of st' socket)
-  elsewhere_by out true socket is same apart = absurd (false≢true (sym apart ∙ ap (λ t. moves_by out t o) (same_number socket fd is) ∙ ap (λ b. moves_by b fd o) same ∙ moves))
-  elsewhere_by out false socket is same apart =
-      let now : room_for out (socket_of st' socket) ≡ room_for out (socket_of st socket) = ap (room_for out) (sockets socket ∙ ap (λ b. if b then x else socket_of st socket) is) in
-      omega (arith, now)
-
-  directed : (a b : Bool) → (a ≡ b) ⊎ (a ≡ not b)
-  directed true true = inl refl
-  directed true false = inr refl
-  directed false true = inr refl
-  directed false false = inl refl
-
-  leaves_moved : ((file offset m : ℕ) → HasStretch st file offset m → HasStretch st' file offset m) → Leaves o (Count n) st st'
-  leaves_moved stretch =
-      record {
-        some = λ out socket.
-            elim (directed out way) [
-              | inl same ↦ some_by out (socket == fd) socket refl same
-              | inr other ↦ (let now = all_by out (socket == fd) socket refl other in omega (arith, now))
-            ];
-        all = λ out socket apart.
-            elim (directed out way) [
-              | inl same ↦ elsewhere_by out (socket == fd) socket refl same apart
-              | inr other ↦ (let now = all_by out (socket == fd) socket refl other in omega (arith, now))
-            ];
-        stretch = stretch;
-      }
-
 -- A LANDING LEAVES A REQUEST as it was, but for the bytes that came into its buffer
 
 pub record Refilled (q q' : Asking) : Type 0 where
@@ -147,10 +95,6 @@ pub record Refilled (q q' : Asking) : Type 0 where
 refilled_same : (q q' : Asking) → q' ≡ q → Refilled q q'
 refilled_same q q' same = rw same (record { asked = refl; cursor = refl; deadline = refl; target = refl; hinted = refl; seen = refl; window = refl; whole = λ h. h; stretch = λ st h. h })
 
-and_true : (b : Bool) → (b && true) ≡ b
-and_true true = refl
-and_true false = refl
-
 abbrev takes_in : Kind → Bool
 takes_in Kind.Recv = true
 takes_in Kind.Fill = true
@@ -159,70 +103,13 @@ takes_in Kind.Hint = true
 takes_in Kind.Direct = true
 takes_in _ = false
 
-recv_in : (b : Bool) → takes_in (if b then Kind.Fill else Kind.Recv) ≡ true
-recv_in true = refl
-recv_in false = refl
-
 read_in : (way : Way) (n : ℕ) → takes_in (asked_by way n).kind ≡ true
-read_in Way.Buffered n = refl
-read_in Way.Hinted n = refl
-read_in (Way.Direct skip len) n = refl
-read_in (Way.Switched skip len) n = refl
-
-write_out : (x : WriteAtState) → takes_in (write_kind x) ≡ false
-write_out WriteAtState.Writing = refl
-write_out WriteAtState.WritingSync = refl
-write_out WriteAtState.WritingBeforeSync = refl
-write_out WriteAtState.Syncing = refl
-
-recv_read : (b : Bool) (way : Way) (n : ℕ) → (if b then Kind.Fill else Kind.Recv) ≡ (asked_by way n).kind → ⊥
-recv_read b way n h = false≢true (sym (read_out way n) ∙ ap (is_moved_by false) (sym h) ∙ receives_by b)
-  where
-    read_out : (way : Way) (n : ℕ) → is_moved_by false (asked_by way n).kind ≡ false
-    read_out Way.Buffered n = refl
-    read_out Way.Hinted n = refl
-    read_out (Way.Direct skip len) n = refl
-    read_out (Way.Switched skip len) n = refl
+read_in = grind arith
 
 -- by a filled window: what takes bytes in still does
 module _ (q q' : Asking) (bytes : List ℕ) (fills : Fills q q' bytes) (takes : takes_in (asked_of q).kind ≡ true) where
-  hinted_by : (x y : Asking) → asked_of y ≡ asked_of x → takes_in (asked_of x).kind ≡ true → window_by true y ≡ window_by true x → hinted_of y ≡ hinted_of x
-  hinted_by (Asking.ReadAt x) (Asking.ReadAt y) asked takes window = sym (and_true (hinted_of (Asking.ReadAt y))) ∙ ap (λ w. w.hint) window ∙ and_true (hinted_of (Asking.ReadAt x))
-  hinted_by (Asking.ReadAt x) (Asking.Recv y) asked takes window = absurd (recv_read y.exact x.way (length x.buf.bytes) (ap (λ a. a.kind) asked))
-  hinted_by (Asking.ReadAt x) (Asking.WriteAt y) asked takes window = absurd (false≢true (sym (write_out y.state) ∙ ap (λ a. takes_in a.kind) asked ∙ takes))
-  hinted_by (Asking.ReadAt x) _ asked takes window = absurd (false≢true (ap (λ a. takes_in a.kind) asked ∙ takes))
-  hinted_by (Asking.Recv x) (Asking.Recv y) asked takes window = refl
-  hinted_by (Asking.Recv x) (Asking.ReadAt y) asked takes window = absurd (recv_read x.exact y.way (length y.buf.bytes) (sym (ap (λ a. a.kind) asked)))
-  hinted_by (Asking.Recv x) (Asking.WriteAt y) asked takes window = absurd (false≢true (sym (write_out y.state) ∙ ap (λ a. takes_in a.kind) asked ∙ takes))
-  hinted_by (Asking.Recv x) _ asked takes window = refl
-  hinted_by (Asking.WriteAt x) y asked takes window = absurd (false≢true (sym (write_out x.state) ∙ takes))
-  hinted_by _ y asked takes window = absurd (false≢true takes)
-
-  out_of : (x : Asking) → takes_in (asked_of x).kind ≡ true → IsWhole x × ((st : Store) → HasStretchFor x st)
-  out_of (Asking.Send s) h = absurd (false≢true h)
-  out_of (Asking.Recv r) h = (tt, λ st. tt)
-  out_of (Asking.ReadAt r) h = (tt, λ st. tt)
-  out_of (Asking.WriteAt w) h = absurd (false≢true (sym (write_out w.state) ∙ h))
-  out_of (Asking.Sync s) h = absurd (false≢true h)
-  out_of (Asking.Connect c) h = absurd (false≢true h)
-  out_of (Asking.Poll p) h = absurd (false≢true h)
-
   refilled : Refilled q q'
-  refilled =
-      let kept = fills.kept in
-      let asked : asked_of q' ≡ asked_of q = ap (λ k. k.asked) kept in
-      let still : takes_in (asked_of q').kind ≡ true = ap (λ a. takes_in a.kind) asked ∙ takes in
-      record {
-        asked = asked;
-        cursor = fills.cursor;
-        deadline = ap (λ k. k.deadline) kept;
-        target = ap (λ k. k.target) kept;
-        hinted = hinted_by q q' asked takes (fills.window true);
-        seen = ap (λ k. k.seen) kept;
-        window = fills.window true;
-        whole = λ h. (out_of q' still).0;
-        stretch = λ st h. (out_of q' still).1 st;
-      }
+  refilled = grind arith
 
 pub record Lands (q q' : Asking) (o : Operation) (n : OpResult) (st st' : Store) : Type 0 where
   pub request : Refilled q q'
@@ -234,69 +121,22 @@ lands_same q q' o n st st' same = record { request = refilled_same q q' same.1; 
 -- it takes no more of the store than its result counts
 moves_on : (q q' : Asking) (o : Operation) (n : OpResult) (st st' : Store) → asked_in o ≡ asked_of q → o.target ≡ target_of q → MovesBytes (window_by true q) n q q' st st' → Lands q q' o n st st'
 moves_on q q' o (Errno c) st st' asked target moved = lands_same q q' o (Errno c) st st' moved
-moves_on (Asking.Send s) q' o (Count n) st st' asked target moved =
-    record {
-      request = refilled_same (Asking.Send s) q' moved.1;
-      leaves = leaves_moved o n st st' s.fd _ true moved.0.sockets (sends_there o s.fd (ap (λ a. a.kind) asked) target) refl refl moved.0.files.stretches;
-    }
-moves_on (Asking.Recv x) q' o (Count n) st st' asked target moved =
-    record {
-      request = refilled (Asking.Recv x) q' _ moved.1 (recv_in x.exact);
-      leaves = leaves_moved o n st st' x.fd _ false moved.0.sockets (receives_there o x.fd x.exact (ap (λ a. a.kind) asked) target) refl refl moved.0.files.stretches;
-    }
+moves_on (Asking.Send s) q' o (Count n) st st' asked target moved = grind arith
+moves_on (Asking.Recv x) q' o (Count n) st st' asked target moved = grind arith
 moves_on (Asking.ReadAt x) q' o (Count n) st st' asked target moved =
     record { request = refilled (Asking.ReadAt x) q' _ moved.1 (read_in x.way (length x.buf.bytes)); leaves = leaves_same o (Count n) st st' moved.0 }
-moves_on (Asking.WriteAt w) q' o (Count n) st st' asked target moved = by (is_syncing w.state) refl
-  where
-    by : (b : Bool) → is_syncing w.state ≡ b → Lands (Asking.WriteAt w) q' o (Count n) st st'
-    by true is = lands_same (Asking.WriteAt w) q' o (Count n) st st' (rw is at moved)
-    by false is =
-        let it = rw is at moved in
-        record {
-          request = refilled_same (Asking.WriteAt w) q' it.1;
-          leaves = record {
-            some = λ out socket. (let same = ap (room_for out) (it.0.sockets socket) in omega (arith, same));
-            all = λ out socket apart. (let same = ap (room_for out) (it.0.sockets socket) in omega (arith, same));
-            stretch = it.0.stretches;
-          };
-        }
+moves_on (Asking.WriteAt w) q' o (Count n) st st' asked target moved = grind arith
 moves_on (Asking.Poll p) q' o (Count n) st st' asked target moved = lands_same (Asking.Poll p) q' o (Count n) st st' moved
 moves_on (Asking.Sync x) q' o (Count n) st st' asked target moved = lands_same (Asking.Sync x) q' o (Count n) st st' moved
 moves_on (Asking.Connect x) q' o (Count n) st st' asked target moved = lands_same (Asking.Connect x) q' o (Count n) st st' moved
 
 pub room_landed : (r : Record) (n : OpResult) (rs : List Record) (k : ℕ) (st st' : Store) → slice_get rs k ≡ Some r → r.shown.phase ≡ Flying → is_lawful (window_of (asked_in r.shown.operation) (cursor_in r.shown.operation)) n ≡ true
     → Leaves r.shown.operation n st st' → HasRoom rs st → HasRoom (changed_at rs k (landing n)) st'
-room_landed r n rs k st st' there flies h leaves room = λ out socket. by out socket (moves_by out socket r.shown.operation) refl
-  where
-    by : (out : Bool) (socket : ℕ) (b : Bool) → moves_by out socket r.shown.operation ≡ b → sum_by (may_move out socket) (changed_at rs k (landing n)) ≤ room_for out (socket_of st' socket)
-    by out socket true is =
-        let o = r.shown.operation in
-        let sum = sum_changed (may_move out socket) rs k r (landing n) there in
-        let was : may_move out socket r ≡ o.length - o.moved = ap (λ b. if b then unlanded r.shown.phase o else 0) is ∙ ap (λ p. unlanded p o) flies in
-        let now : may_move out socket (landing n r) ≡ (o.length - o.moved) - bytes_of n = ap (λ b. if b then (o.length - o.moved) - bytes_of n else 0) is in
-        let few = few_left o n out socket is h in
-        let some = leaves.some out socket in
-        let before = room out socket in
-        omega (arith, sum, was, now, few, some, before)
-    by out socket false is =
-        let o = r.shown.operation in
-        let sum = sum_changed (may_move out socket) rs k r (landing n) there in
-        let was : may_move out socket r ≡ 0 = ap (λ b. if b then unlanded r.shown.phase o else 0) is in
-        let now : may_move out socket (landing n r) ≡ 0 = ap (λ b. if b then (o.length - o.moved) - bytes_of n else 0) is in
-        let all = leaves.all out socket is in
-        let before = room out socket in
-        omega (arith, sum, was, now, all, before)
+room_landed = grind (arith, sum_changed, few_left)
 
 -- no more may move
 pub less_moves : (r : Record) (n : OpResult) → r.shown.phase ≡ Flying → (out : Bool) (socket : ℕ) → may_move out socket (landing n r) ≤ may_move out socket r
-less_moves r n flies out socket =
-    let o = r.shown.operation in
-    let was : may_move out socket r ≡ (if moves_by out socket o then o.length - o.moved else 0) = ap (λ p. if moves_by out socket o then unlanded p o else 0) flies in
-    rw was (by (moves_by out socket o))
-  where
-    by : (b : Bool) → let o = r.shown.operation in (if b then (o.length - o.moved) - bytes_of n else 0) ≤ (if b then o.length - o.moved else 0)
-    by true = omega arith
-    by false = omega arith
+less_moves = grind arith
 
 -- what has room in a file has it still
 pub stretch_then : (q : Asking) (o : Operation) (n : OpResult) (st st' : Store) → Leaves o n st st' → HasStretchFor q st → HasStretchFor q st'
@@ -318,19 +158,7 @@ pub record MayFly (q : Asking) (o : Operation) (user_data : ℕ) (n : OpResult) 
 pub may_fly : (q : Asking) (x : Record) (user_data : ℕ) (n : OpResult) (rs : List Record) (k : ℕ) (r : RingState) (st : Store) → IsWhole q → HasStretchFor q st → slice_get rs k ≡ Some x → x.shown.phase ≡ Flying
     → asked_in x.shown.operation ≡ asked_of q → x.shown.operation.moved ≡ (cursor_of q).moved → x.shown.operation.switched ≡ (cursor_of q).switched → x.shown.operation.target ≡ target_of q
     → IsLone user_data q r.flying → is_lawful (window_of (asked_in x.shown.operation) (cursor_in x.shown.operation)) n ≡ true → HasRoom rs st → MayFly q x.shown.operation user_data n r st
-may_fly q x user_data n rs k r st whole stretch there flies asked moved switched target lone h room =
-    let lawful = lawful_same q x.shown.operation n asked moved switched h in
-    let found : flight_of r user_data ≡ Some lone.e = lone_found (is_of user_data) r.flying lone.e lone.lone in
-    let most = allowed_by q n whole lawful in
-    record {
-      e = lone.e;
-      found = found;
-      window = lone.window;
-      ready = subst (λ o. IsReady o n q st) (sym found) (subst (λ w. IsReadyFor w n q st) lone.window (ready_for q x n rs k st whole stretch there flies asked target h most room));
-      may = ap (λ o. allows o n) found ∙ ap (λ w. is_lawful (most_of w) n) (sym lone.window) ∙ most;
-      lawful = lawful;
-      shown = h;
-    }
+may_fly = grind (arith, lawful_same, lone_found, allowed_by, ready_for)
 
 -- what becomes of the request, and what it takes of the store
 pub flown_so : (q q' : Asking) (o : Operation) (user_data : ℕ) (n : OpResult) (r : RingState) (st st' : Store) → asked_in o ≡ asked_of q → o.target ≡ target_of q → MayFly q o user_data n r st

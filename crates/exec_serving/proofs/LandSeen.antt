@@ -2,14 +2,14 @@
 use Rattle.std.proofs.{Common.{◌≡◌, ℕ, zero, suc, Option, Some, ◌&&◌, List, [], ◌∷◌, ◌++◌, map, refl, sym, ap, subst, ◌∙◌, arith, slice_get, slice_set, slice_index_or}, lemmas.List.map-append}
 use Rattle.exec_outcomes.specs.{Accounts.is_durable, declared.outcome.OpResult.OpResult}
 use Rattle.exec_request.specs.declared.request.Request.{Request as Asking}
-use Rattle.exec_ring.specs.{Completions.completed, Rings.completions}
+use Rattle.exec_ring.specs.{Completions.completed}
 use Rattle.exec_moves.specs.{State.{passed, wake_poll_of}, Thing.set_wake_poll}
 use Rattle.exec_waiters.{specs.{Ids.user_data_of, States.flying_count, declared.waiter.Entry.TheVariants.Pending}, proofs.Changes.entry_of}
 use Rattle.exec_base.specs.Slab.{value_at}
 use Rattle.exec_task.specs.declared.body.Said.{Said}
 use Rattle.exec_machine.specs.{Callers.after_landing, Progress.Plan, Tests.is_resolved, World.{Seat, request_of}, declared.state.Rest.TheVariants.Awake}
-use Rattle.exec_parts.{specs.{declared.parts.{record.Record.Record, seat.Seat.Seat as Chair, shared.Shared.Shared, worker.Worker.Worker}, Phased.TurnsChair, Records.roused, Serving.{changed_at, changed_in}, Spots.Spot, View.{Views, Visible, awaited_from, common_of, desk_of, driver_of, gate_seen, number_told, numbers_of_passing, open_seen, own_of, seat_seen, seats_seen, slots_seen, things_with, trailing, visible, wake_poll_in, with_view}}, proofs.Showing.map_kept}
-use Rattle.exec_invariants.{specs.{Carried.{HasRoom, landing, may_move}, Flown.operations, Gates.HaveGates, Holding.{IsHolding, box_of, holder_of, nap_of, thing_of}, Sound.Sound, Spares.Spares, Whole.{IsWhole, hands_of, with_worker}, Works.{Beside, Suits}}, proofs.{Aside.{SameProfile, profile_same, queue_of_chair, queues_set, seats_own, spares_turn, whole_same}, Serving.{SparesRecords, spares_service}, Seats.own_seat, Recorded.{request_seen, shown_changed}, Carrying.{index_told, one_landed, sum_changed}, Changing.flying_after, Going.{thing_on, things_changed}, Keys.{name_in, names_changed, same_opens}, Lined.{gates_kept, gates_seen_same, opens_same, passing_same, was_sent}, Raising.{poll_shows, poll_shown, rest_shows}, Shown.{desk_with, own_with, visible_with}, Slotted.{awaited_written, slots_written}, PoolKept.gates_set}}
+use Rattle.exec_parts.{specs.{declared.parts.{record.Record.Record, seat.Seat.Seat as Chair, shared.Shared.Shared, worker.Worker.Worker}, Phased.TurnsChair, Records.roused, Spots.Spot, View.{Views, Visible, awaited_from, common_of, desk_of, driver_of, gate_seen, number_told, numbers_of_passing, open_seen, own_of, seat_seen, seats_seen, slots_seen, things_with, visible, wake_poll_in, with_view}}, proofs.Showing.map_kept}
+use Rattle.exec_invariants.{specs.{Carried.{HasRoom, landing, may_move}, Flown.operations, Gates.HaveGates, Holding.{IsHolding, box_of, holder_of, nap_of, thing_of}, Sound.Sound, Spares.Spares, Whole.{IsWhole, hands_of, with_worker}, Works.{Beside, Suits}}, proofs.{Aside.{SameProfile, profile_same, queue_of_chair, queues_set, seats_own, spares_turn, whole_same}, Serving.{SparesRecords, spares_service}, Seats.own_seat, Recorded.{request_seen, shown_changed}, Carrying.{index_told, one_landed, sum_changed}, Changing.flying_after, Going.{thing_on, things_changed}, Keys.{name_in, names_changed, same_opens}, Lined.{gates_kept, gates_seen_same, opens_same, passing_same, was_sent}, Raising.{poll_shows, poll_shown, rest_shows}, Shown.{own_with, visible_with}, Slotted.{awaited_written, slots_written}, PoolKept.gates_set}}
 use Rattle.exec_serving.proofs.{LandMoves.{Leaves, Refilled, less_moves}, Landing.{Lander, driver_then, landing_on, place_of, records_then, there_so, waiter_then}, Landed.{landed_lines, landed_spares}}
 
 -- two changes at one place
@@ -23,9 +23,7 @@ seat_changed (x ∷ vs) (seat ∷ seats) (suc i) v chair = ap (λ xs. seat_seen 
 module _ {B : Type 0} (w : Worker) (s : Shared B) (k : ℕ) (n : OpResult) (who : Lander w s k n) (q : Asking) (same : Refilled who.it.request q) (sound : Sound w s) where
   -- its record, whatever it was found by
   pub records_set : (x : Record) → x ≡ who.r → slice_set s.requests.items k (landing n x) ≡ records_then w s k n who
-  records_set x is =
-      ap (λ y. slice_set s.requests.items k (landing n y)) is ∙ sym (ap (changed_in s.requests.items k (landing n)) who.there)
-      ∙ ap (λ j. changed_at s.requests.items j (landing n)) (sym who.number)
+  records_set = grind arith
 
   -- OF ITS WORKER
 
@@ -44,10 +42,7 @@ module _ {B : Type 0} (w : Worker) (s : Shared B) (k : ℕ) (n : OpResult) (who 
       let value : value_at requests who.r.id.0 ≡ Some (Pending who.it) = entry_of (value_at requests who.r.id.0) who.it who.live in
       let slots : slots_seen numbers d'.requests ≡ slots_seen numbers requests = slots_written numbers requests who.r.id.0 (Pending who.it) (Pending (waiter_then w s k n who q)) value in
       let awaited : awaited_from 0 numbers d'.requests.slots ≡ awaited_from 0 numbers requests.slots = awaited_written numbers requests who.r.id.0 (Pending who.it) (Pending (waiter_then w s k n who q)) value refl in
-      ap desk_of worker ∙ ap (desk_with w w.place w.put_off w.home.deferred) driver
-      ∙ ap (λ x. record (desk_of w) { requests = x; awaited = awaited_from 0 numbers d'.requests.slots; others = trailing 0 (completions d'.ring) }) slots
-      ∙ ap (λ x. record (desk_of w) { awaited = x; others = trailing 0 (completions d'.ring) }) awaited
-      ∙ ap (λ m. record (desk_of w) { others = m }) one_more.others
+      grind arith
 
   landed_visible : (w' : Worker) → driver_of w' ≡ driver_then w s k n who q → w' ≡ record w { home = record w.home { driver = w'.home.driver } } → visible w' ≡ record (visible w) { landed = (visible w).landed ++ k ∷ []; wakes = passed (visible w).wakes }
   landed_visible w' driver worker =

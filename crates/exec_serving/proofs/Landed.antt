@@ -1,15 +1,16 @@
 -- A result has landed: what holds again.
-use Rattle.std.proofs.{Common.{◌≡◌, ⊎_elim, inl, inr, ℕ, ◌+◌, ◌≤◌, Bool, Contains, List, Option, Some, None, refl, sym, ap, subst, ◌∙◌, slice_get, slice_set}, lemmas.Bool.false≢true}
+use Rattle.std.proofs.{Common.{◌≡◌, ⊎_elim, inl, inr, ℕ, ◌+◌, ◌≤◌, Bool, Contains, List, Option, Some, None, refl, sym, ap, subst, ◌∙◌, slice_get, slice_set}}
+use Rattle.std.proofs.Common.{arith}
 use Rattle.exec_base.{specs.{Slab.{Slab, value_at, written}, declared.slab.Id.Id}, proofs.Slots.Updates-write}
 use Rattle.exec_outcomes.specs.declared.outcome.OpResult.{OpResult}
 use Rattle.exec_time.specs.declared.timers.Sleeper.{Sleeper as Sleeping}
 use Rattle.exec_request.specs.declared.request.Request.{Request as Asking}
 use Rattle.exec_waiters.{specs.{States.{is_held_at, is_held_by, pending_count, waiter_at}, declared.waiter.{Entry.{Entry, TheVariants.Pending}, Waiter.Waiter}}, proofs.Changes.entry_of}
 use Rattle.exec_driver.specs.{Driving.Driving, Punctual.IsPunctual}
-use Rattle.exec_machine.specs.{Ranges.ring_size, Tests.{is_gated, is_resolved, is_unsent}, declared.state.{Rest.TheVariants.Awake, Waiting.Waiting}}
+use Rattle.exec_machine.specs.{Ranges.ring_size, Tests.{is_unsent}, declared.state.{Rest.TheVariants.Awake, Waiting.Waiting}}
 use Rattle.exec_moves.specs.{Seen.polls_at, declared.{handing.Heard.Heard, place.{InClosing.InClosing, InPoll.InPoll}}}
 use Rattle.exec_parts.{specs.{declared.parts.{mail.{Reply.Reply, Subject.Subject}, record.Record.Record, shared.Shared.Shared, sleeping.SleeperRecord.SleeperRecord, task_slot.TaskSlot.TaskSlot, worker.Worker.Worker}, Phased.{TurnsChair, closing_in}, Records.roused, Calls.IsTold, View.driver_of}, proofs.Facts.by_name}
-use Rattle.exec_invariants.{specs.{Carried.{IsCarried, landing}, Due.IsDue, Flown.HasFlown, Gates.{AreLinedUp, IsKnown, at_gate}, Holding.Mail, HoldPlaces.{Hearing, cancels_at, heard_at, is_bare_at, sends_cancel_at, spare_at}, Places.step_of_poll, Rooted.{HasHeard, HearsNext, IsRooted}, Sound.{AreOver, HasLetters, IsMyMail, LetsGo, LetsGoAt, MayStop, Sound, SoundAt, Stops, StopsIn, served_in}, Names.{HasWidth, IsNamed, tellers}}, proofs.{Serving.{SparesRecords, letter_kept, mail_kept, spares_one}, Going.{AllGoOn, elsewhere_same, over_on, rooted_on, same_paid, same_waiter, same_worker}, Changing.{named_one, pending_still, ready_before, some_after, tellers_still, timed_one, watched_before}, Lined.{KeepsLines, SameAtGate, lined_kept, lines_changed, opens_same}, Raising.seat_kept, Orders.{alike_self, eased, eases_written, part_self}}}
+use Rattle.exec_invariants.{specs.{Carried.{IsCarried, landing}, Due.IsDue, Flown.HasFlown, Gates.{AreLinedUp, IsKnown}, Holding.Mail, HoldPlaces.{Hearing, cancels_at, heard_at, is_bare_at, sends_cancel_at, spare_at}, Places.step_of_poll, Rooted.{HasHeard, HearsNext, IsRooted}, Sound.{AreOver, HasLetters, IsMyMail, LetsGo, LetsGoAt, MayStop, Sound, SoundAt, Stops, StopsIn, served_in}, Names.{HasWidth, IsNamed, tellers}}, proofs.{Serving.{SparesRecords, letter_kept, mail_kept, spares_one}, Going.{AllGoOn, elsewhere_same, over_on, rooted_on, same_paid, same_waiter, same_worker}, Changing.{named_one, pending_still, ready_before, some_after, tellers_still, timed_one, watched_before}, Lined.{KeepsLines, SameAtGate, lined_kept, lines_changed, opens_same}, Raising.seat_kept, Orders.{alike_self, eased, eases_written, part_self}}}
 use Rattle.exec_serving.proofs.{LandMoves.{Leaves, Refilled}, Landing.{Lander, all_on, carried_then, driver_then, flown_then, known_there, one, place_of, records_then, submitted_then, there_so, waiter_then}}
 
 -- WHAT RESTS ON RECORDS AND SLOTS, where requests go on
@@ -61,20 +62,11 @@ module _ (s : Slab (Entry Reply Reply)) (id : Id) (it it' : Waiter Reply Reply) 
       (λ same. ap (λ x. is_held_at (value_at (written s id (Pending it')) x)) same ∙ ap is_held_at map.changed ∙ ap is_held_by watched ∙ ap is_held_at (sym value) ∙ ap (λ x. is_held_at (value_at s x)) (sym same))
 
   pub lets_go_on : (x : Option InClosing) (bare : Bool) (zs : Slab (Sleeping Reply)) → LetsGo x bare s zs → LetsGo x bare (written s id (Pending it')) zs
-  lets_go_on None bare zs h = h
-  lets_go_on (Some InClosing.Orphan) bare zs h = (h.0, held_same h.0 ∙ h.1)
-  lets_go_on (Some InClosing.CloseSleeper) bare zs h = (λ other. held_same other ∙ h.0 other, h.1)
-  lets_go_on (Some _) bare zs h = h
+  lets_go_on = grind (arith, held_same)
 
 module _ {B : Type 0} (w : Worker) (s : Shared B) (k : ℕ) (n : OpResult) (who : Lander w s k n) (q : Asking) (same : Refilled who.it.request q) (sound : Sound w s) where
   same_gate : SameAtGate who.r (landing n who.r)
-  same_gate =
-      record {
-        at = ap (λ b. record (at_gate who.r) { gated = b }) (sym (ap is_gated who.flies));
-        over = λ h. absurd (false≢true (sym (ap is_resolved who.flies) ∙ h));
-        sent = refl;
-        forwarded = λ h. h;
-      }
+  same_gate = grind arith
 
   pub landed_lines : KeepsLines s.requests.items (records_then w s k n who)
   landed_lines = lines_changed s.requests.items (place_of w s k n who) who.r (landing n) (there_so w s k n who) same_gate

@@ -1,12 +1,13 @@
 -- A result lands: whose request it is, and what becomes of that.
 use Rattle.std.proofs.{Common.{◌≡◌, ◌≢◌, ℕ, ◌<◌, ◌==◌, ◌&&◌, inl, not, Bool, true, false, List, [], ◌∷◌, ◌++◌, map, Option, Some, None, refl, sym, ap, subst, ◌∙◌, is_some, slice_get, slice_index_or}, lemmas.{Bool.{false≢true, eq-eqb}, List.{map-append, Folds.list_any-append}}}
+use Rattle.std.proofs.Common.{arith}
 use Rattle.exec_base.specs.{Slab.{value_at, written}, declared.slab.Id.Id}
-use Rattle.exec_outcomes.specs.{Accounts.is_durable, Outcomes.HasCome, Lawful.{is_lawful, window_of}, declared.outcome.OpResult.OpResult}
+use Rattle.exec_outcomes.specs.{Accounts.is_durable, Lawful.{is_lawful, window_of}, declared.outcome.OpResult.OpResult}
 use Rattle.exec_request.specs.{Requests.{asked_of, cursor_of, deadline_of, target_of}, declared.request.Request.Request as Asking}
 use Rattle.exec_ring.specs.{Completions.{completed, number_of, result_in}, Kernels.{is_of, landed}, declared.{completion.Completion.Completion, store.Store.Store}}
 use Rattle.exec_waiters.{specs.{Ids.user_data_of, States.{needs_permit, takes_tick, waiter_at}, declared.waiter.{Entry.TheVariants.Pending, Waiter.Waiter}}, proofs.Changes.entry_of}
 use Rattle.exec_driver.{specs.{Driving.Driving, Steps.LandsOne}, proofs.Counting.OneChanged}
-use Rattle.exec_machine.specs.{declared.state.{RequestPhase.RequestPhase}, Tests.{is_gated, is_in_flight, is_kept, is_resolved, is_staged}}
+use Rattle.exec_machine.specs.{declared.state.{RequestPhase.RequestPhase}, Tests.{is_in_flight, is_resolved, is_staged}}
 use Rattle.exec_parts.{specs.{declared.parts.{mail.Reply.Reply, record.Record.Record, shared.Shared.Shared, worker.Worker.Worker}, Records.number_in, Serving.changed_at, View.{driver_of, number_told}}, proofs.Facts.{and_parts, by_name, not_same}}
 use Rattle.exec_invariants.{specs.{Carried.{HasStretchFor, IsCarried, IsLone, IsUnderWay, IsWhole, MayLand, those_of, landing}, Flown.{AreLanded, HasFlown, HasLanded, IsPlain, operations}, Gates.IsKnown, Sound.{Sound, served_in}, Names.{IsAlike, IsSubmitted}}, proofs.{Marking.{known_then, mark_kept, mark_if, marked, plain_kept, was_marked}, Carrying.{others_fly, one_landed, index_told, generation_told, result_told, lone_removed}, Changing.{OneGoesOn, all_go_one, apart_number, changes_one}, Conveying.carried_one, Flown.landed_on, Going.{AllGoOn, GoesOn, owning_on}, Known.known_written}}
 use Rattle.exec_serving.proofs.LandMoves.{Lands, Leaves, MayFly, Refilled, may_fly, flown_so, less_moves, room_landed, stretch_then}
@@ -75,29 +76,7 @@ landing_on n r flies =
 
 -- bytes may have come into its buffer
 pub landing_alike : (start tick : ℕ) (n : OpResult) (it : Waiter Reply Reply) (q : Asking) (r : Record) → r.shown.phase ≡ RequestPhase.Flying → it.in_flight ≡ true → Refilled it.request q → IsAlike start tick it r.shown → IsAlike start tick (record it { request = q }) (landing n r).shown
-landing_alike start tick n it q r phase flies same a =
-    record {
-      asked = a.asked ∙ sym same.asked;
-      moved = a.moved ∙ ap (λ c. c.moved) (sym same.cursor);
-      switched = a.switched ∙ ap (λ c. c.switched) (sym same.cursor);
-      come = (a.come.0, subst (λ x. HasCome x (cursor_of q) a.come.0) (sym same.asked) (subst (λ c. HasCome (asked_of it.request) c a.come.0) (sym same.cursor) a.come.1));
-      hinted = λ h. a.hinted h ∙ sym same.hinted;
-      asks_hint = λ asks. a.asks_hint (sym (ap (λ c. c.hinted) same.cursor) ∙ asks);
-      seen = λ durable. a.seen durable ∙ sym same.seen;
-      deadline = a.deadline ∙ sym same.deadline;
-      cancelled = a.cancelled;
-      timer = a.timer;
-      observed = a.observed;
-      waiter = a.waiter;
-      flying = sym flies;
-      permit = sym (ap is_gated phase) ∙ a.permit ∙ ap (λ x. is_durable x.kind && not it.permit) (sym same.asked);
-      open_still = refl;
-      near = a.near;
-      going = a.going;
-      told_once = a.told_once;
-      dated = λ ticks. ap is_some same.deadline ∙ a.dated ticks;
-      alone = λ asks. ap (λ x. is_kept x.kind) same.asked ∙ a.alone asks;
-    }
+landing_alike = grind arith
 
 pub plain_landed : (n : OpResult) (r : Record) → IsPlain r.shown → IsPlain (landing n r).shown
 plain_landed n r p = record { bounded = p.bounded; moved = p.moved; deadline = p.deadline }

@@ -1,5 +1,5 @@
 -- An operation lands, once the wakes that wait at its worker's seat are in the ring.
-use Rattle.std.proofs.Common.{◌≡◌, ℕ, Option, Some, sym, ap, ◌∙◌, slice_get, slice_set}
+use Rattle.std.proofs.Common.{◌≡◌, ℕ, Option, Some, sym, ap, ◌∙◌, slice_get, slice_set, arith}
 use Rattle.exec_outcomes.specs.declared.outcome.OpResult.{OpResult}
 use Rattle.exec_request.specs.declared.request.Request.{Request as Asking}
 use Rattle.exec_task.specs.declared.body.Said.{Said}

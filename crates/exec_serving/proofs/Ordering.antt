@@ -1,5 +1,5 @@
 -- What is due first at the driver is what the machine tells first.
-use Rattle.std.{proofs.{Common.{◌≡◌, ◌⊎◌, ℕ, zero, suc, ◌+◌, ◌-◌, ◌*◌, ◌/◌, ◌%◌, ◌<◌, ◌≤◌, ◌==◌, ◌&&◌, ◌||◌, Bool, true, false, not, List, [], ◌∷◌, map, Option, Some, None, refl, sym, ap, subst, ◌∙◌, arith, inl, inr, slice_get, nat_le, nat_lt, if◌then◌else◌}, lemmas.{Bool.{false≢true, eq-eqb, Decides.nat_tests}, Option.slice_get-map}, Math.Nat.{le-div_iff_mul-le, mul-div_cancel}}, specs.{List.AllByRecursion, Option.option_map}}
+use Rattle.std.{proofs.{Common.{◌≡◌, ◌⊎◌, ℕ, zero, suc, ◌+◌, ◌-◌, ◌*◌, ◌/◌, ◌%◌, ◌<◌, ◌≤◌, ◌==◌, ◌&&◌, ◌||◌, Bool, true, false, not, List, [], ◌∷◌, map, Option, Some, refl, sym, ap, subst, ◌∙◌, arith, inl, inr, slice_get, nat_lt, if◌then◌else◌}, lemmas.{Bool.{false≢true, eq-eqb, Decides.nat_tests}, Option.slice_get-map}}, specs.{List.AllByRecursion, Option.option_map}}
 use Rattle.exec_waiters.specs.declared.waiter_id.WaiterId.{WaiterId}
 use Rattle.exec_driver.{specs.Lists.{first_of, rest_of, is_among}, proofs.Names.same_tells}
 use Rattle.exec_machine.specs.{declared.{config.Configuration.Configuration, state.Request.Request}, Ranges.wheel_slots, Deadlines.{is_due, is_first_due, is_told_after, is_told_before, order_on_wheel}, Tests.all_numbered}
@@ -16,18 +16,12 @@ module _ {X : Type 0} (test : ℕ → X → Bool) where
 
   pub one_fails : (n k m : ℕ) (xs : List X) (x : X) → slice_get xs k ≡ Some x → m ≡ n + k → test m x ≡ false → all_numbered test n xs ≡ false
   one_fails n k m [] x there is fails = absurd (cc)
-  one_fails n zero m (y ∷ ys) x there is fails =
-      let same : y ≡ x = cc in
-      let at : n ≡ m = omega (arith, is) in
-      rw (same, at, fails) refl
+  one_fails n zero m (y ∷ ys) x there is fails = grind arith
   one_fails n (suc k) m (y ∷ ys) x there is fails = and_none (test n y) (all_numbered test (suc n) ys) (one_fails (suc n) k m ys x there (omega (arith, is)) fails)
 
   pub only_passes : (n k m : ℕ) (xs : List X) (x : X) → slice_get xs k ≡ Some x → m ≡ n + k → test m x ≡ true → ((j i : ℕ) (y : X) → slice_get xs j ≡ Some y → i ≡ n + j → (i ≡ m → ⊥) → test i y ≡ false) → first_numbered test n xs ≡ Some m
   only_passes n k m [] x there is passes others = absurd (cc)
-  only_passes n zero m (y ∷ ys) x there is passes others =
-      let same : y ≡ x = cc in
-      let at : n ≡ m = omega (arith, is) in
-      rw (same, at, passes) refl
+  only_passes n zero m (y ∷ ys) x there is passes others = grind arith
   only_passes n (suc k) m (y ∷ ys) x there is passes others =
       rw (others 0 n y refl (omega arith) (λ same. absurd (omega (arith, same, is))))
       (only_passes (suc n) k m ys x there (omega (arith, is)) passes (λ j i z at on. others (suc j) i z at (omega (arith, on))))
@@ -41,9 +35,7 @@ before_self : (x k : ℕ) → (nat_lt x x || ((x == x) && nat_lt k k)) ≡ false
 before_self x k = grind (arith, nat_tests)
 
 told_after : (a : Bool) {d : Bool} → d ≡ a → (b : Bool) {e : Bool} → e ≡ b → (t : Bool) → (d ≡ true → e ≡ true → t ≡ false) → (d ≡ true → e ≡ false → t ≡ false) → (not d || not t) ≡ true
-told_after true is true same t h g = rw (is, h is same) refl
-told_after true is false same t h g = rw (is, g is same) refl
-told_after false is b same t h g = rw is refl
+told_after = grind arith
 
 not_first : (a : Bool) {d : Bool} → d ≡ a → (b : Bool) → (d ≡ true → b ≡ false) → (d && b) ≡ false
 not_first true is b h = rw (is, h is) refl
@@ -54,36 +46,23 @@ or_neither a b h g = rw (h, g) refl
 
 -- a request that is due has a timer that has come
 due_parts : (i moment : ℕ) (r : Request) (b : Bool) (t : Option ℕ) → (r.worker == i) ≡ b → r.timer ≡ t → is_due i moment r ≡ true → (r.worker ≡ i) × ((m : ℕ) × (t ≡ Some m) × (m ≤ moment))
-due_parts i moment r false t is timer h = absurd (false≢true (rw is at h))
-due_parts i moment r true None is timer h = absurd (false≢true (rw (is, timer) at h))
-due_parts i moment r true (Some m) is timer h =
-    let come : nat_le m moment ≡ true = rw (is, timer) at h in
-    (let w : r.worker ≡ i = grind (arith, nat_tests) in w, (m, refl, let l : m ≤ moment = grind (arith, nat_tests) in l))
+due_parts = grind arith
 
 due_so : (i moment : ℕ) (r : Request) (m : ℕ) → r.worker ≡ i → r.timer ≡ Some m → m ≤ moment → is_due i moment r ≡ true
-due_so i moment r m mine timer come =
-    let le : nat_le m moment ≡ true = grind (arith, nat_tests) in
-    rw (mine, eq-eqb i i refl, timer, le) refl
+due_so = grind arith
 
 moment_come : (start tick current sampled t : ℕ) → 0 < tick → current ≡ (sampled - start) / tick → t ≤ current → start ≤ sampled → start + t * tick ≤ sampled
-moment_come start tick current sampled t some is within begun =
-    let under : t * tick ≤ sampled - start = (le-div_iff_mul-le some).0 (subst (λ x. t ≤ x) is within) in
-    omega (arith, under, begun)
+moment_come = grind arith
 
 tick_there : (start tick current sampled t : ℕ) → 0 < tick → current ≡ (sampled - start) / tick → start + t * tick ≤ sampled → t ≤ current
-tick_there start tick current sampled t some is come =
-    let under : t * tick ≤ sampled - start = omega (arith, come) in
-    let within : t ≤ (sampled - start) / tick = (le-div_iff_mul-le some).1 under in
-    omega (arith, is, within)
+tick_there = grind arith
 
 told_so : (a b k j : ℕ) → (a < b) ⊎ ((a ≡ b) × (k < j)) → (nat_lt a b || ((a == b) && nat_lt k j)) ≡ true
 told_so a b k j (inl less) = grind (arith, nat_tests)
 told_so a b k j (inr (same, older)) = grind (arith, nat_tests)
 
 tick_is : (start tick t : ℕ) → 0 < tick → (start + t * tick - start) / tick ≡ t
-tick_is start tick t some =
-    let whole : start + t * tick - start ≡ t * tick = omega arith in
-    ap (λ n. n / tick) whole ∙ mul-div_cancel t some
+tick_is = grind arith
 
 -- a deadline stands in the machine's order where its tick does
 turn_is : (c : Configuration) (w : Worker) (t : ℕ) → 0 < c.tick → order_on_wheel c (own_of w) (Some (w.moments.start + t * c.tick)) ≡ turn_of (went_round c w.moments) (wheel_slots c) t
@@ -98,11 +77,7 @@ all_among P x (y ∷ ids) all among =
     ]
 
 among_by : (id x : WaiterId) (ids : List WaiterId) → is_among x (id ∷ ids) ≡ true → (x ≡ id) ⊎ (is_among x ids ≡ true)
-among_by id x ids among =
-    elim (same_tells id x) [
-      | inl same ↦ inl (sym same.1)
-      | inr differs ↦ inr (rw differs.0 at among)
-    ]
+among_by = grind arith
 
 module _ {B : Type 0} (w : Worker) (s : Shared B) (new : IsDueIn w s) where
   begun_by : w.moments.start ≤ w.moments.sampled

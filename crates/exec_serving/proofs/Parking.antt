@@ -1,5 +1,5 @@
 -- What the enter of a wait on the ring is to the machine: the worker sleeps next where no completion is there.
-use Rattle.std.proofs.Common.{◌≡◌, ℕ, ◌+◌, ◌&&◌, ◌||◌, Bool, true, false, not, length, map, filter, Option, refl, sym, ap, subst, ◌∙◌, nat_lt, if◌then◌else◌}
+use Rattle.std.proofs.Common.{◌≡◌, ℕ, ◌+◌, ◌&&◌, ◌||◌, Bool, false, not, length, map, filter, Option, refl, sym, ap, subst, ◌∙◌, nat_lt, if◌then◌else◌, arith}
 use Rattle.exec_ring.specs.{Kernels.{is_quiet, all_taken}, Rings.{RingState, completions}}
 use Rattle.exec_driver.specs.Steps.{is_control}
 use Rattle.exec_task.specs.declared.body.Said.{Said}
@@ -14,9 +14,7 @@ abbrev parked : Bool → Bool → Stay → Place
 parked busy some y = Place.RingWait (if not busy && not some then InRingWait.SleepOnRing else InRingWait.DisarmRing AfterWait.Begin) y
 
 parked_is : (busy quiet : Bool) (y : Stay) → after_enter_of (if busy then Busy else Enter) quiet y ≡ parked busy (not quiet) y
-parked_is true quiet y = refl
-parked_is false true y = refl
-parked_is false false y = refl
+parked_is = grind arith
 
 -- what is there once the kernel took all in
 abbrev taken_ring : Desk → Ring → Ring
@@ -24,21 +22,10 @@ taken_ring d r = record r { wakes = poll_taken d.polled r.wakes }
 
 enter_by : (some : Bool) (y : Stay) (me : Own) (d : Desk) (i : ℕ) (x : Things) (r : Ring) → (r.busy ≡ false → has_completion (desk_entered (length me.untold) d) (taken_ring d r) ≡ some)
     → with_ring i x (enter_ring y me d r) ≡ with_ring i x (led_to (parked r.busy some y) (record { defer = d.may_put_off; «enter» = d.put_off }) (enter me d r))
-enter_by some y me d i x r h = by r.busy refl
-  where
-    quietly : (b : Bool) → has_completion (desk_entered (length me.untold) d) (taken_ring d r) ≡ b → r.busy ≡ false
-        → with_ring i x (enter_ring y me d r) ≡ with_ring i x (led_to (parked false b y) (record { defer = d.may_put_off; «enter» = d.put_off }) (enter me d r))
-    quietly true is free = rw (free, is) refl
-    quietly false is free = rw (free, is) refl
-
-    by : (b : Bool) → r.busy ≡ b → with_ring i x (enter_ring y me d r) ≡ with_ring i x (led_to (parked r.busy some y) (record { defer = d.may_put_off; «enter» = d.put_off }) (enter me d r))
-    by true busy = rw busy refl
-    by false free = quietly some (h free) free ∙ ap (λ b. with_ring i x (led_to (parked b some y) (record { defer = d.may_put_off; «enter» = d.put_off }) (enter me d r))) (sym free)
+enter_by = grind arith
 
 follows_by : (b : Bool) (y : Stay) → Follows (Place.RingWait InRingWait.EnterRing y) (Place.RingWait (if b then InRingWait.SleepOnRing else InRingWait.DisarmRing AfterWait.Begin) y)
-follows_by true y = record { from = refl; to = refl; serves = refl; armed = refl; closes = refl; wakes = refl; moment = λ m. refl; searches = refl; published = refl; bare = refl; batch = λ ms h. h }
-follows_by false Stay.Turn = record { from = refl; to = refl; serves = refl; armed = refl; closes = refl; wakes = refl; moment = λ m. refl; searches = refl; published = refl; bare = refl; batch = λ ms h. h }
-follows_by false Stay.Closing = record { from = refl; to = refl; serves = refl; armed = refl; closes = refl; wakes = refl; moment = λ m. refl; searches = refl; published = refl; bare = refl; batch = λ ms h. h }
+follows_by = grind arith
 
 module _ {B : Type 0} where
   -- a completion is there then just where the ring isn't quiet

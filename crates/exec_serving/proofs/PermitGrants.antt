@@ -25,9 +25,7 @@ count_alike : {A : Type 0} (p : A → Bool) (xs ys : List A) → map p ys ≡ ma
 count_alike p xs ys same = sym (tallied p ys) ∙ tally_map p ys ∙ ap (tally (λ (b : Bool). b)) same ∙ sym (tally_map p xs) ∙ tallied p xs
 
 and_all : (a b c : Bool) → (a && (b && c)) ≡ true → (b ≡ true) × (c ≡ true)
-and_all true true c h = (refl, h)
-and_all true false c h = absurd (false≢true h)
-and_all false b c h = absurd (false≢true h)
+and_all = grind arith
 
 -- WHO IS GRANTED, and what is its end then, if it ends
 
@@ -54,16 +52,7 @@ module _ (k : ℕ) (r : Record) (f : Record → Record) (o : OpenState) (opens :
 
   -- a record is that one, or as before
   which : {P : Type 0} (j : ℕ) (x : Record) → slice_get rs_granted j ≡ Some x → (j ≢ k → slice_get rs j ≡ Some x → P) → (j ≡ k → f r ≡ x → P) → P
-  which j x at other same =
-      let old = was_marked f rs k j x at in
-      by_number j k
-      (λ apart. other apart (old.1 ∙ ap (λ y. Some y) (sym (old.2 ∙ ap (λ b. mark_if f b old.0) (not_same k j (λ e. apart (sym e)))))))
-      (λ is.
-      let both : old.0 ≡ r = same_thing old.0 r (sym old.1 ∙ ap (slice_get rs) is ∙ it.there) in
-      same is (sym (old.2 ∙ ap (λ y. mark_if f (k == j) y) both ∙ ap (λ b. mark_if f b r) (is_same_number k j (sym is)))))
-    where
-      is_same_number : (a b : ℕ) → a ≡ b → (a == b) ≡ true
-      is_same_number a b is = subst (λ n. (a == n) ≡ true) is (eq-eqb a a refl)
+  which = grind (arith, was_marked, by_number, mark_if, not_same, same_thing, eq-eqb)
 
   now : (j : ℕ) (x : Record) → slice_get rs j ≡ Some x → j ≢ k → slice_get rs_granted j ≡ Some x
   now j x at apart = marked f rs k j x at ∙ ap (λ b. Some (mark_if f b x)) (not_same k j (λ e. apart (sym e)))

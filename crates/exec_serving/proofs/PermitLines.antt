@@ -1,11 +1,10 @@
 -- The first of a gate leaves it, whose request is over: who stands there then, and what is seen of that.
-use Rattle.std.{proofs.{Common.{◌≡◌, ◌≢◌, ℕ, zero, suc, ◌+◌, ◌<◌, ◌==◌, ◌&&◌, ◌||◌, ◌++◌, ◌^◌, arith, Bool, true, false, not, List, [], ◌∷◌, cond, count_by, drop, length, map, Some, None, option_to_list, refl, sym, ap, subst, ◌∙◌, slice_get, slice_set, if◌then◌else◌}, lemmas.{Bool.false≢true, List.{length-set, Recursion.is_count_by}}}, specs.List.list_any}
+use Rattle.std.{proofs.{Common.{◌≡◌, ◌≢◌, ℕ, zero, suc, ◌+◌, ◌<◌, ◌&&◌, ◌++◌, ◌^◌, arith, Bool, true, false, List, [], ◌∷◌, cond, count_by, drop, length, map, Some, None, option_to_list, refl, sym, ap, subst, ◌∙◌, slice_get, slice_set, if◌then◌else◌}, lemmas.{Bool.false≢true, List.{length-set, Recursion.is_count_by}}}}
 use Rattle.exec_outcomes.specs.Accounts.{is_durable}
-use Rattle.exec_driver.specs.{Opens.{OpenState, account_by, passed}, declared.opens.WaiterKey.WaiterKey}
-use Rattle.exec_request.specs.Hints.{has_hint}
+use Rattle.exec_driver.specs.{Opens.{OpenState, passed}, declared.opens.WaiterKey.WaiterKey}
 use Rattle.exec_machine.specs.{declared.state.RequestPhase.RequestPhase, Tests.{is_gated, is_resolved}}
 use Rattle.exec_parts.{specs.{declared.parts.record.Record.Record, View.{account_seen, gate_seen, gives_up, has_given_up, line_of, number_of_key, open_seen}}, proofs.Facts.{by_number, never_true, same_thing, set_elsewhere, set_there}}
-use Rattle.exec_invariants.{specs.{Gates.{AreLinedUp, HaveGates, IsLinedUp, at_gate, has_hint_at, is_coming, is_in_line, key_for, line_at, same_key}, Places.Drops}, proofs.GateLines.key_is}
+use Rattle.exec_invariants.{specs.{Gates.{AreLinedUp, HaveGates, IsLinedUp, at_gate, has_hint_at, is_coming, key_for, line_at}, Places.Drops}}
 use Rattle.exec_serving.proofs.PermitSeen.{number_named, shows}
 
 -- LISTS
@@ -76,17 +75,7 @@ module _ (file : ℕ) (opens : List OpenState) (rs : List Record) (it : Leaver f
   itself k x at same = same_thing x it.r (sym at ∙ ap (slice_get rs) (lined.unique k it.k x it.r at it.there same) ∙ it.there)
 
   coming_same : (k : ℕ) (x : Record) → slice_get rs k ≡ Some x → is_coming file (passed it.o) (at_gate x) ≡ is_coming file it.o (at_gate x)
-  coming_same k x at = by (is_gated x.shown.phase) refl
-    where
-      by : (g : Bool) → is_gated x.shown.phase ≡ g → is_coming file (passed it.o) (at_gate x) ≡ is_coming file it.o (at_gate x)
-      by false ungated =
-          ap (λ b. b && ((x.shown.operation.target == file) && not (is_in_line (key_for x) (passed it.o)))) ungated
-          ∙ sym (ap (λ b. b && ((x.shown.operation.target == file) && not (is_in_line (key_for x) it.o))) ungated)
-      by true gated =
-          let other : same_key (key_for x) (key_for it.r) ≡ false = never_true (same_key (key_for x) (key_for it.r)) (λ same. over_ungated it.r it.over (ap (λ y. is_gated y.shown.phase) (sym (itself k x at (key_is (key_for x) (key_for it.r) same))) ∙ gated)) in
-          let one : is_in_line (key_for x) it.o ≡ is_in_line (key_for x) (passed it.o) =
-          ap (list_any (same_key (key_for x))) whole_line ∙ ap (λ b. b || list_any (same_key (key_for x)) it.o.waiting) other ∙ sym (ap (list_any (same_key (key_for x))) behind) in
-          ap (λ b. is_gated x.shown.phase && ((x.shown.operation.target == file) && not b)) (sym one)
+  coming_same = grind arith
 
   line_left : IsLinedUp file (passed it.o) rs
   line_left =
@@ -107,10 +96,7 @@ module _ (file : ℕ) (opens : List OpenState) (rs : List Record) (it : Leaver f
 
   -- an open is that one, or as before
   which : {P : Type 0} (f : ℕ) (o : OpenState) → slice_get opens_left f ≡ Some o → (f ≢ file → slice_get opens f ≡ Some o → P) → (f ≡ file → passed it.o ≡ o → P) → P
-  which f o at other same =
-      by_number f file
-      (λ apart. other apart (sym (set_elsewhere opens file f (passed it.o) apart) ∙ at))
-      (λ is. same is (same_thing (passed it.o) o (sym (set_there opens file (passed it.o) it.o it.open_there) ∙ ap (slice_get opens_left) (sym is) ∙ at)))
+  which = grind (arith, by_number, set_elsewhere, same_thing, set_there)
 
   pub lined_left : AreLinedUp opens_left rs
   lined_left =
@@ -127,12 +113,7 @@ module _ (file : ℕ) (opens : List OpenState) (rs : List Record) (it : Leaver f
       }
 
   pub hints_left : (f : ℕ) → has_hint_at opens f ≡ false → has_hint_at opens_left f ≡ false
-  hints_left f none =
-      by_number f file
-      (λ apart. ap (λ x. has_hint (account_by x)) (set_elsewhere opens file f (passed it.o) apart) ∙ none)
-      (λ same.
-      ap (λ x. has_hint (account_by x)) (ap (slice_get opens_left) same ∙ set_there opens file (passed it.o) it.o it.open_there)
-      ∙ ap (λ x. has_hint (account_by x)) (sym it.open_there) ∙ ap (has_hint_at opens) (sym same) ∙ none)
+  hints_left = grind (arith, by_number, set_elsewhere, set_there)
 
   -- where the others are
   pub gates_left : (drops drops' : ℕ → Drops) (i : ℕ) → it.r.shown.worker ≡ i → ((j : ℕ) → j ≢ i → drops' j ≡ drops j) → (drops' i).passes ≡ None → (drops' i).joins ≡ None → HaveGates drops opens rs → HaveGates drops' opens_left rs

@@ -1,39 +1,21 @@
 -- The first of a gate is granted its permit, and is over by that: a step.
-use Rattle.std.proofs.{Common.{◌≡◌, ℕ, suc, ◌<◌, ◌==◌, Bool, true, false, not, List, [], ◌∷◌, ◌++◌, filter, length, map, Option, Some, None, is_some, if◌then◌else◌, refl, sym, ap, subst, ◌∙◌, arith, slice_get, slice_set}, lemmas.Bool.{eq-eqb, false≢true}}
-use Rattle.exec_base.specs.{Slab.{value_at, written}, declared.error.Error.Error}
-use Rattle.exec_outcomes.specs.{Accounts.{Account, by_failure, by_kept, is_durable, outcome_at_grant, outcome_told as told_of}, declared.outcome.{Kind.Kind, Outcome.{Outcome, TheVariants.{Failure, Success}}}}
+use Rattle.std.proofs.{Common.{◌≡◌, ℕ, suc, ◌<◌, ◌==◌, true, not, List, [], ◌∷◌, ◌++◌, filter, length, map, Option, Some, is_some, refl, sym, ap, subst, ◌∙◌, arith, slice_get, slice_set}, lemmas.Bool.{eq-eqb, false≢true}}
+use Rattle.exec_base.specs.{Slab.{value_at, written}}
+use Rattle.exec_outcomes.specs.{Accounts.{Account, is_durable, outcome_at_grant, outcome_told as told_of}, declared.outcome.{Kind.Kind, Outcome.{Outcome}}}
 use Rattle.exec_request.specs.{Requests.{asked_of, outcome_if_granted, output_of, record_after}, declared.output.RequestOutput.RequestOutput, States.{Ended, as_answer, as_outcome, told_by}}
 use Rattle.exec_waiters.{specs.{Events.{finished, told_by_finish, waker_in, with_permit}, States.{file_of, flying_count, tick_in, tick_of, waiter_at}, Told.{Tells, Told as ToldOf}, declared.waiter.{Entry.TheVariants.Pending, Waiter.Waiter}}, proofs.Changes.{entry_of, one_if}}
 use Rattle.exec_driver.specs.{Driving.{Driving, is_cancelled, is_queued, is_unenrolled, request_at}, Lists.{without, without_gated, withdrawn}, Opens.{account_by, account_in, with_account}, Punctual.IsPunctual, Steps.{GrantsAs, granted as driver_granted, opens_after_end, told_by_end, unscheduled}, declared.driver.staging.Granted.Granted as Told}
 use Rattle.exec_task.specs.declared.body.Said.{Said}
 use Rattle.exec_machine.specs.{declared.event.Event.{Event, TheVariants.Grant}, Requests.{account_of_open, granted, joined_if, opens_after_end as machine_opens}, Same.{is_number, same_end}, Tests.{is_gated, is_of_file, is_resolved}, World.{open_of, request_of}}
 use Rattle.exec_moves.specs.{declared.place.{AfterPermit.AfterPermit, InService.InService, Place.Place, Service.Service}, State.Desk, Submit.after_grant, Told.told_of_end}
-use Rattle.exec_parts.{specs.{declared.parts.{mail.Reply.Reply, record.Record.Record, shared.Shared.Shared, worker.Worker.Worker}, Records.number_in, Serving.{changed_at, changed_in}, Spots.Spot, View.{common_of, desk_of, driver_of, gate_seen, numbers_of, open_seen, things_with, visible, with_view}}, proofs.Facts.{by_name, same_thing}}
+use Rattle.exec_parts.{specs.{declared.parts.{mail.Reply.Reply, record.Record.Record, shared.Shared.Shared, worker.Worker.Worker}, Records.number_in, Serving.{changed_at, changed_in}, Spots.Spot, View.{common_of, desk_of, driver_of, gate_seen, open_seen, things_with, visible, with_view}}, proofs.Facts.{by_name, same_thing}}
 use Rattle.exec_invariants.{specs.{Due.IsWheelAt, Gates.{AreLinedUp, HaveGates, IsKnown, PassesPermit, key_for}, Holding.nap_of, Places.{Drops, drops_at, passes_at}, Rooted.outcome_told, Submits.IsGatedIn, Whole.{IsWhole, Profile, with_worker}, Works.Steps}, proofs.{Accounted.open_of_file, Expiring.{unticked_start, unticked_tick}, Changing.{changes_one, flying_after}, DeskEnds.desk_ended, Ends.{flying_ended, numbers_without}, EndsServed.{ends_thing, one_slot}, Gated.durable_of_file, Late.ends_as, Lined.{SameLines, gates_opens, gates_seen_same, lined_opens, lines_same, map_changed, was_sent}, Marking.{mark_if, marked}, Mine.stands, Orders.alike_unticked, Ousting.keeps_ended, Over.OneEnds, Recorded.shown_changed, Resolving.{slab_after, unticked_at}, Seeing.{desk_with, makes, own_with, served_by, shows}, ServedEnds.ends_told, ServedWakes.holding_over, Serving.{Balances, SparesGates, at_large}, ServingHolds.{Follows, IsServed, Keeps, KeepsBy, OthersKept, Serves, keeps_home, serves_to}, Slotted.{awaited_written, slots_written}, Staging.stages_again, SparedRecord.there_within, Turning.view_found}}
 use Rattle.exec_serving.proofs.{Finished.tells_ending, Gone.{apart_by, as_told, known_opens, one_written, one_written_is}, PermitGates.{drops_others, drops_own, gates_passing}, PermitGrants.{Granted, gates_granted, keys_granted, lined_granted}, PermitQueued.{GrantAt, granted_at as at_grant, granted_of, keeps_queued, queues}, PermitSeen.{keys_gates, opens_after, opens_ended, set_twice}, PermitSteps.{HasGranted, answer_is, holder_is, moves_grant, request_is, spares_marked, things_granted}, ReapAccounts.{IsOperation, file_there, lines_counted, opens_counted, opens_uncounted}, ReapViewed.{same_outcome_self, told_place}}
 
 -- WHAT ENDS AT A GRANT is told as it is
 
-kept_of_grant : (k : Kind) (e : Error) (a : Account) → a.failure ≡ Some e → outcome_at_grant k a ≡ Some (Failure e)
-kept_of_grant Kind.Sync e a is = rw is refl
-kept_of_grant _ e a is = ap by_kept is
-
 grant_told : (k : Kind) (o : Outcome) (a : Account) → Some o ≡ outcome_at_grant k a → told_of k a o ≡ o
-grant_told k o a ends = by_durable (is_durable k)
-  where
-    by_kept_failure : (f : Option Error) → a.failure ≡ f → by_failure a.failure o ≡ o
-    by_kept_failure None none = ap (λ f. by_failure f o) none ∙ plain o
-      where
-        plain : (o : Outcome) → by_failure None o ≡ o
-        plain Success = refl
-        plain (Failure e) = refl
-    by_kept_failure (Some e) is =
-        let same : o ≡ Failure e = same_thing o (Failure e) (ends ∙ kept_of_grant k e a is) in
-        ap (λ f. by_failure f o) is ∙ ap (by_failure (Some e)) same ∙ sym same
-
-    by_durable : (b : Bool) → (if b then by_failure a.failure o else o) ≡ o
-    by_durable true = by_kept_failure a.failure refl
-    by_durable false = refl
+grant_told = grind arith
 
 -- WHERE IT LEADS
 follows_given : (gate file : ℕ) (v : Service) → Follows (Place.Service (InService.Submit gate) v) (Place.Service (InService.PassPermit file (AfterPermit.Submit (suc file))) v)
@@ -224,10 +206,7 @@ module _ {B L : Type 0} (left : B → L) (spot : L → Option Said → Spot) (v 
       let unenrolled = numbers_without n g.id d.lists.enrolments (λ x among. apart x (stands d x is_unenrolled (request_at d x) refl refl (new.lists.enrolments x among))) in
       let cancels = numbers_without n g.id d.lists.cancels (λ x among. apart x (stands d x is_cancelled (request_at d x) refl refl (new.lists.cancels x among))) in
       let me' = own_with w q' ended w.names.untold.items d2 in
-      ap (λ ns. record me' { ready = ns; unenrolled = numbers_of n (without g.id d.lists.enrolments); cancels = numbers_of n (without g.id d.lists.cancels) }) ready
-      ∙ ap (λ ns. record me' { ready = filter (λ j. not (j == k)) (numbers_of n d.lists.queued); unenrolled = ns; cancels = numbers_of n (without g.id d.lists.cancels) }) unenrolled
-      ∙ ap (λ ns. record me' { ready = filter (λ j. not (j == k)) (numbers_of n d.lists.queued); unenrolled = filter (λ j. not (j == k)) (numbers_of n d.lists.enrolments); cancels = ns }) cancels
-      ∙ ap (λ m. record me' { ready = filter (λ j. not (j == k)) (numbers_of n d.lists.queued); unenrolled = filter (λ j. not (j == k)) (numbers_of n d.lists.enrolments); cancels = filter (λ j. not (j == k)) (numbers_of n d.lists.cancels); in_flight = m }) flying
+      grind arith
 
   pub grant_over : Steps left spot w s e w' s'
   grant_over =

@@ -1,5 +1,6 @@
 -- A permit is passed on: the first of the gate leaves it, whose next holder is told.
 use Rattle.std.{proofs.{Common.{◌≡◌, ℕ, ◌<◌, ◌==◌, Bool, true, false, List, [], ◌∷◌, drop, length, map, Option, Some, None, if◌then◌else◌, refl, sym, ap, subst, ◌∙◌, slice_get, slice_index_or, slice_set}, lemmas.{List.length-map, Option.get_or_from_slice_get}}, specs.Option.option_map}
+use Rattle.std.proofs.Common.{arith}
 use Rattle.exec_base.specs.declared.slab.Id.{Id}
 use Rattle.exec_request.specs.Requests.{cursor_of}
 use Rattle.exec_waiters.specs.{States.waiter_at, declared.waiter.Waiter.Waiter}

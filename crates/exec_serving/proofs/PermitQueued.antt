@@ -92,18 +92,7 @@ module _ {B : Type 0} (w : Worker) (s : Shared B) (v : Service) (file : ℕ) (ne
 -- what changes of a record by that
 pub granted_of : {B : Type 0} (w : Worker) (s : Shared B) (file : ℕ) (id : WaiterId) (who : GrantAt w s file id) (f : Record → Record) → key_for (f who.r) ≡ key_for who.r → (f who.r).shown.operation ≡ who.r.shown.operation → is_gated (f who.r).shown.phase ≡ false
     → Granted (number_in w.names.requests.items id.0) who.r f who.o s.opens s.requests.items
-granted_of w s file id who f key operation ungated =
-    record {
-      there = who.there;
-      open_there = ap (slice_get s.opens) who.target ∙ who.open_there;
-      holds = who.holds;
-      gated = ap is_gated who.phase;
-      going = ap is_resolved who.phase;
-      key = key;
-      kind = ap (λ x. x.kind) operation;
-      target = ap (λ x. x.target) operation;
-      ungated = ungated;
-    }
+granted_of = grind arith
 
 -- WHAT HOLDS AGAIN
 
@@ -119,34 +108,7 @@ module _ {B : Type 0} (q q' : Place) (w : Worker) (s : Shared B) (sound : SoundA
   on = record { same = refl; over = sym (ap is_resolved who.phase); ended = λ h. absurd (false≢true (sym (ap is_resolved who.phase) ∙ h)) }
 
   alike_queued : IsAlike (driver_of w).wheel.start (driver_of w).wheel.tick permitted_waiter (queues who.r).shown
-  alike_queued =
-      let a = who.alike in
-      record {
-        asked = a.asked;
-        moved = a.moved;
-        switched = a.switched;
-        come = a.come;
-        hinted = a.hinted;
-        asks_hint = a.asks_hint;
-        seen = a.seen;
-        deadline = a.deadline;
-        cancelled = a.cancelled;
-        timer = a.timer;
-        observed = a.observed;
-        waiter = a.waiter;
-        flying = sym who.idle;
-        permit = sym (none_needed (is_durable (asked_of who.it.request).kind));
-        open_still = refl;
-        near = a.near;
-        going = a.going;
-        told_once = a.told_once;
-        dated = a.dated;
-        alone = a.alone;
-      }
-    where
-      none_needed : (b : Bool) → (b && false) ≡ false
-      none_needed true = refl
-      none_needed false = refl
+  alike_queued = grind arith
 
   one : OneGoesOn w.names w.names (driver_of w) d' s.requests.items id.0 who.it permitted_waiter who.r queues
   one = record { at = who.live; there = who.there; slab = slab; on = on; alike = alike_queued; start = ap (λ x. x.start) wheel; tick = ap (λ x. x.tick) wheel; requests = refl; timers = refl }

@@ -85,15 +85,7 @@ module _ (rs : List Record) (k : ℕ) (r : Record) (f : Record → Record) (ther
       ap (λ h. map (number_of_key 0 rs) (option_to_list h ++ o.waiting)) (holds o at) ∙ ap (λ n. n ∷ later_in o) (number_named opens rs lined k r (key_for r) there refl)
 
   pub at_its : (o : OpenState) → slice_get opens r.shown.operation.target ≡ Some o → open_seen (changed_at rs k f) o ≡ passed_on (open_seen rs o)
-  at_its o at =
-      let rs' = changed_at rs k f in
-      let account = account_seen o.account in
-      let later = later_in o in
-      let before : open_seen rs o ≡ shows account (k ∷ later) =
-      ap (λ ns. shows account (line_of rs ns)) (gate_first o at) ∙ ap (λ b. shows account (if b then later else k ∷ later)) was_open in
-      let after : open_seen rs' o ≡ shows account later =
-      ap (λ ns. shows account (line_of rs' ns)) (keys_gate rs rs' keys o ∙ gate_first o at) ∙ ap (λ b. shows account (if b then later else k ∷ later)) is_over in
-      after ∙ sym (ap passed_on before)
+  at_its = grind (arith, gate_first, was_open, keys_gate, is_over)
 
   pub elsewhere : (file : ℕ) (x : OpenState) → slice_get opens file ≡ Some x → file ≢ r.shown.operation.target → open_seen (changed_at rs k f) x ≡ open_seen rs x
   elsewhere file x at other =
@@ -184,21 +176,4 @@ module _ (rs : List Record) (k : ℕ) (r : Record) (f : Record → Record) (ther
           ∙ ap (λ b. slice_set os t (if b then passed_on then_counted else then_counted)) (sym durable)
 
   pub opens_ended : map (open_seen (changed_at rs k f)) opens' ≡ opens_after (map (open_seen rs) opens) r.shown.operation outcome
-  opens_ended = by (is_of_file r.shown.operation.kind) refl
-    where
-      none_durable : (b : Bool) → is_durable r.shown.operation.kind ≡ b → is_of_file r.shown.operation.kind ≡ false → is_durable r.shown.operation.kind ≡ false
-      none_durable false is none = is
-      none_durable true is none = absurd (false≢true (sym none ∙ durable_of_file r.shown.operation.kind is))
-
-      by : (b : Bool) → is_of_file r.shown.operation.kind ≡ b → map (open_seen (changed_at rs k f)) opens' ≡ opens_after (map (open_seen rs) opens) r.shown.operation outcome
-      by false none =
-          let o = r.shown.operation in
-          let os = map (open_seen rs) opens in
-          let free = none_durable (is_durable o.kind) refl none in
-          ap (map (open_seen (changed_at rs k f))) (uncounted none) ∙ same_opens rs (changed_at rs k f) (names_same free) opens
-          ∙ ap (λ b. if b then slice_set os o.target (open_after_end o.target o outcome (slice_index_or os o.target no_open)) else os) (sym none)
-      by true of =
-          let o = r.shown.operation in
-          let os = map (open_seen rs) opens in
-          seen_of_file (is_durable o.kind) refl of
-          ∙ ap (λ b. if b then slice_set os o.target (open_after_end o.target o outcome (slice_index_or os o.target no_open)) else os) (sym of)
+  opens_ended = grind (arith, false≢true, durable_of_file, same_opens, names_same, seen_of_file)

@@ -3,7 +3,7 @@ use Rattle.std.proofs.{Common.{◌≡◌, ℕ, ◌<◌, inl, Bool, true, false, 
 use Rattle.exec_words.specs.{Word.asks_signal, declared.word.PureWord.PureWord}
 use Rattle.exec_task.specs.declared.body.Said.{Said}
 use Rattle.exec_machine.specs.{declared.{event.Event.{Event, TheVariants.{Serve, Rouse}}, state.Rest.Rest}, Choice.Choice.Plain, Progress.Plan, Tests.{is_at_large, is_awake}, World.{no_seat, seat_of}}
-use Rattle.exec_moves.specs.{declared.place.{AfterPermit.AfterPermit, InService.InService, Place.Place, Reaping.Reaping, Service.Service}, Claim.{is_ring, latched}, Move.move_at, Seen.serves_in, Serve.{after_latch, after_permit, rousing_in_service, signal}, State.word_of, Thing.set_word}
+use Rattle.exec_moves.specs.{declared.place.{AfterPermit.AfterPermit, InService.InService, Place.Place, Service.Service}, Claim.{is_ring, latched}, Move.move_at, Seen.serves_in, Serve.{after_latch, after_permit, rousing_in_service, signal}, State.word_of, Thing.set_word}
 use Rattle.exec_parts.{specs.{declared.parts.{seat.Seat.Seat as Chair, shared.Shared.Shared, worker.{Moments.Moments, Worker.Worker}}, Phased.{IsPhased, TurnsChair, closes_at, closing_in}, Pooled.{OfChair, chair_latched, chair_raised}, Spots.Spot, View.{Views, Visible, common_of, desk_of, driver_of, own_of, seat_seen, seats_seen, things_of, things_with, visible, with_view}, Things.{Goes, Makes, TurnsWord}}, proofs.Showing.{map_kept, own_word_seen, seats_kept, word_shows}}
 use Rattle.exec_invariants.{specs.{Due.{IsWheelAt, wheel_moment}, Holding.box_of, Places.passes_at, Sound.{Aims, HasQueue, SoundAt, served_in}, Spares.SparesChair, Works.{Beside, Steps, Suits, Works}}, proofs.{Aside.{beside_calm, queue_of_chair, queues_set, seats_other}, Hearing.unheard, PoolKept.{gate_spared, gates_set}, Seats.{chair_set, seat_there as seen_there}, Rousing.{Keeps, seat_was, seated_now, stage_was, wake_shows}, Shown.makes, Thieves.seat_there, Turning.{Arrives, Shares, sound_on, view_found}}}
 
@@ -131,29 +131,16 @@ module _ {B L : Type 0} (left : B → L) (spot : L → Option Said → Spot) (x 
 -- WHERE A PERMIT LEADS BACK TO
 
 pub serves_back : (b : AfterPermit) → serves_in (after_permit b) ≡ true
-serves_back (AfterPermit.Reap r) = refl
-serves_back (AfterPermit.Reaped Reaping.First) = refl
-serves_back (AfterPermit.Reaped Reaping.Last) = refl
-serves_back (AfterPermit.Submit gate) = refl
+serves_back = grind arith
 
 pub moment_of_back : (b : AfterPermit) (v : Service) (m : Moments) → wheel_moment (served_in (Place.Service (after_permit b) v)) m ≡ wheel_moment (Some (InService.Signal 0 b)) m
-moment_of_back (AfterPermit.Reap Reaping.First) v m = refl
-moment_of_back (AfterPermit.Reap Reaping.Last) v m = refl
-moment_of_back (AfterPermit.Reaped Reaping.First) v m = refl
-moment_of_back (AfterPermit.Reaped Reaping.Last) v m = refl
-moment_of_back (AfterPermit.Submit gate) v m = refl
+moment_of_back = grind arith
 
 pub passes_none : (b : AfterPermit) (v : Service) → passes_at (Place.Service (after_permit b) v) ≡ None
-passes_none (AfterPermit.Reap r) v = refl
-passes_none (AfterPermit.Reaped Reaping.First) v = refl
-passes_none (AfterPermit.Reaped Reaping.Last) v = refl
-passes_none (AfterPermit.Submit gate) v = refl
+passes_none = grind arith
 
 pub aims_back : (b : AfterPermit) (v : Service) {B : Type 0} (s : Shared B) (i : ℕ) (seats : List Chair) → Aims (Place.Service (after_permit b) v) s.config i seats
-aims_back (AfterPermit.Reap r) v s i seats = tt
-aims_back (AfterPermit.Reaped Reaping.First) v s i seats = tt
-aims_back (AfterPermit.Reaped Reaping.Last) v s i seats = tt
-aims_back (AfterPermit.Submit gate) v s i seats = tt
+aims_back = grind arith
 
 awake : (rest : Rest) → is_awake rest ≡ true → rest ≡ Rest.Awake
 awake Rest.Awake h = refl

@@ -1,5 +1,5 @@
 -- The first of a gate is granted its permit, and is queued: a step.
-use Rattle.std.{proofs.{Common.{◌≡◌, ◌≢◌, ℕ, suc, ◌<◌, ◌==◌, ◌&&◌, Bool, true, false, List, [], ◌∷◌, ◌++◌, length, map, Option, Some, None, is_some, option_to_list, if◌then◌else◌, refl, sym, ap, subst, ◌∙◌, arith, slice_get, slice_index_or, slice_set}, lemmas.{Bool.{eq-eqb, false≢true}, List.append-nil, Option.get_or_from_slice_get}}, specs.VecDeque.deque_capacity}
+use Rattle.std.{proofs.{Common.{◌≡◌, ◌≢◌, ℕ, suc, ◌<◌, ◌==◌, ◌&&◌, Bool, true, false, List, [], ◌∷◌, ◌++◌, length, map, Option, Some, None, is_some, option_to_list, refl, sym, ap, subst, ◌∙◌, arith, slice_get, slice_index_or, slice_set}, lemmas.{Bool.{eq-eqb, false≢true}, List.append-nil, Option.get_or_from_slice_get}}, specs.VecDeque.deque_capacity}
 use Rattle.exec_base.specs.Slab.{value_at, written}
 use Rattle.exec_outcomes.specs.{Accounts.{is_durable, outcome_at_grant}, declared.outcome.Outcome.Outcome}
 use Rattle.exec_request.specs.{Requests.{asked_of, outcome_if_granted}, States.as_answer}
@@ -7,9 +7,9 @@ use Rattle.exec_ring.specs.Rings.{completions}
 use Rattle.exec_waiters.{specs.{Events.with_permit, States.{file_of, flying_count}, Told.{Tells, nothing_told}, declared.{waiter.Entry.TheVariants.Pending, waiter_id.WaiterId.WaiterId}}, proofs.Changes.{entry_of, one_if}}
 use Rattle.exec_driver.specs.{Driving.Driving, Lists.{with_queued, without_gated}, Opens.{account_by, account_in}, Punctual.IsPunctual, Steps.{Grants, granted as driver_granted, opens_after_end, told_by_end}, declared.driver.staging.Granted.Granted as Told}
 use Rattle.exec_task.specs.declared.body.Said.{Said}
-use Rattle.exec_machine.specs.{declared.{event.Event.{Event, TheVariants.Grant}, state.Request.Request}, Progress.Plan, Requests.{account_of_open, granted, joined_if}, Same.{is_number, same_end}, Tests.{is_gated, is_resolved, is_unsent}, World.{Common, no_open, open_of, request_of}}
+use Rattle.exec_machine.specs.{declared.{event.Event.{Event, TheVariants.Grant}}, Progress.Plan, Requests.{account_of_open, granted, joined_if}, Same.{is_number, same_end}, Tests.{is_gated, is_resolved, is_unsent}, World.{Common, no_open, open_of, request_of}}
 use Rattle.exec_moves.specs.{declared.place.{InService.InService, Place.Place, Service.Service}, Move.{move_at, move_submit}, State.gate_of, Submit.{after_grant, granted_at}, Thing.with_gate, Told.told_if_ended}
-use Rattle.exec_parts.{specs.{declared.parts.{mail.Reply.Reply, names.Names.Names, record.Record.Record, shared.Shared.Shared, worker.Worker.Worker}, Records.{number_in, outcome_in}, Serving.changed_at, Spots.Spot, View.{Views, account_seen, awaited_from, common_of, completions_in, desk_of, driver_of, gate_seen, has_given_up, line_of, number_of_key, numbers_of, numbers_of_passing, open_seen, own_of, results_in, seat_seen, slots_seen, things_with, trailing, visible, with_view}}, proofs.Facts.not_same}
+use Rattle.exec_parts.{specs.{declared.parts.{mail.Reply.Reply, names.Names.Names, record.Record.Record, shared.Shared.Shared, worker.Worker.Worker}, Records.{number_in, outcome_in}, Serving.changed_at, Spots.Spot, View.{Views, account_seen, awaited_from, common_of, completions_in, desk_of, driver_of, gate_seen, number_of_key, numbers_of, open_seen, own_of, results_in, seat_seen, slots_seen, things_with, trailing, visible, with_view}}, proofs.Facts.not_same}
 use Rattle.exec_invariants.{specs.{Gates.{AreLinedUp, HaveGates, has_hint_at, key_for}, Holding.{nap_of, thing_of}, Places.{Drops, drops_at}, Submits.IsGatedIn, Whole.{IsWhole, Profile, with_worker}, Works.{Steps, Suits}}, proofs.{Accounted.open_of_file, Changing.flying_after, Gated.durable_of_file, Hinting.open_there, Keys.name_in, Lined.{map_changed, mapped, passing_same, was_sent}, Marking.{mark_if, marked, was_marked}, Recorded.request_seen, Seeing.{common_changed, common_same, desk_with, makes, own_with, served_by, shows, visible_with}, Serving.{Balances, SparesGates, at_large, holding_still}, ServingHolds.{IsServed, Keeps, KeepsBy, OthersKept, Serves, keeps_home, serves_to}, Slotted.{awaited_written, slots_written}, Spared.sleepers_endure, Turning.view_found, Untold.keeps_untold}}
 use Rattle.exec_serving.proofs.{PermitGates.{drops_others, drops_own, gates_passing}, PermitGrants.{Granted, gates_granted, keys_granted, lined_granted}, PermitQueued.{GrantAt, granted_at as at_grant, granted_of, keeps_queued, queues}, PermitSeen.{keys_gates, number_named}, PermitTries.{due_is, follows_next, gate_again, tried_at}, Returned.numbers_push}
 
@@ -81,21 +81,13 @@ module _ {B L : Type 0} (left : B → L) (spot : L → Option Said → Spot) (v 
   gate_there = get_or_from_slice_get (map (gate_seen s.requests.items) s.opens) file (gate_seen s.requests.items who.o) [] (mapped (gate_seen s.requests.items) s.opens file who.o who.open_there) ∙ gate_first
 
   pub turn_is : granted_at w.index (gate_of (things_with vs s) file) all ≡ Some k
-  turn_is =
-      ap (λ g. granted_at w.index g all) gate_there
-      ∙ ap (λ (q : Request). if (q.worker == w.index) && is_gated q.phase then Some k else None) request_is
-      ∙ ap (λ n. if (n == w.index) && is_gated who.r.shown.phase then Some k else None) who.worker
-      ∙ ap (λ b. if b && is_gated who.r.shown.phase then Some k else None) (eq-eqb w.index w.index refl)
-      ∙ ap (λ x. if is_gated x then Some k else None) who.phase
+  turn_is = grind (arith, gate_there, request_is, eq-eqb)
 
   open_is : open_of all who.r.shown.operation.target ≡ open_seen s.requests.items who.o
   open_is = open_there s.requests.items s.opens who.r.shown.operation.target who.o (ap (slice_get s.opens) who.target ∙ who.open_there)
 
   pub holder_is : is_number k (open_of all who.r.shown.operation.target).holder ≡ true
-  holder_is =
-      let given : has_given_up (slice_get s.requests.items k) ≡ false = ap has_given_up who.there ∙ ap (λ x. is_resolved x && is_durable who.r.shown.operation.kind) who.phase in
-      let line : line_of s.requests.items (gate_seen s.requests.items who.o) ≡ k ∷ behind = ap (line_of s.requests.items) gate_first ∙ ap (λ b. if b then behind else k ∷ behind) given in
-      ap (λ x. is_number k x.holder) open_is ∙ ap (λ ns. is_number k (slice_get ns 0)) line ∙ eq-eqb k k refl
+  holder_is = grind (arith, gate_first, open_is, eq-eqb)
 
   -- how it ends by that, if it does
   pub answer_is : (o : Option Outcome) → o ≡ outcome_if_granted who.it.request (account_in s.opens (Some file)) → outcome_at_grant who.r.shown.operation.kind (account_of_open all who.r.shown) ≡ o
@@ -125,11 +117,7 @@ module _ {B L : Type 0} (left : B → L) (spot : L → Option Said → Spot) (v 
 -- what stands beside the machine, where the gates keep their keys
 pub things_granted : {B : Type 0} (vs : Views) (w w' : Worker) (s s' : Shared B) → slice_get vs.workers w.index ≡ Some (visible w) → visible w' ≡ visible w → s' ≡ record s { requests = s'.requests; opens = s'.opens } → map (gate_seen s'.requests.items) s'.opens ≡ map (gate_seen s.requests.items) s.opens
     → map was_sent s'.requests.items ≡ map was_sent s.requests.items → things_with (with_view vs w.index (visible w')) s' ≡ things_with vs s
-things_granted vs w w' s s' found seen shared gates sent =
-    ap (λ y. things_with (with_view vs w.index y) s') seen ∙ ap (λ y. things_with y s') (view_found vs w.index (visible w) found)
-    ∙ ap (things_with vs) shared
-    ∙ ap (λ gs. record (things_with vs s) { gates = gs; answers = numbers_of_passing was_sent 0 s'.requests.items }) gates
-    ∙ ap (λ ns. record (things_with vs s) { answers = ns }) (passing_same was_sent s.requests.items s'.requests.items sent)
+things_granted = grind (arith, view_found, was_sent, passing_same)
 
 -- QUEUED
 

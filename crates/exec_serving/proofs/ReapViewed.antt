@@ -1,10 +1,11 @@
 -- What the machine sees of an operation that was reaped, whose request is over by that.
 use Rattle.std.proofs.{Common.{◌≡◌, ℕ, ◌==◌, Bool, true, false, List, ◌∷◌, map, Option, Some, refl, sym, ap, ◌∙◌, slice_get, slice_set, drop, if◌then◌else◌}, lemmas.Bool.eq-eqb}
+use Rattle.std.proofs.Common.{arith}
 use Rattle.exec_outcomes.specs.{Accounts.outcome_told, Outcomes.refuses_hint, declared.outcome.{OpResult.OpResult, Outcome.{Outcome, TheVariants.{Failure, Success}}}}
 use Rattle.exec_ring.specs.{Completions.result_in, declared.completion.Completion.Completion}
 use Rattle.exec_task.specs.declared.body.Said.{Said}
-use Rattle.exec_machine.specs.{declared.{event.Event.TheVariants.Reap, state.Request.Request}, Progress.Plan, Requests.{account_of_open, after_reap as common_reaped, judged_of, may_reap, opens_after_end, outcome_given, outcome_shown, reaped}, Same.{is_number, same_end, same_outcome}, Tests.{is_applied, is_at_large, is_landed_with, set_open, AllTrue}, World.{Common, Own, Seat, open_of, request_of, seat_of}}
-use Rattle.exec_moves.specs.{Told.{has_number, told_if_ended, told_of_end}, Serve.{Ring, after_reap, back_from_reap, others_after_reap, reap, reaped as reaped_ring, result_in as result_of}, State.{Desk, Moved, WakePoll, does}, Thing.ring_of, declared.place.{Place.Place, Reaping.Reaping, Service.Service, InService.InService}}
+use Rattle.exec_machine.specs.{declared.{event.Event.TheVariants.Reap, state.Request.Request}, Progress.Plan, Requests.{account_of_open, after_reap as common_reaped, judged_of, may_reap, opens_after_end, outcome_given, outcome_shown, reaped}, Same.{is_number, same_end, same_outcome}, Tests.{is_at_large, is_landed_with, set_open, AllTrue}, World.{Common, Own, Seat, open_of, request_of, seat_of}}
+use Rattle.exec_moves.specs.{Told.{told_if_ended, told_of_end}, Serve.{Ring, after_reap, back_from_reap, others_after_reap, reap, reaped as reaped_ring, result_in as result_of}, State.{Desk, Moved, WakePoll, does}, Thing.ring_of, declared.place.{Place.Place, Reaping.Reaping, Service.Service, InService.InService}}
 use Rattle.exec_parts.specs.{declared.parts.{record.Record.Record, shared.Shared.Shared, worker.Worker.Worker}, Serving.changed_at, Spots.Spot, View.{Views, visible, with_view, driver_of, common_of, open_seen, seat_seen, seats_seen, things_with}}
 use Rattle.exec_invariants.{specs.{Flown.{HasLanded, operations}, Sound.SoundAt, Works.Suits}, proofs.{Accounted.opens_refused, Mine.live_mine, Raising.seats_set, Recorded.shown_changed, Results.same_error_self}}
 use Rattle.exec_serving.proofs.{Entered.{ring_seen, ring_there}, Finished.over_step, PermitSeen.opens_after, Viewed.{landed_seen, request_is, same_result_self, seat_is, seen_all, seen_later, seen_number, visible_landed}}
@@ -15,13 +16,7 @@ same_outcome_self (Failure e) = same_error_self e
 
 -- the place beside what is told
 pub told_place : (k : ℕ) (r : Request) (d : Desk) (q : Place) → told_of_end k r (record d { place = q }) ≡ record (told_of_end k r d) { place = q }
-told_place k r d q = by r.observed (is_applied r.forwarding) (has_number k d.awaited) refl refl refl
-  where
-    by : (a b c : Bool) → r.observed ≡ a → is_applied r.forwarding ≡ b → has_number k d.awaited ≡ c → told_of_end k r (record d { place = q }) ≡ record (told_of_end k r d) { place = q }
-    by false b c is at has = rw is refl
-    by true true c is at has = rw (is, at) refl
-    by true false true is at has = rw (is, at, has) refl
-    by true false false is at has = rw (is, at, has) refl
+told_place = grind arith
 
 module _ {B L : Type 0} (left : B → L) (spot : L → Option Said → Spot) (rp : Reaping) (v : Service) (w : Worker) (s : Shared B) (sound : SoundAt (Place.Service (InService.Reap rp) v) w s) (waits : sound.seated.seat.raised ≡ 0) (c : Completion) (cs : List Completion) (is : operations (driver_of w).ring ≡ c ∷ cs) (h : HasLanded w.names (driver_of w) s.requests.items c)
     (p : Plan) (vs : Views) (suits : Suits p vs w s) where

@@ -1,5 +1,5 @@
 -- What a reaping finds: no operation that has landed, or the first of those that have.
-use Rattle.std.proofs.Common.{◌≡◌, true, false, List, [], ◌∷◌, Option, Some, None, refl, sym, ap, subst, ◌∙◌}
+use Rattle.std.proofs.Common.{◌≡◌, true, false, List, [], ◌∷◌, Option, Some, None, refl, ap, subst, ◌∙◌, arith}
 use Rattle.exec_ring.specs.{Completions.result_in, Kernels.{is_quiet, next_completion}, Rings.completions, declared.completion.Completion.Completion}
 use Rattle.exec_waiters.specs.{States.{file_of, waiter_at}, declared.deferred.Deferred.Deferred}
 use Rattle.exec_driver.specs.{Driving.Driving, Opens.{OpenState, account_in}, Steps.{ReapsFrom, ReapsNext, completed_in, permit_after, swept, told_as, with_landings}, declared.driver.reaping.Reaped.Reaped}
@@ -31,17 +31,10 @@ module _ (n : Names) (d d' : Driving Reply Reply) (rs : List Record) (opens open
 
   -- where none has landed nothing is told
   pub reaps_none : operations d.ring ≡ [] → (d' ≡ with_landings d' (swept d)) × (told ≡ None) × (opens' ≡ opens) × (after ≡ before)
-  reaps_none is =
-      let to = sweeps d in
-      let like = reaps.swept_first in
-      let next = none_there (swept d).ring.posted (swept d).ring refl (to.left ∙ none_left (completions d.ring) is) in
-      let nothing = reaps.none (ap (λ x. next_completion x.ring) like ∙ next.0) in
-      (nothing.0 ∙ like ∙ ap (λ x. with_landings x (swept d)) (sym nothing.0), nothing.1, nothing.2, nothing.3)
+  reaps_none = grind (arith, sweeps, none_there, none_left)
 
   pub reaps_quiet : operations d.ring ≡ [] → is_quiet d'.ring ≡ true
-  reaps_quiet is =
-      let to = sweeps d in
-      ap (λ x. is_quiet x.ring) (reaps_none is).0 ∙ (none_there (swept d).ring.posted (swept d).ring refl (to.left ∙ none_left (completions d.ring) is)).1
+  reaps_quiet = grind (arith, sweeps, reaps_none, none_there, none_left)
 
 some_same : {x y : Reaped} → Some x ≡ Some y → x ≡ y
 some_same h = cc

@@ -43,10 +43,7 @@ module _ {B : Type 0} (q : Place) (w : Worker) (s : Shared B) (sound : SoundAt q
   reaped_record j old number found = found_is s.requests.items (number_in w.names.requests.items of_it.reaped.has.id) j of_it.reaped.has.r old (number ∙ reaped_number) of_it.reaped.has.there found
 
   pub reaped_countable : (j : ℕ) (old : Record) → j ≡ number_in w.names.requests.items done.id.0 → old ≡ get_or s.requests.items j old → IsCountable old.shown.operation
-  reaped_countable j old number found = λ direct.
-      let bounded : of_it.reaped.has.r.shown.operation.skip + of_it.reaped.has.r.shown.operation.length + 4095 < 2 ^ 63 = reaped_plain_of.bounded in
-      let here : old.shown.operation.skip + old.shown.operation.length + 4095 < 2 ^ 63 = subst (λ y. y.shown.operation.skip + y.shown.operation.length + 4095 < 2 ^ 63) (sym (reaped_record j old number found)) bounded in
-      omega (arith, here)
+  reaped_countable = grind (arith, of_it, reaped_plain_of, reaped_record)
 
   pub reaped_lawful : (j : ℕ) (old : Record) → j ≡ number_in w.names.requests.items done.id.0 → old ≡ get_or s.requests.items j old → bytes_of done.given + old.shown.operation.moved < 2 ^ 64
   reaped_lawful j old number found =

@@ -1,5 +1,6 @@
 -- What holds again once an operation has landed whose request goes on.
 use Rattle.std.proofs.{Common.{◌≡◌, ◌≢◌, ℕ, ◌+◌, ◌^◌, ◌<◌, ◌≤◌, ◌==◌, ◌&&◌, ◌||◌, inl, not, Bool, true, false, List, [], ◌∷◌, ◌++◌, map, Some, None, refl, sym, ap, subst, ◌∙◌, slice_get, slice_index_or, is_some}, lemmas.Bool.{false≢true, eq-eqb}}
+use Rattle.std.proofs.Common.{arith}
 use Rattle.exec_base.specs.{Slab.{value_at, written}, declared.slab.Id.Id}
 use Rattle.exec_outcomes.specs.{Accounts.is_durable, Lawful.{is_lawful, window_of}, Outcomes.{HasCome, bytes_of, refuses_hint}, declared.outcome.OpResult.OpResult}
 use Rattle.exec_request.specs.{Judging.{Judges, judged_as}, Kept.kept_of, Requests.{asked_of, cursor_of, deadline_of, hinted_of}, declared.request.Request.Request as Asking}
@@ -68,11 +69,7 @@ goes_back given r = record r { shown = reaped given None r.shown }
 
 -- its bytes stay within its length
 pub lawful_shown : (start tick : ℕ) (it : Waiter Reply Reply) (r : Request) (given : OpResult) → IsAlike start tick it r → is_lawful (window_of (asked_of it.request) (cursor_of it.request)) given ≡ true → is_lawful (window_of (asked_in r.operation) (cursor_in r.operation)) given ≡ true
-lawful_shown start tick it r given a lawful =
-    ap (λ x. is_lawful (window_of x (cursor_in r.operation)) given) a.asked
-    ∙ ap (λ m. is_lawful (window_of (asked_of it.request) (record (cursor_in r.operation) { moved = m })) given) a.moved
-    ∙ ap (λ b. is_lawful (window_of (asked_of it.request) (record (cursor_in r.operation) { moved = (cursor_of it.request).moved; switched = b })) given) a.switched
-    ∙ lawful
+lawful_shown = grind arith
 
 -- one more result leaves it within its length
 pub fits_shown : (r : Request) (given : OpResult) → IsPlain r → is_lawful (window_of (asked_in r.operation) (cursor_in r.operation)) given ≡ true → (went_on r given).moved ≤ r.operation.skip + r.operation.length + 4095
@@ -133,31 +130,10 @@ module _ {B : Type 0} (q q' : Place) (w : Worker) (s : Shared B) (sound : SoundA
       }
 
   plain_then : IsPlain (goes_back (result_in c.result) back.h.r).shown
-  plain_then =
-      let r = back.h.r.shown in
-      let given = result_in c.result in
-      let p = back_plain in
-      let a = back_alike in
-      record {
-        bounded = p.bounded;
-        moved = fits_shown r given p (lawful_shown (driver_of w).wheel.start (driver_of w).wheel.tick back.h.it r given a back.h.lawful);
-        deadline = p.deadline;
-      }
+  plain_then = grind (arith, back_plain, back_alike, fits_shown, lawful_shown)
 
   one_back : OneGoesOn w.names w.names (driver_of w) d' s.requests.items back.h.id back.h.it back_waiter back.h.r (goes_back (result_in c.result))
-  one_back =
-      let a = back_alike in
-      record {
-        at = back.h.live;
-        there = back.h.there;
-        slab = back.requests;
-        on = record { same = refl; over = sym a.open_still; ended = λ e. absurd (false≢true (sym a.open_still ∙ e)) };
-        alike = alike_then;
-        start = ap (λ x. x.start) back.wheel;
-        tick = ap (λ x. x.tick) back.wheel;
-        requests = refl;
-        timers = refl;
-      }
+  one_back = grind (arith, back_alike, false≢true, alike_then)
 
   staged_by : (j : ℕ) (b : Bool) (x : Record) → is_staged (mark_if (goes_back (result_in c.result)) b x).shown.phase ≡ true → is_staged x.shown.phase ≡ true
   staged_by j true x h = absurd (false≢true h)

@@ -1,11 +1,10 @@
 -- What the steps of the clock and of peers keep: they change how workers rest, and nothing else that a worker rests on.
 use Rattle.std.proofs.{Common.{◌≡◌, ℕ, zero, suc, ◌*◌, ◌<◌, ◌≤◌, ◌^◌, false, List, [], ◌∷◌, ◌+◌, length, map, get_or, set, Option, None, Some, refl, sym, ap, subst, ◌∙◌, arith, slice_get, slice_set, option_map, IfSome}, lemmas.{List.{length-map, length-set}, Option.{slice_get-map, slice_get-get_or, slice_get_within}}}
 use Rattle.exec_base.specs.declared.limits.TheConstants.{LAST_MOMENT}
-use Rattle.exec_words.specs.Queue.{tail_of}
 use Rattle.exec_machine.specs.declared.{config.Configuration.Configuration, state.Rest.Rest}
-use Rattle.exec_moves.specs.declared.{handing.{InGlobal.InGlobal, InKick.InKick}, idling.{InLook.InLook, InRingWait.InRingWait, InScan.InScan}, place.{InClosing.InClosing, InMail.InMail, InService.InService, Place.Place}}
+use Rattle.exec_moves.specs.declared.{place.{Place.Place}}
 use Rattle.exec_parts.{specs.{declared.parts.{seat.Seat.Seat as Chair, shared.Shared.Shared, worker.Worker.Worker}, Phased.{IsPhased, TurnsChair, stage_of, closes_at, closing_in}, Records.{rest_at, reached, roused}}, proofs.{Facts.same_thing, Showing.map_kept}}
-use Rattle.exec_invariants.{specs.{Holding.box_of, Places.is_armed_at, Sound.{Aims, AreHome, HasQueue, IsInTime, IsSeated, Sound, SoundAt}, Whole.{IsWhole, Profile}}, proofs.{Dedicated.as_long, Aside.{queue_of_chair, queues_set, whole_same}, PoolKept.{KeepsGate, KeepsGates}, SparedRecord.there_within}}
+use Rattle.exec_invariants.{specs.{Holding.box_of, Places.is_armed_at, Sound.{Aims, AreHome, HasQueue, IsInTime, IsSeated, Sound, SoundAt}, Whole.{IsWhole, Profile}}, proofs.{Dedicated.as_long, Aside.{queue_of_chair, queues_set, whole_same}, PoolKept.{KeepsGates}, SparedRecord.there_within}}
 
 abbrev pub rested : Rest → Chair → Chair
 rested x chair = record chair { rest = x }
@@ -54,30 +53,11 @@ rested_of seats seats' k chair rests found =
 
 -- who claims half of another's queue looks at its queue
 aims_rested : (p : Place) (c : Configuration) (i : ℕ) (seats seats' : List Chair) → AreRested seats seats' → Aims p c i seats → Aims p c i seats'
-aims_rested (Place.Scan (InScan.ClaimHalf x h tail)) c i seats seats' rests may =
-    (record { other = may.0.other; unclaimed = may.0.unclaimed; some = may.0.some; most = may.0.most; behind = λ chair there. let was = rested_of seats seats' _ chair rests there in subst (λ y. tail ≤ tail_of y.queue) (sym was.3) (may.0.behind was.0 was.1) }, may.1)
-aims_rested (Place.Look (InLook.LookAtHead j)) c i seats seats' rests may = may
-aims_rested (Place.RingWait (InRingWait.DisarmRing n) x) c i seats seats' rests may = may
-aims_rested (Place.Signal x j b) c i seats seats' rests may = (subst (λ n. j < n) (sym rests.many) may.0, may.1)
-aims_rested (Place.Service (InService.Signal j b) v) c i seats seats' rests may = subst (λ n. j < n) (sym rests.many) may
-aims_rested (Place.Service (InService.Raise ring j b) v) c i seats seats' rests may = subst (λ n. j < n) (sym rests.many) may
-aims_rested (Place.Kick (InKick.ExchangeKickCount set) b) c i seats seats' rests may = may
-aims_rested (Place.Global (InGlobal.AddGlobalCount set) b) c i seats seats' rests may = may
-aims_rested (Place.Mail (InMail.Apply applied taken)) c i seats seats' rests may = may
-aims_rested (Place.Closing (InClosing.TellRoot j)) c i seats seats' rests may = may
-aims_rested _ c i seats seats' rests may = may
+aims_rested = grind (arith, rested_of)
 
 -- no gate of a seat changes, nor a queue
 gates_rested : (seats seats' : List Chair) → AreRested seats seats' → KeepsGates seats seats'
-gates_rested seats seats' rests =
-    record {
-      on = λ j chair there.
-          let now = rests.each j chair there in
-          (rested now.0 chair, now.1, record { left = refl; pool = refl; closed = refl; mail = λ h. h });
-      back = λ j chair there.
-          let was = rested_of seats seats' j chair rests there in
-          subst (λ y. (before : Chair) × (slice_get seats j ≡ Some before) × KeepsGate before y) (sym was.3) (was.0, was.1, record { left = refl; pool = refl; closed = refl; mail = λ h. h });
-    }
+gates_rested = grind (arith, rested_of)
 
 queues_reached : (clock : ℕ) (seats : List Chair) → map queue_of_chair (map (reached clock) seats) ≡ map queue_of_chair seats
 queues_reached clock [] = refl

@@ -24,14 +24,10 @@ not_due Reaping.First v = refl
 not_due Reaping.Last v = refl
 
 pub served_back : (rp : Reaping) (v : Service) (later : List ℕ) → serves_at (Place.Service (after_permit (back_from_reap rp later)) v) ≡ true
-served_back Reaping.First v [] = refl
-served_back Reaping.Last v [] = refl
-served_back rp v (k ∷ later) = refl
+served_back = grind arith
 
 pub passes_back : (rp : Reaping) (v : Service) (later : List ℕ) → passes_at (Place.Service (after_permit (back_from_reap rp later)) v) ≡ None
-passes_back Reaping.First v [] = refl
-passes_back Reaping.Last v [] = refl
-passes_back rp v (k ∷ later) = refl
+passes_back = grind arith
 
 pub numbers_push : (numbers : List ℕ) (ids : List WaiterId) (id : WaiterId) → numbers_of numbers (ids ++ id ∷ []) ≡ numbers_of numbers ids ++ number_in numbers id.0 ∷ []
 numbers_push numbers [] id = refl

@@ -1,5 +1,5 @@
 -- A ring that was set busy, or to end its wake poll.
-use Rattle.std.proofs.Common.{◌≡◌, Bool, true, Option, Some, refl, sym, ap, subst, ◌∙◌, slice_get}
+use Rattle.std.proofs.Common.{◌≡◌, Bool, true, Option, Some, refl, sym, ap, subst, ◌∙◌, slice_get, arith}
 use Rattle.exec_ring.specs.Rings.{RingState}
 use Rattle.exec_driver.specs.Driving.{Driving}
 use Rattle.exec_task.specs.declared.body.Said.{Said}
@@ -18,9 +18,7 @@ module _ {B : Type 0} where
 
   -- and leaves others as they were
   pub set_beside : (w w' : Worker) (s : Shared B) → w' ≡ record w { home = record w.home { driver = w'.home.driver } } → Beside w s w' s
-  set_beside w w' s same =
-      let profile : SameProfile w w' = subst (SameProfile w) (sym same) (record { hand = refl; loot = refl; polls = refl; claims = refl; searching = refl; counts = refl; index = refl; published = refl; drops = refl; told = record { batch = refl; letters = refl; left = refl } }) in
-      beside_calm w w' s s profile refl (seats_same w.index s.seats.items s.seats.items refl) (gates_same s.seats.items s.seats.items refl) refl refl refl refl
+  set_beside = grind (arith, beside_calm, seats_same, gates_same)
 
 -- THE NEXT COMPLETION OF THE WAKE POLL ENDS IT, once all raises are in the ring
 module _ {B L : Type 0} (left : B → L) (spot : L → Option Said → Spot) (w w1 w' : Worker) (s s1 : Shared B) (sound : Sound w s) (takes : TakesRaises w s w1 s1)

@@ -1,6 +1,7 @@
 -- An operation that has landed is judged: a step.
-use Rattle.std.{proofs.Common.{◌≡◌, ℕ, ◌&&◌, Bool, true, false, not, List, [], ◌∷◌, ◌++◌, map, Option, Some, None, if◌then◌else◌, refl, sym, ap, ◌∙◌, is_some}, specs.VecDeque.deque_capacity}
-use Rattle.exec_outcomes.specs.{Accounts.is_durable, Outcomes.is_unsupported}
+use Rattle.std.{proofs.Common.{◌≡◌, ℕ, ◌&&◌, Bool, true, false, not, List, [], ◌∷◌, ◌++◌, map, Option, Some, None, refl, sym, ap, ◌∙◌, is_some}, specs.VecDeque.deque_capacity}
+use Rattle.std.proofs.Common.{arith}
+use Rattle.exec_outcomes.specs.{Outcomes.is_unsupported}
 use Rattle.exec_request.specs.{Requests.{asked_of, gate_of, hinted_of, record_after, target_of}, States.{Ended, as_answer, as_outcome, told_by}, declared.request.Request.Request as Asking}
 use Rattle.exec_ring.specs.{Completions.result_in, Kernels.is_quiet}
 use Rattle.exec_driver.specs.{Opens.{OpenState, account_in, with_account}, Placed.ListsRequests, Punctual.IsPunctual, Steps.{ReapsNext, open_after}, declared.driver.reaping.Reaped.Reaped}
@@ -9,19 +10,12 @@ use Rattle.exec_task.specs.declared.body.Said.{Said}
 use Rattle.exec_machine.specs.{declared.{event.Event.{Event, TheVariants.Reap}, state.Request.Request}, Requests.{joined_if, reaped}}
 use Rattle.exec_moves.specs.{Serve.{after_permit, back_from_reap}, declared.place.{AfterPermit.AfterPermit, Place.Place, Reaping.Reaping, Service.Service, InService.InService}}
 use Rattle.exec_parts.specs.{declared.parts.{names.Names.Names, shared.Shared.Shared, worker.Worker.Worker}, Records.number_in, Serving.changed_at, Spots.Spot, Submitting.after_giving_up, View.{driver_of, number_told}}
-use Rattle.exec_invariants.{specs.{Flown.HasLanded, Sound.SoundAt, Works.Steps}, proofs.{Gated.gate_there, ReapKinds.gate_none}}
+use Rattle.exec_invariants.{specs.{Flown.HasLanded, Sound.SoundAt, Works.Steps}}
 use Rattle.exec_serving.proofs.{Finished.{goes_over, over_outcome, over_place, over_step}, Gone.{operation_over, reaped_over}, ReapAccounts.told_unhinted, Reaped.{TellsOf, tells_of}, Requeued.goes_back, Returned.reaped_back, Turned.{back_has, back_turned, ended_turned, opens_turned, over_has, over_request, over_tells, permit_turned, tells_turned, turned_account, turned_back, turned_over}}
 
 -- whose permit it gives up
 gives_permit : (q : Asking) (r : Request) → r.operation.kind ≡ (asked_of q).kind → r.operation.target ≡ target_of q → (b : AfterPermit) → after_giving_up (gate_of q) b ≡ over_step r b
-gives_permit q r kind target b = by (is_durable (asked_of q).kind) refl
-  where
-    by : (d : Bool) → is_durable (asked_of q).kind ≡ d → after_giving_up (gate_of q) b ≡ over_step r b
-    by true durable =
-        ap (λ o. after_giving_up o b) (gate_there q durable) ∙ ap (λ m. InService.PassPermit m b) (sym target)
-        ∙ sym (ap (λ x. if x then InService.PassPermit r.operation.target b else after_permit b) (ap is_durable kind ∙ durable))
-    by false free =
-        ap (λ o. after_giving_up o b) (gate_none q free) ∙ sym (ap (λ x. if x then InService.PassPermit r.operation.target b else after_permit b) (ap is_durable kind ∙ free))
+gives_permit = grind arith
 
 -- what a reaping did
 pub record HasJudged {B : Type 0} (rp : Reaping) (v : Service) (w w' : Worker) (s s' : Shared B) (e : Event) (done : Reaped) (opens' : List OpenState) (back : AfterPermit) (has : Bool) : Type 0 where

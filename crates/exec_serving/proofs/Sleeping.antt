@@ -1,5 +1,6 @@
 -- The sleep of a wait on the ring, once the wakes that wait at the seat are in it: none where a completion is there.
 use Rattle.std.proofs.{Common.{◌≡◌, ℕ, Bool, true, false, not, Option, Some, refl, sym, ap, subst, ◌∙◌, slice_get, if◌then◌else◌}, lemmas.List.set-get_or}
+use Rattle.std.proofs.Common.{arith}
 use Rattle.exec_ring.specs.Kernels.{is_quiet}
 use Rattle.exec_task.specs.declared.body.Said.{Said}
 use Rattle.exec_machine.specs.{declared.event.Event.{Event, TheVariants.{Turn, Sleep}}, Deadlines.next_due}

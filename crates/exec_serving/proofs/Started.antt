@@ -1,5 +1,5 @@
 -- The staging of a request's operation is a step.
-use Rattle.std.{proofs.{Common.{◌≡◌, ◌≢◌, ◌⊎◌, ℕ, ◌+◌, ◌<◌, ◌==◌, ◌^◌, inl, inr, ◌&&◌, ◌||◌, Bool, true, false, not, List, [], ◌∷◌, ◌++◌, length, map, Option, Some, refl, sym, ap, subst, ◌∙◌, arith, slice_get, slice_set, nat_lt, is_some}, lemmas.{Bool.{false≢true, eq-eqb}, List.{length-append, Folds.list_any-append}, Option.slice_get_within}}, specs.Vec.vec_capacity}
+use Rattle.std.{proofs.{Common.{◌≡◌, ◌≢◌, ◌⊎◌, ℕ, ◌+◌, ◌<◌, ◌==◌, ◌^◌, ◌&&◌, ◌||◌, Bool, true, false, not, List, [], ◌∷◌, ◌++◌, length, map, Option, Some, refl, sym, ap, subst, ◌∙◌, arith, slice_get, slice_set, nat_lt, is_some}, lemmas.{Bool.{false≢true, eq-eqb}, List.{length-append, Folds.list_any-append}, Option.slice_get_within}}, specs.Vec.vec_capacity}
 use Rattle.exec_base.specs.Slab.{value_at, written}
 use Rattle.exec_outcomes.specs.Accounts.{is_durable}
 use Rattle.exec_request.specs.{Hints.{AsksOn, has_hint}, Requests.{asked_of, cursor_of, deadline_of, hinted_of, target_of}, declared.request.Request.Request as Asking}
@@ -10,7 +10,7 @@ use Rattle.exec_task.specs.declared.body.Said.{Said}
 use Rattle.exec_machine.specs.{declared.{event.Event.{Event, TheVariants.Stage}, state.RequestPhase.RequestPhase}, Ranges.ring_size, Requests.{is_enrolled, staged}, Same.is_number, Tests.{is_gated, is_of_file, is_queued as is_phase_queued, is_resolved, is_staged}, World.{Common, request_of}}
 use Rattle.exec_moves.specs.{Move.move_submit, Submit.{staging_due, one_more, submits, Due.Stages}, declared.place.{Service.Service, Place.Place, InService.InService}}
 use Rattle.exec_parts.{specs.{declared.parts.{mail.Reply.Reply, names.Names.Names, record.Record.Record, shared.Shared.Shared, worker.Worker.Worker}, Records.{number_in, outcome_in}, Serving.{changed_at, is_cancel, is_one_of}, Spots.Spot, Submitting.{StagesRequest, must_flush, takes_hint}, View.{visible, with_view, own_of, desk_of, driver_of, common_of, seat_seen, things_with, numbers_of}}, proofs.Facts.{by_name, or_left, not_same, same_number, and_right}}
-use Rattle.exec_invariants.{specs.{Carried.IsCarried, Flown.{HasFlown, ends_in, is_poll, operations}, Gates.{IsKnown, at_gate, has_hint_at}, Holding.{nap_of, thing_of}, Places.{one_if, passes_at}, Names.IsSubmitted, Sound.served_in, Submits.IsIdle, Works.Steps, Ordered.{IsOrdered, went_round}}, proofs.{Going.owning_on, Hinting.{WishAlike, asks_after, asks_staged, hint_alike, hint_of_open, hint_seen, operates, stretch_kept, takes_none, unpolled}, Keys.name_in, Known.{KeepsAsk, known_written}, Lined.{map_changed, opens_same}, Keeping.polls_same, Marking.{known_then, plain_kept, mark_if, marked, was_marked, marked_length}, Serving.{at_large, balances_still, SparesRecords, spares_one}, ServingHolds.{serves_to, IsServed, OthersKept, Serves, Keeps, KeepsBy, keeps_all}, Recorded.request_seen, Slotted.{awaited_written, slots_written}, Changing.{OneGoesOn, changes_one, flying_after, keeps_one, apart_number, all_go_one}, Conveying.carried_staged, Flown.landed_on, Seeing.{makes, shows, served, common_changed, common_same, ring_again, things_kept}, Staging.{flush_seen, idle_at, split_first, staging_next, stages_again, suits_at}, Starting.{starts_first, starts, starts_on, starts_alike, starts_if_worker, starts_if_cancel, starts_plain, came_on, known_and, tagged_by, cancels_by}, Orders.{alike_self, eased, eases_written, part_self}}}
+use Rattle.exec_invariants.{specs.{Carried.IsCarried, Flown.{HasFlown, ends_in, is_poll, operations}, Gates.{IsKnown, at_gate, has_hint_at}, Holding.{nap_of, thing_of}, Places.{one_if, passes_at}, Names.IsSubmitted, Sound.served_in, Submits.IsIdle, Works.Steps, Ordered.{IsOrdered, went_round}}, proofs.{Going.owning_on, Hinting.{WishAlike, asks_after, hint_alike, hint_of_open, hint_seen, operates, stretch_kept, takes_none, unpolled}, Keys.name_in, Known.{KeepsAsk, known_written}, Lined.{map_changed, opens_same}, Keeping.polls_same, Marking.{known_then, plain_kept, mark_if, marked, was_marked, marked_length}, Serving.{at_large, balances_still, SparesRecords, spares_one}, ServingHolds.{serves_to, IsServed, OthersKept, Serves, Keeps, KeepsBy, keeps_all}, Recorded.request_seen, Slotted.{awaited_written, slots_written}, Changing.{OneGoesOn, changes_one, flying_after, keeps_one, apart_number, all_go_one}, Conveying.carried_staged, Flown.landed_on, Seeing.{makes, shows, served, common_changed, common_same, ring_again, things_kept}, Staging.{flush_seen, idle_at, split_first, staging_next, stages_again, suits_at}, Starting.{starts_first, starts, starts_on, starts_alike, starts_if_worker, starts_if_cancel, starts_plain, came_on, known_and, tagged_by, cancels_by}, Orders.{alike_self, eased, eases_written, part_self}}}
 use Rattle.exec_serving.proofs.Whole.{whole_kept}
 
 -- among the numbers that are staged it is the last
@@ -18,9 +18,7 @@ one_of_last : (k j : ℕ) (ks : List ℕ) → is_one_of j (ks ++ k ∷ []) ≡ (
 one_of_last k j ks = list_any-append (λ q. q == j) ks (k ∷ [])
 
 or_last : (a b : Bool) → b ≡ true → (a || (b || false)) ≡ true
-or_last true b h = refl
-or_last false true h = refl
-or_last false false h = absurd (false≢true h)
+or_last = grind arith
 
 or_none : (a : Bool) → (a || (false || false)) ≡ true → a ≡ true
 or_none true h = refl
@@ -29,30 +27,16 @@ or_none false h = absurd (false≢true h)
 -- each is of that worker
 own_then : (opens : List OpenState) (i : ℕ) (ks : List ℕ) (rs : List Record) (k : ℕ) → {untold : List ℕ} {r : RingState} → IsSubmitted i ks untold r rs → ((r : Record) → slice_get rs k ≡ Some r → r.shown.worker ≡ i) → (j : ℕ) (x : Record) (b : Bool) → (k == j) ≡ b
     → is_one_of j (ks ++ k ∷ []) ≡ true → slice_get (changed_at rs k (starts opens)) j ≡ Some x → x.shown.worker ≡ i
-own_then opens i ks rs k sub mine j x true is h found =
-    let old = was_marked (starts opens) rs k j x found in
-    ap (λ y. y.shown.worker) old.2 ∙ starts_if_worker opens (k == j) old.0 ∙ mine old.0 (ap (slice_get rs) (same_number k j is) ∙ old.1)
-own_then opens i ks rs k sub mine j x false is h found =
-    let old = was_marked (starts opens) rs k j x found in
-    ap (λ y. y.shown.worker) old.2 ∙ starts_if_worker opens (k == j) old.0
-    ∙ sub.own j old.0 (or_none (is_one_of j ks) (ap (λ b. is_one_of j ks || (b || false)) (sym is) ∙ sym (one_of_last k j ks) ∙ h)) old.1
+own_then = grind (arith, was_marked, starts, starts_if_worker, same_number, or_none, one_of_last)
 
 staged_then : (opens : List OpenState) (i : ℕ) (ks : List ℕ) (rs : List Record) (k : ℕ) → {untold : List ℕ} {r : RingState} → IsSubmitted i ks untold r rs → (j : ℕ) (x : Record) (b : Bool) → (k == j) ≡ b → slice_get (changed_at rs k (starts opens)) j ≡ Some x → is_staged x.shown.phase ≡ true → x.shown.worker ≡ i
     → (is_one_of j ks || ((k == j) || false)) ≡ true
-staged_then opens i ks rs k sub j x true is found staged mine = or_last (is_one_of j ks) (k == j) is
-staged_then opens i ks rs k sub j x false is found staged mine =
-    let old = was_marked (starts opens) rs k j x found in
-    let same : x ≡ old.0 = old.2 ∙ ap (λ b. mark_if (starts opens) b old.0) is in
-    or_left (is_one_of j ks) ((k == j) || false) (sub.all j old.0 old.1 (ap (λ y. y.shown.worker) (sym same) ∙ mine) (ap (λ y. is_staged y.shown.phase) (sym same) ∙ staged))
+staged_then = grind (arith, or_last, was_marked, starts, mark_if, or_left)
 
 -- it asks as before, or its open has no hint
 staged_asks : (q q' : Asking) (opens : List OpenState) (target : ℕ) → target ≡ target_of q → AsksOn (cursor_of q).hinted (cursor_of q').hinted (has_hint (account_in opens (file_of q)))
     → {unrefused : Bool} → ((cursor_of q').hinted ≡ false → ((cursor_of q).hinted ≡ false) ⊎ (unrefused ≡ false)) ⊎ (has_hint_at opens target ≡ false)
-staged_asks q q' opens target is asks =
-    elim (asks_staged q q' opens target is asks) [
-      | inl as_before ↦ inl (λ h. inl (as_before h))
-      | inr gone ↦ inr gone
-    ]
+staged_asks = grind arith
 
 module _ {B L : Type 0} (left : B → L) (spot : L → Option Said → Spot) where
   pub request_stages : (v : Service) (w w' : Worker) (s s' : Shared B) (e : Event) (id : WaiterId) → (idle : IsIdle v w s) → (first : first_of (driver_of w).lists.queued ≡ Some id)

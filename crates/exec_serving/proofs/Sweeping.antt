@@ -1,33 +1,19 @@
 -- A reaping that finds no operation which has landed.
-use Rattle.std.proofs.Common.{◌≡◌, ℕ, ◌≤◌, true, false, [], List, length, map, Option, None, refl, sym, ap, subst, ◌∙◌, arith}
+use Rattle.std.proofs.Common.{◌≡◌, ℕ, true, false, [], length, map, Option, None, refl, sym, ap, subst, ◌∙◌, arith}
 use Rattle.exec_base.specs.Slab.{Slab}
 use Rattle.exec_waiters.specs.declared.waiter.Entry.{Entry}
-use Rattle.exec_ring.specs.{Rings.completions, declared.completion.{Completion.Completion, Submission.Submission}}
+use Rattle.exec_ring.specs.{Rings.completions, declared.completion.{Completion.Completion}}
 use Rattle.exec_driver.specs.{Driving.Driving, Steps.{swept, with_landings}}
 use Rattle.exec_task.specs.declared.body.Said.{Said}
 use Rattle.exec_machine.specs.{declared.event.Event.{Event, TheVariants.Serve}}
 use Rattle.exec_moves.specs.{Seen.serves_at, Serve.{Ring, after_permit, others_after_reap, reap}, State.dropped, Thing.{ring_of, set_wake_poll, with_ring}, declared.place.{Reaping.Reaping, Service.Service, Place.Place, AfterPermit.AfterPermit, InService.InService}}
-use Rattle.exec_parts.specs.{declared.parts.{mail.Reply.Reply, shared.Shared.Shared, worker.Worker.Worker}, Serving.{AreTagged, cancels_in}, Spots.Spot, View.{visible, with_view, own_of, desk_of, driver_of, common_of, number_told, awaited_from, seat_seen, slots_seen, things_with, trailing, wake_poll_in}}
-use Rattle.exec_invariants.{specs.{Carried.those_of, Flown.operations, Due.may_be_due, Places.passes_at, Sound.{SoundAt, served_in}, Works.Steps}, proofs.{Keeping.{SameButRing, keeps_ring}, Raising.poll_shows, Seeing.{common_same, served}, Serving.{SparesRecords, at_large, balances_still, spares_same}, ServingHolds.{Follows, IsServed, Keeps, KeepsBy, Serves, serves_to}, Shown.{makes, own_with}, Swept.{RingAfter, ring_none}, WokenSwept.sweeps}}
+use Rattle.exec_parts.specs.{declared.parts.{mail.Reply.Reply, shared.Shared.Shared, worker.Worker.Worker}, Spots.Spot, View.{visible, with_view, own_of, desk_of, driver_of, common_of, number_told, awaited_from, seat_seen, slots_seen, things_with, trailing, wake_poll_in}}
+use Rattle.exec_invariants.{specs.{Flown.operations, Due.may_be_due, Places.passes_at, Sound.{SoundAt, served_in}, Works.Steps}, proofs.{Keeping.{SameButRing, keeps_ring}, Raising.poll_shows, Seeing.{common_same, served}, Serving.{SparesRecords, at_large, balances_still, spares_same}, ServingHolds.{Follows, IsServed, Keeps, KeepsBy, Serves, serves_to}, Shown.{makes, own_with}, Swept.{RingAfter, ring_none}, WokenSwept.sweeps}}
 use Rattle.exec_serving.proofs.Entered.{ring_seen, ring_there}
 
 -- a driver after a sweep, where none has landed
 pub sweeps_alike : (f : Completion → ℕ) (d d' : Driving Reply Reply) → d' ≡ with_landings d' (swept d) → operations d.ring ≡ [] → RingAfter f d d' [] → SameButRing d d'
-sweeps_alike f d d' like none ring =
-    let to = sweeps d in
-    record {
-      requests = ap (λ x. x.requests) like ∙ ap (λ x. x.requests) to.shape;
-      lists = ap (λ x. x.lists) like ∙ ap (λ x. x.lists) to.shape;
-      wheel = ap (λ x. x.wheel) like ∙ ap (λ x. x.wheel) to.shape;
-      size = ring.size;
-      landed = ring.landed ∙ sym none;
-      polled = λ h. ring.polled;
-      cancels = ap cancels_in ring.staged;
-      tagged = λ t. subst AreTagged (sym ring.staged) t;
-      entries = subst (λ (es : List Submission). length d.ring.staged ≤ length es) (sym ring.staged) (omega arith);
-      flies = ring.flying;
-      stages = λ v small. ap (those_of v) ring.staged;
-    }
+sweeps_alike = grind (arith, sweeps)
 
 pub follows_reap : (r : Reaping) (v : Service) → Follows (Place.Service (InService.Reap r) v) (Place.Service (after_permit (AfterPermit.Reaped r)) v)
 follows_reap Reaping.First v = record { from = refl; to = refl; serves = refl; armed = refl; closes = refl; wakes = refl; moment = λ m. refl; searches = refl; published = refl; bare = refl; batch = λ ms h. h }

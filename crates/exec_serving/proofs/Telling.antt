@@ -1,5 +1,5 @@
 -- A sleeper that is told at the end of a service is the one that the machine tells.
-use Rattle.std.{proofs.{Common.{◌≡◌, ◌≢◌, ◌⊎◌, inl, inr, ⊎_elim, ℕ, ◌+◌, ◌==◌, ◌^◌, ◌<◌, ◌≤◌, ◌&&◌, Bool, true, false, not, List, length, map, Option, Some, None, IsSome, is_some, Ok, refl, sym, ap, subst, ◌∙◌, arith, slice_get, slice_set, nat_le, nat_lt, if◌then◌else◌}, lemmas.{Bool.false≢true, List.{map-set, length-set}, Option.slice_get_within}}, specs.Option.option_map}
+use Rattle.std.{proofs.{Common.{◌≡◌, ◌≢◌, ◌⊎◌, ⊎_elim, ℕ, ◌+◌, ◌^◌, ◌<◌, ◌≤◌, Bool, true, false, not, List, length, map, Option, Some, None, IsSome, is_some, Ok, refl, sym, ap, subst, ◌∙◌, arith, slice_get, slice_set, nat_le, nat_lt, if◌then◌else◌}, lemmas.{Bool.false≢true, List.{map-set, length-set}, Option.slice_get_within}}}
 use Rattle.exec_base.{specs.{Slab.{IsPast, Slab, value_at, live_count, removed, freed, is_live}, declared.{slab.{Slot.TheVariants.{Vacant, Retired}, Id.Id}, task_no.TaskNo.TaskNo}}, proofs.Slots.{IsLiveAt-from_value, count-set, live_within}}
 use Rattle.exec_time.specs.{Notes.HasRoom, declared.{notes.Notes.Notes, timers.Sleeper.Sleeper as Sleeping}, Sleepers.{Ends, IsFirst}}
 use Rattle.exec_time.specs.declared.timers.Observer.TheVariants as sleep
@@ -36,24 +36,14 @@ one_less zs zs' id it at is =
 
 -- who sleeps hasn't fired and isn't removed
 awake_not : (i : ℕ) (z : Sleeper) → is_asleep i z ≡ true → (z.fired ≡ false) × (z.removed ≡ false)
-awake_not i z h = by (z.worker == i) z.fired z.removed h
-  where
-    by : (a f r : Bool) → (a && not f && not r) ≡ true → (f ≡ false) × (r ≡ false)
-    by true true r h = absurd (false≢true h)
-    by true false true h = absurd (false≢true h)
-    by true false false h = (refl, refl)
-    by false f r h = absurd (false≢true h)
+awake_not = grind arith
 
 apart_timer : (n : Names) (ss : List SleeperRecord) (k : ℕ) (id other : Id) (z y : SleeperRecord) → slice_get ss k ≡ Some z → slice_get ss (number_in n.timers.items other) ≡ Some y → z.id.0 ≡ id → y.id.0 ≡ other → other ≢ id → k ≡ number_in n.timers.items other → ⊥
-apart_timer n ss k id other z y there found named also apart same =
-    let both : z ≡ y = cc (there, found, same) in
-    apart (sym also ∙ ap (λ x. x.id.0) (sym both) ∙ named)
+apart_timer = grind arith
 
 -- a service of a worker that doesn't close, or of one where nobody sleeps
 opens_by : (x : AfterService) (d : Bool) → (is_bare_at (Place.Service InService.EndService (record { defer = d; back = x })) ≡ true) ⊎ (closes_at (Place.Service InService.EndService (record { defer = d; back = x })) ≡ false)
-opens_by AfterService.Mail d = inr refl
-opens_by AfterService.Begin d = inr refl
-opens_by AfterService.Finish d = inl refl
+opens_by = grind arith
 
 opens_so : (x : AfterService) (d : Bool) → (is_bare_at (Place.Service InService.EndService (record { defer = d; back = x })) ≡ true → ⊥) → closes_at (Place.Service InService.EndService (record { defer = d; back = x })) ≡ false
 opens_so x d unbare = ⊎_elim (λ bare. absurd (unbare bare)) (λ opens. opens) (opens_by x d)
@@ -63,13 +53,7 @@ pub notes_one : {notes : Notes Reply} (n : ℕ) → HasRoom notes (n + 64) → H
 notes_one n room = record { wakes = omega (arith, room.wakes); completions = omega (arith, room.completions) }
 
 pub timer_within : {i deadline : ℕ} {n : Names} {d : Driving Reply Reply} {zs : Slab (Sleeping Reply)} {rs : List Record} {ss : List SleeperRecord} {id : Id} → IsNamed i n d zs rs ss → IsFirst zs deadline id → number_in n.timers.items id < length ss
-timer_within {zs = zs} {ss = ss} {id = id} named first =
-    let found = named.timers id (some_first (value_at zs id) _ first.at) in
-    slice_get_within ss _ found.0 found.1
-  where
-    some_first : (o : Option (Sleeping Reply)) (m : ℕ) → option_map (λ x. x.deadline) o ≡ Some m → IsSome o
-    some_first None m h = absurd (cc)
-    some_first (Some x) m h = refl
+timer_within = grind (arith, slice_get_within)
 
 module _ {B L : Type 0} (left : B → L) (spot : L → Option Said → Spot) where
   pub sleeper_fired : (v : Service) (w w' : Worker) (s s' : Shared B) (e : Event) (id : Id) → SoundAt (Place.Service InService.EndService v) w s → e ≡ Fire (number_in w.names.timers.items id) → HasFired w w' s s' id → Steps left spot w s e w' s'

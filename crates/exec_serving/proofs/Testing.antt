@@ -20,16 +20,10 @@ with_wake some polled full d e = if some then d else if polled then d else if fu
 moved_by : (some polled full : Bool) (r : Place) (x : Stay) (d e : Desk)
     → (if unready some polled full then turns r d (tt {0}) else turns (Place.RingWait InRingWait.ArmRing x) (if polled || full then d else e) (tt {0}))
     ≡ turns (if unready some polled full then r else Place.RingWait InRingWait.ArmRing x) (with_wake some polled full d e) (tt {0})
-moved_by true polled full r x d e = refl
-moved_by false true full r x d e = refl
-moved_by false false true r x d e = refl
-moved_by false false false r x d e = refl
+moved_by = grind arith
 
 mapped_by : {A C : Type 0} (some polled full : Bool) (f : A → C) (d e : A) → f (with_wake some polled full d e) ≡ with_wake some polled full (f d) (f e)
-mapped_by true polled full f d e = refl
-mapped_by false true full f d e = refl
-mapped_by false false true f d e = refl
-mapped_by false false false f d e = refl
+mapped_by = grind arith
 
 -- a driver with these entries in its submission queue
 abbrev with_entries : Driving Reply Reply → List Submission → Bool → List Landing → Driving Reply Reply
@@ -37,10 +31,7 @@ with_entries d es armed landings = record d { ring = record d.ring { staged = es
 
 polled_is : (some polled full : Bool) (d : Driving Reply Reply) (l : List Landing)
     → record (with_wake some polled full d (poll_staged d)) { landings = l } ≡ with_entries d (with_wake some polled full d.ring.staged (d.ring.staged ++ wake_entry ∷ [])) (with_wake some polled full d.armed true) l
-polled_is true polled full d l = refl
-polled_is false true full d l = refl
-polled_is false false true d l = refl
-polled_is false false false d l = refl
+polled_is = grind arith
 
 -- the ring with the wake poll, or as it was
 like_by : (some polled full : Bool) (d : Driving Reply Reply) → d.armed ≡ polled → SameButRing d (with_wake some polled full d (poll_staged d))

@@ -1,9 +1,10 @@
 -- What the machine sees of an operation that was reaped, whether its request goes on or ends.
-use Rattle.std.proofs.{Common.{◌≡◌, ℕ, ◌==◌, ◌&&◌, Bool, true, false, List, ◌∷◌, map, Option, None, refl, sym, ap, ◌∙◌, slice_get, slice_set, drop, if◌then◌else◌}, lemmas.Bool.eq-eqb}
+use Rattle.std.proofs.{Common.{◌≡◌, ℕ, ◌&&◌, Bool, true, false, List, ◌∷◌, map, Option, None, refl, sym, ap, ◌∙◌, slice_set, drop, if◌then◌else◌}, lemmas.Bool.eq-eqb}
+use Rattle.std.proofs.Common.{arith}
 use Rattle.exec_outcomes.specs.{Accounts.is_durable, Outcomes.refuses_hint, declared.outcome.OpResult.{OpResult, TheVariants.{Count, Errno}}}
 use Rattle.exec_ring.specs.{Completions.result_in, declared.completion.Completion.Completion}
 use Rattle.exec_task.specs.declared.body.Said.{Said}
-use Rattle.exec_machine.specs.{declared.{event.Event.TheVariants.Reap, state.Request.Request}, Progress.Plan, Requests.{account_of_open, after_reap as common_reaped, common_after_refusal, judged_of, may_reap, opens_after_end, outcome_given, outcome_shown, reaped}, Same.{is_number, same_end, same_result}, Tests.{is_at_large, is_landed_with, is_resolved, set_open, AllTrue}, World.{Common, Open, Own, Seat, open_of, request_of, seat_of}}
+use Rattle.exec_machine.specs.{declared.{event.Event.TheVariants.Reap, state.Request.Request}, Progress.Plan, Requests.{account_of_open, after_reap as common_reaped, common_after_refusal, judged_of, may_reap, opens_after_end, outcome_given, outcome_shown, reaped}, Same.{same_result}, Tests.{is_at_large, is_resolved, set_open, AllTrue}, World.{Common, Open, Own, Seat, open_of, request_of, seat_of}}
 use Rattle.exec_moves.specs.{Told.told_if_ended, Serve.{Ring, after_permit, after_reap, back_from_reap, others_after_reap, reap, reaped as reaped_ring, result_in as result_of}, State.{Desk, Moved, WakePoll, does}, Thing.ring_of, declared.place.{Place.Place, Reaping.Reaping, Service.Service, InService.InService}}
 use Rattle.exec_parts.specs.{declared.parts.{record.Record.Record, shared.Shared.Shared, worker.Worker.Worker}, Records.number_in, Serving.changed_at, Spots.Spot, View.{Views, visible, with_view, driver_of, common_of, number_told, open_seen, seat_seen, seats_seen, things_with}}
 use Rattle.exec_invariants.{specs.{Flown.{HasLanded, operations}, Sound.SoundAt, Works.Suits}, proofs.{Mine.live_mine, Seats.own_seat, Recorded.request_seen, Accounted.{OpensJudged, opens_refused}, Keys.{name_in, names_changed, same_opens}, Raising.seats_set, Seeing.common_changed}}
@@ -65,27 +66,7 @@ module _ {B L : Type 0} (left : B → L) (spot : L → Option Said → Spot) (rp
 
   -- WHAT IS ALLOWED
   pub may_back : (me : Own) → is_at_large me ≡ true → outcome_given h.r.shown (result_in c.result) ≡ None → AllTrue (may_reap me seen_all w.index seen_number (result_in c.result) None)
-  may_back me large given =
-      let n = result_in c.result in
-      let k = seen_number in
-      let it = h.r.shown in
-      let mine = live_mine w.index w.names (driver_of w) w.home.timers s.requests.items s.sleepers.items sound.named h.id h.it h.r h.live h.there in (
-        large,
-        (
-          ap (λ ls. is_number k (slice_get ls 0)) landed_seen ∙ eq-eqb k k refl,
-          (
-            ap (λ x. x.worker == w.index) request_is ∙ ap (λ i. i == w.index) mine ∙ eq-eqb w.index w.index refl,
-            (
-              ap (λ x. is_landed_with n x.phase) request_is ∙ ap (is_landed_with n) h.landed ∙ same_result_self n,
-              (
-                ap (λ x. same_end None (outcome_shown (account_of_open seen_all x) x.operation.kind (outcome_given x n))) request_is
-                    ∙ ap (λ o. same_end None (outcome_shown (account_of_open seen_all it) it.operation.kind o)) given,
-                tt,
-              ),
-            ),
-          ),
-        ),
-      )
+  may_back = grind (arith, live_mine, landed_seen, eq-eqb, request_is, same_result_self)
 
   -- WHAT ALL SEE
   abbrev then_by : Seat → Request → Bool → List Open → Common

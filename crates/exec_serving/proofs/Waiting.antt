@@ -230,11 +230,7 @@ module _ {B L : Type 0} (left : B → L) (spot : L → Option Said → Spot) whe
   withdraws_seen p vs q n w s sound suits back = ap (λ b. if b then Place.Withdraw n else goes_back n) (pool_seen left spot p vs q w s sound suits) ∙ by (is_pool w.role) n back
     where
       by : (b : Bool) (m : AfterWait) → GoesBack m → (if b then Place.Withdraw m else goes_back m) ≡ (if b then Place.Withdraw m else place_withdrawn false m w)
-      by true m h = refl
-      by false AfterWait.Begin h = refl
-      by false AfterWait.Serve h = refl
-      by false (AfterWait.MakeUp last) h = absurd h
-      by false AfterWait.Search h = absurd h
+      by = grind arith
 
   pub wait_over_seen : (p : Plan) (vs : Views) (q : Place) (y : Stay) (n : AfterWait) (w : Worker) (s : Shared B) → SoundAt q w s → Suits p vs w s → GoesBack n → after_wait (common_of left spot p vs s) w.index y n ≡ after_wait_of y n w
   wait_over_seen p vs q Stay.Turn n w s sound suits back = withdraws_seen p vs q n w s sound suits back

@@ -1,11 +1,10 @@
 -- No step leaves a task waiting for what has come.
-use Rattle.std.proofs.Common.{◌≡◌, ℕ, zero, suc, Bool, true, false, if◌then◌else◌, get_or, refl, sym, ap, ◌∙◌}
+use Rattle.std.proofs.Common.{◌≡◌, ℕ, zero, suc, true, get_or, refl, sym, ap, ◌∙◌, arith}
 use Rattle.std.proofs.lemmas.Bool.{true≢false}
 use Rattle.exec_machine.specs.{declared.{config.Configuration.Configuration, state.Waiting.Waiting, step.Action.Action}, Callers.is_enabled, Progress.{Plan}, Run.{Follows, first_tasks}, World.{no_task, own_of}}
 use Rattle.exec_machine.specs.declared.state.Waiting.TheVariants as waiting
 use Rattle.exec_machine.specs.declared.step.Action.TheVariants as action
-use Rattle.exec_machine.specs.Examples.{refuses}
-use Rattle.exec_moves.specs.{Move.move, Plays.{Played, Playing, by_action, by_step, desk_of, first_playing}, State.{Moved, Things}}
+use Rattle.exec_moves.specs.{Move.move, Plays.{Playing, by_action, by_step, desk_of, first_playing}, State.{Moved, Things}}
 use Rattle.exec_rest.specs.{AtRest.{IsPlaced}}
 use Rattle.exec_rest.proofs.Step.{heeds_at}
 use Rattle.exec_settled.specs.{Awaited.IsAwaited, Given.{IsGiven, WaitsFor}}
@@ -45,9 +44,4 @@ module _ (c : Configuration) (x : Playing) (placed : IsPlaced c x) (given : IsGi
 
 pub awaited_then : (c : Configuration) (x : Playing) → IsPlaced c x → IsGiven c x → (a : Action) → let it = (by_step c x a).told in
     Follows c x.world a it.0.said it.1 → IsGiven c (by_step c x a).next → IsAwaited c x → IsAwaited c (by_step c x a).next
-awaited_then c x placed given a follows later before = by (is_enabled x.world.common a) refl follows later
-  where
-    by : (b : Bool) → is_enabled x.world.common a ≡ b → let it : Played = if b then by_action c x a else record { told = refuses a; next = x } in
-        Follows c x.world a it.told.0.said it.told.1 → IsGiven c it.next → IsAwaited c it.next
-    by true may follows later = by_any c x placed given before a may follows later
-    by false off follows later = before
+awaited_then = grind (arith, by_any)

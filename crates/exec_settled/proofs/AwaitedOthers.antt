@@ -1,20 +1,16 @@
 -- Steps of callers, of the clock, the kernel and the peers: they may wake a task or make one, and leave what is told to tasks as it is.
-use Rattle.std.proofs.Common.{◌≡◌, ℕ, zero, suc, Bool, true, false, ◌&&◌, ◌||◌, List, [], ◌∷◌, ◌++◌, get_or, set, Option, Some, None, refl, sym, ap, ◌∙◌, subst, inl, inr}
+use Rattle.std.proofs.Common.{◌≡◌, ℕ, zero, suc, Bool, true, false, ◌&&◌, ◌||◌, List, [], ◌∷◌, ◌++◌, get_or, set, Option, Some, None, refl, sym, ap, ◌∙◌, subst, inl, inr, arith}
 use Rattle.std.proofs.lemmas.{Bool.{true≢false, false≢true, and_parts, cases_Bool}}
-use Rattle.std.specs.Prelude.{◌⊎◌}
-use Rattle.exec_outcomes.specs.{declared.outcome.OpResult.OpResult, Lawful.{window_of, is_lawful}}
-use Rattle.exec_machine.specs.{declared.{config.Configuration.Configuration, event.Event.Event, state.{MailMessage.MailMessage, Request.Request, RequestPhase.RequestPhase, Sleeper.Sleeper, Waiting.Waiting}, step.Action.Action}, Callers.{after_going_on, after_spawn_by_call, after_wake_by_call, is_enabled}, Choice.Choice, Mail.{after_post, is_left_out, is_root_message}, Progress.is_runnable, Requests.{asked_of, cursor_of}, Tasks.{woken}, Tests.{is_done, is_flying, is_ready, is_resolved}, World.{Common, Task, no_request, no_sleeper, no_task, request_of, sleeper_of, task_of}}
+use Rattle.exec_outcomes.specs.{declared.outcome.OpResult.OpResult}
+use Rattle.exec_machine.specs.{declared.{config.Configuration.Configuration, event.Event.Event, state.{MailMessage.MailMessage, Request.Request, RequestPhase.RequestPhase}, step.Action.Action}, Callers.{after_spawn_by_call, after_wake_by_call, is_enabled}, Choice.Choice, Mail.{after_post, is_left_out, is_root_message}, Progress.is_runnable, Tasks.{woken}, Tests.{is_done, is_flying, is_ready, is_resolved}, World.{Common, Task, no_request, no_task, request_of, task_of}}
 use Rattle.exec_machine.specs.declared.event.Event.TheVariants as event
 use Rattle.exec_machine.specs.declared.state.RequestPhase.TheVariants as phase
 use Rattle.exec_machine.specs.declared.state.Waiting.TheVariants as waiting
 use Rattle.exec_machine.specs.declared.step.Action.TheVariants as action
-use Rattle.exec_moves.specs.declared.{handing.{CallPlace.CallPlace, Heard.Heard}, place.Place.Place}
-use Rattle.exec_moves.specs.declared.handing.CallPlace.TheVariants as call
-use Rattle.exec_moves.specs.declared.handing.InGlobal.TheVariants as global
-use Rattle.exec_moves.specs.declared.handing.InSignal.TheVariants as signals
-use Rattle.exec_moves.specs.{Call.CallDesk, MoveOfCaller.{call_on, call_wake}, Plays.{Playing, by_action, caller_of, desk_of, first_desk}, Poll.is_noted, State.{Desk, Things}, Told.has_number}
+use Rattle.exec_moves.specs.declared.{place.Place.Place}
+use Rattle.exec_moves.specs.{Call.CallDesk, MoveOfCaller.{call_wake}, Plays.{Playing, by_action, desk_of, first_desk}, Poll.is_noted, State.{Desk, Things}}
 use Rattle.exec_rest.proofs.CallHeeds.{set_at}
-use Rattle.exec_settled.specs.{Awaited.{IsAwaited, IsToBeWoken, IsToHear}, Given.WaitsFor}
+use Rattle.exec_settled.specs.{Awaited.{IsAwaited}}
 use Rattle.exec_settled.proofs.AwaitedTasks.{is_for_thing, woken_done, woken_noticed, woken_runnable}
 
 -- ONE TASK: the same, woken, or made
@@ -48,10 +44,7 @@ made (x ∷ xs) y none zero = unstirred x
 made (x ∷ xs) y none (suc t) = made xs y none t
 
 wakes : (xs : List Task) (u t : ℕ) → Stirred (get_or xs t no_task) (get_or (set xs u (woken (get_or xs u no_task))) t no_task)
-wakes xs u t = elim (set_at xs u t (woken (get_or xs u no_task)) no_task) [
-  | inl still ↦ subst (Stirred (get_or xs t no_task)) (sym still) (unstirred (get_or xs t no_task))
-  | inr at ↦ subst (Stirred (get_or xs t no_task)) (sym at.2) (subst (λ n. Stirred (get_or xs n no_task) (woken (get_or xs u no_task))) (sym at.0) (woken_stirred (get_or xs u no_task)))
-]
+wakes = grind (arith, set_at, unstirred, woken_stirred)
 
 -- WHAT SUCH A STEP LEAVES
 
@@ -74,55 +67,14 @@ pub record Leaves (c : Configuration) (x y : Playing) : Type 0 where
   pub alarms : y.things.alarms ≡ x.things.alarms
 
 module _ (c : Configuration) (x y : Playing) (leaves : Leaves c x y) (before : IsAwaited c x) where
-  waited : (t : ℕ) (what : Waiting) → is_for_thing what ≡ true → WaitsFor y.world.common t what → WaitsFor x.world.common t what
-  waited t what thing w =
-      let it = (leaves.tasks t).waits w.going (ap is_for_thing w.waits ∙ thing) in
-      record { going = it.1; waits = it.0 ∙ w.waits }
-
-  woken_still : (j t : ℕ) → IsToBeWoken c x j t → IsToBeWoken c y j t
-  woken_still j t (inl runs) = inl ((leaves.tasks t).runs runs)
-  woken_still j t (inr has) = inr (ap (has_number t) (leaves.wakes j) ∙ has)
-
-  hears_still : (j t : ℕ) (of : Heard) → IsToHear c x j t of → IsToHear c y j t of
-  hears_still j t of (inl next) = inl (next.0, leaves.place j ∙ next.1)
-  hears_still j t of (inr (inl noted)) = inr (inl ((leaves.tasks t).noted noted))
-  hears_still j t of (inr (inr at)) = inr (inr (at.0, leaves.place at.0 ∙ at.1))
-
-  told_still : (k j t : ℕ) → (has_number k (desk_of c x j).results ≡ true) ⊎ ((has_number k x.things.answers ≡ true) × IsToHear c x j t (Heard.Request k))
-      → (has_number k (desk_of c y j).results ≡ true) ⊎ ((has_number k y.things.answers ≡ true) × IsToHear c y j t (Heard.Request k))
-  told_still k j t (inl due) = inl (ap (has_number k) (leaves.results j) ∙ due)
-  told_still k j t (inr heard) = inr (ap (has_number k) leaves.answers ∙ heard.0, hears_still j t (Heard.Request k) heard.1)
-
-  rung_still : (z j t : ℕ) → (has_number z (desk_of c x j).completions ≡ true) ⊎ ((has_number z x.things.alarms ≡ true) × IsToHear c x j t (Heard.Timer z))
-      → (has_number z (desk_of c y j).completions ≡ true) ⊎ ((has_number z y.things.alarms ≡ true) × IsToHear c y j t (Heard.Timer z))
-  rung_still z j t (inl due) = inl (ap (has_number z) (leaves.completions j) ∙ due)
-  rung_still z j t (inr heard) = inr (ap (has_number z) leaves.alarms ∙ heard.0, hears_still j t (Heard.Timer z) heard.1)
-
-  sleeper : (z : ℕ) → sleeper_of y.world.common z ≡ sleeper_of x.world.common z
-  sleeper z = ap (λ zs. get_or zs z no_sleeper) leaves.sleepers
-
   pub stays_awaited : IsAwaited c y
   stays_awaited =
       record {
-        here = λ t k w unsent unended.
-            let it = leaves.requests k in
-            let home = (request_of x.world.common k).worker in
-            ap (λ j. has_number k (desk_of c y j).awaited) it.worker ∙ ap (has_number k) (leaves.awaited home)
-            ∙ before.here t k (waited t (waiting.Request k) refl w) (sym it.how ∙ unsent) (sym it.over ∙ unended);
-        woken = λ t k w unsent over.
-            let it = leaves.requests k in
-            subst (λ j. IsToBeWoken c y j t) (sym it.worker)
-            (woken_still (request_of x.world.common k).worker t (before.woken t k (waited t (waiting.Request k) refl w) (sym it.how ∙ unsent) (sym it.over ∙ over)));
-        fired = λ t z w unsent over.
-            subst (λ j. IsToBeWoken c y j t) (ap (λ (it : Sleeper). it.worker) (sym (sleeper z)))
-            (woken_still (sleeper_of x.world.common z).worker t (before.fired t z (waited t (waiting.Timer z) refl w) (ap (λ (it : Sleeper). it.forwarding) (sym (sleeper z)) ∙ unsent) (ap (λ (it : Sleeper). it.fired) (sym (sleeper z)) ∙ over)));
-        answered = λ t k w applied over.
-            let it = leaves.requests k in
-            subst (λ j. (has_number k (desk_of c y j).results ≡ true) ⊎ ((has_number k y.things.answers ≡ true) × IsToHear c y j t (Heard.Request k))) (sym it.worker)
-            (told_still k (request_of x.world.common k).worker t (before.answered t k (waited t (waiting.Request k) refl w) (sym it.how ∙ applied) (sym it.over ∙ over)));
-        alarmed = λ t z w applied over.
-            subst (λ j. (has_number z (desk_of c y j).completions ≡ true) ⊎ ((has_number z y.things.alarms ≡ true) × IsToHear c y j t (Heard.Timer z))) (ap (λ (it : Sleeper). it.worker) (sym (sleeper z)))
-            (rung_still z (sleeper_of x.world.common z).worker t (before.alarmed t z (waited t (waiting.Timer z) refl w) (ap (λ (it : Sleeper). it.forwarding) (sym (sleeper z)) ∙ applied) (ap (λ (it : Sleeper). it.fired) (sym (sleeper z)) ∙ over)));
+        here = grind arith;
+        woken = grind arith;
+        fired = grind arith;
+        answered = grind arith;
+        alarmed = grind arith;
       }
 
 -- EACH STEP
@@ -146,28 +98,12 @@ woken_by_call s t (event.Wake other) choice = record { tasks = wakes s.tasks t; 
 woken_by_call s t (event.Send to m) choice = posted s to m choice
 woken_by_call s t e choice = as_it_is s s refl refl refl
 
-went_on : (s : Common) (j : ℕ) (e : Event) → Quiet s (after_going_on s j e)
-went_on s j (event.Rouse other) = as_it_is s _ refl refl refl
-went_on s j event.Return = as_it_is s _ refl refl refl
-went_on s j e = as_it_is s s refl refl refl
-
 -- CALLERS send no ends
 
 module _ (s : Common) (d : CallDesk) (x : Things) where
   wake_sends : (u : ℕ) (home : Option ℕ) → ((call_wake s d x u home).thing.answers ≡ x.answers) × ((call_wake s d x u home).thing.alarms ≡ x.alarms)
   wake_sends u None = (refl, refl)
   wake_sends u (Some home) = (refl, refl)
-
-  call_sends : (p : CallPlace) → ((call_on s d x p).thing.answers ≡ x.answers) × ((call_on s d x p).thing.alarms ≡ x.alarms)
-  call_sends call.Nothing = (refl, refl)
-  call_sends (call.Global global.Append) = (refl, refl)
-  call_sends (call.Global global.LoadGlobalSet) = (refl, refl)
-  call_sends (call.Global (global.AddGlobalCount set)) = (refl, refl)
-  call_sends (call.Global global.ReturnGlobalCount) = (refl, refl)
-  call_sends (call.ClaimWorker set) = (refl, refl)
-  call_sends (call.Signal signals.SetLatch j) = (refl, refl)
-  call_sends (call.Signal (signals.Raise ring) j) = (refl, refl)
-  call_sends call.Return = (refl, refl)
 
 flying_unended : (p : RequestPhase) → is_flying p ≡ true → is_resolved p ≡ false
 flying_unended phase.Flying h = refl
@@ -179,19 +115,7 @@ module _ (c : Configuration) (x : Playing) where
 
   -- the desks are as they were
   quiet : (y : Playing) → y.desks ≡ x.desks → Quiet s y.world.common → y.things.answers ≡ x.things.answers → y.things.alarms ≡ x.things.alarms → Leaves c x y
-  quiet y desks q answers alarms =
-      record {
-        tasks = q.tasks;
-        requests = λ k. subst (λ rs. Still (request_of s k) (get_or rs k no_request)) (sym q.requests) (unmoved (request_of s k));
-        sleepers = q.sleepers;
-        place = λ j. ap (λ ds. (get_or ds j (first_desk c j)).place) desks;
-        awaited = λ j. ap (λ ds. (get_or ds j (first_desk c j)).awaited) desks;
-        wakes = λ j. ap (λ ds. (get_or ds j (first_desk c j)).wakes) desks;
-        results = λ j. ap (λ ds. (get_or ds j (first_desk c j)).results) desks;
-        completions = λ j. ap (λ ds. (get_or ds j (first_desk c j)).completions) desks;
-        answers = answers;
-        alarms = alarms;
-      }
+  quiet = grind arith
 
   -- the common part is as it was, but for what no task waits for
   alike : (y : Playing) → y.desks ≡ x.desks → y.world.common.tasks ≡ s.tasks → y.world.common.requests ≡ s.requests → y.world.common.sleepers ≡ s.sleepers
@@ -199,37 +123,17 @@ module _ (c : Configuration) (x : Playing) where
   alike y desks tasks requests sleepers answers alarms = quiet y desks (as_it_is s y.world.common tasks requests sleepers) answers alarms
 
   lands : (r : ℕ) (n : OpResult) → is_enabled s (action.Land r n) ≡ true → (k : ℕ) → Still (request_of s k) (get_or (set s.requests r (record (request_of s r) { phase = phase.Landed n })) k no_request)
-  lands r n may k = elim (set_at s.requests r k (record (request_of s r) { phase = phase.Landed n }) no_request) [
-    | inl still ↦ subst (Still (request_of s k)) (sym still) (unmoved (request_of s k))
-    | inr at ↦
-        let it = request_of s r in
-        let flies = (and_parts (is_flying it.phase) (is_lawful (window_of (asked_of it.operation) (cursor_of it.operation)) n) may).0 in
-        subst (Still (request_of s k)) (sym at.2) (subst (λ q. Still (request_of s q) (record it { phase = phase.Landed n })) (sym at.0) (record { worker = refl; how = refl; over = sym (flying_unended it.phase flies) }))
-  ]
+  lands = grind (arith, set_at, unmoved, and_parts, flying_unended)
 
   -- what landed stands before the others at the desk of worker i
   one_desk : (T : Type 0) (f : Desk → T) (i : ℕ) → f (record (desk_of c x i) { others = 0 }) ≡ f (desk_of c x i) → (j : ℕ) → f (get_or (set x.desks i (record (desk_of c x i) { others = 0 })) j (first_desk c j)) ≡ f (desk_of c x j)
-  one_desk T f i same j = elim (set_at x.desks i j (record (desk_of c x i) { others = 0 }) (first_desk c j)) [
-    | inl still ↦ ap f still
-    | inr at ↦ ap f at.2 ∙ same ∙ ap (λ n. f (desk_of c x n)) (sym at.0)
-  ]
+  one_desk = grind (arith, set_at)
 
   pub leaves : (a : Action) → is_enabled s a ≡ true → is_work a ≡ false → Leaves c x (by_action c x a).next
   leaves (action.Work i) may not_work = absurd (true≢false not_work)
-  leaves (action.Spawn j k) may not_work =
-      let y = (by_action c x (action.Spawn j k)).next in
-      let it = spawned s k _ in
-      quiet y refl (record { tasks = it.tasks; requests = it.requests; sleepers = it.sleepers }) refl refl
-  leaves (action.Wake j t) may not_work =
-      let y = (by_action c x (action.Wake j t)).next in
-      let it = woken_by_call s t _ _ in
-      let sent = wake_sends s (caller_of x j) x.things t (task_of s t).home in
-      quiet y refl (record { tasks = it.tasks; requests = it.requests; sleepers = it.sleepers }) sent.0 sent.1
-  leaves (action.GoOn j) may not_work =
-      let y = (by_action c x (action.GoOn j)).next in
-      let it = went_on s j _ in
-      let sent = call_sends s (caller_of x j) x.things (caller_of x j).place in
-      quiet y refl (record { tasks = it.tasks; requests = it.requests; sleepers = it.sleepers }) sent.0 sent.1
+  leaves (action.Spawn j k) may not_work = grind (arith, spawned, quiet)
+  leaves (action.Wake j t) may not_work = grind (arith, woken_by_call, wake_sends, quiet)
+  leaves (action.GoOn j) may not_work = grind arith
   leaves (action.Clock d) may not_work = alike (by_action c x (action.Clock d)).next refl refl refl refl refl refl
   leaves (action.Land r n) may not_work =
       let i = (request_of s r).worker in

@@ -1,15 +1,13 @@
 -- What an event of a worker leaves of each request as to its forwarding, and what those do by which a task begins or ends to wait.
 use Rattle.std.proofs.Common.{◌≡◌, ℕ, zero, suc, ◌+◌, ◌<◌, ◌==◌, Bool, true, false, ◌&&◌, ◌||◌, List, [], ◌∷◌, ◌++◌, length, map, get_or, set, Option, Some, None, if◌then◌else◌, unwrap_or, refl, sym, ap, ◌∙◌, subst, inl, inr, arith}
-use Rattle.std.proofs.lemmas.{Bool.{true≢false, false≢true, cases_Bool, cases_lt, and_parts}, List.{get_or_append_left, get_or-set_same, get_or_past, length-set, set_past}}
+use Rattle.std.proofs.lemmas.{Bool.{true≢false, false≢true, cases_Bool, cases_lt}, List.{get_or_append_left, get_or-set_same, get_or_past, length-set, set_past}}
 use Rattle.std.specs.Prelude.{◌⊎◌}
 use Rattle.exec_outcomes.specs.declared.outcome.{OpResult.OpResult, Outcome.Outcome}
-use Rattle.exec_machine.specs.{declared.{config.Configuration.Configuration, event.Event.Event, state.{MailMessage.MailMessage, Next.Next, Request.Request, RequestPhase.RequestPhase, TaskPhase.TaskPhase}}, After.{common_after, polled}, Allowed.Allowed, Choice.{Choice, Payer, Choice.{Plain, Passes, Pays, Posts}, Payer.{ByRequest, BySleeper, ByAct, ByCall, ByStop}}, Closing.{after_clear, after_next, after_turn, ends_by_clear, with_cleared}, Deadlines.{enrolled, expired, fires_at}, Mail.{after_message, after_post, after_sending, awaits_request, is_left_out, is_root_message}, Requests.{dropped, ends_by_drop, flown, granted, is_cancelled_by_drop, reaped}, Tasks.{after_payment, after_pend, after_taking, after_wait, after_wake, after_word, requests_after_drops, without_newest, woken, woken_phase}, Tests.{is_done, is_gated, is_landed_with, is_queued, is_ready, is_resolved, is_staged, waits_for_nothing}, World.{Common, Own as Books, Task, no_request, no_task, request_of, task_of}}
+use Rattle.exec_machine.specs.{declared.{config.Configuration.Configuration, event.Event.Event, state.{MailMessage.MailMessage, Request.Request, RequestPhase.RequestPhase, TaskPhase.TaskPhase}}, After.{common_after, polled}, Allowed.Allowed, Choice.{Choice, Payer, Choice.{Plain, Passes, Pays, Posts}, Payer.{ByRequest, BySleeper, ByAct, ByCall, ByStop}}, Closing.{after_clear, after_turn, ends_by_clear, with_cleared}, Deadlines.{enrolled, expired, fires_at}, Mail.{after_message, after_post, after_sending, is_left_out, is_root_message}, Requests.{dropped, flown, granted, reaped}, Tasks.{after_payment, after_pend, after_taking, after_wait, after_wake, after_word, requests_after_drops, without_newest, woken, woken_phase}, Tests.{is_done, is_gated, is_landed_with, is_queued, is_ready, is_resolved, waits_for_nothing}, World.{Common, Own as Books, Task, no_request, no_task, request_of, task_of}}
 use Rattle.exec_machine.specs.declared.event.Event.TheVariants as event
 use Rattle.exec_machine.specs.declared.state.Forwarding.TheVariants as forwarding
 use Rattle.exec_machine.specs.declared.state.MailMessage.TheVariants as message
-use Rattle.exec_machine.specs.declared.state.Next.TheVariants as next
 use Rattle.exec_machine.specs.declared.state.RequestPhase.TheVariants as phase
-use Rattle.exec_machine.specs.declared.state.TaskPhase.TheVariants as task
 use Rattle.exec_machine.specs.declared.state.Waiting.TheVariants as waiting
 use Rattle.exec_moves.specs.Poll.{is_noted}
 use Rattle.exec_rest.proofs.CallHeeds.{set_at}
@@ -37,19 +35,12 @@ queued_open : (p : RequestPhase) → is_queued p ≡ true → is_resolved p ≡ 
 queued_open phase.Queued h over = absurd (false≢true over)
 queued_open _ h over = absurd (false≢true h)
 
-staged_open : (p : RequestPhase) → is_staged p ≡ true → is_resolved p ≡ true → {T : Type 0} → T
-staged_open phase.Staged h over = absurd (false≢true over)
-staged_open _ h over = absurd (false≢true h)
-
 landed_open : (n : OpResult) (p : RequestPhase) → is_landed_with n p ≡ true → is_resolved p ≡ true → {T : Type 0} → T
 landed_open n (phase.Landed m) h over = absurd (false≢true over)
 landed_open n _ h over = absurd (false≢true h)
 
 drop_kept : (x : Request) → Kept x (dropped x)
-drop_kept x = elim (cases_Bool (ends_by_drop x)) [
-  | inl ends ↦ rw ends (record { same = refl; over = λ h. refl })
-  | inr stays ↦ rw stays (elim (cases_Bool (is_cancelled_by_drop x)) [ inl cancelled ↦ rw cancelled (record { same = refl; over = λ h. h }) | inr kept ↦ rw kept (record { same = refl; over = λ h. h }) ])
-]
+drop_kept = grind arith
 
 grant_kept : (outcome : Option Outcome) (x : Request) → is_gated x.phase ≡ true → Kept x (granted outcome x)
 grant_kept None x gated = record { same = refl; over = λ h. gated_open x.phase gated h }
@@ -68,10 +59,7 @@ reap_kept n None x landed = record { same = refl; over = λ h. landed_open n x.p
 reap_kept n (Some o) x landed = record { same = refl; over = λ h. refl }
 
 flown_kept : (i : ℕ) (x : Request) → Kept x (flown i x)
-flown_kept i x = elim (cases_Bool ((x.worker == i) && is_staged x.phase)) [
-  | inl goes ↦ rw goes (record { same = refl; over = λ h. staged_open x.phase (and_parts (x.worker == i) (is_staged x.phase) goes).1 h })
-  | inr stays ↦ rw stays (as_it_was x)
-]
+flown_kept = grind arith
 
 -- ALL REQUESTS that are there
 
@@ -87,10 +75,7 @@ flies i (x ∷ xs) zero = flown_kept i x
 flies i (x ∷ xs) (suc k) = flies i xs k
 
 set_kept : (xs : List Request) (q : ℕ) (y : Request) → Kept (get_or xs q no_request) y → AllKept xs (set xs q y)
-set_kept xs q y h k = elim (set_at xs q k y no_request) [
-  | inl still ↦ subst (Kept (get_or xs k no_request)) (sym still) (as_it_was (get_or xs k no_request))
-  | inr at ↦ subst (Kept (get_or xs k no_request)) (sym at.2) (subst (λ n. Kept (get_or xs n no_request) y) (sym at.0) h)
-]
+set_kept = grind (arith, set_at, as_it_was)
 
 then_kept : (xs ys zs : List Request) → AllKept xs ys → AllKept ys zs → AllKept xs zs
 then_kept xs ys zs a b k = record { same = (b k).same ∙ (a k).same; over = λ h. (b k).over ((a k).over h) }
@@ -100,10 +85,7 @@ drops i [] xs = λ k. as_it_was (get_or xs k no_request)
 drops i (q ∷ held) xs = by (λ ys. drops i held ys) ((get_or xs q no_request).worker == i)
   where
     by : ((ys : List Request) → AllKept ys (requests_after_drops i held ys)) → (b : Bool) → AllKept xs (requests_after_drops i held (if b then set xs q (dropped (get_or xs q no_request)) else xs))
-    by rest true =
-        let ys = set xs q (dropped (get_or xs q no_request)) in
-        then_kept xs ys (requests_after_drops i held ys) (set_kept xs q (dropped (get_or xs q no_request)) (drop_kept (get_or xs q no_request))) (rest ys)
-    by rest false = rest xs
+    by = grind (arith, then_kept, set_kept, drop_kept)
 
 module _ (e : Event) where
   plainly : (xs ys : List Request) → AllKept xs ys → AllForwarded e xs ys
@@ -116,10 +98,7 @@ module _ (e : Event) where
   same xs ys is = subst (AllForwarded e xs) (sym is) (none xs)
 
   one_any : (xs : List Request) (q : ℕ) (y : Request) → Forwarded e q (get_or xs q no_request) y → AllForwarded e xs (set xs q y)
-  one_any xs q y h k within = elim (set_at xs q k y no_request) [
-    | inl still ↦ subst (Forwarded e k (get_or xs k no_request)) (sym still) (none xs k within)
-    | inr at ↦ subst (Forwarded e k (get_or xs k no_request)) (sym at.2) (subst (λ n. Forwarded e n (get_or xs n no_request) y) (sym at.0) h)
-  ]
+  one_any = grind (arith, set_at, none)
 
   one : (xs : List Request) (q : ℕ) (y : Request) → Kept (get_or xs q no_request) y → AllForwarded e xs (set xs q y)
   one xs q y h = plainly xs (set xs q y) (set_kept xs q y h)
@@ -139,17 +118,8 @@ module _ (s : Common) (i : ℕ) (e : Event) where
   words None = refl
   words (Some t) = refl
 
-  steps : (n : Next) → (after_next s i n).requests ≡ s.requests
-  steps next.Free = refl
-  steps (next.Joins r) = refl
-  steps next.ClosesQueue = refl
-  steps next.ClosesMailbox = refl
-
   turns : (me : Books) (choice : Choice) → (after_turn me s i choice).requests ≡ s.requests
-  turns me Plain = steps me.next
-  turns me Passes = refl
-  turns me (Pays payer) = steps me.next
-  turns me (Posts payer left_out) = steps me.next
+  turns = grind arith
 
   posts : (s' : Common) (to : ℕ) (m : MailMessage) (choice : Choice) → (after_post s' to m choice).requests ≡ s'.requests
   posts s' to m choice = elim (cases_Bool (is_root_message m && is_left_out choice)) [ inl out ↦ rw out refl | inr in_it ↦ rw in_it refl ]
@@ -240,63 +210,37 @@ pub record Waited (x y : Request) : Type 0 where
 
 module _ (c : Configuration) (me : Books) (s : Common) (i : ℕ) (choice : Choice) (k : ℕ) where
   pub begins_here : Waited (request_of s k) (request_of (common_after c me s i (event.Wait (Some k)) choice) k)
-  begins_here = elim (set_at s.requests k k (record (request_of s k) { waiter = Some (polled me) }) no_request) [
-    | inl still ↦ rw still (record { worker = refl; phase = refl; forwarding = refl })
-    | inr at ↦ rw at.2 (record { worker = refl; phase = refl; forwarding = refl })
-  ]
+  begins_here = grind (arith, set_at)
 
   -- elsewhere: that was sent
   pub begins_elsewhere : (to : ℕ) → Allowed c me s i (event.Send to (message.ForwardRequest k)) choice → k < length (common_after c me s i (event.Send to (message.ForwardRequest k)) choice).requests
       → (request_of (common_after c me s i (event.Send to (message.ForwardRequest k)) choice) k).forwarding ≡ forwarding.Sent
-  begins_elsewhere to a within =
-      let posted = posts s i event.Turn (after_sending s me.polls (message.ForwardRequest k)) to (message.ForwardRequest k) choice in
-      ap (λ ys. (get_or ys k no_request).forwarding) posted ∙ by me.polls refl (subst (λ ys. k < length ys) posted within)
-    where
-      by : (p : Option ℕ) → me.polls ≡ p → k < length (after_sending s p (message.ForwardRequest k)).requests → (get_or (after_sending s p (message.ForwardRequest k)).requests k no_request).forwarding ≡ forwarding.Sent
-      by None is within = let idle : awaits_request me s k ≡ false = rw is refl in absurd (false≢true (sym idle ∙ a.0))
-      by (Some u) is within =
-          let y : Request = record (request_of s k) { waiter = Some u; forwarding = forwarding.Sent } in
-          ap (λ (it : Request). it.forwarding) (get_or-set_same s.requests k y no_request (omega (arith, within, length-set s.requests k y)))
+  begins_elsewhere = grind (arith, posts, false≢true, get_or-set_same, length-set)
 
 -- A TASK THAT IS WOKEN, or takes what it waits for
 
 pub there : (s : Common) (t : ℕ) → is_done (task_of s t).phase ≡ false → t < length s.tasks
-there s t on = elim (cases_lt t (length s.tasks)) [
-  | inl within ↦ within
-  | inr past ↦ absurd (true≢false (sym (ap (λ (it : Task). is_done it.phase) (get_or_past s.tasks t no_task past)) ∙ on))
-]
+there = grind (arith, cases_lt, true≢false, get_or_past)
 
 woken_now : (p : TaskPhase) → ((is_ready (woken_phase p) || is_noted (woken_phase p)) ≡ true) ⊎ (is_done (woken_phase p) ≡ true)
-woken_now task.Idle = inl refl
-woken_now task.Queued = inl refl
-woken_now (task.Running j) = inl refl
-woken_now (task.Noted j) = inl refl
-woken_now task.Done = inr refl
+woken_now = grind arith
 
 abbrev pub Roused : Task → Type 0
 Roused y = ((is_ready y.phase || is_noted y.phase) ≡ true) ⊎ (is_done y.phase ≡ true)
 
 woken_at : (ys : List Task) (t : ℕ) → Roused (get_or (set ys t (woken (get_or ys t no_task))) t no_task)
-woken_at ys t = elim (cases_lt t (length ys)) [
-  | inl within ↦ subst Roused (sym (get_or-set_same ys t (woken (get_or ys t no_task)) no_task within)) (woken_now (get_or ys t no_task).phase)
-  | inr past ↦ subst Roused (sym (ap (λ zs. get_or zs t no_task) (set_past ys t (woken (get_or ys t no_task)) past) ∙ get_or_past ys t no_task past)) (inr refl)
-]
+woken_at = grind (arith, cases_lt, get_or-set_same, woken_now, set_past, get_or_past)
 
 module _ (c : Configuration) (me : Books) (s : Common) (i : ℕ) where
   pub wakes_it : (t : ℕ) (choice : Choice) → Allowed c me s i (event.Wake t) choice → Roused (task_of (common_after c me s i (event.Wake t) choice) t)
-  wakes_it t (Pays payer) a = woken_at (after_payment s me.polls payer).tasks t
-  wakes_it t Plain a = absurd (false≢true a.0)
-  wakes_it t Passes a = absurd (false≢true a.0)
-  wakes_it t (Posts payer left_out) a = absurd (false≢true a.0)
+  wakes_it = grind (arith, woken_at, false≢true)
 
   -- what was taken isn't waited for any more
   taken_nothing : (x : Task) → waits_for_nothing x.waiting ≡ false → (after_taking s x).waiting ≡ waiting.Nothing
   taken_nothing x h = rw h refl
 
   took : (t : ℕ) (x : Task) → me.polls ≡ Some t → t < length s.tasks → x.waiting ≡ waiting.Nothing → (get_or (set s.tasks (polled me) x) t no_task).waiting ≡ waiting.Nothing
-  took t x polls within h =
-      let at : polled me ≡ t = ap (λ p. unwrap_or p 0) polls in
-      ap (λ (it : Task). it.waiting) (ap (λ n. get_or (set s.tasks n x) t no_task) at ∙ get_or-set_same s.tasks t x no_task within) ∙ h
+  took = grind (arith, get_or-set_same)
 
   module _ (t : ℕ) (choice : Choice) (polls : me.polls ≡ Some t) (within : t < length s.tasks) (waits : waits_for_nothing (task_of s t).waiting ≡ false) where
     nothing : (after_taking s (task_of s (polled me))).waiting ≡ waiting.Nothing

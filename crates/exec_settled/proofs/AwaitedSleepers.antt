@@ -1,13 +1,11 @@
 -- What an event of a worker leaves of each sleeper.
-use Rattle.std.proofs.Common.{◌≡◌, ℕ, zero, suc, ◌+◌, ◌<◌, ◌==◌, Bool, true, false, ◌&&◌, List, [], ◌∷◌, ◌++◌, length, map, get_or, set, Option, Some, None, if◌then◌else◌, refl, sym, ap, ◌∙◌, subst, inl, inr}
+use Rattle.std.proofs.Common.{◌≡◌, ℕ, zero, suc, ◌+◌, ◌<◌, true, false, ◌&&◌, List, [], ◌∷◌, ◌++◌, length, map, get_or, set, Option, Some, None, refl, sym, ◌∙◌, subst, inl, inr, arith}
 use Rattle.std.proofs.lemmas.{Bool.{cases_Bool, eqb-true}, List.{get_or_append_left}}
 use Rattle.std.specs.Prelude.{◌⊎◌}
-use Rattle.exec_outcomes.specs.Outcomes.{refuses_hint}
-use Rattle.exec_machine.specs.{declared.{config.Configuration.Configuration, event.Event.Event, state.{MailMessage.MailMessage, Next.Next, Sleeper.Sleeper, Waiting.Waiting}}, After.{common_after, polled}, Allowed.Allowed, Choice.{Choice, Payer, Choice.{Plain, Passes, Pays, Posts}, Payer.{ByRequest, BySleeper, ByAct, ByCall, ByStop}}, Closing.{after_clear, after_next, after_turn, ends_by_clear, gone_with, with_cleared}, Deadlines.new_sleeper, Mail.{after_message, after_post, after_sending, is_left_out, is_root_message}, Requests.{account_of_open, common_after_refusal, judged_of}, Tasks.{after_payment, after_pend, after_wait, after_wake, after_word, removed, sleepers_after_waking_up}, World.{Common, Own as Books, no_sleeper, open_of, request_of, sleeper_of, task_of}}
+use Rattle.exec_machine.specs.{declared.{config.Configuration.Configuration, event.Event.Event, state.{MailMessage.MailMessage, Sleeper.Sleeper, Waiting.Waiting}}, After.{common_after, polled}, Allowed.Allowed, Choice.{Choice, Payer, Payer.{ByRequest, BySleeper, ByAct, ByCall, ByStop}}, Closing.{after_clear, after_turn, ends_by_clear, gone_with, with_cleared}, Deadlines.new_sleeper, Mail.{after_message, after_post, after_sending, is_left_out, is_root_message}, Tasks.{after_payment, after_pend, after_wait, after_wake, after_word, removed, sleepers_after_waking_up}, World.{Common, Own as Books, no_sleeper, sleeper_of, task_of}}
 use Rattle.exec_machine.specs.declared.event.Event.TheVariants as event
 use Rattle.exec_machine.specs.declared.state.Forwarding.TheVariants as forwarding
 use Rattle.exec_machine.specs.declared.state.MailMessage.TheVariants as message
-use Rattle.exec_machine.specs.declared.state.Next.TheVariants as next
 use Rattle.exec_machine.specs.declared.state.Waiting.TheVariants as waiting
 use Rattle.exec_rest.proofs.CallHeeds.{set_at}
 
@@ -39,20 +37,13 @@ module _ (e : Event) where
   same xs ys is = subst (AllDozed e xs) (sym is) (none xs)
 
   one : (xs : List Sleeper) (q : ℕ) (y : Sleeper) → Dozed e q (get_or xs q no_sleeper) y → AllDozed e xs (set xs q y)
-  one xs q y h z within = elim (set_at xs q z y no_sleeper) [
-    | inl still ↦ subst (Dozed e z (get_or xs z no_sleeper)) (sym still) (itself e z (get_or xs z no_sleeper))
-    | inr at ↦ subst (Dozed e z (get_or xs z no_sleeper)) (sym at.2) (subst (λ n. Dozed e n (get_or xs n no_sleeper) y) (sym at.0) h)
-  ]
+  one = grind (arith, set_at, itself)
 
   removes : (xs : List Sleeper) (q : ℕ) → AllDozed e xs (set xs q (removed (get_or xs q no_sleeper)))
   removes xs q = one xs q (removed (get_or xs q no_sleeper)) (kept e q (get_or xs q no_sleeper) (removed (get_or xs q no_sleeper)) refl refl refl)
 
   gone : (i z : ℕ) (x : Sleeper) → Dozed e z x (gone_with i x)
-  gone i z x = by (x.worker == i)
-    where
-      by : (b : Bool) → Dozed e z x (if b then removed x else x)
-      by true = kept e z x (removed x) refl refl refl
-      by false = itself e z x
+  gone = grind arith
 
   all_gone : (i z : ℕ) (xs : List Sleeper) (n : ℕ) → Dozed e z (get_or xs n no_sleeper) (get_or (map (gone_with i) xs) n no_sleeper)
   all_gone i z [] n = itself e z no_sleeper
@@ -63,11 +54,7 @@ module _ (e : Event) where
   pushed xs y z within = subst (Dozed e z (get_or xs z no_sleeper)) (sym (get_or_append_left xs (y ∷ []) no_sleeper z within)) (itself e z (get_or xs z no_sleeper))
 
   wakes_up : (s : Common) (i : ℕ) (w : Waiting) → AllDozed e s.sleepers (sleepers_after_waking_up s i w)
-  wakes_up s i (waiting.Timer q) = by ((sleeper_of s q).worker == i)
-    where
-      by : (b : Bool) → AllDozed e s.sleepers (if b then set s.sleepers q (removed (sleeper_of s q)) else s.sleepers)
-      by true = removes s.sleepers q
-      by false = none s.sleepers
+  wakes_up s i (waiting.Timer q) = grind (arith, removes, none)
   wakes_up s i waiting.Nothing = none s.sleepers
   wakes_up s i (waiting.Request k) = none s.sleepers
   wakes_up s i waiting.Wake = none s.sleepers
@@ -79,17 +66,8 @@ module _ (s : Common) (i : ℕ) (e : Event) where
   words None = refl
   words (Some t) = refl
 
-  steps : (n : Next) → (after_next s i n).sleepers ≡ s.sleepers
-  steps next.Free = refl
-  steps (next.Joins r) = refl
-  steps next.ClosesQueue = refl
-  steps next.ClosesMailbox = refl
-
   turns : (me : Books) (choice : Choice) → (after_turn me s i choice).sleepers ≡ s.sleepers
-  turns me Plain = steps me.next
-  turns me Passes = refl
-  turns me (Pays payer) = steps me.next
-  turns me (Posts payer left_out) = steps me.next
+  turns = grind arith
 
   posts : (s' : Common) (to : ℕ) (m : MailMessage) (choice : Choice) → (after_post s' to m choice).sleepers ≡ s'.sleepers
   posts s' to m choice = elim (cases_Bool (is_root_message m && is_left_out choice)) [ inl out ↦ rw out refl | inr in_it ↦ rw in_it refl ]
@@ -107,10 +85,7 @@ module _ (s : Common) (i : ℕ) (e : Event) where
   pays polls ByStop = none e s.sleepers
 
   wakes : (me : Books) (t : ℕ) (choice : Choice) → AllDozed e s.sleepers (after_wake me s t choice).sleepers
-  wakes me t Plain = none e s.sleepers
-  wakes me t Passes = none e s.sleepers
-  wakes me t (Pays payer) = pays me.polls payer
-  wakes me t (Posts payer left_out) = none e s.sleepers
+  wakes = grind (arith, none, pays)
 
   pends : (t : ℕ) → AllDozed e s.sleepers (after_pend s i t).sleepers
   pends t = elim (cases_Bool (task_of s t).cleared) [
@@ -154,11 +129,7 @@ dozed c me s i (event.Clear t) choice = clears s i (event.Clear t) t
 dozed c me s i (event.Wait what) choice = same (event.Wait what) s.sleepers (after_wait s (polled me) what).sleepers (waits s i (event.Wait what) (polled me) what)
 dozed c me s i (event.Timer z until) choice = pushed (event.Timer z until) s.sleepers (new_sleeper until i (polled me))
 dozed c me s i (event.Wake t) choice = wakes s i (event.Wake t) me t choice
-dozed c me s i (event.Reap r n outcome) choice = same (event.Reap r n outcome) s.sleepers (common_after_refusal s (request_of s r) n).sleepers (refuses (refuses_hint (judged_of (request_of s r) n)))
-  where
-    refuses : (b : Bool) → (if b then record s { opens = set s.opens (request_of s r).operation.target (record (open_of s (request_of s r).operation.target) { account = record (account_of_open s (request_of s r)) { hinted = false } }) } else s).sleepers ≡ s.sleepers
-    refuses true = refl
-    refuses false = refl
+dozed c me s i (event.Reap r n outcome) choice = grind arith
 dozed c me s i (event.Fire z) choice =
     one (event.Fire z) s.sleepers z (record (sleeper_of s z) { fired = true }) (record { worker = refl; fired = λ h. refl; fires = λ h. inr refl; how = inl refl })
 dozed c me s i (event.Send to m) choice =
@@ -175,6 +146,4 @@ made (x ∷ xs) y = made xs y
 
 pub begins_sleep : (c : Configuration) (me : Books) (s : Common) (i z until : ℕ) (choice : Choice) → Allowed c me s i (event.Timer z until) choice
     → (sleeper_of (common_after c me s i (event.Timer z until) choice) z).fired ≡ false
-begins_sleep c me s i z until choice a =
-    subst (λ n. (get_or (s.sleepers ++ new_sleeper until i (polled me) ∷ []) n no_sleeper).fired ≡ false) (sym (eqb-true z (length s.sleepers) a.1.0))
-    (ap (λ (it : Sleeper). it.fired) (made s.sleepers (new_sleeper until i (polled me))))
+begins_sleep = grind (arith, eqb-true, made)

@@ -1,13 +1,12 @@
 -- The step of a worker, as far as tasks are woken next, or hear what was sent to them.
-use Rattle.std.proofs.Common.{◌≡◌, ◌≢◌, ℕ, ◌<◌, Bool, true, false, not, ◌&&◌, ◌||◌, length, Some, refl, sym, ap, ◌∙◌, subst, inl, inr}
-use Rattle.std.proofs.lemmas.{Bool.{true≢false, false≢true, and_parts, cases_eq}}
+use Rattle.std.proofs.Common.{◌≡◌, ◌≢◌, ℕ, ◌<◌, Bool, true, false, not, ◌&&◌, ◌||◌, length, Some, refl, sym, ap, ◌∙◌, subst, inl, inr, arith}
+use Rattle.std.proofs.lemmas.{Bool.{true≢false, cases_eq}}
 use Rattle.std.specs.Prelude.{◌⊎◌}
 use Rattle.exec_outcomes.specs.declared.outcome.Outcome.{Outcome}
-use Rattle.exec_machine.specs.{declared.{config.Configuration.Configuration, state.{Forwarding.Forwarding, TaskPhase.TaskPhase}}, After.common_after, Allowed.Allowed, Callers.{is_enabled, is_held}, Progress.is_runnable, Tasks.{begun_waiting, may_stop}, Tests.{has_ended, is_awake, is_done, is_ready, is_unsent, waits_for_nothing}, World.{Common, Own as Books, Seat, own_of, seat_of, task_of}}
+use Rattle.exec_machine.specs.{declared.{config.Configuration.Configuration, state.{Forwarding.Forwarding, TaskPhase.TaskPhase}}, After.common_after, Allowed.Allowed, Callers.{is_enabled}, Progress.is_runnable, Tasks.{begun_waiting, may_stop}, Tests.{has_ended, is_done, is_ready, is_unsent, waits_for_nothing}, World.{Common, Own as Books, Seat, own_of, seat_of, task_of}}
 use Rattle.exec_machine.specs.declared.event.Event.TheVariants as event
 use Rattle.exec_machine.specs.declared.state.Forwarding.TheVariants as forwarding
 use Rattle.exec_machine.specs.declared.state.MailMessage.TheVariants as message
-use Rattle.exec_machine.specs.declared.state.TaskPhase.TheVariants as task
 use Rattle.exec_machine.specs.declared.state.Waiting.TheVariants as waiting
 use Rattle.exec_machine.specs.declared.step.Action.TheVariants as action
 use Rattle.exec_moves.specs.{declared.{handing.{AfterCallbacks.AfterCallbacks, Heard.Heard}, place.{InCallbacks.InCallbacks, InPoll.InPoll, Place.Place}}, Plays.{Playing, by_move, desk_of}, Poll.{after_begin, is_noted}, Seen.polls_at, State.{Desk, Moved, Things}, Told.has_number}
@@ -16,14 +15,8 @@ use Rattle.exec_rest.proofs.{FactsA.seated, Frames.{desk_other, desk_own}}
 use Rattle.exec_settled.specs.{Awaited.{IsToBeWoken, IsToHear}, Given.{WaitsFor}}
 use Rattle.exec_settled.proofs.{AwaitedRequests.{Roused, got, got_timer, there, wakes_it}, AwaitedTasks.{Tasked, is_for_thing, tasked}, Tells.Tells}
 
-not_true : (b : Bool) → not b ≡ true → b ≡ false
-not_true true h = absurd (false≢true h)
-not_true false h = refl
-
 runs_by : (p : TaskPhase) → (is_ready p || is_noted p) ≡ true → is_runnable p ≡ true
-runs_by task.Queued h = refl
-runs_by (task.Noted j) h = refl
-runs_by _ h = absurd (false≢true h)
+runs_by = grind arith
 
 -- who waits here for what is over may not end its poll
 pub stops_not : (f : Forwarding) (b r : Bool) → f ≡ forwarding.Unsent → r ≡ true → (not (is_unsent f) || (b && not r)) ≡ false
@@ -49,9 +42,7 @@ module _ (c : Configuration) (x : Playing) (laid : IsLaidOut c x) (i : ℕ) (m :
   -- DESKS
 
   going : has_ended (seat_of s i).phase ≡ false
-  going =
-      let awake = and_parts (is_awake (seat_of s i).rest && not (has_ended (seat_of s i).phase)) (not (is_held s (seat_of s i))) may in
-      not_true (has_ended (seat_of s i).phase) (and_parts (is_awake (seat_of s i).rest) (not (has_ended (seat_of s i).phase)) awake.0).1
+  going = grind arith
 
   pub desk_here : desk_of c next i ≡ m.desk
   desk_here = desk_own c x i m (subst (λ n. i < n) (sym laid.desks) (seated s (λ (seat : Seat). has_ended seat.phase) false true≢false i going))
@@ -60,10 +51,7 @@ module _ (c : Configuration) (x : Playing) (laid : IsLaidOut c x) (i : ℕ) (m :
   desk_there j apart = desk_other c x i m (λ t k is. born t k is ∙ sym laid.desks) j apart
 
   pub desk_then : (P : Desk → Type 0) (w : ℕ) → (w ≡ i → P m.desk) → (w ≢ i → P (desk_of c x w)) → P (desk_of c next w)
-  desk_then P w own other = elim (cases_eq w i) [
-    | inl here ↦ subst P (sym (ap (λ j. desk_of c next j) here ∙ desk_here)) (own here)
-    | inr apart ↦ subst P (sym (desk_there w apart)) (other apart)
-  ]
+  desk_then = grind (arith, cases_eq, desk_here, desk_there)
 
   -- TASKS
 
@@ -104,10 +92,7 @@ module _ (c : Configuration) (x : Playing) (laid : IsLaidOut c x) (i : ℕ) (m :
     | inr (inl done) ↦ absurd (true≢false (sym done ∙ on))
     | inr (inr begins) ↦ inr (inr (i, ap (λ (d : Desk). d.place) desk_here ∙ tells.begins t begins ∙ ap (λ p. Place.Poll t p) looks))
   ]
-  still_hears w t of on looks takes (inr (inr at)) = elim (cases_eq at.0 i) [
-    | inl here ↦ absurd (takes (subst (λ j. place_at c x j ≡ Place.Poll t InPoll.Resume) here at.1))
-    | inr apart ↦ inr (inr (at.0, ap (λ (d : Desk). d.place) (desk_there at.0 apart) ∙ at.1))
-  ]
+  still_hears w t of on looks takes (inr (inr at)) = grind (arith, cases_eq, desk_there)
 
   -- who is woken next by worker i hears it
   pub hears_next : (t : ℕ) (of : Heard) → ((n : AfterCallbacks) × (m.desk.place ≡ Place.Callbacks (InCallbacks.WakeWaiter t of) n)) → IsToHear c next i t of

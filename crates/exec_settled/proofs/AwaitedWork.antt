@@ -1,5 +1,5 @@
 -- The step of a worker leaves no task waiting for what has come.
-use Rattle.std.proofs.Common.{◌≡◌, ℕ, ◌<◌, ◌==◌, Bool, true, false, ◌&&◌, ◌||◌, length, Option, Some, None, refl, sym, ap, ◌∙◌, subst, inl, inr}
+use Rattle.std.proofs.Common.{◌≡◌, ℕ, ◌<◌, ◌==◌, Bool, true, false, ◌&&◌, ◌||◌, length, Option, Some, None, refl, sym, ap, ◌∙◌, subst, inl, inr, arith}
 use Rattle.std.proofs.lemmas.{Bool.{true≢false, false≢true, cases_Bool, cases_eq, eqb-true}}
 use Rattle.std.specs.Prelude.{◌⊎◌, not, slice_get}
 use Rattle.exec_machine.specs.{declared.{config.Configuration.Configuration, state.{Forwarding.Forwarding, MailMessage.MailMessage}}, After.common_after, Allowed.Allowed, Callers.is_enabled, Mail.is_first_message, Same.same_message, Tasks.{begun_waiting, may_stop}, Tests.{is_applied, is_done, is_resolved, is_unsent}, World.{Common, Own as Books, own_of, request_of, seat_of, sleeper_of, task_of}}
@@ -25,13 +25,7 @@ first_own s i m None is h own = let none : is_first_message m (seat_of s i) ≡ 
 first_own s i m (Some first) is h own = alike m first (sym (rw is refl) ∙ h) (own first is)
   where
     alike : (m first : MailMessage) → same_message m first ≡ true → IsOwnMessage s i first → IsOwnForward s i m
-    alike (message.ForwardRequest k) (message.ForwardRequest q) same it = subst (λ n. (request_of s n).worker ≡ i) (sym (eqb-true k q same)) it
-    alike (message.ForwardTimer k) (message.ForwardTimer q) same it = subst (λ n. (sleeper_of s n).worker ≡ i) (sym (eqb-true k q same)) it
-    alike (message.ForwardRequest k) _ same it = absurd (false≢true same)
-    alike (message.ForwardTimer k) _ same it = absurd (false≢true same)
-    alike message.Root first same it = tt
-    alike (message.CancelRequest k) first same it = tt
-    alike (message.CancelTimer k) first same it = tt
+    alike = grind arith
 
 -- FORWARDING is one of three
 sent_unsent : {T : Type 0} (f : Forwarding) → f ≡ forwarding.Sent → f ≡ forwarding.Unsent → T

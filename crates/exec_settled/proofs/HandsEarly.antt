@@ -1,22 +1,11 @@
 -- Where the parts lead: whoever has not passed the gate of this open hasn't done so there either.
-use Rattle.std.proofs.Common.{◌≡◌, ℕ, Bool, true, false, List, [], ◌∷◌, Option, Some, None, refl, ◌==◌, ◌&&◌, ◌||◌, if◌then◌else◌}
+use Rattle.std.proofs.Common.{◌≡◌, ℕ, Bool, true, false, List, [], ◌∷◌, Option, refl, ◌==◌, ◌&&◌, ◌||◌, if◌then◌else◌, arith}
 use Rattle.std.specs.Prelude.{nat_lt, nat_le, not}
-use Rattle.std.proofs.lemmas.Bool.{true≢false}
 use Rattle.exec_words.specs.declared.head.{Fit.Fit, Head.Head}
-use Rattle.exec_words.specs.declared.head.Fit.TheVariants as fit
 use Rattle.exec_machine.specs.{declared.{config.Configuration.Configuration, state.Letter.Letter}, World.{Common, Own as Books}}
-use Rattle.exec_moves.specs.{declared.{handing.{AfterCallbacks.AfterCallbacks, AfterCancels.AfterCancels, AfterKick.AfterKick, AfterLeave.AfterLeave, AfterPop.AfterPop, AfterPush.AfterPush, AfterSend.AfterSend, AfterSignal.AfterSignal, First.First}, place.Place.Place}, Callback.{after_callbacks, has_callbacks, has_requests, is_full, is_of_pool, next_callback, ring_wait, to_queue}, Close.{after_close, after_letting_go}, Load.{has_submissions, leaves_for_turn, next_turn}, Parts.{after_cancels, after_kick, after_leave, after_poll, after_push, after_return, after_send, after_signal, cancels_left, first_pop, has_others, next_pick, polls, tells_from}, Pick.{after_empty_look, first_pick}, Poll.after_end, Pop.{after_empty_pop, after_pop, judge_pop}, Push.{after_fit, after_store}, Send.{after_posting, after_spawn}, State.Desk}
-use Rattle.exec_moves.specs.declared.handing.AfterCallbacks.TheVariants as after
-use Rattle.exec_moves.specs.declared.handing.AfterCancels.TheVariants as cancels
-use Rattle.exec_moves.specs.declared.handing.AfterClaim.TheVariants as claim
+use Rattle.exec_moves.specs.{declared.{handing.{AfterCallbacks.AfterCallbacks, AfterCancels.AfterCancels, AfterKick.AfterKick, AfterLeave.AfterLeave, AfterPop.AfterPop, AfterPush.AfterPush, AfterSend.AfterSend, AfterSignal.AfterSignal}, place.Place.Place}, Callback.{after_callbacks, has_callbacks, has_requests, is_of_pool, next_callback, to_queue}, Close.{after_close, after_letting_go}, Load.{has_submissions, next_turn}, Parts.{after_cancels, after_kick, after_leave, after_push, after_return, after_send, after_signal, cancels_left, first_pop, has_others, next_pick, polls, tells_from}, Pick.{first_pick}, Pop.{after_empty_pop, after_pop, judge_pop}, Push.{after_fit, after_store}, Send.{after_posting, after_spawn}, State.Desk}
 use Rattle.exec_moves.specs.declared.handing.AfterKick.TheVariants as kick
-use Rattle.exec_moves.specs.declared.handing.AfterLeave.TheVariants as leave
 use Rattle.exec_moves.specs.declared.handing.AfterPop.TheVariants as pop
-use Rattle.exec_moves.specs.declared.handing.AfterPush.TheVariants as push
-use Rattle.exec_moves.specs.declared.handing.AfterSend.TheVariants as send
-use Rattle.exec_moves.specs.declared.handing.AfterSignal.TheVariants as signal
-use Rattle.exec_moves.specs.declared.handing.First.TheVariants as first
-use Rattle.exec_moves.specs.declared.idling.Stay.TheVariants as stay
 use Rattle.exec_settled.specs.Permits.{is_past, is_past_callbacks, is_past_kick, is_past_leave, is_past_push, is_past_signal}
 
 module _ (file : ℕ) where
@@ -40,27 +29,14 @@ module _ (file : ℕ) where
   pub early_first_pick : (s : Common) (i : ℕ) → IsEarly (first_pick s i)
   early_first_pick s i = early_if (is_of_pool s i) _ _ refl refl
 
-  pub early_empty_look : (c : Configuration) (f : First) → IsEarly (after_empty_look c f)
-  early_empty_look c first.Own = refl
-  early_empty_look c first.Global = early_first_pop c (pop.Pick first.Global)
-
   pub early_next_pick : (d : Desk) → IsEarly (next_pick d)
   early_next_pick d = early_if (d.picks == 0) _ _ refl refl
-
-  pub early_after_poll : (home : Option ℕ) (d : Desk) → IsEarly (after_poll home d)
-  early_after_poll None d = early_next_pick d
-  early_after_poll (Some home) d = refl
 
   pub early_next_turn : (c : Configuration) (i : ℕ) (me : Books) (s : Common) (d : Desk) → IsEarly (next_turn c i me s d)
   early_next_turn c i me s d = early_if ((d.put_off && has_requests i s) || (d.may_put_off && has_submissions c me)) _ _ refl refl
 
-  pub early_leaves_for_turn : (c : Configuration) (i : ℕ) (me : Books) (s : Common) (d : Desk) → IsEarly (leaves_for_turn c i me s d)
-  early_leaves_for_turn c i me s d = early_if d.searching _ _ refl (early_next_turn c i me s d)
-
   pub early_after_leave : (c : Configuration) (i : ℕ) (me : Books) (s : Common) (b : AfterLeave) (d : Desk) → is_past_leave b ≡ false → IsEarly (after_leave c i me s b d)
-  early_after_leave c i me s (leave.Poll t) d h = refl
-  early_after_leave c i me s (leave.CallBack n) d h = h
-  early_after_leave c i me s leave.Begin d h = early_next_turn c i me s d
+  early_after_leave = grind (arith, early_next_turn)
 
   pub early_after_return : (c : Configuration) (i : ℕ) (me : Books) (s : Common) (last : Bool) (b : AfterLeave) (d : Desk) → is_past_leave b ≡ false → IsEarly (after_return c i me s last b d)
   early_after_return c i me s last b d h = early_if last _ _ h (early_after_leave c i me s b d h)
@@ -69,19 +45,14 @@ module _ (file : ℕ) where
   early_tells_from c worker = early_if (nat_lt worker c.workers) _ _ refl (early_first_pop c pop.Discard)
 
   pub early_after_cancels : (b : AfterCancels) (d : Desk) → IsEarly (after_cancels b d)
-  early_after_cancels (cancels.Remove t) d = refl
-  early_after_cancels cancels.Pick d = early_next_pick d
-  early_after_cancels (cancels.Visit x) d = refl
+  early_after_cancels = grind arith
 
   pub early_cancels_left : (b : AfterCancels) (d : Desk) (letters : List Letter) → IsEarly (cancels_left b d letters)
   early_cancels_left b d [] = early_after_cancels b d
   early_cancels_left b d (letter ∷ letters) = refl
 
   pub early_after_send : (c : Configuration) (b : AfterSend) (d : Desk) → IsEarly (after_send c b d)
-  early_after_send c (send.Act t) d = refl
-  early_after_send c (send.Pend t) d = refl
-  early_after_send c (send.Cancels b) d = early_cancels_left b d d.letters
-  early_after_send c (send.Tell worker) d = early_tells_from c worker
+  early_after_send = grind arith
 
   pub early_after_posting : (c : Configuration) (j : ℕ) (b : AfterSend) (signals : Bool) (d : Desk) → IsEarly (after_posting c j b signals d)
   early_after_posting c j b true d = refl
@@ -94,54 +65,34 @@ module _ (file : ℕ) where
   early_after_close c i s = early_if (i == 0) _ _ refl (early_if (is_of_pool s i) _ _ (early_first_pop c pop.Discard) refl)
 
   pub early_after_letting_go : (held asleep : Option ℕ) → IsEarly (after_letting_go held asleep)
-  early_after_letting_go None None = refl
-  early_after_letting_go None (Some z) = refl
-  early_after_letting_go (Some r) asleep = refl
+  early_after_letting_go = grind arith
 
   pub early_after_fit : (b : AfterPush) (h : Head) (f : Fit) → is_past_push b ≡ false → IsEarly (after_fit b h f)
-  early_after_fit b h (fit.Room len) past = past
-  early_after_fit b h fit.Overflow past = past
-  early_after_fit b h _ past = past
+  early_after_fit = grind arith
 
   pub early_after_spawn : (c : Configuration) (i : ℕ) (s : Common) (t : ℕ) → IsEarly (after_spawn c i s t)
   early_after_spawn c i s t = early_if (not (is_of_pool s i)) _ _ refl (early_if (has_others c) _ _ refl refl)
-
-  pub early_after_end : (t : ℕ) (home : Option ℕ) (d : Desk) → IsEarly (after_end t home d)
-  early_after_end t None d = early_cancels_left (cancels.Remove t) d d.letters
-  early_after_end t (Some home) d = refl
 
   pub early_after_pop : (c : Configuration) (b : AfterPop) (t : ℕ) (d : Desk) → IsEarly (after_pop c b t d).place
   early_after_pop c (pop.Pick f) t d = early_polls t d
   early_after_pop c pop.Discard t d = early_first_pop c pop.Discard
 
   pub early_after_empty_pop : (c : Configuration) (i : ℕ) (b : AfterPop) → IsEarly (after_empty_pop c i b)
-  early_after_empty_pop c i (pop.Pick first.Own) = refl
-  early_after_empty_pop c i (pop.Pick first.Global) = refl
-  early_after_empty_pop c i pop.Discard = refl
+  early_after_empty_pop = grind arith
 
   pub early_judge_pop : (c : Configuration) (i : ℕ) (b : AfterPop) (h : Head) (len : ℕ) → IsEarly (judge_pop c i b h len)
   early_judge_pop c i b h len = early_if (len == 0) _ _ (early_after_empty_pop c i b) (early_if ((len == 1) && (h.gap == 0)) _ _ refl refl)
 
   -- THE CALLBACKS, and what hands on within them
 
-  -- (two holes: a closing worker comes to its wait on the ring from callbacks that it counts as before the gates)
-  early_ring_wait : (size : ℕ) (d : Desk) → IsEarly (ring_wait size stay.Closing d)
-  early_ring_wait size d = early_if (is_full size d) _ _ refl refl
-
   pub early_after_callbacks : (size i : ℕ) (s : Common) (n : AfterCallbacks) (d : Desk) → is_past_callbacks n ≡ false → IsEarly (after_callbacks size i s n d)
-  early_after_callbacks size i s after.Look d h = early_if (is_of_pool s i) _ _ refl refl
-  early_after_callbacks size i s after.Test d h = absurd (true≢false h)
-  early_after_callbacks size i s after.Begin d h = refl
-  early_after_callbacks size i s after.Drain d h = refl
-  early_after_callbacks size i s after.Finish d h = early_if (has_requests i s) _ _ (early_ring_wait size d) refl
+  early_after_callbacks = grind arith
 
   pub early_next_callback : (size i : ℕ) (me : Books) (s : Common) (n : AfterCallbacks) (d : Desk) → is_past_callbacks n ≡ false → IsEarly (next_callback size i me s n d)
   early_next_callback size i me s n d h = early_if (has_callbacks me d) _ _ h (early_after_callbacks size i s n d h)
 
   pub early_after_push : (c : Configuration) (i : ℕ) (me : Books) (s : Common) (b : AfterPush) (d : Desk) → is_past_push b ≡ false → IsEarly (after_push c i me s b d)
-  early_after_push c i me s (push.Act t) d h = refl
-  early_after_push c i me s push.Pick d h = early_next_pick d
-  early_after_push c i me s (push.CallBack n) d h = early_next_callback _ i me s n d h
+  early_after_push = grind (arith, early_next_pick, early_next_callback)
 
   pub early_after_store : (c : Configuration) (i : ℕ) (me : Books) (s : Common) (len : ℕ) (b : AfterPush) (d : Desk) → is_past_push b ≡ false → IsEarly (after_store c i me s len b d)
   early_after_store c i me s len b d h = early_if (nat_le 2 len && has_others c) _ _ h (early_after_push c i me s b d h)
@@ -151,6 +102,4 @@ module _ (file : ℕ) where
   early_after_kick c i me s (kick.Push b) d h = early_after_push c i me s b d h
 
   pub early_after_signal : (c : Configuration) (i : ℕ) (me : Books) (s : Common) (b : AfterSignal) (d : Desk) → is_past_signal b ≡ false → IsEarly (after_signal c i me s b d)
-  early_after_signal c i me s (signal.Claim (claim.Kick b)) d h = early_after_kick c i me s b d h
-  early_after_signal c i me s (signal.Claim (claim.Global b)) d h = early_after_push c i me s b d h
-  early_after_signal c i me s (signal.Send b) d h = early_after_send c b d
+  early_after_signal = grind (arith, early_after_kick, early_after_push, early_after_send)

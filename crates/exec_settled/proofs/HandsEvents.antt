@@ -1,26 +1,15 @@
 -- A durable request that isn't over stays so by each event but its reaping, its grant, and what its deadline brings.
-use Rattle.std.proofs.Common.{◌≡◌, ℕ, zero, suc, ◌+◌, Bool, true, false, not, ◌&&◌, ◌==◌, List, [], ◌∷◌, ◌++◌, Option, Some, None, map, refl, sym, ◌∙◌, ap, subst, inl, inr, get_or, set}
-use Rattle.std.proofs.lemmas.Bool.{true≢false, false≢true, cases_Bool, and_parts}
+use Rattle.std.proofs.Common.{◌≡◌, ℕ, zero, suc, ◌+◌, Bool, true, false, ◌&&◌, ◌==◌, List, [], ◌∷◌, ◌++◌, Option, Some, None, map, refl, sym, ◌∙◌, ap, subst, inl, inr, get_or, set, arith}
+use Rattle.std.proofs.lemmas.Bool.{false≢true, cases_Bool}
 use Rattle.exec_outcomes.specs.{declared.outcome.Kind.Kind, Accounts.is_durable}
 use Rattle.exec_outcomes.specs.declared.outcome.Kind.TheVariants as kind
-use Rattle.exec_machine.specs.{declared.{config.Configuration.Configuration, event.Event.Event, state.{Next.Next, MailMessage.MailMessage, Forwarding.TheVariants.{Sent, Applied}, Operation.Operation, Request.Request}}, Choice.{Choice, Payer, Choice.{Plain, Passes, Pays, Posts}, Payer.{ByRequest, BySleeper, ByAct, ByCall, ByStop}}, World.{Own, Common, task_of, request_of, no_request}, Tests.{is_of_file, is_queued, is_staged, is_resolved, is_kept}, Requests.{asked_now, dropped, ends_by_drop, flown, is_cancelled_by_drop, new_request, resolved_if, staged, with_seen}, Tasks.{requests_after_drops, after_word, after_wait, after_payment, after_wake, after_pend}, Mail.{after_sending, after_post, after_apply, is_root_message, is_left_out}, Closing.{after_next, after_turn, after_clear, with_cleared, ends_by_clear}, After.{common_after, polled}}
+use Rattle.exec_machine.specs.{declared.{config.Configuration.Configuration, event.Event.Event, state.{MailMessage.MailMessage, Operation.Operation, Request.Request}}, Choice.{Choice, Payer}, World.{Own, Common, request_of, no_request}, Tests.{is_of_file, is_resolved}, Requests.{dropped, flown}, Tasks.{requests_after_drops, after_word, after_wait, after_payment, after_wake, after_pend}, Mail.{after_sending, after_post, after_apply, is_root_message, is_left_out}, Closing.{after_turn, after_clear}, After.{common_after}}
 use Rattle.exec_machine.specs.declared.event.Event.TheVariants as event
-use Rattle.exec_machine.specs.declared.state.Next.TheVariants as next
-use Rattle.exec_machine.specs.declared.state.MailMessage.TheVariants as message
 
 -- what is durable is of a file, and goes on where nobody holds it
 
 pub durable_of_file : (k : Kind) → is_durable k ≡ true → is_of_file k ≡ true
-durable_of_file kind.Dsync h = refl
-durable_of_file kind.Many h = refl
-durable_of_file kind.Sync h = refl
-durable_of_file k h = absurd (false≢true h)
-
-pub durable_kept : (k : Kind) → is_durable k ≡ true → is_kept k ≡ true
-durable_kept kind.Dsync h = refl
-durable_kept kind.Many h = refl
-durable_kept kind.Sync h = refl
-durable_kept k h = absurd (false≢true h)
+durable_of_file = grind arith
 
 -- ONE REQUEST
 
@@ -38,22 +27,10 @@ lasts_on : {x y z : Request} → Lasts x y → Lasts y z → Lasts x z
 lasts_on a b = record { stays = λ durable going. let it = a.stays durable going in b.stays it.0 it.1 }
 
 pub dropped_lasts : (x : Request) → Lasts x (dropped x)
-dropped_lasts x =
-    elim (cases_Bool (ends_by_drop x)) [
-      | inl ends ↦ record { stays = λ durable going. absurd (true≢false (sym (and_parts (is_queued x.phase) (not (is_kept x.operation.kind)) ends).1 ∙ ap not (durable_kept x.operation.kind durable))) }
-      | inr stays ↦ rw stays (
-          elim (cases_Bool (is_cancelled_by_drop x)) [
-            | inl cancelled ↦ rw cancelled (touched refl refl)
-            | inr kept ↦ rw kept (touched refl refl)
-          ])
-    ]
+dropped_lasts = grind arith
 
 flown_lasts : (i : ℕ) (x : Request) → Lasts x (flown i x)
-flown_lasts i x =
-    elim (cases_Bool ((x.worker == i) && is_staged x.phase)) [
-      | inl goes ↦ rw goes (record { stays = λ durable going. (durable, refl) })
-      | inr stays ↦ rw stays lasts
-    ]
+flown_lasts = grind arith
 
 -- ALL REQUESTS
 
@@ -99,64 +76,30 @@ word_keeps : (s : Common) (polls : Option ℕ) → (after_word s polls).requests
 word_keeps s None = refl
 word_keeps s (Some t) = refl
 
-next_keeps : (s : Common) (i : ℕ) (n : Next) → (after_next s i n).requests ≡ s.requests
-next_keeps s i next.Free = refl
-next_keeps s i (next.Joins r) = refl
-next_keeps s i next.ClosesQueue = refl
-next_keeps s i next.ClosesMailbox = refl
-
 turn_keeps : (me : Own) (s : Common) (i : ℕ) (choice : Choice) → (after_turn me s i choice).requests ≡ s.requests
-turn_keeps me s i Plain = next_keeps s i me.next
-turn_keeps me s i Passes = refl
-turn_keeps me s i (Pays payer) = next_keeps s i me.next
-turn_keeps me s i (Posts payer left_out) = next_keeps s i me.next
+turn_keeps = grind arith
 
 post_keeps : (s : Common) (to : ℕ) (m : MailMessage) (choice : Choice) → (after_post s to m choice).requests ≡ s.requests
 post_keeps s to m choice =
     elim (cases_Bool (is_root_message m && is_left_out choice)) [ inl out ↦ rw out refl | inr in_it ↦ rw in_it refl ]
 
 by_payment : (s : Common) (polls : Option ℕ) (payer : Payer) → AllLast s.requests (after_payment s polls payer).requests
-by_payment s polls (ByRequest r) = set_each s.requests r (record (request_of s r) { wakes_paid = (request_of s r).wakes_paid + 1 }) (touched refl refl)
-by_payment s polls (BySleeper z) = none_changed s.requests
-by_payment s None ByAct = none_changed s.requests
-by_payment s (Some t) ByAct = none_changed s.requests
-by_payment s polls ByCall = none_changed s.requests
-by_payment s polls ByStop = none_changed s.requests
+by_payment = grind (arith, set_each, touched, none_changed)
 
 by_wake : (me : Own) (s : Common) (t : ℕ) (choice : Choice) → AllLast s.requests (after_wake me s t choice).requests
-by_wake me s t Plain = none_changed s.requests
-by_wake me s t Passes = none_changed s.requests
-by_wake me s t (Pays payer) = by_payment s me.polls payer
-by_wake me s t (Posts payer left_out) = none_changed s.requests
+by_wake = grind (arith, none_changed, by_payment)
 
 by_sending : (s : Common) (polls : Option ℕ) (m : MailMessage) → AllLast s.requests (after_sending s polls m).requests
-by_sending s None m = none_changed s.requests
-by_sending s (Some t) message.Root = none_changed s.requests
-by_sending s (Some t) (message.ForwardRequest r) = set_each s.requests r (record (request_of s r) { waiter = Some t; forwarding = Sent }) (touched refl refl)
-by_sending s (Some t) (message.ForwardTimer z) = none_changed s.requests
-by_sending s (Some t) (message.CancelRequest r) = none_changed s.requests
-by_sending s (Some t) (message.CancelTimer z) = none_changed s.requests
+by_sending = grind (arith, none_changed, set_each, touched)
 
 by_apply : (me : Own) (s : Common) (i : ℕ) (m : MailMessage) → AllLast s.requests (after_apply me s i m).requests
-by_apply me s i message.Root = none_changed s.requests
-by_apply me s i (message.ForwardRequest r) = set_each s.requests r (record (request_of s r) { forwarding = Applied }) (touched refl refl)
-by_apply me s i (message.ForwardTimer z) = none_changed s.requests
-by_apply me s i (message.CancelRequest r) = set_each s.requests r (dropped (request_of s r)) (dropped_lasts (request_of s r))
-by_apply me s i (message.CancelTimer z) = none_changed s.requests
+by_apply = grind (arith, none_changed, set_each, touched, dropped_lasts)
 
 by_pend : (s : Common) (i t : ℕ) → AllLast s.requests (after_pend s i t).requests
-by_pend s i t r =
-    elim (cases_Bool (task_of s t).cleared) [
-      | inl cleared ↦ rw cleared (drops i (task_of s t).held s.requests r)
-      | inr goes_on ↦ rw goes_on lasts
-    ]
+by_pend = grind (arith, cases_Bool, drops, lasts)
 
 by_clear : (s : Common) (i t : ℕ) → AllLast s.requests (after_clear s i t).requests
-by_clear s i t r =
-    elim (cases_Bool (ends_by_clear (task_of s t).phase)) [
-      | inl ends ↦ rw ends (drops i (task_of (with_cleared s t) t).held s.requests r)
-      | inr stays ↦ rw stays lasts
-    ]
+by_clear = grind (arith, cases_Bool, drops, lasts)
 
 by_wait : (s : Common) (t : ℕ) (what : Option ℕ) → AllLast s.requests (after_wait s t what).requests
 by_wait s t None = none_changed s.requests
@@ -171,29 +114,4 @@ is_mild (event.Expire r outcome) = false
 is_mild _ = true
 
 pub by_mild : (c : Configuration) (me : Own) (s : Common) (i : ℕ) (e : Event) (choice : Choice) → is_mild e ≡ true → (k : ℕ) → Lasts (request_of s k) (request_of (common_after c me s i e choice) k)
-by_mild c me s i event.Turn choice mild = as_before (turn_keeps me s i choice)
-by_mild c me s i (event.Pend t) choice mild = by_pend s i t
-by_mild c me s i (event.Done t) choice mild = drops i (task_of s t).held s.requests
-by_mild c me s i (event.Fault t n) choice mild = drops i (task_of s t).held s.requests
-by_mild c me s i (event.Spawn t k) choice mild = as_before (word_keeps s me.polls)
-by_mild c me s i (event.Dedicated t j) choice mild = as_before (word_keeps s me.polls)
-by_mild c me s i event.Closed choice mild = as_before (word_keeps s me.polls)
-by_mild c me s i (event.Clear t) choice mild = by_clear s i t
-by_mild c me s i (event.Admit r kind outcome) choice mild = one_more s.requests (resolved_if outcome (new_request i (with_seen (asked_now c me s) s)))
-by_mild c me s i (event.Wait what) choice mild = by_wait s (polled me) what
-by_mild c me s i (event.Got r outcome) choice mild = set_each s.requests r (record (request_of s r) { observed = false }) (touched refl refl)
-by_mild c me s i (event.Drop r) choice mild = set_each s.requests r (dropped (request_of s r)) (dropped_lasts (request_of s r))
-by_mild c me s i (event.Wake t) choice mild = by_wake me s t choice
-by_mild c me s i (event.Grant r outcome) choice mild = absurd (false≢true mild)
-by_mild c me s i (event.Enrol r outcome) choice mild = absurd (false≢true mild)
-by_mild c me s i (event.Stage r) choice mild = set_each s.requests r (staged s (request_of s r)) (record { stays = λ durable going. (durable, refl) })
-by_mild c me s i event.Enter choice mild = flown_each i s.requests
-by_mild c me s i (event.Reap r n outcome) choice mild = absurd (false≢true mild)
-by_mild c me s i (event.Expire r outcome) choice mild = absurd (false≢true mild)
-by_mild c me s i (event.Cancel r) choice mild = set_each s.requests r (record (request_of s r) { cancel_staged = true }) (touched refl refl)
-by_mild c me s i (event.Orphan r outcome) choice mild = set_each s.requests r (dropped (request_of s r)) (dropped_lasts (request_of s r))
-by_mild c me s i (event.Release r) choice mild = set_each s.requests r (record (request_of s r) { released = true }) (touched refl refl)
-by_mild c me s i (event.Send to m) choice mild =
-    subst (λ ys. AllLast s.requests ys) (sym (post_keeps (after_sending s me.polls m) to m choice)) (by_sending s me.polls m)
-by_mild c me s i (event.Apply m) choice mild = by_apply me s i m
-by_mild c me s i e choice mild = none_changed s.requests
+by_mild = grind (arith, as_before, turn_keeps, by_pend, drops, word_keeps, by_clear, one_more, by_wait, set_each, touched, dropped_lasts, by_wake, false≢true, flown_each, post_keeps, by_sending, by_apply, none_changed)

@@ -1,27 +1,18 @@
 -- Moves of a worker that looks whether it may wait, and of its waits: the latch goes out of its wake word as a wait ends.
-use Rattle.std.proofs.Common.{◌≡◌, ℕ, ◌==◌, Bool, true, false, ◌&&◌, ◌||◌, List, [], ◌∷◌, refl, if◌then◌else◌}
-use Rattle.std.specs.Prelude.{not}
-use Rattle.std.proofs.lemmas.Bool.{true≢false}
+use Rattle.std.proofs.Common.{◌≡◌, ℕ, Bool, true, false, ◌||◌, [], refl, if◌then◌else◌, arith}
 use Rattle.exec_words.specs.Word.{is_idle_at}
 use Rattle.exec_words.specs.declared.word.PureWord.{PureWord}
-use Rattle.exec_words.specs.Queue.{head_of}
-use Rattle.exec_words.specs.Idle.{is_in}
-use Rattle.exec_machine.specs.{declared.{config.Configuration.Configuration, event.Event.{TheVariants.{Sleep, Turn}}}, Ranges.ring_size, Deadlines.next_due, World.{Common, Own as Books, seat_of}}
-use Rattle.exec_moves.specs.{declared.{idling.{AfterWait.AfterWait, InLook.InLook, InRingWait.InRingWait, InScan.InScan, InSearch.InSearch, InWordWait.InWordWait, Stay.Stay}, place.{Found.Found, InLoads.InLoads, Round.Round}}, Callback.{is_full, is_of_pool}, Load.{has_come, has_submissions, is_ready, test_for_work}, Look.{after_withdrawal, look_at_mirror, searching_if, withdraw}, Move.{move_loads, move_look, move_ring_wait, move_scan, move_search, move_word_wait}, Pop.same_head, Search.from_of, State.{Desk, Own, Things, does, queue_of, turns, word_of}, Thing.{aside, ring_of, set_idle, set_queue, with_global, with_idle, with_ring, with_word}, Wait.{after_sleep, after_wait, disarmed, enter_full_ring, enter_ring, goes_back, has_completion, noting_sleep, read_clock, withdraws}}
-use Rattle.exec_moves.specs.declared.handing.AfterLeave.TheVariants as leave
+use Rattle.exec_machine.specs.{declared.{config.Configuration.Configuration, event.Event.{TheVariants.{Sleep, Turn}}}, Deadlines.next_due, World.{Common, Own as Books, seat_of}}
+use Rattle.exec_moves.specs.{declared.{idling.{AfterWait.AfterWait, InLook.InLook, InRingWait.InRingWait, InScan.InScan, InSearch.InSearch, InWordWait.InWordWait, Stay.Stay}, place.{Found.Found, InLoads.InLoads, Round.Round}}, Callback.{is_of_pool}, Load.{has_come, has_submissions, is_ready, test_for_work}, Look.{withdraw}, Move.{move_loads, move_look, move_ring_wait, move_scan, move_search, move_word_wait}, State.{Desk, Own, Things, does, turns, word_of}, Thing.{aside, ring_of, with_idle, with_ring, with_word}, Wait.{after_sleep, after_wait, disarmed, enter_full_ring, enter_ring, goes_back, has_completion, noting_sleep, read_clock, withdraws}}
 use Rattle.exec_moves.specs.declared.idling.AfterWait.TheVariants as next
-use Rattle.exec_moves.specs.declared.idling.InLook.TheVariants as looking
 use Rattle.exec_moves.specs.declared.idling.InRingWait.TheVariants as ring
-use Rattle.exec_moves.specs.declared.idling.InScan.TheVariants as scanning
 use Rattle.exec_moves.specs.declared.idling.InSearch.TheVariants as searching
 use Rattle.exec_moves.specs.declared.idling.InWordWait.TheVariants as word
 use Rattle.exec_moves.specs.declared.idling.Stay.TheVariants as stay
-use Rattle.exec_moves.specs.declared.place.InLoads.TheVariants as load
 use Rattle.exec_moves.specs.declared.place.Place.TheVariants as at
-use Rattle.exec_moves.specs.declared.place.Round.TheVariants as round
 use Rattle.exec_settled.specs.Given.{ends_in_search}
 use Rattle.exec_settled.specs.Permits.{is_past}
-use Rattle.exec_settled.proofs.{HandsEarly.{IsEarly, early_after_return, early_if, early_leaves_for_turn}, HandsPlain.{Plain, kept_word, own_out, plain, plain_if, plain_late}}
+use Rattle.exec_settled.proofs.{HandsEarly.{IsEarly, early_if}, HandsPlain.{Plain, kept_word, own_out, plain, plain_if, plain_late}}
 
 -- on its ring it stays before or behind the gates, whichever step of the wait is next
 stays_on_ring : (f : ℕ) (y : Stay) → is_past f (at.RingWait ring.TestRing y) ≡ false → is_past f (at.RingWait ring.ArmRing y) ≡ false
@@ -31,12 +22,7 @@ stays_on_ring f stay.Closing h = h
 module _ (c : Configuration) (i : ℕ) (me : Books) (s : Common) (d : Desk) (x : Things) where
   -- THE LOADS
   pub loads : (p : InLoads) (r : Round) → Plain i (at.Loads p r) x (move_loads i me d x p r)
-  loads load.LoadOwnHead round.First = plain i _ x _ refl (λ j h. h) (λ f h. refl) refl
-  loads load.LoadOwnHead round.Second = plain_late i _ x _ refl (λ j h. h) (λ f. refl) refl
-  loads (load.LoadOwnMirror found) round.First = plain i _ x _ refl (λ j h. h) (λ f h. refl) refl
-  loads (load.LoadOwnMirror found) round.Second = plain_late i _ x _ refl (λ j h. h) (λ f. refl) refl
-  loads (load.LoadOwnWord found) round.First = plain i _ x _ refl (kept_word i x (word_of x i) (λ h. h)) (λ f h. refl) refl
-  loads (load.LoadOwnWord found) round.Second = plain_late i _ x _ refl (kept_word i x (word_of x i) (λ h. h)) (λ f. refl) refl
+  loads = grind (arith, plain, plain_late, kept_word)
 
   -- THE TESTS, THE CLOCK: from here on it has passed all gates
   pub tests : (found : Found) → Plain i (at.TestForWork found) x (aside x (test_for_work c i me s found d))
@@ -53,62 +39,23 @@ module _ (c : Configuration) (i : ℕ) (me : Books) (s : Common) (d : Desk) (x :
   searches searching.AddSearchCount = plain_late i _ x _ refl (λ j h. h) (λ f. refl) refl
 
   pub scans : (p : InScan) → Plain i (at.Scan p) x (move_scan c i me s d x p)
-  scans scanning.LoadScanHead = plain_late i _ x _ refl (λ j h. h) (λ f. refl) refl
-  scans (scanning.LoadTheirHead y) = plain_late i _ x _ refl (λ j h. h) (λ f. refl) refl
-  scans (scanning.LoadTheirTail y head) = plain_late i _ x _ refl (λ j h. h) (λ f. refl) refl
-  scans (scanning.ClaimHalf y head tail) =
-      plain_if i _ x (set_queue (from_of c y) x) (same_head head (head_of (queue_of x (from_of c y)))) _ _
-      (plain_late i _ x _ refl (λ j h. h) (λ f. refl) refl) (plain_late i _ x _ refl (λ j h. h) (λ f. refl) refl)
-  scans (scanning.MoveHalf from head) = plain_late i _ x _ refl (λ j h. h) (λ f. refl) refl
-  scans (scanning.ReleaseHalf from head) =
-      plain_if i _ x (set_queue from x) (same_head head (head_of (queue_of x from))) _ _
-      (plain_late i _ x _ refl (λ j h. h) (λ f. refl) refl) (plain_late i _ x _ refl (λ j h. h) (λ f. refl) refl)
-  scans scanning.StoreMoved = plain_late i _ x _ refl (λ j h. h) (λ f. refl) refl
-
-  -- THE LOOK
-  finds : (last : Bool) (g : List ℕ) → Plain i (at.Look (looking.LookAtMirror last)) x (with_global x (look_at_mirror last d g))
-  finds last [] = plain_late i _ x _ refl (λ j h. h) (λ f. refl) refl
-  finds last (t ∷ ts) = plain_late i _ x _ refl (λ j h. h) (λ f. refl) refl
+  scans = grind arith
 
   pub looks : (p : InLook) → Plain i (at.Look p) x (move_look c i s d x p)
-  looks looking.Publish = plain_late i _ x _ refl (λ j h. h) (λ f. refl) refl
-  looks looking.ReturnLookCount = plain_late i _ x _ refl (λ j h. h) (λ f. refl) refl
-  looks (looking.LookAtMirror last) = finds last x.global
-  looks looking.LookAtCount = plain_late i _ x _ refl (λ j h. h) (λ f. refl) refl
-  looks (looking.LookAtHead j) = plain_late i _ x _ refl (λ j h. h) (λ f. refl) refl
-  looks (looking.LookAtTail j head) = plain_late i _ x _ refl (λ j h. h) (λ f. refl) refl
-  looks looking.ExchangeLookCount =
-      plain_if i _ x (set_idle x) (x.idle.count == 0) _ _ (plain_late i _ x _ refl (λ j h. h) (λ f. refl) refl) (plain_late i _ x _ refl (λ j h. h) (λ f. refl) refl)
-  looks looking.ReturnClaimed = plain_late i _ x _ refl (λ j h. h) (λ f. refl) refl
-
-  -- THE WITHDRAWAL
-  early_made_up : (f : ℕ) (came last : Bool) (e : Desk) → IsEarly f (after_withdrawal c i me s came (next.MakeUp last) e)
-  early_made_up f true last e = early_leaves_for_turn f c i me s e
-  early_made_up f false last e = early_after_return f c i me s last leave.Begin e refl
+  looks = grind arith
 
   pub withdraws_by : (n : AfterWait) → Plain i (at.Withdraw n) x (with_idle x (withdraw c i me s n d x.idle))
-  withdraws_by next.Begin = plain i _ x _ refl (λ j h. h) (λ f h. refl) refl
-  withdraws_by next.Serve = plain i _ x _ refl (λ j h. h) (λ f h. refl) refl
-  withdraws_by (next.MakeUp last) =
-      let came = not (is_in x.idle.published i) in plain i _ x _ refl (λ j h. h) (λ f h. early_made_up f came last (searching_if came d)) refl
-  withdraws_by next.Search = plain_late i _ x _ refl (λ j h. h) (λ f. refl) refl
+  withdraws_by = grind arith
 
   -- THE ENDS OF THE WAITS
   early_goes_back : (f : ℕ) (n : AfterWait) → IsEarly f (goes_back n)
-  early_goes_back f next.Serve = refl
-  early_goes_back f next.Begin = refl
-  early_goes_back f (next.MakeUp last) = refl
-  early_goes_back f next.Search = refl
+  early_goes_back = grind arith
 
   early_withdraws : (f : ℕ) (n : AfterWait) → IsEarly f (at.Withdraw n) → IsEarly f (withdraws s i n)
   early_withdraws f n h = early_if f (is_of_pool s i) _ _ h (early_goes_back f n)
 
   early_after_wait : (f : ℕ) (y : Stay) (n : AfterWait) → ends_in_search (at.RingWait (ring.DisarmRing n) y) ≡ false → IsEarly f (after_wait s i y n)
-  early_after_wait f stay.Closing n h = refl
-  early_after_wait f stay.Turn next.Begin h = early_withdraws f next.Begin refl
-  early_after_wait f stay.Turn next.Serve h = early_withdraws f next.Serve refl
-  early_after_wait f stay.Turn (next.MakeUp last) h = early_withdraws f (next.MakeUp last) refl
-  early_after_wait f stay.Turn next.Search h = absurd (true≢false h)
+  early_after_wait = grind arith
 
   -- ON THE RING
   enters_full : (y : Stay) (busy : Bool) → Plain i (at.RingWait ring.EnterFullRing y) x (with_ring i x (enter_full_ring y me d (record (ring_of s x i) { busy = busy })))
@@ -122,15 +69,11 @@ module _ (c : Configuration) (i : ℕ) (me : Books) (s : Common) (d : Desk) (x :
   rests : (y : Stay) (there come : Bool)
       → (let left = record d { place = at.RingWait (ring.DisarmRing next.Begin) y } in
       Plain i (at.RingWait ring.SleepOnRing y) x (with_ring i x (if there then does Turn left (ring_of s x i) else if come then does Turn left (ring_of s x i) else does (Sleep (next_due s i)) left (ring_of s x i))))
-  rests y true come = plain i _ x _ refl (λ j h. h) (λ f. stays_on_ring f y) refl
-  rests y false true = plain i _ x _ refl (λ j h. h) (λ f. stays_on_ring f y) refl
-  rests y false false = plain i _ x _ refl (λ j h. h) (λ f. stays_on_ring f y) refl
+  rests = grind arith
 
   pub ring_waits : (p : InRingWait) (y : Stay) → ends_in_search (at.RingWait p y) ≡ false → Plain i (at.RingWait p y) x (move_ring_wait c i me s d x p y)
   ring_waits ring.EnterFullRing y off = enters_full y (seat_of s i).busy
-  ring_waits ring.TestRing y off =
-      plain_if i _ x (λ (u : Own). x) (has_submissions c me || (not d.polled && is_full (ring_size c) d)) _ _
-      (plain i _ x _ refl (λ j h. h) (λ f h. early_after_wait f y next.Serve refl) refl) (plain i _ x _ refl (λ j h. h) (λ f. stays_on_ring f y) refl)
+  ring_waits ring.TestRing y off = grind arith
   ring_waits ring.ArmRing y off = plain i _ x _ refl (kept_word i x _ (λ h. h)) (λ f. stays_on_ring f y) refl
   ring_waits ring.EnterRing y off = enters y (seat_of s i).busy
   ring_waits ring.SleepOnRing y off = rests y (has_completion d (ring_of s x i)) (has_come s.clock (next_due s i))
@@ -145,9 +88,7 @@ module _ (c : Configuration) (i : ℕ) (me : Books) (s : Common) (d : Desk) (x :
   rests_on_word : (idle come : Bool)
       → (let left = record d { place = at.WordWait word.DisarmWord } in let w = word_of x i in
       Plain i (at.WordWait word.SleepOnWord) x (with_word i x (if idle then noting_sleep s.clock (if come then does Turn left w else does (Sleep (next_due s i)) left w) else does Turn left w)))
-  rests_on_word false come = plain_late i _ x _ refl (kept_word i x _ (λ h. h)) (λ f. refl) refl
-  rests_on_word true true = plain_late i _ x _ refl (kept_word i x _ (λ h. h)) (λ f. refl) refl
-  rests_on_word true false = plain_late i _ x _ refl (kept_word i x _ (λ h. h)) (λ f. refl) refl
+  rests_on_word = grind (arith, plain_late, kept_word)
 
   pub word_waits : (p : InWordWait) → Plain i (at.WordWait p) x (move_word_wait i s d x p)
   word_waits (word.SpinOnBatch left) = plain_late i _ x _ refl (kept_word i x _ (λ h. h)) (λ f. refl) refl

@@ -1,20 +1,14 @@
 -- Plain moves: of the beginning of a turn, of the own run queue, of the handing on of what was queued, and of the mailbox.
-use Rattle.std.proofs.Common.{◌≡◌, ℕ, Bool, true, false, List, [], ◌∷◌, ◌-◌, ◌==◌, Option, Some, None, refl, if◌then◌else◌}
-use Rattle.std.specs.Prelude.{nat_le}
-use Rattle.exec_words.specs.{declared.idle.WorkerSet.WorkerSet, Idle.lowest_of, Queue.{Queue, head_of, tail_of}, Word.asks_signal}
-use Rattle.exec_machine.specs.{declared.{config.Configuration.Configuration, event.Event.{Event, TheVariants.{Rouse, Turn}}, state.MailMessage.MailMessage}, Tests.is_awake, World.{Common, Own as Books, seat_of}}
-use Rattle.exec_moves.specs.{declared.{handing.{AfterClaim.AfterClaim, AfterKick.AfterKick, AfterLeave.AfterLeave, AfterPop.AfterPop, AfterPush.AfterPush, AfterSignal.AfterSignal, First.First, InGlobal.InGlobal, InKick.InKick, InPop.InPop, InPush.InPush, InSignal.InSignal}, place.{InMail.InMail, InPick.InPick}}, Claim.{after_claim, after_nobody, claim_worker, claimed_if, same_bools, set_of}, Global.has_any, Kick.leave_search, Load.has_mail, Mail.{apply, take_mail}, Move.{move_global, move_kick, move_mail, move_pick, move_pop, move_push, move_signal}, Pick.{begin_turn, load_mirror, take_root_flag, take_share}, Pop.{load_pop_head, pops, same_head}, State.{Desk, Own, Things, inbox_of, queue_of, word_of}, Thing.{aside, set_idle, set_queue, set_word, with_idle, with_inbox, with_global, with_queue, with_queues}}
-use Rattle.exec_moves.specs.declared.handing.AfterClaim.TheVariants as claim
-use Rattle.exec_moves.specs.declared.handing.InGlobal.TheVariants as global
-use Rattle.exec_moves.specs.declared.handing.InKick.TheVariants as kick
+use Rattle.std.proofs.Common.{◌≡◌, ℕ, Bool, true, false, List, [], ◌∷◌, ◌-◌, ◌==◌, Option, refl, if◌then◌else◌, arith}
+use Rattle.exec_words.specs.{declared.idle.WorkerSet.WorkerSet, Idle.lowest_of, Queue.{Queue, head_of, tail_of}}
+use Rattle.exec_machine.specs.{declared.{config.Configuration.Configuration, event.Event.{Event}, state.MailMessage.MailMessage}, World.{Common, Own as Books}}
+use Rattle.exec_moves.specs.{declared.{handing.{AfterClaim.AfterClaim, AfterKick.AfterKick, AfterLeave.AfterLeave, AfterPop.AfterPop, AfterPush.AfterPush, AfterSignal.AfterSignal, InGlobal.InGlobal, InKick.InKick, InPop.InPop, InPush.InPush, InSignal.InSignal}, place.{InMail.InMail, InPick.InPick}}, Claim.{after_claim, claim_worker, claimed_if, same_bools, set_of}, Kick.leave_search, Mail.{apply, take_mail}, Move.{move_global, move_kick, move_mail, move_pick, move_pop, move_push, move_signal}, Pick.{begin_turn, take_root_flag}, Pop.{load_pop_head, pops, same_head}, State.{Desk, Own, Things, queue_of}, Thing.{aside, set_queue, with_idle, with_inbox, with_queue}}
 use Rattle.exec_moves.specs.declared.handing.InPop.TheVariants as pop
 use Rattle.exec_moves.specs.declared.handing.InPush.TheVariants as push
-use Rattle.exec_moves.specs.declared.handing.InSignal.TheVariants as signals
 use Rattle.exec_moves.specs.declared.place.InMail.TheVariants as mail
-use Rattle.exec_moves.specs.declared.place.InPick.TheVariants as pick
 use Rattle.exec_moves.specs.declared.place.Place.TheVariants as at
 use Rattle.exec_settled.specs.Permits.{is_past}
-use Rattle.exec_settled.proofs.{HandsEarly.{early_after_empty_pop, early_after_fit, early_after_kick, early_after_pop, early_after_push, early_after_return, early_after_signal, early_after_store, early_empty_look, early_first_pick, early_first_pop, early_if, early_judge_pop, early_polls}, HandsEvents.is_mild, HandsPlain.{Plain, kept_word, plain, plain_if, plain_late}}
+use Rattle.exec_settled.proofs.{HandsEarly.{early_after_empty_pop, early_after_fit, early_after_kick, early_after_pop, early_after_push, early_after_return, early_after_signal, early_after_store, early_first_pick, early_if, early_judge_pop, early_polls}, HandsEvents.is_mild, HandsPlain.{Plain, kept_word, plain, plain_if, plain_late}}
 
 -- a signal rouses or not
 pub mild_if : (b : Bool) (e f : Event) → is_mild e ≡ true → is_mild f ≡ true → is_mild (if b then e else f) ≡ true
@@ -26,20 +20,8 @@ module _ (c : Configuration) (i : ℕ) (me : Books) (s : Common) (d : Desk) (x :
   pub begins : Plain i at.BeginTurn x (aside x (begin_turn i s d))
   begins = plain i at.BeginTurn x _ refl (λ j h. h) (λ f h. early_first_pick f s i) refl
 
-  mirror : (f : First) (g : List ℕ) → Plain i (at.Pick (pick.LoadMirror f)) x (with_global x (load_mirror c f d g))
-  mirror f [] = plain i _ x _ refl (λ j h. h) (λ file h. early_empty_look file c f) refl
-  mirror f (t ∷ g) = plain i _ x _ refl (λ j h. h) (λ file h. refl) refl
-
-  share : (f : First) (room held : ℕ) (own : Queue ℕ) (g : List ℕ) → Plain i (at.Pick (pick.TakeShare f room held)) x (with_queues i x (take_share c f room held d (record { global = g; queue = own })))
-  share f room held own [] = plain i _ x _ refl (λ j h. h) (λ file h. early_empty_look file c f) refl
-  share f room held own (t ∷ g) = plain i _ x _ refl (λ j h. h) (λ file h. early_polls file t d) refl
-
   pub picks : (p : InPick) → Plain i (at.Pick p) x (move_pick c i d x p)
-  picks pick.CountDown =
-      plain_if i _ x (λ (u : Own). x) (nat_le d.countdown 1) _ _ (plain i _ x _ refl (λ j h. h) (λ f h. refl) refl) (plain i _ x _ refl (λ j h. h) (λ f h. early_first_pop f c _) refl)
-  picks (pick.LoadMirror f) = mirror f x.global
-  picks (pick.LoadHead f) = plain i _ x _ refl (λ j h. h) (λ file h. refl) refl
-  picks (pick.TakeShare f room held) = share f room held (queue_of x i) x.global
+  picks = grind arith
 
   pub takes_flag : Plain i at.TakeRootFlag x (aside x (take_root_flag me.root d))
   takes_flag =
@@ -67,44 +49,23 @@ module _ (c : Configuration) (i : ℕ) (me : Books) (s : Common) (d : Desk) (x :
   pushes push.StoreOldest b = plain i _ x _ refl (λ j h. h) (λ f h. h) refl
 
   pub globals : (p : InGlobal) (b : AfterPush) → Plain i (at.Global p b) x (move_global c i me s d x p b)
-  globals global.Append b = plain i _ x _ refl (λ j h. h) (λ f h. early_if f s.queue_closed _ _ (early_after_push f c i me s b d h) h) refl
-  globals global.LoadGlobalSet b = plain i _ x _ refl (λ j h. h) (λ f h. early_if f (has_any x.idle) _ _ h (early_after_push f c i me s b d h)) refl
-  globals (global.AddGlobalCount set) b = plain i _ x _ refl (λ j h. h) (λ f h. h) refl
-  globals global.ReturnGlobalCount b = plain i _ x _ refl (λ j h. h) (λ f h. early_if f (x.idle.count == 1) _ _ h (early_after_push f c i me s b d h)) refl
+  globals = grind (arith, plain, early_if, early_after_push)
 
   -- SEARCH COUNTS, KICKS, CLAIMS, SIGNALS
   pub leaves : (b : AfterLeave) → Plain i (at.LeaveSearch b) x (with_idle x (leave_search c i me s b d x.idle))
   leaves b = plain i _ x _ refl (λ j h. h) (λ f h. early_after_return f c i me s (x.idle.count == 1) b d h) refl
 
   pub kicks : (p : InKick) (b : AfterKick) → Plain i (at.Kick p b) x (move_kick c i me s d x p b)
-  kicks kick.LoadKickCount b = plain i _ x _ refl (λ j h. h) (λ f h. early_if f (x.idle.count == 0) _ _ h (early_after_kick f c i me s b d h)) refl
-  kicks kick.LoadKickSet b = plain i _ x _ refl (λ j h. h) (λ f h. early_if f (has_any x.idle) _ _ h (early_after_kick f c i me s b d h)) refl
-  kicks (kick.ExchangeKickCount set) b =
-      plain_if i _ x (set_idle x) (x.idle.count == 0) _ _ (plain i _ x _ refl (λ j h. h) (λ f h. h) refl) (plain i _ x _ refl (λ j h. h) (λ f h. early_after_kick f c i me s b d h) refl)
-  kicks kick.ReturnKickCount b = plain i _ x _ refl (λ j h. h) (λ f h. early_if f (x.idle.count == 1) _ _ h (early_after_kick f c i me s b d h)) refl
-
-  early_nobody : (f : ℕ) (set : WorkerSet) (b : AfterClaim) → is_past f (at.ClaimWorker set b) ≡ false → is_past f (after_nobody b) ≡ false
-  early_nobody f set (claim.Kick b) h = h
-  early_nobody f set (claim.Global b) h = h
-
-  early_again : (f : ℕ) (set found : WorkerSet) (b : AfterClaim) → is_past f (at.ClaimWorker set b) ≡ false → is_past f (at.ClaimWorker found b) ≡ false
-  early_again f set found (claim.Kick b) h = h
-  early_again f set found (claim.Global b) h = h
+  kicks = grind (arith, plain, early_if, early_after_kick, plain_if)
 
   early_claimed : (f : ℕ) (set : WorkerSet) (b : AfterClaim) (same : Bool) (o : Option ℕ) → is_past f (at.ClaimWorker set b) ≡ false → is_past f (after_claim b (claimed_if same (set_of x.idle) o)) ≡ false
-  early_claimed f set b same None h = early_nobody f set b h
-  early_claimed f set b false (Some k) h = early_again f set (set_of x.idle) b h
-  early_claimed f set (claim.Kick b) true (Some k) h = h
-  early_claimed f set (claim.Global b) true (Some k) h = h
+  early_claimed = grind arith
 
   pub claims : (set : WorkerSet) (b : AfterClaim) → Plain i (at.ClaimWorker set b) x (with_idle x (claim_worker set b d x.idle))
   claims set b = plain i _ x _ refl (λ j h. h) (λ f h. early_claimed f set b (same_bools set.has x.idle.published) (lowest_of x.idle.published) h) refl
 
   pub signalled : (p : InSignal) (j : ℕ) (b : AfterSignal) → Plain i (at.Signal p j b) x (move_signal c i me s d x p j b)
-  signalled signals.SetLatch j b =
-      plain i _ x _ refl (kept_word j x _ (λ h. refl)) (λ f h. early_if f (asks_signal (word_of x j)) _ _ h (early_after_signal f c i me s b d h)) refl
-  signalled (signals.Raise ring) j b =
-      plain i _ x _ refl (λ k h. h) (λ f h. early_after_signal f c i me s b d h) (mild_if (is_awake (seat_of s j).rest) Turn (Rouse j) refl refl)
+  signalled = grind (arith, plain, kept_word, early_if, early_after_signal, mild_if)
 
   -- THE MAILBOX: it has passed all gates
   mail_taken : (ms : List MailMessage) → Plain i (at.Mail mail.TakeMail) x (with_inbox i x (take_mail d ms))
@@ -116,9 +77,4 @@ module _ (c : Configuration) (i : ℕ) (me : Books) (s : Common) (d : Desk) (x :
   applied_by applied taken (m ∷ ms) is = rw is (plain_late i _ x _ refl (λ j h. h) (λ f. refl) refl)
 
   pub mails : (p : InMail) → Plain i (at.Mail p) x (move_mail i me s d x p)
-  mails mail.LoadMailWord =
-      plain_if i _ x (set_word i x) (has_mail d (word_of x i)) _ _
-      (plain_late i _ x _ refl (kept_word i x (word_of x i) (λ h. h)) (λ f. refl) refl)
-      (plain_late i _ x _ refl (kept_word i x (word_of x i) (λ h. h)) (λ f. refl) refl)
-  mails mail.TakeMail = mail_taken (inbox_of x i)
-  mails (mail.Apply applied taken) = applied_by applied taken _ refl
+  mails = grind (arith, plain_if, plain_late, kept_word, mail_taken, applied_by)

@@ -1,11 +1,10 @@
 -- Plain moves: those by which a message is sent, of a closing, and of the callbacks.
-use Rattle.std.proofs.Common.{◌≡◌, ℕ, Bool, true, false, List, [], ◌∷◌, ◌++◌, ◌+◌, ◌-◌, Option, Some, None, refl, if◌then◌else◌, length}
-use Rattle.std.specs.Prelude.{◌&&◌, drop, slice_get, slice_index_or}
+use Rattle.std.proofs.Common.{◌≡◌, ℕ, true, false, List, [], ◌+◌, ◌-◌, Option, Some, None, refl, length, arith}
+use Rattle.std.specs.Prelude.{drop, slice_get, slice_index_or}
 use Rattle.exec_task.specs.declared.drain.Drain.{Drain}
-use Rattle.exec_machine.specs.{declared.{config.Configuration.Configuration, event.Event.{TheVariants.{Closed, Send}}, state.MailMessage.{MailMessage, TheVariants.Root}}, Choice.{Choice, Choice.{Plain as Open, Posts}}, Ranges.ring_size, Tests.{is_done, is_empty, is_idle}, World.{Common, Task, request_of, seat_of, sleeper_of, task_of, Own as Books}}
-use Rattle.exec_moves.specs.{declared.{handing.{AfterCallbacks.AfterCallbacks, AfterCancels.AfterCancels, AfterSend.AfterSend, Heard.Heard}, place.{InCallbacks.InCallbacks, InClosing.InClosing, Place.Place}}, Callback.{Item, Item.{Answers, Completes, LetsGo, Nothing, Releases, Wakes}, flagged_by, has_callbacks, item_next, tells_waiter, woken_by}, Close.{close_sleeper, first_asleep, first_held, orphan, told_of_clear, visit}, Move.{move_callbacks, move_closing, move_item}, Pop.shard_count, Send.{Mailbox, asks, first_letter, is_left_out, leaves_out, payer_of_send, posted, posting_of, published_if, send_cancel, send_root, sent}, State.{Desk, Things}, Thing.{aside, mailbox_of, with_mailbox, with_shard}}
+use Rattle.exec_machine.specs.{declared.{config.Configuration.Configuration, state.MailMessage.{MailMessage, TheVariants.Root}}, Choice.{Choice, Choice.{Plain as Open, Posts}}, Ranges.ring_size, Tests.{is_done}, World.{Common, Task, request_of, sleeper_of, task_of, Own as Books}}
+use Rattle.exec_moves.specs.{declared.{handing.{AfterCallbacks.AfterCallbacks, AfterCancels.AfterCancels, AfterSend.AfterSend, Heard.Heard}, place.{InCallbacks.InCallbacks, InClosing.InClosing, Place.Place}}, Callback.{Item, Item.{Answers, Completes, LetsGo, Nothing, Releases, Wakes}, tells_waiter, woken_by}, Close.{close_sleeper, first_asleep, first_held, orphan, told_of_clear, visit}, Move.{move_callbacks, move_closing, move_item}, Pop.shard_count, Send.{Mailbox, first_letter, is_left_out, payer_of_send, posted, posting_of, send_cancel, send_root, sent}, State.{Desk, Things}, Thing.{aside, mailbox_of, with_mailbox, with_shard}}
 use Rattle.exec_moves.specs.declared.handing.AfterCancels.TheVariants as cancels
-use Rattle.exec_moves.specs.declared.handing.AfterPush.TheVariants as push
 use Rattle.exec_moves.specs.declared.handing.AfterSend.TheVariants as send
 use Rattle.exec_moves.specs.declared.handing.Heard.TheVariants as heard
 use Rattle.exec_moves.specs.declared.place.InCallbacks.TheVariants as callback
@@ -16,26 +15,13 @@ use Rattle.exec_settled.proofs.{HandsEarly.{IsEarly, early_after_close, early_af
 
 -- A MESSAGE: of the wake word the batch alone changes
 posted_latch : (message : MailMessage) (m : Mailbox) → m.word.latch ≡ true → (posted message m).word.latch ≡ true
-posted_latch message m h = by (leaves_out message m) (is_empty m.messages)
-  where
-    by : (out first : Bool) → (if out then m else record { messages = m.messages ++ message ∷ []; word = published_if first m.word }).word.latch ≡ true
-    by true first = h
-    by false true = h
-    by false false = h
+posted_latch = grind arith
 
 module _ (c : Configuration) (i : ℕ) (s : Common) (p : Place) (x : Things) where
   -- to worker j
   pub posts : (j : ℕ) (message : MailMessage) (choice : Choice) (b : AfterSend) (d : Desk)
       → Plain i p x (with_mailbox j x (sent c j b d (posting_of s j message choice (mailbox_of x j))))
-  posts j message choice b d = by (seat_of s j).mailbox_closed
-    where
-      m : Mailbox
-      m = mailbox_of x j
-
-      by : (closed : Bool) → Plain i p x (with_mailbox j x (sent c j b d
-          (if closed then record { event = Closed; choice = Open; signals = false; mailbox = m } else record { event = Send j message; choice = choice; signals = asks m; mailbox = posted message m })))
-      by true = plain i p x _ refl (kept_word j x m.word (λ h. h)) (λ f h. early_after_posting f c j b false d) refl
-      by false = plain i p x _ refl (kept_word j x (posted message m).word (posted_latch message m)) (λ f h. early_after_posting f c j b (asks m) d) refl
+  posts = grind (arith, plain, kept_word, early_after_posting, posted_latch)
 
   pub posts_root : (j : ℕ) (b : AfterSend) (d : Desk) → Plain i p x (with_mailbox j x (send_root c s j b d (mailbox_of x j)))
   posts_root j b d = posts j Root (Posts (payer_of_send b) (is_left_out (mailbox_of x j))) b d
@@ -73,9 +59,7 @@ module _ (c : Configuration) (i : ℕ) (me : Books) (s : Common) (d : Desk) (x :
 
   -- THE CALLBACKS
   early_woken : (f : ℕ) (n : AfterCallbacks) → is_past_callbacks n ≡ false → (t : ℕ) (e : Desk) (it : Task) (home : Option ℕ) → it.home ≡ home → IsEarly f (woken_by (ring_size c) i me s n t e it).place
-  early_woken f n past t e it None h =
-      rw h (early_desk_if f (is_idle it.phase) _ _ (early_to_queue f s i (push.CallBack n) past) (early_next_callback f (ring_size c) i me s n e past))
-  early_woken f n past t e it (Some home) h = rw h (early_next_callback f (ring_size c) i me s n (flagged_by it e) past)
+  early_woken = grind (arith, early_desk_if, early_to_queue, early_next_callback)
 
   early_told : (f : ℕ) (n : AfterCallbacks) → is_past_callbacks n ≡ false → (waiter : Option ℕ) (of : Heard) (e : Desk) → IsEarly f (tells_waiter (ring_size c) i me s n waiter of e).place
   early_told f n past None of e = early_next_callback f (ring_size c) i me s n e past
@@ -90,7 +74,4 @@ module _ (c : Configuration) (i : ℕ) (me : Books) (s : Common) (d : Desk) (x :
   called_item n Nothing = plain i _ x _ refl (λ j h. h) (λ f h. early_next_callback f (ring_size c) i me s n d h) refl
 
   pub calls : (p : InCallbacks) (n : AfterCallbacks) → Plain i (at.Callbacks p n) x (move_callbacks c i me s d x p n)
-  calls callback.TakeBatch n =
-      plain i _ x _ refl (λ j h. h) (λ f h. early_if f (d.searching && has_callbacks me d) _ _ h (early_next_callback f (ring_size c) i me s n d h)) refl
-  calls callback.CallBack n = called_item n (item_next me d)
-  calls (callback.WakeWaiter t of) n = plain i _ x _ refl (λ j h. h) (λ f h. early_woken f n h t d (task_of s t) _ refl) refl
+  calls = grind (arith, plain, early_if, early_next_callback, called_item, early_woken)

@@ -1,5 +1,5 @@
 -- Moves that leave all gates as they are, and by which no durable request ends.
-use Rattle.std.proofs.Common.{◌≡◌, ◌<◌, length, ℕ, zero, suc, Bool, true, false, List, [], ◌∷◌, Option, Some, None, refl, sym, ap, ◌∙◌, inl, slice_set, slice_index_or, if◌then◌else◌}
+use Rattle.std.proofs.Common.{◌≡◌, ◌<◌, length, ℕ, zero, suc, Bool, true, false, List, [], ◌∷◌, Option, Some, None, refl, sym, ap, ◌∙◌, slice_set, slice_index_or, if◌then◌else◌, arith}
 use Rattle.std.proofs.lemmas.Bool.{true≢false}
 use Rattle.exec_outcomes.specs.Accounts.{is_durable}
 use Rattle.exec_words.specs.declared.word.PureWord.{PureWord}
@@ -85,15 +85,7 @@ module _ (c : Configuration) (i : ℕ) (me : Books) (s : Common) (d : Desk) (x :
   -- where it signals somebody
   pub plain_signals : (p : Place) (m : Moved Things) → d.place ≡ p → passes_at p ≡ None
       → ((j : ℕ) → hands_to p ≡ Some j → j < length x.words → (word_of m.thing j).latch ≡ true) → Plain i p x m → HandsBy d m
-  plain_signals p m is no_pass handing it =
-      record {
-        gates = λ file within. inl (same_gates m.thing it.gates file);
-        passing = λ file within h. absurd (some_none h (rw is no_pass));
-        handing = λ j h within. handing j (ap hands_to (sym is) ∙ h) within;
-        latch_out = it.latch_out;
-        past = λ file k before after. absurd (true≢false (sym after ∙ it.past file (ap (is_past file) (sym is) ∙ before)));
-        over = mild_over m it.mild;
-      }
+  plain_signals = grind (arith, some_none, true≢false, mild_over)
 
   pub plain_hands : (p : Place) (m : Moved Things) → d.place ≡ p → passes_at p ≡ None → hands_to p ≡ None → Plain i p x m → HandsBy d m
   plain_hands p m is no_pass no_hand it = plain_signals p m is no_pass (λ j h within. absurd (some_none h no_hand)) it

@@ -1,15 +1,14 @@
 -- Moves of a poll: a request joins a gate, and all else is plain.
-use Rattle.std.proofs.Common.{◌≡◌, ℕ, Bool, true, false, ◌==◌, [], ◌∷◌, ◌++◌, ◌<◌, Option, Some, None, refl, sym, ◌∙◌, inl, inr, if◌then◌else◌, length}
-use Rattle.std.specs.Prelude.{◌⊎◌}
+use Rattle.std.proofs.Common.{◌≡◌, ℕ, Bool, true, false, ◌==◌, [], Option, Some, None, refl, ◌∙◌, if◌then◌else◌, length, arith}
 use Rattle.std.proofs.lemmas.Bool.{true≢false, cases_Bool, eqb-true, eq-eqb}
 use Rattle.std.proofs.lemmas.{Grind.get_or-set_at, List.get_or-set_other}
 use Rattle.exec_words.specs.Queue.{tail_of}
 use Rattle.exec_outcomes.specs.Accounts.{is_durable}
-use Rattle.exec_machine.specs.{declared.{config.{Configuration.Configuration, ScriptWord.ScriptWord}, event.Event.{TheVariants.{Closed, Dedicated}}, state.{Operation.Operation, RequestPhase.RequestPhase, Waiting.Waiting}}, After.common_after, Choice.Choice.Plain as Open, Requests.operation_asked, Tests.{is_idle, is_ready}, World.{Common, Task, request_of, sleeper_of, task_of, Own as Books}, Words.{next_word, newest_held, sleep_asked}}
+use Rattle.exec_machine.specs.{declared.{config.{Configuration.Configuration, ScriptWord.ScriptWord}, event.Event.{TheVariants.{Closed, Dedicated}}, state.{Operation.Operation, RequestPhase.RequestPhase, Waiting.Waiting}}, Choice.Choice.Plain as Open, Requests.operation_asked, Tests.{is_idle}, World.{Common, Task, request_of, sleeper_of, task_of, Own as Books}, Words.{next_word}}
 use Rattle.exec_machine.specs.declared.config.ScriptWord.TheVariants as script
 use Rattle.exec_machine.specs.declared.state.RequestPhase.TheVariants as phase
 use Rattle.exec_machine.specs.declared.state.Waiting.TheVariants as waiting
-use Rattle.exec_moves.specs.{declared.{handing.AfterSend.AfterSend, place.{InPoll.InPoll, Place.Place}}, Move.{move_act, move_look_at, move_poll, move_wake}, Poll.{Sight, Sight.{Asks, HearsRequest, HearsTimer, Here}, act, act_asked, act_by, after_pend, await, drop_newest, heard_by, pend, requeued_if, resume, sight_of, sight_of_act, sleep_for}, Send.{next_task, with_newcomer}, State.{Desk, Moved, Things, does, goes, gate_of, queue_of}, Told.{has_number, lets_go_all}, Thing.{aside, set_alarms, with_answers}}
+use Rattle.exec_moves.specs.{declared.{handing.AfterSend.AfterSend, place.{InPoll.InPoll, Place.Place}}, Move.{move_act, move_look_at, move_poll, move_wake}, Poll.{Sight, Sight.{Asks, HearsRequest, HearsTimer, Here}, act, act_asked, act_by, after_pend, heard_by, pend, requeued_if, resume, sight_of, sight_of_act}, Send.{next_task, with_newcomer}, State.{Desk, Moved, Things, does, goes, queue_of}, Told.{has_number, lets_go_all}, Thing.{aside, set_alarms, with_answers}}
 use Rattle.exec_moves.specs.declared.handing.AfterCancels.TheVariants as cancels
 use Rattle.exec_moves.specs.declared.handing.AfterPush.TheVariants as push
 use Rattle.exec_moves.specs.declared.handing.AfterSend.TheVariants as send
@@ -17,7 +16,7 @@ use Rattle.exec_moves.specs.declared.place.InPoll.TheVariants as poll
 use Rattle.exec_moves.specs.declared.place.Place.TheVariants as at
 use Rattle.exec_rest.proofs.Asides.{newcomer}
 use Rattle.exec_settled.specs.Permits.{is_past}
-use Rattle.exec_settled.proofs.{Hands.{JoinsGate, LeavesGate}, HandsEarly.{IsEarly, early_after_end, early_after_poll, early_after_spawn, early_cancels_left, early_desk_if, early_if, early_next_pick, early_to_queue}, HandsMovesA.mild_if, HandsMovesB.{posts, posts_root}, HandsPlain.{HandsBy, Plain, mild_over, plain, plain_hands, plain_if, some_none}}
+use Rattle.exec_settled.proofs.{HandsEarly.{IsEarly, early_after_spawn, early_cancels_left, early_desk_if, early_if, early_next_pick, early_to_queue}, HandsMovesA.mild_if, HandsMovesB.{posts, posts_root}, HandsPlain.{HandsBy, Plain, mild_over, plain, plain_hands, plain_if, some_none}}
 
 module _ (c : Configuration) (i : ℕ) (me : Books) (s : Common) (d : Desk) (x : Things) (t : ℕ) (from : InPoll) (here : (f : ℕ) → is_past f d.place ≡ false) where
   abbrev p : Place
@@ -53,13 +52,7 @@ module _ (c : Configuration) (i : ℕ) (me : Books) (s : Common) (d : Desk) (x :
   resumes it waiting.Yielded h = rw h (pends (record it { waiting = waiting.Yielded }))
 
   hears : (r : ℕ) (b : Bool) (ph : RequestPhase) → Plain i p x (with_answers x (heard_by t r d x.answers b ph))
-  hears r true (phase.Resolved outcome) = plain i p x _ refl (λ j h. h) (λ f h. refl) refl
-  hears r true phase.Gated = plain i p x _ refl (λ j h. h) (λ f h. refl) refl
-  hears r true phase.Queued = plain i p x _ refl (λ j h. h) (λ f h. refl) refl
-  hears r true phase.Staged = plain i p x _ refl (λ j h. h) (λ f h. refl) refl
-  hears r true phase.Flying = plain i p x _ refl (λ j h. h) (λ f h. refl) refl
-  hears r true (phase.Landed n) = plain i p x _ refl (λ j h. h) (λ f h. refl) refl
-  hears r false ph = plain i p x _ refl (λ j h. h) (λ f h. refl) refl
+  hears = grind arith
 
   looks_at : (b : AfterSend) (m : Moved Things) → Plain i p x m → (y : Sight) → Plain i p x (move_look_at c s d x t b m y)
   looks_at b m one Here = one
@@ -67,35 +60,8 @@ module _ (c : Configuration) (i : ℕ) (me : Books) (s : Common) (d : Desk) (x :
   looks_at b m one (HearsRequest r) = hears r (has_number r x.answers) (request_of s r).phase
   looks_at b m one (HearsTimer z) = plain_if i p x (set_alarms x) (has_number z x.alarms) _ _ (plain i p x _ refl (λ j h. h) (λ f h. refl) refl) (plain i p x _ refl (λ j h. h) (λ f h. refl) refl)
 
-  -- ACTS
-  awaits_by : (it : Task) (r : ℕ) (ph : RequestPhase) → (request_of s r).phase ≡ ph → Plain i p x (aside x (await t s d it (Some r)))
-  awaits_by it r (phase.Resolved outcome) is = rw is (plain i p x _ refl (λ j h. h) (λ f h. refl) refl)
-  awaits_by it r phase.Gated is = rw is (plain i p x _ refl (λ j h. h) (λ f h. refl) refl)
-  awaits_by it r phase.Queued is = rw is (plain i p x _ refl (λ j h. h) (λ f h. refl) refl)
-  awaits_by it r phase.Staged is = rw is (plain i p x _ refl (λ j h. h) (λ f h. refl) refl)
-  awaits_by it r phase.Flying is = rw is (plain i p x _ refl (λ j h. h) (λ f h. refl) refl)
-  awaits_by it r (phase.Landed n) is = rw is (plain i p x _ refl (λ j h. h) (λ f h. refl) refl)
-
-  awaits_newest : (it : Task) (held : Option ℕ) → Plain i p x (aside x (await t s d it held))
-  awaits_newest it None = plain i p x _ refl (λ j h. h) (λ f h. refl) refl
-  awaits_newest it (Some r) = awaits_by it r _ refl
-
-  drops_newest : (it : Task) (held : Option ℕ) → Plain i p x (aside x (drop_newest t s d it held))
-  drops_newest it None = plain i p x _ refl (λ j h. h) (λ f h. here f) refl
-  drops_newest it (Some r) = plain i p x _ refl (λ j h. h) (λ f h. refl) refl
-
-  sleeps_for : (it : Task) (until : Option ℕ) → Plain i p x (aside x (sleep_for t s d it until))
-  sleeps_for it None = plain i p x _ refl (λ j h. h) (λ f h. refl) refl
-  sleeps_for it (Some until) = plain i p x _ refl (λ j h. h) (λ f h. refl) refl
-
   acts_by : (it : Task) (w : ScriptWord) → Plain i p x (aside x (act_by i t me s d it w))
-  acts_by it script.Await = awaits_newest it (newest_held it)
-  acts_by it script.Drop = drops_newest it (newest_held it)
-  acts_by it (script.Sleep time) = sleeps_for it (sleep_asked me.sampled (script.Sleep time))
-  acts_by it script.Yield = plain i p x _ refl (λ j h. h) (λ f h. refl) refl
-  acts_by it (script.Fault code) = plain i p x _ refl (λ j h. h) (λ f h. early_after_end f t it.home (lets_go_all i s it d)) refl
-  acts_by it script.End = plain i p x _ refl (λ j h. h) (λ f h. early_after_end f t it.home (lets_go_all i s it d)) refl
-  acts_by it _ = plain i p x _ refl (λ j h. h) (λ f h. here f) refl
+  acts_by = grind arith
 
   acts_asked : (it : Task) (w : ScriptWord) (asked : Option Operation) → Plain i p x (aside x (act_asked i t me s d it w asked))
   acts_asked it w None = acts_by it w
@@ -124,37 +90,13 @@ module _ (c : Configuration) (i : ℕ) (me : Books) (s : Common) (d : Desk) (x :
 module _ (c : Configuration) (i : ℕ) (me : Books) (s : Common) (d : Desk) (x : Things) where
   -- the request is the last at the gate of its open
   joined : (t r : ℕ) → d.place ≡ at.Poll t (poll.JoinGate r) → HandsBy c i me s d x d (move_poll c i me s d x t (poll.JoinGate r))
-  joined t r is =
-      let m = move_poll c i me s d x t (poll.JoinGate r) in
-      record {
-        gates = λ file within. at_gate file within;
-        passing = λ file within h. absurd (some_none h (rw is refl));
-        handing = λ j h within. absurd (some_none h (rw is refl));
-        latch_out = λ j h gone. absurd (true≢false (sym h ∙ gone));
-        past = λ file k before after. absurd (true≢false (sym after));
-        over = mild_over c i me s d x m refl;
-      }
-    where
-      target : ℕ
-      target = (request_of s r).operation.target
-
-      at_gate : (file : ℕ) → file < length x.gates
-          → (let m = move_poll c i me s d x t (poll.JoinGate r) in let late = common_after c me s i m.event m.choice in (gate_of m.thing file ≡ gate_of x file) ⊎ (LeavesGate i s d x m late file ⊎ JoinsGate i s d x m late file))
-      at_gate file within =
-          elim (cases_Bool (file == target)) [
-            | inl same ↦
-                let e = eqb-true file target same in
-                inr (inr (record { task = t; request = r; place = is; target = sym e; gate = rw e (get_or-set_at x.gates target target (gate_of x target ++ r ∷ []) [] refl (rw (← e) within)) }))
-            | inr apart ↦ inl (get_or-set_other x.gates target file (gate_of x target ++ r ∷ []) [] (λ e. true≢false (sym (eq-eqb file target e) ∙ apart)))
-          ]
+  joined = grind (arith, some_none, true≢false, mild_over, cases_Bool, eqb-true, get_or-set_at, get_or-set_other, eq-eqb)
 
   pub polls : (t : ℕ) (p : InPoll) → d.place ≡ at.Poll t p → HandsBy c i me s d x d (move_poll c i me s d x t p)
   polls t p is = by p is (λ f. rw is refl)
     where
       by : (p : InPoll) → d.place ≡ at.Poll t p → ((f : ℕ) → is_past f d.place ≡ false) → HandsBy c i me s d x d (move_poll c i me s d x t p)
-      by poll.BeginPoll is here =
-          plain_hands c i me s d x (at.Poll t poll.BeginPoll) _ is refl refl
-          (plain_if i _ x (λ (u : Task). x) (is_ready (task_of s t).phase) _ _ (plain i _ x _ refl (λ j h. h) (λ f h. refl) refl) (plain i _ x _ refl (λ j h. h) (λ f h. early_after_poll f (task_of s t).home d) refl))
+      by poll.BeginPoll is here = grind arith
       by poll.Resume is here =
           plain_hands c i me s d x (at.Poll t poll.Resume) _ is refl refl
           (looks_at c i me s d x t poll.Resume here (send.Pend t) _ (resumes c i me s d x t poll.Resume here (task_of s t) _ refl) (sight_of i s (task_of s t).waiting))

@@ -1,11 +1,11 @@
 -- What the moves of a service do with gates and permits.
-use Rattle.std.proofs.Common.{◌≡◌, ℕ, suc, unwrap_or, ◌<◌, ◌==◌, Bool, true, false, List, [], ◌∷◌, ◌++◌, get_or, set, length, drop, Option, Some, None, refl, sym, ap, subst, ◌∙◌, inl, inr, if◌then◌else◌}
+use Rattle.std.proofs.Common.{◌≡◌, ℕ, suc, unwrap_or, Bool, true, false, List, [], ◌∷◌, get_or, set, Option, Some, None, refl, sym, ap, subst, ◌∙◌, inl, if◌then◌else◌, arith}
 use Rattle.std.proofs.lemmas.Bool.{true≢false, false≢true, cases_Bool, eqb-true, eq-eqb}
 use Rattle.std.proofs.lemmas.{Grind.get_or-set_at, List.{get_or-set_other, get_or-set_same}}
 use Rattle.std.specs.Prelude.{nat_lt, slice_get}
 use Rattle.exec_outcomes.specs.{declared.outcome.{OpResult.OpResult, Outcome.Outcome}, Accounts.{Account, is_durable}}
-use Rattle.exec_machine.specs.{declared.{config.Configuration.Configuration, event.Event.{Event, TheVariants.{Rouse, Serve}}, state.{Request.Request, Sleeper.Sleeper}}, After.common_after, Requests.{account_of_open, granted, outcome_given, outcome_shown, reaped}, Tests.{is_applied, is_awake, is_gated, is_of_file, is_resolved}, World.{Common, Own as Books, no_request, request_of, seat_of, sleeper_of}}
-use Rattle.exec_moves.specs.{declared.place.{AfterPermit.AfterPermit, AfterService.AfterService, InService.InService, Place.Place, Reaping.Reaping, Service.Service}, Move.move_service, Serve.{after_passing, after_permit, after_reap, after_service, back_from_reap, end_service, enter_last, first_to_fire, left_by_first, reap, result_in, worker_of}, State.{Desk, Moved, Things, gate_of, word_of}, Thing.{aside, ring_of, with_ring}, Told.{one_completion, told_of_fire, without_timer}}
+use Rattle.exec_machine.specs.{declared.{config.Configuration.Configuration, event.Event.{Event, TheVariants.{Rouse, Serve}}, state.{Request.Request, Sleeper.Sleeper}}, After.common_after, Requests.{granted, outcome_shown, reaped}, Tests.{is_awake, is_gated, is_of_file, is_resolved}, World.{Common, Own as Books, no_request, request_of, seat_of, sleeper_of}}
+use Rattle.exec_moves.specs.{declared.place.{AfterPermit.AfterPermit, InService.InService, Place.Place, Reaping.Reaping, Service.Service}, Move.move_service, Serve.{after_passing, after_permit, after_reap, after_service, back_from_reap, end_service, enter_last, first_to_fire, reap}, State.{Desk, Moved, Things, gate_of, word_of}, Thing.{aside, ring_of, with_ring}, Told.{told_of_fire}}
 use Rattle.exec_moves.specs.{Submit.{Due, Due.{AtGate, Enrols, Expires}, after_grant, first_due, granted_at, next_gate, submits}, Move.move_submit, Thing.set_gate, State.does}
 use Rattle.exec_machine.specs.{declared.event.Event.TheVariants.Grant, Choice.Choice.Plain as Open, Deadlines.{enrolled, expired, fires_at, outcome_at_enrol, outcome_at_expiry}}
 use Rattle.exec_rest.proofs.Asides.{put_same}
@@ -14,7 +14,7 @@ use Rattle.exec_moves.specs.declared.place.AfterService.TheVariants as back
 use Rattle.exec_moves.specs.declared.place.InService.TheVariants as step
 use Rattle.exec_moves.specs.declared.place.Place.TheVariants as at
 use Rattle.exec_moves.specs.declared.place.Reaping.TheVariants as reaping
-use Rattle.exec_settled.specs.{Given.passes_at, Permits.{hands_to, is_past, is_past_in, is_past_permit, is_past_reaping}}
+use Rattle.exec_settled.specs.{Given.passes_at, Permits.{is_past, is_past_in, is_past_permit, is_past_reaping}}
 use Rattle.exec_settled.proofs.{HandsEvents.{durable_of_file, is_mild}, HandsGate.{first_is_due, gated_there, granted_first, granted_is_first, opened, over_one, some_gate, stays_early, this_gate, undue}, HandsMovesA.mild_if, HandsPlain.{HandsBy, Kept, Plain, kept_out, mild_over, plain, plain_hands, same_gates, some_none}}
 
 -- a request of a file has no deadline
@@ -27,10 +27,7 @@ AreOfGate s x = (file k : ℕ) → slice_get (gate_of x file) 0 ≡ Some k → (
 
 -- where the parts of a service lead
 pub past_permit : (file : ℕ) (b : AfterPermit) → is_past_permit file b ≡ false → is_past_in file (after_permit b) ≡ false
-past_permit file (permit.Reap r) h = h
-past_permit file (permit.Reaped reaping.First) h = refl
-past_permit file (permit.Reaped reaping.Last) h = absurd (true≢false h)
-past_permit file (permit.Submit gate) h = h
+past_permit = grind arith
 
 past_back : (file : ℕ) (r : Reaping) (later : List ℕ) → is_past_reaping r ≡ false → is_past_permit file (back_from_reap r later) ≡ false
 past_back file r [] h = h
@@ -55,11 +52,7 @@ passes_reaped v n account it None b durable over = absurd (false≢true over)
 passes_reaped v n account it (Some outcome) b durable over = rw durable refl
 
 pub fired_place : (z : ℕ) (it : Sleeper) (e : Desk) → (told_of_fire z it e).place ≡ e.place
-fired_place z it e = by (is_applied it.forwarding)
-  where
-    by : (b : Bool) → (if b then one_completion z (without_timer z e) else record (without_timer z e) { wakes = e.wakes ++ it.task ∷ [] }).place ≡ e.place
-    by true = refl
-    by false = refl
+fired_place = grind arith
 
 module _ (c : Configuration) (i : ℕ) (me : Books) (s : Common) (d : Desk) (x : Things) (v : Service) where
   abbrev inside : InService → Place
@@ -75,30 +68,7 @@ module _ (c : Configuration) (i : ℕ) (me : Books) (s : Common) (d : Desk) (x :
 
   -- what has landed first is judged
   judges : (r : Reaping) (q : ℕ) (later : List ℕ) → HandsBy c i me s d x (on (step.Reap r)) (with_ring i x (reap i v r s (on (step.Reap r)) (record (ring_of s x i) { landed = q ∷ later })))
-  judges r q later =
-      record {
-        gates = λ file within. inl refl;
-        passing = λ file within h. absurd (some_none h refl);
-        handing = λ j h within. absurd (some_none h refl);
-        latch_out = λ j h gone. absurd (true≢false (sym h ∙ gone));
-        past = λ file k before after. absurd (true≢false (sym after ∙ stays_early file v (step.Reap r) _ (λ h. past_after_reap file it given _ (past_back file r later h)) before));
-        over = λ k going over durable.
-            let one = over_one s.requests q k (reaped n (outcome_shown account it.operation.kind given) it) going over in
-            subst (λ (o : ℕ). passes_at (at.Service (after_reap it given (back_from_reap r later)) v) ≡ Some (request_of s o).operation.target) (sym one.0)
-            (passes_reaped v n account it given (back_from_reap r later) (subst (λ (o : ℕ). is_durable (request_of s o).operation.kind ≡ true) one.0 durable) one.1);
-      }
-    where
-      it : Request
-      it = request_of s q
-
-      n : OpResult
-      n = result_in it.phase
-
-      given : Option Outcome
-      given = outcome_given it n
-
-      account : Account
-      account = account_of_open s it
+  judges = grind (arith, some_none, true≢false, stays_early, past_after_reap, past_back, over_one, passes_reaped)
 
   pub reaps : (r : Reaping) (l : List ℕ) → HandsBy c i me s d x (on (step.Reap r)) (with_ring i x (reap i v r s (on (step.Reap r)) (record (ring_of s x i) { landed = l })))
   reaps r [] = plain_hands c i me s (on (step.Reap r)) x (inside (step.Reap r)) _ refl refl refl (leads (step.Reap r) _ _ refl refl (λ j h. h) (λ file h. past_permit file (permit.Reaped r) h) refl)
@@ -106,27 +76,7 @@ module _ (c : Configuration) (i : ℕ) (me : Books) (s : Common) (d : Desk) (x :
 
   -- who stands first at the gate leaves it, and the worker of the next is signalled
   pub passes_on : (file : ℕ) (b : AfterPermit) → HandsBy c i me s d x (on (step.PassPermit file b)) (move_service c i me s (on (step.PassPermit file b)) x (step.PassPermit file b) v)
-  passes_on file b =
-      record {
-        gates = λ other within. elim (cases_Bool (other == file)) [
-          | inl same ↦ let e = eqb-true other file same in inr (inl (ap Some (sym e), left other e within, λ k first. signals k (subst (λ f. slice_get (drop 1 (gate_of x f)) 0 ≡ Some k) e first)))
-          | inr apart ↦ inl (get_or-set_other x.gates file other (left_by_first (gate_of x file)) [] (λ e. true≢false (sym (eq-eqb other file e) ∙ apart)))
-        ];
-        passing = λ other within h. left other (sym (same_number h)) within;
-        handing = λ j h within. absurd (some_none h refl);
-        latch_out = λ j h gone. absurd (true≢false (sym h ∙ gone));
-        past = λ other k before after. absurd (true≢false (sym after ∙ stays_early other v (step.PassPermit file b) _ (λ h. past_passing other _ b h) before));
-        over = mild_over c i me s (on (step.PassPermit file b)) x (move_service c i me s (on (step.PassPermit file b)) x (step.PassPermit file b) v) refl;
-      }
-    where
-      same_number : {m n : ℕ} → Some m ≡ Some n → m ≡ n
-      same_number h = cc
-
-      left : (other : ℕ) → other ≡ file → other < length x.gates → get_or (set x.gates file (left_by_first (gate_of x file))) other [] ≡ drop 1 (gate_of x other)
-      left other e within = rw e (get_or-set_same x.gates file (left_by_first (gate_of x file)) [] (rw (← e) within))
-
-      signals : (k : ℕ) → slice_get (drop 1 (gate_of x file)) 0 ≡ Some k → hands_to (inside (after_passing (worker_of s (slice_get (left_by_first (gate_of x file)) 0)) b)) ≡ Some (request_of s k).worker
-      signals k first = rw first refl
+  passes_on = grind (arith, cases_Bool, eqb-true, get_or-set_other, true≢false, eq-eqb, some_none, stays_early, past_passing, mild_over, get_or-set_same)
 
   pub raises_one : (ring : Bool) (j : ℕ) (b : AfterPermit) → Plain i (inside (step.Raise ring j b)) x (move_service c i me s (on (step.Raise ring j b)) x (step.Raise ring j b) v)
   raises_one ring j b =
@@ -138,12 +88,7 @@ module _ (c : Configuration) (i : ℕ) (me : Books) (s : Common) (d : Desk) (x :
 
   -- after the service of a turn it goes on to its mailbox
   ended : (file : ℕ) (e : Desk) → is_past file (inside step.EndService) ≡ false → is_past file (after_service v.back e) ≡ false
-  ended file e h = by v.defer v.back h
-    where
-      by : (defer : Bool) (b : AfterService) → is_past file (at.Service step.EndService (record { defer = defer; back = b })) ≡ false → is_past file (after_service b e) ≡ false
-      by defer back.Mail h = absurd (true≢false h)
-      by defer back.Begin h = refl
-      by defer back.Finish h = refl
+  ended = grind arith
 
   pub ends : (o : Option ℕ) → first_to_fire i me s (on step.EndService) ≡ o → Plain i (inside step.EndService) x (aside x (end_service i v me s (on step.EndService)))
   ends None none = rw none (plain i _ x _ refl (λ j h. h) (λ file h. ended file (on step.EndService) h) refl)

@@ -1,11 +1,11 @@
 -- All moves of a service.
-use Rattle.std.proofs.Common.{◌≡◌, ℕ, suc, arith, Bool, true, false, ◌&&◌, ◌||◌, Option, Some, None, refl, sym, ap, subst, if◌then◌else◌}
+use Rattle.std.proofs.Common.{◌≡◌, ℕ, suc, arith, Bool, true, false, Option, Some, None, refl, sym, ap, subst}
 use Rattle.std.proofs.lemmas.Bool.{false≢true, lt-leb}
 use Rattle.std.proofs.lemmas.List.{get_or-set_same}
-use Rattle.std.specs.Prelude.{not, nat_lt, slice_get}
+use Rattle.std.specs.Prelude.{slice_get}
 use Rattle.exec_words.specs.Word.{asks_signal}
-use Rattle.exec_machine.specs.{declared.config.Configuration.Configuration, Ranges.ring_size, Tests.is_empty, World.{Common, Own as Books, seat_of}}
-use Rattle.exec_moves.specs.{declared.place.{AfterPermit.AfterPermit, InService.InService, Place.Place, Service.Service}, Callback.is_full, Claim.latched, Load.may_stage, Move.{move_service, move_submit}, Serve.{after_latch, first_to_fire, unlatched}, State.{Desk, Things, gate_of, no_word, word_of}, Submit.{Due, Due.{AtGate, Cancels, Ends, Enrols, Expires, Flushes, Stages}, first_due, granted_at, next_gate, or_else, stage_next, staging_due}, Thing.{ring_of, with_ring}}
+use Rattle.exec_machine.specs.{declared.config.Configuration.Configuration, World.{Common, Own as Books, seat_of}}
+use Rattle.exec_moves.specs.{declared.place.{AfterPermit.AfterPermit, InService.InService, Place.Place, Service.Service}, Claim.latched, Move.{move_service, move_submit}, Serve.{after_latch, first_to_fire, unlatched}, State.{Desk, Things, gate_of, no_word, word_of}, Submit.{Due, Due.{AtGate, Cancels, Ends, Enrols, Expires, Flushes, Stages}, first_due, granted_at, next_gate, or_else, stage_next, staging_due}, Thing.{ring_of, with_ring}}
 use Rattle.exec_moves.specs.declared.place.InService.TheVariants as step
 use Rattle.exec_moves.specs.declared.place.Place.TheVariants as at
 use Rattle.exec_moves.specs.declared.place.Reaping.TheVariants as reaping
@@ -18,19 +18,8 @@ is_staging (Enrols r) = false
 is_staging (AtGate file) = false
 is_staging _ = true
 
-staging_or : (o : Option ℕ) (due : ℕ → Due) (later : Due) → ((r : ℕ) → is_staging (due r) ≡ true) → is_staging later ≡ true → is_staging (or_else o due later) ≡ true
-staging_or None due later one other = other
-staging_or (Some r) due later one other = one r
-
-staging_if : (b : Bool) (p q : Due) → is_staging p ≡ true → is_staging q ≡ true → is_staging (if b then p else q) ≡ true
-staging_if true p q one other = one
-staging_if false p q one other = other
-
 is_to_stage : (c : Configuration) (me : Books) (d : Desk) → is_staging (staging_due c me d) ≡ true
-is_to_stage c me d =
-    staging_if (is_full (ring_size c) d && (not (is_empty me.cancels) || may_stage c me || not d.polled)) _ _ refl
-    (staging_or (slice_get me.cancels 0) Cancels _ (λ r. refl)
-    (staging_if (nat_lt me.in_flight (ring_size c)) _ _ (staging_or (slice_get me.ready 0) Stages Ends (λ r. refl) refl) refl))
+is_to_stage = grind arith
 
 module _ (c : Configuration) (i : ℕ) (me : Books) (s : Common) (d : Desk) (x : Things) (v : Service) where
   abbrev inside : InService → Place

@@ -1,21 +1,16 @@
 -- A step of a caller, the clock, the kernel or a peer leaves no permit with who sleeps: it leaves gates, opens and the places of workers, and
 -- what waits for a permit or is over; and it takes no latch out.
-use Rattle.std.proofs.Common.{◌≡◌, ℕ, zero, suc, Bool, true, false, ◌&&◌, List, [], ◌∷◌, Option, Some, None, get_or, set, refl, sym, ap, ◌∙◌, subst, inl, inr}
-use Rattle.std.proofs.lemmas.Bool.{false≢true, cases_Bool, or_cases, or_left, or_right}
-use Rattle.std.specs.Prelude.{not, slice_get}
+use Rattle.std.proofs.Common.{◌≡◌, ℕ, zero, suc, Bool, true, false, List, [], ◌∷◌, Option, Some, None, get_or, set, refl, sym, subst, arith}
+use Rattle.std.proofs.lemmas.Bool.{false≢true}
 use Rattle.exec_outcomes.specs.declared.outcome.OpResult.{OpResult}
-use Rattle.exec_machine.specs.{declared.{config.Configuration.Configuration, event.Event.Event, state.{MailMessage.MailMessage, Request.Request}, step.Action.Action}, Callers.{after_going_on, after_spawn_by_call, after_wake_by_call}, Choice.Choice, Mail.{after_post, is_left_out, is_root_message}, Tests.{is_gated, is_open}, World.{Common, no_open, no_request, open_of, request_of, seat_of, task_of}}
+use Rattle.exec_machine.specs.{declared.{config.Configuration.Configuration, event.Event.Event, state.{Request.Request}, step.Action.Action}, Callers.{after_going_on, after_wake_by_call}, Choice.Choice, Tests.{is_gated}, World.{Common, no_request, request_of, seat_of, task_of}}
 use Rattle.exec_machine.specs.declared.event.Event.TheVariants as event
 use Rattle.exec_machine.specs.declared.state.RequestPhase.TheVariants as phase
 use Rattle.exec_machine.specs.declared.step.Action.TheVariants as action
-use Rattle.exec_moves.specs.{declared.handing.{CallPlace.CallPlace}, Call.{CallDesk, no_call}, MoveOfCaller.{call_on, call_spawn, call_wake}, Plays.{Playing, by_action, caller_of}, State.{Things, word_of}}
-use Rattle.exec_moves.specs.declared.handing.CallPlace.TheVariants as call
-use Rattle.exec_moves.specs.declared.handing.InGlobal.TheVariants as global
-use Rattle.exec_moves.specs.declared.handing.InSignal.TheVariants as signals
+use Rattle.exec_moves.specs.{declared.handing.{CallPlace.CallPlace}, Call.{CallDesk, no_call}, MoveOfCaller.{call_on, call_wake}, Plays.{Playing, by_action, caller_of}, State.{Things, word_of}}
 use Rattle.exec_rest.specs.Rested.{IsLaidOut, is_latched, place_at}
-use Rattle.exec_rest.proofs.{CallMoves.{call_heeds, wake_heeds}, CallSeats.{going_seated, spawn_begun, wake_begun}, Others.{beside, is_other, latch_then}}
-use Rattle.exec_settled.specs.{Given.{gives_up, passes_at}, Permits.{IsPassing, IsPermitted, hands_to, is_past}}
-use Rattle.exec_settled.proofs.PermittedSteps.{IsTold}
+use Rattle.exec_rest.proofs.{CallMoves.{call_heeds, wake_heeds}, CallSeats.{going_seated, wake_begun}, Others.{beside, is_other, latch_then}}
+use Rattle.exec_settled.specs.{Given.{gives_up}, Permits.{IsPermitted}}
 
 -- ONE REQUEST
 
@@ -46,29 +41,8 @@ record LeftAlone (c : Configuration) (x y : Playing) : Type 0 where
   pub phases : (j : ℕ) → (seat_of y.world.common j).phase ≡ (seat_of x.world.common j).phase
 
 module _ (c : Configuration) (x y : Playing) (alone : LeftAlone c x y) where
-  passing_still : (file : ℕ) → IsPassing c x file → IsPassing c y file
-  passing_still file (j, h) = (j, ap passes_at (alone.places j) ∙ h)
-
-  told_still : (file w : ℕ) → IsTold c x file w → IsTold c y file w
-  told_still file w (inl passing) = inl (passing_still file passing)
-  told_still file w (inr (inl (j, h))) = inr (inl (j, ap hands_to (alone.places j) ∙ h))
-  told_still file w (inr (inr h)) = elim (or_cases (is_latched c x w) (not (is_past file (place_at c x w))) h) [
-    | inl latch ↦ inr (inr (or_left (is_latched c y w) (not (is_past file (place_at c y w))) (alone.latches w latch)))
-    | inr ahead ↦ inr (inr (or_right (is_latched c y w) (not (is_past file (place_at c y w))) (ap (λ p. not (is_past file p)) (alone.places w) ∙ ahead)))
-  ]
-
   permitted_still : IsPermitted c x → IsPermitted c y
-  permitted_still before =
-      record {
-        passed = λ file k first gives. passing_still file (before.passed file k (sym (ap (λ gs. slice_get (get_or gs file []) 0) alone.gates) ∙ first) ((alone.requests k).gives gives));
-        granted = λ k gated holds going.
-            let it = alone.requests k in
-            let there = ap (λ os. (get_or os (request_of y.world.common k).operation.target no_open).holder) alone.opens in
-            let was = before.granted k (it.gated gated) (ap (λ f. (open_of x.world.common f).holder) (sym it.target) ∙ sym there ∙ holds)
-            (ap (λ w. is_open (seat_of x.world.common w).phase) (sym it.worker) ∙ sym (ap is_open (alone.phases (request_of y.world.common k).worker)) ∙ going) in
-            subst (λ w. IsTold c y (request_of y.world.common k).operation.target w) (sym it.worker)
-            (subst (λ f. IsTold c y f (request_of x.world.common k).worker) (sym it.target) (told_still (request_of x.world.common k).operation.target (request_of x.world.common k).worker was));
-      }
+  permitted_still = grind arith
 
 -- CALLERS: what their events leave of requests and opens
 
@@ -76,37 +50,15 @@ record Same (s t : Common) : Type 0 where
   pub requests : t.requests ≡ s.requests
   pub opens : t.opens ≡ s.opens
 
-same : {s : Common} → Same s s
-same = record { requests = refl; opens = refl }
-
-post_same : (s : Common) (to : ℕ) (m : MailMessage) (choice : Choice) → Same s (after_post s to m choice)
-post_same s to m choice = elim (cases_Bool (is_root_message m && is_left_out choice)) [ inl out ↦ rw out same | inr in_it ↦ rw in_it (record { requests = refl; opens = refl }) ]
-
-spawn_same : (s : Common) (k : ℕ) (e : Event) → Same s (after_spawn_by_call s k e)
-spawn_same s k (event.Spawn t script) = record { requests = refl; opens = refl }
-spawn_same s k _ = same
-
 wake_same : (s : Common) (t : ℕ) (e : Event) (choice : Choice) → Same s (after_wake_by_call s t e choice)
-wake_same s t (event.Wake other) choice = record { requests = refl; opens = refl }
-wake_same s t (event.Send to m) choice = post_same s to m choice
-wake_same s t _ choice = same
+wake_same = grind arith
 
 going_same : (s : Common) (j : ℕ) (e : Event) → Same s (after_going_on s j e)
-going_same s j (event.Rouse other) = record { requests = refl; opens = refl }
-going_same s j event.Return = record { requests = refl; opens = refl }
-going_same s j _ = same
+going_same = grind arith
 
 -- no call comes to a gate
 call_gates : (s : Common) (d : CallDesk) (x : Things) (p : CallPlace) → (call_on s d x p).thing.gates ≡ x.gates
-call_gates s d x call.Nothing = refl
-call_gates s d x (call.Global global.Append) = refl
-call_gates s d x (call.Global global.LoadGlobalSet) = refl
-call_gates s d x (call.Global (global.AddGlobalCount set)) = refl
-call_gates s d x (call.Global global.ReturnGlobalCount) = refl
-call_gates s d x (call.ClaimWorker set) = refl
-call_gates s d x (call.Signal signals.SetLatch j) = refl
-call_gates s d x (call.Signal (signals.Raise ring) j) = refl
-call_gates s d x call.Return = refl
+call_gates = grind arith
 
 wake_gates : (s : Common) (d : CallDesk) (x : Things) (t : ℕ) (home : Option ℕ) → (call_wake s d x t home).thing.gates ≡ x.gates
 wake_gates s d x t None = refl
@@ -132,16 +84,7 @@ module _ (c : Configuration) (x : Playing) (laid : IsLaidOut c x) where
 
   by_event : (a : Action) → is_other a ≡ true → (by_action c x a).next.things.gates ≡ x.things.gates → (by_action c x a).next.world.common.opens ≡ s.opens
       → ((k : ℕ) → Still (request_of s k) (request_of (by_action c x a).next.world.common k)) → LeftAlone c x (by_action c x a).next
-  by_event a other gates opens requests =
-      let it = beside c x laid a other in
-      record {
-        gates = gates;
-        places = λ j. (it.workers j).place;
-        latches = λ j h. latch_then c x (by_action c x a).next it j ∙ h;
-        opens = opens;
-        requests = requests;
-        phases = λ j. (it.workers j).phase;
-      }
+  by_event = grind (arith, beside, latch_then)
 
   -- a step that is no worker's
   abbrev pub is_aside : Action → Bool
@@ -150,10 +93,7 @@ module _ (c : Configuration) (x : Playing) (laid : IsLaidOut c x) where
 
   alone : (a : Action) → is_aside a ≡ true → LeftAlone c x (by_action c x a).next
   alone (action.Work i) aside = absurd (false≢true aside)
-  alone (action.Spawn j k) aside =
-      let m = call_spawn c s (caller_of x j) x.things k in
-      let it = spawn_same s k m.event in
-      record { gates = refl; places = λ j. refl; latches = λ j h. h; opens = it.opens; requests = of_same it.requests; phases = (spawn_begun s k).seats.phase }
+  alone (action.Spawn j k) aside = grind arith
   alone (action.Wake j t) aside =
       let home = (task_of s t).home in
       let d = caller_of x j in

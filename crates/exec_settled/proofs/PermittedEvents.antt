@@ -1,14 +1,13 @@
 -- What an event of a worker leaves of each request, seat and open, as far as permits go.
-use Rattle.std.proofs.Common.{◌≡◌, ℕ, zero, suc, ◌<◌, ◌==◌, ◌&&◌, Bool, true, false, List, [], ◌∷◌, length, map, Option, Some, None, refl, sym, ap, ◌∙◌, subst, inl, inr, get_or, set, if◌then◌else◌}
+use Rattle.std.proofs.Common.{◌≡◌, ℕ, zero, suc, ◌<◌, ◌==◌, Bool, true, false, List, [], ◌∷◌, length, map, Option, Some, None, refl, sym, ap, ◌∙◌, subst, inl, inr, get_or, set, if◌then◌else◌, arith}
 use Rattle.std.proofs.lemmas.Bool.{cases_Bool, false≢true}
 use Rattle.std.proofs.lemmas.List.{get_or_append_left, length-set}
 use Rattle.exec_outcomes.specs.declared.outcome.Kind.TheVariants as kind
 use Rattle.exec_outcomes.specs.{declared.outcome.{OpResult.OpResult, Outcome.Outcome}, Outcomes.refuses_hint}
 use Rattle.std.specs.Prelude.{drop}
 use Rattle.exec_machine.specs.declared.{config.Configuration.Configuration, event.Event.Event, state.{MailMessage.MailMessage, Next.Next, Operation.Operation, Request.Request}}
-use Rattle.exec_machine.specs.{After.{common_after}, Choice.{Choice, Payer, Choice.{Plain, Passes, Pays, Posts}, Payer.{ByRequest, BySleeper, ByAct, ByCall, ByStop}}, Closing.{after_clear, after_next, ends_by_clear, with_cleared, with_closed_mailbox}, Deadlines.{enrolled, expired}, Mail.{after_apply, after_message, after_post, after_sending, is_left_out, is_root_message, posted}, Requests.{asked_now, common_after_refusal, dropped, ends_by_drop, flown, granted, is_cancelled_by_drop, judged_of, opens_after_end, reaped}, Same.same_kind, Tasks.{after_over, after_payment, after_pend, after_word, new_seat, pended_phase, requests_after_drops}, Tests.{is_gated, is_of_file, is_open, is_staged, set_task}, World.{Common, Own as Books, Seat, no_request, no_seat, request_of, seat_of, task_of}}
+use Rattle.exec_machine.specs.{After.{common_after}, Choice.{Choice, Payer, Choice.{Plain, Passes, Pays, Posts}}, Closing.{after_clear, after_next, ends_by_clear, with_cleared}, Deadlines.{enrolled, expired}, Mail.{after_apply, after_message, after_post, after_sending}, Requests.{common_after_refusal, dropped, flown, granted, judged_of, opens_after_end, reaped}, Tasks.{after_over, after_payment, after_pend, after_word, pended_phase, requests_after_drops}, Tests.{is_gated, is_of_file, is_open, set_task}, World.{Common, Own as Books, Seat, no_request, no_seat, request_of, seat_of, task_of}}
 use Rattle.exec_machine.specs.declared.event.Event.TheVariants as event
-use Rattle.exec_machine.specs.declared.state.MailMessage.TheVariants as message
 use Rattle.exec_machine.specs.declared.state.Next.TheVariants as next
 use Rattle.exec_machine.specs.declared.state.WorkerPhase.TheVariants as worker
 
@@ -35,12 +34,7 @@ ungated : {x y : Request} → y.worker ≡ x.worker → y.operation.target ≡ x
 ungated worker target phase = record { worker = worker; target = target; gated = λ h. absurd (false≢true (sym phase ∙ h)) }
 
 dropped_left : (r : Request) → Left r (dropped r)
-dropped_left r = by (ends_by_drop r) refl (is_cancelled_by_drop r) refl
-  where
-    by : (ends : Bool) → ends_by_drop r ≡ ends → (cancels : Bool) → is_cancelled_by_drop r ≡ cancels → Left r (dropped r)
-    by true e cancels f = rw e (ungated refl refl refl)
-    by false e true f = rw (e, f) (phased refl refl refl)
-    by false e false f = rw (e, f) (phased refl refl refl)
+dropped_left = grind arith
 
 granted_left : (outcome : Option Outcome) (r : Request) → Left r (granted outcome r)
 granted_left None r = ungated refl refl refl
@@ -59,11 +53,7 @@ expired_left None r = phased refl refl refl
 expired_left (Some outcome) r = ungated refl refl refl
 
 flown_left : (i : ℕ) (r : Request) → Left r (flown i r)
-flown_left i r = by ((r.worker == i) && is_staged r.phase) refl
-  where
-    by : (b : Bool) → ((r.worker == i) && is_staged r.phase) ≡ b → Left r (flown i r)
-    by true h = rw h (ungated refl refl refl)
-    by false h = rw h as_it_was
+flown_left = grind arith
 
 -- ALL REQUESTS
 
@@ -148,46 +138,22 @@ word_stays s None = same refl refl refl
 word_stays s (Some t) = same refl refl refl
 
 next_stays : (s : Common) (i : ℕ) (n : Next) → Stays s (after_next s i n)
-next_stays s i next.Free = same refl refl refl
-next_stays s i (next.Joins r) = same refl refl (length-set s.opens (request_of s r).operation.target _)
-next_stays s i next.ClosesQueue = same refl refl refl
-next_stays s i next.ClosesMailbox = record { requests = all_same s.requests; seats = seated s i (with_closed_mailbox (seat_of s i)) (λ h. h); opens = refl }
+next_stays = grind (arith, same, length-set, all_same, seated)
 
 payment_stays : (s : Common) (polls : Option ℕ) (payer : Payer) → Stays s (after_payment s polls payer)
-payment_stays s polls (ByRequest r) = requested (one s.requests r _ (phased refl refl refl)) refl refl
-payment_stays s polls (BySleeper z) = same refl refl refl
-payment_stays s None ByAct = same refl refl refl
-payment_stays s (Some t) ByAct = same refl refl refl
-payment_stays s polls ByCall = same refl refl refl
-payment_stays s polls ByStop = same refl refl refl
+payment_stays = grind (arith, requested, one, phased, same)
 
 sending_stays : (s : Common) (polls : Option ℕ) (m : MailMessage) → Stays s (after_sending s polls m)
-sending_stays s None m = same refl refl refl
-sending_stays s (Some t) message.Root = same refl refl refl
-sending_stays s (Some t) (message.ForwardRequest r) = requested (one s.requests r _ (phased refl refl refl)) refl refl
-sending_stays s (Some t) (message.ForwardTimer z) = same refl refl refl
-sending_stays s (Some t) (message.CancelRequest r) = same refl refl refl
-sending_stays s (Some t) (message.CancelTimer z) = same refl refl refl
+sending_stays = grind (arith, same, requested, one, phased)
 
 post_stays : (s : Common) (to : ℕ) (m : MailMessage) (choice : Choice) → Stays s (after_post s to m choice)
-post_stays s to m choice = elim (cases_Bool (is_root_message m && is_left_out choice)) [
-  | inl out ↦ rw out (same refl refl refl)
-  | inr in_it ↦ rw in_it (record { requests = all_same s.requests; seats = seated s to (posted m (seat_of s to)) (λ h. h); opens = refl })
-]
+post_stays = grind (arith, cases_Bool, same, all_same, seated)
 
 message_stays : (me : Books) (s : Common) (m : MailMessage) → Stays s (after_message me s m)
-message_stays me s message.Root = same refl refl refl
-message_stays me s (message.ForwardRequest r) = requested (one s.requests r _ (phased refl refl refl)) refl refl
-message_stays me s (message.ForwardTimer z) = same refl refl refl
-message_stays me s (message.CancelRequest r) = requested (one s.requests r _ (dropped_left (request_of s r))) refl refl
-message_stays me s (message.CancelTimer z) = same refl refl refl
+message_stays = grind (arith, same, requested, one, phased, dropped_left)
 
 message_seats : (me : Books) (s : Common) (m : MailMessage) → (after_message me s m).seats ≡ s.seats
-message_seats me s message.Root = refl
-message_seats me s (message.ForwardRequest r) = refl
-message_seats me s (message.ForwardTimer z) = refl
-message_seats me s (message.CancelRequest r) = refl
-message_seats me s (message.CancelTimer z) = refl
+message_seats = grind arith
 
 apply_stays : (me : Books) (s : Common) (i : ℕ) (m : MailMessage) → Stays s (after_apply me s i m)
 apply_stays me s i m =
@@ -246,12 +212,7 @@ module _ (c : Configuration) (me : Books) (s : Common) (i : ℕ) where
   stays (event.Stage r) choice none = requested (one s.requests r _ (ungated refl refl refl)) refl refl
   stays event.Enter choice none = requested (all_flown i s.requests) refl refl
   stays event.Busy choice none = record { requests = all_same s.requests; seats = seated s i (record (seat_of s i) { busy = false }) (λ h. h); opens = refl }
-  stays (event.Reap r n outcome) choice none =
-      record {
-        requests = one s.requests r _ (reaped_left n outcome (request_of s r));
-        seats = seated s i (record (seat_of s i) { landed = drop 1 (seat_of s i).landed }) (λ h. h);
-        opens = opens_end (request_of s r).operation _ (common_after_refusal s (request_of s r) n) ∙ refusal_opens s (request_of s r) n;
-      }
+  stays (event.Reap r n outcome) choice none = grind (arith, one, reaped_left, seated, opens_end, refusal_opens)
   stays (event.Expire r outcome) choice none = requested (one s.requests r _ (expired_left outcome (request_of s r))) refl refl
   stays (event.Cancel r) choice none = requested (one s.requests r _ (phased refl refl refl)) refl refl
   stays (event.Orphan r outcome) choice none = requested (one s.requests r _ (dropped_left (request_of s r))) refl refl
@@ -268,17 +229,6 @@ module _ (c : Configuration) (me : Books) (s : Common) (i : ℕ) where
   of_stays a = record { requests = λ k within. a.requests k; seats = λ j within. a.seats j; opens = a.opens }
 
   pub leaves : (e : Event) (choice : Choice) → Leaves s (common_after c me s i e choice)
-  leaves (event.Admit r what outcome) choice =
-      record {
-        requests = λ k within. subst (λ y. Left (request_of s k) y) (sym (get_or_append_left s.requests _ no_request k within)) as_it_was;
-        seats = λ j within h. h;
-        opens = elim (cases_Bool (same_kind (asked_now c me s).kind kind.Write)) [ inl write ↦ rw write (length-set s.opens (asked_now c me s).target _) | inr other ↦ rw other refl ];
-      }
-  leaves (event.Dedicated t j) choice =
-      let it = word_stays s me.polls in
-      record {
-        requests = λ k within. it.requests k;
-        seats = λ n within h. subst (λ (y : Seat). is_open y.phase ≡ true) (get_or_append_left s.seats (new_seat false ∷ []) no_seat n within) h;
-        opens = it.opens;
-      }
+  leaves (event.Admit r what outcome) choice = grind (arith, get_or_append_left, as_it_was, cases_Bool, length-set)
+  leaves (event.Dedicated t j) choice = grind (arith, word_stays, get_or_append_left)
   leaves e choice = of_stays (stays e choice refl)

@@ -1,23 +1,19 @@
 -- No step leaves a permit with who sleeps.
-use Rattle.std.proofs.Common.{◌≡◌, ℕ, ◌<◌, Bool, true, false, ◌&&◌, [], None, length, refl, sym, ap, ◌∙◌, subst, if◌then◌else◌, inl, inr}
-use Rattle.std.proofs.lemmas.{Bool.{true≢false, false≢true, and_parts, cases_lt}, List.get_or_past, Option.none-some}
-use Rattle.std.specs.Prelude.{not, slice_get}
-use Rattle.exec_machine.specs.{declared.{config.Configuration.Configuration, step.Action.Action}, Callers.{is_enabled, is_held}, Examples.refuses, Progress.Plan, Run.Follows, Tests.{has_ended, is_awake}, World.{Common, Own as Books, no_seat, own_of, seat_of}}
+use Rattle.std.proofs.Common.{◌≡◌, ℕ, ◌<◌, Bool, true, false, [], length, refl, sym, ap, ◌∙◌, subst, if◌then◌else◌, arith}
+use Rattle.std.proofs.lemmas.{Bool.{true≢false, false≢true, and_parts, cases_lt}, List.get_or_past}
+use Rattle.std.specs.Prelude.{not}
+use Rattle.exec_machine.specs.{declared.{config.Configuration.Configuration, step.Action.Action}, Callers.{is_enabled}, Examples.refuses, Progress.Plan, Run.Follows, World.{Common, Own as Books, own_of}}
 use Rattle.exec_machine.specs.declared.step.Action.TheVariants as action
 use Rattle.exec_moves.specs.{declared.place.{InPoll.InPoll, Place.Place}, Move.{move, move_at}, Plays.{Playing, by_action, by_step, desk_of, first_playing}, State.{Desk, Moved, Things}}
 use Rattle.exec_books.specs.Booked.{IsBooked}
 use Rattle.exec_rest.specs.AtRest.{IsPlaced}
-use Rattle.exec_rest.proofs.{First.of_equal, Frames.{desk_other, desk_own}, Heeds.Heeds, Step.heeds_at}
+use Rattle.exec_rest.proofs.{Frames.{desk_other, desk_own}, Heeds.Heeds, Step.heeds_at}
 use Rattle.exec_settled.specs.{Given.IsGiven, Permits.{IsPermitted, is_past}}
 use Rattle.exec_settled.proofs.{HandsAt.hands_at, PermittedBeside.permitted_aside, PermittedEvents.leaves, PermittedSteps.permitted_by_move}
 
 -- Nobody stands at a gate, and there is no request.
 pub first_permitted : (p : Plan) → IsPermitted p.config (first_playing p)
-first_permitted p =
-    record {
-      passed = λ file k first gives. absurd (none-some k (sym (of_equal (λ gate. slice_get gate 0 ≡ None) p.config.files file [] [] refl refl) ∙ first));
-      granted = λ k gated holds going. absurd (false≢true gated);
-    }
+first_permitted = grind arith
 
 -- who has joined a gate goes on with its act, with a service ahead
 joined_calm : (c : Configuration) (i : ℕ) (me : Books) (s : Common) (d : Desk) (x : Things) (t r file : ℕ) → d.place ≡ Place.Poll t (InPoll.JoinGate r) → is_past file (move c i me s d x).desk.place ≡ false
@@ -30,14 +26,7 @@ not_true false h = refl
 module _ (c : Configuration) (x : Playing) (placed : IsPlaced c x) (given : IsGiven c x) (booked : IsBooked x.world) (before : IsPermitted c x) where
   -- who works is there
   works : (i : ℕ) → is_enabled x.world.common (action.Work i) ≡ true → i < length x.world.common.seats
-  works i may = elim (cases_lt i (length x.world.common.seats)) [
-    | inl within ↦ within
-    | inr past ↦
-        let seat = seat_of x.world.common i in
-        let awake = and_parts (is_awake seat.rest && not (has_ended seat.phase)) (not (is_held x.world.common seat)) may in
-        let going = not_true (has_ended seat.phase) (and_parts (is_awake seat.rest) (not (has_ended seat.phase)) awake.0).1 in
-        absurd (true≢false (sym (ap (λ z. has_ended z.phase) (get_or_past x.world.common.seats i no_seat past)) ∙ going))
-  ]
+  works = grind (arith, cases_lt, and_parts, not_true, true≢false, get_or_past)
 
   by_work : (i : ℕ) → is_enabled x.world.common (action.Work i) ≡ true → IsGiven c (by_action c x (action.Work i)).next → IsPermitted c (by_action c x (action.Work i)).next
   by_work i may later =

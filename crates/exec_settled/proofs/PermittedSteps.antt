@@ -3,7 +3,7 @@ use Rattle.std.proofs.Common.{◌≡◌, ◌≢◌, ℕ, ◌<◌, ◌≤◌, Boo
 use Rattle.std.proofs.lemmas.{Bool.{true≢false, false≢true, and_parts, cases_Bool, cases_eq, cases_lt, or_cases, or_left, or_right}, List.{get_or_past, length-append}, Option.none-some}
 use Rattle.std.specs.Prelude.{◌⊎◌, drop, not, slice_get}
 use Rattle.exec_outcomes.specs.Accounts.{is_durable}
-use Rattle.exec_machine.specs.{declared.{config.Configuration.Configuration, state.RequestPhase.RequestPhase}, Tests.{is_gated, is_open, is_resolved}, World.{Common, no_request, open_of, request_of, seat_of}}
+use Rattle.exec_machine.specs.{declared.{config.Configuration.Configuration, state.RequestPhase.RequestPhase}, Tests.{is_gated, is_open, is_resolved}, World.{Common, open_of, request_of, seat_of}}
 use Rattle.exec_machine.specs.declared.state.RequestPhase.TheVariants as phase
 use Rattle.exec_moves.specs.{declared.place.{InPoll.InPoll, Place.Place}, Plays.{Playing, by_move, desk_of}, State.{Desk, Moved, Things, gate_of}}
 use Rattle.exec_books.specs.Booked.{IsBooked}
@@ -32,10 +32,7 @@ gated_unresolved _ h = absurd (false≢true h)
 
 -- what waits for a permit is there
 gated_there : (s : Common) (k : ℕ) → is_gated (request_of s k).phase ≡ true → k < length s.requests
-gated_there s k gated = elim (cases_lt k (length s.requests)) [
-  | inl within ↦ within
-  | inr past ↦ absurd (false≢true (sym (ap (λ r. is_gated r.phase) (get_or_past s.requests k no_request past)) ∙ gated))
-]
+gated_there = grind (arith, cases_lt, false≢true, get_or_past)
 
 module _ (c : Configuration) (x : Playing) (laid : IsLaidOut c x) (given : IsGiven c x) (booked : IsBooked x.world) (before : IsPermitted c x) (i : ℕ) (m : Moved Things) where
   abbrev s : Common

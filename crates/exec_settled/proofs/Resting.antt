@@ -6,7 +6,7 @@ use Rattle.std.specs.Prelude.{nat_le}
 use Rattle.std.specs.List.{list_any}
 use Rattle.exec_machine.specs.{declared.{config.Configuration.Configuration, state.{Request.Request, RequestPhase.RequestPhase}}, Deadlines.{earlier, first_timer, first_until, is_after}, Progress.{all_asleep, is_cancel_untold, is_sleeper_unfinished}, Tests.{has_ended, is_gated, is_in_flight, is_landed, is_open, is_queued, is_resolved, is_staged}, World.{Common, no_request, own_of, request_of, seat_of, sleeper_of}}
 use Rattle.exec_machine.specs.declared.state.RequestPhase.TheVariants as phase
-use Rattle.exec_moves.specs.{declared.{handing.{AfterCallbacks.AfterCallbacks, Heard.Heard}, idling.{InRingWait.InRingWait, Stay.Stay}, place.{InCallbacks.InCallbacks, InPoll.InPoll, Place.Place}}, Plays.{Playing, desk_of, first_desk}, State.Desk}
+use Rattle.exec_moves.specs.{declared.{handing.{AfterCallbacks.AfterCallbacks, Heard.Heard}, place.{InCallbacks.InCallbacks, InPoll.InPoll, Place.Place}}, Plays.{Playing, desk_of, first_desk}, State.Desk}
 use Rattle.exec_books.specs.Listed.{is_in}
 use Rattle.exec_settled.proofs.Undone.{after_earlier, none_slept, not_true}
 use Rattle.exec_books.specs.Booked.{IsBooked, unreleased_of}
@@ -17,44 +17,26 @@ use Rattle.exec_settled.specs.{Given.{passes_at}, Permits.{hands_to, is_past}, S
 -- PLACES OF SLEEP, AND OF THE END
 
 idle_passes : (p : Place) → is_idle p ≡ true → passes_at p ≡ None
-idle_passes (Place.Closing y) h = refl
-idle_passes (Place.WordWait y) h = refl
-idle_passes (Place.RingWait y z) h = refl
-idle_passes _ h = absurd (false≢true h)
+idle_passes = grind arith
 
 idle_hands : (p : Place) → is_idle p ≡ true → hands_to p ≡ None
-idle_hands (Place.Closing y) h = refl
-idle_hands (Place.WordWait y) h = refl
-idle_hands (Place.RingWait y z) h = refl
-idle_hands _ h = absurd (false≢true h)
+idle_hands = grind arith
 
 pub abed_past : (file : ℕ) (p : Place) → is_abed p ≡ true → stays_closing p ≡ false → is_past file p ≡ true
-abed_past file (Place.WordWait y) h turn = refl
-abed_past file (Place.RingWait y Stay.Turn) h turn = refl
-abed_past file (Place.RingWait y Stay.Closing) h turn = absurd (true≢false turn)
-abed_past file _ h turn = absurd (false≢true h)
+abed_past = grind arith
 
 abed_tested : (p : Place) → is_abed p ≡ true → stays_closing p ≡ false → has_tested p ≡ true
-abed_tested (Place.WordWait y) h turn = refl
-abed_tested (Place.RingWait y Stay.Turn) h turn = refl
-abed_tested (Place.RingWait y Stay.Closing) h turn = absurd (true≢false turn)
-abed_tested _ h turn = absurd (false≢true h)
+abed_tested = grind arith
 
 abed_where : (p : Place) → is_abed p ≡ true → (waits_on_word p ≡ true) ⊎ (ends_ring_wait p ≡ true)
-abed_where (Place.WordWait y) h = inl refl
-abed_where (Place.RingWait (InRingWait.DisarmRing n) z) h = inr refl
-abed_where _ h = absurd (false≢true h)
+abed_where = grind arith
 
 -- REQUESTS
 
 -- where none of a worker's isn't over each is
 pub all_over : (i : ℕ) (rs : List Request) → list_any (λ r. (r.worker == i) && not (is_resolved r.phase)) rs ≡ false → (k : ℕ) → (get_or rs k no_request).worker ≡ i → is_resolved (get_or rs k no_request).phase ≡ true
 all_over i [] h k own = refl
-all_over i (r ∷ rs) h zero own = by (is_resolved r.phase) refl
-  where
-    by : (b : Bool) → is_resolved r.phase ≡ b → b ≡ true
-    by true is = refl
-    by false is = absurd (true≢false (sym (rw (eq-eqb r.worker i own, is) refl) ∙ h))
+all_over i (r ∷ rs) h zero own = grind (arith, true≢false, eq-eqb)
 all_over i (r ∷ rs) h (suc k) own = all_over i rs (by ((r.worker == i) && not (is_resolved r.phase)) h) k own
   where
     by : (b : Bool) → (b || list_any (λ r. (r.worker == i) && not (is_resolved r.phase)) rs) ≡ false → list_any (λ r. (r.worker == i) && not (is_resolved r.phase)) rs ≡ false
@@ -83,12 +65,7 @@ pub record IsOver (p : RequestPhase) : Type 0 where
   pub in_flight : is_in_flight p ≡ false
 
 pub over_phase : (p : RequestPhase) → is_resolved p ≡ true → IsOver p
-over_phase (phase.Resolved o) h = record { gated = refl; queued = refl; staged = refl; landed = refl; in_flight = refl }
-over_phase phase.Gated h = absurd (false≢true h)
-over_phase phase.Queued h = absurd (false≢true h)
-over_phase phase.Staged h = absurd (false≢true h)
-over_phase phase.Flying h = absurd (false≢true h)
-over_phase (phase.Landed n) h = absurd (false≢true h)
+over_phase = grind arith
 
 -- WORKERS, where all sleep and no call is half done
 
@@ -98,20 +75,14 @@ module _ (c : Configuration) (x : Playing) (placed : IsPlaced c x) (held : IsRes
 
   -- who is there has ended and stands at its end, or is open and sleeps
   pub idles : (i : ℕ) → i < length x.desks → is_idle (place_at c x i) ≡ true
-  idles i within = elim (down c x held all i) [
-    | inl over ↦ or_right (is_abed (place_at c x i)) (is_end (place_at c x i)) (placed.over i within over)
-    | inr asleep ↦ or_left (is_abed (place_at c x i)) (is_end (place_at c x i)) (held.abed i asleep.1)
-  ]
+  idles = grind (arith, down, or_right, or_left)
 
   -- who isn't there begins
   not_there : (i : ℕ) → length x.desks ≤ i → place_at c x i ≡ Place.BeginTurn
   not_there i past = ap (λ (d : Desk). d.place) (get_or_past x.desks i (first_desk c i) past)
 
   at_each : (P : Place → Type 0) → P Place.BeginTurn → ((p : Place) → is_idle p ≡ true → P p) → (i : ℕ) → P (place_at c x i)
-  at_each P none some i = elim (cases_lt i (length x.desks)) [
-    | inl within ↦ some (place_at c x i) (idles i within)
-    | inr past ↦ subst P (sym (not_there i past)) none
-  ]
+  at_each = grind (arith, cases_lt, idles, not_there)
 
   pub nobody_passes : (i file : ℕ) → passes_at (place_at c x i) ≡ Some file → ⊥
   nobody_passes i file h = let none = at_each (λ p. passes_at p ≡ None) refl idle_passes i in cc
@@ -147,10 +118,7 @@ module _ (c : Configuration) (x : Playing) (placed : IsPlaced c x) (held : IsRes
   -- A WORKER THAT HAS ENDED has no request that isn't over, nor a sleeper
 
   pub over_of : (i : ℕ) → has_ended (seat_of s i).phase ≡ true → (k : ℕ) → (request_of s k).worker ≡ i → (is_resolved (request_of s k).phase ≡ true) × ((request_of s k).released ≡ true)
-  over_of i over k own =
-      let none = sym (booked.counted i) ∙ (booked.over i over).0 in
-      let released = all_released i s.requests none k own in
-      (booked.let_go k released, released)
+  over_of = grind (arith, all_released)
 
   -- AN OPEN ONE THAT SLEEPS
 

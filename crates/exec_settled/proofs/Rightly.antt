@@ -1,5 +1,5 @@
 -- Where all workers sleep nothing is unfinished.
-use Rattle.std.proofs.Common.{◌≡◌, ◌≢◌, ℕ, ◌<◌, ◌==◌, ◌&&◌, ◌||◌, Bool, true, false, not, List, [], ◌∷◌, length, Option, Some, None, ◌∙◌, refl, sym, ap, subst, arith, inl, inr}
+use Rattle.std.proofs.Common.{◌≡◌, ◌≢◌, ℕ, ◌<◌, ◌==◌, ◌&&◌, ◌||◌, Bool, true, false, not, List, [], length, Option, Some, None, ◌∙◌, refl, sym, ap, subst, arith, inl, inr}
 use Rattle.std.proofs.lemmas.Bool.{true≢false, false≢true, and_parts, cases_Bool, eqb-true, or_cases}
 use Rattle.std.proofs.lemmas.{List.get_or_past, Option.{get_or_from_slice_get, slice_get_cases}}
 use Rattle.std.specs.Prelude.{nat_lt}
@@ -7,7 +7,6 @@ use Rattle.std.specs.List.{list_all, list_any}
 use Rattle.exec_machine.specs.{declared.{config.Configuration.Configuration, state.{Forwarding.Forwarding, MailMessage.MailMessage, Request.Request, TaskPhase.TaskPhase, Waiting.Waiting, WorkerPhase.WorkerPhase}}, Deadlines.is_due, Progress.{IsRightlyAsleep, NothingUnfinished, all_asleep, has_come, has_to_close, is_request_unfinished, is_runnable, is_task_unfinished, sleeps_for_nothing}, Ranges.ring_size, Same.{is_none, is_number, same_message}, Tests.{has_ended, is_awake, is_closing, is_done, is_empty, is_gated, is_open, is_queued, is_ready, is_resolved}, World.{Common, Own as Books, Task, no_task, open_of, own_of, request_of, seat_of, sleeper_of, task_of}}
 use Rattle.exec_machine.specs.declared.state.Forwarding.TheVariants as forwarding
 use Rattle.exec_machine.specs.declared.state.MailMessage.TheVariants as message
-use Rattle.exec_machine.specs.declared.state.TaskPhase.TheVariants as task
 use Rattle.exec_machine.specs.declared.state.Waiting.TheVariants as waiting
 use Rattle.exec_machine.specs.declared.state.WorkerPhase.TheVariants as worker
 use Rattle.exec_moves.specs.{declared.{handing.Heard.Heard, idling.Stay.Stay, place.Place.Place}, Plays.{Playing, desk_of}, Poll.is_noted, Told.has_number}
@@ -24,17 +23,11 @@ waits_there (Place.RingWait y Stay.Closing) h = refl
 waits_there _ h = absurd (false≢true h)
 
 not_both : (p : WorkerPhase) → is_open p ≡ true → has_ended p ≡ true → ⊥
-not_both worker.Open opened over = false≢true over
-not_both worker.Closing opened over = false≢true opened
-not_both worker.Ended opened over = false≢true opened
+not_both = grind arith
 
 -- a task that is to be polled, or was woken in a poll
 runs_on : (p : TaskPhase) → (is_ready p || is_noted p) ≡ true → is_runnable p ≡ true
-runs_on task.Queued h = refl
-runs_on (task.Noted i) h = refl
-runs_on (task.Running i) h = refl
-runs_on task.Idle h = absurd (false≢true h)
-runs_on task.Done h = absurd (false≢true h)
+runs_on = grind arith
 
 -- a number is in no empty list
 no_number : (k : ℕ) (ns : List ℕ) → ns ≡ [] → has_number k ns ≡ true → ⊥
@@ -48,29 +41,18 @@ no_list : (k : ℕ) (list : List ℕ) → list ≡ [] → is_in k list ≡ true 
 no_list k list none h = false≢true (subst (λ l. is_in k l ≡ true) none h)
 
 stuck : (q cancelled n : Bool) → (q ≡ true → n ≡ false) → (q && not cancelled && n) ≡ false
-stuck false cancelled n h = refl
-stuck true true n h = refl
-stuck true false n h = h refl
+stuck = grind arith
 
 timeless : (i clock : ℕ) (it : Request) → it.timer ≡ None → is_due i clock it ≡ false
 timeless i clock it none = elim (cases_Bool (it.worker == i)) [ inl own ↦ rw (own, none) refl | inr other ↦ rw other refl ]
 
 -- a request that is ready may be staged only where the ring has a place
 full : (me : Books) (n : ℕ) → me.ready ≢ [] → (not (is_empty me.ready) && nat_lt me.in_flight n) ≡ false → nat_lt me.in_flight n ≡ false
-full me n some h = by me.ready some h
-  where
-    by : (ready : List ℕ) → ready ≢ [] → (not (is_empty ready) && nat_lt me.in_flight n) ≡ false → nat_lt me.in_flight n ≡ false
-    by [] some h = absurd (some refl)
-    by (r ∷ ready) some h = h
+full = grind arith
 
 -- who waits for nothing that has come is done for now
 waiting_done : (s : Common) (t : Task) → is_runnable t.phase ≡ false → (is_done t.phase || t.fresh) ≡ true → (is_done t.phase ≡ false → has_come s t.waiting ≡ false) → is_task_unfinished s t ≡ false
-waiting_done s t still fresh come = by (is_done t.phase) refl t.fresh refl
-  where
-    by : (b : Bool) → is_done t.phase ≡ b → (f : Bool) → t.fresh ≡ f → is_task_unfinished s t ≡ false
-    by true done f is = rw (still, done) refl
-    by false going true is = rw (still, going, is, come going) refl
-    by false going false is = absurd (false≢true (sym (rw (going, is) refl) ∙ fresh))
+waiting_done = grind arith
 
 module _ (c : Configuration) (x : Playing) (placed : IsPlaced c x) (given : IsGiven c x) (held : IsRestful c x) (rests : RestsWell c x) (booked : IsBooked x.world) (settled : IsSettled c x)
     (permitted : IsPermitted c x) (awaited : IsAwaited c x) where

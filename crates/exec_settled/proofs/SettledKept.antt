@@ -1,8 +1,7 @@
 -- What a worker has done before it sleeps stays done in each step.
-use Rattle.std.proofs.Common.{◌≡◌, true, false, Bool, ◌||◌, if◌then◌else◌, refl, sym, ◌∙◌}
+use Rattle.std.proofs.Common.{◌≡◌, true, ◌||◌, refl, sym, ◌∙◌, arith}
 use Rattle.std.proofs.lemmas.Bool.{true≢false}
-use Rattle.exec_machine.specs.{declared.{config.Configuration.Configuration, step.Action.Action}, Callers.is_enabled, Examples.refuses, Progress.Plan, Run.Follows}
-use Rattle.exec_machine.specs.declared.step.Action.TheVariants as action
+use Rattle.exec_machine.specs.{declared.{config.Configuration.Configuration, step.Action.Action}, Callers.is_enabled, Progress.Plan, Run.Follows}
 use Rattle.exec_moves.specs.Plays.{Playing, by_action, by_step, first_playing}
 use Rattle.exec_rest.specs.{AtRest.{IsPlaced, is_end}, Places.is_to_sleep_on_ring, Posted.has_tested}
 use Rattle.exec_rest.proofs.First.{awake_first, not_there}
@@ -24,22 +23,8 @@ first_settled p =
 
 module _ (c : Configuration) (x : Playing) (placed : IsPlaced c x) (given : IsGiven c x) (before : IsSettled c x) where
   by_any : (a : Action) → is_enabled x.world.common a ≡ true → (let it = (by_action c x a).told in Follows c x.world a it.0.said it.1) → IsSettled c (by_action c x a).next
-  by_any (action.Work i) may follows = work_settles c x placed given i may follows.1 before
-  by_any (action.Spawn j k) may follows = caller_settles c x (action.Spawn j k) refl before
-  by_any (action.Wake j t) may follows = caller_settles c x (action.Wake j t) refl before
-  by_any (action.GoOn j) may follows = caller_settles c x (action.GoOn j) refl before
-  by_any (action.Clock d) may follows = other_settles c x placed (action.Clock d) refl may before
-  by_any (action.Land r n) may follows = other_settles c x placed (action.Land r n) refl may before
-  by_any (action.SetBusy i) may follows = other_settles c x placed (action.SetBusy i) refl may before
-  by_any (action.EndPoll i) may follows = other_settles c x placed (action.EndPoll i) refl may before
-  by_any (action.Stir i) may follows = other_settles c x placed (action.Stir i) refl may before
-  by_any (action.Peer l) may follows = other_settles c x placed (action.Peer l) refl may before
+  by_any = grind (arith, work_settles, caller_settles, other_settles)
 
 pub settled_then : (c : Configuration) (x : Playing) → IsPlaced c x → IsGiven c x → (a : Action) → let it = (by_step c x a).told in
     Follows c x.world a it.0.said it.1 → IsSettled c x → IsSettled c (by_step c x a).next
-settled_then c x placed given a follows before = by (is_enabled x.world.common a) refl follows
-  where
-    by : (b : Bool) → is_enabled x.world.common a ≡ b → (let it = (if b then by_action c x a else record { told = refuses a; next = x }).told in Follows c x.world a it.0.said it.1)
-        → IsSettled c (if b then by_action c x a else record { told = refuses a; next = x }).next
-    by true may told = by_any c x placed given before a may told
-    by false off told = before
+settled_then = grind (arith, by_any)

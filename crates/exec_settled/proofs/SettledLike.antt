@@ -1,6 +1,6 @@
 -- Requests that are alike for one worker: those of its own are over as before, and none more is staged. What events leave so.
-use Rattle.std.proofs.Common.{◌≡◌, ℕ, suc, ◌<◌, ◌≤◌, ◌==◌, Bool, true, false, ◌&&◌, ◌||◌, List, [], ◌∷◌, length, map, get_or, set, Option, Some, None, refl, sym, ap, ◌∙◌, subst, arith, if◌then◌else◌}
-use Rattle.std.proofs.lemmas.Bool.{false≢true, and_parts, eqb-true, eq-eqb, ltb-true, ltb-false, ne_eqb}
+use Rattle.std.proofs.Common.{◌≡◌, ℕ, suc, ◌<◌, ◌≤◌, ◌==◌, Bool, true, false, ◌&&◌, ◌||◌, List, [], ◌∷◌, length, map, get_or, set, Option, Some, None, refl, sym, ap, ◌∙◌, subst, arith}
+use Rattle.std.proofs.lemmas.Bool.{false≢true, and_parts, eqb-true, ltb-true, ltb-false, ne_eqb}
 use Rattle.std.proofs.lemmas.List.{get_or_past}
 use Rattle.std.specs.Prelude.{nat_lt, not}
 use Rattle.std.specs.List.{list_any}
@@ -45,79 +45,35 @@ all_same i rs qs is n = subst (λ q. Alike i (get_or rs n no_request) (get_or q 
 
 -- none that isn't there is live
 no_live : (i : ℕ) → is_live i no_request ≡ false
-no_live i = by (0 == i)
-  where
-    by : (b : Bool) → (b && false) ≡ false
-    by true = refl
-    by false = refl
+no_live = grind arith
 
 module _ (i : ℕ) (s t : Common) (alike : AreAlike i s.requests t.requests) where
   pub requests_then : has_requests i t ≡ has_requests i s
   requests_then = any_same (is_live i) no_request (no_live i) s.requests t.requests (λ n. (alike n).live)
 
   pub entered_then : (me mine : Books) → mine.untold ≡ me.untold → HasEntered i me s → HasEntered i mine t
-  entered_then me mine untold entered =
-      record {
-        untold = untold ∙ entered.untold;
-        staged = λ k own. by k own (is_staged (request_of t k).phase) refl;
-      }
-    where
-      by : (k : ℕ) → (request_of t k).worker ≡ i → (b : Bool) → is_staged (request_of t k).phase ≡ b → b ≡ false
-      by k own false is = refl
-      by k own true is =
-          let before = and_parts ((request_of s k).worker == i) (is_staged (request_of s k).phase) ((alike k).standing (rw (eq-eqb (request_of t k).worker i own, is) refl)) in
-          absurd (false≢true (sym (entered.staged k (eqb-true (request_of s k).worker i before.0)) ∙ before.1))
-
--- OWN EVENTS that make no request, and end none
-staged_live : (p : RequestPhase) → is_staged p ≡ true → is_resolved p ≡ false
-staged_live phase.Staged h = refl
-staged_live phase.Gated h = absurd (false≢true h)
-staged_live phase.Queued h = absurd (false≢true h)
-staged_live phase.Flying h = absurd (false≢true h)
-staged_live (phase.Landed n) h = absurd (false≢true h)
-staged_live (phase.Resolved o) h = absurd (false≢true h)
+  entered_then = grind arith
 
 pub flying_live : (p : RequestPhase) → is_flying p ≡ true → is_resolved p ≡ false
-flying_live phase.Flying h = refl
-flying_live phase.Gated h = absurd (false≢true h)
-flying_live phase.Queued h = absurd (false≢true h)
-flying_live phase.Staged h = absurd (false≢true h)
-flying_live (phase.Landed n) h = absurd (false≢true h)
-flying_live (phase.Resolved o) h = absurd (false≢true h)
+flying_live = grind arith
 
 -- one that isn't over has another phase in which it is neither over nor staged
 pub moves_on : (j : ℕ) (x : Request) (p : RequestPhase) → is_resolved x.phase ≡ false → is_resolved p ≡ false → is_staged p ≡ false → Alike j x (record x { phase = p })
-moves_on j x p before after up =
-    record {
-      live = ap (λ b. (x.worker == j) && not b) (after ∙ sym before);
-      standing = λ h. absurd (false≢true (sym up ∙ (and_parts (x.worker == j) (is_staged p) h).1));
-    }
+moves_on = grind arith
 
 flew : (i j : ℕ) (x : Request) → Alike j x (flown i x)
-flew i j x = by ((x.worker == i) && is_staged x.phase) refl
-  where
-    by : (b : Bool) → ((x.worker == i) && is_staged x.phase) ≡ b → Alike j x (if b then record x { phase = phase.Flying } else x)
-    by true h = moves_on j x phase.Flying (staged_live x.phase (and_parts (x.worker == i) (is_staged x.phase) h).1) refl refl
-    by false h = itself j x
+flew = grind arith
 
 -- after an enter none of its own is staged
 pub none_staged : (i : ℕ) (rs : List Request) (n : ℕ) → (get_or (map (flown i) rs) n no_request).worker ≡ i → is_staged (get_or (map (flown i) rs) n no_request).phase ≡ false
 none_staged i rs n = map_like (λ (x y : Request). y.worker ≡ i → is_staged y.phase ≡ false) (flown i) no_request (λ own. refl) each rs n
   where
     each : (x : Request) → (flown i x).worker ≡ i → is_staged (flown i x).phase ≡ false
-    each x = by ((x.worker == i) && is_staged x.phase) refl
-      where
-        by : (b : Bool) → ((x.worker == i) && is_staged x.phase) ≡ b → (if b then record x { phase = phase.Flying } else x).worker ≡ i
-            → is_staged (if b then record x { phase = phase.Flying } else x).phase ≡ false
-        by true h own = refl
-        by false h own = sym (ap (λ b. b && is_staged x.phase) (eq-eqb x.worker i own)) ∙ h
+    each = grind arith
 
 module _ (c : Configuration) (me : Books) (s : Common) (i : ℕ) where
   turned : (j : ℕ) (next : Next) → AreAlike j s.requests (after_next s i next).requests
-  turned j next.Free = all_same j s.requests _ refl
-  turned j (next.Joins r) = all_same j s.requests _ refl
-  turned j next.ClosesQueue = all_same j s.requests _ refl
-  turned j next.ClosesMailbox = all_same j s.requests _ refl
+  turned = grind arith
 
   -- put back with as much
   put_back : (j r : ℕ) (y : Request) → Alike j (request_of s r) y → AreAlike j s.requests (set s.requests r y)

@@ -1,7 +1,7 @@
 -- What a worker has done before it sleeps, of one worker; and what leaves that so.
-use Rattle.std.proofs.Common.{◌≡◌, ℕ, zero, suc, true, false, ◌||◌, List, [], ◌∷◌, ◌++◌, get_or, set, refl, sym, ap, ◌∙◌}
+use Rattle.std.proofs.Common.{◌≡◌, ℕ, zero, suc, true, false, ◌||◌, List, [], ◌∷◌, ◌++◌, get_or, set, refl, sym, ap, ◌∙◌, arith}
 use Rattle.std.specs.Prelude.{not}
-use Rattle.exec_machine.specs.{declared.{config.Configuration.Configuration, event.Event.{Event, TheVariants.Dedicated}}, After.made_by, Tasks.new_own, Tests.is_awake, World.{Common, Own as Books, Seat, no_own, own_of, seat_of}}
+use Rattle.exec_machine.specs.{declared.{config.Configuration.Configuration, event.Event.{Event}}, After.made_by, Tasks.new_own, Tests.is_awake, World.{Common, Own as Books, Seat, no_own, own_of, seat_of}}
 use Rattle.exec_moves.specs.{Callback.has_requests, Plays.{Playing, desk_of}, State.Desk}
 use Rattle.exec_rest.specs.{AtRest.is_end, Places.is_to_sleep_on_ring, Posted.has_tested}
 use Rattle.exec_settled.specs.Settled.{HasEntered, HasSubmitted, HasTold, IsSettled, ends_ring_wait, waits_closing, waits_on_word}
@@ -25,16 +25,7 @@ module _ (c : Configuration) (x : Playing) where
   each all i = record { told = all.told i; submitted = all.submitted i; free = all.free i; busy = all.busy i; entered = all.entered i; entered_then = all.entered_then i; landed = all.landed i }
 
   pub all_of : ((i : ℕ) → SettledAt c x i) → IsSettled c x
-  all_of at =
-      record {
-        told = λ i. (at i).told;
-        submitted = λ i. (at i).submitted;
-        free = λ i. (at i).free;
-        busy = λ i. (at i).busy;
-        entered = λ i. (at i).entered;
-        entered_then = λ i. (at i).entered_then;
-        landed = λ i. (at i).landed;
-      }
+  all_of = grind arith
 
 -- who sleeps then slept before, and nothing has landed there since
 abbrev pub Rests : Seat → Seat → Type 0
@@ -64,9 +55,7 @@ left_settled c i me mine d e s t left before =
 -- OWN PARTS of the others after a step: that of a worker that is made has nothing in it, as if it stood past the end
 module _ {T : Type 0} (f : Books → T) (blank : (clock root : ℕ) → f (new_own clock root) ≡ f no_own) where
   made_blank : (s : Common) (e : Event) (j : ℕ) → f (get_or (made_by s e) j no_own) ≡ f no_own
-  made_blank s (Dedicated t k) zero = blank s.clock t
-  made_blank s (Dedicated t k) (suc j) = refl
-  made_blank s _ j = refl
+  made_blank = grind arith
 
   made_same : (xs made : List Books) → ((j : ℕ) → f (get_or made j no_own) ≡ f no_own) → (j : ℕ) → f (get_or (xs ++ made) j no_own) ≡ f (get_or xs j no_own)
   made_same [] made none j = none j

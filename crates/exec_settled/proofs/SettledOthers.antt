@@ -1,16 +1,16 @@
 -- Steps of outside callers, of the clock, the kernel and the peers keep what each worker has done before it sleeps.
-use Rattle.std.proofs.Common.{◌≡◌, ℕ, ◌+◌, Bool, true, false, ◌&&◌, List, [], ◌∷◌, ◌++◌, get_or, if◌then◌else◌, refl, sym, ap, ◌∙◌, inl, inr}
+use Rattle.std.proofs.Common.{◌≡◌, ℕ, ◌+◌, true, List, [], ◌∷◌, ◌++◌, get_or, refl, ap, arith}
 use Rattle.std.proofs.lemmas.Bool.{false≢true, and_parts}
 use Rattle.std.specs.Prelude.{not}
 use Rattle.exec_outcomes.specs.{Lawful.{is_lawful, window_of}}
-use Rattle.exec_machine.specs.{declared.{config.Configuration.Configuration, event.Event.Event, state.Rest.TheVariants.Awake, step.Action.Action}, Callers.{after_going_on, after_spawn_by_call, after_wake_by_call, is_enabled}, Choice.Choice, Deadlines.roused_at, Mail.{is_left_out, is_root_message, posted}, Requests.{asked_of, cursor_of}, Tests.{is_awake, is_flying, set_seat}, World.{Common, Seat, no_own, no_request, no_seat, own_of, request_of, seat_of, task_of}}
+use Rattle.exec_machine.specs.{declared.{config.Configuration.Configuration, event.Event.Event, state.Rest.TheVariants.Awake, step.Action.Action}, Callers.{after_going_on, after_wake_by_call, is_enabled}, Choice.Choice, Deadlines.roused_at, Requests.{asked_of, cursor_of}, Tests.{is_awake, is_flying}, World.{Common, Seat, no_own, no_request, no_seat, own_of, request_of, seat_of, task_of}}
 use Rattle.exec_machine.specs.declared.event.Event.TheVariants as event
 use Rattle.exec_machine.specs.declared.state.RequestPhase.TheVariants as phase
 use Rattle.exec_machine.specs.declared.step.Action.TheVariants as action
-use Rattle.exec_moves.specs.{MoveOfCaller.{call_on, call_spawn, call_wake}, Plays.{Playing, by_action, caller_of, desk_of, first_desk}}
+use Rattle.exec_moves.specs.{MoveOfCaller.{call_on, call_wake}, Plays.{Playing, by_action, caller_of, desk_of}}
 use Rattle.exec_rest.specs.{AtRest.IsPlaced, Rested.place_at}
 use Rattle.exec_rest.proofs.CallHeeds.{set_at}
-use Rattle.exec_rest.proofs.CallSeats.{Seated, going_seated, spawn_begun, wake_begun}
+use Rattle.exec_rest.proofs.CallSeats.{Seated, going_seated, wake_begun}
 use Rattle.exec_rest.proofs.Calls.{is_call}
 use Rattle.exec_rest.proofs.Others.{beside, is_other}
 use Rattle.exec_settled.specs.Settled.{IsSettled}
@@ -19,24 +19,11 @@ use Rattle.exec_settled.proofs.SettledLike.{Alike, AreAlike, all_same, flying_li
 use Rattle.exec_settled.proofs.SettledOf.{Rests, all_of, each, left_settled}
 use Rattle.exec_settled.proofs.SettledPlaces.{asleep_not, kept, listed}
 
--- CALLERS: they change no request
-spawn_requests : (s : Common) (k : ℕ) (e : Event) → (after_spawn_by_call s k e).requests ≡ s.requests
-spawn_requests s k (event.Spawn t script) = refl
-spawn_requests s k _ = refl
-
 wake_requests : (s : Common) (t : ℕ) (e : Event) (choice : Choice) → (after_wake_by_call s t e choice).requests ≡ s.requests
-wake_requests s t (event.Wake other) choice = refl
-wake_requests s t (event.Send to m) choice = by (is_root_message m && is_left_out choice)
-  where
-    by : (b : Bool) → (if b then s else set_seat s to (posted m (seat_of s to))).requests ≡ s.requests
-    by true = refl
-    by false = refl
-wake_requests s t _ choice = refl
+wake_requests = grind arith
 
 going_requests : (s : Common) (j : ℕ) (e : Event) → (after_going_on s j e).requests ≡ s.requests
-going_requests s j (event.Rouse other) = refl
-going_requests s j event.Return = refl
-going_requests s j _ = refl
+going_requests = grind arith
 
 module _ (c : Configuration) (x : Playing) where
   abbrev s : Common
@@ -61,10 +48,7 @@ module _ (c : Configuration) (x : Playing) where
   seated_rests after e seated i h = (ap not (seated.asleep i (asleep_not (is_awake (get_or after i no_seat).rest) h)).0, seated.landed i)
 
   pub caller_settles : (a : Action) → is_call a ≡ true → IsSettled c x → IsSettled c (by_action c x a).next
-  caller_settles (action.Spawn j k) is before =
-      let m = call_spawn c s (caller_of x j) x.things k in
-      stand_still (by_action c x (action.Spawn j k)).next refl (λ i. refl) (λ i. refl)
-      (λ i. all_same i s.requests _ (spawn_requests s k m.event)) (seated_rests (after_spawn_by_call s k m.event).seats m.event (spawn_begun s k).seats) before
+  caller_settles (action.Spawn j k) is before = grind arith
   caller_settles (action.Wake j t) is before =
       let m = call_wake s (caller_of x j) x.things t (task_of s t).home in
       stand_still (by_action c x (action.Wake j t)).next refl (λ i. refl) (λ i. refl)
@@ -89,21 +73,7 @@ module _ (c : Configuration) (x : Playing) where
   Lands a b = not (is_awake b.rest) ≡ true → b.landed ≡ a.landed
 
   kept_there : (a : Action) → is_other a ≡ true → (i : ℕ) → kept (desk_of c (by_action c x a).next i) ≡ kept (desk_of c x i)
-  kept_there (action.Clock d) other i = refl
-  kept_there (action.Land r n) other i =
-      let home = (request_of s r).worker in
-      elim (set_at x.desks home i (record (desk_of c x home) { others = 0 }) (first_desk c i)) [
-        | inl is ↦ ap kept is
-        | inr here ↦ ap kept here.2 ∙ ap (λ n. kept (desk_of c x n)) (sym here.0)
-      ]
-  kept_there (action.SetBusy j) other i = refl
-  kept_there (action.EndPoll j) other i = refl
-  kept_there (action.Stir j) other i = refl
-  kept_there (action.Peer l) other i = refl
-  kept_there (action.Work i) other j = absurd (false≢true other)
-  kept_there (action.Spawn j k) other i = absurd (false≢true other)
-  kept_there (action.Wake j t) other i = absurd (false≢true other)
-  kept_there (action.GoOn j) other i = absurd (false≢true other)
+  kept_there = grind (arith, set_at, kept, false≢true)
 
   lands_there : (a : Action) → is_other a ≡ true → (i : ℕ) → Lands (seat_of s i) (seat_of (by_action c x a).next.world.common i)
   lands_there (action.Clock d) other i = map_like Lands (roused_at (s.clock + d)) no_seat (λ h. refl) (λ a h. refl) s.seats i
@@ -136,16 +106,7 @@ module _ (c : Configuration) (x : Playing) where
   alike_there (action.GoOn j) other may i = absurd (false≢true other)
 
   workers_there : (a : Action) → is_other a ≡ true → (by_action c x a).next.world.workers ≡ x.world.workers
-  workers_there (action.Clock d) other = refl
-  workers_there (action.Land r n) other = refl
-  workers_there (action.SetBusy j) other = refl
-  workers_there (action.EndPoll j) other = refl
-  workers_there (action.Stir j) other = refl
-  workers_there (action.Peer l) other = refl
-  workers_there (action.Work i) other = absurd (false≢true other)
-  workers_there (action.Spawn j k) other = absurd (false≢true other)
-  workers_there (action.Wake j t) other = absurd (false≢true other)
-  workers_there (action.GoOn j) other = absurd (false≢true other)
+  workers_there = grind arith
 
   pub other_settles : IsPlaced c x → (a : Action) → is_other a ≡ true → is_enabled s a ≡ true → IsSettled c x → IsSettled c (by_action c x a).next
   other_settles placed a other may before =

@@ -1,19 +1,10 @@
 -- Only the callbacks lead to the places at which a worker waits on its ring as one that closes, and to its end: where the other parts lead.
-use Rattle.std.proofs.Common.{◌≡◌, ℕ, Bool, true, false, List, [], ◌∷◌, Option, Some, None, refl, ◌==◌, ◌&&◌, ◌||◌, if◌then◌else◌}
-use Rattle.std.specs.Prelude.{nat_lt, nat_le, not}
+use Rattle.std.proofs.Common.{◌≡◌, ℕ, Bool, true, false, List, [], ◌∷◌, Option, Some, None, refl, ◌==◌, ◌&&◌, ◌||◌, if◌then◌else◌, arith}
+use Rattle.std.specs.Prelude.{not}
 use Rattle.exec_words.specs.declared.head.{Fit.Fit, Head.Head}
-use Rattle.exec_words.specs.declared.head.Fit.TheVariants as fit
-use Rattle.exec_machine.specs.{declared.{config.Configuration.Configuration, state.{Letter.Letter, MailMessage.MailMessage}}, Tests.is_empty, World.{Common, Own as Books}}
-use Rattle.exec_moves.specs.{declared.{handing.{AfterCancels.AfterCancels, AfterLeave.AfterLeave, AfterPop.AfterPop, AfterPush.AfterPush, AfterSend.AfterSend, First.First}, place.{AfterService.AfterService, Place.Place}}, Callback.{has_requests, is_of_pool, to_queue}, Close.{after_close, after_letting_go}, Load.{has_submissions, leaves_for_turn, next_turn}, Mail.after_message, Parts.{after_visit, after_cancels, after_leave, after_poll, after_return, after_send, cancels_left, first_pop, has_others, next_pick, polls, tells_from}, Pick.{after_empty_look, first_pick}, Poll.after_end, Pop.{after_empty_pop, after_pop, judge_pop}, Push.after_fit, Send.{after_posting, after_spawn}, Serve.after_service, State.Desk}
-use Rattle.exec_moves.specs.declared.handing.AfterCancels.TheVariants as cancels
-use Rattle.exec_moves.specs.declared.handing.AfterLeave.TheVariants as leave
+use Rattle.exec_machine.specs.{declared.{config.Configuration.Configuration, state.{Letter.Letter}}, World.{Common, Own as Books}}
+use Rattle.exec_moves.specs.{declared.{handing.{AfterCancels.AfterCancels, AfterLeave.AfterLeave, AfterPop.AfterPop, AfterPush.AfterPush, AfterSend.AfterSend}, place.{AfterService.AfterService, Place.Place}}, Callback.{has_requests, is_of_pool, to_queue}, Load.{has_submissions, leaves_for_turn, next_turn}, Parts.{after_cancels, after_leave, after_poll, after_return, after_send, cancels_left, first_pop, has_others, next_pick, polls}, Pick.{first_pick}, Pop.{after_empty_pop, after_pop, judge_pop}, Push.after_fit, Send.{after_posting, after_spawn}, Serve.after_service, State.Desk}
 use Rattle.exec_moves.specs.declared.handing.AfterPop.TheVariants as pop
-use Rattle.exec_moves.specs.declared.handing.AfterSend.TheVariants as send
-use Rattle.exec_moves.specs.declared.handing.First.TheVariants as first
-use Rattle.exec_moves.specs.declared.place.AfterService.TheVariants as back
-use Rattle.exec_moves.specs.declared.place.InClosing.TheVariants as closing
-use Rattle.exec_moves.specs.declared.place.Place.TheVariants as at
-use Rattle.exec_task.specs.declared.drain.Drain.{Drain}
 use Rattle.exec_moves.specs.declared.idling.Stay.{Stay}
 use Rattle.exec_moves.specs.declared.place.InClosing.{InClosing}
 
@@ -41,10 +32,6 @@ off_polls t d = off_if d.searching _ _ refl refl
 pub off_first_pick : (s : Common) (i : ℕ) → is_shut (first_pick s i) ≡ false
 off_first_pick s i = off_if (is_of_pool s i) _ _ refl refl
 
-pub off_empty_look : (c : Configuration) (f : First) → is_shut (after_empty_look c f) ≡ false
-off_empty_look c first.Own = refl
-off_empty_look c first.Global = off_first_pop c (pop.Pick first.Global)
-
 pub off_next_pick : (d : Desk) → is_shut (next_pick d) ≡ false
 off_next_pick d = off_if (d.picks == 0) _ _ refl refl
 
@@ -59,37 +46,20 @@ pub off_leaves_for_turn : (c : Configuration) (i : ℕ) (me : Books) (s : Common
 off_leaves_for_turn c i me s d = off_if d.searching _ _ refl (off_next_turn c i me s d)
 
 pub off_after_leave : (c : Configuration) (i : ℕ) (me : Books) (s : Common) (b : AfterLeave) (d : Desk) → is_shut (after_leave c i me s b d) ≡ false
-off_after_leave c i me s (leave.Poll t) d = refl
-off_after_leave c i me s (leave.CallBack n) d = refl
-off_after_leave c i me s leave.Begin d = off_next_turn c i me s d
+off_after_leave = grind arith
 
 pub off_after_return : (c : Configuration) (i : ℕ) (me : Books) (s : Common) (last : Bool) (b : AfterLeave) (d : Desk) → is_shut (after_return c i me s last b d) ≡ false
 off_after_return c i me s last b d = off_if last _ _ refl (off_after_leave c i me s b d)
 
-pub off_tells_from : (c : Configuration) (worker : ℕ) → is_shut (tells_from c worker) ≡ false
-off_tells_from c worker = off_if (nat_lt worker c.workers) _ _ refl (off_first_pop c pop.Discard)
-
-pub off_after_visit : (x : Drain) → is_shut (at.Closing (after_visit x)) ≡ false
-off_after_visit x = by (x.left == 0)
-  where
-    by : (b : Bool) → is_shut (at.Closing (if b then closing.LeaveBarrier else closing.Visit x)) ≡ false
-    by true = refl
-    by false = refl
-
 pub off_after_cancels : (b : AfterCancels) (d : Desk) → is_shut (after_cancels b d) ≡ false
-off_after_cancels (cancels.Remove t) d = refl
-off_after_cancels cancels.Pick d = off_next_pick d
-off_after_cancels (cancels.Visit x) d = off_after_visit x
+off_after_cancels = grind arith
 
 pub off_cancels_left : (b : AfterCancels) (d : Desk) (letters : List Letter) → is_shut (cancels_left b d letters) ≡ false
 off_cancels_left b d [] = off_after_cancels b d
 off_cancels_left b d (letter ∷ letters) = refl
 
 pub off_after_send : (c : Configuration) (b : AfterSend) (d : Desk) → is_shut (after_send c b d) ≡ false
-off_after_send c (send.Act t) d = refl
-off_after_send c (send.Pend t) d = refl
-off_after_send c (send.Cancels b) d = off_cancels_left b d d.letters
-off_after_send c (send.Tell worker) d = off_tells_from c worker
+off_after_send = grind arith
 
 pub off_after_posting : (c : Configuration) (j : ℕ) (b : AfterSend) (asked : Bool) (d : Desk) → is_shut (after_posting c j b asked d) ≡ false
 off_after_posting c j b true d = refl
@@ -98,42 +68,21 @@ off_after_posting c j b false d = off_after_send c b d
 pub off_to_queue : (s : Common) (i : ℕ) (b : AfterPush) → is_shut (to_queue s i b) ≡ false
 off_to_queue s i b = off_if (is_of_pool s i) _ _ refl refl
 
-pub off_after_close : (c : Configuration) (i : ℕ) (s : Common) → is_shut (after_close c i s) ≡ false
-off_after_close c i s = off_if (i == 0) _ _ refl (off_if (is_of_pool s i) _ _ (off_first_pop c pop.Discard) refl)
-
-pub off_after_letting_go : (held asleep : Option ℕ) → is_shut (after_letting_go held asleep) ≡ false
-off_after_letting_go None None = refl
-off_after_letting_go None (Some z) = refl
-off_after_letting_go (Some r) asleep = refl
-
-pub off_after_message : (applied : ℕ) (batch : List MailMessage) → is_shut (after_message applied batch) ≡ false
-off_after_message applied batch = off_if (is_empty batch || nat_le 64 applied) _ _ refl refl
-
 pub off_after_fit : (b : AfterPush) (h : Head) (f : Fit) → is_shut (after_fit b h f) ≡ false
-off_after_fit b h (fit.Room len) = refl
-off_after_fit b h fit.Overflow = refl
-off_after_fit b h _ = refl
+off_after_fit = grind arith
 
 pub off_after_spawn : (c : Configuration) (i : ℕ) (s : Common) (t : ℕ) → is_shut (after_spawn c i s t) ≡ false
 off_after_spawn c i s t = off_if (not (is_of_pool s i)) _ _ refl (off_if (has_others c) _ _ refl refl)
-
-pub off_after_end : (t : ℕ) (home : Option ℕ) (d : Desk) → is_shut (after_end t home d) ≡ false
-off_after_end t None d = off_cancels_left (cancels.Remove t) d d.letters
-off_after_end t (Some home) d = refl
 
 pub off_after_pop : (c : Configuration) (b : AfterPop) (t : ℕ) (d : Desk) → is_shut (after_pop c b t d).place ≡ false
 off_after_pop c (pop.Pick f) t d = off_polls t d
 off_after_pop c pop.Discard t d = off_first_pop c pop.Discard
 
 pub off_after_empty_pop : (c : Configuration) (i : ℕ) (b : AfterPop) → is_shut (after_empty_pop c i b) ≡ false
-off_after_empty_pop c i (pop.Pick first.Own) = refl
-off_after_empty_pop c i (pop.Pick first.Global) = refl
-off_after_empty_pop c i pop.Discard = refl
+off_after_empty_pop = grind arith
 
 pub off_judge_pop : (c : Configuration) (i : ℕ) (b : AfterPop) (h : Head) (len : ℕ) → is_shut (judge_pop c i b h len) ≡ false
 off_judge_pop c i b h len = off_if (len == 0) _ _ (off_after_empty_pop c i b) (off_if ((len == 1) && (h.gap == 0)) _ _ refl refl)
 
 pub off_after_service : (b : AfterService) (d : Desk) → is_shut (after_service b d) ≡ false
-off_after_service back.Mail d = off_if (is_empty d.batch) _ _ refl refl
-off_after_service back.Begin d = refl
-off_after_service back.Finish d = refl
+off_after_service = grind arith

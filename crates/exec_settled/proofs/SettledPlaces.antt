@@ -1,9 +1,9 @@
 -- What a worker has told and submitted, as its desk and its own part say it, and what is known of a place by which of its tests fail.
-use Rattle.std.proofs.Common.{◌≡◌, ℕ, Bool, true, false, ◌||◌, List, [], ◌∷◌, Option, refl, sym, ap, ◌∙◌, ◌&&◌, arith}
-use Rattle.std.proofs.lemmas.Bool.{false≢true, true≢false, or_parts, ltb-false}
-use Rattle.std.specs.Prelude.{nat_lt, not}
-use Rattle.exec_machine.specs.{declared.{config.Configuration.Configuration, event.Event.{Event, TheVariants.{Busy, Enter, Release, Rouse, Sleep, Turn, Wake}}}, Ranges.ring_size, Tests.is_empty, World.Own as Books}
-use Rattle.exec_moves.specs.{declared.{idling.{InRingWait.InRingWait, Stay.Stay}, place.{InClosing.InClosing, Place.Place}}, Callback.has_callbacks, Load.{has_submissions, may_stage}, State.Desk}
+use Rattle.std.proofs.Common.{◌≡◌, ℕ, Bool, true, false, List, [], Option, refl, sym, ap, ◌∙◌, arith}
+use Rattle.std.proofs.lemmas.Bool.{false≢true, true≢false}
+use Rattle.std.specs.Prelude.{not}
+use Rattle.exec_machine.specs.{declared.{config.Configuration.Configuration, event.Event.{Event, TheVariants.{Busy, Enter, Release, Rouse, Sleep, Turn, Wake}}}, World.Own as Books}
+use Rattle.exec_moves.specs.{declared.{idling.{InRingWait.InRingWait, Stay.Stay}, place.{InClosing.InClosing, Place.Place}}, Callback.has_callbacks, Load.{has_submissions}, State.Desk}
 use Rattle.exec_moves.specs.declared.place.InClosing.TheVariants as closing
 use Rattle.exec_moves.specs.declared.place.Place.TheVariants as at
 use Rattle.exec_rest.specs.{AtRest.is_end, Places.is_to_sleep_on_ring, Posted.has_tested}
@@ -31,50 +31,16 @@ abbrev pub listed : Books → OfBooks
 listed me = record { ended = me.ended; unenrolled = me.unenrolled; cancels = me.cancels; ready = me.ready; in_flight = me.in_flight }
 
 pub told_with : (me mine : Books) (d e : Desk) → kept e ≡ kept d → mine.ended ≡ me.ended → HasTold me d → HasTold mine e
-told_with me mine d e desk ended told =
-    record {
-      wakes = ap (λ (k : OfDesk). k.wakes) desk ∙ told.wakes;
-      outputs = ap (λ (k : OfDesk). k.outputs) desk ∙ told.outputs;
-      ended = ended ∙ told.ended;
-      completions = ap (λ (k : OfDesk). k.completions) desk ∙ told.completions;
-      results = ap (λ (k : OfDesk). k.results) desk ∙ told.results;
-    }
+told_with = grind arith
 
 pub submitted_with : (c : Configuration) (me mine : Books) → listed mine ≡ listed me → HasSubmitted c me → HasSubmitted c mine
-submitted_with c me mine own clear =
-    record {
-      unenrolled = ap (λ (k : OfBooks). k.unenrolled) own ∙ clear.unenrolled;
-      cancels = ap (λ (k : OfBooks). k.cancels) own ∙ clear.cancels;
-      unstaged = ap (λ (k : OfBooks). not (is_empty k.ready) && nat_lt k.in_flight (ring_size c)) own ∙ clear.unstaged;
-    }
-
--- TESTS THAT FIND NOTHING
-pub none_in : {T : Type 0} (xs : List T) → not (is_empty xs) ≡ false → xs ≡ []
-none_in [] h = refl
-none_in (x ∷ xs) h = absurd (true≢false h)
-
-no_more : (n : ℕ) → nat_lt 0 n ≡ false → n ≡ 0
-no_more n h = omega (arith, ltb-false 0 n h)
+submitted_with = grind arith
 
 pub told_by : (me : Books) (d : Desk) → has_callbacks me d ≡ false → HasTold me d
-told_by me d h =
-    let results = or_parts (not (is_empty d.wakes) || nat_lt 0 d.outputs || not (is_empty me.ended) || not (is_empty d.completions)) (not (is_empty d.results)) h in
-    let completions = or_parts (not (is_empty d.wakes) || nat_lt 0 d.outputs || not (is_empty me.ended)) (not (is_empty d.completions)) results.0 in
-    let ended = or_parts (not (is_empty d.wakes) || nat_lt 0 d.outputs) (not (is_empty me.ended)) completions.0 in
-    let outputs = or_parts (not (is_empty d.wakes)) (nat_lt 0 d.outputs) ended.0 in
-    record {
-      wakes = none_in d.wakes outputs.0;
-      outputs = no_more d.outputs outputs.1;
-      ended = none_in me.ended ended.1;
-      completions = none_in d.completions completions.1;
-      results = none_in d.results results.1;
-    }
+told_by = grind arith
 
 pub submitted_by : (c : Configuration) (me : Books) → has_submissions c me ≡ false → HasSubmitted c me
-submitted_by c me h =
-    let staging = or_parts (not (is_empty me.unenrolled) || not (is_empty me.cancels)) (may_stage c me) h in
-    let submissions = or_parts (not (is_empty me.unenrolled)) (not (is_empty me.cancels)) staging.0 in
-    record { unenrolled = none_in me.unenrolled submissions.0; cancels = none_in me.cancels submissions.1; unstaged = staging.1 }
+submitted_by = grind arith
 
 -- PLACES
 
@@ -97,20 +63,14 @@ end_shut (Place.Closing p) h = end_off p h
 end_shut _ h = refl
 
 pub closing_shut : (p : Place) → is_shut p ≡ false → waits_closing p ≡ false
-closing_shut (Place.RingWait p Stay.Closing) h = absurd (true≢false h)
-closing_shut (Place.RingWait p Stay.Turn) h = refl
-closing_shut _ h = refl
+closing_shut = grind arith
 
 -- who is at none of these neither sleeps on its ring nor ends that
 pub deep_off : (p : Place) → has_tested p ≡ false → is_shut p ≡ false → is_deep p ≡ false
-deep_off (Place.RingWait p Stay.Closing) out off = absurd (true≢false off)
-deep_off (Place.RingWait p Stay.Turn) out off = absurd (true≢false out)
-deep_off _ out off = refl
+deep_off = grind arith
 
 sleep_deep_ring : (p : InRingWait) (y : Stay) → is_deep (at.RingWait p y) ≡ false → (is_to_sleep_on_ring (at.RingWait p y) ≡ false) × (ends_ring_wait (at.RingWait p y) ≡ false)
-sleep_deep_ring InRingWait.SleepOnRing y h = absurd (true≢false h)
-sleep_deep_ring (InRingWait.DisarmRing n) y h = absurd (true≢false h)
-sleep_deep_ring _ y h = (refl, refl)
+sleep_deep_ring = grind arith
 
 pub sleep_deep : (p : Place) → is_deep p ≡ false → (is_to_sleep_on_ring p ≡ false) × (ends_ring_wait p ≡ false)
 sleep_deep (Place.RingWait p y) h = sleep_deep_ring p y h

@@ -1,9 +1,9 @@
 -- A step of a worker keeps what each has done before it sleeps.
-use Rattle.std.proofs.Common.{◌≡◌, ℕ, ◌<◌, Bool, true, false, ◌&&◌, ◌||◌, length, Option, refl, sym, ap, ◌∙◌, subst, arith, inl, inr}
-use Rattle.std.proofs.lemmas.Bool.{false≢true, true≢false, and_parts, cases_eq}
+use Rattle.std.proofs.Common.{◌≡◌, ℕ, ◌<◌, Bool, true, false, ◌||◌, length, Option, refl, sym, ap, ◌∙◌, subst, arith, inl, inr}
+use Rattle.std.proofs.lemmas.Bool.{false≢true, true≢false, cases_eq}
 use Rattle.std.proofs.lemmas.List.{get_or_append_left, get_or-set_same, length-set}
-use Rattle.std.specs.Prelude.{not, slice_set}
-use Rattle.exec_machine.specs.{declared.{config.Configuration.Configuration, event.Event.{Event, TheVariants.{Dedicated, Enter, Sleep}}}, After.{common_after, made_by, own_after}, Allowed.Allowed, Callers.{is_enabled, is_held}, Choice.Choice, Tests.{has_ended, is_awake}, World.{Common, Own as Books, no_own, own_of, seat_of}}
+use Rattle.std.specs.Prelude.{not}
+use Rattle.exec_machine.specs.{declared.{config.Configuration.Configuration, event.Event.{Event, TheVariants.{Dedicated, Enter, Sleep}}}, After.{common_after, own_after}, Allowed.Allowed, Callers.{is_enabled}, Choice.Choice, Tests.{has_ended, is_awake}, World.{Common, Own as Books, own_of, seat_of}}
 use Rattle.exec_machine.specs.declared.step.Action.TheVariants as action
 use Rattle.exec_moves.specs.{Callback.has_requests, Move.move, Plays.{Playing, by_move, desk_of}, State.{Desk, Moved, Things}}
 use Rattle.exec_rest.specs.{AtRest.IsPlaced}
@@ -53,10 +53,7 @@ module _ (c : Configuration) (i : ℕ) (me : Books) (s : Common) (p : Desk) (e :
 
       -- it sleeps by this event
       slept : not (is_awake (seat_of late i).rest) ≡ true → (until : Option ℕ) × (e ≡ Sleep until)
-      slept h = elim (asleep_after c me s i e choice i (asleep_not (is_awake (seat_of late i).rest) h)) [
-        | inl already ↦ absurd (true≢false (sym awake ∙ already.0))
-        | inr own ↦ own.1
-      ]
+      slept = grind (arith, asleep_after, asleep_not, true≢false)
 
 -- ANY
 module _ (c : Configuration) (x : Playing) (placed : IsPlaced c x) (given : IsGiven c x) (i : ℕ) (may : is_enabled x.world.common (action.Work i) ≡ true) where
@@ -73,18 +70,13 @@ module _ (c : Configuration) (x : Playing) (placed : IsPlaced c x) (given : IsGi
   next = (by_move c x i m).next
 
   working : (is_awake (seat_of s i).rest ≡ true) × (not (has_ended (seat_of s i).phase) ≡ true)
-  working =
-      and_parts (is_awake (seat_of s i).rest) (not (has_ended (seat_of s i).phase))
-      (and_parts (is_awake (seat_of s i).rest && not (has_ended (seat_of s i).phase)) (not (is_held s (seat_of s i))) may).0
+  working = grind arith
 
   within : i < length s.seats
   within = seated s (λ seat. not (has_ended seat.phase)) true false≢true i working.1
 
   its_own : own_of next.world i ≡ own_after c me s i m.event m.choice
-  its_own =
-      let y = own_after c me s i m.event m.choice in
-      let own : i < length x.world.workers = omega (arith, within, given.owns) in
-      get_or_append_left (slice_set x.world.workers i y) (made_by s m.event) no_own i (omega (arith, length-set x.world.workers i y, own)) ∙ get_or-set_same x.world.workers i y no_own own
+  its_own = grind (arith, within, get_or_append_left, length-set, get_or-set_same)
 
   its_desk : desk_of c next i ≡ m.desk
   its_desk = desk_own c x i m (omega (arith, within, placed.laid.desks))
@@ -118,10 +110,7 @@ module _ (c : Configuration) (x : Playing) (placed : IsPlaced c x) (given : IsGi
       before
     where
       was_asleep : not (is_awake (seat_of next.world.common k).rest) ≡ true → not (is_awake (seat_of s k).rest) ≡ true
-      was_asleep h = elim (asleep_after c me s i m.event m.choice k (asleep_not (is_awake (seat_of next.world.common k).rest) h)) [
-        | inl already ↦ ap not already.0
-        | inr own ↦ absurd (apart own.0)
-      ]
+      was_asleep = grind (arith, asleep_after, asleep_not)
 
   pub work_settles : Allowed c me s i m.event m.choice → IsSettled c x → IsSettled c next
   work_settles allowed before = all_of c next (λ k. elim (cases_eq k i) [

@@ -1,23 +1,21 @@
 -- From a place to which the test for work leads to the next: neither the desk nor the own part gets anything that has to be told or submitted.
-use Rattle.std.proofs.Common.{◌≡◌, ℕ, ◌==◌, ◌+◌, ◌-◌, Bool, true, false, ◌&&◌, List, [], ◌∷◌, Option, Some, None, refl, sym, ◌∙◌, if◌then◌else◌}
+use Rattle.std.proofs.Common.{◌≡◌, ℕ, ◌==◌, ◌+◌, ◌-◌, Bool, true, false, List, [], ◌∷◌, Option, Some, None, refl, sym, ◌∙◌, if◌then◌else◌, arith}
 use Rattle.std.proofs.lemmas.Bool.{false≢true}
 use Rattle.std.specs.Prelude.{nat_lt, nat_le, not}
 use Rattle.exec_words.specs.{declared.head.Head.Head, Head.is_stealable_at, Idle.is_in, Queue.{head_of, room_of, tail_of}, Word.is_idle_at, declared.word.PureWord.PureWord}
-use Rattle.exec_machine.specs.{declared.{config.Configuration.Configuration, event.Event.{Event, TheVariants.{Sleep, Turn}}}, After.own_after, Choice.{Choice, Choice.Plain}, Deadlines.next_due, Ranges.ring_size, World.{Common, Own as Books}}
+use Rattle.exec_machine.specs.{declared.{config.Configuration.Configuration, event.Event.{Event, TheVariants.{Sleep, Turn}}}, After.own_after, Choice.{Choice, Choice.Plain}, Deadlines.next_due, World.{Common, Own as Books}}
 use Rattle.exec_moves.specs.declared.idling.{AfterWait.AfterWait, InLook.InLook, InScan.InScan, InSearch.InSearch, InWordWait.InWordWait, Scan.Scan}
 use Rattle.exec_moves.specs.declared.place.Place.{Place}
-use Rattle.exec_moves.specs.{Callback.{has_requests, is_full, is_of_pool, ring_wait}, Load.{has_come, has_mail, leaves_for_turn}, Look.{after_withdrawal, look_at_mirror, looks_from, past_own, searching_if}, Move.{move_at, move_look, move_scan, move_search, move_word_wait}, Pop.same_head, Search.{begun_scan, from_of, half, judge_head, judge_tail, looks_at, past, stirred}, State.{Desk, Moved, Things, does, queue_of, word_of}, Wait.{after_sleep, first_search, goes_back, is_near, noting_sleep, waits, withdraws, word_wait}}
+use Rattle.exec_moves.specs.{Callback.{has_requests, is_of_pool}, Load.{has_come, has_mail, leaves_for_turn}, Look.{after_withdrawal, look_at_mirror, looks_from, past_own, searching_if}, Move.{move_at, move_look, move_scan, move_search, move_word_wait}, Pop.same_head, Search.{begun_scan, from_of, half, judge_head, judge_tail, looks_at, past, stirred}, State.{Desk, Moved, Things, does, queue_of, word_of}, Wait.{after_sleep, first_search, goes_back, noting_sleep, waits, withdraws}}
 use Rattle.exec_moves.specs.Search.{past_own as past_own_queue}
 use Rattle.exec_moves.specs.declared.idling.AfterWait.TheVariants as next
 use Rattle.exec_moves.specs.declared.idling.InLook.TheVariants as look
 use Rattle.exec_moves.specs.declared.idling.InScan.TheVariants as scan
 use Rattle.exec_moves.specs.declared.idling.InSearch.TheVariants as search
 use Rattle.exec_moves.specs.declared.idling.InWordWait.TheVariants as word
-use Rattle.exec_moves.specs.declared.idling.Stay.TheVariants as stay
 use Rattle.exec_moves.specs.declared.place.Place.TheVariants as at
-use Rattle.exec_rest.proofs.{Continuing.calm_leaves_for_turn, Plain.is_calm}
 use Rattle.exec_settled.specs.Settled.{waits_on_word}
-use Rattle.exec_settled.proofs.SettledParts.{is_shut, off_leaves_for_turn}
+use Rattle.exec_settled.proofs.SettledParts.{is_shut}
 use Rattle.exec_settled.proofs.SettledPlaces.{is_deep, is_plain, kept, listed}
 
 module _ (c : Configuration) (i : ℕ) (me : Books) (s : Common) where
@@ -35,32 +33,14 @@ module _ (c : Configuration) (i : ℕ) (me : Books) (s : Common) where
   pub of_plain : (q : Place) → is_shut q ≡ false → is_deep q ≡ false → waits_on_word q ≡ false → OfPlace q
   of_plain q off deep word = record { off = off; deep = deep; free = λ h. absurd (false≢true (sym word ∙ h)) }
 
-  calm_plain : (q : Place) → is_calm q ≡ true → (is_deep q ≡ false) × (waits_on_word q ≡ false)
-  calm_plain (Place.RingWait p y) h = absurd (false≢true h)
-  calm_plain (Place.WordWait p) h = absurd (false≢true h)
-  calm_plain _ h = (refl, refl)
-
   of_leaving : (d : Desk) → OfPlace (leaves_for_turn c i me s d)
-  of_leaving d =
-      let q = leaves_for_turn c i me s d in
-      let both = calm_plain q (calm_leaves_for_turn c i me s d) in of_plain q (off_leaves_for_turn c i me s d) both.0 both.1
-
-  of_word : (d : Desk) → has_requests i s ≡ false → OfPlace (word_wait c i s d)
-  of_word d free =
-      of_if (nat_lt 0 d.spinner.budget && not (is_near c d (next_due s i))) _ _
-      (record { off = refl; deep = refl; free = λ h. free }) (record { off = refl; deep = refl; free = λ h. free })
+  of_leaving = grind arith
 
   of_waits : (d : Desk) → OfPlace (waits c i s d)
-  of_waits d = by (has_requests i s) refl
-    where
-      by : (b : Bool) → has_requests i s ≡ b → OfPlace (if b then ring_wait (ring_size c) stay.Turn d else word_wait c i s d)
-      by true some = of_if (is_full (ring_size c) d) _ _ (of_plain _ refl refl refl) (of_plain _ refl refl refl)
-      by false none = of_word d none
+  of_waits = grind arith
 
   of_search : (d : Desk) → OfPlace (first_search c i s d)
-  of_search d =
-      of_if (not (is_of_pool s i)) _ _ (of_waits d)
-      (of_if (nat_le c.workers 1) _ _ (of_plain _ refl refl refl) (of_if d.searching _ _ (of_plain _ refl refl refl) (of_plain _ refl refl refl)))
+  of_search = grind arith
 
   of_looks_from : (j : ℕ) (d : Desk) → OfPlace (looks_from c i s j d)
   of_looks_from j d = of_if (nat_lt (past_own i j) c.workers) _ _ (of_plain _ refl refl refl) (of_waits d)
@@ -75,10 +55,7 @@ module _ (c : Configuration) (i : ℕ) (me : Books) (s : Common) where
   of_tail y h tail = of_if (nat_lt 256 (tail - h.real)) _ _ (of_plain _ refl refl refl) (of_if (nat_lt (tail - h.real) 2) _ _ (of_looks_at (past y)) (of_plain _ refl refl refl))
 
   of_back : (n : AfterWait) → OfPlace (goes_back n)
-  of_back next.Serve = of_plain _ refl refl refl
-  of_back next.Begin = of_plain _ refl refl refl
-  of_back (next.MakeUp last) = of_plain _ refl refl refl
-  of_back next.Search = of_plain _ refl refl refl
+  of_back = grind arith
 
   pub of_withdraws : (n : AfterWait) → OfPlace (withdraws s i n)
   of_withdraws n = of_if (is_of_pool s i) _ _ (of_plain _ refl refl refl) (of_back n)

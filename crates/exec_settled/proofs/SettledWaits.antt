@@ -1,26 +1,25 @@
 -- A wait on the ring, the end, and with these all moves of a worker.
-use Rattle.std.proofs.Common.{◌≡◌, ℕ, ◌==◌, Bool, true, false, ◌&&◌, ◌||◌, List, [], Option, refl, sym, ap, ◌∙◌, inl, inr, if◌then◌else◌}
-use Rattle.std.proofs.lemmas.Bool.{false≢true, or_parts}
-use Rattle.std.specs.Prelude.{◌⊎◌, drop, nat_lt, not}
+use Rattle.std.proofs.Common.{◌≡◌, ℕ, ◌==◌, Bool, true, false, ◌&&◌, ◌||◌, List, [], Option, refl, sym, ap, ◌∙◌, inl, inr, if◌then◌else◌, arith}
+use Rattle.std.proofs.lemmas.Bool.{false≢true}
+use Rattle.std.specs.Prelude.{◌⊎◌, drop, not}
 use Rattle.exec_words.specs.{Idle.is_in, Word.is_idle_at}
-use Rattle.exec_machine.specs.{declared.{config.Configuration.Configuration, event.Event.{Event, TheVariants.{Busy, End, Enter, Sleep, Turn}}}, After.own_after, Choice.{Choice, Choice.Plain}, Deadlines.next_due, Ranges.ring_size, Tests.is_empty, World.{Common, seat_of, Own as Books}}
+use Rattle.exec_machine.specs.{declared.{config.Configuration.Configuration, event.Event.{Event, TheVariants.{Busy, End, Enter, Sleep, Turn}}}, After.own_after, Choice.{Choice, Choice.Plain}, Deadlines.next_due, Ranges.ring_size, World.{Common, seat_of, Own as Books}}
 use Rattle.exec_moves.specs.declared.idling.{AfterWait.AfterWait, InRingWait.InRingWait, Stay.Stay}
 use Rattle.exec_moves.specs.declared.place.{InClosing.InClosing, Place.Place}
-use Rattle.exec_moves.specs.{Callback.{has_requests, is_full}, Claim.claimed, Load.{has_come, has_submissions}, Look.searching_if, Move.{move_at, move_ring_wait}, Send.first_letter, State.{Desk, Moved, Things, WakePoll, does, wake_poll_of, word_of}, Submit.one_more, Thing.{mailbox_of, ring_of}, Wait.{after_wait, enter_ring, has_completion}}
+use Rattle.exec_moves.specs.{Callback.{is_full}, Claim.claimed, Load.{has_come, has_submissions}, Look.searching_if, Move.{move_at, move_ring_wait}, Send.first_letter, State.{Desk, Moved, Things, WakePoll, does, wake_poll_of, word_of}, Submit.one_more, Thing.{mailbox_of, ring_of}, Wait.{after_wait, enter_ring, has_completion}}
 use Rattle.exec_moves.specs.declared.handing.AfterSend.TheVariants as send
 use Rattle.exec_moves.specs.declared.idling.AfterWait.TheVariants as next
 use Rattle.exec_moves.specs.declared.idling.InRingWait.TheVariants as ring
 use Rattle.exec_moves.specs.declared.idling.Stay.TheVariants as stay
 use Rattle.exec_moves.specs.declared.place.InClosing.TheVariants as closing
 use Rattle.exec_moves.specs.declared.place.Place.TheVariants as at
-use Rattle.exec_rest.specs.{AtRest.is_end, Places.is_to_sleep_on_ring, Posted.has_tested}
+use Rattle.exec_rest.specs.{Places.is_to_sleep_on_ring, Posted.has_tested}
 use Rattle.exec_rest.proofs.Untested.{is_test, untested}
-use Rattle.exec_settled.specs.Settled.{waits_closing, waits_on_word}
 use Rattle.exec_settled.proofs.SettledMoves.{Comes, Settles, Was, away, calls, globals, kicks_one, pushes_one, settled, signals_one, tests}
 use Rattle.exec_settled.proofs.SettledParts.{is_shut, off_after_return, off_first_pick, off_polls}
 use Rattle.exec_settled.proofs.SettledOff.{closes, loads, mails, picks, pops_one, serves}
 use Rattle.exec_settled.proofs.SettledPolls.{off_claim, off_made_up, off_moved_if, polls, posts}
-use Rattle.exec_settled.proofs.SettledPlaces.{OfBooks, closing_shut, end_shut, is_plain, kept, listed, no_sleep, none_in, sleep_deep, submitted_with, told_with}
+use Rattle.exec_settled.proofs.SettledPlaces.{is_plain, kept, listed, no_sleep, sleep_deep}
 use Rattle.exec_settled.proofs.SettledTest.{IsLeft, OfPlace, looks, of_plain, of_withdraws, reads, scans, searches, waits_there, withdraws_one}
 
 module _ (c : Configuration) (i : ℕ) (me : Books) (s : Common) (d : Desk) where
@@ -65,27 +64,12 @@ module _ (c : Configuration) (i : ℕ) (me : Books) (s : Common) (d : Desk) wher
   out p y n = let of = leaves y n in turned p y _ refl (inr of) (sleep_deep (after_wait s i y n) of.deep).0
 
   enters : (p : Place) (y : Stay) (busy : Bool) (landed : List ℕ) (wakes : WakePoll) → Waits p y (enter_ring y me d (record { busy = busy; landed = landed; wakes = wakes }))
-  enters p y true landed wakes =
-      record { desk = refl; own = refl; plain = refl; lands = inl (ring.DisarmRing next.Begin, refl); entered = λ h. absurd (false≢true h); slept = λ until is. no_sleep Busy refl until is }
-  enters p y false landed wakes =
-      record { desk = refl; own = refl; plain = refl; lands = inl (_, refl); entered = λ h. refl; slept = λ until is. no_sleep Enter refl until is }
+  enters = grind arith
 
   sleeps_there : (y : Stay) (x : Things) (b : Bool) → has_completion d (ring_of s x i) ≡ b → (come : Bool)
       → let left = record d { place = at.RingWait (ring.DisarmRing next.Begin) y } in
       Waits (at.RingWait ring.SleepOnRing y) y (if b then does Turn left (ring_of s x i) else if come then does Turn left (ring_of s x i) else does (Sleep (next_due s i)) left (ring_of s x i))
-  sleeps_there y x true there come = turned (at.RingWait ring.SleepOnRing y) y _ refl (inl (_, refl)) refl
-  sleeps_there y x false none true = turned (at.RingWait ring.SleepOnRing y) y _ refl (inl (_, refl)) refl
-  sleeps_there y x false none false =
-      let here = ring_of s x i in
-      let parts = or_parts (not (is_empty here.landed) || nat_lt 0 d.others) here.wakes.told none in
-      record {
-        desk = refl;
-        own = refl;
-        plain = refl;
-        lands = inl (_, refl);
-        entered = λ h. absurd (false≢true h);
-        slept = λ until is. (refl, none_in here.landed (or_parts (not (is_empty here.landed)) (nat_lt 0 d.others) parts.0).0);
-      }
+  sleeps_there = grind arith
 
   module _ (x : Things) where
     waits : (r : InRingWait) (y : Stay) → Waits (at.RingWait r y) y (move_ring_wait c i me s d x r y)
@@ -102,56 +86,18 @@ module _ (c : Configuration) (i : ℕ) (me : Books) (s : Common) (d : Desk) wher
     waits ring.SleepOnRing y = sleeps_there y x (has_completion d (ring_of s x i)) refl (has_come s.clock (next_due s i))
     waits (ring.DisarmRing n) y = out (at.RingWait (ring.DisarmRing n) y) y n
 
-  -- of a worker that doesn't close, and of one that does
-  in_turn : (q : Place) → Lands stay.Turn q → (waits_closing q ≡ false) × (waits_on_word q ≡ true → has_requests i s ≡ false)
-  in_turn q (inl (r, is)) = (ap waits_closing is, λ h. absurd (false≢true (sym (ap waits_on_word is) ∙ h)))
-  in_turn q (inr of) = (closing_shut q of.off, of.free)
-
-  in_closing : (q : Place) → Lands stay.Closing q → (is_end q ≡ false) × (waits_on_word q ≡ true → has_requests i s ≡ false)
-  in_closing q (inl (r, is)) = (ap is_end is, λ h. absurd (false≢true (sym (ap waits_on_word is) ∙ h)))
-  in_closing q (inr of) = (end_shut q of.off, of.free)
-
   open_waits : (r : InRingWait) (e : Event) (choice : Choice) (q : Desk) → Was c i me s (at.RingWait r stay.Turn) d → OnRing (at.RingWait r stay.Turn) stay.Turn e choice q
       → Settles c i me s (at.RingWait r stay.Turn) e choice q
-  open_waits r e choice q was on =
-      let place = in_turn q.place on.lands in
-      record {
-        told = λ h. told_with me (own_after c me s i e choice) d q on.desk (ap (λ (k : OfBooks). k.ended) on.own) (was.told refl);
-        submitted = λ h. submitted_with c me (own_after c me s i e choice) on.own (was.submitted refl);
-        free = place.1;
-        busy = λ h. absurd (false≢true (sym place.0 ∙ h));
-        plain = λ h. on.plain;
-        entered = on.entered;
-        slept = λ until is h. on.slept until is;
-      }
+  open_waits = grind arith
 
   closing_waits : (r : InRingWait) (e : Event) (choice : Choice) (q : Desk) → Was c i me s (at.RingWait r stay.Closing) d → has_tested q.place ≡ false
       → OnRing (at.RingWait r stay.Closing) stay.Closing e choice q
       → Settles c i me s (at.RingWait r stay.Closing) e choice q
-  closing_waits r e choice q was gone on =
-      let place = in_closing q.place on.lands in
-      record {
-        told = λ h. absurd (false≢true (sym (ap (λ b. b || is_end q.place) gone ∙ place.0) ∙ h));
-        submitted = λ h. absurd (false≢true (sym gone ∙ h));
-        free = place.1;
-        busy = λ h. was.busy refl;
-        plain = λ h. on.plain;
-        entered = on.entered;
-        slept = λ until is h. on.slept until is;
-      }
+  closing_waits = grind arith
 
   -- the end stays the end
   ends : Was c i me s (at.Closing closing.End) d → Settles c i me s (at.Closing closing.End) End Plain (record d { place = at.Closing closing.End })
-  ends was =
-      record {
-        told = λ h. told_with me (own_after c me s i End Plain) d (record d { place = at.Closing closing.End }) refl refl (was.told refl);
-        submitted = λ h. absurd (false≢true h);
-        free = λ h. absurd (false≢true h);
-        busy = λ h. absurd (false≢true h);
-        plain = λ h. absurd (false≢true h);
-        entered = λ h. absurd (false≢true h);
-        slept = λ until is h. absurd (false≢true h);
-      }
+  ends = grind arith
 
   -- ALL MOVES
   module _ (x : Things) where

@@ -1,5 +1,5 @@
 -- What a worker tells in its callbacks: who is to be woken is woken, and an end is sent to who waits elsewhere, which is woken next.
-use Rattle.std.proofs.Common.{◌≡◌, ℕ, ◌==◌, Bool, true, false, List, [], ◌∷◌, drop, Option, Some, None, refl, sym, ap, ◌∙◌, subst, inl, inr, nat_lt, if◌then◌else◌}
+use Rattle.std.proofs.Common.{◌≡◌, ℕ, ◌==◌, Bool, true, false, List, [], ◌∷◌, drop, Option, Some, None, refl, sym, ap, ◌∙◌, subst, inl, inr, arith}
 use Rattle.std.proofs.lemmas.Bool.{false≢true, eq-eqb, eqb-true, or_cases, or_left, or_right}
 use Rattle.std.specs.Prelude.{◌⊎◌}
 use Rattle.exec_machine.specs.{declared.{config.Configuration.Configuration, event.Event.TheVariants.{Wake}}, Ranges.ring_size, Tests.{is_done, is_idle}, World.{Common, Task, Own as Books, request_of, sleeper_of, task_of}}
@@ -13,22 +13,11 @@ use Rattle.exec_settled.proofs.{Tells.WakesNext, TellsPlain.{Mild, TellsAll, all
 
 pub in_order_has : (n : ℕ) (ns : List ℕ) → has_number n (in_order n ns) ≡ true
 in_order_has n [] = or_left (n == n) false (eq-eqb n n refl)
-in_order_has n (m ∷ ms) = by (nat_lt n m) (n == m) refl (in_order_has n ms)
-  where
-    by : (before same : Bool) → (n == m) ≡ same → has_number n (in_order n ms) ≡ true → has_number n (if before then n ∷ (m ∷ ms) else if same then m ∷ ms else m ∷ in_order n ms) ≡ true
-    by true same is later = or_left (n == n) (has_number n (m ∷ ms)) (eq-eqb n n refl)
-    by false true is later = or_left (m == n) (has_number n ms) (eq-eqb m n (sym (eqb-true n m is)))
-    by false false is later = or_right (m == n) (has_number n (in_order n ms)) later
+in_order_has n (m ∷ ms) = grind (arith, or_left, eq-eqb, eqb-true, or_right, in_order_has n ms)
 
 pub in_order_keeps : (k n : ℕ) (ns : List ℕ) → has_number k ns ≡ true → has_number k (in_order n ns) ≡ true
 in_order_keeps k n [] h = absurd (false≢true h)
-in_order_keeps k n (m ∷ ms) h = by (nat_lt n m) (n == m) (or_cases (m == k) (has_number k ms) h) (in_order_keeps k n ms)
-  where
-    by : (before same : Bool) → ((m == k) ≡ true) ⊎ (has_number k ms ≡ true) → (has_number k ms ≡ true → has_number k (in_order n ms) ≡ true) → has_number k (if before then n ∷ (m ∷ ms) else if same then m ∷ ms else m ∷ in_order n ms) ≡ true
-    by true same either later = or_right (n == k) (has_number k (m ∷ ms)) h
-    by false true either later = h
-    by false false (inl this) later = or_left (m == k) (has_number k (in_order n ms)) this
-    by false false (inr rest) later = or_right (m == k) (has_number k (in_order n ms)) (later rest)
+in_order_keeps k n (m ∷ ms) h = grind (arith, or_cases, or_right, or_left, in_order_keeps k n ms)
 
 -- WHAT IS NEXT is the first of its list
 
@@ -43,50 +32,20 @@ item_number (Completes z) = z
 item_number (Answers r) = r
 item_number Nothing = 0
 
-data Sort : Type 0 where
-  Waking : Sort
-  Letting : Sort
-  Releasing : Sort
-  Completing : Sort
-  Answering : Sort
-  None_of_all : Sort
-
-abbrev sort_of : Item → Sort
-sort_of (Wakes t) = Waking
-sort_of LetsGo = Letting
-sort_of (Releases r) = Releasing
-sort_of (Completes z) = Completing
-sort_of (Answers r) = Answering
-sort_of Nothing = None_of_all
-
 -- what stands in the list is the first of it, or behind that
 taken : (ns : List ℕ) (item : ℕ → Item) (later it : Item) → ((n : ℕ) → item_number (item n) ≡ n) → first_of ns item later ≡ it → (k : ℕ) → has_number k ns ≡ true → (k ≡ item_number it) ⊎ (has_number k (drop 1 ns) ≡ true)
 taken [] item later it number is k h = absurd (false≢true h)
 taken (n ∷ ns) item later it number is k h = elim (first_or k n ns h) [ inl this ↦ inl (this ∙ sym (number n) ∙ ap item_number is) | inr rest ↦ inr rest ]
-
--- it is of another sort, and so of a later list
-passed : (ns : List ℕ) (item : ℕ → Item) (later it : Item) → ((n : ℕ) → sort_of (item n) ≡ sort_of it → ⊥) → first_of ns item later ≡ it → later ≡ it
-passed [] item later it other is = is
-passed (n ∷ ns) item later it other is = absurd (other n (ap sort_of is))
-
-passed_if : (b : Bool) (item later it : Item) → (sort_of item ≡ sort_of it → ⊥) → (if b then item else later) ≡ it → later ≡ it
-passed_if true item later it other is = absurd (other (ap sort_of is))
-passed_if false item later it other is = is
 
 module _ (me : Books) (d : Desk) where
   wake_taken : (t : ℕ) → item_next me d ≡ Wakes t → (u : ℕ) → has_number u d.wakes ≡ true → (u ≡ t) ⊎ (has_number u (drop 1 d.wakes) ≡ true)
   wake_taken t is u h = taken d.wakes Wakes _ (Wakes t) (λ n. refl) is u h
 
   completion_taken : (z : ℕ) → item_next me d ≡ Completes z → (u : ℕ) → has_number u d.completions ≡ true → (u ≡ z) ⊎ (has_number u (drop 1 d.completions) ≡ true)
-  completion_taken z is u h =
-      taken d.completions Completes _ (Completes z) (λ n. refl)
-      (passed me.ended Releases _ (Completes z) (λ n e. cc) (passed_if (nat_lt 0 d.outputs) LetsGo _ (Completes z) (λ e. cc) (passed d.wakes Wakes _ (Completes z) (λ n e. cc) is))) u h
+  completion_taken = grind arith
 
   answer_taken : (r : ℕ) → item_next me d ≡ Answers r → (u : ℕ) → has_number u d.results ≡ true → (u ≡ r) ⊎ (has_number u (drop 1 d.results) ≡ true)
-  answer_taken r is u h =
-      taken d.results Answers _ (Answers r) (λ n. refl)
-      (passed d.completions Completes _ (Answers r) (λ n e. cc)
-      (passed me.ended Releases _ (Answers r) (λ n e. cc) (passed_if (nat_lt 0 d.outputs) LetsGo _ (Answers r) (λ e. cc) (passed d.wakes Wakes _ (Answers r) (λ n e. cc) is)))) u h
+  answer_taken = grind arith
 
 module _ (c : Configuration) (i : ℕ) (me : Books) (s : Common) (d : Desk) (x : Things) (n : AfterCallbacks) where
   abbrev Mildly : Moved Things → Type 0
@@ -153,9 +112,7 @@ module _ (c : Configuration) (i : ℕ) (me : Books) (s : Common) (d : Desk) (x :
         awaited = λ k there held going unsent observed. subst (λ l. has_number k l.awaited ≡ true) (sym same) there;
         wakes = λ u there. inl (subst (λ l. has_number u l.wakes ≡ true) (sym same) there);
         results = λ k there. elim (answer_taken me d r is k there) [
-          | inl this ↦ inr (subst (λ q. (has_number q (in_order r x.answers) ≡ true)
-              × ((t : ℕ) → (request_of s q).waiter ≡ Some t → is_done (task_of s t).phase ≡ false → WakesNext i s d x m (late c i me s d x m) t (Heard.Request q)))
-              (sym this) (in_order_has r x.answers, λ t waits going. teller_place (request_of s r).waiter (heard.Request r) e t waits going))
+          | inl this ↦ grind (arith, late, in_order_has, teller_place)
           | inr rest ↦ inl (subst (λ l. has_number k l.results ≡ true) (sym same) rest)
         ];
         completions = λ z there. inl (subst (λ l. has_number z l.completions ≡ true) (sym same) there);

@@ -1,11 +1,11 @@
 -- What a worker tells by the messages that it applies, and as it closes.
-use Rattle.std.proofs.Common.{◌≡◌, ℕ, zero, suc, ◌+◌, ◌-◌, Bool, true, false, List, [], ◌∷◌, length, set, get_or, Option, Some, None, refl, sym, ap, subst, if◌then◌else◌}
+use Rattle.std.proofs.Common.{◌≡◌, ℕ, zero, suc, ◌+◌, ◌-◌, Bool, true, false, List, [], ◌∷◌, length, set, get_or, Option, Some, None, refl, sym, ap, subst, if◌then◌else◌, arith}
 use Rattle.std.proofs.lemmas.Bool.{true≢false, false≢true}
 use Rattle.std.specs.Prelude.{slice_get, slice_index_or}
 use Rattle.exec_task.specs.declared.drain.Drain.{Drain}
-use Rattle.exec_machine.specs.{declared.{config.Configuration.Configuration, event.Event.{Event, TheVariants.{Apply}}, state.{Forwarding.TheVariants.{Applied}, MailMessage.MailMessage}}, Closing.{ends_by_clear, with_cleared}, Requests.{dropped}, Tasks.{after_over, requests_after_drops}, Tests.{is_resolved, is_unsent}, World.{Common, Own as Books, Task, no_request, no_task, request_of, sleeper_of, task_of}}
+use Rattle.exec_machine.specs.{declared.{config.Configuration.Configuration, event.Event.{Event, TheVariants.{Apply}}, state.{Forwarding.TheVariants.{Applied}, MailMessage.MailMessage}}, Closing.{ends_by_clear, with_cleared}, Requests.{dropped}, Tasks.{after_over}, Tests.{is_resolved, is_unsent}, World.{Common, Own as Books, Task, no_task, request_of, sleeper_of, task_of}}
 use Rattle.exec_machine.specs.declared.state.MailMessage.TheVariants as message
-use Rattle.exec_moves.specs.{declared.place.{InClosing.InClosing, InMail.InMail, Place.Place}, Close.{clear, close_sleeper, first_asleep, first_held, orphan, visit}, Load.has_mail, Mail.{after_message, apply, take_mail, to_callbacks, told_by_message}, Move.{move_closing, move_mail}, Pop.shard_count, Slots.is_in_slots, State.{Desk, Moved, Own, Things, does, inbox_of, turns, word_of}, Thing.{aside, set_word, with_inbox, with_shard}, Told.{has_number, lets_go_all, told_of_cancel, told_of_drop, told_of_fire, told_of_forward, told_of_timer_forward, woken_where_awaited}}
+use Rattle.exec_moves.specs.{declared.place.{InClosing.InClosing, InMail.InMail, Place.Place}, Close.{clear, close_sleeper, first_asleep, first_held, orphan, visit}, Load.has_mail, Mail.{after_message, apply, take_mail, to_callbacks, told_by_message}, Move.{move_closing, move_mail}, Pop.shard_count, State.{Desk, Moved, Own, Things, does, inbox_of, turns, word_of}, Thing.{aside, set_word, with_inbox, with_shard}, Told.{has_number, lets_go_all, told_of_cancel, told_of_drop, told_of_fire, told_of_forward, told_of_timer_forward, woken_where_awaited}}
 use Rattle.exec_moves.specs.declared.handing.AfterSend.TheVariants as send
 use Rattle.exec_moves.specs.declared.place.InClosing.TheVariants as closing
 use Rattle.exec_moves.specs.declared.place.InMail.TheVariants as mail
@@ -72,9 +72,7 @@ module _ (c : Configuration) (i : ℕ) (me : Books) (s : Common) (d : Desk) (x :
         says = record {
           waits = λ k h held. absurd (true≢false (ap is_apply h));
           applies = λ k h over. absurd (true≢false (ap forwards_timer h));
-          applies_too = λ y h gone. let same : z ≡ y = ap forwarded h in
-              subst (λ q. has_number q (told_of_timer_forward z d).completions ≡ true) same
-              (sent_at_timer_forward z (sleeper_of s z) d (subst (λ q. is_in_slots q d.timers ≡ false) (sym same) gone));
+          applies_too = grind (arith, sent_at_timer_forward);
           begins = λ t h. absurd (true≢false (ap is_apply h));
         };
       }
@@ -125,9 +123,7 @@ module _ (c : Configuration) (i : ℕ) (me : Books) (s : Common) (d : Desk) (x :
 
   cleared_awaited : (t k : ℕ) (ends : Bool) → has_number k d.awaited ≡ true → (request_of (if ends then after_over (with_cleared s t) i t else with_cleared s t) k).observed ≡ true
       → has_number k (if ends then lets_go_all i s (task_of s t) d else d).awaited ≡ true
-  cleared_awaited t k true there observed =
-      all_awaited i s (task_of s t) d k there (subst (λ held. (get_or (requests_after_drops i held s.requests) k no_request).observed ≡ true) (held_cleared s.tasks t) observed)
-  cleared_awaited t k false there observed = there
+  cleared_awaited = grind (arith, all_awaited, held_cleared)
 
   clears : (t : ℕ) (drain : Drain) → Mildly (aside x (clear i t drain s d (task_of s t)))
   clears t drain =

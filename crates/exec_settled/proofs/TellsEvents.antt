@@ -1,14 +1,12 @@
 -- Of each event: whether a request that somebody holds is over by it, or a sleeper fires by it. Few do that.
-use Rattle.std.proofs.Common.{◌≡◌, ℕ, zero, suc, Bool, true, false, ◌&&◌, ◌==◌, List, [], ◌∷◌, ◌++◌, map, Option, Some, None, refl, sym, ap, ◌∙◌, subst, inl, inr, get_or, set, if◌then◌else◌}
+use Rattle.std.proofs.Common.{◌≡◌, ℕ, zero, suc, Bool, true, false, ◌&&◌, ◌==◌, List, [], ◌∷◌, ◌++◌, map, Option, Some, None, refl, sym, ◌∙◌, subst, inl, inr, get_or, set, if◌then◌else◌, arith}
 use Rattle.std.proofs.lemmas.Bool.{true≢false, false≢true}
 use Rattle.std.specs.Prelude.{◌⊎◌}
-use Rattle.exec_machine.specs.declared.{config.Configuration.Configuration, event.Event.Event, state.{MailMessage.MailMessage, Next.Next, Request.Request, Sleeper.Sleeper, Waiting.Waiting}}
-use Rattle.exec_machine.specs.{After.{common_after, polled}, Choice.{Choice, Payer, Choice.{Plain, Passes, Pays, Posts}, Payer.{ByRequest, BySleeper, ByAct, ByCall, ByStop}}, Closing.{after_next, after_turn, ends_by_clear, gone_with, with_cleared}, Deadlines.new_sleeper, Mail.{after_message, after_sending, is_left_out, is_root_message, posted}, Requests.{account_of_open, asked_now, dropped, ends_by_drop, flown, is_cancelled_by_drop, judged_of, new_request, resolved, resolved_if, with_seen}, Tasks.{after_over, after_payment, after_wake, after_word, pended_phase, removed, requests_after_drops, sleepers_after_waking_up}, Tests.{is_resolved, is_staged, set_open, set_seat, set_task}, World.{Common, Own as Books, no_request, no_sleeper, open_of, request_of, seat_of, sleeper_of, task_of}}
-use Rattle.exec_base.specs.declared.error.Error.TheVariants.{Timeout}
-use Rattle.exec_outcomes.specs.{declared.outcome.{OpResult.OpResult, Outcome.TheVariants.Failure}, Outcomes.refuses_hint}
+use Rattle.exec_machine.specs.declared.{config.Configuration.Configuration, event.Event.Event, state.{MailMessage.MailMessage, Request.Request, Sleeper.Sleeper, Waiting.Waiting}}
+use Rattle.exec_machine.specs.{After.{common_after, polled}, Choice.{Choice, Payer}, Closing.{after_turn, ends_by_clear, gone_with, with_cleared}, Deadlines.new_sleeper, Mail.{after_message, after_sending, is_left_out, is_root_message, posted}, Requests.{account_of_open, asked_now, dropped, flown, judged_of, new_request, resolved_if, with_seen}, Tasks.{after_over, after_payment, after_wake, after_word, pended_phase, requests_after_drops, sleepers_after_waking_up}, Tests.{is_resolved, set_open, set_seat, set_task}, World.{Common, Own as Books, no_request, no_sleeper, open_of, request_of, seat_of, sleeper_of, task_of}}
+use Rattle.exec_outcomes.specs.{declared.outcome.{OpResult.OpResult}, Outcomes.refuses_hint}
 use Rattle.exec_machine.specs.declared.event.Event.TheVariants as event
 use Rattle.exec_machine.specs.declared.state.MailMessage.TheVariants as message
-use Rattle.exec_machine.specs.declared.state.Next.TheVariants as next
 use Rattle.exec_machine.specs.declared.state.RequestPhase.TheVariants as phase
 use Rattle.exec_machine.specs.declared.state.Waiting.TheVariants as waiting
 
@@ -70,20 +68,10 @@ pub same_last : {xs ys : List Request} → ys ≡ xs → AllLast xs ys
 same_last {xs} is = subst (AllLast xs) (sym is) (λ k. lasts (get_or xs k no_request))
 
 pub dropped_observed : (x : Request) → (dropped x).observed ≡ false
-dropped_observed x = by (ends_by_drop x) (is_cancelled_by_drop x)
-  where
-    by : (ends cancelled : Bool) → (if ends then record (resolved (Failure Timeout) x) { observed = false } else if cancelled then record x { observed = false; cancelled = true; timer = None } else record x { observed = false }).observed ≡ false
-    by true cancelled = refl
-    by false true = refl
-    by false false = refl
+dropped_observed = grind arith
 
 dropped_worker : (x : Request) → (dropped x).worker ≡ x.worker
-dropped_worker x = by (ends_by_drop x) (is_cancelled_by_drop x)
-  where
-    by : (ends cancelled : Bool) → (if ends then record (resolved (Failure Timeout) x) { observed = false } else if cancelled then record x { observed = false; cancelled = true; timer = None } else record x { observed = false }).worker ≡ x.worker
-    by true cancelled = refl
-    by false true = refl
-    by false false = refl
+dropped_worker = grind arith
 
 unheld : (x y : Request) → y.observed ≡ false → Lasts x y
 unheld x y gone over held = absurd (true≢false (sym held ∙ gone))
@@ -100,14 +88,7 @@ pub is_dropped : (x : Request) → Drops x (dropped x)
 is_dropped x = record { either = inr (dropped_observed x); worker = dropped_worker x }
 
 then_dropped : (x y z : Request) → Drops x y → Drops y z → Drops x z
-then_dropped x y z a b =
-    record {
-      either = elim b.either [
-        | inl is ↦ elim a.either [ inl was ↦ inl (is ∙ was) | inr gone ↦ inr (ap (λ r. r.observed) is ∙ gone) ]
-        | inr gone ↦ inr gone
-      ];
-      worker = b.worker ∙ a.worker;
-    }
+then_dropped = grind arith
 
 abbrev pub AllDrop : List Request → List Request → Type 0
 AllDrop xs ys = (k : ℕ) → Drops (get_or xs k no_request) (get_or ys k no_request)
@@ -125,17 +106,10 @@ drops i [] xs k = undropped (get_or xs k no_request)
 drops i (r ∷ held) xs k = then_dropped (get_or xs k no_request) _ _ (one_dropped i r xs k) (drops i held _ k)
 
 drops_last : (xs ys : List Request) → AllDrop xs ys → AllLast xs ys
-drops_last xs ys all k over held = elim (all k).either [
-  | inl is ↦ subst (λ r. is_resolved r.phase ≡ true) is over
-  | inr gone ↦ absurd (true≢false (sym held ∙ gone))
-]
+drops_last = grind arith
 
 flown_lasts : (i : ℕ) (x : Request) → Lasts x (flown i x)
-flown_lasts i x = by ((x.worker == i) && is_staged x.phase)
-  where
-    by : (flies : Bool) → Lasts x (if flies then record x { phase = phase.Flying } else x)
-    by true over held = absurd (false≢true over)
-    by false over held = over
+flown_lasts = grind arith
 
 -- BY EVENT
 module _ (c : Configuration) (me : Books) (s : Common) (i : ℕ) (choice : Choice) where
@@ -148,17 +122,8 @@ module _ (c : Configuration) (me : Books) (s : Common) (i : ℕ) (choice : Choic
   drop_one : (r : ℕ) → AllLast s.requests (set s.requests r (dropped (request_of s r)))
   drop_one r = one r (dropped (request_of s r)) (unheld (request_of s r) (dropped (request_of s r)) (dropped_observed (request_of s r)))
 
-  by_next : (n : Next) → all_last (after_next s i n)
-  by_next next.Free = same_last refl
-  by_next (next.Joins r) = same_last refl
-  by_next next.ClosesQueue = same_last refl
-  by_next next.ClosesMailbox = same_last refl
-
   by_turn : (by : Choice) → all_last (after_turn me s i by)
-  by_turn Passes = same_last refl
-  by_turn Plain = by_next me.next
-  by_turn (Pays payer) = by_next me.next
-  by_turn (Posts payer left_out) = by_next me.next
+  by_turn = grind arith
 
   by_pend : (t : ℕ) (cleared : Bool) → all_last (if cleared then after_over s i t else set_task s t (record (task_of s t) { phase = pended_phase (task_of s t).phase }))
   by_pend t true = drops_last s.requests _ (drops i (task_of s t).held s.requests)
@@ -173,37 +138,20 @@ module _ (c : Configuration) (me : Books) (s : Common) (i : ℕ) (choice : Choic
   by_word (Some t) = same_last refl
 
   by_payment : (polls : Option ℕ) (payer : Payer) → all_last (after_payment s polls payer)
-  by_payment polls (ByRequest r) = one r _ (lasts (request_of s r))
-  by_payment polls (BySleeper z) = same_last refl
-  by_payment None ByAct = same_last refl
-  by_payment (Some t) ByAct = same_last refl
-  by_payment polls ByCall = same_last refl
-  by_payment polls ByStop = same_last refl
+  by_payment = grind (arith, one, lasts, same_last)
 
   by_wake : (t : ℕ) (by : Choice) → all_last (after_wake me s t by)
-  by_wake t Plain = same_last refl
-  by_wake t Passes = same_last refl
-  by_wake t (Pays payer) = by_payment me.polls payer
-  by_wake t (Posts payer left_out) = same_last refl
+  by_wake = grind (arith, same_last, by_payment)
 
   by_sending : (polls : Option ℕ) (m : MailMessage) → all_last (after_sending s polls m)
-  by_sending None m = same_last refl
-  by_sending (Some t) message.Root = same_last refl
-  by_sending (Some t) (message.ForwardRequest r) = one r _ (lasts (request_of s r))
-  by_sending (Some t) (message.ForwardTimer z) = same_last refl
-  by_sending (Some t) (message.CancelRequest r) = same_last refl
-  by_sending (Some t) (message.CancelTimer z) = same_last refl
+  by_sending = grind (arith, same_last, one, lasts)
 
   posts_last : (late : Common) (to : ℕ) (m : MailMessage) (left_out : Bool) → all_last late → all_last (if left_out then late else set_seat late to (posted m (seat_of late to)))
   posts_last late to m true h = h
   posts_last late to m false h = h
 
   by_message : (m : MailMessage) → all_last (after_message me s m)
-  by_message message.Root = same_last refl
-  by_message (message.ForwardRequest r) = one r _ (lasts (request_of s r))
-  by_message (message.ForwardTimer z) = same_last refl
-  by_message (message.CancelRequest r) = drop_one r
-  by_message (message.CancelTimer z) = same_last refl
+  by_message = grind (arith, same_last, one, lasts, drop_one)
 
   pub last_by : (e : Event) → is_ending e ≡ false → all_last (common_after c me s i e choice)
   last_by event.Turn h = by_turn choice
@@ -260,11 +208,7 @@ pub same_sleep : {xs ys : List Sleeper} → ys ≡ xs → AllSleep xs ys
 same_sleep {xs} is = subst (AllSleep xs) (sym is) (λ z. sleeps (get_or xs z no_sleeper))
 
 gone_sleeps : (i : ℕ) (x : Sleeper) → Sleeps x (gone_with i x)
-gone_sleeps i x = by (x.worker == i)
-  where
-    by : (own : Bool) → Sleeps x (if own then removed x else x)
-    by true fired = fired
-    by false fired = fired
+gone_sleeps = grind arith
 
 module _ (c : Configuration) (me : Books) (s : Common) (i : ℕ) (choice : Choice) where
   abbrev all_sleep : Common → Type 0
@@ -273,29 +217,11 @@ module _ (c : Configuration) (me : Books) (s : Common) (i : ℕ) (choice : Choic
   one_more : (z : ℕ) (y : Sleeper) → Sleeps (sleeper_of s z) y → AllSleep s.sleepers (set s.sleepers z y)
   one_more z y h = all_set Sleeps no_sleeper sleeps s.sleepers z y h
 
-  next_sleeps : (n : Next) → all_sleep (after_next s i n)
-  next_sleeps next.Free = same_sleep refl
-  next_sleeps (next.Joins r) = same_sleep refl
-  next_sleeps next.ClosesQueue = same_sleep refl
-  next_sleeps next.ClosesMailbox = same_sleep refl
-
   turn_sleeps : (by : Choice) → all_sleep (after_turn me s i by)
-  turn_sleeps Passes = same_sleep refl
-  turn_sleeps Plain = next_sleeps me.next
-  turn_sleeps (Pays payer) = next_sleeps me.next
-  turn_sleeps (Posts payer left_out) = next_sleeps me.next
+  turn_sleeps = grind arith
 
   over_sleeps : (w : Waiting) → AllSleep s.sleepers (sleepers_after_waking_up s i w)
-  over_sleeps (waiting.Timer z) = by ((sleeper_of s z).worker == i)
-    where
-      by : (own : Bool) → AllSleep s.sleepers (if own then set s.sleepers z (removed (sleeper_of s z)) else s.sleepers)
-      by true = one_more z _ (sleeps (sleeper_of s z))
-      by false = same_sleep refl
-  over_sleeps waiting.Nothing = same_sleep refl
-  over_sleeps (waiting.Request r) = same_sleep refl
-  over_sleeps waiting.Wake = same_sleep refl
-  over_sleeps waiting.Woken = same_sleep refl
-  over_sleeps waiting.Yielded = same_sleep refl
+  over_sleeps = grind (arith, one_more, sleeps, same_sleep)
 
   pend_sleeps : (t : ℕ) (cleared : Bool) → all_sleep (if cleared then after_over s i t else set_task s t (record (task_of s t) { phase = pended_phase (task_of s t).phase }))
   pend_sleeps t true = over_sleeps (task_of s t).waiting
@@ -319,37 +245,20 @@ module _ (c : Configuration) (me : Books) (s : Common) (i : ℕ) (choice : Choic
   word_sleeps (Some t) = same_sleep refl
 
   payment_sleeps : (polls : Option ℕ) (payer : Payer) → all_sleep (after_payment s polls payer)
-  payment_sleeps polls (ByRequest r) = same_sleep refl
-  payment_sleeps polls (BySleeper z) = one_more z _ (sleeps (sleeper_of s z))
-  payment_sleeps None ByAct = same_sleep refl
-  payment_sleeps (Some t) ByAct = same_sleep refl
-  payment_sleeps polls ByCall = same_sleep refl
-  payment_sleeps polls ByStop = same_sleep refl
+  payment_sleeps = grind (arith, same_sleep, one_more, sleeps)
 
   wake_sleeps : (t : ℕ) (by : Choice) → all_sleep (after_wake me s t by)
-  wake_sleeps t Plain = same_sleep refl
-  wake_sleeps t Passes = same_sleep refl
-  wake_sleeps t (Pays payer) = payment_sleeps me.polls payer
-  wake_sleeps t (Posts payer left_out) = same_sleep refl
+  wake_sleeps = grind (arith, same_sleep, payment_sleeps)
 
   sending_sleeps : (polls : Option ℕ) (m : MailMessage) → all_sleep (after_sending s polls m)
-  sending_sleeps None m = same_sleep refl
-  sending_sleeps (Some t) message.Root = same_sleep refl
-  sending_sleeps (Some t) (message.ForwardRequest r) = same_sleep refl
-  sending_sleeps (Some t) (message.ForwardTimer z) = one_more z _ (sleeps (sleeper_of s z))
-  sending_sleeps (Some t) (message.CancelRequest r) = same_sleep refl
-  sending_sleeps (Some t) (message.CancelTimer z) = same_sleep refl
+  sending_sleeps = grind (arith, same_sleep, one_more, sleeps)
 
   post_sleeps : (late : Common) (to : ℕ) (m : MailMessage) (left_out : Bool) → all_sleep late → all_sleep (if left_out then late else set_seat late to (posted m (seat_of late to)))
   post_sleeps late to m true h = h
   post_sleeps late to m false h = h
 
   message_sleeps : (m : MailMessage) → all_sleep (after_message me s m)
-  message_sleeps message.Root = same_sleep refl
-  message_sleeps (message.ForwardRequest r) = same_sleep refl
-  message_sleeps (message.ForwardTimer z) = one_more z _ (sleeps (sleeper_of s z))
-  message_sleeps (message.CancelRequest r) = same_sleep refl
-  message_sleeps (message.CancelTimer z) = one_more z _ (sleeps (sleeper_of s z))
+  message_sleeps = grind (arith, same_sleep, one_more, sleeps)
 
   reap_sleeps : (r : ℕ) (n : OpResult) (refused : Bool) → AllSleep s.sleepers (if refused then set_open s (request_of s r).operation.target (record (open_of s (request_of s r).operation.target) { account = record (account_of_open s (request_of s r)) { hinted = false } }) else s).sleepers
   reap_sleeps r n true = same_sleep refl

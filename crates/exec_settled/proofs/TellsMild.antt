@@ -1,10 +1,10 @@
 -- Moves that tell of one request or of one sleeper, or of all that a task held.
-use Rattle.std.proofs.Common.{◌≡◌, ℕ, zero, suc, ◌==◌, Bool, true, false, List, [], ◌∷◌, set, get_or, Option, Some, None, refl, sym, ap, ◌∙◌, subst, inl}
+use Rattle.std.proofs.Common.{◌≡◌, ℕ, zero, suc, true, false, List, [], ◌∷◌, set, get_or, Option, Some, None, refl, sym, ◌∙◌, subst, arith}
 use Rattle.std.proofs.lemmas.{Bool.{true≢false, eqb-true, eqb-false}, List.get_or-set_other}
 use Rattle.exec_outcomes.specs.declared.outcome.Outcome.{Outcome}
-use Rattle.exec_machine.specs.{declared.{config.Configuration.Configuration, event.Event.TheVariants.{Fire}, state.{Forwarding.TheVariants.Unsent, Request.Request, Sleeper.Sleeper}}, Tests.{is_applied, is_resolved}, World.{Common, Own as Books, no_request, no_sleeper, request_of, sleeper_of}}
+use Rattle.exec_machine.specs.{declared.{config.Configuration.Configuration, event.Event.TheVariants.{Fire}, state.{Forwarding.TheVariants.Unsent, Request.Request, Sleeper.Sleeper}}, Tests.{is_applied, is_resolved}, World.{Common, Own as Books, no_request, request_of, sleeper_of}}
 use Rattle.exec_moves.specs.{Slots.numbers_in, State.{Desk, Moved, Things}, Told.{has_number, told_if_ended, told_of_end, told_of_fire}}
-use Rattle.exec_settled.proofs.{TellsEvents.{AllSleep, all_set, asleep_by, is_firing, is_saying, lasts, same_last, Lasts}, TellsPlain.{Ends, Lists, Mild, ends_none, late, lists_of, no_says, same_lists}, TellsTold.{Adds, Told, Tolds, adds, end_told, fire_told, sent_at_end, sent_at_fire, told_then, woken_at_end, woken_at_fire}}
+use Rattle.exec_settled.proofs.{TellsEvents.{AllSleep, all_set, asleep_by, is_firing, is_saying, lasts, same_last, Lasts}, TellsPlain.{Ends, Lists, Mild, ends_none, late, lists_of, no_says, same_lists}, TellsTold.{Adds, Told, Tolds, adds, end_told, fire_told, sent_at_end, sent_at_fire, woken_at_end, woken_at_fire}}
 
 -- it is waited for no more by who waits here: it is over, waited for elsewhere, or held by nobody
 abbrev pub Rests : Request → Type 0
@@ -30,27 +30,14 @@ module _ (c : Configuration) (i : ℕ) (me : Books) (s : Common) (d : Desk) (x :
       → ((k : ℕ) → has_number k d.awaited ≡ true → has_number k (numbers_in d.requests.held) ≡ true → is_resolved (request_of (late c i me s d x m) k).phase ≡ false
       → (request_of (late c i me s d x m) k).forwarding ≡ Unsent → (request_of (late c i me s d x m) k).observed ≡ true → has_number k e.awaited ≡ true)
       → Lists c i me s d x m
-  adds_lists m e is more awaited =
-      record {
-        awaited = λ k there held going unsent observed. subst (λ l. has_number k l.awaited ≡ true) (sym is) (awaited k there held going unsent observed);
-        wakes = λ t there. inl (subst (λ l. has_number t l.wakes ≡ true) (sym is) (more.wakes t there));
-        results = λ k there. inl (subst (λ l. has_number k l.results ≡ true) (sym is) (more.results k there));
-        completions = λ z there. inl (subst (λ l. has_number z l.completions ≡ true) (sym is) (more.completions z there));
-        answers = λ k there. subst (λ l. has_number k l.answers ≡ true) (sym is) there;
-        alarms = λ z there. subst (λ l. has_number z l.alarms ≡ true) (sym is) there;
-      }
+  adds_lists = grind arith
 
   pub same_awaited : (m : Moved Things) (e : Desk) → lists_of m.desk m.thing ≡ lists_of e x → Adds d e → e.awaited ≡ d.awaited → Lists c i me s d x m
   same_awaited m e is more same = adds_lists m e is more (λ k there held going unsent observed. subst (λ l. has_number k l ≡ true) (sym same) there)
 
   -- it was told of request r, which rests then
   pub told_lists : (m : Moved Things) (r : ℕ) (e : Desk) → lists_of m.desk m.thing ≡ lists_of e x → Told r d e → Rests (request_of (late c i me s d x m) r) → Lists c i me s d x m
-  told_lists m r e is told rests = adds_lists m e is told.adds (λ k there held going unsent observed. by k (k == r) refl there going unsent observed)
-    where
-      by : (k : ℕ) (this : Bool) → (k == r) ≡ this → has_number k d.awaited ≡ true → is_resolved (request_of (late c i me s d x m) k).phase ≡ false
-          → (request_of (late c i me s d x m) k).forwarding ≡ Unsent → (request_of (late c i me s d x m) k).observed ≡ true → has_number k e.awaited ≡ true
-      by k false other there going unsent observed = told.awaited k other there
-      by k true this there going unsent observed = absurd (subst (λ j. Rests (request_of (late c i me s d x m) j)) (sym (eqb-true k r this)) rests going unsent observed)
+  told_lists = grind arith
 
   -- A REQUEST THAT MAY END: y is what it is then
   abbrev pub Matches : Option Outcome → Request → Request → Type 0
@@ -58,38 +45,11 @@ module _ (c : Configuration) (i : ℕ) (me : Books) (s : Common) (d : Desk) (x :
   Matches (Some how) y it = is_resolved y.phase ≡ true
 
   like_told : (r : ℕ) (e f : Desk) → lists_of e x ≡ lists_of d x → Told r e f → Told r d f
-  like_told r e f same told =
-      told_then r d e f
-      (record { adds = adds d e (ap (λ l. l.wakes) same) (ap (λ l. l.results) same) (ap (λ l. l.completions) same); awaited = λ k other there. subst (λ l. has_number k l.awaited ≡ true) (sym same) there })
-      told
+  like_told = grind arith
 
   one_ends : (m : Moved Things) (r : ℕ) (y : Request) (e : Desk) → lists_of e x ≡ lists_of d x → (late c i me s d x m).requests ≡ set s.requests r y → AllSleep s.sleepers (late c i me s d x m).sleepers
       → lists_of m.desk m.thing ≡ lists_of (told_of_end r (request_of s r) e) x → Ends c i me s d x m
-  one_ends m r y e same changed asleep is =
-      record {
-        ends_elsewhere = λ k going over held held_then applied.
-            let at = here k going over in
-            subst (λ j. has_number j m.desk.results ≡ true) (sym at)
-            (subst (λ l. has_number r l.results ≡ true) (sym is)
-            (sent_at_end r (request_of s r) e (subst (λ j. (request_of s j).observed ≡ true) at held) (subst (λ j. is_applied (request_of s j).forwarding ≡ true) at applied)));
-        ends_here = λ k t going over held held_then unsent there waits.
-            let at = here k going over in
-            subst (λ l. has_number t l.wakes ≡ true) (sym is)
-            (woken_at_end r (request_of s r) e t (subst (λ j. (request_of s j).observed ≡ true) at held) (subst (λ j. is_applied (request_of s j).forwarding ≡ false) at unsent)
-            (subst (λ j. has_number j e.awaited ≡ true) at (subst (λ l. has_number k l.awaited ≡ true) (sym same) there)) (subst (λ j. (request_of s j).waiter ≡ Some t) at waits));
-        fires_elsewhere = λ z sleeping fired applied. absurd (true≢false (sym (asleep z fired) ∙ sleeping));
-        fires_here = λ z sleeping fired unsent. absurd (true≢false (sym (asleep z fired) ∙ sleeping));
-      }
-    where
-      -- no other one ends
-      here : (k : ℕ) → is_resolved (request_of s k).phase ≡ false → is_resolved (request_of (late c i me s d x m) k).phase ≡ true → k ≡ r
-      here k going over = by (k == r) refl
-        where
-          by : (this : Bool) → (k == r) ≡ this → k ≡ r
-          by true this = eqb-true k r this
-          by false other =
-              absurd (true≢false (sym (subst (λ q. is_resolved q.phase ≡ true) (get_or-set_other s.requests r k y no_request (eqb-false k r other))
-              (subst (λ rs. is_resolved (get_or rs k no_request).phase ≡ true) changed over)) ∙ going))
+  one_ends = grind (arith, sent_at_end, woken_at_end, true≢false, late, eqb-true, get_or-set_other, eqb-false)
 
   pub mild_end : (m : Moved Things) (r : ℕ) (y : Request) (how : Option Outcome) (e : Desk) → lists_of e x ≡ lists_of d x → (late c i me s d x m).requests ≡ set s.requests r y
       → Matches how y (request_of s r) → is_firing m.event ≡ false → is_saying m.event ≡ false → lists_of m.desk m.thing ≡ lists_of (told_if_ended how r (request_of s r) e) x → Mild c i me s d x m
@@ -136,10 +96,4 @@ module _ (c : Configuration) (i : ℕ) (me : Books) (s : Common) (d : Desk) (x :
 
       -- no other one fires
       here : (n : ℕ) → (sleeper_of s n).fired ≡ false → (sleeper_of (late c i me s d x m) n).fired ≡ true → n ≡ z
-      here n sleeping fired = by (n == z) refl
-        where
-          by : (this : Bool) → (n == z) ≡ this → n ≡ z
-          by true this = eqb-true n z this
-          by false other =
-              absurd (true≢false (sym (subst (λ q. q.fired ≡ true) (get_or-set_other s.sleepers z n y no_sleeper (eqb-false n z other))
-              (subst (λ zs. (get_or zs n no_sleeper).fired ≡ true) changed fired)) ∙ sleeping))
+      here = grind (arith, eqb-true, true≢false, get_or-set_other, eqb-false)

@@ -1,9 +1,8 @@
 -- What a move tells, in four parts; and moves that leave the lists of what is to be told as they are.
-use Rattle.std.proofs.Common.{◌≡◌, ℕ, Bool, true, false, not, ◌||◌, List, Some, refl, sym, ap, ◌∙◌, subst, inl, if◌then◌else◌}
-use Rattle.std.proofs.lemmas.Bool.{true≢false, false≢true}
+use Rattle.std.proofs.Common.{◌≡◌, ℕ, Bool, true, false, not, ◌||◌, List, Some, if◌then◌else◌, arith}
 use Rattle.std.specs.Prelude.{◌⊎◌}
 use Rattle.exec_outcomes.specs.declared.outcome.Outcome.{Outcome}
-use Rattle.exec_machine.specs.{declared.{config.Configuration.Configuration, event.Event.{Event, TheVariants.{Apply, Begin, Fire, Got, GotTimer, Wait, Wake}}, state.{Forwarding.TheVariants.{Applied, Unsent}, MailMessage.TheVariants.{ForwardRequest, ForwardTimer}, Waiting.TheVariants.{Request, Timer}}}, After.common_after, Tasks.begun_waiting, Tests.{is_applied, is_done, is_resolved}, World.{Common, Own as Books, request_of, sleeper_of, task_of}}
+use Rattle.exec_machine.specs.{declared.{config.Configuration.Configuration, event.Event.{Event, TheVariants.{Apply, Begin, Got, GotTimer, Wait, Wake}}, state.{Forwarding.TheVariants.{Applied, Unsent}, MailMessage.TheVariants.{ForwardRequest, ForwardTimer}, Waiting.TheVariants.{Request, Timer}}}, After.common_after, Tasks.begun_waiting, Tests.{is_applied, is_done, is_resolved}, World.{Common, Own as Books, request_of, sleeper_of, task_of}}
 use Rattle.exec_moves.specs.{declared.{handing.{AfterCallbacks.AfterCallbacks, Heard.Heard}, place.{InCallbacks.InCallbacks, InPoll.InPoll, Place.Place}}, Poll.after_begin, Slots.{is_in_slots, numbers_in}, State.{Desk, Moved, Things}, Thing.puts, Told.has_number}
 use Rattle.exec_moves.specs.declared.place.InCallbacks.TheVariants as callback
 use Rattle.exec_moves.specs.declared.place.InPoll.TheVariants as poll
@@ -20,34 +19,17 @@ abbrev pub is_mute : Event → Bool
 is_mute e = not (is_ending e || is_saying e)
 
 pub mute_ends : (e : Event) → is_mute e ≡ true → is_ending e ≡ false
-mute_ends e = by (is_ending e) (is_saying e)
-  where
-    by : (ends says : Bool) → not (ends || says) ≡ true → ends ≡ false
-    by true says h = absurd (false≢true h)
-    by false says h = refl
+mute_ends = grind arith
 
 pub mute_says : (e : Event) → is_mute e ≡ true → is_saying e ≡ false
-mute_says e = by (is_ending e) (is_saying e)
-  where
-    by : (ends says : Bool) → not (ends || says) ≡ true → says ≡ false
-    by true says h = absurd (false≢true h)
-    by false true h = absurd (false≢true h)
-    by false false h = refl
+mute_says = grind arith
 
 pub mute_if : (b : Bool) (e f : Event) → is_mute e ≡ true → is_mute f ≡ true → is_mute (if b then e else f) ≡ true
 mute_if true e f one other = one
 mute_if false e f one other = other
 
 unending_fires : (e : Event) → is_ending e ≡ false → is_firing e ≡ false
-unending_fires e h = by (is_firing e) refl
-  where
-    by : (b : Bool) → is_firing e ≡ b → is_firing e ≡ false
-    by false is = is
-    by true is = absurd (true≢false (sym (fires_ends e is) ∙ h))
-      where
-        fires_ends : (f : Event) → is_firing f ≡ true → is_ending f ≡ true
-        fires_ends (Fire z) is = refl
-        fires_ends f is = absurd (false≢true is)
+unending_fires = grind arith
 
 -- the lists of what is to be told
 pub record ListsOf : Type 0 where
@@ -109,73 +91,23 @@ module _ (c : Configuration) (i : ℕ) (me : Books) (s : Common) (d : Desk) (x :
         → m.event ≡ GotTimer z
 
   pub all_told : (m : Moved Things) → Lists m → Ends m → Says m → From m → TellsAll m
-  all_told m lists ends says from =
-      record {
-        awaited = lists.awaited;
-        waits = says.waits;
-        wakes = lists.wakes;
-        results = lists.results;
-        completions = lists.completions;
-        waking = from.waking;
-        answers = lists.answers;
-        alarms = lists.alarms;
-        ends_elsewhere = ends.ends_elsewhere;
-        ends_here = ends.ends_here;
-        fires_elsewhere = ends.fires_elsewhere;
-        fires_here = ends.fires_here;
-        applies = says.applies;
-        applies_too = says.applies_too;
-        begins = says.begins;
-        resumes = from.resumes;
-        resumes_too = from.resumes_too;
-      }
+  all_told = grind arith
 
   pub same_lists : (m : Moved Things) → lists_of m.desk m.thing ≡ lists_of d x → Lists m
-  same_lists m is =
-      record {
-        awaited = λ k there held going unsent observed. subst (λ l. has_number k l.awaited ≡ true) (sym is) there;
-        wakes = λ t there. inl (subst (λ l. has_number t l.wakes ≡ true) (sym is) there);
-        results = λ k there. inl (subst (λ l. has_number k l.results ≡ true) (sym is) there);
-        completions = λ z there. inl (subst (λ l. has_number z l.completions ≡ true) (sym is) there);
-        answers = λ k there. subst (λ l. has_number k l.answers ≡ true) (sym is) there;
-        alarms = λ z there. subst (λ l. has_number z l.alarms ≡ true) (sym is) there;
-      }
+  same_lists = grind arith
 
   -- neither ends anything that somebody holds nor fires
   pub ends_none : (m : Moved Things) → AllLast s.requests (late m).requests → AllSleep s.sleepers (late m).sleepers → Ends m
-  ends_none m last asleep =
-      record {
-        ends_elsewhere = λ k going over held held_then applied. absurd (ended k going over held_then);
-        ends_here = λ k t going over held held_then unsent there waits. absurd (ended k going over held_then);
-        fires_elsewhere = λ z sleeping fired applied. absurd (fires z sleeping fired);
-        fires_here = λ z sleeping fired unsent. absurd (fires z sleeping fired);
-      }
-    where
-      ended : (k : ℕ) → is_resolved (request_of s k).phase ≡ false → is_resolved (request_of (late m) k).phase ≡ true → (request_of (late m) k).observed ≡ true → ⊥
-      ended k going over held = true≢false (sym (last k over held) ∙ going)
-
-      fires : (z : ℕ) → (sleeper_of s z).fired ≡ false → (sleeper_of (late m) z).fired ≡ true → ⊥
-      fires z sleeping fired = true≢false (sym (asleep z fired) ∙ sleeping)
+  ends_none = grind arith
 
   pub no_ends : (m : Moved Things) → is_ending m.event ≡ false → Ends m
   no_ends m ends = ends_none m (last_by c me s i m.choice m.event ends) (asleep_by c me s i m.choice m.event (unending_fires m.event ends))
 
   pub no_says : (m : Moved Things) → is_saying m.event ≡ false → Says m
-  no_says m says =
-      record {
-        waits = λ k is held. absurd (true≢false (sym (ap is_saying is) ∙ says));
-        applies = λ k is over. absurd (true≢false (sym (ap is_saying is) ∙ says));
-        applies_too = λ z is gone. absurd (true≢false (sym (ap is_saying is) ∙ says));
-        begins = λ t is. absurd (true≢false (sym (ap is_saying is) ∙ says));
-      }
+  no_says = grind arith
 
   pub from_apart : (m : Moved Things) (p : Place) → d.place ≡ p → is_apart p ≡ true → From m
-  from_apart m p is apart =
-      record {
-        waking = λ t of n h. absurd (true≢false (sym apart ∙ ap is_apart (sym is ∙ h)));
-        resumes = λ t k h waits applied sent over. absurd (true≢false (sym apart ∙ ap is_apart (sym is ∙ h)));
-        resumes_too = λ t z h waits applied sent. absurd (true≢false (sym apart ∙ ap is_apart (sym is ∙ h)));
-      }
+  from_apart = grind arith
 
   -- all but from where it comes
   pub record Mild (m : Moved Things) : Type 0 where

@@ -1,33 +1,17 @@
 -- What a worker tells in a poll: of what the task lets go, and of what it awaits from now on; and it finds what was sent.
-use Rattle.std.proofs.Common.{◌≡◌, ℕ, ◌==◌, Bool, true, false, length, Option, Some, None, refl, sym, ap, ◌∙◌, subst, inl, inr, if◌then◌else◌}
+use Rattle.std.proofs.Common.{◌≡◌, ℕ, ◌==◌, Bool, true, false, length, Option, Some, None, refl, sym, ap, ◌∙◌, subst, inl, inr, if◌then◌else◌, arith}
 use Rattle.std.proofs.lemmas.Bool.{true≢false, false≢true}
 use Rattle.std.specs.Prelude.{◌⊎◌}
 use Rattle.exec_outcomes.specs.{declared.outcome.Outcome.{Outcome}, Accounts.is_durable}
-use Rattle.exec_machine.specs.{declared.{config.{Configuration.Configuration, ScriptWord.ScriptWord}, event.Event.{Event, TheVariants.{Begin, Closed, Dedicated, Got, GotTimer, Pass, Spawn, Turn, Wait}}, state.{Forwarding.TheVariants.Applied, Operation.Operation, RequestPhase.RequestPhase, Waiting.Waiting}}, Choice.Choice.Plain, Requests.{dropped, operation_asked}, Tasks.{after_over, after_pend as after_pending, begun_waiting, pended_phase}, Tests.{is_idle, is_ready, is_resolved, set_task}, World.{Common, Own as Books, Task, request_of, sleeper_of, task_of}, Words.{next_word, newest_held, sleep_asked}}
+use Rattle.exec_machine.specs.{declared.{config.{Configuration.Configuration, ScriptWord.ScriptWord}, event.Event.{Event, TheVariants.{Begin, Closed, Dedicated, Got, GotTimer, Spawn, Turn, Wait}}, state.{Forwarding.TheVariants.Applied, Operation.Operation, RequestPhase.RequestPhase, Waiting.Waiting}}, Choice.Choice.Plain, Requests.{dropped, operation_asked}, Tasks.{after_over, after_pend as after_pending, begun_waiting}, Tests.{is_idle, is_ready, is_resolved}, World.{Common, Own as Books, Task, request_of, sleeper_of, task_of}, Words.{next_word, newest_held, sleep_asked}}
 use Rattle.exec_machine.specs.declared.config.ScriptWord.TheVariants as script
 use Rattle.exec_machine.specs.declared.state.RequestPhase.TheVariants as phase
 use Rattle.exec_machine.specs.declared.state.Waiting.TheVariants as waiting
-use Rattle.exec_moves.specs.{declared.{handing.AfterSend.AfterSend, place.{InPoll.InPoll, Place.Place}}, Move.{move_act, move_look_at, move_poll, move_wake}, Parts.after_poll, Poll.{Sight, Sight.{Asks, HearsRequest, HearsTimer, Here}, act, act_asked, act_by, acts_on, after_begin, after_pend, await, drop_newest, heard_by, is_noted, let_go, pend, requeued_if, resume, sight_of, sight_of_act, sleep_for, stops, told_of_end}, Send.{next_task, send_root, wake_own_root, with_newcomer}, Slots.numbers_in, State.{Desk, Moved, Things, does, goes, turns}, Thing.{aside, mailbox_of, with_alarms, with_answers, with_mailbox}, Told.{awaits, has_number, lets_go_all, told_of_drop, without_request}}
+use Rattle.exec_moves.specs.{declared.{handing.AfterSend.AfterSend, place.{InPoll.InPoll, Place.Place}}, Move.{move_act, move_look_at, move_poll, move_wake}, Parts.after_poll, Poll.{Sight, Sight.{Asks, HearsRequest, HearsTimer, Here}, act, act_asked, act_by, acts_on, after_begin, after_pend, await, drop_newest, heard_by, let_go, pend, requeued_if, resume, sight_of, sight_of_act, sleep_for, stops}, Send.{next_task, send_root, wake_own_root, with_newcomer}, State.{Desk, Moved, Things, does, goes, turns}, Thing.{aside, mailbox_of, with_alarms, with_answers, with_mailbox}, Told.{awaits, has_number, lets_go_all, told_of_drop, without_request}}
 use Rattle.exec_moves.specs.declared.handing.AfterSend.TheVariants as send
 use Rattle.exec_moves.specs.declared.place.InPoll.TheVariants as poll
 use Rattle.exec_moves.specs.declared.place.Place.TheVariants as at
-use Rattle.exec_settled.proofs.{TellsEvents.dropped_observed, TellsMild.{adds_lists, gone_rests, rests_at, told_lists}, TellsPlain.{Mild, TellsAll, all_told, is_mute, lists_if, lists_of, mild, mildly, mute_if, no_ends, quiet, same_lists, told_apart}, TellsQuiet.{posts, posts_root}, TellsTold.{Adds, adds, all_adds, all_awaited, awaits_it, awaits_more, drop_told}}
-
-abbrev is_begin : Event → Bool
-is_begin (Begin t) = true
-is_begin _ = false
-
-abbrev is_wait : Event → Bool
-is_wait (Wait k) = true
-is_wait _ = false
-
-abbrev begun_task : Event → ℕ
-begun_task (Begin t) = t
-begun_task _ = 0
-
-abbrev awaited_request : Event → ℕ
-awaited_request (Wait (Some k)) = k
-awaited_request _ = 0
+use Rattle.exec_settled.proofs.{TellsEvents.dropped_observed, TellsMild.{adds_lists, gone_rests, rests_at, told_lists}, TellsPlain.{Mild, TellsAll, all_told, is_mute, lists_if, lists_of, mild, mildly, mute_if, no_ends, quiet, told_apart}, TellsQuiet.{posts, posts_root}, TellsTold.{Adds, adds, all_adds, all_awaited, awaits_it, awaits_more, drop_told}}
 
 abbrev polled_there : Place → ℕ
 polled_there (at.Poll t p) = t
@@ -50,19 +34,7 @@ module _ (c : Configuration) (i : ℕ) (me : Books) (s : Common) (d : Desk) (x :
   -- BEGIN AND PEND
 
   begun : (ready : Bool) → Mildly (aside x (if ready then does (Begin t) (goes (at.Poll t (after_begin (begun_waiting it.waiting))) (let_go d)) it else turns (after_poll it.home d) (let_go d) it))
-  begun true =
-      let m = aside x (does (Begin t) (goes (at.Poll t (after_begin (begun_waiting it.waiting))) (let_go d)) it) in
-      record {
-        lists = same_lists c i me s d x m refl;
-        ends = no_ends c i me s d x m refl;
-        says = record {
-          waits = λ k h held. absurd (true≢false (ap is_begin h));
-          applies = λ k h over. absurd (true≢false (ap is_begin h));
-          applies_too = λ z h gone. absurd (true≢false (ap is_begin h));
-          begins = λ u h. ap (λ q. at.Poll q (after_begin (begun_waiting (task_of s q).waiting))) (ap begun_task h);
-        };
-      }
-  begun false = calm _ refl refl
+  begun = grind arith
 
   requeued_lists : (b : Bool) → lists_of (requeued_if b t d) x ≡ lists_of d x
   requeued_lists true = refl
@@ -82,13 +54,7 @@ module _ (c : Configuration) (i : ℕ) (me : Books) (s : Common) (d : Desk) (x :
   all_go f same = record { desk = lets_go_all i s it d; same = same; adds = all_adds i s it d; awaited = λ k there observed. all_awaited i s it d k there observed }
 
   goes_by : (home : Option ℕ) → LetsGo (after_pend i t s d it home) (after_pending s i t)
-  goes_by None = by it.cleared
-    where
-      by : (cleared : Bool) → LetsGo (if cleared then told_of_end (lets_go_all i s it d) else requeued_if (is_noted it.phase) t d)
-          (if cleared then after_over s i t else set_task s t (record it { phase = pended_phase it.phase }))
-      by true = all_go _ refl
-      by false = none_go _ _ (requeued_lists (is_noted it.phase))
-  goes_by (Some home) = none_go _ _ refl
+  goes_by = grind (arith, all_go, none_go, requeued_lists)
 
   pends : Mildly (aside x (pend i t s d it))
   pends = let left = goes_by it.home in mildly c i me s d x _ (adds_lists c i me s d x _ left.desk left.same left.adds (λ k there held going unsent observed. left.awaited k there observed)) refl
@@ -99,25 +65,8 @@ module _ (c : Configuration) (i : ℕ) (me : Books) (s : Common) (d : Desk) (x :
   abbrev Resumed : Task → Type 0
   Resumed u = (resume i t s d u ≡ pend i t s d u) ⊎ ((e : Event) × ((f : Desk) × ((is_mute e ≡ true) × ((lists_of f x ≡ lists_of d x) × (resume i t s d u ≡ does e f u)))))
 
-  on_request : (u : Task) (r : ℕ) (p : RequestPhase) → u.waiting ≡ waiting.Request r → (request_of s r).phase ≡ p → Resumed u
-  on_request u r (phase.Resolved outcome) h is = inr (Got r outcome, (acts_on t (without_request r d), (refl, (refl, rw (h, is) refl))))
-  on_request u r phase.Gated h is = inl (rw (h, is) refl)
-  on_request u r phase.Queued h is = inl (rw (h, is) refl)
-  on_request u r phase.Staged h is = inl (rw (h, is) refl)
-  on_request u r phase.Flying h is = inl (rw (h, is) refl)
-  on_request u r (phase.Landed n) h is = inl (rw (h, is) refl)
-
-  on_timer : (u : Task) (z : ℕ) (fired : Bool) → u.waiting ≡ waiting.Timer z → (sleeper_of s z).fired ≡ fired → Resumed u
-  on_timer u z true h is = inr (GotTimer z, (acts_on t d, (refl, (refl, rw (h, is) refl))))
-  on_timer u z false h is = inl (rw (h, is) refl)
-
   resumed : (u : Task) (w : Waiting) → u.waiting ≡ w → Resumed u
-  resumed u (waiting.Request r) h = on_request u r _ h refl
-  resumed u (waiting.Timer z) h = on_timer u z _ h refl
-  resumed u waiting.Woken h = inr (Pass, (acts_on t d, (refl, (refl, rw h refl))))
-  resumed u waiting.Nothing h = inl (rw h refl)
-  resumed u waiting.Wake h = inl (rw h refl)
-  resumed u waiting.Yielded h = inl (rw h refl)
+  resumed = grind arith
 
   resumes : Mildly (aside x (resume i t s d it))
   resumes = elim (resumed it it.waiting refl) [
@@ -147,31 +96,14 @@ module _ (c : Configuration) (i : ℕ) (me : Books) (s : Common) (d : Desk) (x :
   -- ACTS
 
   waits_for : (r : ℕ) → Mildly (aside x (does (Wait (Some r)) (stops t (awaits r d)) it))
-  waits_for r =
-      let m = aside x (does (Wait (Some r)) (stops t (awaits r d)) it) in
-      record {
-        lists = adds_lists c i me s d x m (awaits r d) refl (adds d (awaits r d) refl refl refl) (λ k there held going unsent observed. awaits_more r k d there held);
-        ends = no_ends c i me s d x m refl;
-        says = record {
-          waits = λ k h held. let same : r ≡ k = ap awaited_request h in
-              subst (λ q. has_number q (awaits r d).awaited ≡ true) same (awaits_it r d (subst (λ q. has_number q (numbers_in d.requests.held) ≡ true) (sym same) held));
-          applies = λ k h over. absurd (true≢false (ap is_wait h));
-          applies_too = λ z h gone. absurd (true≢false (ap is_wait h));
-          begins = λ u h. absurd (true≢false (ap is_wait h));
-        };
-      }
+  waits_for = grind (arith, adds_lists, adds, awaits_more, no_ends, awaits_it, true≢false)
 
   -- it takes the end, or waits
   abbrev Awaited : ℕ → Type 0
   Awaited r = (await t s d it (Some r) ≡ does (Wait (Some r)) (stops t (awaits r d)) it) ⊎ ((o : Outcome) × (await t s d it (Some r) ≡ does (Got r o) (acts_on t (without_request r d)) it))
 
   awaited_by : (r : ℕ) (p : RequestPhase) → (request_of s r).phase ≡ p → Awaited r
-  awaited_by r (phase.Resolved outcome) h = inr (outcome, rw h refl)
-  awaited_by r phase.Gated h = inl (rw h refl)
-  awaited_by r phase.Queued h = inl (rw h refl)
-  awaited_by r phase.Staged h = inl (rw h refl)
-  awaited_by r phase.Flying h = inl (rw h refl)
-  awaited_by r (phase.Landed n) h = inl (rw h refl)
+  awaited_by = grind arith
 
   awaits_newest : (held : Option ℕ) → Mildly (aside x (await t s d it held))
   awaits_newest None = calm _ refl refl
@@ -237,10 +169,6 @@ module _ (c : Configuration) (i : ℕ) (me : Books) (s : Common) (d : Desk) (x :
   heard k true (phase.Landed n) h over = absurd (false≢true over)
   heard k false p h over = absurd (false≢true h)
 
-  heard_timer : (z : ℕ) (b : Bool) → b ≡ true → (if b then does (GotTimer z) (acts_on t d) x.alarms else does Turn (stops t d) x.alarms).event ≡ GotTimer z
-  heard_timer z true h = refl
-  heard_timer z false h = absurd (false≢true h)
-
   abbrev look : Moved Things
   look = move_poll c i me s d x t poll.Resume
 
@@ -250,9 +178,7 @@ module _ (c : Configuration) (i : ℕ) (me : Books) (s : Common) (d : Desk) (x :
       subst (λ y. (o : Outcome) × ((move_look_at c s d x t (send.Pend t) (aside x (resume i t s d it)) y).event ≡ Got k o)) (sym sight) (heard k (has_number k x.answers) (request_of s k).phase sent over)
 
   finds_timer : (z : ℕ) → it.waiting ≡ waiting.Timer z → (sleeper_of s z).forwarding ≡ Applied → has_number z x.alarms ≡ true → look.event ≡ GotTimer z
-  finds_timer z waits applied sent =
-      let sight : sight_of i s it.waiting ≡ HearsTimer z = rw (waits, applied) refl in
-      subst (λ y. (move_look_at c s d x t (send.Pend t) (aside x (resume i t s d it)) y).event ≡ GotTimer z) (sym sight) (heard_timer z (has_number z x.alarms) sent)
+  finds_timer = grind arith
 
   resumes_all : d.place ≡ at.Poll t poll.Resume → TellsAll c i me s d x look
   resumes_all is =

@@ -1,24 +1,15 @@
 -- Places whose moves leave the lists of what is to be told as they are: all that hands tasks on, searches, looks and waits.
-use Rattle.std.proofs.Common.{◌≡◌, ℕ, ◌==◌, Bool, true, false, ◌||◌, List, [], ◌∷◌, nat_le, nat_lt, Option, Some, None, refl, if◌then◌else◌}
+use Rattle.std.proofs.Common.{◌≡◌, ℕ, Bool, true, false, ◌||◌, List, [], ◌∷◌, refl, if◌then◌else◌, arith}
 use Rattle.std.specs.Prelude.{not, ◌&&◌, drop}
-use Rattle.exec_words.specs.{Queue.{Queue, head_of}, Word.is_idle_at}
-use Rattle.exec_words.specs.declared.{idle.WorkerSet.WorkerSet, word.PureWord.PureWord}
-use Rattle.exec_machine.specs.{declared.{config.Configuration.Configuration, event.Event.{TheVariants.{Closed, Rouse, Send, Sleep, Turn}}, state.MailMessage.{MailMessage, TheVariants.Root}}, Choice.{Choice, Choice.{Plain, Posts}}, Deadlines.next_due, Ranges.ring_size, Tests.is_awake, World.{Common, Own as Books, seat_of}}
-use Rattle.exec_moves.specs.{declared.{handing.{AfterCancels.AfterCancels, AfterClaim.AfterClaim, AfterKick.AfterKick, AfterLeave.AfterLeave, AfterPop.AfterPop, AfterPush.AfterPush, AfterSend.AfterSend, AfterSignal.AfterSignal, First.First, InGlobal.InGlobal, InKick.InKick, InPop.InPop, InPush.InPush, InSignal.InSignal}, idling.{AfterWait.AfterWait, InLook.InLook, InRingWait.InRingWait, InScan.InScan, InSearch.InSearch, InWordWait.InWordWait, Stay.Stay}, place.{Found.Found, InLoads.InLoads, InPick.InPick, Place.Place, Round.Round}}, Callback.is_full, Claim.{claim_worker}, Kick.leave_search, Load.{has_come, has_mail, has_submissions, is_ready, test_for_work}, Look.{look_at_mirror, withdraw}, Move.{move_global, move_kick, move_loads, move_look, move_pick, move_pop, move_push, move_ring_wait, move_scan, move_search, move_signal, move_word_wait}, Pick.{begin_turn, load_mirror, take_root_flag, take_share}, Pop.{after_pop, pops, same_head}, Search.from_of, Send.{Mailbox, asks, first_letter, is_left_out, payer_of_send, posted, posting_of, send_cancel, send_root, sent}, State.{Desk, Moved, Own, Things, does, queue_of, word_of}, Submit.with_poll, Thing.{aside, mailbox_of, puts, ring_of, set_idle, set_queue, set_ring, with_global, with_idle, with_mailbox, with_queue, with_queues, with_ring, with_word}, Wait.{after_sleep, enter_full_ring, enter_ring, has_completion, noting_sleep, read_clock}}
+use Rattle.exec_words.specs.{Queue.{Queue}}
+use Rattle.exec_words.specs.declared.{idle.WorkerSet.WorkerSet}
+use Rattle.exec_machine.specs.{declared.{config.Configuration.Configuration, event.Event.{TheVariants.{Rouse, Turn}}, state.MailMessage.{MailMessage, TheVariants.Root}}, Choice.{Choice, Choice.{Plain, Posts}}, Deadlines.next_due, Ranges.ring_size, Tests.is_awake, World.{Common, Own as Books, seat_of}}
+use Rattle.exec_moves.specs.{declared.{handing.{AfterCancels.AfterCancels, AfterClaim.AfterClaim, AfterKick.AfterKick, AfterLeave.AfterLeave, AfterPop.AfterPop, AfterPush.AfterPush, AfterSend.AfterSend, AfterSignal.AfterSignal, InGlobal.InGlobal, InKick.InKick, InPop.InPop, InPush.InPush, InSignal.InSignal}, idling.{AfterWait.AfterWait, InLook.InLook, InRingWait.InRingWait, InScan.InScan, InSearch.InSearch, InWordWait.InWordWait, Stay.Stay}, place.{Found.Found, InLoads.InLoads, InPick.InPick, Place.Place, Round.Round}}, Callback.is_full, Claim.{claim_worker}, Kick.leave_search, Load.{has_come, has_submissions, is_ready, test_for_work}, Look.{withdraw}, Move.{move_global, move_kick, move_loads, move_look, move_pick, move_pop, move_push, move_ring_wait, move_scan, move_search, move_signal, move_word_wait}, Pick.{begin_turn, take_root_flag}, Pop.{after_pop, pops}, Send.{first_letter, is_left_out, payer_of_send, posting_of, send_cancel, send_root, sent}, State.{Desk, Moved, Own, Things}, Submit.with_poll, Thing.{aside, mailbox_of, puts, ring_of, set_ring, with_idle, with_mailbox, with_queue, with_ring}, Wait.{enter_full_ring, enter_ring, has_completion, read_clock}}
 use Rattle.exec_moves.specs.declared.handing.AfterPop.TheVariants as after_pops
 use Rattle.exec_moves.specs.declared.handing.AfterSend.TheVariants as send
-use Rattle.exec_moves.specs.declared.handing.InGlobal.TheVariants as global
-use Rattle.exec_moves.specs.declared.handing.InKick.TheVariants as kick
-use Rattle.exec_moves.specs.declared.handing.InPop.TheVariants as pop
-use Rattle.exec_moves.specs.declared.handing.InPush.TheVariants as push
 use Rattle.exec_moves.specs.declared.handing.InSignal.TheVariants as signals
-use Rattle.exec_moves.specs.declared.idling.InLook.TheVariants as look
 use Rattle.exec_moves.specs.declared.idling.InRingWait.TheVariants as ring
-use Rattle.exec_moves.specs.declared.idling.InScan.TheVariants as scan
 use Rattle.exec_moves.specs.declared.idling.InSearch.TheVariants as search
-use Rattle.exec_moves.specs.declared.idling.InWordWait.TheVariants as word
-use Rattle.exec_moves.specs.declared.place.InLoads.TheVariants as load
-use Rattle.exec_moves.specs.declared.place.InPick.TheVariants as pick
 use Rattle.exec_moves.specs.declared.place.Place.TheVariants as at
 use Rattle.exec_settled.proofs.TellsPlain.{Quiet, TellsAll, is_apart, is_mute, lists_if, lists_of, mute_if, plain_tells, quiet, quiet_if}
 
@@ -40,19 +31,8 @@ module _ (c : Configuration) (i : ℕ) (me : Books) (s : Common) (d : Desk) (x :
   pub begins : d.place ≡ at.BeginTurn → TellsAll c i me s d x (aside x (begin_turn i s d))
   begins is = stays _ at.BeginTurn is refl (calm _ refl refl)
 
-  mirror : (f : First) (g : List ℕ) → Plainly (with_global x (load_mirror c f d g))
-  mirror f [] = calm _ refl refl
-  mirror f (t ∷ g) = calm _ refl refl
-
-  share : (f : First) (room held : ℕ) (own : Queue ℕ) (g : List ℕ) → Plainly (with_queues i x (take_share c f room held d (record { global = g; queue = own })))
-  share f room held own [] = calm _ refl refl
-  share f room held own (t ∷ g) = calm _ refl refl
-
   picked : (p : InPick) → Plainly (move_pick c i d x p)
-  picked pick.CountDown = either (λ (u : Own). x) (nat_le d.countdown 1) _ _ (calm _ refl refl) (calm _ refl refl)
-  picked (pick.LoadMirror f) = mirror f x.global
-  picked (pick.LoadHead f) = calm _ refl refl
-  picked (pick.TakeShare f room held) = share f room held (queue_of x i) x.global
+  picked = grind arith
 
   pub picks : (p : InPick) → d.place ≡ at.Pick p → TellsAll c i me s d x (move_pick c i d x p)
   picks p is = stays _ (at.Pick p) is refl (picked p)
@@ -70,19 +50,13 @@ module _ (c : Configuration) (i : ℕ) (me : Books) (s : Common) (d : Desk) (x :
   popped b q (t ∷ ts) h = rw h (calm _ (after_popping b t) refl)
 
   pops_by : (p : InPop) (b : AfterPop) → Plainly (move_pop c i d x p b)
-  pops_by pop.PopAlone b = popped b (queue_of x i) _ refl
-  pops_by pop.LoadPopHead b = calm _ refl refl
-  pops_by (pop.ExchangePop h) b = either (set_queue i x) (same_head h (head_of (queue_of x i))) _ _ (popped b (queue_of x i) _ refl) (calm _ refl refl)
-  pops_by pop.StorePop b = popped b (queue_of x i) _ refl
+  pops_by = grind arith
 
   pub pops_one : (p : InPop) (b : AfterPop) → d.place ≡ at.Pop p b → TellsAll c i me s d x (move_pop c i d x p b)
   pops_one p b is = stays _ (at.Pop p b) is refl (pops_by p b)
 
   pushes_by : (p : InPush) (b : AfterPush) → Plainly (move_push c i me s d x p b)
-  pushes_by push.LoadPushHead b = calm _ refl refl
-  pushes_by (push.StoreValue len) b = calm _ refl refl
-  pushes_by (push.FlowOver h) b = either (set_queue i x) (same_head h (head_of (queue_of x i))) _ _ (calm _ refl refl) (calm _ refl refl)
-  pushes_by push.StoreOldest b = calm _ refl refl
+  pushes_by = grind arith
 
   pub pushes : (p : InPush) (b : AfterPush) → d.place ≡ at.Push p b → TellsAll c i me s d x (move_push c i me s d x p b)
   pushes p b is = stays _ (at.Push p b) is refl (pushes_by p b)
@@ -92,19 +66,13 @@ module _ (c : Configuration) (i : ℕ) (me : Books) (s : Common) (d : Desk) (x :
   leaves b is = stays _ (at.LeaveSearch b) is refl (calm _ refl refl)
 
   kicks_by : (p : InKick) (b : AfterKick) → Plainly (move_kick c i me s d x p b)
-  kicks_by kick.LoadKickCount b = calm _ refl refl
-  kicks_by kick.LoadKickSet b = calm _ refl refl
-  kicks_by (kick.ExchangeKickCount set) b = either (set_idle x) (x.idle.count == 0) _ _ (calm _ refl refl) (calm _ refl refl)
-  kicks_by kick.ReturnKickCount b = calm _ refl refl
+  kicks_by = grind arith
 
   pub kicks : (p : InKick) (b : AfterKick) → d.place ≡ at.Kick p b → TellsAll c i me s d x (move_kick c i me s d x p b)
   kicks p b is = stays _ (at.Kick p b) is refl (kicks_by p b)
 
   globals_by : (p : InGlobal) (b : AfterPush) → Plainly (move_global c i me s d x p b)
-  globals_by global.Append b = calm _ refl refl
-  globals_by global.LoadGlobalSet b = calm _ refl refl
-  globals_by (global.AddGlobalCount set) b = calm _ refl refl
-  globals_by global.ReturnGlobalCount b = calm _ refl refl
+  globals_by = grind arith
 
   pub globals : (p : InGlobal) (b : AfterPush) → d.place ≡ at.Global p b → TellsAll c i me s d x (move_global c i me s d x p b)
   globals p b is = stays _ (at.Global p b) is refl (globals_by p b)
@@ -121,9 +89,7 @@ module _ (c : Configuration) (i : ℕ) (me : Books) (s : Common) (d : Desk) (x :
 
   -- LOADS AND TESTS
   loads_by : (p : InLoads) (r : Round) → Plainly (move_loads i me d x p r)
-  loads_by load.LoadOwnHead r = calm _ refl refl
-  loads_by (load.LoadOwnMirror f) r = calm _ refl refl
-  loads_by (load.LoadOwnWord f) r = calm _ refl refl
+  loads_by = grind arith
 
   pub loads : (p : InLoads) (r : Round) → d.place ≡ at.Loads p r → TellsAll c i me s d x (move_loads i me d x p r)
   loads p r is = stays _ (at.Loads p r) is refl (loads_by p r)
@@ -143,30 +109,13 @@ module _ (c : Configuration) (i : ℕ) (me : Books) (s : Common) (d : Desk) (x :
   searches p is = stays _ (at.Search p) is refl (searches_by p)
 
   scans_by : (p : InScan) → Plainly (move_scan c i me s d x p)
-  scans_by scan.LoadScanHead = calm _ refl refl
-  scans_by (scan.LoadTheirHead y) = calm _ refl refl
-  scans_by (scan.LoadTheirTail y h) = calm _ refl refl
-  scans_by (scan.ClaimHalf y h tail) = either (set_queue (from_of c y) x) (same_head h (head_of (queue_of x (from_of c y)))) _ _ (calm _ refl refl) (calm _ refl refl)
-  scans_by (scan.MoveHalf from h) = calm _ refl refl
-  scans_by (scan.ReleaseHalf from h) = either (set_queue from x) (same_head h (head_of (queue_of x from))) _ _ (calm _ refl refl) (calm _ refl refl)
-  scans_by scan.StoreMoved = calm _ refl refl
+  scans_by = grind arith
 
   pub scans : (p : InScan) → d.place ≡ at.Scan p → TellsAll c i me s d x (move_scan c i me s d x p)
   scans p is = stays _ (at.Scan p) is refl (scans_by p)
 
-  looks_at : (last : Bool) (g : List ℕ) → Plainly (with_global x (look_at_mirror last d g))
-  looks_at last [] = calm _ refl refl
-  looks_at last (t ∷ g) = calm _ refl refl
-
   looks_by : (p : InLook) → Plainly (move_look c i s d x p)
-  looks_by look.Publish = calm _ refl refl
-  looks_by look.ReturnLookCount = calm _ refl refl
-  looks_by (look.LookAtMirror last) = looks_at last x.global
-  looks_by look.LookAtCount = calm _ refl refl
-  looks_by (look.LookAtHead j) = calm _ refl refl
-  looks_by (look.LookAtTail j h) = calm _ refl refl
-  looks_by look.ExchangeLookCount = either (set_idle x) (x.idle.count == 0) _ _ (calm _ refl refl) (calm _ refl refl)
-  looks_by look.ReturnClaimed = calm _ refl refl
+  looks_by = grind arith
 
   pub looks : (p : InLook) → d.place ≡ at.Look p → TellsAll c i me s d x (move_look c i s d x p)
   looks p is = stays _ (at.Look p) is refl (looks_by p)
@@ -199,24 +148,8 @@ module _ (c : Configuration) (i : ℕ) (me : Books) (s : Common) (d : Desk) (x :
   pub ring_wait : (p : InRingWait) (y : Stay) → d.place ≡ at.RingWait p y → TellsAll c i me s d x (move_ring_wait c i me s d x p y)
   ring_wait p y is = stays _ (at.RingWait p y) is refl (rings_by p y)
 
-  sleeps_on_word : (idle come : Bool) (w : PureWord) → (let left = record d { place = at.WordWait word.DisarmWord } in
-      Plainly (with_word i x (if idle then noting_sleep s.clock (if come then does Turn left w else does (Sleep (next_due s i)) left w) else does Turn left w)))
-  sleeps_on_word false come w = calm _ refl refl
-  sleeps_on_word true true w = calm _ refl refl
-  sleeps_on_word true false w = calm _ refl refl
-
-  slept_lists : (latch : Bool) (slept : Option ℕ) → lists_of (after_sleep s.clock latch slept d) x ≡ lists_of d x
-  slept_lists true (Some slept) = refl
-  slept_lists true None = refl
-  slept_lists false slept = refl
-
   words_by : (p : InWordWait) → Plainly (move_word_wait i s d x p)
-  words_by (word.SpinOnBatch left) = calm _ (lists_if (has_mail d (word_of x i)) _ _ x _ refl refl) refl
-  words_by (word.SpinOnLatch left) = calm _ (lists_if (word_of x i).latch _ _ x _ refl (lists_if (nat_lt 1 left) _ _ x _ refl refl)) refl
-  words_by word.TakeLatch = calm _ refl refl
-  words_by word.ArmWord = calm _ refl refl
-  words_by word.SleepOnWord = sleeps_on_word (is_idle_at (word_of x i) d.processed) (has_come s.clock (next_due s i)) (word_of x i)
-  words_by word.DisarmWord = calm _ (slept_lists (word_of x i).latch d.slept) refl
+  words_by = grind arith
 
   pub word_wait : (p : InWordWait) → d.place ≡ at.WordWait p → TellsAll c i me s d x (move_word_wait i s d x p)
   word_wait p is = stays _ (at.WordWait p) is refl (words_by p)
@@ -224,15 +157,7 @@ module _ (c : Configuration) (i : ℕ) (me : Books) (s : Common) (d : Desk) (x :
   -- A MESSAGE to worker j, by a desk with the same lists
   pub posts : (j : ℕ) (message : MailMessage) (choice : Choice) (b : AfterSend) (e : Desk) → lists_of e x ≡ lists_of d x
       → Plainly (with_mailbox j x (sent c j b e (posting_of s j message choice (mailbox_of x j))))
-  posts j message choice b e same = by (seat_of s j).mailbox_closed
-    where
-      m : Mailbox
-      m = mailbox_of x j
-
-      by : (closed : Bool) → Plainly (with_mailbox j x (sent c j b e
-          (if closed then record { event = Closed; choice = Plain; signals = false; mailbox = m } else record { event = Send j message; choice = choice; signals = asks m; mailbox = posted message m })))
-      by true = calm _ same refl
-      by false = calm _ same refl
+  posts = grind arith
 
   pub posts_root : (j : ℕ) (b : AfterSend) → Plainly (with_mailbox j x (send_root c s j b d (mailbox_of x j)))
   posts_root j b = posts j Root (Posts (payer_of_send b) (is_left_out (mailbox_of x j))) b d refl

@@ -1,10 +1,9 @@
 -- What each telling leaves of the lists of what is to be told: what stands in them stays, but for the awaited one that is told of.
-use Rattle.std.proofs.Common.{◌≡◌, ℕ, zero, suc, ◌==◌, ◌||◌, ◌&&◌, Bool, true, false, not, List, [], ◌∷◌, ◌++◌, filter, cond, set, get_or, Option, Some, refl, sym, ap, ◌∙◌, subst, inl, inr, if◌then◌else◌}
+use Rattle.std.proofs.Common.{◌≡◌, ℕ, zero, suc, ◌==◌, ◌||◌, ◌&&◌, Bool, true, false, not, List, [], ◌∷◌, ◌++◌, filter, set, get_or, Some, refl, sym, ap, ◌∙◌, subst, inl, inr, if◌then◌else◌, arith}
 use Rattle.std.proofs.lemmas.Bool.{true≢false, false≢true, or_cases, or_left, or_right, eq-eqb, eqb-true}
-use Rattle.std.specs.Prelude.{◌⊎◌}
 use Rattle.exec_machine.specs.{declared.state.{MailMessage.TheVariants.{CancelRequest, CancelTimer}, Request.Request, Sleeper.Sleeper, Waiting.Waiting}, Requests.{dropped, ends_by_drop}, Tasks.requests_after_drops, Tests.{is_applied, is_resolved}, World.{Common, Task, no_request, request_of, sleeper_of}}
 use Rattle.exec_machine.specs.declared.state.Waiting.TheVariants as waiting
-use Rattle.exec_moves.specs.{Slots.{is_in_slots, numbers_in}, State.Desk, Told.{awaits, awaits_no_more, has_number, lets_go_all, lets_go_request, lets_go_requests, lets_go_sleep, one_completion, one_output, one_result, owes, told_of_cancel, told_of_drop, told_of_end, told_of_fire, told_of_forward, told_of_timer_forward, waker_of, without_request, without_timer, woken_where_awaited}}
+use Rattle.exec_moves.specs.{Slots.{is_in_slots, numbers_in}, State.Desk, Told.{awaits, awaits_no_more, has_number, lets_go_all, lets_go_request, lets_go_requests, lets_go_sleep, one_output, one_result, owes, told_of_cancel, told_of_drop, told_of_end, told_of_fire, told_of_forward, told_of_timer_forward, waker_of, without_request, woken_where_awaited}}
 use Rattle.exec_settled.proofs.TellsEvents.{drops, dropped_observed, one_dropped}
 
 -- LISTS
@@ -22,14 +21,7 @@ has_last k (q ∷ list) = or_right (q == k) (has_number k (list ++ k ∷ [])) (h
 
 pub has_passing : (test : ℕ → Bool) (k : ℕ) (list : List ℕ) → test k ≡ true → has_number k list ≡ true → has_number k (filter test list) ≡ true
 has_passing test k [] passes h = absurd (false≢true h)
-has_passing test k (q ∷ list) passes h = by (test q) refl (or_cases (q == k) (has_number k list) h) (has_passing test k list passes)
-  where
-    by : (b : Bool) → test q ≡ b → ((q == k) ≡ true) ⊎ (has_number k list ≡ true) → (has_number k list ≡ true → has_number k (filter test list) ≡ true)
-        → has_number k (cond b (q ∷ filter test list) (filter test list)) ≡ true
-    by true is (inl this) later = or_left (q == k) (has_number k (filter test list)) this
-    by true is (inr rest) later = or_right (q == k) (has_number k (filter test list)) (later rest)
-    by false is (inl this) later = absurd (true≢false (sym passes ∙ ap test (sym (eqb-true q k this)) ∙ is))
-    by false is (inr rest) later = later rest
+has_passing test k (q ∷ list) passes h = grind (arith, or_cases, or_left, or_right, true≢false, eqb-true, has_passing test k list passes)
 
 has_left : (k r : ℕ) (list : List ℕ) → (k == r) ≡ false → has_number k list ≡ true → has_number k (filter (λ q. not (q == r)) list) ≡ true
 has_left k r list other h = has_passing (λ q. not (q == r)) k list (ap not other) h
@@ -49,44 +41,19 @@ pub record Told (r : ℕ) (d e : Desk) : Type 0 where
 
 -- by computation
 pub adds : (d e : Desk) → e.wakes ≡ d.wakes → e.results ≡ d.results → e.completions ≡ d.completions → Adds d e
-adds d e wakes results completions =
-    record {
-      wakes = λ t h. subst (λ l. has_number t l ≡ true) (sym wakes) h;
-      results = λ k h. subst (λ l. has_number k l ≡ true) (sym results) h;
-      completions = λ z h. subst (λ l. has_number z l ≡ true) (sym completions) h;
-    }
+adds = grind arith
 
 pub adds_then : (d e f : Desk) → Adds d e → Adds e f → Adds d f
-adds_then d e f a b =
-    record {
-      wakes = λ t h. b.wakes t (a.wakes t h);
-      results = λ k h. b.results k (a.results k h);
-      completions = λ z h. b.completions z (a.completions z h);
-    }
+adds_then = grind arith
 
 more_results : (d : Desk) (r : ℕ) (e : Desk) → e.wakes ≡ d.wakes → e.results ≡ d.results ++ r ∷ [] → e.completions ≡ d.completions → Adds d e
-more_results d r e wakes results completions =
-    record {
-      wakes = λ t h. subst (λ l. has_number t l ≡ true) (sym wakes) h;
-      results = λ k h. subst (λ l. has_number k l ≡ true) (sym results) (has_front k d.results (r ∷ []) h);
-      completions = λ z h. subst (λ l. has_number z l ≡ true) (sym completions) h;
-    }
+more_results = grind (arith, has_front)
 
 more_wakes : (d : Desk) (ts : List ℕ) (e : Desk) → e.wakes ≡ d.wakes ++ ts → e.results ≡ d.results → e.completions ≡ d.completions → Adds d e
-more_wakes d ts e wakes results completions =
-    record {
-      wakes = λ t h. subst (λ l. has_number t l ≡ true) (sym wakes) (has_front t d.wakes ts h);
-      results = λ k h. subst (λ l. has_number k l ≡ true) (sym results) h;
-      completions = λ z h. subst (λ l. has_number z l ≡ true) (sym completions) h;
-    }
+more_wakes = grind (arith, has_front)
 
 more_completions : (d : Desk) (z : ℕ) (e : Desk) → e.wakes ≡ d.wakes → e.results ≡ d.results → e.completions ≡ d.completions ++ z ∷ [] → Adds d e
-more_completions d z e wakes results completions =
-    record {
-      wakes = λ t h. subst (λ l. has_number t l ≡ true) (sym wakes) h;
-      results = λ k h. subst (λ l. has_number k l ≡ true) (sym results) h;
-      completions = λ y h. subst (λ l. has_number y l ≡ true) (sym completions) (has_front y d.completions (z ∷ []) h);
-    }
+more_completions = grind (arith, has_front)
 
 -- OF A REQUEST
 
@@ -111,24 +78,10 @@ module _ (r : ℕ) (it : Request) (d : Desk) where
       by true false false = leaves_told _ (adds d _ refl refl refl) refl
 
   pub sent_at_end : it.observed ≡ true → is_applied it.forwarding ≡ true → has_number r (told_of_end r it d).results ≡ true
-  sent_at_end = by it.observed (is_applied it.forwarding)
-    where
-      by : (held applied : Bool) → held ≡ true → applied ≡ true → has_number r (if not held then one_output (without_request r d) else if applied then one_result r (without_request r d)
-          else awaits_no_more r (woken_where_awaited r it d)).results ≡ true
-      by true true h a = has_last r d.results
-      by false applied h a = absurd (false≢true h)
-      by true false h a = absurd (false≢true a)
+  sent_at_end = grind (arith, has_last, false≢true)
 
   pub woken_at_end : (t : ℕ) → it.observed ≡ true → is_applied it.forwarding ≡ false → has_number r d.awaited ≡ true → it.waiter ≡ Some t → has_number t (told_of_end r it d).wakes ≡ true
-  woken_at_end t = by it.observed (is_applied it.forwarding) (has_number r d.awaited) it.waiter
-    where
-      by : (held applied here : Bool) (waiter : Option ℕ) → held ≡ true → applied ≡ false → here ≡ true → waiter ≡ Some t
-          → has_number t (if not held then one_output (without_request r d) else if applied then one_result r (without_request r d)
-          else awaits_no_more r (if here then record d { wakes = d.wakes ++ waker_of waiter } else d)).wakes ≡ true
-      by true false true waiter h a b w = subst (λ o. has_number t (d.wakes ++ waker_of o) ≡ true) (sym w) (has_last t d.wakes)
-      by false applied here waiter h a b w = absurd (false≢true h)
-      by true true here waiter h a b w = absurd (true≢false a)
-      by true false false waiter h a b w = absurd (false≢true b)
+  woken_at_end = grind (arith, has_last, false≢true, true≢false)
 
   pub drop_told : Told r d (told_of_drop r it d)
   drop_told = by (not (it.observed && is_in_slots r d.requests)) (is_resolved it.phase) (ends_by_drop it) (is_applied it.forwarding)
@@ -143,11 +96,7 @@ module _ (r : ℕ) (it : Request) (d : Desk) where
       by false false false false = leaves_told _ (adds d _ refl refl refl) refl
 
   pub woken_told : Told r d (woken_where_awaited r it d)
-  woken_told = by (has_number r d.awaited)
-    where
-      by : (here : Bool) → Told r d (if here then record d { wakes = d.wakes ++ waker_of it.waiter } else d)
-      by true = stays_told _ (more_wakes d (waker_of it.waiter) _ refl refl refl) refl
-      by false = no_told
+  woken_told = grind (arith, stays_told, more_wakes, no_told)
 
   pub forward_told : Told r d (told_of_forward r it d)
   forward_told = by (not (is_in_slots r d.requests)) (is_resolved it.phase) it.observed
@@ -159,13 +108,7 @@ module _ (r : ℕ) (it : Request) (d : Desk) where
       by false false false = stays_told _ (more_results d r _ refl refl refl) refl
 
   pub sent_at_forward : is_resolved it.phase ≡ true → has_number r (told_of_forward r it d).results ≡ true
-  sent_at_forward = by (not (is_in_slots r d.requests)) (is_resolved it.phase) it.observed
-    where
-      by : (gone over held : Bool) → over ≡ true
-          → has_number r (if gone then one_result r d else if over then one_result r (without_request r d) else if held then awaits_no_more r d else one_result r d).results ≡ true
-      by true over held h = has_last r d.results
-      by false true held h = has_last r d.results
-      by false false held h = absurd (false≢true h)
+  sent_at_forward = grind (arith, has_last, false≢true)
 
 pub told_then : (r : ℕ) (d e f : Desk) → Told r d e → Told r e f → Told r d f
 told_then r d e f a b = record { adds = adds_then d e f a.adds b.adds; awaited = λ k other h. b.awaited k other (a.awaited k other h) }
@@ -189,47 +132,22 @@ module _ (z : ℕ) (it : Sleeper) (d : Desk) where
   told e more same = record { adds = more; awaited = same }
 
   pub fire_told : Tolds (told_of_fire z it d)
-  fire_told = by (is_applied it.forwarding)
-    where
-      by : (applied : Bool) → Tolds (if applied then one_completion z (without_timer z d) else record (without_timer z d) { wakes = d.wakes ++ it.task ∷ [] })
-      by true = told _ (more_completions d z _ refl refl refl) refl
-      by false = told _ (more_wakes d (it.task ∷ []) _ refl refl refl) refl
+  fire_told = grind (arith, told, more_completions, more_wakes)
 
   pub sent_at_fire : is_applied it.forwarding ≡ true → has_number z (told_of_fire z it d).completions ≡ true
-  sent_at_fire = by (is_applied it.forwarding)
-    where
-      by : (applied : Bool) → applied ≡ true → has_number z (if applied then one_completion z (without_timer z d) else record (without_timer z d) { wakes = d.wakes ++ it.task ∷ [] }).completions ≡ true
-      by true h = has_last z d.completions
-      by false h = absurd (false≢true h)
+  sent_at_fire = grind (arith, has_last, false≢true)
 
   pub woken_at_fire : is_applied it.forwarding ≡ false → has_number it.task (told_of_fire z it d).wakes ≡ true
-  woken_at_fire = by (is_applied it.forwarding)
-    where
-      by : (applied : Bool) → applied ≡ false → has_number it.task (if applied then one_completion z (without_timer z d) else record (without_timer z d) { wakes = d.wakes ++ it.task ∷ [] }).wakes ≡ true
-      by true h = absurd (true≢false h)
-      by false h = has_last it.task d.wakes
+  woken_at_fire = grind (arith, true≢false, has_last)
 
   pub cancel_told : Tolds (told_of_cancel z it d)
-  cancel_told = by (not (is_in_slots z d.timers)) (is_applied it.forwarding)
-    where
-      by : (gone applied : Bool) → Tolds (if gone then d else if applied then one_completion z (without_timer z d) else without_timer z d)
-      by true applied = told _ (adds d _ refl refl refl) refl
-      by false true = told _ (more_completions d z _ refl refl refl) refl
-      by false false = told _ (adds d _ refl refl refl) refl
+  cancel_told = grind (arith, told, adds, more_completions)
 
   pub timer_forward_told : Tolds (told_of_timer_forward z d)
-  timer_forward_told = by (is_in_slots z d.timers)
-    where
-      by : (there : Bool) → Tolds (if there then d else one_completion z d)
-      by true = told _ (adds d _ refl refl refl) refl
-      by false = told _ (more_completions d z _ refl refl refl) refl
+  timer_forward_told = grind (arith, told, adds, more_completions)
 
   pub sent_at_timer_forward : is_in_slots z d.timers ≡ false → has_number z (told_of_timer_forward z d).completions ≡ true
-  sent_at_timer_forward = by (is_in_slots z d.timers)
-    where
-      by : (there : Bool) → there ≡ false → has_number z (if there then d else one_completion z d).completions ≡ true
-      by true h = absurd (true≢false h)
-      by false h = has_last z d.completions
+  sent_at_timer_forward = grind (arith, true≢false, has_last)
 
 -- WHAT A TASK HELD THAT IS OVER
 
@@ -260,12 +178,7 @@ module _ (i : ℕ) (s : Common) where
 
       -- it was dropped by this, and so nobody holds it then
       gone : ((get_or xs r no_request).worker == i) ≡ true → k ≡ r → ⊥
-      gone own is =
-          let here : (get_or (dropped_if ((get_or xs r no_request).worker == i)) r no_request).observed ≡ false =
-          subst (λ b. (get_or (dropped_if b) r no_request).observed ≡ false) (sym own) (gone_at xs r (dropped (get_or xs r no_request)) (dropped_observed (get_or xs r no_request))) in
-          let later : (get_or (requests_after_drops i held (dropped_if ((get_or xs r no_request).worker == i))) r no_request).observed ≡ false =
-          elim (drops i held (dropped_if ((get_or xs r no_request).worker == i)) r).either [ inl equal ↦ ap (λ (y : Request). y.observed) equal ∙ here | inr out ↦ out ] in
-          true≢false (sym observed ∙ subst (λ j. (get_or (requests_after_drops i held (dropped_if ((get_or xs r no_request).worker == i))) j no_request).observed ≡ false) (sym is) later)
+      gone = grind (arith, gone_at, dropped_observed, drops, true≢false)
 
       by : (own : Bool) → ((get_or xs r no_request).worker == i) ≡ own → (this : Bool) → (k == r) ≡ this
           → has_number k (if own then told_of_drop r (request_of s r) d else owes (request_of s r).worker (CancelRequest r) d).awaited ≡ true
@@ -278,20 +191,10 @@ module _ (i : ℕ) (s : Common) where
   timer_goes z d false = record { adds = adds d _ refl refl refl; awaited = refl }
 
   sleep_adds : (w : Waiting) (d : Desk) → Adds d (lets_go_sleep i s w d)
-  sleep_adds (waiting.Timer z) d = (timer_goes z d ((sleeper_of s z).worker == i)).adds
-  sleep_adds waiting.Nothing d = adds d d refl refl refl
-  sleep_adds (waiting.Request r) d = adds d d refl refl refl
-  sleep_adds waiting.Wake d = adds d d refl refl refl
-  sleep_adds waiting.Woken d = adds d d refl refl refl
-  sleep_adds waiting.Yielded d = adds d d refl refl refl
+  sleep_adds = grind (arith, timer_goes, adds)
 
   sleep_awaited : (w : Waiting) (d : Desk) → (lets_go_sleep i s w d).awaited ≡ d.awaited
-  sleep_awaited (waiting.Timer z) d = (timer_goes z d ((sleeper_of s z).worker == i)).awaited
-  sleep_awaited waiting.Nothing d = refl
-  sleep_awaited (waiting.Request r) d = refl
-  sleep_awaited waiting.Wake d = refl
-  sleep_awaited waiting.Woken d = refl
-  sleep_awaited waiting.Yielded d = refl
+  sleep_awaited = grind arith
 
   pub all_adds : (it : Task) (d : Desk) → Adds d (lets_go_all i s it d)
   all_adds it d = adds_then d (lets_go_requests i s it.held d) _ (go_adds it.held d) (sleep_adds it.waiting (lets_go_requests i s it.held d))

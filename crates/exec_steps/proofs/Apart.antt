@@ -1,15 +1,15 @@
 -- A STEP OF ANOTHER PARTY keeps what is sound of a worker: it leaves what the worker alone touches, and of what is shared
 -- what it relies on.
-use Rattle.std.proofs.{Common.{◌≡◌, ℕ, ◌*◌, ◌^◌, ◌<◌, ◌≤◌, ◌&&◌, nat_lt, Bool, true, false, [], length, Option, Some, None, sym, ap, subst, ◌∙◌, ⊎_elim, arith, inl, inr, slice_get, refl, ◌+◌}, lemmas.{Bool.{cases_lt, false≢true}, Option.slice_get_within}}
+use Rattle.std.proofs.{Common.{◌≡◌, ℕ, ◌*◌, ◌^◌, ◌<◌, ◌≤◌, ◌&&◌, nat_lt, Bool, true, false, [], length, Option, Some, None, sym, ap, subst, ◌∙◌, ⊎_elim, arith, inl, inr, slice_get, ◌+◌}, lemmas.{Bool.{cases_lt}, Option.slice_get_within}}
 use Rattle.exec_base.specs.{Slab.IsPast, declared.slab.Id.Id}
 use Rattle.exec_request.specs.declared.request.Request.{Request as Asking}
 use Rattle.exec_waiters.specs.{Ids.user_data_of, States.{pending_count, waiter_at}, declared.waiter.Waiter.Waiter}
 use Rattle.exec_driver.specs.Footprints.{bytes_left}
-use Rattle.exec_task.specs.{TaskSet.shard_at, declared.{runnable.Runnable.Runnable, drain.Drain.Drain}}
+use Rattle.exec_task.specs.{TaskSet.shard_at, declared.{runnable.Runnable.Runnable}}
 use Rattle.exec_task.specs.TaskSet.{Set}
 use Rattle.exec_machine.specs.{declared.state.Waiting.Waiting, Tests.{has_ended, is_open}}
-use Rattle.exec_moves.specs.{Seen.polls_at, declared.{handing.{AfterCancels.AfterCancels, AfterPop.AfterPop, AfterSend.AfterSend, AfterSignal.AfterSignal}, place.{InClosing.InClosing, InPoll.InPoll, Place.Place}}}
-use Rattle.exec_parts.{specs.{declared.parts.{mail.{Reply.Reply, Subject.Subject}, record.Record.Record, seat.Seat.Seat as Chair, shared.Shared.Shared, task_slot.TaskSlot.TaskSlot, worker.Worker.Worker}, Phased.{HasPassed, IsPhased, IsPrepared, closes_at, closing_in, has_left, has_stopped, root_over, stage_of}, Records.number_in, MailPosts.IsMailbox, View.driver_of}, proofs.Facts.by_number}
+use Rattle.exec_moves.specs.{Seen.polls_at, declared.{place.{InClosing.InClosing, InPoll.InPoll, Place.Place}}}
+use Rattle.exec_parts.{specs.{declared.parts.{mail.{Reply.Reply, Subject.Subject}, record.Record.Record, seat.Seat.Seat as Chair, shared.Shared.Shared, task_slot.TaskSlot.TaskSlot, worker.Worker.Worker}, Phased.{IsPhased, IsPrepared, closes_at, closing_in, has_left, has_stopped, root_over, stage_of}, Records.number_in, MailPosts.IsMailbox, View.driver_of}, proofs.Facts.by_number}
 use Rattle.exec_polling.specs.Calling.{HoldsForAll}
 use Rattle.exec_invariants.{specs.{Carried.{Carried, HasStretchFor, IsUnderWay}, Due.IsDue, Gates.{IsKnown, has_hint_at, may_ask_hint}, HoldPlaces.{cancels_at, heard_at, sends_cancel_at}, Places.{begins_at, is_armed_at, is_pooled_at, step_of_poll}, Sound.{HasGuest, HasLetters, HasQueue, HasRunnable, IsGuest, IsHeld, IsSeated, SoundAt, Stops, StopsIn, root_in_hand, served_in}, Spares.{Spares, SparesChair, SparesMore, SparesRecord}}, proofs.{Dedicated.{by_length, chair_of_pool}, Spared.{KeepsMine, asleep_apart, flown_apart, heard_apart, letter_apart, mail_apart, named_apart, over_apart, record_back, rooted_apart, stops_apart, timed_apart}, SparedRecord.{sleepers_stay, live_of, there_within}}}
 use Rattle.exec_steps.proofs.ApartQueues.{queue_apart, aims_apart}
@@ -24,55 +24,16 @@ is_drain (Some InClosing.LeaveBarrier) = true
 is_drain _ = false
 
 closes_drain : (p : Place) → is_drain (closing_in p) ≡ true → closes_at p ≡ true
-closes_drain (Place.Closing InClosing.Close) h = absurd (false≢true h)
-closes_drain (Place.Closing x) h = refl
-closes_drain (Place.Pop x AfterPop.Discard) h = refl
-closes_drain (Place.Signal x j (AfterSignal.Send (AfterSend.Tell n))) h = refl
-closes_drain (Place.Signal x j (AfterSignal.Send (AfterSend.Cancels (AfterCancels.Visit drain)))) h = refl
-closes_drain (Place.SendCancel (AfterCancels.Visit drain)) h = refl
-closes_drain _ h = absurd (false≢true h)
+closes_drain = grind arith
 
 drains_pool : (p : Place) → is_drain (closing_in p) ≡ true → is_pooled_at p ≡ true
-drains_pool (Place.Closing (InClosing.Visit drain)) h = refl
-drains_pool (Place.Closing (InClosing.Clear t drain)) h = refl
-drains_pool (Place.Closing InClosing.LeaveBarrier) h = refl
-drains_pool (Place.Closing InClosing.CloseQueue) h = refl
-drains_pool (Place.Closing InClosing.OpenBarrier) h = refl
-drains_pool (Place.Closing InClosing.Stop) h = refl
-drains_pool (Place.Closing (InClosing.TellRoot j)) h = refl
-drains_pool (Place.Closing InClosing.Close) h = absurd (false≢true h)
-drains_pool (Place.Closing InClosing.CloseMailbox) h = absurd (false≢true h)
-drains_pool (Place.Closing InClosing.Orphan) h = absurd (false≢true h)
-drains_pool (Place.Closing InClosing.CloseSleeper) h = absurd (false≢true h)
-drains_pool (Place.Closing InClosing.End) h = absurd (false≢true h)
-drains_pool (Place.Pop x AfterPop.Discard) h = refl
-drains_pool (Place.Signal x j (AfterSignal.Send (AfterSend.Tell n))) h = refl
-drains_pool (Place.Signal x j (AfterSignal.Send (AfterSend.Cancels (AfterCancels.Visit drain)))) h = refl
-drains_pool (Place.SendCancel (AfterCancels.Visit drain)) h = refl
-drains_pool _ h = absurd (false≢true h)
+drains_pool = grind arith
 
 drain_says : (x : Option InClosing) (closes : Bool) → closes ≡ true → is_drain x ≡ true → (root_over closes x ≡ true) × (has_stopped closes x ≡ true)
-drain_says (Some (InClosing.Visit drain)) closes is h = (is, is)
-drain_says (Some (InClosing.Clear t drain)) closes is h = (is, is)
-drain_says (Some InClosing.LeaveBarrier) closes is h = (is, is)
-drain_says _ closes is h = absurd (false≢true h)
-
-passed_apart : (d : Drain) (set set' : Set (Unit {0})) → length set'.shards ≡ length set.shards → ((k : ℕ) → shard_at set k ≡ [] → shard_at set' k ≡ []) → HasPassed d set → HasPassed d set'
-passed_apart d set set' many emptied passed = λ k few side all.
-    emptied k (passed k (subst (λ n. k < n) many few) side (subst (λ n. d.at + d.left ≤ k + n) many all))
+drain_says = grind arith
 
 prepared_apart : (x : Option InClosing) (unreleased : ℕ) (set set' : Set (Unit {0})) → length set'.shards ≡ length set.shards → (is_drain x ≡ true → (k : ℕ) → shard_at set k ≡ [] → shard_at set' k ≡ []) → IsPrepared x unreleased set → IsPrepared x unreleased set'
-prepared_apart (Some (InClosing.Visit drain)) unreleased set set' many emptied h = (
-  record { there = subst (λ n. drain.at < n) (sym many) h.0.there; few = subst (λ n. drain.left ≤ n) (sym many) h.0.few },
-  h.1,
-  passed_apart drain set set' many (emptied refl) h.2,
-)
-prepared_apart (Some (InClosing.Clear t drain)) unreleased set set' many emptied h = (
-  record { there = subst (λ n. drain.at < n) (sym many) h.0.there; few = subst (λ n. drain.left ≤ n) (sym many) h.0.few },
-  passed_apart drain set set' many (emptied refl) h.1,
-)
-prepared_apart (Some InClosing.LeaveBarrier) unreleased set set' many emptied h = λ k. emptied refl k (h k)
-prepared_apart _ unreleased set set' many emptied h = h
+prepared_apart = grind arith
 
 module _ {B : Type 0} where
   -- with as many workers or more
@@ -99,16 +60,7 @@ module _ {B : Type 0} where
       let now = spares.polled t was.0 was.1 guest.polled guest.poller in
       let slot = was.0 in
       let sp = now.2 in
-      let still : IsGuest x i (record slot { cell = now.0.cell; cleared = now.0.cleared; fresh = now.0.fresh; output = now.0.output }) = record {
-        ordinary = guest.ordinary;
-        polled = sp.polled;
-        body = guest.body;
-        poller = guest.poller;
-        cancelled = sp.cancelled guest.cancelled;
-        told = guest.told;
-        untold = guest.untold;
-        there = guest.there;
-      } in
+      let still : IsGuest x i (record slot { cell = now.0.cell; cleared = now.0.cleared; fresh = now.0.fresh; output = now.0.output }) = grind arith in
       (now.0, now.1, subst (IsGuest x i) (sym sp.kept) still)
 
   -- ALL

@@ -1,5 +1,5 @@
 -- What follows a push of a task that a callback woke: the next of the callbacks.
-use Rattle.std.proofs.Common.{Option, refl}
+use Rattle.std.proofs.Common.{Option, refl, arith}
 use Rattle.exec_task.specs.declared.body.Said.{Said}
 use Rattle.exec_moves.specs.declared.{handing.{AfterKick.AfterKick, AfterPush.AfterPush, InKick.InKick}, place.Place.Place}
 use Rattle.exec_parts.specs.{declared.parts.{shared.Shared.Shared, worker.Worker.Worker}, Spots.Spot}
@@ -7,9 +7,7 @@ use Rattle.exec_invariants.{specs.Sound.SoundAt, proofs.{CallsBack.{call_comes, 
 
 module _ {B L : Type 0} (left : B → L) (spot : L → Option Said → Spot) where
   pub push_next : (b : AfterPush) (q : Place) (w : Worker) (s : Shared B) → SoundAt q w s → IsPushFor b q → PushNext left spot b w s
-  push_next (AfterPush.Act t) q w s sound is = record { comes = tt; seen = λ p vs suits. tt }
-  push_next AfterPush.Pick q w s sound is = record { comes = tt; seen = λ p vs suits. tt }
-  push_next (AfterPush.CallBack n) q w s sound is = record { comes = call_comes n q w s sound is; seen = λ p vs suits. callback_seen left spot p vs q w s sound suits n }
+  push_next = grind (arith, call_comes, callback_seen)
 
   pub kick_next : (b : AfterKick) (x : InKick) (w : Worker) (s : Shared B) → SoundAt (Place.Kick x b) w s → KickNext left spot b w s
   kick_next (AfterKick.Leave b) x w s sound = record { comes = tt; seen = λ p vs suits. tt }

@@ -1,6 +1,6 @@
 -- WHAT A WORKER OWES OTHERS of what a task held may be sent: each letter is under way once, in the worker's own hand, so it is in no
 -- inbox, and the inbox that it goes to has a place for it.
-use Rattle.std.proofs.{Common.{◌≡◌, ℕ, ◌+◌, ◌<◌, ◌≤◌, Bool, true, false, Contains, List, [], ◌∷◌, ◌++◌, count_by, length, map, Option, Some, None, refl, sym, ap, subst, ◌∙◌, arith, slice_get, slice_index_or, option_map, option_to_list}, lemmas.{Bool.false≢true, List.length-map}}
+use Rattle.std.proofs.{Common.{◌≡◌, ℕ, ◌+◌, ◌<◌, ◌≤◌, Bool, false, Contains, List, [], ◌∷◌, ◌++◌, count_by, length, map, Option, Some, None, refl, sym, ap, subst, ◌∙◌, arith, slice_get, slice_index_or, option_map, option_to_list}, lemmas.{Bool.false≢true, List.length-map}}
 use Rattle.exec_words.specs.{Inbox.{is_wake_root, spare_places}, declared.inbox.Message.{Message}}
 use Rattle.exec_machine.specs.{declared.state.MailMessage.TheVariants.{CancelRequest, CancelTimer}, Tests.is_empty}
 use Rattle.exec_moves.specs.{declared.{handing.AfterCancels.AfterCancels, place.Place.Place}, Send.{first_letter, no_letter}}
@@ -8,9 +8,7 @@ use Rattle.exec_parts.specs.{declared.parts.{held.Held.Held, mail.Subject.Subjec
 use Rattle.exec_invariants.{specs.{Holding.{Box, IsAbout, IsHeldBy, Mail, Nap, Thing, box_of, cancel_held, cancel_sleep, holder_of, mail_in, nap_of, thing_of, under_way}, Sound.{IsLetter, IsMineIn, SoundAt}, Whole.{HasWhole, hands_of, mail_with, with_worker}}, proofs.{AskBoxes.box_there, HoldMail.{is_once, mail_first, sum_least}, HoldPosts.has_place, TaskHears.thing_there, TaskTakes.nap_there}}
 
 most_one : (shut observed : Bool) (held told : ℕ) → shut ≡ false → IsHeldBy shut observed held told → told ≤ 1
-most_one true observed held told open_box fact = absurd (false≢true (sym open_box))
-most_one false true held told open_box fact = omega (arith, fact)
-most_one false false held told open_box fact = omega (arith, fact)
+most_one = grind arith
 
 pub first_counts : (m : Mail) (ms : List Mail) → 1 ≤ mail_in m (m ∷ ms)
 first_counts m ms = let first = mail_first m m ms in let once = is_once m in omega (arith, first, once)
@@ -39,10 +37,7 @@ module _ {B : Type 0} (w : Worker) (s : Shared B) (has : HasWhole w s) where
 
   place_at : (j : ℕ) (m : Mail) (chair : Chair) → slice_get s.seats.items j ≡ Some chair → is_wake_root m ≡ false → IsAbout workers j m ts naps
       → under_way (hands_of (with_worker has.others w)) m boxes ≤ 1 → 1 ≤ mail_in m (mail_with w) → chair.mailbox.inbox.closed ≡ false → 0 < spare_places chair.mailbox.inbox
-  place_at j m chair there letter about most some open_box =
-      let room = room_at j m chair there letter about most some open_box in
-      let roots = (has.whole.pool.mail j chair there).roots in
-      omega (arith, room, roots)
+  place_at = grind (arith, room_at)
 
   -- what is sent has a place
   pub request_room : (j k : ℕ) → IsMineIn workers j (Subject.Request k) s.requests.items s.sleepers.items → 1 ≤ mail_in (Message.Cancel (Subject.Request k)) (mail_with w) → (chair : Chair) → slice_get s.seats.items j ≡ Some chair → chair.mailbox.inbox.closed ≡ false

@@ -51,22 +51,7 @@ module _ {B L : Type 0} (left : B → L) (spot : L → Option Said → Spot) (w 
       -- a place of the scan with the same in the hands
       leads_scan : (next : Place) (y : Queue Runnable) → bare_of next ≡ lowered w.role (is_pooled_at next) (bare_of q) → searches_at next ≡ None → has_loot_at next ≡ true → is_armed_at next ≡ false → has_wakes_at next ≡ false → s'.seats.items ≡ slice_set s.seats.items from (record its { queue = y })
           → ((own : Queue Runnable) → (own.held ≡ []) × (128 ≤ room_of own) → HasQueue next own) → Aims next s.config w.index s'.seats.items → HasBatch next w.batch.values → Leads q next w (record w { place = next }) s s'
-      leads_scan next y same searches loot armed quiet set queue aims batch =
-          record {
-            same = same;
-            calm = sound.calm;
-            root_ready = refl;
-            hand = refl;
-            searches = rw searches tt;
-            loot = rw loot sound.loot;
-            stolen = sound.stolen;
-            seated = rw armed (seated_still from (record its { queue = y }) false w s s' other set sound.seated);
-            queue = λ chair at_own. queue chair.queue (sound.queue chair (sym (own_still from (record its { queue = y }) w s s' other set) ∙ at_own));
-            aims = aims;
-            batch = batch;
-            quiet = λ h. refl;
-            stage = stage_still from (record its { queue = y }) w s s' other set;
-          }
+      leads_scan = grind (arith, seated_still, own_still, stage_still)
 
       by : (b : Bool) → same_head h (head_of its.queue) ≡ b → s'.seats.items ≡ slice_set s.seats.items from (record its { queue = released_if b its.queue }) → Steps left spot w s e w' s'
       by true is set =

@@ -1,5 +1,5 @@
 -- What the steps of a search, and of a scan that reads, are to the machine.
-use Rattle.std.proofs.{Common.{◌≡◌, ◌≢◌, ℕ, suc, ◌+◌, ◌-◌, ◌*◌, ◌/◌, ◌%◌, ◌<◌, ◌≤◌, ◌==◌, Bool, true, false, [], Option, Some, refl, sym, ap, ◌∙◌, arith, slice_get, nat_lt, nat_le, if◌then◌else◌, div-add-mod', suc-mul}, lemmas.{Bool.{eq-eqb}, List.length-map, Nat.{mod-mul-add, mod_below}}}
+use Rattle.std.proofs.{Common.{◌≡◌, ◌≢◌, ℕ, ◌+◌, ◌-◌, ◌*◌, ◌%◌, ◌<◌, ◌≤◌, ◌==◌, Bool, true, false, [], Option, Some, refl, sym, ap, ◌∙◌, arith, slice_get, nat_lt, nat_le, if◌then◌else◌}, lemmas.{Bool.{eq-eqb}, List.length-map, Nat.{mod_below}}}
 use Rattle.exec_words.specs.{Idle.Idle, Queue.{Queue, head_of, room_of, tail_of}, declared.head.Head.Head}
 use Rattle.exec_task.specs.declared.{body.Said.Said}
 use Rattle.exec_machine.specs.{declared.{config.Configuration.Configuration, event.Event.{Event, TheVariants.Turn}, state.Next.Next}, Choice.Choice.Plain, Progress.Plan}
@@ -10,31 +10,7 @@ use Rattle.exec_invariants.{specs.{Kinds.lowered, Places.{has_count_at, is_publi
 -- THE NEXT QUEUE isn't the one before it
 
 next_other : (n m : ℕ) → 1 < m → (n + 1) % m ≢ n % m
-next_other n m some = by (nat_lt (n % m + 1) m) refl
-  where
-    q : ℕ
-    q = n / m
-
-    r : ℕ
-    r = n % m
-
-    whole : q * m + r ≡ n
-    whole = div-add-mod' n m
-
-    below : r < m
-    below = mod_below n m (omega (arith, some))
-
-    by : (b : Bool) → nat_lt (r + 1) m ≡ b → (n + 1) % m ≢ r
-    by true is same =
-        let less : r + 1 < m = less_by (r + 1) m is in
-        let split : n + 1 ≡ q * m + (r + 1) = omega (arith, whole) in
-        let it : (n + 1) % m ≡ r + 1 = ap (λ x. x % m) split ∙ mod-mul-add q m (r + 1) less in
-        omega (arith, it, same)
-    by false is same =
-        let full : r + 1 ≡ m = omega (arith, most_by (r + 1) m is, below) in
-        let split : n + 1 ≡ suc q * m + 0 = omega (arith, whole, full, suc-mul q m) in
-        let it : (n + 1) % m ≡ 0 = ap (λ x. x % m) split ∙ mod-mul-add (suc q) m 0 (omega (arith, some)) in
-        omega (arith, it, same, full, some)
+next_other = grind arith
 
 -- a scan comes to another queue than the own one
 comes_other : (c : Configuration) (i : ℕ) (x : Scan) → (past_own c i x).passed < c.workers → from_of c (past_own c i x) ≢ i
@@ -50,11 +26,7 @@ comes_other c i x less = by (from_of c x == i) refl less
         true_false (sym yes ∙ is)
 
 still_start : (c : Configuration) (i : ℕ) (x : Scan) → (past_own c i x).start ≡ x.start
-still_start c i x = by (from_of c x == i)
-  where
-    by : (b : Bool) → (if b then past x else x).start ≡ x.start
-    by true = refl
-    by false = refl
+still_start = grind arith
 
 module _ {B : Type 0} where
   -- half of the own queue is free

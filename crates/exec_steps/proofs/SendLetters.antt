@@ -3,9 +3,9 @@ use Rattle.std.proofs.{Common.{◌≡◌, ◌≢◌, ⊎_elim, ℕ, zero, suc, �
 use Rattle.exec_words.specs.{Inbox.is_wake_root, Queue.tail_of, declared.inbox.Message.Message}
 use Rattle.exec_task.specs.declared.body.Said.{Said}
 use Rattle.exec_machine.specs.{declared.{event.Event.{Event, TheVariants.{Closed, Send, Turn}}, state.{Letter.Letter as Owed, MailMessage.{MailMessage, TheVariants.{Root, ForwardRequest, ForwardTimer, CancelRequest, CancelTimer}}, Next.Next}}, After.own_after, Allowed.allowed, Choice.Choice.Plain, Mail.posted as seat_posted, Progress.Plan, Same.{is_letter, same_message}, Tests.AllTrue, World.{no_seat, seat_of}}
-use Rattle.exec_moves.specs.{declared.{handing.{AfterCancels.AfterCancels, AfterSend.AfterSend, AfterSignal.AfterSignal, InSignal.InSignal}, place.{InClosing.InClosing, Place.Place}}, Parts.{after_cancels, cancels_left}, Seen.{next_at, polls_at, serves_at}, Send.{after_posting, asks as asks_box, no_letter, posted, send_message, sent}, State.{Desk, Things, goes}, Thing.{mailbox_of, set_mailbox, with_mailbox}}
+use Rattle.exec_moves.specs.{declared.{handing.{AfterCancels.AfterCancels, AfterSend.AfterSend, AfterSignal.AfterSignal, InSignal.InSignal}, place.{Place.Place}}, Parts.{after_cancels, cancels_left}, Seen.{next_at, polls_at, serves_at}, Send.{after_posting, asks as asks_box, no_letter, posted, send_message, sent}, State.{Desk, Things, goes}, Thing.{mailbox_of, set_mailbox, with_mailbox}}
 use Rattle.exec_parts.{specs.{declared.parts.{held.Held.Held, letters.Letters.Letters, mail.Subject.Subject, record.Record.Record, seat.Seat.Seat as Chair, shared.Shared.Shared, sleeping.SleeperRecord.SleeperRecord, worker.Worker.Worker}, MailPosts.{Sends, SendsLetter, asks_by}, Phased.{closes_after_cancels, closing_after_cancels, has_left}, Spots.Spot, View.{Views, Visible, common_of, desk_of, inbox_at, letter_of_request, letter_of_timer, letters_in, mail_of, own_of, owed_at, polls_seen, queue_at, seat_seen, seats_seen, things_with, visible, with_view, word_at}}, proofs.{Facts.{both_true, never_true, or_left, set_elsewhere, set_there}, Showing.map_set}}
-use Rattle.exec_invariants.{specs.{Holding.{Box, Hands, Holder, IsAbout, IsHolding, Mail, Nap, Thing, box_of, cancel_held, cancel_sleep, holder_of, mail_in, mail_of_letters, nap_of, same_mail, thing_of}, Places.{claims_at, drops_at, has_count_at, is_published_at}, Sound.{HasLetters, IsLetter as IsOfOther, IsMineIn, SoundAt}, Whole.{HasWhole, IsWhole, Profile, hands_of, mail_with, with_worker}, Works.{Beside, Steps, Suits, Works}}, proofs.{AskBoxes.box_there, Aside.{SameProfile, queue_of_chair, queues_set, seats_other, spared}, Hearing.unheard, HoldPosts.{moved, posted as holding_posted, with_mail}, LetterPosts.{IsLetter, asks_open, cancels_request, cancels_timer, chair_open, open_spares, seat_open, sent_open, things_open}, MailApplies.{rest_had, split_first}, MailMoves.beside_moved, PoolKept.{gate_spared, gates_set}, Recorded.request_seen, Seats.{chair_set, seat_there}, Rousing.Keeps, Slots.before_barrier, SparedRecord.there_within, TaskAsks.Posts, TaskHears.thing_there, TaskTakes.nap_there, Turning.{Shares, by_place, set_found, sound_on, view_found}}}
+use Rattle.exec_invariants.{specs.{Holding.{Box, Hands, Holder, IsAbout, IsHolding, Mail, Nap, Thing, box_of, cancel_held, cancel_sleep, holder_of, mail_in, mail_of_letters, nap_of, same_mail, thing_of}, Places.{drops_at}, Sound.{HasLetters, IsLetter as IsOfOther, IsMineIn, SoundAt}, Whole.{HasWhole, IsWhole, Profile, hands_of, mail_with, with_worker}, Works.{Beside, Steps, Suits, Works}}, proofs.{AskBoxes.box_there, Aside.{SameProfile, queue_of_chair, queues_set, seats_other, spared}, Hearing.unheard, HoldPosts.{posted as holding_posted, with_mail}, LetterPosts.{IsLetter, asks_open, cancels_request, cancels_timer, chair_open, open_spares, seat_open, sent_open, things_open}, MailApplies.{rest_had, split_first}, MailMoves.beside_moved, PoolKept.{gate_spared, gates_set}, Recorded.request_seen, Seats.{chair_set, seat_there}, Rousing.Keeps, Slots.before_barrier, SparedRecord.there_within, TaskAsks.Posts, TaskHears.thing_there, TaskTakes.nap_there, Turning.{Shares, by_place, set_found, sound_on, view_found}}}
 use Rattle.exec_steps.proofs.{LettersMay.{first_counts, request_room, timer_room}, Signalling.{Ways, cancels_to}}
 
 -- LETTERS AND MESSAGES
@@ -44,9 +44,7 @@ module _ (workers i : ℕ) (rs : List Record) (zs : List SleeperRecord) where
   of_requests (h ∷ hs) of o (suc k, few, is) = of_requests hs (λ x has. of x (suc has.0, (let within = has.1 in omega (arith, within)), has.2)) o (k, omega (arith, few), is)
 
   of_timer : (t : Option Held) → ((h : Held) → t ≡ Some h → IsOfOther workers i (Subject.Timer h.number) h.worker rs zs) → (o : Owed) → Contains (option_to_list (option_map letter_of_timer t)) o → OfLetter o.message o.to
-  of_timer None of o (k, few, is) = absurd (omega (arith, few))
-  of_timer (Some h) of o (zero, few, is) = subst (λ (x : Owed). OfLetter x.message x.to) is (of h refl)
-  of_timer (Some h) of o (suc k, few, is) = absurd (omega (arith, few))
+  of_timer = grind arith
 
   of_all : (b c : Bool) (l : Letters) → HasLetters b c i workers l rs zs → (o : Owed) → Contains (letters_in l) o → OfLetter o.message o.to
   of_all b c l has o among =
@@ -76,27 +74,12 @@ within_few : (a b : ℕ) → a < b → nat_lt a b ≡ true
 within_few a b less = grind (arith, nat_tests, less)
 
 same_self : (m : MailMessage) → same_message m m ≡ true
-same_self Root = refl
-same_self (ForwardRequest k) = eq-eqb k k refl
-same_self (ForwardTimer k) = eq-eqb k k refl
-same_self (CancelRequest k) = eq-eqb k k refl
-same_self (CancelTimer k) = eq-eqb k k refl
+same_self = grind arith
 
 -- IN HAND
 
 rehanded : (h h' : Hands) (workers : ℕ) (hs : List Holder) (ts : List Thing) (naps : List Nap) (boxes : List Box) → ((m : Mail) → h'.mail m ≡ h.mail m) → h'.wakes ≡ h.wakes → IsHolding h workers hs ts naps boxes → IsHolding h' workers hs ts naps boxes
-rehanded h h' workers hs ts naps boxes same wakes old =
-    moved h h' workers hs ts naps boxes boxes (record {
-      many = refl;
-      back = λ j box at. (box, at, record { shut = refl; closing = refl; places = λ p. p; made = refl });
-      wakes = wakes;
-      way = λ x j box its at open_box. (
-        (let as_many = same (Message.Cancel x) in omega (arith, as_many)),
-        (let as_many = same (Message.Forward x) in omega (arith, as_many)),
-      );
-      about = old.about;
-      made = λ m some. old.made m (subst (λ n. 0 < n) (same m) some);
-    }) old
+rehanded = grind arith
 
 module _ {B : Type 0} where
   -- THE SIGNAL of the letter is next: what holds there
@@ -165,13 +148,7 @@ module _ {B : Type 0} where
       false≢true (sym before.going ∙ has.whole.pool.shut j chair at_j pool closed w.index before.chair before.there))
     where
       unleft : (a : AfterCancels) → has_left (closes_after_cancels a) (closing_after_cancels a) ≡ false
-      unleft (AfterCancels.Remove t) = refl
-      unleft AfterCancels.Pick = refl
-      unleft (AfterCancels.Visit drain) = by (drain.left == 0)
-        where
-          by : (last : Bool) → has_left true (Some (if last then InClosing.LeaveBarrier else InClosing.Visit drain)) ≡ false
-          by true = refl
-          by false = refl
+      unleft = grind arith
 
   -- WHERE IT LEADS
   record LeadsTo (q' : Place) (w wm : Worker) (s1 : Shared B) : Type 0 where
@@ -280,18 +257,7 @@ module _ {B L : Type 0} (left : B → L) (spot : L → Option Said → Spot) whe
       let signal : SoundAt q wm s1 = signal_sound b j rest w s s' chair chair' sound posts later in
       let to : LeadsTo q' w wm s1 = leads_to b j rest w s s1 chair' there_then signal asks in
       let shares : Shares s s' = subst (λ (z : Shared B). z ≡ record s { seats = z.seats; idle = z.idle; global = z.global }) (sym sends.kept) refl in
-      let alike : SameProfile (record w { batch = w.batch; letters = rest }) wm = record {
-        hand = refl;
-        loot = refl;
-        polls = sym (ap polls_at sound.here);
-        claims = sym (ap claims_at sound.here);
-        searching = refl;
-        counts = sym (ap has_count_at sound.here);
-        index = refl;
-        published = sym (ap is_published_at sound.here);
-        drops = drops_here b ∙ sym (ap drops_at sound.here);
-        told = record { batch = refl; letters = refl; left = refl };
-      } in
+      let alike : SameProfile (record w { batch = w.batch; letters = rest }) wm = grind arith in
       let tails : tail_of chair.queue ≤ tail_of chair'.queue = omega arith in
       let beside : Beside w s wm s1 =
       beside_moved w.batch rest w wm s s1 alike refl (seats_other w.index j s.seats.items s'.seats.items chair chair' set there tails posts.spares) (gates_set j s.seats.items s'.seats.items chair chair' set there (gate_spared chair chair' posts.spares))
@@ -329,9 +295,7 @@ module _ {B L : Type 0} (left : B → L) (spot : L → Option Said → Spot) whe
       subst (λ x. Steps left spot w s x w' s') (sym event) (subst (λ x. Steps left spot w s (Send j m) x s') (sym same) (subst (Steps left spot w s (Send j m) w1) (sym sends.kept) done))
     where
       drops_here : (a : AfterCancels) → drops_at (Place.Signal InSignal.SetLatch letter.to (AfterSignal.Send (AfterSend.Cancels a))) ≡ drops_at (Place.SendCancel a)
-      drops_here (AfterCancels.Remove t) = refl
-      drops_here AfterCancels.Pick = refl
-      drops_here (AfterCancels.Visit drain) = refl
+      drops_here = grind arith
 
   -- THE WHOLE STEP
   pub letter_sent : (b : AfterCancels) (w w' : Worker) (s s' : Shared B) (e : Event) → SoundAt (Place.SendCancel b) w s → HasWhole w s → SendsLetter b w w' s s' e → Steps left spot w s e w' s'

@@ -36,31 +36,16 @@ some_share len workers room held some =
 abbrev two : List ℕ → Queue ℕ → Queues
 two global queue = record { global = global; queue = queue }
 
--- how many the share of this global queue is
-abbrev share : Configuration → ℕ → ℕ → Global Runnable → ℕ
-share c room held g = share_of (length g.values) c.workers room held
-
 abbrev rest : Configuration → ℕ → ℕ → Global Runnable → List Runnable
 rest c room held g = share_queued g c.workers room held
 
 -- the move, of what is seen of the queues
 queues_seen : (c : Configuration) (room held : ℕ) (g : Global Runnable) (q : Queue Runnable) → two (drop (share_of (length (tasks_of g.values)) c.workers room held) (tasks_of g.values)) (published (queue_seen q) (drop 1 (take (share_of (length (tasks_of g.values)) c.workers room held) (tasks_of g.values)))) ≡ two (tasks_of (share_taken g c.workers room held).values) (queue_seen (published q (rest c room held g)))
-queues_seen c room held g q =
-    let number : Runnable → ℕ = λ r. r.task.0 in
-    let n : ℕ = share c room held g in
-    let seen : ℕ → Queues = λ k. two (drop k (tasks_of g.values)) (published (queue_seen q) (drop 1 (take k (tasks_of g.values)))) in
-    let same : length (tasks_of g.values) ≡ length g.values = length-map g.values number in
-    ap (λ k. seen (share_of k c.workers room held)) same
-    ∙ ap (λ xs. two (xs) (published (queue_seen q) (drop 1 (take n (tasks_of g.values))))) (drop-map number n g.values)
-    ∙ ap (λ xs. two (tasks_of (drop n g.values)) (published (queue_seen q) (drop 1 xs))) (take-map number n g.values)
-    ∙ ap (λ xs. two (tasks_of (drop n g.values)) (published (queue_seen q) xs)) (drop-map number 1 (take n g.values))
-    ∙ ap (λ y. two (tasks_of (drop n g.values)) (y)) (published_seen q (drop 1 (take n g.values)))
+queues_seen = grind (arith, length-map, drop-map, take-map, published_seen)
 
 share_some : (c : Configuration) (f : First) (room held : ℕ) (d : Desk) (g : Global Runnable) (q : Queue Runnable) (r : Runnable) (rs : List Runnable) → g.values ≡ r ∷ rs
     → take_share c f room held d (two (tasks_of g.values) (queue_seen q)) ≡ does Turn (polls r.task.0 d) (two (tasks_of (share_taken g c.workers room held).values) (queue_seen (published q (rest c room held g))))
-share_some c f room held d g q r rs is =
-    let first : take_share c f room held d (two (tasks_of g.values) (queue_seen q)) ≡ does Turn (polls r.task.0 d) (two (drop (share_of (length (tasks_of g.values)) c.workers room held) (tasks_of g.values)) (published (queue_seen q) (drop 1 (take (share_of (length (tasks_of g.values)) c.workers room held) (tasks_of g.values))))) = rw is refl in
-    first ∙ ap (does Turn (polls r.task.0 d)) (queues_seen c room held g q)
+share_some = grind (arith, queues_seen)
 
 share_none : (c : Configuration) (f : First) (room held : ℕ) (d : Desk) (g : Global Runnable) (q : Queue Runnable) → g.values ≡ [] → take_share c f room held d (two (tasks_of g.values) (queue_seen q)) ≡ turns (after_empty_look c f) d (two (tasks_of g.values) (queue_seen q))
 share_none c f room held d g q is = rw is refl

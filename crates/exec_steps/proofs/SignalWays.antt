@@ -1,5 +1,5 @@
 -- What the steps of a signal leave as it was.
-use Rattle.std.proofs.Common.{◌≡◌, subst}
+use Rattle.std.proofs.Common.{◌≡◌, subst, arith}
 use Rattle.exec_moves.specs.declared.place.Place.{Place}
 use Rattle.exec_parts.specs.declared.parts.{shared.Shared.Shared, worker.Worker.Worker}
 use Rattle.exec_invariants.proofs.Turning.{Arrives}
@@ -10,31 +10,4 @@ module _ {B : Type 0} where
   arrives_there q w v s t kept to =
       let u : Shared B = record s { seats = t.seats } in
       let it : Arrives q w v u t = subst (λ z. Arrives q w v z t) kept to in
-      record {
-        runnable = it.runnable;
-        seated = it.seated;
-        queue = it.queue;
-        hand = it.hand;
-        loot = it.loot;
-        genuine = it.genuine;
-        stolen = it.stolen;
-        searching = it.searching;
-        pooled = it.pooled;
-        serves = it.serves;
-        calm = it.calm;
-        aims = it.aims;
-        guest = it.guest;
-        left = it.left;
-        batch = it.batch;
-        batch_place = it.batch_place;
-        quiet = it.quiet;
-        due = it.due;
-        flown = it.flown;
-        told = it.told;
-        letters = it.letters;
-        stops = it.stops;
-        hears = it.hears;
-        lets_go = it.lets_go;
-        phased = it.phased;
-        tied = it.tied;
-      }
+      grind arith

@@ -1,8 +1,8 @@
 -- A step of one party keeps what holds of an executor: what the party leaves of others is enough for each of them.
-use Rattle.std.proofs.{Common.{◌≡◌, ◌≢◌, ◌⊎◌, ℕ, zero, suc, ◌+◌, ◌*◌, ◌<◌, ◌≤◌, ◌==◌, Bool, true, false, List, [], ◌∷◌, ◌++◌, length, Some, refl, sym, ap, subst, ◌∙◌, arith, inl, inr, option_to_list, slice_get, slice_set, if◌then◌else◌}, lemmas.{List.{length-append, length-set}, Option.slice_get_within}}
+use Rattle.std.proofs.{Common.{◌≡◌, ◌≢◌, ◌⊎◌, ℕ, zero, suc, ◌+◌, ◌*◌, ◌<◌, ◌≤◌, ◌==◌, List, [], ◌∷◌, ◌++◌, length, Some, refl, sym, ap, subst, ◌∙◌, arith, inl, inr, option_to_list, slice_get, slice_set, if◌then◌else◌}, lemmas.{List.{length-append, length-set}, Option.slice_get_within}}
 use Rattle.exec_machine.specs.declared.{config.Configuration.Configuration, event.Event.Event}
-use Rattle.exec_moves.specs.{Seen.polls_at, declared.handing.{CallPlace.CallPlace, InGlobal.InGlobal}}
-use Rattle.exec_parts.{specs.{declared.parts.{seat.Seat.Seat as Chair, shared.Shared.Shared, worker.Worker.Worker}, MailPosts.{HaveMailboxes, IsMailbox}}, proofs.Facts.{by_number, same_number, same_thing, set_elsewhere, set_there}}
+use Rattle.exec_moves.specs.{Seen.polls_at, declared.handing.{CallPlace.CallPlace}}
+use Rattle.exec_parts.{specs.{declared.parts.{seat.Seat.Seat as Chair, shared.Shared.Shared, worker.Worker.Worker}, MailPosts.{HaveMailboxes, IsMailbox}}, proofs.Facts.{by_number, same_thing, set_elsewhere, set_there}}
 use Rattle.exec_polling.{specs.{declared.caller.Caller.Caller, Calling.{CallAims, CallBeside, CallSound, HasCallWhole, HoldsForAll, has_count_in, with_caller}}, proofs.Outsiders.no_other}
 use Rattle.exec_invariants.{specs.{Places.{claims_at, clears_at, drops_at, has_count_at, is_published_at, one_if}, Sound.{AreHome, Sound}, Spares.{Spares, SparesMore}, Holding.mail_in, Whole.{HasWhole, IsWhole, Profile, is_number, mail_with, runnables_in, wakes_with, with_worker}, Works.{Beside, BesideNewcomer}}, proofs.{Counting.at_most, SparedRecord.there_within}}
 use Rattle.exec_steps.{specs.Together.{StandTogether, all_have, callers_have}, proofs.Apart.{apart, holds_for_all, with_more}}
@@ -24,13 +24,7 @@ shuffled_two : (a b b' c c' : ℕ) → (a + (b + b')) + (c + c') ≡ (a + (c + c
 shuffled_two a b b' c c' = omega arith
 
 swap_shown : {A : Type 0} (o : ℕ → A) (i k j : ℕ) (p q : A) → i ≢ k → (if j == k then q else (if j == i then p else o j)) ≡ (if j == i then p else (if j == k then q else o j))
-swap_shown o i k j p q apart = by (j == i) (j == k) refl refl
-  where
-    by : (a b : Bool) → (j == i) ≡ a → (j == k) ≡ b → (if b then q else (if a then p else o j)) ≡ (if a then p else (if b then q else o j))
-    by true true at_i at_k = absurd (apart (sym (same_number j i at_i) ∙ same_number j k at_k))
-    by true false at_i at_k = refl
-    by false true at_i at_k = refl
-    by false false at_i at_k = refl
+swap_shown = grind arith
 
 -- two workers
 swap_workers : (o : Profile) (a b : Worker) → a.index ≢ b.index → with_worker (with_worker o a) b ≡ with_worker (with_worker o b) a
@@ -50,38 +44,11 @@ swap_workers o a b apart = λ i.
 
 -- a worker and a caller
 swap_caller : (o : Profile) (c : Caller) (w : Worker) → with_worker (with_caller o c) w ≡ with_caller (with_worker o w) c
-swap_caller o c w = λ i.
-    record {
-      runnables = λ t. shuffled (o.runnables t) (runnables_in t (option_to_list c.hand)) (runnables_in t (option_to_list w.hand ++ w.loot.values)) i;
-      polls = λ t. o.polls t + one_if (is_number (polls_at w.place) t);
-      claims = λ j. o.claims j + one_if (is_number (claims_at w.place) j);
-      counts = counts i;
-      published = λ j. if j == w.index then is_published_at w.place else o.published j;
-      clears = λ t. o.clears t + one_if (is_number (clears_at w.place) t);
-      polled_by = λ j. if j == w.index then polls_at w.place else o.polled_by j;
-      drops_by = λ j. if j == w.index then drops_at w.place else o.drops_by j;
-      mail = λ m. o.mail m + mail_in m (mail_with w);
-      wakes = λ j t. if j == w.index then wakes_with t w else o.wakes j t;
-    }
-  where
-    counts : (o.counts + one_if (has_count_in c.place)) + (one_if w.searching + one_if (has_count_at w.place)) ≡ (o.counts + (one_if w.searching + one_if (has_count_at w.place))) + one_if (has_count_in c.place)
-    counts = omega arith
+swap_caller = grind arith
 
 -- two callers
 swap_callers : (o : Profile) (a b : Caller) → with_caller (with_caller o a) b ≡ with_caller (with_caller o b) a
-swap_callers o a b = λ i.
-    record {
-      runnables = λ t. shuffled (o.runnables t) (runnables_in t (option_to_list a.hand)) (runnables_in t (option_to_list b.hand)) i;
-      polls = o.polls;
-      claims = o.claims;
-      counts = shuffled o.counts (one_if (has_count_in a.place)) (one_if (has_count_in b.place)) i;
-      published = o.published;
-      clears = o.clears;
-      polled_by = o.polled_by;
-      drops_by = o.drops_by;
-      mail = o.mail;
-      wakes = o.wakes;
-    }
+swap_callers = grind arith
 
 -- THE OTHERS of one party, whose counts are few
 
@@ -129,11 +96,7 @@ pub last_or_before : {A : Type 0} (xs : List A) (k : ℕ) (y x : A) → slice_ge
 last_or_before [] zero y x there = inr (refl, same_thing y x there)
 last_or_before [] (suc k) y x there = absurd (cc)
 last_or_before (z ∷ xs) zero y x there = inl there
-last_or_before (z ∷ xs) (suc k) y x there =
-    elim (last_or_before xs k y x there) [
-      | inl before ↦ inl before
-      | inr last ↦ inr (ap suc last.0, last.1)
-    ]
+last_or_before (z ∷ xs) (suc k) y x there = grind (arith, last_or_before xs k y x there)
 
 one_more : (n : ℕ) → n + 1 ≡ suc n
 one_more n = omega arith
@@ -170,10 +133,7 @@ others_of_caller (w ∷ ws) cs j c there =
     }
 
 call_aims_apart : (p : CallPlace) (n m : ℕ) → n ≤ m → CallAims p n → CallAims p m
-call_aims_apart (CallPlace.Signal x j) n m more aims = omega (arith, more, aims)
-call_aims_apart (CallPlace.Global (InGlobal.AddGlobalCount set)) n m more aims = aims
-call_aims_apart (CallPlace.ClaimWorker set) n m more aims = aims
-call_aims_apart _ n m more aims = tt
+call_aims_apart = grind arith
 
 module _ {B : Type 0} where
   -- a step of another party leaves a caller sound

@@ -1,19 +1,11 @@
 use Rattle.std.proofs.{Common.{[], ◌∷◌, length, sym, ap, subst, ◌∙◌, append_assoc, append-nil, arith}}
 use Rattle.std.specs.Vec.Iter.{into_iter_items}
 use Rattle.exec_core.specs.Firsts.{HasRoots}
-use Rattle.exec_core.proofs.CoreFirsts.{bare_first, bare_with, nothing_left, roots_more, roots_none, within_yielded}
+use Rattle.exec_core.proofs.CoreFirsts.{bare_with, nothing_left, roots_more, within_yielded}
 use Rattle.exec_core.proofs.setting_up.first_shared.Goals as goal
 
 pub loop-root-init : goal.loop-root-init
-loop-root-init g c =
-    let fresh = c.in_ok-shared.ensures.fresh in
-    let gives = c.into_iter-root-iterator.ensures.into_iter_gives in
-    record {
-      split = gives.0;
-      len = gives.1 ∙ c.args.roots.ok.0 ∙ ap length (sym gives.0);
-      bare = bare_first c.args.configuration (length c.args.roots.items) c.in_ok-shared.shared c.reserve.new.self c.len.result fresh c.in_ok-reserve.ensures.places (c.len.ensures ∙ c.args.roots.ok.0);
-      rooted = rw (fresh.seats, fresh.tasks, c.in_ok-runnables.ensures.items) roots_none;
-    }
+loop-root-init g c = grind arith
 
 pub add_root-requires-clause-few : goal.add_root-requires-clause-few
 add_root-requires-clause-few g c =

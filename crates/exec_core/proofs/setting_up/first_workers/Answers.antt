@@ -2,17 +2,11 @@ use Rattle.std.proofs.Common.{[], ◌∷◌, length, sym, ap, subst, ◌∙◌, 
 use Rattle.std.specs.Vec.Iter.{into_iter_items}
 use Rattle.exec_parts.specs.{Dedicated.Begins, declared.parts.role.Role.TheVariants.Pool}
 use Rattle.exec_core.specs.Firsts.{AllBegin}
-use Rattle.exec_core.proofs.CoreFirsts.{begin_more, begin_none, nothing_left, within_yielded}
+use Rattle.exec_core.proofs.CoreFirsts.{begin_more, nothing_left, within_yielded}
 use Rattle.exec_core.proofs.setting_up.first_workers.Goals as goal
 
 pub loop-runnable-init : goal.loop-runnable-init
-loop-runnable-init c =
-    let gives = c.into_iter-runnable-iterator.ensures.into_iter_gives in
-    record {
-      split = gives.0;
-      len = gives.1 ∙ c.args.runnables.ok.0 ∙ ap length (sym gives.0);
-      begin = rw c.in_ok-workers.ensures.items (begin_none c.args.configuration.now);
-    }
+loop-runnable-init c = grind arith
 
 pub first_worker-requires-clause-few : goal.first_worker-requires-clause-few
 first_worker-requires-clause-few c =

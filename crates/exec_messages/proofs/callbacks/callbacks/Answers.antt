@@ -1,5 +1,6 @@
 use Rattle.std.proofs.lemmas.Option.{slice_get_within}
-use Rattle.exec_messages.proofs.BackHears.{heard_woken, hears_there, hears_unpaid}
+use Rattle.std.proofs.Common.{arith}
+use Rattle.exec_messages.proofs.BackHears.{heard_woken, hears_there}
 use Rattle.exec_invariants.proofs.MailBack.{batch_taken}
 use Rattle.exec_messages.proofs.callbacks.callbacks.Goals as goal
 
@@ -14,9 +15,7 @@ wake_hearer-requires-clause-there g c =
     slice_get_within c.args.shared.now.tasks.items c.in-WakeWaiter.task it.slot it.there
 
 pub wake_hearer-requires-clause-unpaid : goal.wake_hearer-requires-clause-unpaid
-wake_hearer-requires-clause-unpaid g c =
-    let sound = rw c.in-WakeWaiter.is at c.requires.sound in
-    hears_unpaid c.in-WakeWaiter.task c.in-WakeWaiter.of c.args.worker.now c.args.shared.now sound.hears
+wake_hearer-requires-clause-unpaid g c = grind arith
 
 pub returns-in-WakeWaiter : goal.returns-in-WakeWaiter
 returns-in-WakeWaiter g c =

@@ -3,7 +3,7 @@ use Rattle.exec_task.specs.declared.body.Act.{Act}
 use Rattle.exec_moves.specs.declared.place.{InPoll.InPoll, Place.Place}
 use Rattle.exec_parts.specs.declared.parts.nursery.Nursery.{Nursery}
 use Rattle.exec_invariants.{specs.Acting.StepsOf, proofs.{Acting.{passed_by, yielded_by}, Acts.{acted_at, acted_within, kept_any, may_act, unmade, err_so, ok_so}, Still.steps_nobody, TaskNewest.newest_acted, TaskOverActs.{act_over, is_done, is_fault, may_end_task}, TaskOverLets.lets_seen}}
-use Rattle.exec_polling.proofs.{DedicatedSteps.{dedicated_by, may_begin, room_so, undedicated}, Stirred.{woke_by, woken_there, woken_within}, WakeThere.{may_wake, woke_there}, Rooms.may_make, Refused.refused_by, MakingActs.{has_seat, in_range}, Registered.registered_by, Slept.slept_at, SpawnSteps.{may_spawn, spawned_by, unspawned}, TaskNewestSteps.{await_steps, drop_steps, drops_some}}
+use Rattle.exec_polling.proofs.{DedicatedSteps.{dedicated_by, may_begin, undedicated}, Stirred.{woke_by, woken_there, woken_within}, WakeThere.{may_wake, woke_there}, Rooms.may_make, Refused.refused_by, MakingActs.{has_seat, in_range}, Registered.registered_by, Slept.slept_at, SpawnSteps.{may_spawn, spawned_by, unspawned}, TaskNewestSteps.{await_steps, drop_steps, drops_some}}
 use Rattle.exec_polling.proofs.poll.act.Goals as goal
 
 pub next_act-requires : goal.next_act-requires
@@ -129,15 +129,7 @@ returns-in-Wake-clause-same g c =
     tt
 
 pub sleep_for-requires : goal.sleep_for-requires
-sleep_for-requires g c =
-    let w = c.args.worker.now in
-    let s = c.args.shared.now in
-    record {
-      there = acted_within g.B.Body.left g.B.Scripted.spot g.B.Body.gives c.args.task w.moments.sampled s c.next_act.new.shared c.in_ok-request.field-0 c.in_ok-request.ensures.acts;
-      seat = has_seat c.args.task w s c.next_act.new.shared c.requires.sound c.in_ok-request.ensures.acts.kept;
-      early = omega (arith, c.requires.sound.time.not_after, c.requires.sound.time.bounded);
-      may = may_make (Place.Poll c.args.task InPoll.Act) w s c.requires.sound;
-    }
+sleep_for-requires g c = grind (arith, acted_within, has_seat, may_make)
 
 pub returns-in-Sleep-clause-same : goal.returns-in-Sleep-clause-same
 returns-in-Sleep-clause-same g c =
@@ -280,15 +272,7 @@ returns-in-Spawn-clause-same g c =
     err_so c.spawn.result (λ it. unspawned g.B.Body.left g.B.Scripted.runs g.B.Scripted.holds g.B.Scripted.spot g.B.Body.gives g.B.Scripted.answered c.args.task c.in-Spawn.body w c.spawn.new.self s s1 c.spawn.new.shared h it) c.spawn.ensures.refused
 
 pub dedicate-requires : goal.dedicate-requires
-dedicate-requires g c =
-    let w = c.args.worker.now in
-    let s = c.args.shared.now in
-    let s1 = c.next_act.new.shared in
-    let h = acted_at g.B.Body.left g.B.Scripted.runs g.B.Scripted.holds g.B.Scripted.spot g.B.Body.gives g.met.B.Scripted.plays c.args.task w s s1 c.in_ok-request.field-0 (Act.Dedicated c.in-Dedicated.body) c.in-Dedicated.is c.requires.sound c.in_ok-request.ensures.acts c.requires.performs in
-    record {
-      there = acted_within g.B.Body.left g.B.Scripted.spot g.B.Body.gives c.args.task w.moments.sampled s s1 c.in_ok-request.field-0 c.in_ok-request.ensures.acts;
-      ranges = may_begin g.B.Body.left g.B.Scripted.runs g.B.Scripted.holds g.B.Scripted.spot g.B.Body.gives c.args.task w s s1 (Act.Dedicated c.in-Dedicated.body) h;
-    }
+dedicate-requires g c = grind (arith, acted_at, acted_within, may_begin)
 
 pub returns-in-Dedicated-clause-steps : goal.returns-in-Dedicated-clause-steps
 returns-in-Dedicated-clause-steps g c =
@@ -299,12 +283,7 @@ returns-in-Dedicated-clause-steps g c =
     ok_so c.dedicate.result (dedicated_by g.B.Body.left g.B.Scripted.runs g.B.Scripted.holds g.B.Scripted.spot g.B.Body.gives g.B.Scripted.answered c.args.task c.in-Dedicated.body w c.dedicate.new.self s s1 c.dedicate.new.shared c.args.nursery.now c.dedicate.new.nursery h c.requires.whole c.requires.none_yet) c.dedicate.ensures.made
 
 pub returns-in-Dedicated-clause-room : goal.returns-in-Dedicated-clause-room
-returns-in-Dedicated-clause-room g c =
-    let w = c.args.worker.now in
-    let s = c.args.shared.now in
-    let s1 = c.next_act.new.shared in
-    let h = acted_at g.B.Body.left g.B.Scripted.runs g.B.Scripted.holds g.B.Scripted.spot g.B.Body.gives g.met.B.Scripted.plays c.args.task w s s1 c.in_ok-request.field-0 (Act.Dedicated c.in-Dedicated.body) c.in-Dedicated.is c.requires.sound c.in_ok-request.ensures.acts c.requires.performs in
-    room_so g.B.Body.left g.B.Scripted.runs g.B.Scripted.holds g.B.Scripted.spot g.B.Body.gives g.B.Scripted.answered c.args.task c.in-Dedicated.body w c.dedicate.new.self s s1 c.dedicate.new.shared c.args.nursery.now c.dedicate.new.nursery h c.dedicate.result c.requires.none_yet c.dedicate.ensures.made c.dedicate.ensures.refused
+returns-in-Dedicated-clause-room g c = grind arith
 
 pub returns-in-Dedicated-clause-same : goal.returns-in-Dedicated-clause-same
 returns-in-Dedicated-clause-same g c =

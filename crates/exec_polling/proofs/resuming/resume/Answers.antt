@@ -1,4 +1,5 @@
 use Rattle.std.proofs.{Common.{Some, refl, sym, ap, ◌∙◌}, lemmas.Option.{slice_get-get_or, slice_get_within}}
+use Rattle.std.proofs.Common.{arith}
 use Rattle.exec_moves.specs.declared.place.InPoll.{InPoll}
 use Rattle.exec_parts.{specs.declared.parts.task_slot.TaskSlot.TaskSlot, proofs.Facts.same_thing}
 use Rattle.exec_invariants.{specs.Sound.may_resume, proofs.{Here.polled_here, TaskTakes.{never_resumes, wake_taken}}}

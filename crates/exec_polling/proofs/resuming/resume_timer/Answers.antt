@@ -1,4 +1,5 @@
 use Rattle.std.proofs.{Common.{refl, sym, ◌∙◌, inl}, lemmas.Option.slice_get_within}
+use Rattle.std.proofs.Common.{arith}
 use Rattle.exec_machine.specs.Tests.{is_unsent}
 use Rattle.exec_moves.specs.declared.place.InPoll.{InPoll}
 use Rattle.exec_parts.proofs.{Facts.{by_not, by_not_not}, MailLets.found_at}

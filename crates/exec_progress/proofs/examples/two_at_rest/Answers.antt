@@ -3,7 +3,7 @@ use Rattle.std.specs.Prelude.{nat_lt}
 use Rattle.std.proofs.lemmas.Bool.{false≢true}
 use Rattle.exec_words.specs.declared.word.WaitTarget.{WaitTarget}
 use Rattle.exec_machine.specs.{Tests.is_asleep, World.{no_sleeper, own_of}}
-use Rattle.exec_moves.specs.{declared.place.{InPoll.InPoll, Place.Place}, Credit.one_if, Plays.desk_of, Seen.serves_at, Slots.numbers_in, State.{queue_of, word_of}}
+use Rattle.exec_moves.specs.{declared.place.{InPoll.InPoll, Place.Place}, Counts.one_if, Plays.desk_of, Seen.serves_at, Slots.numbers_in, State.{queue_of, word_of}}
 use Rattle.exec_credit.specs.Spins.{IsShort}
 use Rattle.exec_rest.specs.{Examples.{rested, two_waiting}, Places.waits_on, Rested.{is_in_pool, place_at}}
 use Rattle.exec_settled.proofs.TwoAsleep.{each, is_at, not_at}

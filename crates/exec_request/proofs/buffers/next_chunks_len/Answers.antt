@@ -1,20 +1,14 @@
-use Rattle.std.proofs.Common.{arith, ℕ, List, ◌<◌, ◌≤◌, ◌+◌, ◌-◌, ◌≡◌, ◌∙◌, length, ap, inl, inr, take, drop}
+use Rattle.std.proofs.Common.{arith, ℕ, List, ◌≤◌, ◌+◌, ◌-◌, ◌≡◌, ◌∙◌, length, ap, inl, inr, take, drop}
 use Rattle.std.proofs.lemmas.Bool.{cases_lt}
 use Rattle.exec_bufs.specs.Buffers.{total}
 use Rattle.exec_request.proofs.Chunks.{batch-next, batch-within, batch-end}
 use Rattle.exec_request.proofs.buffers.next_chunks_len.Goals as goal
 
 pub overflow_add-sum : goal.overflow_add-sum
-overflow_add-sum c =
-    let bufs = c.args.bufs.now in
-    let there : c.loop-index.index < length bufs = omega (arith, c.chunk_count.ensures, c.min-end.ensures, c.loop-index-test.true) in
-    omega (arith, c.loop-index.invariant, c.chunk_len-sum.ensures, batch-within bufs c.args.chunk c.loop-index.index c.loop-index.auto.index there, c.len-all.ensures.sum, c.len-all.ensures.at_most)
+overflow_add-sum c = grind (arith, batch-within)
 
 pub loop-index-preserved : goal.loop-index-preserved
-loop-index-preserved c =
-    let bufs = c.args.bufs.now in
-    let there : c.loop-index.index < length bufs = omega (arith, c.chunk_count.ensures, c.min-end.ensures, c.loop-index-test.true) in
-    omega (arith, c.loop-index.invariant, c.chunk_len-sum.ensures, batch-next bufs c.args.chunk c.loop-index.index c.loop-index.auto.index there)
+loop-index-preserved c = grind (arith, batch-next)
 
 pub returns : goal.returns
 returns c =

@@ -1,4 +1,4 @@
-use Rattle.std.proofs.Common.{◌≡◌, ◌++◌, ◌+◌, List, ℕ, [], None, length, take, drop, get_or, ap, sym, ◌∙◌, arith, unwrap_or}
+use Rattle.std.proofs.Common.{◌≡◌, [], None, length, get_or, ap, sym, ◌∙◌, arith, unwrap_or}
 use Rattle.std.specs.Option.{option_copied}
 use Rattle.std.specs.List.{slice_get}
 use Rattle.std.proofs.lemmas.Option.{get_or_from_slice_get, unwrap_or-slice_get}
@@ -12,15 +12,7 @@ returns-in_default-clause-count c =
     omega (arith, empty)
 
 pub returns-clause-count : goal.returns-clause-count
-returns-clause-count c =
-    let same : get_or c.args.bufs.now c.args.at [] ≡ c.in-Some.bytes.now = get_or_from_slice_get c.args.bufs.now c.args.at c.in-Some.bytes.now [] (sym c.chunk_at.ensures.chunk ∙ ap option_copied c.in-Some.is) in
-    omega (arith, c.min-count.ensures, c.min-from.ensures, ap length same)
+returns-clause-count c = grind (arith, get_or_from_slice_get)
 
 pub returns-clause-into : goal.returns-clause-into
-returns-clause-into c =
-    let into = c.args.into.now in
-    let done = c.args.done in
-    let n = c.min-count.result in
-    let same : get_or c.args.bufs.now c.args.at [] ≡ c.in-Some.bytes.now = get_or_from_slice_get c.args.bufs.now c.args.at c.in-Some.bytes.now [] (sym c.chunk_at.ensures.chunk ∙ ap option_copied c.in-Some.is) in
-    copied into c.in-Some.bytes.now c.copy_from_slice.new.self done c.args.skip n c.min-from.result c.min-from.ensures c.copy_from_slice.ensures.after
-    ∙ ap (λ (b : List ℕ). take done into ++ (take n (drop c.args.skip b) ++ drop (done + n) into)) (sym same)
+returns-clause-into c = grind (arith, get_or_from_slice_get, copied)

@@ -1,4 +1,5 @@
 use Rattle.std.{proofs.{Common.{◌≡◌, ◌<◌, refl, sym, ap, subst, ◌∙◌, slice_set}, lemmas.{List.length-set, Option.{get_or_from_slice_get, slice_get_within}}}, specs.{Result.is_err, Vec.with_item}}
+use Rattle.std.proofs.Common.{arith}
 use Rattle.exec_driver.specs.Driving.{seen}
 use Rattle.exec_parts.{specs.{Phased.TurnsChair, Records.roused, declared.parts.worker.Worker.Worker}, proofs.Leaves.takes_by}
 use Rattle.exec_invariants.{specs.Carried.landing, proofs.Raising.sound_still}

@@ -1,4 +1,5 @@
 use Rattle.std.{proofs.{Common.{◌≡◌, ◌<◌, false, not, length, [], Some, None, refl, sym, ap, subst, ◌∙◌, is_some, slice_get}, lemmas.{Bool.false≢true, Option.{get_or_from_slice_get, slice_get_within}}}, specs.Vec.with_item}
+use Rattle.std.proofs.Common.{arith}
 use Rattle.exec_request.specs.States.{as_answer}
 use Rattle.exec_driver.specs.Steps.{ReapsNext}
 use Rattle.exec_machine.specs.{Requests.{joined_if, reaped}, declared.event.Event.TheVariants.{Reap, Serve}}

@@ -1,13 +1,10 @@
-use Rattle.std.proofs.{Common.{◌≡◌, refl, subst}, lemmas.Option.slice_get_within}
-use Rattle.exec_words.specs.declared.word.WaitTarget.{WaitTarget}
-use Rattle.exec_parts.specs.declared.parts.seat.Seat.{Seat as Chair}
+use Rattle.std.proofs.{lemmas.Option.slice_get_within}
+use Rattle.std.proofs.Common.{arith}
 use Rattle.exec_serving.proofs.{Entered.full_ring_entered, Parking.ring_entered, Testing.ring_tested, Waiting.{ring_armed, ring_disarmed}}
 use Rattle.exec_serving.proofs.ring_wait.wait_on_ring.Goals as goal
 
 pub arm_ring-requires-clause-unarmed : goal.arm_ring-requires-clause-unarmed
-arm_ring-requires-clause-unarmed g c =
-    let sound = rw c.in-ArmRing.is at c.requires.sound in
-    λ chair there. let is : sound.seated.seat ≡ chair = cc (sound.seated.there, there) in subst (λ (x : Chair). x.mailbox.waker.target ≡ WaitTarget.None) is (sound.seated.unarmed refl)
+arm_ring-requires-clause-unarmed g c = grind arith
 
 pub returns-in-ArmRing : goal.returns-in-ArmRing
 returns-in-ArmRing g c =

@@ -1,4 +1,5 @@
 use Rattle.std.proofs.{Common.refl, lemmas.Option.slice_get_within}
+use Rattle.std.proofs.Common.{arith}
 use Rattle.exec_serving.proofs.{Entered.last_entered, Advancing.advanced_on, PermitPasses.permit_passed, PermitSignals.{holder_latched, holder_raised}, Sampling.sampled}
 use Rattle.exec_serving.proofs.service.service.Goals as goal
 
@@ -63,6 +64,4 @@ pub raise_holder-requires : goal.raise_holder-requires
 raise_holder-requires g c = let sound = rw c.in-Raise.is at c.requires.sound in record { there = sound.aims }
 
 pub advance_wheel-requires : goal.advance_wheel-requires
-advance_wheel-requires g c =
-    let sound = rw c.in-AdvanceWheel.is at c.requires.sound in
-    record { punctual = sound.due.punctual; told = sound.due.told refl }
+advance_wheel-requires g c = grind arith

@@ -1,14 +1,13 @@
-use Rattle.std.{proofs.Common.{◌≡◌, ◌<◌, length, refl, sym, ap, subst, ◌∙◌, is_some, None, Some}, specs.{Prelude.unwrap_or, Vec.with_item}}
+use Rattle.std.{proofs.Common.{◌≡◌, refl, sym, ap, subst, ◌∙◌, is_some}, specs.{Prelude.unwrap_or, Vec.with_item}}
+use Rattle.std.proofs.Common.{arith}
 use Rattle.exec_driver.specs.Steps.{ended_by, tick_for}
 use Rattle.exec_machine.specs.{declared.event.Event.TheVariants.Enrol, Deadlines.enrolled, Requests.joined_if}
 use Rattle.exec_parts.specs.{declared.parts.{names.Names.Names, worker.Worker.Worker}, Records.number_in, Serving.{first_tick, outcome_of_error}, View.driver_of}
-use Rattle.exec_invariants.{specs.Works.Steps, proofs.{Staging.first_there, Dating.{enrol_steps, new_room, new_timed, new_within, set_changes}, Enrolled.new_first}}
+use Rattle.exec_invariants.{specs.Works.Steps, proofs.{Dating.{enrol_steps, new_room, new_timed, new_within, set_changes}, Enrolled.new_first}}
 use Rattle.exec_serving.proofs.submitting.enrol.Goals as goal
 
 pub index_mut-requires : goal.index_mut-requires
-index_mut-requires g c =
-    subst (λ n. c.request-request.result < n) (sym c.args.shared.now.requests.ok.0)
-    (subst (λ n. n < length c.args.shared.now.requests.items) (sym c.request-request.ensures) (new_within c.args.worker.now c.args.shared.now c.requires.new c.in-Some.enrolled.id c.in-Some.ensures.first))
+index_mut-requires g c = grind (arith, new_within)
 
 pub tell_enrolled-requires-clause-room : goal.tell_enrolled-requires-clause-room
 tell_enrolled-requires-clause-room g c = new_room c.args.worker.now c.args.shared.now c.requires.new c.in-Some.enrolled.id c.in-Some.ensures.first
@@ -55,6 +54,4 @@ returns g c =
     }
 
 pub unreachable-requires : goal.unreachable-requires
-unreachable-requires g c =
-    let it = first_there (driver_of c.args.worker.now).lists.enrolments c.requires.new.enrolments in
-    absurd (let no : None ≡ Some it.0 = sym c.in_default.ensures.none ∙ it.1 in cc)
+unreachable-requires g c = grind arith

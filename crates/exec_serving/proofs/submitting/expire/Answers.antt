@@ -1,7 +1,8 @@
-use Rattle.std.{proofs.{Common.{◌≡◌, ◌<◌, length, refl, sym, ap, subst, ◌∙◌, is_some, None, Some}, lemmas.Option.slice_get_within}, specs.Vec.with_item}
+use Rattle.std.{proofs.{Common.{◌≡◌, ◌<◌, length, refl, sym, ap, subst, ◌∙◌, is_some}, lemmas.Option.slice_get_within}, specs.Vec.with_item}
+use Rattle.std.proofs.Common.{arith}
 use Rattle.exec_machine.specs.{declared.event.Event.TheVariants.Expire, Deadlines.outcome_at_expiry, Requests.joined_if}
-use Rattle.exec_parts.specs.{declared.parts.{names.Names.Names, worker.Worker.Worker}, Records.number_in, View.driver_of}
-use Rattle.exec_invariants.{specs.Works.Steps, proofs.{Staging.first_there, Dating.{found_is, set_changes}, Expiring.{due_first, due_room, expires}, Cancelling.expiry_steps}}
+use Rattle.exec_parts.specs.{declared.parts.{names.Names.Names, worker.Worker.Worker}, Records.number_in}
+use Rattle.exec_invariants.{specs.Works.Steps, proofs.{Dating.{found_is, set_changes}, Expiring.{due_first, due_room, expires}, Cancelling.expiry_steps}}
 use Rattle.exec_serving.proofs.Ordering.{in_order}
 use Rattle.exec_serving.proofs.submitting.expire.Goals as goal
 
@@ -50,6 +51,4 @@ returns g c =
     }
 
 pub unreachable-requires : goal.unreachable-requires
-unreachable-requires g c =
-    let it = first_there (driver_of c.args.worker.now).lists.due c.requires.due.due in
-    absurd (let no : None ≡ Some it.0 = c.in_default.ensures.first ∙ it.1 in cc)
+unreachable-requires g c = grind arith

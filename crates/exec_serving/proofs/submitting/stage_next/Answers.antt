@@ -1,4 +1,5 @@
 use Rattle.std.proofs.{Common.{◌≡◌, true, false, refl, sym, ◌∙◌, rules, inl, inr}, lemmas.Option.slice_get_within}
+use Rattle.std.proofs.Common.{arith}
 use Rattle.exec_parts.specs.{View.driver_of}
 use Rattle.exec_serving.proofs.{Ceasing.{flush_entered, staging_ended}, Started.request_stages}
 use Rattle.exec_invariants.proofs.Staging.{cancel_stages, cancels_named, first_may, first_there, has_places, has_room, none_there, queued_named}

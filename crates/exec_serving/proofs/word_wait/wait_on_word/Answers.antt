@@ -1,6 +1,4 @@
-use Rattle.std.proofs.Common.{◌≡◌, refl, subst}
-use Rattle.exec_words.specs.declared.word.WaitTarget.{WaitTarget}
-use Rattle.exec_parts.specs.declared.parts.seat.Seat.{Seat as Chair}
+use Rattle.std.proofs.Common.{arith}
 use Rattle.exec_serving.proofs.Waiting.{batch_sought, latch_sought, latch_taken, word_armed, word_disarmed}
 use Rattle.exec_serving.proofs.word_wait.wait_on_word.Goals as goal
 
@@ -31,6 +29,4 @@ returns-in-SpinOnLatch g c =
     record { steps = latch_sought g.B.Body.left g.B.Scripted.spot c.in-SpinOnLatch.left c.args.worker.now c.spin_on_latch.new.self c.args.shared.now c.spin_on_latch.result c.index-in-SpinOnLatch.result.now (rw c.in-SpinOnLatch.is at c.requires.sound) c.spin_on_latch.ensures.makes c.spin_on_latch.ensures.same c.index-in-SpinOnLatch.ensures }
 
 pub arm_word-requires-clause-unarmed : goal.arm_word-requires-clause-unarmed
-arm_word-requires-clause-unarmed g c =
-    let sound = rw c.in-ArmWord.is at c.requires.sound in
-    λ chair there. let is : sound.seated.seat ≡ chair = cc (sound.seated.there, there) in subst (λ (x : Chair). x.mailbox.waker.target ≡ WaitTarget.None) is (sound.seated.unarmed refl)
+arm_word-requires-clause-unarmed g c = grind arith

@@ -24,9 +24,7 @@ returns-in-ReturnGlobalCount g c =
     record { steps = global_count_returned g.B.Body.left g.B.Scripted.spot c.args.worker.now c.return_global_count.new.self c.args.shared.now c.return_global_count.result c.args.back c.return_global_count.new.idle (rw c.in-ReturnGlobalCount.is at c.requires.sound) (push_next g.B.Body.left g.B.Scripted.spot c.args.back (Place.Global InGlobal.ReturnGlobalCount c.args.back) c.args.worker.now c.args.shared.now (rw c.in-ReturnGlobalCount.is at c.requires.sound) (record { callbacks = refl; closes = refl; closing = refl; spare = refl; bare = refl; held = λ x h. h; batch = λ ms h. h })) (global_some c.args.back c.args.worker.now c.args.shared.now (rw c.in-ReturnGlobalCount.is at c.requires.sound) c.requires.whole) c.return_global_count.ensures.event c.return_global_count.ensures.goes c.return_global_count.ensures.idle }
 
 pub append-requires : goal.append-requires
-append-requires g c =
-    let sound = rw c.in-Append.is at c.requires.sound in
-    record { places = all_fit c.args.back c.args.worker.now c.args.shared.now sound c.requires.whole; room = omega (arith, sound.loot.places, sound.loot.few) }
+append-requires g c = grind (arith, all_fit)
 
 pub returns-in-Append : goal.returns-in-Append
 returns-in-Append g c =

@@ -1,4 +1,4 @@
-use Rattle.std.proofs.Common.{refl, ap, length, arith}
+use Rattle.std.proofs.Common.{arith}
 use Rattle.exec_invariants.proofs.Dedicated.{own_there}
 use Rattle.exec_steps.proofs.{Searching.{half_moved, scan_head_loaded, their_head_loaded, their_tail_loaded}, Releasing.{half_released, moved_stored}, Stealing.half_claimed}
 use Rattle.exec_steps.proofs.search.scan.Goals as goal
@@ -11,36 +11,21 @@ returns-in-LoadScanHead g c =
     record { steps = scan_head_loaded g.B.Body.left g.B.Scripted.spot c.args.worker.now c.load_scan_head.new.self c.args.shared.now c.load_scan_head.result (rw c.in-LoadScanHead.is at c.requires.sound) c.load_scan_head.ensures.makes c.load_scan_head.ensures.same }
 
 pub load_their_head-requires : goal.load_their_head-requires
-load_their_head-requires g c =
-    let sound = rw c.in-LoadTheirHead.is at c.requires.sound in
-    record { workers = sound.config.workers; seats = omega (arith, sound.seated.many); few = omega (arith, sound.aims.1.0, sound.aims.1.1, sound.config.few) }
+load_their_head-requires g c = grind arith
 
 pub returns-in-LoadTheirHead : goal.returns-in-LoadTheirHead
 returns-in-LoadTheirHead g c =
     record { steps = their_head_loaded g.B.Body.left g.B.Scripted.spot c.args.worker.now c.load_their_head.new.self c.args.shared.now c.load_their_head.result c.in-LoadTheirHead.scan (rw c.in-LoadTheirHead.is at c.requires.sound) c.load_their_head.ensures.makes c.load_their_head.ensures.goes }
 
 pub load_their_tail-requires : goal.load_their_tail-requires
-load_their_tail-requires g c =
-    let sound = rw c.in-LoadTheirTail.is at c.requires.sound in
-    record { workers = sound.config.workers; seats = omega (arith, sound.seated.many); few = omega (arith, sound.aims.1.0, sound.aims.1.1, sound.config.few) }
+load_their_tail-requires g c = grind arith
 
 pub returns-in-LoadTheirTail : goal.returns-in-LoadTheirTail
 returns-in-LoadTheirTail g c =
     record { steps = their_tail_loaded g.B.Body.left g.B.Scripted.spot c.args.worker.now c.load_their_tail.new.self c.args.shared.now c.load_their_tail.result c.in-LoadTheirTail.scan c.in-LoadTheirTail.head (rw c.in-LoadTheirTail.is at c.requires.sound) c.load_their_tail.ensures.makes c.load_their_tail.ensures.goes }
 
 pub claim_half-requires : goal.claim_half-requires
-claim_half-requires g c =
-    let sound = rw c.in-ClaimHalf.is at c.requires.sound in
-    record {
-      workers = sound.config.workers;
-      seats = omega (arith, sound.seated.many);
-      few = omega (arith, sound.aims.1.0, sound.aims.1.1, sound.config.few);
-      unclaimed = sound.aims.0.unclaimed;
-      stealable = sound.aims.0.some;
-      past = sound.aims.0.behind;
-      empty = sound.loot.none refl;
-      places = let none = ap length (sound.loot.none refl) in omega (arith, sound.loot.places, none);
-    }
+claim_half-requires g c = grind arith
 
 pub returns-in-ClaimHalf : goal.returns-in-ClaimHalf
 returns-in-ClaimHalf g c =

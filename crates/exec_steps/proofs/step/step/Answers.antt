@@ -1,4 +1,4 @@
-use Rattle.std.proofs.Common.{◌≡◌, refl, subst}
+use Rattle.std.proofs.Common.{◌≡◌, refl, subst, arith}
 use Rattle.exec_moves.specs.declared.place.Place.{Place}
 use Rattle.exec_invariants.proofs.Dedicated.{few_here}
 use Rattle.exec_parts.specs.declared.parts.{shared.Shared.Shared, worker.Worker.Worker}
@@ -64,9 +64,7 @@ returns-in-Callbacks-clause-steps g c =
     c.callbacks.ensures.steps
 
 pub returns-in-Loads-clause-steps : goal.returns-in-Loads-clause-steps
-returns-in-Loads-clause-steps g c =
-    steps_none g.B.Body.left g.B.Scripted.runs g.B.Scripted.holds g.B.Scripted.spot c.args.nursery.now.born c.args.worker.now c.load.new.worker c.args.shared.now c.args.shared.now c.load.result c.requires.none_yet
-    c.load.ensures.steps
+returns-in-Loads-clause-steps g c = grind arith
 
 pub returns-in-Service-clause-steps : goal.returns-in-Service-clause-steps
 returns-in-Service-clause-steps g c =

@@ -1,4 +1,4 @@
-use Rattle.std.proofs.Common.{◌≡◌, ℕ, ◌+◌, ◌^◌, ◌≤◌, [], Some, None, length, reverse, slice_get, ap, ◌-◌, arith, rules}
+use Rattle.std.proofs.Common.{◌≡◌, ℕ, ◌+◌, [], Some, None, length, reverse, slice_get, ap, ◌-◌, arith, rules}
 use Rattle.exec_base.specs.Slab.{Slab}
 use Rattle.exec_base.proofs.Slots.{split_last, reverse_last, read_vacant, no_last, none-vacant}
 use Rattle.exec_base.proofs.slab.Slab.next_id.Goals as goal
@@ -12,8 +12,4 @@ unreachable-requires g c =
     c.in_default-index.not-Vacant _ (read_vacant _ _ _ laid.vacant_ones.0 c.index.ensures)
 
 pub returns-in_err-index-clause-full : goal.returns-in_err-index-clause-full
-returns-in_err-index-clause-full g c =
-    let none : c.self.inside.vacant.items ≡ [] = no_last c.self.inside.vacant.items (search rules) in
-    let many : 2 ^ 32 ≤ length c.self.inside.slots.items = search rules in
-    let all = rw none at c.self.invariant.all_listed in
-    rw (← c.self.view_is) (λ _. (omega (arith, many, c.self.invariant.few), none-vacant c.self.inside.slots.items all), λ _. search rules)
+returns-in_err-index-clause-full g c = grind (arith, no_last, none-vacant)

@@ -1,5 +1,4 @@
-use Rattle.std.proofs.Common.{refl, ap, ◌≡◌, add-one, arith, rules, of_calls}
-use Rattle.exec_base.specs.Spinner.{Spinner}
+use Rattle.std.proofs.Common.{refl, add-one, arith, rules, of_calls}
 use Rattle.exec_base.proofs.Looks.{Misses-more}
 use Rattle.exec_base.proofs.spinner.Spinner.spin.Goals as goal
 
@@ -12,19 +11,7 @@ loop-preserved g c =
     (search (rules, of_calls), c.loop.invariant.1, rw add-one (Misses-more (goal.C-step g) c.loop.counter c.args.condition.now c.loop.condition c.condition.new.self c.loop.invariant.2 miss))
 
 pub returns-then-condition-clause-calls : goal.returns-then-condition-clause-calls
-returns-then-condition-clause-calls g c =
-    let hit = rw c.if-condition.true at c.condition.ensures in
-    let budget : c.self.inside.budget ≡ c.args.self.now.budget = ap (λ (s : Spinner). s.budget) c.self.view_is in
-    record {
-      misses = c.loop.counter;
-      within = omega (arith, c.loop-test.true, budget);
-      before = c.loop.condition;
-      missed = c.loop.invariant.2;
-      hit = hit;
-    }
+returns-then-condition-clause-calls g c = grind arith
 
 pub returns-clause-calls : goal.returns-clause-calls
-returns-clause-calls g c =
-    let budget : c.self.inside.budget ≡ c.args.self.now.budget = ap (λ (s : Spinner). s.budget) c.self.view_is in
-    let all : c.loop.counter ≡ c.args.self.now.budget = omega (arith, c.loop-test.false, budget) in
-    rw all at c.loop.invariant.2
+returns-clause-calls g c = grind arith

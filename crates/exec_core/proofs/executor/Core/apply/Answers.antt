@@ -1,4 +1,4 @@
-use Rattle.std.proofs.Common.{sym, ◌∙◌}
+use Rattle.std.proofs.Common.{sym, ◌∙◌, arith}
 use Rattle.exec_core.proofs.{Enabling.enabled_as, Playing.{applied, refused}, Taking.on_err}
 use Rattle.exec_core.proofs.executor.Core.apply.Goals as goal
 
@@ -31,6 +31,4 @@ returns-clause-applies g c = λ p x shows carries.
     carries (c.in_ok-event.ensures.takes p shows.config shows.performs)
 
 pub returns-clause-ready : goal.returns-clause-ready
-returns-clause-ready g c = λ p ready carries.
-    let keeps = c.in_ok-event.ensures.keeps in
-    record { stands = c.in_ok-event.ensures.stands.0; unspent = c.in_ok-event.ensures.stands.1; config = keeps.config ∙ ready.config; performs = keeps.performs p ready.config carries ready.performs }
+returns-clause-ready g c = grind arith

@@ -3,9 +3,7 @@ use Rattle.exec_core.proofs.Taking.{begun_within, read_there}
 use Rattle.exec_core.proofs.executor.Core.end_poll.Goals as goal
 
 pub index_mut-requires : goal.index_mut-requires
-index_mut-requires g c =
-    let within = begun_within c.args.self.now c.args.worker c.requires.stands c.requires.enabled in
-    omega (arith, c.args.self.now.workers.ok.0, within)
+index_mut-requires g c = grind (arith, begun_within)
 
 pub end_poll-requires : goal.end_poll-requires
 end_poll-requires g c =

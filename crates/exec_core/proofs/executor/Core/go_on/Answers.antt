@@ -1,11 +1,9 @@
-use Rattle.std.proofs.Common.{refl, arith}
+use Rattle.std.proofs.Common.{arith}
 use Rattle.exec_core.proofs.Taking.{call_whole, calling_there, calling_within, read_there}
 use Rattle.exec_core.proofs.executor.Core.go_on.Goals as goal
 
 pub index_mut-requires : goal.index_mut-requires
-index_mut-requires g c =
-    let within = calling_within c.args.self.now c.args.caller c.requires.enabled in
-    omega (arith, c.args.self.now.callers.ok.0, within)
+index_mut-requires g c = grind (arith, calling_within)
 
 pub go_on-requires : goal.go_on-requires
 go_on-requires g c =
@@ -18,20 +16,4 @@ go_on-requires g c =
     }
 
 pub returns : goal.returns
-returns g c =
-    let core = c.args.self.now in
-    let there = read_there core.callers.items c.args.caller c.index_mut.result.now (calling_within core c.args.caller c.requires.enabled) c.index_mut.ensures.value in
-    let steps = c.go_on.ensures.steps in
-    record {
-      calls = record {
-        before = c.index_mut.result.now;
-        after = c.go_on.new.self;
-        was = there;
-        callers = refl;
-        workers = refl;
-        spent = refl;
-        works = λ p vs suits. steps.0 p vs c.args.caller suits;
-        sound = steps.1;
-        beside = steps.2;
-      };
-    }
+returns g c = grind (arith, read_there, calling_within)

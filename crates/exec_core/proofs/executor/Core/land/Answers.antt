@@ -1,24 +1,16 @@
 use Rattle.std.proofs.{Common.{refl, sym, ap, ◌∙◌, arith}, lemmas.Option.slice_get_within}
 use Rattle.exec_parts.proofs.Facts.{same_thing}
-use Rattle.exec_core.proofs.{Applying.owner_there, Taking.{lands_within, land_read, landing_may, read_there}}
+use Rattle.exec_core.proofs.{Applying.owner_there, Taking.{lands_within, land_read, read_there}}
 use Rattle.exec_core.proofs.executor.Core.land.Goals as goal
 
 pub index-requires : goal.index-requires
-index-requires g c =
-    let within = lands_within c.args.self.now c.args.request c.args.given c.requires.enabled in
-    omega (arith, c.args.self.now.shared.requests.ok.0, within)
+index-requires g c = grind (arith, lands_within)
 
 pub index_mut-requires : goal.index_mut-requires
-index_mut-requires g c =
-    let there = land_read c.args.self.now c.args.request c.args.given c.index.result.now c.requires.enabled c.index.ensures in
-    let owner = owner_there c.args.self.now c.args.request c.index.result.now c.requires.stands there in
-    let within = slice_get_within c.args.self.now.workers.items c.index.result.now.shown.worker owner.0 owner.1 in
-    omega (arith, c.args.self.now.workers.ok.0, within)
+index_mut-requires g c = grind (arith, land_read, owner_there, slice_get_within)
 
 pub land-requires-clause-lands : goal.land-requires-clause-lands
-land-requires-clause-lands g c =
-    let there = land_read c.args.self.now c.args.request c.args.given c.index.result.now c.requires.enabled c.index.ensures in
-    landing_may c.args.self.now c.args.request c.args.given c.index.result.now c.requires.enabled there
+land-requires-clause-lands g c = grind arith
 
 pub land-requires-clause-sound : goal.land-requires-clause-sound
 land-requires-clause-sound g c =

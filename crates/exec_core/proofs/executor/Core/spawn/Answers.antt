@@ -6,9 +6,7 @@ use Rattle.exec_core.proofs.{CoreSpawns.{spawn_calls, spawn_keeps, spawn_same}, 
 use Rattle.exec_core.proofs.executor.Core.spawn.Goals as goal
 
 pub index_mut-requires : goal.index_mut-requires
-index_mut-requires g c =
-    let within = call_within c.args.self.now c.args.caller c.requires.enabled in
-    omega (arith, c.args.self.now.callers.ok.0, within)
+index_mut-requires g c = grind (arith, call_within)
 
 pub spawn-spawned-requires-clause-sound : goal.spawn-spawned-requires-clause-sound
 spawn-spawned-requires-clause-sound g c =
@@ -17,16 +15,10 @@ spawn-spawned-requires-clause-sound g c =
     c.requires.ready.1.stands.together.calls c.args.caller c.index_mut.result.now there
 
 pub spawn-spawned-requires-clause-free : goal.spawn-spawned-requires-clause-free
-spawn-spawned-requires-clause-free g c =
-    let core = c.args.self.now in
-    let there = read_there core.callers.items c.args.caller c.index_mut.result.now (call_within core c.args.caller c.requires.enabled) c.index_mut.ensures.value in
-    free_there core c.args.caller c.index_mut.result.now c.requires.enabled there
+spawn-spawned-requires-clause-free g c = grind (arith, read_there, call_within, free_there)
 
 pub spawn-spawned-requires-clause-whole : goal.spawn-spawned-requires-clause-whole
-spawn-spawned-requires-clause-whole g c =
-    let core = c.args.self.now in
-    let there = read_there core.callers.items c.args.caller c.index_mut.result.now (call_within core c.args.caller c.requires.enabled) c.index_mut.ensures.value in
-    call_whole core c.args.caller c.index_mut.result.now c.requires.ready.1.stands there
+spawn-spawned-requires-clause-whole g c = grind (arith, read_there, call_within, call_whole)
 
 pub returns-clause-calls : goal.returns-clause-calls
 returns-clause-calls g c =

@@ -1,4 +1,5 @@
 use Rattle.std.proofs.{Common.{◌+◌, length, refl, ap, ◌∙◌}, lemmas.{Bool.leb-true, List.length-map}}
+use Rattle.std.proofs.Common.{arith}
 use Rattle.exec_base.specs.declared.limits.TheConstants.{LAST_MOMENT}
 use Rattle.exec_machine.specs.declared.step.Action.TheVariants as action
 use Rattle.exec_moves.specs.{Plays.last_told, State.passed}
@@ -72,9 +73,7 @@ pub returns-in-Work-clause-same : goal.returns-in-Work-clause-same
 returns-in-Work-clause-same g c = worked_same g.B.Body.left g.B.Scripted.spot c.in-Work.worker c.args.self.now c.work.new.self c.work.result c.work.ensures.stays
 
 pub returns-in-Clock-clause-takes : goal.returns-in-Clock-clause-takes
-returns-in-Clock-clause-takes g c = λ p config performs.
-    rw (c.in-Clock.is, c.move_clock.ensures.event)
-    (clock_moved g.B.Body.left g.B.Scripted.spot p c.args.self.now (record c.args.self.now { shared = c.move_clock.new.shared }) c.in-Clock.by c.requires.ready.1.stands (rw c.in-Clock.is at c.requires.enabled) refl refl c.move_clock.ensures.seats c.move_clock.ensures.kept)
+returns-in-Clock-clause-takes g c = grind (arith, clock_moved)
 
 pub returns-in-Clock-clause-stands : goal.returns-in-Clock-clause-stands
 returns-in-Clock-clause-stands g c =
@@ -88,9 +87,7 @@ returns-in-Clock-clause-keeps g c =
     keeps_tasks g.B.Body.left g.B.Scripted.runs g.B.Scripted.holds g.B.Scripted.spot g.B.Body.name_of c.args.action c.args.body c.args.self.now (record c.args.self.now { shared = c.move_clock.new.shared }) (ap (λ s. s.config) c.move_clock.ensures.kept) (ap (λ s. s.tasks) c.move_clock.ensures.kept)
 
 pub returns-in-Stir-clause-takes : goal.returns-in-Stir-clause-takes
-returns-in-Stir-clause-takes g c = λ p config performs.
-    rw (c.in-Stir.is, c.stir.ensures.event)
-    (stirred g.B.Body.left g.B.Scripted.spot p c.args.self.now (record c.args.self.now { shared = c.stir.new.shared }) c.in-Stir.worker c.requires.ready.1.stands (rw c.in-Stir.is at c.requires.enabled) refl refl c.stir.ensures.chair c.stir.ensures.kept)
+returns-in-Stir-clause-takes g c = grind (arith, stirred)
 
 pub returns-in-Stir-clause-stands : goal.returns-in-Stir-clause-stands
 returns-in-Stir-clause-stands g c =
@@ -104,9 +101,7 @@ returns-in-Stir-clause-keeps g c =
     keeps_tasks g.B.Body.left g.B.Scripted.runs g.B.Scripted.holds g.B.Scripted.spot g.B.Body.name_of c.args.action c.args.body c.args.self.now (record c.args.self.now { shared = c.stir.new.shared }) (ap (λ s. s.config) c.stir.ensures.kept) (ap (λ s. s.tasks) c.stir.ensures.kept)
 
 pub returns-in-Land-clause-takes : goal.returns-in-Land-clause-takes
-returns-in-Land-clause-takes g c = λ p config performs.
-    rw (c.in-Land.is, c.land.ensures.event)
-    (landed g.B.Body.left g.B.Scripted.spot p c.args.self.now c.land.new.self c.in-Land.request c.in-Land.result config c.requires.ready.1.stands (rw c.in-Land.is at c.requires.enabled) c.land.ensures.lands)
+returns-in-Land-clause-takes g c = grind (arith, landed)
 
 pub returns-in-Land-clause-stands : goal.returns-in-Land-clause-stands
 returns-in-Land-clause-stands g c =
@@ -118,22 +113,16 @@ returns-in-Land-clause-keeps g c =
     keeps_tasks g.B.Body.left g.B.Scripted.runs g.B.Scripted.holds g.B.Scripted.spot g.B.Body.name_of c.args.action c.args.body c.args.self.now c.land.new.self c.land.ensures.lands.rings.config c.land.ensures.lands.rings.tasks
 
 pub returns-in-SetBusy-clause-takes : goal.returns-in-SetBusy-clause-takes
-returns-in-SetBusy-clause-takes g c = λ p config performs.
-    rw (c.in-SetBusy.is, c.set_busy.ensures.event)
-    (set_busy g.B.Body.left g.B.Scripted.spot p c.args.self.now c.set_busy.new.self c.in-SetBusy.worker c.requires.ready.1.stands (rw c.in-SetBusy.is at c.requires.enabled) c.set_busy.ensures.sees)
+returns-in-SetBusy-clause-takes g c = grind (arith, set_busy)
 
 pub returns-in-SetBusy-clause-stands : goal.returns-in-SetBusy-clause-stands
 returns-in-SetBusy-clause-stands g c = sees_stand c.args.self.now c.set_busy.new.self c.in-SetBusy.worker c.set_busy.ensures.sees c.requires.ready.1.stands c.requires.ready.1.unspent
 
 pub returns-in-SetBusy-clause-keeps : goal.returns-in-SetBusy-clause-keeps
-returns-in-SetBusy-clause-keeps g c =
-    let now = c.set_busy.ensures.sees.now in
-    keeps_tasks g.B.Body.left g.B.Scripted.runs g.B.Scripted.holds g.B.Scripted.spot g.B.Body.name_of c.args.action c.args.body c.args.self.now c.set_busy.new.self (ap (λ x. x.shared.config) now) (ap (λ x. x.shared.tasks) now)
+returns-in-SetBusy-clause-keeps g c = grind arith
 
 pub returns-in-EndPoll-clause-takes : goal.returns-in-EndPoll-clause-takes
-returns-in-EndPoll-clause-takes g c = λ p config performs.
-    rw (c.in-EndPoll.is, c.end_poll.ensures.event)
-    (poll_ended g.B.Body.left g.B.Scripted.spot p c.args.self.now c.end_poll.new.self c.in-EndPoll.worker config c.requires.ready.1.stands (rw c.in-EndPoll.is at c.requires.enabled) c.end_poll.ensures.ends)
+returns-in-EndPoll-clause-takes g c = grind (arith, poll_ended)
 
 pub returns-in-EndPoll-clause-stands : goal.returns-in-EndPoll-clause-stands
 returns-in-EndPoll-clause-stands g c =

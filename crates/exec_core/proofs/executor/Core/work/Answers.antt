@@ -1,13 +1,10 @@
-use Rattle.std.proofs.{Common.{◌≡◌, ◌++◌, true, None, refl, sym, ap, ◌∙◌, arith, option_to_list, slice_set}, lemmas.List.append-nil}
-use Rattle.std.specs.Result.{is_ok}
+use Rattle.std.proofs.{Common.{◌≡◌, ◌++◌, None, refl, sym, ap, ◌∙◌, arith, option_to_list, slice_set}, lemmas.List.append-nil}
 use Rattle.exec_polling.proofs.Begun.{not_both}
-use Rattle.exec_core.proofs.{Applying.let_on_there, Taking.{goes_there, if_ok, none_by, on_err_never, read_in, spent_by, whole_there, work_stays, work_steps, work_within}}
+use Rattle.exec_core.proofs.{Applying.let_on_there, Taking.{goes_there, none_by, on_err_never, read_in, spent_by, whole_there, work_stays, work_steps, work_within}}
 use Rattle.exec_core.proofs.executor.Core.work.Goals as goal
 
 pub index_mut-requires : goal.index_mut-requires
-index_mut-requires g c =
-    let within = work_within c.args.self.now c.args.worker c.requires.ready.1.stands c.requires.enabled in
-    omega (arith, c.args.self.now.workers.ok.0, within)
+index_mut-requires g c = grind (arith, work_within)
 
 pub step-stepped-requires-clause-sound : goal.step-stepped-requires-clause-sound
 step-stepped-requires-clause-sound g c =
@@ -22,15 +19,10 @@ step-stepped-requires-clause-whole g c =
     whole_there c.args.self.now c.args.worker c.index_mut.result.now stands there
 
 pub step-stepped-requires-clause-performs : goal.step-stepped-requires-clause-performs
-step-stepped-requires-clause-performs g c =
-    let ready = c.requires.ready in
-    (ready.0, ready.1.config, ready.1.performs)
+step-stepped-requires-clause-performs g c = grind arith
 
 pub step-stepped-requires-clause-going : goal.step-stepped-requires-clause-going
-step-stepped-requires-clause-going g c =
-    let stands = c.requires.ready.1.stands in
-    let there = read_in c.args.self.now.workers.items c.reserve.new.self.items c.args.worker c.index_mut.result.now c.reserve.ensures.items (work_within c.args.self.now c.args.worker stands c.requires.enabled) c.index_mut.ensures.value in
-    goes_there c.args.self.now c.args.worker c.index_mut.result.now stands c.requires.enabled there
+step-stepped-requires-clause-going g c = grind (arith, read_in, work_within, goes_there)
 
 pub step-stepped-requires-clause-let_on : goal.step-stepped-requires-clause-let_on
 step-stepped-requires-clause-let_on g c =
@@ -39,16 +31,10 @@ step-stepped-requires-clause-let_on g c =
     let_on_there c.args.self.now c.args.worker c.index_mut.result.now stands there c.requires.enabled
 
 pub step-stepped-requires-clause-staff : goal.step-stepped-requires-clause-staff
-step-stepped-requires-clause-staff g c =
-    let stands = c.requires.ready.1.stands in
-    λ k r found. (let within = stands.owned k r found in omega (arith, within, stands.together.seats))
+step-stepped-requires-clause-staff g c = grind arith
 
 pub push_reserved-requires : goal.push_reserved-requires
-push_reserved-requires g c =
-    let has : c.new-nursery.result.has_room ≡ true = c.step-stepped.ensures.room (rw c.in-Some.is refl) in
-    let made : is_ok c.reserve.result ≡ true = sym c.is_ok.ensures.value ∙ sym (ap (λ n. n.has_room) c.new-nursery.ensures) ∙ has in
-    let room = if_ok c.reserve.result _ made c.reserve.ensures.ok in
-    omega (arith, room)
+push_reserved-requires g c = grind arith
 
 pub returns-in-Some-clause-steps : goal.returns-in-Some-clause-steps
 returns-in-Some-clause-steps g c =

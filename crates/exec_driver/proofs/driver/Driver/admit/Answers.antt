@@ -1,15 +1,12 @@
-use Rattle.std.proofs.Common.{refl, sym, ap, ◌∙◌, arith}
+use Rattle.std.proofs.Common.{sym, ap, ◌∙◌, arith}
 use Rattle.exec_base.specs.Slab.{live_count}
-use Rattle.exec_ring.specs.Rings.{RingState}
 use Rattle.exec_waiters.specs.States.{gate_in}
-use Rattle.exec_driver.specs.{Driving.{Driving, seen, request_at}, Steps.{placed_at, taken_in, newcomer}}
-use Rattle.exec_driver.proofs.{Admitting.{on_ok, small_slot}, Arriving.{placed_over, rooms_over, refused_over, takes_over, takes_still, two_still}, Lines.{placed_back, placed_there}, Storing.{reserved_still, given_back}, Keeping.{rooms_punctual, place_made}}
+use Rattle.exec_driver.specs.{Driving.{Driving, seen, request_at}}
+use Rattle.exec_driver.proofs.{Admitting.{on_ok, small_slot}, Arriving.{placed_over, rooms_over}, Lines.{placed_back, placed_there}, Storing.{given_back}, Keeping.{rooms_punctual, place_made}}
 use Rattle.exec_driver.proofs.driver.Driver.admit.Goals as goal
 
 pub take_in-requires-clause-places : goal.take_in-requires-clause-places
-take_in-requires-clause-places g c =
-    let made = sym c.is_err.ensures.value ∙ c.if-is_err.false in
-    on_ok c.make_room.result made c.make_room.ensures.two
+take_in-requires-clause-places g c = grind arith
 
 pub returns-in-Ok-clause-id : goal.returns-in-Ok-clause-id
 returns-in-Ok-clause-id g c = rw (ap (λ (m : Driving g.row.S.Denot g.row.F.Denot). m.requests) c.make_room.ensures.same) at c.in-Ok.ensures.id
@@ -24,61 +21,40 @@ pub returns-in-Ok-clause-admits : goal.returns-in-Ok-clause-admits
 returns-in-Ok-clause-admits g c =
     let made = sym c.is_err.ensures.value ∙ c.if-is_err.false in
     let after = placed_over (seen c.args.self.now) (seen c.make_room.new.self) (seen c.take_in.new.self) c.in-Ok.id c.args.request c.args.observer c.args.now c.make_room.ensures.same c.in-Ok.ensures.taken in
-    record {
-      driver = rooms_over (placed_at (taken_in (seen c.args.self.now) c.args.request c.args.observer) c.in-Ok.id (newcomer c.args.request c.args.observer) c.args.now) (seen c.take_in.new.self) (seen c.trim.new.self) after c.trim.ensures.same;
-      opens_after = rw (c.begin_write.ensures, on_ok c.make_room.result made c.make_room.ensures.placed, c.durability-gate.ensures, c.plainly_written-written.ensures) refl;
-    }
+    grind arith
 
 pub returns-in-Ok-clause-places : goal.returns-in-Ok-clause-places
 returns-in-Ok-clause-places g c =
     rw (ap (λ (m : Driving g.row.S.Denot g.row.F.Denot). live_count m.requests) c.trim.ensures.same) c.in-Ok.ensures.places
 
 pub returns-in-Ok-clause-stored : goal.returns-in-Ok-clause-stored
-returns-in-Ok-clause-stored g c =
-    let made = sym c.is_err.ensures.value ∙ c.if-is_err.false in
-    reserved_still _ _ _ _ (rw c.footprint-window.ensures.window at (on_ok c.make_room.result made c.make_room.ensures.stored)) c.trim.ensures.store
+returns-in-Ok-clause-stored g c = grind arith
 
 pub returns-in-Ok-clause-never_before : goal.returns-in-Ok-clause-never_before
 returns-in-Ok-clause-never_before g c =
     rw (ap (λ (m : Driving g.row.S.Denot g.row.F.Denot). m.requests) c.make_room.ensures.same) at c.in-Ok.ensures.never_before
 
 pub returns-in-Ok-clause-never_again : goal.returns-in-Ok-clause-never_again
-returns-in-Ok-clause-never_again g c =
-    let before = ap (λ (m : Driving g.row.S.Denot g.row.F.Denot). m.requests) c.make_room.ensures.same in
-    let after = ap (λ (m : Driving g.row.S.Denot g.row.F.Denot). m.requests) c.trim.ensures.same in
-    takes_still _ _ _ _ _ after (takes_over _ _ _ _ _ before c.in-Ok.ensures.never_again)
+returns-in-Ok-clause-never_again g c = grind arith
 
 pub give_up_places-requires : goal.give_up_places-requires
-give_up_places-requires g c =
-    let made = sym c.is_err.ensures.value ∙ c.if-is_err.false in
-    record { made = two_still (seen c.make_room.new.self) (seen c.take_in.new.self) c.in-Err.ensures.kept c.in-Err.ensures.spots (on_ok c.make_room.result made c.make_room.ensures.two) }
+give_up_places-requires g c = grind arith
 
 pub release-requires : goal.release-requires
-release-requires g c =
-    let made = sym c.is_err.ensures.value ∙ c.if-is_err.false in
-    record { made = rw (on_ok c.make_room.result made c.make_room.ensures.placed) (placed_there c.args.opens.now c.durability-gate.result) }
+release-requires g c = grind (arith, on_ok, placed_there)
 
 pub returns-in-Err-clause-refused : goal.returns-in-Err-clause-refused
-returns-in-Err-clause-refused g c =
-    let before = ap (λ (m : Driving g.row.S.Denot g.row.F.Denot). m.requests) c.make_room.ensures.same in
-    refused_over (seen c.args.self.now).requests (seen c.make_room.new.self).requests (seen c.make_room.new.self).requests.room _ _ before c.in-Err.ensures.refused
+returns-in-Err-clause-refused g c = grind arith
 
 pub returns-in-Err-clause-kept : goal.returns-in-Err-clause-kept
 returns-in-Err-clause-kept g c =
     rooms_over (seen c.args.self.now) (seen c.take_in.new.self) (seen c.give_up_places.new.self) (rooms_over (seen c.args.self.now) (seen c.make_room.new.self) (seen c.take_in.new.self) c.make_room.ensures.same c.in-Err.ensures.kept) c.give_up_places.ensures.same
 
 pub returns-in-Err-clause-spots : goal.returns-in-Err-clause-spots
-returns-in-Err-clause-spots g c =
-    let made = sym c.is_err.ensures.value ∙ c.if-is_err.false in
-    let two = on_ok c.make_room.result made c.make_room.ensures.ok in
-    let same = ap (λ (s : RingState). s.places) c.in-Err.ensures.spots in
-    omega (arith, two, same, c.give_up_places.ensures.places)
+returns-in-Err-clause-spots g c = grind arith
 
 pub returns-in-Err-clause-opens : goal.returns-in-Err-clause-opens
-returns-in-Err-clause-opens g c =
-    let made = sym c.is_err.ensures.value ∙ c.if-is_err.false in
-    let placed = on_ok c.make_room.result made c.make_room.ensures.placed in
-    rw (c.release.ensures, placed) (placed_back c.args.opens.now c.durability-gate.result)
+returns-in-Err-clause-opens g c = grind (arith, on_ok, placed_back)
 
 pub returns-in-Err-clause-unstored : goal.returns-in-Err-clause-unstored
 returns-in-Err-clause-unstored g c =

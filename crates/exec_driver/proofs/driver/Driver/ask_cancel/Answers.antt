@@ -1,4 +1,4 @@
-use Rattle.std.proofs.Common.{◌≡◌, sym, ap, ◌∙◌, refl}
+use Rattle.std.proofs.Common.{◌≡◌, sym, ap, ◌∙◌, arith}
 use Rattle.exec_driver.proofs.{Words.{cancelled, waiter_at, tick_in, tick_of}, Endings.{flying_there, ticked, changed_is, cancelled_before, unasked, asked, held_cancelling, room_to_cancel}}
 use Rattle.exec_driver.proofs.driver.Driver.ask_cancel.Goals as goal
 
@@ -28,7 +28,4 @@ invariant_of-self-else-cancel g c =
     rw (c.cancel.ensures.cancelled, cancelled_before c.self.inside.waiters c.args.id.0 there.w there.is was) c.self.invariant
 
 pub returns-else-cancel : goal.returns-else-cancel
-returns-else-cancel g c =
-    let there = flying_there (waiter_at c.self.inside.waiters c.args.id.0) (rw (← c.self.view_is) at c.requires.flies) in
-    let was = asked _ there.w there.is (sym c.cancel.ensures.answer ∙ c.if-cancel.false) in
-    rw (← c.self.view_is, c.cancel.ensures.cancelled, cancelled_before c.self.inside.waiters c.args.id.0 there.w there.is was, there.is, there.flies, was) refl
+returns-else-cancel g c = grind (arith, flying_there, waiter_at, asked, cancelled, cancelled_before)

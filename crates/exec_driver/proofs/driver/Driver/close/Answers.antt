@@ -1,4 +1,4 @@
-use Rattle.std.proofs.Common.{◌≡◌, true, false, sym, ◌∙◌, arith}
+use Rattle.std.proofs.Common.{◌≡◌, true, sym, ◌∙◌, arith}
 use Rattle.exec_base.specs.Slab.{value_at}
 use Rattle.exec_waiters.specs.Events.{asks_cancel_by_orphan}
 use Rattle.exec_driver.proofs.{Words.false≢true, Observing.held_orphaned, Telling.{tells_both, few_closed, room_left}, Keeping.{cancelled_punctual, orphaned_punctual}, driver.Driver.close.Goals.{then-closed, else-closed}}
@@ -19,9 +19,7 @@ returns-clause-told g c =
       | then-closed w ↦
           let asks : asks_cancel_by_orphan (value_at c.self.inside.waiters c.in_ok-closed.closed.id.0) ≡ true = sym c.in_ok-closed.ensures.answer ∙ w.if-closed.true in
           rw (w.deferred-is, ← c.self.view_is, asks) (tells_both _ _ _ _ _ c.in_ok-closed.ensures.told (rw c.in_ok-closed.ensures.orphaned at w.cancel.ensures.told))
-      | else-closed w ↦
-          let asks : asks_cancel_by_orphan (value_at c.self.inside.waiters c.in_ok-closed.closed.id.0) ≡ false = sym c.in_ok-closed.ensures.answer ∙ w.if-closed.false in
-          rw (w.deferred-is, ← c.self.view_is, asks) c.in_ok-closed.ensures.told
+      | else-closed w ↦ grind arith
     ]
 
 pub returns-clause-punctual : goal.returns-clause-punctual

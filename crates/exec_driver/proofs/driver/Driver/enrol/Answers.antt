@@ -4,27 +4,13 @@ use Rattle.exec_waiters.specs.States.{deadline_in}
 use Rattle.exec_driver.proofs.driver.Driver.enrol.Goals as goal
 
 pub schedule-requires : goal.schedule-requires
-schedule-requires g c =
-    let first : first_of c.self.inside.lists.enrolments ≡ Some c.in_ok-id.id = sym c.next_enrolment.ensures.first ∙ c.in_ok-id.was in
-    let tick : tick_for (wheel_of c.self.inside.wheel) c.in-Some.deadline c.args.now ≡ Ok c.in-Ok.tick = sym c.tick_for.ensures ∙ c.in-Ok.is in
-    let taken = tick_tells (wheel_of c.self.inside.wheel) c.in-Some.deadline c.args.now c.in-Ok.tick tick in
-    record {
-      settled = rw (← c.self.view_is) at c.requires.settled;
-      ahead = taken.ahead;
-      span = taken.span;
-      in_time = taken.in_time;
-      room = omega (arith, c.self.invariant.wheel_room, some_first c.self.inside.lists.enrolments c.in_ok-id.id first);
-    }
+schedule-requires g c = grind (arith, first_of, tick_for, wheel_of, tick_tells, some_first)
 
 pub set_deadline-requires : goal.set_deadline-requires
-set_deadline-requires g c =
-    let there = unset_there c.self.inside.waiters _ c.in_ok-id.id (sym c.next_enrolment.ensures.first ∙ c.in_ok-id.was) c.self.invariant.sound.enrolments in
-    record { awaits = rw (there.at, there.unset.state) refl }
+set_deadline-requires g c = grind arith
 
 pub refuse-requires : goal.refuse-requires
-refuse-requires g c =
-    let there = unset_there c.self.inside.waiters _ c.in_ok-id.id (sym c.next_enrolment.ensures.first ∙ c.in_ok-id.was) c.self.invariant.sound.enrolments in
-    record { idle = rw (there.at, there.unset.idle) refl; room = c.requires.room }
+refuse-requires g c = grind arith
 
 pub invariant_of-self-in-Ok : goal.invariant_of-self-in-Ok
 invariant_of-self-in-Ok g c =

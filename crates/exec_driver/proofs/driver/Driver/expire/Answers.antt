@@ -1,16 +1,13 @@
-use Rattle.std.proofs.Common.{◌≡◌, Some, false, ap, sym, ◌∙◌, refl}
-use Rattle.exec_driver.proofs.{Expiring.held_undue, Granting.once_first, Stepping.first_tells, Turns.expire_serves}
-use Rattle.exec_driver.specs.{Driving.seen, Lists.{first_of, is_among, rest_of}, Sound.IsSound}
+use Rattle.std.proofs.Common.{◌≡◌, Some, sym, ◌∙◌, refl, arith}
+use Rattle.exec_driver.proofs.{Expiring.held_undue, Stepping.first_tells, Turns.expire_serves}
+use Rattle.exec_driver.specs.{Driving.seen, Lists.{first_of}, Sound.IsSound}
 use Rattle.exec_driver.proofs.driver.Driver.expire.Goals as goal
 
 pub invariant_of-self : goal.invariant_of-self
 invariant_of-self g c = rw c.next_due.ensures.rest (held_undue _ _ _ _ c.self.invariant)
 
 pub cancel-requires : goal.cancel-requires
-cancel-requires g c =
-    let first : first_of c.self.inside.lists.due ≡ Some c.in_ok-id.id = sym c.next_due.ensures.first ∙ c.in_ok-id.was in
-    let late : is_among c.in_ok-id.id (rest_of c.self.inside.lists.due) ≡ false = once_first c.in_ok-id.id c.self.inside.lists.due c.self.invariant.sound.due.once first in
-    record { room = c.requires.room; late = λ told. ap (λ l. is_among c.in_ok-id.id l.due) c.next_due.ensures.rest ∙ late }
+cancel-requires g c = grind arith
 
 pub returns-clause-punctual : goal.returns-clause-punctual
 returns-clause-punctual g c =

@@ -1,5 +1,5 @@
 use Rattle.std.proofs.Common.{arith}
-use Rattle.exec_driver.proofs.Admitting.{taken_few, held_places}
+use Rattle.exec_driver.proofs.Admitting.{taken_few}
 use Rattle.exec_driver.proofs.driver.Driver.give_up_places.Goals as goal
 
 pub release-requires : goal.release-requires
@@ -13,11 +13,7 @@ release-requires-2 g c =
     rw c.release.ensures.ring (omega (arith, two, taken_few _ c.self.invariant.sound))
 
 pub invariant_of-self : goal.invariant_of-self
-invariant_of-self g c =
-    let two = rw (← c.self.view_is) at c.requires.made in
-    rw (c.release-2.ensures.ring, c.release.ensures.ring) (held_places _ _ _ _ _ _ _ (omega (arith, two)) (omega (arith, c.self.invariant.places)) c.self.invariant)
+invariant_of-self g c = grind arith
 
 pub overflow_sub-self : goal.overflow_sub-self
-overflow_sub-self g c =
-    let two = rw (← c.self.view_is) at c.requires.made in
-    omega (arith, two, c.self.invariant.places)
+overflow_sub-self g c = grind arith

@@ -1,5 +1,5 @@
 use Rattle.std.proofs.Common.{◌≡◌, ◌+◌, None, sym, ◌∙◌, arith, rules}
-use Rattle.exec_driver.specs.{Driving.seen, Service.{NoGate, NextGate}}
+use Rattle.exec_driver.specs.{Service.{NoGate, NextGate}}
 use Rattle.exec_driver.proofs.{Serving.{serves_itself, serves_both, done_itself, done_both}, Turns.{gate_from, added_tells}, Service.none_added}
 use Rattle.exec_driver.proofs.driver.Driver.grant_all.Goals as goal
 
@@ -10,10 +10,7 @@ pub grant_one-requires : goal.grant_one-requires
 grant_one-requires g c = record { room = c.gates.invariant.0.room c.requires.room }
 
 pub gates-smaller : goal.gates-smaller
-gates-smaller g c =
-    let low = gate_from c.gates.from (seen c.gates.self).requests (seen c.gates.self).lists.gated None (λ f none. absurd (cc)) c.in-Some.file (sym c.next_gate.ensures ∙ c.in-Some.is) in
-    let next = added_tells c.in-Some.file c.checked_add.result c.in-Some-checked_add.next c.checked_add.ensures c.in-Some-checked_add.is in
-    omega (arith, low, next.0, next.1)
+gates-smaller g c = grind (arith, gate_from, added_tells)
 
 pub gates-preserved : goal.gates-preserved
 gates-preserved g c =
@@ -39,6 +36,4 @@ returns-in_default-checked_add-clause-grants g c =
     }
 
 pub returns-clause-grants : goal.returns-clause-grants
-returns-clause-grants g c =
-    let none : c.next_gate.result ≡ None = search rules in
-    record { end = c.gates.from; below = c.gates.invariant.2; none = λ small. sym c.next_gate.ensures ∙ none }
+returns-clause-grants g c = grind arith

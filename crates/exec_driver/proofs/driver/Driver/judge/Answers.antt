@@ -1,7 +1,6 @@
-use Rattle.std.proofs.Common.{◌≡◌, Some, None, false, sym, ap, ◌∙◌, refl, rules}
-use Rattle.exec_driver.proofs.{Words.{is_some, is_durable, Asked, asked_of, hinted_of, result_in, wheel_of, may_complete, waiter_at, file_of, file_in, gate_in, account_in, with_account, open_after}, Endings.one_changed, Reaping.{held_taken, held_landed, held_requeued, room_to_queue, permit_of, goes_on_uncancelled, named_there, landed_of, landed_permit, requeue_tells, complete_tells, outcome_same, none_named, none_given, some_given, tells_nothing, kept_of_open, told_over, ended_over, tells_over}, Arriving.durable_gated, Granting.same_some, Windows.{asked_same, file_same}}
+use Rattle.std.proofs.Common.{◌≡◌, Some, None, false, sym, ap, ◌∙◌, refl, arith}
+use Rattle.exec_driver.proofs.{Words.{is_some, is_durable, Asked, asked_of, hinted_of, wheel_of, waiter_at, file_of, file_in, gate_in, account_in, with_account, open_after}, Endings.one_changed, Reaping.{held_taken, held_landed, held_requeued, room_to_queue, permit_of, goes_on_uncancelled, named_there, landed_of, landed_permit, requeue_tells, complete_tells, outcome_same, some_given, tells_nothing, kept_of_open, told_over, ended_over, tells_over}, Arriving.durable_gated, Granting.same_some, Windows.{asked_same, file_same}}
 use Rattle.exec_request.specs.{Judging.judged_as, Requests.cursor_of, States.told_by}
-use Rattle.exec_waiters.proofs.Changes.{name_tells}
 use Rattle.exec_driver.proofs.driver.Driver.judge.Goals as goal
 
 pub invariant_of-self : goal.invariant_of-self
@@ -17,15 +16,7 @@ invariant_of-self-in-Complete g c =
     rw (over.slab, c.reap-same.ensures.after) (held_landed _ c.in_ok-id.id there.w over.request c.args.completion _ _ _ _ there.at there.flies (rw (← c.self.view_is) at c.requires.next) c.requires.operation c.self.invariant)
 
 pub on_completion-outcome-requires : goal.on_completion-outcome-requires
-on_completion-outcome-requires g c =
-    let there = named_there c.self.inside.waiters c.args.completion.user_data c.given-given.result _ _ c.in_ok-id.id c.named.ensures c.in_ok-id.was c.may_give.ensures c.if-not-may_give.false in
-    record {
-      lawful = λ id w' n at'.
-          let same-id : c.in_ok-id.id.0 ≡ id = same_some _ _ _ there.is n in
-          let at : waiter_at c.self.inside.waiters c.in_ok-id.id.0 ≡ Some w' = rw same-id at' in
-          let same : there.w ≡ w' = same_some _ _ _ there.at at in
-          rw (← same) there.lawful;
-    }
+on_completion-outcome-requires g c = grind arith
 
 pub unreachable-requires : goal.unreachable-requires
 unreachable-requires g c =
@@ -61,22 +52,13 @@ end-requires-clause-idle g c =
     rw (← tells.1, over.slab, one.is_at) refl
 
 pub returns-in_err-id-clause-reaps : goal.returns-in_err-id-clause-reaps
-returns-in_err-id-clause-reaps g c =
-    rw (← c.self.view_is) (λ id w is at.
-    let none = none_named c.self.inside.waiters c.args.completion (sym c.named.ensures ∙ c.in_err-id.was) in
-    absurd (cc))
+returns-in_err-id-clause-reaps g c = grind arith
 
 pub returns-in_err-id-clause-none : goal.returns-in_err-id-clause-none
 returns-in_err-id-clause-none g c = rw (← c.self.view_is) (λ is. (c.from_residual.ensures, rw c.reap-same.ensures.after refl, refl, refl))
 
 pub returns-then-not-may_give-clause-reaps : goal.returns-then-not-may_give-clause-reaps
-returns-then-not-may_give-clause-reaps g c =
-    let named-is = name_tells _ _ (sym c.named.ensures ∙ c.in_ok-id.was) in
-    let may : c.may_give.result ≡ false = search rules in
-    let gives : may_complete (waiter_at c.self.inside.waiters c.in_ok-id.id.0) (result_in c.args.completion.result) ≡ false = rw (← c.given-given.ensures) (sym c.may_give.ensures ∙ may) in
-    rw (← c.self.view_is) (λ id w is at.
-    let none = none_given c.self.inside.waiters c.args.completion c.in_ok-id.id.0 named-is gives in
-    absurd (cc))
+returns-then-not-may_give-clause-reaps g c = grind arith
 
 pub returns-then-not-may_give-clause-none : goal.returns-then-not-may_give-clause-none
 returns-then-not-may_give-clause-none g c = rw (← c.self.view_is) (λ is. (refl, rw c.reap-same.ensures.after refl, refl, refl))
@@ -103,12 +85,7 @@ returns-in-Requeue-clause-reaps g c =
     }))
 
 pub returns-in-Requeue-clause-none : goal.returns-in-Requeue-clause-none
-returns-in-Requeue-clause-none g c =
-    let there = named_there c.self.inside.waiters c.args.completion.user_data c.given-given.result _ _ c.in_ok-id.id c.named.ensures c.in_ok-id.was c.may_give.ensures c.if-not-may_give.false in
-    let over = c.on_completion-outcome.ensures.completes c.in_ok-id.id.0 there.w there.is there.at in
-    rw (← c.self.view_is) (λ none.
-    let some = some_given c.self.inside.waiters c.args.completion c.in_ok-id.id.0 _ there c.given-given.ensures in
-    absurd (cc))
+returns-in-Requeue-clause-none g c = grind arith
 
 pub returns-in-Complete-clause-reaps : goal.returns-in-Complete-clause-reaps
 returns-in-Complete-clause-reaps g c =
@@ -140,9 +117,4 @@ returns-in-Complete-clause-reaps g c =
     }))
 
 pub returns-in-Complete-clause-none : goal.returns-in-Complete-clause-none
-returns-in-Complete-clause-none g c =
-    let there = named_there c.self.inside.waiters c.args.completion.user_data c.given-given.result _ _ c.in_ok-id.id c.named.ensures c.in_ok-id.was c.may_give.ensures c.if-not-may_give.false in
-    let over = c.on_completion-outcome.ensures.completes c.in_ok-id.id.0 there.w there.is there.at in
-    rw (← c.self.view_is) (λ none.
-    let some = some_given c.self.inside.waiters c.args.completion c.in_ok-id.id.0 _ there c.given-given.ensures in
-    absurd (cc))
+returns-in-Complete-clause-none g c = grind arith

@@ -14,6 +14,4 @@ returns-then-is_err-2-clause-unstored g c =
     given_back c.args.window _ _ _ (reserved_still c.args.window _ _ _ c.in_ok-reserve.ensures.stored none) c.give_up_places.ensures.store
 
 pub returns-clause-two : goal.returns-clause-two
-returns-clause-two g c =
-    let second = on_ok c.reserve-2.result (sym c.is_err.ensures.value ∙ c.if-is_err.false) c.reserve-2.ensures.ok in
-    rw (second, c.in_ok-reserve.ensures.ok) (omega (arith, c.self.invariant.sound.places))
+returns-clause-two g c = grind arith

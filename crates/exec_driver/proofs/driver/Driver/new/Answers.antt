@@ -1,7 +1,7 @@
-use Rattle.std.proofs.Common.{◌+◌, false, length, refl, sym, ap, ◌∙◌, arith}
+use Rattle.std.proofs.Common.{◌+◌, false, length, sym, ap, ◌∙◌, arith}
 use Rattle.exec_ring.specs.Rings.{RingState}
 use Rattle.exec_time.specs.{Layouts.slots_of, WheelView.wheel_of}
-use Rattle.exec_driver.proofs.{Admitting.{held_fresh, is_fresh, unused, on_ok, on_err}, Keeping.fresh_punctual, Storing.reserved_wake}
+use Rattle.exec_driver.proofs.{Admitting.{held_fresh, unused, on_ok, on_err}, Keeping.fresh_punctual, Storing.reserved_wake}
 use Rattle.exec_driver.proofs.driver.Driver.new.Goals as goal
 
 pub invariant_of-result : goal.invariant_of-result
@@ -12,9 +12,7 @@ invariant_of-result g c =
     rw c.new-3.ensures (held_fresh _ _ _ _ (g.R.Ring.state c.args.ring).size _ _ c.in-Ok-new.ensures.slots wheel.drained wheel.idle ring (omega (arith, staged, c.room-limit.ensures)))
 
 pub returns-clause-made : goal.returns-clause-made
-returns-clause-made g c =
-    let ring = on_ok c.reserve.result (sym c.is_err.ensures.value ∙ c.if-is_err.false) c.reserve.ensures.ok ∙ ap (λ (s : RingState). record s { places = s.places + 1 }) c.requires.fresh in
-    is_fresh (slots_of c.args.horizon c.args.tick) (record { requests = c.in-Ok-new.waiters; wheel = wheel_of c.in-Ok.wheel; ring = g.R.Ring.state c.reserve.new.self; landings = g.R.Ring.landings c.reserve.new.self; lists = c.new-3.result; cancels_under_way = 0; armed = false }) (g.R.Ring.state c.args.ring).size _ _ _ c.in-Ok-new.ensures.slots c.in-Ok-new.ensures.vacant c.in-Ok-new.ensures.first c.in-Ok.ensures ring c.new-3.ensures refl refl
+returns-clause-made g c = grind arith
 
 pub returns-clause-punctual : goal.returns-clause-punctual
 returns-clause-punctual g c = fresh_punctual _ c.in-Ok-new.ensures.slots

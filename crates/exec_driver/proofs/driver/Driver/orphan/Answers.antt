@@ -1,4 +1,4 @@
-use Rattle.std.proofs.Common.{◌≡◌, true, false, sym, ◌∙◌, refl, arith}
+use Rattle.std.proofs.Common.{◌≡◌, true, sym, ◌∙◌, arith}
 use Rattle.exec_base.specs.Slab.{value_at}
 use Rattle.exec_waiters.specs.Events.{asks_cancel_by_orphan}
 use Rattle.exec_driver.proofs.{Words.false≢true, Observing.held_orphaned, Telling.{tells_both, few_orphaned, room_left}, Keeping.{orphaned_punctual, let_go_punctual}}
@@ -12,9 +12,7 @@ pub cancel-requires : goal.cancel-requires
 cancel-requires g c = record { room = room_left 2 1 _ _ _ (omega arith) (few_orphaned c.args.id.0 _) c.orphan.ensures.told c.requires.room; late = λ told. absurd (false≢true told) }
 
 pub returns-then-orphan-clause-let_go : goal.returns-then-orphan-clause-let_go
-returns-then-orphan-clause-let_go g c =
-    let asks : asks_cancel_by_orphan (value_at c.self.inside.waiters c.args.id.0) ≡ true = sym c.orphan.ensures.answer ∙ c.if-orphan.true in
-    rw (← c.self.view_is) (rw asks (rw c.orphan.ensures.orphaned at c.cancel.ensures.cancelled))
+returns-then-orphan-clause-let_go g c = grind arith
 
 pub returns-then-orphan-clause-told : goal.returns-then-orphan-clause-told
 returns-then-orphan-clause-told g c =
@@ -22,14 +20,10 @@ returns-then-orphan-clause-told g c =
     rw (← c.self.view_is) (rw asks (tells_both _ _ _ _ _ c.orphan.ensures.told (rw c.orphan.ensures.orphaned at c.cancel.ensures.told)))
 
 pub returns-else-orphan-clause-let_go : goal.returns-else-orphan-clause-let_go
-returns-else-orphan-clause-let_go g c =
-    let asks : asks_cancel_by_orphan (value_at c.self.inside.waiters c.args.id.0) ≡ false = sym c.orphan.ensures.answer ∙ c.if-orphan.false in
-    rw (← c.self.view_is) (rw asks (rw c.orphan.ensures.orphaned refl))
+returns-else-orphan-clause-let_go g c = grind arith
 
 pub returns-else-orphan-clause-told : goal.returns-else-orphan-clause-told
-returns-else-orphan-clause-told g c =
-    let asks : asks_cancel_by_orphan (value_at c.self.inside.waiters c.args.id.0) ≡ false = sym c.orphan.ensures.answer ∙ c.if-orphan.false in
-    rw (← c.self.view_is) (rw asks c.orphan.ensures.told)
+returns-else-orphan-clause-told g c = grind arith
 
 pub invariant_of-self-else-orphan : goal.invariant_of-self-else-orphan
 invariant_of-self-else-orphan g c = rw c.orphan.ensures.orphaned (held_orphaned _ c.args.id _ _ _ c.self.invariant)

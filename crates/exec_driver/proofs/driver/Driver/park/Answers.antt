@@ -1,7 +1,7 @@
-use Rattle.std.proofs.Common.{◌≡◌, true, false, sym, ◌∙◌, rules}
+use Rattle.std.proofs.Common.{◌≡◌, true, false, sym, ◌∙◌, rules, arith}
 use Rattle.std.proofs.lemmas.Bool.{false≢true}
 use Rattle.exec_driver.specs.Driving.{seen}
-use Rattle.exec_driver.proofs.{Keeping.way_punctual, Turns.{wait_pending, wait_calm, way_free, poll_any}, Service.{no_wait, waited, pending_refused, may_after}}
+use Rattle.exec_driver.proofs.{Keeping.way_punctual, Turns.{wait_pending, wait_calm, way_free, poll_any}, Service.{waited, pending_refused, may_after}}
 use Rattle.exec_driver.proofs.driver.Driver.park.Goals as goal
 
 pub returns-then-has_pending_submissions-clause-answer : goal.returns-then-has_pending_submissions-clause-answer
@@ -29,9 +29,7 @@ returns-then-has_pending_submissions-clause-parks g c =
     pending_refused _ (seen c.args.self.now) (seen c.make_way.new.self) c.make_way.ensures (sym c.has_pending_submissions.ensures ∙ is)
 
 pub returns-then-not-stage_wake_poll-clause-parks : goal.returns-then-not-stage_wake_poll-clause-parks
-returns-then-not-stage_wake_poll-clause-parks g c =
-    let refused : c.stage_wake_poll.result ≡ false = search rules in
-    no_wait _ _ (seen c.make_way.new.self) _ c.make_way.ensures (sym c.stage_wake_poll.ensures.answer ∙ refused) c.stage_wake_poll.ensures.same
+returns-then-not-stage_wake_poll-clause-parks g c = grind arith
 
 pub returns-clause-parks : goal.returns-clause-parks
 returns-clause-parks g c =

@@ -1,5 +1,5 @@
-use Rattle.std.proofs.Common.{◌≡◌, true, sym, ◌∙◌, rules}
-use Rattle.exec_driver.proofs.{Words.not-true, Serving.{serves_itself, serves_both, done_itself, done_both}}
+use Rattle.std.proofs.Common.{arith}
+use Rattle.exec_driver.proofs.{Serving.{serves_itself, serves_both, done_itself, done_both}}
 use Rattle.exec_driver.specs.Service.{NoStep, OneMore}
 use Rattle.exec_driver.proofs.driver.Driver.reap_all.Goals as goal
 
@@ -10,9 +10,7 @@ pub reap_one-requires : goal.reap_one-requires
 reap_one-requires g c = record { room = c.completions.invariant.0.room c.requires.room }
 
 pub completions-smaller : goal.completions-smaller
-completions-smaller g c =
-    let is : c.has_completion.result ≡ true = search rules in
-    c.reap_one.ensures.fewer (not-true _ (sym c.has_completion.ensures ∙ is))
+completions-smaller g c = grind arith
 
 pub completions-preserved : goal.completions-preserved
 completions-preserved g c = (serves_both _ _ _ _ _ _ c.completions.invariant.0 c.reap_one.ensures.serves, done_both _ _ _ c.completions.invariant.1 c.reap_one.ensures.done, OneMore _ _ c.completions.invariant.2 c.reap_one.ensures.reaps)

@@ -1,6 +1,5 @@
 use Rattle.std.proofs.Common.{◌≡◌, Bool, true, false, not, ap, sym, ◌∙◌, rules, arith}
-use Rattle.exec_driver.proofs.{Words.not-true, Punctual.{settled, advance_goes, put_off}, Serving.{goes_both, serves_both, serves_untold}, Service.{put_off_so, worked_so}}
-use Rattle.exec_waiters.specs.States.{pending_count}
+use Rattle.exec_driver.proofs.{Words.not-true, Punctual.{settled, put_off}, Service.{put_off_so, worked_so}}
 use Rattle.exec_driver.specs.{Driving.seen, Service.reached}
 use Rattle.exec_driver.proofs.driver.Driver.service.Goals as goal
 
@@ -8,52 +7,25 @@ pub advance-requires : goal.advance-requires
 advance-requires g c = record { settled = settled _ c.sound.ensures.sound.ticks (c.reap_all.ensures.serves.going.punctual c.requires.punctual) (c.reap_all.ensures.done.due c.requires.told) }
 
 pub expire_all-requires : goal.expire_all-requires
-expire_all-requires g c =
-    let first = c.reap_all.ensures in
-    let on = advance_goes (seen c.reap_all.new.self) (seen c.advance.new.self) c.args.now c.advance.ensures.advanced c.sound.ensures.tick c.sound.ensures.reach c.sound.ensures.sound (first.done.due c.requires.told) in
-    record { room = (serves_untold _ _ c.reap_all.new.deferred on).room (first.serves.room c.requires.room) }
+expire_all-requires g c = grind arith
 
 pub enrol_all-requires-clause-punctual : goal.enrol_all-requires-clause-punctual
-enrol_all-requires-clause-punctual g c =
-    let first = c.reap_all.ensures in
-    let on = advance_goes (seen c.reap_all.new.self) (seen c.advance.new.self) c.args.now c.advance.ensures.advanced c.sound.ensures.tick c.sound.ensures.reach c.sound.ensures.sound (first.done.due c.requires.told) in
-    c.expire_all.ensures.serves.going.punctual (on.punctual (first.serves.going.punctual c.requires.punctual))
+enrol_all-requires-clause-punctual g c = grind arith
 
 pub stage_all-requires-clause-ring : goal.stage_all-requires-clause-ring
-stage_all-requires-clause-ring g c =
-    let first = c.reap_all.ensures in
-    let on = advance_goes (seen c.reap_all.new.self) (seen c.advance.new.self) c.args.now c.advance.ensures.advanced c.sound.ensures.tick c.sound.ensures.reach c.sound.ensures.sound (first.done.due c.requires.told) in
-    let before = serves_both _ _ _ _ _ _ (serves_both _ _ _ _ _ _ (serves_both _ _ _ _ _ _ first.serves (serves_untold _ _ c.reap_all.new.deferred on)) c.expire_all.ensures.serves) (serves_both _ _ _ _ _ _ c.enrol_all.ensures.serves c.grant_all.ensures.serves) in
-    omega (arith, before.going.size, c.requires.ring)
+stage_all-requires-clause-ring g c = grind arith
 
 pub reap_all-requires-2 : goal.reap_all-requires-2
-reap_all-requires-2 g c =
-    let first = c.reap_all.ensures in
-    let on = advance_goes (seen c.reap_all.new.self) (seen c.advance.new.self) c.args.now c.advance.ensures.advanced c.sound.ensures.tick c.sound.ensures.reach c.sound.ensures.sound (first.done.due c.requires.told) in
-    let before = serves_both _ _ _ _ _ _ (serves_both _ _ _ _ _ _ (serves_both _ _ _ _ _ _ first.serves (serves_untold _ _ c.reap_all.new.deferred on)) c.expire_all.ensures.serves) (serves_both _ _ _ _ _ _ c.enrol_all.ensures.serves c.grant_all.ensures.serves) in
-    let all = serves_both _ _ _ _ _ _ before (serves_untold _ _ c.grant_all.new.deferred (goes_both _ _ _ c.stage_all.ensures.going c.enter_if.ensures.going)) in
-    record { room = all.room c.requires.room }
+reap_all-requires-2 g c = grind arith
 
 pub returns-then-not-enters-clause-serves : goal.returns-then-not-enters-clause-serves
-returns-then-not-enters-clause-serves g c =
-    let first = c.reap_all.ensures in
-    let on = advance_goes (seen c.reap_all.new.self) (seen c.advance.new.self) c.args.now c.advance.ensures.advanced c.sound.ensures.tick c.sound.ensures.reach c.sound.ensures.sound (first.done.due c.requires.told) in
-    let before = serves_both _ _ _ _ _ _ (serves_both _ _ _ _ _ _ (serves_both _ _ _ _ _ _ first.serves (serves_untold _ _ c.reap_all.new.deferred on)) c.expire_all.ensures.serves) (serves_both _ _ _ _ _ _ c.enrol_all.ensures.serves c.grant_all.ensures.serves) in
-    let all = serves_both _ _ _ _ _ _ before (serves_untold _ _ c.grant_all.new.deferred (goes_both _ _ _ c.stage_all.ensures.going c.enter_if.ensures.going)) in
-    serves_both _ _ _ _ _ _ all c.reap_all-2.ensures.serves
+returns-then-not-enters-clause-serves g c = grind arith
 
 pub returns-then-not-enters-clause-put_off : goal.returns-then-not-enters-clause-put_off
-returns-then-not-enters-clause-put_off g c = λ yes.
-    let is : c.must_enter-enters.result ≡ false = search rules in
-    put_off (pending_count (seen c.stage_all.new.self).requests) (pending_count (seen c.reap_all-2.new.self).requests) c.args.defer _ _ (omega (arith, c.reap_all-2.ensures.serves.going.pending, c.enter_if.ensures.going.pending)) (sym c.is_empty.ensures ∙ not-true _ yes) (sym c.must_enter-enters.ensures ∙ is)
+returns-then-not-enters-clause-put_off g c = grind (arith, put_off, not-true)
 
 pub returns-else-not-enters-clause-serves : goal.returns-else-not-enters-clause-serves
-returns-else-not-enters-clause-serves g c =
-    let first = c.reap_all.ensures in
-    let on = advance_goes (seen c.reap_all.new.self) (seen c.advance.new.self) c.args.now c.advance.ensures.advanced c.sound.ensures.tick c.sound.ensures.reach c.sound.ensures.sound (first.done.due c.requires.told) in
-    let before = serves_both _ _ _ _ _ _ (serves_both _ _ _ _ _ _ (serves_both _ _ _ _ _ _ first.serves (serves_untold _ _ c.reap_all.new.deferred on)) c.expire_all.ensures.serves) (serves_both _ _ _ _ _ _ c.enrol_all.ensures.serves c.grant_all.ensures.serves) in
-    let all = serves_both _ _ _ _ _ _ before (serves_untold _ _ c.grant_all.new.deferred (goes_both _ _ _ c.stage_all.ensures.going c.enter_if.ensures.going)) in
-    serves_both _ _ _ _ _ _ all c.reap_all-2.ensures.serves
+returns-else-not-enters-clause-serves g c = grind arith
 
 pub returns-then-not-enters-clause-steps : goal.returns-then-not-enters-clause-steps
 returns-then-not-enters-clause-steps g c =

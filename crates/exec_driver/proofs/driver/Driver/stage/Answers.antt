@@ -1,4 +1,4 @@
-use Rattle.std.proofs.Common.{◌≡◌, Some, sym, ap, ◌∙◌, refl}
+use Rattle.std.proofs.Common.{◌≡◌, Some, sym, ap, ◌∙◌, refl, arith}
 use Rattle.exec_driver.proofs.{Words.{waiter_at, file_of, file_in, account_in, request_at, is_queued, first_of}, Stepping.{first_there, held_staged, place_for_request, permit_same, relanded}, Windows.{is_no_poll, asked_same}, Serving.keeps_punctual, Turns.stage_serves}
 use Rattle.exec_driver.specs.Driving.{seen}
 use Rattle.exec_driver.proofs.driver.Driver.stage.Goals as goal
@@ -28,18 +28,7 @@ returns-clause-staged g c = λ w is.
     let at : waiter_at c.self.inside.waiters c.in_ok-id.id.0 ≡ Some w = rw (← c.self.view_is) at is in
     let staged = c.stage-submission.ensures.staged w at in
     let same : c.account-account.result ≡ account_in c.args.opens.now (file_of w.request) = c.account-account.ensures ∙ ap (account_in c.args.opens.now) (c.open_of.ensures ∙ ap file_in at) in
-    record {
-      request = staged.request;
-      entry = c.stage-submission.result;
-      driver = rw (staged.slab, c.stage.ensures, c.next_queued.ensures.rest, ← c.self.view_is) refl;
-      user_data = staged.user_data;
-      window = rw (← same) staged.window;
-      hint = staged.hint;
-      again = staged.again;
-      goes_on = staged.goes_on;
-      asks = rw (← same) staged.asks;
-      kept = staged.kept;
-    }
+    grind arith
 
 pub returns-clause-punctual : goal.returns-clause-punctual
 returns-clause-punctual g c =

@@ -1,7 +1,6 @@
-use Rattle.std.proofs.Common.{◌≡◌, true, false, sym, ◌∙◌, rules, arith}
-use Rattle.std.proofs.lemmas.Bool.{false≢true}
-use Rattle.exec_driver.specs.{Driving.seen, Service.{NoStep, OneMore, Enter, Staged, Busy}}
-use Rattle.exec_driver.proofs.{Queues.{taken_answer, busy_answer}, Serving.{goes_itself, goes_both, goes_by, done_itself, done_both}, Turns.{enter_any, filled_less, not_full}, Service.{repeats_both, still_full}}
+use Rattle.std.proofs.Common.{◌≡◌, true, sym, ◌∙◌, rules, arith}
+use Rattle.exec_driver.specs.{Driving.seen, Service.{NoStep, OneMore, Enter, Busy}}
+use Rattle.exec_driver.proofs.{Queues.{taken_answer, busy_answer}, Serving.{goes_itself, goes_both, goes_by, done_itself, done_both}, Turns.{enter_any, filled_less, not_full}, Service.{repeats_both}}
 use Rattle.exec_driver.proofs.driver.Driver.stage_all.Goals as goal
 
 pub queues-init : goal.queues-init
@@ -17,9 +16,7 @@ pub returns-in-Busy-clause-done : goal.returns-in-Busy-clause-done
 returns-in-Busy-clause-done g c = done_both _ _ _ c.queues.invariant.1 (done_both _ _ _ c.stage_some.ensures.done (enter_any (seen c.stage_some.new.self) (seen c.enter.new.self) c.enter.ensures.entered).0.eases.done)
 
 pub returns-in-Busy-clause-staged : goal.returns-in-Busy-clause-staged
-returns-in-Busy-clause-staged g c = λ free.
-    let busy = busy_answer (seen c.stage_some.new.self).ring (sym c.enter.ensures.answer ∙ c.in-Busy.is) in
-    absurd (false≢true (sym (c.stage_some.ensures.going.free (c.queues.invariant.0.free free)) ∙ busy))
+returns-in-Busy-clause-staged g c = grind arith
 
 pub queues-smaller : goal.queues-smaller
 queues-smaller g c =
@@ -47,11 +44,7 @@ pub returns-clause-done : goal.returns-clause-done
 returns-clause-done g c = done_both _ _ _ c.queues.invariant.1 c.stage_some.ensures.done
 
 pub returns-in-Busy-clause-full : goal.returns-in-Busy-clause-full
-returns-in-Busy-clause-full g c = λ room.
-    let filled : c.stage_some.result ≡ true = search rules in
-    let e = enter_any (seen c.stage_some.new.self) (seen c.enter.new.self) c.enter.ensures.entered in
-    let busy = busy_answer (seen c.stage_some.new.self).ring (sym c.enter.ensures.answer ∙ c.in-Busy.is) in
-    absurd (false≢true (sym room ∙ still_full (seen c.stage_some.new.self) (seen c.enter.new.self) e.1 busy (c.stage_some.ensures.full filled)))
+returns-in-Busy-clause-full g c = grind arith
 
 pub returns-in-Busy-clause-stages : goal.returns-in-Busy-clause-stages
 returns-in-Busy-clause-stages g c =
@@ -60,11 +53,7 @@ returns-in-Busy-clause-stages g c =
     Busy _ (repeats_both _ _ _ _ c.queues.invariant.2 c.stage_some.ensures.stages) (c.stage_some.ensures.full filled) (c.stage_some.ensures.left filled) busy c.enter.ensures.entered
 
 pub returns-clause-full : goal.returns-clause-full
-returns-clause-full g c = λ room.
-    let left : c.stage_some.result ≡ false = search rules in
-    c.stage_some.ensures.staged left
+returns-clause-full g c = grind arith
 
 pub returns-clause-stages : goal.returns-clause-stages
-returns-clause-stages g c =
-    let left : c.stage_some.result ≡ false = search rules in
-    Staged (repeats_both _ _ _ _ c.queues.invariant.2 c.stage_some.ensures.stages) (c.stage_some.ensures.staged left)
+returns-clause-stages g c = grind (arith, repeats_both)

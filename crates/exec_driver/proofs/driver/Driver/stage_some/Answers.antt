@@ -1,16 +1,14 @@
-use Rattle.std.proofs.Common.{◌≡◌, ◌||◌, true, false, sym, ◌∙◌, rules, arith}
+use Rattle.std.proofs.Common.{sym, ◌∙◌, arith}
 use Rattle.std.proofs.lemmas.Bool.{false≢true}
-use Rattle.exec_driver.specs.{Driving.{seen, may_stage_one}, Lists.has_first, Service.{NoStep, OneMore}}
-use Rattle.exec_driver.proofs.{Serving.{goes_itself, goes_both, goes_by, done_itself, done_both}, Turns.{poll_any, poll_refused}, Service.{poll_entry, poll_left, unstaged_so}}
+use Rattle.exec_driver.specs.{Driving.{seen}, Service.{NoStep, OneMore}}
+use Rattle.exec_driver.proofs.{Serving.{goes_itself, goes_both, goes_by, done_itself, done_both}, Turns.{poll_any}, Service.{poll_entry}}
 use Rattle.exec_driver.proofs.driver.Driver.stage_some.Goals as goal
 
 pub entries-init : goal.entries-init
 entries-init g c = (goes_itself _, done_itself _, omega arith, λ free full. absurd (false≢true (sym free ∙ full)), NoStep)
 
 pub returns-then-is_full-clause-some : goal.returns-then-is_full-clause-some
-returns-then-is_full-clause-some g c = λ yes free.
-    let is : c.is_full.result ≡ true = search rules in
-    c.entries.invariant.3 free (sym c.is_full.ensures ∙ is)
+returns-then-is_full-clause-some g c = grind arith
 
 pub stage_one-requires-clause-enrolled : goal.stage_one-requires-clause-enrolled
 stage_one-requires-clause-enrolled g c = c.entries.invariant.1.enrolments c.requires.enrolled
@@ -36,32 +34,19 @@ pub returns-clause-done : goal.returns-clause-done
 returns-clause-done g c = done_both _ _ _ c.entries.invariant.1 (poll_any (seen c.entries.self) (seen c.stage_wake_poll.new.self) c.stage_wake_poll.ensures.staged).eases.done
 
 pub returns-clause-less : goal.returns-clause-less
-returns-clause-less g c =
-    let less = (poll_any (seen c.entries.self) (seen c.stage_wake_poll.new.self) c.stage_wake_poll.ensures.staged).no_more in
-    omega (arith, less, c.entries.invariant.2)
+returns-clause-less g c = grind arith
 
 pub returns-clause-some : goal.returns-clause-some
-returns-clause-some g c = λ yes free.
-    let refused : c.stage_wake_poll.result ≡ false = search rules in
-    let less = (poll_any (seen c.entries.self) (seen c.stage_wake_poll.new.self) c.stage_wake_poll.ensures.staged).no_more in
-    let fewer = c.entries.invariant.3 free (poll_refused (seen c.entries.self) (sym c.stage_wake_poll.ensures.answer ∙ refused)) in
-    omega (arith, less, fewer)
+returns-clause-some g c = grind arith
 
 pub returns-then-is_full-clause-stages : goal.returns-then-is_full-clause-stages
 returns-then-is_full-clause-stages g c = c.entries.invariant.4
 
 pub returns-clause-stages : goal.returns-clause-stages
-returns-clause-stages g c =
-    let cancels : has_first (seen c.entries.self).lists.cancels ≡ false = search rules in
-    let queued : may_stage_one (seen c.entries.self) ≡ false = search rules in
-    poll_entry _ _ _ _ c.entries.invariant.4 cancels queued c.stage_wake_poll.ensures.same c.stage_wake_poll.ensures.staged
+returns-clause-stages g c = grind (arith, poll_entry)
 
 pub returns-clause-left : goal.returns-clause-left
-returns-clause-left g c = λ yes.
-    let refused : c.stage_wake_poll.result ≡ false = search rules in
-    poll_left (seen c.entries.self) (seen c.stage_wake_poll.new.self) (sym c.stage_wake_poll.ensures.answer ∙ refused) c.stage_wake_poll.ensures.same
+returns-clause-left g c = grind arith
 
 pub returns-then-is_full-clause-left : goal.returns-then-is_full-clause-left
-returns-then-is_full-clause-left g c = λ yes.
-    let some : (has_first (seen c.entries.self).lists.cancels || may_stage_one (seen c.entries.self)) ≡ true = search rules in
-    unstaged_so (seen c.entries.self) some
+returns-then-is_full-clause-left g c = grind arith

@@ -1,6 +1,5 @@
-use Rattle.std.proofs.Common.{◌≡◌, true, false, sym, ◌∙◌, rules}
-use Rattle.exec_driver.specs.Driving.{seen}
-use Rattle.exec_driver.proofs.Sweeping.{sweeps_itself, sweeps_on, sweeps_less, all_swept}
+use Rattle.std.proofs.Common.{◌≡◌, true, false, sym, ◌∙◌, rules, arith}
+use Rattle.exec_driver.proofs.Sweeping.{sweeps_itself, sweeps_on, all_swept}
 use Rattle.exec_driver.proofs.driver.Driver.sweep.Goals as goal
 
 pub controls-init : goal.controls-init
@@ -12,9 +11,7 @@ controls-preserved g c =
     sweeps_on _ _ _ (sym c.take_control.ensures.answer ∙ is) c.take_control.ensures.taken c.controls.invariant
 
 pub controls-smaller : goal.controls-smaller
-controls-smaller g c =
-    let is : c.take_control.result ≡ true = search rules in
-    sweeps_less (seen c.controls.self) (seen c.take_control.new.self) (sym c.take_control.ensures.answer ∙ is) c.take_control.ensures.taken
+controls-smaller g c = grind arith
 
 pub returns : goal.returns
 returns g c =

@@ -1,11 +1,11 @@
-use Rattle.std.proofs.Common.{◌≡◌, ℕ, ◌+◌, ◌*◌, ◌^◌, ◌<◌, true, false, Option, Some, None, refl, sym, ap, ◌∙◌, inl, inr, arith}
+use Rattle.std.proofs.Common.{◌≡◌, ℕ, ◌+◌, ◌*◌, ◌^◌, ◌<◌, true, false, Option, Some, None, refl, sym, ap, ◌∙◌, inr, arith}
 use Rattle.std.specs.Prelude.{is_some}
 use Rattle.exec_base.specs.Slab.{live_count}
 use Rattle.exec_request.specs.Requests.{deadline_of, gate_of}
 use Rattle.exec_time.specs.WheelView.{wheel_of, room_of}
 use Rattle.exec_waiters.specs.{States.{deadline_in, gate_in}, Told.nothing_told}
 use Rattle.exec_driver.specs.{Driving.{Driving, seen, request_at, is_queued, is_gated, is_unenrolled}, Steps.{newcomer, is_late, timed_out}}
-use Rattle.exec_driver.proofs.{Admitting.on_ok, Arriving.{Arrives, ready_of, one_arrived, live_arrived, live_finished, takes_over, takes_finished, joins_none, joins_put, durable_gated, put_few, put_room, is_placed, is_refused, placed_over, room_to_join, held_arrived}, Telling.{tells_both, room_left, room_within, few_finished}, Endings.one_finished, Keeping.{rooms_punctual, punctual_one, ended_punctual}}
+use Rattle.exec_driver.proofs.{Admitting.on_ok, Arriving.{Arrives, ready_of, one_arrived, live_arrived, live_finished, takes_over, takes_finished, joins_none, joins_put, durable_gated, put_few, put_room, is_refused, placed_over, room_to_join, held_arrived}, Telling.{tells_both, room_left, room_within, few_finished}, Endings.one_finished, Keeping.{rooms_punctual, punctual_one, ended_punctual}}
 use Rattle.exec_driver.proofs.driver.Driver.take_in.Goals as goal
 
 pub invariant_of-self-then-is_late : goal.invariant_of-self-then-is_late
@@ -97,36 +97,16 @@ returns-then-is_late-clause-spots g c =
     ap (λ (m : Driving g.row.S.Denot g.row.F.Denot). m.ring) is ∙ ring
 
 pub returns-clause-taken : goal.returns-clause-taken
-returns-clause-taken g c =
-    let same = rw (← c.self.view_is) at c.make_places.ensures.same in
-    let arrives : Arrives c.self.inside.waiters c.insert.new.self c.in_ok-id.id.0 (newcomer c.args.request c.args.observer) = record { slab = c.in_ok-id.ensures.inserted; next = c.in_ok-id.ensures.id; unnamed = c.in_ok-id.ensures.never_before; map = c.in_ok-id.ensures.map } in
-    let one = one_arrived _ _ _ _ arrives in
-    let early : is_late (deadline_of c.args.request) c.args.now ≡ false = ap (λ (o : Option ℕ). is_late o c.args.now) (sym (c.deadline-deadline.ensures ∙ ap deadline_in one.is_at)) ∙ sym c.is_late.ensures ∙ c.if-is_late.false in
-    let has : is_some (deadline_of c.args.request) ≡ c.is_some.result = ap is_some (sym (c.deadline-deadline.ensures ∙ ap deadline_in one.is_at)) ∙ sym c.is_some.ensures in
-    let gate : is_some (gate_of c.args.request) ≡ c.is_some-is_gated.result = ap is_some (sym (c.durability.ensures ∙ ap gate_in one.is_at)) ∙ sym c.is_some-is_gated.ensures in
-    placed_over (seen c.args.self.now) _ _ c.in_ok-id.id c.args.request c.args.observer c.args.now same (is_placed _ c.insert.new.self (wheel_of c.reserve.new.self) c.place.new.self c.in_ok-id.id c.args.request c.args.observer c.args.now c.is_some.result c.is_some-is_gated.result arrives.slab c.reserve.ensures.same c.place.ensures early has gate)
+returns-clause-taken g c = grind arith
 
 pub returns-clause-told : goal.returns-clause-told
-returns-clause-told g c =
-    let arrives : Arrives c.self.inside.waiters c.insert.new.self c.in_ok-id.id.0 (newcomer c.args.request c.args.observer) = record { slab = c.in_ok-id.ensures.inserted; next = c.in_ok-id.ensures.id; unnamed = c.in_ok-id.ensures.never_before; map = c.in_ok-id.ensures.map } in
-    let one = one_arrived _ _ _ _ arrives in
-    let early : is_late (deadline_of c.args.request) c.args.now ≡ false = ap (λ (o : Option ℕ). is_late o c.args.now) (sym (c.deadline-deadline.ensures ∙ ap deadline_in one.is_at)) ∙ sym c.is_late.ensures ∙ c.if-is_late.false in
-    rw early c.in-Ok.ensures.told
+returns-clause-told g c = grind arith
 
 pub returns-clause-places : goal.returns-clause-places
-returns-clause-places g c =
-    let same = rw (← c.self.view_is) at c.make_places.ensures.same in
-    let arrives : Arrives c.self.inside.waiters c.insert.new.self c.in_ok-id.id.0 (newcomer c.args.request c.args.observer) = record { slab = c.in_ok-id.ensures.inserted; next = c.in_ok-id.ensures.id; unnamed = c.in_ok-id.ensures.never_before; map = c.in_ok-id.ensures.map } in
-    let one = one_arrived _ _ _ _ arrives in
-    let before = ap (λ (m : Driving g.row.S.Denot g.row.F.Denot). live_count m.requests) same in
-    let came = live_arrived _ _ _ _ arrives in
-    room_within (2 * (live_count (seen c.args.self.now).requests + 1) + 1) (2 * live_count c.insert.new.self) c.make_places.new.deferred (omega (arith, before, came)) c.in-Ok.ensures.places
+returns-clause-places g c = grind (arith, one_arrived, live_arrived, room_within)
 
 pub returns-clause-never_again : goal.returns-clause-never_again
-returns-clause-never_again g c =
-    let same = rw (← c.self.view_is) at c.make_places.ensures.same in
-    let slab = ap (λ (m : Driving g.row.S.Denot g.row.F.Denot). m.requests) same in
-    takes_over _ _ _ _ _ slab c.in_ok-id.ensures.never_again
+returns-clause-never_again g c = grind arith
 
 pub returns-clause-spots : goal.returns-clause-spots
 returns-clause-spots g c = rw (← c.self.view_is) at c.make_places.ensures.ring
@@ -149,11 +129,7 @@ returns-then-is_late-clause-punctual g c = λ p.
     rw is (ended_punctual _ c.in_ok-id.id (newcomer c.args.request c.args.observer) timed_out None one.is_at (punctual_one _ _ c.in_ok-id.id None (Some (newcomer c.args.request c.args.observer)) one (λ t is. absurd (cc)) c.reserve.ensures.same refl (rooms_punctual (seen c.args.self.now) _ same p)))
 
 pub returns-clause-gate : goal.returns-clause-gate
-returns-clause-gate g c =
-    let same = rw (← c.self.view_is) at c.make_places.ensures.same in
-    let arrives : Arrives c.self.inside.waiters c.insert.new.self c.in_ok-id.id.0 (newcomer c.args.request c.args.observer) = record { slab = c.in_ok-id.ensures.inserted; next = c.in_ok-id.ensures.id; unnamed = c.in_ok-id.ensures.never_before; map = c.in_ok-id.ensures.map } in
-    let one = one_arrived _ _ _ _ arrives in
-    inl (ap gate_in one.is_at)
+returns-clause-gate g c = grind arith
 
 pub returns-clause-punctual : goal.returns-clause-punctual
 returns-clause-punctual g c = λ p.
@@ -165,6 +141,4 @@ returns-clause-punctual g c = λ p.
     rw c.place.ensures (punctual_one _ _ c.in_ok-id.id None (Some (newcomer c.args.request c.args.observer)) one (λ t is. absurd (cc)) c.reserve.ensures.same (joins_put c.in_ok-id.id c.args.request c.args.observer c.self.inside.lists c.is_some.result c.is_some-is_gated.result has (durable_gated c.args.request ∙ gate)).due (rooms_punctual (seen c.args.self.now) _ same p))
 
 pub returns-in_err-id-clause-punctual : goal.returns-in_err-id-clause-punctual
-returns-in_err-id-clause-punctual g c = λ p.
-    let same = rw (← c.self.view_is) at c.make_places.ensures.same in
-    rw (c.in_err-id.ensures.kept, c.reserve.ensures.same) (rooms_punctual (seen c.args.self.now) _ same p)
+returns-in_err-id-clause-punctual g c = grind (arith, rooms_punctual)

@@ -3,10 +3,7 @@ use Rattle.exec_driver.proofs.Slots.{in_slot_within, read_count, counted_set, co
 use Rattle.exec_driver.proofs.due.Due.push.Goals as goal
 
 pub overflow_add-index_mut : goal.overflow_add-index_mut
-overflow_add-index_mut c =
-    let w = c.args.self.now in
-    let read = read_count w.names.items w.counts.items c.args.id.0.index c.index_mut.result.now w.counted (omega (arith, c.len.ensures, c.if-slot-len.true)) c.index_mut.ensures.value in
-    omega (arith, read, in_slot_within c.args.id.0.index w.names.items, c.requires.room, w.names.ok)
+overflow_add-index_mut c = grind (arith, read_count, in_slot_within)
 
 pub invariant_of-self : goal.invariant_of-self
 invariant_of-self c =
@@ -17,6 +14,4 @@ invariant_of-self c =
     record { counted = rw c.push_back_reserved.ensures.items (counted_set w.names.items _ w.counts.items slot _ w.counted inside (ap (λ n. n + 1) read ∙ sym (pushed_here c.args.id w.names.items)) (pushed_elsewhere c.args.id w.names.items)) }
 
 pub invariant_of-self-else-slot-len : goal.invariant_of-self-else-slot-len
-invariant_of-self-else-slot-len c =
-    let w = c.args.self.now in
-    record { counted = rw c.push_back_reserved.ensures.items (counted_beyond w.names.items _ w.counts.items c.args.id.0.index w.counted (omega (arith, c.len.ensures, c.if-slot-len.false)) (pushed_elsewhere c.args.id w.names.items)) }
+invariant_of-self-else-slot-len c = grind (arith, counted_beyond, pushed_elsewhere)

@@ -8,10 +8,7 @@ pub returns-then-not-may_have-clause-names : goal.returns-then-not-may_have-clau
 returns-then-not-may_have-clause-names c = sym (unchanged c.args.id c.args.self.now.names.items (c.if-not-may_have.ensures refl))
 
 pub overflow_sub-before : goal.overflow_sub-before
-overflow_sub-before c =
-    let w = c.args.self.now in
-    let left : length c.take_out.new.list.items ≤ length w.names.items = rw c.take_out.ensures.items (length_without c.args.id w.names.items) in
-    omega (arith, left, c.len-before.ensures, c.len-then-slot-len.ensures, w.names.ok, c.take_out.new.list.ok)
+overflow_sub-before c = grind (arith, length_without)
 
 pub overflow_sub-index_mut : goal.overflow_sub-index_mut
 overflow_sub-index_mut c =
@@ -34,6 +31,4 @@ invariant_of-self c =
     record { counted = counted_set w.names.items c.take_out.new.list.items w.counts.items slot _ w.counted inside is (rw c.take_out.ensures.items (λ s other. in_other_slot s c.args.id w.names.items other)) }
 
 pub invariant_of-self-else-slot-len : goal.invariant_of-self-else-slot-len
-invariant_of-self-else-slot-len c =
-    let w = c.args.self.now in
-    record { counted = rw c.take_out.ensures.items (counted_beyond w.names.items _ w.counts.items c.args.id.0.index w.counted (omega (arith, c.len.ensures, c.if-slot-len.false)) (λ s other. in_other_slot s c.args.id w.names.items other)) }
+invariant_of-self-else-slot-len c = grind (arith, counted_beyond, in_other_slot)

@@ -1,12 +1,10 @@
-use Rattle.std.proofs.Common.{ap, refl}
+use Rattle.std.proofs.Common.{ap, refl, arith}
 use Rattle.exec_polling.proofs.CallAppends.{call_appended, call_fits, call_holds}
 use Rattle.exec_polling.proofs.Outsiders.{call_count_added, call_count_fits, call_count_returned, call_has_count, call_set_loaded}
 use Rattle.exec_polling.proofs.caller.Caller.push_global.Goals as goal
 
 pub append-requires : goal.append-requires
-append-requires g c =
-    let here = rw c.in-Append.is at c.requires.here in
-    record { hand = rw (call_holds c.args.self.now c.args.shared.now c.requires.sound here).1 refl; places = call_fits c.args.self.now c.args.shared.now c.requires.sound here c.requires.whole }
+append-requires g c = grind (arith, call_holds, call_fits)
 
 pub returns-in-Append : goal.returns-in-Append
 returns-in-Append g c =
@@ -25,9 +23,7 @@ returns-in-AddGlobalCount g c =
     record { steps = call_count_added g.B.Body.left g.B.Scripted.spot c.args.self.now c.add_global_count.new.self c.args.shared.now c.add_global_count.result c.requires.sound c.in-AddGlobalCount.set c.add_global_count.new.idle (rw c.in-AddGlobalCount.is at c.requires.here) c.add_global_count.ensures.event c.add_global_count.ensures.goes c.add_global_count.ensures.idle }
 
 pub return_global_count-requires : goal.return_global_count-requires
-return_global_count-requires g c =
-    let here = rw c.in-ReturnGlobalCount.is at c.requires.here in
-    record { holds = call_has_count c.args.self.now c.args.shared.now (rw here refl) c.requires.whole }
+return_global_count-requires g c = grind arith
 
 pub returns-in-ReturnGlobalCount : goal.returns-in-ReturnGlobalCount
 returns-in-ReturnGlobalCount g c =

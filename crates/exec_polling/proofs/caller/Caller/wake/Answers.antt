@@ -1,16 +1,11 @@
 use Rattle.std.proofs.{Common.{refl, sym, ◌∙◌, length}, lemmas.Option.slice_get_read}
+use Rattle.std.proofs.Common.{arith}
 use Rattle.exec_polling.proofs.{CallMail.{home_within, root_woken}, CallWakes.ordinary_woken}
 use Rattle.exec_invariants.proofs.{Posting.root_place, SparedRecord.there_within}
 use Rattle.exec_polling.proofs.caller.Caller.wake.Goals as goal
 
 pub wake_root-requires : goal.wake_root-requires
-wake_root-requires g c =
-    let tasks = c.args.shared.now.tasks.items in
-    let there = slice_get_read tasks (length tasks) c.args.task c.index.result.now refl c.requires.there c.index.ensures in
-    record {
-      there = home_within c.args.self.now c.args.task c.in-Some.home c.args.shared.now c.index.result.now c.requires.sound there (sym c.home.ensures ∙ c.in-Some.is);
-      place = λ chair seated. root_place chair.mailbox (c.requires.mail c.in-Some.home chair seated);
-    }
+wake_root-requires g c = grind (arith, slice_get_read, home_within, root_place)
 
 pub returns-in-Some : goal.returns-in-Some
 returns-in-Some g c =

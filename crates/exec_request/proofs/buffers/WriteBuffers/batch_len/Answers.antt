@@ -12,10 +12,7 @@ pub returns-clause-left : goal.returns-clause-left
 returns-clause-left c =
     let sound : WriteBuffers → Type 0 = λ v. is_sound v ≡ true in
     elim c.match-self.branch [
-      | in-Single w ↦
-          let one = w.in-Single in
-          let within : one.offset ≤ length one.buf = leb-true one.offset (length one.buf) (subst sound one.is c.requires) in
-          rw one.is (omega (arith, c.min.ensures, w.left-is, w.len.ensures))
+      | in-Single w ↦ grind arith
       | in-Vectored w ↦
           let all = w.in-Vectored in
           let bufs = all.bufs in

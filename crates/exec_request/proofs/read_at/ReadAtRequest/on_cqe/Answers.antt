@@ -6,8 +6,9 @@ use Rattle.exec_request.specs.Hints.{asks_hint}
 use Rattle.exec_request.specs.Ways.{is_direct, is_switched}
 use Rattle.exec_request.specs.Judging.{judged_as}
 use Rattle.exec_request.specs.Views.{read_asked, read_cursor, read_hinted}
-use Rattle.exec_request.proofs.Judging.{judges, hint_left, given_up}
+use Rattle.exec_request.proofs.Judging.{judges, hint_left}
 use Rattle.exec_request.proofs.read_at.ReadAtRequest.on_cqe.Goals as goal
+use Rattle.exec_request.proofs.Judging.{given_up}
 
 pub returns-clause-judges : goal.returns-clause-judges
 returns-clause-judges c =

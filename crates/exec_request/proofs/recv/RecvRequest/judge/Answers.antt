@@ -1,4 +1,4 @@
-use Rattle.std.proofs.Common.{◌≡◌, ℕ, ◌-◌, ◌≤◌, Bool, true, false, sym, ap, ◌∙◌, arith, if◌then◌else◌}
+use Rattle.std.proofs.Common.{◌≡◌, ℕ, ◌-◌, ◌≤◌, Bool, true, false, sym, arith, if◌then◌else◌}
 use Rattle.exec_outcomes.specs.declared.outcome.Kind.TheVariants.{Fill, Recv}
 use Rattle.exec_outcomes.specs.declared.outcome.OpResult.{OpResult}
 use Rattle.exec_outcomes.specs.Outcomes.{outcome_next}
@@ -14,8 +14,4 @@ by_left true c start offset len given begun = sym (outcome-left Fill (len - star
 by_left false c start offset len given begun = sym (outcome-left Recv (len - start) 0 (len - offset) (offset - start) false false (omega arith) (record { result = given; hinted = false; cancelled = c }))
 
 pub returns : goal.returns
-returns c =
-    let r = c.args.self.now in
-    c.judge.ensures
-    ∙ (ap (λ k. judged_alone k (r.len - r.offset) false c.args.cancelled c.args.given) c.kind.ensures
-    ∙ by_left r.exact c.args.cancelled r.start r.offset r.len c.args.given r.begun)
+returns c = grind (arith, by_left)

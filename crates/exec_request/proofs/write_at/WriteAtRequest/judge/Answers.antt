@@ -1,4 +1,4 @@
-use Rattle.std.proofs.Common.{◌≡◌, ℕ, Bool, true, false, ◌-◌, ap, sym, ◌∙◌, arith, Option, if◌then◌else◌}
+use Rattle.std.proofs.Common.{◌≡◌, ℕ, Bool, false, ◌-◌, sym, ◌∙◌, arith, Option, if◌then◌else◌}
 use Rattle.exec_outcomes.specs.declared.outcome.Outcome.{Outcome}
 use Rattle.exec_outcomes.specs.declared.outcome.Kind.TheVariants.{Sync}
 use Rattle.exec_request.specs.Buffers.{length_of, moved_of}
@@ -9,14 +9,7 @@ use Rattle.exec_request.proofs.Left.{of_write}
 use Rattle.exec_request.proofs.write_at.WriteAtRequest.judge.Goals as goal
 
 pub returns-then-is_syncing : goal.returns-then-is_syncing
-returns-then-is_syncing c =
-    let s = c.args.self.now in
-    let n : ℕ = length_of s.write in
-    let m : ℕ = moved_of s.write in
-    let h : Bool = asks_hint s.cache in
-    let by : Bool → Option Outcome = λ b. if b then judged_alone Sync 1 false c.args.cancelled c.args.given else judged_alone (write_kind s.state) (n - m) h c.args.cancelled c.args.given in
-    let syncing : is_syncing s.state ≡ true = sym c.is_syncing.ensures ∙ c.if-is_syncing.true in
-    c.judge.ensures ∙ sym (of_write s.state n m h c.args.cancelled c.args.given ∙ ap by syncing)
+returns-then-is_syncing c = grind arith
 
 pub returns : goal.returns
 returns c =
@@ -27,8 +20,4 @@ returns c =
     let by : Bool → Option Outcome = λ b. if b then judged_alone Sync 1 false c.args.cancelled c.args.given else judged_alone (write_kind s.state) (n - m) h c.args.cancelled c.args.given in
     let syncing : is_syncing s.state ≡ false = sym c.is_syncing.ensures ∙ c.if-is_syncing.false in
     let left : c.remaining_len-left.result ≡ n - m = omega (arith, c.remaining_len-left.ensures) in
-    c.judge-2.ensures
-    ∙ (ap (λ k. judged_alone k c.remaining_len-left.result c.is_disabled.result c.args.cancelled c.args.given) c.kind.ensures
-    ∙ (ap (λ k. judged_alone (write_kind s.state) k c.is_disabled.result c.args.cancelled c.args.given) left
-    ∙ (ap (λ b. judged_alone (write_kind s.state) (n - m) b c.args.cancelled c.args.given) c.is_disabled.ensures
-    ∙ sym (of_write s.state n m h c.args.cancelled c.args.given ∙ ap by syncing))))
+    grind (arith, of_write)

@@ -7,8 +7,9 @@ use Rattle.exec_request.specs.Buffers.{moved_of}
 use Rattle.exec_request.specs.Syncing.{is_syncing}
 use Rattle.exec_request.specs.Judging.{judged_as}
 use Rattle.exec_request.specs.Views.{write_asked, write_cursor, write_hinted}
-use Rattle.exec_request.proofs.Judging.{judges, hint_left, given_up}
+use Rattle.exec_request.proofs.Judging.{judges, hint_left}
 use Rattle.exec_request.proofs.write_at.WriteAtRequest.on_cqe.Goals as goal
+use Rattle.exec_request.proofs.Judging.{given_up}
 
 pub returns-clause-judges : goal.returns-clause-judges
 returns-clause-judges c =

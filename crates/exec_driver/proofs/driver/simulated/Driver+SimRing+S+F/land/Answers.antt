@@ -1,6 +1,6 @@
-use Rattle.std.proofs.Common.{◌≡◌, true, sym, ◌∙◌}
+use Rattle.std.proofs.Common.{◌≡◌, true, sym, ◌∙◌, arith}
 use Rattle.exec_waiters.specs.States.{is_flying, waiter_at}
-use Rattle.exec_driver.proofs.Landing.{held_land, lands_one, landed_punctual}
+use Rattle.exec_driver.proofs.Landing.{held_land, landed_punctual}
 use Rattle.exec_driver.proofs.driver.simulated.«Driver+SimRing+S+F».land.Goals as goal
 
 pub invariant_of-self : goal.invariant_of-self
@@ -14,13 +14,7 @@ invariant_of-self g c =
     })
 
 pub returns-clause-lands : goal.returns-clause-lands
-returns-clause-lands g c =
-    rw (← c.self.view_is) (lands_one _ c.land.new.self c.land.new.ring c.args.id c.args.given c.land.result c.args.store.now c.land.new.store (record {
-      answer_is = c.land.ensures.answer;
-      ring_is = c.land.ensures.ring;
-      moved = c.land.ensures.moved;
-      same = c.land.ensures.same;
-    }))
+returns-clause-lands g c = grind arith
 
 pub returns-clause-punctual : goal.returns-clause-punctual
 returns-clause-punctual g c =
