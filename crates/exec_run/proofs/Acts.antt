@@ -5,16 +5,11 @@ use Rattle.std.proofs.lemmas.Option.{none-some}
 use Rattle.exec_request.specs.declared.request.Request.{Request}
 use Rattle.exec_task.specs.{Sight.{Sight, WouldGrow}, declared.body.{Act.{Act, TheVariants.Register}, Said.Said}}
 use Rattle.exec_task.specs.declared.body.Act.TheVariants as act
-use Rattle.exec_machine.specs.{declared.{config.{Configuration.Configuration, ScriptWord.ScriptWord}, state.Code.Code}, Progress.Plan, Tests.is_empty}
+use Rattle.exec_machine.specs.{declared.{config.{ScriptWord.ScriptWord}, state.Code.Code}, Progress.Plan, Tests.is_empty}
 use Rattle.exec_machine.specs.declared.config.ScriptWord.TheVariants as word
-use Rattle.exec_parts.specs.Scripts.{Asks, IsBorn}
-use Rattle.exec_run.specs.{Asking.{asks_request, moves_bytes, CanAsk, IsInTime, IsRequestOf}, declared.{asking.Limits.Limits, script.Asked.Asked as Question}, Script.{Played, Begets, CanPlay, CoversBy, IsProgram, Runs, newest, held_by, held_told, itself, place_by, spot_told, is_passed, passed_over, script_begun, word_in, gives, asked_by, AsksFor, IsPlainActOf}, ScriptPlays.born}
+use Rattle.exec_parts.specs.Scripts.{IsBorn}
+use Rattle.exec_run.specs.{Asking.{asks_request, moves_bytes, CanAsk, IsInTime, IsRequestOf}, declared.{asking.Limits.Limits, script.Asked.Asked as Question}, Script.{Played, Begets, CanPlay, IsProgram, Runs, newest, held_by, held_told, itself, place_by, spot_told, is_passed, passed_over, script_begun, word_in, gives, asked_by, AsksFor, IsPlainActOf}}
 use Rattle.exec_run.proofs.{Wanted.{any_request, some_request}, Words.{found, there_of}}
-
--- the act of a word that asks for no request
-dropped : (it : Sight) (held : List ℕ) (n : Option ℕ) (a : Act Played) (limits : Limits) (scripts : List (List ScriptWord)) → newest held ≡ n → (n ≡ None → ⊥) → IsPlainActOf scripts limits word.Drop n a → AsksFor it limits held word.Drop a
-dropped it held (Some r) a limits scripts e some is = subst (AsksFor it limits held word.Drop) (sym is) (record { covers = tt; asks = λ c rw_is connect_is. (refl, e) })
-dropped it held None a limits scripts e some is = absurd (some refl)
 
 -- what is known of a word that was found, and of the act that was made of it
 pub record IsPlainly (scripts : List (List ScriptWord)) (limits : Limits) (held : List ℕ) (w : ScriptWord) (a : Act Played) : Type 0 where
@@ -23,20 +18,8 @@ pub record IsPlainly (scripts : List (List ScriptWord)) (limits : Limits) (held 
   pub none : asks_request w ≡ false
   pub is : CanPlay (length scripts) w → IsPlainActOf scripts limits w (newest held) a
 
-act_is : (it : Sight) (limits : Limits) (held : List ℕ) (w : ScriptWord) (a b : Act Played) → a ≡ b → CoversBy it b → ((c : Configuration) → Asks c it.moment held w b) → AsksFor it limits held w a
-act_is it limits held w a b is covers asks = subst (AsksFor it limits held w) (sym is) (record { covers = covers; asks = λ c rw_is connect_is. asks c })
-
 act_asked : (scripts : List (List ScriptWord)) (it : Sight) (limits : Limits) (held : List ℕ) (w : ScriptWord) (a : Act Played) → CanPlay (length scripts) w → IsPlainly scripts limits held w a → AsksFor it limits held w a
-act_asked scripts it limits held word.Await a can so = act_is it limits held word.Await a (act.Await (newest held)) (so.is tt) tt (λ c. (refl, refl))
-act_asked scripts it limits held word.Drop a can so = dropped it held (newest held) a limits scripts refl (so.drops refl) (so.is tt)
-act_asked scripts it limits held (word.Sleep time) a can so = act_is it limits held (word.Sleep time) a (act.Sleep time) (so.is tt) tt (λ c. refl)
-act_asked scripts it limits held (word.Spawn k) a can so = act_is it limits held (word.Spawn k) a (act.Spawn (script_begun scripts limits k)) (so.is can can) tt (λ c. (k, refl))
-act_asked scripts it limits held (word.Dedicated k) a can so = act_is it limits held (word.Dedicated k) a (act.Dedicated (script_begun scripts limits k)) (so.is can can) tt (λ c. (k, refl))
-act_asked scripts it limits held (word.Wake t) a can so = act_is it limits held (word.Wake t) a (act.Wake (record { 0 = t })) (so.is tt (so.wakes t refl)) tt (λ c. refl)
-act_asked scripts it limits held word.Yield a can so = act_is it limits held word.Yield a act.Yield (so.is tt) tt (λ c. refl)
-act_asked scripts it limits held word.End a can so = act_is it limits held word.End a (act.Done 0) (so.is tt) tt (λ c. refl)
-act_asked scripts it limits held (word.Fault code) a can so = act_is it limits held (word.Fault code) a (act.Fault code) (so.is tt) tt (λ c. refl)
-act_asked scripts it limits held w a can so = absurd (true≢false so.none)
+act_asked = grind arith
 
 -- THE NEXT WORD
 
@@ -78,9 +61,7 @@ steps s s' told (Some seen) at next holds w a it asks begets past is = (
 
 -- its bounds as a word that asks
 can_ask : (many : ℕ) (w : ScriptWord) → CanPlay many w → CanAsk w
-can_ask many (word.Spawn k) can = tt
-can_ask many (word.Dedicated k) can = tt
-can_ask many w can = can
+can_ask = grind arith
 
 registers : (it : Sight) (limits : Limits) (held : List ℕ) (w : ScriptWord) (r : Request) → IsRequestOf it limits w r → AsksFor it limits held w (Register r)
 registers it limits held w r is = record {
@@ -139,30 +120,8 @@ made_asks s told sees at holds w None a next made it is few can in_time =
       is = λ may. made.plain may plainly;
     })
 
--- the body of an act, if it makes one
-abbrev body_or : Played → Act Played → Played
-body_or other (act.Spawn b) = b
-body_or other (act.Dedicated b) = b
-body_or other a = other
-
 made_begets : (s : Played) (sees : Option Sight) (w : ScriptWord) (n : Option ℕ) (request : Option Request) (a : Act Played) → IsMade s.scripts sees s.limits w n request a → CanPlay (length s.scripts) w → Begets s w a
-made_begets s sees w n (Some r) a made can = subst (λ (x : Act Played). Begets s w x) (sym made.is) tt
-made_begets s sees w n None a made can = by_act a made
-  where
-    plain_of : (x : Act Played) (v : ScriptWord) → IsMade s.scripts sees s.limits w n None x → w ≡ v → CanPlay (length s.scripts) v → asks_request v ≡ false → IsPlainActOf s.scripts s.limits v n x
-    plain_of x v it is = subst (λ v. CanPlay (length s.scripts) v → asks_request v ≡ false → IsPlainActOf s.scripts s.limits v n x) is it.plain
-
-    by_act : (x : Act Played) → IsMade s.scripts sees s.limits w n None x → Begets s w x
-    by_act (act.Spawn b) it = λ k is. let within : k < length s.scripts = subst (CanPlay (length s.scripts)) is can in ap (body_or b) (plain_of (act.Spawn b) (word.Spawn k) it is within refl within)
-    by_act (act.Dedicated b) it = λ k is. let within : k < length s.scripts = subst (CanPlay (length s.scripts)) is can in ap (body_or b) (plain_of (act.Dedicated b) (word.Dedicated k) it is within refl within)
-    by_act (act.Register r) it = tt
-    by_act (act.Await r) it = tt
-    by_act (act.Drop r) it = tt
-    by_act (act.Sleep time) it = tt
-    by_act act.Yield it = tt
-    by_act (act.Done m) it = tt
-    by_act (act.Fault m) it = tt
-    by_act (act.Wake t) it = tt
+made_begets = grind arith
 
 -- the same, of what was computed
 pub made_here : (s : Played) (scripts : List (List ScriptWord)) (sees : Option Sight) (limits : Limits) (w : ScriptWord) (n m : Option ℕ) (request : Option Request) (a : Act Played) → scripts ≡ s.scripts → limits ≡ s.limits → n ≡ m → IsMade scripts sees limits w n request a → IsMade s.scripts sees s.limits w m request a
@@ -189,6 +148,4 @@ state_is s told a code words scripts limits place before held asked same_code sa
 -- a body that was made begins its script in each plan of which the scripts are known
 pub born_of : (x : Option Played) (scripts : List (List ScriptWord)) (limits : Limits) (k : ℕ) → IfSome x (λ b. b ≡ script_begun scripts limits k) → IfSome x (λ b. k < length scripts)
     → IfSome x (λ b. (p : Plan) → IsProgram scripts limits p → IsBorn Runs held_told spot_told p k (itself b))
-born_of (Some b) scripts limits k is within =
-    λ p knows. subst (λ (y : Played). IsBorn Runs held_told spot_told p k y) (sym is) (born p (script_begun scripts limits k) k knows (subst (λ (xs : List (List ScriptWord)). k < length xs) knows.scripts_are within))
-born_of None scripts limits k is within = tt
+born_of = grind arith

@@ -1,11 +1,10 @@
 -- No caller turns for ever: each quiet line of one costs credit.
-use Rattle.std.proofs.Common.{◌≡◌, ◌⊎◌, ℕ, ◌+◌, ◌<◌, ◌≤◌, Bool, true, false, not, List, [], ◌∷◌, length, get_or, set, if◌then◌else◌, refl, sym, ap, subst, ◌∙◌, inl, inr, arith}
+use Rattle.std.proofs.Common.{◌≡◌, ◌⊎◌, ℕ, ◌+◌, ◌<◌, ◌≤◌, Bool, true, false, not, List, [], ◌∷◌, if◌then◌else◌, refl, sym, subst, inl, inr, arith}
 use Rattle.std.specs.Prelude.{nat_lt}
 use Rattle.std.proofs.lemmas.{Bool.{and_from, and_parts, cases_Bool, cases_lt, eqb-true, false≢true, lt-ltb}, List.{get_or-set_same, get_or_past, set_past}}
-use Rattle.exec_machine.specs.{declared.{config.Configuration.Configuration, event.{Event.Event, StepResult.{TheVariants.{Did}}}, step.Action.Action}, Callers.is_enabled, Examples.{Told, choices_of, lines_of}, Progress.{Party, Party.{Caller, Nobody, Worker}, Plan, Stretch, is_anyone_closing, is_quiet_step, no_stretch, one_more, quiet_bound, same_party}, Text.is_quiet, World.World}
+use Rattle.exec_machine.specs.{declared.{config.Configuration.Configuration, event.{Event.Event, StepResult.{TheVariants.{Did}}}, step.Action.Action}, Examples.{Told, choices_of, lines_of}, Progress.{Party, Party.{Caller}, Plan, Stretch, is_anyone_closing, is_quiet_step, no_stretch, one_more, quiet_bound, same_party}, Text.is_quiet, World.World}
 use Rattle.exec_machine.specs.declared.step.Action.TheVariants as action
-use Rattle.exec_moves.specs.declared.handing.CallPlace.TheVariants as call
-use Rattle.exec_moves.specs.{Call.{CallDesk, Called, no_call}, MoveOfCaller.move_of_caller, Plays.{Playing, by_action, by_call, by_step, caller_of}, State.Things}
+use Rattle.exec_moves.specs.{Call.{Called}, MoveOfCaller.move_of_caller, Plays.{Playing, by_action, by_call, by_step, caller_of}, State.Things}
 use Rattle.exec_credit.specs.CallCredit.{call_credit}
 use Rattle.exec_credit.proofs.CallFalls.{at_most, falls, spawns, wakes}
 use Rattle.exec_run.specs.Steps.{Goes}
@@ -23,10 +22,6 @@ few : (x : Playing) (s : Stretch) → Spent x s → s.count ≤ 6
 few x s (inl none) = omega (arith, none)
 few x s (inr (j, who, left)) = omega (arith, left)
 
-abbrev caller_in : Party → ℕ
-caller_in (Caller j) = j
-caller_in _ = 0
-
 -- A quiet line of a caller makes its own longer, or begins one.
 one_more_spent : (x y : Playing) (s : Stretch) (j : ℕ) → Spent x s → left_to y j < left_to x j → Spent y (one_more (Caller j) s)
 one_more_spent x y s j spent falls = by s.party refl (same_party (Caller j) s.party) refl
@@ -35,19 +30,10 @@ one_more_spent x y s j spent falls = by s.party refl (same_party (Caller j) s.pa
     most = at_most (caller_of x j).place x.things.idle
 
     goes_on : (i : ℕ) → s.party ≡ Caller i → j ≡ i → Spent x s → s.count + 1 + left_to y j ≤ 6
-    goes_on i is own (inl none) = omega (arith, none, most, falls)
-    goes_on i is own (inr (k, who, left)) =
-        let same : k ≡ j = ap caller_in (sym who ∙ is) ∙ sym own in
-        let left_here = subst (λ n. s.count + left_to x n ≤ 6) same left in
-        omega (arith, left_here, falls)
+    goes_on = grind arith
 
     by : (who : Party) → s.party ≡ who → (b : Bool) → same_party (Caller j) s.party ≡ b → Spent y (if b then record s { count = s.count + 1 } else record { party = Caller j; count = 1 })
-    by who is false other = inr (j, refl, omega (arith, most, falls))
-    by (Caller i) is true same =
-        let own : j ≡ i = eqb-true j i (sym (ap (same_party (Caller j)) is) ∙ same) in
-        inr (j, is ∙ ap Caller (sym own), goes_on i is own spent)
-    by Nobody is true same = absurd (false≢true (sym (ap (same_party (Caller j)) is) ∙ same))
-    by (Worker i) is true same = absurd (false≢true (sym (ap (same_party (Caller j)) is) ∙ same))
+    by = grind (arith, falls, eqb-true, goes_on, false≢true)
 
 -- A LINE of a caller, by its move
 
@@ -58,14 +44,7 @@ module _ (c : Configuration) (x : Playing) (s : Stretch) (spent : Spent x s) whe
 
   -- what caller j has left is what its move leaves, or nothing, where there is no such caller
   left_by : (a : Action) (j : ℕ) (m : Called Things) → call_credit m.desk.place m.thing.idle < left_to x j → left_to (by_call c x a j m).next j < left_to x j
-  left_by a j m less = elim (cases_lt j (length x.callers)) [
-    | inl within ↦ subst (λ (d : CallDesk). call_credit d.place m.thing.idle < left_to x j) (sym (get_or-set_same x.callers j m.desk no_call within)) less
-    | inr past ↦
-        let gone : set x.callers j m.desk ≡ x.callers = set_past x.callers j m.desk past in
-        let none : (caller_of (by_call c x a j m).next j).place ≡ call.Nothing = ap (λ (d : CallDesk). d.place) (ap (λ ds. get_or ds j no_call) gone ∙ get_or_past x.callers j no_call past) in
-        let nothing : left_to (by_call c x a j m).next j ≡ 0 = ap (λ p. call_credit p m.thing.idle) none in
-        omega (arith, less, nothing)
-  ]
+  left_by = grind (arith, cases_lt, get_or-set_same, set_past, get_or_past)
 
   goes_on : (j : ℕ) → let m = move_of_caller c x.world.common (caller_of x j) x.things (action.GoOn j) in
       Spent (by_call c x (action.GoOn j) j m).next (if is_quiet_step x.world (Did m.event) then one_more (Caller j) s else no_stretch)
@@ -81,16 +60,10 @@ module _ (c : Configuration) (x : Playing) (s : Stretch) (spent : Spent x s) whe
       by false loud = inl refl
 
   acted : (a : Action) → Spent (by_action c x a).next (longer_of is_caller x.world a (by_action c x a).told.0.said s)
-  acted (action.Spawn j k) = told j (by_action c x (action.Spawn j k)).next _ (spawns c x.world.common (caller_of x j) x.things j k)
-  acted (action.Wake j t) = told j (by_action c x (action.Wake j t)).next _ (wakes c x.world.common (caller_of x j) x.things j t)
-  acted (action.GoOn j) = goes_on j
-  acted _ = inl refl
+  acted = grind (arith, told, spawns, wakes, goes_on)
 
   stepped_on : (a : Action) → Spent (by_step c x a).next (longer_of is_caller x.world a (by_step c x a).told.0.said s)
-  stepped_on a = elim (cases_Bool (is_enabled x.world.common a)) [
-    | inl on ↦ rw on (acted a)
-    | inr off ↦ rw off spent
-  ]
+  stepped_on = grind (arith, cases_Bool, acted)
 
 pub call_by : (p : Plan) (x : Playing) (s : Stretch) (told : List Told) → Spent x s → Goes p x told → ends is_caller p.config x.world s (lines_of told) (choices_of told) ≡ true
 call_by p x s [] spent goes = refl

@@ -1,5 +1,5 @@
 -- The body that a step carries: that of the task which a caller spawns.
-use Rattle.std.proofs.Common.{◌≡◌, ℕ, ◌<◌, ◌≤◌, List, length, Option, Some, None, IfSome, IfNone, refl, sym, subst, arith}
+use Rattle.std.proofs.Common.{◌≡◌, ℕ, ◌≤◌, List, length, Option, Some, None, IfSome, IfNone, refl, sym, subst, arith}
 use Rattle.exec_task.specs.declared.body.Said.{Said}
 use Rattle.exec_machine.specs.{declared.step.{Step.TheVariants.One, Action.Action}, Progress.Plan}
 use Rattle.exec_machine.specs.declared.step.Action.TheVariants as action
@@ -16,20 +16,8 @@ module _ {B L : Type 0} (left : B → L) (runs : L → Plan → Option ℕ → T
     where
       by_body : (o : Option B) → IfSome o (λ b. (q : Plan) → known q → IsBorn runs holds spot q k (left b)) → IfNone o ((q : Plan) → known q → length q.scripts ≤ k) → Carries left runs holds spot name p (action.Spawn j k) o
       by_body (Some b) is_born absent = let it = is_born p knows in (b, refl, named p (left b) k (it.runs_it None tt) it.begins, it)
-      by_body None is_born absent =
-          let within : k < length p.scripts = subst (λ (x : Action). StepNames (length p.scripts) (One x)) is names in
-          let past : length p.scripts ≤ k = absent p knows in
-          absurd (omega (arith, within, past))
+      by_body None is_born absent = grind arith
 
   -- any other step carries none
   pub carries_none : (name : L → ℕ) (p : Plan) (a : Action) → ((j k : ℕ) → a ≡ action.Spawn j k → ⊥) → Carries left runs holds spot name p a None
-  carries_none name p (action.Spawn j k) other = absurd (other j k refl)
-  carries_none name p (action.Wake j t) other = tt
-  carries_none name p (action.GoOn j) other = tt
-  carries_none name p (action.Work i) other = tt
-  carries_none name p (action.Clock d) other = tt
-  carries_none name p (action.Land r n) other = tt
-  carries_none name p (action.SetBusy i) other = tt
-  carries_none name p (action.EndPoll i) other = tt
-  carries_none name p (action.Stir i) other = tt
-  carries_none name p (action.Peer l) other = tt
+  carries_none = grind arith

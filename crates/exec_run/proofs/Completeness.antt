@@ -1,5 +1,5 @@
 -- Where a trace may be run, what a status says leaves no answer but its log, or no memory.
-use Rattle.std.proofs.Common.{◌≡◌, ℕ, ◌⊎◌, inl, inr, Bool, true, false, List, length, Option, Some, None, IsSome, refl, sym, ap, subst, ◌∙◌, arith, String, sum_by}
+use Rattle.std.proofs.Common.{◌≡◌, ℕ, ◌⊎◌, inl, inr, Bool, List, length, Option, Some, None, IsSome, sym, ap, subst, ◌∙◌, arith, String, sum_by}
 use Rattle.std.specs.declared.alloc.Global.{Global}
 use Rattle.std.proofs.lemmas.Bool.{true≢false}
 use Rattle.std.proofs.lemmas.Option.{none-some}
@@ -10,12 +10,7 @@ use Rattle.exec_text.proofs.{Faults.no_fault, Meanings.meaning_is_one}
 
 -- the words ask for one of the two alone
 one_quiet : (quiet other : Bool) (words : List (String Global)) → AskForTrace quiet words → AskForTrace other words → other ≡ quiet
-one_quiet true true words one two = refl
-one_quiet false false words one two = refl
-one_quiet true false words one two =
-    let lengths : 2 ≡ 1 = ap (λ (x : List (List ℕ)). length x) (sym one ∙ two) in absurd (omega (arith, lengths))
-one_quiet false true words one two =
-    let lengths : 1 ≡ 2 = ap (λ (x : List (List ℕ)). length x) (sym one ∙ two) in absurd (omega (arith, lengths))
+one_quiet = grind arith
 
 -- what is known of a source is one text
 one_text : (source : Option (List ℕ)) (text other : List ℕ) → IsSome source → IsTextIn source text → IsTextIn source other → other ≡ text

@@ -1,8 +1,7 @@
 -- A log has no more lines than its steps ask for.
-use Rattle.std.proofs.Common.{◌≡◌, ◌⊎◌, ℕ, zero, suc, ◌+◌, ◌^◌, ◌≤◌, Bool, true, false, List, [], ◌∷◌, ◌++◌, length, sum_by, Option, Some, None, option_and_then, if◌then◌else◌, refl, sym, ap, subst, ◌∙◌, inl, inr, arith}
+use Rattle.std.proofs.Common.{◌≡◌, ◌⊎◌, ℕ, zero, suc, ◌+◌, ◌≤◌, List, [], ◌∷◌, length, sum_by, Option, Some, None, option_and_then, refl, sym, ap, subst, ◌∙◌, inl, inr, arith}
 use Rattle.std.proofs.lemmas.{List.Sums.{sum_by-append, sum_by-cons}, Option.none-some}
-use Rattle.exec_machine.specs.{declared.{event.Line.Line, step.{Action.Action, Step.Step}}, Examples.{Told, lines_of}, Run.{after_one, after_step, after_steps, after_work, is_refused, same_action}}
-use Rattle.exec_machine.specs.declared.step.Action.TheVariants as action
+use Rattle.exec_machine.specs.{declared.{event.Line.Line, step.{Action.Action, Step.Step}}, Examples.{Told, lines_of}, Run.{after_one, after_step, after_steps, after_work}}
 use Rattle.exec_machine.specs.declared.step.Step.TheVariants as step
 use Rattle.exec_text.specs.Grammar.{count_of}
 use Rattle.exec_run.specs.Log.{AreTaken, IsBegun}
@@ -15,20 +14,10 @@ many (Some ls) = length ls
 after_so_many : (i n : ℕ) (ls later : List Line) → after_work i n ls ≡ Some later → length ls ≤ n + length later
 after_so_many i zero ls later is = omega (arith, ap many is)
 after_so_many i (suc n) [] later is = omega arith
-after_so_many i (suc n) (l ∷ ls) later is = omega (arith, by (after_so_many i n ls later) (same_action (action.Work i) l.action) (is_refused l.said) is)
-  where
-    by : (after_work i n ls ≡ Some later → length ls ≤ n + length later) → (same refused : Bool) → (if same then (if refused then Some ls else after_work i n ls) else None) ≡ Some later → length ls ≤ n + length later
-    by more true true h = omega (arith, ap many h)
-    by more true false h = more h
-    by more false refused h = absurd (none-some later h)
+after_so_many i (suc n) (l ∷ ls) later is = grind (arith, none-some, after_so_many i n ls later)
 
 one_line : (a : Action) (ls later : List Line) → after_one a ls ≡ Some later → length ls ≤ 1 + length later
-one_line a [] later is = omega arith
-one_line a (l ∷ ls) later is = omega (arith, by (same_action a l.action) is)
-  where
-    by : (same : Bool) → (if same then Some ls else None) ≡ Some later → length ls ≤ length later
-    by true h = omega (arith, ap many h)
-    by false h = absurd (none-some later h)
+one_line = grind arith
 
 lines_of_step : (y : Step) (ls later : List Line) → after_step y ls ≡ Some later → length ls ≤ count_of y + length later
 lines_of_step (step.Work i n) ls later is = after_so_many i n ls later is

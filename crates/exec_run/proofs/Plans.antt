@@ -1,5 +1,5 @@
 -- The plan of a trace, which its bodies play.
-use Rattle.std.proofs.Common.{◌≡◌, ℕ, zero, suc, ◌+◌, ◌-◌, ◌^◌, ◌<◌, ◌≤◌, List, [], ◌∷◌, ◌++◌, length, get_or, replicate, slice_get, Some, None, refl, sym, ap, subst, ◌∙◌, arith}
+use Rattle.std.proofs.Common.{◌≡◌, ℕ, zero, suc, ◌+◌, ◌-◌, ◌^◌, ◌<◌, ◌≤◌, List, [], ◌∷◌, ◌++◌, length, replicate, slice_get, Some, None, sym, ap, subst, ◌∙◌, arith}
 use Rattle.std.specs.Prelude.{Vec}
 use Rattle.std.specs.declared.alloc.Global.{Global}
 use Rattle.std.proofs.lemmas.{Grind.replicate_next, List.{length-map, length-replicate}, Option.none-some}
@@ -12,38 +12,14 @@ use Rattle.exec_run.proofs.{InRange.in_range, Playable.{can_play, program_of}}
 -- ROOTS
 
 root_begins : (m : Meaning) → MeaningFits m → first_out_of_range m.plan.config ≡ None → IsProgram m.plan.scripts (limits_of m.plan.config) m.plan → IsRootOf itself Runs held_told spot_told m.plan 0 (begun Root m.plan.root m.plan.scripts (limits_of m.plan.config))
-root_begins m fits in_range_of program =
-    let within = in_range m.plan.config in_range_of in
-    record {
-      runs_it = record {
-        code = refl;
-        numbered = tt;
-        words = refl;
-        program = program;
-        playable = λ i d l. can_play m.plan.config (length m.plan.scripts) (get_or m.plan.root i d) (record { sockets = within.sockets; files = within.files }) (fits.formed.root.fit i d l) (fits.named.root i d l);
-      };
-      begins = refl;
-      holds_nothing = refl;
-    }
+root_begins = grind (arith, in_range, can_play)
 
 wait_begins : (m : Meaning) (i : ℕ) → suc i < m.plan.config.workers → IsProgram m.plan.scripts (limits_of m.plan.config) m.plan → IsRootOf itself Runs held_told spot_told m.plan (suc i) (begun Waits [] m.plan.scripts (limits_of m.plan.config))
-wait_begins m i within program = record {
-  runs_it = record {
-    code = (λ l. refl, λ far. absurd (omega arith));
-    numbered = tt;
-    words = refl;
-    program = program;
-    playable = λ k d l. absurd (let none : k < 0 = l in omega arith);
-  };
-  begins = refl;
-  holds_nothing = refl;
-}
+wait_begins = grind arith
 
 -- one more that waits
 pub more_waiting : (first wait : Played) (n : ℕ) (before after : List Played) → 1 ≤ n → after ≡ before ++ wait ∷ [] → before ≡ first ∷ replicate (n - 1) wait → after ≡ first ∷ replicate (n + 1 - 1) wait
-more_waiting first wait n before after some more so_far =
-    let next : n - 1 + 1 ≡ n + 1 - 1 = omega arith in
-    more ∙ ap (λ xs. xs ++ wait ∷ []) so_far ∙ ap (λ xs. first ∷ xs) (sym (replicate_next {X = Played} (n - 1) wait) ∙ ap (λ k. replicate k wait) next)
+more_waiting = grind (arith, replicate_next)
 
 within_many : (n i : ℕ) (x y : Played) → slice_get (replicate n x) i ≡ Some y → i < n
 within_many zero i x y there = absurd (none-some _ there)

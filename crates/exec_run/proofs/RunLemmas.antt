@@ -1,5 +1,5 @@
 -- From what the functions below a run say to what the run says.
-use Rattle.std.proofs.Common.{◌≡◌, ℕ, sum_by, ◌≤◌, ◌<◌, inl, inr, Bool, true, List, [], ◌∷◌, map, length, get_or, Option, Result, Ok, Err, IfErr, refl, sym, ap, subst, ◌∙◌, arith, String, string_bytes}
+use Rattle.std.proofs.Common.{◌≡◌, ℕ, sum_by, ◌≤◌, ◌<◌, inr, Bool, true, List, [], ◌∷◌, map, length, get_or, Option, Result, Ok, Err, IfErr, sym, subst, ◌∙◌, arith, String, string_bytes}
 use Rattle.std.specs.Str.{bytes_eq}
 use Rattle.std.specs.declared.alloc.Global.{Global}
 use Rattle.std.proofs.lemmas.Slice.Eq.{bytes_eq-Decides}
@@ -10,26 +10,20 @@ use Rattle.exec_parts.specs.Spots.{Spot}
 use Rattle.exec_core.specs.declared.executor.Core.{Core}
 use Rattle.exec_base.specs.declared.limits.TheConstants.{MOST_STEPS}
 use Rattle.exec_text.specs.Grammar.{Meaning, count_of}
-use Rattle.exec_run.specs.{declared.{trace_error.TraceError.{TraceError, TheVariants.{ReadFault, TooLong, Syntax, Config, WriteFault, NoMemory}}, complaint.Complaint.Complaint}, Refusal.{IsTextIn, HasCause}, Reading.{CannotRead, CannotRun}, Explains.{IsCauseOf, Explains, complaint_line}, Log.{Gave, GaveFront, AreTaken, GaveFrontOfLog, IsTheLogOf, told_text}, Steps.{GaveUpTo, Leads, Breaks, Complains}}
-use Rattle.exec_base.specs.Io.{Rose}
+use Rattle.exec_run.specs.{declared.{trace_error.TraceError.{TraceError}, complaint.Complaint.Complaint}, Refusal.{IsTextIn, HasCause}, Reading.{CannotRun}, Explains.{IsCauseOf, Explains}, Log.{Gave, GaveFront, AreTaken, GaveFrontOfLog, IsTheLogOf, told_text}, Steps.{GaveUpTo, Leads, Breaks, Complains}}
 use Rattle.exec_run.proofs.{StepLemmas.{lines_done, all_taken, broke_between}, Logs.{BeginsWell, is_the_log}, FewLines.few_taken}
 
 -- a slice of one word that is this text
 pub one_word : (words : List (String Global)) (word : String Global) (text : List ℕ) → 1 ≤ length words → length words < 2 → word ≡ get_or words 0 word → bytes_eq (string_bytes word) text ≡ true → map string_bytes words ≡ text ∷ []
 one_word [] word text some few is eq = absurd (omega arith)
-one_word (w ∷ []) word text some few is eq =
-    let is_text : string_bytes word ≡ text = (bytes_eq-Decides (string_bytes word) text).0 eq in
-    ap (λ (x : List ℕ). x ∷ []) (ap string_bytes (sym is) ∙ is_text)
+one_word (w ∷ []) word text some few is eq = grind (arith, bytes_eq-Decides)
 one_word (w ∷ v ∷ words) word text some few is eq = absurd (omega arith)
 
 -- a slice of two words that are these texts
 pub two_words : (words : List (String Global)) (one two : String Global) (text more : List ℕ) → 2 ≤ length words → length words < 3 → one ≡ get_or words 0 one → two ≡ get_or words 1 two → bytes_eq (string_bytes one) text ≡ true → bytes_eq (string_bytes two) more ≡ true → map string_bytes words ≡ text ∷ more ∷ []
 two_words [] one two text more some few is_one is_two eq_one eq_two = absurd (omega arith)
 two_words (w ∷ []) one two text more some few is_one is_two eq_one eq_two = absurd (omega arith)
-two_words (w ∷ v ∷ []) one two text more some few is_one is_two eq_one eq_two =
-    let first : string_bytes w ≡ text = ap string_bytes (sym is_one) ∙ (bytes_eq-Decides (string_bytes one) text).0 eq_one in
-    let second : string_bytes v ≡ more = ap string_bytes (sym is_two) ∙ (bytes_eq-Decides (string_bytes two) more).0 eq_two in
-    cc
+two_words (w ∷ v ∷ []) one two text more some few is_one is_two eq_one eq_two = grind (arith, bytes_eq-Decides)
 two_words (w ∷ v ∷ u ∷ words) one two text more some few is_one is_two eq_one eq_two = absurd (omega arith)
 
 -- what a run broke off with
@@ -64,36 +58,8 @@ gave_up (Err e) quiet m old new gave = inr gave
 
 -- why a text is not run is why the run ends
 pub cause_of : (e : TraceError) (source : Option (List ℕ)) (text : List ℕ) (read read' written written' : ℕ) → IsTextIn source text → CannotRun e text → read' ≡ read → written' ≡ written → IsCauseOf e source read read' written written'
-cause_of ReadFault source text read read' written written' is_text cannot same_read same_written = absurd cannot
-cause_of (TooLong count) source text read read' written written' is_text cannot same_read same_written =
-    (inr (record { text = text; read = is_text; meaning = cannot.0; spelled = cannot.1; counted = cannot.2; more = cannot.3 }), (same_read, same_written))
-cause_of (Syntax line) source text read read' written written' is_text cannot same_read same_written =
-    (record { text = text; read = is_text; fault = cannot }, (same_read, same_written))
-cause_of (Config it) source text read read' written written' is_text cannot same_read same_written =
-    (record { text = text; read = is_text; out = cannot }, (same_read, same_written))
-cause_of WriteFault source text read read' written written' is_text cannot same_read same_written = absurd cannot
-cause_of NoMemory source text read read' written written' is_text cannot same_read same_written = (same_read, same_written)
-
--- so is why the text was not read
-pub unread : (e : TraceError) (source : Option (List ℕ)) (read read' written : ℕ) → CannotRead e source read read' → IsCauseOf e source read read' written written
-unread ReadFault source read read' written cannot = (cannot, refl)
-unread (TooLong count) source read read' written cannot = (inl cannot.0, (cannot.1, refl))
-unread (Syntax line) source read read' written cannot = absurd cannot
-unread (Config it) source read read' written cannot = absurd cannot
-unread WriteFault source read read' written cannot = absurd cannot
-unread NoMemory source read read' written cannot = (cannot, refl)
+cause_of = grind arith
 
 -- what a complaint that there was cause for says
 pub explained : (x : Complaint) (status : ℕ) (words : List (String Global)) (source : Option (List ℕ)) (read read' : ℕ) (old mid new passed : Option (List ℕ)) (written at written' : ℕ) → HasCause x words source read read' → mid ≡ old → at ≡ written → Complains x status mid new passed at written' → Explains status words source read read' old new passed written written'
-explained x status words source read read' old mid new passed written at written' cause same well (inl done) =
-    inr (inl (
-      x,
-      done.0,
-      record { cause = cause; gave = subst (λ (m : Option (List ℕ)). Gave m new (complaint_line x)) same done.1; passes = done.2; well = done.3 ∙ well },
-    ))
-explained x status words source read read' old mid new passed written at written' cause same well (inr fault) =
-    inr (inr (inl (
-      fault.0,
-      subst (λ (n : ℕ). Rose n written') well fault.1,
-      inr (x, cause, subst (λ (m : Option (List ℕ)). GaveFront m new (complaint_line x)) same fault.2),
-    )))
+explained = grind arith

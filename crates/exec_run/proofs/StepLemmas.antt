@@ -2,8 +2,7 @@
 use Rattle.std.proofs.Common.{◌≡◌, ℕ, suc, Bool, true, false, cond, ◌+◌, ◌-◌, ◌<◌, ◌≤◌, ◌⊎◌, inl, inr, List, [], ◌∷◌, ◌++◌, Option, Some, option_and_then, refl, sym, ap, subst, append_assoc, append-nil, ◌∙◌, arith, eq-eqb, add-zero, zero-add, take, drop, length, get_or}
 use Rattle.std.proofs.lemmas.List.{take-append-drop, take_more}
 use Rattle.exec_task.specs.declared.body.Said.{Said}
-use Rattle.exec_outcomes.specs.declared.outcome.OpResult.{OpResult, TheVariants.{Count, Errno}}
-use Rattle.exec_machine.specs.{declared.{config.Configuration.Configuration, event.{Event.Event, StepResult.TheVariants.{Refused, Did}, Line.Line}, step.{Step.Step, Action.Action}}, Same.same_result, Run.{Follows, same_action, is_refused, after_work, after_step, after_steps}, Progress.Plan, Examples.{Told, lines_of}}
+use Rattle.exec_machine.specs.{declared.{config.Configuration.Configuration, event.{Event.Event, StepResult.TheVariants.{Refused, Did}, Line.Line}, step.{Step.Step, Action.Action}}, Run.{Follows, same_action, is_refused, after_work, after_step, after_steps}, Progress.Plan, Examples.{Told, lines_of}}
 use Rattle.exec_machine.specs.declared.step.Step.TheVariants as step
 use Rattle.exec_machine.specs.declared.step.Action.TheVariants as action
 use Rattle.exec_moves.specs.{Plays.{Playing, by_step}, Departures.played}
@@ -30,15 +29,7 @@ behind_more told more ls = ap (λ ms. ms ++ ls) (lines_more told more) ∙ appen
 
 -- some steps of one worker's line are taken
 part_taken : (i m n : ℕ) → m ≤ n → AreTaken (step.Work i m ∷ []) (step.Work i n ∷ [])
-part_taken i m n fewer =
-    record {
-      whole = [];
-      some = step.Work i m ∷ [];
-      rest = step.Work i n ∷ [];
-      are = refl;
-      first = refl;
-      next = inr (record { worker = i; taken = m; count = n; rest = []; fewer = fewer; are_some = refl; of_line = refl });
-    }
+part_taken = grind arith
 
 pub all_taken : (steps : List Step) → AreTaken steps steps
 all_taken steps =
@@ -75,21 +66,9 @@ behind i m n told ls it accepted = ap (after_work i (m + n)) (behind_more told (
 step_done : (s : Step) (lines : List Line) → ((ls : List Line) → after_step s (lines ++ ls) ≡ Some ls) → (ss : List Step) (ls : List Line) → after_steps (s ∷ ss) (lines ++ ls) ≡ after_steps ss ls
 step_done s lines closes ss ls = ap (option_and_then (after_steps ss)) (closes ls)
 
-same_as_itself : (n : OpResult) → same_result n n ≡ true
-same_as_itself (Count m) = eq-eqb m m refl
-same_as_itself (Errno e) = eq-eqb e e refl
-
 -- a step that fits asks for one action of its kind, which has one line
 one_line : (a : Action) → StepFits (step.One a) → same_action a a ≡ true
-one_line (action.Spawn j k) fits = rw (eq-eqb j j refl, eq-eqb k k refl) refl
-one_line (action.Wake j t) fits = rw (eq-eqb j j refl, eq-eqb t t refl) refl
-one_line (action.GoOn j) fits = eq-eqb j j refl
-one_line (action.Clock d) fits = eq-eqb d d refl
-one_line (action.Land r n) fits = rw (eq-eqb r r refl, same_as_itself n) refl
-one_line (action.SetBusy i) fits = eq-eqb i i refl
-one_line (action.EndPoll i) fits = eq-eqb i i refl
-one_line (action.Stir i) fits = eq-eqb i i refl
-one_line _ fits = absurd fits
+one_line = grind arith
 
 one_done : (a : Action) → StepFits (step.One a) → (it : Told) → it.0.action ≡ a → (ls : List Line) → after_step (step.One a) (it.0 ∷ ls) ≡ Some ls
 one_done a fits it is ls = rw (is, one_line a fits) refl
@@ -98,17 +77,7 @@ pub named_in : (p : Plan) (s : Step) (a : Action) → s ≡ step.One a → StepN
 named_in p s a is names = subst (StepNames (length p.scripts)) is names
 
 more_begun : (some line more : List Step) → (some ≡ []) ⊎ IsBegun some line → (some ≡ []) ⊎ IsBegun some (line ++ more)
-more_begun some line more (inl none) = inl none
-more_begun some line more (inr begun) =
-    inr (record {
-      worker = begun.worker;
-      taken = begun.taken;
-      count = begun.count;
-      rest = begun.rest ++ more;
-      fewer = begun.fewer;
-      are_some = begun.are_some;
-      of_line = ap (λ (x : List Step). x ++ more) begun.of_line;
-    })
+more_begun = grind arith
 
 -- what is taken of the steps behind a front is taken with the front
 taken_on : (taken steps front more : List Step) → AreTaken taken steps → AreTaken (front ++ taken) (front ++ (steps ++ more))
@@ -181,26 +150,14 @@ module _ {B L : Type 0} (left : B → L) (runs : L → Plan → Option ℕ → T
       let carries = taken.carries p stands.knows names in
       let it = taken.applies p x stands.shows carries in
       let of = step_is p x a l d it in
-      record {
-        it = (by_step p.config x a).told;
-        line = sym it.tells;
-        action = sym of;
-        step = is_step p x a l d it (taken.ready p stands.ready carries);
-        stands = subst (λ (b : Action). StandsAt left runs holds spot known p d (by_step p.config x b).next) of (record { ready = taken.ready p stands.ready carries; shows = it.shows; knows = stands.knows });
-        gave = subst (λ (m : Line). Gave old new (told_of_line quiet m)) it.tells gave;
-      }
+      grind (arith, is_step)
 
   pub line_broken : (name : L → ℕ) (quiet : Bool) (c d : Core B) (a : Action) (body : Option B) (l : Line) (old new : Option (List ℕ)) → IsTaken name c d a body l
       → GaveFront old new (told_of_line quiet l) → (p : Plan) (x : Playing) → StandsAt left runs holds spot known p c x → StepNames (length p.scripts) (step.One a) → BreaksLine quiet p x a old new
   line_broken name quiet c d a body l old new taken gave p x stands names =
       let carries = taken.carries p stands.knows names in
       let it = taken.applies p x stands.shows carries in
-      record {
-        it = (by_step p.config x a).told;
-        action = sym (step_is p x a l d it);
-        step = is_step p x a l d it (taken.ready p stands.ready carries);
-        gave = subst (λ (m : Line). GaveFront old new (told_of_line quiet m)) it.tells gave;
-      }
+      grind (arith, step_is, is_step)
 
   pub works_none : (quiet : Bool) (p : Plan) (x : Playing) (i : ℕ) (d : Core B) (old : Option (List ℕ)) → StandsAt left runs holds spot known p d x → Works left runs holds spot known quiet p x i 0 d old old
   works_none quiet p x i d old stands =
@@ -263,15 +220,7 @@ module _ {B L : Type 0} (left : B → L) (runs : L → Plan → Option ℕ → T
 
   -- where all lines of what was taken were given
   pub broke_between : (quiet : Bool) (p : Plan) (x : Playing) (taken steps : List Step) (d : Core B) (old new : Option (List ℕ)) → AreTaken taken steps → Leads left runs holds spot known quiet p x taken d old new → Breaks quiet p x steps old new
-  broke_between quiet p x taken steps d old new are_taken leads =
-      record {
-        taken = taken;
-        are_taken = are_taken;
-        told = leads.told;
-        has_lines = lines_done taken (lines_of leads.told) leads.has_lines;
-        goes = leads.goes;
-        gave = whole_front old new (told_text quiet leads.told) leads.gave;
-      }
+  broke_between = grind (arith, lines_done, whole_front)
 
   -- where the next line was not taken, or not given as a whole
   pub works_stopped : (quiet : Bool) (p : Plan) (x : Playing) (i m n : ℕ) (c : Core B) (old mid new : Option (List ℕ)) (works : Works left runs holds spot known quiet p x i m c old mid) → m < n

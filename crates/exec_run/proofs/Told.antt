@@ -1,10 +1,10 @@
 -- What was given of lines that were told.
-use Rattle.std.proofs.Common.{◌≡◌, ℕ, Bool, true, false, not, filter, List, [], ◌∷◌, ◌++◌, Option, Some, None, Result, Ok, Err, OnOk, OnErr, refl, sym, ap, subst, append_assoc, append-nil, ◌∙◌}
+use Rattle.std.proofs.Common.{◌≡◌, ℕ, Bool, true, false, List, [], ◌∷◌, ◌++◌, Option, Some, None, Result, Ok, Err, OnOk, OnErr, refl, sym, ap, subst, append_assoc, append-nil, ◌∙◌, arith}
 use Rattle.std.specs.Io.KnownBytes.{append_known}
 use Rattle.std.proofs.lemmas.Grind.{flat_map-append}
 use Rattle.std.proofs.lemmas.List.Elements.{filter-append}
-use Rattle.exec_machine.specs.{declared.event.Line.Line, Examples.{Told, lines_of}, Text.{text_of_log, is_quiet_line, told_lines}}
-use Rattle.exec_run.specs.{Log.{Gave, GaveFront, told_text}, Steps.whole_line}
+use Rattle.exec_machine.specs.{declared.event.Line.Line, Examples.{Told, lines_of}, Text.{text_of_log, told_lines}}
+use Rattle.exec_run.specs.{Log.{Gave, GaveFront, told_text}}
 
 -- what holds of each error
 pub on_err : {T E P : Type 0} (r : Result T E) → P → OnErr r P
@@ -33,13 +33,7 @@ pub no_front : (old : Option (List ℕ)) (xs : List ℕ) → GaveFront old old x
 no_front old xs = record { out = []; rest = xs; begins = refl; gave = gave_none old }
 
 pub front_on : (old mid new : Option (List ℕ)) (xs ys : List ℕ) → Gave old mid xs → GaveFront mid new ys → GaveFront old new (xs ++ ys)
-front_on old mid new xs ys gave front =
-    record {
-      out = xs ++ front.out;
-      rest = front.rest;
-      begins = ap (λ zs. xs ++ zs) front.begins ∙ sym (append_assoc xs front.out front.rest);
-      gave = gave_on old mid new xs front.out gave front.gave;
-    }
+front_on = grind (arith, append_assoc, gave_on)
 
 -- what is given of lines, of which these come last
 abbrev text_of_lines : Bool → List Line → List ℕ
@@ -50,10 +44,7 @@ gave_untold true old = gave_none old
 gave_untold false old = gave_none old
 
 text_of_more : (quiet : Bool) (ls ms : List Line) → text_of_lines quiet ls ++ text_of_lines quiet ms ≡ text_of_lines quiet (ls ++ ms)
-text_of_more true ls ms =
-    sym (flat_map-append whole_line (filter (λ l. not (is_quiet_line l)) ls) (filter (λ l. not (is_quiet_line l)) ms))
-    ∙ ap text_of_log (sym (filter-append (λ l. not (is_quiet_line l)) ls ms))
-text_of_more false ls ms = sym (flat_map-append whole_line ls ms)
+text_of_more = grind (arith, flat_map-append, filter-append)
 
 pub lines_more : (told more : List Told) → lines_of (told ++ more) ≡ lines_of told ++ lines_of more
 lines_more [] more = refl

@@ -1,5 +1,5 @@
 -- No worker turns for ever: each quiet line of one costs some of what it has left.
-use Rattle.std.proofs.Common.{◌≡◌, ◌⊎◌, ℕ, zero, suc, ◌+◌, ◌^◌, ◌<◌, ◌≤◌, Bool, true, false, not, List, [], ◌∷◌, ◌++◌, length, sum_by, Option, Some, None, if◌then◌else◌, refl, sym, ap, subst, ◌∙◌, inl, inr, arith}
+use Rattle.std.proofs.Common.{◌≡◌, ◌⊎◌, ℕ, zero, suc, ◌+◌, ◌^◌, ◌<◌, ◌≤◌, Bool, true, false, not, List, [], ◌∷◌, length, sum_by, Option, Some, None, if◌then◌else◌, refl, sym, ap, subst, ◌∙◌, inl, inr, arith}
 use Rattle.std.specs.Prelude.{nat_lt}
 use Rattle.std.proofs.lemmas.Bool.{and_from, and_parts, cases_Bool, eqb-true, false≢true, lt-ltb, not-true}
 use Rattle.exec_machine.specs.{declared.{config.Configuration.Configuration, event.{Event.Event, StepResult.{TheVariants.{Did}}}, step.{Action.Action}}, Callers.is_enabled, Examples.{Told, choices_of, lines_of}, Tests.is_open, Progress.{quiet_bound, Party, Party.{Caller, Nobody, Worker}, Plan, Stretch, is_anyone_closing, is_quiet_step, no_stretch, one_more, same_party}, Text.is_quiet, World.{World, own_of, seat_of}}
@@ -15,10 +15,6 @@ use Rattle.exec_run.proofs.{Leads.{leads_there}, Stretches.{ends, is_worker, lon
 abbrev Spent : Configuration → Playing → Stretch → Type 0
 Spent c x s = (s.count ≡ 0) ⊎ ((i : ℕ) × (s.party ≡ Worker i) × (s.count + left_to c x i < quiet_bound c x.world))
 
-abbrev worker_in : Party → ℕ
-worker_in (Worker i) = i
-worker_in _ = 0
-
 -- what the test of a line asks, and what holds after it
 record Ends (c : Configuration) (x y : Playing) (s : Stretch) : Type 0 where
   pub short : s.count < quiet_bound c x.world
@@ -29,10 +25,7 @@ module _ (n : ℕ) (few : n ≤ 2 ^ 32) (c : Configuration) (x : Playing) (there
   some = omega arith
 
   so_far : s.count < quiet_bound c x.world
-  so_far = elim spent [
-    | inl none ↦ omega (arith, none, some)
-    | inr mine ↦ omega (arith, mine.2)
-  ]
+  so_far = grind arith
 
   ended : (y : Playing) → Ends c x y no_stretch
   ended y = record { short = some; spent = inl refl }
@@ -42,10 +35,7 @@ module _ (n : ℕ) (few : n ≤ 2 ^ 32) (c : Configuration) (x : Playing) (there
   goes_on y i going same falls = by s.party refl (same_party (Worker i) s.party) refl
     where
       counted : (j : ℕ) → s.party ≡ Worker j → i ≡ j → Spent c x s → s.count + left_to c x i < quiet_bound c x.world
-      counted j is own (inl none) = omega (arith, none, there.bounded i going)
-      counted j is own (inr (k, who, left)) =
-          let mine : k ≡ i = ap worker_in (sym who ∙ is) ∙ sym own in
-          subst (λ m. s.count + left_to c x m < quiet_bound c x.world) mine left
+      counted = grind arith
 
       by : (who : Party) → s.party ≡ who → (b : Bool) → same_party (Worker i) s.party ≡ b → Ends c x y (if b then record s { count = s.count + 1 } else record { party = Worker i; count = 1 })
       by who is false other =

@@ -1,18 +1,18 @@
 -- Requests that words ask for.
-use Rattle.std.proofs.Common.{◌≡◌, ℕ, ◌+◌, ◌-◌, ◌%◌, ◌<◌, ◌≤◌, ◌^◌, ◌⊎◌, inl, inr, Bool, true, false, List, [], Option, Some, None, IfSome, replicate, length, length-append, refl, sym, ap, subst, ◌∙◌, arith}
-use Rattle.std.specs.Prelude.{if◌then◌else◌, nat_lt, nat_le}
+use Rattle.std.proofs.Common.{◌≡◌, ℕ, ◌+◌, ◌-◌, ◌%◌, ◌≤◌, ◌⊎◌, inl, inr, Bool, true, false, List, [], Option, Some, None, IfSome, replicate, length, length-append, refl, sym, ap, subst, ◌∙◌, arith}
+use Rattle.std.specs.Prelude.{if◌then◌else◌}
 use Rattle.std.proofs.lemmas.List.{length-replicate, length-take}
-use Rattle.std.proofs.lemmas.Bool.{cases_Bool, le-leb, leb-true, leb-false, ltb-true, ltb-false, true≢false}
+use Rattle.std.proofs.lemmas.Bool.{le-leb, true≢false}
 use Rattle.exec_bufs.specs.Buffers.{Buffer, resized}
 use Rattle.exec_outcomes.specs.{Accounts.is_durable, Lawful.aligned, Outcomes.Asked, declared.outcome.Kind.Kind}
 use Rattle.exec_outcomes.specs.declared.outcome.Kind.TheVariants as kind
-use Rattle.exec_request.specs.{Buffers.{length_of, moved_of}, Hints.asks_hint, Syncing.{is_syncing, write_kind}, Views.IsDirectRead, Ways.{asked_by, is_switched, size_for}}
-use Rattle.exec_request.specs.declared.{buffers.WriteBuffers.{TheVariants.Single}, cache.Cache.{Cache, TheVariants.{Enabled, Disabled}}, read_at.ReadAtRequest.ReadAtRequest, recv.RecvRequest.RecvRequest, request.Request.Request, send.SendRequest.SendRequest, way.Way.Way, write_at.{WriteAtRequest.WriteAtRequest, WriteAtState.{WriteAtState, TheVariants.{Writing, WritingSync, WritingBeforeSync, Syncing}}}}
+use Rattle.exec_request.specs.{Buffers.{length_of, moved_of}, Hints.asks_hint, Syncing.{is_syncing, write_kind}, Views.IsDirectRead, Ways.{size_for}}
+use Rattle.exec_request.specs.declared.{buffers.WriteBuffers.{TheVariants.Single}, cache.Cache.{Cache, TheVariants.{Enabled, Disabled}}, read_at.ReadAtRequest.ReadAtRequest, recv.RecvRequest.RecvRequest, request.Request.Request, send.SendRequest.SendRequest, way.Way.Way, write_at.{WriteAtRequest.WriteAtRequest, WriteAtState.{WriteAtState, TheVariants.{Writing, WritingSync, WritingBeforeSync}}}}
 use Rattle.exec_request.specs.declared.request.Request.TheVariants as request
 use Rattle.exec_task.specs.Sight.{Sight, open_at}
 use Rattle.exec_machine.specs.{declared.{config.{Configuration.Configuration, ScriptWord.ScriptWord}, state.Operation.Operation}, Requests.{of_file, of_socket, operation_asked}}
 use Rattle.exec_machine.specs.declared.config.ScriptWord.TheVariants as word
-use Rattle.exec_parts.specs.{Records.{skip_in}, Spots.{wants_hint}}
+use Rattle.exec_parts.specs.{Spots.{wants_hint}}
 use Rattle.exec_run.specs.{Asking.{moves_bytes, range_operation, CanAsk, CoversSeen, IsFilePart, IsFresh, IsRequestOf, IsSocketPart, IsWanted}, declared.asking.Limits.Limits}
 
 -- NEW REQUESTS, of each kind
@@ -24,41 +24,11 @@ asked_so : (k : Kind) (n m skip late : ℕ) → m ≡ n → late ≡ skip → (l
 asked_so k n m skip late same same_skip = rw (same, same_skip) refl
 
 fresh_send : (r : SendRequest) (socket n deadline : ℕ) → n ≤ 1048576 → r.fd ≡ socket → r.write ≡ Single (replicate n 0) 0 → r.deadline ≡ Some deadline → IsFresh (of_socket kind.Send socket n deadline) (request.Send r)
-fresh_send r socket n deadline few fd write until =
-    let many : length (replicate n 0) ≡ n = length-replicate {A = ℕ} n 0 in
-    record {
-      fits = record {
-        asked = asked_so kind.Send n (length_of r.write) 0 0 (ap length_of write ∙ many) refl;
-        target = fd;
-        offset = refl;
-        deadline = until;
-        unmoved = ap moved_of write;
-        unswitched = refl;
-        hint = refl;
-      };
-      plain = rw write (refl, omega (arith, many, few));
-    }
+fresh_send = grind (arith, length-replicate, asked_so)
 
 fresh_recv : (r : RecvRequest) (exact : Bool) (socket n deadline : ℕ) → n ≤ 1048576 → r.fd ≡ socket → r.start ≡ 0 → r.offset ≡ 0 → r.len ≡ n → r.exact ≡ exact → r.deadline ≡ Some deadline
     → IsFresh (of_socket (if exact then kind.Fill else kind.Recv) socket n deadline) (request.Recv r)
-fresh_recv r exact socket n deadline few fd start offset len same until =
-    let left : r.len - r.start ≡ n = omega (arith, start, len) in
-    record {
-      fits = record {
-        asked = asked_so (if r.exact then kind.Fill else kind.Recv) n (r.len - r.start) 0 0 left refl ∙ ap (λ b. let it : Asked = record { kind = if b then kind.Fill else kind.Recv; length = n; skip = 0 } in it) same;
-        target = fd;
-        offset = refl;
-        deadline = until;
-        unmoved = omega (arith, start, offset);
-        unswitched = refl;
-        hint = no_hint exact;
-      };
-      plain = omega (arith, left, few);
-    }
-  where
-    no_hint : (b : Bool) → false ≡ wants_hint (if b then kind.Fill else kind.Recv)
-    no_hint true = refl
-    no_hint false = refl
+fresh_recv = grind arith
 
 -- a read through the page cache
 abbrev way_by : Cache → Way
@@ -66,32 +36,7 @@ way_by cache = if asks_hint cache then Way.Hinted else Way.Buffered
 
 buffered : (file offset n : ℕ) (r : ReadAtRequest) (cache : Cache) → n ≤ 1048576 → r.file ≡ file → r.offset ≡ offset → r.read ≡ 0 → length r.buf.bytes ≡ n → r.cache ≡ cache → r.way ≡ way_by cache
     → IsFresh (of_file (if asks_hint cache then kind.Hint else kind.Read) file offset n) (request.ReadAt r)
-buffered file offset n r Enabled few of at begins many cache way =
-    record {
-      fits = record {
-        asked = ap (λ x. asked_by x (length r.buf.bytes)) way ∙ asked_so kind.Read n (length r.buf.bytes) 0 0 many refl;
-        target = of;
-        offset = omega (arith, at, ap skip_in way);
-        deadline = refl;
-        unmoved = begins;
-        unswitched = ap is_switched way;
-        hint = ap asks_hint cache;
-      };
-      plain = omega (arith, many, few);
-    }
-buffered file offset n r Disabled few of at begins many cache way =
-    record {
-      fits = record {
-        asked = ap (λ x. asked_by x (length r.buf.bytes)) way ∙ asked_so kind.Hint n (length r.buf.bytes) 0 0 many refl;
-        target = of;
-        offset = omega (arith, at, ap skip_in way);
-        deadline = refl;
-        unmoved = begins;
-        unswitched = ap is_switched way;
-        hint = ap asks_hint cache;
-      };
-      plain = omega (arith, many, few);
-    }
+buffered = grind arith
 
 -- of bytes that are all zero at first
 fresh_read : (file offset n : ℕ) (r : ReadAtRequest) (cache : Cache) → n ≤ 1048576 → r.file ≡ file → r.offset ≡ offset → r.read ≡ 0 → r.buf ≡ record { bytes = resized n []; capacity = n } → r.cache ≡ cache → r.way ≡ way_by cache
@@ -107,23 +52,12 @@ fresh_direct file offset n r few it =
     let size : length r.buf.bytes ≡ aligned (offset % 4096 + n) = ap (λ (b : Buffer). length b.bytes) it.buffer ∙ length-replicate {A = ℕ} (aligned (offset % 4096 + n)) 0 in
     let within : aligned (offset % 4096 + n) ≤ 2147479552 = aligned_within (offset % 4096 + n) (omega arith) in
     record {
-      fits = record {
-        asked = ap (λ x. asked_by x (length r.buf.bytes)) it.way;
-        target = it.of;
-        offset = omega (arith, it.page, ap skip_in it.way);
-        deadline = refl;
-        unmoved = it.begins;
-        unswitched = ap is_switched it.way;
-        hint = ap asks_hint it.hint;
-      };
+      fits = grind arith;
       plain = omega (arith, size, within);
     }
 
 no_hint_of_write : (state : WriteAtState) → false ≡ wants_hint (write_kind state)
-no_hint_of_write Writing = refl
-no_hint_of_write WritingSync = refl
-no_hint_of_write WritingBeforeSync = refl
-no_hint_of_write Syncing = refl
+no_hint_of_write = grind arith
 
 fresh_write : (file offset n : ℕ) (r : WriteAtRequest) (state : WriteAtState) → n ≤ 1048576 → is_syncing state ≡ false → r.file ≡ file → r.offset ≡ offset → r.write ≡ Single (replicate n 0) 0 → r.state ≡ state → r.cache ≡ Enabled
     → IsFresh (of_file (write_kind state) file offset n) (request.WriteAt r)
@@ -310,33 +244,10 @@ some_by it limits (word.Many file offset n) moves can = some_write it limits (wo
 some_by it limits _ moves can = absurd (true≢false (sym moves))
 
 socket_decided : (socket n : ℕ) → IsSocketPart socket n ⊎ (IsSocketPart socket n → ⊥)
-socket_decided socket n =
-    elim (cases_Bool (nat_lt socket (2 ^ 32))) [
-      | inl there ↦ (
-          elim (cases_Bool (nat_le n 1048576)) [
-            | inl few ↦ inl (record { there = ltb-true socket (2 ^ 32) there; most = leb-true n 1048576 few })
-            | inr many ↦ inr (λ can. let l : 1048576 < n = leb-false n 1048576 many in absurd (omega (arith, can.most)))
-          ]
-          )
-      | inr off ↦ inr (λ can. let l : 2 ^ 32 ≤ socket = ltb-false socket (2 ^ 32) off in absurd (omega (arith, can.there)))
-    ]
+socket_decided = grind arith
 
 file_decided : (file offset n : ℕ) → IsFilePart file offset n ⊎ (IsFilePart file offset n → ⊥)
-file_decided file offset n =
-    elim (socket_decided file n) [
-      | inr off ↦ inr (λ can. off (record { there = can.there; most = can.most }))
-      | inl within ↦ (
-          elim (cases_Bool (nat_le offset (2 ^ 62))) [
-            | inr far ↦ inr (λ can. let l : 2 ^ 62 < offset = leb-false offset (2 ^ 62) far in absurd (omega (arith, can.early)))
-            | inl early ↦ (
-                elim (cases_Bool (nat_lt 0 n)) [
-                  | inl some ↦ inl (record { there = within.there; early = leb-true offset (2 ^ 62) early; some = ltb-true 0 n some; most = within.most })
-                  | inr none ↦ inr (λ can. let l : n ≤ 0 = ltb-false 0 n none in absurd (omega (arith, can.some)))
-                ]
-                )
-          ]
-          )
-    ]
+file_decided = grind arith
 
 ask_decided : (w : ScriptWord) → moves_bytes w ≡ true → CanAsk w ⊎ (CanAsk w → ⊥)
 ask_decided (word.Send socket n) moves = socket_decided socket n

@@ -1,9 +1,8 @@
 -- The words of a script: which of them are passed over.
-use Rattle.std.proofs.Common.{◌≡◌, ℕ, zero, suc, ◌+◌, ◌<◌, Bool, true, false, List, [], ◌∷◌, drop, refl, sym, ap, ◌∙◌, inl, inr, arith}
+use Rattle.std.proofs.Common.{◌≡◌, ℕ, zero, suc, ◌+◌, ◌<◌, Bool, true, false, List, [], ◌∷◌, drop, refl, sym, ap, ◌∙◌, arith}
 use Rattle.std.proofs.lemmas.Bool.{cases_Bool, leb-false, true≢false}
 use Rattle.std.proofs.lemmas.List.{get_or-drop}
-use Rattle.std.specs.Prelude.{if◌then◌else◌}
-use Rattle.exec_machine.specs.declared.{config.ScriptWord.ScriptWord, state.Code.{Code, TheVariants.{Root, Script, Waits}}}
+use Rattle.exec_machine.specs.declared.{config.ScriptWord.ScriptWord, state.Code.{Code}}
 use Rattle.exec_machine.specs.declared.config.ScriptWord.TheVariants as word
 use Rattle.exec_run.specs.Script.{is_passed, passed_over, word_at, word_in, word_of_wait}
 
@@ -27,11 +26,7 @@ goes_on none tasks words place all passes so_far =
 
 not_passed : (none : Bool) (tasks : ℕ) (words : List ScriptWord) → is_passed none tasks (word_at words (passed_over none tasks words)) ≡ false
 not_passed none tasks [] = refl
-not_passed none tasks (w ∷ words) =
-    elim (cases_Bool (is_passed none tasks w)) [
-      | inl on ↦ ap (λ b. is_passed none tasks (word_at (w ∷ words) (if b then suc (passed_over none tasks words) else 0))) on ∙ not_passed none tasks words
-      | inr off ↦ ap (λ b. is_passed none tasks (word_at (w ∷ words) (if b then suc (passed_over none tasks words) else 0))) off ∙ off
-    ]
+not_passed none tasks (w ∷ words) = grind (arith, cases_Bool, not_passed none tasks words)
 
 wait_not_passed : (none : Bool) (tasks : ℕ) (stopped : Bool) → is_passed none tasks (word_of_wait stopped) ≡ false
 wait_not_passed none tasks true = refl
@@ -42,9 +37,7 @@ found_at none tasks words place =
     ap (is_passed none tasks) (sym (get_or-drop place words (passed_over none tasks (drop place words)) word.End)) ∙ not_passed none tasks (drop place words)
 
 pub found : (c : Code) (words : List ScriptWord) (stopped none : Bool) (tasks place : ℕ) → is_passed none tasks (word_in c words stopped (place + passed_over none tasks (drop place words))) ≡ false
-found Root words stopped none tasks place = found_at none tasks words place
-found (Script k) words stopped none tasks place = found_at none tasks words place
-found Waits words stopped none tasks place = wait_not_passed none tasks stopped
+found = grind (arith, found_at, wait_not_passed)
 
 pub there_of : (none : Bool) (tasks task : ℕ) → is_passed none tasks (word.Wake task) ≡ false → task < tasks
 there_of none tasks task h = leb-false tasks task h

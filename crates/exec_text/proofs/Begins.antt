@@ -56,24 +56,10 @@ header_front count c k fits =
 
 -- the next line of a header is that of some header
 pub header_next : (c : Configuration) (k : ℕ) (line : List ℕ) → k < 9 → Formed (take k (header c) ++ line ∷ []) → (d : Configuration) × HeaderFits d × (line ≡ get_or (header d) k [])
-header_next c k line small b =
-    let d = b.0.plan.config in
-    let r = below b.0.plan.scripts b.0.plan.root b.0.steps in
-    let e : take k (header c) ++ line ∷ b.2 ≡ header d ++ r = sym (append_assoc (take k (header c)) (line ∷ []) b.2) ∙ b.3 ∙ lines_are b.0 in
-    let l : length (take k (header c)) ≡ k = length-take-le k (header c) (omega (arith, header_length c)) in (
-      d,
-      b.1.header,
-      sym (get_or_at (take k (header c)) line b.2 [] k l) ∙ ap (λ (x : List (List ℕ)). get_or x k []) e ∙ get_or_append_left (header d) r [] k (omega (arith, header_length d)),
-    )
+header_next = grind (arith, append_assoc, lines_are, length-take-le, header_length, get_or_at, get_or_append_left)
 
 pub lines_count : (p : Meaning) → length (trace_lines p) ≡ 11 + length p.plan.scripts + length p.steps
-lines_count p =
-    let c = p.plan.config in
-    let s = map text_of_script p.plan.scripts in
-    let t = map text_of_step p.steps in
-    let r = text_of_root p.plan.root in
-    ap length (lines_are p) ∙ length-append (header c) (below p.plan.scripts p.plan.root p.steps)
-    ∙ omega (arith, header_length c, length-append s (r ∷ codes "steps" ∷ t), length-map p.plan.scripts text_of_script, length-map p.steps text_of_step)
+lines_count = grind (arith, lines_are, length-append, header_length, length-map)
 
 pub header_short : (c : Configuration) (k : ℕ) (p : Meaning) → k ≤ 9 → trace_lines p ≢ take k (header c)
 header_short c k p small e = omega (arith, lines_count p, ap length e, length-take-le k (header c) (omega (arith, header_length c)))
@@ -91,11 +77,7 @@ behind_scripts [] [] root steps line rest e = inr (refl, ap (λ (x : List (List 
 behind_scripts [] (s ∷ scripts) root steps line rest e = inl (omega arith, ap (λ (x : List (List ℕ)). get_or x 0 []) e)
 behind_scripts (t ∷ ss) [] root steps line rest e =
     let k : ◌≡◌ {A = ℕ} 115 114 = ap (λ (x : List (List ℕ)). get_or (get_or x 0 []) 0 0) e in absurd (omega arith)
-behind_scripts (t ∷ ss) (s ∷ scripts) root steps line rest e =
-    elim (behind_scripts ss scripts root steps line rest (ap (drop 1) e)) [
-      | inl a ↦ inl (omega (arith, a.0), a.1)
-      | inr a ↦ inr (omega (arith, a.0), a.1, a.2)
-    ]
+behind_scripts (t ∷ ss) (s ∷ scripts) root steps line rest e = grind (arith, behind_scripts ss scripts root steps line rest (ap (drop 1) e))
 
 pub no_end : (ss scripts : List (List ScriptWord)) (root : List ScriptWord) (steps : List Step) → map text_of_script ss ≢ below scripts root steps
 no_end [] [] root steps e = cc
@@ -158,23 +140,12 @@ head_script c count said ss line words h r = record {
   named = All-push (All (WordNames count)) ss words h.named r.named;
 }
 
-pub head_root : (c : Configuration) (count : ℕ) (said : List (List ℕ)) (ss : List (List ScriptWord)) (line : List ℕ) (root : List ScriptWord) → IsHead c count said ss → IsRoot c count line root → IsTop c count (said ++ line ∷ []) ss root
-head_root c count said ss line root h r = record { front = said; head = h; line = line; spelled = refl; root_line = r }
-
 -- behind the line of the root
 pub top_lines : (c : Configuration) (count : ℕ) (said xs : List (List ℕ)) (ss : List (List ScriptWord)) (root : List ScriptWord) (p : Meaning) → IsTop c count said ss root → IsWellFormed p → said ++ xs ≡ trace_lines p → (c ≡ p.plan.config) × (length ss ≡ length p.plan.scripts) × (xs ≡ codes "steps" ∷ map text_of_step p.steps)
-top_lines c count said xs ss root p t f e =
-    let s : t.front ++ t.line ∷ xs ≡ trace_lines p = sym (append_assoc t.front (t.line ∷ []) xs) ∙ ap (λ (x : List (List ℕ)). x ++ xs) (sym t.spelled) ∙ e in
-    let i = head_lines c t.front (t.line ∷ xs) ss p t.head.header_fits t.head.spelled f s in
-    elim (behind_scripts ss p.plan.scripts p.plan.root p.steps t.line xs i.1) [
-      | inl a ↦ let k : ◌≡◌ {A = ℕ} 114 115 = ap (λ (x : List ℕ). get_or x 0 0) (sym t.root_line.spelled ∙ a.1) in absurd (omega arith)
-      | inr a ↦ (i.0, a.0, a.2)
-    ]
+top_lines = grind (arith, append_assoc, head_lines, behind_scripts)
 
 top_spelled : (c : Configuration) (count : ℕ) (said xs : List (List ℕ)) (ss : List (List ScriptWord)) (root : List ScriptWord) → IsTop c count said ss root → said ++ xs ≡ header c ++ (map text_of_script ss ++ text_of_root root ∷ xs)
-top_spelled c count said xs ss root t =
-    ap (λ (x : List (List ℕ)). x ++ xs) t.spelled ∙ append_assoc t.front (t.line ∷ []) xs ∙ head_spelled c t.front (t.line ∷ xs) ss t.head.spelled
-    ∙ ap (λ (l : List ℕ). header c ++ (map text_of_script ss ++ l ∷ xs)) t.root_line.spelled
+top_spelled = grind (arith, append_assoc, head_spelled)
 
 pub top_begins : (c : Configuration) (count : ℕ) (said : List (List ℕ)) (ss : List (List ScriptWord)) (root : List ScriptWord) → IsTop c count said ss root → Begins count said
 top_begins c count said ss root t =

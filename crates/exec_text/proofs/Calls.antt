@@ -32,9 +32,7 @@ call_begun caller count bytes behind name rest (GoOn j) space f h = let k : [] �
 call_begun caller count bytes behind name rest _ space f h = h
 
 pub call_numbered : (count : ℕ) (name rest : List ℕ) (a : Action) → ((n : ℕ) (t : List ℕ) → IsNumber rest n t → ⊥) → BeginsCall count name rest a → ⊥
-call_numbered count name rest (Spawn j script) over h = over script [] h.1
-call_numbered count name rest (Wake j task) over h = over task [] h.1
-call_numbered count name rest _ over h = h
+call_numbered = grind arith
 
 pub call_ended : (count : ℕ) (name rest more : List ℕ) (n : ℕ) (a : Action) → IsNumber rest n more → 0 < length more → BeginsCall count name rest a → ⊥
 call_ended count name rest more n (Spawn j script) number some h =
@@ -59,27 +57,7 @@ call_read bytes behind name rest more named n space f number none e =
 -- THE STEP OF A CALL
 
 pub call_spelled : (caller count : ℕ) (more : List ℕ) (a : Action) → IsCall caller count more a → codes "x" ++ 32 ∷ (decimal caller ++ more) ≡ text_of_step (One a)
-call_spelled caller count more (Spawn j script) h =
-    ap (λ (t : List ℕ). codes "x " ++ (decimal caller ++ t)) h.3 ∙ ap (λ (i : ℕ). codes "x " ++ (decimal i ++ (codes " spawn " ++ decimal script))) (sym h.0)
-    ∙ ap (λ (t : List ℕ). codes "x " ++ t) (sym (append_assoc (decimal j) (codes " spawn ") (decimal script)))
-call_spelled caller count more (Wake j task) h =
-    ap (λ (t : List ℕ). codes "x " ++ (decimal caller ++ t)) h.2 ∙ ap (λ (i : ℕ). codes "x " ++ (decimal i ++ (codes " wake " ++ decimal task))) (sym h.0)
-    ∙ ap (λ (t : List ℕ). codes "x " ++ t) (sym (append_assoc (decimal j) (codes " wake ") (decimal task)))
-call_spelled caller count more (GoOn j) h =
-    ap (λ (t : List ℕ). codes "x " ++ (decimal caller ++ t)) h.1 ∙ ap (λ (t : List ℕ). codes "x " ++ t) (append-nil (decimal caller)) ∙ ap (λ (i : ℕ). codes "x " ++ decimal i) (sym h.0)
-call_spelled caller count more _ h = absurd h
-
-pub call_fits : (caller count : ℕ) (more : List ℕ) (a : Action) → caller < 16 → IsCall caller count more a → StepFits (One a)
-call_fits caller count more (Spawn j script) few h = (let k : j ≡ caller = h.0 in omega arith, h.1)
-call_fits caller count more (Wake j task) few h = (let k : j ≡ caller = h.0 in omega arith, h.1)
-call_fits caller count more (GoOn j) few h = let k : j ≡ caller = h.0 in omega arith
-call_fits caller count more _ few h = absurd h
-
-pub call_names : (caller count : ℕ) (more : List ℕ) (a : Action) → IsCall caller count more a → StepNames count (One a)
-call_names caller count more (Spawn j script) h = h.2
-call_names caller count more (Wake j task) h = tt
-call_names caller count more (GoOn j) h = tt
-call_names caller count more _ h = absurd h
+call_spelled = grind (arith, append_assoc, append-nil)
 
 -- a line of no step, where its letter is that of a call
 pub no_call : (count n : ℕ) (kind more : List ℕ) (s : Step) → kind ≡ codes "x" → ((a : Action) → n < 16 → IsCall n count more a → ⊥) → StepFits s → StepNames count s → kind ≡ letter s → n ≡ first_of s → more ≢ more_of s

@@ -5,7 +5,7 @@ use Rattle.std.proofs.lemmas.List.{take_all, take-append-drop, take-take, append
 use Rattle.std.proofs.lemmas.List.Elements.{filter-append}
 use Rattle.exec_machine.specs.declared.{config.{Configuration.Configuration, ScriptWord.ScriptWord}, step.Step.Step}
 use Rattle.exec_text.specs.{Grammar.{Meaning, HeaderFits, IsWellFormed, NamesScripts, trace_lines, says_something, scripts_among, ScriptsThatCount, CanGoOn, IsTrace, IsTraceOf, IsFirstFault, text_of_step, StepFits, StepNames}, Reading.{said_before, IsNextSaid, IsLastSaid, IsMissing, IsStuck, header, IsScript, IsRoot, IsHead, IsTop, IsMarkedTop, all_said}, Laws.{TraceHasNoFault, FaultIsOne}}
-use Rattle.exec_text.proofs.{Said.said_all, Headers.{config_of, config_fits}, Numbers.AllSmall, Scripts.{counted_by_line, counted_by_end, count_is, count_is_one}, Begins.{Begins, Formed, formed_of, meaning_from, header_front, header_next, header_short, head_begins, head_short, task_next, head_script, head_root, top_begins, top_short, mark_next, steps_fit, steps_named, steps_spelled, steps_begin, steps_next}}
+use Rattle.exec_text.proofs.{Said.said_all, Headers.{config_of, config_fits}, Numbers.AllSmall, Scripts.{counted_by_line, counted_by_end, count_is, count_is_one}, Begins.{Begins, Formed, formed_of, meaning_from, header_front, header_next, header_short, head_begins, head_short, task_next, head_script, top_begins, top_short, mark_next, steps_fit, steps_named, steps_spelled, steps_begin, steps_next}}
 
 pub fault_at : (text : List ℕ) (count old next : ℕ) (line : List ℕ) → ScriptsThatCount text count → IsNextSaid text old next line → Begins count (said_before text old) → (Begins count (said_before text old ++ line ∷ []) → ⊥) → IsFirstFault text next
 unfolding said_before
@@ -15,10 +15,7 @@ fault_at text count old next line counted s begun over =
 
 pub fault_end : (text : List ℕ) (count old next : ℕ) → ScriptsThatCount text count → IsLastSaid text old next → Begins count (said_before text old) → ((p : Meaning) → IsWellFormed p → trace_lines p ≢ said_before text old) → IsFirstFault text (next + 1)
 unfolding said_before
-fault_end text count old next counted s begun over =
-    let a : take next (lines text) ≡ lines text = take_all next (lines text) (omega (arith, s.all)) in
-    let e : filter says_something (lines text) ≡ said_before text old = sym (ap (filter says_something) a) ∙ s.said in
-    (count, counted, inr (ap (λ (k : ℕ). k + 1) s.all, subst (Begins count) (sym e) begun, λ t. over t.0 t.1.fits.formed (sym t.1.spelled ∙ e)))
+fault_end = grind (arith, take_all)
 
 -- what goes on went on before
 earlier : (count : ℕ) (xs : List (List ℕ)) (n : ℕ) → CanGoOn count xs → CanGoOn count (take n xs)
@@ -108,12 +105,6 @@ script_right text t count old next line c ss words same h s r =
     let m = subst (λ (x : List ℕ). IsNextSaid x old next line) same s in
     subst (λ (x : List (List ℕ)). IsHead c count x (ss ++ words ∷ [])) (sym m.said) (head_script c count (said_before text old) ss line words h r)
 
-pub root_right : (text t u : List ℕ) (count old next : ℕ) (line : List ℕ) (c : Configuration) (ss : List (List ScriptWord)) (root : List ScriptWord) → t ≡ text → u ≡ text → IsHead c count (said_before text old) ss → IsNextSaid t old next line → IsRoot c count line root → IsTop c count (said_before u next) ss root
-root_right text t u count old next line c ss root same after h s r =
-    let m = subst (λ (x : List ℕ). IsNextSaid x old next line) same s in
-    let top = subst (λ (x : List (List ℕ)). IsTop c count x ss root) (sym m.said) (head_root c count (said_before text old) ss line root h r) in
-    subst (λ (x : List ℕ). IsTop c count (said_before x next) ss root) (sym after) top
-
 -- at the line `steps`
 pub mark_missing : (text : List ℕ) (count old : ℕ) (c : Configuration) (ss : List (List ScriptWord)) (root : List ScriptWord) (line : ℕ) → ScriptsThatCount text count → IsTop c count (said_before text old) ss root → IsMissing text old line → IsFirstFault text line
 mark_missing text count old c ss root line counted t m =
@@ -130,15 +121,10 @@ step_wrong text t first count old next line c ss root steps e counted m fit name
     (λ b. let r = steps_next c count (said_before text first) ss root steps line m (subst (λ (x : List (List ℕ)). Begins count (x ++ line ∷ [])) s b) in over r.0 r.1 r.2 r.3)
 
 pub step_right : (text t : List ℕ) (first old next : ℕ) (line : List ℕ) (steps : List Step) (step : Step) → t ≡ text → said_before text old ≡ said_before text first ++ map text_of_step steps → IsNextSaid t old next line → line ≡ text_of_step step → said_before text next ≡ said_before text first ++ map text_of_step (steps ++ step ∷ [])
-step_right text t first old next line steps step e s n same =
-    let m = subst (λ (x : List ℕ). IsNextSaid x old next line) e n in
-    m.said ∙ ap (λ (x : List (List ℕ)). x ++ line ∷ []) s ∙ append_assoc (said_before text first) (map text_of_step steps) (line ∷ [])
-    ∙ ap (λ (x : List ℕ). said_before text first ++ (map text_of_step steps ++ x ∷ [])) same ∙ ap (λ (x : List (List ℕ)). said_before text first ++ x) (sym (map_push text_of_step steps step))
+step_right = grind (arith, append_assoc, map_push)
 
 pub steps_all : (text t : List ℕ) (old next : ℕ) (more : List (List ℕ)) → t ≡ text → said_before text old ≡ more → IsLastSaid t old next → all_said text ≡ more
-steps_all text t old next more e s n =
-    let m = subst (λ (x : List ℕ). IsLastSaid x old next) e n in
-    sym (said_all text next m.all) ∙ m.said ∙ s
+steps_all = grind (arith, said_all)
 
 -- what was read is what the text spells
 pub trace_from : (text : List ℕ) (said : List (List ℕ)) (count : ℕ) (c : Configuration) (ss : List (List ScriptWord)) (root : List ScriptWord) (steps : List Step) → ScriptsThatCount text count → IsMarkedTop c count said ss root → All StepFits steps → All (StepNames count) steps → all_said text ≡ said ++ map text_of_step steps → IsTraceOf text (meaning_from c ss root steps)

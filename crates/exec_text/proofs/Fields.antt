@@ -65,6 +65,4 @@ stripped s p q rest t e h =
     ∙ ap (λ (x : List ℕ). q ++ x) (sym e)
 
 pub unstripped : (s p q rest : List ℕ) → pointwise eqb (take (length p) s) p ≡ false → p ≡ q → s ≢ q ++ rest
-unstripped s p q rest f h e =
-    let front : take (length p) s ≡ p = ap (take (length p)) (e ∙ ap (λ (x : List ℕ). x ++ rest) (sym h)) ∙ take-append_seam p rest in
-    told_unequal (take (length p) s) p p (pointwise eqb (take (length p) s) p) refl refl f front
+unstripped = grind (arith, take-append_seam, told_unequal)

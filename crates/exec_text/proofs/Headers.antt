@@ -32,30 +32,14 @@ small_at (n ∷ ns) zero h = h.0
 small_at (n ∷ ns) (suc k) h = small_at ns k h.1
 
 pub config_fits : (ns : List ℕ) → AllSmall ns → HeaderFits (config_of ns)
-config_fits ns h = record {
-  workers = small_at ns 0 h;
-  interval = small_at ns 1 h;
-  ring = small_at ns 2 h;
-  tick = small_at ns 3 h;
-  connect = small_at ns 4 h;
-  rw = small_at ns 5 h;
-  budget = small_at ns 6 h;
-  most = small_at ns 7 h;
-  quick = small_at ns 8 h;
-  iterations = small_at ns 9 h;
-  files = small_at ns 10 h;
-  sockets = small_at ns 11 h;
-}
+config_fits = grind (arith, small_at)
 
 -- lists that begin with lists of one length
 pub append_same : (xs ys r t : List (List ℕ)) → length xs ≡ length ys → xs ++ r ≡ ys ++ t → (xs ≡ ys) × (r ≡ t)
 append_same [] [] r t l e = (refl, e)
 append_same [] (y ∷ ys) r t l e = absurd (omega arith)
 append_same (x ∷ xs) [] r t l e = absurd (omega arith)
-append_same (x ∷ xs) (y ∷ ys) r t l e =
-    let h = append_same xs ys r t (omega arith) (ap (drop 1) e) in
-    let f : x ≡ y = ap (λ (z : List (List ℕ)). get_or z 0 []) e in
-    (ap (λ (z : List ℕ). z ∷ xs) f ∙ ap (λ (z : List (List ℕ)). y ∷ z) h.0, h.1)
+append_same (x ∷ xs) (y ∷ ys) r t l e = grind (arith, append_same xs ys r t (omega arith) (ap (drop 1) e))
 
 -- one line more
 pub pushed : (a b xs : List (List ℕ)) (line : List ℕ) → a ≡ b ++ line ∷ [] → b ≡ xs → a ≡ xs ++ line ∷ []

@@ -1,5 +1,5 @@
 -- Numbers in decimal, and the text that `parse` reads.
-use Rattle.std.proofs.Common.{◌≡◌, ◌≢◌, ℕ, ◌<◌, ◌≤◌, ◌^◌, zero, suc, List, [], ◌∷◌, ◌++◌, drop, Result, Ok, Err, Option, IfSome, IfNone, refl, sym, ap, ◌∙◌, arith, length, get_or, decimal, subst}
+use Rattle.std.proofs.Common.{◌≡◌, ◌≢◌, ℕ, ◌<◌, ◌≤◌, ◌^◌, zero, suc, List, [], ◌∷◌, ◌++◌, drop, Result, Option, IfSome, IfNone, refl, sym, ap, ◌∙◌, arith, length, get_or, decimal, subst}
 use Rattle.std.specs.Str.{IsUtf8}
 use Rattle.std.specs.Str.Parse.{AllDigits, digits_value, ParsesUnsigned}
 use Rattle.std.proofs.lemmas.Str.{IsUtf8-from_ascii}
@@ -21,9 +21,7 @@ pub no_space_decimal : (n : ℕ) → n < 2 ^ 64 → NoSpace (decimal n)
 no_space_decimal n h = no_space_digits (decimal n) (digits_decimal own n h)
 
 pub decimal_starts : (n : ℕ) → n < 2 ^ 64 → (48 ≤ get_or (decimal n) 0 0) × (get_or (decimal n) 0 0 ≤ 57) × (0 < length (decimal n))
-decimal_starts n h =
-    let l = decimal_nonempty n h in
-    let r = digit_at (decimal n) 0 (digits_decimal own n h) l in (r.0, r.1, l)
+decimal_starts = grind (arith, decimal_nonempty, digit_at, digits_decimal, own)
 
 pub decimal_zero : (n : ℕ) → n < 2 ^ 64 → get_or (decimal n) 0 0 ≡ 48 → length (decimal n) ≡ 1
 decimal_zero zero h e = ap length (decimal_digit 0 (omega arith))
@@ -33,9 +31,7 @@ pub decimal_utf8 : (n : ℕ) → n < 2 ^ 64 → IsUtf8 (decimal n)
 decimal_utf8 n h = IsUtf8-from_ascii (decimal n) (IsAscii-decimal n h)
 
 pub decimal_plain : (n : ℕ) → n < 2 ^ 64 → IsPlain (decimal n)
-decimal_plain n h =
-    let q = decimal_starts n h in
-    record { some = q.2; sign = λ e. omega arith; zeros = λ e. let l = decimal_zero n h e in omega arith }
+decimal_plain = grind (arith, decimal_starts, decimal_zero)
 
 pub unplain : (bs : List ℕ) (n : ℕ) → (IsPlain bs → ⊥) → n < 2 ^ 64 → bs ≢ decimal n
 unplain bs n over h e = over (subst IsPlain (sym e) (decimal_plain n h))
@@ -52,23 +48,10 @@ parsed_ok bs v x plain p same e =
 
 -- what `parse` gives where the bytes are plain
 pub parsed : {E : Type 0} (bs t : List ℕ) (r : Result ℕ E) (o : Option ℕ) → ParsesUnsigned 64 10 t r → t ≡ bs → o ≡ result_ok r → IsPlain bs → IfSome o (λ n. bs ≡ decimal n)
-parsed {E} bs t (Ok x) o h same e plain =
-    let q = subst (λ (y : List ℕ). ParsesUnsigned {E = E} 64 10 y (Ok x)) same h in
-    let p = parse_plain own {E = E} 64 bs (Ok x) q plain.sign in
-    subst (λ (y : Option ℕ). IfSome y (λ n. bs ≡ decimal n)) (sym e) (parsed_ok bs (digits_value 10 bs) x plain p.0 refl p.1)
-parsed {E} bs t (Err y) o h same e plain = subst (λ (y : Option ℕ). IfSome y (λ n. bs ≡ decimal n)) (sym e) tt
+parsed = grind (arith, parse_plain, own, parsed_ok)
 
 pub unparsed : {E : Type 0} (bs t : List ℕ) (r : Result ℕ E) (o : Option ℕ) → ParsesUnsigned 64 10 t r → t ≡ bs → o ≡ result_ok r → IsPlain bs → IfNone o ((n : ℕ) → n < 2 ^ 64 → bs ≢ decimal n)
-unparsed {E} bs t (Ok x) o h same e plain = subst (λ (y : Option ℕ). IfNone y ((n : ℕ) → n < 2 ^ 64 → bs ≢ decimal n)) (sym e) tt
-unparsed {E} bs t (Err y) o h same e plain =
-    let q = subst (λ (z : List ℕ). ParsesUnsigned {E = E} 64 10 z (Err y)) same h in
-    let p = parse_plain own {E = E} 64 bs (Err y) q plain.sign in
-    subst (λ (y : Option ℕ). IfNone y ((n : ℕ) → n < 2 ^ 64 → bs ≢ decimal n)) (sym e)
-    (λ n small s. p (
-      subst (AllDigits 10) (sym s) (digits_decimal own n small),
-      plain.some,
-      subst (λ (b : List ℕ). digits_value 10 b < 2 ^ 64) (sym s) (subst (λ (v : ℕ). v < 2 ^ 64) (sym (digits_value-decimal own n small)) small),
-    ))
+unparsed = grind (arith, parse_plain, own, digits_decimal, digits_value-decimal)
 
 pub decimal_not_zero : (bs : List ℕ) (m n : ℕ) → bs ≡ decimal m → m ≡ 0 → 0 < n → n < 2 ^ 64 → bs ≢ decimal n
 decimal_not_zero bs m n f z some small e =

@@ -1,13 +1,12 @@
 -- One line after another.
-use Rattle.std.proofs.Common.{◌≡◌, ◌≢◌, ℕ, ◌+◌, ◌-◌, ◌<◌, ◌≤◌, Bool, true, false, ◌==◌, cond, List, [], ◌∷◌, ◌++◌, refl, sym, ap, ◌∙◌, arith, eq-eqb, length, get_or, take, drop, filter, subst}
-use Rattle.std.specs.List.{slice_split, position_or_len, before_first, after_first}
+use Rattle.std.proofs.Common.{◌≡◌, ◌≢◌, ℕ, ◌+◌, ◌-◌, ◌<◌, ◌≤◌, Bool, true, false, ◌==◌, cond, List, [], ◌∷◌, ◌++◌, refl, sym, ap, ◌∙◌, arith, length, get_or, take, drop, filter}
 use Rattle.std.specs.Str.Lines.{lines, lines_of_parts, strip_carriage_return}
 use Rattle.std.proofs.lemmas.Bool.{ne_eqb}
 use Rattle.std.proofs.lemmas.List.Sums.{position_or_len_is}
 use Rattle.std.proofs.lemmas.List.{get_or_default, drop_all, drop_more, drop-drop, length-drop, append-nil, nil_from_length, take_all}
 use Rattle.std.proofs.lemmas.List.Elements.{filter_more}
 use Rattle.std.proofs.lemmas.List.Splits.{slice_split_first, slice_split_none, length-slice_split}
-use Rattle.exec_text.specs.{Grammar.says_something, Reading.{said_before, IsBeforeLine, IsNextSaid, IsLastSaid}}
+use Rattle.exec_text.specs.{Grammar.says_something, Reading.{said_before, IsBeforeLine, IsNextSaid}}
 
 abbrev newline : ℕ → Bool
 newline b = b == 10
@@ -18,11 +17,7 @@ parts_more x (y ∷ more) h = refl
 
 -- the text up to its first newline is a line
 pub line_ended : (text : List ℕ) (n : ℕ) → n < length text → get_or text n 0 ≡ 10 → ((k : ℕ) → k < n → get_or text k 0 ≢ 10) → lines text ≡ strip_carriage_return (take n text) ∷ lines (drop (n + 1) text)
-line_ended text n h at before =
-    let e : position_or_len newline text ≡ n = position_or_len_is newline text n 0 (omega arith) (λ k l. ne_eqb (get_or text k 0) 10 (before k l)) (λ _. eq-eqb (get_or text n 0) 10 at) in
-    let s = slice_split_first newline text 0 (omega arith) in
-    ap lines_of_parts s ∙ parts_more (before_first newline text) (slice_split newline (after_first newline text)) (omega (arith, length-slice_split newline (after_first newline text)))
-    ∙ ap (λ (k : ℕ). strip_carriage_return (take k text) ∷ lines (drop (k + 1) text)) e
+line_ended = grind (arith, position_or_len_is, ne_eqb, slice_split_first, parts_more, length-slice_split)
 
 one_part : (x : List ℕ) → 0 < length x → lines_of_parts (x ∷ []) ≡ x ∷ []
 one_part [] h = absurd (omega arith)
@@ -50,12 +45,7 @@ one_more text from number size line p e some fits =
     let d : drop number (lines text) ≡ line ∷ lines (drop size (drop from text)) = p.rest ∙ e in
     let l : number < length (lines text) = omega (arith, ap length d, length-drop number (lines text)) in
     let m : get_or (lines text) number [] ∷ drop (number + 1) (lines text) ≡ line ∷ lines (drop size (drop from text)) = sym (drop_more (lines text) number [] l) ∙ d in
-    record {
-      within = omega (arith, length-drop from text);
-      few = omega arith;
-      counted = omega arith;
-      rest = ap (drop 1) m ∙ ap lines (drop-drop size from text);
-    }
+    grind (arith, length-drop, drop-drop)
 
 pub said_yes : (text : List ℕ) (n : ℕ) (line : List ℕ) → n < length (lines text) → line ≡ get_or (lines text) n [] → says_something line ≡ true → said_before text (n + 1) ≡ said_before text n ++ line ∷ []
 unfolding said_before
@@ -79,29 +69,7 @@ said_all text n e = ap (filter says_something) (take_all n (lines text) (omega a
 
 -- what is known after the line of number n, of the text t
 pub said_found : (text t : List ℕ) (old n m : ℕ) (line : List ℕ) → t ≡ text → old ≤ n → said_before text n ≡ said_before text old → m ≡ n + 1 → n < length (lines t) → line ≡ get_or (lines t) n [] → says_something line ≡ true → IsNextSaid text old m line
-said_found text t old n m line e more s step within at says =
-    let l : n < length (lines text) = subst (λ (x : List ℕ). n < length (lines x)) e within in
-    let g : line ≡ get_or (lines text) n [] = subst (λ (x : List ℕ). line ≡ get_or (lines x) n []) e at in
-    let b : m - 1 ≡ n = omega arith in
-    record {
-      more = omega arith;
-      counted = omega arith;
-      said = ap (said_before text) step ∙ said_yes text n line l g says ∙ ap (λ (x : List (List ℕ)). x ++ line ∷ []) s;
-      front = ap (said_before text) b ∙ s;
-    }
+said_found = grind (arith, said_yes)
 
 pub said_past : (text t : List ℕ) (old n m : ℕ) (line : List ℕ) → t ≡ text → said_before text n ≡ said_before text old → m ≡ n + 1 → n < length (lines t) → line ≡ get_or (lines t) n [] → says_something line ≡ false → said_before text m ≡ said_before text old
-said_past text t old n m line e s step within at says =
-    let l : n < length (lines text) = subst (λ (x : List ℕ). n < length (lines x)) e within in
-    let g : line ≡ get_or (lines text) n [] = subst (λ (x : List ℕ). line ≡ get_or (lines x) n []) e at in
-    ap (said_before text) step ∙ said_no text n line l g says ∙ s
-
-pub fewer_left : (text t : List ℕ) (n m : ℕ) → t ≡ text → m ≡ n + 1 → n < length (lines t) → length (lines text) - m < length (lines text) - n
-fewer_left text t n m e step within =
-    let l : n < length (lines text) = subst (λ (x : List ℕ). n < length (lines x)) e within in omega arith
-
-pub said_none : (text t : List ℕ) (old n m : ℕ) → t ≡ text → said_before text n ≡ said_before text old → m ≡ n → n ≡ length (lines t) → IsLastSaid text old m
-said_none text t old n m e s stays end = record {
-  all = stays ∙ end ∙ ap (λ (x : List ℕ). length (lines x)) e;
-  said = ap (said_before text) stays ∙ s;
-}
+said_past = grind (arith, said_no)

@@ -1,13 +1,11 @@
 -- How many scripts count.
-use Rattle.std.proofs.Common.{◌≡◌, ℕ, ◌+◌, ◌-◌, ◌<◌, ◌≤◌, inl, inr, Bool, true, false, cond, not, ◌==◌, List, [], ◌∷◌, ◌++◌, refl, sym, ap, ◌∙◌, arith, map, filter, length, take, drop, append_assoc, codes, length-append, subst}
+use Rattle.std.proofs.Common.{◌≡◌, ℕ, ◌+◌, ◌-◌, ◌<◌, ◌≤◌, inl, inr, Bool, true, false, cond, List, [], ◌∷◌, ◌++◌, refl, sym, ap, ◌∙◌, arith, map, filter, length, take, drop, append_assoc, length-append, subst}
 use Rattle.std.specs.Str.Lines.{lines}
-use Rattle.std.proofs.lemmas.Bool.{false≢true, eqb-true}
 use Rattle.std.proofs.lemmas.Bool.Decides.{leb_tells}
 use Rattle.std.proofs.lemmas.List.{take-append-drop, take-take, take_all, append-nil}
 use Rattle.std.proofs.lemmas.List.Elements.{filter-append}
 use Rattle.exec_machine.specs.declared.{config.{Configuration.Configuration, ScriptWord.ScriptWord}, step.{Step.{Step, TheVariants.{Work, One}}, Action.Action}}
-use Rattle.exec_machine.specs.declared.step.Action.TheVariants as action
-use Rattle.exec_text.specs.{Grammar.{Meaning, IsWellFormed, says_something, is_script, scripts_among, ScriptsThatCount, CanBegin, trace_lines, text_of_script, text_of_root, text_of_step}, Reading.{said_before, all_said, header, IsNextSaid, IsLastSaid}}
+use Rattle.exec_text.specs.{Grammar.{Meaning, IsWellFormed, says_something, is_script, scripts_among, ScriptsThatCount, CanBegin, trace_lines, text_of_script, text_of_step}, Reading.{said_before, all_said, header, IsNextSaid, IsLastSaid}}
 use Rattle.exec_text.proofs.{Said.said_all, Begins.{Formed, below, lines_are}}
 
 -- COUNTING
@@ -18,9 +16,7 @@ scripts_more xs ys = ap length (filter-append is_script xs ys) ∙ length-append
 
 one_script : (line : List ℕ) (rest : List (List ℕ)) → is_script line ≡ true → scripts_among (line ∷ rest) ≡ scripts_among rest + 1
 unfolding scripts_among
-one_script line rest e =
-    let k : length (line ∷ filter is_script rest) ≡ length (filter is_script rest) + 1 = omega arith in
-    ap (λ (b : Bool). length (cond b (line ∷ filter is_script rest) (filter is_script rest))) e ∙ k
+one_script = grind arith
 
 no_script : (line : List ℕ) (rest : List (List ℕ)) → is_script line ≡ false → scripts_among (line ∷ rest) ≡ scripts_among rest
 unfolding scripts_among
@@ -30,25 +26,8 @@ none_among : scripts_among [] ≡ 0
 unfolding scripts_among
 none_among = refl
 
--- a line of a script says something
-says_of : (line : List ℕ) → is_script line ≡ true → says_something line ≡ true
-says_of [] h = absurd (false≢true h)
-says_of (b ∷ bytes) h = by_first (b == 35) refl
-  where
-    by_first : (t : Bool) → (b == 35) ≡ t → not (b == 35) ≡ true
-    by_first false e = ap not e
-    by_first true e =
-        let same : b ≡ 35 = eqb-true b 35 e in
-        let k : is_script (35 ∷ bytes) ≡ true = subst (λ (x : ℕ). is_script (x ∷ bytes) ≡ true) same h in absurd (false≢true k)
-
 filter_step : (x : List ℕ) (xs : List (List ℕ)) → filter is_script (filter says_something xs) ≡ filter is_script xs → (a b : Bool) → is_script x ≡ a → says_something x ≡ b → filter is_script (filter says_something (x ∷ xs)) ≡ filter is_script (x ∷ xs)
-filter_step x xs h true false e f = absurd (false≢true (sym f ∙ says_of x e))
-filter_step x xs h false false e f =
-    ap (λ (t : Bool). filter is_script (cond t (x ∷ filter says_something xs) (filter says_something xs))) f ∙ h
-    ∙ sym (ap (λ (t : Bool). cond t (x ∷ filter is_script xs) (filter is_script xs)) e)
-filter_step x xs h a true e f =
-    ap (λ (t : Bool). filter is_script (cond t (x ∷ filter says_something xs) (filter says_something xs))) f
-    ∙ ap (λ (l : List (List ℕ)). cond (is_script x) (x ∷ l) l) h
+filter_step = grind arith
 
 filter_twice : (xs : List (List ℕ)) → filter is_script (filter says_something xs) ≡ filter is_script xs
 filter_twice [] = refl
@@ -79,16 +58,7 @@ scripts_all [] = none_among
 scripts_all (s ∷ ss) = one_script (text_of_script s) (map text_of_script ss) refl ∙ omega (arith, scripts_all ss)
 
 action_no : (a : Action) → is_script (text_of_step (One a)) ≡ false
-action_no (action.Work v) = refl
-action_no (action.Spawn j k) = refl
-action_no (action.Wake j t) = refl
-action_no (action.GoOn j) = refl
-action_no (action.Clock d) = refl
-action_no (action.Land r o) = refl
-action_no (action.SetBusy v) = refl
-action_no (action.EndPoll v) = refl
-action_no (action.Stir v) = refl
-action_no (action.Peer l) = refl
+action_no = grind arith
 
 steps_none : (steps : List Step) → scripts_among (map text_of_step steps) ≡ 0
 steps_none [] = none_among
@@ -96,15 +66,10 @@ steps_none (Work v n ∷ steps) = no_script (text_of_step (Work v n)) (map text_
 steps_none (One a ∷ steps) = no_script (text_of_step (One a)) (map text_of_step steps) (action_no a) ∙ steps_none steps
 
 below_count : (scripts : List (List ScriptWord)) (root : List ScriptWord) (steps : List Step) → scripts_among (below scripts root steps) ≡ length scripts
-below_count scripts root steps =
-    let t = map text_of_step steps in
-    scripts_more (map text_of_script scripts) (text_of_root root ∷ codes "steps" ∷ t)
-    ∙ omega (arith, scripts_all scripts, no_script (text_of_root root) (codes "steps" ∷ t) refl, no_script (codes "steps") t refl, steps_none steps)
+below_count = grind (arith, scripts_more, scripts_all, no_script, steps_none)
 
 pub trace_count : (p : Meaning) → scripts_among (trace_lines p) ≡ length p.plan.scripts
-trace_count p =
-    ap scripts_among (lines_are p) ∙ scripts_more (header p.plan.config) (below p.plan.scripts p.plan.root p.steps)
-    ∙ omega (arith, header_none p.plan.config, below_count p.plan.scripts p.plan.root p.steps)
+trace_count = grind (arith, lines_are, scripts_more, below, header_none, below_count)
 
 pub head_count : (c : Configuration) (said : List (List ℕ)) (ss : List (List ScriptWord)) → said ≡ header c ++ map text_of_script ss → scripts_among said ≡ length ss
 head_count c said ss e =
@@ -113,9 +78,7 @@ head_count c said ss e =
 -- WHICH COUNT
 
 pub count_is_one : (text : List ℕ) (m n : ℕ) → ScriptsThatCount text m → ScriptsThatCount text n → m ≡ n
-count_is_one text m n a b =
-    let x = a.most b.last b.begin in
-    let y = b.most a.last a.begin in omega (arith, a.counted, b.counted, x, y)
+count_is_one = grind arith
 
 pub count_is : (text : List ℕ) (count : ℕ) (p : Meaning) → ScriptsThatCount text count → IsWellFormed p → all_said text ≡ trace_lines p → count ≡ length p.plan.scripts
 count_is text count p a f e =

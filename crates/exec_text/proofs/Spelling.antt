@@ -1,34 +1,20 @@
 -- How words are spelled: a name, and numbers behind it.
-use Rattle.std.specs.Prelude.{nat_le}
 use Rattle.std.specs.Cmp.Lexicographic.{pointwise}
-use Rattle.std.proofs.Common.{◌≡◌, ℕ, zero, suc, ◌<◌, ◌≤◌, ◌^◌, Bool, true, cond, ◌&&◌, eqb, List, [], ◌∷◌, ◌++◌, codes, decimal, refl, sym, ap, ◌∙◌, arith, length, get_or, drop, append_assoc}
-use Rattle.std.proofs.lemmas.Bool.{and_parts, leb-true}
+use Rattle.std.proofs.Common.{◌≡◌, ℕ, zero, suc, ◌<◌, ◌≤◌, ◌^◌, cond, eqb, List, [], ◌∷◌, ◌++◌, codes, decimal, refl, sym, ap, ◌∙◌, arith, length, get_or, drop, append_assoc}
 use Rattle.std.proofs.lemmas.List.{length-drop}
 use Rattle.exec_machine.specs.declared.config.{Configuration.Configuration, ScriptWord.ScriptWord}
 use Rattle.exec_machine.specs.declared.config.ScriptWord.TheVariants as word
-use Rattle.exec_text.specs.{Grammar.{HeaderFits, text_of_word, WordFits, SocketFits, FileFits}, Reading.{NoSpace, IsField, IsNumber, IsCut, IsWord, name_of, numbers_of, IsSpelled, IsNoWord}}
+use Rattle.exec_text.specs.{Grammar.{HeaderFits, text_of_word, WordFits}, Reading.{NoSpace, IsField, IsNumber, IsCut, IsWord, name_of, numbers_of, IsSpelled, IsNoWord}}
 use Rattle.exec_text.proofs.{Fields.field_same, Numbers.{spaced, AllSmall, spaced_cut, spaced_same, spaced_left, spaced_more, front_number}}
 
 two_behind : (a b : ℕ) (rest : List ℕ) → ((32 ∷ decimal a) ++ 32 ∷ decimal b) ++ rest ≡ spaced (a ∷ b ∷ []) rest
 two_behind a b rest = ap (λ (t : List ℕ). 32 ∷ t) (append_assoc (decimal a) (32 ∷ decimal b) rest)
 
 three_behind : (a b d : ℕ) (rest : List ℕ) → ((32 ∷ decimal a) ++ (32 ∷ decimal b) ++ 32 ∷ decimal d) ++ rest ≡ spaced (a ∷ b ∷ d ∷ []) rest
-three_behind a b d rest =
-    let second : List ℕ = 32 ∷ decimal b in
-    let third : List ℕ = 32 ∷ decimal d in
-    ap (λ (t : List ℕ). 32 ∷ t) (append_assoc (decimal a ++ second) third rest ∙ append_assoc (decimal a) second (third ++ rest))
+three_behind = grind (arith, append_assoc)
 
 pub word_is : (w : ScriptWord) (rest : List ℕ) → text_of_word w ++ rest ≡ name_of w ++ spaced (numbers_of w) rest
-word_is (word.Send socket size) rest = ap (λ (t : List ℕ). codes "send" ++ t) (two_behind socket size rest)
-word_is (word.Recv socket size) rest = ap (λ (t : List ℕ). codes "recv" ++ t) (two_behind socket size rest)
-word_is (word.Fill socket size) rest = ap (λ (t : List ℕ). codes "fill" ++ t) (two_behind socket size rest)
-word_is (word.Read file offset size) rest = ap (λ (t : List ℕ). codes "read" ++ t) (three_behind file offset size rest)
-word_is (word.Hint file offset size) rest = ap (λ (t : List ℕ). codes "hint" ++ t) (three_behind file offset size rest)
-word_is (word.Direct file offset size) rest = ap (λ (t : List ℕ). codes "direct" ++ t) (three_behind file offset size rest)
-word_is (word.Write file offset size) rest = ap (λ (t : List ℕ). codes "write" ++ t) (three_behind file offset size rest)
-word_is (word.Dsync file offset size) rest = ap (λ (t : List ℕ). codes "dsync" ++ t) (three_behind file offset size rest)
-word_is (word.Many file offset size) rest = ap (λ (t : List ℕ). codes "many" ++ t) (three_behind file offset size rest)
-word_is _ rest = refl
+word_is = grind (arith, two_behind, three_behind)
 
 -- the word of this name and these numbers
 unfoldable pub word_from : List ℕ → List ℕ → ScriptWord
@@ -57,27 +43,7 @@ word_from name ns =
 
 word_again : (w : ScriptWord) → word_from (name_of w) (numbers_of w) ≡ w
 unfolding word_from
-word_again (word.Poll listener) = refl
-word_again (word.Send socket size) = refl
-word_again (word.Recv socket size) = refl
-word_again (word.Fill socket size) = refl
-word_again (word.Connect socket) = refl
-word_again (word.Read file offset size) = refl
-word_again (word.Hint file offset size) = refl
-word_again (word.Direct file offset size) = refl
-word_again (word.Write file offset size) = refl
-word_again (word.Dsync file offset size) = refl
-word_again (word.Many file offset size) = refl
-word_again (word.Sync file) = refl
-word_again word.Await = refl
-word_again word.Drop = refl
-word_again (word.Sleep time) = refl
-word_again (word.Spawn script) = refl
-word_again (word.Dedicated script) = refl
-word_again (word.Wake task) = refl
-word_again word.Yield = refl
-word_again word.End = refl
-word_again (word.Fault code) = refl
+word_again = grind arith
 
 pub word_named : (name ns : List ℕ) (w : ScriptWord) → IsSpelled name ns w → word_from name ns ≡ w
 word_named name ns w s = ap (λ (n : List ℕ). word_from n ns) s.named ∙ ap (λ (k : List ℕ). word_from (name_of w) k) s.counted ∙ word_again w
@@ -88,126 +54,19 @@ count_from name = length (numbers_of (word_from name []))
 
 count_again : (w : ScriptWord) → count_from (name_of w) ≡ length (numbers_of w)
 unfolding word_from
-count_again (word.Poll listener) = refl
-count_again (word.Send socket size) = refl
-count_again (word.Recv socket size) = refl
-count_again (word.Fill socket size) = refl
-count_again (word.Connect socket) = refl
-count_again (word.Read file offset size) = refl
-count_again (word.Hint file offset size) = refl
-count_again (word.Direct file offset size) = refl
-count_again (word.Write file offset size) = refl
-count_again (word.Dsync file offset size) = refl
-count_again (word.Many file offset size) = refl
-count_again (word.Sync file) = refl
-count_again word.Await = refl
-count_again word.Drop = refl
-count_again (word.Sleep time) = refl
-count_again (word.Spawn script) = refl
-count_again (word.Dedicated script) = refl
-count_again (word.Wake task) = refl
-count_again word.Yield = refl
-count_again word.End = refl
-count_again (word.Fault code) = refl
+count_again = grind arith
 
 pub same_count : (v w : ScriptWord) → name_of v ≡ name_of w → length (numbers_of v) ≡ length (numbers_of w)
 same_count v w e = sym (count_again v) ∙ ap count_from e ∙ count_again w
 
 at_most_three : (w : ScriptWord) → length (numbers_of w) ≤ 3
-at_most_three (word.Poll listener) = omega arith
-at_most_three (word.Send socket size) = omega arith
-at_most_three (word.Recv socket size) = omega arith
-at_most_three (word.Fill socket size) = omega arith
-at_most_three (word.Connect socket) = omega arith
-at_most_three (word.Read file offset size) = omega arith
-at_most_three (word.Hint file offset size) = omega arith
-at_most_three (word.Direct file offset size) = omega arith
-at_most_three (word.Write file offset size) = omega arith
-at_most_three (word.Dsync file offset size) = omega arith
-at_most_three (word.Many file offset size) = omega arith
-at_most_three (word.Sync file) = omega arith
-at_most_three word.Await = omega arith
-at_most_three word.Drop = omega arith
-at_most_three (word.Sleep time) = omega arith
-at_most_three (word.Spawn script) = omega arith
-at_most_three (word.Dedicated script) = omega arith
-at_most_three (word.Wake task) = omega arith
-at_most_three word.Yield = omega arith
-at_most_three word.End = omega arith
-at_most_three (word.Fault code) = omega arith
-
-abbrev are_letters : List ℕ → Bool
-are_letters [] = true
-are_letters (b ∷ bs) = nat_le 97 b && are_letters bs
-
-letters_clean : (bs : List ℕ) → are_letters bs ≡ true → NoSpace bs
-letters_clean [] h = tt
-letters_clean (b ∷ bs) h =
-    let p = and_parts (nat_le 97 b) (are_letters bs) h in
-    let l : 97 ≤ b = leb-true 97 b p.0 in
-    (λ e. omega arith, letters_clean bs p.1)
+at_most_three = grind arith
 
 pub name_clean : (w : ScriptWord) → NoSpace (name_of w)
-name_clean (word.Poll listener) = letters_clean (codes "poll") refl
-name_clean (word.Send socket size) = letters_clean (codes "send") refl
-name_clean (word.Recv socket size) = letters_clean (codes "recv") refl
-name_clean (word.Fill socket size) = letters_clean (codes "fill") refl
-name_clean (word.Connect socket) = letters_clean (codes "conn") refl
-name_clean (word.Read file offset size) = letters_clean (codes "read") refl
-name_clean (word.Hint file offset size) = letters_clean (codes "hint") refl
-name_clean (word.Direct file offset size) = letters_clean (codes "direct") refl
-name_clean (word.Write file offset size) = letters_clean (codes "write") refl
-name_clean (word.Dsync file offset size) = letters_clean (codes "dsync") refl
-name_clean (word.Many file offset size) = letters_clean (codes "many") refl
-name_clean (word.Sync file) = letters_clean (codes "sync") refl
-name_clean word.Await = letters_clean (codes "await") refl
-name_clean word.Drop = letters_clean (codes "drop") refl
-name_clean (word.Sleep time) = letters_clean (codes "sleep") refl
-name_clean (word.Spawn script) = letters_clean (codes "spawn") refl
-name_clean (word.Dedicated script) = letters_clean (codes "dedicated") refl
-name_clean (word.Wake task) = letters_clean (codes "wake") refl
-name_clean word.Yield = letters_clean (codes "yield") refl
-name_clean word.End = letters_clean (codes "end") refl
-name_clean (word.Fault code) = letters_clean (codes "fault") refl
-
-socket_small : (c : Configuration) (s n : ℕ) → HeaderFits c → SocketFits c s n → AllSmall (s ∷ n ∷ [])
-socket_small c s n f h =
-    let a : s < c.sockets = h.there in
-    let b : n ≤ 1048576 = h.most in
-    let l : c.sockets < 2 ^ 64 = f.sockets in (omega arith, (omega arith, tt))
-
-file_small : (c : Configuration) (k o n : ℕ) → HeaderFits c → FileFits c k o n → AllSmall (k ∷ o ∷ n ∷ [])
-file_small c k o n f h =
-    let a : k < c.files = h.there in
-    let b : o ≤ 2 ^ 62 = h.early in
-    let d : n ≤ 1048576 = h.most in
-    let l : c.files < 2 ^ 64 = f.files in (omega arith, (omega arith, (omega arith, tt)))
-
-place_small : (n limit : ℕ) → n < limit → limit < 2 ^ 64 → AllSmall (n ∷ [])
-place_small n limit a b = (omega arith, tt)
+name_clean = grind arith
 
 pub numbers_small : (c : Configuration) (w : ScriptWord) → HeaderFits c → WordFits c w → AllSmall (numbers_of w)
-numbers_small c (word.Poll listener) f h = place_small listener c.sockets h f.sockets
-numbers_small c (word.Send socket size) f h = socket_small c socket size f h
-numbers_small c (word.Recv socket size) f h = socket_small c socket size f h
-numbers_small c (word.Fill socket size) f h = socket_small c socket size f h
-numbers_small c (word.Connect socket) f h = place_small socket c.sockets h f.sockets
-numbers_small c (word.Read file offset size) f h = file_small c file offset size f h
-numbers_small c (word.Hint file offset size) f h = file_small c file offset size f h
-numbers_small c (word.Direct file offset size) f h = file_small c file offset size f h
-numbers_small c (word.Write file offset size) f h = file_small c file offset size f h
-numbers_small c (word.Dsync file offset size) f h = file_small c file offset size f h
-numbers_small c (word.Many file offset size) f h = file_small c file offset size f h
-numbers_small c (word.Sync file) f h = place_small file c.files h f.files
-numbers_small c word.Await f h = tt
-numbers_small c word.Drop f h = tt
-numbers_small c (word.Sleep time) f h = (h, tt)
-numbers_small c (word.Spawn script) f h = (h, tt)
-numbers_small c (word.Dedicated script) f h = (h, tt)
-numbers_small c (word.Wake task) f h = (h, tt)
-numbers_small c word.Yield f h = tt
-numbers_small c word.End f h = tt
-numbers_small c (word.Fault code) f h = (h, tt)
+numbers_small = grind arith
 
 small_drop : (k : ℕ) (ns : List ℕ) → AllSmall ns → AllSmall (drop k ns)
 small_drop zero ns h = h
@@ -231,21 +90,11 @@ small_more [] n h l = (l, tt)
 small_more (m ∷ ns) n h l = (h.0, small_more ns n h.1 l)
 
 pub front_more : (bs name ns rest after : List ℕ) (n : ℕ) → IsFront bs name ns rest → IsNumber rest n after → IsFront bs name (ns ++ n ∷ []) after
-front_more bs name ns rest after n f h = record {
-  spelled = f.spelled ∙ ap (λ (t : List ℕ). 32 ∷ (name ++ spaced ns t)) h.spelled ∙ ap (λ (t : List ℕ). 32 ∷ (name ++ t)) (spaced_more ns n after);
-  clean = f.clean;
-  small = small_more ns n f.small h.small;
-  cut = h.cut;
-}
+front_more = grind (arith, spaced, spaced_more, small_more)
 
 -- the word that has them
 pub front_read : (c : Configuration) (bs name ns rest : List ℕ) (w : ScriptWord) → IsFront bs name ns rest → IsSpelled name ns w → WordFits c w → IsWord c bs w rest
-front_read c bs name ns rest w f s fits = record {
-  spelled = f.spelled ∙ ap (λ (n : List ℕ). 32 ∷ (n ++ spaced ns rest)) s.named ∙ ap (λ (k : List ℕ). 32 ∷ (name_of w ++ spaced k rest)) s.counted
-      ∙ ap (λ (t : List ℕ). 32 ∷ t) (sym (word_is w rest));
-  fits = fits;
-  cut = f.cut;
-}
+front_read = grind (arith, spaced, word_is)
 
 -- each word at the front has this name, and begins with these numbers
 pub front_same : (c : Configuration) (bs name ns rest r : List ℕ) (w : ScriptWord) → IsFront bs name ns rest → IsWord c bs w r → (name ≡ name_of w) × (spaced ns rest ≡ spaced (numbers_of w) r)

@@ -1,98 +1,17 @@
 -- The words of a script.
-use Rattle.std.proofs.Common.{◌≡◌, ◌≢◌, ℕ, ◌<◌, ◌≤◌, suc, true, false, List, [], ◌∷◌, ◌++◌, All, refl, sym, ap, ◌∙◌, subst, arith, length, get_or, codes, append_assoc}
+use Rattle.std.proofs.Common.{◌≡◌, ◌≢◌, ℕ, ◌<◌, suc, true, false, List, [], ◌∷◌, ◌++◌, All, refl, sym, ap, ◌∙◌, subst, arith, length, append_assoc}
 use Rattle.std.proofs.Common.{Option, Some, None, IfSome, IfNone}
 use Rattle.std.proofs.lemmas.Bool.{false≢true}
 use Rattle.std.proofs.lemmas.List.{flat_map_more}
 use Rattle.std.proofs.lemmas.List.Elements.{All-push}
 use Rattle.exec_machine.specs.declared.config.{Configuration.Configuration, ScriptWord.ScriptWord}
 use Rattle.exec_machine.specs.declared.config.ScriptWord.TheVariants as word
-use Rattle.exec_text.specs.{Grammar.{HeaderFits, text_of_word, text_of_words, WordFits, SocketFits, FileFits}, Reading.{IsCut, NoSpace, IsField, IsWord, name_of, numbers_of, IsSpelled, IsNoWord, names_within, AllRight, IsLineOf}}
-use Rattle.exec_text.proofs.{Fields.field_same, Numbers.spaced_same, Spelling.{word_is, word_from, word_named, same_count, name_clean, numbers_small, IsFront, front_same}}
+use Rattle.exec_text.specs.{Grammar.{HeaderFits, text_of_word, text_of_words, WordFits}, Reading.{IsCut, NoSpace, IsField, IsWord, name_of, numbers_of, names_within, AllRight, IsLineOf}}
+use Rattle.exec_text.proofs.{Fields.field_same, Numbers.spaced_same, Spelling.{word_is, word_named, same_count, name_clean, numbers_small, IsFront, front_same}}
 
 -- WHICH WORDS HAVE SO MANY NUMBERS
 
-pub no_plain : (c : Configuration) (name : List ℕ) → name ≢ codes "await" → name ≢ codes "drop" → name ≢ codes "yield" → name ≢ codes "end" → IsNoWord c name []
-no_plain c name no_await no_drop no_yield no_end word.Await fits s = no_await s.named
-no_plain c name no_await no_drop no_yield no_end word.Drop fits s = no_drop s.named
-no_plain c name no_await no_drop no_yield no_end word.Yield fits s = no_yield s.named
-no_plain c name no_await no_drop no_yield no_end word.End fits s = no_end s.named
-no_plain c name no_await no_drop no_yield no_end _ fits s = omega (arith, ap length s.counted)
-
-pub no_numbered : (c : Configuration) (name : List ℕ) (n : ℕ) → name ≢ codes "sleep" → name ≢ codes "fault" → name ≢ codes "spawn" → name ≢ codes "dedicated" → name ≢ codes "wake" → name ≢ codes "poll" → name ≢ codes "conn" → name ≢ codes "sync" → IsNoWord c name (n ∷ [])
-no_numbered c name n no_sleep no_fault no_spawn no_dedicated no_wake no_poll no_conn no_sync (word.Sleep time) fits s = no_sleep s.named
-no_numbered c name n no_sleep no_fault no_spawn no_dedicated no_wake no_poll no_conn no_sync (word.Fault code) fits s = no_fault s.named
-no_numbered c name n no_sleep no_fault no_spawn no_dedicated no_wake no_poll no_conn no_sync (word.Spawn script) fits s = no_spawn s.named
-no_numbered c name n no_sleep no_fault no_spawn no_dedicated no_wake no_poll no_conn no_sync (word.Dedicated script) fits s = no_dedicated s.named
-no_numbered c name n no_sleep no_fault no_spawn no_dedicated no_wake no_poll no_conn no_sync (word.Wake task) fits s = no_wake s.named
-no_numbered c name n no_sleep no_fault no_spawn no_dedicated no_wake no_poll no_conn no_sync (word.Poll listener) fits s = no_poll s.named
-no_numbered c name n no_sleep no_fault no_spawn no_dedicated no_wake no_poll no_conn no_sync (word.Connect socket) fits s = no_conn s.named
-no_numbered c name n no_sleep no_fault no_spawn no_dedicated no_wake no_poll no_conn no_sync (word.Sync file) fits s = no_sync s.named
-no_numbered c name n no_sleep no_fault no_spawn no_dedicated no_wake no_poll no_conn no_sync _ fits s = omega (arith, ap length s.counted)
-
-pub no_socket_word : (c : Configuration) (name : List ℕ) (a b : ℕ) → name ≢ codes "send" → name ≢ codes "recv" → name ≢ codes "fill" → IsNoWord c name (a ∷ b ∷ [])
-no_socket_word c name a b no_send no_recv no_fill (word.Send socket size) fits s = no_send s.named
-no_socket_word c name a b no_send no_recv no_fill (word.Recv socket size) fits s = no_recv s.named
-no_socket_word c name a b no_send no_recv no_fill (word.Fill socket size) fits s = no_fill s.named
-no_socket_word c name a b no_send no_recv no_fill _ fits s = omega (arith, ap length s.counted)
-
-pub no_file_word : (c : Configuration) (name : List ℕ) (a b d : ℕ) → name ≢ codes "read" → name ≢ codes "hint" → name ≢ codes "direct" → name ≢ codes "write" → name ≢ codes "dsync" → name ≢ codes "many" → IsNoWord c name (a ∷ b ∷ d ∷ [])
-no_file_word c name a b d no_read no_hint no_direct no_write no_dsync no_many (word.Read file offset size) fits s = no_read s.named
-no_file_word c name a b d no_read no_hint no_direct no_write no_dsync no_many (word.Hint file offset size) fits s = no_hint s.named
-no_file_word c name a b d no_read no_hint no_direct no_write no_dsync no_many (word.Direct file offset size) fits s = no_direct s.named
-no_file_word c name a b d no_read no_hint no_direct no_write no_dsync no_many (word.Write file offset size) fits s = no_write s.named
-no_file_word c name a b d no_read no_hint no_direct no_write no_dsync no_many (word.Dsync file offset size) fits s = no_dsync s.named
-no_file_word c name a b d no_read no_hint no_direct no_write no_dsync no_many (word.Many file offset size) fits s = no_many s.named
-no_file_word c name a b d no_read no_hint no_direct no_write no_dsync no_many _ fits s = omega (arith, ap length s.counted)
-
 -- what the place is among
-
-the_word : (c : Configuration) (name ns : List ℕ) (w v : ScriptWord) → word_from name ns ≡ v → IsSpelled name ns w → WordFits c w → WordFits c v
-the_word c name ns w v e s fits = subst (WordFits c) (sym (word_named name ns w s) ∙ e) fits
-
-pub poll_within : (c : Configuration) (name : List ℕ) (n : ℕ) → name ≡ codes "poll" → c.sockets ≤ n → IsNoWord c name (n ∷ [])
-unfolding word_from
-poll_within c name n e past w fits s =
-    let within : n < c.sockets = the_word c name (n ∷ []) w (word.Poll n) (ap (λ (x : List ℕ). word_from x (n ∷ [])) e) s fits in omega arith
-
-pub conn_within : (c : Configuration) (name : List ℕ) (n : ℕ) → name ≡ codes "conn" → c.sockets ≤ n → IsNoWord c name (n ∷ [])
-unfolding word_from
-conn_within c name n e past w fits s =
-    let within : n < c.sockets = the_word c name (n ∷ []) w (word.Connect n) (ap (λ (x : List ℕ). word_from x (n ∷ [])) e) s fits in omega arith
-
-pub sync_within : (c : Configuration) (name : List ℕ) (n : ℕ) → name ≡ codes "sync" → c.files ≤ n → IsNoWord c name (n ∷ [])
-unfolding word_from
-sync_within c name n e past w fits s =
-    let within : n < c.files = the_word c name (n ∷ []) w (word.Sync n) (ap (λ (x : List ℕ). word_from x (n ∷ [])) e) s fits in omega arith
-
-socket_there : (c : Configuration) (a b s n : ℕ) → a ∷ b ∷ [] ≡ s ∷ n ∷ [] → SocketFits c s n → SocketFits c a b
-socket_there c a b s n e h =
-    let x : a ≡ s = ap (λ (l : List ℕ). get_or l 0 0) e in
-    let y : b ≡ n = ap (λ (l : List ℕ). get_or l 1 0) e in
-    record { there = omega (arith, x, h.there); some = omega (arith, y, h.some); most = omega (arith, y, h.most) }
-
--- two numbers are a socket and a length
-pub socket_fits : (c : Configuration) (name : List ℕ) (a b : ℕ) (w : ScriptWord) → WordFits c w → IsSpelled name (a ∷ b ∷ []) w → SocketFits c a b
-socket_fits c name a b (word.Send s n) fits spelled = socket_there c a b s n spelled.counted fits
-socket_fits c name a b (word.Recv s n) fits spelled = socket_there c a b s n spelled.counted fits
-socket_fits c name a b (word.Fill s n) fits spelled = socket_there c a b s n spelled.counted fits
-socket_fits c name a b _ fits spelled = absurd (omega (arith, ap length spelled.counted))
-
-file_there : (c : Configuration) (a b d k o n : ℕ) → a ∷ b ∷ d ∷ [] ≡ k ∷ o ∷ n ∷ [] → FileFits c k o n → FileFits c a b d
-file_there c a b d k o n e h =
-    let x : a ≡ k = ap (λ (l : List ℕ). get_or l 0 0) e in
-    let y : b ≡ o = ap (λ (l : List ℕ). get_or l 1 0) e in
-    let z : d ≡ n = ap (λ (l : List ℕ). get_or l 2 0) e in
-    record { there = omega (arith, x, h.there); early = omega (arith, y, h.early); some = omega (arith, z, h.some); most = omega (arith, z, h.most) }
-
--- three numbers are a file, an offset and a length
-pub file_fits : (c : Configuration) (name : List ℕ) (a b d : ℕ) (w : ScriptWord) → WordFits c w → IsSpelled name (a ∷ b ∷ d ∷ []) w → FileFits c a b d
-file_fits c name a b d (word.Read k o n) fits spelled = file_there c a b d k o n spelled.counted fits
-file_fits c name a b d (word.Hint k o n) fits spelled = file_there c a b d k o n spelled.counted fits
-file_fits c name a b d (word.Direct k o n) fits spelled = file_there c a b d k o n spelled.counted fits
-file_fits c name a b d (word.Write k o n) fits spelled = file_there c a b d k o n spelled.counted fits
-file_fits c name a b d (word.Dsync k o n) fits spelled = file_there c a b d k o n spelled.counted fits
-file_fits c name a b d (word.Many k o n) fits spelled = file_there c a b d k o n spelled.counted fits
-file_fits c name a b d _ fits spelled = absurd (omega (arith, ap length spelled.counted))
 
 -- LISTS OF WORDS
 
@@ -195,11 +114,7 @@ some_words [] h = absurd (omega arith)
 some_words (w ∷ ws) h = omega arith
 
 line_is : (c : Configuration) (scripts : Option ℕ) (name line first rest : List ℕ) (words : List ScriptWord) → IsField line first rest → first ≡ name → 0 < length rest → rest ≡ text_of_words words → AllRight c scripts words → IsLineOf c scripts name line words
-line_is c scripts name line first rest words f e some s fit = record {
-  spelled = f.spelled ∙ ap (λ (n : List ℕ). n ++ rest) e ∙ ap (λ (t : List ℕ). name ++ t) s;
-  some = some_words words (subst (λ (t : List ℕ). 0 < length t) s some);
-  right = fit;
-}
+line_is = grind (arith, some_words)
 
 pub line_read : {V : Type 0} (c : Configuration) (scripts : Option ℕ) (Keeps : V → List ScriptWord → Type 0) (o : Option V) (name line first rest : List ℕ) → IsField line first rest → first ≡ name → 0 < length rest → IfSome o (λ v. (words : List ScriptWord) × (rest ≡ text_of_words words) × AllRight c scripts words × Keeps v words) → IfSome o (λ v. (words : List ScriptWord) × IsLineOf c scripts name line words × Keeps v words)
 line_read c scripts Keeps (Some v) name line first rest f e some h = (h.0, line_is c scripts name line first rest h.0 f e some h.1 h.2, h.3)

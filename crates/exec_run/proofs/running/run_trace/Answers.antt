@@ -1,21 +1,14 @@
-use Rattle.std.proofs.Common.{List, ℕ, refl, subst}
+use Rattle.std.proofs.Common.{List, ℕ, subst, arith}
 use Rattle.exec_text.specs.Grammar.{IsTraceOf, meaning_of}
-use Rattle.exec_run.specs.Reading.{CannotRun}
 use Rattle.std.proofs.lemmas.Result.{err_from_is_err_and}
-use Rattle.exec_run.proofs.{Counted.{few_of, few_scripts}, RunLemmas.{cause_of, unread}}
+use Rattle.exec_run.proofs.{Counted.{few_of, few_scripts}, RunLemmas.{cause_of}}
 use Rattle.exec_run.proofs.running.run_trace.Goals as goal
 
 pub returns-in_err-text-clause-err : goal.returns-in_err-text-clause-err
-returns-in_err-text-clause-err g c =
-    let p = err_from_is_err_and c.from_residual.result c.from_residual.ensures.1 in
-    rw (p.1, p.2) (unread c.in_err-text.field-0.0 _ _ _ _ c.in_err-text.ensures.err)
+returns-in_err-text-clause-err g c = grind arith
 
 pub returns-in_err-trace-clause-err : goal.returns-in_err-trace-clause-err
-returns-in_err-trace-clause-err g c =
-    let p = err_from_is_err_and c.from_residual-in_err-trace.result c.from_residual-in_err-trace.ensures.1 in
-    rw (p.1, p.2) (cause_of c.in_err-trace.field-0.0 _ c.in_ok-text.text.items _ _ _ _ c.in_ok-text.ensures.whole
-    (subst (λ (x : List ℕ). CannotRun c.in_err-trace.field-0.0 x) c.as_slice.ensures.value c.in_err-trace.ensures.err)
-    c.in_ok-text.ensures.well refl)
+returns-in_err-trace-clause-err g c = grind (arith, err_from_is_err_and, cause_of)
 
 pub log_trace-requires-clause-steps : goal.log_trace-requires-clause-steps
 log_trace-requires-clause-steps g c = c.in_ok-trace.ensures.ok.few

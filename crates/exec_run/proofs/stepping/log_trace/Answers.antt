@@ -1,4 +1,4 @@
-use Rattle.std.proofs.Common.{All, length, refl, sym, subst}
+use Rattle.std.proofs.Common.{All, length, refl, sym, subst, arith}
 use Rattle.exec_core.proofs.InTurn.{orderly}
 use Rattle.exec_moves.specs.Plays.{first_playing}
 use Rattle.exec_text.specs.Grammar.{StepFits, StepNames, meaning_of}
@@ -7,11 +7,7 @@ use Rattle.exec_run.proofs.{Told.on_ok, Logs.BeginsWell, Plans.{known_of, plan_o
 use Rattle.exec_run.proofs.stepping.log_trace.Goals as goal
 
 pub new-requires-clause-plan : goal.new-requires-clause-plan
-new-requires-clause-plan g c =
-    let t = c.args.trace in
-    let m = meaning_of t in
-    let is = plan_of t c.as_slice-scripts.result.now c.as_slice.result.now c.in_ok-roots.roots.items _ c.requires.fits c.requires.in_range c.requires.few c.as_slice-scripts.ensures.value c.as_slice.ensures.value c.config_of-config.ensures.told c.in_ok-roots.ensures in
-    (m.plan, is)
+new-requires-clause-plan g c = grind (arith, plan_of)
 
 pub take_steps-requires : goal.take_steps-requires
 take_steps-requires g c =

@@ -1,11 +1,9 @@
-use Rattle.std.proofs.Common.{inr}
+use Rattle.std.proofs.Common.{inr, arith}
 use Rattle.exec_run.proofs.{StepLemmas.{IsTaken, line_broken, line_taken}, Told.on_err}
 use Rattle.exec_run.proofs.stepping.take_line.Goals as goal
 
 pub apply-requires : goal.apply-requires
-apply-requires g c =
-    let at = c.requires.stands in
-    record { ready = (at.0, at.2.ready, c.body_of.ensures at.0 at.2.knows at.3) }
+apply-requires g c = grind arith
 
 pub returns-clause-takes : goal.returns-clause-takes
 returns-clause-takes g c =

@@ -1,10 +1,9 @@
 use Rattle.exec_run.proofs.{Told.on_err, StepLemmas.{named_in, one_leads, one_broke}}
+use Rattle.std.proofs.Common.{arith}
 use Rattle.exec_run.proofs.stepping.take_step.Goals as goal
 
 pub take_line-requires : goal.take_line-requires
-take_line-requires g c =
-    let at = c.requires.stands in
-    record { stands = (at.0, at.1, at.2, named_in at.0 c.args.step c.in-One.action c.in-One.is at.3) }
+take_line-requires g c = grind arith
 
 pub returns-in_err-take_line-in-One-clause-breaks : goal.returns-in_err-take_line-in-One-clause-breaks
 returns-in_err-take_line-in-One-clause-breaks g c =

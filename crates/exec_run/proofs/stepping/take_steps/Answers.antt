@@ -1,4 +1,4 @@
-use Rattle.std.proofs.Common.{◌∙◌, List, refl, subst, arith}
+use Rattle.std.proofs.Common.{◌∙◌, List, subst, arith}
 use Rattle.std.proofs.lemmas.List.{take_all}
 use Rattle.exec_machine.specs.declared.step.Step.{Step, TheVariants.Work}
 use Rattle.exec_moves.specs.Departures.{played}
@@ -7,10 +7,7 @@ use Rattle.exec_run.specs.Steps.{Leads}
 use Rattle.exec_run.proofs.stepping.take_steps.Goals as goal
 
 pub loop-step-init : goal.loop-step-init
-loop-step-init g c = record {
-  well = refl;
-  leads = λ p x stands names. leads_none _ _ _ _ _ c.args.quiet p x c.args.core.now (g.O.Output.given c.args.sink.now) stands;
-}
+loop-step-init g c = grind (arith, leads_none)
 
 pub take_step-requires : goal.take_step-requires
 take_step-requires g c =

@@ -1,13 +1,10 @@
-use Rattle.std.proofs.Common.{◌≡◌, ◌∙◌, refl, arith}
+use Rattle.std.proofs.Common.{◌≡◌, ◌∙◌, arith}
 use Rattle.exec_moves.specs.Departures.{played}
 use Rattle.exec_run.proofs.{Told.on_err, StepLemmas.{works_none, works_more, works_all, works_refused, works_stopped}}
 use Rattle.exec_run.proofs.stepping.take_work.Goals as goal
 
 pub loop-init : goal.loop-init
-loop-init g c = record {
-  well = refl;
-  works = λ p x stands. works_none _ _ _ _ _ c.args.quiet p x c.args.worker c.args.core.now (g.O.Output.given c.args.sink.now) stands;
-}
+loop-init g c = grind (arith, works_none)
 
 pub take_line-requires : goal.take_line-requires
 take_line-requires g c =

@@ -114,16 +114,4 @@ returns-in_err-read_value-8-clause-fault c =
 
 pub returns-clause-ok : goal.returns-clause-ok
 unfolding header
-returns-clause-ok c =
-    let t = c.args.lines.now.text.now in
-    let s0 : said_before t c.args.lines.now.number ≡ [] = ap (said_before t) c.requires ∙ said_first t in
-    let s1 = pushed _ _ _ _ c.in_ok-read_value.ensures.ok s0 in
-    let s2 = pushed _ _ _ _ c.in_ok-read_value-2.ensures.ok s1 in
-    let s3 = pushed _ _ _ _ c.in_ok-read_value-3.ensures.ok s2 in
-    let s4 = pushed _ _ _ _ c.in_ok-read_value-4.ensures.ok s3 in
-    let s5 = pushed _ _ _ _ c.in_ok-read_value-5.ensures.ok s4 in
-    let s6 = pushed _ _ _ _ c.in_ok-read_value-6.ensures.ok s5 in
-    let s7 = pushed _ _ _ _ c.in_ok-read_spin.ensures.ok s6 in
-    let s8 = pushed _ _ _ _ c.in_ok-read_value-7.ensures.ok s7 in
-    let s9 = pushed _ _ _ _ c.in_ok-read_value-8.ensures.ok s8 in
-    s9
+returns-clause-ok c = grind (arith, said_first, pushed)

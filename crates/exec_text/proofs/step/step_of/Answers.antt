@@ -1,5 +1,5 @@
-use Rattle.std.proofs.Common.{ℕ, ◌∷◌, ◌++◌, List, codes, decimal, ap, ◌∙◌}
-use Rattle.exec_text.proofs.{Fields.{told_equal, told_unequal, told_some, told_none, none_then, some_then}, Steps.{IsCutAt, cut_spelled, first_is, first_of, more_of, no_work, no_landing, no_more, no_letter, no_step}, Calls.{call_spelled, call_fits, call_names, no_call, letter_spelled}}
+use Rattle.std.proofs.Common.{ℕ, ◌∷◌, ◌++◌, List, codes, decimal, ap, ◌∙◌, arith}
+use Rattle.exec_text.proofs.{Fields.{told_equal, told_unequal, told_some, told_none, none_then, some_then}, Steps.{IsCutAt, cut_spelled, first_is, first_of, more_of, no_work, no_landing, no_more, no_letter, no_step}, Calls.{call_spelled, no_call, letter_spelled}}
 use Rattle.exec_text.proofs.step.step_of.Goals as goal
 
 pub returns-in_err-first-clause-none : goal.returns-in_err-first-clause-none
@@ -44,14 +44,10 @@ returns-then-eq-3-clause-found c =
     cut_spelled c.args.line.now c.first_field.result.0.now q.rest.now q.first cut ∙ ap (λ (t : List ℕ). t ++ 32 ∷ (decimal q.first ++ q.rest.now)) (told_equal c.first_field.result.0.now c.as_slice-3.result.now (codes "x") c.eq-3.result c.eq-3.ensures c.as_slice-3.ensures c.if-eq-3.true) ∙ call_spelled q.first c.args.scripts q.rest.now a.action a.ensures.found
 
 pub returns-then-eq-3-clause-fits : goal.returns-then-eq-3-clause-fits
-returns-then-eq-3-clause-fits c =
-    let q = c.in_ok-first in
-    let a = c.in_ok-action in call_fits q.first c.args.scripts q.rest.now a.action a.ensures.few a.ensures.found
+returns-then-eq-3-clause-fits c = grind arith
 
 pub returns-then-eq-3-clause-named : goal.returns-then-eq-3-clause-named
-returns-then-eq-3-clause-named c =
-    let q = c.in_ok-first in
-    let a = c.in_ok-action in call_names q.first c.args.scripts q.rest.now a.action a.ensures.found
+returns-then-eq-3-clause-named c = grind arith
 
 pub returns-then-not-is_empty-clause-none : goal.returns-then-not-is_empty-clause-none
 returns-then-not-is_empty-clause-none c =

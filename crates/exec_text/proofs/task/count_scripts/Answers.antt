@@ -1,4 +1,4 @@
-use Rattle.std.proofs.Common.{◌∙◌, arith}
+use Rattle.std.proofs.Common.{arith}
 use Rattle.exec_text.proofs.Tasks.{one_more, count_ended, count_stopped}
 use Rattle.exec_text.proofs.task.count_scripts.Goals as goal
 
@@ -10,16 +10,7 @@ returns-in_default-words_in c =
     count_stopped l.text.now a.ahead.text.now a.ahead.number c.next_said.new.self.number a.count c.in-Some.line.now c.args.config.now i.same_text c.requires.fits i.so_far c.in-Some.ensures.found c.in_default-words_in.ensures.none
 
 pub loop-line-preserved : goal.loop-line-preserved
-loop-line-preserved c =
-    let l = c.args.lines.now in
-    let a = c.loop-line in
-    let i = a.invariant in
-    let w = c.in-Some-words_in.ensures.found in
-    record {
-      same_text = c.in-Some.ensures.text ∙ i.same_text;
-      few = omega (arith, c.in-Some.ensures.found.more);
-      so_far = one_more l.text.now a.ahead.text.now a.ahead.number c.next_said.new.self.number a.count c.in-Some.line.now c.args.config.now w.0 i.same_text i.so_far c.in-Some.ensures.found w.1;
-    }
+loop-line-preserved c = grind (arith, one_more)
 
 pub returns : goal.returns
 returns c =

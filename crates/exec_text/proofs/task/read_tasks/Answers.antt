@@ -1,6 +1,6 @@
-use Rattle.std.proofs.Common.{◌∷◌, [], ◌++◌, refl, ◌∙◌}
+use Rattle.std.proofs.Common.{◌∷◌, [], ◌++◌, refl, ◌∙◌, arith}
 use Rattle.std.proofs.lemmas.Result.{err_from_is_err_and}
-use Rattle.exec_text.proofs.{Begins.head_none, Faults.{task_missing, task_wrong, script_right, root_right}, Lists.no_lists}
+use Rattle.exec_text.proofs.{Begins.head_none, Faults.{task_missing, task_wrong, script_right}, Lists.no_lists}
 use Rattle.exec_text.proofs.task.read_tasks.Goals as goal
 
 pub tasks-init : goal.tasks-init
@@ -37,18 +37,7 @@ tasks-preserved c =
     }
 
 pub returns-in-Some-Root-clause-ok : goal.returns-in-Some-Root-clause-ok
-returns-in-Some-Root-clause-ok c =
-    let l = c.args.lines.now in
-    let i = c.tasks.invariant in
-    let n = c.expect_said.new.self in
-    let r = rw c.in-Some-Root.field-0-is at c.in-Some-Root.ensures.found in
-    record {
-      scripts = i.so_far.0;
-      root = r.0;
-      top = root_right l.text.now c.tasks.lines.text.now n.text.now c.args.count c.tasks.lines.number n.number c.in_ok-line.line.now c.args.config.now i.so_far.0 r.0 i.same_text (c.in_ok-line.ensures.text ∙ i.same_text) i.so_far.1 c.in_ok-line.ensures.found r.1;
-      keeps_scripts = i.so_far.2;
-      keeps_root = r.2;
-    }
+returns-in-Some-Root-clause-ok c = grind arith
 
 pub returns-in-Some-Root-clause-text : goal.returns-in-Some-Root-clause-text
 returns-in-Some-Root-clause-text c = c.in_ok-line.ensures.text ∙ c.tasks.invariant.same_text

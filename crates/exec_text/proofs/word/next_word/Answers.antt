@@ -3,22 +3,10 @@ use Rattle.exec_text.proofs.Spelling.{IsFront, front_named, front_more, front_re
 use Rattle.exec_text.proofs.word.next_word.Goals as goal
 
 pub returns-in-Some-clause-found : goal.returns-in-Some-clause-found
-returns-in-Some-clause-found c =
-    let a = c.args in
-    let p = c.in_ok-name in
-    let s = p.ensures.found in
-    let f0 = front_named a.bytes.now s.0 p.name.now p.rest.now s.1 s.2 in
-    front_read a.config.now a.bytes.now p.name.now [] p.rest.now c.in-Some.word f0 c.in-Some.ensures.found (c.in-Some.ensures.fits a.config.now)
+returns-in-Some-clause-found c = grind arith
 
 pub returns-in-Some-numbered_word-clause-found : goal.returns-in-Some-numbered_word-clause-found
-returns-in-Some-numbered_word-clause-found c =
-    let a = c.args in
-    let p = c.in_ok-name in
-    let s = p.ensures.found in
-    let f0 = front_named a.bytes.now s.0 p.name.now p.rest.now s.1 s.2 in
-    let n1 = c.in_ok-first in
-    let f1 : IsFront a.bytes.now p.name.now (n1.first ∷ []) n1.rest.now = front_more a.bytes.now p.name.now [] p.rest.now n1.rest.now n1.first f0 n1.ensures.found in
-    front_read a.config.now a.bytes.now p.name.now (n1.first ∷ []) n1.rest.now c.in-Some-numbered_word.word f1 c.in-Some-numbered_word.ensures.found c.in-Some-numbered_word.ensures.fits
+returns-in-Some-numbered_word-clause-found c = grind arith
 
 pub returns-in-Some-socket_word-clause-found : goal.returns-in-Some-socket_word-clause-found
 returns-in-Some-socket_word-clause-found c =

@@ -1,6 +1,5 @@
-use Rattle.std.proofs.Common.{◌∷◌, [], ◌++◌, List, ℕ, refl, sym, ap, ◌∙◌}
+use Rattle.std.proofs.Common.{◌∷◌, [], ◌++◌, refl, sym, ◌∙◌, arith}
 use Rattle.std.proofs.lemmas.List.{append-nil}
-use Rattle.exec_text.specs.Grammar.{text_of_words}
 use Rattle.exec_text.proofs.{Fields.{told_some, told_none}, Words.{words_past, words_more, no_words, not_named, push_right, none_right}}
 use Rattle.exec_text.proofs.word.words_of.Goals as goal
 
@@ -33,10 +32,4 @@ loop-rest-preserved c =
     }
 
 pub returns-clause-found : goal.returns-clause-found
-returns-clause-found c =
-    let s = c.loop-rest.invariant.so_far in (
-      s.0,
-      s.1 ∙ ap (λ (r : List ℕ). text_of_words s.0 ++ r) (told_none c.loop-rest.rest.now c.is_empty.result c.is_empty.ensures c.loop-rest-test.false) ∙ append-nil (text_of_words s.0),
-      s.2,
-      s.3,
-    )
+returns-clause-found c = grind (arith, told_none, append-nil)

@@ -1,5 +1,5 @@
-use Rattle.std.proofs.Common.{◌≡◌, ◌+◌, ◌<◌, not, is_some, drop, length, sym, ap, subst, ◌∙◌}
-use Rattle.exec_run.specs.Script.{Played, held_by, place_by, newest, passed_over}
+use Rattle.std.proofs.Common.{◌≡◌, ◌<◌, is_some, length, sym, ap, subst, ◌∙◌, arith}
+use Rattle.exec_run.specs.Script.{Played, held_by, place_by, newest}
 use Rattle.exec_run.proofs.Acts.{IsNext, makes, made_here, some_wanted, state_is, wanted, would_grow}
 use Rattle.exec_run.proofs.script.ScriptBody.step.Goals as goal
 
@@ -13,12 +13,7 @@ returns-in_default-clause-grows g c =
     let in_limits : c.self.inside.program.limits ≡ s.limits = ap (λ (x : Played). x.limits) c.self.view_is in
     let same_newest : c.newest_told-newest.result ≡ newest (held_by s.asked s.held c.args.said) =
     c.newest_told-newest.ensures ∙ ap (λ xs. newest (held_by c.self.inside.asked xs c.args.said)) (c.as_slice.ensures.value ∙ in_held) ∙ ap (λ q. newest (held_by q s.held c.args.said)) in_asked in
-    let next : IsNext s c.args.said sees c.next_place-place.result c.is_some.result c.word-word.result = record {
-      holds_some = c.is_some.ensures ∙ ap is_some same_newest;
-      place = λ it is few. c.next_place-place.ensures it is few ∙ ap (λ k. k + passed_over (not c.is_some.result) it.tasks (drop k c.self.inside.words.now)) c.place_told.ensures
-          ∙ ap (λ xs. place_by s c.args.said + passed_over (not c.is_some.result) it.tasks (drop (place_by s c.args.said) xs)) in_words;
-      word_is = λ it is. c.word-word.ensures it is;
-    } in
+    let next : IsNext s c.args.said sees c.next_place-place.result c.is_some.result c.word-word.result = grind arith in
     would_grow s c.args.said sees c.next_place-place.result c.is_some.result c.word-word.result next
     (some_wanted sees s.limits c.word-word.result c.in_default.ensures.err)
 
@@ -32,12 +27,7 @@ returns-in_default-make_room-clause-grows g c =
     let in_limits : c.self.inside.program.limits ≡ s.limits = ap (λ (x : Played). x.limits) c.self.view_is in
     let same_newest : c.newest_told-newest.result ≡ newest (held_by s.asked s.held c.args.said) =
     c.newest_told-newest.ensures ∙ ap (λ xs. newest (held_by c.self.inside.asked xs c.args.said)) (c.as_slice.ensures.value ∙ in_held) ∙ ap (λ q. newest (held_by q s.held c.args.said)) in_asked in
-    let next : IsNext s c.args.said sees c.next_place-place.result c.is_some.result c.word-word.result = record {
-      holds_some = c.is_some.ensures ∙ ap is_some same_newest;
-      place = λ it is few. c.next_place-place.ensures it is few ∙ ap (λ k. k + passed_over (not c.is_some.result) it.tasks (drop k c.self.inside.words.now)) c.place_told.ensures
-          ∙ ap (λ xs. place_by s c.args.said + passed_over (not c.is_some.result) it.tasks (drop (place_by s c.args.said) xs)) in_words;
-      word_is = λ it is. c.word-word.ensures it is;
-    } in
+    let next : IsNext s c.args.said sees c.next_place-place.result c.is_some.result c.word-word.result = grind arith in
     would_grow s c.args.said sees c.next_place-place.result c.is_some.result c.word-word.result next
     (wanted sees c.self.inside.program.limits s.limits c.word-word.result c.in-Ok.request c.is_some-2.result in_limits c.in-Ok.ensures.some c.is_some-2.ensures c.in_default-make_room.ensures.err)
 
@@ -51,12 +41,7 @@ returns-clause-act g c =
     let in_limits : c.self.inside.program.limits ≡ s.limits = ap (λ (x : Played). x.limits) c.self.view_is in
     let same_newest : c.newest_told-newest.result ≡ newest (held_by s.asked s.held c.args.said) =
     c.newest_told-newest.ensures ∙ ap (λ xs. newest (held_by c.self.inside.asked xs c.args.said)) (c.as_slice.ensures.value ∙ in_held) ∙ ap (λ q. newest (held_by q s.held c.args.said)) in_asked in
-    let next : IsNext s c.args.said sees c.next_place-place.result c.is_some.result c.word-word.result = record {
-      holds_some = c.is_some.ensures ∙ ap is_some same_newest;
-      place = λ it is few. c.next_place-place.ensures it is few ∙ ap (λ k. k + passed_over (not c.is_some.result) it.tasks (drop k c.self.inside.words.now)) c.place_told.ensures
-          ∙ ap (λ xs. place_by s c.args.said + passed_over (not c.is_some.result) it.tasks (drop (place_by s c.args.said) xs)) in_words;
-      word_is = λ it is. c.word-word.ensures it is;
-    } in
+    let next : IsNext s c.args.said sees c.next_place-place.result c.is_some.result c.word-word.result = grind arith in
     let in_code = ap (λ (x : Played). x.code) c.self.view_is in
     let in_scripts = ap (λ (x : Played). x.scripts) c.self.view_is in
     let act = c.act_of-act.result in

@@ -1,4 +1,4 @@
-use Rattle.std.proofs.Common.{◌≡◌, ◌≤◌, ◌∷◌, ℕ, List, length, drop, sym, ap, ◌∙◌, subst}
+use Rattle.std.proofs.Common.{◌≡◌, ◌≤◌, ◌∷◌, ℕ, List, length, drop, subst, arith}
 use Rattle.std.specs.Str.Lines.{lines}
 use Rattle.std.proofs.lemmas.List.{take_rest}
 use Rattle.std.proofs.lemmas.Bool.{eqb-true}
@@ -6,10 +6,7 @@ use Rattle.exec_text.proofs.Said.{no_more, one_more}
 use Rattle.exec_text.proofs.line.Lines.next_line.Goals as goal
 
 pub returns-then-is_empty-clause-none : goal.returns-then-is_empty-clause-none
-returns-then-is_empty-clause-none c =
-    let s = c.args.self.now in
-    let r = take_rest s.text.now s.from in
-    no_more s.text.now s.from s.number s.place (sym (ap length r) ∙ eqb-true _ 0 (sym c.is_empty.ensures ∙ c.if-is_empty.true))
+returns-then-is_empty-clause-none c = grind (arith, take_rest, no_more, eqb-true)
 
 pub invariant_of-self : goal.invariant_of-self
 invariant_of-self c =
