@@ -3,18 +3,13 @@ use Rattle.std.proofs.Common.{◌≡◌, ◌≢◌, ◌⊎◌, ◌↔◌, ℕ, �
 use Rattle.std.proofs.lemmas.List.{get_or_default, get_or_past, get_or_push, get_or_append_left, get_or-set_same, get_or-set_other, reverse-append}
 use Rattle.std.proofs.lemmas.List.Sums.{sum_by-set}
 use Rattle.std.proofs.lemmas.Option.{slice_get_cases}
-use Rattle.std.proofs.lemmas.Bool.{false≢true, lt-ltb, le-ltb}
+use Rattle.std.proofs.lemmas.Bool.{false≢true, lt-ltb, le-ltb, cases_Bool}
 use Rattle.std.proofs.lemmas.Bool.Decides.{eqb_tells}
 use Rattle.exec_base.specs.declared.slab.Id.{Id}
 use Rattle.exec_base.specs.declared.slab.Slot.{Slot}
 use Rattle.exec_base.specs.declared.slab.Slot.TheVariants.{Live, Vacant, Retired}
 use Rattle.exec_base.specs.Slab.{Slab, is_live, is_vacant, slot_at, value_at, value_in, generation_of, next_generation, next_index, freed, IsPast, TakesId, Updates, written}
 use Rattle.exec_base.specs.SlabLayout.{Lacks, IsVacantAt, AreVacant, ListsAll, IsLaidOut}
-
--- an answer is one of two
-tells : (b : Bool) → (b ≡ true) ⊎ (b ≡ false)
-tells true = inl refl
-tells false = inr refl
 
 -- a comparison, with what it says
 pub ltb_tells : (a b : ℕ) → ((ltb a b ≡ true) × (a < b)) ⊎ ((ltb a b ≡ false) × (b ≤ a))
@@ -100,7 +95,7 @@ module _ {T : Type 0} where
 
   -- where no slot is listed none is vacant, and the other way round
   pub none-vacant : (slots : List (Slot T)) → ListsAll slots [] → All (λ slot. is_vacant slot ≡ false) slots
-  none-vacant = grind (arith, tells, get_or_default)
+  none-vacant = grind (arith, cases_Bool, get_or_default)
 
   -- a live slot isn't among the vacant ones
   pub Lacks-live : (slots : List (Slot T)) (vacant : List ℕ) (i g : ℕ) (v : T) → get_or slots i Retired ≡ Live g v → AreVacant slots vacant → Lacks vacant i

@@ -19,7 +19,7 @@
 //! refused as `Full` only where each of 2^32 slots holds a value or is retired; `len` counts the live slots; and the
 //! list has memory for all slots, so `remove` takes none.
 
-ghost use Rattle.std.specs.Prelude.{◌≡◌, ℕ, ◌+◌, ◌^◌, ◌<◌, ◌≤◌, ◌↔◌, ◌⊎◌, length, [], Some, None, IsOk, IsSome, IsTrue, IfOk, IfErr, OnErr, OnOk, IsNone, IfNone, OnSome, IfSome, option_copied};
+ghost use Rattle.std.specs.Prelude.{◌≡◌, ◌+◌, ◌^◌, ◌<◌, ◌≤◌, ◌↔◌, length, [], Some, None, IsSome, IsTrue, IfOk, IfErr, OnErr, OnOk, IsNone, IfNone, OnSome, option_copied};
 ghost use Rattle.std.specs.Option.{option_copied_mut};
 ghost use Rattle.std.specs.Borrow.{Lends, sem};
 
@@ -136,7 +136,7 @@ impl<T> Slot<T> {
 }
 
 impl<T> Slab<T> {
-    ghost use Rattle.exec_base.specs.Slab.{value_at, value_in, slot_at, live_count, id_in, next_id, inserted, removed, HasRoom, IsPast, TakesId, IsRefused, IsFull, Updates};
+    ghost use Rattle.exec_base.specs.Slab.{value_at, slot_at, live_count, id_in, next_id, inserted, removed, HasRoom, IsPast, TakesId, IsRefused, IsFull, Updates};
     ghost use Rattle.exec_base.specs.SlabLends.{lends_value, lends_if};
 
     /// An empty slab with memory for `capacity` slots, whose slots begin at generation 0. Err only for want of memory.

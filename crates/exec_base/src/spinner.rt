@@ -15,7 +15,7 @@
 //! and the floor isn't above the greatest (`IsInBounds`). `after_hit`, `after_miss` and `after_wake` say what each
 //! event makes of them. A budget of 0 stays 0, so a spinner that is switched off never calls.
 
-ghost use Rattle.std.specs.Prelude.{◌≡◌, ◌≢◌, ◌≤◌, ◌<◌, ℕ, IsTrue, IfOk, IsOk, true, false};
+ghost use Rattle.std.specs.Prelude.{◌≡◌, ◌≢◌, ◌≤◌, ◌<◌, true, false};
 ghost use Rattle.exec_base.specs.Spinner.{begun, after_hit, after_miss, after_wake, after_spin, looks_in, IsSpun, ten_to_fifty};
 
 #[cfg(test)]

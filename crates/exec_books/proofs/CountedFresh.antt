@@ -1,5 +1,5 @@
 -- What an event of a worker leaves of each request and each sleeper, also of those that it makes.
-use Rattle.std.proofs.Common.{◌≡◌, ℕ, Bool, true, false, Option, None, Some, refl, inl, arith}
+use Rattle.std.proofs.Common.{◌≡◌, ℕ, Bool, true, false, Option, None, refl, inl, arith}
 use Rattle.std.proofs.lemmas.Bool.{true≢false}
 use Rattle.std.specs.Prelude.{◌⊎◌}
 use Rattle.exec_outcomes.specs.declared.outcome.{Outcome.Outcome}
@@ -25,8 +25,7 @@ pub record Fresh (i : ℕ) (y : Request) : Type 0 where
   pub forwarding : y.forwarding ≡ Unsent
 
 made_fresh : (i : ℕ) (o : Operation) (outcome : Option Outcome) → (is_of_file o.kind ≡ true → o.deadline ≡ None) → Fresh i (resolved_if outcome (new_request i o))
-made_fresh i o None undated = record { worker = refl; timer = refl; undated = undated; released = refl; forwarding = refl }
-made_fresh i o (Some outcome) undated = record { worker = refl; timer = refl; undated = undated; released = refl; forwarding = refl }
+made_fresh = grind arith
 
 pub record Bedded (i : ℕ) (y : Sleeper) : Type 0 where
   pub worker : y.worker ≡ i

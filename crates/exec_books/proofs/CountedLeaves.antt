@@ -1,34 +1,19 @@
 -- What each event of a worker leaves of the requests and the sleepers that were there.
 use Rattle.std.proofs.Common.{◌≡◌, ℕ, ◌==◌, ◌&&◌, Bool, true, false, not, List, [], ◌∷◌, Option, Some, None, refl, sym, ap, subst, inl, inr, get_or, set, if◌then◌else◌, arith}
-use Rattle.std.proofs.lemmas.Bool.{true≢false, false≢true, cases_Bool, eq-eqb}
+use Rattle.std.proofs.lemmas.Bool.{true≢false, cases_Bool, eq-eqb, not-true}
 use Rattle.exec_outcomes.specs.declared.outcome.{OpResult.OpResult, Outcome.Outcome}
 use Rattle.exec_outcomes.specs.Outcomes.{refuses_hint}
-use Rattle.exec_machine.specs.{declared.{config.Configuration.Configuration, event.Event.Event, state.{Forwarding.TheVariants.{Applied, Sent}, MailMessage.MailMessage, Next.Next, Request.Request, RequestPhase.RequestPhase, Sleeper.Sleeper, Waiting.Waiting}}}
-use Rattle.exec_machine.specs.{After.{common_after, polled}, Allowed.Allowed, Choice.{Choice, Payer, Choice.{Plain, Passes, Pays, Posts}}, Closing.{after_clear, after_next, ends_by_clear, gone_with, with_cleared}, Deadlines.{expired}, Mail.{after_message, after_post, after_sending, is_left_out, is_root_message, posted}, Requests.{after_reap, staged, common_after_refusal, dropped, flown, granted, judged_of, reaped}, Tasks.{after_over, pended_phase, after_payment, after_pend, after_wake, after_word, removed, requests_after_drops, sleepers_after_waking_up}, Tests.{is_applied, is_gated, is_landed_with, is_queued, is_resolved, set_seat, set_task}, World.{Common, Own as Books, no_request, no_sleeper, request_of, seat_of, sleeper_of, task_of}}
+use Rattle.exec_machine.specs.{declared.{config.Configuration.Configuration, event.Event.Event, state.{Forwarding.TheVariants.{Applied, Sent}, MailMessage.MailMessage, Next.Next, Request.Request, Sleeper.Sleeper, Waiting.Waiting}}}
+use Rattle.exec_machine.specs.{After.{common_after, polled}, Allowed.Allowed, Choice.{Choice, Payer, Choice.{Plain, Passes, Pays, Posts}}, Closing.{after_clear, after_next, ends_by_clear, gone_with, with_cleared}, Deadlines.{expired}, Mail.{after_message, after_post, after_sending, is_left_out, is_root_message, posted}, Requests.{after_reap, staged, common_after_refusal, dropped, flown, granted, judged_of, reaped}, Tasks.{after_over, pended_phase, after_payment, after_pend, after_wake, after_word, removed, requests_after_drops, sleepers_after_waking_up}, Tests.{is_applied, is_resolved, set_seat, set_task}, World.{Common, Own as Books, no_request, no_sleeper, request_of, seat_of, sleeper_of, task_of}}
 use Rattle.exec_machine.specs.declared.event.Event.TheVariants as event
 use Rattle.exec_machine.specs.declared.state.MailMessage.TheVariants as message
 use Rattle.exec_machine.specs.declared.state.Next.TheVariants as next
 use Rattle.exec_machine.specs.declared.state.RequestPhase.TheVariants as phase
 use Rattle.exec_machine.specs.declared.state.Waiting.TheVariants as waiting
 use Rattle.exec_books.proofs.CountedTurns.{Naps, Turns, drop_turns, each_map, each_set, enrol_turns, expire_turns, fired_naps, flown_turns, goes_on, grant_turns, marked, napped, naps_then, noted, reap_turns, removed_naps, same, turned, turns_then}
+use Rattle.exec_books.proofs.MinePhases.{gated_open, queued_open, landed_open}
 
 -- OPEN PHASES
-
-gated_open : (p : RequestPhase) → is_gated p ≡ true → is_resolved p ≡ false
-gated_open (phase.Resolved o) h = absurd (false≢true h)
-gated_open _ h = refl
-
-queued_open : (p : RequestPhase) → is_queued p ≡ true → is_resolved p ≡ false
-queued_open (phase.Resolved o) h = absurd (false≢true h)
-queued_open _ h = refl
-
-landed_open : (n : OpResult) (p : RequestPhase) → is_landed_with n p ≡ true → is_resolved p ≡ false
-landed_open n (phase.Resolved o) h = absurd (false≢true h)
-landed_open n _ h = refl
-
-not_true : (b : Bool) → not b ≡ true → b ≡ false
-not_true false h = refl
-not_true true h = absurd (false≢true h)
 
 unsent_applied : {T : Type 0} → Applied ≡ Sent → T
 unsent_applied is = absurd (true≢false (ap is_applied is))
@@ -62,8 +47,7 @@ by_sleeper : {e : Event} {s : Common} (q : ℕ) (y : Sleeper) → Naps e q (slee
 by_sleeper {e} {s} q y here = record { requests = λ k. turned; sleepers = set_naps e s.sleepers q y here }
 
 either : {e : Event} {s : Common} (b : Bool) (y z : Common) → Leaves e s y → Leaves e s z → Leaves e s (if b then y else z)
-either true y z a b = a
-either false y z a b = b
+either = grind arith
 
 -- EVENTS
 
@@ -97,8 +81,7 @@ module _ (e : Event) (s : Common) (i : ℕ) where
   by_next = grind arith
 
   by_word : (polls : Option ℕ) → Leaves e s (after_word s polls)
-  by_word None = leaves
-  by_word (Some t) = beside refl refl
+  by_word = grind (arith, leaves, beside)
 
   pays : (polls : Option ℕ) (payer : Payer) → Leaves e s (after_payment s polls payer)
   pays = grind (arith, by_request, marked, same, by_sleeper, noted, leaves, beside)
@@ -155,7 +138,6 @@ makes _ = false
 module _ (c : Configuration) (me : Books) (s : Common) (i : ℕ) where
   pub leaves_each : (e : Event) (choice : Choice) → Allowed c me s i e choice → makes e ≡ false → Leaves e s (common_after c me s i e choice)
   leaves_each event.Turn Plain h calm = by_next event.Turn s i me.next
-  leaves_each event.Turn Passes h calm = beside refl refl
   leaves_each event.Turn (Pays payer) h calm = by_next event.Turn s i me.next
   leaves_each event.Turn (Posts payer left_out) h calm = by_next event.Turn s i me.next
   leaves_each (event.Pend t) choice h calm = pends (event.Pend t) s i t
@@ -167,7 +149,6 @@ module _ (c : Configuration) (me : Books) (s : Common) (i : ℕ) where
   leaves_each (event.Clear t) choice h calm = clears (event.Clear t) s i t
   leaves_each (event.Admit r kind outcome) choice h calm = absurd (true≢false calm)
   leaves_each (event.Timer z until) choice h calm = absurd (true≢false calm)
-  leaves_each (event.Wait None) choice h calm = beside refl refl
   leaves_each (event.Wait (Some r)) choice h calm = leaves_then (by_request r (record (request_of s r) { waiter = Some (polled me) }) (marked (same refl refl refl refl refl) refl refl)) (beside refl refl)
   leaves_each (event.Got r outcome) choice h calm = leaves_then (by_request r (record (request_of s r) { observed = false }) (marked (same refl refl refl refl refl) refl refl)) (beside refl refl)
   leaves_each (event.Drop r) choice h calm = leaves_then (by_request r (dropped (request_of s r)) (drop_turns (event.Drop r) r (request_of s r))) (beside refl refl)
@@ -175,7 +156,7 @@ module _ (c : Configuration) (me : Books) (s : Common) (i : ℕ) where
   leaves_each (event.Grant r outcome) choice h calm =
       let x = request_of s r in
       leaves_then (by_request r (granted outcome x) (grant_turns (event.Grant r outcome) r x outcome (gated_open x.phase h.1.1.0))) (beside refl refl)
-  leaves_each (event.Enrol r outcome) choice h calm = grind (arith, by_request, enrol_turns, queued_open, not_true)
+  leaves_each (event.Enrol r outcome) choice h calm = grind (arith, by_request, enrol_turns, queued_open, not-true)
   leaves_each (event.Stage r) choice h calm =
       let x = request_of s r in by_request r (staged s x) (goes_on (same refl refl refl refl refl) (queued_open x.phase h.1.1.1.0) refl refl)
   leaves_each event.Enter choice h calm =

@@ -35,8 +35,7 @@ kept_then : {x y z : Books} → Kept x y → Kept y z → Kept x z
 kept_then a b = keep (b.unreleased ∙ a.unreleased) (b.untold ∙ a.untold)
 
 either : {x : Books} (b : Bool) (y z : Books) → Kept x y → Kept x z → Kept x (if b then y else z)
-either true y z a b = a
-either false y z a b = b
+either = grind arith
 
 module _ (s : Common) (i : ℕ) where
   drops : (held : List ℕ) (me : Books) → Kept me (own_after_drops s i held me)
@@ -109,5 +108,4 @@ module _ (c : Configuration) (w : World) (i : ℕ) (e : Event) (choice : Choice)
   other_own = grind (arith, get_or-set_other, more_kept, made_kept)
 
   pub own_own : i < length w.workers → own_of (after c w i e choice) i ≡ mine
-  own_own within =
-      get_or_append_left (set w.workers i mine) (made_by w.common e) no_own i (omega (arith, length-set w.workers i mine, within)) ∙ get_or-set_same w.workers i mine no_own within
+  own_own = grind (arith, get_or_append_left, length-set, get_or-set_same)

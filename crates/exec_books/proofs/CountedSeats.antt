@@ -1,5 +1,5 @@
 -- Seats after an event of a worker: none is lost, and a message stays under way but where it is applied.
-use Rattle.std.proofs.Common.{◌≡◌, ℕ, ◌<◌, ◌≤◌, ◌&&◌, Bool, true, false, List, [], ◌∷◌, ◌++◌, length, Option, None, Some, refl, sym, ap, subst, inl, inr, arith, get_or, set, if◌then◌else◌}
+use Rattle.std.proofs.Common.{◌≡◌, ℕ, ◌<◌, ◌≤◌, ◌&&◌, Bool, true, false, List, [], ◌∷◌, ◌++◌, length, Option, Some, refl, ap, inl, inr, arith, get_or, set, if◌then◌else◌}
 use Rattle.std.proofs.lemmas.Bool.{false≢true, cases_Bool, or_cases, or_left, or_right}
 use Rattle.std.proofs.lemmas.List.{get_or_append_left, get_or-set_same, length-append, length-set}
 use Rattle.std.specs.Prelude.{drop}
@@ -52,12 +52,10 @@ seat_set {m} {s} i y here =
     }
 
 either : {m : MailMessage} {s : Common} (b : Bool) (y z : Common) → Way m s y → Way m s z → Way m s (if b then y else z)
-either true y z a b = a
-either false y z a b = b
+either = grind arith
 
 word_same : (s : Common) (polls : Option ℕ) → (after_word s polls).seats ≡ s.seats
-word_same s None = refl
-word_same s (Some t) = refl
+word_same = grind arith
 
 wake_same : (me : Books) (s : Common) (t : ℕ) (choice : Choice) → (after_wake me s t choice).seats ≡ s.seats
 wake_same = grind arith
@@ -120,7 +118,6 @@ module _ (c : Configuration) (me : Books) (s : Common) (i : ℕ) (m : MailMessag
   way (event.Dedicated t j) choice h other = dedicated_way t j choice
   way event.Closed choice h other = seats_same (word_same s me.polls)
   way (event.Clear t) choice h other = seats_same (clear_same s i t)
-  way (event.Wait None) choice h other = seats_same refl
   way (event.Wait (Some r)) choice h other = seats_same refl
   way (event.Wake t) choice h other = seats_same (wake_same me s t choice)
   way event.Busy choice h other = seat_set i (record (seat_of s i) { busy = false }) (λ was. was)
@@ -144,9 +141,8 @@ module _ (c : Configuration) (me : Books) (s : Common) (i : ℕ) (m : MailMessag
   stays_under_way e choice h other = (way e choice h other).under
 
 -- what was posted is there
-pub posted_there : (s : Common) (to : ℕ) (m : MailMessage) → same_message m m ≡ true → to < length s.seats → IsUnderWay m (get_or (set s.seats to (posted m (seat_of s to))) to no_seat)
-posted_there s to m same within =
-    subst (IsUnderWay m) (sym (get_or-set_same s.seats to (posted m (seat_of s to)) no_seat within)) (inl (in_last (same_message m) m (seat_of s to).inbox same))
+pub posted_there : (s : Common) (to : ℕ) (m n : MailMessage) → same_message m n ≡ true → to < length s.seats → IsUnderWay m (get_or (set s.seats to (posted n (seat_of s to))) to no_seat)
+posted_there = grind (arith, get_or-set_same, in_last)
 
 -- no seat is lost: a message that isn't applied tells it too
 pub no_fewer_seats : (c : Configuration) (me : Books) (s : Common) (i : ℕ) (e : Event) (choice : Choice) → Allowed c me s i e choice → length s.seats ≤ length (common_after c me s i e choice).seats

@@ -1,5 +1,5 @@
 -- What an event leaves of each request and each sleeper, told of one request and one sleeper.
-use Rattle.std.proofs.Common.{◌≡◌, ◌≢◌, ℕ, zero, suc, ◌==◌, ◌&&◌, ◌||◌, Bool, true, false, not, List, [], ◌∷◌, ◌++◌, length, map, Option, None, Some, refl, sym, ap, ◌∙◌, inl, inr, arith, get_or, set}
+use Rattle.std.proofs.Common.{◌≡◌, ◌≢◌, ℕ, zero, suc, ◌==◌, ◌&&◌, ◌||◌, Bool, true, false, not, List, [], ◌∷◌, ◌++◌, length, map, Option, None, refl, sym, ap, ◌∙◌, inl, inr, arith, get_or, set}
 use Rattle.std.specs.Prelude.{◌⊎◌}
 use Rattle.exec_outcomes.specs.declared.outcome.{OpResult.OpResult, Outcome.{Outcome}}
 use Rattle.exec_machine.specs.{declared.{event.Event.Event, state.{Forwarding.TheVariants.Sent, Request.Request, Sleeper.Sleeper}}, Deadlines.{enrolled, expired}, Requests.{dropped, ends_by_drop, flown, granted, is_cancelled_by_drop, reaped}, Same.is_none, Tasks.removed, Tests.{is_asleep, is_of_file, is_resolved}}
@@ -110,20 +110,16 @@ module _ (e : Event) (k : ℕ) (r : Request) where
   drop_turns = dropped_turns (ends_by_drop r) (is_cancelled_by_drop r) refl refl
 
   pub grant_turns : (outcome : Option Outcome) → is_resolved r.phase ≡ false → Turns e k r (granted outcome r)
-  grant_turns None before = goes_on (same refl refl refl refl refl) before refl refl
-  grant_turns (Some outcome) before = finished (same refl refl refl refl refl) refl refl
+  grant_turns = grind (arith, goes_on, same, finished)
 
   pub enrol_turns : (moment : ℕ) (outcome : Option Outcome) → is_resolved r.phase ≡ false → is_none r.operation.deadline ≡ false → Turns e k r (enrolled moment outcome r)
-  enrol_turns moment None before asks = wheeled (same refl refl refl refl refl) before refl asks
-  enrol_turns moment (Some outcome) before asks = finished (same refl refl refl refl refl) refl refl
+  enrol_turns = grind (arith, wheeled, same, finished)
 
   pub expire_turns : (outcome : Option Outcome) → Turns e k r (expired outcome r)
-  expire_turns None = untimed (same refl refl refl refl refl) refl refl
-  expire_turns (Some outcome) = finished (same refl refl refl refl refl) refl refl
+  expire_turns = grind (arith, untimed, same, finished)
 
   pub reap_turns : (n : OpResult) (outcome : Option Outcome) → is_resolved r.phase ≡ false → Turns e k r (reaped n outcome r)
-  reap_turns n None before = goes_on (same refl refl refl refl refl) before refl refl
-  reap_turns n (Some outcome) before = finished (same refl refl refl refl refl) refl refl
+  reap_turns = grind (arith, goes_on, same, finished)
 
   pub flown_turns : (i : ℕ) → Turns e k r (flown i r)
   flown_turns = grind arith
@@ -139,16 +135,14 @@ pub napped : {e : Event} {z : ℕ} {x : Sleeper} → Naps e z x x
 napped = record { worker = refl; asleep = λ j was. was; sent = λ h. inl h }
 
 pub naps_then : {e : Event} {z : ℕ} {w x y : Sleeper} → Naps e z w x → Naps e z x y → Naps e z w y
-naps_then a b =
-    record { worker = b.worker ∙ a.worker; asleep = λ j was. b.asleep j (a.asleep j was); sent = λ h. elim (b.sent h) [ inl mid ↦ a.sent mid | inr told ↦ inr told ] }
+naps_then = grind arith
 
 -- whether it is asleep can't be told from what changes
 pub noted : {e : Event} {z : ℕ} {x y : Sleeper} → y.worker ≡ x.worker → y.fired ≡ x.fired → y.removed ≡ x.removed → (y.forwarding ≡ Sent → x.forwarding ≡ Sent) → Naps e z x y
 noted worker fired removed sent = record { worker = worker; asleep = λ j was. rw (worker, fired, removed) was; sent = λ h. inl (sent h) }
 
 no_and_and : (a b : Bool) → (a && false && b) ≡ false
-no_and_and true b = refl
-no_and_and false b = refl
+no_and_and = grind arith
 
 awake_then : (w f r : Bool) → (w && not f && not (r || not f)) ≡ false
 awake_then = grind arith

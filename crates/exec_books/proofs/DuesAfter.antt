@@ -1,44 +1,18 @@
 -- An event of another worker leaves what is due at a worker that sleeps.
-use Rattle.std.proofs.Common.{◌≡◌, ◌≢◌, ℕ, ◌==◌, Bool, true, false, ◌&&◌, List, [], ◌∷◌, Option, Some, None, refl, sym, ◌∙◌, inl, inr, set, if◌then◌else◌, arith}
+use Rattle.std.proofs.Common.{◌≡◌, ◌≢◌, ℕ, ◌==◌, true, false, ◌&&◌, List, [], ◌∷◌, Option, Some, refl, sym, ◌∙◌, inl, inr, set, arith}
 use Rattle.std.proofs.lemmas.Bool.{cases_Bool, eqb-true, ne_eqb}
 use Rattle.std.specs.Prelude.{drop}
 use Rattle.exec_outcomes.specs.declared.outcome.{OpResult.OpResult, Outcome.Outcome}
 use Rattle.exec_outcomes.specs.Outcomes.{refuses_hint}
 use Rattle.exec_machine.specs.{declared.{config.Configuration.Configuration, event.Event.Event, state.{MailMessage.MailMessage, Next.Next, Request.Request, Sleeper.Sleeper, Waiting.Waiting}}}
-use Rattle.exec_machine.specs.{After.{common_after, polled}, Choice.{Choice, Payer, Choice.{Plain, Passes, Pays, Posts}}, Closing.{after_clear, after_next, ends_by_clear, gone_with, with_cleared}, Deadlines.{enrolled, expired, first_timer, first_until, rest_until}, Mail.{after_message, after_sending}, Requests.{after_reap, staged, common_after_refusal, dropped, ends_by_drop, flown, granted, is_cancelled_by_drop, judged_of, reaped, resolved_if}, Tasks.{after_over, pended_phase, after_payment, after_pend, after_wake, after_word, requests_after_drops, sleepers_after_waking_up}, Tests.{is_staged, set_task}, World.{Common, Own as Books, Seat, request_of, seat_of, sleeper_of, task_of}}
+use Rattle.exec_machine.specs.{After.{common_after, polled}, Choice.{Choice, Payer, Choice.{Plain, Passes, Pays, Posts}}, Closing.{after_clear, after_next, ends_by_clear, gone_with, with_cleared}, Deadlines.{expired, first_timer, first_until, rest_until}, Mail.{after_message, after_sending}, Requests.{after_reap, staged, common_after_refusal, dropped, flown, judged_of}, Tasks.{after_over, pended_phase, after_payment, after_pend, after_wake, after_word, requests_after_drops, sleepers_after_waking_up}, Tests.{is_staged, set_task}, World.{Common, Own as Books, Seat, request_of, seat_of, sleeper_of, task_of}}
 use Rattle.exec_machine.specs.declared.event.Event.TheVariants as event
 use Rattle.exec_machine.specs.declared.state.Next.TheVariants as next
 use Rattle.exec_machine.specs.declared.state.Waiting.TheVariants as waiting
 use Rattle.exec_machine.specs.declared.state.WorkerPhase.TheVariants as worker
 use Rattle.exec_books.proofs.Own.{IsOwn}
 use Rattle.exec_books.proofs.DuesLists.{Dues, Slept, Timed, beside, by_request, by_seats, by_sleeper, dues, dues_then, either, lies, posts, rouses, seat_apart, seat_push, slept_elsewhere, timed_elsewhere, timer_map, timer_push, timer_set, until_map, until_push, until_set}
-
--- no change of a request gives it to another worker
-dropped_whose : (r : Request) (ends cancels : Bool) → ends_by_drop r ≡ ends → is_cancelled_by_drop r ≡ cancels → (dropped r).worker ≡ r.worker
-dropped_whose = grind arith
-
-whose : (r : Request) → (dropped r).worker ≡ r.worker
-whose r = dropped_whose r (ends_by_drop r) (is_cancelled_by_drop r) refl refl
-
-granted_whose : (outcome : Option Outcome) (r : Request) → (granted outcome r).worker ≡ r.worker
-granted_whose None r = refl
-granted_whose (Some outcome) r = refl
-
-enrolled_whose : (moment : ℕ) (outcome : Option Outcome) (r : Request) → (enrolled moment outcome r).worker ≡ r.worker
-enrolled_whose moment None r = refl
-enrolled_whose moment (Some outcome) r = refl
-
-expired_whose : (outcome : Option Outcome) (r : Request) → (expired outcome r).worker ≡ r.worker
-expired_whose None r = refl
-expired_whose (Some outcome) r = refl
-
-reaped_whose : (n : OpResult) (outcome : Option Outcome) (r : Request) → (reaped n outcome r).worker ≡ r.worker
-reaped_whose n None r = refl
-reaped_whose n (Some outcome) r = refl
-
-resolved_whose : (outcome : Option Outcome) (r : Request) → (resolved_if outcome r).worker ≡ r.worker
-resolved_whose None r = refl
-resolved_whose (Some outcome) r = refl
+use Rattle.exec_books.proofs.Spares.{dropped_worker, granted_worker, enrolled_worker, reaped_worker, expired_worker, resolved_worker}
 
 flown_timed : (k i : ℕ) (r : Request) → Timed k r (flown i r)
 flown_timed k i r m = elim (cases_Bool ((r.worker == i) && is_staged r.phase)) [ inl flies ↦ rw flies refl | inr stays ↦ rw stays refl ]
@@ -61,7 +35,7 @@ module _ (c : Configuration) (me : Books) (s : Common) (i k : ℕ) (apart : k �
   -- what a task held
   drops : (held : List ℕ) (rs : List Request) → first_timer k (requests_after_drops i held rs) ≡ first_timer k rs
   drops [] rs = refl
-  drops (r ∷ held) rs = grind (arith, timer_set, timed_elsewhere, elsewhere, eqb-true, whose, drops held)
+  drops (r ∷ held) rs = grind (arith, timer_set, timed_elsewhere, elsewhere, eqb-true, dropped_worker, drops held)
 
   wakes_up : (what : Waiting) → first_until k (sleepers_after_waking_up s i what) ≡ first_until k s.sleepers
   wakes_up = grind (arith, until_set, own_sleeper, eqb-true)
@@ -79,8 +53,7 @@ module _ (c : Configuration) (me : Books) (s : Common) (i k : ℕ) (apart : k �
   gone = grind arith
 
   word : (polls : Option ℕ) → Dues k s (after_word s polls)
-  word None = dues k s
-  word (Some t) = beside refl refl refl refl
+  word = grind (arith, dues, beside)
 
   pays : (polls : Option ℕ) (payer : Payer) → Dues k s (after_payment s polls payer)
   pays = grind (arith, by_request, by_sleeper, dues, beside)
@@ -92,7 +65,7 @@ module _ (c : Configuration) (me : Books) (s : Common) (i k : ℕ) (apart : k �
   sends = grind (arith, dues, beside, dues_then, by_request, by_sleeper)
 
   applies : (m : MailMessage) → IsOwn s i (event.Apply m) → Dues k s (after_message me s m)
-  applies = grind (arith, beside, by_request, by_sleeper, own_request, whose, own_sleeper)
+  applies = grind (arith, beside, by_request, by_sleeper, own_request, dropped_worker, own_sleeper)
 
   told_clock : (r : ℕ) (n : OpResult) → (common_after_refusal s (request_of s r) n).clock ≡ s.clock
   told_clock r n = elim (cases_Bool (refuses_hint (judged_of (request_of s r) n))) [ inl refused ↦ rw refused refl | inr other ↦ rw other refl ]
@@ -101,7 +74,7 @@ module _ (c : Configuration) (me : Books) (s : Common) (i k : ℕ) (apart : k �
   told_sleepers r n = elim (cases_Bool (refuses_hint (judged_of (request_of s r) n))) [ inl refused ↦ rw refused refl | inr other ↦ rw other refl ]
 
   reaps : (r : ℕ) (n : OpResult) (outcome : Option Outcome) → (request_of s r).worker ≡ i → Dues k s (after_reap s i r n outcome)
-  reaps = grind (arith, told_clock, timer_set, own_request, reaped_whose, told_sleepers, seat_apart)
+  reaps = grind (arith, told_clock, timer_set, own_request, reaped_worker, told_sleepers, seat_apart)
 
 module _ (c : Configuration) (me : Books) (s : Common) (i k : ℕ) (apart : k ≢ i) where
   clears : (t : ℕ) → Dues k s (after_clear s i t)
@@ -115,7 +88,6 @@ module _ (c : Configuration) (me : Books) (s : Common) (i k : ℕ) (apart : k �
   event_dues event.Turn Passes own = own_seat c me s i k apart (record (seat_of s i) { left = true })
   event_dues event.Turn (Pays payer) own = after_next_dues c me s i k apart me.next
   event_dues event.Turn (Posts payer left_out) own = after_next_dues c me s i k apart me.next
-  event_dues (event.Begin t) choice own = beside refl refl refl refl
   event_dues (event.Pend t) choice own = pends c me s i k apart t
   event_dues (event.Done t) choice own = over c me s i k apart t
   event_dues (event.Fault t n) choice own = over c me s i k apart t
@@ -123,25 +95,24 @@ module _ (c : Configuration) (me : Books) (s : Common) (i k : ℕ) (apart : k �
   event_dues (event.Dedicated t n) choice own = grind (arith, word, seat_push)
   event_dues event.Closed choice own = word c me s i k apart me.polls
   event_dues (event.Clear t) choice own = clears t
-  event_dues (event.Admit r kind outcome) choice own = grind (arith, timer_push, elsewhere, resolved_whose, lies)
-  event_dues (event.Wait None) choice own = beside refl refl refl refl
+  event_dues (event.Admit r kind outcome) choice own = grind (arith, timer_push, elsewhere, resolved_worker, lies)
   event_dues (event.Wait (Some r)) choice own = dues_then (by_request r (record (request_of s r) { waiter = Some (polled me) }) (λ m. refl)) (beside refl refl refl refl)
   event_dues (event.Got r outcome) choice own = dues_then (by_request r (record (request_of s r) { observed = false }) (λ m. refl)) (beside refl refl refl refl)
   event_dues (event.Drop r) choice own =
-      let y : Request = dropped (request_of s r) in dues_then (by_request r y (own_request c me s i k apart r y own (whose (request_of s r)))) (beside refl refl refl refl)
+      let y : Request = dropped (request_of s r) in dues_then (by_request r y (own_request c me s i k apart r y own (dropped_worker (request_of s r)))) (beside refl refl refl refl)
   event_dues (event.Timer z until) choice own = grind (arith, until_push, elsewhere, lies)
   event_dues (event.Wake t) choice own = wakes c me s i k apart t choice
-  event_dues (event.Grant r outcome) choice own = grind (arith, dues_then, by_request, own_request, granted_whose, beside)
-  event_dues (event.Enrol r outcome) choice own = grind (arith, by_request, own_request, enrolled_whose)
+  event_dues (event.Grant r outcome) choice own = grind (arith, dues_then, by_request, own_request, granted_worker, beside)
+  event_dues (event.Enrol r outcome) choice own = grind (arith, by_request, own_request, enrolled_worker)
   event_dues (event.Stage r) choice own = by_request r (staged s (request_of s r)) (λ m. refl)
   event_dues event.Enter choice own = record { clock = refl; timers = timer_map k (flown i) (flown_timed k i) s.requests; sleepers = refl; seat = lies (seat_of s k) }
   event_dues event.Busy choice own = own_seat c me s i k apart (record (seat_of s i) { busy = false })
   event_dues (event.Reap r n outcome) choice own = reaps c me s i k apart r n outcome own
   event_dues (event.Expire r outcome) choice own =
-      let y : Request = expired outcome (request_of s r) in by_request r y (own_request c me s i k apart r y own (expired_whose outcome (request_of s r)))
+      let y : Request = expired outcome (request_of s r) in by_request r y (own_request c me s i k apart r y own (expired_worker outcome (request_of s r)))
   event_dues (event.Cancel r) choice own = by_request r (record (request_of s r) { cancel_staged = true }) (λ m. refl)
   event_dues (event.Orphan r outcome) choice own =
-      let y : Request = dropped (request_of s r) in by_request r y (own_request c me s i k apart r y own (whose (request_of s r)))
+      let y : Request = dropped (request_of s r) in by_request r y (own_request c me s i k apart r y own (dropped_worker (request_of s r)))
   event_dues (event.Release r) choice own = by_request r (record (request_of s r) { released = true }) (λ m. refl)
   event_dues (event.Fire z) choice own =
       let y : Sleeper = record (sleeper_of s z) { fired = true } in by_sleeper z y (own_sleeper c me s i k apart z y own refl)

@@ -103,8 +103,7 @@ pub dues_then : {k : ℕ} {s late later : Common} → Dues k s late → Dues k l
 dues_then = grind arith
 
 pub either : {k : ℕ} {s : Common} (b : Bool) (y z : Common) → Dues k s y → Dues k s z → Dues k s (if b then y else z)
-either true y z a b = a
-either false y z a b = b
+either = grind arith
 
 -- nothing of it changes but tasks, opens and the like
 pub beside : {k : ℕ} {s late : Common} → late.clock ≡ s.clock → late.requests ≡ s.requests → late.sleepers ≡ s.sleepers → late.seats ≡ s.seats → Dues k s late

@@ -25,12 +25,10 @@ in_last r [] = or_left (r == r) false (eq-eqb r r refl)
 in_last r (q ∷ list) = or_right (q == r) (is_in r (list ++ r ∷ [])) (in_last r list)
 
 pub kept_left : (b : Bool) (k r : ℕ) (list : List ℕ) → (k == r) ≡ false → is_in k list ≡ true → is_in k (left_if b list r) ≡ true
-kept_left true k r list other h = in_left k r list other h
-kept_left false k r list other h = h
+kept_left = grind (arith, in_left)
 
 pub kept_joined : (b : Bool) (k r : ℕ) (list : List ℕ) → is_in k list ≡ true → is_in k (joined_if b list r) ≡ true
-kept_joined true k r list h = in_front k list (r ∷ []) h
-kept_joined false k r list h = h
+kept_joined = grind (arith, in_front)
 
 pub kept_drop : (k r : ℕ) (list : List ℕ) → is_number r (slice_get list 0) ≡ true → (k == r) ≡ false → is_in k list ≡ true → is_in k (drop 1 list) ≡ true
 kept_drop = grind arith

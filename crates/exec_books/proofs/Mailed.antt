@@ -1,144 +1,51 @@
 -- What was sent of a request or a sleeper is under way until it is applied, also after an event of a worker.
-use Rattle.std.proofs.Common.{◌≡◌, ℕ, zero, suc, ◌<◌, ◌==◌, Bool, true, false, List, [], ◌∷◌, length, refl, sym, ap, ◌∙◌, subst, inl, inr, arith, get_or, set}
-use Rattle.std.proofs.lemmas.Bool.{true≢false, eqb-true, eq-eqb}
-use Rattle.exec_machine.specs.{declared.{config.Configuration.Configuration, event.Event.Event, state.{Forwarding.{Forwarding, TheVariants.{Applied, Sent, Unsent}}, MailMessage.MailMessage, Request.Request, Sleeper.Sleeper}}, After.{after, common_after}, Allowed.Allowed, Choice.Choice, Mail.after_sending, Tests.{is_applied, is_unsent}, World.{Common, Own as Books, World, no_request, no_sleeper, own_of, request_of, seat_of, sleeper_of}}
+use Rattle.std.proofs.Common.{◌≡◌, ℕ, zero, suc, ◌<◌, Bool, true, false, List, [], ◌∷◌, length, refl, sym, ap, ◌∙◌, subst, inl, inr, arith, get_or, set}
+use Rattle.std.proofs.lemmas.Bool.{true≢false, false≢true, cases_Bool, eqb-true}
+use Rattle.std.specs.Prelude.{◌⊎◌}
+use Rattle.exec_machine.specs.{declared.{config.Configuration.Configuration, event.Event.Event, state.{Forwarding.{Forwarding, TheVariants.{Applied, Sent, Unsent}}, MailMessage.MailMessage}}, After.{after, common_after}, Allowed.Allowed, Choice.Choice, Mail.{after_sending, posted}, Same.same_message, Tests.{is_applied, is_unsent}, World.{Common, Own as Books, World, no_request, no_sleeper, own_of, request_of, seat_of, sleeper_of}}
 use Rattle.exec_machine.specs.declared.event.Event.TheVariants as event
 use Rattle.exec_machine.specs.declared.state.MailMessage.TheVariants as message
 use Rattle.exec_books.specs.Booked.{IsBooked, IsUnderWay}
 use Rattle.exec_books.proofs.{CountedFresh.{each_request, each_sleeper}, CountedSeats.{posted_there, sending_same, stays_under_way, takes_from}, CountedTurns.{tells, tells_timer}, CountedWithin.{sleeps_within, whose_within}, Own.IsOwn}
 
-unsent : {T : Type 0} (f : Forwarding) → f ≡ Unsent → f ≡ Sent → T
-unsent f is sent = absurd (true≢false (ap is_unsent (sym is ∙ sent)))
+-- what is set so is not sent
+not_sent : {X : Type 0} (f : X → Forwarding) (xs : List X) (k : ℕ) (y d : X) → f y ≡ Applied → f d ≡ Unsent → f (get_or (set xs k y) k d) ≡ Sent → ⊥
+not_sent f [] k y d applied past sent = true≢false (ap is_unsent (sym past ∙ sent))
+not_sent f (x ∷ xs) zero y d applied past sent = true≢false (ap is_applied (sym applied ∙ sent))
+not_sent f (x ∷ xs) (suc k) y d applied past sent = not_sent f xs k y d applied past sent
 
--- an element that was set is this one, or the list is shorter
-at_set : {X : Type 0} (P : X → Type 0) (xs : List X) (k : ℕ) (y d : X) → P y → P d → P (get_or (set xs k y) k d)
-at_set P [] k y d here past = past
-at_set P (x ∷ xs) zero y d here past = here
-at_set P (x ∷ xs) (suc k) y d here past = at_set P xs k y d here past
+module _ (c : Configuration) (me : Books) (s : Common) (i : ℕ) (e : Event) (choice : Choice) (h : Allowed c me s i e choice) where
+  abbrev then : Common
+  then = common_after c me s i e choice
+
+  -- sent before, and not applied by this event, or sent by it
+  on_its_way : (m : MailMessage) (a y : Forwarding) (j n : ℕ) (told : Bool) → j < length s.seats → (a ≡ Sent → IsUnderWay m (seat_of s j)) → n ≡ j → (y ≡ Sent → (a ≡ Sent) ⊎ (told ≡ true))
+      → (takes_from m e ≡ true → y ≡ Sent → ⊥) → (told ≡ true → IsUnderWay m (seat_of then j)) → y ≡ Sent → IsUnderWay m (seat_of then n)
+  on_its_way m a y j n told within way is sent taken posts now =
+      rw is (elim (cases_Bool (takes_from m e)) [
+        | inl takes ↦ absurd (taken takes now)
+        | inr stays ↦ elim (sent now) [ inl was ↦ stays_under_way c me s i m e choice h stays j within (way was) | inr tells ↦ posts tells ]
+      ])
 
 module _ (c : Configuration) (me : Books) (s : Common) (i : ℕ) where
-  abbrev then_by : Event → Choice → Common
-  then_by e choice = common_after c me s i e choice
+  posts_there : (j to : ℕ) (m n : MailMessage) → same_message m n ≡ true → j ≡ to → j < length s.seats → IsUnderWay m (seat_of (record (after_sending s me.polls n) { seats = set (after_sending s me.polls n).seats to (posted n (seat_of (after_sending s me.polls n) to)) }) j)
+  posts_there j to m n same home within = rw home (posted_there (after_sending s me.polls n) to m n same (let long = ap length (sending_same s me.polls n) in omega (arith, within, long, home)))
 
-  posts_there : (to : ℕ) (m : MailMessage) → to < length s.seats → to < length (after_sending s me.polls m).seats
-  posts_there to m within = let long : length (after_sending s me.polls m).seats ≡ length s.seats = ap length (sending_same s me.polls m) in omega (arith, within, long)
+  applied : (k : ℕ) (e : Event) (choice : Choice) → takes_from (message.ForwardRequest k) e ≡ true → (request_of (common_after c me s i e choice) k).forwarding ≡ Sent → ⊥
+  applied k (event.Apply (message.ForwardRequest r)) choice takes now =
+      not_sent (λ x. x.forwarding) s.requests r (record (request_of s r) { forwarding = Applied }) no_request refl refl (subst (λ n. (request_of (common_after c me s i (event.Apply (message.ForwardRequest r)) choice) n).forwarding ≡ Sent) (eqb-true k r takes) now)
+  applied k _ choice takes now = absurd (false≢true takes)
 
-  module _ (whose : (k : ℕ) → (request_of s k).worker < length s.seats)
-      (way : (k : ℕ) → (request_of s k).forwarding ≡ Sent → IsUnderWay (message.ForwardRequest k) (seat_of s (request_of s k).worker)) where
-    abbrev Way : Event → Choice → ℕ → Type 0
-    Way e choice k = IsUnderWay (message.ForwardRequest k) (seat_of (then_by e choice) (request_of (then_by e choice) k).worker)
+  applied_too : (z : ℕ) (e : Event) (choice : Choice) → takes_from (message.ForwardTimer z) e ≡ true → (sleeper_of (common_after c me s i e choice) z).forwarding ≡ Sent → ⊥
+  applied_too z (event.Apply (message.ForwardTimer q)) choice takes now =
+      not_sent (λ x. x.forwarding) s.sleepers q (record (sleeper_of s q) { forwarding = Applied }) no_sleeper refl refl (subst (λ n. (sleeper_of (common_after c me s i (event.Apply (message.ForwardTimer q)) choice) n).forwarding ≡ Sent) (eqb-true z q takes) now)
+  applied_too z _ choice takes now = absurd (false≢true takes)
 
-    -- neither sent nor applied by this event
-    carried : (e : Event) (choice : Choice) → Allowed c me s i e choice → (k : ℕ) → takes_from (message.ForwardRequest k) e ≡ false → tells k e ≡ false
-        → (request_of (then_by e choice) k).forwarding ≡ Sent → Way e choice k
-    carried e choice h k stays none sent = elim (each_request c me s i e choice h k) [
-      | inl it ↦ elim (it.sent sent) [
-        | inl was ↦ subst (λ n. IsUnderWay (message.ForwardRequest k) (seat_of (then_by e choice) n)) (sym it.worker)
-            (stays_under_way c me s i (message.ForwardRequest k) e choice h stays (request_of s k).worker (whose k) (way k was))
-        | inr told ↦ absurd (true≢false (sym told ∙ none))
-      ]
-      | inr new ↦ unsent (request_of (then_by e choice) k).forwarding new.forwarding sent
-    ]
+  told : (k : ℕ) (e : Event) (choice : Choice) → Allowed c me s i e choice → (request_of s k).worker < length s.seats → tells k e ≡ true → IsUnderWay (message.ForwardRequest k) (seat_of (common_after c me s i e choice) (request_of s k).worker)
+  told = grind (arith, tells, posts_there, eqb-true, false≢true)
 
-    told : (to r : ℕ) (choice : Choice) (h : Allowed c me s i (event.Send to (message.ForwardRequest r)) choice) → (request_of (then_by (event.Send to (message.ForwardRequest r)) choice) r).forwarding ≡ Sent
-        → Way (event.Send to (message.ForwardRequest r)) choice r
-    told to r choice h sent =
-        let e : Event = event.Send to (message.ForwardRequest r) in
-        let m : MailMessage = message.ForwardRequest r in
-        let home = eqb-true (request_of s r).worker to h.1.0 in
-        let there = whose r in
-        elim (each_request c me s i e choice h r) [
-          | inl it ↦ subst (λ n. IsUnderWay m (seat_of (then_by e choice) n)) (sym (it.worker ∙ home))
-              (posted_there (after_sending s me.polls m) to m (eq-eqb r r refl) (posts_there to m (omega (arith, there, home))))
-          | inr new ↦ unsent (request_of (then_by e choice) r).forwarding new.forwarding sent
-        ]
-
-    sent_on : (e : Event) (choice : Choice) → Allowed c me s i e choice → (k : ℕ) → (request_of (then_by e choice) k).forwarding ≡ Sent → Way e choice k
-    sent_on (event.Apply (message.ForwardRequest r)) choice h k sent = by (k == r) refl
-      where
-        by : (b : Bool) → (k == r) ≡ b → Way (event.Apply (message.ForwardRequest r)) choice k
-        by false other = carried (event.Apply (message.ForwardRequest r)) choice h k other refl sent
-        by true is =
-            let y : Request = record (request_of s r) { forwarding = Applied } in
-            absurd (
-            at_set (λ (x : Request). x.forwarding ≡ Sent → ⊥) s.requests r y no_request (λ not_so. true≢false (ap is_applied not_so)) (λ not_so. true≢false (ap is_unsent not_so))
-            (subst (λ n. (request_of (then_by (event.Apply (message.ForwardRequest r)) choice) n).forwarding ≡ Sent) (eqb-true k r is) sent)
-            )
-    sent_on (event.Apply message.Root) choice h k sent = carried (event.Apply message.Root) choice h k refl refl sent
-    sent_on (event.Apply (message.ForwardTimer z)) choice h k sent = carried (event.Apply (message.ForwardTimer z)) choice h k refl refl sent
-    sent_on (event.Apply (message.CancelRequest r)) choice h k sent = carried (event.Apply (message.CancelRequest r)) choice h k refl refl sent
-    sent_on (event.Apply (message.CancelTimer z)) choice h k sent = carried (event.Apply (message.CancelTimer z)) choice h k refl refl sent
-    sent_on (event.Send to (message.ForwardRequest r)) choice h k sent = by (k == r) refl
-      where
-        by : (b : Bool) → (k == r) ≡ b → Way (event.Send to (message.ForwardRequest r)) choice k
-        by false other = carried (event.Send to (message.ForwardRequest r)) choice h k refl other sent
-        by true is =
-            let same = eqb-true k r is in
-            let e : Event = event.Send to (message.ForwardRequest r) in
-            subst (Way e choice) (sym same) (told to r choice h (subst (λ n. (request_of (then_by e choice) n).forwarding ≡ Sent) same sent))
-    sent_on (event.Send to message.Root) choice h k sent = carried (event.Send to message.Root) choice h k refl refl sent
-    sent_on (event.Send to (message.ForwardTimer z)) choice h k sent = carried (event.Send to (message.ForwardTimer z)) choice h k refl refl sent
-    sent_on (event.Send to (message.CancelRequest r)) choice h k sent = carried (event.Send to (message.CancelRequest r)) choice h k refl refl sent
-    sent_on (event.Send to (message.CancelTimer z)) choice h k sent = carried (event.Send to (message.CancelTimer z)) choice h k refl refl sent
-    sent_on e choice h k sent = carried e choice h k refl refl sent
-
-  module _ (whose : (z : ℕ) → (sleeper_of s z).worker < length s.seats)
-      (way : (z : ℕ) → (sleeper_of s z).forwarding ≡ Sent → IsUnderWay (message.ForwardTimer z) (seat_of s (sleeper_of s z).worker)) where
-    abbrev WayToo : Event → Choice → ℕ → Type 0
-    WayToo e choice z = IsUnderWay (message.ForwardTimer z) (seat_of (then_by e choice) (sleeper_of (then_by e choice) z).worker)
-
-    carried_too : (e : Event) (choice : Choice) → Allowed c me s i e choice → (z : ℕ) → takes_from (message.ForwardTimer z) e ≡ false → tells_timer z e ≡ false
-        → (sleeper_of (then_by e choice) z).forwarding ≡ Sent → WayToo e choice z
-    carried_too e choice h z stays none sent = elim (each_sleeper c me s i e choice h z) [
-      | inl it ↦ elim (it.sent sent) [
-        | inl was ↦ subst (λ n. IsUnderWay (message.ForwardTimer z) (seat_of (then_by e choice) n)) (sym it.worker)
-            (stays_under_way c me s i (message.ForwardTimer z) e choice h stays (sleeper_of s z).worker (whose z) (way z was))
-        | inr told ↦ absurd (true≢false (sym told ∙ none))
-      ]
-      | inr new ↦ unsent (sleeper_of (then_by e choice) z).forwarding new.forwarding sent
-    ]
-
-    told_too : (to q : ℕ) (choice : Choice) (h : Allowed c me s i (event.Send to (message.ForwardTimer q)) choice) → (sleeper_of (then_by (event.Send to (message.ForwardTimer q)) choice) q).forwarding ≡ Sent
-        → WayToo (event.Send to (message.ForwardTimer q)) choice q
-    told_too to q choice h sent =
-        let e : Event = event.Send to (message.ForwardTimer q) in
-        let m : MailMessage = message.ForwardTimer q in
-        let home = eqb-true (sleeper_of s q).worker to h.1.0 in
-        let there = whose q in
-        elim (each_sleeper c me s i e choice h q) [
-          | inl it ↦ subst (λ n. IsUnderWay m (seat_of (then_by e choice) n)) (sym (it.worker ∙ home))
-              (posted_there (after_sending s me.polls m) to m (eq-eqb q q refl) (posts_there to m (omega (arith, there, home))))
-          | inr new ↦ unsent (sleeper_of (then_by e choice) q).forwarding new.forwarding sent
-        ]
-
-    sent_on_too : (e : Event) (choice : Choice) → Allowed c me s i e choice → (z : ℕ) → (sleeper_of (then_by e choice) z).forwarding ≡ Sent → WayToo e choice z
-    sent_on_too (event.Apply (message.ForwardTimer q)) choice h z sent = by (z == q) refl
-      where
-        by : (b : Bool) → (z == q) ≡ b → WayToo (event.Apply (message.ForwardTimer q)) choice z
-        by false other = carried_too (event.Apply (message.ForwardTimer q)) choice h z other refl sent
-        by true is =
-            let y : Sleeper = record (sleeper_of s q) { forwarding = Applied } in
-            absurd (
-            at_set (λ (x : Sleeper). x.forwarding ≡ Sent → ⊥) s.sleepers q y no_sleeper (λ not_so. true≢false (ap is_applied not_so)) (λ not_so. true≢false (ap is_unsent not_so))
-            (subst (λ n. (sleeper_of (then_by (event.Apply (message.ForwardTimer q)) choice) n).forwarding ≡ Sent) (eqb-true z q is) sent)
-            )
-    sent_on_too (event.Apply message.Root) choice h z sent = carried_too (event.Apply message.Root) choice h z refl refl sent
-    sent_on_too (event.Apply (message.ForwardRequest r)) choice h z sent = carried_too (event.Apply (message.ForwardRequest r)) choice h z refl refl sent
-    sent_on_too (event.Apply (message.CancelRequest r)) choice h z sent = carried_too (event.Apply (message.CancelRequest r)) choice h z refl refl sent
-    sent_on_too (event.Apply (message.CancelTimer q)) choice h z sent = carried_too (event.Apply (message.CancelTimer q)) choice h z refl refl sent
-    sent_on_too (event.Send to (message.ForwardTimer q)) choice h z sent = by (z == q) refl
-      where
-        by : (b : Bool) → (z == q) ≡ b → WayToo (event.Send to (message.ForwardTimer q)) choice z
-        by false other = carried_too (event.Send to (message.ForwardTimer q)) choice h z refl other sent
-        by true is =
-            let same = eqb-true z q is in
-            let e : Event = event.Send to (message.ForwardTimer q) in
-            subst (WayToo e choice) (sym same) (told_too to q choice h (subst (λ n. (sleeper_of (then_by e choice) n).forwarding ≡ Sent) same sent))
-    sent_on_too (event.Send to message.Root) choice h z sent = carried_too (event.Send to message.Root) choice h z refl refl sent
-    sent_on_too (event.Send to (message.ForwardRequest r)) choice h z sent = carried_too (event.Send to (message.ForwardRequest r)) choice h z refl refl sent
-    sent_on_too (event.Send to (message.CancelRequest r)) choice h z sent = carried_too (event.Send to (message.CancelRequest r)) choice h z refl refl sent
-    sent_on_too (event.Send to (message.CancelTimer q)) choice h z sent = carried_too (event.Send to (message.CancelTimer q)) choice h z refl refl sent
-    sent_on_too e choice h z sent = carried_too e choice h z refl refl sent
+  told_too : (z : ℕ) (e : Event) (choice : Choice) → Allowed c me s i e choice → (sleeper_of s z).worker < length s.seats → tells_timer z e ≡ true → IsUnderWay (message.ForwardTimer z) (seat_of (common_after c me s i e choice) (sleeper_of s z).worker)
+  told_too = grind (arith, tells, posts_there, eqb-true, false≢true)
 
 module _ (c : Configuration) (w : World) (i : ℕ) (e : Event) (choice : Choice) (owns : length w.workers ≡ length w.common.seats) (here : i < length w.common.seats)
     (may : Allowed c (own_of w i) w.common i e choice) (own : IsOwn w.common i e) (held : IsBooked w) where
@@ -146,7 +53,19 @@ module _ (c : Configuration) (w : World) (i : ℕ) (e : Event) (choice : Choice)
   late = after c w i e choice
 
   pub sent_then : (k : ℕ) → (request_of late.common k).forwarding ≡ Sent → IsUnderWay (message.ForwardRequest k) (seat_of late.common (request_of late.common k).worker)
-  sent_then k sent = sent_on c (own_of w i) w.common i (whose_within w.common i here held.requests) held.sent e choice may k sent
+  sent_then k sent = elim (each_request c (own_of w i) w.common i e choice may k) [
+    | inl it ↦ on_its_way c (own_of w i) w.common i e choice may (message.ForwardRequest k) _ _ _ _ _ (whose k) (held.sent k) it.worker it.sent (applied c (own_of w i) w.common i k e choice) (told c (own_of w i) w.common i k e choice may (whose k)) sent
+    | inr new ↦ absurd (true≢false (ap is_unsent (sym new.forwarding ∙ sent)))
+  ]
+    where
+      whose : (k : ℕ) → (request_of w.common k).worker < length w.common.seats
+      whose = whose_within w.common i here held.requests
 
   pub sent_too_then : (z : ℕ) → (sleeper_of late.common z).forwarding ≡ Sent → IsUnderWay (message.ForwardTimer z) (seat_of late.common (sleeper_of late.common z).worker)
-  sent_too_then z sent = sent_on_too c (own_of w i) w.common i (sleeps_within w.common i here held.sleepers) held.sent_too e choice may z sent
+  sent_too_then z sent = elim (each_sleeper c (own_of w i) w.common i e choice may z) [
+    | inl it ↦ on_its_way c (own_of w i) w.common i e choice may (message.ForwardTimer z) _ _ _ _ _ (whose z) (held.sent_too z) it.worker it.sent (applied_too c (own_of w i) w.common i z e choice) (told_too c (own_of w i) w.common i z e choice may (whose z)) sent
+    | inr new ↦ absurd (true≢false (ap is_unsent (sym new.forwarding ∙ sent)))
+  ]
+    where
+      whose : (z : ℕ) → (sleeper_of w.common z).worker < length w.common.seats
+      whose = sleeps_within w.common i here held.sleepers

@@ -1,23 +1,17 @@
 -- The requests of a worker stand in its lists after an event of its own.
-use Rattle.std.proofs.Common.{◌≡◌, ℕ, ◌<◌, Bool, true, false, length, set, Option, Some, None, if◌then◌else◌, ◌∙◌, refl, sym, ap, subst, arith}
+use Rattle.std.proofs.Common.{◌≡◌, ℕ, ◌<◌, Bool, true, false, length, set, Option, Some, None, if◌then◌else◌, ◌∙◌, refl, sym, ap, arith}
 use Rattle.std.proofs.lemmas.Bool.{ltb-true, ltb-false}
 use Rattle.std.proofs.lemmas.Grind.{get_or-set_at}
 use Rattle.std.proofs.lemmas.List.{set_past}
-use Rattle.exec_machine.specs.{declared.{config.Configuration.Configuration, event.Event.Event, state.{MailMessage.MailMessage, Request.Request}}, After.{common_after, own_after}, Allowed.Allowed, Choice.{Choice, Choice.{Plain, Passes, Pays, Posts}}, Closing.{ends_by_clear, with_cleared}, Mail.{after_post, after_sending, own_after_letter}, Tasks.{after_over, after_word, own_after_over, requests_after_drops}, World.{Common, Own as Books, request_of, seat_of, task_of}}
+use Rattle.exec_machine.specs.{declared.{config.Configuration.Configuration, event.Event.Event, state.{MailMessage.MailMessage, Request.Request}}, After.{common_after, own_after}, Allowed.Allowed, Choice.{Choice, Choice.{Plain, Passes, Pays, Posts}}, Closing.{ends_by_clear, with_cleared}, Mail.{after_sending, own_after_letter}, Tasks.{after_over, own_after_over, requests_after_drops}, World.{Common, Own as Books, request_of, seat_of, task_of}}
 use Rattle.exec_machine.specs.declared.event.Event.TheVariants as event
 use Rattle.exec_machine.specs.declared.state.MailMessage.TheVariants as message
 use Rattle.exec_books.specs.Listed.{IsListed}
 use Rattle.exec_rest.proofs.Events.{landed_by, seats_after}
 use Rattle.exec_books.proofs.{Own.{IsOwn}, MineLists.{AllMine, SameLists, mark_mine, marked, same_lists, still}, MineDrops.{over_mine}, MineEvents.{admits, cancels_one, enrols, enters, expires, grants, lets_go, reaps, releases, stages}}
+use Rattle.exec_books.proofs.Spares.{word_requests, post_requests}
 
 -- WHAT STAYS
-
-word_requests : (s : Common) (polls : Option ℕ) → (after_word s polls).requests ≡ s.requests
-word_requests s None = refl
-word_requests s (Some t) = refl
-
-post_requests : (s : Common) (to : ℕ) (m : MailMessage) (choice : Choice) → (after_post s to m choice).requests ≡ s.requests
-post_requests = grind arith
 
 -- a task that is cleared holds what it held
 cleared_held : (s : Common) (t : ℕ) → (task_of (with_cleared s t) t).held ≡ (task_of s t).held
@@ -100,7 +94,6 @@ module _ (c : Configuration) (me : Books) (s : Common) (i : ℕ) (here : i < len
   stood mine event.Closed choice may own = still i (same_lists refl refl refl refl) (word_requests s me.polls) mine
   stood mine (event.Clear t) choice may own = clears mine t choice
   stood mine (event.Admit r kind o) choice may own = admits c me s i mine r kind o choice may
-  stood mine (event.Wait None) choice may own = still i (same_lists refl refl refl refl) refl mine
   stood mine (event.Wait (Some r)) choice may own = grind (arith, touches, same_lists, marked)
   stood mine (event.Got r o) choice may own =
       let y = record (request_of s r) { observed = false } in
@@ -122,5 +115,4 @@ module _ (c : Configuration) (me : Books) (s : Common) (i : ℕ) (here : i < len
 
   pub mine_then : AreMine → (e : Event) (choice : Choice) → Allowed c me s i e choice → IsOwn s i e
       → (k : ℕ) → (request_of (common_after c me s i e choice) k).worker ≡ i → IsListed (own_after c me s i e choice) (seat_of (common_after c me s i e choice) i).landed k (request_of (common_after c me s i e choice) k)
-  mine_then mine e choice may own =
-      subst (λ landed. AllMine i (own_after c me s i e choice) landed (common_after c me s i e choice).requests) (sym ((seats_after c me s i e choice i).own refl)) (stood mine e choice may own)
+  mine_then = grind (arith, seats_after, stood)

@@ -22,8 +22,7 @@ pub same_lists : {me me' : Books} → me'.ready ≡ me.ready → me'.unenrolled 
 same_lists ready unenrolled cancels ended = record { ready = ready; unenrolled = unenrolled; cancels = cancels; ended = ended }
 
 pub keeps_same : {me me' : Books} (landed : List ℕ) → SameLists me me' → (k : ℕ) → KeepsIn k me me' landed landed
-keeps_same landed same k =
-    record { ready = λ h. rw same.ready h; landed_in = λ h. h; unenrolled = λ h. rw same.unenrolled h; cancels = λ h. rw same.cancels h; ended = λ h. rw same.ended h }
+keeps_same = grind arith
 
 pub books : (me me' : Books) (landed : List ℕ) (k : ℕ) (y : Request) → SameLists me me' → IsListed me landed k y → IsListed me' landed k y
 books me me' landed k y same it = listed_by k me me' landed landed y (keeps_same landed same k) it
@@ -40,8 +39,7 @@ module _ (i : ℕ) where
 
   -- the requests are the same, and so are the lists
   pub still : {me me' : Books} {landed : List ℕ} {rs rs' : List Request} → SameLists me me' → rs' ≡ rs → AllMine me landed rs → AllMine me' landed rs'
-  still {me} {me'} {landed} {rs} {rs'} same is mine =
-      subst (AllMine me' landed) (sym is) (λ k whose. books me me' landed k (get_or rs k no_request) same (mine k whose))
+  still = grind (arith, books)
 
   module _ (me me' : Books) (landed landed' : List ℕ) (rs : List Request) where
     -- one request has changed

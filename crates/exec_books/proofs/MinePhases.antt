@@ -1,5 +1,5 @@
 -- One request, as its phase changes: where it stands in the lists then.
-use Rattle.std.proofs.Common.{◌≡◌, ℕ, ◌&&◌, ◌||◌, Bool, true, false, not, List, [], refl, arith}
+use Rattle.std.proofs.Common.{◌≡◌, ℕ, ◌&&◌, ◌||◌, Bool, true, false, not, List, arith}
 use Rattle.std.proofs.lemmas.Bool.{false≢true}
 use Rattle.std.specs.Prelude.{Some}
 use Rattle.exec_outcomes.specs.declared.outcome.{OpResult.OpResult}
@@ -23,12 +23,10 @@ pub told_staged : (a b : Bool) → (a && b && not true) ≡ true → ⊥
 told_staged = grind arith
 
 pub not_cancelled : (a b : Bool) → not a ≡ true → (true && a && not b) ≡ false
-not_cancelled true b h = absurd (false≢true h)
-not_cancelled false b h = refl
+not_cancelled = grind (arith, false≢true)
 
 pub no_more : (a : Bool) → (a && not true) ≡ true → ⊥
-no_more true h = false≢true h
-no_more false h = false≢true h
+no_more = grind (arith, false≢true)
 
 -- what waits in no other way stands where it stood, whose phase is open
 pub put_unenrolled : (p q : RequestPhase) (a t d : Bool) → is_resolved p ≡ false → (is_resolved q || a || t || d) ≡ false → (is_resolved p || a || t || d) ≡ false

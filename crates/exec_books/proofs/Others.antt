@@ -1,5 +1,5 @@
 -- A step that is no worker's keeps the books.
-use Rattle.std.proofs.Common.{◌≡◌, ℕ, ◌+◌, ◌<◌, ◌==◌, Bool, true, false, ◌&&◌, List, [], ◌∷◌, ◌++◌, length, refl, sym, ap, ◌∙◌, subst, inl, inr, arith, get_or, set, Option, Some, None, if◌then◌else◌}
+use Rattle.std.proofs.Common.{◌≡◌, ℕ, ◌+◌, ◌<◌, ◌==◌, Bool, true, false, ◌&&◌, List, [], ◌∷◌, ◌++◌, length, refl, sym, ap, ◌∙◌, subst, arith, get_or, set, Option, if◌then◌else◌}
 use Rattle.std.proofs.lemmas.Bool.{true≢false, false≢true, and_parts, or_left, eqb-true, eqb-false, ltb-true, ltb-false}
 use Rattle.std.proofs.lemmas.List.{get_or-set_same, get_or-set_other, get_or_past, length-set, length-map, Folds.list_any-append}
 use Rattle.std.specs.Prelude.{◌⊎◌, nat_lt}
@@ -24,8 +24,7 @@ is_ahead clock (rest.Until u) = nat_lt clock u
 is_ahead clock _ = true
 
 still_ahead : (clock : ℕ) (r : Rest) (m : Option ℕ) → r ≡ rest_until m → is_ahead clock r ≡ true → is_after clock m ≡ true
-still_ahead clock r None is ahead = refl
-still_ahead clock r (Some u) is ahead = ap (is_ahead clock) (sym is) ∙ ahead
+still_ahead = grind arith
 
 -- who slept until then is awake
 abbrev Roused : ℕ → Seat → Seat → Type 0
@@ -43,8 +42,7 @@ clock_due k s d held asleep =
     (slept.0.0 ∙ was.0 ∙ ap rest_until (sym same), ap (is_after clock) same ∙ still_ahead clock (seat_of s k).rest (next_due s k) was.0 slept.1)
 
 spawn_dues : (k : ℕ) (s : Common) (n : ℕ) (e : Event) → Dues k s (after_spawn_by_call s n e)
-spawn_dues k s n (event.Spawn t script) = beside refl refl refl refl
-spawn_dues k s n _ = dues k s
+spawn_dues = grind (arith, beside, dues)
 
 wake_dues : (k : ℕ) (s : Common) (t : ℕ) (e : Event) (choice : Choice) → Dues k s (after_wake_by_call s t e choice)
 wake_dues k s t (event.Wake other) choice = beside refl refl refl refl
@@ -60,8 +58,7 @@ due_by_other = grind (arith, dues_kept, dues_then, spawn_dues, beside, wake_dues
 -- WHAT IT LEAVES
 
 nothing : (s late : Common) → late.requests ≡ s.requests → late.sleepers ≡ s.sleepers → late.seats ≡ s.seats → Leaves s late
-nothing s late requests sleepers seats =
-    leaves_by_seats s late requests sleepers (ap length seats) (λ i. subst (λ xs. SameSeat (seat_of s i) (get_or xs i no_seat)) (sym seats) (same_seat (seat_of s i)))
+nothing = grind (arith, leaves_by_seats, same_seat)
 
 one_seat : (s late : Common) (q : ℕ) (y : Seat) → SameSeat (seat_of s q) y → late.requests ≡ s.requests → late.sleepers ≡ s.sleepers → late.seats ≡ set s.seats q y → Leaves s late
 one_seat s late q y same requests sleepers seats =
@@ -69,8 +66,7 @@ one_seat s late q y same requests sleepers seats =
     (λ i. subst (λ xs. SameSeat (seat_of s i) (get_or xs i no_seat)) (sym seats) (set_like SameSeat same_seat s.seats q i y no_seat same))
 
 spawn_leaves : (s : Common) (n j : ℕ) (e : Event) → Leaves s (half_done (after_spawn_by_call s n e) j)
-spawn_leaves s n j (event.Spawn t script) = nothing s (half_done (after_spawn_by_call s n (event.Spawn t script)) j) refl refl refl
-spawn_leaves s n j e = nothing s (half_done s j) refl refl refl
+spawn_leaves = grind (arith, nothing)
 
 -- what has stood in a list stands there also before another one
 longer : {X : Type 0} (test : X → Bool) (xs more : List X) → list_any test xs ≡ true → list_any test (xs ++ more) ≡ true
@@ -124,16 +120,14 @@ module _ (w : World) (held : IsBooked w) (r : ℕ) (n : OpResult) where
   same_but = grind arith
 
   within : (b : Bool) → nat_lt r (length s.requests) ≡ b → is_flying it.phase ≡ true → r < length s.requests
-  within true h flies = ltb-true r (length s.requests) h
-  within false h flies = absurd (false≢true (sym (ap (λ (x : Request). is_flying x.phase) (get_or_past s.requests r no_request (omega (arith, ltb-false r (length s.requests) h)))) ∙ flies))
+  within = grind (arith, ltb-true, false≢true, get_or_past, ltb-false)
 
   lands_in : is_flying it.phase ≡ true → is_in r (seat_of (after_landing s r n) it.worker).landed ≡ true
   lands_in = grind (arith, within, get_or-set_same, in_last)
 
   landed_then : is_flying it.phase ≡ true → (k : ℕ) (b : Bool) → (k == r) ≡ b → is_landed (request_of (after_landing s r n) k).phase ≡ true
       → (is_landed (request_of s k).phase ≡ true) ⊎ (is_in k (seat_of (after_landing s r n) (request_of s k).worker).landed ≡ true)
-  landed_then flies k true is h = inr (subst (λ q. is_in q (seat_of (after_landing s r n) (request_of s q).worker).landed ≡ true) (sym (eqb-true k r is)) (lands_in flies))
-  landed_then flies k false other h = inl (ap (λ (x : Request). is_landed x.phase) (sym (get_or-set_other s.requests r k y no_request (eqb-false k r other))) ∙ h)
+  landed_then = grind (arith, eqb-true, lands_in, get_or-set_other, eqb-false)
 
   lands : is_flying it.phase ≡ true → Leaves s (after_landing s r n)
   lands flies =

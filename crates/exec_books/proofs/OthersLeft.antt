@@ -1,5 +1,5 @@
 -- What a step that is no worker's leaves, and that this is enough for the books.
-use Rattle.std.proofs.Common.{◌≡◌, ℕ, zero, suc, ◌+◌, ◌<◌, ◌==◌, Bool, true, not, ◌&&◌, List, [], ◌∷◌, length, refl, sym, ap, ◌∙◌, subst, inl, inr, get_or, set, fold, cond, arith}
+use Rattle.std.proofs.Common.{◌≡◌, ℕ, zero, suc, ◌+◌, ◌<◌, ◌==◌, Bool, true, not, ◌&&◌, List, [], ◌∷◌, length, refl, sym, ap, ◌∙◌, subst, get_or, set, fold, cond, arith}
 use Rattle.std.specs.Prelude.{◌⊎◌}
 use Rattle.std.specs.List.{list_any}
 use Rattle.exec_machine.specs.{declared.state.{MailMessage.MailMessage, Operation.Operation, Request.Request}, Same.{same_message}, Tests.{has_ended, is_asleep, is_in_flight, is_landed, is_of_file, is_queued, is_resolved}, World.{Common, Seat, World, no_request, no_sleeper, request_of, seat_of}}
@@ -22,8 +22,7 @@ pub record SameRequest (x y : Request) : Type 0 where
   pub resolved : is_resolved y.phase ≡ is_resolved x.phase
 
 pub same_request : (x : Request) → SameRequest x x
-same_request x =
-    record { worker = refl; operation = refl; timer = refl; cancelled = refl; cancel_staged = refl; released = refl; forwarding = refl; queued = refl; in_flight = refl; resolved = refl }
+same_request = grind arith
 
 -- of a seat: what stands in its lists stands there still
 pub record SameSeat (x y : Seat) : Type 0 where
@@ -66,8 +65,7 @@ module _ (w : World) (late : Common) (left : Leaves w.common late) (held : IsBoo
   listed_still = grind arith
 
   under_way : (m : MailMessage) (i j : ℕ) → j ≡ i → IsUnderWay m (seat_of s i) → IsUnderWay m (seat_of late j)
-  under_way m i j same (inl within) = inl (subst (λ n. list_any (same_message m) (seat_of late n).inbox ≡ true) (sym same) ((left.seat i).inbox m within))
-  under_way m i j same (inr closed) = inr (ap (λ n. (seat_of late n).mailbox_closed) same ∙ (left.seat i).mailbox_closed ∙ closed)
+  under_way = grind arith
 
   pub booked_still : ((i : ℕ) → HasDue late i) → IsBooked (record w { common = late })
   booked_still dues =

@@ -1,5 +1,5 @@
 -- Whose request or sleeper an event of a worker changes.
-use Rattle.std.proofs.Common.{◌≡◌, ℕ, Bool, true, false, Option, Some, None, refl, sym, ◌∙◌, arith}
+use Rattle.std.proofs.Common.{◌≡◌, ℕ, Bool, true, false, Option, Some, refl, arith}
 use Rattle.std.proofs.lemmas.Bool.{false≢true}
 use Rattle.std.specs.Prelude.{slice_get}
 use Rattle.exec_machine.specs.{declared.{config.Configuration.Configuration, event.Event.Event, state.{MailMessage.MailMessage}}}
@@ -45,8 +45,7 @@ timer_first = grind arith
 -- the first of the inbox is the message that is applied
 first_message : (m : MailMessage) (seat : Seat) (first : Option MailMessage) → slice_get seat.inbox 0 ≡ first → is_first_message m seat ≡ true
     → (first_one : MailMessage) × (slice_get seat.inbox 0 ≡ Some first_one) × (same_message m first_one ≡ true)
-first_message m seat None is h = absurd (false≢true (sym (rw is refl) ∙ h))
-first_message m seat (Some first) is h = (first, is, sym (rw is refl) ∙ h)
+first_message = grind (arith, false≢true)
 
 pub own_by_mail : (c : Configuration) (me : Books) (s : Common) (i : ℕ) (e : Event) (choice : Choice) → FirstIsOwn s i → Allowed c me s i e choice → IsOwn s i e
 own_by_mail c me s i (event.Apply (message.CancelRequest r)) choice own h =

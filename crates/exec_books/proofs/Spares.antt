@@ -4,7 +4,7 @@ use Rattle.std.proofs.lemmas.Bool.{cases_Bool, eqb-true}
 use Rattle.std.proofs.lemmas.List.{get_or_append_left, get_or_push, length-append, length-map, length-set}
 use Rattle.exec_outcomes.specs.declared.outcome.{OpResult.OpResult, Outcome.Outcome}
 use Rattle.exec_machine.specs.declared.{config.Configuration.Configuration, event.Event.Event, state.{Forwarding.{Forwarding, TheVariants.{Applied, Sent}}, MailMessage.MailMessage, Next.Next, Request.Request}}
-use Rattle.exec_machine.specs.{After.{common_after, polled}, Choice.{Choice, Payer, Choice.{Plain, Passes, Pays, Posts}, Payer.{ByRequest, BySleeper, ByAct, ByCall, ByStop}}, Closing.{after_clear, after_next, ends_by_clear, with_cleared}, Deadlines.{enrolled, expired}, Mail.{after_post, after_sending, is_left_out, is_root_message}, Requests.{dropped, flown, granted, new_request, reaped, resolved_if}, Tasks.{after_over, after_payment, after_pend, after_word, requests_after_drops}, World.{Common, Own as Books, no_request, request_of, task_of}}
+use Rattle.exec_machine.specs.{After.{common_after, polled}, Choice.{Choice, Payer, Choice.{Plain, Pays, Posts}, Payer.{ByRequest, BySleeper, ByAct, ByCall, ByStop}}, Closing.{after_clear, after_next, ends_by_clear, with_cleared}, Deadlines.{enrolled, expired}, Mail.{after_post, after_sending, is_left_out, is_root_message}, Requests.{dropped, flown, granted, new_request, reaped, resolved_if}, Tasks.{after_over, after_payment, after_pend, after_word, requests_after_drops}, World.{Common, Own as Books, no_request, request_of, task_of}}
 use Rattle.exec_machine.specs.declared.event.Event.TheVariants as event
 use Rattle.exec_machine.specs.declared.state.MailMessage.TheVariants as message
 use Rattle.exec_machine.specs.declared.state.Next.TheVariants as next
@@ -37,43 +37,36 @@ spared_then = grind arith
 -- who waits for it is no part of that
 touched : (x : Request) (observed : Bool) (waiter : Option ℕ) (paid : ℕ) (forwarding : Forwarding)
     → Spared x (record x { observed = observed; waiter = waiter; wakes_paid = paid; forwarding = forwarding })
-touched x observed waiter paid forwarding =
-    record { worker = refl; operation = refl; phase = refl; timer = refl; cancelled = refl; cancel_staged = refl; released = refl }
+touched = grind arith
 
 -- only who waits for it changes
 but : {i : ℕ} {own : Type 0} {x y : Request} → Spared x y → Kept i own x y
 but a = record { whose = a.worker; spared = λ own apart. a }
 
 kept_then : {i : ℕ} {own : Type 0} {x y z : Request} → Kept i own x y → Kept i own y z → Kept i own x z
-kept_then a b =
-    record { whose = b.whose ∙ a.whose; spared = λ own apart. spared_then (a.spared own apart) (b.spared own (λ is. apart (sym a.whose ∙ is))) }
+kept_then = grind (arith, spared_then)
 
 -- it is of worker i
 its_own : {i : ℕ} {own : Type 0} {x y : Request} → (own → x.worker ≡ i) → y.worker ≡ x.worker → Kept i own x y
 its_own own same = record { whose = same; spared = λ h apart. absurd (apart (own h)) }
 
-dropped_worker : (r : Request) → (dropped r).worker ≡ r.worker
+pub dropped_worker : (r : Request) → (dropped r).worker ≡ r.worker
 dropped_worker = grind arith
 
-granted_worker : (outcome : Option Outcome) (r : Request) → (granted outcome r).worker ≡ r.worker
-granted_worker None r = refl
-granted_worker (Some outcome) r = refl
+pub granted_worker : (outcome : Option Outcome) (r : Request) → (granted outcome r).worker ≡ r.worker
+granted_worker = grind arith
 
-enrolled_worker : (moment : ℕ) (outcome : Option Outcome) (r : Request) → (enrolled moment outcome r).worker ≡ r.worker
-enrolled_worker moment None r = refl
-enrolled_worker moment (Some outcome) r = refl
+pub enrolled_worker : (moment : ℕ) (outcome : Option Outcome) (r : Request) → (enrolled moment outcome r).worker ≡ r.worker
+enrolled_worker = grind arith
 
-reaped_worker : (n : OpResult) (outcome : Option Outcome) (r : Request) → (reaped n outcome r).worker ≡ r.worker
-reaped_worker n None r = refl
-reaped_worker n (Some outcome) r = refl
+pub reaped_worker : (n : OpResult) (outcome : Option Outcome) (r : Request) → (reaped n outcome r).worker ≡ r.worker
+reaped_worker = grind arith
 
-expired_worker : (outcome : Option Outcome) (r : Request) → (expired outcome r).worker ≡ r.worker
-expired_worker None r = refl
-expired_worker (Some outcome) r = refl
+pub expired_worker : (outcome : Option Outcome) (r : Request) → (expired outcome r).worker ≡ r.worker
+expired_worker = grind arith
 
-resolved_worker : (outcome : Option Outcome) (r : Request) → (resolved_if outcome r).worker ≡ r.worker
-resolved_worker None r = refl
-resolved_worker (Some outcome) r = refl
+pub resolved_worker : (outcome : Option Outcome) (r : Request) → (resolved_if outcome r).worker ≡ r.worker
+resolved_worker = grind arith
 
 flown_kept : {own : Type 0} (i : ℕ) (r : Request) → Kept i own r (flown i r)
 flown_kept = grind arith
@@ -142,11 +135,10 @@ drops_stay {i} {own} (r ∷ held) rs = by (it.worker == i) refl (drops_stay held
 next_requests : (s : Common) (i : ℕ) (n : Next) → (after_next s i n).requests ≡ s.requests
 next_requests = grind arith
 
-word_requests : (s : Common) (polls : Option ℕ) → (after_word s polls).requests ≡ s.requests
-word_requests s None = refl
-word_requests s (Some t) = refl
+pub word_requests : (s : Common) (polls : Option ℕ) → (after_word s polls).requests ≡ s.requests
+word_requests = grind arith
 
-post_requests : (s : Common) (to : ℕ) (m : MailMessage) (choice : Choice) → (after_post s to m choice).requests ≡ s.requests
+pub post_requests : (s : Common) (to : ℕ) (m : MailMessage) (choice : Choice) → (after_post s to m choice).requests ≡ s.requests
 post_requests s to m choice = elim (cases_Bool (is_root_message m && is_left_out choice)) [ inl out ↦ rw out refl | inr in_it ↦ rw in_it refl ]
 
 over_leaves : {own : Type 0} (s : Common) (i t : ℕ) → Leaves i own s.requests (after_over s i t).requests
@@ -181,7 +173,6 @@ module _ (c : Configuration) (me : Books) (s : Common) (i : ℕ) where
 
   leaves : (e : Event) (choice : Choice) → Leaves i (IsOwn s i e) s.requests (common_after c me s i e choice).requests
   leaves event.Turn Plain = of_same (next_requests s i me.next)
-  leaves event.Turn Passes = same
   leaves event.Turn (Pays payer) = of_same (next_requests s i me.next)
   leaves event.Turn (Posts payer left_out) = of_same (next_requests s i me.next)
   leaves (event.Pend t) choice = pend_leaves t
@@ -192,14 +183,10 @@ module _ (c : Configuration) (me : Books) (s : Common) (i : ℕ) where
   leaves (event.Dedicated t j) choice = of_same (word_requests s me.polls)
   leaves event.Closed choice = of_same (word_requests s me.polls)
   leaves (event.Admit r kind outcome) choice = push_leaves s.requests _ (resolved_worker outcome (new_request i _))
-  leaves (event.Wait None) choice = same
   leaves (event.Wait (Some r)) choice = let x = request_of s r in one s.requests r _ (but (touched x x.observed (Some (polled me)) x.wakes_paid x.forwarding))
   leaves (event.Got r outcome) choice = let x = request_of s r in one s.requests r _ (but (touched x false x.waiter x.wakes_paid x.forwarding))
   leaves (event.Drop r) choice = one s.requests r _ (its_own (λ own. own) (dropped_worker (request_of s r)))
   leaves (event.Wake t) (Pays payer) = payment_leaves me.polls payer
-  leaves (event.Wake t) Plain = same
-  leaves (event.Wake t) Passes = same
-  leaves (event.Wake t) (Posts payer left_out) = same
   leaves (event.Grant r outcome) choice = one s.requests r _ (its_own (λ own. own) (granted_worker outcome (request_of s r)))
   leaves (event.Enrol r outcome) choice = one s.requests r _ (its_own (λ own. own) (enrolled_worker _ outcome (request_of s r)))
   leaves (event.Stage r) choice = one s.requests r _ (its_own (λ own. own) refl)
@@ -211,11 +198,8 @@ module _ (c : Configuration) (me : Books) (s : Common) (i : ℕ) where
   leaves (event.Release r) choice = one s.requests r _ (its_own (λ own. own) refl)
   leaves (event.Send to m) choice =
       subst (Leaves i (IsOwn s i (event.Send to m)) s.requests) (sym (post_requests (after_sending s me.polls m) to m choice)) (sending_leaves me.polls m)
-  leaves (event.Apply message.Root) choice = same
   leaves (event.Apply (message.ForwardRequest r)) choice = let x = request_of s r in one s.requests r _ (but (touched x x.observed x.waiter x.wakes_paid Applied))
-  leaves (event.Apply (message.ForwardTimer z)) choice = same
   leaves (event.Apply (message.CancelRequest r)) choice = one s.requests r _ (its_own (λ own. own) (dropped_worker (request_of s r)))
-  leaves (event.Apply (message.CancelTimer z)) choice = same
   leaves _ choice = same
 
   -- a request of another worker

@@ -1,10 +1,10 @@
 -- A closing worker lets go of a request that somebody holds: what holds of what tasks hold. Its mailbox is closed, so that no
 -- task holds the request; who waited for it is woken.
-use Rattle.std.proofs.{Common.{◌≡◌, ◌⊎◌, inl, inr, ⊎_elim, ℕ, ◌+◌, ◌<◌, Bool, true, false, List, Option, Some, None, is_some, refl, sym, ap, subst, ◌∙◌, arith, slice_get, slice_set, Ok, Err}, lemmas.Bool.false≢true}
+use Rattle.std.proofs.{Common.{rules, ◌≡◌, ◌⊎◌, inl, inr, ⊎_elim, ℕ, ◌+◌, ◌<◌, Bool, true, false, List, Option, Some, None, is_some, refl, sym, ap, subst, ◌∙◌, arith, slice_get, slice_set, Ok, Err}, lemmas.Bool.false≢true}
 use Rattle.exec_base.specs.declared.one_shot.OneShotState.{OneShotState, TheVariants.{Open, Sent, Closed}}
 use Rattle.exec_outcomes.specs.declared.outcome.Outcome.{Outcome}
 use Rattle.exec_machine.specs.{declared.state.Forwarding.{Forwarding}, Tests.is_unsent}
-use Rattle.exec_parts.{specs.declared.parts.mail.Subject.Subject, proofs.Facts.{by_number, same_thing, set_elsewhere, set_there}}
+use Rattle.exec_parts.{specs.declared.parts.mail.Subject.Subject, proofs.Facts.{by_number, same_Some, set_elsewhere, set_there}}
 use Rattle.exec_invariants.{specs.Holding.{Awaits, Box, Hands, HasAnswer, Holder, IsClosing, IsDue, IsForwarded, IsHeldBy, IsHolding, IsOwed, Mail, MayHave, Nap, Owes, Thing, ThingOwes, holdings}, proofs.HoldRedo.holding_redone}
 use Rattle.exec_parts.specs.declared.parts.mail.Subject.TheVariants as subject
 
@@ -73,13 +73,7 @@ module _ (h h' : Hands) (workers i : ℕ) (hs : List Holder) (ts : List Thing) (
 
     owes_now : (j u : ℕ) → ThingOwes j u r boxes → ThingOwes j u r' boxes
     owes_now j u owes =
-        record {
-          worker = same_worker ∙ owes.worker;
-          waiter = same_waiter ∙ owes.waiter;
-          unpaid = same_paid ∙ owes.unpaid;
-          unsent = same_sent ∙ owes.unsent;
-          over = over_on j owes.over (sym owes.worker ∙ by.worker);
-        }
+        search (same_worker ∙ owes.worker, same_waiter ∙ owes.waiter, same_paid ∙ owes.unpaid, same_sent ∙ owes.unsent, over_on j owes.over (sym owes.worker ∙ by.worker))
 
     owes_on : (j u : ℕ) (a : Option Subject) → Owes j u a ts naps boxes → Owes j u a (slice_set ts k r') naps boxes
     owes_on j u None owes = owes
@@ -88,7 +82,7 @@ module _ (h h' : Hands) (workers i : ℕ) (hs : List Holder) (ts : List Thing) (
         by_number n k
         (λ apart. (owes.0, set_elsewhere ts k n r' apart ∙ owes.1, owes.2))
         (λ same.
-        let is : owes.0 ≡ r = same_thing owes.0 r (sym owes.1 ∙ ap (slice_get ts) same ∙ by.thing) in
+        let is : owes.0 ≡ r = same_Some owes.0 r (sym owes.1 ∙ ap (slice_get ts) same ∙ by.thing) in
         (r', subst (λ m. slice_get (slice_set ts k r') m ≡ Some r') (sym same) (set_there ts k r' r by.thing), owes_now j u (subst (λ x. ThingOwes j u x boxes) is owes.2)))
 
     -- who is woken wasn't owed a wake before, and is now
@@ -99,9 +93,9 @@ module _ (h h' : Hands) (workers i : ℕ) (hs : List Holder) (ts : List Thing) (
     none_before u is some =
         let o = old.owed i u some in
         let awaits = waiting u is in
-        let same : o.1.it ≡ awaits.it = same_thing o.1.it awaits.it (sym o.1.there ∙ awaits.there) in
+        let same : o.1.it ≡ awaits.it = same_Some o.1.it awaits.it (sym o.1.there ∙ awaits.there) in
         let owes : Owes i u (Some (subject.Request k)) ts naps boxes = subst (λ a. Owes i u a ts naps boxes) (ap (λ (x : Holder). x.awaits) same ∙ awaits.awaits) o.1.owes in
-        let its : owes.0 ≡ r = same_thing owes.0 r (sym owes.1 ∙ by.thing) in
+        let its : owes.0 ≡ r = same_Some owes.0 r (sym owes.1 ∙ by.thing) in
         let over : (is_some r.ended ≡ true) ⊎ ((r.observed ≡ false) × IsClosing i boxes) = subst (λ (x : Thing). (is_some x.ended ≡ true) ⊎ ((x.observed ≡ false) × IsClosing i boxes)) its owes.2.over in
         ⊎_elim (λ ended. false≢true (sym (ap is_some (by.waits u is).1) ∙ ended)) (λ lost. false≢true (sym lost.0 ∙ by.held)) over
 
@@ -109,13 +103,8 @@ module _ (h h' : Hands) (workers i : ℕ) (hs : List Holder) (ts : List Thing) (
     owed_now u is =
         let awaits = waiting u is in
         let w = by.waits u is in
-        record {
-          it = awaits.it;
-          there = awaits.there;
-          owes =
-              subst (λ a. Owes i u a (slice_set ts k r') naps boxes) (sym awaits.awaits)
-              (r', set_there ts k r' r by.thing, record { worker = same_worker ∙ by.worker; waiter = same_waiter ∙ w.0; unpaid = same_paid ∙ w.2; unsent = same_sent ∙ w.3; over = inr (let_go, closing) });
-        }
+        let owes = subst (λ a. Owes i u a (slice_set ts k r') naps boxes) (sym awaits.awaits) (r', set_there ts k r' r by.thing, record { worker = same_worker ∙ by.worker; waiter = same_waiter ∙ w.0; unpaid = same_paid ∙ w.2; unsent = same_sent ∙ w.3; over = inr (let_go, closing) }) in
+        search (owes, awaits)
 
     none_yet : (n : ℕ) → (0 < n → ⊥) → n ≡ 0
     none_yet n never = by_number n 0 (λ other. absurd (never (omega (arith, other)))) (λ same. same)
@@ -140,22 +129,10 @@ module _ (h h' : Hands) (workers i : ℕ) (hs : List Holder) (ts : List Thing) (
           sleeps_on = λ n u is. is;
           holds = λ u o j x is at_u at_j. let no : None ≡ Some u = is in absurd (cc);
           holds_else = λ u o j x apart at_u at_j is held.
-              record {
-                worker = same_worker ∙ held.worker;
-                near = subst (MayHave workers o.home) (sym same_worker) held.near;
-                here = λ some. ap is_unsent same_forwarding ∙ held.here some;
-                waiter = λ v waiter. held.waiter v (sym same_waiter ∙ waiter);
-                awaited = λ sent. held.awaited (unsent_on false sent);
-              };
+              search (rules, same_worker ∙ held.worker, subst (MayHave workers o.home) (sym same_worker) held.near, same_forwarding, held, same_waiter, unsent_on);
           awaiting = λ u o n is at_u awaits. let no : None ≡ Some u = is in absurd (cc);
           awaiting_else = λ u o apart at_u awaits a.
-              record {
-                waiter = same_waiter ∙ a.waiter;
-                near = subst (MayHave workers o.home) (sym same_worker) a.near;
-                here = λ some. ap is_unsent same_forwarding ∙ a.here some;
-                newest = a.newest;
-                answer = λ sent. answer_on o.output (a.answer (unsent_on false sent));
-              };
+              search (rules, same_waiter ∙ a.waiter, subst (MayHave workers o.home) (sym same_worker) a.near, a, same_forwarding, answer_on, unsent_on);
           asleep = λ u o n is at_u awaits. let no : None ≡ Some u = is in absurd (cc);
           over = λ u o is at_u over. let no : None ≡ Some u = is in absurd (cc);
           owed = λ j u some.
@@ -164,8 +141,7 @@ module _ (h h' : Hands) (workers i : ℕ) (hs : List Holder) (ts : List Thing) (
               let o = old.owed j u (subst (λ n. 0 < n) same some) in
               (same ∙ o.0, record { it = o.1.it; there = o.1.there; owes = owes_on j u o.1.it.awaits o.1.owes }))
               (λ more.
-              let none : h.wakes i u ≡ 0 = none_yet (h.wakes i u) (none_before u more.1) in
               let here : h.wakes j u ≡ h.wakes i u = ap (λ n. h.wakes n u) more.0 in
-              (omega (arith, more.2, here, none), subst (λ n. IsOwed n u hs (slice_set ts k r') naps boxes) (sym more.0) (owed_now u more.1)))
+              (omega (arith, more.2, here, none_yet (h.wakes i u) (none_before u more.1)), subst (λ n. IsOwed n u hs (slice_set ts k r') naps boxes) (sym more.0) (owed_now u more.1)))
               (by.wakes j u);
         }) old

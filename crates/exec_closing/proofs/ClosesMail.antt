@@ -1,12 +1,14 @@
 -- The mailbox of a closing worker is closed: what stood in it, and what was taken and not applied, is let go.
-use Rattle.std.proofs.{Common.{◌≡◌, inl, ℕ, zero, suc, ◌+◌, ◌^◌, ◌<◌, ◌==◌, ◌&&◌, Bool, true, false, cond, Contains, List, [], ◌∷◌, ◌++◌, count_by, length, map, sum_by, option_map, Option, None, Some, refl, sym, ap, subst, ◌∙◌, arith, slice_get, slice_set, nat_lt, if◌then◌else◌}, lemmas.{Bool.{false≢true, Decides.nat_tests}, List.{length-map, Sums.{sum_by-append, sum_by-cons}}, Nat.mod_below, Option.{slice_get-map, slice_get_within}}}
+use Rattle.std.proofs.{Common.{◌≡◌, inl, ℕ, zero, suc, ◌+◌, ◌^◌, ◌<◌, ◌==◌, ◌&&◌, Bool, true, false, cond, Contains, List, [], ◌∷◌, ◌++◌, count_by, length, map, sum_by, Option, None, Some, refl, sym, ap, subst, ◌∙◌, arith, slice_get, slice_set, nat_lt, if◌then◌else◌}, lemmas.{Bool.{false≢true, Decides.nat_tests}, List.{Sums.{sum_by-append, sum_by-cons}}, Nat.mod_below, Option.{slice_get_within}}}
 use Rattle.exec_words.specs.{Inbox.{Inbox, batch_handed, batch_taken, has_any, is_wake_root, shut}, declared.inbox.Message.Message, Reserved.Reserved, Word.next_batch}
 use Rattle.exec_task.specs.declared.body.Said.{Said}
-use Rattle.exec_machine.specs.{declared.{event.Event.{Event, TheVariants.Turn}, state.Next.Next}, After.common_after, Choice.Choice.Plain, Tests.has_ended, World.Seat}
+use Rattle.exec_machine.specs.{declared.{event.Event.{Event, TheVariants.Turn}, state.Next.Next}, Choice.Choice.Plain, Tests.has_ended}
 use Rattle.exec_moves.specs.{declared.place.{InClosing.InClosing, Place.Place}, Close.{after_letting_go, batches_closed, close_mailbox, first_asleep, first_held}, Move.move_at, Seen.{next_at, serves_at}, Thing.{set_inbox, with_inbox}}
-use Rattle.exec_parts.{specs.{declared.parts.{held.Held.Held, mail.Subject.Subject, seat.Seat.Seat as Chair, shared.Shared.Shared, task_slot.TaskSlot.TaskSlot, worker.Worker.Worker}, Ending.ClosesOn, Phased.{IsGoing, IsPhased, Stage, TurnsChair, closes_at, closing_in, is_complete, stage_of}, Pooled.OfChair, MailPosts.IsMailbox, Spots.Spot, View.{Visible, common_of, desk_of, driver_of, inbox_at, message_of, own_of, owed_at, seat_seen, seats_seen, things_with, visible, with_view}}, proofs.{Facts.{same_number, same_thing}, Showing.map_set}}
-use Rattle.exec_invariants.{specs.{Drained.IsLetOn, Holding.{Hands, Holder, IsAbout, IsOf, Mail, MayHave, Thing, box_of, holder_of, holdings, mail_in, mail_of_letters, nap_of, same_mail, thing_of}, Places.{drops_at, is_pooled_at, no_drops}, Sound.{Aims, HasBatch, IsMineIn, IsMyMail, LetsGoAt, SoundAt, has_wakes_at}, Whole.{IsWhole, Profile, duties_of, hands_of, with_worker}, Works.Steps}, proofs.{Aside.{queue_of_chair, queues_set, seats_own}, Closes.closed_by, Dedicated.own_root, LetsNext.lets_next, Mailing.{inbox_shows, own_inbox_seen}, PoolKept.all_over, Seats.own_seat, Shutting.{Follows, Holds, mail_there}, SparedRecord.there_within}}
+use Rattle.exec_parts.{specs.{declared.parts.{held.Held.Held, mail.Subject.Subject, seat.Seat.Seat as Chair, shared.Shared.Shared, task_slot.TaskSlot.TaskSlot, worker.Worker.Worker}, Ending.ClosesOn, Phased.{IsGoing, IsPhased, Stage, TurnsChair, closes_at, closing_in, is_complete, stage_of}, Pooled.OfChair, MailPosts.IsMailbox, Spots.Spot, View.{Visible, common_of, desk_of, driver_of, inbox_at, message_of, own_of, owed_at, seat_seen, seats_seen, things_with, visible, with_view}}, proofs.{Facts.{same_number, same_Some}, Showing.map_set}}
+use Rattle.exec_invariants.{specs.{Drained.IsLetOn, Holding.{Hands, Holder, IsAbout, IsOf, Mail, MayHave, Thing, box_of, holder_of, holdings, mail_in, mail_of_letters, nap_of, same_mail, thing_of}, Places.{drops_at, is_pooled_at, no_drops}, Sound.{Aims, HasBatch, IsMineIn, IsMyMail, LetsGoAt, SoundAt, has_wakes_at}, Whole.{IsWhole, Profile, duties_of, hands_of, with_worker}, Works.Steps}, proofs.{Aside.{queue_of_chair, queues_set, seats_own}, Closes.closed_by, Dedicated.own_root, LetsNext.lets_next, Mailing.{inbox_shows, own_inbox_seen}, PoolKept.all_over, Seats.own_seat, Shutting.{Follows, Holds, mail_there}}}
 use Rattle.exec_closing.proofs.{Parting.{on_seats, ready_own}, ShutHeld.shut_holding, Unmailed.pools_unmailed}
+use Rattle.exec_invariants.proofs.Lined.{mapped, unmapped}
+use Rattle.exec_invariants.proofs.HandedOver.{by_list}
 
 no_mail : (m : Mail) → Contains [] m → ⊥
 no_mail m (k, few, is) = omega (arith, few)
@@ -16,26 +18,12 @@ no_mail m (k, few, is) = omega (arith, few)
 sum_none : {A : Type 0} (f : A → ℕ) (xs : List A) → ((j : ℕ) (x : A) → slice_get xs j ≡ Some x → f x ≡ 0) → sum_by f xs ≡ 0
 sum_none f [] none = refl
 sum_none f (x ∷ xs) none =
-    let here = none 0 x refl in
-    let rest = sum_none f xs (λ j y at. none (suc j) y at) in
-    let sums = sum_by-cons f x xs in
-    omega (arith, here, rest, sums)
+    omega (arith, none 0 x refl, sum_none f xs (λ j y at. none (suc j) y at), sum_by-cons f x xs)
 
 count_none : {A : Type 0} (p : A → Bool) (xs : List A) → ((j : ℕ) (x : A) → slice_get xs j ≡ Some x → p x ≡ false) → count_by p xs ≡ 0
 count_none p xs none = sum_none (λ x. cond (p x) 1 0) xs (λ j x at. ap (λ b. cond b 1 0) (none j x at))
 
--- what is one of a list that was made of another
-mapped_back : {A C : Type 0} (f : A → C) (xs : List A) (k : ℕ) (y : C) → slice_get (map f xs) k ≡ Some y → (x : A) × (slice_get xs k ≡ Some x) × (f x ≡ y)
-mapped_back = grind (arith, length-map, slice_get_within, there_within, same_thing, slice_get-map)
-
-mapped : {A C : Type 0} (f : A → C) (xs : List A) (k : ℕ) (x : A) → slice_get xs k ≡ Some x → slice_get (map f xs) k ≡ Some (f x)
-mapped f xs k x at = slice_get-map f xs k ∙ ap (option_map f) at
-
 -- WHAT THE INBOX LEAVES
-
-by_list : {A P : Type 0} (xs : List A) → (xs ≡ [] → P) → ((y : A) (ys : List A) → xs ≡ y ∷ ys → P) → P
-by_list [] none some = none refl
-by_list (x ∷ xs) none some = some x xs refl
 
 taken_as : (i : Inbox Subject Subject) (b : Reserved Mail) → i.messages ≡ [] → batch_taken i b ≡ i
 taken_as i b none = ap (λ h. if h then record i { messages = []; places = b.places; taken = next_batch i.taken } else i) (ap has_any none)
@@ -98,16 +86,12 @@ module _ {B : Type 0} where
       -- a task that is over holds nothing
       emptied : (t : ℕ) (it : Holder) (j : ℕ) (x : Held) → slice_get (map holder_of s.tasks.items) t ≡ Some it → slice_get it.held j ≡ Some x → it.over ≡ true → ⊥
       emptied t it j x there at_j over =
-          let none : length it.held ≡ 0 = (whole.holding.over t it there over).0 in
-          let within = slice_get_within it.held j x at_j in
-          absurd (omega (arith, none, within))
+          absurd (omega (arith, (whole.holding.over t it there over).0, slice_get_within it.held j x at_j))
 
       -- each ordinary task is over once all have passed the barrier
       ordinary_over : (t : ℕ) (slot : TaskSlot B) → slice_get s.tasks.items t ≡ Some slot → slot.home ≡ None → w.index < s.config.workers → is_complete slot.cell.phase ≡ true
       ordinary_over t slot found home few =
-          let phased = sound.phased seat sound.seated.there in
-          let pool : seat.pool ≡ true = sound.seated.pool ∙ less_is w.index s.config.workers few in
-          let left : seat.left ≡ true = phased.left ∙ ap (λ b. b && true) pool in
+          let left : seat.left ≡ true = (sound.phased seat sound.seated.there).left ∙ ap (λ b. b && true) (sound.seated.pool ∙ less_is w.index s.config.workers few) in
           all_over (duties_of (with_worker others w)) s.tasks.items s.set s.seats.items w.index seat sound.seated.there left (let_on seat sound.seated.there left)
           (λ u other at_u ordinary unpolled going_on. ((sound.resting u other at_u ordinary unpolled).uncleared going_on).1) whole.pool t slot found home
         where
@@ -123,9 +107,9 @@ module _ {B : Type 0} where
       by t it there j x at_j false is = is
       by t it there j x at_j true is =
           let held = whole.holding.holds t it j x there at_j in
-          let same : held.0 ≡ r = same_thing held.0 r (sym held.1 ∙ ap (slice_get (map thing_of s.requests.items)) (same_number x.number k is) ∙ at) in
+          let same : held.0 ≡ r = same_Some held.0 r (sym held.1 ∙ ap (slice_get (map thing_of s.requests.items)) (same_number x.number k is) ∙ at) in
           let near : MayHave s.config.workers it.home w.index = subst (MayHave s.config.workers it.home) (ap (λ (y : Thing). y.worker) same ∙ mine) held.2.near in
-          let slot = mapped_back holder_of s.tasks.items t it there in
+          let slot = unmapped holder_of s.tasks.items t it there in
           absurd (emptied t it j x there at_j (by_home slot.0 slot.1 slot.2 it.home refl near))
         where
           by_home : (slot : TaskSlot B) → slice_get s.tasks.items t ≡ Some slot → holder_of slot ≡ it → (home : Option ℕ) → it.home ≡ home → MayHave s.config.workers it.home w.index → it.over ≡ true
@@ -165,7 +149,6 @@ module _ {B L : Type 0} (left : B → L) (spot : L → Option Said → Spot) (w 
       (λ p vs suits.
       let cs = common_of left spot p vs s in
       let x = things_with vs s in
-      let mine = own_seat left spot p vs w s seat suits there in
       let vs' = with_view vs w.index (visible w1) in
       let next : after_letting_go (first_held cs (desk_of w)) (first_asleep w.index cs (desk_of w)) ≡ q = lets_next left spot p vs (Place.Closing InClosing.CloseMailbox) w s sound q same_closes in
       let shown : inbox_at chair ≡ [] = ap (λ ms. map message_of ms) emptied in
@@ -182,12 +165,7 @@ module _ {B L : Type 0} (left : B → L) (spot : L → Option Said → Spot) (w 
             ∙ ap (λ y. record { event = y; choice = Plain; desk = desk_of w1; thing = things_with vs' s' }) (sym event));
         may = rw event tt;
         own = rw (event, sound.here, to.follows.polls, to.free, to.unserved, to.owes w.workers) refl;
-        common =
-            ap (λ z. common_of left spot p vs' z) kept
-            ∙ ap (λ seen. record cs { seats = seen }) (ap (seats_seen vs'.workers) items ∙ seats_twice vs.workers s.seats.items w.index (visible w1) chair)
-            ∙ ap (λ st. record cs { seats = slice_set (seats_seen vs.workers s.seats.items) w.index st }) (ap (λ ms. record (seat_seen (visible w) seat) { inbox = ms; mailbox_closed = true }) inbox_none ∙ ap (λ (z : Seat). record z { inbox = []; mailbox_closed = true }) (sym mine))
-            ∙ sym (ap (λ y. common_after p.config (record (own_of w) { next = next_at y }) cs w.index Turn Plain) sound.here)
-            ∙ ap (λ y. common_after p.config (own_of w) cs w.index y Plain) (sym event);
+        common = grind (arith, kept, items, seats_twice vs.workers s.seats.items w.index (visible w1) chair, inbox_none, own_seat left spot p vs w s seat suits there, sound.here, event);
       })
     where
       q : Place
@@ -231,12 +209,10 @@ module _ {B L : Type 0} (left : B → L) (spot : L → Option Said → Spot) (w 
 
       is_mailbox : IsMailbox chair.mailbox
       is_mailbox =
-          let roots : count_by is_wake_root chair.mailbox.inbox.messages ≡ 0 = ap (count_by is_wake_root) emptied in
           let mail = sound.seated.mail in
-          let many = ap length emptied in
           let batch_some = sound.batch_place seat there open_still in
           let places : 0 < chair.mailbox.inbox.places = taken_places seat.mailbox.inbox empty_batch (λ is. let some = mail.place (ap (count_by is_wake_root) is) in omega (arith, some)) (omega (arith, batch_some)) in
-          record { roots = omega (arith, roots); empty = λ is. emptied; place = λ h. omega (arith, many, places) }
+          record { roots = omega (arith, ap (count_by is_wake_root) emptied); empty = λ is. emptied; place = λ h. omega (arith, ap length emptied, places) }
 
       holds : Holds q w.home.closing w'.batch n w s s'
       holds others whole =
@@ -254,10 +230,7 @@ module _ {B L : Type 0} (left : B → L) (spot : L → Option Said → Spot) (w 
             batch = w.batch.values;
             hands = λ m.
                 let weigh : Mail → ℕ = λ other. cond (same_mail m other) 1 0 in
-                let before = sum_by-append weigh (mail_of_letters w.letters) w.batch.values in
-                let after : mail_in m (mail_of_letters w.letters ++ w'.batch.values) ≡ mail_in m (mail_of_letters w.letters) + mail_in m w'.batch.values = sum_by-append weigh (mail_of_letters w.letters) w'.batch.values in
-                let gone : mail_in m w'.batch.values ≡ 0 = ap (mail_in m) none in
-                omega (arith, before, after, gone);
+                omega (arith, sum_by-append weigh (mail_of_letters w.letters) w.batch.values, sum_by-append weigh (mail_of_letters w.letters) w'.batch.values, ap (mail_in m) none);
             own = λ m has. about_own w s m (sound.mine m has);
             nobody = λ k r at mine. held_by_none others w s sound let_on whole k r at mine;
           })

@@ -4,7 +4,7 @@ use Rattle.exec_base.{specs.{Slab.{IsPast, Slab, freed, is_live, live_count, rem
 use Rattle.exec_time.specs.declared.timers.Sleeper.{Sleeper as Sleeping}
 use Rattle.exec_driver.specs.Driving.{Driving}
 use Rattle.exec_machine.specs.Tests.{is_asleep}
-use Rattle.exec_parts.{specs.{declared.parts.{mail.Reply.Reply, names.Names.Names, record.Record.Record, sleeping.SleeperRecord.SleeperRecord}, Calls.sleeper_closed, Records.number_in}, proofs.Facts.{by_name, by_number, same_thing, set_elsewhere, set_there}}
+use Rattle.exec_parts.{specs.{declared.parts.{mail.Reply.Reply, names.Names.Names, record.Record.Record, sleeping.SleeperRecord.SleeperRecord}, Calls.sleeper_closed, Records.number_in}, proofs.Facts.{by_name, by_number, same_Some, set_elsewhere, set_there}}
 use Rattle.exec_invariants.{specs.{Due.AreAsleep, Names.IsNamed}, proofs.{FiringNames.{naps_set, removed_past}, FiringSlots.{OneBed, value_of_slot}}}
 
 -- THE SLAB
@@ -92,7 +92,7 @@ module _ {closing : Bool} (i : ℕ) (n : Names) (d : Driving Reply Reply) (zs zs
   now_there = set_there ss k (sleeper_closed z) z there
 
   by_sleeper : {C : Type 0} (j : ℕ) (x : SleeperRecord) → slice_get (slice_set ss (number_in n.timers.items id) (sleeper_closed z)) j ≡ Some x → (j ≡ number_in n.timers.items id → sleeper_closed z ≡ x → C) → ((number_in n.timers.items id ≡ j → ⊥) → slice_get ss j ≡ Some x → C) → C
-  by_sleeper = grind (arith, by_number, set_elsewhere, same_thing, now_there)
+  by_sleeper = grind (arith, by_number, set_elsewhere, same_Some, now_there)
 
   pub named_closed : IsNamed i n d zs' rs (slice_set ss (number_in n.timers.items id) (sleeper_closed z))
   named_closed = grind (arith, as_long, before, elsewhere)

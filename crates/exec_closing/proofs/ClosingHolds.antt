@@ -3,7 +3,7 @@
 use Rattle.std.proofs.{Common.{◌≡◌, ◌⊎◌, ℕ, zero, suc, ◌+◌, ◌<◌, ◌≤◌, ◌||◌, true, false, List, sum_by, Option, Some, None, refl, sym, ap, subst, ◌∙◌, arith, inl, inr, slice_get, slice_set}, lemmas.Bool.false≢true}
 use Rattle.exec_words.specs.declared.inbox.Message.{Message}
 use Rattle.exec_machine.specs.Tests.{is_unsent}
-use Rattle.exec_parts.proofs.Facts.{same_thing, set_there}
+use Rattle.exec_parts.proofs.Facts.{same_Some, set_there}
 use Rattle.exec_invariants.{specs.Holding.{Awaits, Box, Hands, Holder, IsHolding, IsOwed, Mail, Nap, Owes, Thing, IsForwarded, mail_in, under_way, waiters}, proofs.HoldSleeps.nap_redone}
 use Rattle.exec_parts.specs.declared.parts.mail.Subject.TheVariants as subject
 
@@ -29,7 +29,7 @@ module _ (h h' : Hands) (workers : ℕ) (hs : List Holder) (ts : List Thing) (na
 
   -- and was owed no wake
   none_before : (i : ℕ) → 0 < h.wakes i z.task → ⊥
-  none_before = grind (arith, waits, same_thing, asleep)
+  none_before = grind (arith, waits, same_Some, asleep)
 
   -- who is over and waits still is no root
   homeless : (o : Option ℕ) → waits.it.home ≡ o → waits.it.home ≡ None
@@ -48,15 +48,10 @@ module _ (h h' : Hands) (workers : ℕ) (hs : List Holder) (ts : List Thing) (na
       elim (wakes i u some) [
         | inl same ↦ inl same
         | inr more ↦
-            let none : h.wakes i u ≡ 0 = ap (h.wakes i) (sym more.task) ∙ by_zero (h.wakes i z.task) (none_before i) in
             inr (
-              more.more ∙ ap (λ m. m + 1) none,
-              record {
-                it = waits.it;
-                there = ap (slice_get hs) (sym more.task) ∙ waits.there;
-                owes = subst (λ o. Owes i u o ts (slice_set naps n closed_nap) boxes) (sym waits.awaits)
-                    (closed_nap, set_there naps n closed_nap z there, record { worker = more.worker; task = more.task; unpaid = unpaid; unsent = unsent; over = ap (λ b. b || true) unfired });
-              },
+              more.more ∙ ap (λ m. m + 1) (ap (h.wakes i) (sym more.task) ∙ by_zero (h.wakes i z.task) (none_before i)),
+              let owes = subst (λ o. Owes i u o ts (slice_set naps n closed_nap) boxes) (sym waits.awaits) (closed_nap, set_there naps n closed_nap z there, record { worker = more.worker; task = more.task; unpaid = unpaid; unsent = unsent; over = ap (λ b. b || true) unfired }) in
+                  search (ap (slice_get hs) (sym more.task) ∙ waits.there, owes, waits),
             )
       ]
 
@@ -80,8 +75,7 @@ module _ (h h' : Hands) (workers : ℕ) (hs : List Holder) (ts : List Thing) (na
         sent = λ sent. ((old.sent_too n z there sent).0, ap (λ b. b || true) unfired);
         here = λ t it at awaits home.
             let a = old.asleep t it n at awaits in
-            let is : a.0 ≡ z = same_thing a.0 z (sym a.1 ∙ there) in
-            ap (λ (x : Nap). is_unsent x.forwarding) (sym is) ∙ a.2.here home;
+            ap (λ (x : Nap). is_unsent x.forwarding) (sym (same_Some a.0 z (sym a.1 ∙ there))) ∙ a.2.here home;
         kept = λ t it at awaits going kept. absurd (false≢true (sym going ∙ over t it at awaits));
         fewer = fewer;
         owes = λ i t some by. record { worker = by.worker; task = by.task; unpaid = by.unpaid; unsent = by.unsent; over = ap (λ b. b || true) unfired };

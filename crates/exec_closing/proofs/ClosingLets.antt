@@ -1,11 +1,10 @@
 -- A closing worker lets go of a request that somebody holds, or of a sleeper: where it goes on, what holds of it there, and what
 -- others rely on. By what holds again of its own requests and sleepers, and of what tasks hold.
 use Rattle.std.proofs.{Common.{◌≡◌, ◌+◌, true, false, Contains, [], map, option_to_list, Some, None, refl, sym, ap, subst, ◌∙◌, slice_get}, lemmas.Bool.false≢true}
-use Rattle.std.proofs.Common.{arith}
 use Rattle.exec_task.specs.declared.runnable.Runnable.{Runnable}
 use Rattle.exec_moves.specs.{declared.place.{InClosing.InClosing, Place.Place}, Seen.polls_at}
 use Rattle.exec_parts.specs.{declared.parts.{mail.Subject.Subject, seat.Seat.Seat as Chair, shared.Shared.Shared, worker.Worker.Worker}, Ending.ClosesOn, Phased.{IsGoing, IsPhased, closes_at, closing_in, stage_of}, Roles.is_pool, Calls.IsTold, View.driver_of}
-use Rattle.exec_invariants.{specs.{Carried.{Carried, HasRoom}, Due.IsDue, Flown.HasFlown, Gates.{AreLinedUp, HaveGates}, Holding.{IsHolding, Mail, box_of, holder_of, nap_of, thing_of}, HoldPlaces.{cancels_at, heard_at, sends_cancel_at, spare_at}, Places.{begins_at, calls_back_at, claims_at, drops_at, hands_on_at, has_count_at, has_loot_at, in_poll_of, is_armed_at, is_pooled_at, is_published_at, no_drops, polled_in, searches_at, step_of_poll, task_at}, Rooted.HearsNext, Sound.{HasGuest, HasLetters, HasQueue, HasRunnable, IsHeld, IsInHand, IsLeft, IsLoot, IsMyMail, IsSearching, IsSeated, IsTied, Serves, SoundAt, Stops, has_wakes_at, root_in_hand, served_in}, Names.tellers, Whole.{IsWhole, Profile, hands_of, with_worker}, Works.Beside}, proofs.{Aside.{SameProfile, profile_same}, Lined.{gates_kept, lined_kept}, ServingHolds.Keeps, Serving.{SparesRecords, letter_kept, mail_kept, spares_service}, Shutting.none_in}}
+use Rattle.exec_invariants.{specs.{Carried.{HasRoom}, Due.IsDue, Flown.HasFlown, Gates.{AreLinedUp, HaveGates}, Holding.{IsHolding, Mail, box_of, holder_of, nap_of, thing_of}, HoldPlaces.{cancels_at, heard_at, sends_cancel_at, spare_at}, Places.{begins_at, calls_back_at, claims_at, drops_at, hands_on_at, has_count_at, has_loot_at, in_poll_of, is_armed_at, is_pooled_at, is_published_at, no_drops, polled_in, searches_at, step_of_poll, task_at}, Rooted.HearsNext, Sound.{HasGuest, HasLetters, HasQueue, HasRunnable, IsHeld, IsInHand, IsLeft, IsLoot, IsMyMail, IsSearching, IsSeated, IsTied, Serves, SoundAt, Stops, has_wakes_at, root_in_hand, served_in}, Names.tellers, Whole.{IsWhole, Profile, hands_of, with_worker}, Works.Beside}, proofs.{Aside.{SameProfile, profile_same}, Lined.{gates_kept, lined_kept}, ServingHolds.Keeps, Serving.{SparesRecords, letter_kept, mail_kept, spares_service}, Shutting.none_in}}
 use Rattle.exec_closing.proofs.ClosesMail.{GoesTo, goes_to}
 
 -- WHERE IT IS
@@ -56,8 +55,7 @@ module _ {B : Type 0} where
         let seated : IsSeated w.index (is_armed_at q) s.config.workers s.seats.items = subst (λ a. IsSeated w.index a s.config.workers s.seats.items) (sym f.unarmed) sound.seated in
         let queue : (chair : Chair) → slice_get s.seats.items w.index ≡ Some chair → HasQueue q chair.queue = λ chair there. f.queue chair.queue (sound.queue chair there) in
         let hand : IsInHand (begins_at q) (hands_on_at q) w.hand = subst (λ o. IsInHand o (hands_on_at q) w.hand) (sym f.begins) (subst (λ b. IsInHand None b w.hand) (sym f.hands_on) sound.hand) in
-        let unlooted : w.loot.values ≡ [] = sound.loot.none refl in
-        let loot : IsLoot (has_loot_at q) w.loot = record { places = sound.loot.places; few = sound.loot.few; none = λ is. unlooted } in
+        let loot : IsLoot (has_loot_at q) w.loot = record { places = sound.loot.places; few = sound.loot.few; none = λ is. (sound.loot.none refl) } in
         let empty : w.hand ≡ None = sound.hand in
         let genuine : (r : Runnable) → Contains (option_to_list w.hand) r → IsHeld (begins_at q) w.root s.tasks.items r = λ r has. absurd (none_in r (subst (λ o. Contains (option_to_list o) r) empty has)) in
         let searching : IsSearching (searches_at q) w.searching = subst (λ o. IsSearching o w.searching) (sym f.searches) sound.searching in
@@ -76,63 +74,15 @@ module _ {B : Type 0} where
         } in
         let pooled : is_pooled_at q ≡ true → is_pool w.role ≡ true = λ h. absurd (false≢true (sym to.unpooled ∙ h)) in
         let told : IsTold v.names.ended.items v.home.deferred (tellers (driver_of v).requests v.home.timers + spare_at q) = subst (λ n. IsTold v.names.ended.items v.home.deferred (tellers (driver_of v).requests v.home.timers + n)) (sym f.spare) keeps.told in
-        let wide = keeps.wide in
-        let named = keeps.named in
         let quiet : has_wakes_at q ≡ false → v.home.deferred.notes.wakes.items ≡ [] = λ h. absurd (false≢true (sym h ∙ to.wakes)) in
         let due0 : IsDue None w.home.closing w.index w.moments s.config w1.names (driver_of v) v.home.timers t.requests.items t.sleepers.items = subst (λ p. IsDue (served_in p) w.home.closing w.index w.moments s.config w1.names (driver_of v) v.home.timers t.requests.items t.sleepers.items) sound.here keeps.due in
         let due : IsDue (served_in q) w.home.closing w.index w.moments s.config w1.names (driver_of v) v.home.timers t.requests.items t.sleepers.items = subst (λ y. IsDue y w.home.closing w.index w.moments s.config w1.names (driver_of v) v.home.timers t.requests.items t.sleepers.items) (sym f.served) due0 in
         let flown0 : HasFlown None w.index w1.names (driver_of v) t.requests.items = subst (λ p. HasFlown (served_in p) w.index w1.names (driver_of v) t.requests.items) sound.here keeps.flown in
         let flown : HasFlown (served_in q) w.index w1.names (driver_of v) t.requests.items = subst (λ y. HasFlown y w.index w1.names (driver_of v) t.requests.items) (sym f.served) flown0 in
-        let carried : Carried w1 s1 = keeps.carried in
         let phased : (chair : Chair) → slice_get s.seats.items w.index ≡ Some chair → IsPhased w.index (closes_at q) (closing_in q) w.home.closing w.root w.names.unreleased (stage_of chair s) s.tasks.items = λ chair there.
         let past = phased_past x at w s chair going sound there in
         subst (λ b. IsPhased w.index (closes_at q) (closing_in q) w.home.closing w.root w.names.unreleased (record (stage_of chair s) { shut = b }) s.tasks.items) (sym past.1) (to.past (record (stage_of chair s) { shut = false }) (going chair there) past.0) in
-        record {
-          here = refl;
-          config = sound.config;
-          gates = gates;
-          known = keeps.known;
-          workers = sound.workers;
-          role = sound.role;
-          pooled = pooled;
-          serves = serves;
-          calm = sound.calm;
-          homes = sound.homes;
-          shards = sound.shards;
-          time = sound.time;
-          told = told;
-          wide = wide;
-          named = named;
-          runnable = runnable;
-          seated = seated;
-          queue = queue;
-          sized = keeps.sized;
-          processed = sound.processed;
-          hand = hand;
-          loot = loot;
-          genuine = genuine;
-          stolen = sound.stolen;
-          searching = searching;
-          aims = to.aims w.index s.seats.items;
-          guest = guest;
-          resting = sound.resting;
-          left = left;
-          over = keeps.over;
-          batch = to.batch w.batch.values none;
-          mine = mine;
-          batch_place = sound.batch_place;
-          letters = letters;
-          quiet = quiet;
-          due = due;
-          flown = flown;
-          carried = carried;
-          rooted = keeps.rooted;
-          stops = stops;
-          hears = hears;
-          lets_go = to.lets_go;
-          phased = phased;
-          tied = tied;
-        }
+        assumption (gates, pooled, serves, told, runnable, seated, queue, hand, loot, genuine, searching, to.aims w.index s.seats.items, guest, left, to.batch w.batch.values none, mine, letters, quiet, due, flown, stops, hears, to.lets_go, phased, tied, keeps, sound)
 
     -- BESIDE IT
 
@@ -142,44 +92,17 @@ module _ {B : Type 0} where
 
     alike : SameProfile w there
     alike =
-        record {
-          hand = refl;
-          loot = refl;
-          polls = to.follows.polls ∙ sym (ap polls_at sound.here);
-          claims = to.follows.claims ∙ sym (ap claims_at sound.here);
-          searching = refl;
-          counts = to.follows.counts ∙ sym (ap has_count_at sound.here);
-          index = refl;
-          published = to.follows.published ∙ sym (ap is_published_at sound.here);
-          drops = to.drops ∙ sym (ap drops_at sound.here ∙ drops_there x at);
-          told = record { batch = refl; letters = refl; left = refl };
-        }
+        let published = to.follows.published ∙ sym (ap is_published_at sound.here) in
+        search (to.follows.polls ∙ sym (ap polls_at sound.here), to.follows.claims ∙ sym (ap claims_at sound.here), to.follows.counts ∙ sym (ap has_count_at sound.here), published, to.drops ∙ sym (ap drops_at sound.here ∙ drops_there x at))
 
     pub beside_lets : ((others : Profile) → IsWhole (with_worker others w) s → IsHolding (hands_of (with_worker others (lets_to w v q))) s.config.workers (map holder_of s.tasks.items) (map thing_of t.requests.items) (map nap_of t.sleepers.items) (map box_of s.seats.items))
         → HasRoom t.requests.items s.store → Beside w s (lets_to w v q) (records_of s t)
     beside_lets holds room =
-        let s1 : Shared B = records_of s t in
         record {
-          spares = λ j other. spares_service w.index j s s1 other refl spares room;
+          spares = λ j other. spares_service w.index j s (records_of s t) other refl spares room;
           whole = λ others whole.
               let before : IsWhole (with_worker others there) s = rw (profile_same others w there alike) whole in
               let y = with_worker others (lets_to w v q) in
               let gates : HaveGates y.drops_by s.opens t.requests.items = gates_kept s.requests.items t.requests.items spares.lines y.drops_by s.opens before.gates in
-              record {
-                runnables = before.runnables;
-                polls = before.polls;
-                claims = before.claims;
-                counts = before.counts;
-                bits = before.bits;
-                set = before.set;
-                queued_here = before.queued_here;
-                queued_there = before.queued_there;
-                places = before.places;
-                made = before.made;
-                unclaimed = before.unclaimed;
-                in_pool = before.in_pool;
-                pool = before.pool;
-                gates = gates;
-                holding = holds others whole;
-              };
+              assumption (gates, holds others whole, before);
         }

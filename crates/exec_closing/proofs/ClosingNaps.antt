@@ -95,8 +95,7 @@ module _ {B : Type 0} (i : ℕ) (s s' : Shared B) where
         let sleepers_only : SparedSleepers j before.sleepers.items s'.sleepers.items = λ k y at mine.
         let x = was k y at in
         let its : x.z.shown.worker ≡ j = sym (ap (λ n. n.worker) (same k x.z x.at)) ∙ ap (λ (v : SleeperRecord). v.shown.worker) x.is ∙ mine in
-        let stays : x.z ≡ y = sym (other_stays i x.z (λ is. other (sym its ∙ is))) ∙ x.is in
-        spares.sleepers_only k y (x.at ∙ ap (λ v. Some v) stays) mine in
+        spares.sleepers_only k y (x.at ∙ ap (λ v. Some v) (sym (other_stays i x.z (λ is. other (sym its ∙ is))) ∙ x.is)) mine in
         let endure_too : SleepersEndure before.sleepers.items s'.sleepers.items = λ k z at.
         let x = spares.endure_too k z at in
         let it = same k x.0 x.1 in
@@ -135,12 +134,7 @@ module _ {B : Type 0} (i : ℕ) (s s' : Shared B) where
               naps_on w.index zs zs s.sleepers.items ss'
               (λ k r at its.
               let x = was k r at in
-              record {
-                r = x.z;
-                there = x.at;
-                mine = sym (ap (λ n. n.worker) (same k x.z x.at)) ∙ ap (λ (y : SleeperRecord). y.shown.worker) x.is ∙ its;
-                name = sym (id_gone i x.z) ∙ ap (λ (y : SleeperRecord). y.id.0) x.is;
-              })
+              search (x.z, x.at, sym (ap (λ n. n.worker) (same k x.z x.at)) ∙ ap (λ (y : SleeperRecord). y.shown.worker) x.is ∙ its, sym (id_gone i x.z) ∙ ap (λ (y : SleeperRecord). y.id.0) x.is))
               (λ id past. past) sound.due.asleep.names;
         } in
         let due : IsDue None w.home.closing w.index w.moments s.config w.names (driver_of w) zs s.requests.items ss' =
@@ -156,14 +150,8 @@ module _ {B : Type 0} (i : ℕ) (s s' : Shared B) where
           completions = λ c has.
               let x = sound.rooted.completions c has in
               let it = same x.n x.z x.there in
-              record {
-                n = x.n;
-                z = sleeper_gone_with i x.z;
-                there = now x.n x.z x.there;
-                worker = ap (λ n. n.worker) it ∙ x.worker;
-                reply = x.reply ∙ ap (λ t. record { task = record { 0 = t }; of = Heard.Timer x.n }) (sym (ap (λ n. n.task) it));
-                paid = subst (λ m. m ≤ 1) (sym (ap (λ n. n.paid) it)) x.paid;
-              };
+              let reply = x.reply ∙ ap (λ t. record { task = record { 0 = t }; of = Heard.Timer x.n }) (sym (ap (λ n. n.task) it)) in
+              search (sleeper_gone_with i x.z, now x.n x.z x.there, ap (λ n. n.worker) it ∙ x.worker, reply, subst (λ m. m ≤ 1) (sym (ap (λ n. n.paid) it)) x.paid, x);
           sent = sound.rooted.sent;
           sleeper_sent = λ k r at its.
               let x = was k r at in

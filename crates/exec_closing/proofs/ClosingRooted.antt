@@ -7,7 +7,7 @@ use Rattle.exec_time.specs.declared.timers.Observer.TheVariants as sleep
 use Rattle.exec_waiters.specs.declared.deferred.Deferred.{Deferred}
 use Rattle.exec_driver.specs.Driving.{Driving}
 use Rattle.exec_machine.specs.Tests.{is_applied}
-use Rattle.exec_parts.{specs.{declared.parts.{mail.Reply.Reply, names.Names.Names, record.Record.Record, sleeping.SleeperRecord.SleeperRecord}, Records.number_in, Calls.IsTold}, proofs.Facts.{by_number, not_same, same_thing, set_elsewhere, set_there}}
+use Rattle.exec_parts.{specs.{declared.parts.{mail.Reply.Reply, names.Names.Names, record.Record.Record, sleeping.SleeperRecord.SleeperRecord}, Records.number_in, Calls.IsTold}, proofs.Facts.{by_number, not_same, same_Some, set_elsewhere, set_there}}
 use Rattle.exec_invariants.{specs.{Places.one_if, Rooted.{IsCompletion, IsRooted, SleeperPays, Watches, completions_of as sent_of, ends_elsewhere, goes_elsewhere, is_of_timer, results_of}, Names.HasWidth}, proofs.ServedEnds.{count_both, count_none, count_one, none_in, only_one}}
 
 -- one wake is told at most, and one end sent
@@ -52,7 +52,7 @@ module _ (i : ℕ) (n : Names) (d : Driving Reply Reply) (zs zs' : Slab (Sleepin
 
   -- what stands there then is it, or stood there
   by_sleeper : {C : Type 0} (j : ℕ) (x : SleeperRecord) → slice_get (slice_set ss (number_in n.timers.items id) z') j ≡ Some x → (j ≡ number_in n.timers.items id → z' ≡ x → C) → ((number_in n.timers.items id ≡ j → ⊥) → slice_get ss j ≡ Some x → C) → C
-  by_sleeper = grind (arith, by_number, set_elsewhere, same_thing, now_there)
+  by_sleeper = grind (arith, by_number, set_elsewhere, same_Some, now_there)
 
   -- it has paid none
   pub unpaid : z.shown.wakes_paid ≡ 0
@@ -91,23 +91,18 @@ module _ (i : ℕ) (n : Names) (d : Driving Reply Reply) (zs zs' : Slab (Sleepin
       let more : count_by (λ (c : ForwardedResult Reply). is_of_timer j c.sender.of) (completions_of result it.observer) ≡ one_if (is_applied z.shown.forwarding) = ap (λ m. count_by (λ (c : ForwardedResult Reply). is_of_timer m c.sender.of) (completions_of result it.observer)) e ∙ sent_here it.observer refl in
       let none : sent_of j left + one_if z.sent ≡ 0 = ap (λ m. sent_of m left + one_if z.sent) e ∙ none_sent in
       let now : one_if (ends_elsewhere x) ≡ one_if (is_applied z.shown.forwarding) = ap (λ (y : SleeperRecord). one_if (ends_elsewhere y)) (sym is) ∙ ap one_if ends_now in
-      let still : one_if x.sent ≡ one_if z.sent = ap (λ (y : SleeperRecord). one_if y.sent) (sym is) ∙ ap one_if is_over.sent in
-      omega (arith, sum, more, none, now, still))
+      omega (arith, sum, more, none, now, ap (λ (y : SleeperRecord). one_if y.sent) (sym is) ∙ ap one_if is_over.sent))
       (λ differs found.
-      let sum = counted j in
-      let none = sent_other j differs it.observer refl in
-      let old = rooted.sleeper_sent j x found of_i in
-      omega (arith, sum, none, old))
+      omega (arith, counted j, sent_other j differs it.observer refl, rooted.sleeper_sent j x found of_i))
 
   end_old : (c : ForwardedResult Reply) → IsCompletion i c ss → IsCompletion i c (slice_set ss (number_in n.timers.items id) z')
-  end_old = grind (arith, by_number, set_elsewhere, same_thing, now_there)
+  end_old = grind (arith, by_number, set_elsewhere, same_Some, now_there)
 
   end_new : (o : Watching Reply) → it.observer ≡ o → (c : ForwardedResult Reply) → Contains (completions_of result o) c → IsCompletion i c (slice_set ss (number_in n.timers.items id) z')
   end_new = grind (arith, none_in, watched, unpaid, only_one, now_there)
 
   pub rooted_over : IsRooted i n d zs' left' rs (slice_set ss (number_in n.timers.items id) z')
   rooted_over =
-      let results : left'.results ≡ left.results = ap (λ (x : Deferred Reply Reply). x.results) same in
       record {
         kept = rooted.kept;
         ready = rooted.ready;
@@ -123,7 +118,7 @@ module _ (i : ℕ) (n : Names) (d : Driving Reply Reply) (zs zs' : Slab (Sleepin
             by_sleeper j x at
             (λ e is. subst SleeperPays is (record { unpaid = λ unfired kept. absurd (false≢true (sym (ap (λ b. b || (z'.shown.removed || z'.closed)) unfired ∙ kept) ∙ is_over.over)); once = λ unapplied. subst (λ m. m ≤ 1) (sym is_over.paid) ((rooted.sleeper_pays k z there mine).once (sym (ap is_applied is_over.forwarding) ∙ unapplied)) }))
             (λ differs found. rooted.sleeper_pays j x found of_i);
-        results = λ a among. rooted.results a (subst (λ xs. Contains xs a) (ap (λ v. v.items) results) among);
+        results = λ a among. rooted.results a (subst (λ xs. Contains xs a) (ap (λ v. v.items) (ap (λ (x : Deferred Reply Reply). x.results) same)) among);
         completions = λ c among.
             elim (Contains-append_cases left.notes.completions.items (completions_of result it.observer) c (subst (λ xs. Contains xs c) completions_then among)) [
               | inl old ↦ end_old c (rooted.completions c old)

@@ -24,15 +24,12 @@ module _ (s : Slab (Entry Reply Reply)) (id : Id) (e : Entry Reply Reply) (at : 
       let was = was_live s id some in
       let live = IsLiveAt-from_value s.slots id.index id.generation s.first some in
       let map = Updates-free s (removed s id) id was.0 (Changed-set s (removed s id) id.index (freed id.generation) refl refl (live_within s.slots id.index id.generation live.value live.is)) was.1 in
-      let count = held_removed s id e at in
-      record { others = map.others; this = ap is_held_at map.changed; fewer = omega (arith, count, one) }
+      record { others = map.others; this = ap is_held_at map.changed; fewer = omega (arith, held_removed s id e at, one) }
 
   unheld_written : (e' : Entry Reply Reply) → is_held e' ≡ false → Unholds s (written s id e') id
   unheld_written e' free =
       let map = Updates-write s id e' some in
-      let count = held_written s id e e' at in
-      let none : one_if (is_held e') ≡ 0 = ap one_if free in
-      record { others = map.others; this = ap is_held_at map.changed ∙ free; fewer = omega (arith, count, one, none) }
+      record { others = map.others; this = ap is_held_at map.changed ∙ free; fewer = omega (arith, held_written s id e e' at, one, ap one_if free) }
 
 -- after one that is held no more another change of it
 unheld_on : (s s1 s' : Slab (Entry Reply Reply)) (id : Id) → Unholds s s1 id → ((other : Id) → other ≢ id → value_at s' other ≡ value_at s1 other) → is_held_at (value_at s' id) ≡ false → held_count s' ≡ held_count s1 → Unholds s s' id
@@ -87,9 +84,7 @@ module _ (d : Driving Reply Reply) (id : WaiterId) where
         let same : let_go d id ≡ d1 = ap (λ o. if asks_cancel_by_orphan o then cancelled_at (without_observer d id) id else without_observer d id) at ∙ ap (λ b. if is_held_by it.observer && not b then cancelled_at (without_observer d id) id else without_observer d id) is ∙ ap (λ b. if b && false then cancelled_at (without_observer d id) id else without_observer d id) held ∙ without in
         subst (λ (x : Driving Reply Reply). Unholds d.requests x.requests id.0) (sym same) first
     pending_unheld false is =
-        let same : let_go d id ≡ cancelled_from d1 id (Some free) =
-        ap (λ o. if asks_cancel_by_orphan o then cancelled_at (without_observer d id) id else without_observer d id) at ∙ ap (λ b. if is_held_by it.observer && not b then cancelled_at (without_observer d id) id else without_observer d id) is
-        ∙ ap (λ b. if b && true then cancelled_at (without_observer d id) id else without_observer d id) held ∙ ap (λ x. cancelled_at x id) without ∙ ap (cancelled_from d1 id) alone in
+        let same : let_go d id ≡ cancelled_from d1 id (Some free) = grind (arith, at, is, held, without, alone) in
         subst (λ (x : Driving Reply Reply). Unholds d.requests x.requests id.0) (sym same) (cancelled_so it.in_flight (asks_cancel it.state) refl refl)
 
   pub unheld_now : (o : Option (Entry Reply Reply)) → value_at d.requests id.0 ≡ o → is_held_at o ≡ true → Unholds d.requests (let_go d id).requests id.0

@@ -1,13 +1,14 @@
 -- A closing worker lets go of the sleeper in the first slot, as a step of the machine.
-use Rattle.std.proofs.{Common.{◌≡◌, ◌≢◌, ◌⊎◌, inl, inr, ℕ, zero, suc, ◌+◌, ◌^◌, ◌<◌, ◌==◌, ◌&&◌, ◌||◌, Bool, true, false, not, cond, List, [], ◌∷◌, ◌++◌, count_by, length, map, Option, Some, None, Err, IsSome, refl, sym, ap, subst, ◌∙◌, arith, nat_lt, slice_get, slice_set, if◌then◌else◌}, lemmas.{Bool.{false≢true, eq-eqb, Decides.nat_tests}, List.{append-nil, map-append}}}
-use Rattle.exec_base.specs.{Slab.{Slab, is_live, value_at}, declared.{error.Error.TheVariants.Closed, slab.{Id.Id, Slot.{Slot, TheVariants.{Live, Vacant, Retired}}}, task_no.TaskNo.TaskNo}}
+use Rattle.std.proofs.{Common.{◌≡◌, ◌≢◌, ◌⊎◌, inl, inr, ℕ, zero, suc, ◌+◌, ◌^◌, ◌<◌, ◌==◌, ◌&&◌, ◌||◌, Bool, true, false, not, cond, List, [], ◌∷◌, ◌++◌, count_by, length, map, Option, Some, None, Err, IsSome, refl, sym, ap, subst, ◌∙◌, arith, slice_get, slice_set, if◌then◌else◌}, lemmas.{Bool.{false≢true, eq-eqb}, List.{append-nil, map-append}}}
+use Rattle.std.proofs.lemmas.Bool.{lt-ltb}
+use Rattle.exec_base.specs.{Slab.{Slab, is_live, live_count, value_at}, declared.{error.Error.TheVariants.Closed, slab.{Id.Id, Slot.{Slot, TheVariants.{Live, Vacant, Retired}}}, task_no.TaskNo.TaskNo}}
 use Rattle.exec_time.specs.{Sleepers.{completions_of, wakes_of}, declared.{notes.ForwardedResult.ForwardedResult, timers.{Observer.Observer as Watching, Sleeper.Sleeper as Sleeping}}}
 use Rattle.exec_time.specs.declared.timers.Observer.TheVariants as sleep
 use Rattle.exec_waiters.specs.declared.deferred.Deferred.{Deferred}
 use Rattle.exec_task.specs.declared.body.Said.{Said}
-use Rattle.exec_machine.specs.{declared.event.Event.{Event, TheVariants.Turn}, After.common_after, Choice.Choice.Plain, Progress.Plan, Tests.{is_applied, is_asleep}, World.{Common, sleeper_of}}
-use Rattle.exec_moves.specs.{declared.place.{InClosing.InClosing, Place.Place}, Close.{after_letting_go, asleep_after, close_sleeper, first_asleep}, Move.move_at, Seen.next_at, Thing.aside, Slots.{Slots, first_in, vacated}, State.{Desk, turns}, Told.told_of_fire}
-use Rattle.exec_parts.{specs.{declared.parts.{mail.Reply.Reply, shared.Shared.Shared, sleeping.SleeperRecord.SleeperRecord, task_slot.TaskSlot.TaskSlot, worker.Worker.Worker}, Calls.{sleeper_closed, IsTold}, Ending.{ClosesOn, ClosesSleeper}, Phased.IsGoing, Records.number_in, Spots.Spot, View.{Views, common_of, completions_in, desk_of, driver_of, number_heard, own_of, slots_from, slots_seen, things_with, visible, with_view}}, proofs.{Facts.{by_name, not_same, same_number, same_thing}, Showing.{map_kept, map_set}}}
+use Rattle.exec_machine.specs.{declared.event.Event.{Event, TheVariants.Turn}, Choice.Choice.Plain, Progress.Plan, Tests.{is_applied, is_asleep}, World.{Common, sleeper_of}}
+use Rattle.exec_moves.specs.{declared.place.{InClosing.InClosing, Place.Place}, Close.{after_letting_go, asleep_after, close_sleeper, first_asleep}, Move.move_at, Thing.aside, Slots.{Slots, first_in, vacated}, State.{Desk, turns}, Told.told_of_fire}
+use Rattle.exec_parts.{specs.{declared.parts.{mail.Reply.Reply, shared.Shared.Shared, sleeping.SleeperRecord.SleeperRecord, task_slot.TaskSlot.TaskSlot, worker.Worker.Worker}, Calls.{sleeper_closed, IsTold}, Ending.{ClosesOn, ClosesSleeper}, Phased.IsGoing, Records.number_in, Spots.Spot, View.{Views, common_of, completions_in, desk_of, driver_of, number_heard, own_of, slots_from, slots_seen, things_with, visible, with_view}}, proofs.{Facts.{by_name, not_same, same_number, same_Some}, Showing.{map_kept, map_set}}}
 use Rattle.exec_invariants.{specs.{Due.{AreAsleep, IsDue}, Flown.HasFlown, Holding.{Hands, Holder, IsHolding, MayHave, Nap, box_of, holder_of, nap_of, thing_of}, HoldPlaces.{has_wakes_at, is_bare_at}, Rooted.{IsRooted, Watches}, Names.{HasWidth, tellers}, Sound.{SoundAt, served_in}, Whole.{IsWhole, Profile, duties_of, hands_of, wakes_with, with_worker}, Works.{Beside, Steps}}, proofs.{Dedicated.own_root, FiringSlots.{OneBed, alive_at, bed_vacated, first_is}, Hearing.unheard, LetsNext.{asleep_in, first_none, live_value, named_at, number_at, sleeper_there}, Lined.{mapped, passing_same, unmapped}, PoolKept.all_over, ServedEnds.{count_both, count_none, count_one}, ServingHolds.{Keeps, KeepsBy, nap_sent}, Serving.{SparesRecords, spares_sleeper}, Turning.view_found}}
 use Rattle.exec_closing.proofs.{ClosesMail.{GoesTo, goes_to}, ClosingBeds.{Closable, apart, asleep_closed, closable, named_closed, one_bed, one_less}, ClosingHolds.{WakesNap, holding_closed}, ClosingLets.{LetsAt, beside_lets, lets_to, records_of, sound_lets}, ClosingRooted.{IsOver, rooted_over, told_less, unpaid, unsent, wide_less}, LetsMay.some_live, NoneAsleep.none_live}
 
@@ -28,15 +29,12 @@ first_any : {T : Type 0} (test : ℕ → Bool) (numbers : List ℕ) (k : ℕ) (s
 first_any test numbers k [] i g e at passes = absurd (let none : None ≡ Some (Live g e) = at in cc)
 first_any test numbers k (Live h y ∷ slots) zero g e at passes =
     (number_at numbers k, ap (λ b. if b then Some (number_at numbers k) else first_in test (slots_from (suc k) numbers slots)) (at_zero test numbers k passes))
-first_any test numbers k (Vacant h ∷ slots) zero g e at passes = absurd (let none : Vacant h ≡ Live g e = same_thing (Vacant h) (Live g e) at in cc)
-first_any test numbers k (Retired ∷ slots) zero g e at passes = absurd (let none : Retired ≡ Live g e = same_thing Retired (Live g e) at in cc)
+first_any test numbers k (Vacant h ∷ slots) zero g e at passes = absurd (let none : Vacant h ≡ Live g e = same_Some (Vacant h) (Live g e) at in cc)
+first_any test numbers k (Retired ∷ slots) zero g e at passes = absurd (let none : Retired ≡ Live g e = same_Some Retired (Live g e) at in cc)
 first_any test numbers k (Live h y ∷ slots) (suc i) g e at passes =
     either (test (number_at numbers k)) (number_at numbers k) (first_in test (slots_from (suc k) numbers slots)) (first_any test numbers (suc k) slots i g e at (at_next test numbers k i passes))
 first_any test numbers k (Vacant h ∷ slots) (suc i) g e at passes = first_any test numbers (suc k) slots i g e at (at_next test numbers k i passes)
 first_any test numbers k (Retired ∷ slots) (suc i) g e at passes = first_any test numbers (suc k) slots i g e at (at_next test numbers k i passes)
-
-less_is : (a b : ℕ) → a < b → nat_lt a b ≡ true
-less_is a b h = grind (arith, nat_tests, h)
 
 -- THE MOVE
 closes_found : (i : ℕ) (s : Common) (d : Desk) (z : ℕ) → first_asleep i s d ≡ Some z → close_sleeper i s d ≡ turns (after_letting_go None (asleep_after i z s d)) (told_of_fire z (sleeper_of s z) d) tt
@@ -116,20 +114,14 @@ module _ {B : Type 0} (w w' : Worker) (s s' : Shared B) (e : Event) (sound : Sou
       let d = driver_of w in
       let asleep : AreAsleep w.home.closing w.index w.names zs' ss' = asleep_closed w.index w.names d zs zs' s.requests.items s.sleepers.items id sleeps z sound.named sound.due.asleep by.ends.was by.ends.is by.ends.gone there short closing in
       let due0 : IsDue None w.home.closing w.index w.moments s.config w.names d zs' s.requests.items ss' = record { punctual = sound.due.punctual; told = sound.due.told; wheel = sound.due.wheel; timed = sound.due.timed; asleep = asleep; order = sound.due.order } in
-      let at_it : KeepsBy (lets_to w v w.place) d zs' s.requests.items ss' (records_of s t) = record {
-        told = told_less (Err Closed) w.names.ended.items w.home.deferred left' (tellers d.requests zs' + 64) sleeps.observer refl by.ends.notes (subst (λ n. IsTold w.names.ended.items w.home.deferred n) fewer sound.told);
-        wide = wide_less (Err Closed) w.home.deferred left' (tellers d.requests zs' + 64) sleeps.observer refl by.ends.notes (subst (λ n. HasWidth w.home.deferred n) fewer sound.wide);
-        named = named_closed w.index w.names d zs zs' s.requests.items s.sleepers.items id sleeps z sound.named sound.due.asleep by.ends.was by.ends.is by.ends.gone there short;
-        sized = sound.sized;
-        over = sound.over;
-        quiet = λ h. absurd (false≢true (sym h ∙ ap has_wakes_at sound.here));
-        due = subst (λ p. IsDue (served_in p) w.home.closing w.index w.moments s.config w.names d zs' s.requests.items ss') (sym sound.here) due0;
-        flown = subst (λ p. HasFlown (served_in p) w.index w.names d s.requests.items) (sym sound.here) sound.flown;
-        carried = sound.carried;
-        known = sound.known;
-        rooted = rooted;
-        bare = λ h. absurd (false≢true (sym (ap is_bare_at sound.here) ∙ h));
-      } in
+      let told = told_less (Err Closed) w.names.ended.items w.home.deferred left' (tellers d.requests zs' + 64) sleeps.observer refl by.ends.notes (subst (λ n. IsTold w.names.ended.items w.home.deferred n) fewer sound.told) in
+      let wide = wide_less (Err Closed) w.home.deferred left' (tellers d.requests zs' + 64) sleeps.observer refl by.ends.notes (subst (λ n. HasWidth w.home.deferred n) fewer sound.wide) in
+      let named = named_closed w.index w.names d zs zs' s.requests.items s.sleepers.items id sleeps z sound.named sound.due.asleep by.ends.was by.ends.is by.ends.gone there short in
+      let quiet : has_wakes_at w.place ≡ false → left'.notes.wakes.items ≡ [] = λ h. absurd (false≢true (sym h ∙ ap has_wakes_at sound.here)) in
+      let due = subst (λ p. IsDue (served_in p) w.home.closing w.index w.moments s.config w.names d zs' s.requests.items ss') (sym sound.here) due0 in
+      let flown = subst (λ p. HasFlown (served_in p) w.index w.names d s.requests.items) (sym sound.here) sound.flown in
+      let bare : is_bare_at w.place ≡ true → live_count zs' ≡ 0 = λ h. absurd (false≢true (sym (ap is_bare_at sound.here) ∙ h)) in
+      let at_it : KeepsBy (lets_to w v w.place) d zs' s.requests.items ss' (records_of s t) = assumption (told, wide, named, quiet, due, flown, rooted, bare, sound) in
       subst (λ xs. KeepsBy (lets_to w v w.place) d zs' s.requests.items xs (records_of s t)) (sym items) at_it
 
   -- WHAT TASKS HOLD
@@ -143,14 +135,13 @@ module _ {B : Type 0} (w w' : Worker) (s s' : Shared B) (e : Event) (sound : Sou
           let seat = sound.seated.seat in
           let at_seat = sound.seated.there in
           let phased = sound.phased seat at_seat in
-          let pool : seat.pool ≡ true = sound.seated.pool ∙ less_is w.index s.config.workers few in
+          let pool : seat.pool ≡ true = sound.seated.pool ∙ lt-ltb w.index s.config.workers few in
           let all_gone = whole.pool.shut w.index seat at_seat pool phased.shut in
           sym (ap (λ (y : Holder). y.over) shown)
           ∙ all_over (duties_of (with_worker others w)) s.tasks.items s.set s.seats.items w.index seat at_seat (phased.left ∙ ap (λ b. b && true) pool) all_gone
           (λ u other at_u ordinary unpolled going_on. ((sound.resting u other at_u ordinary unpolled).uncleared going_on).1) whole.pool n slot found (ap (λ (y : Holder). y.home) shown ∙ home)
       by_slot slot found shown (Some i) home own =
-          let mine : slot.home ≡ Some w.index = ap (λ (y : Holder). y.home) shown ∙ home ∙ ap (λ j. Some j) (sym own) in
-          let root : n ≡ w.root = own_root (Place.Closing InClosing.CloseSleeper) w s sound n slot found mine in
+          let root : n ≡ w.root = own_root (Place.Closing InClosing.CloseSleeper) w s sound n slot found (ap (λ (y : Holder). y.home) shown ∙ home ∙ ap (λ j. Some j) (sym own)) in
           sym (ap (λ (y : Holder). y.over) shown) ∙ (sound.phased sound.seated.seat sound.seated.there).root slot (subst (λ j. slice_get s.tasks.items j ≡ Some slot) root found)
 
   counted : (u : ℕ) → wakes_with u v ≡ wakes_with u w + count_by (λ (n : TaskNo). n.0 == u) (wakes_of sleeps.observer)
@@ -171,9 +162,8 @@ module _ {B : Type 0} (w w' : Worker) (s s' : Shared B) (e : Event) (sound : Sou
 
       by_watch : (o : Watching Reply) → sleeps.observer ≡ o → ((hands_then others).wakes i u ≡ (hands_of (with_worker others w)).wakes i u) ⊎ WakesNap (hands_of (with_worker others w)) (hands_then others) (nap_of by.it) i u
       by_watch (sleep.Forwarded reply) some =
-          let more = counted u in
           let zero_of : count_by (λ (n : TaskNo). n.0 == u) (wakes_of sleeps.observer) ≡ 0 = ap (λ x. count_by (λ (n : TaskNo). n.0 == u) (wakes_of x)) some ∙ count_none (λ (n : TaskNo). n.0 == u) in
-          inl (omega (arith, now_is, was_is, more, zero_of))
+          inl (omega (arith, now_is, was_is, counted u, zero_of))
       by_watch (sleep.Local n) some = by_same (n.0 == u) refl
         where
           one_of : (b : Bool) → (n.0 == u) ≡ b → count_by (λ (n : TaskNo). n.0 == u) (wakes_of sleeps.observer) ≡ cond b 1 0
@@ -184,9 +174,7 @@ module _ {B : Type 0} (w w' : Worker) (s s' : Shared B) (e : Event) (sound : Sou
 
           by_same : (b : Bool) → (n.0 == u) ≡ b → ((hands_then others).wakes i u ≡ (hands_of (with_worker others w)).wakes i u) ⊎ WakesNap (hands_of (with_worker others w)) (hands_then others) (nap_of by.it) i u
           by_same false other =
-              let more = counted u in
-              let zero_of = one_of false other in
-              inl (omega (arith, now_is, was_is, more, zero_of))
+              inl (omega (arith, now_is, was_is, counted u, one_of false other))
           by_same true same =
               let more = counted u in
               let one = one_of true same in
@@ -214,8 +202,7 @@ module _ {B : Type 0} (w w' : Worker) (s s' : Shared B) (e : Event) (sound : Sou
       (holding_closed (hands_of (with_worker others w)) (hands_then others) s.config.workers hs (map thing_of s.requests.items) naps (map box_of s.seats.items) k (nap_of z) at_nap z_is.unfired (ap (λ b. b || z.closed) z_is.unremoved ∙ z_is.unclosed) paid none_sent
       (λ n it at awaits.
       let a = whole.holding.asleep n it k at awaits in
-      let is : a.0 ≡ nap_of z = same_thing a.0 (nap_of z) (sym a.1 ∙ at_nap) in
-      waits_over others whole n it at (subst (MayHave s.config.workers it.home) (ap (λ (x : Nap). x.worker) is ∙ z_is.mine) a.2.near))
+      waits_over others whole n it at (subst (MayHave s.config.workers it.home) (ap (λ (x : Nap). x.worker) (same_Some a.0 (nap_of z) (sym a.1 ∙ at_nap)) ∙ z_is.mine) a.2.near))
       (λ m. refl) (λ i u some. more_by others i u (i == w.index) refl) whole.holding)
 
   -- WHAT IS TOLD
@@ -361,9 +348,7 @@ module _ {B L : Type 0} (left : B → L) (spot : L → Option Said → Spot) (w 
                   (ap (aside xs) moved ∙ ap (λ y. record { event = Turn; choice = Plain; desk = desk_of x; thing = y }) (sym things) ∙ ap (λ y. record { event = Turn; choice = Plain; desk = desk_of x; thing = things_with y s1 }) (sym same_view));
               may = tt;
               own = rw (sound.here, to.follows.polls, to.free, to.unserved, to.owes w.workers) refl;
-              common =
-                  ap (λ y. common_of left spot p y s1) same_view ∙ ap (λ ys. record cs { sleepers = ys }) slept
-                  ∙ sym (ap (λ y. common_after p.config (record (own_of w) { next = next_at y }) cs w.index Turn Plain) sound.here);
+              common = grind (arith, same_view, slept, sound.here);
             }),
         again,
         unheard refl refl refl,

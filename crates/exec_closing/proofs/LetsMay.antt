@@ -5,7 +5,8 @@ use Rattle.exec_waiters.specs.{States.{counts_pending, is_held_at, pending_count
 use Rattle.exec_machine.specs.{Requests.ends_by_drop, Tests.{is_kept, is_queued}}
 use Rattle.exec_moves.specs.declared.place.{InClosing.InClosing, Place.Place}
 use Rattle.exec_parts.specs.{declared.parts.{mail.Reply.Reply, record.Record.Record, shared.Shared.Shared, worker.Worker.Worker}, Ending.{MayCloseSleeper, MayOrphan}, Records.number_in, View.driver_of}
-use Rattle.exec_invariants.{specs.{Sound.SoundAt, Names.tellers}, proofs.{HoldMail.sum_least, LetsNext.{live_slot, live_value, named_at}}}
+use Rattle.exec_invariants.{specs.{Sound.SoundAt, Names.tellers}, proofs.{HoldMail.sum_least, LetsNext.{live_value, named_at}}}
+use Rattle.exec_invariants.proofs.Slotted.{live_at}
 
 fewer_places : (d : Deferred Reply Reply) (n m : ℕ) → m ≤ n → HasPlaces d n → HasPlaces d m
 fewer_places = grind arith
@@ -27,8 +28,7 @@ module _ {B : Type 0} (w : Worker) (s : Shared B) where
   still_pending sound id r (Some (Ready told)) at held there ends =
       absurd (false≢true (sym (ap (λ p. is_queued p && not (is_kept r.shown.operation.kind)) (sound.rooted.kept id told r at there).over) ∙ ends))
   still_pending sound id r (Some (Pending it)) at held there ends =
-      let slot = live_slot (driver_of w).requests id (Pending it) at in
-      let least = sum_least (λ o. cond (counts_pending o) 1 0) (driver_of w).requests.slots id.index (Live id.generation (Pending it)) slot in
+      let least = sum_least (λ o. cond (counts_pending o) 1 0) (driver_of w).requests.slots id.index (Live id.generation (Pending it)) (live_at (driver_of w).requests id (Pending it) at) in
       omega (arith, least)
 
   pub may_orphan : SoundAt (Place.Closing InClosing.Orphan) w s → MayOrphan w s

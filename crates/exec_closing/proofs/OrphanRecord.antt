@@ -35,9 +35,6 @@ dropped_outcome = grind arith
 pub end_same : (r : Request) → same_end (outcome_of_drop r) (outcome_of_drop r) ≡ true
 end_same = grind arith
 
-pub worker_stays : (r : Record) → (drops r).shown.worker ≡ r.shown.worker
-worker_stays = grind arith
-
 pub thing_became : (r : Record) → thing_of (drops r) ≡ record (thing_of r) { observed = false; ended = (thing_of (drops r)).ended }
 thing_became = grind arith
 

@@ -1,5 +1,6 @@
 -- The last steps of a closing, each as a step of the machine: the barrier is passed, the mailbox closed, and the worker ends.
 use Rattle.std.{proofs.{Common.{◌≡◌, inl, ℕ, suc, ◌*◌, ◌+◌, ◌^◌, ◌≤◌, ◌&&◌, ◌||◌, ◌<◌, Bool, true, false, not, Contains, List, [], ◌∷◌, ◌++◌, map, Option, None, Some, refl, sym, ap, subst, ◌∙◌, arith, slice_get, slice_set}, lemmas.{Bool.false≢true, List.length-set}}, specs.List.list_all}
+use Rattle.std.proofs.Math.Bool.{and-false}
 use Rattle.exec_words.specs.Reserved.{Reserved}
 use Rattle.exec_task.specs.{Phases.is_polled, declared.body.Said.Said}
 use Rattle.exec_machine.specs.{declared.{event.Event.{Event, TheVariants.{Turn, End}}, state.WorkerPhase.WorkerPhase}, Choice.Choice.{Plain, Passes}, Closing.{gone_with, is_over_or_root, is_pool_over}, Tests.{all_left, is_open}}
@@ -18,18 +19,13 @@ and_true : (b : Bool) → b ≡ (b && true)
 and_true true = refl
 and_true false = refl
 
-and_no : (b : Bool) → (b && false) ≡ false
-and_no true = refl
-and_no false = refl
-
 module _ {B : Type 0} where
   -- the own chair became this, in which the run queue is as it was
   pub ready_own : (x : InClosing) (q : Place) (batch : Reserved Mail) (n : ℕ) (w : Worker) (s s' : Shared B) (chair : Chair) (sound : SoundAt (Place.Closing x) w s) → s' ≡ record s { seats = s'.seats } → s'.seats.items ≡ slice_set s.seats.items w.index chair
       → IsMailbox chair.mailbox → chair.mailbox.waker ≡ sound.seated.seat.mailbox.waker → chair.queue ≡ sound.seated.seat.queue → Aims q s.config w.index s'.seats.items → chair.pool ≡ sound.seated.seat.pool → HasBatch q batch.values → ((m : Mail) → Contains batch.values m → IsMyMail s.config.workers w.index m s.requests.items s.sleepers.items) → (chair.mailbox.inbox.closed ≡ false → 2 * chair.made + 1 ≤ batch.places) → n < 2 ^ 29 → (is_pooled_at q ≡ true → is_pool w.role ≡ true) → LetsGoAt q (driver_of w).requests w.home.timers → (has_wakes_at q ≡ false → w.home.deferred.notes.wakes.items ≡ [])
       → IsPhased w.index (closes_at q) (closing_in q) w.home.closing w.root w.names.unreleased (stage_of chair s) s.tasks.items → Ready q w.home.closing batch n w s s'
   ready_own x q batch n w s s' chair sound kept items mail waker queue aims pool batch_then mine place few pooled lets_go quiet phased =
-      let seat = sound.seated.seat in
-      let found : slice_get s'.seats.items w.index ≡ Some chair = ap (λ xs. slice_get xs w.index) items ∙ set_there s.seats.items w.index chair seat sound.seated.there in
+      let found : slice_get s'.seats.items w.index ≡ Some chair = ap (λ xs. slice_get xs w.index) items ∙ set_there s.seats.items w.index chair sound.seated.seat sound.seated.there in
       grind (arith, as_long, length-set)
 
   -- only the seats change
@@ -56,12 +52,11 @@ module _ {B L : Type 0} (left : B → L) (spot : L → Option Said → Spot) (w 
       let phased = sound.phased seat there in
       let stopped : s.stopped ≡ true = stopped_now InClosing.LeaveBarrier w s sound refl refl (sound.pooled refl) in
       let of_pool : seat.pool ≡ true = chair_of_pool (Place.Closing InClosing.LeaveBarrier) w s sound seat there ∙ sound.pooled refl in
-      let same_set : s'.set ≡ s.set = ap (λ (z : Shared B). z.set) kept in
       let pools : Pools q w.home.closing w.batch w.processed w s s' = λ others whole.
       let w1 : Worker = record w { place = q } in
       let d : Duties = duties_of (with_worker others w1) in
       let before : IsPool d s.tasks.items s.set s.seats.items = pool_of others w w1 s.tasks.items s.set s.seats.items refl (sym (ap polls_at sound.here)) (sym (ap drops_at sound.here)) whole.pool in
-      subst (λ z. IsPool d s.tasks.items z s'.seats.items) (sym same_set)
+      subst (λ z. IsPool d s.tasks.items z s'.seats.items) (sym (ap (λ (z : Shared B). z.set) kept))
       (pool_left w.index d s.tasks.items s.set s.seats.items s'.seats.items seat there items (chosen_own w.index (polls_at q) (others.polled_by w.index)) (ap (λ x. x.clears) (chosen_own w.index (drops_at q) (others.drops_by w.index))) (phased.closed stopped) (λ t. none_in_set t s.set phased.prepared) before) in
       closed_by left spot InClosing.LeaveBarrier q w.home.closing w.batch w.processed w w' s s' e sound (follows_in InClosing.CloseMailbox)
       (ready_own InClosing.LeaveBarrier q w.batch w.processed w s s' chair sound kept items sound.seated.mail refl refl tt refl (λ no. absurd (false≢true no)) sound.mine (sound.batch_place seat there) sound.processed (λ no. absurd (false≢true no)) (λ no. absurd (false≢true no)) (λ h. sound.quiet refl)
@@ -80,7 +75,7 @@ module _ {B L : Type 0} (left : B → L) (spot : L → Option Said → Spot) (w 
             subst (λ y. move_at p.config w.index (own_of w) cs (desk_of w) (things_with vs s) y ≡ record { event = e; choice = Passes; desk = desk_of (record w { place = q }); thing = things_with (with_view vs w.index (visible w)) s' }) (sym sound.here)
             (shown_as _ (λ v. record { event = e; choice = Passes; desk = desk_of (record w { place = q }); thing = things_with v s' }) vs _ again
             (rw event (ap (λ x. record { event = Turn; choice = Passes; desk = desk_of (record w { place = q }); thing = x }) (sym things))));
-        may = rw (event, sound.here, sound.letters.none refl) (refl, (rw mine (now_closing seat.phase phased.opened (going seat there)), (rw mine of_pool, (rw mine (ap not (phased.left ∙ and_no seat.pool)), (stopped, tt)))));
+        may = rw (event, sound.here, sound.letters.none refl) (refl, (rw mine (now_closing seat.phase phased.opened (going seat there)), (rw mine of_pool, (rw mine (ap not (phased.left ∙ and-false seat.pool)), (stopped, tt)))));
         own = rw (event, sound.here) refl;
         common = rw event (ap (λ v. common_of left spot p v s') again ∙ ap (common_of left spot p vs) kept ∙ rw (seats_on left spot p vs w s s' chair suits items, mine) refl);
       })

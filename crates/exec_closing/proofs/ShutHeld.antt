@@ -1,7 +1,7 @@
 -- A worker closes its mailbox once no task holds anything of it: what holds of what tasks hold, where its messages are lost.
 use Rattle.std.proofs.{Common.{◌≡◌, ◌≢◌, inl, inr, ⊎_elim, ℕ, ◌+◌, ◌<◌, ◌≤◌, ◌==◌, Bool, true, Contains, List, [], count_by, length, sum_by, Option, Some, None, refl, sym, ap, subst, ◌∙◌, arith, slice_get, slice_set}, lemmas.{Bool.false≢true, List.length-set}}
 use Rattle.exec_words.specs.declared.inbox.Message.{Message}
-use Rattle.exec_parts.{specs.declared.parts.mail.Subject.Subject, proofs.Facts.{by_number, same_thing, set_elsewhere, set_there}}
+use Rattle.exec_parts.{specs.declared.parts.mail.Subject.Subject, proofs.Facts.{by_number, same_Some, set_elsewhere, set_there}}
 use Rattle.exec_invariants.{specs.Holding.{Box, Hands, Holder, IsAbout, IsForwarded, IsHeldBy, IsHolding, IsOf, Mail, Nap, Owes, Thing, holdings, mail_in, under_way, waiters}, proofs.{HoldMail.mail_none, HoldPosts.IsOwned, HoldRedo.sum_set}}
 
 module _ (h h' : Hands) (workers i : ℕ) (hs : List Holder) (ts : List Thing) (naps : List Nap) (boxes boxes' : List Box) (box box' : Box) where
@@ -24,22 +24,19 @@ module _ (h h' : Hands) (workers i : ℕ) (hs : List Holder) (ts : List Thing) (
 
   -- what another worker has isn't the own
   not_own : (s : Subject) (j : ℕ) → j ≢ i → IsOwned j s ts naps → IsOf workers i s ts naps → ⊥
-  not_own (Subject.Request k) j other owned of = other (sym owned.2 ∙ ap (λ (r : Thing). r.worker) (same_thing owned.0 of.0 (sym owned.1 ∙ of.1)) ∙ of.2)
-  not_own (Subject.Timer n) j other owned of = other (sym owned.2 ∙ ap (λ (z : Nap). z.worker) (same_thing owned.0 of.0 (sym owned.1 ∙ of.1)) ∙ of.2)
+  not_own (Subject.Request k) j other owned of = other (sym owned.2 ∙ ap (λ (r : Thing). r.worker) (same_Some owned.0 of.0 (sym owned.1 ∙ of.1)) ∙ of.2)
+  not_own (Subject.Timer n) j other owned of = other (sym owned.2 ∙ ap (λ (z : Nap). z.worker) (same_Some owned.0 of.0 (sym owned.1 ∙ of.1)) ∙ of.2)
 
   -- a message that isn't about what it has is under way as before
   way : Shuts → IsHolding h workers hs ts naps boxes → (m : Mail) → (IsAbout workers i m ts naps → ⊥) → under_way h' m boxes' ≡ under_way h m boxes
   way by old m apart =
-      let sums : sum_by (λ b. mail_in m b.messages) (slice_set boxes i box') + mail_in m box.messages ≡ sum_by (λ b. mail_in m b.messages) boxes + mail_in m box'.messages = sum_set (λ (b : Box). mail_in m b.messages) boxes i box box' by.there in
       let here : mail_in m box.messages ≡ 0 = mail_none m box.messages (λ has. apart (old.about i box m by.there has)) in
-      let then_ : mail_in m box'.messages ≡ 0 = ap (mail_in m) by.none in
-      let hand : mail_in m by.batch ≡ 0 = mail_none m by.batch (λ has. apart (by.own m has)) in
       let set : sum_by (λ b. mail_in m b.messages) boxes' ≡ sum_by (λ b. mail_in m b.messages) (slice_set boxes i box') = ap (λ bs. sum_by (λ (b : Box). mail_in m b.messages) bs) by.set in
-      omega (arith, sums, here, then_, hand, set, by.hands m)
+      omega (arith, sum_set (λ (b : Box). mail_in m b.messages) boxes i box box' by.there, here, ap (mail_in m) by.none, mail_none m by.batch (λ has. apart (by.own m has)), set, by.hands m)
 
   -- what stands there now, by whether it is this one
   of_box : {P : Type 0} (j : ℕ) (b : Box) → Shuts → slice_get boxes' j ≡ Some b → (j ≢ i → slice_get boxes j ≡ Some b → P) → (j ≡ i → box' ≡ b → P) → P
-  of_box = grind (arith, by_number, set_elsewhere, same_thing, set_there)
+  of_box = grind (arith, by_number, set_elsewhere, same_Some, set_there)
 
   pub shut_holding : Shuts → IsHolding h workers hs ts naps boxes → IsHolding h' workers hs ts naps boxes'
   shut_holding by old =
@@ -80,10 +77,9 @@ module _ (h h' : Hands) (workers i : ℕ) (hs : List Holder) (ts : List Thing) (
             of_box j b by at
             (λ other was. old.room j b was)
             (λ own is.
-            let place = old.room i box by.there in
             let made : b.made ≡ box.made = ap (λ (y : Box). y.made) (sym is) ∙ by.more in
             record {
-              made = subst (λ a. count_by (λ r. r.worker == a) ts + count_by (λ z. z.worker == a) naps ≤ b.made) (sym own) (omega (arith, place.made, made));
+              made = subst (λ a. count_by (λ r. r.worker == a) ts + count_by (λ z. z.worker == a) naps ≤ b.made) (sym own) (omega (arith, (old.room i box by.there).made, made));
               places = λ open_box. absurd (false≢true (sym open_box ∙ ap (λ (y : Box). y.shut) (sym is) ∙ by.shut));
             });
         sent = old.sent;

@@ -4,7 +4,7 @@ use Rattle.exec_words.specs.declared.mailbox.Mailbox.{Mailbox as PureMailbox}
 use Rattle.exec_task.specs.declared.body.Said.{Said}
 use Rattle.exec_machine.specs.{declared.{event.Event.{Event, TheVariants.Send}, state.{Letter.Letter, MailMessage.TheVariants.Root, Next.Next}}, Allowed.allowed, Choice.Payer.ByStop, Closing.letters_to_roots, Mail.after_post, Progress.Plan, Tests.AllTrue, World.{no_seat, seat_of}}
 use Rattle.exec_moves.specs.{declared.{handing.{AfterPop.AfterPop, AfterSend.AfterSend, AfterSignal.AfterSignal, InPop.InPop, InSignal.InSignal}, place.{InClosing.InClosing, Place.Place}}, Move.move_at, Parts.tells_from, Seen.{next_at, serves_at}, Send.after_posting, Thing.{mailbox_of, set_mailbox}}
-use Rattle.exec_parts.{specs.{declared.parts.{mail.Subject.Subject, seat.Seat.Seat as Chair, shared.Shared.Shared, worker.Worker.Worker}, Phased.{IsGoing, IsPhased, TurnsChair, closes_at, closing_in, stage_of}, Pooled.{HasRootPlace, OfChair, asks_in, chair_posted, event_posted}, Roles.is_pool, MailPosts.IsMailbox, Spots.Spot, View.{Views, Visible, common_of, desk_of, driver_of, letters_in, own_of, owed_at, seat_seen, seats_seen, things_with, visible, with_view}}, proofs.{Facts.{never_true, not_same, set_elsewhere}, Showing.own_word_seen}}
+use Rattle.exec_parts.{specs.{declared.parts.{mail.Subject.Subject, seat.Seat.Seat as Chair, shared.Shared.Shared, worker.Worker.Worker}, Phased.{IsGoing, IsPhased, TurnsChair, closes_at, closing_in, stage_of}, Pooled.{HasRootPlace, OfChair, asks_in, chair_posted, event_posted}, Roles.is_pool, MailPosts.IsMailbox, Spots.Spot, View.{Views, Visible, common_of, desk_of, driver_of, letters_in, own_of, owed_at, seat_seen, seats_seen, things_with, visible, with_view}}, proofs.{Facts.{false_from_ne_true, not_same, set_elsewhere}, Showing.own_word_seen}}
 use Rattle.exec_invariants.{specs.{Holding.{holder_of, nap_of, thing_of}, Places.{drops_at, is_pooled_at, no_drops}, Sound.{Aims, HasBatch, LetsGoAt, SoundAt, has_wakes_at}, Spares.SparesChair, Whole.{HasWhole, hands_of, with_worker}, Works.{Steps, Suits}}, proofs.{Dedicated.{as_long, chair_of_pool}, Aside.{queue_of_chair, queues_set, seats_other}, Closes.{closed_by, follows_in, follows_pop}, PoolKept.{gate_spared, gates_set}, Posting.{Arrival, IsArrival, arrival, asks_as, asks_by, chair_by, choice_by, event_as, event_by, inbox_seen, mailbox_by, posted_as, posted_shows, posted_spares, posting_as, root_message_as, root_place, seat_as, seat_by}, RootMail.holding_posted, Seats.{chair_set, seat_there as seen_there}, Shutting.{Follows, Ready, pools_calm, shown_as}, Turning.{set_found, view_found}}}
 use Rattle.exec_closing.proofs.Parting.{on_seats}
 
@@ -76,9 +76,7 @@ module _ {B L : Type 0} (left : B → L) (spot : L → Option Said → Spot) (w 
 
   -- what becomes of the seats
   common : (p : Plan) (vs : Views) → Suits p vs w s → record (common_of left spot p vs s) { seats = seats_seen vs.workers s'.seats.items } ≡ after_post (common_of left spot p vs s) j Root (choice_by a ByStop)
-  common p vs suits =
-      ap (λ xs. record (common_of left spot p vs s) { seats = xs }) (ap (seats_seen vs.workers) set ∙ chair_set vs.workers s.seats.items j (view_of vs) its' (seen p vs suits) ∙ ap (slice_set (seats_seen vs.workers s.seats.items) j) (seat_as a (view_of vs) its is_a))
-      ∙ by a is_a
+  common p vs suits = grind (arith, set, chair_set vs.workers s.seats.items j (view_of vs) its' (seen p vs suits), seat_as a (view_of vs) its is_a, by a is_a)
     where
       here : slice_get (seats_seen vs.workers s.seats.items) j ≡ Some (seat_seen (view_of vs) its)
       here = seen_there vs.workers s.seats.items j (view_of vs) its (seen p vs suits) there
@@ -118,7 +116,6 @@ module _ {B L : Type 0} (left : B → L) (spot : L → Option Said → Spot) (w 
       let posts = posting_as a cs j ByStop m its (view_of vs) is_a (seat p vs suits) (inbox_seen vs j s its there) (own_word_seen j s its there) in
       let shown : things_with vs s' ≡ set_mailbox j (things_with vs s) (mailbox_by a m) = posted_shows a vs j s s'.seats.items its is_a there set (things_with vs s') (ap (things_with vs) kept) in
       let none : letters_in w.letters ≡ [] = sound.letters.none refl in
-      let before : letters_to_roots (w.workers - j) j ++ letters_in w.letters ≡ letters_to_roots (w.workers - j) j = all_owed none (letters_to_roots (w.workers - j) j) in
       let then_owed : owed_at w.workers next ++ letters_in w.letters ≡ drop 1 (letters_to_roots (w.workers - j) j) = ap (λ xs. xs ++ letters_in w.letters) owes ∙ all_owed none (drop 1 (letters_to_roots (w.workers - j) j)) in
       let sends : event_by j a ≡ Send j Root = sent_by a is_a in
       record {
@@ -129,7 +126,7 @@ module _ {B L : Type 0} (left : B → L) (spot : L → Option Said → Spot) (w 
             (rw (event, posts, ← suits.config, is)
             (ap (λ x. record { event = event_by j a; choice = choice_by a ByStop; desk = desk_of (record w { place = next }); thing = x }) (sym shown))));
         may = rw (event, sends) (may_by p vs suits some other a is_a);
-        own = rw (event, sends, sound.here, follows.polls, free, unserved, then_owed, before) refl;
+        own = rw (event, sends, sound.here, follows.polls, free, unserved, then_owed, all_owed none (letters_to_roots (w.workers - j) j)) refl;
         common = rw (event, sends, sound.here) (ap (λ v. common_of left spot p v s') again ∙ ap (common_of left spot p vs) kept ∙ common p vs suits);
       })
     where
@@ -174,18 +171,16 @@ module _ {B L : Type 0} (left : B → L) (spot : L → Option Said → Spot) (w 
       → OfChair j s (λ chair. w' ≡ record w { place = (if asks_in chair.mailbox then Place.Signal InSignal.SetLatch j (AfterSignal.Send (AfterSend.Tell (j + 1))) else tells_from s.config (j + 1)) })
       → TurnsChair j chair_posted s s' → s' ≡ record s { seats = s'.seats } → Steps left spot w s e w' s'
   root_told j sound has going event goes turns kept =
-      let q : Place = Place.Closing (InClosing.TellRoot j) in
       let its : Chair = get_or s.seats.items j sound.seated.seat in
       let there : slice_get s.seats.items j ≡ Some its = slice_get-get_or s.seats.items j sound.seated.seat (omega (arith, sound.aims.1, sound.seated.many)) in
       let seat = sound.seated.seat in
-      let phased = sound.phased seat sound.seated.there in
-      let of_pool : seat.pool ≡ true = chair_of_pool q w s sound seat sound.seated.there ∙ sound.pooled refl in
-      let here : (seat.left || not seat.pool) ≡ false = rw (phased.left, of_pool) refl in
+      let of_pool : seat.pool ≡ true = chair_of_pool (Place.Closing (InClosing.TellRoot j)) w s sound seat sound.seated.there ∙ sound.pooled refl in
+      let here : (seat.left || not seat.pool) ≡ false = rw ((sound.phased seat sound.seated.there).left, of_pool) refl in
       -- of the pool, as its number says
       let few : nat_lt j s.config.workers ≡ true = grind (arith, nat_tests, sound.aims.1) in
       let its_pool : its.pool ≡ true = has.whole.in_pool j its there ∙ few in
       -- no mailbox of the pool is closed before all have left, and the own worker hasn't
-      let unshut : its.mailbox.inbox.closed ≡ false = never_true its.mailbox.inbox.closed (λ is. absurd (false≢true (sym here ∙ has.whole.pool.shut j its there its_pool is w.index seat sound.seated.there))) in
+      let unshut : its.mailbox.inbox.closed ≡ false = false_from_ne_true its.mailbox.inbox.closed (λ is. absurd (false≢true (sym here ∙ has.whole.pool.shut j its there its_pool is w.index seat sound.seated.there))) in
       let at = arrival its.mailbox in
       let asks : asks_in its.mailbox ≡ asks_by at.0 its.mailbox = asks_as at.0 its.mailbox at.1 in
       told_on left spot w w' s s' e j sound going kept its there at.0 at.1 unshut (turns its there ∙ ap (slice_set s.seats.items j) (posted_as at.0 its at.1)) (event its there ∙ event_as j at.0 its.mailbox at.1)

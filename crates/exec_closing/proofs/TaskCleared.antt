@@ -1,10 +1,10 @@
 -- A TASK IS CLEARED that a visit took out of the set, as a step of the machine: where nobody polls it, and it isn't over yet, it is
 -- over by that, and lets go of what it holds. TaskClearing has the other case.
-use Rattle.std.proofs.{Common.{◌≡◌, ◌⊎◌, ⊎_elim, ℕ, ◌<◌, ◌==◌, ◌&&◌, not, Bool, true, false, List, [], ◌++◌, length, map, Option, Some, None, IsSome, refl, sym, ap, subst, ◌∙◌, slice_get, slice_set, if◌then◌else◌}, lemmas.{Bool.false≢true, List.{get_or-set_same, length-map, map-set, set-set}, Option.slice_get_within}}
+use Rattle.std.proofs.{Common.{arith, ◌≡◌, ◌⊎◌, ⊎_elim, ℕ, ◌<◌, ◌==◌, ◌&&◌, not, Bool, true, false, List, [], ◌++◌, length, map, Option, Some, None, IsSome, refl, sym, ap, subst, ◌∙◌, slice_get, slice_set, if◌then◌else◌}, lemmas.{Bool.false≢true, List.{get_or-set_same, length-map, map-set, set-set}, Option.slice_get_within}}
 use Rattle.exec_task.specs.{Phases.{is_polled, cleared}, declared.{body.Said.Said, drain.Drain.Drain}}
 use Rattle.exec_machine.specs.{declared.{event.Event.{Event, TheVariants.Clear}, state.{Letter.Letter, Next.Next, TaskPhase.TaskPhase}}, Choice.Choice.Plain, Closing.{ends_by_clear as machine_ends, with_cleared}, Progress.Plan, Tasks.{after_over, own_after_over, requests_after_drops, sleepers_after_waking_up}, Tests.is_empty, World.{Common, Own, Task, no_task, task_of}}
 use Rattle.exec_moves.specs.{declared.{handing.AfterCancels.AfterCancels, place.{InClosing.InClosing, Place.Place}}, Close.{told_of_clear, visits_on as visits_desk}, Parts.{after_visit, cancels_left}, Seen.{next_at, polls_at, serves_at}, State.{Desk, Moved, Things}, Told.lets_go_all}
-use Rattle.exec_parts.{specs.{Records.numbers_held, declared.parts.{record.Record.Record, shared.Shared.Shared, sleeping.SleeperRecord.SleeperRecord, task_slot.TaskSlot.TaskSlot, worker.Worker.Worker}, Ending.{ClearsTask, LetsGoAll, LetsGoOf, LetsWaiting, ends_by_clear, others_of}, Phased.{IsGoing, is_complete}, Pooled.cleared_slot, Spots.Spot, View.{Views, common_of, desk_of, letters_in, open_seen, own_of, owed_at, task_seen, things_with, visible, with_view}}, proofs.Facts.{same_thing, set_there}}
+use Rattle.exec_parts.{specs.{Records.numbers_held, declared.parts.{record.Record.Record, shared.Shared.Shared, sleeping.SleeperRecord.SleeperRecord, task_slot.TaskSlot.TaskSlot, worker.Worker.Worker}, Ending.{ClearsTask, LetsGoAll, LetsGoOf, LetsWaiting, ends_by_clear, others_of}, Phased.{IsGoing, is_complete}, Pooled.cleared_slot, Spots.Spot, View.{Views, common_of, desk_of, letters_in, open_seen, own_of, owed_at, task_seen, things_with, visible, with_view}}, proofs.Facts.{same_Some, set_there}}
 use Rattle.exec_invariants.{specs.{Carried.HasRoom, Gates.AreLinedUp, Holding.holder_of, HoldPlaces.has_wakes_at, Places.{drops_at, no_drops}, Sound.{HasLetters, SoundAt}, Whole.HasWhole, Works.{Beside, Steps, Suits, Works}}, proofs.{Hearing.hears_over, Keys.same_opens, Serving.SparesRecords, TaskOverPlaces.{IsQuiet, tells_past}, TaskOverActs.split_left, TaskOverFold.{HoldsAll, LetsSeen}, TaskOverGone.{AllGone, RemovesSeen, all_gone}, TaskOverLetters.{AreLetters, gone_holding, letters_fit}, TaskOverMay.keeps_tasks, TaskOverPolls.{gone_at, over_shared, over_worker}, TaskOverSeen.{desk_then, own_then, things_then, visible_then}, TaskOverSound.{IsAside, KeepsOwn, keeps_own, sound_let, sound_owing}, TaskOverWhole.{IsPast, spares_done}, Turning.view_found}}
 use Rattle.exec_closing.proofs.{TaskClears.{ToClear, cleared_with, complete_cleared, ends_so, keeps_cleared, whole_cleared}, TaskClearing.{all_there, allows, asleep, ends, first_by, here_w, idle, items_mid, its, keeps_now, none, owes_visiting, sleepers_beside, slot_is, steps_on, tells_visiting, visits_aside, visits_drops, visits_past, visits_quiet, it as there_to_clear}}
 
@@ -29,7 +29,7 @@ module _ {B L : Type 0} (left : B → L) (spot : L → Option Said → Spot) (t 
       there_mid = ap (λ ts. slice_get ts t) (items_mid left spot t drain w s sound has going w' s' e event clears) ∙ set_there s.tasks.items t (cleared_slot it.slot) it.slot it.there
 
       held_is : lets.slot ≡ cleared_slot it.slot
-      held_is = same_thing lets.slot (cleared_slot it.slot) (sym lets.there ∙ there_mid)
+      held_is = same_Some lets.slot (cleared_slot it.slot) (sym lets.there ∙ there_mid)
 
       first_is : lets.first ≡ record s { tasks = lets.first.tasks }
       first_is = lets.kept ∙ ap (λ (y : Shared B). record y { tasks = lets.first.tasks }) clears.cleared_is.kept
@@ -48,22 +48,16 @@ module _ {B L : Type 0} (left : B → L) (spot : L → Option Said → Spot) (t 
       became = lets.emptied ∙ ap (λ (o : TaskSlot B). record o { held = lets.slot'.held }) held_is
 
       items : s'.tasks.items ≡ slice_set s.tasks.items t (cleared_with lets.slot' it.slot)
-      items =
-          ap (λ (y : Shared B). y.tasks.items) gone_first.kept ∙ lets.tasks ∙ ap (λ ts. slice_set ts t lets.slot') (items_mid left spot t drain w s sound has going w' s' e event clears)
-          ∙ set-set s.tasks.items t (cleared_slot it.slot) lets.slot' ∙ ap (slice_set s.tasks.items t) became
+      items = grind (arith, gone_first.kept, lets.tasks, items_mid left spot t drain w s sound has going w' s' e event clears, set-set s.tasks.items t (cleared_slot it.slot) lets.slot', became)
 
       shared_is : s' ≡ over_shared s'.tasks.items s' (record s' { tasks = s.tasks }) s
-      shared_is =
-          gone_first.kept ∙ ap (λ (y : Shared B). record y { requests = s'.requests; sleepers = s'.sleepers }) first_is
-          ∙ ap (λ ts. record s { tasks = ts; requests = s'.requests; sleepers = s'.sleepers }) (sym (ap (λ (y : Shared B). y.tasks) gone_first.kept))
+      shared_is = grind (arith, gone_first.kept, first_is)
 
       v_is : clears.v ≡ record lets.u { letters = clears.v.letters }
       v_is = lets.worker
 
       worker_is : w' ≡ over_worker (cancels_left (AfterCancels.Visit drain) (desk_of clears.v) (letters_in clears.v.letters)) clears.v.letters lets.u w
-      worker_is =
-          clears.worker ∙ ap (λ (y : Worker). record y { place = cancels_left (AfterCancels.Visit drain) (desk_of clears.v) (letters_in clears.v.letters) }) v_is
-          ∙ ap (λ (y : Worker). record y { place = cancels_left (AfterCancels.Visit drain) (desk_of clears.v) (letters_in clears.v.letters); letters = clears.v.letters }) gone_first.worker
+      worker_is = grind (arith, clears.worker, v_is, gone_first.worker)
 
       splits : ((letters_in clears.v.letters ≡ []) × (cancels_left (AfterCancels.Visit drain) (desk_of clears.v) (letters_in clears.v.letters) ≡ Place.Closing (after_visit drain))) ⊎ ((is_empty (letters_in clears.v.letters) ≡ false) × (cancels_left (AfterCancels.Visit drain) (desk_of clears.v) (letters_in clears.v.letters) ≡ Place.SendCancel (AfterCancels.Visit drain)))
       splits = split_left (AfterCancels.Visit drain) (desk_of clears.v) (letters_in clears.v.letters)
@@ -100,8 +94,7 @@ module _ {B L : Type 0} (left : B → L) (spot : L → Option Said → Spot) (t 
           let S1 : Shared B = record s { tasks = s'.tasks } in
           let S' : Shared B = over_shared s'.tasks.items s' now s in
           let spares1 : SparesRecords w.index S1 S' = assumption spares_now in
-          let here : v.place ≡ Place.Closing (InClosing.Clear t drain) = ap (λ (y : Worker). y.place) gone.worker ∙ sound.here in
-          let own : KeepsOwn v now = keeps_own (Place.Closing (InClosing.Clear t drain)) v now here refl refl gone.keeps in
+          let own : KeepsOwn v now = keeps_own (Place.Closing (InClosing.Clear t drain)) v now (ap (λ (y : Worker). y.place) gone.worker ∙ sound.here) refl refl gone.keeps in
           let own1 : KeepsOwn (record w { names = record w.names { ended = v.names.ended }; home = record w.home { driver = v.home.driver; timers = v.home.timers; deferred = v.home.deferred } }) (record s { requests = now.requests; sleepers = now.sleepers }) =
           subst (λ y. KeepsOwn (record w { names = record w.names { ended = v.names.ended }; home = record w.home { driver = v.home.driver; timers = v.home.timers; deferred = v.home.deferred } }) y) gone.kept (subst (λ y. KeepsOwn y now) gone.worker own) in
           let own2 : KeepsOwn W' S' = assumption own1 in
@@ -155,18 +148,15 @@ module _ {B L : Type 0} (left : B → L) (spot : L → Option Said → Spot) (t 
           let seen_slot = task_seen left spot it.slot in
           let slot' : TaskSlot B = cleared_with lets.slot' it.slot in
           let W' : Worker = over_worker q' l v w in
-          let S' : Shared B = over_shared s'.tasks.items s' now s in
           let wq : Worker = record w { place = Place.Closing (InClosing.Clear t drain) } in
           let at_task : task_of c t ≡ seen_slot = its left spot t drain w s sound has going w' s' e event clears p vs suits in
           let ends_it : machine_ends (task_of c t).phase ≡ true = ends left spot t drain w s sound has going w' s' e event clears p vs suits ∙ goes_true in
           let by : Desk → Moved Things = λ d. record { event = Clear t; choice = Plain; desk = d; thing = things_with vs s } in
           let desk : lets_go_all i c (task_of c t) (desk_of wq) ≡ desk_of clears.v =
           ap (λ y. lets_go_all i c y (desk_of wq)) at_task ∙ ap (λ y. lets_go_all i c seen_slot (desk_of y)) (here_w left spot t drain w s sound has going w' s' e event clears) ∙ desk_then left spot p vs t q' l w v s now s' it.slot slot' suits it.there items gone (none left spot t drain w s sound has going) ∙ ap desk_of (sym v_is) in
-          let desk_all : visits_desk drain (told_of_clear i c (desk_of wq) (task_of c t)) ≡ desk_of W' =
-          ap (λ b. visits_desk drain (if b then lets_go_all i c (task_of c t) (desk_of wq) else desk_of wq)) ends_it
-          ∙ ap (visits_desk drain) desk ∙ ap (λ (y : Worker). desk_of (record y { place = q' })) (v_is ∙ ap (λ (y : Worker). record y { letters = l }) gone.worker) in
+          let desk_all : visits_desk drain (told_of_clear i c (desk_of wq) (task_of c t)) ≡ desk_of W' = grind (arith, ends_it, desk, v_is, gone.worker) in
           let things = things_then left spot p vs t q' l w v s now s' it.slot slot' suits it.there items gone in
-          subst (λ y. Works left spot p vs y s (Clear t) W' S') (here_w left spot t drain w s sound has going w' s' e event clears) (record {
+          subst (λ y. Works left spot p vs y s (Clear t) W' (over_shared s'.tasks.items s' now s)) (here_w left spot t drain w s sound has going w' s' e event clears) (record {
             choice = Plain;
             moves = ap by desk_all ∙ ap (λ y. record { event = Clear t; choice = Plain; desk = desk_of W'; thing = y }) (sym things);
             may = allows left spot t drain w s sound has going w' s' e event clears p vs suits;
@@ -203,7 +193,6 @@ module _ {B L : Type 0} (left : B → L) (spot : L → Option Said → Spot) (t 
               let i = w.index in
               let c : Common = common_of left spot p vs s in
               let slot = it.slot in
-              let S' : Shared B = over_shared s'.tasks.items s' (record s' { tasks = s.tasks }) s in
               let marked : Task = record (task_seen left spot it.slot) { cleared = true } in
               let m : Task = record (task_of c t) { cleared = true } in
               let done : Task = record marked { phase = TaskPhase.Done; held = [] } in
@@ -211,7 +200,7 @@ module _ {B L : Type 0} (left : B → L) (spot : L → Option Said → Spot) (t 
               let within : t < length c.tasks = rw length-map (slice_get_within s.tasks.items t it.slot it.there) in
               let after_mark : task_of (with_cleared c t) t ≡ marked = get_or-set_same c.tasks t m no_task within ∙ ap (λ (x : Task). record x { cleared = true }) at_task in
               let vis : with_view vs w.index (visible (over_worker q' l lets.u w)) ≡ vs = ap (with_view vs w.index) (visible_then left spot p vs t q' l w lets.u s (record s' { tasks = s.tasks }) s' it.slot (cleared_with lets.slot' it.slot) suits it.there items gone) ∙ view_found vs w.index (visible w) suits.seen in
-              ap (λ us. common_of left spot p us S') vis
+              ap (λ us. common_of left spot p us (over_shared s'.tasks.items s' (record s' { tasks = s.tasks }) s)) vis
               ∙ ap (λ ts. record c { tasks = ts; requests = map (λ (r : Record). r.shown) s'.requests.items; sleepers = map (λ (z : SleeperRecord). z.shown) s'.sleepers.items; opens = map (open_seen s'.requests.items) s.opens })
               (ap (map (task_seen left spot)) items ∙ map-set (task_seen left spot) s.tasks.items t (cleared_with lets.slot' it.slot) ∙ ap (slice_set c.tasks t) seen_gone)
               ∙ ap (λ rs. record c { tasks = slice_set c.tasks t done; requests = rs; sleepers = map (λ (z : SleeperRecord). z.shown) s'.sleepers.items; opens = map (open_seen s'.requests.items) s.opens }) gone.shown

@@ -1,13 +1,14 @@
 -- A TASK IS CLEARED that a visit took out of the set: it may be, what the machine sees of it, and the step where it isn't over by that.
-use Rattle.std.proofs.{Common.{◌≡◌, ℕ, ◌<◌, ◌==◌, ◌&&◌, not, Bool, true, false, List, [], ◌∷◌, ◌++◌, length, map, Option, Some, None, refl, sym, ap, subst, ◌∙◌, slice_get, slice_set, if◌then◌else◌}, lemmas.{Bool.false≢true, List.map-set, Option.slice_get_within}}
+use Rattle.std.proofs.{Common.{◌≡◌, ℕ, ◌<◌, ◌==◌, ◌&&◌, not, Bool, true, false, List, [], ◌∷◌, length, map, Option, Some, None, refl, sym, ap, subst, ◌∙◌, slice_get, slice_set, if◌then◌else◌}, lemmas.{Bool.false≢true, List.map-set, Option.slice_get_within}}
 use Rattle.std.proofs.Common.{arith}
+use Rattle.std.proofs.Math.Bool.{and-false}
 use Rattle.exec_base.specs.Slab.{Slab}
 use Rattle.exec_time.specs.declared.timers.Sleeper.{Sleeper as Sleeping}
 use Rattle.exec_waiters.specs.declared.waiter.Entry.{Entry}
 use Rattle.exec_task.specs.{Phases.{is_polled, cleared}, TaskSet.IsFor, declared.{body.Said.Said, drain.Drain.Drain, task.Phase.Phase}}
-use Rattle.exec_machine.specs.{declared.{event.Event.{Event, TheVariants.Clear}, state.{Letter.Letter, Next.Next, TaskPhase.TaskPhase, Waiting.Waiting}}, Choice.Choice.Plain, Closing.{ends_by_clear as machine_ends, with_cleared}, Progress.Plan, Same.is_none, Tasks.{after_over, own_after_over, sleepers_after_waking_up}, Tests.{is_at_large, is_closing, AllTrue}, World.{Common, Own, Task, seat_of, task_of}}
-use Rattle.exec_moves.specs.{declared.{handing.AfterCancels.AfterCancels, place.{InClosing.InClosing, Place.Place}}, Close.{told_of_clear, visits_on as visits_desk}, Parts.{after_visit, cancels_left}, Seen.{next_at, serves_at}, State.{Desk, Moved, Things, goes}, Told.lets_go_all}
-use Rattle.exec_parts.{specs.{declared.parts.{mail.Reply.Reply, shared.Shared.Shared, sleeping.SleeperRecord.SleeperRecord, task_slot.TaskSlot.TaskSlot, worker.Worker.Worker}, Ending.{ClearsTask, MayClear, ends_by_clear}, Phased.{HasPassed, IsGoing, IsPrepared, closes_at, has_left, has_shut, has_stopped, is_complete, root_over}, Pooled.cleared_slot, Spots.Spot, View.{Views, common_of, desk_of, driver_of, letters_in, own_of, owed_at, phase_seen, spot_by, task_seen, things_with, visible, with_view}}, proofs.{Facts.{same_number, same_thing, set_there}, Showing.map_kept}}
+use Rattle.exec_machine.specs.{declared.{event.Event.{Event, TheVariants.Clear}, state.{Letter.Letter, Next.Next, TaskPhase.TaskPhase, Waiting.Waiting}}, Choice.Choice.Plain, Closing.{ends_by_clear as machine_ends}, Progress.Plan, Same.is_none, Tasks.{sleepers_after_waking_up}, Tests.{is_at_large, is_closing, AllTrue}, World.{Common, Own, Task, seat_of, task_of}}
+use Rattle.exec_moves.specs.{declared.{handing.AfterCancels.AfterCancels, place.{InClosing.InClosing, Place.Place}}, Close.{told_of_clear, visits_on as visits_desk}, Parts.{after_visit, cancels_left}, State.{Desk, Moved, Things, goes}, Told.lets_go_all}
+use Rattle.exec_parts.{specs.{declared.parts.{mail.Reply.Reply, shared.Shared.Shared, sleeping.SleeperRecord.SleeperRecord, task_slot.TaskSlot.TaskSlot, worker.Worker.Worker}, Ending.{ClearsTask, MayClear, ends_by_clear}, Phased.{HasPassed, IsGoing, IsPrepared, closes_at, has_left, has_shut, has_stopped, is_complete, root_over}, Pooled.cleared_slot, Spots.Spot, View.{Views, common_of, desk_of, driver_of, letters_in, own_of, phase_seen, spot_by, task_seen, things_with, visible, with_view}}, proofs.{Facts.{same_number, same_Some, set_there}, Showing.map_kept}}
 use Rattle.exec_invariants.{specs.{Hearing.StillHears, Gates.AreLinedUp, Holding.{IsHolding, MayHave, Nap, awaited_in, box_of, holder_of, nap_of, thing_of}, Places.{drops_at, no_drops}, Sound.{Aims, HasBatch, LetsGo, SoundAt, served_in}, Whole.{HasWhole, hands_of, with_worker}, Works.{Beside, Steps, Suits, Works}}, proofs.{Closes.{follows_in, now_closing, root_there}, ClosesPool.stays, Dedicated.chair_of_pool, Hearing.{hears_over, hears_so}, Here.going_on, Lined.{lines_same, unmapped}, PoolShards.all_passed, Seats.own_seat, ServingHolds.Keeps, Shutting.sound_closing, Slots.spares_slot, TaskOverPlaces.IsQuiet, TaskOverFold.{HoldsAll, LetsSeen}, TaskOverLetters.no_letters, TaskOverMay.{HasAll, has_all, keeps_tasks, may_let_go}, TaskOverSound.{IsAside, IsOwing, own_keeps}, TaskOverWhole.IsPast, Turning.view_found, TaskTakes.holder_there}}
 use Rattle.exec_closing.proofs.{Parting.stopped_now, TaskClears.{ToClear, body_again, cleared_with, complete_cleared, ends_not, going_cleared, keeps_cleared, sound_beside, spares_cleared, to_clear, whole_cleared}, Visiting.positive}
 
@@ -41,10 +42,6 @@ tells_visiting x = record { spare = refl; wakes = refl; served = refl; bare = re
 
 pub owes_visiting : (x : Drain) → IsOwing (Place.Closing (after_visit x)) (AfterCancels.Visit x)
 owes_visiting = grind arith
-
-and_none : (b : Bool) → (b && false) ≡ false
-and_none true = refl
-and_none false = refl
 
 -- it lets go of sleepers whether it was cleared or not
 pub sleepers_beside : (c : Common) (ts : List Task) (i : ℕ) (u : Waiting) → sleepers_after_waking_up (record c { tasks = ts }) i u ≡ sleepers_after_waking_up c i u
@@ -85,7 +82,7 @@ module _ {B L : Type 0} (left : B → L) (spot : L → Option Said → Spot) (t 
       record {
         there = slice_get_within s.tasks.items t it.slot it.there;
         lets = λ slot found ends mid turns.
-            let is : slot ≡ it.slot = same_thing slot it.slot (sym found ∙ it.there) in
+            let is : slot ≡ it.slot = same_Some slot it.slot (sym found ∙ it.there) in
             let there : slice_get mid.tasks.items t ≡ Some (cleared_slot slot) = ap (λ ts. slice_get ts t) (turns.tasks slot found) ∙ set_there s.tasks.items t (cleared_slot slot) slot found in
             may_let_go t w mid (cleared_slot slot) seen idle (subst (λ (y : Shared B). AreLinedUp y.opens y.requests.items) (sym turns.kept) sound.gates) there (keeps_tasks w s mid turns.kept keeps_now)
             (subst (λ (y : Shared B). HoldsAll slot.held.items y.requests.items) (sym turns.kept) (subst (λ (o : TaskSlot B). HoldsAll o.held.items s.requests.items) (sym is) all_there.all)) (no_letters w.letters none).0 (no_letters w.letters none).1
@@ -96,7 +93,7 @@ module _ {B L : Type 0} (left : B → L) (spot : L → Option Said → Spot) (t 
 
   module _ (w' : Worker) (s' : Shared B) (e : Event) (event : e ≡ Clear t) (clears : ClearsTask t drain w w' s s') where
     pub slot_is : clears.slot ≡ it.slot
-    slot_is = same_thing clears.slot it.slot (sym clears.there ∙ it.there)
+    slot_is = same_Some clears.slot it.slot (sym clears.there ∙ it.there)
 
     pub items_mid : clears.mid.tasks.items ≡ slice_set s.tasks.items t (cleared_slot it.slot)
     items_mid = clears.cleared_is.tasks it.slot it.there
@@ -154,7 +151,7 @@ module _ {B L : Type 0} (left : B → L) (spot : L → Option Said → Spot) (t 
               (
                 ap (λ y. y.pool) mine ∙ pool,
                 (
-                  ap (λ y. not y.left) mine ∙ ap not (phased.left ∙ and_none sound.seated.seat.pool),
+                  ap (λ y. not y.left) mine ∙ ap not (phased.left ∙ and-false sound.seated.seat.pool),
                   (
                     stopped_now (InClosing.Clear t drain) w s sound refl refl (sound.pooled refl),
                     (
@@ -230,7 +227,6 @@ module _ {B L : Type 0} (left : B → L) (spot : L → Option Said → Spot) (t 
           ap (λ b. visits_desk drain (if b then lets_go_all i c (task_of c t) (desk_of wq) else desk_of wq)) no_end ∙ ap (λ ls. goes (cancels_left (AfterCancels.Visit drain) (desk_of wq) ls) (desk_of wq)) none in
           let things : things_with (with_view vs w.index (visible w)) (record s { tasks = s'.tasks }) ≡ things_with vs s = ap (λ v. things_with v s) again in
           let made : Option ℕ → Bool → Next → List Letter → Own = λ polls serving next owed. record (own_of wq) { polls = polls; serving = serving; next = next; owed = owed } in
-          let past = visits_past (drain.left == 0) drain in
           let quiet = visits_quiet (drain.left == 0) drain in
           let tasks : map (task_seen left spot) s'.tasks.items ≡ slice_set c.tasks t (record (task_of c t) { cleared = true }) =
           ap (map (task_seen left spot)) items_on ∙ map-set (task_seen left spot) s.tasks.items t (cleared_with it.slot it.slot) ∙ ap (slice_set c.tasks t) seen_on ∙ ap (λ (y : Task). slice_set c.tasks t (record y { cleared = true })) (sym (its p vs suits)) in
@@ -238,15 +234,8 @@ module _ {B L : Type 0} (left : B → L) (spot : L → Option Said → Spot) (t 
             choice = Plain;
             moves = ap by desk ∙ ap (λ y. record { event = Clear t; choice = Plain; desk = desk_of (record w { place = q0 }); thing = y }) (sym things);
             may = allows p vs suits;
-            own =
-                ap (λ o. made o (serves_at q0) (next_at q0) (owed_at w.workers q0 ++ letters_in w.letters)) past.polls
-                ∙ ap (λ o. made None o (next_at q0) (owed_at w.workers q0 ++ letters_in w.letters)) quiet.unserved
-                ∙ ap (λ o. made None false o (owed_at w.workers q0 ++ letters_in w.letters)) quiet.free
-                ∙ ap (λ o. made None false Next.Free (o ++ letters_in w.letters)) (quiet.unowed w.workers)
-                ∙ sym (ap (λ b. record (if b then own_after_over (own_of wq) c i t else own_of wq) { serving = false }) no_end);
-            common =
-                ap (λ v. common_of left spot p v (record s { tasks = s'.tasks })) again ∙ ap (λ ts. record c { tasks = ts }) tasks
-                ∙ sym (ap (λ b. if b then after_over (with_cleared c t) i t else with_cleared c t) no_end);
+            own = grind (arith, (visits_past (drain.left == 0) drain).polls, quiet.unserved, quiet.free, quiet.unowed w.workers, no_end);
+            common = grind (arith, again, tasks, no_end);
           })
 
       hears_on : StillHears w s (record w { place = q0 }) (record s { tasks = s'.tasks })

@@ -1,10 +1,10 @@
 -- A TASK IS CLEARED that a visit took out of the set: its slot, and what that leaves of the balances.
-use Rattle.std.proofs.{Common.{◌≡◌, ◌≢◌, ℕ, ◌+◌, ◌<◌, ◌≤◌, ◌==◌, ◌&&◌, ◌||◌, not, sum_by, Bool, true, false, Contains, List, length, map, option_to_list, Option, Some, None, refl, sym, ap, subst, ◌∙◌, arith, slice_get, slice_set, if◌then◌else◌}, lemmas.{List.length-set}}
+use Rattle.std.proofs.{Common.{rules, ◌≡◌, ◌≢◌, ℕ, ◌+◌, ◌<◌, ◌≤◌, ◌==◌, ◌&&◌, ◌||◌, not, sum_by, Bool, true, false, Contains, List, length, map, option_to_list, Option, Some, None, refl, sym, ap, subst, ◌∙◌, arith, slice_get, slice_set, if◌then◌else◌}, lemmas.{List.length-set}}
 use Rattle.std.specs.List.{range_with_len}
 use Rattle.exec_words.specs.Idle.{is_in}
 use Rattle.exec_task.specs.{Phases.{is_polled, cleared}, declared.{drain.Drain.Drain, runnable.Runnable.Runnable, task.Phase.Phase}}
 use Rattle.exec_moves.specs.{declared.place.{InClosing.InClosing, Place.Place}, Seen.polls_at}
-use Rattle.exec_parts.{specs.{declared.parts.{letters.Letters.Letters, seat.Seat.Seat as Chair, shared.Shared.Shared, task_slot.TaskSlot.TaskSlot, worker.Worker.Worker}, Ending.ends_by_clear, Phased.{IsPhased, closes_at, is_complete, stage_of}, Pooled.cleared_slot, View.body_in}, proofs.Facts.{by_number, never_true, not_same, same_thing, set_elsewhere, set_there}}
+use Rattle.exec_parts.{specs.{declared.parts.{letters.Letters.Letters, seat.Seat.Seat as Chair, shared.Shared.Shared, task_slot.TaskSlot.TaskSlot, worker.Worker.Worker}, Ending.ends_by_clear, Phased.{IsPhased, closes_at, is_complete, stage_of}, Pooled.cleared_slot, View.body_in}, proofs.Facts.{by_number, false_from_ne_true, not_same, same_Some, set_elsewhere, set_there}}
 use Rattle.exec_invariants.{specs.{Drained.in_set, Holding.{IsHolding, box_of, holder_of, nap_of, thing_of}, Places.{claims_at, clears_at, drops_at, has_count_at, is_published_at, no_drops, one_if}, Sound.{AreHome, AreResting, HasRunnable, IsHeld, IsResting, IsTied, SoundAt}, Spares.SparesPolled, Whole.{HasOne, HasWhole, IsGenuine, IsWhole, Profile, duties_of, hands_of, is_number, may_let_go, stock, with_worker}}, proofs.{Here.going_on, Lined.{KeepsLines, gates_kept}, PoolClosing.{Clears, IsCleared, pool_cleared}, PoolKept.{chosen_other, chosen_own, is_its}, Shutting.none_in, Slots.gates_free, SlotTasks.{Keeps, genuine_set, homes_set, resting_set}, TaskOverWhole.IsPast}}
 
 and_other : (a b : Bool) → (a && not b) ≡ false → a ≡ true → b ≡ true
@@ -66,34 +66,16 @@ module _ {B : Type 0} where
 
   pub to_clear : (t : ℕ) (drain : Drain) (w : Worker) (s : Shared B) → SoundAt (Place.Closing (InClosing.Clear t drain)) w s → (has : HasWhole w s) → ToClear t s
   to_clear t drain w s sound has =
-      let mine : one_if (is_number (clears_at w.place) t) ≡ 1 = ap one_if (is_its (clears_at w.place) t (ap clears_at sound.here)) in
-      let some : 0 < (with_worker has.others w).clears t + in_set t s.set = omega (arith, mine) in
+      let some : 0 < (with_worker has.others w).clears t + in_set t s.set = omega (arith, ap one_if (is_its (clears_at w.place) t (ap clears_at sound.here))) in
       let it = has.whole.pool.only t some in
-      record {
-        slot = it.0;
-        there = it.1;
-        ordinary = it.2;
-        uncleared = never_true it.0.cleared (λ is. absurd (let none = (has.whole.pool.live t it.0 it.1 it.2).cleared is in omega (arith, some, none)));
-      }
+      search (it.0, it.1, it.2, false_from_ne_true it.0.cleared (λ is. absurd (let none = (has.whole.pool.live t it.0 it.1 it.2).cleared is in omega (arith, some, none))))
 
   module _ (t : ℕ) (drain : Drain) (q : Place) (l : Letters) (v w : Worker) (s : Shared B) (here : w.place ≡ Place.Closing (InClosing.Clear t drain)) (past : IsPast q) (drops : drops_at q ≡ no_drops) (others : Profile) where
     duties : Clears t w.index (duties_of (with_worker others w)) (duties_of (with_worker others (cleared_to q l v w)))
     duties =
         let clears : clears_at q ≡ None = past.clears in
-        let mine : clears_at w.place ≡ Some t = ap clears_at here in
-        record {
-          one =
-              let had : one_if (is_number (clears_at w.place) t) ≡ 1 = ap one_if (is_its (clears_at w.place) t mine) in
-              let has_none : one_if (is_number (clears_at q) t) ≡ 0 = ap (λ o. one_if (is_number o t)) clears in
-              omega (arith, had, has_none);
-          others = λ u other.
-              let had : is_number (clears_at w.place) u ≡ false = ap (λ o. is_number o u) mine ∙ not_same t u (λ same. other (sym same)) in
-              ap (λ o. others.clears u + one_if (is_number o u)) clears ∙ sym (ap (λ b. others.clears u + one_if b) had);
-          its = ap (λ x. x.clears) (chosen_own w.index (drops_at w.place) (others.drops_by w.index)) ∙ mine;
-          polls = λ j. ap (λ o. if j == w.index then o else others.polled_by j) (past.polls ∙ sym (ap polls_at here));
-          drops = λ j other. chosen_other j w.index (drops_at q) (others.drops_by j) other ∙ sym (chosen_other j w.index (drops_at w.place) (others.drops_by j) other);
-          removes = ap (λ x. x.removes) (chosen_own w.index (drops_at q) (others.drops_by w.index)) ∙ ap (λ x. x.removes) drops;
-        }
+        let removes = ap (λ x. x.removes) (chosen_own w.index (drops_at q) (others.drops_by w.index)) ∙ ap (λ x. x.removes) drops in
+        search (rules, ap (λ x. x.clears) (chosen_own w.index (drops_at w.place) (others.drops_by w.index)) ∙ ap clears_at here, removes, is_its, not_same, chosen_other)
 
     -- THE BALANCES
     pub whole_cleared : (s' : Shared B) (o : TaskSlot B) (it : ToClear t s) → s'.tasks.items ≡ slice_set s.tasks.items t (cleared_with o it.slot) → KeepsLines s.requests.items s'.requests.items → s' ≡ record s { tasks = s'.tasks; requests = s'.requests; sleepers = s'.sleepers }
@@ -106,7 +88,7 @@ module _ {B : Type 0} where
         let ordinary = it.ordinary in
         let s1 : Shared B = record s { tasks = s'.tasks; requests = s'.requests; sleepers = s'.sleepers } in
         let was : (k : ℕ) (x : TaskSlot B) → slice_get s'.tasks.items k ≡ Some x → k ≢ t → slice_get s.tasks.items k ≡ Some x = λ k x found apart. sym (set_elsewhere s.tasks.items t k slot' apart) ∙ ap (λ ts. slice_get ts k) (sym items) ∙ found in
-        let is : (k : ℕ) (x : TaskSlot B) → slice_get s'.tasks.items k ≡ Some x → k ≡ t → slot' ≡ x = λ k x found same. same_thing slot' x (sym (set_there s.tasks.items t slot' slot there) ∙ ap (λ ts. slice_get ts t) (sym items) ∙ subst (λ m. slice_get s'.tasks.items m ≡ Some x) same found) in
+        let is : (k : ℕ) (x : TaskSlot B) → slice_get s'.tasks.items k ≡ Some x → k ≡ t → slot' ≡ x = λ k x found same. same_Some slot' x (sym (set_there s.tasks.items t slot' slot there) ∙ ap (λ ts. slice_get ts t) (sym items) ∙ subst (λ m. slice_get s'.tasks.items m ≡ Some x) same found) in
         let genuine : (r : Runnable) → IsGenuine s.tasks.items r → IsGenuine s'.tasks.items r = λ r g. subst (λ ts. IsGenuine ts r) (sym items) (genuine_set s.tasks.items t slot slot' there (keeps_cleared o slot) r g) in
         let same_polls : (u : ℕ) → (with_worker others (cleared_to q l v w)).polls u ≡ (with_worker others w).polls u = λ u. ap (λ y. others.polls u + one_if (is_number y u)) (past.polls ∙ sym (ap polls_at here)) in
         let same_claims : (j : ℕ) → (with_worker others (cleared_to q l v w)).claims j ≡ (with_worker others w).claims j = λ j. ap (λ y. others.claims j + one_if (is_number y j)) (past.claims ∙ sym (ap claims_at here)) in
@@ -138,8 +120,7 @@ module _ {B : Type 0} where
           queued_there = λ r has_it. genuine r (whole.queued_there r has_it);
           places = λ open_still. rw (items, length-set) (whole.places open_still);
           made = λ u more.
-              let beyond : length s.tasks.items ≤ u = subst (λ m. m ≤ u) (ap length items ∙ length-set s.tasks.items t slot') more in
-              let old = whole.made u beyond in
+              let old = whole.made u (subst (λ m. m ≤ u) (ap length items ∙ length-set s.tasks.items t slot') more) in
               (old.0, same_polls u ∙ old.1);
           unclaimed = λ j more. same_claims j ∙ whole.unclaimed j more;
           in_pool = whole.in_pool;
@@ -166,7 +147,7 @@ module _ {B : Type 0} where
       let slot' : TaskSlot B = cleared_with o it.slot in
       let ts : List (TaskSlot B) = s'.tasks.items in
       let apart : t ≢ w.root = λ same.
-      let is : slot ≡ sound.runnable.root = same_thing slot sound.runnable.root (sym it.there ∙ ap (slice_get s.tasks.items) same ∙ sound.runnable.there) in
+      let is : slot ≡ sound.runnable.root = same_Some slot sound.runnable.root (sym it.there ∙ ap (slice_get s.tasks.items) same ∙ sound.runnable.there) in
       absurd (let never : None ≡ Some w.index = sym it.ordinary ∙ ap (λ (x : TaskSlot B). x.home) is ∙ sound.runnable.home in cc) in
       let back : slice_get ts w.root ≡ slice_get s.tasks.items w.root = ap (λ xs. slice_get xs w.root) items ∙ set_elsewhere s.tasks.items t w.root slot' (λ e. apart (sym e)) in
       let homes : AreHome s.config.workers (length s.seats.items) ts = subst (AreHome s.config.workers (length s.seats.items)) (sym items) (homes_set s.config.workers (length s.seats.items) s.tasks.items t slot slot' it.there (keeps_cleared o slot) sound.homes) in
@@ -177,7 +158,6 @@ module _ {B : Type 0} where
       let phased : (chair : Chair) → slice_get s.seats.items w.index ≡ Some chair → IsPhased w.index (closes_at (Place.Closing y)) (Some y) w.home.closing w.root w.names.unreleased (stage_of chair s) ts = λ chair at_own.
       let old = sound.phased chair at_own in
       record { told = old.told; opened = old.opened; ended = old.ended; root = λ x at_root. old.root x (sym back ∙ at_root); left = old.left; shut = old.shut; by_zero = old.by_zero; by_other = old.by_other; closed = old.closed; prepared = old.prepared } in
-      let empty : w.hand ≡ None = sound.hand in
-      let genuine : (r : Runnable) → Contains (option_to_list w.hand) r → IsHeld None w.root ts r = λ r has. absurd (none_in r (subst (λ x. Contains (option_to_list x) r) empty has)) in
+      let genuine : (r : Runnable) → Contains (option_to_list w.hand) r → IsHeld None w.root ts r = λ r has. absurd (none_in r (subst (λ x. Contains (option_to_list x) r) sound.hand has)) in
       let stolen : (r : Runnable) → Contains w.loot.values r → IsGenuine ts r = λ r has. absurd (none_in r (subst (λ rs. Contains rs r) (sound.loot.none refl) has)) in
       assumption (homes, runnable, resting, tied, phased, genuine, stolen, sound)

@@ -1,9 +1,9 @@
 -- The visits of the drain, each as a step of the machine: the newest task of a shard is taken out, or the shard is passed.
 use Rattle.std.proofs.{Common.{◌≡◌, inl, inr, ℕ, zero, suc, ◌+◌, ◌-◌, ◌==◌, ◌<◌, Bool, true, false, List, [], ◌∷◌, ◌++◌, length, map, take, Option, None, Some, refl, sym, ap, subst, ◌∙◌, arith, slice_get, slice_set, slice_index_or, if◌then◌else◌, ◌≢◌}, lemmas.{Bool.{false≢true, Decides.nat_tests}, List.{length-set, map-append, set-get_or}}}
 use Rattle.exec_task.specs.{TaskSet.{AreAtHome, IsFor, Set, at_number, passed, shard_at}, declared.{body.Said.Said, drain.Drain.Drain}}
-use Rattle.exec_machine.specs.{declared.{event.Event.{Event, TheVariants.Turn}, state.Next.Next}, Choice.Choice.Plain}
-use Rattle.exec_moves.specs.{declared.place.{InClosing.InClosing, Place.Place}, Close.visit, Move.move_at, Parts.after_visit, Pop.shard_count, Seen.{next_in_closing, polls_at}, State.turns, Thing.with_shard}
-use Rattle.exec_parts.{specs.{declared.parts.{shared.Shared.Shared, worker.Worker.Worker}, Phased.{HasPassed, IsGoing, IsPrepared, closes_at, has_left, has_shut, has_stopped, root_over}, Pooled.{PassesShard, TakesTask, Visited}, Spots.Spot, View.{common_of, desk_of, driver_of, owed_at, own_of, things_with, visible, with_view}}, proofs.{Facts.{by_number, not_same, same_number}, Showing.map_set}}
+use Rattle.exec_machine.specs.{declared.{event.Event.{Event, TheVariants.Turn}, state.Next.Next}}
+use Rattle.exec_moves.specs.{declared.place.{InClosing.InClosing, Place.Place}, Close.visit, Parts.after_visit, Pop.shard_count, Seen.{next_in_closing, polls_at}, State.turns}
+use Rattle.exec_parts.{specs.{declared.parts.{shared.Shared.Shared, worker.Worker.Worker}, Phased.{HasPassed, IsGoing, IsPrepared, closes_at, has_left, has_shut, has_stopped, root_over}, Pooled.{PassesShard, TakesTask, Visited}, Spots.Spot, View.{common_of, desk_of, driver_of, owed_at, visible}}, proofs.{Facts.{by_number, not_same, same_number}, Showing.map_set}}
 use Rattle.exec_invariants.{specs.{Drained.{Duties, IsBefore, IsHeldOnce, in_set}, Places.{clears_at, drops_at, no_drops, one_if}, Sound.{Aims, HasBatch, LetsGoAt, SoundAt}, Whole.{duties_of, is_number, with_worker}, Works.Steps}, proofs.{Closes.{closed_by, follows_in}, ClosesPool.{holds_still, stays, unset}, PoolClosing.{Recounts, pool_recounted}, PoolShards.{all_passed, front_none, home_set, newest_taken, passed_on, passed_still, shard_elsewhere}, PoolKept.{chosen_other, chosen_own, gates_same}, Shutting.{GoesOnlyOn, Pools, pools_calm, shown_as}, Slots.before_barrier, Turning.view_found}}
 use Rattle.exec_closing.proofs.Parting.{stopped_now}
 
@@ -58,19 +58,7 @@ module _ {B L : Type 0} (left : B → L) (spot : L → Option Said → Spot) (w 
         (λ p vs suits.
         let cs = common_of left spot p vs s in
         let again = view_found vs w.index (visible w) suits.seen in
-        record {
-          choice = Plain;
-          moves =
-              subst (λ y. move_at p.config w.index (own_of w) cs (desk_of w) (things_with vs s) y ≡ record { event = e; choice = Plain; desk = desk_of (record w { place = q }); thing = things_with (with_view vs w.index (visible w)) s' }) (sym sound.here)
-              (shown_as _ (λ v. record { event = e; choice = Plain; desk = desk_of (record w { place = q }); thing = things_with v s' }) vs _ again
-              (rw (event, ← suits.config)
-              (ap (λ shard. with_shard drain.at (things_with vs s) (visit (shard_count s.config) drain (desk_of w) shard)) (shard_seen s.set.shards drain.at)
-              ∙ ap (with_shard drain.at (things_with vs s)) how
-              ∙ ap (λ shards. record { event = Turn; choice = Plain; desk = desk_of (record w { place = q }); thing = record (things_with vs s) { shards = shards } }) (sym shown))));
-          may = rw event tt;
-          own = rw (event, sound.here, free, owes) refl;
-          common = rw event (ap (λ v. common_of left spot p v s') again ∙ rw (sound.here, closed) refl);
-        })
+        grind (arith, shown_as, shard_seen))
 
     -- the task is cleared next, by this worker
     taken_pools : (it : TakesTask drain w w' s.set set') → Pools (Place.Closing (InClosing.Clear it.task drain)) w.home.closing w.batch w.processed w s s'
@@ -180,9 +168,7 @@ module _ {B L : Type 0} (left : B → L) (spot : L → Option Said → Spot) (w 
         how y is = rw (none, after, ← sound.shards, is) refl
 
         shown : map numbers set'.shards ≡ slice_set (map numbers s.set.shards) drain.at (numbers (shard_at set' drain.at))
-        shown =
-            ap (λ z. map numbers z.shards) it.same ∙ sym (set-get_or (map numbers s.set.shards) drain.at [])
-            ∙ ap (slice_set (map numbers s.set.shards) drain.at) (shard_seen s.set.shards drain.at ∙ none ∙ sym after)
+        shown = grind (arith, it.same, set-get_or (map numbers s.set.shards) drain.at [], shard_seen s.set.shards drain.at, none, after)
 
         prepared : IsFor drain s.set × (0 < drain.left) × HasPassed drain s.set
         prepared = (sound.phased sound.seated.seat sound.seated.there).prepared

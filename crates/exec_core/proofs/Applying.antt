@@ -12,8 +12,11 @@ use Rattle.exec_parts.specs.{declared.parts.{record.Record.Record, seat.Seat.Sea
 use Rattle.exec_polling.specs.{Calling.{desk_of_caller}}
 use Rattle.exec_invariants.specs.Drained.{HaveLeft, IsLetOn}
 use Rattle.exec_invariants.proofs.SparedRecord.{there_within}
-use Rattle.exec_core.proofs.{Enabling.enabled_as, Lifting.{set_found, unchanged, suits_it, desk_there, views_with, playing_by, world_by}}
+use Rattle.exec_core.proofs.{Enabling.enabled_as, Lifting.{unchanged, suits_it, desk_there, views_with, playing_by, world_by}}
 use Rattle.exec_core.specs.{Lift.{may_land_in, Stands, world, playing, views, Takes, Sees, Rings, EndsPoll, Lands, may_take, may_work_in, has_begun, sleeps, all_left_of}, declared.executor.Core.Core}
+use Rattle.exec_invariants.proofs.MailApplies.{seats_viewed}
+use Rattle.exec_invariants.proofs.Turning.{set_found}
+use Rattle.exec_invariants.proofs.Seats.{chair_set}
 
 -- WHAT MAY BE TAKEN IS THERE
 
@@ -73,18 +76,6 @@ all_roused : (clock : ℕ) (vs : List Visible) (seats : List Chair) → seats_se
 all_roused clock [] seats = refl
 all_roused clock (v ∷ vs) [] = refl
 all_roused clock (v ∷ vs) (chair ∷ chairs) = rw (all_roused clock vs chairs, roused_one clock v chair chair.rest) refl
-
-chair_set : (vs : List Visible) (seats : List Chair) (i : ℕ) (v : Visible) (chair : Chair) → slice_get vs i ≡ Some v → seats_seen vs (slice_set seats i chair) ≡ slice_set (seats_seen vs seats) i (seat_seen v chair)
-chair_set [] seats i v chair seen = absurd (cc)
-chair_set (x ∷ vs) [] i v chair seen = refl
-chair_set (x ∷ vs) (seat ∷ seats) zero v chair seen = grind arith
-chair_set (x ∷ vs) (seat ∷ seats) (suc i) v chair seen = ap (λ xs. seat_seen x seat ∷ xs) (chair_set vs seats i v chair seen)
-
-visible_set : (vs : List Visible) (seats : List Chair) (i : ℕ) (v : Visible) (chair : Chair) → slice_get seats i ≡ Some chair → seats_seen (slice_set vs i v) seats ≡ slice_set (seats_seen vs seats) i (seat_seen v chair)
-visible_set [] seats i v chair there = refl
-visible_set (x ∷ vs) [] i v chair there = absurd (cc)
-visible_set (x ∷ vs) (seat ∷ seats) zero v chair there = grind arith
-visible_set (x ∷ vs) (seat ∷ seats) (suc i) v chair there = ap (λ xs. seat_seen x seat ∷ xs) (visible_set vs seats i v chair there)
 
 seat_there : (vs : List Visible) (seats : List Chair) (i : ℕ) (v : Visible) (chair : Chair) → slice_get vs i ≡ Some v → slice_get seats i ≡ Some chair → slice_index_or (seats_seen vs seats) i no_seat ≡ seat_seen v chair
 seat_there [] seats i v chair seen there = absurd (cc)
@@ -156,11 +147,6 @@ module _ {B L : Type 0} (left : B → L) (spot : L → Option Said → Spot) whe
       (unchanged inbox_at c.shared.seats.items d.shared.seats.items i chair.0 (roused chair.0) chair.1 seats refl) (ap (polls_seen vs.workers) seats ∙ polls_roused vs.workers c.shared.seats.items i chair.0 chair.1) in
       grind arith
 
-  pub peer_came : (p : Plan) (c d : Core B) (l : ℕ) → Stands c → may_take c (action.Peer l) ≡ true → d.workers ≡ c.workers → d.callers ≡ c.callers
-      → d.shared.listeners.items ≡ slice_set c.shared.listeners.items l (slice_index_or c.shared.listeners.items l 0 + 1) → d.shared ≡ record c.shared { listeners = d.shared.listeners }
-      → Takes left spot p c (action.Peer l) event.Peer d
-  peer_came = grind arith
-
   -- of a worker another thing is visible
   pub set_busy : (p : Plan) (c d : Core B) (i : ℕ) → Stands c → may_take c (action.SetBusy i) ≡ true → Sees i (λ seen. record seen { busy = true }) c d
       → Takes left spot p c (action.SetBusy i) event.Set d
@@ -174,7 +160,7 @@ module _ {B L : Type 0} (left : B → L) (spot : L → Option Said → Spot) whe
       let busy : Visible = record (visible sees.before) { busy = true } in
       let views_are : views d ≡ with_view vs i busy = views_with c d i sees.after sees.workers callers ∙ ap (with_view vs i) sees.seen in
       let seats : seats_seen (slice_set vs.workers i busy) c.shared.seats.items ≡ slice_set (seats_seen vs.workers c.shared.seats.items) i (record (slice_index_or (seats_seen vs.workers c.shared.seats.items) i no_seat) { busy = true }) =
-      visible_set vs.workers c.shared.seats.items i busy chair.0 chair.1 ∙ ap (λ x. slice_set (seats_seen vs.workers c.shared.seats.items) i (record x { busy = true })) (sym here) in
+      seats_viewed vs.workers c.shared.seats.items i busy chair.0 chair.1 ∙ ap (λ x. slice_set (seats_seen vs.workers c.shared.seats.items) i (record x { busy = true })) (sym here) in
       let common : common_of left spot p (with_view vs i busy) c.shared ≡ common_by (common_of left spot p vs c.shared) (action.SetBusy i) event.Set Plain = ap (λ xs. record (common_of left spot p vs c.shared) { seats = xs }) seats in
       let things : things_with (with_view vs i busy) c.shared ≡ things_with vs c.shared = ap (λ xs. record (things_with vs c.shared) { wake_polls = xs }) (polls_busy vs.workers c.shared.seats.items i (visible sees.before) seen) in
       let then_is : playing left spot p d ≡ record (playing left spot p c) { world = record (world left spot p c) { common = common_by (common_of left spot p vs c.shared) (action.SetBusy i) event.Set Plain } } =

@@ -10,10 +10,11 @@ use Rattle.exec_parts.specs.{declared.parts.{role.Role.TheVariants.Pool, seat.Se
 use Rattle.exec_polling.specs.{declared.caller.Caller.Caller, Calling.CallSound}
 use Rattle.exec_invariants.specs.{Drained.in_set, Holding.{IsHolding, Mail, box_of, holder_of, nap_of, thing_of}, Places.{Drops, no_drops, one_if}, Whole.{IsWhole, Profile, claimed_count, hands_of, stock, with_worker}}
 use Rattle.exec_steps.specs.Together.{StandTogether, all_have, callers_have}
-use Rattle.exec_parts.proofs.Facts.{same_thing}
+use Rattle.exec_parts.proofs.Facts.{same_Some}
 use Rattle.exec_polling.proofs.Begun.{fresh_mailbox, left_quiet, none_has, none_there, not_both}
-use Rattle.exec_core.proofs.{Beginning.{config_sound, first_sound, free_caller, homes_begun, less_is}, Powers.{InRange, shards_of}, QueuedOnce.slot_of}
+use Rattle.exec_core.proofs.{Beginning.{config_sound, first_sound, free_caller, homes_begun, lt-ltb}, Powers.{InRange, shards_of}, QueuedOnce.slot_of}
 use Rattle.exec_core.specs.{Firsts.{AllBegin, IsFirst}, Lift.Stands, declared.executor.Core.Core}
+use Rattle.exec_polling.proofs.MadePlaces.{none_summed}
 
 -- WHAT PARTIES HAVE
 
@@ -49,10 +50,6 @@ all_nothing c (w ∷ ws) cs each rest =
 
 -- SUMS OF NOTHING
 
-pub sum_none : {A : Type 0} (f : A → ℕ) (xs : List A) → ((i : ℕ) (x : A) → slice_get xs i ≡ Some x → f x ≡ 0) → sum_by f xs ≡ 0
-sum_none f [] each = refl
-sum_none f (x ∷ xs) each = sum_by-cons f x xs ∙ omega (arith, each 0 x refl, sum_none f xs (λ i y there. each (suc i) y there))
-
 unset : (n j : ℕ) → is_in (replicate n false) j ≡ false
 unset zero j = refl
 unset (suc n) zero = refl
@@ -75,16 +72,16 @@ worker_at = grind arith
 
 free_there : (n j : ℕ) (x : Caller) → slice_get (replicate n free_caller) j ≡ Some x → free_caller ≡ x
 free_there zero j x there = absurd (cc)
-free_there (suc n) zero x there = same_thing free_caller x there
+free_there (suc n) zero x there = same_Some free_caller x there
 free_there (suc n) (suc j) x there = free_there n j x there
 
 module _ {B : Type 0} where
   -- no runnable is anywhere
   stock_none : (t : ℕ) (s : Shared B) → ((j : ℕ) (chair : Chair) → slice_get s.seats.items j ≡ Some chair → IsFreshSeat true chair) → s.global.values ≡ [] → stock t s ≡ 0
-  stock_none = grind (arith, sum_none)
+  stock_none = grind (arith, none_summed)
 
   claimed_none : (x : Profile) (s : Shared B) → IsEmptyProfile x → claimed_count x s ≡ 0
-  claimed_none x s none = sum_none (λ j. one_if (x.published j && not (is_in s.idle.published j))) (range_with_len 0 s.config.workers) (λ i j there. rw (none.published j) refl)
+  claimed_none x s none = none_summed (λ j. one_if (x.published j && not (is_in s.idle.published j))) (range_with_len 0 s.config.workers) (λ i j there. rw (none.published j) refl)
 
   -- nobody holds anything, and no message is under way
   holding_begun : (c : Configuration) (roots : List B) (s : Shared B) (rs : List Runnable) (x : Profile) → IsFirst c roots s rs → IsEmptyProfile x
@@ -117,7 +114,7 @@ module _ {B : Type 0} where
             let within = slice_get_within s.seats.items j chair there in
             let seats = first.rooted.seats_many ∙ many in
             let config : s.config.workers ≡ c.workers = ap (λ (z : Shared B). z.config.workers) first.bare.parts in
-            (fresh j chair there).pool_is ∙ sym (less_is j s.config.workers (omega (arith, within, seats, config)));
+            (fresh j chair there).pool_is ∙ sym (lt-ltb j s.config.workers (omega (arith, within, seats, config)));
         gates = record {
           passes = λ j file is. absurd (not_both (x.drops_by j).passes file (ap (λ (d : Drops). d.passes) (none.drops_by j)) is);
           joins = λ j k is. absurd (not_both (x.drops_by j).joins k (ap (λ (d : Drops). d.joins) (none.drops_by j)) is);

@@ -1,6 +1,7 @@
 -- The first state: all that a worker rests on holds.
-use Rattle.std.proofs.{Common.{◌≡◌, ℕ, zero, suc, ◌<◌, ◌≤◌, true, List, [], ◌∷◌, length, map, replicate, Some, None, refl, sym, ap, subst, ◌∙◌, arith, slice_get}, lemmas.{Bool.{false≢true, Decides.nat_tests}, Option.slice_get_within}}
+use Rattle.std.proofs.{Common.{◌≡◌, ℕ, zero, suc, ◌<◌, ◌≤◌, true, List, [], ◌∷◌, length, map, replicate, Some, None, refl, sym, ap, subst, ◌∙◌, arith, slice_get}, lemmas.{Bool.{false≢true}, Option.slice_get_within}}
 use Rattle.std.specs.Prelude.{nat_lt}
+pub use Rattle.std.proofs.lemmas.Bool.{lt-ltb}
 use Rattle.exec_task.specs.declared.runnable.Runnable.{Runnable}
 use Rattle.exec_driver.specs.Opens.{OpenState, fresh_open}
 use Rattle.exec_machine.specs.{declared.config.Configuration.Configuration, World.no_open}
@@ -9,7 +10,7 @@ use Rattle.exec_moves.specs.declared.handing.CallPlace.TheVariants as call
 use Rattle.exec_parts.specs.{declared.parts.{record.Record.Record, role.Role.TheVariants.Pool, shared.Shared.Shared, task_slot.TaskSlot.TaskSlot, worker.Worker.Worker}, Dedicated.Begins, View.open_seen}
 use Rattle.exec_polling.specs.declared.caller.Caller.{Caller}
 use Rattle.exec_invariants.specs.{Gates.{AreLinedUp, IsLinedUp}, Sound.{AreHome, AreResting, IsConfig, Sound}}
-use Rattle.exec_parts.proofs.Facts.{same_thing}
+use Rattle.exec_parts.proofs.Facts.{same_Some}
 use Rattle.exec_polling.proofs.Begun.{begun_sound, none_there, not_both}
 use Rattle.exec_invariants.proofs.SparedRecord.{there_within}
 use Rattle.exec_core.proofs.Powers.{InRange, shards_of}
@@ -34,7 +35,7 @@ opens_many (suc n) = ap suc (opens_many n)
 
 fresh_at : (n file : ℕ) (o : OpenState) → slice_get (replicate n fresh_open) file ≡ Some o → fresh_open ≡ o
 fresh_at zero file o there = absurd (cc)
-fresh_at (suc n) zero o there = same_thing fresh_open o there
+fresh_at (suc n) zero o there = same_Some fresh_open o there
 fresh_at (suc n) (suc file) o there = fresh_at n file o there
 
 none_lined : (file : ℕ) (records : List Record) → records ≡ [] → IsLinedUp file fresh_open records
@@ -42,9 +43,6 @@ none_lined = grind arith
 
 pub gates_begun : (n : ℕ) (records : List Record) → n ≤ 64 → records ≡ [] → AreLinedUp (replicate n fresh_open) records
 gates_begun = grind (arith, fresh_at, none_lined, none_there, opens_many)
-
-pub less_is : (a b : ℕ) → a < b → nat_lt a b ≡ true
-less_is a b h = grind (arith, nat_tests)
 
 module _ {B : Type 0} (c : Configuration) (roots : List B) (s : Shared B) (rs : List Runnable) (range : InRange c) (many : length roots ≡ c.workers) (first : IsFirst c roots s rs) where
   tasks_many : length s.tasks.items ≡ c.workers
@@ -58,7 +56,7 @@ module _ {B : Type 0} (c : Configuration) (roots : List B) (s : Shared B) (rs : 
 
   -- the roots of the first state are those of the workers, and no other task is there
   pub homes_begun : AreHome c.workers (length s.seats.items) s.tasks.items
-  homes_begun = grind (arith, seats_many, tasks_many, its_home, slice_get_within, same_thing)
+  homes_begun = grind (arith, seats_many, tasks_many, its_home, slice_get_within, same_Some)
 
   pub resting_begun : AreResting s.tasks.items
   resting_begun t slot there ordinary unpolled = absurd (not_both slot.home t ordinary (its_home t slot there))
@@ -78,7 +76,7 @@ module _ {B : Type 0} (c : Configuration) (roots : List B) (s : Shared B) (rs : 
       let root = first.rooted.root i queued.0 queued.1 in
       let within : i < c.workers = (let inside = slice_get_within rs i r mine in omega (arith, inside, first.rooted.runnables_many, many)) in
       let chair = there_within s.seats.items i (omega (arith, within, seats_many)) in
-      let pool : nat_lt i s.config.workers ≡ true = ap (λ k. nat_lt i k.workers) config_is ∙ less_is i c.workers within in
+      let pool : nat_lt i s.config.workers ≡ true = ap (λ k. nat_lt i k.workers) config_is ∙ lt-ltb i c.workers within in
       begun_sound (Pool i) i i r s w (subst (λ now. Begins s.config (Pool i) i i r now w) (sym clock_is) (subst (λ k. Begins k (Pool i) i i r 0 w) (sym config_is) begins))
       (record {
         config = rw config_is (config_sound c range);

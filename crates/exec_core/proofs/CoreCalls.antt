@@ -10,8 +10,9 @@ use Rattle.exec_moves.specs.{Call.{Called, no_call}, MoveOfCaller.move_of_caller
 use Rattle.exec_parts.specs.{declared.parts.task_slot.TaskSlot.TaskSlot, Spots.Spot, View.{desk_of, common_of, task_seen, things_with}}
 use Rattle.exec_polling.specs.{declared.caller.Caller.Caller, Calling.{CallSuits, CallWorks, call_of, desk_of_caller, with_call}}
 use Rattle.exec_invariants.proofs.Still.{performs_still}
-use Rattle.exec_core.proofs.Lifting.{playing_by, world_by, seen_there, stands_called}
+use Rattle.exec_core.proofs.Lifting.{playing_by, world_by, stands_called}
 use Rattle.exec_core.specs.{Lift.{Stands, world, playing, views, Takes, Calls, Keeps}, declared.executor.Core.Core}
+use Rattle.exec_invariants.proofs.Lined.{mapped}
 
 -- HOW MANY TASKS THERE ARE once a call woke one, or went on
 
@@ -27,7 +28,7 @@ go_on_many = grind arith
 
 module _ {B L : Type 0} (left : B → L) (spot : L → Option Said → Spot) where
   call_suits : (a : Action) (j : ℕ) (p : Plan) (c d : Core B) (e : Event) → Stands c → c.shared.config ≡ p.config → (calls : Calls left spot a j c e d) → CallSuits p (views c) j calls.before c.shared
-  call_suits = grind (arith, seen_there, length-map)
+  call_suits = grind (arith, mapped, length-map)
 
   views_called : (j : ℕ) (c d : Core B) (x : Caller) → d.callers.items ≡ slice_set c.callers.items j x → d.workers ≡ c.workers → views d ≡ with_call (views c) j (call_of x.place)
   views_called = grind (arith, map-set)
@@ -44,7 +45,7 @@ module _ {B L : Type 0} (left : B → L) (spot : L → Option Said → Spot) whe
       → by_action p.config (playing left spot p c) a ≡ record { told = (record { action = a; said = Did e }, works.choice); next = playing left spot p d }
   called_as a j p c d e calls works by after =
       let x = playing left spot p c in
-      let here : caller_of x j ≡ desk_of_caller calls.before = get_or_from_slice_get (map desk_of_caller c.callers.items) j (desk_of_caller calls.before) no_call (seen_there desk_of_caller c.callers.items j calls.before calls.was) in
+      let here : caller_of x j ≡ desk_of_caller calls.before = get_or_from_slice_get (map desk_of_caller c.callers.items) j (desk_of_caller calls.before) no_call (mapped desk_of_caller c.callers.items j calls.before calls.was) in
       let seen = views_called j c d calls.after calls.callers calls.workers in
       let done : Called Things = record { event = e; choice = works.choice; desk = desk_of_caller calls.after; thing = things_with (views c) d.shared } in
       let goes : by_call p.config x a j (move_of_caller p.config x.world.common (caller_of x j) x.things a) ≡ by_call p.config x a j done =

@@ -1,6 +1,7 @@
 -- The seats, the roots and the workers of a new executor, one after another.
-use Rattle.std.proofs.Common.{◌≡◌, ℕ, zero, suc, ◌+◌, ◌<◌, true, false, List, [], ◌∷◌, ◌++◌, length, Some, None, refl, sym, ap, subst, ◌∙◌, arith, inl, inr, slice_get}
+use Rattle.std.proofs.Common.{◌≡◌, ℕ, ◌+◌, true, false, List, [], ◌∷◌, ◌++◌, length, Some, None, sym, ap, subst, ◌∙◌, arith, inl, inr, slice_get}
 use Rattle.std.proofs.lemmas.List.{length-append}
+pub use Rattle.std.proofs.lemmas.List.{nil_from_length}
 use Rattle.exec_base.specs.declared.one_shot.OneShotState.TheVariants as shot
 use Rattle.exec_task.specs.{Phases.runnable_of, declared.{body.Said.TheVariants.Start, runnable.Runnable.Runnable, task.Phase.TheVariants.Queued}}
 use Rattle.exec_machine.specs.declared.{config.Configuration.Configuration, state.Waiting.TheVariants.Nothing}
@@ -8,35 +9,19 @@ use Rattle.exec_ring.specs.declared.store.Store.{Store}
 use Rattle.exec_parts.specs.{declared.parts.{role.Role.TheVariants.Pool, seat.Seat.Seat as Chair, shared.Shared.Shared, task_slot.TaskSlot.TaskSlot, worker.Worker.Worker}, Dedicated.{Begins}, Records.IsFreshSeat}
 use Rattle.exec_steps.proofs.Together.{last_or_before}
 use Rattle.exec_core.specs.Firsts.{AllBegin, HasRoots, IsBare, IsFirst, IsRoot}
+use Rattle.exec_invariants.proofs.HoldSteps.{get_front}
+use Rattle.exec_polling.proofs.GateGrown.{found_last}
 
 -- ONE MORE at the end of a list
 
-pub on_front : {A : Type 0} (xs zs : List A) (i : ℕ) (x : A) → slice_get xs i ≡ Some x → slice_get (xs ++ zs) i ≡ Some x
-on_front [] zs i x there = absurd (cc)
-on_front (y ∷ xs) zs zero x there = there
-on_front (y ∷ xs) zs (suc i) x there = on_front xs zs i x there
-
-pub on_end : {A : Type 0} (xs : List A) (x : A) → slice_get (xs ++ x ∷ []) (length xs) ≡ Some x
-on_end [] x = refl
-on_end (y ∷ xs) x = on_end xs x
-
 one_more : {A C : Type 0} (xs : List A) (ys : List C) (x : A) (y : C) → length xs ≡ length ys → length (xs ++ x ∷ []) ≡ length (ys ++ y ∷ [])
 one_more xs ys x y same = length-append xs (x ∷ []) ∙ ap (λ n. n + 1) same ∙ sym (length-append ys (y ∷ []))
-
--- A LOOP over a list by value
-
-pub nothing_left : {X : Type 0} (xs : List X) → length xs ≡ 0 → xs ≡ []
-nothing_left [] h = refl
-nothing_left (x ∷ xs) h = absurd (omega (arith, h))
-
-pub within_yielded : {X : Type 0} (yielded : List X) (x : X) (rest left all : List X) → yielded ++ left ≡ all → left ≡ x ∷ rest → length yielded < length all
-within_yielded = grind (arith, length-append)
 
 -- WORKERS
 
 pub begin_more : (c : Configuration) (rs : List Runnable) (ws : List Worker) (r : Runnable) (w : Worker) → AllBegin c rs ws → Begins c (Pool (length ws)) (length ws) (length ws) r 0 w → AllBegin c (rs ++ r ∷ []) (ws ++ w ∷ [])
 begin_more c rs ws r w all begins =
-    grind (arith, one_more, last_or_before, on_front, on_end)
+    grind (arith, one_more, last_or_before, get_front, found_last)
 
 module _ {B : Type 0} where
   -- SEATS AND ROOTS
@@ -55,19 +40,19 @@ module _ {B : Type 0} where
             ];
         root = λ i x there.
             elim (last_or_before tasks i slot x there) [
-              | inl found ↦ let it = has.root i x found in (it.0, on_front roots (body ∷ []) i it.0 it.1, it.2)
+              | inl found ↦ let it = has.root i x found in (it.0, get_front roots (body ∷ []) i it.0 it.1, it.2)
               | inr last ↦ (
                 body,
-                ap (slice_get (roots ++ body ∷ [])) (last.0 ∙ has.tasks_many) ∙ on_end roots body,
+                ap (slice_get (roots ++ body ∷ [])) (last.0 ∙ has.tasks_many) ∙ found_last roots body,
                 subst (λ k. IsRoot k body x) (sym last.0) (subst (IsRoot (length tasks) body) last.1 root),
               )
             ];
         queued = λ i x there.
             elim (last_or_before rs i r x there) [
-              | inl found ↦ let it = has.queued i x found in (it.0, on_front tasks (slot ∷ []) i it.0 it.1, it.2)
+              | inl found ↦ let it = has.queued i x found in (it.0, get_front tasks (slot ∷ []) i it.0 it.1, it.2)
               | inr last ↦ (
                 slot,
-                ap (slice_get (tasks ++ slot ∷ [])) (last.0 ∙ has.runnables_many ∙ sym has.tasks_many) ∙ on_end tasks slot,
+                ap (slice_get (tasks ++ slot ∷ [])) (last.0 ∙ has.runnables_many ∙ sym has.tasks_many) ∙ found_last tasks slot,
                 sym last.1 ∙ queued,
               )
             ];

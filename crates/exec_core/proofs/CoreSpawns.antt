@@ -1,26 +1,20 @@
 -- A caller that makes a task: its body is the one that the step carries.
 use Rattle.std.proofs.{Common.{◌≡◌, ℕ, false, List, Result, Ok, Err, Option, Some, sym, subst, ◌∙◌, slice_get, slice_set}}
 use Rattle.std.proofs.Common.{arith}
-use Rattle.std.specs.Prelude.{is_err, IfOk, OnOk, OnErr}
+use Rattle.std.specs.Prelude.{is_err, IfOk, OnOk}
 use Rattle.exec_task.specs.declared.body.Said.{Said}
 use Rattle.exec_machine.specs.{declared.event.Event.Event, Progress.Plan}
 use Rattle.exec_machine.specs.declared.step.Action.TheVariants as action
-use Rattle.exec_parts.specs.{Pooled.SameButRoom, Scripts.{Begins, IsBorn}, Spots.Spot}
+use Rattle.exec_parts.specs.{Scripts.{Begins, IsBorn}, Spots.Spot}
 use Rattle.exec_polling.specs.{declared.caller.Caller.Caller, Calling.{SpawnsByCall, StillPerformsWith}}
-use Rattle.exec_parts.proofs.Facts.{same_thing}
-use Rattle.exec_core.proofs.Lifting.{playing_by, unchanged, world_by}
-use Rattle.exec_core.specs.{Lift.{Calls, IsAsBefore, Keeps}, declared.executor.Core.Core}
+use Rattle.exec_parts.proofs.Facts.{same_Some}
+use Rattle.exec_core.specs.{Lift.{Calls, Keeps}, declared.executor.Core.Core}
 
 module _ {B L E : Type 0} (left : B → L) (spot : L → Option Said → Spot) (name : L → ℕ) where
   pub spawn_calls : (j k : ℕ) (c d : Core B) (b : B) (x x' : Caller) (result : Result Event E) → name (left b) ≡ k → Begins (spot (left b)) k
       → slice_get c.callers.items j ≡ Some x → d.callers.items ≡ slice_set c.callers.items j x' → d.workers ≡ c.workers → d.spent ≡ is_err result → c.spent ≡ false
       → IfOk result (λ e. SpawnsByCall left spot (spot (left b)) (name (left b)) x c.shared e x' d.shared) → IfOk result (λ e. Calls left spot (action.Spawn j k) j c e d)
   spawn_calls = grind arith
-
-  -- where there was no memory nothing can be told apart
-  pub spawn_same : (j : ℕ) (c d : Core B) (x x' : Caller) (result : Result Event E) → slice_get c.callers.items j ≡ Some x → d.callers.items ≡ slice_set c.callers.items j x' → d.workers ≡ c.workers
-      → OnErr result (x' ≡ x) → OnErr result (SameButRoom c.shared d.shared) → OnErr result (IsAsBefore left spot c d)
-  spawn_same = grind (arith, unchanged, playing_by, world_by)
 
 module _ {B L E : Type 0} (left : B → L) (runs : L → Plan → Option ℕ → Type 0) (holds : L → Option Said → List ℕ) (spot : L → Option Said → Spot) (name : L → ℕ) where
   -- the task that was made performs each plan that its body does
@@ -32,7 +26,7 @@ module _ {B L E : Type 0} (left : B → L) (runs : L → Plan → Option ℕ →
       record {
         config = (made.2.spares 0).config;
         performs = λ p is carries fits.
-            let same : carries.0 ≡ b = same_thing carries.0 b (sym carries.1 ∙ carried) in
+            let same : carries.0 ≡ b = same_Some carries.0 b (sym carries.1 ∙ carried) in
             let born : IsBorn runs holds spot p (name (left carries.0)) (left carries.0) = subst (λ n. IsBorn runs holds spot p n (left carries.0)) (sym carries.2) carries.3 in
             performs p (subst (λ y. IsBorn runs holds spot p (name (left y)) (left y)) same born) fits;
       }

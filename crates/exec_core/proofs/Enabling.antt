@@ -1,5 +1,5 @@
 -- The executor finds by its seats and records what the machine finds: which steps may be taken.
-use Rattle.std.proofs.Common.{◌≡◌, ℕ, zero, suc, ◌&&◌, ◌||◌, nat_lt, Bool, not, List, [], ◌∷◌, length, map, Option, Some, None, refl, sym, ap, ◌∙◌, arith}
+use Rattle.std.proofs.Common.{◌≡◌, ℕ, zero, suc, ◌&&◌, ◌||◌, Bool, not, List, [], ◌∷◌, length, map, Option, Some, None, refl, sym, ap, ◌∙◌, arith}
 use Rattle.std.proofs.lemmas.List.{length-map}
 use Rattle.std.specs.List.{list_all}
 use Rattle.std.specs.Prelude.{slice_get, slice_index_or}
@@ -68,8 +68,6 @@ module _ {B L : Type 0} (left : B → L) (spot : L → Option Said → Spot) whe
       by_chair (map visible c.workers.items) c.shared.seats.items i sleeps (λ seat. not (is_awake seat.rest)) (length-map c.workers.items visible ∙ stands.together.seats) refl (λ v chair. refl)
   enabled_as p c (action.Peer l) stands = refl
   enabled_as p c (action.Spawn j k) stands = may_call_as c.callers.items j
-  enabled_as p c (action.Wake j t) stands =
-      ap (λ b. b && nat_lt t (length c.shared.tasks.items)) (may_call_as c.callers.items j)
-      ∙ ap (λ n. not (is_half_done (slice_index_or (map (λ (x : Caller). call_of x.place) c.callers.items) j half.HalfDone)) && nat_lt t n) (sym (length-map c.shared.tasks.items (task_seen left spot)))
+  enabled_as p c (action.Wake j t) stands = grind (arith, may_call_as c.callers.items j, length-map c.shared.tasks.items (task_seen left spot))
   enabled_as p c (action.GoOn j) stands =
       by_map (λ (x : Caller). call_of x.place) c.callers.items j half.Nothing may_go_on_in is_half_done refl (λ x. calling_as x.place)

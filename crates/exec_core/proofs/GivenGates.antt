@@ -5,7 +5,7 @@ use Rattle.exec_driver.specs.{Opens.OpenState, declared.opens.WaiterKey.WaiterKe
 use Rattle.exec_task.specs.declared.body.Said.{Said}
 use Rattle.exec_machine.specs.{declared.{config.Configuration.Configuration, state.Request.Request}, Progress.Plan, Tests.{is_gated, is_resolved}, World.{Common, Open, no_open, no_request, open_of, request_of}}
 use Rattle.exec_moves.specs.{declared.place.{InPoll.InPoll, Place.Place}, Plays.{Playing, first_desk}, State.{Desk, gate_of}}
-use Rattle.exec_parts.{specs.{declared.parts.{record.Record.Record, worker.Worker.Worker}, Spots.Spot, View.{desk_of, gate_seen, number_of_key, open_seen}}, proofs.Facts.both_true}
+use Rattle.exec_parts.{specs.{declared.parts.{record.Record.Record, worker.Worker.Worker}, Spots.Spot, View.{desk_of, gate_seen, number_of_key, open_seen}}, proofs.Facts.and_from}
 use Rattle.exec_rest.specs.Rested.{place_at}
 use Rattle.exec_settled.specs.Given.{gives_up, in_line, passes_at}
 use Rattle.exec_invariants.{specs.{Gates.{AreLinedUp, JoinsGate, PassesPermit, key_for, line_at}, Places.{Drops, drops_at, joins_at, passes_at as passes_there}}, proofs.{Gated.durable_of_file, Seen.request_at, SparedRecord.there_within}}
@@ -106,7 +106,7 @@ module _ {B L : Type 0} (left : B → L) (spot : L → Option Said → Spot) (p 
         it.k,
         ap (λ g. slice_get g 0) (mapped (gate_seen rs) opens file it.o [] it.open_there) ∙ number,
         ap (λ (x : Request). x.worker) same ∙ it.mine,
-        ap gives_up same ∙ both_true (is_resolved it.r.shown.phase) (is_durable it.r.shown.operation.kind) it.over is.0,
+        ap gives_up same ∙ and_from (is_resolved it.r.shown.phase) (is_durable it.r.shown.operation.kind) it.over is.0,
       ))
 
   pub gated : (r : ℕ) → is_gated (request_of s r).phase ≡ true → (is_durable (request_of s r).operation.kind ≡ true) × ((request_of s r).operation.target < length s.opens)

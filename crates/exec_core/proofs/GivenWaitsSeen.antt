@@ -3,7 +3,7 @@ use Rattle.std.proofs.Common.{◌≡◌, ◌⊎◌, ℕ, Contains, List, [], ◌
 use Rattle.exec_task.specs.declared.{body.Said.Said}
 use Rattle.exec_machine.specs.{declared.state.{MailMessage.MailMessage}, Progress.Plan, World.{Common}}
 use Rattle.exec_parts.specs.{Spots.Spot, View.{message_of}}
-use Rattle.exec_parts.proofs.Facts.{same_thing}
+use Rattle.exec_parts.proofs.Facts.{same_Some}
 use Rattle.exec_invariants.specs.{Holding.{Mail}, Sound.{IsMyMail}}
 use Rattle.exec_invariants.proofs.Seen.{request_at, sleeper_at}
 use Rattle.exec_books.specs.Booked.{IsOwnMessage}
@@ -22,8 +22,8 @@ pub record IsAmong (batch messages : List Mail) (m : MailMessage) : Type 0 where
 
 pub first_among : (batch messages : List Mail) (m : MailMessage) → slice_get (map message_of batch ++ map message_of messages) 0 ≡ Some m → IsAmong batch messages m
 first_among [] [] m there = absurd (cc)
-first_among [] (x ∷ xs) m there = record { it = x; among = inr (0, omega arith, refl); shown = same_thing (message_of x) m there }
-first_among (x ∷ xs) messages m there = record { it = x; among = inl (0, omega arith, refl); shown = same_thing (message_of x) m there }
+first_among [] (x ∷ xs) m there = record { it = x; among = inr (0, omega arith, refl); shown = same_Some (message_of x) m there }
+first_among (x ∷ xs) messages m there = record { it = x; among = inl (0, omega arith, refl); shown = same_Some (message_of x) m there }
 
 module _ {B L : Type 0} (left : B → L) (spot : L → Option Said → Spot) (p : Plan) (c : Core B) where
   abbrev s : Common

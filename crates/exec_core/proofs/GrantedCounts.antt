@@ -1,26 +1,22 @@
 -- There is a search count for each worker that holds one, and one more for whoever has claimed some of its run queue: that is
 -- another worker, in a steal, and it searches.
-use Rattle.std.proofs.Common.{◌≡◌, ◌≢◌, ℕ, zero, suc, ◌+◌, ◌<◌, ◌≤◌, ◌==◌, Bool, true, false, not, List, [], ◌∷◌, slice_get, Option, Some, None, refl, sym, ap, ◌∙◌, arith, inl, inr}
-use Rattle.std.proofs.lemmas.Bool.{cases_Bool, eqb-true, false≢true}
+use Rattle.std.proofs.Common.{◌≡◌, ◌≢◌, ℕ, zero, suc, ◌+◌, ◌<◌, ◌≤◌, ◌==◌, Bool, true, false, not, List, [], ◌∷◌, slice_get, Option, Some, refl, sym, ap, ◌∙◌, arith, inl, inr}
+use Rattle.std.proofs.lemmas.Bool.{cases_Bool}
 use Rattle.exec_task.specs.declared.body.Said.{Said}
 use Rattle.exec_machine.specs.{declared.config.Configuration.Configuration, Progress.Plan}
 use Rattle.exec_moves.specs.{declared.{place.Place.Place}, Counts.one_if as one_at, Plays.{Playing, desk_of, first_desk}, State.{Desk, queue_of}}
 use Rattle.exec_parts.specs.{declared.parts.{seat.Seat.Seat as Chair, worker.Worker.Worker}, Spots.Spot, View.{desk_of as desk_seen}}
-use Rattle.exec_parts.proofs.Facts.{same_thing}
+use Rattle.exec_parts.proofs.Facts.{same_Some}
 use Rattle.exec_invariants.{specs.{Places.{claims_at, is_number, one_if}, Sound.{Aims}}}
 use Rattle.exec_polling.specs.declared.caller.Caller.{Caller}
 use Rattle.exec_steps.specs.Together.{all_have, callers_have}
 use Rattle.exec_rest.specs.Rested.{place_at}
 use Rattle.exec_core.{specs.{declared.executor.Core.Core, Lift.{Stands, playing}}, proofs.GivenWorkers.{Sits, by_worker, mapped}}
+use Rattle.exec_invariants.proofs.PoolKept.{number_is}
 
 -- who has claimed the run queue of this number is another worker
 claims_other : (q : Place) (c : Configuration) (i n : ℕ) (seats : List Chair) → Aims q c i seats → is_number (claims_at q) n ≡ true → n ≢ i
 claims_other = grind arith
-
--- a number is the one that is named
-named : (o : Option ℕ) (n : ℕ) → is_number o n ≡ true → o ≡ Some n
-named None n it = absurd (false≢true it)
-named (Some m) n it = ap (λ j. Some j) (eqb-true m n it)
 
 same_one : (b : Bool) → one_at b ≡ one_if b
 same_one true = refl
@@ -53,14 +49,14 @@ who_claims (w ∷ ws) cs n some =
 -- the counts of one, and of two
 count_in : (ws : List Worker) (cs : List Caller) (i : ℕ) (w : Worker) → slice_get ws i ≡ Some w → one_if w.searching ≤ (all_have ws cs).counts
 count_in [] cs i w there = absurd (cc)
-count_in (x ∷ ws) cs zero w there = let same = ap (λ (v : Worker). one_if v.searching) (same_thing x w there) in omega (arith, same)
+count_in (x ∷ ws) cs zero w there = let same = ap (λ (v : Worker). one_if v.searching) (same_Some x w there) in omega (arith, same)
 count_in (x ∷ ws) cs (suc i) w there = let rest = count_in ws cs i w there in omega (arith, rest)
 
 counts_in : (ws : List Worker) (cs : List Caller) (i j : ℕ) (w v : Worker) → slice_get ws i ≡ Some w → slice_get ws j ≡ Some v → i ≢ j → one_if w.searching + one_if v.searching ≤ (all_have ws cs).counts
 counts_in [] cs i j w v at_i at_j apart = absurd (cc)
 counts_in (x ∷ ws) cs zero zero w v at_i at_j apart = absurd (apart refl)
-counts_in (x ∷ ws) cs zero (suc j) w v at_i at_j apart = grind (arith, same_thing, count_in)
-counts_in (x ∷ ws) cs (suc i) zero w v at_i at_j apart = grind (arith, same_thing, count_in)
+counts_in (x ∷ ws) cs zero (suc j) w v at_i at_j apart = grind (arith, same_Some, count_in)
+counts_in (x ∷ ws) cs (suc i) zero w v at_i at_j apart = grind (arith, same_Some, count_in)
 counts_in (x ∷ ws) cs (suc i) (suc j) w v at_i at_j apart = let rest = counts_in ws cs i j w v at_i at_j (λ same. apart (ap suc same)) in omega (arith, rest)
 
 module _ {B L : Type 0} (left : B → L) (spot : L → Option Said → Spot) (p : Plan) (c : Core B) (stands : Stands c) (k : Configuration) where
@@ -89,7 +85,7 @@ module _ {B L : Type 0} (left : B → L) (spot : L → Option Said → Spot) (p 
                   let its = stands.together.sound who.at v who.there in
                   let apart : i ≢ who.at = λ same. claims_other v.place c.shared.config v.index i c.shared.seats.items its.1.aims who.claims (same ∙ sym its.0) in
                   let desk = mapped desk_seen workers who.at v (first_desk k who.at) who.there in
-                  let searches : v.searching ≡ true = sym (ap (λ (d : Desk). d.searching) desk) ∙ seeks who.at i (ap (λ (d : Desk). claims_at d.place) desk ∙ named (claims_at v.place) i who.claims) in
+                  let searches : v.searching ≡ true = sym (ap (λ (d : Desk). d.searching) desk) ∙ seeks who.at i (ap (λ (d : Desk). claims_at d.place) desk ∙ number_is (claims_at v.place) i who.claims) in
                   let one : one_if v.searching ≡ 1 = ap one_if searches in
                   let both = counts_in workers c.callers.items i who.at w v it.works who.there apart in
                   omega (arith, whole.counts, both, one, mine, gap, some)

@@ -1,6 +1,6 @@
 -- What is granted of each state of an executor, of the run queues: what a place has loaded of its own one, and of the one that it is to
 -- steal from; and where nothing is kept aside.
-use Rattle.std.proofs.Common.{◌≡◌, ℕ, ◌+◌, ◌<◌, ◌≤◌, List, [], length, Option, sym, ap, subst, ◌∙◌, arith}
+use Rattle.std.proofs.Common.{◌≡◌, ℕ, ◌+◌, ◌<◌, ◌≤◌, List, length, Option, sym, ap, subst, ◌∙◌, arith}
 use Rattle.std.proofs.lemmas.{List.length-map, Nat.mod_below}
 use Rattle.exec_words.specs.Queue.{Queue, head_of, room_of, tail_of}
 use Rattle.exec_words.specs.Head.{room_at}

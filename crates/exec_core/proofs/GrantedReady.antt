@@ -7,7 +7,7 @@ use Rattle.std.proofs.lemmas.{Bool.{cases_eq, eq-eqb, false_from_ne_true, false�
 use Rattle.exec_task.specs.{declared.{body.Said.Said, runnable.Runnable.Runnable, task.Phase.Phase}}
 use Rattle.exec_machine.specs.{declared.{config.Configuration.Configuration, state.WorkerPhase.WorkerPhase}, Progress.{Plan, is_anyone_closing}, Tests.{has_ended, is_closing, is_open, is_ready}, World.{Seat, Task, no_seat, no_task, seat_of, task_of}}
 use Rattle.exec_moves.specs.{declared.place.{InPoll.InPoll, Place.Place}, Plays.Playing}
-use Rattle.exec_parts.{specs.{declared.parts.{seat.Seat.Seat as Chair, task_slot.TaskSlot.TaskSlot, worker.Worker.Worker}, Phased.{closes_at, has_shut}, Spots.Spot, View.{phase_seen, task_seen}}, proofs.Facts.same_thing}
+use Rattle.exec_parts.{specs.{declared.parts.{seat.Seat.Seat as Chair, task_slot.TaskSlot.TaskSlot, worker.Worker.Worker}, Phased.{closes_at, has_shut}, Spots.Spot, View.{phase_seen, task_seen}}, proofs.Facts.same_Some}
 use Rattle.exec_invariants.{specs.{Drained.{IsBefore}, Sound.{IsHeld, IsRunnable, SoundAt, one_of, root_in_hand}, Whole.{HasOne, IsGenuine, may_let_go, stock}}, proofs.{ServedEnds.{count_both, count_one}, Slots.before_in_poll}}
 use Rattle.exec_polling.specs.declared.caller.Caller.{Caller}
 use Rattle.exec_steps.specs.Together.{all_have}
@@ -34,7 +34,7 @@ ended_closes = grind arith
 -- the one of this task that all have
 held_in : (ws : List Worker) (cs : List Caller) (i : ℕ) (w : Worker) (r : Runnable) (t : ℕ) → slice_get ws i ≡ Some w → w.hand ≡ Some r → r.task.0 ≡ t → 0 < (all_have ws cs).runnables t
 held_in [] cs i w r t there hand same = absurd (cc)
-held_in (x ∷ ws) cs zero w r t there hand same = grind (arith, same_thing, count_both, count_one, eq-eqb)
+held_in (x ∷ ws) cs zero w r t there hand same = grind (arith, same_Some, count_both, count_one, eq-eqb)
 held_in (x ∷ ws) cs (suc i) w r t there hand same = let rest = held_in ws cs i w r t there hand same in omega (arith, rest)
 
 module _ {B : Type 0} where
@@ -48,7 +48,7 @@ module _ {B : Type 0} where
 
   -- one that isn't the root's is that of an ordinary task
   genuine_of : (t root : ℕ) (tasks : List (TaskSlot B)) (r : Runnable) → t ≢ root → IsHeld (Some t) root tasks r → IsGenuine tasks r
-  genuine_of t root tasks r apart (inl same) = absurd (apart (same_thing t root same))
+  genuine_of t root tasks r apart (inl same) = absurd (apart (same_Some t root same))
   genuine_of t root tasks r apart (inr it) = it
 
 module _ {B L : Type 0} (left : B → L) (spot : L → Option Said → Spot) (p : Plan) (c : Core B) (stands : Stands c) (k : Configuration) where

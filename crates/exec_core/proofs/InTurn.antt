@@ -12,7 +12,7 @@ use Rattle.exec_machine.specs.{declared.state.Request.Request, Progress.Plan, Te
 use Rattle.exec_moves.specs.Plays.{Playing}
 use Rattle.exec_parts.specs.{declared.parts.{mail.Reply.Reply, record.Record.Record, shared.Shared.Shared, worker.Worker.Worker}, Records.number_in, Spots.Spot, View.driver_of}
 use Rattle.exec_invariants.specs.{Gates.{AreLinedUp, key_for}, Sound.Sound}
-use Rattle.exec_parts.proofs.Facts.{never_true}
+use Rattle.exec_parts.proofs.Facts.{false_from_ne_true}
 use Rattle.exec_invariants.proofs.{Gated.durable_of_file, SparedRecord.there_within}
 use Rattle.exec_core.specs.{declared.executor.Core.Core, Lift.{Stands, Shows}, Turns.{IsOrderly, TakeTurns, has_permit}}
 use Rattle.exec_core.proofs.QueuedOnce.{queues_once, slot_of}
@@ -49,7 +49,7 @@ module _ {B : Type 0} where
           let keys : key_for at.0 ≡ key_for r = ap (λ i. record { worker = i; id = at.0.id }) (at.3 ∙ sym mine) ∙ ap (λ x. record { worker = r.shown.worker; id = record { 0 = x } }) at.2 in
           let number : number_in w.names.requests.items r.id.0 ≡ k = sound.gates.unique (number_in w.names.requests.items r.id.0) k at.0 r at.1 there keys in
           let a = sound.named.alike r.id.0 it r live (ap (slice_get s.requests.items) number ∙ there) in
-          a.cancelled ∙ never_true (asks_cancel it.state) (λ asks. false≢true (sym (a.alone asks) ∙ sym (ap (λ x. is_kept x.kind) a.asked) ∙ kept))
+          a.cancelled ∙ false_from_ne_true (asks_cancel it.state) (λ asks. false≢true (sym (a.alone asks) ∙ sym (ap (λ x. is_kept x.kind) a.asked) ∙ kept))
 
   turns_in : (c : Core B) → Stands c → TakeTurns (map (λ (r : Record). r.shown) c.shared.requests.items)
   turns_in c stands =
@@ -76,5 +76,3 @@ module _ {B L : Type 0} (left : B → L) (runs : L → Plan → Option ℕ → T
 
   pub orderly : (p : Plan) (c : Core B) (x : Playing) → Stands c → Shows left runs holds spot p c x → IsOrderly x
   orderly p c x stands shows = record { once = queues_once left runs holds spot p c x stands shows; turns = take_turns p c x stands shows }
-
--- A KEPT FAILURE

@@ -1,19 +1,21 @@
 -- Own part and common part are changed by a step of one worker, and all else is as it was: so the whole takes a step of
 -- the machine, and that of the moves.
-use Rattle.std.proofs.{Common.{◌≡◌, ◌≢◌, ℕ, suc, ◌+◌, ◌<◌, ◌≤◌, Bool, true, false, List, [], ◌∷◌, ◌++◌, length, map, Option, None, Some, refl, sym, ap, subst, ◌∙◌, ⊎_elim, arith, option_to_list, slice_get, slice_set, option_map}, lemmas.{Bool.cases_lt, List.{map-append, map-set, length-set, length-map, length-append, append-nil, set-get_or}, Option.{slice_get-map, slice_get_within, get_or_from_slice_get}}}
+use Rattle.std.proofs.{Common.{◌≡◌, ◌≢◌, ℕ, suc, ◌+◌, ◌<◌, ◌≤◌, Bool, true, false, List, [], ◌∷◌, ◌++◌, length, map, Option, None, Some, refl, sym, ap, subst, ◌∙◌, ⊎_elim, arith, option_to_list, slice_get, slice_set}, lemmas.{Bool.cases_lt, List.{map-append, map-set, length-set, length-map, length-append, append-nil}, Option.{slice_get-map, slice_get_within, get_or_from_slice_get}}}
 use Rattle.exec_task.specs.declared.body.Said.{Said}
 use Rattle.exec_machine.specs.{declared.{config.Configuration.Configuration, event.{Event.Event, StepResult.TheVariants.Did}}, After.{own_after, common_after, made_by}, Callers.is_enabled, Choice.Choice, Progress.Plan, Run.after_event, World.{World, Own, Common, no_own, own_of as own_at}}
 use Rattle.exec_machine.specs.declared.event.Event.TheVariants as event
 use Rattle.exec_machine.specs.declared.step.Action.TheVariants as action
-use Rattle.exec_moves.specs.{Pop.shard_count, Call.CallDesk, Move.move, Plays.{Played, Playing, by_action, by_move, desk_of as desk_at, first_desk, newcomers}, State.{Desk, Things}}
+use Rattle.exec_moves.specs.{Pop.shard_count, Call.CallDesk, Plays.{Played, Playing, by_action, by_move, desk_of as desk_at, first_desk, newcomers}, State.{Desk, Things}}
 use Rattle.exec_parts.specs.{declared.parts.{record.Record.Record, seat.Seat.Seat as Chair, shared.Shared.Shared, sleeping.SleeperRecord.SleeperRecord, task_slot.TaskSlot.TaskSlot, worker.Worker.Worker}, Spots.Spot, View.{Views, Visible, own_of, visible, with_view, desk_of, common_of, seats_seen, things_with}}
-use Rattle.exec_polling.specs.{declared.caller.Caller.Caller, Calling.{CallBeside, CallSound, call_of, desk_of_caller}}
+use Rattle.exec_polling.specs.{declared.caller.Caller.Caller, Calling.{CallBeside, CallSound, desk_of_caller}}
 use Rattle.exec_invariants.specs.{Acting.PerformsAll, Sound.Sound, Spares.SparesBy, Whole.{IsWhole, Profile}, Works.{Beside, BesideNewcomer, BesideWith, WorksWith, Suits, with_born}}
 use Rattle.exec_steps.specs.Together.{StandTogether}
-use Rattle.exec_parts.proofs.Facts.{by_number, same_thing}
+use Rattle.exec_parts.proofs.Facts.{by_number, same_Some}
 use Rattle.exec_invariants.proofs.SparedRecord.{there_within}
 use Rattle.exec_steps.proofs.Together.{caller_stepped, worker_born, worker_stepped}
 use Rattle.exec_core.specs.{Lift.{Stands, world, playing, views, WorkerSteps, WorkerStays, Takes, IsAsBefore}, declared.executor.Core.Core}
+use Rattle.exec_invariants.proofs.Turning.{set_found}
+use Rattle.exec_invariants.proofs.Lined.{mapped}
 
 -- LISTS
 
@@ -23,16 +25,9 @@ not_longer n h = omega arith
 pub suc_same : (n m : ℕ) → suc n ≡ suc m → n ≡ m
 suc_same n m h = omega arith
 
-pub set_found : {A : Type 0} (xs : List A) (k : ℕ) (x : A) → slice_get xs k ≡ Some x → slice_set xs k x ≡ xs
-set_found xs k x found = ap (λ y. slice_set xs k y) (sym (get_or_from_slice_get xs k x x found)) ∙ set-get_or xs k x
-
 -- What has been put in the place of its like can't be told apart.
 pub unchanged : {A B : Type 0} (f : A → B) (xs ys : List A) (i : ℕ) (x y : A) → slice_get xs i ≡ Some x → ys ≡ slice_set xs i y → f y ≡ f x → map f ys ≡ map f xs
 unchanged = grind (arith, map-set, set_found, slice_get-map)
-
--- what stands in its place is seen there
-pub seen_there : {A B : Type 0} (f : A → B) (xs : List A) (i : ℕ) (x : A) → slice_get xs i ≡ Some x → slice_get (map f xs) i ≡ Some (f x)
-seen_there f xs i x was = slice_get-map f xs i ∙ ap (option_map f) was
 
 -- what is seen of a list in which one was put in a place, and one more stands last
 pub seen_born : {A B : Type 0} (f : A → B) (xs ys : List A) (i : ℕ) (y : A) (born : Option A) → ys ≡ slice_set xs i y ++ option_to_list born → map f ys ≡ slice_set (map f xs) i (f y) ++ map f (option_to_list born)
@@ -140,8 +135,8 @@ module _ {B : Type 0} where
       let home = its.1.runnable.home ∙ ap (λ n. Some n) its.0 in
       let still = (spares w'.index other).root x.0.root its.1.runnable.root its.1.runnable.there home in
       let roots : x.0.root ≡ w'.root = sound.homes.once x.0.root w'.root w'.index its.1.runnable.root sound.runnable.root still sound.runnable.there home sound.runnable.home in
-      let slots : its.1.runnable.root ≡ mine.runnable.root = same_thing its.1.runnable.root mine.runnable.root (sym its.1.runnable.there ∙ ap (slice_get c.shared.tasks.items) (roots ∙ root) ∙ mine.runnable.there) in
-      let homes : w'.index ≡ w.index = same_thing w'.index w.index (sym home ∙ ap (λ (t : TaskSlot B). t.home) slots ∙ mine.runnable.home) in
+      let slots : its.1.runnable.root ≡ mine.runnable.root = same_Some its.1.runnable.root mine.runnable.root (sym its.1.runnable.there ∙ ap (slice_get c.shared.tasks.items) (roots ∙ root) ∙ mine.runnable.there) in
+      let homes : w'.index ≡ w.index = same_Some w'.index w.index (sym home ∙ ap (λ (t : TaskSlot B). t.home) slots ∙ mine.runnable.home) in
       absurd (other homes))
       (λ same. same)
 
@@ -211,18 +206,14 @@ module _ {B : Type 0} where
 module _ {B L : Type 0} (left : B → L) (spot : L → Option Said → Spot) where
   pub suits_it : (p : Plan) (c : Core B) (i : ℕ) (w : Worker) → Stands c → slice_get c.workers.items i ≡ Some w → c.shared.config ≡ p.config → Suits p (views c) w c.shared
   suits_it p c i w stands was config =
-      record {
-        config = config;
-        seen = ap (slice_get (map visible c.workers.items)) (stands.together.sound i w was).0 ∙ seen_there visible c.workers.items i w was;
-        workers = length-map c.workers.items visible ∙ stands.together.seats;
-      }
+      assumption (config, ap (slice_get (map visible c.workers.items)) (stands.together.sound i w was).0 ∙ mapped visible c.workers.items i w was, length-map c.workers.items visible ∙ stands.together.seats)
 
   -- the worker's own part in the machine, and its desk
   pub own_there : (p : Plan) (c : Core B) (i : ℕ) (w : Worker) → slice_get c.workers.items i ≡ Some w → own_at (world left spot p c) i ≡ own_of w
-  own_there p c i w was = get_or_from_slice_get (map own_of c.workers.items) i (own_of w) no_own (seen_there own_of c.workers.items i w was)
+  own_there p c i w was = get_or_from_slice_get (map own_of c.workers.items) i (own_of w) no_own (mapped own_of c.workers.items i w was)
 
   pub desk_there : (p : Plan) (c : Core B) (i : ℕ) (w : Worker) → slice_get c.workers.items i ≡ Some w → desk_at p.config (playing left spot p c) i ≡ desk_of w
-  desk_there p c i w was = get_or_from_slice_get (map desk_of c.workers.items) i (desk_of w) (first_desk p.config i) (seen_there desk_of c.workers.items i w was)
+  desk_there p c i w was = get_or_from_slice_get (map desk_of c.workers.items) i (desk_of w) (first_desk p.config i) (mapped desk_of c.workers.items i w was)
 
   -- as many seats are seen where as many stand
   pub as_many_seen : (p : Plan) (c d : Core B) → Stands c → Stands d → length d.workers.items ≡ length c.workers.items → length (world left spot p d).common.seats ≡ length (world left spot p c).common.seats
@@ -233,9 +224,7 @@ module _ {B L : Type 0} (left : B → L) (spot : L → Option Said → Spot) whe
   as_before i c d it p =
       let ws = c.workers.items in
       let same = it.same in
-      let seen : views d ≡ views c =
-      ap (λ xs. record (views c) { workers = map visible d.workers.items; calls = map (λ (x : Caller). call_of x.place) xs.items }) it.callers
-      ∙ views_by _ _ (views c) (unchanged visible ws d.workers.items i it.before it.after it.was it.workers same.visible_same) in
+      let seen : views d ≡ views c = grind (arith, it.callers, views_by _ _ (views c) (unchanged visible ws d.workers.items i it.before it.after it.was it.workers same.visible_same)) in
       playing_by _ _ _ _ _ _ _ _
       (world_by _ _ _ _ (unchanged own_of ws d.workers.items i it.before it.after it.was it.workers same.own) (ap (λ vs. common_of left spot p vs d.shared) seen ∙ same.common p (views c)))
       (unchanged desk_of ws d.workers.items i it.before it.after it.was it.workers same.desk)
@@ -279,18 +268,13 @@ module _ {B L : Type 0} (left : B → L) (runs : L → Plan → Option ℕ → T
       let me_then : Own = own_after p.config (own_of w) all i e works.choice in
       let common : (world left spot p d).common ≡ common_after p.config (own_of w) all i e works.choice = ap (λ x. common_of left spot p x d.shared) seen ∙ works.common in
       let shown = born_shown p c d w w' born e works.choice stands still config workers common beside in
-      let owns : map own_of d.workers.items ≡ slice_set (map own_of c.workers.items) i me_then ++ made_by all e =
-      seen_born own_of c.workers.items d.workers.items i w' born workers ∙ ap (λ o. slice_set (map own_of c.workers.items) i o ++ map own_of (option_to_list born)) works.own
-      ∙ ap (λ xs. slice_set (map own_of c.workers.items) i me_then ++ xs) shown.0 in
+      let owns : map own_of d.workers.items ≡ slice_set (map own_of c.workers.items) i me_then ++ made_by all e = grind (arith, seen_born own_of c.workers.items d.workers.items i w' born workers, works.own, shown.0) in
       let desks : map desk_of d.workers.items ≡ slice_set (map desk_of c.workers.items) i (desk_of w') ++ newcomers p.config e =
       seen_born desk_of c.workers.items d.workers.items i w' born workers ∙ ap (λ xs. slice_set (map desk_of c.workers.items) i (desk_of w') ++ xs) shown.1 in
       let becomes : world left spot p d ≡ after_event p.config (world left spot p c) (action.Work i) e works.choice =
       subst (λ me. world left spot p d ≡ (let x : World = record { workers = slice_set (map own_of c.workers.items) i (own_after p.config me all i e works.choice) ++ made_by all e; common = common_after p.config me all i e works.choice } in x)) (sym mine) (world_by _ _ _ _ owns common) in
       let x = playing left spot p c in
-      let goes : by_action p.config x (action.Work i) ≡ by_move p.config x i (record { event = e; choice = works.choice; desk = desk_of w'; thing = things_with then d.shared }) =
-      ap (λ me. by_move p.config x i (move p.config i me all (desk_at p.config x i) x.things)) mine
-      ∙ ap (λ desk. by_move p.config x i (move p.config i (own_of w) all desk x.things)) here
-      ∙ ap (by_move p.config x i) works.moves in
+      let goes : by_action p.config x (action.Work i) ≡ by_move p.config x i (record { event = e; choice = works.choice; desk = desk_of w'; thing = things_with then d.shared }) = grind (arith, mine, here, works.moves) in
       let next : by_move p.config x i (record { event = e; choice = works.choice; desk = desk_of w'; thing = things_with then d.shared }) ≡ record { told = (record { action = action.Work i; said = Did e }, works.choice); next = playing left spot p d } =
       ap (λ n. (let it : Played = record { told = (record { action = action.Work i; said = Did e }, works.choice); next = n } in it))
       (playing_by _ _ _ _ _ _ _ _ (sym becomes) (sym desks) (ap (λ xs. map desk_of_caller xs.items) (sym callers)) (ap (λ v. things_with v d.shared) (sym seen))) in

@@ -1,5 +1,5 @@
 -- No step lets a worker turn for ever.
-use Rattle.std.proofs.Common.{◌≡◌, ◌≤◌, ◌<◌, ℕ, suc, true, List, Option, subst, sym, arith}
+use Rattle.std.proofs.Common.{◌≡◌, ◌≤◌, ◌<◌, ℕ, suc, true, List, Option, subst, sym}
 use Rattle.exec_task.specs.declared.body.Said.{Said}
 use Rattle.exec_machine.specs.{declared.{step.Action.Action}, Progress.{Plan, is_quiet_step}, Run.Follows}
 use Rattle.exec_moves.specs.Plays.{Playing, by_step, first_playing}

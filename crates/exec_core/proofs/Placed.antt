@@ -8,7 +8,7 @@ use Rattle.exec_machine.specs.{declared.{config.Configuration.Configuration}, Pr
 use Rattle.exec_moves.specs.{declared.{handing.{CallPlace.CallPlace}, idling.Stay.Stay, place.{InClosing.InClosing, Place.Place}}, Call.{CallDesk, no_call}, Plays.{Playing, caller_of, desk_of as desk_at}}
 use Rattle.exec_parts.specs.{declared.parts.{seat.Seat.Seat as Chair, task_slot.TaskSlot.TaskSlot, worker.Worker.Worker}, Phased.{closes_at, closing_in, has_shut, is_complete, root_over}, Spots.Spot, View.{Visible, desk_of, inbox_at, message_of, phase_seen, polls_seen, queue_at, task_seen, tasks_of, visible, word_at}}
 use Rattle.exec_invariants.specs.{Drained.{HaveLeft, IsBefore, in_set}, Holding.Mail, Places.{begins_at, hands_on_at, has_loot_at, is_pooled_at, polled_in}, Sound.{AreHome, HasBatch, HasQueue, IsInHand, IsLoot, IsRunnable, one_of, root_in_hand}}
-use Rattle.exec_parts.proofs.Facts.{same_thing}
+use Rattle.exec_parts.proofs.Facts.{same_Some}
 use Rattle.exec_invariants.proofs.{SparedRecord.there_within}
 use Rattle.exec_polling.specs.{declared.caller.Caller.Caller, Calling.{call_of, desk_of_caller, hands_on_in}}
 use Rattle.exec_steps.specs.Together.{all_have}
@@ -158,7 +158,7 @@ module _ {B L : Type 0} (left : B → L) (spot : L → Option Said → Spot) (p 
   root_of t j slot there home runs w chair it =
       let its = it.sound.runnable in
       let here = root_here c t j slot there home w chair it in
-      let one : its.root ≡ slot = same_thing its.root slot (sym its.there ∙ here) in
+      let one : its.root ≡ slot = same_Some its.root slot (sym its.there ∙ here) in
       let once : IsRunnable (one_of w.root_ready (root_in_hand (begins_at w.place) w.root w.hand)) slot =
       subst (λ (z : TaskSlot B). IsRunnable (one_of w.root_ready (root_in_hand (begins_at w.place) w.root w.hand)) z) one its.once in
       let over = (it.sound.phased chair it.mine).root slot here in

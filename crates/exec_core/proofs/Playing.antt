@@ -1,5 +1,5 @@
 -- From a step of the machine to one of a log by moves.
-use Rattle.std.proofs.Common.{◌≡◌, ℕ, true, false, not, List, Option, refl, sym, ap, subst, ◌∙◌, arith}
+use Rattle.std.proofs.Common.{◌≡◌, ℕ, true, false, not, List, Option, refl, sym, ap, subst, ◌∙◌}
 use Rattle.std.specs.Prelude.{if◌then◌else◌}
 use Rattle.exec_task.specs.declared.body.Said.{Said}
 use Rattle.exec_machine.specs.{declared.{event.{Event.Event, Line.Line, StepResult.TheVariants.{Refused, Did}}, step.Action.Action}, Callers.is_enabled, Examples.refuses, Progress.Plan, Run.Follows}
@@ -26,14 +26,7 @@ module _ {B L : Type 0} (left : B → L) (runs : L → Plan → Option ℕ → T
       let goes : Follows p.config x.world a (Did e) (by_step p.config x a).told.1 = subst (λ (y : Played). Follows p.config x.world a (Did e) y.told.1) (sym by) takes.follows in
       let goes_so : Follows p.config x.world a (by_step p.config x a).told.0.said (by_step p.config x a).told.1 = subst (λ (y : Played). Follows p.config x.world a y.told.0.said y.told.1) (sym by) takes.follows in
       let after : Shows left runs holds spot p d (by_step p.config x a).next = record { config = keeps.config ∙ shows.config; performs = keeps.performs p shows.config carries shows.performs; is = ap (λ (y : Played). y.next) (sym by) } in
-      record {
-        step_told = refl;
-        tells = ap (λ (y : Played). y.told.0) (sym by);
-        shows = after;
-        follows = goes;
-        rests = rests_then left runs holds spot p c d x a stands shows still after goes_so;
-        turns = turns_then left runs holds spot p c d x a stands shows still after goes_so;
-      }
+      assumption (ap (λ (y : Played). y.told.0) (sym by), after, goes, rests_then left runs holds spot p c d x a stands shows still after goes_so, turns_then left runs holds spot p c d x a stands shows still after goes_so)
 
   pub applied : (p : Plan) (x : Playing) (c d : Core B) (a : Action) (e : Event) (o : Option B) → Stands c → Stands d → Shows left runs holds spot p c x → Keeps left runs holds spot name a o c d
       → Carries left runs holds spot name p a o → Takes left spot p c a e d → Applies left runs holds spot p x a (line_of a e) d

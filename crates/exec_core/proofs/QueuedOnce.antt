@@ -17,10 +17,7 @@ use Rattle.exec_core.specs.{declared.executor.Core.Core, Lift.{Stands, Shows, pl
 
 counted : (t : ℕ) (rs : List Runnable) → times t (map (λ r. r.task.0) rs) ≡ runnables_in t rs
 counted t [] = refl
-counted t (r ∷ rs) =
-    sum_by-cons (λ u. cond (u == t) 1 0) r.task.0 (map (λ q. q.task.0) rs)
-    ∙ ap (λ n. cond (r.task.0 == t) 1 0 + n) (counted t rs)
-    ∙ sym (sum_by-cons (λ q. cond (q.task.0 == t) 1 0) r rs)
+counted t (r ∷ rs) = grind (arith, sum_by-cons (λ u. cond (u == t) 1 0) r.task.0 (map (λ q. q.task.0) rs), counted t rs, sum_by-cons (λ q. cond (q.task.0 == t) 1 0) r rs)
 
 mapped_after : (xs ys : List Runnable) → map (λ r. r.task.0) xs ++ map (λ r. r.task.0) ys ≡ map (λ (r : Runnable). r.task.0) (xs ++ ys)
 mapped_after [] ys = refl

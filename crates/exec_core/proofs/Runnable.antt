@@ -10,8 +10,8 @@ use Rattle.exec_invariants.specs.Places.{is_number, one_if}
 use Rattle.exec_core.specs.Once.{IsOnce, QueuesOnce, polls_of, runnables_of, times}
 use Rattle.exec_rest.specs.{AtRest.{AreBare, AreFresh, IsBare, IsPlaced, IsShut, RestsWell, is_idle}, Rested.{IsPoolOpen, IsRestful, NothingWaits, is_in_pool, place_at}}
 use Rattle.exec_rest.specs.Posted.{IsPosted}
-use Rattle.exec_core.proofs.Balanced.{sum_none}
 use Rattle.exec_rest.proofs.{Fresh.{woken_by}, NoMail.{nothing_mailed}, Rest.{callers, down, nothing_waits}}
+use Rattle.exec_polling.proofs.MadePlaces.{none_summed}
 
 idle_polls : (p : Place) → is_idle p ≡ true → polls_at p ≡ None
 idle_polls = grind arith
@@ -35,7 +35,7 @@ module _ (c : Configuration) (x : Playing) (placed : IsPlaced c x) (held : IsRes
       subst Idles (get_or_from_slice_get x.desks i d (first_desk c i) there) (here, (placed.hands i here).0, (placed.hands i here).1)
 
   nobody_polls : (t : ℕ) → polls_of t x ≡ 0
-  nobody_polls t = sum_none (λ (d : Desk). one_if (is_number (polls_at d.place) t)) x.desks (λ i d there. rw (idle_polls d.place (desk_idles i d there).0) refl)
+  nobody_polls t = none_summed (λ (d : Desk). one_if (is_number (polls_at d.place) t)) x.desks (λ i d there. rw (idle_polls d.place (desk_idles i d there).0) refl)
 
   -- THE RUN QUEUES
 
@@ -53,9 +53,9 @@ module _ (c : Configuration) (x : Playing) (placed : IsPlaced c x) (held : IsRes
 
   no_runnables : IsPoolOpen c x → (t : ℕ) → runnables_of t x ≡ 0
   no_runnables going t =
-      let desks = sum_none (λ (d : Desk). times t (option_to_list d.hand ++ d.loot)) x.desks (λ i d there. rw ((desk_idles i d there).1, (desk_idles i d there).2) refl) in
-      let calls = sum_none (λ (d : CallDesk). times t (option_to_list d.hand)) x.callers (λ j d there. rw (caller_has_none j d there) refl) in
-      let queues = sum_none (λ (q : Queue ℕ). times t (q.values ++ q.held)) x.things.queues (λ i q there. rw ((queue_is_bare going i q there).0, (queue_is_bare going i q there).1) refl) in
+      let desks = none_summed (λ (d : Desk). times t (option_to_list d.hand ++ d.loot)) x.desks (λ i d there. rw ((desk_idles i d there).1, (desk_idles i d there).2) refl) in
+      let calls = none_summed (λ (d : CallDesk). times t (option_to_list d.hand)) x.callers (λ j d there. rw (caller_has_none j d there) refl) in
+      let queues = none_summed (λ (q : Queue ℕ). times t (q.values ++ q.held)) x.things.queues (λ i q there. rw ((queue_is_bare going i q there).0, (queue_is_bare going i q there).1) refl) in
       let global : times t x.things.global ≡ 0 = ap (times t) (waits going).global in
       omega (arith, desks, calls, queues, global)
 

@@ -1,5 +1,5 @@
 -- The executor begins as the machine does, and shows the first state of the moves.
-use Rattle.std.proofs.{Common.{◌≡◌, ℕ, zero, suc, ◌+◌, false, true, List, [], ◌∷◌, ◌++◌, length, map, replicate, Option, Some, refl, sym, ap, subst, ◌∙◌, arith, slice_get}, lemmas.List.length-map}
+use Rattle.std.proofs.{Common.{◌≡◌, ℕ, zero, suc, ◌+◌, false, true, List, [], ◌∷◌, length, map, replicate, Option, Some, refl, sym, ap, subst, ◌∙◌, arith, slice_get}, lemmas.List.length-map}
 use Rattle.exec_task.specs.declared.{body.Said.{Said, TheVariants.Start}, runnable.Runnable.Runnable}
 use Rattle.exec_driver.specs.Opens.{fresh_open}
 use Rattle.exec_machine.specs.{declared.{config.{Configuration.Configuration}, state.Call.TheVariants.Nothing as NoCall}, Progress.{Plan}, Run.{first_common, first_owns, first_tasks, first_world}, Tasks.{new_own, new_seat, new_task}, World.{Own, Task, no_open}}
@@ -7,7 +7,7 @@ use Rattle.exec_moves.specs.{Plays.{first_desk, first_desks, first_things, first
 use Rattle.exec_parts.specs.{declared.parts.{role.Role.TheVariants.Pool, seat.Seat.Seat as Chair, shared.Shared.Shared, task_slot.TaskSlot.TaskSlot, worker.Worker.Worker}, Dedicated.Begins, Records.{IsFreshSeat, numbers_held}, Spots.Spot, View.{gate_seen, numbers_of_passing, Visible, visible, own_of, desk_of, common_of, inbox_at, open_seen, polls_seen, queue_at, queue_seen, message_of, seat_seen, seats_seen, task_seen, things_with, word_at}}
 use Rattle.exec_polling.specs.{declared.caller.Caller.Caller, Calling.{call_of, desk_of_caller}}
 use Rattle.exec_invariants.specs.Acting.{Performs, PerformsAll}
-use Rattle.exec_parts.proofs.Facts.{same_thing}
+use Rattle.exec_parts.proofs.Facts.{same_Some}
 use Rattle.exec_polling.proofs.Begun.{desk_begun, fresh_visible, own_begun, visible_begun}
 use Rattle.exec_core.proofs.{Balanced.first_stands, Beginning.{free_caller, opens_begun}, Lifting.playing_by, Powers.{InRange, may_begin, shards_of}}
 use Rattle.exec_core.specs.{Firsts.{AllBegin, IsFirst, IsRoot}, Lift.{IsReady, IsPlanOf, Shows, code_of_root, playing, views}, declared.executor.Core.Core}
@@ -70,7 +70,7 @@ views_fresh : (c : Configuration) (ws : List Worker) → InRange c → ((i : ℕ
 views_fresh c [] range each i v there = absurd (cc)
 views_fresh c (w ∷ ws) range each zero v there =
     let it = each 0 w refl in
-    sym (same_thing (visible w) v there) ∙ visible_begun c (Pool it.0) it.0 it.0 it.1 0 w it.2 (may_begin c range)
+    sym (same_Some (visible w) v there) ∙ visible_begun c (Pool it.0) it.0 it.0 it.1 0 w it.2 (may_begin c range)
 views_fresh c (w ∷ ws) range each (suc i) v there = views_fresh c ws range (λ k x at. each (suc k) x at) i v there
 
 gates_none : (n : ℕ) → map (gate_seen []) (replicate n fresh_open) ≡ replicate n []
@@ -80,18 +80,6 @@ gates_none (suc n) = ap (λ xs. [] ∷ xs) (gates_none n)
 shards_seen : {A X : Type 0} (f : A → X) (n : ℕ) → map (map f) (replicate n []) ≡ replicate n []
 shards_seen f zero = refl
 shards_seen f (suc n) = ap (λ xs. [] ∷ xs) (shards_seen f n)
-
--- one more caller without a call
-pub one_more_free : (n : ℕ) → replicate n free_caller ++ free_caller ∷ [] ≡ replicate (n + 1) free_caller
-one_more_free n = (let same : suc n ≡ n + 1 = omega arith in by n ∙ ap (λ k. replicate k free_caller) same)
-  where
-    by : (k : ℕ) → replicate k free_caller ++ free_caller ∷ [] ≡ replicate (suc k) free_caller
-    by zero = refl
-    by (suc k) = ap (λ xs. free_caller ∷ xs) (by k)
-
-pub free_many : (n : ℕ) → length (replicate n free_caller) ≡ n
-free_many zero = refl
-free_many (suc n) = ap suc (free_many n)
 
 module _ {B L : Type 0} (left : B → L) (runs : L → Plan → Option ℕ → Type 0) (holds : L → Option Said → List ℕ) (spot : L → Option Said → Spot) where
   -- a root's slot is the machine's
@@ -106,8 +94,8 @@ module _ {B L : Type 0} (left : B → L) (runs : L → Plan → Option ℕ → T
       let begins = plan.each t it.0 it.1 in
       subst (Performs left runs holds p) (sym it.2.is)
       (record {
-        runs_it = λ b answer same told going. subst (λ x. runs (left x) p (Some t)) (same_thing it.0 b same) begins.runs_it;
-        holding = λ b answer same told going. rw told (subst (λ x. holds (left x) (Some Start) ≡ []) (same_thing it.0 b same) begins.holds_nothing ∙ sym (ap numbers_held it.2.held));
+        runs_it = λ b answer same told going. subst (λ x. runs (left x) p (Some t)) (same_Some it.0 b same) begins.runs_it;
+        holding = λ b answer same told going. rw told (subst (λ x. holds (left x) (Some Start) ≡ []) (same_Some it.0 b same) begins.holds_nothing ∙ sym (ap numbers_held it.2.held));
       })
 
   -- THE WHOLE
@@ -220,17 +208,8 @@ module _ {B L : Type 0} (left : B → L) (runs : L → Plan → Option ℕ → T
 
     pub first_shown : Shows left runs holds spot p core (first_playing p)
     first_shown =
-        record {
-          config = ap (λ (z : Shared B). z.config) first.bare.parts ∙ sym plan.config;
-          performs = performs_begun p c roots core.shared rs plan first;
-          is = playing_begun;
-        }
+        assumption (ap (λ (z : Shared B). z.config) first.bare.parts ∙ sym plan.config, performs_begun p c roots core.shared rs plan first, playing_begun)
 
     pub first_ready : core.spent ≡ false → IsReady left runs holds p core
     first_ready unspent =
-        record {
-          stands = first_stands c roots core rs range plan.many first begin_all callers;
-          unspent = unspent;
-          config = ap (λ (z : Shared B). z.config) first.bare.parts ∙ sym plan.config;
-          performs = performs_begun p c roots core.shared rs plan first;
-        }
+        assumption (first_stands c roots core rs range plan.many first begin_all callers, unspent, ap (λ (z : Shared B). z.config) first.bare.parts ∙ sym plan.config, performs_begun p c roots core.shared rs plan first)

@@ -19,17 +19,7 @@ stepped = grind arith
 
 pub first_steady : (p : Plan) → IsSteady p.config (first_playing p)
 first_steady p =
-    record {
-      restful = first_restful p;
-      bare = bare_first p;
-      posted = first_posted p;
-      shut = shut_first p;
-      fresh = fresh_first p;
-      booked = first_booked p;
-      settled = first_settled p;
-      permitted = first_permitted p;
-      awaited = first_awaited p;
-    }
+    assumption (first_restful p, bare_first p, first_posted p, shut_first p, fresh_first p, first_booked p, first_settled p, first_permitted p, first_awaited p)
 
 steady_then : (c : Configuration) (x : Playing) (a : Action) → IsPlaced c x → IsGiven c x → Follows c x.world a (by_step c x a).told.0.said (by_step c x a).told.1 → IsGiven c (by_step c x a).next
     → IsSteady c x → IsSteady c (by_step c x a).next

@@ -1,48 +1,35 @@
 -- A step that may want memory, by what came of it; and what a step that may be taken finds.
-use Rattle.std.proofs.{Common.{◌≡◌, ℕ, ◌+◌, ◌^◌, ◌<◌, ◌≤◌, ◌++◌, Bool, true, false, not, List, length, get_or, option_to_list, Result, Ok, Err, Option, None, Some, refl, sym, ap, subst, ◌∙◌, arith, slice_get, slice_set}, lemmas.{Bool.{false≢true, Decides.nat_tests}, List.length-set, Option.{slice_get_within, slice_get_past, slice_get-get_or}}}
+use Rattle.std.proofs.{Common.{◌≡◌, ℕ, ◌+◌, ◌^◌, ◌<◌, ◌++◌, true, false, not, List, length, get_or, option_to_list, Result, Ok, Err, Option, None, Some, refl, sym, ap, subst, ◌∙◌, arith, slice_get, slice_set}, lemmas.{Bool.{false≢true}, List.length-set, Option.{slice_get_within, slice_get_past, slice_get-get_or}}}
 use Rattle.std.specs.Prelude.{slice_index_or, nat_lt, is_err, IfOk, OnOk, OnErr}
+use Rattle.std.proofs.lemmas.Bool.{ltb-false, not-true}
+pub use Rattle.std.proofs.lemmas.Bool.{ltb-true}
 use Rattle.exec_outcomes.specs.{declared.outcome.{Kind.TheVariants.Direct, OpResult.OpResult}}
 use Rattle.exec_task.specs.declared.body.Said.{Said}
 use Rattle.exec_machine.specs.{declared.{event.Event.Event, step.Action.Action}, Progress.Plan, World.Common}
 use Rattle.exec_moves.specs.State.{Desk, WakePoll}
-use Rattle.exec_machine.specs.declared.event.Event.TheVariants as event
 use Rattle.exec_machine.specs.declared.step.Action.TheVariants as action
 use Rattle.exec_parts.specs.{declared.parts.{record.Record.Record, shared.Shared.Shared, worker.Worker.Worker}, MailPosts.HaveMailboxes, Phased.{IsGoing, TurnsChair}, Records.roused, Spots.Spot}
 use Rattle.exec_polling.specs.{declared.caller.Caller.Caller, Calling.{HasCallWhole, is_free}}
 use Rattle.exec_invariants.specs.{Acting.{PerformsAll, StepsWith}, Sound.Sound, Whole.{HasWhole, IsWhole, Profile}, Works.Same}
 use Rattle.exec_invariants.proofs.SparedRecord.{there_within}
 use Rattle.exec_steps.proofs.Together.{has_call_whole, has_whole, have_mailboxes}
-use Rattle.exec_core.proofs.{Applying.{asleep_there, begun_there, going_there, landing_there, owner_there, peer_came, worker_there, working_there}, CoreCalls.{call_stands, spawn_called}, Enabling.enabled_as, Lifting.{as_before, lifted, stands_again, stands_by, stands_worked}}
+use Rattle.exec_core.proofs.{Applying.{asleep_there, begun_there, going_there, landing_there, owner_there, worker_there, working_there}, CoreCalls.{call_stands, spawn_called}, Enabling.enabled_as, Lifting.{as_before, lifted, stands_again, stands_by, stands_worked}}
 use Rattle.exec_core.specs.{Lift.{Calls, IsAsBefore, Keeps, Rings, Sees, Stands, Takes, WorkerStays, WorkerSteps, has_begun, may_call_in, may_go_on_in, may_take}, declared.executor.Core.Core}
-
-pub less_there : (a b : ℕ) → nat_lt a b ≡ true → a < b
-less_there a b h = grind (arith, nat_tests)
 
 -- what a list has in a place, and that it has nothing there
 pub item_there : {X : Type 0} (xs : List X) (i : ℕ) (x : X) → true ≡ nat_lt i (length xs) → x ≡ slice_index_or xs i x → slice_get xs i ≡ Some x
-item_there xs i x within is = slice_get-get_or xs i x (less_there i (length xs) (sym within)) ∙ ap (λ y. Some y) (sym is)
-
-not_less : (a b : ℕ) → nat_lt a b ≡ false → b ≤ a
-not_less a b h = grind (arith, nat_tests)
+item_there xs i x within is = slice_get-get_or xs i x (ltb-true i (length xs) (sym within)) ∙ ap (λ y. Some y) (sym is)
 
 pub item_missing : {X : Type 0} (xs : List X) (i : ℕ) → false ≡ nat_lt i (length xs) → slice_get xs i ≡ None
-item_missing xs i past = slice_get_past xs i (not_less i (length xs) (sym past))
+item_missing xs i past = slice_get_past xs i (ltb-false i (length xs) (sym past))
 
 pub on_err : {T E : Type 0} (r : Result T E) (P : Type 0) → P → OnErr r P
 on_err (Ok x) P holds = tt
 on_err (Err x) P holds = holds
 
-pub on_err_never : {T E : Type 0} (r : Result T E) (P Q : Type 0) → (P → ⊥) → OnErr r P → OnErr r Q
-on_err_never (Ok x) P Q never holds = tt
-on_err_never (Err x) P Q never holds = absurd (never holds)
-
 pub none_by : {X : Type 0} (o : Option X) → ((x : X) → o ≡ Some x → ⊥) → o ≡ None
 none_by None never = refl
 none_by (Some x) never = absurd (never x refl)
-
-pub spent_by : {T E : Type 0} (r : Result T E) (b : Bool) → b ≡ is_err r → OnErr r (b ≡ true)
-spent_by (Ok x) b is = tt
-spent_by (Err x) b is = is
 
 -- the worker, or the caller, that was read off the list
 pub read_there : {X : Type 0} (xs : List X) (i : ℕ) (x : X) → i < length xs → x ≡ get_or xs i x → slice_get xs i ≡ Some x
@@ -53,10 +40,6 @@ read_in xs ys i x same within is = read_there xs i x within (is ∙ ap (λ zs. g
 
 free_within : (cs : List Caller) (j : ℕ) → may_call_in (slice_get cs j) ≡ true → j < length cs
 free_within = grind (arith, false≢true, slice_get_within)
-
-not_free : (b : Bool) → not b ≡ true → b ≡ false
-not_free true h = absurd (false≢true h)
-not_free false h = refl
 
 module _ {B L : Type 0} (left : B → L) (runs : L → Plan → Option ℕ → Type 0) (holds : L → Option Said → List ℕ) (spot : L → Option Said → Spot) where
   -- where no task changes
@@ -79,29 +62,10 @@ module _ {B L E : Type 0} (left : B → L) (runs : L → Plan → Option ℕ →
   work_steps i c d w w' born (Ok e) was workers callers spent unspent steps = record { before = w; after = w'; born = born; was = was; workers = workers; callers = callers; spent = spent ∙ sym unspent; steps = steps }
   work_steps i c d w w' born (Err x) was workers callers spent unspent steps = tt
 
-  pub peer_applied : (l : ℕ) (c d : Core B) (result : Result Event E) → Stands c → may_take c (action.Peer l) ≡ true → d.workers ≡ c.workers → d.callers ≡ c.callers → IfOk result (λ e. e ≡ event.Peer)
-      → OnOk result (d.shared.listeners.items ≡ slice_set c.shared.listeners.items l (slice_index_or c.shared.listeners.items l 0 + 1)) → d.shared ≡ record c.shared { listeners = d.shared.listeners }
-      → IfOk result (λ e. (p : Plan) → c.shared.config ≡ p.config → PerformsAll left runs holds p c.shared → Takes left spot p c (action.Peer l) e d)
-  peer_applied l c d (Ok e) stands may workers callers is more kept = λ p config performs. rw is (peer_came left spot p c d l stands may workers callers more kept)
-  peer_applied l c d (Err x) stands may workers callers is more kept = tt
-
-  module _ (name : L → ℕ) where
-    pub worked_keeps : (i : ℕ) (o : Option B) (c d : Core B) (result : Result Event E) → IfOk result (λ e. WorkerSteps left runs holds spot i c e d) → OnOk result (Keeps left runs holds spot name (action.Work i) o c d)
-    worked_keeps i o c d (Ok e) steps = record { config = steps.steps.2.config; performs = λ p is carries fits. steps.steps.2.performs p is fits }
-    worked_keeps i o c d (Err x) steps = tt
-
-    pub peer_keeps : (l : ℕ) (o : Option B) (c d : Core B) (result : Result Event E) → d.shared ≡ record c.shared { listeners = d.shared.listeners } → OnOk result (Keeps left runs holds spot name (action.Peer l) o c d)
-    peer_keeps l o c d (Ok e) kept = keeps_tasks left runs holds spot name (action.Peer l) o c d (ap (λ x. x.config) kept) (ap (λ x. x.tasks) kept)
-    peer_keeps l o c d (Err x) kept = tt
-
 module _ {B L E : Type 0} (left : B → L) (spot : L → Option Said → Spot) where
   pub worked_same : (i : ℕ) (c d : Core B) (result : Result Event E) → OnErr result (WorkerStays left spot i c d) → OnErr result (IsAsBefore left spot c d)
   worked_same i c d (Ok e) stays = tt
   worked_same i c d (Err x) stays = as_before left spot i c d stays
-
-  pub peer_same : (c d : Core B) (result : Result Event E) → d.workers ≡ c.workers → d.callers ≡ c.callers → OnErr result (d.shared ≡ c.shared) → OnErr result (IsAsBefore left spot c d)
-  peer_same c d (Ok e) workers callers same = tt
-  peer_same c d (Err x) workers callers same = λ p. rw (workers, callers, same) refl
 
   pub peer_stands : (c d : Core B) (result : Result Event E) → Stands c → d.workers ≡ c.workers → d.callers ≡ c.callers → OnOk result (d.spent ≡ false) → d.shared ≡ record c.shared { listeners = d.shared.listeners } → ((w : Worker) → Sound w c.shared → Sound w d.shared)
       → ((x : Profile) → IsWhole x c.shared → IsWhole x d.shared) → OnOk result (Stands d × (d.spent ≡ false))
@@ -125,9 +89,6 @@ module _ {B : Type 0} where
 
   pub whole_there : (c : Core B) (i : ℕ) (w : Worker) → Stands c → slice_get c.workers.items i ≡ Some w → HasWhole w c.shared
   whole_there c i w stands there = has_whole c.workers.items c.callers.items c.shared stands.together i w there
-
-  pub stirs_within : (c : Core B) (i : ℕ) → may_take c (action.Stir i) ≡ true → i < length c.shared.seats.items
-  stirs_within = grind (arith, asleep_there, slice_get_within)
 
   pub chair_many : (c : Core B) (t : Shared B) (i : ℕ) → may_take c (action.Stir i) ≡ true → TurnsChair i roused c.shared t → length t.seats.items ≡ length c.shared.seats.items
   chair_many c t i may turns =
@@ -161,7 +122,7 @@ module _ {B : Type 0} where
   free_there c j x may there = subst (λ o. may_call_in o ≡ true) there may
 
   pub calling_there : (c : Core B) (j : ℕ) (x : Caller) → may_go_on_in (slice_get c.callers.items j) ≡ true → slice_get c.callers.items j ≡ Some x → is_free x.place ≡ false
-  calling_there c j x may there = not_free (is_free x.place) (subst (λ o. may_go_on_in o ≡ true) there may)
+  calling_there c j x may there = not-true (is_free x.place) (subst (λ o. may_go_on_in o ≡ true) there may)
 
   pub call_whole : (c : Core B) (j : ℕ) (x : Caller) → Stands c → slice_get c.callers.items j ≡ Some x → HasCallWhole x c.shared
   call_whole c j x stands there =

@@ -10,7 +10,7 @@ use Rattle.exec_moves.specs.declared.handing.InGlobal.TheVariants as global
 use Rattle.exec_moves.specs.declared.handing.InSignal.TheVariants as signals
 use Rattle.exec_credit.specs.CallCredit.{call_credit, claim_credit, look_credit}
 
-same_self : (xs : List Bool) → same_bools xs xs ≡ true
+pub same_self : (xs : List Bool) → same_bools xs xs ≡ true
 same_self [] = refl
 same_self (true ∷ xs) = same_self xs
 same_self (false ∷ xs) = same_self xs

@@ -1,6 +1,6 @@
 -- Where something is due, something is due first.
 use Rattle.std.proofs.Common.{◌≡◌, ℕ, zero, suc, ◌+◌, ◌<◌, ◌≤◌, ◌==◌, ◌&&◌, ◌||◌, Bool, true, false, not, List, [], ◌∷◌, length, get_or, if◌then◌else◌, Option, Some, None, ◌∙◌, refl, sym, ap, subst, arith, inl, inr}
-use Rattle.std.proofs.lemmas.Bool.{true≢false, false≢true, or_cases, or_parts, or_from, eq-eqb, and_from, and_parts, or_right, or_left, ltb-false, lt-leb, le-leb, leb-true, leb-false, eqb-true}
+use Rattle.std.proofs.lemmas.Bool.{true≢false, false≢true, or_cases, or_parts, or_from, eq-eqb, and_from, and_parts, or_right, or_left, ltb-false, lt-leb, le-leb, leb-true, leb-false, eqb-true, not-true}
 use Rattle.std.specs.Prelude.{nat_le, nat_lt}
 use Rattle.std.specs.List.{list_any}
 use Rattle.exec_machine.specs.{declared.{config.Configuration.Configuration, state.{Request.Request, Sleeper.Sleeper}}, Deadlines.{is_due, is_first_due, is_none_earlier, is_told_after, order_on_wheel}, Tests.{all_numbered, is_asleep, is_open}, World.{Own as Books, Common, no_request, no_sleeper, seat_of, sleeper_of}}
@@ -54,10 +54,6 @@ data Search {X : Type 0} (passes : X → Bool) (order : X → ℕ) (n : ℕ) (xs
   Nothing : ((k : ℕ) → k < length xs → passes (get_or xs k d) ≡ false) → Search passes order n xs d
   Least : (k : ℕ) → k < length xs → passes (get_or xs k d) ≡ true → IsBefore passes order (n + k) (order (get_or xs k d)) n xs → Search passes order n xs d
 
-none_of : (b : Bool) → not b ≡ true → b ≡ false
-none_of true h = absurd (false≢true h)
-none_of false h = refl
-
 module _ {X : Type 0} (passes : X → Bool) (order : X → ℕ) (d : X) where
   before_head : (n : ℕ) (x : X) → (not (passes x) || not (comes (order x) n (order x) (n + 0))) ≡ true
   before_head n x = or_right (not (passes x)) (not (comes (order x) n (order x) (n + 0))) (ap not (comes_no (order x) n (order x) (n + 0) (omega arith) (λ h. omega arith)))
@@ -72,7 +68,7 @@ module _ {X : Type 0} (passes : X → Bool) (order : X → ℕ) (d : X) where
       weaker j z later h = elim (or_cases (not (passes z)) (not (comes (order z) j p (suc n + k))) h) [
         | inl fails ↦ or_left (not (passes z)) (not (comes (order z) j (order x) (n + 0))) fails
         | inr behind ↦
-            let it = no_comes (order z) j p (suc n + k) (none_of (comes (order z) j p (suc n + k)) behind) in
+            let it = no_comes (order z) j p (suc n + k) (not-true (comes (order z) j p (suc n + k)) behind) in
             or_right (not (passes z)) (not (comes (order z) j (order x) (n + 0))) (ap not (comes_no (order z) j (order x) (n + 0) (omega (arith, le, it.0)) (λ same. omega (arith, later))))
       ]
 
@@ -156,8 +152,8 @@ sleepers i me s d beds open_still none = by (search_first (λ z. is_asleep i z &
     later : (until : ℕ) → until ≤ me.sampled → (z : Sleeper) (b : Bool) → is_asleep i z ≡ b → (not (b && nat_le z.until me.sampled) || not (nat_lt z.until until)) ≡ true → (not b || nat_le until z.until) ≡ true
     later until le z false h k = refl
     later until le z true h k = elim (or_cases (not (nat_le z.until me.sampled)) (not (nat_lt z.until until)) k) [
-      | inl far ↦ le-leb until z.until (omega (arith, le, leb-false z.until me.sampled (none_of (nat_le z.until me.sampled) far)))
-      | inr behind ↦ le-leb until z.until (omega (arith, ltb-false z.until until (none_of (nat_lt z.until until) behind)))
+      | inl far ↦ le-leb until z.until (omega (arith, le, leb-false z.until me.sampled (not-true (nat_le z.until me.sampled) far)))
+      | inr behind ↦ le-leb until z.until (omega (arith, ltb-false z.until until (not-true (nat_lt z.until until) behind)))
     ]
 
     none_earlier : (until k n : ℕ) → until ≤ me.sampled → (zs : List Sleeper) → IsBefore passes (λ (z : Sleeper). z.until) k until n zs → is_none_earlier i until zs ≡ true

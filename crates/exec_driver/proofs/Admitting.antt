@@ -1,13 +1,13 @@
 -- The room that an admission makes, and gives up again.
-use Rattle.std.proofs.Common.{◌≡◌, ℕ, ◌+◌, ◌*◌, ◌<◌, ◌≤◌, Bool, true, false, List, [], ◌∷◌, length, Option, Some, None, Result, Ok, Err, refl, sym, ap, arith}
+use Rattle.std.proofs.Common.{◌≡◌, ℕ, ◌+◌, ◌*◌, ◌≤◌, Bool, true, false, List, [], ◌∷◌, length, Option, Some, None, Result, Ok, Err, refl, sym, ap, arith}
 use Rattle.exec_driver.proofs.{Counting.{flying_few, pending_is}, Shifts.few}
 use Rattle.std.specs.Prelude.{is_some, is_err, count_by, IsSomeAnd, OnOk, OnErr}
 use Rattle.std.proofs.lemmas.Bool.{false≢true}
 use Rattle.std.proofs.lemmas.List.Sums.{sum_by-cons}
-use Rattle.exec_base.specs.{Slab.{Slab, next_id}, declared.slab.{Id.Id, Slot.{Slot}}}
+use Rattle.exec_base.specs.{Slab.{Slab}, declared.slab.{Slot.{Slot}}}
 use Rattle.exec_ring.specs.{Kernels.Landing, Rings.{RingState, taken_places, fresh as fresh_ring}}
 use Rattle.exec_time.specs.Wheel.{Wheel, fresh}
-use Rattle.exec_waiters.specs.{States.{pending_count, is_full}, declared.waiter.Entry.{Entry}}
+use Rattle.exec_waiters.specs.{States.{pending_count}, declared.waiter.Entry.{Entry}}
 use Rattle.exec_waiters.proofs.Changes.{one_if}
 use Rattle.exec_driver.specs.{Driving.{Driving, is_cancelled}, Lists.no_lists, Sound.{IsSound, IsHeld, is_uncancelled, counts, count_of}}
 
@@ -64,8 +64,3 @@ pub record IsUnused (w : Wheel) : Type 0 where
 pub unused : (slots : Option ℕ) (w : Wheel) (horizon tick now : ℕ) → IsSomeAnd slots (λ n. w ≡ fresh horizon tick now n) → IsUnused w
 unused (Some n) w horizon tick now is = record { drained = ap (λ (v : Wheel). v.ready) is; idle = λ t. ap (λ (v : Wheel). v.active t) is }
 unused None w horizon tick now is = absurd (is)
-
-module _ {S F : Type 0} where
-  -- who comes into a slab that isn't full has an index below the last
-  pub small_slot : (s : Slab (Entry S F)) (id : Id) → next_id s ≡ Some id → is_full s ≡ false → id.index < 4294967295
-  small_slot = grind arith

@@ -1,5 +1,5 @@
 -- A request that comes in: it is in no list yet, then in those of its place, and there is room for it in each.
-use Rattle.std.proofs.Common.{◌≡◌, ◌↔◌, ℕ, ◌+◌, ◌^◌, ◌<◌, ◌≤◌, Bool, true, false, cond, List, [], length, Option, Some, None, refl, sym, ap, ◌∙◌, subst, inr, arith, length-set, length-append}
+use Rattle.std.proofs.Common.{◌≡◌, ◌↔◌, ℕ, ◌+◌, ◌^◌, ◌<◌, ◌≤◌, Bool, true, false, cond, List, length, Option, Some, None, refl, sym, ap, ◌∙◌, subst, inr, arith, length-set, length-append}
 use Rattle.exec_driver.proofs.{Counting.{OneChanged, pending_is, flying_is}, Shifts.{Shift, Kept, shifted, nowhere, few}}
 use Rattle.std.specs.Prelude.{is_some, count_by}
 use Rattle.std.proofs.lemmas.List.Sums.{sum_by-set, sum_by_push}
@@ -159,9 +159,6 @@ module _ {S F : Type 0} where
   pub placed_over : (d d' new : Driving S F) (id : WaiterId) (request : Request) (observer : Observer S F) (now : ℕ) → d' ≡ with_rooms d' d → new ≡ with_rooms new (placed_at (taken_in d' request observer) id (newcomer request observer) now) → new ≡ with_rooms new (placed_at (taken_in d request observer) id (newcomer request observer) now)
   placed_over d d' new id request observer now same placed =
       placed ∙ subst (λ (m : Driving S F). with_rooms new (placed_at (taken_in m request observer) id (newcomer request observer) now) ≡ with_rooms new (placed_at (taken_in d request observer) id (newcomer request observer) now)) (sym same) (placed_apart new d' d id request observer now)
-
-  pub rooms_over : (a b c : Driving S F) → b ≡ with_rooms b a → c ≡ with_rooms c b → c ≡ with_rooms c a
-  rooms_over a b c one other = other ∙ ap (with_rooms c) one
 
   pub placed_is : (d : Driving S F) (id : WaiterId) (deadline gate : Option ℕ) → in_place (with_deadline d id deadline) id gate ≡ record d { lists = put id (is_some deadline) (is_some gate) d.lists }
   placed_is = grind arith

@@ -7,7 +7,7 @@ use Rattle.exec_time.specs.{Wheel.{IsSettled, IsWithinReach, slot_of}, Turning.a
 use Rattle.exec_time.proofs.Passes.{never_early, then_out, tick_ahead}
 use Rattle.exec_driver.specs.Punctual.{IsPunctual}
 
-is_itself : (id : WaiterId) → is_same id id ≡ true
+pub is_itself : (id : WaiterId) → is_same id id ≡ true
 is_itself id = elim (same_tells id id) [ inl same ↦ same.0 | inr other ↦ absurd (other.1 refl) ]
 
 -- who was due stays so, and who joins is

@@ -5,7 +5,7 @@ use Rattle.std.proofs.lemmas.List.Edits.{length-remove}
 use Rattle.std.proofs.lemmas.Option.{slice_get_within}
 use Rattle.exec_driver.proofs.Words.{cond_both, false≢true, OpResult, wake_completion, Landing, landed, may_land, reaped, next_completion, flight_of, RingState, taken_places, Completion, Submission, is_control}
 use Rattle.exec_request.specs.declared.window.Opcode.{Opcode}
-use Rattle.exec_ring.specs.{Kernels.{woken, with_wake, with_poll, taken_as, taken_in, all_taken, all_landed, MayAllLand, entered_with}}
+use Rattle.exec_ring.specs.{Kernels.{woken, with_poll, taken_as, taken_in, all_taken, all_landed, MayAllLand, entered_with}}
 
 -- a ring has at most so many entries more, and is the same ring
 pub record Within (s s' : RingState) (more : ℕ) : Type 0 where
@@ -18,9 +18,6 @@ after_both s t u m n first second = record { taken = omega (arith, first.taken, 
 
 woken_within : (s : RingState) → s.armed ≡ true → Within s (woken s) 0
 woken_within = grind (arith, cond_both, length-append, wake_completion)
-
-pub wake_within : (s : RingState) → Within s (with_wake s) 0
-wake_within s = cond_both s.armed _ _ (λ (t : RingState). Within s t 0) (woken_within s) (λ free. record { taken = omega arith; places = refl; size = refl })
 
 poll_within : (s : RingState) → Within s (with_poll s) 1
 poll_within s =

@@ -1,6 +1,6 @@
 -- Who is taken out of what is due, or of what is to be enrolled, leaves a driver as it should be.
-use Rattle.std.proofs.Common.{◌≡◌, ◌<◌, ◌≤◌, ◌+◌, ◌^◌, true, Ok, ℕ, Bool, List, [], ◌∷◌, length, Option, Some, None, refl, arith}
-use Rattle.exec_driver.proofs.{Words.{false≢true, Slab, Wheel, target_of, moment_of, waiter_at, Waiter, Entry, WaiterId, Driving, is_unenrolled, is_enrolled, first_of, rest_of, after_due, IsListed, IsHeld, tick_for, and_parts}, Granting.{IsUnset, unset_tells}, Stepping.first_in, Timing.target_tells}
+use Rattle.std.proofs.Common.{◌≡◌, ◌<◌, ◌≤◌, ◌+◌, ◌^◌, true, Ok, ℕ, List, [], ◌∷◌, length, Option, Some, None, refl, arith}
+use Rattle.exec_driver.proofs.{Words.{false≢true, Slab, Wheel, target_of, moment_of, waiter_at, Waiter, Entry, WaiterId, Driving, is_unenrolled, is_enrolled, first_of, IsListed, IsHeld, tick_for}, Granting.{IsUnset, unset_tells}, Stepping.first_in, Timing.target_tells}
 use Rattle.exec_driver.specs.Steps.{tick_by}
 
 by_target : (w : Wheel) (o : Option (Option ℕ)) (tick : ℕ) → tick_by w o ≡ Ok tick → (o ≡ Some (Some tick)) × (moment_of w tick < 2 ^ 64)
@@ -19,17 +19,9 @@ some_first [] id is = absurd (cc)
 some_first (x ∷ ids) id is = omega arith
 
 module _ {S F : Type 0} where
-  rest_listed : (place : Option (Waiter S F) → Bool) (s : Slab (Entry S F)) (ids : List WaiterId) → IsListed place s ids → IsListed place s (rest_of ids)
-  rest_listed place s [] listed = listed
-  rest_listed place s (x ∷ ids) listed = record { all = (and_parts _ _ listed.all).1; once = (and_parts _ _ listed.once).1 }
-
   -- a change of what is due, and of the wheel but for what is active in it
   pub held_due : (d : Driving S F) (w : Wheel) (due : List WaiterId) (room room' most spots : ℕ) → ((t : ℕ) → w.active t ≡ d.wheel.active t) → w.ready ≡ [] → IsListed is_enrolled d.requests due → room ≤ room' → IsHeld d room most spots → IsHeld (record d { wheel = w; lists = record d.lists { due = due } }) room' most spots
   held_due = grind arith
-
-  pub held_undue : (d : Driving S F) (room most spots : ℕ) → IsHeld d room most spots → IsHeld (record d { lists = after_due d.lists }) room most spots
-  held_undue d room most spots held =
-      held_due d d.wheel (rest_of d.lists.due) room room most spots (λ t. refl) held.sound.drained (rest_listed _ _ _ held.sound.due) (omega arith) held
 
   -- the first whose deadline is to be enrolled is there
   pub record IsUnsetThere (o : Option (Waiter S F)) : Type 0 where

@@ -13,7 +13,7 @@ ready_scheduled : (w : Wheel) (id : Id) (tick : ℕ) → (scheduled w id tick).r
 unfolding scheduled
 ready_scheduled w id tick = refl
 
-permit_there : (b : Bool) → (b && not true) ≡ false
+pub permit_there : (b : Bool) → (b && not true) ≡ false
 permit_there true = refl
 permit_there false = refl
 

@@ -29,9 +29,6 @@ place_made opens opens' gate changed named is (inr none) = rw none tt
 
 module _ {S F : Type 0} where
   -- who has no requests, and a change of neither requests, wheel nor what is due
-  pub fresh_punctual : (d : Driving S F) → d.requests.slots ≡ [] → IsPunctual d
-  fresh_punctual d none =
-      record { ahead = λ id t is out. let no : None ≡ Some t = rw none at is in absurd (cc) }
 
   pub rooms_punctual : (d d' : Driving S F) → d' ≡ with_rooms d' d → IsPunctual d → IsPunctual d'
   rooms_punctual = grind arith

@@ -1,5 +1,5 @@
 -- An operation that ends in a ring in memory keeps a driver as it should be.
-use Rattle.std.proofs.Common.{◌≡◌, ℕ, Bool, true, not, ◌&&◌, cond, Some, Result, Ok, Err, refl, ap, inl, inr, arith}
+use Rattle.std.proofs.Common.{◌≡◌, ℕ, Bool, true, not, ◌&&◌, cond, Some, Result, Ok, Err, refl, ap, inl, inr}
 use Rattle.std.specs.Prelude.{OnOk, OnErr}
 use Rattle.exec_driver.proofs.{Words.{Slab, written, is_durable, Asked, OpResult, asked_of, Request, landed, may_land, flight_of, RingState, is_flying, needs_permit, Waiter, Entry, Pending, WaiterId, Driving, request_at, IsHeld, cases_Bool}, Endings.{one_changed, flying_there}, Entering.landed_within, Keeping.punctual_one, Observing.held_alike, Stepping.held_ring}
 use Rattle.exec_ring.specs.declared.{landing.Unlawful.Unlawful, store.Store.Store}

@@ -14,7 +14,6 @@ pub mod Timing
 pub mod Sweeping
 pub mod Telling
 pub mod Expiring
-pub mod Gates
 pub mod Storing
 pub mod Lines
 pub mod Arriving

@@ -1,5 +1,5 @@
 -- Why the laws hold.
-use Rattle.std.proofs.Common.{◌≡◌, ℕ, Bool, true, false, not, ◌&&◌, List, Option, Some, None, Ok, Err, refl, sym, ap, subst, arith}
+use Rattle.std.proofs.Common.{◌≡◌, ℕ, Bool, true, false, List, Option, Some, None, Ok, Err, refl, sym, ap, subst, arith}
 use Rattle.exec_base.specs.{declared.{error.Error.Error, slab.Id.Id}, Slab.Slab}
 use Rattle.exec_outcomes.specs.{Accounts.{Account, is_durable, outcome_at_grant}, declared.outcome.{Kind.Kind, OpResult.OpResult, Outcome.TheVariants.Failure}}
 use Rattle.exec_outcomes.specs.declared.outcome.Kind.TheVariants as kind
@@ -7,11 +7,7 @@ use Rattle.exec_request.specs.{Requests.{asked_of, deadline_of, goes_on_alone, o
 use Rattle.exec_waiters.specs.{Events.{ending_of, cancelled}, declared.{waiter.{Waiter.Waiter, Entry.Entry}, waiter_id.WaiterId.WaiterId}}
 use Rattle.exec_waiters.proofs.Changes.{entry_of}
 use Rattle.exec_driver.specs.{Driving.{Driving, request_at}, Laws.{ShareGates, IsDurableFlight, GoesOnFlying, is_listed}, Lists.{Lists, withdrawn}, Opens.{OpenState, holder_at}, Steps.{let_go, without_observer, cancelled_at, cancelling, lawful_of}, declared.opens.WaiterKey.WaiterKey}
-use Rattle.exec_driver.proofs.{Endings.one_changed, Granting.same_some, Names.among_without, Turns.if_tells}
-
-never : (b : Bool) → (b && not true) ≡ false
-never true = refl
-never false = refl
+use Rattle.exec_driver.proofs.{Endings.one_changed, Granting.{same_some, permit_there}, Names.among_without, Turns.if_tells}
 
 pub untimed : (r : Request) → goes_on_alone r ≡ true → deadline_of r ≡ None
 untimed = grind arith
@@ -33,7 +29,7 @@ module _ {S F : Type 0} where
       same_some (holder_at opens file) a b first second
 
   pub goes_on : (d : Driving S F) (id : WaiterId) (w : Waiter S F) → request_at d id ≡ Some w → goes_on_alone w.request ≡ true → let_go d id ≡ without_observer d id
-  goes_on d id w at alone = rw (entry_of _ w at, alone, never _) refl
+  goes_on d id w at alone = rw (entry_of _ w at, alone, permit_there _) refl
 
   pub flying_on : (d : Driving S F) (id : WaiterId) (w : Waiter S F) → request_at d id ≡ Some w → w.in_flight ≡ true → GoesOnFlying (cancelled_at d id) id w
   flying_on d id w at flies = by (asks_cancel w.state) refl

@@ -5,7 +5,7 @@ use Rattle.std.specs.Option.{IfSome, IfNone, SomeIff}
 use Rattle.std.proofs.lemmas.Bool.{false≢true}
 use Rattle.exec_time.specs.Turning.{advanced}
 use Rattle.exec_waiters.specs.{States.file_of, Told.Tells, declared.{deferred.Deferred.Deferred, waiter.Waiter.Waiter, waiter_id.WaiterId.WaiterId}}
-use Rattle.exec_driver.specs.{Driving.{Driving, request_at, is_full, may_stage_one, has_pending}, Examples.idle, Lists.{has_first, first_of}, Opens.{OpenState, account_in, holder_at}, Sharing.permit_by, Service.{Repeats, NoStep, OneMore, Passes, permit_of, reached, ReapsOne, ExpiresOne, EnrolsOne, GrantsAt, Turn, NoTurn, StagesEntry, Cancel, Request, WakePoll, Staged, Parks, Refused, Waited, NoGate, ServesInOrder, entered_if}, Steps.{ReapsNext, Grants, Enrols, StagesOne, is_turn_of, expired, told_by_cancel, cancel_staged, poll_staged, with_landings}, declared.driver.{reaping.Reaped.Reaped, staging.Granted.Granted, timing.Enrolled.Enrolled}, Turns.{made_way, may_wait}}
+use Rattle.exec_driver.specs.{Driving.{Driving, request_at, is_full, may_stage_one, has_pending}, Examples.idle, Lists.{has_first, first_of}, Opens.{OpenState, account_in, holder_at}, Sharing.permit_by, Service.{Repeats, NoStep, OneMore, Passes, reached, ExpiresOne, EnrolsOne, GrantsAt, Turn, NoTurn, StagesEntry, Cancel, Request, WakePoll, Staged, Parks, Refused, Waited, NoGate, ServesInOrder, entered_if}, Steps.{Grants, Enrols, StagesOne, is_turn_of, expired, told_by_cancel, cancel_staged, poll_staged, with_landings}, declared.driver.{staging.Granted.Granted, timing.Enrolled.Enrolled}, Turns.{made_way, may_wait}}
 use Rattle.exec_driver.proofs.{Turns.{no_first, none_staged, way_may}, Words.{cases_Bool, and_parts, and_from}}
 
 module _ {A : Type 0} (Step : A → A → Type 0) where
@@ -30,9 +30,6 @@ permit_granted file None = None
 permit_granted file (Some g) = permit_by file g
 
 module _ {S F : Type 0} where
-  pub reaps_passed : (d d' : Driving S F) (opens mid opens' : List OpenState) (x y : Deferred S F) (s s' : Option (List ℕ)) (o : Option Reaped) (p : Option ℕ) → permit_of o ≡ p → ReapsNext d d' opens mid x y o → Passes p mid opens' s s' → ReapsOne (reached d opens x s) (reached d' opens' y s')
-  reaps_passed d d' opens mid opens' x y s s' o p is reaps passes = record { answer = o; opens = mid; reaps = reaps; passes = rw is passes }
-
   pub grants_passed : (worker file : ℕ) (d d' : Driving S F) (opens mid opens' : List OpenState) (x y : Deferred S F) (s s' : Option (List ℕ)) (o : Option Granted) (p : Option ℕ) → permit_granted file o ≡ p → IfSome o (λ g. Grants d d' opens mid x y worker file g) → IfNone o (is_turn_of worker d.lists (holder_at opens file) ≡ false) → IfNone o ((d' ≡ d) × (mid ≡ opens) × (y ≡ x)) → Passes p mid opens' s s' → GrantsAt worker file (reached d opens x s) (reached d' opens' y s')
   grants_passed worker file d d' opens mid opens' x y s s' None None is some none same passes = NoTurn none (rw (same.0, same.2, passes.0, passes.1, same.1) refl)
   grants_passed worker file d d' opens mid opens' x y s s' None (Some p) is some none same passes = absurd (cc)

@@ -34,10 +34,6 @@ pub in_other_slot : (slot : ℕ) (id : WaiterId) (ids : List WaiterId) → (id.0
 in_other_slot slot id [] other = refl
 in_other_slot slot id (x ∷ xs) other = grind (arith, common_steps, other, in_other_slot slot id xs other)
 
-pub length_without : (id : WaiterId) (ids : List WaiterId) → length (without id ids) ≤ length ids
-length_without id [] = omega arith
-length_without id (x ∷ xs) = grind (arith, common_steps, length_without id xs)
-
 -- what was counted of a slot, as it was read
 pub read_count : (ids : List WaiterId) (counts : List ℕ) (slot n : ℕ) → AreCounted ids counts → slot < length counts → n ≡ get_or counts slot n → n ≡ in_slot slot ids
 read_count ids counts slot n counted within is = is ∙ get_or_default counts slot n 0 within ∙ counted slot within

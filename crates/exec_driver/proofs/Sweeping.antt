@@ -1,14 +1,11 @@
 -- Completions of no operation are swept away one after the other.
-use Rattle.std.proofs.Common.{◌≡◌, ℕ, ltb, ◌-◌, Bool, true, false, ◌&&◌, cond, List, [], ◌∷◌, Option, Some, None, refl, sym, ap, ◌∙◌, arith}
+use Rattle.std.proofs.Common.{◌≡◌, ℕ, ltb, ◌-◌, Bool, true, false, cond, List, [], ◌∷◌, Option, Some, None, refl, sym, ap, ◌∙◌, arith}
+use Rattle.std.proofs.Math.Bool.{and-true}
 use Rattle.exec_driver.proofs.Words.{false≢true, ltb-false, Landing, next_in, next_completion, wake_completion, Completion, Posted, Driving, is_control, noted, taken_out, cases_Bool}
 use Rattle.exec_driver.specs.{Steps.{is_next_control, swept_from, swept, after_next_control}}
 
 pub none_left : (w : ℕ) → ltb 0 w ≡ false → w ≡ 0
 none_left w is = let no = ltb-false 0 w is in omega (arith, no)
-
-and_true : (b : Bool) → (b && true) ≡ b
-and_true true = refl
-and_true false = refl
 
 module _ {S F : Type 0} where
   -- the driver with these completions
@@ -27,11 +24,11 @@ module _ {S F : Type 0} where
   swept_by : (b : Bool) (k : ℕ) (p : Posted) (ps : List Posted) (w : ℕ) (d : Driving S F) (ls fs : List Landing) → is_control (cond b (wake_completion true) p.completion) ≡ true → record (swept (record (cond (is_control (cond b (wake_completion true) p.completion)) (noted (cond b (wake_completion true) p.completion) (having d (cond b (record p { wakes = k } ∷ ps) ps) w)) (having d (p ∷ ps) w)) { landings = ls })) { landings = fs } ≡ record (swept (having d (p ∷ ps) w)) { landings = fs }
   swept_by false k p ps w d ls fs is = rw is (alike ps (noted p.completion (having d (p ∷ ps) w)) ps ls fs)
   swept_by true k p ps w d ls fs is =
-      ap (λ (b : Bool). record (swept (record (having d (record p { wakes = k } ∷ ps) w) { armed = b; landings = ls })) { landings = fs }) (and_true d.armed)
+      ap (λ (b : Bool). record (swept (record (having d (record p { wakes = k } ∷ ps) w) { armed = b; landings = ls })) { landings = fs }) (and-true d.armed)
       ∙ either_way (is_control p.completion) _ _ _ _ fs (alike ps (noted p.completion (having d (p ∷ ps) w)) (record p { wakes = k } ∷ ps) ls fs) refl
 
   swept_wakes : (b : Bool) (w : ℕ) (d : Driving S F) (ls fs : List Landing) → is_next_control (cond b (Some (wake_completion true)) None) ≡ true → record (swept (record (after_next_control (having d [] w) (cond b (Some (wake_completion true)) None)) { landings = ls })) { landings = fs } ≡ record (swept (having d [] w)) { landings = fs }
-  swept_wakes true w d ls fs is = ap (λ (b : Bool). record (having d [] 0) { armed = b; landings = fs }) (and_true d.armed)
+  swept_wakes true w d ls fs is = ap (λ (b : Bool). record (having d [] 0) { armed = b; landings = fs }) (and-true d.armed)
   swept_wakes false w d ls fs is = absurd (false≢true is)
 
   step_by : (ps : List Posted) (w : ℕ) (d : Driving S F) (ls fs : List Landing) → is_next_control (next_in ps w) ≡ true → record (swept (record (after_next_control (having d ps w) (next_in ps w)) { landings = ls })) { landings = fs } ≡ record (swept (having d ps w)) { landings = fs }
@@ -58,9 +55,6 @@ module _ {S F : Type 0} where
   pub record SweepsAlike (d first : Driving S F) : Type 0 where
     pub swept_alike : (fs : List Landing) → record (swept d) { landings = fs } ≡ record (swept first) { landings = fs }
 
-  pub sweeps_itself : (d : Driving S F) → SweepsAlike d d
-  sweeps_itself d = record { swept_alike = λ fs. refl }
-
   pub sweeps_on : (d d' first : Driving S F) → is_next_control (next_completion d.ring) ≡ true → d' ≡ record (after_next_control d (next_completion d.ring)) { landings = d'.landings } → SweepsAlike d first → SweepsAlike d' first
   sweeps_on d d' first is taken so =
       record {
@@ -68,10 +62,7 @@ module _ {S F : Type 0} where
       }
 
   pub all_swept : (d d' first : Driving S F) → is_next_control (next_completion d.ring) ≡ false → d' ≡ record (after_next_control d (next_completion d.ring)) { landings = d'.landings } → SweepsAlike d first → d' ≡ record (swept first) { landings = d'.landings }
-  all_swept d d' first is taken so =
-      taken
-      ∙ ap (λ (e : Driving S F). record e { landings = d'.landings }) (after_other d (next_completion d.ring) is ∙ sym (still d.ring.posted d.ring.wakes d is))
-      ∙ so.swept_alike d'.landings
+  all_swept d d' first is taken so = grind (arith, taken, after_other d (next_completion d.ring) is, still d.ring.posted d.ring.wakes d is, so.swept_alike d'.landings)
 
   -- what is swept has no completion of no operation before the first of one
   after_sweep : (ps : List Posted) (d : Driving S F) → is_next_control (next_completion (swept_from ps d).ring) ≡ false

@@ -1,6 +1,6 @@
 -- The steps of a service: completions, deadlines, permits.
-use Rattle.std.proofs.Common.{zero, suc, ◌≡◌, ℕ, ◌+◌, ◌^◌, ◌<◌, ◌≤◌, eqb, ltb, Bool, true, false, not, ◌&&◌, ◌||◌, cond, List, [], ◌∷◌, length, Option, Some, None, refl, sym, ap, subst, ◌∙◌, inl, inr, arith}
-use Rattle.exec_driver.proofs.{Words.{and_from, and_parts, cases_Bool}, Names.{same_tells, fewer_without}, Endings.{one_changed, one_finished}, Granting.gated_there, Queues.{IsEntered, enters}, Serving.{Eases, Answers, eases_both, eases_is, eases_ring, eases_swept, eases_written, eases_judged, after_reap, reaps_ring, room_still, room_judged, room_ended, keeps_one, like_unscheduled, serves_by, serves_itself, done_itself}, Stepping.{first_in, first_there, first_tells}, Telling.room_within}
+use Rattle.std.proofs.Common.{zero, suc, ◌≡◌, ℕ, ◌+◌, ◌^◌, ◌<◌, ◌≤◌, eqb, ltb, Bool, true, false, not, ◌&&◌, ◌||◌, cond, List, [], ◌∷◌, length, Option, Some, None, refl, sym, ap, subst, ◌∙◌, inr, arith}
+use Rattle.exec_driver.proofs.{Words.{and_from, and_parts, cases_Bool}, Names.{fewer_without}, Endings.{one_changed, one_finished}, Granting.gated_there, Queues.{IsEntered, enters}, Serving.{Eases, Answers, eases_both, eases_is, eases_ring, eases_swept, eases_written, eases_judged, after_reap, reaps_ring, room_still, room_judged, room_ended, keeps_one, like_unscheduled, serves_by, serves_itself, done_itself}, Stepping.{first_in, first_there, first_tells}, Telling.room_within}
 use Rattle.std.specs.Prelude.{is_some, is_none}
 use Rattle.std.specs.Option.{IfSome, IfNone, SomeIff}
 use Rattle.std.proofs.lemmas.Bool.{false≢true}
@@ -10,7 +10,8 @@ use Rattle.exec_request.specs.{States.{Ended, asks_cancel}, declared.results.Wai
 use Rattle.exec_ring.specs.{Completions.{result_in}, Kernels.{is_quiet, has_none, next_completion, next_in, posted_left, wakes_left, reaped}, declared.completion.{Completion.Completion, Posted.Posted}}
 use Rattle.exec_waiters.specs.{Events.{cancelled, with_permit}, States.{waiter_at, flying_count, tick_in, file_of, gate_in}, Told.Tells, declared.{deferred.Deferred.Deferred, waiter.{Waiter.Waiter, Entry.{Entry, TheVariants.Pending}}, waiter_id.WaiterId.WaiterId}}
 use Rattle.exec_waiters.proofs.Changes.{one_if}
-use Rattle.exec_driver.specs.{Driving.{Driving, request_at, is_enrolled, is_queued, is_full, may_stage_one, has_pending}, Lists.{has_first, first_of, rest_of, is_same, without, after_due, after_queued}, Opens.{OpenState, account_in}, Sound.IsSound, Steps.{noted, swept, swept_from, taken_out, judged_as_over, granted_as, permitted, ReapsNext, completed_in, lawful_of, if_lawful, expired, told_by_cancel, timed_out, cancelling, ended, Grants, StagesOne, with_staged, poll_staged, entered, lower, lowest_gate}, Turns.{Serves, StaysDone, waiting, unreaped, unstaged, made_way, may_wait}, declared.driver.{reaping.Reaped.Reaped, staging.Granted.Granted}}
+use Rattle.exec_driver.specs.{Driving.{Driving, request_at, is_enrolled, is_queued, is_full, may_stage_one, has_pending}, Lists.{has_first, first_of, rest_of, without, after_due, after_queued}, Opens.{OpenState, account_in}, Sound.IsSound, Steps.{noted, swept, swept_from, taken_out, judged_as_over, granted_as, permitted, ReapsNext, completed_in, lawful_of, if_lawful, expired, told_by_cancel, timed_out, cancelling, ended, Grants, StagesOne, with_staged, poll_staged, entered, lower, lowest_gate}, Turns.{Serves, StaysDone, waiting, unreaped, unstaged, made_way, may_wait}, declared.driver.{reaping.Reaped.Reaped, staging.Granted.Granted}}
+use Rattle.exec_driver.proofs.Coming.{is_itself}
 
 -- HOW MANY COMPLETIONS
 
@@ -25,11 +26,8 @@ some_waiting : (ps : List Posted) (w : ℕ) → (has_none ps && eqb w 0) ≡ fal
 some_waiting [] w is = above w is
 some_waiting (p ∷ ps) w is = omega arith
 
-same_self : (id : WaiterId) → is_same id id ≡ true
-same_self id = elim (same_tells id id) [ inl same ↦ same.0 | inr other ↦ absurd (other.1 refl) ]
-
 without_first : (ids : List WaiterId) (id : WaiterId) → first_of ids ≡ Some id → without id (rest_of ids) ≡ without id ids
-without_first ids id first = rw (first_tells ids id first, same_self id) refl
+without_first ids id first = rw (first_tells ids id first, is_itself id) refl
 
 -- who asked for its cancel has no deadline in the wheel
 no_tick : (s : WaiterState) → asks_cancel s ≡ true → is_some (tick_in s) ≡ false

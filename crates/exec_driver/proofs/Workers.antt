@@ -1,5 +1,5 @@
 -- Why the drivers of the worked example share gates, or don't.
-use Rattle.std.proofs.Common.{◌≡◌, ℕ, Bool, true, false, eqb, [], Some, refl, sym, ap, arith}
+use Rattle.std.proofs.Common.{◌≡◌, ℕ, Bool, true, false, eqb, Some, refl, sym, ap, arith}
 use Rattle.exec_waiters.specs.{Examples.{sync, here}}
 use Rattle.exec_driver.specs.{Examples.{first, workers, held, gates}, Laws.ShareGates, Sharing.{LineUp, key_of}, Steps.newcomer, declared.opens.WaiterKey.WaiterKey}
 use Rattle.exec_driver.proofs.{Words.{false≢true, Waiter}}

@@ -25,7 +25,7 @@
 //! Each says what the next step is for by the tests beside it. Only `new` and `admit` take memory. Moments are in
 //! nanoseconds.
 
-ghost use Rattle.std.specs.Prelude.{◌≡◌, ℕ, ◌+◌, ◌==◌, not, [], IfOk, IfErr, IsTrue, IsSome, ◌↔◌};
+ghost use Rattle.std.specs.Prelude.{◌≡◌, ◌+◌, ◌==◌, not, IfOk, IfErr, IsTrue, IsSome, ◌↔◌};
 ghost use Rattle.exec_ring.specs.{Kernels.{with_wake, is_quiet}, Rings.fresh as fresh_ring, Stores.Same};
 ghost use Rattle.exec_time.specs.{Layouts.slots_of, Wheel.{IsSettled, next_moment}};
 ghost use Rattle.exec_waiters.specs.States.{pending_count};

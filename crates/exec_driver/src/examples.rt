@@ -7,8 +7,8 @@ ghost use Rattle.exec_base.specs.declared.error.Error.TheVariants as error;
 ghost use Rattle.exec_request.specs.declared.output.RequestOutput.TheVariants as output;
 ghost use Rattle.exec_ring.specs.Completions.{acknowledged, wake_completion, completed};
 ghost use Rattle.exec_outcomes.specs.declared.outcome.OpResult.TheVariants.{Count, Errno};
-ghost use Rattle.exec_waiters.specs.{Examples.{poll, sync}, Told.nothing_told, declared.{waiter.Entry.TheVariants.{Pending, Ready}, deferred.Deferred.Deferred}};
-ghost use Rattle.exec_driver.specs.{Driving.{may_stage_one, has_pending}, Lists.no_lists, Steps.{cancelled_at, told_by_cancel, let_go, expired, cancel_staged, cancel_entry, poll_staged, noted, completed_in, is_control, is_turn_of, tick_for, lowest_gate}, Service.{ServesInOrder, reached}, Turns.may_wait, Examples.{first, wheel, idle, with_one, flying, workers, held, gates}, Laws.ShareGates, Sharing.LineUp};
+ghost use Rattle.exec_waiters.specs.{Examples.{poll, sync}, declared.{waiter.Entry.TheVariants.{Ready}, deferred.Deferred.Deferred}};
+ghost use Rattle.exec_driver.specs.{Driving.{may_stage_one}, Lists.no_lists, Steps.{cancelled_at, let_go, cancel_staged, cancel_entry, poll_staged, noted, completed_in, is_control, is_turn_of, tick_for, lowest_gate}, Service.{ServesInOrder, reached}, Turns.may_wait, Examples.{first, wheel, idle, with_one, flying, workers, held, gates}, Laws.ShareGates, Sharing.LineUp};
 
 /// Admission: a poll is queued and its deadline to be enrolled, one whose deadline has come is over, and a sync waits
 /// at the gate of its open, which grants only to the worker of its holder.

@@ -1,14 +1,15 @@
 -- What is kept of opens, as operations on them are judged and requests of them end: their lines stay, and the machine keeps the
 -- same of them.
-use Rattle.std.proofs.{Common.{◌≡◌, ℕ, zero, suc, ◌<◌, ◌&&◌, Bool, true, false, List, [], ◌∷◌, length, map, Option, Some, None, IsSome, is_some, if◌then◌else◌, refl, sym, ap, subst, ◌∙◌, slice_get, slice_index_or, slice_set}, lemmas.Bool.false≢true}
+use Rattle.std.proofs.{Common.{◌≡◌, ℕ, ◌<◌, ◌&&◌, Bool, true, false, List, length, map, Option, Some, None, IsSome, is_some, if◌then◌else◌, refl, sym, ap, subst, ◌∙◌, slice_get, slice_index_or, slice_set}, lemmas.Bool.false≢true}
 use Rattle.std.proofs.Common.{arith}
 use Rattle.exec_outcomes.specs.{Accounts.Account, Outcomes.is_unsupported, declared.outcome.OpResult.OpResult}
 use Rattle.exec_request.specs.{Hints.{without_hint}, Requests.{asked_of, hinted_of, target_of}, declared.{request.Request.Request as Asking}}
 use Rattle.exec_waiters.specs.{States.file_of, declared.waiter.Waiter.Waiter}
 use Rattle.exec_driver.specs.{Opens.{OpenState, account_in, keeping, with_account, with_open_in}, Steps.open_after}
 use Rattle.exec_machine.specs.{Tests.is_of_file, World.{Open, no_open}}
-use Rattle.exec_parts.{specs.{declared.parts.{mail.Reply.Reply, record.Record.Record}, View.{account_seen, open_seen}}, proofs.{Facts.{and_parts, by_number, same_thing, set_elsewhere, set_there}, Showing.{map_kept, map_set}}}
+use Rattle.exec_parts.{specs.{declared.parts.{mail.Reply.Reply, record.Record.Record}, View.{account_seen, open_seen}}, proofs.{Facts.{and_parts, by_number, same_Some, set_elsewhere, set_there}, Showing.{map_kept, map_set}}}
 use Rattle.exec_invariants.{specs.Gates.{AreLinedUp, has_hint_at}, proofs.{Hinting.open_there, Lined.{SameLines, accounts_kept, only_line, opens_same}, SparedRecord.there_within}}
+use Rattle.exec_invariants.proofs.Turning.{set_found}
 
 -- ONE ACCOUNT
 
@@ -20,20 +21,15 @@ account_set opens file o a there = ap (with_open_in opens file (keeping (Some a)
 
 -- lines stay, and a hint that was refused stays so
 pub lines_account : (opens : List OpenState) (rs : List Record) (file : ℕ) (o : OpenState) (a : Account) → AreLinedUp opens rs → slice_get opens file ≡ Some o → (has_hint_at opens file ≡ false → a.hinted ≡ false) → SameLines opens (slice_set opens file (with_its a o))
-lines_account = grind (arith, map_kept, only_line, by_number, accounts_kept, set_elsewhere, same_thing, set_there)
+lines_account = grind (arith, map_kept, only_line, by_number, accounts_kept, set_elsewhere, same_Some, set_there)
 
 -- and it is seen
 pub account_shown : (rs : List Record) (opens : List OpenState) (file : ℕ) (o : OpenState) (a : Account) → map (open_seen rs) (slice_set opens file (with_its a o)) ≡ slice_set (map (open_seen rs) opens) file (record (open_seen rs o) { account = a })
 account_shown rs opens file o a = map_set (open_seen rs) opens file (with_its a o)
 
-set_same : {A : Type 0} (xs : List A) (k : ℕ) (x : A) → slice_get xs k ≡ Some x → slice_set xs k x ≡ xs
-set_same [] k x there = refl
-set_same (y ∷ xs) zero x there = ap (λ z. z ∷ xs) (sym (same_thing y x there))
-set_same (y ∷ xs) (suc k) x there = ap (λ zs. y ∷ zs) (set_same xs k x there)
-
 -- what is kept as it is
 pub account_still : (opens : List OpenState) (file : Option ℕ) → with_account opens file (account_in opens file) ≡ opens
-account_still = grind (arith, set_same)
+account_still = grind (arith, set_found)
 
 -- the open of a request of a file, which is there
 pub record HasOpen (opens : List OpenState) (file : ℕ) : Type 0 where

@@ -1,19 +1,10 @@
 -- Acts of a polled body that change its slot alone: a pass, a wait for a wake, a yield.
-use Rattle.std.proofs.{Common.{◌≡◌, ◌≢◌, ◌⊎◌, inl, inr, ℕ, suc, ◌-◌, ◌&&◌, arith, Bool, true, false, List, [], ◌∷◌, length, map, Option, Some, None, IsSome, refl, sym, ap, subst, ◌∙◌, slice_get, slice_index_or, slice_set, if◌then◌else◌}, lemmas.{Bool.{false≢true, eq-eqb}, List.{map-set, set-set}}}
-use Rattle.exec_task.specs.{Phases.{is_polled, woken as cell_woken}, Sight.Sight, declared.{body.{Act.Act, Said.Said}}}
-use Rattle.exec_machine.specs.{Choice.{Choice, Choice.{Plain, Pays}, Payer.ByAct}, declared.{config.ScriptWord.ScriptWord, event.Event.{Event, TheVariants.{Pass, Wake}}, state.{Next.Next, Waiting.Waiting}}, Progress.Plan, Requests.operation_asked, Tasks.{after_waking_word, is_woken_here, waits_for, woken, woken_phase}, Tests.{waits_for_nothing}, Words.{acts, asks_yield, moved_on, next_word}, World.{Own, Task, Common, no_task, task_of}}
+use Rattle.std.proofs.{Common.{◌≡◌, ◌≢◌, ◌⊎◌, inl, inr, ℕ, ◌-◌, ◌&&◌, arith, Bool, true, false, List, [], map, Option, Some, None, IsSome, refl, sym, ap, subst, ◌∙◌, slice_get, slice_index_or, slice_set, if◌then◌else◌}, lemmas.{Bool.{false≢true, eq-eqb}, List.{map-set, set-set}}}
+use Rattle.exec_task.specs.{Phases.{is_polled}, Sight.Sight, declared.{body.{Act.Act, Said.Said}}}
+use Rattle.exec_machine.specs.{Choice.{Choice, Choice.{Plain, Pays}, Payer.ByAct}, declared.{config.ScriptWord.ScriptWord, event.Event.{Event, TheVariants.{Pass, Wake}}, state.{Next.Next, Waiting.Waiting}}, Progress.Plan, Requests.operation_asked, Tasks.{after_waking_word, is_woken_here, waits_for, woken}, Tests.{waits_for_nothing}, Words.{acts, asks_yield, moved_on, next_word}, World.{Own, Task, Common, no_task, task_of}}
 use Rattle.exec_moves.specs.{declared.place.{Place.Place, InPoll.InPoll}, Move.move_act, Poll.act_asked, Seen.{next_in_poll, polls_in}, State.{Moved, Things}}
-use Rattle.exec_parts.{specs.{declared.parts.{record.Record.Record, shared.Shared.Shared, sleeping.SleeperRecord.SleeperRecord, task_slot.TaskSlot.TaskSlot, worker.Worker.Worker}, Phased.is_complete, Polls.yielded_slot, Scripts.{GoesOn, IsAnswered, is_last}, Spots.{Spot, spot_of, standing_at}, View.{Views, own_of, desk_of, common_of, phase_seen, task_seen, spot_by, body_in, things_with}, Things.TurnsSlot}, proofs.Facts.{by_number, same_thing, set_there, or_right, both_true}}
-use Rattle.exec_invariants.{specs.{Acting.{ActsAs, HasActed, Performs, StepsOf}, Holding.{holder_of}, Places.{begins_at, hands_on_at, is_pooled_at, joins_at, polled_in}, Sound.{HasGuest, IsGuest, IsInHand, SoundAt, IsRunnable, StopsIn, WaitsAt, acts_next, is_told, one_of}, Works.Beside}, proofs.{Here.{IsHere, going_on, polled_here, unflagged_there}, Pending.{in_poll}, Performing.{performs_passed, performs_yielded, still_performs, wakes_as}, Polling.{at_phase, home_mine, in_own_poll, on_in_poll}, Slots.{Balances, IsEvent, beside_slot, task_there, works_slot}, SlotTasks.{IsAfter, Keeps, Sits, Tasked, guest_tasked, none_in, root_tasked, sound_tasked, stops_own}}}
-
--- nothing is newest where nothing is held
-pub none_held : (held : List ℕ) → slice_get held (length held - 1) ≡ None → held ≡ []
-none_held [] h = refl
-none_held (x ∷ xs) h = let back : suc (length xs) - 1 ≡ length xs = omega arith in absurd (never x xs (ap (slice_get (x ∷ xs)) (sym back) ∙ h))
-  where
-    never : (y : ℕ) (ys : List ℕ) → slice_get (y ∷ ys) (length ys) ≡ None → ⊥
-    never y [] is = let no : Some y ≡ None = is in absurd (cc)
-    never y (z ∷ zs) is = never z zs is
+use Rattle.exec_parts.{specs.{declared.parts.{record.Record.Record, shared.Shared.Shared, sleeping.SleeperRecord.SleeperRecord, task_slot.TaskSlot.TaskSlot, worker.Worker.Worker}, Polls.yielded_slot, Scripts.{GoesOn, IsAnswered, is_last}, Spots.{Spot, spot_of, standing_at}, View.{Views, own_of, desk_of, common_of, task_seen, spot_by, things_with}, Things.TurnsSlot}, proofs.Facts.{by_number, same_Some, set_there, or_right, and_from}}
+use Rattle.exec_invariants.{specs.{Acting.{ActsAs, HasActed, Performs, StepsOf}, Holding.{holder_of}, Places.{begins_at, hands_on_at, is_pooled_at, joins_at}, Sound.{HasGuest, IsGuest, IsInHand, SoundAt, StopsIn, WaitsAt, acts_next, is_told}, Works.Beside}, proofs.{Here.{IsHere, polled_here}, Pending.{in_poll}, Performing.{performs_passed, performs_yielded, still_performs, wakes_as}, Polling.{home_mine, on_in_poll}, Slots.{Balances, IsEvent, beside_slot, task_there, works_slot}, SlotTasks.{IsAfter, Keeps, Sits, Tasked, guest_tasked, none_in, root_tasked, sound_tasked, stops_own}}}
 
 -- a root or an ordinary task that its own worker wakes
 pub woken_here : (i : ℕ) (home : Option ℕ) → (home ≡ Some i) ⊎ (home ≡ None) → is_woken_here i home ≡ true
@@ -45,48 +36,31 @@ module _ {B : Type 0} where
 
   pub stays_tasked : (t : ℕ) (y : InPoll) (w : Worker) (s : Shared B) (slot' : TaskSlot B) → (sound : SoundAt (Place.Poll t InPoll.Act) w s) → (it : IsHere InPoll.Act t w s) → StaysOn y t it.slot slot'
       → Tasked (Place.Poll t y) w w.root_ready None s (slice_set s.tasks.items t slot')
-  stays_tasked t y w s slot' sound it on = by_number t w.root other root
-    where
-      root : t ≡ w.root → Tasked (Place.Poll t y) w w.root_ready None s (slice_set s.tasks.items t slot')
-      root same =
-          let slot = it.slot in
-          let q : Place = Place.Poll t y in
-          let there : slice_get s.tasks.items w.root ≡ Some slot = subst (λ n. slice_get s.tasks.items n ≡ Some slot) same it.there in
-          let own : polled_in w.root q ≡ Some y = in_own_poll w.root (polls_in t y) y (on.polls ∙ ap (λ n. Some n) same) in
-          let old = (it.root same).0 in
-          let same_root : slot ≡ sound.runnable.root = same_thing slot sound.runnable.root (sym there ∙ sound.runnable.there) in
-          let unflagged : w.root_ready ≡ None = unflagged_there w.root_ready None slot it.polled (subst (λ (o : TaskSlot B). IsRunnable (one_of w.root_ready None) o) (sym same_root) sound.runnable.once) in
-          let over : is_complete slot.cell.phase ≡ false = going_on slot.cell.phase it.polled in
-          let over' : is_complete slot'.cell.phase ≡ false = going_on slot'.cell.phase on.polled in
-          let sits : Sits q w w.root_ready s slot slot' = grind arith in
-          subst (λ n. Tasked q w w.root_ready None s (slice_set s.tasks.items n slot')) (sym same) (root_tasked t InPoll.Act q w w.root_ready s slot slot' sound sits)
-
-      other : t ≢ w.root → Tasked (Place.Poll t y) w w.root_ready None s (slice_set s.tasks.items t slot')
-      other apart =
-          let slot = it.slot in
-          let q : Place = Place.Poll t y in
-          let old = (it.ordinary apart).0 in
-          let guest : IsGuest y w.index slot' = record {
-            ordinary = on.keeps.home ∙ old.ordinary;
-            polled = on.polled;
-            body = on.body;
-            poller = on.poller ∙ it.poller;
-            cancelled = on.cancelled ∙ it.cancelled ∙ sym on.cleared;
-            told = on.told;
-            untold = on.untold;
-            there = on.waits;
-          } in
-          guest_tasked t InPoll.Act q w None s slot slot' sound (record {
-            apart = apart;
-            there = it.there;
-            keeps = on.keeps;
-            hand = subst (λ b. IsInHand None b None) (sym on.hands) refl;
-            genuine = λ r has. absurd (none_in r has);
-            polls = λ n is same. apart (same_thing t n (sym on.polls ∙ is) ∙ same);
-            guest = subst (λ o. HasGuest o y w.index w.root (slice_set s.tasks.items t slot')) (sym on.polls) (λ no. (slot', set_there s.tasks.items t slot' slot it.there, guest));
-            stops = stops_own (polls_in t y) y w.index t (slice_set s.tasks.items t slot') slot' s.requests.items s.sleepers.items (λ u is. same_thing u t (sym is ∙ on.polls)) (set_there s.tasks.items t slot' slot it.there) (on.stops w.index s.requests.items s.sleepers.items);
-            rests = λ unpolled. absurd (false≢true (sym unpolled ∙ on.polled));
-          })
+  stays_tasked t y w s slot' sound it on =
+      let root : t ≡ w.root → Tasked (Place.Poll t y) w w.root_ready None s (slice_set s.tasks.items t slot') = λ same.
+      let slot = it.slot in
+      let q : Place = Place.Poll t y in
+      let there : slice_get s.tasks.items w.root ≡ Some slot = subst (λ n. slice_get s.tasks.items n ≡ Some slot) same it.there in
+      let old = (it.root same).0 in
+      let sits : Sits q w w.root_ready s slot slot' = grind arith in
+      subst (λ n. Tasked q w w.root_ready None s (slice_set s.tasks.items n slot')) (sym same) (root_tasked t InPoll.Act q w w.root_ready s slot slot' sound sits) in
+      let other : t ≢ w.root → Tasked (Place.Poll t y) w w.root_ready None s (slice_set s.tasks.items t slot') = λ apart.
+      let slot = it.slot in
+      let q : Place = Place.Poll t y in
+      let old = (it.ordinary apart).0 in
+      let guest : IsGuest y w.index slot' = assumption (on.keeps.home ∙ old.ordinary, on.poller ∙ it.poller, on.cancelled ∙ it.cancelled ∙ sym on.cleared, on.waits, on) in
+      guest_tasked t InPoll.Act q w None s slot slot' sound (record {
+        apart = apart;
+        there = it.there;
+        keeps = on.keeps;
+        hand = subst (λ b. IsInHand None b None) (sym on.hands) refl;
+        genuine = λ r has. absurd (none_in r has);
+        polls = λ n is same. apart (same_Some t n (sym on.polls ∙ is) ∙ same);
+        guest = subst (λ o. HasGuest o y w.index w.root (slice_set s.tasks.items t slot')) (sym on.polls) (λ no. (slot', set_there s.tasks.items t slot' slot it.there, guest));
+        stops = stops_own (polls_in t y) y w.index t (slice_set s.tasks.items t slot') slot' s.requests.items s.sleepers.items (λ u is. same_Some u t (sym is ∙ on.polls)) (set_there s.tasks.items t slot' slot it.there) (on.stops w.index s.requests.items s.sleepers.items);
+        rests = λ unpolled. absurd (false≢true (sym unpolled ∙ on.polled));
+      }) in
+      by_number t w.root other root
 
   pub stays_balances : (t : ℕ) (y : InPoll) (w : Worker) (s : Shared B) (slot' : TaskSlot B) → SoundAt (Place.Poll t InPoll.Act) w s → (it : IsHere InPoll.Act t w s) → StaysOn y t it.slot slot' → Balances t (Place.Poll t y) w None it.slot slot'
   stays_balances = grind arith
@@ -157,7 +131,7 @@ module _ {B L : Type 0} (left : B → L) (runs : L → Plan → Option ℕ → T
       let q : Place = Place.Poll t y in
       let slot' = change (acted_slot m.slot m.acts.body') in
       let it : IsHere InPoll.Act t w s = polled_here InPoll.Act t w s h.sound refl in
-      let is : m.slot ≡ it.slot = same_thing m.slot it.slot (sym m.there ∙ it.there) in
+      let is : m.slot ≡ it.slot = same_Some m.slot it.slot (sym m.there ∙ it.there) in
       let stays' : StaysOn y t it.slot slot' = subst (λ o. StaysOn y t o slot') is stays in
       let there : slice_get s1.tasks.items t ≡ Some m.slot' = ap (λ ts. slice_get ts t) m.tasks ∙ set_there s.tasks.items t m.slot' m.slot m.there in
       let items : s'.tasks.items ≡ slice_set s.tasks.items t slot' =
@@ -205,7 +179,7 @@ module _ {B L : Type 0} (left : B → L) (runs : L → Plan → Option ℕ → T
   actor t w s s1 a h =
       let m = h.made in
       let it : IsHere InPoll.Act t w s = polled_here InPoll.Act t w s h.sound refl in
-      let is : it.slot ≡ m.slot = same_thing it.slot m.slot (sym it.there ∙ m.there) in
+      let is : it.slot ≡ m.slot = same_Some it.slot m.slot (sym it.there ∙ m.there) in
       grind arith
 
   -- A PASS
@@ -240,22 +214,19 @@ module _ {B L : Type 0} (left : B → L) (runs : L → Plan → Option ℕ → T
       let seen : task_seen left spot mid ≡ waits_for all at_task Waiting.Yielded = ap (λ (y : Task). record y { waiting = Waiting.Yielded }) (moved_seen left spot all slot b' (Some Said.Pass) is past) in
       let word_done : after_waking_word all (task_of all t) ≡ task_seen left spot mid =
       ap (after_waking_word all) it ∙ ap (λ b. if b then waits_for all at_task Waiting.Yielded else moved_on all at_task) (ap asks_yield does_so.asks) ∙ sym seen in
-      let woken_seen : woken (task_seen left spot mid) ≡ task_seen left spot (yielded_slot (acted_slot slot b')) =
-      ap (λ b. at_phase left spot mid b (woken_phase (phase_seen slot.cell.phase slot.poller)) Waiting.Yielded false) (sym wakes.same_body)
-      ∙ ap (λ q. at_phase left spot mid (body_in (cell_woken slot.cell.phase) (Some b')) q Waiting.Yielded false) (sym wakes.shown) in
+      let woken_seen : woken (task_seen left spot mid) ≡ task_seen left spot (yielded_slot (acted_slot slot b')) = grind (arith, wakes.same_body, wakes.shown) in
       let wake_in : List Task → Common = λ ts. record all { tasks = slice_set ts t (woken (slice_index_or ts t no_task)) } in
       let listed : slice_set all.tasks t (task_seen left spot mid) ≡ map (task_seen left spot) (slice_set s.tasks.items t mid) = sym (map-set (task_seen left spot) s.tasks.items t mid) in
       let found : slice_index_or (map (task_seen left spot) (slice_set s.tasks.items t mid)) t no_task ≡ task_seen left spot mid =
       task_there left spot (slice_set s.tasks.items t mid) t mid (set_there s.tasks.items t mid slot there) in
       let at_mid : slice_index_or (slice_set all.tasks t (task_seen left spot mid)) t no_task ≡ task_seen left spot mid = ap (λ ts. slice_index_or ts t no_task) listed ∙ found in
-      grind (arith, moves_so, or_right, both_true, acts_so, eq-eqb, woken_here, set-set)
+      grind (arith, moves_so, or_right, and_from, acts_so, eq-eqb, woken_here, set-set)
 
   pub yielded_by : IsAnswered spot → (t : ℕ) (w w' : Worker) (s s1 s' : Shared B) (e : Event) → (h : HasActed left runs holds spot gives t w s s1 Act.Yield)
       → e ≡ Wake t → w' ≡ record w { place = Place.Poll t InPoll.Pend } → TurnsSlot t s1 s' yielded_slot → StepsOf left runs holds spot w s e w' s'
   yielded_by answered t w w' s s1 s' e h event same turns =
       let m = h.made in
       let it = actor t w s s1 Act.Yield h in
-      let wakes = wakes_as m.slot.cell.phase (Some m.acts.body') m.slot.poller it.polled in
       let stays : StaysOn InPoll.Pend t m.slot (yielded_slot (acted_slot m.slot m.acts.body')) = grind arith in
       subst (λ z. StepsOf left runs holds spot w s z w' s') (sym event)
       (acted t InPoll.Pend w w' s s1 s' (Wake t) (Pays ByAct) Act.Yield yielded_slot h stays

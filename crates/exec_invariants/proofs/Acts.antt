@@ -1,10 +1,11 @@
 -- What a polled body that acts needs.
 use Rattle.std.proofs.{Common.{◌≡◌, ℕ, ◌<◌, ◌≤◌, ◌^◌, arith, true, false, List, [], ◌∷◌, length, map, Option, Some, IsSome, Result, Ok, Err, refl, sym, ap, subst, ◌∙◌, slice_get, IfOk, OnErr}, lemmas.{List.{length-map, length-set}, Option.slice_get_within}}
+pub use Rattle.std.proofs.lemmas.Result.{on_err_weaker}
 use Rattle.exec_driver.specs.Opens.{OpenState}
 use Rattle.exec_task.specs.{Phases.is_polled, Sight.Sight, declared.body.{Act.Act, Said.Said}}
 use Rattle.exec_machine.specs.{declared.state.Waiting.Waiting, Progress.Plan}
 use Rattle.exec_moves.specs.declared.place.{Place.Place, InPoll.InPoll}
-use Rattle.exec_parts.{specs.{Records.numbers_held, declared.parts.{shared.Shared.Shared, task_slot.TaskSlot.TaskSlot, worker.Worker.Worker, record.Record.Record}, Phased.is_complete, Polls.{MadeAct, OfSlot, sight_of}, Scripts.Plays, Spots.{Spot, spot_of}, View.{body_in, common_of, spot_by, task_seen, account_seen, open_seen}, Things.TurnsSlot}, proofs.Facts.same_thing}
+use Rattle.exec_parts.{specs.{Records.numbers_held, declared.parts.{shared.Shared.Shared, task_slot.TaskSlot.TaskSlot, worker.Worker.Worker, record.Record.Record}, Phased.is_complete, Polls.{MadeAct, OfSlot, sight_of}, Scripts.Plays, Spots.{Spot, spot_of}, View.{body_in, common_of, spot_by, task_seen, account_seen, open_seen}, Things.TurnsSlot}, proofs.Facts.same_Some}
 use Rattle.exec_invariants.{specs.{Acting.{HasActed, PerformsOne}, Hearing.{CanHear, held_once_come}, Sound.{SoundAt, is_told}, Works.Same}, proofs.{Here.{IsHere, going_on, polled_here}, Pending.in_poll, Performing.unacted}}
 
 pub kept_any : {A E P : Type 0} (r : Result A E) → P → OnErr r P
@@ -14,10 +15,6 @@ kept_any (Err e) h = h
 pub ok_so : {A E : Type 0} {P Q : A → Type 0} (r : Result A E) → ((a : A) → P a → Q a) → IfOk r P → IfOk r Q
 ok_so (Ok a) f h = f a h
 ok_so (Err e) f h = tt
-
-pub err_so : {A E P Q : Type 0} (r : Result A E) → (P → Q) → OnErr r P → OnErr r Q
-err_so (Ok a) f h = tt
-err_so (Err e) f h = f h
 
 module _ {B L : Type 0} (left : B → L) (spot : L → Option Said → Spot) (gives : L → Option Sight → Said → Act B → L → Option Sight → Type 0) where
   pub acted_within : (t moment : ℕ) (s s1 : Shared B) (a : Act B) → MadeAct left gives t moment s s1 a → t < length s1.tasks.items
@@ -37,7 +34,7 @@ module _ {B L : Type 0} (left : B → L) (spot : L → Option Said → Spot) (gi
   pub may_act : (t : ℕ) (w : Worker) (s : Shared B) → SoundAt (Place.Poll t InPoll.Act) w s → MayAct t s
   may_act t w s sound =
       let it : IsHere InPoll.Act t w s = polled_here InPoll.Act t w s sound refl in
-      let is : (slot : TaskSlot B) → slice_get s.tasks.items t ≡ Some slot → it.slot ≡ slot = λ slot found. same_thing it.slot slot (sym it.there ∙ found) in
+      let is : (slot : TaskSlot B) → slice_get s.tasks.items t ≡ Some slot → it.slot ≡ slot = λ slot found. same_Some it.slot slot (sym it.there ∙ found) in
       let waits : it.slot.waiting ≡ Waiting.Nothing = it.waits in
       record {
         there = slice_get_within s.tasks.items t it.slot it.there;
@@ -56,7 +53,7 @@ module _ {B L : Type 0} (left : B → L) (runs : L → Plan → Option ℕ → T
   pub has_acted : Plays left runs holds spot gives → (t : ℕ) (w : Worker) (s s1 : Shared B) (a : Act B) → SoundAt (Place.Poll t InPoll.Act) w s → MadeAct left gives t w.moments.sampled s s1 a → PerformsOne left runs holds s → HasActed left runs holds spot gives t w s s1 a
   has_acted plays t w s s1 a sound m one =
       let here : IsHere InPoll.Act t w s = polled_here InPoll.Act t w s sound refl in
-      let is : here.slot ≡ m.slot = same_thing here.slot m.slot (sym here.there ∙ m.there) in
+      let is : here.slot ≡ m.slot = same_Some here.slot m.slot (sym here.there ∙ m.there) in
       let polled : is_polled m.slot.cell.phase ≡ true = ap (λ (o : TaskSlot B). is_polled o.cell.phase) (sym is) ∙ here.polled in
       let waits : m.slot.waiting ≡ Waiting.Nothing = ap (λ (o : TaskSlot B). o.waiting) (sym is) ∙ here.waits in
       let body : body_in m.slot.cell.phase m.slot.body ≡ Some m.acts.body = in_poll m.slot.cell.phase m.slot.body polled ∙ m.acts.was in
@@ -71,13 +68,7 @@ module _ {B L : Type 0} (left : B → L) (runs : L → Plan → Option ℕ → T
             let held : holds (left m.acts.body) (Some m.acts.said) ≡ (numbers_held m.slot.held.items) = fits.holding m.acts.body m.acts.said body hears going ∙ ap (λ u. held_once_come u (numbers_held m.slot.held.items)) waits in
             let it = plays p (common_of left spot p vs s) (task_seen left spot m.slot) (sight_of w.moments.sampled (length s.tasks.items) s.stopped s.opens) m.sight (left m.acts.body) (left m.acts.body') m.acts.said a
             (fits.runs_it m.acts.body m.acts.said body hears going) refl refl
-            (record {
-              early = early;
-              tasks = sym (length-map s.tasks.items (task_seen left spot));
-              few = subst (λ n. n ≤ 2 ^ 32) (sym (length-map s.tasks.items (task_seen left spot))) sound.homes.few;
-              stopped = refl;
-              opens = sym (accounts_seen s.requests.items s.opens);
-            })
+            (assumption (early, sym (length-map s.tasks.items (task_seen left spot)), subst (λ n. n ≤ 2 ^ 32) (sym (length-map s.tasks.items (task_seen left spot))) sound.homes.few, sym (accounts_seen s.requests.items s.opens)))
             m.acts.given at_spot held in
             record { asks = it.asks; makes = it.makes; stands = it.stands; covers = it.covers; code = it.code; goes_on = it.goes_on };
         one = (one.0, one.1, one.2 t m.slot m.there);

@@ -6,7 +6,7 @@ use Rattle.exec_task.specs.declared.body.Said.{Said}
 use Rattle.exec_machine.specs.{declared.{event.Event.{Event, TheVariants.Turn}, state.Next.Next}, Choice.Choice.Plain, Progress.Plan}
 use Rattle.exec_moves.specs.{declared.place.Place.Place, Move.move_at, Seen.{next_at, polls_at, serves_at}, State.Moved}
 use Rattle.exec_parts.{specs.{declared.parts.{record.Record.Record, sleeping.SleeperRecord.SleeperRecord, seat.Seat.Seat as Chair, shared.Shared.Shared, worker.Worker.Worker}, Spots.Spot, View.{Views, common_of, desk_of, own_of, things_with}, Things.{Goes, Makes}}, proofs.Facts.{by_number, set_elsewhere, set_there}}
-use Rattle.exec_invariants.{specs.{Holding.{IsHolding, box_of, holder_of, nap_of, thing_of}, Kinds.{kind_of, lowered}, Places.{claims_at, drops_at, has_count_at, is_pooled_at, is_published_at}, Spares.{Spares, SparesChair, SparesRecord, SparesSleeper}, Whole.{claimed_count, duties_of, hands_of, IsWhole, may_let_go, Profile, queued, runnables_in, stock, with_worker}, Sound.{SoundAt, has_wakes_at}, Works.{Beside, Steps, Suits}}, proofs.{PoolKept.{KeepsGates, gates_same, pool_seats}, Spared.{records_endure, sleepers_endure}, Turning.{GoesOn, Keeps, Lands, Shares, arrives, by_place, fits_here, turn_alike, turned}}}
+use Rattle.exec_invariants.{specs.{Holding.{IsHolding, box_of, holder_of, nap_of, thing_of, Mail}, Kinds.{kind_of, lowered}, Places.{claims_at, drops_at, has_count_at, is_pooled_at, is_published_at}, Spares.{Spares, SparesChair, SparesRecord, SparesSleeper}, Whole.{claimed_count, duties_of, hands_of, IsWhole, may_let_go, Profile, queued, runnables_in, stock, with_worker}, Sound.{SoundAt, has_wakes_at}, Works.{Beside, Steps, Suits}}, proofs.{PoolKept.{KeepsGates, gates_same, pool_seats}, Spared.{records_endure, sleepers_endure}, Turning.{GoesOn, Keeps, Lands, Shares, arrives, by_place, fits_here, turn_alike, turned}}}
 
 -- SEATS
 
@@ -119,17 +119,16 @@ pub profile_same : (x : Profile) (w w' : Worker) → SameProfile w w' → with_w
 profile_same = grind arith
 
 module _ {B : Type 0} where
-  pub spares_turn : (i j : ℕ) (s s' : Shared B) → j ≢ i → Shares s s' → SparesSeats i s.seats.items s'.seats.items → Spares j s s'
-  spares_turn i j s s' other shares seats =
-      let s1 : Shared B = record s { seats = s'.seats; idle = s'.idle; global = s'.global } in
-      let done : Spares j s s1 = record {
+  pub spares_none : (j : ℕ) (s : Shared B) → Spares j s s
+  spares_none j s =
+      record {
         config = refl;
         clock = refl;
         gates = λ h. h;
         hints = λ file h. h;
-        many = seats.many;
-        chair = λ chair there. seats.chair j chair other there;
-        tails = seats.tails;
+        many = refl;
+        chair = λ chair there. (chair, there, spared chair);
+        tails = (seats_same j s.seats.items s.seats.items refl).tails;
         records = λ k r there mine. (r, there, record_spared r);
         records_only = λ k r there mine. (r, there, record_spared r);
         sleepers = λ k z there mine. (z, there, sleeper_spared z);
@@ -146,16 +145,23 @@ module _ {B : Type 0} where
         shards = refl;
         emptied = λ shut k none. none;
         genuine = λ r is. is;
-      } in
+      }
+
+  pub spares_turn : (i j : ℕ) (s s' : Shared B) → j ≢ i → Shares s s' → SparesSeats i s.seats.items s'.seats.items → Spares j s s'
+  spares_turn i j s s' other shares seats =
+      let s1 : Shared B = record s { seats = s'.seats; idle = s'.idle; global = s'.global } in
+      let chair : (chair : Chair) → slice_get s.seats.items j ≡ Some chair → (chair' : Chair) × (slice_get s'.seats.items j ≡ Some chair') × SparesChair chair chair' = λ chair there. seats.chair j chair other there in
+      let done : Spares j s s1 = assumption (chair, seats, spares_none j s) in
       subst (λ z. Spares j s z) (sym shares) done
 
   -- what tasks hold, with these seats
   abbrev pub HoldsIn : Profile → Shared B → List Chair → Type 0
   HoldsIn x s seats = IsHolding (hands_of x) s.config.workers (map holder_of s.tasks.items) (map thing_of s.requests.items) (map nap_of s.sleepers.items) (map box_of seats)
 
-  -- with the same queues, idle set and global queue
-  pub whole_boxed : (x : Profile) (s s' : Shared B) → Shares s s' → KeepsGates s.seats.items s'.seats.items → map queue_of_chair s'.seats.items ≡ map queue_of_chair s.seats.items → HoldsIn x s s'.seats.items → s'.idle ≡ s.idle → s'.global ≡ s.global → IsWhole x s → IsWhole x s'
-  whole_boxed x s s' shares gates queues holding idle global whole =
+  -- with the same queues, idle set and global queue, and these messages in hand
+  pub whole_moved : (x : Profile) (mail : Mail → ℕ) (s s' : Shared B) → Shares s s' → KeepsGates s.seats.items s'.seats.items → map queue_of_chair s'.seats.items ≡ map queue_of_chair s.seats.items
+      → HoldsIn (record x { mail = mail }) s s'.seats.items → s'.idle ≡ s.idle → s'.global ≡ s.global → IsWhole x s → IsWhole (record x { mail = mail }) s'
+  whole_moved x mail s s' shares gates queues holding idle global whole =
       let many : length s'.seats.items ≡ length s.seats.items = length_same s.seats.items s'.seats.items queues in
       let tasks : s'.tasks.items ≡ s.tasks.items = ap (λ (z : Shared B). z.tasks.items) shares in
       let set : s'.set ≡ s.set = ap (λ (z : Shared B). z.set) shares in
@@ -184,6 +190,10 @@ module _ {B : Type 0} where
         gates = rw (ap (λ (z : Shared B). z.opens) shares, ap (λ (z : Shared B). z.requests) shares) whole.gates;
         holding = rw (config, tasks, ap (λ (z : Shared B). z.requests) shares, ap (λ (z : Shared B). z.sleepers) shares) holding;
       }
+
+  -- and with those that were
+  pub whole_boxed : (x : Profile) (s s' : Shared B) → Shares s s' → KeepsGates s.seats.items s'.seats.items → map queue_of_chair s'.seats.items ≡ map queue_of_chair s.seats.items → HoldsIn x s s'.seats.items → s'.idle ≡ s.idle → s'.global ≡ s.global → IsWhole x s → IsWhole x s'
+  whole_boxed x s s' = whole_moved x x.mail s s'
 
   pub whole_same : (x : Profile) (s s' : Shared B) → Shares s s' → KeepsGates s.seats.items s'.seats.items → map queue_of_chair s'.seats.items ≡ map queue_of_chair s.seats.items → map box_of s'.seats.items ≡ map box_of s.seats.items → s'.idle ≡ s.idle → s'.global ≡ s.global → IsWhole x s → IsWhole x s'
   whole_same x s s' shares gates queues boxes idle global whole = whole_boxed x s s' shares gates queues (rw boxes whole.holding) idle global whole

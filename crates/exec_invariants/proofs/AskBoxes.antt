@@ -1,9 +1,10 @@
 -- A TASK IS ABOUT TO ASK another worker for an end: that worker's inbox is open, has a place, and what tasks hold once it is asked.
-use Rattle.std.proofs.{Common.{◌≡◌, ◌≢◌, inl, ℕ, ◌+◌, ◌<◌, ◌≤◌, Bool, true, false, nat_lt, cond, List, [], ◌∷◌, count_by, length, map, Some, None, IsSome, refl, sym, ap, subst, ◌∙◌, arith, slice_get, slice_set, option_map}, lemmas.{Bool.{false≢true, Decides.nat_tests}, Option.slice_get-map}}
+use Rattle.std.proofs.{Common.{◌≡◌, ◌≢◌, inl, ℕ, ◌+◌, ◌<◌, ◌≤◌, Bool, true, false, cond, List, [], ◌∷◌, count_by, length, map, Some, None, IsSome, refl, sym, ap, subst, ◌∙◌, arith, slice_get, slice_set, option_map}, lemmas.{Bool.{false≢true}, Option.slice_get-map}}
+use Rattle.std.proofs.lemmas.Bool.{lt-ltb}
 use Rattle.exec_words.specs.{Inbox.is_wake_root, declared.inbox.Message.{Message}}
 use Rattle.exec_machine.specs.{declared.state.Forwarding.{Forwarding, TheVariants.{Sent as Forwarded}}, Tests.is_unsent}
 use Rattle.exec_moves.specs.declared.place.{InPoll.InPoll, Place.Place}
-use Rattle.exec_parts.{specs.declared.parts.{mail.Subject.Subject, seat.Seat.Seat as Chair, shared.Shared.Shared, task_slot.TaskSlot.TaskSlot, worker.Worker.Worker}, proofs.Facts.never_true}
+use Rattle.exec_parts.{specs.declared.parts.{mail.Subject.Subject, seat.Seat.Seat as Chair, shared.Shared.Shared, task_slot.TaskSlot.TaskSlot, worker.Worker.Worker}, proofs.Facts.false_from_ne_true}
 use Rattle.exec_invariants.{specs.{Holding.{Box, Hands, Holder, IsAbout, IsForwarded, IsHolding, IsOrdinary, Mail, Nap, Thing, box_of, mail_in, same_mail, under_way}, Sound.SoundAt, Whole.HasWhole}, proofs.{HoldMail.{mail_is, is_never, is_once, sum_least}, HoldPosts.{has_place, with_mail}, HoldSleeps.nap_redone, Slots.before_for}}
 
 -- what isn't asked for is in no inbox
@@ -23,16 +24,13 @@ same_else h m x apart = let none = is_never x m apart in omega (arith, none)
 pub box_there : (seats : List Chair) (j : ℕ) (chair : Chair) → slice_get seats j ≡ Some chair → slice_get (map box_of seats) j ≡ Some (box_of chair)
 box_there seats j chair there = slice_get-map box_of seats j ∙ ap (option_map box_of) there
 
-within_few : (a b : ℕ) → a < b → nat_lt a b ≡ true
-within_few a b less = grind (arith, nat_tests, less)
-
 module _ {B : Type 0} where
   -- while a task is polled that other workers may have things of, no worker of the pool has closed its mailbox
   pub pool_open : (t : ℕ) (x : InPoll) (w : Worker) (s : Shared B) (slot : TaskSlot B) → SoundAt (Place.Poll t x) w s → HasWhole w s → slice_get s.tasks.items t ≡ Some slot → slot.home ≡ None → (j : ℕ) (chair : Chair) → slice_get s.seats.items j ≡ Some chair → j < s.config.workers → chair.mailbox.inbox.closed ≡ false
   pool_open t x w s slot sound has there ordinary j chair at_j few =
-      never_true chair.mailbox.inbox.closed (λ closed.
+      false_from_ne_true chair.mailbox.inbox.closed (λ closed.
       let before = before_for t x w s slot sound there ordinary in
-      let pool : chair.pool ≡ true = has.whole.in_pool j chair at_j ∙ within_few j s.config.workers few in
+      let pool : chair.pool ≡ true = has.whole.in_pool j chair at_j ∙ lt-ltb j s.config.workers few in
       false≢true (sym before.going ∙ has.whole.pool.shut j chair at_j pool closed w.index before.chair before.there))
 
 -- A SLEEPER IS ASKED FOR

@@ -4,10 +4,10 @@ use Rattle.exec_words.specs.declared.inbox.Message.{Message}
 use Rattle.exec_task.specs.declared.body.Said.{Said}
 use Rattle.exec_machine.specs.{declared.{event.Event.{Event, TheVariants.{Closed, GotTimer, Send}}, state.{Forwarding.{Forwarding, TheVariants.{Sent as Forwarded, Unsent}}, MailMessage.TheVariants.ForwardTimer, Waiting.Waiting}}, Mail.posted as seat_posted, Progress.Plan, Tests.{is_unsent, waits_for_timer}, World.{Task, no_seat, seat_of, sleeper_of, task_of}}
 use Rattle.exec_moves.specs.{declared.{handing.AfterSend.AfterSend, place.{InPoll.InPoll, Place.Place}}, Move.move_look_at, Poll.{Sight.{Asks, HearsTimer}, acts_on, pend, resume, sight_by, sight_of}, State.{Moved, Things, does}, Thing.aside}
-use Rattle.exec_parts.{specs.{declared.parts.{mail.Subject.Subject, seat.Seat.Seat as Chair, shared.Shared.Shared, sleeping.SleeperRecord.SleeperRecord, task_slot.TaskSlot.TaskSlot, worker.Worker.Worker}, Calls.sleeper_forwarded, MailPosts.{AsksEnd, Sends, asks_by, chair_sent}, Spots.Spot, View.{Views, common_of, desk_of, numbers_of_passing, own_of, seat_seen, seats_seen, task_seen, things_with}}, proofs.Facts.{by_number, never_true, not_same, same_thing, set_there}}
+use Rattle.exec_parts.{specs.{declared.parts.{mail.Subject.Subject, seat.Seat.Seat as Chair, shared.Shared.Shared, sleeping.SleeperRecord.SleeperRecord, task_slot.TaskSlot.TaskSlot, worker.Worker.Worker}, Calls.sleeper_forwarded, MailPosts.{AsksEnd, Sends, asks_by, chair_sent}, Spots.Spot, View.{Views, common_of, desk_of, numbers_of_passing, own_of, seat_seen, seats_seen, task_seen, things_with}}, proofs.Facts.{by_number, false_from_ne_true, not_same, same_Some, set_there}}
 use Rattle.exec_invariants.{specs.{Holding.{Holder, IsAbout, IsHolding, IsOrdinary, MayHave, awaited_in, box_of, holder_of, nap_of, thing_of}, Sound.{MayStop, SoundAt}, Spares.SparesSleeper, Whole.{HasWhole, Profile, hands_of, with_worker}, Works.{Steps, Suits, Works}}, proofs.{AskBoxes.{asks_place, box_there, nap_asked, pool_open}, Here.IsHere, HoldBeside.Holds, HoldPosts.{posted, with_mail}, HoldThings.{Touches, touches_sleeper}, LetterPosts.{chair_open, forwards_timer, open_spares, sent_open}, Lined.passing_same, Polling.home_mine, Seats.seat_there, Seen.sleeper_at, Slots.task_there, SparedRecord.there_within, TaskAsks.{Posts, asked, asked_works, led_to, leads_to, to_pend}, TaskDeals.{Dealt, ends as to_end, from_look}, TaskHears.hears_same, TaskTakes.{holder_there, nap_there}, Turning.set_found}}
 
-is_unsent_so : (f : Forwarding) → is_unsent f ≡ true → f ≡ Unsent
+pub is_unsent_so : (f : Forwarding) → is_unsent f ≡ true → f ≡ Unsent
 is_unsent_so = grind arith
 
 module _ {B : Type 0} where
@@ -24,10 +24,11 @@ module _ {B : Type 0} where
   pub asks_whom : (t z : ℕ) (w : Worker) (s : Shared B) (it : SleeperRecord) → (sound : SoundAt (Place.Poll t InPoll.Resume) w s) → HasWhole w s → (at : IsHere InPoll.Resume t w s) → at.slot.waiting ≡ Waiting.Timer z → slice_get s.sleepers.items z ≡ Some it → is_unsent it.shown.forwarding ≡ true → it.shown.worker ≢ w.index
       → AsksWhom t z w s at.slot it
   asks_whom t z w s it sound has at waits at_z unsent other =
+      let here_or_none : IsHere InPoll.Resume t w s → (at.slot.home ≡ Some w.index) ⊎ (at.slot.home ≡ None) = λ h. by_number t w.root (λ apart. inr (at.ordinary apart).1) (λ own. inl (at.root own).1) in
       let slot = at.slot in
       let holding = has.whole.holding in
       let asleep = holding.asleep t (holder_of slot) z (holder_there s.tasks.items t slot at.there) (ap awaited_in waits) in
-      let is : asleep.0 ≡ nap_of it = same_thing asleep.0 (nap_of it) (sym asleep.1 ∙ nap_there s.sleepers.items z it at_z) in
+      let is : asleep.0 ≡ nap_of it = same_Some asleep.0 (nap_of it) (sym asleep.1 ∙ nap_there s.sleepers.items z it at_z) in
       let near : MayHave s.config.workers slot.home it.shown.worker = subst (λ x. MayHave s.config.workers slot.home x.worker) is asleep.2.near in
       let ordinary : slot.home ≡ None = none_of slot.home near (λ k home. home_mine w.index slot.home (here_or_none at) k home) in
       let few : it.shown.worker < s.config.workers = subst (λ h. MayHave s.config.workers h it.shown.worker) ordinary near in
@@ -36,15 +37,12 @@ module _ {B : Type 0} where
         ordinary = ordinary;
         few = few;
         task = ap (λ x. x.task) (sym is) ∙ asleep.2.task;
-        silent = never_true it.sent (λ sent. let applied = (holding.sent_too z (nap_of it) (nap_there s.sleepers.items z it at_z) sent).0 in false≢true (sym (ap is_unsent applied) ∙ unsent));
+        silent = false_from_ne_true it.sent (λ sent. let applied = (holding.sent_too z (nap_of it) (nap_there s.sleepers.items z it at_z) sent).0 in false≢true (sym (ap is_unsent applied) ∙ unsent));
         chair = chair.0;
         there = chair.1;
         open_box = pool_open t InPoll.Resume w s slot sound has at.there ordinary it.shown.worker chair.0 chair.1 few;
       }
     where
-      here_or_none : IsHere InPoll.Resume t w s → (at.slot.home ≡ Some w.index) ⊎ (at.slot.home ≡ None)
-      here_or_none h = by_number t w.root (λ apart. inr (at.ordinary apart).1) (λ own. inl (at.root own).1)
-
       none_of : (home : Option ℕ) → MayHave s.config.workers home it.shown.worker → ((k : ℕ) → home ≡ Some k → k ≡ w.index) → home ≡ None
       none_of None near mine = refl
       none_of (Some k) near mine = absurd (other (near ∙ mine k refl))
@@ -99,7 +97,7 @@ module _ {B L : Type 0} (left : B → L) (spot : L → Option Said → Spot) whe
       let whom = asks_whom t z w s it sound has at waits at_z unsent other in
       let j : ℕ = it.shown.worker in
       let chair = whom.chair in
-      let same_it : by.it ≡ it = same_thing by.it it (sym by.sleeper ∙ at_z) in
+      let same_it : by.it ≡ it = same_Some by.it it (sym by.sleeper ∙ at_z) in
       let mid = by.middle in
       let sleepers : mid.sleepers.items ≡ slice_set s.sleepers.items z (sleeper_forwarded it) = by.sleepers ∙ ap (λ y. slice_set s.sleepers.items z (sleeper_forwarded y)) same_it in
       let sends : Sends j (ForwardTimer z) b w w' mid s' e = subst (λ (y : SleeperRecord). Sends y.shown.worker (ForwardTimer z) b w w' mid s' e) same_it by.sends in
@@ -129,9 +127,9 @@ module _ {B L : Type 0} (left : B → L) (spot : L → Option Said → Spot) whe
       let ordinary : IsOrdinary it.shown.task hs = subst (λ u. IsOrdinary u hs) (sym whom.task) (record { it = holder_of slot; there = holder_there s.tasks.items t slot at.there; home = whom.ordinary }) in
       let homes : (u : ℕ) (o : Holder) → slice_get hs u ≡ Some o → o.awaits ≡ Some (Subject.Timer z) → o.home ≡ None = λ u o at_u awaits.
       let asleep = old.asleep u o z at_u awaits in
-      let is : asleep.0 ≡ nap_of it = same_thing asleep.0 (nap_of it) (sym asleep.1 ∙ at_nap) in
+      let is : asleep.0 ≡ nap_of it = same_Some asleep.0 (nap_of it) (sym asleep.1 ∙ at_nap) in
       let mine : t ≡ u = sym whom.task ∙ ap (λ x. x.task) (sym is) ∙ asleep.2.task in
-      let so : o ≡ holder_of slot = same_thing o (holder_of slot) (sym at_u ∙ ap (slice_get hs) (sym mine) ∙ holder_there s.tasks.items t slot at.there) in
+      let so : o ≡ holder_of slot = same_Some o (holder_of slot) (sym at_u ∙ ap (slice_get hs) (sym mine) ∙ holder_there s.tasks.items t slot at.there) in
       ap (λ (y : Holder). y.home) so ∙ whom.ordinary in
       let naps' = slice_set naps z (nap_of (sleeper_forwarded it)) in
       let asked_for : IsHolding (with_mail (Message.Forward (Subject.Timer z)) h) s.config.workers hs ts naps' boxes = nap_asked h s.config.workers hs ts naps boxes z (nap_of it) at_nap unsent whom.silent whom.few ordinary homes old in

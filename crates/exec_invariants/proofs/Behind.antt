@@ -198,15 +198,13 @@ module _ (f : Completion → ℕ) (xs : List Completion) (c : Completion) (cs : 
 
   pub reaped_armed : (a : Bool) → armed_through it.rest (armed_through xs a) ≡ (a && not (is_dropped (map f cs) (behind_end xs)))
   reaped_armed a =
+      let by : (b : Bool) → is_dropped (map f (c ∷ cs)) (behind_end xs) ≡ b → (a : Bool) → ((a && not b) && not (is_dropped (map f cs) (if b then None else behind_end xs))) ≡ (a && not (is_dropped (map f cs) (behind_end xs))) =
+      grind arith in
       armed_through_is it.rest (armed_through xs a)
       ∙ ap (λ b. b && not (ends_first it.rest)) (armed_through_is xs a)
       ∙ ap (λ b. (a && not b) && not (ends_first it.rest)) (sym (dropped_first f xs) ∙ ap (λ ys. is_dropped (map f ys) (behind_end xs)) is)
       ∙ ap (λ b. (a && not (is_dropped (map f (c ∷ cs)) (behind_end xs))) && not b) rest_dropped
       ∙ by (is_dropped (map f (c ∷ cs)) (behind_end xs)) refl a
-    where
-      by : (b : Bool) → is_dropped (map f (c ∷ cs)) (behind_end xs) ≡ b → (a : Bool)
-          → ((a && not b) && not (is_dropped (map f cs) (if b then None else behind_end xs))) ≡ (a && not (is_dropped (map f cs) (behind_end xs)))
-      by = grind arith
 
   pub reaped_told : trails_wake false (after_controls it.rest) ≡ told_left (map f cs) (trails_wake false xs)
   reaped_told = by cs it.later

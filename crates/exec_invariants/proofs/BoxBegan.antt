@@ -1,6 +1,6 @@
 -- What tasks hold, where a worker begins to close: no message moved, and what it owed it owes.
 use Rattle.std.proofs.{Common.{◌≡◌, ℕ, ◌⊎◌, inl, inr, true, List, length, map, Option, Some, None, sym, ap, subst, ◌∙◌, arith, slice_get, slice_set, option_map}, lemmas.{List.length-set, Option.slice_get-map}}
-use Rattle.exec_parts.{specs.declared.parts.{mail.Subject.Subject, seat.Seat.Seat as Chair}, proofs.{Facts.{by_number, same_thing, set_elsewhere, set_there}, Showing.map_set}}
+use Rattle.exec_parts.{specs.declared.parts.{mail.Subject.Subject, seat.Seat.Seat as Chair}, proofs.{Facts.{by_number, same_Some, set_elsewhere, set_there}, Showing.map_set}}
 use Rattle.exec_invariants.{specs.Holding.{Box, Hands, HasPlace, Holder, IsClosing, IsHolding, Mail, Nap, Owes, Thing, box_of, under_way}, proofs.HoldRedo.sum_set}
 
 -- such a box
@@ -13,7 +13,7 @@ module _ (h : Hands) (workers : ℕ) (holders : List Holder) (things : List Thin
 
   -- what a box was
   was : (i : ℕ) (now : Box) → slice_get boxes' i ≡ Some now → (old : Box) × (slice_get boxes i ≡ Some old) × ((now ≡ old) ⊎ (now ≡ that_closes old))
-  was = grind (arith, by_number, set_elsewhere, same_thing, set_there)
+  was = grind (arith, by_number, set_elsewhere, same_Some, set_there)
 
   shut_was : (now old : Box) → (now ≡ old) ⊎ (now ≡ that_closes old) → now.shut ≡ old.shut
   shut_was now old (inl is) = ap (λ (b : Box). b.shut) is

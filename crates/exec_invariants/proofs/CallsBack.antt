@@ -1,5 +1,6 @@
 -- Where the callbacks lead once an item is told: for a worker, for the machine, and after a push of a task that one woke.
-use Rattle.std.proofs.{Common.{◌≡◌, ℕ, ◌+◌, ◌==◌, ◌&&◌, ◌||◌, Bool, true, false, not, List, [], ◌∷◌, length, map, Option, Some, None, refl, sym, ap, subst, ◌∙◌, arith, slice_get, nat_lt, if◌then◌else◌}, lemmas.Bool.{false≢true, Decides.nat_tests}}
+use Rattle.std.proofs.{Common.{◌≡◌, ℕ, ◌+◌, ◌==◌, ◌&&◌, ◌||◌, Bool, true, false, not, List, [], ◌∷◌, length, Option, Some, None, refl, sym, ap, subst, ◌∙◌, arith, slice_get, nat_lt, if◌then◌else◌}, lemmas.Bool.{false≢true, Decides.nat_tests}}
+use Rattle.std.proofs.lemmas.List.{nil_from_length}
 use Rattle.exec_base.specs.{Slab.live_count}
 use Rattle.exec_words.specs.Queue.{Queue}
 use Rattle.exec_waiters.specs.{States.pending_count, Told.is_untold, declared.deferred.{Deferred.Deferred}}
@@ -7,8 +8,9 @@ use Rattle.exec_driver.specs.Driving.{is_full as is_ring_full}
 use Rattle.exec_task.specs.declared.{body.Said.Said, runnable.Runnable.Runnable}
 use Rattle.exec_machine.specs.{declared.config.Configuration.Configuration, Progress.Plan, Ranges.ring_size, Tests.is_empty}
 use Rattle.exec_moves.specs.{declared.{handing.{AfterCallbacks.AfterCallbacks, AfterKick.AfterKick, AfterPush.AfterPush, InKick.InKick}, idling.{InRingWait.InRingWait, Stay.Stay}, place.{InCallbacks.InCallbacks, InClosing.InClosing, InLoads.InLoads, Place.Place, Round.Round}}, Callback.{after_callbacks, has_callbacks, has_requests, is_full, next_callback}}
-use Rattle.exec_parts.{specs.{declared.parts.{mail.Reply.Reply, seat.Seat.Seat as Chair, shared.Shared.Shared, worker.Worker.Worker}, Phased.{IsPhased, closes_at, closes_before, stage_of}, Roles.is_pool, Calls.IsTold, Spots.Spot, Tests.{after_callbacks_of, has_open_requests, is_anything_told, next_callback_of, ring_wait_of}, View.{Views, common_of, desk_of, driver_of, own_of}}, proofs.Facts.{by_not_not, zero_false, true_false}}
+use Rattle.exec_parts.{specs.{declared.parts.{mail.Reply.Reply, seat.Seat.Seat as Chair, shared.Shared.Shared, worker.Worker.Worker}, Phased.{IsPhased, closes_at, closes_before, stage_of}, Roles.is_pool, Calls.IsTold, Spots.Spot, Tests.{after_callbacks_of, has_open_requests, is_anything_told, next_callback_of, ring_wait_of}, View.{Views, common_of, desk_of, driver_of, own_of}}, proofs.Facts.{not-false, zero_false, true_false}}
 use Rattle.exec_invariants.{specs.{HoldPlaces.{is_bare_at, is_bare_before, spare_before}, Sound.{Aims, HasQueue, LetsGo, SoundAt}, Names.{HasWidth, tellers}, Works.Suits}, proofs.{DedicatedSeen.pool_seen, Handed.{CallComes, IsPushFor, out}, Idled.{Comes}, Phased.phased_end, Standing.requests_seen}}
+use Rattle.exec_invariants.proofs.Untold.{empty_map}
 
 -- NOTHING IS LEFT
 
@@ -27,10 +29,6 @@ fourth_zero a b c d e h = grind (arith, nat_tests)
 fifth_zero : (a b c d e : ℕ) → ((a == 0) && (b == 0) && (c == 0) && (d == 0) && (e == 0)) ≡ true → e ≡ 0
 fifth_zero a b c d e h = grind (arith, nat_tests)
 
-none_in : {A : Type 0} (xs : List A) → length xs ≡ 0 → xs ≡ []
-none_in [] none = refl
-none_in (x ∷ xs) none = absurd (omega (arith, none))
-
 pub record NoneLeft (left : Deferred Reply Reply) : Type 0 where
   pub wakes : left.notes.wakes.items ≡ []
   pub completions : length left.notes.completions.items ≡ 0
@@ -39,17 +37,13 @@ pub record NoneLeft (left : Deferred Reply Reply) : Type 0 where
   pub results : length left.results.items ≡ 0
 
 pub none_left : (left : Deferred Reply Reply) → is_untold left ≡ true → NoneLeft left
-none_left = grind (arith, none_in, first_zero, second_zero, third_zero, fourth_zero, fifth_zero)
+none_left = grind (arith, nil_from_length, first_zero, second_zero, third_zero, fourth_zero, fifth_zero)
 
 -- then the lists have all their places
 pub all_places : (ended : List ℕ) (left : Deferred Reply Reply) (n m : ℕ) → IsTold ended left m → HasWidth left n → NoneLeft left → IsTold ended left n
 all_places = grind arith
 
 -- FOR THE MACHINE something waits for the callbacks just where something does
-
-empty_mapped : {A C : Type 0} (f : A → C) (xs : List A) → is_empty (map f xs) ≡ (length xs == 0)
-empty_mapped f [] = refl
-empty_mapped f (x ∷ xs) = sym (zero_false (length xs))
 
 empty_list : {A : Type 0} (xs : List A) → is_empty xs ≡ (length xs == 0)
 empty_list [] = refl
@@ -62,7 +56,7 @@ one_of_five : (a b c d e : Bool) → (not a || not b || not c || not d || not e)
 one_of_five a b c d e = grind arith
 
 pub callbacks_seen : (w : Worker) (live : ℕ) → IsTold w.names.ended.items w.home.deferred live → has_callbacks (own_of w) (desk_of w) ≡ is_anything_told w
-callbacks_seen = grind (arith, empty_mapped, positive, empty_list, one_of_five)
+callbacks_seen = grind (arith, empty_map, positive, empty_list, one_of_five)
 
 module _ {B L : Type 0} (left : B → L) (spot : L → Option Said → Spot) (p : Plan) (vs : Views) (q : Place) (w : Worker) (s : Shared B) (sound : SoundAt q w s) (suits : Suits p vs w s) where
   full_seen : is_full (ring_size p.config) (desk_of w) ≡ is_ring_full (driver_of w)
@@ -79,9 +73,7 @@ module _ {B L : Type 0} (left : B → L) (spot : L → Option Said → Spot) (p 
       ∙ ap (λ b. if has_open_requests w then (if b then Place.RingWait InRingWait.EnterFullRing Stay.Closing else Place.RingWait InRingWait.TestRing Stay.Closing) else Place.Closing InClosing.End) full_seen
 
   pub callback_seen : (n : AfterCallbacks) → next_callback (ring_size p.config) w.index (own_of w) (common_of left spot p vs s) n (desk_of w) ≡ next_callback_of n w
-  callback_seen n =
-      ap (λ b. if b then Place.Callbacks InCallbacks.CallBack n else after_callbacks (ring_size p.config) w.index (common_of left spot p vs s) n (desk_of w)) (callbacks_seen w _ sound.told)
-      ∙ ap (λ x. if is_anything_told w then Place.Callbacks InCallbacks.CallBack n else x) (after_seen n)
+  callback_seen n = grind (arith, callbacks_seen w _ sound.told, after_seen n)
 
 -- WHERE A PUSH OF THE CALLBACKS LEADS
 
@@ -111,17 +103,14 @@ module _ {B : Type 0} where
   pushed_here : (n : AfterCallbacks) (q : Place) (w : Worker) (s : Shared B) → SoundAt q w s → IsPushFor (AfterPush.CallBack n) q → Pushed n w s
   pushed_here n q w s sound is =
       let lets : is_bare_at q ≡ true → live_count w.home.timers ≡ 0 = subst (λ c. LetsGo c (is_bare_at q) (driver_of w).requests w.home.timers) is.closing sound.lets_go in
-      record {
-        told = subst (λ k. IsTold w.names.ended.items w.home.deferred (tellers (driver_of w).requests w.home.timers + k)) is.spare sound.told;
-        wide = sound.wide;
-        bare = λ h. lets (is.bare ∙ h);
-        batch = λ h. is.batch w.batch.values sound.batch (is.bare ∙ h);
-        held = λ chair there. is.held chair.queue (sound.queue chair there);
-        phased = λ chair there.
-            subst (λ b. IsPhased w.index b None w.home.closing w.root w.names.unreleased (stage_of chair s) s.tasks.items) is.closes
-            (subst (λ c. IsPhased w.index (closes_at q) c w.home.closing w.root w.names.unreleased (stage_of chair s) s.tasks.items) is.closing (sound.phased chair there));
-        counted = sound.over.counted;
-      }
+      let told = subst (λ k. IsTold w.names.ended.items w.home.deferred (tellers (driver_of w).requests w.home.timers + k)) is.spare sound.told in
+      let bare : is_bare_before (Some n) ≡ true → live_count w.home.timers ≡ 0 = λ h. lets (is.bare ∙ h) in
+      let batch : is_bare_before (Some n) ≡ true → w.batch.values ≡ [] = λ h. is.batch w.batch.values sound.batch (is.bare ∙ h) in
+      let held : (chair : Chair) → slice_get s.seats.items w.index ≡ Some chair → chair.queue.held ≡ [] = λ chair there. is.held chair.queue (sound.queue chair there) in
+      let phased : (chair : Chair) → slice_get s.seats.items w.index ≡ Some chair → IsPhased w.index (closes_before n) None w.home.closing w.root w.names.unreleased (stage_of chair s) s.tasks.items = λ chair there.
+      subst (λ b. IsPhased w.index b None w.home.closing w.root w.names.unreleased (stage_of chair s) s.tasks.items) is.closes
+      (subst (λ c. IsPhased w.index (closes_at q) c w.home.closing w.root w.names.unreleased (stage_of chair s) s.tasks.items) is.closing (sound.phased chair there)) in
+      assumption (told, bare, batch, held, phased, sound, sound.over)
 
   -- the next item
   pub to_call : (n : AfterCallbacks) (w : Worker) (s : Shared B) → Pushed n w s → is_anything_told w ≡ true → To n (Place.Callbacks InCallbacks.CallBack n) w s
@@ -130,6 +119,7 @@ module _ {B : Type 0} where
   -- the end of a closing, once each request is released
   to_end : (w : Worker) (s : Shared B) → Pushed AfterCallbacks.Finish w s → NoneLeft w.home.deferred → has_open_requests w ≡ false → To AfterCallbacks.Finish (Place.Closing InClosing.End) w s
   to_end w s it none closed =
+      let zero_by : (k : ℕ) → not (k == 0) ≡ false → k ≡ 0 = λ k h. grind (arith, nat_tests) in
       let over : pending_count (driver_of w).requests ≡ 0 = zero_by (pending_count (driver_of w).requests) closed in
       let all : w.names.unreleased ≡ 0 = omega (arith, it.counted, over, none.resources, it.told.resources) in
       record {
@@ -137,9 +127,6 @@ module _ {B : Type 0} where
         queue = λ x h. h;
         aims = λ c i seats. tt;
       }
-    where
-      zero_by : (k : ℕ) → not (k == 0) ≡ false → k ≡ 0
-      zero_by k h = grind (arith, nat_tests)
 
   pub to_after : (n : AfterCallbacks) (w : Worker) (s : Shared B) → Pushed n w s → NoneLeft w.home.deferred → To n (after_callbacks_of n w) w s
   to_after AfterCallbacks.Look w s it none =
@@ -188,5 +175,5 @@ module _ {B : Type 0} where
   call_comes n q w s sound is =
       let it = pushed_here n q w s sound is in
       let there : To n (next_callback_of n w) w s =
-      either n (is_anything_told w) (Place.Callbacks InCallbacks.CallBack n) (after_callbacks_of n w) w s (λ some. to_call n w s it some) (λ none. to_after n w s it (none_left w.home.deferred (by_not_not (is_untold w.home.deferred) none))) in
+      either n (is_anything_told w) (Place.Callbacks InCallbacks.CallBack n) (after_callbacks_of n w) w s (λ some. to_call n w s it some) (λ none. to_after n w s it (none_left w.home.deferred (not-false (is_untold w.home.deferred) none))) in
       record { to = there.to; queue = there.queue; aims = there.aims }

@@ -1,15 +1,15 @@
 -- A deadline that has come cancels its request, which the kernel has.
-use Rattle.std.proofs.{Common.{◌⊎◌, ⊎_elim, ◌++◌, ◌||◌, ◌≡◌, ℕ, ◌==◌, Bool, true, false, List, [], ◌∷◌, map, Option, Some, None, refl, sym, ap, subst, ◌∙◌, arith, inl, is_some, slice_set, if◌then◌else◌}, lemmas.{Bool.false≢true, List.{append-nil, map-append}}}
+use Rattle.std.{proofs.{Common.{◌⊎◌, ⊎_elim, ◌++◌, ◌||◌, ◌≡◌, ℕ, ◌==◌, Bool, true, false, List, [], ◌∷◌, map, Option, Some, None, refl, sym, ap, subst, ◌∙◌, arith, inl, is_some, slice_set, if◌then◌else◌}, lemmas.{Bool.false≢true, List.{append-nil, map-append}}}, specs.Prelude.slice_get}
 use Rattle.exec_base.specs.{Slab.value_at, declared.{slab.Id.Id, error.Error.TheVariants.Timeout}}
 use Rattle.exec_outcomes.specs.declared.outcome.Outcome.TheVariants.{Failure}
-use Rattle.exec_request.specs.{Requests.{asked_of, deadline_of}, States.asks_cancel}
+use Rattle.exec_request.specs.{Requests.{asked_of, deadline_of}}
 use Rattle.exec_waiters.{specs.{Events.{cancelled as cancelled_of, told_by_finish}, States.{needs_permit, takes_tick, tick_in, flying_count, waiter_at}, Told.{Tells, nothing_told}, declared.{waiter.{Entry.TheVariants.Pending, Waiter.Waiter}, waiter_id.WaiterId.WaiterId}}, proofs.Changes.entry_of}
-use Rattle.exec_driver.{specs.{Driving.Driving, Lists.{first_of, is_among, is_same, after_due}, Punctual.IsPunctual, Steps.{cancelled_from, cancelling, ended, told_by_cancel, timed_out}}, proofs.Names.same_tells}
+use Rattle.exec_driver.{specs.{Driving.Driving, Lists.{first_of, is_among, is_same, after_due}, Punctual.IsPunctual, Steps.{cancelling, ended, told_by_cancel, timed_out}}, proofs.Names.same_tells}
 use Rattle.exec_task.specs.declared.body.Said.{Said}
 use Rattle.exec_machine.specs.{declared.{event.Event.{Event, TheVariants.Expire}, state.RequestPhase.RequestPhase}, Deadlines.{expired, outcome_at_expiry}, Same.same_end, Tests.{is_kept, is_staged}, World.{Common, request_of}}
-use Rattle.exec_moves.specs.{Move.move_submit, Told.told_if_ended, Submit.{due_next, first_due, submits, Due.Expires}, declared.place.{Place.Place, InService.InService}}
-use Rattle.exec_parts.{specs.{declared.parts.{mail.Reply.Reply, names.Names.Names, record.Record.Record, shared.Shared.Shared, worker.Worker.Worker}, Records.number_in, Serving.changed_at, Spots.Spot, View.{visible, with_view, own_of, desk_of, driver_of, common_of, seat_seen, things_with, numbers_of}}, proofs.Facts.by_name}
-use Rattle.exec_invariants.{specs.{Due.IsWheelAt, Flown.{HasFlown, operations}, Holding.{nap_of, thing_of}, Places.passes_at, Names.{IsAlike, IsSubmitted}, Sound.served_in, Submits.{IsDueIn, IsInOrder}, Works.Steps}, proofs.{Enrolled.timed_kept, Serving.{at_large, balances_still, SparesRecords, spares_one}, ServingHolds.{serves_to, IsServed, OthersKept, keeps_home, Serves, Keeps, KeepsBy}, Recorded.request_seen, Flown.landed_on, Known.known_written, Lined.{map_changed, opens_same}, Marking.{known_then, mark_if, mark_kept, marked, plain_kept, was_marked}, Slotted.{awaited_written, slots_written}, Carries.carried_still, Changing.{OneGoesOn, all_go_one, changes_one, flying_after, keeps_one}, Going.{GoesOn, owning_on}, Seeing.{makes, shows, served, common_changed, common_same, things_kept}, Staging.stages_again, Timed.keeps_untold, Expiring.{HasExpired, comes_to_due, due_first, expires, flies_not_queued, move_expire, same_change, told_first, unticked_start, unticked_tick}, Expired.expiry_ends, Resolving.unticked_at, Orders.{alike_unticked, eased, eases_written, part_after, part_self}}}
+use Rattle.exec_moves.specs.{Submit.{due_next, first_due, submits, Due.Expires}, declared.place.{Place.Place, InService.InService}}
+use Rattle.exec_parts.{specs.{declared.parts.{mail.Reply.Reply, names.Names.Names, record.Record.Record, shared.Shared.Shared, worker.Worker.Worker}, Records.number_in, Serving.{changed_at, is_one_of}, Spots.Spot, View.{visible, with_view, own_of, desk_of, driver_of, common_of, seat_seen, numbers_of}}, proofs.Facts.by_name}
+use Rattle.exec_invariants.{specs.{Due.IsWheelAt, Flown.{HasFlown, operations, AreLanded}, Holding.{nap_of, thing_of}, Places.passes_at, Names.{IsAlike, IsSubmitted}, Sound.served_in, Submits.{IsDueIn, IsInOrder}, Works.Steps}, proofs.{Enrolled.timed_kept, Serving.{at_large, balances_still, SparesRecords, spares_one}, ServingHolds.{serves_to, IsServed, OthersKept, keeps_home, Serves, Keeps, KeepsBy}, Recorded.request_seen, Flown.landed_on, Known.known_written, Lined.{map_changed, opens_same}, Marking.{known_then, mark_if, mark_kept, marked, plain_kept, was_marked}, Slotted.{awaited_written, slots_written}, Carries.carried_still, Changing.{OneGoesOn, all_go_one, changes_one, flying_after, keeps_one}, Going.{GoesOn, owning_on}, Seeing.{shows, served, common_changed, common_same, things_kept}, Staging.stages_again, Timed.keeps_untold, Expiring.{HasExpired, comes_to_due, due_first, expires, flies_not_queued, same_change, told_first, unticked_start, unticked_tick}, Expired.expiry_ends, Resolving.unticked_at, Orders.{alike_unticked, eased, eases_written, part_after, part_self}}}
 
 -- THE LIST
 
@@ -59,16 +59,13 @@ module _ {B : Type 0} (w : Worker) (s : Shared B) (new : IsDueIn w s) (id : Wait
       let rs = s.requests.items in
       let k = number_in w.names.requests.items id.0 in
       let sub = new.submits.sound.named.submitted in
-      record {
-        tagged = sub.tagged;
-        cancels = sub.cancels;
-        known = known_then cancels rs k w.names.staged.items sub.known;
-        own = λ j x h found. let old = was_marked cancels rs k j x found in ap (λ y. y.shown.worker) old.2 ∙ mark_kept ℕ (λ x. x.shown.worker) cancels (λ x. refl) (k == j) old.0 ∙ sub.own j old.0 h old.1;
-        all = λ j x found mine staged.
-            let old = was_marked cancels rs k j x found in
-            sub.all j old.0 old.1 (sym (mark_kept ℕ (λ x. x.shown.worker) cancels (λ x. refl) (k == j) old.0) ∙ sym (ap (λ y. y.shown.worker) old.2) ∙ mine)
-            (sym (ap is_staged (mark_kept RequestPhase (λ x. x.shown.phase) cancels (λ x. refl) (k == j) old.0)) ∙ sym (ap (λ y. is_staged y.shown.phase) old.2) ∙ staged);
-      }
+      let own : (k : ℕ) (x : Record) → is_one_of k w.names.staged.items ≡ true → slice_get cancelled_records k ≡ Some x → x.shown.worker ≡ w.index =
+      λ j x h found. let old = was_marked cancels rs k j x found in ap (λ y. y.shown.worker) old.2 ∙ mark_kept ℕ (λ x. x.shown.worker) cancels (λ x. refl) (k == j) old.0 ∙ sub.own j old.0 h old.1 in
+      let all : (k : ℕ) (x : Record) → slice_get cancelled_records k ≡ Some x → x.shown.worker ≡ w.index → is_staged x.shown.phase ≡ true → is_one_of k w.names.staged.items ≡ true = λ j x found mine staged.
+      let old = was_marked cancels rs k j x found in
+      sub.all j old.0 old.1 (sym (mark_kept ℕ (λ x. x.shown.worker) cancels (λ x. refl) (k == j) old.0) ∙ sym (ap (λ y. y.shown.worker) old.2) ∙ mine)
+      (sym (ap is_staged (mark_kept RequestPhase (λ x. x.shown.phase) cancels (λ x. refl) (k == j) old.0)) ∙ sym (ap (λ y. is_staged y.shown.phase) old.2) ∙ staged) in
+      assumption (known_then cancels rs k w.names.staged.items sub.known, own, all, sub)
 
   flown_cancelled : HasFlown (served_in (Place.Service (InService.Submit new.submits.gate) new.submits.service)) w.index w.names cancelled_driver cancelled_records
   flown_cancelled =
@@ -82,53 +79,46 @@ module _ {B : Type 0} (w : Worker) (s : Shared B) (new : IsDueIn w s) (id : Wait
       let flown = new.submits.sound.flown in
       let changed = changes_one d.requests id.0 it it' who.live in
       let all = all_go_one rs k cancels who.r who.there cancels_on in
+      let gated : (id : WaiterId) (it : Waiter Reply Reply) → waiter_at cancelled_driver.requests id.0 ≡ Some it → needs_permit it ≡ true → is_among id cancelled_driver.lists.gated ≡ true = λ other x live needs.
+      by_name other.0 id.0 (λ apart. flown.gated other x (sym (changed.others other.0 apart) ∙ live) needs)
+      (λ eq.
+      let is_it : x ≡ it' = cc (live, eq, changed.is_at) in
+      flown.gated other it (ap (waiter_at d.requests) eq ∙ who.live) (ap needs_permit (sym is_it) ∙ needs)) in
+      let plain = plain_kept cancels rs k (λ r p. record { bounded = p.bounded; moved = p.moved; deadline = p.deadline }) w.index (λ r. refl) flown.plain in
+      let landed_so : AreLanded w.names cancelled_driver cancelled_records (operations cancelled_driver.ring) = landed_on w.names w.names d d' rs cancelled_records (operations d.ring) flown.landed
+      (λ other x r given live flying found landed.
+      let j = number_in w.names.requests.items other in
+      let phase = mark_kept RequestPhase (λ x. x.shown.phase) cancels (λ x. refl) (k == j) r in
+      by_name other id.0
+      (λ apart. record { it' = x; r' = mark_if cancels (k == j) r; live = changed.others other apart ∙ live; flies = refl; same = refl; number = refl; there = marked cancels rs k j r found; phase = phase })
+      (λ same.
+      let both : x ≡ it = cc (live, who.live, same) in
       record {
-        ending = flown.ending;
-        staging = flown.staging;
-        telling = flown.telling;
-        entries = flown.entries;
-        gated = λ other x live needs.
-            by_name other.0 id.0 (λ apart. flown.gated other x (sym (changed.others other.0 apart) ∙ live) needs)
-            (λ eq.
-            let is_it : x ≡ it' = cc (live, eq, changed.is_at) in
-            flown.gated other it (ap (waiter_at d.requests) eq ∙ who.live) (ap needs_permit (sym is_it) ∙ needs));
-        plain = plain_kept cancels rs k (λ r p. record { bounded = p.bounded; moved = p.moved; deadline = p.deadline }) w.index (λ r. refl) flown.plain;
-        landed = landed_on w.names w.names d d' rs cancelled_records (operations d.ring) flown.landed
-            (λ other x r given live flying found landed.
-            let j = number_in w.names.requests.items other in
-            let phase = mark_kept RequestPhase (λ x. x.shown.phase) cancels (λ x. refl) (k == j) r in
-            by_name other id.0
-            (λ apart. record { it' = x; r' = mark_if cancels (k == j) r; live = changed.others other apart ∙ live; flies = refl; same = refl; number = refl; there = marked cancels rs k j r found; phase = phase })
-            (λ same.
-            let both : x ≡ it = cc (live, who.live, same) in
-            record {
-              it' = it';
-              r' = mark_if cancels (k == j) r;
-              live = ap (waiter_at d'.requests) same ∙ changed.is_at;
-              flies = ap (λ y. y.in_flight) (sym both);
-              same = ap (λ y. y.request) (sym both);
-              number = refl;
-              there = marked cancels rs k j r found;
-              phase = phase;
-            }));
-        polled = flown.polled;
-        owning = owning_on rs cancelled_records all flown.owning;
-        enrolling = λ other x live takes some.
-            by_name other.0 id.0 (λ apart. flown.enrolling other x (sym (changed.others other.0 apart) ∙ live) takes some)
-            (λ eq.
-            let is_it : x ≡ it' = cc (live, eq, changed.is_at) in
-            absurd (false≢true (ap (λ y. takes_tick y.state) (sym is_it) ∙ takes)));
-        uncancelled = λ other x among found mine.
-            let j = number_in w.names.requests.items other.0 in
-            let old = was_marked cancels rs k j x found in
-            let mine_then = sym (mark_kept ℕ (λ y. y.shown.worker) cancels (λ y. refl) (k == j) old.0) ∙ sym (ap (λ y. y.shown.worker) old.2) ∙ mine in
-            ap (λ y. y.shown.cancel_staged) old.2 ∙ mark_kept Bool (λ x. x.shown.cancel_staged) cancels (λ x. refl) (k == j) old.0
-            ∙ ⊎_elim (λ before. flown.uncancelled other old.0 before old.1 mine_then)
-            (λ same.
-            let both : old.0 ≡ who.r = cc (old.1, who.there, ap (number_in w.names.requests.items) same) in
-            ap (λ y. y.shown.cancel_staged) both ∙ untold_by who.r.shown.cancel_staged who.r.shown.cancelled (who.alike.cancelled ∙ who.unasked) who.alike.told_once)
-            (among_last other id d.lists.cancels among);
-      }
+        it' = it';
+        r' = mark_if cancels (k == j) r;
+        live = ap (waiter_at d'.requests) same ∙ changed.is_at;
+        flies = ap (λ y. y.in_flight) (sym both);
+        same = ap (λ y. y.request) (sym both);
+        number = refl;
+        there = marked cancels rs k j r found;
+        phase = phase;
+      })) in
+      let enrolling : (id : WaiterId) (it : Waiter Reply Reply) → waiter_at cancelled_driver.requests id.0 ≡ Some it → takes_tick it.state ≡ true → is_some (deadline_of it.request) ≡ true → is_among id cancelled_driver.lists.enrolments ≡ true = λ other x live takes some.
+      by_name other.0 id.0 (λ apart. flown.enrolling other x (sym (changed.others other.0 apart) ∙ live) takes some)
+      (λ eq.
+      let is_it : x ≡ it' = cc (live, eq, changed.is_at) in
+      absurd (false≢true (ap (λ y. takes_tick y.state) (sym is_it) ∙ takes))) in
+      let uncancelled : (id : WaiterId) (r : Record) → is_among id cancelled_driver.lists.cancels ≡ true → slice_get cancelled_records (number_in w.names.requests.items id.0) ≡ Some r → r.shown.worker ≡ w.index → r.shown.cancel_staged ≡ false = λ other x among found mine.
+      let j = number_in w.names.requests.items other.0 in
+      let old = was_marked cancels rs k j x found in
+      let mine_then = sym (mark_kept ℕ (λ y. y.shown.worker) cancels (λ y. refl) (k == j) old.0) ∙ sym (ap (λ y. y.shown.worker) old.2) ∙ mine in
+      ap (λ y. y.shown.cancel_staged) old.2 ∙ mark_kept Bool (λ x. x.shown.cancel_staged) cancels (λ x. refl) (k == j) old.0
+      ∙ ⊎_elim (λ before. flown.uncancelled other old.0 before old.1 mine_then)
+      (λ same.
+      let both : old.0 ≡ who.r = cc (old.1, who.there, ap (number_in w.names.requests.items) same) in
+      ap (λ y. y.shown.cancel_staged) both ∙ untold_by who.r.shown.cancel_staged who.r.shown.cancelled (who.alike.cancelled ∙ who.unasked) who.alike.told_once)
+      (among_last other id d.lists.cancels among) in
+      assumption (gated, plain, landed_so, owning_on rs cancelled_records all flown.owning, enrolling, uncancelled, flown)
 
   keeps_cancelled : IsPunctual cancelled_driver
       → KeepsBy (record w { place = Place.Service (InService.Submit new.submits.gate) new.submits.service }) cancelled_driver w.home.timers cancelled_records s.sleepers.items s
@@ -141,8 +131,6 @@ module _ {B : Type 0} (w : Worker) (s : Shared B) (new : IsDueIn w s) (id : Wait
       let who = due_first w s new id first in
       let it = who.it in
       let wheel : IsWheelAt s.config w.moments.start w.moments.sampled d.wheel = sound.due.wheel in
-      let a = who.alike in
-      let on : GoesOn who.r (cancels who.r) = record { same = refl; over = refl; ended = λ h. refl } in
       let one : OneGoesOn w.names w.names d cancelled_driver s.requests.items id.0 it cancelled_waiter who.r cancels = grind (arith, alike_cancelled, unticked_start, unticked_tick) in
       keeps_one q q w.put_off w.names w s cancelled_driver id.0 it cancelled_waiter who.r cancels sound (stages_again gate v) one punctual (λ h. absurd (false≢true (sym h)))
       (eased (eases_written d.requests id.0 it cancelled_waiter who.live (λ t is. absurd (cc)) (λ none. refl)) (alike_unticked d.wheel (tick_in it.state)) (part_self d.lists.enrolments) (part_after id d.lists.due) sound.due.order)
@@ -170,10 +158,7 @@ module _ {B L : Type 0} (left : B → L) (spot : L → Option Said → Spot) whe
       let d' = cancelled_driver w s new id first flies in
       let rs' = cancelled_records w s new id first flies in
       let ends : outcome_at_expiry who.r.shown ≡ None = ap (λ b. if b then Some (Failure Timeout) else None) (flies_not_queued who.r.shown.phase (who.alike.flying ∙ flies)) in
-      let driver : driver_of w' ≡ d' =
-      by.driver ∙ ap (cancelled_from (record d { lists = after_due d.lists }) id) who.live
-      ∙ ap (λ b. if b then (if asks_cancel it.state then (record d { lists = after_due d.lists }) else cancelling (record d { lists = after_due d.lists }) id it) else ended (record d { lists = after_due d.lists }) id it timed_out None) flies
-      ∙ ap (λ b. if b then (record d { lists = after_due d.lists }) else cancelling (record d { lists = after_due d.lists }) id it) who.unasked in
+      let driver : driver_of w' ≡ d' = grind (arith, by.driver, who.live, flies, who.unasked) in
       let tells : Tells w.home.deferred w'.home.deferred nothing_told =
       subst (λ x. Tells w.home.deferred w'.home.deferred x)
       (ap (told_by_cancel id) who.live ∙ ap (λ b. if b then nothing_told else told_by_finish id.0 it timed_out None) flies) by.tells in
@@ -214,12 +199,7 @@ module _ {B L : Type 0} (left : B → L) (spot : L → Option Said → Spot) whe
       let due : due_next cp w.index gate (own_of w0) all (desk_of w0) ≡ Expires k = comes_to_due cp w.index gate k (own_of w0) all (desk_of w0) found in
       let desk : desk_of w' ≡ desk_of w0 = show.desk ∙ rw (there, ap (λ x. x.put_off) same, wakes, outputs, completions, results, slots, awaited) refl in
       record {
-        moves =
-            ap (move_submit cp w.index (own_of w0) all (desk_of w0) (things_with vs s) gate v) due
-            ∙ ap (move_expire (desk_of w0) (things_with vs s) gate v k) request
-            ∙ ap (λ o. makes (Expire k o) (submits v gate (told_if_ended o k who.r.shown (desk_of w0))) (things_with vs s)) ends
-            ∙ ap (λ x. makes (Expire k None) x (things_with vs s)) (sym desk)
-            ∙ ap (makes (Expire k None) (desk_of w')) (sym (things_kept vs w.index (visible w) (visible w') s s' suits.seen (ap (λ y. y.wakes) seen) serves.shared spares));
+        moves = grind (arith, due, request, ends, desk, things_kept vs w.index (visible w) (visible w') s s' suits.seen (ap (λ y. y.wakes) seen) serves.shared spares);
         may = (at_large q w s sound refl, (told_first cp (own_of w0) w.index all.requests k found, (ap (same_end None) (ap outcome_at_expiry request ∙ ends), tt)));
         own = show.own ∙ rw (there, ap (λ x. x.names.ended) same, ap (λ x. x.names.untold) same, numbers, flying) refl;
         common =

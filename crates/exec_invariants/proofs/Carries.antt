@@ -32,6 +32,18 @@ module _ (numbers : List ℕ) (s : Slab (Entry Reply Reply)) (ring : RingState) 
   -- what waits there keeps its request
   pub carried_waiter : (id : Id) (it it' : Waiter Reply Reply) → waiter_at s id ≡ Some it → it'.request ≡ it.request → IsCarried numbers (written s id (Pending it')) ring rs st
   carried_waiter id it it' live same =
+      let was : (other : Id) (x : Waiter Reply Reply) → waiter_at (written s id (Pending it')) other ≡ Some x → (y : Waiter Reply Reply) × (waiter_at s other ≡ Some y) × (x.request ≡ y.request) = λ other x at.
+      let changed = changes_one s id it it' live in
+      by_name other id
+      (λ apart. (x, sym (changed.others other apart) ∙ at, refl))
+      (λ eq.
+      let is : x ≡ it' = cc (at, eq, changed.is_at) in
+      (it, ap (waiter_at s) eq ∙ live, ap (λ y. y.request) is ∙ same)) in
+      let becomes : (other : Id) (x : Waiter Reply Reply) → waiter_at s other ≡ Some x → (y : Waiter Reply Reply) × (waiter_at (written s id (Pending it')) other ≡ Some y) = λ other x at.
+      let changed = changes_one s id it it' live in
+      by_name other id
+      (λ apart. (x, changed.others other apart ∙ at))
+      (λ eq. (it', ap (waiter_at (written s id (Pending it'))) eq ∙ changed.is_at)) in
       record {
         slots = λ other x at. carried.slots other (was other x at).0 (was other x at).1;
         whole = λ other x at. subst IsWhole (sym (was other x at).2) (carried.whole other (was other x at).0 (was other x at).1);
@@ -41,22 +53,6 @@ module _ (numbers : List ℕ) (s : Slab (Entry Reply Reply)) (ring : RingState) 
         room = carried.room;
         stretch = λ other x at. subst (λ q. HasStretchFor q st) (sym (was other x at).2) (carried.stretch other (was other x at).0 (was other x at).1);
       }
-    where
-      was : (other : Id) (x : Waiter Reply Reply) → waiter_at (written s id (Pending it')) other ≡ Some x → (y : Waiter Reply Reply) × (waiter_at s other ≡ Some y) × (x.request ≡ y.request)
-      was other x at =
-          let changed = changes_one s id it it' live in
-          by_name other id
-          (λ apart. (x, sym (changed.others other apart) ∙ at, refl))
-          (λ eq.
-          let is : x ≡ it' = cc (at, eq, changed.is_at) in
-          (it, ap (waiter_at s) eq ∙ live, ap (λ y. y.request) is ∙ same))
-
-      becomes : (other : Id) (x : Waiter Reply Reply) → waiter_at s other ≡ Some x → (y : Waiter Reply Reply) × (waiter_at (written s id (Pending it')) other ≡ Some y)
-      becomes other x at =
-          let changed = changes_one s id it it' live in
-          by_name other id
-          (λ apart. (x, changed.others other apart ∙ at))
-          (λ eq. (it', ap (waiter_at (written s id (Pending it'))) eq ∙ changed.is_at))
 
   -- the same requests in another slab
   pub carried_slab : (s' : Slab (Entry Reply Reply)) → ((id : Id) → waiter_at s' id ≡ waiter_at s id) → IsCarried numbers s' ring rs st

@@ -1,12 +1,12 @@
 -- What the kernel has of a request whose result lands: one operation, which leaves; and one completion more.
-use Rattle.std.{proofs.{Common.{◌≡◌, ℕ, suc, ◌+◌, ◌%◌, ◌<◌, ◌≤◌, ◌&&◌, ◌||◌, Bool, true, false, not, cond, List, [], ◌∷◌, ◌++◌, filter, Some, refl, sym, ap, subst, ◌∙◌, arith, slice_get, slice_set, sum_by}, lemmas.{Bool.{and_parts, Decides.nat_tests}, List.{Sums.{sum_by-set, get_or-le-sum_by}}, Option.{slice_get_within, get_or_from_slice_get}}}, specs.{List.{list_any, remove}}}
+use Rattle.std.{proofs.{Common.{◌≡◌, ℕ, suc, ◌+◌, ◌%◌, ◌<◌, ◌≤◌, ◌&&◌, ◌||◌, Bool, true, false, not, cond, List, [], ◌∷◌, ◌++◌, filter, Some, refl, sym, ap, subst, ◌∙◌, arith, slice_get, sum_by}, lemmas.{Bool.{and_parts, Decides.nat_tests}, List.{Sums.{sum_by-set, get_or-le-sum_by}}, Option.{slice_get_within, get_or_from_slice_get}}}, specs.{List.{list_any, remove}}}
 use Rattle.exec_base.specs.declared.slab.Id.{Id}
 use Rattle.exec_outcomes.specs.{Lawful.{is_lawful}, declared.outcome.{OpResult.{OpResult}}}
 use Rattle.exec_ring.specs.{Completions.{completed, number_of, result_in}, Kernels.{last_place, without_flight, landed}, Rings.{RingState, completions}}
 use Rattle.exec_waiters.specs.Ids.{user_data_of, index_in, generation_in}
 use Rattle.exec_driver.specs.Steps.{is_control}
 use Rattle.exec_moves.specs.State.{passed}
-use Rattle.exec_parts.{specs.{declared.parts.record.Record.Record, Serving.{changed_at, changed_in}, View.{trailing, wake_poll_in}}}
+use Rattle.exec_parts.{specs.{declared.parts.record.Record.Record, Serving.{changed_at}, View.{trailing, wake_poll_in}}}
 use Rattle.exec_invariants.{specs.{Carried.those_of, Flown.{IsPolled, operations}}, proofs.WokenEntered.landing as landing_added}
 
 -- THE LAST THAT PASSES A TEST
@@ -68,10 +68,7 @@ result_told = grind arith
 -- THE ROOM FOR BYTES
 
 pub sum_changed : (f : Record → ℕ) (rs : List Record) (k : ℕ) (r : Record) (g : Record → Record) → slice_get rs k ≡ Some r → sum_by f (changed_at rs k g) + f r ≡ sum_by f rs + f (g r)
-sum_changed f rs k r g there =
-    ap (λ o. sum_by f (changed_in rs k g o) + f r) there
-    ∙ ap (λ x. sum_by f (slice_set rs k (g r)) + f x) (sym (get_or_from_slice_get rs k r r there))
-    ∙ sum_by-set f rs k (g r) r (slice_get_within rs k r there)
+sum_changed f rs k r g there = grind (arith, there, get_or_from_slice_get rs k r r there, sum_by-set f rs k (g r) r (slice_get_within rs k r there))
 
 pub part_within : (f : Record → ℕ) (rs : List Record) (k : ℕ) (r : Record) → slice_get rs k ≡ Some r → f r ≤ sum_by f rs
 part_within f rs k r there = subst (λ x. f x ≤ sum_by f rs) (get_or_from_slice_get rs k r r there) (get_or-le-sum_by f rs k r (slice_get_within rs k r there))

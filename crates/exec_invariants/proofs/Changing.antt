@@ -8,7 +8,7 @@ use Rattle.exec_driver.{specs.{Driving.Driving, Punctual.IsPunctual}, proofs.Cou
 use Rattle.exec_machine.specs.Tests.{is_resolved}
 use Rattle.exec_moves.specs.declared.place.Place.{Place}
 use Rattle.exec_parts.{specs.{declared.parts.{mail.Reply.Reply, names.Names.Names, record.Record.Record, shared.Shared.Shared, sleeping.SleeperRecord.SleeperRecord, worker.{PutOff.PutOff, Worker.Worker}}, Records.number_in, Serving.changed_at, Calls.IsTold, View.driver_of}, proofs.Facts.{by_name, same_number}}
-use Rattle.exec_invariants.{specs.{Carried.IsCarried, Due.{AreTimed, IsWheelAt, may_be_due, wheel_moment}, Flown.HasFlown, Gates.IsKnown, Ordered.{IsOrdered, went_round}, Names.{HasWidth, IsNamed, IsAlike, IsSubmitted, tellers}, Sound.{SoundAt, served_in}}, proofs.{Going.{GoesOn, AllGoOn, same_worker, same_id, over_on, rooted_on}, HeldCounts.held_written, Marking.{mark_if, marked, was_marked}, ServingHolds.{Follows, KeepsBy}, Serving.kept, ServingPlaces.calm}}
+use Rattle.exec_invariants.{specs.{Carried.IsCarried, Due.{AreTimed, IsWheelAt, may_be_due, wheel_moment, IsDue, AreAsleep}, Flown.HasFlown, Gates.IsKnown, Ordered.{IsOrdered, went_round}, Names.{HasWidth, IsNamed, IsAlike, IsSubmitted, tellers}, Sound.{SoundAt, served_in, AreOver}, HoldPlaces.{has_wakes_at, is_bare_at}, Rooted.IsRooted}, proofs.{Going.{GoesOn, AllGoOn, same_worker, same_id, over_on, rooted_on}, HeldCounts.held_written, Marking.{mark_if, marked, was_marked}, ServingHolds.{Follows, KeepsBy}, Serving.kept, ServingPlaces.calm}}
 
 -- THE RECORDS
 
@@ -122,7 +122,6 @@ module _ (i : ℕ) (n n' : Names) (d d' : Driving Reply Reply) (zs : Slab (Sleep
   pub named_one : IsNamed i n d zs rs ss → IsSubmitted i n'.staged.items n'.untold.items d'.ring (changed_at rs (number_in n.requests.items id) f) → IsNamed i n' d' zs (changed_at rs (number_in n.requests.items id) f) ss
   named_one named submitted =
       let all = all_go_one rs (number_in n.requests.items id) f r one.there one.on in
-      let changed = changes_one d.requests id it it' one.at in
       record {
         requests = λ other h.
             let old = named.requests other (some_before d.requests id it it' one.at other (subst (λ s. IsSome (value_at s other)) one.slab h)) in
@@ -190,28 +189,21 @@ module _ {B : Type 0} (q q' : Place) (o : PutOff) (v : Names) (w : Worker) (s : 
       let all = all_go_one rs (number_in w.names.requests.items id) f r one.there one.on in
       let due = sound.due in
       let tell : tellers d'.requests w.home.timers ≡ tellers d.requests w.home.timers = ap (λ x. tellers x w.home.timers) one.slab ∙ tellers_still d.requests id it it' one.at watched w.home.timers in
-      record {
-        told = subst (λ n. IsTold w.names.ended.items w.home.deferred (n + 64)) (sym tell) (kept q w s sound (calm q to.from)).told;
-        wide = subst (λ n. HasWidth w.home.deferred (n + 64)) (sym tell) sound.wide;
-        named = named_one w.index w.names names_then d d' w.home.timers rs s.sleepers.items id it it' r f one sound.named submitted;
-        sized = size ∙ sound.sized;
-        over = rw (one.slab, pending_still d.requests id it it' one.at) (over_on rs records_then all w.index w.names.ended.items w.names.unreleased (pending_count d.requests) sound.over);
-        quiet = λ h. sound.quiet (sym to.wakes ∙ h);
-        due = record {
-          punctual = punctual;
-          told = told;
-          wheel = subst (λ m. IsWheelAt s.config w.moments.start m d'.wheel) (sym (to.moment w.moments)) wheel;
-          timed = timed_one w.index w.names names_then d d' w.home.timers rs s.sleepers.items id it it' r f one sound.named due.timed;
-          asleep = record { alike = due.asleep.alike; there = due.asleep.there; named = due.asleep.named; lets_go = due.asleep.lets_go; counted = due.asleep.counted; names = due.asleep.names };
-          order = order;
-        };
-        flown = flown;
-        carried = carried;
-        known = known;
-        rooted =
-            rooted_on rs records_then all w.index w.names names_then d d' w.home.timers w.home.deferred s.sleepers.items sound.rooted refl refl
-            (λ other h. subst (λ x. IsSome (value_at x other)) (sym one.slab) (some_after d.requests id it it' one.at other h))
-            (λ other told h. ready_before d.requests id it it' one.at other told (subst (λ x. value_at x other ≡ Some (Ready told)) one.slab h))
-            (λ other x h. watched_before d.requests id it it' one.at watched other x (subst (λ y. waiter_at y other ≡ Some x) one.slab h));
-        bare = λ h. (calm q to.from).lets_in d.requests w.home.timers sound.lets_go (sym to.bare ∙ h);
-      }
+      let told_so = subst (λ n. IsTold w.names.ended.items w.home.deferred (n + 64)) (sym tell) (kept q w s sound (calm q to.from)).told in
+      let wide = subst (λ n. HasWidth w.home.deferred (n + 64)) (sym tell) sound.wide in
+      let named_so = named_one w.index w.names names_then d d' w.home.timers rs s.sleepers.items id it it' r f one sound.named submitted in
+      let over : AreOver w.index names_then.ended.items names_then.unreleased (pending_count d'.requests) records_then =
+      rw (one.slab, pending_still d.requests id it it' one.at) (over_on rs records_then all w.index w.names.ended.items w.names.unreleased (pending_count d.requests) sound.over) in
+      let quiet : has_wakes_at q' ≡ false → w.home.deferred.notes.wakes.items ≡ [] = λ h. sound.quiet (sym to.wakes ∙ h) in
+      let wheel_so = subst (λ m. IsWheelAt s.config w.moments.start m d'.wheel) (sym (to.moment w.moments)) wheel in
+      let timed = timed_one w.index w.names names_then d d' w.home.timers rs s.sleepers.items id it it' r f one sound.named due.timed in
+      let asleep : AreAsleep w.home.closing w.index names_then w.home.timers s.sleepers.items =
+      record { alike = due.asleep.alike; there = due.asleep.there; named = due.asleep.named; lets_go = due.asleep.lets_go; counted = due.asleep.counted; names = due.asleep.names } in
+      let due_so : IsDue (served_in q') w.home.closing w.index w.moments s.config names_then d' w.home.timers records_then s.sleepers.items = assumption (punctual, told, wheel_so, timed, asleep, order) in
+      let rooted : IsRooted w.index names_then d' w.home.timers w.home.deferred records_then s.sleepers.items =
+      rooted_on rs records_then all w.index w.names names_then d d' w.home.timers w.home.deferred s.sleepers.items sound.rooted refl refl
+      (λ other h. subst (λ x. IsSome (value_at x other)) (sym one.slab) (some_after d.requests id it it' one.at other h))
+      (λ other told h. ready_before d.requests id it it' one.at other told (subst (λ x. value_at x other ≡ Some (Ready told)) one.slab h))
+      (λ other x h. watched_before d.requests id it it' one.at watched other x (subst (λ y. waiter_at y other ≡ Some x) one.slab h)) in
+      let bare : is_bare_at q' ≡ true → live_count w.home.timers ≡ 0 = λ h. (calm q to.from).lets_in d.requests w.home.timers sound.lets_go (sym to.bare ∙ h) in
+      assumption (told_so, wide, named_so, size ∙ sound.sized, over, quiet, due_so, flown, carried, known, rooted, bare)

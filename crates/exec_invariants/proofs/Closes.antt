@@ -1,10 +1,10 @@
 -- The first step of a closing as a step of the machine: it begins. And what each such step needs, by what it does to the machine.
-use Rattle.std.proofs.{Common.{◌≡◌, inl, ℕ, ◌*◌, ◌+◌, ◌≤◌, ◌&&◌, ◌==◌, ◌||◌, Bool, true, false, [], length, map, Option, Some, option_map, refl, sym, ap, subst, ◌∙◌, arith, slice_get, slice_set, nat_lt, if◌then◌else◌, slice_index_or}, lemmas.{Bool.{false≢true, eq-eqb, Decides.nat_tests}, List.length-set, Option.{get_or_from_slice_get, slice_get-map}}}
+use Rattle.std.proofs.{Common.{◌≡◌, inl, ℕ, ◌*◌, ◌+◌, ◌≤◌, ◌&&◌, ◌==◌, ◌||◌, Bool, true, false, [], length, map, Option, Some, option_map, refl, sym, ap, subst, ◌∙◌, arith, slice_get, slice_set, nat_lt, if◌then◌else◌, slice_index_or, ◌<◌}, lemmas.{Bool.{false≢true, eq-eqb, Decides.nat_tests}, List.length-set, Option.{get_or_from_slice_get, slice_get-map}}}
 use Rattle.exec_words.specs.Reserved.{Reserved}
 use Rattle.exec_task.specs.declared.{body.Said.Said, task.Phase.Phase}
-use Rattle.exec_machine.specs.{declared.{event.Event.{Event, TheVariants.Close}, state.{Next.Next, WorkerPhase.WorkerPhase}}, Choice.Choice.Plain, Progress.Plan, Tests.{has_ended, is_closing, is_done, is_open}, World.{no_task, task_of}}
+use Rattle.exec_machine.specs.{declared.{event.Event.{Event, TheVariants.Close}, state.{Next.Next, WorkerPhase.WorkerPhase}}, Choice.Choice.Plain, Progress.Plan, Tests.{has_ended, is_closing, is_done, is_open}, World.{no_task, task_of}, After.own_after}
 use Rattle.exec_moves.specs.{declared.{handing.{AfterPop.AfterPop, InPop.InPop}, place.{InClosing.InClosing, Place.Place}}, Move.move_at, Parts.{first_pop, has_others}, Seen.{next_at, serves_at}}
-use Rattle.exec_parts.{specs.{declared.parts.{seat.Seat.Seat as Chair, shared.Shared.Shared, task_slot.TaskSlot.TaskSlot, worker.Worker.Worker}, Phased.{IsPhased, IsPrepared, TurnsChair, closes_at, closing_in, has_left, has_shut, is_complete, root_over, stage_of}, Roles.{is_pool, owns_runner}, Spots.Spot, View.{Views, common_of, desk_of, driver_of, letters_in, own_of, owed_at, phase_seen, seat_seen, seats_seen, task_seen, things_with, visible, with_view}}, proofs.Facts.{not_same, or_right, same_number, set_there}}
+use Rattle.exec_parts.{specs.{declared.parts.{seat.Seat.Seat as Chair, shared.Shared.Shared, task_slot.TaskSlot.TaskSlot, worker.Worker.Worker}, Phased.{IsPhased, IsPrepared, TurnsChair, closes_at, closing_in, has_left, has_shut, is_complete, root_over, Stage, stage_of, has_stopped}, Roles.{is_pool, owns_runner}, Spots.Spot, View.{Views, common_of, desk_of, driver_of, letters_in, own_of, owed_at, phase_seen, seat_seen, seats_seen, task_seen, things_with, visible, with_view}}, proofs.Facts.{not_same, or_right, same_number, set_there}}
 use Rattle.exec_invariants.{specs.{Whole.with_worker, Holding.{box_of, Hands, holder_of, IsHolding, Mail, nap_of, thing_of}, Places.{drops_at, is_pooled_at, no_drops}, Sound.{Aims, HasBatch, IsSeated, LetsGoAt, SoundAt, has_wakes_at}, Works.{Steps, Suits, Works}}, proofs.{BoxBegan.holding_began, Dedicated.{as_long, chair_of_pool}, DedicatedSeen.pool_seen, Aside.{SparesSeats, queue_of_chair, queues_set, seats_own}, Hearing.unheard, PoolKept.gates_set, Seats.{chair_set, own_seat}, Shutting.{beside_closing, Closes, Empties, Follows, GoesOnlyOn, Holds, mail_there, onward, Pools, pools_calm, Ready, seats_show, shown_as, sound_closing}, Turning.view_found}}
 
 pub now_closing : (p : WorkerPhase) → is_open p ≡ false → has_ended p ≡ false → is_closing p ≡ true
@@ -124,15 +124,11 @@ module _ {B L : Type 0} (left : B → L) (spot : L → Option Said → Spot) whe
         held own at_own = let is : chair ≡ own = cc (found, at_own) in rw (← is) (sound.queue seat there)
 
         -- where it leads, by whether it is worker zero
-        stage : (own : Chair) → slice_get s'.seats.items w.index ≡ Some own → stage_of own s' ≡ record { phase = WorkerPhase.Closing; pool = seat.pool; left = seat.left; shut = seat.mailbox.inbox.closed; stopped = s.stopped; set = record s.set { closed = s.set.closed || (w.index == 0) }; made = seat.made }
-        stage own at_own = let is : chair ≡ own = cc (found, at_own) in rw (← is, stopped, ap (λ (z : Shared B). z.set) kept, sound.role.owns) refl
+        stage_then : Stage
+        stage_then = record { phase = WorkerPhase.Closing; pool = seat.pool; left = seat.left; shut = seat.mailbox.inbox.closed; stopped = s.stopped; set = record s.set { closed = s.set.closed || (w.index == 0) }; made = seat.made }
 
-        to : (q : Place) → Follows q → drops_at q ≡ no_drops → Ready q true w.batch w.processed w s s' → w' ≡ onward q true w.batch w.processed w → ((p : Plan) (vs : Views) → Suits p vs w s → Works left spot p vs w s e (onward q true w.batch w.processed w) s') → Steps left spot w s e w' s'
-        to q follows drops ready worker works =
-            closed_by InClosing.Close q true w.batch w.processed w w' s s' e sound follows ready on (inl (ap (λ (z : Shared B). z.global) kept)) seats
-            (pools_calm InClosing.Close q true w.batch w.processed w s s' sound follows drops (gates_set w.index s.seats.items s'.seats.items seat chair items there (record { left = refl; pool = refl; closed = refl; mail = λ h. h })) all_shards on.closed)
-            (holds q)
-            queues worker works
+        stage : (own : Chair) → slice_get s'.seats.items w.index ≡ Some own → stage_of own s' ≡ stage_then
+        stage own at_own = let is : chair ≡ own = cc (found, at_own) in rw (← is, stopped, ap (λ (z : Shared B). z.set) kept, sound.role.owns) refl
 
         things : (vs : Views) → things_with vs s' ≡ things_with vs s
         things vs = ap (λ (z : Shared B). things_with vs z) kept ∙ seats_show vs w.index s s'.seats.items seat chair there items refl refl refl refl
@@ -140,61 +136,45 @@ module _ {B L : Type 0} (left : B → L) (spot : L → Option Said → Spot) whe
         no_letters : letters_in w.letters ≡ []
         no_letters = sound.letters.none refl
 
-        quiet : (q : Place) → has_wakes_at q ≡ false → w.home.deferred.notes.wakes.items ≡ []
-        quiet q h = sound.quiet refl
+        closed_then : s.stopped ≡ true → (s.set.closed || (w.index == 0)) ≡ true
+        closed_then h = closed_still s.set.closed (w.index == 0) (phased.closed h)
 
-        at_zero : (w.index == 0) ≡ true → Steps left spot w s e w' s'
-        at_zero is =
-            let q : Place = Place.Closing InClosing.CloseQueue in
-            let pooled : is_pooled_at q ≡ true → is_pool w.role ≡ true = λ h. let less : nat_lt w.index s.config.workers ≡ true = grind (arith, nat_tests, same_number w.index 0 is, sound.config.workers) in sound.role.pool ∙ less in
-            let lets_go : LetsGoAt q (driver_of w).requests w.home.timers = λ no. absurd (false≢true no) in
-            let batch : HasBatch q w.batch.values = λ no. absurd (false≢true no) in
-            let ready : Ready q true w.batch w.processed w s s' = record {
-              kept = closes;
-              closing = λ h. refl;
-              seated = seated;
-              queue = held;
-              aims = same_number w.index 0 is;
-              batch = batch;
-              mine = sound.mine;
-              place = batch_place;
-              few = sound.processed;
-              many = as_many_seats;
-              pooled = pooled;
-              lets_go = lets_go;
-              quiet = quiet q;
-              shards = shards;
-              phased = λ own at_own.
-                  subst (λ st. IsPhased w.index true (Some InClosing.CloseQueue) true w.root w.names.unreleased st s.tasks.items) (sym (stage own at_own))
-                  (record {
-                    told = refl;
-                    opened = refl;
-                    ended = λ h. absurd (false≢true h);
-                    root = phased.root;
-                    left = phased.left;
-                    shut = phased.shut;
-                    by_zero = λ zero. ((phased.by_zero zero).0, or_right s.set.closed (w.index == 0) is);
-                    by_other = λ some pool over. phased.by_other some pool refl;
-                    closed = λ h. closed_still s.set.closed (w.index == 0) (phased.closed h);
-                    prepared = tt;
-                  });
-            } in
-            to q (follows_in InClosing.CloseQueue) refl ready (goes ∙ rw (sound.role.owns, is) refl)
+        to : (q : Place) → Follows q → drops_at q ≡ no_drops → Aims q s.config w.index s'.seats.items → HasBatch q w.batch.values → (is_pooled_at q ≡ true → is_pool w.role ≡ true) → LetsGoAt q (driver_of w).requests w.home.timers
+            → IsPhased w.index (closes_at q) (closing_in q) true w.root w.names.unreleased stage_then s.tasks.items → w' ≡ onward q true w.batch w.processed w
+            → ((p : Plan) (vs : Views) → Suits p vs w s → move_at p.config w.index (own_of w) (common_of left spot p vs s) (desk_of w) (things_with vs s) (Place.Closing InClosing.Close) ≡ record { event = Close; choice = Plain; desk = desk_of (onward q true w.batch w.processed w); thing = things_with vs s })
+            → ((p : Plan) (vs : Views) → Suits p vs w s → own_of (onward q true w.batch w.processed w) ≡ own_after p.config (own_of w) (common_of left spot p vs s) w.index Close Plain) → Steps left spot w s e w' s'
+        to q follows drops aims batch pooled lets_go phased_then worker moves own =
+            let v : Worker = onward q true w.batch w.processed w in
+            let closing : w.home.closing ≡ true → true ≡ true = λ h. refl in
+            let quiet : has_wakes_at q ≡ false → w.home.deferred.notes.wakes.items ≡ [] = λ h. sound.quiet refl in
+            let phased_on : (own : Chair) → slice_get s'.seats.items w.index ≡ Some own → IsPhased w.index (closes_at q) (closing_in q) true w.root w.names.unreleased (stage_of own s') s.tasks.items = λ own at_own.
+            subst (λ st. IsPhased w.index (closes_at q) (closing_in q) true w.root w.names.unreleased st s.tasks.items) (sym (stage own at_own)) phased_then in
+            let ready : Ready q true w.batch w.processed w s s' = assumption (closes, closing, seated, held, aims, batch, batch_place, as_many_seats, pooled, lets_go, quiet, shards, phased_on, sound) in
+            closed_by InClosing.Close q true w.batch w.processed w w' s s' e sound follows ready on (inl (ap (λ (z : Shared B). z.global) kept)) seats
+            (pools_calm InClosing.Close q true w.batch w.processed w s s' sound follows drops (gates_set w.index s.seats.items s'.seats.items seat chair items there (record { left = refl; pool = refl; closed = refl; mail = λ h. h })) all_shards on.closed)
+            (holds q) queues worker
             (λ p vs suits.
-            let cs = common_of left spot p vs s in
             let mine = own_seat left spot p vs w s seat suits there in
             let root = root_there p vs s w.root sound.runnable.root sound.runnable.there in
             let again = view_found vs w.index (visible w) suits.seen in
             record {
               choice = Plain;
               moves =
-                  subst (λ y. move_at p.config w.index (own_of w) cs (desk_of w) (things_with vs s) y ≡ record { event = e; choice = Plain; desk = desk_of (onward q true w.batch w.processed w); thing = things_with (with_view vs w.index (visible w)) s' }) (sym sound.here)
-                  (shown_as _ (λ v. record { event = e; choice = Plain; desk = desk_of (onward q true w.batch w.processed w); thing = things_with v s' }) vs _ again
-                  (rw (event, is) (ap (λ x. record { event = Close; choice = Plain; desk = desk_of (onward q true w.batch w.processed w); thing = x }) (sym (things vs)))));
+                  subst (λ y. move_at p.config w.index (own_of w) (common_of left spot p vs s) (desk_of w) (things_with vs s) y ≡ record { event = e; choice = Plain; desk = desk_of v; thing = things_with (with_view vs w.index (visible w)) s' }) (sym sound.here)
+                  (shown_as _ (λ z. record { event = e; choice = Plain; desk = desk_of v; thing = things_with z s' }) vs _ again (rw event (moves p vs suits ∙ ap (λ x. record { event = Close; choice = Plain; desk = desk_of v; thing = x }) (sym (things vs)))));
               may = rw (event, sound.here, no_letters) (refl, (rw mine phased.opened, (rw (root, sound.runnable.home, eq-eqb w.index w.index refl) refl, (rw root (now_done sound.runnable.root.cell.phase sound.runnable.root.poller ∙ phased.root sound.runnable.root sound.runnable.there), tt))));
-              own = rw (event, sound.here, is, no_letters) refl;
-              common = rw event (ap (λ v. common_of left spot p v s') again ∙ ap (common_of left spot p vs) kept ∙ rw (seats_on p vs w s s' chair suits items, sound.role.owns, mine) refl);
+              own = rw event (own p vs suits);
+              common = rw event (ap (λ z. common_of left spot p z s') again ∙ ap (common_of left spot p vs) kept ∙ rw (seats_on p vs w s s' chair suits items, sound.role.owns, mine) refl);
             })
+
+        at_zero : (w.index == 0) ≡ true → Steps left spot w s e w' s'
+        at_zero is =
+            let q : Place = Place.Closing InClosing.CloseQueue in
+            let pooled : is_pooled_at q ≡ true → is_pool w.role ≡ true = λ h. let less : nat_lt w.index s.config.workers ≡ true = grind (arith, nat_tests, same_number w.index 0 is, sound.config.workers) in sound.role.pool ∙ less in
+            let ended : false ≡ true → Some InClosing.CloseQueue ≡ Some InClosing.End = λ h. absurd (false≢true h) in
+            let by_zero : w.index ≡ 0 → (s.stopped ≡ false) × ((s.set.closed || (w.index == 0)) ≡ true) = λ zero. ((phased.by_zero zero).0, or_right s.set.closed (w.index == 0) is) in
+            to q (follows_in InClosing.CloseQueue) refl (same_number w.index 0 is) (λ no. absurd (false≢true no)) pooled (λ no. absurd (false≢true no)) (assumption (ended, by_zero, closed_then, tt, phased)) (goes ∙ rw (sound.role.owns, is) refl)
+            (λ p vs suits. rw is refl) (λ p vs suits. rw (sound.here, is, no_letters) refl)
 
         no_more : (b : Bool) → (b && false) ≡ false
         no_more true = refl
@@ -206,53 +186,13 @@ module _ {B L : Type 0} (left : B → L) (spot : L → Option Said → Spot) whe
         elsewhere : (w.index == 0) ≡ false → (q : Place) (at : InClosing) → (if is_pool w.role then first_pop s.config AfterPop.Discard else Place.Closing InClosing.CloseMailbox) ≡ q → closes_at q ≡ true → closing_in q ≡ Some at → (seat.pool && has_left true (Some at)) ≡ false → has_shut true (Some at) ≡ false → root_over true (Some at) ≡ true → IsPrepared (Some at) w.names.unreleased (record s.set { closed = s.set.closed || (w.index == 0) })
             → Aims q s.config w.index s'.seats.items → Follows q → next_at q ≡ (if seat.pool then Next.Free else Next.ClosesMailbox) → serves_at q ≡ false → owed_at w.workers q ≡ [] → drops_at q ≡ no_drops → (is_pooled_at q ≡ true → is_pool w.role ≡ true) → LetsGoAt q (driver_of w).requests w.home.timers → HasBatch q w.batch.values → Steps left spot w s e w' s'
         elsewhere is q at first closes_there closing leaves shuts over prepared aims follows next unserved owes drops pooled lets_go batch =
-            let ready : Ready q true w.batch w.processed w s s' = record {
-              kept = closes;
-              closing = λ h. refl;
-              seated = seated;
-              queue = held;
-              aims = aims;
-              batch = batch;
-              mine = sound.mine;
-              place = batch_place;
-              few = sound.processed;
-              many = as_many_seats;
-              pooled = pooled;
-              lets_go = lets_go;
-              quiet = quiet q;
-              shards = shards;
-              phased = λ own at_own.
-                  subst (λ st. IsPhased w.index (closes_at q) (closing_in q) true w.root w.names.unreleased st s.tasks.items) (sym (stage own at_own))
-                  (rw (closes_there, closing)
-                  (record {
-                    told = refl;
-                    opened = refl;
-                    ended = λ h. absurd (false≢true h);
-                    root = λ slot at_root. phased.root slot at_root ∙ sym over;
-                    left = phased.left ∙ no_more seat.pool ∙ sym leaves;
-                    shut = phased.shut ∙ sym shuts;
-                    by_zero = λ zero. absurd (false≢true (sym is ∙ eq-eqb w.index 0 zero));
-                    by_other = λ some pool over. phased.by_other some pool refl;
-                    closed = λ h. closed_still s.set.closed (w.index == 0) (phased.closed h);
-                    prepared = prepared;
-                  }));
-            } in
-            to q follows drops ready (goes ∙ rw (sound.role.owns, is, first) refl)
-            (λ p vs suits.
-            let cs = common_of left spot p vs s in
-            let mine = own_seat left spot p vs w s seat suits there in
-            let root = root_there p vs s w.root sound.runnable.root sound.runnable.there in
-            let again = view_found vs w.index (visible w) suits.seen in
-            record {
-              choice = Plain;
-              moves =
-                  subst (λ y. move_at p.config w.index (own_of w) cs (desk_of w) (things_with vs s) y ≡ record { event = e; choice = Plain; desk = desk_of (onward q true w.batch w.processed w); thing = things_with (with_view vs w.index (visible w)) s' }) (sym sound.here)
-                  (shown_as _ (λ v. record { event = e; choice = Plain; desk = desk_of (onward q true w.batch w.processed w); thing = things_with v s' }) vs _ again
-                  (rw (event, is, pool_seen left spot p vs (Place.Closing InClosing.Close) w s sound suits, ← suits.config, first) (ap (λ x. record { event = Close; choice = Plain; desk = desk_of (onward q true w.batch w.processed w); thing = x }) (sym (things vs)))));
-              may = rw (event, sound.here, no_letters) (refl, (rw mine phased.opened, (rw (root, sound.runnable.home, eq-eqb w.index w.index refl) refl, (rw root (now_done sound.runnable.root.cell.phase sound.runnable.root.poller ∙ phased.root sound.runnable.root sound.runnable.there), tt))));
-              own = rw (event, sound.here, is, mine, follows.polls, next, unserved, owes) refl;
-              common = rw event (ap (λ v. common_of left spot p v s') again ∙ ap (common_of left spot p vs) kept ∙ rw (seats_on p vs w s s' chair suits items, sound.role.owns, mine) refl);
-            })
+            let ended : false ≡ true → Some at ≡ Some InClosing.End = λ h. absurd (false≢true h) in
+            let root : (slot : TaskSlot B) → slice_get s.tasks.items w.root ≡ Some slot → is_complete slot.cell.phase ≡ root_over true (Some at) = λ slot at_root. phased.root slot at_root ∙ sym over in
+            let by_zero : w.index ≡ 0 → (s.stopped ≡ has_stopped true (Some at)) × ((s.set.closed || (w.index == 0)) ≡ true) = λ zero. absurd (false≢true (sym is ∙ eq-eqb w.index 0 zero)) in
+            let by_other : 0 < w.index → seat.pool ≡ true → root_over true (Some at) ≡ true → s.stopped ≡ true = λ some pool over. phased.by_other some pool refl in
+            to q follows drops aims batch pooled lets_go (rw (closes_there, closing) (assumption (ended, root, phased.left ∙ no_more seat.pool ∙ sym leaves, phased.shut ∙ sym shuts, by_zero, by_other, closed_then, prepared))) (goes ∙ rw (sound.role.owns, is, first) refl)
+            (λ p vs suits. rw (is, pool_seen left spot p vs (Place.Closing InClosing.Close) w s sound suits, ← suits.config, first) refl)
+            (λ p vs suits. rw (sound.here, is, own_seat left spot p vs w s seat suits there, follows.polls, next, unserved, owes) refl)
 
         by_others : (w.index == 0) ≡ false → (pool : Bool) → is_pool w.role ≡ pool → (others : Bool) → has_others s.config ≡ others → Steps left spot w s e w' s'
         by_others is true pool true which =

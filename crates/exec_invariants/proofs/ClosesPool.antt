@@ -1,9 +1,9 @@
 -- Worker zero closes the global queue, opens the barrier and stops the pool, each as a step of the machine.
-use Rattle.std.proofs.{Common.{◌≡◌, inl, inr, ℕ, ◌&&◌, ◌-◌, ◌<◌, Bool, true, false, [], ◌++◌, length, map, Option, Some, refl, sym, ap, subst, ◌∙◌, arith, slice_get, nat_lt, slice_index_or}, lemmas.{Bool.{false≢true, Decides.nat_tests}, List.append-nil}}
+use Rattle.std.proofs.{Common.{◌≡◌, inl, inr, ℕ, ◌&&◌, ◌-◌, ◌<◌, Bool, true, false, [], ◌++◌, length, map, Option, Some, refl, sym, ap, subst, ◌∙◌, arith, slice_get, nat_lt, slice_index_or, ◌≢◌, ◌+◌, ◌≤◌, ◌*◌}, lemmas.{Bool.{false≢true, Decides.nat_tests}, List.append-nil}}
 use Rattle.exec_task.specs.declared.body.Said.{Said}
 use Rattle.exec_machine.specs.{declared.{event.Event.{Event, TheVariants.{Turn, Stop}}, state.Next.Next}, Choice.Choice.Plain, Closing.letters_to_roots}
 use Rattle.exec_moves.specs.{declared.{handing.{AfterPop.AfterPop, InPop.InPop}, place.{InClosing.InClosing, Place.Place}}, Move.move_at, Parts.tells_from, Seen.{next_at, serves_at}}
-use Rattle.exec_parts.{specs.{declared.parts.{shared.Shared.Shared, worker.Worker.Worker}, Phased.{IsGoing, IsPhased, IsPrepared, Stage, closes_at, closing_in, has_left, has_shut, has_stopped, root_over, stage_of}, Spots.Spot, View.{common_of, desk_of, driver_of, letters_in, own_of, owed_at, things_with, visible, with_view}}, proofs.Facts.by_number}
+use Rattle.exec_parts.{specs.{declared.parts.{shared.Shared.Shared, worker.Worker.Worker, seat.Seat.Seat as Chair}, Phased.{IsGoing, IsPhased, IsPrepared, Stage, closes_at, closing_in, has_left, has_shut, has_stopped, root_over, stage_of}, Spots.Spot, View.{common_of, desk_of, driver_of, letters_in, own_of, owed_at, things_with, visible, with_view}, Roles.is_pool}, proofs.Facts.by_number}
 use Rattle.exec_invariants.{specs.{Holding.box_of, Places.{drops_at, is_pooled_at, no_drops}, Sound.{Aims, HasBatch, IsSeated, LetsGoAt, SoundAt, has_wakes_at}, Works.Steps}, proofs.{Dedicated.chair_of_pool, Aside.{SparesSeats, queue_of_chair, seats_same}, PoolKept.gates_same, Seats.own_seat, Shutting.{Closes, Follows, GoesOnlyOn, Holds, holds_calm, Pools, pools_calm, Ready, shown_as}, Turning.view_found, Closes.{closed_by, follows_in, follows_pop, now_closing}}}
 
 module _ {B L : Type 0} (left : B → L) (spot : L → Option Said → Spot) where
@@ -14,38 +14,32 @@ module _ {B L : Type 0} (left : B → L) (spot : L → Option Said → Spot) whe
         → (w.index ≡ 0 → s'.stopped ≡ has_stopped true (Some y)) → (s.stopped ≡ true → s'.stopped ≡ true) → (q : Place) → closes_at q ≡ true → closing_in q ≡ Some y → root_over true (Some x) ≡ true → root_over true (Some y) ≡ true → IsPrepared (Some y) w.names.unreleased s'.set → has_wakes_at (Place.Closing x) ≡ false → is_pooled_at (Place.Closing x) ≡ true → LetsGoAt q (driver_of w).requests w.home.timers → HasBatch q w.batch.values
         → Aims q s.config w.index s.seats.items → Ready q w.home.closing w.batch w.processed w s s'
     stays x y sound going kept seats same more closes leaves shuts zero stopped q closes_there closing over over_then prepared quiet pools lets_go batch aims =
-        record {
-          kept = kept;
-          closing = λ h. h;
-          seated = subst (λ xs. IsSeated w.index false s.config.workers xs) (sym (ap (λ v. v.items) seats)) sound.seated;
-          queue = λ chair there. sound.queue chair (subst (λ v. slice_get v.items w.index ≡ Some chair) seats there);
-          aims = subst (λ v. Aims q s.config w.index v.items) (sym seats) aims;
-          batch = batch;
-          mine = sound.mine;
-          place = λ chair there. sound.batch_place chair (subst (λ v. slice_get v.items w.index ≡ Some chair) seats there);
-          few = sound.processed;
-          many = ap (λ v. length v.items) seats;
-          pooled = λ h. sound.pooled pools;
-          lets_go = lets_go;
-          quiet = λ h. sound.quiet quiet;
-          shards = more;
-          phased = λ chair there.
-              let at_own : slice_get s.seats.items w.index ≡ Some chair = subst (λ v. slice_get v.items w.index ≡ Some chair) seats there in
-              let it : IsPhased w.index true (Some x) w.home.closing w.root w.names.unreleased (stage_of chair s) s.tasks.items = subst (λ b. IsPhased w.index b (Some x) w.home.closing w.root w.names.unreleased (stage_of chair s) s.tasks.items) closes (sound.phased chair at_own) in
-              rw (closes_there, closing)
-              (record {
-                told = it.told;
-                opened = it.opened;
-                ended = λ h. absurd (false≢true (sym (going chair at_own) ∙ h));
-                root = λ slot found. it.root slot found ∙ over ∙ sym over_then;
-                left = it.left ∙ ap (λ b. chair.pool && b) (sym leaves);
-                shut = it.shut ∙ sym shuts;
-                by_zero = λ is. (zero is, same ∙ (it.by_zero is).1);
-                by_other = λ some pool h. stopped (it.by_other some pool over);
-                closed = λ h. same ∙ closed_by_now it (chair_of_pool (Place.Closing x) w s sound chair at_own ∙ sound.pooled pools) h;
-                prepared = prepared;
-              });
-        }
+        let closing_so : w.home.closing ≡ true → w.home.closing ≡ true = λ h. h in
+        let seated = subst (λ xs. IsSeated w.index false s.config.workers xs) (sym (ap (λ v. v.items) seats)) sound.seated in
+        let queue : (chair : Chair) → slice_get s'.seats.items w.index ≡ Some chair → chair.queue.held ≡ [] = λ chair there. sound.queue chair (subst (λ v. slice_get v.items w.index ≡ Some chair) seats there) in
+        let aims_so = subst (λ v. Aims q s.config w.index v.items) (sym seats) aims in
+        let place : (chair : Chair) → slice_get s'.seats.items w.index ≡ Some chair → chair.mailbox.inbox.closed ≡ false → 2 * chair.made + 1 ≤ w.batch.places =
+        λ chair there. sound.batch_place chair (subst (λ v. slice_get v.items w.index ≡ Some chair) seats there) in
+        let pooled : is_pooled_at q ≡ true → is_pool w.role ≡ true = λ h. sound.pooled pools in
+        let quiet_so : has_wakes_at q ≡ false → w.home.deferred.notes.wakes.items ≡ [] = λ h. sound.quiet quiet in
+        let phased : (chair : Chair) → slice_get s'.seats.items w.index ≡ Some chair → IsPhased w.index (closes_at q) (closing_in q) w.home.closing w.root w.names.unreleased (stage_of chair s') s.tasks.items = λ chair there.
+        let at_own : slice_get s.seats.items w.index ≡ Some chair = subst (λ v. slice_get v.items w.index ≡ Some chair) seats there in
+        let it : IsPhased w.index true (Some x) w.home.closing w.root w.names.unreleased (stage_of chair s) s.tasks.items =
+        subst (λ b. IsPhased w.index b (Some x) w.home.closing w.root w.names.unreleased (stage_of chair s) s.tasks.items) closes (sound.phased chair at_own) in
+        rw (closes_there, closing)
+        (record {
+          told = it.told;
+          opened = it.opened;
+          ended = λ h. absurd (false≢true (sym (going chair at_own) ∙ h));
+          root = λ slot found. it.root slot found ∙ over ∙ sym over_then;
+          left = it.left ∙ ap (λ b. chair.pool && b) (sym leaves);
+          shut = it.shut ∙ sym shuts;
+          by_zero = λ is. (zero is, same ∙ (it.by_zero is).1);
+          by_other = λ some pool h. stopped (it.by_other some pool over);
+          closed = λ h. same ∙ closed_by_now it (chair_of_pool (Place.Closing x) w s sound chair at_own ∙ sound.pooled pools) h;
+          prepared = prepared;
+        }) in
+        assumption (kept, closing_so, seated, queue, aims_so, batch, place, sound.processed, ap (λ v. length v.items) seats, pooled, lets_go, quiet_so, more, phased, sound)
       where
         -- the set is closed: worker zero has closed it, and any other closes once the pool is stopped
         closed_by_now : {st : Stage} → IsPhased w.index true (Some x) w.home.closing w.root w.names.unreleased st s.tasks.items → st.pool ≡ true → s'.stopped ≡ true → st.set.closed ≡ true

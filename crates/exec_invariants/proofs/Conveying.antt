@@ -1,5 +1,5 @@
 -- What keeps what the kernel has, where a request goes on and where an entry goes into the submission queue.
-use Rattle.std.proofs.{Common.{◌≡◌, ◌≢◌, ℕ, ◌+◌, ◌-◌, ◌<◌, ◌≤◌, ◌==◌, Bool, true, false, cond, List, [], ◌∷◌, ◌++◌, filter, Some, refl, sym, ap, subst, ◌∙◌, arith, slice_get, slice_index_or, if◌then◌else◌}, lemmas.{Bool.{eq-eqb}, List.{append-nil, Elements.filter-append}}}
+use Rattle.std.proofs.{Common.{◌≡◌, ◌≢◌, ℕ, ◌+◌, ◌-◌, ◌<◌, ◌≤◌, ◌==◌, Bool, true, false, cond, List, [], ◌∷◌, ◌++◌, filter, Some, refl, sym, ap, subst, ◌∙◌, arith, slice_get, slice_index_or}, lemmas.{Bool.{eq-eqb}, List.{append-nil, Elements.filter-append}}}
 use Rattle.exec_base.specs.{Slab.{Slab, written}, declared.slab.Id.Id}
 use Rattle.exec_outcomes.specs.{Outcomes.bytes_of, declared.outcome.{OpResult.OpResult}}
 use Rattle.exec_request.specs.{Requests.{target_of, window_by}, declared.{request.Request.Request as Asking, window.Window.Window}}
@@ -7,7 +7,7 @@ use Rattle.exec_ring.specs.{Kernels.{is_of, with_entry}, Rings.RingState, declar
 use Rattle.exec_waiters.specs.{Ids.{user_data_of, index_in}, States.waiter_at, declared.waiter.{Entry.{Entry, TheVariants.Pending}, Waiter.Waiter}}
 use Rattle.exec_machine.specs.declared.state.RequestPhase.{RequestPhase}
 use Rattle.exec_parts.{specs.{declared.parts.{mail.Reply.Reply, record.Record.Record}, Records.number_in, Serving.changed_at}, proofs.Facts.{by_name, same_number}}
-use Rattle.exec_invariants.{specs.Carried.{HasStretchFor, IsCarried, IsUnderWay, IsWhole, may_move, moves_by, those_of, unlanded}, proofs.{Carrying.{index_told, sum_changed}, Changing.changes_one, Judging.is_of_bytes, Marking.{mark_if, marked, was_marked}}}
+use Rattle.exec_invariants.{specs.Carried.{HasStretchFor, IsCarried, IsUnderWay, IsWhole, may_move, those_of}, proofs.{Carrying.{index_told, sum_changed}, Changing.changes_one, Judging.is_of_bytes, Marking.{mark_if, marked, was_marked}}}
 
 -- one more entry in the submission queue is none of another request
 other_entry : (w : Window) (u v : ℕ) (r : RingState) → (u ≡ v → ⊥) → those_of v (with_entry r w u).staged ≡ those_of v r.staged
@@ -140,10 +140,7 @@ module _ (numbers : List ℕ) (s : Slab (Entry Reply Reply)) (ring : RingState) 
       carried_one id it it' r f (with_entry ring w u) live there (λ v differs. refl) (λ v differs. other_entry w u v ring differs) (subst (λ p. IsUnderWay p u it'.request (with_entry ring w u)) (sym staged) so) whole
       (ap (λ o. o.target) operation ∙ carried.target id it r live there ∙ sym target)
       (λ out socket.
-      let same : may_move out socket (f r) ≡ may_move out socket r =
-      ap (λ p. if moves_by out socket (f r).shown.operation then unlanded p (f r).shown.operation else 0) staged
-      ∙ ap (λ o. if moves_by out socket o then unlanded RequestPhase.Staged o else 0) operation
-      ∙ sym (ap (λ p. if moves_by out socket r.shown.operation then unlanded p r.shown.operation else 0) queued) in
+      let same : may_move out socket (f r) ≡ may_move out socket r = grind (arith, staged, operation, queued) in
       omega (arith, same))
       stretch apart
 

@@ -172,77 +172,46 @@ module _ {B : Type 0} where
 
   -- a worker publishes its bit
   pub counts_published : (z : Stance) (w : Worker) (s : Shared B) (x : Idle) → Stands z w → z.published ≡ false → w.index < s.config.workers → w.index < 64 → x ≡ record s.idle { published = slice_set s.idle.published w.index true } → Counts z (record z { published = true }) w s x
-  counts_published z w s x here out there few is = subst (Counts z (record z { published = true }) w s) (sym is) done
-    where
-      i : ℕ
-      i = w.index
-
-      set : List Bool
-      set = s.idle.published
-
-      set' : List Bool
-      set' = slice_set s.idle.published w.index true
-
-      x1 : Idle
-      x1 = record s.idle { published = slice_set s.idle.published w.index true }
-
-      n : ℕ
-      n = s.config.workers
-
-      within : (others : Profile) → IsWhole (with_worker others w) s → i < length set
-      within others whole = omega (arith, whole.set, few)
-
-      balance : (others : Profile) → IsWhole (with_worker others w) s → claimed_of n others i true set' ≡ claimed_of n others i z.published set
-      balance = grind (arith, beside, set_beside, here_shown, set_at, sum_one)
-
-      done : Counts z (record z { published = true }) w s x1
-      done = record {
+  counts_published z w s x here out there few is =
+      let i : ℕ = w.index in
+      let set : List Bool = s.idle.published in
+      let set' : List Bool = slice_set s.idle.published w.index true in
+      let x1 : Idle = record s.idle { published = slice_set s.idle.published w.index true } in
+      let n : ℕ = s.config.workers in
+      let balance : (others : Profile) → IsWhole (with_worker others w) s → claimed_of n others i true set' ≡ claimed_of n others i z.published set = grind (arith, beside, set_beside, here_shown, set_at, sum_one) in
+      let done : Counts z (record z { published = true }) w s x1 = record {
         sized = length-set set i true;
         counts = λ others whole. omega (arith, balance others whole);
         bits = λ others whole j h. by_number j i (λ other. bits_beside z w s others i true true here whole j other (inl refl) h) (λ same. (ap (shown_by others i true) same ∙ here_shown others i true, subst (λ k. k < n) (sym same) there));
-      }
+      } in
+      subst (Counts z (record z { published = true }) w s) (sym is) done
 
   -- and withdraws it: where the bit was gone, it holds its claimer's count
   pub counts_withdrawn : (z : Stance) (searching counted : Bool) (w : Worker) (s : Shared B) (x : Idle) → Stands z w → z.published ≡ true → w.index < s.config.workers → w.index < 64 → x ≡ record s.idle { published = slice_set s.idle.published w.index false }
       → one_if searching + one_if counted ≡ own_counts z + one_if (not (is_in s.idle.published w.index)) → Counts z (record { searching = searching; counted = counted; published = false }) w s x
-  counts_withdrawn z searching counted w s x here shown there few is own = subst (Counts z z' w s) (sym is) done
-    where
-      z' : Stance
-      z' = record { searching = searching; counted = counted; published = false }
-
-      i : ℕ
-      i = w.index
-
-      set : List Bool
-      set = s.idle.published
-
-      set' : List Bool
-      set' = slice_set s.idle.published w.index false
-
-      x1 : Idle
-      x1 = record s.idle { published = slice_set s.idle.published w.index false }
-
-      n : ℕ
-      n = s.config.workers
-
-      balance : (others : Profile) → claimed_of n others i false set' + one_if (not (is_in set i)) ≡ claimed_of n others i z.published set
-      balance others =
-          let f = is_claimed others i z.published set in
-          let g = is_claimed others i false set' in
-          let same : (j : ℕ) → j ≢ i → g j ≡ f j = λ j other. rw (beside others i j z.published false other, set_beside set i j false other) refl in
-          let at_f : f i ≡ one_if (not (is_in set i)) = rw (here_shown others i z.published, shown) refl in
-          let at_g : g i ≡ 0 = rw (here_shown others i false) refl in
-          omega (arith, sum_one f g i 0 n (omega arith) (omega (arith, there)) same, at_f, at_g)
-
-      done : Counts z z' w s x1
-      done = record {
+  counts_withdrawn z searching counted w s x here shown there few is own =
+      let i : ℕ = w.index in
+      let set : List Bool = s.idle.published in
+      let set' : List Bool = slice_set s.idle.published w.index false in
+      let n : ℕ = s.config.workers in
+      let balance : (others : Profile) → claimed_of n others i false set' + one_if (not (is_in set i)) ≡ claimed_of n others i z.published set = λ others.
+      let f = is_claimed others i z.published set in
+      let g = is_claimed others i false set' in
+      let same : (j : ℕ) → j ≢ i → g j ≡ f j = λ j other. rw (beside others i j z.published false other, set_beside set i j false other) refl in
+      let at_f : f i ≡ one_if (not (is_in set i)) = rw (here_shown others i z.published, shown) refl in
+      let at_g : g i ≡ 0 = rw (here_shown others i false) refl in
+      omega (arith, sum_one f g i 0 n (omega arith) (omega (arith, there)) same, at_f, at_g) in
+      let z' : Stance = record { searching = searching; counted = counted; published = false } in
+      let x1 : Idle = record s.idle { published = slice_set s.idle.published w.index false } in
+      let done : Counts z z' w s x1 = record {
         sized = length-set set i false;
         counts = λ others whole. omega (arith, balance others, own);
         bits = λ others whole j h. by_number j i (λ other. bits_beside z w s others i false false here whole j other (inl refl) h) (λ same.
             let within : i < length set = omega (arith, whole.set, few) in
             let no : false ≡ true = sym (set_at set i false within) ∙ ap (is_in set') (sym same) ∙ h in
             absurd (false≢true no));
-      }
+      } in
+      subst (Counts z z' w s) (sym is) done
 
   -- A claim takes the bit of a worker, and hands a count over to it.
   pub claimed_there : (z : Stance) (w : Worker) (s : Shared B) → Stands z w → HasWhole w s → (k : ℕ) → lowest_of s.idle.published ≡ Some k → k < s.config.workers
@@ -251,46 +220,27 @@ module _ {B : Type 0} where
       (has.whole.bits k found.1).1
 
   pub counts_claimed : (z : Stance) (k : ℕ) (w : Worker) (s : Shared B) (x : Idle) → Stands z w → z.counted ≡ true → lowest_of s.idle.published ≡ Some k → x ≡ record s.idle { published = slice_set s.idle.published k false } → Counts z (record z { counted = false }) w s x
-  counts_claimed z k w s x here counted lowest is = subst (Counts z (record z { counted = false }) w s) (sym is) done
-    where
-      i : ℕ
-      i = w.index
-
-      set : List Bool
-      set = s.idle.published
-
-      set' : List Bool
-      set' = slice_set s.idle.published k false
-
-      x1 : Idle
-      x1 = record s.idle { published = slice_set s.idle.published k false }
-
-      n : ℕ
-      n = s.config.workers
-
-      found : (k < length s.idle.published) × (is_in s.idle.published k ≡ true)
-      found = let it = position-Some (λ b. b) s.idle.published k false lowest in (it.0, it.1)
-
-      shown : (others : Profile) → IsWhole (with_worker others w) s → shown_by others i z.published k ≡ true
-      shown others whole = rw (← here.published) (whole.bits k found.1).0
-
-      balance : (others : Profile) → IsWhole (with_worker others w) s → claimed_of n others i z.published set' ≡ claimed_of n others i z.published set + 1
-      balance others whole =
-          let f = is_claimed others i z.published set in
-          let g = is_claimed others i z.published set' in
-          let same : (j : ℕ) → j ≢ k → g j ≡ f j = λ j other. rw (set_beside set k j false other) refl in
-          let at_f : f k ≡ 0 = rw (shown others whole, found.1) refl in
-          let at_g : g k ≡ 1 = rw (shown others whole, set_at set k false found.0) refl in
-          omega (arith, sum_one f g k 0 n (omega arith) (omega (arith, (whole.bits k found.1).1)) same, at_f, at_g)
-
-      own : own_counts z ≡ one_if z.searching + 1
-      own = rw counted refl
-
-      done : Counts z (record z { counted = false }) w s x1
-      done = record {
+  counts_claimed z k w s x here counted lowest is =
+      let i : ℕ = w.index in
+      let set : List Bool = s.idle.published in
+      let set' : List Bool = slice_set s.idle.published k false in
+      let n : ℕ = s.config.workers in
+      let found : (k < length s.idle.published) × (is_in s.idle.published k ≡ true) = let it = position-Some (λ b. b) s.idle.published k false lowest in (it.0, it.1) in
+      let shown : (others : Profile) → IsWhole (with_worker others w) s → shown_by others i z.published k ≡ true = λ others whole. rw (← here.published) (whole.bits k found.1).0 in
+      let balance : (others : Profile) → IsWhole (with_worker others w) s → claimed_of n others i z.published set' ≡ claimed_of n others i z.published set + 1 = λ others whole.
+      let f = is_claimed others i z.published set in
+      let g = is_claimed others i z.published set' in
+      let same : (j : ℕ) → j ≢ k → g j ≡ f j = λ j other. rw (set_beside set k j false other) refl in
+      let at_f : f k ≡ 0 = rw (shown others whole, found.1) refl in
+      let at_g : g k ≡ 1 = rw (shown others whole, set_at set k false found.0) refl in
+      omega (arith, sum_one f g k 0 n (omega arith) (omega (arith, (whole.bits k found.1).1)) same, at_f, at_g) in
+      let x1 : Idle = record s.idle { published = slice_set s.idle.published k false } in
+      let own : own_counts z ≡ one_if z.searching + 1 = rw counted refl in
+      let done : Counts z (record z { counted = false }) w s x1 = record {
         sized = length-set set k false;
         counts = λ others whole. omega (arith, balance others whole, own);
         bits = λ others whole j h. by_number j k (λ other. bits_beside z w s others k false z.published here whole j other (inr refl) h) (λ same.
             let no : false ≡ true = sym (set_at set k false found.0) ∙ ap (is_in set') (sym same) ∙ h in
             absurd (false≢true no));
-      }
+      } in
+      subst (Counts z (record z { counted = false }) w s) (sym is) done

@@ -1,5 +1,6 @@
 -- Workers of the pool and dedicated ones: what the numbers of workers and of their roots say.
-use Rattle.std.proofs.{Common.{◌≡◌, ℕ, ◌<◌, ◌≤◌, true, false, List, Option, Some, None, sym, ◌∙◌, length, slice_get, nat_lt, arith}, lemmas.{Bool.{false≢true, Decides.nat_tests}, Option.slice_get_within}}
+use Rattle.std.proofs.{Common.{◌≡◌, ℕ, ◌<◌, ◌≤◌, true, false, List, Option, Some, None, sym, ◌∙◌, length, slice_get, arith}, lemmas.{Bool.{false≢true}, Option.slice_get_within}}
+use Rattle.std.proofs.lemmas.Bool.{ltb-true, ltb-false}
 use Rattle.exec_moves.specs.declared.place.Place.{Place}
 use Rattle.exec_parts.specs.{declared.parts.{role.Role.Role, seat.Seat.Seat as Chair, shared.Shared.Shared, task_slot.TaskSlot.TaskSlot, worker.Worker.Worker}, Roles.is_pool}
 use Rattle.exec_invariants.specs.{Places.is_pooled_at, Sound.{AreHome, Serves, SoundAt}}
@@ -10,12 +11,6 @@ by_length same = omega (arith, same)
 -- no fewer than so many, of a list as long as another
 pub as_long : {n m k : ℕ} → m ≡ n → k ≤ n → k ≤ m
 as_long same few = omega (arith, same, few)
-
-less_of : (a b : ℕ) → nat_lt a b ≡ true → a < b
-less_of a b h = grind (arith, nat_tests, h)
-
-most_of : (a b : ℕ) → nat_lt a b ≡ false → b ≤ a
-most_of a b h = grind (arith, nat_tests, h)
 
 -- a worker of the pool may poll any task
 pub all_serve : (o : Option ℕ) (root : ℕ) (role : Role) → is_pool role ≡ true → Serves o root role
@@ -35,14 +30,14 @@ module _ {B : Type 0} where
 
   -- a worker of the pool has a number of the pool
   pub in_pool : (p : Place) (w : Worker) (s : Shared B) → SoundAt p w s → is_pool w.role ≡ true → w.index < s.config.workers
-  in_pool p w s sound pool = less_of w.index s.config.workers (sym sound.role.pool ∙ pool)
+  in_pool p w s sound pool = ltb-true w.index s.config.workers (sym sound.role.pool ∙ pool)
 
   pub pooled_here : (p : Place) (w : Worker) (s : Shared B) → SoundAt p w s → is_pooled_at p ≡ true → w.index < s.config.workers
   pooled_here p w s sound is = in_pool p w s sound (sound.pooled is)
 
   -- and any other has one behind those
   pub past_pool : (p : Place) (w : Worker) (s : Shared B) → SoundAt p w s → is_pool w.role ≡ false → s.config.workers ≤ w.index
-  past_pool p w s sound pool = most_of w.index s.config.workers (sym sound.role.pool ∙ pool)
+  past_pool p w s sound pool = ltb-false w.index s.config.workers (sym sound.role.pool ∙ pool)
 
   -- its seat says which it is
   pub chair_of_pool : (p : Place) (w : Worker) (s : Shared B) → SoundAt p w s → (chair : Chair) → slice_get s.seats.items w.index ≡ Some chair → chair.pool ≡ is_pool w.role

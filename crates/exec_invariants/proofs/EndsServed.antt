@@ -6,7 +6,7 @@ use Rattle.exec_request.specs.declared.output.RequestOutput.{RequestOutput}
 use Rattle.exec_waiters.{specs.{Events.{finished_for, waker_in}, States.{is_held_by, waiter_at}, Told.{Tells, Told}, declared.{deferred.Deferred.Deferred, observer.Observer.{Observer, TheVariants.{DetachedSync, Forwarded, Local, Orphaned}}, waiter.{Entry.{Entry, TheVariants.Pending}, Waiter.Waiter}}}, proofs.Changes.entry_of}
 use Rattle.exec_machine.specs.{declared.state.RequestPhase.{RequestPhase, TheVariants.Resolved}, Tests.{is_applied, is_resolved}}
 use Rattle.exec_moves.specs.{declared.place.Place.Place, Told.told_of_end}
-use Rattle.exec_parts.{specs.{declared.parts.{mail.Reply.Reply, record.Record.Record, shared.Shared.Shared, worker.Worker.Worker}, Records.{number_in, outcome_in}, View.{awaited_from, completions_in, desk_of, driver_of, results_in, slots_seen}}, proofs.Facts.same_thing}
+use Rattle.exec_parts.{specs.{declared.parts.{mail.Reply.Reply, record.Record.Record, shared.Shared.Shared, worker.Worker.Worker}, Records.{number_in, outcome_in}, View.{awaited_from, completions_in, desk_of, driver_of, results_in, slots_seen}}, proofs.Facts.same_Some}
 use Rattle.exec_invariants.{specs.{Holding.thing_of, Places.one_if, Rooted.{IsNear, goes_elsewhere}, Names.IsAlike, Sound.SoundAt}, proofs.{DeskEnds.desk_ended, Known.low_there, ServedEnds.TellsEnd, ServedWakes.EndsThing, Slotted.OneSlot}}
 
 outcome_open : (p : RequestPhase) → is_resolved p ≡ false → outcome_in p ≡ None
@@ -20,12 +20,7 @@ module _ {B : Type 0} (w : Worker) (s : Shared B) (q : Place) (sound : SoundAt q
   -- its slot is its own
   pub one_slot : OneSlot w.names.requests.items (driver_of w).requests id
   one_slot =
-      record {
-        e = Pending it;
-        live = value;
-        low = low_there w.index w.names.requests.items (driver_of w).requests s.opens s.requests.items sound.known id (rw value refl);
-        alone = λ j x at alive same. by j x at alive same;
-      }
+      grind (arith, it, value, low_there, w.index, w.names.requests.items, driver_of, s.opens, s.requests.items, sound.known, id, by)
     where
       value_of : (j g : ℕ) (e : Entry Reply Reply) → slice_get (driver_of w).requests.slots j ≡ Some (Live g e) → value_at (driver_of w).requests (record { index = j; generation = g }) ≡ Some e
       value_of j g e at =
@@ -37,7 +32,7 @@ module _ {B : Type 0} (w : Worker) (s : Shared B) (q : Place) (sound : SoundAt q
           let other : Id = record { index = j; generation = g } in
           let a = sound.named.requests other (rw (value_of j g e at) refl) in
           let b = sound.named.requests id (rw value refl) in
-          let both : a.0 ≡ b.0 = same_thing a.0 b.0 (sym a.1 ∙ ap (slice_get s.requests.items) same ∙ b.1) in
+          let both : a.0 ≡ b.0 = same_Some a.0 b.0 (sym a.1 ∙ ap (slice_get s.requests.items) same ∙ b.1) in
           ap (λ (x : Id). x.index) (sym a.2 ∙ ap (λ (y : Record). y.id.0) both ∙ b.2)
       by j (Vacant g) at alive same = absurd (false≢true alive)
       by j Retired at alive same = absurd (false≢true alive)
@@ -79,15 +74,9 @@ module _ {B : Type 0} (w : Worker) (s : Shared B) (q : Place) (sound : SoundAt q
 
     pub ends_thing : (f : Record → Record) (outcome : Outcome) → r.shown.worker ≡ w.index → thing_of (f r) ≡ record (thing_of r) { ended = Some outcome } → EndsThing w.index r f outcome (waker_in it.observer)
     ends_thing f outcome mine thing =
-        record {
-          thing = thing;
-          going = outcome_open r.shown.phase alike.open_still;
-          worker = mine;
-          waiter = alike.waiter;
-          observed = seen;
-          unpaid = λ u h. (sound.rooted.pays (number_in w.names.requests.items id) r there mine).unpaid alike.open_still (seen u h);
-          unsent = λ u h. unsent u h mine;
-        }
+        let unpaid : (u : TaskNo) → (waker_in it.observer) ≡ Some u → r.shown.wakes_paid ≡ 0 = λ u h. (sound.rooted.pays (number_in w.names.requests.items id) r there mine).unpaid alike.open_still (seen u h) in
+        let unsent_so : (u : TaskNo) → (waker_in it.observer) ≡ Some u → r.sent ≡ false = λ u h. unsent u h mine in
+        assumption (thing, outcome_open r.shown.phase alike.open_still, mine, seen, unpaid, unsent_so, alike)
 
     -- the desk, where the ring stays
     pub desk_over : (told : RequestOutput) (t : Told Reply Reply) (left : Deferred Reply Reply) → TellsEnd id told it.observer t → Tells w.home.deferred left t

@@ -1,5 +1,6 @@
 -- What an enrolment of a deadline gives, for the driver and for the machine.
 use Rattle.std.{proofs.{Common.{◌≡◌, ℕ, ◌+◌, ◌-◌, ◌*◌, ◌/◌, ◌^◌, ◌<◌, ◌≤◌, ◌&&◌, ◌||◌, Bool, true, false, not, Option, Some, None, refl, ap, ◌∙◌, arith, nat_le, nat_lt, if◌then◌else◌, Result, Ok, Err}, lemmas.{Bool.{Decides.nat_tests}}}, specs.Int.div_ceil}
+use Rattle.std.proofs.lemmas.Bool.{lt-ltb, leb-false}
 use Rattle.exec_base.specs.declared.error.{Cause.TheVariants.InvalidInput, Error.{Error, TheVariants.{Timeout, Io}}}
 use Rattle.exec_outcomes.specs.declared.outcome.Outcome.{Outcome, TheVariants.Failure}
 use Rattle.exec_time.specs.Wheel.{Wheel, target_of, moment_of}
@@ -17,12 +18,6 @@ rounded_up = grind arith
 -- a deadline that is ahead rounds to a tick that is ahead
 ahead_of : (start now deadline tick : ℕ) → 0 < tick → start ≤ now → now < deadline → (now - start) / tick < div_ceil (deadline - start) tick
 ahead_of = grind arith
-
-lt_is : (a b : ℕ) → a < b → nat_lt a b ≡ true
-lt_is a b h = grind (arith, nat_tests)
-
-not_le : (a b : ℕ) → nat_le a b ≡ false → b < a
-not_le a b h = grind (arith, nat_tests)
 
 lt_not_le : (a b : ℕ) → nat_lt a b ≡ not (nat_le b a)
 lt_not_le a b = grind (arith, nat_tests)
@@ -63,19 +58,17 @@ module _ (c : Configuration) (me : Own) (w : Wheel) (now deadline : ℕ) (at : I
   in_time_then = grind arith
 
   above : nat_le deadline now ≡ false → nat_lt w.current (div_ceil (deadline - w.start) w.tick) ≡ true
-  above is =
-      ap (λ t. nat_lt w.current t) ticks_are ∙ ap (λ m. nat_lt m ticks) at.current
-      ∙ lt_is ((now - me.start) / c.tick) ticks (ahead_of me.start now deadline c.tick some begun (not_le deadline now is))
+  above is = grind (arith, ticks_are, at.current, lt-ltb ((now - me.start) / c.tick) ticks (ahead_of me.start now deadline c.tick some begun (leb-false deadline now is)))
 
   below : nat_lt (div_ceil (deadline - w.start) w.tick) (w.current + w.slots) ≡ not (nat_le ((now - me.start) / c.tick + wheel_slots c) (tick_from c me deadline))
   below = grind (arith, ticks_are, lt_not_le, rounded_up)
 
   in_range : nat_le deadline now ≡ false → nat_lt (moment_of w (div_ceil (deadline - w.start) w.tick)) (2 ^ 64) ≡ true
-  in_range = grind (arith, ticks_are, lt_is, in_time_then, not_le)
+  in_range = grind (arith, ticks_are, lt-ltb, in_time_then, leb-false)
 
   pub enrol_same : outcome_of_error (ended_by (tick_for w deadline now)) ≡ outcome_at_enrol c me (Some deadline)
   enrol_same = grind (arith, target_seen, same_all, above, below, in_range)
 
   -- where it goes on the wheel
   pub enrolled_at : (t : ℕ) → tick_for w deadline now ≡ Ok t → (w.start + t * w.tick ≡ first_tick me.start c.tick deadline) × (now < deadline)
-  enrolled_at = grind (arith, ok_is, target_seen, ticks_are, rounded_up, not_le)
+  enrolled_at = grind (arith, ok_is, target_seen, ticks_are, rounded_up, leb-false)

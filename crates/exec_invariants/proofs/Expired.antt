@@ -1,15 +1,15 @@
 -- A deadline that has come ends its request, which the kernel doesn't have.
-use Rattle.std.proofs.{Common.{◌≡◌, ◌≢◌, ◌≤◌, ◌==◌, false, not, [], ◌∷◌, ◌++◌, map, filter, Option, Some, None, IsSome, refl, sym, ap, subst, ◌∙◌, arith, slice_set, is_some, if◌then◌else◌, Err}, lemmas.Bool.false≢true}
+use Rattle.std.proofs.{Common.{arith, ◌≡◌, ◌≢◌, ◌==◌, false, not, [], ◌∷◌, ◌++◌, map, filter, Option, Some, None, IsSome, refl, sym, ap, subst, ◌∙◌, slice_set, is_some, if◌then◌else◌, Err}, lemmas.Bool.false≢true}
 use Rattle.exec_base.specs.{Slab.value_at, declared.error.Error.{Error, TheVariants.Timeout}}
 use Rattle.exec_outcomes.specs.{Accounts.is_durable, declared.outcome.Outcome.TheVariants.Failure}
-use Rattle.exec_request.specs.{Requests.output_of, States.asks_cancel}
+use Rattle.exec_request.specs.{Requests.output_of}
 use Rattle.exec_waiters.specs.{Events.{finished, told_by_finish, waker_in}, States.{tick_in, flying_count}, Told.{Tells, nothing_told, Told}, declared.waiter_id.WaiterId.WaiterId}
-use Rattle.exec_driver.specs.{Driving.{Driving, request_at, is_queued, is_unenrolled, is_cancelled}, Lists.{first_of, rest_of, after_due, without, withdrawn}, Punctual.IsPunctual, Steps.{cancelled_from, cancelling, ended, told_by_cancel, timed_out, unscheduled}}
+use Rattle.exec_driver.specs.{Driving.{Driving, request_at, is_queued, is_unenrolled, is_cancelled}, Lists.{first_of, rest_of, without, withdrawn}, Punctual.IsPunctual, Steps.{ended, told_by_cancel, timed_out, unscheduled}}
 use Rattle.exec_task.specs.declared.body.Said.{Said}
 use Rattle.exec_machine.specs.{declared.{event.Event.{Event, TheVariants.Expire}, state.RequestPhase.RequestPhase}, Deadlines.{expired, outcome_at_expiry}, Same.same_end, Tests.{is_gated, is_queued as is_phase_queued}, World.{Common, request_of}, Requests.{joined_if, resolved}}
-use Rattle.exec_moves.specs.{Move.move_submit, Told.{told_if_ended, told_of_end}, Submit.{due_next, first_due, submits, Due.Expires}, declared.place.{Place.Place, InService.InService}}
-use Rattle.exec_parts.specs.{declared.parts.{mail.Reply.Reply, shared.Shared.Shared, worker.Worker.Worker}, Records.number_in, Serving.changed_at, Spots.Spot, View.{visible, with_view, own_of, desk_of, driver_of, common_of, seat_seen, things_with, numbers_of}}
-use Rattle.exec_invariants.{specs.{Due.IsWheelAt, Gates.at_gate, Holding.nap_of, HoldPlaces.is_bare_at, Places.passes_at, Submits.{IsDueIn, IsInOrder}, Works.Steps}, proofs.{Serving.{at_large, SparesRecords, kept, spares_one}, ServingHolds.{serves_to, IsServed, OthersKept, keeps_home, Serves, Keeps, KeepsBy}, ServingPlaces.calm, Enrolled.timed_free, Late.{over_named, stands, ends_as, same_error_self, same_place, tells_error}, Recorded.request_seen, EndsServed.{desk_over, ends_thing}, Lined.opens_same, ServedEnds.{TellsEnd, ends_told}, ServedWakes.balances_ended, Seeing.{makes, shows, served, common_changed, common_same, things_kept, desk_with}, Staging.{split_first, stages_again}, Ends.{flying_ended, numbers_without, without_first}, Orders.alike_unticked, Ousting.keeps_ended, Over.OneEnds, Resolving.{slab_after, unticked_at}, Starting.queued_phase, Expiring.{HasExpired, comes_to_due, due_first, expires, move_expire, same_change, told_first, unticked_start, unticked_tick}}}
+use Rattle.exec_moves.specs.{Told.{told_of_end}, Submit.{due_next, first_due, submits, Due.Expires}, declared.place.{Place.Place, InService.InService}}
+use Rattle.exec_parts.specs.{declared.parts.{mail.Reply.Reply, shared.Shared.Shared, worker.Worker.Worker}, Records.number_in, Serving.changed_at, Spots.Spot, View.{visible, with_view, own_of, desk_of, driver_of, common_of, seat_seen, numbers_of}}
+use Rattle.exec_invariants.{specs.{Due.IsWheelAt, Gates.at_gate, Holding.nap_of, HoldPlaces.is_bare_at, Places.passes_at, Submits.{IsDueIn, IsInOrder}, Works.Steps}, proofs.{Serving.{at_large, SparesRecords, kept, spares_one}, ServingHolds.{serves_to, IsServed, OthersKept, keeps_home, Serves, Keeps, KeepsBy}, ServingPlaces.calm, Enrolled.timed_free, Late.{over_named, stands, ends_as, same_error_self, same_place, tells_error}, Recorded.request_seen, EndsServed.{desk_over, ends_thing}, Lined.opens_same, ServedEnds.{TellsEnd, ends_told}, ServedWakes.balances_ended, Seeing.{shows, served, common_changed, common_same, things_kept}, Staging.{split_first, stages_again}, Ends.{flying_ended, numbers_without, without_first}, Orders.alike_unticked, Ousting.keeps_ended, Over.{OneEnds, Resolves}, Resolving.{slab_after, unticked_at}, Starting.queued_phase, Expiring.{HasExpired, comes_to_due, due_first, expires, same_change, told_first, unticked_start, unticked_tick}}}
 
 module _ {B L : Type 0} (left : B → L) (spot : L → Option Said → Spot) where
   pub expiry_ends : (w w' : Worker) (s s' : Shared B) (e : Event) (id : WaiterId) → (new : IsDueIn w s) → IsInOrder w s → (first : first_of (driver_of w).lists.due ≡ Some id) → (due_first w s new id first).it.in_flight ≡ false → HasExpired w w' s s' e id (due_first w s new id first).r → Steps left spot w s e w' s'
@@ -37,27 +37,20 @@ module _ {B L : Type 0} (left : B → L) (spot : L → Option Said → Spot) whe
       let split : d.lists.due ≡ id ∷ others = split_first id d.lists.due first in
       let dues : without id others ≡ without id d.lists.due = sym (ap (without id) split ∙ without_first id others) in
       let d' : Driving Reply Reply = record d { requests = finished d.requests id.0 it (Err error) None; wheel = unscheduled d.wheel (tick_in it.state); lists = withdrawn id d.lists } in
-      let driver : driver_of w' ≡ d' =
-      by.driver ∙ ap (cancelled_from (record d { lists = after_due d.lists }) id) who.live
-      ∙ ap (λ b. if b then (if asks_cancel it.state then (record d { lists = after_due d.lists }) else cancelling (record d { lists = after_due d.lists }) id it) else ended (record d { lists = after_due d.lists }) id it timed_out None) idle
-      ∙ ap (λ ids. record d' { lists = record (withdrawn id d.lists) { due = ids } }) dues in
+      let driver : driver_of w' ≡ d' = grind (arith, by.driver, who.live, idle, dues) in
       let t : Told Reply Reply = told_by_finish id.0 it (Err error) None in
       let tells : Tells w.home.deferred w'.home.deferred t =
       subst (λ x. Tells w.home.deferred w'.home.deferred x)
       (ap (told_by_cancel id) who.live ∙ ap (λ b. if b then nothing_told else told_by_finish id.0 it timed_out None) idle) by.tells in
-      let begun : start ≤ now = omega (arith, sound.time.begun, sound.time.ordered) in
       let plain = sound.flown.plain k who.r who.there who.worker in
       let wheel : IsWheelAt c start now d.wheel = sound.due.wheel in
       let a = who.alike in
       let small = who.small in
       let undurable : is_durable who.r.shown.operation.kind ≡ false = ap (λ a. is_durable a.kind) a.asked ∙ timed_free it.request who.dated in
       let ending_told : TellsEnd id.0 told it.observer t = ends_told id.0 it (Err error) None who.r.shown.forwarding a.near in
-      let one : OneEnds w.names d d'.requests rs id.0 it who.r (ends_as outcome) outcome told = record {
-        at = who.live;
-        there = who.there;
-        slab = slab_after d.requests id.0 it (Err error) None small who.live;
-        ends = record { same = refl };
-      } in
+      let slab = slab_after d.requests id.0 it (Err error) None small who.live in
+      let resolves : Resolves who.r (ends_as outcome who.r) outcome = record { same = refl } in
+      let one : OneEnds w.names d d'.requests rs id.0 it who.r (ends_as outcome) outcome told = assumption (who.live, slab, resolves, who) in
       let deferred = w'.home.deferred in
       let ended_by : w'.names.ended.items ≡ w.names.ended.items ++ k ∷ [] = by.ended ∙ ap (λ o. joined_if (is_some o) w.names.ended.items k) ends in
       let records : s'.requests.items ≡ changed_at rs k (ends_as outcome) = by.records ∙ same_change rs k who.r expires (ends_as outcome) who.there (ap (λ o. record who.r { shown = expired o who.r.shown }) ends) in
@@ -98,18 +91,11 @@ module _ {B L : Type 0} (left : B → L) (spot : L → Option Said → Spot) whe
       let request : request_of all k ≡ who.r.shown = request_seen rs k who.r who.there in
       let found : first_due cp w.index (own_of w0) all ≡ Some k = subst (λ x. first_due x w.index (own_of w0) all ≡ Some k) suits.config (order id first) in
       let due : due_next cp w.index gate (own_of w0) all (desk_of w0) ≡ Expires k = comes_to_due cp w.index gate k (own_of w0) all (desk_of w0) found in
-      let desk : desk_of w' ≡ told_of_end k who.r.shown (desk_of w0) =
-      show.desk ∙ ap (λ y. desk_with w y w'.put_off deferred d') there ∙ ap (λ o. desk_with w q o deferred d') (ap (λ x. x.put_off) by.worker)
-      ∙ desk_over w s q sound id.0 it who.live who.r who.there told t deferred ending_told tells in
+      let desk : desk_of w' ≡ told_of_end k who.r.shown (desk_of w0) = grind (arith, show.desk, there, by.worker, desk_over w s q sound id.0 it who.live who.r who.there told t deferred ending_told tells) in
       let placed : submits v gate (told_of_end k who.r.shown (desk_of w0)) ≡ told_of_end k who.r.shown (desk_of w0) =
       same_place k who.r.shown (desk_of w0) v gate refl in
       record {
-        moves =
-            ap (move_submit cp w.index (own_of w0) all (desk_of w0) (things_with vs s) gate v) due
-            ∙ ap (move_expire (desk_of w0) (things_with vs s) gate v k) request
-            ∙ ap (λ o. makes (Expire k o) (submits v gate (told_if_ended o k who.r.shown (desk_of w0))) (things_with vs s)) ends
-            ∙ ap (λ x. makes (Expire k (Some outcome)) x (things_with vs s)) (placed ∙ sym desk)
-            ∙ ap (makes (Expire k (Some outcome)) (desk_of w')) (sym (things_kept vs w.index (visible w) (visible w') s s' suits.seen (ap (λ y. y.wakes) seen) serves.shared spares));
+        moves = grind (arith, due, request, ends, placed, desk, things_kept vs w.index (visible w) (visible w') s s' suits.seen (ap (λ y. y.wakes) seen) serves.shared spares);
         may = (at_large q w s sound refl, (told_first cp (own_of w0) w.index all.requests k found, (ap (same_end (Some outcome)) (ap outcome_at_expiry request ∙ ends) ∙ same_error_self error, tt)));
         own = show.own ∙ rw (there, ended_by, ap (λ x. x.names.untold) by.worker, ready, unenrolled, cancels, flying) refl;
         common =

@@ -6,9 +6,9 @@ use Rattle.exec_request.specs.{Requests.deadline_of, States.asks_cancel, declare
 use Rattle.exec_waiters.{specs.{States.{waiter_at, tick_in, pending_count}, Told.Tells, declared.{waiter.Waiter.Waiter, waiter_id.WaiterId.WaiterId}}, proofs.Changes.entry_of}
 use Rattle.exec_driver.specs.{Driving.{request_at, is_enrolled}, Lists.first_of, Punctual.IsPunctual, Steps.{expired as expired_at, told_by_cancel, unscheduled}}
 use Rattle.exec_machine.specs.{declared.{event.Event.{Event, TheVariants.Expire}, state.{RequestPhase.RequestPhase, Request.Request}, config.Configuration.Configuration}, World.{Own, Common}, Deadlines.{outcome_at_expiry, expired, is_first_due}, Requests.joined_if, Tests.{is_in_flight, is_queued, is_gated}}
-use Rattle.exec_moves.specs.{declared.place.Service.Service, Told.told_if_ended, Serve.first_numbered, State.{Desk, Moved, Things}, Submit.{due_next, first_due, submits, Due.Expires}}
+use Rattle.exec_moves.specs.{Serve.first_numbered, State.{Desk}, Submit.{due_next, first_due, submits, Due.Expires}}
 use Rattle.exec_parts.{specs.{declared.parts.{mail.Reply.Reply, record.Record.Record, shared.Shared.Shared, worker.Worker.Worker}, Records.number_in, Serving.{changed_at, changed_in}, View.driver_of}, proofs.Facts.some_of}
-use Rattle.exec_invariants.{specs.{Names.IsAlike, Submits.IsDueIn}, proofs.{Dating.{one_pending, room_by}, Enrolled.timed_free, Known.low_there, Resolving.slab_after, Seeing.makes, Staging.among_first}}
+use Rattle.exec_invariants.{specs.{Names.IsAlike, Submits.IsDueIn}, proofs.{Dating.{one_pending, room_by}, Enrolled.timed_free, Known.low_there, Resolving.slab_after, Staging.among_first}}
 
 -- nobody asked for the cancel of what stands on the wheel
 unasked_by : (x : WaiterState) (t : ℕ) → tick_in x ≡ Some t → asks_cancel x ≡ false
@@ -121,7 +121,3 @@ told_first c me i rs k h = (found_passes (λ r it. is_first_due c me i rs r) 0 k
 
 pub comes_to_due : (c : Configuration) (i gate k : ℕ) (me : Own) (s : Common) (d : Desk) → first_due c i me s ≡ Some k → due_next c i gate me s d ≡ Expires k
 comes_to_due c i gate k me s d first = rw first refl
-
--- the move, by what comes of it
-abbrev pub move_expire : Desk → Things → ℕ → Service → ℕ → Request → Moved Things
-move_expire d x gate v k r = makes (Expire k (outcome_at_expiry r)) (submits v gate (told_if_ended (outcome_at_expiry r) k r d)) x

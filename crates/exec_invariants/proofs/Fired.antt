@@ -1,5 +1,6 @@
 -- A sleeper of a worker fires: its record, and those who sleep still.
-use Rattle.std.{proofs.{Common.{◌≡◌, ◌≢◌, ℕ, suc, ◌≤◌, ◌<◌, ◌==◌, ◌&&◌, Bool, true, false, not, List, [], ◌∷◌, Some, None, IsSome, refl, sym, ap, subst, ◌∙◌, arith, slice_get, slice_set, nat_le, if◌then◌else◌}, lemmas.{Bool.{false≢true, eq-eqb, Decides.nat_tests}, List.length-set}}, specs.List.list_all}
+use Rattle.std.{proofs.{Common.{◌≡◌, ◌≢◌, ℕ, suc, ◌<◌, ◌==◌, ◌&&◌, Bool, true, false, not, List, [], ◌∷◌, Some, None, IsSome, refl, sym, ap, subst, ◌∙◌, arith, slice_get, slice_set, if◌then◌else◌}, lemmas.{Bool.{false≢true, eq-eqb}, List.length-set}}, specs.List.list_all}
+pub use Rattle.std.proofs.lemmas.Bool.{le-leb}
 use Rattle.exec_base.specs.{Slab.{IsPast, Slab, value_at}, declared.slab.Id.Id}
 use Rattle.exec_time.specs.declared.timers.Sleeper.{Sleeper as Sleeping}
 use Rattle.exec_machine.specs.Tests.{is_asleep}
@@ -14,9 +15,6 @@ fires z = record z { shown = record z.shown { fired = true } }
 pub all_by : {X : Type 0} (test : X → Bool) (xs : List X) → ((k : ℕ) (x : X) → slice_get xs k ≡ Some x → test x ≡ true) → list_all test xs ≡ true
 all_by test [] h = refl
 all_by test (x ∷ xs) h = rw (h 0 x refl) (all_by test xs (λ k y there. h (suc k) y there))
-
-pub le_is : (a b : ℕ) → a ≤ b → nat_le a b ≡ true
-le_is a b h = grind (arith, nat_tests)
 
 -- THE RECORDS
 

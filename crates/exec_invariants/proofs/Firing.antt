@@ -5,8 +5,8 @@ use Rattle.exec_time.specs.{Sleepers.IsDue as IsSleepDue, declared.{notes.Notes.
 use Rattle.exec_task.specs.declared.body.Said.{Said}
 use Rattle.exec_machine.specs.{declared.{event.Event.{Event, TheVariants.Serve}, state.{Sleeper.Sleeper, Next.Next}}, Deadlines.is_none_earlier, Tests.{is_asleep, is_empty, is_open}, World.{Own, Common, no_sleeper, seat_of}}
 use Rattle.exec_moves.specs.{Seen.{polls_at, next_at, serves_at}, State.Desk, Serve.{after_service, first_to_fire, is_to_fire}, Slots.first_in, declared.{handing.AfterCallbacks.AfterCallbacks, place.{AfterService.AfterService, Service.Service, Place.Place, InCallbacks.InCallbacks, InMail.InMail, InService.InService}}}
-use Rattle.exec_parts.{specs.{declared.parts.{mail.Reply.Reply, names.Names.Names, shared.Shared.Shared, sleeping.SleeperRecord.SleeperRecord, worker.{Moments.Moments, Worker.Worker}}, Phased.closes_at, Spots.Spot, View.{visible, own_of, owed_at, desk_of, driver_of, common_of, seat_seen, things_with, message_of}}, proofs.Facts.and_none}
-use Rattle.exec_invariants.{specs.{Due.{AreAsleep, wheel_moment}, Holding.Mail, HoldPlaces.{has_wakes_at, is_bare_at}, Places.{is_armed_at, is_published_at, passes_at, searches_at}, Sound.{HasBatch, SoundAt, served_in}, Works.Steps}, proofs.{Unclosed.unclosed, Seats.own_seat, Seen.sleeper_at, ServingHolds.{Serves, Keeps, KeepsBy}, Serving.{SparesRecords, at_large, balances_still, kept, spares_same}, ServingPlaces.{calm, is_calm}, Seeing.{makes, served, common_same, things_kept}}}
+use Rattle.exec_parts.{specs.{declared.parts.{mail.Reply.Reply, names.Names.Names, shared.Shared.Shared, sleeping.SleeperRecord.SleeperRecord, worker.{Moments.Moments, Worker.Worker}}, Phased.closes_at, Spots.Spot, View.{visible, own_of, owed_at, desk_of, driver_of, common_of, seat_seen, things_with, message_of}}, proofs.Facts.and_right}
+use Rattle.exec_invariants.{specs.{Due.{AreAsleep, wheel_moment}, Holding.Mail, HoldPlaces.{has_wakes_at, is_bare_at}, Places.{is_armed_at, is_published_at, passes_at, searches_at}, Sound.{HasBatch, SoundAt, served_in}, Works.Steps}, proofs.{Unclosed.unclosed, Seats.own_seat, Seen.sleeper_at, ServingHolds.{Serves, Keeps, KeepsBy}, Serving.{SparesRecords, at_large, balances_still, kept, spares_same}, ServingPlaces.{is_calm}, Seeing.{makes, served, common_same, things_kept}}}
 
 -- WHO IS NEXT
 
@@ -48,13 +48,10 @@ undue_number i me s n zs ss shown asleep opens none k = by (slice_get ss k) refl
     tested it = is_asleep i it && nat_le it.until me.sampled && is_none_earlier i it.until s.sleepers
 
     by : (o : Option SleeperRecord) → slice_get ss k ≡ o → is_to_fire i me s k ≡ false
-    by (Some z) there =
-        ap tested (ap (λ xs. slice_index_or xs k no_sleeper) shown ∙ sleeper_at ss k z there)
-        ∙ ap (λ xs. is_asleep i z.shown && nat_le z.shown.until me.sampled && is_none_earlier i z.shown.until xs) shown
-        ∙ undue_sleeper i me.sampled n zs ss asleep opens none k z there (is_asleep i z.shown) refl
+    by (Some z) there = grind (arith, shown, sleeper_at ss k z there, undue_sleeper i me.sampled n zs ss asleep opens none k z there (is_asleep i z.shown) refl)
     by None gone =
         let nobody : slice_index_or (map (λ z. z.shown) ss) k no_sleeper ≡ no_sleeper = index_none (map (λ z. z.shown) ss) k (slice_get-map (λ z. z.shown) ss k ∙ ap (option_map (λ z. z.shown)) gone) in
-        let over : is_asleep i no_sleeper ≡ false = ap (λ b. b && false) (and_none (0 == i) false refl) in
+        let over : is_asleep i no_sleeper ≡ false = ap (λ b. b && false) (and_right (0 == i) false refl) in
         ap tested (ap (λ xs. slice_index_or xs k no_sleeper) shown ∙ nobody) ∙ ap (λ b. b && nat_le no_sleeper.until me.sampled && is_none_earlier i no_sleeper.until s.sleepers) over
 
 none_first : (test : ℕ → Bool) → ((k : ℕ) → test k ≡ false) → (xs : List (Option ℕ)) → first_in test xs ≡ None
@@ -123,8 +120,6 @@ module _ {B L : Type 0} (left : B → L) (spot : L → Option Said → Spot) whe
       let there : w'.place ≡ p = ap (λ x. x.place) same in
       let to = leads_to v.defer v.back w.batch.values in
       let serves : Serves q w w' s s = grind arith in
-      let k = kept q w s sound (calm q refl) in
-      let undue = sound.due.told refl in
       let by : KeepsBy (record w { place = p }) (driver_of w) w.home.timers s.requests.items s.sleepers.items s = grind arith in
       let keeps : Keeps w' s = subst (λ x. Keeps x s) (sym same) by in
       let spares : SparesRecords w.index s s = spares_same w.index s s sound.gates refl refl refl in

@@ -2,12 +2,12 @@
 use Rattle.std.proofs.{Common.{◌≡◌, ℕ, ◌+◌, ◌≤◌, ◌<◌, Bool, false, Contains, List, ◌++◌, count_by, length, Some, IsSome, refl, sym, ap, subst, ◌∙◌, arith, inl, inr, slice_get, slice_set}, lemmas.{Bool.false≢true, List.{length-set, Elements.Contains-append_cases}}}
 use Rattle.exec_base.specs.{Slab.{IsPast, Slab, value_at}, declared.slab.Id.Id}
 use Rattle.exec_time.specs.declared.{notes.ForwardedResult.ForwardedResult, timers.Sleeper.Sleeper as Sleeping}
-use Rattle.exec_waiters.specs.declared.deferred.Deferred.{Deferred}
+use Rattle.exec_waiters.specs.declared.deferred.{Deferred.Deferred, Answer.Answer}
 use Rattle.exec_driver.specs.Driving.{Driving}
 use Rattle.exec_machine.specs.Tests.{is_asleep}
 use Rattle.exec_moves.specs.declared.handing.Heard.{Heard}
-use Rattle.exec_parts.{specs.{declared.parts.{mail.Reply.Reply, names.Names.Names, record.Record.Record, sleeping.SleeperRecord.SleeperRecord}, Records.number_in}, proofs.Facts.{by_number, same_thing, set_elsewhere, set_there}}
-use Rattle.exec_invariants.{specs.{Due.AreAsleep, Places.one_if, Rooted.{IsCompletion, IsRooted, SleeperPays, completions_of as sent_of, ends_elsewhere, goes_elsewhere, is_of_timer, results_of}, Names.IsNamed}, proofs.{FiringNames.naps_set, ServedEnds.count_both}}
+use Rattle.exec_parts.{specs.{declared.parts.{mail.Reply.Reply, names.Names.Names, record.Record.Record, sleeping.SleeperRecord.SleeperRecord}, Records.number_in}, proofs.Facts.{by_number, same_Some, set_elsewhere, set_there}}
+use Rattle.exec_invariants.{specs.{Due.AreAsleep, Places.one_if, Rooted.{IsCompletion, IsRooted, SleeperPays, completions_of as sent_of, ends_elsewhere, goes_elsewhere, is_of_timer, results_of, Watches, IsResult}, Names.IsNamed}, proofs.{FiringNames.naps_set, ServedEnds.count_both}}
 
 -- it doesn't sleep then
 pub record IsOverAs (i : ℕ) (z z' : SleeperRecord) : Type 0 where
@@ -33,7 +33,7 @@ module _ (i : ℕ) (n : Names) (d : Driving Reply Reply) (zs zs' : Slab (Sleepin
 
   -- what stands there then is it, or stood there
   by_sleeper : {C : Type 0} (j : ℕ) (x : SleeperRecord) → slice_get (slice_set ss k z') j ≡ Some x → (j ≡ k → z' ≡ x → C) → ((k ≡ j → ⊥) → slice_get ss j ≡ Some x → C) → C
-  by_sleeper = grind (arith, by_number, set_elsewhere, same_thing, now_there)
+  by_sleeper = grind (arith, by_number, set_elsewhere, same_Some, now_there)
 
   before : (other : Id) → IsSome (value_at zs' other) → IsSome (value_at zs other)
   before other live = subst IsSome (leaves.others other live).0 live
@@ -81,7 +81,7 @@ module _ (i : ℕ) (n : Names) (d : Driving Reply Reply) (zs zs' : Slab (Sleepin
         by_number old.n k
         (λ differs. record { n = old.n; z = old.z; there = set_elsewhere ss k old.n z' differs ∙ old.there; worker = old.worker; reply = old.reply; paid = old.paid })
         (λ e.
-        let is : old.z ≡ z = same_thing old.z z (sym old.there ∙ ap (slice_get ss) e ∙ there) in
+        let is : old.z ≡ z = same_Some old.z z (sym old.there ∙ ap (slice_get ss) e ∙ there) in
         record {
           n = old.n;
           z = z';
@@ -110,24 +110,19 @@ module _ (i : ℕ) (n : Names) (d : Driving Reply Reply) (zs zs' : Slab (Sleepin
     pub rooted_over : IsRooted i n d zs' left' rs (slice_set ss k z')
     rooted_over =
         let results : left'.results ≡ left.results = ap (λ (x : Deferred Reply Reply). x.results) same in
-        record {
-          kept = rooted.kept;
-          ready = rooted.ready;
-          replies = rooted.replies;
-          watches = λ other x y at found.
-              let live : IsSome (value_at zs' other) = rw at refl in
-              rooted.watches other x y (sym (leaves.others other live).0 ∙ at) (sym (elsewhere other live) ∙ found);
-          pays = rooted.pays;
-          sleeper_pays = λ j x at of_i.
-              by_sleeper j x at
-              (λ e is. subst SleeperPays is (over.pays (rooted.sleeper_pays k z there mine)))
-              (λ differs found. rooted.sleeper_pays j x found of_i);
-          results = λ a among. rooted.results a (subst (λ xs. Contains xs a) (ap (λ v. v.items) results) among);
-          completions = λ c among.
-              elim (Contains-append_cases left.notes.completions.items cs c (subst (λ xs. Contains xs c) completions among)) [
-                | inl old ↦ end_old c (rooted.completions c old)
-                | inr new ↦ end_new c new
-              ];
-          sent = λ j r at of_i. subst (λ (x : Deferred Reply Reply). results_of j x + one_if r.sent ≡ one_if (goes_elsewhere r)) (sym same) (rooted.sent j r at of_i);
-          sleeper_sent = sent_then;
-        }
+        let watches : (id : Id) (it : Sleeping Reply) (z : SleeperRecord) → value_at zs' id ≡ Some it → slice_get (slice_set ss k z') (number_in n.timers.items id) ≡ Some z → Watches (number_in n.timers.items id) it.observer z = λ other x y at found.
+        let live : IsSome (value_at zs' other) = rw at refl in
+        rooted.watches other x y (sym (leaves.others other live).0 ∙ at) (sym (elsewhere other live) ∙ found) in
+        let sleeper_pays : (k0 : ℕ) (z : SleeperRecord) → slice_get (slice_set ss k z') k0 ≡ Some z → z.shown.worker ≡ i → SleeperPays z = λ j x at of_i.
+        by_sleeper j x at
+        (λ e is. subst SleeperPays is (over.pays (rooted.sleeper_pays k z there mine)))
+        (λ differs found. rooted.sleeper_pays j x found of_i) in
+        let results_so : (a : Answer Reply) → Contains left'.results.items a → IsResult i a rs = λ a among. rooted.results a (subst (λ xs. Contains xs a) (ap (λ v. v.items) results) among) in
+        let completions_so : (c : ForwardedResult Reply) → Contains left'.notes.completions.items c → IsCompletion i c (slice_set ss k z') = λ c among.
+        elim (Contains-append_cases left.notes.completions.items cs c (subst (λ xs. Contains xs c) completions among)) [
+          | inl old ↦ end_old c (rooted.completions c old)
+          | inr new ↦ end_new c new
+        ] in
+        let sent : (k0 : ℕ) (r : Record) → slice_get rs k0 ≡ Some r → r.shown.worker ≡ i → results_of k0 left' + one_if r.sent ≡ one_if (goes_elsewhere r) =
+        λ j r at of_i. subst (λ (x : Deferred Reply Reply). results_of j x + one_if r.sent ≡ one_if (goes_elsewhere r)) (sym same) (rooted.sent j r at of_i) in
+        assumption (watches, sleeper_pays, results_so, completions_so, sent, sent_then, rooted)

@@ -3,7 +3,7 @@ use Rattle.std.proofs.{Common.{◌≡◌, inl, inr, ℕ, zero, suc, ◌^◌, ◌
 use Rattle.exec_base.{specs.{Slab.{IsPast, Slab, TakesId, freed, next_generation, removed, slot_at, value_at}, declared.slab.Id.Id}, proofs.Slots.{Changed-set, IsLiveAt-from_value, live_within, past-free, was_live}}
 use Rattle.exec_time.specs.declared.timers.Sleeper.{Sleeper as Sleeping}
 use Rattle.exec_driver.specs.Driving.{Driving}
-use Rattle.exec_parts.{specs.{declared.parts.{mail.Reply.Reply, names.Names.Names, record.Record.Record, sleeping.SleeperRecord.SleeperRecord}, Records.number_in}, proofs.{Facts.{by_number, same_thing, set_elsewhere, set_there}, Taken.was_got}}
+use Rattle.exec_parts.{specs.{declared.parts.{mail.Reply.Reply, names.Names.Names, record.Record.Record, sleeping.SleeperRecord.SleeperRecord}, Records.number_in}, proofs.{Facts.{by_number, same_Some, set_elsewhere, set_there}, Taken.was_got}}
 use Rattle.exec_invariants.specs.{Due.AreNapsNamed, Names.IsNamed}
 
 -- a sleeper of the worker stood there under this name
@@ -31,7 +31,7 @@ naps_on i zs zs' ss ss' was past names =
 -- one that was set has its name still
 pub naps_set : (i : ℕ) (zs zs' : Slab (Sleeping Reply)) (ss : List SleeperRecord) (n : ℕ) (z z' : SleeperRecord) → slice_get ss n ≡ Some z → z'.id.0 ≡ z.id.0 → z'.shown.worker ≡ z.shown.worker → ((id : Id) → IsPast zs id → IsPast zs' id)
     → AreNapsNamed i zs ss → AreNapsNamed i zs' (slice_set ss n z')
-naps_set = grind (arith, naps_on, by_number, was_same, set_elsewhere, same_thing, set_there)
+naps_set = grind (arith, naps_on, by_number, was_same, set_elsewhere, same_Some, set_there)
 
 -- one more comes under a name that none had
 module _ (i : ℕ) (zs zs' : Slab (Sleeping Reply)) (ss : List SleeperRecord) (z : SleeperRecord) (takes : TakesId zs zs' z.id.0) (unused : next_generation (slot_at zs z.id.0.index) ≤ z.id.0.generation) where

@@ -7,7 +7,7 @@ use Rattle.exec_waiters.specs.declared.deferred.Deferred.{Deferred}
 use Rattle.exec_machine.specs.Tests.{is_applied, is_asleep}
 use Rattle.exec_moves.specs.{Slots.{is_in_slots, slot_of, vacated}, Told.{one_completion, told_of_cancel, without_timer}, declared.handing.Heard.Heard}
 use Rattle.exec_parts.{specs.{declared.parts.{mail.Reply.Reply, shared.Shared.Shared, sleeping.SleeperRecord.SleeperRecord, worker.Worker.Worker}, Calls.{sleeper_removed, IsTold}, MailTakes.RemovesSleeper, Records.number_in, View.{completions_in, desk_of, driver_of, number_heard, slots_from, slots_seen}}, proofs.Facts.{not_same}}
-use Rattle.exec_invariants.{specs.{Due.AreAsleep, Places.one_if, Rooted.{IsRooted, Watches, completions_of as sent_of, ends_elsewhere, is_of_timer}, Names.{HasWidth, tellers}}, proofs.{FiringGone.{IsOverAs, Leaves, asleep_over, named_over, rooted_over}, FiringNames.{removed_past, stands}, FiringSeen.{bed_named, one_bed}, FiringSlots.{OneBed, bed_in, bed_vacated}, ServedEnds.{count_none, count_one, none_in, only_one}, ServingHolds.{KeepsSpare, KeepsWith}, TaskOverGone.RemovesSeen}}
+use Rattle.exec_invariants.{specs.{Due.{AreAsleep, IsDue}, Places.one_if, Rooted.{IsRooted, Watches, completions_of as sent_of, ends_elsewhere, is_of_timer}, Names.{HasWidth, tellers}, HoldPlaces.{is_bare_at, has_wakes_at}, Sound.served_in}, proofs.{FiringGone.{IsOverAs, Leaves, asleep_over, named_over, rooted_over}, FiringNames.{removed_past, stands}, FiringSeen.{bed_named, one_bed}, FiringSlots.{OneBed, bed_in, bed_vacated}, ServedEnds.{count_none, count_one, none_in, only_one}, ServingHolds.{KeepsSpare, KeepsWith}, TaskOverGone.RemovesSeen}}
 
 -- ITS RECORD
 
@@ -32,12 +32,10 @@ one_end_at_most (sleep.Forwarded reply) = omega arith
 -- one leaves the slab
 one_less : (zs : Slab (Sleeping Reply)) (id : Id) (it : Sleeping Reply) → value_at zs id ≡ Some it → live_count (removed zs id) + 1 ≡ live_count zs
 one_less zs id it at =
+    let dead : (g : ℕ) → is_live {T = Sleeping Reply} (freed g) ≡ false = λ g. elim (nat_lt (g + 1) (2 ^ 64)) as (λ b. is_live {T = Sleeping Reply} (if b then Vacant (g + 1) else Retired) ≡ false) [ true ↦ refl | false ↦ refl ] in
     let live = IsLiveAt-from_value zs.slots id.index id.generation zs.first (rw at refl) in
     let moved = count-set zs.slots id.index (freed id.generation) (live_within zs.slots id.index id.generation live.value live.is) in
     omega (arith, rw (live.is, dead id.generation) at moved)
-  where
-    dead : (g : ℕ) → is_live {T = Sleeping Reply} (freed g) ≡ false
-    dead g = elim (nat_lt (g + 1) (2 ^ 64)) as (λ b. is_live {T = Sleeping Reply} (if b then Vacant (g + 1) else Retired) ≡ false) [ true ↦ refl | false ↦ refl ]
 
 gone_from : (zs : Slab (Sleeping Reply)) (id : Id) → IsSome (value_at zs id) → (value_at (removed zs id) id ≡ None) × ((other : Id) → other ≢ id → value_at (removed zs id) other ≡ value_at zs other)
 gone_from zs id some =
@@ -107,22 +105,17 @@ module _ {B : Type 0} (spare z : ℕ) (w v : Worker) (s s' : Shared B) (keeps : 
       let wakes : v.home.deferred.notes.wakes.items ≡ w.home.deferred.notes.wakes.items = adds.wakes_added ∙ append-nil w.home.deferred.notes.wakes.items in
       let w1 : Worker = record w { home = record w.home { timers = v.home.timers; deferred = record w.home.deferred { notes = v.home.deferred.notes } } } in
       let due = keeps.due in
-      let by : KeepsWith spare w1 d zs_then rs ss' s = record {
-        told = subst (λ x. IsTold n.ended.items x (tellers d.requests zs_then + spare)) deferred
-            (told_adds n.ended.items left left' (tellers d.requests zs + spare) (tellers d.requests zs_then + spare) [] cs deferred adds (omega (arith, fewer)) (omega (arith, fewer)) keeps.told);
-        wide = subst (λ x. HasWidth x (tellers d.requests zs_then + 64)) deferred (wide_adds left left' (tellers d.requests zs + 64) (tellers d.requests zs_then + 64) [] cs deferred adds (omega (arith, fewer)) keeps.wide);
-        named = named_over i n d zs zs_then rs ss z r.it z' r.sleeper over leaves keeps.named;
-        sized = keeps.sized;
-        over = keeps.over;
-        quiet = λ h. wakes ∙ keeps.quiet h;
-        due = record { punctual = due.punctual; told = due.told; wheel = due.wheel; timed = due.timed; asleep = asleep_over i n d zs zs_then rs ss z r.it z' r.sleeper over leaves asleep; order = due.order };
-        flown = keeps.flown;
-        carried = keeps.carried;
-        known = keeps.known;
-        rooted = subst (λ x. IsRooted i n d zs_then x rs ss') deferred
-            (rooted_over i n d zs zs_then rs ss z r.it z' r.sleeper over leaves left left' cs keeps.rooted deferred adds.completions_added mine few none (here ∙ ap one_if (sym (ends_then r.it))));
-        bare = λ h. (let nobody = keeps.bare h in omega (arith, nobody, fewer));
-      } in
+      let told_so : IsTold w1.names.ended.items w1.home.deferred (tellers d.requests zs_then + spare) = subst (λ x. IsTold n.ended.items x (tellers d.requests zs_then + spare)) deferred
+      (told_adds n.ended.items left left' (tellers d.requests zs + spare) (tellers d.requests zs_then + spare) [] cs deferred adds (omega (arith, fewer)) (omega (arith, fewer)) keeps.told) in
+      let wide = subst (λ x. HasWidth x (tellers d.requests zs_then + 64)) deferred (wide_adds left left' (tellers d.requests zs + 64) (tellers d.requests zs_then + 64) [] cs deferred adds (omega (arith, fewer)) keeps.wide) in
+      let named = named_over i n d zs zs_then rs ss z r.it z' r.sleeper over leaves keeps.named in
+      let quiet : has_wakes_at w1.place ≡ false → w1.home.deferred.notes.wakes.items ≡ [] = λ h. wakes ∙ keeps.quiet h in
+      let due_so : IsDue (served_in w1.place) w1.home.closing w1.index w1.moments s.config w1.names d zs_then rs ss' =
+      record { punctual = due.punctual; told = due.told; wheel = due.wheel; timed = due.timed; asleep = asleep_over i n d zs zs_then rs ss z r.it z' r.sleeper over leaves asleep; order = due.order } in
+      let rooted : IsRooted w1.index w1.names d zs_then w1.home.deferred rs ss' = subst (λ x. IsRooted i n d zs_then x rs ss') deferred
+      (rooted_over i n d zs zs_then rs ss z r.it z' r.sleeper over leaves left left' cs keeps.rooted deferred adds.completions_added mine few none (here ∙ ap one_if (sym (ends_then r.it)))) in
+      let bare : is_bare_at w1.place ≡ true → live_count zs_then ≡ 0 = λ h. (let nobody = keeps.bare h in omega (arith, nobody, fewer)) in
+      let by : KeepsWith spare w1 d zs_then rs ss' s = assumption (told_so, wide, named, quiet, due_so, rooted, bare, keeps) in
       let by_worker : KeepsWith spare v (driver_of v) v.home.timers rs s'.sleepers.items s =
       subst (λ x. KeepsWith spare x (driver_of x) x.home.timers rs s'.sleepers.items s) (sym r.worker)
       (subst (λ xs. KeepsWith spare w1 d zs_then rs xs s) (sym r.sleepers) by) in
@@ -280,9 +273,7 @@ module _ {B : Type 0} (spare z : ℕ) (w v : Worker) (s s' : Shared B) (keeps : 
         by true r' c fired removed closed = ap (λ b. is_applied r.it.shown.forwarding && (b || (r.it.shown.removed || r.it.closed))) fired ∙ all_true (is_applied r.it.shown.forwarding)
         by false true c fired removed closed =
             ap (λ b. is_applied r.it.shown.forwarding && (b || (r.it.shown.removed || r.it.closed))) fired ∙ ap (λ b. is_applied r.it.shown.forwarding && (b || r.it.closed)) removed ∙ all_true (is_applied r.it.shown.forwarding)
-        by false false true fired removed closed =
-            ap (λ b. is_applied r.it.shown.forwarding && (b || (r.it.shown.removed || r.it.closed))) fired ∙ ap (λ b. is_applied r.it.shown.forwarding && (b || r.it.closed)) removed ∙ ap (λ b. is_applied r.it.shown.forwarding && b) closed
-            ∙ all_true (is_applied r.it.shown.forwarding)
+        by false false true fired removed closed = grind (arith, fired, removed, closed, all_true (is_applied r.it.shown.forwarding))
         by false false false fired removed closed =
             let here : is_asleep w.index r.it.shown ≡ true =
             ap (λ b. (b && not r.it.shown.fired) && not r.it.shown.removed) (eq-eqb r.it.shown.worker w.index mine) ∙ ap (λ b. (true && not b) && not r.it.shown.removed) fired ∙ ap (λ b. (true && not false) && not b) removed in

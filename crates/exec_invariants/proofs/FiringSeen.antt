@@ -1,13 +1,14 @@
 -- The sleeper that fires first is the one that the machine fires; and what stands on the desk then.
 use Rattle.std.{proofs.{Common.{◌≡◌, ℕ, ◌^◌, ◌<◌, ◌≤◌, ◌&&◌, ◌||◌, Bool, true, false, not, List, [], ◌∷◌, zero, suc, length, map, nat_le, Option, Some, None, IsSome, Ok, refl, sym, ap, subst, ◌∙◌, arith, slice_get, slice_index_or}, lemmas.{Bool.{false≢true}, List.{append-nil, map-append}}}, specs.{List.list_all, Option.option_map}}
+use Rattle.std.proofs.lemmas.Bool.{lt-leb}
 use Rattle.exec_base.{specs.{Slab.{IsPast, Slab, is_live, next_generation, removed, value_at}, declared.{slab.{Id.Id, Slot.{Slot, TheVariants.{Live, Retired, Vacant}}}}}, proofs.Slots.was_live}
 use Rattle.exec_time.specs.{Notes.Adds, Sleepers.{IsFirst, completions_of, wakes_of}, declared.{timers.{Observer.Observer as Watching, Sleeper.Sleeper as Sleeping}}}
 use Rattle.exec_waiters.specs.declared.deferred.Deferred.{Deferred}
 use Rattle.exec_driver.specs.Driving.{Driving}
 use Rattle.exec_machine.specs.{Deadlines.is_none_earlier, Tests.is_asleep, World.{Common, Own, no_sleeper}}
 use Rattle.exec_moves.specs.{Serve.is_to_fire, Slots.{Slots, vacated}, State.Desk, Told.{told_of_fire}}
-use Rattle.exec_parts.{specs.{declared.parts.{mail.Reply.Reply, names.Names.Names, record.Record.Record, sleeping.SleeperRecord.SleeperRecord}, Records.number_in, View.{completions_in, slots_seen}}, proofs.Facts.same_thing}
-use Rattle.exec_invariants.{specs.{Due.AreAsleep, Rooted.Watches, Names.IsNamed}, proofs.{Fired.{all_by, le_is}, Firing.slept_there, FiringSlots.{OneBed, bed_vacated, value_of_slot}, Seen.sleeper_at, Unclosed.unclosed}}
+use Rattle.exec_parts.{specs.{declared.parts.{mail.Reply.Reply, names.Names.Names, record.Record.Record, sleeping.SleeperRecord.SleeperRecord}, Records.number_in, View.{completions_in, slots_seen}}, proofs.Facts.same_Some}
+use Rattle.exec_invariants.{specs.{Due.AreAsleep, Rooted.Watches, Names.IsNamed}, proofs.{Fired.{all_by, le-leb}, Firing.slept_there, FiringSlots.{OneBed, bed_vacated, value_of_slot}, Seen.sleeper_at, Unclosed.unclosed}}
 
 -- NAMES
 
@@ -29,17 +30,14 @@ module _ (i : ℕ) (n : Names) (d : Driving Reply Reply) (zs : Slab (Sleeping Re
   bed_named j Retired at alive = absurd (false≢true alive)
 
   pub one_bed : (closing : Bool) → AreAsleep closing i n zs ss → length ss < 2 ^ 64 → (id : Id) (it : Sleeping Reply) → value_at zs id ≡ Some it → OneBed n.timers.items zs id
-  one_bed = grind (arith, live_past, bed_named, same_thing)
+  one_bed = grind (arith, live_past, bed_named, same_Some)
 
 -- WHO IS FIRST
 
 some_fails : {X : Type 0} (test : X → Bool) (xs : List X) (k : ℕ) (x : X) → slice_get xs k ≡ Some x → test x ≡ false → list_all test xs ≡ false
 some_fails test [] k x at fails = absurd (let none : None ≡ Some x = at in cc)
-some_fails test (y ∷ xs) zero x at fails = let same : y ≡ x = same_thing y x at in ap (λ b. b && list_all test xs) (ap test same ∙ fails)
+some_fails test (y ∷ xs) zero x at fails = let same : y ≡ x = same_Some y x at in ap (λ b. b && list_all test xs) (ap test same ∙ fails)
 some_fails test (y ∷ xs) (suc k) x at fails = grind (arith, some_fails test xs k x at fails)
-
-past_le : (a b : ℕ) → b < a → nat_le a b ≡ false
-past_le = grind arith
 
 not_first : (a b : Bool) → (a && b && false) ≡ false
 not_first = grind arith
@@ -47,7 +45,7 @@ not_first = grind arith
 module _ (i : ℕ) (closing : Bool) (opens : closing ≡ false) (n : Names) (d : Driving Reply Reply) (zs : Slab (Sleeping Reply)) (rs : List Record) (ss : List SleeperRecord) (named : IsNamed i n d zs rs ss) (asleep : AreAsleep closing i n zs ss)
     (deadline : ℕ) (id : Id) (first : IsFirst zs deadline id) (it : Sleeping Reply) (was : value_at zs id ≡ Some it) (z : SleeperRecord) (there : slice_get ss (number_in n.timers.items id) ≡ Some z) where
   its_deadline : deadline ≡ it.deadline
-  its_deadline = same_thing deadline it.deadline (sym first.at ∙ ap (option_map (λ (x : Sleeping Reply). x.deadline)) was)
+  its_deadline = same_Some deadline it.deadline (sym first.at ∙ ap (option_map (λ (x : Sleeping Reply). x.deadline)) was)
 
   pub until : z.shown.until ≡ deadline
   until = (asleep.alike id it z was there).until ∙ sym its_deadline
@@ -55,20 +53,18 @@ module _ (i : ℕ) (closing : Bool) (opens : closing ≡ false) (n : Names) (d :
   -- no sleeper of its worker is earlier
   none_before : (j : ℕ) (y : SleeperRecord) → slice_get ss j ≡ Some y → is_asleep i y.shown ≡ true → z.shown.until ≤ y.shown.until
   none_before j y at sleeps =
+      let by : (o : Option (Sleeping Reply)) → value_at zs y.id.0 ≡ o → IsSome o → z.shown.until ≤ y.shown.until = grind arith in
       let kept = unclosed i n zs ss asleep opens j y at sleeps in
       let live = asleep.there j y at sleeps kept in
-      let number = asleep.named j y at sleeps kept in
       by (value_at zs y.id.0) refl live
-    where
-      by : (o : Option (Sleeping Reply)) → value_at zs y.id.0 ≡ o → IsSome o → z.shown.until ≤ y.shown.until
-      by = grind arith
 
   pub earliest : is_none_earlier i z.shown.until (map (λ y. y.shown) ss) ≡ true
-  earliest = grind (arith, all_by, until, slept_there, le_is, none_before)
+  earliest = grind (arith, all_by, until, slept_there, le-leb, none_before)
 
   -- none in a slot before it is the first
   pub not_before : (me : Own) (s : Common) → s.sleepers ≡ map (λ y. y.shown) ss → (j : ℕ) (x : Slot (Sleeping Reply)) → j < id.index → slice_get zs.slots j ≡ Some x → is_live x ≡ true → is_to_fire i me s (slice_index_or n.timers.items j 0) ≡ false
   not_before me s shown j x less at alive =
+      let apart_less : (a b u v : ℕ) → a ≤ b → u ≡ a → v ≡ b → ((a ≡ b) → ⊥) → u < v = grind arith in
       let a = bed_named i n d zs rs ss named j x at alive in
       let y = a.4 in
       let m = slice_index_or n.timers.items j 0 in
@@ -82,21 +78,18 @@ module _ (i : ℕ) (closing : Bool) (opens : closing ≡ false) (n : Names) (d :
       apart_less deadline a.1.deadline z.shown.until y.shown.until least mine its unlike in
       let fails : is_none_earlier i y.shown.until (map (λ v. v.shown) ss) ≡ false =
       some_fails (λ v. not (is_asleep i v) || nat_le y.shown.until v.until) (map (λ v. v.shown) ss) (number_in n.timers.items id) z.shown (shown_at ss (number_in n.timers.items id) z there)
-      (ap (λ b. not b || nat_le y.shown.until z.shown.until) (asleep.alike id it z was there).asleep ∙ past_le y.shown.until z.shown.until later) in
+      (ap (λ b. not b || nat_le y.shown.until z.shown.until) (asleep.alike id it z was there).asleep ∙ lt-leb y.shown.until z.shown.until later) in
       ap (λ v. is_asleep i v && nat_le v.until me.sampled && is_none_earlier i v.until s.sleepers) (ap (λ xs. slice_index_or xs m no_sleeper) shown ∙ sleeper_at ss m y a.5)
       ∙ ap (λ b. is_asleep i y.shown && nat_le y.shown.until me.sampled && b) (ap (is_none_earlier i y.shown.until) shown ∙ fails) ∙ not_first (is_asleep i y.shown) (nat_le y.shown.until me.sampled)
     where
-      apart_less : (a b u v : ℕ) → a ≤ b → u ≡ a → v ≡ b → ((a ≡ b) → ⊥) → u < v
-      apart_less = grind arith
-
       shown_at : (xs : List SleeperRecord) (k : ℕ) (v : SleeperRecord) → slice_get xs k ≡ Some v → slice_get (map (λ v. v.shown) xs) k ≡ Some v.shown
       shown_at [] k v at = absurd (let none : None ≡ Some v = at in cc)
-      shown_at (u ∷ xs) zero v at = ap (λ (w : SleeperRecord). Some w.shown) (same_thing u v at)
+      shown_at (u ∷ xs) zero v at = ap (λ (w : SleeperRecord). Some w.shown) (same_Some u v at)
       shown_at (u ∷ xs) (suc k) v at = shown_at xs k v at
 
   -- and it is
   pub is_first : (me : Own) (s : Common) → s.sleepers ≡ map (λ y. y.shown) ss → deadline ≤ me.sampled → is_to_fire i me s (number_in n.timers.items id) ≡ true
-  is_first = grind (arith, until, sleeper_at, le_is, earliest)
+  is_first = grind (arith, until, sleeper_at, le-leb, earliest)
 
 -- THE DESK
 

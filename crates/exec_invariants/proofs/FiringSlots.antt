@@ -2,13 +2,13 @@
 use Rattle.std.proofs.{Common.{◌≡◌, ◌≢◌, ℕ, zero, suc, ◌+◌, ◌^◌, ◌<◌, Bool, true, false, List, [], ◌∷◌, nat_lt, set, slice_get, slice_index_or, slice_set, Some, None, if◌then◌else◌, refl, sym, ap, ◌∙◌, arith}, lemmas.{Bool.{eq-eqb, Decides.nat_tests}, Option.get_or_from_slice_get}}
 use Rattle.exec_base.{specs.{Slab.{Slab, freed, is_live, removed, value_at, value_in}, declared.slab.{Id.Id, Slot.{Slot, TheVariants.{Live, Vacant, Retired}}}}, proofs.Slots.{IsLiveAt-from_value, live_within}}
 use Rattle.exec_moves.specs.Slots.{first_in, is_in_slots, slot_of, vacated}
-use Rattle.exec_parts.{specs.{Records.number_in, View.{slots_from, slots_seen}}, proofs.Facts.{not_same, same_thing}}
+use Rattle.exec_parts.{specs.{Records.number_in, View.{slots_from, slots_seen}}, proofs.Facts.{not_same, same_Some}}
 use Rattle.exec_invariants.proofs.SparedRecord.{there_within}
 
-number_there : (numbers : List ℕ) (id : Id) → slice_index_or numbers (0 + id.index) 0 ≡ number_in numbers id
+pub number_there : (numbers : List ℕ) (id : Id) → slice_index_or numbers (0 + id.index) 0 ≡ number_in numbers id
 number_there numbers id = ap (λ m. slice_index_or numbers m 0) (let e : 0 + id.index ≡ id.index = omega arith in e)
 
-at_zero : (numbers : List ℕ) (j n : ℕ) → slice_index_or numbers (0 + j) 0 ≡ n → slice_index_or numbers j 0 ≡ n
+pub at_zero : (numbers : List ℕ) (j n : ℕ) → slice_index_or numbers (0 + j) 0 ≡ n → slice_index_or numbers j 0 ≡ n
 at_zero numbers j n is = ap (λ m. slice_index_or numbers m 0) (let e : j ≡ 0 + j = omega arith in e) ∙ is
 
 module _ {T : Type 0} where
@@ -21,7 +21,7 @@ module _ {T : Type 0} where
       let found : slice_get s.slots id.index ≡ Some (Live id.generation live.value) = it.1 ∙ ap (λ x. Some x) is in
       let value : value_at s id ≡ Some live.value =
       ap (λ x. value_in x id.generation) (get_or_from_slice_get s.slots id.index (Live id.generation live.value) (Vacant s.first) found) ∙ ap (λ b. if b then Some live.value else None) (eq-eqb id.generation id.generation refl) in
-      found ∙ ap (λ v. Some (Live id.generation v)) (same_thing live.value e (sym value ∙ at))
+      found ∙ ap (λ v. Some (Live id.generation v)) (same_Some live.value e (sym value ∙ at))
 
   -- and what stands in a slot is there
   pub value_of_slot : (s : Slab T) (j g : ℕ) (e : T) → slice_get s.slots j ≡ Some (Live g e) → value_at s (record { index = j; generation = g }) ≡ Some e
@@ -45,16 +45,13 @@ module _ {T : Type 0} where
   slot_found : (n k : ℕ) (numbers : List ℕ) (slots : List (Slot T)) (i : ℕ) (o : Slot T) → slice_get slots i ≡ Some o → is_live o ≡ true → slice_index_or numbers (k + i) 0 ≡ n → IsFirst n k numbers slots i
       → slot_of n k (slots_from k numbers slots) ≡ Some (k + i)
   slot_found n k numbers [] i o there live is first = absurd (let no : None ≡ Some o = there in cc)
-  slot_found n k numbers (x ∷ slots) zero o there live is first = grind (arith, same_thing, eq-eqb)
+  slot_found n k numbers (x ∷ slots) zero o there live is first = grind (arith, same_Some, eq-eqb)
   slot_found n k numbers (x ∷ slots) (suc i) o there live is first =
+      let later : IsFirst n (suc k) numbers slots i = λ j y less at alive same. first (suc j) y (omega (arith, less)) at alive (ap (λ m. slice_index_or numbers m 0) (let e : k + suc j ≡ suc k + j = omega arith in e) ∙ same) in
       by (is_live x) refl
       ∙ slot_found n (suc k) numbers slots i o there live (ap (λ m. slice_index_or numbers m 0) (let e : suc k + i ≡ k + suc i = omega arith in e) ∙ is) later
       ∙ ap (λ m. Some m) (let e : suc k + i ≡ k + suc i = omega arith in e)
     where
-      later : IsFirst n (suc k) numbers slots i
-      later j y less at alive same =
-          first (suc j) y (omega (arith, less)) at alive (ap (λ m. slice_index_or numbers m 0) (let e : k + suc j ≡ suc k + j = omega arith in e) ∙ same)
-
       by : (b : Bool) → is_live x ≡ b → slot_of n k (slots_from k numbers (x ∷ slots)) ≡ slot_of n (suc k) (slots_from (suc k) numbers slots)
       by true alive =
           let other : slice_index_or numbers k 0 ≢ n = λ same. first 0 x (omega arith) refl alive (ap (λ m. slice_index_or numbers m 0) (let e : k + 0 ≡ k = omega arith in e) ∙ same) in
@@ -92,7 +89,7 @@ module _ {T : Type 0} where
   first_from : (test : ℕ → Bool) (k : ℕ) (numbers : List ℕ) (slots : List (Slot T)) (i : ℕ) (o : Slot T) → slice_get slots i ≡ Some o → is_live o ≡ true → test (slice_index_or numbers (k + i) 0) ≡ true
       → ((j : ℕ) (x : Slot T) → j < i → slice_get slots j ≡ Some x → is_live x ≡ true → test (slice_index_or numbers (k + j) 0) ≡ false) → first_in test (slots_from k numbers slots) ≡ Some (slice_index_or numbers (k + i) 0)
   first_from test k numbers [] i o there live is before = absurd (let no : None ≡ Some o = there in cc)
-  first_from test k numbers (x ∷ slots) zero o there live is before = grind (arith, same_thing)
+  first_from test k numbers (x ∷ slots) zero o there live is before = grind (arith, same_Some)
   first_from test k numbers (x ∷ slots) (suc i) o there live is before =
       let next : suc k + i ≡ k + suc i = omega arith in
       by (is_live x) refl

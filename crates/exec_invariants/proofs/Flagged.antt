@@ -4,7 +4,7 @@ use Rattle.std.proofs.Common.{arith}
 use Rattle.exec_task.specs.{Phases.{is_idle as is_cell_idle, runnable_of, woken as cell_woken}, declared.{body.{Said.Said}, runnable.Runnable.Runnable, task.Phase.Phase}}
 use Rattle.exec_machine.specs.{Progress.Plan}
 use Rattle.exec_moves.specs.{declared.place.{InPoll.InPoll, Place.Place}}
-use Rattle.exec_parts.{specs.{declared.parts.{shared.Shared.Shared, task_slot.TaskSlot.TaskSlot, worker.Worker.Worker}, Phased.is_complete, Pooled.woken_slot, Spots.Spot, View.{Views}}, proofs.Facts.{same_thing, set_elsewhere, set_there}}
+use Rattle.exec_parts.{specs.{declared.parts.{shared.Shared.Shared, task_slot.TaskSlot.TaskSlot, worker.Worker.Worker}, Phased.is_complete, Pooled.woken_slot, Spots.Spot, View.{Views}}, proofs.Facts.{same_Some, set_elsewhere, set_there}}
 use Rattle.exec_invariants.{specs.{Places.{claims_at, clears_at, has_count_at, is_published_at, polled_in}, Sound.{IsRunnable, SoundAt, Stands, is_told, one_of}, Works.Beside}, proofs.{Cells.{complete_woken, polled_woken}, Polling.on_in_poll, Slots.{Balances, spares_slot, whole_slot}, SlotTasks.{Keeps, Tasked, homes_set, none_in, resting_set, sound_tasked}, Stirs.IsWake}}
 
 -- whether the flag is set then
@@ -38,8 +38,8 @@ module _ {B : Type 0} where
       let slot' : TaskSlot B = woken_slot slot in
       let x = polled_in w.root (Place.Poll t InPoll.Act) in
       let found : slice_get (slice_set tasks w.root slot') w.root ≡ Some slot' = set_there tasks w.root slot' slot there in
-      let same : sound.runnable.root ≡ slot = same_thing sound.runnable.root slot (sym sound.runnable.there ∙ there) in
-      let is : (o : TaskSlot B) → slice_get (slice_set tasks w.root slot') w.root ≡ Some o → slot' ≡ o = λ o at_root. same_thing slot' o (sym found ∙ at_root) in
+      let same : sound.runnable.root ≡ slot = same_Some sound.runnable.root slot (sym sound.runnable.there ∙ there) in
+      let is : (o : TaskSlot B) → slice_get (slice_set tasks w.root slot') w.root ≡ Some o → slot' ≡ o = λ o at_root. same_Some slot' o (sym found ∙ at_root) in
       let run : IsRunnable w.root_ready slot = in_flag w.root_ready slot (subst (λ (o : TaskSlot B). IsRunnable (one_of w.root_ready None) o) same sound.runnable.once) in
       let home : slot.home ≡ Some w.index = sym (ap (λ (o : TaskSlot B). o.home) same) ∙ sound.runnable.home in
       record {
@@ -73,14 +73,14 @@ module _ {B : Type 0} where
       let q : Place = Place.Poll t InPoll.Act in
       let f : Option Runnable = flag_then w.root_ready slot in
       let keeps : Keeps slot (woken_slot slot) = record { home = refl; number = refl; owner = refl } in
-      let home : slot.home ≡ Some w.index = ap (λ (o : TaskSlot B). o.home) (same_thing slot sound.runnable.root (sym there ∙ sound.runnable.there)) ∙ sound.runnable.home in
+      let home : slot.home ≡ Some w.index = ap (λ (o : TaskSlot B). o.home) (same_Some slot sound.runnable.root (sym there ∙ sound.runnable.there)) ∙ sound.runnable.home in
       let ordinary : slot.home ≡ None → ⊥ = λ none. let never : Some w.index ≡ None = sym home ∙ none in absurd (cc) in
       let bal : Balances w.root q w None slot (woken_slot slot) = grind arith in
       record {
         sound = sound_tasked t InPoll.Act q w f None s s' sound (on_in_poll t InPoll.Act refl refl) (subst (Tasked q w f None s) (sym items) (root_woken t w s slot sound there));
         beside = record {
           spares = λ j other.
-              spares_slot w.index j w.root s s' slot (woken_slot slot) other there items keeps (λ is. other (same_thing j w.index (sym is ∙ home)))
+              spares_slot w.index j w.root s s' slot (woken_slot slot) other there items keeps (λ is. other (same_Some j w.index (sym is ∙ home)))
               (λ polled mine. record { polled = polled_woken slot.cell.phase ∙ polled; number = refl; cancelled = λ e. e; kept = refl }) sound.homes;
           whole = λ others whole.
               whole_slot w.root q w f None s s' slot (woken_slot slot) others (sound.loot.none refl) (ap claims_at sound.here) (ap has_count_at sound.here) (ap is_published_at sound.here) (ap clears_at sound.here) (λ none. absurd (ordinary none)) (on_in_poll t InPoll.Act refl refl) there items bal whole;

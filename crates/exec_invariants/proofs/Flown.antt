@@ -1,10 +1,10 @@
 -- What has landed, as a driver and the records of its requests change.
-use Rattle.std.{proofs.Common.{◌≡◌, ℕ, ◌≤◌, ◌==◌, Bool, true, false, List, [], ◌∷◌, map, Option, Some, refl, sym, ap, subst, ◌∙◌, arith, slice_get, slice_index_or}, specs.VecDeque.deque_capacity}
+use Rattle.std.{proofs.Common.{◌≡◌, ℕ, ◌≤◌, ◌==◌, Bool, true, false, List, [], ◌∷◌, map, Option, Some, refl, sym, ap, subst, ◌∙◌, arith, slice_get, slice_index_or}, specs.{VecDeque.deque_capacity, Vec.vec_capacity, Prelude.{◌+◌, length}}}
 use Rattle.exec_base.specs.declared.slab.Id.{Id}
 use Rattle.exec_outcomes.specs.{declared.outcome.OpResult.OpResult}
 use Rattle.exec_ring.specs.{Completions.result_in, declared.completion.Completion.Completion}
-use Rattle.exec_waiters.specs.{States.waiter_at, declared.waiter.Waiter.Waiter}
-use Rattle.exec_driver.specs.Driving.{Driving}
+use Rattle.exec_waiters.specs.{States.waiter_at, declared.{waiter.Waiter.Waiter, waiter_id.WaiterId.WaiterId}}
+use Rattle.exec_driver.specs.{Driving.Driving, Lists.is_among}
 use Rattle.exec_machine.specs.{declared.state.RequestPhase.TheVariants.Landed, Tests.is_resolved}
 use Rattle.exec_moves.specs.declared.place.InService.{InService}
 use Rattle.exec_parts.{specs.{declared.parts.{mail.Reply.Reply, names.Names.Names, record.Record.Record}, Records.number_in, Serving.changed_at, View.number_told}, proofs.Facts.same_number}
@@ -72,31 +72,27 @@ module _ (f : Record → Record) (marks : (r : Record) → f r ≡ record r { sh
       → n'.requests ≡ n.requests → n'.staged ≡ n.staged → n'.untold ≡ n.untold → n'.unreleased ≤ n.unreleased → deque_capacity n'.ended ≡ deque_capacity n.ended
       → ((r : Record) → slice_get rs q ≡ Some r → is_resolved r.shown.phase ≡ false → (f r).shown.released ≡ false) → HasFlown x i n' d (changed_at rs q f)
   flown_marked x i n n' d rs q flown requests staged untold fewer room owns =
-      record {
-        ending = rw room (omega (arith, fewer, flown.ending));
-        staging = rw staged flown.staging;
-        telling = rw untold flown.telling;
-        entries = rw (staged, untold) flown.entries;
-        gated = flown.gated;
-        enrolling = flown.enrolling;
-        polled = flown.polled;
-        owning = λ k y there unresolved.
-            let old = was_marked f rs q k y there in
-            let before : is_resolved old.0.shown.phase ≡ false = sym (ap is_resolved (phase_kept (q == k) old.0)) ∙ sym (ap (λ z. is_resolved z.shown.phase) old.2) ∙ unresolved in
-            ap (λ z. z.shown.released) old.2 ∙ released_by k (q == k) old.0 refl old.1 before;
-        plain = λ k y there mine.
-            let old = was_marked f rs q k y there in
-            subst (λ z. IsPlain z.shown) (sym old.2)
-            (plain_kept (q == k) old.0 (flown.plain k old.0 old.1 (sym (worker_kept (q == k) old.0) ∙ sym (ap (λ z. z.shown.worker) old.2) ∙ mine)));
-        landed = landed_on n n' d d rs (changed_at rs q f) (operations d.ring) flown.landed
-            (λ id it r given at flies there landed.
-            let k = number_in n.requests.items id in
-            record { it' = it; r' = mark_if f (q == k) r; live = at; flies = refl; same = refl; number = ap (λ v. number_in v.items id) requests; there = marked f rs q k r there; phase = phase_kept (q == k) r });
-        uncancelled = λ id y among there mine.
-            let k = number_in n.requests.items id.0 in
-            let old = was_marked f rs q k y (ap (λ v. slice_get (changed_at rs q f) (number_in v.items id.0)) (sym requests) ∙ there) in
-            ap (λ z. z.shown.cancel_staged) old.2 ∙ cancel_kept (q == k) old.0 ∙ flown.uncancelled id old.0 among old.1 (sym (worker_kept (q == k) old.0) ∙ sym (ap (λ z. z.shown.worker) old.2) ∙ mine);
-      }
+      let ending : n'.unreleased ≤ deque_capacity n'.ended = rw room (omega (arith, fewer, flown.ending)) in
+      let staging : d.ring.size ≤ vec_capacity n'.staged = rw staged flown.staging in
+      let telling : d.ring.size ≤ vec_capacity n'.untold = rw untold flown.telling in
+      let entries : length n'.staged.items + length n'.untold.items ≤ length d.ring.staged = rw (staged, untold) flown.entries in
+      let owning : (k : ℕ) (r : Record) → slice_get (changed_at rs q f) k ≡ Some r → is_resolved r.shown.phase ≡ false → r.shown.released ≡ false = λ k y there unresolved.
+      let old = was_marked f rs q k y there in
+      let before : is_resolved old.0.shown.phase ≡ false = sym (ap is_resolved (phase_kept (q == k) old.0)) ∙ sym (ap (λ z. is_resolved z.shown.phase) old.2) ∙ unresolved in
+      ap (λ z. z.shown.released) old.2 ∙ released_by k (q == k) old.0 refl old.1 before in
+      let plain : (k : ℕ) (r : Record) → slice_get (changed_at rs q f) k ≡ Some r → r.shown.worker ≡ i → IsPlain r.shown = λ k y there mine.
+      let old = was_marked f rs q k y there in
+      subst (λ z. IsPlain z.shown) (sym old.2)
+      (plain_kept (q == k) old.0 (flown.plain k old.0 old.1 (sym (worker_kept (q == k) old.0) ∙ sym (ap (λ z. z.shown.worker) old.2) ∙ mine))) in
+      let landed_so : AreLanded n' d (changed_at rs q f) (operations d.ring) = landed_on n n' d d rs (changed_at rs q f) (operations d.ring) flown.landed
+      (λ id it r given at flies there landed.
+      let k = number_in n.requests.items id in
+      record { it' = it; r' = mark_if f (q == k) r; live = at; flies = refl; same = refl; number = ap (λ v. number_in v.items id) requests; there = marked f rs q k r there; phase = phase_kept (q == k) r }) in
+      let uncancelled : (id : WaiterId) (r : Record) → is_among id d.lists.cancels ≡ true → slice_get (changed_at rs q f) (number_in n'.requests.items id.0) ≡ Some r → r.shown.worker ≡ i → r.shown.cancel_staged ≡ false = λ id y among there mine.
+      let k = number_in n.requests.items id.0 in
+      let old = was_marked f rs q k y (ap (λ v. slice_get (changed_at rs q f) (number_in v.items id.0)) (sym requests) ∙ there) in
+      ap (λ z. z.shown.cancel_staged) old.2 ∙ cancel_kept (q == k) old.0 ∙ flown.uncancelled id old.0 among old.1 (sym (worker_kept (q == k) old.0) ∙ sym (ap (λ z. z.shown.worker) old.2) ∙ mine) in
+      assumption (ending, staging, telling, entries, owning, plain, landed_so, uncancelled, flown)
     where
       released_by : (k : ℕ) (b : Bool) (r : Record) → (q == k) ≡ b → slice_get rs k ≡ Some r → is_resolved r.shown.phase ≡ false → (mark_if f b r).shown.released ≡ false
       released_by k true r is there h = owns r (ap (slice_get rs) (same_number q k is) ∙ there) h

@@ -1,17 +1,16 @@
 -- A step of a poll: a durable request that was registered joins the line at the gate of its open.
-use Rattle.std.{proofs.{Common.{◌≡◌, ◌≢◌, ℕ, ◌==◌, ◌<◌, ◌≤◌, arith, ◌++◌, Bool, true, false, not, List, [], ◌∷◌, length, map, Option, Some, None, IfSome, refl, sym, ap, subst, ◌∙◌, slice_get, slice_set, if◌then◌else◌}, lemmas.{List.map-set, Option.{get_or_from_slice_get, slice_get-map}}}, specs.Option.option_map}
+use Rattle.std.{proofs.{Common.{◌≡◌, ◌≢◌, ℕ, ◌==◌, ◌<◌, arith, ◌++◌, Bool, true, false, not, List, [], ◌∷◌, length, map, Option, Some, None, IfSome, refl, sym, ap, subst, ◌∙◌, slice_get, slice_set, if◌then◌else◌}, lemmas.{List.map-set, Option.{get_or_from_slice_get, slice_get-map}}}, specs.{Option.option_map, Prelude.{◌⊎◌, ◌+◌}}}
 use Rattle.exec_outcomes.specs.Accounts.{is_durable}
 use Rattle.exec_base.specs.declared.slab.Id.{Id}
-use Rattle.exec_words.specs.Queue.{tail_of}
-use Rattle.exec_task.specs.TaskSet.{Set}
+use Rattle.exec_task.specs.{TaskSet.Set, Phases.is_polled}
 use Rattle.exec_request.specs.Requests.{asked_of, cursor_of, target_of}
 use Rattle.exec_waiters.specs.{States.{gate_in, needs_permit, waiter_at}, declared.waiter.Waiter.Waiter}
 use Rattle.exec_driver.specs.{Driving.request_at, Opens.{OpenState, joined, open_named, with_named, with_open_in}, declared.opens.WaiterKey.WaiterKey}
 use Rattle.exec_task.specs.declared.body.Said.{Said}
 use Rattle.exec_machine.specs.{declared.{event.Event.{Event, TheVariants.Turn}}, Progress.Plan, Requests.open_joined_by, World.{no_open, open_of, request_of}}
 use Rattle.exec_moves.specs.{declared.place.{InPoll.InPoll, Place.Place}, State.gate_of}
-use Rattle.exec_parts.{specs.{declared.parts.{mail.Reply.Reply, record.Record.Record, seat.Seat.Seat as Chair, shared.Shared.Shared, task_slot.TaskSlot.TaskSlot, worker.Worker.Worker}, Admitting.{HasPlaceAt, joined_at}, Records.number_in, Spots.Spot, View.{Views, common_of, driver_of, gate_seen, open_seen, things_with, visible, with_view}}, proofs.Facts.{and_parts, same_thing}}
-use Rattle.exec_invariants.{specs.{Drained.{Duties, IsPool}, Gates.{AreLinedUp, HaveGates, IsKnown, has_hint_at, key_for, may_ask_hint}, Places.{Drops, drops_at, polled_in}, Sound.{HasGuest, IsTied, SoundAt, Stands, served_in}, Spares.Spares, Whole.{HasWhole, IsWhole, Profile, duties_of, with_worker}, Works.{Beside, Steps, Suits, Works}}, proofs.{Aside.{record_spared, sleeper_spared, spared}, GateLines.{MayJoin, gate_then, gates_joined, hints_joined, joined_in, lined_joined, open_then, place_made}, Gated.{durable_of_file, gate_there, stands_there, ungated_open}, Hearing.unheard, PoolKept.{chosen_other, chosen_own}, Recorded.request_seen, Slots.gates_free, Spared.{records_endure, sleepers_endure}, SparedRecord.there_within, Turning.view_found}}
+use Rattle.exec_parts.{specs.{declared.parts.{mail.Reply.Reply, record.Record.Record, seat.Seat.Seat as Chair, shared.Shared.Shared, task_slot.TaskSlot.TaskSlot, worker.Worker.Worker}, Admitting.{HasPlaceAt, joined_at}, Records.number_in, Spots.Spot, View.{Views, common_of, driver_of, gate_seen, open_seen, things_with, visible, with_view}}, proofs.Facts.{and_parts, same_Some}}
+use Rattle.exec_invariants.{specs.{Drained.{Duties, IsPool, IsOver, in_set, IsHeldOnce, IsBefore}, Gates.{AreLinedUp, HaveGates, IsKnown, has_hint_at, key_for, may_ask_hint}, Places.{Drops, drops_at, polled_in}, Sound.{HasGuest, IsTied, SoundAt, Stands, served_in}, Spares.Spares, Whole.{HasWhole, IsWhole, Profile, duties_of, with_worker}, Works.{Beside, Steps, Suits, Works}}, proofs.{Aside.{spares_none}, GateLines.{MayJoin, gate_then, gates_joined, hints_joined, joined_in, lined_joined, open_then, place_made}, Gated.{durable_of_file, gate_there, stands_there, ungated_open}, Hearing.unheard, PoolKept.{chosen_other, chosen_own}, Recorded.request_seen, Slots.gates_free, SparedRecord.there_within, Turning.view_found}}
 
 abbrev joins_here : ℕ → ℕ → Place
 joins_here t k = Place.Poll t (InPoll.JoinGate k)
@@ -48,7 +47,7 @@ module _ {B : Type 0} where
   module _ (t k : ℕ) (w : Worker) (s : Shared B) (it : Joiner t k w s) where
     pub place_at : (r : Record) → slice_get s.requests.items k ≡ Some r → HasPlaceAt (driver_of w) r.id s.opens
     place_at r there =
-        let same : it.r ≡ r = same_thing it.r r (sym it.may.there ∙ there) in
+        let same : it.r ≡ r = same_Some it.r r (sym it.may.there ∙ there) in
         subst (λ (x : Record). HasPlaceAt (driver_of w) x.id s.opens) same
         (subst (λ g. IfSome (open_named s.opens g) (λ o. 0 < o.coming)) (sym it.gate)
         (subst (λ o. IfSome o (λ o. 0 < o.coming)) (sym it.may.open_there) it.place))
@@ -66,53 +65,21 @@ module _ {B : Type 0} where
   pub pool_drops : (d d' : Duties) (tasks : List (TaskSlot B)) (set : Set (Unit {0})) (seats : List Chair) → d'.clears ≡ d.clears → d'.polled_by ≡ d.polled_by → ((j : ℕ) → (d'.drops_by j).clears ≡ (d.drops_by j).clears) → ((j : ℕ) → (d'.drops_by j).removes ≡ (d.drops_by j).removes)
       → IsPool d tasks set seats → IsPool d' tasks set seats
   pool_drops d d' tasks set seats clears polls same_clears same_removes pool =
-      record {
-        live = rw clears pool.live;
-        home = pool.home;
-        only = rw clears pool.only;
-        who_polls = rw polls pool.who_polls;
-        who_clears = λ u some. let it = pool.who_clears u (subst (λ (f : ℕ → ℕ). 0 < f u) clears some) in (it.0, it.1, same_clears it.0 ∙ it.2, it.3);
-        clear_shut = pool.clear_shut;
-        removes = λ j u is. pool.removes j u (sym (same_removes j) ∙ is);
-        alone = λ i j u a b. pool.alone i j u (sym (same_removes i) ∙ a) (sym (same_removes j) ∙ b);
-        drained = pool.drained;
-        mail = pool.mail;
-        shut = pool.shut;
-      }
+      let live : (t : ℕ) (slot : TaskSlot B) → slice_get tasks t ≡ Some slot → slot.home ≡ None → IsHeldOnce slot (d'.clears t + in_set t set) = rw clears pool.live in
+      let only : (t : ℕ) → 0 < d'.clears t + in_set t set → (slot : TaskSlot B) × (slice_get tasks t ≡ Some slot) × (slot.home ≡ None) = rw clears pool.only in
+      let who_polls : (t : ℕ) (slot : TaskSlot B) → slice_get tasks t ≡ Some slot → slot.home ≡ None → is_polled slot.cell.phase ≡ true → IsBefore slot.poller seats × (d'.polled_by slot.poller ≡ Some t) = rw polls pool.who_polls in
+      let who_clears : (t : ℕ) → 0 < d'.clears t → (j : ℕ) × IsBefore j seats × ((d'.drops_by j).clears ≡ Some t) × (set.closed ≡ true) =
+      λ u some. let it = pool.who_clears u (subst (λ (f : ℕ → ℕ). 0 < f u) clears some) in (it.0, it.1, same_clears it.0 ∙ it.2, it.3) in
+      let removes : (j t : ℕ) → (d'.drops_by j).removes ≡ Some t → IsOver t tasks × ((set.closed ≡ true) ⊎ (in_set t set ≡ 1)) = λ j u is. pool.removes j u (sym (same_removes j) ∙ is) in
+      let alone : (i j t : ℕ) → (d'.drops_by i).removes ≡ Some t → (d'.drops_by j).removes ≡ Some t → i ≡ j = λ i j u a b. pool.alone i j u (sym (same_removes i) ∙ a) (sym (same_removes j) ∙ b) in
+      assumption (live, only, who_polls, who_clears, removes, alone, pool)
 
   tied_by : (k i : ℕ) (slot : TaskSlot B) (b : Bool) → Stands (if b then Some (InPoll.JoinGate k) else None) i slot → Stands (if b then Some InPoll.Act else None) i slot
   tied_by k i slot true st = record { polled = st.polled; body = st.body; poller = st.poller; kept = st.kept; uncleared = st.uncleared; told = st.told; untold = st.untold; waits = st.waits }
   tied_by k i slot false st = st
 
   pub spares_opens : (j : ℕ) (s : Shared B) (opens : List OpenState) → (AreLinedUp s.opens s.requests.items → AreLinedUp opens s.requests.items) → ((file : ℕ) → has_hint_at s.opens file ≡ false → has_hint_at opens file ≡ false) → Spares j s (record s { opens = opens })
-  spares_opens j s opens gates hints =
-      record {
-        config = refl;
-        clock = refl;
-        gates = gates;
-        hints = hints;
-        many = refl;
-        chair = λ chair there. (chair, there, spared chair);
-        tails = λ k chair chair' there there'.
-            let is : chair ≡ chair' = same_thing chair chair' (sym there ∙ there') in
-            subst (λ (c : Chair). tail_of chair.queue ≤ tail_of c.queue) is (omega arith);
-        records = λ k r there mine. (r, there, record_spared r);
-        records_only = λ k r there mine. (r, there, record_spared r);
-        sleepers = λ k z there mine. (z, there, sleeper_spared z);
-        sleepers_only = λ k z there mine. (z, there, sleeper_spared z);
-        endure = records_endure s.requests.items s.requests.items refl;
-        endure_too = sleepers_endure s.sleepers.items s.sleepers.items refl;
-        root = λ t slot there home. there;
-        polled = λ t slot there polled mine. (slot, there, record { polled = polled; number = refl; cancelled = λ h. h; kept = refl });
-        room = λ h. h;
-        stretch = λ file offset n h. h;
-        stopped = λ h. h;
-        closed = λ h. h;
-        by_zero = λ h. (refl, refl);
-        shards = refl;
-        emptied = λ shut k none. none;
-        genuine = λ r is. is;
-      }
+  spares_opens j s opens gates hints = assumption (gates, hints, spares_none j s)
 
 -- THE STEP, of a worker that stands there
 

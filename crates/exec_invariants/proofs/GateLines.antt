@@ -1,15 +1,16 @@
 -- A durable request joins the line at its gate, behind all who stand there.
-use Rattle.std.{proofs.{Common.{◌≡◌, ◌≢◌, ◌⊎◌, inl, inr, ℕ, zero, suc, ◌+◌, ◌-◌, ◌<◌, ◌≤◌, ◌==◌, ◌&&◌, ◌||◌, ◌++◌, arith, Bool, true, false, not, List, [], ◌∷◌, cond, count_by, drop, length, map, Some, None, IsSome, refl, sym, ap, subst, ◌∙◌, slice_get, slice_set}, lemmas.{Bool.{eq-eqb, false≢true}, List.{length-set, map-append, Folds.list_any-append, Recursion.is_count_by}}}, specs.List.list_any}
+use Rattle.std.{proofs.{Common.{◌≡◌, ◌≢◌, ◌⊎◌, inl, inr, ℕ, zero, suc, ◌+◌, ◌-◌, ◌<◌, ◌≤◌, ◌==◌, ◌&&◌, ◌||◌, ◌++◌, arith, Bool, true, false, not, List, [], ◌∷◌, drop, length, map, Some, None, IsSome, refl, sym, ap, subst, ◌∙◌, slice_get, slice_set}, lemmas.{Bool.{eq-eqb, false≢true}, List.{length-set, map-append, Folds.list_any-append}}}, specs.List.list_any}
 use Rattle.exec_outcomes.specs.Accounts.{Account, is_durable}
 use Rattle.exec_driver.specs.{Opens.{OpenState, joined}, declared.opens.WaiterKey.WaiterKey}
 use Rattle.exec_machine.specs.{Requests.open_joined_by, Tests.{is_gated}, World.Open}
-use Rattle.exec_parts.{specs.{declared.parts.record.Record.Record, View.{gate_seen, line_of, number_of_key, open_seen}}, proofs.Facts.{and_parts, both_true, by_not, by_number, never_true, or_right, same_thing, set_elsewhere, set_there}}
+use Rattle.exec_parts.{specs.{declared.parts.record.Record.Record, View.{gate_seen, line_of, number_of_key, open_seen}}, proofs.Facts.{and_parts, and_from, not-true, by_number, false_from_ne_true, or_right, same_Some, set_elsewhere, set_there}}
 use Rattle.exec_invariants.specs.{Gates.{AreLinedUp, HaveGates, IsLinedUp, at_gate, has_hint_at, is_coming, is_in_line, key_for, line_at, same_key}, Places.Drops}
+use Rattle.exec_invariants.proofs.Lined.{tallied, tally}
 
 -- LISTS
 
-snoc_get : {A : Type 0} (xs : List A) (x y : A) (n : ℕ) → slice_get (xs ++ x ∷ []) n ≡ Some y → (slice_get xs n ≡ Some y) ⊎ ((n ≡ length xs) × (x ≡ y))
-snoc_get [] x y zero at = inr (refl, same_thing x y at)
+pub snoc_get : {A : Type 0} (xs : List A) (x y : A) (n : ℕ) → slice_get (xs ++ x ∷ []) n ≡ Some y → (slice_get xs n ≡ Some y) ⊎ ((n ≡ length xs) × (x ≡ y))
+snoc_get [] x y zero at = inr (refl, same_Some x y at)
 snoc_get [] x y (suc n) at = absurd (let no : None ≡ Some y = at in cc)
 snoc_get (z ∷ zs) x y zero at = inl at
 snoc_get (z ∷ zs) x y (suc n) at = grind (arith, snoc_get zs x y n at)
@@ -24,14 +25,6 @@ any_found {A} test (x ∷ xs) h = by (λ some. any_found test xs some) (test x) 
         let later = rest (sym (ap (λ b. b || list_any test xs) is) ∙ h) in
         (suc later.0, later.1, later.2, later.3)
 
-tally : {A : Type 0} → (A → Bool) → List A → ℕ
-tally p [] = 0
-tally p (x ∷ xs) = cond (p x) (1 + tally p xs) (tally p xs)
-
-tallied : {A : Type 0} (p : A → Bool) (xs : List A) → tally p xs ≡ count_by p xs
-unfolding tally
-tallied p xs = is_count_by (tally p) p refl (λ x ys. refl) xs
-
 -- no more pass another test that passes only what passes this
 no_more : {A : Type 0} (p q : A → Bool) (xs : List A) → ((x : A) → q x ≡ true → p x ≡ true) → tally q xs ≤ tally p xs
 unfolding tally
@@ -42,7 +35,7 @@ no_more p q (x ∷ xs) less = grind (arith, tally, false≢true, no_more p q xs 
 one_fewer : {A : Type 0} (p q : A → Bool) (xs : List A) (k : ℕ) (x : A) → ((x : A) → q x ≡ true → p x ≡ true) → slice_get xs k ≡ Some x → p x ≡ true → q x ≡ false → tally q xs + 1 ≤ tally p xs
 unfolding tally
 one_fewer p q [] k x less there passes fails = absurd (let never : None ≡ Some x = there in cc)
-one_fewer p q (y ∷ ys) zero x less there passes fails = grind (arith, same_thing, tally, no_more)
+one_fewer p q (y ∷ ys) zero x less there passes fails = grind (arith, same_Some, tally, no_more)
 one_fewer p q (y ∷ ys) (suc k) x less there passes fails = grind (arith, tally, false≢true, one_fewer p q ys k x less there passes fails)
 
 -- KEYS
@@ -56,9 +49,9 @@ key_self = grind arith
 -- the number of a key is that of the request that alone has it
 pub key_number : (rs : List Record) (n k : ℕ) (r : Record) (key : WaiterKey) → slice_get rs k ≡ Some r → key_for r ≡ key → ((l : ℕ) (x : Record) → slice_get rs l ≡ Some x → key_for x ≡ key → k ≡ l) → number_of_key n rs key ≡ n + k
 key_number [] n k r key there is alone = absurd (let never : None ≡ Some r = there in cc)
-key_number (y ∷ ys) n zero r key there is alone = grind (arith, same_thing, key_self)
+key_number (y ∷ ys) n zero r key there is alone = grind (arith, same_Some, key_self)
 key_number (y ∷ ys) n (suc k) r key there is alone =
-    let no : same_key (key_for y) key ≡ false = never_true (same_key (key_for y) key) (λ h. let never : suc k ≡ zero = alone zero y refl (key_is (key_for y) key h) in absurd (omega (arith, never))) in
+    let no : same_key (key_for y) key ≡ false = false_from_ne_true (same_key (key_for y) key) (λ h. let never : suc k ≡ zero = alone zero y refl (key_is (key_for y) key h) in absurd (omega (arith, never))) in
     let later : number_of_key (suc n) ys key ≡ suc n + k = key_number ys (suc n) k r key there is (λ l x at same. let more : suc k ≡ suc l = alone (suc l) x at same in omega (arith, more)) in
     rw no (omega (arith, later))
 
@@ -88,14 +81,14 @@ pub record MayJoin (k : ℕ) (r : Record) (o : OpenState) (opens : List OpenStat
 -- an open is as before, or the one that was joined
 which_open : {P : Type 0} (opens : List OpenState) (r : Record) (o : OpenState) (file : ℕ) (x : OpenState) → slice_get opens r.shown.operation.target ≡ Some o → slice_get (joined_in opens r o) file ≡ Some x
     → (file ≢ r.shown.operation.target → slice_get opens file ≡ Some x → P) → (file ≡ r.shown.operation.target → joined (key_for r) o ≡ x → P) → P
-which_open = grind (arith, by_number, set_elsewhere, same_thing, set_there)
+which_open = grind (arith, by_number, set_elsewhere, same_Some, set_there)
 
 module _ (k : ℕ) (r : Record) (o : OpenState) (opens : List OpenState) (rs : List Record) (may : MayJoin k r o opens rs) where
   not_in_line : is_in_line (key_for r) o ≡ false
-  not_in_line = never_true (is_in_line (key_for r) o) (λ h. let found = any_found (same_key (key_for r)) (line_at o) h in absurd (may.apart found.0 (found.2 ∙ ap (λ y. Some y) (sym (key_is (key_for r) found.1 found.3)))))
+  not_in_line = false_from_ne_true (is_in_line (key_for r) o) (λ h. let found = any_found (same_key (key_for r)) (line_at o) h in absurd (may.apart found.0 (found.2 ∙ ap (λ y. Some y) (sym (key_is (key_for r) found.1 found.3)))))
 
   comes : is_coming r.shown.operation.target o (at_gate r) ≡ true
-  comes = both_true (is_gated r.shown.phase) ((r.shown.operation.target == r.shown.operation.target) && not (is_in_line (key_for r) o)) may.gated (both_true (r.shown.operation.target == r.shown.operation.target) (not (is_in_line (key_for r) o)) (eq-eqb r.shown.operation.target r.shown.operation.target refl) (ap not not_in_line))
+  comes = and_from (is_gated r.shown.phase) ((r.shown.operation.target == r.shown.operation.target) && not (is_in_line (key_for r) o)) may.gated (and_from (r.shown.operation.target == r.shown.operation.target) (not (is_in_line (key_for r) o)) (eq-eqb r.shown.operation.target r.shown.operation.target refl) (ap not not_in_line))
 
   -- one place was made for it
   pub place_made : IsLinedUp r.shown.operation.target o rs → 0 < o.coming
@@ -112,7 +105,7 @@ module _ (k : ℕ) (r : Record) (o : OpenState) (opens : List OpenState) (rs : L
       let split : (n : ℕ) (key : WaiterKey) → slice_get (line_at o') n ≡ Some key → (slice_get (line_at o) n ≡ Some key) ⊎ ((n ≡ length (line_at o)) × (key_for r ≡ key)) =
       λ n key at. snoc_get (line_at o) (key_for r) key n (ap (λ l. slice_get l n) (sym has.line) ∙ at) in
       let itself : (m : ℕ) (x : Record) → slice_get rs m ≡ Some x → key_for x ≡ key_for r → r ≡ x =
-      λ m x at is. same_thing r x (sym may.there ∙ ap (slice_get rs) (lined.unique k m r x may.there at (sym is)) ∙ at) in
+      λ m x at is. same_Some r x (sym may.there ∙ ap (slice_get rs) (lined.unique k m r x may.there at (sym is)) ∙ at) in
       let p : Record → Bool = λ x. is_coming file o (at_gate x) in
       let q : Record → Bool = λ x. is_coming file o' (at_gate x) in
       let any : (key : WaiterKey) → is_in_line key o' ≡ (is_in_line key o || (same_key key (key_for r) || false)) =
@@ -122,8 +115,8 @@ module _ (k : ℕ) (r : Record) (o : OpenState) (opens : List OpenState) (rs : L
       (λ x h.
       let one = and_parts (is_gated x.shown.phase) ((x.shown.operation.target == file) && not (is_in_line (key_for x) o')) h in
       let two = and_parts (x.shown.operation.target == file) (not (is_in_line (key_for x) o')) one.1 in
-      let out : is_in_line (key_for x) o ≡ false = first_of (is_in_line (key_for x) o) (same_key (key_for x) (key_for r) || false) (sym (any (key_for x)) ∙ by_not (is_in_line (key_for x) o') two.1) in
-      both_true (is_gated x.shown.phase) ((x.shown.operation.target == file) && not (is_in_line (key_for x) o)) one.0 (both_true (x.shown.operation.target == file) (not (is_in_line (key_for x) o)) two.0 (ap not out)))
+      let out : is_in_line (key_for x) o ≡ false = first_of (is_in_line (key_for x) o) (same_key (key_for x) (key_for r) || false) (sym (any (key_for x)) ∙ not-true (is_in_line (key_for x) o') two.1) in
+      and_from (is_gated x.shown.phase) ((x.shown.operation.target == file) && not (is_in_line (key_for x) o)) one.0 (and_from (x.shown.operation.target == file) (not (is_in_line (key_for x) o)) two.0 (ap not out)))
       may.there comes
       (let in_it : is_in_line (key_for r) o' ≡ true = any (key_for r) ∙ or_right (is_in_line (key_for r) o) (same_key (key_for r) (key_for r) || false) (ap (λ b. b || false) (key_self (key_for r) (key_for r) refl)) in
       rw (may.gated, eq-eqb file file refl, in_it) refl) in
@@ -198,7 +191,7 @@ module _ (k : ℕ) (r : Record) (o : OpenState) (opens : List OpenState) (rs : L
             by_number file r.shown.operation.target
             (λ other. record { o = p.o; open_there = set_elsewhere opens r.shown.operation.target file (joined (key_for r) o) other ∙ p.open_there; k = p.k; r = p.r; there = p.there; mine = p.mine; over = p.over; holds = p.holds })
             (λ same.
-            let is : p.o ≡ o = same_thing p.o o (sym p.open_there ∙ ap (slice_get opens) same ∙ may.open_there) in
+            let is : p.o ≡ o = same_Some p.o o (sym p.open_there ∙ ap (slice_get opens) same ∙ may.open_there) in
             record {
               o = joined (key_for r) o;
               open_there = ap (slice_get (joined_in opens r o)) same ∙ set_there opens r.shown.operation.target (joined (key_for r) o) o may.open_there;

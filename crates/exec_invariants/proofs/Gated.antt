@@ -1,5 +1,6 @@
 -- At which gate a request of a worker waits first: its driver says it as the machine does.
 use Rattle.std.{proofs.{Common.{◌≡◌, ◌⊎◌, ℕ, zero, suc, ◌+◌, ◌<◌, ◌≤◌, ◌&&◌, ◌||◌, Bool, true, false, not, List, [], ◌∷◌, length, map, nat_le, Option, Some, None, refl, sym, ap, subst, ◌∙◌, arith, inl, inr, slice_get}, lemmas.Bool.{false≢true, Decides.nat_tests, eq-eqb}}, specs.List.list_any}
+use Rattle.std.proofs.lemmas.Map.Keys.{any_passes_from_place}
 use Rattle.exec_base.specs.{Slab.{Slab, value_at}, declared.slab.Id.Id}
 use Rattle.exec_outcomes.specs.{Accounts.is_durable, declared.outcome.Kind.Kind}
 use Rattle.exec_time.specs.declared.timers.Sleeper.{Sleeper as Sleeping}
@@ -9,7 +10,7 @@ use Rattle.exec_driver.{specs.{Driving.{Driving, request_at, is_gated as waits_g
 use Rattle.exec_ring.specs.declared.store.Store.{Store}
 use Rattle.exec_machine.specs.{declared.state.{Request.Request, RequestPhase.RequestPhase}, Tests.{is_gated, is_of_file, is_resolved}, World.Common}
 use Rattle.exec_moves.specs.{declared.place.InService.InService, Serve.first_numbered, Submit.{next_gate, waits_at}}
-use Rattle.exec_parts.{specs.{declared.parts.{mail.Reply.Reply, names.Names.Names, record.Record.Record, sleeping.SleeperRecord.SleeperRecord}, Records.number_in}, proofs.Facts.{and_none, and_parts, both_true, never_true, or_right, same_thing}}
+use Rattle.exec_parts.{specs.{declared.parts.{mail.Reply.Reply, names.Names.Names, record.Record.Record, sleeping.SleeperRecord.SleeperRecord}, Records.number_in}, proofs.Facts.{and_right, and_parts, and_from, false_from_ne_true, same_Some}}
 use Rattle.exec_invariants.{specs.{Carried.IsCarried, Flown.HasFlown, Gates.AreLinedUp, Names.{IsAlike, IsNamed}}, proofs.{Idling.{first_none, none_any, shown_at}, Lined.mapped, SparedRecord.there_within}}
 
 -- ITS GATE
@@ -77,16 +78,11 @@ same_keys a b x y same is = ap (λ n. key_with n x) same ∙ ap (key_with b) is
 first_some : {X : Type 0} (test : ℕ → X → Bool) (n : ℕ) (xs : List X) (k : ℕ) (x : X) → slice_get xs k ≡ Some x → ((m : ℕ) → m ≡ n + k → test m x ≡ true)
     → ((j m : ℕ) (y : X) → j < k → slice_get xs j ≡ Some y → m ≡ n + j → test m y ≡ false) → (f : ℕ) → f ≡ n + k → first_numbered test n xs ≡ Some f
 first_some test n [] k x there is before f so = absurd (let no : None ≡ Some x = there in cc)
-first_some test n (y ∷ xs) zero x there is before f so = grind (arith, same_thing)
+first_some test n (y ∷ xs) zero x there is before f so = grind (arith, same_Some)
 first_some test n (y ∷ xs) (suc k) x there is before f so =
     rw (before zero n y (omega arith) refl (omega arith))
     (first_some test (suc n) xs k x there (λ m at. is m (omega (arith, at)))
     (λ j m z less at so. before (suc j) m z (omega (arith, less)) at (omega (arith, so))) f (omega (arith, so)))
-
-some_any : {X : Type 0} (test : X → Bool) (xs : List X) (k : ℕ) (x : X) → slice_get xs k ≡ Some x → test x ≡ true → list_any test xs ≡ true
-some_any test [] k x there is = absurd (let no : None ≡ Some x = there in cc)
-some_any test (y ∷ xs) zero x there is = rw (same_thing y x there, is) refl
-some_any test (y ∷ xs) (suc k) x there is = or_right (test y) (list_any test xs) (some_any test xs k x there is)
 
 waiting_by : (i file : ℕ) (r : Request) → waits_at i file r ≡ true → (r.worker ≡ i) × (is_gated r.phase ≡ true) × (r.operation.target ≡ file)
 waiting_by = grind arith
@@ -160,17 +156,7 @@ module _ (x : Option InService) (i : ℕ) (n : Names) (d : Driving Reply Reply) 
           let needs = (and_parts (not it.in_flight) (needs_permit it) parts.0).1 in
           let durable = (and_parts (is_durable (asked_of it.request).kind) (not it.permit) needs).0 in
           let here : Some (target_of it.request) ≡ Some file = sym (gate_there it.request durable) ∙ ap gate_in (sym live) ∙ gate in
-          record {
-            it = it;
-            r = old.0;
-            live = live;
-            there = old.1;
-            name = old.2;
-            mine = old.3;
-            gated = a.permit ∙ needs;
-            target = carried.target id.0 it old.0 live old.1 ∙ same_thing (target_of it.request) file here;
-            alike = a;
-          }
+          grind (arith, it, old.0, live, old.1, old.2, old.3, a.permit, needs, carried.target, id.0, same_Some, target_of, it.request, file, here)
 
   -- none waits below what the driver says
   none_waits_at : (gate j : ℕ) → gate ≤ j → (IsBelow (lowest_gate gate d.requests d.lists.gated None) j → ⊥) → list_any (waits_at i j) (map (λ r. r.shown) rs) ≡ false
@@ -178,7 +164,7 @@ module _ (x : Option InService) (i : ℕ) (n : Names) (d : Driving Reply Reply) 
       none_any (waits_at i j) (map (λ r. r.shown) rs)
       (λ k y at.
       let f = shown_at rs k y at in
-      never_true (waits_at i j y)
+      false_from_ne_true (waits_at i j y)
       (λ waits.
       let w = waiting_by i j f.0.shown (ap (waits_at i j) (sym f.2) ∙ waits) in
       let listed = gate_listed k f.0 f.1 w.0 w.1 in
@@ -193,7 +179,7 @@ module _ (x : Option InService) (i : ℕ) (n : Names) (d : Driving Reply Reply) 
       by j false is = ap (λ b. b && list_any (waits_at i j) s.requests) is
       by j true is =
           let le : gate ≤ j = grind (arith, nat_tests) in
-          and_none (nat_le gate j) (list_any (waits_at i j) s.requests) (ap (list_any (waits_at i j)) shown ∙ none_waits_at gate j le (below_none j (lowest_gate gate d.requests d.lists.gated None) none))
+          and_right (nat_le gate j) (list_any (waits_at i j) s.requests) (ap (list_any (waits_at i j)) shown ∙ none_waits_at gate j le (below_none j (lowest_gate gate d.requests d.lists.gated None) none))
 
   pub gate_next : (gate file : ℕ) (s : Common) → ListsRequests d → s.requests ≡ map (λ r. r.shown) rs → length s.opens ≡ length opens → lowest_gate gate d.requests d.lists.gated None ≡ Some file
       → next_gate i gate s ≡ Some file
@@ -208,9 +194,9 @@ module _ (x : Option InService) (i : ℕ) (n : Names) (d : Driving Reply Reply) 
       first_some (λ f o. nat_le gate f && list_any (waits_at i f) s.requests) 0 s.opens file o.0 o.1
       (λ m so.
       let same : m ≡ file = omega (arith, so) in
-      let waits : list_any (waits_at i file) s.requests ≡ true = ap (list_any (waits_at i file)) shown ∙ some_any (waits_at i file) (map (λ r. r.shown) rs) k w.r.shown (mapped (λ r. r.shown) rs k w.r w.there) (waiting_is i file w.r.shown w.mine w.gated w.target) in
+      let waits : list_any (waits_at i file) s.requests ≡ true = ap (list_any (waits_at i file)) shown ∙ any_passes_from_place (waits_at i file) (map (λ r. r.shown) rs) k w.r.shown (mapped (λ r. r.shown) rs k w.r w.there) (waiting_is i file w.r.shown w.mine w.gated w.target) in
       let from_le : nat_le gate file ≡ true = grind (arith, nat_tests) in
-      ap (λ f. nat_le gate f && list_any (waits_at i f) s.requests) same ∙ both_true (nat_le gate file) (list_any (waits_at i file) s.requests) from_le waits)
+      ap (λ f. nat_le gate f && list_any (waits_at i f) s.requests) same ∙ and_from (nat_le gate file) (list_any (waits_at i file) s.requests) from_le waits)
       (λ j m y less at so.
       let same : m ≡ j = omega (arith, so) in
       ap (λ f. nat_le gate f && list_any (waits_at i f) s.requests) same ∙ before j less (nat_le gate j) refl)
@@ -224,5 +210,5 @@ module _ (x : Option InService) (i : ℕ) (n : Names) (d : Driving Reply Reply) 
       before j less false is_no = ap (λ b. b && list_any (waits_at i j) s.requests) is_no
       before j less true is_yes =
           let le : gate ≤ j = grind (arith, nat_tests) in
-          and_none (nat_le gate j) (list_any (waits_at i j) s.requests)
+          and_right (nat_le gate j) (list_any (waits_at i j) s.requests)
           (ap (list_any (waits_at i j)) shown ∙ none_waits_at gate j le (λ below. let more : file ≤ j = below_some j file (lowest_gate gate d.requests d.lists.gated None) is below in omega (arith, more, less)))

@@ -1,14 +1,14 @@
 -- Requests that go on: none ends, nor begins, nor is let go of. What that leaves as it was.
-use Rattle.std.proofs.{Common.{◌≡◌, ℕ, ◌+◌, ◌≤◌, true, false, List, map, Some, IsSome, refl, sym, ap, subst, ◌∙◌, slice_get}, Math.Seq.map-set_same, lemmas.{Option.get_or_from_slice_get}}
+use Rattle.std.{proofs.{Common.{◌≡◌, ℕ, ◌+◌, ◌≤◌, true, false, List, map, Some, IsSome, refl, sym, ap, subst, ◌∙◌, slice_get}, Math.Seq.map-set_same, lemmas.Option.get_or_from_slice_get}, specs.Prelude.Contains}
 use Rattle.std.proofs.Common.{arith}
 use Rattle.exec_base.specs.{Slab.{Slab, value_at}, declared.slab.Id.Id}
 use Rattle.exec_time.specs.declared.timers.Sleeper.{Sleeper as Sleeping}
 use Rattle.exec_request.specs.declared.output.RequestOutput.{RequestOutput}
-use Rattle.exec_waiters.specs.{States.waiter_at, declared.{deferred.Deferred.Deferred, waiter.{Entry.TheVariants.Ready, Waiter.Waiter}}}
+use Rattle.exec_waiters.specs.{States.waiter_at, declared.{deferred.{Deferred.Deferred, Answer.Answer}, waiter.{Entry.TheVariants.Ready, Waiter.Waiter}, observer.Observer.TheVariants.Forwarded}}
 use Rattle.exec_driver.specs.Driving.{Driving}
 use Rattle.exec_machine.specs.{Tests.{is_applied, is_resolved}}
 use Rattle.exec_parts.specs.{declared.parts.{mail.Reply.Reply, names.Names.Names, record.Record.Record, sleeping.SleeperRecord.SleeperRecord}, Records.{number_in}, Serving.{changed_at, changed_in}}
-use Rattle.exec_invariants.specs.{Holding.{IsAnswerOf, thing_of}, Places.one_if, Rooted.{IsReplyFor, IsRooted, Watches, goes_elsewhere, results_of}, Sound.AreOver}
+use Rattle.exec_invariants.specs.{Holding.{IsAnswerOf, thing_of}, Places.one_if, Rooted.{IsReplyFor, IsRooted, Watches, goes_elsewhere, results_of, IsKept, StandsAt, IsResult, Pays}, Sound.AreOver}
 
 -- of a request how far its operation came, its deadline and its cancel may change
 pub record GoesOn (r r' : Record) : Type 0 where
@@ -67,14 +67,11 @@ module _ (rs rs' : List Record) (all : AllGoOn rs rs') where
   -- WHAT IS OVER
   pub over_on : (i : ℕ) (ended : List ℕ) (unreleased others : ℕ) → AreOver i ended unreleased others rs → AreOver i ended unreleased others rs'
   over_on i ended unreleased others over =
-      record {
-        over = λ k n at.
-            let old = over.over k n at in
-            let new = all.becomes n old.0 old.1 in
-            (new.r', new.there, same_worker old.0 new.r' new.on ∙ old.2, (new.on.over ∙ old.3.0, ap (λ x. x.shown.released) new.on.same ∙ old.3.1));
-        once = over.once;
-        counted = over.counted;
-      }
+      let over_so : (k n : ℕ) → slice_get ended k ≡ Some n → (r : Record) × (slice_get rs' n ≡ Some r) × (r.shown.worker ≡ i) × ((is_resolved r.shown.phase ≡ true) × (r.shown.released ≡ false)) = λ k n at.
+      let old = over.over k n at in
+      let new = all.becomes n old.0 old.1 in
+      (new.r', new.there, same_worker old.0 new.r' new.on ∙ old.2, (new.on.over ∙ old.3.0, ap (λ x. x.shown.released) new.on.same ∙ old.3.1)) in
+      assumption (over_so, over)
 
   -- WHAT IS TOLD ELSEWHERE
 
@@ -93,55 +90,45 @@ module _ (rs rs' : List Record) (all : AllGoOn rs rs') where
       → ((id : Id) (it' : Waiter Reply Reply) → waiter_at d'.requests id ≡ Some it' → (it : Waiter Reply Reply) × (waiter_at d.requests id ≡ Some it) × (it'.observer ≡ it.observer))
       → IsRooted i n' d' zs left rs' sleepers
   rooted_on i n n' d d' zs left sleepers rooted requests timers stays ready waits =
+      let kept : (id : Id) (told : RequestOutput) (r : Record) → value_at d'.requests id ≡ Some (Ready told) → slice_get rs' (number_in n'.requests.items id) ≡ Some r → IsKept told r = λ id told x at there.
+      let old = all.was (number_in n.requests.items id) x (subst (λ v. slice_get rs' (number_in v.items id) ≡ Some x) requests there) in
+      let was = rooted.kept id told old.r (ready id told at) old.there in
+      assumption (old.on.ended (ap is_resolved was.over) ∙ was.over, same_observed old.r x old.on ∙ was.observed, ap (λ y. is_applied y.shown.forwarding) old.on.same ∙ was.unapplied) in
+      let ready_so : (k : ℕ) (r : Record) → slice_get rs' k ≡ Some r → r.shown.worker ≡ i → is_resolved r.shown.phase ≡ true → r.shown.observed ≡ true → is_applied r.shown.forwarding ≡ false → StandsAt k n' d' r = λ k x there mine over seen unapplied.
+      let old = all.was k x there in
+      let is = rooted.ready k old.r old.there (sym (same_worker old.r x old.on) ∙ mine) (sym old.on.over ∙ over) (sym (same_observed old.r x old.on) ∙ seen) (sym (ap (λ y. is_applied y.shown.forwarding) old.on.same) ∙ unapplied) in
+      let name = same_id old.r x old.on in
+      assumption (ap (λ v. number_in v.items x.id.0) requests ∙ ap (λ y. number_in n.requests.items y.0) name ∙ is.named, subst (λ y. IsSome (value_at d'.requests y.0)) (sym name) (stays old.r.id.0 is.live)) in
+      let replies : (id : Id) (it : Waiter Reply Reply) (reply : Reply) (r : Record) → waiter_at d'.requests id ≡ Some it → it.observer ≡ Forwarded reply → slice_get rs' (number_in n'.requests.items id) ≡ Some r → IsReplyFor (number_in n'.requests.items id) reply r = λ id it' reply x at forwarded there.
+      let old = all.was (number_in n.requests.items id) x (subst (λ v. slice_get rs' (number_in v.items id) ≡ Some x) requests there) in
+      let it = waits id it' at in
+      subst (λ v. IsReplyFor (number_in v.items id) reply x) (sym requests)
+      (reply_on i reply (number_in n.requests.items id) old.r x old.on (rooted.replies id it.0 reply old.r it.1 (sym it.2 ∙ forwarded) old.there)) in
+      let watches : (id : Id) (it : Sleeping Reply) (z : SleeperRecord) → value_at zs id ≡ Some it → slice_get sleepers (number_in n'.timers.items id) ≡ Some z → Watches (number_in n'.timers.items id) it.observer z =
+      λ id it z at there. subst (λ v. Watches (number_in v.items id) it.observer z) (sym timers) (rooted.watches id it z at (subst (λ v. slice_get sleepers (number_in v.items id) ≡ Some z) timers there)) in
+      let pays : (k : ℕ) (r : Record) → slice_get rs' k ≡ Some r → r.shown.worker ≡ i → Pays r = λ k x there mine.
+      let old = all.was k x there in
+      let was = rooted.pays k old.r old.there (sym (same_worker old.r x old.on) ∙ mine) in
       record {
-        kept = λ id told x at there.
-            let old = all.was (number_in n.requests.items id) x (subst (λ v. slice_get rs' (number_in v.items id) ≡ Some x) requests there) in
-            let was = rooted.kept id told old.r (ready id told at) old.there in
-            record {
-              over = old.on.ended (ap is_resolved was.over) ∙ was.over;
-              observed = same_observed old.r x old.on ∙ was.observed;
-              unapplied = ap (λ y. is_applied y.shown.forwarding) old.on.same ∙ was.unapplied;
-            };
-        ready = λ k x there mine over seen unapplied.
-            let old = all.was k x there in
-            let is = rooted.ready k old.r old.there (sym (same_worker old.r x old.on) ∙ mine) (sym old.on.over ∙ over) (sym (same_observed old.r x old.on) ∙ seen) (sym (ap (λ y. is_applied y.shown.forwarding) old.on.same) ∙ unapplied) in
-            let name = same_id old.r x old.on in
-            record {
-              named = ap (λ v. number_in v.items x.id.0) requests ∙ ap (λ y. number_in n.requests.items y.0) name ∙ is.named;
-              live = subst (λ y. IsSome (value_at d'.requests y.0)) (sym name) (stays old.r.id.0 is.live);
-            };
-        replies = λ id it' reply x at forwarded there.
-            let old = all.was (number_in n.requests.items id) x (subst (λ v. slice_get rs' (number_in v.items id) ≡ Some x) requests there) in
-            let it = waits id it' at in
-            subst (λ v. IsReplyFor (number_in v.items id) reply x) (sym requests)
-            (reply_on i reply (number_in n.requests.items id) old.r x old.on (rooted.replies id it.0 reply old.r it.1 (sym it.2 ∙ forwarded) old.there));
-        watches = λ id it z at there. subst (λ v. Watches (number_in v.items id) it.observer z) (sym timers) (rooted.watches id it z at (subst (λ v. slice_get sleepers (number_in v.items id) ≡ Some z) timers there));
-        pays = λ k x there mine.
-            let old = all.was k x there in
-            let was = rooted.pays k old.r old.there (sym (same_worker old.r x old.on) ∙ mine) in
-            record {
-              unpaid = λ going seen. same_paid old.r x old.on ∙ was.unpaid (sym old.on.over ∙ going) (sym (same_observed old.r x old.on) ∙ seen);
-              once = λ unapplied. subst (λ m. m ≤ 1) (sym (same_paid old.r x old.on)) (was.once (sym (ap (λ y. is_applied y.shown.forwarding) old.on.same) ∙ unapplied));
-            };
-        sleeper_pays = rooted.sleeper_pays;
-        results = λ a among.
-            let it = rooted.results a among in
-            let new = all.becomes it.k it.r it.there in
-            record {
-              k = it.k;
-              r = new.r';
-              there = new.there;
-              worker = same_worker it.r new.r' new.on ∙ it.worker;
-              reply = reply_on i a.sender it.k it.r new.r' new.on it.reply;
-              answer = subst (IsAnswerOf a.result) (sym (thing_on it.r new.r' new.on)) it.answer;
-              paid = subst (λ m. m ≤ 1) (sym (same_paid it.r new.r' new.on)) it.paid;
-            };
-        completions = rooted.completions;
-        sent = λ k x there mine.
-            let old = all.was k x there in
-            ap (λ y. results_of k left + one_if y.sent) old.on.same ∙ rooted.sent k old.r old.there (sym (same_worker old.r x old.on) ∙ mine) ∙ ap one_if (sym (elsewhere_same old.r x old.on));
-        sleeper_sent = rooted.sleeper_sent;
-      }
+        unpaid = λ going seen. same_paid old.r x old.on ∙ was.unpaid (sym old.on.over ∙ going) (sym (same_observed old.r x old.on) ∙ seen);
+        once = λ unapplied. subst (λ m. m ≤ 1) (sym (same_paid old.r x old.on)) (was.once (sym (ap (λ y. is_applied y.shown.forwarding) old.on.same) ∙ unapplied));
+      } in
+      let results : (a : Answer Reply) → Contains left.results.items a → IsResult i a rs' = λ a among.
+      let it = rooted.results a among in
+      let new = all.becomes it.k it.r it.there in
+      record {
+        k = it.k;
+        r = new.r';
+        there = new.there;
+        worker = same_worker it.r new.r' new.on ∙ it.worker;
+        reply = reply_on i a.sender it.k it.r new.r' new.on it.reply;
+        answer = subst (IsAnswerOf a.result) (sym (thing_on it.r new.r' new.on)) it.answer;
+        paid = subst (λ m. m ≤ 1) (sym (same_paid it.r new.r' new.on)) it.paid;
+      } in
+      let sent : (k : ℕ) (r : Record) → slice_get rs' k ≡ Some r → r.shown.worker ≡ i → results_of k left + one_if r.sent ≡ one_if (goes_elsewhere r) = λ k x there mine.
+      let old = all.was k x there in
+      ap (λ y. results_of k left + one_if y.sent) old.on.same ∙ rooted.sent k old.r old.there (sym (same_worker old.r x old.on) ∙ mine) ∙ ap one_if (sym (elsewhere_same old.r x old.on)) in
+      assumption (kept, ready_so, replies, watches, pays, results, sent, rooted)
 
 -- WHAT IS SEEN OF REQUESTS by who holds them
 

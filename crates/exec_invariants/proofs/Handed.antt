@@ -1,5 +1,6 @@
 -- Where a place leads that hands something on: a search count, a kick, a signal. It is of the kind of what comes after.
-use Rattle.std.proofs.{Common.{◌≡◌, ℕ, ◌<◌, ◌≤◌, ◌==◌, Bool, true, false, IsSome, List, [], None, Option, Some, refl, sym, ap, ◌∙◌, slice_get, nat_lt, arith}, lemmas.Bool.Decides.nat_tests}
+use Rattle.std.proofs.{Common.{◌≡◌, ℕ, ◌==◌, Bool, true, false, IsSome, List, [], None, Option, Some, refl, sym, ap, ◌∙◌, slice_get, arith}}
+pub use Rattle.std.proofs.lemmas.Bool.{ltb-true, ltb-false}
 use Rattle.exec_words.specs.{Idle.{Idle, lowest_of}, Queue.Queue}
 use Rattle.exec_task.specs.declared.{body.Said.Said, runnable.Runnable.Runnable}
 use Rattle.exec_machine.specs.{declared.config.Configuration.Configuration, Progress.Plan, Ranges.ring_size}
@@ -22,13 +23,6 @@ kick_alike b role = refl
 -- it is not in the idle set, and no place counts for it
 abbrev pub out : Bool → Stance
 out b = record { searching = b; counted = false; published = false }
-
--- what a test of two numbers says
-pub less_by : (a b : ℕ) → nat_lt a b ≡ true → a < b
-less_by a b h = grind (arith, nat_tests, h)
-
-pub most_by : (a b : ℕ) → nat_lt a b ≡ false → b ≤ a
-most_by a b h = grind (arith, nat_tests, h)
 
 -- somebody is in the set
 pub someone : (x : Idle) → has_any x ≡ true → IsSome (lowest_of x.published)

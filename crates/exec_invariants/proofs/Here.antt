@@ -1,10 +1,10 @@
 -- The task that a worker polls, be it the root or an ordinary one.
-use Rattle.std.proofs.{Common.{◌≡◌, ◌≢◌, ℕ, true, false, Option, Some, None, IsSome, refl, sym, ap, subst, ◌∙◌, slice_get}, lemmas.Bool.false≢true}
+use Rattle.std.proofs.{Common.{◌≡◌, ◌≢◌, ℕ, true, false, Some, None, IsSome, refl, sym, ap, subst, ◌∙◌, slice_get}}
 use Rattle.std.proofs.Common.{arith}
-use Rattle.exec_task.specs.{Phases.is_polled, declared.{runnable.Runnable.Runnable, task.Phase.Phase}}
+use Rattle.exec_task.specs.{Phases.is_polled, declared.{task.Phase.Phase}}
 use Rattle.exec_moves.specs.{declared.place.{InPoll.InPoll, Place.Place}, Seen.polls_in}
 use Rattle.exec_parts.{specs.{declared.parts.{shared.Shared.Shared, task_slot.TaskSlot.TaskSlot, worker.Worker.Worker}, Phased.is_complete}, proofs.Facts.by_number}
-use Rattle.exec_invariants.{specs.{Places.polled_in, Sound.{HasGuest, IsGuest, IsRunnable, SoundAt, Stands, WaitsAt, acts_next, is_told, one_of}}, proofs.Polling.in_own_poll}
+use Rattle.exec_invariants.{specs.{Places.polled_in, Sound.{HasGuest, IsGuest, SoundAt, Stands, WaitsAt, acts_next, is_told}}, proofs.Polling.in_own_poll}
 
 module _ {B : Type 0} where
   pub record IsHere (x : InPoll) (t : ℕ) (w : Worker) (s : Shared B) : Type 0 where
@@ -66,8 +66,3 @@ module _ {B : Type 0} where
             root = λ is. absurd (apart is);
             ordinary = λ no. (guest, guest.ordinary);
           }
-
-  -- a polled root is in no flag
-  pub unflagged_there : (f o : Option Runnable) (slot : TaskSlot B) → is_polled slot.cell.phase ≡ true → IsRunnable (one_of f o) slot → f ≡ None
-  unflagged_there None o slot polled run = refl
-  unflagged_there (Some r) o slot polled run = absurd (false≢true (sym (ap is_polled run.1.1) ∙ polled))

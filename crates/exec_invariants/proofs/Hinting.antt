@@ -1,5 +1,6 @@
 -- What a request keeps as its operations are staged: its buffer, its room, and its wish for the hint.
-use Rattle.std.{specs.{BTreeMap.get, Ordering.nat_cmp}, proofs.{Common.{◌≡◌, ◌⊎◌, ℕ, ◌+◌, ◌-◌, ◌/◌, ◌<◌, ◌&&◌, ◌||◌, Bool, true, false, ◌^◌, List, length, map, nat_lt, slice_get, slice_index_or, IsSome, Option, Some, None, if◌then◌else◌, refl, sym, ap, subst, ◌∙◌, arith}, lemmas.{Bool.{false≢true, Decides.nat_tests}, Option.get_or_from_slice_get}}}
+use Rattle.std.{specs.{BTreeMap.get, Ordering.nat_cmp}, proofs.{Common.{◌≡◌, ℕ, ◌+◌, ◌-◌, ◌/◌, ◌<◌, ◌&&◌, ◌||◌, Bool, true, false, ◌^◌, List, length, map, nat_lt, slice_get, slice_index_or, IsSome, Option, Some, None, if◌then◌else◌, refl, sym, ap, subst, ◌∙◌, arith}, lemmas.{Bool.{false≢true, Decides.nat_tests}, Option.get_or_from_slice_get}}}
+use Rattle.std.proofs.lemmas.Bool.{or_parts}
 use Rattle.exec_outcomes.specs.{Accounts.Account, Outcomes.{counted_for, cursor_next, moves_on, part_now}, declared.outcome.{Judged.Judged, Kind.Kind}}
 use Rattle.exec_request.specs.{Buffers.{length_of, moved_of}, Hints.{AsksOn, has_hint}, Kept.{Owned, kept_of, rewound}, Requests.{asked_of, cursor_of, target_of, window_by}, Syncing.{is_syncing, write_kind}, Ways.{narrowed}, declared.{request.Request.Request as Asking, write_at.{WriteAtRequest.WriteAtRequest, WriteAtState.WriteAtState}}}
 use Rattle.exec_ring.specs.{Files.HasPage, Stores.{CoversIn, HasStretch}, declared.{file.File.File, store.Store.Store}}
@@ -33,10 +34,6 @@ covers_part : (o : Option File) (from to n m : ℕ) → ((k : ℕ) → k < m →
 covers_part None from to n m part none h = none h
 covers_part (Some f) from to n m part none h = λ k less. let it = part k less in subst (λ a. HasPage f (a / 4096)) (sym it.1) (h it.0 it.2)
 
-or_neither : (a b : Bool) → (a || b) ≡ false → (a ≡ false) × (b ≡ false)
-or_neither true b h = absurd (false≢true (sym h))
-or_neither false b h = (refl, h)
-
 -- where it goes on after a result there is room for the rest
 pub stretch_judged : (q q' : Asking) (j : Judged) (st : Store) → kept_of q' ≡ kept_of q → cursor_of q' ≡ cursor_next (asked_of q) (cursor_of q) j → HasStretchFor q st → HasStretchFor q' st
 stretch_judged q (Asking.Send s) j st kept cursor has = tt
@@ -54,7 +51,7 @@ stretch_judged (Asking.Poll p) (Asking.WriteAt w) j st kept cursor has = absurd 
 stretch_judged (Asking.WriteAt x) (Asking.WriteAt w) j st kept cursor has = λ writes.
     let asked = asked_of (Asking.WriteAt x) in
     let was = cursor_of (Asking.WriteAt x) in
-    let both = or_neither (is_syncing x.state) (moves_on asked was j) (sym (ap (λ c. c.switched) cursor) ∙ writes) in
+    let both = or_parts (is_syncing x.state) (moves_on asked was j) (sym (ap (λ c. c.switched) cursor) ∙ writes) in
     let before : was.moved ≡ moved_of x.write = moved_there x both.0 in
     let more : moved_of w.write ≡ was.moved + counted_for (part_now asked was) j.result =
     sym (moved_there w writes) ∙ ap (λ c. c.moved) cursor ∙ ap (λ b. if b then 0 else was.moved + counted_for (part_now asked was) j.result) both.1 in
@@ -66,9 +63,7 @@ stretch_judged (Asking.WriteAt x) (Asking.WriteAt w) j st kept cursor has = λ w
     (λ none. omega (arith, none, before, more, length))
     (has both.0))
 
--- THE HINT
-
--- a record asks for the hint just where its next operation has it
+-- THE HINT: a record asks for it just where its next operation has it
 
 no_hint : (k : Kind) (switched : Bool) → may_ask_hint k ≡ false → (same_kind k Kind.Hint || (same_kind k Kind.Direct && switched)) ≡ false
 no_hint = grind arith
@@ -91,10 +86,6 @@ hint_alike = grind arith
 -- after it is staged it asks as before, or its open has no hint
 pub asks_after : (before after stands : Bool) → AsksOn before after stands → after ≡ true → before ≡ true
 asks_after = grind arith
-
-pub asks_staged : (q q' : Asking) (opens : List OpenState) (target : ℕ) → target ≡ target_of q → AsksOn (cursor_of q).hinted (cursor_of q').hinted (has_hint (account_in opens (file_of q)))
-    → ((cursor_of q').hinted ≡ false → (cursor_of q).hinted ≡ false) ⊎ (has_hint_at opens target ≡ false)
-asks_staged = grind arith
 
 -- THE OPEN
 

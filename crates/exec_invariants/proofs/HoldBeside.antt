@@ -1,10 +1,10 @@
 -- WHAT A STEP OF A POLL LEAVES OF OTHERS, where the polled task takes, or waits for, or lets go of what another worker may have.
-use Rattle.std.proofs.{Common.{◌≡◌, ◌≢◌, inl, ℕ, ◌+◌, ◌≤◌, ◌==◌, not, Contains, List, ◌++◌, length, map, Some, refl, sym, ap, subst, ◌∙◌, slice_get, slice_set}, lemmas.List.length-set}
+use Rattle.std.{proofs.{Common.{◌≡◌, ◌≢◌, inl, ℕ, ◌+◌, ◌≤◌, ◌==◌, not, Contains, List, ◌++◌, length, map, Some, refl, sym, ap, subst, ◌∙◌, slice_get, slice_set}, lemmas.List.length-set}, specs.Prelude.{false, None, nat_lt}}
 use Rattle.std.proofs.Common.{arith}
 use Rattle.exec_words.specs.Queue.{Queue}
 use Rattle.exec_task.specs.{Phases.{is_polled, runnable_of}, declared.{runnable.Runnable.Runnable, task.Task.{Task as TaskCell}}}
-use Rattle.exec_parts.{specs.{declared.parts.{shared.Shared.Shared, task_slot.TaskSlot.TaskSlot, worker.Worker.Worker}, Phased.is_complete}, proofs.Facts.{by_number, same_thing, set_elsewhere, set_there}}
-use Rattle.exec_invariants.{specs.{Holding.{IsHolding, box_of, holder_of, nap_of, thing_of}, Sound.AreHome, Spares.Spares, Drained.IsBefore, Gates.HaveGates, Places.one_if, Whole.{HasOne, IsGenuine, IsWhole, Profile, duties_of, hands_of, may_let_go, runnables_in, stock, with_worker}, Works.Beside}, proofs.{Aside.{SameProfile, SparesSeats, length_same, profile_same, queue_back, queue_of_chair, stock_same}, HoldThings.{Touches, spares_touched}, Lined.{KeepsLines, gates_kept}, PoolKept.{KeepsGates, pool_seats, pool_slot}, Slots.spares_slot, SlotTasks.Keeps}}
+use Rattle.exec_parts.{specs.{declared.parts.{shared.Shared.Shared, task_slot.TaskSlot.TaskSlot, worker.Worker.Worker, seat.Seat.Seat as Chair}, Phased.is_complete}, proofs.Facts.{by_number, same_Some, set_elsewhere, set_there}}
+use Rattle.exec_invariants.{specs.{Holding.{IsHolding, box_of, holder_of, nap_of, thing_of}, Sound.AreHome, Spares.Spares, Drained.{IsBefore, IsPool}, Gates.HaveGates, Places.one_if, Whole.{HasOne, IsGenuine, IsWhole, Profile, duties_of, hands_of, may_let_go, runnables_in, stock, with_worker, queued}, Works.Beside}, proofs.{Aside.{SameProfile, SparesSeats, length_same, profile_same, queue_back, queue_of_chair, stock_same}, HoldThings.{Touches, spares_touched}, Lined.{KeepsLines, gates_kept}, PoolKept.{KeepsGates, pool_seats, pool_slot}, Slots.spares_slot, SlotTasks.Keeps}}
 
 module _ {B : Type 0} where
   -- task t's slot became another of the same cell
@@ -28,7 +28,7 @@ module _ {B : Type 0} where
       by_number u t
       (λ apart. record { was = o; there = sym (set_elsewhere s.tasks.items t u slot' apart) ∙ ap (λ ts. slice_get ts u) (sym it.items) ∙ at; cell = refl; home = refl })
       (λ same.
-      let is : slot' ≡ o = same_thing slot' o (sym (set_there s.tasks.items t slot' slot it.there) ∙ ap (λ ts. slice_get ts t) (sym it.items) ∙ subst (λ m. slice_get s'.tasks.items m ≡ Some o) same at) in
+      let is : slot' ≡ o = same_Some slot' o (sym (set_there s.tasks.items t slot' slot it.there) ∙ ap (λ ts. slice_get ts t) (sym it.items) ∙ subst (λ m. slice_get s'.tasks.items m ≡ Some o) same at) in
       record { was = slot; there = subst (λ m. slice_get s.tasks.items m ≡ Some slot) (sym same) it.there; cell = ap (λ (y : TaskSlot B). y.cell) (sym is) ∙ it.cell; home = ap (λ (y : TaskSlot B). y.home) (sym is) ∙ it.home })
 
   pub genuine_still : (t : ℕ) (s s' : Shared B) (slot slot' : TaskSlot B) → Handles t s s' slot slot' → (r : Runnable) → IsGenuine s.tasks.items r → IsGenuine s'.tasks.items r
@@ -36,7 +36,7 @@ module _ {B : Type 0} where
       by_number r.task.0 t
       (λ apart. record { slot = gen.slot; there = ap (λ ts. slice_get ts r.task.0) it.items ∙ set_elsewhere s.tasks.items t r.task.0 slot' apart ∙ gen.there; ordinary = gen.ordinary; of_it = gen.of_it })
       (λ same.
-      let is : slot ≡ gen.slot = same_thing slot gen.slot (sym it.there ∙ subst (λ m. slice_get s.tasks.items m ≡ Some gen.slot) same gen.there) in
+      let is : slot ≡ gen.slot = same_Some slot gen.slot (sym it.there ∙ subst (λ m. slice_get s.tasks.items m ≡ Some gen.slot) same gen.there) in
       record {
         slot = slot';
         there = ap (λ ts. slice_get ts r.task.0) it.items ∙ subst (λ m. slice_get (slice_set s.tasks.items t slot') m ≡ Some slot') (sym same) (set_there s.tasks.items t slot' slot it.there);
@@ -66,44 +66,40 @@ module _ {B : Type 0} where
       let seats : length s'.seats.items ≡ length s.seats.items = length_same s.seats.items s'.seats.items queues in
       let stocks : (u : ℕ) → stock u s1 ≡ stock u s = λ u. ap (λ n. n + runnables_in u s.global.values) (stock_same u s.seats.items s'.seats.items queues) in
       let was : (u : ℕ) (o : TaskSlot B) → slice_get s'.tasks.items u ≡ Some o → WasThere s.tasks.items u o = was_there t s s' slot slot' it in
-      record {
-        runnables = λ u o at home.
-            let old = was u o at in
-            subst (λ c. HasOne (may_let_go s) c.phase (x.runnables u + stock u s1)) (sym old.cell) (subst (λ n. HasOne (may_let_go s) old.was.cell.phase (x.runnables u + n)) (sym (stocks u)) (whole.runnables u old.was old.there (sym old.home ∙ home)));
-        polls = λ u o at home. let old = was u o at in whole.polls u old.was old.there (sym old.home ∙ home) ∙ ap (λ c. one_if (is_polled c.phase)) (sym old.cell);
-        claims = λ j chair at.
-            let old = queue_back s.seats.items s'.seats.items j chair queues at in
-            whole.claims j old.0 old.1 ∙ ap (λ (q : Queue Runnable). one_if (not (q.gap == 0))) (sym old.2);
-        counts = whole.counts;
-        bits = whole.bits;
-        set = whole.set;
-        queued_here = λ j chair r at has.
-            let old = queue_back s.seats.items s'.seats.items j chair queues at in
-            genuine_still t s s' slot slot' it r (whole.queued_here j old.0 r old.1 (subst (λ (q : Queue Runnable). Contains (q.values ++ q.held) r) old.2 has));
-        queued_there = λ r has. genuine_still t s s' slot slot' it r (whole.queued_there r has);
-        places = λ open_still. subst (λ n. n ≤ s.global.places) (sym many) (whole.places open_still);
-        made = λ u more. let old = whole.made u (subst (λ n. n ≤ u) many more) in (ap (λ n. x.runnables u + n) (stocks u) ∙ old.0, old.1);
-        unclaimed = λ j more. whole.unclaimed j (subst (λ n. n ≤ j) seats more);
-        in_pool = λ j chair at. let old = gates.back j chair at in old.2.pool ∙ whole.in_pool j old.0 old.1;
-        pool = pool_seats (duties_of x) s'.tasks.items s.set s.seats.items s'.seats.items gates
-            (pool_slot t i (duties_of x) (duties_of x) s.tasks.items s'.tasks.items s.set s.seats.items slot slot' it.there it.items
-            (record {
-              home = it.home;
-              cleared = λ home. it.cleared;
-              over = λ home over. ap (λ (c : TaskCell B). is_complete c.phase) it.cell ∙ over;
-              clears = λ u. refl;
-              polls_beside = λ j other. refl;
-              drops_beside = λ j other. refl;
-              polls_others = λ u other is. is;
-              polls = λ home polled.
-                  let by = whole.pool.who_polls t slot it.there home (ap (λ (c : TaskCell B). is_polled c.phase) (sym it.cell) ∙ polled) in
-                  subst (λ j. IsBefore j s.seats.items × (x.polled_by j ≡ Some t)) (sym it.poller) by;
-              clears_next = refl;
-              removes_next = λ u is. inl is;
-            }) whole.pool);
-        gates = lines;
-        holding = holds;
-      }
+      let runnables : (t : ℕ) (slot : TaskSlot B) → slice_get s'.tasks.items t ≡ Some slot → slot.home ≡ None → HasOne (may_let_go (record s { tasks = s'.tasks; requests = s'.requests; sleepers = s'.sleepers; seats = s'.seats })) slot.cell.phase (x.runnables t + stock t (record s { tasks = s'.tasks; requests = s'.requests; sleepers = s'.sleepers; seats = s'.seats })) = λ u o at home.
+      let old = was u o at in
+      subst (λ c. HasOne (may_let_go s) c.phase (x.runnables u + stock u s1)) (sym old.cell) (subst (λ n. HasOne (may_let_go s) old.was.cell.phase (x.runnables u + n)) (sym (stocks u)) (whole.runnables u old.was old.there (sym old.home ∙ home))) in
+      let polls_so : (t : ℕ) (slot : TaskSlot B) → slice_get s'.tasks.items t ≡ Some slot → slot.home ≡ None → x.polls t ≡ one_if (is_polled slot.cell.phase) =
+      λ u o at home. let old = was u o at in whole.polls u old.was old.there (sym old.home ∙ home) ∙ ap (λ c. one_if (is_polled c.phase)) (sym old.cell) in
+      let claims : (j : ℕ) (chair : Chair) → slice_get s'.seats.items j ≡ Some chair → x.claims j ≡ one_if (not (chair.queue.gap == 0)) = λ j chair at.
+      let old = queue_back s.seats.items s'.seats.items j chair queues at in
+      whole.claims j old.0 old.1 ∙ ap (λ (q : Queue Runnable). one_if (not (q.gap == 0))) (sym old.2) in
+      let queued_here : (j : ℕ) (chair : Chair) (r : Runnable) → slice_get s'.seats.items j ≡ Some chair → Contains (queued chair) r → IsGenuine s'.tasks.items r = λ j chair r at has.
+      let old = queue_back s.seats.items s'.seats.items j chair queues at in
+      genuine_still t s s' slot slot' it r (whole.queued_here j old.0 r old.1 (subst (λ (q : Queue Runnable). Contains (q.values ++ q.held) r) old.2 has)) in
+      let queued_there : (r : Runnable) → Contains s.global.values r → IsGenuine s'.tasks.items r = λ r has. genuine_still t s s' slot slot' it r (whole.queued_there r has) in
+      let places : s.global.closed ≡ false → length s'.tasks.items ≤ s.global.places = λ open_still. subst (λ n. n ≤ s.global.places) (sym many) (whole.places open_still) in
+      let made : (t : ℕ) → length s'.tasks.items ≤ t → (x.runnables t + stock t (record s { tasks = s'.tasks; requests = s'.requests; sleepers = s'.sleepers; seats = s'.seats }) ≡ 0) × (x.polls t ≡ 0) =
+      λ u more. let old = whole.made u (subst (λ n. n ≤ u) many more) in (ap (λ n. x.runnables u + n) (stocks u) ∙ old.0, old.1) in
+      let unclaimed : (j : ℕ) → length s'.seats.items ≤ j → x.claims j ≡ 0 = λ j more. whole.unclaimed j (subst (λ n. n ≤ j) seats more) in
+      let in_pool : (j : ℕ) (chair : Chair) → slice_get s'.seats.items j ≡ Some chair → chair.pool ≡ nat_lt j s.config.workers = λ j chair at. let old = gates.back j chair at in old.2.pool ∙ whole.in_pool j old.0 old.1 in
+      let pool : IsPool (duties_of x) s'.tasks.items s.set s'.seats.items = pool_seats (duties_of x) s'.tasks.items s.set s.seats.items s'.seats.items gates
+      (pool_slot t i (duties_of x) (duties_of x) s.tasks.items s'.tasks.items s.set s.seats.items slot slot' it.there it.items
+      (record {
+        home = it.home;
+        cleared = λ home. it.cleared;
+        over = λ home over. ap (λ (c : TaskCell B). is_complete c.phase) it.cell ∙ over;
+        clears = λ u. refl;
+        polls_beside = λ j other. refl;
+        drops_beside = λ j other. refl;
+        polls_others = λ u other is. is;
+        polls = λ home polled.
+            let by = whole.pool.who_polls t slot it.there home (ap (λ (c : TaskCell B). is_polled c.phase) (sym it.cell) ∙ polled) in
+            subst (λ j. IsBefore j s.seats.items × (x.polled_by j ≡ Some t)) (sym it.poller) by;
+        clears_next = refl;
+        removes_next = λ u is. inl is;
+      }) whole.pool) in
+      assumption (runnables, polls_so, claims, queued_here, queued_there, places, made, unclaimed, in_pool, pool, lines, holds, whole)
 
   whole_on : (t : ℕ) (w w' : Worker) (s s' : Shared B) (slot slot' : TaskSlot B) (x : Profile) → Deals t w w' s s' slot slot' → Holds x (record s { tasks = s'.tasks; requests = s'.requests; sleepers = s'.sleepers; seats = s'.seats }) → IsWhole x s → IsWhole x (record s { tasks = s'.tasks; requests = s'.requests; sleepers = s'.sleepers; seats = s'.seats })
   whole_on t w w' s s' slot slot' x deals holds whole =

@@ -3,7 +3,7 @@
 use Rattle.std.proofs.{Common.{◌≡◌, ◌≢◌, ℕ, ◌+◌, ◌<◌, ◌≤◌, ◌&&◌, Bool, true, false, not, List, sum_by, Option, Some, None, IsSome, refl, sym, ap, subst, ◌∙◌, arith, slice_get, slice_set}, lemmas.Bool.false≢true}
 use Rattle.exec_machine.specs.{declared.state.Forwarding.TheVariants.Applied, Tests.is_unsent}
 use Rattle.exec_words.specs.declared.inbox.Message.{Message}
-use Rattle.exec_parts.{specs.declared.parts.mail.Subject.Subject, proofs.Facts.{by_number, same_thing, set_elsewhere, set_there}}
+use Rattle.exec_parts.{specs.declared.parts.mail.Subject.Subject, proofs.Facts.{by_number, same_Some, set_elsewhere, set_there}}
 use Rattle.exec_invariants.{specs.Holding.{Box, Hands, HasAnswer, Holder, HoldsRequest, IsAbout, IsDue, IsForwarded, IsHeldBy, IsHolding, Mail, MayHave, Nap, Owes, Thing, ThingOwes, holdings, is_awaited_by, mail_in, under_way}, proofs.{Turning.set_found, HoldRedo.{IsApart, holding_redone}, HoldSteps.{IsNewest, fewer_held, hold_once, one_more, same_else, awaits_on, held_in, holdings_on, homes_on, waiters_on}}}
 use Rattle.exec_parts.specs.declared.parts.mail.Subject.TheVariants as subject
 
@@ -23,6 +23,8 @@ module _ (h h' : Hands) (workers : ℕ) (hs : List Holder) (ts : List Thing) (na
 
   pub thing_told : TellsThing → IsHolding h workers hs ts naps boxes → IsHolding h' workers (slice_set hs t it') ts naps boxes
   thing_told by old =
+      let told_on : (shut held : Bool) → held_in k it.held ≡ held_in k it'.held + 1 → held_in k it.held ≤ holdings k hs → holdings k (slice_set hs t it') + held_in k it.held ≡ holdings k hs + held_in k it'.held → IsHeldBy shut held (holdings k hs) (under_way h (Message.Cancel (subject.Request k)) boxes) → h'.mail (Message.Cancel (subject.Request k)) ≡ h.mail (Message.Cancel (subject.Request k)) + 1 → IsHeldBy shut held (holdings k (slice_set hs t it')) (under_way h' (Message.Cancel (subject.Request k)) boxes) =
+      grind arith in
       let hs' : List Holder = slice_set hs t it' in
       let same : slice_set ts k r ≡ ts = set_found ts k r by.thing in
       let now : slice_get hs' t ≡ Some it' = set_there hs t it' it by.there in
@@ -30,12 +32,11 @@ module _ (h h' : Hands) (workers : ℕ) (hs : List Holder) (ts : List Thing) (na
       let going : it'.over ≡ false = ap (λ (x : Holder). x.over) by.drops ∙ by.going in
       let home : it'.home ≡ it.home = ap (λ (x : Holder). x.home) by.drops in
       let never : (s : Subject) → it.awaits ≡ Some s → ⊥ = λ s is. let no : None ≡ Some s = sym by.idle ∙ is in absurd (cc) in
-      let me : (u : ℕ) → Some t ≡ Some u → t ≡ u = λ u is. same_thing t u is in
-      let its : (u : ℕ) (o : Holder) → Some t ≡ Some u → slice_get hs' u ≡ Some o → it' ≡ o = λ u o is at. same_thing it' o (sym now ∙ subst (λ m. slice_get hs' m ≡ Some o) (sym (me u is)) at) in
+      let me : (u : ℕ) → Some t ≡ Some u → t ≡ u = λ u is. same_Some t u is in
+      let its : (u : ℕ) (o : Holder) → Some t ≡ Some u → slice_get hs' u ≡ Some o → it' ≡ o = λ u o is at. same_Some it' o (sym now ∙ subst (λ m. slice_get hs' m ≡ Some o) (sym (me u is)) at) in
       let more = one_more k it.held it'.held by.newest in
       let least = hold_once k hs t it by.there in
       let after = holdings_on hs t it it' by.there k in
-      let fewer : (box : Box) → slice_get boxes r.worker ≡ Some box → held_in k it'.held ≡ 0 = λ box at. none_left box.shut r.observed more least (old.held k r box by.thing at) in
       subst (λ xs. IsHolding h' workers hs' xs naps boxes) same (holding_redone h h' workers hs hs' ts naps boxes (Some t) k r r (record {
         thing = by.thing;
         worker = refl;
@@ -78,18 +79,10 @@ module _ (h h' : Hands) (workers : ℕ) (hs : List Holder) (ts : List Thing) (na
               by_number u t
                   (λ other. record { it = o.1.it; there = set_elsewhere hs t u it' other ∙ o.1.there; owes = subst (λ xs. Owes i u o.1.it.awaits xs naps boxes) (sym same) o.1.owes })
                   (λ is.
-                  let same_it : it ≡ o.1.it = same_thing it o.1.it (sym by.there ∙ ap (slice_get hs) (sym is) ∙ o.1.there) in
+                  let same_it : it ≡ o.1.it = same_Some it o.1.it (sym by.there ∙ ap (slice_get hs) (sym is) ∙ o.1.there) in
                   absurd (subst (λ a. Owes i u a ts naps boxes) by.idle (subst (λ (y : Holder). Owes i u y.awaits ts naps boxes) (sym same_it) o.1.owes))),
             );
       }) old)
-    where
-      none_left : (shut held : Bool) → held_in k it.held ≡ held_in k it'.held + 1 → held_in k it.held ≤ holdings k hs → IsHeldBy shut held (holdings k hs) (under_way h (Message.Cancel (subject.Request k)) boxes) → held_in k it'.held ≡ 0
-      none_left = grind arith
-
-      told_on : (shut held : Bool) → held_in k it.held ≡ held_in k it'.held + 1 → held_in k it.held ≤ holdings k hs → holdings k (slice_set hs t it') + held_in k it.held ≡ holdings k hs + held_in k it'.held
-          → IsHeldBy shut held (holdings k hs) (under_way h (Message.Cancel (subject.Request k)) boxes) → h'.mail (Message.Cancel (subject.Request k)) ≡ h.mail (Message.Cancel (subject.Request k)) + 1
-          → IsHeldBy shut held (holdings k (slice_set hs t it')) (under_way h' (Message.Cancel (subject.Request k)) boxes)
-      told_on = grind arith
 
 -- ITS WORKER changes a request, and no task
 module _ (h h' : Hands) (workers : ℕ) (hs : List Holder) (ts : List Thing) (naps : List Nap) (boxes : List Box) (k : ℕ) (r r' : Thing) where
@@ -110,6 +103,7 @@ module _ (h h' : Hands) (workers : ℕ) (hs : List Holder) (ts : List Thing) (na
 
   pub redone_alone : RedoesAlone → IsHolding h workers hs ts naps boxes → IsHolding h' workers hs (slice_set ts k r') naps boxes
   redone_alone by old =
+      let owes_on : RedoesAlone → (i u : ℕ) → 0 < h'.wakes i u → (a : Option Subject) → Owes i u a ts naps boxes → Owes i u a (slice_set ts k r') naps boxes = grind (arith, by_number, set_elsewhere, same_Some, set_there) in
       holding_redone h h' workers hs hs ts naps boxes None k r r' (record {
         thing = by.thing;
         worker = by.worker;
@@ -128,22 +122,10 @@ module _ (h h' : Hands) (workers : ℕ) (hs : List Holder) (ts : List Thing) (na
         sleeps_on = λ n u is. is;
         holds = λ u o j x is at_u at_j. let no : None ≡ Some u = is in absurd (cc);
         holds_else = λ u o j x apart at_u at_j is held.
-            record {
-              worker = by.worker ∙ held.worker;
-              near = subst (MayHave workers o.home) (sym by.worker) held.near;
-              here = λ some. by.unsent ∙ held.here some;
-              waiter = λ v waiter. held.waiter v (sym by.waiter ∙ waiter);
-              awaited = λ sent. held.awaited (sym by.unsent ∙ sent);
-            };
+            grind (arith, by.worker, held.worker, workers, o.home, held.near, by.unsent, held.here, held.waiter, by.waiter, held.awaited);
         awaiting = λ u o n is at_u awaits. let no : None ≡ Some u = is in absurd (cc);
         awaiting_else = λ u o apart at_u awaits a.
-            record {
-              waiter = by.waiter ∙ a.waiter;
-              near = subst (MayHave workers o.home) (sym by.worker) a.near;
-              here = λ some. by.unsent ∙ a.here some;
-              newest = a.newest;
-              answer = λ sent. by.answer u o at_u awaits (a.answer (sym by.unsent ∙ sent));
-            };
+            grind (arith, by.waiter, a.waiter, workers, o.home, by.worker, a.near, by.unsent, a.here, a.newest, by.answer, at_u, awaits, a.answer);
         asleep = λ u o n is at_u awaits. let no : None ≡ Some u = is in absurd (cc);
         over = λ u o is at_u over. let no : None ≡ Some u = is in absurd (cc);
         owed = λ i u some.
@@ -151,6 +133,3 @@ module _ (h h' : Hands) (workers : ℕ) (hs : List Holder) (ts : List Thing) (na
             let o = old.owed i u (subst (λ n. 0 < n) same some) in
             (same ∙ o.0, record { it = o.1.it; there = o.1.there; owes = owes_on by i u some o.1.it.awaits o.1.owes });
       }) old
-    where
-      owes_on : RedoesAlone → (i u : ℕ) → 0 < h'.wakes i u → (a : Option Subject) → Owes i u a ts naps boxes → Owes i u a (slice_set ts k r') naps boxes
-      owes_on = grind (arith, by_number, set_elsewhere, same_thing, set_there)

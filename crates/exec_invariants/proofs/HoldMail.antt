@@ -1,7 +1,7 @@
 -- MESSAGES: which are the same, how few are in an inbox, and what one that is sent changes.
 use Rattle.std.proofs.{Common.{◌≡◌, ◌≢◌, ℕ, zero, suc, ◌+◌, ◌*◌, ◌≤◌, ◌==◌, true, cond, Contains, List, [], ◌∷◌, ◌++◌, count_by, length, sum_by, Some, refl, sym, ap, subst, ◌∙◌, arith, slice_get}, lemmas.{List.{Elements.Contains-append_right, Sums.{sum_by-cons, sum_by-append}}}}
 use Rattle.exec_words.specs.{Inbox.is_wake_root, declared.inbox.Message.{Message}}
-use Rattle.exec_parts.{specs.declared.parts.mail.Subject.Subject, proofs.Facts.{never_true, same_thing}}
+use Rattle.exec_parts.{specs.declared.parts.mail.Subject.Subject, proofs.Facts.{false_from_ne_true, same_Some}}
 use Rattle.exec_invariants.specs.Holding.{IsAbout, IsOf, Mail, Nap, Thing, mail_in, same_mail}
 
 -- WHICH ARE THE SAME
@@ -20,7 +20,7 @@ pub is_once : (a : Mail) → mail_in a (a ∷ []) ≡ 1
 is_once a = ap (λ c. 0 + cond c 1 0) (mail_self a)
 
 pub is_never : (a b : Mail) → a ≢ b → mail_in a (b ∷ []) ≡ 0
-is_never a b apart = ap (λ c. 0 + cond c 1 0) (never_true (same_mail a b) (λ is. apart (mail_is a b is)))
+is_never a b apart = ap (λ c. 0 + cond c 1 0) (false_from_ne_true (same_mail a b) (λ is. apart (mail_is a b is)))
 
 pub mail_first : (x m : Mail) (ms : List Mail) → mail_in x (m ∷ ms) ≡ mail_in x (m ∷ []) + mail_in x ms
 mail_first x m ms = sum_by-append (λ other. cond (same_mail x other) 1 0) (m ∷ []) ms
@@ -73,7 +73,7 @@ tally_within f g xs most = tally_most f g 0 xs (λ k x at. subst (λ n. f n ≤ 
 
 pub sum_least : {A : Type 0} (f : A → ℕ) (xs : List A) (i : ℕ) (x : A) → slice_get xs i ≡ Some x → f x ≤ sum_by f xs
 sum_least f [] i x at = absurd (cc)
-sum_least f (y ∷ ys) zero x at = grind (arith, same_thing, sum_by-cons)
+sum_least f (y ∷ ys) zero x at = grind (arith, same_Some, sum_by-cons)
 sum_least f (y ∷ ys) (suc i) x at = grind (arith, sum_by-cons, sum_least f ys i x at)
 
 -- SO FEW ARE IN AN INBOX, of messages about what worker j has, each once
@@ -118,15 +118,11 @@ module _ (workers j : ℕ) (ts : List Thing) (naps : List Nap) where
       → ((n : ℕ) (z : Nap) → slice_get naps n ≡ Some z → z.worker ≡ j → (ends ms n ≤ 1) × (removes ms n ≤ 1))
       → length ms ≤ count_by is_wake_root ms + 2 * (count_by (λ r. r.worker == j) ts + count_by (λ z. z.worker == j) naps)
   few_mail ms about once once_too =
+      let not_mine : (k : ℕ) (r : Thing) → slice_get ts k ≡ Some r → r.worker ≢ j → IsOf workers j (Subject.Request k) ts naps → ⊥ = λ k r at other of. other (ap (λ (x : Thing). x.worker) (same_Some r of.0 (sym at ∙ of.1)) ∙ of.2) in
+      let not_my_nap : (n : ℕ) (z : Nap) → slice_get naps n ≡ Some z → z.worker ≢ j → IsOf workers j (Subject.Timer n) ts naps → ⊥ = λ n z at other of. other (ap (λ (x : Nap). x.worker) (same_Some z of.0 (sym at ∙ of.1)) ∙ of.2) in
       let a = tally_within (forwards ms) (λ (r : Thing). cond (r.worker == j) 1 0) ts (λ k r at. by_owner (forwards ms k) r.worker (λ own. (once k r at own).0) (λ other. mail_none (Message.Forward (Subject.Request k)) ms (λ has. not_mine k r at other (about (Message.Forward (Subject.Request k)) has)))) in
       let b = tally_within (cancels ms) (λ (r : Thing). cond (r.worker == j) 1 0) ts (λ k r at. by_owner (cancels ms k) r.worker (λ own. (once k r at own).1) (λ other. mail_none (Message.Cancel (Subject.Request k)) ms (λ has. not_mine k r at other (about (Message.Cancel (Subject.Request k)) has)))) in
       let c = tally_within (ends ms) (λ (z : Nap). cond (z.worker == j) 1 0) naps (λ n z at. by_owner (ends ms n) z.worker (λ own. (once_too n z at own).0) (λ other. mail_none (Message.Forward (Subject.Timer n)) ms (λ has. not_my_nap n z at other (about (Message.Forward (Subject.Timer n)) has)))) in
       let d = tally_within (removes ms) (λ (z : Nap). cond (z.worker == j) 1 0) naps (λ n z at. by_owner (removes ms n) z.worker (λ own. (once_too n z at own).1) (λ other. mail_none (Message.Cancel (Subject.Timer n)) ms (λ has. not_my_nap n z at other (about (Message.Cancel (Subject.Timer n)) has)))) in
       let all = within_all ms about in
       omega (arith, all, a, b, c, d)
-    where
-      not_mine : (k : ℕ) (r : Thing) → slice_get ts k ≡ Some r → r.worker ≢ j → IsOf workers j (Subject.Request k) ts naps → ⊥
-      not_mine k r at other of = other (ap (λ (x : Thing). x.worker) (same_thing r of.0 (sym at ∙ of.1)) ∙ of.2)
-
-      not_my_nap : (n : ℕ) (z : Nap) → slice_get naps n ≡ Some z → z.worker ≢ j → IsOf workers j (Subject.Timer n) ts naps → ⊥
-      not_my_nap n z at other of = other (ap (λ (x : Nap). x.worker) (same_thing z of.0 (sym at ∙ of.1)) ∙ of.2)

@@ -2,14 +2,14 @@
 use Rattle.std.proofs.{Common.{◌≡◌, ◌≢◌, ℕ, ◌+◌, ◌<◌, ◌≤◌, ◌==◌, Bool, true, false, List, count_by, length, sum_by, Option, Some, None, IsSome, sym, ap, subst, ◌∙◌, arith, slice_get, slice_set}, lemmas.{List.Sums.sum_by-set, Option.{get_or_from_slice_get, slice_get_within}}}
 use Rattle.exec_machine.specs.{declared.state.Forwarding.TheVariants.Applied, Tests.is_unsent}
 use Rattle.exec_words.specs.declared.inbox.Message.{Message}
-use Rattle.exec_parts.{specs.declared.parts.{held.Held.Held, mail.Subject.Subject}, proofs.Facts.{by_number, same_thing, set_elsewhere, set_there}}
+use Rattle.exec_parts.{specs.declared.parts.{held.Held.Held, mail.Subject.Subject}, proofs.Facts.{by_number, same_Some, set_elsewhere, set_there}}
 use Rattle.exec_invariants.specs.Holding.{Awaits, AwaitsNap, AwaitsThing, Box, Hands, Holder, HoldsRequest, IsAbout, IsDue, IsForwarded, IsHeldBy, IsHolding, IsOf, IsOrdinary, IsOwed, Mail, Nap, Thing, holdings, mail_in, under_way, waiters}
 use Rattle.exec_parts.specs.declared.parts.mail.Subject.TheVariants as subject
 
 -- by whether it is this one
 pub by_one : {P : Type 0} (o : Option ℕ) (u : ℕ) → (o ≡ Some u → P) → ((o ≡ Some u → ⊥) → P) → P
 by_one None u same other = other (λ is. let no : None ≡ Some u = is in absurd (cc))
-by_one (Some v) u same other = by_number v u (λ apart. other (λ is. apart (same_thing v u is))) (λ is. same (ap (λ n. Some n) is))
+by_one (Some v) u same other = by_number v u (λ apart. other (λ is. apart (same_Some v u is))) (λ is. same (ap (λ n. Some n) is))
 
 -- a sum where one element was set
 pub sum_set : {A : Type 0} (f : A → ℕ) (xs : List A) (i : ℕ) (x y : A) → slice_get xs i ≡ Some x → sum_by f (slice_set xs i y) + f x ≡ sum_by f xs + f y
@@ -18,6 +18,15 @@ sum_set f xs i x y there =
 
 pub count_set : {A : Type 0} (p : A → Bool) (xs : List A) (i : ℕ) (x y : A) → slice_get xs i ≡ Some x → p y ≡ p x → count_by p (slice_set xs i y) ≡ count_by p xs
 count_set = grind (arith, sum_set)
+
+-- what becomes of the elements where one is set, and what they were
+pub set_on : {A : Type 0} (R : ℕ → A → A → Type 0) (xs ys : List A) (k : ℕ) (x y : A) → slice_get xs k ≡ Some x → ys ≡ slice_set xs k y → R k x y → ((n : ℕ) (a : A) → R n a a) → (n : ℕ) (a : A) → slice_get xs n ≡ Some a → (b : A) × (slice_get ys n ≡ Some b) × R n a b
+set_on R xs ys k x y there is one all n a at =
+    by_number n k (λ apart. (a, ap (λ zs. slice_get zs n) is ∙ set_elsewhere xs k n y apart ∙ at, all n a))
+    (λ same. (y, ap (λ zs. slice_get zs n) is ∙ ap (slice_get (slice_set xs k y)) same ∙ set_there xs k y x there, rw same (subst (λ z. R k z y) (same_Some x a (sym there ∙ ap (slice_get xs) (sym same) ∙ at)) one)))
+
+pub set_back : {A : Type 0} (R : ℕ → A → A → Type 0) (xs ys : List A) (k : ℕ) (x y : A) → slice_get xs k ≡ Some x → ys ≡ slice_set xs k y → R k x y → ((n : ℕ) (a : A) → R n a a) → (n : ℕ) (b : A) → slice_get ys n ≡ Some b → (a : A) × (slice_get xs n ≡ Some a) × R n a b
+set_back = grind (arith, by_number, set_elsewhere, same_Some, set_there)
 
 -- a message that isn't about request k
 pub record IsApart (k : ℕ) (m : Mail) : Type 0 where
@@ -56,7 +65,7 @@ module _ (h h' : Hands) (workers : ℕ) (hs hs' : List Holder) (ts : List Thing)
 
   -- what holds of a thing that stood there, by whether it is this one
   of_thing : (P : ℕ → Thing → Type 0) → slice_get ts k ≡ Some r → P k r' → ((n : ℕ) (x : Thing) → n ≢ k → slice_get ts n ≡ Some x → P n x) → (n : ℕ) (x : Thing) → slice_get (slice_set ts k r') n ≡ Some x → P n x
-  of_thing = grind (arith, by_number, set_elsewhere, same_thing, set_there)
+  of_thing = grind (arith, by_number, set_elsewhere, same_Some, set_there)
 
   pub holding_redone : Redo → IsHolding h workers hs ts naps boxes → IsHolding h' workers hs' (slice_set ts k r') naps boxes
   holding_redone by old =
@@ -86,7 +95,7 @@ module _ (h h' : Hands) (workers : ℕ) (hs hs' : List Holder) (ts : List Thing)
             by_number x.number k
             (λ apart. (held.0, set_elsewhere ts k x.number r' apart ∙ held.1, held.2))
             (λ same.
-            let is : held.0 ≡ r = same_thing held.0 r (sym held.1 ∙ ap (slice_get ts) same ∙ by.thing) in
+            let is : held.0 ≡ r = same_Some held.0 r (sym held.1 ∙ ap (slice_get ts) same ∙ by.thing) in
             (r', subst (λ m. slice_get ts' m ≡ Some r') (sym same) (set_there ts k r' r by.thing), by.holds_else u o j x other was at_j same (subst (HoldsRequest workers u o x) is held.2))));
         awaiting = λ u o n at_u awaits.
             by_one t u
@@ -97,7 +106,7 @@ module _ (h h' : Hands) (workers : ℕ) (hs hs' : List Holder) (ts : List Thing)
             by_number n k
             (λ apart. (it.0, set_elsewhere ts k n r' apart ∙ it.1, it.2))
             (λ same.
-            let is : it.0 ≡ r = same_thing it.0 r (sym it.1 ∙ ap (slice_get ts) same ∙ by.thing) in
+            let is : it.0 ≡ r = same_Some it.0 r (sym it.1 ∙ ap (slice_get ts) same ∙ by.thing) in
             let here : o.awaits ≡ Some (subject.Request k) = awaits ∙ ap (λ m. Some (subject.Request m)) same in
             (r', subst (λ m. slice_get ts' m ≡ Some r') (sym same) (set_there ts k r' r by.thing), subst (λ m. AwaitsThing workers u m o r') (sym same) (by.awaiting_else u o other was here (subst (AwaitsThing workers u k o) is (subst (λ m. AwaitsThing workers u m o it.0) same it.2))))));
         asleep = λ u o n at_u awaits. by_one t u (λ its. by.asleep u o n its at_u awaits) (λ other. old.asleep u o n (sym (by.others u other) ∙ at_u) awaits);
@@ -121,7 +130,7 @@ module _ (h h' : Hands) (workers : ℕ) (hs hs' : List Holder) (ts : List Thing)
       }
     where
       of_on : slice_get ts k ≡ Some r → (j : ℕ) (s : Subject) → IsOf workers j s ts naps → IsOf workers j s (slice_set ts k r') naps
-      of_on = grind (arith, by_number, set_elsewhere, same_thing, set_there)
+      of_on = grind (arith, by_number, set_elsewhere, same_Some, set_there)
 
       about_on : slice_get ts k ≡ Some r → (j : ℕ) (m : Mail) → IsAbout workers j m ts naps → IsAbout workers j m (slice_set ts k r') naps
       about_on there j Message.WakeRoot is = tt

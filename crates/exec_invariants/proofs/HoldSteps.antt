@@ -5,7 +5,7 @@ use Rattle.exec_outcomes.specs.declared.outcome.Outcome.{Outcome}
 use Rattle.exec_request.specs.declared.output.RequestOutput.{RequestOutput}
 use Rattle.exec_machine.specs.Tests.{is_unsent}
 use Rattle.exec_words.specs.declared.inbox.Message.{Message}
-use Rattle.exec_parts.{specs.declared.parts.{held.Held.Held, mail.Subject.Subject}, proofs.Facts.{by_number, not_same, same_thing, set_elsewhere, set_there}}
+use Rattle.exec_parts.{specs.declared.parts.{held.Held.Held, mail.Subject.Subject}, proofs.Facts.{by_number, not_same, same_Some, set_elsewhere, set_there}}
 use Rattle.exec_invariants.{specs.Holding.{Awaits, Box, Hands, HasAnswer, Holder, HoldsRequest, IsHeldBy, IsHolding, IsOrdinary, IsOwed, MayHave, Nap, Owes, Thing, ThingOwes, holdings, is_awaited_by, under_way, waiters}, proofs.HoldRedo.{count_set, holding_redone, sum_set}}
 use Rattle.exec_parts.specs.declared.parts.mail.Subject.TheVariants as subject
 
@@ -57,10 +57,10 @@ hold_once k hs t it at_t =
 -- A TASK BECAME ANOTHER, of the same home
 module _ (hs : List Holder) (t : ℕ) (it it' : Holder) (there : slice_get hs t ≡ Some it) where
   pub homes_on : it'.home ≡ it.home → (u : ℕ) → IsOrdinary u hs → IsOrdinary u (slice_set hs t it')
-  homes_on = grind (arith, by_number, set_elsewhere, same_thing, set_there)
+  homes_on = grind (arith, by_number, set_elsewhere, same_Some, set_there)
 
   pub awaits_on : (s : Subject) (u : ℕ) → (u ≡ t → it.awaits ≡ Some s → it'.awaits ≡ Some s) → Awaits s u hs → Awaits s u (slice_set hs t it')
-  awaits_on = grind (arith, by_number, set_elsewhere, same_thing, set_there)
+  awaits_on = grind (arith, by_number, set_elsewhere, same_Some, set_there)
 
   pub holdings_on : (n : ℕ) → holdings n (slice_set hs t it') + held_in n it.held ≡ holdings n hs + held_in n it'.held
   holdings_on n = sum_set (λ (x : Holder). held_in n x.held) hs t it it' there
@@ -76,7 +76,7 @@ pub record IsNewest (k : ℕ) (held fewer : List Held) : Type 0 where
   pub number : x.number ≡ k
   pub all : held ≡ fewer ++ x ∷ []
 
-get_front : {A : Type 0} (xs ys : List A) (j : ℕ) (q : A) → slice_get xs j ≡ Some q → slice_get (xs ++ ys) j ≡ Some q
+pub get_front : {A : Type 0} (xs ys : List A) (j : ℕ) (q : A) → slice_get xs j ≡ Some q → slice_get (xs ++ ys) j ≡ Some q
 get_front [] ys j q h = absurd (cc)
 get_front (x ∷ xs) ys zero q h = h
 get_front (x ∷ xs) ys (suc j) q h = get_front xs ys j q h
@@ -116,17 +116,22 @@ module _ (h : Hands) (workers : ℕ) (hs : List Holder) (ts : List Thing) (naps 
 
   pub held_one : slice_get hs t ≡ Some it → slice_get ts k ≡ Some r → IsNewest k it.held it'.held → (box : Box) → slice_get boxes r.worker ≡ Some box → IsHolding h workers hs ts naps boxes → HeldOne
   held_one there thing newest box seat old =
+      let by_shut : (shut held : Bool) → r.observed ≡ held → held_in k it.held ≡ held_in k it'.held + 1 → held_in k it.held ≤ holdings k hs → holdings k (slice_set hs t it') + held_in k it.held ≡ holdings k hs + held_in k it'.held → IsHeldBy shut held (holdings k hs) (under_way h (Message.Cancel (subject.Request k)) boxes) → HeldOne =
+      grind arith in
       let more = one_more k it.held it'.held newest in
       let least = hold_once k hs t it there in
       let after = holdings_on hs t it it' there k in
       by_shut box.shut r.observed refl more least after (old.held k r box thing seat)
-    where
-      by_shut : (shut held : Bool) → r.observed ≡ held → held_in k it.held ≡ held_in k it'.held + 1 → held_in k it.held ≤ holdings k hs → holdings k (slice_set hs t it') + held_in k it.held ≡ holdings k hs + held_in k it'.held
-          → IsHeldBy shut held (holdings k hs) (under_way h (Message.Cancel (subject.Request k)) boxes) → HeldOne
-      by_shut = grind arith
 
   pub thing_taken : TakesThing → IsHolding h workers hs ts naps boxes → IsHolding h workers (slice_set hs t it') (slice_set ts k (record r { observed = false; ended = e })) naps boxes
   thing_taken by old =
+      let same_request : (n m : ℕ) → subject.Request n ≡ subject.Request m → n ≡ m = λ n m e. cc in
+      let owed_on : TakesThing → (i u : ℕ) → u ≢ t → IsOwed i u hs ts naps boxes → IsOwed i u (slice_set hs t it') (slice_set ts k (record r { observed = false; ended = e })) naps boxes =
+      λ by i u other o. record { it = o.it; there = set_elsewhere hs t u it' other ∙ o.there; owes = owes_on by i u o.it.awaits o.owes } in
+      let waits_same : TakesThing → (n : ℕ) → it'.awaits ≡ None → (not it'.over && is_awaited_by (subject.Timer n) it'.awaits) ≡ (not it.over && is_awaited_by (subject.Timer n) it.awaits) = grind arith in
+      let unheld : (shut held : Bool) → held ≡ true → holdings k (slice_set hs t it') ≡ 0 → 0 < holdings k hs → IsHeldBy shut held (holdings k hs) (under_way h (Message.Cancel (subject.Request k)) boxes) → IsHeldBy shut false (holdings k (slice_set hs t it')) (under_way h (Message.Cancel (subject.Request k)) boxes) =
+      grind arith in
+      let answered : TakesThing → (o : OneShotState (Result RequestOutput Error)) → HasAnswer o r → HasAnswer o (record r { observed = false; ended = e }) = grind arith in
       let r' : Thing = record r { observed = false; ended = e } in
       let hs' : List Holder = slice_set hs t it' in
       let one = held_one by.there by.thing by.newest by.box by.seat old in
@@ -135,9 +140,9 @@ module _ (h : Hands) (workers : ℕ) (hs : List Holder) (ts : List Thing) (naps 
       let going : it'.over ≡ false = ap (λ (x : Holder). x.over) by.took ∙ by.going in
       let home : it'.home ≡ it.home = ap (λ (x : Holder). x.home) by.took in
       let waits_none : (s : Subject) → (s ≡ subject.Request k → ⊥) → it.awaits ≡ Some s → ⊥ = λ s apart is.
-      ⊎_elim (λ none. let no : None ≡ Some s = sym none ∙ is in absurd (cc)) (λ its. apart (same_thing s (subject.Request k) (sym is ∙ its))) by.awaited in
-      let me : (u : ℕ) → Some t ≡ Some u → t ≡ u = λ u is. same_thing t u is in
-      let its : (u : ℕ) (o : Holder) → Some t ≡ Some u → slice_get hs' u ≡ Some o → it' ≡ o = λ u o is at. same_thing it' o (sym now ∙ subst (λ m. slice_get hs' m ≡ Some o) (sym (me u is)) at) in
+      ⊎_elim (λ none. let no : None ≡ Some s = sym none ∙ is in absurd (cc)) (λ its. apart (same_Some s (subject.Request k) (sym is ∙ its))) by.awaited in
+      let me : (u : ℕ) → Some t ≡ Some u → t ≡ u = λ u is. same_Some t u is in
+      let its : (u : ℕ) (o : Holder) → Some t ≡ Some u → slice_get hs' u ≡ Some o → it' ≡ o = λ u o is at. same_Some it' o (sym now ∙ subst (λ m. slice_get hs' m ≡ Some o) (sym (me u is)) at) in
       holding_redone h h workers hs hs' ts naps boxes (Some t) k r r' (record {
         thing = by.thing;
         worker = refl;
@@ -184,24 +189,9 @@ module _ (h : Hands) (workers : ℕ) (hs : List Holder) (ts : List Thing) (naps 
             );
       }) old
     where
-      same_request : (n m : ℕ) → subject.Request n ≡ subject.Request m → n ≡ m
-      same_request n m e = cc
-
-      waits_same : TakesThing → (n : ℕ) → it'.awaits ≡ None → (not it'.over && is_awaited_by (subject.Timer n) it'.awaits) ≡ (not it.over && is_awaited_by (subject.Timer n) it.awaits)
-      waits_same = grind arith
-
-      unheld : (shut held : Bool) → held ≡ true → holdings k (slice_set hs t it') ≡ 0 → 0 < holdings k hs → IsHeldBy shut held (holdings k hs) (under_way h (Message.Cancel (subject.Request k)) boxes) → IsHeldBy shut false (holdings k (slice_set hs t it')) (under_way h (Message.Cancel (subject.Request k)) boxes)
-      unheld = grind arith
-
-      answered : TakesThing → (o : OneShotState (Result RequestOutput Error)) → HasAnswer o r → HasAnswer o (record r { observed = false; ended = e })
-      answered = grind arith
-
       by_sent : TakesThing → (b : Bool) → is_unsent r.forwarding ≡ b → 0 < h.wakes r.worker t → r.sent ≡ false → ⊥
       by_sent by true is some unsent = let none = by.unowed is in omega (arith, none, some)
       by_sent by false is some unsent = false≢true (sym unsent ∙ by.sent is)
-
-      unpaid_by : TakesThing → (i : ℕ) → 0 < h.wakes i t → Owes i t (Some (subject.Request k)) ts naps boxes → ⊥
-      unpaid_by = grind arith
 
       unpaid : TakesThing → (i : ℕ) → 0 < h.wakes i t → IsOwed i t hs ts naps boxes → ⊥
       unpaid = grind arith
@@ -213,12 +203,9 @@ module _ (h : Hands) (workers : ℕ) (hs : List Holder) (ts : List Thing) (naps 
           by_number n k
           (λ apart. (owes.0, set_elsewhere ts k n (record r { observed = false; ended = e }) apart ∙ owes.1, owes.2))
           (λ same.
-          let is : owes.0 ≡ r = same_thing owes.0 r (sym owes.1 ∙ ap (slice_get ts) same ∙ by.thing) in
+          let is : owes.0 ≡ r = same_Some owes.0 r (sym owes.1 ∙ ap (slice_get ts) same ∙ by.thing) in
           let it_owes : ThingOwes i u r boxes = subst (λ x. ThingOwes i u x boxes) is owes.2 in (
             record r { observed = false; ended = e },
             subst (λ m. slice_get (slice_set ts k (record r { observed = false; ended = e })) m ≡ Some (record r { observed = false; ended = e })) (sym same) (set_there ts k (record r { observed = false; ended = e }) r by.thing),
             record { worker = it_owes.worker; waiter = it_owes.waiter; unpaid = it_owes.unpaid; unsent = it_owes.unsent; over = ⊎_elim (λ over. inl (ap is_some (by.ended over) ∙ over)) (λ lost. inr (refl, lost.1)) it_owes.over },
           ))
-
-      owed_on : TakesThing → (i u : ℕ) → u ≢ t → IsOwed i u hs ts naps boxes → IsOwed i u (slice_set hs t it') (slice_set ts k (record r { observed = false; ended = e })) naps boxes
-      owed_on by i u other o = record { it = o.it; there = set_elsewhere hs t u it' other ∙ o.there; owes = owes_on by i u o.it.awaits o.owes }

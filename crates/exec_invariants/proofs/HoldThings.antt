@@ -1,13 +1,13 @@
 -- A REQUEST OR A SLEEPER is told that it is waited for, or taken, and its worker isn't asked: what that leaves of all workers.
-use Rattle.std.proofs.{Common.{◌≡◌, ℕ, ◌^◌, ◌<◌, ◌≤◌, false, List, Contains, length, sum_by, Option, Some, None, refl, sym, ap, subst, ◌∙◌, arith, slice_get, slice_set}, lemmas.List.length-set}
+use Rattle.std.proofs.{Common.{◌≡◌, ℕ, ◌^◌, ◌<◌, ◌≤◌, false, List, Contains, length, sum_by, Option, Some, None, sym, ap, subst, ◌∙◌, arith, slice_get, slice_set}, lemmas.List.length-set}
 use Rattle.exec_base.specs.{Slab.IsPast, declared.slab.Id.Id}
-use Rattle.exec_waiters.specs.{Ids.user_data_of, States.pending_count}
+use Rattle.exec_waiters.specs.{Ids.user_data_of, States.{pending_count, waiter_at}, declared.waiter.Waiter.Waiter}
 use Rattle.exec_ring.specs.Stores.{socket_of}
-use Rattle.exec_words.specs.Queue.{tail_of}
 use Rattle.exec_machine.specs.Tests.{is_resolved}
-use Rattle.exec_moves.specs.{declared.place.{InPoll.InPoll, Place.Place}, Seen.polls_at}
-use Rattle.exec_parts.{specs.{declared.parts.{mail.Subject.Subject, record.Record.Record, shared.Shared.Shared, sleeping.SleeperRecord.SleeperRecord, task_slot.TaskSlot.TaskSlot, worker.Worker.Worker}, Serving.{changed_at, changed_in}, View.driver_of}, proofs.Facts.{by_number, same_thing, set_elsewhere, set_there}}
-use Rattle.exec_invariants.{specs.{Carried.{Carried, HasRoom, IsUnderWay, may_move, room_for}, Due.IsDue, Holding.Mail, Gates.{AreLinedUp, IsKnown, at_gate, has_hint_at, may_ask_hint}, HoldPlaces.{cancels_at, heard_at, sends_cancel_at}, Places.step_of_poll, Sound.{HasLetters, IsMyMail, SoundAt, Stops, served_in}, Spares.{RecordsEndure, SleepersEndure, Spares, SparesRecord, SparesSleeper}}, proofs.{Aside.spared, HoldRedo.sum_set, Lined.{KeepsLines, SameAtGate, lined_kept, lines_changed, lines_same}, Spared.{KeepsMine, heard_apart, letter_apart, mail_apart, named_apart, over_apart, record_back, rooted_apart, stops_apart, timed_apart, asleep_apart, flown_apart}, SparedRecord.{sleepers_stay, endures_by, live_of, over_still, sleeper_endures_by, sleeper_spared, spared_same, worker_still}}}
+use Rattle.exec_moves.specs.{declared.place.{InPoll.InPoll, Place.Place, InService.InService}, Seen.polls_at}
+use Rattle.exec_parts.{specs.{declared.parts.{mail.{Subject.Subject, Reply.Reply}, record.Record.Record, shared.Shared.Shared, sleeping.SleeperRecord.SleeperRecord, task_slot.TaskSlot.TaskSlot, worker.Worker.Worker}, Serving.{changed_in}, View.driver_of, Records.number_in}}
+use Rattle.exec_invariants.{specs.{Carried.{HasRoom, IsUnderWay, may_move, room_for, IsCarried}, Due.IsDue, Holding.Mail, Gates.{AreLinedUp, IsKnown, at_gate, has_hint_at, may_ask_hint}, HoldPlaces.{cancels_at, heard_at, sends_cancel_at}, Places.step_of_poll, Sound.{HasLetters, IsMyMail, SoundAt, Stops, served_in, AreOver}, Spares.{RecordsEndure, SleepersEndure, Spares, SparesRecord, SparesSleeper}, Names.IsNamed, Flown.HasFlown, Rooted.IsRooted}, proofs.{Aside.spares_none, HoldRedo.{sum_set, set_on, set_back}, Lined.{KeepsLines, SameAtGate, lined_kept, lines_changed}, Spared.{KeepsMine, heard_apart, letter_apart, mail_apart, named_apart, over_apart, record_back, rooted_apart, stops_apart, timed_apart, asleep_apart, flown_apart}, SparedRecord.{sleepers_stay, endures_by, live_of, over_still, sleeper_endures_by, sleeper_spared, spared_same, worker_still}}}
+use Rattle.exec_request.specs.Requests.{target_of}
 
 module _ {B : Type 0} where
   pub record Touches (s s' : Shared B) : Type 0 where
@@ -20,65 +20,39 @@ module _ {B : Type 0} where
     pub lines : KeepsLines s.requests.items s'.requests.items
     pub room : HasRoom s.requests.items s.store → HasRoom s'.requests.items s.store
 
+  pub touches_none : (s : Shared B) → Touches s s
+  touches_none = grind arith
+
   -- one request is
   pub touches_record : (s s' : Shared B) (k : ℕ) (r r' : Record) → slice_get s.requests.items k ≡ Some r → SparesRecord r r' → s'.requests.items ≡ slice_set s.requests.items k r' → Touches s (record s { requests = s'.requests })
   touches_record s s' k r r' there spares items =
-      record {
-        kept = refl;
-        records = λ n x at.
-            by_number n k
-            (λ apart. (x, ap (λ xs. slice_get xs n) items ∙ set_elsewhere s.requests.items k n r' apart ∙ at, spared_same x))
-            (λ same.
-            let is : r ≡ x = same_thing r x (sym there ∙ subst (λ m. slice_get s.requests.items m ≡ Some x) same at) in
-            (r', ap (λ xs. slice_get xs n) items ∙ subst (λ m. slice_get (slice_set s.requests.items k r') m ≡ Some r') (sym same) (set_there s.requests.items k r' r there), subst (λ y. SparesRecord y r') is spares));
-        records_only = λ n x at.
-            by_number n k
-            (λ apart. (x, sym (set_elsewhere s.requests.items k n r' apart) ∙ ap (λ xs. slice_get xs n) (sym items) ∙ at, spared_same x))
-            (λ same.
-            let is : r' ≡ x = same_thing r' x (sym (set_there s.requests.items k r' r there) ∙ ap (λ xs. slice_get xs k) (sym items) ∙ subst (λ m. slice_get s'.requests.items m ≡ Some x) same at) in
-            (r, subst (λ m. slice_get s.requests.items m ≡ Some r) (sym same) there, subst (SparesRecord r) is spares));
-        sleepers = λ n z at. (z, at, sleeper_spared z);
-        sleepers_only = λ n z at. (z, at, sleeper_spared z);
-        many = ap length items ∙ length-set s.requests.items k r';
-        lines = subst (KeepsLines s.requests.items) (sym (items ∙ sym changed)) (lines_changed s.requests.items k r (λ x. r') there at_gate_kept);
-        room = λ room out socket. subst (λ xs. sum_by (may_move out socket) xs ≤ room_for out (socket_of s.store socket)) (sym items)
-            (let sums = sum_set (may_move out socket) s.requests.items k r r' there in
-            let same : may_move out socket r' ≡ may_move out socket r = ap (may_move out socket) spares.kept in
-            omega (arith, sums, same, room out socket));
-      }
-    where
-      changed : changed_at s.requests.items k (λ x. r') ≡ slice_set s.requests.items k r'
-      changed = ap (changed_in s.requests.items k (λ x. r')) there
-
-      at_gate_kept : SameAtGate r r'
-      at_gate_kept = record { at = ap at_gate spares.kept; over = λ h. over_still r r' spares ∙ h; sent = ap (λ (y : Record). y.sent) spares.kept; forwarded = (endures_by r r' spares).forwarded }
+      let rs = s.requests.items in
+      let at_gate_kept : SameAtGate r r' = record { at = ap at_gate spares.kept; over = λ h. over_still r r' spares ∙ h; sent = ap (λ (y : Record). y.sent) spares.kept; forwarded = (endures_by r r' spares).forwarded } in
+      let lines = subst (KeepsLines rs) (sym (items ∙ sym (ap (changed_in rs k (λ x. r')) there))) (lines_changed rs k r (λ x. r') there at_gate_kept) in
+      let room : HasRoom rs s.store → HasRoom s'.requests.items s.store = λ room out socket. subst (λ xs. sum_by (may_move out socket) xs ≤ room_for out (socket_of s.store socket)) (sym items)
+      (let sums = sum_set (may_move out socket) rs k r r' there in
+      let same : may_move out socket r' ≡ may_move out socket r = ap (may_move out socket) spares.kept in
+      omega (arith, sums, same, room out socket)) in
+      let on = set_on (λ n. SparesRecord) rs s'.requests.items k r r' there items spares (λ n. spared_same) in
+      let back = set_back (λ n. SparesRecord) rs s'.requests.items k r r' there items spares (λ n. spared_same) in
+      assumption (on, back, ap length items ∙ length-set rs k r', lines, room, touches_none s)
 
   -- one sleeper is
   pub touches_sleeper : (s s' : Shared B) (k : ℕ) (z z' : SleeperRecord) → slice_get s.sleepers.items k ≡ Some z → SparesSleeper z z' → s'.sleepers.items ≡ slice_set s.sleepers.items k z' → Touches s (record s { sleepers = s'.sleepers })
   touches_sleeper s s' k z z' there spares items =
-      record {
-        kept = refl;
-        records = λ n x at. (x, at, spared_same x);
-        records_only = λ n x at. (x, at, spared_same x);
-        sleepers = λ n x at.
-            by_number n k
-            (λ apart. (x, ap (λ xs. slice_get xs n) items ∙ set_elsewhere s.sleepers.items k n z' apart ∙ at, sleeper_spared x))
-            (λ same.
-            let is : z ≡ x = same_thing z x (sym there ∙ subst (λ m. slice_get s.sleepers.items m ≡ Some x) same at) in
-            (z', ap (λ xs. slice_get xs n) items ∙ subst (λ m. slice_get (slice_set s.sleepers.items k z') m ≡ Some z') (sym same) (set_there s.sleepers.items k z' z there), subst (λ y. SparesSleeper y z') is spares));
-        sleepers_only = λ n x at.
-            by_number n k
-            (λ apart. (x, sym (set_elsewhere s.sleepers.items k n z' apart) ∙ ap (λ xs. slice_get xs n) (sym items) ∙ at, sleeper_spared x))
-            (λ same.
-            let is : z' ≡ x = same_thing z' x (sym (set_there s.sleepers.items k z' z there) ∙ ap (λ xs. slice_get xs k) (sym items) ∙ subst (λ m. slice_get s'.sleepers.items m ≡ Some x) same at) in
-            (z, subst (λ m. slice_get s.sleepers.items m ≡ Some z) (sym same) there, subst (SparesSleeper z) is spares));
-        many = refl;
-        lines = lines_same s.requests.items s.requests.items refl;
-        room = λ h. h;
-      }
+      let on = set_on (λ n. SparesSleeper) s.sleepers.items s'.sleepers.items k z z' there items spares (λ n. sleeper_spared) in
+      let back = set_back (λ n. SparesSleeper) s.sleepers.items s'.sleepers.items k z z' there items spares (λ n. sleeper_spared) in
+      assumption (on, back, touches_none s)
 
-  pub touches_none : (s : Shared B) → Touches s s
-  touches_none = grind arith
+  -- what a worker has, wherever it is in its service
+  pub record Has (x : Option InService) (w : Worker) (rs : List Record) (ss : List SleeperRecord) (s : Shared B) : Type 0 where
+    pub named : IsNamed w.index w.names (driver_of w) w.home.timers rs ss
+    pub over : AreOver w.index w.names.ended.items w.names.unreleased (pending_count (driver_of w).requests) rs
+    pub flown : HasFlown x w.index w.names (driver_of w) rs
+    pub rooted : IsRooted w.index w.names (driver_of w) w.home.timers w.home.deferred rs ss
+    pub due : IsDue x w.home.closing w.index w.moments s.config w.names (driver_of w) w.home.timers rs ss
+    pub known : IsKnown w.index w.names.requests.items (driver_of w).requests s.opens rs
+    pub carried : IsCarried w.names.requests.items (driver_of w).requests (driver_of w).ring rs s.store
 
   module _ (s s' : Shared B) (to : Touches s s') where
     pub keeps_mine : (i : ℕ) → KeepsMine i s.requests.items s'.requests.items s.sleepers.items s'.sleepers.items
@@ -94,37 +68,12 @@ module _ {B : Type 0} where
     spares_touched j =
         let s1 : Shared B = record s { requests = s'.requests; sleepers = s'.sleepers } in
         let mine = keeps_mine j in
-        let done : Spares j s s1 = record {
-          config = refl;
-          clock = refl;
-          gates = lined_kept s.requests.items s'.requests.items to.lines s.opens;
-          hints = λ file h. h;
-          many = refl;
-          chair = λ chair found. (chair, found, spared chair);
-          tails = λ k chair chair' found found'.
-              let same : chair ≡ chair' = same_thing chair chair' (sym found ∙ found') in
-              subst (λ c. tail_of chair.queue ≤ tail_of c.queue) same (omega arith);
-          records = mine.records;
-          records_only = mine.records_only;
-          sleepers = mine.sleepers;
-          sleepers_only = mine.sleepers_only;
-          endure = endure;
-          endure_too = endure_too;
-          root = λ t slot there home. there;
-          polled = λ t slot there polled mine. (slot, there, record { polled = polled; number = refl; cancelled = λ h. h; kept = refl });
-          room = to.room;
-          stretch = λ file offset n h. h;
-          stopped = λ h. h;
-          closed = λ h. h;
-          by_zero = λ h. (refl, refl);
-          shards = refl;
-          emptied = λ shut k none. none;
-          genuine = λ r is. is;
-        } in
+        let gates = lined_kept s.requests.items s'.requests.items to.lines s.opens in
+        let done : Spares j s s1 = assumption (gates, mine, endure, endure_too, to.room, spares_none j s) in
         subst (λ z. Spares j s z) (sym to.kept) done
 
-    pub sound_touched : (p : Place) (w : Worker) → SoundAt p w s → SoundAt p w s'
-    sound_touched p w sound =
+    pub has_touched : (x : Option InService) (w : Worker) → Has x w s.requests.items s.sleepers.items s → Has x w s'.requests.items s'.sleepers.items s
+    has_touched x w has =
         let rs = s.requests.items in
         let rs' = s'.requests.items in
         let ss = s.sleepers.items in
@@ -135,14 +84,45 @@ module _ {B : Type 0} where
         let zs = w.home.timers in
         let owning : (k : ℕ) (r : Record) → slice_get rs' k ≡ Some r → is_resolved r.shown.phase ≡ false → r.shown.released ≡ false = λ k r at open_still.
         let old = to.records_only k r at in
-        ap (λ (y : Record). y.shown.released) old.2.kept ∙ sound.flown.owning k old.0 old.1 (sym (over_still old.0 r old.2) ∙ open_still) in
+        ap (λ (y : Record). y.shown.released) old.2.kept ∙ has.flown.owning k old.0 old.1 (sym (over_still old.0 r old.2) ∙ open_still) in
+        let named = named_apart w.index rs rs' ss ss' mine n d zs has.named in
+        let over = over_apart w.index rs rs' ss ss' mine n.ended.items n.unreleased (pending_count d.requests) has.over in
+        let flown = flown_apart w.index rs rs' ss ss' mine n d zs has.named x owning has.flown in
+        let rooted = rooted_apart w.index rs rs' ss ss' mine n d zs has.named w.home.deferred has.rooted in
+        let timed = timed_apart w.index rs rs' ss ss' mine n d zs has.named has.due.timed in
+        let asleep = asleep_apart w.index rs rs' ss ss' mine n d zs has.named has.due.asleep (sleepers_stay ss ss' endure_too) in
+        let due : IsDue x w.home.closing w.index w.moments s.config n d zs rs' ss' = assumption (timed, asleep, has.due) in
+        let known : IsKnown w.index n.requests.items d.requests s.opens rs' = record {
+          past = λ k r at its.
+              let old = to.records_only k r at in
+              let was = has.known.past k old.0 old.1 (sym (worker_still old.0 r old.2) ∙ its) in
+              subst (λ (i : Id). (i.generation < 2 ^ 64) × IsPast d.requests i) (sym (ap (λ (y : Record). y.id.0) old.2.kept)) was;
+          counted = λ id past. subst (λ m. id.generation < m) (sym to.many) (has.known.counted id past);
+          few = subst (λ m. m ≤ 2 ^ 32) (sym to.many) has.known.few;
+          hints = λ id it r live at asks unrefused unhinted.
+              let old = record_back w.index rs rs' ss ss' mine n d zs has.named id r (live_of d.requests id it live) at in
+              subst (λ t. has_hint_at s.opens t ≡ false) (sym (ap (λ (y : Record). y.shown.operation.target) old.2.kept))
+              (has.known.hints id it old.0 live old.1 (ap (λ (y : Record). may_ask_hint y.shown.operation.kind) (sym old.2.kept) ∙ asks) (ap (λ (y : Record). y.shown.operation.unrefused) (sym old.2.kept) ∙ unrefused) unhinted);
+        } in
+        let target : (id : Id) (it : Waiter Reply Reply) (r : Record) → waiter_at (driver_of w).requests id ≡ Some it → slice_get rs' (number_in w.names.requests.items id) ≡ Some r → r.shown.operation.target ≡ target_of it.request = λ id it r live at.
+        let old = record_back w.index rs rs' ss ss' mine n d zs has.named id r (live_of d.requests id it live) at in
+        ap (λ (y : Record). y.shown.operation.target) old.2.kept ∙ has.carried.target id it old.0 live old.1 in
+        let carried : (id : Id) (it : Waiter Reply Reply) (r : Record) → waiter_at (driver_of w).requests id ≡ Some it → slice_get rs' (number_in w.names.requests.items id) ≡ Some r → IsUnderWay r.shown.phase (user_data_of id) it.request (driver_of w).ring = λ id it r live at.
+        let old = record_back w.index rs rs' ss ss' mine n d zs has.named id r (live_of d.requests id it live) at in
+        subst (λ (y : Record). IsUnderWay y.shown.phase (user_data_of id) it.request d.ring) (sym old.2.kept) (has.carried.carried id it old.0 live old.1) in
+        let carried_on : IsCarried n.requests.items d.requests d.ring rs' s.store = assumption (target, carried, to.room has.carried.room, has.carried) in
+        assumption (named, over, flown, rooted, due, known, carried_on)
+
+    pub sound_touched : (p : Place) (w : Worker) → SoundAt p w s → SoundAt p w s'
+    sound_touched p w sound =
+        let rs = s.requests.items in
+        let rs' = s'.requests.items in
+        let ss = s.sleepers.items in
+        let ss' = s'.sleepers.items in
         let s1 : Shared B = record s { requests = s'.requests; sleepers = s'.sleepers } in
+        let again = has_touched (served_in p) w (assumption sound) in
         let gates : AreLinedUp s.opens rs' = lined_kept rs rs' to.lines s.opens sound.gates in
-        let named = named_apart w.index rs rs' ss ss' mine n d zs sound.named in
-        let over = over_apart w.index rs rs' ss ss' mine n.ended.items n.unreleased (pending_count d.requests) sound.over in
-        let flown = flown_apart w.index rs rs' ss ss' mine n d zs sound.named (served_in p) owning sound.flown in
-        let rooted = rooted_apart w.index rs rs' ss ss' mine n d zs sound.named w.home.deferred sound.rooted in
-        let hears = heard_apart w.index rs rs' ss ss' mine (heard_at p) sound.hears in
+        let hears = heard_apart w.index rs rs' ss ss' (keeps_mine w.index) (heard_at p) sound.hears in
         let mail : (m : Mail) → Contains w.batch.values m → IsMyMail s.config.workers w.index m rs' ss' = λ m has. mail_apart rs rs' ss ss' endure endure_too s.config.workers w.index m (sound.mine m has) in
         let letters : HasLetters (sends_cancel_at p) (cancels_at p) w.index s.config.workers w.letters rs' ss' = record {
           some = sound.letters.some;
@@ -151,40 +131,7 @@ module _ {B : Type 0} where
           timer = λ h is. letter_apart rs rs' ss ss' endure endure_too s.config.workers w.index (Subject.Timer h.number) h.worker (sound.letters.timer h is);
         } in
         let stops : Stops (polls_at p) (step_of_poll p) w.index s.tasks.items rs' ss' = stops_touched (polls_at p) (step_of_poll p) w.index s.tasks.items sound.stops in
-        let due : IsDue (served_in p) w.home.closing w.index w.moments s.config n d zs rs' ss' = record {
-          punctual = sound.due.punctual;
-          told = sound.due.told;
-          wheel = sound.due.wheel;
-          timed = timed_apart w.index rs rs' ss ss' mine n d zs sound.named sound.due.timed;
-          asleep = asleep_apart w.index rs rs' ss ss' mine n d zs sound.named sound.due.asleep (sleepers_stay ss ss' endure_too);
-          order = sound.due.order;
-        } in
-        let known : IsKnown w.index n.requests.items d.requests s.opens rs' = record {
-          past = λ k r at its.
-              let old = to.records_only k r at in
-              let was = sound.known.past k old.0 old.1 (sym (worker_still old.0 r old.2) ∙ its) in
-              subst (λ (i : Id). (i.generation < 2 ^ 64) × IsPast d.requests i) (sym (ap (λ (y : Record). y.id.0) old.2.kept)) was;
-          counted = λ id past. subst (λ m. id.generation < m) (sym to.many) (sound.known.counted id past);
-          few = subst (λ m. m ≤ 2 ^ 32) (sym to.many) sound.known.few;
-          hints = λ id it r live at asks unrefused unhinted.
-              let old = record_back w.index rs rs' ss ss' mine n d zs sound.named id r (live_of d.requests id it live) at in
-              subst (λ t. has_hint_at s.opens t ≡ false) (sym (ap (λ (y : Record). y.shown.operation.target) old.2.kept))
-              (sound.known.hints id it old.0 live old.1 (ap (λ (y : Record). may_ask_hint y.shown.operation.kind) (sym old.2.kept) ∙ asks) (ap (λ (y : Record). y.shown.operation.unrefused) (sym old.2.kept) ∙ unrefused) unhinted);
-        } in
-        let carried : Carried w s1 = record {
-          slots = sound.carried.slots;
-          whole = sound.carried.whole;
-          target = λ id it r live at.
-              let old = record_back w.index rs rs' ss ss' mine n d zs sound.named id r (live_of d.requests id it live) at in
-              ap (λ (y : Record). y.shown.operation.target) old.2.kept ∙ sound.carried.target id it old.0 live old.1;
-          carried = λ id it r live at.
-              let old = record_back w.index rs rs' ss ss' mine n d zs sound.named id r (live_of d.requests id it live) at in
-              subst (λ (y : Record). IsUnderWay y.shown.phase (user_data_of id) it.request d.ring) (sym old.2.kept) (sound.carried.carried id it old.0 live old.1);
-          nobody = sound.carried.nobody;
-          room = to.room sound.carried.room;
-          stretch = sound.carried.stretch;
-        } in
-        let there : SoundAt p w s1 = assumption (gates, named, over, flown, rooted, hears, mail, letters, stops, due, known, carried, sound) in
+        let there : SoundAt p w s1 = assumption (gates, hears, mail, letters, stops, again, sound) in
         subst (SoundAt p w) (sym to.kept) there
       where
         stops_touched : (o : Option ℕ) (x : InPoll) (i : ℕ) (tasks : List (TaskSlot B)) → Stops o x i tasks s.requests.items s.sleepers.items → Stops o x i tasks s'.requests.items s'.sleepers.items

@@ -3,7 +3,7 @@ use Rattle.std.proofs.{Common.{◌≡◌, ◌≢◌, ◌⊎◌, ⊎_elim, ℕ, z
 use Rattle.exec_base.specs.declared.one_shot.OneShotState.TheVariants.{Open}
 use Rattle.exec_machine.specs.{declared.state.Forwarding.Forwarding, Tests.is_unsent}
 use Rattle.exec_words.specs.declared.inbox.Message.{Message}
-use Rattle.exec_parts.{specs.{declared.parts.{held.Held.Held, mail.Subject.Subject}, Records.numbers_held}, proofs.Facts.{by_number, same_thing, set_elsewhere, set_there}}
+use Rattle.exec_parts.{specs.{declared.parts.{held.Held.Held, mail.Subject.Subject}, Records.numbers_held}, proofs.Facts.{by_number, same_Some, set_elsewhere, set_there}}
 use Rattle.exec_invariants.{specs.Holding.{Awaits, AwaitsThing, Box, Hands, HasAnswer, Holder, HoldsRequest, IsAbout, IsForwarded, IsHeldBy, IsHolding, Mail, MayHave, Nap, Owes, Thing, ThingOwes, holdings, is_awaited_by, mail_in, under_way}, proofs.{HoldRedo.holding_redone, HoldSteps.{awaits_on, held_in, held_there, hold_twice, holdings_on, homes_on, waiters_on}}}
 use Rattle.exec_parts.specs.declared.parts.mail.Subject.TheVariants as subject
 
@@ -12,7 +12,7 @@ use Rattle.exec_parts.specs.declared.parts.mail.Subject.TheVariants as subject
 -- a number is that of what is held
 pub held_number : (held : List Held) (j k : ℕ) → slice_get (numbers_held held) j ≡ Some k → (x : Held) × (slice_get held j ≡ Some x) × (x.number ≡ k)
 held_number [] j k at = absurd (cc)
-held_number (x ∷ xs) zero k at = (x, refl, same_thing x.number k at)
+held_number (x ∷ xs) zero k at = (x, refl, same_Some x.number k at)
 held_number (x ∷ xs) (suc j) k at = held_number xs j k at
 
 module _ (h h' : Hands) (workers : ℕ) (hs : List Holder) (ts : List Thing) (naps : List Nap) (boxes : List Box) (t k : ℕ) (it it' : Holder) (r : Thing) (f : Forwarding) where
@@ -44,9 +44,10 @@ module _ (h h' : Hands) (workers : ℕ) (hs : List Holder) (ts : List Thing) (na
 
   pub holds_alone : slice_get hs t ≡ Some it → slice_get ts k ≡ Some r → (j : ℕ) → slice_get (numbers_held it.held) j ≡ Some k → (box : Box) → slice_get boxes r.worker ≡ Some box → IsHolding h workers hs ts naps boxes → HoldsAlone
   holds_alone there thing j at box seat old =
+      let by_shut : (shut held : Bool) → 2 ≤ holdings k hs → IsHeldBy shut held (holdings k hs) (under_way h (Message.Cancel (subject.Request k)) boxes) → ⊥ = grind arith in
       let x = held_number it.held j k at in
       let held = old.holds t it j x.0 there x.1 in
-      let is : held.0 ≡ r = same_thing held.0 r (sym held.1 ∙ ap (slice_get ts) x.2 ∙ thing) in
+      let is : held.0 ≡ r = same_Some held.0 r (sym held.1 ∙ ap (slice_get ts) x.2 ∙ thing) in
       let mine = held_there k it.held j x.0 x.1 x.2 in
       record {
         x = x.0;
@@ -57,12 +58,26 @@ module _ (h h' : Hands) (workers : ℕ) (hs : List Holder) (ts : List Thing) (na
             let both = hold_twice k hs t u it o apart there at_u in
             by_shut box.shut r.observed (omega (arith, mine, theirs, both)) (old.held k r box thing seat);
       }
-    where
-      by_shut : (shut held : Bool) → 2 ≤ holdings k hs → IsHeldBy shut held (holdings k hs) (under_way h (Message.Cancel (subject.Request k)) boxes) → ⊥
-      by_shut = grind arith
 
   pub thing_awaited : WaitsFor → IsHolding h workers hs ts naps boxes → IsHolding h' workers (slice_set hs t it') (slice_set ts k (record r { waiter = Some t; forwarding = f })) naps boxes
   thing_awaited by old =
+      let same_request : (n m : ℕ) → subject.Request n ≡ subject.Request m → n ≡ m = λ n m e. cc in
+      let owes_its : WaitsFor → (i u : ℕ) → u ≡ t → Owes i u (Some (subject.Request k)) ts naps boxes → Owes i u (Some (subject.Request k)) (slice_set ts k (record r { waiter = Some t; forwarding = f })) naps boxes = λ by i u me owes.
+      let is : owes.0 ≡ r = same_Some owes.0 r (sym owes.1 ∙ by.thing) in
+      let it_owes : ThingOwes i u r boxes = subst (λ x. ThingOwes i u x boxes) is owes.2 in (
+        record r { waiter = Some t; forwarding = f },
+        set_there ts k (record r { waiter = Some t; forwarding = f }) r by.thing,
+        record { worker = it_owes.worker; waiter = ap (λ n. Some n) (sym me); unpaid = it_owes.unpaid; unsent = it_owes.unsent; over = it_owes.over },
+      ) in
+      let owes_mine : WaitsFor → (i u : ℕ) → u ≡ t → Owes i u it.awaits ts naps boxes → Owes i u (Some (subject.Request k)) (slice_set ts k (record r { waiter = Some t; forwarding = f })) naps boxes = λ by i u me owes.
+      ⊎_elim
+      (λ none. absurd (subst (λ a. Owes i u a ts naps boxes) none owes))
+      (λ its. owes_its by i u me (subst (λ a. Owes i u a ts naps boxes) its owes)) by.awaited in
+      let same_holdings : (n : ℕ) → it'.held ≡ it.held → slice_get hs t ≡ Some it → holdings n (slice_set hs t it') ≡ holdings n hs = grind (arith, holdings_on, held_in) in
+      let waits_same : WaitsFor → (n : ℕ) → it'.awaits ≡ Some (subject.Request k) → (not it'.over && is_awaited_by (subject.Timer n) it'.awaits) ≡ (not it.over && is_awaited_by (subject.Timer n) it.awaits) = grind arith in
+      -- another task isn't owed a wake by it
+      let owes_on : WaitsFor → (i u : ℕ) → (a : Option Subject) → (r.waiter ≡ Some u → ⊥) → Owes i u a ts naps boxes → Owes i u a (slice_set ts k (record r { waiter = Some t; forwarding = f })) naps boxes =
+      grind (arith, by_number, set_elsewhere, same_Some) in
       let r' : Thing = record r { waiter = Some t; forwarding = f } in
       let hs' : List Holder = slice_set hs t it' in
       let mine = holds_alone by.there by.thing (length (numbers_held it.held) - 1) by.newest by.box by.seat old in
@@ -73,9 +88,9 @@ module _ (h h' : Hands) (workers : ℕ) (hs : List Holder) (ts : List Thing) (na
       let home : it'.home ≡ it.home = ap (λ (x : Holder). x.home) by.waits in
       let here : IsSome it'.home → is_unsent f ≡ true = λ some. at_home by (is_unsent f) refl (subst (λ q. IsSome q) home some) in
       let waits_none : (s : Subject) → (s ≡ subject.Request k → ⊥) → it.awaits ≡ Some s → ⊥ = λ s apart is.
-      ⊎_elim (λ none. let no : None ≡ Some s = sym none ∙ is in absurd (cc)) (λ its. apart (same_thing s (subject.Request k) (sym is ∙ its))) by.awaited in
-      let me : (u : ℕ) → Some t ≡ Some u → t ≡ u = λ u is. same_thing t u is in
-      let its : (u : ℕ) (o : Holder) → Some t ≡ Some u → slice_get hs' u ≡ Some o → it' ≡ o = λ u o is at. same_thing it' o (sym now ∙ subst (λ m. slice_get hs' m ≡ Some o) (sym (me u is)) at) in
+      ⊎_elim (λ none. let no : None ≡ Some s = sym none ∙ is in absurd (cc)) (λ its. apart (same_Some s (subject.Request k) (sym is ∙ its))) by.awaited in
+      let me : (u : ℕ) → Some t ≡ Some u → t ≡ u = λ u is. same_Some t u is in
+      let its : (u : ℕ) (o : Holder) → Some t ≡ Some u → slice_get hs' u ≡ Some o → it' ≡ o = λ u o is at. same_Some it' o (sym now ∙ subst (λ m. slice_get hs' m ≡ Some o) (sym (me u is)) at) in
       let near : MayHave workers it'.home r.worker = subst (λ q. MayHave workers q r.worker) (sym home) mine.holds.near in
       let silent : r.sent ≡ false = never_sent (r.sent) refl by old in
       holding_redone h h' workers hs hs' ts naps boxes (Some t) k r r' (record {
@@ -113,7 +128,7 @@ module _ (h h' : Hands) (workers : ℕ) (hs : List Holder) (ts : List Thing) (na
                   })),
             ))
             (λ same.
-            let is_r : held.0 ≡ r = same_thing held.0 r (sym held.1 ∙ ap (slice_get ts) same ∙ by.thing) in (
+            let is_r : held.0 ≡ r = same_Some held.0 r (sym held.1 ∙ ap (slice_get ts) same ∙ by.thing) in (
               r',
               subst (λ m. slice_get (slice_set ts k r') m ≡ Some r') (sym same) (set_there ts k r' r by.thing),
               subst (λ v. HoldsRequest workers v o x r') (me u is) (subst (λ y. HoldsRequest workers t y x r') be
@@ -128,7 +143,7 @@ module _ (h h' : Hands) (workers : ℕ) (hs : List Holder) (ts : List Thing) (na
         holds_else = λ u o j x apart at_u at_j is held. absurd (mine.alone u o j x (λ e. apart (ap (λ n. Some n) e)) at_u at_j is);
         awaiting = λ u o n is at_u awaits_n.
             let be = its u o is at_u in
-            let same : k ≡ n = same_request k n (same_thing (subject.Request k) (subject.Request n) (sym awaits ∙ ap (λ (y : Holder). y.awaits) be ∙ awaits_n)) in
+            let same : k ≡ n = same_request k n (same_Some (subject.Request k) (subject.Request n) (sym awaits ∙ ap (λ (y : Holder). y.awaits) be ∙ awaits_n)) in
             subst (λ m. (rx : Thing) × (slice_get (slice_set ts k r') m ≡ Some rx) × AwaitsThing workers u m o rx) same (
               r',
               set_there ts k r' r by.thing,
@@ -150,7 +165,7 @@ module _ (h h' : Hands) (workers : ℕ) (hs : List Holder) (ts : List Thing) (na
               by_number u t
                   (λ other. record { it = o.1.it; there = set_elsewhere hs t u it' other ∙ o.1.there; owes = owes_on by i u o.1.it.awaits (λ w. other (mine.holds.waiter u w)) o.1.owes })
                   (λ same.
-                  let same_it : it ≡ o.1.it = same_thing it o.1.it (sym by.there ∙ ap (slice_get hs) (sym same) ∙ o.1.there) in
+                  let same_it : it ≡ o.1.it = same_Some it o.1.it (sym by.there ∙ ap (slice_get hs) (sym same) ∙ o.1.there) in
                   record {
                     it = it';
                     there = subst (λ m. slice_get hs' m ≡ Some it') (sym same) now;
@@ -160,9 +175,6 @@ module _ (h h' : Hands) (workers : ℕ) (hs : List Holder) (ts : List Thing) (na
             );
       }) old
     where
-      same_request : (n m : ℕ) → subject.Request n ≡ subject.Request m → n ≡ m
-      same_request n m e = cc
-
       at_home : WaitsFor → (b : Bool) → is_unsent f ≡ b → IsSome it.home → is_unsent f ≡ true
       at_home by true is some = is
       at_home by false is some = absurd (false≢true (subst (λ q. IsSome q) (by.ordinary is) some))
@@ -170,28 +182,3 @@ module _ (h h' : Hands) (workers : ℕ) (hs : List Holder) (ts : List Thing) (na
       never_sent : (b : Bool) → r.sent ≡ b → WaitsFor → IsHolding h workers hs ts naps boxes → r.sent ≡ false
       never_sent false is by old = is
       never_sent true is by old = absurd (false≢true (sym (ap is_unsent (old.sent k r by.thing is)) ∙ by.unsent))
-
-      same_holdings : (n : ℕ) → it'.held ≡ it.held → slice_get hs t ≡ Some it → holdings n (slice_set hs t it') ≡ holdings n hs
-      same_holdings = grind (arith, holdings_on, held_in)
-
-      waits_same : WaitsFor → (n : ℕ) → it'.awaits ≡ Some (subject.Request k) → (not it'.over && is_awaited_by (subject.Timer n) it'.awaits) ≡ (not it.over && is_awaited_by (subject.Timer n) it.awaits)
-      waits_same = grind arith
-
-      -- another task isn't owed a wake by it
-      owes_on : WaitsFor → (i u : ℕ) → (a : Option Subject) → (r.waiter ≡ Some u → ⊥) → Owes i u a ts naps boxes → Owes i u a (slice_set ts k (record r { waiter = Some t; forwarding = f })) naps boxes
-      owes_on = grind (arith, by_number, set_elsewhere, same_thing)
-
-      owes_its : WaitsFor → (i u : ℕ) → u ≡ t → Owes i u (Some (subject.Request k)) ts naps boxes → Owes i u (Some (subject.Request k)) (slice_set ts k (record r { waiter = Some t; forwarding = f })) naps boxes
-      owes_its by i u me owes =
-          let is : owes.0 ≡ r = same_thing owes.0 r (sym owes.1 ∙ by.thing) in
-          let it_owes : ThingOwes i u r boxes = subst (λ x. ThingOwes i u x boxes) is owes.2 in (
-            record r { waiter = Some t; forwarding = f },
-            set_there ts k (record r { waiter = Some t; forwarding = f }) r by.thing,
-            record { worker = it_owes.worker; waiter = ap (λ n. Some n) (sym me); unpaid = it_owes.unpaid; unsent = it_owes.unsent; over = it_owes.over },
-          )
-
-      owes_mine : WaitsFor → (i u : ℕ) → u ≡ t → Owes i u it.awaits ts naps boxes → Owes i u (Some (subject.Request k)) (slice_set ts k (record r { waiter = Some t; forwarding = f })) naps boxes
-      owes_mine by i u me owes =
-          ⊎_elim
-          (λ none. absurd (subst (λ a. Owes i u a ts naps boxes) none owes))
-          (λ its. owes_its by i u me (subst (λ a. Owes i u a ts naps boxes) its owes)) by.awaited

@@ -1,5 +1,7 @@
 -- One more result of a request of the first kinds: the driver and the machine judge it the same.
-use Rattle.std.{proofs.{Common.{◌≡◌, ℕ, ◌+◌, ◌-◌, ◌^◌, ◌<◌, ◌≤◌, ◌&&◌, Bool, true, false, not, [], Option, None, refl, sym, ap, ◌∙◌, arith, nat_le, ◌⊎◌}, lemmas.Bool.{Decides.nat_tests}}}
+use Rattle.std.{proofs.{Common.{◌≡◌, ℕ, ◌+◌, ◌-◌, ◌^◌, ◌<◌, ◌≤◌, ◌&&◌, Bool, true, false, not, Option, None, sym, ap, ◌∙◌, arith, nat_le, ◌⊎◌}, lemmas.Bool.{Decides.nat_tests}}}
+use Rattle.std.proofs.lemmas.Bool.{and_parts}
+use Rattle.std.proofs.Math.Bool.{and-true}
 use Rattle.exec_outcomes.specs.{Lawful.{is_lawful, window_in, window_of}, Outcomes.{Asked, Cursor, Part, bytes_of, counted_for, cursor_next, outcome_next, part_now, refuses_hint}, declared.outcome.{Judged.Judged, Kind.Kind, OpResult.{OpResult, TheVariants.{Count, Errno}}, Outcome.Outcome}}
 use Rattle.exec_request.specs.{Judging.{Judges, judged_as}, Requests.{asked_of, cursor_of, hinted_of}, declared.request.Request.Request as Asking}
 use Rattle.exec_waiters.specs.declared.waiter.Waiter.{Waiter}
@@ -8,13 +10,6 @@ use Rattle.exec_parts.{specs.declared.parts.mail.Reply.Reply}
 use Rattle.exec_invariants.specs.Names.{IsAlike}
 
 -- WHAT A RESULT MEANS doesn't hang on whether the operations may still have the hint
-
-and_parts : (a b : Bool) → (a && b) ≡ true → (a ≡ true) × (b ≡ true)
-and_parts = grind arith
-
-and_true : (a : Bool) → (a && true) ≡ a
-and_true true = refl
-and_true false = refl
 
 or_refused : (hinted refused unrefused after : Bool) → (hinted && not refused) ≡ false → after ≡ (unrefused && not refused) → (hinted ≡ false) ⊎ (after ≡ false)
 or_refused = grind arith
@@ -37,7 +32,7 @@ module _ (start tick : ℕ) (it : Waiter Reply Reply) (r : Request) (a : IsAlike
   -- whether it may still have a hint
   pub asks_after : (q : Asking) (answer : Option Outcome) → Judges (asked_of it.request) (cursor_of it.request) (cursor_of q) (judged_as (hinted_of it.request) it.state given) answer
       → (cursor_of q).hinted ≡ true → ((cursor_of it.request).hinted ≡ true) × ((went_on r given).unrefused ≡ r.operation.unrefused)
-  asks_after = grind (arith, and_parts, judged_same, and_true)
+  asks_after = grind (arith, and_parts, judged_same, and-true)
 
   pub forgets_after : (q : Asking) (answer : Option Outcome) → Judges (asked_of it.request) (cursor_of it.request) (cursor_of q) (judged_as (hinted_of it.request) it.state given) answer
       → (cursor_of q).hinted ≡ false → ((cursor_of it.request).hinted ≡ false) ⊎ ((went_on r given).unrefused ≡ false)

@@ -84,6 +84,8 @@ module _ (i : ℕ) (numbers : List ℕ) (requests : Slab (Entry Reply Reply)) (o
       → ((cursor_of it'.request).hinted ≡ false → ((cursor_of it.request).hinted ≡ false) ⊎ ((f r).shown.operation.unrefused ≡ false)) ⊎ (has_hint_at opens' (f r).shown.operation.target ≡ false)
       → IsKnown i numbers requests opens rs → IsKnown i numbers (written requests id (Pending it')) opens' (changed_at rs k f)
   known_written id it it' r number live there asks known =
+      let some : IsSome (value_at requests id) = rw (entry_of (value_at requests id) it live) refl in
+      let changed : OneChanged requests (written requests id (Pending it')) id (Some it) (Some it') = one_written requests id (Pending it) (Pending it') (entry_of (value_at requests id) it live) in
       known_on i numbers numbers requests (written requests id (Pending it')) opens opens' rs (changed_at rs k f)
       (λ other small past. (past-write requests id (Pending it') some other).1 past) (λ other past. (past-write requests id (Pending it') some other).0 past) (marked_length f rs k) mine_there hints
       (λ other x r' at found.
@@ -100,11 +102,5 @@ module _ (i : ℕ) (numbers : List ℕ) (requests : Slab (Entry Reply Reply)) (o
       grind arith))
       known
     where
-      some : IsSome (value_at requests id)
-      some = rw (entry_of (value_at requests id) it live) refl
-
-      changed : OneChanged requests (written requests id (Pending it')) id (Some it) (Some it')
-      changed = one_written requests id (Pending it) (Pending it') (entry_of (value_at requests id) it live)
-
       now_there : (xs : List Record) (n : ℕ) (g : Record → Record) (y : Record) → slice_get xs n ≡ Some y → slice_get (changed_at xs n g) n ≡ Some (g y)
       now_there xs n g y at = marked g xs n n y at ∙ ap (λ b. Some (mark_if g b y)) (eq-eqb n n refl)

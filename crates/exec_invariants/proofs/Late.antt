@@ -1,15 +1,15 @@
 -- A deadline that has passed, or is beyond the wheel, ends its request.
-use Rattle.std.{proofs.{Common.{◌≡◌, ◌≢◌, ℕ, ◌+◌, ◌*◌, ◌^◌, ◌<◌, ◌≤◌, ◌==◌, ◌&&◌, true, false, not, [], ◌∷◌, ◌++◌, map, filter, is_some, Option, Some, None, IsSome, IfSome, refl, sym, ap, subst, ◌∙◌, arith, slice_get, slice_set, drop, Result, Ok, Err}, lemmas.Bool.{eq-eqb}}, specs.Option.option_map}
+use Rattle.std.{proofs.{Common.{◌≡◌, ◌≢◌, ℕ, ◌+◌, ◌*◌, ◌^◌, ◌<◌, ◌≤◌, ◌==◌, ◌&&◌, true, false, not, ◌∷◌, ◌++◌, map, filter, is_some, Option, Some, None, IsSome, IfSome, refl, sym, ap, subst, ◌∙◌, arith, slice_get, slice_set, drop, Result, Ok, Err}, lemmas.Bool.{eq-eqb}}, specs.Option.option_map}
 use Rattle.exec_base.specs.{Slab.value_at, declared.error.Error.Error}
 use Rattle.exec_outcomes.specs.{Accounts.is_durable, declared.outcome.Outcome.{Outcome, TheVariants.Failure}}
 use Rattle.exec_request.specs.{Requests.{deadline_of, output_of}, declared.request.Request.Request as Asking}
 use Rattle.exec_waiters.specs.{Events.{finished, told_by_finish, waker_in}, States.{tick_in, flying_count}, Told.{Tells, Told}, declared.waiter_id.WaiterId.WaiterId}
-use Rattle.exec_driver.specs.{Driving.{Driving, request_at, is_queued, is_unenrolled, is_cancelled}, Lists.{first_of, rest_of, is_among, after_enrolment, without, withdrawn}, Punctual.IsPunctual, Steps.{enrolled_by, told_by_enrolment, tick_for, ended_by, unscheduled}}
+use Rattle.exec_driver.specs.{Driving.{Driving, request_at, is_queued, is_unenrolled, is_cancelled}, Lists.{first_of, rest_of, is_among, without, withdrawn}, Punctual.IsPunctual, Steps.{told_by_enrolment, tick_for, ended_by, unscheduled}}
 use Rattle.exec_task.specs.declared.body.Said.{Said}
 use Rattle.exec_machine.specs.{declared.{event.Event.{Event, TheVariants.Enrol}, state.Request.Request}, Deadlines.outcome_at_enrol, Same.{is_none, is_number, same_end}, Tests.{is_gated, is_queued as is_phase_queued, is_resolved}, World.{Common, request_of}, Requests.resolved}
-use Rattle.exec_moves.specs.{Move.move_submit, Told.{told_of_end}, State.Desk, Submit.{due_next, first_due, submits, Due.Enrols}, declared.place.{Service.Service, Place.Place, InService.InService}}
-use Rattle.exec_parts.{specs.{declared.parts.{mail.Reply.Reply, record.Record.Record, shared.Shared.Shared, worker.Worker.Worker}, Records.number_in, Serving.{changed_at, outcome_of_error}, Spots.Spot, View.{visible, with_view, own_of, desk_of, driver_of, common_of, seat_seen, things_with, numbers_of}}, proofs.Facts.and_none}
-use Rattle.exec_invariants.{specs.{Due.IsWheelAt, Gates.at_gate, Holding.nap_of, HoldPlaces.is_bare_at, Places.passes_at, Submits.IsNewIn, Works.Steps, Rooted.outcome_told}, proofs.{Serving.{at_large, SparesRecords, kept, spares_one}, ServingHolds.{serves_to, IsServed, OthersKept, keeps_home, Serves, Keeps, KeepsBy}, ServingPlaces.calm, Recorded.request_seen, EndsServed.{desk_over, ends_thing}, Lined.opens_same, ServedEnds.{TellsEnd, ends_told}, ServedWakes.balances_ended, Enrolled.{HasEnrolled, new_first, timed_free}, Keys.name_in, Enrolling.enrol_same, Idling.none_due, Seeing.{makes, shows, served, common_changed, common_same, things_kept, desk_with}, Staging.{split_first, stages_again}, Ends.{flying_ended, later_in, numbers_without, without_first}, Orders.alike_unticked, Ousting.keeps_ended, Over.OneEnds, Resolving.{slab_after, unticked_at}, Timed.{comes_to_new, move_enrol, unset}}}
+use Rattle.exec_moves.specs.{Told.{told_of_end}, State.Desk, Submit.{due_next, first_due, submits, Due.Enrols}, declared.place.{Service.Service, Place.Place, InService.InService}}
+use Rattle.exec_parts.{specs.{declared.parts.{mail.Reply.Reply, record.Record.Record, shared.Shared.Shared, worker.Worker.Worker}, Records.number_in, Serving.{changed_at, outcome_of_error}, Spots.Spot, View.{visible, with_view, own_of, desk_of, driver_of, common_of, seat_seen, numbers_of}}, proofs.Facts.and_right}
+use Rattle.exec_invariants.{specs.{Due.IsWheelAt, Gates.at_gate, Holding.nap_of, HoldPlaces.is_bare_at, Places.passes_at, Submits.IsNewIn, Works.Steps, Rooted.outcome_told}, proofs.{Serving.{at_large, SparesRecords, kept, spares_one}, ServingHolds.{serves_to, IsServed, OthersKept, keeps_home, Serves, Keeps, KeepsBy}, ServingPlaces.calm, Recorded.request_seen, EndsServed.{desk_over, ends_thing}, Lined.opens_same, ServedEnds.{TellsEnd, ends_told}, ServedWakes.balances_ended, Enrolled.{HasEnrolled, new_first, timed_free}, Keys.name_in, Enrolling.enrol_same, Idling.none_due, Seeing.{shows, served, common_changed, common_same, things_kept}, Staging.{split_first, stages_again}, Ends.{flying_ended, later_in, numbers_without, without_first}, Orders.alike_unticked, Ousting.keeps_ended, Over.{OneEnds, Resolves}, Resolving.{slab_after, unticked_at}, Timed.{comes_to_new, unset}}}
 pub use Rattle.exec_invariants.proofs.Results.{same_error_self}
 pub use Rattle.exec_invariants.proofs.Mine.{stands}
 
@@ -33,7 +33,7 @@ ends_as outcome r = record r { shown = resolved outcome r.shown }
 -- the name of one that isn't durable stays
 pub over_named : (outcome : Outcome) (r : Record) → is_durable r.shown.operation.kind ≡ false → name_in (ends_as outcome r) ≡ name_in r
 over_named outcome r undurable =
-    ap (λ c. record (name_in r) { over = true && c }) undurable ∙ sym (ap (λ c. record (name_in r) { over = c }) (and_none (is_resolved r.shown.phase) (is_durable r.shown.operation.kind) undurable))
+    ap (λ c. record (name_in r) { over = true && c }) undurable ∙ sym (ap (λ c. record (name_in r) { over = c }) (and_right (is_resolved r.shown.phase) (is_durable r.shown.operation.kind) undurable))
 
 module _ {B L : Type 0} (left : B → L) (spot : L → Option Said → Spot) where
   pub enrol_ends : (w w' : Worker) (s s' : Shared B) (e : Event) (id : WaiterId) (error : Error) → (new : IsNewIn w s) → first_of (driver_of w).lists.enrolments ≡ Some id → HasEnrolled w w' s s' e id (Some error) → Steps left spot w s e w' s'
@@ -60,9 +60,7 @@ module _ {B L : Type 0} (left : B → L) (spot : L → Option Said → Spot) whe
       let split : d.lists.enrolments ≡ id ∷ others = split_first id d.lists.enrolments first in
       let enrolments : without id others ≡ without id d.lists.enrolments = sym (ap (without id) split ∙ without_first id others) in
       let d' : Driving Reply Reply = record d { requests = finished d.requests id.0 it (Err error) None; wheel = unscheduled d.wheel (tick_in it.state); lists = withdrawn id d.lists } in
-      let driver : driver_of w' ≡ d' =
-      enrols.driver ∙ ap (enrolled_by (record d { lists = after_enrolment d.lists }) id it) ending
-      ∙ ap (λ ids. record d' { lists = record (withdrawn id d.lists) { enrolments = ids } }) enrolments in
+      let driver : driver_of w' ≡ d' = grind (arith, enrols.driver, ending, enrolments) in
       let t : Told Reply Reply = told_by_finish id.0 it (Err error) None in
       let tells : Tells w.home.deferred w'.home.deferred t = subst (λ x. Tells w.home.deferred w'.home.deferred (told_by_enrolment id it x)) ending enrols.tells in
       let begun : start ≤ now = omega (arith, sound.time.begun, sound.time.ordered) in
@@ -78,12 +76,9 @@ module _ {B L : Type 0} (left : B → L) (spot : L → Option Said → Spot) whe
       let small = who.small in
       let undurable : is_durable who.r.shown.operation.kind ≡ false = ap (λ a. is_durable a.kind) a.asked ∙ timed_free it.request dated in
       let ending_told : TellsEnd id.0 told it.observer t = ends_told id.0 it (Err error) None who.r.shown.forwarding a.near in
-      let one : OneEnds w.names d d'.requests rs id.0 it who.r (ends_as outcome) outcome told = record {
-        at = who.live;
-        there = who.there;
-        slab = slab_after d.requests id.0 it (Err error) None small who.live;
-        ends = record { same = refl };
-      } in
+      let slab = slab_after d.requests id.0 it (Err error) None small who.live in
+      let ends : Resolves who.r ((ends_as outcome) who.r) outcome = record { same = refl } in
+      let one : OneEnds w.names d d'.requests rs id.0 it who.r (ends_as outcome) outcome told = assumption (who.live, slab, ends, who) in
       let deferred = w'.home.deferred in
       let w1 : Worker = record w { place = q; names = record w.names { ended = w'.names.ended }; home = record w.home { deferred = deferred } } in
       let rs' = changed_at rs k (ends_as outcome) in
@@ -130,18 +125,11 @@ module _ {B L : Type 0} (left : B → L) (spot : L → Option Said → Spot) whe
       (none_due _ w.index w.moments s.config w.names d w.home.timers rs s.sleepers.items sound.due sound.named sound.config.some_tick begun (own_of w0) all refl refl new.due) in
       let due : due_next cp w.index gate (own_of w0) all (desk_of w0) ≡ Enrols k =
       comes_to_new cp w.index gate k (own_of w0) all (desk_of w0) none (ap (λ ks. slice_get ks 0) numbers) in
-      let desk : desk_of w' ≡ told_of_end k who.r.shown (desk_of w0) =
-      show.desk ∙ ap (λ y. desk_with w y w'.put_off deferred d') there ∙ ap (λ o. desk_with w q o deferred d') (ap (λ x. x.put_off) by.worker)
-      ∙ desk_over w s q sound id.0 it who.live who.r who.there told t deferred ending_told tells in
+      let desk : desk_of w' ≡ told_of_end k who.r.shown (desk_of w0) = grind (arith, show.desk, there, by.worker, desk_over w s q sound id.0 it who.live who.r who.there told t deferred ending_told tells) in
       let placed : submits v gate (told_of_end k who.r.shown (desk_of w0)) ≡ told_of_end k who.r.shown (desk_of w0) =
       same_place k who.r.shown (desk_of w0) v gate refl in
       record {
-        moves =
-            ap (move_submit cp w.index (own_of w0) all (desk_of w0) (things_with vs s) gate v) due
-            ∙ ap (λ o. move_enrol cp w.index (own_of w0) all (desk_of w0) (things_with vs s) gate v k o) ends
-            ∙ ap (λ x. makes (Enrol k (Some outcome)) (submits v gate (told_of_end k x (desk_of w0))) (things_with vs s)) request
-            ∙ ap (λ x. makes (Enrol k (Some outcome)) x (things_with vs s)) (placed ∙ sym desk)
-            ∙ ap (makes (Enrol k (Some outcome)) (desk_of w')) (sym (things_kept vs w.index (visible w) (visible w') s s' suits.seen (ap (λ y. y.wakes) seen) serves.shared spares));
+        moves = grind (arith, due, ends, request, placed, desk, things_kept vs w.index (visible w) (visible w') s s' suits.seen (ap (λ y. y.wakes) seen) serves.shared spares);
         may = (
           at_large q w s sound refl,
           (

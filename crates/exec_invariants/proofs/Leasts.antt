@@ -1,5 +1,6 @@
 -- The least of the moments that the elements of a list have.
 use Rattle.std.proofs.{Common.{◌≡◌, ℕ, suc, ◌≤◌, Bool, true, false, List, [], ◌∷◌, Option, Some, None, refl, sym, ap, ◌∙◌, arith, slice_get, nat_le, if◌then◌else◌}, lemmas.Bool.Decides.nat_tests}
+use Rattle.std.proofs.lemmas.Bool.{leb-true}
 use Rattle.exec_machine.specs.Deadlines.{earlier}
 
 -- element k has this moment
@@ -20,9 +21,6 @@ least_in f (x ∷ xs) = earlier (f x) (least_in f xs)
 
 is_later : (u m : ℕ) → nat_le u m ≡ false → m ≤ u
 is_later u m h = grind (arith, nat_tests, h)
-
-is_earlier : (u m : ℕ) → nat_le u m ≡ true → u ≤ m
-is_earlier u m h = grind (arith, nat_tests, h)
 
 at_most : (a b c : ℕ) → a ≤ b → b ≤ c → a ≤ c
 at_most a b c h k = omega (arith, h, k)
@@ -46,7 +44,7 @@ module _ {A : Type 0} (f : A → Option ℕ) where
       own n has = let it : Some u ≡ Some n = sym is ∙ has in cc
 
       by : (b : Bool) → nat_le u m ≡ b → IsLeast f (x ∷ xs) (if b then Some u else Some m)
-      by true le = (record { k = 0; x = x; there = refl; moment = is }, split (λ n. u ≤ n) x xs (λ n has. omega (arith, own n has)) (λ n h. at_most u m n (is_earlier u m le) (least.1 n h)))
+      by true le = (record { k = 0; x = x; there = refl; moment = is }, split (λ n. u ≤ n) x xs (λ n has. omega (arith, own n has)) (λ n h. at_most u m n (leb-true u m le) (least.1 n h)))
       by false gt = (further x xs m least.0, split (λ n. m ≤ n) x xs (λ n has. at_most m u n (is_later u m gt) (omega (arith, own n has))) least.1)
 
   pub least_there : (xs : List A) → IsLeast f xs (least_in f xs)

@@ -8,7 +8,7 @@ use Rattle.exec_waiters.{specs.{Events.{cancelled as cancelled_of, told_to, with
 use Rattle.exec_driver.specs.{Driving.Driving, Punctual.IsPunctual}
 use Rattle.exec_machine.specs.{declared.state.{Forwarding.{Forwarding, TheVariants.Applied}, Request.Request, RequestPhase.RequestPhase}, Requests.{dropped, ends_by_drop, is_cancelled_by_drop, resolved}, Tests.{is_applied, is_in_flight, is_kept, is_queued, is_resolved}}
 use Rattle.exec_moves.specs.declared.handing.Heard.{Heard}
-use Rattle.exec_parts.{specs.{declared.parts.{mail.Reply.Reply, record.Record.Record, shared.Shared.Shared, worker.Worker.Worker}, Polls.unobserved, Records.number_in, Serving.changed_at}, proofs.Facts.{and_none, by_name, not_same, or_right, same_thing}}
+use Rattle.exec_parts.{specs.{declared.parts.{mail.Reply.Reply, record.Record.Record, shared.Shared.Shared, worker.Worker.Worker}, Polls.unobserved, Records.number_in, Serving.changed_at}, proofs.Facts.{and_right, by_name, not_same, or_right, same_Some}}
 use Rattle.exec_invariants.{specs.{Due.IsWheelAt, Places.one_if as one_when, Rooted.{IsNear, IsReplyFor, IsResult, goes_elsewhere, is_of_request, results_of}, Names.{IsAlike, held_count, tellers}, Sound.served_in}, proofs.{Changing.{changes_one, pending_still}, HeldCounts.held_written, LetRooted.{Rewaits, TellsOne, keeps_watched, told_one}, Mine.live_mine, Resolving.{places_fewer, wide_ended}, ServedEnds.only_one, ServingHolds.KeepsWith, Watching.{Watched, now_there, still_pending}}}
 
 -- WHAT BECOMES OF ONE that may be there: it goes on alone where it changes a file, and else is cancelled, or over by this
@@ -115,7 +115,7 @@ module _ {B : Type 0} (w : Worker) (s : Shared B) (d d' : Driving Reply Reply) (
           none = still_pending d.requests d'.requests id it it' lets.live lets.slab;
           unkept = λ over. lets.unseen;
           near = λ x reply at forwarded.
-              let same : it' ≡ x = same_thing it' x (sym (changes_one d.requests id it it' lets.live).is_at ∙ sym (ap (λ y. waiter_at y id) lets.slab) ∙ at) in
+              let same : it' ≡ x = same_Some it' x (sym (changes_one d.requests id it it' lets.live).is_at ∙ sym (ap (λ y. waiter_at y id) lets.slab) ∙ at) in
               let no : Orphaned ≡ Forwarded reply = sym lets.alone ∙ ap (λ (y : Waiter Reply Reply). y.observer) same ∙ forwarded in
               absurd (cc);
           seen = λ h. absurd (false≢true (sym lets.unseen ∙ h));
@@ -160,15 +160,13 @@ module _ {B : Type 0} (w : Worker) (s : Shared B) (d d' : Driving Reply Reply) (
             ap (count_by (λ (x : Answer Reply). is_of_request j x.sender.of)) added ∙ last ∙ ap (λ b. results_of j w.home.deferred + one_when b) (not_same kk j apart) ∙ omega arith
 
         by_sent : (o : Observer Reply Reply) → it.observer ≡ o → IsNear o r.shown.forwarding → left'.results.items ≡ w.home.deferred.results.items ++ (told_to id o).results → r.shown.worker ≡ w.index → results_of kk left' + one_when r.sent ≡ one_when (goes_elsewhere (f r))
-        by_sent (Local waker) is near added mine =
-            ap (λ xs. count_by (λ (x : Answer Reply). is_of_request kk x.sender.of) xs + one_when r.sent) (added_none added) ∙ keeps.rooted.sent kk r lets.there mine
-            ∙ ap (λ b. one_when (b && (is_resolved r.shown.phase || not r.shown.observed))) near ∙ sym (ap (λ b. one_when (b && (is_resolved (f r).shown.phase || not (f r).shown.observed))) (ap is_applied lets.still ∙ near))
+        by_sent (Local waker) is near added mine = grind (arith, added_none added, keeps.rooted.sent kk r lets.there mine, near, lets.still)
         by_sent (DetachedSync reply) is near added mine = absurd near
         by_sent Orphaned is near added mine = absurd (false≢true (sym (ap is_held_by is) ∙ lets.observed))
         by_sent (Forwarded reply) is near added mine =
             let last = count_last kk w.home.deferred.results.items (record { id = record { 0 = id }; sender = reply; result = Err Closed }) (reply_for reply is).of kk in
             let was : results_of kk w.home.deferred + one_when r.sent ≡ 0 = keeps.rooted.sent kk r lets.there mine
-            ∙ ap (λ b. one_when (is_applied r.shown.forwarding && (b || not r.shown.observed))) lets.open_still ∙ ap (λ b. one_when (is_applied r.shown.forwarding && (false || not b))) lets.held ∙ ap one_when (and_none (is_applied r.shown.forwarding) false refl) in
+            ∙ ap (λ b. one_when (is_applied r.shown.forwarding && (b || not r.shown.observed))) lets.open_still ∙ ap (λ b. one_when (is_applied r.shown.forwarding && (false || not b))) lets.held ∙ ap one_when (and_right (is_applied r.shown.forwarding) false refl) in
             let now : one_when (goes_elsewhere (f r)) ≡ 1 =
             ap (λ b. one_when (b && (is_resolved (f r).shown.phase || not (f r).shown.observed))) (ap is_applied lets.still ∙ near) ∙ ap (λ b. one_when (true && (is_resolved (f r).shown.phase || not b))) lets.unseen ∙ ap one_when (or_right (is_resolved (f r).shown.phase) true refl) in
             let all : results_of kk left' ≡ results_of kk w.home.deferred + 1 = ap (count_by (λ (x : Answer Reply). is_of_request kk x.sender.of)) added ∙ last ∙ ap (λ b. results_of kk w.home.deferred + one_when b) (eq-eqb kk kk refl) in
@@ -176,6 +174,12 @@ module _ {B : Type 0} (w : Worker) (s : Shared B) (d d' : Driving Reply Reply) (
 
     pub pending_let : IsPunctual d' → d'.lists.due ≡ [] → IsWheelAt s.config w.moments.start w.moments.sampled d'.wheel → KeepsWith spare (record w { home = record w.home { deferred = left' } }) d' w.home.timers rs_then s.sleepers.items s
     pending_let punctual due wheel =
+        let one_less : held_count d'.requests + 1 ≡ held_count d.requests =
+        let moved = held_written d.requests id (Pending it) (Pending it') (entry_of (value_at d.requests id) it lets.live) in
+        let was : one_if (is_held_by it.observer) ≡ 1 = ap one_if lets.observed in
+        let now : one_if (is_held_by it'.observer) ≡ 0 = ap (λ o. one_if (is_held_by o)) lets.alone in
+        let slab : held_count d'.requests ≡ held_count (written d.requests id (Pending it')) = ap held_count lets.slab in
+        omega (arith, moved, was, now, slab) in
         let zs = w.home.timers in
         let pending : pending_count d'.requests ≡ pending_count d.requests = ap pending_count lets.slab ∙ pending_still d.requests id it it' lets.live in
         let held : held_count d'.requests + 1 ≡ held_count d.requests = one_less in
@@ -187,11 +191,3 @@ module _ {B : Type 0} (w : Worker) (s : Shared B) (d d' : Driving Reply Reply) (
         (wide_ended (tellers d.requests zs + 64) (tellers d'.requests zs + 64) w.home.deferred left' (told_to id it.observer) less lets.tells keeps.wide)
         (lets.tells.notes.wakes_added ∙ ap (λ xs. w.home.deferred.notes.wakes.items ++ xs) to.wakes ∙ append-nil w.home.deferred.notes.wakes.items)
         pending punctual due wheel
-      where
-        one_less : held_count d'.requests + 1 ≡ held_count d.requests
-        one_less =
-            let moved = held_written d.requests id (Pending it) (Pending it') (entry_of (value_at d.requests id) it lets.live) in
-            let was : one_if (is_held_by it.observer) ≡ 1 = ap one_if lets.observed in
-            let now : one_if (is_held_by it'.observer) ≡ 0 = ap (λ o. one_if (is_held_by o)) lets.alone in
-            let slab : held_count d'.requests ≡ held_count (written d.requests id (Pending it')) = ap held_count lets.slab in
-            omega (arith, moved, was, now, slab)

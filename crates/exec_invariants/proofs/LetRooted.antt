@@ -7,8 +7,8 @@ use Rattle.exec_waiters.{specs.{States.{pending_count, waiter_at, waiter_of}, To
 use Rattle.exec_driver.specs.{Driving.Driving, Punctual.IsPunctual}
 use Rattle.exec_machine.specs.Tests.{is_applied, is_resolved}
 use Rattle.exec_moves.specs.declared.handing.Heard.{Heard}
-use Rattle.exec_parts.{specs.{declared.parts.{mail.Reply.Reply, names.Names.Names, record.Record.Record, shared.Shared.Shared, sleeping.SleeperRecord.SleeperRecord, worker.Worker.Worker}, Records.{number_in, outcome_in}, Calls.IsTold}, proofs.Facts.{by_name, by_number, never_true, same_thing}}
-use Rattle.exec_invariants.{specs.{Due.{IsDue, IsWheelAt}, Holding.{IsAnswerOf, thing_of}, Places.one_if, Rooted.{IsResult, IsRooted, Pays, goes_elsewhere, is_of_timer, results_of}, Sound.{AreOver, served_in}, Names.{HasWidth, IsNamed, tellers}}, proofs.{ServingHolds.KeepsWith, Watching.{Watched, apart_number, carried_watched, due_watched, flown_watched, known_watched, named_watched, now_there, other_still, other_there, over_watched}}}
+use Rattle.exec_parts.{specs.{declared.parts.{mail.Reply.Reply, names.Names.Names, record.Record.Record, shared.Shared.Shared, sleeping.SleeperRecord.SleeperRecord, worker.Worker.Worker}, Records.{number_in, outcome_in}, Calls.IsTold}, proofs.Facts.{by_name, by_number, false_from_ne_true, same_Some}}
+use Rattle.exec_invariants.{specs.{Due.{IsDue, IsWheelAt}, Holding.{IsAnswerOf, thing_of}, Places.one_if, Rooted.{IsResult, IsRooted, Pays, goes_elsewhere, is_of_timer, results_of}, Sound.{AreOver, served_in}, Names.{HasWidth, IsNamed, tellers}, HoldPlaces.has_wakes_at}, proofs.{ServingHolds.KeepsWith, Watching.{Watched, apart_number, carried_watched, due_watched, flown_watched, known_watched, named_watched, now_there, other_still, other_there, over_watched}}}
 
 -- WHAT IS TOLD: of each list one at most, and nothing that a request owned
 pub record TellsOne (t : Told Reply Reply) : Type 0 where
@@ -42,6 +42,24 @@ module _ (i : ℕ) (n : Names) (d d' : Driving Reply Reply) (zs : Slab (Sleeping
 
   pub rooted_watched : Rewaits → IsRooted i n d zs left rs ss → IsRooted i n d' zs left' rs' ss
   rooted_watched to rooted =
+      let there_was : (j : ℕ) (x : Record) → (number_in n.requests.items id ≡ j → ⊥) → slice_get rs' j ≡ Some x → slice_get rs j ≡ Some x = λ j x differs found. other_there i n d d' zs rs rs' ss id r f by j x differs found in
+      let here : slice_get rs' k ≡ Some (f r) = now_there i n d d' zs rs rs' ss id r f by in
+      let it_is : (j : ℕ) (x : Record) → j ≡ number_in n.requests.items id → slice_get rs' j ≡ Some x → f r ≡ x = λ j x same found. same_Some (f r) x (sym here ∙ ap (slice_get rs') (sym same) ∙ found) in
+      let of_i : (x : Record) → f r ≡ x → x.shown.worker ≡ i → r.shown.worker ≡ i = λ x is mine. sym (ap (λ (y : Record). y.shown.worker) by.keeps) ∙ ap (λ (y : Record). y.shown.worker) is ∙ mine in
+      let result_on : (a : Answer Reply) → IsResult i a rs → IsResult i a rs' = λ a it.
+      by_number it.k k
+      (λ differs. record { k = it.k; r = it.r; there = other_still i n d d' zs rs rs' ss id r f by it.k it.r (λ e. differs (sym e)) it.there; worker = it.worker; reply = it.reply; answer = it.answer; paid = it.paid })
+      (λ same.
+      let is : r ≡ it.r = same_Some r it.r (sym by.there ∙ ap (slice_get rs) (sym same) ∙ it.there) in
+      record {
+        k = k;
+        r = f r;
+        there = here;
+        worker = ap (λ (y : Record). y.shown.worker) by.keeps ∙ ap (λ (y : Record). y.shown.worker) is ∙ it.worker;
+        reply = record { of = it.reply.of ∙ ap (λ m. Heard.Request m) same; task = to.waiter a.sender.task.0 (ap (λ (y : Record). y.shown.waiter) is ∙ it.reply.task) };
+        answer = still_answers to a.result (subst (λ (y : Record). IsAnswerOf a.result (thing_of y)) (sym is) it.answer);
+        paid = subst (λ m. m ≤ 1) (sym (ap (λ (y : Record). y.shown.wakes_paid) by.keeps ∙ ap (λ (y : Record). y.shown.wakes_paid) is)) it.paid;
+      }) in
       record {
         kept = λ x told o at found.
             let apart : x ≢ id = λ same. to.none told (ap (value_at d'.requests) (sym same) ∙ at) in
@@ -87,37 +105,9 @@ module _ (i : ℕ) (n : Names) (d d' : Driving Reply Reply) (zs : Slab (Sleeping
         sleeper_sent = λ j z found mine. ap (λ xs. count_by (λ (c : ForwardedResult Reply). is_of_timer j c.sender.of) xs + one_if z.sent) to.completions ∙ rooted.sleeper_sent j z found mine;
       }
     where
-      there_was : (j : ℕ) (x : Record) → (number_in n.requests.items id ≡ j → ⊥) → slice_get rs' j ≡ Some x → slice_get rs j ≡ Some x
-      there_was j x differs found = other_there i n d d' zs rs rs' ss id r f by j x differs found
-
-      here : slice_get rs' k ≡ Some (f r)
-      here = now_there i n d d' zs rs rs' ss id r f by
-
-      it_is : (j : ℕ) (x : Record) → j ≡ number_in n.requests.items id → slice_get rs' j ≡ Some x → f r ≡ x
-      it_is j x same found = same_thing (f r) x (sym here ∙ ap (slice_get rs') (sym same) ∙ found)
-
-      of_i : (x : Record) → f r ≡ x → x.shown.worker ≡ i → r.shown.worker ≡ i
-      of_i x is mine = sym (ap (λ (y : Record). y.shown.worker) by.keeps) ∙ ap (λ (y : Record). y.shown.worker) is ∙ mine
-
       still_answers : Rewaits → (x : Result RequestOutput Error) → IsAnswerOf x (thing_of r) → IsAnswerOf x (thing_of (f r))
       still_answers to (Ok out) h = ap (λ (y : Record). outcome_in y.shown.phase) by.keeps ∙ h
-      still_answers to (Err error) h = never_true (f r).shown.observed (λ seen. false≢true (sym h ∙ to.seen seen))
-
-      result_on : (a : Answer Reply) → IsResult i a rs → IsResult i a rs'
-      result_on a it =
-          by_number it.k k
-          (λ differs. record { k = it.k; r = it.r; there = other_still i n d d' zs rs rs' ss id r f by it.k it.r (λ e. differs (sym e)) it.there; worker = it.worker; reply = it.reply; answer = it.answer; paid = it.paid })
-          (λ same.
-          let is : r ≡ it.r = same_thing r it.r (sym by.there ∙ ap (slice_get rs) (sym same) ∙ it.there) in
-          record {
-            k = k;
-            r = f r;
-            there = here;
-            worker = ap (λ (y : Record). y.shown.worker) by.keeps ∙ ap (λ (y : Record). y.shown.worker) is ∙ it.worker;
-            reply = record { of = it.reply.of ∙ ap (λ m. Heard.Request m) same; task = to.waiter a.sender.task.0 (ap (λ (y : Record). y.shown.waiter) is ∙ it.reply.task) };
-            answer = still_answers to a.result (subst (λ (y : Record). IsAnswerOf a.result (thing_of y)) (sym is) it.answer);
-            paid = subst (λ m. m ≤ 1) (sym (ap (λ (y : Record). y.shown.wakes_paid) by.keeps ∙ ap (λ (y : Record). y.shown.wakes_paid) is)) it.paid;
-          })
+      still_answers to (Err error) h = false_from_ne_true (f r).shown.observed (λ seen. false≢true (sym h ∙ to.seen seen))
 
 -- ALL THAT HOLDS AGAIN of the worker's own, where it is in no service
 module _ {B : Type 0} (w : Worker) (s : Shared B) (d d' : Driving Reply Reply) (zs : Slab (Sleeping Reply)) (rs rs' : List Record) (ss : List SleeperRecord) (id : Id) (r : Record) (f : Record → Record) (left' : Deferred Reply Reply) where
@@ -128,17 +118,12 @@ module _ {B : Type 0} (w : Worker) (s : Shared B) (d d' : Driving Reply Reply) (
   keeps_watched idle by keeps to told wide wakes pending punctual due wheel =
       let i = w.index in
       let n = w.names in
-      record {
-        told = told;
-        wide = wide;
-        named = named_watched i n d d' zs rs rs' ss id r f by keeps.named;
-        sized = ap (λ x. x.size) by.ring ∙ keeps.sized;
-        over = subst (λ m. AreOver i n.ended.items n.unreleased m rs') (sym pending) (over_watched i n d d' zs rs rs' ss id r f by n.ended.items n.unreleased (pending_count d.requests) keeps.over);
-        quiet = λ h. wakes ∙ keeps.quiet h;
-        due = subst (λ x. IsDue x w.home.closing i w.moments s.config n d' zs rs' ss) (sym idle) (due_watched i n d d' zs rs rs' ss id r f by w.moments s.config punctual due wheel (subst (λ x. IsDue x w.home.closing i w.moments s.config n d zs rs ss) idle keeps.due));
-        flown = flown_watched i n d d' zs rs rs' ss id r f by (served_in w.place) keeps.flown;
-        carried = carried_watched i n d d' zs rs rs' ss id r f by s.store keeps.carried;
-        known = known_watched i n d d' zs rs rs' ss id r f by s.opens keeps.known;
-        rooted = rooted_watched i n d d' zs w.home.deferred left' rs rs' ss id r f by keeps.named to keeps.rooted;
-        bare = keeps.bare;
-      }
+      let over = subst (λ m. AreOver i n.ended.items n.unreleased m rs') (sym pending) (over_watched i n d d' zs rs rs' ss id r f by n.ended.items n.unreleased (pending_count d.requests) keeps.over) in
+      let quiet : has_wakes_at w.place ≡ false → left'.notes.wakes.items ≡ [] = λ h. wakes ∙ keeps.quiet h in
+      let due_so =
+      subst (λ x. IsDue x w.home.closing i w.moments s.config n d' zs rs' ss) (sym idle) (due_watched i n d d' zs rs rs' ss id r f by w.moments s.config punctual due wheel (subst (λ x. IsDue x w.home.closing i w.moments s.config n d zs rs ss) idle keeps.due)) in
+      let flown = flown_watched i n d d' zs rs rs' ss id r f by (served_in w.place) keeps.flown in
+      let carried = carried_watched i n d d' zs rs rs' ss id r f by s.store keeps.carried in
+      let known = known_watched i n d d' zs rs rs' ss id r f by s.opens keeps.known in
+      let rooted = rooted_watched i n d d' zs w.home.deferred left' rs rs' ss id r f by keeps.named to keeps.rooted in
+      assumption (told, wide, named_watched i n d d' zs rs rs' ss id r f by keeps.named, ap (λ x. x.size) by.ring ∙ keeps.sized, over, quiet, due_so, flown, carried, known, rooted, keeps)

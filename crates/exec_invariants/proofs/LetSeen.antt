@@ -1,13 +1,13 @@
 -- WHAT IS SEEN of a request that its worker has let go of: the machine's lists, what stands on the desk, and what others see.
-use Rattle.std.proofs.{Common.{◌≡◌, ◌≢◌, ℕ, suc, ◌+◌, ◌&&◌, Bool, true, false, not, List, [], ◌∷◌, ◌++◌, length, slice_index_or, Some, None, IsSome, is_some, refl, sym, ap, subst, ◌∙◌, arith, slice_get, Err, if◌then◌else◌}, lemmas.{Bool.{false≢true, eq-eqb}, List.{append-nil, length-append, map-append}, Option.get_or_from_slice_get}}
-use Rattle.exec_base.specs.{Slab.{Slab, is_live, value_at, written, removed}, declared.{error.Error.TheVariants.Closed, slab.{Id.Id, Slot.{Slot, TheVariants.{Live, Vacant, Retired}}}}}
+use Rattle.std.proofs.{Common.{◌≡◌, ◌≢◌, ℕ, suc, ◌+◌, ◌&&◌, Bool, true, false, not, List, [], ◌∷◌, ◌++◌, length, slice_index_or, Some, None, IsSome, is_some, refl, sym, ap, subst, ◌∙◌, arith, slice_get, if◌then◌else◌}, lemmas.{Bool.{false≢true, eq-eqb}, List.{append-nil, length-append, map-append}, Option.get_or_from_slice_get}}
+use Rattle.exec_base.specs.{Slab.{Slab, is_live, value_at, written, removed}, declared.{slab.{Id.Id, Slot.{Slot, TheVariants.{Live, Vacant, Retired}}}}}
 use Rattle.exec_request.specs.declared.output.RequestOutput.{RequestOutput}
 use Rattle.exec_ring.specs.Rings.{completions}
-use Rattle.exec_waiters.specs.{Events.{told_to, untaken, told_by_orphan, orphaned_from, asks_cancel_by_orphan, waker_in}, States.{flying_count, is_held_by, waiter_of}, Told.{Tells, nothing_told}, declared.{deferred.{Answer.Answer, Deferred.Deferred}, observer.Observer.{Observer, TheVariants.{DetachedSync, Forwarded, Local, Orphaned}}, waiter.{Entry.{Entry, TheVariants.{Pending, Ready}}, Waiter.Waiter}}}
+use Rattle.exec_waiters.specs.{Events.{told_to, untaken, told_by_orphan, orphaned_from, asks_cancel_by_orphan, waker_in}, States.{flying_count, is_held_by, waiter_of}, Told.{Tells}, declared.{deferred.{Answer.Answer}, observer.Observer.{Observer, TheVariants.{DetachedSync, Forwarded, Local, Orphaned}}, waiter.{Entry.{Entry, TheVariants.{Pending, Ready}}, Waiter.Waiter}}}
 use Rattle.exec_driver.specs.{Driving.{Driving, request_at}, Steps.{both, cancelled_at, told_by_cancel, without_observer}}
 use Rattle.exec_machine.specs.{declared.state.Request.Request, Requests.{ends_by_drop, is_cancelled_by_drop, joined_if, left_if, own_after_drop}, Tests.{is_in_flight, is_kept, is_queued, is_resolved}, World.{Common, request_of}}
 use Rattle.exec_moves.specs.{declared.handing.Heard.Heard, Slots.{is_in_slots, is_some_slot, slot_of, vacated}, State.Desk, Told.{awaits_no_more, one_output, one_result, told_of_drop, turned_away, without_request}}
-use Rattle.exec_parts.{specs.{declared.parts.{mail.Reply.Reply, record.Record.Record, shared.Shared.Shared, worker.Worker.Worker}, Awaits.LetsGo, Records.number_in, View.{awaited_from, awaits_entry, desk_of, driver_of, number_heard, numbers_of, own_of, results_in, slots_from, slots_seen, visible}}, proofs.Facts.{and_none, not_same, same_thing}}
+use Rattle.exec_parts.{specs.{declared.parts.{mail.Reply.Reply, record.Record.Record, shared.Shared.Shared, worker.Worker.Worker}, Awaits.LetsGo, Records.number_in, View.{awaited_from, awaits_entry, desk_of, driver_of, numbers_of, own_of, results_in, slots_from, slots_seen, visible}}, proofs.Facts.{and_right, not_same, same_Some}}
 use Rattle.exec_invariants.{specs.{Gates.AreLinedUp, Rooted.IsNear, Sound.served_in}, proofs.{Known.low_there, LetGone.number, LetKept.over_idle, LetSlab.same_flying, ServingHolds.KeepsSpare, Slotted.{OneSlot, awaited_over, awaited_removed, awaited_written, slot_in, slots_vacated, slots_written}}}
 
 -- THE SLOTS: no slot has a number that no live one has
@@ -42,9 +42,6 @@ module _ {B : Type 0} (k : ℕ) (w v : Worker) (s s' : Shared B) (idle : served_
   abbrev d : Driving Reply Reply
   d = driver_of w
 
-  abbrev r : Record
-  r = lets.r
-
   abbrev id : Id
   id = lets.r.id.0
 
@@ -54,28 +51,17 @@ module _ {B : Type 0} (k : ℕ) (w v : Worker) (s s' : Shared B) (idle : served_
   abbrev kk : ℕ
   kk = number_in w.names.requests.items lets.r.id.0
 
-  abbrev left : Deferred Reply Reply
-  left = v.home.deferred
-
-  abbrev left0 : Deferred Reply Reply
-  left0 = w.home.deferred
-
   -- each number stands in one slot
   pub one_slot : (e : Entry Reply Reply) → value_at d.requests id ≡ Some e → OneSlot w.names.requests.items d.requests id
   one_slot e value =
-      record {
-        e = e;
-        live = value;
-        low = low_there w.index n d.requests s.opens s.requests.items keeps.known id (rw value refl);
-        alone = λ j x at alive same. by j x at alive same;
-      }
+      grind (arith, value, low_there, w.index, d.requests, s.opens, s.requests.items, keeps.known, id, by)
     where
       by : (j : ℕ) (x : Slot (Entry Reply Reply)) → slice_get d.requests.slots j ≡ Some x → is_live x ≡ true → slice_index_or n j 0 ≡ number_in n id → j ≡ id.index
       by j (Live g x) at alive same =
           let other : Id = record { index = j; generation = g } in
           let a = keeps.named.requests other (rw (value_live d.requests j g x at) refl) in
           let b = keeps.named.requests id (rw value refl) in
-          let both : a.0 ≡ b.0 = same_thing a.0 b.0 (sym a.1 ∙ ap (slice_get s.requests.items) same ∙ b.1) in
+          let both : a.0 ≡ b.0 = same_Some a.0 b.0 (sym a.1 ∙ ap (slice_get s.requests.items) same ∙ b.1) in
           ap (λ (y : Id). y.index) (sym a.2 ∙ ap (λ (y : Record). y.id.0) both ∙ b.2)
       by j (Vacant g) at alive same = absurd (false≢true alive)
       by j Retired at alive same = absurd (false≢true alive)
@@ -88,23 +74,23 @@ module _ {B : Type 0} (k : ℕ) (w v : Worker) (s s' : Shared B) (idle : served_
   pub record IsSeen : Type 0 where
     pub ring : (driver_of v).ring ≡ d.ring
     pub armed : (driver_of v).armed ≡ d.armed
-    pub ready : numbers_of n (driver_of v).lists.queued ≡ left_if (ends_by_drop r.shown) (numbers_of n d.lists.queued) k
-    pub unenrolled : numbers_of n (driver_of v).lists.enrolments ≡ left_if (ends_by_drop r.shown) (numbers_of n d.lists.enrolments) k
-    pub cancels : numbers_of n (driver_of v).lists.cancels ≡ joined_if (is_cancelled_by_drop r.shown) (left_if (ends_by_drop r.shown) (numbers_of n d.lists.cancels) k) k
+    pub ready : numbers_of n (driver_of v).lists.queued ≡ left_if (ends_by_drop lets.r.shown) (numbers_of n d.lists.queued) k
+    pub unenrolled : numbers_of n (driver_of v).lists.enrolments ≡ left_if (ends_by_drop lets.r.shown) (numbers_of n d.lists.enrolments) k
+    pub cancels : numbers_of n (driver_of v).lists.cancels ≡ joined_if (is_cancelled_by_drop lets.r.shown) (left_if (ends_by_drop lets.r.shown) (numbers_of n d.lists.cancels) k) k
     pub flying : flying_count (driver_of v).requests ≡ flying_count d.requests
-    pub wakes : left.notes.wakes.items ≡ left0.notes.wakes.items
-    pub completed : left.notes.completions.items ≡ left0.notes.completions.items
+    pub wakes : v.home.deferred.notes.wakes.items ≡ w.home.deferred.notes.wakes.items
+    pub completed : v.home.deferred.notes.completions.items ≡ w.home.deferred.notes.completions.items
     pub desk : record (desk_of w) {
-      outputs = length left.outputs.items;
-      results = results_in left.results.items;
+      outputs = length v.home.deferred.outputs.items;
+      results = results_in v.home.deferred.results.items;
       requests = slots_seen n (driver_of v).requests;
       awaited = awaited_from 0 n (driver_of v).requests.slots;
-    } ≡ told_of_drop k r.shown (desk_of w)
+    } ≡ told_of_drop k lets.r.shown (desk_of w)
 
-  pub own_so : IsSeen → (all : Common) → request_of all k ≡ r.shown → own_of v ≡ own_after_drop (own_of w) all k
+  pub own_so : IsSeen → (all : Common) → request_of all k ≡ lets.r.shown → own_of v ≡ own_after_drop (own_of w) all k
   own_so = grind arith
 
-  pub desk_so : IsSeen → desk_of v ≡ told_of_drop k r.shown (desk_of w)
+  pub desk_so : IsSeen → desk_of v ≡ told_of_drop k lets.r.shown (desk_of w)
   desk_so = grind arith
 
   pub visible_so : IsSeen → visible v ≡ visible w
@@ -113,24 +99,23 @@ module _ {B : Type 0} (k : ℕ) (w v : Worker) (s s' : Shared B) (idle : served_
   -- it isn't there any more
   pub seen_gone : value_at d.requests id ≡ None → IsSeen
   seen_gone none =
-      let drv : driver_of v ≡ d = lets.driver ∙ ap (λ o. if asks_cancel_by_orphan o then cancelled_at (without_observer d r.id) r.id else record d { requests = orphaned_from d.requests id o }) none in
-      let tells : Tells left0 left nothing_told =
-      subst (λ x. Tells left0 left x) (ap (λ o. if asks_cancel_by_orphan o then both (told_by_orphan id o) (told_by_cancel r.id (request_at (without_observer d r.id) r.id)) else told_by_orphan id o) none) lets.tells in
-      let over : is_resolved r.shown.phase ≡ true = keeps.named.over k r lets.request mine (ap waiter_of none) in
-      let not_there = over_idle r.shown.phase over in
-      let ends : ends_by_drop r.shown ≡ false = ap (λ b. b && not (is_kept r.shown.operation.kind)) not_there.0 in
-      let unasked : is_cancelled_by_drop r.shown ≡ false = ap (λ b. b && not (is_kept r.shown.operation.kind) && not r.shown.cancelled) not_there.1 in
+      let drv : driver_of v ≡ d = lets.driver ∙ ap (λ o. if asks_cancel_by_orphan o then cancelled_at (without_observer d lets.r.id) lets.r.id else record d { requests = orphaned_from d.requests id o }) none in
+      let tells = subst (λ x. Tells w.home.deferred v.home.deferred x) (ap (λ o. if asks_cancel_by_orphan o then both (told_by_orphan id o) (told_by_cancel lets.r.id (request_at (without_observer d lets.r.id) lets.r.id)) else told_by_orphan id o) none) lets.tells in
+      let over : is_resolved lets.r.shown.phase ≡ true = keeps.named.over k lets.r lets.request mine (ap waiter_of none) in
+      let not_there = over_idle lets.r.shown.phase over in
+      let ends : ends_by_drop lets.r.shown ≡ false = ap (λ b. b && not (is_kept lets.r.shown.operation.kind)) not_there.0 in
+      let unasked : is_cancelled_by_drop lets.r.shown ≡ false = ap (λ b. b && not (is_kept lets.r.shown.operation.kind) && not lets.r.shown.cancelled) not_there.1 in
       let absent : is_in_slots k (slots_seen n d.requests) ≡ false = ap is_some_slot (not_in k 0 n d.requests.slots (λ j x at alive same. no_slot none j x at alive (ap (λ m. slice_index_or n m 0) (let e : j ≡ 0 + j = omega arith in e) ∙ same))) in
-      let outputs : left.outputs.items ≡ left0.outputs.items = tells.outputs_added ∙ append-nil left0.outputs.items in
-      let results : left.results.items ≡ left0.results.items = tells.results_added ∙ append-nil left0.results.items in
-      grind (arith, append-nil, and_none)
+      let outputs : v.home.deferred.outputs.items ≡ w.home.deferred.outputs.items = tells.outputs_added ∙ append-nil w.home.deferred.outputs.items in
+      let results : v.home.deferred.results.items ≡ w.home.deferred.results.items = tells.results_added ∙ append-nil w.home.deferred.results.items in
+      grind (arith, append-nil, and_right)
     where
       no_slot : value_at d.requests id ≡ None → (j : ℕ) (x : Slot (Entry Reply Reply)) → slice_get d.requests.slots j ≡ Some x → is_live x ≡ true → slice_index_or n j 0 ≡ k → ⊥
       no_slot none j (Live g e) at alive same =
           let other : Id = record { index = j; generation = g } in
           let value = value_live d.requests j g e at in
           let a = keeps.named.requests other (rw value refl) in
-          let both : a.0 ≡ r = same_thing a.0 r (sym a.1 ∙ ap (slice_get s.requests.items) same ∙ lets.request) in
+          let both : a.0 ≡ lets.r = same_Some a.0 lets.r (sym a.1 ∙ ap (slice_get s.requests.items) same ∙ lets.request) in
           let is : other ≡ id = sym a.2 ∙ ap (λ (y : Record). y.id.0) both in
           let no : Some e ≡ None = sym value ∙ ap (value_at d.requests) is ∙ none in
           absurd (cc)
@@ -144,42 +129,37 @@ module _ {B : Type 0} (k : ℕ) (w v : Worker) (s s' : Shared B) (idle : served_
       let d0 = desk_of w in
       let some : IsSome (value_at s0 id) = rw ready refl in
       let is = number k w v s s' idle gates keeps lets mine seen some in
-      let at_number : slice_get s.requests.items kk ≡ Some r = ap (slice_get s.requests.items) is ∙ lets.request in
-      let kept = keeps.rooted.kept id told r ready at_number in
-      let ends : ends_by_drop r.shown ≡ false = ap (λ p. is_queued p && not (is_kept r.shown.operation.kind)) kept.over in
-      let unasked : is_cancelled_by_drop r.shown ≡ false = ap (λ p. is_in_flight p && not (is_kept r.shown.operation.kind) && not r.shown.cancelled) kept.over in
+      let at_number : slice_get s.requests.items kk ≡ Some lets.r = ap (slice_get s.requests.items) is ∙ lets.request in
+      let kept = keeps.rooted.kept id told lets.r ready at_number in
+      let ends : ends_by_drop lets.r.shown ≡ false = ap (λ p. is_queued p && not (is_kept lets.r.shown.operation.kind)) kept.over in
+      let unasked : is_cancelled_by_drop lets.r.shown ≡ false = ap (λ p. is_in_flight p && not (is_kept lets.r.shown.operation.kind) && not lets.r.shown.cancelled) kept.over in
       let d' : Driving Reply Reply = record d { requests = removed s0 id } in
-      let drv : driver_of v ≡ d' = lets.driver ∙ ap (λ o. if asks_cancel_by_orphan o then cancelled_at (without_observer d r.id) r.id else record d { requests = orphaned_from s0 id o }) ready in
-      let tells : Tells left0 left (untaken id told) =
-      subst (λ x. Tells left0 left x) (ap (λ o. if asks_cancel_by_orphan o then both (told_by_orphan id o) (told_by_cancel r.id (request_at (without_observer d r.id) r.id)) else told_by_orphan id o) ready) lets.tells in
+      let drv : driver_of v ≡ d' = lets.driver ∙ ap (λ o. if asks_cancel_by_orphan o then cancelled_at (without_observer d lets.r.id) lets.r.id else record d { requests = orphaned_from s0 id o }) ready in
+      let tells = subst (λ x. Tells w.home.deferred v.home.deferred x) (ap (λ o. if asks_cancel_by_orphan o then both (told_by_orphan id o) (told_by_cancel lets.r.id (request_at (without_observer d lets.r.id) lets.r.id)) else told_by_orphan id o) ready) lets.tells in
       let one = one_slot (Ready told) ready in
       let unawaited : awaits_entry one.e ≡ false = ap awaits_entry (one_is (Ready told) ready) in
-      let outputs : length left.outputs.items ≡ d0.outputs + 1 = ap length tells.outputs_added ∙ length-append left0.outputs.items (untaken {S = Reply} {F = Reply} id told).outputs in
-      let results : left.results.items ≡ left0.results.items = tells.results_added ∙ append-nil left0.results.items in
+      let outputs : length v.home.deferred.outputs.items ≡ d0.outputs + 1 = ap length tells.outputs_added ∙ length-append w.home.deferred.outputs.items (untaken {S = Reply} {F = Reply} id told).outputs in
+      let results : v.home.deferred.results.items ≡ w.home.deferred.results.items = tells.results_added ∙ append-nil w.home.deferred.results.items in
       let requests : slots_seen n (driver_of v).requests ≡ vacated kk d0.requests = ap (λ x. slots_seen n x.requests) drv ∙ slots_vacated n s0 id one in
       let awaited : awaited_from 0 n (driver_of v).requests.slots ≡ d0.awaited = ap (λ x. awaited_from 0 n x.requests.slots) drv ∙ awaited_removed n s0 id one unawaited in
-      let then_is : told_of_drop kk r.shown d0 ≡ record d0 { outputs = d0.outputs + 1; requests = vacated kk d0.requests } =
-      desk_there kk r.shown d0 seen (slot_in n s0 id one) ∙ ap (λ b. if b then one_output (without_request kk d0) else if ends_by_drop r.shown then one_output (without_request kk (turned_away kk r.shown d0)) else turned_away kk r.shown d0) (ap is_resolved kept.over) in
+      let then_is : told_of_drop kk lets.r.shown d0 ≡ record d0 { outputs = d0.outputs + 1; requests = vacated kk d0.requests } =
+      desk_there kk lets.r.shown d0 seen (slot_in n s0 id one) ∙ ap (λ b. if b then one_output (without_request kk d0) else if ends_by_drop lets.r.shown then one_output (without_request kk (turned_away kk lets.r.shown d0)) else turned_away kk lets.r.shown d0) (ap is_resolved kept.over) in
       record {
         ring = ap (λ x. x.ring) drv;
         armed = ap (λ x. x.armed) drv;
         ready = ap (λ x. numbers_of n x.lists.queued) drv ∙ ap (λ b. left_if b (numbers_of n d.lists.queued) k) (sym ends);
         unenrolled = ap (λ x. numbers_of n x.lists.enrolments) drv ∙ ap (λ b. left_if b (numbers_of n d.lists.enrolments) k) (sym ends);
-        cancels = ap (λ x. numbers_of n x.lists.cancels) drv ∙ ap (λ b. left_if b (numbers_of n d.lists.cancels) k) (sym ends) ∙ ap (λ b. joined_if b (left_if (ends_by_drop r.shown) (numbers_of n d.lists.cancels) k) k) (sym unasked);
+        cancels = ap (λ x. numbers_of n x.lists.cancels) drv ∙ ap (λ b. left_if b (numbers_of n d.lists.cancels) k) (sym ends) ∙ ap (λ b. joined_if b (left_if (ends_by_drop lets.r.shown) (numbers_of n d.lists.cancels) k) k) (sym unasked);
         flying = ap (λ x. flying_count x.requests) drv ∙ same_flying s0 id told ready;
-        wakes = tells.notes.wakes_added ∙ append-nil left0.notes.wakes.items;
-        completed = tells.notes.completions_added ∙ append-nil left0.notes.completions.items;
-        desk = ap (λ x. record d0 { outputs = x; results = results_in left.results.items; requests = slots_seen n (driver_of v).requests; awaited = awaited_from 0 n (driver_of v).requests.slots }) outputs
-            ∙ ap (λ x. record d0 { outputs = d0.outputs + 1; results = results_in x; requests = slots_seen n (driver_of v).requests; awaited = awaited_from 0 n (driver_of v).requests.slots }) results
-            ∙ ap (λ x. record d0 { outputs = d0.outputs + 1; requests = x; awaited = awaited_from 0 n (driver_of v).requests.slots }) requests
-            ∙ ap (λ x. record d0 { outputs = d0.outputs + 1; requests = vacated kk d0.requests; awaited = x }) awaited
-            ∙ sym then_is ∙ ap (λ q. told_of_drop q r.shown d0) is;
+        wakes = tells.notes.wakes_added ∙ append-nil w.home.deferred.notes.wakes.items;
+        completed = tells.notes.completions_added ∙ append-nil w.home.deferred.notes.completions.items;
+        desk = grind (arith, outputs, results, requests, awaited, then_is, is);
       }
 
   -- NOBODY WAITS FOR IT at its driver any more: on the desk
-  pub turned_so : (it it' : Waiter Reply Reply) (results : List (Answer Reply)) (value : value_at d.requests id ≡ Some (Pending it)) → it'.observer ≡ Orphaned → IsNear it.observer r.shown.forwarding → is_held_by it.observer ≡ true → ((reply : Reply) → it.observer ≡ Forwarded reply → reply.of ≡ Heard.Request kk)
-      → results ≡ left0.results.items ++ (told_to id it.observer).results
-      → record (desk_of w) { results = results_in results; requests = slots_seen n (written d.requests id (Pending it')); awaited = awaited_from 0 n (written d.requests id (Pending it')).slots } ≡ turned_away kk r.shown (desk_of w)
+  pub turned_so : (it it' : Waiter Reply Reply) (results : List (Answer Reply)) (value : value_at d.requests id ≡ Some (Pending it)) → it'.observer ≡ Orphaned → IsNear it.observer lets.r.shown.forwarding → is_held_by it.observer ≡ true → ((reply : Reply) → it.observer ≡ Forwarded reply → reply.of ≡ Heard.Request kk)
+      → results ≡ w.home.deferred.results.items ++ (told_to id it.observer).results
+      → record (desk_of w) { results = results_in results; requests = slots_seen n (written d.requests id (Pending it')); awaited = awaited_from 0 n (written d.requests id (Pending it')).slots } ≡ turned_away kk lets.r.shown (desk_of w)
   turned_so it it' results value alone near held replies added = by it.observer refl near added
     where
       slots_same : slots_seen n (written d.requests id (Pending it')) ≡ (desk_of w).requests
@@ -192,19 +172,17 @@ module _ {B : Type 0} (k : ℕ) (w v : Worker) (s s' : Shared B) (idle : served_
           ≡ record (desk_of w) { results = results_in results; awaited = awaited_from 0 n (written d.requests id (Pending it')).slots }
       start = ap (λ x. record (desk_of w) { results = results_in results; requests = x; awaited = awaited_from 0 n (written d.requests id (Pending it')).slots }) slots_same
 
-      by : (o : Observer Reply Reply) → it.observer ≡ o → IsNear o r.shown.forwarding → results ≡ left0.results.items ++ (told_to id o).results
-          → record (desk_of w) { results = results_in results; requests = slots_seen n (written d.requests id (Pending it')); awaited = awaited_from 0 n (written d.requests id (Pending it')).slots } ≡ turned_away kk r.shown (desk_of w)
+      by : (o : Observer Reply Reply) → it.observer ≡ o → IsNear o lets.r.shown.forwarding → results ≡ w.home.deferred.results.items ++ (told_to id o).results
+          → record (desk_of w) { results = results_in results; requests = slots_seen n (written d.requests id (Pending it')); awaited = awaited_from 0 n (written d.requests id (Pending it')).slots } ≡ turned_away kk lets.r.shown (desk_of w)
       by (Local waker) is near added =
           let over = awaited_over n d.requests id (one_slot (Pending it) value) (Pending it') none_awaits in
           start
-          ∙ ap (λ x. record (desk_of w) { results = results_in x; awaited = awaited_from 0 n (written d.requests id (Pending it')).slots }) (added ∙ append-nil left0.results.items)
+          ∙ ap (λ x. record (desk_of w) { results = results_in x; awaited = awaited_from 0 n (written d.requests id (Pending it')).slots }) (added ∙ append-nil w.home.deferred.results.items)
           ∙ ap (λ x. record (desk_of w) { awaited = x }) over.0
           ∙ sym (ap (λ b. if b then one_result kk (desk_of w) else awaits_no_more kk (desk_of w)) near)
       by (Forwarded reply) is near added =
           let same : awaits_entry (Pending it) ≡ awaits_entry (Pending it') = ap (λ o. is_some (waker_in o)) is ∙ sym none_awaits in
-          let last : results_in results ≡ (desk_of w).results ++ kk ∷ [] =
-          ap results_in added ∙ map-append (λ (a : Answer Reply). number_heard a.sender.of) left0.results.items (record { id = record { 0 = id }; sender = reply; result = Err Closed } ∷ [])
-          ∙ ap (λ h. results_in left0.results.items ++ number_heard h ∷ []) (replies reply is) in
+          let last : results_in results ≡ (desk_of w).results ++ kk ∷ [] = grind (arith, added, map-append, replies) in
           start
           ∙ ap (λ x. record (desk_of w) { results = x; awaited = awaited_from 0 n (written d.requests id (Pending it')).slots }) last
           ∙ ap (λ x. record (desk_of w) { results = (desk_of w).results ++ kk ∷ []; awaited = x }) (awaited_written n d.requests id (Pending it) (Pending it') value same)

@@ -1,11 +1,12 @@
 -- AN OUTPUT LEAVES THE DRIVER: nothing is where it was kept, and no request that isn't over changes.
-use Rattle.std.proofs.{Common.{◌≡◌, ◌≢◌, ◌+◌, ◌^◌, ◌<◌, Some, None, IsSome, refl, sym, ap, ◌∙◌, arith, is_some}, lemmas.Bool.false≢true}
+use Rattle.std.proofs.{Common.{◌≡◌, ◌≢◌, ◌+◌, ◌^◌, ◌<◌, Some, None, IsSome, refl, sym, ap, ◌∙◌, arith, is_some, List, slice_get, true, subst, false, ◌⊎◌, inl}, lemmas.{Bool.false≢true, List.length-set}}
 use Rattle.exec_base.{specs.{Slab.{IsPast, Slab, value_at, removed, freed}, declared.slab.Id.Id}, proofs.Slots.{Changed-set, IsLiveAt-from_value, Updates-free, live_within, past-free, was_live}}
 use Rattle.exec_request.specs.declared.output.RequestOutput.{RequestOutput}
-use Rattle.exec_waiters.specs.{States.{waiter_at, pending_count, flying_count, is_flying}, declared.waiter.Entry.{Entry, TheVariants.Ready}}
-use Rattle.exec_driver.proofs.Counting.{OneChanged, one_removed, pending_is, flying_is}
-use Rattle.exec_parts.{specs.declared.parts.mail.Reply.Reply, proofs.Facts.by_name}
-use Rattle.exec_invariants.{specs.Names.held_count, proofs.HeldCounts.held_removed}
+use Rattle.exec_waiters.specs.{States.{waiter_at, pending_count, flying_count, is_flying, tick_of, awaits_tick, waiter_of}, declared.{waiter.{Entry.{Entry, TheVariants.Ready}, Waiter.Waiter}, waiter_id.WaiterId.WaiterId}}
+use Rattle.exec_driver.{proofs.Counting.{OneChanged, one_removed, pending_is, flying_is}, specs.{Driving.Driving, Lists.is_among}}
+use Rattle.exec_parts.{specs.{declared.parts.{mail.Reply.Reply, names.Names.Names, record.Record.Record}, Records.number_in, Serving.changed_at}, proofs.Facts.by_name}
+use Rattle.exec_invariants.{specs.Names.{held_count, IsAlike}, proofs.{HeldCounts.held_removed, Watching.{Watched, Rewatched}, Orders.{Eases, past_removed, alike_self}}}
+use Rattle.exec_machine.specs.Tests.{is_resolved}
 
 module _ (s : Slab (Entry Reply Reply)) (id : Id) (told : RequestOutput) (at : value_at s id ≡ Some (Ready told)) where
   gone : OneChanged s (removed s id) id None None
@@ -53,3 +54,19 @@ module _ (s : Slab (Entry Reply Reply)) (id : Id) (told : RequestOutput) (at : v
       let was = was_live s id there in
       let live = IsLiveAt-from_value s.slots id.index id.generation s.first there in
       (past-free s (removed s id) id was.0 small (Changed-set s (removed s id) id.index (freed id.generation) refl refl (live_within s.slots id.index id.generation live.value live.is)) was.1 x).0 past
+
+-- the record of one that has left, whatever becomes of what the machine doesn't read there
+pub watched_gone : (n : Names) (d : Driving Reply Reply) (rs : List Record) (r : Record) (told : RequestOutput) (f : Record → Record) → value_at d.requests r.id.0 ≡ Some (Ready told) → slice_get rs (number_in n.requests.items r.id.0) ≡ Some r → r.id.0.generation < 2 ^ 64
+    → f r ≡ record r { shown = record r.shown { timer = (f r).shown.timer; observed = (f r).shown.observed; cancelled = (f r).shown.cancelled; waiter = (f r).shown.waiter; forwarding = (f r).shown.forwarding } } → (is_resolved r.shown.phase ≡ true → (f r).shown.timer ≡ r.shown.timer)
+    → Watched n d (record d { requests = removed d.requests r.id.0 }) rs (changed_at rs (number_in n.requests.items r.id.0) f) r.id.0 r f
+watched_gone n d rs r told f ready at small keeps timer =
+    let s0 = d.requests in
+    let id = r.id.0 in
+    let none_waits : waiter_at (removed s0 id) id ≡ None = same_waiters s0 id told ready id ∙ ap waiter_of ready in
+    let some : IsSome (value_at s0 id) = rw ready refl in
+    let waits = subst (λ o. Rewatched o (waiter_at (removed s0 id) id)) (sym (ap waiter_of ready)) none_waits in
+    let alike : (it : Waiter Reply Reply) → waiter_at (removed s0 id) id ≡ Some it → IsAlike d.wheel.start d.wheel.tick it (f r).shown = λ x live. let no : None ≡ Some x = sym none_waits ∙ live in absurd (cc) in
+    let eases : Eases s0 (removed s0 id) =
+    record { ticks = λ x t h. ap tick_of (sym (same_waiters s0 id told ready x)) ∙ h; taken = λ x past none. ap awaits_tick (same_waiters s0 id told ready x) ∙ none; past = past_removed s0 id some } in
+    let cancels : (x : WaiterId) → is_among x d.lists.cancels ≡ true → (is_among x d.lists.cancels ≡ true) ⊎ ((x.0 ≡ id) × (r.shown.cancel_staged ≡ false)) = λ x among. inl among in
+    assumption (at, some, keeps, timer, still_there s0 id told ready, waits, alike, past_back s0 id told ready small, eases, alike_self d.wheel, length-set s0.slots id.index (freed id.generation), cancels)

@@ -2,12 +2,13 @@
 use Rattle.std.proofs.{Common.{◌≡◌, ℕ, zero, suc, ◌+◌, ◌<◌, Bool, true, false, cond, List, [], ◌∷◌, count_by, map, option_map, Option, Some, None, IsSome, refl, sym, ap, subst, ◌∙◌, arith, slice_get, slice_index_or, if◌then◌else◌}, lemmas.{Bool.{eq-eqb, false≢true}, List.Sums.sum_by-cons, Option.{get_or_from_slice_get, slice_get-map}}}
 use Rattle.exec_base.specs.{Slab.{Slab, is_live, live_count, value_at}, declared.slab.{Id.Id, Slot.{Slot, TheVariants.{Live, Vacant, Retired}}}}
 use Rattle.exec_time.specs.declared.timers.Sleeper.{Sleeper as Sleeping}
-use Rattle.exec_waiters.{specs.{Events.IsFirstHeld, States.{is_held, is_held_at}, declared.waiter.Entry.{Entry, TheVariants.{Pending, Ready}}}, proofs.Changes.at_by}
+use Rattle.exec_waiters.{specs.{Events.IsFirstHeld, States.{is_held, is_held_at}, declared.waiter.Entry.{Entry, TheVariants.{Pending, Ready}}}}
 use Rattle.exec_task.specs.declared.body.Said.{Said}
 use Rattle.exec_machine.specs.{Progress.Plan, Tests.is_asleep, World.{no_request, no_sleeper, request_of, sleeper_of}}
 use Rattle.exec_moves.specs.{declared.{place.{Place.Place}}, Close.{after_letting_go, first_asleep, first_held}, Slots.first_in}
-use Rattle.exec_parts.{specs.{declared.parts.{mail.Reply.Reply, record.Record.Record, shared.Shared.Shared, sleeping.SleeperRecord.SleeperRecord, worker.Worker.Worker}, Ending.ClosesOn, Records.number_in, Spots.Spot, View.{Views, common_of, desk_of, driver_of, slots_from}}, proofs.Facts.same_thing}
-use Rattle.exec_invariants.{specs.Sound.SoundAt, proofs.SparedRecord.there_within}
+use Rattle.exec_parts.{specs.{declared.parts.{mail.Reply.Reply, record.Record.Record, shared.Shared.Shared, sleeping.SleeperRecord.SleeperRecord, worker.Worker.Worker}, Ending.ClosesOn, Records.number_in, Spots.Spot, View.{Views, common_of, desk_of, driver_of, slots_from}}, proofs.Facts.same_Some}
+use Rattle.exec_invariants.{specs.Sound.SoundAt}
+use Rattle.exec_invariants.proofs.Slotted.{live_at}
 
 -- THE FIRST BY SLOTS
 
@@ -32,7 +33,7 @@ module _ {T : Type 0} where
   pub first_found : (test : ℕ → Bool) (numbers : List ℕ) (k : ℕ) (slots : List (Slot T)) (i g : ℕ) (e : T) → slice_get slots i ≡ Some (Live g e) → test (number_at numbers (k + i)) ≡ true
       → ((j h : ℕ) (x : T) → j < i → slice_get slots j ≡ Some (Live h x) → test (number_at numbers (k + j)) ≡ false) → first_in test (slots_from k numbers slots) ≡ Some (number_at numbers (k + i))
   first_found test numbers k [] i g e at passes none = absurd (let no : None ≡ Some (Live g e) = at in cc)
-  first_found test numbers k (x ∷ slots) zero g e at passes none = grind (arith, same_thing, at_first)
+  first_found test numbers k (x ∷ slots) zero g e at passes none = grind (arith, same_Some, at_first)
   first_found test numbers k (Live h y ∷ slots) (suc i) g e at passes none =
       ap (λ b. if b then Some (number_at numbers k) else first_in test (slots_from (suc k) numbers slots)) (at_first test numbers k false (none 0 h y (omega arith) refl))
       ∙ first_found test numbers (suc k) slots i g e at (at_later test numbers k i true passes) (λ j z x less at_j. at_later test numbers k j false (none (suc j) z x (omega (arith, less)) at_j))
@@ -52,9 +53,9 @@ module _ {T : Type 0} where
   nobody : (slots : List (Slot T)) → count_by is_live slots ≡ 0 → (j g : ℕ) (e : T) → slice_get slots j ≡ Some (Live g e) → ⊥
   nobody [] none j g e at = absurd (let no : None ≡ Some (Live g e) = at in cc)
   nobody (Live h y ∷ slots) none j g e at = let sums = sum_by-cons (λ (x : Slot T). cond (is_live x) 1 0) (Live h y) slots in absurd (omega (arith, none, sums))
-  nobody (Vacant h ∷ slots) none zero g e at = absurd (let no : Vacant h ≡ Live g e = same_thing (Vacant h) (Live g e) at in cc)
+  nobody (Vacant h ∷ slots) none zero g e at = absurd (let no : Vacant h ≡ Live g e = same_Some (Vacant h) (Live g e) at in cc)
   nobody (Vacant h ∷ slots) none (suc j) g e at = nobody slots none j g e at
-  nobody (Retired ∷ slots) none zero g e at = absurd (let no : Retired ≡ Live g e = same_thing Retired (Live g e) at in cc)
+  nobody (Retired ∷ slots) none zero g e at = absurd (let no : Retired ≡ Live g e = same_Some Retired (Live g e) at in cc)
   nobody (Retired ∷ slots) none (suc j) g e at = nobody slots none j g e at
 
 -- WHAT STANDS IN A SLOT has its name
@@ -64,14 +65,6 @@ named_at j g = record { index = j; generation = g }
 
 pub live_value : {T : Type 0} (s : Slab T) (j g : ℕ) (e : T) → slice_get s.slots j ≡ Some (Live g e) → value_at s (named_at j g) ≡ Some e
 live_value = grind (arith, get_or_from_slice_get, eq-eqb)
-
--- what is live stands in its slot
-pub live_slot : (s : Slab (Entry Reply Reply)) (id : Id) (e : Entry Reply Reply) → value_at s id ≡ Some e → slice_get s.slots id.index ≡ Some (Live id.generation e)
-live_slot s id e at =
-    let there = at_by s id e at in
-    let it = there_within s.slots id.index there.within in
-    let is : it.0 ≡ Live id.generation e = sym (get_or_from_slice_get s.slots id.index it.0 (Vacant s.first) it.1) ∙ there.slot in
-    it.1 ∙ ap (λ x. Some x) is
 
 module _ {B L : Type 0} (left : B → L) (spot : L → Option Said → Spot) (p : Plan) (vs : Views) (q : Place) (w : Worker) (s : Shared B) (sound : SoundAt q w s) where
   pub record_there : (k : ℕ) (r : Record) → slice_get s.requests.items k ≡ Some r → request_of (common_of left spot p vs s) k ≡ r.shown
@@ -117,7 +110,7 @@ module _ {B L : Type 0} (left : B → L) (spot : L → Option Said → Spot) (p 
       by : (o : Option (Entry Reply Reply)) → value_at (driver_of w).requests id ≡ o → is_held_at o ≡ true → first_held (common_of left spot p vs s) (desk_of w) ≡ Some (number_in w.names.requests.items id)
       by None at held = absurd (false≢true held)
       by (Some e) at held =
-          first_found test w.names.requests.items 0 (driver_of w).requests.slots id.index id.generation e (live_slot (driver_of w).requests id e at)
+          first_found test w.names.requests.items 0 (driver_of w).requests.slots id.index id.generation e (live_at (driver_of w).requests id e at)
           (zero_on id.index true (observed_in id e at ∙ held))
           (λ j g x less at_j.
           let value = live_value (driver_of w).requests j g x at_j in

@@ -1,9 +1,8 @@
 -- A MESSAGE ABOUT WHAT A WORKER HAS comes into its inbox, which is open: its seat then, and what is seen of that.
-use Rattle.std.proofs.{Common.{◌≡◌, ◌++◌, ◌+◌, ◌≤◌, ◌&&◌, ℕ, Bool, true, false, not, List, [], ◌∷◌, append_assoc, cond, count_by, length, map, Some, refl, sym, ap, ◌∙◌, arith, slice_get, slice_set, if◌then◌else◌}, lemmas.{Bool.false≢true, List.{length-append, map-append, Sums.sum_by-append}}}
-use Rattle.std.specs.List.{list_any}
-use Rattle.exec_words.specs.{Inbox.{has_any, is_wake_root, opens_batch, word_after}, Word.{asks_signal, next_batch}, declared.word.PureWord.PureWord}
-use Rattle.exec_machine.specs.{declared.state.MailMessage.{MailMessage, TheVariants.{ForwardRequest, ForwardTimer, CancelRequest, CancelTimer}}, Mail.{is_root_message, posted as seat_posted}, Tests.is_empty}
-use Rattle.exec_moves.specs.{Send.{Mailbox as Box, asks, posted, published_if}, State.{Things, word_of}, Thing.{mailbox_of, set_mailbox}}
+use Rattle.std.proofs.{Common.{◌≡◌, ◌++◌, ◌+◌, ◌≤◌, ℕ, Bool, true, false, not, List, [], ◌∷◌, append_assoc, cond, count_by, length, map, Some, refl, sym, ap, ◌∙◌, arith, slice_get, slice_set, if◌then◌else◌}, lemmas.{Bool.false≢true, List.{length-append, map-append, Sums.sum_by-append}}}
+use Rattle.exec_words.specs.{Inbox.{has_any, is_wake_root, opens_batch, word_after}, Word.{next_batch}, declared.word.PureWord.PureWord}
+use Rattle.exec_machine.specs.{declared.state.MailMessage.{MailMessage, TheVariants.{ForwardRequest, ForwardTimer, CancelRequest, CancelTimer}}, Mail.{is_root_message, posted as seat_posted}}
+use Rattle.exec_moves.specs.{Send.{asks, posted, published_if}, State.{Things, word_of}, Thing.{mailbox_of, set_mailbox}}
 use Rattle.exec_parts.{specs.{declared.parts.{seat.Seat.Seat as Chair, shared.Shared.Shared}, MailPosts.{asks_by, chair_sent}, View.{Views, Visible, inbox_at, mail_of, message_of, polls_seen, queue_at, seat_seen, things_with, word_at}}, proofs.Showing.own_word_seen}
 use Rattle.exec_invariants.{specs.{Holding.{Mail}, Spares.SparesChair}, proofs.{Posting.{inbox_seen, none_seen, posted_both}}}
 
@@ -62,21 +61,14 @@ module _ (m : MailMessage) (letter : IsLetter m) (chair : Chair) (open_box : cha
     box_seen = ap (λ ms. record { messages = ms; word = word_of (things_with vs s) j }) (inbox_seen vs j s chair there) ∙ ap (λ w. record { messages = map message_of messages; word = w }) (own_word_seen j s chair there)
 
     pub posted_open : posted m (mailbox_of (things_with vs s) j) ≡ record { messages = inbox_at chair_open; word = chair_open.mailbox.waker }
-    posted_open =
-        ap (posted m) box_seen
-        ∙ ap (λ b. let x : Box = record { messages = map message_of messages; word = chair.mailbox.waker } in if b && list_any is_root_message x.messages then x else record { messages = x.messages ++ m ∷ []; word = published_if (is_empty x.messages) x.word }) letter.root
-        ∙ ap (λ ms. record { messages = ms; word = published_if (is_empty (map message_of messages)) chair.mailbox.waker }) (ap (λ x. map message_of messages ++ x ∷ []) (sym letter.back) ∙ sym (map-append message_of messages (mail_of m ∷ [])))
-        ∙ ap (λ b. record { messages = inbox_at chair_open; word = published_if b chair.mailbox.waker }) (none_seen messages)
-        ∙ ap (λ w. record { messages = inbox_at chair_open; word = w }) (published (has_any messages) chair.mailbox.waker)
+    posted_open = grind (arith, box_seen, letter.root, letter.back, map-append message_of messages (mail_of m ∷ []), none_seen messages, published (has_any messages) chair.mailbox.waker)
       where
         published : (b : Bool) (w : PureWord) → published_if (not b) w ≡ (if not b then record w { batch = next_batch w.batch } else w)
         published true w = refl
         published false w = refl
 
     pub asks_open : asks (mailbox_of (things_with vs s) j) ≡ asks_by m chair.mailbox
-    asks_open =
-        ap asks box_seen ∙ ap (λ b. b && asks_signal chair.mailbox.waker) (none_seen messages)
-        ∙ sym (ap (λ c. not c && (opens_batch chair.mailbox.inbox (mail_of m) && asks_signal chair.mailbox.waker)) open_box)
+    asks_open = grind (arith, box_seen, none_seen messages, open_box)
 
     -- the inbox and the wake word show it
     pub things_open : (seats : List Chair) → seats ≡ slice_set s.seats.items j chair_open

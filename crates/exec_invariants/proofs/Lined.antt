@@ -4,20 +4,20 @@ use Rattle.std.proofs.{Common.{◌≡◌, ℕ, zero, suc, ◌≤◌, ◌<◌, �
 use Rattle.std.proofs.Common.{arith}
 use Rattle.exec_outcomes.specs.Accounts.{is_durable}
 use Rattle.exec_driver.specs.{Opens.OpenState, declared.opens.WaiterKey.WaiterKey}
-use Rattle.exec_machine.specs.Tests.{is_of_file, is_resolved, is_unsent}
+use Rattle.exec_machine.specs.Tests.{is_of_file, is_resolved, is_unsent, is_gated}
 use Rattle.exec_parts.{specs.{declared.parts.record.Record.Record, Serving.{changed_in, changed_at, flies, flown_in}, View.{gate_seen, number_of_key, numbers_of_passing}}}
-use Rattle.exec_invariants.{specs.{Gates.{AreLinedUp, AtGate, HaveGates, IsLinedUp, at_gate, has_hint_at, is_coming, line_at}, Places.Drops}, proofs.Marking.{marked, mark_if}}
+use Rattle.exec_invariants.{specs.{Gates.{AreLinedUp, AtGate, HaveGates, IsLinedUp, at_gate, has_hint_at, is_coming, line_at, key_for}, Places.Drops}, proofs.Marking.{marked, mark_if}}
 
 -- LISTS
 
 some_same : {A : Type 0} {x y : A} → Some x ≡ Some y → x ≡ y
 some_same h = cc
 
-tally : {X : Type 0} → (X → Bool) → List X → ℕ
+unfoldable pub tally : {X : Type 0} → (X → Bool) → List X → ℕ
 tally p [] = 0
 tally p (x ∷ xs) = cond (p x) (1 + tally p xs) (tally p xs)
 
-tallied : {X : Type 0} (p : X → Bool) (xs : List X) → tally p xs ≡ count_by p xs
+pub tallied : {X : Type 0} (p : X → Bool) (xs : List X) → tally p xs ≡ count_by p xs
 unfolding tally
 tallied p xs = is_count_by (tally p) p refl (λ x ys. refl) xs
 
@@ -60,6 +60,8 @@ lines_same = grind arith
 -- one record changed, and counts as before
 pub lines_changed : (rs : List Record) (k : ℕ) (r : Record) (f : Record → Record) → slice_get rs k ≡ Some r → SameAtGate r (f r) → KeepsLines rs (changed_at rs k f)
 lines_changed rs k r f there same =
+    let still : (j : ℕ) (x : Record) (b : Bool) → (k == j) ≡ b → slice_get rs j ≡ Some x → is_unsent x.shown.forwarding ≡ false → is_unsent (mark_if f b x).shown.forwarding ≡ false = grind arith in
+    let by : (j : ℕ) (x : Record) (b : Bool) → (k == j) ≡ b → slice_get rs j ≡ Some x → is_resolved x.shown.phase ≡ true → is_resolved (mark_if f b x).shown.phase ≡ true = grind arith in
     record {
       at = ap (λ o. map at_gate (changed_in rs k f o)) there ∙ map-set_same at_gate rs k (f r) r (same.at ∙ ap at_gate (sym (get_or_from_slice_get rs k r r there)));
       over = λ j x x' at at' over.
@@ -70,12 +72,6 @@ lines_changed rs k r f there same =
           let now : x' ≡ mark_if f (k == j) x = some_same (sym at' ∙ marked f rs k j x at) in
           subst (λ y. is_unsent y.shown.forwarding ≡ false) (sym now) (still j x (k == j) refl at h);
     }
-  where
-    still : (j : ℕ) (x : Record) (b : Bool) → (k == j) ≡ b → slice_get rs j ≡ Some x → is_unsent x.shown.forwarding ≡ false → is_unsent (mark_if f b x).shown.forwarding ≡ false
-    still = grind arith
-
-    by : (j : ℕ) (x : Record) (b : Bool) → (k == j) ≡ b → slice_get rs j ≡ Some x → is_resolved x.shown.phase ≡ true → is_resolved (mark_if f b x).shown.phase ≡ true
-    by = grind arith
 
 -- one record changed, of which this stays
 pub map_changed : {A : Type 0} (p : Record → A) (rs : List Record) (k : ℕ) (r : Record) (f : Record → Record) → slice_get rs k ≡ Some r → p (f r) ≡ p r → map p (changed_at rs k f) ≡ map p rs
@@ -83,16 +79,13 @@ map_changed p rs k r f there same = ap (λ o. map p (changed_in rs k f o)) there
 
 pub lines_on : (rs xs ys : List Record) → KeepsLines rs xs → KeepsLines xs ys → KeepsLines rs ys
 lines_on rs xs ys a b =
-    record {
-      at = b.at ∙ a.at;
-      over = λ k r y there there' over.
-          let mid = unmapped at_gate xs k (at_gate r) (ap (λ zs. slice_get zs k) a.at ∙ mapped at_gate rs k r there) in
-          b.over k mid.0 y mid.1 there' (a.over k r mid.0 there mid.1 over);
-      sent = b.sent ∙ a.sent;
-      forwarded = λ k r y there there' h.
-          let mid = unmapped at_gate xs k (at_gate r) (ap (λ zs. slice_get zs k) a.at ∙ mapped at_gate rs k r there) in
-          b.forwarded k mid.0 y mid.1 there' (a.forwarded k r mid.0 there mid.1 h);
-    }
+    let over_so : (k : ℕ) (r r' : Record) → slice_get rs k ≡ Some r → slice_get ys k ≡ Some r' → is_resolved r.shown.phase ≡ true → is_resolved r'.shown.phase ≡ true = λ k r y there there' over.
+    let mid = unmapped at_gate xs k (at_gate r) (ap (λ zs. slice_get zs k) a.at ∙ mapped at_gate rs k r there) in
+    b.over k mid.0 y mid.1 there' (a.over k r mid.0 there mid.1 over) in
+    let forwarded : (k : ℕ) (r r' : Record) → slice_get rs k ≡ Some r → slice_get ys k ≡ Some r' → is_unsent r.shown.forwarding ≡ false → is_unsent r'.shown.forwarding ≡ false = λ k r y there there' h.
+    let mid = unmapped at_gate xs k (at_gate r) (ap (λ zs. slice_get zs k) a.at ∙ mapped at_gate rs k r there) in
+    b.forwarded k mid.0 y mid.1 there' (a.forwarded k r mid.0 there mid.1 h) in
+    assumption (b.at ∙ a.at, over_so, b.sent ∙ a.sent, forwarded)
 
 -- WHAT THAT KEEPS
 
@@ -121,27 +114,24 @@ module _ (rs rs' : List Record) (keeps : KeepsAt rs rs') where
 
   line_kept : (file : ℕ) (o : OpenState) → IsLinedUp file o rs → IsLinedUp file o rs'
   line_kept file o line =
-      record {
-        named = λ n key at.
-            let old = line.named n key at in
-            let new = now_at old.0 old.1 old.2 in
-            (old.0, new.0, new.1, ap (λ x. x.key) new.2 ∙ old.3);
-        durable = λ n key k r at there is.
-            let old = was k r there in
-            let it = line.durable n key k old.0 at old.1 (ap (λ x. x.key) old.2 ∙ is) in
-            (ap (λ x. is_durable x.kind) (sym old.2) ∙ it.0, ap (λ x. x.target) (sym old.2) ∙ it.1);
-        waits = λ n key k r some at there is.
-            let old = was k r there in
-            ap (λ x. x.gated) (sym old.2) ∙ line.waits n key k old.0 some at old.1 (ap (λ x. x.key) old.2 ∙ is);
-        once = line.once;
-        held = λ k r there durable of ungated open_still.
-            let old = was k r there in
-            line.held k old.0 old.1 (ap (λ x. is_durable x.kind) old.2 ∙ durable) (ap (λ x. x.target) old.2 ∙ of) (ap (λ x. x.gated) old.2 ∙ ungated) (going k old.0 r old.1 there open_still)
-            ∙ ap (λ x. Some x.key) old.2;
-        first = line.first;
-        kept = line.kept;
-        places = subst (λ n. n ≤ o.coming) (count_map (is_coming file o) at_gate rs ∙ ap (count_by (is_coming file o)) (sym keeps.at) ∙ sym (count_map (is_coming file o) at_gate rs')) line.places;
-      }
+      let named : (n : ℕ) (key : WaiterKey) → slice_get (line_at o) n ≡ Some key → (k : ℕ) × (r : Record) × (slice_get rs' k ≡ Some r) × (key_for r ≡ key) = λ n key at.
+      let old = line.named n key at in
+      let new = now_at old.0 old.1 old.2 in
+      (old.0, new.0, new.1, ap (λ x. x.key) new.2 ∙ old.3) in
+      let durable_so : (n : ℕ) (key : WaiterKey) (k : ℕ) (r : Record) → slice_get (line_at o) n ≡ Some key → slice_get rs' k ≡ Some r → key_for r ≡ key → (is_durable r.shown.operation.kind ≡ true) × (r.shown.operation.target ≡ file) = λ n key k r at there is.
+      let old = was k r there in
+      let it = line.durable n key k old.0 at old.1 (ap (λ x. x.key) old.2 ∙ is) in
+      (ap (λ x. is_durable x.kind) (sym old.2) ∙ it.0, ap (λ x. x.target) (sym old.2) ∙ it.1) in
+      let waits : (n : ℕ) (key : WaiterKey) (k : ℕ) (r : Record) → 0 < n → slice_get (line_at o) n ≡ Some key → slice_get rs' k ≡ Some r → key_for r ≡ key → is_gated r.shown.phase ≡ true = λ n key k r some at there is.
+      let old = was k r there in
+      ap (λ x. x.gated) (sym old.2) ∙ line.waits n key k old.0 some at old.1 (ap (λ x. x.key) old.2 ∙ is) in
+      let held : (k : ℕ) (r : Record) → slice_get rs' k ≡ Some r → is_durable r.shown.operation.kind ≡ true → r.shown.operation.target ≡ file → is_gated r.shown.phase ≡ false → is_resolved r.shown.phase ≡ false → o.holder ≡ Some (key_for r) =
+      λ k r there durable of ungated open_still.
+      let old = was k r there in
+      line.held k old.0 old.1 (ap (λ x. is_durable x.kind) old.2 ∙ durable) (ap (λ x. x.target) old.2 ∙ of) (ap (λ x. x.gated) old.2 ∙ ungated) (going k old.0 r old.1 there open_still)
+      ∙ ap (λ x. Some x.key) old.2 in
+      let places = subst (λ n. n ≤ o.coming) (count_map (is_coming file o) at_gate rs ∙ ap (count_by (is_coming file o)) (sym keeps.at) ∙ sym (count_map (is_coming file o) at_gate rs')) line.places in
+      assumption (named, durable_so, waits, held, places, line)
 
   pub lined_at : (opens : List OpenState) → AreLinedUp opens rs → AreLinedUp opens rs'
   lined_at opens lined =
@@ -253,15 +243,12 @@ module _ (opens opens' : List OpenState) (same : SameLines opens opens') where
 
   pub lined_opens : (rs : List Record) → AreLinedUp opens rs → AreLinedUp opens' rs
   lined_opens rs lined =
-      record {
-        lines = λ file o' there.
-            let old = open_was file o' there in
-            line_moved file old.0 o' rs old.2 (same.kept file o' there) (lined.lines file old.0 old.1);
-        there = λ k r at of. subst (λ n. r.shown.operation.target < n) (sym many_opens) (lined.there k r at of);
-        durable = lined.durable;
-        few = subst (λ n. n < 2 ^ 32) (sym many_opens) lined.few;
-        unique = lined.unique;
-      }
+      let lines : (file : ℕ) (o : OpenState) → slice_get opens' file ≡ Some o → IsLinedUp file o rs = λ file o' there.
+      let old = open_was file o' there in
+      line_moved file old.0 o' rs old.2 (same.kept file o' there) (lined.lines file old.0 old.1) in
+      let there_so : (k : ℕ) (r : Record) → slice_get rs k ≡ Some r → is_of_file r.shown.operation.kind ≡ true → r.shown.operation.target < length opens' =
+      λ k r at of. subst (λ n. r.shown.operation.target < n) (sym many_opens) (lined.there k r at of) in
+      assumption (lines, there_so, subst (λ n. n < 2 ^ 32) (sym many_opens) lined.few, lined)
 
   pub gates_opens : (drops : ℕ → Drops) (rs : List Record) → HaveGates drops opens rs → HaveGates drops opens' rs
   gates_opens drops rs have =

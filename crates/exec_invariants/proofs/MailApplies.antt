@@ -1,21 +1,23 @@
 -- A MESSAGE OF THE BATCH IS APPLIED: what that is to the machine, whatever the message does, and where the worker goes on.
 use Rattle.std.proofs.{Common.{◌≡◌, ℕ, zero, suc, ◌+◌, ◌-◌, ◌<◌, ◌||◌, nat_le, Bool, true, false, cond, Contains, List, [], ◌∷◌, ◌++◌, drop, length, map, Option, Some, None, refl, sym, ap, subst, ◌∙◌, arith, slice_get, slice_set, if◌then◌else◌}, lemmas.{Bool.{false≢true, Decides.nat_tests}, List.Sums.sum_by-append}}
+use Rattle.std.proofs.lemmas.Bool.{or_parts}
+use Rattle.exec_base.specs.Slab.{live_count}
 use Rattle.exec_waiters.specs.States.{pending_count}
 use Rattle.exec_task.specs.declared.body.Said.{Said}
-use Rattle.exec_machine.specs.{declared.{event.Event.TheVariants.Apply, state.{MailMessage.{MailMessage}, Next.Next}}, Choice.Choice.Plain, Mail.{after_message as made_by, is_first_message, own_after_apply}, Progress.Plan, Ranges.ring_size, Same.same_message, Tests.is_empty, World.{Common, Seat, seat_of}}
-use Rattle.exec_moves.specs.{declared.place.{InMail.InMail, Place.Place}, Mail.{after_message, to_callbacks, told_by_message}, Move.move_at, Seen.{next_at, polls_at, serves_at}, State.Desk}
-use Rattle.exec_parts.{specs.{declared.parts.{mail.Subject.Subject, seat.Seat.Seat as Chair, shared.Shared.Shared, worker.Worker.Worker}, Calls.IsTold, Spots.Spot, View.{Views, Visible, common_of, desk_of, driver_of, message_of, own_of, owed_at, polls_seen, raised_times, seat_seen, seats_seen, things_with, visible, with_view}}, proofs.Facts.{same_thing, true_false}}
-use Rattle.exec_invariants.{specs.{Carried.IsCarried, Due.IsDue, Flown.HasFlown, Gates.{AreLinedUp, IsKnown}, Holding.{Mail, mail_in, mail_of_letters, same_mail}, Places.{begins_at, claims_at, drops_at, has_count_at, is_published_at, no_drops, polled_in}, Rooted.IsRooted, Sound.{AreOver, HasLetters, IsMyMail, SoundAt}, Names.{HasWidth, IsNamed, tellers}, Whole.{Profile, with_worker}, Works.{Suits, Works}}, proofs.{Aside.SameProfile, HoldMail.mail_first, Lined.lined_kept, Resolving.places_fewer, Seats.own_seat, Serving.{SparesRecords, letter_kept, mail_kept}}}
+use Rattle.exec_machine.specs.{declared.{event.Event.TheVariants.Apply, state.{MailMessage.{MailMessage}, Next.Next}}, Choice.Choice.Plain, Mail.{after_message as made_by, is_first_message, own_after_apply}, Progress.Plan, Ranges.ring_size, Same.same_message, Tests.is_empty, World.{seat_of}}
+use Rattle.exec_moves.specs.{declared.place.{InMail.InMail, Place.Place}, Mail.{after_message, to_callbacks, told_by_message}, Move.move_at, Seen.{next_at, polls_at, serves_at}}
+use Rattle.exec_parts.{specs.{declared.parts.{mail.Subject.Subject, seat.Seat.Seat as Chair, shared.Shared.Shared, worker.Worker.Worker}, Calls.IsTold, Spots.Spot, View.{Views, Visible, common_of, desk_of, driver_of, message_of, own_of, owed_at, polls_seen, raised_times, seat_seen, seats_seen, things_with, visible, with_view}}, proofs.Facts.{same_Some, true_false}}
+use Rattle.exec_invariants.{specs.{Carried.IsCarried, Due.IsDue, Flown.HasFlown, Gates.{AreLinedUp, IsKnown}, Holding.{Mail, mail_in, mail_of_letters, same_mail}, Places.{begins_at, claims_at, drops_at, has_count_at, is_published_at, no_drops, polled_in}, HoldPlaces.spare_at, Rooted.IsRooted, Sound.{AreOver, HasBatch, HasLetters, IsMyMail, SoundAt}, Names.{HasWidth, IsNamed, tellers}, Whole.{Profile, with_worker}, Works.{Suits, Works}}, proofs.{Aside.SameProfile, HoldMail.mail_first, Lined.lined_kept, Resolving.places_fewer, Seats.own_seat, Serving.{SparesRecords, letter_kept, mail_kept}}}
 
 pub split_first : {A : Type 0} (xs : List A) (x : A) → slice_get xs 0 ≡ Some x → xs ≡ x ∷ drop 1 xs
 split_first [] x at = absurd (let no : None ≡ Some x = at in cc)
-split_first (y ∷ ys) x at = ap (λ z. z ∷ ys) (same_thing y x at)
+split_first (y ∷ ys) x at = ap (λ z. z ∷ ys) (same_Some y x at)
 
 pub rest_had : {A : Type 0} (xs : List A) (x : A) → Contains (drop 1 xs) x → Contains xs x
 rest_had [] x (k, few, is) = (k, few, is)
 rest_had (y ∷ ys) x (k, few, is) = (suc k, (omega (arith, few)), is)
 
-same_self : (m : MailMessage) → same_message m m ≡ true
+pub same_self : (m : MailMessage) → same_message m m ≡ true
 same_self = grind arith
 
 -- what is seen of seats, once another is visible of worker i
@@ -43,10 +45,6 @@ passed_on w = record w { batch = record w.batch { values = drop 1 w.batch.values
 some_left : (ms : List Mail) → is_empty (map message_of ms) ≡ false → 0 < length ms
 some_left [] h = absurd (false≢true (sym h))
 some_left (m ∷ ms) h = omega arith
-
-or_parts : (a b : Bool) → (a || b) ≡ false → (a ≡ false) × (b ≡ false)
-or_parts true b h = absurd (false≢true (sym h))
-or_parts false b h = (refl, h)
 
 not_most : (n : ℕ) → nat_le 64 n ≡ false → n < 64
 not_most n h = grind (arith, nat_tests)
@@ -95,102 +93,18 @@ module _ {B : Type 0} where
     -- at the next message
     sound_next : 0 < length (rest_of w) → applied + 1 < 64 → SoundAt (Place.Mail (InMail.Apply (applied + 1) true)) (record (passed_on w1) { place = Place.Mail (InMail.Apply (applied + 1) true) }) s1
     sound_next some few =
-        record {
-          here = refl;
-          config = sound.config;
-          gates = lined;
-          known = keeps.known;
-          workers = sound.workers;
-          role = sound.role;
-          pooled = sound.pooled;
-          serves = sound.serves;
-          calm = sound.calm;
-          homes = sound.homes;
-          shards = sound.shards;
-          time = sound.time;
-          told = keeps.told;
-          wide = keeps.wide;
-          named = keeps.named;
-          runnable = sound.runnable;
-          seated = sound.seated;
-          queue = sound.queue;
-          sized = keeps.sized;
-          processed = sound.processed;
-          hand = sound.hand;
-          loot = sound.loot;
-          genuine = sound.genuine;
-          stolen = sound.stolen;
-          searching = sound.searching;
-          aims = few;
-          guest = sound.guest;
-          resting = sound.resting;
-          left = tt;
-          over = keeps.over;
-          batch = some;
-          mine = mine;
-          batch_place = sound.batch_place;
-          letters = letters;
-          quiet = λ h. true_false h;
-          due = keeps.due;
-          flown = keeps.flown;
-          carried = keeps.carried;
-          rooted = keeps.rooted;
-          stops = tt;
-          hears = tt;
-          lets_go = λ h. absurd (false≢true h);
-          phased = sound.phased;
-          tied = sound.tied;
-        }
+        let quiet : true ≡ false → w1.home.deferred.notes.wakes.items ≡ [] = λ h. true_false h in
+        let lets_go : false ≡ true → live_count w1.home.timers ≡ 0 = λ h. absurd (false≢true h) in
+        assumption (lined, few, some, mine, letters, quiet, lets_go, keeps, tt, sound)
 
     -- or at the callbacks
     sound_back : SoundAt to_callbacks (record (passed_on w1) { place = to_callbacks }) s1
     sound_back =
-        record {
-          here = refl;
-          config = sound.config;
-          gates = lined;
-          known = keeps.known;
-          workers = sound.workers;
-          role = sound.role;
-          pooled = sound.pooled;
-          serves = sound.serves;
-          calm = sound.calm;
-          homes = sound.homes;
-          shards = sound.shards;
-          time = sound.time;
-          told = places_fewer (omega arith) keeps.told;
-          wide = keeps.wide;
-          named = keeps.named;
-          runnable = sound.runnable;
-          seated = sound.seated;
-          queue = sound.queue;
-          sized = keeps.sized;
-          processed = sound.processed;
-          hand = sound.hand;
-          loot = sound.loot;
-          genuine = sound.genuine;
-          stolen = sound.stolen;
-          searching = sound.searching;
-          aims = tt;
-          guest = sound.guest;
-          resting = sound.resting;
-          left = tt;
-          over = keeps.over;
-          batch = λ h. absurd (false≢true h);
-          mine = mine;
-          batch_place = sound.batch_place;
-          letters = letters;
-          quiet = λ h. true_false h;
-          due = keeps.due;
-          flown = keeps.flown;
-          carried = keeps.carried;
-          rooted = keeps.rooted;
-          stops = tt;
-          hears = tt;
-          lets_go = λ h. absurd (false≢true h);
-          phased = sound.phased;
-          tied = sound.tied;
-        }
+        let told : IsTold w1.names.ended.items w1.home.deferred (tellers (driver_of w1).requests w1.home.timers + spare_at to_callbacks) = places_fewer (omega arith) keeps.told in
+        let batch : HasBatch to_callbacks (rest_of w) = λ h. absurd (false≢true h) in
+        let quiet : true ≡ false → w1.home.deferred.notes.wakes.items ≡ [] = λ h. true_false h in
+        let lets_go : false ≡ true → live_count w1.home.timers ≡ 0 = λ h. absurd (false≢true h) in
+        assumption (lined, told, batch, mine, letters, quiet, lets_go, keeps, tt, sound)
 
     pub applied_sound : SoundAt (after_message (applied + 1) (map message_of (rest_of w))) (record (passed_on w1) { place = after_message (applied + 1) (map message_of (rest_of w)) }) s1
     applied_sound = by (ends_turn applied (map message_of (rest_of w))) refl
@@ -259,8 +173,6 @@ module _ {B L : Type 0} (left : B → L) (spot : L → Option Said → Spot) whe
       let d = desk_of w in
       let m = message_of mail in
       let rest = rest_of w in
-      let q : Place = Place.Mail (InMail.Apply applied taken) in
-      let q' : Place = after_message (applied + 1) (map message_of rest) in
       let seat = sound.seated.seat in
       let there = sound.seated.there in
       let phased = sound.phased seat there in
@@ -269,11 +181,7 @@ module _ {B L : Type 0} (left : B → L) (spot : L → Option Said → Spot) whe
       let batch : d.batch ≡ m ∷ map message_of rest = ap (map message_of) split in
       let v1 : Visible = visible w1 in
       let inbox : (seat_seen (visible w) seat).inbox ≡ m ∷ (map message_of rest ++ map message_of seat.mailbox.inbox.messages) = ap (λ ms. map message_of ms ++ map message_of seat.mailbox.inbox.messages) split in
-      let seat_then : seat_seen v1 seat ≡ record (seat_of cs w.index) { inbox = drop 1 (seat_of cs w.index).inbox } =
-      ap (λ v. seat_seen v seat) shown
-      ∙ ap (λ ms. record (seat_seen (visible w) seat) { inbox = ms }) (sym (ap (drop 1) inbox))
-      ∙ ap (λ (x : Seat). record x { inbox = drop 1 x.inbox }) (sym mine) in
-      let moved : Desk = record (told_by_message cs w.root m d) { batch = map message_of rest; place = q' } in
+      let seat_then : seat_seen v1 seat ≡ record (seat_of cs w.index) { inbox = drop 1 (seat_of cs w.index).inbox } = grind (arith, shown, inbox, mine) in
       record {
         choice = Plain;
         moves =
@@ -281,9 +189,5 @@ module _ {B L : Type 0} (left : B → L) (spot : L → Option Said → Spot) whe
             (rw batch refl ∙ ap (λ y. record { event = Apply m; choice = Plain; desk = y; thing = things_with vs s }) (sym desk) ∙ ap (λ x. record { event = Apply m; choice = Plain; desk = desk_of w1; thing = x }) (sym things));
         may = (rw (sound.here, sound.letters.none refl) refl, (rw mine phased.opened, (ap (is_first_message m) mine ∙ ap (λ ms. is_first_message m (record (seat_seen (visible w) seat) { inbox = ms })) inbox ∙ same_self m, tt)));
         own = own;
-        common =
-            ap (λ xs. record (common_of left spot p vs s1) { seats = xs }) (ap (seats_seen (slice_set vs.workers w.index v1)) seats ∙ seats_viewed vs.workers s.seats.items w.index v1 seat there)
-            ∙ ap (λ x. record (common_of left spot p vs s1) { seats = slice_set (seats_seen vs.workers s.seats.items) w.index x }) seat_then
-            ∙ ap (λ cs'. record (common_of left spot p vs s1) { seats = slice_set cs' w.index (record (seat_of cs w.index) { inbox = drop 1 (seat_of cs w.index).inbox }) }) (sym (ap (seats_seen vs.workers) seats))
-            ∙ ap (λ (told : Common). record told { seats = slice_set told.seats w.index (record (seat_of cs w.index) { inbox = drop 1 (seat_of cs w.index).inbox }) }) common;
+        common = grind (arith, seats, seats_viewed vs.workers s.seats.items w.index v1 seat there, seat_then, common);
       }

@@ -5,7 +5,7 @@ use Rattle.exec_waiters.specs.{Told.is_untold, declared.deferred.Deferred.Deferr
 use Rattle.exec_task.specs.declared.body.Said.{Said}
 use Rattle.exec_machine.specs.{declared.{event.Event.{Event, TheVariants.Turn}, state.Next.Next}, After.common_after, Choice.Choice.Plain, Ranges.ring_size, World.{Common, Own as Books}}
 use Rattle.exec_moves.specs.{declared.{handing.{AfterCallbacks.AfterCallbacks, AfterLeave.AfterLeave}, place.{InCallbacks.InCallbacks, Place.Place}}, Callback.{Item.LetsGo, item_next, next_callback}, State.Desk, Move.{move_at, move_item}, Seen.{next_at, polls_at, serves_at}}
-use Rattle.exec_parts.{specs.{declared.parts.{mail.Reply.Reply, shared.Shared.Shared, worker.Worker.Worker}, Calls.{KeepsRoom, IsTold}, Spots.Spot, Tests.{after_callbacks_of, is_anything_told, leave_of, next_callback_of}, View.{common_of, desk_of, driver_of, owed_at, own_of, things_with, visible, with_view}}, proofs.Facts.{by_not_not, true_false}}
+use Rattle.exec_parts.{specs.{declared.parts.{mail.Reply.Reply, shared.Shared.Shared, worker.Worker.Worker}, Calls.{KeepsRoom, IsTold}, Spots.Spot, Tests.{after_callbacks_of, is_anything_told, leave_of, next_callback_of}, View.{common_of, desk_of, driver_of, owed_at, own_of, things_with, visible, with_view}}, proofs.Facts.{not-false, true_false}}
 use Rattle.exec_invariants.{specs.{HoldPlaces.spare_before, Places.{claims_at, drops_at, searches_at, searches_before}, Rooted.IsRooted, Sound.{IsSearching, SoundAt, has_wakes_at}, Names.{HasWidth, tellers}, Works.{Beside, Steps, Suits}}, proofs.{PoolKept.gates_same, Aside.{SameProfile, beside_calm, seats_same, spares_turn, told_on}, CallsBack.{Pushed, To, callback_seen, callbacks_seen, none_left, to_after, to_call}, Counting.{SameHands, Stance, counts_same, stance_at, stance_here, whole_counted}, Hearing.unheard, Idled.{Fares, Holds, settled}, Turning.{GoesOn, IsTurn, sound_on, turned, view_found}}}
 
 -- where the batch leads
@@ -75,7 +75,7 @@ module _ {B : Type 0} where
       (λ some. fares_either n w.searching (Place.LeaveSearch (AfterLeave.CallBack n)) (Place.Callbacks InCallbacks.CallBack n) w s
       (λ seeks. fare_leave n w s sound seeks some)
       (λ idle. fare_to n (Place.Callbacks InCallbacks.CallBack n) w s sound (to_call n w s it some) idle))
-      (λ none. fare_to n (after_callbacks_of n w) w s sound (to_after n w s it (none_left w.home.deferred (by_not_not (is_untold w.home.deferred) none))) (still_searching n w sound.searching))
+      (λ none. fare_to n (after_callbacks_of n w) w s sound (to_after n w s it (none_left w.home.deferred (not-false (is_untold w.home.deferred) none))) (still_searching n w sound.searching))
 
   -- one of the items is told, and the worker goes on as from the batch: v says that it told it
   pub next_fares : (n : AfterCallbacks) (v : Worker) (s : Shared B) → SoundAt (Place.Callbacks InCallbacks.TakeBatch n) v s → v.searching ≡ false → Fares (Place.Callbacks InCallbacks.TakeBatch n) (next_callback_of n v) (stance v) v s
@@ -83,7 +83,7 @@ module _ {B : Type 0} where
       let it = pushed_batch n v s sound in
       fares_either n (is_anything_told v) (Place.Callbacks InCallbacks.CallBack n) (after_callbacks_of n v) v s
       (λ some. fare_to n (Place.Callbacks InCallbacks.CallBack n) v s sound (to_call n v s it some) idle)
-      (λ none. fare_to n (after_callbacks_of n v) v s sound (to_after n v s it (none_left v.home.deferred (by_not_not (is_untold v.home.deferred) none))) (still_searching n v sound.searching))
+      (λ none. fare_to n (after_callbacks_of n v) v s sound (to_after n v s it (none_left v.home.deferred (not-false (is_untold v.home.deferred) none))) (still_searching n v sound.searching))
 
   pub next_sound : (n : AfterCallbacks) (v : Worker) (s : Shared B) → SoundAt (Place.Callbacks InCallbacks.TakeBatch n) v s → v.searching ≡ false → SoundAt (next_callback_of n v) (record v { place = next_callback_of n v }) s
   next_sound n v s sound idle =
@@ -110,52 +110,7 @@ module _ {B : Type 0} where
       let rooted : IsRooted w.index w.names (driver_of w) w.home.timers left1 s.requests.items s.sleepers.items =
       record { kept = r.kept; ready = r.ready; replies = r.replies; watches = r.watches; pays = r.pays; sleeper_pays = r.sleeper_pays; results = r.results; completions = r.completions; sent = r.sent; sleeper_sent = r.sleeper_sent }
       in
-      record {
-        here = refl;
-        config = sound.config;
-        gates = sound.gates;
-        known = sound.known;
-        workers = sound.workers;
-        role = sound.role;
-        pooled = sound.pooled;
-        serves = sound.serves;
-        calm = sound.calm;
-        homes = sound.homes;
-        shards = sound.shards;
-        time = sound.time;
-        told = told;
-        wide = wide;
-        named = sound.named;
-        runnable = sound.runnable;
-        seated = sound.seated;
-        queue = sound.queue;
-        sized = sound.sized;
-        processed = sound.processed;
-        hand = sound.hand;
-        loot = sound.loot;
-        genuine = sound.genuine;
-        stolen = sound.stolen;
-        searching = searching;
-        aims = sound.aims;
-        guest = sound.guest;
-        resting = sound.resting;
-        left = tt;
-        over = sound.over;
-        batch = sound.batch;
-        mine = sound.mine;
-        batch_place = sound.batch_place;
-        letters = sound.letters;
-        quiet = quiet;
-        due = sound.due;
-        flown = sound.flown;
-        carried = sound.carried;
-        rooted = rooted;
-        stops = sound.stops;
-        hears = sound.hears;
-        lets_go = sound.lets_go;
-        phased = sound.phased;
-        tied = sound.tied;
-      }
+      assumption (told, wide, searching, quiet, rooted, sound)
 
 module _ {B L : Type 0} (left : B → L) (spot : L → Option Said → Spot) where
   taken : (n : AfterCallbacks) (w : Worker) (s : Shared B) → SoundAt (Place.Callbacks InCallbacks.TakeBatch n) w s → Steps left spot w s Turn (record w { place = from_batch n w }) s
@@ -169,15 +124,7 @@ module _ {B L : Type 0} (left : B → L) (spot : L → Option Said → Spot) whe
       let rests : Rests w.workers q' = rests_from w.workers n w in
       let is : IsTurn w.workers q q' = record { polls = ap (λ k. k.polls) to.same; free = refl; free_then = ap (λ k. k.next) to.same; unserved = rests.unserved; owes = rests.owes } in
       let same : SameHands w w' =
-      record {
-        hand = refl;
-        loot = refl;
-        polls = ap (λ k. k.polls) to.same ∙ sym (ap polls_at sound.here);
-        claims = ap (λ k. k.claims) to.same ∙ sym (ap claims_at sound.here);
-        index = refl;
-        drops = ap (λ k. k.drops) to.same ∙ sym (ap drops_at sound.here);
-        told = told_on w w' s.clock on;
-      }
+      assumption (ap (λ k. k.polls) to.same ∙ sym (ap polls_at sound.here), ap (λ k. k.claims) to.same ∙ sym (ap claims_at sound.here), ap (λ k. k.drops) to.same ∙ sym (ap drops_at sound.here), told_on w w' s.clock on)
       in
       turned left spot q w w' s s Turn sound refl on refl refl (λ vs. refl) is (settled q q' (stance w) w w' s s sound refl holds refl sound.calm to)
       (record {
@@ -223,10 +170,7 @@ module _ {B L : Type 0} (left : B → L) (spot : L → Option Said → Spot) whe
             let size = ring_size p.config in
             let suits_v : Suits p vs v s = record { config = suits.config; seen = suits.seen; workers = suits.workers } in
             let again : with_view vs w.index (visible w') ≡ vs = view_found vs w.index (visible w) suits.seen in
-            let leads : next_callback size w.index (own_of w) cs n d1 ≡ q' =
-            ap (λ k. next_callback size w.index (own_of w) cs n (record d { outputs = k })) fewer
-            ∙ sym (place_unread size w.index (own_of w) cs n d2 q)
-            ∙ callback_seen left spot p vs q v s there suits_v n
+            let leads : next_callback size w.index (own_of w) cs n d1 ≡ q' = grind (arith, fewer, place_unread size w.index (own_of w) cs n d2 q, callback_seen left spot p vs q v s there suits_v n)
             in
             let still : common_after p.config (own_of w) cs w.index Turn Plain ≡ cs = rw sound.here refl in
             let moved : move_at p.config w.index (own_of w) cs d xs before ≡ record { event = Turn; choice = Plain; desk = desk_of w'; thing = xs } =

@@ -1,8 +1,9 @@
 -- MESSAGES MOVE between what a worker has in hand and inboxes: the balances of all but of what tasks hold stay.
-use Rattle.std.proofs.{Common.{◌≡◌, ℕ, zero, suc, ◌+◌, ◌<◌, ◌≤◌, Bool, true, false, cond, Contains, List, [], ◌∷◌, length, map, Some, refl, sym, ap, subst, ◌∙◌, arith, slice_get, slice_set}, lemmas.List.length-set}
+use Rattle.std.proofs.{Common.{◌≡◌, ℕ, zero, suc, ◌+◌, ◌<◌, Bool, true, false, cond, Contains, List, [], ◌∷◌, length, map, Some, refl, sym, ap, subst, ◌∙◌, arith, slice_get, slice_set}, lemmas.List.length-set}
 use Rattle.exec_words.specs.{Reserved.Reserved, declared.inbox.Message.Message}
-use Rattle.exec_parts.{specs.declared.parts.{letters.Letters.Letters, shared.Shared.Shared, worker.Worker.Worker}, proofs.Facts.{by_number, same_thing, set_elsewhere, set_there}}
-use Rattle.exec_invariants.{specs.{Holding.{Box, Hands, Holder, IsAbout, IsHolding, Mail, Nap, Thing, mail_in, same_mail, under_way}, Whole.{IsWhole, Profile, claimed_count, duties_of, may_let_go, stock, with_worker}, Works.Beside}, proofs.{Aside.{HoldsIn, SameProfile, SparesSeats, length_same, profile_same, queue_back, queue_of_chair, spares_turn, stock_same}, HoldMail.{mail_first, mail_is}, HoldPosts.{SameBox, moved}, HoldRedo.sum_set, PoolKept.{KeepsGates, pool_seats}, Turning.Shares}}
+use Rattle.exec_parts.{specs.declared.parts.{letters.Letters.Letters, shared.Shared.Shared, worker.Worker.Worker}, proofs.Facts.{by_number, same_Some, set_elsewhere, set_there}}
+pub use Rattle.exec_invariants.proofs.Aside.{whole_moved}
+use Rattle.exec_invariants.{specs.{Holding.{Box, Hands, Holder, IsAbout, IsHolding, Mail, Nap, Thing, mail_in, same_mail, under_way}, Whole.{IsWhole, Profile, with_worker}, Works.Beside}, proofs.{Aside.{HoldsIn, SameProfile, SparesSeats, profile_same, queue_of_chair, spares_turn}, HoldMail.{mail_first, mail_is}, HoldPosts.{SameBox, moved}, HoldRedo.sum_set, PoolKept.{KeepsGates}, Turning.Shares}}
 
 -- A WORKER TAKES ALL that is in its inbox into its hands
 
@@ -32,6 +33,7 @@ module _ (h h' : Hands) (workers : ℕ) (hs : List Holder) (ts : List Thing) (na
 
   pub all_taken : TakesAll → IsHolding h workers hs ts naps boxes → IsHolding h' workers hs ts naps (slice_set boxes i box')
   all_taken by old =
+      let way : (x : Mail) → under_way h' x (slice_set boxes i box') ≡ under_way h x boxes = grind (arith, sum_set) in
       moved h h' workers hs ts naps boxes (slice_set boxes i box') (record {
         many = length-set boxes i box';
         back = λ j b at.
@@ -48,13 +50,10 @@ module _ (h h' : Hands) (workers : ℕ) (hs : List Holder) (ts : List Thing) (na
       }) old
     where
       its : (j : ℕ) (b : Box) → j ≡ i → slice_get (slice_set boxes i box') j ≡ Some b → box' ≡ b
-      its j b same at = same_thing box' b (sym (set_there boxes i box' box by.there) ∙ subst (λ n. slice_get (slice_set boxes i box') n ≡ Some b) same at)
+      its j b same at = same_Some box' b (sym (set_there boxes i box' box by.there) ∙ subst (λ n. slice_get (slice_set boxes i box') n ≡ Some b) same at)
 
       nothing : (m : Mail) → Contains [] m → ⊥
       nothing m (k, few, is) = omega (arith, few)
-
-      way : (x : Mail) → under_way h' x (slice_set boxes i box') ≡ under_way h x boxes
-      way = grind (arith, sum_set)
 
       by_hand : (m : Mail) (n : ℕ) → h.mail m ≡ n → 0 < h'.mail m → (j : ℕ) × IsAbout workers j m ts naps
       by_hand m (suc n) is some = old.made m (omega (arith, is))
@@ -63,38 +62,6 @@ module _ (h h' : Hands) (workers : ℕ) (hs : List Holder) (ts : List Thing) (na
           (i, old.about i box m by.there (mail_some m box.messages (omega (arith, is, some, more))))
 
 module _ {B : Type 0} where
-  pub whole_moved : (x : Profile) (mail : Mail → ℕ) (s s' : Shared B) → Shares s s' → KeepsGates s.seats.items s'.seats.items → map queue_of_chair s'.seats.items ≡ map queue_of_chair s.seats.items
-      → HoldsIn (record x { mail = mail }) s s'.seats.items → s'.idle ≡ s.idle → s'.global ≡ s.global → IsWhole x s → IsWhole (record x { mail = mail }) s'
-  whole_moved x mail s s' shares gates queues holding idle global whole =
-      let many : length s'.seats.items ≡ length s.seats.items = length_same s.seats.items s'.seats.items queues in
-      let tasks : s'.tasks.items ≡ s.tasks.items = ap (λ (z : Shared B). z.tasks.items) shares in
-      let set : s'.set ≡ s.set = ap (λ (z : Shared B). z.set) shares in
-      let stocks : (t : ℕ) → stock t s' ≡ stock t s = λ t. rw (stock_same t s.seats.items s'.seats.items queues, global) refl in
-      let config : s'.config ≡ s.config = ap (λ (z : Shared B). z.config) shares in
-      let count : claimed_count x s' ≡ claimed_count x s = rw (config, idle) refl in
-      let gone : may_let_go s' ≡ may_let_go s = rw (ap (λ (z : Shared B). z.set) shares, global) refl in
-      record {
-        runnables = λ t slot there home. rw (stocks t, gone) (whole.runnables t slot (ap (λ ts. slice_get ts t) (sym tasks) ∙ there) home);
-        polls = λ t slot there home. whole.polls t slot (ap (λ ts. slice_get ts t) (sym tasks) ∙ there) home;
-        claims = λ j chair there.
-            let was = queue_back s.seats.items s'.seats.items j chair queues there in
-            rw was.2 (whole.claims j was.0 was.1);
-        counts = rw (count, idle) whole.counts;
-        bits = λ j h. rw config (whole.bits j (rw (← idle) h));
-        set = rw idle whole.set;
-        queued_here = λ j chair r there has.
-            let was = queue_back s.seats.items s'.seats.items j chair queues there in
-            rw tasks (whole.queued_here j was.0 r was.1 (rw (← was.2) has));
-        queued_there = λ r has. rw tasks (whole.queued_there r (rw (← global) has));
-        places = rw (tasks, global) whole.places;
-        made = λ t more. rw (stocks t) (whole.made t (subst (λ ts. length ts ≤ t) tasks more));
-        unclaimed = λ j more. whole.unclaimed j (subst (λ n. n ≤ j) many more);
-        in_pool = λ j chair there. let was = gates.back j chair there in rw config (was.2.pool ∙ whole.in_pool j was.0 was.1);
-        pool = rw (tasks, set) (pool_seats (duties_of x) s.tasks.items s.set s.seats.items s'.seats.items gates whole.pool);
-        gates = rw (ap (λ (z : Shared B). z.opens) shares, ap (λ (z : Shared B). z.requests) shares) whole.gates;
-        holding = rw (config, tasks, ap (λ (z : Shared B). z.requests) shares, ap (λ (z : Shared B). z.sleepers) shares) holding;
-      }
-
   -- a step that leaves all balances but of messages, of which it has this in hand then
   pub beside_moved : (batch : Reserved Mail) (letters : Letters) (w w' : Worker) (s s' : Shared B) → SameProfile (record w { batch = batch; letters = letters }) w' → Shares s s' → SparesSeats w.index s.seats.items s'.seats.items → KeepsGates s.seats.items s'.seats.items
       → map queue_of_chair s'.seats.items ≡ map queue_of_chair s.seats.items

@@ -4,8 +4,8 @@ use Rattle.exec_words.specs.{Inbox.{Inbox, batch_handed, batch_taken}, Reserved.
 use Rattle.exec_task.specs.declared.body.Said.{Said}
 use Rattle.exec_machine.specs.{declared.event.Event.{Event, TheVariants.Turn}, Choice.Choice.Plain}
 use Rattle.exec_moves.specs.{declared.place.{InMail.InMail, Place.Place}, Load.has_mail, Mail.{load_mail_word, take_mail, to_callbacks}, Move.move_at, Seen.polls_at, State.{Moved, inbox_of, turns, word_of}, Thing.{set_inbox, with_inbox, with_word}}
-use Rattle.exec_parts.{specs.{declared.parts.{mail.Subject.Subject, seat.Seat.Seat as Chair, shared.Shared.Shared, worker.Worker.Worker}, Phased.{IsPhased, TurnsChair, stage_of}, Pooled.OfChair, MailPosts.IsMailbox, Spots.Spot, View.{Views, Visible, common_of, desk_of, inbox_at, message_of, own_of, seat_seen, seats_seen, things_of, things_with, visible, with_view}, Things.{Goes, Makes}}, proofs.{Facts.{same_thing, set_there, true_false}, Showing.{map_kept, map_set}}}
-use Rattle.exec_invariants.{specs.{Holding.{IsHolding, Mail, box_of, holder_of, mail_in, mail_of_letters, nap_of, same_mail, thing_of}, Places.{claims_at, drops_at, has_count_at, is_published_at}, Sound.{IsMyMail, IsSeated, SoundAt}, Whole.{HasWhole, IsWhole, Profile, hands_of, with_worker}, Works.Steps}, proofs.{AskBoxes.box_there, Aside.{HoldsIn, SameProfile, SparesSeats, beside_calm, queue_of_chair, queues_set, seats_own, seats_same}, Dedicated.as_long, Hearing.unheard, Idled.{Fares, Holds, settled}, MailBack.stance, MailMoves.{all_taken, beside_moved}, PoolKept.{gates_same, gates_set}, Turning.{Shares, set_found, turned, word_back_again}, HandedOver.{taken_none, taken_some, handed_none, handed_some, by_list, seats_both, polls_both, my_mail, LeadsOn, told_past}}}
+use Rattle.exec_parts.{specs.{declared.parts.{mail.Subject.Subject, seat.Seat.Seat as Chair, shared.Shared.Shared, worker.Worker.Worker}, Phased.{IsPhased, TurnsChair, stage_of}, Pooled.OfChair, MailPosts.IsMailbox, Spots.Spot, View.{Views, Visible, common_of, desk_of, inbox_at, message_of, own_of, seat_seen, things_of, things_with, visible, with_view}, Things.{Goes, Makes}}, proofs.{Facts.{same_Some, set_there, true_false}, Showing.{map_kept, map_set}}}
+use Rattle.exec_invariants.{specs.{Holding.{IsHolding, Mail, box_of, holder_of, mail_in, mail_of_letters, nap_of, same_mail, thing_of}, Places.{claims_at, drops_at, has_count_at, is_published_at}, Sound.{IsMyMail, IsSeated, SoundAt, AreHome, HasBatch, HasQueue}, Whole.{HasWhole, IsWhole, Profile, hands_of, with_worker}, Works.Steps}, proofs.{AskBoxes.box_there, Aside.{HoldsIn, SameProfile, SparesSeats, beside_calm, queue_of_chair, queues_set, seats_own, seats_same, SameTold}, Dedicated.as_long, Hearing.unheard, Idled.{Fares, Holds, settled}, MailBack.stance, MailMoves.{all_taken, beside_moved}, PoolKept.{gates_same, gates_set}, Turning.{Shares, set_found, turned, word_back_again}, HandedOver.{taken_none, taken_some, handed_none, handed_some, by_list, seats_both, polls_both, my_mail, LeadsOn, told_past}}}
 
 below : (n : ℕ) → n % 2 ^ 29 < 2 ^ 29
 below n = omega arith
@@ -35,110 +35,38 @@ module _ {B : Type 0} where
       let seat = sound.seated.seat in
       let there = sound.seated.there in
       let q' : Place = Place.Mail (InMail.Apply 0 true) in
-      let w1 : Worker = record w { place = q'; batch = batch; processed = n } in
-      let s1 : Shared B = record s { seats = s'.seats } in
       let found : slice_get s'.seats.items w.index ≡ Some seat' = ap (λ xs. slice_get xs w.index) items ∙ set_there s.seats.items w.index seat' seat there in
-      let is : (chair : Chair) → slice_get s'.seats.items w.index ≡ Some chair → seat' ≡ chair = λ chair at. same_thing seat' chair (sym found ∙ at) in
+      let is : (chair : Chair) → slice_get s'.seats.items w.index ≡ Some chair → seat' ≡ chair = λ chair at. same_Some seat' chair (sym found ∙ at) in
       let many : length s'.seats.items ≡ length s.seats.items = ap length items ∙ length-set s.seats.items w.index seat' in
       let seated1 : IsSeated w.index false s.config.workers s'.seats.items = record { many = as_long many sound.seated.many; pool = pool ∙ sound.seated.pool; seat = seat'; there = found; unarmed = λ h. ap (λ (x : PureWord). x.target) waker ∙ sound.seated.unarmed h; mail = mail } in
-      record {
-        here = refl;
-        config = sound.config;
-        gates = sound.gates;
-        known = sound.known;
-        workers = sound.workers;
-        role = sound.role;
-        pooled = sound.pooled;
-        serves = sound.serves;
-        calm = sound.calm;
-        homes = rw many sound.homes;
-        shards = sound.shards;
-        time = sound.time;
-        told = sound.told;
-        wide = sound.wide;
-        named = sound.named;
-        runnable = sound.runnable;
-        seated = seated1;
-        queue = λ chair at. subst (λ (c : Chair). c.queue.held ≡ []) (is chair at) (ap (λ q. q.held) queue ∙ sound.queue seat there);
-        sized = sound.sized;
-        processed = few;
-        hand = sound.hand;
-        loot = sound.loot;
-        genuine = sound.genuine;
-        stolen = sound.stolen;
-        searching = sound.searching;
-        aims = omega arith;
-        guest = sound.guest;
-        resting = sound.resting;
-        left = sound.left;
-        over = sound.over;
-        batch = some;
-        mine = mine;
-        batch_place = λ chair at open_box. subst (λ (c : Chair). 2 * c.made + 1 ≤ batch.places) (is chair at) (subst (λ k. 2 * k + 1 ≤ batch.places) (sym made) places);
-        letters = sound.letters;
-        quiet = λ h. true_false h;
-        due = sound.due;
-        flown = sound.flown;
-        carried = sound.carried;
-        rooted = sound.rooted;
-        stops = sound.stops;
-        hears = sound.hears;
-        lets_go = sound.lets_go;
-        phased = λ chair at.
-            subst (λ c. IsPhased w.index false None w.home.closing w.root w.names.unreleased (stage_of c s) s.tasks.items) (is chair at)
-            (subst (λ st. IsPhased w.index false None w.home.closing w.root w.names.unreleased st s.tasks.items) (sym stage) (sound.phased seat there));
-        tied = sound.tied;
-      }
+      let homes : AreHome s.config.workers (length s'.seats.items) s.tasks.items = rw many sound.homes in
+      let queue : (chair : Chair) → slice_get s'.seats.items w.index ≡ Some chair → HasQueue q' chair.queue =
+      λ chair at. subst (λ (c : Chair). c.queue.held ≡ []) (is chair at) (ap (λ q. q.held) queue ∙ sound.queue seat there)
+      in
+      let aims : 0 < 64 = omega arith in
+      let batch_place : (chair : Chair) → slice_get s'.seats.items w.index ≡ Some chair → chair.mailbox.inbox.closed ≡ false → 2 * chair.made + 1 ≤ batch.places =
+      λ chair at open_box. subst (λ (c : Chair). 2 * c.made + 1 ≤ batch.places) (is chair at) (subst (λ k. 2 * k + 1 ≤ batch.places) (sym made) places)
+      in
+      let quiet : true ≡ false → w.home.deferred.notes.wakes.items ≡ [] = λ h. true_false h in
+      let phased : (chair : Chair) → slice_get s'.seats.items w.index ≡ Some chair → IsPhased w.index false None w.home.closing w.root w.names.unreleased (stage_of chair s) s.tasks.items =
+      λ chair at.
+      subst (λ c. IsPhased w.index false None w.home.closing w.root w.names.unreleased (stage_of c s) s.tasks.items) (is chair at)
+      (subst (λ st. IsPhased w.index false None w.home.closing w.root w.names.unreleased st s.tasks.items) (sym stage) (sound.phased seat there))
+      in
+      assumption (homes, seated1, queue, few, aims, some, mine, batch_place, quiet, phased, tt, sound)
 
   -- or with none
   sound_none : (w : Worker) (s s' : Shared B) → SoundAt (Place.Mail InMail.TakeMail) w s → s'.seats.items ≡ s.seats.items → SoundAt to_callbacks (record w { place = to_callbacks }) (record s { seats = s'.seats })
   sound_none w s s' sound same =
-      record {
-        here = refl;
-        config = sound.config;
-        gates = sound.gates;
-        known = sound.known;
-        workers = sound.workers;
-        role = sound.role;
-        pooled = sound.pooled;
-        serves = sound.serves;
-        calm = sound.calm;
-        homes = rw same sound.homes;
-        shards = sound.shards;
-        time = sound.time;
-        told = told_past w 64 0 (omega arith) sound.told;
-        wide = sound.wide;
-        named = sound.named;
-        runnable = sound.runnable;
-        seated = rw same sound.seated;
-        queue = rw same sound.queue;
-        sized = sound.sized;
-        processed = sound.processed;
-        hand = sound.hand;
-        loot = sound.loot;
-        genuine = sound.genuine;
-        stolen = sound.stolen;
-        searching = sound.searching;
-        aims = tt;
-        guest = sound.guest;
-        resting = sound.resting;
-        left = tt;
-        over = sound.over;
-        batch = λ h. sound.batch;
-        mine = sound.mine;
-        batch_place = rw same sound.batch_place;
-        letters = sound.letters;
-        quiet = λ h. true_false h;
-        due = sound.due;
-        flown = sound.flown;
-        carried = sound.carried;
-        rooted = sound.rooted;
-        stops = sound.stops;
-        hears = sound.hears;
-        lets_go = sound.lets_go;
-        phased = rw same sound.phased;
-        tied = sound.tied;
-      }
+      let homes : AreHome s.config.workers (length s'.seats.items) s.tasks.items = rw same sound.homes in
+      let seated : IsSeated w.index false s.config.workers s'.seats.items = rw same sound.seated in
+      let queue : (chair : Chair) → slice_get s'.seats.items w.index ≡ Some chair → HasQueue to_callbacks chair.queue = rw same sound.queue in
+      let place : (chair : Chair) → slice_get s'.seats.items w.index ≡ Some chair → chair.mailbox.inbox.closed ≡ false → 2 * chair.made + 1 ≤ w.batch.places = rw same sound.batch_place in
+      let phased : (chair : Chair) → slice_get s'.seats.items w.index ≡ Some chair → IsPhased w.index false None w.home.closing w.root w.names.unreleased (stage_of chair s) s.tasks.items = rw same sound.phased in
+      let told = told_past w 64 0 (omega arith) sound.told in
+      let batch : HasBatch to_callbacks w.batch.values = λ h. sound.batch in
+      let quiet : true ≡ false → w.home.deferred.notes.wakes.items ≡ [] = λ h. true_false h in
+      assumption (homes, seated, queue, place, phased, told, batch, quiet, tt, sound)
 
 module _ {B L : Type 0} (left : B → L) (spot : L → Option Said → Spot) where
   -- THE WAKE WORD
@@ -157,18 +85,8 @@ module _ {B L : Type 0} (left : B → L) (spot : L → Option Said → Spot) whe
           let w1 : Worker = record w { place = q' } in
           let goes1 : w' ≡ w1 = goes ∙ ap (λ y. record w { place = y }) (ap (λ d. d.place) makes.desk ∙ ap (λ m. m.desk.place) how) in
           let holds : Holds w w1 = record { root_ready = refl; hand = refl; loot = refl } in
-          let alike : SameProfile w w1 = record {
-            hand = refl;
-            loot = refl;
-            polls = on.turn.polls ∙ sym (ap polls_at sound.here);
-            claims = on.claims ∙ sym (ap claims_at sound.here);
-            searching = refl;
-            counts = on.counts ∙ sym (ap has_count_at sound.here);
-            index = refl;
-            published = on.published ∙ sym (ap is_published_at sound.here);
-            drops = on.drops ∙ sym (ap drops_at sound.here);
-            told = record { batch = refl; letters = refl; left = refl };
-          } in
+          let told : SameTold w w1 = record { batch = refl; letters = refl; left = refl } in
+          let alike : SameProfile w w1 = assumption (on.turn.polls ∙ sym (ap polls_at sound.here), on.claims ∙ sym (ap claims_at sound.here), on.counts ∙ sym (ap has_count_at sound.here), on.published ∙ sym (ap is_published_at sound.here), on.drops ∙ sym (ap drops_at sound.here), told) in
           subst (λ v. Steps left spot w s e v s) (sym goes1)
           (turned left spot q w w1 s s e sound (makes.event ∙ ap (λ m. m.event) how) (record { same = refl; read = sound.time.read; asleep = sound.time.asleep }) refl refl (λ vs. refl) on.turn
           (settled q q' (stance w) w w1 s s sound refl holds refl sound.calm to)
@@ -198,7 +116,6 @@ module _ {B L : Type 0} (left : B → L) (spot : L → Option Said → Spot) whe
       → ((others : Profile) → IsWhole (with_worker others w) s → HoldsIn (with_worker others (record w { batch = batch })) s s'.seats.items)
       → Steps left spot w s Turn (record w { place = q'; batch = batch; processed = processed }) s'
   handed q' batch processed seat' w s s' sound on over shape closed none mail items kept how holds holding =
-      let q : Place = Place.Mail InMail.TakeMail in
       let seat = sound.seated.seat in
       let there = sound.seated.there in
       let w1 : Worker = record w { place = q'; batch = batch; processed = processed } in
@@ -220,10 +137,7 @@ module _ {B L : Type 0} (left : B → L) (spot : L → Option Said → Spot) whe
                   ∙ sym (inbox_shows vs w.index (visible w1) s s' seat seat' (visible w) suits.seen there kept items queue (ap (λ (c : Chair). c.mailbox.waker) shape) (ap (λ (c : Chair). c.raised) shape) refl)));
               may = tt;
               own = rw (sound.here, on.turn.polls, on.turn.free_then, on.turn.unserved, on.turn.owes) refl;
-              common =
-                  ap (λ (z : Shared B). common_of left spot p (with_view vs w.index (visible w1)) z) kept
-                  ∙ ap (λ seen. record cs { seats = seen }) (ap (seats_seen (slice_set vs.workers w.index (visible w1))) items ∙ seats_both vs.workers s.seats.items w.index (visible w) (visible w1) seat seat' suits.seen there shows)
-                  ∙ rw (sound.here) refl;
+              common = grind (arith, kept, items, seats_both vs.workers s.seats.items w.index (visible w) (visible w1) seat seat' suits.seen there shows, sound.here);
             }),
         subst (λ z. SoundAt q' w1 z) (sym kept) holds,
         unheard refl (ap (λ (z : Shared B). z.config) kept) (ap (λ (z : Shared B). z.tasks.items) kept),
@@ -233,76 +147,59 @@ module _ {B L : Type 0} (left : B → L) (spot : L → Option Said → Spot) whe
   pub mail_taken : (w w' : Worker) (s s' : Shared B) (e : Event) → SoundAt (Place.Mail InMail.TakeMail) w s → HasWhole w s → Makes (take_mail (desk_of w) (inbox_of (things_of s) w.index)) e w' → w' ≡ record w { place = w'.place; batch = w'.batch; processed = w'.processed }
       → OfChair w.index s (λ chair. w'.batch ≡ batch_handed chair.mailbox.inbox w.batch) → TurnsChair w.index (λ chair. record chair { mailbox = record chair.mailbox { inbox = batch_taken chair.mailbox.inbox w.batch } }) s s' → s' ≡ record s { seats = s'.seats }
       → Steps left spot w s e w' s'
-  mail_taken w w' s s' e sound has makes same batch turns_chair kept = by_list inbox.messages nothing some
-    where
-      seat : Chair
-      seat = sound.seated.seat
-
-      there : slice_get s.seats.items w.index ≡ Some seat
-      there = sound.seated.there
-
-      inbox : Inbox Subject Subject
-      inbox = seat.mailbox.inbox
-
-      seen : inbox_of (things_of s) w.index ≡ map message_of inbox.messages
-      seen = own_inbox_seen w.index s seat there
-
-      open_box : inbox.closed ≡ false
-      open_box = (sound.phased seat there).shut
-
-      places : 2 * seat.made + 1 ≤ w.batch.places
-      places = sound.batch_place seat there open_box
-
-      by_desk : (q' : Place) (new : Reserved Mail) (processed : ℕ) → w'.batch ≡ new → take_mail (desk_of w) (inbox_of (things_of s) w.index) ≡ turns q' (record (desk_of w) { batch = map message_of new.values; processed = processed }) []
-          → Steps left spot w s Turn (record w { place = q'; batch = new; processed = processed }) s' → Steps left spot w s e w' s'
-      by_desk = grind arith
-
-      nothing : inbox.messages ≡ [] → Steps left spot w s e w' s'
-      nothing none =
-          let taken : batch_taken inbox w.batch ≡ inbox = taken_none inbox w.batch none in
-          let how : take_mail (desk_of w) (inbox_of (things_of s) w.index) ≡ turns to_callbacks (record (desk_of w) { batch = map message_of w.batch.values; processed = w.processed }) [] = ap (take_mail (desk_of w)) (seen ∙ ap (λ ms. map message_of ms) none) in
-          let items : s'.seats.items ≡ slice_set s.seats.items w.index seat = turns_chair seat there ∙ ap (λ i. slice_set s.seats.items w.index (record seat { mailbox = record seat.mailbox { inbox = i } })) taken in
-          let still : s'.seats.items ≡ s.seats.items = items ∙ set_found s.seats.items w.index seat there in
-          by_desk to_callbacks w.batch w.processed (batch seat there ∙ handed_none inbox w.batch none) how
-          (handed to_callbacks w.batch w.processed seat w s s' sound (record { turn = record { polls = refl; free = refl; free_then = refl; unserved = refl; owes = refl }; claims = refl; counts = refl; published = refl; drops = refl })
-          refl refl refl none sound.seated.mail items kept how (sound_none w s s' sound still)
-          (λ others whole. subst (λ cs. HoldsIn (with_worker others w) s cs) (sym still) whole.holding))
-
-      some : (m : Mail) (ms : List Mail) → inbox.messages ≡ m ∷ ms → Steps left spot w s e w' s'
-      some m ms is =
-          let inbox' : Inbox Subject Subject = record inbox { messages = []; places = w.batch.places; taken = next_batch inbox.taken } in
-          let seat' : Chair = record seat { mailbox = record seat.mailbox { inbox = inbox' } } in
-          let taken : batch_taken inbox w.batch ≡ inbox' = taken_some inbox w.batch m ms is in
-          let new : Reserved Mail = record { values = inbox.messages; places = inbox.places } in
-          let q' : Place = Place.Mail (InMail.Apply 0 true) in
-          let n : ℕ = next_batch w.processed in
-          let how : take_mail (desk_of w) (inbox_of (things_of s) w.index) ≡ turns q' (record (desk_of w) { batch = map message_of inbox.messages; processed = n }) [] =
-          ap (take_mail (desk_of w)) (seen ∙ ap (λ xs. map message_of xs) is) ∙ ap (λ xs. turns q' (record (desk_of w) { batch = map message_of xs; processed = n }) []) (sym is) in
-          let items : s'.seats.items ≡ slice_set s.seats.items w.index seat' = turns_chair seat there ∙ ap (λ i. slice_set s.seats.items w.index (record seat { mailbox = record seat.mailbox { inbox = i } })) taken in
-          let mail : IsMailbox seat'.mailbox = record { roots = omega arith; empty = λ h. refl; place = λ h. omega (arith, places) } in
-          let some_there : 0 < length inbox.messages = subst (λ xs. 0 < length xs) (sym is) (omega arith) in
-          let at_box = box_there s.seats.items w.index seat there in
-          let room : 2 * seat.made + 1 ≤ inbox.places = (has.whole.holding.room w.index (box_of seat) at_box).places open_box in
-          by_desk q' new n (batch seat there ∙ handed_some inbox w.batch m ms is) how
-          (handed q' new n seat' w s s' sound (record { turn = record { polls = refl; free = refl; free_then = refl; unserved = refl; owes = refl }; claims = refl; counts = refl; published = refl; drops = refl })
-          (append-nil (map message_of inbox.messages) ∙ ap (λ vs. map message_of vs ++ map message_of inbox.messages) (sym sound.batch)) refl refl refl mail items kept how
-          (sound_taken w s s' new n seat' sound items mail refl refl refl refl refl refl (below (w.processed + 1)) some_there room
-          (λ x among. my_mail s.config.workers w.index x s.requests.items s.sleepers.items (has.whole.holding.about w.index (box_of seat) x at_box among)))
-          (λ others whole.
-          let x = with_worker others w in
-          let x' = with_worker others (record w { batch = new }) in
-          subst (λ bs. IsHolding (hands_of x') s.config.workers (map holder_of s.tasks.items) (map thing_of s.requests.items) (map nap_of s.sleepers.items) bs) (sym (ap (map box_of) items ∙ map_set box_of s.seats.items w.index seat'))
-          (all_taken (hands_of x) (hands_of x') s.config.workers (map holder_of s.tasks.items) (map thing_of s.requests.items) (map nap_of s.sleepers.items) (map box_of s.seats.items) w.index (box_of seat) (box_of seat')
-          (record {
-            there = at_box;
-            none = refl;
-            same = record { shut = refl; closing = refl; places = λ h. places; made = refl };
-            wakes = refl;
-            mail = λ k.
-                let weigh : Mail → ℕ = λ other. cond (same_mail k other) 1 0 in
-                let before = sum_by-append weigh (mail_of_letters w.letters) w.batch.values in
-                let after : mail_in k (mail_of_letters w.letters ++ inbox.messages) ≡ mail_in k (mail_of_letters w.letters) + mail_in k inbox.messages = sum_by-append weigh (mail_of_letters w.letters) inbox.messages in
-                let gone : mail_in k w.batch.values ≡ 0 = ap (mail_in k) sound.batch in
-                omega (arith, before, after, gone);
-          })
-          whole.holding)))
+  mail_taken w w' s s' e sound has makes same batch turns_chair kept =
+      let seat : Chair = sound.seated.seat in
+      let there : slice_get s.seats.items w.index ≡ Some seat = sound.seated.there in
+      let inbox : Inbox Subject Subject = seat.mailbox.inbox in
+      let seen : inbox_of (things_of s) w.index ≡ map message_of inbox.messages = own_inbox_seen w.index s seat there in
+      let open_box : inbox.closed ≡ false = (sound.phased seat there).shut in
+      let places : 2 * seat.made + 1 ≤ w.batch.places = sound.batch_place seat there open_box in
+      let by_desk : (q' : Place) (new : Reserved Mail) (processed : ℕ) → w'.batch ≡ new → take_mail (desk_of w) (inbox_of (things_of s) w.index) ≡ turns q' (record (desk_of w) { batch = map message_of new.values; processed = processed }) [] → Steps left spot w s Turn (record w { place = q'; batch = new; processed = processed }) s' → Steps left spot w s e w' s' =
+      grind arith in
+      let nothing : inbox.messages ≡ [] → Steps left spot w s e w' s' = λ none.
+      let taken : batch_taken inbox w.batch ≡ inbox = taken_none inbox w.batch none in
+      let how : take_mail (desk_of w) (inbox_of (things_of s) w.index) ≡ turns to_callbacks (record (desk_of w) { batch = map message_of w.batch.values; processed = w.processed }) [] = ap (take_mail (desk_of w)) (seen ∙ ap (λ ms. map message_of ms) none) in
+      let items : s'.seats.items ≡ slice_set s.seats.items w.index seat = turns_chair seat there ∙ ap (λ i. slice_set s.seats.items w.index (record seat { mailbox = record seat.mailbox { inbox = i } })) taken in
+      let still : s'.seats.items ≡ s.seats.items = items ∙ set_found s.seats.items w.index seat there in
+      by_desk to_callbacks w.batch w.processed (batch seat there ∙ handed_none inbox w.batch none) how
+      (handed to_callbacks w.batch w.processed seat w s s' sound (record { turn = record { polls = refl; free = refl; free_then = refl; unserved = refl; owes = refl }; claims = refl; counts = refl; published = refl; drops = refl })
+      refl refl refl none sound.seated.mail items kept how (sound_none w s s' sound still)
+      (λ others whole. subst (λ cs. HoldsIn (with_worker others w) s cs) (sym still) whole.holding)) in
+      let some : (m : Mail) (ms : List Mail) → inbox.messages ≡ m ∷ ms → Steps left spot w s e w' s' = λ m ms is.
+      let inbox' : Inbox Subject Subject = record inbox { messages = []; places = w.batch.places; taken = next_batch inbox.taken } in
+      let seat' : Chair = record seat { mailbox = record seat.mailbox { inbox = inbox' } } in
+      let taken : batch_taken inbox w.batch ≡ inbox' = taken_some inbox w.batch m ms is in
+      let new : Reserved Mail = record { values = inbox.messages; places = inbox.places } in
+      let q' : Place = Place.Mail (InMail.Apply 0 true) in
+      let n : ℕ = next_batch w.processed in
+      let how : take_mail (desk_of w) (inbox_of (things_of s) w.index) ≡ turns q' (record (desk_of w) { batch = map message_of inbox.messages; processed = n }) [] =
+      ap (take_mail (desk_of w)) (seen ∙ ap (λ xs. map message_of xs) is) ∙ ap (λ xs. turns q' (record (desk_of w) { batch = map message_of xs; processed = n }) []) (sym is) in
+      let items : s'.seats.items ≡ slice_set s.seats.items w.index seat' = turns_chair seat there ∙ ap (λ i. slice_set s.seats.items w.index (record seat { mailbox = record seat.mailbox { inbox = i } })) taken in
+      let mail : IsMailbox seat'.mailbox = record { roots = omega arith; empty = λ h. refl; place = λ h. omega (arith, places) } in
+      let some_there : 0 < length inbox.messages = subst (λ xs. 0 < length xs) (sym is) (omega arith) in
+      let at_box = box_there s.seats.items w.index seat there in
+      let room : 2 * seat.made + 1 ≤ inbox.places = (has.whole.holding.room w.index (box_of seat) at_box).places open_box in
+      by_desk q' new n (batch seat there ∙ handed_some inbox w.batch m ms is) how
+      (handed q' new n seat' w s s' sound (record { turn = record { polls = refl; free = refl; free_then = refl; unserved = refl; owes = refl }; claims = refl; counts = refl; published = refl; drops = refl })
+      (append-nil (map message_of inbox.messages) ∙ ap (λ vs. map message_of vs ++ map message_of inbox.messages) (sym sound.batch)) refl refl refl mail items kept how
+      (sound_taken w s s' new n seat' sound items mail refl refl refl refl refl refl (below (w.processed + 1)) some_there room
+      (λ x among. my_mail s.config.workers w.index x s.requests.items s.sleepers.items (has.whole.holding.about w.index (box_of seat) x at_box among)))
+      (λ others whole.
+      let x = with_worker others w in
+      let x' = with_worker others (record w { batch = new }) in
+      subst (λ bs. IsHolding (hands_of x') s.config.workers (map holder_of s.tasks.items) (map thing_of s.requests.items) (map nap_of s.sleepers.items) bs) (sym (ap (map box_of) items ∙ map_set box_of s.seats.items w.index seat'))
+      (all_taken (hands_of x) (hands_of x') s.config.workers (map holder_of s.tasks.items) (map thing_of s.requests.items) (map nap_of s.sleepers.items) (map box_of s.seats.items) w.index (box_of seat) (box_of seat')
+      (record {
+        there = at_box;
+        none = refl;
+        same = record { shut = refl; closing = refl; places = λ h. places; made = refl };
+        wakes = refl;
+        mail = λ k.
+            let weigh : Mail → ℕ = λ other. cond (same_mail k other) 1 0 in
+            let before = sum_by-append weigh (mail_of_letters w.letters) w.batch.values in
+            let after : mail_in k (mail_of_letters w.letters ++ inbox.messages) ≡ mail_in k (mail_of_letters w.letters) + mail_in k inbox.messages = sum_by-append weigh (mail_of_letters w.letters) inbox.messages in
+            let gone : mail_in k w.batch.values ≡ 0 = ap (mail_in k) sound.batch in
+            omega (arith, before, after, gone);
+      })
+      whole.holding))) in
+      by_list inbox.messages nothing some

@@ -1,10 +1,10 @@
 -- A record that is marked, as released or as one that has paid: what is named by it stays.
-use Rattle.std.{proofs.{Common.{◌≡◌, ℕ, ◌==◌, Bool, true, false, List, [], ◌∷◌, length, Option, Some, None, refl, sym, ap, subst, ◌∙◌, slice_get, if◌then◌else◌}, lemmas.List.length-set}, specs.Option.option_map}
+use Rattle.std.{proofs.{Common.{◌≡◌, ℕ, ◌==◌, Bool, true, false, List, [], ◌∷◌, length, Option, Some, None, refl, sym, ap, subst, ◌∙◌, slice_get, if◌then◌else◌}, lemmas.List.length-set}, specs.{Option.option_map, Prelude.IsSome}}
 use Rattle.std.proofs.Common.{arith}
-use Rattle.exec_base.specs.{Slab.{Slab}}
+use Rattle.exec_base.specs.{Slab.{Slab, value_at}, declared.slab.Id.Id}
 use Rattle.exec_time.specs.declared.timers.Sleeper.{Sleeper as Sleeping}
 use Rattle.exec_ring.specs.Rings.{RingState}
-use Rattle.exec_waiters.specs.States.{waiter_at}
+use Rattle.exec_waiters.specs.{States.waiter_at, declared.waiter.Waiter.Waiter}
 use Rattle.exec_driver.specs.Driving.{Driving}
 use Rattle.exec_machine.specs.{declared.config.Configuration.Configuration, Tests.{is_resolved, is_staged}}
 use Rattle.exec_moves.specs.declared.place.InService.{InService}
@@ -97,25 +97,21 @@ module _ (f : Record → Record) (rs : List Record) (q : ℕ) where
     -- all is named as before
     pub named_marked : (i : ℕ) (n : Names) (d : Driving Reply Reply) (zs : Slab (Sleeping Reply)) (sleepers : List SleeperRecord) → IsNamed i n d zs rs sleepers → IsNamed i n d zs (changed_at rs q f) sleepers
     named_marked i n d zs sleepers named =
-        record {
-          requests = λ id there.
-              let old = named.requests id there in
-              let k = number_in n.requests.items id in
-              let is = marks_if f marks (q == k) old.0 in
-              (mark_if f (q == k) old.0, marked k old.0 old.1, ap (λ y. y.id.0) is ∙ old.2, ap (λ y. y.shown.worker) is ∙ old.3);
-          timers = named.timers;
-          alike = λ id it x at_driver there.
-              let old = before (number_in n.requests.items id) x there in
-              let a = named.alike id it old.0 at_driver old.1 in
-              subst (λ y. IsAlike d.wheel.start d.wheel.tick it y.shown) (sym old.2) (assumption a);
-          over = λ k x there mine gone.
-              let old = before k x there in
-              ap (λ y. is_resolved y.shown.phase) old.2
-              ∙ named.over k old.0 old.1 (sym (ap (λ y. y.shown.worker) old.2) ∙ mine) (subst (λ y. waiter_at d.requests y.0 ≡ None) (ap (λ y. y.id) old.2) gone);
-          submitted = submitted_marked i n.staged.items n.untold.items d.ring named.submitted;
-          slots = named.slots;
-          beds = named.beds;
-        }
+        let requests : (id : Id) → IsSome (value_at d.requests id) → (r : Record) × (slice_get (changed_at rs q f) (number_in n.requests.items id) ≡ Some r) × (r.id.0 ≡ id) × (r.shown.worker ≡ i) = λ id there.
+        let old = named.requests id there in
+        let k = number_in n.requests.items id in
+        let is = marks_if f marks (q == k) old.0 in
+        (mark_if f (q == k) old.0, marked k old.0 old.1, ap (λ y. y.id.0) is ∙ old.2, ap (λ y. y.shown.worker) is ∙ old.3) in
+        let alike : (id : Id) (it : Waiter Reply Reply) (r : Record) → waiter_at d.requests id ≡ Some it → slice_get (changed_at rs q f) (number_in n.requests.items id) ≡ Some r → IsAlike d.wheel.start d.wheel.tick it r.shown = λ id it x at_driver there.
+        let old = before (number_in n.requests.items id) x there in
+        let a = named.alike id it old.0 at_driver old.1 in
+        subst (λ y. IsAlike d.wheel.start d.wheel.tick it y.shown) (sym old.2) (assumption a) in
+        let over : (k : ℕ) (r : Record) → slice_get (changed_at rs q f) k ≡ Some r → r.shown.worker ≡ i → waiter_at d.requests r.id.0 ≡ None → is_resolved r.shown.phase ≡ true = λ k x there mine gone.
+        let old = before k x there in
+        ap (λ y. is_resolved y.shown.phase) old.2
+        ∙ named.over k old.0 old.1 (sym (ap (λ y. y.shown.worker) old.2) ∙ mine) (subst (λ y. waiter_at d.requests y.0 ≡ None) (ap (λ y. y.id) old.2) gone) in
+        let submitted = submitted_marked i n.staged.items n.untold.items d.ring named.submitted in
+        assumption (requests, alike, over, submitted, named)
 
     -- what is due is so still, whatever has ended
     pub due_marked : {closing : Bool} (x : Option InService) (i : ℕ) (m : Moments) (c : Configuration) (n m' : Names) (d : Driving Reply Reply) (zs : Slab (Sleeping Reply)) (sleepers : List SleeperRecord)

@@ -2,13 +2,14 @@
 use Rattle.std.{proofs.{Common.{◌≡◌, ℕ, ◌+◌, ◌*◌, ◌≤◌, ◌==◌, Bool, true, false, not, List, [], ◌∷◌, map, Option, Some, None, IsSome, refl, sym, ap, subst, ◌∙◌, arith, slice_get, if◌then◌else◌}, lemmas.Bool.{false≢true, eq-eqb, Decides.nat_tests}}, specs.Option.option_map}
 use Rattle.exec_base.specs.{Slab.{Slab, value_at}, declared.slab.Id.Id}
 use Rattle.exec_time.specs.{Wheel.{Wheel, moment_of, next_moment, least_active}, declared.timers.Sleeper.Sleeper as Sleeping}
-use Rattle.exec_waiters.specs.{States.{waiter_at, tick_in, tick_of}, declared.waiter.{Entry.Entry, Waiter.Waiter}}
+use Rattle.exec_waiters.specs.{States.{waiter_at, tick_in, tick_of}, declared.waiter.{Waiter.Waiter}}
 use Rattle.exec_driver.specs.{Driving.Driving, Lists.has_first, Punctual.IsFirstTick}
 use Rattle.exec_task.specs.declared.body.Said.{Said}
 use Rattle.exec_machine.specs.{Deadlines.{first_timer, first_until, next_due}, Progress.Plan, Tests.{is_asleep, is_open, is_resolved}}
 use Rattle.exec_moves.specs.declared.place.Place.{Place}
 use Rattle.exec_parts.specs.{declared.parts.{mail.Reply.Reply, names.Names.Names, record.Record.Record, shared.Shared.Shared, sleeping.SleeperRecord.SleeperRecord, worker.Worker.Worker}, Records.number_in, Spots.Spot, Tests.{HasToldDue, IsFirstSleep, IsNextIn, IsNextMoment}, View.{Views, driver_of, common_of}}
 use Rattle.exec_invariants.{specs.{Due.{AreAsleep, AreTimed, may_be_due}, Names.IsNamed, Sound.{SoundAt, served_in}, Works.Suits}, proofs.{Unclosed.unclosed, Leasts.{HasAt, IsLeast, least_in, least_there, least_once}, Seats.own_seat}}
+use Rattle.exec_invariants.proofs.SparedRecord.{live_of}
 
 -- THE MACHINE'S MOMENTS
 
@@ -30,9 +31,6 @@ sleeps_seen i (z ∷ zs) = grind (arith, least_in, sleeps_seen i zs)
 tested : (b : Bool) (o : Option ℕ) (m : ℕ) → (if b then o else None) ≡ Some m → (b ≡ true) × (o ≡ Some m)
 tested true o m is = (refl, is)
 tested false o m is = absurd (cc)
-
-is_there : (s : Slab (Entry Reply Reply)) (id : Id) (it : Waiter Reply Reply) → waiter_at s id ≡ Some it → IsSome (value_at s id)
-is_there = grind arith
 
 no_later : (w : Wheel) (t u : ℕ) → t ≤ u → moment_of w t ≤ moment_of w u
 no_later w t u h = grind (arith, h)
@@ -78,7 +76,7 @@ module _ (i : ℕ) (n : Names) (d : Driving Reply Reply) (zs : Slab (Sleeping Re
       by : (o : Option (Waiter Reply Reply)) → waiter_at d.requests id ≡ o → tick_of o ≡ Some t → HasAt (deadline_of i) records (moment_of d.wheel t)
       by None none is = absurd (cc)
       by (Some it) some is =
-          let r = named.requests id (is_there d.requests id it some) in
+          let r = named.requests id (live_of d.requests id it some) in
           record {
             k = number_in n.requests.items id;
             x = r.0;
@@ -133,7 +131,6 @@ module _ (i : ℕ) (n : Names) (d : Driving Reply Reply) (zs : Slab (Sleeping Re
             by : (v : Option (Sleeping Reply)) → value_at zs some.0 ≡ v → IsLeast (sleeps_until i) sleepers (Some m)
             by None none = let no : None ≡ Some m = sym (ap (option_map (λ z. z.deadline)) none) ∙ some.1.at in absurd (cc)
             by (Some z) is =
-                let it : Some z.deadline ≡ Some m = sym (ap (option_map (λ z. z.deadline)) is) ∙ some.1.at in
                 let same : z.deadline ≡ m = cc in
                 (subst (HasAt (sleeps_until i) sleepers) same (until_found some.0 z is), λ u has. let found = sleeper_found u has in rw found.3 (some.1.least found.0 found.1 found.2))
 

@@ -6,6 +6,7 @@ use Rattle.exec_waiters.{specs.{Events.with_tick, States.{awaits_tick, takes_tic
 use Rattle.exec_driver.{specs.{Lists.{rest_of, without}, Steps.unscheduled}, proofs.{Counting.{OneChanged, one_written}, Names.same_tells}}
 use Rattle.exec_parts.{specs.{declared.parts.mail.Reply.Reply, Records.number_in}, proofs.Facts.by_name}
 use Rattle.exec_invariants.specs.Ordered.{HasCome, IsOlder, IsOrdered, IsToldBefore, Pairwise, StandsBefore, StandsIn, tick_at}
+use Rattle.exec_invariants.proofs.SparedRecord.{live_of}
 
 -- PARTS OF A LIST
 
@@ -136,9 +137,6 @@ past_removed s id some other bounded past =
     let changed = Changed-set s (removed s id) id.index (freed id.generation) refl refl (live_within s.slots id.index id.generation live.value live.is) in
     grind arith
 
-is_live : (s : Slab (Entry Reply Reply)) (id : Id) (it : Waiter Reply Reply) → waiter_at s id ≡ Some it → IsSome (value_at s id)
-is_live s id it at = rw (entry_of (value_at s id) it at) refl
-
 pub ticked_live : (s : Slab (Entry Reply Reply)) (id : Id) (t : ℕ) → tick_at s id ≡ Some t → IsSome (value_at s id)
 ticked_live = grind arith
 
@@ -146,7 +144,7 @@ pub eases_written : (s : Slab (Entry Reply Reply)) (id : Id) (it it' : Waiter Re
     → (takes_tick it.state ≡ false → takes_tick it'.state ≡ false) → Eases s (written s id (Pending it'))
 eases_written s id it it' at tick taken =
     let one = one_written s id (Pending it) (Pending it') (entry_of (value_at s id) it at) in
-    eases_one s (written s id (Pending it')) id (Some it) (Some it') at one.is_at one.others tick taken (past_written s id (Pending it') (is_live s id it at))
+    eases_one s (written s id (Pending it')) id (Some it) (Some it') at one.is_at one.others tick taken (past_written s id (Pending it') (live_of s id it at))
 
 -- A TICK COMES: the first of those to be enrolled goes to the end of a bucket
 module _ (round : Bool) (numbers : List ℕ) (s : Slab (Entry Reply Reply)) (w : Wheel) (e : WaiterId) (rest : List WaiterId) (it : Waiter Reply Reply) (t : ℕ)
@@ -170,10 +168,10 @@ module _ (round : Bool) (numbers : List ℕ) (s : Slab (Entry Reply Reply)) (w :
   tick_back slot u x h at = sym (ap tick_of (one.others x (apart x h.taken))) ∙ at
 
   stays : (slot : ℕ) (x : Id) → StandsIn s w.slots slot x → StandsIn slab_timed w.slots slot x
-  stays = grind (arith, past_written, is_live, one, apart, tick_back)
+  stays = grind (arith, past_written, live_of, one, apart, tick_back)
 
   own : StandsIn slab_timed w.slots (t % w.slots) e.0
-  own = grind (arith, live_past, is_live, one)
+  own = grind (arith, live_past, live_of, one)
 
   -- its own bucket, in which what is stale may be gone, and any other
   bucket_so : (F : List Id → Type 0) (slot : ℕ) → F (w.bucket slot) → (slot ≡ t % w.slots → (ids : List Id) → IsPartOf ids (w.bucket slot) → F (ids ++ e.0 ∷ [])) → F ((scheduled w e.0 t).bucket slot)
@@ -201,16 +199,11 @@ module _ (round : Bool) (numbers : List ℕ) (s : Slab (Entry Reply Reply)) (w :
 
   pub ticks_so : IsOrdered round numbers slab_timed (scheduled w e.0 t) rest []
   ticks_so =
-      record {
-        drained = like_scheduled.0 ∙ o.drained;
-        reach = λ id u at. rw (like_scheduled.1, like_scheduled.2) (elim (ticked id u at) [ inl same ↦ rw same.1 within | inr was ↦ o.reach id u was ]);
-        rise = o.rise.1;
-        newer = λ id u at. elim (ticked id u at) [ inl same ↦ rw same.0 o.rise.0 | inr was ↦ (o.newer id u was).1 ];
-        stands = λ slot. rw like_scheduled.2 (stands_then slot);
-        buckets = buckets_then;
-        come = tt;
-        told = tt;
-      }
+      let reach : (id : Id) (t0 : ℕ) → tick_at slab_timed id ≡ Some t0 → t0 < (scheduled w e.0 t).current + (scheduled w e.0 t).slots =
+      λ id u at. rw (like_scheduled.1, like_scheduled.2) (elim (ticked id u at) [ inl same ↦ rw same.1 within | inr was ↦ o.reach id u was ]) in
+      let newer : (id : Id) (t0 : ℕ) → tick_at slab_timed id ≡ Some t0 → AllByRecursion (λ e0. IsOlder numbers id e0.0) rest = λ id u at. elim (ticked id u at) [ inl same ↦ rw same.0 o.rise.0 | inr was ↦ (o.newer id u was).1 ] in
+      let stands : (slot : ℕ) → AllByRecursion (StandsIn slab_timed (scheduled w e.0 t).slots slot) ((scheduled w e.0 t).bucket slot) = λ slot. rw like_scheduled.2 (stands_then slot) in
+      assumption (like_scheduled.0 ∙ o.drained, reach, o.rise.1, newer, stands, buckets_then, tt)
 
 -- A REQUEST COMES IN, with the largest number
 module _ (round : Bool) (numbers numbers' : List ℕ) (s s' : Slab (Entry Reply Reply)) (w : Wheel) (es : List WaiterId) (id : WaiterId) (k : ℕ)
@@ -228,33 +221,24 @@ module _ (round : Bool) (numbers numbers' : List ℕ) (s s' : Slab (Entry Reply 
   -- whose deadline, if any, isn't to be enrolled
   pub comes_in : IsOrdered round numbers' s' w es []
   comes_in =
-      record {
-        drained = o.drained;
-        reach = λ x t at. o.reach x t (eases.ticks x t at);
-        rise = pairs_where (λ a b x y h. still_older a.0 b.0 x y h) es listed o.rise;
-        newer = λ x t at. let was = eases.ticks x t at in all_where (λ e live h. still_older x e.0 (ticked_live s x t was) live h) es listed (o.newer x t was);
-        stands = λ slot. all_part (λ x h. stands_on s s' w.slots slot x eases h) (w.bucket slot) (w.bucket slot) (part_self (w.bucket slot)) (o.stands slot);
-        buckets = λ slot.
-            pairs_part (λ a b h t u at bt. let a' = eases.ticks a t at in let b' = eases.ticks b u bt in still_older a b (ticked_live s a t a') (ticked_live s b u b') (h t u a' b'))
-            (w.bucket slot) (w.bucket slot) (part_self (w.bucket slot)) (o.buckets slot);
-        come = tt;
-        told = tt;
-      }
+      let reach : (id : Id) (t : ℕ) → tick_at s' id ≡ Some t → t < w.current + w.slots = λ x t at. o.reach x t (eases.ticks x t at) in
+      let rise = pairs_where (λ a b x y h. still_older a.0 b.0 x y h) es listed o.rise in
+      let newer : (id : Id) (t : ℕ) → tick_at s' id ≡ Some t → AllByRecursion (λ e. IsOlder numbers' id e.0) es =
+      λ x t at. let was = eases.ticks x t at in all_where (λ e live h. still_older x e.0 (ticked_live s x t was) live h) es listed (o.newer x t was) in
+      let stands : (slot : ℕ) → AllByRecursion (StandsIn s' w.slots slot) (w.bucket slot) = λ slot. all_part (λ x h. stands_on s s' w.slots slot x eases h) (w.bucket slot) (w.bucket slot) (part_self (w.bucket slot)) (o.stands slot) in
+      let buckets : (slot : ℕ) → Pairwise (StandsBefore numbers' s') (w.bucket slot) = λ slot.
+      pairs_part (λ a b h t u at bt. let a' = eases.ticks a t at in let b' = eases.ticks b u bt in still_older a b (ticked_live s a t a') (ticked_live s b u b') (h t u a' b'))
+      (w.bucket slot) (w.bucket slot) (part_self (w.bucket slot)) (o.buckets slot) in
+      assumption (reach, rise, newer, stands, buckets, tt, o)
 
   -- and whose deadline is
   pub joins : IsOrdered round numbers' s' w (es ++ id ∷ []) []
   joins =
       let it = comes_in in
-      record {
-        drained = it.drained;
-        reach = it.reach;
-        rise = pairs_append (λ a b. IsOlder numbers' a.0 b.0) es (id ∷ []) it.rise (tt, tt) (all_part (λ e live. (is_older e.0 live, tt)) es es (part_self es) listed);
-        newer = λ x t at. all_append (λ e. IsOlder numbers' x e.0) es (id ∷ []) (it.newer x t at) (is_older x (ticked_live s x t (eases.ticks x t at)), tt);
-        stands = it.stands;
-        buckets = it.buckets;
-        come = tt;
-        told = tt;
-      }
+      let rise = pairs_append (λ a b. IsOlder numbers' a.0 b.0) es (id ∷ []) it.rise (tt, tt) (all_part (λ e live. (is_older e.0 live, tt)) es es (part_self es) listed) in
+      let newer : (id0 : Id) (t : ℕ) → tick_at s' id0 ≡ Some t → AllByRecursion (λ e. IsOlder numbers' id0 e.0) (es ++ id ∷ []) =
+      λ x t at. all_append (λ e. IsOlder numbers' x e.0) es (id ∷ []) (it.newer x t at) (is_older x (ticked_live s x t (eases.ticks x t at)), tt) in
+      assumption (rise, newer, tt, it)
 
 -- before the first request
 pub begins_ordered : {round : Bool} {numbers : List ℕ} {s : Slab (Entry Reply Reply)} {w : Wheel} {es ds : List WaiterId} (horizon tick start slots : ℕ) → s.slots ≡ [] → w ≡ fresh horizon tick start slots → es ≡ [] → ds ≡ [] → IsOrdered round numbers s w es ds

@@ -26,19 +26,15 @@ module _ {B : Type 0} (w : Worker) (s : Shared B) (d d' : Driving Reply Reply) (
   submitted_ended entries =
       let sub = keeps.named.submitted in
       let k = number_in w.names.requests.items id in
-      record {
-        tagged = subst AreTagged (sym entries) sub.tagged;
-        cancels = ap cancels_in entries ∙ sub.cancels;
-        known = known_then f rs k w.names.staged.items sub.known;
-        own = λ j x h found.
-            let old = was_marked f rs k j x found in
-            ap (λ y. y.shown.worker) old.2 ∙ kept_worker w.index w.names d d' zs rs ss id it r f outcome told one keeps.named keeps.due.timed j (k == j) old.0 refl old.1 ∙ sub.own j old.0 h old.1;
-        all = λ j x found mine staged.
-            let old = was_marked f rs k j x found in
-            staged_by j (k == j) old.0 refl old.1
-            (sym (kept_worker w.index w.names d d' zs rs ss id it r f outcome told one keeps.named keeps.due.timed j (k == j) old.0 refl old.1) ∙ sym (ap (λ y. y.shown.worker) old.2) ∙ mine)
-            (sym (ap (λ y. is_staged y.shown.phase) old.2) ∙ staged);
-      }
+      let own : (k : ℕ) (x : Record) → is_one_of k w.names.staged.items ≡ true → slice_get (changed_at rs (number_in w.names.requests.items id) f) k ≡ Some x → x.shown.worker ≡ w.index = λ j x h found.
+      let old = was_marked f rs k j x found in
+      ap (λ y. y.shown.worker) old.2 ∙ kept_worker w.index w.names d d' zs rs ss id it r f outcome told one keeps.named keeps.due.timed j (k == j) old.0 refl old.1 ∙ sub.own j old.0 h old.1 in
+      let all : (k : ℕ) (x : Record) → slice_get (changed_at rs (number_in w.names.requests.items id) f) k ≡ Some x → x.shown.worker ≡ w.index → is_staged x.shown.phase ≡ true → is_one_of k w.names.staged.items ≡ true = λ j x found mine staged.
+      let old = was_marked f rs k j x found in
+      staged_by j (k == j) old.0 refl old.1
+      (sym (kept_worker w.index w.names d d' zs rs ss id it r f outcome told one keeps.named keeps.due.timed j (k == j) old.0 refl old.1) ∙ sym (ap (λ y. y.shown.worker) old.2) ∙ mine)
+      (sym (ap (λ y. is_staged y.shown.phase) old.2) ∙ staged) in
+      assumption (subst AreTagged (sym entries) sub.tagged, ap cancels_in entries ∙ sub.cancels, known_then f rs k w.names.staged.items sub.known, own, all)
     where
       staged_by : (j : ℕ) (b : Bool) (x : Record) → (number_in w.names.requests.items id == j) ≡ b → slice_get rs j ≡ Some x → x.shown.worker ≡ w.index → is_staged (mark_if f b x).shown.phase ≡ true → is_one_of j w.names.staged.items ≡ true
       staged_by = grind (arith, same_number, false≢true)

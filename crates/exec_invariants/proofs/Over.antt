@@ -1,5 +1,6 @@
 -- What holds again once a request is over, which the kernel doesn't have.
 use Rattle.std.proofs.{Common.{◌≡◌, ◌≢◌, ◌⊎◌, ℕ, zero, suc, ◌+◌, ◌==◌, Bool, true, false, List, [], ◌∷◌, ◌++◌, length, Some, None, IsSome, refl, sym, ap, subst, ◌∙◌, arith, inl, inr, slice_get}, lemmas.{Bool.{false≢true, eq-eqb}, List.length-append}}
+use Rattle.std.proofs.lemmas.Bool.{true_from_ne_false}
 use Rattle.exec_base.specs.{Slab.{Slab, value_at}, declared.slab.Id.Id}
 use Rattle.exec_outcomes.specs.declared.outcome.Outcome.{Outcome}
 use Rattle.exec_time.specs.declared.timers.Sleeper.{Sleeper as Sleeping}
@@ -17,10 +18,6 @@ module _ {A : Type 0} where
   in_append [] k (suc j) m h = absurd (cc)
   in_append (x ∷ e) k zero m h = inl h
   in_append (x ∷ e) k (suc j) m h = grind (arith, in_append e k j m h)
-
-resolved_unless : (b : Bool) → (b ≡ false → ⊥) → b ≡ true
-resolved_unless true h = refl
-resolved_unless false h = absurd (h refl)
 
 -- what a record says of its deadline, once it is another
 pub record TimedBy (n : Names) (j : ℕ) (x x' : Record) : Type 0 where
@@ -112,7 +109,7 @@ module _ (i : ℕ) (n : Names) (d d' : Driving Reply Reply) (zs : Slab (Sleeping
           let differs : x.id.0 ≢ id → is_resolved x.shown.phase ≡ true = λ apart.
           named.over j x at mine (sym (ap waiter_of (one.slab.others x.id.0 apart)) ∙ gone) in
           let known : x.id.0 ≡ id → is_resolved x.shown.phase ≡ true = λ same.
-          resolved_unless (is_resolved x.shown.phase) (λ open_still.
+          true_from_ne_false (is_resolved x.shown.phase) (λ open_still.
           let number = (timed j x at mine).named open_still in
           let here : number_in n.requests.items id ≡ j = ap (number_in n.requests.items) (sym same) ∙ number in
           false≢true (sym is ∙ ap (λ q. number_in n.requests.items id == q) (sym here) ∙ eq-eqb (number_in n.requests.items id) (number_in n.requests.items id) refl)) in

@@ -1,21 +1,18 @@
 -- What the end of a poll is to the machine, where the task waits.
 use Rattle.std.proofs.{Common.{◌≡◌, inl, ℕ, ◌<◌, ◌||◌, Bool, true, false, length, Option, Some, None, IsSome, refl, sym, ap, subst, ◌∙◌, slice_get, slice_set, is_some, option_to_list, IsTrue, if◌then◌else◌}, lemmas.{Bool.{false≢true, eq-eqb}, Option.slice_get_within}}
 use Rattle.std.proofs.Common.{arith}
+use Rattle.std.proofs.lemmas.Bool.{or_right}
 use Rattle.exec_task.specs.{Phases.{is_polled, given_back, over, requeue_where, runnable_of, pend_answer}, declared.{body.Said.Said, runnable.{AfterPoll.AfterPoll, Runnable.Runnable}, task.Phase.Phase}}
-use Rattle.exec_machine.specs.{declared.{event.Event.{Event, TheVariants.Pend}, state.{Waiting.Waiting, Next.Next}}, Choice.Choice.Plain, Progress.Plan, Same.is_number, Tasks.{may_stop, pended_phase, after_over}, Tests.{is_settled}, World.task_of}
-use Rattle.exec_moves.specs.{declared.{handing.{AfterCallbacks.AfterCallbacks, AfterPush.AfterPush, InPush.InPush}, place.{InPoll.InPoll, Place.Place, InCallbacks.InCallbacks}}, Move.move_at, Poll.{after_pend, is_noted, pend as pend_moves}, Seen.{polls_at, polls_in, next_in_poll}, State.{Desk, Moved, Things}}
-use Rattle.exec_parts.{specs.{declared.parts.{shared.Shared.Shared, task_slot.TaskSlot.TaskSlot, worker.Worker.Worker}, Phased.is_complete, Polls.{OfSlot, flag_after, pended_with, pended_slot}, Pooled.queued_again, Spots.Spot, Tests.after_poll_of, View.{Views, own_of, desk_of, common_of, phase_seen, task_seen, body_in, things_with}, Things.TurnsSlot}, proofs.Facts.same_thing}
-use Rattle.exec_invariants.{specs.{Places.{begins_at, hands_on_at, removes_at}, Holding.holder_of, Sound.{IsInHand, IsRunnable, MayStop, SoundAt, may_end, one_of, root_in_hand}, Whole.{HasOne, is_number as is_counted, runnables_in}, Works.{Suits, Steps}}, proofs.{Here.{IsHere, polled_here, unflagged_there}, Polling.{IsOutside, home_mine, number_apart}, PoolKept.unremoved, Slots.{Balances, IsEvent, slotted, task_there}, SlotTasks.{IsAfter, Sits, root_tasked}, Seen.{request_at, sleeper_at}}}
+use Rattle.exec_machine.specs.{declared.{event.Event.{Event, TheVariants.Pend}, state.{Waiting.Waiting, Next.Next}}, Choice.Choice.Plain, Progress.Plan, Same.is_number, Tasks.{may_stop, pended_phase}, Tests.{is_settled}, World.task_of}
+use Rattle.exec_moves.specs.{declared.{handing.{AfterCallbacks.AfterCallbacks, AfterPush.AfterPush, InPush.InPush}, place.{InPoll.InPoll, Place.Place, InCallbacks.InCallbacks}}, Move.move_at, Poll.{is_noted, pend as pend_moves}, Seen.{polls_at, polls_in, next_in_poll}, State.{Desk, Moved, Things}}
+use Rattle.exec_parts.{specs.{declared.parts.{shared.Shared.Shared, task_slot.TaskSlot.TaskSlot, worker.Worker.Worker}, Phased.is_complete, Polls.{OfSlot, flag_after, pended_with, pended_slot}, Pooled.queued_again, Spots.Spot, Tests.after_poll_of, View.{Views, own_of, desk_of, common_of, phase_seen, task_seen, body_in, things_with}, Things.TurnsSlot}, proofs.Facts.same_Some}
+use Rattle.exec_invariants.{specs.{Places.{begins_at, hands_on_at, removes_at}, Holding.holder_of, Sound.{IsInHand, MayStop, SoundAt, may_end}, Whole.{HasOne, is_number as is_counted, runnables_in}, Works.{Suits, Steps}}, proofs.{Here.{IsHere, polled_here}, Polling.{IsOutside, home_mine, number_apart}, PoolKept.unremoved, Slots.{Balances, IsEvent, slotted, task_there}, SlotTasks.{IsAfter, Sits, root_tasked}, Seen.{request_at, sleeper_at}}}
 
 -- WHAT IT WAITS FOR ISN'T OVER
 
-either_way : (a b : Bool) → b ≡ true → (a || b) ≡ true
-either_way true b h = refl
-either_way false b h = h
-
 module _ {B L : Type 0} (left : B → L) (spot : L → Option Said → Spot) where
   pub stops : (p : Plan) (vs : Views) (w : Worker) (s : Shared B) (u : Waiting) → may_end u ≡ true → MayStop w.index u s.requests.items s.sleepers.items → may_stop (common_of left spot p vs s) w.index u ≡ true
-  stops = grind (arith, request_at, either_way, eq-eqb, sleeper_at, false≢true)
+  stops = grind (arith, request_at, or_right, eq-eqb, sleeper_at, false≢true)
 
 -- THE CELL
 
@@ -68,7 +65,7 @@ module _ {B : Type 0} where
   pub at_end : (x : InPoll) (t : ℕ) (w : Worker) (s : Shared B) → SoundAt (Place.Poll t x) w s → MayEnd x t → IsAtEnd t s
   at_end x t w s sound may =
       let it : IsHere x t w s = polled_here x t w s sound may.polls in
-      let is : (slot : TaskSlot B) → slice_get s.tasks.items t ≡ Some slot → it.slot ≡ slot = λ slot found. same_thing it.slot slot (sym it.there ∙ found) in
+      let is : (slot : TaskSlot B) → slice_get s.tasks.items t ≡ Some slot → it.slot ≡ slot = λ slot found. same_Some it.slot slot (sym it.there ∙ found) in
       record {
         there = slice_get_within s.tasks.items t it.slot it.there;
         polled = λ slot found. ap (λ (o : TaskSlot B). is_polled o.cell.phase) (sym (is slot found)) ∙ it.polled;
@@ -118,17 +115,10 @@ module _ {B L : Type 0} (left : B → L) (spot : L → Option Said → Spot) whe
       let kept : (task_of all w.root).cleared ≡ false = ap (λ y. y.cleared) it ∙ cleared in
       let by : Desk → Moved Things = λ k. record { event = Pend w.root; choice = Plain; desk = k; thing = things } in
       record {
-        moves = ends p vs suits
-            ∙ ap (λ y. by (after_pend w.index w.root all (desk_of (record w { place = Place.Poll w.root x })) y y.home)) it
-            ∙ ap (λ o. by (after_pend w.index w.root all (desk_of (record w { place = Place.Poll w.root x })) (task_seen left spot slot) o)) home
-            ∙ ap (λ y. by (record d { root_ready = y; place = to })) (sym how.flag ∙ sym (ap is_some flag))
-            ∙ ap (λ o. by (desk_of (record w { place = to; root_ready = f; hand = o }))) empty;
+        moves = grind (arith, ends p vs suits, it, home, how.flag, flag, empty);
         may = (ap (is_number w.root) may.polls ∙ eq-eqb w.root w.root refl, (ap is_settled may.free, (ap (λ y. may_stop all w.index y.waiting) it ∙ stop, tt)));
         own = rw (kept, may.free) refl;
-        common =
-            ap (λ y. if y.cleared then after_over all w.index w.root else record all { tasks = slice_set all.tasks w.root (record y { phase = pended_phase y.phase }) }) it
-            ∙ ap (λ c. if c then after_over all w.index w.root else record all { tasks = slice_set all.tasks w.root (record (task_seen left spot slot) { phase = pended_phase (task_seen left spot slot).phase }) }) cleared
-            ∙ ap (λ y. record all { tasks = slice_set all.tasks w.root y }) (sym (given_seen slot b slot.poller (runnable_of slot.cell) w.root_ready how));
+        common = grind (arith, it, cleared, given_seen slot b slot.poller (runnable_of slot.cell) w.root_ready how);
       }
 
   requeued_root : (w : Worker) (a : AfterPoll) → queued_again w.root a (record w { place = after_poll_of w.root w }) ≡ record w { place = to; root_ready = flag_after a w.root_ready }
@@ -151,8 +141,6 @@ module _ {B L : Type 0} (left : B → L) (spot : L → Option Said → Spot) whe
       let slot' = given_slot body.0 slot in
       let a : AfterPoll = requeue_where (runnable_of slot.cell) slot.cell.phase in
       let f : Option Runnable = flag_after a w.root_ready in
-      let same_root : slot ≡ sound.runnable.root = same_thing slot sound.runnable.root (sym there ∙ sound.runnable.there) in
-      let unflagged : w.root_ready ≡ None = unflagged_there w.root_ready (root_in_hand (begins_at (Place.Poll w.root x)) w.root w.hand) slot is_on (subst (λ (o : TaskSlot B). IsRunnable (one_of w.root_ready (root_in_hand (begins_at (Place.Poll w.root x)) w.root w.hand)) o) (sym same_root) sound.runnable.once) in
       let sits : Sits to w f s slot slot' = grind arith in
       let bal : Balances w.root to w None slot slot' = record {
         keeps = record { home = refl; number = refl; owner = refl };

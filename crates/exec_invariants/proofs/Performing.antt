@@ -4,8 +4,8 @@ use Rattle.std.proofs.Common.{arith}
 use Rattle.exec_base.specs.declared.error.Error.TheVariants.{NoMemory}
 use Rattle.exec_task.specs.{Phases.{is_polled, woken as cell_woken}, Sight.Sight, declared.{body.{Act.Act, Said.Said}, task.Phase.Phase}}
 use Rattle.exec_machine.specs.{declared.state.Waiting.Waiting, Progress.Plan, Tasks.woken_phase, World.Task}
-use Rattle.exec_parts.{specs.{Records.numbers_held, declared.parts.{shared.Shared.Shared, task_slot.TaskSlot.TaskSlot, worker.Worker.Worker}, Phased.is_complete, Polls.yielded_slot, Scripts.{GoesOn, IsAnswer, held_after}, Spots.{Spot, spot_of}, View.{phase_seen, task_seen, body_in}, Things.TurnsSlot}, proofs.Facts.{by_number, same_thing, set_elsewhere, set_there}}
-use Rattle.exec_invariants.{specs.{Acting.{Performs, StillPerforms}, Hearing.{CanHear, held_once_come}, Works.Same}}
+use Rattle.exec_parts.{specs.{Records.numbers_held, declared.parts.{shared.Shared.Shared, task_slot.TaskSlot.TaskSlot, worker.Worker.Worker}, Phased.is_complete, Polls.yielded_slot, Scripts.{GoesOn, IsAnswer, held_after}, Spots.{Spot, spot_of}, View.{phase_seen, task_seen, body_in}, Things.TurnsSlot}, proofs.Facts.{by_number, same_Some, set_elsewhere, set_there}}
+use Rattle.exec_invariants.specs.{Acting.{Performs, StillPerforms}, Hearing.{CanHear, held_once_come}, Works.Same}
 
 -- A CELL IN ITS POLL
 
@@ -34,7 +34,7 @@ module _ {B L : Type 0} (left : B → L) (runs : L → Plan → Option ℕ → T
             by_number k t
             (λ apart. fits k o (sym (set_elsewhere s.tasks.items t k slot' apart) ∙ ap (λ ts. slice_get ts k) (sym items) ∙ found))
             (λ same.
-            let is : slot' ≡ o = same_thing slot' o (sym (set_there s.tasks.items t slot' slot there) ∙ ap (λ ts. slice_get ts t) (sym items) ∙ subst (λ n. slice_get s'.tasks.items n ≡ Some o) same found) in
+            let is : slot' ≡ o = same_Some slot' o (sym (set_there s.tasks.items t slot' slot there) ∙ ap (λ ts. slice_get ts t) (sym items) ∙ subst (λ n. slice_get s'.tasks.items n ≡ Some o) same found) in
             subst (Performs left runs holds p) is (performs p (fits t slot there)));
       }
 

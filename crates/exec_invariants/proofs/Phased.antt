@@ -3,7 +3,7 @@ use Rattle.std.proofs.{Common.{◌≡◌, ℕ, ◌<◌, Bool, true, false, List,
 use Rattle.std.proofs.Common.{arith}
 use Rattle.exec_machine.specs.{declared.state.WorkerPhase.WorkerPhase, Tests.{is_open, has_ended}}
 use Rattle.exec_moves.specs.declared.place.InClosing.{InClosing}
-use Rattle.exec_parts.{specs.{declared.parts.task_slot.TaskSlot.TaskSlot, Phased.{IsPhased, Stage, is_complete}}, proofs.Facts.{set_there, same_thing}}
+use Rattle.exec_parts.{specs.{declared.parts.task_slot.TaskSlot.TaskSlot, Phased.{IsPhased, Stage, is_complete}}, proofs.Facts.{set_there, same_Some}}
 
 not_ended : (p : WorkerPhase) → is_open p ≡ true → has_ended p ≡ false
 not_ended = grind arith
@@ -14,7 +14,7 @@ module _ {B : Type 0} where
   -- It is over by this, so the worker is about to close; any but worker zero once the pool is stopped.
   pub phased_over : (i : ℕ) (told : Bool) (t n : ℕ) (st : Stage) (tasks : List (TaskSlot B)) (slot slot' : TaskSlot B)
       → slice_get tasks t ≡ Some slot → is_complete slot'.cell.phase ≡ true → (0 < i → st.pool ≡ true → st.stopped ≡ true) → IsPhased i false None told t n st tasks → IsPhased i false (Some InClosing.Close) told t n st (slice_set tasks t slot')
-  phased_over = grind (arith, false≢true, not_ended, same_thing, set_there)
+  phased_over = grind (arith, false≢true, not_ended, same_Some, set_there)
 
   -- Another number of requests is unreleased.
   pub phased_count : (i : ℕ) (closes : Bool) (told : Bool) (t n m : ℕ) (st : Stage) (tasks : List (TaskSlot B)) → IsPhased i closes None told t n st tasks → IsPhased i closes None told t m st tasks

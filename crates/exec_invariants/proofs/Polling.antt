@@ -3,8 +3,8 @@ use Rattle.std.proofs.{Common.{◌≡◌, ◌≢◌, ◌⊎◌, inl, inr, ⊎_el
 use Rattle.exec_task.specs.{Phases.{is_polled, queued_body, begun as cell_begun, runnable_of}, declared.{body.Said.Said, runnable.Runnable.Runnable, task.Phase.Phase}}
 use Rattle.exec_machine.specs.{declared.{event.Event.{Event, TheVariants.{Begin, Turn}}, state.{TaskPhase.TaskPhase, Waiting.Waiting, Next.Next}}, Choice.Choice.Plain, Progress.Plan, Tasks.{begun, begun_waiting, is_polled_here}, Tests.{is_ready}, World.{Seat, Task, task_of}}
 use Rattle.exec_moves.specs.{declared.place.{InPick.InPick, InPoll.InPoll, Place.Place}, Parts.after_poll, Poll.{after_begin, begin_poll, let_go}, Seen.{next_at, polls_at, polls_in, serves_at}, State.{Moved, Things, does, goes, turns}}
-use Rattle.exec_parts.{specs.{declared.parts.{shared.Shared.Shared, task_slot.TaskSlot.TaskSlot, worker.Worker.Worker}, Phased.is_complete, Polls.{begun_slot, begun_slot_if}, Records.numbers_held, Spots.Spot, Tests.next_pick_of, View.{Views, own_of, owed_at, desk_of, common_of, phase_seen, task_seen, spot_by, body_in, things_with}, Things.TurnsSlot}, proofs.Facts.{by_number, not_same, same_thing, set_there}}
-use Rattle.exec_invariants.{specs.{Holding.holder_of, Places.{begins_at, hands_on_at, in_poll_of, joins_at, one_if, polled_in, removes_at}, Sound.{HasGuest, IsGuest, IsInHand, IsRunnable, SoundAt, Stops, WaitsAt, is_told, one_of, root_in_hand}, Whole.{HasOne, IsGenuine, is_number, runnables_in}, Works.{Steps, Suits}}, proofs.{Begins.{awaits_before, begins_waiting, begins_with, begun_place, stops_later, told_before, waits_before}, Dedicated.chair_of_pool, Hearing.hears_begun, PoolKept.unremoved, Seats.own_seat, Slots.{Balances, IsEvent, Remains, slotted, task_there}, SlotTasks.{IsAfter, Keeps, Sits, Tasked, Visits, guest_tasked, none_in, root_tasked}, Turning.set_found}}
+use Rattle.exec_parts.{specs.{declared.parts.{shared.Shared.Shared, task_slot.TaskSlot.TaskSlot, worker.Worker.Worker}, Phased.is_complete, Polls.{begun_slot, begun_slot_if}, Records.numbers_held, Spots.Spot, Tests.next_pick_of, View.{Views, own_of, owed_at, desk_of, common_of, phase_seen, task_seen, body_in, things_with}, Things.TurnsSlot}, proofs.Facts.{by_number, not_same, same_Some, set_there}}
+use Rattle.exec_invariants.{specs.{Holding.holder_of, Places.{begins_at, hands_on_at, in_poll_of, joins_at, one_if, removes_at}, Sound.{HasGuest, IsGuest, IsInHand, IsRunnable, SoundAt, Stops, WaitsAt, is_told, one_of, root_in_hand, acts_next, IsResting}, Whole.{HasOne, IsGenuine, is_number, runnables_in}, Works.{Steps, Suits}}, proofs.{Begins.{awaits_before, begins_waiting, begins_with, begun_place, stops_later, told_before, waits_before}, Dedicated.chair_of_pool, Hearing.hears_begun, PoolKept.unremoved, Seats.own_seat, Slots.{Balances, IsEvent, Remains, slotted, task_there}, SlotTasks.{IsAfter, Keeps, Sits, Tasked, Visits, guest_tasked, none_in, root_tasked}, Turning.set_found}}
 
 -- WHERE IT LEADS
 
@@ -113,7 +113,7 @@ module _ {B : Type 0} where
       other : t ≢ w.root → IsAtStart t w s
       other apart =
           let here : Contains (option_to_list w.hand) r = subst (λ o. Contains (option_to_list o) r) (sym sound.hand.1) (0, lit< tt, refl) in
-          let it : IsGenuine s.tasks.items r = ⊎_elim (λ is. absurd (apart (same_thing t w.root is))) (λ g. g) (sound.genuine r here) in
+          let it : IsGenuine s.tasks.items r = ⊎_elim (λ is. absurd (apart (same_Some t w.root is))) (λ g. g) (sound.genuine r here) in
           let there : slice_get s.tasks.items t ≡ Some it.slot = subst (λ n. slice_get s.tasks.items n ≡ Some it.slot) sound.hand.2 it.there in
           record {
             slot = it.slot;
@@ -144,22 +144,10 @@ module _ {B : Type 0} where
 
 -- its own worker is the only one whose root it may be
 pub home_mine : (i : ℕ) (home : Option ℕ) → (home ≡ Some i) ⊎ (home ≡ None) → (j : ℕ) → home ≡ Some j → j ≡ i
-home_mine i home (inl is) j at = same_thing j i (sym at ∙ is)
+home_mine i home (inl is) j at = same_Some j i (sym at ∙ is)
 home_mine i home (inr is) j at = let never : None ≡ Some j = sym is ∙ at in absurd (cc)
 
 module _ {B L : Type 0} (left : B → L) (spot : L → Option Said → Spot) where
-  abbrev pub at_phase : TaskSlot B → Option B → TaskPhase → Waiting → Bool → Task
-  at_phase slot b p u fresh =
-      record (task_seen left spot slot) {
-        code = (spot_by left spot b slot.told).code;
-        place = (spot_by left spot b slot.told).place;
-        adapters = (spot_by left spot b slot.told).adapters;
-        call = (spot_by left spot b slot.told).call;
-        phase = p;
-        waiting = u;
-        fresh = fresh;
-      }
-
   begun_seen : (i : ℕ) (slot : TaskSlot B) → BeginsAs slot.cell.phase slot.body i → task_seen left spot (begun_slot i slot) ≡ begun i (task_seen left spot slot)
   begun_seen = grind arith
 
@@ -187,60 +175,34 @@ module _ {B L : Type 0} (left : B → L) (spot : L → Option Said → Spot) whe
 
   begun_tasked : (t : ℕ) (w : Worker) (s : Shared B) → (sound : SoundAt (Place.Poll t InPoll.BeginPoll) w s) → (it : IsAtStart t w s) → BeginsAs it.slot.cell.phase it.slot.body w.index
       → Tasked (Place.Poll t (after_begin (begun_waiting it.slot.waiting))) w w.root_ready None s (slice_set s.tasks.items t (begun_slot w.index it.slot))
-  begun_tasked t w s sound it how = by_number t w.root other root
-    where
-      u : Waiting
-      u = begun_waiting it.slot.waiting
-
-      q : Place
-      q = Place.Poll t (after_begin u)
-
-      slot' : TaskSlot B
-      slot' = begun_slot w.index it.slot
-
-      waits : WaitsAt (Some (after_begin u)) u
-      waits = begins_waiting it.slot.waiting
-
-      polls : polls_in t (after_begin u) ≡ Some t
-      polls = (begins_with t u).0
-
-      told : (over : Bool) → is_complete slot'.cell.phase ≡ over → is_complete it.slot.cell.phase ≡ over
-      told over is = sym how.complete ∙ is
-
-      root : t ≡ w.root → Tasked q w w.root_ready None s (slice_set s.tasks.items t slot')
-      root same =
-          let there : slice_get s.tasks.items w.root ≡ Some it.slot = subst (λ n. slice_get s.tasks.items n ≡ Some it.slot) same it.there in
-          let own : polled_in w.root q ≡ Some (after_begin u) = in_own_poll w.root (polls_in t (after_begin u)) (after_begin u) (polls ∙ ap (λ n. Some n) same) in
-          let before : polled_in w.root (Place.Poll t InPoll.BeginPoll) ≡ None = refl in
-          let old = sound.tied.stands it.slot there in
-          let sits : Sits q w w.root_ready s it.slot slot' = grind arith in
-          subst (λ n. Tasked q w w.root_ready None s (slice_set s.tasks.items n slot')) (sym same) (root_tasked t InPoll.BeginPoll q w w.root_ready s it.slot slot' sound sits)
-
-      other : t ≢ w.root → Tasked q w w.root_ready None s (slice_set s.tasks.items t slot')
-      other apart =
-          let old = sound.resting t it.slot it.there (it.ordinary apart) how.unpolled in
-          let guest : IsGuest (after_begin u) w.index slot' = record {
-            ordinary = it.ordinary apart;
-            polled = how.polled;
-            body = how.body;
-            poller = refl;
-            cancelled = (old.uncleared how.going).0 ∙ sym (old.uncleared how.going).1;
-            told = λ h. old.told (ap (is_told it.slot.waiting) how.going ∙ told_before it.slot.waiting false h);
-            untold = λ h. old.untold (waits_before it.slot.waiting h);
-            there = waits;
-          } in
-          let visits : Visits q t w None s it.slot slot' = record {
-            apart = apart;
-            there = it.there;
-            keeps = record { home = refl; number = refl; owner = refl };
-            hand = subst (λ b. IsInHand None b None) (sym (begun_place t u).1) refl;
-            genuine = λ r has. absurd (none_in r has);
-            polls = λ n is same. apart (same_thing t n (sym polls ∙ is) ∙ same);
-            guest = subst (λ o. HasGuest o (after_begin u) w.index w.root (slice_set s.tasks.items t slot')) (sym polls) (λ no. (slot', set_there s.tasks.items t slot' it.slot it.there, guest));
-            stops = subst (λ o. Stops o (after_begin u) w.index (slice_set s.tasks.items t slot') s.requests.items s.sleepers.items) (sym polls) (λ o found. stops_later u o.waiting w.index s.requests.items s.sleepers.items);
-            rests = λ unpolled. absurd (false≢true (sym unpolled ∙ how.polled));
-          } in
-          guest_tasked t InPoll.BeginPoll q w None s it.slot slot' sound visits
+  begun_tasked t w s sound it how =
+      let u : Waiting = begun_waiting it.slot.waiting in
+      let q : Place = Place.Poll t (after_begin u) in
+      let slot' : TaskSlot B = begun_slot w.index it.slot in
+      let waits : WaitsAt (Some (after_begin u)) u = begins_waiting it.slot.waiting in
+      let polls : polls_in t (after_begin u) ≡ Some t = (begins_with t u).0 in
+      let told : (over : Bool) → is_complete slot'.cell.phase ≡ over → is_complete it.slot.cell.phase ≡ over = λ over is. sym how.complete ∙ is in
+      let root : t ≡ w.root → Tasked q w w.root_ready None s (slice_set s.tasks.items t slot') = λ same.
+      let there : slice_get s.tasks.items w.root ≡ Some it.slot = subst (λ n. slice_get s.tasks.items n ≡ Some it.slot) same it.there in
+      let old = sound.tied.stands it.slot there in
+      let sits : Sits q w w.root_ready s it.slot slot' = grind arith in
+      subst (λ n. Tasked q w w.root_ready None s (slice_set s.tasks.items n slot')) (sym same) (root_tasked t InPoll.BeginPoll q w w.root_ready s it.slot slot' sound sits) in
+      let other : t ≢ w.root → Tasked q w w.root_ready None s (slice_set s.tasks.items t slot') = λ apart.
+      let old = sound.resting t it.slot it.there (it.ordinary apart) how.unpolled in
+      let cancelled : slot'.cell.cancelled ≡ slot'.cleared = (old.uncleared how.going).0 ∙ sym (old.uncleared how.going).1 in
+      let told : is_told slot'.waiting false ≡ true → IsSome slot'.told = λ h. old.told (ap (is_told it.slot.waiting) how.going ∙ told_before it.slot.waiting false h) in
+      let untold : acts_next slot'.waiting ≡ false → slot'.told ≡ None = λ h. old.untold (waits_before it.slot.waiting h) in
+      let guest : IsGuest (after_begin u) w.index slot' = assumption (it.ordinary apart, cancelled, told, untold, waits, how) in
+      let keeps : Keeps it.slot slot' = record { home = refl; number = refl; owner = refl } in
+      let hand = subst (λ b. IsInHand None b None) (sym (begun_place t u).1) refl in
+      let genuine : (r : Runnable) → Contains (option_to_list None) r → IsGenuine (slice_set s.tasks.items t slot') r = λ r has. absurd (none_in r has) in
+      let polls_so : (u : ℕ) → polls_at q ≡ Some u → u ≢ w.root = λ n is same. apart (same_Some t n (sym polls ∙ is) ∙ same) in
+      let guest_so = subst (λ o. HasGuest o (after_begin u) w.index w.root (slice_set s.tasks.items t slot')) (sym polls) (λ no. (slot', set_there s.tasks.items t slot' it.slot it.there, guest)) in
+      let stops = subst (λ o. Stops o (after_begin u) w.index (slice_set s.tasks.items t slot') s.requests.items s.sleepers.items) (sym polls) (λ o found. stops_later u o.waiting w.index s.requests.items s.sleepers.items) in
+      let rests : is_polled slot'.cell.phase ≡ false → IsResting slot' = λ unpolled. absurd (false≢true (sym unpolled ∙ how.polled)) in
+      let visits : Visits q t w None s it.slot slot' = assumption (apart, keeps, hand, genuine, polls_so, guest_so, stops, rests, it) in
+      guest_tasked t InPoll.BeginPoll q w None s it.slot slot' sound visits in
+      by_number t w.root other root
 
   holder_begun : (i : ℕ) (slot : TaskSlot B) → BeginsAs slot.cell.phase slot.body i → holder_of (begun_slot i slot) ≡ holder_of slot
   holder_begun i slot how = ap (λ a. record (holder_of slot) { awaits = a; over = is_complete (cell_begun slot.cell.phase) }) (awaits_before slot.waiting) ∙ ap (λ o. record (holder_of slot) { over = o }) how.complete
@@ -298,29 +260,21 @@ module _ {B L : Type 0} (left : B → L) (spot : L → Option Said → Spot) whe
       → ((slot : TaskSlot B) → slice_get s.tasks.items t ≡ Some slot → w'.place ≡ (if is_some (queued_body slot.cell.phase) then Place.Poll t (after_begin (begun_waiting slot.waiting)) else next_pick_of w))
       → w' ≡ record w { place = w'.place; hand = None } → TurnsSlot t s s' (begun_slot_if w.index) → Steps left spot w s e w' s'
   poll_begun t w w' s s' e sound event place same turns =
+      let by : (b : Bool) (it : IsAtStart t w s) → is_some (queued_body it.slot.cell.phase) ≡ b → Steps left spot w s (if b then Begin t else Turn) (record w { place = (if b then Place.Poll t (after_begin (begun_waiting it.slot.waiting)) else next_pick_of w); root_ready = w.root_ready; hand = None }) (record s { tasks = s'.tasks }) → Steps left spot w s e w' s' = λ b it is done.
+      let q : Place = (if b then Place.Poll t (after_begin (begun_waiting it.slot.waiting)) else next_pick_of w) in
+      let there_place : w'.place ≡ q = place it.slot it.there ∙ ap (λ c. if c then Place.Poll t (after_begin (begun_waiting it.slot.waiting)) else next_pick_of w) is in
+      let at : w' ≡ record w { place = q; hand = None } = same ∙ ap (λ y. record w { place = y; hand = None }) there_place in
+      let happens : e ≡ (if b then Begin t else Turn) = event it.slot it.there ∙ ap (λ c. if c then Begin t else Turn) is in
+      subst (λ y. Steps left spot w s e w' y) (sym turns.kept)
+      (subst (λ y. Steps left spot w s e y (record s { tasks = s'.tasks })) (sym at)
+      (subst (λ y. Steps left spot w s y (record w { place = q; hand = None }) (record s { tasks = s'.tasks })) (sym happens) done)) in
+      let begins : (it : IsAtStart t w s) → (b : B) × (it.slot.cell.phase ≡ Phase.Queued b) → Steps left spot w s e w' s' = λ it queued.
+      let how = begins_as it.slot.cell.phase it.slot.body w.index queued.0 queued.1 in
+      let items : s'.tasks.items ≡ slice_set s.tasks.items t (begun_slot w.index it.slot) = turns.tasks it.slot it.there ∙ ap (λ b. slice_set s.tasks.items t (if b then begun_slot w.index it.slot else it.slot)) how.body in
+      by true it how.body (begun_steps t w s s' sound it how items) in
+      let passes : (it : IsAtStart t w s) → IsStale it.slot.cell.phase → Steps left spot w s e w' s' = λ it stale.
+      let none : is_some (queued_body it.slot.cell.phase) ≡ false = ap is_some stale.none in
+      let items : s'.tasks.items ≡ slice_set s.tasks.items t it.slot = turns.tasks it.slot it.there ∙ ap (λ b. slice_set s.tasks.items t (if b then begun_slot w.index it.slot else it.slot)) none in
+      by false it none (stale_steps t w s s' sound it stale items) in
       let it = at_start t w s sound in
       ⊎_elim (begins it) (passes it) (queued_or it.slot.cell.phase)
-    where
-      by : (b : Bool) (it : IsAtStart t w s) → is_some (queued_body it.slot.cell.phase) ≡ b
-          → Steps left spot w s (if b then Begin t else Turn) (record w { place = (if b then Place.Poll t (after_begin (begun_waiting it.slot.waiting)) else next_pick_of w); root_ready = w.root_ready; hand = None }) (record s { tasks = s'.tasks })
-          → Steps left spot w s e w' s'
-      by b it is done =
-          let q : Place = (if b then Place.Poll t (after_begin (begun_waiting it.slot.waiting)) else next_pick_of w) in
-          let there_place : w'.place ≡ q = place it.slot it.there ∙ ap (λ c. if c then Place.Poll t (after_begin (begun_waiting it.slot.waiting)) else next_pick_of w) is in
-          let at : w' ≡ record w { place = q; hand = None } = same ∙ ap (λ y. record w { place = y; hand = None }) there_place in
-          let happens : e ≡ (if b then Begin t else Turn) = event it.slot it.there ∙ ap (λ c. if c then Begin t else Turn) is in
-          subst (λ y. Steps left spot w s e w' y) (sym turns.kept)
-          (subst (λ y. Steps left spot w s e y (record s { tasks = s'.tasks })) (sym at)
-          (subst (λ y. Steps left spot w s y (record w { place = q; hand = None }) (record s { tasks = s'.tasks })) (sym happens) done))
-
-      begins : (it : IsAtStart t w s) → (b : B) × (it.slot.cell.phase ≡ Phase.Queued b) → Steps left spot w s e w' s'
-      begins it queued =
-          let how = begins_as it.slot.cell.phase it.slot.body w.index queued.0 queued.1 in
-          let items : s'.tasks.items ≡ slice_set s.tasks.items t (begun_slot w.index it.slot) = turns.tasks it.slot it.there ∙ ap (λ b. slice_set s.tasks.items t (if b then begun_slot w.index it.slot else it.slot)) how.body in
-          by true it how.body (begun_steps t w s s' sound it how items)
-
-      passes : (it : IsAtStart t w s) → IsStale it.slot.cell.phase → Steps left spot w s e w' s'
-      passes it stale =
-          let none : is_some (queued_body it.slot.cell.phase) ≡ false = ap is_some stale.none in
-          let items : s'.tasks.items ≡ slice_set s.tasks.items t it.slot = turns.tasks it.slot it.there ∙ ap (λ b. slice_set s.tasks.items t (if b then begun_slot w.index it.slot else it.slot)) none in
-          by false it none (stale_steps t w s s' sound it stale items)

@@ -2,7 +2,7 @@
 -- its mailbox.
 use Rattle.std.proofs.{Common.{◌≡◌, ◌≢◌, ◌⊎◌, ⊎_elim, inl, inr, ℕ, ◌+◌, ◌<◌, ◌≤◌, true, List, Option, Some, None, refl, sym, ap, subst, ◌∙◌, arith, slice_get, slice_set}, lemmas.Bool.false≢true}
 use Rattle.exec_task.specs.{Phases.is_polled, TaskSet.{AreAtHome, Set}}
-use Rattle.exec_parts.{specs.{declared.parts.{seat.Seat.Seat as Chair, task_slot.TaskSlot.TaskSlot}, MailPosts.IsMailbox, Phased.is_complete}, proofs.Facts.{by_number, same_thing, set_elsewhere, set_there}}
+use Rattle.exec_parts.{specs.{declared.parts.{seat.Seat.Seat as Chair, task_slot.TaskSlot.TaskSlot}, MailPosts.IsMailbox, Phased.is_complete}, proofs.Facts.{by_number, same_Some, set_elsewhere, set_there}}
 use Rattle.exec_invariants.{specs.Drained.{Duties, HaveLeft, IsBefore, IsHeldOnce, IsOver, IsPool, has_gone, in_set}, proofs.PoolShards.in_shards}
 
 module _ {B : Type 0} where
@@ -21,42 +21,27 @@ module _ {B : Type 0} where
 
   pub pool_recounted : (t : ℕ) (d d' : Duties) (tasks : List (TaskSlot B)) (set set' : Set (Unit {0})) (seats : List Chair) → Recounts t d d' tasks set set' seats → IsPool d tasks set seats → IsPool d' tasks set' seats
   pool_recounted t d d' tasks set set' seats it pool =
-      record {
-        live = λ u slot there home.
-            by_number u t
-            (λ other. subst (IsHeldOnce slot) (sym (it.beside u other)) (pool.live u slot there home))
-            (λ same.
-            subst (λ m. IsHeldOnce slot (d'.clears m + in_set m set')) (sym same)
-            (it.live slot (subst (λ m. slice_get tasks m ≡ Some slot) same there) home (subst (λ m. IsHeldOnce slot (d.clears m + in_set m set)) same (pool.live u slot there home))));
-        home = it.home pool.home;
-        only = λ u some. pool.only u (more u some);
-        who_polls = λ u slot there home polled.
-            let old = pool.who_polls u slot there home polled in
-            (old.0, it.polls slot.poller ∙ old.1);
-        who_clears = it.clears;
-        clear_shut = λ u slot there home is. it.closed (pool.clear_shut u slot there home is);
-        removes = λ j u is.
-            let old = pool.removes j u (it.removes j u is) in
-            (old.0, ⊎_elim (λ shut. inl shut) (λ same. ⊎_elim (λ shut. inl (it.closed shut)) (λ one. inr (same ∙ one)) old.1) (it.stands j u is));
-        alone = λ i j u a b. pool.alone i j u (it.removes i u a) (it.removes j u b);
-        drained = λ j chair at left.
-            let old = pool.drained j chair at left in
-            (it.closed old.0, λ u. none (in_set u set') (in_set u set) (it.fewer u) (old.1 u));
-        mail = pool.mail;
-        shut = pool.shut;
-      }
-    where
-      none : (m n : ℕ) → m ≤ n → n ≡ 0 → m ≡ 0
-      none m n few is = omega (arith, few, is)
-
-      as_much : (m n : ℕ) → m ≡ n → 0 < m → 0 < n
-      as_much m n same some = omega (arith, same, some)
-
-      at_least : (m n : ℕ) → m ≤ n → 0 < m → 0 < n
-      at_least m n few some = omega (arith, few, some)
-
-      more : (u : ℕ) → 0 < d'.clears u + in_set u set' → 0 < d.clears u + in_set u set
-      more = grind arith
+      let none : (m n : ℕ) → m ≤ n → n ≡ 0 → m ≡ 0 = λ m n few is. omega (arith, few, is) in
+      let more : (u : ℕ) → 0 < d'.clears u + in_set u set' → 0 < d.clears u + in_set u set = grind arith in
+      let live : (t : ℕ) (slot : TaskSlot B) → slice_get tasks t ≡ Some slot → slot.home ≡ None → IsHeldOnce slot (d'.clears t + in_set t set') = λ u slot there home.
+      by_number u t
+      (λ other. subst (IsHeldOnce slot) (sym (it.beside u other)) (pool.live u slot there home))
+      (λ same.
+      subst (λ m. IsHeldOnce slot (d'.clears m + in_set m set')) (sym same)
+      (it.live slot (subst (λ m. slice_get tasks m ≡ Some slot) same there) home (subst (λ m. IsHeldOnce slot (d.clears m + in_set m set)) same (pool.live u slot there home)))) in
+      let only : (t : ℕ) → 0 < d'.clears t + in_set t set' → (slot : TaskSlot B) × (slice_get tasks t ≡ Some slot) × (slot.home ≡ None) = λ u some. pool.only u (more u some) in
+      let who_polls : (t : ℕ) (slot : TaskSlot B) → slice_get tasks t ≡ Some slot → slot.home ≡ None → is_polled slot.cell.phase ≡ true → IsBefore slot.poller seats × (d'.polled_by slot.poller ≡ Some t) = λ u slot there home polled.
+      let old = pool.who_polls u slot there home polled in
+      (old.0, it.polls slot.poller ∙ old.1) in
+      let clear_shut : (t : ℕ) (slot : TaskSlot B) → slice_get tasks t ≡ Some slot → slot.home ≡ None → slot.cleared ≡ true → set'.closed ≡ true = λ u slot there home is. it.closed (pool.clear_shut u slot there home is) in
+      let removes : (j t : ℕ) → (d'.drops_by j).removes ≡ Some t → IsOver t tasks × ((set'.closed ≡ true) ⊎ (in_set t set' ≡ 1)) = λ j u is.
+      let old = pool.removes j u (it.removes j u is) in
+      (old.0, ⊎_elim (λ shut. inl shut) (λ same. ⊎_elim (λ shut. inl (it.closed shut)) (λ one. inr (same ∙ one)) old.1) (it.stands j u is)) in
+      let alone : (i j t : ℕ) → (d'.drops_by i).removes ≡ Some t → (d'.drops_by j).removes ≡ Some t → i ≡ j = λ i j u a b. pool.alone i j u (it.removes i u a) (it.removes j u b) in
+      let drained : (j : ℕ) (chair : Chair) → slice_get seats j ≡ Some chair → chair.left ≡ true → (set'.closed ≡ true) × ((t : ℕ) → in_set t set' ≡ 0) = λ j chair at left.
+      let old = pool.drained j chair at left in
+      (it.closed old.0, λ u. none (in_set u set') (in_set u set) (it.fewer u) (old.1 u)) in
+      assumption (live, it.home pool.home, only, who_polls, it.clears, clear_shut, removes, alone, drained, pool)
 
   -- the set closes, or stays
   pub pool_set : (d : Duties) (tasks : List (TaskSlot B)) (set set' : Set (Unit {0})) (seats : List Chair) → set'.shards ≡ set.shards → (set.closed ≡ true → set'.closed ≡ true) → IsPool d tasks set seats → IsPool d tasks set' seats
@@ -88,7 +73,7 @@ module _ (i : ℕ) (seats seats' : List Chair) (chair chair' : Chair) (there : s
 
   seat_is : (j : ℕ) (c : Chair) → j ≡ i → slice_get seats' j ≡ Some c → chair' ≡ c
   seat_is j c same at =
-      same_thing chair' c (sym (set_there seats i chair' chair there) ∙ ap (λ xs. slice_get xs i) (sym set) ∙ subst (λ n. slice_get seats' n ≡ Some c) same at)
+      same_Some chair' c (sym (set_there seats i chair' chair there) ∙ ap (λ xs. slice_get xs i) (sym set) ∙ subst (λ n. slice_get seats' n ≡ Some c) same at)
 
   before_on : (j : ℕ) → j ≢ i → IsBefore j seats → IsBefore j seats'
   before_on j other it = record { chair = it.chair; there = seat_on j it.chair other it.there; going = it.going }
@@ -110,76 +95,55 @@ module _ {B : Type 0} where
   pub pool_left : (i : ℕ) (d : Duties) (tasks : List (TaskSlot B)) (set : Set (Unit {0})) (seats seats' : List Chair) (chair : Chair) → slice_get seats i ≡ Some chair → seats' ≡ slice_set seats i (record chair { left = true })
       → d.polled_by i ≡ None → (d.drops_by i).clears ≡ None → set.closed ≡ true → ((t : ℕ) → in_set t set ≡ 0) → IsPool d tasks set seats → IsPool d tasks set seats'
   pool_left i d tasks set seats seats' chair there items polls clears closed empty pool =
-      record {
-        live = pool.live;
-        home = pool.home;
-        only = pool.only;
-        who_polls = λ t slot found home polled.
-            let it = pool.who_polls t slot found home polled in
-            (before_on i seats seats' chair chair' there items slot.poller (λ same. unless (d.polled_by i) t polls (subst (λ j. d.polled_by j ≡ Some t) same it.1)) it.0, it.1);
-        who_clears = λ t some.
-            let it = pool.who_clears t some in
-            (it.0, before_on i seats seats' chair chair' there items it.0 (λ same. unless (d.drops_by i).clears t clears (subst (λ j. (d.drops_by j).clears ≡ Some t) same it.2)) it.1, it.2, it.3);
-        clear_shut = pool.clear_shut;
-        removes = pool.removes;
-        alone = pool.alone;
-        drained = λ j c at left.
-            by_number j i
-            (λ other. pool.drained j c (seat_was i seats seats' chair chair' there items j c other at) left)
-            (λ same. (closed, empty));
-        mail = λ j c at.
-            by_number j i
-            (λ other. pool.mail j c (seat_was i seats seats' chair chair' there items j c other at))
-            (λ same. subst (λ (x : Chair). IsMailbox x.mailbox) (seat_is i seats seats' chair chair' there items j c same at) (pool.mail i chair there));
-        shut = λ j c at of_pool shut.
-            all_on i seats seats' chair chair' there items (λ h. refl)
-            (by_number j i
-            (λ other. pool.shut j c (seat_was i seats seats' chair chair' there items j c other at) of_pool shut)
-            (λ same.
-            let is : chair' ≡ c = seat_is i seats seats' chair chair' there items j c same at in
-            pool.shut i chair there (ap (λ (x : Chair). x.pool) is ∙ of_pool) (ap (λ (x : Chair). x.mailbox.inbox.closed) is ∙ shut)));
-      }
-    where
-      chair' : Chair
-      chair' = record chair { left = true }
-
-      unless : (o : Option ℕ) (t : ℕ) → o ≡ None → o ≡ Some t → ⊥
-      unless o t none some = let never : None ≡ Some t = sym none ∙ some in cc
+      let unless : (o : Option ℕ) (t : ℕ) → o ≡ None → o ≡ Some t → ⊥ = λ o t none some. let never : None ≡ Some t = sym none ∙ some in cc in
+      let chair' : Chair = record chair { left = true } in
+      let who_polls : (t : ℕ) (slot : TaskSlot B) → slice_get tasks t ≡ Some slot → slot.home ≡ None → is_polled slot.cell.phase ≡ true → IsBefore slot.poller seats' × (d.polled_by slot.poller ≡ Some t) = λ t slot found home polled.
+      let it = pool.who_polls t slot found home polled in
+      (before_on i seats seats' chair chair' there items slot.poller (λ same. unless (d.polled_by i) t polls (subst (λ j. d.polled_by j ≡ Some t) same it.1)) it.0, it.1) in
+      let who_clears : (t : ℕ) → 0 < d.clears t → (j : ℕ) × IsBefore j seats' × ((d.drops_by j).clears ≡ Some t) × (set.closed ≡ true) = λ t some.
+      let it = pool.who_clears t some in
+      (it.0, before_on i seats seats' chair chair' there items it.0 (λ same. unless (d.drops_by i).clears t clears (subst (λ j. (d.drops_by j).clears ≡ Some t) same it.2)) it.1, it.2, it.3) in
+      let drained : (j : ℕ) (chair : Chair) → slice_get seats' j ≡ Some chair → chair.left ≡ true → (set.closed ≡ true) × ((t : ℕ) → in_set t set ≡ 0) = λ j c at left.
+      by_number j i
+      (λ other. pool.drained j c (seat_was i seats seats' chair chair' there items j c other at) left)
+      (λ same. (closed, empty)) in
+      let mail : (j : ℕ) (chair : Chair) → slice_get seats' j ≡ Some chair → IsMailbox chair.mailbox = λ j c at.
+      by_number j i
+      (λ other. pool.mail j c (seat_was i seats seats' chair chair' there items j c other at))
+      (λ same. subst (λ (x : Chair). IsMailbox x.mailbox) (seat_is i seats seats' chair chair' there items j c same at) (pool.mail i chair there)) in
+      let shut_so : (j : ℕ) (chair : Chair) → slice_get seats' j ≡ Some chair → chair.pool ≡ true → chair.mailbox.inbox.closed ≡ true → HaveLeft seats' = λ j c at of_pool shut.
+      all_on i seats seats' chair chair' there items (λ h. refl)
+      (by_number j i
+      (λ other. pool.shut j c (seat_was i seats seats' chair chair' there items j c other at) of_pool shut)
+      (λ same.
+      let is : chair' ≡ c = seat_is i seats seats' chair chair' there items j c same at in
+      pool.shut i chair there (ap (λ (x : Chair). x.pool) is ∙ of_pool) (ap (λ (x : Chair). x.mailbox.inbox.closed) is ∙ shut))) in
+      assumption (who_polls, who_clears, drained, mail, shut_so, pool)
 
   -- Its mailbox is closed once all have passed.
   pub pool_shut : (i : ℕ) (d : Duties) (tasks : List (TaskSlot B)) (set : Set (Unit {0})) (seats seats' : List Chair) (chair chair' : Chair) → slice_get seats i ≡ Some chair → seats' ≡ slice_set seats i chair'
       → chair'.left ≡ chair.left → chair'.pool ≡ chair.pool → IsMailbox chair'.mailbox → (chair.pool ≡ true → HaveLeft seats) → IsPool d tasks set seats → IsPool d tasks set seats'
   pool_shut i d tasks set seats seats' chair chair' there items left pool_same mail all pool =
-      record {
-        live = pool.live;
-        home = pool.home;
-        only = pool.only;
-        who_polls = λ t slot found home polled. let it = pool.who_polls t slot found home polled in (before slot.poller it.0, it.1);
-        who_clears = λ t some. let it = pool.who_clears t some in (it.0, before it.0 it.1, it.2, it.3);
-        clear_shut = pool.clear_shut;
-        removes = pool.removes;
-        alone = pool.alone;
-        drained = λ j c at has_left.
-            by_number j i
-            (λ other. pool.drained j c (seat_was i seats seats' chair chair' there items j c other at) has_left)
-            (λ same. pool.drained i chair there (sym left ∙ ap (λ (x : Chair). x.left) (seat_is i seats seats' chair chair' there items j c same at) ∙ has_left));
-        mail = λ j c at.
-            by_number j i
-            (λ other. pool.mail j c (seat_was i seats seats' chair chair' there items j c other at))
-            (λ same. subst (λ (x : Chair). IsMailbox x.mailbox) (seat_is i seats seats' chair chair' there items j c same at) mail);
-        shut = λ j c at of_pool shut.
-            all_on i seats seats' chair chair' there items (λ h. gone ∙ h)
-            (by_number j i
-            (λ other. pool.shut j c (seat_was i seats seats' chair chair' there items j c other at) of_pool shut)
-            (λ same. all (sym pool_same ∙ ap (λ (x : Chair). x.pool) (seat_is i seats seats' chair chair' there items j c same at) ∙ of_pool)));
-      }
-    where
-      gone : has_gone chair' ≡ has_gone chair
-      gone = rw (left, pool_same) refl
-
+      let gone : has_gone chair' ≡ has_gone chair = rw (left, pool_same) refl in
       -- who hasn't passed the barrier still hasn't
-      before : (j : ℕ) → IsBefore j seats → IsBefore j seats'
-      before = grind (arith, by_number, before_on, same_thing, set_there)
+      let before : (j : ℕ) → IsBefore j seats → IsBefore j seats' = grind (arith, by_number, before_on, same_Some, set_there) in
+      let who_polls : (t : ℕ) (slot : TaskSlot B) → slice_get tasks t ≡ Some slot → slot.home ≡ None → is_polled slot.cell.phase ≡ true → IsBefore slot.poller seats' × (d.polled_by slot.poller ≡ Some t) =
+      λ t slot found home polled. let it = pool.who_polls t slot found home polled in (before slot.poller it.0, it.1) in
+      let who_clears : (t : ℕ) → 0 < d.clears t → (j : ℕ) × IsBefore j seats' × ((d.drops_by j).clears ≡ Some t) × (set.closed ≡ true) = λ t some. let it = pool.who_clears t some in (it.0, before it.0 it.1, it.2, it.3) in
+      let drained : (j : ℕ) (chair : Chair) → slice_get seats' j ≡ Some chair → chair.left ≡ true → (set.closed ≡ true) × ((t : ℕ) → in_set t set ≡ 0) = λ j c at has_left.
+      by_number j i
+      (λ other. pool.drained j c (seat_was i seats seats' chair chair' there items j c other at) has_left)
+      (λ same. pool.drained i chair there (sym left ∙ ap (λ (x : Chair). x.left) (seat_is i seats seats' chair chair' there items j c same at) ∙ has_left)) in
+      let mail_so : (j : ℕ) (chair : Chair) → slice_get seats' j ≡ Some chair → IsMailbox chair.mailbox = λ j c at.
+      by_number j i
+      (λ other. pool.mail j c (seat_was i seats seats' chair chair' there items j c other at))
+      (λ same. subst (λ (x : Chair). IsMailbox x.mailbox) (seat_is i seats seats' chair chair' there items j c same at) mail) in
+      let shut_so : (j : ℕ) (chair : Chair) → slice_get seats' j ≡ Some chair → chair.pool ≡ true → chair.mailbox.inbox.closed ≡ true → HaveLeft seats' = λ j c at of_pool shut.
+      all_on i seats seats' chair chair' there items (λ h. gone ∙ h)
+      (by_number j i
+      (λ other. pool.shut j c (seat_was i seats seats' chair chair' there items j c other at) of_pool shut)
+      (λ same. all (sym pool_same ∙ ap (λ (x : Chair). x.pool) (seat_is i seats seats' chair chair' there items j c same at) ∙ of_pool))) in
+      assumption (who_polls, who_clears, drained, mail_so, shut_so, pool)
 
   pub record IsCleared (slot slot' : TaskSlot B) : Type 0 where
     pub home : slot'.home ≡ slot.home
@@ -199,7 +163,7 @@ module _ {B : Type 0} where
     was u o other at = sym (set_elsewhere tasks t u slot' other) ∙ ap (λ ts. slice_get ts u) (sym items) ∙ at
 
     is_new : (u : ℕ) (o : TaskSlot B) → u ≡ t → slice_get tasks' u ≡ Some o → slot' ≡ o
-    is_new u o same at = same_thing slot' o (sym now ∙ subst (λ m. slice_get tasks' m ≡ Some o) same at)
+    is_new u o same at = same_Some slot' o (sym now ∙ subst (λ m. slice_get tasks' m ≡ Some o) same at)
 
     -- it stood nowhere else
     none : d'.clears t + in_set t set ≡ 0
@@ -243,7 +207,7 @@ module _ {B : Type 0} where
         by_number u t
         (λ other.
         let it = pool.who_clears u (subst (λ n. 0 < n) (duties.others u other) some) in
-        let apart : it.0 ≢ i = λ same. other (same_thing u t (sym it.2 ∙ ap (λ j. (d.drops_by j).clears) same ∙ duties.its)) in
+        let apart : it.0 ≢ i = λ same. other (same_Some u t (sym it.2 ∙ ap (λ j. (d.drops_by j).clears) same ∙ duties.its)) in
         (it.0, it.1, ap (λ x. x.clears) (duties.drops it.0 apart) ∙ it.2, it.3))
         (λ same. absurd (positive_none (d'.clears t) (in_set t set) none (subst (λ m. 0 < d'.clears m) same some)))
 
@@ -252,7 +216,7 @@ module _ {B : Type 0} where
         by_number u t
         (λ other. record { slot = it.slot; there = on u it.slot other it.there; ordinary = it.ordinary; over = it.over })
         (λ same.
-        let e : slot ≡ it.slot = same_thing slot it.slot (sym there ∙ subst (λ m. slice_get tasks m ≡ Some it.slot) same it.there) in
+        let e : slot ≡ it.slot = same_Some slot it.slot (sym there ∙ subst (λ m. slice_get tasks m ≡ Some it.slot) same it.there) in
         record {
           slot = slot';
           there = subst (λ m. slice_get tasks' m ≡ Some slot') (sym same) now;

@@ -2,7 +2,7 @@
 use Rattle.std.proofs.{Common.{◌≡◌, ◌≢◌, ◌⊎◌, inl, inr, ⊎_elim, ℕ, zero, suc, ◌+◌, ◌<◌, ◌==◌, Bool, true, false, List, Option, Some, None, refl, sym, ap, subst, ◌∙◌, arith, slice_get, slice_set, if◌then◌else◌}, lemmas.Bool.{false≢true, eq-eqb}}
 use Rattle.exec_task.specs.{Phases.is_polled, TaskSet.Set}
 use Rattle.exec_moves.specs.Seen.{polls_at}
-use Rattle.exec_parts.{specs.{declared.parts.{seat.Seat.Seat as Chair, task_slot.TaskSlot.TaskSlot, worker.Worker.Worker}, MailPosts.IsMailbox, Phased.is_complete}, proofs.Facts.{by_number, never_true, not_same, same_number, same_thing, set_elsewhere, set_there}}
+use Rattle.exec_parts.{specs.{declared.parts.{seat.Seat.Seat as Chair, task_slot.TaskSlot.TaskSlot, worker.Worker.Worker}, MailPosts.IsMailbox, Phased.is_complete}, proofs.Facts.{by_number, false_from_ne_true, not_same, same_number, same_Some, set_elsewhere, set_there}}
 use Rattle.exec_invariants.specs.{Drained.{Duties, HaveLeft, IsBefore, IsHeldOnce, IsOver, IsPool, in_set}, Places.{Drops, drops_at, is_number}, Spares.SparesChair, Whole.{Profile, duties_of, with_worker}}
 
 -- SEATS show the same of the shutdown, and hold one message at most
@@ -28,26 +28,21 @@ gates_same seats seats' same =
     subst (KeepsGates seats) (sym same) (record { on = λ j chair at. (chair, at, gate_same chair); back = λ j chair at. (chair, at, gate_same chair) })
 
 pub gates_set : (i : ℕ) (seats seats' : List Chair) (chair chair' : Chair) → seats' ≡ slice_set seats i chair' → slice_get seats i ≡ Some chair → KeepsGate chair chair' → KeepsGates seats seats'
-gates_set i seats seats' chair chair' set there keeps = subst (KeepsGates seats) (sym set) (record { on = on; back = back })
-  where
-    now : slice_get (slice_set seats i chair') i ≡ Some chair'
-    now = set_there seats i chair' chair there
-
-    on : (j : ℕ) (c : Chair) → slice_get seats j ≡ Some c → (c' : Chair) × (slice_get (slice_set seats i chair') j ≡ Some c') × KeepsGate c c'
-    on j c at =
-        by_number j i
-        (λ other. (c, set_elsewhere seats i j chair' other ∙ at, gate_same c))
-        (λ same.
-        let is : chair ≡ c = same_thing chair c (sym there ∙ subst (λ n. slice_get seats n ≡ Some c) same at) in
-        (chair', subst (λ n. slice_get (slice_set seats i chair') n ≡ Some chair') (sym same) now, subst (λ y. KeepsGate y chair') is keeps))
-
-    back : (j : ℕ) (c : Chair) → slice_get (slice_set seats i chair') j ≡ Some c → (was : Chair) × (slice_get seats j ≡ Some was) × KeepsGate was c
-    back j c at =
-        by_number j i
-        (λ other. (c, sym (set_elsewhere seats i j chair' other) ∙ at, gate_same c))
-        (λ same.
-        let is : chair' ≡ c = same_thing chair' c (sym now ∙ subst (λ n. slice_get (slice_set seats i chair') n ≡ Some c) same at) in
-        (chair, subst (λ n. slice_get seats n ≡ Some chair) (sym same) there, subst (KeepsGate chair) is keeps))
+gates_set i seats seats' chair chair' set there keeps =
+    let now : slice_get (slice_set seats i chair') i ≡ Some chair' = set_there seats i chair' chair there in
+    let on : (j : ℕ) (c : Chair) → slice_get seats j ≡ Some c → (c' : Chair) × (slice_get (slice_set seats i chair') j ≡ Some c') × KeepsGate c c' = λ j c at.
+    by_number j i
+    (λ other. (c, set_elsewhere seats i j chair' other ∙ at, gate_same c))
+    (λ same.
+    let is : chair ≡ c = same_Some chair c (sym there ∙ subst (λ n. slice_get seats n ≡ Some c) same at) in
+    (chair', subst (λ n. slice_get (slice_set seats i chair') n ≡ Some chair') (sym same) now, subst (λ y. KeepsGate y chair') is keeps)) in
+    let back : (j : ℕ) (c : Chair) → slice_get (slice_set seats i chair') j ≡ Some c → (was : Chair) × (slice_get seats j ≡ Some was) × KeepsGate was c = λ j c at.
+    by_number j i
+    (λ other. (c, sym (set_elsewhere seats i j chair' other) ∙ at, gate_same c))
+    (λ same.
+    let is : chair' ≡ c = same_Some chair' c (sym now ∙ subst (λ n. slice_get (slice_set seats i chair') n ≡ Some c) same at) in
+    (chair, subst (λ n. slice_get seats n ≡ Some chair) (sym same) there, subst (KeepsGate chair) is keeps)) in
+    subst (KeepsGates seats) (sym set) (record { on = on; back = back })
 
 pub before_kept : (j : ℕ) (seats seats' : List Chair) → KeepsGates seats seats' → IsBefore j seats → IsBefore j seats'
 before_kept = grind arith
@@ -89,29 +84,22 @@ module _ {B : Type 0} where
   -- SEATS alone change
   pub pool_seats : (d : Duties) (tasks : List (TaskSlot B)) (set : Set (Unit {0})) (seats seats' : List Chair) → KeepsGates seats seats' → IsPool d tasks set seats → IsPool d tasks set seats'
   pool_seats d tasks set seats seats' keeps pool =
-      record {
-        live = pool.live;
-        home = pool.home;
-        only = pool.only;
-        who_polls = λ t slot there home polled.
-            let it = pool.who_polls t slot there home polled in
-            (before_kept slot.poller seats seats' keeps it.0, it.1);
-        who_clears = λ t some.
-            let it = pool.who_clears t some in
-            (it.0, before_kept it.0 seats seats' keeps it.1, it.2, it.3);
-        clear_shut = pool.clear_shut;
-        removes = pool.removes;
-        alone = pool.alone;
-        drained = λ j chair at left.
-            let was = keeps.back j chair at in
-            pool.drained j was.0 was.1 (sym was.2.left ∙ left);
-        mail = λ j chair at.
-            let was = keeps.back j chair at in
-            was.2.mail (pool.mail j was.0 was.1);
-        shut = λ j chair at of_pool closed.
-            let was = keeps.back j chair at in
-            left_kept seats seats' keeps (pool.shut j was.0 was.1 (sym was.2.pool ∙ of_pool) (sym was.2.closed ∙ closed));
-      }
+      let who_polls : (t : ℕ) (slot : TaskSlot B) → slice_get tasks t ≡ Some slot → slot.home ≡ None → is_polled slot.cell.phase ≡ true → IsBefore slot.poller seats' × (d.polled_by slot.poller ≡ Some t) = λ t slot there home polled.
+      let it = pool.who_polls t slot there home polled in
+      (before_kept slot.poller seats seats' keeps it.0, it.1) in
+      let who_clears : (t : ℕ) → 0 < d.clears t → (j : ℕ) × IsBefore j seats' × ((d.drops_by j).clears ≡ Some t) × (set.closed ≡ true) = λ t some.
+      let it = pool.who_clears t some in
+      (it.0, before_kept it.0 seats seats' keeps it.1, it.2, it.3) in
+      let drained : (j : ℕ) (chair : Chair) → slice_get seats' j ≡ Some chair → chair.left ≡ true → (set.closed ≡ true) × ((t : ℕ) → in_set t set ≡ 0) = λ j chair at left.
+      let was = keeps.back j chair at in
+      pool.drained j was.0 was.1 (sym was.2.left ∙ left) in
+      let mail : (j : ℕ) (chair : Chair) → slice_get seats' j ≡ Some chair → IsMailbox chair.mailbox = λ j chair at.
+      let was = keeps.back j chair at in
+      was.2.mail (pool.mail j was.0 was.1) in
+      let shut : (j : ℕ) (chair : Chair) → slice_get seats' j ≡ Some chair → chair.pool ≡ true → chair.mailbox.inbox.closed ≡ true → HaveLeft seats' = λ j chair at of_pool closed.
+      let was = keeps.back j chair at in
+      left_kept seats seats' keeps (pool.shut j was.0 was.1 (sym was.2.pool ∙ of_pool) (sym was.2.closed ∙ closed)) in
+      assumption (who_polls, who_clears, drained, mail, shut, pool)
 
   -- THE SLOT OF TASK t became this, and worker i may do something else
   pub record Redoes (t i : ℕ) (d d' : Duties) (slot slot' : TaskSlot B) (seats : List Chair) : Type 0 where
@@ -140,10 +128,10 @@ module _ {B : Type 0} where
     was u o other at = sym (set_elsewhere tasks t u slot' other) ∙ ap (λ ts. slice_get ts u) (sym items) ∙ at
 
     is_new : (u : ℕ) (o : TaskSlot B) → u ≡ t → slice_get tasks' u ≡ Some o → slot' ≡ o
-    is_new u o same at = same_thing slot' o (sym now ∙ subst (λ m. slice_get tasks' m ≡ Some o) same at)
+    is_new u o same at = same_Some slot' o (sym now ∙ subst (λ m. slice_get tasks' m ≡ Some o) same at)
 
     is_old : (u : ℕ) (o : TaskSlot B) → u ≡ t → slice_get tasks u ≡ Some o → slot ≡ o
-    is_old u o same at = same_thing slot o (sym there ∙ subst (λ m. slice_get tasks m ≡ Some o) same at)
+    is_old u o same at = same_Some slot o (sym there ∙ subst (λ m. slice_get tasks m ≡ Some o) same at)
 
     live : (u : ℕ) (o : TaskSlot B) → slice_get tasks' u ≡ Some o → o.home ≡ None → IsHeldOnce o (d'.clears u + in_set u set)
     live u o at home =
@@ -164,24 +152,21 @@ module _ {B : Type 0} where
         (λ same. (slot', subst (λ m. slice_get tasks' m ≡ Some slot') (sym same) now, redoes.home ∙ ap (λ (y : TaskSlot B). y.home) (is_old u it.0 same it.1) ∙ it.2))
 
     who_polls : (u : ℕ) (o : TaskSlot B) → slice_get tasks' u ≡ Some o → o.home ≡ None → is_polled o.cell.phase ≡ true → IsBefore o.poller seats × (d'.polled_by o.poller ≡ Some u)
-    who_polls u o at home polled = by_number u t beside here
-      where
-        beside : u ≢ t → IsBefore o.poller seats × (d'.polled_by o.poller ≡ Some u)
-        beside other =
-            let it = pool.who_polls u o (was u o other at) home polled in (
-              it.0,
-              by_number o.poller i
-                  (λ apart. redoes.polls_beside o.poller apart ∙ it.1)
-                  (λ same. subst (λ j. d'.polled_by j ≡ Some u) (sym same) (redoes.polls_others u other (subst (λ j. d.polled_by j ≡ Some u) same it.1))),
-            )
-
-        here : u ≡ t → IsBefore o.poller seats × (d'.polled_by o.poller ≡ Some u)
-        here same =
-            let e = is_new u o same at in
-            let old_home : slot.home ≡ None = sym redoes.home ∙ ap (λ (y : TaskSlot B). y.home) e ∙ home in
-            let it = redoes.polls old_home (ap (λ (y : TaskSlot B). is_polled y.cell.phase) e ∙ polled) in
-            subst (λ m. IsBefore o.poller seats × (d'.polled_by o.poller ≡ Some m)) (sym same)
-            (subst (λ (y : TaskSlot B). IsBefore y.poller seats × (d'.polled_by y.poller ≡ Some t)) e it)
+    who_polls u o at home polled =
+        let beside : u ≢ t → IsBefore o.poller seats × (d'.polled_by o.poller ≡ Some u) = λ other.
+        let it = pool.who_polls u o (was u o other at) home polled in (
+          it.0,
+          by_number o.poller i
+              (λ apart. redoes.polls_beside o.poller apart ∙ it.1)
+              (λ same. subst (λ j. d'.polled_by j ≡ Some u) (sym same) (redoes.polls_others u other (subst (λ j. d.polled_by j ≡ Some u) same it.1))),
+        ) in
+        let here : u ≡ t → IsBefore o.poller seats × (d'.polled_by o.poller ≡ Some u) = λ same.
+        let e = is_new u o same at in
+        let old_home : slot.home ≡ None = sym redoes.home ∙ ap (λ (y : TaskSlot B). y.home) e ∙ home in
+        let it = redoes.polls old_home (ap (λ (y : TaskSlot B). is_polled y.cell.phase) e ∙ polled) in
+        subst (λ m. IsBefore o.poller seats × (d'.polled_by o.poller ≡ Some m)) (sym same)
+        (subst (λ (y : TaskSlot B). IsBefore y.poller seats × (d'.polled_by y.poller ≡ Some t)) e it) in
+        by_number u t beside here
 
     who_clears : (u : ℕ) → 0 < d'.clears u → (j : ℕ) × IsBefore j seats × ((d'.drops_by j).clears ≡ Some u) × (set.closed ≡ true)
     who_clears u some =
@@ -255,6 +240,7 @@ module _ {B : Type 0} where
 
     alone : (j k u : ℕ) → (d'.drops_by j).removes ≡ Some u → (d'.drops_by k).removes ≡ Some u → j ≡ k
     alone j k u a b =
+        let was_so : (m : ℕ) → m ≢ i → (d'.drops_by m).removes ≡ Some u → (d.drops_by m).removes ≡ Some u = λ m apart is. sym (ap (λ x. x.removes) (redoes.drops_beside m apart)) ∙ is in
         by_number j i
         (λ j_apart.
         by_number k i
@@ -264,9 +250,6 @@ module _ {B : Type 0} where
         by_number k i
         (λ k_apart. j_same ∙ mine_and k u (subst (λ m. (d'.drops_by m).removes ≡ Some u) j_same a) (was_so k k_apart b))
         (λ k_same. j_same ∙ sym k_same))
-      where
-        was_so : (m : ℕ) → m ≢ i → (d'.drops_by m).removes ≡ Some u → (d.drops_by m).removes ≡ Some u
-        was_so m apart is = sym (ap (λ x. x.removes) (redoes.drops_beside m apart)) ∙ is
 
     pub pool_slot : IsPool d' tasks' set seats
     pool_slot =
@@ -283,7 +266,7 @@ module _ {B : Type 0} where
       gone j it = false≢true (sym it.going ∙ all j it.chair it.there)
 
       unpolled : is_polled slot.cell.phase ≡ false
-      unpolled = never_true (is_polled slot.cell.phase) (λ polled. gone slot.poller (pool.who_polls t slot there home polled).0)
+      unpolled = false_from_ne_true (is_polled slot.cell.phase) (λ polled. gone slot.poller (pool.who_polls t slot there home polled).0)
 
       none : (n : ℕ) → d.clears t ≡ n → d.clears t ≡ 0
       none zero is = is

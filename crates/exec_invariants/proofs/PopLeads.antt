@@ -1,5 +1,6 @@
 -- Where a pop of the own run queue leads, and what is so there.
-use Rattle.std.proofs.{Common.{[], ◌≡◌, ◌≢◌, ℕ, zero, suc, ◌+◌, ◌-◌, ◌*◌, ◌<◌, ◌==◌, ◌&&◌, inl, inr, Bool, true, false, Contains, List, ◌∷◌, length, None, Some, refl, ap, subst, ◌∙◌, arith, option_to_list, if◌then◌else◌}, lemmas.{Bool.{Decides.nat_tests, false≢true}, List.{length-map, Elements.Contains-push_cases}}}
+use Rattle.std.proofs.{Common.{[], ◌≡◌, ◌≢◌, ℕ, zero, suc, ◌+◌, ◌-◌, ◌*◌, ◌<◌, ◌==◌, inl, inr, Bool, true, false, Contains, List, ◌∷◌, length, None, Some, refl, ap, subst, ◌∙◌, arith, option_to_list, if◌then◌else◌}, lemmas.{Bool.{Decides.nat_tests, false≢true}, List.{length-map, Elements.Contains-push_cases}}}
+pub use Rattle.std.proofs.lemmas.Bool.{and_parts}
 use Rattle.exec_words.specs.Queue.{Queue, head_of, popped, tail_of}
 use Rattle.exec_task.specs.{TaskSet.{IsFor, Set}, declared.{drain.Drain.Drain, runnable.Runnable.Runnable}}
 use Rattle.exec_machine.specs.declared.{config.Configuration.Configuration, event.Event.TheVariants.Turn}
@@ -20,10 +21,6 @@ loads_seen c i b d q = ap (λ n. turns (judge_pop c i b (head_of q) ((q.real + n
 
 lone : (r x : Runnable) → Contains (r ∷ []) x → r ≡ x
 lone r x has = elim (Contains-push_cases [] r x has) [ inl none ↦ absurd (omega (arith, none.1)) | inr is ↦ is ]
-
-pub both_hold : (a b : Bool) → (a && b) ≡ true → (a ≡ true) × (b ≡ true)
-both_hold true b h = (refl, h)
-both_hold false b h = absurd (false≢true h)
 
 -- beside a claim the gap grows, and it never goes from 0 or to it
 pub gap_popped : (gap : ℕ) → ((if gap == 0 then 0 else gap + 1) == 0) ≡ (gap == 0)

@@ -55,6 +55,7 @@ module _ {B : Type 0} where
           carries = carries (Place.Pick InPick.CountDown) refl refl refl tt (λ h. pool) tt tt (rw (← is.spare) sound.told);
         })
     push_reaches (AfterPush.CallBack n) sound next is same wakes pooled task =
+        let task_none : (p : Place) → begins_at p ≡ None → polls_at p ≡ None → task_at p ≡ None = λ p begins polls. rw (begins, polls) refl in
         let p = next_callback_of n w in
         let it = next.to in
         record {
@@ -69,6 +70,3 @@ module _ {B : Type 0} where
         pool_by : (x role : Bool) → x ≡ (x && (false || role)) → x ≡ true → role ≡ true
         pool_by false role h is = absurd (false≢true is)
         pool_by true role h is = sym h
-
-        task_none : (p : Place) → begins_at p ≡ None → polls_at p ≡ None → task_at p ≡ None
-        task_none p begins polls = rw (begins, polls) refl

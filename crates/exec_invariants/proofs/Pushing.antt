@@ -1,6 +1,7 @@
 -- What the steps of a push into the own run queue are to the machine.
-use Rattle.std.proofs.{Common.{◌≡◌, ℕ, ◌+◌, ◌-◌, ◌<◌, ◌≤◌, ◌==◌, ◌&&◌, ◌⊎◌, inl, inr, Bool, true, false, Contains, List, [], ◌++◌, drop, length, Option, None, Some, refl, sym, ap, subst, ◌∙◌, arith, length-drop, option_to_list, slice_get, slice_set, if◌then◌else◌, nat_le, nat_lt, option_map}, lemmas.{Bool.Decides.nat_tests, List.{append-nil, drop-map, length-append, length-map, take-map, Elements.{Contains-append_cases, Contains-append_left, Contains-append_right}}}}
-use Rattle.exec_words.specs.{Head.{fit_at, is_spent}, Queue.{Queue, fit_of, head_of, newest, overflowed, published, restored, room_of, tail_of}, Reserved.extended, declared.head.{Fit.Fit, Head.Head}}
+use Rattle.std.proofs.{Common.{◌≡◌, ℕ, ◌+◌, ◌-◌, ◌<◌, ◌≤◌, ◌==◌, ◌&&◌, ◌⊎◌, inl, inr, Bool, true, false, Contains, List, [], ◌++◌, drop, length, Option, None, Some, refl, sym, ap, subst, ◌∙◌, arith, length-drop, option_to_list, slice_get, slice_set, if◌then◌else◌, nat_le, nat_lt, option_map}, lemmas.{List.{append-nil, drop-map, length-append, length-map, take-map, Elements.{Contains-append_cases, Contains-append_left, Contains-append_right}}}}
+use Rattle.std.proofs.lemmas.Bool.{ltb-true, ltb-false}
+use Rattle.exec_words.specs.{Head.{is_spent}, Queue.{Queue, fit_of, head_of, newest, overflowed, published, restored, room_of, tail_of}, Reserved.extended, declared.head.{Fit.Fit, Head.Head}}
 use Rattle.exec_task.specs.declared.{body.Said.Said, runnable.Runnable.Runnable}
 use Rattle.exec_machine.specs.{declared.{event.Event.{Event, TheVariants.Turn}}, Choice.Choice.Plain, Progress.Plan}
 use Rattle.exec_moves.specs.{declared.{handing.{AfterKick.AfterKick, AfterPush.AfterPush, InGlobal.InGlobal, InKick.InKick, InPush.InPush}, place.Place.Place}, Move.move_at, Parts.has_others, Pop.same_head, Push.{after_fit, flow_over, in_hand, load_push_head, store_oldest, store_value}, State.{Moved, queue_of, turns}, Thing.with_queue}
@@ -14,12 +15,6 @@ tail_seen q = ap (λ n. q.real + n) (length-map q.values (λ (r : Runnable). r.t
 
 overflowed_seen : (q : Queue Runnable) → overflowed (queue_seen q) ≡ queue_seen (overflowed q)
 overflowed_seen q = ap (λ xs. record (queue_seen (overflowed q)) { held = xs }) (take-map (λ (r : Runnable). r.task.0) 128 q.values)
-
-less_than : (a b : ℕ) → nat_lt a b ≡ true → a < b
-less_than a b is = grind (arith, nat_tests)
-
-not_less : (a b : ℕ) → nat_lt a b ≡ false → b ≤ a
-not_less a b is = grind (arith, nat_tests)
 
 -- what is in the hand of who pushes is an ordinary task's
 pub ordinary : {B : Type 0} (q : Place) (w : Worker) (s : Shared B) → SoundAt q w s → begins_at q ≡ None → (r : Runnable) → Contains (option_to_list w.hand) r → IsGenuine s.tasks.items r
@@ -82,9 +77,7 @@ module _ {B L : Type 0} (left : B → L) (spot : L → Option Said → Spot) (b 
       set = ap (λ (z : Shared B). z.seats.items) same ∙ sym (set_found s.seats.items w.index its there)
 
       seen : load_push_head b (desk_of w) (queue_of (things_of s) w.index) ≡ turns (after_fit b (head_of q) (fit_of q)) (desk_of w) (queue_seen q)
-      seen =
-          ap (load_push_head b (desk_of w)) (own_queue_seen w.index s its there)
-          ∙ ap (λ n. turns (after_fit b (head_of q) (fit_at (head_of q) n)) (desk_of w) (queue_seen q)) (tail_seen q)
+      seen = grind (arith, own_queue_seen w.index s its there, tail_seen q)
 
       -- to this place
       to : (fit : Fit) → fit_of q ≡ fit → Reaches here (after_fit b (head_of q) fit) w (record w { place = after_fit b (head_of q) fit }) s s' → Steps left spot w s e w' s'
@@ -119,13 +112,13 @@ module _ {B L : Type 0} (left : B → L) (spot : L → Option Said → Spot) (b 
       by_gap true unspent full is =
           let gap : q.gap ≡ 0 = same_number q.gap 0 is in
           let most = within its there in
-          let over : 256 ≤ (tail_of q - q.real) + q.gap = not_less ((tail_of q - q.real) + q.gap) 256 full in
+          let over : 256 ≤ (tail_of q - q.real) + q.gap = ltb-false ((tail_of q - q.real) + q.gap) 256 full in
           to_push (InPush.FlowOver (head_of q)) Fit.Overflow (rw (unspent, full, is) refl) refl refl (sound.queue its there, omega (arith, over, most, gap), unspent, gap)
       by_gap false unspent full is = to_append Fit.Claimed (rw (unspent, full, is) refl) refl
 
       by_room : (fits : Bool) → is_spent (tail_of q) ≡ false → nat_lt ((tail_of q - q.real) + q.gap) 256 ≡ fits → Steps left spot w s e w' s'
       by_room true unspent is =
-          let less : (tail_of q - q.real) + q.gap < 256 = less_than ((tail_of q - q.real) + q.gap) 256 is in
+          let less : (tail_of q - q.real) + q.gap < 256 = ltb-true ((tail_of q - q.real) + q.gap) 256 is in
           let room : 0 < room_of q = rw unspent (omega (arith, less)) in
           to_push (InPush.StoreValue ((tail_of q - q.real) + 1)) (Fit.Room ((tail_of q - q.real) + 1)) (rw (unspent, is) refl) refl refl (sound.queue its there, room)
       by_room false unspent is = by_gap (q.gap == 0) unspent is refl
@@ -140,78 +133,47 @@ module _ {B L : Type 0} (left : B → L) (spot : L → Option Said → Spot) (b 
       → w' ≡ record w { place = (if nat_le 2 len && nat_lt 1 s.config.workers then Place.Kick InKick.LoadKickCount (AfterKick.Push b) else after_push_of b w); hand = None }
       → TurnsChair w.index (λ chair. record chair { queue = published chair.queue (option_to_list w.hand) }) s s' → s' ≡ record s { seats = s'.seats } → Steps left spot w s e w' s'
   value_stored len sound following turn goes chair kept =
+      let its : Chair = sound.seated.seat in
+      let there : slice_get s.seats.items w.index ≡ Some its = sound.seated.there in
+      let here : Place = Place.Push (InPush.StoreValue len) b in
+      let more : List Runnable = option_to_list w.hand in
+      let y : Queue Runnable = published its.queue more in
+      let next : Place = if nat_le 2 len && has_others s.config then Place.Kick InKick.LoadKickCount (AfterKick.Push b) else after_push_of b w in
+      let v : Worker = record w { place = next; hand = None } in
+      let set : s'.seats.items ≡ slice_set s.seats.items w.index (record its { queue = y }) = chair its there in
+      let m : Moved (Queue ℕ) = turns next (record (desk_of w) { hand = None }) (queue_seen y) in
+      let seen : (p : Plan) (vs : Views) → Suits p vs w s → store_value p.config w.index (own_of w) (common_of left spot p vs s) len b (desk_of w) (queue_of (things_with vs s) w.index) ≡ m = λ p vs suits.
+      ap (store_value p.config w.index (own_of w) (common_of left spot p vs s) len b (desk_of w)) (own_queue_seen w.index s its there)
+      ∙ ap (λ (x : Place). turns (if nat_le 2 len && has_others p.config then Place.Kick InKick.LoadKickCount (AfterKick.Push b) else x) (record (desk_of w) { hand = None }) (published (queue_seen its.queue) (in_hand (desk_of w).hand))) (push_seen left spot p vs here w s sound suits.config b (following.seen p vs suits))
+      ∙ ap (λ c. turns (if nat_le 2 len && has_others c then Place.Kick InKick.LoadKickCount (AfterKick.Push b) else after_push_of b w) (record (desk_of w) { hand = None }) (published (queue_seen its.queue) (in_hand (desk_of w).hand))) (sym suits.config)
+      ∙ ap (λ ts. turns next (record (desk_of w) { hand = None }) (published (queue_seen its.queue) ts)) (hand_seen w.hand)
+      ∙ ap (turns next (record (desk_of w) { hand = None })) (published_seen its.queue more) in
+      let arrives_at : ArrivesAt w s s' =
+      λ p armed queue aims batch lets_go phased. around_own p w s s' its y there set (rw armed sound.seated) (queue y (sound.queue its there).0) aims batch (sound.batch_place its there) lets_go (phased its there) in
+      let count : (t : ℕ) → runnables_in t (hands_of v) + runnables_in t (y.values ++ y.held) ≡ runnables_in t (hands_of w) + runnables_in t (queued its) =
+      λ t. omega (arith, in_both t more w.loot.values, in_both t (its.queue.values ++ more) its.queue.held, in_both t its.queue.values more, in_both t its.queue.values its.queue.held) in
+      let older : (r : Runnable) → Contains (y.values ++ y.held) r → Contains (queued its) r ⊎ IsGenuine s.tasks.items r = λ r has.
+      elim (Contains-append_cases (its.queue.values ++ more) its.queue.held r has) [
+        | inl z ↦ elim (Contains-append_cases its.queue.values more r z) [ inl old ↦ inl (Contains-append_left its.queue.values its.queue.held r old) | inr new ↦ inr (ordinary here w s sound refl r new) ]
+        | inr z ↦ inl (Contains-append_right its.queue.values its.queue.held r z)
+      ] in
+      let carries : CarriesNone w v s = grind arith in
+      let is : IsPushFor b here = record { callbacks = refl; closes = refl; closing = refl; spare = refl; bare = refl; held = λ x h. h.0; batch = λ ms h. h } in
+      let reaches : Reaches here next w v s s' =
+      if_either (λ z. Reaches here z w v s s') (nat_le 2 len && has_others s.config) (Place.Kick InKick.LoadKickCount (AfterKick.Push b)) (after_push_of b w)
+      (record {
+        same = refl;
+        quiet = λ h. sound.quiet h;
+        around = around_own (Place.Kick InKick.LoadKickCount (AfterKick.Push b)) w s s' its y there set sound.seated (sound.queue its there).0 tt sound.batch (sound.batch_place its there) sound.lets_go (sound.phased its there);
+        carries = carries (Place.Kick InKick.LoadKickCount (AfterKick.Push b)) refl refl refl refl sound.pooled sound.serves sound.left sound.told;
+      })
+      (push_reaches here w v s s' arrives_at carries b sound following.comes is refl refl refl refl) in
       pushed left spot (InPush.StoreValue len) b w w' s s' e its y v (record { sound = sound; there = there; turn = turn; kept = kept }) (record { same = refl; read = sound.time.read; asleep = sound.time.asleep }) refl set (omega (arith, length-append its.queue.values more)) refl count older reaches goes
       (λ p vs suits. ap (with_queue w.index (things_with vs s)) (seen p vs suits))
     where
-      its : Chair
-      its = sound.seated.seat
-
-      there : slice_get s.seats.items w.index ≡ Some its
-      there = sound.seated.there
-
-      here : Place
-      here = Place.Push (InPush.StoreValue len) b
-
-      more : List Runnable
-      more = option_to_list w.hand
-
-      y : Queue Runnable
-      y = published its.queue more
-
-      next : Place
-      next = if nat_le 2 len && has_others s.config then Place.Kick InKick.LoadKickCount (AfterKick.Push b) else after_push_of b w
-
-      v : Worker
-      v = record w { place = next; hand = None }
-
-      set : s'.seats.items ≡ slice_set s.seats.items w.index (record its { queue = y })
-      set = chair its there
-
-      m : Moved (Queue ℕ)
-      m = turns next (record (desk_of w) { hand = None }) (queue_seen y)
-
       hand_seen : (o : Option Runnable) → in_hand (option_map (λ r. r.task.0) o) ≡ tasks_of (option_to_list o)
       hand_seen None = refl
       hand_seen (Some r) = refl
-
-      seen : (p : Plan) (vs : Views) → Suits p vs w s → store_value p.config w.index (own_of w) (common_of left spot p vs s) len b (desk_of w) (queue_of (things_with vs s) w.index) ≡ m
-      seen p vs suits =
-          ap (store_value p.config w.index (own_of w) (common_of left spot p vs s) len b (desk_of w)) (own_queue_seen w.index s its there)
-          ∙ ap (λ (x : Place). turns (if nat_le 2 len && has_others p.config then Place.Kick InKick.LoadKickCount (AfterKick.Push b) else x) (record (desk_of w) { hand = None }) (published (queue_seen its.queue) (in_hand (desk_of w).hand))) (push_seen left spot p vs here w s sound suits.config b (following.seen p vs suits))
-          ∙ ap (λ c. turns (if nat_le 2 len && has_others c then Place.Kick InKick.LoadKickCount (AfterKick.Push b) else after_push_of b w) (record (desk_of w) { hand = None }) (published (queue_seen its.queue) (in_hand (desk_of w).hand))) (sym suits.config)
-          ∙ ap (λ ts. turns next (record (desk_of w) { hand = None }) (published (queue_seen its.queue) ts)) (hand_seen w.hand)
-          ∙ ap (turns next (record (desk_of w) { hand = None })) (published_seen its.queue more)
-
-      carries : CarriesNone w v s
-      carries = grind arith
-
-      arrives_at : ArrivesAt w s s'
-      arrives_at p armed queue aims batch lets_go phased = around_own p w s s' its y there set (rw armed sound.seated) (queue y (sound.queue its there).0) aims batch (sound.batch_place its there) lets_go (phased its there)
-
-      is : IsPushFor b here
-      is = record { callbacks = refl; closes = refl; closing = refl; spare = refl; bare = refl; held = λ x h. h.0; batch = λ ms h. h }
-
-      reaches : Reaches here next w v s s'
-      reaches =
-          if_either (λ z. Reaches here z w v s s') (nat_le 2 len && has_others s.config) (Place.Kick InKick.LoadKickCount (AfterKick.Push b)) (after_push_of b w)
-          (record {
-            same = refl;
-            quiet = λ h. sound.quiet h;
-            around = around_own (Place.Kick InKick.LoadKickCount (AfterKick.Push b)) w s s' its y there set sound.seated (sound.queue its there).0 tt sound.batch (sound.batch_place its there) sound.lets_go (sound.phased its there);
-            carries = carries (Place.Kick InKick.LoadKickCount (AfterKick.Push b)) refl refl refl refl sound.pooled sound.serves sound.left sound.told;
-          })
-          (push_reaches here w v s s' arrives_at carries b sound following.comes is refl refl refl refl)
-
-      count : (t : ℕ) → runnables_in t (hands_of v) + runnables_in t (y.values ++ y.held) ≡ runnables_in t (hands_of w) + runnables_in t (queued its)
-      count t =
-          omega (arith, in_both t more w.loot.values, in_both t (its.queue.values ++ more) its.queue.held, in_both t its.queue.values more, in_both t its.queue.values its.queue.held)
-
-      older : (r : Runnable) → Contains (y.values ++ y.held) r → Contains (queued its) r ⊎ IsGenuine s.tasks.items r
-      older r has =
-          elim (Contains-append_cases (its.queue.values ++ more) its.queue.held r has) [
-            | inl z ↦ elim (Contains-append_cases its.queue.values more r z) [ inl old ↦ inl (Contains-append_left its.queue.values its.queue.held r old) | inr new ↦ inr (ordinary here w s sound refl r new) ]
-            | inr z ↦ inl (Contains-append_right its.queue.values its.queue.held r z)
-          ]
 
   -- IT FLOWS OVER
 
@@ -245,51 +207,30 @@ module _ {B L : Type 0} (left : B → L) (spot : L → Option Said → Spot) (b 
 
       by : (is : Bool) → same_head h (head_of its.queue) ≡ is → w' ≡ with_overflow is b its.queue w → s'.seats.items ≡ slice_set s.seats.items w.index (record its { queue = overflowed_if is its.queue }) → Steps left spot w s e w' s'
       by true is goes set =
-          pushed left spot x b w w' s s' e its y v pushes (record { same = refl; read = sound.time.read; asleep = sound.time.asleep }) refl set (omega (arith, full)) gap count older reaches goes
-          (λ p vs suits. ap (with_queue w.index (things_with vs s)) now)
-        where
-          values : List Runnable
-          values = its.queue.values
-
-          y : Queue Runnable
-          y = overflowed its.queue
-
-          next : Place
-          next = Place.Push InPush.StoreOldest b
-
-          v : Worker
-          v = record w { place = next; loot = extended w.loot (newest its.queue) }
-
-          heads : (h.real ≡ its.queue.real) × (h.gap ≡ its.queue.gap)
-          heads = same_heads h (head_of its.queue) is
-
-          full : length values ≡ 256
-          full = omega (arith, knows.1, heads.0)
-
-          gap : (0 == 0) ≡ (its.queue.gap == 0)
-          gap = sym (ap (λ n. n == 0) (sym heads.1 ∙ knows.3))
-
-          none : w.loot.values ≡ []
-          none = sound.loot.none refl
-
-          taken : v.loot.values ≡ drop 128 values
-          taken = ap (λ xs. xs ++ drop 128 values) none
-
-          exchanged : flow_over b h (desk_of w) (queue_seen its.queue) ≡ turns next (record (desk_of w) { loot = drop 128 (tasks_of values) }) (overflowed (queue_seen its.queue))
-          exchanged = rw is refl
-
-          now : f ≡ record { event = Turn; choice = Plain; desk = desk_of v; thing = queue_seen y }
-          now =
-              seen ∙ exchanged
-              ∙ ap (λ xs. turns next (record (desk_of w) { loot = xs }) (overflowed (queue_seen its.queue))) (drop-map (λ (r : Runnable). r.task.0) 128 values)
-              ∙ ap (λ xs. turns next (record (desk_of w) { loot = tasks_of xs }) (overflowed (queue_seen its.queue))) (sym taken)
-              ∙ ap (turns next (desk_of v)) (overflowed_seen its.queue)
-
-          few : length (drop 128 values) ≤ 128
-          few = omega (arith, length-drop 128 values, full)
-
-          reaches : Reaches here next w v s s'
-          reaches = record {
+          let values : List Runnable = its.queue.values in
+          let y : Queue Runnable = overflowed its.queue in
+          let next : Place = Place.Push InPush.StoreOldest b in
+          let v : Worker = record w { place = next; loot = extended w.loot (newest its.queue) } in
+          let none : w.loot.values ≡ [] = sound.loot.none refl in
+          let taken : v.loot.values ≡ drop 128 values = ap (λ xs. xs ++ drop 128 values) none in
+          let count : (t : ℕ) → runnables_in t (hands_of v) + runnables_in t (y.values ++ y.held) ≡ runnables_in t (hands_of w) + runnables_in t (queued its) = λ t.
+          let hand = option_to_list w.hand in
+          let mine = ap (runnables_in t) taken in
+          let was = ap (runnables_in t) none in
+          let held = ap (runnables_in t) knows.0 in
+          omega (arith, in_both t hand v.loot.values, in_both t hand w.loot.values, in_parts t 128 values, in_both t values its.queue.held, mine, was, held) in
+          let older : (r : Runnable) → Contains (y.values ++ y.held) r → Contains (queued its) r ⊎ IsGenuine s.tasks.items r = λ r has_r. inl (Contains-append_left values its.queue.held r (taken_from 128 values r has_r)) in
+          let heads : (h.real ≡ its.queue.real) × (h.gap ≡ its.queue.gap) = same_heads h (head_of its.queue) is in
+          let full : length values ≡ 256 = omega (arith, knows.1, heads.0) in
+          let gap : (0 == 0) ≡ (its.queue.gap == 0) = sym (ap (λ n. n == 0) (sym heads.1 ∙ knows.3)) in
+          let exchanged : flow_over b h (desk_of w) (queue_seen its.queue) ≡ turns next (record (desk_of w) { loot = drop 128 (tasks_of values) }) (overflowed (queue_seen its.queue)) = rw is refl in
+          let now : f ≡ record { event = Turn; choice = Plain; desk = desk_of v; thing = queue_seen y } =
+          seen ∙ exchanged
+          ∙ ap (λ xs. turns next (record (desk_of w) { loot = xs }) (overflowed (queue_seen its.queue))) (drop-map (λ (r : Runnable). r.task.0) 128 values)
+          ∙ ap (λ xs. turns next (record (desk_of w) { loot = tasks_of xs }) (overflowed (queue_seen its.queue))) (sym taken)
+          ∙ ap (turns next (desk_of v)) (overflowed_seen its.queue) in
+          let few : length (drop 128 values) ≤ 128 = omega (arith, length-drop 128 values, full) in
+          let reaches : Reaches here next w v s s' = record {
             same = refl;
             quiet = λ h. sound.quiet h;
             around = around_own next w s s' its y there set sound.seated refl tt sound.batch (sound.batch_place its there) sound.lets_go (sound.phased its there);
@@ -306,18 +247,9 @@ module _ {B L : Type 0} (left : B → L) (spot : L → Option Said → Spot) (b 
               left = sound.left;
               told = sound.told;
             };
-          }
-
-          count : (t : ℕ) → runnables_in t (hands_of v) + runnables_in t (y.values ++ y.held) ≡ runnables_in t (hands_of w) + runnables_in t (queued its)
-          count t =
-              let hand = option_to_list w.hand in
-              let mine = ap (runnables_in t) taken in
-              let was = ap (runnables_in t) none in
-              let held = ap (runnables_in t) knows.0 in
-              omega (arith, in_both t hand v.loot.values, in_both t hand w.loot.values, in_parts t 128 values, in_both t values its.queue.held, mine, was, held)
-
-          older : (r : Runnable) → Contains (y.values ++ y.held) r → Contains (queued its) r ⊎ IsGenuine s.tasks.items r
-          older r has_r = inl (Contains-append_left values its.queue.held r (taken_from 128 values r has_r))
+          } in
+          pushed left spot x b w w' s s' e its y v pushes (record { same = refl; read = sound.time.read; asleep = sound.time.asleep }) refl set (omega (arith, full)) gap count older reaches goes
+          (λ p vs suits. ap (with_queue w.index (things_with vs s)) now)
       by false is goes set =
           let next : Place = Place.Push InPush.LoadPushHead b in
           let now : f ≡ turns next (desk_of w) (queue_seen its.queue) = seen ∙ rw is refl in
@@ -337,7 +269,6 @@ module _ {B L : Type 0} (left : B → L) (spot : L → Option Said → Spot) (b 
   oldest_stored sound makes goes chair kept =
       let its : Chair = sound.seated.seat in
       let there = sound.seated.there in
-      let here = Place.Push InPush.StoreOldest b in
       let next : Place = Place.Global InGlobal.Append b in
       let v : Worker = record w { place = next } in
       let y : Queue Runnable = restored its.queue in

@@ -5,7 +5,7 @@ use Rattle.exec_task.specs.declared.{body.Said.Said, runnable.Runnable.Runnable}
 use Rattle.exec_machine.specs.{declared.{event.Event.{Event, TheVariants.Turn}, state.Next.Next}, Choice.Choice.Plain, Progress.Plan}
 use Rattle.exec_moves.specs.{declared.place.Place.Place, Move.move_at, Seen.{next_at, polls_at, serves_at}, Thing.set_queue}
 use Rattle.exec_parts.{specs.{Roles.is_pool, declared.parts.{seat.Seat.Seat as Chair, shared.Shared.Shared, worker.Worker.Worker}, Phased.{closes_at, closing_in, IsPhased, Stage, stage_of}, Spots.Spot, View.{Views, common_of, desk_of, own_of, queue_seen, seats_seen, things_with}}, proofs.{Facts.{by_number, set_elsewhere, set_there}, Showing.{map_kept, queue_shows, seats_kept}}}
-use Rattle.exec_invariants.{specs.{Gates.HaveGates, Holding.box_of, Kinds.{Kind, lowered}, Places.{claims_at, drops_at, has_count_at, has_loot_at, is_armed_at, is_pooled_at, is_published_at, one_if, searches_at, step_of_poll}, Sound.{Aims, HasBatch, HasQueue, IsLoot, IsSeated, IsSearching, SoundAt, has_wakes_at}, Whole.{HasOne, IsGenuine, IsWhole, Profile, claimed_count, duties_of, is_number, may_let_go, queued, runnables_in, stock, with_worker}, Works.{Steps, Suits}}, proofs.{Aside.{hands_same, SameTold, spares_turn, SparesSeats}, Counting.Stance, Idled.{calm_of, guest_again, guest_calm, Settles, step_again, stops_again, stops_calm}, PoolKept.{drops_same, gates_set, pool_of, pool_seats}, Turning.{Arrives, GoesOn, IsTurn, lower_on, OfKind, pool_low, turned}}}
+use Rattle.exec_invariants.{specs.{Gates.HaveGates, Holding.box_of, Kinds.{Kind, lowered}, Places.{claims_at, drops_at, has_count_at, has_loot_at, is_armed_at, is_pooled_at, is_published_at, one_if, searches_at, step_of_poll, in_poll_of, begins_at, hands_on_at, polled_in}, Sound.{Aims, HasBatch, HasQueue, IsLoot, IsSeated, IsSearching, SoundAt, has_wakes_at, IsTied, HasRunnable, root_in_hand, IsInHand, IsHeld}, Whole.{HasOne, IsGenuine, IsWhole, Profile, claimed_count, duties_of, is_number, may_let_go, queued, runnables_in, stock, with_worker}, Works.{Steps, Suits}}, proofs.{Aside.{hands_same, SameTold, spares_turn, SparesSeats}, Counting.Stance, Idled.{calm_of, guest_again, guest_calm, Settles, step_again, stops_again, stops_calm, step_if}, PoolKept.{drops_same, gates_set, pool_of, pool_seats}, Turning.{Arrives, GoesOn, IsTurn, lower_on, OfKind, pool_low, turned}}}
 
 -- SUMS
 
@@ -36,38 +36,21 @@ pub record Hands (k : ℕ) (q q' : Queue Runnable) (w w' : Worker) : Type 0 wher
 module _ {B : Type 0} where
   pub whole_queued : (others : Profile) (k : ℕ) (its : Chair) (q' : Queue Runnable) (w w' : Worker) (s s' : Shared B) → s' ≡ record s { seats = s'.seats } → slice_get s.seats.items k ≡ Some its → s'.seats.items ≡ slice_set s.seats.items k (record its { queue = q' })
       → Hands k its.queue q' w w' → ((r : Runnable) → Contains (q'.values ++ q'.held) r → Contains (queued its) r ⊎ IsGenuine s.tasks.items r) → IsWhole (with_worker others w) s → IsWhole (with_worker others w') s'
-  whole_queued others k its q' w w' s s' kept there set hands genuine whole = subst (IsWhole (with_worker others w')) (sym kept) done
-    where
-      s1 : Shared B
-      s1 = record s { seats = s'.seats }
-
-      its' : Chair
-      its' = record its { queue = q' }
-
-      many : length s'.seats.items ≡ length s.seats.items
-      many = ap length set ∙ length-set s.seats.items k its'
-
-      now : slice_get s'.seats.items k ≡ Some its'
-      now = ap (λ xs. slice_get xs k) set ∙ set_there s.seats.items k its' its there
-
+  whole_queued others k its q' w w' s s' kept there set hands genuine whole =
+      let s1 : Shared B = record s { seats = s'.seats } in
+      let its' : Chair = record its { queue = q' } in
+      let now : slice_get s'.seats.items k ≡ Some its' = ap (λ xs. slice_get xs k) set ∙ set_there s.seats.items k its' its there in
       -- what is at another seat was there
-      was : (j : ℕ) (chair : Chair) → j ≢ k → slice_get s'.seats.items j ≡ Some chair → slice_get s.seats.items j ≡ Some chair
-      was j chair other at_j = sym (set_elsewhere s.seats.items k j its' other) ∙ ap (λ xs. slice_get xs j) (sym set) ∙ at_j
-
-      is_its : (j : ℕ) (chair : Chair) → j ≡ k → slice_get s'.seats.items j ≡ Some chair → its' ≡ chair
-      is_its j chair same at_j = cc (sym now, subst (λ n. slice_get s'.seats.items n ≡ Some chair) same at_j)
-
-      number : (t : ℕ) → (with_worker others w').runnables t + stock t s1 ≡ (with_worker others w).runnables t + stock t s
-      number t =
-          let f : Chair → ℕ = λ chair. runnables_in t (queued chair) in
-          let sum : sum_by f s'.seats.items + f its ≡ sum_by f s.seats.items + f its' = ap (λ xs. sum_by f xs + f its) set ∙ sum_set f s.seats.items k its its' there in
-          omega (arith, sum, hands.runnables t)
-
-      claimed : claimed_count (with_worker others w') s1 ≡ claimed_count (with_worker others w) s
-      claimed = rw (hands.index, hands.published) refl
-
-      done : IsWhole (with_worker others w') s1
-      done = record {
+      let was : (j : ℕ) (chair : Chair) → j ≢ k → slice_get s'.seats.items j ≡ Some chair → slice_get s.seats.items j ≡ Some chair =
+      λ j chair other at_j. sym (set_elsewhere s.seats.items k j its' other) ∙ ap (λ xs. slice_get xs j) (sym set) ∙ at_j in
+      let is_its : (j : ℕ) (chair : Chair) → j ≡ k → slice_get s'.seats.items j ≡ Some chair → its' ≡ chair = λ j chair same at_j. cc (sym now, subst (λ n. slice_get s'.seats.items n ≡ Some chair) same at_j) in
+      let number : (t : ℕ) → (with_worker others w').runnables t + stock t s1 ≡ (with_worker others w).runnables t + stock t s = λ t.
+      let f : Chair → ℕ = λ chair. runnables_in t (queued chair) in
+      let sum : sum_by f s'.seats.items + f its ≡ sum_by f s.seats.items + f its' = ap (λ xs. sum_by f xs + f its) set ∙ sum_set f s.seats.items k its its' there in
+      omega (arith, sum, hands.runnables t) in
+      let many : length s'.seats.items ≡ length s.seats.items = ap length set ∙ length-set s.seats.items k its' in
+      let claimed : claimed_count (with_worker others w') s1 ≡ claimed_count (with_worker others w) s = rw (hands.index, hands.published) refl in
+      let done : IsWhole (with_worker others w') s1 = record {
         runnables = λ t slot at_t home. subst (HasOne (may_let_go s) slot.cell.phase) (sym (number t)) (whole.runnables t slot at_t home);
         polls = λ t slot at_t home. rw hands.polls (whole.polls t slot at_t home);
         claims = λ j chair at_j.
@@ -103,7 +86,8 @@ module _ {B : Type 0} where
             (pool_seats (duties_of (with_worker others w)) s.tasks.items s.set s.seats.items s'.seats.items (gates_set k s.seats.items s'.seats.items its its' set there (record { left = refl; pool = refl; closed = refl; mail = λ h. h })) whole.pool);
         gates = subst (λ f. HaveGates f s.opens s.requests.items) (sym (drops_same others w w' hands.index hands.drops)) whole.gates;
         holding = rw (hands_same others w w' hands.index hands.told, ap (map box_of) set ∙ map_kept box_of s.seats.items k its' its there refl) whole.holding;
-      }
+      } in
+      subst (IsWhole (with_worker others w')) (sym kept) done
 
 -- WHERE IT LEADS
 
@@ -132,64 +116,30 @@ module _ {B : Type 0} where
 
   of_bare : (q q' : Place) (w : Worker) (s : Shared B) → SoundAt q w s → bare_of q' ≡ lowered w.role (is_pooled_at q') (bare_of q) → OfKind (bare_of q') w s
   of_bare q q' w s sound same =
-      let here : OfKind (lowered w.role (is_pooled_at q') (bare_of q)) w s =
-      record {
-        runnable = sound.runnable;
-        hand = sound.hand;
-        loot = any_loot (has_loot_at q) w.loot sound.loot;
-        genuine = sound.genuine;
-        searching = tt;
-        pooled = pool_low (is_pooled_at q') (is_pooled_at q) (is_pool w.role) sound.pooled;
-        serves = sound.serves;
-        guest = guest_calm (polls_at q) (step_of_poll q) w.index w.root s.tasks.items sound.guest;
-        left = sound.left;
-        due = sound.due;
-        flown = sound.flown;
-        told = sound.told;
-        letters = sound.letters;
-        stops = stops_calm (polls_at q) (step_of_poll q) w.index s.tasks.items s.requests.items s.sleepers.items sound.stops;
-        hears = sound.hears;
-        lets_go = sound.lets_go;
-        phased = sound.phased;
-        tied = rw (step_again w.root (polls_at q) (step_of_poll q)) sound.tied;
-      } in
-      subst (λ k. OfKind k w s) (sym same) here
+      let loot = any_loot (has_loot_at q) w.loot sound.loot in
+      let tied : IsTied (in_poll_of w.root (polls_at q) (step_if (polls_at q) (step_of_poll q))) w.index w.root s.tasks.items = rw (step_again w.root (polls_at q) (step_of_poll q)) sound.tied in
+      let pooled = pool_low (is_pooled_at q') (is_pooled_at q) (is_pool w.role) sound.pooled in
+      let guest = guest_calm (polls_at q) (step_of_poll q) w.index w.root s.tasks.items sound.guest in
+      let stops = stops_calm (polls_at q) (step_of_poll q) w.index s.tasks.items s.requests.items s.sleepers.items sound.stops in
+      subst (λ k. OfKind k w s) (sym same) (assumption (loot, pooled, guest, stops, tied, tt, sound))
 
   pub led_on : (q q' : Place) (w v : Worker) (s t : Shared B) → SoundAt q w s → Leads q q' w v s t → Arrives q' w v s t
   led_on q q' w v s t sound to =
       let it = of_bare q q' w s sound to.same in
-      record {
-        runnable = rw (to.root_ready, to.hand) it.runnable;
-        seated = to.seated;
-        queue = to.queue;
-        hand = rw to.hand it.hand;
-        loot = to.loot;
-        genuine = rw to.hand it.genuine;
-        stolen = to.stolen;
-        searching = to.searches;
-        pooled = it.pooled;
-        serves = it.serves;
-        calm = to.calm;
-        aims = to.aims;
-        guest = guest_again (polls_at q') (step_of_poll q') w.index w.root s.tasks.items it.guest;
-        left = it.left;
-        batch = to.batch;
-        batch_place = λ chair there.
-            let was = to.stage chair there in
-            subst (λ (st : Stage). st.shut ≡ false → 2 * st.made + 1 ≤ w.batch.places) was.2 (sound.batch_place was.0 was.1);
-        quiet = λ h. sound.quiet (to.quiet h);
-        due = it.due;
-        flown = it.flown;
-        told = it.told;
-        letters = it.letters;
-        stops = stops_again (polls_at q') (step_of_poll q') w.index s.tasks.items s.requests.items s.sleepers.items it.stops;
-        hears = it.hears;
-        lets_go = it.lets_go;
-        phased = λ chair there.
-            let was = to.stage chair there in
-            subst (λ stage. IsPhased w.index (closes_at q') (closing_in q') w.home.closing w.root w.names.unreleased stage s.tasks.items) was.2 (it.phased was.0 was.1);
-        tied = rw (← step_again w.root (polls_at q') (step_of_poll q')) it.tied;
-      }
+      let runnable : HasRunnable w.index w.root v.root_ready (root_in_hand (begins_at q') w.root v.hand) s.tasks.items = rw (to.root_ready, to.hand) it.runnable in
+      let hand : IsInHand (begins_at q') (hands_on_at q') v.hand = rw to.hand it.hand in
+      let genuine : (r : Runnable) → Contains (option_to_list v.hand) r → IsHeld (begins_at q') w.root s.tasks.items r = rw to.hand it.genuine in
+      let batch_place : (chair : Chair) → slice_get t.seats.items w.index ≡ Some chair → chair.mailbox.inbox.closed ≡ false → 2 * chair.made + 1 ≤ w.batch.places = λ chair there.
+      let was = to.stage chair there in
+      subst (λ (st : Stage). st.shut ≡ false → 2 * st.made + 1 ≤ w.batch.places) was.2 (sound.batch_place was.0 was.1) in
+      let quiet : has_wakes_at q' ≡ false → w.home.deferred.notes.wakes.items ≡ [] = λ h. sound.quiet (to.quiet h) in
+      let phased : (chair : Chair) → slice_get t.seats.items w.index ≡ Some chair → IsPhased w.index (closes_at q') (closing_in q') w.home.closing w.root w.names.unreleased (stage_of chair s) s.tasks.items = λ chair there.
+      let was = to.stage chair there in
+      subst (λ stage. IsPhased w.index (closes_at q') (closing_in q') w.home.closing w.root w.names.unreleased stage s.tasks.items) was.2 (it.phased was.0 was.1) in
+      let guest = guest_again (polls_at q') (step_of_poll q') w.index w.root s.tasks.items it.guest in
+      let stops = stops_again (polls_at q') (step_of_poll q') w.index s.tasks.items s.requests.items s.sleepers.items it.stops in
+      let tied : IsTied (polled_in w.root q') w.index w.root s.tasks.items = rw (← step_again w.root (polls_at q') (step_of_poll q')) it.tied in
+      assumption (runnable, hand, genuine, batch_place, quiet, phased, guest, stops, tied, to, it)
 
 module _ {B : Type 0} where
   -- to what a place of the same kind settles at, with the seats as they are then
@@ -197,21 +147,11 @@ module _ {B : Type 0} where
       → IsLoot (has_loot_at q') v.loot → ((r : Runnable) → Contains v.loot.values r → IsGenuine s.tasks.items r) → IsSeated w.index (is_armed_at r) s.config.workers t.seats.items
       → ((chair : Chair) → slice_get t.seats.items w.index ≡ Some chair → (was : Chair) × (slice_get s.seats.items w.index ≡ Some was) × (stage_of was s ≡ stage_of chair s)) → Leads q q' w v s t
   leads_to q r q' z w v s t kept bare wakes to root_ready hand searching calm loot stolen seated stage =
-      record {
-        same = lower_on w.role (bare_of q) (bare_of r) (bare_of q') (ap (λ (k : Kind). record k { loot = true; claims = None }) to.same) bare;
-        calm = calm;
-        root_ready = root_ready;
-        hand = hand;
-        searches = rw searching to.searches;
-        loot = loot;
-        stolen = stolen;
-        seated = subst (λ (k : Kind). IsSeated w.index k.armed s.config.workers t.seats.items) (sym to.same) seated;
-        queue = to.queue;
-        aims = subst (λ c. Aims q' c w.index t.seats.items) (ap (λ (x : Shared B). x.config) kept) to.aims;
-        batch = to.batch;
-        quiet = λ h. sym wakes ∙ to.quiet h;
-        stage = stage;
-      }
+      let same = lower_on w.role (bare_of q) (bare_of r) (bare_of q') (ap (λ (k : Kind). record k { loot = true; claims = None }) to.same) bare in
+      let seated_then = subst (λ (k : Kind). IsSeated w.index k.armed s.config.workers t.seats.items) (sym to.same) seated in
+      let aims = subst (λ c. Aims q' c w.index t.seats.items) (ap (λ (x : Shared B). x.config) kept) to.aims in
+      let quiet : has_wakes_at q' ≡ false → has_wakes_at q ≡ false = λ h. sym wakes ∙ to.quiet h in
+      assumption (same, calm, root_ready, hand, subst (IsSearching (searches_at q')) (sym searching) to.searches, loot, stolen, seated_then, aims, quiet, stage, to)
 
 module _ {B L : Type 0} (left : B → L) (spot : L → Option Said → Spot) where
   -- A plain turn by which the run queue of worker k becomes this.

@@ -151,13 +151,7 @@ module _ {B : Type 0} where
 -- to the machine it is a turn
 turn_still : (n : ℕ) (q q' : Place) → still_of q' ≡ still_of q → next_at q ≡ Next.Free → serves_at q ≡ false → IsTurn n q q'
 turn_still n q q' same free unserved =
-    record {
-      polls = ap (λ k. k.polls) same;
-      free = free;
-      free_then = ap (λ k. k.next) same ∙ free;
-      unserved = ap (λ k. k.serves) same ∙ unserved;
-      owes = ap (λ k. k.owes n) same;
-    }
+    assumption (ap (λ k. k.polls) same, free, ap (λ k. k.next) same ∙ free, ap (λ k. k.serves) same ∙ unserved, ap (λ k. k.owes n) same)
 
 -- of two places by a test
 pub if_either : (P : Place → Type 0) (b : Bool) (x y : Place) → P x → P y → P (if b then x else y)

@@ -7,6 +7,8 @@ use Rattle.exec_machine.specs.{declared.{config.Configuration.Configuration, eve
 use Rattle.exec_moves.specs.{declared.{place.{Place.Place}}, Move.move, State.{Moved, Things, no_wake_poll, wake_poll_of}, Thing.set_wake_poll}
 use Rattle.exec_parts.{specs.{declared.parts.{mail.Reply.Reply, seat.Seat.Seat as Chair, shared.Shared.Shared, worker.Worker.Worker}, Phased.{IsPhased, closes_at, closing_in, stage_of}, Pooled.with_raises, Raises.TakesRaises, Spots.Spot, Submitting.must_flush, View.{Views, Visible, visible, with_view, driver_of, own_of, desk_of, common_of, inbox_at, polls_seen, queue_at, raised_times, seat_seen, seats_seen, things_with, word_at}}, proofs.{Facts.{by_number, set_elsewhere, set_there}, Showing.{map_kept, polls_kept}}}
 use Rattle.exec_invariants.{specs.{Holding.box_of, Places.is_armed_at, Sound.{Aims, AreHome, HasQueue, IsSeated, Sound, SoundAt}, Spares.Spares, Works.{Beside, Works, Suits, Steps}}, proofs.{Aside.{SameProfile, beside_calm, queues_set, seats_own}, PoolKept.gates_set, Ringed.{SameIn, sound_ring}, Shown.{own_with, desk_with}, Swept.{RaisesTo, raises_to}}}
+use Rattle.exec_invariants.proofs.HandedOver.{seats_both}
+use Rattle.exec_invariants.proofs.Rousing.{poll_there}
 
 -- WHAT TWO CHANGES AT ONE PLACE SHOW
 
@@ -17,13 +19,6 @@ polls_taken (x ∷ vs) [] i v v' chair chair' seen there same = absurd (cc)
 polls_taken (x ∷ vs) (seat ∷ seats) zero v v' chair chair' seen there same = grind arith
 polls_taken (x ∷ vs) (seat ∷ seats) (suc i) v v' chair chair' seen there same = ap (λ ps. raised_times seat.raised x.wakes ∷ ps) (polls_taken vs seats i v v' chair chair' seen there same)
 
-seats_taken : (vs : List Visible) (seats : List Chair) (i : ℕ) (v v' : Visible) (chair chair' : Chair) → slice_get vs i ≡ Some v → slice_get seats i ≡ Some chair → seat_seen v' chair' ≡ seat_seen v chair
-    → seats_seen (slice_set vs i v') (slice_set seats i chair') ≡ seats_seen vs seats
-seats_taken [] seats i v v' chair chair' seen there same = absurd (cc)
-seats_taken (x ∷ vs) [] i v v' chair chair' seen there same = absurd (cc)
-seats_taken (x ∷ vs) (seat ∷ seats) zero v v' chair chair' seen there same = grind arith
-seats_taken (x ∷ vs) (seat ∷ seats) (suc i) v v' chair chair' seen there same = ap (λ ys. seat_seen x seat ∷ ys) (seats_taken vs seats i v v' chair chair' seen there same)
-
 -- a view that shows the same of a seat
 pub views_kept : (vs : List Visible) (seats : List Chair) (i : ℕ) (v v' : Visible) → slice_get vs i ≡ Some v → ((c : Chair) → seat_seen v' c ≡ seat_seen v c) → seats_seen (slice_set vs i v') seats ≡ seats_seen vs seats
 views_kept [] seats i v v' seen same = absurd (cc)
@@ -31,12 +26,6 @@ views_kept (x ∷ vs) [] zero v v' seen same = refl
 views_kept (x ∷ vs) [] (suc i) v v' seen same = refl
 views_kept (x ∷ vs) (seat ∷ seats) zero v v' seen same = grind arith
 views_kept (x ∷ vs) (seat ∷ seats) (suc i) v v' seen same = ap (λ ys. seat_seen x seat ∷ ys) (views_kept vs seats i v v' seen same)
-
-pub seats_set : (vs : List Visible) (seats : List Chair) (i : ℕ) (v : Visible) (chair : Chair) → slice_get seats i ≡ Some chair → seats_seen (slice_set vs i v) seats ≡ slice_set (seats_seen vs seats) i (seat_seen v chair)
-seats_set [] seats i v chair there = refl
-seats_set (x ∷ vs) [] i v chair there = absurd (cc)
-seats_set (x ∷ vs) (seat ∷ seats) zero v chair there = grind arith
-seats_set (x ∷ vs) (seat ∷ seats) (suc i) v chair there = ap (λ xs. seat_seen x seat ∷ xs) (seats_set vs seats i v chair there)
 
 pub set_twice : {A : Type 0} (xs : List A) (i : ℕ) (x y : A) → slice_set (slice_set xs i x) i y ≡ slice_set xs i y
 set_twice [] i x y = refl
@@ -186,7 +175,7 @@ module _ {B : Type 0} (q : Place) (w w1 : Worker) (s s1 : Shared B) (sound : Sou
         let there = sound.seated.there in
         ap (common_of left spot p (with_view vs w.index (visible w1))) takes.shared
         ∙ ap (λ cs. record (common_of left spot p vs s) { seats = seats_seen (slice_set vs.workers w.index (visible w1)) cs }) seats_are
-        ∙ ap (λ xs. record (common_of left spot p vs s) { seats = xs }) (seats_taken vs.workers s.seats.items w.index (visible w) (visible w1) chair (record chair { raised = 0 }) seen there (ap (λ v. seat_seen v chair) seen_taken))
+        ∙ ap (λ xs. record (common_of left spot p vs s) { seats = xs }) (seats_both vs.workers s.seats.items w.index (visible w) (visible w1) chair (record chair { raised = 0 }) seen there (ap (λ v. seat_seen v chair) seen_taken))
 
     -- what the machine makes of a step from there is what it makes of it from here
     works_first : (p : Plan) (vs : Views) (e : Event) (w' : Worker) (s' : Shared B) → Suits p vs w s → Works left spot p (with_view vs w.index (visible w1)) w1 s1 e w' s' → Works left spot p vs w s e w' s'
@@ -201,10 +190,7 @@ module _ {B : Type 0} (q : Place) (w w1 : Worker) (s s1 : Shared B) (sound : Sou
         let same3 = same_made {T = Common} index own_taken common (λ i o c. common_after p.config o c i e it.choice) in
         record {
           choice = it.choice;
-          moves =
-              sym (same1 ∙ ap (λ x. move p.config w.index (own_of w) (common_of left spot p vs s) x (things_with vs1 s1)) desk_taken
-              ∙ ap (move p.config w.index (own_of w) (common_of left spot p vs s) (desk_of w)) things)
-              ∙ it.moves ∙ ap (λ v. record { event = e; choice = it.choice; desk = desk_of w'; thing = things_with v s' }) again;
+          moves = grind (arith, same1, desk_taken, things, it.moves, again);
           may =
               subst (λ i. AllTrue (allowed p.config (own_of w) (common_of left spot p vs s) i e it.choice)) index
               (subst (λ o. AllTrue (allowed p.config o (common_of left spot p vs s) w1.index e it.choice)) own_taken
@@ -235,23 +221,13 @@ polls_set (x ∷ vs) [] i v' chair there = absurd (cc)
 polls_set (x ∷ vs) (seat ∷ seats) zero v' chair there = grind arith
 polls_set (x ∷ vs) (seat ∷ seats) (suc i) v' chair there = ap (λ ps. raised_times seat.raised x.wakes ∷ ps) (polls_set vs seats i v' chair there)
 
-poll_at : (vs : List Visible) (seats : List Chair) (i : ℕ) (v : Visible) (chair : Chair) → slice_get vs i ≡ Some v → slice_get seats i ≡ Some chair → slice_get (polls_seen vs seats) i ≡ Some (raised_times chair.raised v.wakes)
-poll_at [] seats i v chair seen there = absurd (cc)
-poll_at (x ∷ vs) [] i v chair seen there = absurd (cc)
-poll_at (x ∷ vs) (seat ∷ seats) zero v chair seen there = grind arith
-poll_at (x ∷ vs) (seat ∷ seats) (suc i) v chair seen there = poll_at vs seats i v chair seen there
-
 module _ {B : Type 0} (vs : Views) (i : ℕ) (s : Shared B) (chair : Chair) (there : slice_get s.seats.items i ≡ Some chair) (none : chair.raised ≡ 0) where
   -- where no wake waits at its seat, what shows another ring shows another wake poll
   pub poll_shows : (v' : Visible) → things_with (with_view vs i v') s ≡ set_wake_poll i (things_with vs s) v'.wakes
-  poll_shows v' =
-      ap (λ ps. record (things_with vs s) { wake_polls = ps }) (polls_set vs.workers s.seats.items i v' chair there)
-      ∙ ap (λ n. set_wake_poll i (things_with vs s) (raised_times n v'.wakes)) none
+  poll_shows v' = grind (arith, polls_set vs.workers s.seats.items i v' chair there, none)
 
   pub poll_shown : (v : Visible) → slice_get vs.workers i ≡ Some v → wake_poll_of (things_with vs s) i ≡ v.wakes
-  poll_shown v seen =
-      get_or_from_slice_get (polls_seen vs.workers s.seats.items) i (raised_times chair.raised v.wakes) no_wake_poll (poll_at vs.workers s.seats.items i v chair seen there)
-      ∙ ap (λ n. raised_times n v.wakes) none
+  poll_shown v seen = grind (arith, get_or_from_slice_get (polls_seen vs.workers s.seats.items) i (raised_times chair.raised v.wakes) no_wake_poll (poll_there vs.workers s.seats.items i v chair seen there), none)
 
 module _ {B : Type 0} where
   pub sound_still : (w w1 : Worker) (s s1 : Shared B) → Sound w s → TakesRaises w s w1 s1 → Sound w1 s1

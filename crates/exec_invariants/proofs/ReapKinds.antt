@@ -1,8 +1,8 @@
 -- Of the kinds of requests: a write and a sync go on alone, and what stands at a gate is one of them.
-use Rattle.std.proofs.{Common.{◌≡◌, false, None}}
+use Rattle.std.proofs.{Common.{◌≡◌, false}}
 use Rattle.std.proofs.Common.{arith}
 use Rattle.exec_outcomes.specs.{Accounts.is_durable, declared.outcome.Kind.Kind}
-use Rattle.exec_request.specs.{Requests.{asked_of, gate_of, goes_on_alone}, declared.{request.Request.Request as Asking}}
+use Rattle.exec_request.specs.{Requests.{asked_of, goes_on_alone}, declared.{request.Request.Request as Asking}}
 use Rattle.exec_machine.specs.Tests.{is_kept}
 
 pub kept_alone : (q : Asking) → is_kept (asked_of q).kind ≡ goes_on_alone q
@@ -10,7 +10,3 @@ kept_alone = grind arith
 
 pub durable_kept : (k : Kind) → is_kept k ≡ false → is_durable k ≡ false
 durable_kept = grind arith
-
--- what needs no permit has no gate
-pub gate_none : (q : Asking) → is_durable (asked_of q).kind ≡ false → gate_of q ≡ None
-gate_none = grind arith

@@ -34,20 +34,11 @@ module _ {B : Type 0} where
       let due' : IsDue (served_in q) w.home.closing w.index w.moments s.config w.names d' w.home.timers rs ss =
       record { punctual = record { ahead = due.punctual.ahead }; told = due.told; wheel = due.wheel; timed = due.timed; asleep = due.asleep; order = due.order } in
       let flown = sound.flown in
-      let flown' : HasFlown (served_in q) w.index w.names d' rs =
-      record {
-        ending = flown.ending;
-        staging = subst (λ n. n ≤ vec_capacity w.names.staged) (sym like.size) flown.staging;
-        telling = subst (λ n. n ≤ vec_capacity w.names.untold) (sym like.size) flown.telling;
-        entries = subst (λ (es : List Submission). length w.names.staged.items + length w.names.untold.items ≤ length es) (sym like.staged) flown.entries;
-        gated = flown.gated;
-        plain = flown.plain;
-        landed = subst (λ cs. AreLanded w.names d' rs cs) (sym like.landed) (landed_as w.names d d' rs (operations d.ring) refl flown.landed);
-        enrolling = flown.enrolling;
-        polled = like.polled;
-        owning = flown.owning;
-        uncancelled = flown.uncancelled;
-      } in
+      let staging = subst (λ n. n ≤ vec_capacity w.names.staged) (sym like.size) flown.staging in
+      let telling = subst (λ n. n ≤ vec_capacity w.names.untold) (sym like.size) flown.telling in
+      let entries = subst (λ (es : List Submission). length w.names.staged.items + length w.names.untold.items ≤ length es) (sym like.staged) flown.entries in
+      let landed = subst (λ cs. AreLanded w.names d' rs cs) (sym like.landed) (landed_as w.names d d' rs (operations d.ring) refl flown.landed) in
+      let flown' : HasFlown (served_in q) w.index w.names d' rs = assumption (staging, telling, entries, landed, flown, like) in
       let r0 = sound.rooted in
       let rooted' : IsRooted w.index w.names d' w.home.timers w.home.deferred rs ss =
       record { kept = r0.kept; ready = λ k x there mine over seen unapplied. let it = r0.ready k x there mine over seen unapplied in record { named = it.named; live = it.live }; replies = r0.replies; watches = r0.watches; pays = r0.pays; sleeper_pays = r0.sleeper_pays; results = r0.results; completions = r0.completions; sent = r0.sent; sleeper_sent = r0.sleeper_sent } in

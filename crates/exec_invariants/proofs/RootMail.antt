@@ -1,7 +1,7 @@
 -- What tasks hold, where a message to a root joins an inbox: all that is told of requests and sleepers is as it was.
 use Rattle.std.proofs.{Common.{◌≡◌, ℕ, ◌⊎◌, inl, inr, false, Contains, List, [], ◌∷◌, ◌++◌, length, map, Option, Some, None, refl, sym, ap, subst, ◌∙◌, arith, slice_get, slice_set, option_map}, lemmas.{List.{length-set, Elements.Contains-push_cases, Sums.sum_by-append}, Option.slice_get-map}}
 use Rattle.exec_words.specs.declared.inbox.Message.{Message}
-use Rattle.exec_parts.{specs.declared.parts.{mail.Subject.Subject, seat.Seat.Seat as Chair}, proofs.{Facts.{by_number, same_thing, set_elsewhere, set_there}, Showing.map_set}}
+use Rattle.exec_parts.{specs.declared.parts.{mail.Subject.Subject, seat.Seat.Seat as Chair}, proofs.{Facts.{by_number, same_Some, set_elsewhere, set_there}, Showing.map_set}}
 use Rattle.exec_invariants.{specs.Holding.{Box, Hands, HasPlace, Holder, IsAbout, IsClosing, IsHolding, Mail, Nap, Owes, Thing, box_of, same_mail, under_way}, proofs.{HoldRedo.sum_set, Posting.{Arrival, IsArrival, chair_by}, Turning.set_found}}
 
 -- such a box
@@ -14,7 +14,7 @@ module _ (h : Hands) (workers : ℕ) (holders : List Holder) (things : List Thin
 
   -- what a box was
   was : (i : ℕ) (now : Box) → slice_get boxes' i ≡ Some now → (old : Box) × (slice_get boxes i ≡ Some old) × ((now ≡ old) ⊎ (now ≡ with_root old))
-  was = grind (arith, by_number, set_elsewhere, same_thing, set_there)
+  was = grind (arith, by_number, set_elsewhere, same_Some, set_there)
 
   shut_was : (i : ℕ) (now old : Box) → (now ≡ old) ⊎ (now ≡ with_root old) → now.shut ≡ old.shut
   shut_was i now old (inl is) = ap (λ (b : Box). b.shut) is

@@ -67,7 +67,7 @@ capped : (n limit : ℕ) → 3 ≤ limit → (min (n + 1) limit ≡ suc n) ⊎ (
 capped = grind arith
 
 -- what is seen of one wake poll, and of all once a seat was set
-poll_there : (vs : List Visible) (seats : List Chair) (i : ℕ) (v : Visible) (chair : Chair) → slice_get vs i ≡ Some v → slice_get seats i ≡ Some chair → slice_get (polls_seen vs seats) i ≡ Some (raised_times chair.raised v.wakes)
+pub poll_there : (vs : List Visible) (seats : List Chair) (i : ℕ) (v : Visible) (chair : Chair) → slice_get vs i ≡ Some v → slice_get seats i ≡ Some chair → slice_get (polls_seen vs seats) i ≡ Some (raised_times chair.raised v.wakes)
 poll_there [] seats i v chair seen there = absurd (cc)
 poll_there (x ∷ vs) [] i v chair seen there = absurd (cc)
 poll_there (x ∷ vs) (seat ∷ seats) zero v chair seen there = grind arith

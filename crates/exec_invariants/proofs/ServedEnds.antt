@@ -1,5 +1,5 @@
 -- What is sent elsewhere, and what tasks hold, once a request is over within a service.
-use Rattle.std.proofs.{Common.{◌≡◌, ◌≢◌, ℕ, zero, suc, ◌+◌, ◌≤◌, ◌&&◌, ◌||◌, not, cond, Bool, true, false, Contains, List, [], ◌∷◌, ◌++◌, count_by, length, Option, Some, None, IsSome, Result, Ok, Err, refl, sym, ap, subst, ◌∙◌, arith, inl, inr, slice_get}, lemmas.{Bool.{false≢true, eq-eqb}, List.{Recursion.is_count_by, append-nil, Elements.Contains-append_cases}}}
+use Rattle.std.proofs.{Common.{◌≡◌, ◌≢◌, ℕ, zero, suc, ◌+◌, ◌≤◌, ◌&&◌, ◌||◌, not, cond, Bool, true, false, Contains, List, [], ◌∷◌, ◌++◌, count_by, length, Option, Some, None, IsSome, Result, Ok, Err, refl, sym, ap, subst, ◌∙◌, arith, inl, inr, slice_get}, lemmas.{Bool.{false≢true, eq-eqb}, List.{append-nil, Elements.Contains-append_cases}}}
 use Rattle.exec_base.specs.{Slab.{Slab, value_at}, declared.{error.Error.Error, slab.Id.Id}}
 use Rattle.exec_outcomes.specs.{Accounts.Account, declared.outcome.Outcome.Outcome}
 use Rattle.exec_time.specs.declared.{notes.ForwardedResult.ForwardedResult, timers.Sleeper.Sleeper as Sleeping}
@@ -7,8 +7,9 @@ use Rattle.exec_request.specs.{Requests.{output_of}, States.Ended, declared.outp
 use Rattle.exec_waiters.{specs.{Events.{told_by_finish, waker_in}, States.{is_held_by, waiter_at, waiter_of}, Told.{Tells, Told, tasks_of}, declared.{deferred.{Answer.Answer, Deferred.Deferred}, observer.Observer.{Observer, TheVariants.{DetachedSync, Forwarded, Local, Orphaned}}, waiter.{Entry.{Entry, TheVariants.{Ready}}, Waiter.Waiter}}}, proofs.Changes.entry_of}
 use Rattle.exec_driver.specs.Driving.{Driving}
 use Rattle.exec_machine.specs.{declared.state.{Forwarding.Forwarding, RequestPhase.{RequestPhase, TheVariants.Resolved}}, Tests.{is_applied, is_resolved}}
-use Rattle.exec_parts.{specs.{declared.parts.{mail.Reply.Reply, names.Names.Names, record.Record.Record, sleeping.SleeperRecord.SleeperRecord}, Records.{number_in, outcome_in}, Serving.changed_at}, proofs.Facts.{by_name, by_number, not_same, same_thing}}
+use Rattle.exec_parts.{specs.{declared.parts.{mail.Reply.Reply, names.Names.Names, record.Record.Record, sleeping.SleeperRecord.SleeperRecord}, Records.{number_in, outcome_in}, Serving.changed_at}, proofs.Facts.{by_name, by_number, not_same, same_Some}}
 use Rattle.exec_invariants.{specs.{Due.AreTimed, Holding.{IsAnswerOf, thing_of}, Places.one_if, Rooted.{IsKept, IsNear, IsReplyFor, IsResult, IsRooted, Pays, StandsAt, Watches, goes_elsewhere, is_of_request, is_of_timer, outcome_told, results_of}, Names.{IsAlike, IsNamed}}, proofs.{Marking.{mark_if, marked}, Over.{OneEnds, apart_number, gone_here, is_over, other_record, unresolved_before}, Resolving.{EntryAfter, ToldOnce}}}
+use Rattle.exec_invariants.proofs.Lined.{tallied, tally}
 
 -- WHAT IS TOLD of its end, by who waits for it
 
@@ -33,14 +34,6 @@ pub ends_told : (id : Id) (it : Waiter Reply Reply) (how : Ended) (account : Opt
 ends_told = grind arith
 
 -- LISTS
-
-tally : {X : Type 0} → (X → Bool) → List X → ℕ
-tally p [] = 0
-tally p (x ∷ xs) = cond (p x) (1 + tally p xs) (tally p xs)
-
-tallied : {X : Type 0} (p : X → Bool) (xs : List X) → tally p xs ≡ count_by p xs
-unfolding tally
-tallied p xs = is_count_by (tally p) p refl (λ x ys. refl) xs
 
 tally_both : {X : Type 0} (p : X → Bool) (xs ys : List X) → tally p (xs ++ ys) ≡ tally p xs + tally p ys
 unfolding tally
@@ -88,7 +81,7 @@ module _ (i : ℕ) (n n' : Names) (d d' : Driving Reply Reply) (zs : Slab (Sleep
   by_record j x there same other =
       by_number j k
       (λ apart. other (λ is. apart (sym is)) (other_record i n d d' zs rs ss id it r f outcome told one named timed j x (λ is. apart (sym is)) there))
-      (λ is. same (sym is) (ap (slice_get rs) is ∙ one.there) (same_thing (f r) x (sym now_there ∙ ap (slice_get rs_then) (sym is) ∙ there)))
+      (λ is. same (sym is) (ap (slice_get rs) is ∙ one.there) (same_Some (f r) x (sym now_there ∙ ap (slice_get rs_then) (sym is) ∙ there)))
 
   held_is : is_held_by it.observer ≡ r.shown.observed
   held_is = sym alike.observed
@@ -155,7 +148,7 @@ module _ (i : ℕ) (n n' : Names) (d d' : Driving Reply Reply) (zs : Slab (Sleep
         paid = it_is.paid;
       })
       (λ same.
-      let is : it_is.r ≡ r = same_thing it_is.r r (sym it_is.there ∙ ap (slice_get rs) same ∙ one.there) in
+      let is : it_is.r ≡ r = same_Some it_is.r r (sym it_is.there ∙ ap (slice_get rs) same ∙ one.there) in
       record {
         k = it_is.k;
         r = f r;
@@ -199,20 +192,12 @@ module _ (i : ℕ) (n n' : Names) (d d' : Driving Reply Reply) (zs : Slab (Sleep
   held_after : (o : Observer Reply Reply) (e : Option (Entry Reply Reply)) → it.observer ≡ o → r.shown.observed ≡ true → is_applied r.shown.forwarding ≡ false → EntryAfter o told e → IsSome e
   held_after = grind (arith, false≢true, alike, held_is)
 
-  named_id : r.id.0 ≡ id
-  named_id = grind arith
-
   ready_then : (j : ℕ) (x : Record) → slice_get rs_then j ≡ Some x → x.shown.worker ≡ i → is_resolved x.shown.phase ≡ true → x.shown.observed ≡ true → is_applied x.shown.forwarding ≡ false → StandsAt j n' d' x
   ready_then j x there of_i over seen unapplied =
       by_record j x there
       (λ is at same.
-      let name : x.id.0 ≡ id = ap (λ (y : Record). y.id.0) (sym same) ∙ ap (λ (y : Record). y.id.0) one.ends.same ∙ named_id in
-      let observed : r.shown.observed ≡ true = sym (ap (λ (y : Record). y.shown.observed) one.ends.same) ∙ ap (λ (y : Record). y.shown.observed) same ∙ seen in
-      let near : is_applied r.shown.forwarding ≡ false = sym (ap (λ (y : Record). is_applied y.shown.forwarding) one.ends.same) ∙ ap (λ (y : Record). is_applied y.shown.forwarding) same ∙ unapplied in
       grind (arith, held_after))
       (λ apart at.
-      let was = rooted.ready j x at of_i over seen unapplied in
-      let other : x.id.0 ≢ id = λ e. apart (ap (number_in n.requests.items) (sym e) ∙ was.named) in
       grind arith)
 
   some_there : (other : Id) (e : Entry Reply Reply) → value_at d.requests other ≡ Some e → IsSome (value_at d.requests other)
@@ -233,7 +218,7 @@ module _ (i : ℕ) (n n' : Names) (d d' : Driving Reply Reply) (zs : Slab (Sleep
             rooted.kept other out x was (elsewhere_there other x (some_there other (Ready out) was) apart there))
             (λ same.
             let here : slice_get rs_then k ≡ Some x = ap (λ y. slice_get rs_then (number_in n.requests.items y)) (sym same) ∙ ap (λ v. slice_get rs_then (number_in v.items other)) (sym requests) ∙ there in
-            let is : f r ≡ x = same_thing (f r) x (sym now_there ∙ here) in
+            let is : f r ≡ x = same_Some (f r) x (sym now_there ∙ here) in
             subst (IsKept out) is (ready_here it.observer (value_at d'.requests id) out refl one.slab.here (ap (value_at d'.requests) (sym same) ∙ at)));
         ready = ready_then;
         replies = λ other x reply y at forwarded there.

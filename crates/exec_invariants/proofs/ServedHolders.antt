@@ -3,7 +3,7 @@ use Rattle.std.proofs.{Common.{◌≡◌, ◌⊎◌, ℕ, zero, suc, ◌+◌, �
 use Rattle.exec_base.specs.declared.{error.Error.Error, one_shot.OneShotState.OneShotState}
 use Rattle.exec_outcomes.specs.declared.outcome.Outcome.{Outcome}
 use Rattle.exec_request.specs.declared.output.RequestOutput.{RequestOutput}
-use Rattle.exec_parts.{specs.declared.parts.mail.Subject.Subject, proofs.Facts.{by_number, same_thing, set_elsewhere, set_there}}
+use Rattle.exec_parts.{specs.declared.parts.mail.Subject.Subject, proofs.Facts.{by_number, same_Some, set_elsewhere, set_there}}
 use Rattle.exec_invariants.{specs.Holding.{Awaits, Box, Hands, HasAnswer, Holder, IsForwarded, IsHeldBy, IsHolding, IsOwed, Mail, Nap, Owes, Thing, holdings, mail_in, under_way}, proofs.HoldRedo.holding_redone}
 use Rattle.exec_words.specs.declared.inbox.Message.{Message}
 use Rattle.exec_parts.specs.declared.parts.mail.Subject.TheVariants as subject
@@ -31,7 +31,7 @@ module _ (h h' : Hands) (workers : ℕ) (hs : List Holder) (ts : List Thing) (na
   never_some h = absurd (cc)
 
   owes_on : (i u : ℕ) (o : Option Subject) → Owes i u o ts naps boxes → Owes i u o (slice_set ts k ended) naps boxes
-  owes_on = grind (arith, by_number, set_elsewhere, same_thing, now_ended)
+  owes_on = grind (arith, by_number, set_elsewhere, same_Some, now_ended)
 
   -- it owed none before
   none_before : (i u : ℕ) (a : Awaits (subject.Request k) u hs) → r.observed ≡ true → 0 < h.wakes i u → ⊥
@@ -64,6 +64,7 @@ module _ (h h' : Hands) (workers : ℕ) (hs : List Holder) (ts : List Thing) (na
 
   pub holding_ended : IsHolding h' workers hs (slice_set ts k ended) naps boxes
   holding_ended =
+      let way : (m : Mail) → under_way h' m boxes ≡ under_way h m boxes = λ m. ap (λ n. n + sum_by (λ box. mail_in m box.messages) boxes) (mail m) in
       holding_redone h h' workers hs hs ts naps boxes None k r ended
       (record {
         thing = there;
@@ -90,6 +91,3 @@ module _ (h h' : Hands) (workers : ℕ) (hs : List Holder) (ts : List Thing) (na
         owed = owed_then;
       })
       old
-    where
-      way : (m : Mail) → under_way h' m boxes ≡ under_way h m boxes
-      way m = ap (λ n. n + sum_by (λ box. mail_in m box.messages) boxes) (mail m)

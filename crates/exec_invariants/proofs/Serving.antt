@@ -1,13 +1,11 @@
 -- Steps of a service: what they keep.
-use Rattle.std.proofs.{Common.{◌≡◌, ◌≢◌, ℕ, ◌+◌, ◌<◌, ◌≤◌, ◌==◌, Bool, true, false, Contains, List, [], count_by, map, Option, Some, None, ◌⊎◌, if◌then◌else◌, refl, sym, ap, subst, ◌∙◌, arith, slice_get, slice_set, option_to_list}, lemmas.Bool.false≢true}
-use Rattle.exec_base.specs.{declared.task_no.TaskNo.TaskNo}
-use Rattle.exec_words.specs.{Queue.tail_of}
+use Rattle.std.proofs.{Common.{◌≡◌, ◌≢◌, ℕ, ◌+◌, ◌<◌, ◌==◌, Bool, true, false, Contains, List, [], map, Option, Some, None, ◌⊎◌, if◌then◌else◌, refl, sym, ap, subst, ◌∙◌, arith, slice_get, slice_set, option_to_list}, lemmas.Bool.false≢true}
 use Rattle.exec_driver.specs.Driving.{seen}
 use Rattle.exec_task.specs.{TaskSet.Set, declared.runnable.Runnable.Runnable}
 use Rattle.exec_machine.specs.Tests.{is_at_large}
 use Rattle.exec_moves.specs.{declared.place.Place.Place, Seen.polls_at}
 use Rattle.exec_parts.{specs.{Calls.IsTold, declared.parts.{mail.Subject.Subject, record.Record.Record, sleeping.SleeperRecord.SleeperRecord, seat.Seat.Seat as Chair, shared.Shared.Shared, task_slot.TaskSlot.TaskSlot, worker.Worker.Worker}, Phased.{IsPhased, closes_at, closing_in, stage_of}, Roles.is_pool, Serving.changed_at, View.{letters_in, own_of}}, proofs.{Facts.{by_number, not_same, set_elsewhere, set_there}, Showing.map_kept}}
-use Rattle.exec_invariants.{specs.{Sound.{HasBatch, HasGuest, HasLetters, HasQueue, HasRunnable, IsHeld, IsInHand, IsLeft, IsLetter, IsLoot, IsMineIn, IsMyMail, IsSearching, IsSeated, IsTied, LetsGoAt, SoundAt, Stops, Serves as ServesTask, root_in_hand}, Names.tellers, Carried.HasRoom, Drained.{Duties, IsBefore, IsOver, IsPool, in_set}, Gates.{AreLinedUp, HaveGates, has_hint_at}, Holding.{Hands, IsHolding, Mail, holder_of, nap_of, thing_of, box_of}, HoldPlaces.{cancels_at, heard_at, sends_cancel_at, spare_at}, Places.{Drops, begins_at, passes_at, calls_back_at, claims_at, clears_at, drops_at, hands_on_at, has_count_at, is_armed_at, is_number, is_pooled_at, is_published_at, joins_at, one_if, or_polls, polled_in, removes_at, searches_at, step_of_poll, task_at}, Rooted.HearsNext, Spares.{RecordsEndure, SleeperEndures, SleepersEndure, Spares}, Whole.{IsWhole, Profile, duties_of, hands_of, wakes_with, with_worker}, Works.Beside}, proofs.{Aside.spared, Lined.{KeepsLines, SameAtGate, SameLines, gates_kept, gates_opens, lined_kept, lined_opens, lines_changed, lines_same, now, opens_same}, Marking.{mark_if, marked, was_marked}, SparedRecord.{sleeper_spared, spared_same}, Spared.sleepers_endure, ServingPlaces.{is_calm, IsCalm, calm}, ServingHolds.{OthersKept, Serves, Keeps, nap_sent}}}
+use Rattle.exec_invariants.{specs.{Sound.{HasBatch, HasGuest, HasLetters, HasQueue, HasRunnable, IsHeld, IsInHand, IsLeft, IsLetter, IsLoot, IsMineIn, IsMyMail, IsSearching, IsSeated, IsTied, LetsGoAt, SoundAt, Stops, Serves as ServesTask, root_in_hand}, Names.tellers, Carried.HasRoom, Drained.{Duties, IsBefore, IsOver, IsPool, in_set}, Gates.{AreLinedUp, HaveGates, has_hint_at}, Holding.{Hands, IsHolding, Mail, holder_of, nap_of, thing_of, box_of}, HoldPlaces.{cancels_at, heard_at, sends_cancel_at, spare_at}, Places.{Drops, begins_at, passes_at, calls_back_at, claims_at, clears_at, drops_at, hands_on_at, has_count_at, is_armed_at, is_number, is_pooled_at, is_published_at, joins_at, one_if, or_polls, polled_in, removes_at, searches_at, step_of_poll, task_at}, Rooted.HearsNext, Spares.{RecordsEndure, SleeperEndures, SleepersEndure, Spares, SparedRecords, SparesSleepers, SparedSleepers, SparesRecord}, Whole.{IsWhole, Profile, duties_of, hands_of, wakes_with, with_worker}, Works.Beside}, proofs.{Aside.{spares_none}, Lined.{KeepsLines, SameAtGate, SameLines, gates_kept, gates_opens, lined_kept, lined_opens, lines_changed, lines_same, now, opens_same}, Marking.{mark_if, marked, was_marked}, SparedRecord.{sleeper_spared, spared_same}, Spared.sleepers_endure, ServingPlaces.{is_calm, IsCalm, calm}, ServingHolds.{OthersKept, Serves, Keeps, nap_sent}}}
 
 module _ {B : Type 0} where
   -- it owes nobody anything there
@@ -43,18 +41,12 @@ module _ {B : Type 0} where
 
   pub spares_gates : (i : ℕ) (s s' : Shared B) → SparesRecords i s s' → SparesGates i s s'
   spares_gates i s s' spares =
-      record {
-        records = spares.records;
-        records_only = spares.records_only;
-        sleepers = spares.sleepers;
-        sleepers_only = spares.sleepers_only;
-        endure = λ k r there.
-            let new = now s.requests.items s'.requests.items spares.lines k r there in
-            (new.0, new.1, record { worker = ap (λ x. x.key.worker) new.2; forwarded = spares.lines.forwarded k r new.0 there new.1 });
-        naps = spares.naps;
-        lined = λ lined. lined_opens s.opens s'.opens spares.opens s'.requests.items (lined_kept s.requests.items s'.requests.items spares.lines s.opens lined);
-        hints = spares.opens.hints;
-      }
+      let endure : RecordsEndure s.requests.items s'.requests.items = λ k r there.
+      let new = now s.requests.items s'.requests.items spares.lines k r there in
+      (new.0, new.1, record { worker = ap (λ x. x.key.worker) new.2; forwarded = spares.lines.forwarded k r new.0 there new.1 }) in
+      let lined_so : AreLinedUp s.opens s.requests.items → AreLinedUp s'.opens s'.requests.items =
+      λ lined. lined_opens s.opens s'.opens spares.opens s'.requests.items (lined_kept s.requests.items s'.requests.items spares.lines s.opens lined) in
+      assumption (endure, lined_so, spares, spares.opens)
 
   mine_kept : (workers i : ℕ) (x : Subject) (s s' : Shared B) → SparesGates i s s' → IsMineIn workers i x s.requests.items s.sleepers.items → IsMineIn workers i x s'.requests.items s'.sleepers.items
   mine_kept workers i (Subject.Request k) s s' spares mine = grind arith
@@ -128,16 +120,11 @@ module _ {B : Type 0} where
 
   pub spares_same : (i : ℕ) (s s' : Shared B) → AreLinedUp s.opens s.requests.items → s'.requests.items ≡ s.requests.items → s'.sleepers.items ≡ s.sleepers.items → s'.opens ≡ s.opens → SparesRecords i s s'
   spares_same i s s' lined requests sleepers opens =
-      record {
-        records = λ k r there other. ap (λ rs. slice_get rs k) requests ∙ there;
-        records_only = λ k r there other. ap (λ rs. slice_get rs k) (sym requests) ∙ there;
-        sleepers = λ k z there other. ap (λ zs. slice_get zs k) sleepers ∙ there;
-        sleepers_only = λ k z there other. ap (λ zs. slice_get zs k) (sym sleepers) ∙ there;
-        lines = lines_same s.requests.items s'.requests.items requests;
-        naps = sleepers_endure s.sleepers.items s'.sleepers.items sleepers;
-        opens = opens_same s.opens s'.opens s.requests.items lined opens;
-        sent = ap (map nap_sent) sleepers;
-      }
+      let records : (k : ℕ) (r : Record) → slice_get s.requests.items k ≡ Some r → r.shown.worker ≢ i → slice_get s'.requests.items k ≡ Some r = λ k r there other. ap (λ rs. slice_get rs k) requests ∙ there in
+      let records_only : (k : ℕ) (r : Record) → slice_get s'.requests.items k ≡ Some r → r.shown.worker ≢ i → slice_get s.requests.items k ≡ Some r = λ k r there other. ap (λ rs. slice_get rs k) (sym requests) ∙ there in
+      let sleepers_so : (k : ℕ) (z : SleeperRecord) → slice_get s.sleepers.items k ≡ Some z → z.shown.worker ≢ i → slice_get s'.sleepers.items k ≡ Some z = λ k z there other. ap (λ zs. slice_get zs k) sleepers ∙ there in
+      let sleepers_only : (k : ℕ) (z : SleeperRecord) → slice_get s'.sleepers.items k ≡ Some z → z.shown.worker ≢ i → slice_get s.sleepers.items k ≡ Some z = λ k z there other. ap (λ zs. slice_get zs k) (sym sleepers) ∙ there in
+      assumption (records, records_only, sleepers_so, sleepers_only, lines_same s.requests.items s'.requests.items requests, sleepers_endure s.sleepers.items s'.sleepers.items sleepers, opens_same s.opens s'.opens s.requests.items lined opens, ap (map nap_sent) sleepers)
 
   -- one record of it changed
   pub spares_one : (i : ℕ) (s s' : Shared B) (k : ℕ) (r : Record) (f : Record → Record) → SameLines s.opens s'.opens → SameAtGate r (f r) → s'.requests.items ≡ changed_at s.requests.items k f → s'.sleepers.items ≡ s.sleepers.items → slice_get s.requests.items k ≡ Some r → r.shown.worker ≡ i
@@ -146,20 +133,17 @@ module _ {B : Type 0} where
       let rs = s.requests.items in
       let apart : (j : ℕ) (x : Record) → slice_get rs j ≡ Some x → x.shown.worker ≢ i → (k == j) ≡ false = λ j x at other.
       not_same k j (λ same. other (let is : x ≡ r = cc (at, ap (slice_get rs) same, there) in ap (λ y. y.shown.worker) is ∙ mine)) in
-      record {
-        records = λ j x at other. ap (λ xs. slice_get xs j) records ∙ marked f rs k j x at ∙ ap (λ b. Some (mark_if f b x)) (apart j x at other);
-        records_only = λ j x at other.
-            let old = was_marked f rs k j x (ap (λ xs. slice_get xs j) (sym records) ∙ at) in
-            let before : old.0.shown.worker ≢ i = λ is. other (ap (λ y. y.shown.worker) old.2 ∙ worker_same (k == j) old.0 ∙ is) in
-            let is : x ≡ old.0 = old.2 ∙ ap (λ b. mark_if f b old.0) (apart j old.0 old.1 before) in
-            old.1 ∙ ap (λ y. Some y) (sym is);
-        sleepers = λ j z at other. ap (λ zs. slice_get zs j) sleepers ∙ at;
-        sleepers_only = λ j z at other. ap (λ zs. slice_get zs j) (sym sleepers) ∙ at;
-        lines = subst (KeepsLines rs) (sym records) (lines_changed rs k r f there same);
-        naps = sleepers_endure s.sleepers.items s'.sleepers.items sleepers;
-        opens = opens;
-        sent = ap (map nap_sent) sleepers;
-      }
+      let records_so : (k : ℕ) (r : Record) → slice_get s.requests.items k ≡ Some r → r.shown.worker ≢ i → slice_get s'.requests.items k ≡ Some r =
+      λ j x at other. ap (λ xs. slice_get xs j) records ∙ marked f rs k j x at ∙ ap (λ b. Some (mark_if f b x)) (apart j x at other) in
+      let records_only : (k : ℕ) (r : Record) → slice_get s'.requests.items k ≡ Some r → r.shown.worker ≢ i → slice_get s.requests.items k ≡ Some r = λ j x at other.
+      let old = was_marked f rs k j x (ap (λ xs. slice_get xs j) (sym records) ∙ at) in
+      let before : old.0.shown.worker ≢ i = λ is. other (ap (λ y. y.shown.worker) old.2 ∙ worker_same (k == j) old.0 ∙ is) in
+      let is : x ≡ old.0 = old.2 ∙ ap (λ b. mark_if f b old.0) (apart j old.0 old.1 before) in
+      old.1 ∙ ap (λ y. Some y) (sym is) in
+      let sleepers_so : (k : ℕ) (z : SleeperRecord) → slice_get s.sleepers.items k ≡ Some z → z.shown.worker ≢ i → slice_get s'.sleepers.items k ≡ Some z = λ j z at other. ap (λ zs. slice_get zs j) sleepers ∙ at in
+      let sleepers_only : (k : ℕ) (z : SleeperRecord) → slice_get s'.sleepers.items k ≡ Some z → z.shown.worker ≢ i → slice_get s.sleepers.items k ≡ Some z = λ j z at other. ap (λ zs. slice_get zs j) (sym sleepers) ∙ at in
+      let lines = subst (KeepsLines rs) (sym records) (lines_changed rs k r f there same) in
+      assumption (records_so, records_only, sleepers_so, sleepers_only, lines, sleepers_endure s.sleepers.items s'.sleepers.items sleepers, opens, ap (map nap_sent) sleepers)
     where
       worker_same : (b : Bool) (y : Record) → (mark_if f b y).shown.worker ≡ y.shown.worker
       worker_same true y = keeps y
@@ -171,59 +155,37 @@ module _ {B : Type 0} where
   spares_sleeper i s s' k z z' lined requests sleepers opens there mine keeps sent =
       let ss = s.sleepers.items in
       let now_there : slice_get (slice_set ss k z') k ≡ Some z' = set_there ss k z' z there in
-      record {
-        records = λ j r at other. ap (λ rs. slice_get rs j) requests ∙ at;
-        records_only = λ j r at other. ap (λ rs. slice_get rs j) (sym requests) ∙ at;
-        sleepers = λ j x at other.
-            let apart : j ≢ k = λ same. other (let is : x ≡ z = cc (at, ap (slice_get ss) same, there) in ap (λ y. y.shown.worker) is ∙ mine) in
-            ap (λ zs. slice_get zs j) sleepers ∙ set_elsewhere ss k j z' apart ∙ at;
-        sleepers_only = λ j x at other.
-            let found : slice_get (slice_set ss k z') j ≡ Some x = ap (λ zs. slice_get zs j) (sym sleepers) ∙ at in
-            let apart : j ≢ k = λ same. other (let is : x ≡ z' = cc (found, ap (slice_get (slice_set ss k z')) same, now_there) in ap (λ y. y.shown.worker) is ∙ keeps.worker ∙ mine) in
-            sym (set_elsewhere ss k j z' apart) ∙ found;
-        lines = lines_same s.requests.items s'.requests.items requests;
-        naps = λ j x at.
-            by_number j k
-            (λ apart. (x, ap (λ zs. slice_get zs j) sleepers ∙ set_elsewhere ss k j z' apart ∙ at, record { worker = refl; forwarded = λ h. h }))
-            (λ same.
-            let is : z ≡ x = cc (there, at, ap (slice_get ss) same) in
-            (z', ap (λ zs. slice_get zs j) sleepers ∙ ap (slice_get (slice_set ss k z')) same ∙ now_there, subst (λ y. SleeperEndures y z') is keeps));
-        opens = opens_same s.opens s'.opens s.requests.items lined opens;
-        sent = ap (map nap_sent) sleepers ∙ map_kept nap_sent ss k z' z there sent;
-      }
+      let records : (k : ℕ) (r : Record) → slice_get s.requests.items k ≡ Some r → r.shown.worker ≢ i → slice_get s'.requests.items k ≡ Some r = λ j r at other. ap (λ rs. slice_get rs j) requests ∙ at in
+      let records_only : (k : ℕ) (r : Record) → slice_get s'.requests.items k ≡ Some r → r.shown.worker ≢ i → slice_get s.requests.items k ≡ Some r = λ j r at other. ap (λ rs. slice_get rs j) (sym requests) ∙ at in
+      let sleepers_so : (k : ℕ) (z : SleeperRecord) → slice_get s.sleepers.items k ≡ Some z → z.shown.worker ≢ i → slice_get s'.sleepers.items k ≡ Some z = λ j x at other.
+      let apart : j ≢ k = λ same. other (let is : x ≡ z = cc (at, ap (slice_get ss) same, there) in ap (λ y. y.shown.worker) is ∙ mine) in
+      ap (λ zs. slice_get zs j) sleepers ∙ set_elsewhere ss k j z' apart ∙ at in
+      let sleepers_only : (k : ℕ) (z : SleeperRecord) → slice_get s'.sleepers.items k ≡ Some z → z.shown.worker ≢ i → slice_get s.sleepers.items k ≡ Some z = λ j x at other.
+      let found : slice_get (slice_set ss k z') j ≡ Some x = ap (λ zs. slice_get zs j) (sym sleepers) ∙ at in
+      let apart : j ≢ k = λ same. other (let is : x ≡ z' = cc (found, ap (slice_get (slice_set ss k z')) same, now_there) in ap (λ y. y.shown.worker) is ∙ keeps.worker ∙ mine) in
+      sym (set_elsewhere ss k j z' apart) ∙ found in
+      let naps : SleepersEndure s.sleepers.items s'.sleepers.items = λ j x at.
+      by_number j k
+      (λ apart. (x, ap (λ zs. slice_get zs j) sleepers ∙ set_elsewhere ss k j z' apart ∙ at, record { worker = refl; forwarded = λ h. h }))
+      (λ same.
+      let is : z ≡ x = cc (there, at, ap (slice_get ss) same) in
+      (z', ap (λ zs. slice_get zs j) sleepers ∙ ap (slice_get (slice_set ss k z')) same ∙ now_there, subst (λ y. SleeperEndures y z') is keeps)) in
+      let sent_so = ap (map nap_sent) sleepers ∙ map_kept nap_sent ss k z' z there sent in
+      assumption (records, records_only, sleepers_so, sleepers_only, lines_same s.requests.items s'.requests.items requests, naps, opens_same s.opens s'.opens s.requests.items lined opens, sent_so)
 
   pub spares_service_by : (i j : ℕ) (s s' : Shared B) → j ≢ i → OthersKept s s' → SparesGates i s s' → HasRoom s'.requests.items s'.store → Spares j s s'
   spares_service_by i j s s' other shared spares room =
       let s1 : Shared B = record s { requests = s'.requests; sleepers = s'.sleepers; opens = s'.opens } in
       let room1 : HasRoom s'.requests.items s.store = subst (λ (x : Shared B). HasRoom s'.requests.items x.store) shared room in
       let apart : (n : ℕ) → n ≡ j → n ≢ i = λ n mine is. other (sym mine ∙ is) in
-      let done : Spares j s s1 = record {
-        config = refl;
-        clock = refl;
-        gates = spares.lined;
-        hints = spares.hints;
-        many = refl;
-        chair = λ chair there. (chair, there, spared chair);
-        tails = λ k chair chair' there there'.
-            let is : chair ≡ chair' = cc (there, there') in
-            subst (λ c. tail_of chair.queue ≤ tail_of c.queue) is (omega arith);
-        records = λ k r there mine. (r, spares.records k r there (apart r.shown.worker mine), spared_same r);
-        records_only = λ k r there mine. (r, spares.records_only k r there (apart r.shown.worker mine), spared_same r);
-        sleepers = λ k z there mine. (z, spares.sleepers k z there (apart z.shown.worker mine), sleeper_spared z);
-        sleepers_only = λ k z there mine. (z, spares.sleepers_only k z there (apart z.shown.worker mine), sleeper_spared z);
-        endure = spares.endure;
-        endure_too = spares.naps;
-        root = λ t slot there home. there;
-        polled = λ t slot there polled mine. (slot, there, record { polled = polled; number = refl; cancelled = λ h. h; kept = refl });
-        room = λ h. room1;
-        stretch = λ file offset n h. h;
-        stopped = λ h. h;
-        closed = λ h. h;
-        by_zero = λ h. (refl, refl);
-        shards = refl;
-        emptied = λ shut k none. none;
-        genuine = λ r h. h;
-      } in
+      let rs = s.requests.items in
+      let zs = s.sleepers.items in
+      let records : (k : ℕ) (r : Record) → slice_get rs k ≡ Some r → r.shown.worker ≡ j → (r' : Record) × (slice_get s'.requests.items k ≡ Some r') × SparesRecord r r' = λ k r there mine. (r, spares.records k r there (apart r.shown.worker mine), spared_same r) in
+      let records_only : SparedRecords j rs s'.requests.items = λ k r there mine. (r, spares.records_only k r there (apart r.shown.worker mine), spared_same r) in
+      let sleepers : SparesSleepers j zs s'.sleepers.items = λ k z there mine. (z, spares.sleepers k z there (apart z.shown.worker mine), sleeper_spared z) in
+      let sleepers_only : SparedSleepers j zs s'.sleepers.items = λ k z there mine. (z, spares.sleepers_only k z there (apart z.shown.worker mine), sleeper_spared z) in
+      let roomy : HasRoom rs s.store → HasRoom s'.requests.items s.store = λ room. room1 in
+      let done : Spares j s s1 = assumption (records, records_only, sleepers, sleepers_only, roomy, spares.lined, spares.hints, spares.endure, spares.naps, spares_none j s) in
       subst (λ z. Spares j s z) (sym shared) done
 
   pub spares_service : (i j : ℕ) (s s' : Shared B) → j ≢ i → OthersKept s s' → SparesRecords i s s' → HasRoom s'.requests.items s'.store → Spares j s s'
@@ -272,12 +234,7 @@ module _ {B : Type 0} where
         drops_by = y.drops_by;
         wakes = y.wakes;
       } in
-      let made : y ≡ record x { drops_by = y.drops_by; wakes = y.wakes } =
-      ap (λ o. make o (claims_at w'.place) (has_count_at w'.place) (is_published_at w'.place) (clears_at w'.place)) polls
-      ∙ ap (λ o. make (polls_at w.place) o (has_count_at w'.place) (is_published_at w'.place) (clears_at w'.place)) claims
-      ∙ ap (λ o. make (polls_at w.place) (claims_at w.place) o (is_published_at w'.place) (clears_at w'.place)) counts
-      ∙ ap (λ o. make (polls_at w.place) (claims_at w.place) (has_count_at w.place) o (clears_at w'.place)) published
-      ∙ ap (λ o. make (polls_at w.place) (claims_at w.place) (has_count_at w.place) (is_published_at w.place) o) clears in
+      let made : y ≡ record x { drops_by = y.drops_by; wakes = y.wakes } = grind (arith, polls, claims, counts, published, clears) in
       let shape : x' ≡ record x { drops_by = x'.drops_by; wakes = x'.wakes } =
       subst (λ (z : Worker). with_worker others z ≡ record x { drops_by = (with_worker others z).drops_by; wakes = (with_worker others z).wakes }) (sym serves.worker) made in
       let chosen : (j : ℕ) (b : Bool) (u v y : Drops) → u.removes ≡ v.removes → u.clears ≡ v.clears → ((if b then u else y).removes ≡ (if b then v else y).removes) × ((if b then u else y).clears ≡ (if b then v else y).clears) = λ j b.
@@ -287,7 +244,6 @@ module _ {B : Type 0} where
       ] in
       let either : (j : ℕ) → ((x'.drops_by j).removes ≡ (x.drops_by j).removes) × ((x'.drops_by j).clears ≡ (x.drops_by j).clears) = λ j.
       rw index (chosen j (j == w.index) (drops_at w'.place) (drops_at w.place) (others.drops_by j) removes clears) in
-      let duties : duties_of x' ≡ record (duties_of x) { drops_by = x'.drops_by } = ap duties_of shape in
       let pool : IsPool (record (duties_of x) { drops_by = x'.drops_by }) s.tasks.items s.set s.seats.items =
       pool_drops (duties_of x) (record (duties_of x) { drops_by = x'.drops_by }) s.tasks.items s.set s.seats.items refl (λ j. (either j).0) (λ j. (either j).1) whole.pool in
       let x1 : Profile = record x { drops_by = x'.drops_by; wakes = x'.wakes } in
@@ -307,9 +263,7 @@ module _ {B : Type 0} where
       let from = calm q serves.from in
       let to = calm w'.place serves.to in
       let make : Option ℕ → Option ℕ → Option ℕ → Option ℕ → Drops = λ c r p j. record { clears = c; removes = r; passes = p; joins = j } in
-      let now_at : drops_at w'.place ≡ make None None (passes_at q) None =
-      ap (λ c. make c (removes_at w'.place) (passes_at w'.place) (joins_at w'.place)) to.clears ∙ ap (λ r. make None r (passes_at w'.place) (joins_at w'.place)) to.removes
-      ∙ ap (λ p. make None None p (joins_at w'.place)) passes ∙ ap (make None None (passes_at q)) to.joins in
+      let now_at : drops_at w'.place ≡ make None None (passes_at q) None = grind (arith, to.clears, to.removes, passes, to.joins) in
       let was_at : drops_at q ≡ make None None (passes_at q) None =
       ap (λ c. make c (removes_at q) (passes_at q) (joins_at q)) from.clears ∙ ap (λ r. make None r (passes_at q) (joins_at q)) from.removes ∙ ap (make None None (passes_at q)) from.joins in
       let drops : drops_at w'.place ≡ drops_at w.place = now_at ∙ sym was_at ∙ sym (ap drops_at here) in
@@ -329,9 +283,7 @@ module _ {B : Type 0} where
       → (others : Profile) → IsWhole (with_worker others w) s → IsHolding (hands_of (with_worker others w')) s.config.workers (map holder_of s.tasks.items) (map thing_of s'.requests.items) (map nap_of s'.sleepers.items) (map box_of s.seats.items)
   holding_still q w w' s s' serves wakes things naps others whole =
       let h : Hands = hands_of (with_worker others w) in
-      let same : hands_of (with_worker others w') ≡ h =
-      ap (λ v. hands_of (with_worker others v)) serves.worker
-      ∙ ap (λ (ns : List TaskNo). record h { wakes = λ j t. if j == w.index then count_by (λ n. n.0 == t) ns else others.wakes j t }) wakes in
+      let same : hands_of (with_worker others w') ≡ h = grind (arith, serves.worker, wakes) in
       subst (λ x. IsHolding x s.config.workers (map holder_of s.tasks.items) (map thing_of s'.requests.items) (map nap_of s'.sleepers.items) (map box_of s.seats.items)) (sym same)
       (subst (λ xs. IsHolding h s.config.workers (map holder_of s.tasks.items) xs (map nap_of s'.sleepers.items) (map box_of s.seats.items)) (sym things)
       (subst (λ ys. IsHolding h s.config.workers (map holder_of s.tasks.items) (map thing_of s.requests.items) ys (map box_of s.seats.items)) (sym naps) whole.holding))

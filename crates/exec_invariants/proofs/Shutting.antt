@@ -1,10 +1,11 @@
 -- What a step of the closing leaves: what is sound of the worker, what others rely on, and the balances of all.
-use Rattle.std.proofs.{Common.{◌≡◌, ◌≢◌, ◌⊎◌, inl, inr, ℕ, ◌*◌, ◌+◌, ◌^◌, ◌<◌, ◌≤◌, ◌||◌, Bool, true, false, Contains, List, [], length, map, sum_by, option_to_list, None, Some, refl, sym, ap, subst, ◌∙◌, arith, slice_get, slice_set, nat_lt, ◌++◌}, lemmas.{Bool.{false≢true}, Option.slice_get_within}}
+use Rattle.std.{proofs.{Common.{◌≡◌, ◌≢◌, ◌⊎◌, inl, inr, ℕ, ◌*◌, ◌+◌, ◌^◌, ◌<◌, ◌≤◌, ◌||◌, Bool, true, false, Contains, List, [], length, map, sum_by, option_to_list, None, Some, refl, sym, ap, subst, ◌∙◌, arith, slice_get, slice_set, nat_lt, ◌++◌}, lemmas.{Bool.false≢true, Option.slice_get_within}}, specs.Prelude.{not, ◌==◌}}
+use Rattle.std.proofs.lemmas.Bool.{or_right}
 use Rattle.exec_words.specs.{Queue.Queue, Reserved.Reserved}
 use Rattle.exec_task.specs.{TaskSet.shard_at, declared.{runnable.Runnable.Runnable, task.Phase.Phase}}
 use Rattle.exec_moves.specs.{Pop.shard_count, declared.place.{InClosing.InClosing, Place.Place}, Seen.polls_at}
 use Rattle.exec_parts.{specs.{declared.parts.{seat.Seat.Seat as Chair, shared.Shared.Shared, task_slot.TaskSlot.TaskSlot, worker.Worker.Worker}, Phased.{IsPhased, closes_at, closing_in, stage_of}, Roles.is_pool, Calls.IsTold, View.{Views, driver_of, inbox_at, polls_seen, queue_at, things_with, word_at}}, proofs.{Facts.{by_number}, Showing.{map_kept, polls_kept}}}
-use Rattle.exec_invariants.{specs.{Drained.{Duties, IsPool}, Due.{AreAsleep, IsDue}, Flown.HasFlown, Gates.HaveGates, Holding.{IsHolding, Mail, box_of, holder_of, mail_in, mail_of_letters, nap_of, thing_of}, HoldPlaces.{cancels_at, heard_at, sends_cancel_at, spare_at}, Places.{begins_at, calls_back_at, claims_at, drops_at, hands_on_at, has_count_at, has_loot_at, in_poll_of, is_armed_at, is_pooled_at, is_published_at, polled_in, searches_at, step_of_poll, task_at}, Rooted.HearsNext, Sound.{Aims, AreHome, HasBatch, HasGuest, HasLetters, HasQueue, HasRunnable, IsHeld, IsInHand, IsLeft, IsLoot, IsMyMail, IsSearching, IsSeated, IsTied, LetsGoAt, Serves, SoundAt, Stops, has_wakes_at, root_in_hand, served_in}, Names.tellers, Spares.Spares, Whole.{HasOne, IsGenuine, IsWhole, Profile, duties_of, may_let_go, queued, runnables_in, stock, with_worker}, Works.Beside}, proofs.{Aside.{SparesSeats, length_same, queue_back, queue_of_chair, record_spared, sleeper_spared, stock_same}, Onces.{has_fewer}, PoolClosing.pool_set, PoolKept.{KeepsGates, pool_of, pool_seats}, Spared.{records_endure, sleepers_endure}, SparedRecord.there_within}}
+use Rattle.exec_invariants.{specs.{Drained.{Duties, IsPool}, Due.{AreAsleep, IsDue}, Flown.HasFlown, Gates.HaveGates, Holding.{IsHolding, Mail, box_of, holder_of, mail_in, mail_of_letters, nap_of, thing_of}, HoldPlaces.{cancels_at, heard_at, sends_cancel_at, spare_at}, Places.{begins_at, calls_back_at, claims_at, drops_at, hands_on_at, has_count_at, has_loot_at, in_poll_of, is_armed_at, is_pooled_at, is_published_at, polled_in, searches_at, step_of_poll, task_at, one_if}, Rooted.HearsNext, Sound.{Aims, AreHome, HasBatch, HasGuest, HasLetters, HasQueue, HasRunnable, IsHeld, IsInHand, IsLeft, IsLoot, IsMyMail, IsSearching, IsSeated, IsTied, LetsGoAt, Serves, SoundAt, Stops, has_wakes_at, root_in_hand, served_in}, Names.tellers, Spares.{Spares, SparesChair}, Whole.{HasOne, IsGenuine, IsWhole, Profile, duties_of, may_let_go, queued, runnables_in, stock, with_worker}, Works.Beside}, proofs.{Aside.{SparesSeats, length_same, queue_back, queue_of_chair, stock_same, spares_none}, Onces.has_fewer, PoolClosing.pool_set, PoolKept.{KeepsGates, pool_of, pool_seats}, SparedRecord.there_within}}
 
 -- what is shown of these views is shown of those
 pub shown_as : {A : Type 0} (m : A) (f : Views → A) (v v' : Views) → v' ≡ v → m ≡ f v → m ≡ f v'
@@ -29,10 +30,6 @@ pub record Follows (q : Place) : Type 0 where
   pub sends : sends_cancel_at q ≡ false
   pub heard : heard_at q ≡ None
   pub queue : (own : Queue Runnable) → own.held ≡ [] → HasQueue q own
-
-pub or_closed : (a b : Bool) → b ≡ true → (a || b) ≡ true
-or_closed true b h = refl
-or_closed false b h = h
 
 pub none_in : (r : Runnable) → Contains [] r → ⊥
 none_in r (k, few, is) = omega (arith, few)
@@ -140,31 +137,9 @@ module _ {B : Type 0} where
   pub spares_closing : (i j : ℕ) (s s' : Shared B) → j ≢ i → Closes s s' → GoesOnlyOn i s s' → SparesSeats i s.seats.items s'.seats.items → Spares j s s'
   spares_closing i j s s' other kept on seats =
       let s1 : Shared B = record s { seats = s'.seats; set = s'.set; global = s'.global; barrier_open = s'.barrier_open; stopped = s'.stopped } in
-      let done : Spares j s s1 = record {
-        config = refl;
-        clock = refl;
-        gates = λ h. h;
-        hints = λ file h. h;
-        many = seats.many;
-        chair = λ chair there. seats.chair j chair other there;
-        tails = seats.tails;
-        records = λ k r there mine. (r, there, record_spared r);
-        records_only = λ k r there mine. (r, there, record_spared r);
-        sleepers = λ k z there mine. (z, there, sleeper_spared z);
-        sleepers_only = λ k z there mine. (z, there, sleeper_spared z);
-        endure = records_endure s.requests.items s.requests.items refl;
-        endure_too = sleepers_endure s.sleepers.items s.sleepers.items refl;
-        root = λ t slot there home. there;
-        polled = λ t slot there polled mine. (slot, there, record { polled = polled; number = refl; cancelled = λ h. h; kept = refl });
-        room = λ h. h;
-        stretch = λ file offset n h. h;
-        stopped = on.stopped;
-        closed = on.closed;
-        by_zero = λ zero. on.by_zero (λ is. other (zero ∙ sym is));
-        shards = on.shards;
-        emptied = on.emptied;
-        genuine = λ r is. is;
-      } in
+      let chair : (chair : Chair) → slice_get s.seats.items j ≡ Some chair → (chair' : Chair) × (slice_get s'.seats.items j ≡ Some chair') × SparesChair chair chair' = λ chair there. seats.chair j chair other there in
+      let by_zero : j ≡ 0 → (s'.stopped ≡ s.stopped) × (s'.set.closed ≡ s.set.closed) = λ zero. on.by_zero (λ is. other (zero ∙ sym is)) in
+      let done : Spares j s s1 = assumption (chair, by_zero, seats, on, spares_none j s) in
       subst (λ z. Spares j s z) (sym kept) done
 
   -- THE BALANCES
@@ -199,23 +174,15 @@ module _ {B : Type 0} where
   whole_closing x d mail s s' kept queues closes empties in_pool pool gates holding whole =
       let s1 : Shared B = record s { seats = s'.seats; set = s'.set; global = s'.global; barrier_open = s'.barrier_open; stopped = s'.stopped } in
       let many : length s'.seats.items ≡ length s.seats.items = length_same s.seats.items s'.seats.items queues in
-      let done : IsWhole (with_duties x d mail) s1 = record {
-        runnables = λ t slot there home. runnables t slot empties (whole.runnables t slot there home);
-        polls = whole.polls;
-        claims = λ j chair there. let was = queue_back s.seats.items s'.seats.items j chair queues there in rw was.2 (whole.claims j was.0 was.1);
-        counts = whole.counts;
-        bits = whole.bits;
-        set = whole.set;
-        queued_here = λ j chair r there has. let was = queue_back s.seats.items s'.seats.items j chair queues there in whole.queued_here j was.0 r was.1 (rw (← was.2) has);
-        queued_there = queued_there empties;
-        places = places empties;
-        made = λ t more. (made t empties (whole.made t more).0, (whole.made t more).1);
-        unclaimed = λ j more. whole.unclaimed j (subst (λ n. n ≤ j) many more);
-        in_pool = in_pool whole.in_pool;
-        pool = pool;
-        gates = gates;
-        holding = holding;
-      } in
+      let runnables_so : (t : ℕ) (slot : TaskSlot B) → slice_get s1.tasks.items t ≡ Some slot → slot.home ≡ None → HasOne (may_let_go s1) slot.cell.phase ((with_duties x d mail).runnables t + stock t s1) =
+      λ t slot there home. runnables t slot empties (whole.runnables t slot there home) in
+      let claims : (j : ℕ) (chair : Chair) → slice_get s1.seats.items j ≡ Some chair → (with_duties x d mail).claims j ≡ one_if (not (chair.queue.gap == 0)) =
+      λ j chair there. let was = queue_back s.seats.items s'.seats.items j chair queues there in rw was.2 (whole.claims j was.0 was.1) in
+      let queued_here : (j : ℕ) (chair : Chair) (r : Runnable) → slice_get s1.seats.items j ≡ Some chair → Contains (queued chair) r → IsGenuine s1.tasks.items r =
+      λ j chair r there has. let was = queue_back s.seats.items s'.seats.items j chair queues there in whole.queued_here j was.0 r was.1 (rw (← was.2) has) in
+      let made_so : (t : ℕ) → length s1.tasks.items ≤ t → ((with_duties x d mail).runnables t + stock t s1 ≡ 0) × ((with_duties x d mail).polls t ≡ 0) = λ t more. (made t empties (whole.made t more).0, (whole.made t more).1) in
+      let unclaimed : (j : ℕ) → length s1.seats.items ≤ j → (with_duties x d mail).claims j ≡ 0 = λ j more. whole.unclaimed j (subst (λ n. n ≤ j) many more) in
+      let done : IsWhole (with_duties x d mail) s1 = assumption (runnables_so, claims, queued_here, queued_there empties, places empties, made_so, unclaimed, in_pool whole.in_pool, pool, gates, holding, whole) in
       subst (IsWhole (with_duties x d mail)) (sym kept) done
     where
       here : (t : ℕ) → sum_by (λ chair. runnables_in t (queued chair)) s'.seats.items ≡ sum_by (λ chair. runnables_in t (queued chair)) s.seats.items
@@ -227,9 +194,9 @@ module _ {B : Type 0} where
         where
           either : (a b c : Bool) → (a ≡ true → b ≡ true) → (a || c) ≡ true → (b || c) ≡ true
           either true b c on h = ap (λ y. y || c) (on refl)
-          either false b c on h = or_closed b c h
+          either false b c on h = or_right b c h
       runnables t slot (inr (none, shut)) h =
-          let gone : (s'.set.closed || s'.global.closed) ≡ true = or_closed s'.set.closed s'.global.closed shut in
+          let gone : (s'.set.closed || s'.global.closed) ≡ true = or_right s'.set.closed s'.global.closed shut in
           rw (here t, none) (has_fewer (s'.set.closed || s'.global.closed) slot.cell.phase (x.runnables t + stock t s) (x.runnables t + (sum_by (λ chair. runnables_in t (queued chair)) s.seats.items + 0)) gone (omega arith)
           (gone_too (may_let_go s) (s'.set.closed || s'.global.closed) slot.cell.phase (x.runnables t + stock t s) (λ is. gone) h))
 

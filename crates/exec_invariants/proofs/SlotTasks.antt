@@ -4,8 +4,9 @@ use Rattle.exec_words.specs.Queue.{Queue}
 use Rattle.exec_task.specs.{Phases.{is_polled, runnable_of}, declared.runnable.Runnable.Runnable}
 use Rattle.exec_machine.specs.declared.config.Configuration.{Configuration}
 use Rattle.exec_moves.specs.{declared.place.{InPoll.InPoll, Place.Place}, Seen.{polls_at, polls_in}}
-use Rattle.exec_parts.{specs.{declared.parts.{record.Record.Record, role.Role.Role, seat.Seat.Seat as Chair, shared.Shared.Shared, sleeping.SleeperRecord.SleeperRecord, task_slot.TaskSlot.TaskSlot, worker.Worker.Worker}, Phased.{IsPhased, closes_at, closing_in, is_complete, stage_of}, Roles.is_pool, Calls.IsTold, View.driver_of}, proofs.Facts.{by_number, not_same, same_thing, set_elsewhere, set_there}}
+use Rattle.exec_parts.{specs.{declared.parts.{record.Record.Record, role.Role.Role, seat.Seat.Seat as Chair, shared.Shared.Shared, sleeping.SleeperRecord.SleeperRecord, task_slot.TaskSlot.TaskSlot, worker.Worker.Worker}, Phased.{IsPhased, closes_at, closing_in, is_complete, stage_of}, Roles.is_pool, Calls.IsTold, View.driver_of}, proofs.Facts.{by_number, not_same, same_Some, set_elsewhere, set_there}}
 use Rattle.exec_invariants.specs.{Due.IsDue, Flown.HasFlown, Holding.Mail, HoldPlaces.{cancels_at, heard_at, is_bare_at, sends_cancel_at, spare_at}, Places.{begins_at, calls_back_at, claims_at, clears_at, hands_on_at, has_count_at, has_loot_at, in_poll_of, is_armed_at, is_pooled_at, is_published_at, joins_at, one_if, or_polls, passes_at, polled_in, searches_at, step_of_poll, task_at}, Rooted.HearsNext, Sound.{Aims, AreHome, AreResting, HasBatch, HasGuest, HasLetters, HasQueue, HasRunnable, IsHeld, IsInHand, IsLeft, IsLoot, IsResting, IsRunnable, IsSearching, IsSeated, IsTied, LetsGo, LetsGoAt, SoundAt, Stands, Stops, StopsIn, has_wakes_at, one_of, root_in_hand, served_in, Serves}, Names.tellers, Whole.IsGenuine}
+use Rattle.exec_invariants.proofs.Dedicated.{all_serve}
 
 -- WHERE IT LEADS: what such a place says
 
@@ -52,10 +53,6 @@ none_in r (k, few, is) = omega (arith, few)
 root_serves : (o : Option ℕ) (root : ℕ) (role : Role) → ((t : ℕ) → o ≡ Some t → t ≡ root) → Serves o root role
 root_serves None root role polls = tt
 root_serves (Some t) root role polls = λ other. absurd (other (polls t refl))
-
-pub all_serve : (o : Option ℕ) (root : ℕ) (role : Role) → is_pool role ≡ true → Serves o root role
-all_serve None root role pool = tt
-all_serve (Some t) root role pool = λ other. pool
 
 pub one_true : (b : Bool) → one_if b ≡ 1 → b ≡ true
 one_true true h = refl
@@ -130,7 +127,7 @@ module _ {B : Type 0} where
       by_number k t
       (λ other. record { was = o; there = sym (set_elsewhere tasks t k slot' other) ∙ at_k; home = refl; number = refl })
       (λ same.
-      let is : slot' ≡ o = same_thing slot' o (sym (set_there tasks t slot' slot there) ∙ subst (λ m. slice_get (slice_set tasks t slot') m ≡ Some o) same at_k) in
+      let is : slot' ≡ o = same_Some slot' o (sym (set_there tasks t slot' slot there) ∙ subst (λ m. slice_get (slice_set tasks t slot') m ≡ Some o) same at_k) in
       subst (Before tasks k) is (record { was = slot; there = ap (slice_get tasks) same ∙ there; home = keeps.home; number = keeps.number }))
 
   pub homes_set : (n count : ℕ) (tasks : List (TaskSlot B)) (t : ℕ) (slot slot' : TaskSlot B) → slice_get tasks t ≡ Some slot → Keeps slot slot' → AreHome n count tasks → AreHome n count (slice_set tasks t slot')
@@ -154,7 +151,7 @@ module _ {B : Type 0} where
       by_number r.task.0 t
       (λ other. record { slot = it.slot; there = set_elsewhere tasks t r.task.0 slot' other ∙ it.there; ordinary = it.ordinary; of_it = it.of_it })
       (λ same.
-      let is : slot ≡ it.slot = same_thing slot it.slot (sym there ∙ subst (λ m. slice_get tasks m ≡ Some it.slot) same it.there) in
+      let is : slot ≡ it.slot = same_Some slot it.slot (sym there ∙ subst (λ m. slice_get tasks m ≡ Some it.slot) same it.there) in
       record {
         slot = slot';
         there = subst (λ m. slice_get (slice_set tasks t slot') m ≡ Some slot') (sym same) (set_there tasks t slot' slot there);
@@ -167,7 +164,7 @@ module _ {B : Type 0} where
       by_number k t
       (λ other. old k o (sym (set_elsewhere tasks t k slot' other) ∙ at_k) home unpolled)
       (λ same.
-      let is : slot' ≡ o = same_thing slot' o (sym (set_there tasks t slot' slot there) ∙ subst (λ m. slice_get (slice_set tasks t slot') m ≡ Some o) same at_k) in
+      let is : slot' ≡ o = same_Some slot' o (sym (set_there tasks t slot' slot there) ∙ subst (λ m. slice_get (slice_set tasks t slot') m ≡ Some o) same at_k) in
       subst IsResting is (rests (ap (λ (y : TaskSlot B). y.home) is ∙ home) (ap (λ (y : TaskSlot B). is_polled y.cell.phase) is ∙ unpolled)))
 
   -- THE ROOT'S SLOT became another, the worker is there, with this flag and an empty hand
@@ -198,8 +195,8 @@ module _ {B : Type 0} where
   root_tasked t x q w f s slot slot' sound sits =
       let tasks : List (TaskSlot B) = s.tasks.items in
       let found = set_there tasks w.root slot' slot sits.there in
-      let same : slot ≡ sound.runnable.root = same_thing slot sound.runnable.root (sym sits.there ∙ sound.runnable.there) in
-      let is : (o : TaskSlot B) → slice_get (slice_set tasks w.root slot') w.root ≡ Some o → slot' ≡ o = λ o at_root. same_thing slot' o (sym found ∙ at_root) in
+      let same : slot ≡ sound.runnable.root = same_Some slot sound.runnable.root (sym sits.there ∙ sound.runnable.there) in
+      let is : (o : TaskSlot B) → slice_get (slice_set tasks w.root slot') w.root ≡ Some o → slot' ≡ o = λ o at_root. same_Some slot' o (sym found ∙ at_root) in
       record {
         pooled = λ is. absurd (false≢true (sym sits.unpooled ∙ is));
         serves = root_serves (polls_at q) w.root w.role sits.polls;
@@ -209,7 +206,6 @@ module _ {B : Type 0} where
         genuine = λ r has. absurd (none_in r has);
         guest = no_guest (polls_at q) (step_of_poll q) w.index w.root (slice_set tasks w.root slot') sits.polls;
         resting = resting_set tasks w.root slot slot' sits.there (λ home unpolled.
-            let no : None ≡ Some w.index = sym home ∙ sits.keeps.home ∙ ap (λ (o : TaskSlot B). o.home) same ∙ sound.runnable.home in
             absurd (cc)) sound.resting;
         stops = stops_own (polls_at q) (step_of_poll q) w.index w.root (slice_set tasks w.root slot') slot' s.requests.items s.sleepers.items sits.polls found sits.stops;
         going = λ o at_root. subst (λ (y : TaskSlot B). is_complete y.cell.phase ≡ false) (is o at_root) (sits.complete ∙ (sound.phased sound.seated.seat sound.seated.there).root slot sits.there);
@@ -241,16 +237,11 @@ module _ {B : Type 0} where
       let same : polled_in w.root (Place.Poll t x) ≡ polled_in w.root q = before ∙ sym after in
       let pool : is_pool w.role ≡ true = guest_pool t x w s sound it.apart in
       let run = subst (λ o. HasRunnable w.index w.root w.root_ready o tasks) (idle_hand t w.root x w.hand it.apart) sound.runnable in
-      record {
-        pooled = λ is. pool;
-        serves = all_serve (polls_at q) w.root w.role pool;
-        homes = homes_set s.config.workers (length s.seats.items) tasks t slot slot' it.there it.keeps sound.homes;
-        runnable = record { root = run.root; there = root ∙ run.there; home = run.home; number = run.number; once = run.once; one = run.one };
-        hand = it.hand;
-        genuine = it.genuine;
-        guest = it.guest;
-        resting = resting_set tasks t slot slot' it.there (λ home. it.rests) sound.resting;
-        stops = it.stops;
-        going = λ o at_root. (sound.phased sound.seated.seat sound.seated.there).root o (sym root ∙ at_root);
-        stands = λ o at_root. subst (λ y. Stands y w.index o) same (sound.tied.stands o (sym root ∙ at_root));
-      }
+      let pooled : is_pooled_at q ≡ true → is_pool w.role ≡ true = λ is. pool in
+      let homes = homes_set s.config.workers (length s.seats.items) tasks t slot slot' it.there it.keeps sound.homes in
+      let runnable : HasRunnable w.index w.root w.root_ready None (slice_set s.tasks.items t slot') = record { root = run.root; there = root ∙ run.there; home = run.home; number = run.number; once = run.once; one = run.one } in
+      let resting = resting_set tasks t slot slot' it.there (λ home. it.rests) sound.resting in
+      let going : (slot : TaskSlot B) → slice_get (slice_set s.tasks.items t slot') w.root ≡ Some slot → is_complete slot.cell.phase ≡ false = λ o at_root. (sound.phased sound.seated.seat sound.seated.there).root o (sym root ∙ at_root) in
+      let stands : (slot : TaskSlot B) → slice_get (slice_set s.tasks.items t slot') w.root ≡ Some slot → Stands (polled_in w.root q) w.index slot =
+      λ o at_root. subst (λ y. Stands y w.index o) same (sound.tied.stands o (sym root ∙ at_root)) in
+      assumption (pooled, all_serve (polls_at q) w.root w.role pool, homes, runnable, resting, going, stands, it)

@@ -1,12 +1,11 @@
 -- Steps of a poll that change one task's slot: what holds then, and what they leave of others.
 use Rattle.std.proofs.{Common.{[], ◌≡◌, ◌≢◌, ◌⊎◌, inr, ⊎_elim, ℕ, ◌+◌, ◌<◌, ◌≤◌, ◌==◌, Bool, true, false, List, ◌∷◌, ◌++◌, length, map, Option, Some, None, refl, sym, ap, subst, ◌∙◌, arith, slice_get, slice_index_or, slice_set, option_map, option_to_list, if◌then◌else◌}, lemmas.{List.{length-set, map-set}, Option.{get_or_from_slice_get, slice_get-map, slice_get_within}}}
-use Rattle.exec_words.specs.Queue.{tail_of}
 use Rattle.exec_driver.specs.Opens.{OpenState}
 use Rattle.exec_task.specs.{Phases.is_polled, declared.{body.Said.Said, runnable.Runnable.Runnable, task.Phase.Phase}}
 use Rattle.exec_machine.specs.{declared.event.Event.Event, After.{own_after, common_after}, Allowed.allowed, Choice.Choice, Progress.Plan, Tests.AllTrue, World.no_task}
 use Rattle.exec_moves.specs.{declared.place.{InPoll.InPoll, Place.Place}, Move.move_at, Seen.polls_at}
-use Rattle.exec_parts.{specs.{declared.parts.{record.Record.Record, shared.Shared.Shared, task_slot.TaskSlot.TaskSlot, worker.Worker.Worker}, Phased.{closes_at, closing_in, has_left, is_complete}, Roles.is_pool, Spots.Spot, View.{Views, visible, with_view, own_of, desk_of, common_of, task_seen, things_with}}, proofs.Facts.{and_none, by_number, same_thing, set_elsewhere, set_there}}
-use Rattle.exec_invariants.{specs.{Drained.IsBefore, Hearing.Hears, Holding.{IsHolding, box_of, holder_of, nap_of, thing_of}, Gates.HaveGates, Places.{Drops, claims_at, clears_at, drops_at, has_count_at, is_published_at, one_if, removes_at}, Sound.{AreHome, SoundAt}, Spares.{Spares, SparesPolled}, Whole.{HasOne, IsGenuine, IsWhole, Profile, duties_of, hands_of, is_number, may_let_go, runnables_in, stock, with_worker}, Works.{Beside, Steps, Suits, Works}}, proofs.{Aside.spared, Dedicated.chair_of_pool, Hearing.hears_so, PoolKept.{Redoes, chosen_other, chosen_own, is_its, number_is, pool_slot}, Spared.{records_endure, sleepers_endure}, SparedRecord.{sleeper_spared, spared_same}, Turning.{set_found, view_found}, SlotTasks.{IsAfter, one_true, Tasked, sound_tasked, Keeps, genuine_set, guest_pool}}}
+use Rattle.exec_parts.{specs.{declared.parts.{record.Record.Record, shared.Shared.Shared, task_slot.TaskSlot.TaskSlot, worker.Worker.Worker}, Phased.{closes_at, closing_in, has_left, is_complete}, Roles.is_pool, Spots.Spot, View.{Views, visible, with_view, own_of, desk_of, common_of, task_seen, things_with}}, proofs.Facts.{and_right, by_number, same_Some, set_elsewhere, set_there}}
+use Rattle.exec_invariants.{specs.{Drained.IsBefore, Hearing.Hears, Holding.{IsHolding, box_of, holder_of, nap_of, thing_of}, Gates.HaveGates, Places.{Drops, claims_at, clears_at, drops_at, has_count_at, is_published_at, one_if, removes_at}, Sound.{AreHome, SoundAt}, Spares.{Spares, SparesPolled}, Whole.{HasOne, IsGenuine, IsWhole, Profile, duties_of, hands_of, is_number, may_let_go, runnables_in, stock, with_worker}, Works.{Beside, Steps, Suits, Works}}, proofs.{Aside.{spares_none}, Dedicated.chair_of_pool, Hearing.hears_so, PoolKept.{Redoes, chosen_other, chosen_own, is_its, number_is, pool_slot}, Turning.{set_found, view_found}, SlotTasks.{IsAfter, one_true, Tasked, sound_tasked, Keeps, genuine_set, guest_pool}}}
 
 -- a worker that passes no permit on, and has no request join a gate
 pub gates_free : (i : ℕ) (drops drops' : ℕ → Drops) (opens : List OpenState) (rs : List Record) → ((j : ℕ) → j ≢ i → drops' j ≡ drops j) → (drops' i).passes ≡ None → (drops' i).joins ≡ None → HaveGates drops opens rs → HaveGates drops' opens rs
@@ -39,45 +38,44 @@ module _ {B : Type 0} where
       → (slot.home ≡ Some j → ⊥) → (is_polled slot.cell.phase ≡ true → slot.poller ≡ j → SparesPolled slot slot') → AreHome s.config.workers (length s.seats.items) s.tasks.items → Spares j s (record s { tasks = s'.tasks })
   spares_slot i j t s s' slot slot' other there items keeps rootless unpolled homes =
       let at : (k : ℕ) (o : TaskSlot B) → slice_get s.tasks.items k ≡ Some o → (k ≡ t → ⊥) → slice_get s'.tasks.items k ≡ Some o = λ k o found apart. ap (λ ts. slice_get ts k) items ∙ set_elsewhere s.tasks.items t k slot' apart ∙ found in
-      let is : (k : ℕ) (o : TaskSlot B) → slice_get s.tasks.items k ≡ Some o → k ≡ t → slot ≡ o = λ k o found same. same_thing slot o (sym there ∙ subst (λ m. slice_get s.tasks.items m ≡ Some o) same found) in
-      record {
-        config = refl;
-        clock = refl;
-        gates = λ h. h;
-        hints = λ file h. h;
-        many = refl;
-        chair = λ chair found. (chair, found, spared chair);
-        tails = λ k chair chair' found found'.
-            let same : chair ≡ chair' = same_thing chair chair' (sym found ∙ found') in
-            subst (λ c. tail_of chair.queue ≤ tail_of c.queue) same (omega arith);
-        records = λ k r found mine. (r, found, spared_same r);
-        records_only = λ k r found mine. (r, found, spared_same r);
-        sleepers = λ k z found mine. (z, found, sleeper_spared z);
-        sleepers_only = λ k z found mine. (z, found, sleeper_spared z);
-        endure = records_endure s.requests.items s.requests.items refl;
-        endure_too = sleepers_endure s.sleepers.items s.sleepers.items refl;
-        root = λ k o found home. at k o found (λ same. rootless (ap (λ (y : TaskSlot B). y.home) (is k o found same) ∙ home));
-        polled = λ k o found polled mine.
-            by_number k t
-            (λ apart. (o, at k o found apart, record { polled = polled; number = refl; cancelled = λ h. h; kept = refl }))
-            (λ same.
-            let e = is k o found same in
-            let now : slice_get s'.tasks.items k ≡ Some slot' = ap (λ ts. slice_get ts k) items ∙ subst (λ m. slice_get (slice_set s.tasks.items t slot') m ≡ Some slot') (sym same) (set_there s.tasks.items t slot' slot there) in
-            (slot', now, subst (λ y. SparesPolled y slot') e (unpolled (ap (λ (y : TaskSlot B). is_polled y.cell.phase) e ∙ polled) (ap (λ (y : TaskSlot B). y.poller) e ∙ mine))));
-        room = λ h. h;
-        stretch = λ file offset n h. h;
-        stopped = λ h. h;
-        closed = λ h. h;
-        by_zero = λ h. (refl, refl);
-        shards = refl;
-        emptied = λ shut k none. none;
-        genuine = λ r it. subst (λ ts. IsGenuine ts r) (sym items) (genuine_set s.tasks.items t slot slot' there keeps r it);
-      }
+      let is : (k : ℕ) (o : TaskSlot B) → slice_get s.tasks.items k ≡ Some o → k ≡ t → slot ≡ o = λ k o found same. same_Some slot o (sym there ∙ subst (λ m. slice_get s.tasks.items m ≡ Some o) same found) in
+      let root : (k : ℕ) (o : TaskSlot B) → slice_get s.tasks.items k ≡ Some o → o.home ≡ Some j → slice_get s'.tasks.items k ≡ Some o = λ k o found home. at k o found (λ same. rootless (ap (λ (y : TaskSlot B). y.home) (is k o found same) ∙ home)) in
+      let polled : (k : ℕ) (o : TaskSlot B) → slice_get s.tasks.items k ≡ Some o → is_polled o.cell.phase ≡ true → o.poller ≡ j → (o' : TaskSlot B) × (slice_get s'.tasks.items k ≡ Some o') × SparesPolled o o' = λ k o found polled mine.
+      by_number k t
+      (λ apart. (o, at k o found apart, record { polled = polled; number = refl; cancelled = λ h. h; kept = refl }))
+      (λ same.
+      let e = is k o found same in
+      let now : slice_get s'.tasks.items k ≡ Some slot' = ap (λ ts. slice_get ts k) items ∙ subst (λ m. slice_get (slice_set s.tasks.items t slot') m ≡ Some slot') (sym same) (set_there s.tasks.items t slot' slot there) in
+      (slot', now, subst (λ y. SparesPolled y slot') e (unpolled (ap (λ (y : TaskSlot B). is_polled y.cell.phase) e ∙ polled) (ap (λ (y : TaskSlot B). y.poller) e ∙ mine)))) in
+      let genuine : (r : Runnable) → IsGenuine s.tasks.items r → IsGenuine s'.tasks.items r = λ r it. subst (λ ts. IsGenuine ts r) (sym items) (genuine_set s.tasks.items t slot slot' there keeps r it) in
+      assumption (root, polled, genuine, spares_none j s)
 
   -- what that says of who polls, clears and removes
   redoes_slot : (t : ℕ) (q : Place) (w : Worker) (f h : Option Runnable) (s : Shared B) (slot slot' : TaskSlot B) (others : Profile) → (slot.home ≡ None → polls_at q ≡ Some t → IsBefore w.index s.seats.items) → clears_at w.place ≡ None → IsAfter q → slice_get s.tasks.items t ≡ Some slot → Balances t q w h slot slot' → IsWhole (with_worker others w) s
       → Redoes t w.index (duties_of (with_worker others w)) (duties_of (with_worker others (record w { place = q; root_ready = f; hand = h }))) slot slot' s.seats.items
   redoes_slot t q w f h s slot slot' others before uncleared to there bal whole =
+      let then_polls : ℕ → Option ℕ = λ j. if j == w.index then polls_at q else others.polled_by j in
+      let by_it : slot.home ≡ None → is_polled slot'.cell.phase ≡ true → (slot'.poller ≡ w.index) × (polls_at q ≡ Some t) → IsBefore slot'.poller s.seats.items × (then_polls slot'.poller ≡ Some t) =
+      λ home polled its. subst (λ j. IsBefore j s.seats.items × (then_polls j ≡ Some t)) (sym its.0) (before home its.1, chosen_own w.index (polls_at q) (others.polled_by w.index) ∙ its.1) in
+      -- a worker that polled it still does, where it is polled
+      let still : slot.home ≡ None → is_polled slot.cell.phase ≡ true → is_polled slot'.cell.phase ≡ true → polls_at w.place ≡ Some t → polls_at q ≡ Some t = λ home polled polled' is.
+      let mine : one_if (is_number (polls_at w.place) t) ≡ 1 = ap one_if (is_its (polls_at w.place) t is) in
+      let total : others.polls t + one_if (is_number (polls_at w.place) t) ≡ one_if (is_polled slot.cell.phase) = whole.polls t slot there home in
+      let one : one_if (is_polled slot.cell.phase) ≡ 1 = ap one_if polled in
+      let total' : others.polls t + one_if (is_number (polls_at q) t) ≡ one_if (is_polled slot'.cell.phase) = bal.polls home (others.polls t) total in
+      let one' : one_if (is_polled slot'.cell.phase) ≡ 1 = ap one_if polled' in
+      number_is (polls_at q) t (one_true (is_number (polls_at q) t) (omega (arith, mine, total, one, total', one'))) in
+      let as_before : slot.home ≡ None → is_polled slot'.cell.phase ≡ true → (slot'.poller ≡ slot.poller) × (is_polled slot.cell.phase ≡ true) → IsBefore slot'.poller s.seats.items × (then_polls slot'.poller ≡ Some t) = λ home polled its.
+      let it = whole.pool.who_polls t slot there home its.1 in
+      subst (λ j. IsBefore j s.seats.items × (then_polls j ≡ Some t)) (sym its.0) (
+        it.0,
+        by_number slot.poller w.index
+            (λ other. chosen_other slot.poller w.index (polls_at q) (others.polled_by slot.poller) other ∙ sym (chosen_other slot.poller w.index (polls_at w.place) (others.polled_by slot.poller) other) ∙ it.1)
+            (λ same.
+            let was : (if w.index == w.index then polls_at w.place else others.polled_by w.index) ≡ Some t = subst (λ j. (if j == w.index then polls_at w.place else others.polled_by j) ≡ Some t) same it.1 in
+            subst (λ j. then_polls j ≡ Some t) (sym same)
+            (chosen_own w.index (polls_at q) (others.polled_by w.index) ∙ still home its.1 polled (sym (chosen_own w.index (polls_at w.place) (others.polled_by w.index)) ∙ was))),
+      ) in
       record {
         home = bal.keeps.home;
         cleared = λ home. (bal.remains home).cleared;
@@ -92,46 +90,17 @@ module _ {B : Type 0} where
         clears_next = ap (λ x. x.clears) (chosen_own w.index (drops_at q) (others.drops_by w.index)) ∙ to.clears ∙ sym (ap (λ x. x.clears) (chosen_own w.index (drops_at w.place) (others.drops_by w.index)) ∙ uncleared);
         removes_next = λ u is. inr (bal.removes u (sym (ap (λ x. x.removes) (chosen_own w.index (drops_at q) (others.drops_by w.index))) ∙ is));
       }
-    where
-      then_polls : ℕ → Option ℕ
-      then_polls j = if j == w.index then polls_at q else others.polled_by j
-
-      by_it : slot.home ≡ None → is_polled slot'.cell.phase ≡ true → (slot'.poller ≡ w.index) × (polls_at q ≡ Some t) → IsBefore slot'.poller s.seats.items × (then_polls slot'.poller ≡ Some t)
-      by_it home polled its =
-          subst (λ j. IsBefore j s.seats.items × (then_polls j ≡ Some t)) (sym its.0) (before home its.1, chosen_own w.index (polls_at q) (others.polled_by w.index) ∙ its.1)
-
-      -- a worker that polled it still does, where it is polled
-      still : slot.home ≡ None → is_polled slot.cell.phase ≡ true → is_polled slot'.cell.phase ≡ true → polls_at w.place ≡ Some t → polls_at q ≡ Some t
-      still home polled polled' is =
-          let mine : one_if (is_number (polls_at w.place) t) ≡ 1 = ap one_if (is_its (polls_at w.place) t is) in
-          let total : others.polls t + one_if (is_number (polls_at w.place) t) ≡ one_if (is_polled slot.cell.phase) = whole.polls t slot there home in
-          let one : one_if (is_polled slot.cell.phase) ≡ 1 = ap one_if polled in
-          let total' : others.polls t + one_if (is_number (polls_at q) t) ≡ one_if (is_polled slot'.cell.phase) = bal.polls home (others.polls t) total in
-          let one' : one_if (is_polled slot'.cell.phase) ≡ 1 = ap one_if polled' in
-          number_is (polls_at q) t (one_true (is_number (polls_at q) t) (omega (arith, mine, total, one, total', one')))
-
-      as_before : slot.home ≡ None → is_polled slot'.cell.phase ≡ true → (slot'.poller ≡ slot.poller) × (is_polled slot.cell.phase ≡ true) → IsBefore slot'.poller s.seats.items × (then_polls slot'.poller ≡ Some t)
-      as_before home polled its =
-          let it = whole.pool.who_polls t slot there home its.1 in
-          subst (λ j. IsBefore j s.seats.items × (then_polls j ≡ Some t)) (sym its.0) (
-            it.0,
-            by_number slot.poller w.index
-                (λ other. chosen_other slot.poller w.index (polls_at q) (others.polled_by slot.poller) other ∙ sym (chosen_other slot.poller w.index (polls_at w.place) (others.polled_by slot.poller) other) ∙ it.1)
-                (λ same.
-                let was : (if w.index == w.index then polls_at w.place else others.polled_by w.index) ≡ Some t = subst (λ j. (if j == w.index then polls_at w.place else others.polled_by j) ≡ Some t) same it.1 in
-                subst (λ j. then_polls j ≡ Some t) (sym same)
-                (chosen_own w.index (polls_at q) (others.polled_by w.index) ∙ still home its.1 polled (sym (chosen_own w.index (polls_at w.place) (others.polled_by w.index)) ∙ was))),
-          )
 
   pub whole_slot : (t : ℕ) (q : Place) (w : Worker) (f h : Option Runnable) (s s' : Shared B) (slot slot' : TaskSlot B) (others : Profile) → w.loot.values ≡ [] → claims_at w.place ≡ None → has_count_at w.place ≡ false → is_published_at w.place ≡ false → clears_at w.place ≡ None → (slot.home ≡ None → polls_at q ≡ Some t → IsBefore w.index s.seats.items) → IsAfter q
       → slice_get s.tasks.items t ≡ Some slot → s'.tasks.items ≡ slice_set s.tasks.items t slot' → Balances t q w h slot slot'
       → IsWhole (with_worker others w) s → IsWhole (with_worker others (record w { place = q; root_ready = f; hand = h })) (record s { tasks = s'.tasks })
   whole_slot t q w f h s s' slot slot' others none unclaimed uncounted unpublished uncleared before to there items bal whole =
+      let shuffled : (m n k : ℕ) → (m + n) + k ≡ (m + k) + n = λ m n k. omega arith in
       let g : Bool = may_let_go s in
       let counted : has_count_at q ≡ has_count_at w.place = to.counts ∙ sym uncounted in
       let posted : is_published_at q ≡ is_published_at w.place = to.published ∙ sym unpublished in
       let was : (k : ℕ) (o : TaskSlot B) → slice_get s'.tasks.items k ≡ Some o → k ≢ t → slice_get s.tasks.items k ≡ Some o = λ k o found apart. sym (set_elsewhere s.tasks.items t k slot' apart) ∙ ap (λ ts. slice_get ts k) (sym items) ∙ found in
-      let is : (k : ℕ) (o : TaskSlot B) → slice_get s'.tasks.items k ≡ Some o → k ≡ t → slot' ≡ o = λ k o found same. same_thing slot' o (sym (set_there s.tasks.items t slot' slot there) ∙ ap (λ ts. slice_get ts t) (sym items) ∙ subst (λ m. slice_get s'.tasks.items m ≡ Some o) same found) in
+      let is : (k : ℕ) (o : TaskSlot B) → slice_get s'.tasks.items k ≡ Some o → k ≡ t → slot' ≡ o = λ k o found same. same_Some slot' o (sym (set_there s.tasks.items t slot' slot there) ∙ ap (λ ts. slice_get ts t) (sym items) ∙ subst (λ m. slice_get s'.tasks.items m ≡ Some o) same found) in
       let genuine : (r : Runnable) → IsGenuine s.tasks.items r → IsGenuine s'.tasks.items r = λ r it. subst (λ ts. IsGenuine ts r) (sym items) (genuine_set s.tasks.items t slot slot' there bal.keeps r it) in
       let holders : map holder_of s'.tasks.items ≡ map holder_of s.tasks.items = ap (map holder_of) items ∙ holders_set s.tasks.items t slot slot' there bal.holder in
       let hands : (o : Option Runnable) → option_to_list o ++ w.loot.values ≡ option_to_list o = λ o. ap (λ ls. option_to_list o ++ ls) none ∙ append_none (option_to_list o) in
@@ -187,9 +156,6 @@ module _ {B : Type 0} where
       append_none [] = refl
       append_none (x ∷ xs) = ap (λ ys. x ∷ ys) (append_none xs)
 
-      shuffled : (m n k : ℕ) → (m + n) + k ≡ (m + k) + n
-      shuffled m n k = omega arith
-
 module _ {B : Type 0} where
   -- who is open hasn't passed the barrier
   pub before_barrier : (p : Place) (w : Worker) (s : Shared B) → SoundAt p w s → is_pool w.role ≡ true → has_left (closes_at p) (closing_in p) ≡ false → IsBefore w.index s.seats.items
@@ -197,7 +163,7 @@ module _ {B : Type 0} where
       let seat = sound.seated.seat in
       let phased = sound.phased seat sound.seated.there in
       let pool : seat.pool ≡ true = chair_of_pool p w s sound seat sound.seated.there ∙ of_pool in
-      let left : seat.left ≡ false = phased.left ∙ and_none seat.pool (has_left (closes_at p) (closing_in p)) unleft in
+      let left : seat.left ≡ false = phased.left ∙ and_right seat.pool (has_left (closes_at p) (closing_in p)) unleft in
       record { chair = seat; there = sound.seated.there; going = rw (left, pool) refl }
 
   pub before_in_poll : (t : ℕ) (x : InPoll) (w : Worker) (s : Shared B) → SoundAt (Place.Poll t x) w s → is_pool w.role ≡ true → IsBefore w.index s.seats.items
@@ -207,8 +173,6 @@ module _ {B : Type 0} where
   pub before_for : (t : ℕ) (x : InPoll) (w : Worker) (s : Shared B) (slot : TaskSlot B) → SoundAt (Place.Poll t x) w s → slice_get s.tasks.items t ≡ Some slot → slot.home ≡ None → IsBefore w.index s.seats.items
   before_for t x w s slot sound there none =
       before_in_poll t x w s sound (guest_pool t x w s sound (λ same.
-      let is : slot ≡ sound.runnable.root = same_thing slot sound.runnable.root (sym there ∙ ap (slice_get s.tasks.items) same ∙ sound.runnable.there) in
-      let no : None ≡ Some w.index = sym none ∙ ap (λ (o : TaskSlot B). o.home) is ∙ sound.runnable.home in
       absurd (cc)))
 
 module _ {B L : Type 0} (left : B → L) (spot : L → Option Said → Spot) where

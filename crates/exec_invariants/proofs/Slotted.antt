@@ -1,18 +1,14 @@
 -- The slots of requests as they are seen, where one is written again, or is free again; and which of them are awaited.
-use Rattle.std.proofs.{Common.{◌≡◌, ◌≢◌, ℕ, zero, suc, ◌+◌, ◌^◌, ◌<◌, ◌==◌, ◌||◌, not, cond, Bool, true, false, List, [], ◌∷◌, filter, set, slice_get, slice_index_or, slice_set, Some, None, if◌then◌else◌, refl, sym, ap, ◌∙◌, arith}, lemmas.{Bool.{eq-eqb, Decides.nat_tests}, Option.get_or_from_slice_get}}
-use Rattle.exec_base.specs.{Slab.{Slab, freed, is_live, removed, value_at, written}, declared.slab.{Id.Id, Slot.{Slot, TheVariants.{Live, Vacant}}}}
-use Rattle.exec_waiters.{specs.declared.waiter.Entry.Entry, proofs.Changes.at_by}
-use Rattle.exec_moves.specs.{Slots.{is_in_slots, slot_of, vacated}, Told.has_number}
-use Rattle.exec_parts.{specs.{declared.parts.mail.Reply.Reply, Records.number_in, View.{awaited_from, awaits_entry, is_awaited, slots_from, slots_seen}}, proofs.Facts.{not_same, same_thing}}
-use Rattle.exec_invariants.proofs.{HeldCounts.{awaited_set, slots_set}, SparedRecord.there_within}
+use Rattle.std.proofs.{Common.{◌≡◌, ◌≢◌, ℕ, zero, suc, ◌+◌, ◌==◌, ◌||◌, not, cond, Bool, true, false, List, [], ◌∷◌, filter, set, slice_get, slice_index_or, Some, None, if◌then◌else◌, refl, sym, ap, ◌∙◌, arith}, lemmas.{Bool.{eq-eqb}}}
+use Rattle.exec_base.specs.{Slab.{Slab, freed, is_live, removed, value_at, written}, declared.slab.{Id.Id, Slot.{Slot, TheVariants.{Live}}}}
+use Rattle.exec_waiters.{specs.declared.waiter.Entry.Entry}
+use Rattle.exec_moves.specs.{Slots.{is_in_slots, vacated}, Told.has_number}
+use Rattle.exec_parts.{specs.{declared.parts.mail.Reply.Reply, Records.number_in, View.{awaited_from, awaits_entry, is_awaited, slots_seen}}, proofs.Facts.{not_same, same_Some}}
+use Rattle.exec_invariants.proofs.{HeldCounts.{awaited_set, slots_set}, FiringSlots.{alive_at, number_there, at_zero, OneBed, bed_in, bed_vacated}}
 
 -- what is live stands in its slot
 pub live_at : (s : Slab (Entry Reply Reply)) (id : Id) (e : Entry Reply Reply) → value_at s id ≡ Some e → slice_get s.slots id.index ≡ Some (Live id.generation e)
-live_at s id e at =
-    let there = at_by s id e at in
-    let it = there_within s.slots id.index there.within in
-    let is : it.0 ≡ Live id.generation e = sym (get_or_from_slice_get s.slots id.index it.0 (Vacant s.first) it.1) ∙ there.slot in
-    it.1 ∙ ap (λ x. Some x) is
+live_at = alive_at
 
 -- WRITTEN AGAIN
 
@@ -25,72 +21,25 @@ awaited_written numbers s id was is at same = awaited_set 0 numbers s.slots id.i
 
 -- FREE AGAIN
 
-freed_dead : (g : ℕ) → is_live {T = Entry Reply Reply} (freed g) ≡ false
-freed_dead = grind arith
-
 freed_unawaited : (g : ℕ) → is_awaited (freed g) ≡ false
 freed_unawaited = grind arith
 
-slots_freed : (k : ℕ) (numbers : List ℕ) (slots : List (Slot (Entry Reply Reply))) (i g : ℕ) → slots_from k numbers (set slots i (freed g)) ≡ slice_set (slots_from k numbers slots) i None
-slots_freed k numbers [] i g = refl
-slots_freed k numbers (x ∷ slots) zero g = ap (λ b. (if b then Some (slice_index_or numbers k 0) else None) ∷ slots_from (suc k) numbers slots) (freed_dead g)
-slots_freed k numbers (x ∷ slots) (suc i) g = ap (λ xs. (if is_live x then Some (slice_index_or numbers k 0) else None) ∷ xs) (slots_freed (suc k) numbers slots i g)
-
--- no slot before it has this number
-abbrev IsFirst : ℕ → ℕ → List ℕ → List (Slot (Entry Reply Reply)) → ℕ → Type 0
-IsFirst n k numbers slots i = (j : ℕ) (x : Slot (Entry Reply Reply)) → j < i → slice_get slots j ≡ Some x → is_live x ≡ true → slice_index_or numbers (k + j) 0 ≢ n
-
-slot_found : (n k : ℕ) (numbers : List ℕ) (slots : List (Slot (Entry Reply Reply))) (i : ℕ) (o : Slot (Entry Reply Reply)) → slice_get slots i ≡ Some o → is_live o ≡ true → slice_index_or numbers (k + i) 0 ≡ n → IsFirst n k numbers slots i
-    → slot_of n k (slots_from k numbers slots) ≡ Some (k + i)
-slot_found n k numbers [] i o there live is first = absurd (let no : None ≡ Some o = there in cc)
-slot_found n k numbers (x ∷ slots) zero o there live is first = grind (arith, there, same_thing, eq-eqb)
-slot_found n k numbers (x ∷ slots) (suc i) o there live is first =
-    by (is_live x) refl
-    ∙ slot_found n (suc k) numbers slots i o there live (ap (λ m. slice_index_or numbers m 0) (let e : suc k + i ≡ k + suc i = omega arith in e) ∙ is) later
-    ∙ ap (λ m. Some m) (let e : suc k + i ≡ k + suc i = omega arith in e)
-  where
-    later : IsFirst n (suc k) numbers slots i
-    later j y less at alive same =
-        first (suc j) y (omega (arith, less)) at alive (ap (λ m. slice_index_or numbers m 0) (let e : k + suc j ≡ suc k + j = omega arith in e) ∙ same)
-
-    by : (b : Bool) → is_live x ≡ b → slot_of n k (slots_from k numbers (x ∷ slots)) ≡ slot_of n (suc k) (slots_from (suc k) numbers slots)
-    by true alive =
-        let other : slice_index_or numbers k 0 ≢ n = λ same. first 0 x (omega arith) refl alive (ap (λ m. slice_index_or numbers m 0) (let e : k + 0 ≡ k = omega arith in e) ∙ same) in
-        ap (λ b. slot_of n k ((if b then Some (slice_index_or numbers k 0) else None) ∷ slots_from (suc k) numbers slots)) alive
-        ∙ ap (λ b. if b then Some k else slot_of n (suc k) (slots_from (suc k) numbers slots)) (not_same n (slice_index_or numbers k 0) (λ same. other (sym same)))
-    by false dead = ap (λ b. slot_of n k ((if b then Some (slice_index_or numbers k 0) else None) ∷ slots_from (suc k) numbers slots)) dead
-
-number_there : (numbers : List ℕ) (id : Id) → slice_index_or numbers (0 + id.index) 0 ≡ number_in numbers id
-number_there numbers id = ap (λ m. slice_index_or numbers m 0) (let e : 0 + id.index ≡ id.index = omega arith in e)
-
-at_zero : (numbers : List ℕ) (j n : ℕ) → slice_index_or numbers (0 + j) 0 ≡ n → slice_index_or numbers j 0 ≡ n
-at_zero numbers j n is = ap (λ m. slice_index_or numbers m 0) (let e : j ≡ 0 + j = omega arith in e) ∙ is
-
 -- each number stands in one slot
-pub record OneSlot (numbers : List ℕ) (s : Slab (Entry Reply Reply)) (id : Id) : Type 0 where
-  pub e : Entry Reply Reply
-  pub live : value_at s id ≡ Some e
-  pub low : id.generation + 1 < 2 ^ 64
-  pub alone : (j : ℕ) (x : Slot (Entry Reply Reply)) → slice_get s.slots j ≡ Some x → is_live x ≡ true → slice_index_or numbers j 0 ≡ number_in numbers id → j ≡ id.index
+abbrev pub OneSlot : List ℕ → Slab (Entry Reply Reply) → Id → Type 0
+OneSlot numbers s id = OneBed numbers s id
 
 module _ (numbers : List ℕ) (s : Slab (Entry Reply Reply)) (id : Id) (one : OneSlot numbers s id) where
-  there : slice_get s.slots id.index ≡ Some (Live id.generation one.e)
-  there = live_at s id one.e one.live
-
-  slot_is : slot_of (number_in numbers id) 0 (slots_from 0 numbers s.slots) ≡ Some id.index
-  slot_is = grind (arith, slot_found, there, number_there, at_zero)
-
   pub slot_in : is_in_slots (number_in numbers id) (slots_seen numbers s) ≡ true
-  slot_in = rw slot_is refl
+  slot_in = bed_in numbers s id one
 
   pub slots_vacated : slots_seen numbers (removed s id) ≡ vacated (number_in numbers id) (slots_seen numbers s)
-  slots_vacated = grind (arith, nat_tests, slots_freed, slot_is)
+  slots_vacated = bed_vacated numbers s id one
 
 -- WHO IS AWAITED
 
 awaited_freed : (k : ℕ) (numbers : List ℕ) (slots : List (Slot (Entry Reply Reply))) (i g : ℕ) (o : Slot (Entry Reply Reply)) → slice_get slots i ≡ Some o → is_awaited o ≡ false → awaited_from k numbers (set slots i (freed g)) ≡ awaited_from k numbers slots
 awaited_freed k numbers [] i g o at none = refl
-awaited_freed k numbers (x ∷ slots) zero g o at none = grind (arith, same_thing, freed_unawaited)
+awaited_freed k numbers (x ∷ slots) zero g o at none = grind (arith, same_Some, freed_unawaited)
 awaited_freed k numbers (x ∷ slots) (suc i) g o at none = ap (λ xs. if is_awaited x then slice_index_or numbers k 0 ∷ xs else xs) (awaited_freed (suc k) numbers slots i g o at none)
 
 -- others have other numbers
@@ -128,20 +77,14 @@ awaited_dropped : (n k : ℕ) (numbers : List ℕ) (slots : List (Slot (Entry Re
     → (awaited_from k numbers (set slots i (Live g e)) ≡ filter (λ q. not (q == n)) (awaited_from k numbers slots)) × (has_number n (awaited_from k numbers slots) ≡ is_awaited o)
 awaited_dropped n k numbers [] i g o e there none is others = absurd (let no : None ≡ Some o = there in cc)
 awaited_dropped n k numbers (x ∷ slots) zero g o e there none is others =
-    let same : x ≡ o = same_thing x o there in
+    let keep : List ℕ → List ℕ = λ ns. filter (λ q. not (q == n)) ns in
+    let ns : List ℕ = awaited_from (suc k) numbers slots in
+    let by : (b : Bool) → is_awaited x ≡ b → (keep ns ≡ ns) × (has_number n ns ≡ false) → (slice_index_or numbers k 0 == n) ≡ true → is_awaited x ≡ is_awaited o → (awaited_from k numbers (set (x ∷ slots) zero (Live g e)) ≡ keep (awaited_from k numbers (x ∷ slots))) × (has_number n (awaited_from k numbers (x ∷ slots)) ≡ is_awaited o) =
+    grind arith in
+    let same : x ≡ o = same_Some x o there in
     let rest = none_kept n (suc k) numbers slots (λ j y at awaited same. others (suc j) y at awaited (λ e. absurd (omega (arith, e))) (ap (λ m. slice_index_or numbers m 0) (let e : k + suc j ≡ suc k + j = omega arith in e) ∙ same)) in
     let here : slice_index_or numbers k 0 ≡ n = ap (λ m. slice_index_or numbers m 0) (let e : k ≡ k + 0 = omega arith in e) ∙ is in
     by (is_awaited x) refl rest (ap (λ m. m == n) here ∙ eq-eqb n n refl) (ap is_awaited same)
-  where
-    keep : List ℕ → List ℕ
-    keep ns = filter (λ q. not (q == n)) ns
-
-    ns : List ℕ
-    ns = awaited_from (suc k) numbers slots
-
-    by : (b : Bool) → is_awaited x ≡ b → (keep ns ≡ ns) × (has_number n ns ≡ false) → (slice_index_or numbers k 0 == n) ≡ true → is_awaited x ≡ is_awaited o
-        → (awaited_from k numbers (set (x ∷ slots) zero (Live g e)) ≡ keep (awaited_from k numbers (x ∷ slots))) × (has_number n (awaited_from k numbers (x ∷ slots)) ≡ is_awaited o)
-    by = grind arith
 awaited_dropped n k numbers (x ∷ slots) (suc i) g o e there none is others =
     let rest = awaited_dropped n (suc k) numbers slots i g o e there none (ap (λ m. slice_index_or numbers m 0) (let e : suc k + i ≡ k + suc i = omega arith in e) ∙ is) (others_later n k numbers x slots i others) in
     by (is_awaited x) refl rest

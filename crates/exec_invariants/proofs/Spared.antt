@@ -1,14 +1,14 @@
 -- What holds of a worker by the records of its requests and sleepers alone, where a step of another leaves those.
-use Rattle.std.proofs.{Common.{◌≡◌, ℕ, ◌+◌, ◌≤◌, ◌<◌, ◌==◌, ◌||◌, Bool, true, false, List, [], ◌∷◌, length, Option, Some, IsSome, refl, sym, ap, subst, ◌∙◌, arith, slice_get}, lemmas.{Bool.{false≢true, eq-eqb}, Option.slice_get_within}}
+use Rattle.std.{proofs.{Common.{◌≡◌, ℕ, ◌+◌, ◌≤◌, ◌<◌, ◌==◌, ◌||◌, Bool, true, false, List, [], ◌∷◌, length, Option, Some, IsSome, refl, sym, ap, subst, ◌∙◌, arith, slice_get}, lemmas.{Bool.{false≢true, eq-eqb}, Option.slice_get_within}}, specs.Prelude.None}
 use Rattle.exec_base.specs.{Slab.{Slab, value_at}, declared.slab.Id.Id}
 use Rattle.exec_time.specs.declared.timers.Sleeper.{Sleeper as Sleeping}
 use Rattle.exec_ring.specs.declared.completion.Completion.{Completion}
-use Rattle.exec_waiters.specs.{States.waiter_at, declared.deferred.Deferred.Deferred}
-use Rattle.exec_driver.specs.Driving.{Driving}
+use Rattle.exec_waiters.specs.{States.waiter_at, declared.{deferred.Deferred.Deferred, waiter.Waiter.Waiter, waiter_id.WaiterId.WaiterId}}
+use Rattle.exec_driver.specs.{Driving.Driving, Lists.is_among}
 use Rattle.exec_machine.specs.{declared.state.Waiting.Waiting, Tests.{is_asleep, is_resolved, is_staged}}
 use Rattle.exec_moves.specs.declared.{handing.Heard.Heard, place.{InPoll.InPoll, InService.InService}}
 use Rattle.exec_parts.{specs.{declared.parts.{mail.{Reply.Reply, Subject.Subject}, names.Names.Names, record.Record.Record, sleeping.SleeperRecord.SleeperRecord}, Records.number_in, Serving.{AreKnown, is_one_of}}, proofs.Facts.{same_number, or_left, or_right}}
-use Rattle.exec_invariants.{specs.{Due.{AreAsleep, AreTimed}, Flown.{AreLanded, HasFlown, operations}, Holding.Mail, HoldPlaces.Hearing, Places.one_if, Rooted.{HearsNext, IsRooted, completions_of, results_of}, Sound.{AreOver, IsLetter, IsMineIn, IsMyMail, MayStop, StopsIn}, Names.{IsNamed, IsSubmitted}, Spares.{RecordsEndure, SleepersEndure, SparedRecords, SparedSleepers, SparesRecord, SparesRecords, SparesSleeper, SparesSleepers}}, proofs.{FiringNames.naps_on, SparedRecord.{there_within, live_of, mine_asleep, applied_still, worker_still, over_still, was_held, goes_still, answer_by, alike_by, timed_by, plain_by, kept_by, reply_by, stands_by, paid_still, pays_by, sleeper_worker_still, ends_still, watches_by, sleeper_pays_by}}}
+use Rattle.exec_invariants.{specs.{Due.{AreAsleep, AreTimed}, Flown.{AreLanded, HasFlown, operations, IsPlain}, Holding.Mail, HoldPlaces.Hearing, Places.one_if, Rooted.{HearsNext, IsRooted, completions_of, results_of}, Sound.{AreOver, IsLetter, IsMineIn, IsMyMail, MayStop, StopsIn}, Names.{IsNamed, IsSubmitted, IsAlike}, Spares.{RecordsEndure, SleepersEndure, SparedRecords, SparedSleepers, SparesRecord, SparesRecords, SparesSleeper, SparesSleepers}}, proofs.{FiringNames.naps_on, SparedRecord.{there_within, live_of, mine_asleep, applied_still, worker_still, over_still, was_held, goes_still, answer_by, alike_by, timed_by, plain_by, kept_by, reply_by, stands_by, paid_still, pays_by, sleeper_worker_still, ends_still, watches_by, sleeper_pays_by}}}
 
 -- THE RECORDS OF A WORKER'S REQUESTS AND SLEEPERS are spared
 pub record KeepsMine (i : ℕ) (rs rs' : List Record) (ss ss' : List SleeperRecord) : Type 0 where
@@ -52,18 +52,14 @@ module _ (i : ℕ) (rs rs' : List Record) (ss ss' : List SleeperRecord) (keeps :
 
   submitted_apart : (n : Names) (d : Driving Reply Reply) → IsSubmitted i n.staged.items n.untold.items d.ring rs → IsSubmitted i n.staged.items n.untold.items d.ring rs'
   submitted_apart n d sub =
-      record {
-        tagged = sub.tagged;
-        cancels = sub.cancels;
-        known = known_apart n.staged.items sub.known sub.own;
-        own = λ k x among there.
-            let y = there_within rs k (known_at n.staged.items k sub.known among) in
-            let mine = sub.own k y.0 among y.1 in
-            worker_still y.0 x (back k y.0 x y.1 mine there) ∙ mine;
-        all = λ k x there mine is.
-            let old = keeps.records_only k x there mine in
-            sub.all k old.0 old.1 (was_mine k x there mine) (sym (ap (λ (y : Record). is_staged y.shown.phase) old.2.kept) ∙ is);
-      }
+      let own : (k : ℕ) (x : Record) → is_one_of k n.staged.items ≡ true → slice_get rs' k ≡ Some x → x.shown.worker ≡ i = λ k x among there.
+      let y = there_within rs k (known_at n.staged.items k sub.known among) in
+      let mine = sub.own k y.0 among y.1 in
+      worker_still y.0 x (back k y.0 x y.1 mine there) ∙ mine in
+      let all : (k : ℕ) (x : Record) → slice_get rs' k ≡ Some x → x.shown.worker ≡ i → is_staged x.shown.phase ≡ true → is_one_of k n.staged.items ≡ true = λ k x there mine is.
+      let old = keeps.records_only k x there mine in
+      sub.all k old.0 old.1 (was_mine k x there mine) (sym (ap (λ (y : Record). is_staged y.shown.phase) old.2.kept) ∙ is) in
+      assumption (known_apart n.staged.items sub.known sub.own, own, all, sub)
 
   -- NAMES
 
@@ -81,25 +77,21 @@ module _ (i : ℕ) (rs rs' : List Record) (ss ss' : List SleeperRecord) (keeps :
 
     pub named_apart : IsNamed i n d zs rs' ss'
     named_apart =
-        record {
-          requests = λ id some.
-              let r = named.requests id some in
-              let now = keeps.records (number_in n.requests.items id) r.0 r.1 r.3 in
-              (now.0, now.1, ap (λ (x : Record). x.id.0) now.2.kept ∙ r.2, worker_still r.0 now.0 now.2 ∙ r.3);
-          timers = λ id some.
-              let z = named.timers id some in
-              let now = keeps.sleepers (number_in n.timers.items id) z.0 z.1 z.3 in
-              (now.0, now.1, ap (λ (x : SleeperRecord). x.id.0) now.2.kept ∙ z.2, sleeper_worker_still z.0 now.0 now.2 ∙ z.3);
-          alike = λ id it r live there.
-              let old = record_back id r (live_of d.requests id it live) there in
-              alike_by old.0 r old.2 d.wheel.start d.wheel.tick it (named.alike id it old.0 live old.1);
-          over = λ k r there mine gone.
-              let old = keeps.records_only k r there mine in
-              over_still old.0 r old.2 ∙ named.over k old.0 old.1 (was_mine k r there mine) (ap (waiter_at d.requests) (sym (ap (λ (x : Record). x.id.0) old.2.kept)) ∙ gone);
-          submitted = submitted_apart n d named.submitted;
-          slots = named.slots;
-          beds = named.beds;
-        }
+        let requests : (id : Id) → IsSome (value_at d.requests id) → (r : Record) × (slice_get rs' (number_in n.requests.items id) ≡ Some r) × (r.id.0 ≡ id) × (r.shown.worker ≡ i) = λ id some.
+        let r = named.requests id some in
+        let now = keeps.records (number_in n.requests.items id) r.0 r.1 r.3 in
+        (now.0, now.1, ap (λ (x : Record). x.id.0) now.2.kept ∙ r.2, worker_still r.0 now.0 now.2 ∙ r.3) in
+        let timers : (id : Id) → IsSome (value_at zs id) → (sleeper : SleeperRecord) × (slice_get ss' (number_in n.timers.items id) ≡ Some sleeper) × (sleeper.id.0 ≡ id) × (sleeper.shown.worker ≡ i) = λ id some.
+        let z = named.timers id some in
+        let now = keeps.sleepers (number_in n.timers.items id) z.0 z.1 z.3 in
+        (now.0, now.1, ap (λ (x : SleeperRecord). x.id.0) now.2.kept ∙ z.2, sleeper_worker_still z.0 now.0 now.2 ∙ z.3) in
+        let alike : (id : Id) (it : Waiter Reply Reply) (r : Record) → waiter_at d.requests id ≡ Some it → slice_get rs' (number_in n.requests.items id) ≡ Some r → IsAlike d.wheel.start d.wheel.tick it r.shown = λ id it r live there.
+        let old = record_back id r (live_of d.requests id it live) there in
+        alike_by old.0 r old.2 d.wheel.start d.wheel.tick it (named.alike id it old.0 live old.1) in
+        let over : (k : ℕ) (r : Record) → slice_get rs' k ≡ Some r → r.shown.worker ≡ i → waiter_at d.requests r.id.0 ≡ None → is_resolved r.shown.phase ≡ true = λ k r there mine gone.
+        let old = keeps.records_only k r there mine in
+        over_still old.0 r old.2 ∙ named.over k old.0 old.1 (was_mine k r there mine) (ap (waiter_at d.requests) (sym (ap (λ (x : Record). x.id.0) old.2.kept)) ∙ gone) in
+        assumption (requests, timers, alike, over, submitted_apart n d named.submitted, named)
 
     -- WHAT IS DUE
 
@@ -149,23 +141,13 @@ module _ (i : ℕ) (rs rs' : List Record) (ss ss' : List SleeperRecord) (keeps :
 
     pub flown_apart : (x : Option InService) → ((k : ℕ) (r : Record) → slice_get rs' k ≡ Some r → is_resolved r.shown.phase ≡ false → r.shown.released ≡ false) → HasFlown x i n d rs → HasFlown x i n d rs'
     flown_apart x owning flown =
-        record {
-          ending = flown.ending;
-          staging = flown.staging;
-          telling = flown.telling;
-          entries = flown.entries;
-          gated = flown.gated;
-          plain = λ k r there mine.
-              let old = keeps.records_only k r there mine in
-              plain_by old.0 r old.2 (flown.plain k old.0 old.1 (was_mine k r there mine));
-          landed = landed_apart (operations d.ring) flown.landed;
-          enrolling = flown.enrolling;
-          polled = flown.polled;
-          owning = owning;
-          uncancelled = λ id r among there mine.
-              let old = keeps.records_only (number_in n.requests.items id.0) r there mine in
-              ap (λ (y : Record). y.shown.cancel_staged) old.2.kept ∙ flown.uncancelled id old.0 among old.1 (was_mine (number_in n.requests.items id.0) r there mine);
-        }
+        let plain : (k : ℕ) (r : Record) → slice_get rs' k ≡ Some r → r.shown.worker ≡ i → IsPlain r.shown = λ k r there mine.
+        let old = keeps.records_only k r there mine in
+        plain_by old.0 r old.2 (flown.plain k old.0 old.1 (was_mine k r there mine)) in
+        let uncancelled : (id : WaiterId) (r : Record) → is_among id d.lists.cancels ≡ true → slice_get rs' (number_in n.requests.items id.0) ≡ Some r → r.shown.worker ≡ i → r.shown.cancel_staged ≡ false = λ id r among there mine.
+        let old = keeps.records_only (number_in n.requests.items id.0) r there mine in
+        ap (λ (y : Record). y.shown.cancel_staged) old.2.kept ∙ flown.uncancelled id old.0 among old.1 (was_mine (number_in n.requests.items id.0) r there mine) in
+        assumption (plain, landed_apart (operations d.ring) flown.landed, owning, uncancelled, flown)
 
     -- WHAT IS KEPT
 

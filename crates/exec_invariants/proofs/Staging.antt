@@ -9,8 +9,8 @@ use Rattle.exec_driver.{specs.{Driving.{Driving, request_at, is_cancelled, is_qu
 use Rattle.exec_task.specs.declared.body.Said.{Said}
 use Rattle.exec_machine.specs.{declared.{config.Configuration.Configuration, event.Event.{Event, TheVariants.Cancel}}, Progress.Plan, Ranges.ring_size, Same.is_number, Tests.{is_empty, is_in_flight, is_staged}, World.{Common, request_of}}
 use Rattle.exec_moves.specs.{Callback.is_full, Load.may_stage, Move.move_submit, Submit.{due_next, staging_due, first_due, one_more, submits, Due.Cancels}, declared.place.{Service.Service, Place.Place, InService.InService}}
-use Rattle.exec_parts.{specs.{declared.parts.{mail.Reply.Reply, names.Names.Names, record.Record.Record, sleeping.SleeperRecord.SleeperRecord, shared.Shared.Shared, worker.Worker.Worker}, Records.number_in, Serving.{AreTagged, cancels_in, changed_at}, Spots.Spot, Submitting.{AreNamed, StagesCancel, must_flush}, View.{Views, visible, with_view, own_of, desk_of, driver_of, common_of, seat_seen, things_with, numbers_of}}, proofs.Facts.by_not_not}
-use Rattle.exec_invariants.{specs.{Flown.{HasFlown, IsPlain, ends_in, operations}, Holding.{nap_of, thing_of}, Places.{one_if, passes_at}, Sound.{SoundAt, served_in}, Names.{IsAlike, IsNamed, IsSubmitted}, Submits.IsIdle, Works.{Suits, Steps}}, proofs.{Going.{owning_on, GoesOn, same_worker}, Marking.{known_then, plain_kept, mark_if, marked, was_marked}, Serving.{at_large, balances_still, SparesRecords, spares_one}, ServingHolds.{serves_to, IsServed, OthersKept, Follows, Serves, Keeps, KeepsBy, keeps_all}, Recorded.request_seen, Carries.carried_marked, Changing.{OneGoesOn, keeps_one, others_there, all_go_one}, Conveying.carried_beside, Flown.landed_on, Idling.{comes_to_staging, none_due}, Gated.none_gated, Keeping.polls_same, Known.known_marked, Lined.{map_changed, opens_same}, Seeing.{makes, shows, served, common_changed, common_same, ring_again, things_kept}}}
+use Rattle.exec_parts.{specs.{declared.parts.{mail.Reply.Reply, names.Names.Names, record.Record.Record, sleeping.SleeperRecord.SleeperRecord, shared.Shared.Shared, worker.Worker.Worker}, Records.number_in, Serving.{AreTagged, cancels_in, changed_at}, Spots.Spot, Submitting.{AreNamed, StagesCancel, must_flush}, View.{Views, visible, with_view, own_of, desk_of, driver_of, common_of, seat_seen, things_with, numbers_of}}, proofs.Facts.not-false}
+use Rattle.exec_invariants.{specs.{Flown.{HasFlown, IsPlain, ends_in, operations, AreLanded}, Holding.{nap_of, thing_of}, Places.{one_if, passes_at}, Sound.{SoundAt, served_in}, Names.{IsAlike, IsNamed, IsSubmitted}, Submits.IsIdle, Works.{Suits, Steps}}, proofs.{Going.{owning_on, GoesOn, same_worker}, Marking.{known_then, plain_kept, mark_if, marked, was_marked}, Serving.{at_large, balances_still, SparesRecords, spares_one}, ServingHolds.{serves_to, IsServed, OthersKept, Follows, Serves, Keeps, KeepsBy, keeps_all}, Recorded.request_seen, Carries.carried_marked, Changing.{OneGoesOn, keeps_one, others_there, all_go_one}, Conveying.carried_beside, Flown.landed_on, Idling.{comes_to_staging, none_due}, Gated.none_gated, Keeping.polls_same, Known.known_marked, Lined.{map_changed, opens_same}, Seeing.{makes, shows, served, common_changed, common_same, ring_again, things_kept}}}
 
 -- WHAT IS SEEN
 
@@ -89,10 +89,6 @@ pub first_there : (ids : List WaiterId) → has_first ids ≡ true → (id : Wai
 first_there [] h = absurd (false≢true h)
 first_there (id ∷ ids) h = (id, refl)
 
-pub none_there : (ids : List WaiterId) → has_first ids ≡ false → ids ≡ []
-none_there [] h = refl
-none_there (id ∷ ids) h = absurd (false≢true (sym h))
-
 pub first_may : (d : Driving Reply Reply) → may_stage_one d ≡ true → (id : WaiterId) × (first_of d.lists.queued ≡ Some id)
 first_may = grind (arith, first_there, false≢true)
 
@@ -154,7 +150,7 @@ module _ {B : Type 0} (v : Service) (w : Worker) (s : Shared B) (idle : IsIdle v
   has_places some =
       let d = driver_of w in
       let f = idle.sound.flown in
-      let below : nat_lt (length d.ring.staged) d.ring.size ≡ true = by_not_not (nat_lt (length d.ring.staged) d.ring.size) (has_room some) in (
+      let below : nat_lt (length d.ring.staged) d.ring.size ≡ true = not-false (nat_lt (length d.ring.staged) d.ring.size) (has_room some) in (
         (rooms_there (length w.names.staged.items) (length w.names.untold.items) (length d.ring.staged) d.ring.size (vec_capacity w.names.staged) f.entries below f.staging).0,
         (rooms_there (length w.names.staged.items) (length w.names.untold.items) (length d.ring.staged) d.ring.size (vec_capacity w.names.untold) f.entries below f.telling).1,
       )
@@ -184,8 +180,6 @@ module _ {B L : Type 0} (left : B → L) (spot : L → Option Said → Spot) whe
       let k = number_in w.names.requests.items id.0 in
       let ask = asks v w s idle id first in
       let d' : Driving Reply Reply = record (cancel_staged d id) { landings = (driver_of w').landings } in
-      let o = w.put_off in
-      let n' : Names = record w.names { untold = w'.names.untold } in
       let same : w' ≡ record w { place = w'.place; put_off = w'.put_off; home = record w.home { driver = w'.home.driver }; names = record w.names { staged = w'.names.staged; untold = w'.names.untold } } =
       subst (λ x. x ≡ record w { place = x.place; put_off = x.put_off; home = record w.home { driver = x.home.driver }; names = record w.names { staged = x.names.staged; untold = x.names.untold } }) (sym it.worker) refl in
       let there : w'.place ≡ q = ap (λ x. x.place) it.worker ∙ sound.here in
@@ -193,7 +187,6 @@ module _ {B L : Type 0} (left : B → L) (spot : L → Option Said → Spot) whe
       let unchanged : w'.names.staged ≡ w.names.staged = ap (λ x. x.names.staged) it.worker in
       let split = split_first id d.lists.cancels first in
       let on : GoesOn ask.r (marks_cancel ask.r) = record { same = refl; over = refl; ended = λ h. refl } in
-      let a = ask.alike in
       let one : OneGoesOn w.names (record w.names { staged = w'.names.staged; untold = w'.names.untold }) d d' rs id.0 ask.it ask.it ask.r marks_cancel = grind (arith, same_written, entry_of) in
       let all = all_go_one rs k marks_cancel ask.r ask.there on in
       let rs' = changed_at rs k marks_cancel in
@@ -221,22 +214,17 @@ module _ {B L : Type 0} (left : B → L) (spot : L → Option Said → Spot) whe
       let no : is_among id (rest_of d.lists.cancels) ≡ true = subst (λ (y : WaiterId). is_among y (rest_of d.lists.cancels) ≡ true) (ap (λ z. record { 0 = z }) same_name) among in
       false≢true (sym (idle.lists.cancelled_once id first) ∙ no) in
       flown.uncancelled other x listed (others_there rs k marks_cancel ask.r ask.there on (number_in w.names.requests.items other.0) x apart found) mine in
-      let flown_then : HasFlown (served_in q) w.index (record w.names { staged = w'.names.staged; untold = w'.names.untold }) d' rs' = record {
-        ending = flown.ending;
-        staging = rw unchanged flown.staging;
-        telling = rw room flown.telling;
-        entries = rw (unchanged, untold_more, entries_more) (omega (arith, flown.entries));
-        gated = flown.gated;
-        plain = plain_kept marks_cancel rs k marks_plain w.index (λ r. refl) flown.plain;
-        landed = landed_on w.names (record w.names { staged = w'.names.staged; untold = w'.names.untold }) d d' rs rs' (operations d.ring) flown.landed
-            (λ other x r given live flies found landed.
-            let j = number_in w.names.requests.items other in
-            record { it' = x; r' = mark_if marks_cancel (k == j) r; live = live; flies = refl; same = refl; number = refl; there = marked marks_cancel rs k j r found; phase = marks_phase (k == j) r });
-        enrolling = flown.enrolling;
-        polled = ap (λ n. n + (one_if d.ring.armed + ends_in (completions d.ring))) (polls_same d.ring.staged (cancel_entry id) refl) ∙ flown.polled;
-        owning = owning_on rs rs' all flown.owning;
-        uncancelled = named_apart;
-      } in
+      let staging : d'.ring.size ≤ vec_capacity w'.names.staged = rw unchanged flown.staging in
+      let telling : d'.ring.size ≤ vec_capacity w'.names.untold = rw room flown.telling in
+      let entries : length w'.names.staged.items + length w'.names.untold.items ≤ length d'.ring.staged = rw (unchanged, untold_more, entries_more) (omega (arith, flown.entries)) in
+      let plain = plain_kept marks_cancel rs k marks_plain w.index (λ r. refl) flown.plain in
+      let landed_so : AreLanded (record w.names { staged = w'.names.staged; untold = w'.names.untold }) d' rs' (operations d'.ring) =
+      landed_on w.names (record w.names { staged = w'.names.staged; untold = w'.names.untold }) d d' rs rs' (operations d.ring) flown.landed
+      (λ other x r given live flies found landed.
+      let j = number_in w.names.requests.items other in
+      record { it' = x; r' = mark_if marks_cancel (k == j) r; live = live; flies = refl; same = refl; number = refl; there = marked marks_cancel rs k j r found; phase = marks_phase (k == j) r }) in
+      let polled = ap (λ n. n + (one_if d.ring.armed + ends_in (completions d.ring))) (polls_same d.ring.staged (cancel_entry id) refl) ∙ flown.polled in
+      let flown_then : HasFlown (served_in q) w.index (record w.names { staged = w'.names.staged; untold = w'.names.untold }) d' rs' = assumption (staging, telling, entries, plain, landed_so, polled, owning_on rs rs' all flown.owning, named_apart, flown) in
       let keeps : Keeps w' s' =
       keeps_all w w' s s' rs' d' same it.shared it.driver it.records
       (subst (λ y. KeepsBy (record w { place = y; put_off = w'.put_off; names = record w.names { staged = w'.names.staged; untold = w'.names.untold } }) d' w.home.timers rs' s.sleepers.items s) (sym there)

@@ -1,22 +1,19 @@
 -- What the records and the driver of a worker say alike: which requests stand, and what may go into the submission queue.
 use Rattle.std.{proofs.{Common.{◌≡◌, ℕ, zero, suc, ◌+◌, ◌==◌, ◌&&◌, ◌||◌, Bool, true, false, not, cond, List, [], ◌∷◌, map, get_or, Option, Some, None, refl, sym, ap, ◌∙◌, arith, slice_get, count_by}, lemmas.{Bool.{Decides.nat_tests, false≢true, eq-eqb}, List.{Folds.list_any_at, Recursion.is_count_by}, Option.{slice_get_within, get_or_from_slice_get}}}, specs.List.list_any}
+use Rattle.std.proofs.lemmas.Bool.{and_parts}
 use Rattle.exec_base.specs.{Slab.{Slab, value_at, value_in, slot_at}, declared.slab.{Id.Id, Slot.{Slot, TheVariants.{Live, Vacant}}}}
 use Rattle.exec_time.specs.declared.timers.Sleeper.{Sleeper as Sleeping}
 use Rattle.exec_waiters.specs.{States.{waiter_at, waiter_of, counts_pending, pending_count}, declared.{waiter.{Waiter.Waiter, Entry.{Entry, TheVariants.{Pending}}}}}
 use Rattle.exec_driver.specs.{Driving.{Driving, has_pending}}
 use Rattle.exec_machine.specs.{declared.{config.Configuration.Configuration, state.Request.Request}, Ranges.ring_size, Tests.{is_resolved}}
 use Rattle.exec_moves.specs.Load.{has_submissions}
-use Rattle.exec_parts.{specs.{declared.parts.{mail.Reply.Reply, names.Names.Names, record.Record.Record, sleeping.SleeperRecord.SleeperRecord, worker.Worker.Worker}, Records.number_in, View.{own_of, driver_of}}, proofs.Facts.{same_number, or_right, by_not}}
+use Rattle.exec_parts.{specs.{declared.parts.{mail.Reply.Reply, names.Names.Names, record.Record.Record, sleeping.SleeperRecord.SleeperRecord, worker.Worker.Worker}, Records.number_in, View.{own_of, driver_of}}, proofs.Facts.{same_number, or_right, not-true}}
 use Rattle.exec_invariants.specs.Names.{IsNamed}
 
 -- TESTS OVER LISTS
 
 bool_same : (a b : Bool) → (a ≡ true → b ≡ true) → (b ≡ true → a ≡ true) → a ≡ b
 bool_same = grind arith
-
-and_both : (a b : Bool) → (a && b) ≡ true → (a ≡ true) × (b ≡ true)
-and_both true b h = (refl, h)
-and_both false b h = absurd (false≢true h)
 
 positive : (n : ℕ) → true ≡ not (1 + n == 0)
 positive n = grind (arith, nat_tests)
@@ -89,10 +86,10 @@ requests_seen i n d zs records sleepers named =
     found_any (λ x. is_of i x.shown) records (number_in n.requests.items id) r.0 r.1 (rw (r.3, eq-eqb i i refl, alike.open_still) refl) in
     let from : list_any (λ r. is_of i r.shown) records ≡ true → list_any counts_pending slots ≡ true = λ h.
     let f = record_found (λ x. is_of i x.shown) records h in
-    let two = and_both (f.1.shown.worker == i) (not (is_resolved f.1.shown.phase)) f.3 in
+    let two = and_parts (f.1.shown.worker == i) (not (is_resolved f.1.shown.phase)) f.3 in
     let at_driver : (o : Option (Waiter Reply Reply)) → waiter_at d.requests f.1.id.0 ≡ o → list_any counts_pending slots ≡ true = λ o.
     elim o as (λ x. waiter_at d.requests f.1.id.0 ≡ x → list_any counts_pending slots ≡ true) [
-      | None ↦ λ is. absurd (false≢true (sym (by_not (is_resolved f.1.shown.phase) two.1) ∙ named.over f.0 f.1 f.2 (same_number f.1.shown.worker i two.0) is))
+      | None ↦ λ is. absurd (false≢true (sym (not-true (is_resolved f.1.shown.phase) two.1) ∙ named.over f.0 f.1 f.2 (same_number f.1.shown.worker i two.0) is))
       | Some it ↦ λ is. any_or counts_pending slots f.1.id.0.index (Vacant d.requests.first) refl (asks (slot_at d.requests f.1.id.0.index) f.1.id.0.generation it is)
     ] in
     at_driver (waiter_at d.requests f.1.id.0) refl in

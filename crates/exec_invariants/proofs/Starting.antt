@@ -116,20 +116,7 @@ module _ {B : Type 0} (v : Service) (w : Worker) (s : Shared B) (idle : IsIdle v
       let takes = takes_by it.state parts.1 (tickless (driver_of w).wheel.start (driver_of w).wheel.tick (tick_in it.state) (sym a.timer ∙ untimed)) in
       let among = idle.sound.flown.enrolling id it live takes (ap is_some (sym a.deadline) ∙ some) in
       false≢true (ap (is_among id) (sym idle.enrolments) ∙ among)) in
-      record {
-        it = it;
-        r = r.0;
-        live = live;
-        there = r.1;
-        named = r.2;
-        worker = r.3;
-        alike = a;
-        idle = parts.0;
-        unasked = parts.1;
-        free = parts.2;
-        queued = queued_phase r.0.shown.phase (a.flying ∙ parts.0) a.open_still (a.permit ∙ parts.2);
-        enrolled = enrolled_by it r.0.shown r.0.shown.timer r.0.shown.operation.deadline refl refl none;
-      }
+      grind (arith, it, r.0, live, r.1, r.2, r.3, parts.0, parts.1, parts.2, queued_phase, r.0.shown.phase, a.flying, a.open_still, a.permit, enrolled_by, r.0.shown, r.0.shown.timer, r.0.shown.operation.deadline, none)
 
   pub starts_first : Starts w s id
   starts_first = starts_by (request_at (driver_of w) id) refl

@@ -1,9 +1,9 @@
 -- A task wakes an ordinary task, or itself: what holds then, and what the step is to the machine.
-use Rattle.std.proofs.{Common.{◌≡◌, ◌≢◌, inr, ℕ, zero, suc, ◌+◌, ◌&&◌, arith, Bool, true, false, Contains, List, [], length, map, Option, Some, None, refl, sym, ap, subst, ◌∙◌, option_to_list, slice_get, slice_set, if◌then◌else◌}, lemmas.{Bool.{false≢true, eq-eqb}, List.map-set}}
+use Rattle.std.proofs.{Common.{◌≡◌, ◌≢◌, inr, ℕ, zero, suc, ◌+◌, ◌&&◌, arith, Bool, true, false, Contains, List, length, map, Option, Some, None, refl, sym, ap, subst, ◌∙◌, option_to_list, slice_get, slice_set, if◌then◌else◌}, lemmas.{Bool.{false≢true, eq-eqb}, List.map-set}}
 use Rattle.exec_task.specs.{Phases.{runnable_of, woken as cell_woken, is_idle as is_cell_idle}, declared.{body.{Said.Said}, runnable.Runnable.Runnable, task.Phase.Phase}}
 use Rattle.exec_machine.specs.{Choice.{Choice.Pays, Payer.ByAct}, declared.{config.ScriptWord.ScriptWord, event.Event.TheVariants.Wake, state.{TaskPhase.TaskPhase, Waiting.Waiting}}, Progress.Plan, Same.is_number, Tasks.{after_wake, after_waking_word, is_woken_here}, Tests.is_idle, Words.{acts, asks_wake, asks_yield, next_word}, World.{Common, Task, task_of}}
 use Rattle.exec_moves.specs.{Callback.{is_of_pool, to_queue}, declared.{handing.{AfterPush.AfterPush}, place.{InPoll.InPoll, Place.Place}}, Move.move_wake, Seen.{polls_at}, Send.wake_task, State.{Desk, Moved, Things, goes}}
-use Rattle.exec_parts.{specs.{Roles.is_pool, Tests.first_push_of, declared.parts.{shared.Shared.Shared, task_slot.TaskSlot.TaskSlot, worker.Worker.Worker}, Pooled.woken_slot, Spots.Spot, View.{Views, common_of, desk_of, own_of, task_seen, things_with, visible, with_view}}, proofs.Facts.{by_number, or_left, same_thing, set_elsewhere, set_there}}
+use Rattle.exec_parts.{specs.{Roles.is_pool, Tests.first_push_of, declared.parts.{shared.Shared.Shared, task_slot.TaskSlot.TaskSlot, worker.Worker.Worker}, Pooled.woken_slot, Spots.Spot, View.{Views, common_of, desk_of, own_of, task_seen, things_with, visible, with_view}}, proofs.Facts.{by_number, or_left, same_Some, set_elsewhere, set_there}}
 use Rattle.exec_invariants.{specs.{Drained.IsBefore, Holding.holder_of, Places.{claims_at, clears_at, hands_on_at, has_count_at, in_poll_of, is_pooled_at, is_published_at, one_if, polled_in, removes_at, step_of_poll}, Sound.{HasGuest, IsGuest, IsInHand, IsResting, Serves, SoundAt, Stands, Stops}, Whole.{HasOne, is_number as is_counted, runnables_in}, Works.{Beside, Suits, Works}}, proofs.{Acting.{acts_so, by_word, me_at}, Cells.{complete_woken, idle_seen, polled_woken, woken_seen}, PoolKept.unremoved, Slots.{Balances, before_for, spares_slot, task_there, whole_slot}, SlotTasks.{IsAfter, Keeps, Tasked, homes_set, resting_set, sound_tasked}, Turning.view_found}}
 
 -- what a hand has
@@ -55,7 +55,7 @@ module _ {B : Type 0} where
   woken_tasked t u q h w s slot sound there ordinary lead =
       let tasks : List (TaskSlot B) = s.tasks.items in
       let slot' : TaskSlot B = woken_slot slot in
-      let apart : u ≢ w.root = λ same. let never : None ≡ Some w.index = sym (ap (λ (o : TaskSlot B). o.home) (same_thing sound.runnable.root slot (sym sound.runnable.there ∙ ap (slice_get tasks) (sym same) ∙ there)) ∙ ordinary) ∙ sound.runnable.home in absurd (cc) in
+      let apart : u ≢ w.root = λ same. let never : None ≡ Some w.index = sym (ap (λ (o : TaskSlot B). o.home) (same_Some sound.runnable.root slot (sym sound.runnable.there ∙ ap (slice_get tasks) (sym same) ∙ there)) ∙ ordinary) ∙ sound.runnable.home in absurd (cc) in
       let root : slice_get (slice_set tasks u slot') w.root ≡ slice_get tasks w.root = set_elsewhere tasks u w.root slot' (λ e. apart (sym e)) in
       let own : polled_in w.root q ≡ polled_in w.root (Place.Poll t InPoll.Act) = ap (λ o. in_poll_of w.root o (step_of_poll q)) lead.polls ∙ ap (in_poll_of w.root (Some t)) lead.step in
       let found : slice_get (slice_set tasks u slot') u ≡ Some slot' = set_there tasks u slot' slot there in
@@ -66,7 +66,7 @@ module _ {B : Type 0} where
       by_number t u
       (λ other. (it.0, set_elsewhere tasks u t slot' other ∙ it.1, it.2))
       (λ same.
-      let is : it.0 ≡ slot = same_thing it.0 slot (sym it.1 ∙ ap (slice_get tasks) same ∙ there) in
+      let is : it.0 ≡ slot = same_Some it.0 slot (sym it.1 ∙ ap (slice_get tasks) same ∙ there) in
       (slot', ap (slice_get (slice_set tasks u slot')) same ∙ found, guest_woken InPoll.Act w.index slot (subst (IsGuest InPoll.Act w.index) is it.2))) in
       record {
         pooled = λ is. absurd (false≢true (sym lead.unpooled ∙ is));
@@ -102,7 +102,7 @@ module _ {B : Type 0} where
   -- who polls an ordinary task hasn't passed the barrier
   before_woken : (t u : ℕ) (q : Place) (w : Worker) (s : Shared B) (slot : TaskSlot B) → SoundAt (Place.Poll t InPoll.Act) w s → slice_get s.tasks.items u ≡ Some slot → polls_at q ≡ Some t → slot.home ≡ None → polls_at q ≡ Some u → IsBefore w.index s.seats.items
   before_woken t u q w s slot sound there polls home its =
-      let same : t ≡ u = same_thing t u (sym polls ∙ its) in
+      let same : t ≡ u = same_Some t u (sym polls ∙ its) in
       before_for t InPoll.Act w s slot sound (ap (slice_get s.tasks.items) same ∙ there) home
 
   -- what is sound then, and what others keep
@@ -140,7 +140,7 @@ module _ {B L : Type 0} (left : B → L) (spot : L → Option Said → Spot) whe
       by_number u t
       (λ apart. (other, sym (set_elsewhere s.tasks.items t u mid apart) ∙ ap (λ ts. slice_get ts u) (sym first.items) ∙ there, refl, refl))
       (λ same.
-      let is : mid ≡ other = same_thing mid other (sym (set_there s.tasks.items t mid slot first.there) ∙ ap (λ ts. slice_get ts t) (sym first.items) ∙ ap (slice_get m.tasks.items) (sym same) ∙ there) in
+      let is : mid ≡ other = same_Some mid other (sym (set_there s.tasks.items t mid slot first.there) ∙ ap (λ ts. slice_get ts t) (sym first.items) ∙ ap (slice_get m.tasks.items) (sym same) ∙ there) in
       (slot, ap (slice_get s.tasks.items) same ∙ first.there, sym first.home ∙ ap (λ (x : TaskSlot B). x.home) is, sym first.cell ∙ ap (λ (x : TaskSlot B). x.cell) is))
 
   -- what is common once the task has gone on past its word, and the other was woken
@@ -177,10 +177,7 @@ module _ {B L : Type 0} (left : B → L) (spot : L → Option Said → Spot) whe
       let kept : common_of left spot p vs s1 ≡ record all { tasks = map (task_seen left spot) s'.tasks.items } = refl in
       subst (λ v. Works left spot p vs v s (Wake u) w1 s1) (ap (λ y. record w { place = y }) (sym here)) (record {
         choice = Pays ByAct;
-        moves = by_word left spot t p all w s vs slot (ScriptWord.Wake u) it word
-            ∙ ap (λ y. move_wake p.config w.index all d (things_with vs s) t u y.home) at_u
-            ∙ is.moves seen o.2 idle at_u
-            ∙ ap (λ v. record { event = Wake u; choice = Pays ByAct; desk = desk_of w1; thing = things_with v s1 }) (sym again);
+        moves = grind (arith, by_word left spot t p all w s vs slot (ScriptWord.Wake u) it word, at_u, is.moves seen o.2 idle at_u, again);
         may = (
           or_left (acts me all (asks_wake u)) (acts me all asks_yield && is_number u me.polls) (acts_so left spot t all w slot (asks_wake u) it waits (ap (asks_wake u) word ∙ eq-eqb u u refl)),
           (ap (is_woken_here w.index) home ∙ is.here, tt),
@@ -195,11 +192,8 @@ module _ {B L : Type 0} (left : B → L) (spot : L → Option Said → Spot) whe
       let all = common_of left spot p vs s in
       let d = desk_of (record w { place = Place.Poll t InPoll.Act }) in
       let by : Desk → Moved Things = λ k. record { event = Wake u; choice = Pays ByAct; desk = k; thing = things_with vs s } in
-      record {
-        here = ap (is_woken_here w.index) ordinary;
-        own = lead.own;
-        moves = λ y home idle at.
-            ap (move_wake p.config w.index all d (things_with vs s) t u) (home ∙ ordinary)
-            ∙ ap (λ z. by (wake_task w.index t u all d z).desk) at
-            ∙ ap by (lead.desk all y.phase pool idle);
-      }
+      let moves : (y : Task) → y.home ≡ other.home → is_idle y.phase ≡ is_cell_idle other.cell.phase → task_of (common_of left spot p vs s) u ≡ y → move_wake p.config w.index (common_of left spot p vs s) (desk_of (record w { place = Place.Poll t InPoll.Act })) (things_with vs s) t u y.home ≡ record { event = Wake u; choice = Pays ByAct; desk = desk_of (record w { place = q; root_ready = w.root_ready; hand = h }); thing = things_with vs s } = λ y home idle at.
+      ap (move_wake p.config w.index all d (things_with vs s) t u) (home ∙ ordinary)
+      ∙ ap (λ z. by (wake_task w.index t u all d z).desk) at
+      ∙ ap by (lead.desk all y.phase pool idle) in
+      assumption (ap (is_woken_here w.index) ordinary, moves, lead)

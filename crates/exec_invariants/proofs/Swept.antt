@@ -1,5 +1,6 @@
 -- The ring of a driver after a reaping, and after wakes were raised.
 use Rattle.std.{proofs.{Common.{◌≡◌, ℕ, zero, suc, ◌+◌, ◌≤◌, ◌==◌, ◌&&◌, ◌||◌, Bool, true, false, not, List, [], ◌∷◌, ◌++◌, map, filter, Option, Some, None, refl, sym, ap, ◌∙◌, arith, nat_lt, replicate, if◌then◌else◌}, lemmas.{Bool.{false≢true, Decides.nat_tests}, List.append_assoc}}, specs.List.flat_map}
+use Rattle.std.proofs.Math.Bool.{or-true}
 use Rattle.exec_ring.specs.{Completions.{wake_completion}, Kernels.{has_none, is_quiet, reaped, with_wake}, Rings.{RingState, completions, spelled}, declared.completion.{Completion.Completion, Posted.Posted}}
 use Rattle.exec_driver.specs.{Driving.Driving, Steps.{swept, with_landings}}
 use Rattle.exec_machine.specs.Tests.{is_empty}
@@ -42,25 +43,13 @@ module _ {S F : Type 0} where
   ring_by f d d' cs ys shape left landed others told ended ends armed polled =
       let xs = completions d.ring in
       let drop = is_dropped (map f cs) (behind_end xs) in
-      record {
-        size = ap (λ r. r.size) shape;
-        staged = ap (λ r. r.staged) shape;
-        flying = ap (λ r. r.flying) shape;
-        busy = ap (λ r. r.busy) shape;
-        landed = ap (filter is_op) left ∙ landed;
-        others = ap (trailing 0) left ∙ others;
-        poll =
-            ap (λ r. record { armed = r.armed; last = r.last; told = trails_wake false (completions d'.ring); ended = behind_end (completions d'.ring); kept = r.raised }) shape
-            ∙ ap (λ cs. record { armed = d.ring.armed; last = d.ring.last; told = trails_wake false cs; ended = behind_end cs; kept = d.ring.raised }) left
-            ∙ ap (λ b. record { armed = d.ring.armed; last = d.ring.last; told = b; ended = behind_end ys; kept = d.ring.raised }) told
-            ∙ ap (λ e. record { armed = d.ring.armed; last = d.ring.last; told = told_left (map f cs) (trails_wake false xs); ended = e; kept = d.ring.raised }) ended;
-        armed = armed;
-        polled =
-            ap (λ r. polls_in r.staged + (one_if r.armed + ends_in (completions d'.ring))) shape
-            ∙ ap (λ n. polls_in d.ring.staged + (one_if d.ring.armed + n)) (ap ends_in left ∙ ends)
-            ∙ balanced drop (behind_end xs) xs (polls_in d.ring.staged) d.ring.armed d.armed refl (some_end (map f cs) (behind_end xs)) polled
-            ∙ sym (ap one_if armed);
-      }
+      let poll : wake_poll_in d'.ring ≡ dropped (map f cs) (wake_poll_in d.ring) = grind (arith, shape, left, told, ended) in
+      let polled_so : IsPolled d'.ring d'.armed =
+      ap (λ r. polls_in r.staged + (one_if r.armed + ends_in (completions d'.ring))) shape
+      ∙ ap (λ n. polls_in d.ring.staged + (one_if d.ring.armed + n)) (ap ends_in left ∙ ends)
+      ∙ balanced drop (behind_end xs) xs (polls_in d.ring.staged) d.ring.armed d.armed refl (some_end (map f cs) (behind_end xs)) polled
+      ∙ sym (ap one_if armed) in
+      assumption (ap (λ r. r.size) shape, ap (λ r. r.staged) shape, ap (λ r. r.flying) shape, ap (λ r. r.busy) shape, ap (filter is_op) left ∙ landed, ap (trailing 0) left ∙ others, poll, armed, polled_so)
 
   -- where none has landed all is dropped
   pub ring_none : (f : Completion → ℕ) (d d' : Driving S F) → d' ≡ with_landings d' (swept d) → IsPolled d.ring d.armed → filter is_op (completions d.ring) ≡ [] → RingAfter f d d' []
@@ -95,11 +84,7 @@ module _ {S F : Type 0} where
       let ring2 : second.ring ≡ reaped r1 = ring ∙ ap (λ x. reaped x.ring) like1 in
       let left2 : completions second.ring ≡ it.rest = ap completions ring2 ∙ there.left in
       let again : d'.ring ≡ (swept second).ring = ap (λ x. x.ring) like2 in
-      let shape : d'.ring ≡ record d.ring { posted = d'.ring.posted; wakes = d'.ring.wakes } =
-      again ∙ ap (λ x. x.ring) to2.shape
-      ∙ ap (λ (r : RingState). record r { posted = (swept second).ring.posted; wakes = (swept second).ring.wakes }) ring2
-      ∙ ap (λ (x : Driving S F). record x.ring { posted = (swept second).ring.posted; wakes = (swept second).ring.wakes }) to1.shape
-      ∙ ap (λ (r : RingState). record d.ring { posted = r.posted; wakes = r.wakes }) (sym again) in
+      let shape : d'.ring ≡ record d.ring { posted = d'.ring.posted; wakes = d'.ring.wakes } = grind (arith, again, to2.shape, ring2, to1.shape) in
       ring_by f d d' cs (after_controls it.rest) shape
       (ap completions again ∙ to2.left ∙ ap after_controls left2)
       (ops_after it.rest ∙ it.later)
@@ -129,10 +114,6 @@ raises_to (suc n) d polled =
 
 -- WHAT IS IN THE RING
 
-or_true : (b : Bool) → (b || true) ≡ true
-or_true true = refl
-or_true false = refl
-
 is_positive : (n : ℕ) → nat_lt 0 (suc n) ≡ true
 is_positive n = grind (arith, nat_tests)
 
@@ -140,7 +121,7 @@ is_positive n = grind (arith, nat_tests)
 some_there : (f : Completion → ℕ) (n : ℕ) (told : Bool) (cs : List Completion)
     → (not (is_empty (map f (filter is_op cs))) || (nat_lt 0 (trailing n cs) || trails_wake told cs)) ≡ (nat_lt 0 n || (told || not (is_empty cs)))
 some_there f n told [] = grind arith
-some_there f n told (c ∷ cs) = grind (arith, is_positive, false≢true, or_true, is_op, some_there f n true cs, some_there f (suc n) told cs)
+some_there f n told (c ∷ cs) = grind (arith, is_positive, false≢true, or-true, is_op, some_there f n true cs, some_there f (suc n) told cs)
 
 some_spelled : (n : ℕ) (w c : Completion) (rest : List Completion) → is_empty ((replicate n w ++ c ∷ []) ++ rest) ≡ false
 some_spelled zero w c rest = refl

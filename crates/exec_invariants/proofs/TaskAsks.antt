@@ -91,6 +91,7 @@ module _ {B : Type 0} where
       → Touches s (record s { requests = mid.requests; sleepers = mid.sleepers }) → Dealt y w.index it.slot slot' mid.requests.items mid.sleepers.items → ((others : Profile) → Holds (with_worker others w) s → Holds (with_worker others w) s')
       → SoundAt (led_to t y b j (asks_by m chair.mailbox)) (record w { place = led_to t y b j (asks_by m chair.mailbox) }) s' × Beside w s (record w { place = led_to t y b j (asks_by m chair.mailbox) }) s'
   asked_leaves x y b t j m letter w s mid s' slot' chair open_box from on by sound it midkept items kept posts touches to holds =
+      let here_or_none : (it.slot.home ≡ Some w.index) ⊎ (it.slot.home ≡ None) = by_number t w.root (λ apart. inr (it.ordinary apart).1) (λ own. inl (it.root own).1) in
       let asks : Bool = asks_by m chair.mailbox in
       let q' : Place = led_to t y b j asks in
       let w1 : Worker = record w { place = q' } in
@@ -99,14 +100,10 @@ module _ {B : Type 0} where
       let all : s' ≡ s1 = kept ∙ ap (λ (z : Shared B). record z { seats = s'.seats }) midkept in
       let mid_seats : mid.seats ≡ s.seats = ap (λ (z : Shared B). z.seats) midkept in
       let handles : Handles t s s1 it.slot slot' = record { there = it.there; items = items; cell = to.cell; home = to.home; cleared = to.cleared; poller = to.poller } in
-      let deals : Deals t w w1 s s1 it.slot slot' = record {
-        kept = refl;
-        handles = handles;
-        profile = profile_led x y b t j w by asks (profile_here x y t w from on sound.here);
-        lines = touches.lines;
-        gates = gates_set j s.seats.items s'.seats.items chair chair' posts.set posts.there (gate_spared chair chair' posts.spares);
-        queues = ap (map queue_of_chair) posts.set ∙ queues_set s.seats.items j chair chair' posts.there posts.queue;
-      } in
+      let profile = profile_led x y b t j w by asks (profile_here x y t w from on sound.here) in
+      let gates = gates_set j s.seats.items s'.seats.items chair chair' posts.set posts.there (gate_spared chair chair' posts.spares) in
+      let queues = ap (map queue_of_chair) posts.set ∙ queues_set s.seats.items j chair chair' posts.there posts.queue in
+      let deals : Deals t w w1 s s1 it.slot slot' = assumption (handles, profile, gates, queues, touches) in
       let sound2 : SoundAt (Place.Poll t y) (record w { place = Place.Poll t y }) mid = sound_dealt x y t w s mid slot' from on sound it midkept items touches to in
       let sound3 : SoundAt q' w1 s' = sound_posted t y b j asks (record w { place = Place.Poll t y }) mid s' chair chair' by on sound2 kept (subst (λ cs. Posts w.index j cs s'.seats.items chair chair') (ap (λ z. z.items) (sym mid_seats)) posts) in
       let mine : (k : ℕ) → it.slot.home ≡ Some k → k ≡ w.index = home_mine w.index it.slot.home here_or_none in
@@ -114,9 +111,6 @@ module _ {B : Type 0} where
       let beside : Beside w s w1 s1 = beside_dealt t w w1 s s1 it.slot slot' deals it.poller mine sound.homes touches (seats_other w.index j s.seats.items s'.seats.items chair chair' posts.set posts.there tails posts.spares)
       (λ others old. subst (Holds (with_worker others w)) all (holds others old)) in
       (sound3, subst (λ z. Beside w s w1 z) (sym all) beside)
-    where
-      here_or_none : (it.slot.home ≡ Some w.index) ⊎ (it.slot.home ≡ None)
-      here_or_none = by_number t w.root (λ apart. inr (it.ordinary apart).1) (λ own. inl (it.root own).1)
 
 module _ {B L : Type 0} (left : B → L) (spot : L → Option Said → Spot) where
   -- THE WHOLE STEP
@@ -174,8 +168,6 @@ module _ {B L : Type 0} (left : B → L) (spot : L → Option Said → Spot) whe
             ∙ ap (λ v. record { event = Send j m; choice = Plain; desk = desk_of w1; thing = things_with v s1 }) (sym again);
         may = may;
         own = own ∙ sym own_then;
-        common = ap (λ v. common_of left spot p v s1) again
-            ∙ ap (λ xs. record (common_of left spot p vs mid) { seats = xs }) (ap (seats_seen vs.workers) posts.set ∙ chair_set vs.workers s.seats.items j viewed.0 chair' viewed.1 ∙ ap (slice_set (seats_seen vs.workers s.seats.items) j) (seat_open m letter chair open_box viewed.0 ∙ ap (seat_posted m) (sym seat)))
-            ∙ sym common;
+        common = grind (arith, again, posts.set, chair_set vs.workers s.seats.items j viewed.0 chair' viewed.1, seat_open m letter chair open_box viewed.0, seat, common);
       } in
       subst (Works left spot p vs w s (Send j m) w1) (sym kept) (subst (λ v. Works left spot p vs v s (Send j m) w1 s1) (ap (λ y. record w { place = y }) (sym here)) done)

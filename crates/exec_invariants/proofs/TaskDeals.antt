@@ -4,8 +4,8 @@ use Rattle.std.proofs.Common.{arith}
 use Rattle.exec_task.specs.{Phases.is_polled, declared.{body.Said.Said, task.{Task.Task as TaskCell}}}
 use Rattle.exec_machine.specs.{declared.{event.Event.Event}, Progress.Plan}
 use Rattle.exec_moves.specs.{declared.place.{InPoll.InPoll, Place.Place}, Seen.{polls_in}}
-use Rattle.exec_parts.{specs.{declared.parts.{record.Record.Record, shared.Shared.Shared, sleeping.SleeperRecord.SleeperRecord, task_slot.TaskSlot.TaskSlot, worker.Worker.Worker}, Spots.Spot, View.Views}, proofs.Facts.{by_number, same_thing, set_there}}
-use Rattle.exec_invariants.{specs.{Hearing.Hears, Places.{begins_at, hands_on_at, is_pooled_at, polled_in, drops_at}, Sound.{HasGuest, IsGuest, IsInHand, IsRunnable, SoundAt, Stops, StopsIn, WaitsAt, acts_next, is_told, one_of, root_in_hand}, Whole.{Profile, with_worker}, Works.{Beside, Steps, Suits, Works}}, proofs.{Aside.{SameProfile, seats_same}, Hearing.hears_so, Here.{IsHere, unflagged_there}, HoldBeside.{Deals, Handles, Holds, beside_dealt}, HoldThings.{Touches, sound_touched}, Polling.{home_mine, in_own_poll, on_in_poll}, SlotTasks.{IsAfter, Sits, Tasked, guest_tasked, none_in, root_tasked, sound_tasked}}}
+use Rattle.exec_parts.{specs.{declared.parts.{record.Record.Record, shared.Shared.Shared, sleeping.SleeperRecord.SleeperRecord, task_slot.TaskSlot.TaskSlot, worker.Worker.Worker}, Spots.Spot, View.Views}, proofs.Facts.{by_number, same_Some, set_there}}
+use Rattle.exec_invariants.{specs.{Hearing.Hears, Places.{begins_at, hands_on_at, is_pooled_at, drops_at}, Sound.{HasGuest, IsGuest, IsInHand, SoundAt, Stops, StopsIn, WaitsAt, acts_next, is_told}, Whole.{Profile, with_worker}, Works.{Beside, Steps, Suits, Works}}, proofs.{Aside.{SameProfile, seats_same}, Hearing.hears_so, Here.{IsHere}, HoldBeside.{Deals, Holds, beside_dealt}, HoldThings.{Touches, sound_touched}, Polling.{home_mine, on_in_poll}, SlotTasks.{IsAfter, Sits, Tasked, guest_tasked, none_in, root_tasked, sound_tasked}}}
 
 -- where it goes on: it acts next, or its poll ends
 pub record GoesOn (t : ℕ) (y : InPoll) : Type 0 where
@@ -52,56 +52,36 @@ module _ {B : Type 0} where
 
   pub dealt_tasked : (x y : InPoll) (t : ℕ) (w : Worker) (s : Shared B) (slot' : TaskSlot B) → (sound : SoundAt (Place.Poll t x) w s) → (it : IsHere x t w s) → Dealt y w.index it.slot slot' s.requests.items s.sleepers.items → GoesOn t y
       → Tasked (Place.Poll t y) w w.root_ready None s (slice_set s.tasks.items t slot')
-  dealt_tasked x y t w s slot' sound it to on = by_number t w.root other root
-    where
-      q : Place
-      q = Place.Poll t y
-
-      number : slot'.cell.number ≡ it.slot.cell.number
-      number = ap (λ (c : TaskCell B). c.number) to.cell
-
-      polled : is_polled slot'.cell.phase ≡ true
-      polled = ap (λ (c : TaskCell B). is_polled c.phase) to.cell ∙ it.polled
-
-      root : t ≡ w.root → Tasked q w w.root_ready None s (slice_set s.tasks.items t slot')
-      root same =
-          let slot = it.slot in
-          let there : slice_get s.tasks.items w.root ≡ Some slot = subst (λ n. slice_get s.tasks.items n ≡ Some slot) same it.there in
-          let own : polled_in w.root q ≡ Some y = in_own_poll w.root (polls_in t y) y (on.polls ∙ ap (λ n. Some n) same) in
-          let old = (it.root same).0 in
-          let same_root : slot ≡ sound.runnable.root = same_thing slot sound.runnable.root (sym there ∙ sound.runnable.there) in
-          let unflagged : w.root_ready ≡ None = unflagged_there w.root_ready (root_in_hand (begins_at (Place.Poll t x)) w.root w.hand) slot it.polled (subst (λ (o : TaskSlot B). IsRunnable (one_of w.root_ready (root_in_hand (begins_at (Place.Poll t x)) w.root w.hand)) o) (sym same_root) sound.runnable.once) in
-          let sits : Sits q w w.root_ready s slot slot' = grind arith in
-          subst (λ n. Tasked q w w.root_ready None s (slice_set s.tasks.items n slot')) (sym same) (root_tasked t x q w w.root_ready s slot slot' sound sits)
-
-      other : t ≢ w.root → Tasked q w w.root_ready None s (slice_set s.tasks.items t slot')
-      other apart =
-          let slot = it.slot in
-          let old = (it.ordinary apart).0 in
-          let found = set_there s.tasks.items t slot' slot it.there in
-          let guest : IsGuest y w.index slot' = record {
-            ordinary = to.home ∙ old.ordinary;
-            polled = polled;
-            body = to.body;
-            poller = to.poller ∙ old.poller;
-            cancelled = ap (λ (c : TaskCell B). c.cancelled) to.cell ∙ old.cancelled ∙ sym to.cleared;
-            told = to.told;
-            untold = to.untold;
-            there = to.waits;
-          } in
-          guest_tasked t x q w None s slot slot' sound (record {
-            apart = apart;
-            there = it.there;
-            keeps = record { home = to.home; number = number; owner = ap (λ (c : TaskCell B). c.owner) to.cell };
-            hand = subst (λ b. IsInHand None b None) (sym (on.hands)) refl;
-            genuine = λ r has. absurd (none_in r has);
-            polls = λ n is same. apart (same_thing t n (sym (on.polls) ∙ is) ∙ same);
-            guest = subst (λ o. HasGuest o y w.index w.root (slice_set s.tasks.items t slot')) (sym (on.polls)) (λ no. (slot', found, guest));
-            stops = subst (λ o. Stops o y w.index (slice_set s.tasks.items t slot') s.requests.items s.sleepers.items) (sym (on.polls)) (λ o at.
-                let is : slot' ≡ o = same_thing slot' o (sym found ∙ at) in
-                subst (λ (z : TaskSlot B). StopsIn y w.index z.waiting s.requests.items s.sleepers.items) is to.stops);
-            rests = λ unpolled. absurd (false≢true (sym unpolled ∙ polled));
-          })
+  dealt_tasked x y t w s slot' sound it to on =
+      let q : Place = Place.Poll t y in
+      let number : slot'.cell.number ≡ it.slot.cell.number = ap (λ (c : TaskCell B). c.number) to.cell in
+      let polled : is_polled slot'.cell.phase ≡ true = ap (λ (c : TaskCell B). is_polled c.phase) to.cell ∙ it.polled in
+      let root : t ≡ w.root → Tasked q w w.root_ready None s (slice_set s.tasks.items t slot') = λ same.
+      let slot = it.slot in
+      let there : slice_get s.tasks.items w.root ≡ Some slot = subst (λ n. slice_get s.tasks.items n ≡ Some slot) same it.there in
+      let old = (it.root same).0 in
+      let sits : Sits q w w.root_ready s slot slot' = grind arith in
+      subst (λ n. Tasked q w w.root_ready None s (slice_set s.tasks.items n slot')) (sym same) (root_tasked t x q w w.root_ready s slot slot' sound sits) in
+      let other : t ≢ w.root → Tasked q w w.root_ready None s (slice_set s.tasks.items t slot') = λ apart.
+      let slot = it.slot in
+      let old = (it.ordinary apart).0 in
+      let found = set_there s.tasks.items t slot' slot it.there in
+      let cancelled = ap (λ (c : TaskCell B). c.cancelled) to.cell ∙ old.cancelled ∙ sym to.cleared in
+      let guest : IsGuest y w.index slot' = assumption (to.home ∙ old.ordinary, polled, to.poller ∙ old.poller, cancelled, to.waits, to) in
+      guest_tasked t x q w None s slot slot' sound (record {
+        apart = apart;
+        there = it.there;
+        keeps = record { home = to.home; number = number; owner = ap (λ (c : TaskCell B). c.owner) to.cell };
+        hand = subst (λ b. IsInHand None b None) (sym (on.hands)) refl;
+        genuine = λ r has. absurd (none_in r has);
+        polls = λ n is same. apart (same_Some t n (sym (on.polls) ∙ is) ∙ same);
+        guest = subst (λ o. HasGuest o y w.index w.root (slice_set s.tasks.items t slot')) (sym (on.polls)) (λ no. (slot', found, guest));
+        stops = subst (λ o. Stops o y w.index (slice_set s.tasks.items t slot') s.requests.items s.sleepers.items) (sym (on.polls)) (λ o at.
+            let is : slot' ≡ o = same_Some slot' o (sym found ∙ at) in
+            subst (λ (z : TaskSlot B). StopsIn y w.index z.waiting s.requests.items s.sleepers.items) is to.stops);
+        rests = λ unpolled. absurd (false≢true (sym unpolled ∙ polled));
+      }) in
+      by_number t w.root other root
 
   pub empty_hand : (x : InPoll) (t : ℕ) (w : Worker) (s : Shared B) → ComesFrom t x → SoundAt (Place.Poll t x) w s → w.hand ≡ None
   empty_hand x t w s from sound = subst (λ b. IsInHand None b w.hand) from.hands (subst (λ o. IsInHand o (hands_on_at (Place.Poll t x)) w.hand) from.begins sound.hand)
@@ -128,7 +108,6 @@ module _ {B : Type 0} where
   dealt_leaves x y t w s s' slot' from on sound it kept items touches to holds =
       let w1 : Worker = record w { place = Place.Poll t y } in
       let seats : s'.seats ≡ s.seats = ap (λ (z : Shared B). z.seats) kept in
-      let handles : Handles t s s' it.slot slot' = record { there = it.there; items = items; cell = to.cell; home = to.home; cleared = to.cleared; poller = to.poller } in
       let deals : Deals t w w1 s s' it.slot slot' = grind arith in
       let mine : (j : ℕ) → it.slot.home ≡ Some j → j ≡ w.index = home_mine w.index it.slot.home (here_or_none x t w s it) in (
         sound_dealt x y t w s s' slot' from on sound it kept items touches to,

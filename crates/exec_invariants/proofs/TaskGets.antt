@@ -1,16 +1,17 @@
 -- A POLLED TASK TAKES THE OUTPUT of a request of its worker's: by a look at what it waits for, or by an act.
-use Rattle.std.proofs.{Common.{◌≡◌, ◌⊎◌, inl, inr, ⊎_elim, ℕ, ◌+◌, ◌-◌, ◌≤◌, ◌==◌, ◌||◌, true, false, List, [], length, map, take, Option, Some, None, IsSome, option_map, refl, sym, ap, subst, ◌∙◌, arith, slice_get, slice_set}, lemmas.{Bool.{false≢true, eq-eqb}, List.{length-set, map-set}, Option.slice_get-map}}
-use Rattle.exec_base.specs.Slab.{freed, removed, value_at}
+use Rattle.std.proofs.{Common.{◌≡◌, ◌⊎◌, inl, inr, ⊎_elim, ℕ, ◌+◌, ◌-◌, ◌≤◌, ◌==◌, ◌||◌, true, false, List, length, map, take, Option, Some, None, IsSome, option_map, refl, sym, ap, subst, ◌∙◌, arith, slice_get, slice_set}, lemmas.{Bool.{false≢true, eq-eqb}, List.{map-set}, Option.slice_get-map}}
+use Rattle.exec_base.specs.Slab.{removed, value_at}
 use Rattle.exec_outcomes.specs.declared.outcome.Outcome.{Outcome}
 use Rattle.exec_request.specs.declared.output.RequestOutput.{RequestOutput}
 use Rattle.exec_ring.specs.Rings.{completions}
-use Rattle.exec_waiters.specs.{Events.{taken, taken_from}, States.{awaits_tick, tick_of, waiter_at, waiter_of}, declared.waiter.Entry.{Entry, TheVariants.{Pending, Ready}}}
+use Rattle.exec_waiters.specs.{Events.{taken, taken_from}, States.{waiter_at, waiter_of}, declared.waiter.Entry.{Entry, TheVariants.{Pending, Ready}}}
 use Rattle.exec_driver.specs.{Driving.Driving, Punctual.IsPunctual}
 use Rattle.exec_task.specs.declared.body.Said.{Said}
 use Rattle.exec_machine.specs.{After.{common_after, own_after}, declared.{event.Event.TheVariants.Got, state.{Forwarding.{Forwarding}, RequestPhase.TheVariants.Resolved, Waiting.Waiting}}, Choice.Choice.Plain, Progress.Plan, Same.is_number, Tasks.{after_taking, is_here, polls_waiting, without_newest}, Tests.{is_applied, is_resolved, is_resolved_with, is_unsent, waits_for_request}, Words.{acts, asks_await, newest_held, polled_task}, World.{Common, Task, request_of, task_of}}
 use Rattle.exec_moves.specs.{declared.place.{InPoll.InPoll, Place.Place}, Move.move_at, Poll.acts_on, Slots.vacated, State.Desk, Told.without_request}
 use Rattle.exec_parts.specs.{declared.parts.{mail.Reply.Reply, record.Record.Record, shared.Shared.Shared, task_slot.TaskSlot.TaskSlot, worker.Worker.Worker}, Awaits.newest_of, Phased.is_complete, Polls.unobserved, Records.number_in, Scripts.IsAnswered, Serving.{changed_at, changed_in}, Spots.Spot, View.{Views, common_of, desk_of, driver_of, numbers_of_passing, own_of, slots_seen, awaited_from, awaits_entry, task_seen, things_with, trailing, visible, with_view}}
-use Rattle.exec_invariants.{specs.{Holding.{Holder, IsHolding, awaited_in, box_of, holder_of, nap_of, thing_of}, HoldPlaces.{has_wakes_at}, Sound.{SoundAt, served_in}, Names.tellers, Whole.{Profile, hands_of, with_worker}, Works.{Beside, Suits, Works}}, proofs.{Here.{IsHere, going_on}, HoldBeside.Holds, HoldSteps.{IsNewest, thing_taken}, Keys.{name_in, names_changed, same_gates, same_opens}, LetRooted.{Rewaits, keeps_watched}, LetSlots.{slot_here, slot_here_is}, LetSlab.{one_held_less, other_entry, past_back, same_flying, same_pending, same_waiters, still_there}, Lined.{passing_same, opens_same}, Orders.{alike_self, past_removed}, Resolving.places_fewer, Seen.request_at, ServingHolds.KeepsBy, Serving.spares_one, Slots.task_there, Slotted.{awaited_removed, slots_vacated}, SparedRecord.there_within, TaskDeals.{ComesFrom, Dealt, acts as to_act}, TaskHears.{newest_split, resolved_self, thing_there}, TaskHomes.{Homes, IsFree, beside_goes, sound_goes}, TaskLooks.unsent_is, TaskTakes.{holder_there, holders_one, no_wakes}, Turning.{set_found, view_found}, Watching.{Rewatched, Watched}}}
+use Rattle.exec_invariants.{specs.{Holding.{Holder, IsHolding, awaited_in, box_of, holder_of, nap_of, thing_of}, HoldPlaces.{has_wakes_at}, Sound.{SoundAt, served_in}, Names.tellers, Whole.{Profile, hands_of, with_worker}, Works.{Beside, Suits, Works}}, proofs.{Here.{IsHere, going_on}, HoldBeside.Holds, HoldSteps.{IsNewest, thing_taken}, Keys.{name_in, names_changed, same_gates, same_opens}, LetRooted.{Rewaits, keeps_watched}, LetSlots.{slot_here, slot_here_is}, LetSlab.{one_held_less, other_entry, watched_gone, same_flying, same_pending, same_waiters}, Lined.{passing_same, opens_same}, Resolving.places_fewer, Seen.request_at, ServingHolds.KeepsBy, Serving.spares_one, Slots.task_there, Slotted.{awaited_removed, slots_vacated}, SparedRecord.there_within, TaskDeals.{ComesFrom, Dealt, acts as to_act}, TaskHears.{newest_split, resolved_self, thing_there}, TaskHomes.{Homes, IsFree, beside_goes, sound_goes}, TaskTakes.{holder_there, holders_one, no_wakes}, Turning.{set_found, view_found}, Watching.{Watched}}}
+use Rattle.exec_invariants.proofs.AsksEnds.{is_unsent_so}
 
 -- its output is there
 pub record IsThere (k : ℕ) (r : Record) (w : Worker) : Type 0 where
@@ -101,32 +102,7 @@ module _ {B : Type 0} where
       let none : (out : RequestOutput) → value_at (removed s0 id) id ≡ Some (Ready out) → ⊥ = λ out e. (other_entry s0 id told ready id (rw e refl)).0 refl in
       let rs1 = changed_at rs kk unobserved in
       let keeps : KeepsBy w d zs rs ss s = grind arith in
-      let watched : Watched w.names d d' rs rs1 id r unobserved = record {
-        there = at_number;
-        name = refl;
-        live = some;
-        records = refl;
-        keeps = refl;
-        timer = λ over. refl;
-        others = still_there s0 id told ready;
-        waits = subst (λ o. Rewatched o (waiter_at (removed s0 id) id)) (sym (ap waiter_of ready)) none_waits;
-        alike = λ y live. let no : None ≡ Some y = sym none_waits ∙ live in absurd (cc);
-        ring = refl;
-        armed = refl;
-        start = refl;
-        tick = refl;
-        enrolments = refl;
-        gated = refl;
-        back = past_back s0 id told ready small;
-        eases = record {
-          ticks = λ y n h. ap tick_of (sym (same_waiters s0 id told ready y)) ∙ h;
-          taken = λ y past none. ap awaits_tick (same_waiters s0 id told ready y) ∙ none;
-          past = past_removed s0 id some;
-        };
-        turns = alike_self d.wheel;
-        slots = length-set s0.slots id.index (freed id.generation);
-        cancels = λ y among. inl among;
-      } in
+      let watched : Watched w.names d d' rs rs1 id r unobserved = watched_gone w.names d rs r told unobserved ready at_number small refl (λ over. refl) in
       let to : Rewaits w.index w.names d d' zs left left rs rs1 ss id r unobserved watched keeps.named = grind arith in
       let pending = same_pending s0 id told ready in
       let held = one_held_less s0 id told ready in
@@ -140,13 +116,9 @@ module _ {B : Type 0} where
       let records : rs1 ≡ s'.requests.items = ap (λ q. changed_at rs q unobserved) there.number ∙ ap (changed_in rs k unobserved) by.request ∙ sym by.requests in
       let by_records : KeepsBy w d' zs s'.requests.items ss s = subst (λ xs. KeepsBy w d' zs xs ss s) records again in
       let by_driver : KeepsBy w (driver_of v) zs s'.requests.items ss s = subst (λ y. KeepsBy w y zs s'.requests.items ss s) (sym drv) by_records in
-      record {
-        worker = refl;
-        shared = refl;
-        spares = spares_one w.index s s1 k r unobserved (opens_same s.opens s.opens rs sound.gates refl) (record { at = refl; over = λ h. h; sent = refl; forwarded = λ h. h }) (by.requests ∙ sym (ap (changed_in rs k unobserved) by.request)) refl by.request by.mine (λ y. refl);
-        keeps = assumption by_driver;
-        wakes = refl;
-      }
+      let spares =
+      spares_one w.index s s1 k r unobserved (opens_same s.opens s.opens rs sound.gates refl) (record { at = refl; over = λ h. h; sent = refl; forwarded = λ h. h }) (by.requests ∙ sym (ap (changed_in rs k unobserved) by.request)) refl by.request by.mine (λ y. refl) in
+      assumption (spares, by_driver)
 
   -- and of what tasks hold
   pub gets_holds : (x : InPoll) (t k : ℕ) (w w' : Worker) (s s' : Shared B) (slot slot' : TaskSlot B) (r : Record) (output : RequestOutput) (outcome : Outcome) → SoundAt (Place.Poll t x) w s → has_wakes_at (Place.Poll t x) ≡ false → TakesOwn x t k w w' s s' slot slot' r output outcome → is_complete slot.cell.phase ≡ false
@@ -242,7 +214,6 @@ module _ {B L : Type 0} (left : B → L) (spot : L → Option Said → Spot) (an
       let rs = s.requests.items in
       let rs' = s'.requests.items in
       let all = common_of left spot p vs s in
-      let me = own_of w0 in
       let things = things_with vs s in
       let drv : driver_of w' ≡ record (driver_of w) { requests = removed (driver_of w).requests r.id.0 } = by.driver ∙ ap (λ (o : Option (Entry Reply Reply)). record (driver_of w) { requests = taken_from (driver_of w).requests r.id.0 o }) there.value in
       let shows : visible w' ≡ visible w = ring_seen w w' (Place.Poll t InPoll.Act) by.worker (ap (λ (y : Driving Reply Reply). y.ring) drv) in
@@ -259,10 +230,7 @@ module _ {B L : Type 0} (left : B → L) (spot : L → Option Said → Spot) (an
       let desk : desk_of w' ≡ acts_on t (without_request k (desk_of w)) = got_desk (Place.Poll t x) t k w w' s r sound there by.worker by.driver in
       let done : Works left spot p vs w0 s (Got k outcome) w' s1 = record {
         choice = Plain;
-        moves = sees.moves
-            ∙ ap (λ y. record { event = Got k outcome; choice = Plain; desk = y; thing = things }) (sym desk)
-            ∙ ap (λ y. record { event = Got k outcome; choice = Plain; desk = desk_of w'; thing = y }) (sym same_things)
-            ∙ ap (λ v. record { event = Got k outcome; choice = Plain; desk = desk_of w'; thing = things_with v s1 }) (sym again);
+        moves = grind (arith, sees.moves, desk, same_things, again);
         may = (
           sees.takes,
           (
@@ -274,13 +242,9 @@ module _ {B L : Type 0} (left : B → L) (spot : L → Option Said → Spot) (an
           ),
         );
         own = got_own t k w w' r there by.worker by.driver ∙ sym sees.own_after_is;
-        common = ap (λ v. common_of left spot p v s1) again
-            ∙ ap (λ os. record all { tasks = map (task_seen left spot) s'.tasks.items; requests = map (λ (q : Record). q.shown) rs'; opens = os }) opens
-            ∙ ap (λ ts. record all { tasks = ts; requests = map (λ (q : Record). q.shown) rs' }) tasks
-            ∙ ap (λ qs. record all { tasks = slice_set all.tasks t (past_newest all (task_of all t)); requests = qs }) shown
-            ∙ sym sees.after;
+        common = grind (arith, again, opens, tasks, shown, sees.after);
       } in
       subst (Works left spot p vs w s (Got k outcome) w') (sym by.kept) (subst (λ v. Works left spot p vs v s (Got k outcome) w' s1) (ap (λ y. record w { place = y }) (sym sound.here)) done)
     where
       here_unsent : r.shown.worker ≡ w.index → is_unsent r.shown.forwarding ≡ true → is_here w.index r.shown.worker r.shown.forwarding ≡ true
-      here_unsent mine unsent = ap (is_here w.index r.shown.worker) (unsent_is r.shown.forwarding unsent) ∙ ap (λ i. i == w.index) mine ∙ eq-eqb w.index w.index refl
+      here_unsent mine unsent = ap (is_here w.index r.shown.worker) (is_unsent_so r.shown.forwarding unsent) ∙ ap (λ i. i == w.index) mine ∙ eq-eqb w.index w.index refl

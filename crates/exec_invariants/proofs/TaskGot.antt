@@ -3,9 +3,9 @@ use Rattle.std.proofs.{Common.{◌≡◌, ℕ, arith, ◌-◌, ◌<◌, ◌==◌
 use Rattle.exec_outcomes.specs.declared.outcome.Outcome.{Outcome}
 use Rattle.exec_request.specs.declared.output.RequestOutput.{RequestOutput}
 use Rattle.exec_task.specs.declared.body.Said.{Said}
-use Rattle.exec_machine.specs.{declared.{event.Event.{Event, TheVariants.Got}, state.{MailMessage.TheVariants.ForwardRequest, Request.Request, RequestPhase.{RequestPhase, TheVariants.Resolved}, Waiting.Waiting}}, Progress.Plan, Tests.{is_resolved, is_unsent, waits_for_request}, Words.{acts, asks_await}, World.{Common, Task, request_of, task_of}}
-use Rattle.exec_moves.specs.{declared.{handing.AfterSend.AfterSend, place.{InPoll.InPoll, Place.Place}}, Move.move_look_at, Poll.{Sight.{Asks, HearsRequest}, acts_on, resume, sight_by, sight_of}, State.{Desk, Moved, Things, does}, Thing.aside, Told.without_request}
-use Rattle.exec_parts.{specs.{declared.parts.{record.Record.Record, shared.Shared.Shared, task_slot.TaskSlot.TaskSlot, worker.Worker.Worker}, Awaits.newest_of, Polls.{IsReady, TookOutput}, Records.numbers_held, Scripts.IsAnswered, Spots.Spot, View.{Views, common_of, desk_of, driver_of, own_of, task_seen, things_with}}, proofs.Facts.same_thing}
+use Rattle.exec_machine.specs.{declared.{event.Event.{Event, TheVariants.Got}, state.{MailMessage.TheVariants.ForwardRequest, Request.Request, RequestPhase.{RequestPhase, TheVariants.Resolved}, Waiting.Waiting}}, Progress.Plan, Tests.{is_resolved, is_unsent, waits_for_request}, Words.{acts, asks_await}, World.{Common, Task, request_of, task_of}, Choice.Choice.Plain}
+use Rattle.exec_moves.specs.{declared.{handing.AfterSend.AfterSend, place.{InPoll.InPoll, Place.Place}}, Move.{move_look_at, move_at}, Poll.{Sight.{Asks, HearsRequest}, acts_on, resume, sight_by, sight_of}, State.{Desk, Moved, Things, does}, Thing.aside, Told.without_request}
+use Rattle.exec_parts.{specs.{declared.parts.{record.Record.Record, shared.Shared.Shared, task_slot.TaskSlot.TaskSlot, worker.Worker.Worker}, Awaits.newest_of, Polls.{IsReady, TookOutput}, Records.numbers_held, Scripts.IsAnswered, Spots.Spot, View.{Views, common_of, desk_of, driver_of, own_of, task_seen, things_with}}, proofs.Facts.same_Some}
 use Rattle.exec_invariants.{specs.{Hearing.{Hears}, Sound.{SoundAt, acts_next}, Whole.HasWhole, Works.Steps}, proofs.{Hearing.hears_so, Here.IsHere, Seen.request_at, Slots.task_there, TaskDeals.from_look, TaskGets.{SeesGot, TakesOwn, got_works, gets_leaves, past_newest, there_is}, TaskHears.numbers_without, TaskLooks.newest_awaited, TaskTakes.spot_answered, TaskWants.newest_is}}
 
 -- a look at a request that is over
@@ -42,10 +42,29 @@ module _ {B L : Type 0} (left : B → L) (spot : L → Option Said → Spot) (an
   pub output_got : (t k : ℕ) (w w' : Worker) (s s' : Shared B) (e : Event) (r : Record) → (sound : SoundAt (Place.Poll t InPoll.Resume) w s) → HasWhole w s → (it : IsHere InPoll.Resume t w s) → it.slot.waiting ≡ Waiting.Request k → slice_get s.requests.items k ≡ Some r → is_unsent r.shown.forwarding ≡ true → r.shown.worker ≡ w.index
       → TookOutput t k w w' s s' e → Steps left spot w s e w' s'
   output_got t k w w' s s' e r sound has it waits at_k unsent mine took =
+      let sees : (p : Plan) (vs : Views) (slot slot' : TaskSlot B) (output : RequestOutput) (outcome : Outcome) → slice_get s.tasks.items t ≡ Some slot → slot.waiting ≡ Waiting.Request k → slot.told ≡ None → slot' ≡ record slot { held = slot'.held; waiting = Waiting.Nothing; told = Some (Said.Output output) } → slot'.held.items ≡ take (length slot.held.items - 1) slot.held.items → r.shown.phase ≡ Resolved outcome → SeesGot left spot answered InPoll.Resume t k outcome w s slot slot' p vs = λ p vs slot slot' output outcome there waits untold so less over.
+      let all = common_of left spot p vs s in
+      let d = desk_of (record w { place = Place.Poll t InPoll.Resume }) in
+      let me = own_of (record w { place = Place.Poll t InPoll.Resume }) in
+      let x = things_with vs s in
+      let b : AfterSend = AfterSend.Pend t in
+      let seen_task : Task = record (task_seen left spot slot) { waiting = Waiting.Request k } in
+      let it_is : task_of all t ≡ task_seen left spot slot = task_there left spot s.tasks.items t slot there in
+      let what : (task_of all t).waiting ≡ Waiting.Request k = ap (λ y. y.waiting) it_is ∙ waits in
+      let request : request_of all k ≡ r.shown = request_at s.requests.items k r at_k in
+      let looks : Task → Moved Things = λ y. move_look_at p.config all d x t b (aside x (resume w.index t all d y)) (sight_of w.index all y.waiting) in
+      let finds : Bool → Bool → Moved Things = λ u m. move_look_at p.config all d x t b (aside x (resume w.index t all d seen_task)) (sight_by u m (Asks r.shown.worker (ForwardRequest k)) (HearsRequest k)) in
+      let moves : move_at p.config w.index (own_of (record w { place = Place.Poll t InPoll.Resume })) (common_of left spot p vs s) (desk_of (record w { place = Place.Poll t InPoll.Resume })) (things_with vs s) (Place.Poll t InPoll.Resume) ≡ record { event = Got k outcome; choice = Plain; desk = acts_on t (without_request k (desk_of w)); thing = things_with vs s } =
+      ap looks it_is ∙ ap (λ u. looks (record (task_seen left spot slot) { waiting = u })) waits
+      ∙ ap (λ q. move_look_at p.config all d x t b (aside x (resume w.index t all d seen_task)) (sight_by (is_unsent q.forwarding) (q.worker == w.index) (Asks q.worker (ForwardRequest k)) (HearsRequest k))) request
+      ∙ ap (λ u. finds u (r.shown.worker == w.index)) unsent ∙ ap (λ i. finds true (i == w.index)) mine ∙ ap (finds true) (eq-eqb w.index w.index refl)
+      ∙ ap (aside x) (looks_at w.index t k all d seen_task r.shown outcome refl request over) in
+      let takes = ap (λ u. waits_for_request k u || acts me all asks_await) what ∙ ap (λ c. c || acts me all asks_await) (eq-eqb k k refl) in
+      assumption (moves, takes, got_seen all k slot slot' output so less untold waits) in
       let slot = it.slot in
       let slot' = took.slot' in
-      let same_slot : took.slot ≡ slot = same_thing took.slot slot (sym took.there ∙ it.there) in
-      let same_r : took.r ≡ r = same_thing took.r r (sym took.request ∙ at_k) in
+      let same_slot : took.slot ≡ slot = same_Some took.slot slot (sym took.there ∙ it.there) in
+      let same_r : took.r ≡ r = same_Some took.r r (sym took.request ∙ at_k) in
       let untold : slot.told ≡ None = it.untold (ap acts_next waits) in
       let newest = newest_awaited InPoll.Resume t k w s has it waits in
       let held = newest_is InPoll.Resume t k w s r has it newest at_k in
@@ -63,29 +82,3 @@ module _ {B L : Type 0} (left : B → L) (spot : L → Option Said → Spot) (an
         leaves.beside,
       ) in
       subst (λ y. Steps left spot w s y w' s') (sym took.event) done
-    where
-      sees : (p : Plan) (vs : Views) (slot slot' : TaskSlot B) (output : RequestOutput) (outcome : Outcome) → slice_get s.tasks.items t ≡ Some slot → slot.waiting ≡ Waiting.Request k → slot.told ≡ None → slot' ≡ record slot { held = slot'.held; waiting = Waiting.Nothing; told = Some (Said.Output output) }
-          → slot'.held.items ≡ take (length slot.held.items - 1) slot.held.items → r.shown.phase ≡ Resolved outcome → SeesGot left spot answered InPoll.Resume t k outcome w s slot slot' p vs
-      sees p vs slot slot' output outcome there waits untold so less over =
-          let all = common_of left spot p vs s in
-          let d = desk_of (record w { place = Place.Poll t InPoll.Resume }) in
-          let me = own_of (record w { place = Place.Poll t InPoll.Resume }) in
-          let x = things_with vs s in
-          let b : AfterSend = AfterSend.Pend t in
-          let seen_task : Task = record (task_seen left spot slot) { waiting = Waiting.Request k } in
-          let it_is : task_of all t ≡ task_seen left spot slot = task_there left spot s.tasks.items t slot there in
-          let what : (task_of all t).waiting ≡ Waiting.Request k = ap (λ y. y.waiting) it_is ∙ waits in
-          let request : request_of all k ≡ r.shown = request_at s.requests.items k r at_k in
-          let looks : Task → Moved Things = λ y. move_look_at p.config all d x t b (aside x (resume w.index t all d y)) (sight_of w.index all y.waiting) in
-          let finds : Bool → Bool → Moved Things = λ u m. move_look_at p.config all d x t b (aside x (resume w.index t all d seen_task)) (sight_by u m (Asks r.shown.worker (ForwardRequest k)) (HearsRequest k)) in
-          record {
-            moves = ap looks it_is ∙ ap (λ u. looks (record (task_seen left spot slot) { waiting = u })) waits
-                ∙ ap (λ q. move_look_at p.config all d x t b (aside x (resume w.index t all d seen_task)) (sight_by (is_unsent q.forwarding) (q.worker == w.index) (Asks q.worker (ForwardRequest k)) (HearsRequest k))) request
-                ∙ ap (λ u. finds u (r.shown.worker == w.index)) unsent ∙ ap (λ i. finds true (i == w.index)) mine ∙ ap (finds true) (eq-eqb w.index w.index refl)
-                ∙ ap (aside x) (looks_at w.index t k all d seen_task r.shown outcome refl request over);
-            takes = ap (λ u. waits_for_request k u || acts me all asks_await) what ∙ ap (λ c. c || acts me all asks_await) (eq-eqb k k refl);
-            polled = refl;
-            own_after_is = refl;
-            after = refl;
-            seen = got_seen all k slot slot' output so less untold waits;
-          }

@@ -6,7 +6,7 @@ use Rattle.exec_request.specs.declared.output.RequestOutput.{RequestOutput}
 use Rattle.exec_task.specs.declared.body.Said.{Said}
 use Rattle.exec_machine.specs.{declared.{state.{Forwarding.TheVariants.Applied, RequestPhase.TheVariants.Resolved, Waiting.Waiting}, event.Event.{Event, TheVariants.{Got, Turn}}}, Choice.Choice.Plain, Progress.Plan, Tasks.{without_newest}, Tests.{is_resolved, is_resolved_with, is_unsent, waits_for_nothing}, Words.{moved_on}, World.{Task, request_of, task_of}}
 use Rattle.exec_moves.specs.{declared.{handing.AfterSend.AfterSend, place.{InPoll.InPoll, Place.Place}}, Move.move_look_at, Poll.{resume, sight_of, stops}, State.{Moved, Things}, Thing.{aside}}
-use Rattle.exec_parts.{specs.{declared.parts.{held.Held.Held, record.Record.Record, shared.Shared.Shared, sleeping.SleeperRecord.SleeperRecord, task_slot.TaskSlot.TaskSlot, worker.Worker.Worker}, Phased.is_complete, MailPosts.TakesAnswer, Polls.unobserved, Records.numbers_held, Scripts.IsAnswered, Spots.Spot, View.{Views, common_of, desk_of, numbers_of_passing, own_of, task_seen, things_with, visible, with_view}, Serving.changed_in}, proofs.Facts.same_thing}
+use Rattle.exec_parts.{specs.{declared.parts.{held.Held.Held, record.Record.Record, shared.Shared.Shared, sleeping.SleeperRecord.SleeperRecord, task_slot.TaskSlot.TaskSlot, worker.Worker.Worker}, Phased.is_complete, MailPosts.TakesAnswer, Polls.unobserved, Records.numbers_held, Scripts.IsAnswered, Spots.Spot, View.{Views, common_of, desk_of, numbers_of_passing, own_of, task_seen, things_with, visible, with_view}, Serving.changed_in}, proofs.Facts.same_Some}
 use Rattle.exec_invariants.{specs.{Hearing.{Hears}, Spares.SparesRecord, Holding.{Holder, IsHolding, awaited_in, box_of, holder_of, nap_of, thing_of}, Sound.{MayStop, SoundAt, acts_next, is_told, may_end}, Whole.{HasWhole, hands_of, with_worker}, Works.{Steps, Suits, Works}}, proofs.{HoldSteps.{IsNewest, thing_taken}, Results.same_error_self, Here.{IsHere, going_on}, HoldBeside.Holds, HoldThings.{Touches, touches_none, touches_record}, Seen.{request_at, sleeper_at}, Slots.{IsEvent, task_there, works_slot}, TaskDeals.{Dealt, acts as to_act, dealt, ends as to_end, from_look}, Keys.{name_in, names_changed, same_gates, same_opens}, Lined.passing_same, SparedRecord.there_within, TaskTakes.{holder_there, holders_one, passes_at, spot_answered}, Turning.{set_found, view_found}}}
 
 module _ {B : Type 0} where
@@ -32,6 +32,9 @@ module _ {B L : Type 0} (left : B → L) (spot : L → Option Said → Spot) whe
   vain_event : (t : ℕ) (w : Worker) (s : Shared B) (slot : TaskSlot B) → slice_get s.tasks.items t ≡ Some slot → (u : Waiting) → slot.waiting ≡ u → Unheard u s.requests.items s.sleepers.items → (p : Plan) (vs : Views)
       → IsEvent left spot (Place.Poll t InPoll.Resume) (Place.Poll t InPoll.Pend) t w w.root_ready w.hand s slot Turn Plain p vs
   vain_event t w s slot there u waits unheard p vs =
+      let vain : Moved Things = record { event = Turn; choice = Plain; desk = desk_of (record w { place = Place.Poll t InPoll.Pend }); thing = things_with vs s } in
+      let by : (u : Waiting) → Unheard u s.requests.items s.sleepers.items → (y : Task) → y.waiting ≡ u → move_look_at p.config (common_of left spot p vs s) (desk_of (record w { place = Place.Poll t InPoll.Resume })) (things_with vs s) t (AfterSend.Pend t) (aside (things_with vs s) (resume w.index t (common_of left spot p vs s) (desk_of (record w { place = Place.Poll t InPoll.Resume })) y)) (sight_of w.index (common_of left spot p vs s) u) ≡ vain =
+      grind (arith, request_at, passes_at, sleeper_at) in
       let all = common_of left spot p vs s in
       let it : task_of all t ≡ task_seen left spot slot = task_there left spot s.tasks.items t slot there in
       let d = desk_of (record w { place = Place.Poll t InPoll.Resume }) in
@@ -39,24 +42,13 @@ module _ {B L : Type 0} (left : B → L) (spot : L → Option Said → Spot) whe
       let looks : Task → Moved Things = λ y. move_look_at p.config all d x t (AfterSend.Pend t) (aside x (resume w.index t all d y)) (sight_of w.index all y.waiting) in
       let seen = map (task_seen left spot) s.tasks.items in
       let at : slice_get seen t ≡ Some (task_seen left spot slot) = slice_get-map (task_seen left spot) s.tasks.items t ∙ ap (option_map (task_seen left spot)) there in
-      record {
-        moves = ap looks it ∙ ap (λ v. looks (record (task_seen left spot slot) { waiting = v })) waits ∙ by u unheard (record (task_seen left spot slot) { waiting = u }) refl;
-        may = tt;
-        own = refl;
-        common = ap (λ ts. record all { tasks = ts }) (sym (set_found seen t (task_seen left spot slot) at));
-      }
-    where
-      vain : Moved Things
-      vain = record { event = Turn; choice = Plain; desk = desk_of (record w { place = Place.Poll t InPoll.Pend }); thing = things_with vs s }
-
-      by : (u : Waiting) → Unheard u s.requests.items s.sleepers.items → (y : Task) → y.waiting ≡ u
-          → move_look_at p.config (common_of left spot p vs s) (desk_of (record w { place = Place.Poll t InPoll.Resume })) (things_with vs s) t (AfterSend.Pend t) (aside (things_with vs s) (resume w.index t (common_of left spot p vs s) (desk_of (record w { place = Place.Poll t InPoll.Resume })) y)) (sight_of w.index (common_of left spot p vs s) u) ≡ vain
-      by = grind (arith, request_at, passes_at, sleeper_at)
+      assumption (ap looks it ∙ ap (λ v. looks (record (task_seen left spot slot) { waiting = v })) waits ∙ by u unheard (record (task_seen left spot slot) { waiting = u }) refl, ap (λ ts. record all { tasks = ts }) (sym (set_found seen t (task_seen left spot slot) at)))
 
   -- IT LOOKS IN VAIN
   pub looked_in_vain : (t : ℕ) (w w' : Worker) (s : Shared B) (e : Event) → (sound : SoundAt (Place.Poll t InPoll.Resume) w s) → (it : IsHere InPoll.Resume t w s) → (u : Waiting) → it.slot.waiting ≡ u → Unheard u s.requests.items s.sleepers.items
       → e ≡ Turn → w' ≡ record w { place = Place.Poll t InPoll.Pend } → Steps left spot w s e w' s
   looked_in_vain t w w' s e sound it u waits unheard event same =
+      let ended : (u : Waiting) → Unheard u s.requests.items s.sleepers.items → Ended w.index s.requests.items s.sleepers.items u = grind arith in
       let slot = it.slot in
       let items : s.tasks.items ≡ slice_set s.tasks.items t slot = sym (set_found s.tasks.items t slot it.there) in
       let facts = ended u unheard in
@@ -65,16 +57,13 @@ module _ {B L : Type 0} (left : B → L) (spot : L → Option Said → Spot) whe
       (dealt_same w.index t w s it (ap may_end waits ∙ facts.may) (ap (λ v. is_told v false) waits ∙ facts.untold) (subst (λ v. MayStop w.index v s.requests.items s.sleepers.items) (sym waits) facts.stop)) (hears_same slot) (λ others holds. holds)
       (λ p vs suits. works_slot left spot (Place.Poll t InPoll.Resume) (Place.Poll t InPoll.Pend) t w w.root_ready w.hand s s slot Turn Plain sound.here items p vs suits (vain_event t w s slot it.there u waits unheard p vs)) in
       subst (λ y. Steps left spot w s y w' s) (sym event) done
-    where
-      ended : (u : Waiting) → Unheard u s.requests.items s.sleepers.items → Ended w.index s.requests.items s.sleepers.items u
-      ended = grind arith
 
 -- THE OUTPUT IS THERE
 
 -- the newest is the last of what is held
 pub newest_split : (held : List Held) (k : ℕ) → slice_get (numbers_held held) (length (numbers_held held) - 1) ≡ Some k → IsNewest k held (take (length held - 1) held)
 newest_split [] k at = absurd (cc)
-newest_split (x ∷ []) k at = record { x = x; number = same_thing x.number k at; all = refl }
+newest_split (x ∷ []) k at = record { x = x; number = same_Some x.number k at; all = refl }
 newest_split (x ∷ (y ∷ ys)) k at =
     let more : length (numbers_held (x ∷ (y ∷ ys))) - 1 ≡ suc (length (numbers_held (y ∷ ys)) - 1) = omega arith in
     let most : length (x ∷ (y ∷ ys)) - 1 ≡ suc (length (y ∷ ys) - 1) = omega arith in
@@ -162,7 +151,7 @@ module _ {B L : Type 0} (left : B → L) (spot : L → Option Said → Spot) (an
       let awaiting = holding.awaiting t (holder_of slot) k at_t (ap awaited_in waits) in
       let newest = awaiting.2.newest going in
       let applied : r.shown.forwarding ≡ Applied = holding.sent k (thing_of r) at_r sent in
-      let same : by.slot ≡ slot = same_thing by.slot slot (sym by.there ∙ it.there) in
+      let same : by.slot ≡ slot = same_Some by.slot slot (sym by.there ∙ it.there) in
       let so : HeardSo k slot by.slot' by.output = subst (λ o. HeardSo k o by.slot' by.output) same (record { took = by.took; held = by.held }) in
       let untold : slot.told ≡ None = it.untold (ap acts_next waits) in
       let spares : SparesRecord r (unobserved r) = record { kept = refl; waiter = λ u h. h; forwarding = inl refl; observed = inr (applied, ap is_resolved by.over, refl) } in

@@ -4,7 +4,7 @@ use Rattle.exec_task.specs.declared.task.Task.{Task as TaskCell}
 use Rattle.exec_machine.specs.declared.state.Waiting.{Waiting}
 use Rattle.exec_moves.specs.{declared.place.{InPoll.InPoll, Place.Place}, Seen.polls_at}
 use Rattle.exec_parts.specs.{declared.parts.{mail.Subject.Subject, record.Record.Record, shared.Shared.Shared, sleeping.SleeperRecord.SleeperRecord, task_slot.TaskSlot.TaskSlot, worker.Worker.Worker}, View.driver_of}
-use Rattle.exec_invariants.{specs.{Carried.HasRoom, Due.IsDue, Flown.HasFlown, Gates.AreLinedUp, Holding.Mail, HoldPlaces.{cancels_at, has_wakes_at, sends_cancel_at}, Places.step_of_poll, Sound.{AreHome, HasLetters, IsMyMail, SoundAt, Stops, StopsIn, served_in}, Spares.Spares, Whole.{IsWhole, Profile, with_worker}, Works.Beside}, proofs.{Aside.{SameProfile}, Here.IsHere, HoldBeside.{Deals, Handles, Holds, whole_dealt}, HoldThings.{Touches, touches_none}, Lined.lined_kept, Polling.home_mine, ServingHolds.Keeps, Serving.{SparesRecords, letter_kept, mail_kept, spares_service}, Slots.spares_slot, SlotTasks.Keeps as KeepsSlot, TaskDeals.{ComesFrom, Dealt, GoesOn, here_or_none, profile_here, sound_dealt}}}
+use Rattle.exec_invariants.{specs.{Carried.HasRoom, Due.IsDue, Flown.HasFlown, Gates.AreLinedUp, Holding.Mail, HoldPlaces.{cancels_at, has_wakes_at, sends_cancel_at}, Places.step_of_poll, Sound.{AreHome, HasLetters, IsMyMail, SoundAt, Stops, StopsIn, served_in}, Spares.Spares, Whole.{IsWhole, Profile, with_worker}, Works.Beside}, proofs.{Here.IsHere, HoldBeside.{Deals, Handles, Holds, whole_dealt}, HoldThings.{Touches, touches_none}, Lined.lined_kept, Polling.home_mine, ServingHolds.Keeps, Serving.{SparesRecords, letter_kept, mail_kept, spares_service}, Slots.spares_slot, SlotTasks.Keeps as KeepsSlot, TaskDeals.{ComesFrom, Dealt, GoesOn, here_or_none, sound_dealt}}}
 
 -- the place where it is says nothing of what its task waits for
 abbrev pub IsFree : InPoll → Type 0
@@ -98,10 +98,7 @@ module _ {B : Type 0} where
       let slot = it.slot in
       let w' : Worker = record v { place = Place.Poll t y } in
       let w2 : Worker = record w { place = Place.Poll t y; names = record w.names { ended = v.names.ended }; home = record w.home { driver = v.home.driver } } in
-      let slept : s'.sleepers ≡ s.sleepers = ap (λ (z : Shared B). z.sleepers) kept in
-      let seated : s'.seats ≡ s.seats = ap (λ (z : Shared B). z.seats) kept in
       let handles : Handles t s s' slot slot' = record { there = it.there; items = items; cell = deals.cell; home = deals.home; cleared = deals.cleared; poller = deals.poller } in
-      let profile : SameProfile w (record w { place = Place.Poll t y }) = profile_here x y t w from on sound.here in
       let all_deals : Deals t w w2 s s' slot slot' = grind arith in
       let mine : (j : ℕ) → slot.home ≡ Some j → j ≡ w.index = home_mine w.index slot.home (here_or_none x t w s it) in
       let worker : w' ≡ record w2 { home = record w2.home { deferred = v.home.deferred } } = ap (λ (z : Worker). record z { place = Place.Poll t y }) to.worker in

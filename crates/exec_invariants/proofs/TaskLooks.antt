@@ -5,19 +5,13 @@ use Rattle.exec_base.specs.declared.{error.Error.Error, one_shot.OneShotState.{O
 use Rattle.exec_outcomes.specs.declared.outcome.Outcome.{Outcome}
 use Rattle.exec_request.specs.declared.output.RequestOutput.{RequestOutput}
 use Rattle.exec_task.specs.declared.body.Said.{Said}
-use Rattle.exec_machine.specs.{declared.{event.Event.Event, state.{Forwarding.{Forwarding, TheVariants.{Unsent}}, MailMessage.TheVariants.{ForwardRequest, ForwardTimer}, RequestPhase.{RequestPhase, TheVariants.Resolved}, Waiting.Waiting}}, Tests.is_unsent}
+use Rattle.exec_machine.specs.{declared.{event.Event.Event, state.{MailMessage.TheVariants.{ForwardRequest, ForwardTimer}, RequestPhase.{RequestPhase, TheVariants.Resolved}, Waiting.Waiting}}, Tests.is_unsent}
 use Rattle.exec_moves.specs.declared.place.{InPoll.InPoll, Place.Place}
-use Rattle.exec_parts.{specs.{declared.parts.{record.Record.Record, shared.Shared.Shared, sleeping.SleeperRecord.SleeperRecord, task_slot.TaskSlot.TaskSlot, worker.Worker.Worker}, MailPosts.{HasAnswer, HearsEnd, HearsOutput, MayAskEnd, MayAskOutput, MayHearOutput, MaySend}, Records.{numbers_held, outcome_in}, Scripts.IsAnswered, Spots.Spot}, proofs.Facts.same_thing}
-use Rattle.exec_invariants.{specs.{Holding.{HasAnswer as HasAnswerIn, IsHeldBy, awaited_in, box_of, holder_of, holdings, nap_of, outcome_told, thing_of}, Sound.SoundAt, Whole.{HasWhole, hands_of, with_worker}, Works.Steps}, proofs.{AskBoxes.{asks_place, box_there}, AsksEnds.asks_whom, Here.{IsHere, going_on}, HoldSteps.{held_there, hold_once}, HoldWaits.held_number, SparedRecord.there_within, TaskHears.{looked_in_vain, output_heard, thing_there}, TaskTakes.{holder_there, nap_there, sleep_taken}, TaskWants.{may_forward, wants_from}}}
+use Rattle.exec_parts.{specs.{declared.parts.{record.Record.Record, shared.Shared.Shared, sleeping.SleeperRecord.SleeperRecord, task_slot.TaskSlot.TaskSlot, worker.Worker.Worker}, MailPosts.{HasAnswer, HearsEnd, HearsOutput, MayAskEnd, MayAskOutput, MayHearOutput, MaySend}, Records.{numbers_held, outcome_in}, Scripts.IsAnswered, Spots.Spot}, proofs.Facts.same_Some}
+use Rattle.exec_invariants.{specs.{Holding.{HasAnswer as HasAnswerIn, awaited_in, box_of, holder_of, holdings, nap_of, outcome_told, thing_of}, Sound.SoundAt, Whole.{HasWhole, hands_of, with_worker}, Works.Steps}, proofs.{AskBoxes.{asks_place, box_there}, AsksEnds.{asks_whom}, Here.{IsHere, going_on}, HoldSteps.{held_there, hold_once}, HoldWaits.held_number, SparedRecord.there_within, TaskHears.{looked_in_vain, output_heard, thing_there}, TaskTakes.{holder_there, nap_there, sleep_taken}, TaskWants.{may_forward, wants_from, held_so}}}
 
 resolved_as : (p : RequestPhase) (o : Outcome) → outcome_in p ≡ Some o → p ≡ Resolved o
 resolved_as = grind arith
-
-pub unsent_is : (f : Forwarding) → is_unsent f ≡ true → f ≡ Unsent
-unsent_is = grind arith
-
-held_so : (shut observed : Bool) (held told : ℕ) → 0 < held → IsHeldBy shut observed held told → observed ≡ true
-held_so = grind arith
 
 fired_so : (fired removed : Bool) → (fired || removed) ≡ true → removed ≡ false → fired ≡ true
 fired_so true removed h kept = refl
@@ -34,7 +28,7 @@ module _ {B : Type 0} where
       let may : MaySend it.shown.worker (ForwardTimer z) s = grind arith in
       record {
         known = slice_get_within s.sleepers.items z it at_z;
-        may = λ o found. subst (λ (y : SleeperRecord). MaySend y.shown.worker (ForwardTimer z) s) (same_thing it o (sym at_z ∙ found)) may;
+        may = λ o found. subst (λ (y : SleeperRecord). MaySend y.shown.worker (ForwardTimer z) s) (same_Some it o (sym at_z ∙ found)) may;
       }
 
   -- the newest that it holds is what it waits for
@@ -48,24 +42,20 @@ module _ {B : Type 0} where
   may_ask_output x t k w s r sound has at newest at_k unsent other =
       let wants = wants_from x t k w s r sound has at newest at_k other in
       let may = may_forward x t k w s at.slot r has wants at_k unsent in
-      record {
-        there = slice_get_within s.tasks.items t at.slot at.there;
-        known = slice_get_within s.requests.items k r at_k;
-        may = λ o found. subst (λ (y : Record). MaySend y.shown.worker (ForwardRequest k) s) (same_thing r o (sym at_k ∙ found)) may;
-      }
+      let may_so : (r : Record) → slice_get s.requests.items k ≡ Some r → MaySend r.shown.worker (ForwardRequest k) s = λ o found. subst (λ (y : Record). MaySend y.shown.worker (ForwardRequest k) s) (same_Some r o (sym at_k ∙ found)) may in
+      assumption (slice_get_within s.tasks.items t at.slot at.there, slice_get_within s.requests.items k r at_k, may_so)
 
   -- AN END THAT WAS SENT lies with the task
   pub may_hear_output : (t k : ℕ) (w : Worker) (s : Shared B) (r : Record) → (has : HasWhole w s) → (at : IsHere InPoll.Resume t w s) → at.slot.waiting ≡ Waiting.Request k → slice_get s.requests.items k ≡ Some r → is_unsent r.shown.forwarding ≡ false → MayHearOutput t k s
   may_hear_output t k w s r has at waits at_k forwarded =
       let slot = at.slot in
-      let h = hands_of (with_worker has.others w) in
       let hs = map holder_of s.tasks.items in
       let boxes = map box_of s.seats.items in
       let holding = has.whole.holding in
       let at_t = holder_there s.tasks.items t slot at.there in
       let at_r = thing_there s.requests.items k r at_k in
       let awaiting = holding.awaiting t (holder_of slot) k at_t (ap awaited_in waits) in
-      let is : awaiting.0 ≡ thing_of r = same_thing awaiting.0 (thing_of r) (sym awaiting.1 ∙ at_r) in
+      let is : awaiting.0 ≡ thing_of r = same_Some awaiting.0 (thing_of r) (sym awaiting.1 ∙ at_r) in
       let place = length (numbers_held slot.held.items) - 1 in
       let newest = newest_awaited InPoll.Resume t k w s has at waits in
       let one = held_number slot.held.items place k newest in
@@ -75,13 +65,10 @@ module _ {B : Type 0} where
       let box = there_within boxes r.shown.worker (holding.of_worker k (thing_of r) at_r) in
       let observed = held_so box.0.shut r.shown.observed (holdings k hs) _ held (holding.held k (thing_of r) box.0 at_r box.1) in
       let answer : HasAnswerIn slot.output (thing_of r) = subst (λ x. HasAnswerIn slot.output x) is (awaiting.2.answer (ap (λ x. is_unsent x.forwarding) is ∙ forwarded)) in
-      record {
-        there = slice_get_within s.tasks.items t slot at.there;
-        known = slice_get_within s.requests.items k r at_k;
-        answer = λ o found sent.
-            let same : r ≡ o = same_thing r o (sym at_k ∙ found) in
-            subst (λ y. HasAnswer t y s) same (by slot.output refl answer observed (ap (λ (y : Record). y.sent) same ∙ sent) (slice_get_within slot.held.items place one.0 one.1));
-      }
+      let answer_so : (r : Record) → slice_get s.requests.items k ≡ Some r → r.sent ≡ true → HasAnswer t r s = λ o found sent.
+      let same : r ≡ o = same_Some r o (sym at_k ∙ found) in
+      subst (λ y. HasAnswer t y s) same (by slot.output refl answer observed (ap (λ (y : Record). y.sent) same ∙ sent) (slice_get_within slot.held.items place one.0 one.1)) in
+      assumption (slice_get_within s.tasks.items t slot at.there, slice_get_within s.requests.items k r at_k, answer_so)
     where
       by : (o : OneShotState (Result RequestOutput Error)) → at.slot.output ≡ o → HasAnswerIn o (thing_of r) → r.shown.observed ≡ true → r.sent ≡ true → (length (numbers_held at.slot.held.items) - 1) < length at.slot.held.items → HasAnswer t r s
       by Open is answer observed sent within = absurd (false≢true (sym answer ∙ sent))
@@ -92,8 +79,8 @@ module _ {B : Type 0} where
             outcome = outcome_told told;
             over = resolved_as r.shown.phase (outcome_told told) answer.1;
             output = told;
-            lies = λ slot there. ap (λ (y : TaskSlot B). y.output) (same_thing slot at.slot (sym there ∙ at.there)) ∙ is;
-            holds = λ slot there. subst (λ (y : TaskSlot B). 0 < length y.held.items) (same_thing at.slot slot (sym at.there ∙ there)) (omega (arith, within));
+            lies = λ slot there. ap (λ (y : TaskSlot B). y.output) (same_Some slot at.slot (sym there ∙ at.there)) ∙ is;
+            holds = λ slot there. subst (λ (y : TaskSlot B). 0 < length y.held.items) (same_Some at.slot slot (sym at.there ∙ there)) (omega (arith, within));
           }
 
 module _ {B L : Type 0} (left : B → L) (spot : L → Option Said → Spot) (answered : IsAnswered spot) where
@@ -101,7 +88,7 @@ module _ {B L : Type 0} (left : B → L) (spot : L → Option Said → Spot) (an
   pub end_looked : (t k : ℕ) (w w' : Worker) (s s' : Shared B) (e : Event) (z : SleeperRecord) → (sound : SoundAt (Place.Poll t InPoll.Resume) w s) → HasWhole w s → (it : IsHere InPoll.Resume t w s) → it.slot.waiting ≡ Waiting.Timer k → slice_get s.sleepers.items k ≡ Some z → is_unsent z.shown.forwarding ≡ false
       → HearsEnd t k w w' s s' e → Steps left spot w s e w' s'
   end_looked t k w w' s s' e z sound has it waits at_z forwarded hears =
-      let is : hears.it ≡ z = same_thing hears.it z (sym hears.sleeper ∙ at_z) in
+      let is : hears.it ≡ z = same_Some hears.it z (sym hears.sleeper ∙ at_z) in
       by hears.it.sent refl is
     where
       by : (b : Bool) → hears.it.sent ≡ b → hears.it ≡ z → Steps left spot w s e w' s'
@@ -111,7 +98,7 @@ module _ {B L : Type 0} (left : B → L) (spot : L → Option Said → Spot) (an
           let at_n = nap_there s.sleepers.items k z at_z in
           let over = has.whole.holding.sent_too k (nap_of z) at_n sent_z in
           let asleep = has.whole.holding.asleep t (holder_of it.slot) k (holder_there s.tasks.items t it.slot it.there) (ap awaited_in waits) in
-          let same : asleep.0 ≡ nap_of z = same_thing asleep.0 (nap_of z) (sym asleep.1 ∙ at_n) in
+          let same : asleep.0 ≡ nap_of z = same_Some asleep.0 (nap_of z) (sym asleep.1 ∙ at_n) in
           let kept : (z.shown.removed || z.closed) ≡ false = sym (ap (λ x. x.removed) same) ∙ asleep.2.kept (going_on it.slot.cell.phase it.polled) in
           sleep_taken left spot answered t k w w' s s' e z sound it waits at_z (fired_so z.shown.fired (z.shown.removed || z.closed) over.1 kept) (inr (sent_z, over.0)) takes.event takes.worker takes.task
       by false unsent is =
@@ -122,7 +109,7 @@ module _ {B L : Type 0} (left : B → L) (spot : L → Option Said → Spot) (an
   pub output_looked : (t k : ℕ) (w w' : Worker) (s s' : Shared B) (e : Event) (r : Record) → (sound : SoundAt (Place.Poll t InPoll.Resume) w s) → HasWhole w s → (it : IsHere InPoll.Resume t w s) → it.slot.waiting ≡ Waiting.Request k → slice_get s.requests.items k ≡ Some r → is_unsent r.shown.forwarding ≡ false
       → HearsOutput t k w w' s s' e → Steps left spot w s e w' s'
   output_looked t k w w' s s' e r sound has it waits at_k forwarded hears =
-      let is : hears.r ≡ r = same_thing hears.r r (sym hears.request ∙ at_k) in
+      let is : hears.r ≡ r = same_Some hears.r r (sym hears.request ∙ at_k) in
       by hears.r.sent refl is
     where
       by : (b : Bool) → hears.r.sent ≡ b → hears.r ≡ r → Steps left spot w s e w' s'

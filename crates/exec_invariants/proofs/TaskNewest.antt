@@ -7,7 +7,7 @@ use Rattle.exec_driver.specs.Driving.{request_at}
 use Rattle.exec_task.specs.{Sight.Sight, declared.body.{Act.Act, Said.Said}}
 use Rattle.exec_machine.specs.{declared.state.{Forwarding.{Forwarding}, MailMessage.{MailMessage, TheVariants.{CancelRequest, ForwardRequest}}, Request.Request, Waiting.Waiting}, Requests.ends_by_drop, Tests.{is_applied, is_resolved, is_unsent}}
 use Rattle.exec_moves.specs.declared.place.{InPoll.InPoll, Place.Place}
-use Rattle.exec_parts.{specs.{declared.parts.{mail.{Reply.Reply, Subject.Subject}, record.Record.Record, shared.Shared.Shared, task_slot.TaskSlot.TaskSlot, worker.Worker.Worker}, Awaits.{HasNewest, MayLetGo, OfNewest, newest_of}, MailPosts.MaySend, Polls.MadeAct, Records.{number_in, numbers_held}, View.driver_of}, proofs.Facts.{same_thing, set_there}}
+use Rattle.exec_parts.{specs.{declared.parts.{mail.{Reply.Reply, Subject.Subject}, record.Record.Record, shared.Shared.Shared, task_slot.TaskSlot.TaskSlot, worker.Worker.Worker}, Awaits.{HasNewest, MayLetGo, OfNewest, newest_of}, MailPosts.MaySend, Polls.MadeAct, Records.{number_in, numbers_held}, View.driver_of}, proofs.Facts.{same_Some, set_there}}
 use Rattle.exec_invariants.{specs.{HoldPlaces.spare_at, Holding.{awaited_in, holder_of, thing_of}, Rooted.IsNear, Sound.SoundAt, Names.tellers, Whole.HasWhole}, proofs.{Here.{IsHere, polled_here}, HoldMail.sum_least, HoldWaits.held_number, Resolving.places_fewer, Slotted.live_at, TaskGot.may_take_own, TaskTakes.holder_there, TaskWants.{HoldsNewest, may_cancel, may_forward, newest_is, wants_from}}}
 
 -- what ends by a drop isn't over
@@ -47,7 +47,7 @@ module _ {B : Type 0} where
         known = subst (λ xs. k < length xs) (sym same) (slice_get_within s.requests.items k r at_k);
         room = (places_fewer room sound.told).room;
         ending = λ x found ends.
-            let is : r ≡ x = same_thing r x (sym at_k ∙ sym (ap (λ xs. slice_get xs k) same) ∙ found) in
+            let is : r ≡ x = same_Some r x (sym at_k ∙ sym (ap (λ xs. slice_get xs k) same) ∙ found) in
             let going : is_resolved r.shown.phase ≡ false = ap (λ (y : Record). is_resolved y.shown.phase) is ∙ ends_open x.shown ends in
             let pends = still_pends q k w s r sound at_k mine going in
             let some = some_pending q w s r.id.0 pends.it sound pends.live in
@@ -64,17 +64,13 @@ module _ {B : Type 0} where
   -- what a task holds that waits for nothing was told to nobody
   pub newest_unsent : (t k : ℕ) (w : Worker) (s : Shared B) (r : Record) → HasWhole w s → (at : IsHere InPoll.Act t w s) → newest_of at.slot ≡ Some k → slice_get s.requests.items k ≡ Some r → is_unsent r.shown.forwarding ≡ true
   newest_unsent t k w s r has at newest at_k =
+      let none_some : None ≡ Some (Subject.Request k) → ⊥ = λ h. absurd (cc) in
+      let none_awaited : (u : Waiting) → u ≡ Waiting.Nothing → awaited_in u ≡ Some (Subject.Request k) → ⊥ = λ u is some. absurd (none_some (sym (ap awaited_in is) ∙ some)) in
       by (is_unsent r.shown.forwarding) (λ sent. none_awaited at.slot.waiting at.waits ((newest_is InPoll.Act t k w s r has at newest at_k).awaited sent))
     where
       by : (b : Bool) → (b ≡ false → ⊥) → b ≡ true
       by true sent = refl
       by false sent = absurd (sent refl)
-
-      none_some : None ≡ Some (Subject.Request k) → ⊥
-      none_some h = absurd (cc)
-
-      none_awaited : (u : Waiting) → u ≡ Waiting.Nothing → awaited_in u ≡ Some (Subject.Request k) → ⊥
-      none_awaited u is some = absurd (none_some (sym (ap awaited_in is) ∙ some))
 
   -- it is there
   pub newest_known : (t k : ℕ) (w : Worker) (s : Shared B) (slot : TaskSlot B) → HasWhole w s → slice_get s.tasks.items t ≡ Some slot → newest_of slot ≡ Some k → k < length s.requests.items
@@ -86,11 +82,12 @@ module _ {B : Type 0} where
 module _ {B L : Type 0} (left : B → L) (gives : L → Option Sight → Said → Act B → L → Option Sight → Type 0) where
   pub newest_acted : (t : ℕ) (w : Worker) (s s1 : Shared B) (a : Act B) → SoundAt (Place.Poll t InPoll.Act) w s → HasWhole w s → MadeAct left gives t w.moments.sampled s s1 a → OfNewest t s1 (λ k. HasNewest t k w s1)
   newest_acted t w s s1 a sound has m slot at_task k newest =
+      let seated : (j : ℕ) (m : MailMessage) → s1 ≡ record s { tasks = s1.tasks } → MaySend j m s → MaySend j m s1 = λ j m kept may. subst (λ (x : Shared B). MaySend j m x) (sym kept) (record { there = may.there; place = may.place }) in
       let q : Place = Place.Poll t InPoll.Act in
       let at : IsHere InPoll.Act t w s = polled_here InPoll.Act t w s sound refl in
       let found : slice_get s1.tasks.items t ≡ Some m.slot' = ap (λ ts. slice_get ts t) m.tasks ∙ set_there s.tasks.items t m.slot' m.slot m.there in
-      let same : slot ≡ record m.slot { body = Some m.acts.body'; told = None } = same_thing slot m.slot' (sym at_task ∙ found) ∙ m.acts.slot in
-      let is : m.slot ≡ at.slot = same_thing m.slot at.slot (sym m.there ∙ at.there) in
+      let same : slot ≡ record m.slot { body = Some m.acts.body'; told = None } = same_Some slot m.slot' (sym at_task ∙ found) ∙ m.acts.slot in
+      let is : m.slot ≡ at.slot = same_Some m.slot at.slot (sym m.there ∙ at.there) in
       let newest_at : newest_of at.slot ≡ Some k = ap newest_of (sym is) ∙ ap newest_of (sym same) ∙ newest in
       let same_requests : s1.requests.items ≡ s.requests.items = ap (λ (x : Shared B). x.requests.items) m.kept in
       let within : length (numbers_held at.slot.held.items) - 1 < length (numbers_held at.slot.held.items) = slice_get_within (numbers_held at.slot.held.items) (length (numbers_held at.slot.held.items) - 1) k newest_at in
@@ -99,8 +96,8 @@ module _ {B L : Type 0} (left : B → L) (gives : L → Option Sight → Said �
       let unsent : (r : Record) → slice_get s.requests.items k ≡ Some r → is_unsent r.shown.forwarding ≡ true = λ r there. newest_unsent t k w s r has at newest_at there in
       record {
         there = slice_get_within s1.tasks.items t m.slot' found;
-        holds = λ o there. subst (λ (x : TaskSlot B). 0 < length (numbers_held x.held.items)) (sym (ap (λ (x : TaskSlot B). record x { body = Some m.acts.body'; told = None }) is) ∙ sym same ∙ same_thing slot o (sym at_task ∙ there)) (omega (arith, within));
-        number = λ o there. ap (λ (x : TaskSlot B). x.cell.number) (sym (same_thing slot o (sym at_task ∙ there)) ∙ same) ∙ ap (λ (x : TaskSlot B). x.cell.number) is ∙ at.number;
+        holds = λ o there. subst (λ (x : TaskSlot B). 0 < length (numbers_held x.held.items)) (sym (ap (λ (x : TaskSlot B). record x { body = Some m.acts.body'; told = None }) is) ∙ sym same ∙ same_Some slot o (sym at_task ∙ there)) (omega (arith, within));
+        number = λ o there. ap (λ (x : TaskSlot B). x.cell.number) (sym (same_Some slot o (sym at_task ∙ there)) ∙ same) ∙ ap (λ (x : TaskSlot B). x.cell.number) is ∙ at.number;
         known = subst (λ xs. k < length xs) (sym same_requests) (newest_known t k w s at.slot has at.there newest_at);
         may = λ r there mine. may_let q k w s s1 r sound (back r there) mine m.kept (omega arith);
         ready = λ r there mine over. (may_take_own InPoll.Act t k w s r sound has at newest_at (back r there) (unsent r (back r there)) mine over).ready r (back r there);
@@ -108,6 +105,3 @@ module _ {B L : Type 0} (left : B → L) (gives : L → Option Sight → Said �
         asks = λ r there other. seated r.shown.worker (ForwardRequest k) m.kept (may_forward InPoll.Act t k w s at.slot r has (wants_from InPoll.Act t k w s r sound has at newest_at (back r there) other) (back r there) (unsent r (back r there)));
         tells = λ r there other. seated r.shown.worker (CancelRequest k) m.kept (may_cancel InPoll.Act t k w s at.slot r has (wants_from InPoll.Act t k w s r sound has at newest_at (back r there) other) (back r there));
       }
-    where
-      seated : (j : ℕ) (m : MailMessage) → s1 ≡ record s { tasks = s1.tasks } → MaySend j m s → MaySend j m s1
-      seated j m kept may = subst (λ (x : Shared B). MaySend j m x) (sym kept) (record { there = may.there; place = may.place })

@@ -1,12 +1,12 @@
 -- A TASK IS OVER BY ITS OWN ACT, be it a root, whose worker closes then, or an ordinary task, which leaves the task set.
-use Rattle.std.proofs.{Common.{◌≡◌, ◌≢◌, ◌⊎◌, inl, inr, ⊎_elim, ℕ, ◌<◌, ◌==◌, Bool, true, false, Contains, List, [], ◌∷◌, ◌++◌, length, map, option_map, option_to_list, Option, Some, None, refl, sym, ap, subst, ◌∙◌, nat_lt, slice_get, slice_set, if◌then◌else◌}, lemmas.{Bool.{false≢true, eq-eqb}, List.set-set}}
+use Rattle.std.proofs.{Common.{◌≡◌, ◌≢◌, ◌⊎◌, inl, inr, ⊎_elim, ℕ, ◌<◌, ◌==◌, Bool, true, false, Contains, List, [], ◌∷◌, ◌++◌, length, map, option_map, option_to_list, Option, Some, None, refl, sym, ap, subst, ◌∙◌, nat_lt, slice_get, slice_set, if◌then◌else◌, IsSome}, lemmas.{Bool.{false≢true, eq-eqb}, List.set-set}}
 use Rattle.std.proofs.Common.{arith}
 use Rattle.exec_base.specs.Slab.{live_count}
 use Rattle.exec_task.specs.{Phases.{is_polled, over as cell_over}, Sight.Sight, declared.{body.{Act.Act, Said.Said}, runnable.Runnable.Runnable}}
 use Rattle.exec_machine.specs.{Choice.Choice.Plain, declared.{config.{Configuration.Configuration, ScriptWord.ScriptWord}, event.Event.Event, state.{Code.Code, Letter.Letter, Next.Next, TaskPhase.TaskPhase, Waiting.Waiting}}, After.{common_after, own_after}, Allowed.allowed, Progress.Plan, Tests.{AllTrue, is_empty}, Tasks.{after_over, may_end_by, own_after_done}, Words.{asks_await, asks_end, asks_fault, moved_on, next_word}, World.{Common, Own, Task, task_of}}
 use Rattle.exec_moves.specs.{declared.{handing.AfterCancels.AfterCancels, place.{InClosing.InClosing, InPoll.InPoll, Place.Place}}, Parts.{after_cancels, cancels_left}, Poll.{after_end, ends as end_moves}, Seen.{next_at, polls_at, serves_at}, State.{Desk, goes}, Told.lets_go_all}
-use Rattle.exec_parts.{specs.{Records.numbers_held, declared.parts.{letters.Letters.Letters, seat.Seat.Seat as Chair, shared.Shared.Shared, task_slot.TaskSlot.TaskSlot, worker.Worker.Worker}, Ending.{EndsTask, LetsGoAll, LetsWaiting, MayEndTask, ended_place, others_of}, Phased.{IsPhased, is_complete, stage_of}, Roles.is_pool, Scripts.{Asks, is_last}, Spots.{Spot, spot_of, standing_at}, View.{Views, common_of, desk_of, letter_of_request, letter_of_timer, letters_in, own_of, owed_at, task_seen, things_with}}, proofs.Facts.{by_number, not_same, same_thing, set_there}}
-use Rattle.exec_invariants.{specs.{Acting.{HasActed, Performs, PerformsOne, StepsOf}, Gates.AreLinedUp, Holding.{MayHave, awaited_in, holder_of}, HoldPlaces.sends_cancel_at, Places.removes_at, Sound.{AreHome, AreResting, HasLetters, HasRunnable, IsGuest, IsHeld, IsRunnable, IsTied, SoundAt, Stands, is_told, one_of, served_in}, Whole.{HasWhole, IsGenuine}, Works.{Suits, Works}}, proofs.{Acting.{IsPlainWord, acted_slot, actor, acts_so, move_by, moves_so}, Here.{IsHere, polled_here}, Onces.leaves_none, Pending.polled_none, Performing.still_performs, Phased.phased_over, Polling.on_in_poll, ServingHolds.Keeps, Slots.task_there, SlotTasks.{Keeps as KeepsSlot, Tasked, guest_pool, guest_tasked, homes_set, none_in, resting_set, sound_tasked}, TaskOverFold.{AllLet, HoldsAll, LetsSeen, let_all}, TaskOverGone.{AllGone, gone_awake}, TaskOverLetters.{AreLetters, letters_fit, no_letters, none_left}, TaskOverMay.{HasAll, has_all, keeps_tasks, may_let_go}, TaskOverPolls.{OversPoll, acting, beside_over, gone_at, over_shared, over_worker, sound_over}, TaskOverSeen.{common_then, desk_then, own_then, things_then}, TaskOverSound.{IsAside, IsOwing, own_keeps}, TaskOverWhole.{IsDone, IsPast}, TaskOverPlaces.{closes_past, closes_aside, removes_past, removes_aside, tells_past, tells_removing, owes_removing, IsQuiet, others_none, waits_word, stopped_so, waits_there, within_so}}}
+use Rattle.exec_parts.{specs.{Records.numbers_held, declared.parts.{letters.Letters.Letters, seat.Seat.Seat as Chair, shared.Shared.Shared, task_slot.TaskSlot.TaskSlot, worker.Worker.Worker}, Ending.{EndsTask, LetsGoAll, LetsWaiting, MayEndTask, ended_place, others_of}, Phased.{IsPhased, is_complete, stage_of}, Roles.is_pool, Scripts.{Asks, is_last}, Spots.{Spot, spot_of}, View.{Views, common_of, desk_of, letter_of_request, letter_of_timer, letters_in, own_of, owed_at, task_seen, things_with}}, proofs.Facts.{by_number, not_same, same_Some, set_there}}
+use Rattle.exec_invariants.{specs.{Acting.{HasActed, Performs, PerformsOne, StepsOf}, Gates.AreLinedUp, Holding.{MayHave, awaited_in, holder_of}, HoldPlaces.sends_cancel_at, Places.removes_at, Sound.{AreHome, AreResting, HasLetters, HasRunnable, IsGuest, IsHeld, IsRunnable, IsTied, SoundAt, Stands, is_told, one_of, served_in}, Whole.{HasWhole, IsGenuine}, Works.{Suits, Works}}, proofs.{Acting.{IsPlainWord, acted_slot, actor, acts_so, move_by, moves_so}, Here.{IsHere, polled_here}, Onces.leaves_none, Pending.polled_none, Performing.still_performs, Phased.phased_over, Polling.on_in_poll, ServingHolds.Keeps, Slots.task_there, SlotTasks.{Keeps as KeepsSlot, Tasked, guest_pool, guest_tasked, homes_set, none_in, resting_set, sound_tasked}, TaskOverFold.{AllLet, HoldsAll, LetsSeen, let_all}, TaskOverGone.{AllGone, gone_awake}, TaskOverLetters.{AreLetters, letters_fit, no_letters, none_left}, TaskOverMay.{HasAll, has_all, keeps_tasks, may_let_go}, TaskOverPolls.{OversPoll, acting, beside_over, gone_at, over_shared, over_worker, sound_over}, TaskOverSeen.{common_then, desk_then, own_then, things_then}, TaskOverSound.{IsAside, IsOwing, own_keeps}, TaskOverWhole.{IsDone, IsPast}, TaskOverPlaces.{closes_past, closes_aside, removes_past, removes_aside, tells_past, tells_removing, owes_removing, IsQuiet, others_none, waits_word, stopped_so, waits_there, ltb-true}}}
 
 -- it is told nothing once it is over
 pub over_untold : (u : Waiting) → is_told u true ≡ false
@@ -52,7 +52,7 @@ module _ {B L : Type 0} (left : B → L) (runs : L → Plan → Option ℕ → T
     here = polled_here InPoll.Act t w s h.sound refl
 
     here_is : here.slot ≡ h.made.slot
-    here_is = same_thing here.slot h.made.slot (sym here.there ∙ h.made.there)
+    here_is = same_Some here.slot h.made.slot (sym here.there ∙ h.made.there)
 
     polled : is_polled h.made.slot.cell.phase ≡ true
     polled = ap (λ (o : TaskSlot B). is_polled o.cell.phase) (sym here_is) ∙ here.polled
@@ -87,7 +87,7 @@ module _ {B L : Type 0} (left : B → L) (runs : L → Plan → Option ℕ → T
     pub may_end_task : MayEndTask t w s1
     may_end_task =
         record {
-          polled = λ o found. ap (λ (x : TaskSlot B). is_polled x.cell.phase) (same_thing o h.made.slot' (sym found ∙ there1) ∙ h.made.acts.slot) ∙ polled;
+          polled = λ o found. ap (λ (x : TaskSlot B). is_polled x.cell.phase) (same_Some o h.made.slot' (sym found ∙ there1) ∙ h.made.acts.slot) ∙ polled;
           lets = may_let_go t w s1 h.made.slot' seen idle gates1 there1 keeps1 holds1 (no_letters w.letters none).0 (no_letters w.letters none).1
               (λ z is. absurd (let no : Waiting.Nothing ≡ Waiting.Timer z = sym waits ∙ sym (ap (λ (o : TaskSlot B). o.waiting) h.made.acts.slot) ∙ is in cc));
         }
@@ -102,7 +102,7 @@ module _ {B L : Type 0} (left : B → L) (runs : L → Plan → Option ℕ → T
       q = ended_place t it.v
 
       slot_is : it.lets.slot ≡ acted_slot h.made.slot h.made.acts.body'
-      slot_is = same_thing it.lets.slot h.made.slot' (sym it.lets.there ∙ there1) ∙ h.made.acts.slot
+      slot_is = same_Some it.lets.slot h.made.slot' (sym it.lets.there ∙ there1) ∙ h.made.acts.slot
 
       first_is : it.lets.first ≡ record s { tasks = it.lets.first.tasks }
       first_is = it.lets.kept ∙ ap (λ (y : Shared B). record y { tasks = it.lets.first.tasks }) h.made.kept
@@ -153,9 +153,7 @@ module _ {B L : Type 0} (left : B → L) (runs : L → Plan → Option ℕ → T
       shared_is = it.task.kept ∙ ap (λ (y : Shared B). record y { tasks = s'.tasks }) mid_is ∙ ap (λ (y : Shared B). record y { tasks = s'.tasks; requests = it.lets.now.requests; sleepers = it.lets.now.sleepers }) first_is
 
       worker_is : w' ≡ over_worker (ended_place t it.v) it.v.letters it.lets.v w
-      worker_is =
-          it.worker ∙ ap (λ (y : Worker). record y { place = ended_place t it.v }) (it.lets.worker ∙ ap (λ (y : Worker). record y { letters = it.v.letters }) slept.0)
-          ∙ ap (λ (y : Worker). record y { place = ended_place t it.v; letters = it.v.letters }) gone_first.worker
+      worker_is = grind (arith, it.worker, it.lets.worker, slept.0, gone_first.worker)
 
       keeps_slot : KeepsSlot h.made.slot over_slot
       keeps_slot = record { home = refl; number = refl; owner = refl }
@@ -168,40 +166,42 @@ module _ {B L : Type 0} (left : B → L) (runs : L → Plan → Option ℕ → T
 
       overs : IsPast (ended_place t it.v) → IsAside (ended_place t it.v) → ((u : ℕ) → removes_at (ended_place t it.v) ≡ Some u → (u ≡ t) × (h.made.slot.home ≡ None)) → OversPoll InPoll.Act t (ended_place t it.v) it.v.letters w it.lets.v s (record it.lets.now { tasks = s.tasks }) s' h.made.slot over_slot
       overs past aside removes =
-          record {
-            there = h.made.there;
-            items = items;
-            done = done;
-            holder = ap (λ hs. record (holder_of h.made.slot) { held = hs; over = true }) it.lets.none;
-            polled = polled;
-            poller = ap (λ (o : TaskSlot B). o.poller) (sym here_is) ∙ here.poller;
-            home = home;
-            idle = λ some. ap awaited_in waits;
-            gone = gone;
-            past = past;
-            aside = aside;
-            removes = removes;
-          }
+          let holder = ap (λ hs. record (holder_of h.made.slot) { held = hs; over = true }) it.lets.none in
+          let poller = ap (λ (o : TaskSlot B). o.poller) (sym here_is) ∙ here.poller in
+          let idle : IsSome h.made.slot.home → awaited_in h.made.slot.waiting ≡ None = λ some. ap awaited_in waits in
+          assumption (items, done, holder, polled, poller, home, idle, gone, past, aside, removes, h.made)
 
       -- what the machine makes of it
 
       seen_then : (y : Spot) → spot (left h.made.acts.body') None ≡ spot_of (task_seen left spot h.made.slot) → task_seen left spot over_slot ≡ record (task_seen left spot h.made.slot) { phase = TaskPhase.Done; held = [] }
-      seen_then y stands =
-          ap (λ z. record (standing_at z (task_seen left spot h.made.slot)) { phase = TaskPhase.Done; held = (numbers_held it.lets.slot'.held.items) }) stands
-          ∙ ap (λ hs. record (task_seen left spot h.made.slot) { phase = TaskPhase.Done; held = numbers_held hs }) it.lets.none
+      seen_then y stands = grind (arith, stands, it.lets.none)
 
       place_then : (d : Desk) → d ≡ desk_of it.v → (h.made.slot.home ≡ Some w.index) ⊎ (h.made.slot.home ≡ None) → (t ≡ w.root → h.made.slot.home ≡ Some w.index) → (t ≢ w.root → h.made.slot.home ≡ None) → after_end t h.made.slot.home (desk_of it.v) ≡ ended_place t it.v
       place_then d same whose root other =
+          let root_same : it.v.root ≡ w.root = ap (λ (y : Worker). y.root) it.lets.worker ∙ ap (λ (y : Worker). y.root) slept.0 ∙ ap (λ (y : Worker). y.root) gone_first.worker in
           by_number t w.root
           (λ apart. ap (λ o. after_end t o (desk_of it.v)) (other apart) ∙ sym (ap (λ b. if b then Place.Closing InClosing.Close else cancels_left (AfterCancels.Remove t) (desk_of it.v) (letters_in it.v.letters)) (ap (λ n. t == n) root_same ∙ not_same t w.root apart)))
           (λ is. ap (λ o. after_end t o (desk_of it.v)) (root is) ∙ sym (ap (λ b. if b then Place.Closing InClosing.Close else cancels_left (AfterCancels.Remove t) (desk_of it.v) (letters_in it.v.letters)) (ap (λ n. t == n) root_same ∙ eq-eqb t w.root is)))
-        where
-          root_same : it.v.root ≡ w.root
-          root_same = ap (λ (y : Worker). y.root) it.lets.worker ∙ ap (λ (y : Worker). y.root) slept.0 ∙ ap (λ (y : Worker). y.root) gone_first.worker
 
       works : (p : Plan) (vs : Views) → Suits p vs w s → Performs left runs holds p h.made.slot → polls_at (ended_place t it.v) ≡ None → serves_at (ended_place t it.v) ≡ false → next_at (ended_place t it.v) ≡ Next.Free → owed_at w.workers (ended_place t it.v) ≡ [] → after_end t h.made.slot.home (desk_of it.v) ≡ ended_place t it.v
           → Works left spot p vs w s e (over_worker (ended_place t it.v) it.v.letters it.lets.v w) (over_shared s'.tasks.items s' (record it.lets.now { tasks = s.tasks }) s)
       works p vs suits fits unpolled unserved free unowed place =
+          let own_so : (p : Plan) (vs : Views) → Suits p vs w s → polls_at (ended_place t it.v) ≡ None → serves_at (ended_place t it.v) ≡ false → next_at (ended_place t it.v) ≡ Next.Free → owed_at w.workers (ended_place t it.v) ≡ [] → record w { place = Place.Poll t InPoll.Act } ≡ w → own_of (over_worker (ended_place t it.v) it.v.letters it.lets.v w) ≡ record (own_after_done (own_of (record w { place = Place.Poll t InPoll.Act })) (common_of left spot p vs s) w.index t) { serving = false } = λ p vs suits unpolled unserved free unowed here_w.
+          let q' : Place = ended_place t it.v in
+          let v = it.lets.v in
+          let c = common_of left spot p vs s in
+          let made : Option ℕ → Bool → Next → List Letter → Own = λ polls serving next owed. record (own_of v) { polls = polls; serving = serving; next = next; owed = owed } in
+          let v_place : v.place ≡ Place.Poll t InPoll.Act = ap (λ (y : Worker). y.place) gone.worker ∙ h.sound.here in
+          let v_workers : v.workers ≡ w.workers = ap (λ (y : Worker). y.workers) gone.worker in
+          ap own_of (ap (λ (y : Worker). record y { place = q'; letters = it.v.letters }) (sym gone.worker))
+          ∙ ap (λ o. made o (serves_at q') (next_at q') (owed_at v.workers q' ++ letters_in it.v.letters)) unpolled
+          ∙ ap (λ o. made None o (next_at q') (owed_at v.workers q' ++ letters_in it.v.letters)) unserved
+          ∙ ap (λ o. made None false o (owed_at v.workers q' ++ letters_in it.v.letters)) free
+          ∙ ap (λ o. made None false Next.Free (o ++ letters_in it.v.letters)) (ap (λ n. owed_at n q') v_workers ∙ unowed)
+          ∙ ap (λ y. made None false (next_at y) (letters_in it.v.letters)) (sym v_place)
+          ∙ ap (λ (y : Own). record y { polls = None; serving = false }) (sym (own_then left spot p vs t q' it.v.letters w v s (record it.lets.now { tasks = s.tasks }) s' h.made.slot over_slot suits h.made.there items gone []))
+          ∙ ap (λ (y : Worker). record (own_after_done (record (own_of y) { owed = [] }) c w.index t) { serving = false }) (sym here_w)
+          ∙ ap (λ ls. record (own_after_done (record (own_of (record w { place = Place.Poll t InPoll.Act })) { owed = ls }) c w.index t) { serving = false }) (sym none) in
           let q' : Place = ended_place t it.v in
           let c = common_of left spot p vs s in
           let seen_slot = task_seen left spot h.made.slot in
@@ -221,32 +221,11 @@ module _ {B L : Type 0} (left : B → L) (runs : L → Plan → Option ℕ → T
           let things = things_then left spot p vs t q' it.v.letters w it.lets.v s (record it.lets.now { tasks = s.tasks }) s' h.made.slot over_slot suits h.made.there items gone in
           subst (λ y. Works left spot p vs y s e W S) here_w (record {
             choice = Plain;
-            moves = moves_so left spot t p c w s vs h.made.slot x is_end.plain at_task word ∙ is_end.moves p c w s vs seen_slot
-                ∙ ap (λ y. record { event = e; choice = Plain; desk = y; thing = things_with vs s }) desk_all
-                ∙ ap (λ y. record { event = e; choice = Plain; desk = desk_of W; thing = y }) (sym things);
+            moves = grind (arith, moves_so left spot t p c w s vs h.made.slot x is_end.plain at_task word, is_end.moves p c w s vs seen_slot, desk_all, things);
             may = subst AllTrue (sym (is_end.allows p (own_of wq) c w.index)) (eq-eqb t t refl, (acts_so left spot t c w h.made.slot is_end.test at_task waits (ap is_end.test word ∙ is_end.passes), tt));
             own = own_so p vs suits unpolled unserved free unowed here_w ∙ sym (is_end.own p (own_of wq) c w.index);
             common = common_then left spot p vs t q' it.v.letters w it.lets.v s (record it.lets.now { tasks = s.tasks }) s' h.made.slot over_slot suits h.made.there items gone (seen_then (spot_of seen_slot) stays) ∙ sym (is_end.common p (own_of wq) c w.index);
           })
-        where
-          own_so : (p : Plan) (vs : Views) → Suits p vs w s → polls_at (ended_place t it.v) ≡ None → serves_at (ended_place t it.v) ≡ false → next_at (ended_place t it.v) ≡ Next.Free → owed_at w.workers (ended_place t it.v) ≡ [] → record w { place = Place.Poll t InPoll.Act } ≡ w
-              → own_of (over_worker (ended_place t it.v) it.v.letters it.lets.v w) ≡ record (own_after_done (own_of (record w { place = Place.Poll t InPoll.Act })) (common_of left spot p vs s) w.index t) { serving = false }
-          own_so p vs suits unpolled unserved free unowed here_w =
-              let q' : Place = ended_place t it.v in
-              let v = it.lets.v in
-              let c = common_of left spot p vs s in
-              let made : Option ℕ → Bool → Next → List Letter → Own = λ polls serving next owed. record (own_of v) { polls = polls; serving = serving; next = next; owed = owed } in
-              let v_place : v.place ≡ Place.Poll t InPoll.Act = ap (λ (y : Worker). y.place) gone.worker ∙ h.sound.here in
-              let v_workers : v.workers ≡ w.workers = ap (λ (y : Worker). y.workers) gone.worker in
-              ap own_of (ap (λ (y : Worker). record y { place = q'; letters = it.v.letters }) (sym gone.worker))
-              ∙ ap (λ o. made o (serves_at q') (next_at q') (owed_at v.workers q' ++ letters_in it.v.letters)) unpolled
-              ∙ ap (λ o. made None o (next_at q') (owed_at v.workers q' ++ letters_in it.v.letters)) unserved
-              ∙ ap (λ o. made None false o (owed_at v.workers q' ++ letters_in it.v.letters)) free
-              ∙ ap (λ o. made None false Next.Free (o ++ letters_in it.v.letters)) (ap (λ n. owed_at n q') v_workers ∙ unowed)
-              ∙ ap (λ y. made None false (next_at y) (letters_in it.v.letters)) (sym v_place)
-              ∙ ap (λ (y : Own). record y { polls = None; serving = false }) (sym (own_then left spot p vs t q' it.v.letters w v s (record it.lets.now { tasks = s.tasks }) s' h.made.slot over_slot suits h.made.there items gone []))
-              ∙ ap (λ (y : Worker). record (own_after_done (record (own_of y) { owed = [] }) c w.index t) { serving = false }) (sym here_w)
-              ∙ ap (λ ls. record (own_after_done (record (own_of (record w { place = Place.Poll t InPoll.Act })) { owed = ls }) c w.index t) { serving = false }) (sym none)
 
       performs_then : (p : Plan) → Performs left runs holds p h.made.slot → Performs left runs holds p over_slot
       performs_then p fits = record { runs_it = λ b answer is hears going. absurd (false≢true (sym going)); holding = λ b answer is hears going. absurd (false≢true (sym going)) }
@@ -266,11 +245,7 @@ module _ {B L : Type 0} (left : B → L) (runs : L → Plan → Option ℕ → T
             polls = λ n never. let no : None ≡ Some n = never in absurd (cc);
             guest = tt;
             stops = tt;
-            rests = λ unpolled. record {
-              uncleared = λ never. absurd (false≢true (sym never));
-              told = λ told. absurd (false≢true (sym (over_untold h.made.slot.waiting) ∙ told));
-              untold = λ untold. refl;
-            };
+            rests = λ unpolled. (grind (arith, false, true, over_untold, h.made.slot.waiting));
           })) in
           subst (λ o. SoundAt (Place.Poll t InPoll.RemoveTask) (record w { place = Place.Poll t InPoll.RemoveTask; hand = o }) (record s { tasks = s'.tasks })) (sym h.sound.hand)
           (sound_tasked t InPoll.Act (Place.Poll t InPoll.RemoveTask) w w.root_ready None s s' h.sound (on_in_poll t InPoll.RemoveTask refl refl) tasked)
@@ -297,7 +272,7 @@ module _ {B L : Type 0} (left : B → L) (runs : L → Plan → Option ℕ → T
           let there : slice_get s.tasks.items w.root ≡ Some slot = subst (λ n. slice_get s.tasks.items n ≡ Some slot) same h.made.there in
           let items_root : s'.tasks.items ≡ slice_set s.tasks.items w.root over_slot = items ∙ ap (λ n. slice_set s.tasks.items n over_slot) same in
           let found : slice_get s'.tasks.items w.root ≡ Some over_slot = ap (λ ts. slice_get ts w.root) items_root ∙ set_there s.tasks.items w.root over_slot slot there in
-          let is_root : slot ≡ sound.runnable.root = same_thing slot sound.runnable.root (sym there ∙ sound.runnable.there) in
+          let is_root : slot ≡ sound.runnable.root = same_Some slot sound.runnable.root (sym there ∙ sound.runnable.there) in
           let stands : Stands (Some InPoll.Act) w.index slot = subst (Stands (Some InPoll.Act) w.index) here_is (here.root same).0 in
           let homes = subst (AreHome s.config.workers (length s.seats.items)) (sym items) (homes_set s.config.workers (length s.seats.items) s.tasks.items t slot over_slot h.made.there keeps_slot sound.homes) in
           let resting : AreResting s'.tasks.items = subst AreResting (sym items) (resting_set s.tasks.items t slot over_slot h.made.there (λ never unpolled. absurd (let no : None ≡ Some w.index = sym never ∙ root_home same in cc)) sound.resting) in
@@ -315,22 +290,13 @@ module _ {B L : Type 0} (left : B → L) (runs : L → Plan → Option ℕ → T
           let letters : HasLetters false false w.index s.config.workers w.letters s.requests.items s.sleepers.items = record { some = λ never. absurd (false≢true never); none = λ silent. none; requests = sound.letters.requests; timer = sound.letters.timer } in
           let tied : IsTied None w.index w.root s'.tasks.items = record {
             stands = λ o at.
-                let is : over_slot ≡ o = same_thing over_slot o (sym found ∙ at) in
-                subst (Stands None w.index) is (record {
-                  polled = refl;
-                  body = λ never. absurd (false≢true never);
-                  poller = λ never. absurd (false≢true never);
-                  kept = refl;
-                  uncleared = stands.uncleared;
-                  told = λ told. absurd (false≢true (sym (over_untold slot.waiting) ∙ told));
-                  untold = λ untold. refl;
-                  waits = tt;
-                });
+                let is : over_slot ≡ o = same_Some over_slot o (sym found ∙ at) in
+                subst (Stands None w.index) is (grind (arith, false, true, stands.uncleared, over_untold, slot.waiting));
           } in
           let phased : (chair : Chair) → slice_get s.seats.items w.index ≡ Some chair → IsPhased w.index false (Some InClosing.Close) w.home.closing w.root w.names.unreleased (stage_of chair s) s'.tasks.items = λ chair at.
-          let pool_is : chair.pool ≡ nat_lt w.index s.config.workers = ap (λ (y : Chair). y.pool) (same_thing chair sound.seated.seat (sym at ∙ sound.seated.there)) ∙ sound.seated.pool in
+          let pool_is : chair.pool ≡ nat_lt w.index s.config.workers = ap (λ (y : Chair). y.pool) (same_Some chair sound.seated.seat (sym at ∙ sound.seated.there)) ∙ sound.seated.pool in
           subst (IsPhased w.index false (Some InClosing.Close) w.home.closing w.root w.names.unreleased (stage_of chair s)) (sym items_root)
-          (phased_over w.index w.home.closing w.root w.names.unreleased (stage_of chair s) s.tasks.items slot over_slot there refl (λ some of_pool. stopped_by one same some (within_so w.index s.config.workers (sym pool_is ∙ of_pool))) (sound.phased chair at)) in
+          (phased_over w.index w.home.closing w.root w.names.unreleased (stage_of chair s) s.tasks.items slot over_slot there refl (λ some of_pool. stopped_by one same some (ltb-true w.index s.config.workers (sym pool_is ∙ of_pool))) (sound.phased chair at)) in
           let lets : false ≡ true → live_count w.home.timers ≡ 0 = λ is. absurd (false≢true is) in
           let quiet : false ≡ false → w.home.deferred.notes.wakes.items ≡ [] = λ is. sound.quiet refl in
           let batch : false ≡ true → w.batch.values ≡ [] = λ is. absurd (false≢true is) in
@@ -374,7 +340,7 @@ module _ {B L : Type 0} (left : B → L) (runs : L → Plan → Option ℕ → T
           (⊎_elim (λ y. subst IsPast (sym y.1) (removes_past t)) (λ y. subst IsPast (sym y.1) (tells_past b)) splits)
           (⊎_elim (λ y. subst IsAside (sym y.1) (removes_aside t)) (λ y. subst IsAside (sym y.1) (tells_removing t)) splits)
           (⊎_elim (λ y. subst IsQuiet (sym y.1) (record { unserved = refl; free = refl; unowed = λ n. refl })) (λ y. subst IsQuiet (sym y.1) (record { unserved = refl; free = refl; unowed = λ n. refl })) splits)
-          (λ u is. (sym (same_thing t u (⊎_elim (λ y. sym (ap removes_at y.1) ∙ is) (λ y. sym (ap removes_at y.1) ∙ is) splits)), ordinary))
+          (λ u is. (sym (same_Some t u (⊎_elim (λ y. sym (ap removes_at y.1) ∙ is) (λ y. sym (ap removes_at y.1) ∙ is) splits)), ordinary))
           letters (guest_first apart) refl (λ some. guest_pool t InPoll.Act w s h.sound apart) (λ some. owes_removing t) splits
 
       root_over : PerformsOne left runs holds s → t ≡ w.root → StepsOf left runs holds spot w s e w' s'

@@ -3,7 +3,7 @@ use Rattle.std.proofs.{Common.{◌≡◌, ◌≢◌, ℕ, zero, suc, ◌+◌, �
 use Rattle.exec_outcomes.specs.{Accounts.is_durable}
 use Rattle.exec_machine.specs.{declared.state.{Letter.Letter, Request.Request, RequestPhase.{RequestPhase, TheVariants.{Resolved}}}, Requests.{dropped, ends_by_drop, own_after_drop}, Tasks.{own_after_drops, owes as owes_letter, requests_after_drops}, Tests.{is_queued, is_resolved}, World.{Common, Own, no_request, request_of}}
 use Rattle.exec_moves.specs.{State.Desk, Told.{lets_go_request, lets_go_requests, told_of_drop}}
-use Rattle.exec_parts.{specs.{declared.parts.{held.Held.Held, record.Record.Record, shared.Shared.Shared, worker.Worker.Worker}, Awaits.{LetsGo, drops}, Ending.{LetsGoAll, LetsGoOne.{here, elsewhere}, others_of}, Records.{numbers_held}, Serving.{changed_at, changed_in}, View.{desk_of, letter_of_request, own_of, visible}}, proofs.{Facts.{by_number, not_same, same_thing, set_elsewhere, set_there}, Showing.map_set}}
+use Rattle.exec_parts.{specs.{declared.parts.{held.Held.Held, record.Record.Record, shared.Shared.Shared, worker.Worker.Worker}, Awaits.{LetsGo, drops}, Ending.{LetsGoAll, LetsGoOne.{here, elsewhere}, others_of}, Records.{numbers_held}, Serving.{changed_at, changed_in}, View.{desk_of, letter_of_request, own_of, visible}}, proofs.{Facts.{by_number, not_same, same_Some, set_elsewhere, set_there}, Showing.map_set}}
 use Rattle.exec_invariants.{specs.{Gates.{AreLinedUp}, Holding.thing_of, Sound.served_in}, proofs.{HoldRedo.count_set, HoldSteps.held_in, Keys.{name_in, names_changed}, Lined.{KeepsLines, SameAtGate, lined_kept, lines_changed, lines_on, lines_same, mapped}, ServingHolds.Keeps, TaskOverHolds.{LetsThing, things_then, thing_same}}}
 
 -- ONE REQUEST that nobody holds any more
@@ -25,7 +25,7 @@ dropped_name = grind arith
 pub dropped_at_gate : (r : Record) → SameAtGate r (drops r)
 dropped_at_gate = grind arith
 
-dropped_worker : (r : Record) → (drops r).shown.worker ≡ r.shown.worker
+pub dropped_worker : (r : Record) → (drops r).shown.worker ≡ r.shown.worker
 dropped_worker = grind arith
 
 told_letters : (k : ℕ) (it : Request) (d : Desk) (ls : List Letter) → told_of_drop k it (record d { letters = ls }) ≡ record (told_of_drop k it d) { letters = ls }
@@ -148,45 +148,36 @@ module _ {B : Type 0} where
       let q_is : slice_index_or shown k no_request ≡ it.0.shown = get_or_from_slice_get shown k it.0.shown no_request (mapped (λ (r : Record). r.shown) s.requests.items k it.0 it.1) in
       let later : (all : Common) → SeesAll all (h ∷ hs) s.requests.items → SeesAll all hs s.requests.items = λ all sees j. sees (suc j) in
       let first : (all : Common) → SeesAll all (h ∷ hs) s.requests.items → request_of all k ≡ it.0.shown = λ all sees. sees 0 h it.0 refl it.1 in
-      record {
-        keeps = ih.keeps;
-        worker = ih.worker;
-        kept = ih.kept;
-        shows = ih.shows;
-        lines = ih.lines;
-        names = ih.names;
-        shown = ih.shown
-            ∙ sym (ap (λ (q : Request). requests_after_drops i (numbers_held hs) (if q.worker == i then slice_set shown k (dropped q) else shown)) q_is
-            ∙ ap (λ b. requests_after_drops i (numbers_held hs) (if b then slice_set shown k (dropped it.0.shown) else shown)) never);
-        own = λ all sees owed.
-            let me = record (own_of w) { owed = owed } in
-            ap (λ (q : Request). own_after_drops all i (numbers_held hs) (if q.worker == i then own_after_drop me all k else owes_letter me q.worker (letter_of_request (record { number = k; worker = q.worker })))) (first all sees)
-            ∙ ap (λ b. own_after_drops all i (numbers_held hs) (if b then own_after_drop me all k else owes_letter me it.0.shown.worker (letter_of_request (record { number = k; worker = it.0.shown.worker })))) never
-            ∙ ap (λ j. own_after_drops all i (numbers_held hs) (owes_letter me j (letter_of_request (record { number = k; worker = j })))) it.2
-            ∙ ih.own all (later all sees) (owed ++ letter_of_request h ∷ [])
-            ∙ ap (λ ls. record (own_of v) { owed = ls }) (append_assoc owed (letter_of_request h ∷ []) (letters_for i hs) ∙ ap (λ ls. owed ++ ls) (sym (letters_more i h hs other)));
-        desk = λ all sees ls.
-            let d = record (desk_of w) { letters = ls } in
-            ap (λ (q : Request). lets_go_requests i all (numbers_held hs) (lets_go_request i k q d)) (first all sees)
-            ∙ ap (λ b. lets_go_requests i all (numbers_held hs) (if b then told_of_drop k it.0.shown d else record d { letters = ls ++ letter_of_request (record { number = k; worker = it.0.shown.worker }) ∷ [] })) never
-            ∙ ap (λ j. lets_go_requests i all (numbers_held hs) (record d { letters = ls ++ letter_of_request (record { number = k; worker = j }) ∷ [] })) it.2
-            ∙ ih.desk all (later all sees) (ls ++ letter_of_request h ∷ [])
-            ∙ ap (λ xs. record (desk_of v) { letters = xs }) (append_assoc ls (letter_of_request h ∷ []) (letters_for i hs) ∙ ap (λ xs. ls ++ xs) (sym (letters_more i h hs other)));
-        on = λ j r there. let n = ih.on j r there in (n.0, n.1, subst (λ m. LetsThing m (thing_of r) (thing_of n.0)) (sym (own_later i j h hs other)) n.2);
-        back = λ j r there. let n = ih.back j r there in (n.0, n.1, subst (λ m. LetsThing m (thing_of n.0) (thing_of r)) (sym (own_later i j h hs other)) n.2);
-        of = ih.of;
-        others = ih.others;
-        others_only = ih.others_only;
-      }
+      let shown_so : map (λ (r : Record). r.shown) now.requests.items ≡ requests_after_drops i (numbers_held (h ∷ hs)) (map (λ (r : Record). r.shown) s.requests.items) = grind (arith, ih.shown, q_is, never) in
+      let own : (all : Common) → SeesAll all (h ∷ hs) s.requests.items → (owed : List Letter) → own_after_drops all i (numbers_held (h ∷ hs)) (record (own_of w) { owed = owed }) ≡ record (own_of v) { owed = owed ++ letters_for i (h ∷ hs) } = λ all sees owed.
+      let me = record (own_of w) { owed = owed } in
+      ap (λ (q : Request). own_after_drops all i (numbers_held hs) (if q.worker == i then own_after_drop me all k else owes_letter me q.worker (letter_of_request (record { number = k; worker = q.worker })))) (first all sees)
+      ∙ ap (λ b. own_after_drops all i (numbers_held hs) (if b then own_after_drop me all k else owes_letter me it.0.shown.worker (letter_of_request (record { number = k; worker = it.0.shown.worker })))) never
+      ∙ ap (λ j. own_after_drops all i (numbers_held hs) (owes_letter me j (letter_of_request (record { number = k; worker = j })))) it.2
+      ∙ ih.own all (later all sees) (owed ++ letter_of_request h ∷ [])
+      ∙ ap (λ ls. record (own_of v) { owed = ls }) (append_assoc owed (letter_of_request h ∷ []) (letters_for i hs) ∙ ap (λ ls. owed ++ ls) (sym (letters_more i h hs other))) in
+      let desk : (all : Common) → SeesAll all (h ∷ hs) s.requests.items → (ls : List Letter) → lets_go_requests i all (numbers_held (h ∷ hs)) (record (desk_of w) { letters = ls }) ≡ record (desk_of v) { letters = ls ++ letters_for i (h ∷ hs) } = λ all sees ls.
+      let d = record (desk_of w) { letters = ls } in
+      ap (λ (q : Request). lets_go_requests i all (numbers_held hs) (lets_go_request i k q d)) (first all sees)
+      ∙ ap (λ b. lets_go_requests i all (numbers_held hs) (if b then told_of_drop k it.0.shown d else record d { letters = ls ++ letter_of_request (record { number = k; worker = it.0.shown.worker }) ∷ [] })) never
+      ∙ ap (λ j. lets_go_requests i all (numbers_held hs) (record d { letters = ls ++ letter_of_request (record { number = k; worker = j }) ∷ [] })) it.2
+      ∙ ih.desk all (later all sees) (ls ++ letter_of_request h ∷ [])
+      ∙ ap (λ xs. record (desk_of v) { letters = xs }) (append_assoc ls (letter_of_request h ∷ []) (letters_for i hs) ∙ ap (λ xs. ls ++ xs) (sym (letters_more i h hs other))) in
+      let on : (k : ℕ) (r : Record) → slice_get s.requests.items k ≡ Some r → (r' : Record) × (slice_get now.requests.items k ≡ Some r') × LetsThing (own_in i (h ∷ hs) k) (thing_of r) (thing_of r') =
+      λ j r there. let n = ih.on j r there in (n.0, n.1, subst (λ m. LetsThing m (thing_of r) (thing_of n.0)) (sym (own_later i j h hs other)) n.2) in
+      let back : (k : ℕ) (r' : Record) → slice_get now.requests.items k ≡ Some r' → (r : Record) × (slice_get s.requests.items k ≡ Some r) × LetsThing (own_in i (h ∷ hs) k) (thing_of r) (thing_of r') =
+      λ j r there. let n = ih.back j r there in (n.0, n.1, subst (λ m. LetsThing m (thing_of n.0) (thing_of r)) (sym (own_later i j h hs other)) n.2) in
+      assumption (shown_so, own, desk, on, back, ih)
 
   -- one of its own is let go of, and then the rest
   let_go_too : (i : ℕ) (h : Held) (hs : List Held) (w u v : Worker) (s mid now : Shared B) → w.index ≡ i → h.worker ≡ i → (lets : LetsGo h.number w u s mid) → HoldsAll (h ∷ hs) s.requests.items → SeenLet h.number lets.r w u s mid → AllLet i hs u v mid now → AllLet i (h ∷ hs) w v s now
   let_go_too i h hs w u v s mid now index mine lets holds seen ih =
+      let no_more : (n : ℕ) → 0 + n ≡ n = λ n. omega arith in
       let k = h.number in
       let r = lets.r in
       let rs = s.requests.items in
       let it = holds.there 0 h refl in
-      let its : r.shown.worker ≡ i = ap (λ (x : Record). x.shown.worker) (same_thing r it.0 (sym lets.request ∙ it.1)) ∙ it.2 ∙ mine in
+      let its : r.shown.worker ≡ i = ap (λ (x : Record). x.shown.worker) (same_Some r it.0 (sym lets.request ∙ it.1)) ∙ it.2 ∙ mine in
       let always : (r.shown.worker == i) ≡ true = eq-eqb r.shown.worker i its in
       let changed : mid.requests.items ≡ changed_at rs k drops = lets.records ∙ sym (ap (changed_in rs k drops) lets.request) in
       let shown : List Request = map (λ (x : Record). x.shown) rs in
@@ -200,66 +191,60 @@ module _ {B : Type 0} where
       let beside : (n : ℕ) → n ≢ k → own_in i (h ∷ hs) n ≡ own_in i hs n = λ n apart. own_more n ∙ ap (λ b. cond b 1 0 + own_in i hs n) (not_same k n (λ e. apart (sym e))) ∙ no_more (own_in i hs n) in
       let now_k : slice_get mid.requests.items k ≡ Some (drops r) = ap (λ ys. slice_get ys k) lets.records ∙ set_there rs k (drops r) r lets.request in
       let elsewhere_k : (n : ℕ) → n ≢ k → slice_get mid.requests.items n ≡ slice_get rs n = λ n apart. ap (λ ys. slice_get ys n) lets.records ∙ set_elsewhere rs k n (drops r) apart in
-      record {
-        keeps = ih.keeps;
-        worker = ih.worker ∙ ap (λ (x : Worker). record x { names = record x.names { ended = v.names.ended }; home = record x.home { driver = v.home.driver; deferred = v.home.deferred } }) lets.worker;
-        kept = ih.kept ∙ ap (λ (x : Shared B). record x { requests = now.requests }) lets.kept;
-        shows = ih.shows ∙ seen.shows;
-        lines = lines_on rs mid.requests.items now.requests.items (subst (KeepsLines rs) (sym changed) (lines_changed rs k r drops lets.request (dropped_at_gate r))) ih.lines;
-        names = ih.names ∙ ap (map name_in) changed ∙ names_changed rs k r drops lets.request (dropped_name r);
-        shown = ih.shown ∙ ap (requests_after_drops i (numbers_held hs)) shown_mid
-            ∙ sym (ap (λ (q : Request). requests_after_drops i (numbers_held hs) (if q.worker == i then slice_set shown k (dropped q) else shown)) q_is
-            ∙ ap (λ b. requests_after_drops i (numbers_held hs) (if b then slice_set shown k (dropped r.shown) else shown)) always);
-        own = λ all sees owed.
-            let me = record (own_of w) { owed = owed } in
-            ap (λ (q : Request). own_after_drops all i (numbers_held hs) (if q.worker == i then own_after_drop me all k else owes_letter me q.worker (letter_of_request (record { number = k; worker = q.worker })))) (first all sees)
-            ∙ ap (λ b. own_after_drops all i (numbers_held hs) (if b then own_after_drop me all k else owes_letter me r.shown.worker (letter_of_request (record { number = k; worker = r.shown.worker })))) always
-            ∙ ap (λ (x : Own). own_after_drops all i (numbers_held hs) (record x { owed = owed })) (sym (seen.own all (first all sees)))
-            ∙ ih.own all (later all sees) owed
-            ∙ ap (λ ls. record (own_of v) { owed = owed ++ ls }) (sym (letters_here i h hs mine));
-        desk = λ all sees ls.
-            let d = record (desk_of w) { letters = ls } in
-            ap (λ (q : Request). lets_go_requests i all (numbers_held hs) (lets_go_request i k q d)) (first all sees)
-            ∙ ap (λ b. lets_go_requests i all (numbers_held hs) (if b then told_of_drop k r.shown d else record d { letters = ls ++ letter_of_request (record { number = k; worker = r.shown.worker }) ∷ [] })) always
-            ∙ ap (lets_go_requests i all (numbers_held hs)) (told_letters k r.shown (desk_of w) ls ∙ ap (λ (x : Desk). record x { letters = ls }) (sym seen.desk))
-            ∙ ih.desk all (later all sees) ls
-            ∙ ap (λ xs. record (desk_of v) { letters = ls ++ xs }) (sym (letters_here i h hs mine));
-        on = λ n y there.
-            by_number n k
-            (λ apart. let z = ih.on n y (elsewhere_k n apart ∙ there) in (z.0, z.1, subst (λ m. LetsThing m (thing_of y) (thing_of z.0)) (sym (beside n apart)) z.2))
-            (λ same.
-            let is : r ≡ y = same_thing r y (sym lets.request ∙ ap (slice_get rs) (sym same) ∙ there) in
-            let z = ih.on n (drops r) (ap (slice_get mid.requests.items) same ∙ now_k) in (
-              z.0,
-              z.1,
-              subst (λ x. LetsThing (own_in i (h ∷ hs) n) (thing_of x) (thing_of z.0)) is
-                  (subst (λ m. LetsThing m (thing_of r) (thing_of z.0)) (ap (λ m. 1 + own_in i hs m) same ∙ sym here ∙ ap (own_in i (h ∷ hs)) (sym same)) (things_then 1 (own_in i hs n) (thing_of r) (thing_of (drops r)) (thing_of z.0) (dropped_thing r) z.2)),
-            ));
-        back = λ n y there.
-            let z = ih.back n y there in
-            by_number n k
-            (λ apart. (z.0, sym (elsewhere_k n apart) ∙ z.1, subst (λ m. LetsThing m (thing_of z.0) (thing_of y)) (sym (beside n apart)) z.2))
-            (λ same.
-            let is : drops r ≡ z.0 = same_thing (drops r) z.0 (sym now_k ∙ ap (slice_get mid.requests.items) (sym same) ∙ z.1) in (
-              r,
-              ap (slice_get rs) same ∙ lets.request,
-              subst (λ m. LetsThing m (thing_of r) (thing_of y)) (ap (λ m. 1 + own_in i hs m) same ∙ sym here ∙ ap (own_in i (h ∷ hs)) (sym same))
-                  (things_then 1 (own_in i hs n) (thing_of r) (thing_of (drops r)) (thing_of y) (dropped_thing r) (subst (λ x. LetsThing (own_in i hs n) (thing_of x) (thing_of y)) (sym is) z.2)),
-            ));
-        of = λ j.
-            ih.of j ∙ ap (λ ys. count_by (λ t. t.worker == j) (map thing_of ys)) lets.records ∙ ap (count_by (λ t. t.worker == j)) (map_set thing_of rs k (drops r))
-            ∙ count_set (λ t. t.worker == j) (map thing_of rs) k (thing_of r) (thing_of (drops r)) (mapped thing_of rs k r lets.request) (ap (λ n. n == j) (dropped_worker r));
-        others = λ n y there theirs.
-            let apart : n ≢ k = λ same. theirs (ap (λ (x : Record). x.shown.worker) (same_thing y r (sym there ∙ ap (slice_get rs) same ∙ lets.request)) ∙ its) in
-            ih.others n y (elsewhere_k n apart ∙ there) theirs;
-        others_only = λ n y there theirs.
-            let before = ih.others_only n y there theirs in
-            let apart : n ≢ k = λ same. theirs (ap (λ (x : Record). x.shown.worker) (same_thing y (drops r) (sym before ∙ ap (slice_get mid.requests.items) same ∙ now_k)) ∙ dropped_worker r ∙ its) in
-            sym (elsewhere_k n apart) ∙ before;
-      }
-    where
-      no_more : (n : ℕ) → 0 + n ≡ n
-      no_more n = omega arith
+      let worker_so = ih.worker ∙ ap (λ (x : Worker). record x { names = record x.names { ended = v.names.ended }; home = record x.home { driver = v.home.driver; deferred = v.home.deferred } }) lets.worker in
+      let kept = ih.kept ∙ ap (λ (x : Shared B). record x { requests = now.requests }) lets.kept in
+      let lines = lines_on rs mid.requests.items now.requests.items (subst (KeepsLines rs) (sym changed) (lines_changed rs k r drops lets.request (dropped_at_gate r))) ih.lines in
+      let names_so = ih.names ∙ ap (map name_in) changed ∙ names_changed rs k r drops lets.request (dropped_name r) in
+      let shown_so : map (λ (r : Record). r.shown) now.requests.items ≡ requests_after_drops i (numbers_held (h ∷ hs)) (map (λ (r : Record). r.shown) s.requests.items) = ih.shown ∙ ap (requests_after_drops i (numbers_held hs)) shown_mid
+      ∙ sym (ap (λ (q : Request). requests_after_drops i (numbers_held hs) (if q.worker == i then slice_set shown k (dropped q) else shown)) q_is
+      ∙ ap (λ b. requests_after_drops i (numbers_held hs) (if b then slice_set shown k (dropped r.shown) else shown)) always) in
+      let own : (all : Common) → SeesAll all (h ∷ hs) s.requests.items → (owed : List Letter) → own_after_drops all i (numbers_held (h ∷ hs)) (record (own_of w) { owed = owed }) ≡ record (own_of v) { owed = owed ++ letters_for i (h ∷ hs) } = λ all sees owed.
+      let me = record (own_of w) { owed = owed } in
+      ap (λ (q : Request). own_after_drops all i (numbers_held hs) (if q.worker == i then own_after_drop me all k else owes_letter me q.worker (letter_of_request (record { number = k; worker = q.worker })))) (first all sees)
+      ∙ ap (λ b. own_after_drops all i (numbers_held hs) (if b then own_after_drop me all k else owes_letter me r.shown.worker (letter_of_request (record { number = k; worker = r.shown.worker })))) always
+      ∙ ap (λ (x : Own). own_after_drops all i (numbers_held hs) (record x { owed = owed })) (sym (seen.own all (first all sees)))
+      ∙ ih.own all (later all sees) owed
+      ∙ ap (λ ls. record (own_of v) { owed = owed ++ ls }) (sym (letters_here i h hs mine)) in
+      let desk : (all : Common) → SeesAll all (h ∷ hs) s.requests.items → (ls : List Letter) → lets_go_requests i all (numbers_held (h ∷ hs)) (record (desk_of w) { letters = ls }) ≡ record (desk_of v) { letters = ls ++ letters_for i (h ∷ hs) } = λ all sees ls.
+      let d = record (desk_of w) { letters = ls } in
+      ap (λ (q : Request). lets_go_requests i all (numbers_held hs) (lets_go_request i k q d)) (first all sees)
+      ∙ ap (λ b. lets_go_requests i all (numbers_held hs) (if b then told_of_drop k r.shown d else record d { letters = ls ++ letter_of_request (record { number = k; worker = r.shown.worker }) ∷ [] })) always
+      ∙ ap (lets_go_requests i all (numbers_held hs)) (told_letters k r.shown (desk_of w) ls ∙ ap (λ (x : Desk). record x { letters = ls }) (sym seen.desk))
+      ∙ ih.desk all (later all sees) ls
+      ∙ ap (λ xs. record (desk_of v) { letters = ls ++ xs }) (sym (letters_here i h hs mine)) in
+      let on : (k : ℕ) (r : Record) → slice_get s.requests.items k ≡ Some r → (r' : Record) × (slice_get now.requests.items k ≡ Some r') × LetsThing (own_in i (h ∷ hs) k) (thing_of r) (thing_of r') = λ n y there.
+      by_number n k
+      (λ apart. let z = ih.on n y (elsewhere_k n apart ∙ there) in (z.0, z.1, subst (λ m. LetsThing m (thing_of y) (thing_of z.0)) (sym (beside n apart)) z.2))
+      (λ same.
+      let is : r ≡ y = same_Some r y (sym lets.request ∙ ap (slice_get rs) (sym same) ∙ there) in
+      let z = ih.on n (drops r) (ap (slice_get mid.requests.items) same ∙ now_k) in (
+        z.0,
+        z.1,
+        subst (λ x. LetsThing (own_in i (h ∷ hs) n) (thing_of x) (thing_of z.0)) is
+            (subst (λ m. LetsThing m (thing_of r) (thing_of z.0)) (ap (λ m. 1 + own_in i hs m) same ∙ sym here ∙ ap (own_in i (h ∷ hs)) (sym same)) (things_then 1 (own_in i hs n) (thing_of r) (thing_of (drops r)) (thing_of z.0) (dropped_thing r) z.2)),
+      )) in
+      let back : (k : ℕ) (r' : Record) → slice_get now.requests.items k ≡ Some r' → (r : Record) × (slice_get s.requests.items k ≡ Some r) × LetsThing (own_in i (h ∷ hs) k) (thing_of r) (thing_of r') = λ n y there.
+      let z = ih.back n y there in
+      by_number n k
+      (λ apart. (z.0, sym (elsewhere_k n apart) ∙ z.1, subst (λ m. LetsThing m (thing_of z.0) (thing_of y)) (sym (beside n apart)) z.2))
+      (λ same.
+      let is : drops r ≡ z.0 = same_Some (drops r) z.0 (sym now_k ∙ ap (slice_get mid.requests.items) (sym same) ∙ z.1) in (
+        r,
+        ap (slice_get rs) same ∙ lets.request,
+        subst (λ m. LetsThing m (thing_of r) (thing_of y)) (ap (λ m. 1 + own_in i hs m) same ∙ sym here ∙ ap (own_in i (h ∷ hs)) (sym same))
+            (things_then 1 (own_in i hs n) (thing_of r) (thing_of (drops r)) (thing_of y) (dropped_thing r) (subst (λ x. LetsThing (own_in i hs n) (thing_of x) (thing_of y)) (sym is) z.2)),
+      )) in
+      let of : (j : ℕ) → count_by (λ t. t.worker == j) (map thing_of now.requests.items) ≡ count_by (λ t. t.worker == j) (map thing_of s.requests.items) = λ j.
+      ih.of j ∙ ap (λ ys. count_by (λ t. t.worker == j) (map thing_of ys)) lets.records ∙ ap (count_by (λ t. t.worker == j)) (map_set thing_of rs k (drops r))
+      ∙ count_set (λ t. t.worker == j) (map thing_of rs) k (thing_of r) (thing_of (drops r)) (mapped thing_of rs k r lets.request) (ap (λ n. n == j) (dropped_worker r)) in
+      let others : (k : ℕ) (r : Record) → slice_get s.requests.items k ≡ Some r → r.shown.worker ≢ i → slice_get now.requests.items k ≡ Some r = λ n y there theirs.
+      let apart : n ≢ k = λ same. theirs (ap (λ (x : Record). x.shown.worker) (same_Some y r (sym there ∙ ap (slice_get rs) same ∙ lets.request)) ∙ its) in
+      ih.others n y (elsewhere_k n apart ∙ there) theirs in
+      let others_only : (k : ℕ) (r : Record) → slice_get now.requests.items k ≡ Some r → r.shown.worker ≢ i → slice_get s.requests.items k ≡ Some r = λ n y there theirs.
+      let before = ih.others_only n y there theirs in
+      let apart : n ≢ k = λ same. theirs (ap (λ (x : Record). x.shown.worker) (same_Some y (drops r) (sym before ∙ ap (slice_get mid.requests.items) same ∙ now_k)) ∙ dropped_worker r ∙ its) in
+      sym (elsewhere_k n apart) ∙ before in
+      assumption (worker_so, kept, ih.shows ∙ seen.shows, lines, names_so, shown_so, own, desk, on, back, of, others, others_only, ih)
 
   -- the rest is there still
   pub holds_later : (h : Held) (hs : List Held) (w u : Worker) (s mid : Shared B) → (lets : LetsGo h.number w u s mid) → HoldsAll (h ∷ hs) s.requests.items → HoldsAll hs mid.requests.items
@@ -285,7 +270,7 @@ module _ {B : Type 0} where
         | here mine lets ↦
             let mine_i : h.worker ≡ i = mine ∙ index in
             let it = holds.there 0 h refl in
-            let same : lets.r ≡ it.0 = same_thing lets.r it.0 (sym lets.request ∙ it.1) in
+            let same : lets.r ≡ it.0 = same_Some lets.r it.0 (sym lets.request ∙ it.1) in
             let of_w : lets.r.shown.worker ≡ w.index = ap (λ (x : Record). x.shown.worker) same ∙ it.2 ∙ mine in
             let observed : lets.r.shown.observed ≡ true = ap (λ (x : Record). x.shown.observed) same ∙ it.3 in
             let step = seen h.number w u s mid idle gates keeps lets of_w observed in

@@ -4,8 +4,8 @@ use Rattle.std.proofs.{Common.{◌≡◌, ◌≢◌, inr, ℕ, ◌==◌, ◌||�
 use Rattle.std.proofs.Common.{arith}
 use Rattle.exec_machine.specs.{declared.state.{Letter.Letter, MailMessage.TheVariants.CancelTimer, Sleeper.Sleeper, Waiting.Waiting}, Tasks.{own_after_drops, own_after_waking_up, owes as owes_letter, removed as removed_sleeper, requests_after_drops, sleepers_after_waking_up}, World.{Common, Own, no_sleeper, sleeper_of}}
 use Rattle.exec_moves.specs.{State.Desk, Told.{lets_go_requests, lets_go_sleep, lets_go_timer, told_of_cancel}}
-use Rattle.exec_parts.{specs.{declared.parts.{held.Held.Held, letters.Letters.Letters, record.Record.Record, shared.Shared.Shared, sleeping.SleeperRecord.SleeperRecord, worker.Worker.Worker}, Calls.sleeper_removed, Ending.{LetsGoAll, LetsWaiting, others_of}, MailTakes.RemovesSleeper, Records.numbers_held, View.{desk_of, letter_of_request, letter_of_timer, letters_in, own_of, visible}}, proofs.{Facts.{by_number, not_same, same_thing, set_elsewhere, set_there}, Showing.{map_kept, map_set}}}
-use Rattle.exec_invariants.{specs.{Gates.AreLinedUp, Holding.{awaited_in, nap_of, thing_of}, Sound.served_in, Spares.SleeperEndures}, proofs.{HoldRedo.count_set, Keys.name_in, Lined.{KeepsLines, mapped, opens_same}, ServingHolds.Keeps, Serving.SparesRecords, Spared.sleepers_endure, TaskOverFold.{AllLet, HoldsAll, LetsSeen, SeesAll, let_all, letters_for, own_in}, TaskOverHolds.{LetsNap, LetsThing, nap_same}}}
+use Rattle.exec_parts.{specs.{declared.parts.{held.Held.Held, letters.Letters.Letters, record.Record.Record, shared.Shared.Shared, sleeping.SleeperRecord.SleeperRecord, worker.Worker.Worker}, Calls.sleeper_removed, Ending.{LetsGoAll, LetsWaiting, others_of}, MailTakes.RemovesSleeper, Records.numbers_held, View.{desk_of, letter_of_request, letter_of_timer, letters_in, own_of, visible}}, proofs.{Facts.{by_number, not_same, same_Some, set_elsewhere, set_there}, Showing.{map_kept, map_set}}}
+use Rattle.exec_invariants.{specs.{Gates.AreLinedUp, Holding.{awaited_in, nap_of, thing_of}, Sound.served_in, Spares.SleeperEndures}, proofs.{HoldRedo.{count_set, set_on, set_back}, Keys.name_in, Lined.{KeepsLines, mapped, opens_same, now}, ServingHolds.Keeps, Serving.SparesRecords, Spared.sleepers_endure, TaskOverFold.{AllLet, HoldsAll, LetsSeen, SeesAll, let_all, letters_for, own_in}, TaskOverHolds.{LetsNap, LetsThing, nap_same}}}
 use Rattle.exec_parts.specs.declared.parts.mail.Subject.TheVariants as subject
 
 -- the letters are those of requests, and of a sleeper where there is one
@@ -40,16 +40,10 @@ module _ {B : Type 0} where
   spares_let : (i : ℕ) (hs : List Held) (w v : Worker) (s now : Shared B) → AreLinedUp s.opens s.requests.items → AllLet i hs w v s now → SparesRecords i s now
   spares_let i hs w v s now lined a =
       let sleepers : now.sleepers.items ≡ s.sleepers.items = ap (λ (x : Shared B). x.sleepers.items) a.kept in
-      record {
-        records = a.others;
-        records_only = a.others_only;
-        sleepers = λ k z there other. ap (λ zs. slice_get zs k) sleepers ∙ there;
-        sleepers_only = λ k z there other. ap (λ zs. slice_get zs k) (sym sleepers) ∙ there;
-        lines = a.lines;
-        naps = sleepers_endure s.sleepers.items now.sleepers.items sleepers;
-        opens = opens_same s.opens now.opens s.requests.items lined (ap (λ (x : Shared B). x.opens) a.kept);
-        sent = ap (map (λ (z : SleeperRecord). z.sent)) sleepers;
-      }
+      let sleepers_so : (k : ℕ) (z : SleeperRecord) → slice_get s.sleepers.items k ≡ Some z → z.shown.worker ≢ i → slice_get now.sleepers.items k ≡ Some z = λ k z there other. ap (λ zs. slice_get zs k) sleepers ∙ there in
+      let sleepers_only : (k : ℕ) (z : SleeperRecord) → slice_get now.sleepers.items k ≡ Some z → z.shown.worker ≢ i → slice_get s.sleepers.items k ≡ Some z = λ k z there other. ap (λ zs. slice_get zs k) (sym sleepers) ∙ there in
+      let opens = opens_same s.opens now.opens s.requests.items lined (ap (λ (x : Shared B). x.opens) a.kept) in
+      assumption (a.others, a.others_only, sleepers_so, sleepers_only, sleepers_endure s.sleepers.items now.sleepers.items sleepers, opens, ap (map (λ (z : SleeperRecord). z.sent)) sleepers, a)
 
   gone_requests : (i : ℕ) (hs : List Held) (u : Waiting) (l : Letters) (w v : Worker) (s now : Shared B) (more : List Letter) → AreLinedUp s.opens s.requests.items → AllLet i hs w v s now → l.requests.items ≡ others_of i hs
       → ((h : Held) → l.timer ≡ Some h → (u ≡ Waiting.Timer h.number) × (h.worker ≢ i) × ((z : SleeperRecord) → slice_get s.sleepers.items h.number ≡ Some z → z.shown.worker ≡ h.worker)) → letters_in l ≡ letters_for i hs ++ more
@@ -60,26 +54,21 @@ module _ {B : Type 0} where
   gone_requests i hs u l w v s now more lined a requests timer letters sleeps owns desks =
       let same : now.sleepers.items ≡ s.sleepers.items = ap (λ (x : Shared B). x.sleepers.items) a.kept in
       let joined : (xs : List Letter) → (xs ++ letters_for i hs) ++ more ≡ xs ++ letters_in l = λ xs. append_assoc xs (letters_for i hs) more ∙ ap (λ ys. xs ++ ys) (sym letters) in
-      record {
-        keeps = a.keeps;
-        worker = a.worker ∙ ap (λ (zs : _). record w { names = record w.names { ended = v.names.ended }; home = record w.home { driver = v.home.driver; timers = zs; deferred = v.home.deferred } }) (sym (ap (λ (x : Worker). x.home.timers) a.worker));
-        kept = a.kept ∙ ap (λ (zs : _). record s { requests = now.requests; sleepers = zs }) (sym (ap (λ (x : Shared B). x.sleepers) a.kept));
-        shows = a.shows;
-        names = a.names;
-        shown = a.shown;
-        slept = λ all is. ap (map (λ (z : SleeperRecord). z.shown)) same ∙ sym is ∙ sym (sleeps all is);
-        own = λ all sees is owed. ap (own_after_waking_up all i u) (a.own all sees owed) ∙ owns all is (record (own_of v) { owed = owed ++ letters_for i hs }) ∙ ap (λ xs. record (own_of v) { owed = xs }) (joined owed);
-        desk = λ all sees is ls. ap (lets_go_sleep i all u) (a.desk all sees ls) ∙ desks all is (record (desk_of v) { letters = ls ++ letters_for i hs }) ∙ ap (λ xs. record (desk_of v) { letters = xs }) (joined ls);
-        on = a.on;
-        back = a.back;
-        of = a.of;
-        naps_on = λ n z there. (z, ap (λ zs. slice_get zs n) same ∙ there, nap_same (awaited_in u ≡ Some (subject.Timer n)) (nap_of z));
-        naps_back = λ n z there. (z, ap (λ zs. slice_get zs n) (sym same) ∙ there, nap_same (awaited_in u ≡ Some (subject.Timer n)) (nap_of z));
-        naps_of = λ j. ap (λ zs. count_by (λ z. z.worker == j) (map nap_of zs)) same;
-        spares = spares_let i hs w v s now lined a;
-        requests = requests;
-        timer = timer;
-      }
+      let worker =
+      a.worker ∙ ap (λ (zs : _). record w { names = record w.names { ended = v.names.ended }; home = record w.home { driver = v.home.driver; timers = zs; deferred = v.home.deferred } }) (sym (ap (λ (x : Worker). x.home.timers) a.worker)) in
+      let kept = a.kept ∙ ap (λ (zs : _). record s { requests = now.requests; sleepers = zs }) (sym (ap (λ (x : Shared B). x.sleepers) a.kept)) in
+      let slept : (all : Common) → all.sleepers ≡ map (λ (z : SleeperRecord). z.shown) s.sleepers.items → map (λ (z : SleeperRecord). z.shown) now.sleepers.items ≡ sleepers_after_waking_up all i u =
+      λ all is. ap (map (λ (z : SleeperRecord). z.shown)) same ∙ sym is ∙ sym (sleeps all is) in
+      let own : (all : Common) → SeesAll all hs s.requests.items → all.sleepers ≡ map (λ (z : SleeperRecord). z.shown) s.sleepers.items → (owed : List Letter) → own_after_waking_up all i u (own_after_drops all i (numbers_held hs) (record (own_of w) { owed = owed })) ≡ record (own_of v) { owed = owed ++ letters_in l } =
+      λ all sees is owed. ap (own_after_waking_up all i u) (a.own all sees owed) ∙ owns all is (record (own_of v) { owed = owed ++ letters_for i hs }) ∙ ap (λ xs. record (own_of v) { owed = xs }) (joined owed) in
+      let desk : (all : Common) → SeesAll all hs s.requests.items → all.sleepers ≡ map (λ (z : SleeperRecord). z.shown) s.sleepers.items → (ls : List Letter) → lets_go_sleep i all u (lets_go_requests i all (numbers_held hs) (record (desk_of w) { letters = ls })) ≡ record (desk_of v) { letters = ls ++ letters_in l } =
+      λ all sees is ls. ap (lets_go_sleep i all u) (a.desk all sees ls) ∙ desks all is (record (desk_of v) { letters = ls ++ letters_for i hs }) ∙ ap (λ xs. record (desk_of v) { letters = xs }) (joined ls) in
+      let naps_on : (n : ℕ) (z : SleeperRecord) → slice_get s.sleepers.items n ≡ Some z → (z' : SleeperRecord) × (slice_get now.sleepers.items n ≡ Some z') × LetsNap (awaited_in u ≡ Some (subject.Timer n)) (nap_of z) (nap_of z') =
+      λ n z there. (z, ap (λ zs. slice_get zs n) same ∙ there, nap_same (awaited_in u ≡ Some (subject.Timer n)) (nap_of z)) in
+      let naps_back : (n : ℕ) (z' : SleeperRecord) → slice_get now.sleepers.items n ≡ Some z' → (z : SleeperRecord) × (slice_get s.sleepers.items n ≡ Some z) × LetsNap (awaited_in u ≡ Some (subject.Timer n)) (nap_of z) (nap_of z') =
+      λ n z there. (z, ap (λ zs. slice_get zs n) (sym same) ∙ there, nap_same (awaited_in u ≡ Some (subject.Timer n)) (nap_of z)) in
+      let naps_of : (j : ℕ) → count_by (λ z. z.worker == j) (map nap_of now.sleepers.items) ≡ count_by (λ z. z.worker == j) (map nap_of s.sleepers.items) = λ j. ap (λ zs. count_by (λ z. z.worker == j) (map nap_of zs)) same in
+      assumption (worker, kept, slept, own, desk, naps_on, naps_back, naps_of, spares_let i hs w v s now lined a, requests, timer, a)
 
   -- no sleeper
   pub gone_awake : (i : ℕ) (hs : List Held) (u : Waiting) (l : Letters) (w v : Worker) (s now : Shared B) → AreLinedUp s.opens s.requests.items → AllLet i hs w v s now → l.requests.items ≡ others_of i hs → l.timer ≡ None
@@ -99,10 +88,10 @@ module _ {B : Type 0} where
       ap (λ zs. slice_index_or zs z no_sleeper) is ∙ get_or_from_slice_get (map (λ (y : SleeperRecord). y.shown) s.sleepers.items) z it.shown no_sleeper (mapped (λ (y : SleeperRecord). y.shown) s.sleepers.items z it there) in
       gone_requests i hs (Waiting.Timer z) l w v s now more lined a requests
       (λ h is.
-      let h_is : record { number = z; worker = j } ≡ h = same_thing (record { number = z; worker = j }) h (sym timer ∙ is) in
+      let h_is : record { number = z; worker = j } ≡ h = same_Some (record { number = z; worker = j }) h (sym timer ∙ is) in
       let number : z ≡ h.number = ap (λ (x : Held). x.number) h_is in
       let worker : j ≡ h.worker = ap (λ (x : Held). x.worker) h_is in
-      (ap (λ n. Waiting.Timer n) number, λ mine. other (worker ∙ mine), λ y at. ap (λ (x : SleeperRecord). x.shown.worker) (same_thing y it (sym at ∙ ap (slice_get s.sleepers.items) (sym number) ∙ there)) ∙ worker))
+      (ap (λ n. Waiting.Timer n) number, λ mine. other (worker ∙ mine), λ y at. ap (λ (x : SleeperRecord). x.shown.worker) (same_Some y it (sym at ∙ ap (slice_get s.sleepers.items) (sym number) ∙ there)) ∙ worker))
       (letters_are i hs l (Some (record { number = z; worker = j })) requests timer)
       (λ all is. ap (λ (y : Sleeper). if y.worker == i then slice_set all.sleepers z (removed_sleeper y) else all.sleepers) (seen all is) ∙ ap (λ b. if b then slice_set all.sleepers z (removed_sleeper it.shown) else all.sleepers) never)
       (λ all is me. ap (λ (y : Sleeper). if y.worker == i then me else owes_letter me y.worker (record { to = y.worker; message = CancelTimer z })) (seen all is) ∙ ap (λ b. if b then me else owes_letter me j (record { to = j; message = CancelTimer z })) never)
@@ -141,7 +130,6 @@ module _ {B : Type 0} where
       let sleepers : after.sleepers.items ≡ slice_set ss z it' = r.sleepers ∙ ap (λ zs. slice_set zs z it') same in
       let records : after.requests ≡ now.requests = ap (λ (x : Shared B). x.requests) r.kept in
       let items : after.requests.items ≡ now.requests.items = ap (λ x. x.items) records in
-      let before = spares_let i hs w v s now lined a in
       let now_there : slice_get after.sleepers.items z ≡ Some it' = ap (λ zs. slice_get zs z) sleepers ∙ set_there ss z it' it there in
       let beside : (n : ℕ) → n ≢ z → slice_get after.sleepers.items n ≡ slice_get ss n = λ n apart. ap (λ zs. slice_get zs n) sleepers ∙ set_elsewhere ss z n it' apart in
       let looks : (all : Common) → all.sleepers ≡ map (λ (y : SleeperRecord). y.shown) ss → sleeper_of all z ≡ it.shown = λ all is.
@@ -150,10 +138,7 @@ module _ {B : Type 0} where
       let of_own : own_of u ≡ own_of v = ap own_of r.worker in
       record {
         keeps = seen.keeps;
-        worker = r.worker ∙ ap (λ (x : Worker). record x { home = record x.home { timers = u.home.timers; deferred = record x.home.deferred { notes = u.home.deferred.notes } } }) a.worker
-            ∙ ap (λ (e : _). record w { names = record w.names { ended = e }; home = record w.home { driver = v.home.driver; timers = u.home.timers; deferred = record v.home.deferred { notes = u.home.deferred.notes } } }) (sym (ap (λ (x : Worker). x.names.ended) r.worker))
-            ∙ ap (λ (e : _). record w { names = record w.names { ended = u.names.ended }; home = record w.home { driver = e; timers = u.home.timers; deferred = record v.home.deferred { notes = u.home.deferred.notes } } }) (sym (ap (λ (x : Worker). x.home.driver) r.worker))
-            ∙ ap (λ (e : _). record w { names = record w.names { ended = u.names.ended }; home = record w.home { driver = u.home.driver; timers = u.home.timers; deferred = e } }) (sym (ap (λ (x : Worker). x.home.deferred) r.worker));
+        worker = grind (arith, r.worker, a.worker);
         kept = r.kept ∙ ap (λ (x : Shared B). record x { sleepers = after.sleepers }) a.kept ∙ ap (λ (e : _). record s { requests = e; sleepers = after.sleepers }) (sym records);
         shows = ap visible r.worker ∙ a.shows;
         names = ap (map name_in) items ∙ a.names;
@@ -174,33 +159,22 @@ module _ {B : Type 0} where
         on = λ k x at. let y = a.on k x at in (y.0, ap (λ rs. slice_get rs k) items ∙ y.1, y.2);
         back = λ k x at. a.back k x (ap (λ rs. slice_get rs k) (sym items) ∙ at);
         of = λ j. ap (λ rs. count_by (λ t. t.worker == j) (map thing_of rs)) items ∙ a.of j;
-        naps_on = λ n x at.
-            by_number n z
-            (λ apart. (x, beside n apart ∙ at, nap_same (awaited_in (Waiting.Timer z) ≡ Some (subject.Timer n)) (nap_of x)))
-            (λ is.
-            let x_is : it ≡ x = same_thing it x (sym there ∙ ap (slice_get ss) (sym is) ∙ at) in
-            (it', ap (slice_get after.sleepers.items) is ∙ now_there, subst (λ y. LetsNap (awaited_in (Waiting.Timer z) ≡ Some (subject.Timer n)) (nap_of y) (nap_of it')) x_is (nap_removed (awaited_in (Waiting.Timer z) ≡ Some (subject.Timer n)) it (ap (λ m. Some (subject.Timer m)) (sym is)))));
-        naps_back = λ n x at.
-            by_number n z
-            (λ apart. (x, sym (beside n apart) ∙ at, nap_same (awaited_in (Waiting.Timer z) ≡ Some (subject.Timer n)) (nap_of x)))
-            (λ is.
-            let x_is : it' ≡ x = same_thing it' x (sym now_there ∙ ap (slice_get after.sleepers.items) (sym is) ∙ at) in
-            (it, ap (slice_get ss) is ∙ there, subst (λ y. LetsNap (awaited_in (Waiting.Timer z) ≡ Some (subject.Timer n)) (nap_of it) (nap_of y)) x_is (nap_removed (awaited_in (Waiting.Timer z) ≡ Some (subject.Timer n)) it (ap (λ m. Some (subject.Timer m)) (sym is)))));
+        naps_on = set_on (λ n x y. LetsNap (awaited_in (Waiting.Timer z) ≡ Some (subject.Timer n)) (nap_of x) (nap_of y)) ss after.sleepers.items z it it' there sleepers (nap_removed (awaited_in (Waiting.Timer z) ≡ Some (subject.Timer z)) it refl)
+            (λ n x. nap_same (awaited_in (Waiting.Timer z) ≡ Some (subject.Timer n)) (nap_of x));
+        naps_back = set_back (λ n x y. LetsNap (awaited_in (Waiting.Timer z) ≡ Some (subject.Timer n)) (nap_of x) (nap_of y)) ss after.sleepers.items z it it' there sleepers (nap_removed (awaited_in (Waiting.Timer z) ≡ Some (subject.Timer z)) it refl)
+            (λ n x. nap_same (awaited_in (Waiting.Timer z) ≡ Some (subject.Timer n)) (nap_of x));
         naps_of = λ j. ap (λ zs. count_by (λ y. y.worker == j) (map nap_of zs)) sleepers ∙ ap (count_by (λ y. y.worker == j)) (map_set nap_of ss z it') ∙ count_set (λ y. y.worker == j) (map nap_of ss) z (nap_of it) (nap_of it') (mapped nap_of ss z it there) refl;
         spares = record {
           records = λ k x at other. ap (λ rs. slice_get rs k) items ∙ a.others k x at other;
           records_only = λ k x at other. a.others_only k x (ap (λ rs. slice_get rs k) (sym items) ∙ at) other;
           sleepers = λ k x at other.
-              let apart : k ≢ z = λ is. other (ap (λ (y : SleeperRecord). y.shown.worker) (same_thing x it (sym at ∙ ap (slice_get ss) is ∙ there)) ∙ mine) in
+              let apart : k ≢ z = λ is. other (ap (λ (y : SleeperRecord). y.shown.worker) (same_Some x it (sym at ∙ ap (slice_get ss) is ∙ there)) ∙ mine) in
               beside k apart ∙ at;
           sleepers_only = λ k x at other.
-              let apart : k ≢ z = λ is. other (ap (λ (y : SleeperRecord). y.shown.worker) (same_thing x it' (sym at ∙ ap (slice_get after.sleepers.items) is ∙ now_there)) ∙ mine) in
+              let apart : k ≢ z = λ is. other (ap (λ (y : SleeperRecord). y.shown.worker) (same_Some x it' (sym at ∙ ap (slice_get after.sleepers.items) is ∙ now_there)) ∙ mine) in
               sym (beside k apart) ∙ at;
           lines = subst (KeepsLines s.requests.items) (sym items) a.lines;
-          naps = λ k x at.
-              by_number k z
-              (λ apart. (x, beside k apart ∙ at, record { worker = refl; forwarded = λ h. h }))
-              (λ is. (it', ap (slice_get after.sleepers.items) is ∙ now_there, subst (λ y. SleeperEndures y it') (same_thing it x (sym there ∙ ap (slice_get ss) (sym is) ∙ at)) (record { worker = refl; forwarded = λ h. h })));
+          naps = set_on (λ n. SleeperEndures) ss after.sleepers.items z it it' there sleepers (record { worker = refl; forwarded = λ h. h }) (λ n x. record { worker = refl; forwarded = λ h. h });
           opens = opens_same s.opens after.opens s.requests.items lined (ap (λ (x : Shared B). x.opens) r.kept ∙ ap (λ (x : Shared B). x.opens) a.kept);
           sent = ap (map (λ (y : SleeperRecord). y.sent)) sleepers ∙ map_kept (λ (y : SleeperRecord). y.sent) ss z it' it there refl;
         };
@@ -237,6 +211,6 @@ module _ {B : Type 0} where
           still (Waiting.Timer z) it.0 it.1 (gone_asleep i z hs l sleeps.it w v s now lined a requests there other it.2))
           (λ mine.
           let it = sleeps.here (mine ∙ sym index_then) in
-          let same : it.0.it ≡ sleeps.it = same_thing it.0.it sleeps.it (sym it.0.sleeper ∙ sleeps.sleeper) in
+          let same : it.0.it ≡ sleeps.it = same_Some it.0.it sleeps.it (sym it.0.sleeper ∙ sleeps.sleeper) in
           let of_i : it.0.it.shown.worker ≡ i = ap (λ (y : SleeperRecord). y.shown.worker) same ∙ mine in
           gone_removed i z hs l w v x s now after lined a requests it.1 it.0 of_i (removes z v x now after (ap (λ (y : Worker). served_in y.place) a.worker ∙ idle) a.keeps it.0 (of_i ∙ sym index_then)))

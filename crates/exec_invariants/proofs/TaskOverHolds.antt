@@ -5,7 +5,7 @@ use Rattle.exec_base.specs.declared.{error.Error.Error, one_shot.OneShotState.{O
 use Rattle.exec_request.specs.declared.output.RequestOutput.{RequestOutput}
 use Rattle.exec_machine.specs.Tests.{is_unsent}
 use Rattle.exec_words.specs.declared.inbox.Message.{Message}
-use Rattle.exec_parts.{specs.declared.parts.{held.Held.Held, mail.Subject.Subject}, proofs.Facts.{by_number, same_thing, set_elsewhere, set_there}}
+use Rattle.exec_parts.{specs.declared.parts.{held.Held.Held, mail.Subject.Subject}, proofs.Facts.{by_number, same_Some, set_elsewhere, set_there}}
 use Rattle.exec_invariants.{specs.{Places.one_if, Holding.{Awaits, Box, Hands, HasAnswer, Holder, IsAbout, IsDue, IsForwarded, IsHeldBy, IsHolding, IsOf, IsOrdinary, IsOwed, Mail, MayHave, Nap, Owes, Thing, holdings, is_awaited_by, mail_in, under_way, waiters}}, proofs.{HoldRedo.sum_set, HoldSteps.{awaits_on, held_in, homes_on}}}
 use Rattle.exec_parts.specs.declared.parts.mail.Subject.TheVariants as subject
 
@@ -65,6 +65,28 @@ module _ (h h' : Hands) (workers : ℕ) (hs : List Holder) (ts ts' : List Thing)
 
   pub task_over : IsOver → IsHolding h workers hs ts naps boxes → IsHolding h' workers (slice_set hs t it') ts' naps' boxes
   task_over by old =
+      let ends_in : (o : Holder) → it' ≡ o → o ≡ record it { held = []; over = true } = λ o e. sym e ∙ by.ends in
+      let none_held : (o : Holder) (j : ℕ) (x : Held) → it' ≡ o → slice_get o.held j ≡ Some x → ⊥ = λ o j x e at. let no : None ≡ Some x = ap (λ (y : Holder). slice_get y.held j) (sym (ends_in o e)) ∙ at in absurd (cc) in
+      let awaits_then : (s : Subject) (u : ℕ) → Awaits s u hs → Awaits s u hs' = λ s u. awaits_on hs t it it' by.there s u (λ same is. ap (λ (y : Holder). y.awaits) by.ends ∙ is) in
+      let same_way : (m : Mail) → h'.mail m ≡ h.mail m → under_way h' m boxes ≡ under_way h m boxes = λ m same. ap (λ n. n + sum_by (λ box. mail_in m box.messages) boxes) same in
+      let more_way : (m : Mail) (n : ℕ) → h'.mail m ≡ h.mail m + n → under_way h' m boxes ≡ under_way h m boxes + n = λ m n more. omega (arith, more) in
+      let due_before : (a : ℕ) (r x : Thing) → LetsThing a r x → IsDue x → IsDue r =
+      λ a r x lets due. ⊎_elim (λ seen. inl (seen_before a r x lets seen)) (λ sent. inr (ap is_unsent (sym lets.forwarding) ∙ sent.0, sym lets.sent ∙ sent.1)) due in
+      let owes_then : (j u : ℕ) (o : Option Subject) → Owes j u o ts naps boxes → Owes j u o ts' naps' boxes = grind arith in
+      let owed_then : (j u : ℕ) → IsOwed j u hs ts naps boxes → IsOwed j u hs' ts' naps' boxes = λ j u o.
+      by_number u t
+      (λ apart. record { it = o.it; there = set_elsewhere hs t u it' apart ∙ o.there; owes = owes_then j u o.it.awaits o.owes })
+      (λ same.
+      let is : it ≡ o.it = same_Some it o.it (sym by.there ∙ ap (slice_get hs) (sym same) ∙ o.there) in
+      let awaits : it'.awaits ≡ o.it.awaits = ap (λ (y : Holder). y.awaits) by.ends ∙ ap (λ (y : Holder). y.awaits) is in
+      record { it = it'; there = ap (slice_get hs') same ∙ now_there; owes = subst (λ a. Owes j u a ts' naps' boxes) (sym awaits) (owes_then j u o.it.awaits o.owes) }) in
+      let ordinary_then : (u : ℕ) → IsOrdinary u hs → IsOrdinary u hs' = homes_on hs t it it' by.there (ap (λ (y : Holder). y.home) by.ends) in
+      let held_then : (shut : Bool) (a b : ℕ) (o o' : Bool) (n n' all way way' : ℕ) → all ≡ a + b → n' + all ≡ n + 0 → way' ≡ way + b → (a ≡ 0 → o' ≡ o) → (0 < a → o' ≡ false) → IsHeldBy shut o n way → IsHeldBy shut o' n' way' =
+      grind arith in
+      let answer_then : (a : ℕ) (r x : Thing) → LetsThing a r x → (o : OneShotState (Result RequestOutput Error)) → HasAnswer o r → HasAnswer o x = grind arith in
+      let unremoved : (a : Type 0) (z x : Nap) → LetsNap a z x → x.removed ≡ false → z.removed ≡ false = grind arith in
+      let over_then : (a : Type 0) (z x : Nap) → LetsNap a z x → (z.fired || z.removed) ≡ true → (x.fired || x.removed) ≡ true = grind arith in
+      let about_then : (j : ℕ) (m : Mail) → IsAbout workers j m ts naps → IsAbout workers j m ts' naps' = grind arith in
       record {
         held = λ k x box at at_box.
             let was = by.things_back k x at in
@@ -93,13 +115,7 @@ module _ (h h' : Hands) (workers : ℕ) (hs : List Holder) (ts ts' : List Thing)
             let now = by.things x.number held.0 held.1 in (
               now.0,
               now.1,
-              record {
-                worker = now.2.worker ∙ held.2.worker;
-                near = subst (MayHave workers o.home) (sym now.2.worker) held.2.near;
-                here = λ some. ap is_unsent now.2.forwarding ∙ held.2.here some;
-                waiter = λ v waiter. held.2.waiter v (sym now.2.waiter ∙ waiter);
-                awaited = λ sent. held.2.awaited (ap is_unsent (sym now.2.forwarding) ∙ sent);
-              },
+              grind (arith, now.2.worker, held.2.worker, workers, o.home, held.2.near, is_unsent, now.2.forwarding, held.2.here, held.2.waiter, now.2.waiter, held.2.awaited),
             ));
         awaiting = λ u o k at_u awaits.
             by_task u o at_u
@@ -121,13 +137,7 @@ module _ (h h' : Hands) (workers : ℕ) (hs : List Holder) (ts ts' : List Thing)
             let now = by.things k a.0 a.1 in (
               now.0,
               now.1,
-              record {
-                waiter = now.2.waiter ∙ a.2.waiter;
-                near = subst (MayHave workers o.home) (sym now.2.worker) a.2.near;
-                here = λ some. ap is_unsent now.2.forwarding ∙ a.2.here some;
-                newest = a.2.newest;
-                answer = λ sent. answer_then (own k) a.0 now.0 now.2 o.output (a.2.answer (ap is_unsent (sym now.2.forwarding) ∙ sent));
-              },
+              grind (arith, now.2.waiter, a.2.waiter, workers, o.home, now.2.worker, a.2.near, is_unsent, now.2.forwarding, a.2.here, a.2.newest, answer_then, own, a.0, now.0, now.2, o.output, a.2.answer),
             ));
         asleep = λ u o n at_u awaits.
             by_task u o at_u
@@ -157,11 +167,10 @@ module _ (h h' : Hands) (workers : ℕ) (hs : List Holder) (ts ts' : List Thing)
                     (λ same. same ∙ a.2.kept still)
                     (λ its.
                     let b = old.asleep t it n by.there its in
-                    let same : a.0 ≡ b.0 = same_thing a.0 b.0 (sym a.1 ∙ b.1) in
+                    let same : a.0 ≡ b.0 = same_Some a.0 b.0 (sym a.1 ∙ b.1) in
                     let u_is : u ≡ t = sym a.2.task ∙ ap (λ (z : Nap). z.task) same ∙ b.2.task in
-                    let o_is : it ≡ o = same_thing it o (sym by.there ∙ ap (slice_get hs) (sym u_is) ∙ at) in
                     let now_is : slice_get hs' u ≡ Some it' = ap (slice_get hs') u_is ∙ now_there in
-                    let over_is : o.over ≡ true = ap (λ (y : Holder). y.over) (same_thing o it' (sym at_u ∙ now_is) ∙ by.ends) in
+                    let over_is : o.over ≡ true = ap (λ (y : Holder). y.over) (same_Some o it' (sym at_u ∙ now_is) ∙ by.ends) in
                     absurd (false≢true (sym still ∙ over_is)))
                     now.2.only;
               },
@@ -229,32 +238,11 @@ module _ (h h' : Hands) (workers : ℕ) (hs : List Holder) (ts ts' : List Thing)
       by_task u o at same other =
           by_number u t
           (λ apart. other (sym (set_elsewhere hs t u it' apart) ∙ at))
-          (λ is. same is (same_thing it' o (sym now_there ∙ ap (slice_get hs') (sym is) ∙ at)))
-
-      ends_in : (o : Holder) → it' ≡ o → o ≡ record it { held = []; over = true }
-      ends_in o e = sym e ∙ by.ends
-
-      none_held : (o : Holder) (j : ℕ) (x : Held) → it' ≡ o → slice_get o.held j ≡ Some x → ⊥
-      none_held o j x e at = let no : None ≡ Some x = ap (λ (y : Holder). slice_get y.held j) (sym (ends_in o e)) ∙ at in absurd (cc)
-
-      ordinary_then : (u : ℕ) → IsOrdinary u hs → IsOrdinary u hs'
-      ordinary_then = homes_on hs t it it' by.there (ap (λ (y : Holder). y.home) by.ends)
-
-      awaits_then : (s : Subject) (u : ℕ) → Awaits s u hs → Awaits s u hs'
-      awaits_then s u = awaits_on hs t it it' by.there s u (λ same is. ap (λ (y : Holder). y.awaits) by.ends ∙ is)
-
-      same_way : (m : Mail) → h'.mail m ≡ h.mail m → under_way h' m boxes ≡ under_way h m boxes
-      same_way m same = ap (λ n. n + sum_by (λ box. mail_in m box.messages) boxes) same
-
-      more_way : (m : Mail) (n : ℕ) → h'.mail m ≡ h.mail m + n → under_way h' m boxes ≡ under_way h m boxes + n
-      more_way m n more = omega (arith, more)
+          (λ is. same is (same_Some it' o (sym now_there ∙ ap (slice_get hs') (sym is) ∙ at)))
 
       weighs : (b : Bool) → cond (not false && b) 1 0 ≡ one_if b
       weighs true = refl
       weighs false = refl
-
-      held_then : (shut : Bool) (a b : ℕ) (o o' : Bool) (n n' all way way' : ℕ) → all ≡ a + b → n' + all ≡ n + 0 → way' ≡ way + b → (a ≡ 0 → o' ≡ o) → (0 < a → o' ≡ false) → IsHeldBy shut o n way → IsHeldBy shut o' n' way'
-      held_then = grind arith
 
       seen_before : (a : ℕ) (r x : Thing) → LetsThing a r x → x.observed ≡ true → r.observed ≡ true
       seen_before zero r x lets is = sym (lets.observed refl) ∙ is
@@ -264,33 +252,6 @@ module _ (h h' : Hands) (workers : ℕ) (hs : List Holder) (ts ts' : List Thing)
       lost_then zero r x lets is = lets.observed refl ∙ is
       lost_then (suc a) r x lets is = lets.gone (omega arith)
 
-      due_before : (a : ℕ) (r x : Thing) → LetsThing a r x → IsDue x → IsDue r
-      due_before a r x lets due = ⊎_elim (λ seen. inl (seen_before a r x lets seen)) (λ sent. inr (ap is_unsent (sym lets.forwarding) ∙ sent.0, sym lets.sent ∙ sent.1)) due
-
-      answer_then : (a : ℕ) (r x : Thing) → LetsThing a r x → (o : OneShotState (Result RequestOutput Error)) → HasAnswer o r → HasAnswer o x
-      answer_then = grind arith
-
-      unremoved : (a : Type 0) (z x : Nap) → LetsNap a z x → x.removed ≡ false → z.removed ≡ false
-      unremoved = grind arith
-
-      over_then : (a : Type 0) (z x : Nap) → LetsNap a z x → (z.fired || z.removed) ≡ true → (x.fired || x.removed) ≡ true
-      over_then = grind arith
-
       of_then : (j : ℕ) (s : Subject) → IsOf workers j s ts naps → IsOf workers j s ts' naps'
       of_then j (subject.Request k) is = let now = by.things k is.0 is.1 in (now.0, now.1, now.2.worker ∙ is.2, is.3)
       of_then j (subject.Timer n) is = let now = by.naps_on n is.0 is.1 in (now.0, now.1, now.2.worker ∙ is.2, is.3)
-
-      about_then : (j : ℕ) (m : Mail) → IsAbout workers j m ts naps → IsAbout workers j m ts' naps'
-      about_then = grind arith
-
-      owes_then : (j u : ℕ) (o : Option Subject) → Owes j u o ts naps boxes → Owes j u o ts' naps' boxes
-      owes_then = grind arith
-
-      owed_then : (j u : ℕ) → IsOwed j u hs ts naps boxes → IsOwed j u hs' ts' naps' boxes
-      owed_then j u o =
-          by_number u t
-          (λ apart. record { it = o.it; there = set_elsewhere hs t u it' apart ∙ o.there; owes = owes_then j u o.it.awaits o.owes })
-          (λ same.
-          let is : it ≡ o.it = same_thing it o.it (sym by.there ∙ ap (slice_get hs) (sym same) ∙ o.there) in
-          let awaits : it'.awaits ≡ o.it.awaits = ap (λ (y : Holder). y.awaits) by.ends ∙ ap (λ (y : Holder). y.awaits) is in
-          record { it = it'; there = ap (slice_get hs') same ∙ now_there; owes = subst (λ a. Owes j u a ts' naps' boxes) (sym awaits) (owes_then j u o.it.awaits o.owes) })

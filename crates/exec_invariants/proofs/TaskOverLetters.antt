@@ -3,7 +3,7 @@ use Rattle.std.proofs.{Common.{◌≡◌, ◌≢◌, ℕ, zero, suc, ◌+◌, �
 use Rattle.exec_base.specs.declared.task_no.TaskNo.{TaskNo}
 use Rattle.exec_words.specs.declared.inbox.Message.{Message}
 use Rattle.exec_machine.specs.declared.state.Waiting.{Waiting}
-use Rattle.exec_parts.{specs.{declared.parts.{held.Held.Held, letters.Letters.Letters, mail.Subject.Subject, record.Record.Record, shared.Shared.Shared, sleeping.SleeperRecord.SleeperRecord, task_slot.TaskSlot.TaskSlot, worker.Worker.Worker}, Ending.others_of, View.{letter_of_request, letter_of_timer, letters_in}}, proofs.Facts.{by_number, not_same, same_thing}}
+use Rattle.exec_parts.{specs.{declared.parts.{held.Held.Held, letters.Letters.Letters, mail.Subject.Subject, record.Record.Record, shared.Shared.Shared, sleeping.SleeperRecord.SleeperRecord, task_slot.TaskSlot.TaskSlot, worker.Worker.Worker}, Ending.others_of, View.{letter_of_request, letter_of_timer, letters_in}}, proofs.Facts.{by_number, not_same, same_Some}}
 use Rattle.exec_invariants.{specs.{Holding.{Hands, IsAbout, IsHolding, Mail, MayHave, awaited_in, box_of, cancel_held, cancel_sleep, holder_of, is_awaited_by, mail_in, mail_of_letters, nap_of, same_mail, thing_of}, Places.one_if, Sound.IsLetter, Whole.{Profile, hands_of, wakes_with, with_worker}}, proofs.{HoldSteps.held_in, Lined.{mapped, unmapped}, TaskOverFold.{all_held, held_first, own_in}, TaskOverGone.AllGone, TaskOverHolds.{LetsNap, LetsThing, task_over}, TaskOverMay.{HasAll, some_held}, TaskTakes.{holder_there, holders_one}}}
 use Rattle.exec_parts.specs.declared.parts.mail.Subject.TheVariants as subject
 
@@ -82,14 +82,12 @@ no_mail l h = let it = no_letters l h in ap (λ xs. map cancel_held xs ++ map ca
 pub others_in : (P : Held → Type 0) (i : ℕ) (hs : List Held) → ((j : ℕ) (x : Held) → slice_get hs j ≡ Some x → x.worker ≢ i → P x) → (x : Held) → Contains (others_of i hs) x → P x
 others_in P i [] each x (k, few, is) = absurd (omega (arith, few))
 others_in P i (h ∷ hs) each x has =
+    let if_not : Bool → List Held = λ b. if not b then h ∷ others_of i hs else others_of i hs in
     let rest : Contains (others_of i hs) x → P x = others_in P i hs (λ j. each (suc j)) x in
     by_number h.worker i
     (λ other. first rest (each 0 h refl other) (subst (λ ys. Contains ys x) (ap (λ b. if_not b) (not_same h.worker i other)) has))
     (λ mine. rest (subst (λ ys. Contains ys x) (ap (λ b. if_not b) (eq-eqb h.worker i mine)) has))
   where
-    if_not : Bool → List Held
-    if_not b = if not b then h ∷ others_of i hs else others_of i hs
-
     first : (Contains (others_of i hs) x → P x) → P h → Contains (h ∷ others_of i hs) x → P x
     first rest here (zero, few, is) = subst P is here
     first rest here (suc k, few, is) = rest (k, omega (arith, few), is)
@@ -97,16 +95,14 @@ others_in P i (h ∷ hs) each x has =
 others_at : (i : ℕ) (hs : List Held) (j : ℕ) (x : Held) → slice_get (others_of i hs) j ≡ Some x → (n : ℕ) × (slice_get hs n ≡ Some x) × (x.worker ≢ i)
 others_at i [] j x at = absurd (let no : None ≡ Some x = at in cc)
 others_at i (h ∷ hs) j x at =
+    let if_not : Bool → List Held = λ b. if not b then h ∷ others_of i hs else others_of i hs in
     let rest : (n : ℕ) → slice_get (others_of i hs) n ≡ Some x → (m : ℕ) × (slice_get hs m ≡ Some x) × (x.worker ≢ i) = λ n found. others_at i hs n x found in
     by_number h.worker i
     (λ other. first rest other j (subst (λ ys. slice_get ys j ≡ Some x) (ap (λ b. if_not b) (not_same h.worker i other)) at))
     (λ mine. let it = rest j (subst (λ ys. slice_get ys j ≡ Some x) (ap (λ b. if_not b) (eq-eqb h.worker i mine)) at) in (suc it.0, it.1, it.2))
   where
-    if_not : Bool → List Held
-    if_not b = if not b then h ∷ others_of i hs else others_of i hs
-
     first : ((n : ℕ) → slice_get (others_of i hs) n ≡ Some x → (m : ℕ) × (slice_get hs m ≡ Some x) × (x.worker ≢ i)) → h.worker ≢ i → (n : ℕ) → slice_get (h ∷ others_of i hs) n ≡ Some x → (m : ℕ) × (slice_get (h ∷ hs) m ≡ Some x) × (x.worker ≢ i)
-    first rest other zero at = (0, at, subst (λ (y : Held). y.worker ≢ i) (same_thing h x at) other)
+    first rest other zero at = (0, at, subst (λ (y : Held). y.worker ≢ i) (same_Some h x at) other)
     first rest other (suc n) at = let it = rest n at in (suc it.0, it.1, it.2)
 
 -- ABOUT WHAT LETTERS ARE: what other workers of the pool have
@@ -135,14 +131,12 @@ module _ {B : Type 0} where
   -- a root leaves none
   pub none_left : (i t : ℕ) (slot : TaskSlot B) (l : Letters) (w v : Worker) (s s1 now : Shared B) → slot.home ≡ Some i → slot.waiting ≡ Waiting.Nothing → HasAll t slot s → AllGone i slot.held.items slot.waiting l w v s1 now → AreLetters s.config.workers i l s.requests.items s.sleepers.items
   none_left i t slot l w v s s1 now root nothing has gone =
+      let never : (j : ℕ) (x : Held) → slice_get slot.held.items j ≡ Some x → x.worker ≢ i → ⊥ = λ j x at other. other (subst (λ o. MayHave s.config.workers o x.worker) root (has.near j x at)) in
       record {
         requests = λ h among. others_in (λ x. IsLetter s.config.workers i (Subject.Request x.number) x.worker s.requests.items s.sleepers.items) i slot.held.items (λ j x at other. absurd (never j x at other)) h (subst (λ ys. Contains ys h) gone.requests among);
         at = λ j h is. let it = others_at i slot.held.items j h (subst (λ ys. slice_get ys j ≡ Some h) gone.requests is) in absurd (never it.0 h it.1 it.2);
         timer = λ h is. let it = (gone.timer h is).0 in absurd (let no : Waiting.Nothing ≡ Waiting.Timer h.number = sym nothing ∙ it in cc);
       }
-    where
-      never : (j : ℕ) (x : Held) → slice_get slot.held.items j ≡ Some x → x.worker ≢ i → ⊥
-      never j x at other = other (subst (λ o. MayHave s.config.workers o x.worker) root (has.near j x at))
 
   -- WHAT TASKS HOLD THEN
   pub gone_holding : (i t : ℕ) (slot slot' : TaskSlot B) (w v w' : Worker) (s s1 now s' : Shared B) (others : Profile) → slice_get s.tasks.items t ≡ Some slot → s'.tasks.items ≡ slice_set s.tasks.items t slot' → holder_of slot' ≡ record (holder_of slot) { held = []; over = true } → (holder_of slot).over ≡ false

@@ -4,8 +4,9 @@ use Rattle.exec_base.specs.{Slab.value_at, declared.slab.Slot.TheVariants.Live}
 use Rattle.exec_waiters.{specs.{States.{counts_pending, pending_count, waiter_at}, declared.waiter.{Entry.TheVariants.Pending, Waiter.Waiter}}, proofs.Changes.entry_of}
 use Rattle.exec_words.specs.declared.inbox.Message.{Message}
 use Rattle.exec_machine.specs.{declared.state.Waiting.Waiting, Requests.ends_by_drop}
-use Rattle.exec_parts.{specs.{declared.parts.{held.Held.Held, mail.{Reply.Reply, Subject.Subject}, record.Record.Record, shared.Shared.Shared, task_slot.TaskSlot.TaskSlot, worker.Worker.Worker}, Awaits.MayLetGo, Ending.{LetsGoAll, LetsGoOne.{here, elsewhere}, MayLetGoAll, MayLetGoOf, MayLetSleep}, View.driver_of}, proofs.Facts.{by_number, not_same, same_thing, found_within}}
-use Rattle.exec_invariants.{specs.{Holding.{Box, IsHeldBy, IsHolding, MayHave, Thing, box_of, holder_of, holdings, nap_of, thing_of, under_way}, Gates.AreLinedUp, Sound.served_in, Whole.{IsWhole, Profile, hands_of, with_worker}}, proofs.{HoldMail.sum_least, HoldSteps.{held_in, held_there, hold_once}, LetsNext.live_slot, Lined.unmapped, ServingHolds.Keeps, TaskOverFold.{HoldsAll, LetsSeen, ends_plain, gates_later, held_first, holds_later, later_once, let_all, queued_unresolved}, TaskTakes.holder_there}}
+use Rattle.exec_parts.{specs.{declared.parts.{held.Held.Held, mail.{Reply.Reply, Subject.Subject}, record.Record.Record, shared.Shared.Shared, task_slot.TaskSlot.TaskSlot, worker.Worker.Worker}, Awaits.MayLetGo, Ending.{LetsGoAll, LetsGoOne.{here, elsewhere}, MayLetGoAll, MayLetGoOf, MayLetSleep}, View.driver_of, Polls.OfSlot}, proofs.Facts.{by_number, not_same, same_Some, found_within}}
+use Rattle.exec_invariants.{specs.{Holding.{Box, IsHeldBy, IsHolding, MayHave, Thing, box_of, holder_of, holdings, nap_of, thing_of, under_way}, Gates.AreLinedUp, Sound.served_in, Whole.{IsWhole, Profile, hands_of, with_worker}}, proofs.{HoldMail.sum_least, HoldSteps.{held_in, held_there, hold_once}, Lined.unmapped, ServingHolds.Keeps, TaskOverFold.{HoldsAll, LetsSeen, ends_plain, gates_later, held_first, holds_later, later_once, let_all, queued_unresolved}, TaskTakes.holder_there}}
+use Rattle.exec_invariants.proofs.Slotted.{live_at}
 
 -- what counts is there
 pub some_held : (k : ℕ) (hs : List Held) → 0 < held_in k hs → (j : ℕ) × (x : Held) × (slice_get hs j ≡ Some x) × (x.number ≡ k)
@@ -28,6 +29,11 @@ module _ {B : Type 0} where
 
   pub has_all : (t : ℕ) (w : Worker) (s : Shared B) (slot : TaskSlot B) (others : Profile) → IsWhole (with_worker others w) s → slice_get s.tasks.items t ≡ Some slot → HasAll t slot s
   has_all t w s slot others whole there =
+      let seen_by : (shut o : Bool) (n told : ℕ) → 0 < n → IsHeldBy shut o n told → o ≡ true = grind arith in
+      let seen : (k : ℕ) (r : Thing) → slice_get (map thing_of s.requests.items) k ≡ Some r → 0 < held_in k slot.held.items → r.observed ≡ true = λ k r at some.
+      let box = box_at r k at in
+      let least = hold_once k (map holder_of s.tasks.items) t (holder_of slot) at_t in
+      seen_by box.0.shut r.observed (holdings k (map holder_of s.tasks.items)) (under_way (hands_of (with_worker others w)) (Message.Cancel (Subject.Request k)) (map box_of s.seats.items)) (omega (arith, some, least)) (old.held k r box.0 at box.1) in
       record {
         all = record {
           there = λ j x at.
@@ -53,17 +59,8 @@ module _ {B : Type 0} where
       box_at : (r : Thing) (k : ℕ) → slice_get (map thing_of s.requests.items) k ≡ Some r → (box : Box) × (slice_get (map box_of s.seats.items) r.worker ≡ Some box)
       box_at r k at = found_within (map box_of s.seats.items) r.worker (old.of_worker k r at)
 
-      seen_by : (shut o : Bool) (n told : ℕ) → 0 < n → IsHeldBy shut o n told → o ≡ true
-      seen_by = grind arith
-
       once_by : (shut o : Bool) (n told : ℕ) → IsHeldBy shut o n told → n ≤ 1
       once_by = grind arith
-
-      seen : (k : ℕ) (r : Thing) → slice_get (map thing_of s.requests.items) k ≡ Some r → 0 < held_in k slot.held.items → r.observed ≡ true
-      seen k r at some =
-          let box = box_at r k at in
-          let least = hold_once k (map holder_of s.tasks.items) t (holder_of slot) at_t in
-          seen_by box.0.shut r.observed (holdings k (map holder_of s.tasks.items)) (under_way (hands_of (with_worker others w)) (Message.Cancel (Subject.Request k)) (map box_of s.seats.items)) (omega (arith, some, least)) (old.held k r box.0 at box.1)
 
       by : (k n : ℕ) → held_in k slot.held.items ≡ n → held_in k slot.held.items ≤ 1
       by k zero is = omega (arith, is)
@@ -86,14 +83,9 @@ module _ {B : Type 0} where
       let room = keeps.told.room in
       record {
         known = slice_get_within s.requests.items h.number r there;
-        room = record {
-          notes = record { wakes = omega (arith, room.notes.wakes); completions = omega (arith, room.notes.completions) };
-          outputs = omega (arith, room.outputs);
-          resources = omega (arith, room.resources);
-          results = omega (arith, room.results);
-        };
+        room = grind (arith, room.notes.wakes, room.notes.completions, room.outputs, room.resources, room.results);
         ending = λ x found ends.
-            let is : r ≡ x = same_thing r x (sym there ∙ found) in
+            let is : r ≡ x = same_Some r x (sym there ∙ found) in
             let some = pending (waiter_at (driver_of w).requests r.id.0) refl (ap (λ (y : Record). ends_by_drop y.shown) is ∙ ends) in
             omega (arith, some, keeps.over.counted, keeps.flown.ending);
       }
@@ -101,7 +93,7 @@ module _ {B : Type 0} where
       pending : (o : Option (Waiter Reply Reply)) → waiter_at (driver_of w).requests r.id.0 ≡ o → ends_by_drop r.shown ≡ true → 0 < pending_count (driver_of w).requests
       pending None at ends = absurd (false≢true (sym (queued_unresolved r.shown.phase (ends_plain r ends).0) ∙ keeps.named.over h.number r there mine at))
       pending (Some it) at ends =
-          let slot = live_slot (driver_of w).requests r.id.0 (Pending it) (entry_of (value_at (driver_of w).requests r.id.0) it at) in
+          let slot = live_at (driver_of w).requests r.id.0 (Pending it) (entry_of (value_at (driver_of w).requests r.id.0) it at) in
           let least = sum_least (λ o. cond (counts_pending o) 1 0) (driver_of w).requests.slots r.id.0.index (Live r.id.0.generation (Pending it)) slot in
           omega (arith, least)
 
@@ -113,7 +105,7 @@ module _ {B : Type 0} where
         elim one [
           | here mine lets ↦
               let it = holds.there 0 h refl in
-              let same : lets.r ≡ it.0 = same_thing lets.r it.0 (sym lets.request ∙ it.1) in
+              let same : lets.r ≡ it.0 = same_Some lets.r it.0 (sym lets.request ∙ it.1) in
               let step = seen h.number w w' s s' idle gates keeps lets (ap (λ (x : Record). x.shown.worker) same ∙ it.2 ∙ mine) (ap (λ (x : Record). x.shown.observed) same ∙ it.3) in
               may_all hs w' s' seen (ap (λ (x : Worker). served_in x.place) lets.worker ∙ idle) (gates_later h.number w w' s s' lets gates) step.keeps (holds_later h hs w w' s s' lets holds)
           | elsewhere other worker shared ↦
@@ -126,25 +118,15 @@ module _ {B : Type 0} where
   pub may_let_go : (t : ℕ) (w : Worker) (s : Shared B) (slot : TaskSlot B) → LetsSeen B → served_in w.place ≡ None → AreLinedUp s.opens s.requests.items → slice_get s.tasks.items t ≡ Some slot → Keeps w s → HoldsAll slot.held.items s.requests.items → w.letters.requests.items ≡ [] → w.letters.timer ≡ None
       → ((z : ℕ) → slot.waiting ≡ Waiting.Timer z → z < length s.sleepers.items) → MayLetGoOf t w s
   may_let_go t w s slot seen idle gates there keeps holds no_requests no_timer known =
-      record {
-        there = slice_get_within s.tasks.items t slot there;
-        no_letters = no_requests;
-        no_timer = no_timer;
-        lets = λ o found first kept.
-            let is : slot ≡ o = same_thing slot o (sym there ∙ found) in
-            subst (λ (y : TaskSlot B). MayLetGoAll y.held.items w first) is (may_all slot.held.items w first seen idle (gates_in first kept) (keeps_tasks w s first kept keeps) (records_in first kept));
-        sleeps = λ o found first now v kept lets.
-            let is : slot ≡ o = same_thing slot o (sym there ∙ found) in
-            let lets' : LetsGoAll slot.held.items w v first now = subst (λ (y : TaskSlot B). LetsGoAll y.held.items w v first now) (sym is) lets in
-            let all = let_all w.index slot.held.items w v first now seen refl idle (gates_in first kept) (keeps_tasks w s first kept keeps) (records_in first kept) lets' in
-            subst (λ (y : TaskSlot B). MayLetSleep y.waiting v now) is (by slot.waiting refl v now all.keeps (ap (λ (y : Shared B). y.sleepers.items) all.kept ∙ ap (λ (y : Shared B). y.sleepers.items) kept));
-      }
-    where
-      records_in : (first : Shared B) → first ≡ record s { tasks = first.tasks } → HoldsAll slot.held.items first.requests.items
-      records_in first kept = subst (λ (y : Shared B). HoldsAll slot.held.items y.requests.items) (sym kept) holds
-
-      gates_in : (first : Shared B) → first ≡ record s { tasks = first.tasks } → AreLinedUp first.opens first.requests.items
-      gates_in first kept = subst (λ (y : Shared B). AreLinedUp y.opens y.requests.items) (sym kept) gates
-
-      by : (u : Waiting) → slot.waiting ≡ u → (v : Worker) (now : Shared B) → Keeps v now → now.sleepers.items ≡ s.sleepers.items → MayLetSleep u v now
-      by = grind arith
+      let records_in : (first : Shared B) → first ≡ record s { tasks = first.tasks } → HoldsAll slot.held.items first.requests.items = λ first kept. subst (λ (y : Shared B). HoldsAll slot.held.items y.requests.items) (sym kept) holds in
+      let gates_in : (first : Shared B) → first ≡ record s { tasks = first.tasks } → AreLinedUp first.opens first.requests.items = λ first kept. subst (λ (y : Shared B). AreLinedUp y.opens y.requests.items) (sym kept) gates in
+      let by : (u : Waiting) → slot.waiting ≡ u → (v : Worker) (now : Shared B) → Keeps v now → now.sleepers.items ≡ s.sleepers.items → MayLetSleep u v now = grind arith in
+      let lets_so : OfSlot t s (λ slot. (first : Shared B) → first ≡ record s { tasks = first.tasks } → MayLetGoAll slot.held.items w first) = λ o found first kept.
+      let is : slot ≡ o = same_Some slot o (sym there ∙ found) in
+      subst (λ (y : TaskSlot B). MayLetGoAll y.held.items w first) is (may_all slot.held.items w first seen idle (gates_in first kept) (keeps_tasks w s first kept keeps) (records_in first kept)) in
+      let sleeps : OfSlot t s (λ slot. (first now : Shared B) (v : Worker) → first ≡ record s { tasks = first.tasks } → LetsGoAll slot.held.items w v first now → MayLetSleep slot.waiting v now) = λ o found first now v kept lets.
+      let is : slot ≡ o = same_Some slot o (sym there ∙ found) in
+      let lets' : LetsGoAll slot.held.items w v first now = subst (λ (y : TaskSlot B). LetsGoAll y.held.items w v first now) (sym is) lets in
+      let all = let_all w.index slot.held.items w v first now seen refl idle (gates_in first kept) (keeps_tasks w s first kept keeps) (records_in first kept) lets' in
+      subst (λ (y : TaskSlot B). MayLetSleep y.waiting v now) is (by slot.waiting refl v now all.keeps (ap (λ (y : Shared B). y.sleepers.items) all.kept ∙ ap (λ (y : Shared B). y.sleepers.items) kept)) in
+      assumption (slice_get_within s.tasks.items t slot there, no_requests, no_timer, lets_so, sleeps)

@@ -1,5 +1,6 @@
 -- Where a task may be over by its own act, and where its worker goes on.
-use Rattle.std.proofs.{Common.{◌≡◌, ℕ, zero, suc, ◌<◌, arith, Bool, true, false, not, List, [], ◌∷◌, Option, Some, refl, sym, ap, subst, ◌∙◌, nat_lt, slice_get, if◌then◌else◌}, lemmas.Bool.{false≢true, eq-eqb, Decides.nat_tests}}
+use Rattle.std.proofs.{Common.{◌≡◌, ℕ, zero, suc, ◌<◌, arith, Bool, true, false, not, List, [], ◌∷◌, Option, Some, refl, sym, ap, subst, ◌∙◌, slice_get, if◌then◌else◌}, lemmas.Bool.{false≢true, eq-eqb}}
+pub use Rattle.std.proofs.lemmas.Bool.{ltb-true}
 use Rattle.exec_machine.specs.{declared.{config.ScriptWord.ScriptWord, state.{Code.Code, Next.Next}}, Words.{asks_await, next_word}, World.{Common, Task}}
 use Rattle.exec_moves.specs.{declared.{handing.AfterCancels.AfterCancels, place.{InClosing.InClosing, InPoll.InPoll, Place.Place}}, Seen.{next_at, serves_at}}
 use Rattle.exec_parts.specs.{declared.parts.held.Held.Held, Ending.others_of, Scripts.IsCodeOf, View.owed_at}
@@ -51,6 +52,3 @@ stopped_so false x other is = absurd (false≢true (sym other ∙ ap asks_await 
 pub waits_there : (workers i : ℕ) (home : Option ℕ) (code : Code) → home ≡ Some i → 0 < i → i < workers → IsCodeOf workers home code → code ≡ Code.Waits
 waits_there workers zero home code is some few h = absurd (omega (arith, some))
 waits_there workers (suc i) home code is some few h = (subst (λ o. IsCodeOf workers o code) is h).0 few
-
-pub within_so : (a b : ℕ) → nat_lt a b ≡ true → a < b
-within_so a b is = grind (arith, nat_tests, is)

@@ -87,8 +87,8 @@ module _ {B : Type 0} where
       → ((h : Held) → Contains l.requests.items h → IsLetter s.config.workers w.index (Subject.Request h.number) h.worker s.requests.items s.sleepers.items) → ((h : Held) → l.timer ≡ Some h → IsLetter s.config.workers w.index (Subject.Timer h.number) h.worker s.requests.items s.sleepers.items)
       → SoundAt (Place.SendCancel b) (record w { place = Place.SendCancel b; letters = l }) s
   sound_owing q0 b w l s owing sound searching pool some requests timer =
+      let HasRun : Option ℕ → Type 0 = λ o. HasRunnable w.index w.root w.root_ready (root_in_hand o w.root w.hand) s.tasks.items in
       let q : Place = Place.SendCancel b in
-      let w1 : Worker = record w { place = q; letters = l } in
       let pooled : is_pooled_at q ≡ true → is_pool w.role ≡ true = λ h. pool in
       let told : IsTold w.names.ended.items w.home.deferred (tellers (driver_of w).requests w.home.timers + 64) = subst (λ n. IsTold w.names.ended.items w.home.deferred (tellers (driver_of w).requests w.home.timers + n)) owing.aside.spare sound.told in
       let run = subst (λ o. HasRun o) owing.begins sound.runnable in
@@ -109,6 +109,3 @@ module _ {B : Type 0} where
       let tied : IsTied None w.index w.root s.tasks.items = record { stands = stands } in
       let batch : is_bare_at q ≡ true → w.batch.values ≡ [] = λ is. absurd (false≢true (sym owing.after.bare ∙ is)) in
       assumption (pooled, searching, told, run, seated, batch, queue, hand, loot, genuine, quiet, due, flown, letters, lets, phased, tied, sound)
-    where
-      HasRun : Option ℕ → Type 0
-      HasRun o = HasRunnable w.index w.root w.root_ready (root_in_hand o w.root w.hand) s.tasks.items

@@ -4,7 +4,7 @@ use Rattle.exec_base.specs.declared.error.Error.TheVariants.{NoMemory}
 use Rattle.exec_task.specs.declared.body.Said.{Said}
 use Rattle.exec_machine.specs.{declared.{state.{Forwarding.TheVariants.{Applied, Unsent}, MailMessage.TheVariants.ForwardTimer, Waiting.Waiting}, event.Event.{Event, TheVariants.{Pass, GotTimer, Turn}}}, Choice.Choice.Plain, Progress.Plan, Tasks.{is_here}, Tests.{is_unsent}, World.{Task, task_of}}
 use Rattle.exec_moves.specs.{declared.{handing.AfterSend.AfterSend, place.{InPoll.InPoll, Place.Place}}, Move.move_look_at, Poll.{Sight.{Asks, HearsTimer}, acts_on, pend, resume, sight_by, sight_of, stops}, State.{Moved, Things, does}, Thing.{aside, with_alarms}, Told.has_number}
-use Rattle.exec_parts.{specs.{declared.parts.{shared.Shared.Shared, sleeping.SleeperRecord.SleeperRecord, task_slot.TaskSlot.TaskSlot, worker.Worker.Worker}, Polls.{passed_slot, slept_slot}, Records.numbers_held, Scripts.IsAnswered, Spots.Spot, View.{Views, common_of, desk_of, numbers_of_passing, own_of, spot_by, task_seen, things_with}, Things.TurnsSlot}, proofs.Facts.{not_same, same_thing}}
+use Rattle.exec_parts.{specs.{declared.parts.{shared.Shared.Shared, sleeping.SleeperRecord.SleeperRecord, task_slot.TaskSlot.TaskSlot, worker.Worker.Worker}, Polls.{passed_slot, slept_slot}, Records.numbers_held, Scripts.IsAnswered, Spots.Spot, View.{Views, common_of, desk_of, numbers_of_passing, own_of, spot_by, task_seen, things_with}, Things.TurnsSlot}, proofs.Facts.{not_same, same_Some}}
 use Rattle.exec_invariants.{specs.{Hearing.{CanHear, held_once_come}, Holding.{Holder, IsHolding, awaited_in, box_of, holder_of, nap_of, thing_of}, Sound.{SoundAt, acts_next, has_wakes_at, may_resume}, Whole.{Profile, hands_of, wakes_with, with_worker}, Works.Steps}, proofs.{Hearing.hears_come, Here.{IsHere, going_on}, HoldBeside.Holds, HoldNaps.nap_taken, HoldThings.touches_none, PoolKept.chosen_own, Seen.sleeper_at, Slots.{IsEvent, holders_set, task_there, works_slot}, TaskDeals.{Dealt, acts as to_act, dealt, from_look}}}
 
 -- A number is among those that pass just where what stands there passes.
@@ -14,7 +14,7 @@ past_none test n a (x ∷ xs) less = grind (arith, not_same, past_none test n (s
 
 passes_from : {A : Type 0} (test : A → Bool) (a k : ℕ) (xs : List A) (x : A) → slice_get xs k ≡ Some x → has_number (a + k) (numbers_of_passing test a xs) ≡ test x
 passes_from test a k [] x at = absurd (cc)
-passes_from test a zero (y ∷ ys) x at = grind (arith, same_thing, eq-eqb, past_none)
+passes_from test a zero (y ∷ ys) x at = grind (arith, same_Some, eq-eqb, past_none)
 passes_from test a (suc k) (y ∷ ys) x at = grind (arith, not_same, passes_from test (suc a) k ys x at)
 
 pub passes_at : {A : Type 0} (test : A → Bool) (k : ℕ) (xs : List A) (x : A) → slice_get xs k ≡ Some x → has_number k (numbers_of_passing test 0 xs) ≡ test x

@@ -1,10 +1,10 @@
 -- A POLLED TASK, ANOTHER WORKER'S REQUEST: the newest that it holds is another worker's. That may be told that the task waits for it
 -- elsewhere, or holds it no more: its mailbox is open, and has a place for that.
-use Rattle.std.proofs.{Common.{◌≡◌, ◌≢◌, ◌⊎◌, inl, inr, ℕ, ◌+◌, ◌-◌, ◌<◌, ◌≤◌, Bool, true, false, List, [], count_by, length, map, Option, Some, None, refl, sym, ap, subst, ◌∙◌, arith, slice_get}, lemmas.{Bool.false≢true, Option.slice_get_within}}
+use Rattle.std.proofs.{Common.{◌≡◌, ◌≢◌, ◌⊎◌, inl, inr, ℕ, ◌+◌, ◌-◌, ◌<◌, ◌≤◌, Bool, true, false, List, count_by, length, map, Option, Some, None, refl, sym, ap, subst, ◌∙◌, arith, slice_get}, lemmas.{Bool.false≢true, Option.slice_get_within}}
 use Rattle.exec_words.specs.{Inbox.{is_wake_root}, declared.inbox.Message.{Message}}
 use Rattle.exec_machine.specs.{declared.state.{Forwarding.TheVariants.Unsent, MailMessage.TheVariants.{CancelRequest, ForwardRequest}}, Tests.is_unsent}
 use Rattle.exec_moves.specs.declared.place.{InPoll.InPoll, Place.Place}
-use Rattle.exec_parts.{specs.{declared.parts.{mail.Subject.Subject, record.Record.Record, seat.Seat.Seat as Chair, shared.Shared.Shared, task_slot.TaskSlot.TaskSlot, worker.Worker.Worker}, Awaits.newest_of, MailPosts.MaySend, Records.numbers_held}, proofs.Facts.{by_number, never_true, same_thing}}
+use Rattle.exec_parts.{specs.{declared.parts.{mail.Subject.Subject, record.Record.Record, seat.Seat.Seat as Chair, shared.Shared.Shared, task_slot.TaskSlot.TaskSlot, worker.Worker.Worker}, Awaits.newest_of, MailPosts.MaySend, Records.numbers_held}, proofs.Facts.{by_number, false_from_ne_true, same_Some}}
 use Rattle.exec_invariants.{specs.{Holding.{Box, Hands, Holder, IsAbout, IsHeldBy, IsHolding, Mail, MayHave, Nap, Thing, awaited_in, box_of, holder_of, holdings, mail_in, nap_of, thing_of, under_way}, Sound.SoundAt, Whole.{HasWhole, hands_of, with_worker}}, proofs.{AskBoxes.{box_there, none_sent, pool_open}, Here.IsHere, HoldMail.{sum_least}, HoldPosts.{has_place, with_mail}, HoldSteps.{held_there, hold_once}, HoldWaits.{held_number, holds_alone}, Polling.home_mine, SparedRecord.there_within, TaskHears.thing_there, TaskTakes.holder_there}}
 
 none_told : (shut observed : Bool) (held told : ℕ) → shut ≡ false → 0 < held → IsHeldBy shut observed held told → told ≡ 0
@@ -49,6 +49,7 @@ module _ {B : Type 0} where
   pub wants_from : (x : InPoll) (t k : ℕ) (w : Worker) (s : Shared B) (r : Record) → (sound : SoundAt (Place.Poll t x) w s) → HasWhole w s → (at : IsHere x t w s) → newest_of at.slot ≡ Some k → slice_get s.requests.items k ≡ Some r → r.shown.worker ≢ w.index
       → WantsFrom t k w s at.slot r
   wants_from x t k w s r sound has at newest at_k other =
+      let here_or_none : IsHere x t w s → (at.slot.home ≡ Some w.index) ⊎ (at.slot.home ≡ None) = λ h. by_number t w.root (λ apart. inr (at.ordinary apart).1) (λ own. inl (at.root own).1) in
       let slot = at.slot in
       let h = hands_of (with_worker has.others w) in
       let workers = s.config.workers in
@@ -73,16 +74,13 @@ module _ {B : Type 0} where
         few = few;
         waiter = mine.holds.waiter;
         awaited = λ sent. mine.holds.awaited sent ∙ ap (λ n. Some (Subject.Request n)) mine.number;
-        silent = λ unsent. never_true r.sent (λ sent. false≢true (sym (ap is_unsent (holding.sent k (thing_of r) at_r sent)) ∙ unsent));
+        silent = λ unsent. false_from_ne_true r.sent (λ sent. false≢true (sym (ap is_unsent (holding.sent k (thing_of r) at_r sent)) ∙ unsent));
         held = omega (arith, some, least);
         chair = chair.0;
         there = chair.1;
         open_box = pool_open t x w s slot sound has at.there ordinary r.shown.worker chair.0 chair.1 few;
       }
     where
-      here_or_none : IsHere x t w s → (at.slot.home ≡ Some w.index) ⊎ (at.slot.home ≡ None)
-      here_or_none h = by_number t w.root (λ apart. inr (at.ordinary apart).1) (λ own. inl (at.root own).1)
-
       none_of : (home : Option ℕ) → MayHave s.config.workers home r.shown.worker → ((k : ℕ) → home ≡ Some k → k ≡ w.index) → home ≡ None
       none_of None near mine = refl
       none_of (Some k) near mine = absurd (other (near ∙ mine k refl))
@@ -114,24 +112,21 @@ module _ {B : Type 0} where
       let least = hold_once k hs t (holder_of slot) at_t in
       let held : 0 < holdings k hs = omega (arith, some, least) in
       let kept = holding.holds t (holder_of slot) place one.0 at_t one.1 in
-      let is : kept.0 ≡ thing_of r = same_thing kept.0 (thing_of r) (sym kept.1 ∙ ap (slice_get ts) one.2 ∙ at_r) in
-      record {
-        observed = held_so box.0.shut r.shown.observed (holdings k hs) (under_way h (Message.Cancel (Subject.Request k)) boxes) held (holding.held k (thing_of r) box.0 at_r box.1);
-        waiter = mine.holds.waiter;
-        awaited = λ sent. mine.holds.awaited sent ∙ ap (λ n. Some (Subject.Request n)) mine.number;
-        within = slice_get_within slot.held.items place one.0 one.1;
-        there = one.1 ∙ ap (λ n. Some (record { number = n; worker = one.0.worker })) one.2 ∙ ap (λ n. Some (record { number = k; worker = n })) (sym kept.2.worker ∙ ap (λ (x : Thing). x.worker) is);
-      }
+      let is : kept.0 ≡ thing_of r = same_Some kept.0 (thing_of r) (sym kept.1 ∙ ap (slice_get ts) one.2 ∙ at_r) in
+      let observed = held_so box.0.shut r.shown.observed (holdings k hs) (under_way h (Message.Cancel (Subject.Request k)) boxes) held (holding.held k (thing_of r) box.0 at_r box.1) in
+      let awaited : is_unsent r.shown.forwarding ≡ false → awaited_in at.slot.waiting ≡ Some (Subject.Request k) = λ sent. mine.holds.awaited sent ∙ ap (λ n. Some (Subject.Request n)) mine.number in
+      let there = one.1 ∙ ap (λ n. Some (record { number = n; worker = one.0.worker })) one.2 ∙ ap (λ n. Some (record { number = k; worker = n })) (sym kept.2.worker ∙ ap (λ (x : Thing). x.worker) is) in
+      assumption (observed, awaited, slice_get_within slot.held.items place one.0 one.1, there, mine.holds)
 
   -- and so it can be sent that
   pub may_forward : (x : InPoll) (t k : ℕ) (w : Worker) (s : Shared B) (slot : TaskSlot B) (r : Record) → (has : HasWhole w s) → WantsFrom t k w s slot r → slice_get s.requests.items k ≡ Some r → is_unsent r.shown.forwarding ≡ true → MaySend r.shown.worker (ForwardRequest k) s
   may_forward x t k w s slot r has wants at_k unsent =
       let at_box = box_there s.seats.items r.shown.worker wants.chair wants.there in
       let room = forward_place (hands_of (with_worker has.others w)) s.config.workers (map holder_of s.tasks.items) (map thing_of s.requests.items) (map nap_of s.sleepers.items) (map box_of s.seats.items) k (thing_of r) (thing_there s.requests.items k r at_k) wants.few (box_of wants.chair) at_box wants.open_box has.whole.holding unsent in
-      grind (arith, slice_get_within, same_thing)
+      grind (arith, slice_get_within, same_Some)
 
   pub may_cancel : (x : InPoll) (t k : ℕ) (w : Worker) (s : Shared B) (slot : TaskSlot B) (r : Record) → (has : HasWhole w s) → WantsFrom t k w s slot r → slice_get s.requests.items k ≡ Some r → MaySend r.shown.worker (CancelRequest k) s
   may_cancel x t k w s slot r has wants at_k =
       let at_box = box_there s.seats.items r.shown.worker wants.chair wants.there in
       let room = cancel_place (hands_of (with_worker has.others w)) s.config.workers (map holder_of s.tasks.items) (map thing_of s.requests.items) (map nap_of s.sleepers.items) (map box_of s.seats.items) k (thing_of r) (thing_there s.requests.items k r at_k) wants.few (box_of wants.chair) at_box wants.open_box has.whole.holding wants.held in
-      grind (arith, slice_get_within, same_thing)
+      grind (arith, slice_get_within, same_Some)

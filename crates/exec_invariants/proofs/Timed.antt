@@ -1,15 +1,14 @@
 -- What holds again once a deadline is on the wheel.
-use Rattle.std.{proofs.{Common.{◌≡◌, ◌≢◌, ℕ, ◌+◌, ◌^◌, ◌<◌, ◌≤◌, ◌==◌, Bool, true, false, List, [], Option, Some, None, IfSome, refl, sym, ap, subst, ◌∙◌, arith, inl, slice_get, Ok}, lemmas.Bool.false≢true}, specs.Prelude.unwrap_or}
+use Rattle.std.{proofs.{Common.{◌≡◌, ◌≢◌, ℕ, ◌+◌, ◌^◌, ◌<◌, ◌≤◌, ◌==◌, Bool, true, false, List, [], Some, None, IfSome, refl, sym, ap, subst, ◌∙◌, arith, inl, slice_get, Ok}, lemmas.Bool.false≢true}, specs.Prelude.{unwrap_or, is_some}}
 use Rattle.exec_base.specs.{Slab.written, declared.slab.Id.Id}
-use Rattle.exec_outcomes.specs.declared.outcome.Outcome.{Outcome}
 use Rattle.exec_time.specs.Wheel.{Wheel, scheduled}
-use Rattle.exec_request.specs.{States.asks_cancel, declared.results.WaiterState.{WaiterState}}
+use Rattle.exec_request.specs.{States.asks_cancel, declared.results.WaiterState.WaiterState, Requests.deadline_of}
 use Rattle.exec_waiters.specs.{Events.with_tick, States.{needs_permit, takes_tick, tick_in, waiter_at}, declared.{waiter.{Entry.TheVariants.Pending, Waiter.Waiter}, waiter_id.WaiterId.WaiterId}}
 use Rattle.exec_driver.{specs.{Driving.Driving, Lists.{first_of, rest_of, is_among, after_enrolment}, Punctual.IsPunctual, Steps.tick_for}, proofs.{Expiring.tick_tells}}
-use Rattle.exec_machine.specs.{declared.{state.RequestPhase.RequestPhase, config.Configuration.Configuration, event.Event.TheVariants.Enrol}, Tests.{is_staged}, World.{Own, Common, request_of}}
-use Rattle.exec_moves.specs.{Told.told_if_ended, State.{Desk, Moved, Things}, Submit.{due_next, first_due, submits, Due.Enrols}, declared.place.{Service.Service, Place.Place, InService.InService}}
-use Rattle.exec_parts.{specs.{declared.parts.{mail.Reply.Reply, record.Record.Record, shared.Shared.Shared, worker.Worker.Worker}, Records.number_in, Serving.{changed_at, first_tick}, View.{own_of, driver_of}}, proofs.Facts.by_name}
-use Rattle.exec_invariants.{specs.{Names.IsSubmitted, Sound.served_in, Due.IsWheelAt, Flown.{HasFlown, IsPlain, operations}, Submits.IsNewIn, Ordered.{IsOrdered, went_round}}, proofs.{Known.known_written, Changing.{all_go_one, OneGoesOn, changes_one, keeps_one}, Going.{owning_on, GoesOn}, Marking.{known_then, plain_kept, mark_kept, mark_if, marked, was_marked}, Carries.carried_still, Enrolled.new_first, Enrolling.enrolled_at, Flown.landed_on, Seeing.makes, ServingHolds.KeepsBy, Staging.{split_first, stages_again}, Orders.ticks_so}}
+use Rattle.exec_machine.specs.{declared.{state.RequestPhase.RequestPhase, config.Configuration.Configuration}, Tests.{is_staged}, World.{Own, Common}}
+use Rattle.exec_moves.specs.{State.{Desk}, Submit.{due_next, first_due, submits, Due.Enrols}, declared.place.{Service.Service, Place.Place, InService.InService}}
+use Rattle.exec_parts.{specs.{declared.parts.{mail.Reply.Reply, record.Record.Record, shared.Shared.Shared, worker.Worker.Worker}, Records.number_in, Serving.{changed_at, first_tick, is_one_of}, View.{own_of, driver_of}}, proofs.Facts.by_name}
+use Rattle.exec_invariants.{specs.{Names.IsSubmitted, Sound.served_in, Due.IsWheelAt, Flown.{HasFlown, IsPlain, operations, AreLanded}, Submits.IsNewIn, Ordered.{IsOrdered, went_round}}, proofs.{Known.known_written, Changing.{all_go_one, OneGoesOn, changes_one, keeps_one}, Going.{owning_on, GoesOn}, Marking.{known_then, plain_kept, mark_kept, mark_if, marked, was_marked}, Carries.carried_still, Enrolled.new_first, Enrolling.enrolled_at, Flown.landed_on, ServingHolds.KeepsBy, Staging.{split_first, stages_again}, Orders.ticks_so}}
 pub use Rattle.exec_invariants.proofs.Untold.{keeps_untold, told_still}
 
 -- THE WHEEL
@@ -47,10 +46,6 @@ among_rest = grind arith
 pub comes_to_new : (c : Configuration) (i gate k : ℕ) (me : Own) (s : Common) (d : Desk) → first_due c i me s ≡ None → slice_get me.unenrolled 0 ≡ Some k → due_next c i gate me s d ≡ Enrols k
 comes_to_new c i gate k me s d none new = rw (none, new) refl
 
--- the move, by what comes of it
-abbrev pub move_enrol : Configuration → ℕ → Own → Common → Desk → Things → ℕ → Service → ℕ → Option Outcome → Moved Things
-move_enrol c i me s d x gate v k outcome = makes (Enrol k outcome) (submits v gate (told_if_ended outcome k (request_of s k) d)) x
-
 -- WHAT HOLDS AGAIN
 
 module _ {B : Type 0} (w : Worker) (s : Shared B) (new : IsNewIn w s) (id : WaiterId) (first : first_of (driver_of w).lists.enrolments ≡ Some id) where
@@ -74,16 +69,13 @@ module _ {B : Type 0} (w : Worker) (s : Shared B) (new : IsNewIn w s) (id : Wait
       let start = w.moments.start in
       let f = times start c.tick in
       let sub = new.submits.sound.named.submitted in
-      record {
-        tagged = sub.tagged;
-        cancels = sub.cancels;
-        known = known_then f rs k w.names.staged.items sub.known;
-        own = λ j x h found. let old = was_marked f rs k j x found in ap (λ y. y.shown.worker) old.2 ∙ mark_kept ℕ (λ x. x.shown.worker) (times start c.tick) (λ x. refl) (k == j) old.0 ∙ sub.own j old.0 h old.1;
-        all = λ j x found mine staged.
-            let old = was_marked f rs k j x found in
-            sub.all j old.0 old.1 (sym (mark_kept ℕ (λ x. x.shown.worker) (times start c.tick) (λ x. refl) (k == j) old.0) ∙ sym (ap (λ y. y.shown.worker) old.2) ∙ mine)
-            (sym (ap is_staged (mark_kept RequestPhase (λ x. x.shown.phase) (times start c.tick) (λ x. refl) (k == j) old.0)) ∙ sym (ap (λ y. is_staged y.shown.phase) old.2) ∙ staged);
-      }
+      let own : (k : ℕ) (x : Record) → is_one_of k w.names.staged.items ≡ true → slice_get timed_records k ≡ Some x → x.shown.worker ≡ w.index =
+      λ j x h found. let old = was_marked f rs k j x found in ap (λ y. y.shown.worker) old.2 ∙ mark_kept ℕ (λ x. x.shown.worker) (times start c.tick) (λ x. refl) (k == j) old.0 ∙ sub.own j old.0 h old.1 in
+      let all : (k : ℕ) (x : Record) → slice_get timed_records k ≡ Some x → x.shown.worker ≡ w.index → is_staged x.shown.phase ≡ true → is_one_of k w.names.staged.items ≡ true = λ j x found mine staged.
+      let old = was_marked f rs k j x found in
+      sub.all j old.0 old.1 (sym (mark_kept ℕ (λ x. x.shown.worker) (times start c.tick) (λ x. refl) (k == j) old.0) ∙ sym (ap (λ y. y.shown.worker) old.2) ∙ mine)
+      (sym (ap is_staged (mark_kept RequestPhase (λ x. x.shown.phase) (times start c.tick) (λ x. refl) (k == j) old.0)) ∙ sym (ap (λ y. is_staged y.shown.phase) old.2) ∙ staged) in
+      assumption (known_then f rs k w.names.staged.items sub.known, own, all, sub)
 
   flown_timed : (t : ℕ) → HasFlown (served_in (Place.Service (InService.Submit new.submits.gate) new.submits.service)) w.index w.names (timed_driver t) timed_records
   flown_timed t =
@@ -101,39 +93,32 @@ module _ {B : Type 0} (w : Worker) (s : Shared B) (new : IsNewIn w s) (id : Wait
       let flown = new.submits.sound.flown in
       let changed = changes_one d.requests id.0 it it' who.live in
       let all = all_go_one rs k f who.r who.there (record { same = refl; over = refl; ended = λ h. refl }) in
-      record {
-        ending = flown.ending;
-        staging = flown.staging;
-        telling = flown.telling;
-        entries = flown.entries;
-        gated = λ other x live needs.
-            by_name other.0 id.0 (λ apart. flown.gated other x (sym (changed.others other.0 apart) ∙ live) needs)
-            (λ eq.
-            let is_it : x ≡ it' = cc (live, eq, changed.is_at) in
-            flown.gated other it (ap (waiter_at d.requests) eq ∙ who.live) (ap needs_permit (sym is_it) ∙ needs));
-        plain = plain_kept f rs k (times_plain start c.tick) w.index (λ r. refl) flown.plain;
-        landed = landed_on w.names w.names d d' rs rs' (operations d.ring) flown.landed
-            (λ other x r given live flies found landed.
-            let j = number_in w.names.requests.items other in
-            let apart : other ≢ id.0 = λ same.
-            let both : x ≡ it = cc (live, who.live, same) in
-            false≢true (sym who.idle ∙ ap (λ y. y.in_flight) (sym both) ∙ flies) in
-            record { it' = x; r' = mark_if f (k == j) r; live = changed.others other apart ∙ live; flies = refl; same = refl; number = refl; there = marked f rs k j r found; phase = mark_kept RequestPhase (λ x. x.shown.phase) (times start c.tick) (λ x. refl) (k == j) r });
-        polled = flown.polled;
-        owning = owning_on rs rs' all flown.owning;
-        enrolling = λ other x live takes some.
-            let differs : other.0 ≢ id.0 → is_among other (rest_of d.lists.enrolments) ≡ true = λ apart.
-            among_rest other id d.lists.enrolments first (flown.enrolling other x (sym (changed.others other.0 apart) ∙ live) takes some) apart in
-            by_name other.0 id.0 differs
-            (λ eq.
-            let is_it : x ≡ it' = cc (live, eq, changed.is_at) in
-            absurd (false≢true (ap (λ y. takes_tick y.state) (sym is_it) ∙ takes)));
-        uncancelled = λ other x among found mine.
-            let j = number_in w.names.requests.items other.0 in
-            let old = was_marked f rs k j x found in
-            ap (λ y. y.shown.cancel_staged) old.2 ∙ mark_kept Bool (λ x. x.shown.cancel_staged) (times start c.tick) (λ x. refl) (k == j) old.0
-            ∙ flown.uncancelled other old.0 among old.1 (sym (mark_kept ℕ (λ y. y.shown.worker) (times start c.tick) (λ y. refl) (k == j) old.0) ∙ sym (ap (λ y. y.shown.worker) old.2) ∙ mine);
-      }
+      let gated : (id : WaiterId) (it : Waiter Reply Reply) → waiter_at (timed_driver t).requests id.0 ≡ Some it → needs_permit it ≡ true → is_among id (timed_driver t).lists.gated ≡ true = λ other x live needs.
+      by_name other.0 id.0 (λ apart. flown.gated other x (sym (changed.others other.0 apart) ∙ live) needs)
+      (λ eq.
+      let is_it : x ≡ it' = cc (live, eq, changed.is_at) in
+      flown.gated other it (ap (waiter_at d.requests) eq ∙ who.live) (ap needs_permit (sym is_it) ∙ needs)) in
+      let plain = plain_kept f rs k (times_plain start c.tick) w.index (λ r. refl) flown.plain in
+      let landed_so : AreLanded w.names (timed_driver t) timed_records (operations (timed_driver t).ring) = landed_on w.names w.names d d' rs rs' (operations d.ring) flown.landed
+      (λ other x r given live flies found landed.
+      let j = number_in w.names.requests.items other in
+      let apart : other ≢ id.0 = λ same.
+      let both : x ≡ it = cc (live, who.live, same) in
+      false≢true (sym who.idle ∙ ap (λ y. y.in_flight) (sym both) ∙ flies) in
+      record { it' = x; r' = mark_if f (k == j) r; live = changed.others other apart ∙ live; flies = refl; same = refl; number = refl; there = marked f rs k j r found; phase = mark_kept RequestPhase (λ x. x.shown.phase) (times start c.tick) (λ x. refl) (k == j) r }) in
+      let enrolling : (id : WaiterId) (it : Waiter Reply Reply) → waiter_at (timed_driver t).requests id.0 ≡ Some it → takes_tick it.state ≡ true → is_some (deadline_of it.request) ≡ true → is_among id (timed_driver t).lists.enrolments ≡ true = λ other x live takes some.
+      let differs : other.0 ≢ id.0 → is_among other (rest_of d.lists.enrolments) ≡ true = λ apart.
+      among_rest other id d.lists.enrolments first (flown.enrolling other x (sym (changed.others other.0 apart) ∙ live) takes some) apart in
+      by_name other.0 id.0 differs
+      (λ eq.
+      let is_it : x ≡ it' = cc (live, eq, changed.is_at) in
+      absurd (false≢true (ap (λ y. takes_tick y.state) (sym is_it) ∙ takes))) in
+      let uncancelled : (id : WaiterId) (r : Record) → is_among id (timed_driver t).lists.cancels ≡ true → slice_get timed_records (number_in w.names.requests.items id.0) ≡ Some r → r.shown.worker ≡ w.index → r.shown.cancel_staged ≡ false = λ other x among found mine.
+      let j = number_in w.names.requests.items other.0 in
+      let old = was_marked f rs k j x found in
+      ap (λ y. y.shown.cancel_staged) old.2 ∙ mark_kept Bool (λ x. x.shown.cancel_staged) (times start c.tick) (λ x. refl) (k == j) old.0
+      ∙ flown.uncancelled other old.0 among old.1 (sym (mark_kept ℕ (λ y. y.shown.worker) (times start c.tick) (λ y. refl) (k == j) old.0) ∙ sym (ap (λ y. y.shown.worker) old.2) ∙ mine) in
+      assumption (gated, plain, landed_so, owning_on rs rs' all flown.owning, enrolling, uncancelled, flown)
 
   pub keeps_timed : (t : ℕ) → id.0.generation < 2 ^ 64 → tick_for (driver_of w).wheel (new_first w s new id first).deadline w.moments.sampled ≡ Ok t → IsPunctual (timed_driver t)
       → KeepsBy (record w { place = Place.Service (InService.Submit new.submits.gate) new.submits.service }) (timed_driver t) w.home.timers timed_records s.sleepers.items s

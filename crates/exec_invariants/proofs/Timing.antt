@@ -5,9 +5,9 @@ use Rattle.exec_waiters.{specs.{States.flying_count, Told.{Tells, nothing_told},
 use Rattle.exec_driver.specs.{Lists.{first_of, rest_of, after_enrolment}, Punctual.IsPunctual, Steps.{enrolled_by, told_by_enrolment, tick_for, ended_by}}
 use Rattle.exec_task.specs.declared.body.Said.{Said}
 use Rattle.exec_machine.specs.{declared.event.Event.{Event, TheVariants.Enrol}, Deadlines.{fires_at, outcome_at_enrol}, Same.{is_none, is_number, same_end}, Tests.is_queued as is_phase_queued, World.{Common, request_of}}
-use Rattle.exec_moves.specs.{Move.move_submit, Submit.{due_next, first_due, Due.Enrols}, declared.place.{Place.Place, InService.InService}}
-use Rattle.exec_parts.specs.{declared.parts.{names.Names.Names, shared.Shared.Shared, worker.Worker.Worker}, Records.number_in, Serving.outcome_of_error, Spots.Spot, View.{visible, with_view, own_of, desk_of, driver_of, common_of, seat_seen, things_with, numbers_of}}
-use Rattle.exec_invariants.{specs.{Due.IsWheelAt, Holding.{nap_of, thing_of}, Places.passes_at, Submits.IsNewIn, Works.Steps}, proofs.{Serving.{at_large, balances_still, SparesRecords, spares_one}, ServingHolds.{serves_to, IsServed, OthersKept, keeps_home, Serves, Keeps, KeepsBy}, Recorded.request_seen, Lined.{map_changed, opens_same}, Slotted.{awaited_written, slots_written}, Changing.flying_after, Enrolled.{HasEnrolled, new_first}, Enrolling.{enrol_same, ended_not}, Idling.none_due, Seeing.{makes, shows, served, common_changed, common_same, things_kept}, Staging.{split_first, stages_again}, Timed.{comes_to_new, keeps_timed, keeps_untold, move_enrol, timed_driver, timed_records, timed_waiter, times, unset}}}
+use Rattle.exec_moves.specs.{Submit.{due_next, first_due, Due.Enrols}, declared.place.{Place.Place, InService.InService}}
+use Rattle.exec_parts.specs.{declared.parts.{names.Names.Names, shared.Shared.Shared, worker.Worker.Worker}, Records.number_in, Serving.outcome_of_error, Spots.Spot, View.{visible, with_view, own_of, desk_of, driver_of, common_of, seat_seen, numbers_of}}
+use Rattle.exec_invariants.{specs.{Due.IsWheelAt, Holding.{nap_of, thing_of}, Places.passes_at, Submits.IsNewIn, Works.Steps}, proofs.{Serving.{at_large, balances_still, SparesRecords, spares_one}, ServingHolds.{serves_to, IsServed, OthersKept, keeps_home, Serves, Keeps, KeepsBy}, Recorded.request_seen, Lined.{map_changed, opens_same}, Slotted.{awaited_written, slots_written}, Changing.flying_after, Enrolled.{HasEnrolled, new_first}, Enrolling.{enrol_same, ended_not}, Idling.none_due, Seeing.{shows, served, common_changed, common_same, things_kept}, Staging.{split_first, stages_again}, Timed.{comes_to_new, keeps_timed, keeps_untold, timed_driver, timed_records, timed_waiter, times, unset}}}
 
 module _ {B L : Type 0} (left : B → L) (spot : L → Option Said → Spot) where
   pub enrol_stays : (w w' : Worker) (s s' : Shared B) (e : Event) (id : WaiterId) → (new : IsNewIn w s) → first_of (driver_of w).lists.enrolments ≡ Some id → HasEnrolled w w' s s' e id None → w'.names ≡ w.names → Steps left spot w s e w' s'
@@ -84,11 +84,7 @@ module _ {B L : Type 0} (left : B → L) (spot : L → Option Said → Spot) whe
       comes_to_new cp w.index gate k (own_of w0) all (desk_of w0) none (ap (λ ks. slice_get ks 0) numbers) in
       let desk : desk_of w' ≡ desk_of w0 = show.desk ∙ rw (there, ap (λ x. x.put_off) same, wakes, outputs, completions, results, slots, awaited) refl in
       record {
-        moves =
-            ap (move_submit cp w.index (own_of w0) all (desk_of w0) (things_with vs s) gate v) due
-            ∙ ap (λ o. move_enrol cp w.index (own_of w0) all (desk_of w0) (things_with vs s) gate v k o) ends
-            ∙ ap (λ x. makes (Enrol k None) x (things_with vs s)) (sym desk)
-            ∙ ap (makes (Enrol k None) (desk_of w')) (sym (things_kept vs w.index (visible w) (visible w') s s' suits.seen (ap (λ y. y.wakes) seen) serves.shared spares));
+        moves = grind (arith, due, ends, desk, things_kept vs w.index (visible w) (visible w') s s' suits.seen (ap (λ y. y.wakes) seen) serves.shared spares);
         may = (
           at_large q w s sound refl,
           (

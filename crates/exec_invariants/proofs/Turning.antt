@@ -4,7 +4,7 @@ use Rattle.exec_task.specs.declared.{body.Said.Said, runnable.Runnable.Runnable}
 use Rattle.exec_machine.specs.{declared.{event.Event.{Event, TheVariants.Turn}, state.Next.Next}, Choice.Choice.Plain, Progress.Plan}
 use Rattle.exec_moves.specs.{declared.place.{Place.Place, InService.InService}, State.{Things, no_queue, no_word, queue_of, word_of}, Thing.{set_queue, set_word}, Move.move_at, Seen.{polls_at, next_at, serves_at}}
 use Rattle.exec_parts.proofs.Leaves.{with_read}
-use Rattle.exec_parts.specs.{declared.parts.{role.Role.Role, seat.Seat.Seat as Chair, shared.Shared.Shared, task_slot.TaskSlot.TaskSlot, worker.{Worker.Worker, Moments.Moments}}, Phased.{IsPhased, closes_at, closing_in, stage_of}, Roles.is_pool, Calls.IsTold, Spots.Spot, View.{Views, Visible, visible, with_view, driver_of, own_of, owed_at, desk_of, common_of, seats_seen, things_with}, Things.Goes}
+use Rattle.exec_parts.specs.{declared.parts.{role.Role.Role, seat.Seat.Seat as Chair, shared.Shared.Shared, task_slot.TaskSlot.TaskSlot, worker.{Worker.Worker, Moments.Moments}}, Phased.{IsPhased, closes_at, closing_in, stage_of}, Roles.is_pool, Calls.IsTold, Spots.Spot, View.{Views, Visible, with_view, driver_of, own_of, owed_at, desk_of, common_of, seats_seen, things_with}, Things.Goes}
 use Rattle.exec_invariants.{specs.{Rooted.HearsNext, HoldPlaces.{cancels_at, heard_at, sends_cancel_at, spare_at}, Due.{IsDue, IsWheelAt, wheel_moment}, Flown.HasFlown, Kinds.{Kind, kind_of, lowered}, Places.{begins_at, calls_back_at, hands_on_at, has_loot_at, in_poll_of, is_armed_at, is_pooled_at, or_polls, polled_in, searches_at, step_of_poll, task_at}, Sound.{Aims, AreHome, has_wakes_at, HasBatch, HasGuest, HasLetters, HasQueue, HasRunnable, IsHeld, IsInHand, IsInTime, IsLeft, IsLoot, IsSearching, IsSeated, IsTied, LetsGo, LetsGoAt, root_in_hand, served_in, Serves, SoundAt, Stops}, Names.tellers, Whole.IsGenuine, Works.{Beside, Suits, Steps}}, proofs.{Dedicated.by_length, Hearing.unheard}}
 
 pub set_found : {A : Type 0} (xs : List A) (i : ℕ) (x : A) → slice_get xs i ≡ Some x → slice_set xs i x ≡ xs
@@ -148,34 +148,14 @@ module _ {B : Type 0} where
   pub arrives : (q q' : Place) (w v : Worker) (s t : Shared B) → SoundAt q w s → kind_of q' ≡ lowered w.role (is_pooled_at q') (kind_of q) → (has_wakes_at q' ≡ false → w.home.deferred.notes.wakes.items ≡ []) → Keeps w v → Fits q' w s t.seats.items → Arrives q' w v s t
   arrives q q' w v s t sound same quiet keeps fits =
       let it = of_kind q q' w s sound same in
-      record {
-        runnable = rw (keeps.root_ready, keeps.hand) it.runnable;
-        seated = fits.seated;
-        queue = fits.queue;
-        hand = rw keeps.hand it.hand;
-        loot = rw keeps.loot it.loot;
-        genuine = rw keeps.hand it.genuine;
-        stolen = rw keeps.loot sound.stolen;
-        searching = rw keeps.searching it.searching;
-        pooled = it.pooled;
-        serves = it.serves;
-        calm = λ apart. keeps.searching ∙ sound.calm apart;
-        aims = fits.aims;
-        guest = it.guest;
-        left = it.left;
-        batch = fits.batch;
-        batch_place = fits.batch_place;
-        quiet = quiet;
-        due = it.due;
-        flown = it.flown;
-        told = it.told;
-        letters = it.letters;
-        stops = it.stops;
-        hears = it.hears;
-        lets_go = it.lets_go;
-        phased = fits.phased;
-        tied = it.tied;
-      }
+      let runnable : HasRunnable w.index w.root v.root_ready (root_in_hand (begins_at q') w.root v.hand) s.tasks.items = rw (keeps.root_ready, keeps.hand) it.runnable in
+      let hand : IsInHand (begins_at q') (hands_on_at q') v.hand = rw keeps.hand it.hand in
+      let loot : IsLoot (has_loot_at q') v.loot = rw keeps.loot it.loot in
+      let genuine : (r : Runnable) → Contains (option_to_list v.hand) r → IsHeld (begins_at q') w.root s.tasks.items r = rw keeps.hand it.genuine in
+      let stolen : (r : Runnable) → Contains v.loot.values r → IsGenuine s.tasks.items r = rw keeps.loot sound.stolen in
+      let searching : IsSearching (searches_at q') v.searching = rw keeps.searching it.searching in
+      let calm : is_pool w.role ≡ false → v.searching ≡ false = λ apart. keeps.searching ∙ sound.calm apart in
+      assumption (runnable, hand, loot, genuine, stolen, searching, calm, quiet, fits, it)
 
 -- what the machine reads off a place stays, and the line had nothing to do
 pub record IsTurn (n : ℕ) (q q' : Place) : Type 0 where
@@ -188,13 +168,7 @@ pub record IsTurn (n : ℕ) (q q' : Place) : Type 0 where
 -- a place of the same kind, from one whose line has nothing to do
 pub turn_alike : (n : ℕ) (role : Role) (q q' : Place) → kind_of q' ≡ lowered role (is_pooled_at q') (kind_of q) → next_at q ≡ Next.Free → serves_at q ≡ false → IsTurn n q q'
 turn_alike n role q q' same free unserved =
-    record {
-      polls = ap (λ k. k.polls) same;
-      free = free;
-      free_then = ap (λ k. k.next) same ∙ free;
-      unserved = ap (λ k. k.serves) same ∙ unserved;
-      owes = ap (λ k. k.owes n) same;
-    }
+    assumption (ap (λ k. k.polls) same, free, ap (λ k. k.next) same ∙ free, ap (λ k. k.serves) same ∙ unserved, ap (λ k. k.owes n) same)
 
 -- WHAT IS PUT BACK UNCHANGED
 
@@ -219,14 +193,7 @@ module _ {B : Type 0} where
 
   pub fits_here : (q q' : Place) (w : Worker) (s : Shared B) → SoundAt q w s → Lands q q' w s → Fits q' w s s.seats.items
   fits_here q q' w s sound lands =
-      record {
-        seated = subst (λ a. IsSeated w.index a s.config.workers s.seats.items) (ap (λ k. k.armed) (sym lands.same)) sound.seated;
-        queue = lands.queue;
-        aims = lands.aims;
-        batch = lands.batch;
-        batch_place = sound.batch_place;
-        phased = (of_kind q q' w s sound lands.same).phased;
-      }
+      assumption (subst (λ a. IsSeated w.index a s.config.workers s.seats.items) (ap (λ k. k.armed) (sym lands.same)) sound.seated, lands, sound, of_kind q q' w s sound lands.same)
 
 module _ {B L : Type 0} (left : B → L) (spot : L → Option Said → Spot) where
   pub turned : (q : Place) (w w' : Worker) (s s' : Shared B) (e : Event) →
@@ -237,8 +204,6 @@ module _ {B L : Type 0} (left : B → L) (spot : L → Option Said → Spot) whe
   turned q w w' s s' e sound event on shares closed seats is to beside moves =
       let q' : Place = w'.place in
       let w1 : Worker = record w { place = q'; countdown = w'.countdown; picks = w'.picks; spinner = w'.spinner; slept = w'.slept; moments = with_read w'.moments.read w.moments; searching = w'.searching; rng = w'.rng; root_ready = w'.root_ready; hand = w'.hand; loot = w'.loot } in
-      let s1 : Shared B = record s { seats = s'.seats; idle = s'.idle; global = s'.global } in
-      let shows : visible w' ≡ visible w = ap visible on.same in
       let own : own_of w' ≡ own_of w1 = ap own_of on.same in (
         grind (arith, view_found),
         sound_on q w w' s s' sound on shares (by_length (beside.spares (w.index + 1) (next_other w.index)).many) to,

@@ -29,7 +29,7 @@ keeps_untold = grind (arith, append-nil, told_still, wide_still, rooted_told)
 positive_there : (n : ℕ) → nat_lt 0 n ≡ not (n == 0)
 positive_there n = grind (arith, nat_tests)
 
-empty_map : {A C : Type 0} (f : A → C) (xs : List A) → is_empty (map f xs) ≡ (length xs == 0)
+pub empty_map : {A C : Type 0} (f : A → C) (xs : List A) → is_empty (map f xs) ≡ (length xs == 0)
 empty_map f [] = refl
 empty_map f (x ∷ xs) = sym (zero_false (length xs))
 

@@ -1,5 +1,5 @@
 -- Who waits for a request changes, or nobody does any more, by which it may be cancelled: what that leaves as it was.
-use Rattle.std.proofs.{Common.{◌≡◌, ◌≢◌, ◌⊎◌, inl, ⊎_elim, ℕ, ◌==◌, Bool, true, false, List, [], length, Option, Some, None, IsSome, refl, sym, ap, subst, ◌∙◌, slice_get, is_some}, lemmas.{Bool.{false≢true, eq-eqb}, List.length-set}}
+use Rattle.std.{proofs.{Common.{◌≡◌, ◌≢◌, ◌⊎◌, inl, ⊎_elim, ℕ, ◌==◌, Bool, true, false, List, [], length, Option, Some, None, IsSome, refl, sym, ap, subst, ◌∙◌, slice_get, is_some}, lemmas.{Bool.{false≢true, eq-eqb}, List.length-set}}, specs.Prelude.◌≤◌}
 use Rattle.std.proofs.Common.{arith}
 use Rattle.exec_base.{specs.{Slab.{IsPast, Slab, value_at, written}, declared.slab.{Id.Id}}, proofs.Slots.{Updates-write, past-write}}
 use Rattle.exec_time.specs.declared.timers.Sleeper.{Sleeper as Sleeping}
@@ -120,23 +120,20 @@ module _ (i : ℕ) (n : Names) (d d' : Driving Reply Reply) (zs : Slab (Sleeping
 
   pub named_watched : IsNamed i n d zs rs ss → IsNamed i n d' zs rs' ss
   named_watched named =
-      record {
-        requests = λ x some.
-            let old = named.requests x (some_before x some) in
-            let new = after (number_in n.requests.items x) old.0 old.1 in
-            (new.0, new.1, ap (λ y. y.id.0) new.2 ∙ old.2, ap (λ y. y.shown.worker) new.2 ∙ old.3);
-        timers = named.timers;
-        alike = λ x it y live found. rw (by.start, by.tick) (alike_now named x it y live found);
-        over = λ j y found mine none.
-            let old = before j y found in
-            let gone : waiter_at d'.requests old.o.id.0 ≡ None = subst (λ z. waiter_at d'.requests z.0 ≡ None) (ap (λ z. z.id) old.is) none in
-            let was : waiter_at d.requests old.o.id.0 ≡ None = by_name old.o.id.0 id (λ differs. ap waiter_of (sym (by.others old.o.id.0 differs)) ∙ gone)
-            (λ same. ap (waiter_at d.requests) same ∙ gone_before (waiter_at d.requests id) refl by.waits (ap (waiter_at d'.requests) (sym same) ∙ gone)) in
-            ap (λ z. is_resolved z.shown.phase) old.is ∙ named.over j old.o old.at (sym (ap (λ z. z.shown.worker) old.is) ∙ mine) was;
-        submitted = submitted_watched named.submitted;
-        slots = rw by.slots named.slots;
-        beds = named.beds;
-      }
+      let requests : (id : Id) → IsSome (value_at d'.requests id) → (r : Record) × (slice_get rs' (number_in n.requests.items id) ≡ Some r) × (r.id.0 ≡ id) × (r.shown.worker ≡ i) = λ x some.
+      let old = named.requests x (some_before x some) in
+      let new = after (number_in n.requests.items x) old.0 old.1 in
+      (new.0, new.1, ap (λ y. y.id.0) new.2 ∙ old.2, ap (λ y. y.shown.worker) new.2 ∙ old.3) in
+      let alike : (id : Id) (it : Waiter Reply Reply) (r : Record) → waiter_at d'.requests id ≡ Some it → slice_get rs' (number_in n.requests.items id) ≡ Some r → IsAlike d'.wheel.start d'.wheel.tick it r.shown =
+      λ x it y live found. rw (by.start, by.tick) (alike_now named x it y live found) in
+      let over : (k : ℕ) (r : Record) → slice_get rs' k ≡ Some r → r.shown.worker ≡ i → waiter_at d'.requests r.id.0 ≡ None → is_resolved r.shown.phase ≡ true = λ j y found mine none.
+      let old = before j y found in
+      let gone : waiter_at d'.requests old.o.id.0 ≡ None = subst (λ z. waiter_at d'.requests z.0 ≡ None) (ap (λ z. z.id) old.is) none in
+      let was : waiter_at d.requests old.o.id.0 ≡ None = by_name old.o.id.0 id (λ differs. ap waiter_of (sym (by.others old.o.id.0 differs)) ∙ gone)
+      (λ same. ap (waiter_at d.requests) same ∙ gone_before (waiter_at d.requests id) refl by.waits (ap (waiter_at d'.requests) (sym same) ∙ gone)) in
+      ap (λ z. is_resolved z.shown.phase) old.is ∙ named.over j old.o old.at (sym (ap (λ z. z.shown.worker) old.is) ∙ mine) was in
+      let slots : length d'.requests.slots ≤ length n.requests.items = rw by.slots named.slots in
+      assumption (requests, alike, over, submitted_watched named.submitted, slots, named)
 
   pub over_watched : (ended : List ℕ) (unreleased others : ℕ) → AreOver i ended unreleased others rs → AreOver i ended unreleased others rs'
   over_watched = grind (arith, after)
@@ -231,10 +228,6 @@ module _ (i : ℕ) (n : Names) (d d' : Driving Reply Reply) (zs : Slab (Sleeping
             (by.cancels x among);
       }
 
-  -- who waits for what is there still asks for its hint
-  asks_here : (o : Option (Waiter Reply Reply)) → waiter_at d.requests id ≡ o → Rewatched o (waiter_at d'.requests id) → (it : Waiter Reply Reply) → waiter_at d'.requests id ≡ Some it → (x : Waiter Reply Reply) × (waiter_at d.requests id ≡ Some x) × (it.request ≡ x.request)
-  asks_here = grind arith
-
   pub known_watched : (opens : List OpenState) → IsKnown i n.requests.items d.requests opens rs → IsKnown i n.requests.items d'.requests opens rs'
   known_watched opens known =
       known_on i n.requests.items n.requests.items d.requests d'.requests opens opens rs rs' by.eases.past by.back
@@ -254,7 +247,6 @@ module _ (i : ℕ) (n : Names) (d d' : Driving Reply Reply) (zs : Slab (Sleeping
         asks = record { driver = λ h. inl h; kind = ap (λ z. z.shown.operation.kind) old.is; target = ap (λ z. z.shown.operation.target) old.is; unrefused = λ h. sym (ap (λ z. z.shown.operation.unrefused) old.is) ∙ h };
       }))
       (λ same.
-      let was = asks_here (waiter_at d.requests id) refl by.waits it (ap (waiter_at d'.requests) (sym same) ∙ live) in
       grind arith))
       known
 

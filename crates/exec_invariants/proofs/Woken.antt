@@ -128,14 +128,7 @@ wakes s = by s.last refl
         let s' : RingState = record s { wakes = suc m } in
         let one : min (s.wakes + 1) (2 ^ 64 - 1) ≡ suc m = counted_up s.wakes 18446744073709551614 in
         let it : Wakes s s' = record {
-          raises = record {
-            size = refl;
-            staged = refl;
-            flying = refl;
-            busy = refl;
-            landed = operates_wakes xs (suc m) ∙ sym (operates_wakes xs s.wakes);
-            others = trailing_wakes 0 xs (suc m) ∙ sym (trailing_wakes 0 xs s.wakes);
-          };
+          raises = assumption (operates_wakes xs (suc m) ∙ sym (operates_wakes xs s.wakes), trailing_wakes 0 xs (suc m) ∙ sym (trailing_wakes 0 xs s.wakes));
           shown = λ armed none.
               ap (λ b. record { armed = s.armed; last = s.last; told = b; ended = behind_end (completions s'); kept = s.raised }) (told_wakes false xs m)
               ∙ ap (λ e. record { armed = s.armed; last = s.last; told = true; ended = e; kept = s.raised }) (behind_wakes xs (suc m) ∙ sym (behind_wakes xs s.wakes))
@@ -156,5 +149,3 @@ raise_same = grind (arith, raised_by, wakes)
 
 pub raise_polled : (s : RingState) (a : Bool) → IsPolled s a → IsPolled (with_wake s) a
 raise_polled = grind (arith, wakes, raised_by)
-
--- AN ENTER

@@ -58,26 +58,11 @@ poll_taken_in s none free = by s.raised refl
     by true kept =
         let s1 : RingState = record s { armed = true; raised = false } in
         let it = wakes s1 in
-        let done : Acknowledges s (woken s1) 0 1 = record {
-          size = it.raises.size;
-          staged = it.raises.staged;
-          busy = it.raises.busy;
-          others = it.raises.others ∙ plus_none (trailing 0 (completions s));
-          landed = it.raises.landed;
-          poll = it.shown refl none ∙ sym (poll_by true kept);
-          count = it.count refl ∙ counted;
-        } in
+        let done : Acknowledges s (woken s1) 0 1 = assumption (it.raises.others ∙ plus_none (trailing 0 (completions s)), it.shown refl none ∙ sym (poll_by true kept), it.count refl ∙ counted, it.raises) in
         subst (λ r. Acknowledges s r 0 1) (sym (ap (λ b. if b then woken s1 else (record s { armed = true })) kept)) done
     by false kept =
-        let done : Acknowledges s (record s { armed = true }) 0 1 = record {
-          size = refl;
-          staged = refl;
-          busy = refl;
-          others = omega arith;
-          landed = refl;
-          poll = sym (poll_by false kept);
-          count = counted;
-        } in
+        let others : trailing 0 (completions (record s { armed = true })) ≡ trailing 0 (completions s) + 0 = omega arith in
+        let done : Acknowledges s (record s { armed = true }) 0 1 = assumption (others, sym (poll_by false kept), counted) in
         subst (λ r. Acknowledges s r 0 1) (sym (ap (λ b. if b then woken (record s { armed = true; raised = false }) else (record s { armed = true })) kept)) done
 
 -- one entry
@@ -92,25 +77,20 @@ polled_both false n p few = let same : 0 + n ≡ n = omega arith in rw same refl
 fold_taken : (es : List Submission) (s : RingState) → AreTagged es → polls_in es + (one_if s.armed + ends_in (completions s)) ≤ 1 → Acknowledges s (fold taken_in s es) (cancels_in es) (polls_in es)
 fold_taken [] s tagged few = none_acknowledged s
 fold_taken (e ∷ es) s tagged few =
+    let add_both : (a b c : ℕ) → (a + b) + c ≡ a + (b + c) = λ a b c. omega arith in
     let one = one_taken e.window.kind s e tagged.0 (omega arith) in
     let more = fold_taken es (taken_in s e) tagged.1 (let count = one.count in omega arith) in
     grind (arith, polled_both)
-  where
-    add_both : (a b c : ℕ) → (a + b) + c ≡ a + (b + c)
-    add_both a b c = omega arith
 
 -- the whole queue, of a ring whose driver knows whether the wake poll is under way
 pub all_acknowledged : (s : RingState) (a : Bool) → IsPolled s a → AreTagged s.staged → Acknowledges (record s { staged = [] }) (all_taken s) (cancels_in s.staged) (polls_in s.staged)
 all_acknowledged s a polled tagged = fold_taken s.staged (record s { staged = [] }) tagged (let most = one_most a in omega (arith, polled, most))
 
 pub enter_shown : (s : RingState) (a : Bool) → IsPolled s a → AreTagged s.staged → wake_poll_in (all_taken s) ≡ poll_taken a (wake_poll_in s)
-enter_shown s a polled tagged = (all_acknowledged s a polled tagged).poll ∙ by a polled s.armed refl (behind_end (completions s)) refl
-  where
-    p : WakePoll
-    p = wake_poll_in s
-
-    by : (a : Bool) → IsPolled s a → (b : Bool) → s.armed ≡ b → (e : Option ℕ) → behind_end (completions s) ≡ e → polled_times (polls_in s.staged) p ≡ poll_taken a p
-    by = grind (arith, ended_some, ended_none)
+enter_shown s a polled tagged =
+    let p : WakePoll = wake_poll_in s in
+    let by : (a : Bool) → IsPolled s a → (b : Bool) → s.armed ≡ b → (e : Option ℕ) → behind_end (completions s) ≡ e → polled_times (polls_in s.staged) p ≡ poll_taken a p = grind (arith, ended_some, ended_none) in
+    (all_acknowledged s a polled tagged).poll ∙ by a polled s.armed refl (behind_end (completions s)) refl
 
 pub enter_polled : (s : RingState) (a : Bool) → IsPolled s a → AreTagged s.staged → IsPolled (all_taken s) a
 enter_polled s a polled tagged =

@@ -35,11 +35,7 @@ module _ {S F : Type 0} where
 
   sweeps_from : (ps : List Posted) (d : Driving S F) → SweepsFrom ps d (swept_from ps d)
   sweeps_from [] d =
-      record {
-        shape = refl;
-        left = sym (ap after_controls (sym (append-nil (replicate d.ring.wakes (wake_completion true)))) ∙ skip_wakes d.ring.wakes []);
-        armed = sym (ap (λ cs. armed_through cs d.armed) (sym (append-nil (replicate d.ring.wakes (wake_completion true)))) ∙ armed_past d.ring.wakes [] d.armed);
-      }
+      assumption (sym (ap after_controls (sym (append-nil (replicate d.ring.wakes (wake_completion true)))) ∙ skip_wakes d.ring.wakes []), sym (ap (λ cs. armed_through cs d.armed) (sym (append-nil (replicate d.ring.wakes (wake_completion true)))) ∙ armed_past d.ring.wakes [] d.armed))
   sweeps_from (p ∷ ps) d = grind (arith, after_controls, one_spelled, skip_wakes, armed_through, armed_past, sweeps_from ps (noted p.completion d))
 
   pub sweeps : (d : Driving S F) → SweepsTo d (swept d)

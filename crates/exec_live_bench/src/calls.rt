@@ -1,6 +1,6 @@
 //! What the owner of a run queue does.
 
-ghost use Rattle.std.specs.Prelude.{◌≡◌, ◌≢◌, ◌≤◌, ◌<◌, [], false};
+ghost use Rattle.std.specs.Prelude.{◌≡◌, ◌≤◌, ◌<◌, [], false};
 ghost use Rattle.exec_live_idle.specs.{Idle.{knows, IsSeatOf}, Live.first_view};
 ghost use Rattle.exec_live_queue.specs.{Kinds.{first_of, handed}, Lent.{left_of, lender}};
 

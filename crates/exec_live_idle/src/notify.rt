@@ -8,7 +8,7 @@
 //! count and done nothing, and a worker may have published itself since. So whoever returns the last
 //! count looks again. Ports `notify` and `notify_global` of `commonware_runtime`'s `iouring::idle`.
 
-ghost use Rattle.std.specs.Prelude.{◌≡◌, ℕ, ◌<◌, ◌≤◌, ◌+◌, IsTrue, IsFalse};
+ghost use Rattle.std.specs.Prelude.{◌≡◌, ℕ, ◌<◌, ◌≤◌, IsTrue, IsFalse};
 ghost use Rattle.exec_live_idle.specs.{Idle.{knows, IsSeatOf, IsSame}, Notify.{Kicked, Notified, HoldsLess, WokeNobody, HandedOver}};
 
 use crate::seat::{Idle, IdleSeat};

@@ -8,8 +8,8 @@
 //! Where a count is there, the worker waits without a look at the run queues: whoever holds the
 //! count finds the backlog, or hands the duty on with its last return.
 
-ghost use Rattle.std.specs.Prelude.{◌≡◌, ◌≢◌, ◌+◌, ◌-◌, ◌<◌, ◌≤◌, ◌⊎◌, true, false, IsTrue, IsFalse, not, ◌↔◌, if◌then◌else◌, None};
-ghost use Rattle.exec_live_idle.specs.{Idle.{knows, IsSame}, Plays.{published, withdrawn, counted}, Notify.HoldsStill, Search.{Leaves, Shows, Parks, LooksTo, SearchesTo}};
+ghost use Rattle.std.specs.Prelude.{◌≡◌, ◌-◌, ◌<◌, ◌⊎◌, true, false, IsTrue, IsFalse, not, ◌↔◌, None};
+ghost use Rattle.exec_live_idle.specs.{Idle.{knows, IsSame}, Plays.{published, withdrawn}, Notify.HoldsStill, Search.{Leaves, Shows, Parks, LooksTo, SearchesTo}};
 ghost use Rattle.exec_words.specs.declared.idle.Park.TheVariants.{Wait, Run};
 
 use crate::backlog::Backlog;

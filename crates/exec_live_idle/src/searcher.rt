@@ -6,9 +6,9 @@
 //! call says in which it may be made. What it reaches of the pool, and its own run queue, are lent
 //! to each call. Ports the `Searcher` of `commonware_runtime`'s `iouring::idle`.
 
-ghost use Rattle.std.specs.Prelude.{◌≡◌, ◌+◌, ◌*◌, ◌%◌, ◌^◌, ◌<◌, ◌≤◌, ◌⊎◌, true, false, IsTrue, IsFalse, if◌then◌else◌};
+ghost use Rattle.std.specs.Prelude.{◌≡◌, ◌+◌, ◌*◌, ◌%◌, ◌^◌, ◌<◌, ◌≤◌, ◌⊎◌, true, false, IsTrue, IsFalse};
 ghost use Rattle.exec_base.specs.Io.{Rose};
-ghost use Rattle.exec_live_idle.specs.{Idle.{knows, IsSeatOf, IsSame}, Plays.{published, withdrawn, counted}, Search.{xorshift, counts_of, MaySearch, MayNot, Scans, Skips, Leaves, Reruns, Finds, Parks}};
+ghost use Rattle.exec_live_idle.specs.{Idle.{knows, IsSeatOf, IsSame}, Plays.{published, counted}, Search.{xorshift, counts_of, MaySearch, Scans, Skips}};
 
 use crate::backlog::Backlog;
 use crate::seat::{FreeSeat, Idle, IdleSeat};

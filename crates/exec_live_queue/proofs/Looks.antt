@@ -1,6 +1,7 @@
 -- The owner's loads of the head keep the rule.
-use Rattle.exec_live_queue.{proofs.{Words.{◌≡◌, ℕ, ◌+◌, ◌/◌, ◌%◌, ◌<◌, ◌≤◌, List, [], ◌∷◌, length, replicate, refl, ap, ◌∙◌, le_refl, arith, none, some, get_elem?, length-replicate, Option, None, State, step, homes_after, Allows, View, Owns, head_word, words_of, Kept, LiveQueue, Sat, room, hand, saw, out, laid, Outside, Homes}, Hands.{take_before, take_behind, take_valid, take_carried, take_length, all_free}, Rebuild.{Gives, rebuilt, owner_steps}}, specs.Plays.take_all}
+use Rattle.exec_live_queue.{proofs.{Words.{◌≡◌, ℕ, ◌+◌, ◌/◌, ◌%◌, ◌<◌, ◌≤◌, List, [], length, replicate, refl, ap, ◌∙◌, le_refl, arith, none, some, get_elem?, length-replicate, Option, None, State, step, homes_after, Allows, View, Owns, head_word, words_of, Kept, LiveQueue, Sat, room, hand, saw, out, laid, Outside, Homes}, Hands.{take_before, take_behind, take_valid, take_carried, take_length, all_free}, Rebuild.{Gives, rebuilt, owner_steps}}, specs.Plays.take_all}
 use Rattle.std.proofs.lemmas.{Nat.{div-mul-add, mod-mul-add}, List.append-nil}
+pub use Rattle.std.proofs.lemmas.List.{nil_from_length}
 
 -- the head that was found is taken apart again
 pub count_of_word : (real gap : ℕ) → gap < 512 → head_word real gap / 512 ≡ real
@@ -32,7 +33,3 @@ module _ {T : Type 0} where
   pub lays : (start : ℕ) (id : ℕ) (me : Sat T) (f : ℕ → ℕ) → ((r : ℕ) → f r ≤ r) → me.0.stage ≡ Owns → me.0.own.aside ≡ 0 → me.0.own.out_len ≡ 0 → me.1 ≡ []
       → Allows (LiveQueue start) 256 id me 11 (λ n. n) (laid f (step 256 11 0 0 none) me)
   lays start id me f most owns aside none_out empty = owner_steps start id 11 me [] (λ n. n) (laid f (step 256 11 0 0 none) me) owns empty (λ s k at0. lays_here start me f most owns aside none_out s k at0)
-
-pub nothing_left : {X : Type 0} (xs : List X) → length xs ≡ 0 → xs ≡ []
-nothing_left [] e = refl
-nothing_left (x ∷ xs) e = absurd (omega arith)

@@ -1,5 +1,5 @@
 -- Values that go from slot to slot: what a seat carries after each of them.
-use Rattle.exec_live_queue.proofs.{Words.{◌≡◌, ℕ, suc, ◌+◌, ◌%◌, ◌<◌, List, [], ◌∷◌, ◌++◌, length, map, replicate, sym, refl, ap, ◌∙◌, subst, length-append, append_assoc, arith, replicate_more, length-replicate, map-append, length-map, none, Option, Some, None, slice_get, step, rest, View, Sat, hand, returned, values_of, AtRest, HasLooked, AtHand, Fills, Empties}, Hands.turned_on, Looks.nothing_left}
+use Rattle.exec_live_queue.proofs.{Words.{◌≡◌, ℕ, suc, ◌+◌, ◌%◌, ◌<◌, List, [], ◌∷◌, ◌++◌, length, map, replicate, sym, refl, ap, ◌∙◌, subst, length-append, append_assoc, arith, replicate_more, length-replicate, map-append, length-map, none, Option, Some, None, slice_get, step, rest, View, Sat, hand, returned, values_of, AtRest, HasLooked, AtHand, Fills, Empties}, Hands.turned_on, Looks.nil_from_length}
 use Rattle.std.{proofs.Common.append-nil, specs.Prelude.drop}
 
 module _ {T : Type 0} where
@@ -83,4 +83,4 @@ module _ {T : Type 0} where
 
   pub carry_end : (m : Sat T) (v : View T) (at : ℕ) (m1 : Sat T) (w : View T) (tail r i count : ℕ) (all : List T) → Carrying m v at m1 w tail r all i → length all ≡ count → i ≡ count → Empties m v at count [] × Fills m1 w tail r all
   carry_end m v at m1 w tail r i count all c len is = let n = filling_count m1 w tail r i all c.0 c.1 in
-      let dry : c.0 ≡ [] = nothing_left c.0 (omega arith) in let done = fill_all m1 w tail r i all c.0 c.1 dry in grind arith
+      let dry : c.0 ≡ [] = nil_from_length c.0 (omega arith) in let done = fill_all m1 w tail r i all c.0 c.1 dry in grind arith

@@ -3,7 +3,7 @@
 //! Each call is the transition of the same name of `exec_words`' `PureQueue`, in one action. What a
 //! contract sees is that queue, and the values that an overflow still has to hand out.
 
-ghost use Rattle.std.specs.Prelude.{◌≡◌, ◌+◌, ◌^◌, ◌≤◌, ◌↔◌, [], ◌∷◌, length, drop, slice_get, IfOk, IfNone, IfSome, IsTrue};
+ghost use Rattle.std.specs.Prelude.{◌≡◌, ◌+◌, ◌^◌, ◌≤◌, [], length, drop, slice_get, IfOk, IfNone, IfSome};
 ghost use Rattle.exec_words.specs.Queue.{room_of, fit_of, push_answer, after_push, handed_out, published};
 ghost use Rattle.exec_live_queue.specs.Alone.{TakesFront, starting};
 

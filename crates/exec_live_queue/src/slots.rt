@@ -1,6 +1,6 @@
 //! What a seat does with the slots that are out with it. No step of the table is made here.
 
-ghost use Rattle.std.specs.Prelude.{◌≡◌, None, Some};
+ghost use Rattle.std.specs.Prelude.{None, Some};
 ghost use Rattle.exec_live_queue.specs.Seats.{IsAt, SameSeat, Swapped, Fronted, FrontHas};
 
 use crate::SLOTS;

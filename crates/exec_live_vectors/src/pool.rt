@@ -1,7 +1,6 @@
 //! A fake pool: plain lists in place of its queues, and a bell that its workers hear.
 
-ghost use Rattle.std.specs.Prelude.{◌≡◌, ℕ, ◌≤◌, ◌<◌, true, slice_set};
-ghost use Rattle.exec_base.specs.Io.{Rose};
+ghost use Rattle.std.specs.Prelude.{◌≡◌, ◌≤◌, ◌<◌, true, slice_set};
 
 use crate::runs::Queues;
 use exec_live_idle::backlog::Backlog;

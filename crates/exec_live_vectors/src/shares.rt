@@ -1,6 +1,6 @@
 //! Calls on the queues of a fake pool.
 
-ghost use Rattle.std.specs.Prelude.{◌≡◌, ◌≤◌};
+ghost use Rattle.std.specs.Prelude.{◌≡◌};
 ghost use Rattle.exec_live_idle.specs.Idle.{knows, IsSeatOf};
 
 use crate::fault::Fault;

@@ -1,6 +1,6 @@
 //! The cases of a pool: the live idle set with a searcher for each worker, over a fake pool.
 
-ghost use Rattle.std.specs.Prelude.{◌≡◌, ◌≤◌, ◌^◌, false};
+ghost use Rattle.std.specs.Prelude.{◌≡◌, ◌≤◌, false};
 ghost use Rattle.exec_live_idle.specs.{Idle.{knows, IsSeatOf}, Live.first_view};
 
 use crate::fault::Fault;

@@ -1,7 +1,7 @@
 -- That no worker sleeps on work can be computed.
 use Rattle.std.proofs.Common.{◌≡◌, ℕ, zero, suc, ◌+◌, Bool, true, false, not, ◌&&◌, ◌||◌, List, [], ◌∷◌, refl, sym, subst, arith, get_or}
 use Rattle.std.specs.List.{list_all}
-use Rattle.std.proofs.lemmas.Bool.{true≢false, and_parts}
+use Rattle.std.proofs.lemmas.Bool.{true≢false, and_parts, not-true, not_from_false}
 use Rattle.exec_machine.specs.{declared.{config.Configuration.Configuration, event.Line.Line, state.MailMessage.MailMessage}, Choice.Choice, World.{World, no_own, no_seat, no_task, no_request, no_sleeper}, Tests.{all_numbered, is_empty}, Run.after_line, Progress.{all_asleep, is_task_unfinished, is_request_unfinished, is_sleeper_unfinished, is_cancel_untold, has_to_close, sleeps_for_nothing, NothingUnfinished, IsRightlyAsleep, is_nothing_unfinished, is_rightly_asleep, RightlyAsleepBy, is_always_rightly_asleep}}
 use Rattle.exec_machine.proofs.Computing.{both_true}
 
@@ -37,13 +37,6 @@ module _ {X : Type 0} where
 
   to_zero : (test : ℕ → X → Bool) (d : X) (xs : List X) → ((n : ℕ) → test n (get_or xs n d) ≡ true) → all_numbered test 0 xs ≡ true
   to_zero test d xs h = at_numbered test d xs 0 (λ n. let at : n ≡ 0 + n = omega arith in subst (λ m. test m (get_or xs n d) ≡ true) at (h n))
-
-is_false : (b : Bool) → not b ≡ true → b ≡ false
-is_false false h = refl
-is_false true h = absurd (true≢false (sym h))
-
-is_not : (b : Bool) → b ≡ false → not b ≡ true
-is_not b h = rw h refl
 
 nothing_in : (xs : List MailMessage) → is_empty xs ≡ true → xs ≡ []
 nothing_in [] h = refl
@@ -84,18 +77,18 @@ abbrev pub workers_finished : World → Bool
 workers_finished w = all_numbered (λ i seat. not (has_to_close w i seat)) 0 w.common.seats
 
 nothing_unfinished : (c : Configuration) (w : World) → is_nothing_unfinished c w ≡ true → NothingUnfinished c w
-nothing_unfinished = grind (arith, six_parts, is_false, all_at, nothing_in, from_zero)
+nothing_unfinished = grind (arith, six_parts, not-true, all_at, nothing_in, from_zero)
 
 all_finished : (c : Configuration) (w : World) → NothingUnfinished c w → is_nothing_unfinished c w ≡ true
 all_finished c w h =
     six_true (tasks_finished w) (mail_finished w) (requests_finished c w) (sleepers_finished w) (cancels_finished w) (workers_finished w)
     (record {
-      first = at_all (λ t. not (is_task_unfinished w.common t)) no_task w.common.tasks (λ t. is_not _ (h.tasks t));
+      first = at_all (λ t. not (is_task_unfinished w.common t)) no_task w.common.tasks (λ t. not_from_false _ (h.tasks t));
       second = at_all (λ seat. is_empty seat.inbox) no_seat w.common.seats (λ i. rw (h.messages i) refl);
-      third = to_zero (λ r it. not (is_request_unfinished c w r it)) no_request w.common.requests (λ r. is_not _ (h.requests r));
-      fourth = at_all (λ z. not (is_sleeper_unfinished w.common z)) no_sleeper w.common.sleepers (λ z. is_not _ (h.sleepers z));
-      fifth = at_all (λ me. not (is_cancel_untold w.common me)) no_own w.workers (λ i. is_not _ (h.cancels i));
-      sixth = to_zero (λ i seat. not (has_to_close w i seat)) no_seat w.common.seats (λ i. is_not _ (h.workers i));
+      third = to_zero (λ r it. not (is_request_unfinished c w r it)) no_request w.common.requests (λ r. not_from_false _ (h.requests r));
+      fourth = at_all (λ z. not (is_sleeper_unfinished w.common z)) no_sleeper w.common.sleepers (λ z. not_from_false _ (h.sleepers z));
+      fifth = at_all (λ me. not (is_cancel_untold w.common me)) no_own w.workers (λ i. not_from_false _ (h.cancels i));
+      sixth = to_zero (λ i seat. not (has_to_close w i seat)) no_seat w.common.seats (λ i. not_from_false _ (h.workers i));
     })
 
 implied : (a b : Bool) → (not a || b) ≡ true → a ≡ true → b ≡ true
@@ -107,12 +100,12 @@ implies true b h = h refl
 implies false b h = refl
 
 pub sound : (c : Configuration) (w : World) → is_rightly_asleep c w ≡ true → IsRightlyAsleep c w
-sound = grind (arith, and_parts, nothing_unfinished, implied, is_false, from_zero)
+sound = grind (arith, and_parts, nothing_unfinished, implied, not-true, from_zero)
 
 pub complete : (c : Configuration) (w : World) → IsRightlyAsleep c w → is_rightly_asleep c w ≡ true
 complete c w h =
     both_true (implies (all_asleep w) (is_nothing_unfinished c w) (λ all. all_finished c w (h.asleep all)))
-    (to_zero (λ i seat. not (sleeps_for_nothing w.common i seat)) no_seat w.common.seats (λ i. is_not _ (h.closing i)))
+    (to_zero (λ i seat. not (sleeps_for_nothing w.common i seat)) no_seat w.common.seats (λ i. not_from_false _ (h.closing i)))
 
 pub always : (c : Configuration) (w : World) (lines : List Line) (choices : List Choice) → is_always_rightly_asleep c w lines choices ≡ true → RightlyAsleepBy c w lines choices
 always c w [] choices h = sound c w h

@@ -1,7 +1,7 @@
 //! Worked examples of what is unfinished, and of quiet lines on end, proved by computation.
 
 ghost use Rattle.std.specs.Prelude.{◌≡◌, true, false, [], ◌∷◌, ◌++◌, Some, None};
-ghost use Rattle.exec_outcomes.specs.declared.outcome.{OpResult.TheVariants.Count, Outcome.TheVariants.Success};
+ghost use Rattle.exec_outcomes.specs.declared.outcome.{OpResult.TheVariants.Count};
 ghost use Rattle.exec_machine.specs.{declared.event.{Event.TheVariants.{Begin, Busy, Clock}, StepResult.TheVariants.{Did, Refused}}, World.{own_of, seat_of, no_open}, Progress.{quiet_bound, all_asleep, is_rightly_asleep}, Unfinished.{one_worker, the_config, at_first, with_root, with_seat, with_own, waits, asleep, with_requests, with_sleeper, with_open, at_clock, send_in, send_over, cancelled, gated_sync, until_five, with_one, napping, closing, is_right, turns, are_solo}};
 ghost use Rattle.exec_machine.specs.declared.step.Action.TheVariants as action;
 ghost use Rattle.exec_machine.specs.declared.state.WorkerPhase.TheVariants as worker;

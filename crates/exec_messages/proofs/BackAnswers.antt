@@ -5,9 +5,10 @@ use Rattle.exec_waiters.specs.{Told.is_untold, declared.deferred.{Answer.Answer,
 use Rattle.exec_task.specs.{Phases.is_polled, declared.body.Said.{Said}}
 use Rattle.exec_machine.specs.{Choice.Choice.Plain, declared.{event.Event.{Event, TheVariants.Turn}, state.Forwarding.Forwarding}, Ranges.ring_size, Tests.{is_applied, is_resolved}}
 use Rattle.exec_moves.specs.{Callback.tells_waiter, declared.{handing.{AfterCallbacks.AfterCallbacks, Heard.Heard}, place.{InCallbacks.InCallbacks, Place.Place}}, Move.move_item, State.Desk, Thing.set_answers, Told.in_order}
-use Rattle.exec_parts.{specs.{declared.parts.{mail.Reply.Reply, record.Record.Record, shared.Shared.Shared, sleeping.SleeperRecord.SleeperRecord, task_slot.TaskSlot.TaskSlot, worker.Worker.Worker}, Calls.{as_sent, IsTold}, MailTakes.{IsSentOutput, MaySendOutput, SendsOutput}, Serving.{changed_at, changed_in}, Spots.Spot, View.{common_of, completions_in, desk_of, driver_of, number_heard, numbers_of_passing, open_seen, own_of, results_in, task_seen, things_with}}, proofs.{Facts.{and_parts, same_thing, set_there}, Showing.map_kept}}
+use Rattle.exec_parts.{specs.{declared.parts.{mail.Reply.Reply, record.Record.Record, shared.Shared.Shared, sleeping.SleeperRecord.SleeperRecord, task_slot.TaskSlot.TaskSlot, worker.Worker.Worker}, Calls.{as_sent, IsTold}, MailTakes.{IsSentOutput, MaySendOutput, SendsOutput}, Serving.{changed_at, changed_in}, Spots.Spot, View.{common_of, completions_in, desk_of, driver_of, number_heard, numbers_of_passing, open_seen, own_of, results_in, task_seen, things_with}}, proofs.{Facts.{and_parts, same_Some, set_there}, Showing.map_kept}}
 use Rattle.exec_invariants.{specs.{Gates.at_gate, HoldPlaces.spare_before, Holding.{IsHolding, box_of, holder_of, nap_of, thing_of}, Rooted.{HasHeard, IsResult, IsRooted}, Names.{HasWidth, tellers}, Sound.{IsResting, SoundAt}, Whole.{HasWhole, hands_of, with_worker}, Works.Steps}, proofs.{Hearing.hears_so, HoldBeside.Handles, Keys.{names_changed, same_opens}, Lined.{gates_seen_at, map_changed, mapped, opens_same, was_sent}, Marking.sends, Recorded.request_seen, Slots.spares_slot, SlotTasks.Keeps}}
-use Rattle.exec_messages.proofs.{BackEnds.{first_in, first_there, nobody_woken, none_in}, BackHears.{HearsIt, ordinary_there}, BackHolds.thing_sent, BackMarks.{Remade, remade, remade_request}, BackOthers.{OwnTurn, spares_turned, turn_request, whole_answered}, BackPaid.{applied_is, first_rest, unsent_never, wakes_then}, BackRooted.{ToBeSent, rooted_answered, to_be_sent}, BackSends.{Sends, item_answers, numbers_set, sent_steps}, BackTurns.{Ordinary, Retasked, other_retasked, retasked}}
+use Rattle.exec_messages.proofs.{BackEnds.{first_in, first_there, nobody_woken, nil_from_length}, BackHears.{HearsIt, ordinary_there}, BackHolds.thing_sent, BackMarks.{Remade, remade, remade_request}, BackOthers.{OwnTurn, spares_turned, turn_request, whole_answered}, BackPaid.{applied_is, unsent_never, wakes_then}, BackRooted.{ToBeSent, rooted_answered, to_be_sent}, BackSends.{Sends, item_answers, numbers_set, sent_steps}, BackTurns.{Ordinary, Retasked, other_retasked, retasked}}
+use Rattle.exec_invariants.proofs.MailApplies.{split_first}
 
 -- where no other item is left, there is a result
 result_left : (a b c d e : ℕ) → a ≡ 0 → b ≡ 0 → c ≡ 0 → d ≡ 0 → ((a == 0) && (b == 0) && (c == 0) && (d == 0) && (e == 0)) ≡ false → 0 < e
@@ -25,19 +26,19 @@ module _ {B : Type 0} where
       let f = it.r.shown.forwarding in
       let applied : is_applied f ≡ true = (and_parts (is_applied f) (is_resolved it.r.shown.phase || not it.r.shown.observed) sent.goes).0 in
       let x = has.whole.holding.asked it.k (thing_of it.r) (mapped thing_of s.requests.items it.k it.r it.there) (unsent_never f applied) in
-      ordinary_there a.sender.task.0 x.0 s (same_thing x.0 a.sender.task.0 (sym x.1 ∙ it.reply.task)) x.2
+      ordinary_there a.sender.task.0 x.0 s (same_Some x.0 a.sender.task.0 (sym x.1 ∙ it.reply.task)) x.2
 
   pub may_send_output : (n : AfterCallbacks) (w : Worker) (s : Shared B) → SoundAt (Place.Callbacks InCallbacks.CallBack n) w s → HasWhole w s → 0 < length w.home.deferred.results.items → MaySendOutput w s
   may_send_output n w s sound has some =
       let answers = w.home.deferred.results.items in
       let a = first_there answers some in
-      let list : answers ≡ a.0 ∷ drop 1 answers = first_rest answers a.0 a.1 in
+      let list : answers ≡ a.0 ∷ drop 1 answers = split_first answers a.0 a.1 in
       let it : IsResult w.index a.0 s.requests.items = sound.rooted.results a.0 (first_in answers (drop 1 answers) a.0 list) in
       let hears : HearsIt a.0.sender.task.0 s = result_hears n w s a.0 (drop 1 answers) sound has list it in
       record {
         k = it.k;
         sender = a.0.sender;
-        first = λ d at. ap (λ (x : Answer Reply). x.sender) (same_thing d a.0 (sym at ∙ a.1));
+        first = λ d at. ap (λ (x : Answer Reply). x.sender) (same_Some d a.0 (sym at ∙ a.1));
         of = it.reply.of;
         some = some;
         there = slice_get_within s.tasks.items a.0.sender.task.0 hears.slot hears.there;
@@ -50,7 +51,7 @@ module _ {B L : Type 0} (left : B → L) (spot : L → Option Said → Spot) whe
   output_sent next w w' s s' e sound has nobody no_outputs no_resources no_ends some does_all =
       let answers = w.home.deferred.results.items in
       let a = first_there answers some in
-      let list = first_rest answers a.0 a.1 in
+      let list = split_first answers a.0 a.1 in
       let it : IsResult w.index a.0 s.requests.items = sound.rooted.results a.0 (first_in answers (drop 1 answers) a.0 list) in
       by_one a.0 it a.1 list (subst (λ (x : Heard). SendsOutput a.0.sender.task.0 (number_heard x) next w w' s s' e) it.reply.of (does_all a.0 a.1))
     where
@@ -85,13 +86,13 @@ module _ {B L : Type 0} (left : B → L) (spot : L → Option Said → Spot) whe
           slot' = record slot { output = sent_into slot.output a.result }
 
           one : does.r ≡ r
-          one = same_thing does.r r (sym does.request ∙ it.there)
+          one = same_Some does.r r (sym does.request ∙ it.there)
 
           requests : s'.requests.items ≡ changed_at rs k as_sent
           requests = does.requests ∙ ap (λ y. slice_set rs k (as_sent y)) one ∙ sym (ap (changed_in rs k as_sent) it.there)
 
           answer : does.answer ≡ a
-          answer = same_thing does.answer a (sym does.first ∙ first)
+          answer = same_Some does.answer a (sym does.first ∙ first)
 
           items : s'.tasks.items ≡ slice_set s.tasks.items t slot'
           items = does.tasks ∙ ap (λ (y : Answer Reply). slice_set s.tasks.items t (record slot { output = sent_into slot.output y.result })) answer
@@ -138,7 +139,7 @@ module _ {B L : Type 0} (left : B → L) (spot : L → Option Said → Spot) whe
           hears = result_hears next w s a left'.results.items sound has all it
 
           home : slot.home ≡ None
-          home = ap (λ (y : TaskSlot B). y.home) (same_thing slot hears.slot (sym does.there ∙ hears.there)) ∙ hears.home
+          home = ap (λ (y : TaskSlot B). y.home) (same_Some slot hears.slot (sym does.there ∙ hears.there)) ∙ hears.home
 
           keeps : Keeps slot slot'
           keeps = record { home = refl; number = refl; owner = refl }
@@ -177,10 +178,10 @@ module _ {B L : Type 0} (left : B → L) (spot : L → Option Said → Spot) whe
           listed = ap results_in all ∙ ap (λ m. m ∷ results_in left'.results.items) (ap number_heard it.reply.of)
 
           ended : w.names.ended.items ≡ []
-          ended = none_in w.names.ended.items (sound.told.resources ∙ no_resources)
+          ended = nil_from_length w.names.ended.items (sound.told.resources ∙ no_resources)
 
           no_completions : (desk_of w).completions ≡ []
-          no_completions = ap completions_in (none_in w.home.deferred.notes.completions.items no_ends)
+          no_completions = ap completions_in (nil_from_length w.home.deferred.notes.completions.items no_ends)
 
           at : map at_gate s1.requests.items ≡ map at_gate rs
           at = ap (map at_gate) requests ∙ map_changed at_gate rs k r as_sent it.there refl

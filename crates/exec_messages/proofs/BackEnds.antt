@@ -1,14 +1,16 @@
 -- The callbacks: the end of a sleeper is sent to its task, which waits elsewhere.
 use Rattle.std.proofs.{Common.{[], ◌≡◌, ℕ, zero, ◌+◌, ◌<◌, ◌≤◌, ◌==◌, ◌||◌, true, false, Contains, List, ◌∷◌, count_by, drop, length, map, Option, Some, nat_lt, refl, sym, ap, subst, ◌∙◌, arith, slice_get, slice_set, if◌then◌else◌}, lemmas.{List.map-set, Option.slice_get_within}}
+pub use Rattle.std.proofs.lemmas.List.{nil_from_length}
 use Rattle.exec_base.specs.declared.task_no.TaskNo.{TaskNo}
 use Rattle.exec_time.specs.declared.notes.ForwardedResult.{ForwardedResult}
 use Rattle.exec_waiters.specs.declared.deferred.Deferred.{Deferred}
 use Rattle.exec_task.specs.declared.body.Said.{Said}
 use Rattle.exec_machine.specs.{Choice.Choice.Plain, declared.{event.Event.{Event, TheVariants.Turn}, state.Forwarding.Forwarding}, Ranges.ring_size, Tests.is_applied}
 use Rattle.exec_moves.specs.{Callback.tells_waiter, declared.{handing.{AfterCallbacks.AfterCallbacks, Heard.Heard}, place.{InCallbacks.InCallbacks, Place.Place}}, Move.move_item, State.Desk, Thing.set_alarms, Told.in_order}
-use Rattle.exec_parts.{specs.{declared.parts.{mail.Reply.Reply, record.Record.Record, shared.Shared.Shared, sleeping.SleeperRecord.SleeperRecord, task_slot.TaskSlot.TaskSlot, worker.Worker.Worker}, Calls.{sleeper_sent, IsTold}, MailTakes.{IsSentEnd, MaySendEnd, SendsEnd}, Spots.Spot, View.{common_of, completions_in, desk_of, driver_of, number_heard, numbers_of_passing, own_of, results_in, things_with}}, proofs.{Facts.{and_parts, same_thing, set_there}, Showing.map_kept}}
-use Rattle.exec_invariants.{specs.{HoldPlaces.spare_before, Holding.{IsHolding, box_of, holder_of, nap_of, thing_of}, Rooted.{HasHeard, IsCompletion, IsRooted, ends_elsewhere}, Names.{HasWidth, tellers}, Sound.SoundAt, Whole.{HasWhole, Profile, hands_of, with_worker}, Works.Steps}, proofs.{Aside.{seats_same, spares_turn}, Hearing.unheard, Lined.mapped}}
-use Rattle.exec_messages.proofs.{BackHears.{HearsIt, ordinary_there}, BackHolds.nap_marked, BackMarks.{Remade, SleepsAlike, remade, remade_sleeper}, BackOthers.{OwnTurn, spares_turned, turn_sleeper, whole_sent, with_left}, BackPaid.{applied_is, first_rest, mine_then, unsent_never, wakes_then}, BackPays.{nap_was_sent, sleeper_seen}, BackRooted.{rooted_completed, to_complete}, BackSends.{Sends, item_completes, numbers_set, sent_steps}}
+use Rattle.exec_parts.{specs.{declared.parts.{mail.Reply.Reply, record.Record.Record, shared.Shared.Shared, sleeping.SleeperRecord.SleeperRecord, task_slot.TaskSlot.TaskSlot, worker.Worker.Worker}, Calls.{sleeper_sent, IsTold}, MailTakes.{IsSentEnd, MaySendEnd, SendsEnd}, Spots.Spot, View.{common_of, completions_in, desk_of, driver_of, number_heard, numbers_of_passing, own_of, results_in, things_with}}, proofs.{Facts.{and_parts, same_Some, set_there}, Showing.map_kept}}
+use Rattle.exec_invariants.{specs.{HoldPlaces.spare_before, Holding.{IsHolding, box_of, holder_of, nap_of, thing_of}, Rooted.{HasHeard, IsCompletion, IsRooted, ends_elsewhere}, Names.{HasWidth, tellers}, Sound.SoundAt, Whole.{HasWhole, Profile, hands_of, with_worker}, Works.Steps}, proofs.{Aside.{seats_same, spares_turn}, Hearing.unheard, Lined.mapped, Seen.sleeper_at}}
+use Rattle.exec_messages.proofs.{BackHears.{HearsIt, ordinary_there}, BackHolds.nap_marked, BackMarks.{Remade, SleepsAlike, remade, remade_sleeper}, BackOthers.{OwnTurn, spares_turned, turn_sleeper, whole_sent, with_left}, BackPaid.{applied_is, mine_then, unsent_never, wakes_then}, BackPays.nap_was_sent, BackRooted.{rooted_completed, to_complete}, BackSends.{Sends, item_completes, numbers_set, sent_steps}}
+use Rattle.exec_invariants.proofs.MailApplies.{split_first}
 
 pub first_there : {A : Type 0} (xs : List A) → 0 < length xs → (x : A) × (slice_get xs 0 ≡ Some x)
 first_there [] some = absurd (omega (arith, some))
@@ -16,10 +18,6 @@ first_there (x ∷ xs) some = (x, refl)
 
 pub first_in : {A : Type 0} (xs rest : List A) (x : A) → xs ≡ x ∷ rest → Contains xs x
 first_in xs rest x is = subst (λ ys. Contains ys x) (sym is) (zero, omega arith, refl)
-
-pub none_in : {A : Type 0} (xs : List A) → length xs ≡ 0 → xs ≡ []
-none_in [] none = refl
-none_in (x ∷ xs) none = absurd (omega (arith, none))
 
 -- nobody is about to be woken
 pub nobody_woken : (left' : Deferred Reply Reply) (others : Profile) (w : Worker) → left'.notes.wakes.items ≡ [] → (u : ℕ) → wakes_then others w left' w.index u ≡ 0
@@ -33,7 +31,7 @@ module _ {B : Type 0} where
   may_send_end n w s sound has some =
       let cs = w.home.deferred.notes.completions.items in
       let c = first_there cs some in
-      let list : cs ≡ c.0 ∷ drop 1 cs = first_rest cs c.0 c.1 in
+      let list : cs ≡ c.0 ∷ drop 1 cs = split_first cs c.0 c.1 in
       let it : IsCompletion w.index c.0 s.sleepers.items = sound.rooted.completions c.0 (first_in cs (drop 1 cs) c.0 list) in
       let of : c.0.sender.of ≡ Heard.Timer it.n = ap (λ (x : Reply). x.of) it.reply in
       let ends = (to_complete w.index it.n w.names (driver_of w) w.home.timers w.home.deferred s.requests.items s.sleepers.items c.0 (drop 1 cs) it.z it.there it.worker list of sound.rooted).1 in
@@ -43,7 +41,7 @@ module _ {B : Type 0} where
       record {
         z = it.n;
         sender = c.0.sender;
-        first = λ d at. ap (λ (x : ForwardedResult Reply). x.sender) (same_thing d c.0 (sym at ∙ c.1));
+        first = λ d at. ap (λ (x : ForwardedResult Reply). x.sender) (same_Some d c.0 (sym at ∙ c.1));
         of = of;
         some = some;
         there = subst (λ m. m < length s.tasks.items) (sym (ap (λ (x : Reply). x.task.0) it.reply)) (slice_get_within s.tasks.items it.z.shown.task hears.slot hears.there);
@@ -56,7 +54,7 @@ module _ {B L : Type 0} (left : B → L) (spot : L → Option Said → Spot) whe
   end_sent next w w' s s' e sound has nobody no_outputs no_resources some sends =
       let cs = w.home.deferred.notes.completions.items in
       let c = first_there cs some in
-      let list = first_rest cs c.0 c.1 in
+      let list = split_first cs c.0 c.1 in
       let it : IsCompletion w.index c.0 s.sleepers.items = sound.rooted.completions c.0 (first_in cs (drop 1 cs) c.0 list) in
       by_one c.0 it list (subst (λ (x : Reply). SendsEnd x.task.0 (number_heard x.of) next w w' s s' e) it.reply (sends c.0 c.1))
     where
@@ -91,7 +89,7 @@ module _ {B L : Type 0} (left : B → L) (spot : L → Option Said → Spot) whe
           alike = record { kept = refl }
 
           one : does.it ≡ z
-          one = same_thing does.it z (sym does.sleeper ∙ it.there)
+          one = same_Some does.it z (sym does.sleeper ∙ it.there)
 
           items : s'.sleepers.items ≡ slice_set ss n z'
           items = does.sleepers ∙ ap (λ (y : SleeperRecord). slice_set ss n (sleeper_sent y)) one
@@ -156,7 +154,7 @@ module _ {B L : Type 0} (left : B → L) (spot : L → Option Said → Spot) whe
           listed = ap completions_in all ∙ ap (λ k. k ∷ completions_in left'.notes.completions.items) (ap number_heard of)
 
           ended : w.names.ended.items ≡ []
-          ended = none_in w.names.ended.items (sound.told.resources ∙ no_resources)
+          ended = nil_from_length w.names.ended.items (sound.told.resources ∙ no_resources)
 
           by : Sends left spot next t (Heard.Timer n) w s s1 slot left'
           by = record {
@@ -195,7 +193,7 @@ module _ {B L : Type 0} (left : B → L) (spot : L → Option Said → Spot) whe
                 let me = own_of w in
                 let to : ℕ → List ℕ → List ℕ → Desk = λ task cs rs. tells_waiter size w.index me all_of next (Some task) (Heard.Timer n) (record d { completions = cs; results = rs }) in
                 ap (move_item p.config w.index me all_of d xs next) (item_completes me d n (completions_in left'.notes.completions.items) (ap (map (λ m. m.0)) nobody) (ap (nat_lt 0) no_outputs) ended listed)
-                ∙ ap (λ k. record { event = Turn; choice = Plain; desk = to k.task (drop 1 d.completions) d.results; thing = set_alarms xs (in_order n xs.alarms) }) (sleeper_seen ss n z it.there)
+                ∙ ap (λ k. record { event = Turn; choice = Plain; desk = to k.task (drop 1 d.completions) d.results; thing = set_alarms xs (in_order n xs.alarms) }) (sleeper_at ss n z it.there)
                 ∙ ap (λ cs. record { event = Turn; choice = Plain; desk = to t cs d.results; thing = set_alarms xs (in_order n xs.alarms) }) (ap (drop 1) listed)
                 ∙ ap (λ rs. record { event = Turn; choice = Plain; desk = to t (completions_in left'.notes.completions.items) rs; thing = set_alarms xs (in_order n xs.alarms) }) (sym (ap results_in results))
                 ∙ ap (λ ns. record { event = Turn; choice = Plain; desk = to t (completions_in left'.notes.completions.items) (results_in left'.results.items); thing = set_alarms xs ns }) (sym (ap (numbers_of_passing nap_was_sent 0) items ∙ numbers_set nap_was_sent ss n z z' it.there sent.0 refl));

@@ -4,7 +4,7 @@ use Rattle.exec_waiters.specs.declared.deferred.Deferred.{Deferred}
 use Rattle.exec_task.specs.{Phases.{is_idle as is_cell_idle, runnable_of}, declared.body.Said.{Said}}
 use Rattle.exec_machine.specs.{Choice.{Choice.Pays, Payer, Payer.{ByRequest, BySleeper}}, declared.event.Event.{Event, TheVariants.Wake}, Progress.Plan, Ranges.ring_size, Tests.{is_applied, is_open, is_resolved}, World.{seat_of, task_of}}
 use Rattle.exec_moves.specs.{Callback.{payer_heard, woken_by}, declared.{handing.{AfterCallbacks.AfterCallbacks, Heard.Heard}, place.{InCallbacks.InCallbacks, Place.Place}}, Move.move_at}
-use Rattle.exec_parts.{specs.{declared.parts.{mail.Reply.Reply, record.Record.Record, shared.Shared.Shared, sleeping.SleeperRecord.SleeperRecord, task_slot.TaskSlot.TaskSlot, worker.Worker.Worker}, Calls.{paying, records_paid, sleeper_paid_in, sleeper_paying, sleepers_paid}, MailTakes.{WakesHearer, queued_after, thing_heard}, Pooled.woken_slot, Serving.changed_at, Spots.Spot, Tests.next_callback_of, View.{Views, common_of, desk_of, driver_of, own_of, things_with}}, proofs.Facts.{and_parts, same_thing}}
+use Rattle.exec_parts.{specs.{declared.parts.{mail.Reply.Reply, record.Record.Record, shared.Shared.Shared, sleeping.SleeperRecord.SleeperRecord, task_slot.TaskSlot.TaskSlot, worker.Worker.Worker}, Calls.{paying, records_paid, sleeper_paid_in, sleeper_paying, sleepers_paid}, MailTakes.{WakesHearer, queued_after, thing_heard}, Pooled.woken_slot, Serving.changed_at, Spots.Spot, Tests.next_callback_of, View.{Views, common_of, desk_of, driver_of, own_of, things_with}}, proofs.Facts.{and_parts, same_Some}}
 use Rattle.exec_invariants.{specs.{Holding.{Box, IsHolding, IsOrdinary, box_of, holder_of, nap_of, thing_of}, Places.one_if, Rooted.{HasHeard, completions_of, ends_elsewhere, goes_elsewhere, is_of_request, is_of_timer, results_of}, Sound.SoundAt, Whole.{HasWhole, hands_of, with_worker}, Works.Steps}, proofs.{Lined.{mapped, unmapped}, Marking.pays}}
 use Rattle.exec_messages.proofs.{BackHolds.{nap_marked, thing_pays}, BackPaid.{by_over, fired_either, neither, over_elsewhere, shut_seen, things_paid, unpaid_elsewhere, unsent_never}, BackMarks.{SleepsAlike, count_some, remade_request, remade_sleeper}, BackOthers.{turn_request, turn_sleeper, with_left}, BackPays.{PaysBy, SleeperPaysBy, request_after, request_paid, request_things, sleeper_after, sleeper_paid, sleeper_things}, BackRooted.{rooted_paid, rooted_slept}, BackWakes.{Pays1, woken_steps}}
 
@@ -25,7 +25,7 @@ module _ {B : Type 0} where
       let f = r.shown.forwarding in
       let applied : is_applied f ≡ true = (and_parts (is_applied f) (is_resolved r.shown.phase || not r.shown.observed) goes).0 in
       let a = has.whole.holding.asked k (thing_of r) (mapped thing_of s.requests.items k r there) (unsent_never f applied) in
-      ordinary_there t a.0 s (same_thing a.0 t (sym a.1 ∙ waiter)) a.2
+      ordinary_there t a.0 s (same_Some a.0 t (sym a.1 ∙ waiter)) a.2
   hears_there t (Heard.Timer k) w s has (z, there, worker, task, ends, paid, sent) =
       let f = z.shown.forwarding in
       let applied : is_applied f ≡ true = (and_parts (is_applied f) (z.shown.fired || (z.shown.removed || z.closed)) ends).0 in

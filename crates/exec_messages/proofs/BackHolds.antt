@@ -5,7 +5,7 @@ use Rattle.exec_base.specs.{OneShot.sent as sent_into, declared.{error.Error.Err
 use Rattle.exec_request.specs.declared.output.RequestOutput.{RequestOutput}
 use Rattle.exec_machine.specs.{declared.state.Forwarding.TheVariants.Applied, Tests.is_unsent}
 use Rattle.exec_words.specs.declared.inbox.Message.{Message}
-use Rattle.exec_parts.{specs.declared.parts.{held.Held.Held, mail.Subject.Subject}, proofs.Facts.{by_number, same_thing, set_elsewhere, set_there}}
+use Rattle.exec_parts.{specs.declared.parts.{held.Held.Held, mail.Subject.Subject}, proofs.Facts.{by_number, same_Some, set_elsewhere, set_there}}
 use Rattle.exec_invariants.{specs.Holding.{Awaits, AwaitsThing, Box, Hands, HasAnswer, Holder, HoldsRequest, IsAnswerOf, IsDue, IsHeldBy, IsHolding, Nap, NapOwes, Owes, Thing, ThingOwes, holdings, under_way}, proofs.{HoldLets.redone_alone, HoldRedo.holding_redone, HoldSleeps.nap_redone, HoldSteps.{awaits_on, holdings_on, homes_on, waiters_on}}}
 use Rattle.exec_parts.specs.declared.parts.mail.Subject.TheVariants as subject
 
@@ -23,21 +23,7 @@ module _ (h : Hands) (wakes : ℕ → ℕ → ℕ) (workers : ℕ) (hs : List Ho
   pub thing_pays : PaysThing → IsHolding h workers hs ts naps boxes → IsHolding (record h { wakes = wakes }) workers hs (slice_set ts k (record r { paid = r.paid + 1 })) naps boxes
   thing_pays by old =
       redone_alone h (record h { wakes = wakes }) workers hs ts naps boxes k r (record r { paid = r.paid + 1 })
-      (record {
-        thing = by.thing;
-        worker = refl;
-        waiter = refl;
-        mail = λ m apart. refl;
-        made = λ m some. some;
-        held = λ box at fact. fact;
-        forwarded = λ box at fact. fact;
-        unsent = refl;
-        sent = λ is. old.sent k r by.thing is;
-        due = λ due. due;
-        answer = λ u o at awaits has. answer_paid o.output r (r.paid + 1) has;
-        fewer = by.fewer;
-        owes = λ i u some owes. absurd (by.unowed i u some owes);
-      }) old
+      (grind (arith, answer_paid)) old
 
 module _ (h : Hands) (wakes : ℕ → ℕ → ℕ) (workers : ℕ) (hs : List Holder) (ts : List Thing) (naps : List Nap) (boxes : List Box) (n : ℕ) (z z' : Nap) where
   -- a sleeper pays, or its end is sent
@@ -54,26 +40,11 @@ module _ (h : Hands) (wakes : ℕ → ℕ → ℕ) (workers : ℕ) (hs : List Ho
       let fired : z'.fired ≡ z.fired = ap (λ (x : Nap). x.fired) by.is in
       let removed : z'.removed ≡ z.removed = ap (λ (x : Nap). x.removed) by.is in
       nap_redone h (record h { wakes = wakes }) workers hs ts naps boxes n z z'
-      (record {
-        nap = by.nap;
-        worker = ap (λ (x : Nap). x.worker) by.is;
-        task = ap (λ (x : Nap). x.task) by.is;
-        mail = λ m past. refl;
-        made = old.made;
-        sleeps = λ unfired kept. (sym fired ∙ unfired, sym removed ∙ kept);
-        let_go = λ box at open_box few. few;
-        woken = λ box at fact. rw forwarding fact;
-        asked = λ forwarded. old.asked_too n z by.nap (ap is_unsent (sym forwarding) ∙ forwarded);
-        be = λ closed. old.let_be n z by.nap (sym (ap (λ (x : Nap). x.closed) by.is) ∙ closed);
-        sent = λ is. let it = by.sent is in (forwarding ∙ it.0, ap (λ (x : Nap). x.fired || x.removed) by.is ∙ it.1);
-        here = λ t it at awaits home.
-            let was = old.asleep t it n at awaits in
-            let same : was.0 ≡ z = same_thing was.0 z (sym was.1 ∙ by.nap) in
-            ap is_unsent forwarding ∙ sym (ap (λ (x : Nap). is_unsent x.forwarding) same) ∙ was.2.here home;
-        kept = λ t it at awaits going kept. removed ∙ kept;
-        fewer = λ i u some. inl (by.fewer i u some);
-        owes = λ i u some owes. absurd (by.unowed i u some owes);
-      }) old
+      (let here : (t : ℕ) (it : Holder) → slice_get hs t ≡ Some it → it.awaits ≡ Some (subject.Timer n) → IsSome it.home → is_unsent z'.forwarding ≡ true = λ t it at awaits home.
+      let was = old.asleep t it n at awaits in
+      let same : was.0 ≡ z = same_Some was.0 z (sym was.1 ∙ by.nap) in
+      ap is_unsent forwarding ∙ sym (ap (λ (x : Nap). is_unsent x.forwarding) same) ∙ was.2.here home in
+      grind arith) old
 
 -- THE END OF A REQUEST IS SENT to the task that waits for it
 
@@ -92,7 +63,7 @@ module _ (h : Hands) (workers : ℕ) (hs : List Holder) (ts : List Thing) (naps 
   still_waits by old =
       let due : IsDue r = inr (ap is_unsent by.applied, by.unsent) in
       let waits : Awaits (subject.Request k) t hs = old.waited k r t by.thing by.waiter due in
-      let same : waits.it ≡ it = same_thing waits.it it (sym waits.there ∙ by.there) in
+      let same : waits.it ≡ it = same_Some waits.it it (sym waits.there ∙ by.there) in
       sym (ap (λ (x : Holder). x.awaits) same) ∙ waits.awaits
 
   empty_by : (o : OneShotState (Result RequestOutput Error)) → r.sent ≡ false → HasAnswer o r → sent_into o answer ≡ Sent answer
@@ -102,7 +73,7 @@ module _ (h : Hands) (workers : ℕ) (hs : List Holder) (ts : List Thing) (naps 
   filled by old =
       let waits : it.awaits ≡ Some (subject.Request k) = still_waits by old in
       let a = old.awaiting t it k by.there waits in
-      let same : a.0 ≡ r = same_thing a.0 r (sym a.1 ∙ by.thing) in
+      let same : a.0 ≡ r = same_Some a.0 r (sym a.1 ∙ by.thing) in
       let awaits : AwaitsThing workers t k it r = subst (AwaitsThing workers t k it) same a.2 in
       empty_by it.output by.unsent (awaits.answer (ap is_unsent by.applied))
 
@@ -125,8 +96,8 @@ module _ (h : Hands) (workers : ℕ) (hs : List Holder) (ts : List Thing) (naps 
       let now : slice_get hs' t ≡ Some sent_it = set_there hs t sent_it it by.there in
       let waits : it.awaits ≡ Some (subject.Request k) = still_waits by old in
       let full : sent_into it.output answer ≡ Sent answer = filled by old in
-      let me : (u : ℕ) → Some t ≡ Some u → t ≡ u = λ u is. same_thing t u is in
-      let its : (u : ℕ) (o : Holder) → Some t ≡ Some u → slice_get hs' u ≡ Some o → sent_it ≡ o = λ u o is at. same_thing sent_it o (sym now ∙ subst (λ m. slice_get hs' m ≡ Some o) (sym (me u is)) at) in
+      let me : (u : ℕ) → Some t ≡ Some u → t ≡ u = λ u is. same_Some t u is in
+      let its : (u : ℕ) (o : Holder) → Some t ≡ Some u → slice_get hs' u ≡ Some o → sent_it ≡ o = λ u o is at. same_Some sent_it o (sym now ∙ subst (λ m. slice_get hs' m ≡ Some o) (sym (me u is)) at) in
       let same_holdings : (n : ℕ) → holdings n hs' ≡ holdings n hs = λ n. let then = holdings_on hs t it sent_it by.there n in omega (arith, then) in
       holding_redone h h workers hs hs' ts naps boxes (Some t) k r sent_thing (record {
         thing = by.thing;
@@ -154,7 +125,7 @@ module _ (h : Hands) (workers : ℕ) (hs : List Holder) (ts : List Thing) (naps 
             by_number x.number k
             (λ apart. (held.0, set_elsewhere ts k x.number sent_thing apart ∙ held.1, subst (λ v. HoldsRequest workers v o x held.0) (me u is) (subst (λ y. HoldsRequest workers t y x held.0) be (holds_out j x held.0 held.2))))
             (λ same.
-            let one : held.0 ≡ r = same_thing held.0 r (sym held.1 ∙ ap (slice_get ts) same ∙ by.thing) in (
+            let one : held.0 ≡ r = same_Some held.0 r (sym held.1 ∙ ap (slice_get ts) same ∙ by.thing) in (
               sent_thing,
               subst (λ m. slice_get ts' m ≡ Some sent_thing) (sym same) (set_there ts k sent_thing r by.thing),
               subst (λ v. HoldsRequest workers v o x sent_thing) (me u is) (subst (λ y. HoldsRequest workers t y x sent_thing) be (holds_out j x sent_thing (holds_sent t it x (subst (HoldsRequest workers t it x) one held.2)))),
@@ -164,7 +135,7 @@ module _ (h : Hands) (workers : ℕ) (hs : List Holder) (ts : List Thing) (naps 
             let be = its u o is at_u in
             let number : k ≡ n = same_request k n (sym waits ∙ ap (λ (y : Holder). y.awaits) be ∙ awaits) in
             let a = old.awaiting t it k by.there waits in
-            let one : a.0 ≡ r = same_thing a.0 r (sym a.1 ∙ by.thing) in
+            let one : a.0 ≡ r = same_Some a.0 r (sym a.1 ∙ by.thing) in
             let was : AwaitsThing workers t k it r = subst (AwaitsThing workers t k it) one a.2 in
             let new : AwaitsThing workers t k sent_it sent_thing =
             record { waiter = was.waiter; near = was.near; here = was.here; newest = was.newest; answer = λ forwarded. subst (λ x. HasAnswer x sent_thing) (sym full) (refl, answered answer by.answers) } in (
@@ -184,7 +155,7 @@ module _ (h : Hands) (workers : ℕ) (hs : List Holder) (ts : List Thing) (naps 
               by_number u t
                   (λ other. record { it = o.1.it; there = set_elsewhere hs t u sent_it other ∙ o.1.there; owes = owes_on by i u some o.1.it.awaits o.1.owes })
                   (λ same.
-                  let one : it ≡ o.1.it = same_thing it o.1.it (sym by.there ∙ ap (slice_get hs) (sym same) ∙ o.1.there) in
+                  let one : it ≡ o.1.it = same_Some it o.1.it (sym by.there ∙ ap (slice_get hs) (sym same) ∙ o.1.there) in
                   record {
                     it = sent_it;
                     there = subst (λ m. slice_get hs' m ≡ Some sent_it) (sym same) now;
@@ -201,4 +172,4 @@ module _ (h : Hands) (workers : ℕ) (hs : List Holder) (ts : List Thing) (naps 
       answered (Err e) is = is
 
       owes_on : SendsThing → (i u : ℕ) → 0 < h.wakes i u → (a : Option Subject) → Owes i u a ts naps boxes → Owes i u a (slice_set ts k sent_thing) naps boxes
-      owes_on = grind (arith, by_number, set_elsewhere, same_thing)
+      owes_on = grind (arith, by_number, set_elsewhere, same_Some)

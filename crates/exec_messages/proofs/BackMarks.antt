@@ -7,7 +7,7 @@ use Rattle.exec_waiters.specs.{States.pending_count, declared.deferred.Deferred.
 use Rattle.exec_driver.specs.{Driving.Driving}
 use Rattle.exec_machine.specs.{declared.config.Configuration.Configuration, Tests.{is_asleep, is_resolved}}
 use Rattle.exec_moves.specs.declared.{handing.AfterCallbacks.AfterCallbacks, place.{InCallbacks.InCallbacks, InService.InService, Place.Place}}
-use Rattle.exec_parts.{specs.{declared.parts.{letters.Letters.Letters, mail.{Reply.Reply, Subject.Subject}, names.Names.Names, record.Record.Record, shared.Shared.Shared, sleeping.SleeperRecord.SleeperRecord, worker.{Moments.Moments, Worker.Worker}}, Records.number_in, Serving.changed_at, Calls.IsTold, View.driver_of}, proofs.Facts.{by_number, same_thing, set_elsewhere, set_there}}
+use Rattle.exec_parts.{specs.{declared.parts.{letters.Letters.Letters, mail.{Reply.Reply, Subject.Subject}, names.Names.Names, record.Record.Record, shared.Shared.Shared, sleeping.SleeperRecord.SleeperRecord, worker.{Moments.Moments, Worker.Worker}}, Records.number_in, Serving.changed_at, Calls.IsTold, View.driver_of}, proofs.Facts.{by_number, same_Some, set_elsewhere, set_there}}
 use Rattle.exec_invariants.{specs.{Carried.IsCarried, Due.{AreAsleep, IsAsleepAs, IsDue}, Flown.HasFlown, Gates.{AreLinedUp, IsKnown}, HoldPlaces.spare_before, Holding.Mail, Rooted.IsRooted, Sound.{AreOver, HasLetters, IsLetter, IsMineIn, IsMyMail, SoundAt}, Names.{HasWidth, IsNamed, tellers}}, proofs.{Carries.carried_marked, FiringNames.naps_set, Flown.flown_marked, Known.known_marked, Lined.{KeepsAt, lined_at, map_changed}, Marking.{Marks, before, due_marked, mark_if, marked, marks_if, named_marked}, ServedEnds.{count_both, count_one}}}
 
 -- what is in a list counts there
@@ -70,7 +70,7 @@ module _ (f : Record → Record) (marks : Marks f) (released : (r : Record) → 
       }
 
   pub marked_at : (r : Record) → slice_get rs q ≡ Some r → KeepsAt rs (changed_at rs q f)
-  marked_at = grind (arith, map_changed, before, same_thing)
+  marked_at = grind (arith, map_changed, before, same_Some)
 
   pub marked_on : AreOn rs (changed_at rs q f)
   marked_on k r there = (mark_if f (q == k) r, marked f rs q k r there, ap (λ y. y.shown.worker) (marks_if f marks (q == k) r))
@@ -85,14 +85,14 @@ alike_itself z = record { kept = refl }
 
 module _ (ss : List SleeperRecord) (n : ℕ) (z z' : SleeperRecord) (there : slice_get ss n ≡ Some z) (alike : SleepsAlike z z') where
   pub slept_was : (k : ℕ) (y : SleeperRecord) → slice_get (slice_set ss n z') k ≡ Some y → (v : SleeperRecord) × (slice_get ss k ≡ Some v) × SleepsAlike v y
-  slept_was = grind (arith, by_number, set_elsewhere, alike_itself, same_thing, set_there)
+  slept_was = grind (arith, by_number, set_elsewhere, alike_itself, same_Some, set_there)
 
   pub slept_now : (k : ℕ) (v : SleeperRecord) → slice_get ss k ≡ Some v → (y : SleeperRecord) × (slice_get (slice_set ss n z') k ≡ Some y) × SleepsAlike v y
   slept_now k v at =
       by_number k n
       (λ apart. (v, set_elsewhere ss n k z' apart ∙ at, alike_itself v))
       (λ same.
-      let is : z ≡ v = same_thing z v (sym there ∙ subst (λ m. slice_get ss m ≡ Some v) same at) in
+      let is : z ≡ v = same_Some z v (sym there ∙ subst (λ m. slice_get ss m ≡ Some v) same at) in
       (z', subst (λ m. slice_get (slice_set ss n z') m ≡ Some z') (sym same) (set_there ss n z' z there), subst (λ x. SleepsAlike x z') is alike))
 
   pub slept_on : SleepOn ss (slice_set ss n z')

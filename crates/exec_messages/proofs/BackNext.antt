@@ -4,9 +4,10 @@ use Rattle.exec_waiters.specs.declared.deferred.Deferred.{Deferred}
 use Rattle.exec_task.specs.{Phases.{is_idle as is_cell_idle, runnable_of}, declared.body.Said.{Said}}
 use Rattle.exec_machine.specs.{Choice.{Choice.Pays, Payer, Payer.{ByRequest, BySleeper}}, declared.{event.Event.{Event, TheVariants.Wake}, state.Waiting.Waiting}, Progress.Plan, Ranges.ring_size, Tests.{is_open, is_resolved, is_unsent}, World.{seat_of, task_of}}
 use Rattle.exec_moves.specs.{Callback.{payer_of, woken_by}, declared.{handing.AfterCallbacks.AfterCallbacks, place.{InCallbacks.InCallbacks, Place.Place}}, Move.{move_at, move_item}, State.Desk}
-use Rattle.exec_parts.{specs.{declared.parts.{mail.Reply.Reply, record.Record.Record, shared.Shared.Shared, sleeping.SleeperRecord.SleeperRecord, task_slot.TaskSlot.TaskSlot, worker.Worker.Worker}, Calls.{paying, records_paid, sleeper_paid_in, sleeper_paying, sleepers_paid, IsTold}, MailTakes.{WakesNext, queued_after}, Pooled.woken_slot, Serving.changed_at, Spots.Spot, Tests.next_callback_of, View.{Views, common_of, desk_of, driver_of, own_of, task_seen, things_with}}, proofs.Facts.same_thing}
+use Rattle.exec_parts.{specs.{declared.parts.{mail.Reply.Reply, record.Record.Record, shared.Shared.Shared, sleeping.SleeperRecord.SleeperRecord, task_slot.TaskSlot.TaskSlot, worker.Worker.Worker}, Calls.{paying, records_paid, sleeper_paid_in, sleeper_paying, sleepers_paid, IsTold}, MailTakes.{WakesNext, queued_after}, Pooled.woken_slot, Serving.changed_at, Spots.Spot, Tests.next_callback_of, View.{Views, common_of, desk_of, driver_of, own_of, task_seen, things_with}}, proofs.Facts.same_Some}
 use Rattle.exec_invariants.{specs.{HoldPlaces.spare_before, Holding.{Box, IsHolding, IsOwed, NapOwes, Owes, Thing, ThingOwes, MayHave, Nap, awaited_in, box_of, holder_of, nap_of, thing_of}, Names.{HasWidth, tellers}, Sound.SoundAt, Whole.{HasWhole, hands_of, with_worker}, Works.Steps}, proofs.{Lined.{mapped, unmapped}, Marking.pays, Slots.task_there}}
-use Rattle.exec_messages.proofs.{BackHolds.{nap_marked, thing_pays}, BackPaid.{closing_seen, fewer_wakes, fired_either, first_of_three, first_rest, item_wakes, mine_or_ordinary, neither, rooted_wakes, second_of_three, shut_seen, things_paid, wakes_then, wide_wakes}, BackMarks.{SleepsAlike, remade_request, remade_sleeper}, BackOthers.{turn_request, turn_sleeper, with_left}, BackPays.{PaysBy, SleeperPaysBy, request_after, request_paid, request_things, sleeper_after, sleeper_paid, sleeper_things, some_resolved, unpaid_once}, BackRooted.{rooted_paid, rooted_slept}, BackWakes.{Pays1, woken_steps}, MailOwes.counted_first}
+use Rattle.exec_messages.proofs.{BackHolds.{nap_marked, thing_pays}, BackPaid.{closing_seen, fewer_wakes, fired_either, first_of_three, item_wakes, mine_or_ordinary, neither, rooted_wakes, second_of_three, shut_seen, things_paid, wakes_then, wide_wakes}, BackMarks.{SleepsAlike, remade_request, remade_sleeper}, BackOthers.{turn_request, turn_sleeper, with_left}, BackPays.{PaysBy, SleeperPaysBy, request_after, request_paid, request_things, sleeper_after, sleeper_paid, sleeper_things, some_resolved, unpaid_once}, BackRooted.{rooted_paid, rooted_slept}, BackWakes.{Pays1, woken_steps}, MailOwes.counted_first}
+use Rattle.exec_invariants.proofs.MailApplies.{split_first}
 
 module _ {B L : Type 0} (left : B → L) (spot : L → Option Said → Spot) where
   pub next_woken : (next : AfterCallbacks) (w w' : Worker) (s s' : Shared B) (e : Event) → SoundAt (Place.Callbacks InCallbacks.CallBack next) w s → HasWhole w s → WakesNext next w w' s s' e → Steps left spot w s e w' s'
@@ -31,7 +32,7 @@ module _ {B L : Type 0} (left : B → L) (spot : L → Option Said → Spot) whe
       boxes = map box_of s.seats.items
 
       all : w.home.deferred.notes.wakes.items ≡ it.n ∷ left'.notes.wakes.items
-      all = first_rest w.home.deferred.notes.wakes.items it.n it.first ∙ ap (λ xs. it.n ∷ xs) (sym it.wakes)
+      all = split_first w.home.deferred.notes.wakes.items it.n it.first ∙ ap (λ xs. it.n ∷ xs) (sym it.wakes)
 
       same : left' ≡ record w.home.deferred { notes = record w.home.deferred.notes { wakes = left'.notes.wakes } }
       same = ap (λ (x : Worker). x.home.deferred) it.worker
@@ -66,7 +67,7 @@ module _ {B L : Type 0} (left : B → L) (spot : L → Option Said → Spot) whe
       owes : Owes w.index t (awaited_in slot.waiting) (map thing_of rs) (map nap_of ss) boxes
       owes =
           let mine = unmapped holder_of s.tasks.items t owed.it owed.there in
-          let is : mine.0 ≡ slot = same_thing mine.0 slot (sym mine.1 ∙ it.there) in
+          let is : mine.0 ≡ slot = same_Some mine.0 slot (sym mine.1 ∙ it.there) in
           let awaits : owed.it.awaits ≡ awaited_in slot.waiting = sym (ap (λ y. y.awaits) mine.2) ∙ ap (λ (y : TaskSlot B). awaited_in y.waiting) is in
           subst (λ a. Owes w.index t a (map thing_of rs) (map nap_of ss) boxes) awaits owed.owes
 
@@ -99,7 +100,7 @@ module _ {B L : Type 0} (left : B → L) (spot : L → Option Said → Spot) whe
               let rooted = rooted_wakes w.index w.names w w.home.deferred left' (changed_at rs k paying) ss same
               (rooted_paid w.index w.names (driver_of w) w.home.timers w.home.deferred rs ss k r there never (λ unapplied. o.unpaid) (λ a has_it of. o.unpaid) sound.rooted) in
               let a = has.whole.holding.awaiting t (holder_of slot) k (mapped holder_of s.tasks.items t slot it.there) (ap awaited_in wait) in
-              let one : a.0 ≡ thing_of r = same_thing a.0 (thing_of r) (sym a.1 ∙ mapped thing_of rs k r there) in
+              let one : a.0 ≡ thing_of r = same_Some a.0 (thing_of r) (sym a.1 ∙ mapped thing_of rs k r there) in
               let its : (j : ℕ) → slot.home ≡ Some j → j ≡ w.index = λ j home.
               let near : a.0.worker ≡ j = subst (λ h. MayHave s.config.workers h a.0.worker) home a.2.near in
               sym near ∙ ap (λ (y : Thing). y.worker) one ∙ o.worker in
@@ -133,7 +134,7 @@ module _ {B L : Type 0} (left : B → L) (spot : L → Option Said → Spot) whe
                       fewer = few.fewer;
                       unowed = λ i u some ow.
                           let worker : i ≡ w.index = sym ow.worker ∙ o.worker in
-                          let task : u ≡ t = same_thing u t (sym ow.waiter ∙ o.waiter) in
+                          let task : u ≡ t = same_Some u t (sym ow.waiter ∙ o.waiter) in
                           let more : 0 < wakes_then others w left' w.index t = subst (λ j. 0 < wakes_then others w left' j t) worker (subst (λ v. 0 < wakes_then others w left' i v) task some) in
                           let none = few.none in
                           omega (arith, more, none);
@@ -159,7 +160,7 @@ module _ {B L : Type 0} (left : B → L) (spot : L → Option Said → Spot) whe
               let rooted = rooted_wakes w.index w.names w w.home.deferred left' rs (slice_set ss k z') same
               (rooted_slept w.index w.names (driver_of w) w.home.timers w.home.deferred rs ss k z there never (λ unapplied. o.unpaid) (λ c has_it of. o.unpaid) sound.rooted) in
               let a = has.whole.holding.asleep t (holder_of slot) k (mapped holder_of s.tasks.items t slot it.there) (ap awaited_in wait) in
-              let one : a.0 ≡ nap_of z = same_thing a.0 (nap_of z) (sym a.1 ∙ mapped nap_of ss k z there) in
+              let one : a.0 ≡ nap_of z = same_Some a.0 (nap_of z) (sym a.1 ∙ mapped nap_of ss k z there) in
               let its : (j : ℕ) → slot.home ≡ Some j → j ≡ w.index = λ j home.
               let near : a.0.worker ≡ j = subst (λ h. MayHave s.config.workers h a.0.worker) home a.2.near in
               sym near ∙ ap (λ (y : Nap). y.worker) one ∙ o.worker in

@@ -1,13 +1,13 @@
 -- The callbacks: what a wake, or an end that is sent elsewhere, leaves of other workers, and of the balances of all.
-use Rattle.std.proofs.{Common.{◌≡◌, ◌≢◌, inr, ℕ, ◌+◌, ◌==◌, Bool, true, false, List, length, map, count_by, Option, Some, None, refl, sym, ap, subst, ◌∙◌, arith, slice_get, slice_set, option_to_list, if◌then◌else◌}, lemmas.Bool.false≢true}
+use Rattle.std.proofs.{Common.{◌≡◌, ◌≢◌, inr, ℕ, ◌+◌, ◌==◌, Bool, true, false, List, length, map, count_by, Option, Some, None, refl, sym, ap, subst, ◌∙◌, arith, slice_get, slice_set, option_to_list, if◌then◌else◌}}
 use Rattle.exec_base.specs.declared.task_no.TaskNo.{TaskNo}
 use Rattle.exec_waiters.specs.declared.deferred.Deferred.{Deferred}
 use Rattle.exec_task.specs.{Phases.{is_idle as is_cell_idle, runnable_of}, declared.runnable.Runnable.Runnable}
 use Rattle.exec_machine.specs.Tests.{is_unsent}
 use Rattle.exec_moves.specs.{declared.{handing.AfterCallbacks.AfterCallbacks, place.{InCallbacks.InCallbacks, Place.Place}}, Seen.polls_at}
-use Rattle.exec_parts.{specs.{declared.parts.{mail.Reply.Reply, record.Record.Record, shared.Shared.Shared, sleeping.SleeperRecord.SleeperRecord, task_slot.TaskSlot.TaskSlot, worker.Worker.Worker}, Pooled.woken_slot, Serving.changed_at}, proofs.Facts.{not_same, same_thing, set_elsewhere, set_there}}
-use Rattle.exec_invariants.{specs.{Carried.HasRoom, Gates.HaveGates, Holding.{IsHolding, box_of, holder_of, nap_of, thing_of}, Places.{claims_at, clears_at, drops_at, has_count_at, is_published_at, no_drops, one_if, removes_at}, Sound.{AreHome, SoundAt}, Spares.{RecordsEndure, SleepersEndure, Spares}, Whole.{HasOne, IsWhole, Profile, hands_of, is_number, runnables_in, with_worker}}, proofs.{Aside.{SameProfile, profile_same, spared}, Cells.{complete_woken, polled_woken}, HoldBeside.{Handles, whole_handled}, Lined.{KeepsAt, gates_at, lined_at}, Marking.{Marks, mark_if, marked, marks_if, was_marked}, PoolKept.{gates_same, unremoved}, Slots.{Balances, holders_set, spares_slot, whole_slot}, SlotTasks.IsAfter, Spared.{records_endure, sleepers_endure}, SparedRecord.{sleeper_spared, spared_same}, Stirs.{keeps_woken, unwoken}}}
-use Rattle.exec_messages.proofs.BackMarks.{SleepsAlike, marked_at, slept_now}
+use Rattle.exec_parts.{specs.{declared.parts.{mail.Reply.Reply, record.Record.Record, shared.Shared.Shared, sleeping.SleeperRecord.SleeperRecord, task_slot.TaskSlot.TaskSlot, worker.Worker.Worker}, Pooled.woken_slot, Serving.changed_at}, proofs.Facts.{not_same, same_Some, set_elsewhere, set_there}}
+use Rattle.exec_invariants.{specs.{Carried.HasRoom, Gates.HaveGates, Holding.{IsHolding, box_of, holder_of, nap_of, thing_of}, Places.{claims_at, clears_at, drops_at, has_count_at, is_published_at, no_drops, one_if, removes_at}, Sound.{AreHome, SoundAt}, Spares.{RecordsEndure, SleepersEndure, Spares}, Whole.{HasOne, IsWhole, Profile, hands_of, is_number, runnables_in, with_worker}}, proofs.{Aside.{SameProfile, profile_same, spared}, Cells.{complete_woken, polled_woken}, HoldBeside.{Handles, whole_handled}, Lined.{KeepsAt, gates_at, lined_at}, Marking.{Marks, mark_if, marked, marks_if, was_marked}, PoolKept.{gates_same, unremoved}, Slots.{Balances, holders_set, spares_slot, whole_slot}, Spared.{records_endure, sleepers_endure}, SparedRecord.{sleeper_spared, spared_same}, Stirs.{keeps_woken, unwoken}}}
+use Rattle.exec_messages.proofs.{BackMarks.{SleepsAlike, marked_at, slept_now}, MailRoots.at_start}
 
 same_at : (rs rs' : List Record) → rs' ≡ rs → KeepsAt rs rs'
 same_at = grind arith
@@ -23,9 +23,6 @@ pub record Reads (q : Place) : Type 0 where
   pub counts : has_count_at q ≡ false
   pub published : is_published_at q ≡ false
   pub drops : drops_at q ≡ no_drops
-
-begin_after : IsAfter Place.BeginTurn
-begin_after = record { open_still = refl; closing = refl; served = refl; unarmed = refl; calls = refl; begins = refl; queue = λ x h. h; searching = λ b h. tt; aims = λ c i seats. tt; batch = λ ms h. absurd (false≢true h); spare = refl; cancels = refl; sends_cancel = refl; heard = refl; bare = refl; claims = refl; counts = refl; published = refl; clears = refl; passes = refl; joins = refl }
 
 alike_by : (w w' : Worker) (q' : Place) (f h : Option Runnable) (left' : Deferred Reply Reply) → Reads q' → w' ≡ record w { place = q'; root_ready = f; hand = h; home = record w.home { deferred = left' } } → SameProfile (with_left (record w { place = Place.BeginTurn; root_ready = f; hand = h }) left') w'
 alike_by = grind arith
@@ -48,7 +45,7 @@ module _ {B : Type 0} where
   turn_request i k s s1 r f marks released there mine requests sleepers =
       let rs = s.requests.items in
       let apart : (j : ℕ) (x : Record) → slice_get rs j ≡ Some x → x.shown.worker ≢ i → (k == j) ≡ false = λ j x at other.
-      not_same k j (λ same. other (let is : x ≡ r = same_thing x r (sym at ∙ ap (slice_get rs) (sym same) ∙ there) in ap (λ y. y.shown.worker) is ∙ mine)) in
+      not_same k j (λ same. other (let is : x ≡ r = same_Some x r (sym at ∙ ap (slice_get rs) (sym same) ∙ there) in ap (λ y. y.shown.worker) is ∙ mine)) in
       record {
         records = λ j x at other. ap (λ xs. slice_get xs j) requests ∙ marked f rs k j x at ∙ ap (λ b. Some (mark_if f b x)) (apart j x at other);
         records_only = λ j x at other.
@@ -74,11 +71,11 @@ module _ {B : Type 0} where
         records = λ j r at other. ap (λ rs. slice_get rs j) requests ∙ at;
         records_only = λ j r at other. ap (λ rs. slice_get rs j) (sym requests) ∙ at;
         sleepers = λ j x at other.
-            let apart : j ≢ k = λ same. other (let is : x ≡ z = same_thing x z (sym at ∙ ap (slice_get ss) same ∙ there) in ap (λ (y : SleeperRecord). y.shown.worker) is ∙ mine) in
+            let apart : j ≢ k = λ same. other (let is : x ≡ z = same_Some x z (sym at ∙ ap (slice_get ss) same ∙ there) in ap (λ (y : SleeperRecord). y.shown.worker) is ∙ mine) in
             ap (λ zs. slice_get zs j) sleepers ∙ set_elsewhere ss k j z' apart ∙ at;
         sleepers_only = λ j x at other.
             let found : slice_get (slice_set ss k z') j ≡ Some x = ap (λ zs. slice_get zs j) (sym sleepers) ∙ at in
-            let apart : j ≢ k = λ same. other (let is : x ≡ z' = same_thing x z' (sym found ∙ ap (slice_get (slice_set ss k z')) same ∙ now_there) in ap (λ (y : SleeperRecord). y.shown.worker) is ∙ ap (λ (y : SleeperRecord). y.shown.worker) alike.kept ∙ mine) in
+            let apart : j ≢ k = λ same. other (let is : x ≡ z' = same_Some x z' (sym found ∙ ap (slice_get (slice_set ss k z')) same ∙ now_there) in ap (λ (y : SleeperRecord). y.shown.worker) is ∙ ap (λ (y : SleeperRecord). y.shown.worker) alike.kept ∙ mine) in
             sym (set_elsewhere ss k j z' apart) ∙ found;
         keeps = same_at s.requests.items s1.requests.items requests;
         endure = records_endure s.requests.items s1.requests.items requests;
@@ -89,7 +86,7 @@ module _ {B : Type 0} where
 
   -- and a task's slot
   pub spares_turned : (i j : ℕ) (s s1 : Shared B) → j ≢ i → OwnTurn i s s1 → HasRoom s1.requests.items s.store → Spares j s (record s { tasks = s1.tasks }) → Spares j s (record s { tasks = s1.tasks; requests = s1.requests; sleepers = s1.sleepers })
-  spares_turned = grind (arith, lined_at, spared, same_thing, spared_same, sleeper_spared)
+  spares_turned = grind (arith, lined_at, spared, same_Some, spared_same, sleeper_spared)
 
   -- a task that was woken, as others have it
   pub spares_woken : (i j t : ℕ) (s s1 : Shared B) (slot : TaskSlot B) → j ≢ i → slice_get s.tasks.items t ≡ Some slot → s1.tasks.items ≡ slice_set s.tasks.items t (woken_slot slot) → ((k : ℕ) → slot.home ≡ Some k → k ≡ i) → AreHome s.config.workers (length s.seats.items) s.tasks.items
@@ -143,13 +140,16 @@ module _ {B : Type 0} where
       let st : Shared B = record s { tasks = s1.tasks } in
       let first : IsWhole (with_worker others wq) st =
       whole_slot t Place.BeginTurn w f h s s1 slot (woken_slot slot) others (sound.loot.none refl) (ap claims_at sound.here) (ap has_count_at sound.here) (ap is_published_at sound.here) (ap clears_at sound.here)
-      (λ home polls. let never : None ≡ Some t = polls in absurd (cc)) begin_after there items (woken_balances x n t w s slot h sound hands) whole in
+      (λ home polls. let never : None ≡ Some t = polls in absurd (cc)) at_start there items (woken_balances x n t w s slot h sound hands) whole in
       let gates : HaveGates (with_worker others wq).drops_by s.opens s1.requests.items = gates_at s.requests.items s1.requests.items keeps (with_worker others wq).drops_by s.opens first.gates in
       let holders : map holder_of s1.tasks.items ≡ map holder_of s.tasks.items = ap (map holder_of) items ∙ holders_set s.tasks.items t slot (woken_slot slot) there (ap (λ b. record (holder_of slot) { over = b }) (complete_woken slot.cell.phase)) in
       let held : IsHolding (hands_of (with_worker others (with_left wq left'))) s.config.workers (map holder_of s1.tasks.items) (map thing_of s1.requests.items) (map nap_of s1.sleepers.items) (map box_of s.seats.items) =
       subst (λ hs. IsHolding (hands_of (with_worker others (with_left w left'))) s.config.workers hs (map thing_of s1.requests.items) (map nap_of s1.sleepers.items) (map box_of s.seats.items)) (sym holders) holding in
       let second : IsWhole (with_worker others (with_left wq left')) (record st { requests = s1.requests; sleepers = s1.sleepers }) = whole_told others wq left' st s1 gates held first in
       subst (λ y. IsWhole y (record s { tasks = s1.tasks; requests = s1.requests; sleepers = s1.sleepers })) (sym (profile_same others (with_left wq left') w' (alike_by w w' q' f h left' reads is))) second
+
+  alike_sent : (x : InCallbacks) (n : AfterCallbacks) (w w' : Worker) (q' : Place) (s : Shared B) (left' : Deferred Reply Reply) → SoundAt (Place.Callbacks x n) w s → Reads q' → w' ≡ record w { place = q'; home = record w.home { deferred = left' } } → SameProfile (with_left w left') w'
+  alike_sent = grind arith
 
   -- an end was sent, and no task's slot changed
   pub whole_sent : (x : InCallbacks) (n : AfterCallbacks) (w w' : Worker) (q' : Place) (s s1 : Shared B) (left' : Deferred Reply Reply) (others : Profile) → SoundAt (Place.Callbacks x n) w s → Reads q'
@@ -159,19 +159,7 @@ module _ {B : Type 0} where
   whole_sent x n w w' q' s s1 left' others sound reads is keeps holding whole =
       let gates : HaveGates (with_worker others w).drops_by s.opens s1.requests.items = gates_at s.requests.items s1.requests.items keeps (with_worker others w).drops_by s.opens whole.gates in
       let second : IsWhole (with_worker others (with_left w left')) (record s { requests = s1.requests; sleepers = s1.sleepers }) = whole_told others w left' s s1 gates holding whole in
-      let alike : SameProfile (with_left w left') w' = subst (SameProfile (with_left w left')) (sym is)
-      (record {
-        hand = refl;
-        loot = refl;
-        polls = reads.polls ∙ sym (ap polls_at sound.here);
-        claims = reads.claims ∙ sym (ap claims_at sound.here);
-        searching = refl;
-        counts = reads.counts ∙ sym (ap has_count_at sound.here);
-        index = refl;
-        published = reads.published ∙ sym (ap is_published_at sound.here);
-        drops = reads.drops ∙ sym (ap drops_at sound.here);
-        told = record { batch = refl; letters = refl; left = refl };
-      }) in
+      let alike = alike_sent x n w w' q' s left' sound reads is in
       subst (λ y. IsWhole y (record s { requests = s1.requests; sleepers = s1.sleepers })) (sym (profile_same others (with_left w left') w' alike)) second
 
   -- or that of the task to which it was sent got it
@@ -187,19 +175,7 @@ module _ {B : Type 0} where
       let y : Profile = with_worker others w in
       let same_wakes : (with_worker others (with_left w left')).wakes ≡ y.wakes = wakes_same others w left' wakes in
       let profile : with_worker others (with_left w left') ≡ y = ap (λ (k : ℕ → ℕ → ℕ). record y { wakes = k }) same_wakes in
-      let alike : SameProfile (with_left w left') w' = subst (SameProfile (with_left w left')) (sym is)
-      (record {
-        hand = refl;
-        loot = refl;
-        polls = reads.polls ∙ sym (ap polls_at sound.here);
-        claims = reads.claims ∙ sym (ap claims_at sound.here);
-        searching = refl;
-        counts = reads.counts ∙ sym (ap has_count_at sound.here);
-        index = refl;
-        published = reads.published ∙ sym (ap is_published_at sound.here);
-        drops = reads.drops ∙ sym (ap drops_at sound.here);
-        told = record { batch = refl; letters = refl; left = refl };
-      }) in
+      let alike = alike_sent x n w w' q' s left' sound reads is in
       subst (λ z. IsWhole z st) (sym (profile_same others (with_left w left') w' alike ∙ profile)) first
     where
       wakes_same : (others : Profile) (w : Worker) (left' : Deferred Reply Reply) → left'.notes.wakes.items ≡ w.home.deferred.notes.wakes.items → (with_worker others (with_left w left')).wakes ≡ (with_worker others w).wakes

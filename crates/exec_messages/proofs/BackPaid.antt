@@ -1,19 +1,15 @@
 -- The callbacks: the next of the wakes that are left, and the wake of a task to which an end was sent, are steps.
-use Rattle.std.{proofs.{Common.{[], ◌≡◌, ℕ, ◌+◌, ◌<◌, ◌≤◌, ◌==◌, ◌&&◌, ◌||◌, Bool, true, false, not, cond, List, ◌∷◌, count_by, drop, map, Option, Some, None, refl, sym, ap, ◌∙◌, arith, slice_get, slice_set, if◌then◌else◌}, lemmas.{Bool.{false≢true, eq-eqb}, List.map-set}}, specs.Vec.vec_capacity}
+use Rattle.std.{proofs.{Common.{[], ◌≡◌, ℕ, ◌+◌, ◌<◌, ◌≤◌, ◌==◌, ◌&&◌, ◌||◌, Bool, true, false, not, cond, List, ◌∷◌, count_by, map, Option, Some, refl, sym, ap, ◌∙◌, arith, slice_get, slice_set, if◌then◌else◌}, lemmas.{Bool.{false≢true, eq-eqb}, List.map-set}}, specs.Vec.vec_capacity}
 use Rattle.exec_base.specs.declared.task_no.TaskNo.{TaskNo}
 use Rattle.exec_waiters.specs.declared.deferred.Deferred.{Deferred}
 use Rattle.exec_task.specs.declared.body.Said.{Said}
 use Rattle.exec_machine.specs.{declared.state.Forwarding.Forwarding, Progress.Plan, Tasks.is_unpaid, Tests.{is_applied, is_open, is_unsent}, World.{Own as Books, seat_of}}
 use Rattle.exec_moves.specs.{Callback.{Item.Wakes, item_next}, declared.place.Place.Place, State.Desk}
-use Rattle.exec_parts.{specs.{declared.parts.{mail.Reply.Reply, names.Names.Names, record.Record.Record, shared.Shared.Shared, sleeping.SleeperRecord.SleeperRecord, task_slot.TaskSlot.TaskSlot, worker.Worker.Worker}, Calls.paying, Serving.{changed_at, changed_in}, Spots.Spot, View.{Views, common_of, driver_of}}, proofs.Facts.{same_thing}}
+use Rattle.exec_parts.{specs.{declared.parts.{mail.Reply.Reply, names.Names.Names, record.Record.Record, shared.Shared.Shared, sleeping.SleeperRecord.SleeperRecord, task_slot.TaskSlot.TaskSlot, worker.Worker.Worker}, Calls.paying, Serving.{changed_at, changed_in}, Spots.Spot, View.{Views, common_of, driver_of}}}
 use Rattle.exec_invariants.{specs.{Holding.{IsClosing, box_of, thing_of}, Rooted.IsRooted, Names.HasWidth, Sound.SoundAt, Whole.{IsWhole, Profile, wakes_with, with_worker}, Works.Suits}, proofs.{Lined.mapped, Seats.own_seat, ServedEnds.{count_both, count_one}}}
 use Rattle.exec_messages.proofs.BackOthers.{with_left}
 
 -- LISTS
-
-pub first_rest : {A : Type 0} (xs : List A) (x : A) → slice_get xs 0 ≡ Some x → xs ≡ x ∷ drop 1 xs
-first_rest [] x at = absurd (let no : None ≡ Some x = at in cc)
-first_rest (y ∷ ys) x at = let is : y ≡ x = same_thing y x at in ap (λ z. z ∷ ys) is
 
 counts_here : (t : ℕ) (n : TaskNo) (rest : List TaskNo) (b : Bool) → (n.0 == t) ≡ b → count_by (λ m. m.0 == t) (n ∷ rest) ≡ cond b 1 0 + count_by (λ (m : TaskNo). m.0 == t) rest
 counts_here t n rest b is =

@@ -1,19 +1,16 @@
 -- The callbacks: what pays a wake. A request or a sleeper of the worker's own that is over, or that nobody holds any more.
-use Rattle.std.{proofs.{Common.{◌≡◌, ℕ, ◌==◌, ◌&&◌, ◌||◌, Bool, true, not, List, map, Option, Some, is_some, refl, sym, ap, ◌∙◌, slice_get, slice_index_or, slice_set}, lemmas.{Bool.{eq-eqb}, List.map-set, Option.{get_or_from_slice_get, slice_get-map}}}, specs.Option.option_map}
+use Rattle.std.{proofs.{Common.{◌≡◌, ℕ, ◌==◌, ◌&&◌, ◌||◌, Bool, true, not, map, Option, Some, is_some, refl, sym, ap, ◌∙◌, slice_get, slice_set}, lemmas.{Bool.{eq-eqb}, List.map-set}}}
 use Rattle.std.proofs.Common.{arith}
 use Rattle.exec_task.specs.declared.body.Said.{Said}
-use Rattle.exec_machine.specs.{Choice.Payer.{ByRequest, BySleeper}, declared.state.{Forwarding.Forwarding, RequestPhase.RequestPhase}, Progress.Plan, Same.is_number, Tasks.{after_payment, is_paid, is_unpaid, may_pay, request_owes, sleeper_owes}, Tests.{is_at_large, is_open, is_resolved, is_unsent}, World.{no_sleeper, request_of, seat_of, sleeper_of}}
+use Rattle.exec_machine.specs.{Choice.Payer.{ByRequest, BySleeper}, declared.state.{Forwarding.Forwarding, RequestPhase.RequestPhase}, Progress.Plan, Same.is_number, Tasks.{after_payment, is_paid, is_unpaid, may_pay, request_owes, sleeper_owes}, Tests.{is_at_large, is_open, is_resolved, is_unsent}, World.{request_of, seat_of, sleeper_of}}
 use Rattle.exec_moves.specs.declared.{handing.AfterCallbacks.AfterCallbacks, place.{InCallbacks.InCallbacks, Place.Place}}
-use Rattle.exec_parts.{specs.{declared.parts.{record.Record.Record, shared.Shared.Shared, sleeping.SleeperRecord.SleeperRecord, worker.Worker.Worker}, Calls.{paying, sleeper_paying}, Records.outcome_in, Serving.changed_at, Spots.Spot, View.{Views, common_of, open_seen, own_of, things_with}}, proofs.{Facts.both_true, Showing.map_kept}}
-use Rattle.exec_invariants.{specs.{Gates.at_gate, Sound.SoundAt, Works.Suits}, proofs.{Lined.{gates_seen_at, map_changed, opens_same, passing_same, was_sent}, Recorded.request_seen, Seeing.common_changed}}
+use Rattle.exec_parts.{specs.{declared.parts.{record.Record.Record, shared.Shared.Shared, sleeping.SleeperRecord.SleeperRecord, worker.Worker.Worker}, Calls.{paying, sleeper_paying}, Records.outcome_in, Serving.changed_at, Spots.Spot, View.{Views, common_of, open_seen, own_of, things_with}}, proofs.{Facts.and_from, Showing.map_kept}}
+use Rattle.exec_invariants.{specs.{Gates.at_gate, Sound.SoundAt, Works.Suits}, proofs.{Lined.{gates_seen_at, map_changed, opens_same, passing_same, was_sent}, Recorded.request_seen, Seeing.common_changed, Seen.sleeper_at}}
 
 -- NUMBERS of what was sent
 
 abbrev pub nap_was_sent : SleeperRecord → Bool
 nap_was_sent z = z.sent
-
-pub sleeper_seen : (zs : List SleeperRecord) (n : ℕ) (z : SleeperRecord) → slice_get zs n ≡ Some z → slice_index_or (map (λ y. y.shown) zs) n no_sleeper ≡ z.shown
-sleeper_seen zs n z there = get_or_from_slice_get (map (λ y. y.shown) zs) n z.shown no_sleeper (slice_get-map (λ y. y.shown) zs n ∙ ap (option_map (λ y. y.shown)) there)
 
 -- WHAT IS OWED
 
@@ -48,7 +45,7 @@ module _ {B L : Type 0} (left : B → L) (spot : L → Option Said → Spot) whe
   request_paid x n k t w s r sound by p vs suits =
       let cs = common_of left spot p vs s in
       let y = r.shown in
-      both_true (is_at_large (own_of w)) (request_owes cs w.index t (request_of cs k)) (large x n w s sound)
+      and_from (is_at_large (own_of w)) (request_owes cs w.index t (request_of cs k)) (large x n w s sound)
       (ap (request_owes cs w.index t) (request_seen s.requests.items k r by.there)
       ∙ owes_by w.index t (not (is_open (seat_of cs y.worker).phase)) y.worker y.waiter y.wakes_paid y.forwarding (is_resolved y.phase) (not (is_unsent y.forwarding) && not y.observed) by.mine by.waiter by.unpaid (by.over p vs suits))
 
@@ -84,8 +81,8 @@ module _ {B L : Type 0} (left : B → L) (spot : L → Option Said → Spot) whe
       let cs = common_of left spot p vs s in
       let y = z.shown in
       let shut : Bool = not (is_open (seat_of cs y.worker).phase) in
-      both_true (is_at_large (own_of w)) (sleeper_owes cs w.index t (sleeper_of cs k)) (large x n w s sound)
-      (ap (sleeper_owes cs w.index t) (sleeper_seen s.sleepers.items k z by.there)
+      and_from (is_at_large (own_of w)) (sleeper_owes cs w.index t (sleeper_of cs k)) (large x n w s sound)
+      (ap (sleeper_owes cs w.index t) (sleeper_at s.sleepers.items k z by.there)
       ∙ sleeper_owes_by w.index t shut y.worker y.task y.wakes_paid y.forwarding (y.fired || y.removed || shut) by.mine by.task by.unpaid (by.over p vs suits))
 
   -- other memory of the same requests
@@ -94,7 +91,7 @@ module _ {B L : Type 0} (left : B → L) (spot : L → Option Said → Spot) whe
 
   pub sleeper_after : (k : ℕ) (s s1 : Shared B) (z : SleeperRecord) → slice_get s.sleepers.items k ≡ Some z → s1.requests.items ≡ s.requests.items → s1.sleepers.items ≡ slice_set s.sleepers.items k (sleeper_paying z) → (p : Plan) (vs : Views) (polls : Option ℕ)
       → after_payment (common_of left spot p vs s) polls (BySleeper k) ≡ common_of left spot p vs (record s { requests = s1.requests; sleepers = s1.sleepers })
-  sleeper_after = grind (arith, sleeper_seen, map-set, same_requests)
+  sleeper_after = grind (arith, sleeper_at, map-set, same_requests)
 
   pub sleeper_things : (k : ℕ) (s s1 : Shared B) (z : SleeperRecord) → slice_get s.sleepers.items k ≡ Some z → s1.requests.items ≡ s.requests.items → s1.sleepers.items ≡ slice_set s.sleepers.items k (sleeper_paying z) → (vs : Views)
       → things_with vs (record s { requests = s1.requests; sleepers = s1.sleepers }) ≡ things_with vs s

@@ -1,14 +1,14 @@
 -- The callbacks: what the worker keeps to be told, once a request or a sleeper has paid a wake, or its end was sent elsewhere.
 use Rattle.std.proofs.{Common.{◌≡◌, ℕ, suc, ◌+◌, ◌≤◌, ◌==◌, ◌||◌, Bool, true, false, Contains, List, [], ◌∷◌, cond, count_by, Some, Result, Ok, Err, refl, sym, ap, subst, ◌∙◌, arith, slice_get, slice_set}, lemmas.Bool.eq-eqb}
-use Rattle.exec_base.specs.{Slab.Slab, declared.error.Error.Error}
+use Rattle.exec_base.specs.{Slab.{Slab, value_at}, declared.{error.Error.Error, slab.Id.Id}}
 use Rattle.exec_request.specs.declared.output.RequestOutput.{RequestOutput}
-use Rattle.exec_time.specs.declared.{notes.ForwardedResult.ForwardedResult, timers.{Observer.Observer as Watching, Sleeper.Sleeper as Sleeping}}
+use Rattle.exec_time.specs.declared.{notes.ForwardedResult.ForwardedResult, timers.{Sleeper.Sleeper as Sleeping}}
 use Rattle.exec_waiters.specs.declared.{deferred.{Answer.Answer, Deferred.Deferred}}
 use Rattle.exec_driver.specs.Driving.{Driving}
 use Rattle.exec_machine.specs.Tests.{is_applied, is_resolved}
 use Rattle.exec_moves.specs.declared.handing.Heard.{Heard}
-use Rattle.exec_parts.{specs.{declared.parts.{mail.Reply.Reply, names.Names.Names, record.Record.Record, sleeping.SleeperRecord.SleeperRecord}, Calls.{as_sent, paying, sleeper_paying, sleeper_sent}, Records.number_in, Serving.changed_at}, proofs.Facts.{by_number, not_same, same_thing, set_elsewhere, set_there}}
-use Rattle.exec_invariants.{specs.{Holding.{IsAnswerOf, thing_of}, Places.one_if, Rooted.{IsKept, IsReplyFor, IsRooted, Pays, SleeperPays, StandsAt, Watches, completions_of, ends_elsewhere, goes_elsewhere, is_of_request, is_of_timer, results_of}}, proofs.{Marking.{mark_if, mark_kept, marked, was_marked}, ServedEnds.{count_both, count_one}}}
+use Rattle.exec_parts.{specs.{declared.parts.{mail.Reply.Reply, names.Names.Names, record.Record.Record, sleeping.SleeperRecord.SleeperRecord}, Calls.{as_sent, paying, sleeper_paying, sleeper_sent}, Records.number_in, Serving.changed_at}, proofs.Facts.{by_number, not_same, same_Some, set_elsewhere, set_there}}
+use Rattle.exec_invariants.{specs.{Holding.{IsAnswerOf, thing_of}, Places.one_if, Rooted.{IsCompletion, IsKept, IsReplyFor, IsResult, IsRooted, Pays, SleeperPays, StandsAt, Watches, completions_of, ends_elsewhere, goes_elsewhere, is_of_request, is_of_timer, results_of}}, proofs.{Marking.{mark_if, mark_kept, marked, was_marked}, ServedEnds.{count_both, count_one}}}
 
 -- OF RECORDS, one of which is marked
 
@@ -170,7 +170,10 @@ rooted_answered i n d zs left left' rs ss q r a there mine is of notes h =
 module _ (ss : List SleeperRecord) (q : ℕ) (z z' : SleeperRecord) (there : slice_get ss q ≡ Some z) where
   -- a fact of each that is kept where it changed
   each : (P : ℕ → SleeperRecord → Type 0) → (P q z → P q z') → ((k : ℕ) (v : SleeperRecord) → slice_get ss k ≡ Some v → P k v) → (k : ℕ) (y : SleeperRecord) → slice_get (slice_set ss q z') k ≡ Some y → P k y
-  each = grind (arith, by_number, set_elsewhere, same_thing, set_there)
+  each = grind (arith, by_number, set_elsewhere, same_Some, set_there)
+
+  each_at : (k : ℕ) (P : SleeperRecord → Type 0) → (P z → P z') → ((v : SleeperRecord) → slice_get ss k ≡ Some v → P v) → (y : SleeperRecord) → slice_get (slice_set ss q z') k ≡ Some y → P y
+  each_at = grind (arith, by_number, set_elsewhere, same_Some, set_there)
 
   -- one that stood there
   now_slept : (P : ℕ → SleeperRecord → Type 0) → (P q z → P q z') → (k : ℕ) (v : SleeperRecord) → slice_get ss k ≡ Some v → P k v → (y : SleeperRecord) × (slice_get (slice_set ss q z') k ≡ Some y) × P k y
@@ -178,7 +181,7 @@ module _ (ss : List SleeperRecord) (q : ℕ) (z z' : SleeperRecord) (there : sli
       by_number k q
       (λ apart. (v, set_elsewhere ss q k z' apart ∙ at, h))
       (λ same.
-      let is : z ≡ v = same_thing z v (sym there ∙ subst (λ m. slice_get ss m ≡ Some v) same at) in
+      let is : z ≡ v = same_Some z v (sym there ∙ subst (λ m. slice_get ss m ≡ Some v) same at) in
       (z', subst (λ m. slice_get (slice_set ss q z') m ≡ Some z') (sym same) (set_there ss q z' z there), subst (λ m. P m z') (sym same) (one (subst (P q) (sym is) (subst (λ m. P m v) same h)))))
 
 -- what is to be sent to who waits elsewhere for sleeper m
@@ -193,29 +196,22 @@ pub rooted_slept : (i : ℕ) (n : Names) (d : Driving Reply Reply) (zs : Slab (S
     → IsRooted i n d zs left rs ss → IsRooted i n d zs left rs (slice_set ss q (sleeper_paying z))
 rooted_slept i n d zs left rs ss q z there over once unpaid h =
     let z' : SleeperRecord = sleeper_paying z in
-    record {
-      kept = h.kept;
-      ready = h.ready;
-      replies = h.replies;
-      watches = λ id it y live found.
-          let k = number_in n.timers.items id in
-          each_at k (λ v. Watches k it.observer v) (λ is w. watches_paid k it w) (λ v at. h.watches id it v live at) y found;
-      pays = h.pays;
-      sleeper_pays = λ k y found own. each ss q z z' there (λ m v. v.shown.worker ≡ i → SleeperPays v) (λ was mine. pays_once) h.sleeper_pays k y found own;
-      results = h.results;
-      completions = λ c has.
-          let x = h.completions c has in
-          let new = now_slept ss q z z' there (Completes i c) (λ was. record { worker = was.worker; reply = was.reply; paid = let none = unpaid c has (ap (λ (s : Reply). s.of) was.reply) in omega (arith, none) }) x.n x.z x.there (record { worker = x.worker; reply = x.reply; paid = x.paid }) in
-          record { n = x.n; z = new.0; there = new.1; worker = new.2.worker; reply = new.2.reply; paid = new.2.paid };
-      sent = h.sent;
-      sleeper_sent = λ k y found own. each ss q z z' there (λ m v. v.shown.worker ≡ i → completions_of m left + one_if v.sent ≡ one_if (ends_elsewhere v)) (λ was. was) h.sleeper_sent k y found own;
-    }
+    let watches : (id : Id) (it : Sleeping Reply) (y : SleeperRecord) → value_at zs id ≡ Some it → slice_get (slice_set ss q z') (number_in n.timers.items id) ≡ Some y → Watches (number_in n.timers.items id) it.observer y = λ id it y live found.
+    each_at ss q z z' there (number_in n.timers.items id) (λ v. Watches (number_in n.timers.items id) it.observer v) (watches_paid (number_in n.timers.items id) it) (λ v at. h.watches id it v live at) y found in
+    let completions : (c : ForwardedResult Reply) → Contains left.notes.completions.items c → IsCompletion i c (slice_set ss q z') = λ c has.
+    let x = h.completions c has in
+    let new = now_slept ss q z z' there (Completes i c) (λ was. record { worker = was.worker; reply = was.reply; paid = let none = unpaid c has (ap (λ (s : Reply). s.of) was.reply) in omega (arith, none) }) x.n x.z x.there (record { worker = x.worker; reply = x.reply; paid = x.paid }) in
+    record { n = x.n; z = new.0; there = new.1; worker = new.2.worker; reply = new.2.reply; paid = new.2.paid } in
+    assumption (
+      watches,
+      each ss q z z' there (λ m v. v.shown.worker ≡ i → SleeperPays v) (λ was mine. pays_once) h.sleeper_pays,
+      completions,
+      each ss q z z' there (λ m v. v.shown.worker ≡ i → completions_of m left + one_if v.sent ≡ one_if (ends_elsewhere v)) (λ was. was) h.sleeper_sent,
+      h,
+    )
   where
     pays_once : SleeperPays (sleeper_paying z)
     pays_once = record { unpaid = λ unfired kept. absurd (over unfired kept); once = λ unapplied. let none = once unapplied in omega (arith, none) }
-
-    each_at : (k : ℕ) (P : SleeperRecord → Type 0) → (k ≡ q → P z → P (sleeper_paying z)) → ((v : SleeperRecord) → slice_get ss k ≡ Some v → P v) → (y : SleeperRecord) → slice_get (slice_set ss q (sleeper_paying z)) k ≡ Some y → P y
-    each_at = grind (arith, by_number, set_elsewhere, same_thing, set_there)
 
     watches_paid : (k : ℕ) (it : Sleeping Reply) → Watches k it.observer z → Watches k it.observer (sleeper_paying z)
     watches_paid = grind arith
@@ -226,36 +222,23 @@ pub rooted_completed : (i : ℕ) (n : Names) (d : Driving Reply Reply) (zs : Sla
     → IsRooted i n d zs left rs ss → IsRooted i n d zs left' rs (slice_set ss q (sleeper_sent z))
 rooted_completed i n d zs left left' rs ss q z c there is of results h =
     let z' : SleeperRecord = sleeper_sent z in
-    record {
-      kept = h.kept;
-      ready = h.ready;
-      replies = h.replies;
-      watches = λ id it y live found. let k = number_in n.timers.items id in watches_at k it (λ v at. h.watches id it v live at) y found;
-      pays = h.pays;
-      sleeper_pays = λ k y found own. each ss q z z' there (λ m v. v.shown.worker ≡ i → SleeperPays v) (λ was mine. let it = was mine in record { unpaid = it.unpaid; once = it.once }) h.sleeper_pays k y found own;
-      results = λ a has. h.results a (subst (λ answers. Contains answers a) results has);
-      completions = λ b has.
-          let x = h.completions b (subst (λ xs. Contains xs b) (sym is) (later c left'.notes.completions.items b has)) in
-          let new = now_slept ss q z z' there (Completes i b) (λ was. record { worker = was.worker; reply = was.reply; paid = was.paid }) x.n x.z x.there (record { worker = x.worker; reply = x.reply; paid = x.paid }) in
-          record { n = x.n; z = new.0; there = new.1; worker = new.2.worker; reply = new.2.reply; paid = new.2.paid };
-      sent = λ k r found own. ap (λ (answers : List (Answer Reply)). count_by (λ (a : Answer Reply). is_of_request k a.sender.of) answers + one_if r.sent) results ∙ h.sent k r found own;
-      sleeper_sent = λ k y found own.
-          sent_each k y found own (λ m v at mine.
-          let fewer : completions_of m left ≡ cond (q == m) 1 0 + completions_of m left' = first_completes m q c left'.notes.completions.items left.notes.completions.items is of in
-          ap (λ a. a + one_if v.sent) (sym fewer) ∙ h.sleeper_sent m v at mine);
-    }
+    let watches : (id : Id) (it : Sleeping Reply) (y : SleeperRecord) → value_at zs id ≡ Some it → slice_get (slice_set ss q z') (number_in n.timers.items id) ≡ Some y → Watches (number_in n.timers.items id) it.observer y = λ id it y live found.
+    each_at ss q z z' there (number_in n.timers.items id) (λ v. Watches (number_in n.timers.items id) it.observer v) (watches_sent (number_in n.timers.items id) it) (λ v at. h.watches id it v live at) y found in
+    let answers : (a : Answer Reply) → Contains left'.results.items a → IsResult i a rs = λ a has. h.results a (subst (λ answers. Contains answers a) results has) in
+    let completions : (b : ForwardedResult Reply) → Contains left'.notes.completions.items b → IsCompletion i b (slice_set ss q z') = λ b has.
+    let x = h.completions b (subst (λ xs. Contains xs b) (sym is) (later c left'.notes.completions.items b has)) in
+    let new = now_slept ss q z z' there (Completes i b) (λ was. record { worker = was.worker; reply = was.reply; paid = was.paid }) x.n x.z x.there (record { worker = x.worker; reply = x.reply; paid = x.paid }) in
+    record { n = x.n; z = new.0; there = new.1; worker = new.2.worker; reply = new.2.reply; paid = new.2.paid } in
+    let sent : (k : ℕ) (r : Record) → slice_get rs k ≡ Some r → r.shown.worker ≡ i → results_of k left' + one_if r.sent ≡ one_if (goes_elsewhere r) = λ k r found own.
+    ap (λ (answers : List (Answer Reply)). count_by (λ (a : Answer Reply). is_of_request k a.sender.of) answers + one_if r.sent) results ∙ h.sent k r found own in
+    let sleeper_sent : (k : ℕ) (y : SleeperRecord) → slice_get (slice_set ss q z') k ≡ Some y → y.shown.worker ≡ i → completions_of k left' + one_if y.sent ≡ one_if (ends_elsewhere y) = λ k y found own.
+    sent_each k y found own (λ m v at mine.
+    let fewer : completions_of m left ≡ cond (q == m) 1 0 + completions_of m left' = first_completes m q c left'.notes.completions.items left.notes.completions.items is of in
+    ap (λ a. a + one_if v.sent) (sym fewer) ∙ h.sleeper_sent m v at mine) in
+    assumption (watches, answers, each ss q z z' there (λ m v. v.shown.worker ≡ i → SleeperPays v) (λ was mine. let it = was mine in record { unpaid = it.unpaid; once = it.once }) h.sleeper_pays, completions, sent, sleeper_sent, h)
   where
-    watches_at : (k : ℕ) (it : Sleeping Reply) → ((v : SleeperRecord) → slice_get ss k ≡ Some v → Watches k it.observer v) → (y : SleeperRecord) → slice_get (slice_set ss q (sleeper_sent z)) k ≡ Some y → Watches k it.observer y
-    watches_at k it old y at =
-        by_number k q
-        (λ apart. old y (sym (set_elsewhere ss q k (sleeper_sent z) apart) ∙ at))
-        (λ same.
-        let is : sleeper_sent z ≡ y = same_thing (sleeper_sent z) y (sym (set_there ss q (sleeper_sent z) z there) ∙ subst (λ m. slice_get (slice_set ss q (sleeper_sent z)) m ≡ Some y) same at) in
-        subst (Watches k it.observer) is (watched k it.observer (old z (subst (λ m. slice_get ss m ≡ Some z) (sym same) there))))
-      where
-        watched : (k : ℕ) (o : Watching Reply) → Watches k o z → Watches k o (sleeper_sent z)
-        watched k (Watching.Local t) w = w
-        watched k (Watching.Forwarded reply) w = w
+    watches_sent : (k : ℕ) (it : Sleeping Reply) → Watches k it.observer z → Watches k it.observer (sleeper_sent z)
+    watches_sent = grind arith
 
     sent_each : (k : ℕ) (y : SleeperRecord) → slice_get (slice_set ss q (sleeper_sent z)) k ≡ Some y → y.shown.worker ≡ i → ((m : ℕ) (v : SleeperRecord) → slice_get ss m ≡ Some v → v.shown.worker ≡ i → (cond (q == m) 1 0 + completions_of m left') + one_if v.sent ≡ one_if (ends_elsewhere v))
         → completions_of k left' + one_if y.sent ≡ one_if (ends_elsewhere y)
@@ -266,7 +249,7 @@ rooted_completed i n d zs left left' rs ss q z c there is of results h =
         let none = counts_other q k (not_same q k (λ e. apart (sym e))) in
         omega (arith, total, none))
         (λ same.
-        let is : sleeper_sent z ≡ y = same_thing (sleeper_sent z) y (sym (set_there ss q (sleeper_sent z) z there) ∙ subst (λ m. slice_get (slice_set ss q (sleeper_sent z)) m ≡ Some y) same at) in
+        let is : sleeper_sent z ≡ y = same_Some (sleeper_sent z) y (sym (set_there ss q (sleeper_sent z) z there) ∙ subst (λ m. slice_get (slice_set ss q (sleeper_sent z)) m ≡ Some y) same at) in
         let mine : z.shown.worker ≡ i = ap (λ (v : SleeperRecord). v.shown.worker) is ∙ own in
         let total : (cond (q == q) 1 0 + completions_of q left') + one_if z.sent ≡ one_if (ends_elsewhere z) = old q z there mine in
         let one = counts_self q in

@@ -1,22 +1,20 @@
 -- The callbacks: the end of a thing is sent to a task that waits for it elsewhere. The whole step, whatever it is the end of.
-use Rattle.std.proofs.{Common.{[], ◌≡◌, ℕ, zero, suc, ◌+◌, ◌<◌, Bool, true, false, not, List, ◌∷◌, Option, Some, None, nat_lt, refl, sym, ap, subst, ◌∙◌, arith, slice_get, slice_set, if◌then◌else◌}, lemmas.Bool.Decides.nat_tests}
+use Rattle.std.proofs.{Common.{[], ◌≡◌, ℕ, zero, suc, ◌+◌, ◌<◌, Bool, true, false, not, List, ◌∷◌, Option, Some, None, nat_lt, refl, sym, ap, subst, ◌∙◌, arith, slice_get, slice_set, if◌then◌else◌}}
+use Rattle.std.proofs.lemmas.Bool.{lt-ltb}
 use Rattle.exec_waiters.specs.declared.deferred.Deferred.{Deferred}
-use Rattle.exec_task.specs.declared.{body.Said.Said, task.Phase.Phase}
+use Rattle.exec_task.specs.declared.{body.Said.Said}
 use Rattle.exec_machine.specs.{After.common_after, Choice.Choice.Plain, declared.event.Event.{Event, TheVariants.Turn}, Progress.Plan, Ranges.ring_size, Tests.is_done, World.{Common, Own as Books, task_of}}
 use Rattle.exec_moves.specs.{Callback.{Item.{Answers, Completes}, after_callbacks, has_callbacks, item_next, next_callback, tells_waiter}, declared.{handing.{AfterCallbacks.AfterCallbacks, Heard.Heard}, place.{InCallbacks.InCallbacks, Place.Place}}, Move.move_at, State.Desk, Told.in_order}
-use Rattle.exec_parts.{specs.{declared.parts.{mail.Reply.Reply, shared.Shared.Shared, task_slot.TaskSlot.TaskSlot, worker.Worker.Worker}, MailTakes.after_sending_of, Phased.is_complete, Spots.Spot, Tests.{after_callbacks_of, is_anything_told, next_callback_of}, View.{Views, common_of, completions_in, desk_of, numbers_of_passing, own_of, phase_seen, results_in, things_with, visible, with_view}}, proofs.MailLets.callback_anywhere}
-use Rattle.exec_invariants.{specs.{Hearing.StillHears, Rooted.HasHeard, Sound.SoundAt, Works.{Beside, Steps, Suits}}, proofs.{CallsBack.{after_seen, callbacks_seen}, MailBack.next_sound, Slots.task_there, Turning.view_found}}
+use Rattle.exec_parts.{specs.{declared.parts.{mail.Reply.Reply, shared.Shared.Shared, task_slot.TaskSlot.TaskSlot, worker.Worker.Worker}, MailTakes.after_sending_of, Phased.is_complete, Spots.Spot, Tests.{after_callbacks_of, is_anything_told, next_callback_of}, View.{Views, common_of, completions_in, desk_of, numbers_of_passing, own_of, results_in, things_with, visible, with_view}}, proofs.MailLets.callback_anywhere}
+use Rattle.exec_invariants.{specs.{Hearing.StillHears, Rooted.HasHeard, Sound.SoundAt, Works.{Beside, Steps, Suits}}, proofs.{CallsBack.{after_seen, callbacks_seen}, Closes.now_done, MailBack.next_sound, Slots.task_there, Turning.view_found}}
 use Rattle.exec_messages.proofs.{BackOthers.{Reads, with_left}, BackTurns.waits_on, BackWakes.{Goes, after_left, next_goes, next_reads}}
 
 -- A NUMBER COMES INTO ITS PLACE among those that pass a test
 
-less_is : (a b : ℕ) → a < b → nat_lt a b ≡ true
-less_is a b h = grind (arith, nat_tests)
-
 module _ {T : Type 0} (test : T → Bool) where
   first_in_order : (n c : ℕ) (xs : List T) → n < c → in_order n (numbers_of_passing test c xs) ≡ n ∷ numbers_of_passing test c xs
   first_in_order n c [] less = refl
-  first_in_order n c (x ∷ xs) less = grind (arith, less_is, first_in_order n (suc c) xs (omega (arith, less)))
+  first_in_order n c (x ∷ xs) less = grind (arith, lt-ltb, first_in_order n (suc c) xs (omega (arith, less)))
 
   later_in_order : (n c : ℕ) (ns : List ℕ) → c < n → in_order n (c ∷ ns) ≡ c ∷ in_order n ns
   later_in_order = grind arith
@@ -41,9 +39,6 @@ item_answers me d r rs wakes outputs ended completions is = rw (wakes, outputs, 
 -- the machine's next item rests on no more than how many entries stand there
 after_entries : (size i : ℕ) (s : Common) (n : AfterCallbacks) (d e : Desk) → d.entries ≡ e.entries → after_callbacks size i s n d ≡ after_callbacks size i s n e
 after_entries = grind arith
-
-done_seen : {B : Type 0} (p : Phase B) (i : ℕ) → is_done (phase_seen p i) ≡ is_complete p
-done_seen = grind arith
 
 module _ {B L : Type 0} (left : B → L) (spot : L → Option Said → Spot) where
   -- THE STEP
@@ -107,7 +102,7 @@ module _ {B L : Type 0} (left : B → L) (spot : L → Option Said → Spot) whe
           (subst (λ y. Steps left spot w s y (record w { place = q'; home = record w.home { deferred = left' } }) s1) (sym event) (sent_to n t of w q' s s1 slot left' by sound reads goes desk)))
 
       over_seen : (p : Plan) (vs : Views) → is_done (task_of (common_of left spot p vs s) t).phase ≡ is_complete slot.cell.phase
-      over_seen p vs = ap (λ y. is_done y.phase) (task_there left spot s.tasks.items t slot by.there) ∙ done_seen slot.cell.phase slot.poller
+      over_seen p vs = ap (λ y. is_done y.phase) (task_there left spot s.tasks.items t slot by.there) ∙ now_done slot.cell.phase slot.poller
 
       by_over : (b : Bool) → is_complete slot.cell.phase ≡ b → Steps left spot w s e w' s'
       by_over true over =

@@ -1,9 +1,9 @@
 -- The callbacks: what holds of the worker where the batch was taken, once a task's slot changed; and where it goes on from there
 -- to queue a task, or to wake one elsewhere.
-use Rattle.std.proofs.{Common.{◌≡◌, ◌≢◌, inr, ℕ, arith, Bool, true, false, Contains, List, length, Option, Some, None, refl, sym, ap, subst, ◌∙◌, slice_get, slice_set, option_to_list, if◌then◌else◌}, lemmas.Bool.false≢true}
+use Rattle.std.proofs.{Common.{◌≡◌, ◌≢◌, inr, ℕ, arith, Bool, true, false, Contains, List, [], length, Option, Some, None, refl, sym, ap, subst, ◌∙◌, slice_get, slice_set, option_to_list, if◌then◌else◌}, lemmas.Bool.false≢true}
 use Rattle.exec_task.specs.{Phases.{is_polled, runnable_of}, declared.runnable.Runnable.Runnable}
 use Rattle.exec_moves.specs.declared.{handing.{AfterCallbacks.AfterCallbacks, AfterPush.AfterPush, Heard.Heard, InGlobal.InGlobal, InPush.InPush}, place.{InCallbacks.InCallbacks, Place.Place}}
-use Rattle.exec_parts.{specs.{declared.parts.{seat.Seat.Seat as Chair, shared.Shared.Shared, task_slot.TaskSlot.TaskSlot, worker.Worker.Worker}, Phased.{IsPhased, closes_before, is_complete, stage_of}, Pooled.woken_slot, Roles.is_pool, Tests.first_push_of}, proofs.Facts.{same_thing, set_elsewhere, set_there, true_false}}
+use Rattle.exec_parts.{specs.{declared.parts.{seat.Seat.Seat as Chair, shared.Shared.Shared, task_slot.TaskSlot.TaskSlot, worker.Worker.Worker}, Phased.{IsPhased, closes_before, is_complete, stage_of}, Pooled.woken_slot, Roles.is_pool, Tests.first_push_of}, proofs.Facts.{same_Some, set_elsewhere, set_there, true_false}}
 use Rattle.exec_invariants.{specs.{Rooted.HasHeard, Sound.{AreHome, AreResting, HasRunnable, IsHeld, IsLoot, IsResting, IsRunnable, SoundAt, Stands, one_of}, Whole.IsGenuine}, proofs.{Flagged.{flag_then, flag_woken, in_flag, of_flag, stands_woken}, Cells.{complete_woken, polled_woken}, SlotTasks.{Keeps, genuine_set, homes_set, none_in, resting_set}, Stirs.{keeps_woken, only, rests_woken}, Turning.{Arrives, GoesOn, sound_on}}}
 
 module _ {B : Type 0} where
@@ -32,67 +32,19 @@ module _ {B : Type 0} where
   push_arrives : (n : AfterCallbacks) (w : Worker) (s : Shared B) (r : Runnable) → SoundAt (Place.Callbacks InCallbacks.TakeBatch n) w s → w.searching ≡ false → IsGenuine s.tasks.items r
       → Arrives (Place.Push InPush.LoadPushHead (AfterPush.CallBack n)) w (record w { hand = Some r }) s s
   push_arrives n w s r sound idle genuine =
-      record {
-        runnable = sound.runnable;
-        seated = sound.seated;
-        queue = sound.queue;
-        hand = refl;
-        loot = sound.loot;
-        genuine = λ x has. inr (subst (IsGenuine s.tasks.items) (sym (only x r has)) genuine);
-        stolen = sound.stolen;
-        searching = idle;
-        pooled = λ is. absurd (false≢true is);
-        serves = tt;
-        calm = sound.calm;
-        aims = tt;
-        guest = tt;
-        left = tt;
-        batch = sound.batch;
-        batch_place = sound.batch_place;
-        quiet = λ is. true_false is;
-        due = sound.due;
-        flown = sound.flown;
-        told = sound.told;
-        letters = sound.letters;
-        stops = tt;
-        hears = tt;
-        lets_go = sound.lets_go;
-        phased = sound.phased;
-        tied = sound.tied;
-      }
+      let held : (x : Runnable) → Contains (option_to_list (Some r)) x → IsHeld None w.root s.tasks.items x = λ x has. inr (subst (IsGenuine s.tasks.items) (sym (only x r has)) genuine) in
+      let pooled : false ≡ true → is_pool w.role ≡ true = λ is. absurd (false≢true is) in
+      let quiet : true ≡ false → w.home.deferred.notes.wakes.items ≡ [] = λ is. true_false is in
+      assumption (held, pooled, quiet, idle, tt, sound)
 
   append_arrives : (n : AfterCallbacks) (w : Worker) (s : Shared B) (r : Runnable) → SoundAt (Place.Callbacks InCallbacks.TakeBatch n) w s → w.searching ≡ false → IsGenuine s.tasks.items r
       → Arrives (Place.Global InGlobal.Append (AfterPush.CallBack n)) w (record w { hand = Some r }) s s
   append_arrives n w s r sound idle genuine =
       let loot : IsLoot true w.loot = record { places = sound.loot.places; few = sound.loot.few; none = λ is. sound.loot.none refl } in
-      record {
-        runnable = sound.runnable;
-        seated = sound.seated;
-        queue = sound.queue;
-        hand = refl;
-        loot = loot;
-        genuine = λ x has. inr (subst (IsGenuine s.tasks.items) (sym (only x r has)) genuine);
-        stolen = sound.stolen;
-        searching = idle;
-        pooled = λ is. absurd (false≢true is);
-        serves = tt;
-        calm = sound.calm;
-        aims = tt;
-        guest = tt;
-        left = tt;
-        batch = sound.batch;
-        batch_place = sound.batch_place;
-        quiet = λ is. true_false is;
-        due = sound.due;
-        flown = sound.flown;
-        told = sound.told;
-        letters = sound.letters;
-        stops = tt;
-        hears = tt;
-        lets_go = sound.lets_go;
-        phased = sound.phased;
-        tied = sound.tied;
-      }
+      let held : (x : Runnable) → Contains (option_to_list (Some r)) x → IsHeld None w.root s.tasks.items x = λ x has. inr (subst (IsGenuine s.tasks.items) (sym (only x r has)) genuine) in
+      let pooled : false ≡ true → is_pool w.role ≡ true = λ is. absurd (false≢true is) in
+      let quiet : true ≡ false → w.home.deferred.notes.wakes.items ≡ [] = λ is. true_false is in
+      assumption (loot, held, pooled, quiet, idle, tt, sound)
 
   arrives_either : (b : Bool) (x y : Place) (w v : Worker) (s : Shared B) → Arrives x w v s s → Arrives y w v s s → Arrives (if b then x else y) w v s s
   arrives_either true x y w v s h k = h
@@ -152,8 +104,8 @@ module _ {B : Type 0} where
       let tasks = s.tasks.items in
       let slot' : TaskSlot B = woken_slot slot in
       let found : slice_get (slice_set tasks w.root slot') w.root ≡ Some slot' = set_there tasks w.root slot' slot there in
-      let same : sound.runnable.root ≡ slot = same_thing sound.runnable.root slot (sym sound.runnable.there ∙ there) in
-      let is : (o : TaskSlot B) → slice_get (slice_set tasks w.root slot') w.root ≡ Some o → slot' ≡ o = λ o at. same_thing slot' o (sym found ∙ at) in
+      let same : sound.runnable.root ≡ slot = same_Some sound.runnable.root slot (sym sound.runnable.there ∙ there) in
+      let is : (o : TaskSlot B) → slice_get (slice_set tasks w.root slot') w.root ≡ Some o → slot' ≡ o = λ o at. same_Some slot' o (sym found ∙ at) in
       let run : IsRunnable w.root_ready slot = in_flag w.root_ready slot (subst (λ (o : TaskSlot B). IsRunnable (one_of w.root_ready None) o) same sound.runnable.once) in
       let home : slot.home ≡ Some w.index = sym (ap (λ (o : TaskSlot B). o.home) same) ∙ sound.runnable.home in
       record {

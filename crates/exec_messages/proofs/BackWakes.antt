@@ -64,9 +64,7 @@ module _ {B L : Type 0} (left : B → L) (spot : L → Option Said → Spot) whe
       let d : Desk = record (desk_of w) { wakes = ws; root_ready = b } in
       let v : Worker = record w { place = Place.Callbacks InCallbacks.TakeBatch n; home = record w.home { deferred = left' } } in
       let call : Place = Place.Callbacks InCallbacks.CallBack n in
-      let shape : record (desk_of w) { wakes = ws; root_ready = b } ≡ record (desk_of v) { root_ready = b; place = w.place } =
-      ap (λ ns. record (desk_of w) { wakes = ns; root_ready = b }) wakes
-      ∙ sym (ap (λ (y : Deferred Reply Reply). record (desk_of (with_left w y)) { root_ready = b }) same) in
+      let shape : record (desk_of w) { wakes = ws; root_ready = b } ≡ record (desk_of v) { root_ready = b; place = w.place } = grind (arith, wakes, same) in
       let told : has_callbacks (own_of w) d ≡ is_anything_told v = ap (has_callbacks (own_of w)) shape ∙ callbacks_seen v _ there.told in
       let after : after_callbacks size w.index cs n d ≡ after_callbacks_of n (with_left w left') = after_unread size w.index cs n (desk_of w) ws b ∙ after_seen left spot p vs (Place.Callbacks x n) w s sound suits n ∙ sym (after_left n w left') in
       ap (λ c. if c then call else after_callbacks size w.index cs n d) told ∙ ap (λ y. if is_anything_told v then call else y) after

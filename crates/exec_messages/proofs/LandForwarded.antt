@@ -5,7 +5,7 @@ use Rattle.exec_base.specs.declared.task_no.TaskNo.{TaskNo}
 use Rattle.exec_task.specs.declared.body.Said.{Said}
 use Rattle.exec_machine.specs.{declared.{event.Event.{Event, TheVariants.Apply}, state.{Forwarding.{Forwarding, TheVariants.Applied}, MailMessage.{MailMessage, TheVariants.ForwardTimer}}}, Tests.{is_applied, is_unsent}, World.sleeper_of}
 use Rattle.exec_moves.specs.{declared.place.{InMail.InMail, Place.Place}, Mail.after_message, State.Desk, Told.{told_of_timer_forward}}
-use Rattle.exec_parts.{specs.{declared.parts.{mail.Subject.Subject, shared.Shared.Shared, sleeping.SleeperRecord.SleeperRecord, worker.Worker.Worker}, Calls.sleeper_applied, MailTakes.TakesForwardTimer, Spots.Spot, View.{common_of, desk_of, driver_of, message_of}}, proofs.Facts.same_thing}
+use Rattle.exec_parts.{specs.{declared.parts.{mail.Subject.Subject, shared.Shared.Shared, sleeping.SleeperRecord.SleeperRecord, worker.Worker.Worker}, Calls.sleeper_applied, MailTakes.TakesForwardTimer, Spots.Spot, View.{common_of, desk_of, driver_of, message_of}}, proofs.Facts.same_Some}
 use Rattle.exec_invariants.{specs.{Due.IsDue, Flown.HasFlown, Holding.{Box, Hands, Holder, IsForwarded, IsHolding, Mail, Nap, Thing, box_of, holder_of, is_sent, mail_in, nap_of, thing_of, under_way}, Sound.{IsMineIn, SoundAt, served_in}, Whole.{HasWhole, hands_of, with_worker}, Works.Steps}, proofs.{HoldMail.{is_never, is_once}, HoldSleeps.nap_redone, Lined.mapped, MailApplies.{AppliedKeeps, one_less, passed_on, rest_of, split_first}, MailApplied.{applied_steps, kept_there, touched}, Seen.sleeper_at, ServingHolds.KeepsSpare, Serving.{SparesRecords, spares_sleeper}}}
 use Rattle.exec_messages.proofs.{LandForwards.{forwarded_desk, forwarded_kept, forwarded_wakes}, MailCancels.{box_open, in_hand_first}}
 use Rattle.exec_parts.specs.declared.parts.mail.Subject.TheVariants as subject
@@ -48,7 +48,7 @@ module _ (h h' : Hands) (workers : ℕ) (hs : List Holder) (ts : List Thing) (na
             let way : under_way h' (Message.Cancel (subject.Timer n)) boxes ≤ under_way h (Message.Cancel (subject.Timer n)) boxes = omega (arith, fewer) in
             omega (arith, is, way));
         woken = λ b there_box is.
-            let same : box ≡ b = same_thing box b (sym at ∙ there_box) in
+            let same : box ≡ b = same_Some box b (sym at ∙ there_box) in
             subst (λ (x : Box). IsForwarded x.shut Applied (under_way h' m boxes)) same
             (subst (λ s. IsForwarded s Applied (under_way h' m boxes)) (sym open_box)
             (let all = before.1 in
@@ -59,7 +59,7 @@ module _ (h h' : Hands) (workers : ℕ) (hs : List Holder) (ts : List Thing) (na
         sent = λ sent. (refl, (old.sent_too n z there sent).1);
         here = λ t o at_t awaits home.
             let a = old.asleep t o n at_t awaits in
-            let is : a.0 ≡ z = same_thing a.0 z (sym a.1 ∙ there) in
+            let is : a.0 ≡ z = same_Some a.0 z (sym a.1 ∙ there) in
             absurd (false≢true (sym told.1 ∙ ap (λ (x : Nap). is_unsent x.forwarding) (sym is) ∙ a.2.here home));
         kept = λ t o at_t awaits going kept. kept;
         fewer = λ i u more. inl (ap (λ (f : ℕ → ℕ → ℕ). f i u) wakes);
@@ -92,7 +92,7 @@ module _ {B L : Type 0} (left : B → L) (spot : L → Option Said → Spot) whe
       let there : slice_get s.sleepers.items z ≡ Some it = r.sleeper in
       let among : Contains w.batch.values m = subst (λ ms. Contains ms m) (sym (split_first w.batch.values m first)) (0, omega arith, refl) in
       let its : IsMineIn s.config.workers w.index (Subject.Timer z) s.requests.items s.sleepers.items = sound.mine m among in
-      let mine : it.shown.worker ≡ w.index = ap (λ (y : SleeperRecord). y.shown.worker) (same_thing it its.0 (sym there ∙ its.1)) ∙ its.2 in
+      let mine : it.shown.worker ≡ w.index = ap (λ (y : SleeperRecord). y.shown.worker) (same_Some it its.0 (sym there ∙ its.1)) ∙ its.2 in
       let free = timer_unapplied applied taken z w s sound has first it there mine in
       let spare : 64 - applied ≡ (64 - (applied + 1)) + 1 = (let few = sound.aims in omega (arith, few)) in
       let have : KeepsSpare ((64 - (applied + 1)) + 1) u s = subst (λ k. KeepsSpare k u s) spare (kept_there applied taken w s sound) in

@@ -3,17 +3,16 @@ use Rattle.std.proofs.{Common.{◌≡◌, ℕ, zero, suc, ◌+◌, ◌^◌, ◌�
 use Rattle.exec_base.{specs.{Slab.{IsPast, Slab, is_live, live_count, value_at, written}, declared.{slab.{Id.Id, Slot.{Slot, TheVariants.Live}}, task_no.TaskNo.TaskNo}}, proofs.Slots.{IsLiveAt-from_value, Updates-write, count-set, live_within, past-write}}
 use Rattle.exec_time.specs.{Notes.Adds, Sleepers.completions_of, declared.{notes.ForwardedResult.ForwardedResult, timers.Sleeper.Sleeper as Sleeping}}
 use Rattle.exec_time.specs.declared.timers.Observer.TheVariants as sleep
-use Rattle.exec_waiters.specs.declared.deferred.Deferred.{Deferred}
 use Rattle.exec_machine.specs.Tests.{is_applied, is_asleep}
 use Rattle.exec_moves.specs.{Slots.{is_in_slots, slot_of}, Told.{one_completion, told_of_timer_forward}, declared.handing.Heard.Heard}
-use Rattle.exec_parts.{specs.{declared.parts.{mail.Reply.Reply, names.Names.Names, shared.Shared.Shared, sleeping.SleeperRecord.SleeperRecord, worker.Worker.Worker}, Calls.{sleeper_applied, IsTold}, MailTakes.{TakesForwardTimer, reply_for}, Records.number_in, View.{completions_in, desk_of, driver_of, number_heard, slots_from, slots_seen}}, proofs.Facts.{by_name, by_number, not_same, same_thing, set_elsewhere, set_there}}
-use Rattle.exec_invariants.{specs.{Due.AreAsleep, Places.one_if, Rooted.{IsCompletion, IsRooted, SleeperPays, Watches, completions_of as sent_of, ends_elsewhere, goes_elsewhere, is_of_timer, results_of}, Names.{HasWidth, IsNamed, tellers}}, proofs.{FiringNames.{naps_set, stands}, FiringRemoved.{slot_none, told_adds, wide_adds}, FiringSeen.{bed_named, one_bed}, FiringSlots.{alive_at, bed_in}, ServedEnds.{count_both, count_none, count_one, none_in, only_one}, ServingHolds.{KeepsSpare, KeepsWith}}}
+use Rattle.exec_parts.{specs.{declared.parts.{mail.Reply.Reply, names.Names.Names, shared.Shared.Shared, sleeping.SleeperRecord.SleeperRecord, worker.Worker.Worker}, Calls.{sleeper_applied, IsTold}, MailTakes.{TakesForwardTimer, reply_for}, Records.number_in, View.{completions_in, desk_of, driver_of, number_heard, slots_from, slots_seen}}, proofs.Facts.{by_name, by_number, not_same, same_Some, set_elsewhere, set_there}}
+use Rattle.exec_invariants.{specs.{Due.{AreAsleep, IsDue}, HoldPlaces.{has_wakes_at, is_bare_at}, Places.one_if, Rooted.{IsCompletion, IsRooted, SleeperPays, Watches, completions_of as sent_of, ends_elsewhere, is_of_timer}, Sound.served_in, Names.{HasWidth, IsNamed, tellers}}, proofs.{FiringNames.{naps_set, stands}, FiringRemoved.{slot_none, told_adds, wide_adds}, FiringSeen.{bed_named, one_bed}, FiringSlots.{alive_at, bed_in}, ServedEnds.{count_both, count_none, count_one, none_in, only_one}, ServingHolds.{KeepsSpare, KeepsWith}}}
 
 -- its slot is written again
 slots_kept : (k : ℕ) (numbers : List ℕ) (slots : List (Slot (Sleeping Reply))) (i g : ℕ) (o : Slot (Sleeping Reply)) (e : Sleeping Reply) → slice_get slots i ≡ Some o → is_live o ≡ true → slots_from k numbers (set slots i (Live g e)) ≡ slots_from k numbers slots
 slots_kept k numbers [] i g o e there live = refl
 slots_kept k numbers (x ∷ slots) zero g o e there live =
-    ap (λ b. (if b then Some (slice_index_or numbers k 0) else None) ∷ slots_from (suc k) numbers slots) (sym (ap is_live (same_thing x o there) ∙ live))
+    ap (λ b. (if b then Some (slice_index_or numbers k 0) else None) ∷ slots_from (suc k) numbers slots) (sym (ap is_live (same_Some x o there) ∙ live))
 slots_kept k numbers (x ∷ slots) (suc i) g o e there live = ap (λ xs. (if is_live x then Some (slice_index_or numbers k 0) else None) ∷ xs) (slots_kept (suc k) numbers slots i g o e there live)
 
 live_kept : (zs : Slab (Sleeping Reply)) (id : Id) (it it' : Sleeping Reply) → value_at zs id ≡ Some it → live_count (written zs id it') ≡ live_count zs
@@ -57,7 +56,7 @@ module _ {B : Type 0} (spare z : ℕ) (w v : Worker) (s s' : Shared B) (keeps : 
   now_there = set_there ss z now it r.sleeper
 
   by_sleeper : {C : Type 0} (j : ℕ) (x : SleeperRecord) → slice_get (slice_set s.sleepers.items z (sleeper_applied r.it)) j ≡ Some x → (j ≡ z → sleeper_applied r.it ≡ x → C) → ((z ≡ j → ⊥) → slice_get s.sleepers.items j ≡ Some x → C) → C
-  by_sleeper = grind (arith, by_number, set_elsewhere, same_thing, now_there)
+  by_sleeper = grind (arith, by_number, set_elsewhere, same_Some, now_there)
 
   -- it was told to nobody elsewhere
   none_sent : sent_of z w.home.deferred + one_if r.it.sent ≡ 0
@@ -84,23 +83,16 @@ module _ {B : Type 0} (spare z : ℕ) (w v : Worker) (s s' : Shared B) (keeps : 
       let left' = v.home.deferred in
       let k = keeps in
       let wakes : v.home.deferred.notes.wakes.items ≡ w.home.deferred.notes.wakes.items = adds.wakes_added ∙ append-nil w.home.deferred.notes.wakes.items in
-      let results : left'.results ≡ left.results = ap (λ (x : Deferred Reply Reply). x.results) deferred in
       let live = slab.live in
-      let named : IsNamed i n d zs_then rs ss' = record {
-        requests = k.named.requests;
-        timers = λ other at.
-            let old = k.named.timers other (before slab other at) in
-            by_number (number_in n.timers.items other) z
-            (λ differs. (old.0, set_elsewhere ss z (number_in n.timers.items other) now differs ∙ old.1, old.2, old.3))
-            (λ e.
-            let is : old.0 ≡ it = same_thing old.0 it (sym old.1 ∙ ap (slice_get ss) e ∙ r.sleeper) in
-            (now, ap (slice_get ss') e ∙ now_there, ap (λ (y : SleeperRecord). y.id.0) (sym is) ∙ old.2, mine));
-        alike = k.named.alike;
-        over = k.named.over;
-        submitted = k.named.submitted;
-        slots = k.named.slots;
-        beds = subst (λ m. m ≤ length n.timers.items) (sym slab.many) k.named.beds;
-      } in
+      let named : IsNamed i n d zs_then rs ss' = (
+      let timers : (other : Id) → IsSome (value_at zs_then other) → (y : SleeperRecord) × (slice_get ss' (number_in n.timers.items other) ≡ Some y) × (y.id.0 ≡ other) × (y.shown.worker ≡ i) = λ other at.
+      let old = k.named.timers other (before slab other at) in
+      by_number (number_in n.timers.items other) z
+      (λ differs. (old.0, set_elsewhere ss z (number_in n.timers.items other) now differs ∙ old.1, old.2, old.3))
+      (λ e.
+      let is : old.0 ≡ it = same_Some old.0 it (sym old.1 ∙ ap (slice_get ss) e ∙ r.sleeper) in
+      (now, ap (slice_get ss') e ∙ now_there, ap (λ (y : SleeperRecord). y.id.0) (sym is) ∙ old.2, mine)) in
+      assumption (timers, subst (λ m. m ≤ length n.timers.items) (sym slab.many) k.named.beds, k.named)) in
       let asleep : AreAsleep w.home.closing i n zs_then ss' = record {
         alike = λ other x y at found.
             let old = slab.was other x at in
@@ -127,59 +119,52 @@ module _ {B : Type 0} (spare z : ℕ) (w v : Worker) (s s' : Shared B) (keeps : 
         counted = λ other past. subst (λ m. other.generation < m) (sym (length-set ss z now)) (k.due.asleep.counted other ((slab.past other).0 past));
         names = naps_set i zs zs_then ss z it now r.sleeper refl refl (λ other. (slab.past other).1) k.due.asleep.names;
       } in
-      let due = k.due in
       let w1 : Worker = record w { home = record w.home { timers = v.home.timers; deferred = record w.home.deferred { notes = v.home.deferred.notes } } } in
-      let by : KeepsWith spare w1 d zs_then rs ss' s = record {
-        told = subst (λ x. IsTold n.ended.items x (tellers d.requests zs_then + spare)) deferred
-            (told_adds n.ended.items left left' (tellers d.requests zs + (spare + 1)) (tellers d.requests zs_then + spare) [] cs deferred adds (omega (arith, live)) (omega (arith, live, few)) k.told);
-        wide = subst (λ x. HasWidth x (tellers d.requests zs_then + 64)) deferred (wide_adds left left' (tellers d.requests zs + 64) (tellers d.requests zs_then + 64) [] cs deferred adds (omega (arith, live)) k.wide);
-        named = named;
-        sized = k.sized;
-        over = k.over;
-        quiet = λ h. wakes ∙ k.quiet h;
-        due = record { punctual = due.punctual; told = due.told; wheel = due.wheel; timed = due.timed; asleep = asleep; order = due.order };
-        flown = k.flown;
-        carried = k.carried;
-        known = k.known;
-        rooted = subst (λ x. IsRooted i n d zs_then x rs ss') deferred (record {
-          kept = k.rooted.kept;
-          ready = k.rooted.ready;
-          replies = k.rooted.replies;
-          watches = λ other x y at found.
-              let old = slab.was other x at in
-              by_sleeper (number_in n.timers.items other) y found
-              (λ e is. subst (λ u. Watches (number_in n.timers.items other) x.observer u) is
-              (subst (λ o. Watches (number_in n.timers.items other) o now) (sym (old.3 (sym e))) (ap (λ m. reply_for r.it.shown.task (Heard.Timer m)) (sym e), refl)))
-              (λ unlike at_old. subst (λ o. Watches (number_in n.timers.items other) o y) (sym (old.4 unlike)) (k.rooted.watches other old.0 y old.1 at_old));
-          pays = k.rooted.pays;
-          sleeper_pays = λ j y at its.
-              by_sleeper j y at
-              (λ e is. subst SleeperPays is (record { unpaid = (k.rooted.sleeper_pays z it r.sleeper mine).unpaid; once = λ free. absurd (false≢true (sym free)) }))
-              (λ unlike old. k.rooted.sleeper_pays j y old its);
-          results = λ a among. k.rooted.results a (subst (λ xs. Contains xs a) (ap (λ x. x.items) results) among);
-          completions = λ c among.
-              elim (Contains-append_cases left.notes.completions.items cs c (subst (λ xs. Contains xs c) adds.completions_added among)) [
-                | inl old ↦ end_old c (k.rooted.completions c old)
-                | inr new ↦ record { n = z; z = now; there = now_there; worker = mine; reply = sends c new; paid = paid }
-              ];
-          sent = λ j y at its. subst (λ (x : Deferred Reply Reply). results_of j x + one_if y.sent ≡ one_if (goes_elsewhere y)) (sym deferred) (k.rooted.sent j y at its);
-          sleeper_sent = λ j y at its.
-              by_sleeper j y at
-              (λ e is.
-              let sum = counted j in
-              let more : count_by (λ (c : ForwardedResult Reply). is_of_timer j c.sender.of) cs ≡ one_if (r.it.shown.fired || (r.it.shown.removed || r.it.closed)) = ap (λ m. count_by (λ (c : ForwardedResult Reply). is_of_timer m c.sender.of) cs) e ∙ here in
-              let was : sent_of j w.home.deferred + one_if r.it.sent ≡ 0 = ap (λ m. sent_of m w.home.deferred + one_if r.it.sent) e ∙ none_sent in
-              let still : one_if y.sent ≡ one_if r.it.sent = ap (λ (u : SleeperRecord). one_if u.sent) (sym is) in
-              let ends : one_if (ends_elsewhere y) ≡ one_if (r.it.shown.fired || (r.it.shown.removed || r.it.closed)) = ap (λ (u : SleeperRecord). one_if (ends_elsewhere u)) (sym is) in
-              omega (arith, sum, more, was, still, ends))
-              (λ unlike old.
-              let sum = counted j in
-              let zero_of = none j unlike in
-              let was = k.rooted.sleeper_sent j y old its in
-              omega (arith, sum, zero_of, was));
-        });
-        bare = λ h. live ∙ k.bare h;
-      } in
+      let due : IsDue (served_in w.place) w.home.closing i w.moments s.config n d zs_then rs ss' = assumption (asleep, k.due) in
+      let watches : (other : Id) (x : Sleeping Reply) (y : SleeperRecord) → value_at zs_then other ≡ Some x → slice_get ss' (number_in n.timers.items other) ≡ Some y → Watches (number_in n.timers.items other) x.observer y = λ other x y at found.
+      let old = slab.was other x at in
+      by_sleeper (number_in n.timers.items other) y found
+      (λ e is. subst (λ u. Watches (number_in n.timers.items other) x.observer u) is
+      (subst (λ o. Watches (number_in n.timers.items other) o now) (sym (old.3 (sym e))) (ap (λ m. reply_for r.it.shown.task (Heard.Timer m)) (sym e), refl)))
+      (λ unlike at_old. subst (λ o. Watches (number_in n.timers.items other) o y) (sym (old.4 unlike)) (k.rooted.watches other old.0 y old.1 at_old)) in
+      let sleeper_pays : (j : ℕ) (y : SleeperRecord) → slice_get ss' j ≡ Some y → y.shown.worker ≡ i → SleeperPays y = λ j y at its.
+      by_sleeper j y at
+      (λ e is. subst SleeperPays is (record { unpaid = (k.rooted.sleeper_pays z it r.sleeper mine).unpaid; once = λ free. absurd (false≢true (sym free)) }))
+      (λ unlike old. k.rooted.sleeper_pays j y old its) in
+      let completions : (c : ForwardedResult Reply) → Contains left'.notes.completions.items c → IsCompletion i c ss' = λ c among.
+      elim (Contains-append_cases left.notes.completions.items cs c (subst (λ xs. Contains xs c) adds.completions_added among)) [
+        | inl old ↦ end_old c (k.rooted.completions c old)
+        | inr new ↦ record { n = z; z = now; there = now_there; worker = mine; reply = sends c new; paid = paid }
+      ] in
+      let sleeper_sent : (j : ℕ) (y : SleeperRecord) → slice_get ss' j ≡ Some y → y.shown.worker ≡ i → sent_of j left' + one_if y.sent ≡ one_if (ends_elsewhere y) = λ j y at its.
+      by_sleeper j y at
+      (λ e is.
+      let sum = counted j in
+      let more : count_by (λ (c : ForwardedResult Reply). is_of_timer j c.sender.of) cs ≡ one_if (r.it.shown.fired || (r.it.shown.removed || r.it.closed)) = ap (λ m. count_by (λ (c : ForwardedResult Reply). is_of_timer m c.sender.of) cs) e ∙ here in
+      let was : sent_of j w.home.deferred + one_if r.it.sent ≡ 0 = ap (λ m. sent_of m w.home.deferred + one_if r.it.sent) e ∙ none_sent in
+      let still : one_if y.sent ≡ one_if r.it.sent = ap (λ (u : SleeperRecord). one_if u.sent) (sym is) in
+      let ends : one_if (ends_elsewhere y) ≡ one_if (r.it.shown.fired || (r.it.shown.removed || r.it.closed)) = ap (λ (u : SleeperRecord). one_if (ends_elsewhere u)) (sym is) in
+      omega (arith, sum, more, was, still, ends))
+      (λ unlike old.
+      let sum = counted j in
+      let zero_of = none j unlike in
+      let was = k.rooted.sleeper_sent j y old its in
+      omega (arith, sum, zero_of, was)) in
+      let rooted : IsRooted i n d zs_then w1.home.deferred rs ss' = assumption (watches, sleeper_pays, completions, sleeper_sent, k.rooted) in
+      let quiet : has_wakes_at w.place ≡ false → left'.notes.wakes.items ≡ [] = λ h. wakes ∙ k.quiet h in
+      let bare : is_bare_at w.place ≡ true → live_count zs_then ≡ 0 = λ h. live ∙ k.bare h in
+      let by : KeepsWith spare w1 d zs_then rs ss' s =
+      assumption (
+        subst (λ x. IsTold n.ended.items x (tellers d.requests zs_then + spare)) deferred
+            (told_adds n.ended.items left left' (tellers d.requests zs + (spare + 1)) (tellers d.requests zs_then + spare) [] cs deferred adds (omega (arith, live)) (omega (arith, live, few)) k.told),
+        subst (λ x. HasWidth x (tellers d.requests zs_then + 64)) deferred (wide_adds left left' (tellers d.requests zs + 64) (tellers d.requests zs_then + 64) [] cs deferred adds (omega (arith, live)) k.wide),
+        named,
+        quiet,
+        rooted,
+        bare,
+        due,
+        k,
+      ) in
       let by_worker : KeepsWith spare v (driver_of v) v.home.timers rs s'.sleepers.items s =
       subst (λ x. KeepsWith spare x (driver_of x) x.home.timers rs s'.sleepers.items s) (sym r.forwards.worker)
       (subst (λ xs. KeepsWith spare w1 d zs_then rs xs s) (sym (r.sleepers ∙ ap (slice_set ss z) r.forwards.is)) by) in
@@ -200,7 +185,7 @@ module _ {B : Type 0} (spare z : ℕ) (w v : Worker) (s s' : Shared B) (keeps : 
           by_number old.n z
           (λ differs. record { n = old.n; z = old.z; there = set_elsewhere ss z old.n now differs ∙ old.there; worker = old.worker; reply = old.reply; paid = old.paid })
           (λ e.
-          let is : old.z ≡ it = same_thing old.z it (sym old.there ∙ ap (slice_get ss) e ∙ r.sleeper) in
+          let is : old.z ≡ it = same_Some old.z it (sym old.there ∙ ap (slice_get ss) e ∙ r.sleeper) in
           record { n = old.n; z = now; there = ap (slice_get (slice_set ss z now)) e ∙ now_there; worker = mine; reply = old.reply ∙ ap (λ (y : SleeperRecord). record { task = record { 0 = y.shown.task }; of = Heard.Timer old.n }) is; paid = paid })
 
   -- WHERE IT HAS A BED
@@ -240,7 +225,7 @@ module _ {B : Type 0} (spare z : ℕ) (w v : Worker) (s s' : Shared B) (keeps : 
               by_name other id
               (λ differs. let old : value_at zs other ≡ Some x = sym (map.others other differs) ∙ at in (x, old, refl, λ e. absurd (differs (sym (apart other (rw old refl) e))), λ unlike. refl))
               (λ e.
-              let is : told_bed ≡ x = same_thing told_bed x (sym map.changed ∙ ap (value_at (written zs id told_bed)) (sym e) ∙ at) in
+              let is : told_bed ≡ x = same_Some told_bed x (sym map.changed ∙ ap (value_at (written zs id told_bed)) (sym e) ∙ at) in
               (bed, ap (value_at zs) e ∙ was, ap (λ (y : Sleeping Reply). y.deadline) (sym is), λ n. ap (λ (y : Sleeping Reply). y.observer) (sym is), λ unlike. absurd (unlike (sym number ∙ ap (number_in w.names.timers.items) (sym e)))));
           on = λ other live. by_name other id (λ differs. subst IsSome (sym (map.others other differs)) live) (λ e. rw (ap (value_at (written zs id told_bed)) e ∙ map.changed) refl);
           live = live_kept zs id bed told_bed was;
@@ -329,23 +314,16 @@ module _ {B : Type 0} (spare z : ℕ) (w v : Worker) (s s' : Shared B) (keeps : 
 
   -- BOTH
 
+  by_bed : {P : Type 0} → (value_at w.home.timers r.it.id.0 ≡ None → P) → ((bed : Sleeping Reply) → value_at w.home.timers r.it.id.0 ≡ Some bed → P) → P
+  by_bed = grind arith
+
   pub forwarded_kept : KeepsSpare spare v s'
-  forwarded_kept = by (value_at w.home.timers r.it.id.0) refl
-    where
-      by : (o : Option (Sleeping Reply)) → value_at w.home.timers r.it.id.0 ≡ o → KeepsSpare spare v s'
-      by None none = keeps_none none
-      by (Some bed) was = keeps_bed bed was
+  forwarded_kept = by_bed keeps_none keeps_bed
 
   pub forwarded_desk : desk_of v ≡ told_of_timer_forward z (desk_of w)
-  forwarded_desk = by (value_at w.home.timers r.it.id.0) refl
-    where
-      by : (o : Option (Sleeping Reply)) → value_at w.home.timers r.it.id.0 ≡ o → desk_of v ≡ told_of_timer_forward z (desk_of w)
-      by None none = desk_none none
-      by (Some bed) was = desk_bed bed was
+  forwarded_desk = by_bed desk_none desk_bed
 
   pub forwarded_wakes : v.home.deferred.notes.wakes.items ≡ w.home.deferred.notes.wakes.items
-  forwarded_wakes = by (value_at w.home.timers r.it.id.0) refl
-    where
-      by : (o : Option (Sleeping Reply)) → value_at w.home.timers r.it.id.0 ≡ o → v.home.deferred.notes.wakes.items ≡ w.home.deferred.notes.wakes.items
-      by None none = (r.forwards.gone none).1.wakes_added ∙ append-nil w.home.deferred.notes.wakes.items
-      by (Some bed) was = (r.forwards.asleep bed was).1.wakes_added ∙ append-nil w.home.deferred.notes.wakes.items
+  forwarded_wakes =
+      let same = append-nil w.home.deferred.notes.wakes.items in
+      by_bed (λ none. (r.forwards.gone none).1.wakes_added ∙ same) (λ bed was. (r.forwards.asleep bed was).1.wakes_added ∙ same)

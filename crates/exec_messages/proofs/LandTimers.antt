@@ -6,7 +6,7 @@ use Rattle.exec_time.specs.declared.timers.Sleeper.{Sleeper as Sleeping}
 use Rattle.exec_task.specs.declared.body.Said.{Said}
 use Rattle.exec_machine.specs.{declared.{event.Event.{Event, TheVariants.Apply}, state.{MailMessage.{MailMessage, TheVariants.CancelTimer}, Sleeper.Sleeper}}, Tasks.removed, Tests.{is_unsent}, World.sleeper_of}
 use Rattle.exec_moves.specs.{declared.place.{InMail.InMail, Place.Place}, Mail.after_message, State.Desk, Told.{told_of_cancel}}
-use Rattle.exec_parts.{specs.{declared.parts.{mail.{Reply.Reply, Subject.Subject}, shared.Shared.Shared, sleeping.SleeperRecord.SleeperRecord, worker.Worker.Worker}, Calls.sleeper_removed, MailTakes.RemovesSleeper, Spots.Spot, View.{common_of, desk_of, message_of}}, proofs.Facts.same_thing}
+use Rattle.exec_parts.{specs.{declared.parts.{mail.{Reply.Reply, Subject.Subject}, shared.Shared.Shared, sleeping.SleeperRecord.SleeperRecord, worker.Worker.Worker}, Calls.sleeper_removed, MailTakes.RemovesSleeper, Spots.Spot, View.{common_of, desk_of, message_of}}, proofs.Facts.same_Some}
 use Rattle.exec_invariants.{specs.{Holding.{Box, Hands, Holder, IsForwarded, IsHolding, Mail, Nap, Thing, box_of, holder_of, is_awaited_by, mail_in, nap_of, thing_of, under_way, waiters}, Sound.{IsMineIn, SoundAt}, Whole.{hands_of, with_worker}, Works.Steps}, proofs.{FiringRemoved.{removed_desk, removed_kept}, HoldMail.is_never, HoldSleeps.nap_redone, Lined.mapped, MailApplies.{AppliedKeeps, one_less, passed_on, rest_of, split_first}, MailApplied.{applied_steps, kept_again, kept_there, touched}, Seen.sleeper_at, ServingHolds.KeepsSpare, Serving.{SparesRecords, spares_sleeper}}}
 use Rattle.exec_messages.proofs.MailCancels.{box_open, in_hand_first}
 use Rattle.exec_parts.specs.declared.parts.mail.Subject.TheVariants as subject
@@ -62,7 +62,7 @@ module _ (h h' : Hands) (workers : ℕ) (hs : List Holder) (ts : List Thing) (na
         sent = λ sent. ((old.sent_too n z there sent).0, over);
         here = λ t o at_t awaits home.
             let a = old.asleep t o n at_t awaits in
-            let is : a.0 ≡ z = same_thing a.0 z (sym a.1 ∙ there) in
+            let is : a.0 ≡ z = same_Some a.0 z (sym a.1 ∙ there) in
             ap (λ (x : Nap). is_unsent x.forwarding) (sym is) ∙ a.2.here home;
         kept = λ t o at_t awaits going kept.
             absurd (let one = waits_once n t hs o at_t awaits going in
@@ -85,7 +85,7 @@ module _ {B L : Type 0} (left : B → L) (spot : L → Option Said → Spot) whe
       let there : slice_get s.sleepers.items z ≡ Some it = r.sleeper in
       let among : Contains w.batch.values m = subst (λ ms. Contains ms m) (sym (split_first w.batch.values m first)) (0, omega arith, refl) in
       let its : IsMineIn s.config.workers w.index (Subject.Timer z) s.requests.items s.sleepers.items = sound.mine m among in
-      let mine : it.shown.worker ≡ w.index = ap (λ (y : SleeperRecord). y.shown.worker) (same_thing it its.0 (sym there ∙ its.1)) ∙ its.2 in
+      let mine : it.shown.worker ≡ w.index = ap (λ (y : SleeperRecord). y.shown.worker) (same_Some it its.0 (sym there ∙ its.1)) ∙ its.2 in
       let seen : KeepsSpare (64 - applied) v s' = removed_kept (64 - applied) z u v s s' (kept_there applied taken w s sound) r mine in
       let desk : desk_of v ≡ told_of_cancel z it.shown (desk_of u) = removed_desk (64 - applied) z u v s s' (kept_there applied taken w s sound) r mine in
       let vw : Worker = record u { home = record u.home { timers = v.home.timers; deferred = record u.home.deferred { notes = v.home.deferred.notes } } } in

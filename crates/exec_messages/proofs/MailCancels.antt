@@ -1,13 +1,13 @@
 -- A message of the batch says that nobody holds a request any more.
-use Rattle.std.proofs.{Common.{◌≡◌, inl, inr, ⊎_elim, ℕ, ◌+◌, ◌-◌, ◌<◌, ◌==◌, Bool, true, false, Contains, List, [], ◌∷◌, count_by, map, Option, Some, None, is_some, Result, Ok, Err, refl, sym, ap, subst, ◌∙◌, arith, slice_get, slice_set, if◌then◌else◌}, lemmas.{Bool.false≢true, List.map-set}}
+use Rattle.std.proofs.{Common.{◌≡◌, ℕ, ◌+◌, ◌-◌, ◌<◌, ◌==◌, Bool, true, false, Contains, List, [], ◌∷◌, count_by, map, Option, Some, None, is_some, Result, Ok, Err, refl, sym, ap, subst, ◌∙◌, arith, slice_get, slice_set, if◌then◌else◌}, lemmas.{List.map-set}}
 use Rattle.exec_base.specs.declared.{error.Error.{Error}, one_shot.OneShotState.{OneShotState}, task_no.TaskNo.TaskNo}
 use Rattle.exec_request.specs.declared.output.RequestOutput.{RequestOutput}
 use Rattle.exec_words.specs.declared.inbox.Message.{Message}
 use Rattle.exec_task.specs.declared.body.Said.{Said}
-use Rattle.exec_machine.specs.{declared.{event.Event.{Event, TheVariants.Apply}, state.{MailMessage.{MailMessage, TheVariants.CancelRequest}, Request.Request}}, Requests.{dropped}, Tests.{is_unsent}, World.request_of}
+use Rattle.exec_machine.specs.{declared.{event.Event.{Event, TheVariants.Apply}, state.{MailMessage.{MailMessage, TheVariants.CancelRequest}, Request.Request}}, Requests.{dropped}, World.request_of}
 use Rattle.exec_moves.specs.{declared.place.{InMail.InMail, Place.Place}, Mail.after_message, State.Desk, Told.{told_of_drop}}
-use Rattle.exec_parts.{specs.{declared.parts.{mail.Subject.Subject, record.Record.Record, shared.Shared.Shared, worker.Worker.Worker}, Awaits.{LetsGo, drops}, Serving.{changed_at, changed_in}, Spots.Spot, View.{Visible, common_of, desk_of, message_of, own_of, visible}}, proofs.Facts.same_thing}
-use Rattle.exec_invariants.{specs.{Holding.{Box, Hands, HasAnswer, Holder, IsAnswerOf, IsForwarded, IsHeldBy, IsHolding, Mail, Nap, Thing, box_of, holder_of, holdings, mail_in, nap_of, thing_of, under_way}, Sound.{IsMineIn, SoundAt, served_in}, Whole.{HasWhole, Profile, hands_of, with_worker}, Works.Steps}, proofs.{AskBoxes.box_there, HoldLets.redone_alone, HoldMail.{is_never, is_once}, LetShown.{SeenLet, let_seen}, Lined.opens_same, MailApplies.{AppliedKeeps, one_less, passed_on, rest_of, split_first}, MailApplied.{applied_steps, kept_again, kept_there, touched}, Recorded.request_seen, Seeing.common_changed, ServingHolds.KeepsSpare, Serving.{SparesRecords, spares_one}, TaskHears.thing_there, TaskOverFold.{dropped_at_gate, dropped_name, dropped_thing}, TaskOverHolds.LetsThing}}
+use Rattle.exec_parts.{specs.{declared.parts.{mail.Subject.Subject, record.Record.Record, shared.Shared.Shared, worker.Worker.Worker}, Awaits.{LetsGo, drops}, Serving.{changed_at, changed_in}, Spots.Spot, View.{Visible, common_of, desk_of, message_of, own_of, visible}}, proofs.Facts.same_Some}
+use Rattle.exec_invariants.{specs.{Holding.{Box, Hands, HasAnswer, Holder, IsAnswerOf, IsHeldBy, IsHolding, Mail, Nap, Thing, box_of, holder_of, holdings, mail_in, nap_of, thing_of, under_way}, Sound.{IsMineIn, SoundAt, served_in}, Whole.{HasWhole, Profile, hands_of, with_worker}, Works.Steps}, proofs.{AskBoxes.box_there, HoldLets.redone_alone, HoldMail.{is_never, is_once}, LetShown.{SeenLet, let_seen}, Lined.opens_same, MailApplies.{AppliedKeeps, one_less, passed_on, rest_of, split_first}, MailApplied.{applied_steps, kept_again, kept_there, touched}, Recorded.request_seen, Seeing.common_changed, ServingHolds.KeepsSpare, Serving.{SparesRecords, spares_one}, TaskHears.thing_there, TaskOverFold.{dropped_at_gate, dropped_name, dropped_thing}, TaskOverHolds.LetsThing}}
 use Rattle.exec_parts.specs.declared.parts.mail.Subject.TheVariants as subject
 
 -- WHAT IS TOLD, whatever is left of the batch
@@ -19,7 +19,7 @@ told_batch = grind arith
 told_wakes : (k : ℕ) (it : Request) (d : Desk) → (told_of_drop k it d).wakes ≡ d.wakes
 told_wakes = grind arith
 
-same_tasks : (xs ys : List TaskNo) → map (λ (t : TaskNo). t.0) xs ≡ map (λ (t : TaskNo). t.0) ys → xs ≡ ys
+pub same_tasks : (xs ys : List TaskNo) → map (λ (t : TaskNo). t.0) xs ≡ map (λ (t : TaskNo). t.0) ys → xs ≡ ys
 same_tasks [] [] same = refl
 same_tasks [] (y ∷ ys) same = absurd (cc)
 same_tasks (x ∷ xs) [] same = absurd (cc)
@@ -47,32 +47,7 @@ module _ (h h' : Hands) (workers : ℕ) (hs : List Holder) (ts : List Thing) (na
   thing_dropped there lets less wakes old =
       let m : Mail = Message.Cancel (subject.Request k) in
       let unseen : r'.observed ≡ false = lets.gone (omega arith) in
-      redone_alone h h' workers hs ts naps boxes k r r' (record {
-        thing = there;
-        worker = lets.worker;
-        waiter = lets.waiter;
-        mail = λ x apart. let few = less x in let none = is_never x m apart.cancel in omega (arith, few, none);
-        made = λ x some. let few = less x in omega (arith, few, some);
-        held = λ box at fact.
-            subst (λ b. IsHeldBy box.shut b (holdings k hs) (under_way h' m boxes)) (sym unseen)
-            (held_gone box.shut r.observed (holdings k hs) (under_way h m boxes) (under_way h' m boxes) (let few = less m in let one = is_once m in omega (arith, few, one)) fact);
-        forwarded = λ box at fact.
-            subst (λ f. IsForwarded box.shut f (under_way h' (Message.Forward (subject.Request k)) boxes)) (sym lets.forwarding)
-            (subst (λ n. IsForwarded box.shut r.forwarding n) (let few = less (Message.Forward (subject.Request k)) in let none = is_never (Message.Forward (subject.Request k)) m (λ e. absurd (cc)) in omega (arith, few, none)) fact);
-        unsent = ap (λ f. is_unsent f) lets.forwarding;
-        sent = λ is. lets.forwarding ∙ old.sent k r there (sym lets.sent ∙ is);
-        due = λ due. ⊎_elim (λ held. absurd (false≢true (sym unseen ∙ held))) (λ goes. inr (ap (λ f. is_unsent f) (sym lets.forwarding) ∙ goes.0, sym lets.sent ∙ goes.1)) due;
-        answer = λ u o at awaits has. answer_on o.output has;
-        fewer = λ i u some. ap (λ (f : ℕ → ℕ → ℕ). f i u) wakes;
-        owes = λ i u some o.
-            record {
-              worker = lets.worker ∙ o.worker;
-              waiter = lets.waiter ∙ o.waiter;
-              unpaid = lets.paid ∙ o.unpaid;
-              unsent = lets.sent ∙ o.unsent;
-              over = ⊎_elim (λ over. inl (ap (λ q. is_some q) (lets.ended over) ∙ over)) (λ lost. inr (unseen, lost.1)) o.over;
-            };
-      }) old
+      redone_alone h h' workers hs ts naps boxes k r r' (grind (arith, is_never, is_once, held_gone)) old
     where
       answer_of : (x : Result RequestOutput Error) → IsAnswerOf x r → IsAnswerOf x r'
       answer_of (Ok told) is = lets.ended (ap (λ q. is_some q) is) ∙ is
@@ -110,7 +85,7 @@ module _ {B L : Type 0} (left : B → L) (spot : L → Option Said → Spot) whe
       let r : Record = lets.r in
       let there : slice_get s.requests.items k ≡ Some r = lets.request in
       let its = mine_first applied taken k w s sound first in
-      let mine : r.shown.worker ≡ w.index = ap (λ (y : Record). y.shown.worker) (same_thing r its.0 (sym there ∙ its.1)) ∙ its.2 in
+      let mine : r.shown.worker ≡ w.index = ap (λ (y : Record). y.shown.worker) (same_Some r its.0 (sym there ∙ its.1)) ∙ its.2 in
       let seen : r.shown.observed ≡ true = cancel_seen applied taken k w s sound has first r there mine in
       let idle : served_in w.place ≡ None = ap served_in sound.here in
       let see : SeenLet k u v s s' idle sound.gates (kept_there applied taken w s sound) lets mine seen = let_seen k u v s s' idle sound.gates (kept_there applied taken w s sound) lets mine seen in
@@ -123,8 +98,7 @@ module _ {B L : Type 0} (left : B → L) (spot : L → Option Said → Spot) whe
       let changed : s'.requests.items ≡ changed_at s.requests.items k drops = lets.records ∙ sym (ap (changed_in s.requests.items k drops) there) in
       let spares : SparesRecords w.index s s1 = spares_one w.index s s1 k r drops (opens_same s.opens s.opens s.requests.items sound.gates refl) (dropped_at_gate r) changed (ap (λ (z : Shared B). z.sleepers.items) lets.kept) there mine worker_kept in
       let keeps_v : KeepsSpare (64 - applied) v s1 = subst (KeepsSpare (64 - applied) v) kept see.keeps_on in
-      let keeps : AppliedKeeps (64 - (applied + 1)) (touched w vw) s1 = (let it = kept_again applied taken vw s1 sound.here (subst (λ x. KeepsSpare (64 - applied) x s1) is_vw keeps_v) in
-      record { told = it.told; wide = it.wide; named = it.named; sized = it.sized; over = it.over; due = it.due; flown = it.flown; carried = it.carried; known = it.known; rooted = it.rooted }) in
+      let keeps : AppliedKeeps (64 - (applied + 1)) (touched w vw) s1 = assumption (kept_again applied taken vw s1 sound.here (subst (λ x. KeepsSpare (64 - applied) x s1) is_vw keeps_v)) in
       let wakes : v.home.deferred.notes.wakes.items ≡ w.home.deferred.notes.wakes.items = same_tasks v.home.deferred.notes.wakes.items w.home.deferred.notes.wakes.items (ap (λ (d : Desk). d.wakes) see.desk ∙ told_wakes k r.shown (desk_of u)) in
       applied_steps left spot applied taken m w w' vw s s' e sound first event worker kept spares keeps
       (λ others whole.

@@ -1,14 +1,14 @@
 -- A message of the batch says that a request is waited for elsewhere, case by case: its end came and went, its output is kept, or it isn't over.
-use Rattle.std.proofs.{Common.{◌≡◌, inl, ℕ, ◌+◌, ◌≤◌, ◌||◌, true, false, not, List, [], ◌∷◌, ◌++◌, slice_index_or, Option, Some, None, IsSome, Result, Ok, Err, refl, sym, ap, subst, ◌∙◌, arith, slice_get, if◌then◌else◌}, lemmas.{Bool.false≢true, List.{append-nil, length-set}}}
+use Rattle.std.proofs.{Common.{◌≡◌, ◌⊎◌, inl, ℕ, ◌+◌, ◌≤◌, ◌||◌, true, false, not, List, [], ◌∷◌, ◌++◌, slice_index_or, Option, Some, None, IsSome, Result, Ok, Err, refl, sym, ap, subst, ◌∙◌, arith, slice_get, if◌then◌else◌}, lemmas.{Bool.false≢true, List.{append-nil, length-set}}}
 use Rattle.exec_base.specs.{Slab.{Slab, is_live, value_at, written, removed, freed}, declared.{error.Error.{Error, TheVariants.Closed}, slab.{Id.Id, Slot.{Slot, TheVariants.{Live, Vacant, Retired}}}, task_no.TaskNo.TaskNo}}
 use Rattle.exec_request.specs.declared.output.RequestOutput.{RequestOutput}
-use Rattle.exec_waiters.{specs.{Events.{answered, forwarded_from, told_by_forward}, States.{awaits_tick, flying_count, is_held_by, is_local, pending_count, tick_of, waiter_at, waiter_of}, Told.{Tells, nothing_told}, declared.{deferred.{Answer.Answer, Deferred.Deferred}, observer.Observer.{Observer, TheVariants.{Local, Forwarded, DetachedSync, Orphaned}}, waiter.{Entry.{Entry, TheVariants.{Pending, Ready}}, Waiter.Waiter}}}, proofs.Changes.one_if}
-use Rattle.exec_driver.specs.{Driving.Driving, Punctual.IsPunctual}
+use Rattle.exec_waiters.{specs.{Events.{answered, forwarded_from, told_by_forward}, States.{awaits_tick, flying_count, is_held_by, is_local, pending_count, tick_of, waiter_at, waiter_of}, Told.{Tells, nothing_told}, declared.{deferred.{Answer.Answer, Deferred.Deferred}, observer.Observer.{Observer, TheVariants.{Local, Forwarded, DetachedSync, Orphaned}}, waiter.{Entry.{Entry, TheVariants.{Pending, Ready}}, Waiter.Waiter}, waiter_id.WaiterId.WaiterId}}, proofs.Changes.one_if}
+use Rattle.exec_driver.specs.{Driving.Driving, Lists.is_among, Punctual.IsPunctual}
 use Rattle.exec_machine.specs.{declared.state.{Forwarding.TheVariants.{Applied, Sent}}, Tests.is_resolved}
 use Rattle.exec_moves.specs.{declared.handing.Heard.Heard, Slots.{is_in_slots, is_some_slot, vacated}, Told.awaits_no_more}
-use Rattle.exec_parts.{specs.{declared.parts.{mail.Reply.Reply, record.Record.Record, shared.Shared.Shared, worker.Worker.Worker}, Calls.{forward_applied, IsTold}, MailTakes.{TakesForward, reply_for}, Records.{number_in, outcome_in}, Serving.changed_at, View.{awaited_from, awaits_entry, desk_of, driver_of, results_in, slots_seen}}, proofs.Facts.{never_true, same_thing}}
-use Rattle.exec_invariants.{specs.{Gates.AreLinedUp, Holding.{IsAnswerOf, thing_of}, Rooted.{IsNear, goes_elsewhere}, Sound.served_in, Names.{IsAlike, tellers}}, proofs.{Changing.{changes_one, flying_after, pending_still}, HeldCounts.held_written, LetRooted.told_one, LetSeen.{not_in, value_live}, LetSlab.{one_held_less, other_entry, past_back, same_flying, same_pending, same_waiters, still_there}, Orders.{alike_self, past_removed}, Resolving.{places_fewer, wide_ended}, ServingHolds.KeepsSpare, Slotted.{awaited_over, awaited_removed, slot_in, slots_vacated, slots_written}, Watching.{Rewatched, Watched, still_pending, watched}}}
-use Rattle.exec_messages.proofs.{MailSent.rooted_sent, MailForwards.{SeenForward, alike_forwarded, apart_at, by_record, by_watched, completed_same, desk_by, due_none, final, forward_shape, kept_as, kept_else, kept_here, last_seen, number, one_is, one_slot, outputs_same, own_by, sent_else, sent_here, sent_now, shows_by, told_then, unapplied, unique_at, wakes_same, wheel_at, wide_then, with_reply}}
+use Rattle.exec_parts.{specs.{declared.parts.{mail.Reply.Reply, record.Record.Record, shared.Shared.Shared, worker.Worker.Worker}, Calls.{forward_applied, IsTold}, MailTakes.{TakesForward, reply_for}, Records.{number_in, outcome_in}, Serving.changed_at, View.{awaited_from, awaits_entry, desk_of, driver_of, results_in, slots_seen}}, proofs.Facts.{false_from_ne_true, same_Some}}
+use Rattle.exec_invariants.{specs.{Gates.AreLinedUp, Holding.{IsAnswerOf, thing_of}, Rooted.{IsNear, goes_elsewhere}, Sound.served_in, Names.{IsAlike, tellers}}, proofs.{Changing.{changes_one, flying_after, pending_still}, HeldCounts.held_written, LetRooted.told_one, LetSeen.{not_in, value_live}, LetSlab.{one_held_less, other_entry, past_back, same_flying, same_pending, same_waiters, still_there}, Orders.{Eases, alike_self, past_removed}, Resolving.{places_fewer, wide_ended}, ServingHolds.KeepsSpare, Slotted.{awaited_over, awaited_removed, slot_in, slots_vacated, slots_written}, Watching.{Rewatched, Watched, still_pending, watched}}}
+use Rattle.exec_messages.proofs.{MailSent.rooted_sent, MailForwards.{SeenForward, alike_forwarded, apart_at, by_record, by_watched, completed_same, desk_by, due_none, final, forward_shape, kept_as, kept_else, kept_here, last_seen, number, one_is, one_slot, outputs_same, own_by, rooted_now, shows_by, told_then, unapplied, unique_at, wakes_same, wheel_at, wide_then, with_reply}}
 
 module _ {B : Type 0} (k : ℕ) (w v : Worker) (s s' : Shared B) (idle : served_in w.place ≡ None) (gates : AreLinedUp s.opens s.requests.items) (spare : ℕ) (keeps : KeepsSpare (spare + 1) w s) (takes : TakesForward k w v s s') (mine : takes.r.shown.worker ≡ w.index) (sent : takes.r.shown.forwarding ≡ Sent) where
   abbrev d : Driving Reply Reply
@@ -47,22 +47,12 @@ module _ {B : Type 0} (k : ℕ) (w v : Worker) (s s' : Shared B) (idle : served_
       let drv : driver_of v ≡ d = takes.forwards.driver ∙ ap (λ o. record d { requests = forwarded_from d.requests id reply o }) none in
       let tells : Tells left0 left (answered id reply (Err Closed)) = subst (λ o. Tells left0 left (told_by_forward id reply o)) none takes.forwards.tells in
       let over : is_resolved r.shown.phase ≡ true = keeps.named.over k r takes.request mine (ap waiter_of none) in
-      let unseen : r.shown.observed ≡ false = never_true r.shown.observed (λ seen. absurd (false≢true (subst (λ o. IsSome o) none (keeps.rooted.ready k r takes.request mine over seen (unapplied k w v s s' idle gates spare keeps takes mine sent)).live))) in
+      let unseen : r.shown.observed ≡ false = false_from_ne_true r.shown.observed (λ seen. absurd (false≢true (subst (λ o. IsSome o) none (keeps.rooted.ready k r takes.request mine over seen (unapplied k w v s s' idle gates spare keeps takes mine sent)).live))) in
       let apart : (x : Id) → IsSome (value_at d.requests x) → number_in n x ≡ k → ⊥ = λ x some is. absurd (false≢true (subst (λ o. IsSome o) (ap (value_at d.requests) (apart_at k w v s s' idle gates spare keeps takes mine sent k takes.request x some is) ∙ none) some)) in
       let elsewhere : goes_elsewhere (forward_applied r) ≡ true = ap (λ b. b || not r.shown.observed) over in
       let added : left.results.items ≡ left0.results.items ++ the_answer (Err Closed) ∷ [] = tells.results_added in
-      let rooted = rooted_sent w.index w.names d d w.home.timers left0 left rs s.sleepers.items k r takes.request (record {
-        mine = mine;
-        apart = apart_at k w v s s' idle gates spare keeps takes mine sent k takes.request;
-        unique = unique_at k w v s s' idle gates spare keeps takes mine sent;
-        others = λ x differs. refl;
-        none = λ told at. let no : None ≡ Some (Ready told) = sym none ∙ at in absurd (cc);
-        here = λ it f at forwarded. let no : None ≡ Some it = sym (ap waiter_of none) ∙ at in absurd (cc);
-        results = sent_now k w v s s' idle gates spare keeps takes mine sent k takes.request refl (Err Closed) added unseen elsewhere;
-        results_else = sent_else k w v s s' idle gates spare keeps takes mine sent k takes.request refl (Err Closed) added unseen elsewhere;
-        sent = sent_here k w v s s' idle gates spare keeps takes mine sent k takes.request refl (Err Closed) added unseen elsewhere;
-        completions = completed_same k w v s s' idle gates spare keeps takes mine sent (Err Closed) tells;
-      }) keeps.rooted in
+      let rooted = rooted_now k w v s s' idle gates spare keeps takes mine sent k takes.request refl (Err Closed) added unseen elsewhere d (λ x differs. refl)
+      (λ told at. let no : None ≡ Some (Ready told) = sym none ∙ at in absurd (cc)) (λ it f at forwarded. let no : None ≡ Some it = sym (ap waiter_of none) ∙ at in absurd (cc)) (completed_same k w v s s' idle gates spare keeps takes mine sent (Err Closed) tells) in
       let absent : is_in_slots k (slots_seen n d.requests) ≡ false = ap is_some_slot (not_in k 0 n d.requests.slots (λ j x at alive same. no_slot none j x at alive (ap (λ m. slice_index_or n m 0) (let e : j ≡ 0 + j = omega arith in e) ∙ same))) in
       record {
         keeps_on = final k w v s s' idle gates spare keeps takes mine sent k refl d drv (by_record k w v s s' idle gates spare keeps takes mine sent k takes.request apart rooted (told_then k w v s s' idle gates spare keeps takes mine sent (Err Closed) tells d.requests (omega arith)) (wide_then k w v s s' idle gates spare keeps takes mine sent (Err Closed) tells d.requests (omega arith)) (wakes_same k w v s s' idle gates spare keeps takes mine sent (Err Closed) tells));
@@ -102,44 +92,18 @@ module _ {B : Type 0} (k : ℕ) (w v : Worker) (s s' : Shared B) (idle : served_
       let small = (keeps.known.past k r takes.request mine).0 in
       let none_waits : waiter_at (removed s0 id) id ≡ None = same_waiters s0 id told ready id ∙ ap waiter_of ready in
       let none : (out : RequestOutput) → value_at (removed s0 id) id ≡ Some (Ready out) → ⊥ = λ out e. (other_entry s0 id told ready id (rw e refl)).0 refl in
-      let by : Watched w.names d d' rs (changed_at rs kk forward_applied) id r forward_applied = record {
-        there = at;
-        name = refl;
-        live = some;
-        records = refl;
-        keeps = refl;
-        timer = λ over. refl;
-        others = still_there s0 id told ready;
-        waits = subst (λ o. Rewatched o (waiter_at (removed s0 id) id)) (sym (ap waiter_of ready)) none_waits;
-        alike = λ x live. let no : None ≡ Some x = sym none_waits ∙ live in absurd (cc);
-        ring = refl;
-        armed = refl;
-        start = refl;
-        tick = refl;
-        enrolments = refl;
-        gated = refl;
-        back = past_back s0 id told ready small;
-        eases = record {
-          ticks = λ x t h. ap tick_of (sym (same_waiters s0 id told ready x)) ∙ h;
-          taken = λ x past none. ap awaits_tick (same_waiters s0 id told ready x) ∙ none;
-          past = past_removed s0 id some;
-        };
-        turns = alike_self d.wheel;
-        slots = length-set s0.slots id.index (freed id.generation);
-        cancels = λ x among. inl among;
+      let waits : Rewatched (waiter_at s0 id) (waiter_at (removed s0 id) id) = subst (λ o. Rewatched o (waiter_at (removed s0 id) id)) (sym (ap waiter_of ready)) none_waits in
+      let alike : (x : Waiter Reply Reply) → waiter_at (removed s0 id) id ≡ Some x → IsAlike d.wheel.start d.wheel.tick x (forward_applied r).shown = λ x live. let no : None ≡ Some x = sym none_waits ∙ live in absurd (cc) in
+      let eases : Eases s0 (removed s0 id) = record {
+        ticks = λ x t h. ap tick_of (sym (same_waiters s0 id told ready x)) ∙ h;
+        taken = λ x past none. ap awaits_tick (same_waiters s0 id told ready x) ∙ none;
+        past = past_removed s0 id some;
       } in
-      let rooted = rooted_sent w.index w.names d d' zs left0 left rs s.sleepers.items kk r at (record {
-        mine = mine;
-        apart = apart_at k w v s s' idle gates spare keeps takes mine sent kk at;
-        unique = λ j x there of_i same. unique_at k w v s s' idle gates spare keeps takes mine sent j x there of_i same ∙ sym is;
-        others = still_there s0 id told ready;
-        none = none;
-        here = λ it f at forwarded. let no : None ≡ Some it = sym none_waits ∙ at in absurd (cc);
-        results = sent_now k w v s s' idle gates spare keeps takes mine sent kk at is (Ok told) added answer elsewhere;
-        results_else = sent_else k w v s s' idle gates spare keeps takes mine sent kk at is (Ok told) added answer elsewhere;
-        sent = sent_here k w v s s' idle gates spare keeps takes mine sent kk at is (Ok told) added answer elsewhere;
-        completions = completed_same k w v s s' idle gates spare keeps takes mine sent (Ok told) tells;
-      }) keeps.rooted in
+      let timer : is_resolved r.shown.phase ≡ true → (forward_applied r).shown.timer ≡ r.shown.timer = λ over. refl in
+      let cancels : (x : WaiterId) → is_among x d.lists.cancels ≡ true → (is_among x d.lists.cancels ≡ true) ⊎ ((x.0 ≡ id) × (r.shown.cancel_staged ≡ false)) = λ x among. inl among in
+      let by : Watched w.names d d' rs (changed_at rs kk forward_applied) id r forward_applied = assumption (at, some, timer, waits, alike, eases, cancels, still_there s0 id told ready, past_back s0 id told ready small, alike_self d.wheel, length-set s0.slots id.index (freed id.generation)) in
+      let rooted = rooted_now k w v s s' idle gates spare keeps takes mine sent kk at is (Ok told) added answer elsewhere d' (still_there s0 id told ready) none
+      (λ it f at forwarded. let no : None ≡ Some it = sym none_waits ∙ at in absurd (cc)) (completed_same k w v s s' idle gates spare keeps takes mine sent (Ok told) tells) in
       let pending = same_pending s0 id told ready in
       let held = one_held_less s0 id told ready in
       let fewer : tellers (removed s0 id) zs ≤ tellers s0 zs = omega (arith, pending, held) in
@@ -201,7 +165,7 @@ module _ {B : Type 0} (k : ℕ) (w v : Worker) (s s' : Shared B) (idle : served_
           others = λ x differs. by.others x differs;
           none = still_pending s0 slab id it it' live refl;
           here = λ x f at forwarded.
-              let same : it' ≡ x = same_thing it' x (sym now ∙ at) in
+              let same : it' ≡ x = same_Some it' x (sym now ∙ at) in
               let which : Forwarded reply ≡ Forwarded f = ap (λ (y : Waiter Reply Reply). y.observer) same ∙ forwarded in
               let it_is : reply ≡ f = cc in
               (refl, record { of = ap (λ (y : Reply). y.of) (sym it_is) ∙ ap (λ m. Heard.Request m) (sym is); task = takes.forwards.waited ∙ ap (λ (y : Reply). Some y.task.0) it_is });
@@ -251,43 +215,14 @@ module _ {B : Type 0} (k : ℕ) (w v : Worker) (s s' : Shared B) (idle : served_
         let tells : Tells left0 left (answered id reply (Err Closed)) = subst (λ (o : Observer Reply Reply). Tells left0 left (if is_local o then nothing_told else answered id reply (Err Closed))) who (subst (λ o. Tells left0 left (told_by_forward id reply o)) value takes.forwards.tells) in
         let added : left.results.items ≡ left0.results.items ++ the_answer (Err Closed) ∷ [] = tells.results_added in
         let elsewhere : goes_elsewhere (forward_applied r) ≡ true = ap (λ b. b || not r.shown.observed) a.open_still ∙ ap not unseen in
-        let by : Watched w.names d d rs (changed_at rs kk forward_applied) id r forward_applied = record {
-          there = at;
-          name = refl;
-          live = some_there;
-          records = refl;
-          keeps = refl;
-          timer = λ over. refl;
-          others = λ x apart. refl;
-          waits = subst (λ o. Rewatched o (waiter_at s0 id)) (sym live) (it, live, refl, (refl, (λ h. h), (λ h. h)));
-          alike = λ x there. subst (λ (y : Waiter Reply Reply). IsAlike d.wheel.start d.wheel.tick y (forward_applied r).shown) (same_thing it x (sym live ∙ there)) (alike_alone who a);
-          ring = refl;
-          armed = refl;
-          start = refl;
-          tick = refl;
-          enrolments = refl;
-          gated = refl;
-          back = λ x past. past;
-          eases = record { ticks = λ x t h. h; taken = λ x past none. none; past = λ x small past. past };
-          turns = alike_self d.wheel;
-          slots = refl;
-          cancels = λ x among. inl among;
-        } in
-        let rooted = rooted_sent w.index w.names d d zs left0 left rs s.sleepers.items kk r at (record {
-          mine = mine;
-          apart = apart_at k w v s s' idle gates spare keeps takes mine sent kk at;
-          unique = λ j x there of_i same. unique_at k w v s s' idle gates spare keeps takes mine sent j x there of_i same ∙ sym is;
-          others = λ x differs. refl;
-          none = λ told there. let no : Some (Pending it) ≡ Some (Ready told) = sym value ∙ there in absurd (cc);
-          here = λ x f there forwarded.
-              let same : it ≡ x = same_thing it x (sym live ∙ there) in
-              let no : Orphaned ≡ Forwarded f = sym who ∙ ap (λ (y : Waiter Reply Reply). y.observer) same ∙ forwarded in
-              absurd (cc);
-          results = sent_now k w v s s' idle gates spare keeps takes mine sent kk at is (Err Closed) added unseen elsewhere;
-          results_else = sent_else k w v s s' idle gates spare keeps takes mine sent kk at is (Err Closed) added unseen elsewhere;
-          sent = sent_here k w v s s' idle gates spare keeps takes mine sent kk at is (Err Closed) added unseen elsewhere;
-          completions = completed_same k w v s s' idle gates spare keeps takes mine sent (Err Closed) tells;
-        }) keeps.rooted in
+        let by : Watched w.names d d rs (changed_at rs kk forward_applied) id r forward_applied = grind (arith, alike_self, alike_alone) in
+        let rooted = rooted_now k w v s s' idle gates spare keeps takes mine sent kk at is (Err Closed) added unseen elsewhere d (λ x differs. refl)
+        (λ told there. let no : Some (Pending it) ≡ Some (Ready told) = sym value ∙ there in absurd (cc))
+        (λ x f there forwarded.
+        let same : it ≡ x = same_Some it x (sym live ∙ there) in
+        let no : Orphaned ≡ Forwarded f = sym who ∙ ap (λ (y : Waiter Reply Reply). y.observer) same ∙ forwarded in
+        absurd (cc))
+        (completed_same k w v s s' idle gates spare keeps takes mine sent (Err Closed) tells) in
         record {
           keeps_on = final k w v s s' idle gates spare keeps takes mine sent kk is d drv (by_watched k w v s s' idle gates spare keeps takes mine sent d by rooted (told_then k w v s s' idle gates spare keeps takes mine sent (Err Closed) tells s0 (omega arith)) (wide_then k w v s s' idle gates spare keeps takes mine sent (Err Closed) tells s0 (omega arith)) (wakes_same k w v s s' idle gates spare keeps takes mine sent (Err Closed) tells) refl keeps.due.punctual (due_none k w v s s' idle gates spare keeps takes mine sent) (wheel_at k w v s s' idle gates spare keeps takes mine sent));
           desk = desk_by k w v s s' idle gates spare keeps takes mine sent s0 drv (wakes_same k w v s s' idle gates spare keeps takes mine sent (Err Closed) tells) (completed_same k w v s s' idle gates spare keeps takes mine sent (Err Closed) tells) (outputs_same k w v s s' idle gates spare keeps takes mine sent (Err Closed) tells)

@@ -6,9 +6,9 @@ use Rattle.exec_words.specs.declared.inbox.Message.{Message}
 use Rattle.exec_task.specs.declared.body.Said.{Said}
 use Rattle.exec_machine.specs.{declared.{event.Event.{Event, TheVariants.Apply}, state.{Forwarding.{Forwarding, TheVariants.{Applied, Sent}}, MailMessage.{MailMessage, TheVariants.ForwardRequest}, Request.Request}}, Tests.{is_unsent}, World.request_of}
 use Rattle.exec_moves.specs.{declared.place.{InMail.InMail, Place.Place}, Mail.after_message, State.Desk, Told.told_of_forward}
-use Rattle.exec_parts.{specs.{declared.parts.{mail.Subject.Subject, record.Record.Record, shared.Shared.Shared, worker.Worker.Worker}, Calls.forward_applied, MailTakes.TakesForward, Serving.{changed_at, changed_in}, Spots.Spot, View.{Visible, common_of, desk_of, message_of, own_of, visible}}, proofs.Facts.same_thing}
+use Rattle.exec_parts.{specs.{declared.parts.{mail.Subject.Subject, record.Record.Record, shared.Shared.Shared, worker.Worker.Worker}, Calls.forward_applied, MailTakes.TakesForward, Serving.{changed_at, changed_in}, Spots.Spot, View.{Visible, common_of, desk_of, message_of, own_of, visible}}, proofs.Facts.same_Some}
 use Rattle.exec_invariants.{specs.{Holding.{Box, Hands, HasAnswer, Holder, IsAnswerOf, IsForwarded, IsHolding, Mail, Nap, Thing, box_of, holder_of, mail_in, nap_of, thing_of, under_way}, Sound.{IsMineIn, SoundAt, served_in}, Whole.{HasWhole, hands_of, with_worker}, Works.Steps}, proofs.{AskBoxes.box_there, HoldLets.redone_alone, HoldMail.{is_never, is_once}, Lined.{SameAtGate, opens_same}, MailApplies.{AppliedKeeps, one_less, passed_on, rest_of, split_first}, MailApplied.{applied_steps, kept_so, kept_there, touched}, Recorded.request_seen, Seeing.common_changed, ServingHolds.KeepsSpare, Serving.{SparesRecords, spares_one}, TaskHears.thing_there}}
-use Rattle.exec_messages.proofs.{MailCancels.{box_open, in_hand_first}, MailForwardEnds.forward_seen, MailForwards.{SeenForward}}
+use Rattle.exec_messages.proofs.{MailCancels.{box_open, in_hand_first, same_tasks}, MailForwardEnds.forward_seen, MailForwards.{SeenForward}}
 use Rattle.exec_parts.specs.declared.parts.mail.Subject.TheVariants as subject
 
 -- whatever is left of the batch
@@ -68,7 +68,7 @@ module _ {B L : Type 0} (left : B → L) (spot : L → Option Said → Spot) whe
       let r : Record = takes.r in
       let there : slice_get s.requests.items k ≡ Some r = takes.request in
       let its = forward_mine applied taken k w s sound first in
-      let mine : r.shown.worker ≡ w.index = ap (λ (y : Record). y.shown.worker) (same_thing r its.0 (sym there ∙ its.1)) ∙ its.2 in
+      let mine : r.shown.worker ≡ w.index = ap (λ (y : Record). y.shown.worker) (same_Some r its.0 (sym there ∙ its.1)) ∙ its.2 in
       let sent : r.shown.forwarding ≡ Sent = forward_sent applied taken k w s sound has first r there mine in
       let idle : served_in w.place ≡ None = ap served_in sound.here in
       let few : applied < 64 = sound.aims in
@@ -85,9 +85,8 @@ module _ {B L : Type 0} (left : B → L) (spot : L → Option Said → Spot) whe
       let gate : SameAtGate r (forward_applied r) = record { at = refl; over = λ h. h; sent = refl; forwarded = λ h. refl } in
       let spares : SparesRecords w.index s s1 = spares_one w.index s s1 k r forward_applied (opens_same s.opens s.opens s.requests.items sound.gates refl) gate changed (ap (λ (z : Shared B). z.sleepers.items) takes.kept) there mine (λ y. refl) in
       let keeps_v : KeepsSpare (64 - (applied + 1)) v s1 = subst (KeepsSpare (64 - (applied + 1)) v) kept see.keeps_on in
-      let keeps : AppliedKeeps (64 - (applied + 1)) (touched w vw) s1 = (let it = kept_so applied taken vw s1 sound.here (subst (λ x. KeepsSpare (64 - (applied + 1)) x s1) is_vw keeps_v) in
-      record { told = it.told; wide = it.wide; named = it.named; sized = it.sized; over = it.over; due = it.due; flown = it.flown; carried = it.carried; known = it.known; rooted = it.rooted }) in
-      let wakes : v.home.deferred.notes.wakes.items ≡ w.home.deferred.notes.wakes.items = same_numbers v.home.deferred.notes.wakes.items w.home.deferred.notes.wakes.items (ap (λ (d : Desk). d.wakes) see.desk ∙ forward_wakes k r.shown (desk_of u)) in
+      let keeps : AppliedKeeps (64 - (applied + 1)) (touched w vw) s1 = assumption (kept_so applied taken vw s1 sound.here (subst (λ x. KeepsSpare (64 - (applied + 1)) x s1) is_vw keeps_v)) in
+      let wakes : v.home.deferred.notes.wakes.items ≡ w.home.deferred.notes.wakes.items = same_tasks v.home.deferred.notes.wakes.items w.home.deferred.notes.wakes.items (ap (λ (d : Desk). d.wakes) see.desk ∙ forward_wakes k r.shown (desk_of u)) in
       applied_steps left spot applied taken m w w' vw s s' e sound first event worker kept spares keeps
       (λ others whole.
       let x = with_worker others w in
@@ -106,12 +105,3 @@ module _ {B L : Type 0} (left : B → L) (spot : L → Option Said → Spot) whe
         shows = ap (λ (y : Worker). record (visible y) { taken = batch }) (sym is_vw) ∙ ap (λ (y : Visible). record y { taken = batch }) see.shows;
         common = common_changed left spot p vs s s1 k r forward_applied (ap (λ (z : Shared B). record s { requests = s'.requests; sleepers = z.sleepers }) takes.kept) changed there refl ∙ ap (λ (q : Request). record cs { requests = slice_set cs.requests k (record q { forwarding = Applied }) }) (sym request);
       })
-    where
-      same_numbers : (xs ys : List TaskNo) → map (λ (t : TaskNo). t.0) xs ≡ map (λ (t : TaskNo). t.0) ys → xs ≡ ys
-      same_numbers [] [] same = refl
-      same_numbers [] (y ∷ ys) same = absurd (cc)
-      same_numbers (x ∷ xs) [] same = absurd (cc)
-      same_numbers (x ∷ xs) (y ∷ ys) same =
-          let first : x.0 ≡ y.0 = cc in
-          let later : map (λ (t : TaskNo). t.0) xs ≡ map (λ (t : TaskNo). t.0) ys = cc in
-          ap (λ n. record { 0 = n } ∷ xs) first ∙ ap (λ ts. y ∷ ts) (same_numbers xs ys later)

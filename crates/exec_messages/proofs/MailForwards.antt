@@ -1,15 +1,15 @@
 -- A message of the batch says that a request is waited for elsewhere: what holds again of the worker's own, and what is seen of it.
-use Rattle.std.proofs.{Common.{◌≡◌, ◌⊎◌, inl, inr, ℕ, ◌+◌, ◌≤◌, ◌==◌, ◌&&◌, ◌||◌, Bool, true, false, not, Contains, List, [], ◌∷◌, ◌++◌, count_by, length, map, slice_index_or, Some, None, IsSome, Result, Ok, Err, refl, sym, ap, subst, ◌∙◌, arith, slice_get, slice_set, if◌then◌else◌}, lemmas.{Bool.{false≢true, eq-eqb}, List.{append-nil, map-append, Elements.Contains-append_cases}}}
+use Rattle.std.proofs.{Common.{◌≡◌, ◌≢◌, ◌⊎◌, inl, inr, ℕ, ◌+◌, ◌≤◌, ◌==◌, ◌&&◌, ◌||◌, Bool, true, false, not, Contains, List, [], ◌∷◌, ◌++◌, count_by, length, map, slice_index_or, Some, None, IsSome, Result, Ok, Err, refl, sym, ap, subst, ◌∙◌, arith, slice_get, slice_set, if◌then◌else◌}, lemmas.{Bool.{false≢true, eq-eqb}, List.{append-nil, map-append, Elements.Contains-append_cases}}}
 use Rattle.exec_base.specs.{Slab.{Slab, is_live, value_at}, declared.{error.Error.Error, slab.{Id.Id, Slot.{Slot, TheVariants.{Live, Vacant, Retired}}}, task_no.TaskNo.TaskNo}}
 use Rattle.exec_request.specs.declared.output.RequestOutput.{RequestOutput}
-use Rattle.exec_waiters.specs.{Events.{answered, with_observer}, States.{flying_count, pending_count}, Told.Tells, declared.{deferred.{Answer.Answer, Deferred.Deferred}, observer.Observer.TheVariants.Forwarded, waiter.{Entry.Entry, Waiter.Waiter}}}
+use Rattle.exec_waiters.specs.{Events.{answered, with_observer}, States.{flying_count, pending_count, waiter_at}, Told.Tells, declared.{deferred.{Answer.Answer, Deferred.Deferred}, observer.Observer.TheVariants.Forwarded, waiter.{Entry.{Entry, TheVariants.Ready}, Waiter.Waiter}}}
 use Rattle.exec_ring.specs.Rings.{RingState, completions}
 use Rattle.exec_driver.specs.{Driving.Driving, Punctual.IsPunctual}
 use Rattle.exec_machine.specs.{declared.state.{Forwarding.TheVariants.{Sent}}, Tests.{is_applied, is_resolved}}
 use Rattle.exec_moves.specs.{declared.handing.Heard.Heard, State.Desk, Told.{awaits_no_more, one_result, told_of_forward, without_request}}
-use Rattle.exec_parts.{specs.{declared.parts.{mail.Reply.Reply, record.Record.Record, shared.Shared.Shared, worker.Worker.Worker}, Calls.{forward_applied, IsTold}, MailTakes.{TakesForward, reply_for}, Records.number_in, Serving.{changed_at, changed_in}, View.{Visible, awaited_from, completions_in, desk_of, driver_of, landed_in, message_of, number_heard, numbers_of, own_of, results_in, slots_seen, trailing, visible, wake_poll_in}}, proofs.Facts.{not_same, same_thing}}
-use Rattle.exec_invariants.{specs.{Due.{IsDue, IsWheelAt, may_be_due, wheel_moment}, Flown.HasFlown, Gates.AreLinedUp, Holding.{IsAnswerOf, thing_of}, Places.one_if as one_when, Rooted.{IsResult, IsRooted, goes_elsewhere, is_of_request, results_of}, Sound.{AreOver, served_in}, Names.{HasWidth, IsAlike, tellers}}, proofs.{Carries.carried_marked, Known.{known_marked, low_there}, LetKept.count_last, LetRooted.{TellsOne, told_one}, LetSeen.value_live, Resolving.{places_fewer, wide_ended}, ServedEnds.only_one, ServingHolds.{KeepsSpare, KeepsWith, keeps_home}, Slotted.OneSlot, Watching.{Watched, carried_watched, due_watched, flown_watched, known_watched, named_watched, over_watched}}}
-use Rattle.exec_messages.proofs.MailSent.{flown_gone, here_sent, named_gone, over_gone, timed_gone}
+use Rattle.exec_parts.{specs.{declared.parts.{mail.Reply.Reply, record.Record.Record, shared.Shared.Shared, worker.Worker.Worker}, Calls.{forward_applied, IsTold}, MailTakes.{TakesForward, reply_for}, Records.number_in, Serving.{changed_at, changed_in}, View.{Visible, awaited_from, completions_in, desk_of, driver_of, landed_in, message_of, number_heard, numbers_of, own_of, results_in, slots_seen, trailing, visible, wake_poll_in}}, proofs.Facts.{not_same, same_Some}}
+use Rattle.exec_invariants.{specs.{Due.{IsDue, IsWheelAt, may_be_due, wheel_moment}, Flown.HasFlown, Gates.AreLinedUp, Holding.{IsAnswerOf, thing_of}, HoldPlaces.has_wakes_at, Places.one_if as one_when, Rooted.{IsReplyFor, IsResult, IsRooted, goes_elsewhere, is_of_request, results_of}, Sound.{AreOver, served_in}, Names.{HasWidth, IsAlike, tellers}}, proofs.{Carries.carried_marked, Known.{known_marked, low_there}, LetKept.count_last, LetRooted.{TellsOne, told_one}, LetSeen.value_live, Resolving.{places_fewer, wide_ended}, ServedEnds.only_one, ServingHolds.{KeepsSpare, KeepsWith, keeps_home}, Slotted.OneSlot, Watching.{Watched, carried_watched, due_watched, flown_watched, known_watched, named_watched, over_watched}}}
+use Rattle.exec_messages.proofs.MailSent.{flown_gone, here_sent, named_gone, over_gone, rooted_sent, timed_gone}
 
 -- who waits for it is elsewhere
 abbrev pub with_reply : Reply → Waiter Reply Reply → Waiter Reply Reply
@@ -127,6 +127,14 @@ module _ {B : Type 0} (k : ℕ) (w v : Worker) (s s' : Shared B) (idle : served_
           let now = ap one_when elsewhere in
           omega (arith, one, none, now)
 
+      pub rooted_now : (d' : Driving Reply Reply) → ((x : Id) → x ≢ id → value_at d'.requests x ≡ value_at d.requests x) → ((told : RequestOutput) → value_at d'.requests id ≡ Some (Ready told) → ⊥)
+          → ((it : Waiter Reply Reply) (f : Reply) → waiter_at d'.requests id ≡ Some it → it.observer ≡ Forwarded f → ⊥) → left.notes.completions.items ≡ left0.notes.completions.items
+          → IsRooted w.index w.names d' w.home.timers left (changed_at rs q forward_applied) s.sleepers.items
+      rooted_now d' others none nobody completions =
+          let unique : (j : ℕ) (x : Record) → slice_get rs j ≡ Some x → x.shown.worker ≡ w.index → x.id.0 ≡ id → j ≡ q = λ j x there of_i same. unique_at j x there of_i same ∙ sym is in
+          let here : (it : Waiter Reply Reply) (f : Reply) → waiter_at d'.requests id ≡ Some it → it.observer ≡ Forwarded f → (kk ≡ q) × IsReplyFor q f r = λ it f there forwarded. absurd (nobody it f there forwarded) in
+          rooted_sent w.index w.names d d' w.home.timers left0 left rs s.sleepers.items q r at (assumption (mine, apart_at q at, unique, others, none, here, sent_now, sent_else, sent_here, completions)) keeps.rooted
+
     -- none yet
     module _ (added : left.results.items ≡ left0.results.items) (still : goes_elsewhere (forward_applied r) ≡ false) where
       pub kept_as : (a : Answer Reply) → Contains left.results.items a → Contains left0.results.items a ⊎ IsResult w.index a (changed_at rs q forward_applied)
@@ -149,20 +157,20 @@ module _ {B : Type 0} (k : ℕ) (w v : Worker) (s s' : Shared B) (idle : served_
       let zs = w.home.timers in
       let ss = s.sleepers.items in
       let rs1 = changed_at rs kk forward_applied in
-      record {
-        told = told;
-        wide = wide;
-        named = named_watched i ns d d' zs rs rs1 ss id r forward_applied by keeps.named;
-        sized = ap (λ x. x.size) by.ring ∙ keeps.sized;
-        over = subst (λ m. AreOver i ns.ended.items ns.unreleased m rs1) (sym pending) (over_watched i ns d d' zs rs rs1 ss id r forward_applied by ns.ended.items ns.unreleased (pending_count d.requests) keeps.over);
-        quiet = λ h. wakes ∙ keeps.quiet h;
-        due = subst (λ x. IsDue x w.home.closing i w.moments s.config ns d' zs rs1 ss) (sym idle) (due_watched i ns d d' zs rs rs1 ss id r forward_applied by w.moments s.config punctual due wheel (subst (λ x. IsDue x w.home.closing i w.moments s.config ns d zs rs ss) idle keeps.due));
-        flown = flown_watched i ns d d' zs rs rs1 ss id r forward_applied by (served_in w.place) keeps.flown;
-        carried = carried_watched i ns d d' zs rs rs1 ss id r forward_applied by s.store keeps.carried;
-        known = known_watched i ns d d' zs rs rs1 ss id r forward_applied by s.opens keeps.known;
-        rooted = rooted;
-        bare = keeps.bare;
-      }
+      let over = subst (λ m. AreOver i ns.ended.items ns.unreleased m rs1) (sym pending) (over_watched i ns d d' zs rs rs1 ss id r forward_applied by ns.ended.items ns.unreleased (pending_count d.requests) keeps.over) in
+      let quiet : has_wakes_at w.place ≡ false → left.notes.wakes.items ≡ [] = λ h. wakes ∙ keeps.quiet h in
+      let due_now = subst (λ x. IsDue x w.home.closing i w.moments s.config ns d' zs rs1 ss) (sym idle) (due_watched i ns d d' zs rs rs1 ss id r forward_applied by w.moments s.config punctual due wheel (subst (λ x. IsDue x w.home.closing i w.moments s.config ns d zs rs ss) idle keeps.due)) in
+      assumption (
+        named_watched i ns d d' zs rs rs1 ss id r forward_applied by keeps.named,
+        ap (λ x. x.size) by.ring ∙ keeps.sized,
+        over,
+        quiet,
+        due_now,
+        flown_watched i ns d d' zs rs rs1 ss id r forward_applied by (served_in w.place) keeps.flown,
+        carried_watched i ns d d' zs rs rs1 ss id r forward_applied by s.store keeps.carried,
+        known_watched i ns d d' zs rs rs1 ss id r forward_applied by s.opens keeps.known,
+        keeps.bare,
+      )
 
   -- and where it hasn't
   pub by_record : (q : ℕ) → slice_get rs q ≡ Some r → ((x : Id) → IsSome (value_at d.requests x) → number_in n x ≡ q → ⊥) → IsRooted w.index w.names d w.home.timers left (changed_at rs q forward_applied) s.sleepers.items
@@ -175,20 +183,13 @@ module _ {B : Type 0} (k : ℕ) (w v : Worker) (s s' : Shared B) (idle : served_
       let ss = s.sleepers.items in
       let due = subst (λ x. IsDue x w.home.closing i w.moments s.config ns d zs rs ss) idle keeps.due in
       let flown = subst (λ x. HasFlown x i ns d rs) idle keeps.flown in
-      record {
-        told = told;
-        wide = wide;
-        named = named_gone i ns d zs rs ss q r at apart keeps.named;
-        sized = keeps.sized;
-        over = over_gone i ns d zs rs ss q r at apart ns.ended.items ns.unreleased (pending_count d.requests) keeps.over;
-        quiet = λ h. wakes ∙ keeps.quiet h;
-        due = subst (λ x. IsDue x w.home.closing i w.moments s.config ns d zs (changed_at rs q forward_applied) ss) (sym idle) (let timed = timed_gone i ns d zs rs ss q r at apart due.timed in assumption (timed, due));
-        flown = subst (λ x. HasFlown x i ns d (changed_at rs q forward_applied)) (sym idle) (flown_gone i ns d zs rs ss q r at apart flown);
-        carried = carried_marked n d.requests d.ring rs s.store keeps.carried q forward_applied (λ y there. refl) (λ y there. refl);
-        known = known_marked i n d.requests s.opens s.opens rs q forward_applied (λ y. record { id = refl; worker = refl; kind = refl; target = refl; unrefused = λ h. h }) (λ file h. h) keeps.known;
-        rooted = rooted;
-        bare = keeps.bare;
-      }
+      let quiet : has_wakes_at w.place ≡ false → left.notes.wakes.items ≡ [] = λ h. wakes ∙ keeps.quiet h in
+      let timed = timed_gone i ns d zs rs ss q r at apart due.timed in
+      let due_now = subst (λ x. IsDue x w.home.closing i w.moments s.config ns d zs (changed_at rs q forward_applied) ss) (sym idle) (assumption (timed, due)) in
+      let flown_now = subst (λ x. HasFlown x i ns d (changed_at rs q forward_applied)) (sym idle) (flown_gone i ns d zs rs ss q r at apart flown) in
+      let carried = carried_marked n d.requests d.ring rs s.store keeps.carried q forward_applied (λ y there. refl) (λ y there. refl) in
+      let known = known_marked i n d.requests s.opens s.opens rs q forward_applied (λ y. record { id = refl; worker = refl; kind = refl; target = refl; unrefused = λ h. h }) (λ file h. h) keeps.known in
+      assumption (named_gone i ns d zs rs ss q r at apart keeps.named, over_gone i ns d zs rs ss q r at apart ns.ended.items ns.unreleased (pending_count d.requests) keeps.over, quiet, due_now, flown_now, carried, known, keeps)
 
   -- WHAT IS SEEN OF IT
   pub record SeenForward : Type 0 where
@@ -237,19 +238,14 @@ module _ {B : Type 0} (k : ℕ) (w v : Worker) (s s' : Shared B) (idle : served_
   -- each number stands in one slot
   pub one_slot : (e : Entry Reply Reply) → value_at d.requests id ≡ Some e → OneSlot n d.requests id
   one_slot e value =
-      record {
-        e = e;
-        live = value;
-        low = low_there w.index n d.requests s.opens s.requests.items keeps.known id (rw value refl);
-        alone = λ j x at alive same. by j x at alive same;
-      }
+      grind (arith, value, low_there, w.index, d.requests, s.opens, s.requests.items, keeps.known, id, by)
     where
       by : (j : ℕ) (x : Slot (Entry Reply Reply)) → slice_get d.requests.slots j ≡ Some x → is_live x ≡ true → slice_index_or n j 0 ≡ number_in n id → j ≡ id.index
       by j (Live g x) at alive same =
           let other : Id = record { index = j; generation = g } in
           let a = keeps.named.requests other (rw (value_live d.requests j g x at) refl) in
           let b = keeps.named.requests id (rw value refl) in
-          let both : a.0 ≡ b.0 = same_thing a.0 b.0 (sym a.1 ∙ ap (slice_get s.requests.items) same ∙ b.1) in
+          let both : a.0 ≡ b.0 = same_Some a.0 b.0 (sym a.1 ∙ ap (slice_get s.requests.items) same ∙ b.1) in
           ap (λ (y : Id). y.index) (sym a.2 ∙ ap (λ (y : Record). y.id.0) both ∙ b.2)
       by j (Vacant g) at alive same = absurd (false≢true alive)
       by j Retired at alive same = absurd (false≢true alive)

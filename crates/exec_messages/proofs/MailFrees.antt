@@ -6,9 +6,9 @@ use Rattle.exec_waiters.specs.{States.pending_count, declared.deferred.Deferred.
 use Rattle.exec_driver.specs.Driving.{Driving}
 use Rattle.exec_task.specs.declared.body.Said.{Said}
 use Rattle.exec_machine.specs.{declared.{event.Event.{Event, TheVariants.Release}, state.{Next.Next}}, Choice.Choice.Plain, Ranges.ring_size, Same.is_number, Tests.{is_applied, is_resolved}, World.{request_of, Own as Books}}
-use Rattle.exec_moves.specs.{declared.{handing.AfterCallbacks.AfterCallbacks, place.{InCallbacks.InCallbacks, Place.Place}}, Callback.{Item.Releases, after_callbacks, has_callbacks, item_next, next_callback}, State.Desk, Move.{move_at, move_item}, Seen.{next_at, polls_at}}
-use Rattle.exec_parts.{specs.{Calls.{releasing, IsTold}, Phased.{IsPhased, closes_before, stage_of}, Records.number_in, Serving.{changed_at, changed_in}, Spots.Spot, Tests.{after_callbacks_of, is_anything_told, next_callback_of}, View.{common_of, desk_of, driver_of, own_of, numbers_of_passing, things_with, visible, with_view}, declared.parts.{mail.{Reply.Reply, Subject.Subject}, names.Names.Names, record.Record.Record, seat.Seat.Seat as Chair, shared.Shared.Shared, sleeping.SleeperRecord.SleeperRecord, worker.Worker.Worker}}, proofs.{Facts.true_false, Showing.map_kept}}
-use Rattle.exec_invariants.{specs.{Carried.{HasRoom, IsCarried}, Due.IsDue, Flown.HasFlown, Gates.{AreLinedUp, HaveGates, IsKnown}, HoldPlaces.spare_before, Holding.{Mail, IsAnswerOf, IsHolding, box_of, holder_of, nap_of, thing_of}, Places.{one_if, searches_before}, Rooted.{IsKept, IsReplyFor, IsRooted, Pays, StandsAt, goes_elsewhere, results_of}, Sound.{AreOver, HasLetters, IsMyMail, IsSearching, SoundAt, has_wakes_at}, Names.{HasWidth, IsNamed, tellers}, Whole.{IsWhole, hands_of, with_worker}, Works.{Beside, Steps, Suits}}, proofs.{Aside.{SameProfile, profile_same}, CallsBack.{after_seen, callbacks_seen}, Carries.carried_marked, Flown.flown_marked, Hearing.unheard, Idled.Fares, Known.known_marked, Lined.{SameAtGate, gates_kept, gates_seen_same, lined_kept, opens_same, passing_same, was_sent}, MailBack.{Rests, goes_next, idle_before, next_fares, next_sound, rests_next, stance}, Marking.{due_marked, mark_if, mark_kept, marked, named_marked, releases, was_marked}, Phased.phased_count, Recorded.request_seen, Seeing.common_changed, Serving.{SparesRecords, letter_kept, mail_kept, spares_one, spares_service}, Turning.view_found}}
+use Rattle.exec_moves.specs.{declared.{handing.AfterCallbacks.AfterCallbacks, place.{InCallbacks.InCallbacks, Place.Place}}, Callback.{Item.Releases, after_callbacks, has_callbacks, item_next, next_callback}, State.Desk, Move.{move_at}, Seen.{next_at, polls_at}}
+use Rattle.exec_parts.{specs.{Calls.{releasing, IsTold}, Phased.{IsPhased, closes_before, stage_of}, Records.number_in, Serving.{changed_at, changed_in}, Spots.Spot, Tests.{after_callbacks_of, is_anything_told, next_callback_of}, View.{common_of, desk_of, driver_of, own_of, things_with, visible, with_view}, declared.parts.{mail.{Reply.Reply, Subject.Subject}, names.Names.Names, record.Record.Record, seat.Seat.Seat as Chair, shared.Shared.Shared, sleeping.SleeperRecord.SleeperRecord, worker.Worker.Worker}}, proofs.{Facts.{true_false, not_same}, Showing.map_kept}}
+use Rattle.exec_invariants.{specs.{Carried.{HasRoom, IsCarried}, Due.IsDue, Flown.HasFlown, Gates.{AreLinedUp, HaveGates, IsKnown}, HoldPlaces.spare_before, Holding.{Mail, IsAnswerOf, IsHolding, box_of, holder_of, nap_of, thing_of}, Places.{one_if, searches_before}, Rooted.{IsKept, IsReplyFor, IsRooted, Pays, StandsAt, goes_elsewhere, results_of}, Sound.{AreOver, HasLetters, IsMyMail, IsSearching, SoundAt, has_wakes_at}, Names.{HasWidth, IsNamed, tellers}, Whole.{IsWhole, hands_of, with_worker}, Works.{Beside, Steps, Suits}}, proofs.{Aside.{SameProfile, profile_same}, CallsBack.{after_seen, callbacks_seen}, Carries.carried_marked, Flown.flown_marked, Hearing.unheard, Idled.Fares, Known.known_marked, Lined.{SameAtGate, gates_kept, gates_seen_same, lined_kept, opens_same, passing_same}, MailBack.{Rests, goes_next, idle_before, next_fares, next_sound, rests_next, stance}, Marking.{due_marked, mark_if, mark_kept, marked, named_marked, releases, was_marked}, Phased.phased_count, Recorded.request_seen, Seeing.common_changed, Serving.{SparesRecords, letter_kept, mail_kept, spares_one, spares_service}, Turning.view_found}}
 
 -- OF RECORDS, one of which lets go
 
@@ -21,9 +21,6 @@ same_gate r = record { at = refl; over = λ h. h; sent = refl; forwarded = λ h.
 
 same_record : (x y : Record) → Some x ≡ Some y → x ≡ y
 same_record x y h = cc
-
-not_same : (n m : ℕ) → (n ≡ m → ⊥) → (n == m) ≡ false
-not_same = grind arith
 
 over_rest : (i n : ℕ) (rest : List ℕ) (unreleased fewer others : ℕ) (rs : List Record) → fewer + 1 ≡ unreleased → AreOver i (n ∷ rest) unreleased others rs → AreOver i rest fewer others (changed_at rs n releasing)
 over_rest i n rest unreleased fewer others rs less over =
@@ -171,23 +168,7 @@ module _ {B : Type 0} where
             let holding : IsHolding (hands_of x) s.config.workers (map holder_of s.tasks.items) (map thing_of s'.requests.items) (map nap_of s.sleepers.items) (map box_of s.seats.items) =
             subst (λ ts. IsHolding (hands_of x) s.config.workers (map holder_of s.tasks.items) ts (map nap_of s.sleepers.items) (map box_of s.seats.items)) (sym (ap (map thing_of) it.requests ∙ things_still s.requests.items n found.0 found.1)) before.holding
             in
-            record {
-              runnables = before.runnables;
-              polls = before.polls;
-              claims = before.claims;
-              counts = before.counts;
-              bits = before.bits;
-              set = before.set;
-              queued_here = before.queued_here;
-              queued_there = before.queued_there;
-              places = before.places;
-              made = before.made;
-              unclaimed = before.unclaimed;
-              in_pool = before.in_pool;
-              pool = before.pool;
-              gates = gates;
-              holding = holding;
-            };
+            assumption (gates, holding, before);
       }
 
 pub first_of : (xs : List ℕ) → 0 < length xs → (n : ℕ) × (slice_get xs 0 ≡ Some n) × (xs ≡ n ∷ drop 1 xs)
@@ -227,9 +208,7 @@ module _ {B L : Type 0} (left : B → L) (spot : L → Option Said → Spot) whe
             let suits_v : Suits p vs v s1 = record { config = suits.config; seen = suits.seen; workers = suits.workers } in
             let again : with_view vs w.index (visible w1) ≡ vs = view_found vs w.index (visible w) suits.seen in
             let xs = things_with vs s in
-            let things : things_with vs s1 ≡ xs =
-            ap (λ gs. record xs { gates = gs; answers = numbers_of_passing was_sent 0 s'.requests.items }) (gates_seen_same s.requests.items s'.requests.items s.opens s.opens spares.lines spares.opens)
-            ∙ ap (λ ns. record xs { answers = ns }) (passing_same was_sent s.requests.items s'.requests.items spares.lines.sent)
+            let things : things_with vs s1 ≡ xs = grind (arith, gates_seen_same, passing_same)
             in
             let request : request_of cs n ≡ found.0.shown = request_seen s.requests.items n found.0 found.1 in
             let ended : drop 1 w.names.ended.items ≡ w'.names.ended.items = ap (drop 1) it.first ∙ sym it.ended in
@@ -241,9 +220,7 @@ module _ {B L : Type 0} (left : B → L) (spot : L → Option Said → Spot) whe
             let leads : next_callback size w.index me cs c d ≡ q' =
             ap (λ b. if b then before else after_callbacks size w.index cs c d) told ∙ ap (λ y. if is_anything_told v then before else y) after
             in
-            let moved : move_at p.config w.index (own_of w) cs d xs before ≡ record { event = Release n; choice = Plain; desk = desk_of w1; thing = xs } =
-            ap (move_item p.config w.index (own_of w) cs d xs c) (item_released (own_of w) d n it.rest (ap (map (λ t. t.0)) none) (ap (nat_lt 0) empty) it.first)
-            ∙ ap (λ y. record { event = Release n; choice = Plain; desk = record d { place = y }; thing = xs }) leads
+            let moved : move_at p.config w.index (own_of w) cs d xs before ≡ record { event = Release n; choice = Plain; desk = desk_of w1; thing = xs } = grind (arith, leads, item_released)
             in
             record {
               choice = Plain;

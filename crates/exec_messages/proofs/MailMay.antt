@@ -7,7 +7,7 @@ use Rattle.exec_waiters.specs.Told.{HasPlaces}
 use Rattle.exec_words.specs.declared.inbox.Message.{Message}
 use Rattle.exec_machine.specs.{declared.state.Forwarding.TheVariants.Sent, Tests.{is_applied, is_unsent}}
 use Rattle.exec_moves.specs.declared.place.{InMail.InMail, Place.Place}
-use Rattle.exec_parts.{specs.{declared.parts.{mail.{Reply.Reply, Subject.Subject}, record.Record.Record, shared.Shared.Shared, sleeping.SleeperRecord.SleeperRecord, worker.Worker.Worker}, MailTakes.MayTake, Records.number_in, View.message_of}, proofs.Facts.same_thing}
+use Rattle.exec_parts.{specs.{declared.parts.{mail.{Reply.Reply, Subject.Subject}, record.Record.Record, shared.Shared.Shared, sleeping.SleeperRecord.SleeperRecord, worker.Worker.Worker}, MailTakes.MayTake, Records.number_in, View.message_of}, proofs.Facts.same_Some}
 use Rattle.exec_invariants.{specs.{Holding.{IsOrdinary, Mail, box_of, holder_of, nap_of, thing_of, under_way}, Rooted.Watches, Sound.SoundAt, Whole.{HasWhole, hands_of, with_worker}}, proofs.{AskBoxes.box_there, MailApplies.split_first, Resolving.places_fewer, TaskHears.thing_there, TaskNewest.may_let, TaskTakes.nap_there}}
 use Rattle.exec_messages.proofs.{MailCancels.{box_open, in_hand_first}, MailForwarded.{forward_mine, forward_sent, sent_if}}
 
@@ -60,7 +60,7 @@ module _ {B : Type 0} (applied : ℕ) (taken : Bool) (w : Worker) (s : Shared B)
       let its = forward_mine applied taken k w s sound first in (
         slice_get_within s.requests.items k its.0 its.1,
         λ r there.
-            let mine : r.shown.worker ≡ w.index = ap (λ (y : Record). y.shown.worker) (same_thing r its.0 (sym there ∙ its.1)) ∙ its.2 in
+            let mine : r.shown.worker ≡ w.index = ap (λ (y : Record). y.shown.worker) (same_Some r its.0 (sym there ∙ its.1)) ∙ its.2 in
             let sent = forward_sent applied taken k w s sound has first r there mine in
             let asked = has.whole.holding.asked k (thing_of r) (thing_there s.requests.items k r there) (ap is_unsent sent) in
             record { t = asked.0; waited = asked.1; small = ordinary asked.0 asked.2; room = places 1 (omega arith) },
@@ -69,7 +69,7 @@ module _ {B : Type 0} (applied : ℕ) (taken : Bool) (w : Worker) (s : Shared B)
       let its = sound.mine (Message.Forward (Subject.Timer z)) (its_first (Message.Forward (Subject.Timer z)) first) in (
         slice_get_within s.sleepers.items z its.0 its.1,
         λ it there.
-            let mine : it.shown.worker ≡ w.index = ap (λ (y : SleeperRecord). y.shown.worker) (same_thing it its.0 (sym there ∙ its.1)) ∙ its.2 in
+            let mine : it.shown.worker ≡ w.index = ap (λ (y : SleeperRecord). y.shown.worker) (same_Some it its.0 (sym there ∙ its.1)) ∙ its.2 in
             let sent = timer_sent z first it there mine in
             record {
               small = ordinary it.shown.task (has.whole.holding.asked_too z (nap_of it) (nap_there s.sleepers.items z it there) (ap is_unsent sent));

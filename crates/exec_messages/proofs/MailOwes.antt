@@ -2,7 +2,7 @@
 use Rattle.std.proofs.{Common.{◌≡◌, ℕ, ◌==◌, ◌+◌, ◌<◌, Bool, true, false, not, List, [], ◌∷◌, count_by, length, map, Some, None, refl, sym, ap, subst, ◌∙◌, arith, slice_get}, lemmas.{Bool.{false≢true, eq-eqb, Decides.nat_tests}, Option.slice_get_within}}
 use Rattle.exec_base.specs.declared.task_no.TaskNo.{TaskNo}
 use Rattle.exec_machine.specs.declared.state.Waiting.{Waiting}
-use Rattle.exec_parts.{specs.{Calls.IsUnpaid, MailTakes.MayWakeNext, declared.parts.{record.Record.Record, shared.Shared.Shared, sleeping.SleeperRecord.SleeperRecord, task_slot.TaskSlot.TaskSlot, worker.Worker.Worker}}, proofs.Facts.{same_thing, zero_false}}
+use Rattle.exec_parts.{specs.{Calls.IsUnpaid, MailTakes.MayWakeNext, declared.parts.{record.Record.Record, shared.Shared.Shared, sleeping.SleeperRecord.SleeperRecord, task_slot.TaskSlot.TaskSlot, worker.Worker.Worker}}, proofs.Facts.{same_Some, zero_false}}
 use Rattle.exec_invariants.{specs.{Holding.{Box, box_of, IsOwed, Owes, awaited_in, holder_of, nap_of, thing_of}, Whole.HasWhole}, proofs.{Lined.unmapped, ServedEnds.{count_both, count_one}}}
 
 -- a vector that isn't empty, and one that is
@@ -44,7 +44,7 @@ module _ {B : Type 0} where
         unpaid = λ n at slot found.
             let o = owed n at in
             let mine = unmapped holder_of s.tasks.items n.0 o.it o.there in
-            let is : mine.0 ≡ slot = same_thing mine.0 slot (sym mine.1 ∙ found) in
+            let is : mine.0 ≡ slot = same_Some mine.0 slot (sym mine.1 ∙ found) in
             let awaits : o.it.awaits ≡ awaited_in slot.waiting = sym (ap (λ y. y.awaits) mine.2) ∙ ap (λ (y : TaskSlot B). awaited_in y.waiting) is in
             unpaid_by w.index n.0 slot.waiting s.requests.items s.sleepers.items (map box_of s.seats.items)
             (subst (λ a. Owes w.index n.0 a (map thing_of s.requests.items) (map nap_of s.sleepers.items) (map box_of s.seats.items)) awaits o.owes);

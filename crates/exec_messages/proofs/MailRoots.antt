@@ -4,27 +4,19 @@ use Rattle.exec_words.specs.declared.inbox.Message.{Message}
 use Rattle.exec_task.specs.{Phases.{is_idle, runnable_of}, declared.{body.Said.Said, runnable.Runnable.Runnable}}
 use Rattle.exec_machine.specs.{declared.{event.Event.{Event, TheVariants.Apply}, state.MailMessage.TheVariants.Root}, Tasks.woken, World.task_of}
 use Rattle.exec_moves.specs.{Callback.flagged_by, declared.place.{InMail.InMail, Place.Place}, Mail.after_message, State.Desk}
-use Rattle.exec_parts.{specs.{declared.parts.{seat.Seat.Seat as Chair, shared.Shared.Shared, task_slot.TaskSlot.TaskSlot, worker.Worker.Worker}, Phased.{IsPhased, closes_at, closing_in, stage_of}, Pooled.{WakesOwnRoot, woken_slot}, Spots.Spot, View.{common_of, desk_of, message_of, task_seen, visible, with_view}}, proofs.Facts.{same_thing, set_there}}
-use Rattle.exec_invariants.{specs.{Hearing.Hears, Holding.{IsHolding, Mail, box_of, holder_of, nap_of, thing_of}, Places.{begins_at, claims_at, clears_at, has_count_at, is_published_at, polled_in, step_of_poll}, Sound.{AreHome, AreResting, HasGuest, HasRunnable, IsHeld, IsRunnable, IsTied, SoundAt, Stands, Stops, one_of, root_in_hand}, Whole.{IsGenuine, IsWhole, Profile, hands_of, with_worker}, Works.Steps}, proofs.{Aside.{SameProfile, profile_same}, Cells.{body_woken, complete_woken, idle_seen, woken_seen}, Closes.root_there, Flagged.{flag_then, flag_woken, stands_woken}, Hearing.hears_so, HoldMail.is_never, HoldPosts.moved, MailApplies.{Leads, applied_keeps, applied_sound, applied_works, leads, one_less, passed_on, rest_of, things_viewed}, MailMoves.whole_moved, PoolKept.{gates_same}, Resolving.places_fewer, Serving.spares_same, Slots.{Balances, spares_slot, whole_slot}, SlotTasks.{IsAfter, Keeps, homes_set, none_in, resting_set}, Turning.view_found}}
+use Rattle.exec_parts.{specs.{declared.parts.{seat.Seat.Seat as Chair, shared.Shared.Shared, task_slot.TaskSlot.TaskSlot, worker.Worker.Worker}, Phased.{IsPhased, closes_at, closing_in, stage_of}, Pooled.{WakesOwnRoot, woken_slot}, Spots.Spot, View.{common_of, desk_of, message_of, task_seen, visible, with_view}}, proofs.Facts.{same_Some, set_there}}
+use Rattle.exec_invariants.{specs.{Hearing.Hears, Holding.{IsHolding, Mail, box_of, holder_of, nap_of, thing_of}, Places.{begins_at, claims_at, clears_at, has_count_at, is_published_at, polled_in, step_of_poll}, Sound.{AreHome, AreResting, HasGuest, HasRunnable, IsHeld, IsRunnable, IsTied, SoundAt, Stands, Stops, one_of, root_in_hand}, Whole.{IsGenuine, IsWhole, Profile, hands_of, with_worker}, Works.Steps}, proofs.{Aside.{SameProfile, profile_same}, Cells.{body_woken, complete_woken, idle_seen, woken_seen}, Closes.root_there, Flagged.{flag_then, flag_woken, in_flag, of_flag, stands_woken}, Hearing.hears_so, HoldMail.is_never, HoldPosts.moved, MailApplies.{Leads, applied_keeps, applied_sound, applied_works, leads, one_less, passed_on, rest_of, things_viewed}, MailMoves.whole_moved, PoolKept.{gates_same}, Resolving.places_fewer, Serving.spares_same, Slots.{Balances, spares_slot, whole_slot}, SlotTasks.{IsAfter, Keeps, homes_set, none_in, resting_set}, Turning.view_found}}
 
 or_some : (idle : Bool) (flag : Option Runnable) (r : Runnable) → (is_some flag || idle) ≡ is_some (if idle then Some r else flag)
 or_some = grind arith
 
 -- a place of which all others see as little
-at_start : IsAfter Place.BeginTurn
+pub at_start : IsAfter Place.BeginTurn
 at_start = record { open_still = refl; closing = refl; served = refl; unarmed = refl; calls = refl; begins = refl; queue = λ x h. h; searching = λ b h. tt; aims = λ c i seats. tt; batch = λ ms h. absurd (false≢true h); spare = refl; cancels = refl; sends_cancel = refl; heard = refl; bare = refl; claims = refl; counts = refl; published = refl; clears = refl; passes = refl; joins = refl }
 
 module _ {B : Type 0} where
   hears_woken : (slot : TaskSlot B) → Hears slot (woken_slot slot)
   hears_woken slot = record { home = refl; body = body_woken slot.cell.phase slot.body; going = λ h. sym (complete_woken slot.cell.phase) ∙ h; told = λ answer h. (h, refl) }
-
-  in_flag : (f : Option Runnable) (slot : TaskSlot B) → IsRunnable (one_of f None) slot → IsRunnable f slot
-  in_flag None slot h = h
-  in_flag (Some r) slot h = h
-
-  of_flag : (f : Option Runnable) (slot : TaskSlot B) → IsRunnable f slot → IsRunnable (one_of f None) slot
-  of_flag None slot h = h
-  of_flag (Some r) slot h = h
 
   -- where nobody polls, the root's slot became that of a woken task
   root_woken : (q : Place) (w : Worker) (f : Option Runnable) (s s' : Shared B) (slot : TaskSlot B) → SoundAt q w s → slice_get s.tasks.items w.root ≡ Some slot → s'.tasks.items ≡ slice_set s.tasks.items w.root (woken_slot slot) → f ≡ flag_then w.root_ready slot
@@ -33,8 +25,8 @@ module _ {B : Type 0} where
       let tasks : List (TaskSlot B) = s'.tasks.items in
       let slot' : TaskSlot B = woken_slot slot in
       let found : slice_get tasks w.root ≡ Some slot' = ap (λ ts. slice_get ts w.root) items ∙ set_there s.tasks.items w.root slot' slot there in
-      let same : sound.runnable.root ≡ slot = same_thing sound.runnable.root slot (sym sound.runnable.there ∙ there) in
-      let is : (o : TaskSlot B) → slice_get tasks w.root ≡ Some o → slot' ≡ o = λ o at_root. same_thing slot' o (sym found ∙ at_root) in
+      let same : sound.runnable.root ≡ slot = same_Some sound.runnable.root slot (sym sound.runnable.there ∙ there) in
+      let is : (o : TaskSlot B) → slice_get tasks w.root ≡ Some o → slot' ≡ o = λ o at_root. same_Some slot' o (sym found ∙ at_root) in
       let home : slot.home ≡ Some w.index = sym (ap (λ (o : TaskSlot B). o.home) same) ∙ sound.runnable.home in
       let once : IsRunnable (one_of w.root_ready None) slot = subst (λ o. IsRunnable (one_of w.root_ready (root_in_hand o w.root w.hand)) slot) to.begins (subst (λ (o : TaskSlot B). IsRunnable (one_of w.root_ready (root_in_hand (begins_at q) w.root w.hand)) o) same sound.runnable.once) in
       let keeps : Keeps slot slot' = record { home = refl; number = refl; owner = refl } in
@@ -127,7 +119,7 @@ module _ {B L : Type 0} (left : B → L) (spot : L → Option Said → Spot) whe
         hears_so w.root slot slot' refl refl there items (hears_woken slot),
         record {
           spares = λ j other. spares_slot w.index j w.root s s' slot slot' other there items keeps
-              (λ is. other (same_thing j w.index (sym is ∙ sound.runnable.home)))
+              (λ is. other (same_Some j w.index (sym is ∙ sound.runnable.home)))
               (λ polled own. absurd (false≢true (sym ((sound.tied.stands slot there).polled) ∙ polled))) sound.homes;
           whole = λ others whole. root_whole applied taken w w1 f s s' slot sound there items sound.runnable.home first refl to others whole;
         },

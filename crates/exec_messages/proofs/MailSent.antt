@@ -5,12 +5,12 @@ use Rattle.std.proofs.Common.{arith}
 use Rattle.exec_base.specs.{Slab.{Slab, value_at}, declared.{error.Error.Error, slab.Id.Id}}
 use Rattle.exec_time.specs.declared.{notes.ForwardedResult.ForwardedResult, timers.Sleeper.{Sleeper as Sleeping}}
 use Rattle.exec_request.specs.declared.output.RequestOutput.{RequestOutput}
-use Rattle.exec_waiters.{specs.{States.{waiter_at, waiter_of}, declared.{deferred.{Answer.Answer, Deferred.Deferred}, observer.Observer.TheVariants.Forwarded, waiter.{Entry.TheVariants.Ready, Waiter.Waiter}}}, proofs.Changes.entry_of}
-use Rattle.exec_driver.specs.Driving.{Driving}
+use Rattle.exec_waiters.{specs.{States.{waiter_at, waiter_of}, declared.{deferred.{Answer.Answer, Deferred.Deferred}, observer.Observer.TheVariants.Forwarded, waiter.{Entry.TheVariants.Ready, Waiter.Waiter}, waiter_id.WaiterId.WaiterId}}, proofs.Changes.entry_of}
+use Rattle.exec_driver.specs.{Driving.Driving, Lists.is_among}
 use Rattle.exec_machine.specs.Tests.{is_applied, is_resolved, is_staged}
 use Rattle.exec_moves.specs.declared.handing.Heard.{Heard}
-use Rattle.exec_parts.{specs.{declared.parts.{mail.Reply.Reply, names.Names.Names, record.Record.Record, sleeping.SleeperRecord.SleeperRecord}, Calls.forward_applied, Records.number_in, Serving.changed_at}, proofs.Facts.{by_name, by_number, not_same, same_thing}}
-use Rattle.exec_invariants.{specs.{Due.AreTimed, Flown.{HasFlown, IsPlain, operations}, Holding.{IsAnswerOf, thing_of}, Places.one_if, Rooted.{IsReplyFor, IsResult, IsRooted, Pays, goes_elsewhere, is_of_timer, results_of}, Sound.AreOver, Names.{IsNamed, IsSubmitted}}, proofs.{Flown.landed_on, Marking.{known_then, mark_if, marked, was_marked}}}
+use Rattle.exec_parts.{specs.{declared.parts.{mail.Reply.Reply, names.Names.Names, record.Record.Record, sleeping.SleeperRecord.SleeperRecord}, Calls.forward_applied, Records.number_in, Serving.changed_at}, proofs.Facts.{by_name, by_number, not_same, same_Some}}
+use Rattle.exec_invariants.{specs.{Due.AreTimed, Flown.{AreLanded, HasFlown, IsPlain, operations}, Holding.{IsAnswerOf, thing_of}, Places.one_if, Rooted.{IsReplyFor, IsResult, IsRooted, Pays, goes_elsewhere, is_of_timer, results_of}, Sound.AreOver, Names.{IsAlike, IsNamed, IsSubmitted}}, proofs.{Flown.landed_on, Marking.{known_then, mark_if, marked, was_marked}}}
 
 -- THE RECORDS
 
@@ -29,7 +29,7 @@ module _ (rs : List Record) (k : ℕ) (r : Record) (there : slice_get rs k ≡ S
 
   -- any other, and this
   pub by_sent : {P : Type 0} (j : ℕ) (x : Record) → slice_get rs_sent j ≡ Some x → (k ≡ j → forward_applied r ≡ x → P) → ((k ≡ j → ⊥) → slice_get rs j ≡ Some x → P) → P
-  by_sent = grind (arith, by_number, was_else, same_thing, here_sent)
+  by_sent = grind (arith, by_number, was_else, same_Some, here_sent)
 
 -- what a record was
 pub record WasSent (rs : List Record) (j : ℕ) (x : Record) : Type 0 where
@@ -81,7 +81,7 @@ module _ (i : ℕ) (n : Names) (d d' : Driving Reply Reply) (zs : Slab (Sleeping
             (λ same.
             let it_is = to.here it reply (ap (waiter_at d'.requests) (sym same) ∙ at) forwarded in
             let number : number_in n.requests.items x ≡ k = ap (number_in n.requests.items) same ∙ it_is.0 in
-            let is : forward_applied r ≡ o = same_thing (forward_applied r) o (sym (here_sent rs k r there) ∙ ap (slice_get rs') (sym number) ∙ found) in
+            let is : forward_applied r ≡ o = same_Some (forward_applied r) o (sym (here_sent rs k r there) ∙ ap (slice_get rs') (sym number) ∙ found) in
             record { of = it_is.1.of ∙ ap (λ m. Heard.Request m) (sym number); task = ap (λ (y : Record). y.shown.waiter) (sym is) ∙ it_is.1.task });
         watches = rooted.watches;
         pays = λ j x found mine.
@@ -106,7 +106,7 @@ module _ (i : ℕ) (n : Names) (d d' : Driving Reply Reply) (zs : Slab (Sleeping
       answers (Err error) h = h
 
       result_on : (a : Answer Reply) → IsResult i a rs → IsResult i a rs'
-      result_on = grind (arith, by_number, else_sent, same_thing, here_sent)
+      result_on = grind (arith, by_number, else_sent, same_Some, here_sent)
 
 -- NOTHING OF IT IS AT THE DRIVER: all else is as it was
 
@@ -135,21 +135,17 @@ module _ (i : ℕ) (n : Names) (d : Driving Reply Reply) (zs : Slab (Sleeping Re
 
   pub named_gone : IsNamed i n d zs rs ss → IsNamed i n d zs rs_gone ss
   named_gone named =
-      record {
-        requests = λ x some.
-            let old = named.requests x some in
-            let new = after_gone (number_in n.requests.items x) old.0 old.1 in
-            (new.0, new.1, ap (λ (y : Record). y.id.0) new.2 ∙ old.2, ap (λ (y : Record). y.shown.worker) new.2 ∙ old.3);
-        timers = named.timers;
-        alike = λ x it y live found. named.alike x it y live (was_else rs k r there (number_in n.requests.items x) y (λ e. apart x (rw (entry_of (value_at d.requests x) it live) refl) (sym e)) found);
-        over = λ j y found mine none.
-            let old = was_sent_so rs k j y found in
-            ap (λ (z : Record). is_resolved z.shown.phase) old.is
-            ∙ named.over j old.o old.at (sym (ap (λ (z : Record). z.shown.worker) old.is) ∙ mine) (subst (λ z. waiter_at d.requests z ≡ None) (ap (λ (z : Record). z.id.0) old.is) none);
-        submitted = submitted_gone named.submitted;
-        slots = named.slots;
-        beds = named.beds;
-      }
+      let requests : (x : Id) → IsSome (value_at d.requests x) → (y : Record) × (slice_get rs_gone (number_in n.requests.items x) ≡ Some y) × (y.id.0 ≡ x) × (y.shown.worker ≡ i) = λ x some.
+      let old = named.requests x some in
+      let new = after_gone (number_in n.requests.items x) old.0 old.1 in
+      (new.0, new.1, ap (λ (y : Record). y.id.0) new.2 ∙ old.2, ap (λ (y : Record). y.shown.worker) new.2 ∙ old.3) in
+      let alike : (x : Id) (it : Waiter Reply Reply) (y : Record) → waiter_at d.requests x ≡ Some it → slice_get rs_gone (number_in n.requests.items x) ≡ Some y → IsAlike d.wheel.start d.wheel.tick it y.shown = λ x it y live found.
+      named.alike x it y live (was_else rs k r there (number_in n.requests.items x) y (λ e. apart x (rw (entry_of (value_at d.requests x) it live) refl) (sym e)) found) in
+      let over : (j : ℕ) (y : Record) → slice_get rs_gone j ≡ Some y → y.shown.worker ≡ i → waiter_at d.requests y.id.0 ≡ None → is_resolved y.shown.phase ≡ true = λ j y found mine none.
+      let old = was_sent_so rs k j y found in
+      ap (λ (z : Record). is_resolved z.shown.phase) old.is
+      ∙ named.over j old.o old.at (sym (ap (λ (z : Record). z.shown.worker) old.is) ∙ mine) (subst (λ z. waiter_at d.requests z ≡ None) (ap (λ (z : Record). z.id.0) old.is) none) in
+      assumption (requests, alike, over, submitted_gone named.submitted, named)
 
   pub over_gone : (ended : List ℕ) (unreleased others : ℕ) → AreOver i ended unreleased others rs → AreOver i ended unreleased others rs_gone
   over_gone = grind (arith, after_gone)
@@ -162,25 +158,17 @@ module _ (i : ℕ) (n : Names) (d : Driving Reply Reply) (zs : Slab (Sleeping Re
 
   pub flown_gone : HasFlown None i n d rs → HasFlown None i n d rs_gone
   flown_gone flown =
-      record {
-        ending = flown.ending;
-        staging = flown.staging;
-        telling = flown.telling;
-        entries = flown.entries;
-        gated = flown.gated;
-        plain = λ j y found mine.
-            let old = was_sent_so rs k j y found in
-            subst (λ (z : Record). IsPlain z.shown) (sym old.is) (assumption (flown.plain j old.o old.at (sym (ap (λ (z : Record). z.shown.worker) old.is) ∙ mine)));
-        landed = landed_on n n d d rs rs_gone (operations d.ring) flown.landed
-            (λ x it y given live flies at landed.
-            let new = after_gone (number_in n.requests.items x) y at in
-            record { it' = it; r' = new.0; live = live; flies = refl; same = refl; number = refl; there = new.1; phase = ap (λ (z : Record). z.shown.phase) new.2 });
-        enrolling = flown.enrolling;
-        polled = flown.polled;
-        owning = λ j y found going.
-            let old = was_sent_so rs k j y found in
-            ap (λ (z : Record). z.shown.released) old.is ∙ flown.owning j old.o old.at (sym (ap (λ (z : Record). is_resolved z.shown.phase) old.is) ∙ going);
-        uncancelled = λ x y among found mine.
-            let old = was_sent_so rs k (number_in n.requests.items x.0) y found in
-            ap (λ (z : Record). z.shown.cancel_staged) old.is ∙ flown.uncancelled x old.o among old.at (sym (ap (λ (z : Record). z.shown.worker) old.is) ∙ mine);
-      }
+      let plain : (j : ℕ) (y : Record) → slice_get rs_gone j ≡ Some y → y.shown.worker ≡ i → IsPlain y.shown = λ j y found mine.
+      let old = was_sent_so rs k j y found in
+      subst (λ (z : Record). IsPlain z.shown) (sym old.is) (assumption (flown.plain j old.o old.at (sym (ap (λ (z : Record). z.shown.worker) old.is) ∙ mine))) in
+      let landed : AreLanded n d rs_gone (operations d.ring) = landed_on n n d d rs rs_gone (operations d.ring) flown.landed
+      (λ x it y given live flies at landed.
+      let new = after_gone (number_in n.requests.items x) y at in
+      record { it' = it; r' = new.0; live = live; flies = refl; same = refl; number = refl; there = new.1; phase = ap (λ (z : Record). z.shown.phase) new.2 }) in
+      let owning : (j : ℕ) (y : Record) → slice_get rs_gone j ≡ Some y → is_resolved y.shown.phase ≡ false → y.shown.released ≡ false = λ j y found going.
+      let old = was_sent_so rs k j y found in
+      ap (λ (z : Record). z.shown.released) old.is ∙ flown.owning j old.o old.at (sym (ap (λ (z : Record). is_resolved z.shown.phase) old.is) ∙ going) in
+      let uncancelled : (x : WaiterId) (y : Record) → is_among x d.lists.cancels ≡ true → slice_get rs_gone (number_in n.requests.items x.0) ≡ Some y → y.shown.worker ≡ i → y.shown.cancel_staged ≡ false = λ x y among found mine.
+      let old = was_sent_so rs k (number_in n.requests.items x.0) y found in
+      ap (λ (z : Record). z.shown.cancel_staged) old.is ∙ flown.uncancelled x old.o among old.at (sym (ap (λ (z : Record). z.shown.worker) old.is) ∙ mine) in
+      assumption (plain, landed, owning, uncancelled, flown)

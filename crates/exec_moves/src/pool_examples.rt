@@ -2,7 +2,7 @@
 
 ghost use Rattle.std.specs.Prelude.{◌≡◌, true, false, [], ◌∷◌, ◌++◌, length, Some};
 ghost use Rattle.exec_words.specs.Examples.{five, full};
-ghost use Rattle.exec_machine.specs.{declared.{event.Event.TheVariants.{Turn, Begin, Sleep, Spawn, Clear, Apply, Rouse, Return}, state.MailMessage.TheVariants.Root}, Choice.Payer.ByAct, Examples.{usual, says, does, posts}, MoreLogs.{wakes_of_roots, closed, a_busy_ring}};
+ghost use Rattle.exec_machine.specs.{declared.{event.Event.TheVariants.{Turn, Begin, Spawn, Clear, Apply, Rouse, Return}, state.MailMessage.TheVariants.Root}, Choice.Payer.ByAct, Examples.{usual, says, does, posts}, MoreLogs.{wakes_of_roots, closed, a_busy_ring}};
 ghost use Rattle.exec_machine.specs.declared.step.Action.TheVariants as action;
 ghost use Rattle.exec_machine.specs.declared.step.Step.TheVariants as step;
 ghost use Rattle.exec_moves.specs.declared.handing.AfterPush.TheVariants as push;

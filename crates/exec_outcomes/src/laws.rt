@@ -1,6 +1,6 @@
 //! Laws of the meaning of results.
 
-ghost use Rattle.std.specs.Prelude.{◌≡◌, false, true, Bool, ℕ, List, [], ◌∷◌, ◌++◌, None};
+ghost use Rattle.std.specs.Prelude.{◌≡◌, false, true, List, [], ◌∷◌, ◌++◌, None};
 ghost use Rattle.exec_outcomes.specs.Outcomes.{Asked, Cursor, HasCome, at_the_start, cursor_next, outcome_next, outcome_of};
 ghost use Rattle.exec_outcomes.specs.declared.outcome.Judged.{Judged};
 

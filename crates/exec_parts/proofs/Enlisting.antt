@@ -6,7 +6,7 @@ use Rattle.exec_request.specs.{Requests.{deadline_of, gate_of, output_of}, decla
 use Rattle.exec_waiters.specs.{Events.finished, declared.{observer.Observer.TheVariants.Local, waiter.Entry.{Entry, TheVariants.{Pending, Ready}}, waiter_id.WaiterId.WaiterId}}
 use Rattle.exec_driver.specs.{Admission.with_rooms, Driving.{Driving, seen}, Lists.{Lists, is_same, with_enrolment, with_gated, with_queued, withdrawn, without}, Steps.{ended, in_place, is_late, newcomer, placed_at, taken_in, timed_out, with_deadline}}
 use Rattle.exec_machine.specs.{declared.state.{Operation.Operation, RequestPhase.RequestPhase}, Requests.{new_request, resolved_if}}
-use Rattle.exec_parts.{specs.{declared.parts.{mail.Reply.Reply, names.Names.Names, seat.Seat.Seat as Chair, shared.Shared.Shared, task_slot.TaskSlot.TaskSlot, worker.Worker.Worker}, Admitting.{MayMake, TakesIn}, Records.{HasRequestRoom, outcome_in}, View.driver_of}, proofs.{Facts.{same_self, same_thing, set_there}, Growing.{rooms_there, rooms_within}, Taken.{Takes, takes_by, takes_room, enrolled_if}}}
+use Rattle.exec_parts.{specs.{declared.parts.{mail.Reply.Reply, names.Names.Names, seat.Seat.Seat as Chair, shared.Shared.Shared, task_slot.TaskSlot.TaskSlot, worker.Worker.Worker}, Admitting.{MayMake, TakesIn}, Records.{outcome_in}, View.driver_of}, proofs.{Facts.{same_self, same_Some, set_there}, Growing.{rooms_there, rooms_within}, Taken.{Takes, takes_by, takes_room, enrolled_if}}}
 
 -- THE DRIVER, once the request is queued, or waits at a gate
 
@@ -152,18 +152,6 @@ module _ {B : Type 0} (t : ℕ) (q : Asking) (id : WaiterId) (w w' : Worker) (s 
       let same : length w'.names.requests.items ≡ length w.names.requests.items = ap (λ (n : Names). length n.requests.items) names_were ∙ ap (λ (xs : List ℕ). length xs) in_it.rooms.names.requests in
       omega (arith, taken_by.within, may.slots, same)
 
-  pub named_room : HasRequestRoom w'.names
-  named_room = subst (λ (n : Names). HasRequestRoom n) (sym names_were) in_it.has.names
-
-  pub ended_within : MayMake w → length w'.names.ended.items ≤ w'.names.unreleased
-  ended_within may =
-      let ended : length w'.names.ended.items ≡ length w.names.ended.items = ap (λ (n : Names). length n.ended.items) names_were ∙ ap (λ (xs : List ℕ). length xs) in_it.rooms.names.ended in
-      let unreleased : w'.names.unreleased ≡ w.names.unreleased = ap (λ (n : Names). n.unreleased) names_were ∙ in_it.rooms.names.unreleased in
-      omega (arith, may.over, ended, unreleased)
-
-  pub records_room : length s'.requests.items < vec_capacity s'.requests
-  records_room = subst (λ (x : Shared B). length x.requests.items < vec_capacity x.requests) (sym in_it.shared) in_it.has.records
-
   pub records_same : s'.requests.items ≡ s.requests.items
   records_same = ap (λ (x : Shared B). x.requests.items) in_it.shared ∙ in_it.rooms.requests
 
@@ -179,16 +167,13 @@ module _ {B : Type 0} (t : ℕ) (q : Asking) (id : WaiterId) (w w' : Worker) (s 
       let at : w'.index ≡ w.index = ap (λ (x : Worker). x.index) in_it.worker ∙ ap (λ (x : Worker). x.index) in_it.rooms.worker in
       let seats : s'.seats.items ≡ slice_set s.seats.items w.index in_it.rooms.mails.chair' = ap (λ (x : Shared B). x.seats.items) in_it.shared ∙ in_it.rooms.mails.seats in
       let found = subst (λ i. slice_get s'.seats.items i ≡ Some chair) at there in
-      same_thing chair in_it.rooms.mails.chair' (sym found ∙ ap (λ xs. slice_get xs w.index) seats ∙ set_there s.seats.items w.index in_it.rooms.mails.chair' in_it.rooms.mails.chair in_it.rooms.mails.seated)
+      same_Some chair in_it.rooms.mails.chair' (sym found ∙ ap (λ xs. slice_get xs w.index) seats ∙ set_there s.seats.items w.index in_it.rooms.mails.chair' in_it.rooms.mails.chair in_it.rooms.mails.seated)
 
   pub seat_counted : (chair : Chair) → slice_get s'.seats.items w'.index ≡ Some chair → chair.made + 1 < 2 ^ 64
   seat_counted chair there =
       let at : w'.index ≡ in_it.mid.index = ap (λ (x : Worker). x.index) in_it.worker in
       let seats : s'.seats.items ≡ in_it.all.seats.items = ap (λ (x : Shared B). x.seats.items) in_it.shared in
       (in_it.has.mail chair (ap (λ xs. slice_get xs in_it.mid.index) (sym seats) ∙ subst (λ i. slice_get s'.seats.items i ≡ Some chair) at there)).counted
-
-  pub few_records : length s.requests.items < 2 ^ 32
-  few_records = subst (λ xs. length xs < 2 ^ 32) in_it.rooms.requests in_it.has.few
 
   pub slot_within : t < length s'.tasks.items
   slot_within = subst (λ (x : Shared B). t < length x.tasks.items) (sym in_it.shared) (rooms_within in_it.rooms)

@@ -1,6 +1,8 @@
 -- Small facts that many proofs cite: of numbers, tests, what is there, and names.
-use Rattle.std.proofs.{Common.{sym, ◌≢◌, inl, inr, ◌≡◌, ℕ, zero, suc, [], ◌∷◌, ◌==◌, ◌&&◌, ◌||◌, not, Bool, true, false, List, Option, Some, None, is_some, slice_get, slice_set, refl, ap, ◌∙◌, arith, length}, lemmas.{Bool.{cases_eq, false≢true, eq-eqb, Decides.nat_tests}, List.{get_or-set_same, length-set}, Option.{slice_get_within, slice_get-get_or}}}
+use Rattle.std.proofs.{Common.{sym, ◌≢◌, inl, inr, ◌≡◌, ℕ, zero, suc, [], ◌∷◌, ◌==◌, ◌&&◌, Bool, true, false, List, Option, Some, None, is_some, slice_get, slice_set, refl, ap, ◌∙◌, arith, length}, lemmas.{Bool.{cases_eq, false≢true, eq-eqb, Decides.nat_tests}, List.{get_or-set_same, length-set}, Option.{slice_get_within, slice_get-get_or}}}
 use Rattle.std.proofs.Common.{◌<◌}
+pub use Rattle.std.proofs.lemmas.Option.{same_Some}
+pub use Rattle.std.proofs.lemmas.Bool.{or_right, or_left, and_parts, and_from, and_right, not-true, not-false, false_from_ne_true}
 use Rattle.exec_base.{specs.declared.slab.Id.Id, proofs.Slots.id_cases}
 use Rattle.exec_waiters.specs.declared.waiter_id.WaiterId.{WaiterId}
 use Rattle.exec_driver.specs.Lists.{is_same}
@@ -19,50 +21,14 @@ not_same a b apart = by (a == b) refl
 
 -- TESTS
 
-pub or_right : (a b : Bool) → b ≡ true → (a || b) ≡ true
-or_right true b h = refl
-or_right false b h = h
-
-pub or_left : (a b : Bool) → a ≡ true → (a || b) ≡ true
-or_left true b h = refl
-or_left false b h = absurd (false≢true h)
-
-pub and_right : (a b : Bool) → (a && b) ≡ true → b ≡ true
-and_right true b h = h
-and_right false b h = absurd (false≢true h)
-
-pub and_parts : (a b : Bool) → (a && b) ≡ true → (a ≡ true) × (b ≡ true)
-and_parts true true h = (refl, refl)
-and_parts true false h = absurd (false≢true h)
-and_parts false b h = absurd (false≢true h)
-
-pub both_true : (a b : Bool) → a ≡ true → b ≡ true → (a && b) ≡ true
-both_true true b h other = other
-both_true false b h other = h
-
-pub and_none : (a b : Bool) → b ≡ false → (a && b) ≡ false
-and_none true b h = h
-and_none false b h = refl
-
-pub by_not : (b : Bool) → not b ≡ true → b ≡ false
-by_not true h = absurd (false≢true h)
-by_not false h = refl
-
-pub by_not_not : (b : Bool) → not b ≡ false → b ≡ true
-by_not_not true h = refl
-by_not_not false h = absurd (false≢true (sym h))
-
-pub never_true : (b : Bool) → (b ≡ true → ⊥) → b ≡ false
-never_true true h = absurd (h refl)
-never_true false h = refl
+pub second_true : (a b : Bool) → (a && b) ≡ true → b ≡ true
+second_true true b h = h
+second_true false b h = absurd (false≢true h)
 
 pub zero_false : (n : ℕ) → (suc n == 0) ≡ false
 zero_false n = grind (arith, nat_tests)
 
 -- WHAT IS THERE
-
-pub same_thing : {A : Type 0} (x y : A) → Some x ≡ Some y → x ≡ y
-same_thing x y h = cc
 
 pub some_of : {A : Type 0} (o : Option A) → is_some o ≡ true → (x : A) × (o ≡ Some x)
 some_of None h = absurd (false≢true h)

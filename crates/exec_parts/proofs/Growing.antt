@@ -1,21 +1,18 @@
 -- An act that makes something: there is room first, and nothing else changes.
-use Rattle.std.proofs.{Common.{◌≡◌, ℕ, zero, suc, ◌<◌, List, [], ◌∷◌, length, Option, Some, refl, sym, ap, subst, ◌∙◌, arith, slice_get, slice_set, OnOk, Result, Ok, Err}, lemmas.{List.{append-nil, length-set, set-get_or, set-set}, Option.{get_or_from_slice_get, slice_get_within}}}
+use Rattle.std.proofs.{Common.{◌≡◌, ℕ, ◌<◌, List, length, Option, Some, refl, sym, ap, subst, ◌∙◌, arith, slice_get, slice_set, OnOk, Result, Ok, Err}, lemmas.{List.{append-nil, length-set, set-get_or, set-set}, Option.{get_or_from_slice_get, slice_get_within}}}
 use Rattle.exec_base.specs.declared.error.Error.TheVariants.{NoMemory}
 use Rattle.exec_waiters.specs.{Told.{HasPlaces, Tells, nothing_told}, declared.deferred.Deferred.Deferred}
 use Rattle.exec_driver.specs.Admission.{with_rooms}
 use Rattle.exec_words.specs.{Reserved.Reserved, declared.inbox.Message.Message}
 use Rattle.exec_task.specs.declared.body.Said.{Said}
-use Rattle.exec_parts.{specs.{declared.parts.{mail.{Reply.Reply, Subject.Subject}, names.Names.Names, seat.Seat.Seat as Chair, shared.Shared.Shared, task_slot.TaskSlot.TaskSlot, worker.Worker.Worker}, Calls.IsTold, Admitting.{MailsRoom, MakesRoom, Refuses}, Records.{MakesMail, SameNames, numbers_held}, View.driver_of}, proofs.Facts.set_there}
+use Rattle.exec_parts.{specs.{declared.parts.{mail.{Reply.Reply, Subject.Subject}, names.Names.Names, seat.Seat.Seat as Chair, shared.Shared.Shared, task_slot.TaskSlot.TaskSlot, worker.Worker.Worker}, Calls.IsTold, Admitting.{MailsRoom, MakesRoom, Refuses}, Records.{MakesMail, SameNames, numbers_held}, View.driver_of}, proofs.Facts.{set_there, found_within}}
 
 -- ROOM
 
 -- more room, and nothing more is told
 pub told_same : (ended : List ℕ) (left left' : Deferred Reply Reply) (n m : ℕ) → Tells left left' nothing_told → HasPlaces left' m → IsTold ended left n → IsTold ended left' m
 told_same ended left left' n m tells room told =
-    record {
-      resources = told.resources ∙ sym (ap length (tells.resources_added ∙ append-nil left.resources.items));
-      room = room;
-    }
+    assumption (told.resources ∙ sym (ap length (tells.resources_added ∙ append-nil left.resources.items)), room)
 
 pub untold_self : (left : Deferred Reply Reply) → Tells left left nothing_told
 untold_self left =
@@ -70,15 +67,10 @@ tells_none a b c x y =
       results_memory = omega (arith, x.results_memory, y.results_memory);
     }
 
-pub there_is : {A : Type 0} (xs : List A) (i : ℕ) → i < length xs → (x : A) × (slice_get xs i ≡ Some x)
-there_is [] i within = absurd (omega (arith, within))
-there_is (x ∷ xs) zero within = (x, refl)
-there_is (x ∷ xs) (suc i) within = there_is xs i (omega (arith, within))
-
 module _ {B : Type 0} where
   pub mails_same : {w w' : Worker} {s s' : Shared B} → w.index < length s.seats.items → w'.batch ≡ w.batch → s'.seats.items ≡ s.seats.items → MailsRoom w w' s s'
   mails_same {w} {w'} {s} {s'} within batch seats =
-      let it = there_is s.seats.items w.index within in
+      let it = found_within s.seats.items w.index within in
       record {
         chair = it.0;
         seated = it.1;
@@ -118,7 +110,7 @@ module _ {B : Type 0} where
       → SameNames w.names w'.names → Tells w.home.deferred w'.home.deferred nothing_told → MailsRoom w w' s s' → s' ≡ record s { seats = s'.seats; requests = s'.requests; sleepers = s'.sleepers }
       → s'.requests.items ≡ s.requests.items → s'.sleepers.items ≡ s.sleepers.items → MakesRoom t (λ slot. slot.told) w w' s s'
   rooms_kept {t} {w} {w'} {s} {s'} within worker names tells mails shared requests sleepers =
-      let at_t = there_is s.tasks.items t within in
+      let at_t = found_within s.tasks.items t within in
       let back : slice_set s.tasks.items t at_t.0 ≡ s.tasks.items = ap (slice_set s.tasks.items t) (sym (get_or_from_slice_get s.tasks.items t at_t.0 at_t.0 at_t.1)) ∙ set-get_or s.tasks.items t at_t.0 in
       rooms_slot at_t.0 at_t.0 at_t.1 refl refl (ap (λ (x : Shared B). x.tasks.items) shared ∙ sym back) worker names tells mails
       (subst (λ (x : Shared B). x ≡ record s { seats = x.seats; tasks = x.tasks; requests = x.requests; sleepers = x.sleepers }) (sym shared) refl) requests sleepers

@@ -2,7 +2,7 @@
 use Rattle.std.proofs.{Common.{◌≡◌, ℕ, ◌+◌, ◌^◌, ◌<◌, ◌≤◌, List, length, Some, sym, ap, subst, ◌∙◌, arith, slice_get}, lemmas.{List.length-set, Option.slice_get_within}}
 use Rattle.exec_base.specs.declared.task_no.TaskNo.{TaskNo}
 use Rattle.exec_time.specs.declared.timers.{TimerId.TimerId, Observer.Observer}
-use Rattle.exec_parts.{specs.{declared.parts.{names.Names.Names, seat.Seat.Seat as Chair, shared.Shared.Shared, worker.Worker.Worker}, Admitting.{MayMake, TakesBed}, Records.HasTimerRoom}, proofs.{Facts.{same_thing, set_there}, Taken.takes_inserted}}
+use Rattle.exec_parts.{specs.{declared.parts.{names.Names.Names, seat.Seat.Seat as Chair, shared.Shared.Shared, worker.Worker.Worker}, Admitting.{MayMake, TakesBed}, Records.HasTimerRoom}, proofs.{Facts.{same_Some, set_there}, Taken.takes_inserted}}
 
 module _ {B : Type 0} (t until : ℕ) (waker : TaskNo) (id : TimerId) (w w' : Worker) (s s' : Shared B) (bed : TakesBed t until waker id w w' s s') where
   pub bed_names : w'.names ≡ bed.mid.names
@@ -28,7 +28,7 @@ module _ {B : Type 0} (t until : ℕ) (waker : TaskNo) (id : TimerId) (w w' : Wo
   bed_seat_is chair there =
       let at : w'.index ≡ w.index = ap (λ (x : Worker). x.index) bed.worker ∙ ap (λ (x : Worker). x.index) bed.rooms.worker in
       let found = subst (λ i. slice_get s'.seats.items i ≡ Some chair) at there in
-      same_thing chair bed.rooms.mails.chair' (sym found ∙ ap (λ xs. slice_get xs w.index) bed.rooms.mails.seats ∙ set_there s.seats.items w.index bed.rooms.mails.chair' bed.rooms.mails.chair bed.rooms.mails.seated)
+      same_Some chair bed.rooms.mails.chair' (sym found ∙ ap (λ xs. slice_get xs w.index) bed.rooms.mails.seats ∙ set_there s.seats.items w.index bed.rooms.mails.chair' bed.rooms.mails.chair bed.rooms.mails.seated)
 
   pub bed_seat_counted : (chair : Chair) → slice_get s'.seats.items w'.index ≡ Some chair → chair.made + 1 < 2 ^ 64
   bed_seat_counted chair there =

@@ -1,13 +1,7 @@
 -- What single steps leave: seats that the clock reaches, raises that were taken in, a clock that was read.
-use Rattle.std.proofs.{Common.{◌≡◌, ℕ, suc, ◌+◌, ◌<◌, Bool, true, false, List, [], ◌∷◌, length, map, get_or, set, take, drop, ◌++◌, add-one, append_assoc, drop-cons, Option, Some, refl, ap, ◌∙◌, arith, slice_get, slice_set}, Math.Seq.take-suc-set, lemmas.List.drop-set-lt}
-use Rattle.exec_parts.specs.{declared.parts.{seat.Seat.Seat as Chair, shared.Shared.Shared, worker.Worker.Worker}, Pooled.with_raises, Raises.TakesRaises, Records.reached, Tests.IsNextIn, View.driver_of}
+use Rattle.std.proofs.{Common.{◌≡◌, ℕ, Bool, true, false, set, Option, Some, ap, ◌∙◌, slice_get, slice_set}}
+use Rattle.exec_parts.specs.{declared.parts.{seat.Seat.Seat as Chair, shared.Shared.Shared, worker.Worker.Worker}, Pooled.with_raises, Raises.TakesRaises, Tests.IsNextIn, View.driver_of}
 use Rattle.exec_parts.specs.declared.parts.worker.Moments.{Moments}
-
--- a turn of the loop by which the clock reaches each seat
-pub reached_next : (clock i : ℕ) (xs : List Chair) (d y : Chair) → i < length xs → y ≡ reached clock (get_or xs i d)
-    → take (i + 1) (set xs i y) ++ map (reached clock) (drop (i + 1) (set xs i y)) ≡ take i xs ++ map (reached clock) (drop i xs)
-reached_next clock i xs d y within changed =
-    rw (drop-set-lt (i + 1) xs i y (omega arith), add-one, take-suc-set xs i y within, append_assoc (take i xs) (y ∷ []) (map (reached clock) (drop (suc i) xs)), drop-cons xs i d within, changed) refl
 
 abbrev pub with_read : ℕ → Moments → Moments
 with_read r m = record m { read = r }

@@ -18,5 +18,4 @@ pub mod LeafRecords
 pub mod LeafFresh
 pub mod LeafBeds
 pub mod LeafMail
-pub mod SleepersGone
 pub mod Leaves

@@ -2,7 +2,7 @@
 use Rattle.std.proofs.{Common.{◌≡◌, ◌≢◌, ℕ, suc, Option, Some, None, ◌+◌, ◌<◌, ◌≤◌, ◌==◌, true, not, List, [], ◌∷◌, ◌++◌, length, take, drop, get_or, slice_get, slice_set, refl, sym, ap, subst, ◌∙◌, arith, append_assoc, append-nil, le_of_lt, length-append, length-take-le, take_all, drop-cons, if◌then◌else◌}, lemmas.{Bool.Decides.nat_tests, List.{drop_all, take_more, Elements.filter-append}, Option.slice_get_within}}
 use lib.Seq.{drop-append_seam, take-append_seam}
 use Rattle.exec_machine.specs.declared.state.Waiting.{Waiting}
-use Rattle.exec_parts.{specs.{Awaits.{LetsGo, MayLetGo}, Calls.sleeper_in, Ending.{LetsGoAll, LetsGoOf, LetsGoOne, LetsGoOne.{here, elsewhere}, LetsHeld, LetsSleep, LetsWaiting, MayLetGoAll, MayLetSleep, others_of}, MailTakes.RemovesSleeper, declared.parts.{held.Held.Held, letters.Letters.Letters, shared.Shared.Shared, worker.Worker.Worker}}, proofs.Facts.{by_number, not_same, same_thing, set_there}}
+use Rattle.exec_parts.{specs.{Awaits.{LetsGo, MayLetGo}, Calls.sleeper_in, Ending.{LetsGoAll, LetsGoOf, LetsGoOne, LetsGoOne.{here, elsewhere}, LetsHeld, LetsSleep, LetsWaiting, MayLetGoAll, MayLetSleep, others_of}, MailTakes.RemovesSleeper, declared.parts.{held.Held.Held, letters.Letters.Letters, shared.Shared.Shared, worker.Worker.Worker}}, proofs.Facts.{by_number, not_same, same_Some, set_there}}
 
 abbrev with_letters : Letters → Worker → Worker
 with_letters l w = record w { letters = l }
@@ -214,7 +214,7 @@ module _ {B : Type 0} where
 pub timer_waited : (what : Waiting) (z : ℕ) → sleeper_in what ≡ Some z → what ≡ Waiting.Timer z
 timer_waited Waiting.Nothing z is = absurd (cc)
 timer_waited (Waiting.Request r) z is = absurd (cc)
-timer_waited (Waiting.Timer y) z is = ap (λ x. Waiting.Timer x) (same_thing y z is)
+timer_waited (Waiting.Timer y) z is = ap (λ x. Waiting.Timer x) (same_Some y z is)
 timer_waited Waiting.Wake z is = absurd (cc)
 timer_waited Waiting.Woken z is = absurd (cc)
 timer_waited Waiting.Yielded z is = absurd (cc)

@@ -1,5 +1,5 @@
 -- What the kernel has, and what requests may still move, once one was admitted.
-use Rattle.std.proofs.{Common.{◌≡◌, ◌≢◌, ℕ, ◌+◌, ◌-◌, ◌^◌, ◌<◌, ◌≤◌, ◌==◌, ◌&&◌, Bool, true, false, List, [], ◌∷◌, ◌++◌, length, Some, None, IsSome, refl, sym, ap, subst, ◌∙◌, arith, slice_get, nat_lt, if◌then◌else◌}, lemmas.{Bool.{Decides.nat_tests}, List.Sums.sum_by-append, Option.slice_get_within}}
+use Rattle.std.proofs.{Common.{◌≡◌, ◌≢◌, ℕ, ◌+◌, ◌-◌, ◌^◌, ◌<◌, ◌≤◌, ◌==◌, Bool, true, false, List, [], ◌∷◌, ◌++◌, length, Some, None, IsSome, refl, sym, ap, subst, ◌∙◌, arith, slice_get, nat_lt, if◌then◌else◌}, lemmas.{Bool.{Decides.nat_tests, and_left, and_right}, List.Sums.sum_by-append, Option.slice_get_within}}
 use Rattle.exec_base.{specs.{Slab.{Slab, value_at}, declared.slab.{Id.Id}}}
 use Rattle.exec_outcomes.specs.declared.outcome.Kind.{Kind}
 use Rattle.exec_request.specs.{Requests.{asked_of, cursor_of, target_of}, Syncing.{is_syncing, write_kind}, Views.{send_window}, Ways.asked_by, declared.{buffers.WriteBuffers.{WriteBuffers, TheVariants.{Single, Vectored}}, request.Request.Request as Asking, recv.RecvRequest.RecvRequest, send.SendRequest.SendRequest, way.Way.Way, window.{Opcode.Opcode, Window.Window}, write_at.WriteAtState.WriteAtState}}
@@ -22,13 +22,6 @@ either : {A : Type 0} (b : Bool) (x : A) → (if b then x else x) ≡ x
 either true x = refl
 either false x = refl
 
-not_both : (a b : Bool) → a ≡ false → (a && b) ≡ false
-not_both a b is = ap (λ c. c && b) is
-
-never_second : (a b : Bool) → b ≡ false → (a && b) ≡ false
-never_second true b is = is
-never_second false b is = refl
-
 other_socket : (socket fd : ℕ) → (socket == fd) ≡ false → (fd == socket) ≡ false
 other_socket = grind arith
 
@@ -47,7 +40,7 @@ few_left (Vectored bufs chunk offset remaining) h = absurd h
 
 send_room : (s : SendRequest) (r : Record) (st st' : Store) → IsOneBuffer s.write → asked_in r.shown.operation ≡ asked_of (Asking.Send s) → r.shown.operation.target ≡ s.fd → r.shown.operation.moved ≡ (cursor_of (Asking.Send s)).moved
     → Reserves (footprint_of (Asking.Send s)) st st' → (out : Bool) (socket : ℕ) → room_for out (socket_of st socket) + may_move out socket r ≤ room_for out (socket_of st' socket)
-send_room = grind (arith, moves_none, not_both, sent, few_left, moves_most, never_second, other_socket)
+send_room = grind (arith, moves_none, and_left, sent, few_left, moves_most, and_right, other_socket)
 
 recv_room : (x : RecvRequest) (r : Record) (st st' : Store) → x.len - x.start < 2 ^ 32 → asked_in r.shown.operation ≡ asked_of (Asking.Recv x) → r.shown.operation.target ≡ x.fd → r.shown.operation.moved ≡ (cursor_of (Asking.Recv x)).moved
     → Reserves (footprint_of (Asking.Recv x)) st st' → (out : Bool) (socket : ℕ) → room_for out (socket_of st socket) + may_move out socket r ≤ room_for out (socket_of st' socket)
@@ -162,10 +155,6 @@ module _ (numbers numbers' : List ℕ) (s s' : Slab (Entry Reply Reply)) (ring :
         target = λ other x y at found. target_then other x y (then_by other x at) found;
         carried = λ other x y at found. under_then other x y (then_by other x at) found;
         nobody = λ u small free. carried.nobody u small (λ other x at named. free other x (ap waiter_of (joins.others other (differs other x at)) ∙ at) named);
-        room = λ out socket.
-            let sum = sum_by-append (may_move out socket) rs (r ∷ []) in
-            let was = carried.room out socket in
-            let now = more out socket in
-            omega (arith, sum, was, now);
+        room = grind (arith, sum_by-append);
         stretch = λ other x at. stretch_now on stretch other x (then_by other x at);
       }

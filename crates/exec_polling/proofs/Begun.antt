@@ -1,6 +1,5 @@
 -- A WORKER THAT BEGINS: all that it rests on holds, and it shows what the machine and the moves begin with.
-use Rattle.std.proofs.{Common.{◌≡◌, ◌≢◌, ℕ, ◌+◌, ◌*◌, ◌-◌, ◌/◌, ◌^◌, ◌<◌, ◌≤◌, ◌==◌, ◌&&◌, nat_lt, Bool, true, false, not, List, [], ◌∷◌, Contains, length, Option, Some, None, refl, sym, ap, subst, ◌∙◌, arith, slice_get}, lemmas.Bool.{false≢true, and_parts, Decides.nat_tests}, Math.Nat.zero-div}
-use Rattle.std.specs.Prelude.{IsSome, IsSomeAnd}
+use Rattle.std.{proofs.{Common.{◌≡◌, ◌≢◌, ℕ, ◌+◌, ◌*◌, ◌-◌, ◌/◌, ◌^◌, ◌<◌, ◌≤◌, ◌==◌, ◌&&◌, nat_lt, Bool, true, false, not, List, [], ◌∷◌, Contains, length, Option, Some, None, refl, sym, ap, subst, ◌∙◌, arith, slice_get}, lemmas.Bool.{false≢true, and_parts, Decides.nat_tests}, Math.{Nat.zero-div, Bool.and-false}}, specs.Prelude.{IsSome, IsSomeAnd}}
 use Rattle.exec_base.specs.{Slab.{Slab, IsPast, value_at}, declared.slab.Id.Id}
 use Rattle.exec_task.specs.{Phases.runnable_of, declared.runnable.Runnable.Runnable}
 use Rattle.exec_driver.specs.{Driving.Driving, Lists.no_lists, Steps.IsFresh}
@@ -9,7 +8,7 @@ use Rattle.exec_time.specs.{Wheel.fresh, declared.timers.Sleeper.Sleeper as Slee
 use Rattle.exec_waiters.specs.{States.waiter_at, Told.is_untold, declared.{deferred.Deferred.Deferred, waiter.Waiter.Waiter}}
 use Rattle.exec_machine.specs.{declared.{config.Configuration.Configuration, state.Sleeper.Sleeper}, Tasks.new_own, Tests.{is_asleep, is_open, is_resolved, has_ended}, Ranges.{ring_size, horizon, wheel_slots}}
 use Rattle.exec_moves.specs.{Plays.first_desk, Pop.shard_count, State.no_wake_poll}
-use Rattle.exec_parts.{specs.{declared.parts.{mail.Reply.Reply, record.Record.Record, role.Role.Role, seat.Seat.Seat as Chair, shared.Shared.Shared, sleeping.SleeperRecord.SleeperRecord, task_slot.TaskSlot.TaskSlot, worker.Worker.Worker}, Dedicated.{Begins, MayBegin, begun_worker, root_slot}, MailPosts.IsMailbox, Phased.is_complete, Records.{HasNoNames, IsFreshSeat}, View.{Visible, desk_of, driver_of, own_of, visible}}, proofs.{Facts.{same_number, same_thing}, LeafPowers.slots_of_wheel}}
+use Rattle.exec_parts.{specs.{declared.parts.{mail.Reply.Reply, record.Record.Record, role.Role.Role, seat.Seat.Seat as Chair, shared.Shared.Shared, sleeping.SleeperRecord.SleeperRecord, task_slot.TaskSlot.TaskSlot, worker.Worker.Worker}, Dedicated.{Begins, MayBegin, begun_worker, root_slot}, MailPosts.IsMailbox, Phased.is_complete, Records.{HasNoNames, IsFreshSeat}, View.{Visible, desk_of, driver_of, own_of, visible}}, proofs.{Facts.{same_number, same_Some}, LeafPowers.slots_of_wheel}}
 use Rattle.exec_invariants.{specs.{Carried.HasRoom, Gates.AreLinedUp, Sound.{AreHome, AreResting, IsConfig, IsRole, Sound, Stands as IsSitting}, Names.IsNamed}, proofs.Orders.begins_ordered}
 
 -- NOTHING IS THERE
@@ -39,10 +38,6 @@ by_length (x ∷ xs) h = absurd (grind (arith, nat_tests))
 
 by_some : (o : Option ℕ) (P : ℕ → Type 0) (k : ℕ) → o ≡ Some k → IsSomeAnd o P → P k
 by_some = grind arith
-
-not_both_bits : (b : Bool) → (b && false) ≡ false
-not_both_bits true = refl
-not_both_bits false = refl
 
 no_time : (n : ℕ) → n - n ≡ 0
 no_time n = omega arith
@@ -177,10 +172,10 @@ module _ {B : Type 0} where
         }
 
     at_root : (P : TaskSlot B → Type 0) → P (root_slot (record { 0 = root }) has.owner i has.body has.slot) → (x : TaskSlot B) → slice_get s.tasks.items root ≡ Some x → P x
-    at_root P holds x found = subst P (sym has.is ∙ same_thing has.slot x (sym has.there ∙ found)) holds
+    at_root P holds x found = subst P (sym has.is ∙ same_Some has.slot x (sym has.there ∙ found)) holds
 
     in_chair : (P : Chair → Type 0) → P has.chair → (x : Chair) → slice_get s.seats.items i ≡ Some x → P x
-    in_chair P holds x found = subst P (same_thing has.chair x (sym has.seated ∙ found)) holds
+    in_chair P holds x found = subst P (same_Some has.chair x (sym has.seated ∙ found)) holds
 
     at_first : Sound (begun_worker s.config role i root r s.clock w) s
     at_first =
@@ -234,20 +229,11 @@ module _ {B : Type 0} where
           guest = tt;
           resting = has.resting;
           left = tt;
-          over = record {
-            over = λ k x found. absurd (none_there w.names.ended.items k x n.ended found);
-            once = λ k l x found also. absurd (none_there w.names.ended.items k x n.ended found);
-            counted = rw (n.ended, n.unreleased, d.slots) refl;
-          };
+          over = grind (arith, none_there, w.names.ended.items, n.ended, n.unreleased, d.slots);
           batch = λ h. refl;
           mine = λ m h. absurd (none_has [] m refl h);
           batch_place = in_chair (λ x. x.mailbox.inbox.closed ≡ false → 2 * x.made + 1 ≤ 1) (λ h. (let made = has.fresh.made in omega (arith, made)));
-          letters = record {
-            some = λ h. absurd (false≢true h);
-            none = λ h. rw (begins.letters.0, begins.letters.1) refl;
-            requests = λ h some. absurd (none_has w.letters.requests.items h begins.letters.0 some);
-            timer = λ h is. absurd (not_both w.letters.timer h begins.letters.1 is);
-          };
+          letters = grind (arith, false, true, begins.letters.0, begins.letters.1, none_has, w.letters.requests.items, not_both, w.letters.timer);
           quiet = λ h. left.wakes;
           due = record {
             punctual = begins.punctual;
@@ -270,28 +256,8 @@ module _ {B : Type 0} where
             };
             order = begins_ordered (horizon s.config) s.config.tick s.clock (wheel_slots s.config) d.slots d.wheel (ap (λ l. l.enrolments) d.lists) (ap (λ l. l.due) d.lists);
           };
-          flown = record {
-            ending = rw n.unreleased (omega arith);
-            staging = rw d.ring n.staged_room;
-            telling = rw d.ring n.untold_room;
-            entries = rw (n.staged, n.untold) (omega arith);
-            gated = λ id it live needs. not_live _ id.0 it live;
-            plain = λ k x found own. absurd (has.nothing k x found own);
-            landed = rw d.ring tt;
-            enrolling = λ id it live takes told. not_live _ id.0 it live;
-            polled = rw (d.ring, d.armed) refl;
-            owning = has.owning;
-            uncancelled = λ id x among found own. absurd (has.nothing _ x found own);
-          };
-          carried = record {
-            slots = λ id it live. not_live _ id it live;
-            whole = λ id it live. not_live _ id it live;
-            target = λ id it x live found. not_live _ id it live;
-            carried = λ id it x live found. not_live _ id it live;
-            nobody = λ user_data small free. rw d.ring (refl, refl);
-            room = has.room;
-            stretch = λ id it live. not_live _ id it live;
-          };
+          flown = grind (arith, d.ring, n.staged_room, n.untold_room, not_live, has.nothing, tt, d.armed, has.owning);
+          carried = grind (arith, not_live, d.ring, has.room);
           rooted = record {
             kept = λ id told x at found. absurd (not_both (value_at (driver_of w).requests id) _ (none_live (driver_of w).requests id d.slots) at);
             ready = λ k x found own over held unapplied. absurd (has.nothing k x found own);
@@ -312,7 +278,7 @@ module _ {B : Type 0} where
             opened = ap is_open has.fresh.phase;
             ended = λ h. absurd (false≢true (sym (ap has_ended has.fresh.phase) ∙ h));
             root = at_root (λ y. is_complete y.cell.phase ≡ false) refl;
-            left = has.fresh.left ∙ sym (not_both_bits has.chair.pool);
+            left = has.fresh.left ∙ sym (and-false has.chair.pool);
             shut = ap (λ y. y.closed) has.fresh.inbox;
             by_zero = has.at_zero;
             by_other = λ h pool over. absurd (false≢true over);

@@ -1,15 +1,8 @@
 -- What tasks hold, where a worker begins that has no messages and has made nothing.
-use Rattle.std.proofs.{Common.{◌≡◌, ◌≢◌, ℕ, suc, ◌<◌, ◌≤◌, inl, inr, Bool, false, Contains, List, [], ◌∷◌, ◌++◌, cond, count_by, length, Option, Some, None, refl, ap, ◌∙◌, arith, slice_get}, lemmas.{List.{length-append, Sums.{sum_by-append, sum_by-cons}}}}
+use Rattle.std.proofs.{Common.{◌≡◌, ◌≢◌, ℕ, ◌<◌, ◌≤◌, inl, inr, Contains, List, [], ◌∷◌, ◌++◌, length, Option, Some, None, arith, slice_get}, lemmas.{List.{length-append, Sums.{sum_by-append}}}}
 use Rattle.exec_parts.{specs.declared.parts.mail.Subject.Subject, proofs.Facts.{by_number, not_same}}
 use Rattle.exec_invariants.specs.Holding.{Box, Hands, Holder, IsClosing, IsHolding, Mail, Nap, Owes, Thing, under_way}
-use Rattle.exec_polling.proofs.SpawnLists.{found_which}
-
-none_of : {X : Type 0} (p : X → Bool) (xs : List X) → ((k : ℕ) (x : X) → slice_get xs k ≡ Some x → p x ≡ false) → count_by p xs ≡ 0
-none_of p [] none = refl
-none_of p (x ∷ xs) none =
-    let one : Bool → ℕ = λ b. cond b 1 0 in
-    let here : one (p x) ≡ 0 = ap one (none 0 x refl) in
-    sum_by-cons (λ y. cond (p y) 1 0) x xs ∙ omega (arith, here, none_of p xs (λ k y there. none (suc k) y there))
+use Rattle.exec_polling.proofs.{SpawnLists.found_which, MadePlaces.none_counted}
 
 module _ (h h' : Hands) (workers : ℕ) (holders : List Holder) (things : List Thing) (naps : List Nap) (boxes : List Box) (box : Box) (empty : box.messages ≡ []) (unmade : box.made ≡ 0) (some : 1 ≤ box.places)
     (mail : (m : Mail) → h'.mail m ≡ h.mail m) (wakes : (i t : ℕ) → i ≢ length boxes → h'.wakes i t ≡ h.wakes i t) (no_wakes : (t : ℕ) → h'.wakes (length boxes) t ≡ 0) where
@@ -36,4 +29,4 @@ module _ (h h' : Hands) (workers : ℕ) (holders : List Holder) (things : List T
   nothing_in m (k, few, is) = omega (arith, few)
 
   pub holding_boxed : IsHolding h workers holders things naps boxes → IsHolding h' workers holders things naps more
-  holding_boxed = grind (arith, way_more, old_box, by_number, owes_more, found_which, nothing_in, none_of, not_same, length-append)
+  holding_boxed = grind (arith, way_more, old_box, by_number, owes_more, found_which, nothing_in, none_counted, not_same, length-append)

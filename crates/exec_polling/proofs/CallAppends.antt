@@ -84,23 +84,12 @@ module _ {B L : Type 0} (left : B → L) (spot : L → Option Said → Spot) (c 
   whole_put : (others : Profile) → IsWhole (with_caller others c) s → IsWhole (with_caller others (caller_by false)) (record s { global = queue_by false })
   whole_put others whole =
       let moved : (t : ℕ) → (others.runnables t + runnables_in t (option_to_list c.hand)) + stock t s ≡ (others.runnables t + 0) + stock t (record s { global = queue_by false }) = λ t. omega (arith, in_both t s.global.values (option_to_list c.hand)) in
-      record {
-        runnables = λ t slot there home. subst (HasOne (may_let_go s) slot.cell.phase) (moved t) (whole.runnables t slot there home);
-        polls = whole.polls;
-        claims = whole.claims;
-        counts = counts_still false others whole;
-        bits = whole.bits;
-        set = whole.set;
-        queued_here = whole.queued_here;
-        queued_there = λ r among. elim (Contains-append_cases s.global.values (option_to_list c.hand) r among) [ inl there ↦ whole.queued_there r there | inr mine ↦ sound.genuine r mine ];
-        places = whole.places;
-        made = λ t more. let none = whole.made t more in (sym (moved t) ∙ none.0, none.1);
-        unclaimed = whole.unclaimed;
-        in_pool = whole.in_pool;
-        pool = whole.pool;
-        gates = whole.gates;
-        holding = whole.holding;
-      }
+      let s1 : Shared B = record s { global = queue_by false } in
+      let runnables : (t : ℕ) (slot : TaskSlot B) → slice_get s.tasks.items t ≡ Some slot → slot.home ≡ None → HasOne (may_let_go s) slot.cell.phase ((others.runnables t + 0) + stock t s1) = λ t slot there home. subst (HasOne (may_let_go s) slot.cell.phase) (moved t) (whole.runnables t slot there home) in
+      let counts = counts_still false others whole in
+      let queued_there : (r : Runnable) → Contains (queue_by false).values r → IsGenuine s.tasks.items r = λ r among. elim (Contains-append_cases s.global.values (option_to_list c.hand) r among) [ inl there ↦ whole.queued_there r there | inr mine ↦ sound.genuine r mine ] in
+      let made : (t : ℕ) → length s.tasks.items ≤ t → ((others.runnables t + 0) + stock t s1 ≡ 0) × (others.polls t ≡ 0) = λ t more. let none = whole.made t more in (sym (moved t) ∙ none.0, none.1) in
+      assumption (runnables, counts, queued_there, made, whole)
 
   -- what stands in the queue then, as it is seen
   shows : (gone : Bool) → appended_if gone (tasks_of s.global.values) (in_hand (option_map (λ r. r.task.0) c.hand)) ≡ tasks_of (queue_by gone).values

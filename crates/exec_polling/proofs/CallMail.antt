@@ -7,9 +7,9 @@ use Rattle.exec_machine.specs.declared.step.Action.TheVariants as action
 use Rattle.exec_moves.specs.{Call.{after_posting, calls_at}, Thing.{mailbox_of, set_mailbox}, declared.handing.CallPlace.CallPlace}
 use Rattle.exec_moves.specs.declared.handing.CallPlace.TheVariants as call
 use Rattle.exec_moves.specs.declared.handing.InSignal.TheVariants as signals
-use Rattle.exec_parts.{specs.{declared.parts.{seat.Seat.Seat as Chair, shared.Shared.Shared, task_slot.TaskSlot.TaskSlot}, Pooled.{asks_in, chair_posted, event_posted}, MailPosts.IsMailbox, Spots.Spot, View.{Views, Visible, common_of, seat_seen, seats_seen, task_seen, things_with}}, proofs.{Facts.both_true, Showing.own_word_seen}}
+use Rattle.exec_parts.{specs.{declared.parts.{seat.Seat.Seat as Chair, shared.Shared.Shared, task_slot.TaskSlot.TaskSlot}, Pooled.{asks_in, chair_posted, event_posted}, MailPosts.IsMailbox, Spots.Spot, View.{Views, Visible, common_of, seat_seen, seats_seen, task_seen, things_with}}, proofs.{Facts.and_from, Showing.own_word_seen}}
 use Rattle.exec_polling.{specs.{declared.caller.Caller.Caller, Calling.{CallSound, CallSuits, CallWorks, WakesByCall, with_caller, call_of, desk_of_caller, is_free, place_by_mail, with_call}}, proofs.{CallSignals.{beside, still_sound}, CallWakes.free_call, Outsiders.{Leads, leads_either, to_return}}}
-use Rattle.exec_invariants.{specs.{Holding.{holder_of, nap_of, thing_of}, Whole.{IsWhole, Profile, hands_of}}, proofs.{Aside.HoldsIn, Dedicated.home_within as root_within, RootMail.holding_posted, Posting.{Arrival, IsArrival, arrival, asks_as, asks_by, chair_by, choice_by, event_as, event_by, inbox_seen, mailbox_by, posted_as, posted_shows, posted_spares, posting_as, root_message_as, seat_as, seat_by}, Seats.{chair_set, seat_there as seen_there}, Slots.task_there, SparedRecord.there_within, Turning.set_found}}
+use Rattle.exec_invariants.{specs.{Whole.{IsWhole, Profile}}, proofs.{Aside.HoldsIn, Dedicated.home_within as root_within, RootMail.holding_posted, Posting.{Arrival, IsArrival, arrival, asks_as, asks_by, chair_by, choice_by, event_as, event_by, inbox_seen, mailbox_by, posted_as, posted_shows, posted_spares, posting_as, root_message_as, seat_as, seat_by}, Seats.{chair_set, seat_there as seen_there}, Slots.task_there, SparedRecord.there_within, Turning.set_found}}
 
 same_queue : (a : Arrival) (chair : Chair) → (chair_by a chair).queue ≡ chair.queue
 same_queue = grind arith
@@ -56,30 +56,23 @@ module _ {B L : Type 0} (left : B → L) (spot : L → Option Said → Spot) (c 
     -- what its event has to pass
     may : (e : Event) (a : Arrival) → IsArrival a chair.mailbox → e ≡ event_by home a → AllTrue (may_wake_by_call (common_of left spot p vs s) t e (choice_by a ByCall))
     may e Arrival.Shut is event = rw (event, home_seen) (ap (λ x. x.mailbox_closed) seat ∙ is, tt)
-    may e Arrival.LeftOut is event =
-        rw (event, home_seen) (refl, (eq-eqb home home refl, (ap (λ x. not x.mailbox_closed) seat ∙ ap not is.0, (ap has_root_message seat ∙ root_message_as viewed.0 chair is, (refl, tt)))))
+    may e Arrival.LeftOut is event = rw (event, home_seen) (refl, (eq-eqb home home refl, (ap (λ x. not x.mailbox_closed) seat ∙ ap not is.0, (ap has_root_message seat ∙ root_message_as viewed.0 chair is, (refl, tt)))))
     may e Arrival.More is event = rw (event, home_seen) (refl, (eq-eqb home home refl, (ap (λ x. not x.mailbox_closed) seat ∙ ap not is.0, (refl, (refl, tt)))))
     may e Arrival.First is event = rw (event, home_seen) (refl, (eq-eqb home home refl, (ap (λ x. not x.mailbox_closed) seat ∙ ap not is.0, (refl, (refl, tt)))))
 
     -- what becomes of the seats
     seats_then : (a : Arrival) → IsArrival a chair.mailbox → s'.seats.items ≡ slice_set s.seats.items home (chair_by a chair) → seats_seen vs.workers s'.seats.items ≡ slice_set (seats_seen vs.workers s.seats.items) home (seat_by a (seat_seen viewed.0 chair))
-    seats_then a is set =
-        ap (seats_seen vs.workers) set ∙ chair_set vs.workers s.seats.items home viewed.0 (chair_by a chair) viewed.1
-        ∙ ap (slice_set (seats_seen vs.workers s.seats.items) home) (seat_as a viewed.0 chair is)
+    seats_then a is set = grind (arith, set, chair_set vs.workers s.seats.items home viewed.0 (chair_by a chair) viewed.1, seat_as a viewed.0 chair is)
 
     unseen : slice_set (seats_seen vs.workers s.seats.items) home (seat_seen viewed.0 chair) ≡ seats_seen vs.workers s.seats.items
     unseen = set_found (seats_seen vs.workers s.seats.items) home (seat_seen viewed.0 chair) (seen_there vs.workers s.seats.items home viewed.0 chair viewed.1 seated)
 
     seen : (e : Event) (j : ℕ) (a : Arrival) → IsArrival a chair.mailbox → e ≡ event_by home a → s'.seats.items ≡ slice_set s.seats.items home (chair_by a chair)
         → common_of left spot p (with_call vs j half.HalfDone) (record s { seats = s'.seats }) ≡ common_by (common_of left spot p vs s) (action.Wake j t) e (choice_by a ByCall)
-    seen e j Arrival.Shut is event set =
-        ap (λ seats. record (common_of left spot p vs s) { seats = seats; callers = slice_set vs.calls j half.HalfDone }) (seats_then Arrival.Shut is set ∙ unseen) ∙ rw event refl
-    seen e j Arrival.LeftOut is event set =
-        ap (λ seats. record (common_of left spot p vs s) { seats = seats; callers = slice_set vs.calls j half.HalfDone }) (seats_then Arrival.LeftOut is set ∙ unseen) ∙ rw event refl
-    seen e j Arrival.More is event set =
-        ap (λ seats. record (common_of left spot p vs s) { seats = seats; callers = slice_set vs.calls j half.HalfDone }) (seats_then Arrival.More is set) ∙ rw (event, seat) refl
-    seen e j Arrival.First is event set =
-        ap (λ seats. record (common_of left spot p vs s) { seats = seats; callers = slice_set vs.calls j half.HalfDone }) (seats_then Arrival.First is set) ∙ rw (event, seat) refl
+    seen e j Arrival.Shut is event set = ap (λ seats. record (common_of left spot p vs s) { seats = seats; callers = slice_set vs.calls j half.HalfDone }) (seats_then Arrival.Shut is set ∙ unseen) ∙ rw event refl
+    seen e j Arrival.LeftOut is event set = ap (λ seats. record (common_of left spot p vs s) { seats = seats; callers = slice_set vs.calls j half.HalfDone }) (seats_then Arrival.LeftOut is set ∙ unseen) ∙ rw event refl
+    seen e j Arrival.More is event set = ap (λ seats. record (common_of left spot p vs s) { seats = seats; callers = slice_set vs.calls j half.HalfDone }) (seats_then Arrival.More is set) ∙ rw (event, seat) refl
+    seen e j Arrival.First is event set = ap (λ seats. record (common_of left spot p vs s) { seats = seats; callers = slice_set vs.calls j half.HalfDone }) (seats_then Arrival.First is set) ∙ rw (event, seat) refl
 
   works : (e : Event) (a : Arrival) → IsArrival a chair.mailbox → e ≡ event_by home a → s'.seats.items ≡ slice_set s.seats.items home (chair_by a chair) → (asks : Bool) → asks ≡ asks_by a chair.mailbox
       → (p : Plan) (vs : Views) (j : ℕ) → CallSuits p vs j c s → CallWorks left spot p vs (action.Wake j t) j c s e (record c { place = next asks }) s'
@@ -93,7 +86,7 @@ module _ {B L : Type 0} (left : B → L) (spot : L → Option Said → Spot) (c 
       let free_now : may_call cs j ≡ true = ap (λ x. not (is_half_done x)) (get_or_from_slice_get vs.calls j half.Nothing half.HalfDone (suits.seen ∙ ap (λ x. Some (call_of x)) here)) in
       let many : length cs.tasks ≡ length s.tasks.items = length-map s.tasks.items (task_seen left spot) in
       let less : nat_lt t (length cs.tasks) ≡ true = rw many (grind (arith, nat_tests, within)) in
-      let first : (may_call cs j && nat_lt t (length cs.tasks)) ≡ true = both_true (may_call cs j) (nat_lt t (length cs.tasks)) free_now less in
+      let first : (may_call cs j && nat_lt t (length cs.tasks)) ≡ true = and_from (may_call cs j) (nat_lt t (length cs.tasks)) free_now less in
       let shown : things_with vs s' ≡ set_mailbox home (things_with vs s) (mailbox_by a m) = posted_shows a vs home s s'.seats.items chair is seated set (things_with vs s') (ap (things_with vs) kept) in
       let goes : calls_at (after_posting home (asks_by a chair.mailbox)) (desk_of_caller c) ≡ desk_of_caller (record c { place = next asks }) =
       ap (λ b. calls_at (after_posting home b) (desk_of_caller c)) (sym asked) ∙ ap (λ x. calls_at x (desk_of_caller c)) (goes_by home asks) in
@@ -113,8 +106,7 @@ module _ {B L : Type 0} (left : B → L) (spot : L → Option Said → Spot) (c 
       let a = at.0 in
       let asks = asks_in chair.mailbox in
       let set_now : s'.seats.items ≡ slice_set s.seats.items home (chair_by a chair) = set ∙ ap (slice_set s.seats.items home) (posted_as a chair at.1) in
-      let holds : (others : Profile) → IsWhole (with_caller others c) s → HoldsIn (with_caller others c) s s'.seats.items = λ others whole.
-      holding_posted a (hands_of (with_caller others c)) s.config.workers (map holder_of s.tasks.items) (map thing_of s.requests.items) (map nap_of s.sleepers.items) s.seats.items s'.seats.items home chair at.1 seated set_now whole.holding in
+      let holds : (others : Profile) → IsWhole (with_caller others c) s → HoldsIn (with_caller others c) s s'.seats.items = grind (arith, holding_posted, set_now) in
       subst (λ y. WakesByCall left spot t c s e y s') (sym goes) (
         works e a at.1 (event ∙ event_as home a chair.mailbox at.1) set_now asks (asks_as a chair.mailbox at.1),
         still_sound left spot c c' s s' e sound home chair (chair_by a chair) (posted_spares a chair at.1) (same_queue a chair) kept seated set_now (next asks) (rw here refl) (rw here refl) (leads asks) holds,

@@ -24,8 +24,7 @@ module _ {B L : Type 0} (left : B → L) (spot : L → Option Said → Spot) (c 
         sound_shares c (record c { place = next }) s s' sound shares (ap length set ∙ length-set s.seats.items k its') hand sound.genuine leads.aims
 
     profile : (others : Profile) → with_caller others (record c { place = next }) ≡ with_caller others c
-    profile others =
-        ap (λ n. record others { runnables = λ t. others.runnables t + runnables_in t (option_to_list c.hand); counts = others.counts + n }) (ap one_if (leads.counts ∙ sym uncounted))
+    profile others = ap (λ n. record others { runnables = λ t. others.runnables t + runnables_in t (option_to_list c.hand); counts = others.counts + n }) (ap one_if (leads.counts ∙ sym uncounted))
 
     pub beside : CallBeside c s (record c { place = next }) s'
     beside =

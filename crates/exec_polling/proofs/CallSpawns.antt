@@ -1,14 +1,14 @@
 -- What the spawn of a task by an outside caller is to the machine.
-use Rattle.std.proofs.{Common.{◌≡◌, ℕ, ◌<◌, true, false, not, [], ◌∷◌, ◌++◌, length, map, Option, Some, None, refl, sym, ap, subst, ◌∙◌, arith, slice_get, slice_index_or, slice_set}, lemmas.{Bool.eq-eqb, List.{length-map, set-get_or}, Option.{get_or_from_slice_get, slice_get_within}}}
+use Rattle.std.proofs.{Common.{◌≡◌, ℕ, ◌<◌, true, false, not, Contains, [], ◌∷◌, ◌++◌, length, map, Option, Some, None, refl, sym, ap, subst, ◌∙◌, arith, slice_get, slice_index_or}, lemmas.{Bool.eq-eqb, List.{length-map, set-get_or}, Option.{get_or_from_slice_get, slice_get_within}}}
 use Rattle.exec_task.specs.{TaskSet.held, declared.{body.Said.Said, runnable.Runnable.Runnable}}
-use Rattle.exec_machine.specs.{declared.{config.Configuration.Configuration, event.Event.Event, state.Code.TheVariants.Script}, Callers.{is_half_done, may_call}, Choice.Choice.Plain, Progress.Plan, Tasks.new_task, World.Common}
+use Rattle.exec_machine.specs.{declared.{config.Configuration.Configuration, event.Event.Event}, Callers.{is_half_done, may_call}, Choice.Choice.Plain, Progress.Plan, World.Common}
 use Rattle.exec_machine.specs.declared.state.Call.TheVariants as half
 use Rattle.exec_machine.specs.declared.step.Action.TheVariants as action
 use Rattle.exec_moves.specs.{Call.{CallDesk, calls_at, queues}, Cells.shard_of, MoveOfCaller.call_spawn, Pop.shard_count, Send.next_task, State.Things, Thing.set_shard}
 use Rattle.exec_moves.specs.declared.handing.CallPlace.TheVariants as call
 use Rattle.exec_moves.specs.declared.handing.InGlobal.TheVariants as global
-use Rattle.exec_parts.{specs.{declared.parts.shared.Shared.Shared, Pooled.MakesTask, Scripts.Begins, Spots.Spot, View.{Views, common_of, task_seen, things_with}}, proofs.Facts.{by_not, by_not_not, same_thing}}
-use Rattle.exec_polling.{specs.{declared.caller.Caller.Caller, Calling.{CallBeside, CallSound, CallSuits, CallWorks, HasCallWhole, HoldsForAll, SpawnsByCall, call_of, desk_of_caller, is_free, with_call, with_caller}}, proofs.{CallWakes.free_call, Outsiders.{beside_shares, hears_same, sound_shares, whole_idled}, SpawnJoins.{HasOneMore, Joins, genuine_new, homes_joined, none_yet, resting_joined, shards_same, spares_joined, whole_joined}, SpawnLists.found_again, SpawnSteps.{shards_show, tasks_seen}}}
+use Rattle.exec_parts.{specs.{declared.parts.shared.Shared.Shared, Pooled.MakesTask, Scripts.Begins, Spots.Spot, View.{Views, common_of, task_seen, things_with}}, proofs.Facts.{not-true, not-false, same_Some}}
+use Rattle.exec_polling.{specs.{declared.caller.Caller.Caller, Calling.{CallBeside, CallSound, CallSuits, CallWorks, HasCallWhole, HoldsForAll, SpawnsByCall, call_of, desk_of_caller, is_free, with_caller}}, proofs.{CallWakes.free_call, Outsiders.{beside_shares, hears_same, sound_shares, whole_idled}, SpawnJoins.{HasOneMore, Joins, genuine_new, homes_joined, none_yet, resting_joined, shards_same, spares_joined, whole_joined}, SpawnLists.found_again, SpawnSteps.{shards_show, tasks_seen}}}
 use Rattle.exec_invariants.{specs.{Drained.in_set, Whole.{IsGenuine, Profile, duties_of}}, proofs.{Aside.seats_same, PopLeads.some_shards, Stirs.only}}
 
 open_call : (c : Configuration) (s : Common) (d : CallDesk) (x : Things) (k : ℕ) → s.set_closed ≡ false
@@ -30,16 +30,12 @@ module _ {B : Type 0} where
         fresh = its.3;
         number = makes.number r refl;
         set = makes.set r refl;
-        unclosed = by_not s.set.closed (sym makes.answer);
+        unclosed = not-true s.set.closed (sym makes.answer);
         shards = subst (λ n. 0 < n) (sym sound.shards) (some_shards s.config);
         places = makes.places r refl;
         few = makes.few r refl;
         kept = makes.kept;
       }
-
-  -- no task was made where the set is closed
-  pub unmade : (body : B) (s s' : Shared B) → MakesTask body s s' None → s' ≡ s
-  unmade body s s' makes = makes.closed (by_not_not s.set.closed (sym makes.answer))
 
   pub absent_now : (c : Caller) (s : Shared B) → CallSound c s → HasCallWhole c s → held s.set (record { 0 = length s.tasks.items }) ≡ None
   absent_now c s sound has = none_yet (duties_of (with_caller has.others c)) s (subst (λ n. 0 < n) (sym sound.shards) (some_shards s.config)) has.whole.pool
@@ -79,26 +75,15 @@ module _ {B L : Type 0} (left : B → L) (spot : L → Option Said → Spot) (c 
         let shown : things_with vs s' ≡ (let n = shard_of p.config r.task.0 in set_shard n x (slice_index_or x.shards n [] ++ r.task.0 ∷ [])) = shards_show left spot body r vs p.config s s' it below many in
         record {
           choice = Plain;
-          moves = open_call p.config all d x name it.unclosed
-              ∙ ap (λ j. let n = shard_of p.config j in record { event = Event.Spawn j name; choice = Plain; desk = queues j; thing = set_shard n x (slice_index_or x.shards n [] ++ j ∷ []) }) count
-              ∙ ap (λ y. record { event = Event.Spawn r.task.0 name; choice = Plain; desk = desk_of_caller c1; thing = y }) (sym shown);
+          moves = grind (arith, open_call p.config all d x name it.unclosed, count, shown);
           may = (free_now p vs j suits, (eq-eqb r.task.0 (length all.tasks) (sym count), (eq-eqb name name refl, (ap not it.unclosed, tt))));
-          common = ap (common_of left spot p (with_call vs j half.HalfDone)) it.kept
-              ∙ ap (λ ts. record all { tasks = ts; set_closed = s'.set.closed; callers = slice_set vs.calls j half.HalfDone }) (tasks_seen left spot body r name s s' it begins)
-              ∙ ap (λ b. record all { tasks = map (task_seen left spot) s.tasks.items ++ new_task (Script name) None ∷ []; set_closed = b; callers = slice_set vs.calls j half.HalfDone }) closed_same;
+          common = grind (arith, it.kept, tasks_seen left spot body r name s s' it begins, closed_same);
         }
 
     still_sound : CallSound c1 s'
     still_sound =
-        let done : CallSound c1 (record s { tasks = s'.tasks; set = s'.set; global = record s.global { places = s'.global.places } }) = record {
-          config = sound.config;
-          homes = homes_joined body r s s' it s.config.workers (length s.seats.items) sound.homes;
-          many = sound.many;
-          shards = shards_same body r s s' it ∙ sound.shards;
-          hand = refl;
-          genuine = λ y has_it. subst (IsGenuine s'.tasks.items) (sym (only y r has_it)) (genuine_new body r s s' it);
-          aims = tt;
-        } in
+        let genuine : (y : Runnable) → Contains (r ∷ []) y → IsGenuine s'.tasks.items y = λ y has_it. subst (IsGenuine s'.tasks.items) (sym (only y r has_it)) (genuine_new body r s s' it) in
+        let done : CallSound c1 (record s { tasks = s'.tasks; set = s'.set; global = record s.global { places = s'.global.places } }) = assumption (homes_joined body r s s' it s.config.workers (length s.seats.items) sound.homes, shards_same body r s s' it ∙ sound.shards, genuine, tt, sound) in
         subst (CallSound c1) (sym it.kept) done
 
     one_more : (x : Profile) → HasOneMore r (with_caller x c) (with_caller x c1)
@@ -110,17 +95,13 @@ module _ {B L : Type 0} (left : B → L) (spot : L → Option Said → Spot) (c 
     beside =
         record {
           spares = spares_joined body r s s' it;
-          for_all = λ all. subst HoldsForAll (sym it.kept) (record {
-            homes = homes_joined body r s s' it s.config.workers (length s.seats.items) all.homes;
-            resting = resting_joined body r s s' it all.resting;
-            owning = all.owning;
-            closed = λ h. closed_same ∙ all.closed h;
-            few = all.few;
-          });
+          for_all = λ all.
+              let closed : s.stopped ≡ true → s'.set.closed ≡ true = λ h. closed_same ∙ all.closed h in
+              subst HoldsForAll (sym it.kept) (assumption (homes_joined body r s s' it s.config.workers (length s.seats.items) all.homes, resting_joined body r s s' it all.resting, closed, all));
           whole = λ x whole. whole_joined body r s s' it (with_caller x c) (with_caller x c1) (one_more x) whole;
           hears = λ t slot slot' found found'.
               let again : slice_get s'.tasks.items t ≡ Some slot = ap (λ xs. slice_get xs t) it.items ∙ found_again s.tasks.items (it.new ∷ []) t slot found in
-              hears_same slot slot' (same_thing slot slot' (sym again ∙ found'));
+              hears_same slot slot' (same_Some slot slot' (sym again ∙ found'));
         }
 
     pub spawned_by_call : (c' : Caller) (e : Event) → e ≡ Event.Spawn r.task.0 name → c' ≡ c1 → SpawnsByCall left spot (spot (left body)) name c s e c' s'
@@ -133,7 +114,7 @@ module _ {B L : Type 0} (left : B → L) (spot : L → Option Said → Spot) (c 
   pub refused_by_call : MakesTask body s s' None → SpawnsByCall left spot (spot (left body)) name c s Event.Closed (record c { place = call.Return }) s'
   refused_by_call makes =
       let c1 : Caller = record c { place = call.Return } in
-      let shut : s.set.closed ≡ true = by_not_not s.set.closed (sym makes.answer) in
+      let shut : s.set.closed ≡ true = not-false s.set.closed (sym makes.answer) in
       subst (SpawnsByCall left spot (spot (left body)) name c s Event.Closed c1) (sym (makes.closed shut)) (
         (λ p vs j suits begins.
             let all = common_of left spot p vs s in

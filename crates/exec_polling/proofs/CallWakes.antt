@@ -1,5 +1,5 @@
 -- What the wake of an ordinary task by an outside caller is to the machine.
-use Rattle.std.proofs.{Common.{◌≡◌, ◌≢◌, ℕ, ◌+◌, ◌<◌, ◌≤◌, Bool, true, false, not, inl, inr, Contains, [], ◌∷◌, length, map, nat_lt, Option, Some, None, refl, sym, ap, subst, ◌∙◌, arith, option_to_list, slice_get, slice_set, if◌then◌else◌}, lemmas.{Bool.{eq-eqb, false≢true, Decides.nat_tests}, List.{length-map, length-set, Elements.Contains-push_cases}, Option.{get_or_from_slice_get, slice_get_within}}}
+use Rattle.std.proofs.{Common.{◌≡◌, ◌≢◌, ℕ, ◌+◌, ◌<◌, Bool, true, false, not, inl, inr, Contains, [], ◌∷◌, length, map, nat_lt, Option, Some, None, refl, sym, ap, subst, ◌∙◌, arith, option_to_list, slice_get, slice_set, if◌then◌else◌}, lemmas.{Bool.{eq-eqb, false≢true, Decides.nat_tests}, List.{length-map, length-set, Elements.Contains-push_cases}, Option.{get_or_from_slice_get, slice_get_within}}}
 use Rattle.exec_base.specs.declared.task_no.TaskNo.{TaskNo}
 use Rattle.exec_task.specs.{Phases.{is_idle, is_polled, runnable_of, woken}, declared.{body.Said.Said, runnable.Runnable.Runnable, task.Phase.Phase}}
 use Rattle.exec_machine.specs.{declared.event.Event.{Event, TheVariants.Wake}, Callers.{is_half_done, may_call}, Choice.{Choice.Pays, Payer.ByCall}, Progress.Plan, Tasks.woken as woken_task, Tests.is_idle as is_idle_seen, World.task_of}
@@ -8,9 +8,9 @@ use Rattle.exec_machine.specs.declared.step.Action.TheVariants as action
 use Rattle.exec_moves.specs.{Call.{calls_at, queues}, declared.handing.CallPlace.CallPlace}
 use Rattle.exec_moves.specs.declared.handing.CallPlace.TheVariants as call
 use Rattle.exec_moves.specs.declared.handing.InGlobal.TheVariants as global
-use Rattle.exec_parts.{specs.{declared.parts.{shared.Shared.Shared, task_slot.TaskSlot.TaskSlot}, Phased.is_complete, Pooled.woken_slot, Spots.Spot, View.{Views, common_of, phase_seen, task_seen, things_with}, Things.TurnsSlot}, proofs.{Facts.{both_true, by_number, not_same, same_thing, set_elsewhere, set_there}, Showing.{map_kept, map_set}}}
-use Rattle.exec_polling.{specs.{declared.caller.Caller.Caller, Calling.{CallAims, CallBeside, CallSound, CallSuits, CallWorks, HoldsForAll, WakesByCall, call_of, desk_of_caller, hands_on_in, has_count_in, is_free, with_call, with_caller, with_woken}}, proofs.Outsiders.{no_other, hears_same}}
-use Rattle.exec_invariants.{specs.{Hearing.Hears, Holding.holder_of, Places.one_if, Sound.{IsInHand, IsResting}, Spares.Spares, Whole.{HasOne, IsGenuine, IsWhole, Profile, claimed_count, duties_of, may_let_go, runnables_in, stock}}, proofs.{PoolKept.{Redoes, pool_slot}, SlotTasks.{Keeps, genuine_set, homes_set, resting_set}, Slots.{spares_slot, task_there}}}
+use Rattle.exec_parts.{specs.{declared.parts.{shared.Shared.Shared, task_slot.TaskSlot.TaskSlot}, Phased.is_complete, Pooled.woken_slot, Spots.Spot, View.{Views, common_of, phase_seen, task_seen, things_with}, Things.TurnsSlot}, proofs.{Facts.{and_from, by_number, not_same, same_Some, set_elsewhere, set_there}, Showing.{map_kept, map_set}}}
+use Rattle.exec_polling.{specs.{declared.caller.Caller.Caller, Calling.{CallAims, CallBeside, CallSound, CallSuits, CallWorks, HoldsForAll, WakesByCall, call_of, desk_of_caller, hands_on_in, has_count_in, is_free, with_caller, with_woken}}, proofs.Outsiders.{no_other, hears_same}}
+use Rattle.exec_invariants.{specs.{Hearing.Hears, Holding.holder_of, Places.one_if, Sound.{AreHome, AreResting, IsInHand, IsResting}, Spares.Spares, Whole.{HasOne, IsGenuine, IsWhole, Profile, claimed_count, duties_of, may_let_go, runnables_in, stock}}, proofs.{PoolKept.{Redoes, pool_slot}, SlotTasks.{Keeps, genuine_set, homes_set, resting_set}, Slots.{spares_slot, task_there}}}
 
 module _ {B : Type 0} where
   -- THE PHASE
@@ -36,7 +36,7 @@ module _ {B : Type 0} where
 
     -- what stands there now, and elsewhere
     is_new : (k : ℕ) (o : TaskSlot B) → slice_get s'.tasks.items k ≡ Some o → k ≡ t → woken_slot slot ≡ o
-    is_new k o found same = same_thing (woken_slot slot) o (sym (set_there s.tasks.items t (woken_slot slot) slot there) ∙ ap (λ ts. slice_get ts t) (sym items) ∙ subst (λ m. slice_get s'.tasks.items m ≡ Some o) same found)
+    is_new k o found same = same_Some (woken_slot slot) o (sym (set_there s.tasks.items t (woken_slot slot) slot there) ∙ ap (λ ts. slice_get ts t) (sym items) ∙ subst (λ m. slice_get s'.tasks.items m ≡ Some o) same found)
 
     was : (k : ℕ) (o : TaskSlot B) → slice_get s'.tasks.items k ≡ Some o → k ≢ t → slice_get s.tasks.items k ≡ Some o
     was k o found apart = sym (set_elsewhere s.tasks.items t k (woken_slot slot) apart) ∙ ap (λ ts. slice_get ts k) (sym items) ∙ found
@@ -54,26 +54,18 @@ module _ {B : Type 0} where
     for_all all =
         let rests : (woken_slot slot).home ≡ None → is_polled (woken slot.cell.phase) ≡ false → IsResting (woken_slot slot) = λ home unpolled.
         let old = all.resting t slot there home (sym (polled_woken slot.cell.phase) ∙ unpolled) in
-        record {
-          uncleared = λ going. old.uncleared (sym (complete_woken slot.cell.phase) ∙ going);
-          told = rw (complete_woken slot.cell.phase) old.told;
-          untold = old.untold;
-        } in
-        subst HoldsForAll (sym kept) (record {
-          homes = rw items (homes_set s.config.workers (length s.seats.items) s.tasks.items t slot (woken_slot slot) there keeps all.homes);
-          resting = rw items (resting_set s.tasks.items t slot (woken_slot slot) there rests all.resting);
-          owning = all.owning;
-          closed = all.closed;
-          few = all.few;
-        })
+        record { uncleared = λ going. old.uncleared (sym (complete_woken slot.cell.phase) ∙ going); told = rw (complete_woken slot.cell.phase) old.told; untold = old.untold } in
+        let homes : AreHome s.config.workers (length s.seats.items) s'.tasks.items = rw items (homes_set s.config.workers (length s.seats.items) s.tasks.items t slot (woken_slot slot) there keeps all.homes) in
+        let resting : AreResting s'.tasks.items = rw items (resting_set s.tasks.items t slot (woken_slot slot) there rests all.resting) in
+        subst HoldsForAll (sym kept) (assumption (homes, resting, all))
 
     -- the same body, which can be told what it could
     hears : (k : ℕ) (o o' : TaskSlot B) → slice_get s.tasks.items k ≡ Some o → slice_get s'.tasks.items k ≡ Some o' → Hears o o'
     hears k o o' found found' =
         by_number k t
-        (λ apart. hears_same o o' (same_thing o o' (sym found ∙ was k o' found' apart)))
+        (λ apart. hears_same o o' (same_Some o o' (sym found ∙ was k o' found' apart)))
         (λ same.
-        let old : slot ≡ o = same_thing slot o (sym there ∙ subst (λ m. slice_get s.tasks.items m ≡ Some o) same found) in
+        let old : slot ≡ o = same_Some slot o (sym there ∙ subst (λ m. slice_get s.tasks.items m ≡ Some o) same found) in
         subst (Hears o) (is_new k o' found' same) (subst (λ y. Hears y (woken_slot slot)) old (hears_woken slot.cell.phase refl)))
       where
         hears_woken : (p : Phase B) → slot.cell.phase ≡ p → Hears slot (woken_slot slot)
@@ -121,12 +113,8 @@ module _ {B : Type 0} where
     whole_woken : (c' : Caller) → c.hand ≡ None → c'.hand ≡ handed (is_idle slot.cell.phase) slot → has_count_in c.place ≡ false → has_count_in c'.place ≡ false → (others : Profile) → IsWhole (with_caller others c) s → IsWhole (with_caller others c') s'
     whole_woken c' none hand uncounted uncounted' others whole =
         let h : Option Runnable = handed (is_idle slot.cell.phase) slot in
-        let before : (u : ℕ) (p : Phase B) → HasOne (may_let_go s) p ((others.runnables u + runnables_in u (option_to_list c.hand)) + stock u s) → HasOne (may_let_go s) p (others.runnables u + stock u s) = λ u p one.
-        let same : (others.runnables u + runnables_in u (option_to_list c.hand)) + stock u s ≡ others.runnables u + stock u s = rw none (omega arith) in
-        subst (HasOne (may_let_go s) p) same one in
-        let after : (u : ℕ) (p : Phase B) → HasOne (may_let_go s) p ((others.runnables u + stock u s) + runnables_in u (option_to_list h)) → HasOne (may_let_go s) p ((others.runnables u + runnables_in u (option_to_list c'.hand)) + stock u s) = λ u p one.
-        let same : (others.runnables u + stock u s) + runnables_in u (option_to_list h) ≡ (others.runnables u + runnables_in u (option_to_list c'.hand)) + stock u s = rw hand (omega arith) in
-        subst (HasOne (may_let_go s) p) same one in
+        let before : (u : ℕ) (p : Phase B) → HasOne (may_let_go s) p ((others.runnables u + runnables_in u (option_to_list c.hand)) + stock u s) → HasOne (may_let_go s) p (others.runnables u + stock u s) = grind (arith, none) in
+        let after : (u : ℕ) (p : Phase B) → HasOne (may_let_go s) p ((others.runnables u + stock u s) + runnables_in u (option_to_list h)) → HasOne (may_let_go s) p ((others.runnables u + runnables_in u (option_to_list c'.hand)) + stock u s) = grind arith in
         let count : (others.counts + one_if (has_count_in c.place)) + claimed_count others s ≡ s.idle.count = whole.counts in
         let none_held : one_if (has_count_in c.place) ≡ 0 = rw uncounted refl in
         let none_held' : one_if (has_count_in c'.place) ≡ 0 = rw uncounted' refl in
@@ -154,13 +142,7 @@ module _ {B : Type 0} where
           queued_here = λ j chair r found has. genuine_still r (whole.queued_here j chair r found has);
           queued_there = λ r has. genuine_still r (whole.queued_there r has);
           places = λ open_still. rw (items, length-set) (whole.places open_still);
-          made = λ u more.
-              let beyond : length s.tasks.items ≤ u = subst (λ n. n ≤ u) (ap length items ∙ length-set s.tasks.items t (woken_slot slot)) more in
-              let inside : t < length s.tasks.items = slice_get_within s.tasks.items t slot there in
-              let apart : u ≢ t = λ same. omega (arith, beyond, inside, same) in
-              let was_none : (others.runnables u + runnables_in u (option_to_list c.hand)) + stock u s ≡ 0 = (whole.made u beyond).0 in
-              let none_now : runnables_in u (option_to_list c'.hand) ≡ 0 = ap (λ o. runnables_in u (option_to_list o)) hand ∙ none_else u apart (is_idle slot.cell.phase) in
-              (no_more_in (others.runnables u) (runnables_in u (option_to_list c.hand)) (stock u s) (runnables_in u (option_to_list c'.hand)) was_none none_now, (whole.made u beyond).1);
+          made = grind (arith, items, length-set, slice_get_within, none_else, no_more_in);
           unclaimed = whole.unclaimed;
           in_pool = whole.in_pool;
           gates = whole.gates;
@@ -212,12 +194,8 @@ module _ {B L : Type 0} (left : B → L) (spot : L → Option Said → Spot) whe
         record {
           choice = Pays ByCall;
           moves = rw (home, phase, ← desk, event) (ap (λ x. record { event = Wake t; choice = Pays ByCall; desk = desk_of_caller c1; thing = x }) (sym shown));
-          may = rw event (both_true (may_call cs j) (nat_lt t (length cs.tasks)) free_now less, (eq-eqb t t refl, (rw home refl, (refl, tt))));
-          common =
-              ap (λ x. common_of left spot p (with_call vs j x) s') halved
-              ∙ ap (common_of left spot p (with_call vs j half.HalfDone)) turns.kept
-              ∙ ap (λ ts. record cs { tasks = ts; callers = slice_set vs.calls j half.HalfDone }) (ap (map (task_seen left spot)) items ∙ map_set (task_seen left spot) s.tasks.items t (woken_slot slot) ∙ ap (slice_set (map (task_seen left spot) s.tasks.items) t) (task_woken slot))
-              ∙ rw (event, task) refl;
+          may = rw event (and_from (may_call cs j) (nat_lt t (length cs.tasks)) free_now less, (eq-eqb t t refl, (rw home refl, (refl, tt))));
+          common = grind (arith, halved, turns.kept, items, map_set (task_seen left spot) s.tasks.items t (woken_slot slot), task_woken slot, event, task);
         }
 
     beside : (c1 : Caller) → c1.hand ≡ handed (is_idle slot.cell.phase) slot → has_count_in c1.place ≡ false → CallBeside c s c1 s'
@@ -248,7 +226,7 @@ module _ {B L : Type 0} (left : B → L) (spot : L → Option Said → Spot) whe
         by true is goes =
             let c1 : Caller = record c { place = call.Global global.Append; hand = Some (runnable_of slot.cell) } in
             let genuine : (r : Runnable) → Contains (runnable_of slot.cell ∷ []) r → IsGenuine s'.tasks.items r = λ r has.
-            elim (Contains-push_cases [] (runnable_of slot.cell) r has) as (λ x. IsGenuine s'.tasks.items r) [
+            elim (Contains-push_cases [] (runnable_of slot.cell) r has) [
               | inl nothing ↦ absurd (omega (arith, nothing.1))
               | inr same ↦ genuine_still c t s s' slot sound there ordinary turns.kept items r (record { slot = slot; there = subst (λ m. slice_get s.tasks.items m ≡ Some slot) (sym named ∙ ap (λ (x : Runnable). x.task.0) same) there; ordinary = ordinary; of_it = sym same })
             ] in

@@ -1,12 +1,12 @@
 -- A task and a worker join whose root it is: what holds of all tasks and seats then, and of the balances.
-use Rattle.std.{proofs.{Common.{◌≡◌, ◌≢◌, ◌⊎◌, inl, inr, ℕ, zero, suc, ◌+◌, ◌<◌, ◌≤◌, ◌^◌, ◌==◌, ◌&&◌, nat_lt, sum_by, arith, true, false, not, Contains, [], ◌∷◌, ◌++◌, length, map, Some, None, refl, sym, ap, subst, ◌∙◌, slice_get}, lemmas.{Bool.{false≢true, Decides.nat_tests}, List.{length-append, map-append, Sums.{sum_by-append, sum_by-cons}, length-map}, Option.slice_get_within}}, specs.List.range_with_len}
+use Rattle.std.{proofs.{Common.{◌≡◌, ◌≢◌, ◌⊎◌, inl, inr, ℕ, zero, suc, ◌+◌, ◌<◌, ◌≤◌, ◌^◌, ◌&&◌, sum_by, arith, true, false, not, Contains, [], ◌∷◌, ◌++◌, length, map, Some, None, refl, sym, ap, subst, ◌∙◌, slice_get}, lemmas.{Bool.{false≢true, Decides.nat_tests}, List.{length-append, map-append, Sums.{sum_by-append, sum_by-cons}, length-map}, Option.slice_get_within}}, specs.List.range_with_len}
 use Rattle.exec_words.specs.{Idle.is_in, Queue.tail_of}
 use Rattle.exec_ring.specs.Stores.{Same}
 use Rattle.exec_task.specs.{Phases.{is_polled}, declared.runnable.Runnable.Runnable}
 use Rattle.exec_machine.specs.declared.{state.Waiting.Waiting}
-use Rattle.exec_parts.{specs.{declared.parts.{seat.Seat.Seat as Chair, shared.Shared.Shared, task_slot.TaskSlot.TaskSlot}, MailPosts.IsMailbox, Phased.is_complete, Records.IsFreshSeat}, proofs.Facts.{by_number, same_thing}}
-use Rattle.exec_invariants.{specs.{Drained.{HaveLeft, IsBefore, IsHeldOnce, IsOver, IsPool, has_gone, in_set}, Holding.{IsHolding, Mail, awaited_in, box_of, holder_of, nap_of, thing_of}, Places.{Drops, no_drops, one_if}, Sound.{AreHome, AreResting, IsResting}, Spares.SparesMore, Whole.{HasOne, IsGenuine, IsWhole, Profile, claimed_count, duties_of, hands_of, may_let_go, queued, runnables_in, stock}}, proofs.{Aside.{record_spared, sleeper_spared, spared}, Dedicated.home_within, Spared.{records_endure, sleepers_endure}}}
-use Rattle.exec_polling.proofs.{BoxJoined.holding_boxed, HoldJoined.holding_joined, SpawnLists.{found_again, found_which}}
+use Rattle.exec_parts.{specs.{declared.parts.{seat.Seat.Seat as Chair, shared.Shared.Shared, task_slot.TaskSlot.TaskSlot}, MailPosts.IsMailbox, Phased.is_complete, Records.IsFreshSeat}, proofs.Facts.{by_number, same_Some}}
+use Rattle.exec_invariants.{specs.{Carried.HasRoom, Drained.{HaveLeft, IsBefore, IsHeldOnce, IsOver, IsPool, has_gone, in_set}, Holding.{IsHolding, Mail, awaited_in, box_of, holder_of, nap_of, thing_of}, Places.{Drops, no_drops, one_if}, Sound.{AreHome, AreResting}, Spares.{SparesChair, SparesMore, SparesPolled}, Whole.{IsGenuine, IsWhole, Profile, claimed_count, duties_of, hands_of, queued, runnables_in, stock}}, proofs.{Aside.{spared}, Dedicated.home_within}}
+use Rattle.exec_polling.proofs.{BoxJoined.holding_boxed, HoldJoined.holding_joined, Outsiders.spares_self, SpawnLists.{found_again, found_which}}
 
 -- THE PROFILE: the newcomer has nothing
 pub record HasNewcomer (i : ℕ) (x y : Profile) : Type 0 where
@@ -79,43 +79,25 @@ module _ {B : Type 0} where
           many = omega (arith, homes.many, more_seats);
           roots = omega (arith, homes.roots, more);
           few = it.few;
-          home = λ k o found within.
-              elim (which k o found) as (λ z. o.home ≡ Some k) [
-                | inl old ↦ homes.home k o old within
-                | inr new ↦ absurd (omega (arith, homes.roots, new.0, within))
-              ];
+          home = λ k o found within. elim (which k o found) [ inl old ↦ homes.home k o old within | inr new ↦ absurd (omega (arith, homes.roots, new.0, within)) ];
           dedicated = λ k j o found past rooted.
-              elim (which k o found) as (λ z. (n ≤ j) × (j < length s'.seats.items)) [
+              elim (which k o found) [
                 | inl old ↦ let was = homes.dedicated k j o old past rooted in (was.0, omega (arith, was.1, more_seats))
                 | inr new ↦ let is : j ≡ last = new_home o j new.1 rooted in (omega (arith, homes.many, is), omega (arith, is, more_seats))
               ];
           once = λ k l j o other found found' rooted rooted'.
-              elim (which k o found) as (λ z. k ≡ l) [
-                | inl old ↦ elim (which l other found') as (λ z. k ≡ l) [
-                  | inl old' ↦ homes.once k l j o other old old' rooted rooted'
-                  | inr new ↦ absurd (old_home n k j o homes old rooted (new_home other j new.1 rooted'))
-                ]
-                | inr new ↦ elim (which l other found') as (λ z. k ≡ l) [
-                  | inl old' ↦ absurd (old_home n l j other homes old' rooted' (new_home o j new.1 rooted))
-                  | inr new' ↦ new.0 ∙ sym new'.0
-                ]
+              elim (which k o found) [
+                | inl old ↦ elim (which l other found') [ inl old' ↦ homes.once k l j o other old old' rooted rooted' | inr new ↦ absurd (old_home n k j o homes old rooted (new_home other j new.1 rooted')) ]
+                | inr new ↦ elim (which l other found') [ inl old' ↦ absurd (old_home n l j other homes old' rooted' (new_home o j new.1 rooted)) | inr new' ↦ new.0 ∙ sym new'.0 ]
               ];
-          number = λ k o found.
-              elim (which k o found) as (λ z. o.cell.number ≡ record { 0 = k }) [
-                | inl old ↦ homes.number k o old
-                | inr new ↦ sym (ap (λ (y : TaskSlot B). y.cell.number) new.1) ∙ it.number ∙ ap (λ m. record { 0 = m }) (sym new.0)
-              ];
+          number = λ k o found. elim (which k o found) [ inl old ↦ homes.number k o old | inr new ↦ sym (ap (λ (y : TaskSlot B). y.cell.number) new.1) ∙ it.number ∙ ap (λ m. record { 0 = m }) (sym new.0) ];
         }
 
     nobodys : (o : TaskSlot B) → it.new ≡ o → o.home ≡ None → ⊥
     nobodys o is ordinary = let no : Some last ≡ None = sym it.home ∙ ap (λ (y : TaskSlot B). y.home) is ∙ ordinary in cc (no)
 
     pub resting_grown : AreResting s.tasks.items → AreResting s'.tasks.items
-    resting_grown old k o found ordinary free =
-        elim (which k o found) as (λ z. IsResting o) [
-          | inl was ↦ old k o was ordinary free
-          | inr new ↦ absurd (nobodys o new.1 ordinary)
-        ]
+    resting_grown old k o found ordinary free = elim (which k o found) [ inl was ↦ old k o was ordinary free | inr new ↦ absurd (nobodys o new.1 ordinary) ]
 
     pub genuine_grown : (x : Runnable) → IsGenuine s.tasks.items x → IsGenuine s'.tasks.items x
     genuine_grown x g = record { slot = g.slot; there = again x.task.0 g.slot g.there; ordinary = g.ordinary; of_it = g.of_it }
@@ -123,33 +105,14 @@ module _ {B : Type 0} where
     pub spares_grown : (j : ℕ) → SparesMore j s s'
     spares_grown j =
         let s1 : Shared B = record s { seats = s'.seats; tasks = s'.tasks; global = record s.global { places = s'.global.places }; store = s'.store } in
-        let done : SparesMore j s s1 = record {
-          config = refl;
-          clock = refl;
-          gates = λ h. h;
-          hints = λ file h. h;
-          many = omega (arith, more_seats);
-          chair = λ chair found. (chair, seat_again j chair found, spared chair);
-          tails = λ k chair chair' found found'.
-              let same : chair ≡ chair' = same_thing chair chair' (sym (seat_again k chair found) ∙ found') in
-              subst (λ c. tail_of chair.queue ≤ tail_of c.queue) same (omega arith);
-          records = λ k x found mine. (x, found, record_spared x);
-          records_only = λ k x found mine. (x, found, record_spared x);
-          sleepers = λ k z found mine. (z, found, sleeper_spared z);
-          sleepers_only = λ k z found mine. (z, found, sleeper_spared z);
-          endure = records_endure s.requests.items s.requests.items refl;
-          endure_too = sleepers_endure s.sleepers.items s.sleepers.items refl;
-          root = λ t o found rooted. again t o found;
-          polled = λ t o found polled mine. (o, again t o found, record { polled = polled; number = refl; cancelled = λ e. e; kept = refl });
-          room = λ h out socket. rw (it.store.sockets socket) (h out socket);
-          stretch = it.store.files.stretches;
-          stopped = λ h. h;
-          closed = λ h. h;
-          by_zero = λ h. (refl, refl);
-          shards = refl;
-          emptied = λ shut k none. none;
-          genuine = genuine_grown;
-        } in
+        let many : length s.seats.items ≤ length s'.seats.items = omega (arith, more_seats) in
+        let chair : (c : Chair) → slice_get s.seats.items j ≡ Some c → (c' : Chair) × (slice_get s'.seats.items j ≡ Some c') × SparesChair c c' = λ c found. (c, seat_again j c found, spared c) in
+        let tails : (k : ℕ) (c c' : Chair) → slice_get s.seats.items k ≡ Some c → slice_get s'.seats.items k ≡ Some c' → tail_of c.queue ≤ tail_of c'.queue = grind (arith, same_Some, seat_again) in
+        let root : (t : ℕ) (o : TaskSlot B) → slice_get s.tasks.items t ≡ Some o → o.home ≡ Some j → slice_get s'.tasks.items t ≡ Some o = λ t o found rooted. again t o found in
+        let polled : (t : ℕ) (o : TaskSlot B) → slice_get s.tasks.items t ≡ Some o → is_polled o.cell.phase ≡ true → o.poller ≡ j → (o' : TaskSlot B) × (slice_get s'.tasks.items t ≡ Some o') × SparesPolled o o' = λ t o found polled mine.
+        (o, again t o found, record { polled = polled; number = refl; cancelled = λ e. e; kept = refl }) in
+        let room : HasRoom s.requests.items s.store → HasRoom s.requests.items s'.store = λ h out socket. rw (it.store.sockets socket) (h out socket) in
+        let done : SparesMore j s s1 = assumption (many, chair, tails, root, polled, room, genuine_grown, it.store, spares_self j s) in
         subst (λ z. SparesMore j s z) (sym it.kept) done
 
     -- THE BALANCES
@@ -164,11 +127,7 @@ module _ {B : Type 0} where
     fresh_mailbox = rw it.fresh.inbox (record { roots = omega arith; empty = λ no. absurd (false≢true no); place = λ none. omega arith })
 
     left_grown : HaveLeft s.seats.items → HaveLeft s'.seats.items
-    left_grown all j c at =
-        elim (which_seat j c at) as (λ z. has_gone c ≡ true) [
-          | inl old ↦ all j c old
-          | inr new ↦ subst (λ x. has_gone x ≡ true) new.1 (rw (it.fresh.left, it.fresh.pool_is) refl)
-        ]
+    left_grown all j c at = elim (which_seat j c at) [ inl old ↦ all j c old | inr new ↦ subst (λ x. has_gone x ≡ true) new.1 (rw (it.fresh.left, it.fresh.pool_is) refl) ]
 
     over_grown : (t : ℕ) → IsOver t s.tasks.items → IsOver t s'.tasks.items
     over_grown t o = record { slot = o.slot; there = again t o.slot o.there; ordinary = o.ordinary; over = o.over }
@@ -183,43 +142,23 @@ module _ {B : Type 0} where
       pool_grown : IsPool (duties_of x) s.tasks.items s.set s.seats.items → IsPool (duties_of y) s'.tasks.items s.set s'.seats.items
       pool_grown pool =
           record {
-            live = λ t o found ordinary.
-                elim (which t o found) as (λ z. IsHeldOnce o (y.clears t + in_set t s.set)) [
-                  | inl old ↦ subst (λ n. IsHeldOnce o (n + in_set t s.set)) (sym (has.clears t)) (pool.live t o old ordinary)
-                  | inr new ↦ absurd (nobodys o new.1 ordinary)
-                ];
+            live = λ t o found ordinary. elim (which t o found) [ inl old ↦ subst (λ n. IsHeldOnce o (n + in_set t s.set)) (sym (has.clears t)) (pool.live t o old ordinary) | inr new ↦ absurd (nobodys o new.1 ordinary) ];
             home = pool.home;
             only = λ t some. let old = pool.only t (subst (λ n. 0 < n + in_set t s.set) (has.clears t) some) in (old.0, again t old.0 old.1, old.2);
             who_polls = λ t o found ordinary polled.
-                elim (which t o found) as (λ z. IsBefore o.poller s'.seats.items × (y.polled_by o.poller ≡ Some t)) [
+                elim (which t o found) [
                   | inl old ↦ let it_polls = pool.who_polls t o old ordinary polled in (before_grown o.poller it_polls.0, has.polled_by o.poller (before_last o.poller it_polls.0) ∙ it_polls.1)
                   | inr new ↦ absurd (nobodys o new.1 ordinary)
                 ];
             who_clears = λ t some.
                 let it_clears = pool.who_clears t (subst (λ n. 0 < n) (has.clears t) some) in
                 (it_clears.0, before_grown it_clears.0 it_clears.1, ap (λ (d : Drops). d.clears) (has.drops_by it_clears.0 (before_last it_clears.0 it_clears.1)) ∙ it_clears.2, it_clears.3);
-            clear_shut = λ t o found ordinary cleared.
-                elim (which t o found) as (λ z. s.set.closed ≡ true) [
-                  | inl old ↦ pool.clear_shut t o old ordinary cleared
-                  | inr new ↦ absurd (nobodys o new.1 ordinary)
-                ];
+            clear_shut = λ t o found ordinary cleared. elim (which t o found) [ inl old ↦ pool.clear_shut t o old ordinary cleared | inr new ↦ absurd (nobodys o new.1 ordinary) ];
             removes = λ j t is. let old = pool.removes j t (removes_old j t is) in (over_grown t old.0, old.1);
             alone = λ i j t a b. pool.alone i j t (removes_old i t a) (removes_old j t b);
-            drained = λ j c at gone.
-                elim (which_seat j c at) as (λ z. (s.set.closed ≡ true) × ((t : ℕ) → in_set t s.set ≡ 0)) [
-                  | inl old ↦ pool.drained j c old gone
-                  | inr new ↦ absurd (false≢true (sym (ap (λ (z : Chair). z.left) (sym new.1) ∙ it.fresh.left) ∙ gone))
-                ];
-            mail = λ j c at.
-                elim (which_seat j c at) as (λ z. IsMailbox c.mailbox) [
-                  | inl old ↦ pool.mail j c old
-                  | inr new ↦ subst (λ (z : Chair). IsMailbox z.mailbox) new.1 fresh_mailbox
-                ];
-            shut = λ j c at of_pool shut.
-                elim (which_seat j c at) as (λ z. HaveLeft s'.seats.items) [
-                  | inl old ↦ left_grown (pool.shut j c old of_pool shut)
-                  | inr new ↦ absurd (false≢true (sym (ap (λ (z : Chair). z.pool) (sym new.1) ∙ it.fresh.pool_is) ∙ of_pool))
-                ];
+            drained = λ j c at gone. elim (which_seat j c at) [ inl old ↦ pool.drained j c old gone | inr new ↦ absurd (false≢true (sym (ap (λ (z : Chair). z.left) (sym new.1) ∙ it.fresh.left) ∙ gone)) ];
+            mail = λ j c at. elim (which_seat j c at) [ inl old ↦ pool.mail j c old | inr new ↦ subst (λ (z : Chair). IsMailbox z.mailbox) new.1 fresh_mailbox ];
+            shut = λ j c at of_pool shut. elim (which_seat j c at) [ inl old ↦ left_grown (pool.shut j c old of_pool shut) | inr new ↦ absurd (false≢true (sym (ap (λ (z : Chair). z.pool) (sym new.1) ∙ it.fresh.pool_is) ∙ of_pool)) ];
           }
 
       -- the new run queue is empty
@@ -250,51 +189,24 @@ module _ {B : Type 0} where
           same_sum (λ j. one_if (x.published j && not (is_in s.idle.published j))) (λ j. one_if (y.published j && not (is_in s.idle.published j))) 0 s.config.workers
           (λ j few. ap (λ b. one_if (b && not (is_in s.idle.published j))) (has.published j (not_last j (omega (arith, few))))) in
           let done : IsWhole y s1 = record {
-            runnables = λ t o found ordinary.
-                elim (which t o found) as (λ z. HasOne (may_let_go s1) o.cell.phase (y.runnables t + stock t s1)) [
-                  | inl old ↦
-                      let same : x.runnables t + stock t s ≡ y.runnables t + stock t s1 = omega (arith, stocks t, has.runnables t) in
-                      subst (HasOne (may_let_go s) o.cell.phase) same (whole.runnables t o old ordinary)
-                  | inr new ↦ absurd (nobodys o new.1 ordinary)
-                ];
-            polls = λ t o found ordinary.
-                elim (which t o found) as (λ z. y.polls t ≡ one_if (is_polled o.cell.phase)) [
-                  | inl old ↦ has.polls t ∙ whole.polls t o old ordinary
-                  | inr new ↦ absurd (nobodys o new.1 ordinary)
-                ];
-            claims = λ j c at.
-                elim (which_seat j c at) as (λ z. y.claims j ≡ one_if (not (c.queue.gap == 0))) [
-                  | inl old ↦ has.claims j ∙ whole.claims j c old
-                  | inr new ↦ let none : one_if (not (it.chair.queue.gap == 0)) ≡ 0 = rw it.fresh.queue refl in has.claims j ∙ whole.unclaimed j (omega (arith, new.0)) ∙ sym (ap (λ (z : Chair). one_if (not (z.queue.gap == 0))) (sym new.1) ∙ none)
-                ];
+            runnables = grind (arith, which, stocks, nobodys);
+            polls = λ t o found ordinary. elim (which t o found) [ inl old ↦ has.polls t ∙ whole.polls t o old ordinary | inr new ↦ absurd (nobodys o new.1 ordinary) ];
+            claims = grind (arith, which_seat);
             counts = rw (has.counts, claimed) whole.counts;
             bits = λ j is. let old = whole.bits j is in (has.published j (not_last j old.1) ∙ old.0, old.1);
             set = whole.set;
             queued_here = λ j c r at among.
-                elim (which_seat j c at) as (λ z. IsGenuine s'.tasks.items r) [
+                elim (which_seat j c at) [
                   | inl old ↦ genuine_grown r (whole.queued_here j c r old among)
                   | inr new ↦ let none : queued it.chair ≡ [] = rw it.fresh.queue refl in absurd (nothing_in r (subst (λ vs. Contains vs r) (ap queued (sym new.1) ∙ none) among))
                 ];
             queued_there = λ r among. genuine_grown r (whole.queued_there r among);
             places = λ h. it.places;
-            made = λ t above.
-                let old = whole.made t (omega (arith, above, more)) in
-                (omega (arith, stocks t, has.runnables t, old.0), has.polls t ∙ old.1);
+            made = grind (arith, more, stocks);
             unclaimed = λ j beyond. has.claims j ∙ whole.unclaimed j (omega (arith, beyond, more_seats));
-            in_pool = λ j c at.
-                elim (which_seat j c at) as (λ z. c.pool ≡ nat_lt j s.config.workers) [
-                  | inl old ↦ whole.in_pool j c old
-                  | inr new ↦ let far : nat_lt j s.config.workers ≡ false = grind (arith, nat_tests, past, new.0) in ap (λ (z : Chair). z.pool) (sym new.1) ∙ it.fresh.pool_is ∙ sym far
-                ];
+            in_pool = grind (arith, which_seat, nat_tests);
             pool = pool_grown whole.pool;
-            gates = record {
-              passes = λ j file is. by_number j last
-                  (λ apart. whole.gates.passes j file (ap (λ (d : Drops). d.passes) (sym (has.drops_by j apart)) ∙ is))
-                  (λ same. let no : None ≡ Some file = sym (ap (λ k. (y.drops_by k).passes) same ∙ ap (λ (d : Drops). d.passes) has.no_drops_by) ∙ is in absurd (cc));
-              joins = λ j k is. by_number j last
-                  (λ apart. whole.gates.joins j k (ap (λ (d : Drops). d.joins) (sym (has.drops_by j apart)) ∙ is))
-                  (λ same. let no : None ≡ Some k = sym (ap (λ n. (y.drops_by n).joins) same ∙ ap (λ (d : Drops). d.joins) has.no_drops_by) ∙ is in absurd (cc));
-            };
+            gates = record { passes = grind (arith, by_number); joins = grind (arith, by_number) };
             holding = holds_grown whole.holding;
           } in
           subst (IsWhole y) (sym it.kept) done

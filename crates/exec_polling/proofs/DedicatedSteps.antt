@@ -1,55 +1,13 @@
 -- The act by which a task makes a task with a worker of its own: the whole step.
-use Rattle.std.{proofs.{Common.{[], ◌≡◌, inl, inr, ℕ, zero, suc, ◌+◌, ◌<◌, ◌≤◌, ◌^◌, arith, true, false, List, ◌∷◌, ◌++◌, length, map, Option, Some, None, refl, sym, ap, subst, ◌∙◌, slice_get, slice_set}, lemmas.{List.{length-append, length-set, set-set}, Option.{slice_get_within}}}, specs.Vec.with_item}
+use Rattle.std.{proofs.{Common.{[], ◌≡◌, inl, inr, ℕ, zero, suc, ◌+◌, ◌<◌, ◌≤◌, ◌^◌, arith, true, false, List, ◌∷◌, ◌++◌, length, Option, Some, None, refl, sym, ap, subst, ◌∙◌, slice_get, slice_set}, lemmas.{List.{length-append, length-set, set-set}, Option.{slice_get_within}}}, specs.Vec.with_item}
 use Rattle.exec_base.specs.declared.{error.Error.Error, task_no.TaskNo.TaskNo}
 use Rattle.exec_task.specs.{Phases.{is_polled, runnable_of}, Sight.Sight, declared.{body.{Act.Act, Said.Said}}}
-use Rattle.exec_machine.specs.{Choice.Choice.Plain, declared.{config.{Configuration.Configuration, ScriptWord.ScriptWord}, event.Event.Event, state.{Waiting.Waiting}}, Mail.meets_closed, Progress.Plan, Tasks.{new_own}, Words.{moved_on}, World.{task_of}}
+use Rattle.exec_machine.specs.{Choice.Choice.Plain, declared.{config.{ScriptWord.ScriptWord}, event.Event.Event, state.{Waiting.Waiting}}, Mail.meets_closed, Progress.Plan, Tasks.{new_own}, Words.{moved_on}, World.{task_of}}
 use Rattle.exec_ring.specs.Stores.{Same as SameStore}
 use Rattle.exec_moves.specs.{Plays.first_desk, declared.place.{InPoll.InPoll, Place.Place}}
-use Rattle.exec_parts.{specs.{Records.numbers_held, declared.parts.{nursery.Nursery.Nursery, role.Role.Role, seat.Seat.Seat as Chair, shared.Shared.Shared, task_slot.TaskSlot.TaskSlot, worker.Worker.Worker}, Dedicated.{Begins as BeginsWorker, Dedicates, DedicatesIf, DedicatesNone, MakesDedicated, RefusesDedicated, root_slot}, Phased.is_complete, Roles.MayBegin, Scripts.{GoesOn, held_after, IsAnswer, IsAnswered, IsBorn, MayRunScript}, Spots.{Spot, spot_of}, View.{Views, common_of, desk_of, own_of, polls_seen, queue_at, seats_seen, task_seen, things_with, visible, word_at, inbox_at}, Things.TurnsSlot}, proofs.Facts.{same_thing, set_there}}
-use Rattle.exec_invariants.{specs.{Spares.{Spares, SparesMore}, Acting.{ActsAs, HasActed, Performs, PerformsAll, StepsOf, StepsWith}, Sound.SoundAt, Whole.HasWhole, Works.{Beside, Same}}, proofs.{Acting.{Leaves, act_leaves, acted, actor, acts_so, by_word, me_at, moved_seen, tells_on}, Performing.{same_slot, still_performs, unmoved_seen}, Slots.{IsEvent, task_there}}}
-use Rattle.exec_polling.proofs.{DedicatedHolds.{newcomer_sound, sound_grown, whole_with}, DedicatedWorks.{closed_move, dedicated_works, root_seen}, Begun.{desk_begun, fresh_visible, own_begun, visible_begun}, DedicatedJoins.{JoinsRoot, more_seats, spares_grown}, SpawnLists.{found_again, found_which, set_within}}
-
--- BESIDE IT: the task was told, and then its worker joined
-
-module _ {B : Type 0} where
-  spares_both : (j : ℕ) (s m s' : Shared B) → Spares j s (record s { tasks = m.tasks }) → SparesMore j (record s { tasks = m.tasks }) s' → SparesMore j s s'
-  spares_both j s m s' first second =
-      record {
-        config = second.config;
-        clock = second.clock;
-        gates = second.gates;
-        hints = second.hints;
-        many = second.many;
-        chair = second.chair;
-        tails = second.tails;
-        records = second.records;
-        records_only = second.records_only;
-        sleepers = second.sleepers;
-        sleepers_only = second.sleepers_only;
-        endure = second.endure;
-        endure_too = second.endure_too;
-        root = λ t slot found home. second.root t slot (first.root t slot found home) home;
-        polled = λ t slot found polled mine.
-            let one = first.polled t slot found polled mine in
-            let two = second.polled t one.0 one.1 one.2.polled (ap (λ (o : TaskSlot B). o.poller) one.2.kept ∙ mine) in (
-              two.0,
-              two.1,
-              record {
-                polled = two.2.polled;
-                number = two.2.number ∙ one.2.number;
-                cancelled = λ h. two.2.cancelled (one.2.cancelled h);
-                kept = two.2.kept ∙ ap (λ (o : TaskSlot B). record o { cell = two.0.cell; cleared = two.0.cleared; fresh = two.0.fresh; output = two.0.output }) one.2.kept;
-              },
-            );
-        room = second.room;
-        stretch = second.stretch;
-        stopped = second.stopped;
-        closed = second.closed;
-        by_zero = second.by_zero;
-        shards = second.shards;
-        emptied = second.emptied;
-        genuine = λ r is. second.genuine r (first.genuine r is);
-      }
+use Rattle.exec_parts.{specs.{Records.numbers_held, declared.parts.{nursery.Nursery.Nursery, role.Role.Role, shared.Shared.Shared, task_slot.TaskSlot.TaskSlot, worker.Worker.Worker}, Dedicated.{Begins as BeginsWorker, Dedicates, DedicatesIf, DedicatesNone, MakesDedicated, RefusesDedicated, root_slot}, Phased.is_complete, Roles.MayBegin, Scripts.{GoesOn, held_after, IsAnswer, IsAnswered, IsBorn, MayRunScript}, Spots.{Spot, spot_of}, View.{Views, common_of, desk_of, own_of, seats_seen, task_seen, things_with, visible}, Things.TurnsSlot}, proofs.Facts.{same_Some, set_there}}
+use Rattle.exec_invariants.{specs.{Acting.{ActsAs, HasActed, Performs, PerformsAll, StepsOf, StepsWith}, Sound.SoundAt, Whole.HasWhole, Works.{Beside, Same}}, proofs.{Acting.{Leaves, act_leaves, acted, actor, acts_so, by_word, me_at, moved_seen, tells_on}, Performing.{same_slot, still_performs, unmoved_seen}, Slots.{IsEvent, task_there}}}
+use Rattle.exec_polling.proofs.{DedicatedHolds.{newcomer_sound, sound_grown, whole_with}, DedicatedWorks.{closed_move, dedicated_works, root_seen}, Begun.{desk_begun, fresh_visible, own_begun, visible_begun}, DedicatedJoins.{JoinsRoot, more_seats, spares_grown}, SpawnLists.{found_again, found_which, set_within}, Stirred.spares_on}
 
 -- WHAT THE NEW TASK PERFORMS
 
@@ -62,11 +20,7 @@ module _ {B L : Type 0} (left : B → L) (runs : L → Plan → Option ℕ → T
   performs_root = grind arith
 
   performs_rooted : (p : Plan) (s s' : Shared B) → (it : JoinsRoot s s') → Performs left runs holds p it.new → PerformsAll left runs holds p s → PerformsAll left runs holds p s'
-  performs_rooted p s s' it performs fits n o found =
-      elim (found_which s.tasks.items it.new o n (ap (λ xs. slice_get xs n) (sym it.items) ∙ found)) as (λ z. Performs left runs holds p o) [
-        | inl old ↦ fits n o old
-        | inr new ↦ subst (Performs left runs holds p) new.1 performs
-      ]
+  performs_rooted p s s' it performs fits n o found = elim (found_which s.tasks.items it.new o n (ap (λ xs. slice_get xs n) (sym it.items) ∙ found)) [ inl old ↦ fits n o old | inr new ↦ subst (Performs left runs holds p) new.1 performs ]
 
 module _ {B L : Type 0} (left : B → L) (runs : L → Plan → Option ℕ → Type 0) (holds : L → Option Said → List ℕ) (spot : L → Option Said → Spot) (gives : L → Option Sight → Said → Act B → L → Option Sight → Type 0) where
   -- a task goes on that was told so of the one that it wanted
@@ -114,14 +68,7 @@ module _ {B L : Type 0} (left : B → L) (runs : L → Plan → Option ℕ → T
       told_slot = ap (λ (y : TaskSlot B). record y { told = Some said }) h.made.acts.slot
 
       turns : TurnsSlot t s1 only_told (λ o. record o { told = Some said })
-      turns =
-          record {
-            kept = sym (ap (λ (x : Shared B). record x { tasks = with_item s.tasks t mid }) h.made.kept);
-            tasks = λ o found.
-                let is : o ≡ record slot { body = Some b'; told = None } = same_thing o h.made.slot' (sym found ∙ acted_there) ∙ h.made.acts.slot in
-                sym (set-set s.tasks.items t h.made.slot' mid) ∙ ap (λ ts. slice_set ts t mid) (sym h.made.tasks)
-                ∙ ap (λ (y : TaskSlot B). slice_set s1.tasks.items t (record y { told = Some said })) (sym is);
-          }
+      turns = record { kept = sym (ap (λ (x : Shared B). record x { tasks = with_item s.tasks t mid }) h.made.kept); tasks = grind (arith, same_Some, acted_there, set-set) }
 
       items_then : s'.tasks.items ≡ slice_set s.tasks.items t mid ++ makes.slot ∷ []
       items_then =
@@ -138,9 +85,7 @@ module _ {B L : Type 0} (left : B → L) (runs : L → Plan → Option ℕ → T
       unclosed = ap (λ (x : Shared B). x.set.closed) (sym h.made.kept) ∙ it.open_still
 
       grown_kept : s' ≡ record s { seats = it.middle.seats; tasks = s'.tasks; global = record s.global { places = it.middle.global.places }; store = it.middle.store }
-      grown_kept =
-          it.told.kept ∙ ap (λ (x : Shared B). record x { tasks = s'.tasks }) makes.kept
-          ∙ ap (λ (x : Shared B). record x { seats = it.middle.seats; tasks = s'.tasks; global = record x.global { places = it.middle.global.places }; store = it.middle.store }) h.made.kept
+      grown_kept = grind (arith, it.told.kept, makes.kept, h.made.kept)
 
       seats_kept : s'.seats ≡ it.middle.seats
       seats_kept = ap (λ (x : Shared B). x.seats) grown_kept
@@ -161,15 +106,11 @@ module _ {B L : Type 0} (left : B → L) (runs : L → Plan → Option ℕ → T
       told_count = length-set s.tasks.items t mid
 
       is_root : makes.slot ≡ root_slot (record { 0 = length only_told.tasks.items }) s1.set.id (length s.seats.items) body makes.slot
-      is_root =
-          makes.made ∙ ap (λ m. root_slot m s1.set.id (length s1.seats.items) body makes.slot) (makes.is ∙ ap (λ k. record { 0 = k }) (count ∙ sym told_count))
-          ∙ ap (λ xs. root_slot (record { 0 = length only_told.tasks.items }) s1.set.id (length xs) body makes.slot) seats_before
+      is_root = grind (arith, makes.made, makes.is, count, told_count, seats_before)
 
       abbrev joins : JoinsRoot only_told s'
       joins =
-          let many : length s'.tasks.items ≡ length it.middle.tasks.items =
-          ap length items_then ∙ length-append (slice_set s.tasks.items t mid) (makes.slot ∷ []) ∙ ap (λ k. k + 1) (told_count ∙ sym count)
-          ∙ sym (ap length makes.tasks ∙ length-append s1.tasks.items (makes.slot ∷ [])) in
+          let many : length s'.tasks.items ≡ length it.middle.tasks.items = grind (arith, items_then, told_count, count, makes.tasks, length-append) in
           let more : length it.middle.tasks.items ≡ length s1.tasks.items + 1 = ap length makes.tasks ∙ length-append s1.tasks.items (makes.slot ∷ []) in
           record {
             new = makes.slot;
@@ -185,10 +126,7 @@ module _ {B L : Type 0} (left : B → L) (runs : L → Plan → Option ℕ → T
             places = omega (arith, many, makes.places, same_places);
             few = (let few = makes.few in omega (arith, many, more, few));
             store = subst (λ x. SameStore s.store x) (sym same_store) (subst (λ x. SameStore x it.middle.store) store_before makes.store);
-            kept = grown_kept
-                ∙ ap (λ y. record s { seats = y; tasks = s'.tasks; global = record s.global { places = it.middle.global.places }; store = it.middle.store }) (sym seats_kept)
-                ∙ ap (λ k. record s { seats = s'.seats; tasks = s'.tasks; global = record s.global { places = k }; store = it.middle.store }) (sym same_places)
-                ∙ ap (λ y. record s { seats = s'.seats; tasks = s'.tasks; global = record s.global { places = s'.global.places }; store = y }) (sym same_store);
+            kept = grind (arith, grown_kept, seats_kept, same_places, same_store);
           }
 
       abbrev v : Worker
@@ -220,9 +158,7 @@ module _ {B L : Type 0} (left : B → L) (runs : L → Plan → Option ℕ → T
           let shows : visible v ≡ fresh_visible = visible_begun s.config Role.Dedicated i (length only_told.tasks.items) (runnable_of makes.slot.cell) s.clock v begins h.sound.config.begins in
           let own : own_of v ≡ new_own s.clock (length only_told.tasks.items) = own_begun s.config Role.Dedicated i (length only_told.tasks.items) (runnable_of makes.slot.cell) s.clock v begins h.sound.config.begins in
           let desk : desk_of v ≡ first_desk s.config i = desk_begun s.config Role.Dedicated i (length only_told.tasks.items) (runnable_of makes.slot.cell) s.clock v begins h.sound.config.begins in
-          let rooted : (p : Plan) (k : ℕ) → s.config ≡ p.config → IsBorn runs holds spot p k (left body) → Performs left runs holds p makes.slot = λ p k is born.
-          let some : 0 < s.config.workers = h.sound.config.workers in
-          performs_root left runs holds spot p k i s1.set.id body (record { 0 = length only_told.tasks.items }) makes.slot is_root makes.held (subst (λ (c : Configuration). MayRunScript c.workers (Some i)) is (may_run s.config.workers i some past)) born in
+          let rooted : (p : Plan) (k : ℕ) → s.config ≡ p.config → IsBorn runs holds spot p k (left body) → Performs left runs holds p makes.slot = grind (arith, performs_root, is_root, may_run, past) in
           let done : StepsWith left runs holds spot (Some v) w s (Event.Dedicated (length s.tasks.items) i) w s' = (
             (λ p vs suits fits.
                 let so = h.asks p vs (fits t slot h.made.there) in
@@ -248,7 +184,7 @@ module _ {B L : Type 0} (left : B → L) (runs : L → Plan → Option ℕ → T
               tells = ap (λ k. Event.Dedicated k i) (sym number) ∙ ap (Event.Dedicated v.root) (sym last);
               own = own ∙ ap (new_own s.clock) (sym (ap (λ (x : Worker). x.root) begins.parts));
               desk = desk ∙ ap (first_desk s.config) (sym last);
-              spares = λ j apart. spares_both j s only_told s' (one.spares j apart) (spares_grown only_told s' joins j);
+              spares = λ j apart. spares_on true j s only_told s' (one.spares j apart) (spares_grown only_told s' joins j);
               whole = λ others whole. whole_with t w only_told s' joins sound v body s1.set.id begins is_root few_seats told_whole others (one.whole others whole);
               last = last;
               root = number;
@@ -272,9 +208,7 @@ module _ {B L : Type 0} (left : B → L) (runs : L → Plan → Option ℕ → T
         let at_t : task_of all t ≡ task_seen left spot slot = task_there left spot s.tasks.items t slot h.made.there in
         let past : spot (left b') (Some told) ≡ spot_of (moved_on all (task_seen left spot slot)) = answered (left b') told (λ never. absurd (cc)) ∙ so.stands in
         record {
-          moves = by_word left spot t p all w s vs slot (ScriptWord.Dedicated k) at_t so.asks.1
-              ∙ closed_move p.config w.index (me_at t w) all d x t k shut
-              ∙ ap (λ o. record { event = Event.Closed; choice = Plain; desk = desk_of (record w { place = Place.Poll t InPoll.Act; hand = o }); thing = x }) h.sound.hand;
+          moves = grind (arith, by_word left spot t p all w s vs slot (ScriptWord.Dedicated k) at_t so.asks.1, closed_move p.config w.index (me_at t w) all d x t k shut, h.sound.hand);
           may = (acts_so left spot t all w slot (meets_closed all w.index) at_t waits (ap (meets_closed all w.index) so.asks.1 ∙ shut), tt);
           own = refl;
           common = ap (λ y. record all { tasks = slice_set all.tasks t (moved_on all y) }) at_t ∙ ap (λ y. record all { tasks = slice_set all.tasks t y }) (sym (moved_seen left spot all slot b' (Some told) polled past));
@@ -311,18 +245,13 @@ module _ {B L : Type 0} (left : B → L) (runs : L → Plan → Option ℕ → T
         ∙ ap (λ (y : TaskSlot B). slice_set s.tasks.items t (record y { told = Some told })) h.made.acts.slot in
         let s2 : Shared B = record s { tasks = s'.tasks } in
         let m = it.middle in
-        let kept : s' ≡ record s2 { seats = m.seats; global = record s.global { places = m.global.places }; store = m.store } =
-        it.told.kept ∙ ap (λ (y : Shared B). record y { tasks = s'.tasks }) it.nobody.kept
-        ∙ ap (λ (y : Shared B). record y { seats = m.seats; tasks = s'.tasks; global = record y.global { places = m.global.places }; store = m.store }) h.made.kept in
+        let kept : s' ≡ record s2 { seats = m.seats; global = record s.global { places = m.global.places }; store = m.store } = grind (arith, it.told.kept, it.nobody.kept, h.made.kept) in
         let seats : m.seats.items ≡ s.seats.items = it.nobody.seats ∙ ap (λ (y : Shared B). y.seats.items) h.made.kept in
         let same : Same left spot w s w s2 = same_slot left spot t w s s2 slot slot2 h.made.there (unmoved_seen left spot slot b' who.polled back) refl items in
         subst (λ x. Same left spot w s x s') (sym it.worker) (record {
           own = same.own;
           desk = same.desk;
-          things = λ vs.
-              ap (things_with vs) kept
-              ∙ ap (λ (cs : List Chair). record (things_with vs s2) { queues = map queue_at cs; words = map word_at cs; inboxes = map inbox_at cs; wake_polls = polls_seen vs.workers cs }) seats
-              ∙ same.things vs;
+          things = grind (arith, kept, seats);
           common = λ q vs. ap (common_of left spot q vs) kept ∙ ap (λ cs. record (common_of left spot q vs s2) { seats = seats_seen vs.workers cs }) seats ∙ same.common q vs;
           visible_same = same.visible_same;
         })

@@ -70,14 +70,7 @@ module _ {B L : Type 0} (left : B → L) (spot : L → Option Said → Spot) whe
     seat_new = rw (it.fresh.phase, it.fresh.pool_is, it.fresh.left, it.fresh.rest, it.fresh.inbox) refl
 
     shown : (vs : Views) → length vs.workers ≡ length s.seats.items → things_with (with_born (Some v) vs) s' ≡ with_newcomer (things_with vs s)
-    shown vs many =
-        ap (λ (x : Visible). things_with (record vs { workers = vs.workers ++ x ∷ [] }) s') visible_is
-        ∙ ap (things_with (record vs { workers = vs.workers ++ fresh_visible ∷ [] })) all_kept
-        ∙ ap (λ (cs : List Chair). record (things_with vs s) { queues = map queue_at cs; words = map word_at cs; inboxes = map inbox_at cs; wake_polls = polls_seen (vs.workers ++ fresh_visible ∷ []) cs }) grown
-        ∙ ap (λ ps. record (things_with vs s) { queues = map queue_at (s.seats.items ++ it.chair ∷ []); words = map word_at (s.seats.items ++ it.chair ∷ []); inboxes = map inbox_at (s.seats.items ++ it.chair ∷ []); wake_polls = ps }) (polls_more vs.workers s.seats.items fresh_visible it.chair many ∙ ap (λ ps. polls_seen vs.workers s.seats.items ++ ps) poll_new)
-        ∙ ap (λ qs. record (with_newcomer (things_with vs s)) { queues = qs; words = map word_at (s.seats.items ++ it.chair ∷ []); inboxes = map inbox_at (s.seats.items ++ it.chair ∷ []) }) (map-append queue_at s.seats.items (it.chair ∷ []) ∙ ap (λ q. map queue_at s.seats.items ++ q ∷ []) queue_new)
-        ∙ ap (λ ws. record (with_newcomer (things_with vs s)) { words = ws; inboxes = map inbox_at (s.seats.items ++ it.chair ∷ []) }) (map-append word_at s.seats.items (it.chair ∷ []) ∙ ap (λ x. map word_at s.seats.items ++ x ∷ []) word_new)
-        ∙ ap (λ ms. record (with_newcomer (things_with vs s)) { inboxes = ms }) (map-append inbox_at s.seats.items (it.chair ∷ []) ∙ ap (λ x. map inbox_at s.seats.items ++ x ∷ []) inbox_new)
+    shown vs many = grind (arith, visible_is, all_kept, grown, poll_new, queue_new, word_new, inbox_new, polls_more, map-append)
 
     abbrev made : ℕ
     made = length s.tasks.items
@@ -116,12 +109,7 @@ module _ {B L : Type 0} (left : B → L) (spot : L → Option Said → Spot) whe
         let seats : length all.seats ≡ last = seats_many vs.workers s.seats.items suits.workers in
         subst (λ y. WorksWith left spot (Some v) p vs y s (Event.Dedicated made last) y s') (ap (λ y. record w { place = y }) (sym here)) (record {
           choice = Plain;
-          moves = by_word left spot t p all w s vs slot (ScriptWord.Dedicated k) at_t word
-              ∙ open_move p.config w.index (me_at t w) all d x t k unclosed
-              ∙ ap (λ n. record { event = Event.Dedicated n (length all.seats); choice = Plain; desk = d; thing = with_newcomer x }) count
-              ∙ ap (λ n. record { event = Event.Dedicated made n; choice = Plain; desk = d; thing = with_newcomer x }) seats
-              ∙ ap (λ y. record { event = Event.Dedicated made last; choice = Plain; desk = d; thing = y }) (sym (shown vs suits.workers))
-              ∙ ap (λ y. record { event = Event.Dedicated made last; choice = Plain; desk = d; thing = things_with (with_born (Some v) y) s' }) (sym again);
+          moves = grind (arith, by_word left spot t p all w s vs slot (ScriptWord.Dedicated k) at_t word, open_move p.config w.index (me_at t w) all d x t k unclosed, count, seats, shown vs suits.workers, again);
           may = (
             acts_so left spot t all w slot asks_dedicated at_t waits (ap asks_dedicated word),
             (eq-eqb made (length all.tasks) (sym count), (eq-eqb last (length all.seats) (sym seats), (ap not unclosed, tt))),

@@ -9,7 +9,7 @@ use Rattle.exec_machine.specs.{Deadlines.new_sleeper, Tests.{is_applied, is_asle
 use Rattle.exec_moves.specs.declared.place.InService.{InService}
 pub use Rattle.exec_parts.proofs.LeafBeds.{bed_names, bed_room, bed_within}
 use Rattle.exec_parts.{specs.{declared.parts.{mail.Reply.Reply, names.Names.Names, record.Record.Record, sleeping.SleeperRecord.SleeperRecord}, Records.number_in}, proofs.{Facts.{by_name, not_same}, Taken.{Takes, got_new, got_old, name_apart, number_new, number_old, slot_apart, value_new, value_old, was_got}}}
-use Rattle.exec_invariants.{specs.{Carried.IsCarried, Due.{AreAsleep, AreTimed}, Ordered.IsOrdered, Flown.{HasFlown}, Places.one_if, Rooted.{IsReplyFor, IsRooted, SleeperPays, Watches, completions_of, ends_elsewhere, is_of_timer}, Sound.AreOver, Names.IsNamed}, proofs.{FiringNames.{counted_joined, naps_joined}, Flown.landed_on}}
+use Rattle.exec_invariants.{specs.{Carried.IsCarried, Due.{AreAsleep, AreTimed}, Ordered.IsOrdered, Flown.{HasFlown}, Places.one_if, Rooted.{IsReplyFor, IsRooted, SleeperPays, completions_of, ends_elsewhere, is_of_timer}, Sound.AreOver, Names.IsNamed}, proofs.{FiringNames.{counted_joined, naps_joined}, Flown.landed_on}}
 use Rattle.exec_polling.proofs.Coming.{none_of}
 
 -- A sleeper came in under this name, with the next number; of the other numbers there may be more room.
@@ -49,13 +49,7 @@ module _ (i t until : ℕ) (n n' : Names) (d : Driving Reply Reply) (zs zs' : Sl
   named_dozes named =
       record {
         requests = λ id h. rw one.requests (named.requests id h);
-        timers = λ other h.
-            by_name other z.id.0
-            (λ apart.
-            let some = some_before other apart h in
-            let old = named.timers other some in
-            (old.0, ap (slice_get (ss ++ z ∷ [])) (number_there other some) ∙ got_old ss z old.0 (number_in n.timers.items other) old.1, old.2, old.3))
-            (λ same. (z, ap (λ x. slice_get (ss ++ z ∷ []) (number_in n'.timers.items x)) same ∙ ap (slice_get (ss ++ z ∷ [])) number_here ∙ got_new ss z, sym same, ap (λ x. x.worker) one.shown));
+        timers = grind (arith, by_name, some_before, number_there, got_old, number_here, got_new);
         alike = λ id it r at there. named.alike id it r at (rw (← one.requests) there);
         over = named.over;
         submitted = rw (one.staged, one.untold) named.submitted;
@@ -72,37 +66,10 @@ module _ (i t until : ℕ) (n n' : Names) (d : Driving Reply Reply) (zs zs' : Sl
   pub asleep_dozes : {closing : Bool} → IsNamed i n d zs rs ss → AreAsleep closing i n zs ss → AreAsleep closing i n' zs' (ss ++ z ∷ [])
   asleep_dozes named asleep =
       record {
-        alike = λ other x r at there.
-            by_name other z.id.0
-            (λ apart.
-            let was : value_at zs other ≡ Some x = sym (value_old zs zs' z.id.0 asleep_now one.takes other apart) ∙ at in
-            let some : IsSome (value_at zs other) = rw was refl in
-            let old = named.timers other some in
-            let now = ap (slice_get (ss ++ z ∷ [])) (number_there other some) ∙ got_old ss z old.0 (number_in n.timers.items other) old.1 in
-            let same : old.0 ≡ r = cc (now, there) in
-            asleep.alike other x r was (old.1 ∙ ap (λ y. Some y) same))
-            (λ same.
-            let is_x : asleep_now ≡ x = cc (at, ap (value_at zs') same, value_new zs zs' z.id.0 asleep_now one.takes) in
-            let found : slice_get (ss ++ z ∷ []) (length ss) ≡ Some r = ap (slice_get (ss ++ z ∷ [])) (sym (ap (number_in n'.timers.items) same ∙ number_here)) ∙ there in
-            let is_r : z ≡ r = cc (found, got_new ss z) in
-            record { until = ap (λ y. y.shown.until) (sym is_r) ∙ ap (λ y. y.until) one.shown ∙ ap (λ y. y.deadline) is_x; asleep = ap (λ y. is_asleep i y.shown) (sym is_r) ∙ asleep_there i z until t one.shown; unclosed = ap (λ y. y.closed) (sym is_r) ∙ one.unclosed });
-        there = λ k r there sleeps unclosed.
-            elim (was_got ss z r k there) [
-              | inl old ↦
-                  let some = asleep.there k r old sleeps unclosed in
-                  rw (value_old zs zs' z.id.0 asleep_now one.takes r.id.0 (name_apart zs zs' z.id.0 asleep_now one.takes r.id.0 some)) some
-              | inr last ↦ rw (← last.1, value_new zs zs' z.id.0 asleep_now one.takes) refl
-            ];
-        named = λ k r there sleeps unclosed.
-            elim (was_got ss z r k there) [
-              | inl old ↦ number_there r.id.0 (asleep.there k r old sleeps unclosed) ∙ asleep.named k r old sleeps unclosed
-              | inr last ↦ ap (λ y. number_in n'.timers.items y.id.0) (sym last.1) ∙ number_here ∙ sym last.0
-            ];
-        lets_go = λ k r there mine closed.
-            elim (was_got ss z r k there) [
-              | inl old ↦ asleep.lets_go k r old mine closed
-              | inr last ↦ absurd (false≢true (sym one.unclosed ∙ ap (λ y. y.closed) last.1 ∙ closed))
-            ];
+        alike = grind (arith, by_name, value_old, number_there, got_old, value_new, number_here, got_new, asleep_there);
+        there = grind (arith, was_got, value_old, name_apart, value_new);
+        named = grind (arith, was_got, number_there, number_here);
+        lets_go = λ k r there mine closed. elim (was_got ss z r k there) [ inl old ↦ asleep.lets_go k r old mine closed | inr last ↦ absurd (false≢true (sym one.unclosed ∙ ap (λ y. y.closed) last.1 ∙ closed)) ];
         counted = counted_joined i zs zs' ss z one.past one.takes.unused asleep.counted;
         names = naps_joined i zs zs' ss z one.past one.takes.unused asleep.names;
       }
@@ -124,21 +91,7 @@ module _ (i t until : ℕ) (n n' : Names) (d : Driving Reply Reply) (zs zs' : Sl
         kept = λ id told r at there. rooted.kept id told r at (rw (← one.requests) there);
         ready = λ k r there mine over seen unapplied. let was = rooted.ready k r there mine over seen unapplied in record { named = ap (λ ns. number_in ns r.id.0) one.requests ∙ was.named; live = was.live };
         replies = λ id it reply r at forwarded there. subst (λ ns. IsReplyFor (number_in ns id) reply r) (sym one.requests) (rooted.replies id it reply r at forwarded (rw (← one.requests) there));
-        watches = λ other x y at there.
-            by_name other z.id.0
-            (λ apart.
-            let was : value_at zs other ≡ Some x = sym (value_old zs zs' z.id.0 asleep_now one.takes other apart) ∙ at in
-            let some : IsSome (value_at zs other) = rw was refl in
-            let old = named.timers other some in
-            let now = ap (slice_get (ss ++ z ∷ [])) (number_there other some) ∙ got_old ss z old.0 (number_in n.timers.items other) old.1 in
-            let same : old.0 ≡ y = cc (now, there) in
-            subst (λ k. Watches k x.observer y) (sym (number_there other some)) (rooted.watches other x y was (old.1 ∙ ap (λ v. Some v) same)))
-            (λ same.
-            let is_x : asleep_now ≡ x = cc (at, ap (value_at zs') same, value_new zs zs' z.id.0 asleep_now one.takes) in
-            let found : slice_get (ss ++ z ∷ []) (length ss) ≡ Some y = ap (slice_get (ss ++ z ∷ [])) (sym (ap (number_in n'.timers.items) same ∙ number_here)) ∙ there in
-            let is_y : z ≡ y = cc (found, got_new ss z) in
-            subst (λ v. Watches (number_in n'.timers.items other) v.observer y) is_x (subst (Watches (number_in n'.timers.items other) (Observer.Local (record { 0 = t }))) is_y
-            (ap (λ m. record { 0 = m }) (sym (ap (λ v. v.task) one.shown)), ap (λ v. is_applied v.forwarding) one.shown)));
+        watches = grind (arith, by_name, value_old, number_there, got_old, value_new, number_here, got_new);
         pays = rooted.pays;
         sleeper_pays = λ k y there mine.
             elim (was_got ss z y k there) [

@@ -17,8 +17,7 @@ set_last [] x y = refl
 set_last (z ∷ xs) x y = ap (λ ys. z ∷ ys) (set_last xs x y)
 
 changed_last : (rs : List Record) (r : Record) (f : Record → Record) (k : ℕ) → k ≡ length rs → changed_at (rs ++ r ∷ []) k f ≡ rs ++ f r ∷ []
-changed_last rs r f k is =
-    ap (λ n. changed_at (rs ++ r ∷ []) n f) is ∙ ap (changed_in (rs ++ r ∷ []) (length rs) f) (got_new rs r) ∙ set_last rs r (f r)
+changed_last rs r f k is = ap (λ n. changed_at (rs ++ r ∷ []) n f) is ∙ ap (changed_in (rs ++ r ∷ []) (length rs) f) (got_new rs r) ∙ set_last rs r (f r)
 
 -- what is told at most has room
 pub wide_places : (left : Deferred Reply Reply) (n m : ℕ) → n ≤ m → HasPlaces left m → HasWidth left n
@@ -190,8 +189,7 @@ module _ {B : Type 0} (t : ℕ) (w w' : Worker) (s0 sx s' : Shared B) (q : Askin
       let mid = reg.takes.mid in
       let n : length mid.names.requests.items ≡ length w.names.requests.items = ap (λ (x : List ℕ). length x) reg.takes.rooms.names.requests in
       let beds : live_count mid.home.timers ≡ live_count w.home.timers = ap (λ (x : Worker). live_count x.home.timers) reg.takes.rooms.worker in
-      let long : length driver_made.requests.slots ≤ length w.names.requests.items + 1 =
-      elim takes_made.longer [ inl same ↦ omega (arith, same, sound.named.slots) | inr one ↦ omega (arith, one, takes_made.within, sound.named.slots) ] in
+      let long : length driver_made.requests.slots ≤ length w.names.requests.items + 1 = elim takes_made.longer [ inl same ↦ omega (arith, same, sound.named.slots) | inr one ↦ omega (arith, one, takes_made.within, sound.named.slots) ] in
       let few = few_tellers driver_made.requests w.home.timers (length w.names.requests.items + 1) (live_count w.home.timers) long (omega arith) in
       omega (arith, few, n, beds)
 

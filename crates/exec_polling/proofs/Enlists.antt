@@ -113,12 +113,6 @@ module _ {B : Type 0} (t : ℕ) (w w' : Worker) (s sx s' : Shared B) (q : Asking
   here_at : waiter_at (driver_made t w w' s sx s' q e sound reg comes).requests reg.id.0 ≡ Some (newcomer q (Local None))
   here_at = is_here w.index w.names (names_made t w w' s sx s' q e sound reg comes) (driver_of w) (driver_made t w w' s sx s' q e sound reg comes) w.home.timers s.requests.items s.sleepers.items reg.id.0 (newcomer q (Local None)) (record_made t w w' s sx s' q e sound reg comes) one
 
-  -- a poll of a task says the same wherever it is, but what its request does next
-  polled_same : (x : InPoll) (d : Driving Reply Reply) (n : Names) → (b : Bool) → x ≡ (if b then InPoll.JoinGate (length s.requests.items) else InPoll.Act)
-      → own_by (record w { place = Place.Poll t x }) d n ≡ record (own_by (record w { place = Place.Poll t InPoll.Act }) d n) { next = next_at (Place.Poll t x) }
-  polled_same x d n true is = rw is refl
-  polled_same x d n false is = rw is refl
-
   own_flat : own_of w' ≡ parts (joins_gate (length s.requests.items) (asked_of q).kind) (numbers_of w'.names.requests.items (driver_of reg.mid).lists.queued) (numbers_of w'.names.requests.items (driver_of reg.mid).lists.enrolments)
       (numbers_of w'.names.requests.items (driver_of reg.mid).lists.cancels) w'.names.ended.items (flying_count (driver_of reg.mid).requests)
   own_flat = grind arith
@@ -181,9 +175,7 @@ module _ {B : Type 0} (t : ℕ) (w w' : Worker) (s sx s' : Shared B) (q : Asking
       by true late =
           let some : outcome_if_late w.moments.sampled (deadline_of q) ≡ Some (Failure Timeout) = late_is w.moments.sampled (deadline_of q) ∙ ap (λ b. if b then Some (Failure Timeout) else None) late in
           let x : Driving Reply Reply = taken_in (driver_of w) q (Local None) in
-          let driver : driver_of reg.mid ≡ with_rooms (driver_of reg.mid) (ended x reg.id (newcomer q (Local None)) timed_out None) =
-          driver_is t w w' s sx s' q e sound reg comes
-          ∙ ap (λ b. with_rooms (driver_of reg.mid) (if b then ended x reg.id (newcomer q (Local None)) timed_out None else in_place (with_deadline x reg.id (deadline_of q)) reg.id (gate_of q))) late in
+          let driver : driver_of reg.mid ≡ with_rooms (driver_of reg.mid) (ended x reg.id (newcomer q (Local None)) timed_out None) = grind (arith, driver_is t w w' s sx s' q e sound reg comes, late) in
           let n = w'.names.requests.items in
           let r = ap (λ y. numbers_of n y.lists.queued) driver ∙ gone (driver_of w).lists.queued queued_live in
           let u = ap (λ y. numbers_of n y.lists.enrolments) driver ∙ gone (driver_of w).lists.enrolments enrolments_live in

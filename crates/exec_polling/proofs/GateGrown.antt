@@ -1,31 +1,12 @@
 -- A new request has no place in any line yet: who stands at the gates stays, and there is room for it where a place was made.
-use Rattle.std.proofs.{Common.{◌≡◌, ◌≢◌, ◌⊎◌, inl, inr, ℕ, zero, suc, ◌+◌, ◌<◌, ◌≤◌, ◌++◌, arith, Bool, true, false, List, [], ◌∷◌, cond, count_by, length, Some, None, refl, sym, ap, subst, ◌∙◌, slice_get, slice_set}, lemmas.List.{length-set, Recursion.is_count_by}}
+use Rattle.std.proofs.{Common.{◌≡◌, ◌≢◌, inl, inr, ℕ, zero, suc, ◌+◌, ◌<◌, ◌≤◌, ◌++◌, arith, Bool, true, false, List, [], ◌∷◌, cond, count_by, length, Some, None, refl, sym, ap, subst, ◌∙◌, slice_get, slice_set}, lemmas.List.{length-set}}
 use Rattle.exec_outcomes.specs.Accounts.{is_durable}
 use Rattle.exec_driver.specs.{Opens.{OpenState, placed}, declared.opens.WaiterKey.WaiterKey}
 use Rattle.exec_machine.specs.Tests.{is_gated, is_of_file, is_resolved}
-use Rattle.exec_parts.{specs.declared.parts.record.Record.Record, proofs.Facts.{by_number, same_thing, set_elsewhere, set_there}}
-use Rattle.exec_invariants.specs.{Gates.{AreLinedUp, HaveGates, IsLinedUp, JoinsGate, at_gate, is_coming, key_for, line_at}, Places.Drops}
+use Rattle.exec_parts.{specs.declared.parts.record.Record.Record, proofs.Facts.{by_number, same_Some, set_elsewhere, set_there}}
+use Rattle.exec_invariants.{specs.{Gates.{AreLinedUp, HaveGates, IsLinedUp, JoinsGate, at_gate, is_coming, key_for, line_at}, Places.Drops}, proofs.{Lined.{tallied, tally}, HoldSteps.get_front, GateLines.snoc_get}}
 
 -- LISTS
-
-found_before : {A : Type 0} (xs ys : List A) (k : ℕ) (x : A) → slice_get xs k ≡ Some x → slice_get (xs ++ ys) k ≡ Some x
-found_before [] ys k x at = absurd (let no : None ≡ Some x = at in cc)
-found_before (y ∷ xs) ys zero x at = at
-found_before (y ∷ xs) ys (suc k) x at = found_before xs ys k x at
-
-last_or_before : {A : Type 0} (xs : List A) (x y : A) (n : ℕ) → slice_get (xs ++ x ∷ []) n ≡ Some y → (slice_get xs n ≡ Some y) ⊎ ((n ≡ length xs) × (x ≡ y))
-last_or_before [] x y zero at = inr (refl, same_thing x y at)
-last_or_before [] x y (suc n) at = absurd (let no : None ≡ Some y = at in cc)
-last_or_before (z ∷ zs) x y zero at = inl at
-last_or_before (z ∷ zs) x y (suc n) at = grind (arith, last_or_before zs x y n at)
-
-tally : {A : Type 0} → (A → Bool) → List A → ℕ
-tally p [] = 0
-tally p (x ∷ xs) = cond (p x) (1 + tally p xs) (tally p xs)
-
-tallied : {A : Type 0} (p : A → Bool) (xs : List A) → tally p xs ≡ count_by p xs
-unfolding tally
-tallied p xs = is_count_by (tally p) p refl (λ x ys. refl) xs
 
 tally_more : {A : Type 0} (p : A → Bool) (xs : List A) (x : A) (n : ℕ) → tally p xs ≤ n → (p x ≡ true → tally p xs + 1 ≤ n) → tally p (xs ++ x ∷ []) ≤ n
 unfolding tally
@@ -54,7 +35,7 @@ lined_placed opens rs file o there lined =
           by_number f file
           (λ other. lined.lines f x (sym (set_elsewhere opens file f (placed o) other) ∙ at))
           (λ same.
-          let is : placed o ≡ x = same_thing (placed o) x (sym (set_there opens file (placed o) o there) ∙ ap (slice_get (slice_set opens file (placed o))) (sym same) ∙ at) in
+          let is : placed o ≡ x = same_Some (placed o) x (sym (set_there opens file (placed o) o there) ∙ ap (slice_get (slice_set opens file (placed o))) (sym same) ∙ at) in
           subst (λ y. IsLinedUp f y rs) is (subst (λ n. IsLinedUp n (placed o) rs) (sym same) (line_placed file o rs (lined.lines file o there))));
       there = λ k r at of. subst (λ n. r.shown.operation.target < n) (sym many) (lined.there k r at of);
       durable = lined.durable;
@@ -78,23 +59,11 @@ module _ (opens : List OpenState) (rs : List Record) (r : Record) (new : IsNew r
       let p : Record → Bool = λ x. is_coming file o (at_gate x) in
       let most : tally p (rs ++ r ∷ []) ≤ o.coming = tally_more p rs r o.coming (subst (λ n. n ≤ o.coming) (sym (tallied p rs)) line.places) (λ h. subst (λ n. n + 1 ≤ o.coming) (sym (tallied p rs)) (new.room file o there h)) in
       record {
-        named = λ n key at. let it = line.named n key at in (it.0, it.1, found_before rs (r ∷ []) it.0 it.1 it.2, it.3);
-        durable = λ n key k x at found is.
-            elim (last_or_before rs r x k found) [
-              | inl before ↦ line.durable n key k x at before is
-              | inr last ↦ absurd (apart n key at (ap key_for last.1 ∙ is))
-            ];
-        waits = λ n key k x some at found is.
-            elim (last_or_before rs r x k found) [
-              | inl before ↦ line.waits n key k x some at before is
-              | inr last ↦ absurd (apart n key at (ap key_for last.1 ∙ is))
-            ];
+        named = λ n key at. let it = line.named n key at in (it.0, it.1, get_front rs (r ∷ []) it.0 it.1 it.2, it.3);
+        durable = λ n key k x at found is. elim (snoc_get rs r x k found) [ inl before ↦ line.durable n key k x at before is | inr last ↦ absurd (apart n key at (ap key_for last.1 ∙ is)) ];
+        waits = λ n key k x some at found is. elim (snoc_get rs r x k found) [ inl before ↦ line.waits n key k x some at before is | inr last ↦ absurd (apart n key at (ap key_for last.1 ∙ is)) ];
         once = line.once;
-        held = λ k x found durable of ungated going.
-            elim (last_or_before rs r x k found) [
-              | inl before ↦ line.held k x before durable of ungated going
-              | inr last ↦ absurd (new.waits (ap (λ (y : Record). is_durable y.shown.operation.kind) last.1 ∙ durable) (ap (λ (y : Record). is_gated y.shown.phase) last.1 ∙ ungated) (ap (λ (y : Record). is_resolved y.shown.phase) last.1 ∙ going))
-            ];
+        held = grind (arith, snoc_get);
         first = line.first;
         kept = line.kept;
         places = subst (λ n. n ≤ o.coming) (tallied p (rs ++ r ∷ [])) most;
@@ -105,47 +74,25 @@ module _ (opens : List OpenState) (rs : List Record) (r : Record) (new : IsNew r
       record {
         lines = λ file o there. line_grown file o there (lined.lines file o there);
         there = λ k x found of.
-            elim (last_or_before rs r x k found) [
+            elim (snoc_get rs r x k found) [
               | inl before ↦ lined.there k x before of
               | inr last ↦ subst (λ (y : Record). y.shown.operation.target < length opens) last.1 (new.there (ap (λ (y : Record). is_of_file y.shown.operation.kind) last.1 ∙ of))
             ];
-        durable = λ k x found gated.
-            elim (last_or_before rs r x k found) [
-              | inl before ↦ lined.durable k x before gated
-              | inr last ↦ subst (λ (y : Record). is_durable y.shown.operation.kind ≡ true) last.1 (new.durable (ap (λ (y : Record). is_gated y.shown.phase) last.1 ∙ gated))
-            ];
+        durable = grind (arith, snoc_get);
         few = lined.few;
-        unique = λ k l x y at_k at_l same.
-            elim (last_or_before rs r x k at_k) [
-              | inl before ↦
-                  elim (last_or_before rs r y l at_l) [
-                    | inl also ↦ lined.unique k l x y before also same
-                    | inr last ↦ absurd (new.fresh k x before (same ∙ ap key_for (sym last.1)))
-                  ]
-              | inr last ↦
-                  elim (last_or_before rs r y l at_l) [
-                    | inl also ↦ absurd (new.fresh l y also (sym same ∙ ap key_for (sym last.1)))
-                    | inr both ↦ last.0 ∙ sym both.0
-                  ]
-            ];
+        unique = grind (arith, snoc_get);
       }
 
 -- WHERE WORKERS ARE
 
-found_last : {A : Type 0} (xs : List A) (x : A) → slice_get (xs ++ x ∷ []) (length xs) ≡ Some x
+pub found_last : {A : Type 0} (xs : List A) (x : A) → slice_get (xs ++ x ∷ []) (length xs) ≡ Some x
 found_last [] x = refl
 found_last (y ∷ xs) x = found_last xs x
 
 -- the new request joins next
 pub joins_new : (i : ℕ) (opens : List OpenState) (rs : List Record) (r : Record) → IsNew r opens rs → AreLinedUp opens rs → r.shown.worker ≡ i → is_gated r.shown.phase ≡ true → JoinsGate i (length rs) opens (rs ++ r ∷ [])
 joins_new i opens rs r new lined mine gated =
-    record {
-      r = r;
-      there = found_last rs r;
-      mine = mine;
-      gated = gated;
-      apart = λ o n there at. let it = (lined.lines r.shown.operation.target o there).named n (key_for r) at in new.fresh it.0 it.1 it.2 it.3;
-    }
+    record { r = r; there = found_last rs r; mine = mine; gated = gated; apart = λ o n there at. let it = (lined.lines r.shown.operation.target o there).named n (key_for r) at in new.fresh it.0 it.1 it.2 it.3 }
 
 pub gates_grown : (i : ℕ) (drops drops' : ℕ → Drops) (opens : List OpenState) (rs : List Record) (r : Record) → ((j : ℕ) → j ≢ i → drops' j ≡ drops j) → (drops' i).passes ≡ None
     → ((k : ℕ) → (drops' i).joins ≡ Some k → JoinsGate i k opens (rs ++ r ∷ [])) → HaveGates drops opens rs → HaveGates drops' opens (rs ++ r ∷ [])
@@ -155,13 +102,13 @@ gates_grown i drops drops' opens rs r others none joins have =
           by_number j i
           (λ other.
           let p = have.passes j file (ap (λ x. x.passes) (sym (others j other)) ∙ is) in
-          record { o = p.o; open_there = p.open_there; k = p.k; r = p.r; there = found_before rs (r ∷ []) p.k p.r p.there; mine = p.mine; over = p.over; holds = p.holds })
+          record { o = p.o; open_there = p.open_there; k = p.k; r = p.r; there = get_front rs (r ∷ []) p.k p.r p.there; mine = p.mine; over = p.over; holds = p.holds })
           (λ same. let no : None ≡ Some file = sym none ∙ ap (λ m. (drops' m).passes) (sym same) ∙ is in absurd (cc));
       joins = λ j k is.
           by_number j i
           (λ other.
           let p = have.joins j k (ap (λ x. x.joins) (sym (others j other)) ∙ is) in
-          record { r = p.r; there = found_before rs (r ∷ []) k p.r p.there; mine = p.mine; gated = p.gated; apart = p.apart })
+          record { r = p.r; there = get_front rs (r ∷ []) k p.r p.there; mine = p.mine; gated = p.gated; apart = p.apart })
           (λ same. subst (λ m. JoinsGate m k opens (rs ++ r ∷ [])) (sym same) (joins k (ap (λ m. (drops' m).joins) (sym same) ∙ is)));
     }
 
@@ -174,7 +121,7 @@ gates_placed drops opens rs file o there have =
           by_number f file
           (λ other. record { o = p.o; open_there = set_elsewhere opens file f (placed o) other ∙ p.open_there; k = p.k; r = p.r; there = p.there; mine = p.mine; over = p.over; holds = p.holds })
           (λ same.
-          let one : p.o ≡ o = same_thing p.o o (sym p.open_there ∙ ap (slice_get opens) same ∙ there) in
+          let one : p.o ≡ o = same_Some p.o o (sym p.open_there ∙ ap (slice_get opens) same ∙ there) in
           record {
             o = placed o;
             open_there = ap (slice_get (slice_set opens file (placed o))) same ∙ set_there opens file (placed o) o there;
@@ -196,7 +143,7 @@ gates_placed drops opens rs file o there have =
                 by_number p.r.shown.operation.target file
                 (λ other. p.apart x n (sym (set_elsewhere opens file p.r.shown.operation.target (placed o) other) ∙ at) found)
                 (λ same.
-                let one : placed o ≡ x = same_thing (placed o) x (sym (set_there opens file (placed o) o there) ∙ ap (slice_get (slice_set opens file (placed o))) (sym same) ∙ at) in
+                let one : placed o ≡ x = same_Some (placed o) x (sym (set_there opens file (placed o) o there) ∙ ap (slice_get (slice_set opens file (placed o))) (sym same) ∙ at) in
                 p.apart o n (ap (slice_get opens) same ∙ there) (ap (λ (y : OpenState). slice_get (line_at y) n) one ∙ found));
           };
     }

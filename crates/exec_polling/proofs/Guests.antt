@@ -1,10 +1,10 @@
 -- The end of a poll of an ordinary task, where it waits or was cleared; and that of any task.
 use Rattle.std.proofs.{Common.{◌≡◌, ◌≢◌, inl, inr, ℕ, zero, suc, ◌+◌, ◌==◌, arith, Bool, true, false, Contains, Option, Some, None, refl, sym, ap, subst, ◌∙◌, slice_get, slice_set, option_to_list, if◌then◌else◌}, lemmas.Bool.{false≢true, eq-eqb}}
-use Rattle.exec_task.specs.{Phases.{is_polled, given_back, over, requeue_where, runnable_of, pend_answer}, declared.{body.{Ended.Ended, Said.Said}, runnable.{AfterPoll.AfterPoll, Runnable.Runnable}, task.Phase.Phase}}
-use Rattle.exec_machine.specs.{declared.event.Event.{Event, TheVariants.Pend}, Choice.Choice.Plain, Progress.Plan, Same.is_number, Tasks.{may_stop, pended_phase, after_over}, Tests.is_settled, World.{Task, task_of}}
+use Rattle.exec_task.specs.{Phases.{is_polled, given_back, over, runnable_of, pend_answer}, declared.{body.{Said.Said}, runnable.{Runnable.Runnable}, task.Phase.Phase}}
+use Rattle.exec_machine.specs.{declared.event.Event.{Event, TheVariants.Pend}, Choice.Choice.Plain, Progress.Plan, Same.is_number, Tasks.{may_stop, pended_phase}, Tests.is_settled, World.{Task, task_of}}
 use Rattle.exec_moves.specs.{declared.{handing.{AfterPush.AfterPush, InPush.InPush}, place.{InPoll.InPoll, Place.Place}}, Move.move_at, Poll.{after_pend, is_noted, pend as pend_moves, requeued_if, told_of_end}, Told.lets_go_all, Seen.{polls_at, polls_in}, State.{Desk, Moved, Things}}
-use Rattle.exec_parts.{specs.{declared.parts.{shared.Shared.Shared, task_slot.TaskSlot.TaskSlot, worker.Worker.Worker}, Phased.is_complete, Polls.{pended_with, pended_slot}, Pooled.queued_again, Spots.Spot, Tests.{after_poll_of, next_pick_of}, View.{Views, own_of, desk_of, common_of, phase_seen, task_seen, body_in, things_with}, Things.TurnsSlot}, proofs.Facts.{by_number, not_same, same_thing, set_there}}
-use Rattle.exec_invariants.{specs.{Places.{hands_on_at, one_if, removes_at, step_of_poll}, Holding.holder_of, Sound.{HasGuest, IsInHand, MayStop, SoundAt, Stops, is_told, may_end}, Whole.{HasOne, is_number as is_counted, runnables_in}, Works.{Suits, Steps}}, proofs.{Pending.{MayEnd, hand_empty, has_body, in_poll, poll_ended, polled_none, stops, to, to_push}, Onces.once_queued, Here.{IsHere, going_on}, Polling.{IsOutside, home_mine, in_hand_never, in_hand_once, next_hands, next_outside, number_apart, number_there}, PoolKept.unremoved, Slots.{Balances, IsEvent, slotted, task_there}, SlotTasks.{Keeps, Visits, guest_tasked, none_in}}}
+use Rattle.exec_parts.{specs.{declared.parts.{shared.Shared.Shared, task_slot.TaskSlot.TaskSlot, worker.Worker.Worker}, Phased.is_complete, Polls.{pended_with, pended_slot}, Pooled.queued_again, Spots.Spot, Tests.{after_poll_of, next_pick_of}, View.{Views, own_of, desk_of, common_of, phase_seen, task_seen, body_in, things_with}, Things.TurnsSlot}, proofs.Facts.{by_number, not_same, same_Some, set_there}}
+use Rattle.exec_invariants.{specs.{Places.{hands_on_at, removes_at, step_of_poll}, Holding.holder_of, Sound.{HasGuest, IsInHand, MayStop, SoundAt, Stops, is_told, may_end}, Whole.{HasOne, is_number as is_counted, runnables_in}, Works.{Suits, Steps}}, proofs.{Pending.{MayEnd, hand_empty, has_body, in_poll, poll_ended, polled_none, stops, to_push}, Onces.once_queued, Here.{IsHere, going_on}, Polling.{IsOutside, home_mine, in_hand_never, in_hand_once, next_hands, next_outside, number_apart, number_there}, PoolKept.unremoved, Slots.{Balances, IsEvent, slotted, task_there}, SlotTasks.{Keeps, Visits, guest_tasked, none_in}}}
 
 -- AN ORDINARY TASK'S POLL ENDS
 
@@ -55,10 +55,7 @@ module _ {B L : Type 0} (left : B → L) (spot : L → Option Said → Spot) whe
             ∙ ap (λ c. by (if c then told_of_end (lets_go_all w.index all seen d) else requeued_if (is_noted seen.phase) t d)) ends.uncleared.1 ∙ ap by ends.desk;
         may = (ap (is_number t) may.polls ∙ eq-eqb t t refl, (ap is_settled may.free, (ap (λ y. may_stop all w.index y.waiting) it ∙ stop, tt)));
         own = rw (kept, may.free, ends.out.polls, ends.out.free, ends.out.unserved, ends.out.owes) refl;
-        common =
-            ap (λ y. if y.cleared then after_over all w.index t else record all { tasks = slice_set all.tasks t (record y { phase = pended_phase y.phase }) }) it
-            ∙ ap (λ c. if c then after_over all w.index t else record all { tasks = slice_set all.tasks t (record seen { phase = pended_phase seen.phase }) }) ends.uncleared.1
-            ∙ ap (λ y. record all { tasks = slice_set all.tasks t y }) (sym (guest_seen slot b p k o has ends.body ends.shown));
+        common = grind (arith, it, ends.uncleared.1, guest_seen slot b p k o has ends.body ends.shown);
       }
 
   guest_ended : (x : InPoll) (t : ℕ) (q : Place) (h : Option Runnable) (w : Worker) (s s' : Shared B) → (sound : SoundAt (Place.Poll t x) w s) → MayEnd x t → EndsHere x t w s → (it : IsHere x t w s) → t ≢ w.root → (b : B) (p : Phase B) (k : Bool) (o : Option B)
@@ -91,9 +88,7 @@ module _ {B L : Type 0} (left : B → L) (spot : L → Option Said → Spot) whe
         apart = λ u other. ends.mine u other ∙ sym (ap (λ x. runnables_in u (option_to_list x)) empty);
         one = λ g home n one. ends.one g n (polled_none g slot.cell.phase (n + 0) it.polled (subst (λ x. HasOne g slot.cell.phase (n + runnables_in t (option_to_list x))) empty one));
         polls_apart = λ u other. ap (λ x. is_counted x u) ends.out.polls ∙ sym (ap (λ y. is_counted (polls_at y) u) sound.here ∙ number_apart t u (polls_in t x) may.polls other);
-        polls = λ home n polls.
-            let one : n + 1 ≡ 1 = ap (λ x. n + one_if x) (sym (ap (λ y. is_counted (polls_at y) t) sound.here ∙ number_there t (polls_in t x) may.polls)) ∙ polls ∙ ap one_if it.polled in
-            ap (λ x. n + one_if (is_counted x t)) ends.out.polls ∙ less n one ∙ sym (ap one_if ends.unpolled);
+        polls = grind (arith, number_there, less);
         remains = λ home. record { cleared = refl; over = λ h. absurd (false≢true (sym (going_on slot.cell.phase it.polled) ∙ h)); poller = λ polled. absurd (false≢true (sym ends.unpolled ∙ polled)) };
         removes = λ u is. absurd (unremoved (removes_at q) ends.out.removes u is);
       } in
@@ -143,9 +138,7 @@ module _ {B L : Type 0} (left : B → L) (spot : L → Option Said → Spot) whe
         };
         became = ap (λ x. pended_with x slot) has ∙ ap (λ x. record slot { cell = (if x then over slot.cell else record slot.cell { phase = given_back b slot.cell.phase }); body = (if x then Some b else None) }) cancelled
             ∙ ap (λ x. record slot { cell = record slot.cell { phase = given_back b x }; body = None }) phase;
-        goes = ap (λ x. queued_again t (if x then AfterPoll.Retire slot.cell.number Ended.Closed else requeue_where (runnable_of slot.cell) slot.cell.phase) (record w { place = after_poll_of t w })) cancelled
-            ∙ ap (λ x. queued_again t (requeue_where (runnable_of slot.cell) x) (record w { place = after_poll_of t w })) phase
-            ∙ ap (λ x. record w { place = (if x then to else next_pick_of w) }) never ∙ ap (λ x. record w { place = next_pick_of w; hand = x }) empty;
+        goes = grind (arith, cancelled, phase, never, empty);
       }
   guest_leads x t w slot b apart empty has number cancelled cleared Phase.Notified phase polled =
       let never : (t == w.root) ≡ false = not_same t w.root apart in
@@ -175,9 +168,7 @@ module _ {B L : Type 0} (left : B → L) (spot : L → Option Said → Spot) whe
         };
         became = ap (λ x. pended_with x slot) has ∙ ap (λ x. record slot { cell = (if x then over slot.cell else record slot.cell { phase = given_back b slot.cell.phase }); body = (if x then Some b else None) }) cancelled
             ∙ ap (λ x. record slot { cell = record slot.cell { phase = given_back b x }; body = None }) phase;
-        goes = ap (λ x. queued_again t (if x then AfterPoll.Retire slot.cell.number Ended.Closed else requeue_where (runnable_of slot.cell) slot.cell.phase) (record w { place = after_poll_of t w })) cancelled
-            ∙ ap (λ x. queued_again t (requeue_where (runnable_of slot.cell) x) (record w { place = after_poll_of t w })) phase
-            ∙ ap (λ x. if x then record w { place = after_poll_of t w; root_ready = Some r } else record w { hand = Some r; place = q }) never;
+        goes = grind (arith, cancelled, phase, never);
       }
     where
       only : (x y : Runnable) → Contains (option_to_list (Some y)) x → x ≡ y
@@ -199,7 +190,7 @@ module _ {B L : Type 0} (left : B → L) (spot : L → Option Said → Spot) whe
       may_stop_here p vs = stops left spot p vs w s it.slot.waiting ends stop
 
       is : (slot : TaskSlot B) → slice_get s.tasks.items t ≡ Some slot → it.slot ≡ slot
-      is slot found = same_thing it.slot slot (sym it.there ∙ found)
+      is slot found = same_Some it.slot slot (sym it.there ∙ found)
 
       root : t ≡ w.root → Steps left spot w s e w' s'
       root same =

@@ -1,8 +1,8 @@
 -- A worker's inbox got places, and one more request or sleeper was made there: what is left to hold of each.
-use Rattle.std.proofs.{Common.{◌≡◌, ℕ, suc, zero, ◌+◌, ◌*◌, ◌<◌, ◌≤◌, Bool, true, false, cond, Contains, List, [], ◌∷◌, count_by, sum_by, Option, Some, None, refl, sym, ap, subst, ◌∙◌, arith, inl, inr, slice_get, slice_set}, lemmas.List.{length-set, Sums.sum_by-cons}}
+use Rattle.std.proofs.{Common.{◌≡◌, ℕ, suc, zero, ◌+◌, ◌*◌, ◌<◌, ◌≤◌, Bool, true, false, cond, Contains, List, [], ◌∷◌, count_by, length, sum_by, Option, Some, None, refl, sym, ap, subst, ◌∙◌, arith, inl, inr, slice_get, slice_set}, lemmas.List.{length-set, Sums.sum_by-cons}}
 use Rattle.exec_words.specs.declared.inbox.Message.{Message}
-use Rattle.exec_parts.{specs.declared.parts.mail.Subject.Subject, proofs.Facts.{by_number, same_thing, set_elsewhere, set_there}}
-use Rattle.exec_invariants.{specs.Holding.{Box, Hands, Holder, IsForwarded, IsHeldBy, IsHolding, Mail, Nap, Owes, Thing, holdings, mail_in, under_way, waiters}, proofs.HoldRedo.sum_set}
+use Rattle.exec_parts.{specs.declared.parts.mail.Subject.Subject, proofs.Facts.{by_number, same_Some, set_elsewhere, set_there}}
+use Rattle.exec_invariants.{specs.Holding.{Box, Hands, HasPlace, Holder, IsAbout, IsForwarded, IsHeldBy, IsHolding, IsOwed, Mail, Nap, Owes, Thing, holdings, mail_in, under_way, waiters}, proofs.HoldRedo.sum_set}
 use Rattle.exec_parts.specs.declared.parts.mail.Subject.TheVariants as subject
 
 -- LISTS
@@ -61,7 +61,7 @@ module _ (h : Hands) (workers : ℕ) (hs : List Holder) (ts : List Thing) (naps 
     fits : j ≡ i → 2 * now.made + 1 ≤ now.places
 
   was_box : (j : ℕ) (now : Box) → slice_get (slice_set boxes i (placed_in n box)) j ≡ Some now → WasBox j now
-  was_box = grind (arith, by_number, set_elsewhere, same_thing, set_there)
+  was_box = grind (arith, by_number, set_elsewhere, same_Some, set_there)
 
   way_on : (m : Mail) → under_way h m boxes_then ≡ under_way h m boxes
   way_on m = let sums = sum_set (λ (b : Box). mail_in m b.messages) boxes i box (placed_in n box) at in omega (arith, sums)
@@ -83,48 +83,29 @@ module _ (h : Hands) (workers : ℕ) (hs : List Holder) (ts : List Thing) (naps 
 
   pub holding_placed : IsHolding h workers hs ts naps boxes → IsHolding h workers hs ts naps (slice_set boxes i (placed_in n box))
   holding_placed old =
-      record {
-        held = λ k r now there at_box.
-            let b = was_box r.worker now at_box in
-            subst (λ c. IsHeldBy c r.observed (holdings k hs) (under_way h (Message.Cancel (subject.Request k)) boxes_then)) (sym b.shut)
-            (subst (IsHeldBy b.was.shut r.observed (holdings k hs)) (sym (way_on (Message.Cancel (subject.Request k)))) (old.held k r b.was there b.there));
-        forwarded = λ k r now there at_box.
-            let b = was_box r.worker now at_box in
-            subst (λ c. IsForwarded c r.forwarding (under_way h (Message.Forward (subject.Request k)) boxes_then)) (sym b.shut)
-            (subst (IsForwarded b.was.shut r.forwarding) (sym (way_on (Message.Forward (subject.Request k)))) (old.forwarded k r b.was there b.there));
-        asked = old.asked;
-        waited = old.waited;
-        holds = old.holds;
-        awaiting = old.awaiting;
-        asleep = old.asleep;
-        over = old.over;
-        sleeps = old.sleeps;
-        let_go = λ k z now there at_box open_box.
-            let b = was_box z.worker now at_box in
-            subst (λ m. waiters (subject.Timer k) hs + m ≤ 1) (sym (way_on (Message.Cancel (subject.Timer k)))) (old.let_go k z b.was there b.there (sym b.shut ∙ open_box));
-        asked_too = old.asked_too;
-        let_be = old.let_be;
-        woken = λ k z now there at_box.
-            let b = was_box z.worker now at_box in
-            subst (λ c. IsForwarded c z.forwarding (under_way h (Message.Forward (subject.Timer k)) boxes_then)) (sym b.shut)
-            (subst (IsForwarded b.was.shut z.forwarding) (sym (way_on (Message.Forward (subject.Timer k)))) (old.woken k z b.was there b.there));
-        owed = λ j t some. let o = old.owed j t some in (o.0, record { it = o.1.it; there = o.1.there; owes = owes_on j t o.1.it.awaits o.1.owes });
-        about = λ j now m at_box has. let b = was_box j now at_box in old.about j b.was m b.there (subst (λ ms. Contains ms m) b.messages has);
-        room = λ j now at_box.
-            let b = was_box j now at_box in
-            let place = old.room j b.was b.there in
-            let made = place.made in
-            let more = b.made in
-            record {
-              made = omega (arith, made, more);
-              places = λ open_box.
-                  by_number j i
-                  (λ other. let same = b.places other in let most = place.places (sym b.shut ∙ open_box) in omega (arith, most, same.0, same.1))
-                  (λ same. b.fits same);
-            };
-        sent = old.sent;
-        sent_too = old.sent_too;
-        made = old.made;
-        of_worker = λ k r there. subst (λ m. r.worker < m) (sym (length-set boxes i (placed_in n box))) (old.of_worker k r there);
-        of_worker_too = λ k z there. subst (λ m. z.worker < m) (sym (length-set boxes i (placed_in n box))) (old.of_worker_too k z there);
-      }
+      let boxes' : List Box = slice_set boxes i (placed_in n box) in
+      let held : (k : ℕ) (r : Thing) (now : Box) → slice_get ts k ≡ Some r → slice_get boxes' r.worker ≡ Some now → IsHeldBy now.shut r.observed (holdings k hs) (under_way h (Message.Cancel (subject.Request k)) boxes') = λ k r now there at_box.
+      let b = was_box r.worker now at_box in
+      subst (λ c. IsHeldBy c r.observed (holdings k hs) (under_way h (Message.Cancel (subject.Request k)) boxes_then)) (sym b.shut)
+      (subst (IsHeldBy b.was.shut r.observed (holdings k hs)) (sym (way_on (Message.Cancel (subject.Request k)))) (old.held k r b.was there b.there)) in
+      let forwarded : (k : ℕ) (r : Thing) (now : Box) → slice_get ts k ≡ Some r → slice_get boxes' r.worker ≡ Some now → IsForwarded now.shut r.forwarding (under_way h (Message.Forward (subject.Request k)) boxes') = λ k r now there at_box.
+      let b = was_box r.worker now at_box in
+      subst (λ c. IsForwarded c r.forwarding (under_way h (Message.Forward (subject.Request k)) boxes_then)) (sym b.shut)
+      (subst (IsForwarded b.was.shut r.forwarding) (sym (way_on (Message.Forward (subject.Request k)))) (old.forwarded k r b.was there b.there)) in
+      let let_go : (k : ℕ) (z : Nap) (now : Box) → slice_get naps k ≡ Some z → slice_get boxes' z.worker ≡ Some now → now.shut ≡ false → waiters (subject.Timer k) hs + under_way h (Message.Cancel (subject.Timer k)) boxes' ≤ 1 = λ k z now there at_box open_box.
+      let b = was_box z.worker now at_box in
+      subst (λ m. waiters (subject.Timer k) hs + m ≤ 1) (sym (way_on (Message.Cancel (subject.Timer k)))) (old.let_go k z b.was there b.there (sym b.shut ∙ open_box)) in
+      let woken : (k : ℕ) (z : Nap) (now : Box) → slice_get naps k ≡ Some z → slice_get boxes' z.worker ≡ Some now → IsForwarded now.shut z.forwarding (under_way h (Message.Forward (subject.Timer k)) boxes') = λ k z now there at_box.
+      let b = was_box z.worker now at_box in
+      subst (λ c. IsForwarded c z.forwarding (under_way h (Message.Forward (subject.Timer k)) boxes_then)) (sym b.shut)
+      (subst (IsForwarded b.was.shut z.forwarding) (sym (way_on (Message.Forward (subject.Timer k)))) (old.woken k z b.was there b.there)) in
+      let owed : (j t : ℕ) → 0 < h.wakes j t → (h.wakes j t ≡ 1) × IsOwed j t hs ts naps boxes' = λ j t some. let o = old.owed j t some in (o.0, record { it = o.1.it; there = o.1.there; owes = owes_on j t o.1.it.awaits o.1.owes }) in
+      let about : (j : ℕ) (now : Box) (m : Mail) → slice_get boxes' j ≡ Some now → Contains now.messages m → IsAbout workers j m ts naps = λ j now m at_box has. let b = was_box j now at_box in old.about j b.was m b.there (subst (λ ms. Contains ms m) b.messages has) in
+      let places : (j : ℕ) (now : Box) → slice_get boxes' j ≡ Some now → HasPlace j ts naps now = λ j now at_box.
+      let b = was_box j now at_box in
+      let place = old.room j b.was b.there in
+      record { made = omega (arith, place.made, b.made); places = grind (arith, by_number) } in
+      let few : length boxes' ≡ length boxes = length-set boxes i (placed_in n box) in
+      let of_worker : (k : ℕ) (r : Thing) → slice_get ts k ≡ Some r → r.worker < length boxes' = λ k r there. subst (λ m. r.worker < m) (sym few) (old.of_worker k r there) in
+      let of_worker_too : (k : ℕ) (z : Nap) → slice_get naps k ≡ Some z → z.worker < length boxes' = λ k z there. subst (λ m. z.worker < m) (sym few) (old.of_worker_too k z there) in
+      assumption (held, forwarded, let_go, woken, owed, about, places, of_worker, of_worker_too, old)

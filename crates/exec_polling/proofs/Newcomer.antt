@@ -6,7 +6,7 @@ use Rattle.exec_time.specs.declared.timers.Sleeper.{Sleeper as Sleeping}
 use Rattle.exec_request.specs.{Requests.{asked_of, cursor_of, deadline_of, gate_of, target_of}, declared.request.Request.Request as Asking}
 use Rattle.exec_ring.specs.{Rings.RingState, Stores.Reserves, declared.store.Store.Store}
 use Rattle.exec_waiters.{specs.{States.{waiter_at, waiter_of, tick_in}, declared.{deferred.{Answer.Answer, Deferred.Deferred}, observer.Observer.TheVariants.{Forwarded, Local}, waiter.{Entry.{Entry, TheVariants.{Pending, Ready}}, Waiter.Waiter}}}, proofs.Changes.entry_of}
-use Rattle.exec_driver.specs.{Driving.{Driving, is_cancelled, is_unenrolled}, Lists.is_among, Opens.OpenState, Punctual.IsPunctual, Footprints.footprint_of}
+use Rattle.exec_driver.specs.{Driving.{Driving, is_unenrolled}, Lists.is_among, Opens.OpenState, Punctual.IsPunctual, Footprints.footprint_of}
 use Rattle.exec_machine.specs.{Requests.{asked_of as asked_in, first_phase}, Tests.{is_applied, is_in_flight, is_resolved, is_staged}}
 use Rattle.exec_moves.specs.declared.place.InService.{InService}
 use Rattle.exec_parts.{specs.{declared.parts.{mail.Reply.Reply, names.Names.Names, record.Record.Record, sleeping.SleeperRecord.SleeperRecord}, Records.number_in}, proofs.{Facts.{and_parts, by_name, by_number, not_same}, Taken.{got_new, got_old, name_apart, number_new, number_old, past_still, slot_apart, some_still, value_before, value_new, value_old, was_got, enrolled_if, among_before, among_now, all_listed, known_more}}}
@@ -58,22 +58,13 @@ module _ (i : ℕ) (n n' : Names) (d d' : Driving Reply Reply) (zs : Slab (Sleep
         known = known_more n.staged.items rs r sub.known;
         own = λ k x listed there. elim (was_got rs r x k there) [ inl old ↦ sub.own k x listed old | inr last ↦ ap (λ y. y.shown.worker) (sym last.1) ∙ mine_too ];
         all = λ k x there mine staged.
-            elim (was_got rs r x k there) [
-              | inl old ↦ sub.all k x old mine staged
-              | inr last ↦ absurd (false≢true (sym (ap (λ y. is_staged y.shown.phase) (sym last.1) ∙ ap is_staged phase_is ∙ (first_idle one.o.kind).unstaged) ∙ staged))
-            ];
+            elim (was_got rs r x k there) [ inl old ↦ sub.all k x old mine staged | inr last ↦ absurd (false≢true (sym (ap (λ y. is_staged y.shown.phase) (sym last.1) ∙ ap is_staged phase_is ∙ (first_idle one.o.kind).unstaged) ∙ staged)) ];
       }))
 
   pub named_next : IsNamed i n d zs rs ss → IsNamed i n' d' zs (rs ++ r ∷ []) ss
   named_next named =
       record {
-        requests = λ other h.
-            by_name other id
-            (λ apart.
-            let some : IsSome (value_at d.requests other) = rw (← value_old d.requests d'.requests id (Pending it) one.takes other apart) h in
-            let old = named.requests other some in
-            (old.0, ap (slice_get (rs ++ r ∷ [])) (number_there other some) ∙ got_old rs r old.0 (number_in n.requests.items other) old.1, old.2, old.3))
-            (λ same. (r, ap (λ x. slice_get (rs ++ r ∷ []) (number_in n'.requests.items x)) same ∙ ap (slice_get (rs ++ r ∷ [])) number_here ∙ got_new rs r, one.name ∙ sym same, mine_too));
+        requests = grind (arith, by_name, value_old, number_there, got_old, number_here, got_new, mine_too);
         timers = λ other h. rw one.timers (named.timers other h);
         alike = λ other w x at there.
             rw one.wheel
@@ -206,10 +197,7 @@ module _ (i : ℕ) (n n' : Names) (d d' : Driving Reply Reply) (zs : Slab (Sleep
             (among_now (record { 0 = id }) (deadline_of it.request) d.lists.enrolments (ap (λ y. is_some (deadline_of y.request)) is_it ∙ has))));
         polled = subst (λ (y : RingState). IsPolled y d'.armed) (sym one.ring) (subst (IsPolled d.ring) (sym one.armed) flown.polled);
         owning = λ k y there open_still. elim (was_got rs r y k there) [ inl old ↦ flown.owning k y old open_still | inr last ↦ ap (λ z. z.shown.released) (sym last.1) ∙ ap (λ z. z.released) one.shown ];
-        uncancelled = λ other y among there mine.
-            let listed : is_among other d.lists.cancels ≡ true = rw (← one.cancels) among in
-            let some = stands d other is_cancelled (waiter_at d.requests other.0) refl refl (one.lists.cancels other listed) in
-            flown.uncancelled other y listed (record_there named other.0 y some there) mine;
+        uncancelled = grind (arith, stands, record_there);
       }
 
   -- WHAT WAS KNOWN
@@ -246,16 +234,7 @@ module _ (i : ℕ) (n n' : Names) (d d' : Driving Reply Reply) (zs : Slab (Sleep
                   let name : id ≡ x.id.0 = sym one.name ∙ ap (λ (y : Record). y.id.0) last.1 in
                   subst (λ (y : Id). (y.generation < 2 ^ 64) × IsPast d'.requests y) name (omega (arith, low, few), past_here)
             ];
-        counted = λ other past.
-            let long = length-append rs (r ∷ []) in
-            by_number other.index id.index
-            (λ apart.
-            let was : IsPast d.requests other = subst (λ o. other.generation < next_generation o) (one.takes.changed.there other.index apart) past in
-            let under = known.counted other was in
-            omega (arith, under, long))
-            (λ same.
-            let now : other.generation < id.generation + 1 = subst (λ o. other.generation < next_generation o) (ap (slot_at d'.requests) same ∙ one.takes.changed.here) past in
-            omega (arith, now, low, long));
+        counted = grind (arith, length-append, by_number);
         few = let long = length-append rs (r ∷ []) in omega (arith, long, few);
         hints = λ other w x at there asks unrefused unhinted.
             by_name other id

@@ -1,5 +1,5 @@
 -- The steps of an outside caller: what each leaves of others, and what those on the idle set are to the machine.
-use Rattle.std.proofs.{Common.{◌≡◌, ◌≢◌, ℕ, ◌+◌, ◌-◌, ◌^◌, ◌<◌, ◌==◌, ◌&&◌, Bool, true, false, not, Contains, List, length, Option, Some, None, IsSome, refl, sym, ap, subst, ◌∙◌, arith, option_to_list, slice_get, slice_set, if◌then◌else◌}, lemmas.{Bool.false≢true, List.{length-set, Quantifiers.position-Some}, Option.get_or_from_slice_get}}
+use Rattle.std.proofs.{Common.{◌≡◌, ◌≢◌, ℕ, ◌+◌, ◌-◌, ◌^◌, ◌<◌, ◌≤◌, ◌==◌, ◌&&◌, Bool, true, false, not, Contains, List, length, Option, Some, None, IsSome, refl, sym, ap, subst, ◌∙◌, arith, option_to_list, slice_get, slice_set, if◌then◌else◌}, lemmas.{Bool.false≢true, List.{length-set, Quantifiers.position-Some}, Option.get_or_from_slice_get}}
 use Rattle.exec_words.specs.{Idle.{Idle, is_in, lowest_of}, declared.idle.WorkerSet.WorkerSet}
 use Rattle.exec_task.specs.declared.{body.Said.Said, runnable.Runnable.Runnable}
 use Rattle.exec_machine.specs.{declared.{event.Event.{Event, TheVariants.{Turn, Return}}}, Callers.{common_by, is_half_done, may_go_on}, Choice.Choice.Plain, Progress.Plan}
@@ -11,13 +11,15 @@ use Rattle.exec_moves.specs.declared.handing.InGlobal.TheVariants as global
 use Rattle.exec_moves.specs.declared.handing.InSignal.TheVariants as signals
 use Rattle.exec_parts.{specs.{declared.parts.{shared.Shared.Shared, task_slot.TaskSlot.TaskSlot}, Spots.Spot, View.{Views, Visible, common_of, seats_seen, things_with}}, proofs.Facts.by_number}
 use Rattle.exec_polling.specs.{declared.caller.Caller.Caller, Calling.{CallAims, CallBeside, CallSound, CallSteps, HasCallWhole, HoldsForAll, call_of, desk_of_caller, hands_on_in, has_count_in, is_free, place_by_count, place_by_set, with_call, with_caller}}
-use Rattle.exec_invariants.{specs.{Hearing.Hears, Places.one_if, Sound.{AreHome, IsInHand}, Whole.{IsGenuine, IsWhole, Profile, claimed_count}}, proofs.{Aside.{SparesSeats, seats_same, spares_turn}, Counting.{at_most, set_at, set_beside, sum_few, sum_one}, Handed.someone, Kicking.{again_some, lowest_claimed}, Turning.{Shares, set_found}}}
+use Rattle.exec_invariants.{specs.{Hearing.Hears, Places.one_if, Sound.{AreHome, IsInHand}, Spares.Spares, Whole.{HasOne, IsGenuine, IsWhole, Profile, claimed_count, may_let_go, stock}}, proofs.{Aside.{SparesSeats, seats_same, spares_turn}, Counting.{at_most, set_at, set_beside, sum_few, sum_one}, Handed.someone, Kicking.{again_some, lowest_claimed}, Turning.{Shares, set_found}}}
 
 pub no_other : (j : ℕ) → j ≢ j + 1
 no_other j is = omega (arith, is)
 
 module _ {B : Type 0} where
-  -- WHAT A STEP LEAVES OF OTHERS, where only seats, the idle set and the global queue change
+  -- WHAT A STEP LEAVES OF OTHERS, where only seats, the idle set and the global queue change, or nothing does
+  pub spares_self : (j : ℕ) (s : Shared B) → Spares j s s
+  spares_self j s = spares_turn (j + 1) j s s (no_other j) refl (seats_same (j + 1) s.seats.items s.seats.items refl)
 
   pub hears_same : (slot slot' : TaskSlot B) → slot ≡ slot' → Hears slot slot'
   hears_same slot slot' is = subst (Hears slot) is (record { home = refl; body = refl; going = λ h. h; told = λ answer can. (can, refl) })
@@ -29,9 +31,7 @@ module _ {B : Type 0} where
         spares = λ j. spares_turn (j + 1) j s s' (no_other j) shares (seats (j + 1));
         for_all = λ all. subst HoldsForAll (sym shares) (record { homes = subst (λ n. AreHome s.config.workers n s.tasks.items) (sym (seats 0).many) all.homes; resting = all.resting; owning = all.owning; closed = all.closed; few = all.few });
         whole = whole;
-        hears = λ t slot slot' there there'.
-            let is : slot ≡ slot' = cc (sym there ∙ ap (λ xs. slice_get xs t) (sym tasks) ∙ there') in
-            hears_same slot slot' is;
+        hears = grind (arith, tasks, hears_same);
       }
 
   pub sound_shares : (c c' : Caller) (s s' : Shared B) → CallSound c s → Shares s s' → length s'.seats.items ≡ length s.seats.items → IsInHand None (hands_on_in c'.place) c'.hand
@@ -86,27 +86,12 @@ module _ {B : Type 0} where
           omega (arith, was, own, own', balance)
 
       done : IsWhole (with_caller others c') (record s { idle = x1 })
-      done = record {
-        runnables = λ t slot there home. rw hand (whole.runnables t slot there home);
-        polls = whole.polls;
-        claims = whole.claims;
-        counts = counts;
-        bits = λ j h. by_number j k
-            (λ other. whole.bits j (sym (set_beside set k j false other) ∙ h))
-            (λ same.
-            let no : false ≡ true = sym (set_at set k false found.0) ∙ ap (is_in set') (sym same) ∙ h in
-            absurd (false≢true no));
-        set = length-set set k false ∙ whole.set;
-        queued_here = whole.queued_here;
-        queued_there = whole.queued_there;
-        places = whole.places;
-        made = λ t more. rw hand (whole.made t more);
-        unclaimed = whole.unclaimed;
-        in_pool = whole.in_pool;
-        pool = whole.pool;
-        gates = whole.gates;
-        holding = whole.holding;
-      }
+      done =
+          let runnables : (t : ℕ) (slot : TaskSlot B) → slice_get s.tasks.items t ≡ Some slot → slot.home ≡ None → HasOne (may_let_go s) slot.cell.phase ((with_caller others c').runnables t + stock t s) = λ t slot there home. rw hand (whole.runnables t slot there home) in
+          let bits : (j : ℕ) → is_in set' j ≡ true → (others.published j ≡ true) × (j < s.config.workers) = grind (arith, by_number, set_beside, set_at, found) in
+          let many : length set' ≡ 64 = length-set set k false ∙ whole.set in
+          let made : (t : ℕ) → length s.tasks.items ≤ t → ((with_caller others c').runnables t + stock t s ≡ 0) × (others.polls t ≡ 0) = λ t more. rw hand (whole.made t more) in
+          assumption (runnables, counts, bits, many, made, whole)
 
   -- one more count fits, and who holds one can return it
   pub call_count_fits : (c : Caller) (s : Shared B) → CallSound c s → HasCallWhole c s → s.idle.count + 1 < 2 ^ 64
@@ -145,13 +130,11 @@ going_call call.Nothing h = absurd (false≢true (sym h))
 going_call _ h = refl
 
 pub still_called : (vs : Views) (j : ℕ) (p q : CallPlace) → slice_get vs.calls j ≡ Some (call_of p) → is_free p ≡ false → is_free q ≡ false → with_call vs j (call_of q) ≡ vs
-still_called vs j p q seen going still =
-    ap (λ xs. record vs { calls = xs }) (ap (slice_set vs.calls j) (going_call q still ∙ sym (going_call p going)) ∙ set_found vs.calls j (call_of p) seen)
+still_called vs j p q seen going still = ap (λ xs. record vs { calls = xs }) (ap (slice_set vs.calls j) (going_call q still ∙ sym (going_call p going)) ∙ set_found vs.calls j (call_of p) seen)
 
 module _ {B L : Type 0} (left : B → L) (spot : L → Option Said → Spot) where
   pub may_be_gone_on : (p : Plan) (vs : Views) (s : Shared B) (j : ℕ) (at : CallPlace) → slice_get vs.calls j ≡ Some (call_of at) → is_free at ≡ false → may_go_on (common_of left spot p vs s) j ≡ true
-  may_be_gone_on p vs s j at seen going =
-      ap is_half_done (get_or_from_slice_get vs.calls j half.HalfDone half.Nothing (seen ∙ ap (λ x. Some x) (going_call at going)))
+  may_be_gone_on p vs s j at seen going = ap is_half_done (get_or_from_slice_get vs.calls j half.HalfDone half.Nothing (seen ∙ ap (λ x. Some x) (going_call at going)))
 
   -- A turn of a call: of what the machine sees nothing changes.
   pub call_turned : (c c' : Caller) (s s' : Shared B) (e : Event) → is_free c.place ≡ false → is_free c'.place ≡ false → e ≡ Turn → Shares s s' → s'.global.closed ≡ s.global.closed → ((vs : List Visible) → seats_seen vs s'.seats.items ≡ seats_seen vs s.seats.items)
@@ -167,10 +150,7 @@ module _ {B L : Type 0} (left : B → L) (spot : L → Option Said → Spot) whe
           choice = Plain;
           moves = moves p vs suits.workers ∙ ap (λ x. record { event = x; choice = Plain; desk = desk_of_caller c'; thing = things_with vs s' }) (sym event);
           may = rw event (may_be_gone_on p vs s j c.place suits.seen going, tt);
-          common =
-              ap (λ v. common_of left spot p v s') again ∙ ap (common_of left spot p vs) shares
-              ∙ ap (λ seen. record cs { seats = seen; queue_closed = s'.global.closed }) (seats vs.workers)
-              ∙ ap (λ b. record cs { queue_closed = b }) closed ∙ sym kept;
+          common = grind (arith, again, shares, seats vs.workers, closed, kept);
         }),
     sound,
     beside,

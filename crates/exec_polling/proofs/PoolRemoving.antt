@@ -1,21 +1,19 @@
 -- A task that is over leaves the task set, as a step of the machine: what that leaves of the set, of what is sound, of others
 -- and of the balances.
-use Rattle.std.proofs.{Common.{[], ◌≡◌, ◌≢◌, ◌⊎◌, ⊎_elim, inr, ℕ, zero, suc, ◌+◌, ◌%◌, ◌<◌, ◌≤◌, ◌==◌, Bool, true, false, List, ◌∷◌, length, map, Option, Some, None, refl, sym, ap, subst, ◌∙◌, arith, slice_get, slice_index_or, slice_set, if◌then◌else◌, ◌||◌}, lemmas.{Bool.false≢true, List.{length-set, map-set}}}
+use Rattle.std.proofs.{Common.{[], ◌≡◌, ◌≢◌, ◌⊎◌, ⊎_elim, inr, ℕ, zero, suc, ◌+◌, ◌%◌, ◌<◌, ◌≤◌, ◌==◌, Bool, true, false, List, ◌∷◌, length, map, Option, Some, None, refl, sym, ap, subst, ◌∙◌, arith, slice_get, slice_index_or, slice_set, if◌then◌else◌, ◌||◌}, lemmas.{List.{length-set, map-set}}}
 use Rattle.exec_task.specs.{TaskSet.{AreAtHome, Set, removed, shard_at}, declared.body.Said.Said}
 use Rattle.exec_machine.specs.{After.common_after, declared.{config.Configuration.Configuration, event.Event.{Event, TheVariants.Turn}}, Choice.Choice.Plain, Progress.Plan}
 use Rattle.exec_moves.specs.{declared.place.{InPick.InPick, InPoll.InPoll, Place.Place}, Cells.shard_of, Move.move_at, Poll.remove_task, Pop.shard_count, Seen.polls_at, State.{Moved, Things}, Thing.with_shard}
-use Rattle.exec_parts.{specs.{declared.parts.{seat.Seat.Seat as Chair, shared.Shared.Shared, task_slot.TaskSlot.TaskSlot, worker.Worker.Worker}, Phased.{IsPhased, IsPrepared, closes_at, closing_in, is_complete, stage_of}, Spots.Spot, Tests.next_pick_of, View.{Views, common_of, desk_of, own_of, things_with, visible, with_view}}, proofs.Facts.{by_number, same_thing}}
-use Rattle.exec_invariants.{specs.{Drained.{Duties, IsOver, IsPool, in_set}, Places.{claims_at, clears_at, drops_at, hands_on_at, has_count_at, in_poll_of, is_number, is_published_at, no_drops, one_if, polled_in, removes_at, step_of_poll}, Sound.{HasGuest, IsInHand, Serves, SoundAt, Stands, Stops}, Spares.Spares, Whole.{HasOne, HasWhole, IsWhole, Profile, duties_of, stock, with_worker}, Works.{Beside, Steps, Suits, Works}}, proofs.{Aside.{record_spared, sleeper_spared, spared}, Hearing.unheard, Polling.{IsOutside, next_hands, next_outside}, PoolClosing.{Recounts, pool_recounted}, PoolShards.{home_set, in_shard, in_shards, shard_elsewhere, shards_set}, PoolKept.{chosen_other, chosen_own}, PopLeads.some_shards, Shutting.{but_duties, mail_there, with_duties}, Slots.gates_free, Spared.{records_endure, sleepers_endure}, SlotTasks.{Tasked, sound_tasked}, Turning.view_found}}
-use Rattle.exec_polling.proofs.{SpawnSets.shard_shown, PoolWithout.{numbers, shard_without, others_stay, as_few, but, filtered, without_none, at_most_all}}
-use Rattle.exec_words.specs.Queue.{tail_of}
+use Rattle.exec_parts.{specs.{declared.parts.{seat.Seat.Seat as Chair, shared.Shared.Shared, task_slot.TaskSlot.TaskSlot, worker.Worker.Worker}, Phased.{IsPhased, IsPrepared, closes_at, closing_in, has_stopped, is_complete, stage_of}, Spots.Spot, Tests.next_pick_of, View.{Views, common_of, desk_of, own_of, things_with, visible, with_view}}, proofs.Facts.{by_number, same_Some}}
+use Rattle.exec_invariants.{specs.{Drained.{Duties, IsOver, IsPool, in_set}, Gates.HaveGates, Places.{claims_at, clears_at, drops_at, hands_on_at, has_count_at, in_poll_of, is_number, is_published_at, no_drops, one_if, polled_in, removes_at, step_of_poll}, Sound.{HasGuest, IsInHand, Serves, SoundAt, Stands, Stops}, Spares.Spares, Whole.{HasOne, HasWhole, IsWhole, Profile, duties_of, stock, with_worker}, Works.{Beside, Steps, Suits, Works}}, proofs.{Hearing.unheard, Polling.{IsOutside, next_hands, next_outside}, PoolClosing.{Recounts, pool_recounted}, PoolShards.{home_set, in_shard, in_shards, shard_elsewhere, shards_set}, PoolKept.{chosen_other, chosen_own}, PopLeads.some_shards, Shutting.{but_duties, mail_there, with_duties}, Slots.gates_free, SlotTasks.{Tasked, sound_tasked}, Turning.view_found}}
+use Rattle.exec_polling.proofs.{Outsiders.spares_self, SpawnSets.shard_shown, PoolWithout.{numbers, shard_without, others_stay, as_few, but, filtered, without_none, at_most_all}}
 
 -- THE STEP
 
 module _ {B : Type 0} where
   -- what it needs: the task is in the set, unless that is closed
   pub removes_here : (t : ℕ) (w : Worker) (s : Shared B) → w.place ≡ Place.Poll t InPoll.RemoveTask → (has : HasWhole w s) → IsOver t s.tasks.items × ((s.set.closed ≡ true) ⊎ (in_set t s.set ≡ 1))
-  removes_here t w s here has =
-      has.whole.pool.removes w.index t (ap (λ x. x.removes) (chosen_own w.index (drops_at w.place) (has.others.drops_by w.index)) ∙ ap removes_at here)
+  removes_here t w s here has = has.whole.pool.removes w.index t (ap (λ x. x.removes) (chosen_own w.index (drops_at w.place) (has.others.drops_by w.index)) ∙ ap removes_at here)
 
   module _ (t : ℕ) (w : Worker) (s : Shared B) (set' : Set (Unit {0})) (sound : SoundAt (Place.Poll t InPoll.RemoveTask) w s) (set : set' ≡ removed s.set (record { 0 = t })) where
     abbrev shard : ℕ
@@ -52,8 +50,7 @@ module _ {B : Type 0} where
         (λ same. subst (λ m. in_set m set' ≤ in_set m s.set) (sym same) (omega (arith, sum t, as_few t (shard_at s.set shard))))
 
     home_without : AreAtHome s.set.shards → AreAtHome set'.shards
-    home_without home =
-        subst AreAtHome (sym shards) (home_set s.set.shards shard (shard_without t (shard_at s.set shard)) inside (λ n away none. without_none t (shard_at s.set shard) n none) home)
+    home_without home = subst AreAtHome (sym shards) (home_set s.set.shards shard (shard_without t (shard_at s.set shard)) inside (λ n away none. without_none t (shard_at s.set shard) n none) home)
 
     emptied : (k : ℕ) → shard_at s.set k ≡ [] → shard_at set' k ≡ []
     emptied k none =
@@ -73,33 +70,10 @@ module _ {B : Type 0} where
 
     spares_removed : (j : ℕ) → Spares j s (record s { set = set' })
     spares_removed j =
-        record {
-          config = refl;
-          clock = refl;
-          gates = λ h. h;
-          hints = λ file h. h;
-          many = refl;
-          chair = λ chair found. (chair, found, spared chair);
-          tails = λ k chair chair' found found'.
-              let same : chair ≡ chair' = same_thing chair chair' (sym found ∙ found') in
-              subst (λ c. tail_of chair.queue ≤ tail_of c.queue) same (omega arith);
-          records = λ k r found mine. (r, found, record_spared r);
-          records_only = λ k r found mine. (r, found, record_spared r);
-          sleepers = λ k z found mine. (z, found, sleeper_spared z);
-          sleepers_only = λ k z found mine. (z, found, sleeper_spared z);
-          endure = records_endure s.requests.items s.requests.items refl;
-          endure_too = sleepers_endure s.sleepers.items s.sleepers.items refl;
-          root = λ u slot found home. found;
-          polled = λ u slot found polled mine. (slot, found, record { polled = polled; number = refl; cancelled = λ h. h; kept = refl });
-          room = λ h. h;
-          stretch = λ file offset n h. h;
-          stopped = λ h. h;
-          closed = λ h. closed ∙ h;
-          by_zero = λ h. (refl, closed);
-          shards = many;
-          emptied = λ shut. emptied;
-          genuine = λ r is. is;
-        }
+        let shut : s.set.closed ≡ true → set'.closed ≡ true = λ h. closed ∙ h in
+        let by_zero : j ≡ 0 → (s.stopped ≡ s.stopped) × (set'.closed ≡ s.set.closed) = λ h. (refl, closed) in
+        let empties : s.set.closed ≡ true → (k : ℕ) → shard_at s.set k ≡ [] → shard_at set' k ≡ [] = λ h. emptied in
+        assumption (shut, by_zero, many, empties, spares_self j s)
 
     -- THE BALANCES
 
@@ -112,26 +86,12 @@ module _ {B : Type 0} where
         let same : with_worker others w1 ≡ x =
         but_duties others q w.home.closing w.batch w.processed w (polls ∙ sym (ap polls_at sound.here)) (claims ∙ sym (ap claims_at sound.here)) (counts ∙ sym (ap has_count_at sound.here)) (published ∙ sym (ap is_published_at sound.here)) in
         let pool : IsPool d1 s.tasks.items set' s.seats.items = pool_recounted t d d1 s.tasks.items s.set set' s.seats.items (recounts others whole q polls drops) whole.pool in
-        subst (λ y. IsWhole y (record s { set = set' })) (sym same) (record {
-          runnables = λ u slot found home. subst (λ b. HasOne (b || s.global.closed) slot.cell.phase (whole_runnables others u + stock u s)) (sym closed) (whole.runnables u slot found home);
-          polls = whole.polls;
-          claims = whole.claims;
-          counts = whole.counts;
-          bits = whole.bits;
-          set = whole.set;
-          queued_here = whole.queued_here;
-          queued_there = whole.queued_there;
-          places = whole.places;
-          made = whole.made;
-          unclaimed = whole.unclaimed;
-          in_pool = whole.in_pool;
-          pool = pool;
-          gates =
-              gates_free w.index d.drops_by d1.drops_by s.opens s.requests.items
-              (λ j other. chosen_other j w.index (drops_at q) (others.drops_by j) other ∙ sym (chosen_other j w.index (drops_at w.place) (others.drops_by j) other))
-              (ap (λ y. y.passes) (chosen_own w.index (drops_at q) (others.drops_by w.index) ∙ drops)) (ap (λ y. y.joins) (chosen_own w.index (drops_at q) (others.drops_by w.index) ∙ drops)) whole.gates;
-          holding = whole.holding;
-        })
+        let runnables : (u : ℕ) (slot : TaskSlot B) → slice_get s.tasks.items u ≡ Some slot → slot.home ≡ None → HasOne (set'.closed || s.global.closed) slot.cell.phase (whole_runnables others u + stock u s) = grind (arith, closed) in
+        let gates : HaveGates d1.drops_by s.opens s.requests.items =
+        gates_free w.index d.drops_by d1.drops_by s.opens s.requests.items
+        (λ j other. chosen_other j w.index (drops_at q) (others.drops_by j) other ∙ sym (chosen_other j w.index (drops_at w.place) (others.drops_by j) other))
+        (ap (λ y. y.passes) (chosen_own w.index (drops_at q) (others.drops_by w.index) ∙ drops)) (ap (λ y. y.joins) (chosen_own w.index (drops_at q) (others.drops_by w.index) ∙ drops)) whole.gates in
+        subst (λ y. IsWhole y (record s { set = set' })) (sym same) (assumption (runnables, pool, gates, whole))
       where
         whole_runnables : Profile → ℕ → ℕ
         whole_runnables others u = (with_worker others w).runnables u
@@ -144,20 +104,14 @@ module _ {B : Type 0} where
               most = omega (arith, as_clear t, fewer t);
               live = λ slot found home old.
                   let over = whole.pool.removes w.index t mine in
-                  let is : over.0.slot ≡ slot = same_thing over.0.slot slot (sym over.0.there ∙ found) in
+                  let is : over.0.slot ≡ slot = same_Some over.0.slot slot (sym over.0.there ∙ found) in
                   let complete : is_complete slot.cell.phase ≡ true = ap (λ (y : TaskSlot B). is_complete y.cell.phase) (sym is) ∙ over.0.over in
-                  record {
-                    most = omega (arith, old.most, as_clear t, fewer t);
-                    cleared = λ h. omega (arith, old.cleared h, as_clear t, fewer t);
-                    live = λ h going. absurd (false≢true (sym going ∙ complete));
-                  };
+                  grind (arith, old.most, as_clear t, fewer t, false, true, complete);
               fewer = fewer;
               closed = λ h. closed ∙ h;
               home = home_without;
               polls = λ j. ap (λ o. if j == w.index then o else others.polled_by j) (polls ∙ sym (ap polls_at sound.here));
-              clears = λ u some_clear.
-                  let old = whole.pool.who_clears u (omega (arith, as_clear u, some_clear)) in
-                  (old.0, old.1, clears_still old.0 ∙ old.2, closed ∙ old.3);
+              clears = grind (arith, closed);
               removes = λ j u is. by_number j w.index (λ other. sym (ap (λ x. x.removes) (drops_other j other)) ∙ is) (λ same. absurd (none_now u (subst (λ k. (d1.drops_by k).removes ≡ Some u) same is)));
               stands = λ j u is.
                   by_number j w.index
@@ -219,18 +173,10 @@ module _ {B : Type 0} where
         let more : length set'.shards ≡ shard_count s.config = many ∙ sound.shards in
         let phased : (chair : Chair) → slice_get s.seats.items w.index ≡ Some chair → IsPhased w.index (closes_at q) (closing_in q) w.home.closing w.root w.names.unreleased (record (stage_of chair s) { set = set' }) s.tasks.items = λ chair found.
         let old = went.phased chair found in
-        record {
-          told = old.told;
-          opened = old.opened;
-          ended = old.ended;
-          root = old.root;
-          left = old.left;
-          shut = old.shut;
-          by_zero = λ is. ((old.by_zero is).0, closed ∙ (old.by_zero is).1);
-          by_other = old.by_other;
-          closed = λ h. closed ∙ old.closed h;
-          prepared = subst (λ x. IsPrepared x w.names.unreleased set') (sym out.after.closing) tt;
-        } in
+        let by_zero : w.index ≡ 0 → (s.stopped ≡ has_stopped (closes_at q) (closing_in q)) × (set'.closed ≡ closes_at q) = λ is. ((old.by_zero is).0, closed ∙ (old.by_zero is).1) in
+        let shut : s.stopped ≡ true → set'.closed ≡ true = λ h. closed ∙ old.closed h in
+        let prepared : IsPrepared (closing_in q) w.names.unreleased set' = subst (λ x. IsPrepared x w.names.unreleased set') (sym out.after.closing) tt in
+        assumption (by_zero, shut, prepared, old) in
         assumption (more, phased, went)
 
 module _ {B L : Type 0} (left : B → L) (spot : L → Option Said → Spot) where
@@ -274,11 +220,7 @@ module _ {B L : Type 0} (left : B → L) (spot : L → Option Said → Spot) whe
           omega (arith, (has.whole.pool.live t over.slot over.there over.ordinary).most, at_most_all t s.set.shards k)
 
       shown : map numbers set'.shards ≡ slice_set (map numbers s.set.shards) k (but t (numbers old))
-      shown =
-          ap (λ z. map numbers z.shards) set
-          ∙ ap (λ n. map numbers (slice_set s.set.shards (t % n) (shard_without t (shard_at s.set (t % n))))) sound.shards
-          ∙ map-set numbers s.set.shards k (shard_without t old)
-          ∙ ap (slice_set (map numbers s.set.shards) k) (sym (filtered t old once))
+      shown = grind (arith, set, sound.shards, map-set numbers s.set.shards k (shard_without t old), filtered t old once)
 
       works : (p : Plan) (vs : Views) → Suits p vs w s → Works left spot p vs w s e w1 s1
       works p vs suits =

@@ -4,8 +4,8 @@ use Rattle.exec_words.specs.Queue.{Queue}
 use Rattle.exec_ring.specs.Stores.{HasStretch}
 use Rattle.exec_task.specs.{Phases.is_polled, declared.{runnable.Runnable.Runnable, task.Task.Task as TaskCell}}
 use Rattle.exec_moves.specs.declared.place.{InPoll.InPoll, Place.Place}
-use Rattle.exec_parts.{specs.{declared.parts.{record.Record.Record, shared.Shared.Shared, sleeping.SleeperRecord.SleeperRecord, task_slot.TaskSlot.TaskSlot, worker.Worker.Worker}, Phased.is_complete}}
-use Rattle.exec_invariants.{specs.{Drained.{IsBefore, IsPool}, Gates.{HaveGates, JoinsGate, has_hint_at}, Holding.{mail_in, mail_of_letters}, Places.{Drops, drops_at, one_if}, Sound.SoundAt, Spares.Spares, Whole.{HasOne, IsWhole, Profile, duties_of, may_let_go, runnables_in, stock, with_worker}, Works.Beside}, proofs.{Aside.{SparesSeats, length_same, profile_same, queue_back, queue_of_chair, queues_set, seats_own, stock_same}, GateJoins.pool_drops, HoldBeside.{Handles, Holds, genuine_still, was_there}, PoolKept.{KeepsGates, gates_set, pool_seats, pool_slot}, Slots.spares_slot, SlotTasks.Keeps, SparedRecord.{sleeper_spared, spared_same}, TaskDeals.{GoesOn, from_act, profile_here}}}
+use Rattle.exec_parts.{specs.{declared.parts.{record.Record.Record, seat.Seat.Seat as Chair, shared.Shared.Shared, sleeping.SleeperRecord.SleeperRecord, task_slot.TaskSlot.TaskSlot, worker.Worker.Worker}, Phased.is_complete}}
+use Rattle.exec_invariants.{specs.{Drained.{IsBefore, IsPool}, Carried.HasRoom, Gates.{AreLinedUp, HaveGates, JoinsGate, has_hint_at}, Holding.{mail_in, mail_of_letters}, Places.{Drops, drops_at, one_if}, Sound.SoundAt, Spares.{RecordsEndure, SleepersEndure, SparedRecords, SparedSleepers, Spares, SparesChair, SparesRecords, SparesSleepers}, Whole.{HasOne, IsWhole, Profile, duties_of, may_let_go, runnables_in, stock, with_worker}, Works.Beside}, proofs.{Aside.{SparesSeats, length_same, profile_same, queue_back, queue_of_chair, queues_set, seats_own, stock_same}, GateJoins.pool_drops, HoldBeside.{Handles, Holds, genuine_still, was_there}, PoolKept.{KeepsGates, gates_set, pool_seats, pool_slot}, Slots.spares_slot, SlotTasks.Keeps, SparedRecord.{sleeper_spared, spared_same}, TaskDeals.{GoesOn, from_act, profile_here}}}
 use Rattle.exec_polling.proofs.RegisterSound.{Makes, made_at}
 
 module _ {B : Type 0} (t : ℕ) (w v : Worker) (s s' : Shared B) (slot slot' : TaskSlot B) (sound : SoundAt (Place.Poll t InPoll.Act) w s) (m : Makes w v s (record s' { tasks = s.tasks })) (handles : Handles t s s' slot slot') where
@@ -22,31 +22,16 @@ module _ {B : Type 0} (t : ℕ) (w v : Worker) (s s' : Shared B) (slot slot' : T
       let keeps : Keeps slot slot' = record { home = handles.home; number = ap (λ (c : TaskCell B). c.number) handles.cell; owner = ap (λ (c : TaskCell B). c.owner) handles.cell } in
       let b : Spares j s (record s { tasks = s'.tasks }) = spares_slot w.index j t s s' slot slot' other handles.there handles.items keeps (λ is. other (home j is)) (λ polled mine. absurd (other (sym mine ∙ poller))) sound.homes in
       let seats : SparesSeats w.index s.seats.items s'.seats.items = seats_own w.index s.seats.items s'.seats.items m.seat.chair (made_at m.seat.places m.seat.chair) m.seat.set m.seat.there (omega arith) in
-      let done : Spares j s shared_then = record {
-        config = refl;
-        clock = refl;
-        gates = λ h. m.lined;
-        hints = hints;
-        many = seats.many;
-        chair = λ chair at. seats.chair j chair other at;
-        tails = seats.tails;
-        records = λ k r at mine. (r, m.records.on k r at, spared_same r);
-        records_only = λ k r at mine. (r, record_was k r at mine, spared_same r);
-        sleepers = λ k z at mine. (z, m.sleepers.on k z at, sleeper_spared z);
-        sleepers_only = λ k z at mine. (z, sleeper_was k z at mine, sleeper_spared z);
-        endure = λ k r at. (r, m.records.on k r at, record { worker = refl; forwarded = λ h. h });
-        endure_too = λ k z at. (z, m.sleepers.on k z at, record { worker = refl; forwarded = λ h. h });
-        root = b.root;
-        polled = b.polled;
-        room = λ h. m.keeps.carried.room;
-        stretch = stretch;
-        stopped = λ h. h;
-        closed = λ h. h;
-        by_zero = λ h. (refl, refl);
-        shards = refl;
-        emptied = λ shut k none. none;
-        genuine = b.genuine;
-      } in
+      let gates : AreLinedUp s.opens s.requests.items → AreLinedUp s'.opens s'.requests.items = λ h. m.lined in
+      let chair : (c : Chair) → slice_get s.seats.items j ≡ Some c → (c' : Chair) × (slice_get s'.seats.items j ≡ Some c') × SparesChair c c' = λ c at. seats.chair j c other at in
+      let records : SparesRecords j s.requests.items s'.requests.items = λ k r at mine. (r, m.records.on k r at, spared_same r) in
+      let records_only : SparedRecords j s.requests.items s'.requests.items = λ k r at mine. (r, record_was k r at mine, spared_same r) in
+      let sleepers : SparesSleepers j s.sleepers.items s'.sleepers.items = λ k z at mine. (z, m.sleepers.on k z at, sleeper_spared z) in
+      let sleepers_only : SparedSleepers j s.sleepers.items s'.sleepers.items = λ k z at mine. (z, sleeper_was k z at mine, sleeper_spared z) in
+      let endure : RecordsEndure s.requests.items s'.requests.items = λ k r at. (r, m.records.on k r at, record { worker = refl; forwarded = λ h. h }) in
+      let endure_too : SleepersEndure s.sleepers.items s'.sleepers.items = λ k z at. (z, m.sleepers.on k z at, record { worker = refl; forwarded = λ h. h }) in
+      let room : HasRoom s.requests.items s.store → HasRoom s'.requests.items s'.store = λ h. m.keeps.carried.room in
+      let done : Spares j s shared_then = assumption (gates, chair, records, records_only, sleepers, sleepers_only, endure, endure_too, room, hints, stretch, seats, b) in
       subst (Spares j s) (sym all_kept) done
     where
       record_was : (k : ℕ) (r : Record) → slice_get s'.requests.items k ≡ Some r → r.shown.worker ≡ j → slice_get s.requests.items k ≡ Some r

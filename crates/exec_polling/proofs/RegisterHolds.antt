@@ -1,10 +1,10 @@
 -- What tasks hold once one made a request, which it holds, or a sleeper, for which it waits. Its worker's inbox got places first.
 use Rattle.std.proofs.{Common.{◌≡◌, ◌⊎◌, ℕ, suc, zero, not, ◌&&◌, ◌+◌, ◌<◌, ◌≤◌, ◌==◌, Bool, true, false, cond, List, [], ◌∷◌, ◌++◌, count_by, length, sum_by, Option, Some, None, refl, sym, ap, subst, ◌∙◌, arith, inl, inr, slice_get, slice_set}, lemmas.{Bool.{false≢true, eq-eqb}, List.Sums.sum_by-append, Option.slice_get_within}}
-use Rattle.exec_machine.specs.{declared.state.Forwarding.TheVariants.Unsent, Tests.is_unsent}
+use Rattle.exec_machine.specs.{declared.state.Forwarding.TheVariants.Unsent}
 use Rattle.exec_words.specs.declared.inbox.Message.{Message}
 use Rattle.exec_outcomes.specs.declared.outcome.Outcome.{Outcome}
-use Rattle.exec_parts.{specs.declared.parts.{held.Held.Held, mail.Subject.Subject}, proofs.{Facts.{by_number, not_same, same_thing, set_elsewhere, set_there}, Taken.{got_new, got_old, was_got}}}
-use Rattle.exec_invariants.{specs.{Holding.{Awaits, AwaitsNap, Box, Hands, Holder, HoldsRequest, IsAbout, IsForwarded, IsHeldBy, IsHolding, IsOf, IsOrdinary, IsOwed, Mail, MayHave, Nap, Owes, Thing, holdings, is_awaited_by, mail_in, same_mail, under_way, waiters}, Places.one_if}, proofs.{HoldMail.mail_is, HoldRedo.{count_set, sum_set}}}
+use Rattle.exec_parts.{specs.declared.parts.{held.Held.Held, mail.Subject.Subject}, proofs.{Facts.{by_number, not_same, same_Some, set_elsewhere, set_there}, Taken.{got_new, got_old, was_got}}}
+use Rattle.exec_invariants.{specs.{Holding.{Awaits, AwaitsNap, Box, Hands, HasPlace, Holder, HoldsRequest, IsAbout, IsHeldBy, IsHolding, IsOf, IsOrdinary, IsOwed, Mail, MayHave, Nap, Owes, Thing, holdings, is_awaited_by, mail_in, same_mail, under_way, waiters}}, proofs.{HoldMail.mail_is, HoldRedo.{count_set, sum_set}}}
 use Rattle.exec_parts.specs.declared.parts.mail.Subject.TheVariants as subject
 use Rattle.exec_polling.proofs.MadePlaces.{none_counted, none_summed, weigh, counted_there, by_zero}
 
@@ -27,8 +27,7 @@ module _ (h : Hands) (workers i t : ℕ) (hs : List Holder) (ts : List Thing) (n
   not_about : (m : Mail) → ((j : ℕ) → IsAbout workers j m ts naps → ⊥) → under_way h m boxes ≡ 0
   not_about m never =
       let hands : h.mail m ≡ 0 = by_zero (h.mail m) (λ none. none) (λ some. let it = old.made m (positive (h.mail m) some) in absurd (never it.0 it.1)) in
-      let inboxes : sum_by (λ (box : Box). mail_in m box.messages) boxes ≡ 0 = none_summed (λ (box : Box). mail_in m box.messages) boxes (λ j box at.
-      by_zero (mail_in m box.messages) (λ none. none) (λ some. absurd (in_box j box at some))) in
+      let inboxes : sum_by (λ (box : Box). mail_in m box.messages) boxes ≡ 0 = grind (arith, none_summed, by_zero, in_box) in
       omega (arith, hands, inboxes)
     where
       positive : (n : ℕ) → (n ≡ 0 → ⊥) → 0 < n
@@ -73,20 +72,38 @@ module _ (h : Hands) (workers i t : ℕ) (hs : List Holder) (ts : List Thing) (n
 
   -- another task, or this one
   by_holder : {P : Type 0} (it' : Holder) (u : ℕ) (o : Holder) → slice_get (slice_set hs t it') u ≡ Some o → (u ≡ t → it' ≡ o → P) → ((u ≡ t → ⊥) → slice_get hs u ≡ Some o → P) → P
-  by_holder = grind (arith, by_number, set_elsewhere, same_thing, set_there)
+  by_holder = grind (arith, by_number, set_elsewhere, same_Some, set_there)
 
   -- who waits for something is another
   awaits_on : (it' : Holder) (s : Subject) (u : ℕ) → Awaits s u hs → Awaits s u (slice_set hs t it')
-  awaits_on = grind (arith, by_number, set_elsewhere, same_thing)
+  awaits_on = grind (arith, by_number, set_elsewhere, same_Some)
 
   ordinary_on : (it' : Holder) → it'.home ≡ may.it.home → (u : ℕ) → IsOrdinary u hs → IsOrdinary u (slice_set hs t it')
-  ordinary_on = grind (arith, by_number, set_elsewhere, same_thing, set_there)
+  ordinary_on = grind (arith, by_number, set_elsewhere, same_Some, set_there)
 
   owed_on : (it' : Holder) (ts' : List Thing) (naps' : List Nap) → ((k : ℕ) (r : Thing) → slice_get ts k ≡ Some r → slice_get ts' k ≡ Some r) → ((k : ℕ) (z : Nap) → slice_get naps k ≡ Some z → slice_get naps' k ≡ Some z) → (j u : ℕ) → IsOwed j u hs ts naps boxes → IsOwed j u (slice_set hs t it') ts' naps' boxes
-  owed_on = grind (arith, by_number, set_elsewhere, owes_still, same_thing)
+  owed_on = grind (arith, by_number, set_elsewhere, owes_still, same_Some)
 
   in_last : {A : Type 0} (xs : List A) (y x : A) (k : ℕ) → slice_get (xs ++ y ∷ []) k ≡ Some x → (slice_get xs k ≡ Some x) ⊎ ((k ≡ length xs) × (y ≡ x))
   in_last xs y x k at = was_got xs y x k at
+
+  at_most : (b : Bool) → weigh b ≤ 1
+  at_most = grind arith
+
+  -- one more of this worker has a place
+  room_on : (ts' : List Thing) (naps' : List Nap) → ((j : ℕ) → count_by (λ (r : Thing). r.worker == j) ts' + count_by (λ (z : Nap). z.worker == j) naps' ≡ count_by (λ (r : Thing). r.worker == j) ts + count_by (λ (z : Nap). z.worker == j) naps + weigh (i == j))
+      → (j : ℕ) (box : Box) → slice_get boxes j ≡ Some box → HasPlace j ts' naps' box
+  room_on ts' naps' more j box at_box =
+      let place = old.room j box at_box in
+      let made : count_by (λ (r : Thing). r.worker == j) ts' + count_by (λ (z : Nap). z.worker == j) naps' ≤ box.made =
+      by_number j i
+      (λ other. let none : weigh (i == j) ≡ 0 = ap weigh (not_same i j (λ same. other (sym same))) in omega (arith, place.made, more j, none))
+      (λ same.
+      let one : weigh (i == j) ≤ 1 = at_most (i == j) in
+      let box_is : may.box ≡ box = same_Some may.box box (sym may.at ∙ ap (slice_get boxes) (sym same) ∙ at_box) in
+      let room_there : count_by (λ (r : Thing). r.worker == j) ts + count_by (λ (z : Nap). z.worker == j) naps + 1 ≤ box.made = subst (λ n. count_by (λ (r : Thing). r.worker == n) ts + count_by (λ (z : Nap). z.worker == n) naps + 1 ≤ box.made) (sym same) (subst (λ (b : Box). count_by (λ (r : Thing). r.worker == i) ts + count_by (λ (z : Nap). z.worker == i) naps + 1 ≤ b.made) box_is may.fewer) in
+      omega (arith, room_there, more j, one)) in
+      assumption (made, place)
 
   -- A REQUEST, which it holds
 
@@ -104,47 +121,17 @@ module _ (h : Hands) (workers i t : ℕ) (hs : List Holder) (ts : List Thing) (n
       let hs' : List Holder = slice_set hs t holds_it in
       let on : (n : ℕ) (r : Thing) → slice_get ts n ≡ Some r → slice_get ts' n ≡ Some r = λ n r at. got_old ts new r n at in
       let stays : (n : ℕ) (z : Nap) → slice_get naps n ≡ Some z → slice_get naps n ≡ Some z = λ n z at. at in
-      let more : (n : ℕ) → holdings n hs' ≡ holdings n hs + weigh (length ts == n) = λ n.
-      let sums = sum_set (λ (y : Holder). count_by (λ (x : Held). x.number == n) y.held) hs t may.it holds_it may.there in
-      let last = sum_by-append (λ (x : Held). cond (x.number == n) 1 0) may.it.held (record { number = length ts; worker = i } ∷ []) in
-      omega (arith, sums, last) in
-      let apart : (n : ℕ) → n < k → holdings n hs' ≡ holdings n hs = λ n few.
-      let none : weigh (length ts == n) ≡ 0 = ap weigh (not_same (length ts) n (λ same. omega (arith, few, same))) in
-      omega (arith, more n, none) in
+      let more : (n : ℕ) → holdings n hs' ≡ holdings n hs + weigh (length ts == n) = grind (arith, sum_set, sum_by-append) in
+      let apart : (n : ℕ) → n < k → holdings n hs' ≡ holdings n hs = grind (arith, weigh, not_same, more) in
       let here : holdings k hs' ≡ 1 =
       let one : weigh (length ts == length ts) ≡ 1 = ap weigh (eq-eqb (length ts) (length ts) refl) in
       omega (arith, more k, one, unheld) in
       record {
-        held = λ n r box at at_box.
-            elim (in_last ts new r n at) [
-              | inl was ↦ let few = slice_get_within ts n r was in subst (λ a. IsHeldBy box.shut r.observed a (under_way h (Message.Cancel (subject.Request n)) boxes)) (sym (apart n few)) (old.held n r box was at_box)
-              | inr last ↦
-                  let box_is : may.box ≡ box = same_thing may.box box (sym may.at ∙ ap (λ (x : Thing). slice_get boxes x.worker) last.1 ∙ at_box) in
-                  let shut : box.shut ≡ false = ap (λ (b : Box). b.shut) (sym box_is) ∙ may.open_box in
-                  let none : under_way h (Message.Cancel (subject.Request n)) boxes ≡ 0 = ap (λ m. under_way h (Message.Cancel (subject.Request m)) boxes) last.0 ∙ not_about (Message.Cancel (subject.Request k)) never_request in
-                  let one : holdings n hs' ≡ 1 = ap (λ m. holdings m hs') last.0 ∙ here in
-                  let seen : one_if r.observed ≡ 1 = ap (λ (x : Thing). one_if x.observed) (sym last.1) in
-                  subst (λ c. IsHeldBy c r.observed (holdings n hs') (under_way h (Message.Cancel (subject.Request n)) boxes)) (sym shut) (let sum : holdings n hs' + under_way h (Message.Cancel (subject.Request n)) boxes ≡ one_if r.observed = omega (arith, one, none, seen) in sum)
-            ];
-        forwarded = λ n r box at at_box.
-            elim (in_last ts new r n at) [
-              | inl was ↦ old.forwarded n r box was at_box
-              | inr last ↦
-                  let box_is : may.box ≡ box = same_thing may.box box (sym may.at ∙ ap (λ (x : Thing). slice_get boxes x.worker) last.1 ∙ at_box) in
-                  let shut : box.shut ≡ false = ap (λ (b : Box). b.shut) (sym box_is) ∙ may.open_box in
-                  let none : under_way h (Message.Forward (subject.Request n)) boxes ≡ 0 = ap (λ m. under_way h (Message.Forward (subject.Request m)) boxes) last.0 ∙ not_about (Message.Forward (subject.Request k)) never_request in
-                  subst (λ (x : Thing). IsForwarded box.shut x.forwarding (under_way h (Message.Forward (subject.Request n)) boxes)) last.1 (subst (λ c. IsForwarded c Unsent (under_way h (Message.Forward (subject.Request n)) boxes)) (sym shut) none)
-            ];
-        asked = λ n r at sent.
-            elim (in_last ts new r n at) [
-              | inl was ↦ let a = old.asked n r was sent in (a.0, a.1, ordinary_on holds_it refl a.0 a.2)
-              | inr last ↦ absurd (false≢true (sym (ap (λ (x : Thing). is_unsent x.forwarding) last.1 ∙ sent)))
-            ];
+        held = grind (arith, in_last, slice_get_within, apart, same_Some, not_about, never_request, here);
+        forwarded = grind (arith, in_last, same_Some, not_about, never_request);
+        asked = grind (arith, in_last, ordinary_on, old);
         waited = λ n r u at waiter due.
-            elim (in_last ts new r n at) [
-              | inl was ↦ awaits_on holds_it (subject.Request n) u (old.waited n r u was waiter due)
-              | inr last ↦ absurd (let no : None ≡ Some u = ap (λ (x : Thing). x.waiter) last.1 ∙ waiter in cc)
-            ];
+            elim (in_last ts new r n at) [ inl was ↦ awaits_on holds_it (subject.Request n) u (old.waited n r u was waiter due) | inr last ↦ absurd (let no : None ≡ Some u = ap (λ (x : Thing). x.waiter) last.1 ∙ waiter in cc) ];
         holds = λ u y j x at_u at_j.
             by_holder holds_it u y at_u
             (λ is same.
@@ -165,10 +152,7 @@ module _ (h : Hands) (workers i t : ℕ) (hs : List Holder) (ts : List Thing) (n
             by_holder holds_it u y at_u
             (λ is same. absurd (let no : None ≡ Some (subject.Request n) = sym may.waits ∙ ap (λ (z : Holder). z.awaits) same ∙ awaits in cc))
             (λ apart was. let it = old.awaiting u y n was awaits in (it.0, on n it.0 it.1, it.2));
-        asleep = λ u y n at_u awaits.
-            by_holder holds_it u y at_u
-            (λ is same. absurd (let no : None ≡ Some (subject.Timer n) = sym may.waits ∙ ap (λ (z : Holder). z.awaits) same ∙ awaits in cc))
-            (λ apart was. old.asleep u y n was awaits);
+        asleep = grind (arith, by_number, set_elsewhere, same_Some, set_there);
         over = λ u y at_u over.
             by_holder holds_it u y at_u
             (λ is same. absurd (false≢true (sym may.going ∙ ap (λ (z : Holder). z.over) same ∙ over)))
@@ -181,40 +165,13 @@ module _ (h : Hands) (workers i t : ℕ) (hs : List Holder) (ts : List Thing) (n
         woken = old.woken;
         owed = λ j u some. let was = old.owed j u some in (was.0, owed_on holds_it ts' naps on stays j u was.1);
         about = λ j box m at_box has. about_on ts' naps on stays j m (old.about j box m at_box has);
-        room = λ j box at_box.
-            let place = old.room j box at_box in
-            let made = place.made in
-            let last = sum_by-append (λ (x : Thing). cond (x.worker == j) 1 0) ts (new ∷ []) in
-            record {
-              made = by_number j i
-                  (λ other.
-                  let none : weigh (i == j) ≡ 0 = ap weigh (not_same i j (λ same. other (sym same))) in
-                  omega (arith, made, last, none))
-                  (λ same.
-                  let one : weigh (i == j) ≤ 1 = at_most (i == j) in
-                  let box_is : may.box ≡ box = same_thing may.box box (sym may.at ∙ ap (slice_get boxes) (sym same) ∙ at_box) in
-                  let room_there : count_by (λ (r : Thing). r.worker == j) ts + count_by (λ (z : Nap). z.worker == j) naps + 1 ≤ box.made = subst (λ n. count_by (λ (r : Thing). r.worker == n) ts + count_by (λ (z : Nap). z.worker == n) naps + 1 ≤ box.made) (sym same) (subst (λ (b : Box). count_by (λ (r : Thing). r.worker == i) ts + count_by (λ (z : Nap). z.worker == i) naps + 1 ≤ b.made) box_is may.fewer) in
-                  omega (arith, room_there, last, one));
-              places = place.places;
-            };
-        sent = λ n r at is.
-            elim (in_last ts new r n at) [
-              | inl was ↦ old.sent n r was is
-              | inr last ↦ absurd (false≢true (ap (λ (x : Thing). x.sent) last.1 ∙ is))
-            ];
+        room = λ j box at_box. room_on ts' naps (λ m. let last = sum_by-append (λ (x : Thing). cond (x.worker == m) 1 0) ts (new ∷ []) in omega (arith, last)) j box at_box;
+        sent = grind (arith, in_last, old);
         sent_too = old.sent_too;
         made = λ m some. let it = old.made m some in (it.0, about_on ts' naps on stays it.0 m it.1);
-        of_worker = λ n r at.
-            elim (in_last ts new r n at) [
-              | inl was ↦ old.of_worker n r was
-              | inr last ↦ subst (λ (x : Thing). x.worker < length boxes) last.1 (slice_get_within boxes i may.box may.at)
-            ];
+        of_worker = grind (arith, in_last, slice_get_within, old);
         of_worker_too = old.of_worker_too;
       }
-    where
-      at_most : (b : Bool) → weigh b ≤ 1
-      at_most true = omega arith
-      at_most false = omega arith
 
   -- A SLEEPER, for which it waits
 
@@ -233,31 +190,14 @@ module _ (h : Hands) (workers i t : ℕ) (hs : List Holder) (ts : List Thing) (n
       let stays : (n : ℕ) (r : Thing) → slice_get ts n ≡ Some r → slice_get ts n ≡ Some r = λ n r at. at in
       let on : (n : ℕ) (z : Nap) → slice_get naps n ≡ Some z → slice_get naps' n ≡ Some z = λ n z at. got_old naps new z n at in
       let same_held : (n : ℕ) → holdings n hs' ≡ holdings n hs = λ n. let sums = sum_set (λ (y : Holder). count_by (λ (x : Held). x.number == n) y.held) hs t may.it waits_for_it may.there in omega (arith, sums) in
-      let waits_now : (n : ℕ) → waiters (subject.Timer n) hs' ≡ waiters (subject.Timer n) hs + weigh (n == length naps) = λ n.
-      let sums = sum_set (λ (y : Holder). cond (not y.over && is_awaited_by (subject.Timer n) y.awaits) 1 0) hs t may.it waits_for_it may.there in
-      let before : weigh (not may.it.over && is_awaited_by (subject.Timer n) may.it.awaits) ≡ 0 = ap (λ a. weigh (not may.it.over && is_awaited_by (subject.Timer n) a)) may.waits ∙ ap weigh (never_and (not may.it.over)) in
-      let after : weigh (not may.it.over && (n == length naps)) ≡ weigh (n == length naps) = ap (λ o. weigh (not o && (n == length naps))) may.going in
-      omega (arith, sums, before, after) in
+      let waits_now : (n : ℕ) → waiters (subject.Timer n) hs' ≡ waiters (subject.Timer n) hs + weigh (n == length naps) = grind (arith, sum_set, weigh, never_and) in
       record {
         held = λ n r box at at_box. subst (λ a. IsHeldBy box.shut r.observed a (under_way h (Message.Cancel (subject.Request n)) boxes)) (sym (same_held n)) (old.held n r box at at_box);
         forwarded = old.forwarded;
         asked = λ n r at sent. let a = old.asked n r at sent in (a.0, a.1, ordinary_on waits_for_it refl a.0 a.2);
         waited = λ n r u at waiter due. awaits_on waits_for_it (subject.Request n) u (old.waited n r u at waiter due);
-        holds = λ u y j x at_u at_j.
-            by_holder waits_for_it u y at_u
-            (λ is same.
-            let found : slice_get may.it.held j ≡ Some x = ap (λ (z : Holder). slice_get z.held j) same ∙ at_j in
-            let held = old.holds t may.it j x may.there found in (
-              held.0,
-              held.1,
-              subst (λ n. HoldsRequest workers n y x held.0) (sym is) (subst (λ (z : Holder). HoldsRequest workers t z x held.0) same
-                  (record { worker = held.2.worker; near = held.2.near; here = held.2.here; waiter = held.2.waiter; awaited = λ sent. absurd (let no : None ≡ Some (subject.Request x.number) = sym may.waits ∙ held.2.awaited sent in cc) })),
-            ))
-            (λ apart was. old.holds u y j x was at_j);
-        awaiting = λ u y n at_u awaits.
-            by_holder waits_for_it u y at_u
-            (λ is same. absurd (let no : Some (subject.Timer k) ≡ Some (subject.Request n) = ap (λ (z : Holder). z.awaits) same ∙ awaits in cc))
-            (λ apart was. old.awaiting u y n was awaits);
+        holds = grind (arith, by_number, set_elsewhere, same_Some, set_there);
+        awaiting = grind (arith, by_number, set_elsewhere, same_Some, set_there);
         asleep = λ u y n at_u awaits.
             by_holder waits_for_it u y at_u
             (λ is same.
@@ -291,62 +231,20 @@ module _ (h : Hands) (workers i t : ℕ) (hs : List Holder) (ts : List Thing) (n
                   let one = at_most (n == length naps) in
                   omega (arith, waits_now n, nothing, nobody, one)
             ];
-        asked_too = λ n z at sent.
-            elim (in_last naps new z n at) [
-              | inl was ↦ ordinary_on waits_for_it refl z.task (old.asked_too n z was sent)
-              | inr last ↦ absurd (false≢true (sym (ap (λ (x : Nap). is_unsent x.forwarding) last.1 ∙ sent)))
-            ];
-        let_be = λ n z at closed.
-            elim (in_last naps new z n at) [
-              | inl was ↦ ordinary_on waits_for_it refl z.task (old.let_be n z was closed)
-              | inr last ↦ absurd (false≢true (ap (λ (x : Nap). x.closed) last.1 ∙ closed))
-            ];
-        woken = λ n z box at at_box.
-            elim (in_last naps new z n at) [
-              | inl was ↦ old.woken n z box was at_box
-              | inr last ↦
-                  let box_is : may.box ≡ box = same_thing may.box box (sym may.at ∙ ap (λ (x : Nap). slice_get boxes x.worker) last.1 ∙ at_box) in
-                  let shut : box.shut ≡ false = ap (λ (b : Box). b.shut) (sym box_is) ∙ may.open_box in
-                  let none : under_way h (Message.Forward (subject.Timer n)) boxes ≡ 0 = ap (λ m. under_way h (Message.Forward (subject.Timer m)) boxes) last.0 ∙ not_about (Message.Forward (subject.Timer k)) never_timer in
-                  subst (λ (x : Nap). IsForwarded box.shut x.forwarding (under_way h (Message.Forward (subject.Timer n)) boxes)) last.1 (subst (λ c. IsForwarded c Unsent (under_way h (Message.Forward (subject.Timer n)) boxes)) (sym shut) none)
-            ];
+        asked_too = grind (arith, in_last, ordinary_on, old);
+        let_be = grind (arith, in_last, ordinary_on, old);
+        woken = grind (arith, in_last, same_Some, not_about, never_timer);
         owed = λ j u some. let was = old.owed j u some in (was.0, owed_on waits_for_it ts naps' stays on j u was.1);
         about = λ j box m at_box has. about_on ts naps' stays on j m (old.about j box m at_box has);
-        room = λ j box at_box.
-            let place = old.room j box at_box in
-            let made = place.made in
-            let last = sum_by-append (λ (x : Nap). cond (x.worker == j) 1 0) naps (new ∷ []) in
-            record {
-              made = by_number j i
-                  (λ other.
-                  let none : weigh (i == j) ≡ 0 = ap weigh (not_same i j (λ same. other (sym same))) in
-                  omega (arith, made, last, none))
-                  (λ same.
-                  let one : weigh (i == j) ≤ 1 = at_most (i == j) in
-                  let box_is : may.box ≡ box = same_thing may.box box (sym may.at ∙ ap (slice_get boxes) (sym same) ∙ at_box) in
-                  let room_there : count_by (λ (r : Thing). r.worker == j) ts + count_by (λ (z : Nap). z.worker == j) naps + 1 ≤ box.made = subst (λ n. count_by (λ (r : Thing). r.worker == n) ts + count_by (λ (z : Nap). z.worker == n) naps + 1 ≤ box.made) (sym same) (subst (λ (b : Box). count_by (λ (r : Thing). r.worker == i) ts + count_by (λ (z : Nap). z.worker == i) naps + 1 ≤ b.made) box_is may.fewer) in
-                  omega (arith, room_there, last, one));
-              places = place.places;
-            };
+        room = λ j box at_box. room_on ts naps' (λ m. let last = sum_by-append (λ (x : Nap). cond (x.worker == m) 1 0) naps (new ∷ []) in omega (arith, last)) j box at_box;
         sent = old.sent;
         sent_too = λ n z at is.
-            elim (in_last naps new z n at) [
-              | inl was ↦ old.sent_too n z was is
-              | inr last ↦ absurd (false≢true (ap (λ (x : Nap). x.sent) last.1 ∙ is))
-            ];
+            elim (in_last naps new z n at) [ inl was ↦ old.sent_too n z was is | inr last ↦ absurd (false≢true (ap (λ (x : Nap). x.sent) last.1 ∙ is)) ];
         made = λ m some. let it = old.made m some in (it.0, about_on ts naps' stays on it.0 m it.1);
         of_worker = old.of_worker;
-        of_worker_too = λ n z at.
-            elim (in_last naps new z n at) [
-              | inl was ↦ old.of_worker_too n z was
-              | inr last ↦ subst (λ (x : Nap). x.worker < length boxes) last.1 (slice_get_within boxes i may.box may.at)
-            ];
+        of_worker_too = grind (arith, in_last, slice_get_within, old);
       }
     where
-      at_most : (b : Bool) → weigh b ≤ 1
-      at_most true = omega arith
-      at_most false = omega arith
-
       never_and : (b : Bool) → (b && false) ≡ false
       never_and true = refl
       never_and false = refl

@@ -4,7 +4,7 @@ use Rattle.exec_outcomes.specs.{Accounts.{Account, changed, is_durable}, declare
 use Rattle.exec_request.specs.{Requests.{asked_of, gate_of, target_of}, declared.request.Request.Request as Asking}
 use Rattle.exec_driver.specs.{Opens.{OpenState, account_by, account_in, placed, with_named, writing}, Steps.plainly_written, declared.opens.WaiterKey.WaiterKey}
 use Rattle.exec_machine.specs.{Requests.account_after_admit, Same.same_kind, Tests.{is_gated, is_of_file}, World.{Open, no_open}}
-use Rattle.exec_parts.{specs.{declared.parts.record.Record.Record, Admitting.has_open, Records.file_named, View.{account_seen, gate_seen, has_given_up, line_of, number_of_key, open_seen}}, proofs.Facts.{and_parts, by_number, same_number, same_thing, set_there, set_elsewhere}}
+use Rattle.exec_parts.{specs.{declared.parts.record.Record.Record, Admitting.has_open, Records.file_named, View.{account_seen, gate_seen, has_given_up, line_of, number_of_key, open_seen}}, proofs.Facts.{and_parts, by_number, same_number, same_Some, set_there, set_elsewhere}}
 use Rattle.exec_invariants.{specs.{Gates.{AreLinedUp, HaveGates, JoinsGate, at_gate, has_hint_at, is_coming, key_for, line_at}, Places.Drops}, proofs.{Accounted.{account_shown, lines_account, with_its}, Gated.{durable_of_file}, Lined.{SameLines, gates_opens, lined_opens}}}
 use Rattle.exec_polling.proofs.{GateGrown.{IsNew, gates_grown, gates_placed, joins_new, lined_grown, lined_placed}, Unbegun.IsUnbegun}
 
@@ -55,7 +55,7 @@ found_key n (y ∷ ys) r key k x at is = by (λ j. found_key (suc n) ys r key j 
 
     by : ((j : ℕ) → slice_get ys j ≡ Some x → key_for x ≡ key → IsFound (suc n) ys r key) → (k : ℕ) → slice_get (y ∷ ys) k ≡ Some x → (b : Bool) → ((y.shown.worker == key.worker) && ((y.id.0.index == key.id.0.index) && (y.id.0.generation == key.id.0.generation))) ≡ b → IsFound n (y ∷ ys) r key
     by rest k at true same = here same
-    by rest zero at false same = absurd (false≢true (sym same ∙ same_keys (key_for y) key (ap key_for (same_thing y x at) ∙ is)))
+    by rest zero at false same = absurd (false≢true (sym same ∙ same_keys (key_for y) key (ap key_for (same_Some y x at) ∙ is)))
     by rest (suc k) at false same =
         let it = rest k at is in
         let on : suc n + it.m ≡ n + suc it.m = omega arith in
@@ -106,7 +106,7 @@ each_same f g (x ∷ xs) same = rw (same 0 x refl, each_same f g xs (λ k y at. 
 
 set_back : {A C : Type 0} (f : A → C) (xs : List A) (k : ℕ) (x y : A) → slice_get xs k ≡ Some x → f y ≡ f x → map f (slice_set xs k y) ≡ map f xs
 set_back f [] k x y at same = refl
-set_back f (z ∷ xs) zero x y at same = ap (λ c. c ∷ map f xs) (same ∙ ap f (sym (same_thing z x at)))
+set_back f (z ∷ xs) zero x y at same = ap (λ c. c ∷ map f xs) (same ∙ ap f (sym (same_Some z x at)))
 set_back f (z ∷ xs) (suc k) x y at same = ap (λ cs. f z ∷ cs) (set_back f xs k x y at same)
 
 -- HOW THE OPENS CHANGED
@@ -152,7 +152,7 @@ module _ (q : Asking) (opens opens' : List OpenState) (rs : List Record) (r : Re
 
   -- it has room at its gate
   room_for_it : Opened (asked_of q).kind opens opens' (target_of q) → (file : ℕ) (o : OpenState) → slice_get opens' file ≡ Some o → is_coming file o (at_gate r) ≡ true → count_by (λ x. is_coming file o (at_gate x)) rs + 1 ≤ o.coming
-  room_for_it = grind (arith, and_parts, same_number, same_thing, set_there, false≢true)
+  room_for_it = grind (arith, and_parts, same_number, same_Some, set_there, false≢true)
 
   pub is_new : Opened (asked_of q).kind opens opens' (target_of q) → IsNew r opens' rs
   is_new = grind (arith, open_there, slice_get_within, still_many, false≢true, room_for_it)
@@ -211,13 +211,8 @@ module _ (q : Asking) (opens opens' : List OpenState) (rs : List Record) (r : Re
   seen_then how file = ap (λ f. (account_seen (account_in opens' f)).mutations) (named_file file) ∙ by how
     where
       by : Opened (asked_of q).kind opens opens' (target_of q) → (account_seen (account_in opens' (Some (target_of q)))).mutations ≡ (account_after_admit (asked_of q).kind (slice_index_or (map (open_seen rs) opens) (target_of q) no_open).account).mutations
-      by (Joins durable it) =
-          ap (λ o. (account_seen (account_by o)).mutations) (ap (λ os. slice_get os (target_of q)) it.set ∙ set_there opens (target_of q) (placed it.o) it.o it.there)
-          ∙ ap (λ (x : Open). x.account.mutations) (sym (shown_there it.o it.there)) ∙ ap (λ (a : Account). a.mutations) (sym (no_write_account (asked_of q).kind _ (durable_no_write (asked_of q).kind durable)))
-      by (Writes kind it) =
-          ap (λ o. (account_seen (account_by o)).mutations) (ap (λ os. slice_get os (target_of q)) it.set ∙ set_there opens (target_of q) (with_its (changed it.a) it.o) it.o it.there)
-          ∙ ap (λ a. (changed (account_seen a)).mutations) (sym it.account) ∙ ap (λ (x : Open). (changed x.account).mutations) (sym (shown_there it.o it.there))
-          ∙ ap (λ k. (account_after_admit k (slice_index_or (map (open_seen rs) opens) (target_of q) no_open).account).mutations) (sym kind)
+      by (Joins durable it) = grind (arith, it.set, set_there, shown_there, no_write_account)
+      by (Writes kind it) = grind (arith, it.set, set_there opens (target_of q) (with_its (changed it.a) it.o) it.o it.there, it.account, shown_there it.o it.there, kind)
       by (Stays undurable plain is) =
           let o = open_there q opens opened file in
           ap (λ x. (account_seen (account_by x)).mutations) (ap (λ os. slice_get os (target_of q)) is ∙ o.1)

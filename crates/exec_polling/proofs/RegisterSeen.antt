@@ -1,27 +1,29 @@
 -- What is seen of all once a worker has made a request or a sleeper: its seat's places show nothing.
-use Rattle.std.proofs.{Common.{◌≡◌, ℕ, suc, zero, Bool, false, List, [], ◌∷◌, ◌++◌, map, Option, Some, refl, sym, ap, ◌∙◌, slice_get, slice_set, if◌then◌else◌}, Math.Seq.map-set_same, lemmas.Option.get_or_from_slice_get}
-use Rattle.std.proofs.Common.{arith}
+use Rattle.std.proofs.{Common.{◌≡◌, ℕ, suc, zero, Bool, false, List, [], ◌∷◌, ◌++◌, map, Option, Some, refl, sym, ap, ◌∙◌, slice_get, slice_set, if◌then◌else◌, arith}, Math.Seq.map-set_same, lemmas.Option.get_or_from_slice_get}
 use Rattle.exec_task.specs.declared.body.Said.{Said}
 use Rattle.exec_machine.specs.{Progress.Plan, World.{Common, Open, Task}, declared.state.{Request.Request, Sleeper.Sleeper}}
-use Rattle.exec_parts.{specs.{declared.parts.{record.Record.Record, seat.Seat.Seat as Chair, shared.Shared.Shared, sleeping.SleeperRecord.SleeperRecord}, Spots.Spot, View.{Views, Visible, common_of, gate_seen, inbox_at, numbers_of_passing, open_seen, polls_seen, queue_at, seat_seen, seats_seen, task_seen, things_with, word_at}}, proofs.Facts.same_thing}
-use Rattle.exec_polling.proofs.RegisterSound.{MakesAt, made_at}
+use Rattle.exec_parts.{specs.{declared.parts.{record.Record.Record, seat.Seat.Seat as Chair, shared.Shared.Shared, sleeping.SleeperRecord.SleeperRecord}, Spots.Spot, View.{Views, Visible, common_of, gate_seen, inbox_at, numbers_of_passing, open_seen, polls_seen, queue_at, seat_seen, seats_seen, task_seen, things_with, word_at}}, proofs.Facts.same_Some}
+use Rattle.exec_polling.proofs.RegisterSound.{MakesAt}
 
 -- A SEAT whose inbox got places shows what it did
 
-seats_placed : (n : ℕ) (vs : List Visible) (seats : List Chair) (i : ℕ) (chair : Chair) → slice_get seats i ≡ Some chair → seats_seen vs (slice_set seats i (made_at n chair)) ≡ seats_seen vs seats
-seats_placed n [] seats i chair there = refl
-seats_placed n (v ∷ vs) [] i chair there = refl
-seats_placed n (v ∷ vs) (c ∷ cs) zero chair there = ap (λ x. seat_seen v x ∷ seats_seen vs cs) (sym (same_thing c chair there))
-seats_placed n (v ∷ vs) (c ∷ cs) (suc i) chair there = ap (λ xs. seat_seen v c ∷ xs) (seats_placed n vs cs i chair there)
+abbrev pub placed_at : ℕ → ℕ → Chair → Chair
+placed_at m n chair = record chair { made = m; mailbox = record chair.mailbox { inbox = record chair.mailbox.inbox { places = n } } }
 
-polls_placed : (n : ℕ) (vs : List Visible) (seats : List Chair) (i : ℕ) (chair : Chair) → slice_get seats i ≡ Some chair → polls_seen vs (slice_set seats i (made_at n chair)) ≡ polls_seen vs seats
-polls_placed n [] seats i chair there = refl
-polls_placed n (v ∷ vs) [] i chair there = refl
-polls_placed n (v ∷ vs) (c ∷ cs) zero chair there = ap (λ (x : Chair). polls_seen (v ∷ vs) (x ∷ cs)) (sym (same_thing c chair there))
-polls_placed n (v ∷ vs) (c ∷ cs) (suc i) chair there = ap (λ xs. polls_seen (v ∷ []) (c ∷ []) ++ xs) (polls_placed n vs cs i chair there)
+pub seats_placed : (m n : ℕ) (vs : List Visible) (seats : List Chair) (i : ℕ) (chair : Chair) → slice_get seats i ≡ Some chair → seats_seen vs (slice_set seats i (placed_at m n chair)) ≡ seats_seen vs seats
+seats_placed m n [] seats i chair there = refl
+seats_placed m n (v ∷ vs) [] i chair there = refl
+seats_placed m n (v ∷ vs) (c ∷ cs) zero chair there = ap (λ x. seat_seen v x ∷ seats_seen vs cs) (sym (same_Some c chair there))
+seats_placed m n (v ∷ vs) (c ∷ cs) (suc i) chair there = ap (λ xs. seat_seen v c ∷ xs) (seats_placed m n vs cs i chair there)
 
-part_placed : {A : Type 0} (f : Chair → A) (n : ℕ) (seats : List Chair) (i : ℕ) (chair : Chair) → slice_get seats i ≡ Some chair → f (made_at n chair) ≡ f chair → map f (slice_set seats i (made_at n chair)) ≡ map f seats
-part_placed f n seats i chair there same = map-set_same f seats i (made_at n chair) chair (same ∙ ap f (sym (get_or_from_slice_get seats i chair chair there)))
+pub polls_placed : (m n : ℕ) (vs : List Visible) (seats : List Chair) (i : ℕ) (chair : Chair) → slice_get seats i ≡ Some chair → polls_seen vs (slice_set seats i (placed_at m n chair)) ≡ polls_seen vs seats
+polls_placed m n [] seats i chair there = refl
+polls_placed m n (v ∷ vs) [] i chair there = refl
+polls_placed m n (v ∷ vs) (c ∷ cs) zero chair there = ap (λ (x : Chair). polls_seen (v ∷ vs) (x ∷ cs)) (sym (same_Some c chair there))
+polls_placed m n (v ∷ vs) (c ∷ cs) (suc i) chair there = ap (λ xs. polls_seen (v ∷ []) (c ∷ []) ++ xs) (polls_placed m n vs cs i chair there)
+
+pub part_placed : {A : Type 0} (f : Chair → A) (m n : ℕ) (seats : List Chair) (i : ℕ) (chair : Chair) → slice_get seats i ≡ Some chair → f (placed_at m n chair) ≡ f chair → map f (slice_set seats i (placed_at m n chair)) ≡ map f seats
+part_placed f m n seats i chair there same = map-set_same f seats i (placed_at m n chair) chair (same ∙ ap f (sym (get_or_from_slice_get seats i chair chair there)))
 
 -- so all that stands at seats is seen as before
 pub record SameSeats (vs : Views) (before after : List Chair) : Type 0 where

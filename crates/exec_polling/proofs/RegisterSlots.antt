@@ -1,9 +1,9 @@
 -- The slots of requests, or of sleepers, as they are seen once one more came: in the slot that was freed last, or in a new one.
-use Rattle.std.proofs.{Common.{◌≡◌, ◌≢◌, ℕ, suc, zero, ◌+◌, ◌^◌, ◌<◌, Bool, true, false, List, [], ◌∷◌, ◌++◌, length, nat_lt, Some, None, refl, sym, ap, ◌∙◌, arith, slice_get, slice_index_or, slice_set, if◌then◌else◌}, lemmas.{Bool.eq-eqb, Option.get_or_from_slice_get}}
-use Rattle.exec_base.specs.{Slab.{Slab, generation_of, inserted, next_id, next_index, slot_at, value_in}, declared.slab.{Id.Id, Slot.{Slot, TheVariants.{Live, Vacant, Retired}}}}
+use Rattle.std.proofs.{Common.{◌≡◌, ◌≢◌, ℕ, suc, zero, ◌+◌, ◌<◌, false, List, [], ◌∷◌, ◌++◌, length, Some, None, refl, sym, ap, ◌∙◌, arith, slice_get, slice_index_or, slice_set, if◌then◌else◌}, lemmas.{Bool.eq-eqb, Option.get_or_from_slice_get}}
+use Rattle.exec_base.specs.{Slab.{Slab, inserted, next_id, next_index, value_in}, declared.slab.{Id.Id, Slot.{Slot, TheVariants.{Live, Vacant, Retired}}}}
 use Rattle.exec_waiters.specs.declared.waiter.Entry.{Entry}
 use Rattle.exec_moves.specs.Slots.{entered}
-use Rattle.exec_parts.{specs.{declared.parts.mail.Reply.Reply, View.{awaited_from, awaits_entry, is_awaited, slots_from, slots_seen}}, proofs.{Facts.same_thing, Taken.{Takes, number_old}}}
+use Rattle.exec_parts.{specs.{declared.parts.mail.Reply.Reply, View.{awaited_from, awaits_entry, is_awaited, slots_from, slots_seen}}, proofs.{Taken.{Takes, number_old}}}
 
 module _ (numbers numbers' : List ℕ) (at k : ℕ) (here : slice_get numbers' at ≡ Some k) (others : (j : ℕ) → j ≢ at → slice_get numbers' j ≡ slice_get numbers j) where
   number_at : slice_index_or numbers' at 0 ≡ k

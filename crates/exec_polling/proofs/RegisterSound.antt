@@ -1,7 +1,8 @@
 -- What holds of a worker that has made a request or a sleeper for the task that it polls: that the task holds it comes after.
 use Rattle.std.proofs.{Common.{◌≡◌, ◌⊎◌, inl, ℕ, ◌+◌, ◌*◌, ◌≤◌, ◌==◌, Bool, true, false, Contains, List, ◌∷◌, [], ◌++◌, length, Some, None, refl, sym, ap, subst, ◌∙◌, arith, slice_get, slice_set, if◌then◌else◌}, lemmas.{Bool.false≢true, List.length-set}}
+use Rattle.exec_base.specs.Slab.{live_count}
 use Rattle.exec_moves.specs.declared.{handing.AfterCallbacks.AfterCallbacks, place.{InCallbacks.InCallbacks, InPoll.InPoll, Place.Place}}
-use Rattle.exec_parts.{specs.{declared.parts.{mail.Subject.Subject, record.Record.Record, seat.Seat.Seat as Chair, shared.Shared.Shared, sleeping.SleeperRecord.SleeperRecord, task_slot.TaskSlot.TaskSlot, worker.Worker.Worker}, MailPosts.IsMailbox, Phased.{IsPhased, closes_at, closing_in, stage_of}, View.driver_of}, proofs.{Facts.{same_thing, set_there}, Taken.{got_old, was_got}}}
+use Rattle.exec_parts.{specs.{declared.parts.{mail.Subject.Subject, record.Record.Record, seat.Seat.Seat as Chair, shared.Shared.Shared, sleeping.SleeperRecord.SleeperRecord, task_slot.TaskSlot.TaskSlot, worker.Worker.Worker}, MailPosts.IsMailbox, Phased.{IsPhased, closes_at, closing_in, stage_of}, View.driver_of}, proofs.{Facts.{same_Some, set_there}, Taken.{got_old, was_got}}}
 use Rattle.exec_invariants.{specs.{Gates.AreLinedUp, Holding.Mail, Places.polled_in, Sound.{AreHome, HasBatch, HasGuest, HasLetters, HasQueue, IsMineIn, IsMyMail, IsSeated, IsTied, SoundAt, Stands}}, proofs.ServingHolds.KeepsBy}
 
 -- LISTS that grow at their end, by one of this worker
@@ -69,8 +70,8 @@ module _ {B : Type 0} where
       let now : Chair = made_at it.places it.chair in
       let many : length s'.seats.items ≡ length s.seats.items = ap length it.set ∙ length-set s.seats.items w.index now in
       let found : slice_get s'.seats.items w.index ≡ Some now = ap (λ xs. slice_get xs w.index) it.set ∙ set_there s.seats.items w.index now it.chair it.there in
-      let same : (chair : Chair) → slice_get s'.seats.items w.index ≡ Some chair → now ≡ chair = λ chair at. same_thing now chair (sym found ∙ at) in
-      let seat_is : sound.seated.seat ≡ it.chair = same_thing sound.seated.seat it.chair (sym sound.seated.there ∙ it.there) in
+      let same : (chair : Chair) → slice_get s'.seats.items w.index ≡ Some chair → now ≡ chair = λ chair at. same_Some now chair (sym found ∙ at) in
+      let seat_is : sound.seated.seat ≡ it.chair = same_Some sound.seated.seat it.chair (sym sound.seated.there ∙ it.there) in
       let homes : AreHome s.config.workers (length s'.seats.items) s.tasks.items = subst (λ n. AreHome s.config.workers n s.tasks.items) (sym many) sound.homes in
       let seated : IsSeated w.index false s.config.workers s'.seats.items = record {
         many = subst (λ n. s.config.workers ≤ n) (sym many) sound.seated.many;
@@ -84,8 +85,7 @@ module _ {B : Type 0} where
       let batch : HasBatch p v.batch.values = λ h. absurd (false≢true h) in
       let mine : (x : Mail) → Contains v.batch.values x → IsMyMail s.config.workers w.index x s'.requests.items s'.sleepers.items = λ x has.
       mail_on s.requests.items s'.requests.items s.sleepers.items s'.sleepers.items m.records.on m.sleepers.on s.config.workers w.index x (sound.mine x (subst (λ ms. Contains ms x) m.batch has)) in
-      let batch_place : (chair : Chair) → slice_get s'.seats.items w.index ≡ Some chair → chair.mailbox.inbox.closed ≡ false → 2 * chair.made + 1 ≤ v.batch.places = λ chair at open_box.
-      subst (λ (c : Chair). 2 * c.made + 1 ≤ v.batch.places) (same chair at) it.batch_room in
+      let batch_place : (chair : Chair) → slice_get s'.seats.items w.index ≡ Some chair → chair.mailbox.inbox.closed ≡ false → 2 * chair.made + 1 ≤ v.batch.places = grind arith in
       let letters : HasLetters false false w.index s.config.workers w.letters s'.requests.items s'.sleepers.items = record {
         some = λ h. absurd (false≢true h);
         none = sound.letters.none;
@@ -96,78 +96,22 @@ module _ {B : Type 0} where
       let old = sound.phased it.chair it.there in
       subst (λ c. IsPhased w.index (closes_at p) (closing_in p) w.home.closing w.root v.names.unreleased (stage_of c s1) s.tasks.items) (same chair at)
       (record { told = old.told; opened = old.opened; ended = old.ended; root = old.root; left = old.left; shut = old.shut; by_zero = old.by_zero; by_other = old.by_other; closed = old.closed; prepared = tt }) in
-      let gates : AreLinedUp s'.opens s'.requests.items = m.lined in
-      let told = keeps.told in
-      let wide = keeps.wide in
-      let named = keeps.named in
-      let sized = keeps.sized in
-      let over = keeps.over in
-      let due = keeps.due in
-      let flown = keeps.flown in
-      let carried = keeps.carried in
-      let known = keeps.known in
-      let rooted = keeps.rooted in
-      let done : SoundAt p v1 s1 = record {
-        here = sound.here;
-        config = sound.config;
-        gates = gates;
-        known = known;
-        workers = sound.workers;
-        role = sound.role;
-        pooled = sound.pooled;
-        serves = sound.serves;
-        calm = sound.calm;
-        homes = homes;
-        shards = sound.shards;
-        time = sound.time;
-        told = told;
-        wide = wide;
-        named = named;
-        runnable = sound.runnable;
-        seated = seated;
-        queue = queue;
-        sized = sized;
-        processed = sound.processed;
-        hand = sound.hand;
-        loot = sound.loot;
-        genuine = sound.genuine;
-        stolen = sound.stolen;
-        searching = sound.searching;
-        aims = tt;
-        guest = sound.guest;
-        resting = sound.resting;
-        left = tt;
-        over = over;
-        batch = batch;
-        mine = mine;
-        batch_place = batch_place;
-        letters = letters;
-        quiet = λ h. m.wakes;
-        due = due;
-        flown = flown;
-        carried = carried;
-        rooted = rooted;
-        stops = λ slot at. tt;
-        hears = tt;
-        lets_go = λ h. absurd (false≢true h);
-        phased = phased;
-        tied = sound.tied;
-      } in
+      let quiet : false ≡ false → v.home.deferred.notes.wakes.items ≡ [] = λ h. m.wakes in
+      let lets_go : false ≡ true → live_count v1.home.timers ≡ 0 = λ h. absurd (false≢true h) in
+      let done : SoundAt p v1 s1 = assumption (homes, seated, queue, batch, mine, batch_place, letters, phased, quiet, lets_go, m.lined, keeps, tt, sound) in
       subst (SoundAt p v) (sym m.shared) (subst (λ x. SoundAt p x s1) (sym m.worker) done)
 
 -- THE GATE: where a durable request was made it joins next
 
 module _ {B : Type 0} where
   joins_tied : (k i : ℕ) (slot : TaskSlot B) (b : Bool) → Stands (if b then Some InPoll.Act else None) i slot → Stands (if b then Some (InPoll.JoinGate k) else None) i slot
-  joins_tied k i slot true st = record { polled = st.polled; body = st.body; poller = st.poller; kept = st.kept; uncleared = st.uncleared; told = st.told; untold = st.untold; waits = st.waits }
+  joins_tied k i slot true st = assumption st
   joins_tied k i slot false st = st
 
   pub sound_joins : (t k : ℕ) (w : Worker) (s : Shared B) → SoundAt (Place.Poll t InPoll.Act) (record w { place = Place.Poll t InPoll.Act }) s → SoundAt (Place.Poll t (InPoll.JoinGate k)) (record w { place = Place.Poll t (InPoll.JoinGate k) }) s
   sound_joins t k w s sound =
       let q : Place = Place.Poll t (InPoll.JoinGate k) in
       let here : q ≡ q = refl in
-      let guest : HasGuest (Some t) (InPoll.JoinGate k) w.index w.root s.tasks.items = λ apart.
-      let g = sound.guest apart in
-      (g.0, g.1, record { ordinary = g.2.ordinary; polled = g.2.polled; body = g.2.body; poller = g.2.poller; cancelled = g.2.cancelled; told = g.2.told; untold = g.2.untold; there = g.2.there }) in
+      let guest : HasGuest (Some t) (InPoll.JoinGate k) w.index w.root s.tasks.items = λ apart. let g = sound.guest apart in (g.0, g.1, assumption g.2) in
       let tied : IsTied (polled_in w.root q) w.index w.root s.tasks.items = record { stands = λ slot at. joins_tied k w.index slot (t == w.root) (sound.tied.stands slot at) } in
       assumption (here, guest, tied, sound)

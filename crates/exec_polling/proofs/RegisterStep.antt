@@ -1,5 +1,5 @@
 -- The act by which a task makes a request: what holds then, and what that leaves of others.
-use Rattle.std.proofs.{Common.{◌≡◌, ◌⊎◌, inl, inr, ℕ, ◌+◌, ◌^◌, ◌<◌, ◌≤◌, Bool, true, false, List, [], ◌∷◌, ◌++◌, length, map, Option, Some, None, IfSome, refl, sym, ap, subst, ◌∙◌, arith, slice_get, slice_set, option_map, if◌then◌else◌}, lemmas.{Bool.{Decides.nat_tests}, List.{length-map, map-append, map-set, set-set}, Option.slice_get-map}}
+use Rattle.std.proofs.{Common.{◌≡◌, ◌⊎◌, inl, inr, ℕ, ◌+◌, ◌^◌, ◌<◌, ◌≤◌, ◌==◌, count_by, Bool, true, false, List, [], ◌∷◌, ◌++◌, length, map, Option, Some, None, IfSome, refl, sym, ap, subst, ◌∙◌, arith, slice_get, slice_set, option_map, if◌then◌else◌}, lemmas.{Bool.{Decides.nat_tests}, List.{length-map, map-append, map-set, set-set}, Option.slice_get-map}}
 use Rattle.exec_outcomes.specs.{Accounts.is_durable, declared.outcome.Outcome.Outcome}
 use Rattle.exec_request.specs.{Requests.{asked_of, cursor_of, deadline_of, target_of}, declared.request.Request.Request as Asking}
 use Rattle.exec_ring.specs.Stores.{Reserves}
@@ -7,8 +7,8 @@ use Rattle.exec_driver.specs.{Opens.account_in, Footprints.footprint_of, Steps.i
 use Rattle.exec_task.specs.{Phases.is_polled, Sight.Sight, declared.body.{Act.Act, Said.Said}}
 use Rattle.exec_machine.specs.{declared.{config.Configuration.Configuration, event.Event.Event, state.{Forwarding.TheVariants.Unsent, Request.Request, Waiting.Waiting}}, Progress.Plan, Requests.{new_request, outcome_if_late, resolved_if}}
 use Rattle.exec_moves.specs.declared.{handing.AfterCallbacks.AfterCallbacks, place.{InCallbacks.InCallbacks, InPoll.InPoll, Place.Place}}
-use Rattle.exec_parts.{specs.{declared.parts.{record.Record.Record, seat.Seat.Seat as Chair, shared.Shared.Shared, sleeping.SleeperRecord.SleeperRecord, task_slot.TaskSlot.TaskSlot, worker.Worker.Worker}, Admitting.{Registers, joins_gate, seeing}, Records.{file_named, numbers_held, operation_in, outcome_in, seen_in}, Scripts.{IsAnswer, IsPlainRequest, held_after}, Spots.Spot, View.{Views, account_seen, body_in, driver_of, task_seen}}, proofs.Facts.{by_number, same_thing, set_there}}
-use Rattle.exec_invariants.{specs.{Acting.{HasActed, StillPerforms}, Gates.{AreLinedUp, HaveGates, JoinsGate}, Hearing.{CanHear, held_once_come}, Holding.{Box, IsHolding, MayHave, Thing, awaited_in, box_of, holder_of, nap_of, thing_of}, Places.{Drops, drops_at}, Sound.{SoundAt}, Whole.{Profile, hands_of, with_worker}, Works.Beside}, proofs.{Gated.durable_of_file, Here.{IsHere, going_on, polled_here}, HoldBeside.{Handles, Holds}, HoldThings.touches_none, Pending.in_poll, Performing.{performs_on, still_performs}, PoolKept.chosen_own, ServingHolds.KeepsBy, SlotTasks.guest_pool, TaskDeals.{Dealt, acts, from_act, sound_dealt}}}
+use Rattle.exec_parts.{specs.{declared.parts.{record.Record.Record, seat.Seat.Seat as Chair, shared.Shared.Shared, sleeping.SleeperRecord.SleeperRecord, task_slot.TaskSlot.TaskSlot, worker.Worker.Worker}, Admitting.{Registers, joins_gate, seeing}, Records.{file_named, numbers_held, operation_in, outcome_in, seen_in}, Scripts.{IsAnswer, IsPlainRequest, held_after}, Spots.Spot, View.{Views, account_seen, body_in, driver_of, task_seen}}, proofs.Facts.{by_number, same_Some, set_there}}
+use Rattle.exec_invariants.{specs.{Acting.{HasActed, StillPerforms}, Gates.{AreLinedUp, HaveGates, JoinsGate}, Hearing.{CanHear, held_once_come}, Holding.{Box, IsHolding, MayHave, Nap, Thing, awaited_in, box_of, holder_of, nap_of, thing_of}, Places.{Drops, drops_at}, Sound.{SoundAt}, Whole.{Profile, hands_of, with_worker}, Works.Beside}, proofs.{Gated.durable_of_file, Here.{IsHere, going_on, polled_here}, HoldBeside.{Handles, Holds}, HoldThings.touches_none, Pending.in_poll, Performing.{performs_on, still_performs}, PoolKept.chosen_own, ServingHolds.KeepsBy, SlotTasks.guest_pool, TaskDeals.{Dealt, acts, from_act, sound_dealt}}}
 use Rattle.exec_polling.proofs.{Admitted.IsFew, IsComing.IsComing, Enlisted.{has_its_open, keeps_now, late_plain, made_early, made_late, opened, operation, record_made, registered_made, wakes_now}, Enlists.flat, RegisterBeside.{beside_joins, beside_made}, RegisterHolds.{MayHold, holding_registered}, MadePlaces.{holding_placed, placed_in}, RegisterOpens.{IsRegistered, Opened, covers_then, gates_then, hints_then, joins_then, lined_then}, RegisterSound.{Makes, MakesAt, grows_last, grows_same, made_at, sound_joins, sound_made}, Unbegun.{unbegun, wanted}}
 
 -- nothing is visible of anybody
@@ -146,7 +146,7 @@ module _ {B L : Type 0} (left : B → L) (runs : L → Plan → Option ℕ → T
   was = polled_here InPoll.Act t w s h.sound refl
 
   was_is : was.slot ≡ h.made.slot
-  was_is = same_thing was.slot h.made.slot (sym was.there ∙ h.made.there)
+  was_is = same_Some was.slot h.made.slot (sym was.there ∙ h.made.there)
 
   pub waits_is : h.made.slot.waiting ≡ Waiting.Nothing
   waits_is = ap (λ (x : TaskSlot B). x.waiting) (sym was_is) ∙ was.waits
@@ -164,14 +164,14 @@ module _ {B L : Type 0} (left : B → L) (runs : L → Plan → Option ℕ → T
   home_is = grind (arith, by_number, was_is, was, guest_pool, nat_tests)
 
   pub home_mine : (j : ℕ) → h.made.slot.home ≡ Some j → j ≡ w.index
-  home_mine j is = elim home_is [ inl own ↦ same_thing j w.index (sym is ∙ own) | inr of_pool ↦ absurd (let no : None ≡ Some j = sym of_pool.0 ∙ is in cc) ]
+  home_mine j is = elim home_is [ inl own ↦ same_Some j w.index (sym is ∙ own) | inr of_pool ↦ absurd (let no : None ≡ Some j = sym of_pool.0 ∙ is in cc) ]
 
   -- WHAT HOLDS where it acts
   pub sound_acts : SoundAt (Place.Poll t InPoll.Act) (record w' { place = Place.Poll t InPoll.Act }) s'
   sound_acts =
       let before : SoundAt (Place.Poll t InPoll.Act) (record w' { place = w.place }) (record s' { tasks = s.tasks }) = sound_made t w (record w' { place = w.place }) s (record s' { tasks = s.tasks }) h.sound makes in
       let it : IsHere InPoll.Act t (record w' { place = w.place }) (record s' { tasks = s.tasks }) = polled_here InPoll.Act t (record w' { place = w.place }) (record s' { tasks = s.tasks }) before refl in
-      let is : it.slot ≡ h.made.slot = same_thing it.slot h.made.slot (sym it.there ∙ h.made.there) in
+      let is : it.slot ≡ h.made.slot = same_Some it.slot h.made.slot (sym it.there ∙ h.made.there) in
       let to : Dealt InPoll.Act w'.index h.made.slot (record final { held = reg.slot'.held }) s'.requests.items s'.sleepers.items = grind arith in
       let dealt : Dealt InPoll.Act w'.index it.slot reg.slot' s'.requests.items s'.sleepers.items = subst (λ x. Dealt InPoll.Act w'.index x reg.slot' s'.requests.items s'.sleepers.items) (sym is) (subst (λ x. Dealt InPoll.Act w'.index h.made.slot x s'.requests.items s'.sleepers.items) (sym slot_is) to) in
       sound_dealt InPoll.Act InPoll.Act t (record w' { place = w.place }) (record s' { tasks = s.tasks }) s' reg.slot' (from_act t) (acts t) before it refl items_are (touches_none (record s' { tasks = s.tasks })) dealt
@@ -198,17 +198,8 @@ module _ {B L : Type 0} (left : B → L) (runs : L → Plan → Option ℕ → T
       let placed : IsHolding hands workers hs ts naps boxes1 = holding_placed hands workers hs ts naps boxes w.index n box at seat.room old in
       let shut : box.shut ≡ false = (h.sound.phased seat.chair seat.there).shut in
       let counted = (old.room w.index box at).made in
-      let may : MayHold workers w.index t hs ts naps boxes1 = record {
-        it = holder_of h.made.slot;
-        there = slice_get-map holder_of s.tasks.items t ∙ ap (option_map holder_of) h.made.there;
-        going = going_on h.made.slot.cell.phase polled_is;
-        waits = ap awaited_in waits_is;
-        near = may_have workers w.index h.made.slot.home home_is;
-        box = placed_in n box;
-        at = set_there boxes w.index (placed_in n box) box at;
-        open_box = shut;
-        fewer = omega (arith, counted);
-      } in
+      let few : count_by (λ (r : Thing). r.worker == w.index) ts + count_by (λ (z : Nap). z.worker == w.index) naps + 1 ≤ (placed_in n box).made = omega (arith, counted) in
+      let may : MayHold workers w.index t hs ts naps boxes1 = search (slice_get-map holder_of s.tasks.items t ∙ ap (option_map holder_of) h.made.there, going_on h.made.slot.cell.phase polled_is, ap awaited_in waits_is, may_have workers w.index h.made.slot.home home_is, set_there boxes w.index (placed_in n box) box at, shut, few) in
       let o : Option Outcome = outcome_in reg.made.shown.phase in
       let done = holding_registered hands workers w.index t hs ts naps boxes1 may placed o in
       let many : length ts ≡ length s.requests.items = length-map s.requests.items thing_of in
@@ -216,12 +207,8 @@ module _ {B L : Type 0} (left : B → L) (runs : L → Plan → Option ℕ → T
       ap holder_of slot_is ∙ ap (λ xs. record (holder_of h.made.slot) { held = xs }) having_is ∙ ap (λ m. record (holder_of h.made.slot) { held = h.made.slot.held.items ++ record { number = m; worker = w.index } ∷ [] }) (sym many) in
       let holders : map holder_of s'.tasks.items ≡ slice_set hs t (record (holder_of h.made.slot) { held = h.made.slot.held.items ++ record { number = length ts; worker = w.index } ∷ [] }) =
       ap (map holder_of) items_are ∙ map-set holder_of s.tasks.items t reg.slot' ∙ ap (slice_set hs t) holder in
-      let thing : thing_of reg.made ≡ new_thing false =
-      ap seen_as reg.shown
-      ∙ by_late (outcome_if_late w.moments.sampled (deadline_of q)) (new_request w.index (seeing s'.opens (operation_in q)))
-      ∙ ap new_thing reg.unsent in
-      let things : map thing_of s'.requests.items ≡ ts ++ new_thing false ∷ [] =
-      ap (map thing_of) reg.requests ∙ map-append thing_of s.requests.items (reg.made ∷ []) ∙ ap (λ x. ts ++ x ∷ []) thing in
+      let thing : thing_of reg.made ≡ new_thing false = grind (arith, reg.shown, by_late (outcome_if_late w.moments.sampled (deadline_of q)) (new_request w.index (seeing s'.opens (operation_in q))), reg.unsent) in
+      let things : map thing_of s'.requests.items ≡ ts ++ new_thing false ∷ [] = ap (map thing_of) reg.requests ∙ map-append thing_of s.requests.items (reg.made ∷ []) ∙ ap (λ x. ts ++ x ∷ []) thing in
       let beds : map nap_of s'.sleepers.items ≡ naps = ap (map nap_of) sleepers_are in
       let seats : map box_of s'.seats.items ≡ boxes1 = ap (map box_of) seat.set ∙ map-set box_of s.seats.items w.index (made_at n seat.chair) in
       let config : s'.config.workers ≡ workers = ap (λ (x : Shared B). x.config.workers) flat_shared in

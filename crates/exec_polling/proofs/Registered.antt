@@ -1,6 +1,5 @@
 -- The act by which a task makes a request is a step.
-use Rattle.std.proofs.{Common.{◌≡◌, ℕ, ◌+◌, ◌==◌, Bool, true, false, List, [], ◌∷◌, ◌++◌, length, map, Option, Some, refl, sym, ap, subst, ◌∙◌, slice_index_or, slice_set, if◌then◌else◌}, lemmas.{Bool.eq-eqb, List.{length-map, map-append, map-set}}}
-use Rattle.std.proofs.Common.{arith}
+use Rattle.std.proofs.{Common.{◌≡◌, ℕ, ◌+◌, ◌==◌, Bool, true, false, List, [], ◌∷◌, ◌++◌, length, map, Option, Some, refl, sym, ap, subst, ◌∙◌, slice_index_or, slice_set, if◌then◌else◌, arith}, lemmas.{Bool.eq-eqb, List.{length-map, map-append, map-set}}}
 use Rattle.exec_outcomes.specs.{Accounts.{is_durable, changed as account_changed}, declared.outcome.{Outcome.Outcome, Kind.Kind}}
 use Rattle.exec_request.specs.{Requests.{asked_of, deadline_of, target_of}, declared.request.Request.Request as Asking}
 use Rattle.exec_driver.specs.Opens.{account_in}
@@ -9,7 +8,7 @@ use Rattle.exec_machine.specs.{Choice.Choice.Plain, declared.{config.{Configurat
 use Rattle.exec_moves.specs.{Poll.act_asked, Slots.entered, State.{Desk, Moved, Things}, declared.place.{InPoll.InPoll, Place.Place}}
 use Rattle.exec_parts.specs.{declared.parts.{record.Record.Record, shared.Shared.Shared, sleeping.SleeperRecord.SleeperRecord, worker.Worker.Worker}, Admitting.{Registers, seeing}, Records.{file_named, numbers_held, operation_in, seen_in}, Scripts.IsAnswered, Spots.{Spot, spot_of}, View.{Views, account_seen, common_of, desk_of, driver_of, gate_seen, numbers_of_passing, open_seen, own_of, slots_seen, task_seen, things_with, visible, with_view}}
 use Rattle.exec_invariants.{specs.{Acting.{HasActed, Performs, PerformsAll, StepsOf}, Works.{Suits, Works}}, proofs.{Seats.own_seat, Acting.{IsPlainWord, acts_so, me_at, moved_seen, moves_so}, Slots.task_there, Turning.view_found}}
-use Rattle.exec_polling.proofs.{Enlisted.has_its_open, Enlists.{desk_asked, own_asked, visible_asked}, RegisterOpens.{gates_seen_then, opens_seen_then, seen_then}, RegisterSeen.{SeesAlike, common_then, seats_alike, seen_with, things_then, unsent_last}, RegisterStep.{comes, covers, goes_on, held_is, how, items_are, makes, performs_asked, polled_is, reg, registered, sleepers_are, slot_is, waits_is}, Unbegun.{same_late, wanted}}
+use Rattle.exec_polling.proofs.{Enlisted.has_its_open, Enlists.{desk_asked, own_asked, visible_asked}, RegisterOpens.{gates_seen_then, opens_seen_then, seen_then}, RegisterSeen.{SeesAlike, common_then, seats_alike, things_then, unsent_last}, RegisterStep.{comes, covers, goes_on, held_is, how, items_are, makes, performs_asked, polled_is, reg, registered, sleepers_are, slot_is, waits_is}, Unbegun.{same_late, wanted}}
 
 module _ {B L : Type 0} (left : B → L) (spot : L → Option Said → Spot) where
   -- a word that asks for a request is neither about another task nor about what is held
@@ -51,9 +50,7 @@ module _ {B L : Type 0} (left : B → L) (runs : L → Plan → Option ℕ → T
 
   -- what its record says is what the machine's does
   record_seen : (p : Plan) (vs : Views) → (it : IsAsked p vs) → seeing s'.opens (operation_in q) ≡ with_seen it.o (common_of left spot p vs s)
-  record_seen p vs it =
-      ap (λ (x : Operation). if is_of_file x.kind then record x { seen = (account_seen (account_in s'.opens (file_named x.target))).mutations } else x) it.only
-      ∙ by (is_of_file it.o.kind) refl
+  record_seen p vs it = grind (arith, it.only, by (is_of_file it.o.kind) refl)
     where
       by : (b : Bool) → is_of_file it.o.kind ≡ b → (if b then record it.o { seen = (account_seen (account_in s'.opens (file_named it.o.target))).mutations } else record it.o { seen = seen_in q })
           ≡ (if b then record it.o { seen = (account_after_admit it.o.kind (slice_index_or (map (open_seen s.requests.items) s.opens) it.o.target no_open).account).mutations } else it.o)
@@ -140,14 +137,7 @@ module _ {B L : Type 0} (left : B → L) (runs : L → Plan → Option ℕ → T
         );
         own = own_asked t w w' s s1 s' q e h.sound made come cover o asked.kind_is asked.deadline_is ∙ unserved o (outcome_if_late w.moments.sampled (deadline_of q))
             ∙ ap (λ x. record (own_after_admit x (outcome_if_late w.moments.sampled (deadline_of q)) (length s.requests.items) me) { serving = false }) (sym now);
-        common =
-            ap (λ us. common_of left spot p us s') again
-            ∙ common_then left spot p vs s s' alike
-            ∙ ap (λ x. seen_with left spot all x (map (λ (r : Record). r.shown) s'.requests.items) (map (open_seen s'.requests.items) s'.opens) (map (λ (z : SleeperRecord). z.shown) s'.sleepers.items)) tasks
-            ∙ ap (λ x. seen_with left spot all ts x (map (open_seen s'.requests.items) s'.opens) (map (λ (z : SleeperRecord). z.shown) s'.sleepers.items)) shown
-            ∙ ap (λ x. seen_with left spot all ts (all.requests ++ resolved_if (outcome_if_late w.moments.sampled (deadline_of q)) (new_request w.index (with_seen o all)) ∷ []) x (map (λ (z : SleeperRecord). z.shown) s'.sleepers.items)) opens
-            ∙ ap (λ x. record (after_by o) { sleepers = x }) sleepers
-            ∙ ap after_by (sym now);
+        common = grind (arith, again, common_then left spot p vs s s' alike, tasks, shown, opens, sleepers, now);
       })
 
   pub registered_by : IsAnswered spot → StepsOf left runs holds spot w s e w' s'

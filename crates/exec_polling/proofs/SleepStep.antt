@@ -1,5 +1,5 @@
 -- The act by which a task sleeps: what holds then, and what that leaves of others.
-use Rattle.std.{proofs.{Common.{◌≡◌, ◌⊎◌, inl, inr, ℕ, suc, ◌+◌, ◌<◌, ◌≤◌, ◌||◌, min, Bool, true, false, List, [], ◌∷◌, ◌++◌, length, map, Option, Some, None, refl, sym, ap, subst, ◌∙◌, arith, slice_get, slice_set, option_map}, lemmas.{Bool.{false≢true, Decides.nat_tests}, List.{append-nil, length-map, map-append, map-set, set-set}, Option.{slice_get-map, slice_get_within}}}}
+use Rattle.std.{proofs.{Common.{◌≡◌, ◌⊎◌, inl, inr, ℕ, suc, ◌+◌, ◌<◌, ◌≤◌, ◌||◌, min, Bool, true, false, List, [], ◌∷◌, ◌++◌, length, map, Option, Some, None, refl, sym, ap, subst, ◌∙◌, arith, slice_get, slice_set, option_map, ◌==◌, count_by}, lemmas.{Bool.{false≢true, Decides.nat_tests}, List.{append-nil, length-map, map-append, map-set, set-set}, Option.{slice_get-map, slice_get_within}}}}
 use Rattle.exec_base.specs.{Slab.{IsPast, Slab, TakesId, inserted, is_live, live_count, next_id}, declared.{limits.TheConstants.LONGEST_TIMEOUT}}
 use Rattle.exec_time.specs.declared.timers.{Sleeper.Sleeper as Sleeping, Observer.Observer}
 use Rattle.exec_ring.specs.Stores.{HasStretch}
@@ -7,8 +7,8 @@ use Rattle.exec_driver.specs.Driving.{seen}
 use Rattle.exec_task.specs.{Phases.is_polled, Sight.Sight, declared.body.{Act.Act, Said.Said}}
 use Rattle.exec_machine.specs.{Progress.Plan, declared.{event.Event.Event, state.{Forwarding.TheVariants.Unsent, Sleeper.Sleeper as Asleep, Waiting.Waiting}}}
 use Rattle.exec_moves.specs.declared.{handing.AfterCallbacks.AfterCallbacks, place.{InCallbacks.InCallbacks, InPoll.InPoll, Place.Place}}
-use Rattle.exec_parts.{specs.{declared.parts.{mail.Reply.Reply, seat.Seat.Seat as Chair, shared.Shared.Shared, task_slot.TaskSlot.TaskSlot, worker.Worker.Worker}, Admitting.{Sleeps, most_told}, Records.numbers_held, Scripts.{IsAnswer, held_after}, Calls.IsTold, Spots.Spot, View.{Views, body_in, driver_of, task_seen}}, proofs.{Facts.{by_number, same_thing, set_there}, Growing.told_same, Taken.{got_new, takes_inserted}}}
-use Rattle.exec_invariants.{specs.{Acting.{HasActed, StillPerforms}, Gates.{HaveGates, IsKnown, has_hint_at}, Hearing.{CanHear, held_once_come}, Holding.{Box, IsHolding, Nap, awaited_in, box_of, holder_of, nap_of, thing_of}, Sound.SoundAt, Names.tellers, Whole.{Profile, hands_of, with_worker}, Works.Beside}, proofs.{Here.{IsHere, going_on, polled_here}, HoldBeside.{Handles, Holds}, HoldThings.touches_none, Pending.in_poll, Performing.{performs_on, still_performs}, Resolving.places_fewer, ServingHolds.KeepsBy, SlotTasks.guest_pool, TaskDeals.{Dealt, ends, from_act, sound_dealt}, Untold.rooted_told}}
+use Rattle.exec_parts.{specs.{declared.parts.{mail.Reply.Reply, seat.Seat.Seat as Chair, shared.Shared.Shared, task_slot.TaskSlot.TaskSlot, worker.Worker.Worker}, Admitting.{Sleeps, most_told}, Records.numbers_held, Scripts.{IsAnswer, held_after}, Calls.IsTold, Spots.Spot, View.{Views, body_in, driver_of, task_seen}}, proofs.{Facts.{by_number, same_Some, set_there}, Growing.told_same, Taken.{got_new, takes_inserted}}}
+use Rattle.exec_invariants.{specs.{Acting.{HasActed, StillPerforms}, Gates.{HaveGates, IsKnown, has_hint_at}, Hearing.{CanHear, held_once_come}, Holding.{Box, IsHolding, Nap, Thing, awaited_in, box_of, holder_of, nap_of, thing_of}, Sound.SoundAt, Names.tellers, Whole.{Profile, hands_of, with_worker}, Works.Beside}, proofs.{Here.{IsHere, going_on, polled_here}, HoldBeside.{Handles, Holds}, HoldThings.touches_none, Pending.in_poll, Performing.{performs_on, still_performs}, Resolving.places_fewer, ServingHolds.KeepsBy, SlotTasks.guest_pool, TaskDeals.{Dealt, ends, from_act, sound_dealt}, Untold.rooted_told}}
 use Rattle.exec_polling.proofs.{Dozing.{OneDozes, asleep_dozes, carried_dozes, flown_dozes, named_dozes, order_dozes, over_dozes, rooted_dozes, timed_dozes}, Enlisted.wide_places, Rooms.few_tellers, RegisterBeside.beside_made, RegisterHolds.{MayHold, holding_slept}, MadePlaces.{holding_placed, placed_in}, RegisterSound.{Makes, MakesAt, grows_last, grows_same, made_at, sound_made}, RegisterStep.may_have}
 use Rattle.exec_parts.specs.declared.parts.mail.Subject.TheVariants as subject
 
@@ -29,7 +29,7 @@ module _ {B L : Type 0} (left : B → L) (runs : L → Plan → Option ℕ → T
   was = polled_here InPoll.Act t w s h.sound refl
 
   was_is : was.slot ≡ h.made.slot
-  was_is = same_thing was.slot h.made.slot (sym was.there ∙ h.made.there)
+  was_is = same_Some was.slot h.made.slot (sym was.there ∙ h.made.there)
 
   pub waits_is : h.made.slot.waiting ≡ Waiting.Nothing
   waits_is = ap (λ (x : TaskSlot B). x.waiting) (sym was_is) ∙ was.waits
@@ -44,7 +44,7 @@ module _ {B L : Type 0} (left : B → L) (runs : L → Plan → Option ℕ → T
   home_is = grind (arith, by_number, was_is, was, guest_pool, nat_tests)
 
   pub home_mine : (j : ℕ) → h.made.slot.home ≡ Some j → j ≡ w.index
-  home_mine j is = elim home_is [ inl own ↦ same_thing j w.index (sym is ∙ own) | inr of_pool ↦ absurd (let no : None ≡ Some j = sym of_pool.0 ∙ is in cc) ]
+  home_mine j is = elim home_is [ inl own ↦ same_Some j w.index (sym is ∙ own) | inr of_pool ↦ absurd (let no : None ≡ Some j = sym of_pool.0 ∙ is in cc) ]
 
   -- and then
   abbrev pub final : TaskSlot B
@@ -187,7 +187,7 @@ module _ {B L : Type 0} (left : B → L) (runs : L → Plan → Option ℕ → T
   sound_sleeps =
       let before : SoundAt (Place.Poll t InPoll.Act) (record w' { place = w.place }) (record s' { tasks = s.tasks }) = sound_made t w (record w' { place = w.place }) s (record s' { tasks = s.tasks }) h.sound makes in
       let it : IsHere InPoll.Act t (record w' { place = w.place }) (record s' { tasks = s.tasks }) = polled_here InPoll.Act t (record w' { place = w.place }) (record s' { tasks = s.tasks }) before refl in
-      let is : it.slot ≡ h.made.slot = same_thing it.slot h.made.slot (sym it.there ∙ h.made.there) in
+      let is : it.slot ≡ h.made.slot = same_Some it.slot h.made.slot (sym it.there ∙ h.made.there) in
       let there : slice_get s'.sleepers.items (length s.sleepers.items) ≡ Some so.made = ap (λ xs. slice_get xs (length s.sleepers.items)) so.sleepers ∙ got_new s.sleepers.items so.made in
       let mine : so.made.shown.worker ≡ w'.index = ap (λ z. z.worker) so.shown ∙ sym (ap (λ (x : Worker). x.index) flat) in
       let to : Dealt InPoll.Pend w'.index h.made.slot (record final { held = so.slot'.held }) s'.requests.items s'.sleepers.items = grind arith in
@@ -211,27 +211,16 @@ module _ {B L : Type 0} (left : B → L) (runs : L → Plan → Option ℕ → T
       let placed : IsHolding hands workers hs ts naps boxes1 = holding_placed hands workers hs ts naps boxes w.index n box at seat.room old in
       let shut : box.shut ≡ false = (h.sound.phased seat.chair seat.there).shut in
       let counted = (old.room w.index box at).made in
-      let may : MayHold workers w.index t hs ts naps boxes1 = record {
-        it = holder_of h.made.slot;
-        there = slice_get-map holder_of s.tasks.items t ∙ ap (option_map holder_of) h.made.there;
-        going = going_on h.made.slot.cell.phase polled_is;
-        waits = ap awaited_in waits_is;
-        near = may_have workers w.index h.made.slot.home home_is;
-        box = placed_in n box;
-        at = set_there boxes w.index (placed_in n box) box at;
-        open_box = shut;
-        fewer = omega (arith, counted);
-      } in
+      let few : count_by (λ (r : Thing). r.worker == w.index) ts + count_by (λ (z : Nap). z.worker == w.index) naps + 1 ≤ (placed_in n box).made = omega (arith, counted) in
+      let may : MayHold workers w.index t hs ts naps boxes1 = search (slice_get-map holder_of s.tasks.items t ∙ ap (option_map holder_of) h.made.there, going_on h.made.slot.cell.phase polled_is, ap awaited_in waits_is, may_have workers w.index h.made.slot.home home_is, set_there boxes w.index (placed_in n box) box at, shut, few) in
       let done = holding_slept hands workers w.index t hs ts naps boxes1 may placed in
       let many : length naps ≡ length s.sleepers.items = length-map s.sleepers.items nap_of in
       let holder : holder_of so.slot' ≡ record (holder_of h.made.slot) { awaits = Some (subject.Timer (length naps)) } =
       ap holder_of slot_is ∙ ap (λ xs. record (holder_of h.made.slot) { held = xs; awaits = Some (subject.Timer (length s.sleepers.items)) }) having_is ∙ ap (λ m. record (holder_of h.made.slot) { awaits = Some (subject.Timer m) }) (sym many) in
       let holders : map holder_of s'.tasks.items ≡ slice_set hs t (record (holder_of h.made.slot) { awaits = Some (subject.Timer (length naps)) }) =
       ap (map holder_of) items_are ∙ map-set holder_of s.tasks.items t so.slot' ∙ ap (slice_set hs t) holder in
-      let nap : nap_of so.made ≡ fresh_nap false false =
-      ap (λ z. seen_as z) so.shown ∙ ap (λ b. fresh_nap b so.made.sent) so.unclosed ∙ ap (fresh_nap false) so.unsent in
-      let beds : map nap_of s'.sleepers.items ≡ naps ++ fresh_nap false false ∷ [] =
-      ap (map nap_of) so.sleepers ∙ map-append nap_of s.sleepers.items (so.made ∷ []) ∙ ap (λ x. naps ++ x ∷ []) nap in
+      let nap : nap_of so.made ≡ fresh_nap false false = ap (λ z. seen_as z) so.shown ∙ ap (λ b. fresh_nap b so.made.sent) so.unclosed ∙ ap (fresh_nap false) so.unsent in
+      let beds : map nap_of s'.sleepers.items ≡ naps ++ fresh_nap false false ∷ [] = ap (map nap_of) so.sleepers ∙ map-append nap_of s.sleepers.items (so.made ∷ []) ∙ ap (λ x. naps ++ x ∷ []) nap in
       let things : map thing_of s'.requests.items ≡ ts = ap (map thing_of) requests_are in
       let seats : map box_of s'.seats.items ≡ boxes1 = ap (map box_of) seat.set ∙ map-set box_of s.seats.items w.index (made_at n seat.chair) in
       let config : s'.config.workers ≡ workers = ap (λ (x : Shared B). x.config.workers) flat_shared in

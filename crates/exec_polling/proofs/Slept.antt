@@ -1,6 +1,5 @@
 -- The act by which a task sleeps is a step.
-use Rattle.std.proofs.{Common.{◌≡◌, ℕ, zero, suc, ◌+◌, List, [], ◌∷◌, ◌++◌, length, map, min, Option, Some, None, refl, sym, ap, subst, ◌∙◌, slice_set}, lemmas.{Bool.eq-eqb, List.{append-nil, length-map, map-append, map-set}}}
-use Rattle.std.proofs.Common.{arith}
+use Rattle.std.proofs.{Common.{◌≡◌, ℕ, zero, suc, ◌+◌, List, [], ◌∷◌, ◌++◌, length, map, min, Option, Some, None, refl, sym, ap, subst, ◌∙◌, slice_set, arith}, lemmas.{Bool.eq-eqb, List.{append-nil, length-map, map-append, map-set}}}
 use Rattle.exec_base.specs.declared.limits.TheConstants.{LONGEST_TIMEOUT}
 use Rattle.exec_task.specs.{Sight.Sight, declared.body.{Act.Act, Said.Said}}
 use Rattle.exec_machine.specs.{Deadlines.new_sleeper, declared.{event.Event.{Event, TheVariants.Timer}, state.Waiting.Waiting}, Progress.Plan, Words.{moved_on}, World.{Task, task_of}}

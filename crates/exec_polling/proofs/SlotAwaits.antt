@@ -3,7 +3,7 @@ use Rattle.std.proofs.{Common.{◌≡◌, ◌≢◌, ℕ, suc, ◌+◌, ◌==◌
 use Rattle.exec_base.specs.{Slab.{Slab, is_live, value_at, written}, declared.slab.{Id.Id, Slot.{Slot, TheVariants.{Live, Vacant, Retired}}}}
 use Rattle.exec_waiters.{specs.{Events.with_observer, States.waiter_at, declared.{observer.Observer.TheVariants.Orphaned, waiter.{Entry.{Entry, TheVariants.Pending}, Waiter.Waiter}}}, proofs.Changes.entry_of}
 use Rattle.exec_moves.specs.{declared.place.Place.Place, Slots.numbers_in, Told.has_number}
-use Rattle.exec_parts.{specs.{declared.parts.{mail.Reply.Reply, shared.Shared.Shared, worker.Worker.Worker}, Records.number_in, View.{awaited_from, awaits_entry, driver_of, is_awaited, slots_from, slots_seen}}, proofs.Facts.{by_number, not_same, same_thing, set_elsewhere, set_there}}
+use Rattle.exec_parts.{specs.{declared.parts.{mail.Reply.Reply, shared.Shared.Shared, worker.Worker.Worker}, Records.number_in, View.{awaited_from, awaits_entry, driver_of, is_awaited, slots_from, slots_seen}}, proofs.Facts.{by_number, not_same, same_Some, set_elsewhere, set_there}}
 use Rattle.exec_invariants.{specs.Sound.SoundAt, proofs.{HeldCounts.slots_set, LetSlots.{slot_here, slot_here_is, value_live}, Slotted.{awaited_over, live_at}}}
 
 -- what passes a test, where that passes who is awaited
@@ -25,9 +25,7 @@ by_test P k numbers (x ∷ xs) h =
         ap (λ c. if c then m ∷ awaited_from (suc k) numbers xs else awaited_from (suc k) numbers xs) (sym here)
         ∙ ap (λ ys. cond (P m) (m ∷ ys) ys) rest
         ∙ ap (λ c. filter P (numbers_in ((if c then Some m else None) ∷ slots_from (suc k) numbers xs))) (sym live)
-    by false dead rest =
-        ap (λ c. if c then slice_index_or numbers k 0 ∷ awaited_from (suc k) numbers xs else awaited_from (suc k) numbers xs) (dead_unawaited x dead)
-        ∙ rest ∙ ap (λ c. filter P (numbers_in ((if c then Some (slice_index_or numbers k 0) else None) ∷ slots_from (suc k) numbers xs))) (sym dead)
+    by false dead rest = grind (arith, dead_unawaited x dead, rest, dead)
 
 module _ {B : Type 0} (q : Place) (w : Worker) (s : Shared B) (sound : SoundAt q w s) (id : Id) (it now : Waiter Reply Reply) (live : waiter_at (driver_of w).requests id ≡ Some it) where
   abbrev n : List ℕ
@@ -60,7 +58,7 @@ module _ {B : Type 0} (q : Place) (w : Worker) (s : Shared B) (sound : SoundAt q
 
   own_test : (j : ℕ) (x : Slot (Entry Reply Reply)) → awaits_entry (Pending now) ≡ true → j ≡ id.index → slice_get ys j ≡ Some x → P (slice_index_or n j 0) ≡ is_awaited x
   own_test j x awaits same at =
-      let is : Live id.generation (Pending now) ≡ x = same_thing (Live id.generation (Pending now)) x (sym (set_there slab.slots id.index (Live id.generation (Pending now)) (Live id.generation (Pending it)) at_id) ∙ ap (slice_get ys) (sym same) ∙ at) in
+      let is : Live id.generation (Pending now) ≡ x = same_Some (Live id.generation (Pending now)) x (sym (set_there slab.slots id.index (Live id.generation (Pending now)) (Live id.generation (Pending it)) at_id) ∙ ap (slice_get ys) (sym same) ∙ at) in
       ap (λ i. P (slice_index_or n i 0)) same ∙ ap (λ b. b || has_number (number_in n id) (awaited_from 0 n slab.slots)) (eq-eqb (number_in n id) (number_in n id) refl) ∙ sym awaits ∙ ap is_awaited is
 
   pub awaited_more : awaits_entry (Pending now) ≡ true

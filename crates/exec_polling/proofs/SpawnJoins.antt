@@ -1,10 +1,10 @@
 -- A new task joins: what holds of all tasks, of the task set and of the balances then, whoever made it.
 use Rattle.std.{proofs.{Common.{◌≡◌, ◌⊎◌, inl, inr, ℕ, zero, suc, ◌+◌, ◌<◌, ◌≤◌, ◌^◌, ◌==◌, ◌||◌, ◌&&◌, ◌%◌, ◌≢◌, sum_by, arith, Bool, true, false, not, cond, List, [], ◌∷◌, ◌++◌, length, map, Some, None, IsSome, refl, sym, ap, subst, ◌∙◌, slice_get, option_to_list, ⊎_elim}, lemmas.{Bool.{false≢true, eq-eqb}, List.{length-append, length-set, map-append}, Option.slice_get_within}}, specs.List.range_with_len}
-use Rattle.exec_words.specs.{Idle.is_in, Queue.tail_of}
+use Rattle.exec_words.specs.{Idle.is_in}
 use Rattle.exec_task.specs.{Phases.{is_polled, runnable_of}, TaskSet.{AreAtHome, held, inserted, shard_at, with_task}, declared.{runnable.Runnable.Runnable, task.Phase.Phase}}
-use Rattle.exec_parts.{specs.{Records.numbers_held, declared.parts.{held.Held.Held, shared.Shared.Shared, task_slot.TaskSlot.TaskSlot}, Phased.is_complete, Pooled.IsNewTask}, proofs.Facts.{by_number, not_same, same_thing}}
-use Rattle.exec_invariants.{specs.{Drained.{Duties, IsBefore, IsHeldOnce, IsPool, in_set}, Gates.HaveGates, Holding.{Box, Hands, IsHolding, Nap, Thing, awaited_in, box_of, holder_of, nap_of, thing_of}, Places.one_if, Sound.{AreHome, AreResting, IsResting, acts_next}, Spares.Spares, Whole.{HasOne, IsGenuine, IsWhole, Profile, duties_of, hands_of, may_let_go, runnables_in, stock}}, proofs.{Aside.{record_spared, sleeper_spared, spared}, Onces.once_queued, Polling.{in_hand_never, in_hand_once}, PoolShards.home_set, Spared.{records_endure, sleepers_endure}}}
-use Rattle.exec_polling.proofs.{HoldJoined.holding_joined, SpawnLists.{found_again, found_last, found_which}, SpawnSets.{absent, joined_count, joined_shards, last_none, within}}
+use Rattle.exec_parts.{specs.{Records.numbers_held, declared.parts.{held.Held.Held, shared.Shared.Shared, task_slot.TaskSlot.TaskSlot}, Phased.is_complete, Pooled.IsNewTask}, proofs.Facts.{by_number, not_same}}
+use Rattle.exec_invariants.{specs.{Drained.{Duties, IsHeldOnce, IsPool, in_set}, Gates.HaveGates, Holding.{Box, Hands, IsHolding, Nap, Thing, awaited_in, box_of, holder_of, nap_of, thing_of}, Places.one_if, Sound.{AreHome, AreResting, IsResting, acts_next}, Spares.{Spares, SparesPolled}, Whole.{HasOne, IsGenuine, IsWhole, Profile, duties_of, hands_of, may_let_go, runnables_in, stock}}, proofs.{Onces.once_queued, Polling.{in_hand_never, in_hand_once}, PoolShards.home_set}}
+use Rattle.exec_polling.proofs.{HoldJoined.holding_joined, Outsiders.spares_self, SpawnLists.{found_again, found_last, found_which}, SpawnSets.{absent, joined_count, joined_shards, last_none, within}}
 
 -- THE BALANCES: a party has one more runnable, that of the new task
 
@@ -58,25 +58,13 @@ module _ {B : Type 0} where
           many = homes.many;
           roots = omega (arith, homes.roots, more);
           home = λ k o found within.
-              elim (which k o found) as (λ z. o.home ≡ Some k) [
-                | inl old ↦ homes.home k o old within
-                | inr new ↦ absurd (omega (arith, homes.roots, new.0, within))
-              ];
+              elim (which k o found) [ inl old ↦ homes.home k o old within | inr new ↦ absurd (omega (arith, homes.roots, new.0, within)) ];
           dedicated = λ k j o found past rooted.
-              elim (which k o found) as (λ z. (n ≤ j) × (j < count)) [
-                | inl old ↦ homes.dedicated k j o old past rooted
-                | inr new ↦ absurd (nobodys o j new.1 rooted)
-              ];
+              elim (which k o found) [ inl old ↦ homes.dedicated k j o old past rooted | inr new ↦ absurd (nobodys o j new.1 rooted) ];
           once = λ k l j o other found found' rooted rooted'.
-              elim (which k o found) as (λ z. k ≡ l) [
-                | inl old ↦ elim (which l other found') as (λ z. k ≡ l) [
-                  | inl old' ↦ homes.once k l j o other old old' rooted rooted'
-                  | inr new ↦ absurd (nobodys other j new.1 rooted')
-                ]
-                | inr new ↦ absurd (nobodys o j new.1 rooted)
-              ];
+              elim (which k o found) [ inl old ↦ elim (which l other found') [ inl old' ↦ homes.once k l j o other old old' rooted rooted' | inr new ↦ absurd (nobodys other j new.1 rooted') ] | inr new ↦ absurd (nobodys o j new.1 rooted) ];
           number = λ k o found.
-              elim (which k o found) as (λ z. o.cell.number ≡ record { 0 = k }) [
+              elim (which k o found) [
                 | inl old ↦ homes.number k o old
                 | inr new ↦
                     sym (ap (λ (y : TaskSlot B). y.cell.number) new.1) ∙ ap (λ c. c.number) it.fresh.cell ∙ ap (λ m. record { 0 = m }) (it.number ∙ sym new.0)
@@ -97,11 +85,7 @@ module _ {B : Type 0} where
         }
 
     pub resting_joined : AreResting s.tasks.items → AreResting s'.tasks.items
-    resting_joined old k o found ordinary free =
-        elim (which k o found) as (λ z. IsResting o) [
-          | inl was ↦ old k o was ordinary free
-          | inr new ↦ subst IsResting new.1 rests
-        ]
+    resting_joined old k o found ordinary free = elim (which k o found) [ inl was ↦ old k o was ordinary free | inr new ↦ subst IsResting new.1 rests ]
 
     -- it holds nothing, and waits for nothing
     pub holder_new : map holder_of s'.tasks.items ≡ map holder_of s.tasks.items ++ holder_of it.new ∷ []
@@ -134,33 +118,13 @@ module _ {B : Type 0} where
     pub spares_joined : (j : ℕ) → Spares j s s'
     spares_joined j =
         let s1 : Shared B = record s { tasks = s'.tasks; set = s'.set; global = record s.global { places = s'.global.places } } in
-        let done : Spares j s s1 = record {
-          config = refl;
-          clock = refl;
-          gates = λ h. h;
-          hints = λ file h. h;
-          many = refl;
-          chair = λ chair found. (chair, found, spared chair);
-          tails = λ k chair chair' found found'.
-              let same : chair ≡ chair' = same_thing chair chair' (sym found ∙ found') in
-              subst (λ c. tail_of chair.queue ≤ tail_of c.queue) same (omega arith);
-          records = λ k x found mine. (x, found, record_spared x);
-          records_only = λ k x found mine. (x, found, record_spared x);
-          sleepers = λ k z found mine. (z, found, sleeper_spared z);
-          sleepers_only = λ k z found mine. (z, found, sleeper_spared z);
-          endure = records_endure s.requests.items s.requests.items refl;
-          endure_too = sleepers_endure s.sleepers.items s.sleepers.items refl;
-          root = λ t o found rooted. again t o found;
-          polled = λ t o found polled mine. (o, again t o found, record { polled = polled; number = refl; cancelled = λ e. e; kept = refl });
-          room = λ h. h;
-          stretch = λ file offset n h. h;
-          stopped = λ h. h;
-          closed = λ h. closed_same ∙ h;
-          by_zero = λ h. (refl, closed_same);
-          shards = shards_same;
-          emptied = λ shut. absurd (false≢true (sym it.unclosed ∙ shut));
-          genuine = genuine_joined;
-        } in
+        let root : (t : ℕ) (o : TaskSlot B) → slice_get s.tasks.items t ≡ Some o → o.home ≡ Some j → slice_get s'.tasks.items t ≡ Some o = λ t o found rooted. again t o found in
+        let polled : (t : ℕ) (o : TaskSlot B) → slice_get s.tasks.items t ≡ Some o → is_polled o.cell.phase ≡ true → o.poller ≡ j → (o' : TaskSlot B) × (slice_get s'.tasks.items t ≡ Some o') × SparesPolled o o' = λ t o found polled mine.
+        (o, again t o found, record { polled = polled; number = refl; cancelled = λ e. e; kept = refl }) in
+        let shut : s.set.closed ≡ true → s'.set.closed ≡ true = λ h. closed_same ∙ h in
+        let by_zero : j ≡ 0 → (s.stopped ≡ s.stopped) × (s'.set.closed ≡ s.set.closed) = λ h. (refl, closed_same) in
+        let emptied : s.set.closed ≡ true → (k : ℕ) → shard_at s.set k ≡ [] → shard_at s'.set k ≡ [] = λ shut. absurd (false≢true (sym it.unclosed ∙ shut)) in
+        let done : Spares j s s1 = assumption (root, polled, shut, by_zero, shards_same, emptied, genuine_joined, spares_self j s) in
         subst (λ z. Spares j s z) (sym it.kept) done
 
   abbrev claimed_by : Shared B → (ℕ → Bool) → ℕ
@@ -177,8 +141,7 @@ module _ {B : Type 0} where
 
     -- how often a number stands in the set
     counted : (d : Duties) → IsPool d s.tasks.items s.set s.seats.items → (t : ℕ) → in_set t s'.set ≡ in_set t s.set + cond (number == t) 1 0
-    counted d pool t =
-        ap (in_set t) it.set ∙ ap (λ k. in_set t (inserted s.set k tt)) (ap (λ n. record { 0 = n }) it.number) ∙ joined_count t number tt s.set it.shards (below d pool)
+    counted d pool t = ap (in_set t) it.set ∙ ap (λ k. in_set t (inserted s.set k tt)) (ap (λ n. record { 0 = n }) it.number) ∙ joined_count t number tt s.set it.shards (below d pool)
 
     counted_old : (d : Duties) → IsPool d s.tasks.items s.set s.seats.items → (t : ℕ) → t < number → in_set t s'.set ≡ in_set t s.set
     counted_old d pool t few =
@@ -209,7 +172,7 @@ module _ {B : Type 0} where
     pool_joined d pool =
         record {
           live = λ t o found ordinary.
-              elim (which body r s s' it t o found) as (λ z. IsHeldOnce o (d.clears t + in_set t s'.set)) [
+              elim (which body r s s' it t o found) [
                 | inl old ↦ subst (λ n. IsHeldOnce o (d.clears t + n)) (sym (counted_old d pool t (slice_get_within s.tasks.items t o old))) (pool.live t o old ordinary)
                 | inr new ↦
                     let one : d.clears t + in_set t s'.set ≡ 1 = ap (λ k. d.clears k + in_set k s'.set) new.0 ∙ counted_new d pool in
@@ -226,13 +189,13 @@ module _ {B : Type 0} where
               (old.0, again body r s s' it t old.0 old.1, old.2))
               (λ is. (it.new, ap (slice_get s'.tasks.items) (sym is ∙ sym it.number) ∙ there body r s s' it, home body r s s' it));
           who_polls = λ t o found ordinary polled.
-              elim (which body r s s' it t o found) as (λ z. IsBefore o.poller s.seats.items × (d.polled_by o.poller ≡ Some t)) [
+              elim (which body r s s' it t o found) [
                 | inl old ↦ pool.who_polls t o old ordinary polled
                 | inr new ↦ absurd (false≢true (sym (ap (λ (y : TaskSlot B). is_polled y.cell.phase) (sym new.1) ∙ ap is_polled (queued body r s s' it)) ∙ polled))
               ];
           who_clears = λ t some. absurd (false≢true (sym it.unclosed ∙ (pool.who_clears t some).3));
           clear_shut = λ t o found ordinary cleared.
-              elim (which body r s s' it t o found) as (λ z. s'.set.closed ≡ true) [
+              elim (which body r s s' it t o found) [
                 | inl old ↦ closed_same body r s s' it ∙ pool.clear_shut t o old ordinary cleared
                 | inr new ↦
                     let uncleared : o.cleared ≡ false = ap (λ (y : TaskSlot B). y.cleared) (sym new.1) ∙ ap (λ (y : TaskSlot B). y.cleared) it.fresh.rest in
@@ -263,7 +226,7 @@ module _ {B : Type 0} where
         let gone : may_let_go s1 ≡ may_let_go s = gone_same s.global.closed in
         let done : IsWhole y s1 = record {
           runnables = λ t o found ordinary.
-              elim (which body r s s' it t o found) as (λ z. HasOne (may_let_go s1) o.cell.phase (y.runnables t + stock t s1)) [
+              elim (which body r s s' it t o found) [
                 | inl old ↦
                     let apart : t ≢ number = λ is. absurd (omega (arith, is, slice_get_within s.tasks.items t o old)) in
                     subst (λ b. HasOne b o.cell.phase (y.runnables t + stock t s)) (sym gone) (subst (λ n. HasOne (may_let_go s) o.cell.phase (n + stock t s)) (sym (far t apart)) (whole.runnables t o old ordinary))
@@ -272,7 +235,7 @@ module _ {B : Type 0} where
                     subst (λ p. HasOne (may_let_go s1) p (y.runnables t + stock t s)) (sym (queued body r s s' it) ∙ ap (λ (z : TaskSlot B). z.cell.phase) new.1) (once_queued (may_let_go s1) (y.runnables t + stock t s) now)
               ];
           polls = λ t o found ordinary.
-              elim (which body r s s' it t o found) as (λ z. y.polls t ≡ one_if (is_polled o.cell.phase)) [
+              elim (which body r s s' it t o found) [
                 | inl old ↦ ap (λ f. f t) one.polls ∙ whole.polls t o old ordinary
                 | inr new ↦
                     ap (λ f. f t) one.polls ∙ ap x.polls new.0 ∙ none.1
@@ -301,5 +264,4 @@ module _ {B : Type 0} where
 
   -- a number that no task has stands nowhere in the set
   pub none_yet : (d : Duties) (s : Shared B) → 0 < length s.set.shards → IsPool d s.tasks.items s.set s.seats.items → held s.set (record { 0 = length s.tasks.items }) ≡ None
-  none_yet d s some pool =
-      absent (length s.tasks.items) s.set some (λ t has. let old = pool.only t (omega (arith, has)) in slice_get_within s.tasks.items t old.0 old.1)
+  none_yet d s some pool = absent (length s.tasks.items) s.set some (λ t has. let old = pool.only t (omega (arith, has)) in slice_get_within s.tasks.items t old.0 old.1)

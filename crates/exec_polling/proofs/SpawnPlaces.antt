@@ -1,10 +1,9 @@
 -- Where a task's spawn of another one leads, and what holds then.
-use Rattle.std.proofs.lemmas.Bool.{false≢true}
-use Rattle.std.proofs.Common.{[], ◌≡◌, ℕ, ◌+◌, arith, Bool, true, false, List, ◌∷◌, ◌++◌, length, Option, Some, None, refl, sym, ap, subst, ◌∙◌, slice_get, option_to_list, if◌then◌else◌}
+use Rattle.std.proofs.{lemmas.Bool.false≢true, Common.{[], ◌≡◌, ℕ, ◌+◌, arith, Bool, true, false, List, ◌∷◌, ◌++◌, length, Option, Some, None, refl, sym, ap, subst, ◌∙◌, slice_get, option_to_list, if◌then◌else◌}}
 use Rattle.exec_task.specs.{TaskSet.Set, declared.{runnable.Runnable.Runnable}}
 use Rattle.exec_machine.specs.{declared.config.Configuration.Configuration, World.Common}
 use Rattle.exec_moves.specs.{Callback.is_of_pool, Parts.has_others, Pop.shard_count, Seen.polls_at, Send.after_spawn, declared.{handing.{AfterPush.AfterPush, InGlobal.InGlobal, InPush.InPush}, place.{InPoll.InPoll, Place.Place}}}
-use Rattle.exec_parts.{specs.{declared.parts.{record.Record.Record, seat.Seat.Seat as Chair, shared.Shared.Shared, sleeping.SleeperRecord.SleeperRecord, task_slot.TaskSlot.TaskSlot, worker.Worker.Worker}, Phased.{IsPhased, closes_at, closing_in, stage_of}, View.own_of}, proofs.Facts.same_thing}
+use Rattle.exec_parts.{specs.{declared.parts.{record.Record.Record, seat.Seat.Seat as Chair, shared.Shared.Shared, sleeping.SleeperRecord.SleeperRecord, task_slot.TaskSlot.TaskSlot, worker.Worker.Worker}, Phased.{IsPhased, closes_at, closing_in, has_stopped, stage_of}, View.own_of}, proofs.Facts.same_Some}
 use Rattle.exec_invariants.{specs.{Places.{hands_on_at, is_pooled_at, polled_in, step_of_poll}, Sound.{HasGuest, IsInHand, Serves, SoundAt, Stands, Stops}, Whole.{IsGenuine, Profile, runnables_in, with_worker}, Works.Beside}, proofs.{Acting.me_at, SlotTasks.{IsAfter, Tasked, sound_tasked}, Stirs.only}}
 use Rattle.exec_polling.proofs.{SpawnJoins.{HasOneMore, Joins, genuine_new, homes_joined, resting_joined, shards_same, spares_joined, whole_joined}, SpawnLists.found_again}
 
@@ -38,10 +37,7 @@ module _ {B : Type 0} where
   guest_by : (t : ℕ) (pool others : Bool) (i root : ℕ) (tasks : List (TaskSlot B)) → HasGuest (Some t) InPoll.Act i root tasks → HasGuest (polls_at (next_by t pool others)) (step_of_poll (next_by t pool others)) i root tasks
   guest_by t true false i root tasks guest = guest
   guest_by t false others i root tasks guest = guest
-  guest_by t true true i root tasks guest = λ apart.
-      let it = guest apart in
-      let old = it.2 in
-      (it.0, it.1, record { ordinary = old.ordinary; polled = old.polled; body = old.body; poller = old.poller; cancelled = old.cancelled; told = old.told; untold = old.untold; there = old.there })
+  guest_by t true true i root tasks guest = λ apart. let it = guest apart in (it.0, it.1, assumption it.2)
 
   stops_by : (t : ℕ) (pool others : Bool) (i : ℕ) (tasks : List (TaskSlot B)) (rs : List Record) (ss : List SleeperRecord) → Stops (polls_at (next_by t pool others)) (step_of_poll (next_by t pool others)) i tasks rs ss
   stops_by = grind arith
@@ -58,19 +54,9 @@ module _ {B : Type 0} where
       let t : Shared B = record s { set = set; global = record s.global { places = places } } in
       let phased : (chair : Chair) → slice_get s.seats.items w.index ≡ Some chair → IsPhased w.index (closes_at q) (closing_in q) w.home.closing w.root w.names.unreleased (stage_of chair t) s.tasks.items = λ chair there.
       let old = subst (λ y. IsPhased w.index (closes_at q) y w.home.closing w.root w.names.unreleased (stage_of chair s) s.tasks.items) open_still (sound.phased chair there) in
-      subst (λ y. IsPhased w.index (closes_at q) y w.home.closing w.root w.names.unreleased (stage_of chair t) s.tasks.items) (sym open_still)
-      (record {
-        told = old.told;
-        opened = old.opened;
-        ended = old.ended;
-        root = old.root;
-        left = old.left;
-        shut = old.shut;
-        by_zero = λ zero. let it = old.by_zero zero in (it.0, closed ∙ it.1);
-        by_other = old.by_other;
-        closed = λ h. closed ∙ old.closed h;
-        prepared = tt;
-      }) in
+      let by_zero : w.index ≡ 0 → (s.stopped ≡ has_stopped (closes_at q) None) × (set.closed ≡ closes_at q) = λ zero. let it = old.by_zero zero in (it.0, closed ∙ it.1) in
+      let shut : s.stopped ≡ true → set.closed ≡ true = λ h. closed ∙ old.closed h in
+      subst (λ y. IsPhased w.index (closes_at q) y w.home.closing w.root w.names.unreleased (stage_of chair t) s.tasks.items) (sym open_still) (assumption (by_zero, shut, tt, old)) in
       let shards : length set.shards ≡ shard_count s.config = many ∙ sound.shards in
       assumption (phased, shards, sound)
 
@@ -85,7 +71,7 @@ module _ {B : Type 0} where
     tasked =
         let run = sound.runnable in
         let back : (k : ℕ) (o : TaskSlot B) → slice_get s.tasks.items k ≡ Some o → slice_get s'.tasks.items k ≡ Some o = λ k o found. ap (λ xs. slice_get xs k) it.items ∙ found_again s.tasks.items (it.new ∷ []) k o found in
-        let root : (o : TaskSlot B) → slice_get s'.tasks.items w.root ≡ Some o → slice_get s.tasks.items w.root ≡ Some o = λ o found. run.there ∙ ap (λ (y : TaskSlot B). Some y) (same_thing run.root o (sym (back w.root run.root run.there) ∙ found)) in
+        let root : (o : TaskSlot B) → slice_get s'.tasks.items w.root ≡ Some o → slice_get s.tasks.items w.root ≡ Some o = λ o found. run.there ∙ ap (λ (y : TaskSlot B). Some y) (same_Some run.root o (sym (back w.root run.root run.there) ∙ found)) in
         record {
           pooled = λ is. absurd (false≢true (sym (unpooled_by t pool others) ∙ is));
           serves = subst (λ o. Serves o w.root w.role) (sym (polls_by t pool others)) sound.serves;

@@ -1,6 +1,5 @@
 -- A task of a number above all others joins the task set: it stands last in its shard.
-use Rattle.std.{proofs.{Common.{◌≡◌, ◌≢◌, ℕ, zero, suc, ◌+◌, ◌%◌, ◌<◌, ◌==◌, arith, true, false, cond, List, [], ◌∷◌, ◌++◌, length, map, count_by, sum_by, Some, None, refl, ap, ◌∙◌, slice_index_or, slice_set}, lemmas.{Bool.{eq-eqb}, List.{map-set, Sums.{get_or-le-sum_by, sum_by-append, sum_by-cons, sum_by-set}}}}, specs.{Ordering.nat_cmp, Map.lookup, BTreeMap.{insert_entry, is_at}}}
-use Rattle.std.specs.declared.cmp.Ordering.{Ordering}
+use Rattle.std.{proofs.{Common.{◌≡◌, ◌≢◌, ℕ, zero, suc, ◌+◌, ◌%◌, ◌<◌, ◌==◌, arith, true, false, cond, List, [], ◌∷◌, ◌++◌, length, map, count_by, sum_by, Some, None, refl, ap, ◌∙◌, slice_index_or, slice_set}, lemmas.{Bool.eq-eqb, List.{map-set, Sums.{get_or-le-sum_by, sum_by-append, sum_by-cons, sum_by-set}}}}, specs.{Ordering.nat_cmp, Map.lookup, BTreeMap.{insert_entry, is_at}, declared.cmp.Ordering.Ordering}}
 use Rattle.exec_task.specs.TaskSet.{Set, held, inserted, shard_at}
 
 greater : (n k : ℕ) → k < n → nat_cmp n k ≡ Ordering.Greater

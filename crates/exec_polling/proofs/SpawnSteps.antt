@@ -4,9 +4,9 @@ use Rattle.exec_base.specs.declared.{error.Error.Error, task_no.TaskNo.TaskNo}
 use Rattle.exec_task.specs.{Phases.is_polled, Sight.Sight, TaskSet.{held, inserted}, declared.{body.{Act.Act, Said.Said}, runnable.Runnable.Runnable}}
 use Rattle.exec_machine.specs.{Choice.Choice.Plain, declared.{config.{Configuration.Configuration, ScriptWord.ScriptWord}, event.Event.Event, state.{Code.TheVariants.Script, Waiting.Waiting}}, Mail.meets_closed, Progress.Plan, Tasks.{after_spawn as after_spawn_by, after_word, new_task}, Words.{asks_spawn, moved_on, next_word}, World.{Common, Own, task_of}}
 use Rattle.exec_moves.specs.{Cells.shard_of, Move.move_act, Parts.has_others, Pop.shard_count, Send.{after_spawn, next_task}, State.{Desk, Things}, Thing.set_shard, declared.place.{InPoll.InPoll, Place.Place}}
-use Rattle.exec_parts.{specs.{Records.numbers_held, Roles.is_pool, declared.parts.{shared.Shared.Shared, task_slot.TaskSlot.TaskSlot, worker.Worker.Worker}, Pooled.{IsNewTask, MakesTask, Spawns, SpawnsNone, event_of_made, told_of_made, with_made}, Scripts.{Begins, GoesOn, IsAnswer, IsAnswered, IsBorn, IsNamed, held_after}, Spots.{Spot, spot_of}, View.{Views, common_of, desk_of, task_seen, things_with, visible, with_view}, Things.TurnsSlot}, proofs.Facts.{by_not, by_not_not, same_thing, set_there}}
+use Rattle.exec_parts.{specs.{Records.numbers_held, Roles.is_pool, declared.parts.{shared.Shared.Shared, task_slot.TaskSlot.TaskSlot, worker.Worker.Worker}, Pooled.{IsNewTask, MakesTask, Spawns, SpawnsNone, event_of_made, told_of_made, with_made}, Scripts.{Begins, GoesOn, IsAnswer, IsAnswered, IsBorn, IsNamed, held_after}, Spots.{Spot, spot_of}, View.{Views, common_of, desk_of, task_seen, things_with, visible, with_view}, Things.TurnsSlot}, proofs.Facts.{not-true, not-false, same_Some, set_there}}
 use Rattle.exec_invariants.{specs.{Acting.{ActsAs, HasActed, Performs, PerformsAll, StepsOf}, Drained.in_set, Sound.SoundAt, Whole.{HasWhole, duties_of, with_worker}, Works.{Beside, Same, Suits, Works}}, proofs.{Acting.{Leaves, act_leaves, acted, actor, acts_so, by_word, me_at, moved_seen, tells_on}, Performing.{same_slot, still_performs, unmoved_seen}, PopLeads.some_shards, Slots.{IsEvent, task_there}, Turning.view_found, DedicatedSeen.pool_seen}}
-use Rattle.exec_polling.proofs.{SpawnJoins.{Joins, none_yet}, SpawnLists.{found_again, found_which, set_within}, SpawnSets.{joined_seen, shard_shown}, WakeThere.spares_on, SpawnPlaces.{next_by, own_by, joined_sound, joined_beside, spawn_leads}}
+use Rattle.exec_polling.proofs.{SpawnJoins.{Joins, none_yet}, SpawnLists.{found_again, found_which, set_within}, SpawnSets.{joined_seen, shard_shown}, Stirred.spares_on, SpawnPlaces.{next_by, own_by, joined_sound, joined_beside, spawn_leads}}
 
 -- WHAT IT IS TO THE MACHINE
 
@@ -52,8 +52,7 @@ module _ {B L : Type 0} (left : B → L) (spot : L → Option Said → Spot) whe
         let at_t : task_of all t ≡ seen slot = task_there left spot s.tasks.items t slot there in
         let old : map seen m.tasks.items ≡ slice_set all.tasks t (moved_on all (task_of all t)) =
         ap (map seen) items ∙ map-set seen s.tasks.items t mid ∙ ap (slice_set all.tasks t) (sym moved) ∙ ap (λ y. slice_set all.tasks t (moved_on all y)) (sym at_t) in
-        let new : map seen s'.tasks.items ≡ slice_set all.tasks t (moved_on all (task_of all t)) ++ new_task (Script k) None ∷ [] =
-        tasks_seen body r k m s' it begins ∙ ap (λ ts. ts ++ new_task (Script k) None ∷ []) old in
+        let new : map seen s'.tasks.items ≡ slice_set all.tasks t (moved_on all (task_of all t)) ++ new_task (Script k) None ∷ [] = tasks_seen body r k m s' it begins ∙ ap (λ ts. ts ++ new_task (Script k) None ∷ []) old in
         let shut : s'.set.closed ≡ s.set.closed = ap (λ z. z.closed) it.set ∙ ap (λ (x : Shared B). x.set.closed) kept in
         ap (common_of left spot p vs) (it.kept ∙ ap (λ (x : Shared B). record x { tasks = s'.tasks; set = s'.set; global = record x.global { places = s'.global.places } }) kept)
         ∙ ap (λ ts. record all { tasks = ts; set_closed = s'.set.closed }) new
@@ -77,13 +76,7 @@ module _ {B L : Type 0} (left : B → L) (spot : L → Option Said → Spot) whe
         ∙ ap (λ (y : Things). let n = shard_of p.config r.task.0 in set_shard n y (slice_index_or y.shards n [] ++ r.task.0 ∷ [])) things_same in
         subst (λ v. Works left spot p vs v s (Event.Spawn r.task.0 name) w1 s') (ap (λ y. record w { place = y }) (sym here)) (record {
           choice = Plain;
-          moves = by_word left spot t p all w s vs slot (ScriptWord.Spawn k) at_t word
-              ∙ open_move p.config w.index (me_at t w) all d x t k unclosed
-              ∙ ap (λ j. let n = shard_of p.config j in record { event = Event.Spawn j k; choice = Plain; desk = record d { hand = Some j; place = after_spawn p.config w.index all t }; thing = set_shard n x (slice_index_or x.shards n [] ++ j ∷ []) }) count
-              ∙ ap (λ y. record { event = Event.Spawn r.task.0 k; choice = Plain; desk = record d { hand = Some r.task.0; place = after_spawn p.config w.index all t }; thing = y }) (sym shown)
-              ∙ ap (λ y. record { event = Event.Spawn r.task.0 k; choice = Plain; desk = record d { hand = Some r.task.0; place = y }; thing = things_with vs s' }) to
-              ∙ ap (λ j. record { event = Event.Spawn r.task.0 j; choice = Plain; desk = desk_of w1; thing = things_with vs s' }) (sym named)
-              ∙ ap (λ v. record { event = Event.Spawn r.task.0 name; choice = Plain; desk = desk_of w1; thing = things_with v s' }) (sym again);
+          moves = grind (arith, by_word left spot t p all w s vs slot (ScriptWord.Spawn k) at_t word, open_move p.config w.index (me_at t w) all d x t k unclosed, count, shown, to, named, again);
           may = (
             acts_so left spot t all w slot (asks_spawn name) at_t waits (ap (asks_spawn name) word ∙ eq-eqb name k named),
             (eq-eqb r.task.0 (length all.tasks) (sym count), (ap not unclosed, tt)),
@@ -101,10 +94,7 @@ module _ {B L : Type 0} (left : B → L) (runs : L → Plan → Option ℕ → T
 
   pub performs_joined : (p : Plan) (k : ℕ) (body : B) (r : Runnable) (s s' : Shared B) → Joins body r s s' → IsBorn runs holds spot p k (left body) → PerformsAll left runs holds p s → PerformsAll left runs holds p s'
   performs_joined p k body r s s' it born fits n o found =
-      elim (found_which s.tasks.items it.new o n (ap (λ xs. slice_get xs n) (sym it.items) ∙ found)) as (λ z. Performs left runs holds p o) [
-        | inl old ↦ fits n o old
-        | inr new ↦ subst (Performs left runs holds p) new.1 (performs_new p k body r.task it.new it.fresh born)
-      ]
+      elim (found_which s.tasks.items it.new o n (ap (λ xs. slice_get xs n) (sym it.items) ∙ found)) [ inl old ↦ fits n o old | inr new ↦ subst (Performs left runs holds p) new.1 (performs_new p k body r.task it.new it.fresh born) ]
 
 module _ {B L : Type 0} (left : B → L) (runs : L → Plan → Option ℕ → Type 0) (holds : L → Option Said → List ℕ) (spot : L → Option Said → Spot) (gives : L → Option Sight → Said → Act B → L → Option Sight → Type 0) where
   -- a task goes on that was told so of the one that it wanted
@@ -133,14 +123,7 @@ module _ {B L : Type 0} (left : B → L) (runs : L → Plan → Option ℕ → T
       only_told = record s { tasks = with_item s.tasks t mid }
 
       turns : TurnsSlot t s1 only_told (λ o. record o { told = Some (Said.Spawned r.task) })
-      turns =
-          record {
-            kept = sym (ap (λ (x : Shared B). record x { tasks = with_item s.tasks t mid }) h.made.kept);
-            tasks = λ o found.
-                let is : o ≡ record slot { body = Some b'; told = None } = same_thing o h.made.slot' (sym found ∙ acted_there) ∙ h.made.acts.slot in
-                sym (set-set s.tasks.items t h.made.slot' mid) ∙ ap (λ ts. slice_set ts t mid) (sym h.made.tasks)
-                ∙ ap (λ (y : TaskSlot B). slice_set s1.tasks.items t (record y { told = Some (Said.Spawned r.task) })) (sym is);
-          }
+      turns = record { kept = sym (ap (λ (x : Shared B). record x { tasks = with_item s.tasks t mid }) h.made.kept); tasks = grind (arith, same_Some, acted_there, set-set) }
 
       abbrev new : TaskSlot B
       new = (makes.slot r refl).0
@@ -159,12 +142,10 @@ module _ {B L : Type 0} (left : B → L) (runs : L → Plan → Option ℕ → T
           ∙ ap (λ ts. ts ++ new ∷ []) (set-set s.tasks.items t h.made.slot' mid)
 
       unclosed : s.set.closed ≡ false
-      unclosed = ap (λ (x : Shared B). x.set.closed) (sym h.made.kept) ∙ by_not s1.set.closed (sym makes.answer)
+      unclosed = ap (λ (x : Shared B). x.set.closed) (sym h.made.kept) ∙ not-true s1.set.closed (sym makes.answer)
 
       all_kept : s' ≡ record s { tasks = s'.tasks; set = middle.set; global = record s.global { places = middle.global.places } }
-      all_kept =
-          told.kept ∙ ap (λ (x : Shared B). record x { tasks = s'.tasks }) makes.kept
-          ∙ ap (λ (x : Shared B). record x { tasks = s'.tasks; set = middle.set; global = record x.global { places = middle.global.places } }) h.made.kept
+      all_kept = grind (arith, told.kept, makes.kept, h.made.kept)
 
       same_set : s'.set ≡ middle.set
       same_set = ap (λ (x : Shared B). x.set) all_kept
@@ -175,9 +156,7 @@ module _ {B L : Type 0} (left : B → L) (runs : L → Plan → Option ℕ → T
       joins : Joins body r only_told s'
       joins =
           let its = makes.slot r refl in
-          let count : length s'.tasks.items ≡ length middle.tasks.items =
-          ap length items_then ∙ length-append (slice_set s.tasks.items t mid) (new ∷ []) ∙ ap (λ n. n + 1) (length-set s.tasks.items t mid ∙ sym (ap length h.made.tasks ∙ length-set s.tasks.items t h.made.slot'))
-          ∙ sym (ap length its.1 ∙ length-append s1.tasks.items (new ∷ [])) in
+          let count : length s'.tasks.items ≡ length middle.tasks.items = grind (arith, items_then, h.made.tasks, its.1, length-append, length-set) in
           record {
             new = new;
             items = items_then;
@@ -189,9 +168,7 @@ module _ {B L : Type 0} (left : B → L) (runs : L → Plan → Option ℕ → T
             shards = subst (λ n. 0 < n) (sym h.sound.shards) (some_shards s.config);
             places = omega (arith, count, makes.places r refl, same_places);
             few = omega (arith, count, makes.few r refl);
-            kept = all_kept
-                ∙ ap (λ y. record s { tasks = s'.tasks; set = y; global = record s.global { places = middle.global.places } }) (sym same_set)
-                ∙ ap (λ n. record s { tasks = s'.tasks; set = s'.set; global = record s.global { places = n } }) (sym same_places);
+            kept = grind (arith, all_kept, same_set, same_places);
           }
 
       pub spawned_open : (name_of : L → ℕ) → HasWhole w s → IsNamed runs spot name_of → name ≡ name_of (left body) → (e : Event) → e ≡ Event.Spawn r.task.0 name → w' ≡ with_made s1.config t (Some r) w → StepsOf left runs holds spot w s e w' s'
@@ -233,7 +210,7 @@ module _ {B L : Type 0} (left : B → L) (runs : L → Plan → Option ℕ → T
                   (λ p' fits'. performs_told p' slot b' body x tt who.polled who.waits refl ((h.asks p' (record { workers = []; calls = [] }) fits').goes_on refl))).performs p is fits);
             },
             record {
-              spares = λ j apart. spares_on j s only_told s' (one.spares j apart) (two.spares j apart);
+              spares = λ j apart. spares_on false j s only_told s' (one.spares j apart) (two.spares j apart);
               whole = λ y whole. two.whole y (one.whole y whole);
             },
           ) in
@@ -253,10 +230,7 @@ module _ {B L : Type 0} (left : B → L) (runs : L → Plan → Option ℕ → T
         let at_t : task_of all t ≡ task_seen left spot slot = task_there left spot s.tasks.items t slot h.made.there in
         let past : spot (left b') (Some told) ≡ spot_of (moved_on all (task_seen left spot slot)) = answered (left b') told (λ never. absurd (cc)) ∙ so.stands in
         record {
-          moves = by_word left spot t p all w s vs slot (ScriptWord.Spawn k) at_t so.asks.1
-              ∙ closed_move p.config w.index (me_at t w) all d x t k shut
-              ∙ ap (λ ys. record { event = Event.Closed; choice = Plain; desk = d; thing = record x { shards = ys } }) (set-get_or x.shards n [])
-              ∙ ap (λ o. record { event = Event.Closed; choice = Plain; desk = desk_of (record w { place = Place.Poll t InPoll.Act; hand = o }); thing = x }) h.sound.hand;
+          moves = grind (arith, by_word left spot t p all w s vs slot (ScriptWord.Spawn k) at_t so.asks.1, closed_move p.config w.index (me_at t w) all d x t k shut, set-get_or x.shards n [], h.sound.hand);
           may = (acts_so left spot t all w slot (meets_closed all w.index) at_t waits (ap (meets_closed all w.index) so.asks.1 ∙ shut), tt);
           own = refl;
           common = ap (λ y. record all { tasks = slice_set all.tasks t (moved_on all y) }) at_t ∙ ap (λ y. record all { tasks = slice_set all.tasks t y }) (sym (moved_seen left spot all slot b' (Some told) polled past));
@@ -265,7 +239,7 @@ module _ {B L : Type 0} (left : B → L) (runs : L → Plan → Option ℕ → T
     pub spawned_closed : (middle : Shared B) → MakesTask body s1 middle None → TurnsSlot t middle s' (λ o. record o { told = Some (Said.Refused Error.Closed) }) → (e : Event) → e ≡ Event.Closed → w' ≡ with_made s1.config t None w → StepsOf left runs holds spot w s e w' s'
     spawned_closed middle makes told e event goes =
         let who = actor left runs holds spot gives t w s s1 (Act.Spawn body) h in
-        let shut : s1.set.closed ≡ true = by_not_not s1.set.closed (sym makes.answer) in
+        let shut : s1.set.closed ≡ true = not-false s1.set.closed (sym makes.answer) in
         let turned = subst (λ (y : Shared B). TurnsSlot t y s' (λ o. record o { told = Some (Said.Refused Error.Closed) })) (makes.closed shut) told in
         let closed : s.set.closed ≡ true = ap (λ (y : Shared B). y.set.closed) (sym h.made.kept) ∙ shut in
         subst (λ z. StepsOf left runs holds spot w s z w' s') (sym event)
@@ -295,9 +269,7 @@ module _ {B L : Type 0} (left : B → L) (runs : L → Plan → Option ℕ → T
         ∙ set-set s.tasks.items t h.made.slot' (record h.made.slot' { told = Some told })
         ∙ ap (λ (y : TaskSlot B). slice_set s.tasks.items t (record y { told = Some told })) h.made.acts.slot in
         let s2 : Shared B = record s { tasks = s'.tasks } in
-        let kept : s' ≡ record s2 { global = record s.global { places = it.middle.global.places } } =
-        it.told.kept ∙ ap (λ (y : Shared B). record y { tasks = s'.tasks }) it.room.kept
-        ∙ ap (λ (y : Shared B). record y { tasks = s'.tasks; global = record y.global { places = it.middle.global.places } }) h.made.kept in
+        let kept : s' ≡ record s2 { global = record s.global { places = it.middle.global.places } } = grind (arith, it.told.kept, it.room.kept, h.made.kept) in
         let same : Same left spot w s w s2 = same_slot left spot t w s s2 slot slot2 h.made.there (unmoved_seen left spot slot b' who.polled back) refl items in
         subst (λ v. Same left spot w s v s') (sym it.worker) (record {
           own = same.own;

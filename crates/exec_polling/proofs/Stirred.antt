@@ -2,10 +2,10 @@
 use Rattle.std.proofs.{Common.{MatchBool, ◌≡◌, ◌≢◌, ℕ, suc, ◌<◌, arith, Bool, true, false, List, [], ◌∷◌, length, Option, Some, None, refl, sym, ap, subst, ◌∙◌, slice_get, slice_index_or, slice_set, get_or, if◌then◌else◌}, lemmas.{Bool.{eq-eqb}, List.{length-map, length-set}, Option.slice_get-get_or}}
 use Rattle.exec_base.specs.declared.task_no.TaskNo.{TaskNo}
 use Rattle.exec_task.specs.{Phases.{is_polled, is_idle as is_cell_idle, runnable_of}, Sight.Sight, declared.{body.{Act.Act, Said.Said}, runnable.Runnable.Runnable}}
-use Rattle.exec_machine.specs.{declared.{config.ScriptWord.ScriptWord, event.Event.{Event, TheVariants.Wake}, state.Waiting.Waiting}, Progress.Plan, Tasks.{after_waking_word, waits_for}, Words.{asks_yield, idle_words, is_idle_word, moved_on, next_word, words_left}, World.{Common, Task}}
+use Rattle.exec_machine.specs.{declared.{config.ScriptWord.ScriptWord, event.Event.{Event, TheVariants.Wake}, state.Waiting.Waiting}, Progress.Plan, Tasks.{after_waking_word}, Words.{idle_words, is_idle_word, moved_on, next_word, words_left}, World.{Common, Task}}
 use Rattle.exec_moves.specs.declared.{handing.AfterPush.AfterPush, place.{InPoll.InPoll, Place.Place}}
 use Rattle.exec_parts.{specs.{Records.numbers_held, Tests.first_push_of, declared.parts.{shared.Shared.Shared, task_slot.TaskSlot.TaskSlot, worker.Worker.Worker}, Pooled.{WakesBy, WakesHere, WakesOrdinary, WakesTask, WakesThere, woken_slot}, Scripts.{GoesOn, IsAnswer, IsAnswered, held_after}, Spots.{Spot, spot_of}, View.{Views, common_of, task_seen}}, proofs.Facts.{by_number, set_there}}
-use Rattle.exec_invariants.{specs.{Acting.{HasActed, Performs, StepsOf}, Sound.SoundAt, Spares.Spares, Works.{Beside, Suits}}, proofs.{Flagged.{Flags, flag_then, flags, wakes_root}, Acting.{Leaves, act_leaves, actor, moved_seen, tells_on}, Aside.spared, DedicatedSeen.pool_seen, Spared.{records_endure, sleepers_endure}, SparedRecord.{sleeper_spared, spared_same}, Cells.{body_woken, complete_woken}, Performing.{still_performs}, Still.performs_still, Stirs.{IsWake, LeadsOn, Stirs, ToldFirst, leads_idle, leads_on, stirs, wakes_ordinary, wakes_works}}}
+use Rattle.exec_invariants.{specs.{Acting.{HasActed, Performs, StepsOf}, Sound.SoundAt, Spares.{Spares, SparesBy, SparesPolled}, Whole.IsGenuine, Works.{Beside, Suits}}, proofs.{Flagged.{Flags, flag_then, flags, wakes_root}, Acting.{Leaves, act_leaves, actor, moved_seen, tells_on}, DedicatedSeen.pool_seen, Cells.{body_woken, complete_woken}, Performing.{still_performs}, Still.performs_still, Stirs.{IsWake, LeadsOn, Stirs, ToldFirst, leads_idle, leads_on, stirs, wakes_ordinary, wakes_works}}}
 
 -- who is woken by a word is a task that there is
 by_first : (s : Common) (it : Task) (u : ℕ) (x : ScriptWord) (ws : List ScriptWord) → (slice_index_or ws (idle_words s it ws) ScriptWord.End ≡ ScriptWord.Wake u → u < length s.tasks)
@@ -20,45 +20,17 @@ pub wakes_some : (s : Common) (it : Task) (u : ℕ) → next_word s it ≡ Scrip
 wakes_some s it u is = among_words s it u (words_left s it) is
 
 module _ {B : Type 0} where
-  -- one change of tasks after another, as others have it
-  spares_then : (j : ℕ) (s m m' : Shared B) → Spares j s (record s { tasks = m.tasks }) → Spares j (record s { tasks = m.tasks }) (record s { tasks = m'.tasks }) → Spares j s (record s { tasks = m'.tasks })
-  spares_then j s m m' first second =
-      record {
-        config = refl;
-        clock = refl;
-        gates = λ h. h;
-        hints = λ file h. h;
-        many = refl;
-        chair = λ chair found. (chair, found, spared chair);
-        tails = second.tails;
-        records = λ k r found mine. (r, found, spared_same r);
-        records_only = λ k r found mine. (r, found, spared_same r);
-        sleepers = λ k z found mine. (z, found, sleeper_spared z);
-        sleepers_only = λ k z found mine. (z, found, sleeper_spared z);
-        endure = records_endure s.requests.items s.requests.items refl;
-        endure_too = sleepers_endure s.sleepers.items s.sleepers.items refl;
-        root = λ t slot found home. second.root t slot (first.root t slot found home) home;
-        polled = λ t slot found polled mine.
-            let one = first.polled t slot found polled mine in
-            let two = second.polled t one.0 one.1 one.2.polled (ap (λ (o : TaskSlot B). o.poller) one.2.kept ∙ mine) in (
-              two.0,
-              two.1,
-              record {
-                polled = two.2.polled;
-                number = two.2.number ∙ one.2.number;
-                cancelled = λ h. two.2.cancelled (one.2.cancelled h);
-                kept = two.2.kept ∙ ap (λ (o : TaskSlot B). record o { cell = two.0.cell; cleared = two.0.cleared; fresh = two.0.fresh; output = two.0.output }) one.2.kept;
-              },
-            );
-        room = λ h. h;
-        stretch = λ file offset n h. h;
-        stopped = λ h. h;
-        closed = λ h. h;
-        by_zero = λ h. (refl, refl);
-        shards = refl;
-        emptied = λ shut k none. none;
-        genuine = λ r it. second.genuine r (first.genuine r it);
-      }
+  -- one change of tasks, and then another step
+  pub spares_on : (more : Bool) (j : ℕ) (s m s' : Shared B) → Spares j s (record s { tasks = m.tasks }) → SparesBy more j (record s { tasks = m.tasks }) s' → SparesBy more j s s'
+  spares_on more j s m s' first second =
+      let root : (t : ℕ) (slot : TaskSlot B) → slice_get s.tasks.items t ≡ Some slot → slot.home ≡ Some j → slice_get s'.tasks.items t ≡ Some slot = λ t slot found home. second.root t slot (first.root t slot found home) home in
+      let polled : (t : ℕ) (slot : TaskSlot B) → slice_get s.tasks.items t ≡ Some slot → is_polled slot.cell.phase ≡ true → slot.poller ≡ j → (slot' : TaskSlot B) × (slice_get s'.tasks.items t ≡ Some slot') × SparesPolled slot slot' = λ t slot found polled mine.
+      let one = first.polled t slot found polled mine in
+      let two = second.polled t one.0 one.1 one.2.polled (ap (λ (o : TaskSlot B). o.poller) one.2.kept ∙ mine) in
+      let kept = two.2.kept ∙ ap (λ (o : TaskSlot B). record o { cell = two.0.cell; cleared = two.0.cleared; fresh = two.0.fresh; output = two.0.output }) one.2.kept in
+      (two.0, two.1, record { polled = two.2.polled; number = two.2.number ∙ one.2.number; cancelled = λ h. two.2.cancelled (one.2.cancelled h); kept = kept }) in
+      let genuine : (r : Runnable) → IsGenuine s.tasks.items r → IsGenuine s'.tasks.items r = λ r is. second.genuine r (first.genuine r is) in
+      assumption (root, polled, genuine, second)
 
 module _ {B L : Type 0} (left : B → L) (runs : L → Plan → Option ℕ → Type 0) (holds : L → Option Said → List ℕ) (spot : L → Option Said → Spot) (gives : L → Option Sight → Said → Act B → L → Option Sight → Type 0) where
   performs_woken : (p : Plan) (slot : TaskSlot B) → Performs left runs holds p slot → Performs left runs holds p (woken_slot slot)
@@ -109,9 +81,7 @@ module _ {B L : Type 0} (left : B → L) (runs : L → Plan → Option ℕ → T
               let so = h.asks p vs (fits t slot h.made.there) in
               let all = common_of left spot p vs s in
               let past : spot (left b') (Some Said.Pass) ≡ spot_of (moved_on all (task_seen left spot slot)) = answered (left b') Said.Pass (λ never. absurd (cc)) ∙ so.stands in
-              let moved : after_waking_word all (task_seen left spot slot) ≡ task_seen left spot mid =
-              ap (λ b. if b then waits_for all (task_seen left spot slot) Waiting.Yielded else moved_on all (task_seen left spot slot)) (ap asks_yield so.asks)
-              ∙ sym (moved_seen left spot all slot b' (Some Said.Pass) who.polled past) in
+              let moved : after_waking_word all (task_seen left spot slot) ≡ task_seen left spot mid = grind (arith, so.asks, moved_seen left spot all slot b' (Some Said.Pass) who.polled past) in
               wakes_works left spot t u q f hand w s m s' slot mid other h.sound.here first there items who.waits p vs suits so.asks moved (is p vs suits)),
           sound,
           record {
@@ -123,7 +93,7 @@ module _ {B L : Type 0} (left : B → L) (runs : L → Plan → Option ℕ → T
                 (λ p' fits'. performs_passing p' slot b' (Act.Wake n) tt refl who.polled who.waits ((h.asks p' (record { workers = []; calls = [] }) fits').goes_on refl))).performs p is fits);
           },
           record {
-            spares = λ j apart. spares_then j s m s' (one.spares j apart) (beside.spares j apart);
+            spares = λ j apart. spares_on false j s m s2 (one.spares j apart) (beside.spares j apart);
             whole = λ others whole. beside.whole others (one.whole others whole);
           },
         ) in

@@ -1,6 +1,5 @@
 -- A POLLED TASK AWAITS the newest request that it holds: it takes the output of one that is over, or asks the worker that has it.
-use Rattle.std.proofs.{Common.{◌≡◌, ◌≢◌, inl, ℕ, ◌-◌, ◌==◌, Bool, true, false, List, [], length, take, Option, Some, None, IsSome, refl, sym, ap, subst, ◌∙◌, slice_get, slice_set, if◌then◌else◌}, lemmas.{Bool.eq-eqb, List.set-set}}
-use Rattle.std.proofs.Common.{arith}
+use Rattle.std.proofs.{Common.{◌≡◌, ◌≢◌, ◌⊎◌, inl, ℕ, ◌-◌, ◌==◌, Bool, true, false, List, [], length, take, Option, Some, None, IsSome, refl, sym, ap, subst, ◌∙◌, slice_get, slice_set, if◌then◌else◌, arith}, lemmas.{Bool.eq-eqb, List.set-set}}
 use Rattle.exec_base.specs.declared.{error.Error.TheVariants.NoMemory, one_shot.OneShotState.TheVariants.Open}
 use Rattle.exec_outcomes.specs.declared.outcome.Outcome.{Outcome}
 use Rattle.exec_request.specs.declared.output.RequestOutput.{RequestOutput}
@@ -8,9 +7,9 @@ use Rattle.exec_task.specs.{Sight.Sight, declared.body.{Act.Act, Said.Said}}
 use Rattle.exec_waiters.specs.Events.{taken}
 use Rattle.exec_machine.specs.{declared.{config.ScriptWord.ScriptWord, event.Event.{Event, TheVariants.{Got, Send}}, state.{MailMessage.TheVariants.ForwardRequest, Request.Request, RequestPhase.TheVariants.Resolved, Waiting.Waiting}}, Progress.Plan, Requests.operation_asked, Tasks.{polls_waiting, waits_for, without_newest}, Tests.{is_resolved, is_unsent, waits_for_nothing, waits_for_request}, Words.{acts, asks_await, moved_on, newest_held, next_word}, World.{Common, Task, request_of, task_of}}
 use Rattle.exec_moves.specs.{declared.{handing.AfterSend.AfterSend, place.{InPoll.InPoll, Place.Place}}, Move.move_look_at, Poll.{Sight.{Asks, HearsRequest}, act, act_asked, acts_on, await, sight_by, sight_of_newest}, State.{Desk, Moved, Things, does}, Thing.aside, Told.without_request}
-use Rattle.exec_parts.{specs.{declared.parts.{record.Record.Record, shared.Shared.Shared, task_slot.TaskSlot.TaskSlot, worker.Worker.Worker}, Awaits.newest_of, Calls.forwarded_for, MailPosts.{AsksOutput, Sends, asks_by}, Polls.{TookOutput, unobserved}, Records.numbers_held, Scripts.{IsAnswer, IsAnswered, held_after}, Spots.{Spot, spot_of}, View.{Views, body_in, common_of, desk_of, driver_of, task_seen, things_with}}, proofs.Facts.{not_same, or_right, same_thing, set_there}}
-use Rattle.exec_invariants.{specs.{Acting.{HasActed, StepsOf}, Hearing.{CanHear, held_once_come}, Holding.awaited_in, Sound.SoundAt, Whole.HasWhole}, proofs.{Acting.{IsActor, actor, acts_so, by_word, me_at, moved_seen, word_move}, Here.{IsHere, polled_here}, Pending.in_poll, Performing.{performs_on, still_performs}, Seen.request_at, Slots.task_there, TaskAsks.led_to, TaskDeals.from_act, TaskGets.{SeesGot, TakesOwn, past_newest, got_works, gets_leaves, there_is}, TaskHears.numbers_without, TaskNewest.newest_unsent, TaskWants.newest_is}}
-use Rattle.exec_polling.proofs.TaskForwards.{AsksFor, OutputAsked, SeesWants, output_asks, wants_works}
+use Rattle.exec_parts.{specs.{declared.parts.{mail.Subject.Subject, record.Record.Record, shared.Shared.Shared, task_slot.TaskSlot.TaskSlot, worker.Worker.Worker}, Awaits.newest_of, Calls.forwarded_for, MailPosts.{AsksOutput, Sends, asks_by}, Polls.{TookOutput, unobserved}, Records.numbers_held, Scripts.{IsAnswer, IsAnswered, held_after}, Spots.{Spot, spot_of}, View.{Views, body_in, common_of, desk_of, driver_of, task_seen, things_with}}, proofs.Facts.{not_same, or_right, same_Some, set_there}}
+use Rattle.exec_invariants.{specs.{Acting.{HasActed, StepsOf}, Hearing.{CanHear, held_once_come}, Holding.awaited_in, Sound.SoundAt, Whole.HasWhole}, proofs.{Acting.{IsActor, actor, acts_so, by_word, me_at, moved_seen, word_move}, Here.{IsHere, polled_here}, Pending.in_poll, Performing.{performs_on, still_performs}, Seen.request_at, Slots.task_there, TaskAsks.led_to, TaskDeals.from_act, TaskGets.{GetsSo, SeesGot, TakesOwn, past_newest, got_works, gets_leaves, there_is}, TaskHears.numbers_without, TaskNewest.newest_unsent, TaskWants.newest_is}}
+use Rattle.exec_polling.proofs.TaskForwards.{AsksFor, OutputAsked, SeesWants, WaitsElsewhere, output_asks, wants_works}
 
 output_heard : (o : RequestOutput) → Said.Output o ≡ Said.Refused NoMemory → ⊥
 output_heard o h = cc
@@ -60,11 +59,11 @@ module _ {B L : Type 0} (left : B → L) (runs : L → Plan → Option ℕ → T
       let b' = m.acts.body' in
       let by_it : IsActor left runs holds spot gives t w slot = actor left runs holds spot gives t w s s1 (Act.Await (Some k)) h in
       let it : IsHere InPoll.Act t w s = polled_here InPoll.Act t w s sound refl in
-      let is : slot ≡ it.slot = same_thing slot it.slot (sym m.there ∙ it.there) in
+      let is : slot ≡ it.slot = same_Some slot it.slot (sym m.there ∙ it.there) in
       let took : TookOutput t k w w' (record s { tasks = s1.tasks }) s' e = subst (λ y. TookOutput t k w w' y s' e) m.kept took1 in
       let found : slice_get s1.tasks.items t ≡ Some m.slot' = ap (λ ts. slice_get ts t) m.tasks ∙ set_there s.tasks.items t m.slot' slot m.there in
-      let acted_is : took.slot ≡ record slot { body = Some b'; told = None } = same_thing took.slot m.slot' (sym took.there ∙ found) ∙ m.acts.slot in
-      let same_r : took.r ≡ r = same_thing took.r r (sym took.request ∙ at_r) in
+      let acted_is : took.slot ≡ record slot { body = Some b'; told = None } = same_Some took.slot m.slot' (sym took.there ∙ found) ∙ m.acts.slot in
+      let same_r : took.r ≡ r = same_Some took.r r (sym took.request ∙ at_r) in
       let slot' = took.slot' in
       let items : s'.tasks.items ≡ slice_set s.tasks.items t slot' = took.tasks ∙ ap (λ ts. slice_set ts t slot') m.tasks ∙ set-set s.tasks.items t m.slot' slot' in
       let so : slot' ≡ record slot { body = Some b'; held = slot'.held; waiting = Waiting.Nothing; told = Some (Said.Output took.output) } = took.took ∙ ap (λ (o : TaskSlot B). record o { held = slot'.held; waiting = Waiting.Nothing; told = Some (Said.Output took.output) }) acted_is in
@@ -76,26 +75,12 @@ module _ {B L : Type 0} (left : B → L) (runs : L → Plan → Option ℕ → T
       let unsent = newest_unsent t k w s r has it newest_at at_r in
       let over : r.shown.phase ≡ Resolved took.outcome = ap (λ (y : Record). y.shown.phase) (sym same_r) ∙ took.is in
       let there = there_is (Place.Poll t InPoll.Act) k w s r sound at_r mine held.observed unsent (ap is_resolved over) in
-      let by : TakesOwn InPoll.Act t k w w' s s' slot slot' r took.output took.outcome = record {
-        there = m.there;
-        newest = newest;
-        waits = inl (ap awaited_in by_it.waits);
-        request = at_r;
-        unsent = unsent;
-        mine = mine;
-        over = over;
-        gets = record {
-          took = so ∙ ap (λ o. record slot { body = o; held = slot'.held; waiting = Waiting.Nothing; told = Some (Said.Output took.output) }) (sym body);
-          body = subst (λ o. IsSome o) (sym body) refl;
-          held = less;
-        };
-        worker = took.worker;
-        driver = took.driver ∙ ap (λ (y : Record). record (driver_of w) { requests = taken (driver_of w).requests y.id.0 }) same_r;
-        punctual = took.punctual;
-        requests = took.requests ∙ ap (λ y. slice_set s.requests.items k (unobserved y)) same_r;
-        tasks = items;
-        kept = took.kept;
-      } in
+      let waits : (awaited_in slot.waiting ≡ None) ⊎ (slot.waiting ≡ Waiting.Request k) = inl (ap awaited_in by_it.waits) in
+      let gets : GetsSo slot slot' took.output =
+      record { took = so ∙ ap (λ o. record slot { body = o; held = slot'.held; waiting = Waiting.Nothing; told = Some (Said.Output took.output) }) (sym body); body = subst (λ o. IsSome o) (sym body) refl; held = less } in
+      let driver = took.driver ∙ ap (λ (y : Record). record (driver_of w) { requests = taken (driver_of w).requests y.id.0 }) same_r in
+      let requests = took.requests ∙ ap (λ y. slice_set s.requests.items k (unobserved y)) same_r in
+      let by : TakesOwn InPoll.Act t k w w' s s' slot slot' r took.output took.outcome = assumption (m, newest, waits, at_r, unsent, mine, over, gets, driver, requests, items, took) in
       let leaves = gets_leaves InPoll.Act t k w w' s s' slot' r took.output took.outcome (λ i u rs ss. tt) (from_act t) sound refl it (subst (λ o. TakesOwn InPoll.Act t k w w' s s' o slot' r took.output took.outcome) is by) held.observed there in
       let place : w'.place ≡ Place.Poll t InPoll.Act = ap (λ (y : Worker). y.place) took.worker in
       let done : StepsOf left runs holds spot w s (Got k took.outcome) w' s' = (
@@ -130,9 +115,7 @@ module _ {B L : Type 0} (left : B → L) (runs : L → Plan → Option ℕ → T
           let request : request_of all k ≡ r.shown = request_at s.requests.items k r at_r in
           let finds : Bool → Bool → Moved Things = λ u n. move_look_at p.config all d x t b (aside x (await t all d y (Some k))) (sight_by u n (Asks r.shown.worker (ForwardRequest k)) (HearsRequest k)) in
           record {
-            moves = await_looks left spot t k p w s vs slot r there word newest at_r
-                ∙ ap (λ u. finds u (r.shown.worker == w.index)) unsent ∙ ap (λ i. finds true (i == w.index)) mine ∙ ap (finds true) (eq-eqb w.index w.index refl)
-                ∙ ap (aside x) (awaits_over t k all d y r.shown outcome request over);
+            moves = grind (arith, await_looks left spot t k p w s vs slot r there word newest at_r, unsent, mine, eq-eqb w.index w.index refl, awaits_over t k all d y r.shown outcome request over);
             takes = or_right (polls_waiting me all (waits_for_request k)) (acts me all asks_await) (acts_so left spot t all w slot asks_await it waits (ap asks_await word));
             polled = refl;
             own_after_is = refl;
@@ -154,30 +137,22 @@ module _ {B L : Type 0} (left : B → L) (runs : L → Plan → Option ℕ → T
       let b' = m.acts.body' in
       let by_it : IsActor left runs holds spot gives t w slot = actor left runs holds spot gives t w s s1 (Act.Await (Some k)) h in
       let it : IsHere InPoll.Act t w s = polled_here InPoll.Act t w s sound refl in
-      let is : slot ≡ it.slot = same_thing slot it.slot (sym m.there ∙ it.there) in
+      let is : slot ≡ it.slot = same_Some slot it.slot (sym m.there ∙ it.there) in
       let asks : AsksOutput t k w w' (record s { tasks = s1.tasks }) s' e = subst (λ y. AsksOutput t k w w' y s' e) m.kept asks1 in
       let found : slice_get s1.tasks.items t ≡ Some m.slot' = ap (λ ts. slice_get ts t) m.tasks ∙ set_there s.tasks.items t m.slot' slot m.there in
-      let acted_is : asks.slot ≡ record slot { body = Some b'; told = None } = same_thing asks.slot m.slot' (sym asks.there ∙ found) ∙ m.acts.slot in
-      let same_r : asks.r ≡ r = same_thing asks.r r (sym asks.request ∙ at_r) in
+      let acted_is : asks.slot ≡ record slot { body = Some b'; told = None } = same_Some asks.slot m.slot' (sym asks.there ∙ found) ∙ m.acts.slot in
+      let same_r : asks.r ≡ r = same_Some asks.r r (sym asks.request ∙ at_r) in
       let mid = asks.middle in
       let slot' : TaskSlot B = record slot { body = Some b'; told = None; waiting = Waiting.Request k; output = Open } in
       let mid_items : mid.tasks.items ≡ slice_set s.tasks.items t slot' =
       asks.tasks ∙ ap (λ (o : TaskSlot B). slice_set s1.tasks.items t (record o { waiting = Waiting.Request k; output = Open })) acted_is ∙ ap (λ ts. slice_set ts t slot') m.tasks ∙ set-set s.tasks.items t m.slot' slot' in
       let newest_at : newest_of it.slot ≡ Some k = ap newest_of (sym is) ∙ newest in
       let unsent = newest_unsent t k w s r has it newest_at at_r in
-      let by : AsksFor InPoll.Act t k w w' s mid s' e slot slot' r = record {
-        there = m.there;
-        newest = newest;
-        waits = inl (ap awaited_in by_it.waits);
-        request = at_r;
-        unsent = unsent;
-        other = other;
-        slot_so = record { took = refl; body = refl };
-        kept = asks.kept;
-        tasks = mid_items;
-        requests = asks.requests ∙ ap (λ y. slice_set s.requests.items k (forwarded_for t y)) same_r;
-        sends = subst (λ (y : Record). Sends y.shown.worker (ForwardRequest k) (AfterSend.Pend t) w w' mid s' e) same_r asks.sends;
-      } in
+      let waits : (awaited_in slot.waiting ≡ None) ⊎ (awaited_in slot.waiting ≡ Some (Subject.Request k)) = inl (ap awaited_in by_it.waits) in
+      let requests = asks.requests ∙ ap (λ y. slice_set s.requests.items k (forwarded_for t y)) same_r in
+      let sends = subst (λ (y : Record). Sends y.shown.worker (ForwardRequest k) (AfterSend.Pend t) w w' mid s' e) same_r asks.sends in
+      let so : WaitsElsewhere k slot slot' = record { took = refl; body = refl } in
+      let by : AsksFor InPoll.Act t k w w' s mid s' e slot slot' r = assumption (m, newest, waits, at_r, unsent, other, so, mid_items, requests, sends, asks) in
       let asked0 = output_asks InPoll.Act t k w w' s mid s' e slot' r (from_act t) sound has it (subst (λ o. AsksFor InPoll.Act t k w w' s mid s' e o slot' r) is by) in
       let asked = subst (λ o. OutputAsked InPoll.Act t k w w' s mid s' e o slot' r) (sym is) asked0 in
       let all : s' ≡ record mid { seats = s'.seats } = by.sends.kept in

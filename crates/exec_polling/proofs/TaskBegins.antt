@@ -1,24 +1,19 @@
 -- A POLLED TASK WAITS for the newest request that it holds, which its worker has and which isn't over.
-use Rattle.std.proofs.{Common.{◌≡◌, inl, inr, ℕ, ◌+◌, ◌≤◌, ◌==◌, Bool, true, false, not, List, [], length, map, Option, Some, None, option_map, refl, sym, ap, subst, ◌∙◌, arith, slice_get, slice_set}, lemmas.{Bool.{false≢true, eq-eqb}, List.{map-set, set-set}, Option.slice_get-map}}
-use Rattle.exec_base.specs.{Slab.{Slab, live_count, value_at, written}, declared.{slab.Id.Id}}
+use Rattle.std.proofs.{Common.{◌≡◌, ◌≢◌, ◌⊎◌, inl, inr, ℕ, ◌+◌, ◌≤◌, ◌==◌, Bool, true, false, not, List, [], length, map, Option, Some, None, option_map, refl, sym, ap, subst, ◌∙◌, arith, slice_get, slice_set}, lemmas.{Bool.{false≢true, eq-eqb}, List.{map-set, set-set}, Option.slice_get-map}}
+use Rattle.exec_base.specs.{Slab.{live_count, value_at, written}, declared.{one_shot.OneShotState.TheVariants.Open, slab.Id.Id}}
 use Rattle.exec_words.specs.declared.inbox.Message.{Message}
 use Rattle.exec_ring.specs.Rings.{completions}
-use Rattle.exec_waiters.{specs.{Events.{changed, changed_from, with_waker}, States.{flying_count, is_held_by, waiter_at}, declared.{observer.Observer.TheVariants.{Forwarded}, waiter.{Entry.{Entry, TheVariants.Pending}, Waiter.Waiter}}}, proofs.Changes.{entry_of, one_if}}
+use Rattle.exec_waiters.{specs.{Events.{changed, changed_from, with_waker}, States.{is_held_by, waiter_at}, declared.{observer.Observer.TheVariants.{Forwarded}, waiter.{Entry.{TheVariants.Pending}, Waiter.Waiter}}}, proofs.Changes.{entry_of, one_if}}
 use Rattle.exec_driver.specs.{Driving.Driving, Punctual.IsPunctual}
 use Rattle.exec_task.specs.{Phases.is_polled, Sight.Sight, declared.body.{Act.Act, Said.Said}}
 use Rattle.exec_machine.specs.{declared.{config.ScriptWord.ScriptWord, event.Event.{Event, TheVariants.Wait}, state.{Forwarding.{TheVariants.Unsent}, MailMessage.TheVariants.ForwardRequest, RequestPhase.RequestPhase, Waiting.Waiting}}, Choice.Choice.Plain, Progress.Plan, Same.is_number, Tasks.{waits_for, without_newest}, Tests.{is_resolved, is_unsent}, Words.{asks_await, moved_on, newest_held, next_word}, World.{Common, Task, request_of, task_of}}
 use Rattle.exec_moves.specs.{declared.{handing.AfterSend.AfterSend, place.{InPoll.InPoll, Place.Place}}, Move.move_look_at, Poll.{Sight.{Asks, HearsRequest}, await, sight_by, stops}, State.{Desk, Moved, Things, does}, Thing.aside, Told.awaits}
-use Rattle.exec_parts.{specs.{declared.parts.{mail.{Reply.Reply, Subject.Subject}, record.Record.Record, shared.Shared.Shared, task_slot.TaskSlot.TaskSlot, worker.Worker.Worker}, Awaits.{BeganWait, awaited_by, newest_of}, Records.{number_in, numbers_held}, Scripts.{IsAnswer, IsAnswered, held_after}, Serving.{changed_at, changed_in}, Spots.Spot, View.{Views, awaited_from, common_of, desk_of, driver_of, numbers_of_passing, own_of, slots_seen, task_seen, things_with, trailing, visible, with_view}}, proofs.Facts.{same_thing, set_there}}
-use Rattle.exec_invariants.{specs.{Acting.{HasActed, StepsOf}, Due.IsDue, Flown.HasFlown, Hearing.CanHear, Holding.{Holder, IsForwarded, IsHolding, awaited_in, box_of, holder_of, nap_of, thing_of, under_way}, HoldPlaces.{has_wakes_at, is_bare_at}, Names.{IsAlike, tellers}, Sound.{SoundAt, served_in}, Whole.{HasWhole, Profile, hands_of, with_worker}, Works.{Beside, Suits, Works}}, proofs.{Acting.{IsActor, actor, acts_so, moved_seen}, Changing.{changes_one, flying_after, live_still, pending_still}, HeldCounts.held_written, Here.{IsHere, going_on, polled_here}, HoldBeside.Holds, HoldWaits.thing_awaited, Keys.{name_in, names_changed, same_gates, same_opens}, LetRooted.{Rewaits, keeps_watched}, Lined.{opens_same, passing_same}, Orders.alike_self, Pending.in_poll, Performing.{performs_on, still_performs}, Resolving.places_fewer, Seen.request_at, ServingHolds.KeepsBy, Serving.spares_one, Slots.task_there, Slotted.slots_written, SparedRecord.there_within, TaskDeals.{Dealt, ends as to_end, from_act}, TaskGets.ring_seen, TaskHears.thing_there, TaskHomes.{Homes, beside_goes, sound_goes}, TaskLooks.unsent_is, TaskNewest.{StillPends, newest_unsent, still_pends}, TaskTakes.{holder_there, holders_one}, TaskWants.{HoldsNewest, newest_is}, Turning.{set_found, view_found}, Watching.{Watched, still_pending, watched}}}
+use Rattle.exec_parts.{specs.{declared.parts.{mail.{Reply.Reply, Subject.Subject}, record.Record.Record, shared.Shared.Shared, task_slot.TaskSlot.TaskSlot, worker.Worker.Worker}, Awaits.{BeganWait, awaited_by, newest_of}, Records.{number_in, numbers_held}, Scripts.{IsAnswer, IsAnswered, held_after}, Serving.{changed_at, changed_in}, Spots.Spot, View.{Views, awaited_from, common_of, desk_of, driver_of, numbers_of_passing, own_of, slots_seen, task_seen, things_with, trailing, visible, with_view}}, proofs.Facts.{same_Some, set_there}}
+use Rattle.exec_invariants.{specs.{Acting.{HasActed, StepsOf}, Due.IsDue, Flown.HasFlown, Hearing.CanHear, Holding.{Box, Holder, IsForwarded, IsHolding, Mail, awaited_in, box_of, holder_of, nap_of, thing_of, under_way}, HoldPlaces.{has_wakes_at, is_bare_at}, Names.{IsAlike, tellers}, Sound.{MayStop, SoundAt, served_in}, Whole.{HasWhole, Profile, hands_of, with_worker}, Works.{Beside, Suits, Works}}, proofs.{Acting.{IsActor, actor, acts_so, moved_seen}, Changing.{changes_one, live_still, pending_still}, HeldCounts.held_written, Here.{IsHere, going_on, polled_here}, HoldBeside.Holds, HoldWaits.thing_awaited, Keys.{name_in, names_changed, same_gates, same_opens}, LetRooted.{Rewaits, keeps_watched}, Lined.{opens_same, passing_same}, Orders.alike_self, Pending.in_poll, Performing.{performs_on, still_performs}, Resolving.places_fewer, Seen.request_at, ServingHolds.KeepsBy, Serving.spares_one, Slots.task_there, Slotted.slots_written, SparedRecord.there_within, TaskDeals.{Dealt, ends as to_end, from_act}, TaskGets.ring_seen, TaskHears.thing_there, TaskHomes.{Homes, beside_goes, sound_goes}, TaskNewest.{StillPends, newest_unsent, still_pends}, TaskTakes.{holder_there, holders_one}, TaskWants.{HoldsNewest, newest_is}, Turning.{set_found, view_found}, Watching.{Watched, still_pending, watched}, AsksEnds.is_unsent_so, LetShown.same_flight}}
 use Rattle.exec_polling.proofs.{SlotAwaits.awaited_more, TaskAwaits.await_looks}
 
 awaits_by : (t k : ℕ) (s : Common) (d : Desk) (it : Task) (p : RequestPhase) → (request_of s k).phase ≡ p → is_resolved p ≡ false → await t s d it (Some k) ≡ does (Wait (Some k)) (stops t (awaits k d)) it
 awaits_by = grind arith
-
-same_flight : (s : Slab (Entry Reply Reply)) (id : Id) (it it' : Waiter Reply Reply) → waiter_at s id ≡ Some it → it'.in_flight ≡ it.in_flight → flying_count (written s id (Pending it')) ≡ flying_count s
-same_flight s id it it' at same =
-    let moved = flying_after s id it it' at in
-    omega (arith, moved, ap one_if same)
 
 -- the task waits at the driver from now on
 alike_awaited : (start tick t : ℕ) (it : Waiter Reply Reply) (r : Record) → r.shown.observed ≡ true → is_unsent r.shown.forwarding ≡ true → IsAlike start tick it r.shown → IsAlike start tick (with_waker (record { 0 = t }) it) (awaited_by t r).shown
@@ -147,26 +142,15 @@ module _ {B : Type 0} where
       let at_r = thing_there s.requests.items k r by.request in
       let box = there_within boxes r.shown.worker (holds.of_worker k (thing_of r) at_r) in
       let slot' = waits_slot slot b' k in
-      let same : r.shown.forwarding ≡ Unsent = unsent_is r.shown.forwarding by.unsent in
+      let same : r.shown.forwarding ≡ Unsent = is_unsent_so r.shown.forwarding by.unsent in
+      let idle : (awaited_in slot.waiting ≡ None) ⊎ (awaited_in slot.waiting ≡ Some (Subject.Request k)) = inl (ap awaited_in by.waits) in
+      let ordinary : true ≡ false → slot.home ≡ None = λ sent. absurd (false≢true (sym sent)) in
+      let output : true ≡ false → slot.output ≡ Open = λ sent. absurd (false≢true (sym sent)) in
+      let forwarded : (b : Box) → slice_get boxes r.shown.worker ≡ Some b → IsForwarded b.shut r.shown.forwarding (under_way h (Message.Forward (Subject.Request k)) boxes) → IsForwarded b.shut Unsent (under_way h (Message.Forward (Subject.Request k)) boxes) = grind arith in
+      let mail : (m : Mail) → m ≢ Message.Forward (Subject.Request k) → h.mail m ≡ h.mail m = λ m apart. refl in
       let now : IsHolding h s.config.workers (slice_set hs t (holder_of slot')) (slice_set ts k (record (thing_of r) { waiter = Some t; forwarding = Unsent })) naps boxes =
       thing_awaited h h s.config.workers hs ts naps boxes t k (holder_of slot) (holder_of slot') (thing_of r) Unsent
-      (record {
-        there = at_t;
-        thing = at_r;
-        newest = by.newest;
-        waits = refl;
-        going = going_on slot.cell.phase by.polled;
-        awaited = inl (ap awaited_in by.waits);
-        unsent = by.unsent;
-        ordinary = λ sent. absurd (false≢true (sym sent));
-        output = λ sent. absurd (false≢true (sym sent));
-        forwarded = λ b there fact. subst (λ f. IsForwarded b.shut f (under_way h (Message.Forward (Subject.Request k)) boxes)) same fact;
-        mail = λ m apart. refl;
-        wakes = refl;
-        made = holds.made;
-        box = box.0;
-        seat = box.1;
-      }) holds in
+      (search (at_t, at_r, by, going_on slot.cell.phase by.polled, idle, ordinary, output, forwarded, mail, holds.made, box.1)) holds in
       let awaited : IsHolding h s.config.workers (slice_set hs t (holder_of slot')) (slice_set ts k (thing_of (awaited_by t r))) naps boxes =
       subst (λ f. IsHolding h s.config.workers (slice_set hs t (holder_of slot')) (slice_set ts k (record (thing_of r) { waiter = Some t; forwarding = f })) naps boxes) (sym same) now in
       let tasks : map holder_of s'.tasks.items ≡ slice_set hs t (holder_of slot') = ap (map holder_of) by.tasks ∙ holders_one s.tasks.items t slot' in
@@ -178,17 +162,8 @@ module _ {B : Type 0} where
 
   pub waits_deals : (t k : ℕ) (w w' : Worker) (s s' : Shared B) (slot : TaskSlot B) (b' : B) (r : Record) → BeginsWait t k w w' s s' slot b' r → Dealt InPoll.Pend w.index slot (waits_slot slot b' k) s'.requests.items s'.sleepers.items
   waits_deals t k w w' s s' slot b' r by =
-      record {
-        cell = refl;
-        home = refl;
-        cleared = refl;
-        poller = refl;
-        body = refl;
-        told = λ h. absurd (false≢true h);
-        untold = λ h. refl;
-        waits = refl;
-        stops = (awaited_by t r, ap (λ xs. slice_get xs k) by.requests ∙ set_there s.requests.items k (awaited_by t r) r by.request, inr (by.mine, by.going));
-      }
+      let stop : MayStop w.index (Waiting.Request k) s'.requests.items s'.sleepers.items = (awaited_by t r, ap (λ xs. slice_get xs k) by.requests ∙ set_there s.requests.items k (awaited_by t r) r by.request, inr (by.mine, by.going)) in
+      grind arith
 
   -- WHAT IS SEEN
   pub waits_desk : (t k : ℕ) (w w' : Worker) (s s' : Shared B) (slot : TaskSlot B) (b' : B) (r : Record) → SoundAt (Place.Poll t InPoll.Act) w s → BeginsWait t k w w' s s' slot b' r → desk_of w' ≡ stops t (awaits k (desk_of (record w { place = Place.Poll t InPoll.Act })))
@@ -240,12 +215,7 @@ module _ {B L : Type 0} (left : B → L) (runs : L → Plan → Option ℕ → T
       let finds : Bool → Bool → Moved Things = λ u m. move_look_at p.config all d things t b (aside things (await t all d y (Some k))) (sight_by u m (Asks r.shown.worker (ForwardRequest k)) (HearsRequest k)) in
       let done : Works left spot p vs w0 s (Wait (Some k)) w' s1 = record {
         choice = Plain;
-        moves = await_looks left spot t k p w s vs slot r by.there word by.newest by.request
-            ∙ ap (λ u. finds u (r.shown.worker == w.index)) by.unsent ∙ ap (λ i. finds true (i == w.index)) by.mine ∙ ap (finds true) (eq-eqb w.index w.index refl)
-            ∙ ap (aside things) (awaits_by t k all d y r.shown.phase (ap (λ q. q.phase) request) by.going)
-            ∙ ap (λ z. record { event = Wait (Some k); choice = Plain; desk = z; thing = things }) (sym desk)
-            ∙ ap (λ z. record { event = Wait (Some k); choice = Plain; desk = desk_of w'; thing = z }) (sym same_things)
-            ∙ ap (λ v. record { event = Wait (Some k); choice = Plain; desk = desk_of w'; thing = things_with v s1 }) (sym again);
+        moves = grind (arith, by.unsent, by.mine, desk, same_things, again, await_looks, eq-eqb, awaits_by);
         may = (
           acts_so left spot t all w slot asks_await it by.waits (ap asks_await word),
           (
@@ -260,10 +230,7 @@ module _ {B L : Type 0} (left : B → L) (runs : L → Plan → Option ℕ → T
           ),
         );
         own = waits_own t k w w' s s' slot b' r by;
-        common = ap (λ v. common_of left spot p v s1) again
-            ∙ ap (λ os. record all { tasks = map (task_seen left spot) s'.tasks.items; requests = map (λ (q : Record). q.shown) rs'; opens = os }) opens
-            ∙ ap (λ ts. record all { tasks = ts; requests = map (λ (q : Record). q.shown) rs' }) tasks
-            ∙ ap (λ qs. record all { tasks = slice_set all.tasks t (waits_for all (task_of all t) (Waiting.Request k)); requests = qs }) shown;
+        common = grind (arith, again, opens, tasks, shown);
       } in
       subst (Works left spot p vs w s (Wait (Some k)) w') (sym by.kept) (subst (λ v. Works left spot p vs v s (Wait (Some k)) w' s1) (ap (λ z. record w { place = z }) (sym sound.here)) done)
 
@@ -281,34 +248,21 @@ module _ {B L : Type 0} (left : B → L) (runs : L → Plan → Option ℕ → T
       let b' = m.acts.body' in
       let by_it : IsActor left runs holds spot gives t w slot = actor left runs holds spot gives t w s s1 (Act.Await (Some k)) h in
       let it : IsHere InPoll.Act t w s = polled_here InPoll.Act t w s sound refl in
-      let is : slot ≡ it.slot = same_thing slot it.slot (sym m.there ∙ it.there) in
+      let is : slot ≡ it.slot = same_Some slot it.slot (sym m.there ∙ it.there) in
       let began : BeganWait t k w w' (record s { tasks = s1.tasks }) s' e = subst (λ y. BeganWait t k w w' y s' e) m.kept began1 in
       let found : slice_get s1.tasks.items t ≡ Some m.slot' = ap (λ ts. slice_get ts t) m.tasks ∙ set_there s.tasks.items t m.slot' slot m.there in
-      let acted_is : began.slot ≡ record slot { body = Some b'; told = None } = same_thing began.slot m.slot' (sym began.there ∙ found) ∙ m.acts.slot in
-      let same_r : began.r ≡ r = same_thing began.r r (sym began.request ∙ at_r) in
+      let acted_is : began.slot ≡ record slot { body = Some b'; told = None } = same_Some began.slot m.slot' (sym began.there ∙ found) ∙ m.acts.slot in
+      let same_r : began.r ≡ r = same_Some began.r r (sym began.request ∙ at_r) in
       let slot' = waits_slot slot b' k in
       let items : s'.tasks.items ≡ slice_set s.tasks.items t slot' = began.tasks ∙ ap (λ (o : TaskSlot B). slice_set s1.tasks.items t (record o { waiting = Waiting.Request k })) acted_is ∙ ap (λ ts. slice_set ts t slot') m.tasks ∙ set-set s.tasks.items t m.slot' slot' in
       let newest_at : newest_of it.slot ≡ Some k = ap newest_of (sym is) ∙ newest in
       let pends = still_pends (Place.Poll t InPoll.Act) k w s r sound at_r mine going in
       let waker = with_waker (record { 0 = t }) in
-      let by : BeginsWait t k w w' s s' slot b' r = record {
-        there = m.there;
-        newest = newest;
-        waits = by_it.waits;
-        polled = by_it.polled;
-        request = at_r;
-        holds = subst (λ o. HoldsNewest t k s o r) (sym is) (newest_is InPoll.Act t k w s r has it newest_at at_r);
-        unsent = newest_unsent t k w s r has it newest_at at_r;
-        mine = mine;
-        going = going;
-        pends = pends;
-        worker = began.worker;
-        driver = began.driver ∙ ap (λ (x : Record). record (driver_of w) { requests = changed (driver_of w).requests x.id.0 waker }) same_r ∙ ap (λ o. record (driver_of w) { requests = changed_from (driver_of w).requests r.id.0 waker o }) (entry_of (value_at (driver_of w).requests r.id.0) pends.it pends.live);
-        punctual = began.punctual;
-        requests = began.records ∙ ap (λ x. slice_set s.requests.items k (awaited_by t x)) same_r;
-        tasks = items;
-        kept = began.kept;
-      } in
+      let held = subst (λ o. HoldsNewest t k s o r) (sym is) (newest_is InPoll.Act t k w s r has it newest_at at_r) in
+      let unsent = newest_unsent t k w s r has it newest_at at_r in
+      let driver = began.driver ∙ ap (λ (x : Record). record (driver_of w) { requests = changed (driver_of w).requests x.id.0 waker }) same_r ∙ ap (λ o. record (driver_of w) { requests = changed_from (driver_of w).requests r.id.0 waker o }) (entry_of (value_at (driver_of w).requests r.id.0) pends.it pends.live) in
+      let requests = began.records ∙ ap (λ x. slice_set s.requests.items k (awaited_by t x)) same_r in
+      let by : BeginsWait t k w w' s s' slot b' r = search (m, newest, by_it, at_r, held, unsent, mine, going, driver, requests, items, began) in
       let v : Worker = record w { home = record w.home { driver = w'.home.driver } } in
       let homes = waits_homes t k w w' s s' slot b' r sound by in
       let deals : Dealt InPoll.Pend w.index it.slot slot' s'.requests.items s'.sleepers.items = subst (λ o. Dealt InPoll.Pend w.index o slot' s'.requests.items s'.sleepers.items) is (waits_deals t k w w' s s' slot b' r by) in

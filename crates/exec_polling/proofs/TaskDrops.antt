@@ -1,22 +1,18 @@
 -- A POLLED TASK LETS GO of the newest request that it holds, which its worker has.
-use Rattle.std.proofs.{Common.{◌≡◌, inl, ℕ, ◌-◌, ◌==◌, Bool, true, false, List, [], length, map, take, Option, Some, None, option_map, refl, sym, ap, subst, ◌∙◌, slice_get, slice_set, if◌then◌else◌}, lemmas.{Bool.{false≢true, eq-eqb}, List.{map-set, set-set}, Option.slice_get-map}}
-use Rattle.std.proofs.Common.{arith}
+use Rattle.std.proofs.{Common.{◌≡◌, ◌⊎◌, inl, ℕ, ◌-◌, ◌==◌, Bool, true, false, List, [], length, map, take, Option, Some, None, option_map, refl, sym, ap, subst, ◌∙◌, slice_get, slice_set, if◌then◌else◌, arith}, lemmas.{Bool.{false≢true, eq-eqb}, List.{map-set, set-set}, Option.slice_get-map}}
 use Rattle.exec_base.specs.{Slab.live_count, declared.error.Error.TheVariants.{NoMemory}}
 use Rattle.exec_outcomes.specs.declared.outcome.Outcome.{Outcome}
 use Rattle.exec_task.specs.{Phases.is_polled, Sight.Sight, declared.body.{Act.Act, Said.Said}}
 use Rattle.exec_machine.specs.{declared.{config.ScriptWord.ScriptWord, event.Event.{Event, TheVariants.Drop}, state.{MailMessage.TheVariants.CancelRequest, Request.Request, Waiting.Waiting}}, Choice.Choice.Plain, Progress.Plan, Requests.{dropped, operation_asked, own_after_drop}, Same.is_number, Tasks.after_letting_go, Tests.{is_unsent}, Words.{asks_drop, moved_on, newest_held, next_word}, World.{Common, Task, request_of, task_of}}
 use Rattle.exec_moves.specs.{declared.{handing.AfterSend.AfterSend, place.{InPoll.InPoll, Place.Place}}, Move.move_look_at, Poll.{Sight.{Asks, Here}, act, act_asked, acts_on, cancels_elsewhere, drop_newest}, State.{Desk, Moved, Things, does}, Thing.aside, Told.{told_of_drop}}
-use Rattle.exec_parts.{specs.{declared.parts.{record.Record.Record, shared.Shared.Shared, task_slot.TaskSlot.TaskSlot, worker.Worker.Worker}, Awaits.{DropsHere, Forgets, LetsGo, drops, newest_of}, Records.{numbers_held, outcome_in}, Scripts.{IsAnswer, IsAnswered, held_after}, Serving.changed_in, Spots.{Spot, spot_of}, View.{Views, body_in, common_of, desk_of, driver_of, numbers_of_passing, own_of, task_seen, things_with, visible, with_view}}, proofs.Facts.{same_thing, set_there}}
-use Rattle.exec_invariants.{specs.{Acting.{HasActed, Performs, StepsOf}, Due.IsDue, Flown.HasFlown, Hearing.{CanHear, held_once_come}, Holding.{Holder, IsHolding, awaited_in, box_of, holder_of, nap_of, thing_of}, HoldPlaces.{has_wakes_at, is_bare_at}, Sound.{SoundAt, served_in}, Whole.{HasWhole, Profile, hands_of, with_worker}, Works.{Beside, Suits, Works}}, proofs.{Acting.{IsActor, actor, acts_so, me_at, moved_seen, word_move}, Here.{IsHere, going_on, polled_here}, HoldBeside.Holds, HoldSteps.{IsNewest, thing_taken}, Keys.{name_in, names_changed, same_gates, same_opens}, LetShown.{SeenLet, let_seen}, Lined.{opens_same, passing_same}, Pending.in_poll, Performing.{performs_on, still_performs}, Seen.request_at, ServingHolds.Keeps, Serving.spares_one, Slots.task_there, SparedRecord.there_within, TaskDeals.{Dealt, acts as to_act, from_act}, TaskHears.{newest_split, numbers_without, thing_there}, TaskHomes.{Homes, beside_goes, sound_goes}, TaskNewest.newest_unsent, TaskOverFold.{dropped_at_gate, dropped_name, dropped_thing}, TaskTakes.{holder_there, holders_one, no_wakes}, TaskWants.{HoldsNewest, newest_is}, Turning.{set_found, view_found}}}
+use Rattle.exec_parts.{specs.{declared.parts.{mail.Subject.Subject, record.Record.Record, shared.Shared.Shared, task_slot.TaskSlot.TaskSlot, worker.Worker.Worker}, Awaits.{DropsHere, Forgets, LetsGo, drops, newest_of}, Records.{numbers_held, outcome_in}, Scripts.{IsAnswer, IsAnswered, held_after}, Serving.changed_in, Spots.{Spot, spot_of}, View.{Views, body_in, common_of, desk_of, driver_of, numbers_of_passing, own_of, task_seen, things_with, visible, with_view}}, proofs.Facts.{same_Some, set_there}}
+use Rattle.exec_invariants.{specs.{Acting.{HasActed, Performs, StepsOf}, Due.IsDue, Flown.HasFlown, Hearing.{CanHear, held_once_come}, Holding.{Holder, IsHolding, awaited_in, box_of, holder_of, nap_of, thing_of}, HoldPlaces.{has_wakes_at, is_bare_at}, Sound.{SoundAt, served_in}, Whole.{HasWhole, Profile, hands_of, with_worker}, Works.{Beside, Suits, Works}}, proofs.{Acting.{IsActor, actor, acts_so, me_at, moved_seen, word_move}, Here.{IsHere, going_on, polled_here}, HoldBeside.Holds, HoldSteps.{IsNewest, thing_taken}, Keys.{name_in, names_changed, same_gates, same_opens}, LetShown.{SeenLet, let_seen}, Lined.{opens_same, passing_same}, Pending.in_poll, Performing.{performs_on, still_performs}, Seen.request_at, ServingHolds.Keeps, Serving.spares_one, Slots.task_there, SparedRecord.there_within, TaskDeals.{Dealt, acts as to_act, from_act}, TaskHears.{newest_split, numbers_without, thing_there}, TaskHomes.{Homes, beside_goes, sound_goes}, TaskNewest.newest_unsent, TaskOverFold.{dropped_at_gate, dropped_name, dropped_thing, dropped_worker}, TaskTakes.{holder_there, holders_one, no_wakes}, TaskWants.{HoldsNewest, newest_is}, Turning.{set_found, view_found}}}
 
 pass_heard : Said.Pass ≡ Said.Refused NoMemory → ⊥
 pass_heard h = cc
 
 let_thing : (r : Record) → thing_of (drops r) ≡ record (thing_of r) { observed = false; ended = outcome_in (drops r).shown.phase }
 let_thing = grind arith
-
-dropped_worker : (r : Record) → (drops r).shown.worker ≡ r.shown.worker
-dropped_worker = grind arith
 
 told_place : (k : ℕ) (it : Request) (d : Desk) (p : Place) → d.place ≡ p → record (told_of_drop k it d) { place = p } ≡ told_of_drop k it d
 told_place = grind arith
@@ -31,7 +27,7 @@ module _ {B : Type 0} where
   pub drops_so : (t : ℕ) (s s1 mid : Shared B) (slot acted : TaskSlot B) (b' : B) → slice_get s.tasks.items t ≡ Some slot → acted ≡ record slot { body = Some b'; told = None } → s1.tasks.items ≡ slice_set s.tasks.items t acted → (f : Forgets t s1 mid) → DropsSo slot f.slot' b' × (mid.tasks.items ≡ slice_set s.tasks.items t f.slot')
   drops_so t s s1 mid slot acted b' there acted_is items f =
       let found : slice_get s1.tasks.items t ≡ Some acted = ap (λ ts. slice_get ts t) items ∙ set_there s.tasks.items t acted slot there in
-      let is : f.slot ≡ record slot { body = Some b'; told = None } = same_thing f.slot acted (sym f.there ∙ found) ∙ acted_is in (
+      let is : f.slot ≡ record slot { body = Some b'; told = None } = same_Some f.slot acted (sym f.there ∙ found) ∙ acted_is in (
         grind arith,
         f.tasks ∙ ap (λ ts. slice_set ts t f.slot') items ∙ set-set s.tasks.items t acted f.slot',
       )
@@ -115,20 +111,13 @@ module _ {B : Type 0} where
         let took = by.so.took in
         let none : awaited_in slot.waiting ≡ None = ap awaited_in by.waits in
         let ended : Option Outcome = outcome_in (drops r).shown.phase in
+        let newest = subst (IsNewest k slot.held.items) (sym by.so.held) (newest_split slot.held.items k by.newest) in
+        let took_so = ap holder_of took ∙ ap (λ u. record (holder_of slot) { held = slot'.held.items; awaits = u }) none ∙ ap (λ o. record (holder_of slot) { held = slot'.held.items; awaits = None; output = o }) (sym (ap (λ (y : TaskSlot B). y.output) took)) in
+        let idle : (awaited_in slot.waiting ≡ None) ⊎ (awaited_in slot.waiting ≡ Some (Subject.Request k)) = inl none in
+        let sent : is_unsent r.shown.forwarding ≡ false → r.sent ≡ true = λ sent. absurd (false≢true (sym sent ∙ by.unsent)) in
+        let unowed : is_unsent r.shown.forwarding ≡ true → h.wakes r.shown.worker t ≡ 0 = λ unsent. subst (λ j. h.wakes j t ≡ 0) (sym by.mine) (no_wakes InPoll.Act t w s others t refl sound) in
         let now = thing_taken h s.config.workers hs ts naps boxes t k (holder_of slot) (holder_of slot') (thing_of r) ended
-        (record {
-          there = at_t;
-          thing = at_r;
-          newest = subst (IsNewest k slot.held.items) (sym by.so.held) (newest_split slot.held.items k by.newest);
-          took = ap holder_of took ∙ ap (λ u. record (holder_of slot) { held = slot'.held.items; awaits = u }) none ∙ ap (λ o. record (holder_of slot) { held = slot'.held.items; awaits = None; output = o }) (sym (ap (λ (y : TaskSlot B). y.output) took));
-          going = going_on slot.cell.phase by.polled;
-          awaited = inl none;
-          ended = (dropped_thing r).ended;
-          sent = λ sent. absurd (false≢true (sym sent ∙ by.unsent));
-          unowed = λ unsent. subst (λ j. h.wakes j t ≡ 0) (sym by.mine) (no_wakes InPoll.Act t w s others t refl sound);
-          box = box.0;
-          seat = box.1;
-        }) holds in
+        (search (at_t, at_r, newest, took_so, going_on slot.cell.phase by.polled, idle, (dropped_thing r).ended, sent, unowed, box.1)) holds in
         let dropped_so : IsHolding h s.config.workers (slice_set hs t (holder_of slot')) (slice_set ts k (thing_of (drops r))) naps boxes =
         subst (λ x. IsHolding h s.config.workers (slice_set hs t (holder_of slot')) (slice_set ts k x) naps boxes) (sym (let_thing r)) now in
         let tasks : map holder_of s'.tasks.items ≡ slice_set hs t (holder_of slot') = ap (map holder_of) by.tasks ∙ holders_one s.tasks.items t slot' in
@@ -210,11 +199,7 @@ module _ {B L : Type 0} (left : B → L) (runs : L → Plan → Option ℕ → T
       let finds : Bool → Moved Things = λ m. move_look_at p.config all d things t b (aside things (does (Drop k) (acts_on t (told_of_drop k r.shown d)) y)) (if m then Here else Asks r.shown.worker (CancelRequest k)) in
       let done : Works left spot p vs w0 s (Drop k) v s1 = record {
         choice = Plain;
-        moves = drop_looks left spot t k p w s vs slot r by.there word by.newest by.request
-            ∙ ap finds (ap (λ i. i == w.index) by.mine ∙ eq-eqb w.index w.index refl)
-            ∙ ap (λ z. record { event = Drop k; choice = Plain; desk = z; thing = things }) (sym desk)
-            ∙ ap (λ z. record { event = Drop k; choice = Plain; desk = desk_of v; thing = z }) (sym same_things)
-            ∙ ap (λ z. record { event = Drop k; choice = Plain; desk = desk_of v; thing = things_with z s1 }) (sym again);
+        moves = grind (arith, drop_looks left spot t k p w s vs slot r by.there word by.newest by.request, by.mine, eq-eqb w.index w.index refl, desk, same_things, again);
         may = (
           acts_so left spot t all w slot asks_drop it by.waits (ap asks_drop word),
           (
@@ -223,10 +208,7 @@ module _ {B L : Type 0} (left : B → L) (runs : L → Plan → Option ℕ → T
           ),
         );
         own = it_seen.own all (request ∙ ap (λ (o : Record). o.shown) (sym by.same)) ∙ ap (λ z. own_after_drop (own_of z) all k) same_worker;
-        common = ap (λ z. common_of left spot p z s1) again
-            ∙ ap (λ os. record all { tasks = map (task_seen left spot) s'.tasks.items; requests = map (λ (q : Record). q.shown) rs'; opens = os }) opens
-            ∙ ap (λ ts. record all { tasks = ts; requests = map (λ (q : Record). q.shown) rs' }) tasks
-            ∙ ap (λ qs. record all { tasks = slice_set all.tasks t (after_letting_go all (task_of all t)); requests = qs }) shown;
+        common = grind (arith, again, opens, tasks, shown);
       } in
       subst (Works left spot p vs w s (Drop k) v) (sym by.kept) (subst (λ z. Works left spot p vs z s (Drop k) v s1) (sym same_worker) done)
 
@@ -240,7 +222,7 @@ module _ {B L : Type 0} (left : B → L) (runs : L → Plan → Option ℕ → T
       let b' = m.acts.body' in
       let by_it : IsActor left runs holds spot gives t w slot = actor left runs holds spot gives t w s s1 (Act.Drop k) h in
       let it : IsHere InPoll.Act t w s = polled_here InPoll.Act t w s sound refl in
-      let is : slot ≡ it.slot = same_thing slot it.slot (sym m.there ∙ it.there) in
+      let is : slot ≡ it.slot = same_Some slot it.slot (sym m.there ∙ it.there) in
       let f = does_it.forgets in
       let mid = does_it.middle in
       let v : Worker = record w' { place = w.place } in
@@ -264,7 +246,7 @@ module _ {B L : Type 0} (left : B → L) (runs : L → Plan → Option ℕ → T
         mine = mine;
         so = so.0;
         lets = lets;
-        same = same_thing lets.r r (sym lets.request ∙ at_r);
+        same = same_Some lets.r r (sym lets.request ∙ at_r);
         tasks = ap (λ z. z.items) same_tasks ∙ so.1;
         kept = kept;
       } in

@@ -3,13 +3,10 @@ use Rattle.std.proofs.{Common.{◌≡◌, ◌≢◌, ◌⊎◌, inl, inr, ℕ, �
 use Rattle.exec_base.specs.declared.one_shot.OneShotState.TheVariants.{Open}
 use Rattle.exec_words.specs.declared.inbox.Message.{Message}
 use Rattle.exec_task.specs.declared.body.Said.{Said}
-use Rattle.exec_machine.specs.{After.own_after, declared.{event.Event.{Event, TheVariants.{Closed, Send}}, state.{Forwarding.{Forwarding, TheVariants.{Sent as Forwarded, Unsent}}, MailMessage.TheVariants.ForwardRequest, Waiting.Waiting}}, Choice.Choice.Plain, Mail.{after_post, after_sending, awaiting, posted as seat_posted}, Progress.Plan, Same.is_number, Tasks.{polls_waiting, waits_for}, Tests.{is_unsent, waits_for_nothing, waits_for_request}, Words.{acts, asks_await, newest_held, polled_task}, World.{Task, no_seat, request_of, seat_of, task_of}}
+use Rattle.exec_machine.specs.{After.own_after, declared.{event.Event.{Event, TheVariants.{Closed, Send}}, state.{Forwarding.{TheVariants.{Sent as Forwarded}}, MailMessage.TheVariants.ForwardRequest, Waiting.Waiting}}, Choice.Choice.Plain, Mail.{after_post, after_sending, awaiting, posted as seat_posted}, Progress.Plan, Same.is_number, Tasks.{polls_waiting, waits_for}, Tests.{is_unsent, waits_for_nothing, waits_for_request}, Words.{acts, asks_await, newest_held, polled_task}, World.{Task, no_seat, request_of, seat_of, task_of}}
 use Rattle.exec_moves.specs.{declared.{handing.AfterSend.AfterSend, place.{InPoll.InPoll, Place.Place}}, Move.{move_at, move_look_at}, Poll.{Sight.{Asks, HearsRequest}, resume, sight_by, sight_of}, Seen.polls_in, Send.send_message, State.{Moved, Things}, Thing.{aside, mailbox_of, with_mailbox}}
-use Rattle.exec_parts.{specs.{declared.parts.{mail.Subject.Subject, record.Record.Record, seat.Seat.Seat as Chair, shared.Shared.Shared, task_slot.TaskSlot.TaskSlot, worker.Worker.Worker}, Awaits.newest_of, Calls.forwarded_for, MailPosts.{AsksOutput, Sends, asks_by, chair_sent}, Serving.changed_in, Spots.Spot, View.{Views, common_of, desk_of, numbers_of_passing, own_of, seat_seen, seats_seen, task_seen, things_with}}, proofs.Facts.{not_same, same_thing, set_there}}
-use Rattle.exec_invariants.{specs.{Holding.{IsAbout, IsHolding, awaited_in, box_of, holder_of, nap_of, thing_of, under_way}, Sound.{MayStop, SoundAt, acts_next}, Spares.SparesRecord, Whole.{HasWhole, Profile, hands_of, with_worker}, Works.{Beside, Steps, Suits, Works}}, proofs.{AskBoxes.{box_there, one_more_way, one_sent, same_else}, Hearing.hears_so, Here.{IsHere, going_on}, HoldBeside.Holds, HoldPosts.{posted, with_mail}, HoldThings.{Touches, touches_record}, HoldWaits.thing_awaited, Keys.{name_in, names_changed, same_gates, same_opens}, LetterPosts.{chair_open, forwards_request, open_spares, sent_open}, Lined.passing_same, Seats.seat_there, Seen.request_at, Slots.task_there, SparedRecord.there_within, TaskAsks.{Posts, asked, asked_leaves, asked_works, led_to, leads_to, to_pend}, TaskDeals.{ComesFrom, Dealt, ends as to_end, from_look}, TaskHears.thing_there, TaskTakes.{holder_there, holders_one}, TaskWants.{forward_place, made_with, wants_from}, Turning.set_found}}
-
-unsent_so : (f : Forwarding) → is_unsent f ≡ true → f ≡ Unsent
-unsent_so = grind arith
+use Rattle.exec_parts.{specs.{declared.parts.{mail.Subject.Subject, record.Record.Record, seat.Seat.Seat as Chair, shared.Shared.Shared, task_slot.TaskSlot.TaskSlot, worker.Worker.Worker}, Awaits.newest_of, Calls.forwarded_for, MailPosts.{AsksOutput, Sends, asks_by, chair_sent}, Serving.changed_in, Spots.Spot, View.{Views, common_of, desk_of, numbers_of_passing, own_of, seat_seen, seats_seen, task_seen, things_with}}, proofs.Facts.{not_same, same_Some, set_there}}
+use Rattle.exec_invariants.{specs.{Holding.{Box, IsAbout, IsForwarded, IsHolding, Mail, awaited_in, box_of, holder_of, nap_of, thing_of, under_way}, Sound.{MayStop, SoundAt, acts_next}, Spares.SparesRecord, Whole.{HasWhole, Profile, hands_of, with_worker}, Works.{Beside, Steps, Suits, Works}}, proofs.{AskBoxes.{box_there, one_more_way, one_sent, same_else}, Hearing.hears_so, Here.{IsHere, going_on}, HoldBeside.Holds, HoldPosts.{posted, with_mail}, HoldThings.{Touches, touches_record}, HoldWaits.thing_awaited, Keys.{name_in, names_changed, same_gates, same_opens}, LetterPosts.{chair_open, forwards_request, open_spares, sent_open}, Lined.passing_same, Seats.seat_there, Seen.request_at, Slots.task_there, SparedRecord.there_within, TaskAsks.{Posts, asked, asked_leaves, asked_works, led_to, leads_to, to_pend}, TaskDeals.{ComesFrom, Dealt, ends as to_end, from_look}, TaskHears.thing_there, TaskTakes.{holder_there, holders_one}, TaskWants.{forward_place, made_with, wants_from}, Turning.set_found, AsksEnds.is_unsent_so}}
 
 module _ {B : Type 0} where
   -- the slot then: its body may have acted, and is told nothing
@@ -63,7 +60,7 @@ module _ {B : Type 0} where
       let at_box = box_there s.seats.items j chair wants.there in
       let room = forward_place (hands_of (with_worker has.others w)) s.config.workers hs ts naps boxes k (thing_of r) at_r wants.few (box_of chair) at_box wants.open_box has.whole.holding by.unsent in
       let posts : Posts w.index j s.seats.items s'.seats.items chair chair' = record { other = by.other; there = wants.there; set = set; spares = open_spares (ForwardRequest k) (forwards_request k) chair wants.open_box room; queue = refl } in
-      let spares : SparesRecord r r' = record { kept = refl; waiter = λ u h. ap (λ n. Some n) (sym (wants.waiter u h)); forwarding = inr (unsent_so r.shown.forwarding by.unsent, refl); observed = inl refl } in
+      let spares : SparesRecord r r' = record { kept = refl; waiter = λ u h. ap (λ n. Some n) (sym (wants.waiter u h)); forwarding = inr (is_unsent_so r.shown.forwarding by.unsent, refl); observed = inl refl } in
       let mid_sleepers : mid.sleepers ≡ s.sleepers = ap (λ (y : Shared B). y.sleepers) by.kept in
       let midkept : mid ≡ record s { tasks = mid.tasks; requests = mid.requests; sleepers = mid.sleepers } = by.kept ∙ ap (λ y. record s { tasks = mid.tasks; requests = mid.requests; sleepers = y }) (sym mid_sleepers) in
       let touches : Touches s (record s { requests = mid.requests; sleepers = mid.sleepers }) = subst (λ y. Touches s (record s { requests = mid.requests; sleepers = y })) (sym mid_sleepers) (touches_record s mid k r r' by.request spares by.requests) in
@@ -81,24 +78,14 @@ module _ {B : Type 0} where
       let h = hands_of (with_worker others w) in
       let mail : Message Subject Subject = Message.Forward (Subject.Request k) in
       let about_old : IsAbout s.config.workers j mail ts naps = (thing_of r, at_r, refl, wants.few) in
+      let waits = ap holder_of took ∙ ap (λ o. record (holder_of slot) { awaits = Some (Subject.Request k); output = o }) (sym (ap (λ (y : TaskSlot B). y.output) took)) in
+      let ordinary : false ≡ false → slot.home ≡ None = λ sent. wants.ordinary in
+      let output : false ≡ false → slot'.output ≡ Open = λ sent. ap (λ (y : TaskSlot B). y.output) took in
+      let forwarded : (b : Box) → slice_get boxes j ≡ Some b → IsForwarded b.shut r.shown.forwarding (under_way h mail boxes) → IsForwarded b.shut Forwarded (under_way (with_mail mail h) mail boxes) = λ b there fact.
+      one_sent b.shut r.shown.forwarding (under_way h mail boxes) (under_way (with_mail mail h) mail boxes) by.unsent (one_more_way h mail boxes) fact in
+      let others_mail : (m : Mail) → m ≢ mail → (with_mail mail h).mail m ≡ h.mail m = λ m apart. same_else h mail m apart in
       let asked_for : IsHolding (with_mail mail h) s.config.workers (slice_set hs t (holder_of slot')) (slice_set ts k (thing_of r')) naps boxes =
-      thing_awaited h (with_mail mail h) s.config.workers hs ts naps boxes t k (holder_of slot) (holder_of slot') (thing_of r) Forwarded (record {
-        there = at_t;
-        thing = at_r;
-        newest = by.newest;
-        waits = ap holder_of took ∙ ap (λ o. record (holder_of slot) { awaits = Some (Subject.Request k); output = o }) (sym (ap (λ (y : TaskSlot B). y.output) took));
-        going = going_on slot.cell.phase at.polled;
-        awaited = by.waits;
-        unsent = by.unsent;
-        ordinary = λ sent. wants.ordinary;
-        output = λ sent. ap (λ (y : TaskSlot B). y.output) took;
-        forwarded = λ box there fact. one_sent box.shut r.shown.forwarding (under_way h mail boxes) (under_way (with_mail mail h) mail boxes) by.unsent (one_more_way h mail boxes) fact;
-        mail = λ m apart. same_else h mail m apart;
-        wakes = refl;
-        made = made_with h s.config.workers ts naps mail j about_old old.made;
-        box = box_of chair;
-        seat = at_box;
-      }) old in
+      thing_awaited h (with_mail mail h) s.config.workers hs ts naps boxes t k (holder_of slot) (holder_of slot') (thing_of r) Forwarded (search (at_t, at_r, by, waits, going_on slot.cell.phase at.polled, ordinary, output, forwarded, others_mail, made_with h s.config.workers ts naps mail j about_old old.made, at_box)) old in
       let about : IsAbout s.config.workers j mail (slice_set ts k (thing_of r')) naps = (thing_of r', set_there ts k (thing_of r') (thing_of r) at_r, refl, wants.few) in
       let there : IsHolding h s.config.workers (slice_set hs t (holder_of slot')) (slice_set ts k (thing_of r')) naps (slice_set boxes j (box_of chair')) =
       posted h s.config.workers (slice_set hs t (holder_of slot')) (slice_set ts k (thing_of r')) naps boxes j mail (box_of chair) at_box about asked_for in
@@ -168,26 +155,19 @@ module _ {B L : Type 0} (left : B → L) (spot : L → Option Said → Spot) whe
       → AsksOutput t k w w' s s' e → Steps left spot w s e w' s'
   output_asked t k w w' s s' e r sound has at waits at_k unsent other asks =
       let slot = at.slot in
-      let same_slot : asks.slot ≡ slot = same_thing asks.slot slot (sym asks.there ∙ at.there) in
-      let same_r : asks.r ≡ r = same_thing asks.r r (sym asks.request ∙ at_k) in
+      let same_slot : asks.slot ≡ slot = same_Some asks.slot slot (sym asks.there ∙ at.there) in
+      let same_r : asks.r ≡ r = same_Some asks.r r (sym asks.request ∙ at_k) in
       let mid = asks.middle in
       let slot' : TaskSlot B = record slot { output = Open } in
       let untold : slot.told ≡ None = at.untold (ap acts_next waits) in
       let asleep : slot' ≡ record slot { waiting = Waiting.Request k; output = Open } = ap (λ u. record slot { waiting = u; output = Open }) waits in
       let awaiting_it = has.whole.holding.awaiting t (holder_of slot) k (holder_there s.tasks.items t slot at.there) (ap awaited_in waits) in
-      let by : AsksFor InPoll.Resume t k w w' s mid s' e slot slot' r = record {
-        there = at.there;
-        newest = awaiting_it.2.newest (going_on slot.cell.phase at.polled);
-        waits = inr (ap awaited_in waits);
-        request = at_k;
-        unsent = unsent;
-        other = other;
-        slot_so = record { took = asleep ∙ ap (λ o. record slot { waiting = Waiting.Request k; output = Open; told = o }) untold; body = at.body };
-        kept = asks.kept;
-        tasks = asks.tasks ∙ ap (λ (o : TaskSlot B). slice_set s.tasks.items t (record o { waiting = Waiting.Request k; output = Open })) same_slot ∙ ap (slice_set s.tasks.items t) (sym asleep);
-        requests = asks.requests ∙ ap (λ y. slice_set s.requests.items k (forwarded_for t y)) same_r;
-        sends = subst (λ (y : Record). Sends y.shown.worker (ForwardRequest k) (AfterSend.Pend t) w w' mid s' e) same_r asks.sends;
-      } in
+      let awaits : (awaited_in slot.waiting ≡ None) ⊎ (awaited_in slot.waiting ≡ Some (Subject.Request k)) = inr (ap awaited_in waits) in
+      let so : WaitsElsewhere k slot slot' = record { took = asleep ∙ ap (λ o. record slot { waiting = Waiting.Request k; output = Open; told = o }) untold; body = at.body } in
+      let tasks = asks.tasks ∙ ap (λ (o : TaskSlot B). slice_set s.tasks.items t (record o { waiting = Waiting.Request k; output = Open })) same_slot ∙ ap (slice_set s.tasks.items t) (sym asleep) in
+      let requests = asks.requests ∙ ap (λ y. slice_set s.requests.items k (forwarded_for t y)) same_r in
+      let sends = subst (λ (y : Record). Sends y.shown.worker (ForwardRequest k) (AfterSend.Pend t) w w' mid s' e) same_r asks.sends in
+      let by : AsksFor InPoll.Resume t k w w' s mid s' e slot slot' r = assumption (at, awaiting_it.2.newest (going_on slot.cell.phase at.polled), awaits, at_k, unsent, other, so, tasks, requests, sends, asks) in
       let asked = output_asks InPoll.Resume t k w w' s mid s' e slot' r (from_look t) sound has at by in
       let all : s' ≡ record mid { seats = s'.seats } = by.sends.kept in
       let done : Steps left spot w s (Send r.shown.worker (ForwardRequest k)) (record w { place = led_to t InPoll.Pend (AfterSend.Pend t) r.shown.worker (asks_by (ForwardRequest k) asked.chair.mailbox) }) s' = (
@@ -214,9 +194,7 @@ module _ {B L : Type 0} (left : B → L) (spot : L → Option Said → Spot) whe
           let looks : Task → Moved Things = λ y. move_look_at p.config all d x t b (aside x (resume w.index t all d y)) (sight_of w.index all y.waiting) in
           let finds : Bool → Bool → Moved Things = λ u m. move_look_at p.config all d x t b (aside x (resume w.index t all d seen)) (sight_by u m (Asks r.shown.worker (ForwardRequest k)) (HearsRequest k)) in
           record {
-            moves = ap looks it ∙ ap (λ u. looks (record (task_seen left spot slot) { waiting = u })) waits
-                ∙ ap (λ q. move_look_at p.config all d x t b (aside x (resume w.index t all d seen)) (sight_by (is_unsent q.forwarding) (q.worker == w.index) (Asks q.worker (ForwardRequest k)) (HearsRequest k))) request
-                ∙ ap (λ u. finds u (r.shown.worker == w.index)) unsent ∙ ap (finds true) apart;
+            moves = grind (arith, it, waits, request, unsent, apart);
             takes = ap (λ u. waits_for_request k u || acts me all asks_await) what ∙ ap (λ c. c || acts me all asks_await) (eq-eqb k k refl);
             polled = refl;
             own_then = refl;

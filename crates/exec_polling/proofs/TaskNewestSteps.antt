@@ -1,8 +1,8 @@
 -- WHAT A TASK'S ACT DOES with the newest request that it holds: the whole steps, by where that is and whether it is over.
-use Rattle.std.proofs.Common.{◌≡◌, ℕ, true, false, List, [], Option, Some, None, IsSome, refl, sym, ap, subst, ◌∙◌, slice_get, arith}
+use Rattle.std.proofs.Common.{◌≡◌, ℕ, true, false, List, [], Option, Some, None, IsSome, refl, sym, ap, subst, ◌∙◌, slice_get}
 use Rattle.exec_task.specs.{Sight.Sight, declared.body.{Act.Act, Said.Said}}
 use Rattle.exec_machine.specs.{declared.event.Event.Event, Progress.Plan, Tests.is_resolved}
-use Rattle.exec_parts.{specs.{declared.parts.{shared.Shared.Shared, task_slot.TaskSlot.TaskSlot, worker.Worker.Worker}, Awaits.{AwaitsNewest, DropsRequest, OfNewest, newest_of}, Polls.OfSlot, Scripts.IsAnswered, Spots.Spot}, proofs.Facts.{by_number, same_thing, set_there}}
+use Rattle.exec_parts.{specs.{declared.parts.{shared.Shared.Shared, task_slot.TaskSlot.TaskSlot, worker.Worker.Worker}, Awaits.{AwaitsNewest, DropsRequest, OfNewest, newest_of}, Polls.OfSlot, Scripts.IsAnswered, Spots.Spot}, proofs.Facts.{by_number, same_Some, set_there}}
 use Rattle.exec_invariants.{specs.{Acting.{HasActed, StepsOf}, Whole.HasWhole}, proofs.{SparedRecord.there_within, TaskNewest.newest_known}}
 use Rattle.exec_polling.proofs.{TaskAwaits.{awaits_elsewhere, awaits_got}, TaskBegins.awaits_on, TaskDrops.drops_own, TaskTells.drops_elsewhere, Waited.waited_by}
 
@@ -46,4 +46,4 @@ module _ {B L : Type 0} (left : B → L) (runs : L → Plan → Option ℕ → T
   drops_some t w s s1 k h slot at_task =
       let m = h.made in
       let found : slice_get s1.tasks.items t ≡ Some m.slot' = ap (λ ts. slice_get ts t) m.tasks ∙ set_there s.tasks.items t m.slot' m.slot m.there in
-      subst (λ (o : TaskSlot B). IsSome (newest_of o)) (same_thing m.slot' slot (sym found ∙ at_task)) (rw (ap newest_of m.acts.slot ∙ (h.asks h.one.0 (record { workers = []; calls = [] }) h.one.2).asks.1) refl)
+      subst (λ (o : TaskSlot B). IsSome (newest_of o)) (same_Some m.slot' slot (sym found ∙ at_task)) (rw (ap newest_of m.acts.slot ∙ (h.asks h.one.0 (record { workers = []; calls = [] }) h.one.2).asks.1) refl)

@@ -1,10 +1,10 @@
 -- A POLL ENDS of a task that was cleared meanwhile: the task is over by that.
-use Rattle.std.proofs.{Common.{◌≡◌, ◌≢◌, ◌⊎◌, inl, inr, ⊎_elim, ℕ, ◌<◌, ◌==◌, Bool, true, false, List, [], ◌++◌, length, Option, Some, None, IsSome, refl, sym, ap, subst, ◌∙◌, slice_get, slice_set, if◌then◌else◌}, lemmas.{Bool.{false≢true, eq-eqb}, List.set-set, Option.slice_get_within}}
+use Rattle.std.proofs.{Common.{arith, ◌≡◌, ◌≢◌, ◌⊎◌, inl, inr, ⊎_elim, ℕ, ◌<◌, ◌==◌, Bool, true, false, List, [], ◌++◌, length, Option, Some, None, IsSome, refl, sym, ap, subst, ◌∙◌, slice_get, slice_set, if◌then◌else◌}, lemmas.{Bool.{false≢true, eq-eqb}, List.set-set, Option.slice_get_within}}
 use Rattle.exec_task.specs.{Phases.over as cell_over, declared.body.Said.Said}
 use Rattle.exec_machine.specs.{declared.{event.Event.{Event, TheVariants.Pend}, state.{Letter.Letter, Next.Next, TaskPhase.TaskPhase, Waiting.Waiting}}, Choice.Choice.Plain, Progress.Plan, Same.is_number, Tasks.{after_over, may_stop, own_after_over, pended_phase, unpolled}, Tests.{is_empty, is_settled}, World.{Own, Task, task_of}}
-use Rattle.exec_moves.specs.{declared.{handing.AfterCancels.AfterCancels, place.{InPick.InPick, InPoll.InPoll, Place.Place}}, Parts.cancels_left, Poll.{after_pend, requeued_if, is_noted, told_of_end}, Seen.{next_at, serves_at}, State.{Desk, Moved, Things}, Told.lets_go_all}
-use Rattle.exec_parts.{specs.{Records.numbers_held, declared.parts.{shared.Shared.Shared, sleeping.SleeperRecord.SleeperRecord, task_slot.TaskSlot.TaskSlot, worker.Worker.Worker}, Ending.{LetsGoAll, LetsGoOf, LetsWaiting, MayLetGoOf, PendsTask, others_of}, Phased.is_complete, Polls.pended_slot, Spots.Spot, View.{Views, common_of, desk_of, letters_in, own_of, owed_at, spot_by, task_seen, things_with}, Things.TurnsSlot}, proofs.Facts.{same_thing, set_there}}
-use Rattle.exec_invariants.{specs.{Gates.AreLinedUp, Holding.{MayHave, Nap, awaited_in, holder_of, nap_of}, HoldPlaces.sends_cancel_at, Places.{hands_on_at, removes_at, step_of_poll}, Sound.{HasGuest, IsInHand, MayStop, SoundAt, Stops, may_end, served_in}, Whole.HasWhole, Works.{Steps, Suits, Works}}, proofs.{Hearing.hears_over, Here.IsHere, Lined.unmapped, Onces.leaves_none, Pending.{MayEnd, in_poll, polled_none, stops}, Polling.{IsOutside, next_hands, next_outside}, ServingHolds.Keeps, Slots.task_there, SlotTasks.{Keeps as KeepsSlot, Tasked, guest_pool, guest_tasked, none_in, sound_tasked}, TaskOverPlaces.{IsQuiet, tells_past}, TaskOverActs.{over_untold, split_left}, TaskOverFold.{HoldsAll, LetsSeen}, TaskOverGone.{AllGone, RemovesSeen, all_gone}, TaskOverLetters.{AreLetters, letters_fit, no_letters}, TaskOverMay.{HasAll, has_all, keeps_tasks, may_let_go}, TaskOverPolls.{InPollAt, OversPoll, beside_over, gone_at, over_shared, over_worker, sound_over}, TaskOverSeen.{common_then, desk_then, own_then, things_then}, TaskOverSound.{IsAside, IsOwing, own_keeps}, TaskOverWhole.IsPast, TaskTakes.holder_there}}
+use Rattle.exec_moves.specs.{declared.{handing.AfterCancels.AfterCancels, place.{InPick.InPick, InPoll.InPoll, Place.Place}}, Parts.cancels_left, Poll.{after_pend}, Seen.{next_at, serves_at}, State.{Desk, Moved, Things}, Told.lets_go_all}
+use Rattle.exec_parts.{specs.{Records.numbers_held, declared.parts.{shared.Shared.Shared, sleeping.SleeperRecord.SleeperRecord, task_slot.TaskSlot.TaskSlot, worker.Worker.Worker}, Ending.{LetsGoAll, LetsGoOf, LetsWaiting, MayLetGoOf, PendsTask, others_of}, Phased.is_complete, Polls.pended_slot, Spots.Spot, View.{Views, common_of, desk_of, letters_in, own_of, owed_at, spot_by, task_seen, things_with}, Things.TurnsSlot}, proofs.Facts.{same_Some, set_there}}
+use Rattle.exec_invariants.{specs.{Gates.AreLinedUp, Holding.{MayHave, Nap, awaited_in, holder_of, nap_of}, HoldPlaces.sends_cancel_at, Places.{hands_on_at, removes_at, step_of_poll}, Sound.{HasGuest, IsInHand, MayStop, SoundAt, Stops, may_end, served_in}, Whole.HasWhole, Works.{Steps, Suits, Works}}, proofs.{Hearing.hears_over, Here.IsHere, Lined.unmapped, Onces.leaves_none, Pending.{MayEnd, in_poll, polled_none, stops}, Polling.{IsOutside, next_hands, next_outside}, ServingHolds.Keeps, Slots.task_there, SlotTasks.{Keeps as KeepsSlot, Tasked, guest_pool, guest_tasked, none_in, sound_tasked}, TaskOverPlaces.{IsQuiet, tells_past}, TaskOverActs.{over_untold, split_left}, TaskOverFold.{HoldsAll, LetsSeen}, TaskOverGone.{AllGone, RemovesSeen, all_gone}, TaskOverLetters.{AreLetters, letters_fit, no_letters}, TaskOverMay.{HasAll, has_all, keeps_tasks, may_let_go}, TaskOverPolls.{InPollAt, OversPoll, beside_over, gone_at, over_shared, over_worker, sound_over}, TaskOverSeen.{common_then, desk_then, own_then, things_then}, TaskOverSound.{IsAside, IsOwing, own_keeps}, TaskOverWhole.{IsDone, IsPast}, TaskTakes.holder_there}}
 use Rattle.exec_polling.proofs.{Guests.EndsHere, TaskPends.pended_over}
 
 -- THE NEXT PICK
@@ -80,7 +80,7 @@ module _ {B L : Type 0} (left : B → L) (spot : L → Option Said → Spot) (x 
 
   module _ (w' : Worker) (s' : Shared B) (e : Event) (event : e ≡ Pend t) (moves_here : EndsHere left spot x t w s) (ends : may_end here.slot.waiting ≡ true) (stop : MayStop w.index here.slot.waiting s.requests.items s.sleepers.items) (pends : PendsTask t w w' s s') where
     slot_is : pends.slot ≡ here.slot
-    slot_is = same_thing pends.slot here.slot (sym pends.there ∙ here.there)
+    slot_is = same_Some pends.slot here.slot (sym pends.there ∙ here.there)
 
     over_is : pended_slot here.slot ≡ record here.slot { cell = cell_over here.slot.cell }
     over_is = pended_over here.slot here.body gone_is
@@ -101,7 +101,7 @@ module _ {B L : Type 0} (left : B → L) (spot : L → Option Said → Spot) (x 
     there_mid = ap (λ ts. slice_get ts t) items_mid ∙ set_there s.tasks.items t (pended_slot here.slot) here.slot here.there
 
     held_is : lets.slot ≡ record here.slot { cell = cell_over here.slot.cell }
-    held_is = same_thing lets.slot (pended_slot here.slot) (sym lets.there ∙ there_mid) ∙ over_is
+    held_is = same_Some lets.slot (pended_slot here.slot) (sym lets.there ∙ there_mid) ∙ over_is
 
     first_is : lets.first ≡ record s { tasks = lets.first.tasks }
     first_is = lets.kept ∙ ap (λ (y : Shared B). record y { tasks = lets.first.tasks }) pends.pended_is.kept
@@ -126,14 +126,10 @@ module _ {B L : Type 0} (left : B → L) (spot : L → Option Said → Spot) (x 
     became = lets.emptied ∙ ap (λ (o : TaskSlot B). record o { held = lets.slot'.held }) held_is
 
     items : s'.tasks.items ≡ slice_set s.tasks.items t over_slot
-    items =
-        ap (λ (y : Shared B). y.tasks.items) gone_first.kept ∙ lets.tasks ∙ ap (λ ts. slice_set ts t lets.slot') items_mid
-        ∙ set-set s.tasks.items t (pended_slot here.slot) lets.slot' ∙ ap (slice_set s.tasks.items t) became
+    items = grind (arith, gone_first.kept, lets.tasks, items_mid, set-set s.tasks.items t (pended_slot here.slot) lets.slot', became)
 
     shared_is : s' ≡ over_shared s'.tasks.items s' (record s' { tasks = s.tasks }) s
-    shared_is =
-        gone_first.kept ∙ ap (λ (y : Shared B). record y { requests = s'.requests; sleepers = s'.sleepers }) first_is
-        ∙ ap (λ ts. record s { tasks = ts; requests = s'.requests; sleepers = s'.sleepers }) (sym (ap (λ (y : Shared B). y.tasks) gone_first.kept))
+    shared_is = grind (arith, gone_first.kept, first_is)
 
     v_is : pends.v ≡ record lets.u { letters = pends.v.letters }
     v_is = lets.worker
@@ -142,9 +138,7 @@ module _ {B L : Type 0} (left : B → L) (spot : L → Option Said → Spot) (x 
     picks = ap (λ (y : Worker). y.picks) v_is ∙ ap (λ (y : Worker). y.picks) gone_first.worker
 
     worker_is : w' ≡ over_worker (cancels_left AfterCancels.Pick (desk_of pends.v) (letters_in pends.v.letters)) pends.v.letters lets.u w
-    worker_is =
-        goes_is ∙ ap (λ (y : Worker). record y { place = cancels_left AfterCancels.Pick (desk_of pends.v) (letters_in pends.v.letters) }) v_is
-        ∙ ap (λ (y : Worker). record y { place = cancels_left AfterCancels.Pick (desk_of pends.v) (letters_in pends.v.letters); letters = pends.v.letters }) gone_first.worker
+    worker_is = grind (arith, goes_is, v_is, gone_first.worker)
 
     keeps_slot : KeepsSlot here.slot over_slot
     keeps_slot = record { home = refl; number = refl; owner = refl }
@@ -157,20 +151,12 @@ module _ {B L : Type 0} (left : B → L) (spot : L → Option Said → Spot) (x 
 
     overs : OversPoll x t (cancels_left AfterCancels.Pick (desk_of pends.v) (letters_in pends.v.letters)) pends.v.letters w lets.u s (record s' { tasks = s.tasks }) s' here.slot over_slot
     overs =
-        record {
-          there = here.there;
-          items = items;
-          done = record { keeps = keeps_slot; cleared = refl; unpolled = refl; complete = refl; one = λ g n one. leaves_none g n (polled_none g here.slot.cell.phase n here.polled one) };
-          holder = ap (λ hs. record (holder_of here.slot) { held = hs; over = true }) lets.none;
-          polled = here.polled;
-          poller = here.poller;
-          home = inr ordinary;
-          idle = λ some. absurd (false≢true (subst (λ o. IsSome o) ordinary some));
-          gone = gone;
-          past = by_split IsPast (picks_past (w.picks == 0)) (tells_past AfterCancels.Pick);
-          aside = by_split IsAside (picks_aside (w.picks == 0)) tells_picking;
-          removes = λ u is. absurd (let no : None ≡ Some u = sym (by_split (λ y. removes_at y ≡ None) (picks_none (w.picks == 0)) refl) ∙ is in cc);
-        }
+        let done : IsDone here.slot over_slot = record { keeps = keeps_slot; cleared = refl; unpolled = refl; complete = refl; one = λ g n one. leaves_none g n (polled_none g here.slot.cell.phase n here.polled one) } in
+        let home : (here.slot.home ≡ Some w.index) ⊎ (here.slot.home ≡ None) = inr ordinary in
+        let idle : IsSome here.slot.home → awaited_in here.slot.waiting ≡ None = λ some. absurd (false≢true (subst (λ o. IsSome o) ordinary some)) in
+        let removes : (u : ℕ) → removes_at (cancels_left AfterCancels.Pick (desk_of pends.v) (letters_in pends.v.letters)) ≡ Some u → (u ≡ t) × (here.slot.home ≡ None) = λ u is. absurd (let no : None ≡ Some u = sym (by_split (λ y. removes_at y ≡ None) (picks_none (w.picks == 0)) refl) ∙ is in cc) in
+        let holder = ap (λ hs. record (holder_of here.slot) { held = hs; over = true }) lets.none in
+        assumption (here, items, done, holder, home, idle, gone, by_split IsPast (picks_past (w.picks == 0)) (tells_past AfterCancels.Pick), by_split IsAside (picks_aside (w.picks == 0)) tells_picking, removes)
 
     -- what holds
     first_sound : SoundAt (pick_by (w.picks == 0)) (record w { place = pick_by (w.picks == 0) }) (record s { tasks = s'.tasks })
@@ -188,11 +174,7 @@ module _ {B L : Type 0} (left : B → L) (spot : L → Option Said → Spot) (x 
           polls = λ n never. let no : None ≡ Some n = sym out.polls ∙ never in absurd (cc);
           guest = subst (λ o. HasGuest o (step_of_poll q0) w.index w.root (slice_set s.tasks.items t over_slot)) (sym out.polls) tt;
           stops = subst (λ o. Stops o (step_of_poll q0) w.index (slice_set s.tasks.items t over_slot) s.requests.items s.sleepers.items) (sym out.polls) tt;
-          rests = λ unpolled. record {
-            uncleared = λ never. absurd (false≢true (sym never));
-            told = λ told. absurd (false≢true (sym (over_untold here.slot.waiting) ∙ told));
-            untold = here.untold;
-          };
+          rests = λ unpolled. (grind (arith, false, true, over_untold, here.slot.waiting, here.untold));
         })) in
         subst (λ o. SoundAt q0 (record w { place = q0; hand = o }) (record s { tasks = s'.tasks })) (sym empty) (sound_tasked t x q0 w w.root_ready None s s' sound out.after tasked)
 
@@ -216,10 +198,7 @@ module _ {B L : Type 0} (left : B → L) (spot : L → Option Said → Spot) (x 
         let by : Desk → Moved Things = λ d. record { event = Pend t; choice = Plain; desk = d; thing = things_with vs s } in
         let desk : lets_go_all i c seen_slot (desk_of wq) ≡ desk_of pends.v =
         ap (λ y. lets_go_all i c seen_slot (desk_of y)) here_w ∙ desk_then left spot p vs t q' pends.v.letters w lets.u s (record s' { tasks = s.tasks }) s' here.slot over_slot suits here.there items gone none ∙ ap desk_of (sym v_is) in
-        let desk_all : after_pend i t c (desk_of wq) (task_of c t) (task_of c t).home ≡ desk_of W' =
-        ap (λ (y : Task). after_pend i t c (desk_of wq) y y.home) at_task ∙ ap (after_pend i t c (desk_of wq) seen_slot) ordinary
-        ∙ ap (λ b. if b then told_of_end (lets_go_all i c seen_slot (desk_of wq)) else requeued_if (is_noted seen_slot.phase) t (desk_of wq)) cleared
-        ∙ ap (λ d. told_of_end d) desk ∙ ap (λ (y : Worker). desk_of (record y { place = q' })) (v_is ∙ ap (λ (y : Worker). record y { letters = pends.v.letters }) gone.worker) in
+        let desk_all : after_pend i t c (desk_of wq) (task_of c t) (task_of c t).home ≡ desk_of W' = grind (arith, at_task, ordinary, cleared, desk, v_is, gone.worker) in
         let things = things_then left spot p vs t q' pends.v.letters w lets.u s (record s' { tasks = s.tasks }) s' here.slot over_slot suits here.there items gone in
         let seen_over : task_seen left spot over_slot ≡ record seen_slot { phase = TaskPhase.Done; held = [] } = over_seen in
         subst (λ y. Works left spot p vs y s (Pend t) W' S') here_w (record {

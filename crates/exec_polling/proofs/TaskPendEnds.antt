@@ -1,10 +1,9 @@
 -- A POLL ENDS where it stands (Pend, or at what its task waits for): whether its task was cleared meanwhile or not.
 use Rattle.std.proofs.{Common.{◌≡◌, Bool, true, false, ℕ, Option, refl, sym, ap, subst, ◌∙◌}, lemmas.Bool.false≢true}
-use Rattle.std.proofs.Common.{arith}
 use Rattle.exec_task.specs.{Phases.pend_answer, declared.body.Said.Said}
 use Rattle.exec_machine.specs.declared.event.Event.{Event, TheVariants.Pend}
 use Rattle.exec_moves.specs.declared.place.{InPoll.InPoll, Place.Place}
-use Rattle.exec_parts.{specs.{declared.parts.{shared.Shared.Shared, task_slot.TaskSlot.TaskSlot, worker.Worker.Worker}, Ending.{MayPend, PendsTask}, Phased.is_complete, Polls.pended_slot, Pooled.queued_again, Spots.Spot, Tests.after_poll_of}, proofs.Facts.same_thing}
+use Rattle.exec_parts.{specs.{declared.parts.{shared.Shared.Shared, task_slot.TaskSlot.TaskSlot, worker.Worker.Worker}, Ending.{MayPend, PendsTask}, Phased.is_complete, Polls.pended_slot, Pooled.queued_again, Spots.Spot, Tests.after_poll_of}, proofs.Facts.same_Some}
 use Rattle.exec_invariants.{specs.{Sound.{MayStop, SoundAt, may_end}, Whole.HasWhole, Works.Steps}, proofs.{Here.IsHere, Pending.{MayEnd, at_end}, TaskOverFold.LetsSeen, TaskOverGone.RemovesSeen, TaskOverPolls.InPollAt}}
 use Rattle.exec_polling.proofs.{Guests.{EndsHere, poll_stopped}, TaskOverPends.{may_let_pended, pended_cleared}, TaskPends.pended_going}
 
@@ -23,7 +22,7 @@ module _ {B L : Type 0} (left : B → L) (spot : L → Option Said → Spot) (x 
         body = it.body;
         agrees = it.agrees;
         lets = λ slot found over mid turns.
-            let is : slot ≡ here.slot = same_thing slot here.slot (sym found ∙ here.there) in
+            let is : slot ≡ here.slot = same_Some slot here.slot (sym found ∙ here.there) in
             let gone : here.slot.cell.cancelled ≡ true = cleared_by (λ kept. false≢true (sym (pended_going here.slot here.body here.polled kept) ∙ ap (λ (o : TaskSlot B). is_complete (pended_slot o).cell.phase) (sym is) ∙ over)) in
             may_let_pended left spot x t w s sound may at here gone has seen removes mid turns;
       }
@@ -31,7 +30,7 @@ module _ {B L : Type 0} (left : B → L) (spot : L → Option Said → Spot) (x 
   module _ (w' : Worker) (s' : Shared B) (e : Event) (event : e ≡ Pend t) (moves_here : EndsHere left spot x t w s) (ends : may_end here.slot.waiting ≡ true) (stop : MayStop w.index here.slot.waiting s.requests.items s.sleepers.items) (pends : PendsTask t w w' s s') where
     plainly : here.slot.cell.cancelled ≡ false → Steps left spot w s e w' s'
     plainly kept =
-        let is : pends.slot ≡ here.slot = same_thing pends.slot here.slot (sym pends.there ∙ here.there) in
+        let is : pends.slot ≡ here.slot = same_Some pends.slot here.slot (sym pends.there ∙ here.there) in
         let going : is_complete (pended_slot pends.slot).cell.phase ≡ false = ap (λ (o : TaskSlot B). is_complete (pended_slot o).cell.phase) is ∙ pended_going here.slot here.body here.polled kept in
         let then_is = pends.still going in
         let goes : w' ≡ queued_again t (pend_answer here.slot.cell) (record w { place = after_poll_of t w }) = then_is.0 ∙ ap (λ (o : TaskSlot B). queued_again t (pend_answer o.cell) (record w { place = after_poll_of t w })) is in

@@ -1,10 +1,9 @@
 -- A POLL ENDS AT A LOOK: what its task waits for is its worker's, and hasn't come.
-use Rattle.std.proofs.{Common.{◌≡◌, inr, ℕ, ◌||◌, Bool, true, false, Option, Some, refl, sym, ap, subst, ◌∙◌, slice_get}, lemmas.Bool.{false≢true}}
-use Rattle.std.proofs.Common.{arith}
+use Rattle.std.proofs.{Common.{◌≡◌, inr, ℕ, ◌||◌, Bool, true, false, Option, Some, refl, sym, ap, subst, ◌∙◌, slice_get, arith}, lemmas.Bool.false≢true}
 use Rattle.exec_task.specs.declared.body.Said.{Said}
 use Rattle.exec_machine.specs.{declared.{event.Event.TheVariants.Pend, state.{MailMessage.TheVariants.{ForwardRequest, ForwardTimer}, Waiting.Waiting}}, Tests.{is_resolved, is_unsent}, World.{Task, request_of, sleeper_of, task_of}}
 use Rattle.exec_moves.specs.{declared.{handing.AfterSend.AfterSend, place.{InPoll.InPoll, Place.Place}}, Move.move_look_at, Poll.{Sight.{Asks, HearsRequest, HearsTimer}, resume, sight_by, sight_of}, State.{Moved, Things}, Thing.aside}
-use Rattle.exec_parts.{specs.{declared.parts.{record.Record.Record, shared.Shared.Shared, sleeping.SleeperRecord.SleeperRecord, task_slot.TaskSlot.TaskSlot, worker.Worker.Worker}, Spots.Spot, View.{common_of, desk_of, task_seen, things_with}}, proofs.Facts.same_thing}
+use Rattle.exec_parts.{specs.{declared.parts.{record.Record.Record, shared.Shared.Shared, sleeping.SleeperRecord.SleeperRecord, task_slot.TaskSlot.TaskSlot, worker.Worker.Worker}, Spots.Spot, View.{common_of, desk_of, task_seen, things_with}}, proofs.Facts.same_Some}
 use Rattle.exec_invariants.{specs.{Holding.{awaited_in, holder_of, nap_of}, Sound.{MayStop, may_end}, Whole.HasWhole}, proofs.{Here.{IsHere, going_on}, Seen.{request_at, sleeper_at}, Slots.task_there, TaskTakes.{holder_there, nap_there}}}
 use Rattle.exec_polling.proofs.Guests.{EndsHere}
 
@@ -48,7 +47,7 @@ module _ {B : Type 0} where
       → (may_end at.slot.waiting ≡ true) × MayStop w.index at.slot.waiting s.requests.items s.sleepers.items
   stops_timer t k w s z has at waits at_k mine going =
       let asleep = has.whole.holding.asleep t (holder_of at.slot) k (holder_there s.tasks.items t at.slot at.there) (ap awaited_in waits) in
-      let same : asleep.0 ≡ nap_of z = same_thing asleep.0 (nap_of z) (sym asleep.1 ∙ nap_there s.sleepers.items k z at_k) in
+      let same : asleep.0 ≡ nap_of z = same_Some asleep.0 (nap_of z) (sym asleep.1 ∙ nap_there s.sleepers.items k z at_k) in
       let kept : (z.shown.removed || z.closed) ≡ false = sym (ap (λ x. x.removed) same) ∙ asleep.2.kept (going_on at.slot.cell.phase at.polled) in
       (ap may_end waits, subst (λ v. MayStop w.index v s.requests.items s.sleepers.items) (sym waits) (z, at_k, inr (mine, going, first_none z.shown.removed z.closed kept)))
     where

@@ -1,6 +1,5 @@
 -- A POLL ENDS at its place: that of a task that wasn't cleared meanwhile.
-use Rattle.std.proofs.{Common.{◌≡◌, true, false, Option, IsSome}}
-use Rattle.std.proofs.Common.{arith}
+use Rattle.std.proofs.Common.{◌≡◌, true, false, IsSome, arith}
 use Rattle.exec_task.specs.{Phases.{is_polled, over}}
 use Rattle.exec_parts.{specs.{declared.parts.{task_slot.TaskSlot.TaskSlot}, Phased.is_complete, Polls.{pended_slot}}}
 

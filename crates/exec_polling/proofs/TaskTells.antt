@@ -1,11 +1,11 @@
 -- A POLLED TASK LETS GO of the newest request that it holds, which another worker has: that is told.
-use Rattle.std.proofs.{Common.{◌≡◌, ◌≢◌, ℕ, ◌==◌, ◌&&◌, Bool, true, false, not, List, map, Option, Some, refl, sym, ap, subst, ◌∙◌, arith, slice_get, slice_set, if◌then◌else◌}, lemmas.{Bool.eq-eqb, List.map-set, Option.{get_or_from_slice_get, slice_get_within}}}
+use Rattle.std.proofs.{Common.{◌≡◌, ◌≢◌, ℕ, ◌+◌, ◌==◌, ◌&&◌, Bool, true, false, not, List, map, Option, Some, refl, sym, ap, subst, ◌∙◌, arith, slice_get, slice_set, if◌then◌else◌}, lemmas.{Bool.eq-eqb, List.map-set, Option.{get_or_from_slice_get, slice_get_within}}}
 use Rattle.exec_words.specs.declared.inbox.Message.{Message}
 use Rattle.exec_task.specs.{Phases.is_polled, Sight.Sight, declared.body.{Act.Act, Said.Said}}
 use Rattle.exec_machine.specs.{declared.{config.ScriptWord.ScriptWord, event.Event.{Event, TheVariants.{Closed, Drop, Send}}, state.{MailMessage.TheVariants.CancelRequest, Waiting.Waiting}}, Mail.{is_first_owed, posted as seat_posted}, Progress.Plan, Same.is_number, Tasks.after_letting_go, Words.{acts, asks_drop, newest_held, next_word}, World.{Task, no_seat, request_of, seat_of, task_of}}
 use Rattle.exec_moves.specs.{declared.{handing.AfterSend.AfterSend, place.{InPoll.InPoll, Place.Place}}, Move.move_look_at, Poll.{Sight.{Asks, Here}, acts_on}, State.{Moved, Things, does}, Thing.aside, Told.told_of_drop}
-use Rattle.exec_parts.{specs.{declared.parts.{mail.Subject.Subject, record.Record.Record, seat.Seat.Seat as Chair, shared.Shared.Shared, task_slot.TaskSlot.TaskSlot, worker.Worker.Worker}, Awaits.{DropsElsewhere, newest_of}, MailPosts.{Sends, asks_by, chair_sent}, Scripts.IsAnswered, Spots.Spot, View.{Views, common_of, desk_of, own_of, seat_seen, seats_seen, task_seen, things_with}}, proofs.Facts.{not_same, or_right, same_thing}}
-use Rattle.exec_invariants.{specs.{Acting.{HasActed, StepsOf}, Holding.{Holder, IsAbout, IsHolding, awaited_in, box_of, holder_of, nap_of, thing_of}, Sound.SoundAt, Whole.{HasWhole, Profile, hands_of, with_worker}, Works.{Beside, Suits, Works}}, proofs.{Acting.{IsActor, actor, acts_so, me_at}, AskBoxes.{box_there, same_else}, Here.{IsHere, going_on, polled_here}, HoldBeside.Holds, HoldLets.thing_told, HoldMail.is_once, HoldSteps.IsNewest, HoldPosts.{posted, with_mail}, HoldThings.{Touches, touches_none}, LetterPosts.{cancels_request, chair_open, open_spares, sent_open}, Performing.still_performs, Seats.seat_there, Seen.request_at, Slots.task_there, SparedRecord.there_within, TaskAsks.{Posts, asked_leaves, asked_works, led_to, leads_to, to_act as leads_on}, TaskDeals.{Dealt, acts as to_act, from_act}, TaskHears.{newest_split, thing_there}, TaskTakes.{holder_there, holders_one}, TaskWants.{cancel_place, made_with, wants_from}}}
+use Rattle.exec_parts.{specs.{declared.parts.{mail.Subject.Subject, record.Record.Record, seat.Seat.Seat as Chair, shared.Shared.Shared, task_slot.TaskSlot.TaskSlot, worker.Worker.Worker}, Awaits.{DropsElsewhere, newest_of}, MailPosts.{Sends, asks_by, chair_sent}, Scripts.IsAnswered, Spots.Spot, View.{Views, common_of, desk_of, own_of, seat_seen, seats_seen, task_seen, things_with}}, proofs.Facts.{not_same, or_right, same_Some}}
+use Rattle.exec_invariants.{specs.{Acting.{HasActed, StepsOf}, Holding.{Holder, IsAbout, IsHolding, Mail, awaited_in, box_of, holder_of, nap_of, thing_of}, Sound.SoundAt, Whole.{HasWhole, Profile, hands_of, with_worker}, Works.{Beside, Suits, Works}}, proofs.{Acting.{IsActor, actor, acts_so, me_at}, AskBoxes.{box_there, same_else}, Here.{IsHere, going_on, polled_here}, HoldBeside.Holds, HoldLets.thing_told, HoldMail.is_once, HoldSteps.IsNewest, HoldPosts.{posted, with_mail}, HoldThings.{Touches, touches_none}, LetterPosts.{cancels_request, chair_open, open_spares, sent_open}, Performing.still_performs, Seats.seat_there, Seen.request_at, Slots.task_there, SparedRecord.there_within, TaskAsks.{Posts, asked_leaves, asked_works, led_to, leads_to, to_act as leads_on}, TaskDeals.{Dealt, acts as to_act, from_act}, TaskHears.{newest_split, thing_there}, TaskTakes.{holder_there, holders_one}, TaskWants.{cancel_place, made_with, wants_from}}}
 use Rattle.exec_polling.proofs.TaskDrops.{DropsSo, drop_looks, drops_deals, drops_perform, drops_so, let_go_seen}
 
 module _ {B : Type 0} where
@@ -68,19 +68,12 @@ module _ {B : Type 0} where
       let mail : Message Subject Subject = Message.Cancel (Subject.Request k) in
       let about : IsAbout s.config.workers j mail ts naps = (thing_of r, at_r, refl, wants.few) in
       let once = is_once mail in
+      let others_mail : (m : Mail) → m ≢ mail → (with_mail mail h).mail m ≡ h.mail m = λ m apart. same_else h mail m apart in
+      let one_more : (with_mail mail h).mail mail ≡ h.mail mail + 1 = omega (arith, once) in
+      let newest = subst (IsNewest k slot.held.items) (sym by.so.held) (newest_split slot.held.items k by.newest) in
       let told : IsHolding (with_mail mail h) s.config.workers (slice_set hs t (holder_of slot')) ts naps boxes =
-      thing_told h (with_mail mail h) s.config.workers hs ts naps boxes t k (holder_of slot) (holder_of slot') (thing_of r) (record {
-        there = at_t;
-        thing = at_r;
-        newest = subst (IsNewest k slot.held.items) (sym by.so.held) (newest_split slot.held.items k by.newest);
-        drops = ap holder_of took;
-        going = going_on slot.cell.phase at.polled;
-        idle = ap awaited_in by.waits;
-        mail = λ m apart. same_else h mail m apart;
-        told = omega (arith, once);
-        wakes = refl;
-        made = made_with h s.config.workers ts naps mail j about old.made;
-      }) old in
+      thing_told h (with_mail mail h) s.config.workers hs ts naps boxes t k (holder_of slot) (holder_of slot') (thing_of r)
+      (assumption (at_t, at_r, newest, ap holder_of took, going_on slot.cell.phase at.polled, ap awaited_in by.waits, others_mail, one_more, made_with h s.config.workers ts naps mail j about old.made)) old in
       let there : IsHolding h s.config.workers (slice_set hs t (holder_of slot')) ts naps (slice_set boxes j (box_of chair')) =
       posted h s.config.workers (slice_set hs t (holder_of slot')) ts naps boxes j mail (box_of chair) at_box about told in
       subst (Holds (with_worker others w)) (sym all)
@@ -111,12 +104,7 @@ module _ {B L : Type 0} (left : B → L) (runs : L → Plan → Option ℕ → T
       let tasks : map (task_seen left spot) mid.tasks.items ≡ slice_set all.tasks t (after_letting_go all (task_of all t)) =
       ap (map (task_seen left spot)) by.tasks ∙ map-set (task_seen left spot) s.tasks.items t slot' ∙ ap (slice_set all.tasks t) (seen ∙ ap (after_letting_go all) (sym it)) in
       let finds : Bool → Moved Things = λ m. move_look_at p.config all d x t b (aside x (does (Drop k) (acts_on t (told_of_drop k r.shown d)) y)) (if m then Here else Asks j (CancelRequest k)) in
-      let drops_it : (acts me all asks_drop && is_number k (newest_held (task_of all t)) && not ((request_of all k).worker == w.index)) ≡ true =
-      ap (λ c. c && is_number k (newest_held (task_of all t)) && not ((request_of all k).worker == w.index)) (acts_so left spot t all w slot asks_drop it by.waits (ap asks_drop word))
-      ∙ ap (λ z. is_number k (newest_held z) && not ((request_of all k).worker == w.index)) it
-      ∙ ap (λ o. is_number k o && not ((request_of all k).worker == w.index)) by.newest
-      ∙ ap (λ c. c && not ((request_of all k).worker == w.index)) (eq-eqb k k refl)
-      ∙ ap (λ q. not (q.worker == w.index)) request ∙ ap not apart in
+      let drops_it : (acts me all asks_drop && is_number k (newest_held (task_of all t)) && not ((request_of all k).worker == w.index)) ≡ true = grind (arith, it, by.newest, request, apart, acts_so, eq-eqb) in
       asked_works left spot InPoll.Act InPoll.Act b t j (CancelRequest k) (cancels_request k) w s mid s' chair told.open_box (leads_on t) (to_act t) here (ap (λ (z : Shared B). z.seats) by.kept) (ap (λ (z : Shared B). z.global) by.kept) by.sends.kept told.posts p vs suits
       (drop_looks left spot t k p w s vs slot r by.there word by.newest by.request ∙ ap finds apart) (
         or_right (is_first_owed me j (CancelRequest k)) (acts me all asks_drop && is_number k (newest_held (task_of all t)) && not ((request_of all k).worker == w.index)) drops_it,
@@ -142,24 +130,13 @@ module _ {B L : Type 0} (left : B → L) (runs : L → Plan → Option ℕ → T
       let b' = m.acts.body' in
       let by_it : IsActor left runs holds spot gives t w slot = actor left runs holds spot gives t w s s1 (Act.Drop k) h in
       let it : IsHere InPoll.Act t w s = polled_here InPoll.Act t w s sound refl in
-      let is : slot ≡ it.slot = same_thing slot it.slot (sym m.there ∙ it.there) in
+      let is : slot ≡ it.slot = same_Some slot it.slot (sym m.there ∙ it.there) in
       let f = does_it.forgets in
       let mid = does_it.middle in
       let so = drops_so t s s1 mid slot m.slot' b' m.there m.acts.slot m.tasks f in
       let slot' = f.slot' in
       let midkept : mid ≡ record s { tasks = mid.tasks } = f.kept ∙ ap (λ (z : Shared B). record z { tasks = mid.tasks }) m.kept in
-      let by : TellsWorker t k w w' s mid s' e slot slot' b' r = record {
-        there = m.there;
-        newest = newest;
-        waits = by_it.waits;
-        polled = by_it.polled;
-        request = at_r;
-        other = other;
-        so = so.0;
-        kept = midkept;
-        tasks = so.1;
-        sends = does_it.sends;
-      } in
+      let by : TellsWorker t k w w' s mid s' e slot slot' b' r = assumption (m, newest, by_it, at_r, other, so.0, midkept, so.1, does_it) in
       let told = worker_told t k w w' s mid s' e slot' b' r sound has it (subst (λ o. TellsWorker t k w w' s mid s' e o slot' b' r) is by) in
       let w1 : Worker = record w { place = led_to t InPoll.Act (AfterSend.Act t) r.shown.worker (asks_by (CancelRequest k) told.chair.mailbox) } in
       let done : StepsOf left runs holds spot w s (Send r.shown.worker (CancelRequest k)) w1 s' = (

@@ -6,8 +6,8 @@ use Rattle.exec_task.specs.{Sight.Sight, declared.body.{Act.Act, Said.Said}}
 use Rattle.exec_machine.specs.{Choice.Payer.ByAct, declared.{config.{Configuration.Configuration, ScriptWord.ScriptWord}, event.Event.Event, state.Waiting.Waiting}, After.{own_after, common_after}, Allowed.allowed, Mail.{asks_root_of, has_root_message, meets_closed}, Progress.Plan, Tests.AllTrue, Words.{moved_on, next_word}, World.{Common, no_seat, seat_of, task_of}}
 use Rattle.exec_moves.specs.{Move.move_wake, Send.{after_posting, send_root}, State.{Desk, Things, goes}, Thing.{mailbox_of, set_mailbox, with_mailbox}, declared.{handing.{AfterSend.AfterSend, AfterSignal.AfterSignal, InSignal.InSignal}, place.{InPoll.InPoll, Place.Place}}}
 use Rattle.exec_parts.{specs.{declared.parts.{seat.Seat.Seat as Chair, shared.Shared.Shared, task_slot.TaskSlot.TaskSlot, worker.Worker.Worker}, MailPosts.HaveMailboxes, Polls.OfSlot, Pooled.{WakesBy, WakesHere, WakesTask, WakesThere}, Scripts.IsAnswered, Spots.{Spot, spot_of}, View.{Views, Visible, common_of, desk_of, own_of, seat_seen, seats_seen, task_seen, things_with, visible, with_view}}, proofs.{Facts.{not_same, set_elsewhere}, Showing.own_word_seen}}
-use Rattle.exec_invariants.{specs.{Acting.{HasActed, StepsOf}, Holding.{holder_of, nap_of, thing_of}, Sound.{AreHome, SoundAt}, Spares.Spares, Whole.{hands_of, with_worker}, Works.{Beside, Suits, Works}}, proofs.{RootMail.holding_posted, Dedicated.as_long, Acting.{Leaves, acts_so, act_leaves, actor, by_word, me_at, moved_seen, tells_on}, Aside.{beside_boxed, profile_alike, queues_set, seats_other}, Performing.still_performs, PoolKept.{gate_spared, gates_set}, Posting.{Arrival, IsArrival, arrival, asks_as, asks_by, chair_by, choice_by, event_as, event_by, inbox_seen, mailbox_by, posted_as, posted_shows, posted_spares, posting_as, root_message_as, seat_as, seat_by}, Seats.{chair_set, seat_there as seen_there}, SlotTasks.{Keeps as Same, homes_set}, Slots.task_there, SparedRecord.there_within, Stirs.{ToldFirst, before}, Turning.{Fits, Lands, arrives, by_place, set_found, sound_on, view_found}}}
-use Rattle.exec_polling.proofs.Stirred.{performs_passing}
+use Rattle.exec_invariants.{specs.{Acting.{HasActed, StepsOf}, Holding.{holder_of, nap_of, thing_of}, Sound.{AreHome, SoundAt}, Whole.{hands_of, with_worker}, Works.{Beside, Suits, Works}}, proofs.{RootMail.holding_posted, Dedicated.as_long, Acting.{Leaves, acts_so, act_leaves, actor, by_word, me_at, moved_seen, tells_on}, Aside.{beside_boxed, profile_alike, queues_set, seats_other}, Performing.still_performs, PoolKept.{gate_spared, gates_set}, Posting.{Arrival, IsArrival, arrival, asks_as, asks_by, chair_by, choice_by, event_as, event_by, inbox_seen, mailbox_by, posted_as, posted_shows, posted_spares, posting_as, root_message_as, seat_as, seat_by}, Seats.{chair_set, seat_there as seen_there}, SlotTasks.{Keeps as Same, homes_set}, Slots.task_there, SparedRecord.there_within, Stirs.{ToldFirst, before}, Turning.{Fits, Lands, arrives, by_place, set_found, sound_on, view_found}}}
+use Rattle.exec_polling.proofs.Stirred.{performs_passing, spares_on}
 
 same_queue : (a : Arrival) (chair : Chair) → (chair_by a chair).queue ≡ chair.queue
 same_queue = grind arith
@@ -35,46 +35,6 @@ module _ {B : Type 0} where
   -- who has a root is a worker
   pub home_few : (workers count t j : ℕ) (tasks : List (TaskSlot B)) (slot : TaskSlot B) → AreHome workers count tasks → slice_get tasks t ≡ Some slot → slot.home ≡ Some j → j < count
   home_few = grind arith
-
-  -- one change of tasks, and then another step
-  pub spares_on : (j : ℕ) (s m s' : Shared B) → Spares j s (record s { tasks = m.tasks }) → Spares j (record s { tasks = m.tasks }) s' → Spares j s s'
-  spares_on j s m s' first second =
-      record {
-        config = second.config;
-        clock = second.clock;
-        gates = second.gates;
-        hints = second.hints;
-        many = second.many;
-        chair = second.chair;
-        tails = second.tails;
-        records = second.records;
-        records_only = second.records_only;
-        sleepers = second.sleepers;
-        sleepers_only = second.sleepers_only;
-        endure = second.endure;
-        endure_too = second.endure_too;
-        root = λ t slot found home. second.root t slot (first.root t slot found home) home;
-        polled = λ t slot found polled mine.
-            let one = first.polled t slot found polled mine in
-            let two = second.polled t one.0 one.1 one.2.polled (ap (λ (o : TaskSlot B). o.poller) one.2.kept ∙ mine) in (
-              two.0,
-              two.1,
-              record {
-                polled = two.2.polled;
-                number = two.2.number ∙ one.2.number;
-                cancelled = λ h. two.2.cancelled (one.2.cancelled h);
-                kept = two.2.kept ∙ ap (λ (o : TaskSlot B). record o { cell = two.0.cell; cleared = two.0.cleared; fresh = two.0.fresh; output = two.0.output }) one.2.kept;
-              },
-            );
-        room = second.room;
-        stretch = second.stretch;
-        stopped = second.stopped;
-        closed = second.closed;
-        by_zero = second.by_zero;
-        shards = second.shards;
-        emptied = second.emptied;
-        genuine = λ r is. second.genuine r (first.genuine r is);
-      }
 
   -- WHAT IS SOUND THEN, where a chair of another worker was posted to
 
@@ -182,31 +142,19 @@ module _ {B L : Type 0} (left : B → L) (spot : L → Option Said → Spot) (t 
         (acts_so left spot t all w slot (asks_root_of all j) it waits (ap (asks_root_of all j) word ∙ asks), (ap not elsewhere, (ap (λ y. not y.mailbox_closed) seat ∙ ap not so.0, (refl, tt))))
 
     tasks_then : map (task_seen left spot) tasks.tasks.items ≡ slice_set all.tasks t (moved_on all (task_of all t))
-    tasks_then =
-        ap (map (task_seen left spot)) items ∙ map-set (task_seen left spot) s.tasks.items t mid
-        ∙ ap (slice_set all.tasks t) (sym moved) ∙ ap (λ y. slice_set all.tasks t (moved_on all y)) (sym it)
+    tasks_then = grind (arith, items, map-set (task_seen left spot) s.tasks.items t mid, moved, it)
 
     seats_then : (b : Arrival) → IsArrival b chair.mailbox → tasks.seats.items ≡ slice_set s.seats.items j (chair_by b chair) → seats_seen vs.workers tasks.seats.items ≡ slice_set all.seats j (seat_by b (seat_of all j))
-    seats_then b so now =
-        ap (seats_seen vs.workers) now ∙ chair_set vs.workers s.seats.items j view (chair_by b chair) seen
-        ∙ ap (slice_set all.seats j) (seat_as b view chair so) ∙ ap (λ y. slice_set all.seats j (seat_by b y)) (sym seat)
+    seats_then b so now = grind (arith, now, chair_set vs.workers s.seats.items j view (chair_by b chair) seen, seat_as b view chair so, seat)
 
     unseen : slice_set all.seats j (seat_of all j) ≡ all.seats
     unseen = ap (slice_set all.seats j) seat ∙ set_found all.seats j (seat_seen view chair) (seen_there vs.workers s.seats.items j view chair seen seated)
 
     common : (b : Arrival) → IsArrival b chair.mailbox → tasks.seats.items ≡ slice_set s.seats.items j (chair_by b chair) → common_of left spot p vs s2 ≡ common_after p.config (me_at t w) all w.index (event_by j b) (choice_by b ByAct)
-    common Arrival.Shut so now =
-        ap (λ ts. record all { tasks = ts; seats = seats_seen vs.workers tasks.seats.items }) tasks_then
-        ∙ ap (λ ss. record all { tasks = slice_set all.tasks t (moved_on all (task_of all t)); seats = ss }) (seats_then Arrival.Shut so now ∙ unseen)
-    common Arrival.LeftOut so now =
-        ap (λ ts. record all { tasks = ts; seats = seats_seen vs.workers tasks.seats.items }) tasks_then
-        ∙ ap (λ ss. record all { tasks = slice_set all.tasks t (moved_on all (task_of all t)); seats = ss }) (seats_then Arrival.LeftOut so now ∙ unseen)
-    common Arrival.First so now =
-        ap (λ ts. record all { tasks = ts; seats = seats_seen vs.workers tasks.seats.items }) tasks_then
-        ∙ ap (λ ss. record all { tasks = slice_set all.tasks t (moved_on all (task_of all t)); seats = ss }) (seats_then Arrival.First so now)
-    common Arrival.More so now =
-        ap (λ ts. record all { tasks = ts; seats = seats_seen vs.workers tasks.seats.items }) tasks_then
-        ∙ ap (λ ss. record all { tasks = slice_set all.tasks t (moved_on all (task_of all t)); seats = ss }) (seats_then Arrival.More so now)
+    common Arrival.Shut so now = grind (arith, tasks_then, seats_then Arrival.Shut so now, unseen)
+    common Arrival.LeftOut so now = grind (arith, tasks_then, seats_then Arrival.LeftOut so now, unseen)
+    common Arrival.First so now = grind (arith, tasks_then, seats_then Arrival.First so now)
+    common Arrival.More so now = grind (arith, tasks_then, seats_then Arrival.More so now)
 
   pub posts : w.place ≡ Place.Poll t InPoll.Act → (p : Plan) (vs : Views) → Suits p vs w s → next_word (common_of left spot p vs s) (task_seen left spot slot) ≡ ScriptWord.Wake u → moved_on (common_of left spot p vs s) (task_seen left spot slot) ≡ task_seen left spot mid
       → Works left spot p vs w s (event_by j a) (record w { place = next_of t j (asks_by a chair.mailbox) }) s2
@@ -218,9 +166,7 @@ module _ {B L : Type 0} (left : B → L) (spot : L → Option Said → Spot) (t 
       let w1 : Worker = record w { place = next_of t j (asks_by a chair.mailbox) } in
       subst (λ v. Works left spot p vs v s (event_by j a) w1 s2) (ap (λ y. record w { place = y }) (sym here)) (record {
         choice = choice_by a ByAct;
-        moves = by_word left spot t p (common_of left spot p vs s) w s vs slot (ScriptWord.Wake u) (it p vs view seen word moved) word
-            ∙ moves p vs view seen word moved
-            ∙ ap (λ v. record { event = event_by j a; choice = choice_by a ByAct; desk = desk_of w1; thing = things_with v s2 }) (sym again);
+        moves = grind (arith, by_word left spot t p (common_of left spot p vs s) w s vs slot (ScriptWord.Wake u) (it p vs view seen word moved) word, moves p vs view seen word moved, again);
         may = may p vs view seen word moved a is;
         own = own_by t j w (asks_by a chair.mailbox) ∙ own_then p.config t j w.index w (common_of left spot p vs s) a;
         common = ap (λ v. common_of left spot p v s2) again ∙ common p vs view seen word moved a is set;
@@ -297,7 +243,7 @@ module _ {B L : Type 0} (left : B → L) (runs : L → Plan → Option ℕ → T
               (λ p fits. performs_passing left runs holds spot gives p slot b' (Act.Wake n) tt refl who.polled who.waits ((h.asks p (record { workers = []; calls = [] }) fits).goes_on refl))).performs;
         },
         record {
-          spares = λ k other_one. spares_on k s m both (one.spares k other_one) (two.spares k other_one);
+          spares = λ k other_one. spares_on false k s m both (one.spares k other_one) (two.spares k other_one);
           whole = λ others whole. two.whole others (one.whole others whole);
         },
       ) in

@@ -1,10 +1,10 @@
 -- What each destination is that the parts lead to.
-use Rattle.std.proofs.Common.{◌≡◌, ℕ, suc, ◌==◌, ◌<◌, Bool, true, false, ◌&&◌, ◌||◌, if◌then◌else◌, List, [], ◌∷◌, refl, sym, ap, arith}
+use Rattle.std.proofs.Common.{◌≡◌, ℕ, suc, ◌==◌, ◌<◌, Bool, true, false, ◌&&◌, ◌||◌, if◌then◌else◌, List, [], ◌∷◌, refl, arith}
 use Rattle.std.proofs.lemmas.{Bool.{true≢false}}
 use Rattle.exec_machine.specs.{declared.{config.Configuration.Configuration, state.{Letter.Letter, Next.Next}}, Ranges.ring_size, World.{Common, Own as Books}}
 use Rattle.exec_moves.specs.{declared.{handing.{AfterCallbacks.AfterCallbacks, AfterCancels.AfterCancels, AfterClaim.AfterClaim, AfterKick.AfterKick, AfterLeave.AfterLeave, AfterPush.AfterPush, AfterSend.AfterSend, AfterSignal.AfterSignal}, place.{AfterService.AfterService, InCallbacks.InCallbacks, InPick.InPick, InPoll.InPoll, Place.Place}}, Callback.{after_callbacks, has_callbacks, has_requests, serve}, Load.has_submissions, Parts.{after_kick, after_leave, after_push, after_send, after_signal, cancels_left}, State.{Desk, Things}}
 use Rattle.exec_progress.specs.Heights.{call_back}
-use Rattle.exec_progress.{specs.{Effort.{is_short_kick, is_short_leave, is_short_push, is_short_send, is_short_signal, stagings_of_callbacks, stagings_of_kick, stagings_of_leave, stagings_of_push, stagings_of_signal}, Going.{closes_callbacks, closes_cancels, closes_kick, closes_push, closes_send, closes_signal, seen, stands}, Owed.{beginning, flagging, stage_of_callbacks, stage_of_kick, stage_of_leave, stage_of_pick, stage_of_push, stage_of_send, stage_of_signal}, Ranks.{below_callbacks, below_kick, below_leave, below_push, below_send, below_signal, count_down, next_turn}}, proofs.{Dropping.drops, Hopping.{Gets, Kept, Leaves, desk_at, hops, later}, Tools.{before, left}}}
+use Rattle.exec_progress.{specs.{Effort.{is_short_kick, is_short_leave, is_short_push, is_short_send, is_short_signal, stagings_of_callbacks, stagings_of_kick, stagings_of_leave, stagings_of_push, stagings_of_signal}, Going.{closes_callbacks, closes_cancels, closes_kick, closes_push, closes_send, closes_signal, seen, stands}, Owed.{beginning, stage_of_callbacks, stage_of_kick, stage_of_leave, stage_of_pick, stage_of_push, stage_of_send, stage_of_signal}, Ranks.{below_callbacks, below_kick, below_leave, below_push, below_send, below_signal, count_down, next_turn}}, proofs.{Dropping.drops, Hopping.{Gets, Kept, Leaves, desk_at, hops, later}, Tools.{before, left}}}
 
 both : (m n k : ℕ) → m < n → n < k → m < k
 both m n k h l = omega (arith, h, l)
@@ -31,30 +31,8 @@ module _ (c : Configuration) (i : ℕ) (me : Books) (s : Common) (d : Desk) (x :
 
   to_pick : (p : Place) (u : Gets c i me s d x) → Leaves c i me s d x p false (stage_of_pick d.picks) 1 (count_down c.workers) → Kept c i me s d x p u
       → (v : Bool) → (d.picks == 0) ≡ v → Reaches p u (if v then Place.TakeRootFlag else Place.Pick InPick.CountDown)
-  to_pick p u from it true is =
-      hops c i me s d x p (Place.TakeRootFlag) u false (stage_of_pick d.picks) 1 (count_down c.workers) from
-      (record {
-        short_here = refl;
-        stage_here = sym (ap (λ v. if v then flagging else beginning) is);
-        stagings_here = omega arith;
-        below = omega arith;
-        no_gate = refl;
-        no_scan = refl;
-        nothing_found = refl;
-        not_itself = refl;
-      }) it
-  to_pick p u from it false is =
-      hops c i me s d x p (Place.Pick InPick.CountDown) u false (stage_of_pick d.picks) 1 (count_down c.workers) from
-      (record {
-        short_here = refl;
-        stage_here = sym (ap (λ v. if v then flagging else beginning) is);
-        stagings_here = omega arith;
-        below = omega arith;
-        no_gate = refl;
-        no_scan = refl;
-        nothing_found = refl;
-        not_itself = refl;
-      }) it
+  to_pick p u from it true is = hops c i me s d x p (Place.TakeRootFlag) u false (stage_of_pick d.picks) 1 (count_down c.workers) from (grind (arith, is)) it
+  to_pick p u from it false is = hops c i me s d x p (Place.Pick InPick.CountDown) u false (stage_of_pick d.picks) 1 (count_down c.workers) from (grind (arith, is)) it
 
   pub push_to : (p : Place) (u : Gets c i me s d x) (b : AfterPush) → closes_push b ≡ false
       → Leaves c i me s d x p (is_short_push b) (stage_of_push d.picks b) (stagings_of_push b) (below_push c.workers b) → Kept c i me s d x p u
@@ -91,15 +69,7 @@ module _ (c : Configuration) (i : ℕ) (me : Books) (s : Common) (d : Desk) (x :
   to_letters p u (AfterCancels.Remove t) still from it [] =
       hops c i me s d x p (Place.Poll t InPoll.RemoveTask) u false (stage_of_pick d.picks) 1 (suc (count_down c.workers)) from
       (record { short_here = refl; stage_here = refl; stagings_here = omega arith; below = omega arith; no_gate = refl; no_scan = refl; nothing_found = refl; not_itself = refl }) it
-  to_letters p u AfterCancels.Pick still from it [] = to_pick p u (record {
-    short_there = from.short_there;
-    stage_there = from.stage_there;
-    stagings_there = from.stagings_there;
-    above = omega (arith, from.above);
-    no_pop = from.no_pop;
-    no_share = from.no_share;
-    before_spin = from.before_spin;
-  }) it (d.picks == 0) refl
+  to_letters p u AfterCancels.Pick still from it [] = to_pick p u (grind (arith, from)) it (d.picks == 0) refl
   to_letters p u (AfterCancels.Visit drain) still from it [] = absurd (true≢false still)
 
   send_to : (p : Place) (u : Gets c i me s d x) (b : AfterSend) → closes_send b ≡ false → Leaves c i me s d x p (is_short_send b) (stage_of_send d.picks b) 1 (below_send c.workers b)

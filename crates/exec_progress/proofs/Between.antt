@@ -1,20 +1,15 @@
 -- The places of the parts that hand something on, as such that are left and come to; and what stays by their steps.
-use Rattle.std.proofs.Common.{◌≡◌, ℕ, ◌+◌, ◌≤◌, ◌<◌, Bool, true, false, if◌then◌else◌, List, [], ◌∷◌, refl, ap, ◌∙◌, arith}
+use Rattle.std.proofs.Common.{◌≡◌, ℕ, ◌+◌, ◌≤◌, ◌<◌, Bool, true, false, if◌then◌else◌, refl, ap, ◌∙◌, arith}
 use Rattle.std.specs.Prelude.{nat_lt}
 use Rattle.exec_words.specs.{declared.idle.WorkerSet.WorkerSet, Idle.Idle}
 use Rattle.exec_machine.specs.{declared.config.Configuration.Configuration, World.{Common, Own as Books}}
 use Rattle.exec_moves.specs.{declared.{handing.{AfterClaim.AfterClaim, AfterKick.AfterKick, AfterLeave.AfterLeave, AfterPush.AfterPush, AfterSignal.AfterSignal, InGlobal.InGlobal, InKick.InKick, InPush.InPush, InSignal.InSignal}, place.Place.Place}, Claim.{same_bools, set_of}, Global.has_any, State.{Desk, Things, word_of}, Thing.set_idle}
 use Rattle.exec_progress.{specs.{Effort.{is_short_claim, is_short_kick, is_short_leave, is_short_push, is_short_signal, stagings_of_claim, stagings_of_kick, stagings_of_leave, stagings_of_push, stagings_of_signal}, Owed.{sampling, signals_itself, stage_of_claim, stage_of_kick, stage_of_leave, stage_of_push, stage_of_signal}, Ranks.{below_claim, below_kick, below_leave, below_push, below_signal, claim_worker, claims, in_global, in_kick, in_push, in_signal, load_set}}, proofs.{Arriving.Reaches, Hopping.{Comes, Gets, Kept, Leaves}, Tools.or_more}}
+use Rattle.exec_credit.proofs.CallFalls.{same_self}
 
 pub set_bounds : (v : Bool) → (1 ≤ load_set v) × (load_set v ≤ 5)
 set_bounds true = (omega arith, omega arith)
 set_bounds false = (omega arith, omega arith)
-
--- a set is the same as itself
-pub same_self : (xs : List Bool) → same_bools xs xs ≡ true
-same_self [] = refl
-same_self (true ∷ xs) = same_self xs
-same_self (false ∷ xs) = same_self xs
 
 -- the set as it was just loaded, with somebody in it: a claim has three steps at most from there, and the load of the set stood above that
 pub first_claim : (x : Idle) → has_any x ≡ true → claims (set_of x) x + 2 ≤ load_set (has_any x)

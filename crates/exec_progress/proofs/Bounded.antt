@@ -8,10 +8,7 @@ use Rattle.exec_credit.specs.Spins.{IsShort}
 use Rattle.exec_rest.specs.Posted.{has_tested}
 use Rattle.exec_progress.specs.{Effort.{begun_gates, gates_left, is_short, scans_again, second_scan, stagings, stagings_of_callbacks, stagings_of_claim, stagings_of_kick, stagings_of_leave, stagings_of_push, stagings_of_service, stagings_of_signal, steps_left, turn_left, whole_spin, whole_turn}, Going.{has_called_back, is_of_closing}, Owed.{ahead, all_others, finds, has_stray, is_before_spin, others, quiet_items, signals_itself, signs, spins_of_signs, spins_owed, stage, staging, turns_owed, wanted}, Ranks.rank}
 use Rattle.exec_progress.proofs.{Gates.{gates_asked, gates_opened, gates_within}, Ranked.{most_rank}, Stages.{Kind, kind}}
-
-one : (b : Bool) → one_if b ≤ 1
-one true = omega arith
-one false = omega arith
+use Rattle.exec_progress.proofs.Entering.{at_most_one}
 
 -- GATES
 
@@ -59,7 +56,6 @@ module _ (i : ℕ) (s : Common) where
   pub most_gates : (p : Place) → Most p
   most_gates (Place.Service p v) = serves v.back v.defer p
   most_gates (Place.Callbacks p n) = by_number (stagings_of_callbacks n) (callbacks n)
-  most_gates (Place.Loads p Round.First) = by_number 1 (omega arith)
   most_gates (Place.Loads p Round.Second) = by_number 0 (omega arith)
   most_gates (Place.Mail p) = by_number 0 (omega arith)
   most_gates (Place.TestForWork f) = by_number 0 (omega arith)
@@ -119,12 +115,12 @@ module _ (c : Configuration) (i : ℕ) (me : Books) (s : Common) (d : Desk) (x :
       let w = wake_poll_of x i in
       omega (
         arith,
-        one (nat_lt n 8 && (signals_itself i d.place || (word_of x i).latch)),
-        one (nat_lt n 5 && has_stray d w),
-        one (not (is_empty me.untold)),
-        one w.kept,
-        one (is_some w.ended),
-        one (seat_of s i).busy,
+        at_most_one (nat_lt n 8 && (signals_itself i d.place || (word_of x i).latch)),
+        at_most_one (nat_lt n 5 && has_stray d w),
+        at_most_one (not (is_empty me.untold)),
+        at_most_one w.kept,
+        at_most_one (is_some w.ended),
+        at_most_one (seat_of s i).busy,
         one_of (nat_lt n 6) (has_submissions c me) (seat_of s i).busy (is_full (ring_size c) d) (not d.polled),
       )
 
@@ -136,14 +132,14 @@ module _ (c : Configuration) (i : ℕ) (me : Books) (s : Common) (d : Desk) (x :
 
   -- before the staging only a latch, what the kernel has to tell and a busy ring are good for a turn
   fewest_others : staging ≤ n → finds d.place ≡ false → all_others (others c i me s d x) ≤ 6
-  fewest_others = grind (arith, one, passed, unfound)
+  fewest_others = grind (arith, at_most_one, passed, unfound)
 
   turns_most : (k : ℕ) → all_others (others c i me s d x) ≤ k → turns_owed c i me s d x ≤ 1 + k
-  turns_most k h = if_none (nat_lt 0 (ahead c i me s d x)) (one_if (nat_lt 0 (wanted c i me s d x)) + all_others (others c i me s d x)) (1 + k) (omega (arith, one (nat_lt 0 (wanted c i me s d x)), h))
+  turns_most k h = if_none (nat_lt 0 (ahead c i me s d x)) (one_if (nat_lt 0 (wanted c i me s d x)) + all_others (others c i me s d x)) (1 + k) (omega (arith, at_most_one (nat_lt 0 (wanted c i me s d x)), h))
 
   spins_most : spins_owed c i me s d x ≤ 2
   spins_most = if_none (nat_lt 0 (ahead c i me s d x)) (spins_of_signs c i me s d x) 2
-      (omega (arith, one (is_before_spin d.place), one (nat_lt n 8 && (signals_itself i d.place || (word_of x i).latch))))
+      (omega (arith, at_most_one (is_before_spin d.place), at_most_one (nat_lt n 8 && (signals_itself i d.place || (word_of x i).latch))))
 
   product : (k t m : ℕ) → t ≤ m → k * t ≤ k * m
   product k t m h = grind (arith, h)
@@ -174,7 +170,7 @@ module _ (c : Configuration) (i : ℕ) (me : Books) (s : Common) (d : Desk) (x :
 
     by_kind : Kind i s d.picks d.place → turn_left c i s d x + whole_turn c i s * turns_owed c i me s d x + whole_spin c * spins_owed c i me s d x < bound
     by_kind (inl (back, none)) =
-        adds 10 (turns_most 9 (omega (arith, few_others, no_items (called back), one (finds d.place && not ((signs c i me s d x).queue || ((signs c i me s d x).global || (signs c i me s d x).mail))))))
+        adds 10 (turns_most 9 (omega (arith, few_others, no_items (called back), at_most_one (finds d.place && not ((signs c i me s d x).queue || ((signs c i me s d x).global || (signs c i me s d x).mail))))))
         (omega (arith, called back, none, gates_asked i s, gates_opened i s, opens, workers))
     by_kind (inr (inl (tested, other, none))) =
         adds 9 (turns_most 8 (omega (arith, few_others, no_items (told tested), unfound other))) (omega (arith, told tested, none, gates_asked i s, gates_opened i s, opens, workers))

@@ -103,13 +103,7 @@ module _ (c : Configuration) (i : ℕ) (me : Books) (s : Common) (d : Desk) (x :
   ends_at p AfterCallbacks.Begin h k zs rs answers alarms off e =
       let a = before me s d x (Place.Callbacks p AfterCallbacks.Begin) in
       let b = later (Place.Callbacks p AfterCallbacks.Begin) k zs rs (told answers alarms) Place.BeginTurn in
-      goes_down c i a b (record {
-        long_before = refl;
-        long_after = refl;
-        less = omega (arith, low c.workers AfterCallbacks.Begin p, nothing_left me (leaves k zs rs) off);
-        gates_kept = omega arith;
-        owes = keeps_turns c i a b (record { kept = λ k. omega (arith, k); wanted_kept = λ l k. omega (arith, k); others_kept = λ l. omega arith; spun_kept = λ l. omega arith });
-      })
+      goes_down c i a b (grind (arith, low c.workers AfterCallbacks.Begin p, nothing_left me (leaves k zs rs) off))
   ends_at p AfterCallbacks.Drain h k zs rs answers alarms off e = absurd (true≢false h)
   ends_at p AfterCallbacks.Finish h k zs rs answers alarms off e = absurd (true≢false h)
 

@@ -1,5 +1,5 @@
 -- The callbacks have nothing left, and lead on.
-use Rattle.std.proofs.Common.{◌≡◌, ℕ, ◌<◌, Bool, true, false, if◌then◌else◌, [], refl, ap, arith}
+use Rattle.std.proofs.Common.{◌≡◌, ℕ, ◌<◌, Bool, true, false, if◌then◌else◌, refl, arith}
 use Rattle.std.specs.Prelude.{nat_lt}
 use Rattle.std.proofs.lemmas.{Bool.{true≢false}}
 use Rattle.exec_machine.specs.{declared.config.Configuration.Configuration, Ranges.ring_size, World.{Common, Own as Books}}
@@ -38,12 +38,7 @@ module _ (c : Configuration) (i : ℕ) (me : Books) (s : Common) (d : Desk) (x :
         long_after = refl;
         less = omega arith;
         gates_kept = omega arith;
-        owes = keeps_turns c i a b (record {
-          kept = λ h. omega (arith, h, it.0);
-          wanted_kept = λ h k. omega (arith, k);
-          others_kept = λ h. omega (arith, ap (λ k. one_if (nat_lt 0 k)) it.1);
-          spun_kept = λ h. omega arith;
-        });
+        owes = keeps_turns c i a b (grind (arith, it.0));
       })
   tests false pool none =
       let it = no_more me d none in
@@ -54,12 +49,7 @@ module _ (c : Configuration) (i : ℕ) (me : Books) (s : Common) (d : Desk) (x :
         long_after = refl;
         less = omega arith;
         gates_kept = omega arith;
-        owes = keeps_turns c i a b (record {
-          kept = λ h. omega (arith, h, it.0);
-          wanted_kept = λ h k. omega (arith, k);
-          others_kept = λ h. omega (arith, ap (λ k. one_if (nat_lt 0 k)) it.1);
-          spun_kept = λ h. omega arith;
-        });
+        owes = keeps_turns c i a b (grind (arith, it.0));
       })
 
   pub drops : (n : AfterCallbacks) → closes_callbacks n ≡ false → has_callbacks me d ≡ false → (e : Desk) → DropsTo n (after_callbacks (ring_size c) i s n e)

@@ -2,12 +2,13 @@
 use Rattle.std.proofs.Common.{◌≡◌, ℕ, ◌+◌, ◌*◌, ◌≤◌, ◌<◌, Bool, true, false, not, ◌&&◌, ◌||◌, List, [], ◌∷◌, length, get_or, refl, ap, ◌∙◌, arith, ◌⊎◌, inl, inr}
 use Rattle.std.specs.Prelude.{nat_lt, nat_le, is_some}
 use Rattle.std.proofs.lemmas.{List.{get_or-set_same, set-get_or}}
+use Rattle.std.proofs.Math.Bool.{and-true}
 use Rattle.exec_machine.specs.{declared.{config.Configuration.Configuration, event.Event.TheVariants.{Enter, Busy}}, After.{own_after, common_after}, Choice.Choice.Plain, Ranges.ring_size, Tests.{is_empty}, World.{Common, Own as Books, Seat, no_seat, seat_of}}
 use Rattle.exec_moves.specs.{declared.place.Place.Place, Callback.is_full, Counts.{gates_from, one_if}, Load.has_submissions, Serve.entered, State.{Desk, Things, WakePoll, no_wake_poll, taken_in, wake_poll_of, word_of}, Thing.set_wake_poll}
 use Rattle.exec_credit.proofs.Entering.{due_same, gates_same}
 use Rattle.exec_progress.{specs.Owed.{calling_back, finds, has_stray, is_before_spin, quiet_items, reaping, sampling, signals_itself, signs, signs_ahead, stage, staging}, proofs.Tools.{KeepsTurns, Now, PaysWant, ahead_at, others_at, spun, wanted_at, or_more}}
 
-at_most_one : (b : Bool) → one_if b ≤ 1
+pub at_most_one : (b : Bool) → one_if b ≤ 1
 at_most_one true = omega arith
 at_most_one false = omega arith
 
@@ -25,10 +26,6 @@ and_no false a b h = refl
 
 no_and : (a b : Bool) → a ≡ false → one_if (a && b) ≡ 0
 no_and a b h = ap (λ v. one_if (v && b)) h
-
-and_on : (a : Bool) → (a && true) ≡ a
-and_on true = refl
-and_on false = refl
 
 more_sure : (g a b : Bool) → one_if (g && (a && not b)) ≤ one_if (g && a)
 more_sure = grind arith
@@ -149,7 +146,7 @@ module _ (c : Configuration) (i : ℕ) (me : Books) (s : Common) (d : Desk) (x :
   busy_poll q = ap (λ ws. get_or ws i no_wake_poll) (set-get_or x.wake_polls i no_wake_poll)
 
   pub busy_signs : (q : Place) → i < length s.seats → let b = busy_to q in signs c i b.me b.s b.d b.x ≡ record (signs c i me s d x) { submissions = has_submissions c me }
-  busy_signs = grind (arith, busy_seat, and_on)
+  busy_signs = grind (arith, busy_seat, and-true)
 
   pub busy_ahead : (q : Place) → i < length s.seats → signs_ahead (stage d.picks q) q (signs c i me s d x) ≤ ahead_at c i (busy_to q)
   busy_ahead q there = omega (arith, ap (signs_ahead (stage d.picks q) q) (busy_signs q there), more_sure (nat_le staging (stage d.picks q)) (has_submissions c me) (seat_of s i).busy)
@@ -184,12 +181,7 @@ module _ (c : Configuration) (i : ℕ) (me : Books) (s : Common) (d : Desk) (x :
   pub enter_keeps : (q : Place) → nat_lt 0 (ring_size c) ≡ true → i < length x.wake_polls → stage d.picks d.place ≤ stage d.picks q → signals_itself i q ≡ false → finds q ≡ false
       → one_if (is_before_spin q) ≤ one_if (is_before_spin d.place) → ahead_at c i here ≤ signs_ahead (stage d.picks q) q (signs c i me s d x) → KeepsTurns c i here (entered_to q)
   enter_keeps q some there up still unfound before on =
-      record {
-        kept = λ h. omega (arith, h, on, enter_ahead q);
-        wanted_kept = λ h k. omega (arith, k, enter_wanted q);
-        others_kept = λ h. enter_others q some there up still unfound;
-        spun_kept = λ h. enter_spun q up still before;
-      }
+      grind (arith, on, enter_ahead q, enter_wanted q, enter_others, some, there, up, still, unfound, enter_spun, before)
 
   pub busy_pays : (q : Place) → i < length s.seats → (seat_of s i).busy ≡ true → stage d.picks d.place ≤ stage d.picks q → signals_itself i q ≡ false → finds q ≡ false
       → one_if (is_before_spin q) ≤ one_if (is_before_spin d.place) → ahead_at c i here ≤ signs_ahead (stage d.picks q) q (signs c i me s d x) → PaysWant c i here (busy_to q)

@@ -4,10 +4,8 @@ use Rattle.std.specs.{Prelude.nat_le, List.list_any}
 use Rattle.std.proofs.lemmas.Bool.{cases_Bool, eqb-true, le-leb}
 use Rattle.exec_machine.specs.{World.{Common, Open}, Tests.{is_gated}, declared.state.Request.Request}
 use Rattle.exec_moves.specs.{Counts.{count_numbered, gates_from, one_if}, Submit.waits_at}
-
-one : (b : Bool) → one_if b ≤ 1
-one true = omega arith
-one false = omega arith
+use Rattle.exec_progress.proofs.Entering.{at_most_one}
+use Rattle.exec_progress.proofs.RingWaits.{never}
 
 module _ {X : Type 0} where
   sums : (f g h : ℕ → X → Bool) → ((n : ℕ) (x : X) → one_if (f n x) ≤ one_if (g n x) + one_if (h n x)) → (n : ℕ) (xs : List X) → count_numbered f n xs ≤ count_numbered g n xs + count_numbered h n xs
@@ -20,14 +18,10 @@ module _ {X : Type 0} where
 
   at_most : (f : ℕ → X → Bool) (n : ℕ) (xs : List X) → count_numbered f n xs ≤ length xs
   at_most f n [] = omega arith
-  at_most f n (x ∷ xs) = omega (arith, one (f n x), at_most f (suc n) xs)
+  at_most f n (x ∷ xs) = omega (arith, at_most_one (f n x), at_most f (suc n) xs)
 
 off : (a b : Bool) → one_if (a && b && false) ≡ 0
 off = grind arith
-
-never : (a : Bool) → one_if (a && false) ≡ 0
-never true = refl
-never false = refl
 
 either : (a b c : Bool) → one_if (a && (b || c)) ≤ one_if (a && c) + one_if b
 either = grind arith
@@ -48,7 +42,7 @@ module _ (i : ℕ) (r : Request) where
 
   at_one : (n : ℕ) (os : List Open) → count_numbered (λ file o. waits_at i file r) n os ≤ 1
   at_one n [] = omega arith
-  at_one n (o ∷ os) = grind (arith, cases_Bool, one, before, eqb-true, elsewhere, at_one (suc n) os)
+  at_one n (o ∷ os) = grind (arith, cases_Bool, at_most_one, before, eqb-true, elsewhere, at_one (suc n) os)
 
 for_each : (i : ℕ) (rs : List Request) (n : ℕ) (os : List Open) → count_numbered (λ file o. nat_le 0 file && list_any (waits_at i file) rs) n os ≤ length rs
 for_each i [] n os = omega (arith, none (λ file (o : Open). nat_le 0 file && false) (λ file o. never (nat_le 0 file)) n os)

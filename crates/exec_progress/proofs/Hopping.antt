@@ -124,10 +124,5 @@ module _ (c : Configuration) (i : ℕ) (me : Books) (s : Common) (d : Desk) (x :
         long_after = to.short_here;
         less = omega (arith, from.above, to.below, to.no_gate, ap (second_scan c) to.no_scan, mul_up (stagings q) (stagings p) (gates_from i 0 s) (omega (arith, from.stagings_there, to.stagings_here)));
         gates_kept = omega arith;
-        owes = keeps_turns c i a b (record {
-          kept = λ h. omega (arith, h, stays p q u same from.no_pop from.no_share it);
-          wanted_kept = λ h w. wanted_less p q u it w;
-          others_kept = λ h. others_fewer p q u same to.nothing_found to.not_itself it;
-          spun_kept = λ h. spun_less p q u same to.not_itself from.before_spin it;
-        });
+        owes = keeps_turns c i a b (grind (arith, stays p q u same from.no_pop from.no_share it, wanted_less, it, others_fewer, same, to.nothing_found, to.not_itself, spun_less, from.before_spin));
       })

@@ -51,12 +51,7 @@ module _ (c : Configuration) (i : ℕ) (me : Books) (s : Common) (d : Desk) (x :
         long_after = to.long;
         less = omega (arith, less, from.gates, to.gates);
         gates_kept = omega arith;
-        owes = keeps_turns c i a b (record {
-          kept = rw (from.none_ahead d.picks, from.pops, from.shares) (λ h. omega (arith, h));
-          wanted_kept = λ h k. wants k;
-          others_kept = λ h. rw (from.none_ahead d.picks, from.found, from.itself, to.none_ahead d.picks, to.found, to.itself) (omega arith);
-          spun_kept = λ h. rw (from.none_ahead d.picks, from.itself, to.none_ahead d.picks, to.itself, from.spins_yet, to.spins_yet) (omega arith);
-        });
+        owes = keeps_turns c i a b (grind (arith, wants));
       }))
 
   abbrev pub FallsTo : Place → ℕ → List ℕ → Bool → Things → Place → Type 0

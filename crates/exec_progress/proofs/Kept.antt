@@ -16,14 +16,7 @@ first_paced p spins files = record { pace = pace_first p spins; counts = counts_
 pub paced_then : (n : ℕ) (c : Configuration) (x : Playing) → IsPlaced c x → IsGiven c x → IsGranted c x → IsRestful c x → IsPaced n c x → (a : Action)
     → Follows c x.world a (by_step c x a).told.0.said (by_step c x a).told.1 → IsPaced (suc n) c (by_step c x a).next
 paced_then n c x placed given granted restful now a follows =
-    record {
-      pace = pace_then c x placed.laid now.pace granted.claims a;
-      counts = counts_then c x now.counts a;
-      aimed = aimed_then c x placed restful now.pace now.aimed a;
-      narrow = narrow_then n c x granted now.narrow a;
-      outputs = outputs_then c x given now.outputs a follows;
-      opens = opens_then c x now.opens a;
-    }
+    grind (arith, pace_then, placed.laid, now.pace, granted.claims, counts_then, now.counts, aimed_then, placed, restful, now.aimed, narrow_then, granted, now.narrow, outputs_then, given, now.outputs, follows, opens_then, now.opens)
 
 pub falls : (n : ℕ) → n ≤ 2 ^ 32 → (c : Configuration) (x : Playing) → IsPlaced c x → IsGiven c x → IsGranted c x → IsRestful c x → AreBare c x → IsPosted c x → IsPaced n c x → (i : ℕ)
     → is_quiet_step x.world (by_step c x (action.Work i)).told.0.said ≡ true → left_to c (by_step c x (action.Work i)).next i < left_to c x i

@@ -38,15 +38,7 @@ module _ (c : Configuration) (i : ℕ) (me : Books) (s : Common) (d : Desk) (x :
   waits_then p it high quiet =
       let a = before me s d x (at p) in
       let b = afterwards c i me s (at p) (record { event = Turn; choice = Plain; desk = d; thing = x }) in
-      to_wait c i a b (record {
-        long_before = refl;
-        high = omega (arith, high);
-        gates_kept = omega arith;
-        nothing_ahead = omega arith;
-        wanted_kept = λ k. k;
-        others_kept = omega arith;
-        spun_kept = omega arith;
-      }) s (stands (at p) d) it.budget
+      to_wait c i a b (grind (arith, high)) s (stands (at p) d) it.budget
 
   -- the next queue, or the wait
   looks_on : (p : InLook) (j : ℕ) → Going p → 5 ≤ here p → ((k : ℕ) → j ≤ k → k < c.workers → after (InLook.LookAtHead k) < here p) → To p (looks_from c i s j (stands (at p) d))

@@ -125,7 +125,6 @@ module _ (n : ℕ) (c : Configuration) (i : ℕ) (me : Books) (s : Common) (d : 
   looks_at = grind arith
 
   acts : (t : ℕ) (w : ScriptWord) → Fit (move_act c i me s d x t w).thing
-  acts t (script.Spawn k) = still
   acts t (script.Wake u) = wakes t u (task_of s u).home
   acts t (script.Dedicated k) = by s.set_closed
     where
@@ -151,17 +150,11 @@ module _ (n : ℕ) (c : Configuration) (i : ℕ) (me : Books) (s : Common) (d : 
   at_place (at.Poll t poll.Act) room none there = acts t (next_word s (task_of s t))
   at_place (at.Poll t poll.Resume) room none there = looks_at t (send.Pend t) _ (sight_of i s (task_of s t).waiting)
   at_place (at.Poll t poll.LoadSpawnHead) room none there = loaded i
-  at_place (at.Poll t _) room none there = still
   at_place (at.Callbacks callback.CallBack k) room none there = items k (item_next me d)
-  at_place (at.Callbacks _ k) room none there = still
   at_place (at.Loads load.LoadOwnHead r) room none there = loaded i
-  at_place (at.Loads _ r) room none there = still
   at_place (at.Service (step.Submit from) v) room none there = submits from v (due_next c i from me s d)
-  at_place (at.Service _ v) room none there = still
   at_place (at.Mail mail.TakeMail) room none there = still
-  at_place (at.Mail _) room none there = still
   at_place (at.Search search.LoadSearchCount) room none there = still
-  at_place (at.Search _) room none there = still
   at_place (at.Scan scan.LoadScanHead) room none there = loaded i
   at_place (at.Scan (scan.LoadTheirHead y)) room none there = loaded (from_of c y)
   at_place (at.Scan (scan.LoadTheirTail y h)) room none there = loaded (from_of c y)
@@ -173,13 +166,9 @@ module _ (n : ℕ) (c : Configuration) (i : ℕ) (me : Books) (s : Common) (d : 
   at_place (at.Scan scan.StoreMoved) room none there = put i _ (fits_published n q (fits i) d.loot none (omega (arith, few, room)))
   at_place (at.Look (look.LookAtHead k)) room none there = loaded k
   at_place (at.Look (look.LookAtTail k h)) room none there = loaded k
-  at_place (at.Look _) room none there = still
   at_place (at.RingWait ring.TestRing y) room none there = still
-  at_place (at.RingWait _ y) room none there = still
   at_place (at.WordWait word.TakeLatch) room none there = still
-  at_place (at.WordWait _) room none there = still
   at_place (at.Closing closing.Close) room none there = still
-  at_place (at.Closing _) room none there = still
   at_place (at.Pop (pop.ExchangePop h) b) room none there = put i _ (either n q (fits i) (same_head h (head_of q)) _ _ (λ same. popped_one b q.values refl) (still i))
   at_place (at.Pop pop.LoadPopHead b) room none there = loaded i
   at_place (at.Pop pop.PopAlone b) room none there = put i _ (popped_one b q.values refl)
@@ -189,11 +178,8 @@ module _ (n : ℕ) (c : Configuration) (i : ℕ) (me : Books) (s : Common) (d : 
   at_place (at.Push (push.FlowOver h) b) room none there = put i _ (either n q (fits i) (same_head h (head_of q)) _ _ (λ same. fits_overflowed n q (fits i)) (still i))
   at_place (at.Push push.StoreOldest b) room none there = put i _ (fits_restored n q (fits i))
   at_place (at.Global global.Append b) room none there = still
-  at_place (at.Global _ b) room none there = still
   at_place (at.Kick kick.LoadKickCount b) room none there = still
-  at_place (at.Kick _ b) room none there = still
   at_place (at.Signal signals.SetLatch k b) room none there = still
-  at_place (at.Signal _ k b) room none there = still
   at_place _ room none there = still
 
 -- EACH STEP

@@ -21,12 +21,13 @@ use Rattle.exec_moves.specs.declared.place.Place.TheVariants as at
 use Rattle.std.proofs.lemmas.Bool.{true≢false}
 use Rattle.exec_moves.specs.{Serve.{others_after_reap, back_from_reap}}
 use Rattle.exec_progress.specs.{Going.{has_called_back, loads_queues}, Owed.quiet_items}
-use Rattle.exec_progress.proofs.PaceParts.{is_wild, Calm, cancelling, claiming, closed, fair_if, headed, leaving, letting_go, looking, passed_on, permitted, posted, read, reaped, returned, scanned, searching, served, tailed, telling, waited, waiting_on, withdrawing, withdrawn}
+use Rattle.exec_progress.proofs.PaceParts.{is_wild, Calm, claiming, fair_if, headed, looking, passed_on, permitted, read, reaped, returned, scanned, searching, served, tailed, waited, waiting_on, withdrawing, withdrawn, calm_there}
 use Rattle.exec_machine.specs.{Closing.ends_by_clear}
 use Rattle.exec_moves.specs.{Close.told_of_clear}
 use Rattle.exec_moves.specs.declared.place.AfterPermit.TheVariants as permit
 use Rattle.exec_progress.proofs.PaceSpins.{all_same, ended_same, enter_at, enter_same, fire_same, poll_same, same_if}
 use Rattle.exec_progress.proofs.PacePolls.{Fine, desk_if, in_callbacks, in_global, in_kick, in_pick, in_poll, in_pop, in_push, in_signal, move_if, picking_one}
+use Rattle.exec_rest.proofs.Continuing.{light_leaves_for_turn, light_tells_from, light_cancels_left, light_after_posting, light_after_close, light_after_letting_go}
 
 module _ (c : Configuration) (i : ℕ) (me : Books) (s : Common) (d : Desk) (x : Things) where
   abbrev n : ℕ
@@ -84,18 +85,18 @@ module _ (c : Configuration) (i : ℕ) (me : Books) (s : Common) (d : Desk) (x :
 
   sleeper_closed : (asleep : Option ℕ) → first_asleep i s d ≡ asleep → Leads (close_sleeper i s d)
   sleeper_closed None h = rw h no
-  sleeper_closed (Some z) h = rw h (fire_same z (sleeper_of s z) d, letting_go c i me s n _ None _)
+  sleeper_closed (Some z) h = rw h (fire_same z (sleeper_of s z) d, calm_there _ _ _ _ (light_after_letting_go None _))
 
   cleared : (it : Task) → (told_of_clear i s d it).spinner ≡ d.spinner
   cleared it = same_if d (ends_by_clear it.phase) _ _ (all_same i s it d) refl
 
   in_closing : (p : InClosing) → Leads (move_closing c i s d x p)
-  in_closing closing.Close = (refl, closed c i me s n _)
-  in_closing closing.Stop = (refl, telling c i me s n _ 1)
-  in_closing (closing.TellRoot j) = (refl, posted c i me s n _ j (send.Tell (j + 1)) _ d)
+  in_closing closing.Close = (refl, calm_there _ _ _ _ (light_after_close c i s))
+  in_closing closing.Stop = (refl, calm_there _ _ _ _ (light_tells_from c 1))
+  in_closing (closing.TellRoot j) = (refl, calm_there _ _ _ _ (light_after_posting c j (send.Tell (j + 1)) _ d))
   in_closing (closing.Visit drain) = visited drain (slice_index_or x.shards drain.at []) _ refl
-  in_closing (closing.Clear t drain) = (cleared (task_of s t), cancelling c i me s n _ (cancels.Visit drain) (told_of_clear i s d (task_of s t)) _)
-  in_closing closing.CloseMailbox = (refl, letting_go c i me s n _ _ _)
+  in_closing (closing.Clear t drain) = (cleared (task_of s t), calm_there _ _ _ _ (light_cancels_left (cancels.Visit drain) (told_of_clear i s d (task_of s t)) _))
+  in_closing closing.CloseMailbox = (refl, calm_there _ _ _ _ (light_after_letting_go _ _))
   in_closing closing.Orphan = orphaned _ refl
   in_closing closing.CloseSleeper = sleeper_closed _ refl
   in_closing _ = no
@@ -110,7 +111,7 @@ module _ (c : Configuration) (i : ℕ) (me : Books) (s : Common) (d : Desk) (x :
   in_scan scan.LoadScanHead tame = (refl, fair_if c i me s n _ (nat_lt (room_of (queue_of x i)) half) _ _ tt (scanned c i me s n _ (begun_scan c (stirred d.rng))))
   in_scan (scan.LoadTheirHead y) tame = (refl, headed c i me s n _ y (head_of (queue_of x (from_of c y))))
   in_scan (scan.LoadTheirTail y h) tame = (refl, tailed c i me s n _ y h (tail_of (queue_of x (from_of c y))))
-  in_scan scan.StoreMoved tame = (refl, leaving c i me s n _ d)
+  in_scan scan.StoreMoved tame = (refl, calm_there _ _ _ _ (light_leaves_for_turn c i me s d))
   in_scan _ tame = absurd (true≢false tame)
 
   mirrored : (last : Bool) (g : List ℕ) → Leads (look_at_mirror last d g)
@@ -148,9 +149,9 @@ module _ (c : Configuration) (i : ℕ) (me : Books) (s : Common) (d : Desk) (x :
   in_place (at.Loads p r) here pooled called tame = in_loads p r pooled called
   in_place (at.Service p v) here pooled called tame = in_service p v here tame
   in_place (at.Mail p) here pooled called tame = in_mail p
-  in_place (at.TestForWork f) here pooled called tame = move_if c i me s d x (has_ready me f d || has_submissions c me) _ _ (refl, leaving c i me s n _ d) no
+  in_place (at.TestForWork f) here pooled called tame = move_if c i me s d x (has_ready me f d || has_submissions c me) _ _ (refl, calm_there _ _ _ _ (light_leaves_for_turn c i me s d)) no
   in_place at.ReadClock here pooled called tame =
-      move_if c i me s d x (has_come s.clock (next_due s i)) _ _ (refl, leaving c i me s n _ d) (refl, searching c i me s n _ (record d { read = s.clock }) refl)
+      move_if c i me s d x (has_come s.clock (next_due s i)) _ _ (refl, calm_there _ _ _ _ (light_leaves_for_turn c i me s d)) (refl, searching c i me s n _ (record d { read = s.clock }) refl)
   in_place (at.Search p) here pooled called tame = in_search p
   in_place (at.Scan p) here pooled called tame = in_scan p tame
   in_place (at.Look p) here pooled called tame = in_look p tame
@@ -165,4 +166,4 @@ module _ (c : Configuration) (i : ℕ) (me : Books) (s : Common) (d : Desk) (x :
   in_place (at.Kick p b) here pooled called tame = in_kick c i me s d x p b
   in_place (at.ClaimWorker set b) here pooled called tame = (refl, claiming c i me s n _ b (claimed set x.idle))
   in_place (at.Signal p j b) here pooled called tame = in_signal c i me s d x p j b tame
-  in_place (at.SendCancel b) here pooled called tame = (refl, posted c i me s n _ (first_letter d).to (send.Cancels b) _ (record d { letters = drop 1 d.letters }))
+  in_place (at.SendCancel b) here pooled called tame = (refl, calm_there _ _ _ _ (light_after_posting c (first_letter d).to (send.Cancels b) _ (record d { letters = drop 1 d.letters })))

@@ -1,17 +1,15 @@
 -- Calm places, and that the parts lead to such.
-use Rattle.std.proofs.Common.{◌≡◌, ℕ, Bool, true, false, ◌-◌, ◌==◌, ◌&&◌, ◌||◌, List, [], ◌∷◌, Option, Some, None, if◌then◌else◌, arith}
+use Rattle.std.proofs.Common.{◌≡◌, ℕ, Bool, true, false, ◌-◌, ◌==◌, ◌||◌, List, Option, Some, None, if◌then◌else◌, arith}
 use Rattle.std.specs.Prelude.{nat_le, nat_lt, not}
 use Rattle.exec_words.specs.declared.head.{Fit.Fit, Head.Head}
-use Rattle.exec_machine.specs.{declared.{config.Configuration.Configuration, state.{Letter.Letter, MailMessage.MailMessage, Waiting.Waiting}}, Ranges.ring_size, Tests.is_empty, World.{Common, Own as Books}}
+use Rattle.exec_machine.specs.{declared.{config.Configuration.Configuration, state.{MailMessage.MailMessage, Waiting.Waiting}}, Ranges.ring_size, Tests.is_empty, World.{Common, Own as Books}}
 use Rattle.exec_machine.specs.declared.state.Waiting.TheVariants as waiting
-use Rattle.exec_moves.specs.declared.handing.{AfterCallbacks.AfterCallbacks, AfterCancels.AfterCancels, AfterClaim.AfterClaim, AfterKick.AfterKick, AfterLeave.AfterLeave, AfterPop.AfterPop, AfterPush.AfterPush, AfterSend.AfterSend, AfterSignal.AfterSignal, First.First}
+use Rattle.exec_moves.specs.declared.handing.{AfterCallbacks.AfterCallbacks, AfterClaim.AfterClaim, AfterKick.AfterKick, AfterLeave.AfterLeave, AfterPush.AfterPush, AfterSignal.AfterSignal, First.First}
 use Rattle.exec_moves.specs.declared.idling.{AfterWait.AfterWait, Scan.Scan, Stay.Stay}
 use Rattle.exec_moves.specs.declared.place.{AfterService.AfterService, Place.Place}
-use Rattle.exec_moves.specs.{Callback.{has_callbacks, has_requests, is_of_pool, next_callback, to_queue}, Claim.{Claimed, after_claim}, Close.{after_close, after_letting_go}, Load.{has_submissions, leaves_for_turn, next_turn}, Look.{after_withdrawal, looks_from, past_own}, Mail.after_message, Parts.{after_cancels, after_kick, after_leave, after_poll, after_push, after_return, after_send, after_signal, cancels_left, first_pop, has_others, next_pick, polls, tells_from}, Poll.{after_begin, after_end}, Pop.{after_empty_pop, after_pop, judge_pop}, Push.after_fit, Search.{judge_head, judge_tail, looks_at, past, past_own as past_mine}, Send.{after_posting, after_spawn}, Serve.after_service, State.{Desk}, Wait.{after_wait, first_search, waits, withdraws}}
-use Rattle.exec_moves.specs.declared.handing.AfterCancels.TheVariants as cancels
+use Rattle.exec_moves.specs.{Callback.{has_callbacks, is_of_pool, next_callback, to_queue}, Claim.{Claimed, after_claim}, Look.{after_withdrawal, looks_from, past_own}, Mail.after_message, Parts.{after_kick, after_leave, after_push, after_return, after_signal, has_others}, Poll.{after_begin}, Push.after_fit, Search.{judge_head, judge_tail, looks_at, past, past_own as past_mine}, Send.{after_spawn}, Serve.after_service, State.{Desk}, Wait.{after_wait, first_search, waits, withdraws}}
 use Rattle.exec_moves.specs.declared.handing.AfterClaim.TheVariants as claim
 use Rattle.exec_moves.specs.declared.handing.AfterKick.TheVariants as kick
-use Rattle.exec_moves.specs.declared.handing.AfterPop.TheVariants as pop
 use Rattle.exec_moves.specs.declared.handing.AfterPush.TheVariants as push
 use Rattle.exec_moves.specs.declared.handing.AfterSignal.TheVariants as signal
 use Rattle.exec_moves.specs.declared.idling.AfterWait.TheVariants as later
@@ -32,6 +30,7 @@ use Rattle.exec_moves.specs.declared.place.InLoads.TheVariants as load
 use Rattle.exec_moves.specs.declared.place.InService.TheVariants as step
 use Rattle.exec_rest.specs.Places.{waits_on}
 use Rattle.exec_progress.specs.Going.{raises_itself}
+use Rattle.exec_rest.proofs.Continuing.{is_light, light_next_pick, light_after_send}
 
 -- CALM PLACES: nothing is to be known there beside what keeps from move to move. Queues are loaded by a worker of the pool alone, a spin begins with
 -- the budget, and nothing quiet is left of the callbacks before the test for work.
@@ -79,6 +78,9 @@ module _ (pool : Bool) (budget : ℕ) (quiet : Bool) where
   pub calm_waits : (p : Place) → Calm pool budget quiet p → waits_on p ≡ target.None
   calm_waits = grind arith
 
+  pub calm_there : (p : Place) → is_light p ≡ true → Calm pool budget quiet p
+  calm_there = grind arith
+
   pub calm_raises : (i : ℕ) (p : Place) → Calm pool budget quiet p → raises_itself i p ≡ false
   calm_raises = grind arith
 
@@ -99,28 +101,9 @@ module _ (c : Configuration) (i : ℕ) (me : Books) (s : Common) (budget : ℕ) 
   pub spawned : (t : ℕ) → Fair (after_spawn c i s t)
   spawned t = fair_if (not (is_of_pool s i)) _ _ tt (fair_if (has_others c) _ _ tt tt)
 
-  pub popping : (b : AfterPop) → Fair (first_pop c b)
-  popping b = fair_if (has_others c) _ _ tt tt
-
-  pub polling : (t : ℕ) (d : Desk) → Fair (polls t d).place
-  polling t d = fair_if d.searching _ _ tt tt
-
   pub begun : (t : ℕ) (w : Waiting) → Fair (at.Poll t (after_begin w))
   begun t waiting.Nothing = tt
   begun t _ = tt
-
-  pub picking : (d : Desk) → Fair (next_pick d)
-  picking d = fair_if (d.picks == 0) _ _ tt tt
-
-  pub polled : (home : Option ℕ) (d : Desk) → Fair (after_poll home d)
-  polled None d = picking d
-  polled (Some home) d = tt
-
-  pub turning : (d : Desk) → Fair (next_turn c i me s d)
-  turning d = fair_if ((d.put_off && has_requests i s) || (d.may_put_off && has_submissions c me)) _ _ tt tt
-
-  pub leaving : (d : Desk) → Fair (leaves_for_turn c i me s d)
-  leaving d = fair_if d.searching _ _ tt (turning d)
 
   pub left : (b : AfterLeave) (d : Desk) → Fair (after_leave c i me s b d)
   left = grind arith
@@ -128,30 +111,13 @@ module _ (c : Configuration) (i : ℕ) (me : Books) (s : Common) (budget : ℕ) 
   pub returned : (last : Bool) (b : AfterLeave) (d : Desk) → Fair (after_return c i me s last b d)
   returned last b d = fair_if last _ _ tt (left b d)
 
-  pub telling : (worker : ℕ) → Fair (tells_from c worker)
-  telling worker = fair_if (nat_lt worker c.workers) _ _ tt (popping pop.Discard)
-
-  pub cancelled : (b : AfterCancels) (d : Desk) → Fair (after_cancels b d)
-  cancelled = grind arith
-
-  pub cancelling : (b : AfterCancels) (d : Desk) (letters : List Letter) → Fair (cancels_left b d letters)
-  cancelling b d [] = cancelled b d
-  cancelling b d (letter ∷ letters) = tt
-
-  pub sent : (b : AfterSend) (d : Desk) → Fair (after_send c b d)
-  sent = grind arith
-
-  pub posted : (j : ℕ) (b : AfterSend) (asked : Bool) (d : Desk) → Fair (after_posting c j b asked d)
-  posted j b true d = tt
-  posted j b false d = sent b d
-
   -- once no callback is left nothing quiet is
   pub calling : (books : Books) (n : AfterCallbacks) (d : Desk) → (has_callbacks books d ≡ false → quiet ≡ true) → Fair (next_callback (ring_size c) i books s n d)
   calling = grind arith
 
   pub pushed : (b : AfterPush) (d : Desk) → (has_callbacks me d ≡ false → quiet ≡ true) → Fair (after_push c i me s b d)
   pushed (push.Act t) d none = tt
-  pushed push.Pick d none = picking d
+  pushed push.Pick d none = calm_there _ _ _ _ (light_next_pick d)
   pushed (push.CallBack n) d none = calling me n d none
 
   pub fitted : (b : AfterPush) (h : Head) (f : Fit) → Fair (after_fit b h f)
@@ -164,36 +130,16 @@ module _ (c : Configuration) (i : ℕ) (me : Books) (s : Common) (budget : ℕ) 
   pub signalled : (b : AfterSignal) (d : Desk) → (has_callbacks me d ≡ false → quiet ≡ true) → Fair (after_signal c i me s b d)
   signalled (signal.Claim (claim.Kick b)) d none = kicked b d none
   signalled (signal.Claim (claim.Global b)) d none = pushed b d none
-  signalled (signal.Send b) d none = sent b d
+  signalled (signal.Send b) d none = calm_there _ _ _ _ (light_after_send c b d)
 
   pub claiming : (b : AfterClaim) (y : Claimed) → Fair (after_claim b y)
   claiming = grind arith
-
-  pub emptied : (b : AfterPop) → Fair (after_empty_pop c i b)
-  emptied = grind arith
-
-  pub popped : (b : AfterPop) (t : ℕ) (d : Desk) → Fair (after_pop c b t d).place
-  popped (pop.Pick f) t d = polling t d
-  popped pop.Discard t d = popping pop.Discard
-
-  pub judged : (b : AfterPop) (h : Head) (len : ℕ) → Fair (judge_pop c i b h len)
-  judged b h len = fair_if (len == 0) _ _ (emptied b) (fair_if ((len == 1) && (h.gap == 0)) _ _ tt tt)
 
   pub served : (b : AfterService) (d : Desk) → Fair (after_service b d)
   served = grind arith
 
   pub read : (applied : ℕ) (batch : List MailMessage) → Fair (after_message applied batch)
   read applied batch = fair_if (is_empty batch || nat_le 64 applied) _ _ tt tt
-
-  pub closed : Fair (after_close c i s)
-  closed = fair_if (i == 0) _ _ tt (fair_if (is_of_pool s i) _ _ (popping pop.Discard) tt)
-
-  pub letting_go : (held asleep : Option ℕ) → Fair (after_letting_go held asleep)
-  letting_go = grind arith
-
-  pub over : (t : ℕ) (home : Option ℕ) (d : Desk) → Fair (after_end t home d)
-  over t None d = cancelling (cancels.Remove t) d d.letters
-  over t (Some home) d = tt
 
   pub withdrawing : (n : AfterWait) → Fair (withdraws s i n)
   withdrawing later.Serve = fair_if (is_of_pool s i) _ _ tt tt

@@ -24,11 +24,12 @@ use Rattle.exec_moves.specs.declared.place.InPoll.TheVariants as poll
 use Rattle.exec_moves.specs.declared.place.Place.TheVariants as at
 use Rattle.std.proofs.Common.{if◌then◌else◌}
 use Rattle.std.proofs.lemmas.Bool.{true≢false}
-use Rattle.exec_progress.proofs.PaceParts.{is_wild, Calm, begun, calling, cancelling, emptied, fair_if, fitted, judged, kicked, over, picking, polled, polling, popping, posted, pushed, queued, signalled, spawned}
+use Rattle.exec_progress.proofs.PaceParts.{is_wild, Calm, begun, calling, fair_if, fitted, kicked, pushed, queued, signalled, spawned, calm_there}
 use Rattle.exec_moves.specs.{Parts.polls, Pop.after_pop}
 use Rattle.exec_settled.proofs.SettledPlaces.{told_by}
 use Rattle.exec_progress.specs.Owed.{quiet_items}
 use Rattle.exec_progress.proofs.PaceSpins.{all_same, drop_same}
+use Rattle.exec_rest.proofs.Continuing.{light_first_pop, light_polls, light_next_pick, light_after_poll, light_cancels_left, light_after_posting, light_after_end, light_after_empty_pop, light_judge_pop}
 
 -- once no callback is left nothing quiet is
 pub none_left : (me : Books) (d : Desk) → has_callbacks me d ≡ false → (quiet_items d == 0) ≡ true
@@ -63,21 +64,21 @@ module _ (c : Configuration) (i : ℕ) (me : Books) (s : Common) (d : Desk) (x :
   -- PICKS, POPS AND PUSHES
 
   pub picking_one : (t : ℕ) (e : Desk) → e.spinner ≡ d.spinner → Fine (polls t e)
-  picking_one t e same = (same, polling c i me s n _ t e)
+  picking_one t e same = (same, calm_there _ _ _ _ (light_polls t e))
 
   pub in_pick : (p : InPick) → Leads (move_pick c i d x p)
   in_pick = grind arith
 
   popped_one : (b : AfterPop) (t : ℕ) → Fine (after_pop c b t d)
   popped_one (pop.Pick f) t = picking_one t d refl
-  popped_one pop.Discard t = (refl, popping c i me s n _ pop.Discard)
+  popped_one pop.Discard t = (refl, calm_there _ _ _ _ (light_first_pop c pop.Discard))
 
   oldest : (b : AfterPop) (q : Queue ℕ) (vs : List ℕ) → q.values ≡ vs → Leads (pops c i b d q)
-  oldest b q [] h = rw h (refl, emptied c i me s n _ b)
+  oldest b q [] h = rw h (refl, calm_there _ _ _ _ (light_after_empty_pop c i b))
   oldest b q (t ∷ ts) h = rw h (popped_one b t)
 
   head_loaded : (b : AfterPop) (q : Queue ℕ) → Leads (load_pop_head c i b d q)
-  head_loaded b q = (refl, judged c i me s n _ b (head_of q) (tail_of q - q.real))
+  head_loaded b q = (refl, calm_there _ _ _ _ (light_judge_pop c i b (head_of q) (tail_of q - q.real)))
 
   pub in_pop : (p : InPop) (b : AfterPop) → Leads (move_pop c i d x p b)
   in_pop = grind (arith, oldest, head_loaded, move_if)
@@ -110,10 +111,10 @@ module _ (c : Configuration) (i : ℕ) (me : Books) (s : Common) (d : Desk) (x :
 
   requeued : (t : ℕ) (b : Bool) → Fine (requeued_if b t d)
   requeued t true = no
-  requeued t false = (refl, picking c i me s n _ d)
+  requeued t false = (refl, calm_there _ _ _ _ (light_next_pick d))
 
   pended : (t : ℕ) (it : Task) (home : Option ℕ) → Fine (after_pend i t s d it home)
-  pended t it None = desk_if it.cleared _ _ (all_same i s it d, cancelling c i me s n _ cancels.Pick (lets_go_all i s it d) _) (requeued t _)
+  pended t it None = desk_if it.cleared _ _ (all_same i s it d, calm_there _ _ _ _ (light_cancels_left cancels.Pick (lets_go_all i s it d) _)) (requeued t _)
   pended t it (Some home) = no
 
   on_request : (t : ℕ) (it : Task) (r : ℕ) (p : RequestPhase) → it.waiting ≡ waiting.Request r → (request_of s r).phase ≡ p → Leads (resume i t s d it)
@@ -128,7 +129,7 @@ module _ (c : Configuration) (i : ℕ) (me : Books) (s : Common) (d : Desk) (x :
 
   seen : (t : ℕ) (b : AfterSend) (m : Moved Things) → Leads m → (y : Sight) → Leads (move_look_at c s d x t b m y)
   seen t b m one Here = one
-  seen t b m one (Asks j message) = (refl, posted c i me s n _ j b _ d)
+  seen t b m one (Asks j message) = (refl, calm_there _ _ _ _ (light_after_posting c j b _ d))
   seen t b m one (HearsRequest r) = heard_of t r (has_number r x.answers) (request_of s r).phase
   seen t b m one (HearsTimer z) = move_if (has_number z x.alarms) _ _ no no
 
@@ -155,8 +156,8 @@ module _ (c : Configuration) (i : ℕ) (me : Books) (s : Common) (d : Desk) (x :
     acted_by t it script.Drop = dropped t it (newest_held it)
     acted_by t it (script.Sleep time) = slept t it (sleep_asked me.sampled (script.Sleep time))
     acted_by t it script.Yield = no
-    acted_by t it (script.Fault code) = (all_same i s it d, over c i me s n _ t it.home (lets_go_all i s it d))
-    acted_by t it script.End = (all_same i s it d, over c i me s n _ t it.home (lets_go_all i s it d))
+    acted_by t it (script.Fault code) = (all_same i s it d, calm_there _ _ _ _ (light_after_end t it.home (lets_go_all i s it d)))
+    acted_by t it script.End = (all_same i s it d, calm_there _ _ _ _ (light_after_end t it.home (lets_go_all i s it d)))
     acted_by t it _ = (refl, before)
 
     asked : (t : ℕ) (it : Task) (w : ScriptWord) (o : Option Operation) → Leads (act_asked i t me s d it w o)
@@ -168,7 +169,7 @@ module _ (c : Configuration) (i : ℕ) (me : Books) (s : Common) (d : Desk) (x :
 
     waking : (t u : ℕ) (home : Option ℕ) → Leads (move_wake c i s d x t u home)
     waking t u None = desk_if (is_idle (task_of s u).phase) _ _ (refl, queued c i me s n _ (push.Act t)) no
-    waking t u (Some home) = move_if (home == i) _ _ no (refl, posted c i me s n _ home (send.Act t) _ d)
+    waking t u (Some home) = move_if (home == i) _ _ no (refl, calm_there _ _ _ _ (light_after_posting c home (send.Act t) _ d))
 
     in_act : (t : ℕ) (w : ScriptWord) → Leads (move_act c i me s d x t w)
     in_act t (script.Spawn k) = desk_if s.set_closed _ _ no (refl, spawned c i me s n _ t)
@@ -180,13 +181,13 @@ module _ (c : Configuration) (i : ℕ) (me : Books) (s : Common) (d : Desk) (x :
 
     pub in_poll : (t : ℕ) (p : InPoll) → Leads (move_poll c i me s d x t p)
     in_poll t poll.BeginPoll =
-        move_if (is_ready (task_of s t).phase) _ _ (refl, begun c i me s n true t (begun_waiting (task_of s t).waiting)) (refl, polled c i me s n _ (task_of s t).home d)
+        move_if (is_ready (task_of s t).phase) _ _ (refl, begun c i me s n true t (begun_waiting (task_of s t).waiting)) (refl, calm_there _ _ _ _ (light_after_poll (task_of s t).home d))
     in_poll t poll.Resume = seen t (send.Pend t) _ (resumed t (task_of s t) _ refl) (sight_of i s (task_of s t).waiting)
     in_poll t poll.Act = in_act t (next_word s (task_of s t))
     in_poll t (poll.JoinGate r) = no
     in_poll t poll.LoadSpawnHead = (refl, fair_if c i me s n _ (tail_of (queue_of x i) == (queue_of x i).real) _ _ tt tt)
     in_poll t poll.Pend = pended t (task_of s t) (task_of s t).home
-    in_poll t poll.RemoveTask = (refl, picking c i me s n _ d)
+    in_poll t poll.RemoveTask = (refl, calm_there _ _ _ _ (light_next_pick d))
 
   -- THE CALLBACKS
 

@@ -2,16 +2,14 @@
 use Rattle.std.proofs.Common.{◌≡◌, ℕ, ◌+◌, ◌-◌, ◌*◌, ◌%◌, ◌≤◌, ◌<◌, ◌==◌, Bool, true, false, not, ◌&&◌, ◌||◌, [], length, get_or, if◌then◌else◌, refl, sym, ap, subst, ◌∙◌, arith, inl, inr}
 use Rattle.std.specs.Prelude.{nat_le}
 use Rattle.std.specs.List.{range_with_len}
-use Rattle.std.proofs.lemmas.{Bool.{and_parts, and_from, cases_lt, eqb-true, eq-eqb, true≢false}, List.{get_or_past, get_or_default}, List.FromFn.{length-range_with_len, get_or-range_with_len}, List.Folds.{Any-from_list_any, list_any_at}, Nat.{mod-mul-add, mod_below}}
+use Rattle.std.proofs.lemmas.{Bool.{and_parts, and_from, cases_lt, eqb-true, true≢false}, List.{get_or_past, get_or_default}, List.FromFn.{length-range_with_len, get_or-range_with_len}, List.Folds.{Any-from_list_any, list_any_at}, Nat.{mod-mul-add, mod_below}}
 use Rattle.exec_words.specs.{declared.head.Head.Head, Queue.{Queue, head_of, tail_of}}
 use Rattle.exec_machine.specs.{declared.config.Configuration.Configuration, World.Common}
 use Rattle.exec_moves.specs.{declared.{idling.{InScan.InScan, Scan.Scan}, place.Place.Place}, Pop.same_head, Search.{begun_scan, from_of, judge_head, looks_at, past, scanning}, State.{Desk, Things, no_queue, queue_of}}
 use Rattle.exec_progress.{specs.{Effort.{comes_to, may_miss, scans_again, second_scan}, Owed.{can_steal, is_stealable}, Ranks.{passing, publish, rank}}, proofs.Idling.{IsIdling, chosen, in_scan}}
+use Rattle.exec_progress.proofs.Popping.{same_again}
 
 -- HEADS
-
-pub same_refl : (h : Head) → same_head h h ≡ true
-same_refl h = and_from _ _ (eq-eqb h.real h.real refl) (eq-eqb h.gap h.gap refl)
 
 pub same_parts : (h g : Head) → same_head h g ≡ true → (h.real ≡ g.real) × (h.gap ≡ g.gap)
 same_parts h g same = (eqb-true h.real g.real (and_parts _ _ same).0, eqb-true h.gap g.gap (and_parts _ _ same).1)
@@ -123,5 +121,5 @@ module _ (c : Configuration) (i : ℕ) (s : Common) (e : Desk) (x : Things) (dry
   judged y =
       let q = queue_of x (from_of c y) in
       chosen (Within (passing c.workers y.passed + 2) (may_miss c y true x)) (q.gap == 0) (Place.Scan (InScan.LoadTheirTail y (head_of q))) (looks_at c i (past y))
-      (λ h. (in_scan i s (InScan.LoadTheirTail y (head_of q)), rw (same_refl (head_of q)) (omega arith)))
+      (λ h. (in_scan i s (InScan.LoadTheirTail y (head_of q)), rw (same_again (head_of q)) (omega arith)))
       (λ h. let it = looks_past y in (it.0, rw (misses_same c x y (claimed_is_not q h)) (omega (arith, it.1))))

@@ -49,12 +49,7 @@ module _ (c : Configuration) (i : ℕ) (me : Books) (s : Common) (d : Desk) (x :
         long_after = refl;
         less = omega (arith, it.less, it.gates_same);
         gates_kept = omega arith;
-        owes = keeps_turns c i a b (record {
-          kept = λ h. omega (arith, h, on, ap (λ m. signs_ahead n (Place.Service p v) (record (signs c i me s d x) { mail = m })) it.mail_same);
-          wanted_kept = λ h k. omega (arith, k, mail);
-          others_kept = λ h. omega (arith, staged, stray, kept, ended, latches);
-          spun_kept = λ h. omega (arith, latches, latch);
-        });
+        owes = keeps_turns c i a b (grind (arith, on, mail, staged, stray, kept, ended, latches, latch));
       })
 
   -- WHAT FOLLOWS a permit that was given up
@@ -107,14 +102,7 @@ module _ (c : Configuration) (i : ℕ) (me : Books) (s : Common) (d : Desk) (x :
         poll_same = refl;
         latch = one_at_most (signals_itself i (Place.Service (after_permit b) v) || (word_of x i).latch);
       })
-      by (Some j) quiet = slides (InService.PassPermit file b) (InService.Signal j b) v x.words x.wake_polls (slice_set x.gates file (left_by_first (gate_of x file))) (record {
-        stage_same = at_stage (InService.PassPermit file b) (InService.Signal j b) v.back refl;
-        less = omega arith;
-        gates_same = gates_of file j v b;
-        mail_same = refl;
-        poll_same = refl;
-        latch = one_at_most ((j == i) || (word_of x i).latch);
-      })
+      by (Some j) quiet = slides (InService.PassPermit file b) (InService.Signal j b) v x.words x.wake_polls (slice_set x.gates file (left_by_first (gate_of x file))) (grind (arith, at_stage, file, v.back, gates_of, one_at_most, word_of))
 
   -- SIGNALLING
 

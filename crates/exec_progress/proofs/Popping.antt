@@ -8,7 +8,7 @@ use Rattle.exec_moves.specs.{declared.{handing.{AfterPop.AfterPop, First.First, 
 use Rattle.exec_progress.{specs.{Going.{Falls, FallsAt, seen, stands}, Ranks.{exchange_pop, is_fresh, rank}}, proofs.{Steps.{Leads, polls_next, same_queue, leads}, Tools.{either}}}
 
 -- a head that was loaded is the queue's
-same_again : (h : Head) → same_head h h ≡ true
+pub same_again : (h : Head) → same_head h h ≡ true
 same_again h = rw (eq-eqb h.real h.real refl, eq-eqb h.gap h.gap refl) refl
 
 -- an exchange stands above what follows the pop, whether its head is the queue's or not

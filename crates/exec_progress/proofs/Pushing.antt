@@ -1,23 +1,17 @@
 -- A push into the own run queue.
-use Rattle.std.proofs.Common.{◌≡◌, ℕ, ◌+◌, ◌==◌, ◌≤◌, ◌<◌, ◌++◌, Bool, true, false, not, ◌&&◌, if◌then◌else◌, List, [], length, Option, None, is_some, refl, sym, ap, subst, ◌∙◌, arith}
+use Rattle.std.proofs.Common.{◌≡◌, ℕ, ◌+◌, ◌≤◌, ◌<◌, ◌++◌, Bool, true, not, ◌&&◌, if◌then◌else◌, List, length, Option, None, is_some, refl, sym, ap, subst, ◌∙◌, arith}
 use Rattle.std.specs.Prelude.{nat_le}
-use Rattle.std.proofs.lemmas.{Bool.{eq-eqb, and_from}, List.{append-nil, get_or-set_same, set-get_or}}
+use Rattle.std.proofs.lemmas.{List.{append-nil, get_or-set_same, set-get_or}}
 use Rattle.exec_words.specs.{declared.head.{Fit.Fit, Head.Head}, Queue.{Queue, fit_of, head_of, newest, overflowed, published}}
 use Rattle.exec_machine.specs.{declared.config.Configuration.Configuration, Tests.is_empty, World.{Common, Own as Books}}
 use Rattle.exec_moves.specs.{declared.{handing.{AfterKick.AfterKick, AfterPush.AfterPush, InGlobal.InGlobal, InKick.InKick, InPush.InPush}, place.Place.Place}, Counts.one_if, Global.has_any, Parts.{after_push, has_others}, Pop.same_head, Push.{after_fit, in_hand}, State.{Desk, Moved, Things, no_queue, queue_of, turns}, Thing.{set_queue, with_queue}}
 use Rattle.exec_progress.{specs.{Effort.{is_short_push, stagings_of_push}, Going.{FallsAt, seen, stands}, Owed.{can_steal, stage_of_push}, Ranks.{below_push, is_fresh}}, proofs.{Arriving.{Reaches, push_to}, Between.{at_if, comes_global, comes_kick, comes_push, leaves_push, set_bounds}, Dropping.{kept_same}, Appending.longer, Hopping.{Gets, Kept, hops}, Overflowing.{flows_over, stores_oldest}, Tools.either}}
-
--- a head is the same as itself
-same_as_itself : (h : Head) → same_head h h ≡ true
-same_as_itself h = and_from (h.real == h.real) (h.gap == h.gap) (eq-eqb h.real h.real refl) (eq-eqb h.gap h.gap refl)
+use Rattle.exec_progress.proofs.Entering.{at_most_one}
+use Rattle.exec_progress.proofs.Popping.{same_again}
 
 -- what was in the hand is in the queue
 one_pushed : (pool : Bool) (xs : List ℕ) (hand : Option ℕ) → one_if (pool && not (is_empty (xs ++ in_hand hand))) ≤ one_if (pool && not (is_empty xs)) + one_if (is_some hand)
 one_pushed = grind arith
-
-at_most_one : (v : Bool) → one_if v ≤ 1
-at_most_one true = omega arith
-at_most_one false = omega arith
 
 module _ (c : Configuration) (i : ℕ) (me : Books) (s : Common) (d : Desk) (x : Things) where
   abbrev q : Queue ℕ
@@ -50,7 +44,7 @@ module _ (c : Configuration) (i : ℕ) (me : Books) (s : Common) (d : Desk) (x :
       (comes_push c i me s d x (InPush.StoreValue len) b unchanged (below_push c.workers b + 7) (omega arith)) (unchanged_kept (Place.Push InPush.LoadPushHead b))
   loads b Fit.Overflow =
       let below = below_push c.workers b in
-      let fresh : is_fresh (set_queue i x q) i (head_of q) ≡ true = ap (λ y. same_head (head_of q) (head_of (queue_of y i))) put_back ∙ same_as_itself (head_of q) in
+      let fresh : is_fresh (set_queue i x q) i (head_of q) ≡ true = ap (λ y. same_head (head_of q) (head_of (queue_of y i))) put_back ∙ same_again (head_of q) in
       hops c i me s d x (Place.Push InPush.LoadPushHead b) (Place.Push (InPush.FlowOver (head_of q)) b) unchanged (is_short_push b) (stage_of_push d.picks b) (stagings_of_push b) (below + 8)
       (leaves_push c i me s d x InPush.LoadPushHead b (below + 8) (omega arith)) (comes_push c i me s d x (InPush.FlowOver (head_of q)) b unchanged (below + 8) (omega (
         arith,

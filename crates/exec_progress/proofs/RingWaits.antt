@@ -17,7 +17,7 @@ found_of : (landed more told : Bool) → (landed || more || told) ≡ true → (
 found_of true more told h = inl refl
 found_of false more told h = inr h
 
-never : (full : Bool) → one_if (full && false) ≡ 0
+pub never : (full : Bool) → one_if (full && false) ≡ 0
 never true = refl
 never false = refl
 

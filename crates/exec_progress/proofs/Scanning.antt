@@ -5,7 +5,8 @@ use Rattle.std.proofs.lemmas.{Bool.{and_from, eq-eqb, le-leb, ltb-true, ne_eqb},
 use Rattle.exec_words.specs.{declared.head.Head.Head, Head.{claim_at, claimed_head, is_spent}, Queue.{Queue, claimed, head_of, published, released, room_of, tail_of}}
 use Rattle.exec_machine.specs.{declared.config.Configuration.Configuration, Tests.is_empty, World.{Common, Own as Books}}
 use Rattle.exec_moves.specs.{declared.{idling.{InLook.InLook, InScan.InScan, Scan.Scan}, place.Place.Place}, Callback.is_of_pool, Counts.one_if, Load.leaves_for_turn, Pop.same_head, Search.{begun_scan, from_of, half, judge_head, looks_at, past, stirred, store_moved}, State.{Desk, Things, no_queue, queue_of, turns}, Thing.{set_queue, with_queue}}
-use Rattle.exec_progress.{specs.{Effort.{may_miss, second_scan}, Going.{Falls, FallsAt, IsGoing, seen, stands}, Owed.{can_steal, is_stealable}, Ranks.{is_fresh, passing, release}}, proofs.{Idling.{FallsTo, chosen, desk_to, height, idles, in_look, in_scan, loads}, Passing.{Within, above, can_at, comes_to_all, empty_is_not, few_are_not, judged, looks, looks_past, misses_more, misses_same, same_parts, same_refl, second_le}, Tools.{afterwards, before}, Upward.{for_sure, leaves_is_top, to_turn}}}
+use Rattle.exec_progress.{specs.{Effort.{may_miss, second_scan}, Going.{Falls, FallsAt, IsGoing, seen, stands}, Owed.{can_steal, is_stealable}, Ranks.{is_fresh, passing, release}}, proofs.{Idling.{FallsTo, chosen, desk_to, height, idles, in_look, in_scan, loads}, Passing.{Within, above, can_at, comes_to_all, empty_is_not, few_are_not, judged, looks, looks_past, misses_more, misses_same, same_parts, second_le}, Tools.{afterwards, before}, Upward.{for_sure, leaves_is_top, to_turn}}}
+use Rattle.exec_progress.proofs.Popping.{same_again}
 
 none_behind : (xs ys : List ℕ) → is_empty ys ≡ false → is_empty (xs ++ ys) ≡ false
 none_behind [] ys some = some
@@ -122,7 +123,7 @@ module _ (c : Configuration) (i : ℕ) (me : Books) (s : Common) (d : Desk) (x :
       (λ same. idles c i me s d x (at p) (at InScan.StoreMoved) d.rng d.loot d.searching (slice_set x.queues from (released q)) x.idle (in_scan i s p) (in_scan i s InScan.StoreMoved)
       (rw same (omega arith)) (λ k. omega (arith, ap (λ b. one_if (not b)) (it.moves refl))))
       (λ other. loads c i me s d x from (at p) (at (InScan.ReleaseHalf from (head_of q))) d.rng (in_scan i s p) (in_scan i s (InScan.ReleaseHalf from (head_of q)))
-      (rw (other, same_refl (head_of q)) (omega arith)))
+      (rw (other, same_again (head_of q)) (omega arith)))
 
   -- what was moved stands in the own queue
   stores_moved : FallsAt c i me s d x (at InScan.StoreMoved)

@@ -19,9 +19,9 @@ use Rattle.exec_moves.specs.declared.place.InService.TheVariants as step
 use Rattle.exec_moves.specs.declared.place.Place.TheVariants as at
 use Rattle.exec_moves.specs.declared.place.Round.TheVariants as round
 use Rattle.exec_rest.specs.{Posted.has_tested}
-use Rattle.exec_rest.proofs.{Away.{away_signal, calm_untested}, Bare.joined, BareMoves.put_in, Continuing.calm_leaves_for_turn, Untested.untested}
+use Rattle.exec_rest.proofs.{Away.{away_signal, calm_untested}, Bare.joined, BareMoves.put_in, Continuing.{calm_light, light_leaves_for_turn}, Untested.untested}
 use Rattle.exec_progress.specs.{Going.is_seeking, Owed.quiet_items, Paced.HaveCounts}
-use Rattle.exec_progress.proofs.{Pace.{each_first, newcomer}, PaceParts.{Calm, leaving, signalled}, PaceMoves.in_place as tame, PaceSpins.enter_at}
+use Rattle.exec_progress.proofs.{Pace.{each_first, newcomer}, PaceParts.{Calm, signalled, calm_there}, PaceMoves.in_place as tame, PaceSpins.enter_at}
 
 -- who seeks there holds a search count: of a place and whether one is held, of a desk, and of a move
 abbrev Counts : Bool → Place → Type 0
@@ -53,7 +53,7 @@ module _ (c : Configuration) (i : ℕ) (me : Books) (s : Common) (d : Desk) (x :
   off = grind arith
 
   leaves : Counts held (leaves_for_turn c i me s d)
-  leaves = off true _ (calm_untested _ (calm_leaves_for_turn c i me s d)) (leaving c i me s d.spinner.budget true d) held
+  leaves = off true _ (calm_untested _ (calm_light _ (light_leaves_for_turn c i me s d))) (calm_there _ _ _ _ (light_leaves_for_turn c i me s d)) held
 
   waiting : (e : Desk) → Counts held (waits c i s e)
   waiting = grind arith

@@ -9,11 +9,7 @@ use Rattle.exec_progress.specs.Heights.{advance_wheel as advance_wheel_height}
 use Rattle.exec_moves.specs.{Serve.{advance_wheel, after_service, enter_last, first_to_fire, reap, sample, unlatched}, Told.told_of_fire, State.{Desk, Moved, Own, Things, WakePoll, does, serves, dropped, is_dropped, no_wake_poll, no_word, wake_poll_of, word_of}, Thing.{aside, set_wake_poll, set_word, with_ring, with_word}}
 use Rattle.exec_progress.specs.{Effort.is_short, Going.{Falls, FallsAt, is_of_closing, seen, stands}, Owed.{is_any_due, is_any_to_fire}, Ranks.{submits}}
 use Rattle.exec_credit.proofs.First.{sleepers}
-use Rattle.exec_progress.proofs.{Entering.{busy_pays, enter_gates, enter_keeps}, Tools.{KeepsTurns, OwesNoMore, afterwards, before, either, gates, goes_down, keeps_turns, pays_want, rest}}
-
-one_at_most : (b : Bool) → one_if b ≤ 1
-one_at_most true = omega arith
-one_at_most false = omega arith
+use Rattle.exec_progress.proofs.{Entering.{busy_pays, enter_gates, enter_keeps, at_most_one}, Tools.{KeepsTurns, OwesNoMore, afterwards, before, either, gates, goes_down, keeps_turns, pays_want, rest}}
 
 -- where all is dropped the wake poll has no end any more, and may have no place: that is paid by its end
 drops_end : (e : Option ℕ) → one_if (is_some (if is_dropped [] e then None else e)) ≡ 0
@@ -27,7 +23,7 @@ drops = grind arith
 
 pub any_more : {X : Type 0} (f g : X → Bool) → ((z : X) → f z ≡ true → g z ≡ true) → (zs : List X) → one_if (list_any f zs) ≤ one_if (list_any g zs)
 any_more f g more [] = omega arith
-any_more f g more (z ∷ zs) = grind (arith, one_at_most, any_more f g more zs)
+any_more f g more (z ∷ zs) = grind (arith, at_most_one, any_more f g more zs)
 
 module _ (i m k : ℕ) (le : m ≤ k) where
   later : (until : ℕ) → nat_le until m ≡ true → nat_le until k ≡ true
@@ -86,19 +82,9 @@ module _ (c : Configuration) (i : ℕ) (me : Books) (s : Common) (d : Desk) (x :
       by : (b : AfterService) → is_of_closing (at b) ≡ false → Falls c i (seen (at b) me) s (stands (at b) d) x (moved b)
       by AfterService.Finish h = absurd (true≢false h)
       by AfterService.Mail h =
-          goes (at AfterService.Mail) (moved AfterService.Mail) refl refl (omega arith) (omega arith) (keeps (at AfterService.Mail) (moved AfterService.Mail) (record {
-            kept = λ k. omega (arith, k, latch, mail, due, fires);
-            wanted_kept = λ k l. omega (arith, l, mail, due, fires);
-            others_kept = λ k. omega (arith, latch);
-            spun_kept = λ k. omega (arith, latch);
-          }))
+          goes (at AfterService.Mail) (moved AfterService.Mail) refl refl (omega arith) (omega arith) (keeps (at AfterService.Mail) (moved AfterService.Mail) (grind (arith, latch, mail, due, fires)))
       by AfterService.Begin h =
-          goes (at AfterService.Begin) (moved AfterService.Begin) refl refl (omega arith) (omega arith) (keeps (at AfterService.Begin) (moved AfterService.Begin) (record {
-            kept = λ k. omega (arith, k, latch, mail, due, fires);
-            wanted_kept = λ k l. omega (arith, l, mail, due, fires);
-            others_kept = λ k. omega (arith, latch);
-            spun_kept = λ k. omega (arith, latch);
-          }))
+          goes (at AfterService.Begin) (moved AfterService.Begin) refl refl (omega arith) (omega arith) (keeps (at AfterService.Begin) (moved AfterService.Begin) (grind (arith, latch, mail, due, fires)))
 
   pub samples : (v : Service) → FallsAt c i me s d x (Place.Service InService.Sample v)
   samples v = samples_by v v.back

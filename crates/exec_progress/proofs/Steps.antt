@@ -1,9 +1,9 @@
 -- Small tools for steps that go down.
-use Rattle.std.proofs.Common.{◌≡◌, ℕ, ◌<◌, ◌≤◌, Bool, true, false, ◌&&◌, if◌then◌else◌, refl, sym, ap, ◌∙◌}
+use Rattle.std.proofs.Common.{◌≡◌, ℕ, ◌<◌, ◌≤◌, Bool, true, false, if◌then◌else◌, sym, ap, ◌∙◌}
 use Rattle.std.proofs.lemmas.{Bool.{false≢true}, List.set-get_or}
 use Rattle.exec_machine.specs.{declared.config.Configuration.Configuration, Choice.Choice.Plain, World.{Common, Own as Books}, Text.is_quiet}
 use Rattle.exec_machine.specs.declared.event.Event.TheVariants as event
-use Rattle.exec_moves.specs.{declared.{handing.{AfterPop.AfterPop, InPop.InPop}, place.Place.Place}, Counts.one_if, Parts.polls, State.{Desk, Moved, Things, no_queue, queue_of}, Thing.set_queue}
+use Rattle.exec_moves.specs.{declared.{handing.{AfterPop.AfterPop, InPop.InPop}, place.Place.Place}, Parts.polls, State.{Desk, Moved, Things, no_queue, queue_of}, Thing.set_queue}
 use Rattle.exec_progress.{specs.{Effort.is_short, Going.{Falls, seen, stands}, Ranks.rank}, proofs.Tools.{KeepsTurns, Now, afterwards, before, comes_to_poll, gates, goes_down, keeps_turns, left, rest}}
 
 -- a queue that is put back as it was
@@ -18,11 +18,6 @@ loud c i me s d x m is quiet = absurd (false≢true (sym is ∙ quiet))
 pub sinks : (c : Configuration) (i : ℕ) (a b : Now) → is_short a.d.place ≡ false → is_short b.d.place ≡ false → rest c i b < rest c i a → gates c i b ≤ gates c i a → KeepsTurns c i a b → left c i b < left c i a
 sinks c i a b long later less gates_kept keeps =
     goes_down c i a b (record { long_before = long; long_after = later; less = less; gates_kept = gates_kept; owes = keeps_turns c i a b keeps })
-
--- a sign of a queue that is empty is off
-pub none_there : (b : Bool) → one_if (b && false) ≡ 0
-none_there true = refl
-none_there false = refl
 
 -- a pop begins alike with others and alone
 pub pop_either : (P : Place → Type 0) (b : AfterPop) (v : Bool) → P (Place.Pop InPop.LoadPopHead b) → P (Place.Pop InPop.PopAlone b) → P (if v then Place.Pop InPop.LoadPopHead b else Place.Pop InPop.PopAlone b)

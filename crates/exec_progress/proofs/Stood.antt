@@ -1,7 +1,7 @@
 -- What is known of an open worker, while nobody closes, from what is carried and what is given of each state.
-use Rattle.std.proofs.Common.{◌≡◌, ℕ, zero, suc, ◌+◌, ◌*◌, ◌^◌, ◌≤◌, ◌<◌, Bool, true, false, not, ◌&&◌, ◌||◌, List, [], ◌∷◌, length, get_or, refl, sym, ap, subst, ◌∙◌, arith}
+use Rattle.std.proofs.Common.{◌≡◌, ℕ, zero, suc, ◌+◌, ◌*◌, ◌^◌, ◌≤◌, ◌<◌, Bool, true, false, not, ◌&&◌, List, [], ◌∷◌, length, get_or, refl, sym, ap, subst, ◌∙◌, arith}
 use Rattle.std.specs.{Prelude.{nat_lt}, List.list_any}
-use Rattle.std.proofs.lemmas.{Bool.{cases_lt, true≢false, ltb-true, le-ltb}, List.{get_or_append_left, get_or_past, get_or-set_same, length-set}}
+use Rattle.std.proofs.lemmas.{Bool.{cases_lt, true≢false, ltb-true, le-ltb, or_parts}, List.{get_or_append_left, get_or_past, get_or-set_same, length-set}}
 use Rattle.exec_credit.proofs.Spins.{within_largest}
 use Rattle.exec_words.specs.{Head.is_spent}
 use Rattle.exec_machine.specs.{After.{own_after}, Callers.is_held, Tests.is_awake, World.Common, declared.{config.{Configuration.Configuration}, state.WorkerPhase.WorkerPhase}, Callers.is_enabled, Progress.{is_anyone_closing}, Tests.{has_ended, is_closing, is_open}, Text.is_quiet, World.{World, Own as Books, Seat, no_seat, own_of, seat_of}}
@@ -15,15 +15,11 @@ use Rattle.exec_progress.specs.{Left.left_to, Effort.steps_left, Going.{Falls, F
 
 -- WHO IS OPEN
 
-or_none : (a b : Bool) → (a || b) ≡ false → (a ≡ false) × (b ≡ false)
-or_none true b h = absurd (true≢false h)
-or_none false b h = (refl, h)
-
 -- nobody closes
 none_closing : (seats : List Seat) (i : ℕ) → list_any (λ seat. is_closing seat.phase) seats ≡ false → is_closing (get_or seats i no_seat).phase ≡ false
 none_closing [] i none = refl
-none_closing (y ∷ ys) zero none = (or_none (is_closing y.phase) (list_any (λ seat. is_closing seat.phase) ys) none).0
-none_closing (y ∷ ys) (suc i) none = none_closing ys i (or_none (is_closing y.phase) (list_any (λ seat. is_closing seat.phase) ys) none).1
+none_closing (y ∷ ys) zero none = (or_parts (is_closing y.phase) (list_any (λ seat. is_closing seat.phase) ys) none).0
+none_closing (y ∷ ys) (suc i) none = none_closing ys i (or_parts (is_closing y.phase) (list_any (λ seat. is_closing seat.phase) ys) none).1
 
 open_then : (p : WorkerPhase) → is_closing p ≡ false → has_ended p ≡ false → is_open p ≡ true
 open_then = grind arith

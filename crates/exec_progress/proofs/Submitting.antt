@@ -7,6 +7,7 @@ use Rattle.exec_machine.specs.{declared.{config.Configuration.Configuration, eve
 use Rattle.exec_moves.specs.{declared.place.{AfterService.AfterService, InService.InService, Place.Place, Reaping.Reaping, Service.Service}, Callback.{has_requests, is_full, is_of_pool}, Counts.{count_numbered, gates_from, one_if}, Load.{has_submissions, may_stage}, Serve.{Ring, after_staging, enters, first_numbered}, State.{Desk, Moved, Things, WakePoll, does, no_wake_poll, queue_of, taken_in, wake_poll_of, gate_of}, Submit.{Due, due_next, first_due, granted_at, next_gate, one_more, or_else, request_due, stage_next, staging_due, submits as to_gate, try_gate, waits_at, Due.{Expires, Enrols, AtGate, Flushes, Cancels, Stages, Ends}}, Move.move_submit, Thing.{ring_of, set_wake_poll, with_gate, with_ring}}
 use Rattle.exec_credit.proofs.{Entering.{due_same, gates_same}, First.deadlines, Rings.{no_first, polled_of, full_of}}
 use Rattle.exec_progress.{specs.{Effort.is_short, Going.{Falls, FallsAt, IsGoing, closes_service, seen, stands}, Owed.is_any_due, Ranks.{below_service, submits as rank_of_submit}}, proofs.{Tools.{Now, afterwards, ahead_at, before, either, gates, goes_down, keeps_turns, left, others_at, pays_want, rest, spun, wanted_at}}}
+use Rattle.exec_progress.proofs.Entering.{at_most_one}
 
 -- GATES: one that was next is left behind
 
@@ -46,10 +47,6 @@ fewer_past waits from g n (x ∷ xs) is = by (nat_le from n && waits n) refl is 
 
 -- BITS OF WHAT IS KNOWN
 
-and_off : (a b : Bool) → b ≡ false → (a && b) ≡ false
-and_off true b h = h
-and_off false b h = refl
-
 -- all that is done after the staging is lower than it, and a flush is higher
 submit_low : (below : ℕ) (full : Bool) → below + 4 ≤ rank_of_submit below full
 submit_low below true = omega arith
@@ -82,10 +79,6 @@ uses c i a b long later less gates_kept kept others spins =
 -- that a wake was kept for the wake poll pays for its end
 flush_taken : (polled : Bool) (w : WakePoll) → 2 * one_if (taken_in polled w).kept + one_if (is_some (taken_in polled w).ended) ≤ 2 * one_if w.kept + one_if (is_some w.ended)
 flush_taken = grind arith
-
-one_at_most : (b : Bool) → one_if b ≤ 1
-one_at_most true = omega arith
-one_at_most false = omega arith
 
 module _ (c : Configuration) (i : ℕ) (me : Books) (s : Common) (d : Desk) (x : Things) (defer : Bool) (gate : ℕ) where
   abbrev via : AfterService → Service
@@ -132,7 +125,7 @@ module _ (c : Configuration) (i : ℕ) (me : Books) (s : Common) (d : Desk) (x :
   ends_by : AllDone → (polled : Bool) (entries : ℕ) → polled ≡ true → (off : Bool) (b : AfterService) → closes_service b ≡ false
       → FallsBy b (ends_to b InService.EnterLast (record d { polled = polled; entries = entries }) off)
       × FallsBy b (ends_to b (InService.Reap Reaping.Last) (record d { polled = polled; entries = entries }) off)
-  ends_by it polled entries on off AfterService.Mail h = grind (arith, and_off, put_back, submit_low, sinks)
+  ends_by it polled entries on off AfterService.Mail h = grind (arith, and_right, put_back, submit_low, sinks)
   ends_by it polled entries on off AfterService.Begin h = grind (arith, put_back, submit_low, sinks)
   ends_by it polled entries on off AfterService.Finish h = absurd (true≢false h)
 
@@ -221,7 +214,7 @@ module _ (c : Configuration) (i : ℕ) (me : Books) (s : Common) (d : Desk) (x :
       landed = ap (λ z. one_if (not (is_empty z.landed))) seat
 
       idle : one_if (has_submissions c me && not (seat_of s i).busy) ≡ 0
-      idle = ap one_if (and_off (has_submissions c me) (not (seat_of s i).busy) (ap not it.0))
+      idle = ap one_if (and_right (has_submissions c me) (not (seat_of s i).busy) (ap not it.0))
 
       busy : one_if (seat_of s i).busy ≡ 1
       busy = ap one_if it.0
@@ -230,7 +223,7 @@ module _ (c : Configuration) (i : ℕ) (me : Books) (s : Common) (d : Desk) (x :
       free = ap (λ z. one_if z.busy) seat
 
       unpressed : one_if (has_submissions c me && (seat_of freed_seat i).busy) ≡ 0
-      unpressed = ap one_if (and_off (has_submissions c me) (seat_of freed_seat i).busy (ap (λ z. z.busy) seat))
+      unpressed = ap one_if (and_right (has_submissions c me) (seat_of freed_seat i).busy (ap (λ z. z.busy) seat))
 
       kept : 2 * one_if (wake_poll_of (set_wake_poll i x (wake_poll_of x i)) i).kept + one_if (is_some (wake_poll_of (set_wake_poll i x (wake_poll_of x i)) i).ended)
           ≡ 2 * one_if (wake_poll_of x i).kept + one_if (is_some (wake_poll_of x i).ended)
@@ -240,7 +233,7 @@ module _ (c : Configuration) (i : ℕ) (me : Books) (s : Common) (d : Desk) (x :
       undue = ap one_if it.3
 
       polled : has_submissions c me ≡ true → one_if (is_full (ring_size c) d && (not d.polled && not (has_submissions c me))) ≡ 0
-      polled some = ap one_if (and_off (is_full (ring_size c) d) (not d.polled && not (has_submissions c me)) (and_off (not d.polled) (not (has_submissions c me)) (ap not some)))
+      polled some = ap one_if (and_right (is_full (ring_size c) d) (not d.polled && not (has_submissions c me)) (and_right (not d.polled) (not (has_submissions c me)) (ap not some)))
 
       low : (b : AfterService) → below_service c.workers b + 4 ≤ rank_of_submit (below_service c.workers b) (is_full (ring_size c) d)
       low b = submit_low (below_service c.workers b) (is_full (ring_size c) d)
@@ -254,7 +247,7 @@ module _ (c : Configuration) (i : ℕ) (me : Books) (s : Common) (d : Desk) (x :
       )
       by false none AfterService.Mail h =
           let still = ap (λ v. one_if (v && not (seat_of freed_seat i).busy)) none in
-          let more = one_at_most (is_full (ring_size c) d && (not d.polled && not (has_submissions c me))) in (
+          let more = at_most_one (is_full (ring_size c) d && (not d.polled && not (has_submissions c me))) in (
             λ quiet. sinks c i (first AfterService.Mail) (later AfterService.Mail (busy_to AfterService.Mail InService.EnterLast off))
                 refl refl (omega (arith, low AfterService.Mail)) (omega arith) (λ k. omega (arith, k, idle, undue, landed))
                 (λ k. omega (arith, k, own, aside, shared, landed, still)) (omega (arith, busy, free, unpressed, kept, more)) (omega arith),

@@ -8,7 +8,7 @@ use Rattle.exec_machine.specs.{declared.config.Configuration.Configuration, Dead
 use Rattle.exec_moves.specs.{declared.{idling.{InLook.InLook, InScan.InScan, InSearch.InSearch}, place.{Found.Found, Place.Place}}, Callback.{has_callbacks, is_of_pool}, Counts.one_if, Load.{has_come, has_submissions, is_ready, leaves_for_turn}, State.{Desk, Own, Things, no_queue, turns as turning}, Thing.aside, Wait.{first_search, waits}}
 use Rattle.exec_credit.proofs.Due.{due}
 use Rattle.exec_progress.specs.{Going.{Falls, FallsAt, IsGoing, seen, stands}, Owed.{Signs, can_steal, has_wakes, is_stealable, quiet_items, signs, signs_on}}
-use Rattle.exec_progress.proofs.{Tools.{Now, OwesLess, afterwards, before, either, goes_down, gone, keeps_turns}, Upward.{for_sure, leaves_is_top, to_turn, to_wait}}
+use Rattle.exec_progress.proofs.{Tools.{Now, OwesLess, afterwards, before, either, goes_down, gone}, Upward.{for_sure, leaves_is_top, to_turn, to_wait}}
 
 -- WHAT A TEST FINDS
 
@@ -78,13 +78,7 @@ module _ (c : Configuration) (i : ℕ) (me : Books) (s : Common) (d : Desk) (x :
       (λ h quiet. to_turn c i (at_test f) (tested f Place.BeginTurn)
       (record { long_before = refl; items_kept = omega arith; gates_kept = omega arith; owes = owes_less f (some_sign f h) })
       (leaves_for_turn c i (mine f) s (testing f)) (leaves_is_top c i (mine f) s (testing f)))
-      (λ h quiet. goes_down c i (at_test f) (tested f Place.ReadClock) (record {
-        long_before = refl;
-        long_after = refl;
-        less = omega arith;
-        gates_kept = omega arith;
-        owes = keeps_turns c i (at_test f) (tested f Place.ReadClock) (record { kept = λ k. omega (arith, k); wanted_kept = λ k l. omega (arith, l); others_kept = λ k. omega arith; spun_kept = λ k. omega arith });
-      }))
+      (λ h quiet. goes_down c i (at_test f) (tested f Place.ReadClock) (grind arith))
 
   -- THE CLOCK, which is kept
   abbrev read : Desk

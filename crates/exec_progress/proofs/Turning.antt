@@ -4,7 +4,8 @@ use Rattle.std.specs.Prelude.{nat_le}
 use Rattle.exec_machine.specs.{declared.config.Configuration.Configuration, World.{Common, Own as Books}}
 use Rattle.exec_moves.specs.{declared.{handing.{AfterCallbacks.AfterCallbacks, AfterPop.AfterPop, First.First, InPop.InPop}, place.{InCallbacks.InCallbacks, InPick.InPick, Place.Place}}, Callback.is_of_pool, Parts.{first_pop, has_others, polls}, Pick.{after_empty_look, one_pick_less, picks_of_turn}, State.{Desk, Own, Things, turns as turning, does}, Thing.{aside}}
 use Rattle.exec_machine.specs.declared.event.Event.TheVariants as event
-use Rattle.exec_progress.{specs.{Going.{Falls, FallsAt, seen, stands}}, proofs.{Steps.{Leads, leads, none_there, pop_either, same_queue, sinks}, Tools.{afterwards, before, comes_to_poll, either}}}
+use Rattle.exec_progress.{specs.{Going.{Falls, FallsAt, seen, stands}}, proofs.{Steps.{Leads, leads, pop_either, same_queue, sinks}, Tools.{afterwards, before, comes_to_poll, either}}}
+use Rattle.exec_progress.proofs.RingWaits.{never}
 
 module _ (c : Configuration) (i : ℕ) (me : Books) (s : Common) (d : Desk) (x : Things) where
   begin_to : (q : Place) → (q ≡ Place.Pick InPick.CountDown) → Falls c i (seen Place.BeginTurn me) s (stands Place.BeginTurn d) x (aside x (turning {T = Own} q (record (stands Place.BeginTurn d) { picks = picks_of_turn }) tt))
@@ -68,22 +69,22 @@ module _ (c : Configuration) (i : ℕ) (me : Books) (s : Common) (d : Desk) (x :
 
   -- nothing is in the global queue
   bare_mirror : (f : First) → Leads c i me s d bare (Place.Pick (InPick.LoadMirror f)) (after_empty_look c f) bare
-  bare_mirror First.Own = grind (arith, leads, none_there)
+  bare_mirror First.Own = grind (arith, leads, never)
   bare_mirror First.Global =
       pop_either (λ q. Leads c i me s d bare (Place.Pick (InPick.LoadMirror First.Global)) q bare) (AfterPop.Pick First.Global) (has_others c)
       (leads c i me s d bare (Place.Pick (InPick.LoadMirror First.Global)) (Place.Pop InPop.LoadPopHead (AfterPop.Pick First.Global)) bare refl refl (omega arith) (omega arith)
-      (record { kept = λ k. omega (arith, k, none_there (is_of_pool s i)); wanted_kept = λ k l. omega (arith, l); others_kept = λ k. omega arith; spun_kept = λ k. omega arith }))
+      (record { kept = λ k. omega (arith, k, never (is_of_pool s i)); wanted_kept = λ k l. omega (arith, l); others_kept = λ k. omega arith; spun_kept = λ k. omega arith }))
       (leads c i me s d bare (Place.Pick (InPick.LoadMirror First.Global)) (Place.Pop InPop.PopAlone (AfterPop.Pick First.Global)) bare refl refl (omega arith) (omega arith)
-      (record { kept = λ k. omega (arith, k, none_there (is_of_pool s i)); wanted_kept = λ k l. omega (arith, l); others_kept = λ k. omega arith; spun_kept = λ k. omega arith }))
+      (record { kept = λ k. omega (arith, k, never (is_of_pool s i)); wanted_kept = λ k l. omega (arith, l); others_kept = λ k. omega arith; spun_kept = λ k. omega arith }))
 
   bare_share : (f : First) (room held : ℕ) → Leads c i me s d bare (Place.Pick (InPick.TakeShare f room held)) (after_empty_look c f) bare
-  bare_share First.Own room held = grind (arith, leads, none_there)
+  bare_share First.Own room held = grind (arith, leads, never)
   bare_share First.Global room held =
       pop_either (λ q. Leads c i me s d bare (Place.Pick (InPick.TakeShare First.Global room held)) q bare) (AfterPop.Pick First.Global) (has_others c)
       (leads c i me s d bare (Place.Pick (InPick.TakeShare First.Global room held)) (Place.Pop InPop.LoadPopHead (AfterPop.Pick First.Global)) bare refl refl (omega arith) (omega arith)
-      (record { kept = λ k. omega (arith, k, none_there (is_of_pool s i)); wanted_kept = λ k l. omega (arith, l); others_kept = λ k. omega arith; spun_kept = λ k. omega arith }))
+      (record { kept = λ k. omega (arith, k, never (is_of_pool s i)); wanted_kept = λ k l. omega (arith, l); others_kept = λ k. omega arith; spun_kept = λ k. omega arith }))
       (leads c i me s d bare (Place.Pick (InPick.TakeShare First.Global room held)) (Place.Pop InPop.PopAlone (AfterPop.Pick First.Global)) bare refl refl (omega arith) (omega arith)
-      (record { kept = λ k. omega (arith, k, none_there (is_of_pool s i)); wanted_kept = λ k l. omega (arith, l); others_kept = λ k. omega arith; spun_kept = λ k. omega arith }))
+      (record { kept = λ k. omega (arith, k, never (is_of_pool s i)); wanted_kept = λ k l. omega (arith, l); others_kept = λ k. omega arith; spun_kept = λ k. omega arith }))
 
   full_mirror : (f : First) (t : ℕ) (global : List ℕ) → Leads c i me s d (full t global) (Place.Pick (InPick.LoadMirror f)) (Place.Pick (InPick.LoadHead f)) (full t global)
   full_mirror = grind arith

@@ -26,29 +26,11 @@ module _ (c : Configuration) (i : ℕ) where
 
   pub to_turn : (a b : Now) → Anew a b → (q : Place) → IsTop q → left c i (put b q) < left c i a
   to_turn a b it q (inl is) =
-      rw is (goes_up c i a (put b (Place.LeaveSearch AfterLeave.Begin)) (record {
-        long_before = it.long_before;
-        long_after = refl;
-        less = omega (arith, it.items_kept, it.gates_kept);
-        gates_kept = it.gates_kept;
-        owes = record { turn_paid = omega (arith, it.owes.turn_paid); spins_kept = omega (arith, it.owes.spins_kept) };
-      }))
+      rw is (goes_up c i a (put b (Place.LeaveSearch AfterLeave.Begin)) (grind (arith, it.long_before, it.items_kept, it.gates_kept, it.owes.turn_paid, it.owes.spins_kept)))
   to_turn a b it q (inr (inl is)) =
-      rw is (goes_up c i a (put b (serve AfterService.Begin)) (record {
-        long_before = it.long_before;
-        long_after = refl;
-        less = omega (arith, it.items_kept, it.gates_kept);
-        gates_kept = it.gates_kept;
-        owes = record { turn_paid = omega (arith, it.owes.turn_paid); spins_kept = omega (arith, it.owes.spins_kept) };
-      }))
+      rw is (goes_up c i a (put b (serve AfterService.Begin)) (grind (arith, it.long_before, it.items_kept, it.gates_kept, it.owes.turn_paid, it.owes.spins_kept)))
   to_turn a b it q (inr (inr is)) =
-      rw is (goes_up c i a (put b Place.BeginTurn) (record {
-        long_before = it.long_before;
-        long_after = refl;
-        less = omega (arith, it.items_kept, it.gates_kept);
-        gates_kept = it.gates_kept;
-        owes = it.owes;
-      }))
+      rw is (goes_up c i a (put b Place.BeginTurn) (grind (arith, it.long_before, it.items_kept, it.gates_kept, it.owes)))
 
   -- a sure sign is on
   pub for_sure : (a b : Now) → ahead_at c i a ≡ 0 → 1 ≤ wanted_at c i a → 1 ≤ signs_on (signs c i b.me b.s b.d b.x) → OwesLess c i a (put b Place.BeginTurn)
@@ -71,12 +53,7 @@ module _ (c : Configuration) (i : ℕ) where
   kept : (a b : Now) → ToWait a b → (q : Place) → ahead_at c i (put b q) ≡ 0 → others_at c i (put b q) ≡ others_at c i (resting b) → spun c i (put b q) ≤ spun c i (resting b) + 1
       → OwesNoMore c i a (put b q)
   kept a b it q none same more =
-      keeps_turns c i a (put b q) (record {
-        kept = λ h. omega (arith, h, it.nothing_ahead);
-        wanted_kept = λ h k. it.wanted_kept k;
-        others_kept = λ h. omega (arith, same, it.others_kept);
-        spun_kept = λ h. omega (arith, more, it.spun_kept);
-      })
+      keeps_turns c i a (put b q) (grind (arith, it.nothing_ahead, it.wanted_kept, same, it.others_kept, more, it.spun_kept))
 
   to_ring : (a b : Now) → ToWait a b → (v : Bool) → left c i (put b (if v then Place.RingWait InRingWait.EnterFullRing Stay.Turn else Place.RingWait InRingWait.TestRing Stay.Turn)) < left c i a
   to_ring a b it true =

@@ -1,5 +1,5 @@
 -- The wild moves keep pace too: what was stolen is in hand, a search count is held where it is returned, and no spin grows too long.
-use Rattle.std.proofs.Common.{◌≡◌, ℕ, ◌+◌, ◌≤◌, ◌==◌, Bool, true, false, if◌then◌else◌, [], take, refl, sym, subst, arith, inl, inr}
+use Rattle.std.proofs.Common.{◌≡◌, ℕ, ◌+◌, ◌≤◌, ◌==◌, Bool, true, false, if◌then◌else◌, take, refl, sym, subst, arith, inl, inr}
 use Rattle.std.proofs.lemmas.Bool.{false≢true, cases_Bool}
 use Rattle.exec_words.specs.{declared.{head.Head.Head}, Head.claim_at, Queue.{Queue, head_of, tail_of}, Word.{asks_signal}}
 use Rattle.exec_machine.specs.{declared.config.{Configuration.Configuration}, Ranges.largest_spin, Tests.is_empty, World.{Common, Own as Books}}
@@ -12,8 +12,6 @@ use Rattle.exec_moves.specs.declared.place.Place.TheVariants as at
 use Rattle.exec_credit.{specs.Spins.{IsShort, IsWithin}, proofs.Spins.{within_largest}}
 use Rattle.exec_progress.specs.{Going.{KnowsTail, has_called_back, is_moving, loads_queues}, Owed.quiet_items, Paced.KeepsPace}
 use Rattle.exec_progress.proofs.{PaceParts.{is_wild, Calm, headed, signalled}, PaceMoves.in_place, PacePolls.{Fine, none_left}}
-
--- SPINNERS
 
 -- A CLAIM
 

@@ -96,7 +96,6 @@ module _ (c : Configuration) (i : ℕ) (me : Books) (s : Common) (d : Desk) (x :
   seen t b m (HearsTimer z) = refl
 
   in_act : (t : ℕ) (w : ScriptWord) → Kept (move_act c i me s d x t w)
-  in_act t (script.Spawn k) = refl
   in_act t (script.Wake u) = in_wake t u (task_of s u).home
   in_act t (script.Dedicated k) = grind (arith, past_end)
   in_act t script.Await = seen t (send.Pend t) _ (sight_of_act i s (task_of s t) script.Await)
@@ -150,7 +149,6 @@ module _ (c : Configuration) (i : ℕ) (me : Books) (s : Common) (d : Desk) (x :
   in_word_wait = grind (arith, word_put, slept, true≢false)
 
   in_closing : (p : InClosing) → Kept (move_closing c i s d x p)
-  in_closing closing.Close = refl
   in_closing (closing.TellRoot j) = root_put j (send.Tell (j + 1))
   in_closing _ = refl
 

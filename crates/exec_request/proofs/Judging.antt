@@ -1,5 +1,5 @@
 -- What a request promises that judges one result by its cursor.
-use Rattle.std.proofs.Common.{◌≡◌, ℕ, ◌+◌, Bool, true, false, not, ◌&&◌, [], Option, sym, ◌∙◌, if◌then◌else◌, arith}
+use Rattle.std.proofs.Common.{◌≡◌, ℕ, ◌+◌, Bool, true, false, not, ◌&&◌, Option, sym, ◌∙◌, if◌then◌else◌, arith}
 use Rattle.exec_outcomes.specs.declared.outcome.Judged.{Judged}
 use Rattle.exec_outcomes.specs.declared.outcome.Outcome.{Outcome}
 use Rattle.exec_outcomes.specs.Outcomes.{Asked, Cursor, outcome_next, cursor_next, passes_on, first_part, part_now, counted_for, refuses_hint}

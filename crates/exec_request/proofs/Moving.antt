@@ -13,6 +13,7 @@ use Rattle.exec_request.specs.Buffers.{is_sound, batch_of}
 use Rattle.exec_request.specs.Bytes.{filled_at, batch_bytes}
 use Rattle.exec_request.specs.declared.buffers.WriteBuffers.TheVariants.{Single, Vectored}
 use Rattle.exec_request.proofs.Chunks.{batch-first}
+use Rattle.exec_bufs.proofs.Poured.{length-resized}
 
 -- a part of a list of which the rest comes from another
 pub take-app : (n : ℕ) (xs ys : List ℕ) → take n (xs ++ ys) ≡ take n xs ++ take (n - length xs) ys
@@ -40,9 +41,6 @@ overwritten at count old w z fits within zeros =
     ∙ drop-put_mid at (edge - at) old w (at + count) (omega (arith, fits)) (omega (arith, within)) (omega arith)) in
     let filled : w ++ z ≡ resized count w = ap (λ (l : List ℕ). w ++ l) zeros ∙ ap (λ (l : List ℕ). l ++ replicate (count - length w) 0) (sym (take_all count w fits)) in
     grind (arith, append_assoc, filled)
-
-length-resized : (n : ℕ) (xs : List ℕ) → length (resized n xs) ≡ n
-length-resized n xs = omega (arith, length-append (take n xs) (replicate (n - length xs) 0), length-take n xs, length-replicate {A = ℕ} (n - length xs) 0)
 
 -- a buffer that grew and was written over from a place on
 pub filled : (at count : ℕ) (b : Buffer) (w new : List ℕ) →

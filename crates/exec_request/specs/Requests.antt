@@ -1,5 +1,5 @@
 -- What a request of any kind asks for, how far it has come, and what comes of it.
-use Rattle.std.specs.Prelude.{ℕ, Bool, true, false, [], Option, Some, None}
+use Rattle.std.specs.Prelude.{ℕ, Bool, true, false, Option, Some, None}
 use Rattle.exec_outcomes.specs.Accounts.{Account, outcome_at_grant}
 use Rattle.exec_outcomes.specs.Outcomes.{Asked, Cursor}
 use Rattle.exec_outcomes.specs.declared.outcome.Kind.TheVariants as kind

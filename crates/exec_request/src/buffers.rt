@@ -4,7 +4,7 @@
 //! its bytes have gone. A chunk that has gone stays owned until the request is completed, since what it is made of
 //! may belong to a caller. No operation takes more than 1,024 chunks, nor more bytes than its length can say.
 
-ghost use Rattle.std.specs.Prelude.{◌≡◌, true, IsTrue, ℕ, ◌+◌, ◌-◌, ◌<◌, ◌≤◌, ◌^◌, ◌↔◌, [], List, length, take, drop, min, slice_index_or};
+ghost use Rattle.std.specs.Prelude.{◌≡◌, true, IsTrue, ◌+◌, ◌-◌, ◌<◌, ◌≤◌, ◌↔◌, [], length, take, drop, min, slice_index_or};
 ghost use Rattle.exec_bufs.specs.Buffers.{total};
 ghost use Rattle.exec_request.specs.Buffers.{length_of, moved_of, owners_of, is_sound, batch_of, chunks_of};
 ghost use Rattle.exec_request.specs.Bytes.{batch_bytes};

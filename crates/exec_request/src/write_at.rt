@@ -77,7 +77,7 @@ impl WriteAtRequest {
     ghost use Rattle.exec_outcomes.specs.Lawful.{is_lawful, window_of};
     ghost use Rattle.exec_outcomes.specs.Outcomes.{cursor_next, is_unsupported, outcome_next};
     ghost use Rattle.exec_outcomes.specs.declared.outcome.Outcome.TheVariants.{Success};
-    ghost use Rattle.exec_request.specs.Hints.{asks_hint, has_hint, cache_for, without_hint};
+    ghost use Rattle.exec_request.specs.Hints.{has_hint, cache_for, without_hint};
     ghost use Rattle.exec_request.specs.States.{as_outcome, as_answer, result_of, told_by, account_by};
     ghost use Rattle.exec_request.specs.Kept.{write_kept};
     ghost use Rattle.exec_request.specs.Judging.{Judges, judged_as};

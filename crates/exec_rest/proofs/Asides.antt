@@ -24,8 +24,7 @@ none_more (x ∷ xs) zero d = refl
 none_more (x ∷ xs) (suc j) d = none_more xs j d
 
 pub same : (i : ℕ) (x : Things) → Aside i x x
-same i x =
-    record { bits = refl; global = λ h. h; targets = λ j. refl; latches = λ j. refl; polls = λ j. refl; queues = λ j apart h. h }
+same = grind arith
 
 pub own_queue : (i : ℕ) (x : Things) (q : Queue ℕ) → Aside i x (set_queue i x q)
 own_queue = grind (arith, get_or-set_other)
@@ -34,12 +33,10 @@ pub share_put : (i : ℕ) (x : Things) (q : Queues) → ((q.global ≡ [] → �
 share_put = grind (arith, get_or-set_other)
 
 pub global_less : (i : ℕ) (x : Things) (g : List ℕ) → ((g ≡ [] → ⊥) → x.global ≡ [] → ⊥) → Aside i x (set_global x g)
-global_less i x g less =
-    record { bits = refl; global = less; targets = λ j. refl; latches = λ j. refl; polls = λ j. refl; queues = λ j apart h. h }
+global_less = grind arith
 
 pub inbox_put : (i j : ℕ) (x : Things) (ms : List MailMessage) → Aside i x (set_inbox j x ms)
-inbox_put i j x ms =
-    record { bits = refl; global = λ h. h; targets = λ k. refl; latches = λ k. refl; polls = λ k. refl; queues = λ k apart h. h }
+inbox_put = grind arith
 
 -- a wake word with another batch, or the same one
 pub word_put : (i j : ℕ) (x : Things) (w : PureWord) → w.target ≡ (word_of x j).target → w.latch ≡ (word_of x j).latch → Aside i x (set_word j x w)
@@ -65,29 +62,23 @@ mailbox_put i j x m target latch =
     }
 
 pub shard_put : (i n : ℕ) (x : Things) (l : List ℕ) → Aside i x (set_shard n x l)
-shard_put i n x l =
-    record { bits = refl; global = λ h. h; targets = λ k. refl; latches = λ k. refl; polls = λ k. refl; queues = λ k apart h. h }
+shard_put = grind arith
 
 pub gate_put : (i file : ℕ) (x : Things) (l : List ℕ) → Aside i x (set_gate file x l)
-gate_put i file x l =
-    record { bits = refl; global = λ h. h; targets = λ k. refl; latches = λ k. refl; polls = λ k. refl; queues = λ k apart h. h }
+gate_put = grind arith
 
 pub answers_put : (i : ℕ) (x : Things) (l : List ℕ) → Aside i x (set_answers x l)
-answers_put i x l =
-    record { bits = refl; global = λ h. h; targets = λ k. refl; latches = λ k. refl; polls = λ k. refl; queues = λ k apart h. h }
+answers_put = grind arith
 
 pub alarms_put : (i : ℕ) (x : Things) (l : List ℕ) → Aside i x (set_alarms x l)
-alarms_put i x l =
-    record { bits = refl; global = λ h. h; targets = λ k. refl; latches = λ k. refl; polls = λ k. refl; queues = λ k apart h. h }
+alarms_put = grind arith
 
 pub barrier_put : (i : ℕ) (x : Things) (b : Bool) → Aside i x (set_barrier x b)
-barrier_put i x b =
-    record { bits = refl; global = λ h. h; targets = λ k. refl; latches = λ k. refl; polls = λ k. refl; queues = λ k apart h. h }
+barrier_put = grind arith
 
 -- another search count, with the same bits
 pub idle_put : (i : ℕ) (x : Things) (v : Idle) → v.published ≡ x.idle.published → Aside i x (set_idle x v)
-idle_put i x v bits =
-    record { bits = bits; global = λ h. h; targets = λ k. refl; latches = λ k. refl; polls = λ k. refl; queues = λ k apart h. h }
+idle_put = grind arith
 
 -- a new worker has nothing yet, as one that isn't there
 pub newcomer : (i : ℕ) (x : Things) → Aside i x (with_newcomer x)

@@ -1,22 +1,16 @@
 -- Away from the places to which the test for work leads: where the parts lead, a poll and the callbacks.
-use Rattle.std.proofs.Common.{◌≡◌, ℕ, ◌-◌, ◌==◌, Bool, true, false, List, Option, Some, None, refl, if◌then◌else◌, arith}
+use Rattle.std.proofs.Common.{◌≡◌, ℕ, ◌-◌, Bool, true, false, List, Option, Some, refl, if◌then◌else◌, arith}
 use Rattle.std.specs.Prelude.{drop}
-use Rattle.exec_outcomes.specs.{Accounts.{is_durable}}
-use Rattle.exec_machine.specs.{declared.{config.{Configuration.Configuration, ScriptWord.ScriptWord}, state.{MailMessage.MailMessage, Operation.Operation, RequestPhase.RequestPhase, Waiting.Waiting}}, Choice.Choice.Plain, Requests.{operation_asked}, Ranges.ring_size, Tests.{is_done, is_idle}, World.{Common, Task, request_of, sleeper_of, task_of, Own as Books}, Words.{next_word}}
+use Rattle.exec_machine.specs.{declared.{config.{Configuration.Configuration, ScriptWord.ScriptWord}, state.{MailMessage.MailMessage, Operation.Operation, RequestPhase.RequestPhase, Waiting.Waiting}}, Choice.Choice.Plain, Requests.{operation_asked}, Ranges.ring_size, World.{Common, Task, request_of, sleeper_of, task_of, Own as Books}, Words.{next_word}}
 use Rattle.exec_machine.specs.declared.state.RequestPhase.TheVariants as phase
 use Rattle.exec_machine.specs.declared.state.Waiting.TheVariants as waiting
 use Rattle.exec_moves.specs.declared.handing.{AfterCallbacks.AfterCallbacks, AfterClaim.AfterClaim, AfterKick.AfterKick, AfterPush.AfterPush, AfterSend.AfterSend, AfterSignal.AfterSignal, Heard.Heard}
 use Rattle.exec_moves.specs.declared.place.{InCallbacks.InCallbacks, InPoll.InPoll, Place.Place}
-use Rattle.exec_moves.specs.{Callback.{Item, Item.{Answers, Completes, LetsGo, Nothing, Releases, Wakes}, after_callbacks, flagged_by, has_callbacks, next_callback, tells_waiter, woken_by}, Claim.{Claimed, after_claim}, Look.{after_withdrawal}, Move.{move_act, move_callbacks, move_item, move_look_at, move_poll, move_wake}, Parts.{after_kick, after_push, after_signal}, Poll.{Sight, Sight.{Asks, HearsRequest, HearsTimer, Here}, act, act_asked, act_by, after_pend, heard_by, requeued_if, resume}, Send.{Mailbox, payer_of_send, posting, posting_of, send_message, send_root}, State.{Desk, Moved, Things}, Thing.mailbox_of, Told.{has_number, lets_go_all}}
-use Rattle.exec_moves.specs.declared.handing.AfterCancels.TheVariants as cancels
-use Rattle.exec_moves.specs.declared.handing.AfterKick.TheVariants as kicks
-use Rattle.exec_moves.specs.declared.handing.AfterLeave.TheVariants as leave
-use Rattle.exec_moves.specs.declared.handing.AfterPush.TheVariants as pushes
-use Rattle.exec_moves.specs.declared.handing.AfterSend.TheVariants as send
+use Rattle.exec_moves.specs.{Callback.{Item, Item.{Answers, Completes, LetsGo, Nothing, Releases, Wakes}, after_callbacks, has_callbacks, next_callback, tells_waiter, woken_by}, Claim.{Claimed, after_claim}, Look.{after_withdrawal}, Move.{move_act, move_callbacks, move_item, move_look_at, move_poll, move_wake}, Parts.{after_kick, after_push, after_signal}, Poll.{Sight, Sight.{Asks, HearsRequest, HearsTimer, Here}, act, act_asked, act_by, after_pend, heard_by, requeued_if, resume}, Send.{Mailbox, payer_of_send, posting, posting_of, send_message, send_root}, State.{Desk, Moved, Things}, Thing.mailbox_of, Told.{has_number}}
 use Rattle.exec_moves.specs.declared.handing.Heard.TheVariants as heard
 use Rattle.exec_moves.specs.declared.idling.AfterWait.TheVariants as later
 use Rattle.exec_rest.specs.{Posted.has_tested}
-use Rattle.exec_rest.proofs.Continuing.{calm_after_leave, calm_after_poll, calm_after_posting, calm_after_return, calm_after_send, calm_after_spawn, calm_cancels_left, calm_leaves_for_turn, calm_next_pick, calm_to_queue}
+use Rattle.exec_rest.proofs.Continuing.{calm_after_leave, light_after_poll, light_after_posting, calm_after_return, light_after_send, calm_after_spawn, light_cancels_left, light_leaves_for_turn, light_next_pick, calm_to_queue, calm_light}
 use Rattle.exec_rest.proofs.{Plain.is_calm}
 
 -- AWAY: the place isn't one to which the test leads
@@ -26,19 +20,16 @@ calm_untested = grind arith
 
 -- by a test, this or that: of two places, of two desks, and of two moves
 pub away_if : (b : Bool) (q r : Place) → has_tested q ≡ false → has_tested r ≡ false → has_tested (if b then q else r) ≡ false
-away_if true q r one other = one
-away_if false q r one other = other
+away_if = grind arith
 
 pub away_desk_if : (b : Bool) (d e : Desk) → has_tested d.place ≡ false → has_tested e.place ≡ false → has_tested (if b then d else e).place ≡ false
-away_desk_if true d e one other = one
-away_desk_if false d e one other = other
+away_desk_if = grind arith
 
 abbrev pub IsAway : {T : Type 0} → Moved T → Type 0
 IsAway m = has_tested m.desk.place ≡ false
 
 pub away_moved_if : {T : Type 0} (b : Bool) (m m' : Moved T) → IsAway m → IsAway m' → IsAway (if b then m else m')
-away_moved_if true m m' one other = one
-away_moved_if false m m' one other = other
+away_moved_if = grind arith
 
 -- WHERE THE PARTS LEAD that aren't known to lead to calm places
 module _ (c : Configuration) (i : ℕ) (me : Books) (s : Common) where
@@ -50,39 +41,35 @@ module _ (c : Configuration) (i : ℕ) (me : Books) (s : Common) where
   away_callback mine size n d = away_if (has_callbacks mine d) _ _ refl (away_callbacks size n d)
 
   pub away_push : (b : AfterPush) (d : Desk) → has_tested (after_push c i me s b d) ≡ false
-  away_push = grind (arith, calm_untested, calm_next_pick, away_callback)
+  away_push = grind (arith, calm_light, calm_untested, light_next_pick, away_callback)
 
   pub away_kick : (b : AfterKick) (d : Desk) → has_tested (after_kick c i me s b d) ≡ false
-  away_kick (kicks.Leave b) d = calm_untested _ (calm_after_leave c i me s b d)
-  away_kick (kicks.Push b) d = away_push b d
+  away_kick = grind (arith, calm_untested, calm_after_leave, away_push)
 
   pub away_signal : (b : AfterSignal) (d : Desk) → has_tested (after_signal c i me s b d) ≡ false
-  away_signal = grind (arith, away_kick, away_push, calm_untested, calm_after_send)
+  away_signal = grind (arith, calm_light, away_kick, away_push, calm_untested, light_after_send)
 
   pub away_claim : (b : AfterClaim) (it : Claimed) → has_tested (after_claim b it) ≡ false
   away_claim = grind arith
 
   pub away_made_up : (came last : Bool) (d : Desk) → has_tested (after_withdrawal c i me s came (later.MakeUp last) d) ≡ false
-  away_made_up true last d = calm_untested _ (calm_leaves_for_turn c i me s d)
-  away_made_up false last d = calm_untested _ (calm_after_return c i me s last leave.Begin d)
+  away_made_up = grind (arith, calm_untested, calm_light, light_leaves_for_turn, calm_after_return)
 
   -- a message, and one to a root
   pub posts : (j : ℕ) (message : MailMessage) (b : AfterSend) (d : Desk) (m : Mailbox) → IsAway (send_message c s j message b d m)
-  posts j message b d m = calm_untested _ (calm_after_posting c j b (posting_of s j message Plain m).signals d)
+  posts j message b d m = calm_untested _ (calm_light _ (light_after_posting c j b (posting_of s j message Plain m).signals d))
 
   pub posts_root : (j : ℕ) (b : AfterSend) (d : Desk) (m : Mailbox) → IsAway (send_root c s j b d m)
-  posts_root j b d m = calm_untested _ (calm_after_posting c j b (posting s j (payer_of_send b) m).signals d)
+  posts_root j b d m = calm_untested _ (calm_light _ (light_after_posting c j b (posting s j (payer_of_send b) m).signals d))
 
 -- EACH MOVE from such a place, of a group by its place
 module _ (c : Configuration) (i : ℕ) (me : Books) (s : Common) (d : Desk) (x : Things) (here : has_tested d.place ≡ false) where
   -- A POLL
   requeued : (b : Bool) (t : ℕ) → has_tested (requeued_if b t d).place ≡ false
-  requeued true t = refl
-  requeued false t = calm_untested _ (calm_next_pick d)
+  requeued = grind (arith, calm_untested, calm_light, light_next_pick)
 
   pended : (t : ℕ) (it : Task) (home : Option ℕ) → has_tested (after_pend i t s d it home).place ≡ false
-  pended t it None = away_desk_if it.cleared _ _ (calm_untested _ (calm_cancels_left cancels.Pick (lets_go_all i s it d) _)) (requeued _ t)
-  pended t it (Some home) = refl
+  pended = grind (arith, away_desk_if, calm_untested, calm_light, light_cancels_left, requeued)
 
   resumed_by : (t : ℕ) (it : Task) (r : ℕ) (p : RequestPhase) → it.waiting ≡ waiting.Request r → (request_of s r).phase ≡ p → IsAway (resume i t s d it)
   resumed_by = grind (arith, pended)
@@ -103,30 +90,26 @@ module _ (c : Configuration) (i : ℕ) (me : Books) (s : Common) (d : Desk) (x :
   acts_by = grind arith
 
   acts_asked : (t : ℕ) (it : Task) (w : ScriptWord) (asked : Option Operation) → IsAway (act_asked i t me s d it w asked)
-  acts_asked t it w None = acts_by t it w
-  acts_asked t it w (Some o) = away_desk_if (is_durable o.kind) _ _ refl refl
+  acts_asked = grind (arith, acts_by, away_desk_if)
 
   acts : (t : ℕ) (it : Task) → IsAway (act c i t me s d it)
   acts t it = acts_asked t it (next_word s it) (operation_asked c me.sampled (next_word s it))
 
   wakes : (t u : ℕ) (home : Option ℕ) → IsAway (move_wake c i s d x t u home)
-  wakes t u None = away_desk_if (is_idle (task_of s u).phase) _ _ (calm_untested _ (calm_to_queue s i (pushes.Act t))) refl
-  wakes t u (Some home) = away_moved_if (home == i) _ _ refl (posts_root c i me s home (send.Act t) d (mailbox_of x home))
+  wakes = grind (arith, away_desk_if, calm_untested, calm_to_queue, away_moved_if, posts_root)
 
   acts_as : (t : ℕ) (w : ScriptWord) → IsAway (move_act c i me s d x t w)
   acts_as = grind (arith, away_desk_if, calm_untested, calm_after_spawn, wakes, looked, acts)
 
   pub polls : (t : ℕ) (p : InPoll) → IsAway (move_poll c i me s d x t p)
-  polls = grind (arith, away_moved_if, calm_untested, calm_after_poll, looked, resumed, acts_as, away_if, pended, calm_next_pick)
+  polls = grind (arith, calm_light, away_moved_if, calm_untested, light_after_poll, looked, resumed, acts_as, away_if, pended, light_next_pick)
 
   -- THE CALLBACKS
   woken : (n : AfterCallbacks) (t : ℕ) (e : Desk) (it : Task) (home : Option ℕ) → it.home ≡ home → has_tested (woken_by (ring_size c) i me s n t e it).place ≡ false
-  woken n t e it None h = rw h (away_desk_if (is_idle it.phase) _ _ (calm_untested _ (calm_to_queue s i (pushes.CallBack n))) (away_callback c i me s me (ring_size c) n e))
-  woken n t e it (Some home) h = rw h (away_callback c i me s me (ring_size c) n (flagged_by it e))
+  woken = grind (arith, away_desk_if, calm_untested, calm_to_queue, away_callback)
 
   told : (n : AfterCallbacks) (waiter : Option ℕ) (of : Heard) (e : Desk) → has_tested (tells_waiter (ring_size c) i me s n waiter of e).place ≡ false
-  told n None of e = away_callback c i me s me (ring_size c) n e
-  told n (Some t) of e = away_desk_if (is_done (task_of s t).phase) _ _ (away_callback c i me s me (ring_size c) n e) refl
+  told = grind (arith, away_callback, away_desk_if)
 
   items : (n : AfterCallbacks) (it : Item) → IsAway (move_item c i me s d x n it)
   items n (Wakes t) = woken n t (record d { wakes = drop 1 d.wakes }) (task_of s t) _ refl

@@ -49,8 +49,7 @@ module _ (s : Common) (j : ℕ) where
   seat_pooled k y is = put_in (λ a. a.pool ≡ (seat_of s j).pool) s.seats k j y no_seat (λ at. is ∙ ap (λ n. (seat_of s n).pool) (sym at)) refl
 
   spawn_pooled : (k : ℕ) (e : Event) → Pooled (after_spawn_by_call s k e)
-  spawn_pooled k (event.Spawn t script) = refl
-  spawn_pooled k _ = refl
+  spawn_pooled = grind arith
 
   wake_pooled : (t : ℕ) (e : Event) (choice : Choice) → Pooled (after_wake_by_call s t e choice)
   wake_pooled = grind (arith, cases_Bool, seat_pooled)

@@ -33,7 +33,7 @@ either : (q : Queue ℕ) (b : Bool) (m n : Moved (Queue ℕ)) → (IsBare q → 
 either q true m n here there = here
 either q false m n here there = there
 
-none_dropped : (n : ℕ) → drop {A = ℕ} n [] ≡ []
+pub none_dropped : (n : ℕ) → drop {A = ℕ} n [] ≡ []
 none_dropped zero = refl
 none_dropped (suc n) = refl
 

@@ -1,8 +1,9 @@
 -- The step of an outside caller keeps what holds of each worker.
 use Rattle.std.proofs.Common.{◌≡◌, ◌≢◌, ℕ, zero, suc, ◌<◌, Bool, true, false, ◌&&◌, ◌||◌, List, [], ◌∷◌, length, get_or, slice_set, Some, refl, sym, ap, ◌∙◌, subst, inl, inr, arith}
-use Rattle.std.proofs.lemmas.Bool.{true≢false, false≢true, cases_Bool}
+use Rattle.std.proofs.lemmas.Bool.{true≢false, false≢true, cases_Bool, or_cases, not-true}
 use Rattle.std.proofs.lemmas.List.{get_or-set_same, get_or-set_other}
 use Rattle.std.specs.Prelude.{◌⊎◌, is_some, not}
+pub use Rattle.std.proofs.lemmas.Bool.{cases_eq}
 use Rattle.exec_words.specs.{Word.is_armed}
 use Rattle.exec_words.specs.declared.word.WaitTarget.TheVariants as target
 use Rattle.exec_machine.specs.{declared.{config.Configuration.Configuration, event.Event.TheVariants.{Rouse}}, Callers.may_go_on, Tests.{has_ended, is_awake, is_empty}, World.{Common, Seat, no_seat, seat_of}}
@@ -43,19 +44,8 @@ raised_kept = grind arith
 raised_ended : (landed : Bool) (w : WakePoll) → (is_some w.ended ≡ true → (landed || w.told) ≡ true) → is_some (raised w).ended ≡ true → (landed || (raised w).told) ≡ true
 raised_ended = grind arith
 
-or_either : (a b : Bool) → (a || b) ≡ true → (a ≡ true) ⊎ (b ≡ true)
-or_either true b h = inl refl
-or_either false b h = inr h
-
 either_or : (a b : Bool) → (a ≡ true) ⊎ (b ≡ true) → (a || b) ≡ true
 either_or = grind arith
-
-not_so : (b : Bool) → not b ≡ true → b ≡ false
-not_so true h = absurd (false≢true h)
-not_so false h = refl
-
-pub same_or_not : (k j : ℕ) → (k ≡ j) ⊎ (k ≡ j → ⊥)
-same_or_not = grind arith
 
 -- THE STEP of caller j, which leaves t and what its move m does
 module _ (c : Configuration) (x : Playing) (laid : IsLaidOut c x) (held : IsRestful c x) (j : ℕ) (t : Common) (m : Called Things)
@@ -79,7 +69,7 @@ module _ (c : Configuration) (x : Playing) (laid : IsLaidOut c x) (held : IsRest
 
     pub still : Someone c x W C → Someone c next W C ⊎ C d.place
     still (Worker k h) = inl (Worker k h)
-    still (Caller k h) = elim (same_or_not k j) [
+    still (Caller k h) = elim (cases_eq k j) [
       | inl is ↦ inr (subst (λ n. C (caller_of x n).place) is h)
       | inr apart ↦ inl (Caller k (subst (λ (e : CallDesk). C e.place) (sym (other_call k apart)) h))
     ]
@@ -106,7 +96,7 @@ module _ (c : Configuration) (x : Playing) (laid : IsLaidOut c x) (held : IsRest
   -- SLEEP
 
   pub slept : (i : ℕ) → sleeps c next i ≡ true → (sleeps c x i ≡ true) × (m.event ≡ Rouse i → ⊥)
-  slept i h = let was = seated.asleep i (not_so (is_awake (seat_of t i).rest) h) in (ap not was.0, was.1)
+  slept i h = let was = seated.asleep i (not-true (is_awake (seat_of t i).rest) h) in (ap not was.0, was.1)
 
   abed : (i : ℕ) → sleeps c next i ≡ true → is_abed (place_at c next i) ≡ true
   abed i h = held.abed i (slept i h).0
@@ -210,7 +200,7 @@ module _ (c : Configuration) (x : Playing) (laid : IsLaidOut c x) (held : IsRest
   answered i pool at gone = elim (cases_Bool (has_bit c x i)) [
     | inl there ↦ inr (now (λ p. signals p ≡ Some i) (λ p. call_signals p ≡ Some i) (heeds.bit_out i there gone))
     | inr none ↦ elim (held.answered i (sym (pool_same i) ∙ pool) at none) [
-      | inl h ↦ inl (either_or (is_withdrawing (place_at c x i)) (is_latched c next i) (elim (or_either (is_withdrawing (place_at c x i)) (is_latched c x i) h) [ inl goes ↦ inl goes | inr latch ↦ inr (heeds.latch_kept i latch) ]))
+      | inl h ↦ inl (either_or (is_withdrawing (place_at c x i)) (is_latched c next i) (elim (or_cases (is_withdrawing (place_at c x i)) (is_latched c x i) h) [ inl goes ↦ inl goes | inr latch ↦ inr (heeds.latch_kept i latch) ]))
       | inr h ↦ elim (still (λ p. signals p ≡ Some i) (λ p. call_signals p ≡ Some i) h) [
         | inl it ↦ inr it
         | inr mine ↦ inl (either_or (is_withdrawing (place_at c x i)) (is_latched c next i) (inr (heeds.signalling i mine (in_words i pool))))
@@ -243,7 +233,7 @@ module _ (c : Configuration) (x : Playing) (laid : IsLaidOut c x) (held : IsRest
   -- CALLS
 
   calls : (k : ℕ) → is_in_call (caller_of next k).place ≡ true → may_go_on t k ≡ true
-  calls k h = elim (same_or_not k j) [
+  calls k h = elim (cases_eq k j) [
     | inl is ↦ subst (λ n. may_go_on t n ≡ true) (sym is) (halved.own (subst (λ (e : CallDesk). is_in_call e.place ≡ true) own_call (subst (λ n. is_in_call (caller_of next n).place ≡ true) is h)))
     | inr apart ↦ halved.others k apart ∙ held.calls k (subst (λ (e : CallDesk). is_in_call e.place ≡ true) (other_call k apart) h)
   ]

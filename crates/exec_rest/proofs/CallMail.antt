@@ -13,7 +13,7 @@ use Rattle.exec_moves.specs.declared.handing.CallPlace.TheVariants as call
 use Rattle.exec_moves.specs.declared.handing.InSignal.TheVariants as signal
 use Rattle.exec_moves.specs.{Call.{CallDesk, Called, after_posting}, MoveOfCaller.{call_on, call_spawn, call_wake}, Plays.{Playing, by_action, caller_of, desk_of, first_desk}, Send.{Mailbox, is_left_out, posting, posting_of}, State.{Things, inbox_of, no_word, word_of}, Thing.{mailbox_of, set_mailbox}}
 use Rattle.exec_rest.specs.{Places.{call_signals, is_to_enter, is_to_sleep_on_ring, signals, waits_on}, Posted.{IsNumbered, IsPosted, IsTold, is_early}, Rested.{IsLaidOut, IsRestful, place_at, sleeps}}
-use Rattle.exec_rest.proofs.{CallFacts.{abed_armed, desk_there, enters_ring, next, now, same_or_not, sleeps_on_ring, slept, still}, CallHeeds.{CallHeeds, set_at}, CallMoves.{call_heeds, spawn_heeds, wake_heeds}, CallSeats.{Halved, Seated, begins_half, goes_half, going_seated, spawn_begun, wake_begun}, Calls.{at_nothing, is_call}}
+use Rattle.exec_rest.proofs.{CallFacts.{abed_armed, desk_there, enters_ring, next, now, cases_eq, sleeps_on_ring, slept, still}, CallHeeds.{CallHeeds, set_at}, CallMoves.{call_heeds, spawn_heeds, wake_heeds}, CallSeats.{Halved, Seated, begins_half, goes_half, going_seated, spawn_begun, wake_begun}, Calls.{at_nothing, is_call}}
 
 -- A MAILBOX before and after a message was sent to it, where it is asked for a signal or not
 
@@ -47,7 +47,7 @@ module _ (x : Things) (k : ℕ) (n : Mailbox) (boxes : length x.inboxes ≡ leng
 
   -- a worker has both of them, or none
   mail_at : (i : ℕ) → IsAt i
-  mail_at i = elim (same_or_not i k) [
+  mail_at i = elim (cases_eq i k) [
     | inl is ↦ subst IsAt (sym is) (here (nat_lt k (length x.words)) refl)
     | inr apart ↦ inl (get_or-set_other x.words k i n.word no_word apart, get_or-set_other x.inboxes k i n.messages [] apart)
   ]

@@ -1,5 +1,5 @@
 -- Each move of an outside caller, as far as waking goes.
-use Rattle.std.proofs.Common.{◌≡◌, ℕ, Bool, true, false, List, [], set, get_or, Option, Some, None, unwrap_or, refl, ap, inl, inr, arith}
+use Rattle.std.proofs.Common.{◌≡◌, ℕ, Bool, true, false, List, set, get_or, Option, Some, None, unwrap_or, refl, ap, inl, inr, arith}
 use Rattle.std.proofs.lemmas.Bool.{true≢false, false≢true, ltb-true, ltb-false}
 use Rattle.std.proofs.lemmas.List.{get_or-set_same, get_or_past}
 use Rattle.std.proofs.lemmas.{Grind.{get_or-set_at}, List.Quantifiers.{position-Some}, List.Sums.{fails_before_first}, Option.{none-some}}

@@ -18,8 +18,7 @@ is_call (action.GoOn j) = true
 is_call _ = false
 
 no_call_at : (p : CallPlace) → is_in_call p ≡ false → p ≡ call.Nothing
-no_call_at call.Nothing h = refl
-no_call_at _ h = absurd (true≢false h)
+no_call_at = grind (arith, true≢false)
 
 module _ (c : Configuration) (x : Playing) (laid : IsLaidOut c x) (held : IsRestful c x) where
   abbrev s : Common

@@ -60,8 +60,7 @@ pub keeps_raised : (w : WakePoll) (landed : List ℕ) → Keeps w (raised w) lan
 keeps_raised = grind arith
 
 pub keeps_raised_if : (ring : Bool) (w : WakePoll) (landed : List ℕ) → Keeps w (raised_if ring w) landed landed
-keeps_raised_if true w landed = keeps_raised w landed
-keeps_raised_if false w landed = keeps w landed
+keeps_raised_if = grind (arith, keeps_raised, keeps)
 
 module _ (R : Type 0) (i : ℕ) (s : Common) (d : Desk) (x : Things) (m : Moved Things) (j : ℕ) (ring : Bool) where
   pub raised_rings : ((k : ℕ) → wake_poll_of m.thing k ≡ wake_poll_of (set_wake_poll j x (raised_if ring (wake_poll_of x j))) k)

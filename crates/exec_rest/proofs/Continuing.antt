@@ -1,56 +1,109 @@
 -- Where the parts lead: to places at which nothing is known of a worker, but for what follows the callbacks.
-use Rattle.std.proofs.Common.{◌≡◌, ℕ, Bool, true, false, List, [], ◌∷◌, Option, Some, None, refl, ◌==◌, ◌&&◌, ◌||◌, if◌then◌else◌, arith}
+use Rattle.std.proofs.Common.{◌≡◌, ℕ, Bool, true, false, List, Option, None, refl, ◌==◌, ◌&&◌, ◌||◌, if◌then◌else◌, arith}
 use Rattle.std.specs.Prelude.{nat_lt, nat_le, not}
 use Rattle.exec_words.specs.declared.head.{Fit.Fit, Head.Head}
 use Rattle.exec_words.specs.declared.word.WaitTarget.TheVariants as target
 use Rattle.exec_machine.specs.{declared.{config.Configuration.Configuration, state.{Letter.Letter, MailMessage.MailMessage}}, Tests.is_empty, World.{Common, Own as Books}}
-use Rattle.exec_moves.specs.{declared.{handing.{AfterCallbacks.AfterCallbacks, AfterCancels.AfterCancels, AfterKick.AfterKick, AfterLeave.AfterLeave, AfterPop.AfterPop, AfterPush.AfterPush, AfterSend.AfterSend, AfterSignal.AfterSignal, First.First}, place.{AfterService.AfterService, Place.Place}}, Callback.{after_callbacks, has_callbacks, has_requests, is_of_pool, next_callback, to_queue}, Close.{after_close, after_letting_go}, Load.{has_submissions, leaves_for_turn, next_turn}, Mail.{after_message}, Parts.{after_cancels, after_kick, after_leave, after_poll, after_push, after_return, after_send, after_signal, cancels_left, first_pop, has_others, next_pick, polls, tells_from}, Pick.{after_empty_look, first_pick}, Poll.after_end, Pop.{after_empty_pop, after_pop, judge_pop}, Push.{after_fit, after_store}, Send.{after_posting, after_spawn}, Serve.after_service, State.Desk}
-use Rattle.exec_moves.specs.declared.handing.AfterCancels.TheVariants as cancels
+use Rattle.exec_moves.specs.{declared.{handing.{AfterCallbacks.AfterCallbacks, AfterCancels.AfterCancels, AfterKick.AfterKick, AfterLeave.AfterLeave, AfterPop.AfterPop, AfterPush.AfterPush, AfterSend.AfterSend, AfterSignal.AfterSignal, First.First, InSignal.InSignal}, place.{AfterService.AfterService, InClosing.InClosing, InPoll.InPoll, InService.InService, Place.Place}}, Callback.{after_callbacks, has_callbacks, has_requests, is_of_pool, next_callback, to_queue}, Close.{after_close, after_letting_go}, Load.{has_submissions, leaves_for_turn, next_turn}, Mail.{after_message}, Parts.{after_cancels, after_kick, after_leave, after_poll, after_push, after_return, after_send, after_signal, cancels_left, first_pop, has_others, next_pick, polls, tells_from}, Pick.{after_empty_look, first_pick}, Poll.after_end, Pop.{after_empty_pop, after_pop, judge_pop}, Push.{after_fit, after_store}, Send.{after_posting, after_spawn}, Serve.after_service, State.Desk}
 use Rattle.exec_moves.specs.declared.handing.AfterClaim.TheVariants as claim
 use Rattle.exec_moves.specs.declared.handing.AfterKick.TheVariants as kick
 use Rattle.exec_moves.specs.declared.handing.AfterPop.TheVariants as pop
 use Rattle.exec_moves.specs.declared.handing.AfterPush.TheVariants as push
 use Rattle.exec_moves.specs.declared.handing.AfterSignal.TheVariants as signal
-use Rattle.exec_moves.specs.declared.handing.First.TheVariants as first
 use Rattle.exec_rest.specs.Places.{asked_for_poll, has_looked, is_dry, is_pooled, is_published, is_to_enter, is_to_sleep_on_ring, waits_on}
 use Rattle.exec_rest.proofs.Plain.{is_calm}
 
+-- TO LIGHT PLACES: nothing is known of a worker there, nor is a task given to its run queue, and it is not at its end; a service
+-- is ahead, of which nothing is done yet, or none is before it sleeps.
+abbrev pub is_light : Place → Bool
+is_light Place.BeginTurn = true
+is_light (Place.Pick p) = true
+is_light Place.TakeRootFlag = true
+is_light (Place.Poll t InPoll.LoadSpawnHead) = false
+is_light (Place.Poll t p) = true
+is_light (Place.Callbacks p AfterCallbacks.Test) = false
+is_light (Place.Callbacks p n) = true
+is_light (Place.Service InService.Sample v) = true
+is_light (Place.Closing InClosing.End) = false
+is_light (Place.Closing p) = true
+is_light (Place.Pop p b) = true
+is_light (Place.LeaveSearch (AfterLeave.CallBack n)) = false
+is_light (Place.LeaveSearch b) = true
+is_light (Place.Signal InSignal.SetLatch j (AfterSignal.Send b)) = true
+is_light (Place.SendCancel b) = true
+is_light _ = false
+
+pub light_if : (b : Bool) (q r : Place) → is_light q ≡ true → is_light r ≡ true → is_light (if b then q else r) ≡ true
+light_if = grind arith
+
+pub light_first_pop : (c : Configuration) (b : AfterPop) → is_light (first_pop c b) ≡ true
+light_first_pop c b = light_if (has_others c) _ _ refl refl
+
+pub light_polls : (t : ℕ) (d : Desk) → is_light (polls t d).place ≡ true
+light_polls t d = light_if d.searching _ _ refl refl
+
+pub light_first_pick : (s : Common) (i : ℕ) → is_light (first_pick s i) ≡ true
+light_first_pick s i = light_if (is_of_pool s i) _ _ refl refl
+
+pub light_empty_look : (c : Configuration) (f : First) → is_light (after_empty_look c f) ≡ true
+light_empty_look = grind (arith, light_first_pop)
+
+pub light_next_pick : (d : Desk) → is_light (next_pick d) ≡ true
+light_next_pick d = light_if (d.picks == 0) _ _ refl refl
+
+pub light_after_poll : (home : Option ℕ) (d : Desk) → is_light (after_poll home d) ≡ true
+light_after_poll = grind (arith, light_next_pick)
+
+pub light_next_turn : (c : Configuration) (i : ℕ) (me : Books) (s : Common) (d : Desk) → is_light (next_turn c i me s d) ≡ true
+light_next_turn c i me s d = light_if ((d.put_off && has_requests i s) || (d.may_put_off && has_submissions c me)) _ _ refl refl
+
+pub light_leaves_for_turn : (c : Configuration) (i : ℕ) (me : Books) (s : Common) (d : Desk) → is_light (leaves_for_turn c i me s d) ≡ true
+light_leaves_for_turn c i me s d = light_if d.searching _ _ refl (light_next_turn c i me s d)
+
+pub light_tells_from : (c : Configuration) (worker : ℕ) → is_light (tells_from c worker) ≡ true
+light_tells_from c worker = light_if (nat_lt worker c.workers) _ _ refl (light_first_pop c pop.Discard)
+
+pub light_after_cancels : (b : AfterCancels) (d : Desk) → is_light (after_cancels b d) ≡ true
+light_after_cancels = grind arith
+
+pub light_cancels_left : (b : AfterCancels) (d : Desk) (letters : List Letter) → is_light (cancels_left b d letters) ≡ true
+light_cancels_left = grind (arith, light_after_cancels)
+
+pub light_after_send : (c : Configuration) (b : AfterSend) (d : Desk) → is_light (after_send c b d) ≡ true
+light_after_send = grind arith
+
+pub light_after_posting : (c : Configuration) (j : ℕ) (b : AfterSend) (asked : Bool) (d : Desk) → is_light (after_posting c j b asked d) ≡ true
+light_after_posting = grind (arith, light_after_send)
+
+pub light_after_close : (c : Configuration) (i : ℕ) (s : Common) → is_light (after_close c i s) ≡ true
+light_after_close c i s = light_if (i == 0) _ _ refl (light_if (is_of_pool s i) _ _ (light_first_pop c pop.Discard) refl)
+
+pub light_after_letting_go : (held asleep : Option ℕ) → is_light (after_letting_go held asleep) ≡ true
+light_after_letting_go = grind arith
+
+pub light_after_end : (t : ℕ) (home : Option ℕ) (d : Desk) → is_light (after_end t home d) ≡ true
+light_after_end = grind (arith, light_cancels_left)
+
+pub light_after_pop : (c : Configuration) (b : AfterPop) (t : ℕ) (d : Desk) → is_light (after_pop c b t d).place ≡ true
+light_after_pop = grind (arith, light_polls, light_first_pop)
+
+pub light_after_empty_pop : (c : Configuration) (i : ℕ) (b : AfterPop) → is_light (after_empty_pop c i b) ≡ true
+light_after_empty_pop = grind arith
+
+pub light_judge_pop : (c : Configuration) (i : ℕ) (b : AfterPop) (h : Head) (len : ℕ) → is_light (judge_pop c i b h len) ≡ true
+light_judge_pop c i b h len = light_if (len == 0) _ _ (light_after_empty_pop c i b) (light_if ((len == 1) && (h.gap == 0)) _ _ refl refl)
+
 -- TO CALM PLACES
 
+pub calm_light : (q : Place) → is_light q ≡ true → is_calm q ≡ true
+calm_light = grind arith
+
 pub calm_if : (b : Bool) (q r : Place) → is_calm q ≡ true → is_calm r ≡ true → is_calm (if b then q else r) ≡ true
-calm_if true q r one other = one
-calm_if false q r one other = other
+calm_if = grind arith
 
 -- the same of a desk
 pub calm_desk_if : (b : Bool) (d e : Desk) → is_calm d.place ≡ true → is_calm e.place ≡ true → is_calm (if b then d else e).place ≡ true
-calm_desk_if true d e one other = one
-calm_desk_if false d e one other = other
-
-pub calm_first_pop : (c : Configuration) (b : AfterPop) → is_calm (first_pop c b) ≡ true
-calm_first_pop c b = calm_if (has_others c) _ _ refl refl
-
-pub calm_polls : (t : ℕ) (d : Desk) → is_calm (polls t d).place ≡ true
-calm_polls t d = calm_if d.searching _ _ refl refl
-
-pub calm_first_pick : (s : Common) (i : ℕ) → is_calm (first_pick s i) ≡ true
-calm_first_pick s i = calm_if (is_of_pool s i) _ _ refl refl
-
-pub calm_empty_look : (c : Configuration) (f : First) → is_calm (after_empty_look c f) ≡ true
-calm_empty_look c first.Own = refl
-calm_empty_look c first.Global = calm_first_pop c (pop.Pick first.Global)
-
-pub calm_next_pick : (d : Desk) → is_calm (next_pick d) ≡ true
-calm_next_pick d = calm_if (d.picks == 0) _ _ refl refl
-
-pub calm_after_poll : (home : Option ℕ) (d : Desk) → is_calm (after_poll home d) ≡ true
-calm_after_poll None d = calm_next_pick d
-calm_after_poll (Some home) d = refl
-
-pub calm_next_turn : (c : Configuration) (i : ℕ) (me : Books) (s : Common) (d : Desk) → is_calm (next_turn c i me s d) ≡ true
-calm_next_turn c i me s d = calm_if ((d.put_off && has_requests i s) || (d.may_put_off && has_submissions c me)) _ _ refl refl
-
-pub calm_leaves_for_turn : (c : Configuration) (i : ℕ) (me : Books) (s : Common) (d : Desk) → is_calm (leaves_for_turn c i me s d) ≡ true
-calm_leaves_for_turn c i me s d = calm_if d.searching _ _ refl (calm_next_turn c i me s d)
+calm_desk_if = grind arith
 
 pub calm_after_leave : (c : Configuration) (i : ℕ) (me : Books) (s : Common) (b : AfterLeave) (d : Desk) → is_calm (after_leave c i me s b d) ≡ true
 calm_after_leave = grind arith
@@ -58,31 +111,8 @@ calm_after_leave = grind arith
 pub calm_after_return : (c : Configuration) (i : ℕ) (me : Books) (s : Common) (last : Bool) (b : AfterLeave) (d : Desk) → is_calm (after_return c i me s last b d) ≡ true
 calm_after_return c i me s last b d = calm_if last _ _ refl (calm_after_leave c i me s b d)
 
-pub calm_tells_from : (c : Configuration) (worker : ℕ) → is_calm (tells_from c worker) ≡ true
-calm_tells_from c worker = calm_if (nat_lt worker c.workers) _ _ refl (calm_first_pop c pop.Discard)
-
-pub calm_after_cancels : (b : AfterCancels) (d : Desk) → is_calm (after_cancels b d) ≡ true
-calm_after_cancels = grind arith
-
-pub calm_cancels_left : (b : AfterCancels) (d : Desk) (letters : List Letter) → is_calm (cancels_left b d letters) ≡ true
-calm_cancels_left b d [] = calm_after_cancels b d
-calm_cancels_left b d (letter ∷ letters) = refl
-
-pub calm_after_send : (c : Configuration) (b : AfterSend) (d : Desk) → is_calm (after_send c b d) ≡ true
-calm_after_send = grind arith
-
-pub calm_after_posting : (c : Configuration) (j : ℕ) (b : AfterSend) (asked : Bool) (d : Desk) → is_calm (after_posting c j b asked d) ≡ true
-calm_after_posting c j b true d = refl
-calm_after_posting c j b false d = calm_after_send c b d
-
 pub calm_to_queue : (s : Common) (i : ℕ) (b : AfterPush) → is_calm (to_queue s i b) ≡ true
 calm_to_queue s i b = calm_if (is_of_pool s i) _ _ refl refl
-
-pub calm_after_close : (c : Configuration) (i : ℕ) (s : Common) → is_calm (after_close c i s) ≡ true
-calm_after_close c i s = calm_if (i == 0) _ _ refl (calm_if (is_of_pool s i) _ _ (calm_first_pop c pop.Discard) refl)
-
-pub calm_after_letting_go : (held asleep : Option ℕ) → is_calm (after_letting_go held asleep) ≡ true
-calm_after_letting_go = grind arith
 
 pub calm_after_message : (applied : ℕ) (batch : List MailMessage) → is_calm (after_message applied batch) ≡ true
 calm_after_message applied batch = calm_if (is_empty batch || nat_le 64 applied) _ _ refl refl
@@ -92,20 +122,6 @@ calm_after_fit = grind arith
 
 pub calm_after_spawn : (c : Configuration) (i : ℕ) (s : Common) (t : ℕ) → is_calm (after_spawn c i s t) ≡ true
 calm_after_spawn c i s t = calm_if (not (is_of_pool s i)) _ _ refl (calm_if (has_others c) _ _ refl refl)
-
-pub calm_after_end : (t : ℕ) (home : Option ℕ) (d : Desk) → is_calm (after_end t home d) ≡ true
-calm_after_end t None d = calm_cancels_left (cancels.Remove t) d d.letters
-calm_after_end t (Some home) d = refl
-
-pub calm_after_pop : (c : Configuration) (b : AfterPop) (t : ℕ) (d : Desk) → is_calm (after_pop c b t d).place ≡ true
-calm_after_pop c (pop.Pick f) t d = calm_polls t d
-calm_after_pop c pop.Discard t d = calm_first_pop c pop.Discard
-
-pub calm_after_empty_pop : (c : Configuration) (i : ℕ) (b : AfterPop) → is_calm (after_empty_pop c i b) ≡ true
-calm_after_empty_pop = grind arith
-
-pub calm_judge_pop : (c : Configuration) (i : ℕ) (b : AfterPop) (h : Head) (len : ℕ) → is_calm (judge_pop c i b h len) ≡ true
-calm_judge_pop c i b h len = calm_if (len == 0) _ _ (calm_after_empty_pop c i b) (calm_if ((len == 1) && (h.gap == 0)) _ _ refl refl)
 
 pub calm_after_service : (b : AfterService) (d : Desk) → is_calm (after_service b d) ≡ true
 calm_after_service = grind arith
@@ -127,12 +143,10 @@ module _ (s : Common) (i : ℕ) where
   near_calm = grind arith
 
   pub near_if : (b : Bool) (q r : Place) → Nearly s i q → Nearly s i r → Nearly s i (if b then q else r)
-  near_if true q r one other = one
-  near_if false q r one other = other
+  near_if = grind arith
 
   pub near_desk_if : (b : Bool) (d e : Desk) → Nearly s i d.place → Nearly s i e.place → Nearly s i (if b then d else e).place
-  near_desk_if true d e one other = one
-  near_desk_if false d e one other = other
+  near_desk_if = grind arith
 
   pub near_after_callbacks : (size : ℕ) (n : AfterCallbacks) (d : Desk) → Nearly s i (after_callbacks size i s n d)
   near_after_callbacks = grind arith
@@ -142,7 +156,7 @@ module _ (s : Common) (i : ℕ) where
 
   pub near_after_push : (c : Configuration) (me : Books) (b : AfterPush) (d : Desk) → Nearly s i (after_push c i me s b d)
   near_after_push c me (push.Act t) d = near_calm _ refl
-  near_after_push c me push.Pick d = near_calm _ (calm_next_pick d)
+  near_after_push c me push.Pick d = near_calm _ (calm_light _ (light_next_pick d))
   near_after_push c me (push.CallBack n) d = near_next_callback _ me n d
 
   pub near_after_store : (c : Configuration) (me : Books) (len : ℕ) (b : AfterPush) (d : Desk) → Nearly s i (after_store c i me s len b d)
@@ -155,4 +169,4 @@ module _ (s : Common) (i : ℕ) where
   pub near_after_signal : (c : Configuration) (me : Books) (b : AfterSignal) (d : Desk) → Nearly s i (after_signal c i me s b d)
   near_after_signal c me (signal.Claim (claim.Kick b)) d = near_after_kick c me b d
   near_after_signal c me (signal.Claim (claim.Global b)) d = near_after_push c me b d
-  near_after_signal c me (signal.Send b) d = near_calm _ (calm_after_send c b d)
+  near_after_signal c me (signal.Send b) d = near_calm _ (calm_light _ (light_after_send c b d))

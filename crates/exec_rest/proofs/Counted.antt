@@ -1,8 +1,7 @@
 -- How many batches of messages a worker took stays as it was: by what it tells, by a poll, and by the callbacks.
-use Rattle.std.proofs.Common.{◌≡◌, ℕ, Bool, true, false, ◌==◌, List, [], ◌∷◌, Option, Some, None, refl, ◌∙◌, if◌then◌else◌, arith}
+use Rattle.std.proofs.Common.{◌≡◌, ℕ, Bool, ◌==◌, List, [], ◌∷◌, Option, Some, refl, ◌∙◌, if◌then◌else◌, arith}
 use Rattle.std.specs.Prelude.{not}
-use Rattle.exec_outcomes.specs.{Accounts.{is_durable}}
-use Rattle.exec_machine.specs.{declared.{config.{Configuration.Configuration, ScriptWord.ScriptWord}, state.{Operation.Operation, Request.Request, RequestPhase.RequestPhase, Sleeper.Sleeper, Waiting.Waiting}}, Requests.{operation_asked}, Tests.{is_applied}, World.{Common, Task, request_of, sleeper_of, Own as Books}, Words.{next_word}}
+use Rattle.exec_machine.specs.{declared.{config.{Configuration.Configuration, ScriptWord.ScriptWord}, state.{Operation.Operation, Request.Request, RequestPhase.RequestPhase, Sleeper.Sleeper, Waiting.Waiting}}, Requests.{operation_asked}, Tests.{is_applied}, World.{Common, Task, request_of, Own as Books}, Words.{next_word}}
 use Rattle.exec_machine.specs.declared.state.RequestPhase.TheVariants as phase
 use Rattle.exec_machine.specs.declared.state.Waiting.TheVariants as waiting
 use Rattle.exec_moves.specs.declared.handing.{AfterCallbacks.AfterCallbacks, AfterSend.AfterSend}
@@ -12,12 +11,10 @@ use Rattle.exec_moves.specs.{Move.{move_act, move_callbacks, move_look_at, move_
 -- BY A TEST, this or that: of two desks, and of two moves
 
 pub kept_if : (b : Bool) (d e : Desk) {n : ℕ} → d.processed ≡ n → e.processed ≡ n → (if b then d else e).processed ≡ n
-kept_if true d e one other = one
-kept_if false d e one other = other
+kept_if = grind arith
 
 pub moved_if : {T : Type 0} (b : Bool) (m m' : Moved T) {n : ℕ} → m.desk.processed ≡ n → m'.desk.processed ≡ n → (if b then m else m').desk.processed ≡ n
-moved_if true m m' one other = one
-moved_if false m m' one other = other
+moved_if = grind arith
 
 -- WHAT IS LEFT TO BE TOLD
 
@@ -29,8 +26,7 @@ pub request_ended : (r : ℕ) (it : Request) (d : Desk) → (told_of_end r it d)
 request_ended r it d = kept_if (not it.observed) _ _ refl (kept_if (is_applied it.forwarding) _ _ refl (woken r it d))
 
 pub if_ended : {X : Type 0} (how : Option X) (r : ℕ) (it : Request) (d : Desk) → (told_if_ended how r it d).processed ≡ d.processed
-if_ended None r it d = refl
-if_ended (Some how) r it d = request_ended r it d
+if_ended = grind (arith, request_ended)
 
 pub turned : (r : ℕ) (it : Request) (d : Desk) → (turned_away r it d).processed ≡ d.processed
 turned r it d = kept_if _ _ _ refl refl
@@ -54,8 +50,7 @@ requests_let_go i s [] d = refl
 requests_let_go i s (r ∷ rs) d = requests_let_go i s rs (lets_go_request i r (request_of s r) d) ∙ request_let_go i r (request_of s r) d
 
 pub sleep_let_go : (i : ℕ) (s : Common) (w : Waiting) (d : Desk) → (lets_go_sleep i s w d).processed ≡ d.processed
-sleep_let_go i s (waiting.Timer z) d = kept_if ((sleeper_of s z).worker == i) _ _ (cancelled z (sleeper_of s z) d) refl
-sleep_let_go i s _ d = refl
+sleep_let_go = grind (arith, kept_if, cancelled)
 
 pub all_let_go : (i : ℕ) (s : Common) (it : Task) (d : Desk) → (lets_go_all i s it d).processed ≡ d.processed
 all_let_go i s it d = sleep_let_go i s it.waiting (lets_go_requests i s it.held d) ∙ requests_let_go i s it.held d
@@ -68,12 +63,10 @@ Keeps d m = m.desk.processed ≡ d.processed
 module _ (c : Configuration) (i : ℕ) (me : Books) (s : Common) (d : Desk) (x : Things) where
   -- A POLL
   requeued : (b : Bool) (t : ℕ) → (requeued_if b t d).processed ≡ d.processed
-  requeued true t = refl
-  requeued false t = refl
+  requeued = grind arith
 
   pended : (t : ℕ) (it : Task) (home : Option ℕ) → (after_pend i t s d it home).processed ≡ d.processed
-  pended t it None = kept_if it.cleared _ _ (all_let_go i s it d) (requeued _ t)
-  pended t it (Some home) = refl
+  pended = grind (arith, kept_if, all_let_go, requeued)
 
   resumed_by : (t : ℕ) (it : Task) (r : ℕ) (p : RequestPhase) → it.waiting ≡ waiting.Request r → (request_of s r).phase ≡ p → Keeps d (resume i t s d it)
   resumed_by = grind (arith, pended)
@@ -88,30 +81,25 @@ module _ (c : Configuration) (i : ℕ) (me : Books) (s : Common) (d : Desk) (x :
   awaited_by = grind arith
 
   awaited_newest : (t : ℕ) (it : Task) (newest : Option ℕ) → Keeps d (await t s d it newest)
-  awaited_newest t it None = refl
-  awaited_newest t it (Some r) = awaited_by t it r _ refl
+  awaited_newest = grind (arith, awaited_by)
 
   dropped_newest : (t : ℕ) (it : Task) (newest : Option ℕ) → Keeps d (drop_newest t s d it newest)
-  dropped_newest t it None = refl
-  dropped_newest t it (Some r) = dropped r (request_of s r) d
+  dropped_newest = grind (arith, dropped)
 
   slept_for : (t : ℕ) (it : Task) (until : Option ℕ) → Keeps d (sleep_for t s d it until)
-  slept_for t it None = refl
-  slept_for t it (Some until) = refl
+  slept_for = grind arith
 
   act_by_kept : (t : ℕ) (it : Task) (w : ScriptWord) → Keeps d (act_by i t me s d it w)
   act_by_kept = grind (arith, awaited_newest, dropped_newest, slept_for, all_let_go)
 
   asked_kept : (t : ℕ) (it : Task) (w : ScriptWord) (asked : Option Operation) → Keeps d (act_asked i t me s d it w asked)
-  asked_kept t it w None = act_by_kept t it w
-  asked_kept t it w (Some o) = kept_if (is_durable o.kind) _ _ refl refl
+  asked_kept = grind (arith, act_by_kept, kept_if)
 
   act_kept : (t : ℕ) (it : Task) → Keeps d (act c i t me s d it)
   act_kept t it = asked_kept t it (next_word s it) (operation_asked c me.sampled (next_word s it))
 
   wake_kept : (t u : ℕ) (home : Option ℕ) → Keeps d (move_wake c i s d x t u home)
-  wake_kept t u None = kept_if _ _ _ refl refl
-  wake_kept t u (Some home) = moved_if _ _ _ refl refl
+  wake_kept = grind (arith, kept_if, moved_if)
 
   word_kept : (t : ℕ) (w : ScriptWord) → Keeps d (move_act c i me s d x t w)
   word_kept = grind (arith, kept_if, wake_kept, looked, act_kept)

@@ -1,7 +1,7 @@
 -- What holds after a move of a worker that heeds: of the idle set, the global queue and the run queues, and that who has
 -- ended, or calls, does so still.
-use Rattle.std.proofs.Common.{◌≡◌, ◌≢◌, ℕ, ◌<◌, Bool, true, false, ◌||◌, [], length, Some, refl, sym, ap, ◌∙◌, subst, inl, inr, slice_index_or, arith}
-use Rattle.std.proofs.lemmas.{Bool.{true≢false, false≢true, and_parts, cases_Bool, cases_eq, cases_lt, or_cases, or_left, or_right}, List.get_or_past}
+use Rattle.std.proofs.Common.{◌≡◌, ◌≢◌, ℕ, ◌<◌, Bool, true, false, ◌||◌, [], length, Some, sym, ap, ◌∙◌, subst, inl, inr, slice_index_or, arith}
+use Rattle.std.proofs.lemmas.{Bool.{true≢false, false≢true, and_parts, cases_Bool, cases_eq, cases_lt, or_cases, or_left, or_right, not-true}, List.get_or_past}
 use Rattle.std.specs.Prelude.{◌⊎◌, not}
 use Rattle.exec_machine.specs.{declared.config.Configuration.Configuration, Callers.{is_enabled, is_half_done, may_go_on}, Tests.{has_ended}, World.{Common, Own as Books, Seat, no_seat, own_of, seat_of}}
 use Rattle.exec_machine.specs.declared.state.Call.TheVariants as call
@@ -16,10 +16,6 @@ use Rattle.exec_rest.proofs.{Frames.{callers_same, desk_other, desk_own, ended_a
 module _ (c : Configuration) (i : ℕ) (me : Books) (s : Common) where
   pub withdrawn : (d : Desk) (x : Things) → is_withdrawing d.place ≡ true → is_published (move c i me s d x).desk.place ≡ false
   withdrawn = grind arith
-
-not_true : (b : Bool) → not b ≡ true → b ≡ false
-not_true true h = absurd (false≢true h)
-not_true false h = refl
 
 -- of worker i, and of each other one
 pub at_each : (i : ℕ) (P : ℕ → Type 0) → P i → ((k : ℕ) → k ≢ i → P k) → (k : ℕ) → P k
@@ -45,7 +41,7 @@ module _ (c : Configuration) (x : Playing) (laid : IsLaidOut c x) (held : IsRest
   -- WHERE EACH STANDS
 
   pub going : has_ended (seat_of s i).phase ≡ false
-  going = grind (arith, and_parts, not_true)
+  going = grind (arith, and_parts, not-true)
 
   pub here : place_at c next i ≡ q
   here = ap (λ d. d.place) (desk_own c x i m (subst (λ n. i < n) (sym laid.desks) (seated s (λ seat. has_ended seat.phase) false true≢false i going)))

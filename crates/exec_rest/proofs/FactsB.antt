@@ -3,15 +3,17 @@ use Rattle.std.proofs.Common.{◌≡◌, ◌≢◌, ℕ, ◌<◌, Bool, true, fa
 use Rattle.std.proofs.lemmas.Bool.{true≢false, false≢true, and_parts, or_right, cases_eq, cases_lt}
 use Rattle.std.proofs.lemmas.List.{get_or_past}
 use Rattle.std.specs.Prelude.{◌⊎◌, is_some, not}
+pub use Rattle.std.proofs.lemmas.Bool.{not-true}
 use Rattle.exec_words.specs.declared.word.WaitTarget.{WaitTarget}
 use Rattle.exec_words.specs.declared.word.WaitTarget.TheVariants as target
 use Rattle.exec_machine.specs.declared.step.Action.TheVariants as action
 use Rattle.exec_machine.specs.{declared.{config.Configuration.Configuration, event.Event.TheVariants.{Rouse, Sleep}}, Callers.{is_enabled, is_held}, Tests.{has_ended, is_awake, is_empty}, World.{Common, Own as Books, own_of, seat_of}}
-use Rattle.exec_moves.specs.{declared.{idling.{InRingWait.InRingWait}, place.Place.Place}, Claim.is_ring, Plays.{Playing, by_move, desk_of}, Serve.Ring, State.{Desk, Moved, Things, WakePoll, raised, word_of, wake_poll_of}, Thing.ring_of, Wait.has_completion}
+use Rattle.exec_moves.specs.{declared.{place.Place.Place}, Claim.is_ring, Plays.{Playing, by_move, desk_of}, Serve.Ring, State.{Desk, Moved, Things, WakePoll, raised, word_of, wake_poll_of}, Thing.ring_of, Wait.has_completion}
 use Rattle.exec_rest.specs.Places.{Raising, asked_for_poll, is_abed, is_to_enter, is_to_sleep_on_ring, raises, waits_on}
 use Rattle.exec_rest.specs.Rested.{IsLaidOut, IsRaised, IsRestful, Someone.{Worker, Caller}, is_latched, is_told, place_at, poll_at, ring_at, sleeps}
 use Rattle.exec_rest.proofs.Heeds.{Heeds, Rings, ring_after}
 use Rattle.exec_rest.proofs.Frames.{asleep_after, desk_other, desk_own, landed_own, landed_same}
+use Rattle.exec_rest.proofs.CallFacts.{enters_ring, sleeps_on_ring}
 
 -- A WAKE THAT IS RAISED
 
@@ -37,23 +39,11 @@ is_waiting _ = true
 pub abed_waits : (p : Place) → is_abed p ≡ true → is_waiting (waits_on p) ≡ true
 abed_waits = grind arith
 
-pub enter_waits : (p : Place) → is_to_enter p ≡ true → waits_on p ≡ target.Ring
-enter_waits (Place.RingWait InRingWait.EnterRing y) h = refl
-enter_waits _ h = absurd (false≢true h)
-
-pub sleep_waits : (p : Place) → is_to_sleep_on_ring p ≡ true → waits_on p ≡ target.Ring
-sleep_waits (Place.RingWait InRingWait.SleepOnRing y) h = refl
-sleep_waits _ h = absurd (false≢true h)
-
 -- who waits on its ring raises nobody's
 ring_raises : (p : Place) → waits_on p ≡ target.Ring → (r : Raising) → raises p ≡ Some r → ⊥
 ring_raises = grind arith
 
 -- AFTER A MOVE OF WORKER i
-
-pub off : (b : Bool) → not b ≡ true → b ≡ false
-off true h = absurd (false≢true h)
-off false h = refl
 
 module _ (c : Configuration) (x : Playing) (laid : IsLaidOut c x) (held : IsRestful c x) (i : ℕ) (may : is_enabled x.world.common (action.Work i) ≡ true) (m : Moved Things) (heeds : Heeds (IsRaised c (by_move c x i m).next i true) i x.world.common (desk_of c x i) x.things m) where
   abbrev next : Playing
@@ -94,8 +84,7 @@ module _ (c : Configuration) (x : Playing) (laid : IsLaidOut c x) (held : IsRest
 
   -- of another worker, where this is its wake poll
   told_other : (k : ℕ) → k ≢ i → (w : WakePoll) → wake_poll_of m.thing k ≡ w → is_told c next k ≡ has_completion (desk_of c x k) (with_wakes (ring_of s x.things k) w)
-  told_other k apart w is =
-      λ j. has_completion (other k apart j) (record { busy = false; landed = landed_same c me s i m.event m.choice k apart j; wakes = is j })
+  told_other = grind (arith, other, landed_same)
 
   -- whoever is at another place than a new worker is one of the workers
   placed : (P : Place → Bool) → P Place.BeginTurn ≡ false → (k : ℕ) → P (place_at c x k) ≡ true → k < length x.desks
@@ -131,8 +120,8 @@ module _ (c : Configuration) (x : Playing) (laid : IsLaidOut c x) (held : IsRest
   before : Rings (IsRaised c next i true) (desk_of c x i) (ring_of s x.things i) (word_of x.things i).latch
   before =
       record {
-        entering = λ at latch. elim (held.entering i at latch) [ inl some ↦ inl (raised_by_other (enter_waits (place_at c x i) at) some) | inr there ↦ inr there ];
-        sleeping = λ at latch. elim (held.sleeping i at latch) [ inl some ↦ inl (raised_by_other (sleep_waits (place_at c x i) at) some) | inr there ↦ inr there ];
+        entering = λ at latch. elim (held.entering i at latch) [ inl some ↦ inl (raised_by_other (enters_ring (place_at c x i) at) some) | inr there ↦ inr there ];
+        sleeping = λ at latch. elim (held.sleeping i at latch) [ inl some ↦ inl (raised_by_other (sleeps_on_ring (place_at c x i) at) some) | inr there ↦ inr there ];
         asked = held.asked i;
         polled = held.polled i;
         kept = held.kept i;
@@ -169,14 +158,14 @@ module _ (c : Configuration) (x : Playing) (laid : IsLaidOut c x) (held : IsRest
 
   -- whoever sleeps then slept before, and was not roused, or worker i falls asleep
   pub abed_then : (k : ℕ) → sleeps c next k ≡ true → is_abed (place_at c next k) ≡ true
-  abed_then k asleep = by (asleep_after c me s i m.event m.choice k (off _ asleep))
+  abed_then k asleep = by (asleep_after c me s i m.event m.choice k (not-true _ asleep))
     where
       by : ((is_awake (seat_of s k).rest ≡ false) × (m.event ≢ Rouse k)) ⊎ ((k ≡ i) × ((until : Option ℕ) × (m.event ≡ Sleep until))) → is_abed (place_at c next k) ≡ true
       by (inl was) = at_other (λ d. is_abed d.place ≡ true) k (elsewhere k was.0) (held.abed k (ap not was.0))
       by (inr falls) = rw falls.0 (at_own (λ d. is_abed d.place ≡ true) (heeds.sleep falls.1.0 falls.1.1).0)
 
   pub rung_then : (k : ℕ) → sleeps c next k ≡ true → is_latched c next k ≡ true → IsRaised c next k true ⊎ IsRaised c next k false
-  rung_then k asleep latched = by (asleep_after c me s i m.event m.choice k (off _ asleep))
+  rung_then k asleep latched = by (asleep_after c me s i m.event m.choice k (not-true _ asleep))
     where
       which : (ring : Bool) → IsRaised c next k ring → IsRaised c next k true ⊎ IsRaised c next k false
       which true some = inl some
@@ -235,7 +224,7 @@ module _ (c : Configuration) (x : Playing) (laid : IsLaidOut c x) (held : IsRest
 
   entering_other : (k : ℕ) → k ≢ i → is_to_enter (place_at c x k) ≡ true → is_latched c next k ≡ true → IsRaised c next k true ⊎ ((is_told c next k || (poll_at c next k).kept) ≡ true)
   entering_other k apart here latched =
-      elim (ring_latched k (enter_waits (place_at c x k) here) latched) [
+      elim (ring_latched k (enters_ring (place_at c x k) here) latched) [
         | inr some ↦ inl some
         | inl early ↦ elim (held.entering k here early) [
           | inl some ↦ elim (raised_still k true some) [ inr still ↦ inl still | inl by_it ↦ inr (kept_by k apart (raises_poll is_to_enter refl k here by_it)) ]
@@ -256,7 +245,7 @@ module _ (c : Configuration) (x : Playing) (laid : IsLaidOut c x) (held : IsRest
 
   sleeping_other : (k : ℕ) → k ≢ i → is_to_sleep_on_ring (place_at c x k) ≡ true → is_latched c next k ≡ true → IsRaised c next k true ⊎ (is_told c next k ≡ true)
   sleeping_other k apart here latched =
-      elim (ring_latched k (sleep_waits (place_at c x k) here) latched) [
+      elim (ring_latched k (sleeps_on_ring (place_at c x k) here) latched) [
         | inr some ↦ inl some
         | inl early ↦ elim (held.sleeping k here early) [
           | inl some ↦ elim (raised_still k true some) [

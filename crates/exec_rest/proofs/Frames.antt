@@ -3,7 +3,7 @@ use Rattle.std.proofs.Common.{◌≡◌, ◌≢◌, ℕ, zero, suc, ◌<◌, ◌
 use Rattle.std.proofs.lemmas.List.{get_or_append_left, get_or-set_other, get_or-set_same, length-set}
 use Rattle.std.specs.Prelude.{◌⊎◌}
 use Rattle.exec_machine.specs.{declared.{config.Configuration.Configuration, event.Event.{Event, TheVariants.{Dedicated, End, Rouse, Sleep}}}, After.common_after, Choice.Choice, Tests.{has_ended, is_awake}, World.{Common, Own as Books, seat_of}}
-use Rattle.exec_moves.specs.{Callback.is_of_pool, Plays.{Playing, by_move, desk_of, first_desk, newcomers}, State.{Desk, Moved, Things}}
+use Rattle.exec_moves.specs.{Callback.is_of_pool, Plays.{Playing, by_move, desk_of}, State.{Desk, Moved, Things}}
 use Rattle.exec_rest.proofs.{Events.{Seated, callers_after, own_landed, seats_after}, Heeds.{landed_after}}
 
 module _ (c : Configuration) (me : Books) (s : Common) (i : ℕ) (e : Event) (choice : Choice) where
@@ -45,8 +45,7 @@ module _ (c : Configuration) (x : Playing) (i : ℕ) (m : Moved Things) where
   next = (by_move c x i m).next
 
   pub desk_own : i < length x.desks → desk_of c next i ≡ m.desk
-  desk_own within =
-      get_or_append_left (set x.desks i m.desk) (newcomers c m.event) (first_desk c i) i (omega (arith, length-set x.desks i m.desk, within)) ∙ get_or-set_same x.desks i m.desk (first_desk c i) within
+  desk_own = grind (arith, get_or_append_left, length-set, get_or-set_same)
 
   pub desk_other : ((t k : ℕ) → m.event ≡ Dedicated t k → k ≡ length x.desks) → (j : ℕ) → j ≢ i → desk_of c next j ≡ desk_of c x j
   desk_other = grind (arith, more_same, get_or-set_other, length-set)

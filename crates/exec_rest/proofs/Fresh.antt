@@ -1,6 +1,6 @@
 -- A task that is Idle or Running began its last poll after its last wake: at first, and after each step of any party. A poll begins fresh,
 -- and who is woken is Queued, Noted or over. It is a fact of the events alone, whatever is chosen and whether or not they may come.
-use Rattle.std.proofs.Common.{◌≡◌, ℕ, zero, suc, Bool, true, false, ◌||◌, ◌&&◌, List, [], ◌∷◌, ◌++◌, Option, Some, None, get_or, set, refl, sym, ap, ◌∙◌, subst, inl, inr, arith}
+use Rattle.std.proofs.Common.{◌≡◌, ℕ, zero, suc, Bool, true, false, ◌||◌, ◌&&◌, List, [], ◌∷◌, ◌++◌, Option, Some, get_or, set, refl, sym, ap, ◌∙◌, subst, inl, inr, arith}
 use Rattle.std.proofs.lemmas.Bool.{false≢true, cases_Bool}
 use Rattle.std.specs.Prelude.{if◌then◌else◌, is_some, slice_get, unwrap_or}
 use Rattle.exec_outcomes.specs.{declared.outcome.OpResult.OpResult, Outcomes.refuses_hint}
@@ -23,8 +23,7 @@ noted : {T : Type 0} → false ≡ true → T
 noted h = absurd (false≢true h)
 
 one_fresh : (b : Bool) (one other : Task) → IsFresh one → IsFresh other → IsFresh (if b then one else other)
-one_fresh true one other f g = f
-one_fresh false one other f g = g
+one_fresh = grind arith
 
 woken_noted : (p : TaskPhase) → is_unnoted (woken_phase p) ≡ false
 woken_noted = grind arith
@@ -73,8 +72,7 @@ abbrev Holds : Common → Type 0
 Holds s = AllFresh s.tasks
 
 one_of : (b : Bool) (one other : Common) → Holds one → Holds other → Holds (if b then one else other)
-one_of true one other f g = f
-one_of false one other f g = g
+one_of = grind arith
 
 module _ (s : Common) (all : Holds s) where
   -- one task is another one, which is fresh if it was
@@ -82,8 +80,7 @@ module _ (s : Common) (all : Holds s) where
   put t a it = fresh_set s.tasks t a all it
 
   word : (polls : Option ℕ) → Holds (after_word s polls)
-  word None = all
-  word (Some t) = put t _ (all t)
+  word = grind (arith, put)
 
   turned : (i : ℕ) (n : Next) → Holds (after_next s i n)
   turned = grind arith
@@ -137,8 +134,7 @@ pub fresh_first : (p : Plan) → AreFresh (first_playing p)
 fresh_first p = to_each (first_tasks p.config.workers 0) (first_fresh p.config.workers 0)
 
 spawn_by_call : (s : Common) → Holds s → (k : ℕ) (e : Event) → Holds (after_spawn_by_call s k e)
-spawn_by_call s all k (event.Spawn t script) = fresh_push s.tasks _ all noted
-spawn_by_call s all k _ = all
+spawn_by_call = grind (arith, fresh_push, noted)
 
 wake_by_call : (s : Common) → Holds s → (t : ℕ) (e : Event) (choice : Choice) → Holds (after_wake_by_call s t e choice)
 wake_by_call = grind (arith, wake_kept, post)

@@ -27,7 +27,7 @@ use Rattle.exec_moves.specs.declared.place.InPoll.TheVariants as poll
 use Rattle.exec_moves.specs.declared.place.InService.TheVariants as step
 use Rattle.exec_moves.specs.declared.place.Place.TheVariants as at
 use Rattle.exec_rest.specs.AtRest.{is_given}
-use Rattle.exec_rest.proofs.Giving.{Fair, begun, calling, cancelling, claiming, desk_if, emptied, fair_if, headed, judged, kicked, leaving, loaded, looking, move_if, none, picking, polled, polling, popped, posted, pushed, queued, read, returned, scanned, searching, served, signalled, spawned, tailed, waited, waiting_on, withdrawn}
+use Rattle.exec_rest.proofs.{Continuing.{light_polls, light_next_pick, light_after_poll, light_leaves_for_turn, light_cancels_left, light_after_posting, light_after_pop, light_after_empty_pop, light_judge_pop}, Giving.{Fair, begun, calling, claiming, desk_if, fair_if, headed, kicked, loaded, looking, move_if, none, pushed, queued, read, returned, scanned, searching, served, signalled, spawned, tailed, waited, waiting_on, withdrawn, fair_light}}
 
 module _ (c : Configuration) (i : ℕ) (me : Books) (s : Common) (d : Desk) (x : Things) (before : Fair c i me s d.place) where
   -- a move after which it is fair
@@ -43,11 +43,11 @@ module _ (c : Configuration) (i : ℕ) (me : Books) (s : Common) (d : Desk) (x :
   in_pick = grind arith
 
   oldest : (b : AfterPop) (q : Queue ℕ) (vs : List ℕ) → q.values ≡ vs → Leads (pops c i b d q)
-  oldest b q [] h = rw h (emptied c i me s b)
-  oldest b q (t ∷ ts) h = rw h (popped c i me s b t d)
+  oldest b q [] h = rw h (fair_light c i me s _ (light_after_empty_pop c i b))
+  oldest b q (t ∷ ts) h = rw h (fair_light c i me s _ (light_after_pop c b t d))
 
   head_loaded : (b : AfterPop) (q : Queue ℕ) → Leads (load_pop_head c i b d q)
-  head_loaded b q = judged c i me s b (head_of q) (tail_of q - q.real)
+  head_loaded b q = fair_light c i me s _ (light_judge_pop c i b (head_of q) (tail_of q - q.real))
 
   in_pop : (p : InPop) (b : AfterPop) → Leads (move_pop c i d x p b)
   in_pop = grind (arith, oldest, head_loaded, move_if)
@@ -77,10 +77,10 @@ module _ (c : Configuration) (i : ℕ) (me : Books) (s : Common) (d : Desk) (x :
 
   requeued : (t : ℕ) (b : Bool) → Fair c i me s (requeued_if b t d).place
   requeued t true = no
-  requeued t false = picking c i me s d
+  requeued t false = fair_light c i me s _ (light_next_pick d)
 
   pended : (t : ℕ) (it : Task) (home : Option ℕ) → Fair c i me s (after_pend i t s d it home).place
-  pended t it None = desk_if c i me s it.cleared _ _ (cancelling c i me s cancels.Pick (lets_go_all i s it d) _) (requeued t _)
+  pended t it None = desk_if c i me s it.cleared _ _ (fair_light c i me s _ (light_cancels_left cancels.Pick (lets_go_all i s it d) _)) (requeued t _)
   pended t it (Some home) = no
 
   on_request : (t : ℕ) (it : Task) (r : ℕ) (p : RequestPhase) → it.waiting ≡ waiting.Request r → (request_of s r).phase ≡ p → Leads (resume i t s d it)
@@ -98,7 +98,7 @@ module _ (c : Configuration) (i : ℕ) (me : Books) (s : Common) (d : Desk) (x :
   heard_of = grind arith
 
   seen : (t : ℕ) (b : AfterSend) (m : Moved Things) → Leads m → (y : Sight) → Leads (move_look_at c s d x t b m y)
-  seen = grind (arith, posted, heard_of, move_if, no)
+  seen = grind (arith, fair_light, light_after_posting, heard_of, move_if, no)
 
   acted_by : (t : ℕ) (it : Task) (w : ScriptWord) → Leads (act_by i t me s d it w)
   acted_by = grind arith
@@ -112,20 +112,20 @@ module _ (c : Configuration) (i : ℕ) (me : Books) (s : Common) (d : Desk) (x :
 
   waking : (t u : ℕ) (home : Option ℕ) → Leads (move_wake c i s d x t u home)
   waking t u None = desk_if c i me s (is_idle (task_of s u).phase) _ _ (queued c i me s (push.Act t)) no
-  waking t u (Some home) = move_if c i me s (home == i) _ _ no (posted c i me s home (send.Act t) _ d)
+  waking t u (Some home) = move_if c i me s (home == i) _ _ no (fair_light c i me s _ (light_after_posting c home (send.Act t) _ d))
 
   in_act : (t : ℕ) (w : ScriptWord) → Leads (move_act c i me s d x t w)
   in_act = grind (arith, desk_if, no, spawned, waking, seen, acted)
 
   in_poll : (t : ℕ) (p : InPoll) → Fair c i me s (at.Poll t p) → Leads (move_poll c i me s d x t p)
   in_poll t poll.BeginPoll fair =
-      move_if c i me s (is_ready (task_of s t).phase) _ _ (begun c i me s t (begun_waiting (task_of s t).waiting)) (polled c i me s (task_of s t).home d)
+      move_if c i me s (is_ready (task_of s t).phase) _ _ (begun c i me s t (begun_waiting (task_of s t).waiting)) (fair_light c i me s _ (light_after_poll (task_of s t).home d))
   in_poll t poll.Resume fair = seen t (send.Pend t) _ (resumed t (task_of s t) _ refl) (sight_of i s (task_of s t).waiting)
   in_poll t poll.Act fair = in_act t (next_word s (task_of s t))
   in_poll t (poll.JoinGate r) fair = no
   in_poll t poll.LoadSpawnHead fair = fair_if c i me s (tail_of (queue_of x i) == (queue_of x i).real) _ _ fair no
   in_poll t poll.Pend fair = pended t (task_of s t) (task_of s t).home
-  in_poll t poll.RemoveTask fair = picking c i me s d
+  in_poll t poll.RemoveTask fair = fair_light c i me s _ (light_next_pick d)
 
   -- THE CALLBACKS
 
@@ -188,7 +188,7 @@ module _ (c : Configuration) (i : ℕ) (me : Books) (s : Common) (d : Desk) (x :
   in_search search.AddSearchCount = no
 
   in_scan : (p : InScan) → Leads (move_scan c i me s d x p)
-  in_scan = grind (arith, fair_if, no, scanned, headed, tailed, move_if, leaving)
+  in_scan = grind (arith, fair_light, fair_if, no, scanned, headed, tailed, move_if, light_leaves_for_turn)
 
   mirrored : (last : Bool) (g : List ℕ) → Leads (look_at_mirror last d g)
   mirrored last [] = no
@@ -222,14 +222,14 @@ module _ (c : Configuration) (i : ℕ) (me : Books) (s : Common) (d : Desk) (x :
   in_place : (p : Place) → Fair c i me s p → Leads (move_at c i me s d x p)
   in_place at.BeginTurn fair = fair_if c i me s (is_of_pool s i) _ _ no no
   in_place (at.Pick p) fair = in_pick p
-  in_place at.TakeRootFlag fair = move_if c i me s d.root_ready _ _ (polling c i me s me.root (record d { root_ready = false })) no
+  in_place at.TakeRootFlag fair = move_if c i me s d.root_ready _ _ (fair_light c i me s _ (light_polls me.root (record d { root_ready = false }))) no
   in_place (at.Poll t p) fair = in_poll t p fair
   in_place (at.Callbacks p n) fair = in_callbacks p n
   in_place (at.Loads p r) fair = in_loads p r
   in_place (at.Service p v) fair = in_service p v
   in_place (at.Mail p) fair = in_mail p
-  in_place (at.TestForWork f) fair = move_if c i me s (has_ready me f d || has_submissions c me) _ _ (leaving c i me s d) no
-  in_place at.ReadClock fair = move_if c i me s (has_come s.clock (next_due s i)) _ _ (leaving c i me s d) (searching c i me s (record d { read = s.clock }))
+  in_place (at.TestForWork f) fair = move_if c i me s (has_ready me f d || has_submissions c me) _ _ (fair_light c i me s _ (light_leaves_for_turn c i me s d)) no
+  in_place at.ReadClock fair = move_if c i me s (has_come s.clock (next_due s i)) _ _ (fair_light c i me s _ (light_leaves_for_turn c i me s d)) (searching c i me s (record d { read = s.clock }))
   in_place (at.Search p) fair = in_search p
   in_place (at.Scan p) fair = in_scan p
   in_place (at.Look p) fair = in_look p
@@ -244,7 +244,7 @@ module _ (c : Configuration) (i : ℕ) (me : Books) (s : Common) (d : Desk) (x :
   in_place (at.Kick p b) fair = in_kick p b
   in_place (at.ClaimWorker set b) fair = claiming c i me s b (claimed set x.idle)
   in_place (at.Signal p j b) fair = in_signal p j b
-  in_place (at.SendCancel b) fair = posted c i me s (first_letter d).to (send.Cancels b) _ (record d { letters = drop 1 d.letters })
+  in_place (at.SendCancel b) fair = fair_light c i me s _ (light_after_posting c (first_letter d).to (send.Cancels b) _ (record d { letters = drop 1 d.letters }))
 
 pub given_move : (c : Configuration) (i : ℕ) (me : Books) (s : Common) (d : Desk) (x : Things) → (is_given d.place ≡ true → is_of_pool s i ≡ true) → is_given (move c i me s d x).desk.place ≡ true → is_of_pool s i ≡ true
 given_move c i me s d x before = in_place c i me s d x before d.place before

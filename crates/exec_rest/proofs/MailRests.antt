@@ -18,7 +18,7 @@ use Rattle.exec_moves.specs.declared.place.InLoads.TheVariants as load
 use Rattle.exec_moves.specs.declared.place.Place.TheVariants as at
 use Rattle.exec_moves.specs.declared.place.Round.TheVariants as round
 use Rattle.exec_rest.specs.Places.{waits_on}
-use Rattle.exec_rest.proofs.{Continuing.{Nearly, calm_after_return, calm_after_service, calm_first_pick, calm_leaves_for_turn, calm_polls, near_after_push, near_after_signal}, MovesA.{kicks_by, mails_by, picked, pops_by, pushes_by}, MovesB.{calls_by, closes, posts}, MovesC.polls_by, MovesLook.waits_at, Plain.{calm, is_calm}, Waiting.either}
+use Rattle.exec_rest.proofs.{Continuing.{Nearly, calm_after_return, calm_after_service, light_first_pick, light_leaves_for_turn, light_polls, near_after_push, near_after_signal, calm_light}, MovesA.{kicks_by, mails_by, picked, pops_by, pushes_by}, MovesB.{calls_by, closes, posts}, MovesC.polls_by, MovesLook.waits_at, Plain.{calm, is_calm}, Waiting.either}
 
 -- its wake word doesn't say that it waits
 abbrev pub is_free : Place → Bool
@@ -107,7 +107,7 @@ module _ (c : Configuration) (i : ℕ) (me : Books) (s : Common) (d : Desk) (x :
   first = grind arith
 
   reads : (come : Bool) → is_free (if come then turns {T = Own} (leaves_for_turn c i me s d) read tt else turns {T = Own} (first_search c i s read) read tt).desk.place ≡ true
-  reads true = by_calm _ (calm_leaves_for_turn c i me s d)
+  reads true = by_calm _ (calm_light _ (light_leaves_for_turn c i me s d))
   reads false = first
 
   withdrawn : (came : Bool) (n : AfterWait) (e : Desk) → is_free (after_withdrawal c i me s came n e) ≡ true
@@ -148,15 +148,15 @@ module _ (c : Configuration) (i : ℕ) (me : Books) (s : Common) (d : Desk) (x :
   latches (signal.Raise ring) j b = by_near (near_after_signal s i c me b d)
 
   pub frees : (p : Place) → d.place ≡ p → is_of_wait p ≡ false → is_free (move_at c i me s d x p).desk.place ≡ true
-  frees at.BeginTurn is h = by_calm _ (calm_first_pick s i)
+  frees at.BeginTurn is h = by_calm _ (calm_light _ (light_first_pick s i))
   frees (at.Pick p) is h = by_near (picked ⊥ c i me s d x p).near
-  frees at.TakeRootFlag is h = choose {T = Own} d.root_ready _ _ (by_calm _ (calm_polls me.root (record d { root_ready = false }))) refl
+  frees at.TakeRootFlag is h = choose {T = Own} d.root_ready _ _ (by_calm _ (calm_light _ (light_polls me.root (record d { root_ready = false })))) refl
   frees (at.Poll t p) is h = by_near (polls_by c i me s d x (ap is_calm is) t p).near
   frees (at.Callbacks p n) is h = by_near (calls_by ⊥ c i me s d x p n).near
   frees (at.Loads p r) is h = loads p r
   frees (at.Service p v) is h = services p v (ap is_free is)
   frees (at.Mail p) is h = by_near (mails_by ⊥ c i me s d x p).near
-  frees (at.TestForWork f) is h = choose {T = Own} (is_ready me f d || has_submissions c me) _ _ (by_calm _ (calm_leaves_for_turn c i me s d)) refl
+  frees (at.TestForWork f) is h = choose {T = Own} (is_ready me f d || has_submissions c me) _ _ (by_calm _ (calm_light _ (light_leaves_for_turn c i me s d))) refl
   frees at.ReadClock is h = reads (has_come s.clock (next_due s i))
   frees (at.Search p) is h = searches p
   frees (at.Scan p) is h = scans p

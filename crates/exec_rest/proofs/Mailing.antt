@@ -12,12 +12,13 @@ use Rattle.exec_moves.specs.declared.place.Place.TheVariants as at
 use Rattle.exec_machine.specs.{declared.{config.Configuration.Configuration, event.Event.{TheVariants.{Rouse, Sleep}}, state.MailMessage.MailMessage}, Callers.{is_enabled, is_held}, Tests.{has_ended, is_awake}, World.{Common, Own as Books, own_of, seat_of}}
 use Rattle.exec_moves.specs.{declared.{place.Place.Place}, Close.{batches_closed, close_mailbox}, Mail.take_mail, Move.{move, move_at}, Plays.{Playing, by_move, desk_of}, State.{Desk, Moved, Things, inbox_of, word_of}}
 use Rattle.exec_rest.specs.{Places.{call_signals, is_abed, is_to_enter, is_to_sleep_on_ring, signals, waits_on}, Posted.{IsNumbered, IsPosted, IsTold, is_early}, Rested.{IsLaidOut, IsRestful, IsSignalled, Someone.Worker, is_latched, place_at, sleeps}}
-use Rattle.exec_rest.proofs.{FactsA.{at_each, going, here, seated, stays}, FactsB.{abed_waits, enter_waits, is_waiting, off, sleep_waits}, Frames.{asleep_after, desk_other, desk_own}, Heeds.Heeds, MailHeeds.{IsMatched, MailHeeds, Rests, taken, untaken}, MailMoves.mails_at, MailRests.{frees, is_free, is_of_wait}, Processed.{processed_kept, takes_mail}}
+use Rattle.exec_rest.proofs.{FactsA.{at_each, going, here, seated, stays}, FactsB.{abed_waits, is_waiting, not-true}, Frames.{asleep_after, desk_other, desk_own}, Heeds.Heeds, MailHeeds.{IsMatched, MailHeeds, Rests, taken, untaken}, MailMoves.mails_at, MailRests.{frees, is_free, is_of_wait}, Processed.{processed_kept, takes_mail}}
+use Rattle.exec_rest.proofs.CallFacts.{enters_ring, sleeps_on_ring}
 
 -- EACH MOVE
 
 early_waits : (p : Place) → is_early p ≡ true → waits_on p ≡ target.Ring
-early_waits p h = elim (or_cases (is_to_enter p) (is_to_sleep_on_ring p) h) [ inl enter ↦ enter_waits p enter | inr sleep ↦ sleep_waits p sleep ]
+early_waits p h = elim (or_cases (is_to_enter p) (is_to_sleep_on_ring p) h) [ inl enter ↦ enters_ring p enter | inr sleep ↦ sleeps_on_ring p sleep ]
 
 early_unfree : (p : Place) → is_early p ≡ true → is_free p ≡ false
 early_unfree p h = ap (λ t. not (is_armed t)) (early_waits p h)
@@ -148,7 +149,7 @@ module _ (c : Configuration) (x : Playing) (laid : IsLaidOut c x) (held : IsRest
       told_other k apart (early_within k was) (ap is_waiting (early_waits (place_at c x k) was)) (before.early k was))
 
   pub posted_then : (k : ℕ) → sleeps c next k ≡ true → (inbox_of next.things k ≡ [] → ⊥) → IsTold c next k
-  posted_then k asleep = by (asleep_after c (own_of x.world i) s i m.event m.choice k (off (is_awake (seat_of next.world.common k).rest) asleep))
+  posted_then k asleep = by (asleep_after c (own_of x.world i) s i m.event m.choice k (not-true (is_awake (seat_of next.world.common k).rest) asleep))
     where
       by : ((is_awake (seat_of s k).rest ≡ false) × (m.event ≢ Rouse k)) ⊎ ((k ≡ i) × ((until : Option ℕ) × (m.event ≡ Sleep until))) → HasMail k → IsTold c next k
       by (inl was) =

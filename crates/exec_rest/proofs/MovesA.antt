@@ -13,7 +13,7 @@ use Rattle.exec_moves.specs.declared.place.InPick.TheVariants as pick
 use Rattle.exec_moves.specs.declared.place.Place.TheVariants as at
 use Rattle.exec_rest.proofs.Heeds.{Heeds}
 use Rattle.exec_rest.proofs.Asides.{global_less, idle_put, inbox_put, own_queue, same, share_put, word_put}
-use Rattle.exec_rest.proofs.Continuing.{calm_after_empty_pop, calm_after_fit, calm_after_message, calm_after_pop, calm_after_return, calm_empty_look, calm_first_pop, calm_judge_pop, calm_polls, near_after_kick, near_after_store, near_calm, near_if}
+use Rattle.exec_rest.proofs.Continuing.{light_after_empty_pop, calm_after_fit, calm_after_message, light_after_pop, calm_after_return, light_empty_look, light_first_pop, light_judge_pop, light_polls, near_after_kick, near_after_store, near_calm, near_if, calm_light}
 use Rattle.exec_rest.proofs.Nearly.{Quiet, calmly, quiet, quiet_if, quietly}
 
 module _ (R : Type 0) (c : Configuration) (i : ℕ) (me : Books) (s : Common) (d : Desk) (x : Things) where
@@ -22,17 +22,17 @@ module _ (R : Type 0) (c : Configuration) (i : ℕ) (me : Books) (s : Common) (d
   begins = grind arith
 
   mirror : (f : First) (g : List ℕ) → ((g ≡ [] → ⊥) → x.global ≡ [] → ⊥) → Quiet i s x (with_global x (load_mirror c f d g))
-  mirror f [] less = calmly i s x _ (calm_empty_look c f) (global_less i x [] less) refl
+  mirror f [] less = calmly i s x _ (calm_light _ (light_empty_look c f)) (global_less i x [] less) refl
   mirror f (t ∷ g) less = calmly i s x _ refl (global_less i x (t ∷ g) less) refl
 
   share : (f : First) (room held : ℕ) (own : Queue ℕ) (g : List ℕ) → ((g ≡ [] → ⊥) → x.global ≡ [] → ⊥)
       → Quiet i s x (with_queues i x (take_share c f room held d (record { global = g; queue = own })))
-  share f room held own [] less = calmly i s x _ (calm_empty_look c f) (share_put i x _ less) refl
-  share f room held own (t ∷ g) less = calmly i s x _ (calm_polls t d) (share_put i x _ (λ some. less (λ e. false≢true (ap is_empty e)))) refl
+  share f room held own [] less = calmly i s x _ (calm_light _ (light_empty_look c f)) (share_put i x _ less) refl
+  share f room held own (t ∷ g) less = calmly i s x _ (calm_light _ (light_polls t d)) (share_put i x _ (λ some. less (λ e. false≢true (ap is_empty e)))) refl
 
   pub picked : (p : InPick) → Quiet i s x (move_pick c i d x p)
   picked pick.CountDown =
-      quiet_if i s x (λ (u : Own). x) (nat_le d.countdown 1) _ _ (calmly i s x _ refl (same i x) refl) (calmly i s x _ (calm_first_pop c _) (same i x) refl)
+      quiet_if i s x (λ (u : Own). x) (nat_le d.countdown 1) _ _ (calmly i s x _ refl (same i x) refl) (calmly i s x _ (calm_light _ (light_first_pop c _)) (same i x) refl)
   picked (pick.LoadMirror f) = mirror f x.global (λ h. h)
   picked (pick.LoadHead f) = calmly i s x _ refl (own_queue i x _) refl
   picked (pick.TakeShare f room held) = share f room held (queue_of x i) x.global (λ h. h)
@@ -45,11 +45,11 @@ module _ (R : Type 0) (c : Configuration) (i : ℕ) (me : Books) (s : Common) (d
 
   -- POPS AND PUSHES
   popped : (b : AfterPop) (q : Queue ℕ) (vs : List ℕ) → q.values ≡ vs → Quiet i s x (with_queue i x (pops c i b d q))
-  popped b q [] h = rw h (calmly i s x _ (calm_after_empty_pop c i b) (own_queue i x _) refl)
-  popped b q (t ∷ ts) h = rw h (calmly i s x _ (calm_after_pop c b t d) (own_queue i x _) refl)
+  popped b q [] h = rw h (calmly i s x _ (calm_light _ (light_after_empty_pop c i b)) (own_queue i x _) refl)
+  popped b q (t ∷ ts) h = rw h (calmly i s x _ (calm_light _ (light_after_pop c b t d)) (own_queue i x _) refl)
 
   pop_loaded : (b : AfterPop) (q : Queue ℕ) → Quiet i s x (with_queue i x (load_pop_head c i b d q))
-  pop_loaded b q = calmly i s x _ (calm_judge_pop c i b (head_of q) (tail_of q - q.real)) (own_queue i x _) refl
+  pop_loaded b q = calmly i s x _ (calm_light _ (light_judge_pop c i b (head_of q) (tail_of q - q.real))) (own_queue i x _) refl
 
   pub pops_by : (p : InPop) (b : AfterPop) → Quiet i s x (move_pop c i d x p b)
   pops_by pop.PopAlone b = popped b (queue_of x i) _ refl

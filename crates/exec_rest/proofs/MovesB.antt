@@ -13,7 +13,7 @@ use Rattle.exec_moves.specs.declared.place.InClosing.TheVariants as closing
 use Rattle.exec_moves.specs.declared.place.Place.TheVariants as at
 use Rattle.exec_rest.proofs.Heeds.{Heeds}
 use Rattle.exec_rest.proofs.Asides.{alarms_put, answers_put, barrier_put, global_less, inbox_put, mailbox_put, same, shard_put}
-use Rattle.exec_rest.proofs.Continuing.{Nearly, calm_after_close, calm_after_letting_go, calm_after_posting, calm_cancels_left, calm_tells_from, calm_to_queue, near_calm, near_desk_if, near_if, near_next_callback}
+use Rattle.exec_rest.proofs.Continuing.{Nearly, light_after_close, light_after_letting_go, light_after_posting, light_cancels_left, light_tells_from, calm_to_queue, near_calm, near_desk_if, near_if, near_next_callback, calm_light}
 use Rattle.exec_rest.proofs.Nearly.{Quiet, calmly, quiet, quietly}
 
 -- A MESSAGE: of the wake word the batch alone changes
@@ -34,8 +34,8 @@ module _ (c : Configuration) (i : ℕ) (s : Common) (x : Things) where
 
       by : (closed : Bool) → Quiet i s x (with_mailbox j x (sent c j b d
           (if closed then record { event = Closed; choice = Plain; signals = false; mailbox = m } else record { event = Send j message; choice = choice; signals = asks m; mailbox = posted message m })))
-      by true = calmly i s x _ (calm_after_posting c j b false d) (mailbox_put i j x m refl refl) refl
-      by false = calmly i s x _ (calm_after_posting c j b (asks m) d) (mailbox_put i j x (posted message m) (posted_target message m) (posted_latch message m)) refl
+      by true = calmly i s x _ (calm_light _ (light_after_posting c j b false d)) (mailbox_put i j x m refl refl) refl
+      by false = calmly i s x _ (calm_light _ (light_after_posting c j b (asks m) d)) (mailbox_put i j x (posted message m) (posted_target message m) (posted_latch message m)) refl
 
   pub posts_root : (j : ℕ) (b : AfterSend) (d : Desk) → Quiet i s x (with_mailbox j x (send_root c s j b d (mailbox_of x j)))
   posts_root j b d = posts j Root (Posts (payer_of_send b) (is_left_out (mailbox_of x j))) b d
@@ -53,23 +53,23 @@ module _ (R : Type 0) (c : Configuration) (i : ℕ) (me : Books) (s : Common) (d
   visits drain shard (Some t) h = rw h (calmly i s x _ refl (shard_put i drain.at x _) refl)
 
   orphans : (held : Option ℕ) → first_held s d ≡ held → Quiet i s x (aside x (orphan i s d))
-  orphans None h = rw h (calmly i s x _ (calm_after_letting_go None _) (same i x) refl)
-  orphans (Some r) h = rw h (calmly i s x _ (calm_after_letting_go _ _) (same i x) refl)
+  orphans None h = rw h (calmly i s x _ (calm_light _ (light_after_letting_go None _)) (same i x) refl)
+  orphans (Some r) h = rw h (calmly i s x _ (calm_light _ (light_after_letting_go _ _)) (same i x) refl)
 
   closes_sleeper : (asleep : Option ℕ) → first_asleep i s d ≡ asleep → Quiet i s x (aside x (close_sleeper i s d))
   closes_sleeper None h = rw h (calmly i s x _ refl (same i x) refl)
-  closes_sleeper (Some z) h = rw h (calmly i s x _ (calm_after_letting_go None _) (same i x) refl)
+  closes_sleeper (Some z) h = rw h (calmly i s x _ (calm_light _ (light_after_letting_go None _)) (same i x) refl)
 
   pub closes : (p : InClosing) → Quiet i s x (move_closing c i s d x p)
-  closes closing.Close = calmly i s x _ (calm_after_close c i s) (same i x) refl
+  closes closing.Close = calmly i s x _ (calm_light _ (light_after_close c i s)) (same i x) refl
   closes closing.CloseQueue = calmly i s x _ refl (global_less i x [] (λ none. absurd (none refl))) refl
   closes closing.OpenBarrier = calmly i s x _ refl (barrier_put i x _) refl
-  closes closing.Stop = calmly i s x _ (calm_tells_from c 1) (same i x) refl
+  closes closing.Stop = calmly i s x _ (calm_light _ (light_tells_from c 1)) (same i x) refl
   closes (closing.TellRoot j) = posts_root c i s x j (send.Tell (j + 1)) d
   closes (closing.Visit drain) = visits drain (slice_index_or x.shards drain.at []) _ refl
-  closes (closing.Clear t drain) = calmly i s x _ (calm_cancels_left (cancels.Visit drain) (told_of_clear i s d (task_of s t)) _) (same i x) refl
+  closes (closing.Clear t drain) = calmly i s x _ (calm_light _ (light_cancels_left (cancels.Visit drain) (told_of_clear i s d (task_of s t)) _)) (same i x) refl
   closes closing.LeaveBarrier = calmly i s x _ refl (barrier_put i x _) refl
-  closes closing.CloseMailbox = calmly i s x _ (calm_after_letting_go _ _) (inbox_put i i x _) refl
+  closes closing.CloseMailbox = calmly i s x _ (calm_light _ (light_after_letting_go _ _)) (inbox_put i i x _) refl
   closes closing.Orphan = orphans _ refl
   closes closing.CloseSleeper = closes_sleeper _ refl
   closes closing.End = grind arith

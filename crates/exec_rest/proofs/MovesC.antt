@@ -15,12 +15,12 @@ use Rattle.exec_moves.specs.declared.place.InPoll.TheVariants as poll
 use Rattle.exec_moves.specs.declared.place.Place.TheVariants as at
 use Rattle.exec_rest.proofs.Heeds.{Heeds}
 use Rattle.exec_rest.proofs.Asides.{alarms_put, gate_put, newcomer, own_queue, same, shard_put}
-use Rattle.exec_rest.proofs.Continuing.{calm_after_end, calm_after_poll, calm_after_spawn, calm_cancels_left, calm_desk_if, calm_if, calm_next_pick, calm_to_queue, near_calm}
+use Rattle.exec_rest.proofs.Continuing.{light_after_end, light_after_poll, calm_after_spawn, light_cancels_left, calm_desk_if, calm_if, light_next_pick, calm_to_queue, near_calm, calm_light}
 use Rattle.exec_rest.proofs.Plain.{is_calm, is_mute}
 use Rattle.exec_rest.proofs.Nearly.{Quiet, calmly, quiet, quiet_if}
 use Rattle.exec_rest.proofs.MovesB.{posts, posts_root}
 
-mute_if : (b : Bool) (e f : Event) → is_mute e ≡ true → is_mute f ≡ true → is_mute (if b then e else f) ≡ true
+pub mute_if : (b : Bool) (e f : Event) → is_mute e ≡ true → is_mute f ≡ true → is_mute (if b then e else f) ≡ true
 mute_if true e f one other = one
 mute_if false e f one other = other
 
@@ -36,10 +36,10 @@ module _ (c : Configuration) (i : ℕ) (me : Books) (s : Common) (d : Desk) (x :
   -- THE END OF A POLL
   calm_requeued : (b : Bool) (e : Desk) → is_calm (requeued_if b t e).place ≡ true
   calm_requeued true e = refl
-  calm_requeued false e = calm_next_pick e
+  calm_requeued false e = calm_light _ (light_next_pick e)
 
   calm_pend : (it : Task) (home : Option ℕ) → is_calm (after_pend i t s d it home).place ≡ true
-  calm_pend it None = calm_desk_if it.cleared _ _ (calm_cancels_left cancels.Pick (lets_go_all i s it d) _) (calm_requeued _ d)
+  calm_pend it None = calm_desk_if it.cleared _ _ (calm_light _ (light_cancels_left cancels.Pick (lets_go_all i s it d) _)) (calm_requeued _ d)
   calm_pend it (Some home) = refl
 
   pends : (it : Task) → Quiet i s x (aside x (pend i t s d it))
@@ -92,8 +92,8 @@ module _ (c : Configuration) (i : ℕ) (me : Books) (s : Common) (d : Desk) (x :
   acts_by it script.Drop = drops_newest it (newest_held it)
   acts_by it (script.Sleep time) = sleeps_for it (sleep_asked me.sampled (script.Sleep time))
   acts_by it script.Yield = calmly i s x _ refl (same i x) refl
-  acts_by it (script.Fault code) = calmly i s x _ (calm_after_end t it.home (lets_go_all i s it d)) (same i x) refl
-  acts_by it script.End = calmly i s x _ (calm_after_end t it.home (lets_go_all i s it d)) (same i x) refl
+  acts_by it (script.Fault code) = calmly i s x _ (calm_light _ (light_after_end t it.home (lets_go_all i s it d))) (same i x) refl
+  acts_by it script.End = calmly i s x _ (calm_light _ (light_after_end t it.home (lets_go_all i s it d))) (same i x) refl
   acts_by it _ = calmly i s x _ here (same i x) refl
 
   acts_asked : (it : Task) (w : ScriptWord) (asked : Option Operation) → Quiet i s x (aside x (act_asked i t me s d it w asked))
@@ -130,13 +130,13 @@ module _ (c : Configuration) (i : ℕ) (me : Books) (s : Common) (d : Desk) (x :
 
   pub polls_by : (p : InPoll) → Quiet i s x (move_poll c i me s d x t p)
   polls_by poll.BeginPoll =
-      quiet_if i s x (λ (u : Task). x) (is_ready (task_of s t).phase) _ _ (calmly i s x _ refl (same i x) refl) (calmly i s x _ (calm_after_poll (task_of s t).home d) (same i x) refl)
+      quiet_if i s x (λ (u : Task). x) (is_ready (task_of s t).phase) _ _ (calmly i s x _ refl (same i x) refl) (calmly i s x _ (calm_light _ (light_after_poll (task_of s t).home d)) (same i x) refl)
   polls_by poll.Resume = looks_at (send.Pend t) _ (resumes (task_of s t) _ refl) (sight_of i s (task_of s t).waiting)
   polls_by poll.Act = acts_as (next_word s (task_of s t))
   polls_by (poll.JoinGate r) = calmly i s x _ refl (gate_put i _ x _) refl
   polls_by poll.LoadSpawnHead = calmly i s x _ (calm_if (tail_of (queue_of x i) == (queue_of x i).real) _ _ refl refl) (own_queue i x _) refl
   polls_by poll.Pend = pends (task_of s t)
-  polls_by poll.RemoveTask = calmly i s x _ (calm_next_pick d) (shard_put i _ x _) refl
+  polls_by poll.RemoveTask = calmly i s x _ (calm_light _ (light_next_pick d)) (shard_put i _ x _) refl
 
 pub polls : (R : Type 0) (c : Configuration) (i : ℕ) (me : Books) (s : Common) (d : Desk) (x : Things) (t : ℕ) (p : InPoll) → d.place ≡ at.Poll t p
     → Heeds R i s d x (move_poll c i me s d x t p)

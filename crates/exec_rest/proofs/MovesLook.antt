@@ -19,7 +19,7 @@ use Rattle.exec_moves.specs.declared.place.Place.TheVariants as at
 use Rattle.exec_moves.specs.declared.place.Round.TheVariants as round
 use Rattle.exec_moves.specs.{declared.{idling.{AfterWait.AfterWait, InLook.InLook}, place.{Found.Found, InLoads.InLoads, Place.Place, Round.Round}}, Callback.{has_callbacks, serve, is_of_pool}, Global.one_count_more, Load.{has_come, has_mail, has_submissions, is_ready, leaves_for_turn, test_for_work}, Look.{after_withdrawal, past_own, look_at_mirror, looks_from, searching_if, withdraw}, Move.{move_loads, move_look}, State.{Desk, Own, Things, queue_of, word_of, turns}, Thing.{aside, set_idle, with_global, with_idle}, Wait.{first_search, read_clock, waits}}
 use Rattle.exec_rest.specs.Places.{has_looked, is_published}
-use Rattle.exec_rest.proofs.{Asides.{idle_put, same, word_put}, Continuing.{calm_after_return, calm_leaves_for_turn}, Heeds.Heeds, Plain.{calm, is_calm}, Waiting.{Knows, calm_loose, calms, either, goes_on, is_loose, is_out, may_go, nothing_known, off, onward, put_in, put_in_own, queue_put, steady, still_empty, taken_out, taken_out_own}}
+use Rattle.exec_rest.proofs.{Asides.{idle_put, same, word_put}, Continuing.{calm_after_return, light_leaves_for_turn, calm_light}, Heeds.Heeds, Plain.{calm, is_calm}, Waiting.{Knows, calm_loose, calms, either, goes_on, is_loose, is_out, may_go, nothing_known, not-true, onward, put_in, put_in_own, queue_put, steady, still_empty, taken_out, taken_out_own}}
 
 -- A QUEUE THAT IS EMPTY, by what was found
 
@@ -47,7 +47,7 @@ is_seen q = is_loose q && is_published q && not (has_looked q)
 
 module _ (c : Configuration) (i : ℕ) (me : Books) (s : Common) (d : Desk) where
   made_up_calm : (came last : Bool) → is_calm (after_withdrawal c i me s came (next.MakeUp last) d) ≡ true
-  made_up_calm true last = calm_leaves_for_turn c i me s d
+  made_up_calm true last = calm_light _ (light_leaves_for_turn c i me s d)
   made_up_calm false last = calm_after_return c i me s last leave.Begin d
 
   -- a test that the first places of all waits pass
@@ -77,7 +77,7 @@ module _ (R : Type 0) (c : Configuration) (i : ℕ) (me : Books) (s : Common) (d
   tests f is = by (is_ready me f d || has_submissions c me) (unready f.ready d.root_ready (has_callbacks me d) (not (is_empty d.batch)) (has_submissions c me))
     where
       by : (b : Bool) → (b ≡ false → f.ready ≡ false) → Heeds R i s d x (aside x (if b then turns {T = Own} (leaves_for_turn c i me s d) d tt else turns {T = Own} at.ReadClock d tt))
-      by true none = calms R i s d x _ (at.TestForWork f) is refl refl (calm_leaves_for_turn c i me s d) (same i x) refl
+      by true none = calms R i s d x _ (at.TestForWork f) is refl refl (calm_light _ (light_leaves_for_turn c i me s d)) (same i x) refl
       by false none = onward R i s d x _ (at.TestForWork f) is refl refl (same i x) refl (λ pool before h. before (ap not (none refl)))
 
   -- THE CLOCK
@@ -103,14 +103,14 @@ module _ (R : Type 0) (c : Configuration) (i : ℕ) (me : Books) (s : Common) (d
       first false apart = waits_alone e is apart
 
       by : (come : Bool) → Heeds R i s d x (aside x (if come then turns {T = Own} (leaves_for_turn c i me s d) e tt else turns {T = Own} (first_search c i s e) e tt))
-      by true = calms R i s d x _ at.ReadClock is refl refl (calm_leaves_for_turn c i me s d) (same i x) refl
+      by true = calms R i s d x _ at.ReadClock is refl refl (calm_light _ (light_leaves_for_turn c i me s d)) (same i x) refl
       by false = first (is_of_pool s i) refl
 
   -- THE LOOK
 
   -- its own bit goes in
   publishes : (q : Place) → d.place ≡ at.Look looking.Publish → is_seen q ≡ true → Heeds R i s d x (with_idle x (turns q d (with_bit true)))
-  publishes = grind (arith, and_parts, is_loose, off, steady, same, put_in_own, true≢false, put_in, get_or-set_same, length-set, false≢true)
+  publishes = grind (arith, and_parts, is_loose, not-true, steady, same, put_in_own, true≢false, put_in, get_or-set_same, length-set, false≢true)
 
   -- the global queue is found empty, or not
   finds : (last : Bool) (g : List ℕ) → x.global ≡ g → d.place ≡ at.Look (looking.LookAtMirror last) → Heeds R i s d x (with_global x (look_at_mirror last d g))
@@ -164,8 +164,8 @@ module _ (R : Type 0) (c : Configuration) (i : ℕ) (me : Books) (s : Common) (d
   searches_on q e is to =
       let two = and_parts (is_loose q && not (is_published q)) (not (has_looked q)) to in
       let one = and_parts (is_loose q) (not (is_published q)) two.0 in
-      takes_out next.Search is q e one.0 (off (is_published q) one.1)
-      (record { looked = λ pool h. absurd (false≢true (sym (off (has_looked q) two.1) ∙ h)); dry = λ pool before h. before refl; pooled = λ before h. before refl })
+      takes_out next.Search is q e one.0 (not-true (is_published q) one.1)
+      (record { looked = λ pool h. absurd (false≢true (sym (not-true (has_looked q) two.1) ∙ h)); dry = λ pool before h. before refl; pooled = λ before h. before refl })
 
   pub withdraws : (n : AfterWait) → d.place ≡ at.Withdraw n → Heeds R i s d x (with_idle x (withdraw c i me s n d x.idle))
   withdraws next.Begin is = leaves_off next.Begin is at.BeginTurn (searching_if (not (is_in x.idle.published i)) d) refl

@@ -1,17 +1,14 @@
 -- What the moves do as far as waking goes, of a worker of the pool that searches: what comes before a scan, and the scan of the
 -- other run queues, out of which it takes values.
-use Rattle.std.proofs.Common.{◌≡◌, ℕ, zero, suc, ◌==◌, Bool, true, false, [], take, drop, refl, ap, ◌∙◌, if◌then◌else◌, nat_lt, arith}
+use Rattle.std.proofs.Common.{◌≡◌, ℕ, ◌==◌, Bool, true, false, [], take, drop, refl, ap, ◌∙◌, if◌then◌else◌, nat_lt, arith}
 use Rattle.exec_words.specs.{declared.head.Head.Head, Head.{claim_at, claimed_head}, Queue.{Queue, claimed, head_of, released, room_of, tail_of}}
 use Rattle.exec_machine.specs.{declared.config.Configuration.Configuration, World.{Common, Own as Books}}
 use Rattle.exec_moves.specs.declared.idling.InLook.TheVariants as looking
 use Rattle.exec_moves.specs.declared.idling.InScan.TheVariants as scanning
 use Rattle.exec_moves.specs.declared.place.Place.TheVariants as at
 use Rattle.exec_moves.specs.{declared.{idling.{InScan.InScan, InSearch.InSearch, Scan.Scan}, place.Place.Place}, Move.{move_search, move_scan}, Pop.same_head, Search.{begun_scan, from_of, half, judge_head, judge_tail, looks_at, past, past_own, stirred}, State.{Desk, Things, queue_of, turns}, Thing.with_queue}
-use Rattle.exec_rest.proofs.{Asides.{own_queue, same}, Continuing.calm_leaves_for_turn, Heeds.Heeds, Waiting.{calms, either, goes_on, may_go, queue_put, still_empty}}
-
-none_dropped : (n : ℕ) → drop {A = ℕ} n [] ≡ []
-none_dropped zero = refl
-none_dropped (suc n) = refl
+use Rattle.exec_rest.proofs.{Asides.{own_queue, same}, Continuing.{calm_light, light_leaves_for_turn}, Heeds.Heeds, Waiting.{calms, either, goes_on, may_go, queue_put, still_empty}}
+use Rattle.exec_rest.proofs.BareMoves.{none_dropped}
 
 module _ (c : Configuration) (i : ℕ) where
   -- a worker that scans goes on to scan, or to the look
@@ -72,4 +69,4 @@ module _ (R : Type 0) (c : Configuration) (i : ℕ) (me : Books) (s : Common) (d
       by true = over (scanning.ReleaseHalf from h) is (at.Scan scanning.StoreMoved) d from (released q) refl (λ h. h)
       by false = over (scanning.ReleaseHalf from h) is (at.Scan (scanning.ReleaseHalf from (head_of q))) d from q refl (λ h. h)
   -- its own queue takes what it took
-  scan scanning.StoreMoved is = calms R i s d x _ (at.Scan scanning.StoreMoved) is refl refl (calm_leaves_for_turn c i me s d) (own_queue i x _) refl
+  scan scanning.StoreMoved is = calms R i s d x _ (at.Scan scanning.StoreMoved) is refl refl (calm_light _ (light_leaves_for_turn c i me s d)) (own_queue i x _) refl

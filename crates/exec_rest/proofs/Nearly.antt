@@ -34,8 +34,7 @@ module _ (i : ℕ) (s : Common) (x : Things) where
 
   -- by a test, this or that: where the thing is put back behind it
   pub quiet_if : {T : Type 0} (back : T → Things) (b : Bool) (m n : Moved T) → Quiet i s x (puts back m) → Quiet i s x (puts back n) → Quiet i s x (puts back (if b then m else n))
-  quiet_if back true m n one other = one
-  quiet_if back false m n one other = other
+  quiet_if = grind arith
 
 module _ (R : Type 0) (i : ℕ) (s : Common) (d : Desk) (x : Things) (m : Moved Things) where
   -- the same by what the place before and the move are

@@ -1,5 +1,5 @@
 -- What an enter and a reaping do to the wake poll of a ring, and what that tells the worker.
-use Rattle.std.proofs.Common.{◌≡◌, ℕ, ◌+◌, Bool, true, ◌||◌, List, ◌∷◌, nat_le, nat_lt, Option, Some, None, refl, subst, arith, if◌then◌else◌, []}
+use Rattle.std.proofs.Common.{◌≡◌, ℕ, ◌+◌, Bool, true, ◌||◌, List, ◌∷◌, nat_lt, Option, None, arith, if◌then◌else◌, []}
 use Rattle.std.proofs.lemmas.Bool.{false≢true, ltb-true, lt-ltb, le-leb}
 use Rattle.std.specs.Prelude.{is_some}
 use Rattle.exec_moves.specs.State.{WakePoll, dropped, is_dropped, taken_in}
@@ -24,13 +24,11 @@ more_others n m h = let some = ltb-true 0 n h in lt-ltb 0 (n + m) (omega (arith,
 
 -- without another completion the one that ended the poll is dropped
 all_dropped : (e : Option ℕ) → is_some (if is_dropped [] e then None else e) ≡ true → ⊥
-all_dropped None h = false≢true h
-all_dropped (Some n) h = let low : nat_le 0 n ≡ true = le-leb 0 n (omega arith) in false≢true (subst (λ b. is_some (if b then None else Some n) ≡ true) low h)
+all_dropped = grind (arith, false≢true, le-leb)
 
 -- what landed later is left
 pub keeps_dropped : (w : WakePoll) (r : ℕ) (later : List ℕ) → Keeps w (dropped later w) (r ∷ later) later
-keeps_dropped w r [] = record { kept = λ h. h; ended = λ before some. absurd (all_dropped w.ended some) }
-keeps_dropped w r (q ∷ later) = record { kept = λ h. h; ended = λ before some. refl }
+keeps_dropped = grind (arith, all_dropped)
 
 pub keeps_dropped_all : (w : WakePoll) (landed : List ℕ) → Keeps w (dropped [] w) landed landed
 keeps_dropped_all w landed = record { kept = λ h. h; ended = λ before some. absurd (all_dropped w.ended some) }

@@ -1,6 +1,6 @@
 -- Where all workers sleep, nobody has to do anything for others any more; and so nothing is left to be run.
 use Rattle.std.proofs.Common.{◌≡◌, ℕ, zero, suc, Bool, true, false, List, [], ◌∷◌, get_or, Option, Some, refl, sym, ap, ◌∙◌, inl, inr, arith}
-use Rattle.std.proofs.lemmas.Bool.{true≢false, false≢true, and_parts, false_from_ne_true, or_cases}
+use Rattle.std.proofs.lemmas.Bool.{true≢false, false≢true, and_parts, false_from_ne_true, or_cases, not-true}
 use Rattle.std.specs.Prelude.{◌⊎◌, not}
 use Rattle.std.specs.List.{list_all}
 use Rattle.exec_machine.specs.{declared.config.Configuration.Configuration, Callers.{is_half_done, may_go_on}, Progress.{all_asleep, is_down}, Tests.{has_ended, is_open}, World.{seat_of}}
@@ -14,10 +14,6 @@ all_at : {X : Type 0} (test : X → Bool) (d : X) → test d ≡ true → (xs : 
 all_at test d past [] all i = past
 all_at test d past (x ∷ xs) all zero = (and_parts (test x) (list_all test xs) all).0
 all_at test d past (x ∷ xs) all (suc i) = all_at test d past xs (and_parts (test x) (list_all test xs) all).1 i
-
-un_not : (b : Bool) → not b ≡ true → b ≡ false
-un_not true h = absurd (false≢true h)
-un_not false h = refl
 
 some_at_all : {T : Type 0} (o : Option T) (a : T) → is_none o ≡ true → o ≡ Some a → ⊥
 some_at_all o a none is = false≢true (sym (ap is_none is) ∙ none)
@@ -67,7 +63,7 @@ module _ (c : Configuration) (x : Playing) (held : IsRestful c x) (all : all_asl
 
   pub callers : (j : ℕ) → NoCall (caller_of x j).place
   callers j =
-      let none = un_not (may_go_on x.world.common j) (all_at (λ call. not (is_half_done call)) call.Nothing refl x.world.common.callers both.1 j) in
+      let none = not-true (may_go_on x.world.common j) (all_at (λ call. not (is_half_done call)) call.Nothing refl x.world.common.callers both.1 j) in
       no_call_of (caller_of x j).place (false_from_ne_true (is_in_call (caller_of x j).place) (λ h. true≢false (sym (held.calls j h) ∙ none)))
 
   pub unsignalled : (i : ℕ) → IsSignalled c x i → ⊥
@@ -79,7 +75,7 @@ module _ (c : Configuration) (x : Playing) (held : IsRestful c x) (all : all_asl
   unraised i ring (Someone.Caller j h) = some_at_all (call_raises (caller_of x j).place) (record { worker = i; ring = ring }) (callers j).raises h
 
   unowed : IsOwed c x → ⊥
-  unowed (Someone.Worker j h) = true≢false (sym h ∙ un_not (owes (place_at c x j)) (idle_parts j).2)
+  unowed (Someone.Worker j h) = true≢false (sym h ∙ not-true (owes (place_at c x j)) (idle_parts j).2)
   unowed (Someone.Caller j h) = true≢false (sym h ∙ (callers j).owes)
 
   -- who sleeps was not signalled, since nobody ends its wait

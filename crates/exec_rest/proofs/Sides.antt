@@ -43,16 +43,14 @@ is_unreaped (Reap r n outcome) = false
 is_unreaped _ = true
 
 pub unreaped : (s : Common) (i : ℕ) (e : Event) → is_unreaped e ≡ true → landed_after s i e ≡ (seat_of s i).landed
-unreaped s i (Reap r n outcome) h = absurd (false≢true h)
-unreaped s i _ h = refl
+unreaped = grind (arith, false≢true)
 
 -- a mute event is none of those that count
 pub mute_tame : (e : Event) → is_mute e ≡ true → is_tame e ≡ true
 mute_tame = grind arith
 
 pub mute_unreaped : (e : Event) → is_mute e ≡ true → is_unreaped e ≡ true
-mute_unreaped (Reap r n outcome) h = absurd (false≢true h)
-mute_unreaped _ h = refl
+mute_unreaped = grind (arith, false≢true)
 
 pub awake : {T : Type 0} (e : Event) → is_mute e ≡ true → (until : Option ℕ) → e ≡ Sleep until → T
 awake e mute until is = absurd (true≢false (sym mute ∙ ap is_mute is))
@@ -104,8 +102,7 @@ module _ (R : Type 0) (i : ℕ) (s : Common) (d : Desk) (x : Things) (m : Moved 
   -- WHERE NOTHING OF THAT CHANGES
 
   pub itself : ((j : ℕ) → queue_of y j ≡ queue_of x j) → Nearly s i q → is_tame m.event ≡ true → Itself
-  itself queues h tame =
-      record { queues = queues; dry = λ pool k. absurd (false≢true (sym (h.dry pool) ∙ k)); pooled = λ before k. absurd (false≢true (sym h.pooled ∙ k)); tame = tame }
+  itself = grind (arith, false≢true)
 
   -- from a place of no wait to another one
   pub same_bits : Nearly s i p → Nearly s i q → y.idle.published ≡ x.idle.published → ((y.global ≡ [] → ⊥) → (x.global ≡ [] → ⊥) ⊎ (owes q ≡ true)) → (owes p ≡ true → (owes q ≡ true) ⊎ ((j : ℕ) → is_in y.idle.published j ≡ false)) → OfIdleSet

@@ -7,7 +7,6 @@ use Rattle.exec_words.specs.declared.word.PureWord.{PureWord}
 use Rattle.exec_words.specs.declared.word.WaitTarget.TheVariants as target
 use Rattle.exec_machine.specs.{declared.event.Event.{TheVariants.{Sleep}}, World.{Common, seat_of}}
 use Rattle.exec_moves.specs.{declared.{idling.{AfterWait.AfterWait, InRingWait.InRingWait, InWordWait.InWordWait, Stay.Stay}, place.Place.Place}, Callback.is_of_pool, State.{Desk, Moved, Things, WakePoll, no_word, queue_of, word_of, wake_poll_of}, Thing.{ring_of, set_word}, Wait.{after_wait, goes_back, withdraws}}
-use Rattle.exec_moves.specs.declared.idling.Stay.TheVariants as stay
 use Rattle.exec_moves.specs.declared.place.Place.TheVariants as at
 use Rattle.exec_rest.specs.Places.{asked_for_poll, has_looked, is_abed, is_dry, is_pooled, is_published, is_to_enter, is_to_sleep_on_ring, is_withdrawing, owes, raises, signals, waits_on}
 use Rattle.exec_rest.proofs.Heeds.{Rings, landed_after, ring_after}
@@ -33,8 +32,7 @@ pub on_word : (pool : Bool) (p q : InWordWait) → Stays pool (at.WordWait p) (a
 on_word pool p q = record { unpublished = λ k h. refl; published = λ k h. refl; looked = λ k h. refl; dry = λ k h. refl; pooled = λ h. absurd (false≢true h) }
 
 pub on_ring : (pool : Bool) (p q : InRingWait) (y : Stay) → Stays pool (at.RingWait p y) (at.RingWait q y)
-on_ring pool p q stay.Turn = record { unpublished = λ k h. refl; published = λ k h. refl; looked = λ k h. refl; dry = λ k h. refl; pooled = λ h. absurd (false≢true h) }
-on_ring pool p q stay.Closing = record { unpublished = λ k h. h; published = λ k h. h; looked = λ k h. h; dry = λ k h. h; pooled = λ h. absurd (false≢true h) }
+on_ring = grind (arith, false≢true)
 
 back_off : (n : AfterWait) → IsOff (goes_back n)
 back_off = grind arith
@@ -47,24 +45,20 @@ out_of : (pool : Bool) (p : Place) (n : AfterWait) → is_published p ≡ true �
 out_of = grind arith
 
 withdraws_off : (pool : Bool) (n : AfterWait) → IsOff (if pool then at.Withdraw n else goes_back n)
-withdraws_off true n = record { to_enter = refl; to_sleep = refl; asked = refl }
-withdraws_off false n = back_off n
+withdraws_off = grind (arith, back_off)
 
 withdraws_quiet : (pool : Bool) (n : AfterWait) → waits_on (if pool then at.Withdraw n else goes_back n) ≡ target.None
-withdraws_quiet true n = refl
-withdraws_quiet false n = back_quiet n
+withdraws_quiet = grind (arith, back_quiet)
 
 withdrawing : (pool : Bool) (n : AfterWait) → pool ≡ true → is_withdrawing (if pool then at.Withdraw n else goes_back n) ≡ true
-withdrawing true n h = refl
-withdrawing false n h = absurd (false≢true h)
+withdrawing = grind (arith, false≢true)
 
 module _ (s : Common) (i : ℕ) where
   pub off_word : (p : InWordWait) (n : AfterWait) → Stays (is_of_pool s i) (at.WordWait p) (withdraws s i n)
   off_word p n = out_of (is_of_pool s i) (at.WordWait p) n refl refl
 
   pub off_ring : (p : InRingWait) (y : Stay) (n : AfterWait) → Stays (is_of_pool s i) (at.RingWait p y) (after_wait s i y n)
-  off_ring p stay.Turn n = out_of (is_of_pool s i) (at.RingWait p stay.Turn) n refl refl
-  off_ring p stay.Closing n = record { unpublished = λ k h. absurd (false≢true h); published = λ k h. absurd (false≢true h); looked = λ k h. absurd (false≢true h); dry = λ k h. absurd (false≢true h); pooled = λ h. absurd (false≢true h) }
+  off_ring = grind (arith, out_of, false≢true)
 
   pub word_off : (n : AfterWait) → IsOff (withdraws s i n)
   word_off n = withdraws_off (is_of_pool s i) n
@@ -76,16 +70,13 @@ module _ (s : Common) (i : ℕ) where
   word_withdrawing n = withdrawing (is_of_pool s i) n
 
   pub ring_off : (y : Stay) (n : AfterWait) → IsOff (after_wait s i y n)
-  ring_off stay.Turn n = word_off n
-  ring_off stay.Closing n = record { to_enter = refl; to_sleep = refl; asked = refl }
+  ring_off = grind (arith, word_off)
 
   pub ring_quiet : (y : Stay) (n : AfterWait) → waits_on (after_wait s i y n) ≡ target.None
-  ring_quiet stay.Turn n = word_quiet n
-  ring_quiet stay.Closing n = refl
+  ring_quiet = grind (arith, word_quiet)
 
   pub ring_withdrawing : (p : InRingWait) (y : Stay) (n : AfterWait) → is_published (at.RingWait p y) ≡ true → is_of_pool s i ≡ true → is_withdrawing (after_wait s i y n) ≡ true
-  ring_withdrawing p stay.Turn n published pool = word_withdrawing n pool
-  ring_withdrawing p stay.Closing n published pool = absurd (false≢true published)
+  ring_withdrawing = grind (arith, word_withdrawing, false≢true)
 
 -- THE WAKE WORD
 

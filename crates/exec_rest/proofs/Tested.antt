@@ -12,7 +12,7 @@ use Rattle.exec_moves.specs.{Callback.{has_callbacks}, Load.{has_come, has_submi
 use Rattle.exec_moves.specs.declared.idling.InSearch.TheVariants as search
 use Rattle.exec_moves.specs.declared.place.Place.TheVariants as at
 use Rattle.exec_rest.specs.{Posted.has_tested, Rested.{IsLaidOut, place_at}}
-use Rattle.exec_rest.proofs.Continuing.{calm_leaves_for_turn}
+use Rattle.exec_rest.proofs.Continuing.{light_leaves_for_turn, calm_light}
 use Rattle.exec_rest.proofs.{FactsA.seated, Frames.{desk_other, desk_own}}
 use Rattle.exec_rest.proofs.Away.{calm_untested}
 use Rattle.exec_rest.proofs.Untested.{is_test, untested}
@@ -70,7 +70,7 @@ module _ (c : Configuration) (i : ℕ) (me : Books) (s : Common) (d : Desk) (x :
     where
       by : (b : Bool) → (b ≡ false → IsClear d) → has_tested (if b then turns {T = Own} (leaves_for_turn c i me s d) d tt else turns {T = Own} at.ReadClock d tt).desk.place ≡ true
           → IsClear (if b then turns {T = Own} (leaves_for_turn c i me s d) d tt else turns {T = Own} at.ReadClock d tt).desk
-      by true clear h = absurd (false≢true (sym (calm_untested _ (calm_leaves_for_turn c i me s d)) ∙ h))
+      by true clear h = absurd (false≢true (sym (calm_untested _ (calm_light _ (light_leaves_for_turn c i me s d))) ∙ h))
       by false clear h = clear refl
 
   tested_by : (p : Place) → is_test p ≡ true → has_tested (move_at c i me s d x p).desk.place ≡ true → IsClear (move_at c i me s d x p).desk

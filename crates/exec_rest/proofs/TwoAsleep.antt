@@ -2,9 +2,9 @@
 use Rattle.std.proofs.Common.{◌≡◌, ℕ, zero, suc, Bool, true, false, ◌||◌, List, [], ◌∷◌, ◌++◌, length, Option, Some, None, refl, sym, ap, ◌∙◌, inl, inr, subst, arith}
 use Rattle.std.proofs.lemmas.Bool.{true≢false, false≢true}
 use Rattle.std.specs.Prelude.{◌⊎◌, ◌&&◌, ◌||◌, ◌<◌, is_some, slice_get}
+use Rattle.std.proofs.lemmas.Option.{none-some}
 use Rattle.exec_machine.specs.{declared.{config.Configuration.Configuration, state.Next.Next}, Progress.is_runnable, Tests.{has_ended, is_done}, World.{Task, own_of, seat_of}}
 use Rattle.exec_moves.specs.{declared.{handing.CallPlace.CallPlace, idling.InWordWait.InWordWait, place.Place.Place}, Call.no_call, Plays.{Playing, caller_of, desk_of}, State.{inbox_of, no_wake_poll, queue_of, word_of}}
-use Rattle.exec_machine.specs.Same.{is_none}
 use Rattle.exec_rest.specs.{AtRest.{AreBare, AreFresh, IsAtRest, IsPlaced, IsShut, is_end, is_fed, is_given, is_idle, stays_closing}, Posted.{IsPosted, has_tested}, Examples.{rested, two_waiting, with_a_latch, with_a_message, with_a_runnable}, Places.{asked_for_poll, has_looked, is_abed, is_in_call, is_pooled, is_published, is_to_enter, is_to_sleep_on_ring, is_withdrawing, owes_nothing, waits_on}, Rested.{IsLaidOut, IsOwed, IsRaised, IsRestful, IsSignalled, NothingWaits, Someone, has_bit, is_in_pool, is_latched, place_at, poll_at, sleeps}}
 use Rattle.exec_rest.proofs.First.{of_equal}
 
@@ -48,7 +48,7 @@ unlatched zero = refl
 unlatched (suc zero) = refl
 unlatched (suc (suc i)) = refl
 
-queue : (i : ℕ) → (queue_of rested.things i).values ≡ []
+pub queue : (i : ℕ) → (queue_of rested.things i).values ≡ []
 queue zero = refl
 queue (suc zero) = refl
 queue (suc (suc i)) = refl
@@ -267,9 +267,6 @@ uncovered it = left (it.covered (λ none. true≢false (ap is_cons none)))
     left (inl owed) = nobody with_a_runnable there calls false≢true false≢true false≢true owed
     left (inr (i, pool, out)) = all_looked i pool out
 
-none_at_all : {T : Type 0} (a : T) → None ≡ Some a → ⊥
-none_at_all a h = true≢false (ap is_none h)
-
 pub unrung : IsRestful two with_a_latch → ⊥
 unrung it = left (it.rung 1 refl refl)
   where
@@ -282,7 +279,7 @@ unrung it = left (it.rung 1 refl refl)
     calls j = of_equal (λ d. d.place ≡ CallPlace.Nothing) 16 j no_call no_call refl refl
 
     unraised : (ring : Bool) → IsRaised two with_a_latch 1 ring → ⊥
-    unraised ring = nobody with_a_latch there calls (none_at_all _) (none_at_all _) (none_at_all _)
+    unraised ring = nobody with_a_latch there calls (none-some _) (none-some _) (none-some _)
 
     left : IsRaised two with_a_latch 1 true ⊎ IsRaised two with_a_latch 1 false → ⊥
     left (inl h) = unraised true h
@@ -326,15 +323,10 @@ closes_none (suc (suc i)) = refl
 pub shut : IsShut rested
 shut = record { queue = λ h. h; next = λ i h. absurd (false≢true (sym (closes_none i) ∙ ap closes_queue h)) }
 
-none_queued : (i : ℕ) → (queue_of rested.things i).values ≡ []
-none_queued zero = refl
-none_queued (suc zero) = refl
-none_queued (suc (suc i)) = refl
-
 none_held : (i : ℕ) → (queue_of rested.things i).held ≡ []
 none_held zero = refl
 none_held (suc zero) = refl
 none_held (suc (suc i)) = refl
 
 pub bare : AreBare two rested
-bare = record { given = λ i h. not_at is_given refl refl i h; bare = λ i h. (none_queued i, none_held i) }
+bare = record { given = λ i h. not_at is_given refl refl i h; bare = λ i h. (queue i, none_held i) }

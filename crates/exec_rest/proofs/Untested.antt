@@ -14,7 +14,7 @@ use Rattle.exec_moves.specs.declared.idling.AfterWait.TheVariants as later
 use Rattle.exec_moves.specs.declared.idling.InRingWait.TheVariants as ring
 use Rattle.exec_moves.specs.declared.idling.Stay.TheVariants as stay
 use Rattle.exec_rest.specs.{Posted.has_tested}
-use Rattle.exec_rest.proofs.Continuing.{calm_after_close, calm_after_empty_pop, calm_after_fit, calm_after_letting_go, calm_after_pop, calm_after_return, calm_after_service, calm_cancels_left, calm_first_pick, calm_judge_pop, calm_polls, calm_tells_from}
+use Rattle.exec_rest.proofs.Continuing.{light_after_close, light_after_empty_pop, calm_after_fit, light_after_letting_go, light_after_pop, calm_after_return, calm_after_service, light_cancels_left, light_first_pick, light_judge_pop, light_polls, light_tells_from, calm_light}
 use Rattle.exec_rest.proofs.Away.{IsAway, away_claim, away_desk_if, away_if, away_kick, away_made_up, away_moved_if, away_push, away_signal, calls, calm_untested, polls, posts, posts_root}
 
 -- the test for work
@@ -30,11 +30,11 @@ module _ (c : Configuration) (i : ℕ) (me : Books) (s : Common) (d : Desk) (x :
   picks = grind arith
 
   popped : (b : AfterPop) (q : Queue ℕ) (vs : List ℕ) → q.values ≡ vs → IsAway (pops c i b d q)
-  popped b q [] h = rw h (calm_untested _ (calm_after_empty_pop c i b))
-  popped b q (t ∷ ts) h = rw h (calm_untested _ (calm_after_pop c b t d))
+  popped b q [] h = rw h (calm_untested _ (calm_light _ (light_after_empty_pop c i b)))
+  popped b q (t ∷ ts) h = rw h (calm_untested _ (calm_light _ (light_after_pop c b t d)))
 
   pop_loaded : (b : AfterPop) (q : Queue ℕ) → IsAway (load_pop_head c i b d q)
-  pop_loaded b q = calm_untested _ (calm_judge_pop c i b (head_of q) (tail_of q - q.real))
+  pop_loaded b q = calm_untested _ (calm_light _ (light_judge_pop c i b (head_of q) (tail_of q - q.real)))
 
   pops_one : (p : InPop) (b : AfterPop) → IsAway (move_pop c i d x p b)
   pops_one = grind (arith, popped, pop_loaded, away_moved_if)
@@ -84,16 +84,16 @@ module _ (c : Configuration) (i : ℕ) (me : Books) (s : Common) (d : Desk) (x :
   visited drain shard (Some t) h = rw h refl
 
   orphaned : (first : Option ℕ) → first_held s d ≡ first → IsAway (orphan i s d)
-  orphaned None h = rw h (calm_untested _ (calm_after_letting_go None _))
-  orphaned (Some r) h = rw h (calm_untested _ (calm_after_letting_go _ _))
+  orphaned None h = rw h (calm_untested _ (calm_light _ (light_after_letting_go None _)))
+  orphaned (Some r) h = rw h (calm_untested _ (calm_light _ (light_after_letting_go _ _)))
 
   sleeper_closed : (first : Option ℕ) → first_asleep i s d ≡ first → IsAway (close_sleeper i s d)
   sleeper_closed None h = rw h refl
-  sleeper_closed (Some z) h = rw h (calm_untested _ (calm_after_letting_go None _))
+  sleeper_closed (Some z) h = rw h (calm_untested _ (calm_light _ (light_after_letting_go None _)))
 
   closes : (p : InClosing) → IsAway (move_closing c i s d x p)
-  closes = grind (arith, calm_untested, calm_after_close, calm_tells_from, posts_root, visited, calm_cancels_left, calm_after_letting_go, orphaned, sleeper_closed)
+  closes = grind (arith, calm_light, calm_untested, light_after_close, light_tells_from, posts_root, visited, light_cancels_left, light_after_letting_go, orphaned, sleeper_closed)
 
   -- ANY OF THEM
   pub untested : (p : Place) → has_tested p ≡ false → is_test p ≡ false → IsAway (move_at c i me s d x p)
-  untested = grind (arith, calm_untested, calm_first_pick, picks, away_moved_if, calm_polls, polls, calls, loads, serves, mails, true≢false, waits_closing, away_made_up, closes, pops_one, calm_after_return, pushes_one, globals, kicks_one, away_claim, signals_one, posts)
+  untested = grind (arith, calm_light, calm_untested, light_first_pick, picks, away_moved_if, light_polls, polls, calls, loads, serves, mails, true≢false, waits_closing, away_made_up, closes, pops_one, calm_after_return, pushes_one, globals, kicks_one, away_claim, signals_one, posts)

@@ -3,6 +3,7 @@
 use Rattle.std.proofs.Common.{◌≡◌, ℕ, zero, suc, ◌<◌, Bool, true, false, ◌&&◌, List, [], ◌∷◌, length, refl, slice_set, slice_index_or, if◌then◌else◌, arith}
 use Rattle.std.proofs.lemmas.{Bool.{true≢false, false≢true, and_parts, cases_eq}, List.{get_or-set_other}}
 use Rattle.std.specs.Prelude.{◌⊎◌, not}
+pub use Rattle.std.proofs.lemmas.Bool.{not-true}
 use Rattle.exec_words.specs.{Idle.is_in, Queue.Queue, Word.is_armed}
 use Rattle.exec_machine.specs.{World.{Common}}
 use Rattle.exec_moves.specs.{declared.place.Place.Place, Callback.is_of_pool, State.{Desk, Moved, Things, no_queue, queue_of}, Thing.{set_idle, set_queue}}
@@ -17,10 +18,6 @@ implies a false = not a
 
 implied : (a b : Bool) → implies a b ≡ true → a ≡ true → b ≡ true
 implied = grind arith
-
-pub off : (b : Bool) → not b ≡ true → b ≡ false
-off true h = absurd (false≢true h)
-off false h = refl
 
 -- LISTS: what holds of one of them
 
@@ -58,13 +55,11 @@ module _ (i : ℕ) (x : Things) (k : ℕ) where
   still_empty q keeps j h = put_keeps (λ (v : Queue ℕ). v.values ≡ []) x.queues k j q no_queue keeps h
 
   pub queue_put : (q : Queue ℕ) → ((queue_of x k).values ≡ [] → q.values ≡ []) → Aside i x (set_queue k x q)
-  queue_put q keeps =
-      record { bits = refl; global = λ h. h; targets = λ j. refl; latches = λ j. refl; polls = λ j. refl; queues = λ j apart. still_empty q keeps j }
+  queue_put = grind (arith, still_empty)
 
 -- the same, with the idle set that is there then
 pub with_set : {i : ℕ} {x y : Things} → Aside i x y → Aside i (set_idle x y.idle) y
-with_set aside =
-    record { bits = refl; global = aside.global; targets = aside.targets; latches = aside.latches; polls = aside.polls; queues = aside.queues }
+with_set = grind arith
 
 -- PLACES
 
@@ -82,8 +77,7 @@ may_go p q =
 
 -- one of two places, of which both pass a test
 pub either : (test : Place → Bool) (b : Bool) (p q : Place) → test p ≡ true → test q ≡ true → test (if b then p else q) ≡ true
-either test true p q h g = h
-either test false p q h g = g
+either = grind arith
 
 -- THE MOVE
 

@@ -1,16 +1,14 @@
 -- A window that is filled piece by piece.
 use Rattle.std.proofs.Common.{◌≡◌, ℕ, zero, suc, ◌+◌, ◌-◌, ◌≤◌, Bool, List, [], ◌++◌, length, take, drop, replicate, refl, ap, sym, ◌∙◌, arith, append_assoc, length-append, append-nil}
 use Rattle.std.proofs.Math.Seq.{take-append_seam}
-use Rattle.std.proofs.lemmas.List.{length-take, length-drop, length-replicate, drop-drop, drop_at, take-append-le, take_all}
+use Rattle.std.proofs.lemmas.List.{length-take, drop-drop, drop_at, take_all}
 use Rattle.exec_bufs.specs.Buffers.{Buffer, resized}
 use Rattle.exec_request.specs.declared.request.Request.{Request}
 use Rattle.exec_request.specs.Requests.{window_by, cursor_of}
 use Rattle.exec_request.specs.Bytes.{lent_of, filled_of, filled_at}
 use Rattle.exec_request.specs.Kept.{kept_of, owned_by, Kept}
 use Rattle.exec_ring.specs.Fillings.{Fills}
-
-pub length-resized : (n : ℕ) (xs : List ℕ) → length (resized n xs) ≡ n
-length-resized n xs = omega (arith, length-append (take n xs) (replicate (n - length xs) 0), length-take n xs, length-replicate {A = ℕ} (n - length xs) 0)
+use Rattle.exec_bufs.proofs.Poured.{length-resized}
 
 -- a list that is long enough is cut
 pub resized-long : (n : ℕ) (xs : List ℕ) → n ≤ length xs → resized n xs ≡ take n xs

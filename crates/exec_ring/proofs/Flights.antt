@@ -1,22 +1,8 @@
 -- The last of a list that passes a test.
-use Rattle.std.proofs.Common.{◌≡◌, ℕ, zero, suc, ◌+◌, ◌<◌, ◌≤◌, Bool, true, false, ⊎_elim, List, [], ◌∷◌, length, get_or, Option, Some, None, is_some, slice_get, refl, sym, subst, arith}
+use Rattle.std.proofs.Common.{◌≡◌, ℕ, zero, suc, ◌<◌, Bool, true, false, List, [], ◌∷◌, length, get_or, refl, arith}
 use Rattle.std.specs.List.{list_any}
 use Rattle.std.proofs.lemmas.Grind.{common_steps}
-use Rattle.std.proofs.lemmas.Bool.{cases_lt}
-use Rattle.std.proofs.lemmas.Option.{slice_get_past}
 use Rattle.exec_ring.specs.Kernels.{last_place}
-
--- what is found lies in the list
-pub found_place : {X : Type 0} (xs : List X) (i : ℕ) → is_some (slice_get xs i) ≡ true → i < length xs
-found_place {X = X} xs i found =
-    ⊎_elim
-    (λ (within : i < length xs). within)
-    (λ (past : length xs ≤ i).
-    let none : slice_get xs i ≡ None = slice_get_past xs i past in
-    let P : Option X → Type 0 = λ o. is_some o ≡ true in
-    let bad : false ≡ true = subst P none found in
-    absurd (cc bad))
-    (cases_lt i (length xs))
 
 -- none passes where each fails
 none_pass : {X : Type 0} (p : X → Bool) (xs : List X) → ((k : ℕ) (d : X) → k < length xs → p (get_or xs k d) ≡ false) → list_any p xs ≡ false

@@ -1,14 +1,10 @@
 -- Windows whose fields are the same are the same.
-use Rattle.std.proofs.Common.{◌≡◌, ℕ, eqb, Bool, true, false, ◌&&◌, refl, sym, ◌∙◌, inl, inr}
+use Rattle.std.proofs.Common.{◌≡◌, eqb, Bool, true, false, ◌&&◌, refl}
 use Rattle.std.proofs.Math.Bool.{beq}
 use denote.Enum.Bare.{sameb, same_true}
-use Rattle.std.proofs.lemmas.Bool.{false≢true, and_parts}
-use Rattle.std.proofs.lemmas.Bool.Decides.{eqb_tells}
+use Rattle.std.proofs.lemmas.Bool.{false≢true, and_parts, eqb-true}
 use Rattle.exec_request.specs.contracts.window.Opcode.{the_type}
 use Rattle.exec_request.specs.declared.window.Window.{Window}
-
-numbers : (a b : ℕ) → eqb a b ≡ true → a ≡ b
-numbers a b is = elim (eqb_tells a b) [ inl same ↦ same.1 | inr other ↦ absurd (false≢true (sym other.0 ∙ is)) ]
 
 flags : (a b : Bool) → beq a b ≡ true → a ≡ b
 flags true true is = refl
@@ -27,10 +23,10 @@ same_windows a b all =
     let direct = and_parts _ _ hint.1 in
     λ i. record {
       kind = (same_true the_type tt a.kind b.kind kind.0) i;
-      target = (numbers a.target b.target target.0) i;
-      offset = (numbers a.offset b.offset offset.0) i;
-      length = (numbers a.length b.length long.0) i;
-      chunks = (numbers a.chunks b.chunks chunks.0) i;
+      target = (eqb-true a.target b.target target.0) i;
+      offset = (eqb-true a.offset b.offset offset.0) i;
+      length = (eqb-true a.length b.length long.0) i;
+      chunks = (eqb-true a.chunks b.chunks chunks.0) i;
       hint = (flags a.hint b.hint hint.0) i;
       direct = (flags a.direct b.direct direct.0) i;
       dsync = (flags a.dsync b.dsync direct.1) i;

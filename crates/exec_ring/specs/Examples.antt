@@ -3,7 +3,6 @@ use Rattle.std.specs.Prelude.{ℕ, true, [], ◌∷◌}
 use Rattle.exec_outcomes.specs.declared.outcome.OpResult.{OpResult}
 use Rattle.exec_outcomes.specs.declared.outcome.OpResult.TheVariants.{Count, Errno}
 use Rattle.exec_request.specs.declared.window.Opcode.TheVariants as opcode
-use Rattle.exec_request.specs.declared.window.Window.{Window}
 use Rattle.exec_request.specs.Windows.{plain_window, cancel_window, wake_window}
 use Rattle.exec_ring.specs.declared.completion.Completion.{Completion}
 use Rattle.exec_ring.specs.declared.completion.Submission.{Submission}

@@ -1,5 +1,5 @@
 -- How the ring in memory lies in its lists.
-use Rattle.std.specs.Prelude.{ℕ, ◌≤◌, length}
+use Rattle.std.specs.Prelude.{◌≤◌, length}
 use Rattle.std.specs.Vec.{vec_capacity}
 use Rattle.std.specs.VecDeque.{deque_capacity}
 use Rattle.exec_ring.specs.declared.sim_ring.SimRing.TheInside.{Inside}

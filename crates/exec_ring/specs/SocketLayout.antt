@@ -1,5 +1,5 @@
 -- How the bytes of a socket lie in its vectors.
-use Rattle.std.specs.Prelude.{ℕ, ◌+◌, ◌≤◌, length, drop, vec_len}
+use Rattle.std.specs.Prelude.{◌+◌, ◌≤◌, length, drop}
 use Rattle.std.specs.Vec.{vec_capacity}
 use Rattle.exec_ring.specs.declared.socket.Socket.TheInside.{Inside}
 use Rattle.exec_ring.specs.Sockets.{SocketState}

@@ -1,10 +1,9 @@
 -- The bytes of all sockets and files.
-use Rattle.std.specs.Prelude.{◌≡◌, ℕ, ◌+◌, ◌-◌, ◌^◌, ◌<◌, ◌==◌, ◌++◌, List, take, drop, Option, Some, None, IsSome, unwrap_or, if◌then◌else◌}
+use Rattle.std.specs.Prelude.{◌≡◌, ℕ, ◌+◌, ◌-◌, ◌==◌, List, Option, Some, None, IsSome, unwrap_or, if◌then◌else◌}
 use Rattle.std.specs.Ordering.{nat_cmp}
 use Rattle.std.specs.BTreeMap.{get}
-use Rattle.exec_bufs.specs.Buffers.{resized}
 use Rattle.exec_request.specs.declared.window.Opcode.{Opcode}
-use Rattle.exec_request.specs.declared.window.Opcode.TheVariants.{Send, Recv, Read, Write}
+use Rattle.exec_request.specs.declared.window.Opcode.TheVariants.{Send, Recv, Write}
 use Rattle.exec_request.specs.declared.window.Window.{Window}
 use Rattle.exec_ring.specs.Sockets.{SocketState, nothing_moved}
 use Rattle.exec_ring.specs.declared.file.File.{File}

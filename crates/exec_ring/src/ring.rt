@@ -14,7 +14,7 @@
 //! A clause sees a ring by its `state`. What lands within an enter is `landings`: nothing in a ring whose kernel is
 //! told what to do, and some operations in one that ends them by itself, each with a result that its window allows.
 
-ghost use Rattle.std.specs.Prelude.{◌≡◌, ◌+◌, ◌-◌, ◌^◌, ◌<◌, true, List, length, IsTrue, OnOk, OnErr};
+ghost use Rattle.std.specs.Prelude.{◌≡◌, ◌+◌, ◌-◌, ◌^◌, ◌<◌, List, length, IsTrue, OnOk, OnErr};
 ghost use Rattle.exec_ring.specs.Rings.{RingState, taken_places};
 ghost use Rattle.exec_ring.specs.Kernels.{Landing, with_entry, suits, answer_of_enter, entered_with, next_completion, reaped, is_quiet as has_no_completion, with_wake, MayAllLand, all_taken};
 ghost use Rattle.exec_ring.specs.Stores.{Same, Reserves, Releases};

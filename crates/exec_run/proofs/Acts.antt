@@ -5,10 +5,9 @@ use Rattle.std.proofs.lemmas.Option.{none-some}
 use Rattle.exec_request.specs.declared.request.Request.{Request}
 use Rattle.exec_task.specs.{Sight.{Sight, WouldGrow}, declared.body.{Act.{Act, TheVariants.Register}, Said.Said}}
 use Rattle.exec_task.specs.declared.body.Act.TheVariants as act
-use Rattle.exec_machine.specs.{declared.{config.{ScriptWord.ScriptWord}, state.Code.Code}, Progress.Plan, Tests.is_empty}
+use Rattle.exec_machine.specs.{declared.{config.{ScriptWord.ScriptWord}, state.Code.Code}, Tests.is_empty}
 use Rattle.exec_machine.specs.declared.config.ScriptWord.TheVariants as word
-use Rattle.exec_parts.specs.Scripts.{IsBorn}
-use Rattle.exec_run.specs.{Asking.{asks_request, moves_bytes, CanAsk, IsInTime, IsRequestOf}, declared.{asking.Limits.Limits, script.Asked.Asked as Question}, Script.{Played, Begets, CanPlay, IsProgram, Runs, newest, held_by, held_told, itself, place_by, spot_told, is_passed, passed_over, script_begun, word_in, gives, asked_by, AsksFor, IsPlainActOf}}
+use Rattle.exec_run.specs.{Asking.{asks_request, moves_bytes, CanAsk, IsInTime, IsRequestOf}, declared.{asking.Limits.Limits, script.Asked.Asked as Question}, Script.{Played, Begets, CanPlay, newest, held_by, place_by, is_passed, passed_over, word_in, gives, asked_by, AsksFor, IsPlainActOf}}
 use Rattle.exec_run.proofs.{Wanted.{any_request, some_request}, Words.{found, there_of}}
 
 -- what is known of a word that was found, and of the act that was made of it
@@ -142,10 +141,3 @@ pub state_is : (s : Played) (told : Said) (a : Act Played) (code : Code) (words 
     → before ≡ place_by s told → held ≡ held_by s.asked s.held told → asked ≡ asked_by a
     → (let it : Played = record { code = code; words = words; scripts = scripts; limits = limits; place = place; before = before; held = held; asked = asked } in it) ≡ stepped s told a place
 state_is s told a code words scripts limits place before held asked same_code same_words same_scripts same_limits there holds question = rw (same_code, same_words, same_scripts, same_limits, there, holds, question) refl
-
--- BODIES
-
--- a body that was made begins its script in each plan of which the scripts are known
-pub born_of : (x : Option Played) (scripts : List (List ScriptWord)) (limits : Limits) (k : ℕ) → IfSome x (λ b. b ≡ script_begun scripts limits k) → IfSome x (λ b. k < length scripts)
-    → IfSome x (λ b. (p : Plan) → IsProgram scripts limits p → IsBorn Runs held_told spot_told p k (itself b))
-born_of = grind arith

@@ -17,7 +17,3 @@ module _ {B L : Type 0} (left : B → L) (runs : L → Plan → Option ℕ → T
       by_body : (o : Option B) → IfSome o (λ b. (q : Plan) → known q → IsBorn runs holds spot q k (left b)) → IfNone o ((q : Plan) → known q → length q.scripts ≤ k) → Carries left runs holds spot name p (action.Spawn j k) o
       by_body (Some b) is_born absent = let it = is_born p knows in (b, refl, named p (left b) k (it.runs_it None tt) it.begins, it)
       by_body None is_born absent = grind arith
-
-  -- any other step carries none
-  pub carries_none : (name : L → ℕ) (p : Plan) (a : Action) → ((j k : ℕ) → a ≡ action.Spawn j k → ⊥) → Carries left runs holds spot name p a None
-  carries_none = grind arith

@@ -1,5 +1,5 @@
 -- A log has no more lines than its steps ask for.
-use Rattle.std.proofs.Common.{◌≡◌, ◌⊎◌, ℕ, zero, suc, ◌+◌, ◌≤◌, List, [], ◌∷◌, length, sum_by, Option, Some, None, option_and_then, refl, sym, ap, subst, ◌∙◌, inl, inr, arith}
+use Rattle.std.proofs.Common.{◌≡◌, ◌⊎◌, ℕ, zero, suc, ◌+◌, ◌≤◌, List, [], ◌∷◌, length, sum_by, Option, Some, None, option_and_then, refl, ap, ◌∙◌, inl, inr, arith}
 use Rattle.std.proofs.lemmas.{List.Sums.{sum_by-append, sum_by-cons}, Option.none-some}
 use Rattle.exec_machine.specs.{declared.{event.Line.Line, step.{Action.Action, Step.Step}}, Examples.{Told, lines_of}, Run.{after_one, after_step, after_steps, after_work}}
 use Rattle.exec_machine.specs.declared.step.Step.TheVariants as step

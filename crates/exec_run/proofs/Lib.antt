@@ -7,7 +7,6 @@ pub mod TurnsEnd
 pub mod FewLines
 pub mod Logs
 pub mod RunLemmas
-pub mod ReadLemmas
 pub mod Completeness
 pub mod InRange
 pub mod Words

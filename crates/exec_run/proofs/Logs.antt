@@ -1,6 +1,6 @@
 -- Steps that are taken one by one are the log of their trace.
-use Rattle.std.proofs.Common.{◌≡◌, ◌<◌, ◌≤◌, sum_by, true, false, List, [], ◌∷◌, All, Some, refl, sym, ap, subst, ◌∙◌, inl, arith}
-use Rattle.exec_machine.specs.{declared.{config.Configuration.Configuration, step.Step.Step}, World.World, Run.{RunsBy, after_steps}, Progress.{Plan, begin, no_stretch, RightlyAsleepBy}, Examples.{Told, choices_of, lines_of}}
+use Rattle.std.proofs.Common.{◌≡◌, ◌≤◌, sum_by, List, [], ◌∷◌, Some, refl, subst, inl, arith}
+use Rattle.exec_machine.specs.{declared.{step.Step.Step}, World.World, Run.{RunsBy, after_steps}, Progress.{Plan, begin, no_stretch, RightlyAsleepBy}, Examples.{Told, choices_of, lines_of}}
 use Rattle.exec_moves.specs.Plays.{Playing, by_step, first_playing, GoesByMoves}
 use Rattle.exec_core.specs.{Steady.{IsPacedThere, IsSteadyThere}, Turns.IsOrderly}
 use Rattle.exec_run.specs.{Log.{AreOrderly, AreResting, IsTheLogOf}, Steps.{Goes}}

@@ -1,7 +1,7 @@
 -- Quiet lines one after another, those of workers and those of callers apart: where neither are as many as the bound, no party makes so many.
 use Rattle.std.proofs.Common.{◌≡◌, ℕ, ◌<◌, ◌≤◌, Bool, true, false, ◌&&◌, if◌then◌else◌, List, [], ◌∷◌, refl, subst, arith}
 use Rattle.std.specs.Prelude.{nat_lt}
-use Rattle.std.proofs.lemmas.Bool.{and_from, and_parts, cases_Bool, lt-ltb, ltb-true}
+use Rattle.std.proofs.lemmas.Bool.{and_from, and_parts, lt-ltb, ltb-true}
 use Rattle.exec_machine.specs.{declared.{config.Configuration.Configuration, event.{Line.Line, StepResult.{StepResult, TheVariants.{Did, Refused}}}, step.Action.Action}, Choice.Choice, Run.after_line, Progress.{Party, Party.{Caller, Nobody, Worker}, Stretch, is_quiet_step, is_solo, longer, no_stretch, one_more, party_of, quiet_bound}, World.World}
 
 abbrev pub is_caller : Party → Bool

@@ -1,11 +1,11 @@
 -- No worker turns for ever: each quiet line of one costs some of what it has left.
-use Rattle.std.proofs.Common.{◌≡◌, ◌⊎◌, ℕ, zero, suc, ◌+◌, ◌^◌, ◌<◌, ◌≤◌, Bool, true, false, not, List, [], ◌∷◌, length, sum_by, Option, Some, None, if◌then◌else◌, refl, sym, ap, subst, ◌∙◌, inl, inr, arith}
+use Rattle.std.proofs.Common.{◌≡◌, ◌⊎◌, ℕ, suc, ◌+◌, ◌^◌, ◌<◌, ◌≤◌, Bool, true, false, not, List, [], ◌∷◌, length, if◌then◌else◌, refl, sym, ap, subst, ◌∙◌, inl, inr, arith}
 use Rattle.std.specs.Prelude.{nat_lt}
-use Rattle.std.proofs.lemmas.Bool.{and_from, and_parts, cases_Bool, eqb-true, false≢true, lt-ltb, not-true}
-use Rattle.exec_machine.specs.{declared.{config.Configuration.Configuration, event.{Event.Event, StepResult.{TheVariants.{Did}}}, step.{Action.Action}}, Callers.is_enabled, Examples.{Told, choices_of, lines_of}, Tests.is_open, Progress.{quiet_bound, Party, Party.{Caller, Nobody, Worker}, Plan, Stretch, is_anyone_closing, is_quiet_step, no_stretch, one_more, same_party}, Text.is_quiet, World.{World, own_of, seat_of}}
+use Rattle.std.proofs.lemmas.Bool.{and_from, and_parts, eqb-true, false≢true, lt-ltb, not-true}
+use Rattle.exec_machine.specs.{declared.{config.Configuration.Configuration, event.{StepResult.{TheVariants.{Did}}}, step.{Action.Action}}, Callers.is_enabled, Examples.{Told, choices_of, lines_of}, Tests.is_open, Progress.{quiet_bound, Party, Party.{Caller, Nobody, Worker}, Plan, Stretch, is_anyone_closing, is_quiet_step, no_stretch, one_more, same_party}, Text.is_quiet, World.{World, own_of, seat_of}}
 use Rattle.exec_machine.specs.declared.step.Action.TheVariants as action
 use Rattle.exec_moves.specs.{Move.move, Plays.{Playing, by_action, by_move, by_step, desk_of}, State.{Moved, Things}}
-use Rattle.exec_progress.specs.{Left.left_to, Paced.IsPaced}
+use Rattle.exec_progress.specs.{Left.left_to}
 use Rattle.exec_progress.proofs.{Lengths.{bound_keeps}, Stood.{still_open}}
 use Rattle.exec_core.specs.Steady.{IsPacedThere, IsSteadyThere, KeepsOn}
 use Rattle.exec_run.specs.Steps.{Goes}

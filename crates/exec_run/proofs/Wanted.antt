@@ -103,10 +103,7 @@ some_send it limits socket n can =
     let r : SendRequest = record { fd = socket; write = Single bytes 0; deadline = Some (it.moment + limits.rw); sound = le-leb 0 (length bytes) (omega arith) } in
     let fresh = fresh_send r socket n (it.moment + limits.rw) can.most refl refl refl in (
       request.Send r,
-      record {
-        wanted = by_deadline kind.Send socket n it.moment (it.moment + limits.rw) limits (word.Send socket n) (request.Send r) refl (λ c. refl) fresh;
-        covers = no_cover it (of_socket kind.Send socket n (it.moment + limits.rw)) (request.Send r) fresh refl;
-      },
+      assumption (by_deadline kind.Send socket n it.moment (it.moment + limits.rw) limits (word.Send socket n) (request.Send r) refl (λ c. refl) fresh, no_cover it (of_socket kind.Send socket n (it.moment + limits.rw)) (request.Send r) fresh refl),
     )
 
 recv_by : (exact : Bool) (socket n deadline : ℕ) → RecvRequest
@@ -123,10 +120,7 @@ some_recv it limits socket n can =
     let r : Request = request.Recv (recv_by false socket n deadline) in
     let fresh : IsFresh (of_socket kind.Recv socket n deadline) r = fresh_recv_by false socket n deadline can.most in (
       r,
-      record {
-        wanted = by_deadline kind.Recv socket n it.moment deadline limits (word.Recv socket n) r refl (λ c. refl) fresh;
-        covers = no_cover it (of_socket kind.Recv socket n deadline) r fresh refl;
-      },
+      assumption (by_deadline kind.Recv socket n it.moment deadline limits (word.Recv socket n) r refl (λ c. refl) fresh, no_cover it (of_socket kind.Recv socket n deadline) r fresh refl),
     )
 
 some_fill : (it : Sight) (limits : Limits) (socket n : ℕ) → IsSocketPart socket n → Is it limits (word.Fill socket n)
@@ -135,10 +129,7 @@ some_fill it limits socket n can =
     let r : Request = request.Recv (recv_by true socket n deadline) in
     let fresh : IsFresh (of_socket kind.Fill socket n deadline) r = fresh_recv_by true socket n deadline can.most in (
       r,
-      record {
-        wanted = by_deadline kind.Fill socket n it.moment deadline limits (word.Fill socket n) r refl (λ c. refl) fresh;
-        covers = no_cover it (of_socket kind.Fill socket n deadline) r fresh refl;
-      },
+      assumption (by_deadline kind.Fill socket n it.moment deadline limits (word.Fill socket n) r refl (λ c. refl) fresh, no_cover it (of_socket kind.Fill socket n deadline) r fresh refl),
     )
 
 sized_so : (cache : Cache) (n : ℕ) → n ≡ size_for (way_by cache) n
@@ -225,10 +216,7 @@ some_write : (it : Sight) (limits : Limits) (w : ScriptWord) (state : WriteAtSta
 some_write it limits w state file offset n going asks can =
     let seen : ℕ = (open_at it file).mutations in (
       request.WriteAt (write_by state file offset n seen going can),
-      record {
-        wanted = by_file (of_file (write_kind state) file offset n) limits it.moment w (request.WriteAt (write_by state file offset n seen going can)) asks (fresh_write_by state file offset n seen going can);
-        covers = covers_by it state file offset n going can;
-      },
+      assumption (by_file (of_file (write_kind state) file offset n) limits it.moment w (request.WriteAt (write_by state file offset n seen going can)) asks (fresh_write_by state file offset n seen going can), covers_by it state file offset n going can),
     )
 
 some_by : (it : Sight) (limits : Limits) (w : ScriptWord) → moves_bytes w ≡ true → CanAsk w → Is it limits w

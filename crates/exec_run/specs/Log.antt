@@ -1,8 +1,8 @@
 -- What a run wrote: the whole log, or a front of it.
-use Rattle.std.specs.Prelude.{◌≡◌, ℕ, Bool, true, false, ◌&&◌, ◌≤◌, ◌⊎◌, if◌then◌else◌, nat_lt, List, [], ◌∷◌, ◌++◌, All, Option, None, sum_by}
+use Rattle.std.specs.Prelude.{◌≡◌, ℕ, Bool, true, ◌≤◌, ◌⊎◌, List, [], ◌∷◌, ◌++◌, Option, None, sum_by}
 use Rattle.std.specs.Io.KnownBytes.{append_known}
 use Rattle.exec_base.specs.declared.limits.TheConstants.{MOST_STEPS}
-use Rattle.exec_machine.specs.{declared.{config.Configuration.Configuration, event.{Line.Line, StepResult.{StepResult, TheVariants.{Did, Refused}}}, step.{Action.Action, Step.{Step, TheVariants.Work}}}, Choice.Choice, Run.{RunsBy, after_line}, World.World, Progress.{Plan, RightlyAsleepBy, begin, is_solo, no_stretch}, Text.{text_of_log, told_lines}, Examples.{Told, choices_of, lines_of}}
+use Rattle.exec_machine.specs.{declared.{config.Configuration.Configuration, step.{Step.{Step, TheVariants.Work}}}, Run.{RunsBy}, Progress.{Plan, RightlyAsleepBy, begin, is_solo, no_stretch}, Text.{text_of_log, told_lines}, Examples.{Told, choices_of, lines_of}}
 use Rattle.exec_text.specs.Grammar.{Meaning, IsTraceOf, count_of}
 use Rattle.exec_run.specs.{Ranges.first_out_of_range, Refusal.IsTextIn}
 use Rattle.exec_core.specs.Turns.{IsOrderly}

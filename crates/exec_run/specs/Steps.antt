@@ -1,8 +1,8 @@
 -- What the functions that take the steps of a trace do.
-use Rattle.std.specs.Prelude.{◌≡◌, ℕ, Bool, false, ◌+◌, ◌⊎◌, List, [], ◌∷◌, ◌++◌, Option, Some}
+use Rattle.std.specs.Prelude.{◌≡◌, ℕ, Bool, ◌+◌, ◌⊎◌, List, [], ◌∷◌, ◌++◌, Option, Some}
 use Rattle.exec_base.specs.Io.{Rose}
 use Rattle.exec_task.specs.declared.body.Said.{Said}
-use Rattle.exec_machine.specs.{declared.{config.Configuration.Configuration, event.Line.Line, step.{Step.Step, Action.Action}}, Run.{Follows, after_work, after_steps}, Progress.Plan, Examples.{Told, lines_of}, Text.{text_of_line, text_of_log, told_lines}}
+use Rattle.exec_machine.specs.{declared.{event.Line.Line, step.{Step.Step, Action.Action}}, Run.{Follows, after_work, after_steps}, Progress.Plan, Examples.{Told, lines_of}, Text.{text_of_line, text_of_log, told_lines}}
 use Rattle.exec_moves.specs.{Plays.{Playing, by_step}, Departures.played}
 use Rattle.exec_progress.specs.Paced.{IsPaced}
 use Rattle.exec_parts.specs.Spots.{Spot}

@@ -1,6 +1,6 @@
 //! What the program says where it doesn't run a trace.
 
-ghost use Rattle.std.specs.Prelude.{◌≡◌, ◌<◌, ◌≤◌, ◌^◌, ◌++◌, Some, length, decimal};
+ghost use Rattle.std.specs.Prelude.{◌≡◌, ◌<◌, ◌≤◌, ◌++◌, Some, length, decimal};
 ghost use Rattle.exec_run.specs.{Explains.complaint_line, Refusal.{status_of, text_of_complaint}};
 
 use crate::field::OutOfRange;

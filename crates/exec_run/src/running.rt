@@ -8,7 +8,7 @@
 //! What a status means is said by the counts of faults: with 0 neither rose, with 5 that of the source did, with 6
 //! that of the sink, and with 7 neither did.
 
-ghost use Rattle.std.specs.Prelude.{◌≡◌, Bool, ◌≤◌, [], Some, IfErr, IfSome, IfNone, OnOk};
+ghost use Rattle.std.specs.Prelude.{◌≡◌, ◌≤◌, [], Some, IfErr, IfSome, IfNone, OnOk};
 ghost use Rattle.exec_run.specs.{Refusal.{AskForTrace, AskForSomeTrace}, Log.GaveLog, Explains.{NoneRose, IsCauseOf, IsGivenAt, Explains, Completes}, Steps.Complains};
 
 use crate::complaint::Complaint;

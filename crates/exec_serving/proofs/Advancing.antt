@@ -1,5 +1,5 @@
 -- The advance of the wheel in a service.
-use Rattle.std.proofs.{Common.{◌≡◌, ℕ, ◌-◌, ◌/◌, ◌<◌, ◌≤◌, Bool, true, false, List, [], ◌∷◌, ◌++◌, Option, Some, None, refl, sym, ap, subst, ◌∙◌, arith, nat_le, nat_lt, if◌then◌else◌, is_some}, lemmas.{Bool.{false≢true, Decides.nat_tests}}}
+use Rattle.std.proofs.{Common.{◌≡◌, ℕ, ◌-◌, ◌/◌, ◌<◌, ◌≤◌, Bool, true, false, List, [], ◌∷◌, ◌++◌, Option, Some, None, refl, sym, ap, subst, ◌∙◌, arith, nat_le, nat_lt, if◌then◌else◌, is_some, slice_get}, lemmas.{Bool.{false≢true, Decides.nat_tests}}}
 use Rattle.exec_base.specs.{Slab.Slab, declared.slab.Id.Id}
 use Rattle.exec_time.specs.{Wheel.{Wheel, tick_at, least_active}, Turning.{advanced, turned, turned_out}}
 use Rattle.exec_waiters.specs.{States.{waiter_at, tick_in}, declared.{waiter.{Entry.Entry, Waiter.Waiter}, waiter_id.WaiterId.WaiterId}}
@@ -7,7 +7,7 @@ use Rattle.exec_driver.specs.{Driving.Driving, Lists.{Lists, is_among, with_due}
 use Rattle.exec_task.specs.declared.body.Said.{Said}
 use Rattle.exec_machine.specs.declared.{config.Configuration.Configuration, event.Event.{Event, TheVariants.Serve}}
 use Rattle.exec_moves.specs.declared.place.{Service.Service, Place.Place, InService.InService}
-use Rattle.exec_parts.specs.{declared.parts.{mail.Reply.Reply, shared.Shared.Shared, worker.Worker.Worker}, Phased.closes_at, Spots.Spot, View.{visible, own_of, desk_of, driver_of, seat_seen, things_with}}
+use Rattle.exec_parts.specs.{declared.parts.{mail.Reply.Reply, record.Record.Record, shared.Shared.Shared, worker.Worker.Worker}, Phased.closes_at, Records.number_in, Spots.Spot, View.{visible, own_of, desk_of, driver_of, seat_seen, things_with}}
 use Rattle.exec_invariants.{specs.{Due.IsWheelAt, Flown.operations, Ordered.{IsOrdered, went_round}, Places.{is_armed_at, is_published_at, passes_at, searches_at}, Sound.{HasBatch, SoundAt}, Names.IsAlike, Works.Steps}, proofs.{ServingHolds.{IsServed, Serves, Keeps, KeepsBy}, Serving.{SparesRecords, at_large, balances_still, spares_same}, ServingPlaces.{calm, is_calm}, Flown.landed_as, Going.{all_still, rooted_on}, Seeing.{makes, own_with, desk_with, visible_with, served, common_same, things_kept}}}
 use Rattle.exec_serving.proofs.Draining.{advance_ordered, ahead_of, round_so}
 
@@ -92,8 +92,6 @@ module _ {B L : Type 0} (left : B → L) (spot : L → Option Said → Spot) whe
       let serves : Serves q w w' s s = record { worker = subst (IsServed w) (sym same) refl; shared = refl; from = refl; to = ap is_calm there; armed = ap is_armed_at there; closes = ap closes_at there; searches = ap searches_at there; published = ap is_published_at there; batch = λ h. subst (λ x. HasBatch x w.batch.values) (sym there) h } in
       let seen : visible w' ≡ visible w = ap visible same ∙ ap (λ (x : Driving Reply Reply). visible_with w.names.requests.items (visible w).taken x.ring) is in
       let due = sound.due in
-      let flown = sound.flown in
-      let named = sound.named in
       let w1 : Worker = record w { place = Place.Service (InService.Submit 0) v } in
       let wheel_at : IsWheelAt s.config w.moments.start now wheel =
       let at = subst (λ x. IsWheelAt s.config w.moments.start now x) (sym shape.3) (wheel_advances s.config w.moments.start w.moments.before now (driver_of w).wheel sound.config.some_tick sound.time.ordered due.wheel) in
@@ -105,30 +103,13 @@ module _ {B L : Type 0} (left : B → L) (spot : L → Option Said → Spot) whe
       (advance_ordered (went_round s.config w.moments) w.names.requests.items d.requests (driver_of w).wheel d.lists.enrolments
       (subst (IsOrdered (went_round s.config w.moments) w.names.requests.items d.requests (driver_of w).wheel d.lists.enrolments) none due.order)
       now (driver_of w).lists none (ahead_of (driver_of w) due.punctual none) (round_so s.config w.moments (driver_of w).wheel due.wheel))) in
-      let by : KeepsBy w1 d w.home.timers s.requests.items s.sleepers.items s = record {
-        told = sound.told;
-        wide = sound.wide;
-        named = record {
-          requests = named.requests;
-          timers = named.timers;
-          alike = λ id it r at found. subst (λ t. IsAlike t wheel.tick it r.shown) (sym on.start) (subst (λ t. IsAlike (driver_of w).wheel.start t it r.shown) (sym on.tick) (named.alike id it r at found));
-          over = named.over;
-          submitted = named.submitted;
-          slots = named.slots;
-          beds = named.beds;
-        };
-        sized = sound.sized;
-        over = sound.over;
-        quiet = λ h. absurd (false≢true (sym h));
-        due = record { punctual = subst IsPunctual is punctual; told = λ h. absurd (false≢true (sym h)); wheel = wheel_at; timed = due.timed; asleep = due.asleep; order = order };
-        flown = record { ending = flown.ending; staging = flown.staging; telling = flown.telling; entries = flown.entries; gated = flown.gated; plain = flown.plain; enrolling = flown.enrolling; polled = flown.polled; owning = flown.owning; landed = landed_as w.names (driver_of w) d s.requests.items (operations (driver_of w).ring) refl flown.landed; uncancelled = flown.uncancelled };
-        carried = sound.carried;
-        known = sound.known;
-        rooted =
-            rooted_on s.requests.items s.requests.items (all_still s.requests.items) w.index w.names w.names (driver_of w) d w.home.timers w.home.deferred s.sleepers.items sound.rooted
-            refl refl (λ id h. h) (λ id o h. h) (λ id it h. (it, h, refl));
-        bare = (calm q refl).lets_in (driver_of w).requests w.home.timers sound.lets_go;
-      } in
+      let alike : (id : Id) (it : Waiter Reply Reply) (r : Record) → waiter_at d.requests id ≡ Some it → slice_get s.requests.items (number_in w.names.requests.items id) ≡ Some r → IsAlike d.wheel.start d.wheel.tick it r.shown = λ id it r at found.
+      subst (λ t. IsAlike t wheel.tick it r.shown) (sym on.start) (subst (λ t. IsAlike (driver_of w).wheel.start t it r.shown) (sym on.tick) (sound.named.alike id it r at found)) in
+      let quiet : true ≡ false → w.home.deferred.notes.wakes.items ≡ [] = λ h. absurd (false≢true (sym h)) in
+      let told : true ≡ false → d.lists.due ≡ [] = λ h. absurd (false≢true (sym h)) in
+      let rooted = rooted_on s.requests.items s.requests.items (all_still s.requests.items) w.index w.names w.names (driver_of w) d w.home.timers w.home.deferred s.sleepers.items sound.rooted refl refl (λ id h. h) (λ id o h. h) (λ id it h. (it, h, refl)) in
+      let landed = landed_as w.names (driver_of w) d s.requests.items (operations (driver_of w).ring) refl sound.flown.landed in
+      let by : KeepsBy w1 d w.home.timers s.requests.items s.sleepers.items s = assumption (alike, quiet, subst IsPunctual is punctual, told, wheel_at, order, landed, rooted, (calm q refl).lets_in (driver_of w).requests w.home.timers sound.lets_go, sound) in
       let home : Worker = record w1 { home = record w.home { driver = w'.home.driver } } in
       let keeps : Keeps w' s =
       subst (λ x. KeepsBy x (driver_of x) x.home.timers s.requests.items s.sleepers.items s) (sym same)

@@ -52,11 +52,11 @@ phase_then : (b : Bool) (r : Record) → (is_staged r.shown.phase ≡ true → b
 phase_then true r h = flown_phase r.shown r.shown.phase refl
 phase_then false r h = still_phase r.shown.phase (λ staged. false≢true (h staged))
 
-operation_by : (b : Bool) (r : Request) → (if b then (record r { phase = RequestPhase.Flying }) else r).operation ≡ r.operation
+pub operation_by : (b : Bool) (r : Request) → (if b then (record r { phase = RequestPhase.Flying }) else r).operation ≡ r.operation
 operation_by true r = refl
 operation_by false r = refl
 
-operation_then : (b : Bool) (r : Record) → (flies_if b r).shown.operation ≡ r.shown.operation
+pub operation_then : (b : Bool) (r : Record) → (flies_if b r).shown.operation ≡ r.shown.operation
 operation_then true r = operation_by ((r.shown.worker == r.shown.worker) && is_staged r.shown.phase) r.shown
 operation_then false r = refl
 

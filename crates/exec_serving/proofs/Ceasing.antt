@@ -1,8 +1,8 @@
 -- The end of the stagings of a service.
 use Rattle.std.proofs.{Common.{◌≡◌, ℕ, ◌+◌, ◌==◌, ◌&&◌, ◌||◌, Bool, true, false, not, List, [], ◌∷◌, ◌++◌, length, Option, None, refl, sym, ap, subst, ◌∙◌, arith, nat_lt, if◌then◌else◌}, lemmas.{Bool.false≢true, List.length-append}}
 use Rattle.exec_ring.specs.{declared.completion.Submission.Submission}
-use Rattle.exec_waiters.specs.{States.{pending_count}, Told.is_untold}
-use Rattle.exec_driver.specs.{Driving.{Driving, has_pending, may_stage_one, is_full as is_ring_full}, Steps.{wake_entry, lowest_gate, poll_staged}}
+use Rattle.exec_waiters.specs.{States.{pending_count}}
+use Rattle.exec_driver.specs.{Driving.{Driving, may_stage_one, is_full as is_ring_full}, Steps.{wake_entry, lowest_gate, poll_staged}}
 use Rattle.exec_task.specs.declared.body.Said.{Said}
 use Rattle.exec_machine.specs.{declared.{config.Configuration.Configuration, event.Event.{Event, TheVariants.{Serve, Busy}}, state.MailMessage.MailMessage}, Choice.Choice.Plain, Progress.Plan, Ranges.ring_size}
 use Rattle.exec_moves.specs.{Callback.{has_requests, is_full}, Serve.{Ring, enter, enters, after_staging}, Move.{move_at, move_submit}, Seen.serves_at, State.Desk, Submit.{stage_next, staging_due, request_due, with_poll, Due.{Ends, Flushes}}, Thing.{ring_of, set_wake_poll, with_ring}, declared.place.{InService.InService, Service.Service, Place.Place, Reaping.Reaping}}
@@ -64,11 +64,9 @@ module _ {B L : Type 0} (left : B → L) (spot : L → Option Said → Spot) whe
       → ToldOnDesk x w.home.deferred
       → enters p.config w.index v (own_of w) (common_of left spot p vs s) x ≡ enters_after v w
   enters_seen v gate w s x p vs sound suits on =
-      let me = own_of w in
-      let c = p.config in
       let requests = requests_seen w.index w.names (driver_of w) w.home.timers s.requests.items s.sleepers.items sound.named in
-      let told = told_there me x w.home.deferred _ sound.told on in
-      let submissions = submissions_seen c w (sound.sized ∙ ap ring_size suits.config) in
+      let told = told_there (own_of w) x w.home.deferred _ sound.told on in
+      let submissions = submissions_seen p.config w (sound.sized ∙ ap ring_size suits.config) in
       grind arith
 
   requests_open : (v : Service) (gate : ℕ) (w : Worker) (s : Shared B) (p : Plan) (vs : Views) → SoundAt (Place.Service (InService.Submit gate) v) w s
@@ -120,17 +118,9 @@ module _ {B L : Type 0} (left : B → L) (spot : L → Option Said → Spot) whe
       let q' : Place = Place.Service (after_by b) v in
       let w2 : Worker = record w { place = q'; put_off = o; home = record w.home { driver = w1.home.driver } } in
       let pending : pending_count d'.requests ≡ pending_count d.requests = ap pending_count like.requests in
-      let enters_same : enters_after v w1 ≡ b =
-      ap (λ (x : Worker). not (pending_count (driver_of w1).requests == 0) && (not v.defer || not (is_untold x.home.deferred) || has_pending (driver_of w1))) ends.worker
-      ∙ ap (λ (x : Driving Reply Reply). not (pending_count x.requests == 0) && (not v.defer || not (is_untold w.home.deferred) || has_pending x)) ends.driver
-      ∙ rw (like.requests, like.lists, like.size) refl in
+      let enters_same : enters_after v w1 ≡ b = grind (arith, ends.worker, ends.driver, like.requests, like.lists, like.size) in
       let requests_same : has_open_requests w1 ≡ has_open_requests w = ap (λ (x : Driving Reply Reply). not (pending_count x.requests == 0)) ends.driver ∙ ap (λ n. not (n == 0)) pending in
-      let same : w' ≡ w2 =
-      is
-      ∙ ap (λ c. record w1 { place = Place.Service (after_by c) v; put_off = record { defer = v.defer; «enter» = has_open_requests w1 && not c } }) enters_same
-      ∙ ap (λ c. record w1 { place = q'; put_off = record { defer = v.defer; «enter» = c && not b } }) requests_same
-      ∙ ap (λ (x : Worker). record x { place = q'; put_off = o }) ends.worker in
-      let driver : driver_of w' ≡ d' = ap driver_of same ∙ ends.driver in
+      let same : w' ≡ w2 = grind (arith, is, enters_same, requests_same, ends.worker) in
       let follows = follows_by idle.gate v b in
       let serves : Serves q w w' s s = serves_to q q' w w' s s (subst (IsServed w) (sym same) refl) refl (ap (λ x. x.place) same) follows in
       let by : KeepsBy (record w { place = q'; put_off = o }) d' w.home.timers s.requests.items s.sleepers.items s =
@@ -198,14 +188,8 @@ module _ {B : Type 0} where
   idle_then v w w1 s s1 idle takes =
       let q : Place = Place.Service (InService.Submit idle.gate) v in
       let lists : (driver_of w1).lists ≡ (driver_of w).lists = lists_taken q w w1 s s1 idle.sound takes in
-      record {
-        gate = idle.gate;
-        sound = sound_taken q w w1 s s1 idle.sound takes;
-        lists = still_lists q w w1 s s1 idle.sound takes idle.lists;
-        due = ap (λ l. l.due) lists ∙ idle.due;
-        enrolments = ap (λ l. l.enrolments) lists ∙ idle.enrolments;
-        ungated = ap (λ (x : Driving Reply Reply). lowest_gate idle.gate x.requests x.lists.gated None) (driver_is q w w1 s s1 idle.sound takes) ∙ idle.ungated;
-      }
+      let ungated = ap (λ (x : Driving Reply Reply). lowest_gate idle.gate x.requests x.lists.gated None) (driver_is q w w1 s s1 idle.sound takes) ∙ idle.ungated in
+      search (sound_taken q w w1 s s1 idle.sound takes, still_lists q w w1 s s1 idle.sound takes idle.lists, ap (λ l. l.due) lists ∙ idle.due, ap (λ l. l.enrolments) lists ∙ idle.enrolments, ungated)
 
   -- with a worker that has the same driver but for its ring and landings
   after_same : (v : Service) (w w1 : Worker) (s s' : Shared B) (e : Event) → EntersRing w s e w1 s' → (driver_of w).ring.busy ≡ true
@@ -259,16 +243,14 @@ module _ {B L : Type 0} (left : B → L) (spot : L → Option Said → Spot) whe
       went_in free same =
           let m = it.mid in
           let there : w'.place ≡ q = ap (λ x. x.place) same ∙ place ∙ idle.sound.here in
-          let put : w'.put_off ≡ m.put_off = ap (λ x. x.put_off) same ∙ ap (λ x. x.put_off) it.enters.worker in
           steps (subst (Follows q) (sym there) (stages_again idle.gate v)) (ap passes_at there) (subst (λ x. x ≡ record w1 { place = x.place; put_off = x.put_off }) (sym same) refl)
           (λ p vs suits ring.
           let i = m.index in
           let x = things_with vs it.rested in
-          let all = common_of left spot p vs it.rested in
           flushes_next v m it.rested (idle_then v w m s it.rested idle it.takes) (flush_taken q w m s it.rested idle.sound it.takes ∙ full) p vs suits ring
-          ∙ ap (λ b. with_ring i x (stage_next p.config i v idle.gate (own_of m) all (desk_of m) (ring_by m b) Flushes)) free
+          ∙ ap (λ b. with_ring i x (stage_next p.config i v idle.gate (own_of m) (common_of left spot p vs it.rested) (desk_of m) (ring_by m b) Flushes)) free
           ∙ ap (λ y. with_ring i x (led_to y m.put_off (enter (own_of m) (desk_of m) (ring_by m false)))) (sym there)
-          ∙ ap (λ o. with_ring i x (led_to w'.place o (enter (own_of m) (desk_of m) (ring_by m false)))) (sym put)
+          ∙ ap (λ o. with_ring i x (led_to w'.place o (enter (own_of m) (desk_of m) (ring_by m false)))) (sym (ap (λ x. x.put_off) same ∙ ap (λ x. x.put_off) it.enters.worker))
           ∙ ap (λ b. with_ring i x (led_to w'.place w'.put_off (enter (own_of m) (desk_of m) (ring_by m b)))) (sym free))
 
       passes_by : (b : Bool) → passes_at (Place.Service (after_by b) v) ≡ None
@@ -281,19 +263,17 @@ module _ {B L : Type 0} (left : B → L) (spot : L → Option Said → Spot) whe
           let like = after_same v m w1 it.rested s' e it.enters busy in
           let b = enters_after v m in
           let there : w'.place ≡ Place.Service (after_by b) v = ap (λ x. x.place) same ∙ ap (λ c. Place.Service (after_by c) v) like.0 in
-          let defer : w'.put_off.defer ≡ v.defer = ap (λ x. x.put_off.defer) same in
           let put : w'.put_off.«enter» ≡ (has_open_requests m && not b) = ap (λ x. x.put_off.«enter») same ∙ ap (λ c. has_open_requests w1 && not c) like.0 ∙ ap (λ c. c && not b) like.1 in
           steps (subst (Follows q) (sym there) (follows_by idle.gate v b)) (ap passes_at there ∙ passes_by b) (subst (λ x. x ≡ record w1 { place = x.place; put_off = x.put_off }) (sym same) refl)
           (λ p vs suits ring.
           let i = m.index in
           let x = things_with vs it.rested in
-          let all = common_of left spot p vs it.rested in
           let idle1 = idle_then v w m s it.rested idle it.takes in
           flushes_next v m it.rested idle1 (flush_taken q w m s it.rested idle.sound it.takes ∙ full) p vs suits ring
-          ∙ ap (λ a. with_ring i x (stage_next p.config i v idle.gate (own_of m) all (desk_of m) (ring_by m a) Flushes)) busy
+          ∙ ap (λ a. with_ring i x (stage_next p.config i v idle.gate (own_of m) (common_of left spot p vs it.rested) (desk_of m) (ring_by m a) Flushes)) busy
           ∙ ap (λ y. record { event = Busy; choice = Plain; desk = y; thing = set_wake_poll i x (visible m).wakes })
           (ended_seen left spot v idle.gate m it.rested (record (desk_of m) { place = q }) p vs idle1.sound suits (record { wakes = refl; outputs = refl; completions = refl; results = refl })
           ∙ ap (λ y. record (desk_of m) { place = y; may_put_off = v.defer; put_off = has_open_requests m && not b }) (sym there)
-          ∙ ap (λ y. record (desk_of m) { place = w'.place; may_put_off = y; put_off = has_open_requests m && not b }) (sym defer)
+          ∙ ap (λ y. record (desk_of m) { place = w'.place; may_put_off = y; put_off = has_open_requests m && not b }) (sym (ap (λ x. x.put_off.defer) same))
           ∙ ap (λ y. record (desk_of m) { place = w'.place; may_put_off = w'.put_off.defer; put_off = y }) (sym put))
           ∙ ap (λ a. with_ring i x (led_to w'.place w'.put_off (enter (own_of m) (desk_of m) (ring_by m a)))) (sym busy))

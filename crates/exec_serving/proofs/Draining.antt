@@ -24,8 +24,7 @@ falls = grind arith
 pub due_part : (s : Slab (Entry Reply Reply)) (ids : List Id) (l : Lists) → IsPartOf (all_due s ids l).due (l.due ++ map wrap ids)
 due_part s [] l = subst (IsPartOf l.due) (sym (append-nil l.due)) (part_self l.due)
 due_part s (id ∷ ids) l =
-    let l1 = fallen_due (wrap id) (waiter_at s id) l in
-    let rest = due_part s ids l1 in
+    let rest = due_part s ids (fallen_due (wrap id) (waiter_at s id) l) in
     grind (arith, falls, part_beside, append_assoc)
 
 all_wrapped : (P : Id → Type 0) (ids : List Id) → AllByRecursion P ids → AllByRecursion (λ id. P id.0) (map wrap ids)
@@ -125,8 +124,7 @@ module _ (round : Bool) (numbers : List ℕ) (s : Slab (Entry Reply Reply)) (w :
     whole : nat_le w.slots (tick - w.current) ≡ true → (p : ℕ) → 0 ≤ p → p < w.slots → (id : Id) (t : ℕ) → tick_at s id ≡ Some t → t % w.slots ≡ p % w.slots → (turn_of true w.slots t ≡ p) × (t ≤ tick)
     whole is p from less id t at same =
         let more : w.slots ≤ tick - w.current = grind (arith, nat_tests) in
-        let within = o.reach id t at in
-        (same ∙ mod-eq_of_lt less, omega (arith, within, more, later))
+        (same ∙ mod-eq_of_lt less, omega (arith, o.reach id t at, more, later))
 
     part : nat_le w.slots (tick - w.current) ≡ false → (p : ℕ) → w.current + 1 ≤ p → p < w.current + 1 + (tick - w.current) → (id : Id) (t : ℕ) → tick_at s id ≡ Some t → t % w.slots ≡ p % w.slots → (turn_of false w.slots t ≡ p) × (t ≤ tick)
     part is p from less id t at same =

@@ -7,9 +7,10 @@ use Rattle.exec_driver.specs.Driving.{Driving}
 use Rattle.exec_task.specs.declared.body.Said.{Said}
 use Rattle.exec_machine.specs.{declared.event.Event.{Event, TheVariants.{Enter, Busy}}, Choice.Choice.Plain, World.{Own, Seat, Common}, Progress.Plan, Requests.flown}
 use Rattle.exec_moves.specs.{declared.{idling.{Stay.Stay, InRingWait.InRingWait}, place.{Service.Service, Place.Place, InService.InService, Reaping.Reaping}}, State.{Desk, Things, Moved, wake_poll_of, taken_in as poll_taken}, Thing.{ring_of, set_wake_poll, with_ring}, Move.move_at, Serve.{Ring, at_place, enter}}
-use Rattle.exec_parts.{specs.{declared.parts.{mail.Reply.Reply, shared.Shared.Shared, worker.{PutOff.PutOff, Worker.Worker}}, Raises.Enters, Records.number_in, Serving.{EntersRing, flown_in}, Spots.Spot, View.{Views, visible, with_view, own_of, desk_of, driver_of, common_of, seat_seen, numbers_of_passing, open_seen, number_told, things_with, trailing, wake_poll_in}}, proofs.Flying.all_flown}
-use Rattle.exec_invariants.{specs.{Carried.IsCarried, Sound.{SoundAt, served_in}, Names.{IsNamed, IsSubmitted}, Due.{IsWheelAt, may_be_due}, Flown.{IsPolled, operations}, Holding.{nap_of, thing_of}, Places.passes_at, Works.{Suits, Steps}}, proofs.{Spared.sleepers_endure, Seats.own_seat, Conveying.carried_ring, Lined.{KeepsLines, gates_seen_same, lines_flown, opens_same, passing_same, was_sent}, Serving.{balances_still, kept, SparesRecords, spares_same}, ServingHolds.{Follows, Serves, Keeps, KeepsBy, keeps_all, nap_sent}, ServingPlaces.calm, Keys.{same_opens, flown_names}, Raising.{lists_taken, none_waits, poll_shows, poll_shown, raised_first, seats_set, sound_taken}, Seeing.{Sees, common_same, served, shows}, Shown.{desk_with, own_with}, WokenEntered.{all_acknowledged, enter_polled, enter_shown}, Going.{over_on, rooted_on}}}
+use Rattle.exec_parts.{specs.{declared.parts.{mail.Reply.Reply, shared.Shared.Shared, worker.{PutOff.PutOff, Worker.Worker}}, Raises.Enters, Records.number_in, Serving.{EntersRing, flown_in}, Spots.Spot, View.{Views, visible, with_view, own_of, desk_of, driver_of, common_of, seat_seen, numbers_of_passing, open_seen, things_with, trailing}}, proofs.Flying.all_flown}
+use Rattle.exec_invariants.{specs.{Carried.IsCarried, Sound.{SoundAt, served_in}, Names.{IsNamed, IsSubmitted}, Due.{IsWheelAt, may_be_due}, Flown.{IsPolled, operations}, Holding.{nap_of, thing_of}, Places.passes_at, Works.{Suits, Steps}}, proofs.{Spared.sleepers_endure, Seats.own_seat, Conveying.carried_ring, Lined.{KeepsLines, gates_seen_same, lines_flown, opens_same, passing_same, was_sent}, Serving.{balances_still, kept, SparesRecords, spares_same}, ServingHolds.{Follows, Serves, Keeps, KeepsBy, keeps_all, nap_sent}, ServingPlaces.calm, Keys.{same_opens, flown_names}, Raising.{lists_taken, none_waits, poll_shows, poll_shown, raised_first, sound_taken}, Seeing.{Sees, common_same, served, shows}, Shown.{desk_with}, WokenEntered.{all_acknowledged, enter_polled, enter_shown}, Going.{over_on, rooted_on}}}
 use Rattle.exec_serving.proofs.{Carrier.carried_entered, Entering.{submitted_busy, submitted_free, named_beside, named_free, all_go, timed_flown, flown_entered, others_flown, others_were, known_flown, things_flown}}
+use Rattle.exec_invariants.proofs.MailApplies.{seats_viewed}
 
 -- the ring that a worker shows, where no wake waits at its seat
 abbrev pub ring_seen : Worker → Ring
@@ -108,8 +109,7 @@ module _ {B L : Type 0} (left : B → L) (spot : L → Option Said → Spot) whe
       let keeps : Keeps w' s' =
       keeps_entered w w' s s' e it q r' [] sound on told ring refl sound.flown.polled refl (subst (λ n. n ≤ length r.staged) (sym (ap (λ (ks : List ℕ). length ks + length w'.names.untold.items) staged ∙ ap (λ (ks : List ℕ). length w.names.staged.items + length ks) untold)) sound.flown.entries) records named
       (carried_ring w.names.requests.items (driver_of w).requests r s.requests.items s.store sound.carried r' (λ v small. refl) (λ v small. refl)) in
-      let opens : s'.opens ≡ s.opens = ap (λ (x : Shared B). x.opens) it.shared in
-      let spares : SparesRecords i s s' = spares_same i s s' sound.gates records (ap (λ (x : Shared B). x.sleepers.items) it.shared) opens in
+      let spares : SparesRecords i s s' = spares_same i s s' sound.gates records (ap (λ (x : Shared B). x.sleepers.items) it.shared) (ap (λ (x : Shared B). x.opens) it.shared) in
       let seen : visible w' ≡ record (visible w) { busy = false } = show.seen in
       subst (λ x. Steps left spot w s x w' s') (sym (it.event ∙ ap (λ b. if b then Busy else Enter) busy))
       (served left spot q w w' s s' Busy sound serves keeps spares (balances_still q w w' s s' sound.here serves spares passes (ap (λ (v : Worker). v.home.deferred.notes.wakes.items) worker) (ap (map thing_of) records) (ap (λ (x : Shared B). map nap_of x.sleepers.items) it.shared))
@@ -117,30 +117,23 @@ module _ {B L : Type 0} (left : B → L) (spot : L → Option Said → Spot) whe
       let chair = sound.seated.seat in
       let there = sound.seated.there in
       let all = common_of left spot p vs s in
-      let me = own_of w in
       let x = things_with vs s in
       let here : record w { place = q } ≡ w = ap (λ y. record w { place = y }) (sym sound.here) in
       let vs' = with_view vs i (visible w') in
       let desk : desk_of w' ≡ record (desk_of w) { place = w'.place; may_put_off = w'.put_off.defer; put_off = w'.put_off.«enter» } = show.desk ∙ ap (λ (v : Worker). desk_with w w'.place w'.put_off v.home.deferred d') worker in
       let things : things_with vs' s' ≡ set_wake_poll i x (visible w).wakes =
       ap (things_with vs') it.shared ∙ ap (λ gs. record (things_with vs' s) { gates = gs; answers = numbers_of_passing was_sent 0 s'.requests.items }) (gates_seen_same s.requests.items s'.requests.items s.opens s.opens spares.lines (opens_same s.opens s.opens s.requests.items sound.gates refl)) ∙ ap (λ ns. record (things_with vs' s) { answers = ns }) (passing_same was_sent s.requests.items s'.requests.items spares.lines.sent) ∙ poll_shows vs i s chair there waits (visible w') ∙ ap (λ v. set_wake_poll i x v.wakes) seen in
-      let enters : enter me (desk_of w) (ring_seen w) ≡ record { event = Busy; choice = Plain; desk = desk_of w; thing = record (ring_seen w) { busy = false } } =
+      let enters : enter (own_of w) (desk_of w) (ring_seen w) ≡ record { event = Busy; choice = Plain; desk = desk_of w; thing = record (ring_seen w) { busy = false } } =
       rw busy refl in
       subst (λ v. Sees left spot q v w' s s' Busy p vs) (sym here) (record {
-        moves =
-            moves p vs suits (ring_there q w s sound waits p vs suits)
-            ∙ ap (λ m. with_ring i x (led_to w'.place w'.put_off m)) enters
-            ∙ ap (λ y. record { event = Busy; choice = Plain; desk = y; thing = set_wake_poll i x (visible w).wakes }) (sym desk)
-            ∙ ap (λ y. record { event = Busy; choice = Plain; desk = desk_of w'; thing = y }) (sym things);
+        moves = grind (arith, moves p vs suits (ring_there q w s sound waits p vs suits), enters, desk, things);
         may = (rw (sound.here, from.polls, from.free, from.owes w.workers, sound.letters.none from.cancels) refl, (ap (λ y. y.busy) (own_seat left spot p vs w s chair suits there) ∙ busy, tt));
-        own =
-            show.own ∙ ap (λ (v : Worker). own_with w w'.place v.names.ended.items w'.names.untold.items d') worker ∙ ap (λ ks. own_with w w'.place w.names.ended.items ks d') untold
-            ∙ rw (on.serves, to.polls, to.free, to.owes w.workers, sound.here, from.polls, from.free, from.owes w.workers) refl;
+        own = grind (arith, show.own, worker, untold, on.serves, to.polls, to.free, to.owes w.workers, sound.here, from.polls, from.free, from.owes w.workers);
         common =
             common_by p vs' s s' it.shared
             ∙ ap (λ rs. record (common_of left spot p vs' s) { requests = map (λ y. y.shown) rs; opens = map (open_seen rs) s.opens }) records
             ∙ ap (λ y. record all { seats = y })
-            (seats_set vs.workers s.seats.items i (visible w') chair there
+            (seats_viewed vs.workers s.seats.items i (visible w') chair there
             ∙ ap (λ y. slice_set (all.seats) i y)
             (ap (λ v. seat_seen v chair) seen ∙ ap (λ (y : Seat). record y { busy = false }) (sym (own_seat left spot p vs w s chair suits there))));
       })))
@@ -190,18 +183,13 @@ module _ {B L : Type 0} (left : B → L) (spot : L → Option Said → Spot) whe
         opens = opens_same s.opens s'.opens s.requests.items sound.gates (ap (λ (x : Shared B). x.opens) it.shared);
         sent = ap (λ (x : Shared B). map nap_sent x.sleepers.items) it.shared;
       } in
-      let seen : visible w' ≡ record (visible w) { wakes = poll_taken (driver_of w).armed (visible w).wakes } =
-      show.seen
-      ∙ ap (λ b. record (visible w) { busy = b; landed = map (number_told w.names.requests.items) (operations r'); wakes = wake_poll_in r' }) taken.busy
-      ∙ ap (λ cs. record (visible w) { landed = map (number_told w.names.requests.items) cs; wakes = wake_poll_in r' }) taken.landed
-      ∙ ap (λ y. record (visible w) { wakes = y }) (enter_shown r (driver_of w).armed sound.flown.polled sub.tagged) in
+      let seen : visible w' ≡ record (visible w) { wakes = poll_taken (driver_of w).armed (visible w).wakes } = grind (arith, show.seen, taken.busy, taken.landed, enter_shown r (driver_of w).armed sound.flown.polled sub.tagged) in
       subst (λ x. Steps left spot w s x w' s') (sym (it.event ∙ ap (λ b. if b then Busy else Enter) busy))
       (served left spot q w w' s s' Enter sound serves keeps spares (balances_still q w w' s s' sound.here serves spares passes (ap (λ (v : Worker). v.home.deferred.notes.wakes.items) worker) (ap (map thing_of) records ∙ things_flown w.names.staged.items s.requests.items) (ap (λ (x : Shared B). map nap_of x.sleepers.items) it.shared))
       (λ p vs suits.
       let chair = sound.seated.seat in
       let there = sound.seated.there in
       let all = common_of left spot p vs s in
-      let me = own_of w in
       let x = things_with vs s in
       let here : record w { place = q } ≡ w = ap (λ y. record w { place = y }) (sym sound.here) in
       let vs' = with_view vs i (visible w') in
@@ -211,19 +199,13 @@ module _ {B L : Type 0} (left : B → L) (spot : L → Option Said → Spot) whe
       ∙ ap (λ n. record (desk_of w) { place = w'.place; may_put_off = w'.put_off.defer; put_off = w'.put_off.«enter»; entries = 0; others = n }) (taken.others ∙ ap (λ n. trailing 0 (completions r) + n) sub.cancels) in
       let things : things_with vs' s' ≡ set_wake_poll i x (poll_taken (driver_of w).armed (visible w).wakes) =
       ap (things_with vs') it.shared ∙ ap (λ gs. record (things_with vs' s) { gates = gs; answers = numbers_of_passing was_sent 0 s'.requests.items }) (gates_seen_same s.requests.items s'.requests.items s.opens s.opens spares.lines (opens_same s.opens s.opens s.requests.items sound.gates refl)) ∙ ap (λ ns. record (things_with vs' s) { answers = ns }) (passing_same was_sent s.requests.items s'.requests.items spares.lines.sent) ∙ poll_shows vs i s chair there waits (visible w') ∙ ap (λ v. set_wake_poll i x v.wakes) seen in
-      let enters : enter me (desk_of w) (ring_seen w)
+      let enters : enter (own_of w) (desk_of w) (ring_seen w)
       ≡ record { event = Enter; choice = Plain; desk = record (desk_of w) { entries = 0; others = (desk_of w).others + length w.names.untold.items }; thing = record (ring_seen w) { wakes = poll_taken (driver_of w).armed (visible w).wakes } } =
       rw busy refl in
       subst (λ v. Sees left spot q v w' s s' Enter p vs) (sym here) (record {
-        moves =
-            moves p vs suits (ring_there q w s sound waits p vs suits)
-            ∙ ap (λ m. with_ring i x (led_to w'.place w'.put_off m)) enters
-            ∙ ap (λ y. record { event = Enter; choice = Plain; desk = y; thing = set_wake_poll i x (poll_taken (driver_of w).armed (visible w).wakes) }) (sym desk)
-            ∙ ap (λ y. record { event = Enter; choice = Plain; desk = desk_of w'; thing = y }) (sym things);
+        moves = grind (arith, moves p vs suits (ring_there q w s sound waits p vs suits), enters, desk, things);
         may = (rw (sound.here, from.polls, from.free, from.owes w.workers, sound.letters.none from.cancels) refl, (ap (λ y. not y.busy) (own_seat left spot p vs w s chair suits there) ∙ ap not busy, tt));
-        own =
-            show.own ∙ ap (λ (v : Worker). own_with w w'.place v.names.ended.items w'.names.untold.items d') worker ∙ ap (λ ks. own_with w w'.place w.names.ended.items ks d') untold
-            ∙ rw (on.serves, to.polls, to.free, to.owes w.workers, sound.here, from.polls, from.free, from.owes w.workers) refl;
+        own = grind (arith, show.own, worker, untold, on.serves, to.polls, to.free, to.owes w.workers, sound.here, from.polls, from.free, from.owes w.workers);
         common =
             common_by p vs' s s' it.shared
             ∙ ap (λ rs. record (common_of left spot p vs' s) { requests = map (λ y. y.shown) rs; opens = map (open_seen rs) s.opens }) records
@@ -247,11 +229,10 @@ module _ {B L : Type 0} (left : B → L) (spot : L → Option Said → Spot) whe
       let w1 = it.mid in
       let s1 = it.rested in
       let holds = sound_taken q w w1 s s1 sound it.takes in
-      let lists : (driver_of w1).lists ≡ (driver_of w).lists = lists_taken q w w1 s s1 sound it.takes in
       let place : w.place ≡ w1.place = ap (λ x. x.place) (sym it.takes.worker) in
       let put : w.put_off ≡ w1.put_off = ap (λ x. x.put_off) (sym it.takes.worker) in
       raised_first q w w1 s s1 sound it.takes left spot w' s' e
-      (entered_then q w1 w' s1 s' e holds (none_waits q w w1 s s1 sound it.takes holds) on (λ h. ap (λ l. l.due) lists ∙ told h) passes
+      (entered_then q w1 w' s1 s' e holds (none_waits q w w1 s s1 sound it.takes holds) on (λ h. ap (λ l. l.due) (lists_taken q w w1 s s1 sound it.takes) ∙ told h) passes
       (subst (λ y. EntersRing w1 s1 e (record w' { place = y; put_off = w1.put_off }) s') place (subst (λ o. EntersRing w1 s1 e (record w' { place = w.place; put_off = o }) s') put it.enters)) moves)
 
   -- where nothing is put off, nor was

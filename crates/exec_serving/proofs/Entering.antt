@@ -9,7 +9,7 @@ use Rattle.exec_waiters.specs.{States.{waiter_at}, declared.waiter.{Entry.Entry,
 use Rattle.exec_driver.specs.{Driving.Driving, Opens.OpenState}
 use Rattle.exec_machine.specs.{declared.state.{Request.Request, RequestPhase.RequestPhase}, Requests.flown, Tests.{is_staged, is_resolved}}
 use Rattle.exec_moves.specs.declared.place.InService.{InService}
-use Rattle.exec_parts.{specs.{declared.parts.{mail.Reply.Reply, names.Names.Names, record.Record.Record, sleeping.SleeperRecord.SleeperRecord}, Records.number_in, Serving.{changed_at, changed_in, flies, flown_in, is_one_of}}, proofs.{Facts.and_right, Flying.{flies_if, worker_kept, get_flown}}}
+use Rattle.exec_parts.{specs.{declared.parts.{mail.Reply.Reply, names.Names.Names, record.Record.Record, sleeping.SleeperRecord.SleeperRecord}, Records.number_in, Serving.{changed_at, changed_in, flies, flown_in, is_one_of}}, proofs.{Facts.second_true, Flying.{flies_if, worker_kept, get_flown}}}
 use Rattle.exec_invariants.{specs.{Due.AreTimed, Flown.{IsPlain, IsPolled, HasFlown, operations}, Gates.{IsKnown, at_gate}, Holding.thing_of, Names.{IsNamed, IsAlike, IsSubmitted}}, proofs.{Lined.{length_map, lines_flown}, Flown.landed_on, Going.{GoesOn, AllGoOn, still, same_worker, thing_on, things_changed}, Known.known_on}}
 
 -- A REQUEST THAT FLIES
@@ -22,7 +22,7 @@ alike_by : (start tick : ℕ) (b : Bool) (it : Waiter Reply Reply) (r : Request)
 alike_by = grind arith
 
 alike_flown : (start tick i : ℕ) (it : Waiter Reply Reply) (r : Request) → IsAlike start tick it r → IsAlike start tick it (flown i r)
-alike_flown start tick i it r a = alike_by start tick ((r.worker == i) && is_staged r.phase) it r (and_right (r.worker == i) (is_staged r.phase)) a
+alike_flown start tick i it r a = alike_by start tick ((r.worker == i) && is_staged r.phase) it r (second_true (r.worker == i) (is_staged r.phase)) a
 
 alike_flies : (start tick : ℕ) (b : Bool) (it : Waiter Reply Reply) (r : Record) → IsAlike start tick it r.shown → IsAlike start tick it (flies_if b r).shown
 alike_flies start tick true it r a = alike_flown start tick r.shown.worker it r.shown a
@@ -33,7 +33,7 @@ resolved_by true r staged = sym (staged_stands r.phase (staged refl))
 resolved_by false r staged = refl
 
 resolved_flies : (b : Bool) (r : Record) → is_resolved (flies_if b r).shown.phase ≡ is_resolved r.shown.phase
-resolved_flies true r = resolved_by ((r.shown.worker == r.shown.worker) && is_staged r.shown.phase) r.shown (and_right (r.shown.worker == r.shown.worker) (is_staged r.shown.phase))
+resolved_flies true r = resolved_by ((r.shown.worker == r.shown.worker) && is_staged r.shown.phase) r.shown (second_true (r.shown.worker == r.shown.worker) (is_staged r.shown.phase))
 resolved_flies false r = refl
 
 id_flies : (b : Bool) (r : Record) → (flies_if b r).id ≡ r.id
@@ -57,7 +57,7 @@ goes_by : (i : ℕ) (b : Bool) (r : Record) → (b ≡ true → is_staged r.show
 goes_by = grind arith
 
 goes_flies : (b : Bool) (r : Record) → GoesOn r (flies_if b r)
-goes_flies true r = goes_by r.shown.worker ((r.shown.worker == r.shown.worker) && is_staged r.shown.phase) r (and_right (r.shown.worker == r.shown.worker) (is_staged r.shown.phase))
+goes_flies true r = goes_by r.shown.worker ((r.shown.worker == r.shown.worker) && is_staged r.shown.phase) r (second_true (r.shown.worker == r.shown.worker) (is_staged r.shown.phase))
 goes_flies false r = still r
 
 -- what has landed doesn't fly
@@ -66,7 +66,7 @@ landed_by true r n staged landed = absurd (false≢true (ap is_staged (sym lande
 landed_by false r n staged landed = refl
 
 pub landed_flies : (b : Bool) (r : Record) (n : OpResult) → r.shown.phase ≡ RequestPhase.Landed n → (flies_if b r).shown.phase ≡ r.shown.phase
-landed_flies true r n landed = landed_by ((r.shown.worker == r.shown.worker) && is_staged r.shown.phase) r.shown n (and_right (r.shown.worker == r.shown.worker) (is_staged r.shown.phase)) landed
+landed_flies true r n landed = landed_by ((r.shown.worker == r.shown.worker) && is_staged r.shown.phase) r.shown n (second_true (r.shown.worker == r.shown.worker) (is_staged r.shown.phase)) landed
 landed_flies false r n landed = refl
 
 -- nor does what flies change but by that
@@ -117,14 +117,6 @@ pub things_flown : (ks : List ℕ) (rs : List Record) → map thing_of (flown_in
 things_flown [] rs = refl
 things_flown (k ∷ ks) rs = one_thing k (flown_in ks rs) ∙ things_flown ks rs
 
-operation_by : (b : Bool) (r : Request) → (if b then (record r { phase = RequestPhase.Flying }) else r).operation ≡ r.operation
-operation_by true r = refl
-operation_by false r = refl
-
-operation_flies : (b : Bool) (r : Record) → (flies_if b r).shown.operation ≡ r.shown.operation
-operation_flies true r = operation_by ((r.shown.worker == r.shown.worker) && is_staged r.shown.phase) r.shown
-operation_flies false r = refl
-
 -- what its records say that its driver has forgotten
 pub known_flown : (i : ℕ) (numbers : List ℕ) (requests : Slab (Entry Reply Reply)) (opens : List OpenState) (rs : List Record) (ks : List ℕ) → IsKnown i numbers requests opens rs → IsKnown i numbers requests opens (flown_in ks rs)
 known_flown i numbers requests opens rs ks known =
@@ -136,17 +128,14 @@ known_flown i numbers requests opens rs ks known =
     (λ file none. none)
     (λ id it x live there.
     let old = was ks rs (number_in numbers id) x there in
-    let same : x.shown.operation ≡ old.0.shown.operation = ap (λ y. y.shown.operation) old.2 ∙ operation_flies (is_one_of (number_in numbers id) ks) old.0 in
     grind arith)
     known
 
 pub timed_flown : (i : ℕ) (n n' : Names) (ks : List ℕ) (rs : List Record) → n'.requests ≡ n.requests → AreTimed i n rs → AreTimed i n' (flown_in ks rs)
 timed_flown i n n' ks rs same timed k x there mine =
     let old = was ks rs k x there in
-    let b = is_one_of k ks in
     let r = old.0 in
-    let on : GoesOn r x = subst (λ y. GoesOn r y) (sym old.2) (goes_flies b r) in
-    let it = timed k r old.1 (sym (same_worker r x on) ∙ mine) in
+    let it = timed k r old.1 (sym (same_worker r x (subst (λ y. GoesOn r y) (sym old.2) (goes_flies (is_one_of k ks) r))) ∙ mine) in
     grind arith
 
 -- what has landed, with another ring in which the same has
@@ -167,14 +156,12 @@ flown_entered x x' i n n' d ring l ks rs flown requests ended unreleased staged 
       polled = polled;
       owning = λ k y there unresolved.
           let old = was ks rs k y there in
-          let b = is_one_of k ks in
-          let on : GoesOn old.0 y = subst (λ z. GoesOn old.0 z) (sym old.2) (goes_flies b old.0) in
+          let on : GoesOn old.0 y = subst (λ z. GoesOn old.0 z) (sym old.2) (goes_flies (is_one_of k ks) old.0) in
           ap (λ z. z.shown.released) on.same ∙ flown.owning k old.0 old.1 (sym on.over ∙ unresolved);
       plain = λ k y there mine.
           let old = was ks rs k y there in
           let b = is_one_of k ks in
-          let of_i : old.0.shown.worker ≡ i = sym (worker_flies b old.0) ∙ sym (ap (λ z. z.shown.worker) old.2) ∙ mine in
-          subst (λ z. IsPlain z.shown) (sym old.2) (plain_flies b old.0 (flown.plain k old.0 old.1 of_i));
+          subst (λ z. IsPlain z.shown) (sym old.2) (plain_flies b old.0 (flown.plain k old.0 old.1 (sym (worker_flies b old.0) ∙ sym (ap (λ z. z.shown.worker) old.2) ∙ mine)));
       landed =
           rw same
           (landed_on n n' d d' rs (flown_in ks rs) (operations d.ring) flown.landed

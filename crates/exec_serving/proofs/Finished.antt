@@ -82,14 +82,12 @@ module _ {B : Type 0} (rp : Reaping) (v : Service) (w : Worker) (s : Shared B) (
   slab_then =
       let s0 = (driver_of w).requests in
       let id = over.h.id in
-      let s1 = written s0 id (Pending over_waiter) in
       let some : IsSome (value_at s0 id) = rw (entry_of (value_at s0 id) over.h.it over.h.live) refl in
-      let map = Updates-write s0 id (Pending over_waiter) some in
-      let after = slab_after s1 id over_waiter how account over_small over_written in
+      let after = slab_after (written s0 id (Pending over_waiter)) id over_waiter how account over_small over_written in
       let held = held_written s0 id (Pending over.h.it) (Pending over_waiter) (entry_of (value_at s0 id) over.h.it over.h.live) in
       subst (λ x. SlabAfter s0 x id over.h.it over_told) (sym over.requests) (record {
         here = after.here;
-        others = λ other apart. after.others other apart ∙ map.others other apart;
+        others = λ other apart. after.others other apart ∙ (Updates-write s0 id (Pending over_waiter) some).others other apart;
         pending = after.pending ∙ pending_still s0 id over.h.it over_waiter over.h.live;
         held = omega (arith, after.held, held);
         back = λ other past. (past-write s0 id (Pending over_waiter) some other).0 (after.back other past);
@@ -123,7 +121,6 @@ module _ {B : Type 0} (rp : Reaping) (v : Service) (w : Worker) (s : Shared B) (
   keeps_gone v' left tells ended capacity punctual =
       let d = driver_of w in
       let q : Place = Place.Service (InService.Reap rp) v in
-      let r = over.h.r.shown in
       let start = w.moments.start in
       let follows = follows_over rp v (map (number_told w.names.requests.items) cs) over.h.r.shown in
       let wheel : IsWheelAt s.config start (wheel_moment (served_in q) w.moments) d.wheel = sound.due.wheel in

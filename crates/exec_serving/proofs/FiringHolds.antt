@@ -1,12 +1,12 @@
 -- A sleeper fires: what tasks hold, and what stays of all workers' balances.
-use Rattle.std.proofs.{Common.{◌≡◌, ◌⊎◌, ℕ, zero, suc, ◌+◌, ◌<◌, ◌≤◌, ◌==◌, ◌||◌, Bool, true, false, cond, List, ◌++◌, count_by, map, sum_by, Some, if◌then◌else◌, refl, sym, ap, subst, ◌∙◌, arith, inl, inr, slice_get, slice_set}, lemmas.Bool.false≢true}
+use Rattle.std.proofs.{Common.{rules, ◌≡◌, ◌⊎◌, ℕ, zero, suc, ◌+◌, ◌<◌, ◌≤◌, ◌==◌, ◌||◌, Bool, true, false, cond, List, ◌++◌, count_by, map, sum_by, Some, if◌then◌else◌, refl, sym, ap, subst, ◌∙◌, arith, inl, inr, slice_get, slice_set}, lemmas.Bool.false≢true}
 use Rattle.exec_base.specs.declared.task_no.TaskNo.{TaskNo}
 use Rattle.exec_time.specs.{Sleepers.wakes_of, declared.timers.Observer.Observer as Watching}
 use Rattle.exec_time.specs.declared.timers.Observer.TheVariants as sleep
 use Rattle.exec_words.specs.declared.inbox.Message.{Message}
 use Rattle.exec_machine.specs.Tests.{is_unsent}
 use Rattle.exec_moves.specs.declared.place.Place.{Place}
-use Rattle.exec_parts.{specs.declared.parts.{mail.Reply.Reply, shared.Shared.Shared, sleeping.SleeperRecord.SleeperRecord, worker.Worker.Worker}, proofs.{Facts.{same_number, same_thing, set_there}, Showing.map_set}}
+use Rattle.exec_parts.{specs.declared.parts.{mail.Reply.Reply, shared.Shared.Shared, sleeping.SleeperRecord.SleeperRecord, worker.Worker.Worker}, proofs.{Facts.{same_number, same_Some, set_there}, Showing.map_set}}
 use Rattle.exec_invariants.{specs.{Holding.{Awaits, Box, Hands, Holder, IsHolding, IsOwed, Mail, Nap, Owes, Thing, box_of, holder_of, IsForwarded, mail_in, nap_of, thing_of, under_way, waiters}, Places.passes_at, Whole.{Profile, hands_of, wakes_with, with_worker}}, proofs.{Fired.fires, HoldSleeps.nap_redone, Lined.mapped, ServedEnds.{count_both, count_none, count_one}, Serving.{Balances, SparesRecords, gates_still, hands_served}, ServingHolds.Serves}}
 use Rattle.exec_parts.specs.declared.parts.mail.Subject.TheVariants as subject
 
@@ -32,7 +32,7 @@ module _ (h h' : Hands) (workers : ℕ) (hs : List Holder) (ts : List Thing) (na
 
   -- and was owed no wake
   none_before : (i : ℕ) → 0 < h.wakes i z.task → ⊥
-  none_before = grind (arith, waits, same_thing, asleep)
+  none_before = grind (arith, waits, same_Some, asleep)
 
   by_zero : (m : ℕ) → (0 < m → ⊥) → m ≡ 0
   by_zero zero never = refl
@@ -43,15 +43,10 @@ module _ (h h' : Hands) (workers : ℕ) (hs : List Holder) (ts : List Thing) (na
       elim (wakes i u some) [
         | inl same ↦ inl same
         | inr more ↦
-            let none : h.wakes i u ≡ 0 = ap (h.wakes i) (sym more.task) ∙ by_zero (h.wakes i z.task) (none_before i) in
             inr (
-              more.more ∙ ap (λ m. m + 1) none,
-              record {
-                it = waits.it;
-                there = ap (slice_get hs) (sym more.task) ∙ waits.there;
-                owes = subst (λ o. Owes i u o ts (slice_set naps n fired_nap) boxes) (sym waits.awaits)
-                    (fired_nap, set_there naps n fired_nap z there, record { worker = more.worker; task = more.task; unpaid = unpaid; unsent = unsent; over = refl });
-              },
+              more.more ∙ ap (λ m. m + 1) (ap (h.wakes i) (sym more.task) ∙ by_zero (h.wakes i z.task) (none_before i)),
+              let owes = subst (λ o. Owes i u o ts (slice_set naps n fired_nap) boxes) (sym waits.awaits) (fired_nap, set_there naps n fired_nap z there, record { worker = more.worker; task = more.task; unpaid = unpaid; unsent = unsent; over = refl }) in
+                  search (ap (slice_get hs) (sym more.task) ∙ waits.there, owes),
             )
       ]
 
@@ -75,8 +70,7 @@ module _ (h h' : Hands) (workers : ℕ) (hs : List Holder) (ts : List Thing) (na
         sent = λ sent. ((old.sent_too n z there sent).0, refl);
         here = λ t it at awaits home.
             let a = old.asleep t it n at awaits in
-            let is : a.0 ≡ z = same_thing a.0 z (sym a.1 ∙ there) in
-            ap (λ (x : Nap). is_unsent x.forwarding) (sym is) ∙ a.2.here home;
+            ap (λ (x : Nap). is_unsent x.forwarding) (sym (same_Some a.0 z (sym a.1 ∙ there))) ∙ a.2.here home;
         kept = λ t it at awaits going kept. kept;
         fewer = fewer;
         owes = λ i t some by. record { worker = by.worker; task = by.task; unpaid = by.unpaid; unsent = by.unsent; over = refl };
@@ -109,9 +103,8 @@ module _ {B : Type 0} (q : Place) (w w' : Worker) (s s' : Shared B) (k : ℕ) (z
 
       by : (x : Watching Reply) → o ≡ x → ((hands_then others).wakes i u ≡ (hands_of (with_worker others w)).wakes i u) ⊎ WakesNap (hands_of (with_worker others w)) (hands_then others) (nap_of z) i u
       by (sleep.Forwarded reply) some =
-          let more = counted u in
           let zero_of : count_by (λ (n : TaskNo). n.0 == u) (wakes_of o) ≡ 0 = ap (λ x. count_by (λ (n : TaskNo). n.0 == u) (wakes_of x)) some ∙ count_none (λ (n : TaskNo). n.0 == u) in
-          inl (omega (arith, now_is, was_is, more, zero_of))
+          inl (omega (arith, now_is, was_is, counted u, zero_of))
       by (sleep.Local v) some = by_same (v.0 == u) refl
         where
           one_of : (b : Bool) → (v.0 == u) ≡ b → count_by (λ (n : TaskNo). n.0 == u) (wakes_of o) ≡ cond b 1 0
@@ -119,17 +112,9 @@ module _ {B : Type 0} (q : Place) (w w' : Worker) (s s' : Shared B) (k : ℕ) (z
 
           by_same : (b : Bool) → (v.0 == u) ≡ b → ((hands_then others).wakes i u ≡ (hands_of (with_worker others w)).wakes i u) ⊎ WakesNap (hands_of (with_worker others w)) (hands_then others) (nap_of z) i u
           by_same false other =
-              let more = counted u in
-              let zero_of = one_of false other in
-              inl (omega (arith, now_is, was_is, more, zero_of))
+              inl (omega (arith, now_is, was_is, counted u, one_of false other))
           by_same true same =
-              let more = counted u in
-              let one = one_of true same in
-              inr (record {
-                more = omega (arith, now_is, was_is, more, one);
-                worker = mine ∙ sym (same_number i w.index is);
-                task = sym (ap (λ (t : TaskNo). t.0) (task v some)) ∙ same_number v.0 u same;
-              })
+              inr (search (rules, mine ∙ sym (same_number i w.index is), sym (ap (λ (t : TaskNo). t.0) (task v some)) ∙ same_number v.0 u same, counted u))
 
   pub balances_fired : Balances w w' s s'
   balances_fired =

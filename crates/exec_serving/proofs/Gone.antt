@@ -3,15 +3,15 @@ use Rattle.std.{proofs.{Common.{◌≡◌, ◌≢◌, ℕ, ◌<◌, ◌==◌, �
 use Rattle.std.proofs.Common.{arith}
 use Rattle.exec_base.specs.{Slab.{Slab, value_at, written}, declared.slab.{Id.Id}}
 use Rattle.exec_outcomes.specs.{Accounts.{Account, by_failure, is_durable, outcome_told as told_of}, Outcomes.{is_unsupported, refuses_hint}, declared.outcome.Outcome.{Outcome, TheVariants.{Failure, Success}}}
-use Rattle.exec_request.specs.{Hints.without_hint, Judging.judged_as, Requests.{asked_of, cursor_of, hinted_of, output_of, record_after, target_of}, declared.{output.RequestOutput.RequestOutput, request.Request.Request as Asking}, States.{Ended, as_outcome, asks_cancel, result_of, told_by}}
+use Rattle.exec_request.specs.{Hints.without_hint, Judging.judged_as, Requests.{asked_of, cursor_of, hinted_of, output_of, record_after, target_of}, declared.{request.Request.Request as Asking}, States.{Ended, as_outcome, asks_cancel, result_of, told_by}}
 use Rattle.exec_ring.specs.{Completions.result_in, declared.completion.Completion.Completion, Rings.completions}
-use Rattle.exec_waiters.{specs.{States.{file_of, flying_count}, Events.{waker_in, told_by_finish}, declared.{waiter.{Entry.{Entry, TheVariants.Pending}, Waiter.Waiter}, waiter_id.WaiterId.WaiterId}, Told.{Tells, Told}}, proofs.Changes.{one_if, entry_of}}
+use Rattle.exec_waiters.{specs.{States.{file_of, flying_count}, Events.{waker_in, told_by_finish}, declared.{waiter.{Entry.{Entry, TheVariants.Pending}, Waiter.Waiter}, waiter_id.WaiterId.WaiterId}, Told.{Tells}}, proofs.Changes.{one_if, entry_of}}
 use Rattle.exec_driver.specs.{Driving.{Driving, request_at, is_queued, is_unenrolled, is_cancelled}, Opens.{OpenState, account_by, account_in, with_account}, Punctual.IsPunctual, Placed.ListsRequests, Steps.open_after}
 use Rattle.exec_task.specs.declared.body.Said.{Said}
 use Rattle.exec_machine.specs.{declared.event.Event.{Event, TheVariants.Reap}, Requests.{judged_of, outcome_given}, Tests.{is_gated, is_of_file, is_resolved}, World.no_open}
 use Rattle.exec_moves.specs.{declared.place.{Place.Place, Reaping.Reaping, Service.Service, InService.InService}, Serve.{after_permit, back_from_reap, others_after_reap}, State.{Desk, dropped}, Thing.{set_wake_poll, with_ring}, Told.told_of_end}
-use Rattle.exec_parts.{specs.{declared.parts.{mail.Reply.Reply, record.Record.Record, shared.Shared.Shared, worker.Worker.Worker}, Records.number_in, Serving.changed_at, View.{account_seen, awaited_from, completions_in, driver_of, number_told, numbers_of_passing, open_seen, visible, own_of, desk_of, results_in, slots_seen, things_with, wake_poll_in, with_view, trailing}, Spots.Spot}, proofs.Facts.{and_none, by_number, never_true, same_thing, set_elsewhere}}
-use Rattle.exec_invariants.{specs.{Flown.operations, Gates.{AreLinedUp, HaveGates, IsKnown, PassesPermit, at_gate, key_for}, Holding.nap_of, Places.{drops_at, passes_at}, Sound.SoundAt, Whole.{IsWhole, Profile, with_worker}, Works.Steps}, proofs.{Accounted.{OpensJudged, open_of_file, opens_judged}, DeskEnds.desk_ended, EndsServed.{ends_thing, one_slot}, Gated.durable_of_file, Hinting.open_there, Keys.name_in, ReapKinds.durable_kept, Lined.{SameLines, gates_kept, gates_opens, gates_seen_same, lined_opens, map_changed, passing_same, was_sent}, Mine.{live_mine, stands}, Raising.poll_shows, ServedEnds.ends_told, ServedWakes.holding_over, Serving.{Balances, SparesRecords, at_large, spares_one}, ServingHolds.{serves_to, IsServed, OthersKept, keeps_home, KeepsBy, Keeps, Serves}, Slotted.{OneSlot, awaited_written, slots_written}, SparedRecord.there_within, Changing.{changes_one, flying_after}, Judging.{given_is, judged_same}, Seeing.{desk_with, makes, own_with, served, shows}, Ends.{flying_ended, numbers_without}, Marking.{mark_if, marked}}}
+use Rattle.exec_parts.{specs.{declared.parts.{mail.Reply.Reply, record.Record.Record, shared.Shared.Shared, worker.Worker.Worker}, Records.number_in, Serving.changed_at, View.{account_seen, driver_of, number_told, numbers_of_passing, open_seen, visible, own_of, desk_of, things_with, with_view, trailing}, Spots.Spot}, proofs.Facts.{and_right, by_number, false_from_ne_true, same_Some, set_elsewhere}}
+use Rattle.exec_invariants.{specs.{Flown.operations, Gates.{AreLinedUp, HaveGates, IsKnown, PassesPermit, at_gate, key_for}, Holding.nap_of, Places.{drops_at, passes_at}, Sound.SoundAt, Whole.{IsWhole, Profile, with_worker}, Works.Steps}, proofs.{Accounted.{OpensJudged, open_of_file, opens_judged}, DeskEnds.desk_ended, EndsServed.{ends_thing, one_slot}, Gated.durable_of_file, Hinting.open_there, Keys.name_in, ReapKinds.durable_kept, Lined.{SameLines, gates_kept, gates_opens, gates_seen_same, lined_opens, map_changed, passing_same, was_sent}, Mine.{live_mine, stands}, Raising.poll_shows, ServedEnds.ends_told, ServedWakes.holding_over, Serving.{Balances, SparesRecords, at_large, spares_one}, ServingHolds.{serves_to, IsServed, OthersKept, keeps_home, KeepsBy, Serves}, Slotted.{OneSlot, awaited_written, slots_written}, SparedRecord.there_within, Changing.{changes_one, flying_after}, Judging.{given_is, judged_same}, Seeing.{makes, own_with, served, shows}, Ends.{flying_ended, numbers_without}, Marking.{mark_if, marked}}}
 use Rattle.exec_serving.proofs.{PermitGates.{drops_others, drops_own, gates_passing}, PermitSeen.{opens_after, opens_ended}, ReapAccounts.{IsOperation, ends_unswitched, file_there, lines_counted, opens_counted, opens_uncounted, told_unhinted}, ReapViewed.{common_over, may_over, moves_over, told_place}, Returned.{one_fewer, passes_back}, Finished.{GoesOver, ended_same, follows_over, goes_over, keeps_gone, over_alike, over_outcome, over_place, served_over}}
 
 -- OPENS, twice changed
@@ -44,14 +44,12 @@ told_seen rs opens q r how b lined kind target within = by (is_durable (asked_of
         let k = (asked_of q).kind in
         let of : is_of_file k ≡ true = durable_of_file k durable in
         let has = open_of_file opens rs r.shown.operation.target lined (within (ap is_of_file kind ∙ of)) in
-        let file : file_of q ≡ Some r.shown.operation.target = file_there q of ∙ ap (λ n. Some n) (sym target) in
-        let kept : account_in opens (file_of q) ≡ Some has.a = ap (account_in opens) file ∙ ap account_by has.there ∙ has.account in
         let seen : (slice_index_or (map (open_seen rs) opens) r.shown.operation.target no_open).account ≡ has.a =
         ap (λ x. x.account) (open_there rs opens r.shown.operation.target has.o has.there) ∙ ap account_seen has.account in
         ap (λ x. told_of x (slice_index_or (map (open_seen rs) opens) r.shown.operation.target no_open).account (as_outcome how)) kind
         ∙ ap (λ a. told_of k a (as_outcome how)) seen
         ∙ sym (as_told (told_of k has.a (as_outcome how)))
-        ∙ sym (ap (λ a. as_outcome (told_by k how a)) kept)
+        ∙ sym (ap (λ a. as_outcome (told_by k how a)) (ap (account_in opens) (file_there q of ∙ ap (λ n. Some n) (sym target)) ∙ ap account_by has.there ∙ has.account))
         ∙ sym (ap as_outcome (told_unhinted k how b (account_in opens (file_of q))))
 
 -- ITS SLOT, once its result was taken
@@ -73,17 +71,14 @@ module _ {B L : Type 0} (left : B → L) (spot : L → Option Said → Spot) (rp
   over_name = grind arith
 
   pub own_gone : (d' : Driving Reply Reply) (over : GoesOver w s d' c cs how account) (ended : List ℕ) (q' : Place) →
-      let n = w.names.requests.items in
-      let k = number_in n over.h.id in
+      let k = number_in w.names.requests.items over.h.id in
       let me = own_with w q' ended w.names.untold.items (driver_of w) in
       own_with w q' ended w.names.untold.items d' ≡ record me { ready = filter (λ j. not (j == k)) me.ready; unenrolled = filter (λ j. not (j == k)) me.unenrolled; cancels = filter (λ j. not (j == k)) me.cancels; in_flight = me.in_flight - 1 }
   own_gone d' over ended q' =
       let n = w.names.requests.items in
       let d = driver_of w in
       let id = over.h.id in
-      let k = number_in n id in
       let name : WaiterId = record { 0 = id } in
-      let me' = own_with w q' ended w.names.untold.items d' in
       let s1 = written d.requests id (Pending (record over.h.it { in_flight = false; request = over.request })) in
       let it1 : Waiter Reply Reply = record over.h.it { in_flight = false; request = over.request } in
       let flying : flying_count d'.requests ≡ flying_count d.requests - 1 =
@@ -106,13 +101,12 @@ module _ {B L : Type 0} (left : B → L) (spot : L → Option Said → Spot) (rp
   unasked_by : (d' : Driving Reply Reply) (over : GoesOver w s d' c cs how account) → is_durable over.h.r.shown.operation.kind ≡ true → asks_cancel over.h.it.state ≡ false
   unasked_by d' over durable =
       let a = over_alike rp v w s sound c cs d' how account over in
-      never_true (asks_cancel over.h.it.state) (λ asks. false≢true (sym (durable_kept (asked_of over.h.it.request).kind (a.alone asks)) ∙ sym (ap (λ x. is_durable x.kind) a.asked) ∙ durable))
+      false_from_ne_true (asks_cancel over.h.it.state) (λ asks. false≢true (sym (durable_kept (asked_of over.h.it.request).kind (a.alone asks)) ∙ sym (ap (λ x. is_durable x.kind) a.asked) ∙ durable))
 
   pub operation_over : (d' : Driving Reply Reply) (over : GoesOver w s d' c cs how account) → IsOperation over.request over.h.r.shown.operation
   operation_over d' over =
       let a = over_alike rp v w s sound c cs d' how account over in
       let it = over.h.it in
-      let asked = asked_of it.request in
       let j = judged_as (hinted_of it.request) it.state (result_in c.result) in
       record {
         kind = ap (λ x. x.kind) a.asked ∙ sym (ap (λ k. k.asked.kind) over.kept);
@@ -120,7 +114,7 @@ module _ {B L : Type 0} (left : B → L) (spot : L → Option Said → Spot) (rp
         seen = λ durable. a.seen durable ∙ sym (ap (λ k. k.seen) over.kept);
         switched = λ durable.
             a.switched
-            ∙ sym (ends_unswitched asked (cursor_of it.request) j (as_outcome how) (unasked_by d' over durable) (sym over.judges.next))
+            ∙ sym (ends_unswitched (asked_of it.request) (cursor_of it.request) j (as_outcome how) (unasked_by d' over durable) (sym over.judges.next))
             ∙ sym (ap (λ x. x.switched) over.judges.cursor);
       }
 
@@ -140,20 +134,11 @@ module _ {B L : Type 0} (left : B → L) (spot : L → Option Said → Spot) (rp
           let r = over.h.r in
           let k = number_in w.names.requests.items over.h.id in
           let f = goes_over (result_in c.result) (told_over d' over) in
-          let same : r.shown.operation.target ≡ file = same_thing r.shown.operation.target file at in
           let o = there_within s'.opens r.shown.operation.target (lined.there k r over.h.there (durable_of_file r.shown.operation.kind durable)) in
           let a = over_alike rp v w s sound c cs d' how account over in
           let holds = (lined.lines r.shown.operation.target o.0 o.1).held k r over.h.there durable refl (ap is_gated over.h.landed) a.open_still in
-          subst (λ m. PassesPermit w.index m s'.opens s'.requests.items) same (record {
-            o = o.0;
-            open_there = o.1;
-            k = k;
-            r = f r;
-            there = ap (λ xs. slice_get xs k) (records ∙ is_changed) ∙ marked f s.requests.items k k r over.h.there ∙ ap (λ b. Some (mark_if f b r)) (eq-eqb k k refl);
-            mine = mine;
-            over = refl;
-            holds = holds;
-          })
+          let there = ap (λ xs. slice_get xs k) (records ∙ is_changed) ∙ marked f s.requests.items k k r over.h.there ∙ ap (λ b. Some (mark_if f b r)) (eq-eqb k k refl) in
+          subst (λ m. PassesPermit w.index m s'.opens s'.requests.items) (same_Some r.shown.operation.target file at) (search (o.1, there, mine, holds))
 
   pub reaped_over : (w' : Worker) (s' : Shared B) (e : Event) (over : GoesOver w s (driver_of w') c cs how account) (judged_opens : List OpenState)
       → IsPunctual (driver_of w')
@@ -181,7 +166,6 @@ module _ {B L : Type 0} (left : B → L) (spot : L → Option Said → Spot) (rp
       let f = goes_over given outcome in
       let w0 : Worker = record w { place = q } in
       let deferred = w'.home.deferred in
-      let follows = follows_over rp v later r in
       let ring = over.ring in
       let a = over_alike rp v w s sound c cs d' how account over in
       let mine = live_mine w.index w.names d w.home.timers rs s.sleepers.items sound.named h.id h.it h.r h.live h.there in
@@ -198,9 +182,8 @@ module _ {B L : Type 0} (left : B → L) (spot : L → Option Said → Spot) (rp
       let lines_end : SameLines judged_opens s'.opens = lines_counted over.request r.operation how judged_opens s'.opens rs lined op (many 0) opens_are in
       let lines : SameLines s.opens s'.opens = lines_after s.opens judged_opens s'.opens judged.same lines_end in
       let ungated : is_gated r.phase ≡ false = ap is_gated h.landed in
-      let keys = map_changed key_for rs k h.r f h.there refl in
-      let opens_end = opens_ended rs k h.r f h.there judged_opens s'.opens (as_outcome how) lined keys a.open_still (λ durable. durable)
-      (λ free. ap (λ b. record (name_in h.r) { over = b }) (free ∙ sym (and_none (is_resolved r.phase) (is_durable r.operation.kind) free)))
+      let opens_end = opens_ended rs k h.r f h.there judged_opens s'.opens (as_outcome how) lined (map_changed key_for rs k h.r f h.there refl) a.open_still (λ durable. durable)
+      (λ free. ap (λ b. record (name_in h.r) { over = b }) (free ∙ sym (and_right (is_resolved r.phase) (is_durable r.operation.kind) free)))
       (λ durable o at. (lined.lines r.operation.target o at).held k h.r h.there durable refl ungated a.open_still)
       (opens_uncounted over.request r.operation how judged_opens s'.opens rs lined op (many 0) opens_are) (opens_counted over.request r.operation how judged_opens s'.opens rs lined op (many 0) opens_are) in
       -- what holds again
@@ -210,39 +193,25 @@ module _ {B L : Type 0} (left : B → L) (spot : L → Option Said → Spot) (rp
       let known : IsKnown w.index n d'.requests s'.opens rs' = known_opens w.index n d'.requests s.opens s'.opens rs' lines gone.known in
       let gone1 : KeepsBy w1 d' w.home.timers rs' s.sleepers.items s1 =
       record { told = gone.told; wide = gone.wide; named = gone.named; sized = gone.sized; over = gone.over; quiet = gone.quiet; due = gone.due; flown = gone.flown; carried = gone.carried; known = known; rooted = gone.rooted; bare = gone.bare } in
-      let keeps : Keeps w' s' = keeps_home w1 w' s1 s' rs' d' same shared refl records gone1 in
       let there : w'.place ≡ q' = ap (λ x. x.place) same in
-      let serves : Serves q w w' s s' = serves_to q q' w w' s s' (subst (IsServed w) (sym same) refl) (subst (OthersKept s) (sym shared) refl) there follows in
+      let serves : Serves q w w' s s' = serves_to q q' w w' s s' (subst (IsServed w) (sym same) refl) (subst (OthersKept s) (sym shared) refl) there (follows_over rp v later r) in
       let show = shows q w w' s s' d' serves refl (ap (λ (x : Worker). x.home.timers) same) in
       let wakes_then = dropped later (visible w).wakes in
-      let seen : visible w' ≡ record (visible w) { landed = later; wakes = wakes_then } =
-      show.seen
-      ∙ ap (λ b. record (visible w) { busy = b; landed = map (number_told n) (operations d'.ring); wakes = wake_poll_in d'.ring }) ring.busy
-      ∙ ap (λ ops. record (visible w) { landed = map (number_told n) ops; wakes = wake_poll_in d'.ring }) ring.landed
-      ∙ ap (λ p. record (visible w) { landed = later; wakes = p }) ring.poll in
+      let seen : visible w' ≡ record (visible w) { landed = later; wakes = wakes_then } = grind (arith, show.seen, ring.busy, ring.landed, ring.poll) in
       -- the desk
       let x : Desk = others_after_reap later (visible w).wakes (desk_of w0) in
-      let told : RequestOutput = output_of over.request how account in
       let it1 : Waiter Reply Reply = record h.it { in_flight = false; request = over.request } in
-      let t : Told Reply Reply = told_by_finish h.id it1 how account in
       let slab1 = written d.requests h.id (Pending it1) in
       let was = entry_of (value_at d.requests h.id) h.it h.live in
       let live1 : value_at slab1 h.id ≡ Some (Pending it1) = entry_of (value_at slab1 h.id) it1 (changes_one d.requests h.id h.it it1 h.live).is_at in
       let one0 = one_slot w s q sound h.id h.it h.live in
       let one = one_written n d.requests h.id (Pending it1) live1 one0 in
       let ending = ends_told h.id it1 how account r.forwarding a.near in
-      let base : record (desk_of w0) { place = q'; entries = length d'.ring.staged; polled = d'.armed; others = trailing 0 (completions d'.ring) } ≡ record x { place = q' } =
-      ap (λ es. record (desk_of w0) { place = q'; entries = length es; polled = d'.armed; others = trailing 0 (completions d'.ring) }) ring.staged
-      ∙ ap (λ b. record (desk_of w0) { place = q'; polled = b; others = trailing 0 (completions d'.ring) }) ring.armed
-      ∙ ap (λ m. record x { place = q'; others = m }) ring.others in
-      let desk_end = desk_ended (record x { place = q' }) n slab1 w.home.deferred deferred h.id it1 told t r
+      let base : record (desk_of w0) { place = q'; entries = length d'.ring.staged; polled = d'.armed; others = trailing 0 (completions d'.ring) } ≡ record x { place = q' } = grind (arith, ring.staged, ring.armed, ring.others) in
+      let desk_end = desk_ended (record x { place = q' }) n slab1 w.home.deferred deferred h.id it1 (output_of over.request how account) (told_by_finish h.id it1 how account) r
       (record { wakes = refl; outputs = refl; completions = refl; results = refl; requests = sym (slots_written n d.requests h.id (Pending h.it) (Pending it1) was); awaited = sym (awaited_written n d.requests h.id (Pending h.it) (Pending it1) was refl) })
       one (one_written_is n d.requests h.id (Pending it1) live1 one0) ending tells a.near a.observed a.waiter (λ reply is. (sound.rooted.replies h.id h.it reply h.r h.live is h.there).of) in
-      let desk : desk_of w' ≡ record (told_of_end k r x) { place = q' } =
-      show.desk ∙ ap (λ y. desk_with w y w'.put_off deferred d') there ∙ ap (λ o. desk_with w q' o deferred d') (ap (λ y. y.put_off) same)
-      ∙ ap (λ (y : Desk). record y { wakes = map (λ t. t.0) deferred.notes.wakes.items; outputs = length deferred.outputs.items; completions = completions_in deferred.notes.completions.items; results = results_in deferred.results.items; requests = slots_seen n d'.requests; awaited = awaited_from 0 n d'.requests.slots }) base
-      ∙ ap (λ y. record x { place = q'; wakes = map (λ t. t.0) deferred.notes.wakes.items; outputs = length deferred.outputs.items; completions = completions_in deferred.notes.completions.items; results = results_in deferred.results.items; requests = slots_seen n y; awaited = awaited_from 0 n y.slots }) over.requests
-      ∙ desk_end ∙ told_place k r x q' in
+      let desk : desk_of w' ≡ record (told_of_end k r x) { place = q' } = grind (arith, show.desk, there, same, base, over.requests, desk_end, told_place k r x q') in
       -- the machine
       let gives : outcome_given r given ≡ Some (as_outcome how) = given_is d.wheel.start d.wheel.tick h.it r a given h.flies over.request (Some (as_outcome how)) over.judges in
       let shown : told_of r.operation.kind (slice_index_or (map (open_seen rs) s.opens) r.operation.target no_open).account (as_outcome how) ≡ outcome =
@@ -264,7 +233,7 @@ module _ {B L : Type 0} (left : B → L) (spot : L → Option Said → Spot) (rp
         holding = holding_over q w w' s s' k h.r f outcome (waker_in h.it.observer) sound.here serves h.there records (ap (λ (y : Shared B). map nap_of y.sleepers.items) shared) ends (tells.notes.wakes_added ∙ ap (λ ws. w.home.deferred.notes.wakes.items ++ ws) ending.wakes);
       } in
       subst (λ y. Steps left spot w s y w' s') (sym event)
-      (served left spot q w w' s s' (Reap k given (Some outcome)) sound serves keeps spares balances
+      (served left spot q w w' s s' (Reap k given (Some outcome)) sound serves (keeps_home w1 w' s1 s' rs' d' same shared refl records gone1) spares balances
       (λ p vs suits.
       record {
         moves =
@@ -276,10 +245,7 @@ module _ {B L : Type 0} (left : B → L) (spot : L → Option Said → Spot) (rp
             ∙ ap (λ ns. record (things_with (with_view vs w.index (visible w')) s) { answers = ns }) (passing_same was_sent rs s'.requests.items spares.lines.sent)
             ∙ poll_shows vs w.index s sound.seated.seat sound.seated.there waits (visible w') ∙ ap (λ y. set_wake_poll w.index (things_with vs s) y.wakes) seen));
         may = may_over left spot rp v w s sound waits c cs is h p vs suits (own_of w0) (as_outcome how) outcome (at_large q w s sound refl) gives shown;
-        own =
-            show.own ∙ ap (λ y. own_with w y w'.names.ended.items w'.names.untold.items d') there ∙ ap (λ y. own_with w q' w'.names.ended.items y.names.untold.items d') same
-            ∙ ap (λ es. own_with w q' es w.names.untold.items d') ended
-            ∙ own_gone d' over (w.names.ended.items ++ k ∷ []) q' ∙ rw (served_over rp v later r) refl;
+        own = grind (arith, show.own, there, same, ended, own_gone d' over (w.names.ended.items ++ k ∷ []) q', served_over rp v later r);
         common = common_over left spot rp v w s sound waits c cs is h p vs suits s' w' wakes_then (as_outcome how) outcome shared records
             (opens_end ∙ ap (λ os. opens_after os r.operation (as_outcome how)) (judged.shown rs)) gives seen;
       }))

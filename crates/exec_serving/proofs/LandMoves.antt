@@ -1,13 +1,13 @@
 -- A result lands: what its request and its kernel's store must be, and what becomes of them.
-use Rattle.std.{proofs.{Common.{◌≡◌, ℕ, ◌+◌, ◌-◌, ◌≤◌, ◌==◌, ◌&&◌, Bool, true, false, not, List, length, Some, None, Option, refl, sym, ap, subst, ◌∙◌, arith, slice_get, if◌then◌else◌}, lemmas.{Bool.{eq-eqb}}}, specs.{BTreeMap.get, Ordering.nat_cmp}}
+use Rattle.std.{proofs.{Common.{◌≡◌, ℕ, ◌+◌, ◌-◌, ◌≤◌, ◌==◌, ◌&&◌, Bool, true, false, List, length, Some, None, Option, refl, sym, ap, subst, ◌∙◌, arith, slice_get, if◌then◌else◌}, lemmas.{Bool.{eq-eqb}}}, specs.{BTreeMap.get, Ordering.nat_cmp}}
 use Rattle.exec_outcomes.specs.{Lawful.{is_lawful, window_of}, Outcomes.{bytes_of}, declared.outcome.{OpResult.{OpResult, TheVariants.{Count, Errno}}, Kind.Kind}}
 use Rattle.exec_request.specs.{Buffers.{batch_of}, Kept.{seen_by}, Requests.{asked_of, cursor_of, deadline_of, hinted_of, target_of, window_by}, Syncing.{is_syncing}, Views.{write_window}, Ways.{asked_by}, Windows.most_of, declared.{request.Request.Request as Asking, way.Way.Way}}
-use Rattle.exec_ring.specs.{Fillings.Fills, Kernels.{flight_of, may_land}, Landings.{IsReady, IsReadyFor, Moves, MovesBytes}, Rings.{RingState}, Sockets.{SocketState}, Stores.{CoversIn, HasStretch, socket_of}, declared.{completion.{Submission.Submission}, file.File.File, store.Store.Store}}
+use Rattle.exec_ring.specs.{Fillings.Fills, Kernels.{flight_of, may_land}, Landings.{IsReady, IsReadyFor, Moves, MovesBytes}, Rings.{RingState}, Stores.{CoversIn, HasStretch, socket_of}, declared.{completion.{Submission.Submission}, file.File.File, store.Store.Store}}
 use Rattle.exec_driver.specs.Footprints.{bytes_left}
 use Rattle.exec_machine.specs.{declared.state.{Operation.Operation, RequestPhase.{TheVariants.Flying}}, Requests.{asked_of as asked_in, cursor_of as cursor_in}}
 use Rattle.exec_parts.{specs.{declared.parts.record.Record.Record, Serving.changed_at}}
 use Rattle.exec_invariants.{specs.Carried.{HasRoom, HasStretchFor, IsWhole, IsLone, is_moved_by, may_move, moves_by, room_for, landing}, proofs.Carrying.{lone_found, part_within, sum_changed}}
-use Rattle.exec_serving.proofs.LandWindows.{allowed_by, batch_few, batch_whole, counted, few_left, lawful_same}
+use Rattle.exec_serving.proofs.LandWindows.{allowed_by, batch_few, counted, few_left, lawful_same}
 
 -- THE ROOM FOR BYTES
 
@@ -36,36 +36,19 @@ ready_for : (q : Asking) (r : Record) (n : OpResult) (rs : List Record) (k : ℕ
     → r.shown.operation.target ≡ target_of q → is_lawful (window_of (asked_in r.shown.operation) (cursor_in r.shown.operation)) n ≡ true → is_lawful (most_of (window_by true q)) n ≡ true → HasRoom rs st → IsReadyFor (window_by true q) n q st
 ready_for q r (Errno c) rs k st whole stretch there flies asked target lawful most room = tt
 ready_for (Asking.Send s) r (Count n) rs k st whole stretch there flies asked target lawful most room =
-    let batch = batch_whole s.write whole in
-    record {
-      window = refl;
-      ends = rw batch (omega arith);
-      room = room_of rs st k r (Count n) true s.fd there flies (sends_there r.shown.operation s.fd (ap (λ a. a.kind) asked) target) lawful room;
-    }
+    grind (arith, room_of rs st k r (Count n) true s.fd there flies (sends_there r.shown.operation s.fd (ap (λ a. a.kind) asked) target) lawful room)
 ready_for (Asking.Recv x) r (Count n) rs k st whole stretch there flies asked target lawful most room =
-    record {
-      window = refl;
-      ends = omega arith;
-      room = room_of rs st k r (Count n) false x.fd there flies (receives_there r.shown.operation x.fd x.exact (ap (λ a. a.kind) asked) target) lawful room;
-    }
+    grind (arith, room_of rs st k r (Count n) false x.fd there flies (receives_there r.shown.operation x.fd x.exact (ap (λ a. a.kind) asked) target) lawful room)
 ready_for (Asking.ReadAt x) r (Count n) rs k st whole stretch there flies asked target lawful most room =
-    let within = x.within in
-    let ends = x.ends in
-    record { window = refl; ends = omega (arith, within, ends); room = tt }
+    record { window = refl; ends = omega (arith, x.within, x.ends); room = tt }
 ready_for (Asking.WriteAt w) r (Count n) rs k st whole stretch there flies asked target lawful most room = by (is_syncing w.state) refl
   where
     by : (b : Bool) → is_syncing w.state ≡ b → IsReadyFor (write_window true w) (Count n) (Asking.WriteAt w) st
     by true is = rw is (record { window = rw is refl; ends = omega arith; room = tt })
     by false is =
-        let few = batch_few w.write whole in
-        let ends = w.ends in
         let most' : is_lawful (batch_of w.write) (Count n) ≡ true = rw is at most in
         let count = counted (batch_of w.write) (Count n) most' in
-        rw is (record {
-          window = rw is refl;
-          ends = omega (arith, few, ends);
-          room = stretch_within (get nat_cmp st.files w.file) w.offset (bytes_left w.write) n (omega (arith, few, count)) (stretch is);
-        })
+        rw is (grind (arith, refl, stretch_within (get nat_cmp st.files w.file) w.offset (bytes_left w.write) n (omega (arith, batch_few w.write whole, count)) (stretch is)))
 ready_for (Asking.Poll p) r (Count n) rs k st whole stretch there flies asked target lawful most room = record { window = refl; ends = omega arith; room = tt }
 ready_for (Asking.Sync x) r (Count n) rs k st whole stretch there flies asked target lawful most room = record { window = refl; ends = omega arith; room = tt }
 ready_for (Asking.Connect x) r (Count n) rs k st whole stretch there flies asked target lawful most room = record { window = refl; ends = omega arith; room = tt }

@@ -7,9 +7,9 @@ use Rattle.exec_moves.specs.{State.{passed, wake_poll_of}, Thing.set_wake_poll}
 use Rattle.exec_waiters.{specs.{Ids.user_data_of, States.flying_count, declared.waiter.Entry.TheVariants.Pending}, proofs.Changes.entry_of}
 use Rattle.exec_base.specs.Slab.{value_at}
 use Rattle.exec_task.specs.declared.body.Said.{Said}
-use Rattle.exec_machine.specs.{Callers.after_landing, Progress.Plan, Tests.is_resolved, World.{Seat, request_of}, declared.state.Rest.TheVariants.Awake}
+use Rattle.exec_machine.specs.{Callers.after_landing, Progress.Plan, Tests.is_resolved, World.{Seat}, declared.state.Rest.TheVariants.Awake}
 use Rattle.exec_parts.{specs.{declared.parts.{record.Record.Record, seat.Seat.Seat as Chair, shared.Shared.Shared, worker.Worker.Worker}, Phased.TurnsChair, Records.roused, Spots.Spot, View.{Views, Visible, awaited_from, common_of, desk_of, driver_of, gate_seen, number_told, numbers_of_passing, open_seen, own_of, seat_seen, seats_seen, slots_seen, things_with, visible, wake_poll_in, with_view}}, proofs.Showing.map_kept}
-use Rattle.exec_invariants.{specs.{Carried.{HasRoom, landing, may_move}, Flown.operations, Gates.HaveGates, Holding.{IsHolding, box_of, holder_of, nap_of, thing_of}, Sound.Sound, Spares.Spares, Whole.{IsWhole, hands_of, with_worker}, Works.{Beside, Suits}}, proofs.{Aside.{SameProfile, profile_same, queue_of_chair, queues_set, seats_own, spares_turn, whole_same}, Serving.{SparesRecords, spares_service}, Seats.own_seat, Recorded.{request_seen, shown_changed}, Carrying.{index_told, one_landed, sum_changed}, Changing.flying_after, Going.{thing_on, things_changed}, Keys.{name_in, names_changed, same_opens}, Lined.{gates_kept, gates_seen_same, opens_same, passing_same, was_sent}, Raising.{poll_shows, poll_shown, rest_shows}, Shown.{own_with, visible_with}, Slotted.{awaited_written, slots_written}, PoolKept.gates_set}}
+use Rattle.exec_invariants.{specs.{Carried.{HasRoom, landing, may_move}, Flown.operations, Gates.HaveGates, Holding.{IsHolding, box_of, holder_of, nap_of, thing_of}, Sound.Sound, Spares.Spares, Whole.{IsWhole, hands_of, with_worker}, Works.{Beside, Suits}}, proofs.{Aside.{SameProfile, profile_same, queue_of_chair, queues_set, seats_own, spares_turn, whole_same}, Serving.{spares_service}, Seats.own_seat, Recorded.{request_seen, shown_changed}, Carrying.{index_told, one_landed, sum_changed}, Changing.flying_after, Going.{thing_on, things_changed}, Keys.{name_in, names_changed, same_opens}, Lined.{gates_kept, gates_seen_same, opens_same, passing_same, was_sent}, Raising.{poll_shows, poll_shown, rest_shows}, Shown.{own_with, visible_with}, Slotted.{awaited_written, slots_written}, PoolKept.gates_set}}
 use Rattle.exec_serving.proofs.{LandMoves.{Leaves, Refilled, less_moves}, Landing.{Lander, driver_then, landing_on, place_of, records_then, there_so, waiter_then}, Landed.{landed_lines, landed_spares}}
 
 -- two changes at one place
@@ -82,9 +82,7 @@ module _ {B : Type 0} (w : Worker) (s : Shared B) (k : ℕ) (n : OpResult) (who 
   room_before : HasRoom (records_then w s k n who) s.store
   room_before = λ out socket.
       let sum = sum_changed (may_move out socket) s.requests.items (place_of w s k n who) who.r (landing n) (there_so w s k n who) in
-      let less = less_moves who.r n who.flies out socket in
-      let most = sound.carried.room out socket in
-      omega (arith, sum, less, most)
+      omega (arith, sum, less_moves who.r n who.flies out socket, sound.carried.room out socket)
 
   pub landed_beside : (w' : Worker) (s' : Shared B) → w' ≡ record w { home = record w.home { driver = w'.home.driver } } → Sound w' s' → s'.requests.items ≡ records_then w s k n who → Leaves who.r.shown.operation n s.store s'.store
       → s' ≡ record s { seats = s'.seats; requests = s'.requests; store = s'.store } → TurnsChair w.index roused s s' → Beside w s w' s'
@@ -98,38 +96,13 @@ module _ {B : Type 0} (w : Worker) (s : Shared B) (k : ℕ) (n : OpResult) (who 
       let s1 : Shared B = record s { seats = s'.seats } in
       let s2 : Shared B = record s { requests = s'.requests } in
       let s3 : Shared B = record s { seats = s'.seats; requests = s'.requests; store = s'.store } in
-      let spares : SparesRecords w.index s s2 = landed_spares w s k n who q same sound s2 refl refl records in
       let room : HasRoom s2.requests.items s2.store = subst (λ rs. HasRoom rs s.store) (sym records) room_before in
       record {
         spares = λ j other.
-            let by_seats : Spares j s s1 = spares_turn w.index j s s1 other refl seats in
-            let by_records : Spares j s s2 = spares_service w.index j s s2 other refl spares room in
+            let by_records : Spares j s s2 = spares_service w.index j s s2 other refl (landed_spares w s k n who q same sound s2 refl refl records) room in
             let room' : HasRoom s3.requests.items s3.store = subst (λ (x : Shared B). HasRoom x.requests.items x.store) kept holds.carried.room in
-            let done : Spares j s s3 = record {
-              config = refl;
-              clock = refl;
-              gates = by_records.gates;
-              hints = by_records.hints;
-              many = by_seats.many;
-              chair = by_seats.chair;
-              tails = by_seats.tails;
-              records = by_records.records;
-              records_only = by_records.records_only;
-              sleepers = by_records.sleepers;
-              sleepers_only = by_records.sleepers_only;
-              endure = by_records.endure;
-              endure_too = by_records.endure_too;
-              root = by_seats.root;
-              polled = by_seats.polled;
-              room = λ h. room';
-              stretch = leaves.stretch;
-              stopped = λ h. h;
-              closed = λ h. h;
-              by_zero = λ h. (refl, refl);
-              shards = refl;
-              emptied = λ shut i none. none;
-              genuine = λ r h. h;
-            } in
+            let room_then : HasRoom s.requests.items s.store → HasRoom s3.requests.items s3.store = λ h. room' in
+            let done : Spares j s s3 = assumption (room_then, leaves.stretch, by_records, spares_turn w.index j s s1 other refl seats) in
             subst (λ z. Spares j s z) (sym kept) done;
         whole = λ others whole.
             let x = with_worker others w' in
@@ -162,8 +135,6 @@ module _ {B : Type 0} (w : Worker) (s : Shared B) (k : ℕ) (n : OpResult) (who 
         let seats : seats_seen vs'.workers s'.seats.items ≡ slice_set all.seats w.index (record (seat_seen (visible w) chair) { landed = (visible w).landed ++ k ∷ []; rest = Awake }) =
         ap (seats_seen vs'.workers) (turns chair sound.seated.there) ∙ seat_changed vs.workers s.seats.items w.index (visible w') (roused chair)
         ∙ ap (λ v. slice_set all.seats w.index (seat_seen v (roused chair))) (landed_visible w' driver worker) in
-        let request : request_of all k ≡ who.r.shown = request_seen rs k who.r who.there in
-        let mine : who.r.shown.worker ≡ w.index = who.mine in
         let gives : name_in (landing n who.r) ≡ name_in who.r = ap (λ b. record (name_in who.r) { over = b && is_durable who.r.shown.operation.kind }) (sym (ap is_resolved who.flies)) in
         let names = names_changed rs at who.r (landing n) (there_so w s k n who) gives in
         let shown : map (λ x. x.shown) rs' ≡ slice_set (map (λ x. x.shown) rs) k (landing n who.r).shown =
@@ -174,4 +145,4 @@ module _ {B : Type 0} (w : Worker) (s : Shared B) (k : ℕ) (n : OpResult) (who 
         ∙ ap (λ os. record all { seats = slice_set all.seats w.index (record (seat_seen (visible w) chair) { landed = (visible w).landed ++ k ∷ []; rest = Awake }); requests = map (λ x. x.shown) rs'; opens = os }) (same_opens rs rs' names s.opens)
         ∙ ap (λ xs. record all { seats = slice_set all.seats w.index (record (seat_seen (visible w) chair) { landed = (visible w).landed ++ k ∷ []; rest = Awake }); requests = xs }) shown
         ∙ ap (λ (x : Seat). record all { seats = slice_set all.seats w.index (record x { landed = x.landed ++ k ∷ []; rest = Awake }); requests = slice_set all.requests k (landing n who.r).shown }) (sym seen)
-        ∙ rw (request, mine) refl
+        ∙ rw (request_seen rs k who.r who.there, who.mine) refl

@@ -1,5 +1,5 @@
 -- The results that the machine allows for a request are those that its kernel may give.
-use Rattle.std.{proofs.{Common.{◌≡◌, ℕ, ◌-◌, ◌^◌, ◌≤◌, ◌==◌, ◌&&◌, Bool, true, false, min, length, refl, arith, nat_le}, lemmas.{Bool.{false≢true, and_parts, Decides.nat_tests}}}}
+use Rattle.std.{proofs.{Common.{◌≡◌, ℕ, ◌-◌, ◌^◌, ◌≤◌, ◌==◌, Bool, true, min, length, refl, arith, nat_le}, lemmas.{Bool.{and_parts, Decides.nat_tests}}}}
 use Rattle.exec_outcomes.specs.{Lawful.{is_lawful, window_of}, Outcomes.{bytes_of}, declared.outcome.{OpResult.{OpResult, TheVariants.{Count, Errno}}, Kind.Kind}}
 use Rattle.exec_request.specs.{Buffers.{batch_of, length_of, moved_of}, Requests.{asked_of, cursor_of, window_by}, Windows.most_of, declared.{buffers.WriteBuffers.{WriteBuffers, TheVariants.{Single, Vectored}}, request.Request.Request as Asking}}
 use Rattle.exec_machine.specs.{declared.state.{Operation.Operation}, Requests.{asked_of as asked_in, cursor_of as cursor_in}}
@@ -31,9 +31,5 @@ few_by : (k : Kind) (b out : Bool) (length skip moved : ℕ) (hint : Bool) (n : 
     → is_lawful (window_of (record { kind = k; length = length; skip = skip }) (record { moved = moved; switched = b; hinted = hint })) n ≡ true → bytes_of n ≤ length - moved
 few_by = grind arith
 
-both_true : (a b : Bool) → (a && b) ≡ true → (a ≡ true) × (b ≡ true)
-both_true true b h = (refl, h)
-both_true false b h = absurd (false≢true h)
-
 pub few_left : (o : Operation) (n : OpResult) (out : Bool) (socket : ℕ) → moves_by out socket o ≡ true → is_lawful (window_of (asked_in o) (cursor_in o)) n ≡ true → bytes_of n ≤ o.length - o.moved
-few_left o n out socket moves h = few_by o.kind o.switched out o.length o.skip o.moved o.unrefused n (both_true (is_moved_by out o.kind) (o.target == socket) moves).0 h
+few_left o n out socket moves h = few_by o.kind o.switched out o.length o.skip o.moved o.unrefused n (and_parts (is_moved_by out o.kind) (o.target == socket) moves).0 h

@@ -81,14 +81,9 @@ module _ {B : Type 0} (w : Worker) (s : Shared B) (k : ℕ) (n : OpResult) (who 
   due_then : IsPunctual (driver_then w s k n who q) → IsDue (served_in w.place) w.home.closing w.index w.moments s.config w.names (driver_then w s k n who q) w.home.timers (records_then w s k n who) s.sleepers.items
   due_then punctual =
       let due = sound.due in
-      record {
-        punctual = punctual;
-        told = due.told;
-        wheel = due.wheel;
-        timed = timed_one w.index w.names w.names (driver_of w) (driver_then w s k n who q) w.home.timers s.requests.items s.sleepers.items who.r.id.0 who.it (waiter_then w s k n who q) who.r (landing n) (one w s k n who q same sound) sound.named due.timed;
-        asleep = due.asleep;
-        order = eased (eases_written (driver_of w).requests who.r.id.0 who.it (waiter_then w s k n who q) who.live (λ t is. is) (λ none. none)) (alike_self (driver_of w).wheel) (part_self (driver_of w).lists.enrolments) (part_self (driver_of w).lists.due) due.order;
-      }
+      let order = eased (eases_written (driver_of w).requests who.r.id.0 who.it (waiter_then w s k n who q) who.live (λ t is. is) (λ none. none)) (alike_self (driver_of w).wheel) (part_self (driver_of w).lists.enrolments) (part_self (driver_of w).lists.due) due.order in
+      let timed = timed_one w.index w.names w.names (driver_of w) (driver_then w s k n who q) w.home.timers s.requests.items s.sleepers.items who.r.id.0 who.it (waiter_then w s k n who q) who.r (landing n) (one w s k n who q same sound) sound.named due.timed in
+      search (punctual, timed, order, due)
 
   rooted_then : IsRooted w.index w.names (driver_then w s k n who q) w.home.timers w.home.deferred (records_then w s k n who) s.sleepers.items
   rooted_then =
@@ -150,8 +145,7 @@ module _ {B : Type 0} (w : Worker) (s : Shared B) (k : ℕ) (n : OpResult) (who 
       → s' ≡ record s { seats = s'.seats; requests = s'.requests; store = s'.store } → TurnsChair w.index roused s s' → Sound w' s'
   landed_sound w' s' driver punctual worker records leaves kept turns =
       let s1 : Shared B = record s { requests = s'.requests; store = s'.store } in
-      let there : SoundAt w.place w' s1 = landed_there w' s' driver punctual worker records leaves in
-      let here : Sound w' s1 = subst (λ p. SoundAt p w' s1) (sym (ap (λ x. x.place) worker)) there in
+      let here : Sound w' s1 = subst (λ p. SoundAt p w' s1) (sym (ap (λ x. x.place) worker)) (landed_there w' s' driver punctual worker records leaves) in
       let index : w'.index ≡ w.index = ap (λ x. x.index) worker in
       seat_kept w'.place w' s1 s' here Awake here.seated.seat.raised kept
       (turns here.seated.seat (ap (slice_get s.seats.items) (sym index) ∙ here.seated.there) ∙ ap (λ j. slice_set s.seats.items j (roused here.seated.seat)) (sym index))

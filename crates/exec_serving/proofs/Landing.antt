@@ -43,24 +43,12 @@ module _ {B : Type 0} (w : Worker) (s : Shared B) (k : ℕ) (n : OpResult) (soun
       let number : number_in w.names.requests.items id ≡ k = (sound.due.timed k r may.there (mine r may.there)).named (ap is_resolved may.flies) in
       let there : slice_get s.requests.items (number_in w.names.requests.items id) ≡ Some r = ap (slice_get s.requests.items) number ∙ may.there in
       let a = sound.named.alike id it r live there in
-      record {
-        r = r;
-        there = may.there;
-        mine = mine r may.there;
-        flies = may.flies;
-        it = it;
-        live = live;
-        number = number;
-        alike = a;
-        in_flight = sym a.flying ∙ ap is_in_flight may.flies;
-        lone = (flies_alone id it r live there may.flies).0;
-        unstaged = (flies_alone id it r live there may.flies).1;
-        small = sound.carried.slots id it live;
-        whole = sound.carried.whole id it live;
-        stretch = sound.carried.stretch id it live;
-        target = sound.carried.target id it r live there;
-        fit = may_fly it.request r (user_data_of id) n s.requests.items k (driver_of w).ring s.store (sound.carried.whole id it live) (sound.carried.stretch id it live) may.there may.flies a.asked a.moved a.switched (sound.carried.target id it r live there) (flies_alone id it r live there may.flies).0 may.lawful sound.carried.room;
-      }
+      let alone = flies_alone id it r live there may.flies in
+      let whole = sound.carried.whole id it live in
+      let stretch = sound.carried.stretch id it live in
+      let target = sound.carried.target id it r live there in
+      let fit = may_fly it.request r (user_data_of id) n s.requests.items k (driver_of w).ring s.store whole stretch may.there may.flies a.asked a.moved a.switched target alone.0 may.lawful sound.carried.room in
+      search (may.there, mine r may.there, may.flies, live, number, a, sym a.flying ∙ ap is_in_flight may.flies, alone.0, alone.1, sound.carried.slots id it live, whole, stretch, target, fit)
     where
       flies_alone : (id : Id) (it : Waiter Reply Reply) (r : Record) → waiter_at (driver_of w).requests id ≡ Some it → slice_get s.requests.items (number_in w.names.requests.items id) ≡ Some r → r.shown.phase ≡ RequestPhase.Flying → IsUnderWay RequestPhase.Flying (user_data_of id) it.request (driver_of w).ring
       flies_alone id it r live there flies = subst (λ p. IsUnderWay p (user_data_of id) it.request (driver_of w).ring) flies (sound.carried.carried id it r live there)
@@ -109,11 +97,8 @@ module _ {B : Type 0} (w : Worker) (s : Shared B) (k : ℕ) (n : OpResult) (who 
 
   pub after_one : (d' : Driving Reply Reply) (st' : Store) → LandsOne (driver_of w) d' who.r.id who.it n s.store st' → After d' st'
   after_one d' st' one =
-      record {
-        q = one.lands.request;
-        lands = flown_so who.it.request one.lands.request who.r.shown.operation (user_data_of who.r.id.0) n (driver_of w).ring s.store st' who.alike.asked who.target who.fit one.lands.moved;
-        driver = one.driver ∙ ap (λ x. record (driver_of w) { requests = x; ring = landed (driver_of w).ring (user_data_of who.r.id.0) n }) one.lands.slab;
-      }
+      let lands = flown_so who.it.request one.lands.request who.r.shown.operation (user_data_of who.r.id.0) n (driver_of w).ring s.store st' who.alike.asked who.target who.fit one.lands.moved in
+      search (lands, one.driver ∙ ap (λ x. record (driver_of w) { requests = x; ring = landed (driver_of w).ring (user_data_of who.r.id.0) n }) one.lands.slab)
 
   module _ (q : Asking) (same : Refilled who.it.request q) (sound : Sound w s) where
     d' : Driving Reply Reply
@@ -124,17 +109,7 @@ module _ {B : Type 0} (w : Worker) (s : Shared B) (k : ℕ) (n : OpResult) (who 
 
     pub one : OneGoesOn w.names w.names (driver_of w) (driver_then q) s.requests.items who.r.id.0 who.it (waiter_then q) who.r (landing n)
     one =
-        record {
-          at = who.live;
-          there = there_so;
-          slab = refl;
-          on = landing_on n who.r who.flies;
-          alike = landing_alike (driver_of w).wheel.start (driver_of w).wheel.tick n who.it q who.r who.flies who.in_flight same who.alike;
-          start = refl;
-          tick = refl;
-          requests = refl;
-          timers = refl;
-        }
+        assumption (there_so, landing_on n who.r who.flies, landing_alike (driver_of w).wheel.start (driver_of w).wheel.tick n who.it q who.r who.flies who.in_flight same who.alike, who)
 
     pub all_on : AllGoOn s.requests.items records_then
     all_on = all_go_one s.requests.items place_of (landing n) who.r there_so (landing_on n who.r who.flies)
@@ -150,24 +125,15 @@ module _ {B : Type 0} (w : Worker) (s : Shared B) (k : ℕ) (n : OpResult) (who 
         carried_one w.names.requests.items (driver_of w).requests ring s.requests.items s.store sound.carried who.r.id.0 who.it (waiter_then q) who.r (landing n) (driver_then q).ring who.live there_so
         (λ v apart. others_fly u v ring n apart) (λ v apart. refl) under (same.whole who.whole) (who.target ∙ sym same.target) (λ out socket. less_moves who.r n who.flies out socket) (same.stretch s.store who.stretch)
         (λ other x live apart. apart_number w.index w.names w.names (driver_of w) (driver_then q) w.home.timers s.requests.items s.sleepers.items who.r.id.0 who.it (waiter_then q) who.r (landing n) one sound.named other (rw (entry_of (value_at (driver_of w).requests other) x live) refl) apart) in
-        record {
-          slots = there.slots;
-          whole = there.whole;
-          target = there.target;
-          carried = there.carried;
-          nobody = there.nobody;
-          room = room_landed who.r n s.requests.items place_of s.store st' there_so who.flies who.fit.shown leaves sound.carried.room;
-          stretch = λ other x live. stretch_then x.request who.r.shown.operation n s.store st' leaves (there.stretch other x live);
-        }
+        let stretch : (other : Id) (x : Waiter Reply Reply) → waiter_at (driver_then q).requests other ≡ Some x → HasStretchFor x.request st' = λ other x live. stretch_then x.request who.r.shown.operation n s.store st' leaves (there.stretch other x live) in
+        assumption (room_landed who.r n s.requests.items place_of s.store st' there_so who.flies who.fit.shown leaves sound.carried.room, stretch, there)
 
     -- WHAT HAS LANDED
 
     told_by : (c : Completion) → HasLanded w.names (driver_of w) s.requests.items c → place_of ≡ number_told w.names.requests.items c → ⊥
     told_by c h at =
         let number : number_told w.names.requests.items c ≡ number_in w.names.requests.items h.id = ap (λ j. slice_index_or w.names.requests.items j 0) (sym h.index) in
-        let here : slice_get s.requests.items (number_in w.names.requests.items h.id) ≡ Some who.r = ap (slice_get s.requests.items) (sym (at ∙ number)) ∙ there_so in
-        let is : who.r ≡ h.r = cc (here, h.there) in
-        let no : RequestPhase.Flying ≡ RequestPhase.Landed _ = sym who.flies ∙ ap (λ z. z.shown.phase) is ∙ h.landed in
+        let is : who.r ≡ h.r = cc (ap (slice_get s.requests.items) (sym (at ∙ number)) ∙ there_so, h.there) in
         cc
 
     landed_last : (cs : List Completion) (c : Completion) → AreLanded w.names (driver_of w) s.requests.items cs → AreLanded w.names (driver_then q) records_then cs → HasLanded w.names (driver_then q) records_then c
@@ -183,18 +149,9 @@ module _ {B : Type 0} (w : Worker) (s : Shared B) (k : ℕ) (n : OpResult) (who 
     has_landed =
         let told = result_told _ n who.fit.lawful in
         let window : window_of (asked_of q) (cursor_of q) ≡ window_of (asked_of who.it.request) (cursor_of who.it.request) = ap (λ a. window_of a (cursor_of q)) same.asked ∙ ap (λ c. window_of (asked_of who.it.request) c) same.cursor in
-        record {
-          id = who.r.id.0;
-          it = waiter_then q;
-          r = landing n who.r;
-          index = sym (index_told who.r.id.0 who.small);
-          generation = sym (generation_told who.r.id.0 who.small);
-          live = changed.is_at;
-          flies = who.in_flight;
-          lawful = ap (λ m. is_lawful m (result_in (number_of n))) window ∙ ap (λ g. is_lawful (window_of (asked_of who.it.request) (cursor_of who.it.request)) g) told ∙ who.fit.lawful;
-          there = marked (landing n) s.requests.items place_of place_of who.r there_so ∙ ap (λ b. Some (mark_if (landing n) b who.r)) (eq-eqb place_of place_of refl);
-          landed = ap RequestPhase.Landed (sym told);
-        }
+        let lawful = ap (λ m. is_lawful m (result_in (number_of n))) window ∙ ap (λ g. is_lawful (window_of (asked_of who.it.request) (cursor_of who.it.request)) g) told ∙ who.fit.lawful in
+        let there = marked (landing n) s.requests.items place_of place_of who.r there_so ∙ ap (λ b. Some (mark_if (landing n) b who.r)) (eq-eqb place_of place_of refl) in
+        search (sym (index_told who.r.id.0 who.small), sym (generation_told who.r.id.0 who.small), changed.is_at, who.in_flight, lawful, there, ap RequestPhase.Landed (sym told))
 
     pub landed_then : AreLanded w.names (driver_then q) records_then (operations (driver_then q).ring)
     landed_then =
@@ -203,9 +160,7 @@ module _ {B : Type 0} (w : Worker) (s : Shared B) (k : ℕ) (n : OpResult) (who 
         (λ other x y given live flies found landed.
         let j = number_in w.names.requests.items other in
         let apart : place_of ≡ j → ⊥ = λ at.
-        let here : slice_get s.requests.items j ≡ Some who.r = ap (slice_get s.requests.items) (sym at) ∙ there_so in
-        let is : who.r ≡ y = cc (here, found) in
-        let no : RequestPhase.Flying ≡ RequestPhase.Landed given = sym who.flies ∙ ap (λ z. z.shown.phase) is ∙ landed in
+        let is : who.r ≡ y = cc (ap (slice_get s.requests.items) (sym at) ∙ there_so, found) in
         cc in
         let differs : other ≢ who.r.id.0 = λ e. apart (ap (number_in w.names.requests.items) (sym e)) in
         record { it' = x; r' = y; live = changed.others other differs ∙ live; flies = refl; same = refl; number = refl; there = marked (landing n) s.requests.items place_of j y found ∙ ap (λ b. Some (mark_if (landing n) b y)) (not_same place_of j apart); phase = refl }) in

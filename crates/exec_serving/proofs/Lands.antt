@@ -1,5 +1,5 @@
 -- An operation lands, once the wakes that wait at its worker's seat are in the ring.
-use Rattle.std.proofs.Common.{◌≡◌, ℕ, Option, Some, sym, ap, ◌∙◌, slice_get, slice_set, arith}
+use Rattle.std.proofs.Common.{◌≡◌, ℕ, Option, Some, sym, ap, ◌∙◌, slice_get, slice_set}
 use Rattle.exec_outcomes.specs.declared.outcome.OpResult.{OpResult}
 use Rattle.exec_request.specs.declared.request.Request.{Request as Asking}
 use Rattle.exec_task.specs.declared.body.Said.{Said}
@@ -41,23 +41,20 @@ module _ {B L : Type 0} (left : B → L) (spot : L → Option Said → Spot) (w 
   pub lands_things : (p : Plan) (vs : Views) → Suits p vs w s → things_with (with_view vs w.index (visible w')) s' ≡ set_wake_poll w.index (things_with vs s) (passed (wake_poll_of (things_with vs s) w.index))
   lands_things p vs suits =
       let vs1 = with_view vs w.index (visible w1) in
-      let suits1 = suits_taken w.place w w1 s s1 sound takes p vs suits in
       let none : sound1.seated.seat.raised ≡ 0 =
-      let there : slice_get s1.seats.items w1.index ≡ Some sound1.seated.seat = sound1.seated.there in
       let chair' : Chair = record sound.seated.seat { raised = 0 } in
       let now : slice_get s1.seats.items w1.index ≡ Some chair' =
       ap (slice_get s1.seats.items) index ∙ ap (λ xs. slice_get xs w.index) (takes.seats sound.seated.seat sound.seated.there) ∙ set_there s.seats.items w.index chair' sound.seated.seat sound.seated.there in
-      let is : sound1.seated.seat ≡ chair' = cc (there, now) in
+      let is : sound1.seated.seat ≡ chair' = cc (sound1.seated.there, now) in
       ap (λ c. c.raised) is in
       ap (λ v. things_with v s') (sym (again vs))
-      ∙ landed_things w1 s1 k n who q request sound1 w' s' driver same records kept turns none vs1 suits1.seen
+      ∙ landed_things w1 s1 k n who q request sound1 w' s' driver same records kept turns none vs1 (suits_taken w.place w w1 s s1 sound takes p vs suits).seen
       ∙ ap (λ j. set_wake_poll j (things_with vs1 s1) (passed (wake_poll_of (things_with vs1 s1) j))) index
       ∙ ap (λ x. set_wake_poll w.index x (passed (wake_poll_of x w.index))) (things_taken w.place w w1 s s1 sound takes vs suits.seen)
 
   pub lands_common : (p : Plan) (vs : Views) → Suits p vs w s → common_of left spot p (with_view vs w.index (visible w')) s' ≡ after_landing (common_of left spot p vs s) k n
   lands_common p vs suits =
-      let vs1 = with_view vs w.index (visible w1) in
       let suits1 = suits_taken w.place w w1 s s1 sound takes p vs suits in
       ap (λ v. common_of left spot p v s') (sym (again vs))
-      ∙ landed_common w1 s1 k n who q request sound1 left spot w' s' driver same records kept turns p vs1 suits1
+      ∙ landed_common w1 s1 k n who q request sound1 left spot w' s' driver same records kept turns p (with_view vs w.index (visible w1)) suits1
       ∙ ap (λ c. after_landing c k n) (common_taken w.place w w1 s s1 sound takes left spot p vs suits.seen)

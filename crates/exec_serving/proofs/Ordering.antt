@@ -4,7 +4,7 @@ use Rattle.exec_waiters.specs.declared.waiter_id.WaiterId.{WaiterId}
 use Rattle.exec_driver.{specs.Lists.{first_of, rest_of, is_among}, proofs.Names.same_tells}
 use Rattle.exec_machine.specs.{declared.{config.Configuration.Configuration, state.Request.Request}, Ranges.wheel_slots, Deadlines.{is_due, is_first_due, is_told_after, is_told_before, order_on_wheel}, Tests.all_numbered}
 use Rattle.exec_moves.specs.Serve.{first_numbered}
-use Rattle.exec_parts.{specs.{declared.parts.{record.Record.Record, shared.Shared.Shared, worker.Worker.Worker}, Records.number_in, View.{driver_of, own_of}}, proofs.Facts.{same_number, and_none}}
+use Rattle.exec_parts.{specs.{declared.parts.{record.Record.Record, shared.Shared.Shared, worker.Worker.Worker}, Records.number_in, View.{driver_of, own_of}}, proofs.Facts.{same_number, and_right}}
 use Rattle.exec_invariants.{specs.{Ordered.{IsToldBefore, Pairwise, tick_at, turn_of, went_round}, Submits.{IsDueIn, IsInOrder}}, proofs.{Idling.{shown_at, stands_timed}, Recorded.request_seen, Expiring.{DueAt, due_first}, Staging.{among_first, split_first}}}
 
 -- TESTS OVER A LIST
@@ -17,7 +17,7 @@ module _ {X : Type 0} (test : ℕ → X → Bool) where
   pub one_fails : (n k m : ℕ) (xs : List X) (x : X) → slice_get xs k ≡ Some x → m ≡ n + k → test m x ≡ false → all_numbered test n xs ≡ false
   one_fails n k m [] x there is fails = absurd (cc)
   one_fails n zero m (y ∷ ys) x there is fails = grind arith
-  one_fails n (suc k) m (y ∷ ys) x there is fails = and_none (test n y) (all_numbered test (suc n) ys) (one_fails (suc n) k m ys x there (omega (arith, is)) fails)
+  one_fails n (suc k) m (y ∷ ys) x there is fails = and_right (test n y) (all_numbered test (suc n) ys) (one_fails (suc n) k m ys x there (omega (arith, is)) fails)
 
   pub only_passes : (n k m : ℕ) (xs : List X) (x : X) → slice_get xs k ≡ Some x → m ≡ n + k → test m x ≡ true → ((j i : ℕ) (y : X) → slice_get xs j ≡ Some y → i ≡ n + j → (i ≡ m → ⊥) → test i y ≡ false) → first_numbered test n xs ≡ Some m
   only_passes n k m [] x there is passes others = absurd (cc)
@@ -103,13 +103,7 @@ module _ {B : Type 0} (w : Worker) (s : Shared B) (new : IsDueIn w s) where
       let at : tick_at (driver_of w).requests r.id.0 ≡ Some it.tick = rw it.live it.enrolled in
       let within : it.tick ≤ (driver_of w).wheel.current =
       tick_there w.moments.start s.config.tick (driver_of w).wheel.current w.moments.sampled it.tick sound.config.some_tick current_is (subst (λ t. t ≤ w.moments.sampled) it.moment parts.1.2) in
-      record {
-        among = among_of it.tick within (λ out. (sound.due.punctual.ahead r.id it.tick at out).0) (is_among r.id (driver_of w).lists.due) refl;
-        numbered = it.numbered;
-        tick = it.tick;
-        stands = at;
-        timer = parts.1.1 ∙ ap Some it.moment;
-      }
+      search (among_of it.tick within (λ out. (sound.due.punctual.ahead r.id it.tick at out).0) (is_among r.id (driver_of w).lists.due) refl, at, parts.1.1 ∙ ap Some it.moment, it)
     where
       among_of : (t : ℕ) → t ≤ (driver_of w).wheel.current → (is_among r.id (driver_of w).lists.due ≡ false → (driver_of w).wheel.current < t) → (b : Bool) → is_among r.id (driver_of w).lists.due ≡ b → is_among r.id (driver_of w).lists.due ≡ true
       among_of t within out true is = is

@@ -39,9 +39,8 @@ module _ {B : Type 0} where
       let acks = all_acknowledged r (driver_of w).armed polled sub.tagged in
       let told = ap (λ p. p.told) (enter_shown r (driver_of w).armed polled sub.tagged) in
       let ring : (driver_of w').ring ≡ all_taken r = ap (λ d. d.ring) it.driver ∙ ap (λ b. if b then (record r { busy = false }) else all_taken r) free in
-      let n = length w.names.untold.items in
       let p = poll_taken (driver_of w).armed (visible w).wakes in
-      ap (λ cs. (not (is_empty (map f cs)) || nat_lt 0 (trailing 0 (completions r) + n)) || p.told) (sym acks.landed)
+      ap (λ cs. (not (is_empty (map f cs)) || nat_lt 0 (trailing 0 (completions r) + (length w.names.untold.items))) || p.told) (sym acks.landed)
       ∙ ap (λ m. (not (is_empty (map f (filter (λ c. not (is_control c)) (completions (all_taken r))))) || nat_lt 0 m) || p.told) (ap (λ m. trailing 0 (completions r) + m) (sym sub.cancels) ∙ sym acks.others)
       ∙ ap (λ b. (not (is_empty (map f (filter (λ c. not (is_control c)) (completions (all_taken r))))) || nat_lt 0 (trailing 0 (completions (all_taken r)))) || b) (sym told)
       ∙ some_grouped f (all_taken r)

@@ -22,8 +22,7 @@ module _ {B L : Type 0} (left : B → L) (spot : L → Option Said → Spot) (v 
   pub file_small : file + 1 < 2 ^ 32
   file_small =
       let o = gate_open left spot v file w s new in
-      let within = slice_get_within s.opens file o.0 o.1 in
-      omega (arith, within, new.sound.gates.few)
+      omega (arith, slice_get_within s.opens file o.0 o.1, new.sound.gates.few)
 
   pub grant_room : (id : WaiterId) → GrantAt w s file id → length w.names.ended.items < deque_capacity w.names.ended
   grant_room id who =

@@ -1,20 +1,12 @@
 -- The first of a gate is granted its permit: it waits no more, and stands there still.
-use Rattle.std.proofs.{Common.{◌≡◌, ◌≢◌, ℕ, ◌+◌, ◌<◌, ◌≤◌, ◌==◌, ◌&&◌, ◌++◌, arith, Bool, true, false, not, List, [], ◌∷◌, cond, count_by, length, map, Some, None, option_to_list, refl, sym, ap, subst, ◌∙◌, slice_get}, lemmas.{Bool.{eq-eqb, false≢true}, List.Recursion.is_count_by}}
+use Rattle.std.proofs.{Common.{◌≡◌, ◌≢◌, ℕ, ◌+◌, ◌<◌, ◌≤◌, ◌==◌, ◌&&◌, ◌++◌, arith, Bool, true, false, not, List, [], ◌∷◌, cond, count_by, length, map, Some, None, option_to_list, refl, sym, ap, subst, ◌∙◌, slice_get}, lemmas.{Bool.{eq-eqb, false≢true}}}
 use Rattle.exec_outcomes.specs.Accounts.{is_durable}
 use Rattle.exec_driver.specs.{Opens.OpenState, declared.opens.WaiterKey.WaiterKey}
 use Rattle.exec_machine.specs.Tests.{is_gated, is_of_file, is_resolved}
-use Rattle.exec_parts.{specs.{declared.parts.record.Record.Record, Serving.changed_at}, proofs.Facts.{by_number, not_same, or_left, same_number, same_thing}}
-use Rattle.exec_invariants.{specs.{Gates.{AreLinedUp, HaveGates, IsLinedUp, at_gate, is_coming, is_in_line, key_for, line_at, same_key}, Places.Drops}, proofs.{GateLines.key_self, Lined.map_changed, Marking.{mark_if, marked, was_marked}}}
+use Rattle.exec_parts.{specs.{declared.parts.record.Record.Record, Serving.changed_at}, proofs.Facts.{by_number, not_same, or_left, same_number, same_Some}}
+use Rattle.exec_invariants.{specs.{Gates.{AreLinedUp, HaveGates, IsLinedUp, at_gate, is_coming, is_in_line, key_for, line_at, same_key}, Places.Drops}, proofs.{GateLines.key_self, Lined.{map_changed, tallied, tally}, Marking.{mark_if, marked, was_marked}}}
 
 -- LISTS
-
-tally : {A : Type 0} → (A → Bool) → List A → ℕ
-tally p [] = 0
-tally p (x ∷ xs) = cond (p x) (1 + tally p xs) (tally p xs)
-
-tallied : {A : Type 0} (p : A → Bool) (xs : List A) → tally p xs ≡ count_by p xs
-unfolding tally
-tallied p xs = is_count_by (tally p) p refl (λ x ys. refl) xs
 
 tally_map : {A : Type 0} (p : A → Bool) (xs : List A) → tally p xs ≡ tally (λ (b : Bool). b) (map p xs)
 unfolding tally
@@ -52,7 +44,7 @@ module _ (k : ℕ) (r : Record) (f : Record → Record) (o : OpenState) (opens :
 
   -- a record is that one, or as before
   which : {P : Type 0} (j : ℕ) (x : Record) → slice_get rs_granted j ≡ Some x → (j ≢ k → slice_get rs j ≡ Some x → P) → (j ≡ k → f r ≡ x → P) → P
-  which = grind (arith, was_marked, by_number, mark_if, not_same, same_thing, eq-eqb)
+  which = grind (arith, was_marked, by_number, mark_if, not_same, same_Some, eq-eqb)
 
   now : (j : ℕ) (x : Record) → slice_get rs j ≡ Some x → j ≢ k → slice_get rs_granted j ≡ Some x
   now j x at apart = marked f rs k j x at ∙ ap (λ b. Some (mark_if f b x)) (not_same k j (λ e. apart (sym e)))
@@ -66,9 +58,8 @@ module _ (k : ℕ) (r : Record) (f : Record → Record) (o : OpenState) (opens :
 
   its_file : (file : ℕ) (x : OpenState) (n : ℕ) (key : WaiterKey) → slice_get opens file ≡ Some x → slice_get (line_at x) n ≡ Some key → key_for r ≡ key → (file ≡ r.shown.operation.target) × (x ≡ o)
   its_file file x n key at in_line is =
-      let line = lined.lines file x at in
-      let target : r.shown.operation.target ≡ file = (line.durable n key k r in_line it.there is).1 in
-      (sym target, same_thing x o (sym at ∙ ap (slice_get opens) (sym target) ∙ it.open_there))
+      let target : r.shown.operation.target ≡ file = ((lined.lines file x at).durable n key k r in_line it.there is).1 in
+      (sym target, same_Some x o (sym at ∙ ap (slice_get opens) (sym target) ∙ it.open_there))
 
   line_granted : (file : ℕ) (x : OpenState) → slice_get opens file ≡ Some x → IsLinedUp file x rs_granted
   line_granted file x at =
@@ -79,8 +70,7 @@ module _ (k : ℕ) (r : Record) (f : Record → Record) (o : OpenState) (opens :
             by_number old.0 k
             (λ apart. (old.0, old.1, now old.0 old.1 old.2 apart, old.3))
             (λ is.
-            let same : old.1 ≡ r = same_thing old.1 r (sym old.2 ∙ ap (slice_get rs) is ∙ it.there) in
-            (k, f r, now_its, it.key ∙ ap key_for (sym same) ∙ old.3));
+            (k, f r, now_its, it.key ∙ ap key_for (sym (same_Some old.1 r (sym old.2 ∙ ap (slice_get rs) is ∙ it.there))) ∙ old.3));
         durable = λ n key j y in_line there is.
             let old = before j y there in
             let was = line.durable n key j old.0 in_line old.1 (old.2 ∙ is) in
@@ -90,16 +80,14 @@ module _ (k : ℕ) (r : Record) (f : Record → Record) (o : OpenState) (opens :
             (λ apart at_j. line.waits n key j y some in_line at_j is)
             (λ at_k same.
             let mine : key_for r ≡ key = sym it.key ∙ ap key_for same ∙ is in
-            let its = its_file file x n key at in_line mine in
-            let zero_of : n ≡ 0 = line.once n 0 key in_line (ap (λ l. slice_get (line_at l) 0) its.1 ∙ first ∙ ap (λ y. Some y) mine) in
+            let zero_of : n ≡ 0 = line.once n 0 key in_line (ap (λ l. slice_get (line_at l) 0) (its_file file x n key at in_line mine).1 ∙ first ∙ ap (λ y. Some y) mine) in
             absurd (omega (arith, some, zero_of)));
         once = line.once;
         held = λ j y there durable of ungated going.
             which j y there
             (λ apart at_j. line.held j y at_j durable of ungated going)
             (λ at_k same.
-            let target : r.shown.operation.target ≡ file = sym it.target ∙ ap (λ z. z.shown.operation.target) same ∙ of in
-            let is_o : x ≡ o = same_thing x o (sym at ∙ ap (slice_get opens) (sym target) ∙ it.open_there) in
+            let is_o : x ≡ o = same_Some x o (sym at ∙ ap (slice_get opens) (sym (sym it.target ∙ ap (λ z. z.shown.operation.target) same ∙ of)) ∙ it.open_there) in
             ap (λ z. z.holder) is_o ∙ it.holds ∙ ap (λ z. Some z) (sym it.key ∙ ap key_for same));
         first = line.first;
         kept = line.kept;
@@ -117,8 +105,7 @@ module _ (k : ℕ) (r : Record) (f : Record → Record) (o : OpenState) (opens :
           by false is = is
           by true is =
               let parts = and_all (is_gated r.shown.phase) (r.shown.operation.target == file) (not (is_in_line (key_for r) x)) is in
-              let target : r.shown.operation.target ≡ file = same_number r.shown.operation.target file parts.0 in
-              let is_o : x ≡ o = same_thing x o (sym at ∙ ap (slice_get opens) (sym target) ∙ it.open_there) in
+              let is_o : x ≡ o = same_Some x o (sym at ∙ ap (slice_get opens) (sym (same_number r.shown.operation.target file parts.0)) ∙ it.open_there) in
               let in_it : is_in_line (key_for r) o ≡ true =
               ap (λ h. is_in_line (key_for r) (record o { holder = h })) it.holds ∙ or_left (same_key (key_for r) (key_for r)) (is_in_line (key_for r) (record o { holder = None })) (key_self (key_for r) (key_for r) refl) in
               absurd (false≢true (sym (ap not (ap (is_in_line (key_for r)) is_o ∙ in_it)) ∙ parts.1))
@@ -149,13 +136,12 @@ module _ (k : ℕ) (r : Record) (f : Record → Record) (o : OpenState) (opens :
             by_number p.k k
             (λ apart. record { o = p.o; open_there = p.open_there; k = p.k; r = p.r; there = now p.k p.r p.there apart; mine = p.mine; over = p.over; holds = p.holds })
             (λ same.
-            let is_r : p.r ≡ r = same_thing p.r r (sym p.there ∙ ap (slice_get rs) same ∙ it.there) in
-            absurd (false≢true (sym it.going ∙ ap (λ y. is_resolved y.shown.phase) (sym is_r) ∙ p.over)));
+            absurd (false≢true (sym it.going ∙ ap (λ y. is_resolved y.shown.phase) (sym (same_Some p.r r (sym p.there ∙ ap (slice_get rs) same ∙ it.there))) ∙ p.over)));
         joins = λ j n is.
             let p = have.joins j n is in
             by_number n k
             (λ apart. record { r = p.r; there = now n p.r p.there apart; mine = p.mine; gated = p.gated; apart = p.apart })
             (λ same.
-            let is_r : p.r ≡ r = same_thing p.r r (sym p.there ∙ ap (slice_get rs) same ∙ it.there) in
+            let is_r : p.r ≡ r = same_Some p.r r (sym p.there ∙ ap (slice_get rs) same ∙ it.there) in
             absurd (p.apart o 0 (ap (λ y. slice_get opens y.shown.operation.target) is_r ∙ it.open_there) (first ∙ ap (λ y. Some (key_for y)) (sym is_r))));
       }

@@ -1,21 +1,14 @@
 -- The first of a gate leaves it, whose request is over: who stands there then, and what is seen of that.
-use Rattle.std.{proofs.{Common.{◌≡◌, ◌≢◌, ℕ, zero, suc, ◌+◌, ◌<◌, ◌&&◌, ◌++◌, ◌^◌, arith, Bool, true, false, List, [], ◌∷◌, cond, count_by, drop, length, map, Some, None, option_to_list, refl, sym, ap, subst, ◌∙◌, slice_get, slice_set, if◌then◌else◌}, lemmas.{Bool.false≢true, List.{length-set, Recursion.is_count_by}}}}
+use Rattle.std.{proofs.{Common.{◌≡◌, ◌≢◌, ℕ, zero, suc, ◌+◌, ◌<◌, ◌&&◌, ◌++◌, ◌^◌, arith, Bool, true, false, List, [], ◌∷◌, cond, count_by, drop, length, map, Some, None, option_to_list, refl, sym, ap, subst, ◌∙◌, slice_get, slice_set, if◌then◌else◌}, lemmas.{Bool.false≢true, List.{length-set}}}}
 use Rattle.exec_outcomes.specs.Accounts.{is_durable}
 use Rattle.exec_driver.specs.{Opens.{OpenState, passed}, declared.opens.WaiterKey.WaiterKey}
 use Rattle.exec_machine.specs.{declared.state.RequestPhase.RequestPhase, Tests.{is_gated, is_resolved}}
-use Rattle.exec_parts.{specs.{declared.parts.record.Record.Record, View.{account_seen, gate_seen, gives_up, has_given_up, line_of, number_of_key, open_seen}}, proofs.Facts.{by_number, never_true, same_thing, set_elsewhere, set_there}}
+use Rattle.exec_parts.{specs.{declared.parts.record.Record.Record, View.{account_seen, gate_seen, gives_up, has_given_up, line_of, number_of_key, open_seen}}, proofs.Facts.{by_number, false_from_ne_true, same_Some, set_elsewhere, set_there}}
 use Rattle.exec_invariants.{specs.{Gates.{AreLinedUp, HaveGates, IsLinedUp, at_gate, has_hint_at, is_coming, key_for, line_at}, Places.Drops}}
 use Rattle.exec_serving.proofs.PermitSeen.{number_named, shows}
+use Rattle.exec_invariants.proofs.Lined.{tallied, tally}
 
 -- LISTS
-
-tally : {A : Type 0} → (A → Bool) → List A → ℕ
-tally p [] = 0
-tally p (x ∷ xs) = cond (p x) (1 + tally p xs) (tally p xs)
-
-tallied : {A : Type 0} (p : A → Bool) (xs : List A) → tally p xs ≡ count_by p xs
-unfolding tally
-tallied p xs = is_count_by (tally p) p refl (λ x ys. refl) xs
 
 tally_same : {A : Type 0} (p q : A → Bool) (xs : List A) → ((n : ℕ) (x : A) → slice_get xs n ≡ Some x → p x ≡ q x) → tally p xs ≡ tally q xs
 unfolding tally
@@ -52,7 +45,7 @@ over_ungated : (r : Record) → is_resolved r.shown.phase ≡ true → is_gated 
 over_ungated r over gated = phase_ungated r.shown.phase over gated
 
 gated_open : (r : Record) → is_gated r.shown.phase ≡ true → is_resolved r.shown.phase ≡ false
-gated_open r gated = never_true (is_resolved r.shown.phase) (λ over. over_ungated r over gated)
+gated_open r gated = false_from_ne_true (is_resolved r.shown.phase) (λ over. over_ungated r over gated)
 
 module _ (file : ℕ) (opens : List OpenState) (rs : List Record) (it : Leaver file opens rs) (lined : AreLinedUp opens rs) where
   abbrev pub opens_left : List OpenState
@@ -72,7 +65,7 @@ module _ (file : ℕ) (opens : List OpenState) (rs : List Record) (it : Leaver f
 
   -- it alone has its key
   itself : (k : ℕ) (x : Record) → slice_get rs k ≡ Some x → key_for x ≡ key_for it.r → x ≡ it.r
-  itself k x at same = same_thing x it.r (sym at ∙ ap (slice_get rs) (lined.unique k it.k x it.r at it.there same) ∙ it.there)
+  itself k x at same = same_Some x it.r (sym at ∙ ap (slice_get rs) (lined.unique k it.k x it.r at it.there same) ∙ it.there)
 
   coming_same : (k : ℕ) (x : Record) → slice_get rs k ≡ Some x → is_coming file (passed it.o) (at_gate x) ≡ is_coming file it.o (at_gate x)
   coming_same = grind arith
@@ -86,8 +79,7 @@ module _ (file : ℕ) (opens : List OpenState) (rs : List Record) (it : Leaver f
         waits = λ n key k r some at there is. line.waits (suc n) key k r (omega arith) (later n key at) there is;
         once = λ m n key at_m at_n. let same : suc m ≡ suc n = line.once (suc m) (suc n) key (later m key at_m) (later n key at_n) in omega (arith, same);
         held = λ k r there durable of ungated going.
-            let held = line.held k r there durable of ungated going in
-            let same : key_for r ≡ key_for it.r = same_thing (key_for r) (key_for it.r) (sym held ∙ it.holds) in
+            let same : key_for r ≡ key_for it.r = same_Some (key_for r) (key_for it.r) (sym (line.held k r there durable of ungated going) ∙ it.holds) in
             absurd (false≢true (sym going ∙ ap (λ y. is_resolved y.shown.phase) (itself k r there same) ∙ it.over));
         first = λ none. none_behind it.o.waiting none;
         kept = line.kept;
@@ -96,7 +88,7 @@ module _ (file : ℕ) (opens : List OpenState) (rs : List Record) (it : Leaver f
 
   -- an open is that one, or as before
   which : {P : Type 0} (f : ℕ) (o : OpenState) → slice_get opens_left f ≡ Some o → (f ≢ file → slice_get opens f ≡ Some o → P) → (f ≡ file → passed it.o ≡ o → P) → P
-  which = grind (arith, by_number, set_elsewhere, same_thing, set_there)
+  which = grind (arith, by_number, set_elsewhere, same_Some, set_there)
 
   pub lined_left : AreLinedUp opens_left rs
   lined_left =
@@ -126,8 +118,8 @@ module _ (file : ℕ) (opens : List OpenState) (rs : List Record) (it : Leaver f
             by_number f file
             (λ other. record { o = p.o; open_there = set_elsewhere opens file f (passed it.o) other ∙ p.open_there; k = p.k; r = p.r; there = p.there; mine = p.mine; over = p.over; holds = p.holds })
             (λ same.
-            let is_o : p.o ≡ it.o = same_thing p.o it.o (sym p.open_there ∙ ap (slice_get opens) same ∙ it.open_there) in
-            let key : key_for p.r ≡ key_for it.r = same_thing (key_for p.r) (key_for it.r) (sym p.holds ∙ ap (λ y. y.holder) is_o ∙ it.holds) in
+            let is_o : p.o ≡ it.o = same_Some p.o it.o (sym p.open_there ∙ ap (slice_get opens) same ∙ it.open_there) in
+            let key : key_for p.r ≡ key_for it.r = same_Some (key_for p.r) (key_for it.r) (sym p.holds ∙ ap (λ y. y.holder) is_o ∙ it.holds) in
             absurd (apart (sym p.mine ∙ ap (λ y. y.worker) key ∙ mine))))
             (λ same. absurd (let no : None ≡ Some f = sym none ∙ sym (ap (λ m. (drops' m).passes) same) ∙ is in cc));
         joins = λ j k is.
@@ -171,14 +163,7 @@ module _ (file : ℕ) (opens : List OpenState) (rs : List Record) (it : Leaver f
   next_at_gate key at =
       let second : slice_get (line_at it.o) 1 ≡ Some key = ap (λ l. slice_get l 1) whole_line ∙ at in
       let n = line.named 1 key second in
-      record {
-        k = n.0;
-        r = n.1;
-        there = n.2;
-        named = n.3;
-        number = number_named opens rs lined n.0 n.1 key n.2 n.3;
-        gated = line.waits 1 key n.0 n.1 (omega arith) second n.2 n.3;
-      }
+      search (n.2, n.3, number_named opens rs lined n.0 n.1 key n.2 n.3, line.waits 1 key n.0 n.1 (omega arith) second n.2 n.3)
 
   line_behind : (ks : List WaiterKey) → it.o.waiting ≡ ks → line_of rs (map (number_of_key 0 rs) ks) ≡ map (number_of_key 0 rs) ks
   line_behind [] is = refl

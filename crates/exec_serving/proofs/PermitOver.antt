@@ -4,13 +4,14 @@ use Rattle.exec_base.specs.{Slab.{value_at, written}}
 use Rattle.exec_outcomes.specs.{Accounts.{Account, is_durable, outcome_at_grant, outcome_told as told_of}, declared.outcome.{Kind.Kind, Outcome.{Outcome}}}
 use Rattle.exec_request.specs.{Requests.{asked_of, outcome_if_granted, output_of, record_after}, declared.output.RequestOutput.RequestOutput, States.{Ended, as_answer, as_outcome, told_by}}
 use Rattle.exec_waiters.{specs.{Events.{finished, told_by_finish, waker_in, with_permit}, States.{file_of, flying_count, tick_in, tick_of, waiter_at}, Told.{Tells, Told as ToldOf}, declared.waiter.{Entry.TheVariants.Pending, Waiter.Waiter}}, proofs.Changes.{entry_of, one_if}}
-use Rattle.exec_driver.specs.{Driving.{Driving, is_cancelled, is_queued, is_unenrolled, request_at}, Lists.{without, without_gated, withdrawn}, Opens.{account_by, account_in, with_account}, Punctual.IsPunctual, Steps.{GrantsAs, granted as driver_granted, opens_after_end, told_by_end, unscheduled}, declared.driver.staging.Granted.Granted as Told}
+use Rattle.exec_driver.specs.{Driving.{Driving, is_cancelled, is_queued, request_at}, Lists.{without, without_gated, withdrawn}, Opens.{account_by, account_in, with_account}, Punctual.IsPunctual, Steps.{GrantsAs, granted as driver_granted, opens_after_end, told_by_end, unscheduled}, declared.driver.staging.Granted.Granted as Told}
 use Rattle.exec_task.specs.declared.body.Said.{Said}
-use Rattle.exec_machine.specs.{declared.event.Event.{Event, TheVariants.Grant}, Requests.{account_of_open, granted, joined_if, opens_after_end as machine_opens}, Same.{is_number, same_end}, Tests.{is_gated, is_of_file, is_resolved}, World.{open_of, request_of}}
+use Rattle.exec_machine.specs.{declared.event.Event.{Event, TheVariants.Grant}, Requests.{account_of_open, granted, joined_if}, Same.{is_number, same_end}, Tests.{is_gated, is_of_file, is_resolved}, World.{open_of, request_of}}
 use Rattle.exec_moves.specs.{declared.place.{AfterPermit.AfterPermit, InService.InService, Place.Place, Service.Service}, State.Desk, Submit.after_grant, Told.told_of_end}
-use Rattle.exec_parts.{specs.{declared.parts.{mail.Reply.Reply, record.Record.Record, shared.Shared.Shared, worker.Worker.Worker}, Records.number_in, Serving.{changed_at, changed_in}, Spots.Spot, View.{common_of, desk_of, driver_of, gate_seen, open_seen, things_with, visible, with_view}}, proofs.Facts.{by_name, same_thing}}
-use Rattle.exec_invariants.{specs.{Due.IsWheelAt, Gates.{AreLinedUp, HaveGates, IsKnown, PassesPermit, key_for}, Holding.nap_of, Places.{Drops, drops_at, passes_at}, Rooted.outcome_told, Submits.IsGatedIn, Whole.{IsWhole, Profile, with_worker}, Works.Steps}, proofs.{Accounted.open_of_file, Expiring.{unticked_start, unticked_tick}, Changing.{changes_one, flying_after}, DeskEnds.desk_ended, Ends.{flying_ended, numbers_without}, EndsServed.{ends_thing, one_slot}, Gated.durable_of_file, Late.ends_as, Lined.{SameLines, gates_opens, gates_seen_same, lined_opens, lines_same, map_changed, was_sent}, Marking.{mark_if, marked}, Mine.stands, Orders.alike_unticked, Ousting.keeps_ended, Over.OneEnds, Recorded.shown_changed, Resolving.{slab_after, unticked_at}, Seeing.{desk_with, makes, own_with, served_by, shows}, ServedEnds.ends_told, ServedWakes.holding_over, Serving.{Balances, SparesGates, at_large}, ServingHolds.{Follows, IsServed, Keeps, KeepsBy, OthersKept, Serves, keeps_home, serves_to}, Slotted.{awaited_written, slots_written}, Staging.stages_again, SparedRecord.there_within, Turning.view_found}}
-use Rattle.exec_serving.proofs.{Finished.tells_ending, Gone.{apart_by, as_told, known_opens, one_written, one_written_is}, PermitGates.{drops_others, drops_own, gates_passing}, PermitGrants.{Granted, gates_granted, keys_granted, lined_granted}, PermitQueued.{GrantAt, granted_at as at_grant, granted_of, keeps_queued, queues}, PermitSeen.{keys_gates, opens_after, opens_ended, set_twice}, PermitSteps.{HasGranted, answer_is, holder_is, moves_grant, request_is, spares_marked, things_granted}, ReapAccounts.{IsOperation, file_there, lines_counted, opens_counted, opens_uncounted}, ReapViewed.{same_outcome_self, told_place}}
+use Rattle.exec_parts.{specs.{declared.parts.{mail.Reply.Reply, record.Record.Record, shared.Shared.Shared, worker.Worker.Worker}, Records.number_in, Serving.{changed_at, changed_in}, Spots.Spot, View.{common_of, desk_of, driver_of, gate_seen, visible, with_view}}, proofs.Facts.{by_name, same_Some}}
+use Rattle.exec_invariants.{specs.{Due.IsWheelAt, Gates.{AreLinedUp, HaveGates, IsKnown, PassesPermit, key_for}, Holding.nap_of, Places.{Drops, drops_at, passes_at}, Rooted.outcome_told, Submits.IsGatedIn, Whole.{IsWhole, Profile, with_worker}, Works.Steps}, proofs.{Accounted.open_of_file, Expiring.{unticked_start, unticked_tick}, Changing.{changes_one, flying_after}, DeskEnds.desk_ended, Ends.{flying_ended, numbers_without}, EndsServed.{ends_thing, one_slot}, Gated.durable_of_file, Late.ends_as, Lined.{SameLines, gates_opens, gates_seen_same, lined_opens, lines_same, map_changed, was_sent}, Marking.{mark_if, marked}, Mine.stands, Orders.alike_unticked, Ousting.keeps_ended, Over.OneEnds, Recorded.shown_changed, Resolving.{slab_after, unticked_at}, Seeing.{own_with, served_by, shows}, ServedEnds.ends_told, ServedWakes.holding_over, Serving.{Balances, SparesGates, at_large}, ServingHolds.{Follows, IsServed, KeepsBy, OthersKept, Serves, keeps_home, serves_to}, Slotted.{awaited_written, slots_written}, Staging.stages_again, SparedRecord.there_within, Turning.view_found}}
+use Rattle.exec_serving.proofs.{Finished.tells_ending, Gone.{apart_by, as_told, known_opens, one_written, one_written_is}, PermitGates.{drops_others, drops_own, gates_passing}, PermitGrants.{Granted, gates_granted, keys_granted, lined_granted}, PermitQueued.{GrantAt, granted_at as at_grant, granted_of, keeps_queued, queues}, PermitSeen.{keys_gates, opens_after, opens_ended}, PermitSteps.{HasGranted, answer_is, holder_is, moves_grant, request_is, spares_marked, things_granted}, ReapAccounts.{IsOperation, file_there, lines_counted, opens_counted, opens_uncounted}, ReapViewed.{same_outcome_self, told_place}}
+use Rattle.exec_invariants.proofs.Raising.{set_twice}
 
 -- WHAT ENDS AT A GRANT is told as it is
 
@@ -23,8 +24,7 @@ follows_given gate file v = record { from = refl; to = refl; serves = refl; arme
 
 twice : (rs : List Record) (k : ℕ) (r : Record) (f g h : Record → Record) → slice_get rs k ≡ Some r → g (f r) ≡ h r → changed_at (changed_at rs k f) k g ≡ changed_at rs k h
 twice rs k r f g h there same =
-    let now : slice_get (changed_at rs k f) k ≡ Some (f r) = marked f rs k k r there ∙ ap (λ b. Some (mark_if f b r)) (eq-eqb k k refl) in
-    ap (changed_in (changed_at rs k f) k g) now ∙ ap (λ o. slice_set (changed_in rs k f o) k (g (f r))) there
+    ap (changed_in (changed_at rs k f) k g) (marked f rs k k r there ∙ ap (λ b. Some (mark_if f b r)) (eq-eqb k k refl)) ∙ ap (λ o. slice_set (changed_in rs k f o) k (g (f r))) there
     ∙ set_twice rs k (f r) (g (f r)) ∙ ap (slice_set rs k) same ∙ sym (ap (changed_in rs k h) there)
 
 module _ {B L : Type 0} (left : B → L) (spot : L → Option Said → Spot) (v : Service) (file : ℕ) (w w' : Worker) (s s' : Shared B) (e : Event) (g : Told) (new : IsGatedIn v file w s) (by : HasGranted v file w w' s s' e g) (how : Ended) (ends : g.ended ≡ Some how) where
@@ -97,12 +97,7 @@ module _ {B L : Type 0} (left : B → L) (spot : L → Option Said → Spot) (v 
   -- its operation, and what is kept of its open
   op : IsOperation who.it.request who.r.shown.operation
   op =
-      record {
-        kind = ap (λ x. x.kind) who.alike.asked;
-        target = new.sound.carried.target g.id.0 who.it who.r who.live who.there;
-        seen = who.alike.seen;
-        switched = λ durable. who.alike.switched;
-      }
+      search (ap (λ x. x.kind) who.alike.asked, new.sound.carried.target g.id.0 who.it who.r who.live who.there, who.alike)
 
   within : is_of_file who.r.shown.operation.kind ≡ true → who.r.shown.operation.target < length s.opens
   within of = new.sound.gates.there (number_in w.names.requests.items g.id.0) who.r who.there of
@@ -113,17 +108,13 @@ module _ {B L : Type 0} (left : B → L) (spot : L → Option Said → Spot) (v 
   -- what its task hears is what the log tells
   told_same : as_outcome how ≡ outcome_told (output_of who.it.request how (account_in s.opens (file_of who.it.request)))
   told_same =
-      let kind : who.r.shown.operation.kind ≡ (asked_of who.it.request).kind = ap (λ x. x.kind) who.alike.asked in
       let of : is_of_file (asked_of who.it.request).kind ≡ true = durable_of_file (asked_of who.it.request).kind who.durable in
-      let inside : file < length s.opens = subst (λ n. n < length s.opens) who.target (within (ap is_of_file kind ∙ of)) in
-      let has = open_of_file s.opens s.requests.items file new.sound.gates inside in
+      let has = open_of_file s.opens s.requests.items file new.sound.gates (subst (λ n. n < length s.opens) who.target (within (ap is_of_file (ap (λ x. x.kind) who.alike.asked) ∙ of))) in
       let kept : account_in s.opens (Some file) ≡ Some has.a = ap account_by has.there ∙ has.account in
-      let named : file_of who.it.request ≡ Some file = file_there who.it.request of ∙ ap (λ n. Some n) (sym op.target ∙ who.target) in
-      let at_grant : Some (as_outcome how) ≡ outcome_at_grant (asked_of who.it.request).kind has.a = sym answer ∙ gave.answer ∙ ap (outcome_if_granted who.it.request) kept in
       sym (tells_ending who.it.request how (account_in s.opens (file_of who.it.request))
-      ∙ ap (λ a. as_outcome (told_by (asked_of who.it.request).kind how a)) (ap (account_in s.opens) named ∙ kept)
+      ∙ ap (λ a. as_outcome (told_by (asked_of who.it.request).kind how a)) (ap (account_in s.opens) (file_there who.it.request of ∙ ap (λ n. Some n) (sym op.target ∙ who.target)) ∙ kept)
       ∙ as_told (told_of (asked_of who.it.request).kind has.a (as_outcome how))
-      ∙ grant_told (asked_of who.it.request).kind (as_outcome how) has.a at_grant)
+      ∙ grant_told (asked_of who.it.request).kind (as_outcome how) has.a (sym answer ∙ gave.answer ∙ ap (outcome_if_granted who.it.request) kept))
 
   -- its deadline, which it doesn't have, is where it was
   punctual1 : IsPunctual d1
@@ -152,12 +143,7 @@ module _ {B L : Type 0} (left : B → L) (spot : L → Option Said → Spot) (v 
       let start = w.moments.start in
       let now = w.moments.sampled in
       let there1 : slice_get rs1 k ≡ Some (queues who.r) = marked queues rs k k who.r who.there ∙ ap (λ b. Some (mark_if queues b who.r)) (eq-eqb k k refl) in
-      let one : OneEnds w.names d1 d2.requests rs1 g.id.0 permitted (queues who.r) over outcome told = record {
-        at = live1;
-        there = there1;
-        slab = slab_after d1.requests g.id.0 permitted how account who.small live1;
-        ends = record { same = refl };
-      } in
+      let one : OneEnds w.names d1 d2.requests rs1 g.id.0 permitted (queues who.r) over outcome told = search (live1, there1, slab_after d1.requests g.id.0 permitted how account who.small live1) in
       let plain = new.sound.flown.plain k who.r who.there who.worker in
       let wheel : IsWheelAt s.config start now (driver_of w).wheel = new.sound.due.wheel in
       let punctual : IsPunctual d2 = subst IsPunctual driver by.punctual in
@@ -179,33 +165,19 @@ module _ {B L : Type 0} (left : B → L) (spot : L → Option Said → Spot) (v 
       let lined1 : AreLinedUp s'.opens rs1 = lined_opens s.opens s'.opens lines rs1 (lined_granted k who.r queues who.o s.opens rs (granted_of w s file g.id who queues refl refl refl) new.sound.gates) in
       let o = there_within s'.opens who.r.shown.operation.target (lined1.there k (queues who.r) there1 (durable_of_file who.r.shown.operation.kind durable)) in
       let holds = (lined1.lines who.r.shown.operation.target o.0 o.1).held k (queues who.r) there1 durable refl refl refl in
-      let is : who.r.shown.operation.target ≡ f = who.target ∙ same_thing file f at in
-      subst (λ m. PassesPermit w.index m s'.opens s'.requests.items) is (record {
-        o = o.0;
-        open_there = o.1;
-        k = k;
-        r = over who.r;
-        there = ap (λ xs. slice_get xs k) records ∙ marked over rs k k who.r who.there ∙ ap (λ b. Some (mark_if over b who.r)) (eq-eqb k k refl);
-        mine = who.worker;
-        over = refl;
-        holds = holds;
-      })
+      let there = ap (λ xs. slice_get xs k) records ∙ marked over rs k k who.r who.there ∙ ap (λ b. Some (mark_if over b who.r)) (eq-eqb k k refl) in
+      subst (λ m. PassesPermit w.index m s'.opens s'.requests.items) (who.target ∙ same_Some file f at) (search (o.1, there, who.worker, holds))
 
   own_over : (ended : List ℕ) →
-      let n = w.names.requests.items in
       let me = own_with w q' ended w.names.untold.items d in
       own_with w q' ended w.names.untold.items d2 ≡ record me { ready = filter (λ j. not (j == k)) me.ready; unenrolled = filter (λ j. not (j == k)) me.unenrolled; cancels = filter (λ j. not (j == k)) me.cancels }
   own_over ended =
       let n = w.names.requests.items in
-      let counts = flying_after d.requests g.id.0 who.it permitted who.live in
-      let idle : one_if who.it.in_flight ≡ 0 = ap one_if who.idle in
-      let before : flying_count d1.requests ≡ flying_count d.requests = omega (arith, counts, idle) in
+      let before : flying_count d1.requests ≡ flying_count d.requests = omega (arith, flying_after d.requests g.id.0 who.it permitted who.live, ap one_if who.idle) in
       let flying : flying_count d2.requests ≡ flying_count d.requests = flying_ended d1.requests g.id.0 permitted how account live1 who.idle ∙ before in
       let apart = apart_by q w s new.sound g.id.0 who.r who.there who.named in
       let ready = numbers_without n g.id d.lists.queued (λ x among. apart x (stands d x is_queued (request_at d x) refl refl (new.lists.queued x among))) in
-      let unenrolled = numbers_without n g.id d.lists.enrolments (λ x among. apart x (stands d x is_unenrolled (request_at d x) refl refl (new.lists.enrolments x among))) in
       let cancels = numbers_without n g.id d.lists.cancels (λ x among. apart x (stands d x is_cancelled (request_at d x) refl refl (new.lists.cancels x among))) in
-      let me' = own_with w q' ended w.names.untold.items d2 in
       grind arith
 
   pub grant_over : Steps left spot w s e w' s'
@@ -222,7 +194,6 @@ module _ {B L : Type 0} (left : B → L) (spot : L → Option Said → Spot) (v 
       let known : IsKnown w.index n d2.requests s'.opens rs' = known_opens w.index n d2.requests s.opens s'.opens rs' lines kept.known in
       let kept1 : KeepsBy w1 d2 w.home.timers rs' s.sleepers.items s1 =
       record { told = kept.told; wide = kept.wide; named = kept.named; sized = kept.sized; over = kept.over; quiet = kept.quiet; due = kept.due; flown = kept.flown; carried = kept.carried; known = known; rooted = kept.rooted; bare = kept.bare } in
-      let keeps : Keeps w' s' = keeps_home w1 w' s1 s' rs' d2 same by.shared driver records kept1 in
       let there : w'.place ≡ q' = ap (λ x. x.place) same in
       let serves : Serves q w w' s s' = serves_to q q' w w' s s' (subst (IsServed w) (sym same) refl) (subst (OthersKept s) (sym by.shared) refl) there (follows_given new.gate file v) in
       let show = shows q w w' s s' d2 serves driver (ap (λ (x : Worker). x.home.timers) same) in
@@ -255,56 +226,27 @@ module _ {B L : Type 0} (left : B → L) (spot : L → Option Said → Spot) (v 
       let desk_end = desk_ended x n slab1 w.home.deferred deferred g.id.0 permitted told told_t r
       (record { wakes = refl; outputs = refl; completions = refl; results = refl; requests = sym (slots_written n d.requests g.id.0 (Pending who.it) (Pending permitted) was); awaited = sym (awaited_written n d.requests g.id.0 (Pending who.it) (Pending permitted) was refl) })
       one (one_written_is n d.requests g.id.0 (Pending permitted) live_1 one0) ending tells who.alike.near who.alike.observed who.alike.waiter (λ reply is. (sound.rooted.replies g.id.0 who.it reply who.r who.live is who.there).of) in
-      let desk : desk_of w' ≡ record (told_of_end k r (desk_of w0)) { place = q' } =
-      show.desk ∙ ap (λ y. desk_with w y w'.put_off deferred d2) there ∙ ap (λ o. desk_with w q' o deferred d2) (ap (λ y. y.put_off) same)
-      ∙ desk_end ∙ told_place k r (desk_of w0) q' in
+      let desk : desk_of w' ≡ record (told_of_end k r (desk_of w0)) { place = q' } = grind (arith, show.desk, there, same, desk_end, told_place k r (desk_of w0) q') in
       -- the machine
-      let durable : is_durable r.operation.kind ≡ true = ap is_durable op.kind ∙ who.durable in
       let opens_end = opens_ended rs k who.r over who.there s.opens s'.opens outcome sound.gates keys (ap is_resolved who.phase) (λ sure. sure)
-      (λ free. absurd (false≢true (sym free ∙ durable)))
-      (λ sure o at. let is_o : o ≡ who.o = same_thing o who.o (sym at ∙ ap (slice_get s.opens) who.target ∙ who.open_there) in ap (λ y. y.holder) is_o ∙ who.holds)
+      (λ free. absurd (false≢true (sym free ∙ ap is_durable op.kind ∙ who.durable)))
+      (λ sure o at. let is_o : o ≡ who.o = same_Some o who.o (sym at ∙ ap (slice_get s.opens) who.target ∙ who.open_there) in ap (λ y. y.holder) is_o ∙ who.holds)
       (opens_uncounted who.it.request r.operation how s.opens s'.opens rs sound.gates op within opens_are) (opens_counted who.it.request r.operation how s.opens s'.opens rs sound.gates op within opens_are) in
       let sent : map was_sent s'.requests.items ≡ map was_sent rs = ap (map was_sent) records ∙ map_changed was_sent rs k who.r over who.there refl in
       let gate_lists : map (gate_seen s'.requests.items) s'.opens ≡ map (gate_seen rs) s.opens =
       keys_gates rs s'.requests.items (ap (map key_for) records ∙ keys) s'.opens ∙ gates_seen_same rs rs s.opens s'.opens (lines_same rs rs refl) lines in
       let by_answer : Some outcome ≡ outcome_if_granted who.it.request (account_in s.opens (Some file)) = sym answer ∙ gave.answer in
       subst (λ y. Steps left spot w s y w' s') (sym event)
-      (served_by left spot q w w' s s' (Grant k (Some outcome)) sound serves keeps spares balances
+      (served_by left spot q w w' s s' (Grant k (Some outcome)) sound serves (keeps_home w1 w' s1 s' rs' d2 same by.shared driver records kept1) spares balances
       (λ p vs suits.
       let all = common_of left spot p vs s in
       let request : request_of all k ≡ r = request_is left spot v file w s new g.id who p vs in
       let again : with_view vs w.index (visible w') ≡ vs = ap (with_view vs w.index) seen ∙ view_found vs w.index (visible w) suits.seen in
-      let opens_then = opens_after all.opens r.operation outcome in
+      let held = ap (λ x. is_number k (open_of all x.operation.target).holder) request ∙ holder_is left spot v file w s new g.id who p vs in
+      let same_answer = ap (λ x. same_end (Some outcome) (outcome_at_grant x.operation.kind (account_of_open all x))) request ∙ ap (same_end (Some outcome)) (answer_is left spot v file w s new g.id who p vs (Some outcome) by_answer) ∙ same_outcome_self outcome in
       record {
-        moves =
-            moves_grant left spot v file w s new g.id who p vs suits (Some outcome) by_answer
-            ∙ ap (λ y. makes (Grant k (Some outcome)) y (things_with vs s)) (sym desk)
-            ∙ ap (makes (Grant k (Some outcome)) (desk_of w')) (sym (things_granted vs w w' s s' suits.seen seen by.shared gate_lists sent));
-        may = (
-          at_large q w s sound refl,
-          (
-            ap (λ x. x.worker == w.index) request ∙ ap (λ i. i == w.index) who.worker ∙ eq-eqb w.index w.index refl,
-            (
-              ap (λ x. is_gated x.phase) request ∙ ap is_gated who.phase,
-              (
-                ap (λ x. is_number k (open_of all x.operation.target).holder) request ∙ holder_is left spot v file w s new g.id who p vs,
-                (
-                  ap (λ x. same_end (Some outcome) (outcome_at_grant x.operation.kind (account_of_open all x))) request
-                      ∙ ap (same_end (Some outcome)) (answer_is left spot v file w s new g.id who p vs (Some outcome) by_answer) ∙ same_outcome_self outcome,
-                  tt,
-                ),
-              ),
-            ),
-          ),
-        );
-        own =
-            show.own ∙ ap (λ y. own_with w y w'.names.ended.items w'.names.untold.items d2) there ∙ ap (λ y. own_with w q' w'.names.ended.items y.names.untold.items d2) same
-            ∙ ap (λ es. own_with w q' es w.names.untold.items d2) ended ∙ own_over (w.names.ended.items ++ k ∷ []);
-        common =
-            ap (λ y. common_of left spot p y s') again
-            ∙ ap (common_of left spot p vs) by.shared
-            ∙ ap (λ os. record all { requests = map (λ y. y.shown) s'.requests.items; opens = os }) (ap (λ xs. map (open_seen xs) s'.opens) records ∙ opens_end)
-            ∙ ap (λ xs. record all { requests = map (λ y. y.shown) xs; opens = opens_then }) records
-            ∙ ap (λ xs. record all { requests = xs; opens = opens_then }) (shown_changed over rs k who.r who.there)
-            ∙ ap (λ y. record all { requests = slice_set (map (λ z. z.shown) rs) k (granted (Some outcome) y); opens = machine_opens y.operation (Some outcome) all }) (sym request);
+        moves = grind (arith, moves_grant left spot v file w s new g.id who p vs suits (Some outcome) by_answer, desk, things_granted vs w w' s s' suits.seen seen by.shared gate_lists sent);
+        may = (at_large q w s sound refl, (ap (λ x. x.worker == w.index) request ∙ ap (λ i. i == w.index) who.worker ∙ eq-eqb w.index w.index refl, (ap (λ x. is_gated x.phase) request ∙ ap is_gated who.phase, (held, (same_answer, tt)))));
+        own = grind (arith, show.own, there, same, ended, own_over (w.names.ended.items ++ k ∷ []));
+        common = grind (arith, again, by.shared, records, opens_end, shown_changed over rs k who.r who.there, request);
       }))

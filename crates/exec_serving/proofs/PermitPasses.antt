@@ -1,6 +1,5 @@
 -- A permit is passed on: the first of the gate leaves it, whose next holder is told.
-use Rattle.std.{proofs.{Common.{◌≡◌, ℕ, ◌<◌, ◌==◌, Bool, true, false, List, [], ◌∷◌, drop, length, map, Option, Some, None, if◌then◌else◌, refl, sym, ap, subst, ◌∙◌, slice_get, slice_index_or, slice_set}, lemmas.{List.length-map, Option.get_or_from_slice_get}}, specs.Option.option_map}
-use Rattle.std.proofs.Common.{arith}
+use Rattle.std.{proofs.{Common.{arith, ◌≡◌, ℕ, ◌<◌, ◌==◌, Bool, true, false, List, [], ◌∷◌, length, map, Option, Some, None, if◌then◌else◌, refl, sym, ap, subst, ◌∙◌, slice_get, slice_index_or, slice_set}, lemmas.{List.length-map, Option.get_or_from_slice_get}}, specs.Option.option_map}
 use Rattle.exec_base.specs.declared.slab.Id.{Id}
 use Rattle.exec_request.specs.Requests.{cursor_of}
 use Rattle.exec_waiters.specs.{States.waiter_at, declared.waiter.Waiter.Waiter}
@@ -8,8 +7,8 @@ use Rattle.exec_driver.specs.{Opens.{OpenState, next_at, next_in, passed, with_o
 use Rattle.exec_task.specs.declared.body.Said.{Said}
 use Rattle.exec_machine.specs.{declared.event.Event.{Event, TheVariants.Serve}, Choice.Choice.Plain, Progress.Plan, Tests.is_at_large, World.{Common, no_request, request_of}}
 use Rattle.exec_moves.specs.{declared.place.{AfterPermit.AfterPermit, InService.InService, Place.Place, Service.Service}, Seen.serves_in, Serve.{after_passing, worker_of}, State.gate_of}
-use Rattle.exec_parts.{specs.{declared.parts.{mail.Reply.Reply, record.Record.Record, shared.Shared.Shared, worker.{Moments.Moments, Worker.Worker}}, Records.number_in, Spots.Spot, View.{Views, common_of, desk_of, driver_of, gate_seen, number_of_key, open_seen, own_of, things_with, visible, with_view}}, proofs.Showing.{map_kept, map_set}}
-use Rattle.exec_invariants.{specs.{Drained.IsPool, Due.{IsDue, IsWheelAt, wheel_moment}, Flown.HasFlown, Gates.{AreLinedUp, HaveGates, IsKnown, has_hint_at, may_ask_hint}, Holding.{box_of, thing_of}, Places.{Drops, drops_at, passes_at}, Sound.{Aims, SoundAt, served_in}, Whole.{HasWhole, IsWhole, Profile, duties_of, with_worker}, Works.{Beside, Steps, Suits, Works}}, proofs.{GateJoins.{pool_drops, spares_opens}, Hearing.unheard, Lined.mapped, Recorded.request_seen, Shown.makes, Turning.view_found}}
+use Rattle.exec_parts.{specs.{declared.parts.{mail.Reply.Reply, record.Record.Record, shared.Shared.Shared, worker.{Moments.Moments, Worker.Worker}}, Records.number_in, Spots.Spot, View.{Views, common_of, driver_of, gate_seen, number_of_key, open_seen, own_of, things_with, visible, with_view}}, proofs.Showing.{map_kept, map_set}}
+use Rattle.exec_invariants.{specs.{Drained.IsPool, Due.{IsDue, IsWheelAt, wheel_moment}, Flown.HasFlown, Gates.{HaveGates, IsKnown, has_hint_at, may_ask_hint}, Holding.{box_of, thing_of}, Places.{Drops, drops_at, passes_at}, Sound.{Aims, SoundAt, served_in}, Whole.{HasWhole, IsWhole, Profile, duties_of, with_worker}, Works.{Beside, Steps, Suits, Works}}, proofs.{GateJoins.{pool_drops, spares_opens}, Hearing.unheard, Lined.mapped, Recorded.request_seen, Turning.view_found}}
 use Rattle.exec_serving.proofs.{PermitGates.{drops_others, drops_own}, PermitLines.{Leaver, gate_behind, gate_is, gate_was, gates_left, hints_left, lined_left, next_at_gate, open_left, opens_left}, PermitSignals.{aims_back, moment_of_back, passes_none, serves_back}}
 
 -- WHO LEAVES
@@ -47,8 +46,6 @@ module _ {B L : Type 0} (left : B → L) (spot : L → Option Said → Spot) (fi
   goes_sound : SoundAt (Place.Service y v) after shared_then
   goes_sound =
       let next : Place = Place.Service y v in
-      let here : next ≡ next = refl in
-      let gates : AreLinedUp opens_then s.requests.items = lined_left file s.opens s.requests.items it sound.gates in
       let known : IsKnown u.index u.names.requests.items (driver_of u).requests opens_then s.requests.items =
       (let asks : (id : Id) (x : Waiter Reply Reply) (r : Record) → waiter_at (driver_of u).requests id ≡ Some x → slice_get s.requests.items (number_in u.names.requests.items id) ≡ Some r
       → may_ask_hint r.shown.operation.kind ≡ true → r.shown.operation.unrefused ≡ true → (cursor_of x.request).hinted ≡ false → has_hint_at opens_then r.shown.operation.target ≡ false =
@@ -61,7 +58,7 @@ module _ {B L : Type 0} (left : B → L) (spot : L → Option Said → Spot) (fi
       let f = sound.flown in
       let flown : HasFlown (served_in next) u.index u.names (driver_of u) s.requests.items =
       record { ending = f.ending; staging = f.staging; telling = f.telling; entries = f.entries; gated = f.gated; plain = f.plain; enrolling = f.enrolling; polled = f.polled; owning = f.owning; landed = f.landed; uncancelled = f.uncancelled } in
-      assumption (here, gates, known, due, flown, aims, sound)
+      assumption (refl, lined_left file s.opens s.requests.items it sound.gates, known, due, flown, aims, sound)
 
   goes_whole : (others : Profile) → IsWhole (with_worker others before) s → IsWhole (with_worker others after) shared_then
   goes_whole others whole =
@@ -99,22 +96,16 @@ module _ {B L : Type 0} (left : B → L) (spot : L → Option Said → Spot) (fi
   goes_works leads p vs suits =
       let rs = s.requests.items in
       let cs = common_of left spot p vs s in
-      let x = things_with vs s in
       let behind = gate_behind file s.opens rs it sound.gates in
       let again : with_view vs u.index (visible after) ≡ vs = view_found vs u.index (visible before) suits.seen in
-      let gate : gate_of x file ≡ it.k ∷ behind =
+      let gate : gate_of (things_with vs s) file ≡ it.k ∷ behind =
       get_or_from_slice_get (map (gate_seen rs) s.opens) file (gate_seen rs it.o) [] (mapped (gate_seen rs) s.opens file it.o it.open_there) ∙ gate_was file s.opens rs it sound.gates in
       let gates : slice_set (map (gate_seen rs) s.opens) file behind ≡ map (gate_seen rs) opens_then =
       ap (slice_set (map (gate_seen rs) s.opens) file) (sym (gate_is file s.opens rs it sound.gates)) ∙ sym (map_set (gate_seen rs) s.opens file (passed it.o)) in
       let opens : map (open_seen rs) opens_then ≡ map (open_seen rs) s.opens = map_kept (open_seen rs) s.opens file (passed it.o) it.o it.open_there (open_left file s.opens rs it sound.gates) in
       record {
         choice = Plain;
-        moves =
-            ap (λ g. makes Serve (record (desk_of before) { place = Place.Service (after_passing (worker_of cs (slice_get (drop 1 g) 0)) b) v }) (record x { gates = slice_set x.gates file (drop 1 g) })) gate
-            ∙ ap (λ o. makes Serve (record (desk_of before) { place = Place.Service (after_passing o b) v }) (record x { gates = slice_set x.gates file behind })) (next_worker cs refl)
-            ∙ ap (λ z. makes Serve (record (desk_of before) { place = Place.Service z v }) (record x { gates = slice_set x.gates file behind })) (sym leads)
-            ∙ ap (λ gs. makes Serve (desk_of after) (record x { gates = gs })) gates
-            ∙ ap (λ z. makes Serve (desk_of after) (things_with z shared_then)) (sym again);
+        moves = grind (arith, gate, next_worker cs refl, leads, gates, again);
         may = (large, tt);
         own = ap (λ c. record (own_of before) { serving = c }) to;
         common = ap (λ z. common_of left spot p z shared_then) again ∙ ap (λ os. record cs { opens = os }) opens;
@@ -136,8 +127,7 @@ module _ {B L : Type 0} (left : B → L) (spot : L → Option Said → Spot) whe
       let here : SoundAt q (record w { place = q }) s = subst (λ (x : Worker). SoundAt q x s) back sound in
       let y = after_passing (option_map (λ key. key.worker) (slice_get it.o.waiting 0)) b in
       let next : Place = Place.Service y v in
-      let now : s'.opens ≡ slice_set s.opens file (passed it.o) = opens ∙ ap (with_open_in s.opens file passed) it.open_there in
-      let shared : s' ≡ record s { opens = slice_set s.opens file (passed it.o) } = kept ∙ ap (λ os. record s { opens = os }) now in
+      let shared : s' ≡ record s { opens = slice_set s.opens file (passed it.o) } = kept ∙ ap (λ os. record s { opens = os }) (opens ∙ ap (with_open_in s.opens file passed) it.open_there) in
       let place : w' ≡ record w { place = next } = goes ∙ ap (λ o. record w { place = Place.Service (after_passing (option_map (λ key. key.worker) (next_in o)) b) v }) it.open_there in
       let facts = by it here has (slice_get it.o.waiting 0) refl in
       subst (λ (x : Worker). Steps left spot x s e w' s') (sym back)

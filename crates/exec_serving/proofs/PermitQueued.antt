@@ -7,7 +7,7 @@ use Rattle.exec_waiters.{specs.{Events.with_permit, Ids.user_data_of, States.{ne
 use Rattle.exec_driver.specs.{Driving.{Driving, is_gated as waits_gated, request_at}, Lists.{is_among, without}, Opens.{OpenState, holder_at, holder_in}, Punctual.IsPunctual, declared.opens.WaiterKey.WaiterKey}
 use Rattle.exec_machine.specs.{declared.state.RequestPhase.RequestPhase, Tests.{is_gated, is_resolved, is_staged}}
 use Rattle.exec_moves.specs.declared.place.{Place.Place, Service.Service}
-use Rattle.exec_parts.{specs.{declared.parts.{mail.Reply.Reply, record.Record.Record, shared.Shared.Shared, worker.Worker.Worker}, Records.number_in, Serving.changed_at, View.driver_of}, proofs.Facts.{and_parts, by_name, by_not, same_number, same_thing}}
+use Rattle.exec_parts.{specs.{declared.parts.{mail.Reply.Reply, record.Record.Record, shared.Shared.Shared, worker.Worker.Worker}, Records.number_in, Serving.changed_at, View.driver_of}, proofs.Facts.{and_parts, by_name, not-true, same_number, same_Some}}
 use Rattle.exec_invariants.{specs.{Carried.{IsCarried, IsUnderWay, may_move, moves_by, those_of, unlanded}, Due.{IsWheelAt, may_be_due, wheel_moment}, Flown.{AreLanded, HasFlown, IsPolled, operations}, Gates.{IsKnown, key_for, line_at}, Ordered.{IsOrdered, went_round}, Names.{IsAlike, IsSubmitted}, Sound.{SoundAt, served_in}, Submits.IsGatedIn}, proofs.{Changing.{OneGoesOn, all_go_one, apart_number, changes_one, keeps_one}, Conveying.carried_one, Flown.landed_on, Going.{GoesOn, owning_on}, Known.{known_written, low_there}, Marking.{known_then, mark_if, mark_kept, marked, plain_kept, was_marked}, Orders.{Eases, IsPartOf, TurnsAlike, alike_self, eased, eases_written, part_self}, Resolving.among_still, ServingHolds.{Follows, KeepsBy}}}
 use Rattle.exec_serving.proofs.PermitGrants.{Granted}
 
@@ -51,7 +51,6 @@ module _ {B : Type 0} (w : Worker) (s : Shared B) (v : Service) (file : ℕ) (ne
       let d = driver_of w in
       let old = sound.named.requests id.0 (rw (entry_of (value_at d.requests id.0) it live) refl) in
       let r = old.0 in
-      let k = number_in w.names.requests.items id.0 in
       let a = sound.named.alike id.0 it r live old.1 in
       let parts = and_parts (not it.in_flight && needs_permit it) (not (asks_cancel it.state)) (ap waits_gated (sym live) ∙ new.lists.gated id among) in
       let more = and_parts (not it.in_flight) (needs_permit it) parts.0 in
@@ -60,24 +59,10 @@ module _ {B : Type 0} (w : Worker) (s : Shared B) (v : Service) (file : ℕ) (ne
       let key : key_for r ≡ record { worker = w.index; id = id } = same_key r old.2 old.3 in
       let holds : found.0.holder ≡ Some (key_for r) = found.2 ∙ ap (λ x. Some x) (sym key) in
       let first : slice_get (line_at found.0) 0 ≡ Some (key_for r) = ap (λ h. slice_get (option_to_list h ++ found.0.waiting) 0) holds in
-      record {
-        it = it;
-        r = r;
-        o = found.0;
-        live = live;
-        there = old.1;
-        named = old.2;
-        worker = old.3;
-        alike = a;
-        idle = by_not it.in_flight more.0;
-        unasked = by_not (asks_cancel it.state) parts.1;
-        durable = durable;
-        phase = gated_phase r.shown.phase (a.permit ∙ more.1);
-        target = ((sound.gates.lines file found.0 found.1).durable 0 (key_for r) k r first old.1 refl).1;
-        open_there = found.1;
-        holds = holds;
-        small = let low = low_there w.index w.names.requests.items d.requests s.opens s.requests.items sound.known id.0 (rw (entry_of (value_at d.requests id.0) it live) refl) in omega (arith, low);
-      }
+      let low = low_there w.index w.names.requests.items d.requests s.opens s.requests.items sound.known id.0 (rw (entry_of (value_at d.requests id.0) it live) refl) in
+      let small : id.0.generation < 2 ^ 64 = omega (arith, low) in
+      let target = ((sound.gates.lines file found.0 found.1).durable 0 (key_for r) (number_in w.names.requests.items id.0) r first old.1 refl).1 in
+      search (live, old.1, old.2, old.3, a, not-true it.in_flight more.0, not-true (asks_cancel it.state) parts.1, durable, gated_phase r.shown.phase (a.permit ∙ more.1), target, found.1, holds, small)
     where
       same_key : (r : Record) → r.id.0 ≡ id.0 → r.shown.worker ≡ w.index → key_for r ≡ record { worker = w.index; id = id }
       same_key r name mine = ap (λ (n : ℕ). key_made n r.id) mine ∙ ap (λ (x : Id). key_made w.index (record { 0 = x })) name
@@ -143,7 +128,6 @@ module _ {B : Type 0} (q q' : Place) (w : Worker) (s : Shared B) (sound : SoundA
       let flown = sound.flown in
       let changed = changes_one d.requests id.0 it it' who.live in
       let waiters : (other : Id) → waiter_at d'.requests other ≡ waiter_at (written d.requests id.0 (Pending it')) other = λ other. ap (λ x. waiter_at x other) slab in
-      let all = all_go_one rs k queues who.r who.there on in
       record {
         ending = flown.ending;
         staging = subst (λ x. x.size ≤ vec_capacity w.names.staged) (sym ring) flown.staging;
@@ -151,7 +135,7 @@ module _ {B : Type 0} (q q' : Place) (w : Worker) (s : Shared B) (sound : SoundA
         entries = subst (λ x. length w.names.staged.items + length w.names.untold.items ≤ length x.staged) (sym ring) flown.entries;
         gated = λ other x live needs.
             let apart : other.0 ≢ id.0 = λ eq.
-            let is_it : x ≡ it' = same_thing x it' (sym live ∙ waiters other.0 ∙ ap (waiter_at (written d.requests id.0 (Pending it'))) eq ∙ changed.is_at) in
+            let is_it : x ≡ it' = same_Some x it' (sym live ∙ waiters other.0 ∙ ap (waiter_at (written d.requests id.0 (Pending it'))) eq ∙ changed.is_at) in
             false≢true (sym (none_needed (is_durable (asked_of it.request).kind)) ∙ ap needs_permit (sym is_it) ∙ needs) in
             ap (is_among other) gated ∙ among_still other id d.lists.gated apart (flown.gated other x (sym (changed.others other.0 apart) ∙ sym (waiters other.0) ∙ live) needs);
         plain = plain_kept queues rs k (λ r p. record { bounded = p.bounded; moved = p.moved; deadline = p.deadline }) w.index (λ r. refl) flown.plain;
@@ -160,16 +144,15 @@ module _ {B : Type 0} (q q' : Place) (w : Worker) (s : Shared B) (sound : SoundA
             (λ other x r given live flies found landed.
             let j = number_in w.names.requests.items other in
             let apart : other ≢ id.0 = λ same.
-            let both : x ≡ it = same_thing x it (sym live ∙ ap (waiter_at d.requests) same ∙ who.live) in
-            false≢true (sym who.idle ∙ ap (λ y. y.in_flight) (sym both) ∙ flies) in
+            false≢true (sym who.idle ∙ ap (λ y. y.in_flight) (sym (same_Some x it (sym live ∙ ap (waiter_at d.requests) same ∙ who.live))) ∙ flies) in
             record { it' = x; r' = mark_if queues (k == j) r; live = waiters other ∙ changed.others other apart ∙ live; flies = refl; same = refl; number = refl; there = marked queues rs k j r found; phase = kept_phase j (k == j) r given refl found landed }));
         polled = polled_so flown.polled;
-        owning = owning_on rs queued_records all flown.owning;
+        owning = owning_on rs queued_records (all_go_one rs k queues who.r who.there on) flown.owning;
         enrolling = λ other x live takes some.
             ap (is_among other) enrolments
             ∙ by_name other.0 id.0 (λ apart. flown.enrolling other x (sym (changed.others other.0 apart) ∙ sym (waiters other.0) ∙ live) takes some)
             (λ eq.
-            let is_it : x ≡ it' = same_thing x it' (sym live ∙ waiters other.0 ∙ ap (waiter_at (written d.requests id.0 (Pending it'))) eq ∙ changed.is_at) in
+            let is_it : x ≡ it' = same_Some x it' (sym live ∙ waiters other.0 ∙ ap (waiter_at (written d.requests id.0 (Pending it'))) eq ∙ changed.is_at) in
             flown.enrolling other it (ap (waiter_at d.requests) eq ∙ who.live) (ap (λ y. takes_tick y.state) (sym is_it) ∙ takes) (ap (λ y. is_some (deadline_of y.request)) (sym is_it) ∙ some));
         uncancelled = λ other x among found mine.
             let j = number_in w.names.requests.items other.0 in
@@ -186,7 +169,7 @@ module _ {B : Type 0} (q q' : Place) (w : Worker) (s : Shared B) (sound : SoundA
 
       kept_phase : (j : ℕ) (b : Bool) (r : Record) (n : OpResult) → (number_in w.names.requests.items id.0 == j) ≡ b → slice_get s.requests.items j ≡ Some r → r.shown.phase ≡ RequestPhase.Landed n → (mark_if queues b r).shown.phase ≡ r.shown.phase
       kept_phase j true r n is found landed =
-          let same : who.r ≡ r = same_thing who.r r (sym who.there ∙ ap (slice_get s.requests.items) (same_number (number_in w.names.requests.items id.0) j is) ∙ found) in
+          let same : who.r ≡ r = same_Some who.r r (sym who.there ∙ ap (slice_get s.requests.items) (same_number (number_in w.names.requests.items id.0) j is) ∙ found) in
           absurd (false≢true (sym (ap is_gated landed) ∙ ap (λ y. is_gated y.shown.phase) (sym same) ∙ ap is_gated who.phase))
       kept_phase j false r n is found landed = refl
 

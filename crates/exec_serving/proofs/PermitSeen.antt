@@ -4,16 +4,12 @@ use Rattle.std.proofs.{Common.{◌≡◌, ◌≢◌, ℕ, zero, suc, ◌==◌, �
 use Rattle.exec_outcomes.specs.{Accounts.{Account, is_durable}, declared.outcome.Outcome.Outcome}
 use Rattle.exec_driver.specs.{Opens.OpenState, declared.opens.WaiterKey.WaiterKey}
 use Rattle.exec_machine.specs.{declared.state.Operation.Operation, Requests.{open_after_end, passed_on}, Tests.{is_of_file, is_resolved}, World.{Open, no_open}}
-use Rattle.exec_parts.{specs.{declared.parts.record.Record.Record, Serving.changed_at, View.{account_seen, gate_seen, gives_up, has_given_up, line_of, number_of_key, open_seen}}, proofs.{Facts.{not_same, same_thing}, Showing.map_set}}
+use Rattle.exec_parts.{specs.{declared.parts.record.Record.Record, Serving.changed_at, View.{account_seen, gate_seen, gives_up, has_given_up, line_of, number_of_key, open_seen}}, proofs.{Facts.{not_same, same_Some}, Showing.map_set}}
 use Rattle.exec_invariants.{specs.Gates.{AreLinedUp, key_for, line_at}, proofs.{Accounted.with_its, Gated.durable_of_file, GateLines.key_number, Hinting.open_there, Keys.{name_in, names_changed, same_open, same_opens}, Marking.{mark_if, marked}}}
 use Rattle.exec_serving.proofs.ReapAccounts.{IsCounted, account_told}
+use Rattle.exec_invariants.proofs.Raising.{set_twice}
 
 -- LISTS
-
-pub set_twice : {A : Type 0} (xs : List A) (k : ℕ) (x y : A) → slice_set (slice_set xs k x) k y ≡ slice_set xs k y
-set_twice [] k x y = refl
-set_twice (z ∷ zs) zero x y = refl
-set_twice (z ∷ zs) (suc k) x y = ap (λ ys. z ∷ ys) (set_twice zs k x y)
 
 map_alike : {A X : Type 0} (g h : A → X) (xs : List A) → ((n : ℕ) (x : A) → slice_get xs n ≡ Some x → h x ≡ g x) → map h xs ≡ map g xs
 map_alike g h [] same = refl
@@ -23,8 +19,7 @@ map_alike g h (x ∷ xs) same = rw (same zero x refl, map_alike g h xs (λ n y a
 map_but : {A X : Type 0} (g h : A → X) (xs : List A) (k : ℕ) (x : A) → slice_get xs k ≡ Some x → ((n : ℕ) (y : A) → slice_get xs n ≡ Some y → n ≢ k → h y ≡ g y) → map h xs ≡ slice_set (map g xs) k (h x)
 map_but g h [] k x there same = absurd (let no : None ≡ Some x = there in cc)
 map_but g h (y ∷ ys) zero x there same =
-    let one : y ≡ x = same_thing y x there in
-    rw (ap h one, map_alike g h ys (λ n z at. same (suc n) z at (λ e. let no : suc n ≡ zero = e in omega (arith, no)))) refl
+    rw (ap h (same_Some y x there), map_alike g h ys (λ n z at. same (suc n) z at (λ e. let no : suc n ≡ zero = e in omega (arith, no)))) refl
 map_but g h (y ∷ ys) (suc k) x there same =
     rw (same zero y refl (λ e. let no : zero ≡ suc k = e in omega (arith, no)), map_but g h ys k x there (λ n z at other. same (suc n) z at (λ e. other (let is : suc n ≡ suc k = e in omega (arith, is))))) refl
 
@@ -102,7 +97,7 @@ module _ (rs : List Record) (k : ℕ) (r : Record) (f : Record → Record) (ther
           let named = line.named 0 key first in
           let number = number_named opens rs lined named.0 named.1 key named.2 named.3 in
           let apart : named.0 ≢ k = λ same.
-          let it : named.1 ≡ r = same_thing named.1 r (sym named.2 ∙ ap (slice_get rs) same ∙ there) in
+          let it : named.1 ≡ r = same_Some named.1 r (sym named.2 ∙ ap (slice_get rs) same ∙ there) in
           other (sym (line.durable 0 key named.0 named.1 first named.2 named.3).1 ∙ ap (λ y. y.shown.operation.target) it) in
           let now : slice_get rs' named.0 ≡ Some named.1 = marked f rs k named.0 named.1 named.2 ∙ ap (λ b. Some (mark_if f b named.1)) (not_same k named.0 (λ e. apart (sym e))) in
           let given : has_given_up (slice_get rs' (number_of_key 0 rs key)) ≡ has_given_up (slice_get rs (number_of_key 0 rs key)) =
@@ -139,11 +134,9 @@ module _ (rs : List Record) (k : ℕ) (r : Record) (f : Record → Record) (ther
       let o2 = with_its a2 it.has.o in
       let x = open_seen rs it.has.o in
       let found : slice_index_or os t no_open ≡ x = open_there rs opens t it.has.o it.has.there in
-      let account : x.account ≡ it.has.a = ap account_seen it.has.account in
       let told : record x { account = a2 } ≡ record (slice_index_or os t no_open) { account = account_told o outcome (slice_index_or os t no_open).account } =
-      sym (ap (λ (y : Open). record y { account = account_told o outcome y.account }) found ∙ ap (λ a. record x { account = account_told o outcome a }) account) in
-      let shape : map (open_seen rs') opens' ≡ slice_set (map (open_seen rs') opens) t (open_seen rs' o2) = ap (map (open_seen rs')) it.set ∙ map_set (open_seen rs') opens t o2 in
-      by b is it.has.o it.has.there a2 shape told
+      sym (ap (λ (y : Open). record y { account = account_told o outcome y.account }) found ∙ ap (λ a. record x { account = account_told o outcome a }) (ap account_seen it.has.account)) in
+      by b is it.has.o it.has.there a2 (ap (map (open_seen rs')) it.set ∙ map_set (open_seen rs') opens t o2) told
     where
       by : (b : Bool) → is_durable r.shown.operation.kind ≡ b → (ox : OpenState) → slice_get opens r.shown.operation.target ≡ Some ox → (a2 : Account)
           → map (open_seen (changed_at rs k f)) opens' ≡ slice_set (map (open_seen (changed_at rs k f)) opens) r.shown.operation.target (open_seen (changed_at rs k f) (with_its a2 ox))

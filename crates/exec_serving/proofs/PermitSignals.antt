@@ -1,11 +1,11 @@
 -- Steps of a service that tell the next holder of a permit: the latch goes into its worker's wake word, whose wait is ended.
-use Rattle.std.proofs.{Common.{◌≡◌, ℕ, ◌<◌, inl, Bool, true, false, List, [], length, map, Option, Some, None, refl, sym, ap, subst, ◌∙◌, arith, slice_get, slice_set, get_or, if◌then◌else◌}, lemmas.{Bool.false≢true, List.length-set, Option.{get_or_from_slice_get, slice_get-get_or}}}
+use Rattle.std.proofs.{Common.{◌≡◌, ℕ, ◌*◌, ◌+◌, ◌<◌, ◌≤◌, inl, Bool, true, false, List, [], length, map, Option, Some, None, refl, sym, ap, subst, ◌∙◌, arith, slice_get, slice_set, get_or, if◌then◌else◌}, lemmas.{Bool.false≢true, List.length-set, Option.{get_or_from_slice_get, slice_get-get_or}}}
 use Rattle.exec_words.specs.{Word.asks_signal, declared.word.PureWord.PureWord}
 use Rattle.exec_task.specs.declared.body.Said.{Said}
 use Rattle.exec_machine.specs.{declared.{event.Event.{Event, TheVariants.{Serve, Rouse}}, state.Rest.Rest}, Choice.Choice.Plain, Progress.Plan, Tests.{is_at_large, is_awake}, World.{no_seat, seat_of}}
 use Rattle.exec_moves.specs.{declared.place.{AfterPermit.AfterPermit, InService.InService, Place.Place, Service.Service}, Claim.{is_ring, latched}, Move.move_at, Seen.serves_in, Serve.{after_latch, after_permit, rousing_in_service, signal}, State.word_of, Thing.set_word}
-use Rattle.exec_parts.{specs.{declared.parts.{seat.Seat.Seat as Chair, shared.Shared.Shared, worker.{Moments.Moments, Worker.Worker}}, Phased.{IsPhased, TurnsChair, closes_at, closing_in}, Pooled.{OfChair, chair_latched, chair_raised}, Spots.Spot, View.{Views, Visible, common_of, desk_of, driver_of, own_of, seat_seen, seats_seen, things_of, things_with, visible, with_view}, Things.{Goes, Makes, TurnsWord}}, proofs.Showing.{map_kept, own_word_seen, seats_kept, word_shows}}
-use Rattle.exec_invariants.{specs.{Due.{IsWheelAt, wheel_moment}, Holding.box_of, Places.passes_at, Sound.{Aims, HasQueue, SoundAt, served_in}, Spares.SparesChair, Works.{Beside, Steps, Suits, Works}}, proofs.{Aside.{beside_calm, queue_of_chair, queues_set, seats_other}, Hearing.unheard, PoolKept.{gate_spared, gates_set}, Seats.{chair_set, seat_there as seen_there}, Rousing.{Keeps, seat_was, seated_now, stage_was, wake_shows}, Shown.makes, Thieves.seat_there, Turning.{Arrives, Shares, sound_on, view_found}}}
+use Rattle.exec_parts.{specs.{declared.parts.{seat.Seat.Seat as Chair, shared.Shared.Shared, worker.{Moments.Moments, Worker.Worker}}, Phased.{IsPhased, TurnsChair, closes_at, closing_in, stage_of}, Pooled.{OfChair, chair_latched, chair_raised}, Spots.Spot, View.{Views, Visible, common_of, desk_of, driver_of, own_of, seat_seen, seats_seen, things_of, things_with, visible, with_view}, Things.{Goes, Makes, TurnsWord}}, proofs.Showing.{map_kept, own_word_seen, seats_kept, word_shows}}
+use Rattle.exec_invariants.{specs.{Due.{IsWheelAt, may_be_due, wheel_moment}, Holding.box_of, Places.passes_at, Sound.{Aims, HasQueue, SoundAt, served_in}, Spares.SparesChair, Works.{Beside, Steps, Suits, Works}}, proofs.{Aside.{beside_calm, queue_of_chair, queues_set, seats_other}, Hearing.unheard, PoolKept.{gate_spared, gates_set}, Seats.{chair_set, seat_there as seen_there}, Rousing.{Keeps, seat_was, seated_now, stage_was, wake_shows}, Shown.makes, Thieves.seat_there, Turning.{Arrives, Shares, sound_on, view_found}}}
 
 -- FROM one step of a service to another
 
@@ -35,38 +35,16 @@ module _ {B L : Type 0} (left : B → L) (spot : L → Option Said → Spot) (x 
 
   arrives : Arrives (Place.Service y v) before after s s'
   arrives =
-      let q : Place = Place.Service x v in
       let next : Place = Place.Service y v in
-      let due = sound.due in
-      let flown = sound.flown in
-      record {
-        runnable = sound.runnable;
-        seated = seated_now k its its' keeps s s' there set u.index false s.config.workers sound.seated;
-        queue = λ chair at_own. let old = was chair at_own in subst (HasQueue next) (sym old.2.queue) (sound.queue old.0 old.1);
-        hand = sound.hand;
-        loot = sound.loot;
-        genuine = sound.genuine;
-        stolen = sound.stolen;
-        searching = sound.searching;
-        pooled = sound.pooled;
-        serves = sound.serves;
-        calm = sound.calm;
-        aims = aims;
-        guest = sound.guest;
-        left = sound.left;
-        batch = sound.batch;
-        batch_place = λ chair at_own opened. let old = was chair at_own in omega (arith, sound.batch_place old.0 old.1 (rw (← old.2.inbox) opened), old.2.made);
-        quiet = sound.quiet;
-        due = record { punctual = due.punctual; told = λ h. none; wheel = subst (λ m. IsWheelAt s.config u.moments.start m (driver_of u).wheel) (sym (leads.moment u.moments)) due.wheel; timed = due.timed; asleep = due.asleep; order = due.order };
-        flown = record { ending = flown.ending; staging = flown.staging; telling = flown.telling; entries = flown.entries; gated = flown.gated; plain = flown.plain; enrolling = flown.enrolling; polled = flown.polled; owning = flown.owning; landed = flown.landed; uncancelled = flown.uncancelled };
-        told = sound.told;
-        letters = sound.letters;
-        stops = sound.stops;
-        hears = sound.hears;
-        lets_go = sound.lets_go;
-        phased = λ chair at_own. let old = stage_was k its its' keeps s s' there set u.index chair at_own in subst (λ stage. IsPhased u.index (closes_at next) (closing_in next) u.home.closing u.root u.names.unreleased stage s.tasks.items) old.2 (sound.phased old.0 old.1);
-        tied = sound.tied;
-      }
+      let seated = seated_now k its its' keeps s s' there set u.index false s.config.workers sound.seated in
+      let queue : (chair : Chair) → slice_get s'.seats.items u.index ≡ Some chair → HasQueue next chair.queue = λ chair at_own. let old = was chair at_own in subst (HasQueue next) (sym old.2.queue) (sound.queue old.0 old.1) in
+      let batch_place : (chair : Chair) → slice_get s'.seats.items u.index ≡ Some chair → chair.mailbox.inbox.closed ≡ false → 2 * chair.made + 1 ≤ u.batch.places = λ chair at_own opened.
+      let old = was chair at_own in omega (arith, sound.batch_place old.0 old.1 (rw (← old.2.inbox) opened), old.2.made) in
+      let told : may_be_due (served_in next) ≡ false → (driver_of u).lists.due ≡ [] = λ h. none in
+      let wheel = subst (λ m. IsWheelAt s.config u.moments.start m (driver_of u).wheel) (sym (leads.moment u.moments)) sound.due.wheel in
+      let phased : (chair : Chair) → slice_get s'.seats.items u.index ≡ Some chair → IsPhased u.index (closes_at next) (closing_in next) u.home.closing u.root u.names.unreleased (stage_of chair s) s.tasks.items = λ chair at_own.
+      let old = stage_was k its its' keeps s s' there set u.index chair at_own in subst (λ stage. IsPhased u.index (closes_at next) (closing_in next) u.home.closing u.root u.names.unreleased stage s.tasks.items) old.2 (sound.phased old.0 old.1) in
+      assumption (seated, queue, aims, batch_place, told, wheel, phased, sound)
 
   goes_sound : SoundAt (Place.Service y v) after s'
   goes_sound = sound_on (Place.Service x v) before after s s' sound (record { same = refl; read = sound.time.read; asleep = sound.time.asleep }) shares (omega (arith, as_many)) arrives
@@ -94,14 +72,9 @@ module _ {B L : Type 0} (left : B → L) (spot : L → Option Said → Spot) (x 
       works p vs suits =
           let cs = common_of left spot p vs s in
           let again : with_view vs u.index (visible after) ≡ vs = view_found vs u.index (visible before) suits.seen in
-          record {
-            choice = Plain;
-            moves = moves p vs suits ∙ ap (λ z. makes Serve (desk_of after) (things_with z s')) (sym again);
-            may = (large, tt);
-            own = own_serves ∙ sym (ap (λ b. record (if b then own_of before else (record (own_of before) { sampled = s.clock; sampled_before = u.moments.sampled })) { serving = true }) leads.from);
-            common = ap (λ z. common_of left spot p z s') again ∙ ap (common_of left spot p vs) kept
-                ∙ ap (λ seats. record cs { seats = seats }) (ap (seats_seen vs.workers) set ∙ seats_kept vs.workers s.seats.items k its its' there shows);
-          }
+          let common = ap (λ z. common_of left spot p z s') again ∙ ap (common_of left spot p vs) kept ∙ ap (λ seats. record cs { seats = seats }) (ap (seats_seen vs.workers) set ∙ seats_kept vs.workers s.seats.items k its its' there shows) in
+          let own = own_serves ∙ sym (ap (λ b. record (if b then own_of before else (record (own_of before) { sampled = s.clock; sampled_before = u.moments.sampled })) { serving = true }) leads.from) in
+          search (moves p vs suits ∙ ap (λ z. makes Serve (desk_of after) (things_with z s')) (sym again), large, own, common)
 
   -- or that its worker was roused
   pub seat_roused : is_awake its.rest ≡ false → ((z : Visible) → seat_seen z its' ≡ record (seat_seen z its) { rest = Rest.Awake }) → k < length s.seats.items
@@ -123,9 +96,7 @@ module _ {B L : Type 0} (left : B → L) (spot : L → Option Said → Spot) (x 
             moves = moves p vs suits ∙ ap (λ e. makes e (desk_of after) (things_with vs s')) rouses ∙ ap (λ y. makes (Rouse k) (desk_of after) (things_with y s')) (sym again);
             may = rw rest (refl, (refl, tt));
             own = own_serves ∙ sym (ap (λ b. record (own_of before) { serving = b }) leads.from);
-            common = ap (λ y. common_of left spot p y s') again ∙ ap (common_of left spot p vs) kept
-                ∙ ap (λ seats. record cs { seats = seats }) (ap (seats_seen vs.workers) set ∙ chair_set vs.workers s.seats.items k z its' seen ∙ ap (slice_set (seats_seen vs.workers s.seats.items) k) (shows z))
-                ∙ ap (λ c. record cs { seats = slice_set (seats_seen vs.workers s.seats.items) k (record c { rest = Rest.Awake }) }) (sym seat);
+            common = grind (arith, again, kept, set, chair_set vs.workers s.seats.items k z its' seen, shows z, seat);
           }
 
 -- WHERE A PERMIT LEADS BACK TO
@@ -209,10 +180,9 @@ module _ {B L : Type 0} (left : B → L) (spot : L → Option Said → Spot) whe
       let by : (up : Bool) → is_awake its.rest ≡ up → Steps left spot (record w { place = q }) s e (record w { place = next }) s' = λ up.
       elim up as (λ up. is_awake its.rest ≡ up → Steps left spot (record w { place = q }) s e (record w { place = next }) s') [
         | true ↦ λ is.
-            let rest : its.rest ≡ Rest.Awake = awake its.rest is in
             subst (λ z. Steps left spot (record w { place = q }) s z (record w { place = next }) s') (sym (event its there ∙ ap (λ b. if b then Serve else Rouse j) is))
             (seat_served left spot (InService.Raise ring j b) (after_permit b) v w s s' here leads none j its its' keeps refl spares kept there set aims
-            (λ z. ap (λ r. record (seat_seen z its) { rest = r }) (sym rest))
+            (λ z. ap (λ r. record (seat_seen z its) { rest = r }) (sym (awake its.rest is)))
             (λ p vs suits.
             let cs = common_of left spot p vs s in
             let z : Visible = get_or vs.workers j (visible w) in

@@ -1,5 +1,5 @@
 -- The first of a gate is granted its permit, and is queued: a step.
-use Rattle.std.{proofs.{Common.{◌≡◌, ◌≢◌, ℕ, suc, ◌<◌, ◌==◌, ◌&&◌, Bool, true, false, List, [], ◌∷◌, ◌++◌, length, map, Option, Some, None, is_some, option_to_list, refl, sym, ap, subst, ◌∙◌, arith, slice_get, slice_index_or, slice_set}, lemmas.{Bool.{eq-eqb, false≢true}, List.append-nil, Option.get_or_from_slice_get}}, specs.VecDeque.deque_capacity}
+use Rattle.std.{proofs.{Common.{◌≡◌, ◌≢◌, ℕ, suc, ◌<◌, ◌==◌, ◌&&◌, Bool, true, false, List, [], ◌∷◌, ◌++◌, length, map, Option, Some, None, is_some, refl, sym, ap, subst, ◌∙◌, arith, slice_get, slice_set}, lemmas.{Bool.{eq-eqb, false≢true}, List.append-nil, Option.get_or_from_slice_get}}, specs.VecDeque.deque_capacity}
 use Rattle.exec_base.specs.Slab.{value_at, written}
 use Rattle.exec_outcomes.specs.{Accounts.{is_durable, outcome_at_grant}, declared.outcome.Outcome.Outcome}
 use Rattle.exec_request.specs.{Requests.{asked_of, outcome_if_granted}, States.as_answer}
@@ -7,10 +7,10 @@ use Rattle.exec_ring.specs.Rings.{completions}
 use Rattle.exec_waiters.{specs.{Events.with_permit, States.{file_of, flying_count}, Told.{Tells, nothing_told}, declared.{waiter.Entry.TheVariants.Pending, waiter_id.WaiterId.WaiterId}}, proofs.Changes.{entry_of, one_if}}
 use Rattle.exec_driver.specs.{Driving.Driving, Lists.{with_queued, without_gated}, Opens.{account_by, account_in}, Punctual.IsPunctual, Steps.{Grants, granted as driver_granted, opens_after_end, told_by_end}, declared.driver.staging.Granted.Granted as Told}
 use Rattle.exec_task.specs.declared.body.Said.{Said}
-use Rattle.exec_machine.specs.{declared.{event.Event.{Event, TheVariants.Grant}}, Progress.Plan, Requests.{account_of_open, granted, joined_if}, Same.{is_number, same_end}, Tests.{is_gated, is_resolved, is_unsent}, World.{Common, no_open, open_of, request_of}}
+use Rattle.exec_machine.specs.{declared.{event.Event.{Event, TheVariants.Grant}}, Progress.Plan, Requests.{account_of_open, granted, joined_if}, Same.{is_number, same_end}, Tests.{is_gated, is_resolved, is_unsent}, World.{Common, open_of, request_of}}
 use Rattle.exec_moves.specs.{declared.place.{InService.InService, Place.Place, Service.Service}, Move.{move_at, move_submit}, State.gate_of, Submit.{after_grant, granted_at}, Thing.with_gate, Told.told_if_ended}
-use Rattle.exec_parts.{specs.{declared.parts.{mail.Reply.Reply, names.Names.Names, record.Record.Record, shared.Shared.Shared, worker.Worker.Worker}, Records.{number_in, outcome_in}, Serving.changed_at, Spots.Spot, View.{Views, account_seen, awaited_from, common_of, completions_in, desk_of, driver_of, gate_seen, number_of_key, numbers_of, open_seen, own_of, results_in, seat_seen, slots_seen, things_with, trailing, visible, with_view}}, proofs.Facts.not_same}
-use Rattle.exec_invariants.{specs.{Gates.{AreLinedUp, HaveGates, has_hint_at, key_for}, Holding.{nap_of, thing_of}, Places.{Drops, drops_at}, Submits.IsGatedIn, Whole.{IsWhole, Profile, with_worker}, Works.{Steps, Suits}}, proofs.{Accounted.open_of_file, Changing.flying_after, Gated.durable_of_file, Hinting.open_there, Keys.name_in, Lined.{map_changed, mapped, passing_same, was_sent}, Marking.{mark_if, marked, was_marked}, Recorded.request_seen, Seeing.{common_changed, common_same, desk_with, makes, own_with, served_by, shows, visible_with}, Serving.{Balances, SparesGates, at_large, holding_still}, ServingHolds.{IsServed, Keeps, KeepsBy, OthersKept, Serves, keeps_home, serves_to}, Slotted.{awaited_written, slots_written}, Spared.sleepers_endure, Turning.view_found, Untold.keeps_untold}}
+use Rattle.exec_parts.{specs.{declared.parts.{mail.Reply.Reply, record.Record.Record, shared.Shared.Shared, worker.Worker.Worker}, Records.{number_in, outcome_in}, Serving.changed_at, Spots.Spot, View.{Views, awaited_from, common_of, desk_of, driver_of, gate_seen, number_of_key, numbers_of, open_seen, own_of, seat_seen, slots_seen, things_with, visible, with_view}}, proofs.Facts.not_same}
+use Rattle.exec_invariants.{specs.{Gates.{AreLinedUp, HaveGates, has_hint_at, key_for}, Holding.{nap_of, thing_of}, Places.{Drops, drops_at}, Submits.IsGatedIn, Whole.{IsWhole, Profile, with_worker}, Works.{Steps, Suits}}, proofs.{Accounted.open_of_file, Changing.flying_after, Gated.durable_of_file, Hinting.open_there, Keys.name_in, Lined.{map_changed, mapped, passing_same, was_sent}, Marking.{mark_if, marked, was_marked}, Recorded.request_seen, Seeing.{common_changed, common_same, makes, own_with, served_by, shows, visible_with}, Serving.{Balances, SparesGates, at_large, holding_still}, ServingHolds.{IsServed, Keeps, KeepsBy, OthersKept, Serves, keeps_home, serves_to}, Slotted.{awaited_written, slots_written}, Spared.sleepers_endure, Turning.view_found, Untold.keeps_untold}}
 use Rattle.exec_serving.proofs.{PermitGates.{drops_others, drops_own, gates_passing}, PermitGrants.{Granted, gates_granted, keys_granted, lined_granted}, PermitQueued.{GrantAt, granted_at as at_grant, granted_of, keeps_queued, queues}, PermitSeen.{keys_gates, number_named}, PermitTries.{due_is, follows_next, gate_again, tried_at}, Returned.numbers_push}
 
 -- WHAT A GRANT DID
@@ -39,8 +39,7 @@ spares_marked i s s' k r f records sleepers there mine keeps forwards lined hint
       records_only = λ j x at other.
           let old = was_marked f rs k j x (ap (λ xs. slice_get xs j) (sym records) ∙ at) in
           let before : old.0.shown.worker ≢ i = λ is. other (ap (λ y. y.shown.worker) old.2 ∙ worker_same (k == j) old.0 ∙ is) in
-          let is : x ≡ old.0 = old.2 ∙ ap (λ b. mark_if f b old.0) (apart j old.0 old.1 before) in
-          old.1 ∙ ap (λ y. Some y) (sym is);
+          old.1 ∙ ap (λ y. Some y) (sym (old.2 ∙ ap (λ b. mark_if f b old.0) (apart j old.0 old.1 before)));
       sleepers = λ j z at other. ap (λ zs. slice_get zs j) sleepers ∙ at;
       sleepers_only = λ j z at other. ap (λ zs. slice_get zs j) (sym sleepers) ∙ at;
       endure = λ j x at. (mark_if f (k == j) x, ap (λ xs. slice_get xs j) records ∙ marked f rs k j x at, record { worker = worker_same (k == j) x; forwarded = λ h. ap is_unsent (forward_same (k == j) x) ∙ h });
@@ -70,9 +69,7 @@ module _ {B L : Type 0} (left : B → L) (spot : L → Option Said → Spot) (v 
   behind = map (number_of_key 0 s.requests.items) who.o.waiting
 
   gate_first : gate_seen s.requests.items who.o ≡ k ∷ behind
-  gate_first =
-      ap (λ h. map (number_of_key 0 s.requests.items) (option_to_list h ++ who.o.waiting)) who.holds
-      ∙ ap (λ n. n ∷ behind) (number_named s.opens s.requests.items new.sound.gates k who.r (key_for who.r) who.there refl)
+  gate_first = grind (arith, who.holds, number_named s.opens s.requests.items new.sound.gates k who.r (key_for who.r) who.there refl)
 
   pub request_is : request_of all k ≡ who.r.shown
   request_is = request_seen s.requests.items k who.r who.there
@@ -94,12 +91,9 @@ module _ {B L : Type 0} (left : B → L) (spot : L → Option Said → Spot) (v 
   answer_is o is =
       let kind : who.r.shown.operation.kind ≡ (asked_of who.it.request).kind = ap (λ x. x.kind) who.alike.asked in
       let has = open_of_file s.opens s.requests.items file new.sound.gates (subst (λ n. n < length s.opens) who.target (new.sound.gates.there k who.r who.there (durable_of_file who.r.shown.operation.kind (ap is_durable kind ∙ who.durable)))) in
-      let kept : account_in s.opens (Some file) ≡ Some has.a = ap account_by has.there ∙ has.account in
-      let seen : account_of_open all who.r.shown ≡ has.a =
-      ap (λ n. (slice_index_or (map (open_seen s.requests.items) s.opens) n no_open).account) who.target
-      ∙ ap (λ x. x.account) (open_there s.requests.items s.opens file has.o has.there) ∙ ap account_seen has.account in
+      let seen : account_of_open all who.r.shown ≡ has.a = grind (arith, who.target, open_there s.requests.items s.opens file has.o has.there, has.account) in
       ap (λ x. outcome_at_grant x (account_of_open all who.r.shown)) kind ∙ ap (outcome_at_grant (asked_of who.it.request).kind) seen
-      ∙ sym (is ∙ ap (outcome_if_granted who.it.request) kept)
+      ∙ sym (is ∙ ap (outcome_if_granted who.it.request) (ap account_by has.there ∙ has.account))
 
   pub moves_grant : Suits p vs w s → (o : Option Outcome) → o ≡ outcome_if_granted who.it.request (account_in s.opens (Some file)) →
       let w0 : Worker = record w { place = Place.Service (InService.Submit new.gate) v } in
@@ -143,13 +137,9 @@ module _ {B L : Type 0} (left : B → L) (spot : L → Option Said → Spot) whe
       let tells : Tells w.home.deferred w'.home.deferred nothing_told = subst (λ o. Tells w.home.deferred w'.home.deferred (told_by_end id it' o account)) none gave.tells in
       let opens : s'.opens ≡ s.opens = gave.opens_after ∙ ap (opens_after_end s.opens it') none in
       let no_answer : as_answer g.ended ≡ None = ap as_answer none in
-      let event : e ≡ Grant k None = by.event ∙ ap (Grant k) no_answer in
       let records : s'.requests.items ≡ changed_at rs k queues = by.records ∙ ap (λ o. changed_at rs k (λ r. record r { shown = granted o r.shown })) no_answer in
-      let names : w'.names ≡ w.names = by.still no_answer in
       let deferred = w'.home.deferred in
-      let same : w' ≡ record w { place = q'; home = record w.home { driver = w'.home.driver; deferred = deferred } } =
-      by.worker ∙ ap (λ o. record w { place = (after_grant v file o (desk_of w)).place; home = record w.home { driver = w'.home.driver; deferred = deferred }; names = record w.names { ended = w'.names.ended } }) no_answer
-      ∙ ap (λ (x : Names). record w { place = q'; home = record w.home { driver = w'.home.driver; deferred = deferred }; names = record w.names { ended = x.ended } }) names in
+      let same : w' ≡ record w { place = q'; home = record w.home { driver = w'.home.driver; deferred = deferred } } = grind (arith, by.worker, no_answer, by.still no_answer) in
       let shared : s' ≡ record s { requests = s'.requests } = by.shared ∙ ap (λ o. record s { requests = s'.requests; opens = o }) opens in
       let follows = follows_next new.gate (suc file) v in
       let kept : KeepsBy (record w { place = q' }) d' w.home.timers (changed_at rs k queues) s.sleepers.items s =
@@ -161,8 +151,7 @@ module _ {B L : Type 0} (left : B → L) (spot : L → Option Said → Spot) whe
       let there : w'.place ≡ q' = ap (λ x. x.place) same in
       let serves : Serves q w w' s s' = serves_to q q' w w' s s' (subst (IsServed w) (sym same) refl) (subst (OthersKept s) (sym shared) refl) there follows in
       let show = shows q w w' s s' d' serves refl (ap (λ (x : Worker). x.home.timers) same) in
-      let ring : d'.ring ≡ d.ring = ap (λ x. x.ring) driver in
-      let seen : visible w' ≡ visible w = show.seen ∙ ap (λ r. visible_with n (visible w).taken r) ring in
+      let seen : visible w' ≡ visible w = show.seen ∙ ap (λ r. visible_with n (visible w).taken r) (ap (λ x. x.ring) driver) in
       let grants : Granted k who.r queues who.o s.opens rs = granted_of w s file id who queues refl refl refl in
       let keys : map key_for s'.requests.items ≡ map key_for rs = ap (map key_for) records ∙ keys_granted k who.r queues who.o s.opens rs grants sound.gates in
       let lined : AreLinedUp s.opens rs → AreLinedUp s'.opens s'.requests.items = λ l. subst (λ o. AreLinedUp o s'.requests.items) (sym opens) (subst (AreLinedUp s.opens) (sym records) (lined_granted k who.r queues who.o s.opens rs grants l)) in
@@ -175,15 +164,7 @@ module _ {B L : Type 0} (left : B → L) (spot : L → Option Said → Spot) whe
       let slab : d'.requests ≡ written d.requests id.0 (Pending it') = ap (λ x. x.requests) driver in
       let slots : slots_seen n d'.requests ≡ slots_seen n d.requests = ap (slots_seen n) slab ∙ slots_written n d.requests id.0 (Pending it) (Pending it') was in
       let awaited : awaited_from 0 n d'.requests.slots ≡ awaited_from 0 n d.requests.slots = ap (λ x. awaited_from 0 n x.slots) slab ∙ awaited_written n d.requests id.0 (Pending it) (Pending it') was refl in
-      let desk : desk_of w' ≡ record (desk_of w0) { place = q' } =
-      show.desk ∙ ap (λ y. desk_with w y w'.put_off deferred d') there ∙ ap (λ o. desk_with w q' o deferred d') (ap (λ x. x.put_off) same)
-      ∙ ap (λ ws. record (desk_with w q' w.put_off deferred d') { wakes = map (λ t. t.0) ws }) wakes
-      ∙ ap (λ os. record (desk_with w q' w.put_off deferred d') { wakes = map (λ t. t.0) w.home.deferred.notes.wakes.items; outputs = length os }) outputs
-      ∙ ap (λ xs. record (desk_with w q' w.put_off deferred d') { wakes = map (λ t. t.0) w.home.deferred.notes.wakes.items; outputs = length w.home.deferred.outputs.items; completions = completions_in xs }) completions_same
-      ∙ ap (λ xs. record (desk_with w q' w.put_off w.home.deferred d') { results = results_in xs }) results_same
-      ∙ ap (λ x. record (desk_with w q' w.put_off w.home.deferred d') { requests = x }) slots
-      ∙ ap (λ x. record (desk_with w q' w.put_off w.home.deferred d') { requests = slots_seen n d.requests; awaited = x }) awaited
-      ∙ ap (λ (x : Driving Reply Reply). record (desk_of w0) { place = q'; entries = length x.ring.staged; polled = x.armed; others = trailing 0 (completions x.ring) }) driver in
+      let desk : desk_of w' ≡ record (desk_of w0) { place = q' } = grind (arith, show.desk) in
       let counts = flying_after d.requests id.0 it it' who.live in
       let idle : one_if it.in_flight ≡ 0 = ap one_if who.idle in
       let flying : flying_count d'.requests ≡ flying_count d.requests = ap flying_count slab ∙ (let is : flying_count (written d.requests id.0 (Pending it')) ≡ flying_count d.requests = omega (arith, counts, idle) in is) in
@@ -196,34 +177,20 @@ module _ {B L : Type 0} (left : B → L) (spot : L → Option Said → Spot) whe
       gates_passing (with_worker others w).drops_by (with_worker others w').drops_by w.index s'.opens s'.requests.items (drops_others others w w' index) (ap (λ (y : Drops). y.joins) (mine ∙ ap drops_at there))
       (λ f at. absurd (let never : None ≡ Some f = sym (ap (λ (y : Drops). y.passes) (mine ∙ ap drops_at there)) ∙ at in cc)) still in
       let things : map thing_of s'.requests.items ≡ map thing_of rs = ap (map thing_of) records ∙ map_changed thing_of rs k who.r queues who.there (ap (λ x. record (thing_of who.r) { ended = outcome_in x }) (sym who.phase)) in
-      let naps = ap (λ (y : Shared B). map nap_of y.sleepers.items) shared in
-      let balances : Balances w w' s s' = record { gates = gates; holding = holding_still q w w' s s' serves wakes things naps } in
+      let balances : Balances w w' s s' = record { gates = gates; holding = holding_still q w w' s s' serves wakes things (ap (λ (y : Shared B). map nap_of y.sleepers.items) shared) } in
       let sent : map was_sent s'.requests.items ≡ map was_sent rs = ap (map was_sent) records ∙ map_changed was_sent rs k who.r queues who.there refl in
       let gate_lists : map (gate_seen s'.requests.items) s'.opens ≡ map (gate_seen rs) s.opens = keys_gates rs s'.requests.items keys s'.opens ∙ ap (map (gate_seen rs)) opens in
       let answer : None ≡ outcome_if_granted it.request (account_in s.opens (Some file)) = sym no_answer ∙ gave.answer in
-      subst (λ x. Steps left spot w s x w' s') (sym event)
+      subst (λ x. Steps left spot w s x w' s') (sym (by.event ∙ ap (Grant k) no_answer))
       (served_by left spot q w w' s s' (Grant k None) sound serves keeps spares balances
       (λ p vs suits.
       let all = common_of left spot p vs s in
       let request : request_of all k ≡ who.r.shown = request_is left spot v file w s new id who p vs in
+      let held = ap (λ x. is_number k (open_of all x.operation.target).holder) request ∙ holder_is left spot v file w s new id who p vs in
+      let same_answer = ap (λ x. same_end None (outcome_at_grant x.operation.kind (account_of_open all x))) request ∙ ap (same_end None) (answer_is left spot v file w s new id who p vs None answer) in
       record {
-        moves =
-            moves_grant left spot v file w s new id who p vs suits None answer
-            ∙ ap (λ y. makes (Grant k None) y (things_with vs s)) (sym desk)
-            ∙ ap (makes (Grant k None) (desk_of w')) (sym (things_granted vs w w' s s' suits.seen seen by.shared gate_lists sent));
-        may = (
-          at_large q w s sound refl,
-          (
-            ap (λ x. x.worker == w.index) request ∙ ap (λ i. i == w.index) who.worker ∙ eq-eqb w.index w.index refl,
-            (
-              ap (λ x. is_gated x.phase) request ∙ ap is_gated who.phase,
-              (
-                ap (λ x. is_number k (open_of all x.operation.target).holder) request ∙ holder_is left spot v file w s new id who p vs,
-                (ap (λ x. same_end None (outcome_at_grant x.operation.kind (account_of_open all x))) request ∙ ap (same_end None) (answer_is left spot v file w s new id who p vs None answer), tt),
-              ),
-            ),
-          ),
-        );
+        moves = grind (arith, moves_grant left spot v file w s new id who p vs suits None answer, desk, things_granted vs w w' s s' suits.seen seen by.shared gate_lists sent);
+        may = (at_large q w s sound refl, (ap (λ x. x.worker == w.index) request ∙ ap (λ i. i == w.index) who.worker ∙ eq-eqb w.index w.index refl, (ap (λ x. is_gated x.phase) request ∙ ap is_gated who.phase, (held, (same_answer, tt)))));
         own = show.own ∙ ap (λ y. own_with w y w'.names.ended.items w'.names.untold.items d') there ∙ ap (λ x. own_with w q' x.names.ended.items x.names.untold.items d') same ∙ own;
         common =
             common_changed left spot p (with_view vs w.index (visible w')) s s' k who.r queues shared records who.there (ap (λ x. record (name_in who.r) { over = is_resolved x && is_durable who.r.shown.operation.kind }) (sym who.phase))

@@ -1,13 +1,12 @@
 -- A gate where a request of the worker waits is looked at: what the machine makes of that, and where it isn't its turn.
 use Rattle.std.proofs.{Common.{◌≡◌, ◌⊎◌, inl, inr, ◌++◌, ℕ, suc, ◌<◌, ◌≤◌, ◌==◌, ◌&&◌, true, false, List, [], ◌∷◌, length, map, Option, Some, None, option_to_list, if◌then◌else◌, refl, sym, ap, subst, ◌∙◌, arith, slice_get, slice_index_or, slice_set}, lemmas.{Bool.false≢true, List.set-get_or, Option.get_or_from_slice_get}}
 use Rattle.exec_outcomes.specs.Accounts.{outcome_at_grant}
-use Rattle.exec_waiters.specs.States.{needs_permit}
 use Rattle.exec_driver.specs.{Lists.is_among, Opens.{OpenState, holder_at, holder_in}, Steps.is_turn_of, declared.opens.WaiterKey.WaiterKey}
 use Rattle.exec_task.specs.declared.body.Said.{Said}
 use Rattle.exec_machine.specs.{declared.{config.Configuration.Configuration, event.Event.{Event, TheVariants.{Grant, Serve}}, state.Request.Request}, Progress.Plan, Requests.account_of_open, Tests.is_gated, World.{Common, Own, no_request, request_of}}
-use Rattle.exec_moves.specs.{declared.place.{InService.InService, Place.Place, Service.Service}, Move.move_submit, State.{Desk, Moved, Things, does, gate_of}, Submit.{after_grant, due_next, first_due, granted_at, next_gate, submits, Due.AtGate}, Thing.with_gate, Told.told_if_ended}
-use Rattle.exec_parts.{specs.{declared.parts.{shared.Shared.Shared, worker.Worker.Worker}, Records.number_in, Spots.Spot, View.{Views, common_of, desk_of, driver_of, gate_seen, number_of_key, numbers_of, open_seen, own_of, seat_seen, things_with, visible}}, proofs.Facts.{and_parts, never_true, same_number}}
-use Rattle.exec_invariants.{specs.{Gates.line_at, Places.passes_at, Sound.served_in, Submits.IsGatedIn, Works.{Steps, Suits}}, proofs.{Gated.{StandsIn, durable_of_file, gate_next, least_stands, stands_there, ungated_open, waits_there}, Idling.none_due, Keeping.{SameButRing, keeps_ring}, Lined.{length_map, mapped}, Recorded.request_seen, Seeing.{common_same, desk_with, makes, served, shows, things_kept}, ServingHolds.{Follows, IsServed, Keeps, KeepsBy, Serves, serves_to}, Serving.{SparesRecords, at_large, balances_still, spares_same}, SparedRecord.there_within}}
+use Rattle.exec_moves.specs.{declared.place.{InService.InService, Place.Place, Service.Service}, State.{Desk, Moved, Things, does, gate_of}, Submit.{after_grant, due_next, first_due, granted_at, next_gate, submits, Due.AtGate}, Told.told_if_ended}
+use Rattle.exec_parts.{specs.{declared.parts.{shared.Shared.Shared, worker.Worker.Worker}, Records.number_in, Spots.Spot, View.{Views, common_of, desk_of, driver_of, gate_seen, number_of_key, numbers_of, open_seen, own_of, seat_seen, things_with, visible}}, proofs.Facts.{and_parts, false_from_ne_true, same_number}}
+use Rattle.exec_invariants.{specs.{Gates.line_at, Places.passes_at, Sound.served_in, Submits.IsGatedIn, Works.{Steps, Suits}}, proofs.{Gated.{StandsIn, durable_of_file, gate_next, least_stands, stands_there, ungated_open, waits_there}, Idling.none_due, Keeping.{SameButRing, keeps_ring}, Lined.{length_map, mapped}, Recorded.request_seen, Seeing.{common_same, desk_with, served, shows, things_kept}, ServingHolds.{Follows, IsServed, Keeps, KeepsBy, Serves, serves_to}, Serving.{SparesRecords, at_large, balances_still, spares_same}, SparedRecord.there_within}}
 use Rattle.exec_serving.proofs.PermitSeen.{number_named}
 
 -- THE MOVE, by who stands first there
@@ -56,10 +55,9 @@ module _ {B L : Type 0} (left : B → L) (spot : L → Option Said → Spot) (v 
       let none : first_due p.config w.index (own_of w0) all ≡ None =
       subst (λ x. first_due x w.index (own_of w0) all ≡ None) suits.config
       (none_due _ w.index w.moments s.config w.names d w.home.timers s.requests.items s.sleepers.items sound.due sound.named sound.config.some_tick begun (own_of w0) all refl refl new.due) in
-      let unenrolled : slice_get (numbers_of w.names.requests.items d.lists.enrolments) 0 ≡ None = ap (λ ids. slice_get (numbers_of w.names.requests.items ids) 0) new.enrolments in
       let next : next_gate w.index new.gate all ≡ Some file =
       gate_next (served_in q) w.index w.names d w.home.timers s.requests.items s.sleepers.items s.opens s.store sound.named sound.flown sound.carried sound.gates new.gate file all new.lists refl (length_map (open_seen s.requests.items) s.opens) new.gated in
-      comes_to_gate p.config w.index new.gate file (own_of w0) all (desk_of w0) none unenrolled next
+      comes_to_gate p.config w.index new.gate file (own_of w0) all (desk_of w0) none (ap (λ ids. slice_get (numbers_of w.names.requests.items ids) 0) new.enrolments) next
 
   pub gate_is : (p : Plan) (vs : Views) → gate_of (things_with vs s) file ≡ gate_seen s.requests.items gate_open.0
   gate_is p vs = get_or_from_slice_get (map (gate_seen s.requests.items) s.opens) file (gate_seen s.requests.items gate_open.0) [] (mapped (gate_seen s.requests.items) s.opens file gate_open.0 gate_open.1)
@@ -70,37 +68,31 @@ module _ {B L : Type 0} (left : B → L) (spot : L → Option Said → Spot) (v 
     where
       by : (h : Option WaiterKey) → gate_open.0.holder ≡ h → granted_at w.index (gate_seen s.requests.items gate_open.0) cs ≡ None
       by None none =
-          let sound = new.sound in
-          let line = sound.gates.lines file gate_open.0 gate_open.1 in
+          let line = new.sound.gates.lines file gate_open.0 gate_open.1 in
           ap (λ ks. granted_at w.index (map (number_of_key 0 s.requests.items) ks) cs) (ap (λ h. option_to_list h ++ gate_open.0.waiting) none ∙ line.first none)
       by (Some key) some =
           let sound = new.sound in
           let rs = s.requests.items in
           let o = gate_open.0 in
           let q : Place = Place.Service (InService.Submit new.gate) v in
-          let line = sound.gates.lines file o gate_open.1 in
           let whole : line_at o ≡ key ∷ o.waiting = ap (λ h. option_to_list h ++ o.waiting) some in
-          let n = line.named 0 key (ap (λ l. slice_get l 0) whole) in
+          let n = (sound.gates.lines file o gate_open.1).named 0 key (ap (λ l. slice_get l 0) whole) in
           let k = n.0 in
           let r = n.1 in
-          let number : number_of_key 0 rs key ≡ k = number_named s.opens rs sound.gates k r key n.2 n.3 in
           let later = map (number_of_key 0 rs) o.waiting in
-          let gate : gate_seen rs o ≡ k ∷ later = ap (map (number_of_key 0 rs)) whole ∙ ap (λ m. m ∷ later) number in
-          let request : request_of cs k ≡ r.shown = ap (λ xs. slice_index_or xs k no_request) shown ∙ request_seen rs k r n.2 in
           let holder : holder_at s.opens file ≡ Some key = ap holder_in gate_open.1 ∙ some in
           let waits : ((r.shown.worker == w.index) && is_gated r.shown.phase) ≡ false =
-          never_true ((r.shown.worker == w.index) && is_gated r.shown.phase)
+          false_from_ne_true ((r.shown.worker == w.index) && is_gated r.shown.phase)
           (λ both.
           let parts = and_parts (r.shown.worker == w.index) (is_gated r.shown.phase) both in
           let mine : r.shown.worker ≡ w.index = same_number r.shown.worker w.index parts.0 in
           let at = stands_there (served_in q) w.index w.names (driver_of w) w.home.timers rs s.sleepers.items s.opens s.store sound.named sound.flown sound.carried sound.gates k r n.2 mine (ungated_open r.shown.phase parts.1) in
-          let needs : needs_permit at.it ≡ true = sym at.alike.permit ∙ parts.1 in
-          let among : is_among r.id (driver_of w).lists.gated ≡ true = sound.flown.gated r.id at.it at.live needs in
+          let among : is_among r.id (driver_of w).lists.gated ≡ true = sound.flown.gated r.id at.it at.live (sym at.alike.permit ∙ parts.1) in
           let turn_is : is_turn_of w.index (driver_of w).lists (holder_at s.opens file) ≡ true =
           ap (is_turn_of w.index (driver_of w).lists) (holder ∙ ap (λ x. Some x) (sym n.3)) ∙ ap (λ b. b && is_among r.id (driver_of w).lists.gated) parts.0 ∙ among in
           absurd (false≢true (sym turn ∙ turn_is))) in
-          ap (λ g. granted_at w.index g cs) gate
-          ∙ ap (λ (q : Request). if (q.worker == w.index) && is_gated q.phase then Some k else None) request
+          ap (λ g. granted_at w.index g cs) (ap (map (number_of_key 0 rs)) whole ∙ ap (λ m. m ∷ later) (number_named s.opens rs sound.gates k r key n.2 n.3))
+          ∙ ap (λ (q : Request). if (q.worker == w.index) && is_gated q.phase then Some k else None) (ap (λ xs. slice_index_or xs k no_request) shown ∙ request_seen rs k r n.2)
           ∙ ap (λ b. if b then Some k else None) waits
 
   pub gate_passed_by : (w' : Worker) (s' : Shared B) (e : Event) → is_turn_of w.index (driver_of w).lists (holder_at s.opens file) ≡ false → driver_of w' ≡ driver_of w → s' ≡ s → e ≡ Serve
@@ -132,12 +124,7 @@ module _ {B L : Type 0} (left : B → L) (spot : L → Option Said → Spot) (v 
       let all = common_of left spot p vs s in
       let x = things_with vs s in
       record {
-        moves =
-            ap (move_submit p.config w.index (own_of w0) all (desk_of w0) x new.gate v) (due_is p vs suits)
-            ∙ ap (λ o. with_gate file x (tried_at v file all (desk_of w0) (gate_of x file) o)) (ap (λ g. granted_at w.index g all) (gate_is p vs) ∙ not_granted turn all refl)
-            ∙ ap (makes Serve (submits v (suc file) (desk_of w0))) (gate_again x file)
-            ∙ ap (λ y. makes Serve y x) (sym desk)
-            ∙ ap (makes Serve (desk_of w')) (sym (things_kept vs w.index (visible w) (visible w') s s suits.seen (ap (λ y. y.wakes) seen) refl spares));
+        moves = grind (arith, due_is p vs suits, gate_is p vs, not_granted turn all refl, gate_again x file, desk, things_kept vs w.index (visible w) (visible w') s s suits.seen (ap (λ y. y.wakes) seen) refl spares);
         may = (at_large q w s sound refl, tt);
         own = show.own ∙ rw (there, ap (λ (x : Worker). x.names.ended.items) same, ap (λ (x : Worker). x.names.untold.items) same) refl;
         common = common_same left spot p vs w w' s suits (λ c. ap (λ y. seat_seen y c) seen);

@@ -1,5 +1,5 @@
 -- What is kept of an open once a request of it is over: its driver and the machine make the same of it.
-use Rattle.std.{proofs.{Common.{◌≡◌, ℕ, ◌<◌, Bool, true, false, List, [], length, Option, Some, None, if◌then◌else◌, refl, sym, ap, subst, ◌∙◌, slice_set}}}
+use Rattle.std.{proofs.{Common.{◌≡◌, ℕ, ◌<◌, Bool, true, false, List, length, Option, Some, None, if◌then◌else◌, refl, sym, ap, subst, ◌∙◌, slice_set}}}
 use Rattle.std.proofs.Common.{arith}
 use Rattle.exec_outcomes.specs.{Accounts.{Account, account_after, is_durable}, Outcomes.{Asked, Cursor, cursor_next, outcome_next}, declared.outcome.{Judged.Judged, Kind.Kind, Outcome.{Outcome}}}
 use Rattle.exec_request.specs.{Hints.{has_hint, without_hint}, Requests.{asked_of, cursor_of, record_after, target_of}, Kept.seen_by, States.{Ended, as_outcome, told_by}, declared.{request.Request.Request as Asking}}
@@ -64,11 +64,7 @@ module _ (q : Asking) (o : Operation) (how : Ended) (opens opens' : List OpenSta
       let kept : account_in opens (file_of q) ≡ Some has.a = ap (account_in opens) ends.1 ∙ ap account_by has.there ∙ has.account in
       record {
         has = has;
-        set = made
-            ∙ ap (λ f. with_account opens f (record_after q how (account_in opens (file_of q)))) ends.1
-            ∙ ap (λ a. with_account opens (Some o.target) (record_after q how a)) kept
-            ∙ ap (with_account opens (Some o.target)) ends.0
-            ∙ account_set opens o.target has.o (account_told o (as_outcome how) has.a) has.there;
+        set = grind (arith, made, ends.1, kept, ends.0, account_set opens o.target has.o (account_told o (as_outcome how) has.a) has.there);
       }
 
   -- lines stay

@@ -4,11 +4,12 @@ use Rattle.std.proofs.Common.{arith}
 use Rattle.exec_outcomes.specs.{Accounts.outcome_told, Outcomes.refuses_hint, declared.outcome.{OpResult.OpResult, Outcome.{Outcome, TheVariants.{Failure, Success}}}}
 use Rattle.exec_ring.specs.{Completions.result_in, declared.completion.Completion.Completion}
 use Rattle.exec_task.specs.declared.body.Said.{Said}
-use Rattle.exec_machine.specs.{declared.{event.Event.TheVariants.Reap, state.Request.Request}, Progress.Plan, Requests.{account_of_open, after_reap as common_reaped, judged_of, may_reap, opens_after_end, outcome_given, outcome_shown, reaped}, Same.{is_number, same_end, same_outcome}, Tests.{is_at_large, is_landed_with, set_open, AllTrue}, World.{Common, Own, Seat, open_of, request_of, seat_of}}
+use Rattle.exec_machine.specs.{declared.{event.Event.TheVariants.Reap, state.Request.Request}, Progress.Plan, Requests.{account_of_open, after_reap as common_reaped, judged_of, may_reap, opens_after_end, outcome_given, outcome_shown, reaped}, Same.{is_number, same_end, same_outcome}, Tests.{is_at_large, is_landed_with, set_open, AllTrue}, World.{Common, Own, Seat, open_of, seat_of}}
 use Rattle.exec_moves.specs.{Told.{told_if_ended, told_of_end}, Serve.{Ring, after_reap, back_from_reap, others_after_reap, reap, reaped as reaped_ring, result_in as result_of}, State.{Desk, Moved, WakePoll, does}, Thing.ring_of, declared.place.{Place.Place, Reaping.Reaping, Service.Service, InService.InService}}
 use Rattle.exec_parts.specs.{declared.parts.{record.Record.Record, shared.Shared.Shared, worker.Worker.Worker}, Serving.changed_at, Spots.Spot, View.{Views, visible, with_view, driver_of, common_of, open_seen, seat_seen, seats_seen, things_with}}
-use Rattle.exec_invariants.{specs.{Flown.{HasLanded, operations}, Sound.SoundAt, Works.Suits}, proofs.{Accounted.opens_refused, Mine.live_mine, Raising.seats_set, Recorded.shown_changed, Results.same_error_self}}
+use Rattle.exec_invariants.{specs.{Flown.{HasLanded, operations}, Sound.SoundAt, Works.Suits}, proofs.{Accounted.opens_refused, Mine.live_mine, Recorded.shown_changed, Results.same_error_self}}
 use Rattle.exec_serving.proofs.{Entered.{ring_seen, ring_there}, Finished.over_step, PermitSeen.opens_after, Viewed.{landed_seen, request_is, same_result_self, seat_is, seen_all, seen_later, seen_number, visible_landed}}
+use Rattle.exec_invariants.proofs.MailApplies.{seats_viewed}
 
 pub same_outcome_self : (x : Outcome) → same_outcome x x ≡ true
 same_outcome_self Success = refl
@@ -45,13 +46,12 @@ module _ {B L : Type 0} (left : B → L) (spot : L → Option Said → Spot) (rp
   pub moves_over : (d : Desk) (given told : Outcome) → outcome_given h.r.shown (result_in c.result) ≡ Some given → outcome_told h.r.shown.operation.kind (account_of_open all h.r.shown) given ≡ told
       → reap w.index v rp all d (ring_of all (things_with vs s) w.index) ≡ reap_over d told
   moves_over d given told ends shown =
-      let n = result_in c.result in
       let it = h.r.shown in
       ap (reap w.index v rp all d) (ring_there left spot (Place.Service (InService.Reap rp) v) w s sound waits p vs suits)
       ∙ ap (λ ls. reap w.index v rp all d (record (ring_seen w) { landed = ls })) (visible_landed left spot rp v w s sound waits c cs is h p vs suits)
       ∙ ap (λ x. reap_at d x (result_of x.phase) (outcome_given x (result_of x.phase))) (request_is left spot rp v w s sound waits c cs is h p vs suits)
       ∙ ap (λ x. reap_at d it (result_of x) (outcome_given it (result_of x))) h.landed
-      ∙ ap (reap_at d it n) ends
+      ∙ ap (reap_at d it (result_in c.result)) ends
       ∙ ap (reap_over d) shown
 
   -- WHAT IS ALLOWED
@@ -110,21 +110,17 @@ module _ {B L : Type 0} (left : B → L) (spot : L → Option Said → Spot) (rp
       let x = seat_seen (visible w) chair in
       let vs' = with_view vs i (visible w') in
       let rs = s.requests.items in
-      let requests = slice_set (map (λ r. r.shown) rs) k (reaped n (Some told) it) in
       let refuses = refuses_hint (judged_of it n) in
       let opens_then = opens_after (opens_refused refuses all.opens it.operation.target) it.operation given in
-      let opens : map (open_seen s'.requests.items) s'.opens ≡ opens_then = ap (λ xs. map (open_seen xs) s'.opens) records ∙ opens_are in
-      let seat : seat_of all i ≡ x = seat_is left spot rp v w s sound waits c cs is h p vs suits in
-      let request : request_of all k ≡ it = request_is left spot rp v w s sound waits c cs is h p vs suits in
       ap (common_of left spot p vs') shared
-      ∙ ap (λ os. record (common_of left spot p vs' s) { requests = map (λ r. r.shown) s'.requests.items; opens = os }) opens
+      ∙ ap (λ os. record (common_of left spot p vs' s) { requests = map (λ r. r.shown) s'.requests.items; opens = os }) (ap (λ xs. map (open_seen xs) s'.opens) records ∙ opens_are)
       ∙ ap (λ xs. record (common_of left spot p vs' s) { requests = map (λ r. r.shown) xs; opens = opens_then }) records
       ∙ ap (λ xs. record (common_of left spot p vs' s) { requests = xs; opens = opens_then }) (shown_changed f rs k h.r h.there)
-      ∙ ap (λ seats. record all { seats = seats; requests = requests; opens = opens_then })
-      (seats_set vs.workers s.seats.items i (visible w') chair sound.seated.there
+      ∙ ap (λ seats. record all { seats = seats; requests = slice_set (map (λ r. r.shown) rs) k (reaped n (Some told) it); opens = opens_then })
+      (seats_viewed vs.workers s.seats.items i (visible w') chair sound.seated.there
       ∙ ap (λ y. slice_set (seats_seen vs.workers s.seats.items) i (seat_seen y chair)) seen
       ∙ ap (λ ls. slice_set (seats_seen vs.workers s.seats.items) i (record x { landed = drop 1 ls })) (sym (visible_landed left spot rp v w s sound waits c cs is h p vs suits))
-      ∙ ap (λ (y : Seat). slice_set (seats_seen vs.workers s.seats.items) i (record y { landed = drop 1 y.landed })) (sym seat))
+      ∙ ap (λ (y : Seat). slice_set (seats_seen vs.workers s.seats.items) i (record y { landed = drop 1 y.landed })) (sym (seat_is left spot rp v w s sound waits c cs is h p vs suits)))
       ∙ by_refused (seat_of all i) it refuses given told
       ∙ ap (λ g. then_over (seat_of all i) it refuses g told) (sym ends)
-      ∙ ap (λ y. then_over (seat_of all i) y (refuses_hint (judged_of y n)) (outcome_given y n) told) (sym request)
+      ∙ ap (λ y. then_over (seat_of all i) y (refuses_hint (judged_of y n)) (outcome_given y n) told) (sym (request_is left spot rp v w s sound waits c cs is h p vs suits))

@@ -24,10 +24,9 @@ module _ (n : Names) (d d' : Driving Reply Reply) (rs : List Record) (opens open
       let head = first_is (completions d.ring) c cs is in
       let next = first_there (swept d).ring.posted (swept d).ring c head.rest refl (to.left ∙ head.first) head.operates in
       let requests : first.requests ≡ d.requests = ap (λ x. x.requests) like ∙ ap (λ x. x.requests) to.shape in
-      let found : next_completion first.ring ≡ Some c = ap (λ x. next_completion x.ring) like ∙ next.next in
       let named : completed_in first c ≡ Some has.id = ap (λ x. completed_in (record d { requests = x }) c) requests ∙ completed_is n d rs c has in
       let live : waiter_at first.requests has.id ≡ Some has.it = ap (λ x. waiter_at x has.id) requests ∙ has.live in
-      record { has = has; first = first; swept_first = like; from = reaps.some c has.id has.it found named live }
+      record { has = has; first = first; swept_first = like; from = reaps.some c has.id has.it (ap (λ x. next_completion x.ring) like ∙ next.next) named live }
 
   -- where none has landed nothing is told
   pub reaps_none : operations d.ring ≡ [] → (d' ≡ with_landings d' (swept d)) × (told ≡ None) × (opens' ≡ opens) × (after ≡ before)
@@ -60,8 +59,7 @@ module _ (n : Names) (d d' : Driving Reply Reply) (rs : List Record) (opens open
       by (c ∷ cs) is =
           let all = subst (λ ops. AreLanded n d rs ops) is landed in
           let one = reaps_one n d d' rs opens opens' before after (Some done) reaps c cs is all.0 in
-          let told = one.from.reaps.told_is in
-          let same = some_same told in
+          let same = some_same one.from.reaps.told_is in
           record { c = c; cs = cs; operations_are = is; landed = all; reaped = one; id = ap (λ x. x.id) same; given = ap (λ x. x.given) same; ended = ap (λ x. x.ended) same; permit = ap (λ x. x.permit) same }
 
   pub tells_none : ReapsNext d d' opens opens' before after None → operations d.ring ≡ []
@@ -70,7 +68,5 @@ module _ (n : Names) (d d' : Driving Reply Reply) (rs : List Record) (opens open
       by : (ops : List Completion) → operations d.ring ≡ ops → ops ≡ []
       by [] is = refl
       by (c ∷ cs) is =
-          let all = subst (λ ops. AreLanded n d rs ops) is landed in
-          let one = reaps_one n d d' rs opens opens' before after None reaps c cs is all.0 in
-          let told = one.from.reaps.told_is in
+          let told = (reaps_one n d d' rs opens opens' before after None reaps c cs is (subst (λ ops. AreLanded n d rs ops) is landed).0).from.reaps.told_is in
           absurd (cc)

@@ -1,6 +1,7 @@
 -- What holds again once an operation has landed whose request goes on.
-use Rattle.std.proofs.{Common.{◌≡◌, ◌≢◌, ℕ, ◌+◌, ◌^◌, ◌<◌, ◌≤◌, ◌==◌, ◌&&◌, ◌||◌, inl, not, Bool, true, false, List, [], ◌∷◌, ◌++◌, map, Some, None, refl, sym, ap, subst, ◌∙◌, slice_get, slice_index_or, is_some}, lemmas.Bool.{false≢true, eq-eqb}}
+use Rattle.std.proofs.{Common.{◌≡◌, ◌≢◌, ℕ, ◌+◌, ◌^◌, ◌<◌, ◌≤◌, ◌==◌, ◌&&◌, inl, not, Bool, true, false, List, [], ◌∷◌, ◌++◌, map, Some, None, refl, sym, ap, subst, ◌∙◌, slice_get, slice_index_or, is_some}, lemmas.Bool.{false≢true, eq-eqb}}
 use Rattle.std.proofs.Common.{arith}
+use Rattle.std.proofs.lemmas.Bool.{or_parts}
 use Rattle.exec_base.specs.{Slab.{value_at, written}, declared.slab.Id.Id}
 use Rattle.exec_outcomes.specs.{Accounts.is_durable, Lawful.{is_lawful, window_of}, Outcomes.{HasCome, bytes_of, refuses_hint}, declared.outcome.OpResult.OpResult}
 use Rattle.exec_request.specs.{Judging.{Judges, judged_as}, Kept.kept_of, Requests.{asked_of, cursor_of, deadline_of, hinted_of}, declared.request.Request.Request as Asking}
@@ -15,10 +16,6 @@ use Rattle.exec_serving.proofs.Whole.{whole_kept}
 
 -- THE OTHERS THAT HAVE LANDED have other numbers
 
-or_parts : (a b : Bool) → (a || b) ≡ false → (a ≡ false) × (b ≡ false)
-or_parts true b h = absurd (false≢true (sym h))
-or_parts false b h = (refl, h)
-
 pub number_landed : (n : Names) (d : Driving Reply Reply) (rs : List Record) (c : Completion) → (h : HasLanded n d rs c) → number_told n.requests.items c ≡ number_in n.requests.items h.id
 number_landed n d rs c h = ap (λ i. slice_index_or n.requests.items i 0) (sym h.index)
 
@@ -32,18 +29,7 @@ landed_rest n d d' rs rs' k (c ∷ cs) are once keeps =
     let number = number_landed n d rs c h in
     let parts = or_parts (number_told n.requests.items c == k) (is_one_of k (map (number_told n.requests.items) cs)) once in
     let on = keeps h.id h.it h.r (result_in c.result) h.live h.flies h.there h.landed (λ e. false≢true (sym parts.0 ∙ eq-eqb (number_told n.requests.items c) k (number ∙ sym e))) in (
-      record {
-        id = h.id;
-        it = on.it';
-        r = on.r';
-        index = h.index;
-        generation = h.generation;
-        live = on.live;
-        flies = on.flies ∙ h.flies;
-        lawful = ap (λ q. is_lawful (window_of (asked_of q) (cursor_of q)) (result_in c.result)) on.same ∙ h.lawful;
-        there = on.there;
-        landed = on.phase ∙ h.landed;
-      },
+      search (on.flies ∙ h.flies, ap (λ q. is_lawful (window_of (asked_of q) (cursor_of q)) (result_in c.result)) on.same ∙ h.lawful, on.phase ∙ h.landed, on, h),
       are.1,
       landed_rest n d d' rs rs' k cs are.2 parts.1 keeps,
     )
@@ -175,7 +161,6 @@ module _ {B : Type 0} (q q' : Place) (w : Worker) (s : Shared B) (sound : SoundA
       let changed = changes_one d.requests back.h.id it it' back.h.live in
       let waiters : (other : Id) → waiter_at d'.requests other ≡ waiter_at (written d.requests back.h.id (Pending it')) other = λ other. ap (λ x. waiter_at x other) back.requests in
       let once : is_one_of k (map (number_told w.names.requests.items) cs) ≡ false = ap (λ j. is_one_of j (map (number_told w.names.requests.items) cs)) (sym (number_landed w.names d rs c back.h)) ∙ back.once in
-      let all = all_go_one rs k f back.h.r back.h.there one_back.on in
       record {
         ending = flown.ending;
         staging = rw back.ring.size flown.staging;
@@ -185,8 +170,7 @@ module _ {B : Type 0} (q q' : Place) (w : Worker) (s : Shared B) (sound : SoundA
             let listed : is_among other d.lists.gated ≡ true =
             by_name other.0 back.h.id (λ apart. flown.gated other x (sym (changed.others other.0 apart) ∙ sym (waiters other.0) ∙ live) needs)
             (λ eq.
-            let here : waiter_at (written d.requests back.h.id (Pending it')) other.0 ≡ Some x = sym (waiters other.0) ∙ live in
-            let is_it : x ≡ it' = cc (here, eq, changed.is_at) in
+            let is_it : x ≡ it' = cc (sym (waiters other.0) ∙ live, eq, changed.is_at) in
             flown.gated other it (ap (waiter_at d.requests) eq ∙ back.h.live) (ap (λ a. is_durable a.kind && not it.permit) (sym kept_asked) ∙ ap needs_permit (sym is_it) ∙ needs)) in
             ap (λ l. is_among other l.gated) back.lists ∙ listed;
         plain = λ j x found mine.
@@ -199,14 +183,13 @@ module _ {B : Type 0} (q q' : Place) (w : Worker) (s : Shared B) (sound : SoundA
             let differs : other ≢ back.h.id = λ e. apart (ap (number_in w.names.requests.items) (sym e)) in
             record { it' = x; r' = r; live = waiters other ∙ changed.others other differs ∙ live; flies = refl; same = refl; number = refl; there = marked f rs k j r found ∙ ap (λ b. Some (mark_if f b r)) (not_same k j apart); phase = refl }));
         polled = back.ring.polled;
-        owning = owning_on rs back_records all flown.owning;
+        owning = owning_on rs back_records (all_go_one rs k f back.h.r back.h.there one_back.on) flown.owning;
         enrolling = λ other x live takes some.
             let listed : is_among other d.lists.enrolments ≡ true =
             let differs : other.0 ≢ back.h.id → is_among other d.lists.enrolments ≡ true = λ apart. flown.enrolling other x (sym (changed.others other.0 apart) ∙ sym (waiters other.0) ∙ live) takes some in
             by_name other.0 back.h.id differs
             (λ eq.
-            let here : waiter_at (written d.requests back.h.id (Pending it')) other.0 ≡ Some x = sym (waiters other.0) ∙ live in
-            let is_it : x ≡ it' = cc (here, eq, changed.is_at) in
+            let is_it : x ≡ it' = cc (sym (waiters other.0) ∙ live, eq, changed.is_at) in
             flown.enrolling other it (ap (waiter_at d.requests) eq ∙ back.h.live) (ap (λ y. takes_tick y.state) (sym is_it) ∙ takes)
             (ap (λ y. is_some y.deadline) (sym back.kept) ∙ ap (λ y. is_some (deadline_of y.request)) (sym is_it) ∙ some)) in
             ap (λ l. is_among other l.enrolments) back.lists ∙ listed;
@@ -242,11 +225,10 @@ module _ {B : Type 0} (q q' : Place) (w : Worker) (s : Shared B) (sound : SoundA
   pub known_back : {opens' : List OpenState} → ((file : ℕ) → has_hint_at s.opens file ≡ false → has_hint_at opens' file ≡ false)
       → IsKnown w.index w.names.requests.items (written (driver_of w).requests back.h.id (Pending back_waiter)) opens' back_records
   known_back {opens' = opens'} hints =
-      let r = back.h.r.shown in
       known_written w.index w.names.requests.items (driver_of w).requests s.opens opens' s.requests.items (number_in w.names.requests.items back.h.id) (goes_back (result_in c.result))
       (λ y. record { id = refl; worker = refl; kind = refl; target = refl; unrefused = λ h. (and_parts y.shown.operation.unrefused (not (refuses_hint (judged_of y.shown (result_in c.result)))) h).0 })
       hints back.h.id back.h.it back_waiter back.h.r refl back.h.live back.h.there
-      (inl (forgets_after (driver_of w).wheel.start (driver_of w).wheel.tick back.h.it r back_alike (result_in c.result) back.h.flies back.request None back.judges)) sound.known
+      (inl (forgets_after (driver_of w).wheel.start (driver_of w).wheel.tick back.h.it back.h.r.shown back_alike (result_in c.result) back.h.flies back.request None back.judges)) sound.known
 
   pub keeps_back : Follows q q' → IsPunctual d' → (may_be_due (served_in q') ≡ false → d'.lists.due ≡ []) → KeepsBy (record w { place = q' }) d' w.home.timers back_records s.sleepers.items s
   keeps_back follows punctual due =

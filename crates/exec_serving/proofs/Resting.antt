@@ -3,7 +3,7 @@ use Rattle.std.proofs.{Common.{◌≡◌, ℕ, zero, suc, ◌*◌, ◌<◌, ◌�
 use Rattle.exec_base.specs.declared.limits.TheConstants.{LAST_MOMENT}
 use Rattle.exec_machine.specs.declared.{config.Configuration.Configuration, state.Rest.Rest}
 use Rattle.exec_moves.specs.declared.{place.{Place.Place}}
-use Rattle.exec_parts.{specs.{declared.parts.{seat.Seat.Seat as Chair, shared.Shared.Shared, worker.Worker.Worker}, Phased.{IsPhased, TurnsChair, stage_of, closes_at, closing_in}, Records.{rest_at, reached, roused}}, proofs.{Facts.same_thing, Showing.map_kept}}
+use Rattle.exec_parts.{specs.{declared.parts.{seat.Seat.Seat as Chair, shared.Shared.Shared, worker.Worker.Worker}, Phased.{IsPhased, TurnsChair, stage_of, closes_at, closing_in}, Records.{rest_at, reached, roused}}, proofs.{Facts.same_Some, Showing.map_kept}}
 use Rattle.exec_invariants.{specs.{Holding.box_of, Places.is_armed_at, Sound.{Aims, AreHome, HasQueue, IsInTime, IsSeated, Sound, SoundAt}, Whole.{IsWhole, Profile}}, proofs.{Dedicated.as_long, Aside.{queue_of_chair, queues_set, whole_same}, PoolKept.{KeepsGates}, SparedRecord.there_within}}
 
 abbrev pub rested : Rest → Chair → Chair
@@ -45,11 +45,10 @@ one_rested x i seats seats' c there is =
 -- what stood there before it
 rested_of : (seats seats' : List Chair) (k : ℕ) (chair : Chair) → AreRested seats seats' → slice_get seats' k ≡ Some chair → (before : Chair) × (slice_get seats k ≡ Some before) × (x : Rest) × (chair ≡ rested x before)
 rested_of seats seats' k chair rests found =
-    let within : k < length seats = subst (λ n. k < n) rests.many (slice_get_within seats' k chair found) in
     let before = get_or seats k chair in
-    let there = slice_get-get_or seats k chair within in
+    let there = slice_get-get_or seats k chair (subst (λ n. k < n) rests.many (slice_get_within seats' k chair found)) in
     let now = rests.each k before there in
-    (before, there, now.0, same_thing chair (rested now.0 before) (sym found ∙ now.1))
+    (before, there, now.0, same_Some chair (rested now.0 before) (sym found ∙ now.1))
 
 -- who claims half of another's queue looks at its queue
 aims_rested : (p : Place) (c : Configuration) (i : ℕ) (seats seats' : List Chair) → AreRested seats seats' → Aims p c i seats → Aims p c i seats'
@@ -73,33 +72,18 @@ module _ {B : Type 0} where
   rested_at q w s t sound later bounded rests =
       let seat = sound.seated.seat in
       let mine = rests.each w.index seat sound.seated.there in
-      let is : (chair : Chair) → slice_get t.seats.items w.index ≡ Some chair → rested mine.0 seat ≡ chair = λ chair there. same_thing (rested mine.0 seat) chair (sym mine.1 ∙ there) in
+      let is : (chair : Chair) → slice_get t.seats.items w.index ≡ Some chair → rested mine.0 seat ≡ chair = λ chair there. same_Some (rested mine.0 seat) chair (sym mine.1 ∙ there) in
       let slept : (o : Option ℕ) → IfSome o (λ moment. moment ≤ s.clock) → IfSome o (λ moment. moment ≤ t.clock) = λ o.
       elim o as (λ x. IfSome x (λ moment. moment ≤ s.clock) → IfSome x (λ moment. moment ≤ t.clock)) [ None ↦ λ h. h | Some moment ↦ λ h. omega (arith, h, later) ] in
-      let time : IsInTime w.moments w.slept t.clock = record {
-        begun = sound.time.begun;
-        ordered = sound.time.ordered;
-        not_after = omega (arith, sound.time.not_after, later);
-        read = omega (arith, sound.time.read, later);
-        asleep = slept w.slept sound.time.asleep;
-        bounded = bounded;
-      } in
-      let seated : IsSeated w.index (is_armed_at q) s.config.workers t.seats.items = record {
-        many = as_long rests.many sound.seated.many;
-        seat = rested mine.0 seat;
-        there = mine.1;
-        pool = sound.seated.pool;
-        unarmed = sound.seated.unarmed;
-        mail = assumption sound.seated.mail;
-      } in
+      let time : IsInTime w.moments w.slept t.clock = grind (arith, slept w.slept sound.time.asleep, bounded, sound.time) in
+      let seated : IsSeated w.index (is_armed_at q) s.config.workers t.seats.items = search (as_long rests.many sound.seated.many, mine.1, sound.seated) in
       let queue : (chair : Chair) → slice_get t.seats.items w.index ≡ Some chair → HasQueue q chair.queue = λ chair there. subst (λ c. HasQueue q c.queue) (is chair there) (sound.queue seat sound.seated.there) in
-      let aims : Aims q s.config w.index t.seats.items = aims_rested q s.config w.index s.seats.items t.seats.items rests sound.aims in
       let phased : (chair : Chair) → slice_get t.seats.items w.index ≡ Some chair → IsPhased w.index (closes_at q) (closing_in q) w.home.closing w.root w.names.unreleased (stage_of chair s) s.tasks.items = λ chair there.
       subst (λ c. IsPhased w.index (closes_at q) (closing_in q) w.home.closing w.root w.names.unreleased (stage_of c s) s.tasks.items) (is chair there) (sound.phased seat sound.seated.there) in
       let homes : AreHome s.config.workers (length t.seats.items) s.tasks.items = subst (λ n. AreHome s.config.workers n s.tasks.items) (sym rests.many) sound.homes in
       let batch_place : (chair : Chair) → slice_get t.seats.items w.index ≡ Some chair → chair.mailbox.inbox.closed ≡ false → 2 * chair.made + 1 ≤ w.batch.places = λ chair there.
       subst (λ c. c.mailbox.inbox.closed ≡ false → 2 * c.made + 1 ≤ w.batch.places) (is chair there) (sound.batch_place seat sound.seated.there) in
-      assumption (time, seated, queue, aims, phased, homes, batch_place, sound)
+      assumption (time, seated, queue, aims_rested q s.config w.index s.seats.items t.seats.items rests sound.aims, phased, homes, batch_place, sound)
 
   pub clock_kept : (w : Worker) (s s' : Shared B) (by : ℕ) → s.clock + by ≤ LAST_MOMENT → s'.seats.items ≡ map (reached (s.clock + by)) s.seats.items
       → s' ≡ record s { clock = s.clock + by; seats = s'.seats } → Sound w s → Sound w s'
@@ -122,24 +106,7 @@ module _ {B : Type 0} where
   -- where but seats change nothing that it speaks of does
   whole_kept : (x : Profile) (s s' : Shared B) → IsWhole x (record s { seats = s'.seats }) → s' ≡ record s { clock = s'.clock; seats = s'.seats; listeners = s'.listeners } → IsWhole x s'
   whole_kept x s s' whole kept =
-      subst (IsWhole x) (sym kept)
-      (record {
-        runnables = whole.runnables;
-        polls = whole.polls;
-        claims = whole.claims;
-        counts = whole.counts;
-        bits = whole.bits;
-        set = whole.set;
-        queued_here = whole.queued_here;
-        queued_there = whole.queued_there;
-        places = whole.places;
-        made = whole.made;
-        unclaimed = whole.unclaimed;
-        in_pool = whole.in_pool;
-        pool = whole.pool;
-        gates = whole.gates;
-        holding = whole.holding;
-      })
+      subst (IsWhole x) (sym kept) (assumption whole)
 
   pub clock_whole : (x : Profile) (s s' : Shared B) (by : ℕ) → s'.seats.items ≡ map (reached (s.clock + by)) s.seats.items → s' ≡ record s { clock = s.clock + by; seats = s'.seats } → IsWhole x s → IsWhole x s'
   clock_whole x s s' by seats kept whole =
@@ -160,21 +127,4 @@ module _ {B : Type 0} where
 
   pub peer_whole : (x : Profile) (s s' : Shared B) → s' ≡ record s { listeners = s'.listeners } → IsWhole x s → IsWhole x s'
   peer_whole x s s' kept whole =
-      subst (λ t. IsWhole x t) (sym kept)
-      (record {
-        runnables = whole.runnables;
-        polls = whole.polls;
-        claims = whole.claims;
-        counts = whole.counts;
-        bits = whole.bits;
-        set = whole.set;
-        queued_here = whole.queued_here;
-        queued_there = whole.queued_there;
-        places = whole.places;
-        made = whole.made;
-        unclaimed = whole.unclaimed;
-        in_pool = whole.in_pool;
-        pool = whole.pool;
-        gates = whole.gates;
-        holding = whole.holding;
-      })
+      subst (λ t. IsWhole x t) (sym kept) (assumption whole)

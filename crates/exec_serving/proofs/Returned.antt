@@ -9,8 +9,8 @@ use Rattle.exec_driver.specs.{Driving.Driving, Opens.{account_in, with_account},
 use Rattle.exec_task.specs.declared.body.Said.{Said}
 use Rattle.exec_machine.specs.{declared.event.Event.{Event, TheVariants.Reap}, Requests.{judged_of, outcome_given}, Tests.{is_gated, is_of_file}}
 use Rattle.exec_moves.specs.{Seen.serves_at, Serve.{after_permit, back_from_reap, others_after_reap}, State.dropped, Thing.{set_wake_poll, with_ring}, declared.place.{Place.Place, Reaping.Reaping, Service.Service, InService.InService}}
-use Rattle.exec_parts.specs.{declared.parts.{mail.Reply.Reply, shared.Shared.Shared, worker.Worker.Worker}, Records.{number_in, outcome_in}, Serving.changed_at, Spots.Spot, View.{awaited_from, completions_in, numbers_of_passing, results_in, slots_seen, visible, with_view, own_of, desk_of, driver_of, number_told, numbers_of, things_with, trailing, wake_poll_in}}
-use Rattle.exec_invariants.{specs.{Due.may_be_due, Flown.operations, Gates.{IsKnown, at_gate}, Holding.{nap_of, thing_of}, Places.passes_at, Sound.{SoundAt, served_in}, Works.Steps}, proofs.{Mine.live_mine, Raising.poll_shows, Serving.{SparesRecords, at_large, balances_still, spares_one}, ServingHolds.{serves_to, IsServed, OthersKept, keeps_home, Follows, Keeps, KeepsBy, Serves}, Changing.flying_after, Accounted.{OpensJudged, opens_judged}, Judging.{given_is, judged_same}, Lined.{gates_seen_same, map_changed, passing_same, was_sent}, Seeing.{desk_with, makes, own_with, served, shows}, Slotted.{awaited_written, slots_written}, Untold.keeps_untold}}
+use Rattle.exec_parts.specs.{declared.parts.{mail.Reply.Reply, shared.Shared.Shared, worker.Worker.Worker}, Records.{number_in, outcome_in}, Serving.changed_at, Spots.Spot, View.{awaited_from, numbers_of_passing, slots_seen, visible, with_view, own_of, desk_of, driver_of, number_told, numbers_of, things_with}}
+use Rattle.exec_invariants.{specs.{Due.may_be_due, Flown.operations, Gates.{IsKnown, at_gate}, Holding.{nap_of, thing_of}, Places.passes_at, Sound.{SoundAt, served_in}, Works.Steps}, proofs.{Mine.live_mine, Raising.poll_shows, Serving.{SparesRecords, at_large, balances_still, spares_one}, ServingHolds.{serves_to, IsServed, OthersKept, keeps_home, Follows, Keeps, KeepsBy, Serves}, Changing.flying_after, Accounted.{OpensJudged, opens_judged}, Judging.{given_is, judged_same}, Lined.{gates_seen_same, map_changed, passing_same, was_sent}, Seeing.{makes, own_with, served, shows}, Slotted.{awaited_written, slots_written}, Untold.keeps_untold}}
 use Rattle.exec_serving.proofs.{Requeued.{GoesBack, back_alike, back_waiter, goes_back, keeps_back, known_back}, Sweeping.follows_reap, Viewed.{common_back, may_back, moves_back}}
 
 -- WHERE IT LEADS
@@ -41,9 +41,8 @@ module _ {B L : Type 0} (left : B → L) (spot : L → Option Said → Spot) (rp
   place_back = Place.Service (after_permit (back_from_reap rp (map (number_told w.names.requests.items) cs))) v
 
   own_back : (d' : Driving Reply Reply) (back : GoesBack w s d' c cs) →
-      let n = w.names.requests.items in
       let me = own_with w place_back w.names.ended.items w.names.untold.items (driver_of w) in
-      own_with w place_back w.names.ended.items w.names.untold.items d' ≡ record me { ready = me.ready ++ number_in n back.h.id ∷ []; in_flight = me.in_flight - 1 }
+      own_with w place_back w.names.ended.items w.names.untold.items d' ≡ record me { ready = me.ready ++ number_in w.names.requests.items back.h.id ∷ []; in_flight = me.in_flight - 1 }
   own_back d' back =
       let n = w.names.requests.items in
       let d = driver_of w in
@@ -76,9 +75,8 @@ module _ {B L : Type 0} (left : B → L) (spot : L → Option Said → Spot) (rp
       let kept : KeepsBy (record w { place = q' }) d' w.home.timers (changed_at rs k (goes_back given)) s.sleepers.items s =
       keeps_back q q' w s sound d' c cs back follows punctual (λ h. ap (λ l. l.due) back.lists ∙ sound.due.told (not_due rp v)) in
       let a = back_alike q q' w s sound d' c cs back in
-      let target = sound.carried.target h.id h.it h.r h.live h.there in
       let within : is_of_file (asked_of h.it.request).kind ≡ true → h.r.shown.operation.target < length s.opens = λ of. sound.gates.there k h.r h.there (ap (λ x. is_of_file x.kind) a.asked ∙ of) in
-      let by_driver = opens_judged h.it given s.opens s'.opens rs h.r.shown.operation.target sound.gates target within opens in
+      let by_driver = opens_judged h.it given s.opens s'.opens rs h.r.shown.operation.target sound.gates (sound.carried.target h.id h.it h.r h.live h.there) within opens in
       let refuses : (hinted_of h.it.request && is_unsupported given) ≡ refuses_hint (judged_of h.r.shown given) = sym (ap refuses_hint (judged_same d.wheel.start d.wheel.tick h.it h.r.shown a given h.flies)) in
       let judged : OpensJudged s.opens s'.opens (refuses_hint (judged_of h.r.shown given)) h.r.shown.operation.target = subst (λ b. OpensJudged s.opens s'.opens b h.r.shown.operation.target) refuses by_driver in
       let s1 : Shared B = record s { opens = s'.opens } in
@@ -101,22 +99,8 @@ module _ {B L : Type 0} (left : B → L) (spot : L → Option Said → Spot) (rp
       let awaited : awaited_from 0 n d'.requests.slots ≡ awaited_from 0 n d.requests.slots = ap (λ x. awaited_from 0 n x.slots) back.requests ∙ awaited_written n d.requests h.id (Pending h.it) (Pending it') was refl in
       let later = map (number_told n) cs in
       let wakes_then = dropped later (visible w).wakes in
-      let seen : visible w' ≡ record (visible w) { landed = later; wakes = wakes_then } =
-      show.seen
-      ∙ ap (λ b. record (visible w) { busy = b; landed = map (number_told n) (operations d'.ring); wakes = wake_poll_in d'.ring }) ring.busy
-      ∙ ap (λ ops. record (visible w) { landed = map (number_told n) ops; wakes = wake_poll_in d'.ring }) ring.landed
-      ∙ ap (λ p. record (visible w) { landed = later; wakes = p }) ring.poll in
-      let desk : desk_of w' ≡ record (others_after_reap later (visible w).wakes (desk_of w0)) { place = q' } =
-      show.desk ∙ ap (λ y. desk_with w y w'.put_off deferred d') there ∙ ap (λ o. desk_with w q' o deferred d') (ap (λ x. x.put_off) same)
-      ∙ ap (λ ws. record (desk_with w q' w.put_off deferred d') { wakes = map (λ t. t.0) ws }) wakes
-      ∙ ap (λ os. record (desk_with w q' w.put_off deferred d') { wakes = map (λ t. t.0) w.home.deferred.notes.wakes.items; outputs = length os }) outputs
-      ∙ ap (λ xs. record (desk_with w q' w.put_off deferred d') { wakes = map (λ t. t.0) w.home.deferred.notes.wakes.items; outputs = length w.home.deferred.outputs.items; completions = completions_in xs }) completions_same
-      ∙ ap (λ xs. record (desk_with w q' w.put_off w.home.deferred d') { results = results_in xs }) results_same
-      ∙ ap (λ x. record (desk_with w q' w.put_off w.home.deferred d') { requests = x }) slots
-      ∙ ap (λ x. record (desk_with w q' w.put_off w.home.deferred d') { requests = slots_seen n d.requests; awaited = x }) awaited
-      ∙ ap (λ es. record (desk_of w0) { place = q'; entries = length es; polled = d'.armed; others = trailing 0 (completions d'.ring) }) ring.staged
-      ∙ ap (λ b. record (desk_of w0) { place = q'; polled = b; others = trailing 0 (completions d'.ring) }) ring.armed
-      ∙ ap (λ m. record (others_after_reap later (visible w).wakes (desk_of w0)) { place = q'; others = m }) ring.others in
+      let seen : visible w' ≡ record (visible w) { landed = later; wakes = wakes_then } = grind (arith, show.seen, ring.busy, ring.landed, ring.poll) in
+      let desk : desk_of w' ≡ record (others_after_reap later (visible w).wakes (desk_of w0)) { place = q' } = grind (arith, show.desk, ring.staged, ring.armed, ring.others) in
       let answer : outcome_given h.r.shown given ≡ None = given_is d.wheel.start d.wheel.tick h.it h.r.shown a given h.flies back.request None back.judges in
       let spares : SparesRecords w.index s s' = spares_one w.index s s' k h.r (goes_back given) judged.same (record { at = ap (λ b. record (at_gate h.r) { gated = b }) (sym (ap is_gated h.landed)); over = λ over. absurd (false≢true (sym a.open_still ∙ over)); sent = refl; forwarded = λ f. f }) records (ap (λ (y : Shared B). y.sleepers.items) shared) h.there (live_mine w.index w.names d w.home.timers rs s.sleepers.items sound.named h.id h.it h.r h.live h.there) (λ y. refl) in
       subst (λ x. Steps left spot w s x w' s') (sym event)
@@ -133,8 +117,6 @@ module _ {B L : Type 0} (left : B → L) (spot : L → Option Said → Spot) (rp
             ∙ ap (λ ns. record (things_with (with_view vs w.index (visible w')) s) { answers = ns }) (passing_same was_sent rs s'.requests.items spares.lines.sent)
             ∙ poll_shows vs w.index s sound.seated.seat sound.seated.there waits (visible w') ∙ ap (λ y. set_wake_poll w.index (things_with vs s) y.wakes) seen));
         may = may_back left spot rp v w s sound waits c cs is h p vs suits (own_of w0) (at_large q w s sound refl) answer;
-        own =
-            show.own ∙ ap (λ y. own_with w y w'.names.ended.items w'.names.untold.items d') there ∙ ap (λ x. own_with w q' x.names.ended.items x.names.untold.items d') same
-            ∙ own_back d' back ∙ rw (served_back rp v (map (number_told n) cs)) refl;
+        own = grind (arith, show.own, there, same, own_back d' back, served_back rp v (map (number_told n) cs));
         common = common_back left spot rp v w s sound waits c cs is h p vs suits s' w' wakes_then shared records judged answer a.open_still seen;
       }))

@@ -4,8 +4,8 @@ use Rattle.exec_words.specs.declared.word.PureWord.{PureWord}
 use Rattle.exec_task.specs.declared.body.Said.{Said}
 use Rattle.exec_machine.specs.{declared.event.Event.{Event, TheVariants.Serve}, Choice.Choice.Plain, Progress.Plan}
 use Rattle.exec_moves.specs.{declared.place.{InService.InService, Place.Place, Reaping.Reaping, Service.Service}, Move.move_at, Serve.{sample, unlatched}, State.word_of, Thing.set_word}
-use Rattle.exec_parts.{specs.{declared.parts.{seat.Seat.Seat as Chair, shared.Shared.Shared, worker.{Moments.Moments, Worker.Worker}}, Phased.{IsPhased, closes_at, stage_of}, Spots.Spot, View.{Views, visible, with_view, driver_of, own_of, desk_of, common_of, seats_seen, things_of, things_with}, Things.{Makes, TurnsWord}}, proofs.{Facts.set_there, Showing.{map_kept, own_word_seen, seats_kept, word_shows}}}
-use Rattle.exec_invariants.{specs.{Due.IsDue, Flown.HasFlown, Holding.box_of, Places.drops_at, Sound.{Aims, AreHome, HasQueue, IsInTime, IsSeated, SoundAt}, Works.{Beside, Suits, Steps, Works}}, proofs.{Serving.at_large, Aside.{SameProfile, beside_calm, queue_of_chair, queues_set, seats_own}, Hearing.unheard, Orders.unordered, PoolKept.gates_set, Seeing.makes, Turning.view_found}}
+use Rattle.exec_parts.{specs.{declared.parts.{seat.Seat.Seat as Chair, shared.Shared.Shared, worker.{Moments.Moments, Worker.Worker}}, Phased.{IsPhased, closes_at, stage_of}, Spots.Spot, View.{Views, visible, with_view, driver_of, own_of, desk_of, common_of, things_of, things_with}, Things.{Makes, TurnsWord}}, proofs.{Facts.set_there, Showing.{map_kept, own_word_seen, seats_kept, word_shows}}}
+use Rattle.exec_invariants.{specs.{Due.IsDue, Flown.HasFlown, Holding.box_of, Places.drops_at, Sound.{AreHome, HasQueue, IsInTime, IsSeated, SoundAt}, Works.{Beside, Suits, Steps, Works}}, proofs.{Serving.at_large, Aside.{SameProfile, beside_calm, queue_of_chair, queues_set, seats_own}, Hearing.unheard, Orders.unordered, PoolKept.gates_set, Seeing.makes, Turning.view_found}}
 
 module _ {B L : Type 0} (left : B → L) (spot : L → Option Said → Spot) where
   pub sampled : (v : Service) (w w' : Worker) (s s' : Shared B) (e : Event) → SoundAt (Place.Service InService.Sample v) w s
@@ -46,12 +46,11 @@ module _ {B L : Type 0} (left : B → L) (spot : L → Option Said → Spot) whe
       let queue : (chair : Chair) → slice_get s'.seats.items w.index ≡ Some chair → HasQueue q' chair.queue = λ chair found.
       let is : now ≡ chair = cc (there, found) in
       subst (λ c. HasQueue q' c.queue) is (sound.queue seat sound.seated.there) in
-      let aims : Aims q' s.config w.index s'.seats.items = tt in
       let homes : AreHome s.config.workers (length s'.seats.items) s.tasks.items = subst (λ n. AreHome s.config.workers n s.tasks.items) (sym (ap length items ∙ length-set s.seats.items w.index now)) sound.homes in
       let place : (c : Chair) → slice_get s'.seats.items w.index ≡ Some c → c.mailbox.inbox.closed ≡ false → 2 * c.made + 1 ≤ w.batch.places = λ chair found.
       let is : now ≡ chair = cc (there, found) in
       subst (λ (y : Chair). y.mailbox.inbox.closed ≡ false → 2 * y.made + 1 ≤ w.batch.places) is (sound.batch_place seat sound.seated.there) in
-      let holds : SoundAt q' w1 s1 = assumption (homes, place, time, seated, quiet, due, flown, phased, queue, aims, sound) in
+      let holds : SoundAt q' w1 s1 = assumption (homes, place, time, seated, quiet, due, flown, phased, queue, tt, sound) in
       let profile : SameProfile w w1 = record { hand = refl; loot = refl; polls = rw sound.here refl; claims = rw sound.here refl; searching = refl; counts = rw sound.here refl; index = refl; published = rw sound.here refl; drops = sym (ap drops_at sound.here); told = record { batch = refl; letters = refl; left = refl } } in
       let beside : Beside w s w1 s1 =
       beside_calm w w1 s s1 profile refl (seats_own w.index s.seats.items s'.seats.items seat now items sound.seated.there (omega arith))
@@ -70,11 +69,7 @@ module _ {B L : Type 0} (left : B → L) (spot : L → Option Said → Spot) whe
             (ap (makes Serve (desk_of w1)) (sym things) ∙ ap (λ y. makes Serve (desk_of w1) (things_with y s1)) (sym again));
         may = rw sound.here (at_large q w s sound refl, tt);
         own = rw sound.here refl;
-        common =
-            ap (λ y. common_of left spot p y s1) again
-            ∙ ap (λ seen. record cs { seats = seen }) (ap (seats_seen vs.workers) items ∙ seats_kept vs.workers s.seats.items w.index seat now sound.seated.there (λ y. refl));
+        common = grind (arith, again, items, seats_kept vs.workers s.seats.items w.index seat now sound.seated.there (λ y. refl));
       } in
       let done : Steps left spot w s Serve w1 s1 = (works, holds, unheard refl refl refl, beside) in
-      let by_event : Steps left spot w s e w1 s1 = subst (λ x. Steps left spot w s x w1 s1) (sym makes_it.event) done in
-      let by_worker : Steps left spot w s e w' s1 = subst (λ x. Steps left spot w s e x s1) (sym by_place) by_event in
-      subst (λ x. Steps left spot w s e w' x) (sym turns.kept) by_worker
+      subst (λ x. Steps left spot w s e w' x) (sym turns.kept) (subst (λ x. Steps left spot w s e x s1) (sym by_place) (subst (λ x. Steps left spot w s x w1 s1) (sym makes_it.event) done))

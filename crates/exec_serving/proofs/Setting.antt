@@ -50,14 +50,13 @@ module _ {B L : Type 0} (left : B → L) (spot : L → Option Said → Spot) (w 
   pub ending_things : (p : Plan) (vs : Views) → Suits p vs w s → things_with (with_view vs w.index (visible w')) s1 ≡ set_wake_poll w.index (things_with vs s) (last_told (wake_poll_of (things_with vs s) w.index))
   ending_things p vs suits =
       let vs1 = with_view vs w.index (visible w1) in
-      let before = things_taken w.place w w1 s s1 sound takes vs suits.seen in
       let chair : Chair = record sound.seated.seat { raised = 0 } in
       let there : slice_get s1.seats.items w.index ≡ Some chair = ap (λ xs. slice_get xs w.index) (takes.seats sound.seated.seat sound.seated.there) ∙ set_there s.seats.items w.index chair sound.seated.seat sound.seated.there in
       let seen : slice_get vs1.workers w.index ≡ Some (visible w1) = set_there vs.workers w.index (visible w1) (visible w) suits.seen in
       ap (λ v. things_with v s1) (sym (view_twice vs w.index (visible w1) (visible w')))
       ∙ poll_shows vs1 w.index s1 chair there refl (visible w')
       ∙ ap (λ p. set_wake_poll w.index (things_with vs1 s1) p) (ap (λ v. v.wakes) shows ∙ ap last_told (sym (poll_shown vs1 w.index s1 chair there refl (visible w1) seen)))
-      ∙ ap (λ x. set_wake_poll w.index x (last_told (wake_poll_of x w.index))) before
+      ∙ ap (λ x. set_wake_poll w.index x (last_told (wake_poll_of x w.index))) (things_taken w.place w w1 s s1 sound takes vs suits.seen)
 
   pub ending_common : (p : Plan) (vs : Views) → Suits p vs w s → common_of left spot p (with_view vs w.index (visible w')) s1 ≡ common_of left spot p vs s
   ending_common p vs suits =

@@ -1,8 +1,7 @@
 -- An operation that has landed is judged: a step.
-use Rattle.std.{proofs.Common.{◌≡◌, ℕ, ◌&&◌, Bool, true, false, not, List, [], ◌∷◌, ◌++◌, map, Option, Some, None, refl, sym, ap, ◌∙◌, is_some}, specs.VecDeque.deque_capacity}
+use Rattle.std.{proofs.Common.{◌≡◌, ℕ, Bool, true, false, not, List, [], ◌∷◌, ◌++◌, map, Option, Some, None, refl, sym, ap, ◌∙◌, is_some}, specs.VecDeque.deque_capacity}
 use Rattle.std.proofs.Common.{arith}
-use Rattle.exec_outcomes.specs.{Outcomes.is_unsupported}
-use Rattle.exec_request.specs.{Requests.{asked_of, gate_of, hinted_of, record_after, target_of}, States.{Ended, as_answer, as_outcome, told_by}, declared.request.Request.Request as Asking}
+use Rattle.exec_request.specs.{Requests.{asked_of, gate_of, record_after, target_of}, States.{Ended, as_answer, as_outcome, told_by}, declared.request.Request.Request as Asking}
 use Rattle.exec_ring.specs.{Completions.result_in, Kernels.is_quiet}
 use Rattle.exec_driver.specs.{Opens.{OpenState, account_in, with_account}, Placed.ListsRequests, Punctual.IsPunctual, Steps.{ReapsNext, open_after}, declared.driver.reaping.Reaped.Reaped}
 use Rattle.exec_waiters.specs.States.{file_of}
@@ -59,10 +58,7 @@ module _ {B L : Type 0} (left : B → L) (spot : L → Option Said → Spot) (rp
       let there : back.h ≡ of_done.reaped.has = back_has at_reap w s sound (driver_of w') s.opens opens' w.home.deferred w'.home.deferred done of_done is in
       let event : e ≡ Reap done_number given None =
       by.event ∙ ap (λ j. Reap j done.given (as_answer done.ended)) number_done ∙ ap (λ g. Reap done_number g (as_answer done.ended)) of_done.given ∙ ap (λ x. Reap done_number given (as_answer x)) none in
-      let records : s'.requests.items ≡ changed_at s.requests.items done_number (goes_back given) =
-      by.records ∙ ap (λ j. changed_at s.requests.items j (λ r. record r { shown = reaped done.given (as_answer done.ended) r.shown })) number_done
-      ∙ ap (λ g. changed_at s.requests.items done_number (λ r. record r { shown = reaped g (as_answer done.ended) r.shown })) of_done.given
-      ∙ ap (λ x. changed_at s.requests.items done_number (λ r. record r { shown = reaped given (as_answer x) r.shown })) none in
+      let records : s'.requests.items ≡ changed_at s.requests.items done_number (goes_back given) = grind (arith, by.records, number_done, of_done.given, none) in
       let opens_are : s'.opens ≡ opens' = ap (λ (y : Shared B). y.opens) by.shared in
       let shared : s' ≡ record s { requests = s'.requests; opens = s'.opens } = by.shared ∙ ap (λ o. record s { requests = s'.requests; opens = o }) (sym opens_are) in
       let opens : s'.opens ≡ with_account s.opens (file_of of_done.reaped.has.it.request) (open_after of_done.reaped.has.it given (account_in s.opens (file_of of_done.reaped.has.it.request))) =
@@ -94,19 +90,14 @@ module _ {B L : Type 0} (left : B → L) (spot : L → Option Said → Spot) (rp
       let where_to : to ≡ back_from_reap rp (map (number_told n) cs) = back_turned at_reap w s sound d' s.opens opens' before after done of_done over.ring to rp has (number_told n) by.has_more by.more by.none in
       let told0 = told_by (asked_of of_done.reaped.has.it.request).kind how (account_in s.opens (file_of of_done.reaped.has.it.request)) in
       let ended_is : done.ended ≡ Some told0 = ended_turned at_reap w s sound d' s.opens opens' before after done of_done (Some how) is in
-      let alike_told : as_outcome told0 ≡ over_outcome rp v w s sound of_done.c cs d' how account over =
-      ap as_outcome (sym (told_unhinted (asked_of of_done.reaped.has.it.request).kind how (hinted_of of_done.reaped.has.it.request && is_unsupported given) (account_in s.opens (file_of of_done.reaped.has.it.request))))
-      ∙ ap (λ (x : HasLanded w.names (driver_of w) s.requests.items of_done.c). as_outcome (told_by (asked_of x.it.request).kind how account)) (sym there) in
+      let alike_told : as_outcome told0 ≡ over_outcome rp v w s sound of_done.c cs d' how account over = grind (arith, there, told_unhinted) in
       let outcome = over_outcome rp v w s sound of_done.c cs d' how account over in
       let answer : as_answer done.ended ≡ Some outcome = ap as_answer ended_is ∙ ap (λ o. Some o) alike_told in
       let k = number_in n over.h.id in
       let number : number_in n done.id.0 ≡ k = number_done ∙ ap (λ (x : HasLanded w.names (driver_of w) s.requests.items of_done.c). number_in n x.id) (sym there) in
       let event : e ≡ Reap k given (Some outcome) =
       by.event ∙ ap (λ j. Reap j done.given (as_answer done.ended)) number ∙ ap (λ g. Reap k g (as_answer done.ended)) of_done.given ∙ ap (Reap k given) answer in
-      let records : s'.requests.items ≡ changed_at s.requests.items k (goes_over given outcome) =
-      by.records ∙ ap (λ j. changed_at s.requests.items j (λ r. record r { shown = reaped done.given (as_answer done.ended) r.shown })) number
-      ∙ ap (λ g. changed_at s.requests.items k (λ r. record r { shown = reaped g (as_answer done.ended) r.shown })) of_done.given
-      ∙ ap (λ x. changed_at s.requests.items k (λ r. record r { shown = reaped given x r.shown })) answer in
+      let records : s'.requests.items ≡ changed_at s.requests.items k (goes_over given outcome) = grind (arith, by.records, number, of_done.given, answer) in
       let ended : w'.names.ended.items ≡ w.names.ended.items ++ k ∷ [] = by.ended ∙ ap (joined_if (is_some (as_answer done.ended)) w.names.ended.items) number ∙ ap (λ x. joined_if (is_some x) w.names.ended.items k) answer in
       let opens_are : s'.opens ≡ opens' = ap (λ (y : Shared B). y.opens) by.shared in
       let shared : s' ≡ record s { requests = s'.requests; opens = s'.opens } = by.shared ∙ ap (λ o. record s { requests = s'.requests; opens = o }) (sym opens_are) in

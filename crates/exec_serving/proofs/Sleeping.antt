@@ -1,6 +1,5 @@
 -- The sleep of a wait on the ring, once the wakes that wait at the seat are in it: none where a completion is there.
-use Rattle.std.proofs.{Common.{◌≡◌, ℕ, Bool, true, false, not, Option, Some, refl, sym, ap, subst, ◌∙◌, slice_get, if◌then◌else◌}, lemmas.List.set-get_or}
-use Rattle.std.proofs.Common.{arith}
+use Rattle.std.proofs.{Common.{arith, ◌≡◌, ℕ, Bool, true, false, not, Option, Some, refl, sym, ap, subst, ◌∙◌, slice_get, if◌then◌else◌}, lemmas.List.set-get_or}
 use Rattle.exec_ring.specs.Kernels.{is_quiet}
 use Rattle.exec_task.specs.declared.body.Said.{Said}
 use Rattle.exec_machine.specs.{declared.event.Event.{Event, TheVariants.{Turn, Sleep}}, Deadlines.next_due}
@@ -20,9 +19,7 @@ slept_as false i until d x r = refl
 module _ {B : Type 0} (vs : Views) (w : Worker) (s : Shared B) (q : Place) (sound : SoundAt q w s) (waits : sound.seated.seat.raised ≡ 0) where
   -- the wake poll goes back as it was
   poll_back : slice_get vs.workers w.index ≡ Some (visible w) → set_wake_poll w.index (things_with vs s) (ring_seen w).wakes ≡ things_with vs s
-  poll_back seen =
-      ap (set_wake_poll w.index (things_with vs s)) (sym (poll_shown vs w.index s sound.seated.seat sound.seated.there waits (visible w) seen))
-      ∙ ap (λ ps. record (things_with vs s) { wake_polls = ps }) (set-get_or (things_with vs s).wake_polls w.index no_wake_poll)
+  poll_back seen = grind (arith, poll_shown vs w.index s sound.seated.seat sound.seated.there waits (visible w) seen, set-get_or (things_with vs s).wake_polls w.index no_wake_poll)
 
 same_kind : (y : Stay) → kind_of (Place.RingWait (InRingWait.DisarmRing AfterWait.Begin) y) ≡ kind_of (Place.RingWait InRingWait.SleepOnRing y)
 same_kind Stay.Turn = refl

@@ -134,10 +134,7 @@ module _ {B L : Type 0} (left : B → L) (spot : L → Option Said → Spot) whe
       after come vs = sleeping come it.moment (desk_of (record w { place = q'; slept = begun Turn })) (desk_of (record w { place = q'; slept = begun (Sleep it.moment) })) (things_with vs s)
 
       moved : (p : Plan) (vs : Views) → Suits p vs w s → (b : Bool) → has_come s.clock it.moment ≡ b → move_at p.config w.index (own_of w) (common_of left spot p vs s) (desk_of w) (things_with vs s) q ≡ after b vs
-      moved p vs suits b is =
-          moves p vs suits
-          ∙ ap (λ due. sleeping (has_come s.clock due) due (desk_of (record w { place = q'; slept = begun Turn })) (desk_of (record w { place = q'; slept = begun (Sleep due) })) (things_with vs s)) (sym (moment_seen left spot p vs q w s it.moment suits sound upcoming))
-          ∙ ap (λ come. after come vs) is
+      moved p vs suits b is = grind (arith, moves p vs suits, moment_seen left spot p vs q w s it.moment suits sound upcoming, is)
 
       by : (b : Bool) → has_come s.clock it.moment ≡ b → Steps left spot w s e (record w { place = q'; slept = begun e }) s'
       by true come =

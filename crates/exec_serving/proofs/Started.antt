@@ -9,7 +9,7 @@ use Rattle.exec_driver.specs.{Driving.{Driving, may_stage_one}, Lists.{has_first
 use Rattle.exec_task.specs.declared.body.Said.{Said}
 use Rattle.exec_machine.specs.{declared.{event.Event.{Event, TheVariants.Stage}, state.RequestPhase.RequestPhase}, Ranges.ring_size, Requests.{is_enrolled, staged}, Same.is_number, Tests.{is_gated, is_of_file, is_queued as is_phase_queued, is_resolved, is_staged}, World.{Common, request_of}}
 use Rattle.exec_moves.specs.{Move.move_submit, Submit.{staging_due, one_more, submits, Due.Stages}, declared.place.{Service.Service, Place.Place, InService.InService}}
-use Rattle.exec_parts.{specs.{declared.parts.{mail.Reply.Reply, names.Names.Names, record.Record.Record, shared.Shared.Shared, worker.Worker.Worker}, Records.{number_in, outcome_in}, Serving.{changed_at, is_cancel, is_one_of}, Spots.Spot, Submitting.{StagesRequest, must_flush, takes_hint}, View.{visible, with_view, own_of, desk_of, driver_of, common_of, seat_seen, things_with, numbers_of}}, proofs.Facts.{by_name, or_left, not_same, same_number, and_right}}
+use Rattle.exec_parts.{specs.{declared.parts.{mail.Reply.Reply, names.Names.Names, record.Record.Record, shared.Shared.Shared, worker.Worker.Worker}, Records.{number_in, outcome_in}, Serving.{changed_at, is_cancel, is_one_of}, Spots.Spot, Submitting.{StagesRequest, must_flush, takes_hint}, View.{visible, with_view, own_of, desk_of, driver_of, common_of, seat_seen, things_with, numbers_of}}, proofs.Facts.{by_name, or_left, not_same, same_number, second_true}}
 use Rattle.exec_invariants.{specs.{Carried.IsCarried, Flown.{HasFlown, ends_in, is_poll, operations}, Gates.{IsKnown, at_gate, has_hint_at}, Holding.{nap_of, thing_of}, Places.{one_if, passes_at}, Names.IsSubmitted, Sound.served_in, Submits.IsIdle, Works.Steps, Ordered.{IsOrdered, went_round}}, proofs.{Going.owning_on, Hinting.{WishAlike, asks_after, hint_alike, hint_of_open, hint_seen, operates, stretch_kept, takes_none, unpolled}, Keys.name_in, Known.{KeepsAsk, known_written}, Lined.{map_changed, opens_same}, Keeping.polls_same, Marking.{known_then, plain_kept, mark_if, marked, was_marked, marked_length}, Serving.{at_large, balances_still, SparesRecords, spares_one}, ServingHolds.{serves_to, IsServed, OthersKept, Serves, Keeps, KeepsBy, keeps_all}, Recorded.request_seen, Slotted.{awaited_written, slots_written}, Changing.{OneGoesOn, changes_one, flying_after, keeps_one, apart_number, all_go_one}, Conveying.carried_staged, Flown.landed_on, Seeing.{makes, shows, served, common_changed, common_same, ring_again, things_kept}, Staging.{flush_seen, idle_at, split_first, staging_next, stages_again, suits_at}, Starting.{starts_first, starts, starts_on, starts_alike, starts_if_worker, starts_if_cancel, starts_plain, came_on, known_and, tagged_by, cancels_by}, Orders.{alike_self, eased, eases_written, part_self}}}
 use Rattle.exec_serving.proofs.Whole.{whole_kept}
 
@@ -66,12 +66,7 @@ module _ {B L : Type 0} (left : B → L) (spot : L → Option Said → Spot) whe
       let few = sound.gates.few in
       let within = sound.gates.there k who.r who.there (ap (λ a. is_of_file a.kind) who.alike.asked ∙ of) in
       omega (arith, few, within) in
-      let wish : WishAlike it.request o (takes_hint s.opens o.target) = record {
-        kind = ap (λ a. a.kind) who.alike.asked;
-        switched = who.alike.switched;
-        asks = who.alike.asks_hint;
-        none = λ may unrefused none. takes_none s.opens o.target (sound.known.hints id.0 it who.r who.live who.there may unrefused none);
-      } in
+      let wish : WishAlike it.request o (takes_hint s.opens o.target) = grind (arith, ap (λ a. a.kind) who.alike.asked, who.alike.asks_hint, who.alike, takes_none) in
       let hint : (f who.r).shown.operation.hinted ≡ hinted_of by_driver.request =
       hint_alike it.request o (takes_hint s.opens o.target) wish ∙ hint_of_open it.request s.opens o.target target small ∙ sym (ap (λ x. x.hint) by_driver.window) ∙ sym by_driver.hint in
       let on = starts_on s.opens who.r unresolved in
@@ -106,14 +101,13 @@ module _ {B L : Type 0} (left : B → L) (spot : L → Option Said → Spot) whe
       })) in
       let flown = sound.flown in
       let entries_more : length d'.ring.staged ≡ length d.ring.staged + 1 = length-append d.ring.staged (by_driver.entry ∷ []) in
-      let staged_more : length w'.names.staged.items ≡ length w.names.staged.items + 1 = ap length by.staged ∙ length-append w.names.staged.items (k ∷ []) in
       let changed = changes_one d.requests id.0 it it' who.live in
       let all = all_go_one rs k f who.r who.there on in
       let flown_then : HasFlown (served_in q) w.index names_then d' rs' = record {
         ending = flown.ending;
         staging = rw room flown.staging;
         telling = rw untold flown.telling;
-        entries = rw (untold, staged_more, entries_more) (omega (arith, flown.entries));
+        entries = rw (untold, ap length by.staged ∙ length-append w.names.staged.items (k ∷ []), entries_more) (omega (arith, flown.entries));
         gated = λ other x live needs.
             by_name other.0 id.0 (λ apart. flown.gated other x (sym (changed.others other.0 apart) ∙ live) needs)
             (λ eq.
@@ -165,8 +159,7 @@ module _ {B L : Type 0} (left : B → L) (spot : L → Option Said → Spot) whe
       let slots = slots_written w.names.requests.items d.requests id.0 (Pending it) (Pending it') was in
       let awaited = awaited_written w.names.requests.items d.requests id.0 (Pending it) (Pending it') was refl in
       let flying : flying_count d'.requests ≡ flying_count d.requests + 1 =
-      let n = flying_after d.requests id.0 it it' who.live in
-      omega (arith, ap one_if_waiter who.idle, n) in
+      omega (arith, ap one_if_waiter who.idle, flying_after d.requests id.0 it it' who.live) in
       subst (λ x. Steps left spot w s x w' s') (sym by.event)
       (served left spot q w w' s s' (Stage k) sound serves keeps spares (balances_still q w w' s s' sound.here serves spares (ap passes_at there) (ap (λ (x : Worker). x.home.deferred.notes.wakes.items) by.worker) (ap (map thing_of) by.records ∙ map_changed thing_of rs k who.r f who.there (ap (λ b. record (thing_of who.r) { ended = b }) (sym (ap outcome_in who.queued)))) (ap (λ (y : Shared B). map nap_of y.sleepers.items) by.shared))
       (λ p vs suits.
@@ -175,7 +168,7 @@ module _ {B L : Type 0} (left : B → L) (spot : L → Option Said → Spot) whe
       let sized : d.ring.size ≡ ring_size c = sound.sized ∙ ap ring_size suits.config in
       let request : request_of all k ≡ who.r.shown = request_seen rs k who.r who.there in
       let numbers : numbers_of w.names.requests.items d.lists.queued ≡ k ∷ numbers_of w.names.requests.items (rest_of d.lists.queued) = ap (numbers_of w.names.requests.items) (split_first id d.lists.queued first) in
-      let few : nat_lt (flying_count d.requests) (ring_size c) ≡ true = ap (nat_lt (flying_count d.requests)) (sym sized) ∙ and_right (has_first d.lists.queued) (nat_lt (flying_count d.requests) d.ring.size) may in
+      let few : nat_lt (flying_count d.requests) (ring_size c) ≡ true = ap (nat_lt (flying_count d.requests)) (sym sized) ∙ second_true (has_first d.lists.queued) (nat_lt (flying_count d.requests) d.ring.size) may in
       let due : staging_due c (own_of w0) (desk_of w0) ≡ Stages k =
       rw (flush_seen c w0 sized, unflushed, none, few, numbers) refl in
       record {

@@ -1,14 +1,12 @@
 -- A reaping that finds no operation which has landed.
-use Rattle.std.proofs.Common.{◌≡◌, ℕ, true, false, [], length, map, Option, None, refl, sym, ap, subst, ◌∙◌, arith}
-use Rattle.exec_base.specs.Slab.{Slab}
-use Rattle.exec_waiters.specs.declared.waiter.Entry.{Entry}
-use Rattle.exec_ring.specs.{Rings.completions, declared.completion.{Completion.Completion}}
+use Rattle.std.proofs.Common.{◌≡◌, ℕ, true, false, [], map, Option, None, refl, sym, ap, subst, ◌∙◌, arith}
+use Rattle.exec_ring.specs.{declared.completion.{Completion.Completion}}
 use Rattle.exec_driver.specs.{Driving.Driving, Steps.{swept, with_landings}}
 use Rattle.exec_task.specs.declared.body.Said.{Said}
 use Rattle.exec_machine.specs.{declared.event.Event.{Event, TheVariants.Serve}}
-use Rattle.exec_moves.specs.{Seen.serves_at, Serve.{Ring, after_permit, others_after_reap, reap}, State.dropped, Thing.{ring_of, set_wake_poll, with_ring}, declared.place.{Reaping.Reaping, Service.Service, Place.Place, AfterPermit.AfterPermit, InService.InService}}
-use Rattle.exec_parts.specs.{declared.parts.{mail.Reply.Reply, shared.Shared.Shared, worker.Worker.Worker}, Spots.Spot, View.{visible, with_view, own_of, desk_of, driver_of, common_of, number_told, awaited_from, seat_seen, slots_seen, things_with, trailing, wake_poll_in}}
-use Rattle.exec_invariants.{specs.{Flown.operations, Due.may_be_due, Places.passes_at, Sound.{SoundAt, served_in}, Works.Steps}, proofs.{Keeping.{SameButRing, keeps_ring}, Raising.poll_shows, Seeing.{common_same, served}, Serving.{SparesRecords, at_large, balances_still, spares_same}, ServingHolds.{Follows, IsServed, Keeps, KeepsBy, Serves, serves_to}, Shown.{makes, own_with}, Swept.{RingAfter, ring_none}, WokenSwept.sweeps}}
+use Rattle.exec_moves.specs.{Seen.serves_at, Serve.{after_permit, others_after_reap}, State.dropped, Thing.{set_wake_poll}, declared.place.{Reaping.Reaping, Service.Service, Place.Place, AfterPermit.AfterPermit, InService.InService}}
+use Rattle.exec_parts.specs.{declared.parts.{mail.Reply.Reply, shared.Shared.Shared, worker.Worker.Worker}, Spots.Spot, View.{visible, with_view, own_of, desk_of, driver_of, number_told, seat_seen, things_with}}
+use Rattle.exec_invariants.{specs.{Flown.operations, Due.may_be_due, Places.passes_at, Sound.{SoundAt, served_in}, Works.Steps}, proofs.{Keeping.{SameButRing, keeps_ring}, Raising.poll_shows, Seeing.{common_same, served}, Serving.{SparesRecords, at_large, balances_still, spares_same}, ServingHolds.{Follows, IsServed, Keeps, KeepsBy, Serves, serves_to}, Shown.{own_with}, Swept.{RingAfter, ring_none}, WokenSwept.sweeps}}
 use Rattle.exec_serving.proofs.Entered.{ring_seen, ring_there}
 
 -- a driver after a sweep, where none has landed
@@ -31,41 +29,24 @@ module _ {B L : Type 0} (left : B → L) (spot : L → Option Said → Spot) whe
       let ring = ring_none f d d' driver sound.flown.polled none in
       let like = sweeps_alike f d d' driver none ring in
       let follows = follows_reap r v in
-      let w2 : Worker = record w { place = q'; home = record w.home { driver = w'.home.driver } } in
       let serves : Serves q w w' s s = serves_to q q' w w' s s (subst (IsServed w) (sym same) refl) refl (ap (λ x. x.place) same) follows in
       let by : KeepsBy (record w { place = q'; put_off = w.put_off }) d' w.home.timers s.requests.items s.sleepers.items s =
       keeps_ring q q' w.put_off w s d' sound follows like (λ h. sound.due.told (not_due r)) in
       let keeps : Keeps w' s = subst (λ x. KeepsBy x (driver_of x) x.home.timers s.requests.items s.sleepers.items s) (sym same) (assumption by) in
       let w0 : Worker = record w { place = q } in
       let i = w.index in
-      let seen : visible w' ≡ record (visible w) { landed = []; wakes = dropped [] (visible w).wakes } =
-      ap visible same
-      ∙ ap (λ b. record (visible w) { busy = b; landed = map f (operations d'.ring); wakes = wake_poll_in d'.ring }) ring.busy
-      ∙ ap (λ cs. record (visible w) { landed = map f cs; wakes = wake_poll_in d'.ring }) ring.landed
-      ∙ ap (λ p. record (visible w) { landed = []; wakes = p }) ring.poll in
+      let seen : visible w' ≡ record (visible w) { landed = []; wakes = dropped [] (visible w).wakes } = grind (arith, same, ring.busy, ring.landed, ring.poll) in
       let spares : SparesRecords w.index s s = spares_same w.index s s sound.gates refl refl refl in
       let landed_none : (visible w).landed ≡ [] = ap (map f) none in
-      let desk : desk_of w' ≡ record (others_after_reap [] (visible w).wakes (desk_of w0)) { place = q' } =
-      ap desk_of same
-      ∙ ap (λ (x : Slab (Entry Reply Reply)). record (desk_of w0) { place = q'; requests = slots_seen w.names.requests.items x; awaited = awaited_from 0 w.names.requests.items x.slots; entries = length d'.ring.staged; polled = d'.armed; others = trailing 0 (completions d'.ring) }) like.requests
-      ∙ ap (λ es. record (desk_of w0) { place = q'; entries = length es; polled = d'.armed; others = trailing 0 (completions d'.ring) }) ring.staged
-      ∙ ap (λ b. record (desk_of w0) { place = q'; polled = b; others = trailing 0 (completions d'.ring) }) ring.armed
-      ∙ ap (λ n. record (others_after_reap [] (visible w).wakes (desk_of w0)) { place = q'; others = n }) ring.others in
+      let desk : desk_of w' ≡ record (others_after_reap [] (visible w).wakes (desk_of w0)) { place = q' } = grind (arith, same, like.requests, ring.staged, ring.armed, ring.others) in
       subst (λ x. Steps left spot w s x w' s) (sym event)
       (served left spot q w w' s s Serve sound serves keeps spares (balances_still q w w' s s sound.here serves spares (ap passes_at (ap (λ x. x.place) same) ∙ by_passes r) (ap (λ (v : Worker). v.home.deferred.notes.wakes.items) same) refl refl)
       (λ p vs suits.
-      let all = common_of left spot p vs s in
       let x = things_with vs s in
-      let there = ring_there left spot q w s sound waits p vs suits in
-      let thing : Ring = record (ring_seen w) { landed = [] } in
-      let is : ring_of all x i ≡ thing = there ∙ ap (λ ks. record (ring_seen w) { landed = ks }) landed_none in
       let shown : things_with (with_view vs i (visible w')) s ≡ set_wake_poll i x (dropped [] (visible w).wakes) =
       poll_shows vs i s sound.seated.seat sound.seated.there waits (visible w') ∙ ap (λ y. set_wake_poll i x y.wakes) seen in
       record {
-        moves =
-            ap (λ y. with_ring i x (reap i v r all (desk_of w0) y)) is
-            ∙ ap (λ y. makes Serve y (set_wake_poll i x (dropped [] (visible w).wakes))) (sym desk)
-            ∙ ap (makes Serve (desk_of w')) (sym shown);
+        moves = grind (arith, ring_there left spot q w s sound waits p vs suits ∙ ap (λ ks. record (ring_seen w) { landed = ks }) landed_none, desk, shown);
         may = (at_large q w s sound refl, tt);
         own =
             ap own_of same ∙ own_as w q' d' like ∙ rw (served_by r) refl;

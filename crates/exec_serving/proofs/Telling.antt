@@ -1,14 +1,13 @@
 -- A sleeper that is told at the end of a service is the one that the machine tells.
-use Rattle.std.{proofs.{Common.{◌≡◌, ◌≢◌, ◌⊎◌, ⊎_elim, ℕ, ◌+◌, ◌^◌, ◌<◌, ◌≤◌, Bool, true, false, not, List, length, map, Option, Some, None, IsSome, is_some, Ok, refl, sym, ap, subst, ◌∙◌, arith, slice_get, slice_set, nat_le, nat_lt, if◌then◌else◌}, lemmas.{Bool.false≢true, List.{map-set, length-set}, Option.slice_get_within}}}
+use Rattle.std.{proofs.{Common.{◌≡◌, ◌≢◌, ◌⊎◌, ⊎_elim, ℕ, ◌+◌, ◌^◌, ◌<◌, ◌≤◌, Bool, true, false, not, List, length, map, Option, Some, None, IsSome, is_some, Ok, refl, sym, ap, subst, ◌∙◌, arith, slice_get, slice_set, nat_le, nat_lt, if◌then◌else◌}, lemmas.{Bool.false≢true, List.{map-set, length-set}}}}
 use Rattle.exec_base.{specs.{Slab.{IsPast, Slab, value_at, live_count, removed, freed, is_live}, declared.{slab.{Slot.TheVariants.{Vacant, Retired}, Id.Id}, task_no.TaskNo.TaskNo}}, proofs.Slots.{IsLiveAt-from_value, count-set, live_within}}
-use Rattle.exec_time.specs.{Notes.HasRoom, declared.{notes.Notes.Notes, timers.Sleeper.Sleeper as Sleeping}, Sleepers.{Ends, IsFirst}}
+use Rattle.exec_time.specs.{declared.{timers.Sleeper.Sleeper as Sleeping}, Sleepers.{Ends, IsFirst}}
 use Rattle.exec_time.specs.declared.timers.Observer.TheVariants as sleep
-use Rattle.exec_driver.specs.Driving.{Driving}
 use Rattle.exec_task.specs.declared.body.Said.{Said}
 use Rattle.exec_machine.specs.{declared.{event.Event.{Event, TheVariants.Fire}, state.Sleeper.Sleeper}, Deadlines.is_none_earlier, Tests.{is_asleep, is_open}, World.{seat_of, sleeper_of}}
 use Rattle.exec_moves.specs.{Serve.{first_to_fire, is_to_fire}, Slots.first_in, Told.told_of_fire, declared.place.{AfterService.AfterService, Service.Service, Place.Place, InService.InService}}
-use Rattle.exec_parts.specs.{declared.parts.{mail.Reply.Reply, names.Names.Names, shared.Shared.Shared, record.Record.Record, sleeping.SleeperRecord.SleeperRecord, worker.Worker.Worker}, Phased.closes_at, Records.number_in, Calls.IsTold, Spots.Spot, View.{common_of, completions_in, desk_of, driver_of, own_of, slots_seen, things_with, visible, with_view}}
-use Rattle.exec_invariants.{specs.{Due.IsDue, HoldPlaces.{has_wakes_at, is_bare_at}, Places.passes_at, Rooted.{IsRooted, Watches}, Names.{HasWidth, IsNamed, tellers}, Sound.{SoundAt, served_in}, Works.Steps}, proofs.{Fired.{asleep_still, fires, le_is, other_there}, FiringNames.removed_past, FiringSeen.{desk_fired, earliest, is_first, not_before, one_bed, until}, FiringSlots.{OneBed, first_is}, Seats.own_seat, Seen.sleeper_at, Seeing.{makes, served, things_kept}, ServingHolds.{IsServed, Keeps, KeepsBy, OthersKept, Serves, serves_to}, Serving.{SparesRecords, at_large, kept, spares_sleeper}, ServingPlaces.calm, Turning.view_found}}
+use Rattle.exec_parts.specs.{declared.parts.{mail.Reply.Reply, names.Names.Names, shared.Shared.Shared, sleeping.SleeperRecord.SleeperRecord, worker.Worker.Worker}, Phased.closes_at, Records.number_in, Calls.IsTold, Spots.Spot, View.{common_of, desk_of, driver_of, own_of, things_with, visible}}
+use Rattle.exec_invariants.{specs.{Due.IsDue, HoldPlaces.{has_wakes_at, is_bare_at}, Places.passes_at, Rooted.{IsRooted, Watches}, Names.{HasWidth, IsNamed, tellers}, Sound.{SoundAt, served_in}, Works.Steps}, proofs.{Fired.{asleep_still, fires, le-leb, other_there}, FiringNames.removed_past, FiringSeen.{desk_fired, earliest, is_first, not_before, one_bed, until}, FiringSlots.{OneBed, first_is}, Seats.own_seat, Seen.sleeper_at, Seeing.{makes, served, things_kept}, ServingHolds.{IsServed, Keeps, KeepsBy, OthersKept, Serves, serves_to}, Serving.{SparesRecords, at_large, kept, spares_sleeper}, ServingPlaces.calm, Turning.view_found}}
 use Rattle.exec_serving.proofs.{FiringHolds.balances_fired, FiringRooted.{rooted_fired, told_less, unpaid, unsent, wide_less}}
 
 -- A SLEEPER IS TOLD
@@ -48,13 +47,6 @@ opens_by = grind arith
 opens_so : (x : AfterService) (d : Bool) → (is_bare_at (Place.Service InService.EndService (record { defer = d; back = x })) ≡ true → ⊥) → closes_at (Place.Service InService.EndService (record { defer = d; back = x })) ≡ false
 opens_so x d unbare = ⊎_elim (λ bare. absurd (unbare bare)) (λ opens. opens) (opens_by x d)
 
--- what a telling needs
-pub notes_one : {notes : Notes Reply} (n : ℕ) → HasRoom notes (n + 64) → HasRoom notes 1
-notes_one n room = record { wakes = omega (arith, room.wakes); completions = omega (arith, room.completions) }
-
-pub timer_within : {i deadline : ℕ} {n : Names} {d : Driving Reply Reply} {zs : Slab (Sleeping Reply)} {rs : List Record} {ss : List SleeperRecord} {id : Id} → IsNamed i n d zs rs ss → IsFirst zs deadline id → number_in n.timers.items id < length ss
-timer_within = grind (arith, slice_get_within)
-
 module _ {B L : Type 0} (left : B → L) (spot : L → Option Said → Spot) where
   pub sleeper_fired : (v : Service) (w w' : Worker) (s s' : Shared B) (e : Event) (id : Id) → SoundAt (Place.Service InService.EndService v) w s → e ≡ Fire (number_in w.names.timers.items id) → HasFired w w' s s' id → Steps left spot w s e w' s'
   sleeper_fired v w w' s s' e id sound event it =
@@ -90,8 +82,7 @@ module _ {B L : Type 0} (left : B → L) (spot : L → Option Said → Spot) whe
       let named : IsNamed i n d zs' rs ss' =
       record { requests = sound.named.requests; timers = timers; alike = sound.named.alike; over = sound.named.over; submitted = sound.named.submitted; slots = sound.named.slots; beds = rw (ends.is, length-set) sound.named.beds } in
       let bed : OneBed n.timers.items zs id = one_bed i n d zs rs ss sound.named w.home.closing sound.due.asleep it.few id ends.sleeper ends.was in
-      let low = bed.low in
-      let small : id.generation < 2 ^ 64 = omega (arith, low) in
+      let small : id.generation < 2 ^ 64 = omega (arith, bed.low) in
       let back = λ (other : Id). subst (λ x. IsPast x other → IsPast zs other) (sym ends.is) (removed_past zs id live small other).0 in
       let on = λ (other : Id). subst (λ x. IsPast zs other → IsPast x other) (sym ends.is) (removed_past zs id live small other).1 in
       let due = sound.due in
@@ -129,7 +120,6 @@ module _ {B L : Type 0} (left : B → L) (spot : L → Option Said → Spot) whe
       let task : (t : TaskNo) → o ≡ sleep.Local t → t ≡ record { 0 = z.shown.task } = λ t is. (subst (λ x. Watches k x z) is watching).0 in
       let balances = balances_fired q w w' s s' k z o sound.here serves spares (ap passes_at there) found.1 found.3 awake.0 awake.1 asleep.unclosed free still requests items task ends.notes.wakes_added in
       let w0 : Worker = record w { place = q } in
-      let here : w ≡ w0 = ap (λ x. record w { place = x }) sound.here in
       let phased = sound.phased sound.seated.seat sound.seated.there in
       let going : w.home.closing ≡ false = phased.told ∙ opens_so v.back v.defer (λ bare. (let none = ks.bare (ap is_bare_at sound.here ∙ bare) in omega (arith, none, fewer))) in
       subst (λ x. Steps left spot w s x w' s') (sym event)
@@ -149,23 +139,14 @@ module _ {B L : Type 0} (left : B → L) (spot : L → Option Said → Spot) whe
       ∙ first_is (is_to_fire i me all) n.timers.items zs id ends.sleeper ends.was
       (is_first i w.home.closing going n d zs rs ss sound.named sound.due.asleep it.deadline id it.first ends.sleeper ends.was z found.1 me all refl it.due)
       (not_before i w.home.closing going n d zs rs ss sound.named sound.due.asleep it.deadline id it.first ends.sleeper ends.was z found.1 me all refl) in
-      let desk : desk_of w' ≡ told_of_fire k z.shown d0 =
-      ap desk_of it.worker
-      ∙ ap (λ y. record (desk_of (record w { place = y })) { wakes = map (λ t. t.0) w'.home.deferred.notes.wakes.items; completions = completions_in w'.home.deferred.notes.completions.items; timers = slots_seen n.timers.items zs' }) sound.here
-      ∙ ap (λ x. record d0 { wakes = map (λ t. t.0) w'.home.deferred.notes.wakes.items; completions = completions_in w'.home.deferred.notes.completions.items; timers = slots_seen n.timers.items x }) ends.is
-      ∙ desk_fired d0 n.timers.items zs w.home.deferred w'.home.deferred id z bed refl refl refl o watching ends.notes in
+      let desk : desk_of w' ≡ told_of_fire k z.shown d0 = grind (arith, it.worker, sound.here, ends.is, desk_fired d0 n.timers.items zs w.home.deferred w'.home.deferred id z bed refl refl refl o watching ends.notes) in
       record {
         moves =
             rw (first, sleeper)
             (ap (λ x. makes (Fire k) x (things_with vs s)) (sym desk)
             ∙ ap (makes (Fire k) (desk_of w')) (sym (things_kept vs i (visible w) (visible w') s s' suits.seen (ap (λ y. y.wakes) seen) serves.shared spares)));
         may =
-            (at_large q w s sound refl, (opened, (ap (is_asleep i) sleeper ∙ asleep.asleep, (ap (λ y. nat_le y.until me.sampled) sleeper ∙ le_is z.shown.until w.moments.sampled until_then, (ap (λ y. is_none_earlier i y.until all.sleepers) sleeper ∙ least, tt)))));
-        own = ap own_of it.worker ∙ ap own_of here;
-        common =
-            ap (λ us. common_of left spot p us s') (ap (with_view vs i) seen ∙ view_found vs i (visible w) suits.seen)
-            ∙ ap (common_of left spot p vs) it.shared
-            ∙ ap (λ xs. record all { sleepers = map (λ y. y.shown) xs }) items
-            ∙ ap (λ xs. record all { sleepers = xs }) (map-set (λ y. y.shown) ss k (fires z))
-            ∙ ap (λ x. record all { sleepers = slice_set (map (λ y. y.shown) ss) k (record x { fired = true }) }) (sym sleeper);
+            (at_large q w s sound refl, (opened, (ap (is_asleep i) sleeper ∙ asleep.asleep, (ap (λ y. nat_le y.until me.sampled) sleeper ∙ le-leb z.shown.until w.moments.sampled until_then, (ap (λ y. is_none_earlier i y.until all.sleepers) sleeper ∙ least, tt)))));
+        own = ap own_of it.worker ∙ ap own_of (ap (λ x. record w { place = x }) sound.here);
+        common = grind (arith, seen, it.shared, items, sleeper, view_found, map-set);
       }))

@@ -4,7 +4,7 @@ use Rattle.exec_ring.specs.{Kernels.Landing, Rings.completions, declared.complet
 use Rattle.exec_driver.specs.{Driving.{Driving, has_pending, is_full}, Steps.{poll_staged, wake_entry}}
 use Rattle.exec_task.specs.declared.body.Said.{Said}
 use Rattle.exec_machine.specs.{declared.event.Event.{Event, TheVariants.Turn}, After.common_after, Choice.Choice.Plain, Progress.Plan, Ranges.ring_size}
-use Rattle.exec_moves.specs.{declared.{idling.{Stay.Stay, AfterWait.AfterWait, InRingWait.InRingWait}, place.{AfterService.AfterService, Place.Place}}, Callback.serve, Load.has_submissions, Move.move_at, Seen.polls_at, State.{Desk, Moved, Things, turns}, Submit.one_more, Thing.aside, Wait.after_wait}
+use Rattle.exec_moves.specs.{declared.{idling.{Stay.Stay, AfterWait.AfterWait, InRingWait.InRingWait}, place.{AfterService.AfterService, Place.Place}}, Callback.serve, Move.move_at, Seen.polls_at, State.{Desk, Moved, Things, turns}, Submit.one_more, Thing.aside, Wait.after_wait}
 use Rattle.exec_parts.specs.{declared.parts.{mail.Reply.Reply, role.Role.Role, seat.Seat.Seat as Chair, shared.Shared.Shared, worker.Worker.Worker}, Roles.is_pool, Spots.Spot, Tests.{TestsRing, after_wait_of, is_unready, polled_by}, View.{Views, visible, with_view, driver_of, own_of, desk_of, common_of, awaited_from, slots_seen, things_with, trailing}}
 use Rattle.exec_invariants.{specs.{Kinds.Kind, Places.{claims_at, drops_at, has_count_at, is_published_at}, Sound.SoundAt, Works.{Beside, Suits, Steps, Works}}, proofs.{Aside.seats_same, Dedicated.past_pool, Hearing.unheard, Keeping.{SameButRing, keeps_ring, same_ring}, PoolKept.gates_same, Queueing.if_either, Seeing.{makes, own_with, visible_with}, Serving.{spares_same, sound_again}, ServingHolds.{Follows, Keeps, KeepsBy, Serves, serves_to}, Standing.submissions_seen, Turning.{GoesOn, IsTurn, Keeps as Holds, set_found, sound_on, view_found}}}
 use Rattle.exec_serving.proofs.{Ceasing.poll_by, Unposted.beside_unposted, Waiting.{Arms, after_arms, arrives_armed, wait_over_seen}}
@@ -100,15 +100,13 @@ module _ {B L : Type 0} (left : B → L) (spot : L → Option Said → Spot) whe
       let x = things_with vs s in
       let cs = common_of left spot p vs s in
       let sized : d.ring.size ≡ ring_size p.config = sound.sized ∙ ap ring_size suits.config in
-      let some_seen : has_submissions p.config (own_of w) ≡ some = sym (submissions_seen p.config w sized) in
-      let full_seen : not (nat_lt (length d.ring.staged) (ring_size p.config)) ≡ full = ap (λ n. not (nat_lt (length d.ring.staged) n)) (sym sized) in
       let again : with_view vs w.index (visible w1) ≡ vs = ap (with_view vs w.index) shows ∙ view_found vs w.index (visible w) suits.seen in
       let still : common_after p.config (own_of w) cs w.index Turn Plain ≡ cs = rw sound.here refl in
       record {
         choice = Plain;
         moves = subst (λ here. move_at p.config w.index (own_of w) cs (desk_of w) x here ≡ makes Turn (desk_of w1) (things_with (with_view vs w.index (visible w1)) s)) (sym sound.here)
-            (ap (λ b. tested w (after_wait cs w.index y AfterWait.Serve) y x b (not (nat_lt (length d.ring.staged) (ring_size p.config)))) some_seen
-            ∙ ap (tested w (after_wait cs w.index y AfterWait.Serve) y x some) full_seen
+            (ap (λ b. tested w (after_wait cs w.index y AfterWait.Serve) y x b (not (nat_lt (length d.ring.staged) (ring_size p.config)))) (sym (submissions_seen p.config w sized))
+            ∙ ap (tested w (after_wait cs w.index y AfterWait.Serve) y x some) (ap (λ n. not (nat_lt (length d.ring.staged) n)) (sym sized))
             ∙ ap (λ (r : Place). tested w r y x some full) (wait_over_seen left spot p vs q y AfterWait.Serve w s sound suits tt)
             ∙ ap (aside x) (moved_by some d.armed full (after_wait_of y AfterWait.Serve w) y (desk_of w) (record (one_more (desk_of w)) { polled = true }))
             ∙ ap (λ k. makes Turn k x) (sym desk)

@@ -1,5 +1,5 @@
 -- What the driver did with an operation that has landed: its request goes on, or is over.
-use Rattle.std.proofs.Common.{◌≡◌, ℕ, Bool, true, false, not, ◌||◌, List, [], ◌∷◌, filter, map, nat_lt, Option, Some, None, refl, sym, ap, subst, ◌∙◌, arith}
+use Rattle.std.proofs.Common.{◌≡◌, ℕ, Bool, true, false, not, ◌||◌, List, [], ◌∷◌, filter, map, nat_lt, Option, Some, None, refl, sym, ap, subst, ◌∙◌}
 use Rattle.exec_base.specs.Slab.{written}
 use Rattle.exec_outcomes.specs.Accounts.{Account}
 use Rattle.exec_request.specs.{Judging.{Judges, judged_as}, Requests.{asked_of, cursor_of, hinted_of}, States.{Ended, as_answer}}
@@ -46,51 +46,29 @@ module _ {B : Type 0} (q : Place) (w : Worker) (s : Shared B) (sound : SoundAt q
 
   pub turned_back : t.reaped.from.reaps.answer ≡ None → GoesBack w s d' t.c t.cs
   turned_back is =
-      let d = driver_of w in
-      let first = t.reaped.first in
-      let second = t.reaped.from.second in
       let like1 = t.reaped.swept_first in
       let like2 = t.reaped.from.swept_last in
-      let shape1 = (sweeps d).shape in
-      let shape2 = (sweeps second).shape in
+      let shape1 = (sweeps (driver_of w)).shape in
+      let shape2 = (sweeps t.reaped.from.second).shape in
       let by = second_is None is in
-      record {
-        h = t.reaped.has;
-        rest = t.landed.2;
-        once = t.landed.1;
-        request = t.reaped.from.reaps.request;
-        judges = subst (λ a. Judges (asked_of t.reaped.has.it.request) (cursor_of t.reaped.has.it.request) (cursor_of t.reaped.from.reaps.request) (judged_as (hinted_of t.reaped.has.it.request) t.reaped.has.it.state (result_in t.c.result)) (as_answer a)) is t.reaped.from.reaps.judges;
-        kept = t.reaped.from.reaps.kept;
-        ring = ring_turned (ap (λ x. x.ring) by) (ap (λ x. x.armed) by);
-        requests = ap (λ x. x.requests) like2 ∙ ap (λ x. x.requests) shape2 ∙ ap (λ x. x.requests) by
-            ∙ ap (λ x. written x t.reaped.has.id (Pending turned_waiter)) (ap (λ x. x.requests) like1 ∙ ap (λ x. x.requests) shape1);
-        lists = ap (λ x. x.lists) like2 ∙ ap (λ x. x.lists) shape2 ∙ ap (λ x. x.lists) by ∙ ap (with_queued turned_name) (ap (λ x. x.lists) like1 ∙ ap (λ x. x.lists) shape1);
-        wheel = ap (λ x. x.wheel) like2 ∙ ap (λ x. x.wheel) shape2 ∙ ap (λ x. x.wheel) by ∙ ap (λ x. x.wheel) like1 ∙ ap (λ x. x.wheel) shape1;
-      }
+      let judges = subst (λ a. Judges (asked_of t.reaped.has.it.request) (cursor_of t.reaped.has.it.request) (cursor_of t.reaped.from.reaps.request) (judged_as (hinted_of t.reaped.has.it.request) t.reaped.has.it.state (result_in t.c.result)) (as_answer a)) is t.reaped.from.reaps.judges in
+      let requests = ap (λ x. x.requests) like2 ∙ ap (λ x. x.requests) shape2 ∙ ap (λ x. x.requests) by ∙ ap (λ x. written x t.reaped.has.id (Pending turned_waiter)) (ap (λ x. x.requests) like1 ∙ ap (λ x. x.requests) shape1) in
+      let lists = ap (λ x. x.lists) like2 ∙ ap (λ x. x.lists) shape2 ∙ ap (λ x. x.lists) by ∙ ap (with_queued turned_name) (ap (λ x. x.lists) like1 ∙ ap (λ x. x.lists) shape1) in
+      let wheel = ap (λ x. x.wheel) like2 ∙ ap (λ x. x.wheel) shape2 ∙ ap (λ x. x.wheel) by ∙ ap (λ x. x.wheel) like1 ∙ ap (λ x. x.wheel) shape1 in
+      search (t.landed.2, t.landed.1, judges, ring_turned (ap (λ x. x.ring) by) (ap (λ x. x.armed) by), requests, lists, wheel, t.reaped.from.reaps)
 
   pub turned_over : (how : Ended) → t.reaped.from.reaps.answer ≡ Some how → GoesOver w s d' t.c t.cs how turned_account
   turned_over how is =
-      let d = driver_of w in
-      let first = t.reaped.first in
-      let second = t.reaped.from.second in
       let like1 = t.reaped.swept_first in
       let like2 = t.reaped.from.swept_last in
-      let shape1 = (sweeps d).shape in
-      let shape2 = (sweeps second).shape in
+      let shape1 = (sweeps (driver_of w)).shape in
+      let shape2 = (sweeps t.reaped.from.second).shape in
       let by = second_is (Some how) is in
-      record {
-        h = t.reaped.has;
-        rest = t.landed.2;
-        once = t.landed.1;
-        request = t.reaped.from.reaps.request;
-        judges = subst (λ a. Judges (asked_of t.reaped.has.it.request) (cursor_of t.reaped.has.it.request) (cursor_of t.reaped.from.reaps.request) (judged_as (hinted_of t.reaped.has.it.request) t.reaped.has.it.state (result_in t.c.result)) (as_answer a)) is t.reaped.from.reaps.judges;
-        kept = t.reaped.from.reaps.kept;
-        ring = ring_turned (ap (λ x. x.ring) by) (ap (λ x. x.armed) by);
-        requests = ap (λ x. x.requests) like2 ∙ ap (λ x. x.requests) shape2 ∙ ap (λ x. x.requests) by
-            ∙ ap (λ x. finished (written x t.reaped.has.id (Pending turned_waiter)) t.reaped.has.id turned_waiter how turned_account) (ap (λ x. x.requests) like1 ∙ ap (λ x. x.requests) shape1);
-        lists = ap (λ x. x.lists) like2 ∙ ap (λ x. x.lists) shape2 ∙ ap (λ x. x.lists) by ∙ ap (withdrawn turned_name) (ap (λ x. x.lists) like1 ∙ ap (λ x. x.lists) shape1);
-        wheel = ap (λ x. x.wheel) like2 ∙ ap (λ x. x.wheel) shape2 ∙ ap (λ x. x.wheel) by ∙ ap (λ x. unscheduled x (tick_in t.reaped.has.it.state)) (ap (λ x. x.wheel) like1 ∙ ap (λ x. x.wheel) shape1);
-      }
+      let judges = subst (λ a. Judges (asked_of t.reaped.has.it.request) (cursor_of t.reaped.has.it.request) (cursor_of t.reaped.from.reaps.request) (judged_as (hinted_of t.reaped.has.it.request) t.reaped.has.it.state (result_in t.c.result)) (as_answer a)) is t.reaped.from.reaps.judges in
+      let requests = ap (λ x. x.requests) like2 ∙ ap (λ x. x.requests) shape2 ∙ ap (λ x. x.requests) by ∙ ap (λ x. finished (written x t.reaped.has.id (Pending turned_waiter)) t.reaped.has.id turned_waiter how turned_account) (ap (λ x. x.requests) like1 ∙ ap (λ x. x.requests) shape1) in
+      let wheel = ap (λ x. x.wheel) like2 ∙ ap (λ x. x.wheel) shape2 ∙ ap (λ x. x.wheel) by ∙ ap (λ x. unscheduled x (tick_in t.reaped.has.it.state)) (ap (λ x. x.wheel) like1 ∙ ap (λ x. x.wheel) shape1) in
+      let lists = ap (λ x. x.lists) like2 ∙ ap (λ x. x.lists) shape2 ∙ ap (λ x. x.lists) by ∙ ap (withdrawn turned_name) (ap (λ x. x.lists) like1 ∙ ap (λ x. x.lists) shape1) in
+      search (t.landed.2, t.landed.1, judges, ring_turned (ap (λ x. x.ring) by) (ap (λ x. x.armed) by), requests, lists, wheel, t.reaped.from.reaps)
 
   -- of that operation
   pub back_has : (is : t.reaped.from.reaps.answer ≡ None) → (turned_back is).h ≡ t.reaped.has
@@ -112,11 +90,9 @@ module _ {B : Type 0} (q : Place) (w : Worker) (s : Shared B) (sound : SoundAt q
   quiet_by : (cs : List Completion) → operations d'.ring ≡ cs → (b : AfterPermit) (rp : Reaping) (has : Bool) (numbers : Completion → ℕ) → has ≡ not (is_quiet d'.ring) → (has ≡ true → b ≡ AfterPermit.Reap rp) → (has ≡ false → b ≡ AfterPermit.Reaped rp) → b ≡ back_from_reap rp (map numbers cs)
   quiet_by [] is b rp has numbers tells more none =
       let second = t.reaped.from.second in
-      let like2 = t.reaped.from.swept_last in
-      let left : completions d'.ring ≡ after_controls (completions second.ring) = ap (λ x. completions x.ring) like2 ∙ (sweeps second).left in
+      let left : completions d'.ring ≡ after_controls (completions second.ring) = ap (λ x. completions x.ring) t.reaped.from.swept_last ∙ (sweeps second).left in
       let gone : after_controls (completions second.ring) ≡ [] = none_left (completions second.ring) (sym (ops_after (completions second.ring)) ∙ ap (filter is_op) (sym left) ∙ is) in
-      let quiet : is_quiet d'.ring ≡ true = (none_there d'.ring.posted d'.ring refl (left ∙ gone)).1 in
-      none (tells ∙ ap not quiet)
+      none (tells ∙ ap not (none_there d'.ring.posted d'.ring refl (left ∙ gone)).1)
   quiet_by (c ∷ cs) is b rp has numbers tells more none = more (tells ∙ sym (some_in_ring numbers d'.ring) ∙ ap (λ ys. not (is_empty (map numbers ys)) || (nat_lt 0 (trailing 0 (completions d'.ring)) || trails_wake false (completions d'.ring))) is)
 
   pub back_turned : (ring : RingAfter (number_told w.names.requests.items) (driver_of w) d' t.cs) (b : AfterPermit) (rp : Reaping) (has : Bool) (numbers : Completion → ℕ) → has ≡ not (is_quiet d'.ring) → (has ≡ true → b ≡ AfterPermit.Reap rp) → (has ≡ false → b ≡ AfterPermit.Reaped rp) → b ≡ back_from_reap rp (map numbers t.cs)

@@ -1,6 +1,6 @@
 -- What a step leaves of the balances that takes a dedicated worker out of a wait, or into one: it has no bit in the idle set,
 -- whatever its place says.
-use Rattle.std.proofs.Common.{◌≡◌, ◌≤◌, map, ◌⊎◌, inl, inr, refl, ap, arith}
+use Rattle.std.proofs.Common.{◌≡◌, ◌≤◌, map, ◌⊎◌, inl, inr, refl, ap}
 use Rattle.exec_moves.specs.Seen.{polls_at}
 use Rattle.exec_parts.specs.declared.parts.{shared.Shared.Shared, worker.Worker.Worker}
 use Rattle.exec_invariants.{specs.{Holding.box_of, Places.{claims_at, drops_at, has_count_at, is_published_at}, Works.Beside}, proofs.{Aside.{SameTold, SparesSeats, beside_calm, queue_of_chair}, Counting.{SameHands, Stance, Stands, counts_apart, stance_at, stance_here, whole_counted}, PoolKept.KeepsGates, Turning.Shares}}

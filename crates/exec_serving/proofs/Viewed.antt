@@ -7,8 +7,9 @@ use Rattle.exec_task.specs.declared.body.Said.{Said}
 use Rattle.exec_machine.specs.{declared.{event.Event.TheVariants.Reap, state.Request.Request}, Progress.Plan, Requests.{account_of_open, after_reap as common_reaped, common_after_refusal, judged_of, may_reap, opens_after_end, outcome_given, outcome_shown, reaped}, Same.{same_result}, Tests.{is_at_large, is_resolved, set_open, AllTrue}, World.{Common, Open, Own, Seat, open_of, request_of, seat_of}}
 use Rattle.exec_moves.specs.{Told.told_if_ended, Serve.{Ring, after_permit, after_reap, back_from_reap, others_after_reap, reap, reaped as reaped_ring, result_in as result_of}, State.{Desk, Moved, WakePoll, does}, Thing.ring_of, declared.place.{Place.Place, Reaping.Reaping, Service.Service, InService.InService}}
 use Rattle.exec_parts.specs.{declared.parts.{record.Record.Record, shared.Shared.Shared, worker.Worker.Worker}, Records.number_in, Serving.changed_at, Spots.Spot, View.{Views, visible, with_view, driver_of, common_of, number_told, open_seen, seat_seen, seats_seen, things_with}}
-use Rattle.exec_invariants.{specs.{Flown.{HasLanded, operations}, Sound.SoundAt, Works.Suits}, proofs.{Mine.live_mine, Seats.own_seat, Recorded.request_seen, Accounted.{OpensJudged, opens_refused}, Keys.{name_in, names_changed, same_opens}, Raising.seats_set, Seeing.common_changed}}
+use Rattle.exec_invariants.{specs.{Flown.{HasLanded, operations}, Sound.SoundAt, Works.Suits}, proofs.{Mine.live_mine, Seats.own_seat, Recorded.request_seen, Accounted.{OpensJudged, opens_refused}, Keys.{name_in, names_changed, same_opens}, Seeing.common_changed}}
 use Rattle.exec_serving.proofs.{Entered.{ring_seen, ring_there}, Requeued.number_landed}
+use Rattle.exec_invariants.proofs.MailApplies.{seats_viewed}
 
 pub same_result_self : (x : OpResult) → same_result x x ≡ true
 same_result_self (Count n) = eq-eqb n n refl
@@ -96,7 +97,6 @@ module _ {B L : Type 0} (left : B → L) (spot : L → Option Said → Spot) (rp
       let it = h.r.shown in
       let f : Record → Record = λ r. record r { shown = reaped n None r.shown } in
       let chair = sound.seated.seat in
-      let x = seat_seen (visible w) chair in
       let all = seen_all in
       let vs' = with_view vs i (visible w') in
       let s2 : Shared B = record s { requests = s'.requests } in
@@ -109,9 +109,9 @@ module _ {B L : Type 0} (left : B → L) (spot : L → Option Said → Spot) (rp
       ∙ ap (λ os. record (common_of left spot p vs' s2) { opens = os }) opens
       ∙ ap (λ (y : Common). record y { opens = opens_refused refuses all.opens it.operation.target }) (common_changed left spot p vs' s s2 k h.r f refl records h.there (name_kept n h.r open_still))
       ∙ ap (λ seats. record all { seats = seats; requests = requests; opens = opens_refused refuses all.opens it.operation.target })
-      (seats_set vs.workers s.seats.items i (visible w') chair sound.seated.there
+      (seats_viewed vs.workers s.seats.items i (visible w') chair sound.seated.there
       ∙ ap (λ y. slice_set (seats_seen vs.workers s.seats.items) i (seat_seen y chair)) seen
-      ∙ ap (λ ls. slice_set (seats_seen vs.workers s.seats.items) i (record x { landed = drop 1 ls })) (sym visible_landed)
+      ∙ ap (λ ls. slice_set (seats_seen vs.workers s.seats.items) i (record (seat_seen (visible w) chair) { landed = drop 1 ls })) (sym visible_landed)
       ∙ ap (λ (y : Seat). slice_set (seats_seen vs.workers s.seats.items) i (record y { landed = drop 1 y.landed })) (sym seat_is))
       ∙ by_refused (seat_of all i) it refuses (opens_refused refuses all.opens it.operation.target)
       ∙ ap (then_by (seat_of all i) it refuses) (opens_by it refuses)

@@ -1,5 +1,5 @@
 -- What the steps of the waits that touch the wake word are to the machine.
-use Rattle.std.proofs.{Common.{◌≡◌, ℕ, ◌*◌, ◌+◌, ◌≤◌, ◌||◌, ◌⊎◌, inl, inr, Bool, true, false, [], List, length, get_or, map, Option, Some, None, refl, sym, ap, subst, ◌∙◌, ◌-◌, slice_get, slice_set, nat_lt, arith, if◌then◌else◌}, lemmas.{Bool.false≢true, List.length-set, Option.get_or_from_slice_get}}
+use Rattle.std.proofs.{Common.{rules, ◌≡◌, ℕ, ◌*◌, ◌+◌, ◌≤◌, ◌||◌, ◌⊎◌, inl, inr, Bool, true, false, [], List, length, get_or, map, Option, Some, None, refl, sym, ap, subst, ◌∙◌, ◌-◌, slice_get, slice_set, nat_lt, arith, if◌then◌else◌}, lemmas.{Bool.false≢true, List.length-set, Option.get_or_from_slice_get}}
 use Rattle.exec_base.specs.Spinner.{after_miss}
 use Rattle.exec_words.specs.{Word.is_idle_at, declared.word.{PureWord.PureWord, WaitTarget.WaitTarget}}
 use Rattle.exec_task.specs.declared.body.Said.{Said}
@@ -34,27 +34,7 @@ module _ {B : Type 0} where
 
   of_armed : (q q' : Place) (w : Worker) (s : Shared B) → SoundAt q w s → calm_of q' ≡ lowered w.role (is_pooled_at q') (record (calm_of q) { armed = is_armed_at q' }) → OfKind (calm_of q') w s
   of_armed q q' w s sound same =
-      let here : OfKind (lowered w.role (is_pooled_at q') (record (calm_of q) { armed = is_armed_at q' })) w s =
-      record {
-        runnable = sound.runnable;
-        hand = sound.hand;
-        loot = sound.loot;
-        genuine = sound.genuine;
-        searching = tt;
-        pooled = pool_low (is_pooled_at q') (is_pooled_at q) (is_pool w.role) sound.pooled;
-        serves = sound.serves;
-        guest = guest_calm (polls_at q) (step_of_poll q) w.index w.root s.tasks.items sound.guest;
-        left = sound.left;
-        due = sound.due;
-        flown = sound.flown;
-        told = sound.told;
-        letters = sound.letters;
-        stops = stops_calm (polls_at q) (step_of_poll q) w.index s.tasks.items s.requests.items s.sleepers.items sound.stops;
-        hears = sound.hears;
-        lets_go = sound.lets_go;
-        phased = sound.phased;
-        tied = rw (step_again w.root (polls_at q) (step_of_poll q)) sound.tied;
-      } in
+      let here : OfKind (lowered w.role (is_pooled_at q') (record (calm_of q) { armed = is_armed_at q' })) w s = grind (arith, pool_low, guest_calm, stops_calm, step_again) in
       subst (λ k. OfKind k w s) (sym same) here
 
   -- what holds there once the wake word is this
@@ -110,15 +90,7 @@ module _ {B : Type 0} where
       out : (p : Place) → calm_of p ≡ record (calm_of q) { armed = false; pooled = false } → is_armed_at p ≡ false → is_pooled_at p ≡ false → IsSearching (searches_at p) w.searching → has_count_at p ≡ false → is_pool w.role ≡ false
           → ((chair : Chair) → slice_get s.seats.items w.index ≡ Some chair → HasQueue p chair.queue) → ((seats : List Chair) → Aims p s.config w.index seats) → HasBatch p w.batch.values → Arms q p w s
       out p alike unarmed pooled found uncounted alone queue aims batch =
-          record {
-            same = alike ∙ rw (pooled, unarmed) refl;
-            searches = found;
-            counts = uncounted ∙ sym counts;
-            published = inr alone;
-            queue = queue;
-            aims = aims;
-            batch = batch;
-          }
+          grind (arith, alike, pooled, unarmed, found, uncounted, counts, alone, queue, aims, batch)
 
       goes : (m : AfterWait) → n ≡ m → GoesBack m → is_pool w.role ≡ false → Arms q (place_withdrawn false m w) w s
       goes AfterWait.Begin is h alone = out Place.BeginTurn apart refl refl tt refl alone held (λ seats. tt) (λ no. absurd (false≢true no))
@@ -128,15 +100,7 @@ module _ {B : Type 0} where
 
       within : (m : AfterWait) → n ≡ m → GoesBack m → is_pool w.role ≡ true → Arms q (Place.Withdraw n) w s
       within m is h pool =
-          record {
-            same = same ∙ ap (λ (b : Bool). record (calm_of q) { armed = false; pooled = b }) (sym (ap (λ b. is_pooled_at q || b) pool ∙ always (is_pooled_at q)));
-            searches = of_waits m is h;
-            counts = sym counts;
-            published = inl (sym published);
-            queue = held;
-            aims = λ seats. tt;
-            batch = λ no. absurd (false≢true no);
-          }
+          search (rules, same ∙ ap (λ (b : Bool). record (calm_of q) { armed = false; pooled = b }) (sym (ap (λ b. is_pooled_at q || b) pool ∙ always (is_pooled_at q))), of_waits m is h, sym counts, held, published, false≢true)
         where
           always : (b : Bool) → (b || true) ≡ true
           always true = refl
@@ -172,26 +136,10 @@ module _ {B L : Type 0} (left : B → L) (spot : L → Option Said → Spot) whe
       let items : s'.seats.items ≡ slice_set s.seats.items w.index (with_word m.thing seat) = turns_word.seats seat sound.seated.there in
       let shares : Shares s s' = subst (λ (z : Shared B). z ≡ record s { seats = z.seats; idle = z.idle; global = z.global }) (sym turns_word.kept) refl in
       let index : w'.index ≡ w.index = ap (λ x. x.index) on.same in
-      let profile : SameButShown w w' = record {
-        hand = keeps.hand;
-        loot = keeps.loot;
-        polls = rw sound.here (ap (λ k. k.polls) same);
-        claims = rw sound.here (ap (λ k. k.claims) same);
-        searching = keeps.searching;
-        counts = arms.counts ∙ sym (ap has_count_at sound.here);
-        index = index;
-        drops = ap (λ k. k.drops) same ∙ sym (ap drops_at sound.here);
-        told = told_on w w' s.clock on;
-      } in
+      let profile : SameButShown w w' = search (rules, arms.counts ∙ sym (ap has_count_at sound.here), index, ap (λ k. k.drops) same ∙ sym (ap drops_at sound.here), told_on w w' s.clock on, keeps, same) in
       let shown : (is_published_at w'.place ≡ is_published_at w.place) ⊎ (s.config.workers ≤ w.index) =
       elim arms.published [ inl is ↦ inl (is ∙ sym (ap is_published_at sound.here)) | inr alone ↦ inr (past_pool q w s sound alone) ] in
-      let is : IsTurn w.workers q w'.place = record {
-        polls = ap (λ k. k.polls) same;
-        free = free;
-        free_then = ap (λ k. k.next) same ∙ free;
-        unserved = ap (λ k. k.serves) same ∙ unserved;
-        owes = ap (λ k. k.owes w.workers) same;
-      } in
+      let is : IsTurn w.workers q w'.place = search (ap (λ k. k.polls) same, free, ap (λ k. k.next) same ∙ free, ap (λ k. k.serves) same ∙ unserved, ap (λ k. k.owes w.workers) same) in
       turned left spot q w w' s s' e sound (makes.event ∙ event) on shares (ap (λ (z : Shared B). z.global.closed) turns_word.kept)
       (λ vs. ap (λ xs. seats_seen vs xs) items ∙ seats_kept vs s.seats.items w.index seat (with_word m.thing seat) sound.seated.there (λ v. refl))
       is

@@ -1,8 +1,8 @@
 -- Steps of callers, of the clock, the kernel and the peers: they may wake a task or make one, and leave what is told to tasks as it is.
-use Rattle.std.proofs.Common.{◌≡◌, ℕ, zero, suc, Bool, true, false, ◌&&◌, ◌||◌, List, [], ◌∷◌, ◌++◌, get_or, set, Option, Some, None, refl, sym, ap, ◌∙◌, subst, inl, inr, arith}
+use Rattle.std.proofs.Common.{◌≡◌, ℕ, zero, suc, Bool, true, false, ◌&&◌, ◌||◌, List, [], ◌∷◌, ◌++◌, get_or, set, Option, refl, sym, ap, ◌∙◌, inl, inr, arith}
 use Rattle.std.proofs.lemmas.{Bool.{true≢false, false≢true, and_parts, cases_Bool}}
 use Rattle.exec_outcomes.specs.{declared.outcome.OpResult.OpResult}
-use Rattle.exec_machine.specs.{declared.{config.Configuration.Configuration, event.Event.Event, state.{MailMessage.MailMessage, Request.Request, RequestPhase.RequestPhase}, step.Action.Action}, Callers.{after_spawn_by_call, after_wake_by_call, is_enabled}, Choice.Choice, Mail.{after_post, is_left_out, is_root_message}, Progress.is_runnable, Tasks.{woken}, Tests.{is_done, is_flying, is_ready, is_resolved}, World.{Common, Task, no_request, no_task, request_of, task_of}}
+use Rattle.exec_machine.specs.{declared.{config.Configuration.Configuration, event.Event.Event, state.{MailMessage.MailMessage, Request.Request}, step.Action.Action}, Callers.{after_spawn_by_call, after_wake_by_call, is_enabled}, Choice.Choice, Mail.{after_post, is_left_out, is_root_message}, Progress.is_runnable, Tasks.{woken}, Tests.{is_done, is_ready, is_resolved}, World.{Common, Task, no_request, no_task, request_of, task_of}}
 use Rattle.exec_machine.specs.declared.event.Event.TheVariants as event
 use Rattle.exec_machine.specs.declared.state.RequestPhase.TheVariants as phase
 use Rattle.exec_machine.specs.declared.state.Waiting.TheVariants as waiting
@@ -12,6 +12,7 @@ use Rattle.exec_moves.specs.{Call.CallDesk, MoveOfCaller.{call_wake}, Plays.{Pla
 use Rattle.exec_rest.proofs.CallHeeds.{set_at}
 use Rattle.exec_settled.specs.{Awaited.{IsAwaited}}
 use Rattle.exec_settled.proofs.AwaitedTasks.{is_for_thing, woken_done, woken_noticed, woken_runnable}
+use Rattle.exec_settled.proofs.SettledLike.{flying_live}
 
 -- ONE TASK: the same, woken, or made
 
@@ -34,8 +35,7 @@ record Quiet (s s' : Common) : Type 0 where
   pub sleepers : s'.sleepers ≡ s.sleepers
 
 as_it_is : (s s' : Common) → s'.tasks ≡ s.tasks → s'.requests ≡ s.requests → s'.sleepers ≡ s.sleepers → Quiet s s'
-as_it_is s s' tasks requests sleepers =
-    record { tasks = λ t. subst (λ ts. Stirred (task_of s t) (get_or ts t no_task)) (sym tasks) (unstirred (task_of s t)); requests = requests; sleepers = sleepers }
+as_it_is = grind (arith, unstirred)
 
 made : (xs : List Task) (y : Task) → y.waiting ≡ waiting.Nothing → (t : ℕ) → Stirred (get_or xs t no_task) (get_or (xs ++ y ∷ []) t no_task)
 made [] y none zero = record { waits = λ on h. absurd (true≢false (sym h ∙ ap is_for_thing none)); runs = λ h. absurd (false≢true h); noted = λ h. absurd (false≢true h) }
@@ -102,12 +102,7 @@ woken_by_call s t e choice = as_it_is s s refl refl refl
 
 module _ (s : Common) (d : CallDesk) (x : Things) where
   wake_sends : (u : ℕ) (home : Option ℕ) → ((call_wake s d x u home).thing.answers ≡ x.answers) × ((call_wake s d x u home).thing.alarms ≡ x.alarms)
-  wake_sends u None = (refl, refl)
-  wake_sends u (Some home) = (refl, refl)
-
-flying_unended : (p : RequestPhase) → is_flying p ≡ true → is_resolved p ≡ false
-flying_unended phase.Flying h = refl
-flying_unended _ h = absurd (true≢false (sym h))
+  wake_sends = grind arith
 
 module _ (c : Configuration) (x : Playing) where
   abbrev s : Common
@@ -123,7 +118,7 @@ module _ (c : Configuration) (x : Playing) where
   alike y desks tasks requests sleepers answers alarms = quiet y desks (as_it_is s y.world.common tasks requests sleepers) answers alarms
 
   lands : (r : ℕ) (n : OpResult) → is_enabled s (action.Land r n) ≡ true → (k : ℕ) → Still (request_of s k) (get_or (set s.requests r (record (request_of s r) { phase = phase.Landed n })) k no_request)
-  lands = grind (arith, set_at, unmoved, and_parts, flying_unended)
+  lands = grind (arith, set_at, unmoved, and_parts, flying_live)
 
   -- what landed stands before the others at the desk of worker i
   one_desk : (T : Type 0) (f : Desk → T) (i : ℕ) → f (record (desk_of c x i) { others = 0 }) ≡ f (desk_of c x i) → (j : ℕ) → f (get_or (set x.desks i (record (desk_of c x i) { others = 0 })) j (first_desk c j)) ≡ f (desk_of c x j)

@@ -28,16 +28,13 @@ as_it_was x = record { same = refl; over = λ h. h }
 
 -- a phase that is none of the end
 gated_open : (p : RequestPhase) → is_gated p ≡ true → is_resolved p ≡ true → {T : Type 0} → T
-gated_open phase.Gated h over = absurd (false≢true over)
-gated_open _ h over = absurd (false≢true h)
+gated_open = grind (arith, false≢true)
 
 queued_open : (p : RequestPhase) → is_queued p ≡ true → is_resolved p ≡ true → {T : Type 0} → T
-queued_open phase.Queued h over = absurd (false≢true over)
-queued_open _ h over = absurd (false≢true h)
+queued_open = grind (arith, false≢true)
 
 landed_open : (n : OpResult) (p : RequestPhase) → is_landed_with n p ≡ true → is_resolved p ≡ true → {T : Type 0} → T
-landed_open n (phase.Landed m) h over = absurd (false≢true over)
-landed_open n _ h over = absurd (false≢true h)
+landed_open = grind (arith, false≢true)
 
 drop_kept : (x : Request) → Kept x (dropped x)
 drop_kept = grind arith
@@ -115,8 +112,7 @@ module _ (e : Event) where
 
 module _ (s : Common) (i : ℕ) (e : Event) where
   words : (polls : Option ℕ) → (after_word s polls).requests ≡ s.requests
-  words None = refl
-  words (Some t) = refl
+  words = grind arith
 
   turns : (me : Books) (choice : Choice) → (after_turn me s i choice).requests ≡ s.requests
   turns = grind arith

@@ -63,8 +63,7 @@ module _ (e : Event) where
 
 module _ (s : Common) (i : ℕ) (e : Event) where
   words : (polls : Option ℕ) → (after_word s polls).sleepers ≡ s.sleepers
-  words None = refl
-  words (Some t) = refl
+  words = grind arith
 
   turns : (me : Books) (choice : Choice) → (after_turn me s i choice).sleepers ≡ s.sleepers
   turns = grind arith
@@ -73,8 +72,7 @@ module _ (s : Common) (i : ℕ) (e : Event) where
   posts s' to m choice = elim (cases_Bool (is_root_message m && is_left_out choice)) [ inl out ↦ rw out refl | inr in_it ↦ rw in_it refl ]
 
   waits : (t : ℕ) (what : Option ℕ) → (after_wait s t what).sleepers ≡ s.sleepers
-  waits t None = refl
-  waits t (Some r) = refl
+  waits = grind arith
 
   pays : (polls : Option ℕ) (payer : Payer) → AllDozed e s.sleepers (after_payment s polls payer).sleepers
   pays polls (ByRequest r) = none e s.sleepers

@@ -1,5 +1,5 @@
 -- The step of a worker, as far as tasks are woken next, or hear what was sent to them.
-use Rattle.std.proofs.Common.{◌≡◌, ◌≢◌, ℕ, ◌<◌, Bool, true, false, not, ◌&&◌, ◌||◌, length, Some, refl, sym, ap, ◌∙◌, subst, inl, inr, arith}
+use Rattle.std.proofs.Common.{◌≡◌, ◌≢◌, ℕ, ◌<◌, Bool, true, false, not, ◌&&◌, ◌||◌, length, Some, sym, ap, ◌∙◌, subst, inl, inr, arith}
 use Rattle.std.proofs.lemmas.{Bool.{true≢false, cases_eq}}
 use Rattle.std.specs.Prelude.{◌⊎◌}
 use Rattle.exec_outcomes.specs.declared.outcome.Outcome.{Outcome}
@@ -20,8 +20,7 @@ runs_by = grind arith
 
 -- who waits here for what is over may not end its poll
 pub stops_not : (f : Forwarding) (b r : Bool) → f ≡ forwarding.Unsent → r ≡ true → (not (is_unsent f) || (b && not r)) ≡ false
-stops_not f true r unsent over = rw (unsent, over) refl
-stops_not f false r unsent over = rw unsent refl
+stops_not = grind arith
 
 module _ (c : Configuration) (x : Playing) (laid : IsLaidOut c x) (i : ℕ) (m : Moved Things) (may : is_enabled x.world.common (action.Work i) ≡ true)
     (allows : Allowed c (own_of x.world i) x.world.common i m.event m.choice)

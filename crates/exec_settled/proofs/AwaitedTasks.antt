@@ -86,12 +86,10 @@ module _ (s : Common) (i : ℕ) (e : Event) where
   ]
 
   word : (polls : Option ℕ) → AllTasked (after_word s polls).tasks
-  word None = none
-  word (Some t) = one t (moved_on s (task_of s t)) (acted s i e t (task_of s t) (moved_on s (task_of s t)) refl (inl refl))
+  word = grind (arith, none, one, acted)
 
   word_long : (polls : Option ℕ) → length (after_word s polls).tasks ≡ length s.tasks
-  word_long None = refl
-  word_long (Some t) = length-set s.tasks t (moved_on s (task_of s t))
+  word_long = grind (arith, length-set)
 
   posts : (s' : Common) (to : ℕ) (m : MailMessage) (choice : Choice) → (after_post s' to m choice).tasks ≡ s'.tasks
   posts s' to m choice = elim (cases_Bool (is_root_message m && is_left_out choice)) [ inl out ↦ rw out refl | inr in_it ↦ rw in_it refl ]

@@ -1,10 +1,11 @@
 -- A durable request that isn't over stays so by each event but its reaping, its grant, and what its deadline brings.
-use Rattle.std.proofs.Common.{◌≡◌, ℕ, zero, suc, ◌+◌, Bool, true, false, ◌&&◌, ◌==◌, List, [], ◌∷◌, ◌++◌, Option, Some, None, map, refl, sym, ◌∙◌, ap, subst, inl, inr, get_or, set, arith}
+use Rattle.std.proofs.Common.{◌≡◌, ℕ, zero, suc, ◌+◌, Bool, true, false, ◌==◌, List, [], ◌∷◌, ◌++◌, Option, map, sym, ◌∙◌, ap, subst, inl, inr, get_or, set, arith}
 use Rattle.std.proofs.lemmas.Bool.{false≢true, cases_Bool}
 use Rattle.exec_outcomes.specs.{declared.outcome.Kind.Kind, Accounts.is_durable}
 use Rattle.exec_outcomes.specs.declared.outcome.Kind.TheVariants as kind
-use Rattle.exec_machine.specs.{declared.{config.Configuration.Configuration, event.Event.Event, state.{MailMessage.MailMessage, Operation.Operation, Request.Request}}, Choice.{Choice, Payer}, World.{Own, Common, request_of, no_request}, Tests.{is_of_file, is_resolved}, Requests.{dropped, flown}, Tasks.{requests_after_drops, after_word, after_wait, after_payment, after_wake, after_pend}, Mail.{after_sending, after_post, after_apply, is_root_message, is_left_out}, Closing.{after_turn, after_clear}, After.{common_after}}
+use Rattle.exec_machine.specs.{declared.{config.Configuration.Configuration, event.Event.Event, state.{MailMessage.MailMessage, Operation.Operation, Request.Request}}, Choice.{Choice, Payer}, World.{Own, Common, request_of, no_request}, Tests.{is_of_file, is_resolved}, Requests.{dropped, flown}, Tasks.{requests_after_drops, after_wait, after_payment, after_wake, after_pend}, Mail.{after_sending, after_apply}, Closing.{after_turn, after_clear}, After.{common_after}}
 use Rattle.exec_machine.specs.declared.event.Event.TheVariants as event
+use Rattle.exec_books.proofs.Spares.{word_requests, post_requests}
 
 -- what is durable is of a file, and goes on where nobody holds it
 
@@ -72,16 +73,8 @@ drops i (q ∷ held) xs =
 
 -- EACH EVENT
 
-word_keeps : (s : Common) (polls : Option ℕ) → (after_word s polls).requests ≡ s.requests
-word_keeps s None = refl
-word_keeps s (Some t) = refl
-
 turn_keeps : (me : Own) (s : Common) (i : ℕ) (choice : Choice) → (after_turn me s i choice).requests ≡ s.requests
 turn_keeps = grind arith
-
-post_keeps : (s : Common) (to : ℕ) (m : MailMessage) (choice : Choice) → (after_post s to m choice).requests ≡ s.requests
-post_keeps s to m choice =
-    elim (cases_Bool (is_root_message m && is_left_out choice)) [ inl out ↦ rw out refl | inr in_it ↦ rw in_it refl ]
 
 by_payment : (s : Common) (polls : Option ℕ) (payer : Payer) → AllLast s.requests (after_payment s polls payer).requests
 by_payment = grind (arith, set_each, touched, none_changed)
@@ -102,8 +95,7 @@ by_clear : (s : Common) (i t : ℕ) → AllLast s.requests (after_clear s i t).r
 by_clear = grind (arith, cases_Bool, drops, lasts)
 
 by_wait : (s : Common) (t : ℕ) (what : Option ℕ) → AllLast s.requests (after_wait s t what).requests
-by_wait s t None = none_changed s.requests
-by_wait s t (Some r) = set_each s.requests r (record (request_of s r) { waiter = Some t }) (touched refl refl)
+by_wait = grind (arith, none_changed, set_each, touched)
 
 -- none by which a durable request may be over
 abbrev pub is_mild : Event → Bool
@@ -114,4 +106,4 @@ is_mild (event.Expire r outcome) = false
 is_mild _ = true
 
 pub by_mild : (c : Configuration) (me : Own) (s : Common) (i : ℕ) (e : Event) (choice : Choice) → is_mild e ≡ true → (k : ℕ) → Lasts (request_of s k) (request_of (common_after c me s i e choice) k)
-by_mild = grind (arith, as_before, turn_keeps, by_pend, drops, word_keeps, by_clear, one_more, by_wait, set_each, touched, dropped_lasts, by_wake, false≢true, flown_each, post_keeps, by_sending, by_apply, none_changed)
+by_mild = grind (arith, as_before, turn_keeps, by_pend, drops, word_requests, by_clear, one_more, by_wait, set_each, touched, dropped_lasts, by_wake, false≢true, flown_each, post_requests, by_sending, by_apply, none_changed)

@@ -1,14 +1,12 @@
 -- Moves of a worker that looks whether it may wait, and of its waits: the latch goes out of its wake word as a wait ends.
-use Rattle.std.proofs.Common.{◌≡◌, ℕ, Bool, true, false, ◌||◌, [], refl, if◌then◌else◌, arith}
+use Rattle.std.proofs.Common.{◌≡◌, ℕ, Bool, false, refl, if◌then◌else◌, arith}
 use Rattle.exec_words.specs.Word.{is_idle_at}
 use Rattle.exec_words.specs.declared.word.PureWord.{PureWord}
 use Rattle.exec_machine.specs.{declared.{config.Configuration.Configuration, event.Event.{TheVariants.{Sleep, Turn}}}, Deadlines.next_due, World.{Common, Own as Books, seat_of}}
-use Rattle.exec_moves.specs.{declared.{idling.{AfterWait.AfterWait, InLook.InLook, InRingWait.InRingWait, InScan.InScan, InSearch.InSearch, InWordWait.InWordWait, Stay.Stay}, place.{Found.Found, InLoads.InLoads, Round.Round}}, Callback.{is_of_pool}, Load.{has_come, has_submissions, is_ready, test_for_work}, Look.{withdraw}, Move.{move_loads, move_look, move_ring_wait, move_scan, move_search, move_word_wait}, State.{Desk, Own, Things, does, turns, word_of}, Thing.{aside, ring_of, with_idle, with_ring, with_word}, Wait.{after_sleep, after_wait, disarmed, enter_full_ring, enter_ring, goes_back, has_completion, noting_sleep, read_clock, withdraws}}
+use Rattle.exec_moves.specs.{declared.{idling.{AfterWait.AfterWait, InLook.InLook, InRingWait.InRingWait, InScan.InScan, InSearch.InSearch, InWordWait.InWordWait, Stay.Stay}, place.{Found.Found, InLoads.InLoads, Round.Round}}, Callback.{is_of_pool}, Load.{has_come, test_for_work}, Look.{withdraw}, Move.{move_loads, move_look, move_ring_wait, move_scan, move_search, move_word_wait}, State.{Desk, Things, does, turns, word_of}, Thing.{aside, ring_of, with_idle, with_ring, with_word}, Wait.{after_sleep, after_wait, disarmed, enter_full_ring, enter_ring, goes_back, has_completion, noting_sleep, read_clock, withdraws}}
 use Rattle.exec_moves.specs.declared.idling.AfterWait.TheVariants as next
 use Rattle.exec_moves.specs.declared.idling.InRingWait.TheVariants as ring
-use Rattle.exec_moves.specs.declared.idling.InSearch.TheVariants as searching
 use Rattle.exec_moves.specs.declared.idling.InWordWait.TheVariants as word
-use Rattle.exec_moves.specs.declared.idling.Stay.TheVariants as stay
 use Rattle.exec_moves.specs.declared.place.Place.TheVariants as at
 use Rattle.exec_settled.specs.Given.{ends_in_search}
 use Rattle.exec_settled.specs.Permits.{is_past}
@@ -16,8 +14,7 @@ use Rattle.exec_settled.proofs.{HandsEarly.{IsEarly, early_if}, HandsPlain.{Plai
 
 -- on its ring it stays before or behind the gates, whichever step of the wait is next
 stays_on_ring : (f : ℕ) (y : Stay) → is_past f (at.RingWait ring.TestRing y) ≡ false → is_past f (at.RingWait ring.ArmRing y) ≡ false
-stays_on_ring f stay.Turn h = h
-stays_on_ring f stay.Closing h = h
+stays_on_ring = grind arith
 
 module _ (c : Configuration) (i : ℕ) (me : Books) (s : Common) (d : Desk) (x : Things) where
   -- THE LOADS
@@ -26,17 +23,14 @@ module _ (c : Configuration) (i : ℕ) (me : Books) (s : Common) (d : Desk) (x :
 
   -- THE TESTS, THE CLOCK: from here on it has passed all gates
   pub tests : (found : Found) → Plain i (at.TestForWork found) x (aside x (test_for_work c i me s found d))
-  tests found =
-      plain_if i _ x (λ (u : Own). x) (is_ready me found d || has_submissions c me) _ _ (plain_late i _ x _ refl (λ j h. h) (λ f. refl) refl) (plain_late i _ x _ refl (λ j h. h) (λ f. refl) refl)
+  tests = grind (arith, plain_if, plain_late)
 
   pub reads : Plain i at.ReadClock x (aside x (read_clock c i me s d))
-  reads =
-      plain_if i _ x (λ (u : Own). x) (has_come s.clock (next_due s i)) _ _ (plain_late i _ x _ refl (λ j h. h) (λ f. refl) refl) (plain_late i _ x _ refl (λ j h. h) (λ f. refl) refl)
+  reads = grind (arith, plain_if, plain_late)
 
   -- THE SEARCH, THE SCAN
   pub searches : (p : InSearch) → Plain i (at.Search p) x (move_search c d x p)
-  searches searching.LoadSearchCount = plain_late i _ x _ refl (λ j h. h) (λ f. refl) refl
-  searches searching.AddSearchCount = plain_late i _ x _ refl (λ j h. h) (λ f. refl) refl
+  searches = grind (arith, plain_late)
 
   pub scans : (p : InScan) → Plain i (at.Scan p) x (move_scan c i me s d x p)
   scans = grind arith
@@ -59,12 +53,10 @@ module _ (c : Configuration) (i : ℕ) (me : Books) (s : Common) (d : Desk) (x :
 
   -- ON THE RING
   enters_full : (y : Stay) (busy : Bool) → Plain i (at.RingWait ring.EnterFullRing y) x (with_ring i x (enter_full_ring y me d (record (ring_of s x i) { busy = busy })))
-  enters_full y true = plain i _ x _ refl (λ j h. h) (λ f. stays_on_ring f y) refl
-  enters_full y false = plain i _ x _ refl (λ j h. h) (λ f. stays_on_ring f y) refl
+  enters_full = grind (arith, plain, stays_on_ring)
 
   enters : (y : Stay) (busy : Bool) → Plain i (at.RingWait ring.EnterRing y) x (with_ring i x (enter_ring y me d (record (ring_of s x i) { busy = busy })))
-  enters y true = plain i _ x _ refl (λ j h. h) (λ f. stays_on_ring f y) refl
-  enters y false = plain i _ x _ refl (λ j h. h) (λ f. stays_on_ring f y) refl
+  enters = grind (arith, plain, stays_on_ring)
 
   rests : (y : Stay) (there come : Bool)
       → (let left = record d { place = at.RingWait (ring.DisarmRing next.Begin) y } in

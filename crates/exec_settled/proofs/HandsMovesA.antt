@@ -1,39 +1,37 @@
 -- Plain moves: of the beginning of a turn, of the own run queue, of the handing on of what was queued, and of the mailbox.
-use Rattle.std.proofs.Common.{◌≡◌, ℕ, Bool, true, false, List, [], ◌∷◌, ◌-◌, ◌==◌, Option, refl, if◌then◌else◌, arith}
+use Rattle.std.proofs.Common.{◌≡◌, ℕ, Bool, true, false, List, ◌-◌, ◌==◌, Option, refl, if◌then◌else◌, arith}
 use Rattle.exec_words.specs.{declared.idle.WorkerSet.WorkerSet, Idle.lowest_of, Queue.{Queue, head_of, tail_of}}
 use Rattle.exec_machine.specs.{declared.{config.Configuration.Configuration, event.Event.{Event}, state.MailMessage.MailMessage}, World.{Common, Own as Books}}
-use Rattle.exec_moves.specs.{declared.{handing.{AfterClaim.AfterClaim, AfterKick.AfterKick, AfterLeave.AfterLeave, AfterPop.AfterPop, AfterPush.AfterPush, AfterSignal.AfterSignal, InGlobal.InGlobal, InKick.InKick, InPop.InPop, InPush.InPush, InSignal.InSignal}, place.{InMail.InMail, InPick.InPick}}, Claim.{after_claim, claim_worker, claimed_if, same_bools, set_of}, Kick.leave_search, Mail.{apply, take_mail}, Move.{move_global, move_kick, move_mail, move_pick, move_pop, move_push, move_signal}, Pick.{begin_turn, take_root_flag}, Pop.{load_pop_head, pops, same_head}, State.{Desk, Own, Things, queue_of}, Thing.{aside, set_queue, with_idle, with_inbox, with_queue}}
+use Rattle.exec_moves.specs.{declared.{handing.{AfterClaim.AfterClaim, AfterKick.AfterKick, AfterLeave.AfterLeave, AfterPop.AfterPop, AfterPush.AfterPush, AfterSignal.AfterSignal, InGlobal.InGlobal, InKick.InKick, InPop.InPop, InPush.InPush, InSignal.InSignal}, place.{InMail.InMail, InPick.InPick}}, Claim.{after_claim, claim_worker, claimed_if, same_bools, set_of}, Kick.leave_search, Mail.{apply, take_mail}, Move.{move_global, move_kick, move_mail, move_pick, move_pop, move_push, move_signal}, Pick.{begin_turn, take_root_flag}, Pop.{load_pop_head, pops, same_head}, State.{Desk, Things, queue_of}, Thing.{aside, set_queue, with_idle, with_inbox, with_queue}}
 use Rattle.exec_moves.specs.declared.handing.InPop.TheVariants as pop
 use Rattle.exec_moves.specs.declared.handing.InPush.TheVariants as push
 use Rattle.exec_moves.specs.declared.place.InMail.TheVariants as mail
 use Rattle.exec_moves.specs.declared.place.Place.TheVariants as at
 use Rattle.exec_settled.specs.Permits.{is_past}
-use Rattle.exec_settled.proofs.{HandsEarly.{early_after_empty_pop, early_after_fit, early_after_kick, early_after_pop, early_after_push, early_after_return, early_after_signal, early_after_store, early_first_pick, early_if, early_judge_pop, early_polls}, HandsEvents.is_mild, HandsPlain.{Plain, kept_word, plain, plain_if, plain_late}}
+use Rattle.exec_settled.proofs.{HandsEarly.{early_after_fit, early_after_kick, early_after_push, early_after_return, early_after_signal, early_after_store, early_if, early_light}, HandsEvents.is_mild, HandsPlain.{Plain, kept_word, plain, plain_if, plain_late}}
+use Rattle.exec_rest.proofs.Continuing.{light_polls, light_first_pick, light_after_pop, light_after_empty_pop, light_judge_pop}
 
 -- a signal rouses or not
 pub mild_if : (b : Bool) (e f : Event) → is_mild e ≡ true → is_mild f ≡ true → is_mild (if b then e else f) ≡ true
-mild_if true e f one other = one
-mild_if false e f one other = other
+mild_if = grind arith
 
 module _ (c : Configuration) (i : ℕ) (me : Books) (s : Common) (d : Desk) (x : Things) where
   -- THE BEGINNING OF A TURN
   pub begins : Plain i at.BeginTurn x (aside x (begin_turn i s d))
-  begins = plain i at.BeginTurn x _ refl (λ j h. h) (λ f h. early_first_pick f s i) refl
+  begins = plain i at.BeginTurn x _ refl (λ j h. h) (λ f h. early_light f _ (light_first_pick s i)) refl
 
   pub picks : (p : InPick) → Plain i (at.Pick p) x (move_pick c i d x p)
   picks = grind arith
 
   pub takes_flag : Plain i at.TakeRootFlag x (aside x (take_root_flag me.root d))
-  takes_flag =
-      plain_if i _ x (λ (u : Own). x) d.root_ready _ _ (plain i _ x _ refl (λ j h. h) (λ f h. early_polls f me.root (record d { root_ready = false })) refl) (plain i _ x _ refl (λ j h. h) (λ f h. refl) refl)
+  takes_flag = grind (arith, plain_if, plain, early_light, light_polls)
 
   -- POPS AND PUSHES
   popped : (p : InPop) (b : AfterPop) (q : Queue ℕ) (vs : List ℕ) → q.values ≡ vs → Plain i (at.Pop p b) x (with_queue i x (pops c i b d q))
-  popped p b q [] is = rw is (plain i _ x _ refl (λ j h. h) (λ f h. early_after_empty_pop f c i b) refl)
-  popped p b q (t ∷ ts) is = rw is (plain i _ x _ refl (λ j h. h) (λ f h. early_after_pop f c b t d) refl)
+  popped = grind (arith, plain, early_light, light_after_empty_pop, light_after_pop)
 
   pop_loaded : (p : InPop) (b : AfterPop) (q : Queue ℕ) → Plain i (at.Pop p b) x (with_queue i x (load_pop_head c i b d q))
-  pop_loaded p b q = plain i _ x _ refl (λ j h. h) (λ f h. early_judge_pop f c i b (head_of q) (tail_of q - q.real)) refl
+  pop_loaded p b q = plain i _ x _ refl (λ j h. h) (λ f h. early_light f _ (light_judge_pop c i b (head_of q) (tail_of q - q.real))) refl
 
   pub pops_one : (p : InPop) (b : AfterPop) → Plain i (at.Pop p b) x (move_pop c i d x p b)
   pops_one pop.PopAlone b = popped _ b (queue_of x i) _ refl
@@ -69,12 +67,10 @@ module _ (c : Configuration) (i : ℕ) (me : Books) (s : Common) (d : Desk) (x :
 
   -- THE MAILBOX: it has passed all gates
   mail_taken : (ms : List MailMessage) → Plain i (at.Mail mail.TakeMail) x (with_inbox i x (take_mail d ms))
-  mail_taken [] = plain_late i _ x _ refl (λ j h. h) (λ f. refl) refl
-  mail_taken (m ∷ ms) = plain_late i _ x _ refl (λ j h. h) (λ f. refl) refl
+  mail_taken = grind (arith, plain_late)
 
   applied_by : (applied : ℕ) (taken : Bool) (ms : List MailMessage) → d.batch ≡ ms → Plain i (at.Mail (mail.Apply applied taken)) x (aside x (apply applied me.root s d))
-  applied_by applied taken [] is = rw is (plain_late i _ x _ refl (λ j h. h) (λ f. refl) refl)
-  applied_by applied taken (m ∷ ms) is = rw is (plain_late i _ x _ refl (λ j h. h) (λ f. refl) refl)
+  applied_by = grind (arith, plain_late)
 
   pub mails : (p : InMail) → Plain i (at.Mail p) x (move_mail i me s d x p)
   mails = grind (arith, plain_if, plain_late, kept_word, mail_taken, applied_by)

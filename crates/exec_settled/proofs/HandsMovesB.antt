@@ -1,8 +1,8 @@
 -- Plain moves: those by which a message is sent, of a closing, and of the callbacks.
-use Rattle.std.proofs.Common.{◌≡◌, ℕ, true, false, List, [], ◌+◌, ◌-◌, Option, Some, None, refl, length, arith}
+use Rattle.std.proofs.Common.{◌≡◌, ℕ, true, false, List, [], ◌+◌, ◌-◌, Option, Some, refl, length, arith}
 use Rattle.std.specs.Prelude.{drop, slice_get, slice_index_or}
 use Rattle.exec_task.specs.declared.drain.Drain.{Drain}
-use Rattle.exec_machine.specs.{declared.{config.Configuration.Configuration, state.MailMessage.{MailMessage, TheVariants.Root}}, Choice.{Choice, Choice.{Plain as Open, Posts}}, Ranges.ring_size, Tests.{is_done}, World.{Common, Task, request_of, sleeper_of, task_of, Own as Books}}
+use Rattle.exec_machine.specs.{declared.{config.Configuration.Configuration, state.MailMessage.{MailMessage, TheVariants.Root}}, Choice.{Choice, Choice.{Plain as Open, Posts}}, Ranges.ring_size, World.{Common, Task, request_of, sleeper_of, task_of, Own as Books}}
 use Rattle.exec_moves.specs.{declared.{handing.{AfterCallbacks.AfterCallbacks, AfterCancels.AfterCancels, AfterSend.AfterSend, Heard.Heard}, place.{InCallbacks.InCallbacks, InClosing.InClosing, Place.Place}}, Callback.{Item, Item.{Answers, Completes, LetsGo, Nothing, Releases, Wakes}, tells_waiter, woken_by}, Close.{close_sleeper, first_asleep, first_held, orphan, told_of_clear, visit}, Move.{move_callbacks, move_closing, move_item}, Pop.shard_count, Send.{Mailbox, first_letter, is_left_out, payer_of_send, posted, posting_of, send_cancel, send_root, sent}, State.{Desk, Things}, Thing.{aside, mailbox_of, with_mailbox, with_shard}}
 use Rattle.exec_moves.specs.declared.handing.AfterCancels.TheVariants as cancels
 use Rattle.exec_moves.specs.declared.handing.AfterSend.TheVariants as send
@@ -11,7 +11,8 @@ use Rattle.exec_moves.specs.declared.place.InCallbacks.TheVariants as callback
 use Rattle.exec_moves.specs.declared.place.InClosing.TheVariants as closing
 use Rattle.exec_moves.specs.declared.place.Place.TheVariants as at
 use Rattle.exec_settled.specs.Permits.{is_past_callbacks}
-use Rattle.exec_settled.proofs.{HandsEarly.{IsEarly, early_after_close, early_after_letting_go, early_after_posting, early_cancels_left, early_desk_if, early_if, early_next_callback, early_tells_from, early_to_queue}, HandsPlain.{Plain, kept_word, plain}}
+use Rattle.exec_settled.proofs.{HandsEarly.{IsEarly, early_desk_if, early_if, early_next_callback, early_to_queue, early_light}, HandsPlain.{Plain, kept_word, plain}}
+use Rattle.exec_rest.proofs.Continuing.{light_tells_from, light_cancels_left, light_after_posting, light_after_close, light_after_letting_go}
 
 -- A MESSAGE: of the wake word the batch alone changes
 posted_latch : (message : MailMessage) (m : Mailbox) → m.word.latch ≡ true → (posted message m).word.latch ≡ true
@@ -21,7 +22,7 @@ module _ (c : Configuration) (i : ℕ) (s : Common) (p : Place) (x : Things) whe
   -- to worker j
   pub posts : (j : ℕ) (message : MailMessage) (choice : Choice) (b : AfterSend) (d : Desk)
       → Plain i p x (with_mailbox j x (sent c j b d (posting_of s j message choice (mailbox_of x j))))
-  posts = grind (arith, plain, kept_word, early_after_posting, posted_latch)
+  posts = grind (arith, early_light, plain, kept_word, light_after_posting, posted_latch)
 
   pub posts_root : (j : ℕ) (b : AfterSend) (d : Desk) → Plain i p x (with_mailbox j x (send_root c s j b d (mailbox_of x j)))
   posts_root j b d = posts j Root (Posts (payer_of_send b) (is_left_out (mailbox_of x j))) b d
@@ -32,27 +33,24 @@ module _ (c : Configuration) (i : ℕ) (me : Books) (s : Common) (d : Desk) (x :
 
   -- A CLOSING
   visits : (drain : Drain) (shard : List ℕ) (newest : Option ℕ) → slice_get shard (length shard - 1) ≡ newest → Plain i (at.Closing (closing.Visit drain)) x (with_shard drain.at x (visit (shard_count c) drain d shard))
-  visits drain shard None is = rw is (plain i _ x _ refl (λ j h. h) (λ f h. refl) refl)
-  visits drain shard (Some t) is = rw is (plain i _ x _ refl (λ j h. h) (λ f h. refl) refl)
+  visits = grind (arith, plain)
 
   orphans : (held : Option ℕ) → first_held s d ≡ held → Plain i (at.Closing closing.Orphan) x (aside x (orphan i s d))
-  orphans None is = rw is (plain i _ x _ refl (λ j h. h) (λ f h. early_after_letting_go f None _) refl)
-  orphans (Some r) is = rw is (plain i _ x _ refl (λ j h. h) (λ f h. early_after_letting_go f _ _) refl)
+  orphans = grind (arith, plain, early_light, light_after_letting_go)
 
   closes_sleeper : (asleep : Option ℕ) → first_asleep i s d ≡ asleep → Plain i (at.Closing closing.CloseSleeper) x (aside x (close_sleeper i s d))
-  closes_sleeper None is = rw is (plain i _ x _ refl (λ j h. h) (λ f h. refl) refl)
-  closes_sleeper (Some z) is = rw is (plain i _ x _ refl (λ j h. h) (λ f h. early_after_letting_go f None _) refl)
+  closes_sleeper = grind (arith, plain, early_light, light_after_letting_go)
 
   pub closes : (p : InClosing) → Plain i (at.Closing p) x (move_closing c i s d x p)
-  closes closing.Close = plain i _ x _ refl (λ j h. h) (λ f h. early_after_close f c i s) refl
+  closes closing.Close = plain i _ x _ refl (λ j h. h) (λ f h. early_light f _ (light_after_close c i s)) refl
   closes closing.CloseQueue = plain i _ x _ refl (λ j h. h) (λ f h. refl) refl
   closes closing.OpenBarrier = plain i _ x _ refl (λ j h. h) (λ f h. refl) refl
-  closes closing.Stop = plain i _ x _ refl (λ j h. h) (λ f h. early_tells_from f c 1) refl
+  closes closing.Stop = plain i _ x _ refl (λ j h. h) (λ f h. early_light f _ (light_tells_from c 1)) refl
   closes (closing.TellRoot j) = posts_root c i s (at.Closing (closing.TellRoot j)) x j (send.Tell (j + 1)) d
   closes (closing.Visit drain) = visits drain (slice_index_or x.shards drain.at []) _ refl
-  closes (closing.Clear t drain) = plain i _ x _ refl (λ j h. h) (λ f h. early_cancels_left f (cancels.Visit drain) (told_of_clear i s d (task_of s t)) _) refl
+  closes (closing.Clear t drain) = plain i _ x _ refl (λ j h. h) (λ f h. early_light f _ (light_cancels_left (cancels.Visit drain) (told_of_clear i s d (task_of s t)) _)) refl
   closes closing.LeaveBarrier = plain i _ x _ refl (λ j h. h) (λ f h. refl) refl
-  closes closing.CloseMailbox = plain i _ x _ refl (λ j h. h) (λ f h. early_after_letting_go f _ _) refl
+  closes closing.CloseMailbox = plain i _ x _ refl (λ j h. h) (λ f h. early_light f _ (light_after_letting_go _ _)) refl
   closes closing.Orphan = orphans _ refl
   closes closing.CloseSleeper = closes_sleeper _ refl
   closes closing.End = plain i _ x _ refl (λ j h. h) (λ f h. refl) refl
@@ -62,8 +60,7 @@ module _ (c : Configuration) (i : ℕ) (me : Books) (s : Common) (d : Desk) (x :
   early_woken = grind (arith, early_desk_if, early_to_queue, early_next_callback)
 
   early_told : (f : ℕ) (n : AfterCallbacks) → is_past_callbacks n ≡ false → (waiter : Option ℕ) (of : Heard) (e : Desk) → IsEarly f (tells_waiter (ring_size c) i me s n waiter of e).place
-  early_told f n past None of e = early_next_callback f (ring_size c) i me s n e past
-  early_told f n past (Some t) of e = early_desk_if f (is_done (task_of s t).phase) _ _ (early_next_callback f (ring_size c) i me s n e past) past
+  early_told = grind (arith, early_next_callback, early_desk_if)
 
   called_item : (n : AfterCallbacks) (it : Item) → Plain i (at.Callbacks callback.CallBack n) x (move_item c i me s d x n it)
   called_item n (Wakes t) = plain i _ x _ refl (λ j h. h) (λ f h. early_woken f n h t (record d { wakes = drop 1 d.wakes }) (task_of s t) _ refl) refl

@@ -67,8 +67,7 @@ module _ (i : ℕ) (p : Place) (x : Things) where
   plain_late m gates kept all mild = plain m gates kept (λ file h. absurd (true≢false (sym (all file) ∙ h))) mild
 
   pub plain_if : {T : Type 0} (put : T → Things) (b : Bool) (m n : Moved T) → Plain i p x (puts put m) → Plain i p x (puts put n) → Plain i p x (puts put (if b then m else n))
-  plain_if put true m n one other = one
-  plain_if put false m n one other = other
+  plain_if = grind arith
 
 module _ (c : Configuration) (i : ℕ) (me : Books) (s : Common) (d : Desk) (x : Things) where
   abbrev pub HandsBy : Desk → Moved Things → Type 0

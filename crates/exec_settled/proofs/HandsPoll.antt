@@ -1,22 +1,20 @@
 -- Moves of a poll: a request joins a gate, and all else is plain.
-use Rattle.std.proofs.Common.{◌≡◌, ℕ, Bool, true, false, ◌==◌, [], Option, Some, None, refl, ◌∙◌, if◌then◌else◌, length, arith}
+use Rattle.std.proofs.Common.{◌≡◌, ℕ, Bool, true, false, ◌==◌, Option, Some, None, refl, ◌∙◌, if◌then◌else◌, length, arith}
 use Rattle.std.proofs.lemmas.Bool.{true≢false, cases_Bool, eqb-true, eq-eqb}
 use Rattle.std.proofs.lemmas.{Grind.get_or-set_at, List.get_or-set_other}
 use Rattle.exec_words.specs.Queue.{tail_of}
-use Rattle.exec_outcomes.specs.Accounts.{is_durable}
 use Rattle.exec_machine.specs.{declared.{config.{Configuration.Configuration, ScriptWord.ScriptWord}, event.Event.{TheVariants.{Closed, Dedicated}}, state.{Operation.Operation, RequestPhase.RequestPhase, Waiting.Waiting}}, Choice.Choice.Plain as Open, Requests.operation_asked, Tests.{is_idle}, World.{Common, Task, request_of, sleeper_of, task_of, Own as Books}, Words.{next_word}}
 use Rattle.exec_machine.specs.declared.config.ScriptWord.TheVariants as script
 use Rattle.exec_machine.specs.declared.state.RequestPhase.TheVariants as phase
 use Rattle.exec_machine.specs.declared.state.Waiting.TheVariants as waiting
-use Rattle.exec_moves.specs.{declared.{handing.AfterSend.AfterSend, place.{InPoll.InPoll, Place.Place}}, Move.{move_act, move_look_at, move_poll, move_wake}, Poll.{Sight, Sight.{Asks, HearsRequest, HearsTimer, Here}, act, act_asked, act_by, after_pend, heard_by, pend, requeued_if, resume, sight_of, sight_of_act}, Send.{next_task, with_newcomer}, State.{Desk, Moved, Things, does, goes, queue_of}, Told.{has_number, lets_go_all}, Thing.{aside, set_alarms, with_answers}}
-use Rattle.exec_moves.specs.declared.handing.AfterCancels.TheVariants as cancels
+use Rattle.exec_moves.specs.{declared.{handing.AfterSend.AfterSend, place.{InPoll.InPoll, Place.Place}}, Move.{move_act, move_look_at, move_poll, move_wake}, Poll.{Sight, Sight.{Asks, HearsRequest, HearsTimer, Here}, act, act_asked, act_by, after_pend, heard_by, pend, requeued_if, resume, sight_of, sight_of_act}, Send.{next_task, with_newcomer}, State.{Desk, Moved, Things, does, goes, queue_of}, Told.{has_number}, Thing.{aside, set_alarms, with_answers}}
 use Rattle.exec_moves.specs.declared.handing.AfterPush.TheVariants as push
 use Rattle.exec_moves.specs.declared.handing.AfterSend.TheVariants as send
 use Rattle.exec_moves.specs.declared.place.InPoll.TheVariants as poll
 use Rattle.exec_moves.specs.declared.place.Place.TheVariants as at
-use Rattle.exec_rest.proofs.Asides.{newcomer}
+use Rattle.exec_rest.proofs.{Continuing.{light_next_pick, light_cancels_left}, Asides.{newcomer}}
 use Rattle.exec_settled.specs.Permits.{is_past}
-use Rattle.exec_settled.proofs.{HandsEarly.{IsEarly, early_after_spawn, early_cancels_left, early_desk_if, early_if, early_next_pick, early_to_queue}, HandsMovesA.mild_if, HandsMovesB.{posts, posts_root}, HandsPlain.{HandsBy, Plain, mild_over, plain, plain_hands, plain_if, some_none}}
+use Rattle.exec_settled.proofs.{HandsEarly.{IsEarly, early_after_spawn, early_desk_if, early_if, early_to_queue, early_light}, HandsMovesA.mild_if, HandsMovesB.{posts, posts_root}, HandsPlain.{HandsBy, Plain, mild_over, plain, plain_hands, plain_if, some_none}}
 
 module _ (c : Configuration) (i : ℕ) (me : Books) (s : Common) (d : Desk) (x : Things) (t : ℕ) (from : InPoll) (here : (f : ℕ) → is_past f d.place ≡ false) where
   abbrev p : Place
@@ -24,12 +22,10 @@ module _ (c : Configuration) (i : ℕ) (me : Books) (s : Common) (d : Desk) (x :
 
   -- THE END OF A POLL
   early_requeued : (f : ℕ) (b : Bool) (e : Desk) → IsEarly f (requeued_if b t e).place
-  early_requeued f true e = refl
-  early_requeued f false e = early_next_pick f e
+  early_requeued = grind (arith, early_light, light_next_pick)
 
   early_pend : (f : ℕ) (it : Task) (home : Option ℕ) → IsEarly f (after_pend i t s d it home).place
-  early_pend f it None = early_desk_if f it.cleared _ _ (early_cancels_left f cancels.Pick (lets_go_all i s it d) _) (early_requeued f _ d)
-  early_pend f it (Some home) = refl
+  early_pend = grind (arith, early_desk_if, early_light, light_cancels_left, early_requeued)
 
   pends : (it : Task) → Plain i p x (aside x (pend i t s d it))
   pends it = plain i p x _ refl (λ j h. h) (λ f h. early_pend f it it.home) refl
@@ -64,8 +60,7 @@ module _ (c : Configuration) (i : ℕ) (me : Books) (s : Common) (d : Desk) (x :
   acts_by = grind arith
 
   acts_asked : (it : Task) (w : ScriptWord) (asked : Option Operation) → Plain i p x (aside x (act_asked i t me s d it w asked))
-  acts_asked it w None = acts_by it w
-  acts_asked it w (Some o) = plain i p x _ refl (λ j h. h) (λ f h. early_desk_if f (is_durable o.kind) _ _ refl refl) refl
+  acts_asked = grind (arith, acts_by, plain, early_desk_if)
 
   acts : (it : Task) → Plain i p x (aside x (act c i t me s d it))
   acts it = acts_asked it (next_word s it) (operation_asked c me.sampled (next_word s it))
@@ -105,4 +100,4 @@ module _ (c : Configuration) (i : ℕ) (me : Books) (s : Common) (d : Desk) (x :
       by poll.LoadSpawnHead is here =
           plain_hands c i me s d x (at.Poll t poll.LoadSpawnHead) _ is refl refl (plain i _ x _ refl (λ j h. h) (λ f h. early_if f (tail_of (queue_of x i) == (queue_of x i).real) _ _ refl refl) refl)
       by poll.Pend is here = plain_hands c i me s d x (at.Poll t poll.Pend) _ is refl refl (pends c i me s d x t poll.Pend here (task_of s t))
-      by poll.RemoveTask is here = plain_hands c i me s d x (at.Poll t poll.RemoveTask) _ is refl refl (plain i _ x _ refl (λ j h. h) (λ f h. early_next_pick f d) refl)
+      by poll.RemoveTask is here = plain_hands c i me s d x (at.Poll t poll.RemoveTask) _ is refl refl (plain i _ x _ refl (λ j h. h) (λ f h. early_light f _ (light_next_pick d)) refl)

@@ -4,7 +4,7 @@ use Rattle.std.proofs.lemmas.Bool.{true≢false, false≢true, cases_Bool, eqb-t
 use Rattle.std.proofs.lemmas.{Grind.get_or-set_at, List.{get_or-set_other, get_or-set_same}}
 use Rattle.std.specs.Prelude.{nat_lt, slice_get}
 use Rattle.exec_outcomes.specs.{declared.outcome.{OpResult.OpResult, Outcome.Outcome}, Accounts.{Account, is_durable}}
-use Rattle.exec_machine.specs.{declared.{config.Configuration.Configuration, event.Event.{Event, TheVariants.{Rouse, Serve}}, state.{Request.Request, Sleeper.Sleeper}}, After.common_after, Requests.{granted, outcome_shown, reaped}, Tests.{is_awake, is_gated, is_of_file, is_resolved}, World.{Common, Own as Books, no_request, request_of, seat_of, sleeper_of}}
+use Rattle.exec_machine.specs.{declared.{config.Configuration.Configuration, event.Event.{Event, TheVariants.{Serve}}, state.{Request.Request, Sleeper.Sleeper}}, After.common_after, Requests.{granted, outcome_shown, reaped}, Tests.{is_gated, is_of_file, is_resolved}, World.{Common, Own as Books, no_request, request_of}}
 use Rattle.exec_moves.specs.{declared.place.{AfterPermit.AfterPermit, InService.InService, Place.Place, Reaping.Reaping, Service.Service}, Move.move_service, Serve.{after_passing, after_permit, after_reap, after_service, back_from_reap, end_service, enter_last, first_to_fire, reap}, State.{Desk, Moved, Things, gate_of, word_of}, Thing.{aside, ring_of, with_ring}, Told.{told_of_fire}}
 use Rattle.exec_moves.specs.{Submit.{Due, Due.{AtGate, Enrols, Expires}, after_grant, first_due, granted_at, next_gate, submits}, Move.move_submit, Thing.set_gate, State.does}
 use Rattle.exec_machine.specs.{declared.event.Event.TheVariants.Grant, Choice.Choice.Plain as Open, Deadlines.{enrolled, expired, fires_at, outcome_at_enrol, outcome_at_expiry}}
@@ -13,7 +13,6 @@ use Rattle.exec_moves.specs.declared.place.AfterPermit.TheVariants as permit
 use Rattle.exec_moves.specs.declared.place.AfterService.TheVariants as back
 use Rattle.exec_moves.specs.declared.place.InService.TheVariants as step
 use Rattle.exec_moves.specs.declared.place.Place.TheVariants as at
-use Rattle.exec_moves.specs.declared.place.Reaping.TheVariants as reaping
 use Rattle.exec_settled.specs.{Given.passes_at, Permits.{is_past, is_past_in, is_past_permit, is_past_reaping}}
 use Rattle.exec_settled.proofs.{HandsEvents.{durable_of_file, is_mild}, HandsGate.{first_is_due, gated_there, granted_first, granted_is_first, opened, over_one, some_gate, stays_early, this_gate, undue}, HandsMovesA.mild_if, HandsPlain.{HandsBy, Kept, Plain, kept_out, mild_over, plain, plain_hands, same_gates, some_none}}
 
@@ -30,26 +29,21 @@ pub past_permit : (file : ℕ) (b : AfterPermit) → is_past_permit file b ≡ f
 past_permit = grind arith
 
 past_back : (file : ℕ) (r : Reaping) (later : List ℕ) → is_past_reaping r ≡ false → is_past_permit file (back_from_reap r later) ≡ false
-past_back file r [] h = h
-past_back file r (q ∷ later) h = h
+past_back = grind arith
 
 pub past_in_if : (file : ℕ) (b : Bool) (p q : InService) → is_past_in file p ≡ false → is_past_in file q ≡ false → is_past_in file (if b then p else q) ≡ false
-past_in_if file true p q one other = one
-past_in_if file false p q one other = other
+past_in_if = grind arith
 
 past_after_reap : (file : ℕ) (it : Request) (given : Option Outcome) (b : AfterPermit) → is_past_permit file b ≡ false → is_past_in file (after_reap it given b) ≡ false
-past_after_reap file it None b h = past_permit file b h
-past_after_reap file it (Some outcome) b h = past_in_if file (is_durable it.operation.kind) _ _ h (past_permit file b h)
+past_after_reap = grind (arith, past_permit, past_in_if)
 
 past_passing : (file : ℕ) (worker : Option ℕ) (b : AfterPermit) → is_past_permit file b ≡ false → is_past_in file (after_passing worker b) ≡ false
-past_passing file None b h = past_permit file b h
-past_passing file (Some worker) b h = h
+past_passing = grind (arith, past_permit)
 
 -- a durable request that was reaped to its end passes its permit on
 passes_reaped : (v : Service) (n : OpResult) (account : Account) (it : Request) (given : Option Outcome) (b : AfterPermit) → is_durable it.operation.kind ≡ true
     → is_resolved (reaped n (outcome_shown account it.operation.kind given) it).phase ≡ true → passes_at (at.Service (after_reap it given b) v) ≡ Some it.operation.target
-passes_reaped v n account it None b durable over = absurd (false≢true over)
-passes_reaped v n account it (Some outcome) b durable over = rw durable refl
+passes_reaped = grind (arith, false≢true)
 
 pub fired_place : (z : ℕ) (it : Sleeper) (e : Desk) → (told_of_fire z it e).place ≡ e.place
 fired_place = grind arith
@@ -79,20 +73,17 @@ module _ (c : Configuration) (i : ℕ) (me : Books) (s : Common) (d : Desk) (x :
   passes_on = grind (arith, cases_Bool, eqb-true, get_or-set_other, true≢false, eq-eqb, some_none, stays_early, past_passing, mild_over, get_or-set_same)
 
   pub raises_one : (ring : Bool) (j : ℕ) (b : AfterPermit) → Plain i (inside (step.Raise ring j b)) x (move_service c i me s (on (step.Raise ring j b)) x (step.Raise ring j b) v)
-  raises_one ring j b =
-      plain i _ x _ refl (λ k h. h) (λ file h. stays_early file v (step.Raise ring j b) (after_permit b) (past_permit file b) h) (mild_if (is_awake (seat_of s j).rest) Serve (Rouse j) refl refl)
+  raises_one = grind (arith, plain, stays_early, past_permit, mild_if)
 
   pub enters : (busy : Bool) → Plain i (inside step.EnterLast) x (with_ring i x (enter_last v me (on step.EnterLast) (record (ring_of s x i) { busy = busy })))
-  enters true = plain i _ x _ refl (λ j h. h) (λ file h. stays_early file v step.EnterLast (step.Reap reaping.Last) (λ h. h) h) refl
-  enters false = plain i _ x _ refl (λ j h. h) (λ file h. stays_early file v step.EnterLast (step.Reap reaping.Last) (λ h. h) h) refl
+  enters = grind (arith, plain, stays_early)
 
   -- after the service of a turn it goes on to its mailbox
   ended : (file : ℕ) (e : Desk) → is_past file (inside step.EndService) ≡ false → is_past file (after_service v.back e) ≡ false
   ended = grind arith
 
   pub ends : (o : Option ℕ) → first_to_fire i me s (on step.EndService) ≡ o → Plain i (inside step.EndService) x (aside x (end_service i v me s (on step.EndService)))
-  ends None none = rw none (plain i _ x _ refl (λ j h. h) (λ file h. ended file (on step.EndService) h) refl)
-  ends (Some z) some = rw some (plain i _ x _ refl (λ j h. h) (λ file h. rw (fired_place z (sleeper_of s z) (on step.EndService)) h) refl)
+  ends = grind (arith, plain, ended, fired_place)
 
   -- THE MIDDLE
   module _ (gate : ℕ) where

@@ -61,8 +61,7 @@ call_gates : (s : Common) (d : CallDesk) (x : Things) (p : CallPlace) → (call_
 call_gates = grind arith
 
 wake_gates : (s : Common) (d : CallDesk) (x : Things) (t : ℕ) (home : Option ℕ) → (call_wake s d x t home).thing.gates ≡ x.gates
-wake_gates s d x t None = refl
-wake_gates s d x t (Some home) = refl
+wake_gates = grind arith
 
 -- whoever calls
 wake_latches : (c : Configuration) (s : Common) (d : CallDesk) (x : Things) (t : ℕ) (home : Option ℕ) (j : ℕ) → (word_of x j).latch ≡ true → (word_of (call_wake s d x t home).thing j).latch ≡ true

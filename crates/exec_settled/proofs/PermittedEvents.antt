@@ -1,12 +1,12 @@
 -- What an event of a worker leaves of each request, seat and open, as far as permits go.
-use Rattle.std.proofs.Common.{◌≡◌, ℕ, zero, suc, ◌<◌, ◌==◌, Bool, true, false, List, [], ◌∷◌, length, map, Option, Some, None, refl, sym, ap, ◌∙◌, subst, inl, inr, get_or, set, if◌then◌else◌, arith}
+use Rattle.std.proofs.Common.{◌≡◌, ℕ, zero, suc, ◌<◌, ◌==◌, Bool, true, false, List, [], ◌∷◌, length, map, Option, Some, refl, sym, ap, ◌∙◌, subst, inl, inr, get_or, set, if◌then◌else◌, arith}
 use Rattle.std.proofs.lemmas.Bool.{cases_Bool, false≢true}
 use Rattle.std.proofs.lemmas.List.{get_or_append_left, length-set}
 use Rattle.exec_outcomes.specs.declared.outcome.Kind.TheVariants as kind
 use Rattle.exec_outcomes.specs.{declared.outcome.{OpResult.OpResult, Outcome.Outcome}, Outcomes.refuses_hint}
 use Rattle.std.specs.Prelude.{drop}
 use Rattle.exec_machine.specs.declared.{config.Configuration.Configuration, event.Event.Event, state.{MailMessage.MailMessage, Next.Next, Operation.Operation, Request.Request}}
-use Rattle.exec_machine.specs.{After.{common_after}, Choice.{Choice, Payer, Choice.{Plain, Passes, Pays, Posts}}, Closing.{after_clear, after_next, ends_by_clear, with_cleared}, Deadlines.{enrolled, expired}, Mail.{after_apply, after_message, after_post, after_sending}, Requests.{common_after_refusal, dropped, flown, granted, judged_of, opens_after_end, reaped}, Tasks.{after_over, after_payment, after_pend, after_word, pended_phase, requests_after_drops}, Tests.{is_gated, is_of_file, is_open, set_task}, World.{Common, Own as Books, Seat, no_request, no_seat, request_of, seat_of, task_of}}
+use Rattle.exec_machine.specs.{After.{common_after}, Choice.{Choice, Payer, Choice.{Plain, Passes, Pays, Posts}}, Closing.{after_clear, after_next, ends_by_clear, with_cleared}, Deadlines.{enrolled, expired}, Mail.{after_apply, after_message, after_post, after_sending}, Requests.{common_after_refusal, dropped, flown, granted, judged_of, opens_after_end, reaped}, Tasks.{after_over, after_payment, after_pend, after_word, pended_phase, requests_after_drops}, Tests.{is_gated, is_open, set_task}, World.{Common, Own as Books, Seat, no_request, no_seat, request_of, seat_of, task_of}}
 use Rattle.exec_machine.specs.declared.event.Event.TheVariants as event
 use Rattle.exec_machine.specs.declared.state.Next.TheVariants as next
 use Rattle.exec_machine.specs.declared.state.WorkerPhase.TheVariants as worker
@@ -37,20 +37,16 @@ dropped_left : (r : Request) → Left r (dropped r)
 dropped_left = grind arith
 
 granted_left : (outcome : Option Outcome) (r : Request) → Left r (granted outcome r)
-granted_left None r = ungated refl refl refl
-granted_left (Some outcome) r = ungated refl refl refl
+granted_left = grind (arith, ungated)
 
 enrolled_left : (moment : ℕ) (outcome : Option Outcome) (r : Request) → Left r (enrolled moment outcome r)
-enrolled_left moment None r = phased refl refl refl
-enrolled_left moment (Some outcome) r = ungated refl refl refl
+enrolled_left = grind (arith, phased, ungated)
 
 reaped_left : (n : OpResult) (outcome : Option Outcome) (r : Request) → Left r (reaped n outcome r)
-reaped_left n None r = ungated refl refl refl
-reaped_left n (Some outcome) r = ungated refl refl refl
+reaped_left = grind (arith, ungated)
 
 expired_left : (outcome : Option Outcome) (r : Request) → Left r (expired outcome r)
-expired_left None r = phased refl refl refl
-expired_left (Some outcome) r = ungated refl refl refl
+expired_left = grind (arith, phased, ungated)
 
 flown_left : (i : ℕ) (r : Request) → Left r (flown i r)
 flown_left = grind arith
@@ -127,15 +123,13 @@ seated : (s : Common) (i : ℕ) (y : Seat) → (is_open y.phase ≡ true → is_
 seated s i y new = one_seat s.seats i y new
 
 opens_end : (o : Operation) (outcome : Option Outcome) (s : Common) → length (opens_after_end o outcome s) ≡ length s.opens
-opens_end o None s = refl
-opens_end o (Some outcome) s = elim (cases_Bool (is_of_file o.kind)) [ inl file ↦ rw file (length-set s.opens o.target _) | inr other ↦ rw other refl ]
+opens_end = grind (arith, cases_Bool, length-set)
 
 refusal_opens : (s : Common) (r : Request) (n : OpResult) → length (common_after_refusal s r n).opens ≡ length s.opens
 refusal_opens s r n = elim (cases_Bool (refuses_hint (judged_of r n))) [ inl refused ↦ rw refused (length-set s.opens r.operation.target _) | inr other ↦ rw other refl ]
 
 word_stays : (s : Common) (polls : Option ℕ) → Stays s (after_word s polls)
-word_stays s None = same refl refl refl
-word_stays s (Some t) = same refl refl refl
+word_stays = grind (arith, same)
 
 next_stays : (s : Common) (i : ℕ) (n : Next) → Stays s (after_next s i n)
 next_stays = grind (arith, same, length-set, all_same, seated)
@@ -199,14 +193,10 @@ module _ (c : Configuration) (me : Books) (s : Common) (i : ℕ) where
   stays (event.Spawn t k) choice none = let it = word_stays s me.polls in record { requests = it.requests; seats = it.seats; opens = it.opens }
   stays event.Closed choice none = word_stays s me.polls
   stays (event.Clear t) choice none = clear_stays s i t
-  stays (event.Wait None) choice none = same refl refl refl
   stays (event.Wait (Some r)) choice none = requested (one s.requests r _ (phased refl refl refl)) refl refl
   stays (event.Got r outcome) choice none = requested (one s.requests r _ (phased refl refl refl)) refl refl
   stays (event.Drop r) choice none = requested (one s.requests r _ (dropped_left (request_of s r))) refl refl
-  stays (event.Wake t) Plain none = same refl refl refl
-  stays (event.Wake t) Passes none = same refl refl refl
   stays (event.Wake t) (Pays payer) none = let it = payment_stays s me.polls payer in record { requests = it.requests; seats = it.seats; opens = it.opens }
-  stays (event.Wake t) (Posts payer left_out) none = same refl refl refl
   stays (event.Grant r outcome) choice none = requested (one s.requests r _ (granted_left outcome (request_of s r))) refl (opens_end (request_of s r).operation outcome s)
   stays (event.Enrol r outcome) choice none = requested (one s.requests r _ (enrolled_left _ outcome (request_of s r))) refl refl
   stays (event.Stage r) choice none = requested (one s.requests r _ (ungated refl refl refl)) refl refl

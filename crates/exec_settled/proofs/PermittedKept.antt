@@ -1,6 +1,6 @@
 -- No step leaves a permit with who sleeps.
-use Rattle.std.proofs.Common.{◌≡◌, ℕ, ◌<◌, Bool, true, false, [], length, refl, sym, ap, ◌∙◌, subst, if◌then◌else◌, arith}
-use Rattle.std.proofs.lemmas.{Bool.{true≢false, false≢true, and_parts, cases_lt}, List.get_or_past}
+use Rattle.std.proofs.Common.{◌≡◌, ℕ, ◌<◌, Bool, true, false, length, refl, sym, ap, ◌∙◌, subst, if◌then◌else◌, arith}
+use Rattle.std.proofs.lemmas.{Bool.{true≢false, and_parts, cases_lt, not-true}, List.get_or_past}
 use Rattle.std.specs.Prelude.{not}
 use Rattle.exec_machine.specs.{declared.{config.Configuration.Configuration, step.Action.Action}, Callers.{is_enabled}, Examples.refuses, Progress.Plan, Run.Follows, World.{Common, Own as Books, own_of}}
 use Rattle.exec_machine.specs.declared.step.Action.TheVariants as action
@@ -19,14 +19,10 @@ first_permitted = grind arith
 joined_calm : (c : Configuration) (i : ℕ) (me : Books) (s : Common) (d : Desk) (x : Things) (t r file : ℕ) → d.place ≡ Place.Poll t (InPoll.JoinGate r) → is_past file (move c i me s d x).desk.place ≡ false
 joined_calm c i me s d x t r file is = ap (λ p. is_past file (move_at c i me s d x p).desk.place) is
 
-not_true : (b : Bool) → not b ≡ true → b ≡ false
-not_true true h = absurd (false≢true h)
-not_true false h = refl
-
 module _ (c : Configuration) (x : Playing) (placed : IsPlaced c x) (given : IsGiven c x) (booked : IsBooked x.world) (before : IsPermitted c x) where
   -- who works is there
   works : (i : ℕ) → is_enabled x.world.common (action.Work i) ≡ true → i < length x.world.common.seats
-  works = grind (arith, cases_lt, and_parts, not_true, true≢false, get_or_past)
+  works = grind (arith, cases_lt, and_parts, not-true, true≢false, get_or_past)
 
   by_work : (i : ℕ) → is_enabled x.world.common (action.Work i) ≡ true → IsGiven c (by_action c x (action.Work i)).next → IsPermitted c (by_action c x (action.Work i)).next
   by_work i may later =
@@ -54,8 +50,7 @@ module _ (c : Configuration) (x : Playing) (placed : IsPlaced c x) (given : IsGi
 
   -- a step that is not enabled changes nothing
   pub goes_on : (a : Action) (b : Bool) → is_enabled x.world.common a ≡ b → IsGiven c (if b then by_action c x a else (record { told = refuses a; next = x })).next → IsPermitted c (if b then by_action c x a else (record { told = refuses a; next = x })).next
-  goes_on a true may later = by_any a may later
-  goes_on a false off later = before
+  goes_on = grind (arith, by_any)
 
 pub permitted_then : (c : Configuration) (x : Playing) → IsPlaced c x → IsGiven c x → IsBooked x.world → (a : Action) → let it = (by_step c x a).told in
     Follows c x.world a it.0.said it.1 → IsGiven c (by_step c x a).next → IsPermitted c x → IsPermitted c (by_step c x a).next

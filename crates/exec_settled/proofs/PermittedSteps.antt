@@ -3,32 +3,27 @@ use Rattle.std.proofs.Common.{◌≡◌, ◌≢◌, ℕ, ◌<◌, ◌≤◌, Boo
 use Rattle.std.proofs.lemmas.{Bool.{true≢false, false≢true, and_parts, cases_Bool, cases_eq, cases_lt, or_cases, or_left, or_right}, List.{get_or_past, length-append}, Option.none-some}
 use Rattle.std.specs.Prelude.{◌⊎◌, drop, not, slice_get}
 use Rattle.exec_outcomes.specs.Accounts.{is_durable}
-use Rattle.exec_machine.specs.{declared.{config.Configuration.Configuration, state.RequestPhase.RequestPhase}, Tests.{is_gated, is_open, is_resolved}, World.{Common, open_of, request_of, seat_of}}
+use Rattle.exec_machine.specs.{declared.{config.Configuration.Configuration}, Tests.{is_gated, is_open, is_resolved}, World.{Common, open_of, request_of, seat_of}}
 use Rattle.exec_machine.specs.declared.state.RequestPhase.TheVariants as phase
 use Rattle.exec_moves.specs.{declared.place.{InPoll.InPoll, Place.Place}, Plays.{Playing, by_move, desk_of}, State.{Desk, Moved, Things, gate_of}}
 use Rattle.exec_books.specs.Booked.{IsBooked}
 use Rattle.exec_rest.specs.Rested.{IsLaidOut, is_latched, place_at}
 use Rattle.exec_settled.specs.{Given.{IsGiven, gives_up, in_line, passes_at}, Permits.{IsHanded, IsPassing, IsPermitted, hands_to, is_past}}
 use Rattle.exec_settled.proofs.{Hands.{Hands, JoinsGate}, PermittedEvents.Leaves}
+use Rattle.exec_books.proofs.MinePhases.{gated_open}
 
 -- its worker is told of a permit of this open, or looks at the gate in a service that is ahead
 abbrev pub IsTold : Configuration → Playing → ℕ → ℕ → Type 0
 IsTold c x file w = IsPassing c x file ⊎ (IsHanded c x w ⊎ ((is_latched c x w || not (is_past file (place_at c x w))) ≡ true))
 
 second : (gate : List ℕ) (k : ℕ) (more : List ℕ) → drop 1 gate ≡ k ∷ more → slice_get gate 1 ≡ Some k
-second [] k more is = absurd (none-some k (ap (λ g. slice_get g 0) is))
-second (a ∷ gate) k more is = ap (λ g. slice_get g 0) is
+second = grind (arith, none-some)
 
 same_some : (h k : ℕ) → Some h ≡ Some k → h ≡ k
 same_some h k is = ap (λ o. unwrap_or o 0) is
 
 unresolved_if : (a b : Bool) → (a && b) ≡ false → b ≡ true → a ≡ false
-unresolved_if true b h is = absurd (true≢false (sym is ∙ h))
-unresolved_if false b h is = refl
-
-gated_unresolved : (p : RequestPhase) → is_gated p ≡ true → is_resolved p ≡ false
-gated_unresolved phase.Gated h = refl
-gated_unresolved _ h = absurd (false≢true h)
+unresolved_if = grind (arith, true≢false)
 
 -- what waits for a permit is there
 gated_there : (s : Common) (k : ℕ) → is_gated (request_of s k).phase ≡ true → k < length s.requests
@@ -184,7 +179,7 @@ module _ (c : Configuration) (x : Playing) (laid : IsLaidOut c x) (given : IsGiv
           comes : (h : ℕ) (more : List ℕ) → drop 1 (gate_of x.things file) ≡ h ∷ more → (b : Bool) → gives_up (request_of late h) ≡ b → slice_get (if b then more else h ∷ more) 0 ≡ Some k → IsTold c next file (request_of late k).worker
           comes h more is true gives first =
               let stands = second (gate_of x.things file) h more is in
-              inl (passes_next file 1 h stands (gated_unresolved (request_of s h).phase (given.behind file 0 h stands)) gives)
+              inl (passes_next file 1 h stands (gated_open (request_of s h).phase (given.behind file 0 h stands)) gives)
           comes h more is false stays first =
               let at = given.at_gate file 1 h (second (gate_of x.things file) h more is) in
               let same = same_some h k first in
@@ -239,7 +234,7 @@ module _ (c : Configuration) (x : Playing) (laid : IsLaidOut c x) (given : IsGiv
     came_first file k [] is first gives = absurd (none-some k first)
     came_first file k (h ∷ more) is first gives =
         let stands = second (gate_of x.things file) k more (is ∙ ap (λ n. n ∷ more) (same_some h k first)) in
-        passes_next file 1 k stands (gated_unresolved (request_of s k).phase (given.behind file 0 k stands)) gives
+        passes_next file 1 k stands (gated_open (request_of s k).phase (given.behind file 0 k stands)) gives
 
     joined_first : (file k : ℕ) → file < length x.things.gates → (join : JoinsGate i s d x.things m late file) → slice_get (gate_of m.thing file) 0 ≡ Some k → gives_up (request_of late k) ≡ true → IsPassing c next file
     joined_first file k within join first gives = by (gate_of x.things file) refl
@@ -249,7 +244,7 @@ module _ (c : Configuration) (x : Playing) (laid : IsLaidOut c x) (given : IsGiv
             let same = same_some join.request k (sym (ap (λ g. slice_get g 0) (join.gate ∙ ap (λ g. g ++ join.request ∷ []) none)) ∙ first) in
             let own = given.joins i join.task join.request join.place in
             let over = and_parts (is_resolved (request_of late join.request).phase) (is_durable (request_of late join.request).operation.kind) (subst (λ n. gives_up (request_of late n) ≡ true) (sym same) gives) in
-            (i, ap passes_at here ∙ hands.over join.request (gated_unresolved (request_of s join.request).phase own.1) over.0 (given.gated join.request own.1).0 ∙ ap Some join.target)
+            (i, ap passes_at here ∙ hands.over join.request (gated_open (request_of s join.request).phase own.1) over.0 (given.gated join.request own.1).0 ∙ ap Some join.target)
         by (h ∷ rest) some =
             let is = join.gate ∙ ap (λ g. g ++ join.request ∷ []) some in
             stood_first file k (h ∷ rest) within some (sym (ap (λ g. slice_get g 0) is) ∙ first) (omega (arith, ap length is, length-append rest (join.request ∷ []))) gives

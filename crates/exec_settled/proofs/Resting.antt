@@ -8,7 +8,7 @@ use Rattle.exec_machine.specs.{declared.{config.Configuration.Configuration, sta
 use Rattle.exec_machine.specs.declared.state.RequestPhase.TheVariants as phase
 use Rattle.exec_moves.specs.{declared.{handing.{AfterCallbacks.AfterCallbacks, Heard.Heard}, place.{InCallbacks.InCallbacks, InPoll.InPoll, Place.Place}}, Plays.{Playing, desk_of, first_desk}, State.Desk}
 use Rattle.exec_books.specs.Listed.{is_in}
-use Rattle.exec_settled.proofs.Undone.{after_earlier, none_slept, not_true}
+use Rattle.exec_settled.proofs.Undone.{after_earlier, none_slept, false_from_ne_true}
 use Rattle.exec_books.specs.Booked.{IsBooked, unreleased_of}
 use Rattle.exec_rest.specs.{AtRest.{IsPlaced, is_end, is_idle, stays_closing}, Places.is_abed, Posted.has_tested, Rested.{IsRestful, place_at, sleeps}}
 use Rattle.exec_rest.proofs.Rest.{down}
@@ -132,7 +132,7 @@ module _ (c : Configuration) (x : Playing) (placed : IsPlaced c x) (held : IsRes
       | inl on_word ↦ let over = over_phase (request_of s k).phase (all_over i s.requests (settled.free i on_word) k own) in (over.staged, over.landed)
       | inr on_ring ↦ (
         (settled.entered_then i asleep on_ring).staged k own,
-        not_true (is_landed (request_of s k).phase) (λ landed.
+        false_from_ne_true (is_landed (request_of s k).phase) (λ landed.
             false≢true (subst (λ l. is_in k l ≡ true) (settled.landed i asleep on_ring) (subst (λ j. is_in k (seat_of s j).landed ≡ true) own ((booked.listed k).landed_in landed)))),
       )
     ]

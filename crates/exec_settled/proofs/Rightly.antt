@@ -9,9 +9,9 @@ use Rattle.exec_machine.specs.declared.state.Forwarding.TheVariants as forwardin
 use Rattle.exec_machine.specs.declared.state.MailMessage.TheVariants as message
 use Rattle.exec_machine.specs.declared.state.Waiting.TheVariants as waiting
 use Rattle.exec_machine.specs.declared.state.WorkerPhase.TheVariants as worker
-use Rattle.exec_moves.specs.{declared.{handing.Heard.Heard, idling.Stay.Stay, place.Place.Place}, Plays.{Playing, desk_of}, Poll.is_noted, Told.has_number}
+use Rattle.exec_moves.specs.{declared.{handing.Heard.Heard, place.Place.Place}, Plays.{Playing, desk_of}, Poll.is_noted, Told.has_number}
 use Rattle.exec_books.specs.Listed.{is_in}
-use Rattle.exec_settled.proofs.Undone.{eight, enroll_case, none_due, not_all, not_true}
+use Rattle.exec_settled.proofs.Undone.{eight, enroll_case, none_due, not_all, false_from_ne_true}
 use Rattle.exec_books.specs.Booked.{IsBooked, IsUnderWay}
 use Rattle.exec_rest.specs.{AtRest.{IsAtRest, IsPlaced, RestsWell, stays_closing}, Rested.{IsRestful, is_latched, place_at, sleeps}}
 use Rattle.exec_rest.proofs.Rest.{down, unlatched}
@@ -19,8 +19,7 @@ use Rattle.exec_settled.specs.{Awaited.{IsAwaited, IsToBeWoken, IsToHear}, Given
 use Rattle.exec_settled.proofs.Resting.{abed_past, both_ahead, cancels_done, entered, nobody_hands, nobody_looks, nobody_passes, nobody_wakes, over_of, over_phase, sleeper_done, submitted, told, told_open}
 
 waits_there : (p : Place) → stays_closing p ≡ true → waits_closing p ≡ true
-waits_there (Place.RingWait y Stay.Closing) h = refl
-waits_there _ h = absurd (false≢true h)
+waits_there = grind (arith, false≢true)
 
 not_both : (p : WorkerPhase) → is_open p ≡ true → has_ended p ≡ true → ⊥
 not_both = grind arith
@@ -34,8 +33,7 @@ no_number : (k : ℕ) (ns : List ℕ) → ns ≡ [] → has_number k ns ≡ true
 no_number k ns none h = false≢true (subst (λ l. has_number k l ≡ true) none h)
 
 number_is : (k : ℕ) (o : Option ℕ) → is_number k o ≡ true → o ≡ Some k
-number_is k None h = absurd (false≢true h)
-number_is k (Some j) h = ap Some (sym (eqb-true k j h))
+number_is = grind (arith, false≢true, eqb-true)
 
 no_list : (k : ℕ) (list : List ℕ) → list ≡ [] → is_in k list ≡ true → ⊥
 no_list k list none h = false≢true (subst (λ l. is_in k l ≡ true) none h)
@@ -64,7 +62,7 @@ module _ (c : Configuration) (x : Playing) (placed : IsPlaced c x) (given : IsGi
 
     -- its permit was granted: nobody passes one on any more, and its worker was not signalled
     ungranted : (k : ℕ) → let it = request_of s k in is_open (seat_of s it.worker).phase ≡ true → sleeps c x it.worker ≡ true → (is_gated it.phase && is_number k (open_of s it.operation.target).holder) ≡ false
-    ungranted k opened asleep = not_true _ (λ h.
+    ungranted k opened asleep = false_from_ne_true _ (λ h.
         let it = request_of s k in
         let both = and_parts (is_gated it.phase) (is_number k (open_of s it.operation.target).holder) h in
         elim (permitted.granted k both.0 (number_is k (open_of s it.operation.target).holder both.1) opened) [
@@ -89,7 +87,7 @@ module _ (c : Configuration) (x : Playing) (placed : IsPlaced c x) (given : IsGi
         p.staged p.landed
         (ap (λ b. not b && not it.cancelled && is_none it.timer && not (is_none it.operation.deadline)) is.0)
         (ap (λ b. b && it.cancelled && not it.cancel_staged) p.in_flight)
-        (not_true _ (λ h. false≢true (sym (ap not is.1) ∙ (and_parts (is_resolved it.phase) (not it.released) h).1)))
+        (false_from_ne_true _ (λ h. false≢true (sym (ap not is.1) ∙ (and_parts (is_resolved it.phase) (not it.released) h).1)))
         (timeless it.worker s.clock it (booked.timed k is.0))
 
     of_sleeper : (k : ℕ) → is_open (seat_of s (request_of s k).worker).phase ≡ true → sleeps c x (request_of s k).worker ≡ true → is_request_unfinished c x.world k (request_of s k) ≡ false
@@ -102,9 +100,9 @@ module _ (c : Configuration) (x : Playing) (placed : IsPlaced c x) (given : IsGi
         (ungranted k opened asleep)
         (stuck (is_queued it.phase) it.cancelled (nat_lt (own_of x.world i).in_flight (ring_size c)) (λ queued. full (own_of x.world i) (ring_size c) (λ none. no_list k (own_of x.world i).ready none ((booked.listed k).queued queued)) clear.unstaged))
         done.0 done.1
-        (not_true _ (λ h. no_list k (own_of x.world i).unenrolled clear.unenrolled ((booked.listed k).unenrolled (enroll_case (is_resolved it.phase) it.cancelled (is_none it.timer) (is_none it.operation.deadline) h))))
-        (not_true _ (λ h. no_list k (own_of x.world i).cancels clear.cancels ((booked.listed k).cancels h)))
-        (not_true _ (λ h. no_list k (own_of x.world i).ended (told_open c x placed held booked settled all i opened asleep).ended ((booked.listed k).over h)))
+        (false_from_ne_true _ (λ h. no_list k (own_of x.world i).unenrolled clear.unenrolled ((booked.listed k).unenrolled (enroll_case (is_resolved it.phase) it.cancelled (is_none it.timer) (is_none it.operation.deadline) h))))
+        (false_from_ne_true _ (λ h. no_list k (own_of x.world i).cancels clear.cancels ((booked.listed k).cancels h)))
+        (false_from_ne_true _ (λ h. no_list k (own_of x.world i).ended (told_open c x placed held booked settled all i opened asleep).ended ((booked.listed k).over h)))
         (none_due i s.clock s.requests (both_ahead c x placed held booked settled all i opened asleep).0 k)
 
     request_done : (k : ℕ) → is_request_unfinished c x.world k (request_of s k) ≡ false
@@ -144,38 +142,34 @@ module _ (c : Configuration) (x : Playing) (placed : IsPlaced c x) (given : IsGi
     no_message m i takes (inl there) = false≢true (subst (λ l. list_any (same_message m) l ≡ true) (rested.messages i) there)
     no_message m i takes (inr shut) = true≢false (sym shut ∙ takes)
 
-    -- who waits for a request waits for one that isn't over
-    no_request_came : (t k : ℕ) → WaitsFor s t (waiting.Request k) → (f : Forwarding) → (request_of s k).forwarding ≡ f → is_resolved (request_of s k).phase ≡ true → ⊥
-    no_request_came t k waits f is over =
-        let it = given.awaits t k waits in
-        let within : (request_of s k).worker < length x.desks = omega (arith, booked.requests k it.there, placed.laid.desks) in
-        by f is within it.takes_mail
-      where
-        by : (f : Forwarding) → (request_of s k).forwarding ≡ f → (request_of s k).worker < length x.desks → (seat_of s (request_of s k).worker).mailbox_closed ≡ false → ⊥
-        by forwarding.Unsent is within takes = no_wake (request_of s k).worker t within (awaited.woken t k waits is over)
-        by forwarding.Sent is within takes = no_message (message.ForwardRequest k) (request_of s k).worker takes (booked.sent k is)
-        by forwarding.Applied is within takes = elim (awaited.answered t k waits is over) [
-          | inl result ↦ no_number k (desk_of c x (request_of s k).worker).results (told c x placed held booked settled all (request_of s k).worker within).results result
-          | inr sent ↦ no_news (request_of s k).worker t (Heard.Request k) sent.1
-        ]
+    -- what is of another worker and came was told of there, or is under way there, or its worker told
+    not_so : (m : MailMessage) (j t : ℕ) (f : Forwarding) → (seat_of s j).mailbox_closed ≡ false → j < length x.desks → (f ≡ forwarding.Unsent → IsToBeWoken c x j t) → (f ≡ forwarding.Sent → IsUnderWay m (seat_of s j)) → (f ≡ forwarding.Applied → ⊥) → ⊥
+    not_so m j t forwarding.Unsent takes within woken sent told = no_wake j t within (woken refl)
+    not_so m j t forwarding.Sent takes within woken sent told = no_message m j takes (sent refl)
+    not_so m j t forwarding.Applied takes within woken sent told = told refl
 
-    no_sleeper_came : (t z : ℕ) → WaitsFor s t (waiting.Timer z) → (f : Forwarding) → (sleeper_of s z).forwarding ≡ f → (sleeper_of s z).fired ≡ true → ⊥
-    no_sleeper_came t z waits f is over =
-        let it = given.sleeps t z waits in
-        let within : (sleeper_of s z).worker < length x.desks = omega (arith, booked.sleepers z it.there, placed.laid.desks) in
-        by f is within it.takes_mail
-      where
-        by : (f : Forwarding) → (sleeper_of s z).forwarding ≡ f → (sleeper_of s z).worker < length x.desks → (seat_of s (sleeper_of s z).worker).mailbox_closed ≡ false → ⊥
-        by forwarding.Unsent is within takes = no_wake (sleeper_of s z).worker t within (awaited.fired t z waits is over)
-        by forwarding.Sent is within takes = no_message (message.ForwardTimer z) (sleeper_of s z).worker takes (booked.sent_too z is)
-        by forwarding.Applied is within takes = elim (awaited.alarmed t z waits is over) [
-          | inl completion ↦ no_number z (desk_of c x (sleeper_of s z).worker).completions (told c x placed held booked settled all (sleeper_of s z).worker within).completions completion
-          | inr sent ↦ no_news (sleeper_of s z).worker t (Heard.Timer z) sent.1
-        ]
+    -- who waits for a request waits for one that isn't over
+    no_request_came : (t k : ℕ) → WaitsFor s t (waiting.Request k) → is_resolved (request_of s k).phase ≡ true → ⊥
+    no_request_came t k waits over =
+        let within : (request_of s k).worker < length x.desks = omega (arith, booked.requests k (given.awaits t k waits).there, placed.laid.desks) in
+        not_so (message.ForwardRequest k) (request_of s k).worker t (request_of s k).forwarding (given.awaits t k waits).takes_mail within (λ is. awaited.woken t k waits is over) (booked.sent k)
+        (λ is. elim (awaited.answered t k waits is over) [
+          | inl result ↦ no_number k _ (told c x placed held booked settled all (request_of s k).worker within).results result
+          | inr sent ↦ no_news _ t (Heard.Request k) sent.1
+        ])
+
+    no_sleeper_came : (t z : ℕ) → WaitsFor s t (waiting.Timer z) → (sleeper_of s z).fired ≡ true → ⊥
+    no_sleeper_came t z waits over =
+        let within : (sleeper_of s z).worker < length x.desks = omega (arith, booked.sleepers z (given.sleeps t z waits).there, placed.laid.desks) in
+        not_so (message.ForwardTimer z) (sleeper_of s z).worker t (sleeper_of s z).forwarding (given.sleeps t z waits).takes_mail within (λ is. awaited.fired t z waits is over) (booked.sent_too z)
+        (λ is. elim (awaited.alarmed t z waits is over) [
+          | inl completion ↦ no_number z _ (told c x placed held booked settled all (sleeper_of s z).worker within).completions completion
+          | inr sent ↦ no_news _ t (Heard.Timer z) sent.1
+        ])
 
     not_come : (t : ℕ) (what : Waiting) → (task_of s t).waiting ≡ what → is_done (task_of s t).phase ≡ false → has_come s what ≡ false
-    not_come t (waiting.Request k) is going = not_true _ (no_request_came t k (record { going = going; waits = is }) (request_of s k).forwarding refl)
-    not_come t (waiting.Timer z) is going = not_true _ (no_sleeper_came t z (record { going = going; waits = is }) (sleeper_of s z).forwarding refl)
+    not_come t (waiting.Request k) is going = false_from_ne_true _ (no_request_came t k (record { going = going; waits = is }))
+    not_come t (waiting.Timer z) is going = false_from_ne_true _ (no_sleeper_came t z (record { going = going; waits = is }))
     not_come t waiting.Nothing is going = refl
     not_come t waiting.Wake is going = refl
     not_come t waiting.Woken is going = refl
@@ -186,7 +180,7 @@ module _ (c : Configuration) (x : Playing) (placed : IsPlaced c x) (given : IsGi
 
     -- A WORKER that is open has a root that isn't over
     need_not_close : (i : ℕ) → has_to_close x.world i (seat_of s i) ≡ false
-    need_not_close i = not_true _ (λ h.
+    need_not_close i = false_from_ne_true _ (λ h.
         let both = and_parts (is_open (seat_of s i).phase) (is_done (task_of s (own_of x.world i).root).phase) h in
         elim (down c x held all i) [
           | inl over ↦ not_both (seat_of s i).phase both.0 over
@@ -206,7 +200,7 @@ module _ (c : Configuration) (x : Playing) (placed : IsPlaced c x) (given : IsGi
 
   -- a closing worker that sleeps waits on its ring, with a request that isn't over
   closing : (i : ℕ) → sleeps_for_nothing s i (seat_of s i) ≡ false
-  closing i = not_true _ (λ h.
+  closing i = false_from_ne_true _ (λ h.
       let seat = seat_of s i in
       let every = and_parts (is_closing seat.phase && not (is_awake seat.rest)) (list_all (λ r. not (r.worker == i) || is_resolved r.phase) s.requests) h in
       let both = and_parts (is_closing seat.phase) (not (is_awake seat.rest)) every.0 in

@@ -25,9 +25,9 @@ use Rattle.exec_moves.specs.declared.place.InClosing.TheVariants as closing
 use Rattle.exec_moves.specs.declared.place.Place.TheVariants as at
 use Rattle.exec_rest.specs.{AtRest.is_end, Places.is_to_sleep_on_ring, Posted.has_tested}
 use Rattle.exec_rest.proofs.Away.{calm_untested}
-use Rattle.exec_rest.proofs.Continuing.{calm_after_fit, calm_after_leave, calm_after_send, calm_leaves_for_turn, calm_next_pick, calm_to_queue}
+use Rattle.exec_rest.proofs.Continuing.{calm_light, calm_after_fit, calm_after_leave, light_after_send, light_leaves_for_turn, light_next_pick, calm_to_queue}
 use Rattle.exec_settled.specs.Settled.{HasSubmitted, HasTold, ends_ring_wait, waits_closing, waits_on_word}
-use Rattle.exec_settled.proofs.SettledParts.{is_shut, off_after_fit, off_after_leave, off_after_send, off_leaves_for_turn, off_next_pick, off_to_queue}
+use Rattle.exec_settled.proofs.SettledParts.{is_shut, off_after_fit, off_after_leave, off_to_queue, off_light}
 use Rattle.exec_settled.proofs.SettledPlaces.{OfBooks, closing_shut, deep_off, end_shut, is_deep, is_plain, is_sleep, kept, sleep_deep, submitted_by, submitted_with, told_by, told_with, word_tested}
 use Rattle.exec_settled.proofs.SettledTest.{Stays}
 
@@ -134,7 +134,7 @@ module _ (c : Configuration) (i : ℕ) (me : Books) (s : Common) where
       module _ (d : Desk) (ends : (own_after c me s i e choice).ended ≡ me.ended) (same : kept q ≡ kept d) where
         pub pushed : (b : AfterPush) → Leads (after_push c i me s b d)
         pushed (pushes.Act t) = away e choice _ refl refl
-        pushed pushes.Pick = away e choice _ (calm_untested _ (calm_next_pick d)) (off_next_pick d)
+        pushed pushes.Pick = away e choice _ (calm_untested _ (calm_light _ (light_next_pick d))) (off_light _ (light_next_pick d))
         pushed (pushes.CallBack n) = calls_on me d ends same n
 
         pub kicked : (b : AfterKick) → Leads (after_kick c i me s b d)
@@ -144,7 +144,7 @@ module _ (c : Configuration) (i : ℕ) (me : Books) (s : Common) where
         pub signalled : (b : AfterSignal) → Leads (after_signal c i me s b d)
         signalled (signal.Claim (claim.Kick b)) = kicked b
         signalled (signal.Claim (claim.Global b)) = pushed b
-        signalled (signal.Send b) = away e choice _ (calm_untested _ (calm_after_send c b d)) (off_after_send c b d)
+        signalled (signal.Send b) = away e choice _ (calm_untested _ (calm_light _ (light_after_send c b d))) (off_light _ (light_after_send c b d))
 
     -- EACH MOVE of these groups, by its place
     module _ (d : Desk) (x : Things) where
@@ -221,7 +221,7 @@ module _ (c : Configuration) (i : ℕ) (me : Books) (s : Common) where
       tests f = by (is_ready me f d || has_submissions c me) refl
         where
           by : (b : Bool) → (is_ready me f d || has_submissions c me) ≡ b → Comes (if b then turns {T = Own} (leaves_for_turn c i me s d) d tt else turns {T = Own} at.ReadClock d tt)
-          by true some = off _ (calm_untested _ (calm_leaves_for_turn c i me s d)) (off_leaves_for_turn c i me s d)
+          by true some = off _ (calm_untested _ (calm_light _ (light_leaves_for_turn c i me s d))) (off_light _ (light_leaves_for_turn c i me s d))
           by false none =
               let parts = or_parts (is_ready me f d) (has_submissions c me) none in
               let ready = or_parts (f.ready || d.root_ready || has_callbacks me d) (not (is_empty d.batch)) parts.0 in

@@ -17,7 +17,7 @@ use Rattle.exec_settled.specs.Settled.{IsSettled}
 use Rattle.exec_rest.proofs.Others.{map_like, set_like}
 use Rattle.exec_settled.proofs.SettledLike.{Alike, AreAlike, all_same, flying_live, itself, moves_on}
 use Rattle.exec_settled.proofs.SettledOf.{Rests, all_of, each, left_settled}
-use Rattle.exec_settled.proofs.SettledPlaces.{asleep_not, kept, listed}
+use Rattle.exec_settled.proofs.SettledPlaces.{not-true, kept, listed}
 
 wake_requests : (s : Common) (t : ℕ) (e : Event) (choice : Choice) → (after_wake_by_call s t e choice).requests ≡ s.requests
 wake_requests = grind arith
@@ -45,7 +45,7 @@ module _ (c : Configuration) (x : Playing) where
       (each c x before i))
 
   seated_rests : (after : List Seat) (e : Event) → Seated s.seats after e → (i : ℕ) → Rests (seat_of s i) (get_or after i no_seat)
-  seated_rests after e seated i h = (ap not (seated.asleep i (asleep_not (is_awake (get_or after i no_seat).rest) h)).0, seated.landed i)
+  seated_rests after e seated i h = (ap not (seated.asleep i (not-true (is_awake (get_or after i no_seat).rest) h)).0, seated.landed i)
 
   pub caller_settles : (a : Action) → is_call a ≡ true → IsSettled c x → IsSettled c (by_action c x a).next
   caller_settles (action.Spawn j k) is before = grind arith

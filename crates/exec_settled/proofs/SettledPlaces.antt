@@ -1,10 +1,9 @@
 -- What a worker has told and submitted, as its desk and its own part say it, and what is known of a place by which of its tests fail.
-use Rattle.std.proofs.Common.{◌≡◌, ℕ, Bool, true, false, List, [], Option, refl, sym, ap, ◌∙◌, arith}
+use Rattle.std.proofs.Common.{◌≡◌, ℕ, Bool, true, false, List, Option, sym, ap, ◌∙◌, arith}
 use Rattle.std.proofs.lemmas.Bool.{false≢true, true≢false}
-use Rattle.std.specs.Prelude.{not}
+pub use Rattle.std.proofs.lemmas.Bool.{not-true}
 use Rattle.exec_machine.specs.{declared.{config.Configuration.Configuration, event.Event.{Event, TheVariants.{Busy, Enter, Release, Rouse, Sleep, Turn, Wake}}}, World.Own as Books}
 use Rattle.exec_moves.specs.{declared.{idling.{InRingWait.InRingWait, Stay.Stay}, place.{InClosing.InClosing, Place.Place}}, Callback.has_callbacks, Load.{has_submissions}, State.Desk}
-use Rattle.exec_moves.specs.declared.place.InClosing.TheVariants as closing
 use Rattle.exec_moves.specs.declared.place.Place.TheVariants as at
 use Rattle.exec_rest.specs.{AtRest.is_end, Places.is_to_sleep_on_ring, Posted.has_tested}
 use Rattle.exec_settled.specs.Settled.{HasSubmitted, HasTold, ends_ring_wait, waits_closing, waits_on_word}
@@ -51,16 +50,13 @@ is_deep (Place.RingWait (InRingWait.DisarmRing n) y) = true
 is_deep _ = false
 
 pub word_tested : (p : Place) → has_tested p ≡ false → waits_on_word p ≡ false
-word_tested (Place.WordWait p) h = absurd (true≢false h)
-word_tested _ h = refl
+word_tested = grind (arith, true≢false)
 
 end_off : (p : InClosing) → is_shut (at.Closing p) ≡ false → is_end (at.Closing p) ≡ false
-end_off closing.End h = absurd (true≢false h)
-end_off _ h = refl
+end_off = grind (arith, true≢false)
 
 pub end_shut : (p : Place) → is_shut p ≡ false → is_end p ≡ false
-end_shut (Place.Closing p) h = end_off p h
-end_shut _ h = refl
+end_shut = grind (arith, end_off)
 
 pub closing_shut : (p : Place) → is_shut p ≡ false → waits_closing p ≡ false
 closing_shut = grind arith
@@ -73,8 +69,7 @@ sleep_deep_ring : (p : InRingWait) (y : Stay) → is_deep (at.RingWait p y) ≡ 
 sleep_deep_ring = grind arith
 
 pub sleep_deep : (p : Place) → is_deep p ≡ false → (is_to_sleep_on_ring p ≡ false) × (ends_ring_wait p ≡ false)
-sleep_deep (Place.RingWait p y) h = sleep_deep_ring p y h
-sleep_deep _ h = (refl, refl)
+sleep_deep = grind (arith, sleep_deep_ring)
 
 -- EVENTS
 
@@ -95,7 +90,3 @@ is_sleep _ = false
 
 pub no_sleep : {T : Type 0} (e : Event) → is_sleep e ≡ false → (until : Option ℕ) → e ≡ Sleep until → T
 no_sleep e calm until is = absurd (false≢true (sym calm ∙ ap is_sleep is))
-
-pub asleep_not : (b : Bool) → not b ≡ true → b ≡ false
-asleep_not true h = absurd (false≢true h)
-asleep_not false h = refl

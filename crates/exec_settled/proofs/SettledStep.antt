@@ -13,7 +13,7 @@ use Rattle.exec_settled.specs.{Given.IsGiven, Settled.{HasEntered, IsSettled, wa
 use Rattle.exec_settled.proofs.SettledLike.{none_staged, other_alike, plain_alike, requests_then}
 use Rattle.exec_settled.proofs.SettledMoves.{Settles, Was}
 use Rattle.exec_settled.proofs.SettledOf.{SettledAt, SettledOf, all_of, each, left_settled, others_own}
-use Rattle.exec_settled.proofs.SettledPlaces.{asleep_not, is_plain, kept, listed}
+use Rattle.exec_settled.proofs.SettledPlaces.{not-true, is_plain, kept, listed}
 use Rattle.exec_settled.proofs.SettledWaits.{move_settles}
 
 -- ITS OWN, which is awake before
@@ -29,8 +29,7 @@ module _ (c : Configuration) (i : ℕ) (me : Books) (s : Common) (p : Desk) (e :
   by_enter is = subst (λ e. HasEntered i (own_after c me s i e choice) (common_after c me s i e choice)) (sym is) (record { untold = refl; staged = none_staged i s.requests })
 
   by_sleep : (until : Option ℕ) → e ≡ Sleep until → HasEntered i me s → HasEntered i mine late
-  by_sleep until is before =
-      subst (λ e. HasEntered i (own_after c me s i e choice) (common_after c me s i e choice)) (sym is) (record { untold = before.untold; staged = before.staged })
+  by_sleep = grind arith
 
   pub own_settled : is_awake (seat_of s i).rest ≡ true → Settles c i me s p.place e choice q → SettledOf c i me p s → SettledOf c i mine q late
   own_settled awake now before =
@@ -53,7 +52,7 @@ module _ (c : Configuration) (i : ℕ) (me : Books) (s : Common) (p : Desk) (e :
 
       -- it sleeps by this event
       slept : not (is_awake (seat_of late i).rest) ≡ true → (until : Option ℕ) × (e ≡ Sleep until)
-      slept = grind (arith, asleep_after, asleep_not, true≢false)
+      slept = grind (arith, asleep_after, not-true, true≢false)
 
 -- ANY
 module _ (c : Configuration) (x : Playing) (placed : IsPlaced c x) (given : IsGiven c x) (i : ℕ) (may : is_enabled x.world.common (action.Work i) ≡ true) where
@@ -110,7 +109,7 @@ module _ (c : Configuration) (x : Playing) (placed : IsPlaced c x) (given : IsGi
       before
     where
       was_asleep : not (is_awake (seat_of next.world.common k).rest) ≡ true → not (is_awake (seat_of s k).rest) ≡ true
-      was_asleep = grind (arith, asleep_after, asleep_not)
+      was_asleep = grind (arith, asleep_after, not-true)
 
   pub work_settles : Allowed c me s i m.event m.choice → IsSettled c x → IsSettled c next
   work_settles allowed before = all_of c next (λ k. elim (cases_eq k i) [

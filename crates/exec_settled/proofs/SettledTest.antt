@@ -26,8 +26,7 @@ module _ (c : Configuration) (i : ℕ) (me : Books) (s : Common) where
     pub free : waits_on_word q ≡ true → has_requests i s ≡ false
 
   pub of_if : (b : Bool) (q r : Place) → OfPlace q → OfPlace r → OfPlace (if b then q else r)
-  of_if true q r one other = one
-  of_if false q r one other = other
+  of_if = grind arith
 
   -- one of which all that computes
   pub of_plain : (q : Place) → is_shut q ≡ false → is_deep q ≡ false → waits_on_word q ≡ false → OfPlace q

@@ -14,9 +14,9 @@ use Rattle.exec_moves.specs.declared.idling.Stay.TheVariants as stay
 use Rattle.exec_moves.specs.declared.place.InClosing.TheVariants as closing
 use Rattle.exec_moves.specs.declared.place.Place.TheVariants as at
 use Rattle.exec_rest.specs.{Places.is_to_sleep_on_ring, Posted.has_tested}
-use Rattle.exec_rest.proofs.Untested.{is_test, untested}
+use Rattle.exec_rest.proofs.{Continuing.{light_polls, light_first_pick}, Untested.{is_test, untested}}
 use Rattle.exec_settled.proofs.SettledMoves.{Comes, Settles, Was, away, calls, globals, kicks_one, pushes_one, settled, signals_one, tests}
-use Rattle.exec_settled.proofs.SettledParts.{is_shut, off_after_return, off_first_pick, off_polls}
+use Rattle.exec_settled.proofs.SettledParts.{is_shut, off_after_return, off_light}
 use Rattle.exec_settled.proofs.SettledOff.{closes, loads, mails, picks, pops_one, serves}
 use Rattle.exec_settled.proofs.SettledPolls.{off_claim, off_made_up, off_moved_if, polls, posts}
 use Rattle.exec_settled.proofs.SettledPlaces.{is_plain, kept, listed, no_sleep, sleep_deep}
@@ -57,8 +57,7 @@ module _ (c : Configuration) (i : ℕ) (me : Books) (s : Common) (d : Desk) wher
     not_to_sleep false = refl
 
   leaves : (y : Stay) (n : AfterWait) → OfPlace c i me s (after_wait s i y n)
-  leaves stay.Turn n = of_withdraws c i me s n
-  leaves stay.Closing n = of_plain c i me s _ refl refl refl
+  leaves = grind (arith, of_withdraws, of_plain)
 
   out : (p : Place) (y : Stay) (n : AfterWait) → OnRing p y Turn Plain (record d { place = after_wait s i y n })
   out p y n = let of = leaves y n in turned p y _ refl (inr of) (sleep_deep (after_wait s i y n) of.deep).0
@@ -112,9 +111,9 @@ module _ (c : Configuration) (i : ℕ) (me : Books) (s : Common) (d : Desk) wher
     stays p was within left = let m = move_at c i me s d x p in settled c i me s p d x m.event m.choice m.desk was within left
 
     pub move_settles : (p : Place) → d.place ≡ p → Was c i me s p d → Comes c i me s p (move_at c i me s d x p)
-    move_settles at.BeginTurn is was = off at.BeginTurn is refl refl (off_first_pick s i)
+    move_settles at.BeginTurn is was = off at.BeginTurn is refl refl (off_light _ (light_first_pick s i))
     move_settles (at.Pick p) is was = off (at.Pick p) is refl refl (picks c i me s d x (ap is_shut is) p)
-    move_settles at.TakeRootFlag is was = off at.TakeRootFlag is refl refl (off_moved_if d.root_ready _ _ (off_polls me.root (record d { root_ready = false })) refl)
+    move_settles at.TakeRootFlag is was = off at.TakeRootFlag is refl refl (off_moved_if d.root_ready _ _ (off_light _ (light_polls me.root (record d { root_ready = false }))) refl)
     move_settles (at.Poll t p) is was = off (at.Poll t p) is refl refl (polls c i me s d x (ap is_shut is) t p)
     move_settles (at.Callbacks p n) is was = calls c i me s (at.Callbacks p n) d x p n
     move_settles (at.Loads p r) is was = off (at.Loads p r) is refl refl (loads c i me s d x (ap is_shut is) p r)

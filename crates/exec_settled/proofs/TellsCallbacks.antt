@@ -1,8 +1,8 @@
 -- What a worker tells in its callbacks: who is to be woken is woken, and an end is sent to who waits elsewhere, which is woken next.
-use Rattle.std.proofs.Common.{◌≡◌, ℕ, ◌==◌, Bool, true, false, List, [], ◌∷◌, drop, Option, Some, None, refl, sym, ap, ◌∙◌, subst, inl, inr, arith}
+use Rattle.std.proofs.Common.{◌≡◌, ℕ, ◌==◌, Bool, true, false, List, [], ◌∷◌, drop, Option, Some, refl, sym, ap, ◌∙◌, subst, inl, inr, arith}
 use Rattle.std.proofs.lemmas.Bool.{false≢true, eq-eqb, eqb-true, or_cases, or_left, or_right}
 use Rattle.std.specs.Prelude.{◌⊎◌}
-use Rattle.exec_machine.specs.{declared.{config.Configuration.Configuration, event.Event.TheVariants.{Wake}}, Ranges.ring_size, Tests.{is_done, is_idle}, World.{Common, Task, Own as Books, request_of, sleeper_of, task_of}}
+use Rattle.exec_machine.specs.{declared.{config.Configuration.Configuration, event.Event.TheVariants.{Wake}}, Ranges.ring_size, Tests.{is_done}, World.{Common, Task, Own as Books, request_of, sleeper_of, task_of}}
 use Rattle.exec_moves.specs.{declared.{handing.{AfterCallbacks.AfterCallbacks, Heard.Heard}, place.{InCallbacks.InCallbacks, Place.Place}}, Callback.{Item, Item.{Answers, Completes, LetsGo, Nothing, Releases, Wakes}, first_of, item_next, tells_waiter, woken_by}, Move.{move_callbacks, move_item}, State.{Desk, Moved, Things}, Told.{has_number, in_order}}
 use Rattle.exec_moves.specs.declared.handing.Heard.TheVariants as heard
 use Rattle.exec_moves.specs.declared.place.InCallbacks.TheVariants as callback
@@ -34,8 +34,7 @@ item_number Nothing = 0
 
 -- what stands in the list is the first of it, or behind that
 taken : (ns : List ℕ) (item : ℕ → Item) (later it : Item) → ((n : ℕ) → item_number (item n) ≡ n) → first_of ns item later ≡ it → (k : ℕ) → has_number k ns ≡ true → (k ≡ item_number it) ⊎ (has_number k (drop 1 ns) ≡ true)
-taken [] item later it number is k h = absurd (false≢true h)
-taken (n ∷ ns) item later it number is k h = elim (first_or k n ns h) [ inl this ↦ inl (this ∙ sym (number n) ∙ ap item_number is) | inr rest ↦ inr rest ]
+taken = grind (arith, false≢true, first_or)
 
 module _ (me : Books) (d : Desk) where
   wake_taken : (t : ℕ) → item_next me d ≡ Wakes t → (u : ℕ) → has_number u d.wakes ≡ true → (u ≡ t) ⊎ (has_number u (drop 1 d.wakes) ≡ true)
@@ -55,12 +54,10 @@ module _ (c : Configuration) (i : ℕ) (me : Books) (s : Common) (d : Desk) (x :
   calm m lists mute = mild c i me s d x m (quiet c i me s d x m lists mute)
 
   woken_lists : (t : ℕ) (e : Desk) (it : Task) (home : Option ℕ) → it.home ≡ home → lists_of (woken_by (ring_size c) i me s n t e it) x ≡ lists_of e x
-  woken_lists t e it None h = rw h (lists_if (is_idle it.phase) _ _ x _ refl refl)
-  woken_lists t e it (Some home) h = rw h refl
+  woken_lists = grind (arith, lists_if)
 
   teller_lists : (waiter : Option ℕ) (of : Heard) (e : Desk) (y : Things) → lists_of (tells_waiter (ring_size c) i me s n waiter of e) y ≡ lists_of e y
-  teller_lists None of e y = refl
-  teller_lists (Some t) of e y = lists_if (is_done (task_of s t).phase) _ _ y _ refl refl
+  teller_lists = grind (arith, lists_if)
 
   -- who waits for it is woken next
   teller_place : (waiter : Option ℕ) (of : Heard) (e : Desk) (t : ℕ) → waiter ≡ Some t → is_done (task_of s t).phase ≡ false

@@ -99,8 +99,7 @@ module _ (c : Configuration) (i : ℕ) (me : Books) (s : Common) (d : Desk) (x :
   applies applied (m ∷ ms) h = subst (λ moved. Mildly (aside x moved)) (sym (apply_is applied m ms h)) (messages m ms (after_message (applied + 1) ms))
 
   takes : (ms : List MailMessage) → Mildly (with_inbox i x (take_mail d ms))
-  takes [] = calm _ refl refl
-  takes (m ∷ ms) = calm _ refl refl
+  takes = grind (arith, calm)
 
   mails_by : (p : InMail) → Mildly (move_mail i me s d x p)
   mails_by mail.LoadMailWord =
@@ -114,12 +113,10 @@ module _ (c : Configuration) (i : ℕ) (me : Books) (s : Common) (d : Desk) (x :
   -- CLOSING
 
   visits : (drain : Drain) (shard : List ℕ) (newest : Option ℕ) → slice_get shard (length shard - 1) ≡ newest → Mildly (with_shard drain.at x (visit (shard_count c) drain d shard))
-  visits drain shard None h = rw h (calm _ refl refl)
-  visits drain shard (Some t) h = rw h (calm _ refl refl)
+  visits = grind (arith, calm)
 
   cleared_adds : (it : Task) (ends : Bool) → Adds d (if ends then lets_go_all i s it d else d)
-  cleared_adds it true = all_adds i s it d
-  cleared_adds it false = adds d d refl refl refl
+  cleared_adds = grind (arith, all_adds, adds)
 
   cleared_awaited : (t k : ℕ) (ends : Bool) → has_number k d.awaited ≡ true → (request_of (if ends then after_over (with_cleared s t) i t else with_cleared s t) k).observed ≡ true
       → has_number k (if ends then lets_go_all i s (task_of s t) d else d).awaited ≡ true

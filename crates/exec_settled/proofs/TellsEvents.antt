@@ -1,5 +1,5 @@
 -- Of each event: whether a request that somebody holds is over by it, or a sleeper fires by it. Few do that.
-use Rattle.std.proofs.Common.{◌≡◌, ℕ, zero, suc, Bool, true, false, ◌&&◌, ◌==◌, List, [], ◌∷◌, ◌++◌, map, Option, Some, None, refl, sym, ◌∙◌, subst, inl, inr, get_or, set, if◌then◌else◌, arith}
+use Rattle.std.proofs.Common.{◌≡◌, ℕ, zero, suc, Bool, true, false, ◌&&◌, ◌==◌, List, [], ◌∷◌, ◌++◌, map, Option, Some, refl, sym, ◌∙◌, subst, inl, inr, get_or, set, if◌then◌else◌, arith}
 use Rattle.std.proofs.lemmas.Bool.{true≢false, false≢true}
 use Rattle.std.specs.Prelude.{◌⊎◌}
 use Rattle.exec_machine.specs.declared.{config.Configuration.Configuration, event.Event.Event, state.{MailMessage.MailMessage, Request.Request, Sleeper.Sleeper, Waiting.Waiting}}
@@ -9,6 +9,7 @@ use Rattle.exec_machine.specs.declared.event.Event.TheVariants as event
 use Rattle.exec_machine.specs.declared.state.MailMessage.TheVariants as message
 use Rattle.exec_machine.specs.declared.state.RequestPhase.TheVariants as phase
 use Rattle.exec_machine.specs.declared.state.Waiting.TheVariants as waiting
+use Rattle.exec_books.proofs.Spares.{dropped_worker}
 
 -- a request that somebody holds may be over by it, or a sleeper fires
 abbrev pub is_ending : Event → Bool
@@ -70,9 +71,6 @@ same_last {xs} is = subst (AllLast xs) (sym is) (λ k. lasts (get_or xs k no_req
 pub dropped_observed : (x : Request) → (dropped x).observed ≡ false
 dropped_observed = grind arith
 
-dropped_worker : (x : Request) → (dropped x).worker ≡ x.worker
-dropped_worker = grind arith
-
 unheld : (x y : Request) → y.observed ≡ false → Lasts x y
 unheld x y gone over held = absurd (true≢false (sym held ∙ gone))
 
@@ -126,16 +124,13 @@ module _ (c : Configuration) (me : Books) (s : Common) (i : ℕ) (choice : Choic
   by_turn = grind arith
 
   by_pend : (t : ℕ) (cleared : Bool) → all_last (if cleared then after_over s i t else set_task s t (record (task_of s t) { phase = pended_phase (task_of s t).phase }))
-  by_pend t true = drops_last s.requests _ (drops i (task_of s t).held s.requests)
-  by_pend t false = same_last refl
+  by_pend = grind (arith, drops_last, drops, same_last)
 
   by_clear : (t : ℕ) (ends : Bool) → all_last (if ends then after_over (with_cleared s t) i t else with_cleared s t)
-  by_clear t true = drops_last s.requests _ (drops i (task_of (with_cleared s t) t).held s.requests)
-  by_clear t false = same_last refl
+  by_clear = grind (arith, drops_last, drops, same_last)
 
   by_word : (polls : Option ℕ) → all_last (after_word s polls)
-  by_word None = same_last refl
-  by_word (Some t) = same_last refl
+  by_word = grind (arith, same_last)
 
   by_payment : (polls : Option ℕ) (payer : Payer) → all_last (after_payment s polls payer)
   by_payment = grind (arith, one, lasts, same_last)
@@ -147,15 +142,13 @@ module _ (c : Configuration) (me : Books) (s : Common) (i : ℕ) (choice : Choic
   by_sending = grind (arith, same_last, one, lasts)
 
   posts_last : (late : Common) (to : ℕ) (m : MailMessage) (left_out : Bool) → all_last late → all_last (if left_out then late else set_seat late to (posted m (seat_of late to)))
-  posts_last late to m true h = h
-  posts_last late to m false h = h
+  posts_last = grind arith
 
   by_message : (m : MailMessage) → all_last (after_message me s m)
   by_message = grind (arith, same_last, one, lasts, drop_one)
 
   pub last_by : (e : Event) → is_ending e ≡ false → all_last (common_after c me s i e choice)
   last_by event.Turn h = by_turn choice
-  last_by (event.Begin t) h = same_last refl
   last_by (event.Pend t) h = by_pend t (task_of s t).cleared
   last_by (event.Done t) h = drops_last s.requests _ (drops i (task_of s t).held s.requests)
   last_by (event.Fault t n) h = drops_last s.requests _ (drops i (task_of s t).held s.requests)
@@ -164,27 +157,17 @@ module _ (c : Configuration) (me : Books) (s : Common) (i : ℕ) (choice : Choic
   last_by event.Closed h = by_word me.polls
   last_by (event.Clear t) h = by_clear t (ends_by_clear (task_of s t).phase)
   last_by (event.Admit r kind outcome) h = all_pushed Lasts no_request lasts s.requests (resolved_if outcome (new_request i (with_seen (asked_now c me s) s))) (λ over held. refl)
-  last_by (event.Wait None) h = same_last refl
   last_by (event.Wait (Some r)) h = one r _ (lasts (request_of s r))
   last_by (event.Got r outcome) h = one r _ (λ over held. over)
   last_by (event.Drop r) h = drop_one r
-  last_by (event.Timer z until) h = same_last refl
-  last_by (event.GotTimer z) h = same_last refl
-  last_by event.Pass h = same_last refl
   last_by (event.Wake t) h = by_wake t choice
   last_by (event.Stage r) h = one r _ (λ over held. absurd (false≢true over))
   last_by event.Enter h = all_mapped Lasts no_request lasts (flown i) (flown_lasts i) s.requests
-  last_by event.Busy h = same_last refl
   last_by (event.Cancel r) h = one r _ (lasts (request_of s r))
   last_by (event.Orphan r outcome) h = drop_one r
   last_by (event.Release r) h = one r _ (lasts (request_of s r))
   last_by (event.Send to m) h = posts_last (after_sending s me.polls m) to m (is_root_message m && is_left_out choice) (by_sending me.polls m)
   last_by (event.Apply m) h = by_message m
-  last_by (event.Rouse other) h = same_last refl
-  last_by (event.Sleep until) h = same_last refl
-  last_by event.Close h = same_last refl
-  last_by event.Stop h = same_last refl
-  last_by event.End h = same_last refl
   last_by (event.Reap r n outcome) h = absurd (true≢false h)
   last_by (event.Expire r outcome) h = absurd (true≢false h)
   last_by (event.Enrol r outcome) h = absurd (true≢false h)
@@ -224,8 +207,7 @@ module _ (c : Configuration) (me : Books) (s : Common) (i : ℕ) (choice : Choic
   over_sleeps = grind (arith, one_more, sleeps, same_sleep)
 
   pend_sleeps : (t : ℕ) (cleared : Bool) → all_sleep (if cleared then after_over s i t else set_task s t (record (task_of s t) { phase = pended_phase (task_of s t).phase }))
-  pend_sleeps t true = over_sleeps (task_of s t).waiting
-  pend_sleeps t false = same_sleep refl
+  pend_sleeps = grind (arith, over_sleeps, same_sleep)
 
   -- the sleepers are those of before then too
   cleared_sleeps : (t : ℕ) (w : Waiting) → AllSleep s.sleepers (sleepers_after_waking_up (with_cleared s t) i w)
@@ -237,12 +219,10 @@ module _ (c : Configuration) (me : Books) (s : Common) (i : ℕ) (choice : Choic
   cleared_sleeps t waiting.Yielded = same_sleep refl
 
   clear_sleeps : (t : ℕ) (ends : Bool) → all_sleep (if ends then after_over (with_cleared s t) i t else with_cleared s t)
-  clear_sleeps t true = cleared_sleeps t (task_of (with_cleared s t) t).waiting
-  clear_sleeps t false = same_sleep refl
+  clear_sleeps = grind (arith, cleared_sleeps, same_sleep)
 
   word_sleeps : (polls : Option ℕ) → all_sleep (after_word s polls)
-  word_sleeps None = same_sleep refl
-  word_sleeps (Some t) = same_sleep refl
+  word_sleeps = grind (arith, same_sleep)
 
   payment_sleeps : (polls : Option ℕ) (payer : Payer) → all_sleep (after_payment s polls payer)
   payment_sleeps = grind (arith, same_sleep, one_more, sleeps)
@@ -254,15 +234,13 @@ module _ (c : Configuration) (me : Books) (s : Common) (i : ℕ) (choice : Choic
   sending_sleeps = grind (arith, same_sleep, one_more, sleeps)
 
   post_sleeps : (late : Common) (to : ℕ) (m : MailMessage) (left_out : Bool) → all_sleep late → all_sleep (if left_out then late else set_seat late to (posted m (seat_of late to)))
-  post_sleeps late to m true h = h
-  post_sleeps late to m false h = h
+  post_sleeps = grind arith
 
   message_sleeps : (m : MailMessage) → all_sleep (after_message me s m)
   message_sleeps = grind (arith, same_sleep, one_more, sleeps)
 
   reap_sleeps : (r : ℕ) (n : OpResult) (refused : Bool) → AllSleep s.sleepers (if refused then set_open s (request_of s r).operation.target (record (open_of s (request_of s r).operation.target) { account = record (account_of_open s (request_of s r)) { hinted = false } }) else s).sleepers
-  reap_sleeps r n true = same_sleep refl
-  reap_sleeps r n false = same_sleep refl
+  reap_sleeps = grind (arith, same_sleep)
 
   pub asleep_by : (e : Event) → is_firing e ≡ false → all_sleep (common_after c me s i e choice)
   asleep_by event.Turn h = turn_sleeps choice
@@ -273,7 +251,6 @@ module _ (c : Configuration) (me : Books) (s : Common) (i : ℕ) (choice : Choic
   asleep_by (event.Dedicated t k) h = word_sleeps me.polls
   asleep_by event.Closed h = word_sleeps me.polls
   asleep_by (event.Clear t) h = clear_sleeps t (ends_by_clear (task_of s t).phase)
-  asleep_by (event.Wait None) h = same_sleep refl
   asleep_by (event.Wait (Some r)) h = same_sleep refl
   asleep_by (event.Timer z until) h = all_pushed Sleeps no_sleeper sleeps s.sleepers (new_sleeper until i (polled me)) (λ fired. refl)
   asleep_by (event.Wake t) h = wake_sleeps t choice

@@ -25,8 +25,7 @@ pub mute_says : (e : Event) → is_mute e ≡ true → is_saying e ≡ false
 mute_says = grind arith
 
 pub mute_if : (b : Bool) (e f : Event) → is_mute e ≡ true → is_mute f ≡ true → is_mute (if b then e else f) ≡ true
-mute_if true e f one other = one
-mute_if false e f one other = other
+mute_if = grind arith
 
 unending_fires : (e : Event) → is_ending e ≡ false → is_firing e ≡ false
 unending_fires = grind arith
@@ -44,8 +43,7 @@ abbrev pub lists_of : Desk → Things → ListsOf
 lists_of d x = record { awaited = d.awaited; wakes = d.wakes; results = d.results; completions = d.completions; answers = x.answers; alarms = x.alarms }
 
 pub lists_if : (b : Bool) (e f : Desk) (x : Things) (l : ListsOf) → lists_of e x ≡ l → lists_of f x ≡ l → lists_of (if b then e else f) x ≡ l
-lists_if true e f x l one other = one
-lists_if false e f x l one other = other
+lists_if = grind arith
 
 module _ (c : Configuration) (i : ℕ) (me : Books) (s : Common) (d : Desk) (x : Things) where
   abbrev pub late : Moved Things → Common
@@ -127,8 +125,7 @@ module _ (c : Configuration) (i : ℕ) (me : Books) (s : Common) (d : Desk) (x :
   quiet m lists mute = record { lists = lists; mute = mute }
 
   pub quiet_if : {T : Type 0} (back : T → Things) (b : Bool) (m n : Moved T) → Quiet (puts back m) → Quiet (puts back n) → Quiet (puts back (if b then m else n))
-  quiet_if back true m n one other = one
-  quiet_if back false m n one other = other
+  quiet_if = grind arith
 
   pub mild : (m : Moved Things) → Quiet m → Mild m
   mild m it = mildly m (same_lists m it.lists) it.mute

@@ -37,8 +37,7 @@ module _ (c : Configuration) (i : ℕ) (me : Books) (s : Common) (d : Desk) (x :
   begun = grind arith
 
   requeued_lists : (b : Bool) → lists_of (requeued_if b t d) x ≡ lists_of d x
-  requeued_lists true = refl
-  requeued_lists false = refl
+  requeued_lists = grind arith
 
   -- the lists after a poll, as these requests are then
   record LetsGo (f : Desk) (then_by : Common) : Type 0 where
@@ -84,8 +83,7 @@ module _ (c : Configuration) (i : ℕ) (me : Books) (s : Common) (d : Desk) (x :
   hears r false p = calm _ refl refl
 
   hears_timer : (z : ℕ) (b : Bool) → Mildly (with_alarms x (if b then does (GotTimer z) (acts_on t d) x.alarms else does Turn (stops t d) x.alarms))
-  hears_timer z true = calm _ refl refl
-  hears_timer z false = calm _ refl refl
+  hears_timer = grind (arith, calm)
 
   looks_at : (b : AfterSend) (m : Moved Things) → Mildly m → (y : Sight) → Mildly (move_look_at c s d x t b m y)
   looks_at b m one Here = one
@@ -126,7 +124,6 @@ module _ (c : Configuration) (i : ℕ) (me : Books) (s : Common) (d : Desk) (x :
   acts_by script.Await = awaits_newest (newest_held it)
   acts_by script.Drop = drops_newest (newest_held it)
   acts_by (script.Sleep time) = sleeps_for (sleep_asked me.sampled (script.Sleep time))
-  acts_by script.Yield = calm _ refl refl
   acts_by (script.Fault code) = mildly c i me s d x _ (adds_lists c i me s d x _ (lets_go_all i s it d) refl (all_adds i s it d) (λ k there held going unsent observed. all_awaited i s it d k there observed)) refl
   acts_by script.End = mildly c i me s d x _ (adds_lists c i me s d x _ (lets_go_all i s it d) refl (all_adds i s it d) (λ k there held going unsent observed. all_awaited i s it d k there observed)) refl
   acts_by _ = calm _ refl refl
@@ -139,16 +136,14 @@ module _ (c : Configuration) (i : ℕ) (me : Books) (s : Common) (d : Desk) (x :
   acts = acts_asked (next_word s it) (operation_asked c me.sampled (next_word s it))
 
   wakes_root : (u home : ℕ) (own : Bool) → Mildly (if own then aside x (wake_own_root t u d (task_of s u)) else with_mailbox home x (send_root c s home (send.Act t) d (mailbox_of x home)))
-  wakes_root u home true = calm _ refl refl
-  wakes_root u home false = mild c i me s d x _ (posts_root c i me s d x home (send.Act t))
+  wakes_root = grind (arith, calm, mild, posts_root)
 
   wakes : (u : ℕ) (home : Option ℕ) → Mildly (move_wake c i s d x t u home)
   wakes u None = calm _ (lists_if (is_idle (task_of s u).phase) _ _ x _ refl refl) refl
   wakes u (Some home) = wakes_root u home (home == i)
 
   makes_worker : (closed : Bool) → Mildly (does (if closed then Closed else Dedicated (next_task s) (length s.seats)) (goes (at.Poll t poll.Act) d) (if closed then x else with_newcomer x))
-  makes_worker true = calm _ refl refl
-  makes_worker false = calm _ refl refl
+  makes_worker = grind (arith, calm)
 
   acts_as : (w : ScriptWord) → Mildly (move_act c i me s d x t w)
   acts_as (script.Spawn k) = calm _ (lists_if s.set_closed _ _ x _ refl refl) (mute_if s.set_closed Closed (Spawn (next_task s) k) refl refl)

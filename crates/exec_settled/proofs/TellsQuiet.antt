@@ -1,15 +1,12 @@
 -- Places whose moves leave the lists of what is to be told as they are: all that hands tasks on, searches, looks and waits.
-use Rattle.std.proofs.Common.{◌≡◌, ℕ, Bool, true, false, ◌||◌, List, [], ◌∷◌, refl, if◌then◌else◌, arith}
+use Rattle.std.proofs.Common.{◌≡◌, ℕ, Bool, true, ◌||◌, List, refl, if◌then◌else◌, arith}
 use Rattle.std.specs.Prelude.{not, ◌&&◌, drop}
 use Rattle.exec_words.specs.{Queue.{Queue}}
 use Rattle.exec_words.specs.declared.{idle.WorkerSet.WorkerSet}
-use Rattle.exec_machine.specs.{declared.{config.Configuration.Configuration, event.Event.{TheVariants.{Rouse, Turn}}, state.MailMessage.{MailMessage, TheVariants.Root}}, Choice.{Choice, Choice.{Plain, Posts}}, Deadlines.next_due, Ranges.ring_size, Tests.is_awake, World.{Common, Own as Books, seat_of}}
+use Rattle.exec_machine.specs.{declared.{config.Configuration.Configuration, state.MailMessage.{MailMessage, TheVariants.Root}}, Choice.{Choice, Choice.{Plain, Posts}}, Deadlines.next_due, Ranges.ring_size, World.{Common, Own as Books, seat_of}}
 use Rattle.exec_moves.specs.{declared.{handing.{AfterCancels.AfterCancels, AfterClaim.AfterClaim, AfterKick.AfterKick, AfterLeave.AfterLeave, AfterPop.AfterPop, AfterPush.AfterPush, AfterSend.AfterSend, AfterSignal.AfterSignal, InGlobal.InGlobal, InKick.InKick, InPop.InPop, InPush.InPush, InSignal.InSignal}, idling.{AfterWait.AfterWait, InLook.InLook, InRingWait.InRingWait, InScan.InScan, InSearch.InSearch, InWordWait.InWordWait, Stay.Stay}, place.{Found.Found, InLoads.InLoads, InPick.InPick, Place.Place, Round.Round}}, Callback.is_full, Claim.{claim_worker}, Kick.leave_search, Load.{has_come, has_submissions, is_ready, test_for_work}, Look.{withdraw}, Move.{move_global, move_kick, move_loads, move_look, move_pick, move_pop, move_push, move_ring_wait, move_scan, move_search, move_signal, move_word_wait}, Pick.{begin_turn, take_root_flag}, Pop.{after_pop, pops}, Send.{first_letter, is_left_out, payer_of_send, posting_of, send_cancel, send_root, sent}, State.{Desk, Moved, Own, Things}, Submit.with_poll, Thing.{aside, mailbox_of, puts, ring_of, set_ring, with_idle, with_mailbox, with_queue, with_ring}, Wait.{enter_full_ring, enter_ring, has_completion, read_clock}}
-use Rattle.exec_moves.specs.declared.handing.AfterPop.TheVariants as after_pops
 use Rattle.exec_moves.specs.declared.handing.AfterSend.TheVariants as send
-use Rattle.exec_moves.specs.declared.handing.InSignal.TheVariants as signals
 use Rattle.exec_moves.specs.declared.idling.InRingWait.TheVariants as ring
-use Rattle.exec_moves.specs.declared.idling.InSearch.TheVariants as search
 use Rattle.exec_moves.specs.declared.place.Place.TheVariants as at
 use Rattle.exec_settled.proofs.TellsPlain.{Quiet, TellsAll, is_apart, is_mute, lists_if, lists_of, mute_if, plain_tells, quiet, quiet_if}
 
@@ -42,12 +39,10 @@ module _ (c : Configuration) (i : ℕ) (me : Books) (s : Common) (d : Desk) (x :
 
   -- POPS AND PUSHES
   after_popping : (b : AfterPop) (t : ℕ) → lists_of (after_pop c b t d) x ≡ lists_of d x
-  after_popping (after_pops.Pick f) t = refl
-  after_popping after_pops.Discard t = refl
+  after_popping = grind arith
 
   popped : (b : AfterPop) (q : Queue ℕ) (vs : List ℕ) → q.values ≡ vs → Plainly (with_queue i x (pops c i b d q))
-  popped b q [] h = rw h (calm _ refl refl)
-  popped b q (t ∷ ts) h = rw h (calm _ (after_popping b t) refl)
+  popped = grind (arith, calm, after_popping)
 
   pops_by : (p : InPop) (b : AfterPop) → Plainly (move_pop c i d x p b)
   pops_by = grind arith
@@ -81,8 +76,7 @@ module _ (c : Configuration) (i : ℕ) (me : Books) (s : Common) (d : Desk) (x :
   claims set b is = stays _ (at.ClaimWorker set b) is refl (calm _ refl refl)
 
   signals_by : (p : InSignal) (j : ℕ) (b : AfterSignal) → Plainly (move_signal c i me s d x p j b)
-  signals_by signals.SetLatch j b = calm _ refl refl
-  signals_by (signals.Raise ring) j b = calm _ refl (mute_if (is_awake (seat_of s j).rest) Turn (Rouse j) refl refl)
+  signals_by = grind (arith, calm, mute_if)
 
   pub signalled : (p : InSignal) (j : ℕ) (b : AfterSignal) → d.place ≡ at.Signal p j b → TellsAll c i me s d x (move_signal c i me s d x p j b)
   signalled p j b is = stays _ (at.Signal p j b) is refl (signals_by p j b)
@@ -102,8 +96,7 @@ module _ (c : Configuration) (i : ℕ) (me : Books) (s : Common) (d : Desk) (x :
 
   -- SEARCH, SCAN, LOOK
   searches_by : (p : InSearch) → Plainly (move_search c d x p)
-  searches_by search.LoadSearchCount = calm _ refl refl
-  searches_by search.AddSearchCount = calm _ refl refl
+  searches_by = grind (arith, calm)
 
   pub searches : (p : InSearch) → d.place ≡ at.Search p → TellsAll c i me s d x (move_search c d x p)
   searches p is = stays _ (at.Search p) is refl (searches_by p)
@@ -125,12 +118,10 @@ module _ (c : Configuration) (i : ℕ) (me : Books) (s : Common) (d : Desk) (x :
 
   -- THE TWO WAITS
   enters_full : (y : Stay) (busy : Bool) → Plainly (with_ring i x (enter_full_ring y me d (record (ring_of s x i) { busy = busy })))
-  enters_full y true = calm _ refl refl
-  enters_full y false = calm _ refl refl
+  enters_full = grind (arith, calm)
 
   enters : (y : Stay) (busy : Bool) → Plainly (with_ring i x (enter_ring y me d (record (ring_of s x i) { busy = busy })))
-  enters y true = calm _ refl refl
-  enters y false = calm _ refl refl
+  enters = grind (arith, calm)
 
   pub polled_lists : (e : Desk) → lists_of (with_poll (ring_size c) e) x ≡ lists_of e x
   polled_lists e = lists_if (e.polled || is_full (ring_size c) e) _ _ x _ refl refl

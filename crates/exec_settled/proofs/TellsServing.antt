@@ -1,5 +1,5 @@
 -- What a worker tells in a service: of each request that is over by it, and of each sleeper that fires.
-use Rattle.std.proofs.Common.{◌≡◌, ℕ, Bool, true, false, List, [], ◌∷◌, unwrap_or, Option, Some, None, refl}
+use Rattle.std.proofs.Common.{◌≡◌, ℕ, Bool, true, false, List, [], ◌∷◌, unwrap_or, Option, Some, None, refl, arith}
 use Rattle.std.proofs.lemmas.Bool.{false≢true}
 use Rattle.exec_outcomes.specs.{declared.outcome.{Kind.Kind, OpResult.OpResult, Outcome.Outcome}, Accounts.{Account, outcome_at_grant}}
 use Rattle.exec_machine.specs.{declared.{config.Configuration.Configuration, event.Event.{TheVariants.{Rouse, Serve}}, state.Request.Request}, Deadlines.{enrolled, expired, fires_at, outcome_at_enrol, outcome_at_expiry}, Requests.{account_of_open, granted, outcome_given, outcome_shown, reaped as reaped_by}, Tests.{is_awake}, World.{Common, Own as Books, request_of, seat_of, sleeper_of}}
@@ -17,8 +17,7 @@ module _ (c : Configuration) (i : ℕ) (me : Books) (s : Common) (d : Desk) (x :
 
   -- COMPLETIONS: as one more result gives an end or none
   matches_reap : (account : Account) (kind : Kind) (n : OpResult) (it : Request) (given : Option Outcome) → Matches c i me s d x given (reaped_by n (outcome_shown account kind given) it) it
-  matches_reap account kind n it None = λ over. absurd (false≢true over)
-  matches_reap account kind n it (Some outcome) = refl
+  matches_reap = grind (arith, false≢true)
 
   reaps : (r : Reaping) (l : List ℕ) → Mildly (with_ring i x (reap i v r s d (record (ring_of s x i) { landed = l })))
   reaps r [] = calm _ refl refl
@@ -30,20 +29,16 @@ module _ (c : Configuration) (i : ℕ) (me : Books) (s : Common) (d : Desk) (x :
 
   -- DEADLINES AND GATES
   matches_expire : (it : Request) (how : Option Outcome) → Matches c i me s d x how (expired how it) it
-  matches_expire it None = λ over. over
-  matches_expire it (Some outcome) = refl
+  matches_expire = grind arith
 
   matches_enrol : (moment : ℕ) (it : Request) (how : Option Outcome) → Matches c i me s d x how (enrolled moment how it) it
-  matches_enrol moment it None = λ over. over
-  matches_enrol moment it (Some outcome) = refl
+  matches_enrol = grind arith
 
   matches_grant : (it : Request) (how : Option Outcome) → Matches c i me s d x how (granted how it) it
-  matches_grant it None = λ over. absurd (false≢true over)
-  matches_grant it (Some outcome) = refl
+  matches_grant = grind (arith, false≢true)
 
   granted_lists : (file : ℕ) (o : Option Outcome) (e : Desk) (y : Things) → lists_of (after_grant v file o e) y ≡ lists_of e y
-  granted_lists file None e y = refl
-  granted_lists file (Some outcome) e y = refl
+  granted_lists = grind arith
 
   tries : (file : ℕ) (o : Option ℕ) → granted_at i (gate_of x file) s ≡ o → Mildly (with_gate file x (try_gate i v file s d (gate_of x file)))
   tries file None none = rw none (calm _ refl refl)

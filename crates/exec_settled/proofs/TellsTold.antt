@@ -158,8 +158,7 @@ gone_at (x ∷ xs) (suc r) y h = gone_at xs r y h
 
 module _ (i : ℕ) (s : Common) where
   one_lets_go : (r : ℕ) (d : Desk) (own : Bool) → Adds d (if own then told_of_drop r (request_of s r) d else owes (request_of s r).worker (CancelRequest r) d)
-  one_lets_go r d true = (drop_told r (request_of s r) d).adds
-  one_lets_go r d false = adds d _ refl refl refl
+  one_lets_go = grind (arith, drop_told, adds)
 
   go_adds : (held : List ℕ) (d : Desk) → Adds d (lets_go_requests i s held d)
   go_adds [] d = adds d d refl refl refl
@@ -187,8 +186,7 @@ module _ (i : ℕ) (s : Common) where
       by true was true is = absurd (gone was (eqb-true k r is))
 
   timer_goes : (z : ℕ) (d : Desk) (own : Bool) → Tolds z (sleeper_of s z) d (if own then told_of_cancel z (sleeper_of s z) d else owes (sleeper_of s z).worker (CancelTimer z) d)
-  timer_goes z d true = cancel_told z (sleeper_of s z) d
-  timer_goes z d false = record { adds = adds d _ refl refl refl; awaited = refl }
+  timer_goes = grind (arith, cancel_told, adds)
 
   sleep_adds : (w : Waiting) (d : Desk) → Adds d (lets_go_sleep i s w d)
   sleep_adds = grind (arith, timer_goes, adds)
@@ -201,5 +199,4 @@ module _ (i : ℕ) (s : Common) where
 
   pub all_awaited : (it : Task) (d : Desk) (k : ℕ) → has_number k d.awaited ≡ true → (get_or (requests_after_drops i it.held s.requests) k no_request).observed ≡ true
       → has_number k (lets_go_all i s it d).awaited ≡ true
-  all_awaited it d k there observed =
-      subst (λ l. has_number k l ≡ true) (sym (sleep_awaited it.waiting (lets_go_requests i s it.held d))) (go_awaited it.held d s.requests (λ j. refl) k there observed)
+  all_awaited = grind (arith, sleep_awaited, go_awaited)

@@ -1,13 +1,10 @@
 -- Where nothing is due, and nothing of a request is to be done.
 use Rattle.std.proofs.Common.{◌≡◌, ℕ, ◌==◌, ◌&&◌, ◌||◌, Bool, true, false, not, List, [], ◌∷◌, get_or, Option, Some, if◌then◌else◌, refl, arith}
-use Rattle.std.proofs.lemmas.Bool.{false≢true}
+use Rattle.std.proofs.lemmas.Bool.{false≢true, and_right}
 use Rattle.std.specs.Prelude.{nat_le}
 use Rattle.std.specs.List.{list_any, list_all}
+pub use Rattle.std.proofs.lemmas.Bool.{false_from_ne_true}
 use Rattle.exec_machine.specs.{declared.state.{Request.Request, Sleeper.Sleeper}, Deadlines.{earlier, first_timer, first_until, is_after, is_due}, Tests.{is_asleep, is_resolved}, World.{no_request, no_sleeper}}
-
-and_no : (a b : Bool) → b ≡ false → (a && b) ≡ false
-and_no true b h = h
-and_no false b h = refl
 
 -- NOTHING IS DUE
 
@@ -15,7 +12,7 @@ pub after_earlier : (clock : ℕ) (a b : Option ℕ) → is_after clock (earlier
 after_earlier = grind arith
 
 pub none_due : (i clock : ℕ) (rs : List Request) → is_after clock (first_timer i rs) ≡ true → (k : ℕ) → is_due i clock (get_or rs k no_request) ≡ false
-none_due i clock [] h k = and_no (0 == i) false refl
+none_due i clock [] h k = and_right (0 == i) false refl
 none_due i clock (r ∷ rs) h k = by (r.worker == i) refl h (λ h j. none_due i clock rs h j) k
   where
     by : (b : Bool) → (r.worker == i) ≡ b → is_after clock (if b then earlier r.timer (first_timer i rs) else first_timer i rs) ≡ true
@@ -23,8 +20,7 @@ none_due i clock (r ∷ rs) h k = by (r.worker == i) refl h (λ h j. none_due i 
     by = grind arith
 
 no_bed : (b : Bool) → (b && not true && not true) ≡ false
-no_bed true = refl
-no_bed false = refl
+no_bed = grind arith
 
 pub none_slept : (i clock : ℕ) (zs : List Sleeper) → is_after clock (first_until i zs) ≡ true → (k : ℕ) → (is_asleep i (get_or zs k no_sleeper) && nat_le (get_or zs k no_sleeper).until clock) ≡ false
 none_slept i clock [] h k = rw (no_bed (0 == i)) refl
@@ -36,10 +32,6 @@ none_slept i clock (z ∷ zs) h k = by (is_asleep i z) refl h (λ h j. none_slep
     by = grind arith
 
 -- LISTS AND REQUESTS
-
-pub not_true : (b : Bool) → (b ≡ true → ⊥) → b ≡ false
-not_true true h = absurd (h refl)
-not_true false h = refl
 
 -- what is not to be done of a request, one after another
 pub eight : (a b e d f g h i : Bool) → a ≡ false → b ≡ false → e ≡ false → d ≡ false → f ≡ false → g ≡ false → h ≡ false → i ≡ false → (a || b || e || d || f || g || h || i) ≡ false

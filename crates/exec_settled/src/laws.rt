@@ -1,6 +1,5 @@
 //! The laws of what is settled, for every state of an executor.
 
-ghost use Rattle.std.specs.Prelude.{◌≡◌, ℕ, true};
 ghost use Rattle.exec_machine.specs.{declared.{config.Configuration.Configuration, step.Action.Action}, Progress.{IsRightlyAsleep, Plan}, Run.Follows};
 ghost use Rattle.exec_moves.specs.Plays.{Playing, by_step, first_playing};
 ghost use Rattle.exec_books.specs.Booked.{IsBooked};

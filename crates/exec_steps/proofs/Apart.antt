@@ -1,6 +1,6 @@
 -- A STEP OF ANOTHER PARTY keeps what is sound of a worker: it leaves what the worker alone touches, and of what is shared
 -- what it relies on.
-use Rattle.std.proofs.{Common.{◌≡◌, ℕ, ◌*◌, ◌^◌, ◌<◌, ◌≤◌, ◌&&◌, nat_lt, Bool, true, false, [], length, Option, Some, None, sym, ap, subst, ◌∙◌, ⊎_elim, arith, inl, inr, slice_get, ◌+◌}, lemmas.{Bool.{cases_lt}, Option.slice_get_within}}
+use Rattle.std.proofs.{Common.{◌≡◌, ℕ, ◌*◌, ◌^◌, ◌<◌, ◌≤◌, ◌&&◌, Bool, true, false, Contains, [], length, option_to_list, Option, Some, None, sym, ap, subst, ◌∙◌, ⊎_elim, arith, inl, inr, slice_get, ◌+◌}, lemmas.{Bool.{cases_lt}, Option.slice_get_within}}
 use Rattle.exec_base.specs.{Slab.IsPast, declared.slab.Id.Id}
 use Rattle.exec_request.specs.declared.request.Request.{Request as Asking}
 use Rattle.exec_waiters.specs.{Ids.user_data_of, States.{pending_count, waiter_at}, declared.waiter.Waiter.Waiter}
@@ -11,7 +11,7 @@ use Rattle.exec_machine.specs.{declared.state.Waiting.Waiting, Tests.{has_ended,
 use Rattle.exec_moves.specs.{Seen.polls_at, declared.{place.{InClosing.InClosing, InPoll.InPoll, Place.Place}}}
 use Rattle.exec_parts.{specs.{declared.parts.{mail.{Reply.Reply, Subject.Subject}, record.Record.Record, seat.Seat.Seat as Chair, shared.Shared.Shared, task_slot.TaskSlot.TaskSlot, worker.Worker.Worker}, Phased.{IsPhased, IsPrepared, closes_at, closing_in, has_left, has_stopped, root_over, stage_of}, Records.number_in, MailPosts.IsMailbox, View.driver_of}, proofs.Facts.by_number}
 use Rattle.exec_polling.specs.Calling.{HoldsForAll}
-use Rattle.exec_invariants.{specs.{Carried.{Carried, HasStretchFor, IsUnderWay}, Due.IsDue, Gates.{IsKnown, has_hint_at, may_ask_hint}, HoldPlaces.{cancels_at, heard_at, sends_cancel_at}, Places.{begins_at, is_armed_at, is_pooled_at, step_of_poll}, Sound.{HasGuest, HasLetters, HasQueue, HasRunnable, IsGuest, IsHeld, IsSeated, SoundAt, Stops, StopsIn, root_in_hand, served_in}, Spares.{Spares, SparesChair, SparesMore, SparesRecord}}, proofs.{Dedicated.{by_length, chair_of_pool}, Spared.{KeepsMine, asleep_apart, flown_apart, heard_apart, letter_apart, mail_apart, named_apart, over_apart, record_back, rooted_apart, stops_apart, timed_apart}, SparedRecord.{sleepers_stay, live_of, there_within}}}
+use Rattle.exec_invariants.{specs.{Carried.{Carried, HasStretchFor, IsUnderWay}, Due.IsDue, Gates.{IsKnown, has_hint_at, may_ask_hint}, Holding.Mail, HoldPlaces.{cancels_at, heard_at, sends_cancel_at}, Places.{begins_at, is_armed_at, is_pooled_at, polled_in, step_of_poll}, Sound.{AreHome, HasGuest, HasLetters, HasQueue, HasRunnable, IsGuest, IsHeld, IsInTime, IsMyMail, IsSeated, IsTied, SoundAt, Stops, StopsIn, root_in_hand, served_in}, Spares.{Spares, SparesChair, SparesMore, SparesRecord}, Whole.IsGenuine}, proofs.{Dedicated.{by_length, chair_of_pool}, Spared.{KeepsMine, asleep_apart, flown_apart, heard_apart, letter_apart, mail_apart, named_apart, over_apart, record_back, rooted_apart, stops_apart, timed_apart}, SparedRecord.{sleepers_stay, live_of, there_within}}}
 use Rattle.exec_steps.proofs.ApartQueues.{queue_apart, aims_apart}
 
 -- WHERE A CLOSING IS
@@ -95,14 +95,14 @@ module _ {B : Type 0} where
         let is : own.is ≡ chair = cc (own.here, there) in
         subst P is h
 
-    seated_apart : IsSeated w.index (is_armed_at p) s'.config.workers s'.seats.items
+    seated_apart : IsSeated w.index (is_armed_at p) s.config.workers s'.seats.items
     seated_apart =
         let was : sound.seated.seat ≡ own.was = cc (sound.seated.there, own.there) in
         record {
-          many = omega (arith, spares.many, sound.seated.many, ap (λ c. c.workers) spares.config);
+          many = omega (arith, spares.many, sound.seated.many);
           seat = own.is;
           there = own.here;
-          pool = own.spared.pool ∙ ap (λ (c : Chair). c.pool) (sym was) ∙ sound.seated.pool ∙ sym (ap (λ c. nat_lt w.index c.workers) spares.config);
+          pool = own.spared.pool ∙ ap (λ (c : Chair). c.pool) (sym was) ∙ sound.seated.pool;
           unarmed = λ h. own.spared.target ∙ ap (λ c. c.mailbox.waker.target) (sym was) ∙ sound.seated.unarmed h;
           mail = own.spared.mail (subst (λ c. IsMailbox c.mailbox) was sound.seated.mail);
         }
@@ -149,15 +149,7 @@ module _ {B : Type 0} where
 
     due_apart : IsDue (served_in p) w.home.closing w.index w.moments s.config w.names (driver_of w) w.home.timers s'.requests.items s'.sleepers.items
     due_apart =
-        let due = sound.due in
-        record {
-          punctual = due.punctual;
-          told = due.told;
-          wheel = due.wheel;
-          timed = timed_apart w.index s.requests.items s'.requests.items s.sleepers.items s'.sleepers.items mine w.names (driver_of w) w.home.timers sound.named due.timed;
-          asleep = asleep_apart w.index s.requests.items s'.requests.items s.sleepers.items s'.sleepers.items mine w.names (driver_of w) w.home.timers sound.named due.asleep (sleepers_stay s.sleepers.items s'.sleepers.items spares.endure_too);
-          order = due.order;
-        }
+        assumption (timed_apart w.index s.requests.items s'.requests.items s.sleepers.items s'.sleepers.items mine w.names (driver_of w) w.home.timers sound.named sound.due.timed, asleep_apart w.index s.requests.items s'.requests.items s.sleepers.items s'.sleepers.items mine w.names (driver_of w) w.home.timers sound.named sound.due.asleep (sleepers_stay s.sleepers.items s'.sleepers.items spares.endure_too), sound.due)
 
     request_back : (id : Id) (it : Waiter Reply Reply) (r : Record) → waiter_at (driver_of w).requests id ≡ Some it → slice_get s'.requests.items (number_in w.names.requests.items id) ≡ Some r
         → (x : Record) × (slice_get s.requests.items (number_in w.names.requests.items id) ≡ Some x) × SparesRecord x r
@@ -242,50 +234,41 @@ module _ {B : Type 0} where
     -- What is sound of a worker stays so.
     pub apart : HoldsForAll s' → SoundAt p w s'
     apart all =
-        record {
-          here = sound.here;
-          config = rw spares.config sound.config;
-          gates = spares.gates sound.gates;
-          known = known_apart all;
-          workers = rw spares.config sound.workers;
-          role = rw spares.config sound.role;
-          pooled = sound.pooled;
-          serves = sound.serves;
-          calm = sound.calm;
-          homes = all.homes;
-          shards = rw spares.config (spares.shards ∙ sound.shards);
-          time = rw spares.clock sound.time;
-          told = sound.told;
-          wide = sound.wide;
-          named = named_apart w.index s.requests.items s'.requests.items s.sleepers.items s'.sleepers.items mine w.names (driver_of w) w.home.timers sound.named;
-          runnable = runnable_apart;
-          seated = seated_apart;
-          queue = of_chair (λ chair. HasQueue p chair.queue) (queue_apart p own.was.queue own.is.queue own.spared.queue (sound.queue own.was own.there));
-          sized = rw spares.config sound.sized;
-          processed = sound.processed;
-          hand = sound.hand;
-          loot = sound.loot;
-          genuine = λ r has. held_apart r (sound.genuine r has);
-          stolen = λ r has. spares.genuine r (sound.stolen r has);
-          searching = sound.searching;
-          aims = rw spares.config (aims_apart p s.config w.index s.seats.items s'.seats.items spares.many sound.seated.many spares.tails sound.aims);
-          guest = guest_apart (polls_at p) (step_of_poll p) w.index w.root s s' spares sound.guest;
-          resting = all.resting;
-          left = sound.left;
-          over = over_apart w.index s.requests.items s'.requests.items s.sleepers.items s'.sleepers.items mine w.names.ended.items w.names.unreleased (pending_count (driver_of w).requests) sound.over;
-          batch = sound.batch;
-          mine = rw spares.config (λ m has. mail_apart s.requests.items s'.requests.items s.sleepers.items s'.sleepers.items spares.endure spares.endure_too s.config.workers w.index m (sound.mine m has));
-          batch_place = of_chair (λ chair. chair.mailbox.inbox.closed ≡ false → 2 * chair.made + 1 ≤ w.batch.places)
-              (λ opened. subst (λ n. 2 * n + 1 ≤ w.batch.places) (sym own.spared.made) (sound.batch_place own.was own.there (sym own.spared.closed ∙ opened)));
-          letters = rw spares.config letters_apart;
-          quiet = sound.quiet;
-          due = rw spares.config due_apart;
-          flown = flown_apart w.index s.requests.items s'.requests.items s.sleepers.items s'.sleepers.items mine w.names (driver_of w) w.home.timers sound.named (served_in p) all.owning sound.flown;
-          carried = carried_apart;
-          rooted = rooted_apart w.index s.requests.items s'.requests.items s.sleepers.items s'.sleepers.items mine w.names (driver_of w) w.home.timers sound.named w.home.deferred sound.rooted;
-          stops = stops_apart_at (polls_at p) (step_of_poll p) sound.guest sound.stops;
-          hears = heard_apart w.index s.requests.items s'.requests.items s.sleepers.items s'.sleepers.items mine (heard_at p) sound.hears;
-          lets_go = sound.lets_go;
-          phased = of_chair (λ chair. IsPhased w.index (closes_at p) (closing_in p) w.home.closing w.root w.names.unreleased (stage_of chair s') s'.tasks.items) (phased_apart all);
-          tied = record { stands = λ slot there. sound.tied.stands slot (root_back slot there) };
-        }
+        let time : IsInTime w.moments w.slept s'.clock = rw spares.clock sound.time in
+        let homes = subst (λ c. AreHome c.workers (length s'.seats.items) s'.tasks.items) spares.config all.homes in
+        let held : (r : Runnable) → Contains (option_to_list w.hand) r → IsHeld (begins_at p) w.root s'.tasks.items r = λ r has. held_apart r (sound.genuine r has) in
+        let stolen : (r : Runnable) → Contains w.loot.values r → IsGenuine s'.tasks.items r = λ r has. spares.genuine r (sound.stolen r has) in
+        let my_mail : (m : Mail) → Contains w.batch.values m → IsMyMail s.config.workers w.index m s'.requests.items s'.sleepers.items = λ m has. mail_apart s.requests.items s'.requests.items s.sleepers.items s'.sleepers.items spares.endure spares.endure_too s.config.workers w.index m (sound.mine m has) in
+        let tied : IsTied (polled_in w.root p) w.index w.root s'.tasks.items = record { stands = λ slot there. sound.tied.stands slot (root_back slot there) } in
+        let batch_place = of_chair (λ chair. chair.mailbox.inbox.closed ≡ false → 2 * chair.made + 1 ≤ w.batch.places)
+        (λ opened. subst (λ n. 2 * n + 1 ≤ w.batch.places) (sym own.spared.made) (sound.batch_place own.was own.there (sym own.spared.closed ∙ opened))) in
+        subst (λ c. SoundAt p w (record s' { config = c })) (sym spares.config)
+        (assumption (
+          time,
+          homes,
+          spares.gates sound.gates,
+          known_apart all,
+          spares.shards ∙ sound.shards,
+          named_apart w.index s.requests.items s'.requests.items s.sleepers.items s'.sleepers.items mine w.names (driver_of w) w.home.timers sound.named,
+          runnable_apart,
+          seated_apart,
+          of_chair (λ chair. HasQueue p chair.queue) (queue_apart p own.was.queue own.is.queue own.spared.queue (sound.queue own.was own.there)),
+          held,
+          stolen,
+          aims_apart p s.config w.index s.seats.items s'.seats.items spares.many sound.seated.many spares.tails sound.aims,
+          guest_apart (polls_at p) (step_of_poll p) w.index w.root s s' spares sound.guest,
+          over_apart w.index s.requests.items s'.requests.items s.sleepers.items s'.sleepers.items mine w.names.ended.items w.names.unreleased (pending_count (driver_of w).requests) sound.over,
+          my_mail,
+          tied,
+          batch_place,
+          letters_apart,
+          due_apart,
+          flown_apart w.index s.requests.items s'.requests.items s.sleepers.items s'.sleepers.items mine w.names (driver_of w) w.home.timers sound.named (served_in p) all.owning sound.flown,
+          carried_apart,
+          rooted_apart w.index s.requests.items s'.requests.items s.sleepers.items s'.sleepers.items mine w.names (driver_of w) w.home.timers sound.named w.home.deferred sound.rooted,
+          stops_apart_at (polls_at p) (step_of_poll p) sound.guest sound.stops,
+          heard_apart w.index s.requests.items s'.requests.items s.sleepers.items s'.sleepers.items mine (heard_at p) sound.hears,
+          of_chair (λ chair. IsPhased w.index (closes_at p) (closing_in p) w.home.closing w.root w.names.unreleased (stage_of chair s') s'.tasks.items) (phased_apart all),
+          all,
+          sound,
+        ))

@@ -3,7 +3,7 @@ use Rattle.std.proofs.{Common.{◌≡◌, ℕ, ◌<◌, ◌≤◌, Bool, true, f
 use Rattle.exec_words.specs.{Head.is_spent, Queue.{Queue, claimed, released, room_of, tail_of}, declared.head.Head.Head}
 use Rattle.exec_task.specs.declared.runnable.Runnable.{Runnable}
 use Rattle.exec_machine.specs.declared.config.Configuration.{Configuration}
-use Rattle.exec_moves.specs.{Search.from_of, declared.{handing.{InGlobal.InGlobal, InKick.InKick}, idling.{InLook.InLook, InRingWait.InRingWait, InScan.InScan, Scan.Scan}, place.{InClosing.InClosing, InMail.InMail, InService.InService, Place.Place}}}
+use Rattle.exec_moves.specs.{Search.from_of, declared.{idling.{InScan.InScan, Scan.Scan}, place.{Place.Place}}}
 use Rattle.exec_parts.specs.declared.parts.seat.Seat.{Seat as Chair}
 use Rattle.exec_invariants.{specs.{Sound.{Aims, HasQueue, MayClaim}, Spares.Thins}, proofs.SparedRecord.there_within}
 
@@ -44,15 +44,10 @@ claim_apart : (i from : ℕ) (h : Head) (tail : ℕ) (seats seats' : List Chair)
     → ((k : ℕ) (chair chair' : Chair) → slice_get seats k ≡ Some chair → slice_get seats' k ≡ Some chair' → tail_of chair.queue ≤ tail_of chair'.queue)
     → MayClaim i from h tail seats → MayClaim i from h tail seats'
 claim_apart i from h tail seats seats' inside tails may =
-    record {
-      other = may.other;
-      unclaimed = may.unclaimed;
-      some = may.some;
-      most = may.most;
-      behind = λ chair' there'.
-          let old : (chair : Chair) × (slice_get seats from ≡ Some chair) = there_within seats from inside in
-          omega (arith, may.behind old.0 old.1, tails from old.0 chair' old.1 there');
-    }
+    let behind : (chair' : Chair) → slice_get seats' from ≡ Some chair' → tail ≤ tail_of chair'.queue = λ chair' there'.
+    let old : (chair : Chair) × (slice_get seats from ≡ Some chair) = there_within seats from inside in
+    omega (arith, may.behind old.0 old.1, tails from old.0 chair' old.1 there') in
+    assumption (behind, may)
 
 -- a scan stays within the pool
 scan_within : (c : Configuration) (x : Scan) → x.start < c.workers → from_of c x < c.workers
@@ -63,23 +58,4 @@ pub aims_apart : (p : Place) (c : Configuration) (i : ℕ) (seats seats' : List 
     → Aims p c i seats → Aims p c i seats'
 aims_apart (Place.Scan (InScan.ClaimHalf x h tail)) c i seats seats' more many tails aims =
     (claim_apart i (from_of c x) h tail seats seats' (omega (arith, scan_within c x aims.1.0, many)) tails aims.0, aims.1)
-aims_apart (Place.Signal x j b) c i seats seats' more many tails aims = (omega (arith, aims.0, more), aims.1)
-aims_apart (Place.Service (InService.Signal j b) v) c i seats seats' more many tails aims = omega (arith, aims, more)
-aims_apart (Place.Service (InService.Raise ring j b) v) c i seats seats' more many tails aims = omega (arith, aims, more)
-aims_apart (Place.Service x v) c i seats seats' more many tails aims = tt
-aims_apart (Place.Scan (InScan.LoadTheirHead x)) c i seats seats' more many tails aims = aims
-aims_apart (Place.Scan (InScan.LoadTheirTail x h)) c i seats seats' more many tails aims = aims
-aims_apart (Place.Look (InLook.LookAtHead j)) c i seats seats' more many tails aims = aims
-aims_apart (Place.Look (InLook.LookAtTail j h)) c i seats seats' more many tails aims = aims
-aims_apart (Place.Kick (InKick.ExchangeKickCount set) b) c i seats seats' more many tails aims = aims
-aims_apart (Place.Global (InGlobal.AddGlobalCount set) b) c i seats seats' more many tails aims = aims
-aims_apart (Place.Mail (InMail.Apply applied taken)) c i seats seats' more many tails aims = aims
-aims_apart (Place.Closing InClosing.CloseQueue) c i seats seats' more many tails aims = aims
-aims_apart (Place.Closing InClosing.OpenBarrier) c i seats seats' more many tails aims = aims
-aims_apart (Place.Closing InClosing.Stop) c i seats seats' more many tails aims = aims
-aims_apart (Place.Closing (InClosing.TellRoot j)) c i seats seats' more many tails aims = aims
-aims_apart (Place.Scan (InScan.MoveHalf from h)) c i seats seats' more many tails aims = aims
-aims_apart (Place.Scan (InScan.ReleaseHalf from h)) c i seats seats' more many tails aims = aims
-aims_apart (Place.RingWait (InRingWait.DisarmRing n) x) c i seats seats' more many tails aims = aims
-aims_apart (Place.ClaimWorker set b) c i seats seats' more many tails aims = aims
-aims_apart _ c i seats seats' more many tails aims = tt
+aims_apart _ c i seats seats' more many tails aims = grind arith

@@ -1,14 +1,11 @@
 -- WHAT A WORKER OWES OTHERS of what a task held may be sent: each letter is under way once, in the worker's own hand, so it is in no
 -- inbox, and the inbox that it goes to has a place for it.
-use Rattle.std.proofs.{Common.{◌≡◌, ℕ, ◌+◌, ◌<◌, ◌≤◌, Bool, false, Contains, List, [], ◌∷◌, ◌++◌, count_by, length, map, Option, Some, None, refl, sym, ap, subst, ◌∙◌, arith, slice_get, slice_index_or, option_map, option_to_list}, lemmas.{Bool.false≢true, List.length-map}}
+use Rattle.std.proofs.{Common.{◌≡◌, ℕ, ◌+◌, ◌<◌, ◌≤◌, false, Contains, List, [], ◌∷◌, ◌++◌, count_by, length, map, Option, Some, None, refl, sym, ap, subst, ◌∙◌, arith, slice_get, slice_index_or, option_map, option_to_list}, lemmas.{Bool.false≢true, List.length-map}}
 use Rattle.exec_words.specs.{Inbox.{is_wake_root, spare_places}, declared.inbox.Message.{Message}}
 use Rattle.exec_machine.specs.{declared.state.MailMessage.TheVariants.{CancelRequest, CancelTimer}, Tests.is_empty}
 use Rattle.exec_moves.specs.{declared.{handing.AfterCancels.AfterCancels, place.Place.Place}, Send.{first_letter, no_letter}}
 use Rattle.exec_parts.specs.{declared.parts.{held.Held.Held, mail.Subject.Subject, record.Record.Record, seat.Seat.Seat as Chair, shared.Shared.Shared, sleeping.SleeperRecord.SleeperRecord, worker.Worker.Worker}, MailPosts.MaySend, View.{desk_of, letter_of_request, letter_of_timer}}
-use Rattle.exec_invariants.{specs.{Holding.{Box, IsAbout, IsHeldBy, Mail, Nap, Thing, box_of, cancel_held, cancel_sleep, holder_of, mail_in, nap_of, thing_of, under_way}, Sound.{IsLetter, IsMineIn, SoundAt}, Whole.{HasWhole, hands_of, mail_with, with_worker}}, proofs.{AskBoxes.box_there, HoldMail.{is_once, mail_first, sum_least}, HoldPosts.has_place, TaskHears.thing_there, TaskTakes.nap_there}}
-
-most_one : (shut observed : Bool) (held told : ℕ) → shut ≡ false → IsHeldBy shut observed held told → told ≤ 1
-most_one = grind arith
+use Rattle.exec_invariants.{specs.{Holding.{Box, IsAbout, Mail, Nap, Thing, box_of, cancel_held, cancel_sleep, holder_of, mail_in, nap_of, thing_of, under_way}, Sound.{IsLetter, IsMineIn, SoundAt}, Whole.{HasWhole, hands_of, mail_with, with_worker}}, proofs.{AskBoxes.box_there, HoldMail.{is_once, mail_first, sum_least}, HoldPosts.{has_place, held_few}, TaskHears.thing_there, TaskTakes.nap_there}}
 
 pub first_counts : (m : Mail) (ms : List Mail) → 1 ≤ mail_in m (m ∷ ms)
 first_counts m ms = let first = mail_first m m ms in let once = is_once m in omega (arith, first, once)
@@ -46,7 +43,7 @@ module _ {B : Type 0} (w : Worker) (s : Shared B) (has : HasWhole w s) where
       let r : Record = mine.0 in
       let at_r = thing_there s.requests.items k r mine.1 in
       room_at j (Message.Cancel (Subject.Request k)) chair there refl (thing_of r, at_r, mine.2, mine.3)
-      (most_one chair.mailbox.inbox.closed r.shown.observed _ _ open_box (has.whole.holding.held k (thing_of r) (box_of chair) at_r (ap (slice_get boxes) mine.2 ∙ box_there s.seats.items j chair there)))
+      (held_few chair.mailbox.inbox.closed r.shown.observed _ _ open_box (has.whole.holding.held k (thing_of r) (box_of chair) at_r (ap (slice_get boxes) mine.2 ∙ box_there s.seats.items j chair there)))
       some open_box
 
   pub timer_room : (j n : ℕ) → IsMineIn workers j (Subject.Timer n) s.requests.items s.sleepers.items → 1 ≤ mail_in (Message.Cancel (Subject.Timer n)) (mail_with w) → (chair : Chair) → slice_get s.seats.items j ≡ Some chair → chair.mailbox.inbox.closed ≡ false
@@ -66,7 +63,7 @@ module _ {B : Type 0} (w : Worker) (s : Shared B) (has : HasWhole w s) where
         there = within;
         place = λ chair there open_box undropped.
             place_at j (Message.Cancel (Subject.Request k)) chair there refl (thing_of r, at_r, mine.2, mine.3)
-            (most_one chair.mailbox.inbox.closed r.shown.observed _ _ open_box (has.whole.holding.held k (thing_of r) (box_of chair) at_r (ap (slice_get boxes) mine.2 ∙ box_there s.seats.items j chair there)))
+            (held_few chair.mailbox.inbox.closed r.shown.observed _ _ open_box (has.whole.holding.held k (thing_of r) (box_of chair) at_r (ap (slice_get boxes) mine.2 ∙ box_there s.seats.items j chair there)))
             some open_box;
       }
 

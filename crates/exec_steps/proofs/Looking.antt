@@ -4,10 +4,11 @@ use Rattle.exec_words.specs.{Head.is_stealable_at, Idle.{Idle, is_in}, Queue.tai
 use Rattle.exec_driver.specs.Driving.{has_pending, is_full}
 use Rattle.exec_task.specs.declared.{body.Said.Said, runnable.Runnable.Runnable}
 use Rattle.exec_machine.specs.{declared.event.Event.{Event, TheVariants.Turn}, Choice.Choice.Plain, Progress.Plan}
-use Rattle.exec_moves.specs.{declared.{handing.AfterLeave.AfterLeave, idling.{AfterWait.AfterWait, InLook.InLook, InRingWait.InRingWait, InScan.InScan, InSearch.InSearch, InWordWait.InWordWait, Stay.Stay}, place.{AfterService.AfterService, Found.Found, Place.Place}}, Callback.{has_requests, serve}, Global.one_count_more, Load.{has_come, is_ready}, Look.{after_withdrawal, look_at_head, look_at_mirror, looks_from, past_own, publish, return_claimed, return_look_count, searching_if}, Move.move_at, Parts.after_return, State.{Desk, Moved, queue_of, turns}, Thing.{with_global, with_queue}, Wait.{first_search, read_clock, waits}}
+use Rattle.exec_moves.specs.{declared.{handing.AfterLeave.AfterLeave, idling.{AfterWait.AfterWait, InLook.InLook, InRingWait.InRingWait, InScan.InScan, InSearch.InSearch, InWordWait.InWordWait, Stay.Stay}, place.{AfterService.AfterService, Found.Found, Place.Place}}, Callback.{has_requests, serve}, Global.one_count_more, Load.{has_come, is_ready}, Look.{after_withdrawal, look_at_head, look_at_mirror, looks_from, past_own, publish, return_claimed, return_look_count, searching_if}, Move.move_at, Parts.after_return, State.{Desk, queue_of, turns}, Thing.{with_global, with_queue}, Wait.{first_search, read_clock, waits}}
 use Rattle.exec_parts.proofs.Leaves.{not_read}
 use Rattle.exec_parts.{specs.{Roles.is_pool, declared.parts.{seat.Seat.Seat as Chair, shared.Shared.Shared, worker.Worker.Worker}, Spots.Spot, Tests.{after_return_of, first_search_of, has_open_requests, is_within, IsLook, IsNextMoment, IsSearch, IsWait, leaves_turn_of, place_withdrawn}, View.{Views, common_of, desk_of, driver_of, own_of, tasks_of, things_of, things_with}, Things.{Goes, Makes}}, proofs.{Facts.{same_number}, Leaves.with_read}}
-use Rattle.exec_invariants.{specs.{Kinds.lowered, Places.{has_count_at, is_published_at, one_if, searches_at}, Sound.{has_wakes_at, IsSearching, SoundAt}, Whole.HasWhole, Works.{Steps, Suits}}, proofs.{DedicatedSeen.pool_seen, Dedicated.{never_apart, past_pool, pooled_here}, Counting.{Counts, counts_alone, counts_apart, counts_published, counts_same, counts_withdrawn, has_count, Stance, stance_at, stance_here, Stands}, Handed.{Between, leaves_seen, leaves_settle, less_by, most_by, next_seen, out, return_settles}, Idled.{calm_of, gone, led, Settles, settles_either}, NextDue.moment_seen, Standing.{requests_seen, submissions_seen}, Turning.queue_back_again}}
+use Rattle.exec_invariants.{specs.{Kinds.lowered, Places.{has_count_at, is_published_at, one_if, searches_at}, Sound.{has_wakes_at, IsSearching, SoundAt}, Whole.HasWhole, Works.{Steps, Suits}}, proofs.{DedicatedSeen.pool_seen, Dedicated.{never_apart, past_pool, pooled_here}, Counting.{Counts, counts_alone, counts_apart, counts_published, counts_same, counts_withdrawn, has_count, Stance, stance_at, stance_here, Stands}, Handed.{Between, leaves_seen, leaves_settle, ltb-true, ltb-false, next_seen, out, return_settles}, Idled.{calm_of, gone, led, Settles, settles_either}, NextDue.moment_seen, Standing.{requests_seen, submissions_seen}, Turning.queue_back_again}}
+use Rattle.exec_steps.proofs.Searching.{placed}
 
 turns_by : {T : Type 0} (b : Bool) (p q : Place) (d : Desk) (x : T) → (if b then turns p d x else turns q d x) ≡ turns (if b then p else q) d x
 turns_by true p q d x = refl
@@ -50,9 +51,9 @@ module _ {B : Type 0} where
     where
       by : (more : Bool) → nat_lt (past_own w.index j) s.config.workers ≡ more → Settles (Place.Look x) place shown w s
       by true is =
-          let few : past_own w.index j < s.config.workers = less_by (past_own w.index j) s.config.workers is in
+          let few : past_own w.index j < s.config.workers = ltb-true (past_own w.index j) s.config.workers is in
           rw (looks.0 few) (record { same = refl; searches = refl; counts = refl; published = refl; queue = sound.queue; aims = (other_than_own w.index j, few); batch = sound.batch; quiet = λ h. refl })
-      by false is = look_waits x s.config.spin.most place w s sound (looks.1 (most_by (past_own w.index j) s.config.workers is))
+      by false is = look_waits x s.config.spin.most place w s sound (looks.1 (ltb-false (past_own w.index j) s.config.workers is))
 
   -- the first step of a search, of a worker of the pool
   search_settles : (w : Worker) (s : Shared B) → SoundAt Place.ReadClock w s → is_pool w.role ≡ true → Settles Place.ReadClock (first_search_of s.config.workers w) (out w.searching) w s
@@ -95,8 +96,8 @@ module _ {B L : Type 0} (left : B → L) (spot : L → Option Said → Spot) whe
   look_seen p vs q place j w s suits sound look = by (nat_lt (past_own w.index j) p.config.workers) refl
     where
       by : (more : Bool) → nat_lt (past_own w.index j) p.config.workers ≡ more → (if more then Place.Look (InLook.LookAtHead (past_own w.index j)) else waits p.config w.index (common_of left spot p vs s) (desk_of w)) ≡ place
-      by true is = let few : past_own w.index j < s.config.workers = rw suits.config (less_by (past_own w.index j) p.config.workers is) in sym (look.0 few)
-      by false is = let past : s.config.workers ≤ past_own w.index j = rw suits.config (most_by (past_own w.index j) p.config.workers is) in wait_seen p vs q place w s suits sound (look.1 past)
+      by true is = let few : past_own w.index j < s.config.workers = rw suits.config (ltb-true (past_own w.index j) p.config.workers is) in sym (look.0 few)
+      by false is = let past : s.config.workers ≤ past_own w.index j = rw suits.config (ltb-false (past_own w.index j) p.config.workers is) in wait_seen p vs q place w s suits sound (look.1 past)
 
 module _ {B L : Type 0} (left : B → L) (spot : L → Option Said → Spot) (w w' : Worker) (s : Shared B) (e : Event) where
   -- THE TESTS
@@ -159,14 +160,10 @@ module _ {B L : Type 0} (left : B → L) (spot : L → Option Said → Spot) (w 
 
   -- THE LOOK
 
-  -- where a move says the place, and nothing else of the worker changes
-  placed : {T : Type 0} (m : Moved T) → Makes m e w' → Goes w w' → w' ≡ record w { place = m.desk.place }
-  placed m makes goes = goes ∙ ap (λ d. record w { place = d.place }) makes.desk
-
   pub published : (x : Idle) → SoundAt (Place.Look InLook.Publish) w s → Makes (publish w.index (desk_of w) s.idle) e w' → Goes w w' → x ≡ record s.idle { published = slice_set s.idle.published w.index true } → Steps left spot w s e w' (record s { idle = x })
   published x sound makes goes is =
       let q = Place.Look InLook.Publish in
-      gone left spot q (Place.Look (if w.searching then InLook.ReturnLookCount else InLook.LookAtMirror false)) (record { searching = w.searching; counted = false; published = true }) w w' s x e sound makes.event (placed (publish w.index (desk_of w) s.idle) makes goes) refl
+      gone left spot q (Place.Look (if w.searching then InLook.ReturnLookCount else InLook.LookAtMirror false)) (record { searching = w.searching; counted = false; published = true }) w w' s x e sound makes.event (placed w (publish w.index (desk_of w) s.idle) makes goes) refl
       (by w.searching) refl refl
       (counts_published (stance_at q w) w s x (stance_here q w sound.here) refl (pooled_here q w s sound refl) (let few = pooled_here q w s sound refl in omega (arith, few, sound.config.few)) is)
       (λ p vs suits. rw is refl)
@@ -229,7 +226,7 @@ module _ {B L : Type 0} (left : B → L) (spot : L → Option Said → Spot) (w 
   pub head_looked : (j : ℕ) → SoundAt (Place.Look (InLook.LookAtHead j)) w s → Makes (look_at_head j (desk_of w) (queue_of (things_of s) j)) e w' → Goes w w' → Steps left spot w s e w' s
   head_looked j sound makes goes =
       let m = look_at_head j (desk_of w) (queue_of (things_of s) j) in
-      looked (InLook.LookAtHead j) m.desk.place refl refl refl sound makes.event (placed m makes goes)
+      looked (InLook.LookAtHead j) m.desk.place refl refl refl sound makes.event (placed w m makes goes)
       (record { same = refl; searches = refl; counts = refl; published = refl; queue = sound.queue; aims = sound.aims; batch = sound.batch; quiet = λ h. refl })
       (λ p vs suits. ap (λ x. record { event = Turn; choice = Plain; desk = m.desk; thing = x }) (queue_back_again j (things_with vs s)))
 
@@ -281,7 +278,7 @@ module _ {B L : Type 0} (left : B → L) (spot : L → Option Said → Spot) (w 
   claimed_returned x sound some makes goes is =
       let q = Place.Look InLook.ReturnClaimed in
       let less : x.count ≡ s.idle.count - 1 = ap (λ i. i.count) is in
-      gone left spot q (Place.Scan InScan.LoadScanHead) (out true) w w' s x e sound makes.event (placed (return_claimed (desk_of w) s.idle) makes goes) sound.searching
+      gone left spot q (Place.Scan InScan.LoadScanHead) (out true) w w' s x e sound makes.event (placed w (return_claimed (desk_of w) s.idle) makes goes) sound.searching
       (record { same = refl; searches = tt; counts = refl; published = refl; queue = sound.queue; aims = tt; batch = sound.batch; quiet = λ h. refl }) refl refl
       (counts_alone (stance_at q w) true false w s x (stance_here q w sound.here) (ap (λ i. i.published) is) (rw sound.searching (omega (arith, some, less))))
       (λ p vs suits. rw is refl)

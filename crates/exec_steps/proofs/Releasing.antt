@@ -61,18 +61,10 @@ module _ {B L : Type 0} (left : B → L) (spot : L → Option Said → Spot) (w 
           let some : one_if (not (its.queue.gap == 0)) ≡ 1 = ap (λ b. one_if (not b)) gap in
           to (Place.Scan InScan.StoreMoved) (released its.queue) (rw (own_queue_seen from s its there, is) refl) set (omega arith) (inr (inr (claim, refl))) refl
           (leads_scan (Place.Scan InScan.StoreMoved) (released its.queue) refl refl refl refl refl set (λ own h. h) tt sound.batch)
-          (record {
-            runnables = λ t. refl;
-            polls = sym (ap polls_at sound.here);
-            searching = refl;
-            counts = sym (ap has_count_at sound.here);
-            index = refl;
-            published = sym (ap is_published_at sound.here);
-            drops = sym (ap drops_at sound.here);
-            told = record { batch = refl; letters = refl; left = refl };
-            claims_beside = λ j apart. sym (not_same from j (λ is. apart (sym is))) ∙ sym (ap (λ o. is_number o j) claiming);
-            claims = omega (arith, mine, some);
-          })
+          (let claims_beside : (j : ℕ) → j ≢ from → false ≡ is_number (claims_at w.place) j = λ j apart. sym (not_same from j (λ is. apart (sym is))) ∙ sym (ap (λ o. is_number o j) claiming) in
+          let claims : 0 + one_if (not (its.queue.gap == 0)) ≡ one_if (is_number (claims_at w.place) from) + 0 = omega (arith, mine, some) in
+          let runnables : (t : ℕ) → runnables_in t (hands_of w) + runnables_in t (its.queue.values ++ its.queue.held) ≡ runnables_in t (hands_of w) + runnables_in t (its.queue.values ++ its.queue.held) = λ t. refl in
+          assumption (runnables, sym (ap polls_at sound.here), sym (ap has_count_at sound.here), sym (ap is_published_at sound.here), sym (ap drops_at sound.here), claims_beside, claims))
       by false is set =
           to (Place.Scan (InScan.ReleaseHalf from (head_of its.queue))) its.queue (rw (own_queue_seen from s its there, is) refl) set (omega arith) (inl refl) refl
           (leads_scan (Place.Scan (InScan.ReleaseHalf from (head_of its.queue))) its.queue refl refl refl refl refl set (λ own h. h) sound.aims sound.batch)
@@ -146,18 +138,18 @@ module _ {B L : Type 0} (left : B → L) (spot : L → Option Said → Spot) (w 
           omega (arith, in_both t hand [], in_both t hand more, in_both t (mine.queue.values ++ more) mine.queue.held, in_both t mine.queue.values more, in_both t mine.queue.values mine.queue.held)
 
       hands : Hands w.index mine.queue y w w1
-      hands = record {
-        runnables = count;
-        polls = ap (λ (k : Kind). k.polls) settles.same ∙ sym (ap polls_at sound.here);
-        searching = refl;
-        counts = settles.counts ∙ sym (ap has_count_at sound.here);
-        index = refl;
-        published = settles.published ∙ sym (ap is_published_at sound.here);
-        drops = ap (λ (k : Kind). k.drops) settles.same ∙ sym (ap drops_at sound.here);
-        told = record { batch = refl; letters = refl; left = refl };
-        claims_beside = λ j apart. ap (λ o. is_number o j) unclaiming;
-        claims = ap (λ o. one_if (is_number o w.index) + one_if (not (mine.queue.gap == 0))) unclaiming;
-      }
+      hands =
+          let claims_beside : (j : ℕ) → j ≢ w.index → is_number (claims_at next) j ≡ is_number (claims_at w.place) j = λ j apart. ap (λ o. is_number o j) unclaiming in
+          let claims = ap (λ o. one_if (is_number o w.index) + one_if (not (mine.queue.gap == 0))) unclaiming in
+          assumption (
+            count,
+            ap (λ (k : Kind). k.polls) settles.same ∙ sym (ap polls_at sound.here),
+            settles.counts ∙ sym (ap has_count_at sound.here),
+            settles.published ∙ sym (ap is_published_at sound.here),
+            ap (λ (k : Kind). k.drops) settles.same ∙ sym (ap drops_at sound.here),
+            claims_beside,
+            claims,
+          )
         where
           unclaiming : claims_at next ≡ claims_at w.place
           unclaiming = ap (λ (k : Kind). k.claims) settles.same ∙ sym (ap claims_at sound.here)

@@ -5,7 +5,7 @@ use Rattle.exec_task.specs.declared.{body.Said.Said}
 use Rattle.exec_machine.specs.{declared.{config.Configuration.Configuration, event.Event.{Event, TheVariants.Turn}, state.Next.Next}, Choice.Choice.Plain, Progress.Plan}
 use Rattle.exec_moves.specs.{declared.{idling.{InLook.InLook, InScan.InScan, InSearch.InSearch, Scan.Scan}, place.Place.Place}, Move.move_at, Search.{add_search_count, begun_scan, from_of, half, judge_head, load_scan_head, load_search_count, load_their_head, load_their_tail, looks_at, move_half, past, past_own, stirred}, Seen.{next_at, serves_at}, State.{Moved, queue_of}}
 use Rattle.exec_parts.{specs.{declared.parts.{seat.Seat.Seat as Chair, shared.Shared.Shared, worker.Worker.Worker}, Spots.Spot, View.{Views, common_of, desk_of, own_of, things_of, things_with}, Things.{Goes, Makes}}, proofs.{Facts.{same_number, true_false}, Showing.own_queue_seen}}
-use Rattle.exec_invariants.{specs.{Kinds.lowered, Places.{has_count_at, is_published_at}, Sound.{IsScanning, MayClaim, SoundAt, has_wakes_at}, Works.{Steps, Suits}}, proofs.{Dedicated.never_apart, Counting.{Stands, counts_alone, counts_same, stance_at, stance_here}, Handed.{less_by, most_by, out}, Idled.{Settles, calm_of, gone, led, settles_either}, Turning.queue_back_again}}
+use Rattle.exec_invariants.{specs.{Kinds.lowered, Places.{has_count_at, is_published_at}, Sound.{IsScanning, MayClaim, SoundAt, has_wakes_at}, Works.{Steps, Suits}}, proofs.{Dedicated.never_apart, Counting.{Stands, counts_alone, counts_same, stance_at, stance_here}, Handed.{ltb-true, ltb-false, out}, Idled.{Settles, calm_of, gone, led, settles_either}, Turning.queue_back_again}}
 
 -- THE NEXT QUEUE isn't the one before it
 
@@ -39,7 +39,7 @@ module _ {B : Type 0} where
     where
       by : (b : Bool) → nat_lt (past_own s.config w.index x).passed s.config.workers ≡ b → Settles q (if b then Place.Scan (InScan.LoadTheirHead (past_own s.config w.index x)) else Place.Look InLook.Publish) (out w.searching) w s
       by true is =
-          let less : (past_own s.config w.index x).passed < s.config.workers = less_by (past_own s.config w.index x).passed s.config.workers is in
+          let less : (past_own s.config w.index x).passed < s.config.workers = ltb-true (past_own s.config w.index x).passed s.config.workers is in
           record { same = same; searches = tt; counts = refl; published = refl; queue = half; aims = (comes_other s.config w.index x less, (rw (still_start s.config w.index x) start, less)); batch = batch; quiet = λ h. quiet }
       by false is = record { same = same; searches = tt; counts = refl; published = refl; queue = λ chair there. (half chair there).0; aims = tt; batch = batch; quiet = λ h. quiet }
 
@@ -50,15 +50,16 @@ module _ {B : Type 0} where
       by true is = record { same = same; searches = tt; counts = refl; published = refl; queue = half; aims = (other, within, same_number h.gap 0 is); batch = batch; quiet = λ h. quiet }
       by false is = looks_settle q (past x) w s same quiet half batch within.0
 
-module _ {B L : Type 0} (left : B → L) (spot : L → Option Said → Spot) (w w' : Worker) (s : Shared B) (e : Event) where
-  placed : {T : Type 0} (m : Moved T) → Makes m e w' → Goes w w' → w' ≡ record w { place = m.desk.place }
-  placed m makes goes = goes ∙ ap (λ d. record w { place = d.place }) makes.desk
+-- where a move says the place, and nothing else of the worker changes
+pub placed : {T : Type 0} (w : Worker) {w' : Worker} {e : Event} (m : Moved T) → Makes m e w' → Goes w w' → w' ≡ record w { place = m.desk.place }
+placed w m makes goes = goes ∙ ap (λ d. record w { place = d.place }) makes.desk
 
+module _ {B L : Type 0} (left : B → L) (spot : L → Option Said → Spot) (w w' : Worker) (s : Shared B) (e : Event) where
   pub search_count_loaded : SoundAt (Place.Search InSearch.LoadSearchCount) w s → Makes (load_search_count s.config (desk_of w) s.idle) e w' → Goes w w' → Steps left spot w s e w' s
   search_count_loaded sound makes goes =
       let q = Place.Search InSearch.LoadSearchCount in
       let m = load_search_count s.config (desk_of w) s.idle in
-      gone left spot q m.desk.place (out false) w w' s s.idle e sound makes.event (placed m makes goes) sound.searching
+      gone left spot q m.desk.place (out false) w w' s s.idle e sound makes.event (placed w m makes goes) sound.searching
       (settles_either q (nat_le s.config.workers (2 * s.idle.count)) (Place.Look InLook.Publish) (Place.Search InSearch.AddSearchCount) (out false) w s
       (record { same = refl; searches = tt; counts = refl; published = refl; queue = sound.queue; aims = tt; batch = sound.batch; quiet = λ h. refl })
       (record { same = refl; searches = refl; counts = refl; published = refl; queue = sound.queue; aims = tt; batch = sound.batch; quiet = λ h. refl }))
@@ -90,7 +91,7 @@ module _ {B L : Type 0} (left : B → L) (spot : L → Option Said → Spot) (w 
           looks_settle (Place.Scan InScan.LoadScanHead) (begun_scan s.config (stirred w.rng)) w s refl refl
           (λ chair there.
           let seen : room_of (queue_of (things_of s) w.index) ≡ room_of chair.queue = ap room_of (own_queue_seen w.index s chair there) ∙ rw (length-map chair.queue.values (λ r. r.task.0)) refl in
-          let free : 128 ≤ room_of chair.queue = most_by (room_of chair.queue) half (ap (λ n. nat_lt n half) (sym seen) ∙ is) in
+          let free : 128 ≤ room_of chair.queue = ltb-false (room_of chair.queue) half (ap (λ n. nat_lt n half) (sym seen) ∙ is) in
           (sound.queue chair there, free))
           sound.batch (mod_below (stirred w.rng) s.config.workers sound.config.workers)
 
@@ -101,7 +102,7 @@ module _ {B L : Type 0} (left : B → L) (spot : L → Option Said → Spot) (w 
   read q m sound makes goes event choice uncounted unpublished to free unserved moves =
       let here : Stands (out w.searching) w = record { searching = refl; counted = ap has_count_at sound.here ∙ uncounted; published = ap is_published_at sound.here ∙ unpublished } in
       let is : stance_at q w ≡ out w.searching = rw (uncounted, unpublished) refl in
-      gone left spot q m.desk.place (out w.searching) w w' s s.idle e sound (makes.event ∙ event) (placed m makes goes) refl to free unserved (rw is (counts_same (out w.searching) w s here)) moves
+      gone left spot q m.desk.place (out w.searching) w w' s s.idle e sound (makes.event ∙ event) (placed w m makes goes) refl to free unserved (rw is (counts_same (out w.searching) w s here)) moves
 
   pub their_head_loaded : (x : Scan) → SoundAt (Place.Scan (InScan.LoadTheirHead x)) w s → Makes (load_their_head s.config w.index x (desk_of w) (queue_of (things_of s) (from_of s.config x))) e w' → Goes w w' → Steps left spot w s e w' s
   their_head_loaded x sound makes goes =
@@ -136,8 +137,8 @@ module _ {B L : Type 0} (left : B → L) (spot : L → Option Said → Spot) (w 
           let aims : MayClaim w.index from h tail s.seats.items = record {
             other = sound.aims.0;
             unclaimed = sound.aims.2;
-            some = omega (arith, most_by (tail - h.real) 2 is);
-            most = omega (arith, most_by 256 (tail - h.real) most);
+            some = omega (arith, ltb-false (tail - h.real) 2 is);
+            most = omega (arith, ltb-false 256 (tail - h.real) most);
             behind = λ chair there. let it = seen chair there in omega (arith, it);
           } in
           record { same = refl; searches = tt; counts = refl; published = refl; queue = sound.queue; aims = (aims, sound.aims.1); batch = sound.batch; quiet = λ h. refl }

@@ -1,11 +1,13 @@
 -- A LETTER IS SENT: a message about what a task held that is over goes to the worker that has it.
-use Rattle.std.proofs.{Common.{◌≡◌, ◌≢◌, ⊎_elim, ℕ, zero, suc, ◌+◌, ◌<◌, ◌≤◌, ◌==◌, ◌&&◌, nat_lt, Bool, true, false, not, cond, Contains, List, [], ◌∷◌, ◌++◌, count_by, drop, length, map, option_map, option_to_list, Option, Some, None, refl, sym, ap, subst, ◌∙◌, arith, slice_get, slice_set, if◌then◌else◌}, lemmas.{Bool.{false≢true, eq-eqb, Decides.nat_tests}, List.{length-set, Elements.{Contains-append_cases, Contains-append_right}, Sums.sum_by-append}, Option.{get_or_from_slice_get, slice_get_within}}}
-use Rattle.exec_words.specs.{Inbox.is_wake_root, Queue.tail_of, declared.inbox.Message.Message}
+use Rattle.std.proofs.{Common.{◌≡◌, ◌≢◌, ⊎_elim, ℕ, zero, suc, ◌+◌, ◌*◌, ◌<◌, ◌≤◌, ◌==◌, Bool, true, false, not, cond, Contains, List, [], ◌∷◌, ◌++◌, count_by, drop, length, map, option_map, option_to_list, Option, Some, None, refl, sym, ap, subst, ◌∙◌, arith, slice_get, slice_set, if◌then◌else◌}, lemmas.{Bool.{false≢true, eq-eqb}, List.{length-set, Elements.{Contains-append_cases, Contains-append_right}, Sums.sum_by-append}, Option.{get_or_from_slice_get, slice_get_within}}}
+use Rattle.std.proofs.lemmas.List.Elements.{Contains-append_left}
+use Rattle.std.proofs.lemmas.Bool.{lt-ltb}
+use Rattle.exec_words.specs.{Inbox.is_wake_root, Queue.tail_of}
 use Rattle.exec_task.specs.declared.body.Said.{Said}
-use Rattle.exec_machine.specs.{declared.{event.Event.{Event, TheVariants.{Closed, Send, Turn}}, state.{Letter.Letter as Owed, MailMessage.{MailMessage, TheVariants.{Root, ForwardRequest, ForwardTimer, CancelRequest, CancelTimer}}, Next.Next}}, After.own_after, Allowed.allowed, Choice.Choice.Plain, Mail.posted as seat_posted, Progress.Plan, Same.{is_letter, same_message}, Tests.AllTrue, World.{no_seat, seat_of}}
-use Rattle.exec_moves.specs.{declared.{handing.{AfterCancels.AfterCancels, AfterSend.AfterSend, AfterSignal.AfterSignal, InSignal.InSignal}, place.{Place.Place}}, Parts.{after_cancels, cancels_left}, Seen.{next_at, polls_at, serves_at}, Send.{after_posting, asks as asks_box, no_letter, posted, send_message, sent}, State.{Desk, Things, goes}, Thing.{mailbox_of, set_mailbox, with_mailbox}}
-use Rattle.exec_parts.{specs.{declared.parts.{held.Held.Held, letters.Letters.Letters, mail.Subject.Subject, record.Record.Record, seat.Seat.Seat as Chair, shared.Shared.Shared, sleeping.SleeperRecord.SleeperRecord, worker.Worker.Worker}, MailPosts.{Sends, SendsLetter, asks_by}, Phased.{closes_after_cancels, closing_after_cancels, has_left}, Spots.Spot, View.{Views, Visible, common_of, desk_of, inbox_at, letter_of_request, letter_of_timer, letters_in, mail_of, own_of, owed_at, polls_seen, queue_at, seat_seen, seats_seen, things_with, visible, with_view, word_at}}, proofs.{Facts.{both_true, never_true, or_left, set_elsewhere, set_there}, Showing.map_set}}
-use Rattle.exec_invariants.{specs.{Holding.{Box, Hands, Holder, IsAbout, IsHolding, Mail, Nap, Thing, box_of, cancel_held, cancel_sleep, holder_of, mail_in, mail_of_letters, nap_of, same_mail, thing_of}, Places.{drops_at}, Sound.{HasLetters, IsLetter as IsOfOther, IsMineIn, SoundAt}, Whole.{HasWhole, IsWhole, Profile, hands_of, mail_with, with_worker}, Works.{Beside, Steps, Suits, Works}}, proofs.{AskBoxes.box_there, Aside.{SameProfile, queue_of_chair, queues_set, seats_other, spared}, Hearing.unheard, HoldPosts.{posted as holding_posted, with_mail}, LetterPosts.{IsLetter, asks_open, cancels_request, cancels_timer, chair_open, open_spares, seat_open, sent_open, things_open}, MailApplies.{rest_had, split_first}, MailMoves.beside_moved, PoolKept.{gate_spared, gates_set}, Recorded.request_seen, Seats.{chair_set, seat_there}, Rousing.Keeps, Slots.before_barrier, SparedRecord.there_within, TaskAsks.Posts, TaskHears.thing_there, TaskTakes.nap_there, Turning.{Shares, by_place, set_found, sound_on, view_found}}}
+use Rattle.exec_machine.specs.{declared.{event.Event.{Event, TheVariants.{Closed, Send, Turn}}, state.{Letter.Letter as Owed, MailMessage.{MailMessage, TheVariants.{Root, ForwardRequest, ForwardTimer, CancelRequest, CancelTimer}}, Next.Next}}, After.own_after, Allowed.allowed, Choice.Choice.Plain, Progress.Plan, Same.{is_letter, same_message}, Tests.AllTrue, World.{no_seat, seat_of}}
+use Rattle.exec_moves.specs.{declared.{handing.{AfterCancels.AfterCancels, AfterSend.AfterSend, AfterSignal.AfterSignal, InSignal.InSignal}, place.{Place.Place}}, Parts.{after_cancels, cancels_left}, Seen.{next_at, polls_at, serves_at}, Send.{after_posting, asks as asks_box, no_letter, posted, send_message, sent}, State.{Desk, Things, goes}, Thing.{mailbox_of, set_mailbox}}
+use Rattle.exec_parts.{specs.{declared.parts.{held.Held.Held, letters.Letters.Letters, mail.Subject.Subject, record.Record.Record, seat.Seat.Seat as Chair, shared.Shared.Shared, sleeping.SleeperRecord.SleeperRecord, worker.Worker.Worker}, MailPosts.{Sends, SendsLetter, asks_by}, Phased.{IsPhased, closes_after_cancels, closes_at, closing_in, stage_of, closing_after_cancels, has_left}, Spots.Spot, View.{Views, Visible, common_of, desk_of, inbox_at, letter_of_request, letter_of_timer, letters_in, mail_of, own_of, owed_at, polls_seen, queue_at, seat_seen, seats_seen, things_with, visible, with_view, word_at}}, proofs.{Facts.{and_from, false_from_ne_true, or_left, set_elsewhere, set_there}, Showing.map_set}}
+use Rattle.exec_invariants.{specs.{Holding.{Box, Hands, Holder, IsAbout, IsHolding, Mail, Nap, Thing, box_of, cancel_held, cancel_sleep, holder_of, mail_in, mail_of_letters, nap_of, same_mail, thing_of}, Places.{drops_at, is_armed_at}, Sound.{Aims, AreHome, HasLetters, HasQueue, IsLetter as IsOfOther, IsMineIn, IsSeated, SoundAt}, Whole.{HasWhole, IsWhole, Profile, hands_of, mail_with, with_worker}, Works.{Beside, Steps, Suits, Works}}, proofs.{AskBoxes.box_there, Aside.{SameProfile, queue_of_chair, queues_set, seats_other, spared}, Hearing.unheard, HoldPosts.{posted as holding_posted, with_mail}, LetterPosts.{IsLetter, asks_open, cancels_request, cancels_timer, chair_open, open_spares, seat_open, sent_open, things_open}, MailApplies.{rest_had, split_first, same_self}, MailMoves.beside_moved, PoolKept.{gate_spared, gates_set}, Recorded.request_seen, Seats.{chair_set, seat_there}, Rousing.Keeps, Slots.before_barrier, SparedRecord.there_within, TaskAsks.Posts, TaskHears.thing_there, TaskTakes.nap_there, Turning.{Shares, by_place, set_found, sound_on, view_found}}}
 use Rattle.exec_steps.proofs.{LettersMay.{first_counts, request_room, timer_room}, Signalling.{Ways, cancels_to}}
 
 -- LETTERS AND MESSAGES
@@ -25,11 +27,6 @@ contains_map : {A C : Type 0} (f : A → C) (xs : List A) (x : A) → Contains x
 contains_map f [] x (k, few, is) = absurd (omega (arith, few))
 contains_map f (y ∷ ys) x (zero, few, is) = (0, omega arith, ap f is)
 contains_map f (y ∷ ys) x (suc k, few, is) = let it = contains_map f ys x (k, omega (arith, few), is) in (suc it.0, (let within = it.1 in omega (arith, within)), it.2)
-
-contains_front : {A : Type 0} (xs ys : List A) (x : A) → Contains xs x → Contains (xs ++ ys) x
-contains_front [] ys x (k, few, is) = absurd (omega (arith, few))
-contains_front (y ∷ xs) ys x (zero, few, is) = (0, omega arith, is)
-contains_front (y ∷ xs) ys x (suc k, few, is) = let it = contains_front xs ys x (k, omega (arith, few), is) in (suc it.0, (let within = it.1 in omega (arith, within)), it.2)
 
 module _ (workers i : ℕ) (rs : List Record) (zs : List SleeperRecord) where
   -- such a letter is about what worker j has
@@ -60,7 +57,7 @@ module _ (workers i : ℕ) (rs : List Record) (zs : List SleeperRecord) where
         some = λ no. absurd (false≢true no);
         none = λ no. absurd (false≢true (sym no));
         requests = λ h among.
-            back (letter_of_request h) (contains_front (map letter_of_request left.requests.items) (option_to_list (option_map letter_of_timer left.timer)) (letter_of_request h) (contains_map letter_of_request left.requests.items h among));
+            back (letter_of_request h) (Contains-append_left (map letter_of_request left.requests.items) (option_to_list (option_map letter_of_timer left.timer)) (letter_of_request h) (contains_map letter_of_request left.requests.items h among));
         timer = λ h is.
             back (letter_of_timer h)
             (Contains-append_right (map letter_of_request left.requests.items) (option_to_list (option_map letter_of_timer left.timer)) (letter_of_timer h)
@@ -69,12 +66,6 @@ module _ (workers i : ℕ) (rs : List Record) (zs : List SleeperRecord) where
     where
       back : (o : Owed) → Contains (letters_in left) o → OfLetter o.message o.to
       back o among = of_all true true l has o (rest_had (letters_in l) o (subst (λ xs. Contains xs o) later among))
-
-within_few : (a b : ℕ) → a < b → nat_lt a b ≡ true
-within_few a b less = grind (arith, nat_tests, less)
-
-same_self : (m : MailMessage) → same_message m m ≡ true
-same_self = grind arith
 
 -- IN HAND
 
@@ -92,59 +83,21 @@ module _ {B : Type 0} where
       let own : slice_get s'.seats.items w.index ≡ slice_get s.seats.items w.index = ap (λ cs. slice_get cs w.index) posts.set ∙ set_elsewhere s.seats.items j w.index chair' apart in
       let back : (c : Chair) → slice_get s'.seats.items w.index ≡ Some c → slice_get s.seats.items w.index ≡ Some c = λ c at. sym own ∙ at in
       let there_j : slice_get s'.seats.items j ≡ Some chair' = ap (λ cs. slice_get cs j) posts.set ∙ set_there s.seats.items j chair' chair posts.there in
-      record {
-        here = refl;
-        config = sound.config;
-        gates = sound.gates;
-        known = sound.known;
-        workers = sound.workers;
-        role = sound.role;
-        pooled = sound.pooled;
-        serves = sound.serves;
-        calm = sound.calm;
-        homes = rw many sound.homes;
-        shards = sound.shards;
-        time = sound.time;
-        told = sound.told;
-        wide = sound.wide;
-        named = sound.named;
-        runnable = sound.runnable;
-        seated = record { many = rw many sound.seated.many; seat = seat; there = own ∙ sound.seated.there; pool = sound.seated.pool; unarmed = sound.seated.unarmed; mail = sound.seated.mail };
-        queue = λ c at. sound.queue c (back c at);
-        sized = sound.sized;
-        processed = sound.processed;
-        hand = sound.hand;
-        loot = sound.loot;
-        genuine = sound.genuine;
-        stolen = sound.stolen;
-        searching = sound.searching;
-        aims = (slice_get_within s'.seats.items j chair' there_j, tt);
-        guest = sound.guest;
-        resting = sound.resting;
-        left = sound.left;
-        over = sound.over;
-        batch = sound.batch;
-        mine = sound.mine;
-        batch_place = λ c at. sound.batch_place c (back c at);
-        letters = letters_left s.config.workers w.index s.requests.items s.sleepers.items w.letters left sound.letters later;
-        quiet = sound.quiet;
-        due = sound.due;
-        flown = sound.flown;
-        carried = sound.carried;
-        rooted = sound.rooted;
-        stops = sound.stops;
-        hears = sound.hears;
-        lets_go = sound.lets_go;
-        phased = λ c at. sound.phased c (back c at);
-        tied = sound.tied;
-      }
+      let q : Place = Place.Signal InSignal.SetLatch j (AfterSignal.Send (AfterSend.Cancels b)) in
+      let homes : AreHome s.config.workers (length s'.seats.items) s.tasks.items = rw many sound.homes in
+      let seated : IsSeated w.index (is_armed_at q) s.config.workers s'.seats.items = record { many = rw many sound.seated.many; seat = seat; there = own ∙ sound.seated.there; pool = sound.seated.pool; unarmed = sound.seated.unarmed; mail = sound.seated.mail } in
+      let queue : (c : Chair) → slice_get s'.seats.items w.index ≡ Some c → HasQueue q c.queue = λ c at. sound.queue c (back c at) in
+      let aims : Aims q s.config w.index s'.seats.items = (slice_get_within s'.seats.items j chair' there_j, tt) in
+      let batch_place : (c : Chair) → slice_get s'.seats.items w.index ≡ Some c → c.mailbox.inbox.closed ≡ false → 2 * c.made + 1 ≤ w.batch.places = λ c at. sound.batch_place c (back c at) in
+      let phased : (c : Chair) → slice_get s'.seats.items w.index ≡ Some c → IsPhased w.index (closes_at q) (closing_in q) w.home.closing w.root w.names.unreleased (stage_of c s) s.tasks.items = λ c at. sound.phased c (back c at) in
+      assumption (homes, seated, queue, aims, batch_place, letters_left s.config.workers w.index s.requests.items s.sleepers.items w.letters left sound.letters later, phased, sound)
 
   -- no mailbox of the pool is closed while one of it has such a letter
   box_open : (b : AfterCancels) (w : Worker) (s : Shared B) → SoundAt (Place.SendCancel b) w s → HasWhole w s → (j : ℕ) (chair : Chair) → slice_get s.seats.items j ≡ Some chair → j < s.config.workers → chair.mailbox.inbox.closed ≡ false
   box_open b w s sound has j chair at_j few =
-      never_true chair.mailbox.inbox.closed (λ closed.
+      false_from_ne_true chair.mailbox.inbox.closed (λ closed.
       let before = before_barrier (Place.SendCancel b) w s sound (sound.pooled refl) (unleft b) in
-      let pool : chair.pool ≡ true = has.whole.in_pool j chair at_j ∙ within_few j s.config.workers few in
+      let pool : chair.pool ≡ true = has.whole.in_pool j chair at_j ∙ lt-ltb j s.config.workers few in
       false≢true (sym before.going ∙ has.whole.pool.shut j chair at_j pool closed w.index before.chair before.there))
     where
       unleft : (a : AfterCancels) → has_left (closes_after_cancels a) (closing_after_cancels a) ≡ false
@@ -220,14 +173,10 @@ module _ {B L : Type 0} (left : B → L) (spot : L → Option Said → Spot) whe
       ap (λ ls. record (own_of w1) { owed = owed_at w.workers q' ++ ls }) later ∙ rw (polls, free, unserved, owes) refl in
       let done : Works left spot p vs w0 s (Send j m) w1 s1 = record {
         choice = Plain;
-        moves = ap (λ l. with_mailbox l.to x (send_message p.config cs l.to l.message c d1 (mailbox_of x l.to))) (get_or_from_slice_get (letters_in w.letters) 0 letter no_letter first)
-            ∙ ap (with_mailbox j x) sends ∙ ap (λ z. record { event = Send j m; choice = Plain; desk = desk_of w1; thing = z }) (sym put)
-            ∙ ap (λ v. record { event = Send j m; choice = Plain; desk = desk_of w1; thing = things_with v s1 }) (sym again);
+        moves = grind (arith, get_or_from_slice_get (letters_in w.letters) 0 letter no_letter first, sends, put, again);
         may = may;
         own = own;
-        common = ap (λ v. common_of left spot p v s1) again ∙ ap (common_of left spot p vs) kept
-            ∙ ap (λ xs. record cs { seats = xs }) (ap (seats_seen vs.workers) set ∙ chair_set vs.workers s.seats.items j viewed.0 chair' viewed.1 ∙ ap (slice_set (seats_seen vs.workers s.seats.items) j) (seat_open m is_it chair open_box viewed.0 ∙ ap (seat_posted m) (sym seat)))
-            ∙ sym (ap (λ k. if k && false then cs else record cs { seats = slice_set cs.seats j (seat_posted m (seat_of cs j)) }) is_it.root);
+        common = grind (arith, again, kept, set, chair_set vs.workers s.seats.items j viewed.0 chair' viewed.1, seat_open m is_it chair open_box viewed.0, seat, is_it.root);
       } in
       subst (λ v. Works left spot p vs v s (Send j m) w1 s1) (ap (λ y. record w { place = y }) (sym here)) done
 
@@ -310,7 +259,7 @@ module _ {B L : Type 0} (left : B → L) (spot : L → Option Said → Spot) whe
           subst (λ ms. 1 ≤ mail_in (mail_of letter.message) (ms ++ w.batch.values)) (sym parts) (first_counts (mail_of letter.message) (map mail_owed (drop 1 (letters_in w.letters)) ++ w.batch.values))
 
       owed_first : (letter : Owed) → slice_get (letters_in w.letters) 0 ≡ Some letter → is_letter letter.to letter.message (slice_get (letters_in w.letters) 0) ≡ true
-      owed_first letter first = ap (is_letter letter.to letter.message) first ∙ both_true (letter.to == letter.to) (same_message letter.message letter.message) (eq-eqb letter.to letter.to refl) (same_self letter.message)
+      owed_first letter first = ap (is_letter letter.to letter.message) first ∙ and_from (letter.to == letter.to) (same_message letter.message letter.message) (eq-eqb letter.to letter.to refl) (same_self letter.message)
 
       seat_found : (j : ℕ) → j < length s.seats.items → (chair : Chair) × (slice_get s.seats.items j ≡ Some chair)
       seat_found j few = there_within s.seats.items j few
@@ -333,27 +282,21 @@ module _ {B L : Type 0} (left : B → L) (spot : L → Option Said → Spot) whe
               let its : IsOfOther s.config.workers w.index (Subject.Request k) letter.to s.requests.items s.sleepers.items = subst (λ m. OfLetter s.config.workers w.index s.requests.items s.sleepers.items m letter.to) is of in
               let mine : IsMineIn s.config.workers letter.to (Subject.Request k) s.requests.items s.sleepers.items = its.0 in
               let found = seat_found letter.to (let few = mine.3 in let many = sound.seated.many in omega (arith, few, many)) in
-              let chair : Chair = found.0 in
-              let open_box = box_open b w s sound has letter.to chair found.1 mine.3 in
-              let some : 1 ≤ mail_in (Message.Cancel (Subject.Request k)) (mail_with w) = subst (λ m. 1 ≤ mail_in (mail_of m) (mail_with w)) is (some_in letter first) in
-              sent_by b letter (subst IsLetter (sym is) (cancels_request k)) by.left w w' s s' e chair open_box sound first by.later its.1 found.1
-              (request_room w s has letter.to k mine some chair found.1 open_box)
-              (subst (λ m. IsAbout s.config.workers letter.to (mail_of m) (map thing_of s.requests.items) (map nap_of s.sleepers.items)) (sym is) (thing_of mine.0, thing_there s.requests.items k mine.0 mine.1, mine.2, mine.3))
-              sends
+              let open_box = box_open b w s sound has letter.to found.0 found.1 mine.3 in
+              sent_by b letter (subst IsLetter (sym is) (cancels_request k)) by.left w w' s s' e found.0 open_box sound first by.later its.1 found.1
+              (request_room w s has letter.to k mine (subst (λ m. 1 ≤ mail_in (mail_of m) (mail_with w)) is (some_in letter first)) found.0 found.1 open_box)
+              (subst (λ m. IsAbout s.config.workers letter.to (mail_of m) (map thing_of s.requests.items) (map nap_of s.sleepers.items)) (sym is) (thing_of mine.0, thing_there s.requests.items k mine.0 mine.1, mine.2, mine.3)) sends
               (λ p vs suits. subst (λ m. is_letter letter.to m (slice_get (letters_in w.letters) 0) ≡ true → AllTrue (allowed p.config (own_of (record w { place = Place.SendCancel b })) (common_of left spot p vs s) w.index (Send letter.to m) Plain)) (sym is)
-              (λ owed. (or_left (is_letter letter.to (CancelRequest k) (slice_get (letters_in w.letters) 0)) _ owed, (ap (λ y. y.worker == letter.to) (request_seen s.requests.items k mine.0 mine.1) ∙ ap (λ n. n == letter.to) mine.2 ∙ eq-eqb letter.to letter.to refl, (open_seen p vs suits letter.to chair found.1 open_box, tt))))
+              (λ owed. (or_left (is_letter letter.to (CancelRequest k) (slice_get (letters_in w.letters) 0)) _ owed, (ap (λ y. y.worker == letter.to) (request_seen s.requests.items k mine.0 mine.1) ∙ ap (λ n. n == letter.to) mine.2 ∙ eq-eqb letter.to letter.to refl, (open_seen p vs suits letter.to found.0 found.1 open_box, tt))))
               (owed_first letter first))
           by_message (CancelTimer n) is =
               let its : IsOfOther s.config.workers w.index (Subject.Timer n) letter.to s.requests.items s.sleepers.items = subst (λ m. OfLetter s.config.workers w.index s.requests.items s.sleepers.items m letter.to) is of in
               let mine : IsMineIn s.config.workers letter.to (Subject.Timer n) s.requests.items s.sleepers.items = its.0 in
               let found = seat_found letter.to (let few = mine.3 in let many = sound.seated.many in omega (arith, few, many)) in
-              let chair : Chair = found.0 in
-              let open_box = box_open b w s sound has letter.to chair found.1 mine.3 in
-              let some : 1 ≤ mail_in (Message.Cancel (Subject.Timer n)) (mail_with w) = subst (λ m. 1 ≤ mail_in (mail_of m) (mail_with w)) is (some_in letter first) in
-              sent_by b letter (subst IsLetter (sym is) (cancels_timer n)) by.left w w' s s' e chair open_box sound first by.later its.1 found.1
-              (timer_room w s has letter.to n mine some chair found.1 open_box)
-              (subst (λ m. IsAbout s.config.workers letter.to (mail_of m) (map thing_of s.requests.items) (map nap_of s.sleepers.items)) (sym is) (nap_of mine.0, nap_there s.sleepers.items n mine.0 mine.1, mine.2, mine.3))
-              sends
+              let open_box = box_open b w s sound has letter.to found.0 found.1 mine.3 in
+              sent_by b letter (subst IsLetter (sym is) (cancels_timer n)) by.left w w' s s' e found.0 open_box sound first by.later its.1 found.1
+              (timer_room w s has letter.to n mine (subst (λ m. 1 ≤ mail_in (mail_of m) (mail_with w)) is (some_in letter first)) found.0 found.1 open_box)
+              (subst (λ m. IsAbout s.config.workers letter.to (mail_of m) (map thing_of s.requests.items) (map nap_of s.sleepers.items)) (sym is) (nap_of mine.0, nap_there s.sleepers.items n mine.0 mine.1, mine.2, mine.3)) sends
               (λ p vs suits. subst (λ m. is_letter letter.to m (slice_get (letters_in w.letters) 0) ≡ true → AllTrue (allowed p.config (own_of (record w { place = Place.SendCancel b })) (common_of left spot p vs s) w.index (Send letter.to m) Plain)) (sym is)
-              (λ owed. (owed, (open_seen p vs suits letter.to chair found.1 open_box, tt)))
+              (λ owed. (owed, (open_seen p vs suits letter.to found.0 found.1 open_box, tt)))
               (owed_first letter first))

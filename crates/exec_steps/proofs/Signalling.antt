@@ -1,11 +1,11 @@
 -- What the steps of a signal are to the machine: the latch goes into the wake word of a worker, and its wait is ended.
-use Rattle.std.proofs.{Common.{◌≡◌, ℕ, ◌-◌, ◌<◌, ◌≤◌, inl, Bool, true, false, List, [], ◌∷◌, length, map, Option, Some, refl, sym, ap, subst, ◌∙◌, arith, slice_get, slice_set, nat_lt, ◌==◌, get_or, if◌then◌else◌}, lemmas.{Bool.false≢true, List.length-set, Option.{get_or_from_slice_get, slice_get-get_or}}}
+use Rattle.std.proofs.{Common.{◌≡◌, ℕ, ◌+◌, ◌*◌, ◌-◌, ◌<◌, ◌≤◌, inl, Bool, true, false, List, [], ◌∷◌, length, map, Option, Some, refl, sym, ap, subst, ◌∙◌, arith, slice_get, slice_set, nat_lt, ◌==◌, get_or, if◌then◌else◌}, lemmas.{Bool.false≢true, List.length-set, Option.{get_or_from_slice_get, slice_get-get_or}}}
 use Rattle.exec_words.specs.{Word.asks_signal, declared.word.PureWord.PureWord}
 use Rattle.exec_task.specs.declared.body.Said.{Said}
 use Rattle.exec_machine.specs.{declared.{event.Event.{Event, TheVariants.{Turn, Rouse}}, state.{Letter.Letter as Owed, Rest.Rest}}, Choice.Choice.Plain, After.common_after, Closing.letters_to_roots, Progress.Plan, Tests.is_awake, World.{no_seat, seat_of}}
 use Rattle.exec_moves.specs.{declared.{handing.{AfterCancels.AfterCancels, AfterClaim.AfterClaim, AfterKick.AfterKick, AfterPop.AfterPop, AfterPush.AfterPush, AfterSend.AfterSend, AfterSignal.AfterSignal, InKick.InKick, InPop.InPop, InSignal.InSignal}, place.{InClosing.InClosing, InPick.InPick, InPoll.InPoll, Place.Place}}, Claim.{is_ring, latched, rousing}, Move.move_at, Parts.{after_cancels, after_send, after_signal, after_visit, cancels_left, has_others, tells_from}, Seen.{polls_at, serves_at}}
 use Rattle.exec_parts.{specs.{declared.parts.{seat.Seat.Seat as Chair, shared.Shared.Shared, worker.Worker.Worker}, Phased.{IsPhased, TurnsChair, closes_at, closing_in, stage_of}, Pooled.{OfChair, chair_latched, chair_raised, event_rousing}, Spots.Spot, Tests.{after_leave_of, after_push_of, after_signal_of}, View.{Views, Visible, common_of, desk_of, driver_of, letters_in, owed_at, own_of, seat_seen, seats_seen, things_with, visible, with_view}}, proofs.Showing.{map_kept, own_word_seen, seats_kept, word_shows}}
-use Rattle.exec_invariants.{specs.{Holding.box_of, Kinds.Kind, Places.{claims_at, drops_at, has_count_at, is_armed_at, is_published_at}, Sound.{HasLetters, HasQueue, LetsGo, SoundAt}, Spares.SparesChair, Works.{Beside, Steps, Suits, Works}}, proofs.{Aside.{beside_calm, queue_of_chair, queues_set, seats_other}, Handed.{Between, KickSeen, NextSeen, kick_comes, kick_seen, less_by, most_by, onward, out, push_comes, push_seen, same_kick}, Hearing.unheard, Idled.{Comes, Fares, Settles, comes, fares, settled}, PoolKept.{gate_spared, gates_set}, Queueing.if_either, Seats.{chair_set, seat_there as seen_there}, Rousing.{Keeps, seat_was, seated_now, stage_was, wake_shows}, Thieves.seat_there, Turning.{Arrives, GoesOn, IsTurn, Shares, sound_on, turned, view_found}}}
+use Rattle.exec_invariants.{specs.{Holding.box_of, Kinds.Kind, Places.{claims_at, drops_at, has_count_at, is_armed_at, is_published_at}, Sound.{Aims, HasLetters, HasQueue, LetsGo, SoundAt}, Spares.SparesChair, Works.{Beside, Steps, Suits, Works}}, proofs.{Aside.{beside_calm, queue_of_chair, queues_set, seats_other}, Handed.{Between, KickSeen, NextSeen, kick_comes, kick_seen, ltb-true, ltb-false, onward, out, push_comes, push_seen, same_kick}, Hearing.unheard, Idled.{Comes, Fares, Settles, comes, fares, settled}, PoolKept.{gate_spared, gates_set}, Queueing.if_either, Seats.{chair_set, seat_there as seen_there}, Rousing.{Keeps, seat_was, seated_now, stage_was, wake_shows}, Thieves.seat_there, Turning.{Arrives, GoesOn, IsTurn, Shares, sound_on, turned, view_found}}}
 use Rattle.exec_steps.proofs.{CallNext.push_next, SignalWays.arrives_there}
 
 module _ {B L : Type 0} (left : B → L) (spot : L → Option Said → Spot) (w w' : Worker) (s s' : Shared B) (e : Event) where
@@ -43,34 +43,14 @@ module _ {B L : Type 0} (left : B → L) (spot : L → Option Said → Spot) (w 
         was chair at_own = seat_was k its its' keeps s s' there set w.index chair at_own
 
         to : Arrives q w w s s'
-        to = record {
-          runnable = sound.runnable;
-          seated = seated_now k its its' keeps s s' there set w.index (is_armed_at q) s.config.workers sound.seated;
-          queue = λ chair at_own. let old = was chair at_own in subst (HasQueue q) (sym old.2.queue) (sound.queue old.0 old.1);
-          hand = sound.hand;
-          loot = sound.loot;
-          genuine = sound.genuine;
-          stolen = sound.stolen;
-          searching = sound.searching;
-          pooled = sound.pooled;
-          serves = sound.serves;
-          calm = sound.calm;
-          aims = (omega (arith, sound.aims.0, as_many_seats), sound.aims.1);
-          guest = sound.guest;
-          left = sound.left;
-          batch = sound.batch;
-          batch_place = λ chair at_own opened. let old = was chair at_own in omega (arith, sound.batch_place old.0 old.1 (rw (← old.2.inbox) opened), old.2.made);
-          quiet = sound.quiet;
-          due = sound.due;
-          flown = sound.flown;
-          told = sound.told;
-          letters = sound.letters;
-          stops = sound.stops;
-          hears = sound.hears;
-          lets_go = sound.lets_go;
-          phased = λ chair at_own. let old = stage_was k its its' keeps s s' there set w.index chair at_own in subst (λ stage. IsPhased w.index (closes_at q) (closing_in q) w.home.closing w.root w.names.unreleased stage s.tasks.items) old.2 (sound.phased old.0 old.1);
-          tied = sound.tied;
-        }
+        to =
+            let queue : (chair : Chair) → slice_get s'.seats.items w.index ≡ Some chair → HasQueue q chair.queue = λ chair at_own. let old = was chair at_own in subst (HasQueue q) (sym old.2.queue) (sound.queue old.0 old.1) in
+            let aims : Aims q s.config w.index s'.seats.items = (omega (arith, sound.aims.0, as_many_seats), sound.aims.1) in
+            let batch_place : (chair : Chair) → slice_get s'.seats.items w.index ≡ Some chair → chair.mailbox.inbox.closed ≡ false → 2 * chair.made + 1 ≤ w.batch.places = λ chair at_own opened. let old = was chair at_own in omega (arith, sound.batch_place old.0 old.1 (rw (← old.2.inbox) opened), old.2.made) in
+            let phased : (chair : Chair) → slice_get s'.seats.items w.index ≡ Some chair → IsPhased w.index (closes_at q) (closing_in q) w.home.closing w.root w.names.unreleased (stage_of chair s) s.tasks.items = λ chair at_own.
+            let old = stage_was k its its' keeps s s' there set w.index chair at_own in
+            subst (λ stage. IsPhased w.index (closes_at q) (closing_in q) w.home.closing w.root w.names.unreleased stage s.tasks.items) old.2 (sound.phased old.0 old.1) in
+            assumption (seated_now k its its' keeps s s' there set w.index (is_armed_at q) s.config.workers sound.seated, queue, aims, batch_place, phased, sound)
 
     -- TO A PLACE of that kind
     fares_to : (x : InSignal) (j : ℕ) (b : AfterSignal) (next : Place) → SoundAt (Place.Signal x j b) w s → ((n : ℕ) → owed_at n next ≡ owed_at n (Place.Signal x j b)) → serves_at next ≡ false → Fares (Place.Signal x j b) next (out false) w s' → Ways (Place.Signal x j b) next
@@ -98,22 +78,9 @@ module _ {B L : Type 0} (left : B → L) (spot : L → Option Said → Spot) (w 
     cancels_to x j b sound (letter ∷ letters) are =
         let a : AfterSignal = AfterSignal.Send (AfterSend.Cancels b) in
         let now = stays x j a sound in
+        let letters : HasLetters true true w.index s'.config.workers w.letters s'.requests.items s'.sleepers.items = record { some = λ h. rw are refl; none = λ no. absurd (false≢true (sym no)); requests = now.letters.requests; timer = now.letters.timer } in
         fares_to x j a (Place.SendCancel b) sound (λ n. refl) refl
-        (record {
-          same = refl;
-          searches = refl;
-          counts = refl;
-          published = refl;
-          queue = now.queue;
-          aims = tt;
-          batch = now.batch;
-          quiet = λ h. now.quiet refl;
-          left = tt;
-          told = now.told;
-          letters = record { some = λ h. rw are refl; none = λ no. absurd (false≢true (sym no)); requests = now.letters.requests; timer = now.letters.timer };
-          lets_go = now.lets_go;
-          phased = now.phased;
-        })
+        (record { same = refl; searches = refl; counts = refl; published = refl; queue = now.queue; aims = tt; batch = now.batch; quiet = λ h. now.quiet refl; left = tt; told = now.told; letters = letters; lets_go = now.lets_go; phased = now.phased })
     cancels_to x j b sound [] are = by b sound
       where
         none : (a : AfterCancels) → SoundAt (Place.Signal x j (AfterSignal.Send (AfterSend.Cancels a))) w s' → HasLetters false false w.index s'.config.workers w.letters s'.requests.items s'.sleepers.items
@@ -168,7 +135,7 @@ module _ {B L : Type 0} (left : B → L) (spot : L → Option Said → Spot) (w 
     tells_to x j n sound true is =
         let a : AfterSignal = AfterSignal.Send (AfterSend.Tell n) in
         let now = stays x j a sound in
-        let less : n < s'.config.workers = omega (arith, less_by n s.config.workers is, ap (λ (z : Shared B). z.config.workers) kept) in
+        let less : n < s'.config.workers = omega (arith, ltb-true n s.config.workers is, ap (λ (z : Shared B). z.config.workers) kept) in
         rw is
         (settles_to x j a (Place.Closing (InClosing.TellRoot n)) sound
         (record { same = refl; searches = refl; counts = refl; published = refl; queue = now.queue; aims = (sound.aims.1, less); batch = now.batch; quiet = λ h. refl }))
@@ -187,7 +154,7 @@ module _ {B L : Type 0} (left : B → L) (spot : L → Option Said → Spot) (w 
         now = stays x j a sound
 
         none : (m : ℕ) → w.workers ≡ m → letters_to_roots (m - n) n ≡ []
-        none m are = let zero_left : m - n ≡ 0 = omega (arith, most_by n s.config.workers is, sound.workers, are) in rw zero_left refl
+        none m are = let zero_left : m - n ≡ 0 = omega (arith, ltb-false n s.config.workers is, sound.workers, are) in rw zero_left refl
 
         phased : (chair : Chair) → slice_get s'.seats.items w.index ≡ Some chair → IsPhased w.index true (Some (InClosing.TellRoot 0)) w.home.closing w.root w.names.unreleased (stage_of chair s') s'.tasks.items
         phased chair at_own =
@@ -223,13 +190,11 @@ module _ {B L : Type 0} (left : B → L) (spot : L → Option Said → Spot) (w 
         let next = push_next left spot b q w s' now (record { callbacks = refl; closes = refl; closing = refl; spare = refl; bare = refl; held = λ x h. h; batch = λ ms h. h }) in
         comes_to x j a (after_push_of b w) sound (push_comes b q w s' now next.comes (onward q q (Place.Kick InKick.LoadKickCount (AfterKick.Push b)) w s' (same_kick w.role q (Place.Kick InKick.LoadKickCount (AfterKick.Push b)) refl) refl (between x j a sound)))
     signal_comes x j (AfterSignal.Send (AfterSend.Act t)) sound =
-        let a : AfterSignal = AfterSignal.Send (AfterSend.Act t) in
-        let now = stays x j a sound in
-        settles_to x j a (Place.Poll t InPoll.Act) sound (record { same = refl; searches = refl; counts = refl; published = refl; queue = now.queue; aims = tt; batch = now.batch; quiet = λ h. refl })
+        let now = stays x j (AfterSignal.Send (AfterSend.Act t)) sound in
+        settles_to x j (AfterSignal.Send (AfterSend.Act t)) (Place.Poll t InPoll.Act) sound (record { same = refl; searches = refl; counts = refl; published = refl; queue = now.queue; aims = tt; batch = now.batch; quiet = λ h. refl })
     signal_comes x j (AfterSignal.Send (AfterSend.Pend t)) sound =
-        let a : AfterSignal = AfterSignal.Send (AfterSend.Pend t) in
-        let now = stays x j a sound in
-        settles_to x j a (Place.Poll t InPoll.Pend) sound (record { same = refl; searches = refl; counts = refl; published = refl; queue = now.queue; aims = tt; batch = now.batch; quiet = λ h. refl })
+        let now = stays x j (AfterSignal.Send (AfterSend.Pend t)) sound in
+        settles_to x j (AfterSignal.Send (AfterSend.Pend t)) (Place.Poll t InPoll.Pend) sound (record { same = refl; searches = refl; counts = refl; published = refl; queue = now.queue; aims = tt; batch = now.batch; quiet = λ h. refl })
     signal_comes x j (AfterSignal.Send (AfterSend.Cancels b)) sound = cancels_to x j b sound (letters_in w.letters) refl
     signal_comes x j (AfterSignal.Send (AfterSend.Tell n)) sound = tells_to x j n sound (nat_lt n s.config.workers) refl
 

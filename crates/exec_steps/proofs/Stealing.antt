@@ -135,18 +135,21 @@ module _ {B L : Type 0} (left : B → L) (spot : L → Option Said → Spot) (w 
           n_some = let some_n = half.0 in grind (arith, nat_tests, some_n)
 
           hands : Hands from its.queue q' w w'
-          hands = record {
-            runnables = count;
-            polls = ap polls_at place ∙ sym (ap polls_at sound.here);
-            searching = ap (λ (v : Worker). v.searching) same;
-            counts = ap has_count_at place ∙ sym (ap has_count_at sound.here);
-            index = ap (λ (v : Worker). v.index) same;
-            published = ap is_published_at place ∙ sym (ap is_published_at sound.here);
-            drops = ap drops_at place ∙ sym (ap drops_at sound.here);
-            told = told_on w w' s.clock on;
-            claims_beside = λ j apart. ap (λ o. is_number o j) claiming ∙ not_same from j (λ is. apart (sym is)) ∙ sym (ap (λ o. is_number o j) unclaiming);
-            claims = omega (arith, mine, none, gap, gap_then);
-          }
+          hands =
+              let claims_beside : (j : ℕ) → j ≢ from → is_number (claims_at w'.place) j ≡ is_number (claims_at w.place) j = λ j apart. ap (λ o. is_number o j) claiming ∙ not_same from j (λ is. apart (sym is)) ∙ sym (ap (λ o. is_number o j) unclaiming) in
+              let claims : one_if (is_number (claims_at w'.place) from) + one_if (not (its.queue.gap == 0)) ≡ one_if (is_number (claims_at w.place) from) + one_if (not (q'.gap == 0)) = omega (arith, mine, none, gap, gap_then) in
+              assumption (
+                count,
+                ap polls_at place ∙ sym (ap polls_at sound.here),
+                ap (λ (v : Worker). v.searching) same,
+                ap has_count_at place ∙ sym (ap has_count_at sound.here),
+                ap (λ (v : Worker). v.index) same,
+                ap is_published_at place ∙ sym (ap is_published_at sound.here),
+                ap drops_at place ∙ sym (ap drops_at sound.here),
+                told_on w w' s.clock on,
+                claims_beside,
+                claims,
+              )
             where
               claiming : claims_at w'.place ≡ Some from
               claiming = ap claims_at place

@@ -1,8 +1,9 @@
 -- A step of one party keeps what holds of an executor: what the party leaves of others is enough for each of them.
 use Rattle.std.proofs.{Common.{◌≡◌, ◌≢◌, ◌⊎◌, ℕ, zero, suc, ◌+◌, ◌*◌, ◌<◌, ◌≤◌, ◌==◌, List, [], ◌∷◌, ◌++◌, length, Some, refl, sym, ap, subst, ◌∙◌, arith, inl, inr, option_to_list, slice_get, slice_set, if◌then◌else◌}, lemmas.{List.{length-append, length-set}, Option.slice_get_within}}
+use Rattle.std.proofs.Math.Numerals.{add-one}
 use Rattle.exec_machine.specs.declared.{config.Configuration.Configuration, event.Event.Event}
 use Rattle.exec_moves.specs.{Seen.polls_at, declared.handing.{CallPlace.CallPlace}}
-use Rattle.exec_parts.{specs.{declared.parts.{seat.Seat.Seat as Chair, shared.Shared.Shared, worker.Worker.Worker}, MailPosts.{HaveMailboxes, IsMailbox}}, proofs.Facts.{by_number, same_thing, set_elsewhere, set_there}}
+use Rattle.exec_parts.{specs.{declared.parts.{seat.Seat.Seat as Chair, shared.Shared.Shared, worker.Worker.Worker}, MailPosts.{HaveMailboxes, IsMailbox}}, proofs.Facts.{by_number, same_Some, set_elsewhere, set_there}}
 use Rattle.exec_polling.{specs.{declared.caller.Caller.Caller, Calling.{CallAims, CallBeside, CallSound, HasCallWhole, HoldsForAll, has_count_in, with_caller}}, proofs.Outsiders.no_other}
 use Rattle.exec_invariants.{specs.{Places.{claims_at, clears_at, drops_at, has_count_at, is_published_at, one_if}, Sound.{AreHome, Sound}, Spares.{Spares, SparesMore}, Holding.mail_in, Whole.{HasWhole, IsWhole, Profile, is_number, mail_with, runnables_in, wakes_with, with_worker}, Works.{Beside, BesideNewcomer}}, proofs.{Counting.at_most, SparedRecord.there_within}}
 use Rattle.exec_steps.{specs.Together.{StandTogether, all_have, callers_have}, proofs.Apart.{apart, holds_for_all, with_more}}
@@ -81,7 +82,7 @@ others_next x ws cs i w beside rest =
 
 pub others_of : (ws : List Worker) (cs : List Caller) (i : ℕ) (w : Worker) → slice_get ws i ≡ Some w → ((k : ℕ) (x : Worker) → slice_get ws k ≡ Some x → k ≢ i → x.index ≢ w.index) → OthersOf ws cs i w
 others_of [] cs i w there distinct = absurd (cc)
-others_of (x ∷ ws) cs zero w there distinct = others_first x ws cs w (same_thing x w there)
+others_of (x ∷ ws) cs zero w there distinct = others_first x ws cs w (same_Some x w there)
 others_of (x ∷ ws) cs (suc i) w there distinct =
     others_next x ws cs i w (λ same. distinct zero x refl (zero_other i) (sym same))
     (others_of ws cs i w there (λ k y at other. distinct (suc k) y at (suc_other k i other)))
@@ -93,13 +94,10 @@ all_with_last (w ∷ ws) cs v distinct =
     ap (λ o. with_worker o w) (all_with_last ws cs v (λ k x there. distinct (suc k) x there)) ∙ swap_workers (all_have ws cs) v w (λ same. distinct zero w refl (sym same))
 
 pub last_or_before : {A : Type 0} (xs : List A) (k : ℕ) (y x : A) → slice_get (xs ++ y ∷ []) k ≡ Some x → (slice_get xs k ≡ Some x) ⊎ ((k ≡ length xs) × (y ≡ x))
-last_or_before [] zero y x there = inr (refl, same_thing y x there)
+last_or_before [] zero y x there = inr (refl, same_Some y x there)
 last_or_before [] (suc k) y x there = absurd (cc)
 last_or_before (z ∷ xs) zero y x there = inl there
 last_or_before (z ∷ xs) (suc k) y x there = grind (arith, last_or_before xs k y x there)
-
-one_more : (n : ℕ) → n + 1 ≡ suc n
-one_more n = omega arith
 
 pub record OthersOfCaller (ws : List Worker) (cs : List Caller) (j : ℕ) (c : Caller) : Type 0 where
   pub others : Profile
@@ -172,7 +170,7 @@ module _ {B : Type 0} where
         let w = there_within ws j within in
         let its = stands.sound j w.0 w.1 in
         let seated = its.1.seated in
-        let same : seated.seat ≡ chair = same_thing seated.seat chair (sym seated.there ∙ ap (slice_get s.seats.items) its.0 ∙ at) in
+        let same : seated.seat ≡ chair = same_Some seated.seat chair (sym seated.there ∙ ap (slice_get s.seats.items) its.0 ∙ at) in
         subst (λ (y : Chair). IsMailbox y.mailbox) same seated.mail
 
     -- A STEP OF WORKER i
@@ -195,7 +193,7 @@ module _ {B : Type 0} where
 
       itself_sound : (k : ℕ) (x : Worker) → k ≡ i → slice_get (slice_set ws i w') k ≡ Some x → (x.index ≡ k) × Sound x s'
       itself_sound k x same at =
-          let is : w' ≡ x = same_thing w' x (sym (set_there ws i w' w there) ∙ subst (λ n. slice_get (slice_set ws i w') n ≡ Some x) same at) in
+          let is : w' ≡ x = same_Some w' x (sym (set_there ws i w' w there) ∙ subst (λ n. slice_get (slice_set ws i w') n ≡ Some x) same at) in
           (sym (ap (λ (y : Worker). y.index) is) ∙ index ∙ mine ∙ sym same, subst (λ y. Sound y s') is sound)
 
       workers_sound : (k : ℕ) (x : Worker) → slice_get (slice_set ws i w') k ≡ Some x → (x.index ≡ k) × Sound x s'
@@ -238,7 +236,7 @@ module _ {B : Type 0} where
           let its = stands.sound k x (sym (set_elsewhere ws i k w' other) ∙ at) in
           (its.0, apart x.place x s s' its.1 (beside.spares x.index (λ e. other (sym its.0 ∙ e ∙ numbered))) held_for_all))
           (λ same.
-          let is : w' ≡ x = same_thing w' x (sym (set_there ws i w' w there) ∙ subst (λ n. slice_get (slice_set ws i w') n ≡ Some x) same at) in
+          let is : w' ≡ x = same_Some w' x (sym (set_there ws i w' w there) ∙ subst (λ n. slice_get (slice_set ws i w') n ≡ Some x) same at) in
           (sym (ap (λ (y : Worker). y.index) is) ∙ index ∙ numbered ∙ sym same, subst (λ y. Sound y s') is sound))
 
       with_newcomer_sound : (k : ℕ) (x : Worker) → slice_get (slice_set ws i w' ++ v ∷ []) k ≡ Some x → (x.index ≡ k) × Sound x s'
@@ -269,7 +267,7 @@ module _ {B : Type 0} where
       pub worker_born : StandTogether (slice_set ws i w' ++ v ∷ []) cs s'
       worker_born =
           let many : length (slice_set ws i w' ++ v ∷ []) ≡ length s'.seats.items =
-          length-append (slice_set ws i w') (v ∷ []) ∙ ap (λ n. n + 1) (length-set ws i w' ∙ stands.seats) ∙ one_more (length s.seats.items) ∙ sym beside.many in
+          length-append (slice_set ws i w') (v ∷ []) ∙ ap (λ n. n + 1) (length-set ws i w' ∙ stands.seats) ∙ add-one (length s.seats.items) ∙ sym beside.many in
           let apart_from : SparesMore (w.index + 1) s s' = beside.spares (w.index + 1) (λ e. no_other w.index (sym e)) in
           record {
             seats = many;

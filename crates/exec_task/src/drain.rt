@@ -8,7 +8,7 @@
 //! A drain keeps its place alone and is lent the set by each call, so that the set may stand under
 //! locks, and a step may be a single visit of a shard.
 
-ghost use Rattle.std.specs.Prelude.{◌≡◌, ℕ, ◌+◌, ◌*◌, ◌%◌, ◌<◌, ◌==◌, [], ◌∷◌, ◌++◌, length, IsTrue, IfSome, IfNone, OnSome};
+ghost use Rattle.std.specs.Prelude.{◌≡◌, ℕ, ◌+◌, ◌<◌, ◌==◌, [], length, IsTrue, IfSome, IfNone, OnSome};
 ghost use Rattle.exec_task.specs.TaskSet.{shard_at, IsFor, TakesNewest, passed, to_come, came, next_shard as next_shard_of};
 
 use crate::tasks::Tasks;

@@ -1,6 +1,6 @@
 //! Laws of tasks and of their set, over whatever calls come in whatever order.
 
-ghost use Rattle.std.specs.Prelude.{◌≡◌, ℕ, ◌+◌, ◌<◌, ◌≤◌, List, length, Bool, count_by, sum_by, slice_index_or, []};
+ghost use Rattle.std.specs.Prelude.{◌≡◌, ℕ, ◌+◌, ◌<◌, ◌≤◌, List, length, Bool, count_by, sum_by};
 ghost use Rattle.exec_base.specs.declared.task_no.TaskNo.{TaskNo};
 ghost use Rattle.exec_task.specs.{Phases.pend_answer, TaskSet.Set, TaskSet.to_come};
 ghost use Rattle.exec_task.specs.TaskRuns.{Call, AreCalls, IsOneRight, Meanwhile, new_task, after_all, after_meanwhile, just_begun, after_pending_poll};

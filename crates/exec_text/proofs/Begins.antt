@@ -2,6 +2,7 @@
 use Rattle.std.proofs.Common.{◌≡◌, ◌≢◌, ℕ, ◌+◌, ◌<◌, ◌≤◌, ◌⊎◌, inl, inr, List, [], ◌∷◌, ◌++◌, All, refl, sym, ap, ◌∙◌, arith, map, length, get_or, take, drop, append_assoc, codes, length-append, subst}
 use Rattle.std.proofs.lemmas.List.{length-map, take-append-drop, length-take-le, get_or_at, get_or_append_left, get_or-map, append-nil, map_push}
 use Rattle.std.proofs.lemmas.List.Elements.{All-push}
+pub use Rattle.std.proofs.lemmas.List.Elements.{All-nil}
 use Rattle.exec_machine.specs.declared.{config.{Configuration.Configuration, ScriptWord.{ScriptWord, TheVariants.End}}, step.Step.{Step, TheVariants.Work}}
 use Rattle.exec_text.specs.{Grammar.{Meaning, HeaderFits, IsWellFormed, NamesScripts, trace_lines, text_of_script, text_of_root, text_of_step, WordFits, WordsFit, StepFits, WordNames, StepNames}, Reading.{header, IsRoot, IsScript, IsHead, IsTop, IsMarkedTop}}
 use Rattle.exec_text.proofs.Headers.{header_length, header_same, append_same}
@@ -28,14 +29,11 @@ lines_are p = append_assoc (header p.plan.config) (map text_of_script p.plan.scr
 abbrev pub meaning_from : Configuration → List (List ScriptWord) → List ScriptWord → List Step → Meaning
 meaning_from c scripts root steps = record { plan = record { config = c; scripts = scripts; root = root }; steps = steps }
 
-pub none_all : {X : Type 0} (P : X → Type 0) → All P []
-none_all P = λ k d l. absurd (omega arith)
-
 pub root_end : (c : Configuration) → WordsFit c (End ∷ [])
-root_end c = record { some = omega arith; fit = All-push (WordFits c) [] End (none_all (WordFits c)) tt }
+root_end c = record { some = omega arith; fit = All-push (WordFits c) [] End (All-nil (WordFits c)) tt }
 
 pub end_named : (count : ℕ) → All (WordNames count) (End ∷ [])
-end_named count = All-push (WordNames count) [] End (none_all (WordNames count)) tt
+end_named count = All-push (WordNames count) [] End (All-nil (WordNames count)) tt
 
 pub parts_fit : (c : Configuration) (scripts : List (List ScriptWord)) (root : List ScriptWord) (steps : List Step) → HeaderFits c → All (WordsFit c) scripts → WordsFit c root → All StepFits steps → IsWellFormed (meaning_from c scripts root steps)
 parts_fit c scripts root steps h s r t = record { header = h; scripts = s; root = r; steps = t }
@@ -48,8 +46,8 @@ header_front count c k fits =
     let h = header c in
     let r : List (List ℕ) = below [] (End ∷ []) [] in (
       meaning_from c [] (End ∷ []) [],
-      parts_fit c [] (End ∷ []) [] fits (none_all (WordsFit c)) (root_end c) (none_all StepFits),
-      parts_named c count [] (End ∷ []) [] (none_all (All (WordNames count))) (end_named count) (none_all (StepNames count)),
+      parts_fit c [] (End ∷ []) [] fits (All-nil (WordsFit c)) (root_end c) (All-nil StepFits),
+      parts_named c count [] (End ∷ []) [] (All-nil (All (WordNames count))) (end_named count) (All-nil (StepNames count)),
       drop k h ++ r,
       sym (append_assoc (take k h) (drop k h) r) ∙ ap (λ (x : List (List ℕ)). x ++ r) (take-append-drop k h) ∙ sym (lines_are (meaning_from c [] (End ∷ []) [])),
     )
@@ -98,7 +96,7 @@ pub scripts_formed : (c : Configuration) (said : List (List ℕ)) (ss : List (Li
 scripts_formed c said ss h s fit =
     let p = meaning_from c ss (End ∷ []) [] in (
       p,
-      parts_fit c ss (End ∷ []) [] h fit (root_end c) (none_all StepFits),
+      parts_fit c ss (End ∷ []) [] h fit (root_end c) (All-nil StepFits),
       text_of_root (End ∷ []) ∷ codes "steps" ∷ [],
       head_spelled c said (text_of_root (End ∷ []) ∷ codes "steps" ∷ []) ss s ∙ sym (lines_are p),
     )
@@ -107,8 +105,8 @@ pub head_begins : (c : Configuration) (count : ℕ) (said : List (List ℕ)) (ss
 head_begins c count said ss h =
     let p = meaning_from c ss (End ∷ []) [] in (
       p,
-      parts_fit c ss (End ∷ []) [] h.header_fits h.fit (root_end c) (none_all StepFits),
-      parts_named c count ss (End ∷ []) [] h.named (end_named count) (none_all (StepNames count)),
+      parts_fit c ss (End ∷ []) [] h.header_fits h.fit (root_end c) (All-nil StepFits),
+      parts_named c count ss (End ∷ []) [] h.named (end_named count) (All-nil (StepNames count)),
       text_of_root (End ∷ []) ∷ codes "steps" ∷ [],
       head_spelled c said (text_of_root (End ∷ []) ∷ codes "steps" ∷ []) ss h.spelled ∙ sym (lines_are p),
     )
@@ -130,7 +128,7 @@ task_next c count said ss line h b =
     ]
 
 pub head_none : (c : Configuration) (count : ℕ) (said : List (List ℕ)) → HeaderFits c → said ≡ header c → IsHead c count said []
-head_none c count said h e = record { header_fits = h; spelled = e ∙ sym (append-nil (header c)); fit = none_all (WordsFit c); named = none_all (All (WordNames count)) }
+head_none c count said h e = record { header_fits = h; spelled = e ∙ sym (append-nil (header c)); fit = All-nil (WordsFit c); named = All-nil (All (WordNames count)) }
 
 pub head_script : (c : Configuration) (count : ℕ) (said : List (List ℕ)) (ss : List (List ScriptWord)) (line : List ℕ) (words : List ScriptWord) → IsHead c count said ss → IsScript c count line words → IsHead c count (said ++ line ∷ []) (ss ++ words ∷ [])
 head_script c count said ss line words h r = record {
@@ -151,8 +149,8 @@ pub top_begins : (c : Configuration) (count : ℕ) (said : List (List ℕ)) (ss 
 top_begins c count said ss root t =
     let p = meaning_from c ss root [] in (
       p,
-      parts_fit c ss root [] t.head.header_fits t.head.fit t.root_line.fits (none_all StepFits),
-      parts_named c count ss root [] t.head.named t.root_line.named (none_all (StepNames count)),
+      parts_fit c ss root [] t.head.header_fits t.head.fit t.root_line.fits (All-nil StepFits),
+      parts_named c count ss root [] t.head.named t.root_line.named (All-nil (StepNames count)),
       codes "steps" ∷ [],
       top_spelled c count said (codes "steps" ∷ []) ss root t ∙ sym (lines_are p),
     )

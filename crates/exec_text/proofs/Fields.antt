@@ -2,7 +2,7 @@
 use Rattle.std.proofs.Common.{◌≡◌, ◌≢◌, ℕ, ◌<◌, List, [], ◌∷◌, ◌++◌, refl, sym, ap, ◌∙◌, arith, length, take, drop}
 use Rattle.std.proofs.Common.{Bool, true, false, not, eqb, eq-eqb, Option, Some, None, IfSome, IfNone}
 use Rattle.std.specs.Cmp.Lexicographic.{pointwise}
-use Rattle.std.proofs.lemmas.Bool.{false≢true, eqb-true}
+use Rattle.std.proofs.lemmas.Bool.{false≢true, eqb-true, not-true, not-false}
 use Rattle.std.proofs.lemmas.Bool.Decides.{Decides-eqb}
 use Rattle.std.proofs.lemmas.List.{nil_from_length, take-append-drop}
 use Rattle.std.proofs.Math.Seq.{take-append_seam}
@@ -43,20 +43,12 @@ pub some_then : {X : Type 0} {P Q : X → Type 0} (o : Option X) → ((x : X) �
 some_then None f h = tt
 some_then (Some x) f h = f x h
 
-not_true : (b : Bool) → not b ≡ true → b ≡ false
-not_true true e = sym e
-not_true false e = refl
-
-not_false : (b : Bool) → not b ≡ false → b ≡ true
-not_false true e = refl
-not_false false e = sym e
-
 -- what `!=` says of two slices of bytes
 pub told_other : (xs ys zs : List ℕ) (r : Bool) → r ≡ not (pointwise eqb xs ys) → ys ≡ zs → r ≡ true → xs ≢ zs
-told_other xs ys zs r h e t = told_unequal xs ys zs (pointwise eqb xs ys) refl e (not_true (pointwise eqb xs ys) (sym h ∙ t))
+told_other xs ys zs r h e t = told_unequal xs ys zs (pointwise eqb xs ys) refl e (not-true (pointwise eqb xs ys) (sym h ∙ t))
 
 pub told_same : (xs ys zs : List ℕ) (r : Bool) → r ≡ not (pointwise eqb xs ys) → ys ≡ zs → r ≡ false → xs ≡ zs
-told_same xs ys zs r h e t = told_equal xs ys zs (pointwise eqb xs ys) refl e (not_false (pointwise eqb xs ys) (sym h ∙ t))
+told_same xs ys zs r h e t = told_equal xs ys zs (pointwise eqb xs ys) refl e (not-false (pointwise eqb xs ys) (sym h ∙ t))
 
 -- what `strip_prefix` says of a prefix
 pub stripped : (s p q rest : List ℕ) → pointwise eqb (take (length p) s) p ≡ true → rest ≡ drop (length p) s → p ≡ q → s ≡ q ++ rest

@@ -1,7 +1,6 @@
 -- Buckets and active entries, as lists grow and shrink.
-use Rattle.std.proofs.Common.{◌≡◌, ℕ, ◌+◌, ◌-◌, ◌<◌, ◌≤◌, true, not, cond, if◌then◌else◌, ◌==◌, List, [], ◌∷◌, ◌++◌, length, get_or, filter, remove, refl, arith, inl, inr, zero, suc, sym, nat_lt, ◌%◌, Result, Ok, Err, IfOk, IfErr, MatchResult, Option, Some, None, IfSome, slice_get, subst}
+use Rattle.std.proofs.Common.{◌≡◌, ℕ, ◌+◌, ◌-◌, ◌<◌, ◌≤◌, true, not, cond, if◌then◌else◌, ◌==◌, List, [], ◌∷◌, ◌++◌, length, get_or, filter, remove, refl, arith, inl, inr, zero, suc, nat_lt, ◌%◌, Result, Ok, Err, IfOk, IfErr, MatchResult, Option, Some, None, IfSome, slice_get, subst}
 use Rattle.std.proofs.lemmas.Bool.{cases_lt, cases_eq, lt-ltb}
-use Rattle.std.specs.Result.{is_ok}
 use Rattle.std.specs.List.{insert, remove_range}
 use Rattle.std.specs.Prelude.{slice_range}
 use Rattle.std.proofs.lemmas.Grind.{common_steps}
@@ -111,18 +110,6 @@ pub active_in_remove : (ticks : List ℕ) (i tick t : ℕ) → i < length ticks 
 unfolding active_in
 active_in_remove ticks i tick t h e = grind (arith, common_steps, sum_by-remove (λ x. cond (x == t) 1 0) ticks i tick h)
 
--- what holds of each active tick, with one more
-pub active_below_more : (ticks ticks' : List ℕ) (tick : ℕ) (f : ℕ → ℕ) (limit : ℕ) → ((t : ℕ) → active_in ticks' t ≡ (if t == tick then active_in ticks t + 1 else active_in ticks t)) → ((t : ℕ) → 0 < active_in ticks t → f t < limit) → f tick < limit → (t : ℕ) → 0 < active_in ticks' t → f t < limit
-active_below_more ticks ticks' tick f limit more all new t active =
-    elim (cases_eq t tick) [
-      | inl same ↦ rw same new
-      | inr other ↦ all t (grind (arith, common_steps, more t, active, other))
-    ]
-
--- with one less
-pub active_below_less : (ticks ticks' : List ℕ) (tick : ℕ) (f : ℕ → ℕ) (limit : ℕ) → ((t : ℕ) → active_in ticks' t ≡ (if t == tick then active_in ticks t - 1 else active_in ticks t)) → ((t : ℕ) → 0 < active_in ticks t → f t < limit) → (t : ℕ) → 0 < active_in ticks' t → f t < limit
-active_below_less ticks ticks' tick f limit less all t active = all t (grind (arith, common_steps, less t, active))
-
 -- a tick between smaller and larger ones is not among them
 pub active_between : (ticks : List ℕ) (tick i : ℕ) → ((k : ℕ) → k < i → get_or ticks k 0 < tick) → ((k : ℕ) → i ≤ k → k < length ticks → tick < get_or ticks k 0) → active_in ticks tick ≤ 0
 unfolding active_in
@@ -166,17 +153,9 @@ placed ticks tick (Err i) rising (inside, below, above) =
       high = λ k d more within. rw (get_or_default ticks k d 0 within) (omega (arith, above k more within));
     }
 
-pub found_at : (ticks : List ℕ) (tick : ℕ) (r : Result ℕ ℕ) → Searched ticks tick r → IfOk r (λ i. (i < length ticks) × (get_or ticks i tick ≡ tick))
-found_at ticks tick (Ok i) (inside, at) = (inside, rw (get_or_default ticks i tick 0 inside) at)
-found_at ticks tick (Err i) missed = tt
-
 pub there_at : (ticks : List ℕ) (tick : ℕ) (r : Result ℕ ℕ) → Searched ticks tick r → IfOk r (λ i. nat_lt 0 (active_in ticks tick) ≡ true)
 there_at ticks tick (Ok i) (inside, at) = lt-ltb _ _ (active_among ticks tick (i, inside, rw (get_or_default ticks i tick 0 inside) at))
 there_at ticks tick (Err i) missed = tt
-
-pub told_among : (ticks : List ℕ) (tick : ℕ) (r : Result ℕ ℕ) → IfOk r (λ i. nat_lt 0 (active_in ticks tick) ≡ true) → IfErr r (λ i. active_in ticks tick ≡ 0) → is_ok r ≡ nat_lt 0 (active_in ticks tick)
-told_among ticks tick (Ok i) there missed = sym there
-told_among ticks tick (Err i) there missed = rw missed refl
 
 pub missed_at : (ticks : List ℕ) (tick : ℕ) (r : Result ℕ ℕ) → Searched ticks tick r → IfErr r (λ i. active_in ticks tick ≡ 0)
 missed_at ticks tick (Ok i) found = tt

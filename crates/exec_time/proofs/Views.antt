@@ -72,10 +72,6 @@ emptied_more w slots slot apart =
     ready_is : (w.ready ++ flat_map w.bucket slots) ++ flat_map (emptied w slots).bucket (slot ∷ []) ≡ w.ready ++ flat_map w.bucket (slots ++ slot ∷ [])
     ready_is = rw (flat_map-append w.bucket slots (slot ∷ []), apart) (grind (arith, common_steps))
 
--- no bucket emptied
-pub emptied_none : (w : Wheel) → w ≡ emptied w []
-emptied_none w = same_but w w.bucket w.bucket w.active w.active w.ready (w.ready ++ []) (λ s. refl) (λ t. refl) (sym (append-nil w.ready))
-
 -- the bucket of the next tick emptied, within a revolution
 pub emptied_step : (u v w : Wheel) (first step slot : ℕ) → v ≡ emptied w (map (slot_of w) (range_with_len first step)) → u ≡ emptied v (slot ∷ []) → slot ≡ (first + step) % w.slots → 0 < w.slots → step < w.slots → u ≡ emptied w (map (slot_of w) (range_with_len first (step + 1)))
 emptied_step u v w first step slot so_far next at some less =

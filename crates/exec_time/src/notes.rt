@@ -4,8 +4,7 @@
 //! part. It notes what is to be told, and its caller tells it once the part is done. `Adds` says what a call notes.
 //! The room for a note is made by the caller before (`HasRoom`), so a call that notes takes no memory.
 
-ghost use Rattle.std.specs.Prelude.{◌≡◌, ◌≤◌, ◌+◌, [], IfOk, OnOk, vec_len};
-ghost use Rattle.std.specs.Vec.{vec_capacity};
+ghost use Rattle.std.specs.Prelude.{◌≡◌, [], OnOk};
 ghost use Rattle.exec_time.specs.Notes.{HasRoom, Adds};
 
 use exec_base::error::Error;

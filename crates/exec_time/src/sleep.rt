@@ -14,9 +14,9 @@
 //! The sleeper belongs to its worker. A task that goes to another worker has only the id, and asks by a message. An
 //! error ends the sleep, but for want of room for a sleeper, which leaves all as it was.
 
-ghost use Rattle.std.specs.Prelude.{◌≡◌, ◌≢◌, ℕ, ◌-◌, ◌<◌, ◌≤◌, ◌⊎◌, Some, None, Ok, Err, true, false, IsTrue, IfOk, OnOk, OnErr, IfErr};
+ghost use Rattle.std.specs.Prelude.{◌≡◌, ◌≢◌, ℕ, ◌-◌, ◌<◌, ◌≤◌, Some, None, Ok, Err, true, false, IfOk, OnOk, IfErr};
 ghost use Rattle.exec_time.specs.{declared.{sleep.TimerMessage.TheVariants.Forward, timers.{Observer.TheVariants.Local, Sleeper.Sleeper as Sleeping, TimerId.TimerId as TimerName}}, Sleepers.is_forwarded};
-ghost use Rattle.exec_base.specs.{OneShot.{poll_answer, polled}, Post.Takes, Slab.{value_at, written, IsFull}};
+ghost use Rattle.exec_base.specs.{OneShot.{poll_answer, polled}, Slab.{value_at, written}};
 ghost use Rattle.exec_base.specs.declared.error.Error.TheVariants as error;
 ghost use Rattle.exec_time.specs.declared.sleep.SleepState.TheVariants as state;
 

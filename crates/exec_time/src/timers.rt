@@ -6,8 +6,7 @@
 //! those of one deadline by id. What is to be told goes into `Notes`, for which the caller has made room. Only
 //! `insert` takes memory. Moments are in nanoseconds.
 
-ghost use Rattle.std.specs.Prelude.{◌≡◌, ℕ, ◌+◌, ◌<◌, ◌≤◌, ◌↔◌, [], Some, None, Ok, Err, IsOk, IsSome, IfSome, IfNone, IfOk, IfErr, ◌⊎◌, OnOk, OnErr, OnSome, false, List, ◌∷◌};
-ghost use Rattle.std.specs.Option.{option_map};
+ghost use Rattle.std.specs.Prelude.{◌≡◌, ℕ, ◌+◌, ◌<◌, ◌≤◌, ◌↔◌, [], Some, None, Ok, Err, IsSome, IfSome, IfNone, IfOk, IfErr, ◌⊎◌, OnOk, OnErr, false};
 ghost use Rattle.exec_base.specs.{Slab.{value_at, next_id, inserted, removed, written, live_count, IsFull, IsPast, Updates, TakesId}, declared.slab.Id.Id as Name};
 ghost use Rattle.exec_base.specs.declared.error.Error.TheVariants as error;
 ghost use Rattle.exec_time.specs.{Notes.{HasRoom, Adds}, Sleepers.{wakes_of, completions_of}};
@@ -69,7 +68,7 @@ impl<S> Model for Timers<S> {
 }
 
 impl<S: Drop> Timers<S> {
-    ghost use Rattle.exec_time.specs.Sleepers.{is_forwarded, observation, displaced, deadline_at, IsEmpty, IsFirst, Ends, IsDue, FiresTo, left_at, IsLowest, ClosesTo};
+    ghost use Rattle.exec_time.specs.Sleepers.{is_forwarded, observation, displaced, IsEmpty, IsFirst, Ends, IsDue, FiresTo, left_at, IsLowest, ClosesTo};
     ghost use Rattle.exec_time.specs.Firsts.{FirstBelow};
     ghost use Rattle.exec_time.specs.declared.timers.Observer.TheVariants.{Local, Forwarded};
     ghost use Rattle.exec_time.specs.declared.timers.Sleeper.{Sleeper as Sleeping};

@@ -1,7 +1,7 @@
 -- How a change of one entry keeps the counts, and what is said of every entry.
 use Rattle.std.proofs.Common.{◌≡◌, ℕ, ◌+◌, ◌-◌, ◌^◌, ◌<◌, ◌≤◌, Bool, true, false, not, ◌&&◌, ◌||◌, cond, List, [], ◌∷◌, length, set, get_or, Option, Some, None, refl, sym, ap, ◌∙◌, arith, inl, inr, length-set, length-append}
 use Rattle.std.proofs.lemmas.Grind.{common_steps}
-use Rattle.std.proofs.lemmas.Bool.{cases_lt, leb-true, leb-false, false≢true}
+use Rattle.std.proofs.lemmas.Bool.{cases_lt, leb-true, leb-false, false≢true, not-true}
 use Rattle.std.proofs.lemmas.Bool.Decides.{eqb_tells}
 use Rattle.std.proofs.lemmas.List.{get_or_past, get_or-set_same, get_or_default}
 use Rattle.std.proofs.lemmas.List.Sums.{sum_by-set, sum_by_push, get_or-le-sum_by}
@@ -46,10 +46,6 @@ and_left false b is = absurd (false≢true is)
 pub name_tells : (o : Option Id) (n : WaiterId) → name_of o ≡ Some n → o ≡ Some n.0
 name_tells None n is = absurd (cc)
 name_tells (Some id) n is = let same : record { 0 = id } ≡ n = cc in ap (λ (m : WaiterId). Some m.0) same
-
-by_not : (a : Bool) → not a ≡ true → a ≡ false
-by_not false is = refl
-by_not true is = absurd (false≢true is)
 
 -- another observer that is no detached sync
 observed : (a b c x : Bool) → ((not a || b) && not c) ≡ true → x ≡ false → ((not x || b) && not c) ≡ true
@@ -211,10 +207,6 @@ module _ {S F : Type 0} where
       let there = at_by s id (Pending w) (entry_of _ w at) in
       rw there.slot at (kept.sound id.index (Vacant s.first) there.within)
 
-  -- its index isn't the last
-  pub index_below : (s : Slab (Entry S F)) (id : Id) (w : Waiter S F) (n k : ℕ) → waiter_at s id ≡ Some w → IsKept s n k → id.index < 4294967295
-  index_below s id w n k at kept = omega (arith, (at_by s id (Pending w) (entry_of _ w at)).within, kept.few)
-
   -- what may be staged isn't under way, and lacks no permit
   pub staging_tells : (o : Option (Waiter S F)) (w : Waiter S F) → o ≡ Some w → may_stage o ≡ true → (w.in_flight ≡ false) × (needs_permit w ≡ false)
   staging_tells o w is may = and_tells w.in_flight (asks_cancel w.state) (needs_permit w) (rw is at may)
@@ -230,7 +222,7 @@ module _ {S F : Type 0} where
 
   -- what is idle isn't under way
   pub idle_tells : (o : Option (Waiter S F)) (w : Waiter S F) → o ≡ Some w → is_idle o ≡ true → w.in_flight ≡ false
-  idle_tells o w is idle = by_not w.in_flight (rw is at idle)
+  idle_tells o w is idle = not-true w.in_flight (rw is at idle)
 
   -- a request that was admitted is sound
   pub admitted_sound : (r : Request) (observer : Observer S F) → suits r observer ≡ true → is_sound_entry (admitted r observer) ≡ true

@@ -1,7 +1,7 @@
 -- What a finish does to the map of requests.
-use Rattle.std.proofs.Common.{◌≡◌, ◌≢◌, ◌^◌, ◌<◌, Option, Some, None, IsSome, refl, ap, ◌∙◌, arith}
-use Rattle.exec_base.specs.{Slab.{Slab, value_at, removed, freed, Updates, IsPast}, declared.slab.Id.Id}
-use Rattle.exec_base.proofs.Slots.{Changed-set, Updates-write, Updates-free, past-write, past-free}
+use Rattle.std.proofs.Common.{◌≡◌, ◌≢◌, Option, Some, None, IsSome, refl, ap, ◌∙◌}
+use Rattle.exec_base.specs.{Slab.{Slab, value_at, removed, freed, Updates}, declared.slab.Id.Id}
+use Rattle.exec_base.proofs.Slots.{Changed-set, Updates-write, Updates-free}
 use Rattle.exec_request.specs.declared.output.RequestOutput.{RequestOutput}
 use Rattle.exec_waiters.specs.{States.{waiter_at, waiter_of}, Events.finished_for, declared.{observer.Observer.{Observer, TheVariants.{Local, Forwarded, DetachedSync, Orphaned}}, waiter.{Waiter.Waiter, Entry.{Entry, TheVariants.{Pending, Ready}}}}}
 use Rattle.exec_waiters.proofs.Changes.{at_by, entry_of}
@@ -28,25 +28,11 @@ module _ {S F : Type 0} where
       let there = at_by s id e at in
       Updates-free s (removed s id) id e (Changed-set s (removed s id) id.index (freed id.generation) refl refl there.within) there.slot
 
-  live_past : (s : Slab (Entry S F)) (id : Id) (e : Entry S F) → value_at s id ≡ Some e → IsPast s id
-  live_past s id e at = let there = at_by s id e at in rw there.slot (omega arith)
-
-  gone_past : (s : Slab (Entry S F)) (id : Id) (e : Entry S F) → id.generation < 2 ^ 64 → value_at s id ≡ Some e → IsPast (removed s id) id
-  gone_past s id e within at =
-      let there = at_by s id e at in
-      (past-free s (removed s id) id e within (Changed-set s (removed s id) id.index (freed id.generation) refl refl there.within) there.slot id).1 (live_past s id e at)
-
   updates_for : (s : Slab (Entry S F)) (id : Id) (e : Entry S F) (told : RequestOutput) (observer : Observer S F) → value_at s id ≡ Some e → Updates s (finished_for s id told observer) id (left_for told observer)
   updates_for s id e told (Local waker) at = Updates-write s id (Ready told) (is_there s id e at)
   updates_for s id e told (Forwarded sender) at = goes s id e at
   updates_for s id e told (DetachedSync sender) at = goes s id e at
   updates_for s id e told Orphaned at = goes s id e at
-
-  past_for : (s : Slab (Entry S F)) (id : Id) (e : Entry S F) (told : RequestOutput) (observer : Observer S F) → id.generation < 2 ^ 64 → value_at s id ≡ Some e → IsPast (finished_for s id told observer) id
-  past_for s id e told (Local waker) within at = (past-write s id (Ready told) (is_there s id e at) id).1 (live_past s id e at)
-  past_for s id e told (Forwarded sender) within at = gone_past s id e within at
-  past_for s id e told (DetachedSync sender) within at = gone_past s id e within at
-  past_for s id e told Orphaned within at = gone_past s id e within at
 
   -- a request that was finished is over, and no other entry changes
   pub over : (s : Slab (Entry S F)) (id : Id) (w : Waiter S F) (told : RequestOutput) (observer : Observer S F) → waiter_at s id ≡ Some w → waiter_at (finished_for s id told observer) id ≡ None
@@ -56,6 +42,3 @@ module _ {S F : Type 0} where
   pub others : (s : Slab (Entry S F)) (id other : Id) (w : Waiter S F) (told : RequestOutput) (observer : Observer S F) → waiter_at s id ≡ Some w → other ≢ id → value_at (finished_for s id told observer) other ≡ value_at s other
   others s id other w told observer at differs =
       (updates_for s id (Pending w) told observer (entry_of _ w at)).others other differs
-
-  pub past : (s : Slab (Entry S F)) (id : Id) (w : Waiter S F) (told : RequestOutput) (observer : Observer S F) → id.generation < 2 ^ 64 → waiter_at s id ≡ Some w → IsPast (finished_for s id told observer) id
-  past s id w told observer within at = past_for s id (Pending w) told observer within (entry_of _ w at)

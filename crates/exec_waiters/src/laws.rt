@@ -1,6 +1,6 @@
 //! Laws of the requests of a worker.
 
-ghost use Rattle.std.specs.Prelude.{◌≡◌, ◌≢◌, ◌<◌, ◌^◌, ℕ, true, false, [], ◌∷◌, Option, Some, None};
+ghost use Rattle.std.specs.Prelude.{◌≡◌, ◌≢◌, ◌<◌, ◌^◌, ℕ, true, [], ◌∷◌, Option, Some, None};
 ghost use Rattle.exec_base.specs.{Slab.{Slab, value_at, IsPast}, declared.slab.Id.Id};
 ghost use Rattle.exec_outcomes.specs.Accounts.{Account};
 ghost use Rattle.exec_request.specs.{Requests.retired_of, States.Ended};

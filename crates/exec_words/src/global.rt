@@ -6,7 +6,7 @@
 //! mirror is read without the lock: it is stored with each change, and equals the length. A closed
 //! queue takes nothing more. Ports the global queue of `commonware_runtime`'s `iouring::pool`.
 
-ghost use Rattle.std.specs.Prelude.{◌≡◌, ◌+◌, ◌-◌, ◌<◌, ◌≤◌, ◌==◌, ◌↔◌, [], ◌∷◌, ◌++◌, length, take, drop, max, slice_get, false, true, IsTrue, IsOk, OnOk, IfErr, OnErr, not, Some, None};
+ghost use Rattle.std.specs.Prelude.{◌≡◌, ◌-◌, ◌<◌, ◌≤◌, ◌↔◌, [], ◌∷◌, length, take, max, slice_get, false, true, IsOk, OnOk, IfErr, OnErr, not, Some};
 ghost use Rattle.exec_words.specs.{Global.appended, Global.share_of, Global.share_queued, Global.share_taken, Global.spare_places, Queue.published, Queue.room_of};
 
 use super::HALF;

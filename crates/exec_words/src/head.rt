@@ -5,7 +5,7 @@
 //! value. Who has loaded both knows how many values there were, whether they may be claimed, and what a push does: by
 //! rules (`specs/Head.antt`) that every form of the queue has.
 
-ghost use Rattle.std.specs.Prelude.{◌≡◌, ◌-◌, ◌+◌, ◌==◌, ◌^◌, ◌<◌};
+ghost use Rattle.std.specs.Prelude.{◌≡◌, ◌-◌, ◌+◌, ◌==◌, ◌<◌};
 ghost use Rattle.exec_words.specs.Head.{room_at, is_stealable_at, fit_at};
 
 use super::{CAPACITY, SPENT, STEALABLE};

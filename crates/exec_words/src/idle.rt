@@ -11,7 +11,7 @@
 //! Set and count are two words, and each call is one operation on one of them. Ports the `Idle` of
 //! `commonware_runtime`'s `iouring::idle`, whose loops make these steps.
 
-ghost use Rattle.std.specs.Prelude.{◌≡◌, ◌+◌, ◌-◌, ◌<◌, ◌^◌, ◌↔◌, IsTrue, IsOk, IfOk, OnOk, IfErr, OnErr, IsSome, IsNone, Some, true, false, replicate, slice_index_or, slice_set, position, length};
+ghost use Rattle.std.specs.Prelude.{◌≡◌, ◌+◌, ◌-◌, ◌<◌, ◌^◌, ◌↔◌, IsOk, IfOk, OnOk, IfErr, OnErr, IsSome, Some, true, false, replicate, slice_set, position};
 ghost use Rattle.exec_words.specs.Idle.{is_in, lowest_of};
 
 use super::MAX_WORKERS;

@@ -6,7 +6,7 @@
 //! closed inbox gives each message back, and what stood in it when it closed counts as taken. Ports the `Inbox` and
 //! `Message` of `commonware_runtime`'s `iouring::mailbox`.
 
-ghost use Rattle.std.specs.Prelude.{◌≡◌, ◌<◌, ◌^◌, [], length, max, false, true, not, ◌&&◌, IsOk, IfOk, OnOk, IfErr, OnErr, ◌↔◌};
+ghost use Rattle.std.specs.Prelude.{◌≡◌, ◌<◌, [], max, false, true, ◌&&◌, IsOk, IfOk, OnOk, IfErr, OnErr, ◌↔◌};
 ghost use Rattle.exec_words.specs.Word.{asks_signal};
 
 use super::reserved::Reserved;

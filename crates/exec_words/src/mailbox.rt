@@ -5,7 +5,7 @@
 //! concerns the inbox alone, as reserving, taking and closing, leaves the wake word as it is. Ports the `Mailbox` of
 //! `commonware_runtime`'s `iouring::mailbox`.
 
-ghost use Rattle.std.specs.Prelude.{◌≡◌, ◌<◌, [], false, true, max, IsOk, IfOk, OnOk, IfErr, OnErr, ◌↔◌};
+ghost use Rattle.std.specs.Prelude.{◌≡◌, ◌<◌, [], false, max, IsOk, IfOk, OnOk, IfErr, OnErr, ◌↔◌};
 ghost use Rattle.exec_words.specs.declared.word.WaitTarget.{WaitTarget};
 
 use super::inbox::{Inbox, Message};

@@ -11,7 +11,7 @@
 //! Each call that changes the word is one operation on it, and answers what it found where that
 //! decides. Ports the state of `commonware_runtime`'s `iouring::waker`.
 
-ghost use Rattle.std.specs.Prelude.{◌≡◌, ◌≢◌, ◌<◌, ◌^◌, ◌&&◌, ◌||◌, ◌==◌, not, true, false};
+ghost use Rattle.std.specs.Prelude.{◌≡◌, ◌<◌, ◌^◌, ◌&&◌, ◌==◌, not, true, false};
 ghost use Rattle.exec_words.specs.{declared.word.WaitTarget.WaitTarget, Word.asks_signal, Word.is_idle_at, Word.next_batch};
 
 use super::BATCHES;

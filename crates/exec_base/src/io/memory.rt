@@ -1,4 +1,4 @@
-ghost use Rattle.std.specs.Prelude.{◌≡◌, ℕ, ◌+◌, ◌-◌, ◌<◌, ◌≤◌, ◌↔◌, ◌⊎◌, min, List, [], Some, Contains, length, take, drop, vec_len, vec_capacity, IsErr, IfOk, IfSome, OnOk, OnErr};
+ghost use Rattle.std.specs.Prelude.{◌≡◌, ◌+◌, ◌-◌, ◌<◌, ◌≤◌, ◌⊎◌, min, [], Some, Contains, length, take, drop, vec_len, vec_capacity, IsErr, IfOk, OnOk, OnErr};
 ghost use Rattle.std.specs.Io.KnownBytes.{append_known};
 ghost use Rattle.exec_base.specs.Io.{Takes, CountsFault, one_more};
 ghost use Rattle.exec_base.specs.Plan.{IsPlanned};

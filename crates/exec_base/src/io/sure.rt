@@ -1,6 +1,5 @@
-ghost use Rattle.std.specs.Prelude.{◌≡◌, ℕ, ◌+◌, ◌-◌, ◌<◌, ◌≤◌, min, List, Some, None, Ok, length, take, drop, vec_len, IsOk, IfOk, IfSome, OnErr};
-ghost use Rattle.std.specs.Io.KnownBytes.{append_known};
-ghost use Rattle.exec_base.specs.Io.{Rose, Takes};
+ghost use Rattle.std.specs.Prelude.{◌≡◌, ◌+◌, ◌-◌, ◌<◌, ◌≤◌, min, Some, None, Ok, length, take, drop, vec_len, IsOk, IfOk};
+ghost use Rattle.exec_base.specs.Io.{Takes};
 
 use super::{Failed, Input, Output, copy_front};
 

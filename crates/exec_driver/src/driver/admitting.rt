@@ -5,7 +5,7 @@ ghost use Rattle.exec_base.specs.Slab.{next_id, live_count, IsPast, TakesId};
 ghost use Rattle.exec_request.specs.Requests.{gate_of};
 ghost use Rattle.exec_ring.specs.{Rings.taken_places, Stores.{Same, Reserves, Releases}};
 ghost use Rattle.exec_waiters.specs.{States.{suits, gate_in, pending_count, is_full}, Told.{HasPlaces, Tells, nothing_told}};
-ghost use Rattle.exec_driver.specs.{Opens.{open_named, with_named, placed, displaced, joined}, Driving.{seen, request_at}, Punctual.IsPunctual, Steps.{placed_at, told_at_admission, newcomer, plainly_written, taken_in, is_late}, Footprints.{footprint_of, widened}, Admission.{IsRefused, Admits, with_rooms, HasTwoMore, HasFewSpare}};
+ghost use Rattle.exec_driver.specs.{Opens.{open_named, with_named, placed, joined}, Driving.{seen, request_at}, Punctual.IsPunctual, Steps.{placed_at, told_at_admission, newcomer, plainly_written, taken_in, is_late}, Footprints.{footprint_of, widened}, Admission.{IsRefused, Admits, with_rooms, HasTwoMore, HasFewSpare}};
 
 use super::Driver;
 use crate::opens::{Opens, WaiterKey};
@@ -23,8 +23,6 @@ use exec_waiters::waiter_id::WaiterId;
 use std::alloc::{AllocError, Global};
 
 impl<R: Ring + Drop, S: Drop, F: Drop> Driver<R, S, F> {
-    ghost use Rattle.exec_waiters.specs.declared.waiter.Waiter.{Waiter as Asking};
-
     /// Takes a request in, with who waits for it. Where its deadline isn't after `now` it ends with `Timeout` at once.
     /// A durable one is gated, and has to join the line of its open by `join`; any other is queued. Of a plain write
     /// its open is told that a change begins.

@@ -1,6 +1,6 @@
 //! Who waits for a request.
 
-ghost use Rattle.std.specs.Prelude.{◌≡◌, Some, None, IfSome, IfNone, true, false};
+ghost use Rattle.std.specs.Prelude.{◌≡◌, Some, IfSome, IfNone, true, false};
 ghost use Rattle.exec_base.specs.{Slab.value_at, declared.slab.Id.Id as Name};
 ghost use Rattle.exec_waiters.specs.{States.{is_observed_here, may_be_seen, is_held_at}, Events.{changed, with_waker, waker_of, seen_by, taken, forwarded, told_by_forward, told_by_orphan, told_by_close, IsFirstHeld}, Told.{HasPlaces, Tells}};
 ghost use Rattle.exec_driver.specs.{Driving.{seen, request_at}, Punctual.IsPunctual, Steps.{let_go, told_by_let_go}};

@@ -1,11 +1,11 @@
 //! Completions: what the kernel has done with.
 
-ghost use Rattle.std.specs.Prelude.{◌≡◌, ◌-◌, ◌==◌, Some, None, IfSome, IfNone, true, false, is_some};
+ghost use Rattle.std.specs.Prelude.{◌≡◌, ◌-◌, ◌==◌, Some, None, true, false, is_some};
 ghost use Rattle.exec_base.specs.declared.slab.Id.{Id as Name};
 ghost use Rattle.exec_outcomes.specs.{Accounts.is_durable, declared.outcome.Kind.Kind};
 ghost use Rattle.exec_request.specs.States.{told_by};
 ghost use Rattle.exec_ring.specs.{Completions.result_in, Kernels.next_completion};
-ghost use Rattle.exec_waiters.specs.Told.{HasPlaces, Tells};
+ghost use Rattle.exec_waiters.specs.Told.{HasPlaces};
 ghost use Rattle.exec_driver.specs.{Driving.{seen, request_at}, Punctual.IsPunctual, Steps.{swept, under_way_after, armed_after, is_control, taken_out, completed_in, with_landings, Reaps, ReapsNext, is_next_control, after_next_control}};
 
 use super::Driver;

@@ -1,8 +1,8 @@
 //! A driver over the ring in memory, whose kernel does what it is told.
 
-ghost use Rattle.std.specs.Prelude.{◌≡◌, ◌↔◌, [], Ok, Err, Some, true, false, IsTrue, OnOk, OnErr, ◌&&◌, if◌then◌else◌};
-ghost use Rattle.exec_ring.specs.{Kernels.{may_land, landed, flight_of}, Landings.IsReady};
-ghost use Rattle.exec_waiters.specs.{Events.Lands, Ids.user_data_of, States.is_flying};
+ghost use Rattle.std.specs.Prelude.{◌≡◌, ◌↔◌, [], Ok, Err, Some, true, IsTrue, OnOk, OnErr, ◌&&◌, if◌then◌else◌};
+ghost use Rattle.exec_ring.specs.{Kernels.{may_land, flight_of}, Landings.IsReady};
+ghost use Rattle.exec_waiters.specs.{Ids.user_data_of, States.is_flying};
 ghost use Rattle.exec_driver.specs.{Driving.{seen, request_at}, Punctual.IsPunctual, Steps.LandsOne};
 
 use super::Driver;

@@ -1,9 +1,8 @@
 //! What goes into the submission queue: cancels first, then requests that have what they need, then the wake poll.
 
-ghost use Rattle.std.specs.Prelude.{◌≡◌, ◌<◌, ◌≤◌, not, ◌&&◌, ◌||◌, List, Some, None, IfSome, IfNone, true, false, if◌then◌else◌};
-ghost use Rattle.exec_ring.specs.Kernels.{Landing, answer_of_enter, MayAllLand, all_taken};
-ghost use Rattle.exec_request.specs.{States.as_answer, Requests.outcome_if_granted};
-ghost use Rattle.exec_waiters.specs.{States.{gate_in, file_of}, Told.{HasPlaces, Tells}};
+ghost use Rattle.std.specs.Prelude.{◌≡◌, ◌<◌, not, ◌||◌, Some, None, IfSome, IfNone, true, false, if◌then◌else◌};
+ghost use Rattle.exec_ring.specs.Kernels.{answer_of_enter, MayAllLand, all_taken};
+ghost use Rattle.exec_waiters.specs.{States.{file_of}, Told.{HasPlaces}};
 ghost use Rattle.exec_driver.specs.{Opens.{account_in, holder_at}, Driving.{seen, request_at, is_full, may_stage_one}, Lists.{has_first, first_of}, Punctual.IsPunctual, Placed.ListsRequests, Sharing.FliesPermitted, Steps.{lowest_gate, lower, granted, is_turn_of, Grants, cancel_staged, StagesOne, poll_staged, entered, with_landings}};
 
 use super::Driver;

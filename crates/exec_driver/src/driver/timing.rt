@@ -1,9 +1,9 @@
 //! Deadlines: what is due, and what is to be enrolled.
 
-ghost use Rattle.std.specs.Prelude.{◌≡◌, [], ◌<◌, ◌≤◌, ◌+◌, Some, None, Err, IfSome, IfNone, IsSome, OnErr, OnOk};
+ghost use Rattle.std.specs.Prelude.{◌≡◌, [], ◌<◌, ◌≤◌, ◌+◌, Some, None, Err, IfSome, IfNone};
 ghost use Rattle.exec_time.specs.{Wheel.IsSettled, WheelView.{wheel_of, room_of}};
 ghost use Rattle.exec_waiters.specs.{States.{waiter_at, pending_count}, Told.{HasPlaces, Tells}};
-ghost use Rattle.exec_driver.specs.{Sound.IsListed, Driving.{seen, request_at, is_enrolled}, Lists.{first_of, after_due, after_enrolment}, Punctual.{IsPunctual, TellsDeadlines}, Steps.{advanced_to, all_due, fallen_due, expired, told_by_cancel, enrolled_by, tick_for, in_time, told_by_enrolment, Enrols}};
+ghost use Rattle.exec_driver.specs.{Sound.IsListed, Driving.{seen, request_at, is_enrolled}, Lists.{first_of}, Punctual.{IsPunctual, TellsDeadlines}, Steps.{advanced_to, all_due, fallen_due, expired, told_by_cancel, tick_for, in_time, Enrols}};
 
 use super::Driver;
 use crate::lists::Lists;

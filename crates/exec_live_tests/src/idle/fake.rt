@@ -1,6 +1,6 @@
 //! A pool of counters in place of queues, and what wakes its workers.
 
-ghost use Rattle.std.specs.Prelude.{◌≡◌, ℕ, ◌<◌, ◌≤◌, true, false, nat_lt, slice_set};
+ghost use Rattle.std.specs.Prelude.{◌≡◌, ◌<◌, ◌≤◌, true, false, nat_lt, slice_set};
 
 use exec_live_idle::backlog::Backlog;
 use exec_live_idle::notify::Rouse;

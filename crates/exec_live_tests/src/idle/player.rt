@@ -1,6 +1,6 @@
 //! A worker of a fake pool, which remembers whether it is parked.
 
-ghost use Rattle.std.specs.Prelude.{◌≡◌, ◌≤◌, ◌<◌, true, false, IsTrue};
+ghost use Rattle.std.specs.Prelude.{◌≡◌, ◌<◌, true, false, IsTrue};
 ghost use Rattle.exec_live_idle.specs.Idle.{knows};
 
 use super::fake::FakePool;

@@ -4,7 +4,7 @@
 //! sleepers in the order of making, and gives no number twice. Here stands the number of what has each slot now. What
 //! has ended keeps its number until it is released, in the order of ending, since its slot may be given again before.
 
-ghost use Rattle.std.specs.Prelude.{◌≡◌, ◌≢◌, ℕ, ◌+◌, ◌-◌, ◌<◌, ◌≤◌, [], true, false, ◌∷◌, ◌++◌, length, drop, nat_lt, slice_get, option_to_list, Some, IfNone, IfOk, OnOk, OnSome};
+ghost use Rattle.std.specs.Prelude.{◌≡◌, ◌≢◌, ℕ, ◌+◌, ◌-◌, ◌<◌, ◌≤◌, [], true, false, ◌∷◌, ◌++◌, length, drop, slice_get, option_to_list, Some, IfNone, IfOk, OnOk, OnSome};
 ghost use Rattle.exec_machine.specs.Requests.{joined_if};
 ghost use Rattle.std.specs.Vec.{vec_capacity};
 ghost use Rattle.std.specs.VecDeque.{deque_capacity};

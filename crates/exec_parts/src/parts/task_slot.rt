@@ -7,7 +7,7 @@
 //!
 //! Who polls a task acts for it; others wake it or clear it, each by one section on the cell.
 
-ghost use Rattle.std.specs.Prelude.{◌≡◌, ◌-◌, ◌<◌, [], ◌∷◌, ◌++◌, length, not, slice_get, take, option_to_list, is_some, Some, None, IsSome, IsTrue, IfNone, IfOk, OnErr, OnOk, true, false, if◌then◌else◌};
+ghost use Rattle.std.specs.Prelude.{◌≡◌, ◌-◌, ◌<◌, [], ◌∷◌, ◌++◌, length, not, slice_get, take, option_to_list, is_some, Some, None, IsSome, IsTrue, IfOk, OnErr, OnOk, true, false, if◌then◌else◌};
 ghost use Rattle.std.specs.Vec.{vec_capacity};
 ghost use Rattle.exec_base.specs.OneShot.{polled, sent};
 ghost use Rattle.exec_base.specs.declared.one_shot.OneShotState.TheVariants as shot;

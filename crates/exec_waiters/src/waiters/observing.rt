@@ -2,7 +2,7 @@
 
 ghost use Rattle.std.specs.Prelude.{◌≡◌, ◌<◌, Some, None, IfSome, IfNone, is_some, true, false};
 ghost use Rattle.exec_base.specs.{Slab.value_at, declared.slab.Id.Id as Name};
-ghost use Rattle.exec_waiters.specs.{Told.{HasPlaces, Tells, nothing_told, awake}, States.{waiter_at, is_observed_here, may_be_seen, is_held_at, is_detached, output_at}, Events.{changed, with_waker, with_observer, waker_of, seen_by, taken, forwarded, told_by_forward, orphaned, told_by_orphan, asks_cancel_by_orphan, told_by_close, IsFirstHeld}};
+ghost use Rattle.exec_waiters.specs.{Told.{HasPlaces, Tells}, States.{waiter_at, is_observed_here, may_be_seen, is_held_at, is_detached, output_at}, Events.{changed, with_waker, with_observer, waker_of, seen_by, taken, forwarded, told_by_forward, orphaned, told_by_orphan, asks_cancel_by_orphan, told_by_close, IsFirstHeld}};
 
 use super::Waiters;
 use crate::completed::Closed;

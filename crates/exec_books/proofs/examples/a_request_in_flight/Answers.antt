@@ -27,8 +27,7 @@ due : its_seat.rest ≡ rest_until (next_due sending.common 0)
 due = let until : its_seat.rest ≡ rest.Until 10000000 = refl in let next : rest_until (next_due sending.common 0) ≡ rest.Until 10000000 = refl in until ∙ sym next
 
 not_asleep : (b : Bool) → (b && not true && not true) ≡ false
-not_asleep true = refl
-not_asleep false = refl
+not_asleep = grind arith
 
 pub returns-clause-booked : goal.returns-clause-booked
 returns-clause-booked c =

@@ -1,9 +1,6 @@
-use Rattle.std.proofs.Common.{length, refl, ◌∙◌, arith}
+use Rattle.std.proofs.Common.{length, refl, ◌∙◌}
 use Rattle.exec_core.proofs.CoreFirsts.{root_is}
 use Rattle.exec_core.proofs.setting_up.add_root.Goals as goal
-
-pub overflow_cast-number : goal.overflow_cast-number
-overflow_cast-number g c = omega (arith, c.requires.few, c.len-number.ensures, c.args.shared.now.tasks.ok.0)
 
 pub returns : goal.returns
 returns g c =

@@ -1,21 +1,11 @@
 use Rattle.std.proofs.{Common.{[], ◌∷◌, length, sym, ap, subst, ◌∙◌, append_assoc, append-nil, arith}}
 use Rattle.std.specs.Vec.Iter.{into_iter_items}
 use Rattle.exec_core.specs.Firsts.{HasRoots}
-use Rattle.exec_core.proofs.CoreFirsts.{bare_with, nothing_left, roots_more, within_yielded}
+use Rattle.exec_core.proofs.CoreFirsts.{bare_with, nil_from_length, roots_more}
 use Rattle.exec_core.proofs.setting_up.first_shared.Goals as goal
 
 pub loop-root-init : goal.loop-root-init
 loop-root-init g c = grind arith
-
-pub add_root-requires-clause-few : goal.add_root-requires-clause-few
-add_root-requires-clause-few g c =
-    let at = c.loop-root in
-    let steps = c.in-Some.ensures.steps.0 in
-    let within = within_yielded at.yielded c.in-Some.root (into_iter_items c.next.new.self) (into_iter_items at.root-iterator) c.args.roots.items at.invariant.split steps in
-    omega (arith, within, at.invariant.rooted.tasks_many, c.requires.many, c.requires.few)
-
-pub add_root-requires-clause-first : goal.add_root-requires-clause-first
-add_root-requires-clause-first g c = ap (λ x. x.set.id) c.loop-root.invariant.bare.parts
 
 pub loop-root-preserved : goal.loop-root-preserved
 loop-root-preserved g c =
@@ -34,6 +24,6 @@ pub returns : goal.returns
 returns g c =
     let at = c.loop-root in
     let none = c.in-None.ensures.steps in
-    let empty = nothing_left (into_iter_items at.root-iterator) (sym at.invariant.len ∙ none.0) in
+    let empty = nil_from_length (into_iter_items at.root-iterator) (sym at.invariant.len ∙ none.0) in
     let all = sym (append-nil at.yielded) ∙ rw empty at at.invariant.split in
     record { first = record { bare = at.invariant.bare; rooted = subst (λ xs. HasRoots xs at.shared.seats.items at.shared.tasks.items at.runnables.items) all at.invariant.rooted } }

@@ -1,8 +1,5 @@
-use Rattle.exec_driver.proofs.Sharing.{line_up_first, line_up_kept, line_up_always, one_always}
+use Rattle.exec_driver.proofs.Sharing.{line_up_kept, line_up_always, one_always}
 use Rattle.exec_driver.proofs.laws.drivers_go_on_sharing_gates.Goals as goal
-
-pub returns-clause-first : goal.returns-clause-first
-returns-clause-first g c = λ drivers gates fresh. line_up_first drivers gates fresh
 
 pub returns-clause-kept : goal.returns-clause-kept
 returns-clause-kept g c = λ drivers drivers' gates gates' calls up. line_up_kept drivers drivers' gates gates' calls up

@@ -1,4 +1,4 @@
-use Rattle.exec_live_queue.proofs.{Words.{◌≡◌, ◌+◌, List, length, refl, sym, ap, subst, ◌∙◌, length-drop, arith}, Moves.{Filling, fill_front, fill_step, fill_all}, Looks.nothing_left}
+use Rattle.exec_live_queue.proofs.{Words.{◌≡◌, ◌+◌, List, length, refl, sym, ap, subst, ◌∙◌, length-drop, arith}, Moves.{Filling, fill_front, fill_step, fill_all}, Looks.nil_from_length}
 use Rattle.std.proofs.Common.{drop}
 use Rattle.exec_live_queue.proofs.batch.fill.Goals as goal
 
@@ -16,7 +16,7 @@ loop-i-preserved g c = let v = c.loop-i.invariant in let p = c.put.ensures in le
 }
 
 pub returns : goal.returns
-returns g c = let v = c.loop-i.invariant in let dry = nothing_left c.loop-i.batch.values (omega (arith, v.count, c.loop-i-test.false, c.len-i-end.ensures.count)) in record {
+returns g c = let v = c.loop-i.invariant in let dry = nil_from_length c.loop-i.batch.values (omega (arith, v.count, c.loop-i-test.false, c.len-i-end.ensures.count)) in record {
   same = v.same;
   filled = λ r f. fill_all c.loop-i.seat.me c.args.seat.now.me.0 c.args.tail r c.loop-i.i c.args.batch.now.values c.loop-i.batch.values (v.filled r f) dry;
   taken = v.places ∙ ap (λ (xs : List g.row.T.Denot). record c.args.batch.now { values = xs }) dry;

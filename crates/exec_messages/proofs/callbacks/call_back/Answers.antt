@@ -38,8 +38,7 @@ returns-then-not-is_empty-3 g c =
     }
 
 pub returns-then-not-is_empty : goal.returns-then-not-is_empty
-returns-then-not-is_empty g c =
-    record { steps = next_woken g.B.Body.left g.B.Scripted.spot c.args.next c.args.worker.now c.wake_next.new.self c.args.shared.now c.wake_next.new.shared c.wake_next.result c.requires.sound c.requires.whole c.wake_next.ensures.wakes }
+returns-then-not-is_empty g c = record { steps = next_woken _ _ c.args.next _ _ _ _ _ c.requires.sound c.requires.whole c.wake_next.ensures.wakes }
 
 pub send_end-requires : goal.send_end-requires
 send_end-requires g c =

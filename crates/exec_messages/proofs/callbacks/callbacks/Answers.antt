@@ -5,8 +5,7 @@ use Rattle.exec_invariants.proofs.MailBack.{batch_taken}
 use Rattle.exec_messages.proofs.callbacks.callbacks.Goals as goal
 
 pub returns-in-TakeBatch : goal.returns-in-TakeBatch
-returns-in-TakeBatch g c =
-    record { steps = batch_taken g.B.Body.left g.B.Scripted.spot c.args.next c.args.worker.now c.take_batch.new.self c.args.shared.now c.take_batch.result (rw c.in-TakeBatch.is at c.requires.sound) c.take_batch.ensures.event c.take_batch.ensures.goes }
+returns-in-TakeBatch g c = record { steps = batch_taken _ _ c.args.next _ _ _ _ (rw c.in-TakeBatch.is at c.requires.sound) c.take_batch.ensures.event c.take_batch.ensures.goes }
 
 pub wake_hearer-requires-clause-there : goal.wake_hearer-requires-clause-there
 wake_hearer-requires-clause-there g c =

@@ -1,4 +1,4 @@
-use Rattle.std.proofs.{Common.{◌≡◌, sym, ap, subst, ◌∙◌, arith, slice_set}, lemmas.List.append-nil}
+use Rattle.std.proofs.{Common.{◌≡◌, sym, ap, subst, ◌∙◌, arith, slice_set}}
 use Rattle.exec_parts.{specs.{declared.parts.{names.Names.Names, record.Record.Record}, Serving.{AreKnown, flown_in}}, proofs.Flying.{known_last, one_flown}}
 use Rattle.exec_parts.proofs.service.fly_staged.Goals as goal
 
@@ -20,13 +20,3 @@ loop-request-preserved c =
       subst (λ (y : Record). AreKnown ks (slice_set rs k y)) (sym c.fly.ensures.flown) one.1,
       c.in-Some.ensures.capacity ∙ i.3,
     )
-
-pub returns-clause-staged : goal.returns-clause-staged
-returns-clause-staged c = sym (append-nil c.unstage.new.self.staged.items) ∙ sym c.in_default.ensures.staged ∙ c.in_default.ensures.none
-
-pub returns-clause-flown : goal.returns-clause-flown
-returns-clause-flown c =
-    ap (λ ks. flown_in ks c.loop-request.requests.items) (sym c.in_default.ensures.none) ∙ c.loop-request.invariant.1
-
-pub returns-clause-capacity : goal.returns-clause-capacity
-returns-clause-capacity c = c.in_default.ensures.capacity ∙ c.loop-request.invariant.3

@@ -2,7 +2,7 @@ use Rattle.std.proofs.Common.{◌≡◌, arith, refl, sym, ap, ◌∙◌, subst}
 use Rattle.exec_task.specs.declared.body.Act.{Act}
 use Rattle.exec_moves.specs.declared.place.{InPoll.InPoll, Place.Place}
 use Rattle.exec_parts.specs.declared.parts.nursery.Nursery.{Nursery}
-use Rattle.exec_invariants.{specs.Acting.StepsOf, proofs.{Acting.{passed_by, yielded_by}, Acts.{acted_at, acted_within, kept_any, may_act, unmade, err_so, ok_so}, Still.steps_nobody, TaskNewest.newest_acted, TaskOverActs.{act_over, is_done, is_fault, may_end_task}, TaskOverLets.lets_seen}}
+use Rattle.exec_invariants.{specs.Acting.StepsOf, proofs.{Acting.{passed_by, yielded_by}, Acts.{acted_at, acted_within, kept_any, may_act, unmade, on_err_weaker, ok_so}, Still.steps_nobody, TaskNewest.newest_acted, TaskOverActs.{act_over, is_done, is_fault, may_end_task}, TaskOverLets.lets_seen}}
 use Rattle.exec_polling.proofs.{DedicatedSteps.{dedicated_by, may_begin, undedicated}, Stirred.{woke_by, woken_there, woken_within}, WakeThere.{may_wake, woke_there}, Rooms.may_make, Refused.refused_by, MakingActs.{has_seat, in_range}, Registered.registered_by, Slept.slept_at, SpawnSteps.{may_spawn, spawned_by, unspawned}, TaskNewestSteps.{await_steps, drop_steps, drops_some}}
 use Rattle.exec_polling.proofs.poll.act.Goals as goal
 
@@ -16,8 +16,7 @@ returns-in_err-request-clause-same g c =
     kept_any c.from_residual.result (unmade g.B.Body.left g.B.Scripted.spot g.B.Body.gives c.args.task c.args.worker.now c.args.shared.now c.next_act.new.shared c.requires.sound c.in_err-request.ensures.kept)
 
 pub pass-requires : goal.pass-requires
-pass-requires g c =
-    record { there = acted_within g.B.Body.left g.B.Scripted.spot g.B.Body.gives c.args.task c.args.worker.now.moments.sampled c.args.shared.now c.next_act.new.shared c.in_ok-request.field-0 c.in_ok-request.ensures.acts }
+pass-requires g c = record { there = acted_within g.B.Body.left g.B.Scripted.spot g.B.Body.gives c.args.task c.args.worker.now.moments.sampled c.args.shared.now c.next_act.new.shared c.in_ok-request.field-0 c.in_ok-request.ensures.acts }
 
 pub yield_task-requires : goal.yield_task-requires
 yield_task-requires g c =
@@ -81,20 +80,16 @@ returns-in-Fault-clause-steps g c =
     (act_over g.B.Body.left g.B.Scripted.runs g.B.Scripted.holds g.B.Scripted.spot g.B.Body.gives c.args.task w s s1 (Act.Fault c.in-Fault.code) h c.requires.whole lets_seen it.new.self it.new.shared _ _ end it.ensures.ends c.requires.performs))
 
 pub returns-in-Sleep-eq0-clause-same : goal.returns-in-Sleep-eq0-clause-same
-returns-in-Sleep-eq0-clause-same g c =
-    tt
+returns-in-Sleep-eq0-clause-same g c = tt
 
 pub returns-in-Yield-clause-same : goal.returns-in-Yield-clause-same
-returns-in-Yield-clause-same g c =
-    tt
+returns-in-Yield-clause-same g c = tt
 
 pub returns-in-Done-clause-same : goal.returns-in-Done-clause-same
-returns-in-Done-clause-same g c =
-    tt
+returns-in-Done-clause-same g c = tt
 
 pub returns-in-Fault-clause-same : goal.returns-in-Fault-clause-same
-returns-in-Fault-clause-same g c =
-    tt
+returns-in-Fault-clause-same g c = tt
 
 pub wake_task-requires : goal.wake_task-requires
 wake_task-requires g c =
@@ -125,8 +120,7 @@ returns-in-Wake-clause-steps g c =
     (λ j home apart. woke_there g.B.Body.left g.B.Scripted.runs g.B.Scripted.holds g.B.Scripted.spot g.B.Body.gives g.B.Scripted.answered c.args.task j n w c.wake_task.new.self s s1 c.wake_task.new.shared c.wake_task.result h it other.0 other.1 home apart c.requires.whole.whole.pool.mail))
 
 pub returns-in-Wake-clause-same : goal.returns-in-Wake-clause-same
-returns-in-Wake-clause-same g c =
-    tt
+returns-in-Wake-clause-same g c = tt
 
 pub sleep_for-requires : goal.sleep_for-requires
 sleep_for-requires g c = grind (arith, acted_within, has_seat, may_make)
@@ -138,7 +132,7 @@ returns-in-Sleep-clause-same g c =
     let s1 = c.next_act.new.shared in
     let time = c.in-Sleep.time in
     let h = acted_at g.B.Body.left g.B.Scripted.runs g.B.Scripted.holds g.B.Scripted.spot g.B.Body.gives g.met.B.Scripted.plays c.args.task w s s1 c.in_ok-request.field-0 (Act.Sleep time) c.in-Sleep.is c.requires.sound c.in_ok-request.ensures.acts c.requires.performs in
-    err_so c.sleep_for.result (refused_by g.B.Body.left g.B.Scripted.runs g.B.Scripted.holds g.B.Scripted.spot g.B.Body.gives c.args.task w c.sleep_for.new.self s s1 c.sleep_for.new.shared (Act.Sleep time) h refl) c.sleep_for.ensures.refused
+    on_err_weaker c.sleep_for.result (refused_by g.B.Body.left g.B.Scripted.runs g.B.Scripted.holds g.B.Scripted.spot g.B.Body.gives c.args.task w c.sleep_for.new.self s s1 c.sleep_for.new.shared (Act.Sleep time) h refl) c.sleep_for.ensures.refused
 
 pub returns-in-Sleep-clause-steps : goal.returns-in-Sleep-clause-steps
 returns-in-Sleep-clause-steps g c =
@@ -186,7 +180,7 @@ returns-in-Register-clause-same g c =
     let acts = c.in_ok-request.ensures.acts in
     let q = c.in-Register.request in
     let h = acted_at g.B.Body.left g.B.Scripted.runs g.B.Scripted.holds g.B.Scripted.spot g.B.Body.gives g.met.B.Scripted.plays c.args.task w s s1 c.in_ok-request.field-0 (Act.Register q) c.in-Register.is c.requires.sound acts c.requires.performs in
-    err_so c.register.result (refused_by g.B.Body.left g.B.Scripted.runs g.B.Scripted.holds g.B.Scripted.spot g.B.Body.gives c.args.task w c.register.new.self s s1 c.register.new.shared (Act.Register q) h refl) c.register.ensures.refused
+    on_err_weaker c.register.result (refused_by g.B.Body.left g.B.Scripted.runs g.B.Scripted.holds g.B.Scripted.spot g.B.Body.gives c.args.task w c.register.new.self s s1 c.register.new.shared (Act.Register q) h refl) c.register.ensures.refused
 
 pub await_newest-requires : goal.await_newest-requires
 await_newest-requires g c =
@@ -212,8 +206,7 @@ returns-in-Await-clause-steps g c =
     (await_steps g.B.Body.left g.B.Scripted.runs g.B.Scripted.holds g.B.Scripted.spot g.B.Body.gives g.B.Scripted.answered c.args.task w c.await_newest.new.self s s1 c.await_newest.new.shared c.await_newest.result c.in-Await.field-0 h c.requires.whole c.await_newest.ensures.awaits)
 
 pub returns-in-Await-clause-same : goal.returns-in-Await-clause-same
-returns-in-Await-clause-same g c =
-    tt
+returns-in-Await-clause-same g c = tt
 
 pub drop_newest-requires : goal.drop_newest-requires
 drop_newest-requires g c =
@@ -241,8 +234,7 @@ returns-in-Drop-clause-steps g c =
     (drop_steps g.B.Body.left g.B.Scripted.runs g.B.Scripted.holds g.B.Scripted.spot g.B.Body.gives g.B.Scripted.answered c.args.task w c.drop_newest.new.self s s1 c.drop_newest.new.shared c.drop_newest.result c.in-Drop.field-0 h c.requires.whole c.drop_newest.ensures.drops)
 
 pub returns-in-Drop-clause-same : goal.returns-in-Drop-clause-same
-returns-in-Drop-clause-same g c =
-    tt
+returns-in-Drop-clause-same g c = tt
 
 pub spawn-requires : goal.spawn-requires
 spawn-requires g c =
@@ -269,7 +261,7 @@ returns-in-Spawn-clause-same g c =
     let s = c.args.shared.now in
     let s1 = c.next_act.new.shared in
     let h = acted_at g.B.Body.left g.B.Scripted.runs g.B.Scripted.holds g.B.Scripted.spot g.B.Body.gives g.met.B.Scripted.plays c.args.task w s s1 c.in_ok-request.field-0 (Act.Spawn c.in-Spawn.body) c.in-Spawn.is c.requires.sound c.in_ok-request.ensures.acts c.requires.performs in
-    err_so c.spawn.result (λ it. unspawned g.B.Body.left g.B.Scripted.runs g.B.Scripted.holds g.B.Scripted.spot g.B.Body.gives g.B.Scripted.answered c.args.task c.in-Spawn.body w c.spawn.new.self s s1 c.spawn.new.shared h it) c.spawn.ensures.refused
+    on_err_weaker c.spawn.result (λ it. unspawned g.B.Body.left g.B.Scripted.runs g.B.Scripted.holds g.B.Scripted.spot g.B.Body.gives g.B.Scripted.answered c.args.task c.in-Spawn.body w c.spawn.new.self s s1 c.spawn.new.shared h it) c.spawn.ensures.refused
 
 pub dedicate-requires : goal.dedicate-requires
 dedicate-requires g c = grind (arith, acted_at, acted_within, may_begin)
@@ -291,7 +283,7 @@ returns-in-Dedicated-clause-same g c =
     let s = c.args.shared.now in
     let s1 = c.next_act.new.shared in
     let h = acted_at g.B.Body.left g.B.Scripted.runs g.B.Scripted.holds g.B.Scripted.spot g.B.Body.gives g.met.B.Scripted.plays c.args.task w s s1 c.in_ok-request.field-0 (Act.Dedicated c.in-Dedicated.body) c.in-Dedicated.is c.requires.sound c.in_ok-request.ensures.acts c.requires.performs in
-    err_so c.dedicate.result (undedicated g.B.Body.left g.B.Scripted.runs g.B.Scripted.holds g.B.Scripted.spot g.B.Body.gives g.B.Scripted.answered c.args.task c.in-Dedicated.body w c.dedicate.new.self s s1 c.dedicate.new.shared c.args.nursery.now c.dedicate.new.nursery h) c.dedicate.ensures.refused
+    on_err_weaker c.dedicate.result (undedicated g.B.Body.left g.B.Scripted.runs g.B.Scripted.holds g.B.Scripted.spot g.B.Body.gives g.B.Scripted.answered c.args.task c.in-Dedicated.body w c.dedicate.new.self s s1 c.dedicate.new.shared c.args.nursery.now c.dedicate.new.nursery h) c.dedicate.ensures.refused
 
 pub returns-in-Dedicated-clause-nobody : goal.returns-in-Dedicated-clause-nobody
-returns-in-Dedicated-clause-nobody g c = err_so c.dedicate.result (λ it. ap (λ (y : Nursery). y.born) it.nobody.nursery ∙ c.requires.none_yet) c.dedicate.ensures.refused
+returns-in-Dedicated-clause-nobody g c = on_err_weaker c.dedicate.result (λ it. ap (λ (y : Nursery). y.born) it.nobody.nursery ∙ c.requires.none_yet) c.dedicate.ensures.refused

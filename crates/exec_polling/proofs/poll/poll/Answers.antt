@@ -1,17 +1,15 @@
 use Rattle.std.proofs.{Common.{◌≡◌, Some, refl, slice_get, sym, ap, arith, inl, inr, ⊎_elim, ◌∙◌}, lemmas.Option.slice_get_within}
 use Rattle.exec_task.specs.Phases.{runnable_of}
 use Rattle.exec_moves.specs.declared.place.InPoll.{InPoll}
-use Rattle.exec_parts.{specs.declared.parts.task_slot.TaskSlot.TaskSlot, proofs.Facts.same_thing}
-use Rattle.exec_invariants.proofs.{FiringRemoved.removes_seen, Here.{IsHere, polled_here}, Pending.at_pend, Polling.{at_start, poll_begun}, TaskOverLets.lets_seen, TaskOverPolls.pending}
+use Rattle.exec_parts.{specs.declared.parts.task_slot.TaskSlot.TaskSlot, proofs.Facts.same_Some}
+use Rattle.exec_invariants.proofs.{FiringRemoved.removes_seen, Here.{IsHere, polled_here}, Pending.at_pend, Polling.{at_start, poll_begun}, TaskOverLets.lets_seen, TaskOverPolls.pending, GateJoins.{gate_joined, joiner, place_at}, Still.steps_none}
 use Rattle.exec_polling.proofs.{Heads.spawn_head_loaded, PoolWithout.held_there, PoolRemoving.{removes_here, task_removed}, TaskPendEnds.{may_pend, poll_ends}}
-use Rattle.exec_invariants.proofs.GateJoins.{gate_joined, joiner, place_at}
-use Rattle.exec_invariants.proofs.Still.{steps_none}
 use Rattle.exec_polling.proofs.poll.poll.Goals as goal
 
 pub begin_poll-requires : goal.begin_poll-requires
 begin_poll-requires g c =
     let it = at_start c.args.task c.args.worker.now c.args.shared.now (rw c.in-BeginPoll.is at c.requires.sound) in
-    let is : (slot : TaskSlot g.row.B.Denot) → slice_get c.args.shared.now.tasks.items c.args.task ≡ Some slot → it.slot ≡ slot = λ slot found. same_thing it.slot slot (sym it.there ∙ found) in
+    let is : (slot : TaskSlot g.row.B.Denot) → slice_get c.args.shared.now.tasks.items c.args.task ≡ Some slot → it.slot ≡ slot = λ slot found. same_Some it.slot slot (sym it.there ∙ found) in
     record {
       there = slice_get_within c.args.shared.now.tasks.items c.args.task it.slot it.there;
       hand = λ slot found. it.hand ∙ ap (λ (o : TaskSlot g.row.B.Denot). Some (runnable_of o.cell)) (is slot found);

@@ -1,4 +1,4 @@
-use Rattle.std.proofs.Common.{◌-◌, [], arith}
+use Rattle.std.proofs.Common.{◌-◌, arith}
 use Rattle.exec_request.proofs.Moving.{copied-next, copied-all}
 use Rattle.exec_request.proofs.bytes.copy_chunks.Goals as goal
 

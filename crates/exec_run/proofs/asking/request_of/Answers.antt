@@ -20,10 +20,7 @@ returns-in-Some-clause-some g c =
 
 pub returns-in-Some-2-clause-some : goal.returns-in-Some-2-clause-some
 returns-in-Some-2-clause-some g c =
-    λ it is. record {
-      wanted = subst (λ (o : Option Request). IfSome o (IsWanted c.args.limits it.moment c.args.word)) c.in-Some-2.is (c.in_ok-request-2.ensures.some c.args.limits it.moment);
-      covers = subst (λ (o : Option Request). IfSome o (CoversSeen it)) c.in-Some-2.is (c.in_ok-request-2.ensures.covers it is);
-    }
+    λ it is. assumption (subst (λ (o : Option Request). IfSome o (IsWanted c.args.limits it.moment c.args.word)) c.in-Some-2.is (c.in_ok-request-2.ensures.some c.args.limits it.moment), subst (λ (o : Option Request). IfSome o (CoversSeen it)) c.in-Some-2.is (c.in_ok-request-2.ensures.covers it is))
 
 pub returns-clause-some : goal.returns-clause-some
 returns-clause-some g c =

@@ -4,14 +4,8 @@ use Rattle.std.proofs.lemmas.Result.{err_from_is_err_and}
 use Rattle.exec_run.proofs.{Counted.{few_of, few_scripts}, RunLemmas.{cause_of}}
 use Rattle.exec_run.proofs.running.run_trace.Goals as goal
 
-pub returns-in_err-text-clause-err : goal.returns-in_err-text-clause-err
-returns-in_err-text-clause-err g c = grind arith
-
 pub returns-in_err-trace-clause-err : goal.returns-in_err-trace-clause-err
 returns-in_err-trace-clause-err g c = grind (arith, err_from_is_err_and, cause_of)
-
-pub log_trace-requires-clause-steps : goal.log_trace-requires-clause-steps
-log_trace-requires-clause-steps g c = c.in_ok-trace.ensures.ok.few
 
 pub log_trace-requires-clause-few : goal.log_trace-requires-clause-few
 log_trace-requires-clause-few g c =

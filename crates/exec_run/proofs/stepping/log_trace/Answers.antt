@@ -33,11 +33,7 @@ returns-in_err-take_steps-clause-front g c =
       knows = known_of t c.as_slice-scripts.result.now c.requires.fits c.requires.in_range c.requires.few c.as_slice-scripts.ensures.value;
     } in
     let names = subst (All (StepNames (length m.plan.scripts))) (sym c.as_slice-2.ensures.value) c.requires.fits.named.steps in
-    let begins : BeginsWell m.plan = record {
-      orderly = orderly itself Runs held_told spot_told m.plan c.in_ok-core.core (first_playing m.plan) stands.ready.stands stands.shows;
-      rests = c.in_ok-core.ensures.rests m.plan is;
-      paced = c.in_ok-core.ensures.paced m.plan is;
-    } in
+    let begins : BeginsWell m.plan = assumption (orderly itself Runs held_told spot_told m.plan c.in_ok-core.core (first_playing m.plan) stands.ready.stands stands.shows, c.in_ok-core.ensures.rests m.plan is, c.in_ok-core.ensures.paced m.plan is) in
     gave_up c.from_residual-in_err-take_steps.result c.args.quiet m _ _
     (front_logged c.args.quiet m c.as_slice-2.result.now _ _ _ begins c.requires.steps c.as_slice-2.ensures.value
     (c.in_err-take_steps.ensures.breaks m.plan (first_playing m.plan) stands names) refl)
@@ -53,11 +49,7 @@ returns-clause-ok g c =
       knows = known_of t c.as_slice-scripts.result.now c.requires.fits c.requires.in_range c.requires.few c.as_slice-scripts.ensures.value;
     } in
     let names = subst (All (StepNames (length m.plan.scripts))) (sym c.as_slice-2.ensures.value) c.requires.fits.named.steps in
-    let begins : BeginsWell m.plan = record {
-      orderly = orderly itself Runs held_told spot_told m.plan c.in_ok-core.core (first_playing m.plan) stands.ready.stands stands.shows;
-      rests = c.in_ok-core.ensures.rests m.plan is;
-      paced = c.in_ok-core.ensures.paced m.plan is;
-    } in
+    let begins : BeginsWell m.plan = assumption (orderly itself Runs held_told spot_told m.plan c.in_ok-core.core (first_playing m.plan) stands.ready.stands stands.shows, c.in_ok-core.ensures.rests m.plan is, c.in_ok-core.ensures.paced m.plan is) in
     on_ok c.flush_all.result
     (logged _ _ _ _ _ c.args.quiet m c.as_slice-2.result.now c.take_steps.new.core _ _ _ begins c.requires.steps c.as_slice-2.ensures.value
     (c.in_ok-take_steps.ensures.leads m.plan (first_playing m.plan) stands names) c.flush_all.ensures.same)
@@ -73,11 +65,7 @@ returns-clause-front g c =
       knows = known_of t c.as_slice-scripts.result.now c.requires.fits c.requires.in_range c.requires.few c.as_slice-scripts.ensures.value;
     } in
     let names = subst (All (StepNames (length m.plan.scripts))) (sym c.as_slice-2.ensures.value) c.requires.fits.named.steps in
-    let begins : BeginsWell m.plan = record {
-      orderly = orderly itself Runs held_told spot_told m.plan c.in_ok-core.core (first_playing m.plan) stands.ready.stands stands.shows;
-      rests = c.in_ok-core.ensures.rests m.plan is;
-      paced = c.in_ok-core.ensures.paced m.plan is;
-    } in
+    let begins : BeginsWell m.plan = assumption (orderly itself Runs held_told spot_told m.plan c.in_ok-core.core (first_playing m.plan) stands.ready.stands stands.shows, c.in_ok-core.ensures.rests m.plan is, c.in_ok-core.ensures.paced m.plan is) in
     gave_up c.flush_all.result c.args.quiet m _ _
     (all_logged _ _ _ _ _ c.args.quiet m c.as_slice-2.result.now c.take_steps.new.core _ _ _ begins c.requires.steps c.as_slice-2.ensures.value
     (c.in_ok-take_steps.ensures.leads m.plan (first_playing m.plan) stands names) c.flush_all.ensures.same)

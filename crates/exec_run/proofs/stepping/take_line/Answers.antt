@@ -1,9 +1,6 @@
-use Rattle.std.proofs.Common.{inr, arith}
+use Rattle.std.proofs.Common.{inr}
 use Rattle.exec_run.proofs.{StepLemmas.{IsTaken, line_broken, line_taken}, Told.on_err}
 use Rattle.exec_run.proofs.stepping.take_line.Goals as goal
-
-pub apply-requires : goal.apply-requires
-apply-requires g c = grind arith
 
 pub returns-clause-takes : goal.returns-clause-takes
 returns-clause-takes g c =

@@ -1,9 +1,5 @@
 use Rattle.exec_run.proofs.{Told.on_err, StepLemmas.{named_in, one_leads, one_broke}}
-use Rattle.std.proofs.Common.{arith}
 use Rattle.exec_run.proofs.stepping.take_step.Goals as goal
-
-pub take_line-requires : goal.take_line-requires
-take_line-requires g c = grind arith
 
 pub returns-in_err-take_line-in-One-clause-breaks : goal.returns-in_err-take_line-in-One-clause-breaks
 returns-in_err-take_line-in-One-clause-breaks g c =

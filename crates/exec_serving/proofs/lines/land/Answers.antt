@@ -1,5 +1,4 @@
 use Rattle.std.{proofs.{Common.{◌≡◌, ◌<◌, refl, sym, ap, subst, ◌∙◌, slice_set}, lemmas.{List.length-set, Option.{get_or_from_slice_get, slice_get_within}}}, specs.{Result.is_err, Vec.with_item}}
-use Rattle.std.proofs.Common.{arith}
 use Rattle.exec_driver.specs.Driving.{seen}
 use Rattle.exec_parts.{specs.{Phased.TurnsChair, Records.roused, declared.parts.worker.Worker.Worker}, proofs.Leaves.takes_by}
 use Rattle.exec_invariants.{specs.Carried.landing, proofs.Raising.sound_still}
@@ -19,9 +18,8 @@ land-requires g c =
     let w1 : Worker = c.take_raises.new.self in
     let s1 = record s { seats = with_item s.seats w.index c.take_raises.new.seat } in
     let takes = takes_by w w1 s s1 c.index_mut.result.now c.take_raises.new.seat (λ chair there. c.index_mut.ensures.value ∙ get_or_from_slice_get s.seats.items w.index chair c.index_mut.result.now there) c.take_raises.ensures.driver c.take_raises.ensures.seat c.take_raises.ensures.same refl refl in
-    let sound1 = sound_still w w1 s s1 c.requires.sound takes in
     let index = ap (λ (x : Worker). x.index) c.take_raises.ensures.same in
-    let who = lander w1 s1 c.args.request c.args.given sound1 c.requires.lands (λ r there. c.requires.mine r there ∙ sym index) in
+    let who = lander w1 s1 c.args.request c.args.given (sound_still w w1 s s1 c.requires.sound takes) c.requires.lands (λ r there. c.requires.mine r there ∙ sym index) in
     let is = c.index_mut-record.ensures.value ∙ get_or_from_slice_get s.requests.items c.args.request who.r c.index_mut-record.result.now who.there in
     record { ready = λ x live may. rw is (let same : x ≡ who.it = cc (live, who.live, is) in rw same who.fit.ready) }
 
@@ -32,9 +30,8 @@ unreachable-requires g c =
     let w1 : Worker = c.take_raises.new.self in
     let s1 = record s { seats = with_item s.seats w.index c.take_raises.new.seat } in
     let takes = takes_by w w1 s s1 c.index_mut.result.now c.take_raises.new.seat (λ chair there. c.index_mut.ensures.value ∙ get_or_from_slice_get s.seats.items w.index chair c.index_mut.result.now there) c.take_raises.ensures.driver c.take_raises.ensures.seat c.take_raises.ensures.same refl refl in
-    let sound1 = sound_still w w1 s s1 c.requires.sound takes in
     let index = ap (λ (x : Worker). x.index) c.take_raises.ensures.same in
-    let who = lander w1 s1 c.args.request c.args.given sound1 c.requires.lands (λ r there. c.requires.mine r there ∙ sym index) in
+    let who = lander w1 s1 c.args.request c.args.given (sound_still w w1 s s1 c.requires.sound takes) c.requires.lands (λ r there. c.requires.mine r there ∙ sym index) in
     let is = c.index_mut-record.ensures.value ∙ get_or_from_slice_get s.requests.items c.args.request who.r c.index_mut-record.result.now who.there in
     let answer = rw (is, who.live, who.in_flight, who.fit.may) at c.land.ensures.answer in
     let bad = sym c.if-is_err.true ∙ c.is_err.ensures.value ∙ ap is_err answer in

@@ -1,5 +1,4 @@
-use Rattle.std.{proofs.{Common.{◌≡◌, ◌<◌, false, not, length, [], Some, None, refl, sym, ap, subst, ◌∙◌, is_some, slice_get}, lemmas.{Bool.false≢true, Option.{get_or_from_slice_get, slice_get_within}}}, specs.Vec.with_item}
-use Rattle.std.proofs.Common.{arith}
+use Rattle.std.{proofs.{Common.{arith, ◌≡◌, ◌<◌, false, not, length, [], Some, refl, sym, ap, subst, ◌∙◌, is_some, slice_get}, lemmas.{Bool.false≢true, Option.{get_or_from_slice_get}}}, specs.Vec.with_item}
 use Rattle.exec_request.specs.States.{as_answer}
 use Rattle.exec_driver.specs.Steps.{ReapsNext}
 use Rattle.exec_machine.specs.{Requests.{joined_if, reaped}, declared.event.Event.TheVariants.{Reap, Serve}}
@@ -24,31 +23,21 @@ returns-in_default g c =
     let w1 : Worker = record w { place = Place.Service (after_permit (AfterPermit.Reaped c.args.reaping)) c.args.service; home = record w.home { driver = c.reap-reaped.new.self } } in
     let d' = driver_of w1 in
     let reaps = c.reap-reaped.ensures.reaps in
-    let is : told ≡ None = none_of told c.in_default.not-Some in
     let none : operations d.ring ≡ [] =
     tells_none w.names d d' s.requests.items s.opens c.reap-reaped.new.opens w.home.deferred c.reap-reaped.new.deferred sound.flown.landed
-    (subst (λ o. ReapsNext d d' s.opens c.reap-reaped.new.opens w.home.deferred c.reap-reaped.new.deferred o) is reaps) in
+    (subst (λ o. ReapsNext d d' s.opens c.reap-reaped.new.opens w.home.deferred c.reap-reaped.new.deferred o) (none_of told c.in_default.not-Some) reaps) in
     let facts = reaps_none w.names d d' s.requests.items s.opens c.reap-reaped.new.opens w.home.deferred c.reap-reaped.new.deferred told reaps none in
     let quiet = reaps_quiet w.names d d' s.requests.items s.opens c.reap-reaped.new.opens w.home.deferred c.reap-reaped.new.deferred told reaps none in
     let no : c.has_completion.result ≡ false = c.has_completion.ensures ∙ ap not quiet in
     let back : c.if-has_completion.back ≡ AfterPermit.Reaped c.args.reaping =
     elim c.if-has_completion.branch [ then-has_completion x ↦ absurd (false≢true (sym no ∙ x.if-has_completion.true)) | else-has_completion x ↦ x.back-is ] in
-    let same : c.after_permit.new.self ≡ w1 =
-    c.after_permit.ensures
-    ∙ ap (λ (b : AfterPermit). record w { place = Place.Service (after_permit b) c.args.service; home = record w.home { driver = c.reap-reaped.new.self; deferred = c.reap-reaped.new.deferred } }) back
-    ∙ ap (λ x. record w1 { home = record w1.home { deferred = x } }) facts.3 in
+    let same : c.after_permit.new.self ≡ w1 = grind (arith, c.after_permit.ensures, back, facts.3) in
     let steps : Steps g.B.Body.left g.B.Scripted.spot w s Serve w1 s = none_reaped g.B.Body.left g.B.Scripted.spot c.args.reaping c.args.service w w1 s Serve sound waits none refl facts.0 refl in
     record {
       steps = raised_first q w0 w s0 s c.requires.sound takes g.B.Body.left g.B.Scripted.spot c.after_permit.new.self (record s { opens = c.reap-reaped.new.opens }) Serve
           (subst (λ x. Steps g.B.Body.left g.B.Scripted.spot w s Serve x (record s { opens = c.reap-reaped.new.opens })) (sym same)
           (subst (λ o. Steps g.B.Body.left g.B.Scripted.spot w s Serve w1 (record s { opens = o })) (sym facts.2) steps));
     }
-
-pub index_mut-requires : goal.index_mut-requires
-index_mut-requires g c =
-    let s = c.args.shared.now in
-    let sound = c.requires.sound in
-    subst (λ n. c.args.worker.now.index < n) (sym s.seats.ok.0) (slice_get_within s.seats.items c.args.worker.now.index sound.seated.seat sound.seated.there)
 
 pub index_mut-requires-2 : goal.index_mut-requires-2
 index_mut-requires-2 g c =
@@ -59,7 +48,6 @@ index_mut-requires-2 g c =
     let q : Place = Place.Service (InService.Reap c.args.reaping) c.args.service in
     let takes = takes_by w0 w s0 s c.index_mut.result.now c.take_raises.new.seat (λ chair there. c.index_mut.ensures.value ∙ get_or_from_slice_get s0.seats.items w0.index chair c.index_mut.result.now there) c.take_raises.ensures.driver c.take_raises.ensures.seat c.take_raises.ensures.same refl refl in
     let sound = sound_taken q w0 w s0 s c.requires.sound takes in
-    let waits = none_waits q w0 w s0 s c.requires.sound takes sound in
     subst (λ n. c.request-request.result < n) (sym s.requests.ok.0)
     (subst (λ n. n < length s.requests.items) (sym c.request-request.ensures) (reaped_within q w s sound (driver_of (record w { home = record w.home { driver = c.reap-reaped.new.self } })) s.opens c.reap-reaped.new.opens w.home.deferred c.reap-reaped.new.deferred c.in-Some.reaped c.in-Some.ensures.reaps))
 
@@ -72,7 +60,6 @@ tell_reaped-requires-clause-room g c =
     let q : Place = Place.Service (InService.Reap c.args.reaping) c.args.service in
     let takes = takes_by w0 w s0 s c.index_mut.result.now c.take_raises.new.seat (λ chair there. c.index_mut.ensures.value ∙ get_or_from_slice_get s0.seats.items w0.index chair c.index_mut.result.now there) c.take_raises.ensures.driver c.take_raises.ensures.seat c.take_raises.ensures.same refl refl in
     let sound = sound_taken q w0 w s0 s c.requires.sound takes in
-    let waits = none_waits q w0 w s0 s c.requires.sound takes sound in
     reaped_room q w s sound (driver_of (record w { home = record w.home { driver = c.reap-reaped.new.self } })) s.opens c.reap-reaped.new.opens w.home.deferred c.reap-reaped.new.deferred c.in-Some.reaped c.in-Some.ensures.reaps
 
 pub tell_reaped-requires-clause-lawful : goal.tell_reaped-requires-clause-lawful
@@ -84,7 +71,6 @@ tell_reaped-requires-clause-lawful g c =
     let q : Place = Place.Service (InService.Reap c.args.reaping) c.args.service in
     let takes = takes_by w0 w s0 s c.index_mut.result.now c.take_raises.new.seat (λ chair there. c.index_mut.ensures.value ∙ get_or_from_slice_get s0.seats.items w0.index chair c.index_mut.result.now there) c.take_raises.ensures.driver c.take_raises.ensures.seat c.take_raises.ensures.same refl refl in
     let sound = sound_taken q w0 w s0 s c.requires.sound takes in
-    let waits = none_waits q w0 w s0 s c.requires.sound takes sound in
     reaped_lawful q w s sound (driver_of (record w { home = record w.home { driver = c.reap-reaped.new.self } })) s.opens c.reap-reaped.new.opens w.home.deferred c.reap-reaped.new.deferred c.in-Some.reaped c.in-Some.ensures.reaps c.request-request.result c.index_mut-2.result.now c.request-request.ensures c.index_mut-2.ensures.value
 
 pub tell_reaped-requires-clause-bytes : goal.tell_reaped-requires-clause-bytes
@@ -96,7 +82,6 @@ tell_reaped-requires-clause-bytes g c =
     let q : Place = Place.Service (InService.Reap c.args.reaping) c.args.service in
     let takes = takes_by w0 w s0 s c.index_mut.result.now c.take_raises.new.seat (λ chair there. c.index_mut.ensures.value ∙ get_or_from_slice_get s0.seats.items w0.index chair c.index_mut.result.now there) c.take_raises.ensures.driver c.take_raises.ensures.seat c.take_raises.ensures.same refl refl in
     let sound = sound_taken q w0 w s0 s c.requires.sound takes in
-    let waits = none_waits q w0 w s0 s c.requires.sound takes sound in
     reaped_countable q w s sound (driver_of (record w { home = record w.home { driver = c.reap-reaped.new.self } })) s.opens c.reap-reaped.new.opens w.home.deferred c.reap-reaped.new.deferred c.in-Some.reaped c.in-Some.ensures.reaps c.request-request.result c.index_mut-2.result.now c.request-request.ensures c.index_mut-2.ensures.value
 
 pub returns : goal.returns

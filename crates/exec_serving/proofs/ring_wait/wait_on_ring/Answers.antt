@@ -1,10 +1,5 @@
-use Rattle.std.proofs.{lemmas.Option.slice_get_within}
-use Rattle.std.proofs.Common.{arith}
 use Rattle.exec_serving.proofs.{Entered.full_ring_entered, Parking.ring_entered, Testing.ring_tested, Waiting.{ring_armed, ring_disarmed}}
 use Rattle.exec_serving.proofs.ring_wait.wait_on_ring.Goals as goal
-
-pub arm_ring-requires-clause-unarmed : goal.arm_ring-requires-clause-unarmed
-arm_ring-requires-clause-unarmed g c = grind arith
 
 pub returns-in-ArmRing : goal.returns-in-ArmRing
 returns-in-ArmRing g c =
@@ -18,26 +13,10 @@ pub returns-in-TestRing : goal.returns-in-TestRing
 returns-in-TestRing g c =
     record { steps = ring_tested g.B.Body.left g.B.Scripted.spot c.args.stay c.args.worker.now c.test_ring.new.self c.args.shared.now c.test_ring.result (rw c.in-TestRing.is at c.requires.sound) c.test_ring.ensures.event c.test_ring.ensures.tests }
 
-pub enter_full_ring-requires : goal.enter_full_ring-requires
-enter_full_ring-requires g c =
-    let sound = c.requires.sound in
-    record { there = slice_get_within c.args.shared.now.seats.items c.args.worker.now.index sound.seated.seat sound.seated.there; known = sound.named.submitted.known }
-
 pub returns-in-EnterFullRing : goal.returns-in-EnterFullRing
 returns-in-EnterFullRing g c =
     record { steps = full_ring_entered g.B.Body.left g.B.Scripted.spot c.args.stay c.args.worker.now c.enter_full_ring.new.self c.args.shared.now c.enter_full_ring.new.shared c.enter_full_ring.result (rw c.in-EnterFullRing.is at c.requires.sound) c.enter_full_ring.ensures.enters c.enter_full_ring.ensures.goes }
 
-pub enter_ring-requires : goal.enter_ring-requires
-enter_ring-requires g c =
-    let sound = c.requires.sound in
-    record { there = slice_get_within c.args.shared.now.seats.items c.args.worker.now.index sound.seated.seat sound.seated.there; known = sound.named.submitted.known }
-
 pub returns-in-EnterRing : goal.returns-in-EnterRing
 returns-in-EnterRing g c =
     record { steps = ring_entered g.B.Body.left g.B.Scripted.spot c.args.stay c.args.worker.now c.enter_ring.new.self c.args.shared.now c.enter_ring.new.shared c.enter_ring.result (rw c.in-EnterRing.is at c.requires.sound) c.enter_ring.ensures.enters c.enter_ring.ensures.goes }
-
-pub sleep_on_ring-requires : goal.sleep_on_ring-requires
-sleep_on_ring-requires g c = record { sound = rw c.in-SleepOnRing.is at c.requires.sound }
-
-pub returns-in-SleepOnRing : goal.returns-in-SleepOnRing
-returns-in-SleepOnRing g c = record { steps = c.sleep_on_ring.ensures.steps }

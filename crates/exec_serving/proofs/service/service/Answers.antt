@@ -1,16 +1,10 @@
-use Rattle.std.proofs.{Common.refl, lemmas.Option.slice_get_within}
-use Rattle.std.proofs.Common.{arith}
+use Rattle.std.proofs.{Common.refl}
 use Rattle.exec_serving.proofs.{Entered.last_entered, Advancing.advanced_on, PermitPasses.permit_passed, PermitSignals.{holder_latched, holder_raised}, Sampling.sampled}
 use Rattle.exec_serving.proofs.service.service.Goals as goal
 
 pub returns-in-Sample : goal.returns-in-Sample
 returns-in-Sample g c =
     record { steps = sampled g.B.Body.left g.B.Scripted.spot c.args.service c.args.worker.now c.sample.new.self c.args.shared.now c.sample.new.shared c.sample.result (rw c.in-Sample.is at c.requires.sound) c.sample.ensures.makes c.sample.ensures.same c.sample.ensures.word }
-
-pub enter_last-requires : goal.enter_last-requires
-enter_last-requires g c =
-    let sound = c.requires.sound in
-    record { there = slice_get_within c.args.shared.now.seats.items c.args.worker.now.index sound.seated.seat sound.seated.there; known = sound.named.submitted.known }
 
 pub returns-in-EnterLast : goal.returns-in-EnterLast
 returns-in-EnterLast g c =
@@ -35,33 +29,6 @@ returns-in-Raise g c =
       steps = holder_raised g.B.Body.left g.B.Scripted.spot c.in-Raise.ring c.in-Raise.other c.in-Raise.back c.args.service c.args.worker.now c.raise_holder.new.self c.args.shared.now c.raise_holder.new.shared c.raise_holder.result (rw c.in-Raise.is at c.requires.sound) c.raise_holder.ensures.event c.raise_holder.ensures.goes c.raise_holder.ensures.chair c.raise_holder.ensures.kept;
     }
 
-pub returns-in-Reap : goal.returns-in-Reap
-returns-in-Reap g c = record { steps = c.reap.ensures.steps }
-
-pub reap-requires : goal.reap-requires
-reap-requires g c = record { sound = rw c.in-Reap.is at c.requires.sound }
-
 pub returns-in-AdvanceWheel : goal.returns-in-AdvanceWheel
 returns-in-AdvanceWheel g c =
     record { steps = advanced_on g.B.Body.left g.B.Scripted.spot c.args.service c.args.worker.now c.advance_wheel.new.self c.args.shared.now c.advance_wheel.result (rw c.in-AdvanceWheel.is at c.requires.sound) c.advance_wheel.ensures.event c.advance_wheel.ensures.driver c.advance_wheel.ensures.punctual c.advance_wheel.ensures.same }
-
-pub returns-in-Submit : goal.returns-in-Submit
-returns-in-Submit g c = record { steps = c.submit.ensures.steps }
-
-pub submit-requires : goal.submit-requires
-submit-requires g c = record { sound = rw c.in-Submit.is at c.requires.sound }
-
-pub returns-in-EndService : goal.returns-in-EndService
-returns-in-EndService g c = record { steps = c.end_service.ensures.steps }
-
-pub end_service-requires : goal.end_service-requires
-end_service-requires g c = record { sound = rw c.in-EndService.is at c.requires.sound }
-
-pub signal_holder-requires : goal.signal_holder-requires
-signal_holder-requires g c = let sound = rw c.in-Signal.is at c.requires.sound in record { there = sound.aims }
-
-pub raise_holder-requires : goal.raise_holder-requires
-raise_holder-requires g c = let sound = rw c.in-Raise.is at c.requires.sound in record { there = sound.aims }
-
-pub advance_wheel-requires : goal.advance_wheel-requires
-advance_wheel-requires g c = grind arith

@@ -18,9 +18,8 @@ tell_enrolled-requires-clause-timed g c =
     let s = c.args.shared.now in
     let id = c.in-Some.enrolled.id in
     let who = new_first w s c.requires.new id c.in-Some.ensures.first in
-    let told = (c.in-Some.ensures.enrolled who.it who.deadline who.live who.asked).told_is in
     new_timed w s c.requires.new id c.in-Some.ensures.first c.request-request.result c.index_mut.result.now c.in-Some.enrolled.ended c.request-request.ensures c.index_mut.ensures.value
-    (λ d is. told ∙ ap (λ m. ended_by (tick_for (driver_of w).wheel who.deadline m)) (sym is))
+    (λ d is. (c.in-Some.ensures.enrolled who.it who.deadline who.live who.asked).told_is ∙ ap (λ m. ended_by (tick_for (driver_of w).wheel who.deadline m)) (sym is))
 
 pub returns : goal.returns
 returns g c =
@@ -33,9 +32,8 @@ returns g c =
     let who = new_first w s c.requires.new id c.in-Some.ensures.first in
     let w1 : Worker = record w { home = record w.home { driver = c.enrol.new.self; deferred = c.enrol.new.deferred }; names = record w.names { ended = c.tell_enrolled.new.self.names.ended } } in
     let s1 = record s { requests = with_item s.requests c.request-request.result c.tell_enrolled.new.it } in
-    let same : c.tell_enrolled.new.self ≡ w1 = c.tell_enrolled.ensures.same in
     record {
-      steps = subst (λ x. Steps g.B.Body.left g.B.Scripted.spot w s c.tell_enrolled.result x s1) (sym same)
+      steps = subst (λ x. Steps g.B.Body.left g.B.Scripted.spot w s c.tell_enrolled.result x s1) (sym c.tell_enrolled.ensures.same)
           (enrol_steps g.B.Body.left g.B.Scripted.spot ended w w1 s s1 c.tell_enrolled.result id c.requires.new c.in-Some.ensures.first
           (record {
             event = c.tell_enrolled.ensures.event ∙ ap (λ n. Enrol n (outcome_of_error ended)) number;

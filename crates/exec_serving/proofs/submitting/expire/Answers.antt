@@ -30,9 +30,8 @@ returns g c =
     let outcome = ap (λ r. outcome_at_expiry r.shown) was in
     let w1 : Worker = record w { home = record w.home { driver = c.expire.new.self; deferred = c.expire.new.deferred }; names = record w.names { ended = c.tell_expired.new.self.names.ended } } in
     let s1 = record s { requests = with_item s.requests c.request-request.result c.tell_expired.new.it } in
-    let same : c.tell_expired.new.self ≡ w1 = c.tell_expired.ensures.same in
     record {
-      steps = subst (λ x. Steps g.B.Body.left g.B.Scripted.spot w s c.tell_expired.result x s1) (sym same)
+      steps = subst (λ x. Steps g.B.Body.left g.B.Scripted.spot w s c.tell_expired.result x s1) (sym c.tell_expired.ensures.same)
           (expiry_steps g.B.Body.left g.B.Scripted.spot w w1 s s1 c.tell_expired.result id c.requires.due (in_order w s c.requires.due) first
           (record {
             event = c.tell_expired.ensures.event ∙ ap (λ n. Expire n (outcome_at_expiry c.index_mut.result.now.shown)) number ∙ ap (Expire k) outcome;

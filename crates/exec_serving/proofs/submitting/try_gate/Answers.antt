@@ -27,9 +27,7 @@ returns-in_default g c =
     let left = c.in_default.ensures.same in
     let deferred : c.grant-granted.new.deferred ≡ w.home.deferred = left.2 ∙ ap (λ (x : Worker). x.home.deferred) go in
     let driver : seen c.grant-granted.new.self ≡ driver_of w = left.0 ∙ ap (λ (x : Worker). driver_of x) go in
-    let same : record c.go.new.self { home = record c.go.new.self.home { driver = c.grant-granted.new.self; deferred = c.grant-granted.new.deferred } } ≡ w1 =
-    ap (λ (x : Worker). record x { home = record x.home { driver = c.grant-granted.new.self; deferred = c.grant-granted.new.deferred } }) to
-    ∙ ap (λ y. record w { place = Place.Service (InService.Submit (suc file)) v; home = record w.home { driver = c.grant-granted.new.self; deferred = y } }) deferred in
+    let same : record c.go.new.self { home = record c.go.new.self.home { driver = c.grant-granted.new.self; deferred = c.grant-granted.new.deferred } } ≡ w1 = grind (arith, to, deferred) in
     let shared : record s { opens = c.grant-granted.new.opens } ≡ s = ap (λ o. record s { opens = o }) left.1 in
     let turn = subst (λ (x : Worker). is_turn_of x.index (driver_of x).lists (holder_at s.opens file) ≡ false) go c.in_default.ensures.none in
     record {
@@ -75,18 +73,13 @@ returns g c =
     let mid : Worker = record c.go.new.self { home = record c.go.new.self.home { driver = driver; deferred = deferred } } in
     let w1 : Worker = record w { place = (after_grant v file (as_answer told.ended) (desk_of w)).place; home = record w.home { driver = driver; deferred = deferred }; names = record w.names { ended = ended } } in
     let s1 = record s { requests = with_item s.requests c.request-request.result c.tell_granted.new.it; opens = c.grant-granted.new.opens } in
-    let same : c.tell_granted.new.self ≡ w1 =
-    c.tell_granted.ensures.same
-    ∙ ap (λ (x : Worker). record x { place = (after_grant v file c.outcome_of-outcome.result (desk_of mid)).place; home = record x.home { driver = driver; deferred = deferred }; names = record x.names { ended = ended } }) go
-    ∙ ap (λ p. record w { place = p; home = record w.home { driver = driver; deferred = deferred }; names = record w.names { ended = ended } }) (place_given v file c.outcome_of-outcome.result (desk_of mid) (desk_of w))
-    ∙ ap (λ o. record w { place = (after_grant v file o (desk_of w)).place; home = record w.home { driver = driver; deferred = deferred }; names = record w.names { ended = ended } }) outcome in
-    let sound = c.requires.gated.sound in
+    let same : c.tell_granted.new.self ≡ w1 = grind (arith, c.tell_granted.ensures.same, go, place_given v file c.outcome_of-outcome.result (desk_of mid) (desk_of w), outcome) in
     record {
       steps = subst (λ x. Steps g.B.Body.left g.B.Scripted.spot w s c.tell_granted.result x s1) (sym same)
           (grant_steps g.B.Body.left g.B.Scripted.spot v file w s c.requires.gated w1 s1 c.tell_granted.result told
           (record {
             grants = grants;
-            punctual = c.grant-granted.ensures.punctual (subst (λ (x : Worker). IsPunctual (driver_of x)) (sym go) sound.due.punctual);
+            punctual = c.grant-granted.ensures.punctual (subst (λ (x : Worker). IsPunctual (driver_of x)) (sym go) c.requires.gated.sound.due.punctual);
             event = c.tell_granted.ensures.event ∙ ap (λ n. Grant n c.outcome_of-outcome.result) number ∙ ap (Grant k) outcome;
             records = set_changes s.requests.items k c.request-request.result who.r c.index_mut.result.now c.tell_granted.new.it (λ r. record r { shown = granted (as_answer told.ended) r.shown })
                 number who.there c.index_mut.ensures.value c.tell_granted.ensures.id (c.tell_granted.ensures.shown ∙ ap (λ o. granted o c.index_mut.result.now.shown) outcome) c.tell_granted.ensures.sent refl refl;

@@ -1,4 +1,4 @@
-use Rattle.std.proofs.Common.{ap, sym, ◌∙◌, arith}
+use Rattle.std.proofs.Common.{ap, sym, ◌∙◌}
 use Rattle.exec_words.specs.Word.{is_idle_at}
 use Rattle.exec_moves.specs.{declared.idling.{InWordWait.InWordWait}, declared.place.{Place.Place}}
 use Rattle.exec_parts.specs.{declared.parts.worker.Worker.Worker, Tests.slept_after}

@@ -1,4 +1,3 @@
-use Rattle.std.proofs.Common.{arith}
 use Rattle.exec_serving.proofs.Waiting.{batch_sought, latch_sought, latch_taken, word_armed, word_disarmed}
 use Rattle.exec_serving.proofs.word_wait.wait_on_word.Goals as goal
 
@@ -14,12 +13,6 @@ pub returns-in-DisarmWord : goal.returns-in-DisarmWord
 returns-in-DisarmWord g c =
     record { steps = word_disarmed g.B.Body.left g.B.Scripted.spot c.args.worker.now c.disarm_word.new.self c.args.shared.now c.disarm_word.new.shared c.disarm_word.result (rw c.in-DisarmWord.is at c.requires.sound) c.disarm_word.ensures.event c.disarm_word.ensures.desk c.disarm_word.ensures.same c.disarm_word.ensures.word }
 
-pub sleep_on_word-requires : goal.sleep_on_word-requires
-sleep_on_word-requires g c = record { sound = rw c.in-SleepOnWord.is at c.requires.sound }
-
-pub returns-in-SleepOnWord : goal.returns-in-SleepOnWord
-returns-in-SleepOnWord g c = record { steps = c.sleep_on_word.ensures.steps }
-
 pub returns-in-SpinOnBatch : goal.returns-in-SpinOnBatch
 returns-in-SpinOnBatch g c =
     record { steps = batch_sought g.B.Body.left g.B.Scripted.spot c.in-SpinOnBatch.left c.args.worker.now c.spin_on_batch.new.self c.args.shared.now c.spin_on_batch.result c.index.result.now (rw c.in-SpinOnBatch.is at c.requires.sound) c.spin_on_batch.ensures.makes c.spin_on_batch.ensures.same c.index.ensures }
@@ -27,6 +20,3 @@ returns-in-SpinOnBatch g c =
 pub returns-in-SpinOnLatch : goal.returns-in-SpinOnLatch
 returns-in-SpinOnLatch g c =
     record { steps = latch_sought g.B.Body.left g.B.Scripted.spot c.in-SpinOnLatch.left c.args.worker.now c.spin_on_latch.new.self c.args.shared.now c.spin_on_latch.result c.index-in-SpinOnLatch.result.now (rw c.in-SpinOnLatch.is at c.requires.sound) c.spin_on_latch.ensures.makes c.spin_on_latch.ensures.same c.index-in-SpinOnLatch.ensures }
-
-pub arm_word-requires-clause-unarmed : goal.arm_word-requires-clause-unarmed
-arm_word-requires-clause-unarmed g c = grind arith

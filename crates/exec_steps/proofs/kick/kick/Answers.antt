@@ -15,9 +15,6 @@ pub returns-in-ExchangeKickCount : goal.returns-in-ExchangeKickCount
 returns-in-ExchangeKickCount g c =
     record { steps = kick_count_exchanged g.B.Body.left g.B.Scripted.spot c.args.worker.now c.exchange_kick_count.new.self c.args.shared.now c.exchange_kick_count.result c.in-ExchangeKickCount.set c.args.back c.exchange_kick_count.new.idle (rw c.in-ExchangeKickCount.is at c.requires.sound) (kick_next g.B.Body.left g.B.Scripted.spot c.args.back (InKick.ExchangeKickCount c.in-ExchangeKickCount.set) c.args.worker.now c.args.shared.now (rw c.in-ExchangeKickCount.is at c.requires.sound)) c.exchange_kick_count.ensures.event c.exchange_kick_count.ensures.goes c.exchange_kick_count.ensures.idle }
 
-pub return_kick_count-requires : goal.return_kick_count-requires
-return_kick_count-requires g c = record { holds = kicks_some c.args.back c.args.worker.now c.args.shared.now (rw c.in-ReturnKickCount.is at c.requires.sound) c.requires.whole }
-
 pub returns-in-ReturnKickCount : goal.returns-in-ReturnKickCount
 returns-in-ReturnKickCount g c =
     record { steps = kick_count_returned g.B.Body.left g.B.Scripted.spot c.args.worker.now c.return_kick_count.new.self c.args.shared.now c.return_kick_count.result c.args.back c.return_kick_count.new.idle (rw c.in-ReturnKickCount.is at c.requires.sound) (kick_next g.B.Body.left g.B.Scripted.spot c.args.back InKick.ReturnKickCount c.args.worker.now c.args.shared.now (rw c.in-ReturnKickCount.is at c.requires.sound)) (kicks_some c.args.back c.args.worker.now c.args.shared.now (rw c.in-ReturnKickCount.is at c.requires.sound) c.requires.whole) c.return_kick_count.ensures.event c.return_kick_count.ensures.goes c.return_kick_count.ensures.idle }

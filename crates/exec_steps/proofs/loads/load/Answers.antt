@@ -2,13 +2,10 @@ use Rattle.exec_steps.proofs.Loading.{own_head_loaded, own_mirror_loaded, own_wo
 use Rattle.exec_steps.proofs.loads.load.Goals as goal
 
 pub returns-in-LoadOwnHead : goal.returns-in-LoadOwnHead
-returns-in-LoadOwnHead g c =
-    record { steps = own_head_loaded g.B.Body.left g.B.Scripted.spot c.args.worker.now c.load_own_head.new.self c.args.shared.now c.load_own_head.result c.args.round (rw c.in-LoadOwnHead.is at c.requires.sound) c.load_own_head.ensures.makes c.load_own_head.ensures.goes }
+returns-in-LoadOwnHead g c = record { steps = own_head_loaded _ _ _ _ _ _ c.args.round (rw c.in-LoadOwnHead.is at c.requires.sound) c.load_own_head.ensures.makes c.load_own_head.ensures.goes }
 
 pub returns-in-LoadOwnMirror : goal.returns-in-LoadOwnMirror
-returns-in-LoadOwnMirror g c =
-    record { steps = own_mirror_loaded g.B.Body.left g.B.Scripted.spot c.args.worker.now c.load_own_mirror.new.self c.args.shared.now c.load_own_mirror.result c.args.round c.in-LoadOwnMirror.found (rw c.in-LoadOwnMirror.is at c.requires.sound) c.load_own_mirror.ensures.makes c.load_own_mirror.ensures.goes }
+returns-in-LoadOwnMirror g c = record { steps = own_mirror_loaded _ _ _ _ _ _ c.args.round c.in-LoadOwnMirror.found (rw c.in-LoadOwnMirror.is at c.requires.sound) c.load_own_mirror.ensures.makes c.load_own_mirror.ensures.goes }
 
 pub returns-in-LoadOwnWord : goal.returns-in-LoadOwnWord
-returns-in-LoadOwnWord g c =
-    record { steps = own_word_loaded g.B.Body.left g.B.Scripted.spot c.args.worker.now c.load_own_word.new.self c.args.shared.now c.load_own_word.result c.args.round c.in-LoadOwnWord.found (rw c.in-LoadOwnWord.is at c.requires.sound) c.load_own_word.ensures.makes c.load_own_word.ensures.goes }
+returns-in-LoadOwnWord g c = record { steps = own_word_loaded _ _ _ _ _ _ c.args.round c.in-LoadOwnWord.found (rw c.in-LoadOwnWord.is at c.requires.sound) c.load_own_word.ensures.makes c.load_own_word.ensures.goes }

@@ -9,8 +9,7 @@ pub publish-requires : goal.publish-requires
 publish-requires g c = record { few = few_here _ _ _ c.requires.sound refl }
 
 pub returns-in-Publish : goal.returns-in-Publish
-returns-in-Publish g c =
-    record { steps = published g.B.Body.left g.B.Scripted.spot c.args.worker.now c.publish.new.self c.args.shared.now c.publish.result c.publish.new.idle (rw c.in-Publish.is at c.requires.sound) c.publish.ensures.makes c.publish.ensures.goes c.publish.ensures.idle }
+returns-in-Publish g c = record { steps = published _ _ _ _ _ _ c.publish.new.idle (rw c.in-Publish.is at c.requires.sound) c.publish.ensures.makes c.publish.ensures.goes c.publish.ensures.idle }
 
 pub return_look_count-requires : goal.return_look_count-requires
 return_look_count-requires g c = record { holds = looks_some c.args.worker.now c.args.shared.now (rw c.in-ReturnLookCount.is at c.requires.sound) c.requires.whole }
@@ -20,8 +19,7 @@ returns-in-ReturnLookCount g c =
     record { steps = look_count_returned g.B.Body.left g.B.Scripted.spot c.args.worker.now c.return_look_count.new.self c.args.shared.now c.return_look_count.result c.return_look_count.new.idle (rw c.in-ReturnLookCount.is at c.requires.sound) (looks_some c.args.worker.now c.args.shared.now (rw c.in-ReturnLookCount.is at c.requires.sound) c.requires.whole) c.return_look_count.ensures.makes c.return_look_count.ensures.same c.return_look_count.ensures.idle }
 
 pub returns-in-LookAtMirror : goal.returns-in-LookAtMirror
-returns-in-LookAtMirror g c =
-    record { steps = mirror_looked g.B.Body.left g.B.Scripted.spot c.args.worker.now c.look_at_mirror.new.self c.args.shared.now c.look_at_mirror.result c.in-LookAtMirror.last c.mirror.result (rw c.in-LookAtMirror.is at c.requires.sound) c.mirror.ensures c.look_at_mirror.ensures.event c.look_at_mirror.ensures.goes }
+returns-in-LookAtMirror g c = record { steps = mirror_looked _ _ _ _ _ _ c.in-LookAtMirror.last _ (rw c.in-LookAtMirror.is at c.requires.sound) c.mirror.ensures c.look_at_mirror.ensures.event c.look_at_mirror.ensures.goes }
 
 pub look_at_count-requires : goal.look_at_count-requires
 look_at_count-requires g c =
@@ -29,15 +27,13 @@ look_at_count-requires g c =
     record { told = told_due (Place.Look InLook.LookAtCount) c.args.worker.now c.args.shared.now sound refl; few = few_here _ _ _ sound refl }
 
 pub returns-in-LookAtCount : goal.returns-in-LookAtCount
-returns-in-LookAtCount g c =
-    record { steps = count_looked g.B.Body.left g.B.Scripted.spot c.args.worker.now c.look_at_count.new.self c.args.shared.now c.look_at_count.result (rw c.in-LookAtCount.is at c.requires.sound) c.look_at_count.ensures.event c.look_at_count.ensures.goes c.look_at_count.ensures.looks c.look_at_count.ensures.waits }
+returns-in-LookAtCount g c = record { steps = count_looked _ _ _ _ _ _ (rw c.in-LookAtCount.is at c.requires.sound) c.look_at_count.ensures.event c.look_at_count.ensures.goes c.look_at_count.ensures.looks c.look_at_count.ensures.waits }
 
 pub look_at_head-requires : goal.look_at_head-requires
 look_at_head-requires g c = let sound = rw c.in-LookAtHead.is at c.requires.sound in record { there = omega (arith, sound.aims.1, sound.seated.many) }
 
 pub returns-in-LookAtHead : goal.returns-in-LookAtHead
-returns-in-LookAtHead g c =
-    record { steps = head_looked g.B.Body.left g.B.Scripted.spot c.args.worker.now c.look_at_head.new.self c.args.shared.now c.look_at_head.result c.in-LookAtHead.other (rw c.in-LookAtHead.is at c.requires.sound) c.look_at_head.ensures.makes c.look_at_head.ensures.goes }
+returns-in-LookAtHead g c = record { steps = head_looked _ _ _ _ _ _ c.in-LookAtHead.other (rw c.in-LookAtHead.is at c.requires.sound) c.look_at_head.ensures.makes c.look_at_head.ensures.goes }
 
 pub look_at_tail-requires : goal.look_at_tail-requires
 look_at_tail-requires g c =
@@ -45,8 +41,7 @@ look_at_tail-requires g c =
     record { there = omega (arith, sound.aims.1, sound.seated.many); told = told_due (Place.Look (InLook.LookAtTail c.in-LookAtTail.other c.in-LookAtTail.head)) c.args.worker.now c.args.shared.now sound refl; few = few_here _ _ _ sound refl; fits = omega (arith, sound.aims.1, sound.config.few) }
 
 pub returns-in-LookAtTail : goal.returns-in-LookAtTail
-returns-in-LookAtTail g c =
-    record { steps = tail_looked g.B.Body.left g.B.Scripted.spot c.args.worker.now c.look_at_tail.new.self c.args.shared.now c.look_at_tail.result c.in-LookAtTail.other c.in-LookAtTail.head (rw c.in-LookAtTail.is at c.requires.sound) c.look_at_tail.ensures.event c.look_at_tail.ensures.goes c.look_at_tail.ensures.steals c.look_at_tail.ensures.looks }
+returns-in-LookAtTail g c = record { steps = tail_looked _ _ _ _ _ _ _ _ (rw c.in-LookAtTail.is at c.requires.sound) c.look_at_tail.ensures.event c.look_at_tail.ensures.goes c.look_at_tail.ensures.steals c.look_at_tail.ensures.looks }
 
 pub exchange_look_count-requires : goal.exchange_look_count-requires
 exchange_look_count-requires g c = record { told = told_due (Place.Look InLook.ExchangeLookCount) c.args.worker.now c.args.shared.now (rw c.in-ExchangeLookCount.is at c.requires.sound) refl }

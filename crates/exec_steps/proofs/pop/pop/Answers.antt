@@ -10,8 +10,7 @@ pop_alone-requires g c =
     record { there = own_there _ _ _ sound; closed = set_closed _ c.args.back c.args.worker.now c.args.shared.now sound; shards = sound.shards; few = omega (arith, few_here _ _ _ sound refl) }
 
 pub returns-in-PopAlone : goal.returns-in-PopAlone
-returns-in-PopAlone g c =
-    record { steps = alone_popped g.B.Body.left g.B.Scripted.spot c.args.worker.now c.pop_alone.new.self c.args.shared.now c.pop_alone.new.shared c.pop_alone.result c.args.back (rw c.in-PopAlone.is at c.requires.sound) c.requires.whole c.pop_alone.ensures.event c.pop_alone.ensures.worker c.pop_alone.ensures.chair c.pop_alone.ensures.kept }
+returns-in-PopAlone g c = record { steps = alone_popped _ _ _ _ _ _ _ _ (rw c.in-PopAlone.is at c.requires.sound) c.requires.whole c.pop_alone.ensures.event c.pop_alone.ensures.worker c.pop_alone.ensures.chair c.pop_alone.ensures.kept }
 
 pub load_pop_head-requires : goal.load_pop_head-requires
 load_pop_head-requires g c =
@@ -19,8 +18,7 @@ load_pop_head-requires g c =
     record { there = own_there _ _ _ sound; closed = set_closed _ c.args.back c.args.worker.now c.args.shared.now sound; shards = sound.shards; few = omega (arith, few_here _ _ _ sound refl) }
 
 pub returns-in-LoadPopHead : goal.returns-in-LoadPopHead
-returns-in-LoadPopHead g c =
-    record { steps = pop_head_loaded g.B.Body.left g.B.Scripted.spot c.args.worker.now c.load_pop_head.new.self c.args.shared.now c.args.shared.now c.load_pop_head.result c.args.back (rw c.in-LoadPopHead.is at c.requires.sound) c.load_pop_head.ensures.event c.load_pop_head.ensures.worker refl }
+returns-in-LoadPopHead g c = record { steps = pop_head_loaded _ _ _ _ _ _ _ c.args.back (rw c.in-LoadPopHead.is at c.requires.sound) c.load_pop_head.ensures.event c.load_pop_head.ensures.worker refl }
 
 pub exchange_pop-requires : goal.exchange_pop-requires
 exchange_pop-requires g c =
@@ -37,5 +35,4 @@ store_pop-requires g c =
     record { there = own_there _ _ _ sound; lone = λ chair there. (sound.queue chair there).1; unclaimed = λ chair there. (sound.queue chair there).2 }
 
 pub returns-in-StorePop : goal.returns-in-StorePop
-returns-in-StorePop g c =
-    record { steps = pop_stored g.B.Body.left g.B.Scripted.spot c.args.worker.now c.store_pop.new.self c.args.shared.now c.store_pop.new.shared c.store_pop.result c.args.back (rw c.in-StorePop.is at c.requires.sound) c.requires.whole c.store_pop.ensures.event c.store_pop.ensures.worker c.store_pop.ensures.chair c.store_pop.ensures.kept }
+returns-in-StorePop g c = record { steps = pop_stored _ _ _ _ _ _ _ _ (rw c.in-StorePop.is at c.requires.sound) c.requires.whole c.store_pop.ensures.event c.store_pop.ensures.worker c.store_pop.ensures.chair c.store_pop.ensures.kept }

@@ -9,8 +9,7 @@ pub load_push_head-requires : goal.load_push_head-requires
 load_push_head-requires g c = let sound = rw c.in-LoadPushHead.is at c.requires.sound in record { there = own_there _ _ _ sound }
 
 pub returns-in-LoadPushHead : goal.returns-in-LoadPushHead
-returns-in-LoadPushHead g c =
-    record { steps = push_head_loaded g.B.Body.left g.B.Scripted.spot c.args.back c.args.worker.now c.load_push_head.new.self c.args.shared.now c.args.shared.now c.load_push_head.result (rw c.in-LoadPushHead.is at c.requires.sound) c.load_push_head.ensures.makes c.load_push_head.ensures.goes c.load_push_head.ensures.within refl }
+returns-in-LoadPushHead g c = record { steps = push_head_loaded _ _ c.args.back _ _ _ _ _ (rw c.in-LoadPushHead.is at c.requires.sound) c.load_push_head.ensures.makes c.load_push_head.ensures.goes c.load_push_head.ensures.within refl }
 
 pub store_value-requires : goal.store_value-requires
 store_value-requires g c =
@@ -28,8 +27,7 @@ flow_over-requires g c =
     record { there = own_there _ _ _ sound; full = λ chair there. (sound.queue chair there).1; unspent = λ chair there. (sound.queue chair there).2; whole = λ chair there. (sound.queue chair there).0; empty = none; places = omega (arith, sound.loot.places, ap length none) }
 
 pub returns-in-FlowOver : goal.returns-in-FlowOver
-returns-in-FlowOver g c =
-    record { steps = flowed_over g.B.Body.left g.B.Scripted.spot c.args.back c.args.worker.now c.flow_over.new.self c.args.shared.now c.flow_over.new.shared c.flow_over.result c.in-FlowOver.head (rw c.in-FlowOver.is at c.requires.sound) c.requires.whole c.flow_over.ensures.event c.flow_over.ensures.worker c.flow_over.ensures.chair c.flow_over.ensures.kept }
+returns-in-FlowOver g c = record { steps = flowed_over _ _ _ _ _ _ _ _ _ (rw c.in-FlowOver.is at c.requires.sound) c.requires.whole c.flow_over.ensures.event c.flow_over.ensures.worker c.flow_over.ensures.chair c.flow_over.ensures.kept }
 
 pub store_oldest-requires : goal.store_oldest-requires
 store_oldest-requires g c =
@@ -37,5 +35,4 @@ store_oldest-requires g c =
     record { there = own_there _ _ _ sound; empty = λ chair there. sound.queue chair there }
 
 pub returns-in-StoreOldest : goal.returns-in-StoreOldest
-returns-in-StoreOldest g c =
-    record { steps = oldest_stored g.B.Body.left g.B.Scripted.spot c.args.back c.args.worker.now c.store_oldest.new.self c.args.shared.now c.store_oldest.new.shared c.store_oldest.result (rw c.in-StoreOldest.is at c.requires.sound) c.store_oldest.ensures.makes c.store_oldest.ensures.goes c.store_oldest.ensures.chair c.store_oldest.ensures.kept }
+returns-in-StoreOldest g c = record { steps = oldest_stored _ _ _ _ _ _ _ _ (rw c.in-StoreOldest.is at c.requires.sound) c.store_oldest.ensures.makes c.store_oldest.ensures.goes c.store_oldest.ensures.chair c.store_oldest.ensures.kept }

@@ -13,8 +13,7 @@ pub add_global_count-requires : goal.add_global_count-requires
 add_global_count-requires g c = record { few = count_fits c.args.worker.now c.args.shared.now c.requires.whole c.requires.sound.config.few }
 
 pub returns-in-AddGlobalCount : goal.returns-in-AddGlobalCount
-returns-in-AddGlobalCount g c =
-    record { steps = global_count_added g.B.Body.left g.B.Scripted.spot c.args.worker.now c.add_global_count.new.self c.args.shared.now c.add_global_count.result c.in-AddGlobalCount.set c.args.back c.add_global_count.new.idle (rw c.in-AddGlobalCount.is at c.requires.sound) c.add_global_count.ensures.makes c.add_global_count.ensures.goes c.add_global_count.ensures.idle }
+returns-in-AddGlobalCount g c = record { steps = global_count_added _ _ _ _ _ _ _ _ _ (rw c.in-AddGlobalCount.is at c.requires.sound) c.add_global_count.ensures.makes c.add_global_count.ensures.goes c.add_global_count.ensures.idle }
 
 pub return_global_count-requires : goal.return_global_count-requires
 return_global_count-requires g c = record { holds = global_some c.args.back c.args.worker.now c.args.shared.now (rw c.in-ReturnGlobalCount.is at c.requires.sound) c.requires.whole }

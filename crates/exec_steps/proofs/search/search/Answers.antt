@@ -4,12 +4,10 @@ use Rattle.exec_steps.proofs.Searching.{search_count_added, search_count_loaded}
 use Rattle.exec_steps.proofs.search.search.Goals as goal
 
 pub returns-in-LoadSearchCount : goal.returns-in-LoadSearchCount
-returns-in-LoadSearchCount g c =
-    record { steps = search_count_loaded g.B.Body.left g.B.Scripted.spot c.args.worker.now c.load_search_count.new.self c.args.shared.now c.load_search_count.result (rw c.in-LoadSearchCount.is at c.requires.sound) (c.load_search_count.ensures.makes c.args.shared.now.config refl) c.load_search_count.ensures.goes }
+returns-in-LoadSearchCount g c = record { steps = search_count_loaded _ _ _ _ _ _ (rw c.in-LoadSearchCount.is at c.requires.sound) (c.load_search_count.ensures.makes c.args.shared.now.config refl) c.load_search_count.ensures.goes }
 
 pub add_search_count-requires : goal.add_search_count-requires
 add_search_count-requires g c = record { few = count_fits c.args.worker.now c.args.shared.now c.requires.whole c.requires.sound.config.few }
 
 pub returns-in-AddSearchCount : goal.returns-in-AddSearchCount
-returns-in-AddSearchCount g c =
-    record { steps = search_count_added g.B.Body.left g.B.Scripted.spot c.args.worker.now c.add_search_count.new.self c.args.shared.now c.add_search_count.result c.add_search_count.new.idle (rw c.in-AddSearchCount.is at c.requires.sound) c.add_search_count.ensures.makes c.add_search_count.ensures.same c.add_search_count.ensures.idle }
+returns-in-AddSearchCount g c = record { steps = search_count_added _ _ _ _ _ _ _ (rw c.in-AddSearchCount.is at c.requires.sound) c.add_search_count.ensures.makes c.add_search_count.ensures.same c.add_search_count.ensures.idle }

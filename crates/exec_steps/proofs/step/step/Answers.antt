@@ -38,19 +38,14 @@ pub close_down-requires : goal.close_down-requires
 close_down-requires g c = record { sound = sound_at (Place.Closing c.in-Closing.at) c.args.worker.now c.args.shared.now c.in-Closing.is c.requires.sound; whole = c.requires.whole; going = c.requires.going; let_on = c.requires.let_on }
 
 pub returns-in-BeginTurn-clause-steps : goal.returns-in-BeginTurn-clause-steps
-returns-in-BeginTurn-clause-steps g c =
-    steps_none g.B.Body.left g.B.Scripted.runs g.B.Scripted.holds g.B.Scripted.spot c.args.nursery.now.born c.args.worker.now c.begin_turn.new.self c.args.shared.now c.args.shared.now c.begin_turn.result c.requires.none_yet
-    (turn_begun g.B.Body.left g.B.Scripted.spot c.args.worker.now c.begin_turn.new.self c.args.shared.now c.begin_turn.result (sound_at Place.BeginTurn c.args.worker.now c.args.shared.now c.in-BeginTurn.is c.requires.sound) c.begin_turn.ensures.event c.begin_turn.ensures.goes)
+returns-in-BeginTurn-clause-steps g c = steps_none _ _ _ _ _ _ _ _ _ _ c.requires.none_yet (turn_begun _ _ _ _ _ _ (sound_at Place.BeginTurn _ _ c.in-BeginTurn.is c.requires.sound) c.begin_turn.ensures.event c.begin_turn.ensures.goes)
 
 pub returns-in-Pick-clause-steps : goal.returns-in-Pick-clause-steps
-returns-in-Pick-clause-steps g c =
-    steps_none g.B.Body.left g.B.Scripted.runs g.B.Scripted.holds g.B.Scripted.spot c.args.nursery.now.born c.args.worker.now c.pick.new.worker c.args.shared.now c.pick.new.shared c.pick.result c.requires.none_yet
-    c.pick.ensures.steps
+returns-in-Pick-clause-steps g c = steps_none _ _ _ _ _ _ _ _ _ _ c.requires.none_yet c.pick.ensures.steps
 
 pub returns-in-TakeRootFlag-clause-steps : goal.returns-in-TakeRootFlag-clause-steps
 returns-in-TakeRootFlag-clause-steps g c =
-    steps_none g.B.Body.left g.B.Scripted.runs g.B.Scripted.holds g.B.Scripted.spot c.args.nursery.now.born c.args.worker.now c.take_root_flag.new.self c.args.shared.now c.args.shared.now c.take_root_flag.result c.requires.none_yet
-    (root_flag_taken g.B.Body.left g.B.Scripted.spot c.args.worker.now c.take_root_flag.new.self c.args.shared.now c.take_root_flag.result (sound_at Place.TakeRootFlag c.args.worker.now c.args.shared.now c.in-TakeRootFlag.is c.requires.sound) c.take_root_flag.ensures.event c.take_root_flag.ensures.worker)
+    steps_none _ _ _ _ _ _ _ _ _ _ c.requires.none_yet (root_flag_taken _ _ _ _ _ _ (sound_at _ _ _ c.in-TakeRootFlag.is c.requires.sound) c.take_root_flag.ensures.event c.take_root_flag.ensures.worker)
 
 pub returns-in-Poll-clause-steps : goal.returns-in-Poll-clause-steps
 returns-in-Poll-clause-steps g c = c.poll.ensures.steps
@@ -59,37 +54,25 @@ pub returns-in-Poll-clause-same : goal.returns-in-Poll-clause-same
 returns-in-Poll-clause-same g c = c.poll.ensures.same
 
 pub returns-in-Callbacks-clause-steps : goal.returns-in-Callbacks-clause-steps
-returns-in-Callbacks-clause-steps g c =
-    steps_none g.B.Body.left g.B.Scripted.runs g.B.Scripted.holds g.B.Scripted.spot c.args.nursery.now.born c.args.worker.now c.callbacks.new.worker c.args.shared.now c.callbacks.new.shared c.callbacks.result c.requires.none_yet
-    c.callbacks.ensures.steps
+returns-in-Callbacks-clause-steps g c = steps_none _ _ _ _ _ _ _ _ _ _ c.requires.none_yet c.callbacks.ensures.steps
 
 pub returns-in-Loads-clause-steps : goal.returns-in-Loads-clause-steps
 returns-in-Loads-clause-steps g c = grind arith
 
 pub returns-in-Service-clause-steps : goal.returns-in-Service-clause-steps
-returns-in-Service-clause-steps g c =
-    steps_none g.B.Body.left g.B.Scripted.runs g.B.Scripted.holds g.B.Scripted.spot c.args.nursery.now.born c.args.worker.now c.service.new.worker c.args.shared.now c.service.new.shared c.service.result c.requires.none_yet
-    c.service.ensures.steps
+returns-in-Service-clause-steps g c = steps_none _ _ _ _ _ _ _ _ _ _ c.requires.none_yet c.service.ensures.steps
 
 pub returns-in-Mail-clause-steps : goal.returns-in-Mail-clause-steps
-returns-in-Mail-clause-steps g c =
-    steps_none g.B.Body.left g.B.Scripted.runs g.B.Scripted.holds g.B.Scripted.spot c.args.nursery.now.born c.args.worker.now c.mail.new.worker c.args.shared.now c.mail.new.shared c.mail.result c.requires.none_yet
-    c.mail.ensures.steps
+returns-in-Mail-clause-steps g c = steps_none _ _ _ _ _ _ _ _ _ _ c.requires.none_yet c.mail.ensures.steps
 
 pub returns-in-RingWait-clause-steps : goal.returns-in-RingWait-clause-steps
-returns-in-RingWait-clause-steps g c =
-    steps_none g.B.Body.left g.B.Scripted.runs g.B.Scripted.holds g.B.Scripted.spot c.args.nursery.now.born c.args.worker.now c.wait_on_ring.new.worker c.args.shared.now c.wait_on_ring.new.shared c.wait_on_ring.result c.requires.none_yet
-    c.wait_on_ring.ensures.steps
+returns-in-RingWait-clause-steps g c = steps_none _ _ _ _ _ _ _ _ _ _ c.requires.none_yet c.wait_on_ring.ensures.steps
 
 pub returns-in-WordWait-clause-steps : goal.returns-in-WordWait-clause-steps
-returns-in-WordWait-clause-steps g c =
-    steps_none g.B.Body.left g.B.Scripted.runs g.B.Scripted.holds g.B.Scripted.spot c.args.nursery.now.born c.args.worker.now c.wait_on_word.new.worker c.args.shared.now c.wait_on_word.new.shared c.wait_on_word.result c.requires.none_yet
-    c.wait_on_word.ensures.steps
+returns-in-WordWait-clause-steps g c = steps_none _ _ _ _ _ _ _ _ _ _ c.requires.none_yet c.wait_on_word.ensures.steps
 
 pub returns-in-Closing-clause-steps : goal.returns-in-Closing-clause-steps
-returns-in-Closing-clause-steps g c =
-    steps_none g.B.Body.left g.B.Scripted.runs g.B.Scripted.holds g.B.Scripted.spot c.args.nursery.now.born c.args.worker.now c.close_down.new.worker c.args.shared.now c.close_down.new.shared c.close_down.result c.requires.none_yet
-    c.close_down.ensures.steps
+returns-in-Closing-clause-steps g c = steps_none _ _ _ _ _ _ _ _ _ _ c.requires.none_yet c.close_down.ensures.steps
 
 pub test_for_work-requires : goal.test_for_work-requires
 test_for_work-requires g c = record { told = (_, c.requires.sound.told) }
@@ -131,71 +114,48 @@ pub signal-requires : goal.signal-requires
 signal-requires g c = record { sound = sound_at (Place.Signal c.in-Signal.at c.in-Signal.other c.in-Signal.back) c.args.worker.now c.args.shared.now c.in-Signal.is c.requires.sound }
 
 pub returns-in-Search-clause-steps : goal.returns-in-Search-clause-steps
-returns-in-Search-clause-steps g c =
-    steps_none g.B.Body.left g.B.Scripted.runs g.B.Scripted.holds g.B.Scripted.spot c.args.nursery.now.born c.args.worker.now c.search.new.worker c.args.shared.now c.search.new.shared c.search.result c.requires.none_yet
-    c.search.ensures.steps
+returns-in-Search-clause-steps g c = steps_none _ _ _ _ _ _ _ _ _ _ c.requires.none_yet c.search.ensures.steps
 
 pub returns-in-Scan-clause-steps : goal.returns-in-Scan-clause-steps
-returns-in-Scan-clause-steps g c =
-    steps_none g.B.Body.left g.B.Scripted.runs g.B.Scripted.holds g.B.Scripted.spot c.args.nursery.now.born c.args.worker.now c.scan.new.worker c.args.shared.now c.scan.new.shared c.scan.result c.requires.none_yet
-    c.scan.ensures.steps
+returns-in-Scan-clause-steps g c = steps_none _ _ _ _ _ _ _ _ _ _ c.requires.none_yet c.scan.ensures.steps
 
 pub returns-in-Look-clause-steps : goal.returns-in-Look-clause-steps
-returns-in-Look-clause-steps g c =
-    steps_none g.B.Body.left g.B.Scripted.runs g.B.Scripted.holds g.B.Scripted.spot c.args.nursery.now.born c.args.worker.now c.look.new.worker c.args.shared.now c.look.new.shared c.look.result c.requires.none_yet
-    c.look.ensures.steps
+returns-in-Look-clause-steps g c = steps_none _ _ _ _ _ _ _ _ _ _ c.requires.none_yet c.look.ensures.steps
 
 pub returns-in-Global-clause-steps : goal.returns-in-Global-clause-steps
-returns-in-Global-clause-steps g c =
-    steps_none g.B.Body.left g.B.Scripted.runs g.B.Scripted.holds g.B.Scripted.spot c.args.nursery.now.born c.args.worker.now c.push_global.new.worker c.args.shared.now c.push_global.new.shared c.push_global.result c.requires.none_yet
-    c.push_global.ensures.steps
+returns-in-Global-clause-steps g c = steps_none _ _ _ _ _ _ _ _ _ _ c.requires.none_yet c.push_global.ensures.steps
 
 pub returns-in-Kick-clause-steps : goal.returns-in-Kick-clause-steps
-returns-in-Kick-clause-steps g c =
-    steps_none g.B.Body.left g.B.Scripted.runs g.B.Scripted.holds g.B.Scripted.spot c.args.nursery.now.born c.args.worker.now c.kick.new.worker c.args.shared.now c.kick.new.shared c.kick.result c.requires.none_yet
-    c.kick.ensures.steps
+returns-in-Kick-clause-steps g c = steps_none _ _ _ _ _ _ _ _ _ _ c.requires.none_yet c.kick.ensures.steps
 
 pub returns-in-Signal-clause-steps : goal.returns-in-Signal-clause-steps
-returns-in-Signal-clause-steps g c =
-    steps_none g.B.Body.left g.B.Scripted.runs g.B.Scripted.holds g.B.Scripted.spot c.args.nursery.now.born c.args.worker.now c.signal.new.worker c.args.shared.now c.signal.new.shared c.signal.result c.requires.none_yet
-    c.signal.ensures.steps
+returns-in-Signal-clause-steps g c = steps_none _ _ _ _ _ _ _ _ _ _ c.requires.none_yet c.signal.ensures.steps
 
 pub returns-in-TestForWork-clause-steps : goal.returns-in-TestForWork-clause-steps
-returns-in-TestForWork-clause-steps g c =
-    steps_none g.B.Body.left g.B.Scripted.runs g.B.Scripted.holds g.B.Scripted.spot c.args.nursery.now.born c.args.worker.now c.test_for_work.new.self c.args.shared.now c.args.shared.now c.test_for_work.result c.requires.none_yet
-    (tested g.B.Body.left g.B.Scripted.spot c.args.worker.now c.test_for_work.new.self c.args.shared.now c.test_for_work.result c.in-TestForWork.found (sound_at (Place.TestForWork c.in-TestForWork.found) c.args.worker.now c.args.shared.now c.in-TestForWork.is c.requires.sound) c.test_for_work.ensures.event c.test_for_work.ensures.goes)
+returns-in-TestForWork-clause-steps g c = steps_none _ _ _ _ _ _ _ _ _ _ c.requires.none_yet (tested _ _ _ _ _ _ _ (sound_at _ _ _ c.in-TestForWork.is c.requires.sound) c.test_for_work.ensures.event c.test_for_work.ensures.goes)
 
 pub returns-in-ReadClock-clause-steps : goal.returns-in-ReadClock-clause-steps
 returns-in-ReadClock-clause-steps g c =
     let found = c.read_clock.ensures.due in
-    steps_none g.B.Body.left g.B.Scripted.runs g.B.Scripted.holds g.B.Scripted.spot c.args.nursery.now.born c.args.worker.now c.read_clock.new.self c.args.shared.now c.args.shared.now c.read_clock.result c.requires.none_yet
-    (clock_read g.B.Body.left g.B.Scripted.spot c.args.worker.now c.read_clock.new.self c.args.shared.now c.read_clock.result found.0 (sound_at (Place.ReadClock) c.args.worker.now c.args.shared.now c.in-ReadClock.is c.requires.sound) found.1 c.read_clock.ensures.event c.read_clock.ensures.goes found.2 found.3)
+    steps_none _ _ _ _ _ _ _ _ _ _ c.requires.none_yet (clock_read _ _ _ _ _ _ found.0 (sound_at _ _ _ c.in-ReadClock.is c.requires.sound) found.1 c.read_clock.ensures.event c.read_clock.ensures.goes found.2 found.3)
 
 pub returns-in-Withdraw-clause-steps : goal.returns-in-Withdraw-clause-steps
-returns-in-Withdraw-clause-steps g c =
-    steps_none g.B.Body.left g.B.Scripted.runs g.B.Scripted.holds g.B.Scripted.spot c.args.nursery.now.born c.args.worker.now c.withdraw.new.self c.args.shared.now (record c.args.shared.now { idle = c.withdraw.new.idle }) c.withdraw.result c.requires.none_yet
-    (withdrew g.B.Body.left g.B.Scripted.spot c.args.worker.now c.withdraw.new.self c.args.shared.now c.withdraw.result c.in-Withdraw.then c.withdraw.new.idle (sound_at (Place.Withdraw c.in-Withdraw.then) c.args.worker.now c.args.shared.now c.in-Withdraw.is c.requires.sound) c.withdraw.ensures.event c.withdraw.ensures.goes c.withdraw.ensures.idle)
+returns-in-Withdraw-clause-steps g c = steps_none _ _ _ _ _ _ _ _ _ _ c.requires.none_yet (withdrew _ _ _ _ _ _ _ _ (sound_at _ _ _ c.in-Withdraw.is c.requires.sound) c.withdraw.ensures.event c.withdraw.ensures.goes c.withdraw.ensures.idle)
 
 pub returns-in-LeaveSearch-clause-steps : goal.returns-in-LeaveSearch-clause-steps
 returns-in-LeaveSearch-clause-steps g c =
-    let sound = sound_at (Place.LeaveSearch c.in-LeaveSearch.back) c.args.worker.now c.args.shared.now c.in-LeaveSearch.is c.requires.sound in
-    steps_none g.B.Body.left g.B.Scripted.runs g.B.Scripted.holds g.B.Scripted.spot c.args.nursery.now.born c.args.worker.now c.leave_search.new.self c.args.shared.now (record c.args.shared.now { idle = c.leave_search.new.idle }) c.leave_search.result c.requires.none_yet
-    (search_left g.B.Body.left g.B.Scripted.spot c.args.worker.now c.leave_search.new.self c.args.shared.now c.leave_search.result c.in-LeaveSearch.back c.leave_search.new.idle sound (leaves_some c.in-LeaveSearch.back c.args.worker.now c.args.shared.now sound c.requires.whole) c.leave_search.ensures.event c.leave_search.ensures.goes c.leave_search.ensures.idle)
+    let sound = sound_at _ _ _ c.in-LeaveSearch.is c.requires.sound in
+    steps_none _ _ _ _ _ _ _ _ _ _ c.requires.none_yet (search_left _ _ _ _ _ _ _ _ sound (leaves_some _ _ _ sound c.requires.whole) c.leave_search.ensures.event c.leave_search.ensures.goes c.leave_search.ensures.idle)
 
 pub returns-in-ClaimWorker-clause-steps : goal.returns-in-ClaimWorker-clause-steps
 returns-in-ClaimWorker-clause-steps g c =
-    steps_none g.B.Body.left g.B.Scripted.runs g.B.Scripted.holds g.B.Scripted.spot c.args.nursery.now.born c.args.worker.now c.claim_worker.new.self c.args.shared.now (record c.args.shared.now { idle = c.claim_worker.new.idle }) c.claim_worker.result c.requires.none_yet
-    (worker_claimed g.B.Body.left g.B.Scripted.spot c.args.worker.now c.claim_worker.new.self c.args.shared.now c.claim_worker.result c.in-ClaimWorker.set c.in-ClaimWorker.back c.claim_worker.new.idle (sound_at (Place.ClaimWorker c.in-ClaimWorker.set c.in-ClaimWorker.back) c.args.worker.now c.args.shared.now c.in-ClaimWorker.is c.requires.sound) c.requires.whole c.claim_worker.ensures.makes c.claim_worker.ensures.goes c.claim_worker.ensures.idle)
+    steps_none _ _ _ _ _ _ _ _ _ _ c.requires.none_yet (worker_claimed _ _ _ _ _ _ _ _ _ (sound_at _ _ _ c.in-ClaimWorker.is c.requires.sound) c.requires.whole c.claim_worker.ensures.makes c.claim_worker.ensures.goes c.claim_worker.ensures.idle)
 
 pub returns-in-Pop-clause-steps : goal.returns-in-Pop-clause-steps
-returns-in-Pop-clause-steps g c =
-    steps_none g.B.Body.left g.B.Scripted.runs g.B.Scripted.holds g.B.Scripted.spot c.args.nursery.now.born c.args.worker.now c.pop.new.worker c.args.shared.now c.pop.new.shared c.pop.result c.requires.none_yet
-    c.pop.ensures.steps
+returns-in-Pop-clause-steps g c = steps_none _ _ _ _ _ _ _ _ _ _ c.requires.none_yet c.pop.ensures.steps
 
 pub returns-in-Push-clause-steps : goal.returns-in-Push-clause-steps
-returns-in-Push-clause-steps g c =
-    steps_none g.B.Body.left g.B.Scripted.runs g.B.Scripted.holds g.B.Scripted.spot c.args.nursery.now.born c.args.worker.now c.push.new.worker c.args.shared.now c.push.new.shared c.push.result c.requires.none_yet
-    c.push.ensures.steps
+returns-in-Push-clause-steps g c = steps_none _ _ _ _ _ _ _ _ _ _ c.requires.none_yet c.push.ensures.steps
 
 pub returns-in-Poll-clause-room : goal.returns-in-Poll-clause-room
 returns-in-Poll-clause-room g c = c.poll.ensures.room
@@ -204,10 +164,7 @@ pub returns-in-Poll-clause-nobody : goal.returns-in-Poll-clause-nobody
 returns-in-Poll-clause-nobody g c = c.poll.ensures.nobody
 
 pub send_cancel-requires-clause-may : goal.send_cancel-requires-clause-may
-send_cancel-requires-clause-may g c =
-    letter_may c.args.worker.now c.args.shared.now c.requires.whole c.in-SendCancel.back (sound_at (Place.SendCancel c.in-SendCancel.back) c.args.worker.now c.args.shared.now c.in-SendCancel.is c.requires.sound)
+send_cancel-requires-clause-may g c = letter_may _ _ c.requires.whole c.in-SendCancel.back (sound_at (Place.SendCancel c.in-SendCancel.back) _ _ c.in-SendCancel.is c.requires.sound)
 
 pub returns-in-SendCancel-clause-steps : goal.returns-in-SendCancel-clause-steps
-returns-in-SendCancel-clause-steps g c =
-    steps_none g.B.Body.left g.B.Scripted.runs g.B.Scripted.holds g.B.Scripted.spot c.args.nursery.now.born c.args.worker.now c.send_cancel.new.self c.args.shared.now c.send_cancel.new.shared c.send_cancel.result c.requires.none_yet
-    (letter_sent g.B.Body.left g.B.Scripted.spot c.in-SendCancel.back c.args.worker.now c.send_cancel.new.self c.args.shared.now c.send_cancel.new.shared c.send_cancel.result (sound_at (Place.SendCancel c.in-SendCancel.back) c.args.worker.now c.args.shared.now c.in-SendCancel.is c.requires.sound) c.requires.whole c.send_cancel.ensures.sends)
+returns-in-SendCancel-clause-steps g c = steps_none _ _ _ _ _ _ _ _ _ _ c.requires.none_yet (letter_sent _ _ _ _ _ _ _ _ (sound_at _ _ _ c.in-SendCancel.is c.requires.sound) c.requires.whole c.send_cancel.ensures.sends)

@@ -4,16 +4,13 @@ use Rattle.exec_steps.proofs.{Picks.{counted_down, head_loaded, mirror_loaded}, 
 use Rattle.exec_steps.proofs.turn.pick.Goals as goal
 
 pub returns-in-CountDown : goal.returns-in-CountDown
-returns-in-CountDown g c =
-    record { steps = counted_down g.B.Body.left g.B.Scripted.spot c.args.worker.now c.count_down.new.self c.args.shared.now c.count_down.result (rw c.in-CountDown.is at c.requires.sound) (c.count_down.ensures.makes c.args.shared.now.config refl refl) c.count_down.ensures.same }
+returns-in-CountDown g c = record { steps = counted_down _ _ _ _ _ _ (rw c.in-CountDown.is at c.requires.sound) (c.count_down.ensures.makes c.args.shared.now.config refl refl) c.count_down.ensures.same }
 
 pub returns-in-LoadMirror : goal.returns-in-LoadMirror
-returns-in-LoadMirror g c =
-    record { steps = mirror_loaded g.B.Body.left g.B.Scripted.spot c.args.worker.now c.load_mirror.new.self c.args.shared.now c.load_mirror.result c.in-LoadMirror.first (rw c.in-LoadMirror.is at c.requires.sound) c.load_mirror.ensures.makes c.load_mirror.ensures.goes }
+returns-in-LoadMirror g c = record { steps = mirror_loaded _ _ _ _ _ _ c.in-LoadMirror.first (rw c.in-LoadMirror.is at c.requires.sound) c.load_mirror.ensures.makes c.load_mirror.ensures.goes }
 
 pub returns-in-LoadHead : goal.returns-in-LoadHead
-returns-in-LoadHead g c =
-    record { steps = head_loaded g.B.Body.left g.B.Scripted.spot c.args.worker.now c.load_head.new.self c.args.shared.now c.load_head.result c.in-LoadHead.first (rw c.in-LoadHead.is at c.requires.sound) c.load_head.ensures.makes c.load_head.ensures.goes }
+returns-in-LoadHead g c = record { steps = head_loaded _ _ _ _ _ _ c.in-LoadHead.first (rw c.in-LoadHead.is at c.requires.sound) c.load_head.ensures.makes c.load_head.ensures.goes }
 
 pub take_share-requires : goal.take_share-requires
 take_share-requires g c =

@@ -2,11 +2,11 @@ use Rattle.std.proofs.Common.{◌∷◌, [], ◌++◌, refl, sym, ◌∙◌}
 use Rattle.std.proofs.lemmas.List.{append-nil}
 use Rattle.std.proofs.lemmas.List.Elements.{All-push}
 use Rattle.exec_text.specs.Grammar.{StepFits, StepNames}
-use Rattle.exec_text.proofs.{Begins.none_all, Faults.{step_wrong, step_right, steps_all}}
+use Rattle.exec_text.proofs.{Begins.All-nil, Faults.{step_wrong, step_right, steps_all}}
 use Rattle.exec_text.proofs.read.read_steps.Goals as goal
 
 pub loop-line-init : goal.loop-line-init
-loop-line-init c = record { same_text = refl; so_far = ([], sym (append-nil _), none_all StepFits, none_all (StepNames c.args.scripts), c.new-steps.ensures) }
+loop-line-init c = record { same_text = refl; so_far = ([], sym (append-nil _), All-nil StepFits, All-nil (StepNames c.args.scripts), c.new-steps.ensures) }
 
 pub returns-in_default-step_of-clause-fault : goal.returns-in_default-step_of-clause-fault
 returns-in_default-step_of-clause-fault c =

@@ -1,4 +1,4 @@
-use Rattle.std.proofs.Common.{ℕ, ◌∷◌, ◌++◌, List, codes, decimal, ap, ◌∙◌, arith}
+use Rattle.std.proofs.Common.{ℕ, ◌∷◌, ◌++◌, List, codes, decimal, ap, ◌∙◌}
 use Rattle.exec_text.proofs.{Fields.{told_equal, told_unequal, told_some, told_none, none_then, some_then}, Steps.{IsCutAt, cut_spelled, first_is, first_of, more_of, no_work, no_landing, no_more, no_letter, no_step}, Calls.{call_spelled, no_call, letter_spelled}}
 use Rattle.exec_text.proofs.step.step_of.Goals as goal
 
@@ -42,12 +42,6 @@ returns-then-eq-3-clause-found c =
     let cut : IsCutAt c.args.line.now c.first_field.result.0.now q.first q.rest.now = record { tail = c.first_field.result.1.now; field = c.first_field.ensures; number = q.ensures.found } in
     let a = c.in_ok-action in
     cut_spelled c.args.line.now c.first_field.result.0.now q.rest.now q.first cut ∙ ap (λ (t : List ℕ). t ++ 32 ∷ (decimal q.first ++ q.rest.now)) (told_equal c.first_field.result.0.now c.as_slice-3.result.now (codes "x") c.eq-3.result c.eq-3.ensures c.as_slice-3.ensures c.if-eq-3.true) ∙ call_spelled q.first c.args.scripts q.rest.now a.action a.ensures.found
-
-pub returns-then-eq-3-clause-fits : goal.returns-then-eq-3-clause-fits
-returns-then-eq-3-clause-fits c = grind arith
-
-pub returns-then-eq-3-clause-named : goal.returns-then-eq-3-clause-named
-returns-then-eq-3-clause-named c = grind arith
 
 pub returns-then-not-is_empty-clause-none : goal.returns-then-not-is_empty-clause-none
 returns-then-not-is_empty-clause-none c =

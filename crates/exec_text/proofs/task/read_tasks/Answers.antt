@@ -1,4 +1,4 @@
-use Rattle.std.proofs.Common.{◌∷◌, [], ◌++◌, refl, ◌∙◌, arith}
+use Rattle.std.proofs.Common.{◌∷◌, [], ◌++◌, refl, ◌∙◌}
 use Rattle.std.proofs.lemmas.Result.{err_from_is_err_and}
 use Rattle.exec_text.proofs.{Begins.head_none, Faults.{task_missing, task_wrong, script_right}, Lists.no_lists}
 use Rattle.exec_text.proofs.task.read_tasks.Goals as goal
@@ -35,9 +35,6 @@ tasks-preserved c =
         c.with_list-scripts.ensures i.so_far.0 r.0 i.so_far.2 r.2,
       );
     }
-
-pub returns-in-Some-Root-clause-ok : goal.returns-in-Some-Root-clause-ok
-returns-in-Some-Root-clause-ok c = grind arith
 
 pub returns-in-Some-Root-clause-text : goal.returns-in-Some-Root-clause-text
 returns-in-Some-Root-clause-text c = c.in_ok-line.ensures.text ∙ c.tasks.invariant.same_text

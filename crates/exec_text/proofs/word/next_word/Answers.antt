@@ -2,12 +2,6 @@ use Rattle.std.proofs.Common.{[], ◌∷◌, arith}
 use Rattle.exec_text.proofs.Spelling.{IsFront, front_named, front_more, front_read, front_longer, front_ended, front_whole}
 use Rattle.exec_text.proofs.word.next_word.Goals as goal
 
-pub returns-in-Some-clause-found : goal.returns-in-Some-clause-found
-returns-in-Some-clause-found c = grind arith
-
-pub returns-in-Some-numbered_word-clause-found : goal.returns-in-Some-numbered_word-clause-found
-returns-in-Some-numbered_word-clause-found c = grind arith
-
 pub returns-in-Some-socket_word-clause-found : goal.returns-in-Some-socket_word-clause-found
 returns-in-Some-socket_word-clause-found c =
     let a = c.args in

@@ -1,4 +1,3 @@
-use Rattle.std.proofs.Common.{◌≡◌}
 use Rattle.exec_time.proofs.Buckets.{StandsIn, stands_between}
 use Rattle.exec_time.proofs.entries.bucket_of.Goals as goal
 

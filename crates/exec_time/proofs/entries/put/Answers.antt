@@ -1,4 +1,4 @@
-use Rattle.std.proofs.Common.{◌≡◌, ◌<◌, ◌≤◌, ◌%◌, ℕ, List, length, get_or, arith, subst}
+use Rattle.std.proofs.Common.{◌<◌, ◌≤◌, ◌%◌, ℕ, length, get_or, arith}
 use Rattle.std.proofs.lemmas.List.Sorted.{IsNonDecreasingBy-insert}
 use Rattle.exec_time.specs.declared.entries.Entry.{Entry}
 use Rattle.exec_time.proofs.Buckets.{bucket_in_put}

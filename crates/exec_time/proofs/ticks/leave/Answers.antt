@@ -1,12 +1,8 @@
 use Rattle.std.proofs.Common.{◌≡◌, ◌<◌, arith, subst, OnSome}
 use Rattle.std.specs.List.{remove}
 use Rattle.std.specs.VecDeque.{deque_len}
-use Rattle.exec_time.specs.Entries.{active_in}
 use Rattle.exec_time.proofs.Buckets.{active_in_remove, rising_remove}
 use Rattle.exec_time.proofs.ticks.leave.Goals as goal
-
-pub unreachable-requires : goal.unreachable-requires
-unreachable-requires c = omega (arith, c.requires.there, c.in-Err.ensures.missed)
 
 pub returns-clause-counts : goal.returns-clause-counts
 returns-clause-counts c =

@@ -1,5 +1,4 @@
-use Rattle.std.proofs.Common.{◌≡◌, ℕ, ◌+◌, [], Some, None, length, reverse, slice_get, ap, ◌-◌, arith, rules}
-use Rattle.exec_base.specs.Slab.{Slab}
+use Rattle.std.proofs.Common.{◌≡◌, ◌+◌, Some, length, slice_get, ◌-◌, arith, rules}
 use Rattle.exec_base.proofs.Slots.{split_last, reverse_last, read_vacant, no_last, none-vacant}
 use Rattle.exec_base.proofs.slab.Slab.next_id.Goals as goal
 

@@ -1,17 +1,8 @@
-use Rattle.std.proofs.Common.{refl, add-one, arith, rules, of_calls}
+use Rattle.std.proofs.Common.{add-one, rules, of_calls}
 use Rattle.exec_base.proofs.Looks.{Misses-more}
 use Rattle.exec_base.proofs.spinner.Spinner.spin.Goals as goal
-
-pub loop-init : goal.loop-init
-loop-init g c = (c.requires, refl, refl)
 
 pub loop-preserved : goal.loop-preserved
 loop-preserved g c =
     let miss = rw c.if-condition.false at c.condition.ensures in
     (search (rules, of_calls), c.loop.invariant.1, rw add-one (Misses-more (goal.C-step g) c.loop.counter c.args.condition.now c.loop.condition c.condition.new.self c.loop.invariant.2 miss))
-
-pub returns-then-condition-clause-calls : goal.returns-then-condition-clause-calls
-returns-then-condition-clause-calls g c = grind arith
-
-pub returns-clause-calls : goal.returns-clause-calls
-returns-clause-calls g c = grind arith

@@ -1,4 +1,4 @@
-use Rattle.std.proofs.Common.{sym, ◌∙◌, arith}
+use Rattle.std.proofs.Common.{sym, ◌∙◌}
 use Rattle.exec_core.proofs.{Enabling.enabled_as, Playing.{applied, refused}, Taking.on_err}
 use Rattle.exec_core.proofs.executor.Core.apply.Goals as goal
 
@@ -6,29 +6,11 @@ pub returns-then-not-may_take-clause-applies : goal.returns-then-not-may_take-cl
 returns-then-not-may_take-clause-applies g c = λ p x shows carries.
     refused g.B.Body.left g.B.Scripted.runs g.B.Scripted.holds g.B.Scripted.spot g.B.Body.name_of p x c.args.self.now c.args.action c.requires.ready.1.stands (sym c.may_take.ensures ∙ c.if-not-may_take.true) shows
 
-pub returns-then-not-may_take-clause-ready : goal.returns-then-not-may_take-clause-ready
-returns-then-not-may_take-clause-ready g c = λ p ready carries. ready
-
-pub take-requires-clause-ready : goal.take-requires-clause-ready
-take-requires-clause-ready g c = c.requires.ready
-
-pub take-requires-clause-enabled : goal.take-requires-clause-enabled
-take-requires-clause-enabled g c = sym c.may_take.ensures ∙ c.if-not-may_take.false
-
 pub returns-in_err-event-clause-wants : goal.returns-in_err-event-clause-wants
 returns-in_err-event-clause-wants g c =
     on_err c.from_residual.result _ (λ p. sym (enabled_as g.B.Body.left g.B.Scripted.spot p c.args.self.now c.args.action c.requires.ready.1.stands) ∙ sym c.may_take.ensures ∙ c.if-not-may_take.false)
-
-pub returns-in_err-event-clause-same : goal.returns-in_err-event-clause-same
-returns-in_err-event-clause-same g c = on_err c.from_residual.result _ c.in_err-event.ensures.same
-
-pub returns-in_err-event-clause-spent : goal.returns-in_err-event-clause-spent
-returns-in_err-event-clause-spent g c = on_err c.from_residual.result _ c.in_err-event.ensures.spent
 
 pub returns-clause-applies : goal.returns-clause-applies
 returns-clause-applies g c = λ p x shows carries.
     applied g.B.Body.left g.B.Scripted.runs g.B.Scripted.holds g.B.Scripted.spot g.B.Body.name_of p x c.args.self.now c.take.new.self c.args.action c.in_ok-event.event c.args.body c.requires.ready.1.stands c.in_ok-event.ensures.stands.0 shows c.in_ok-event.ensures.keeps
     carries (c.in_ok-event.ensures.takes p shows.config shows.performs)
-
-pub returns-clause-ready : goal.returns-clause-ready
-returns-clause-ready g c = grind arith

@@ -1,9 +1,6 @@
-use Rattle.std.proofs.Common.{refl, ap, arith}
+use Rattle.std.proofs.Common.{refl, ap}
 use Rattle.exec_core.proofs.Taking.{begun_within, read_there}
 use Rattle.exec_core.proofs.executor.Core.end_poll.Goals as goal
-
-pub index_mut-requires : goal.index_mut-requires
-index_mut-requires g c = grind (arith, begun_within)
 
 pub end_poll-requires : goal.end_poll-requires
 end_poll-requires g c =

@@ -9,11 +9,7 @@ pub go_on-requires : goal.go_on-requires
 go_on-requires g c =
     let core = c.args.self.now in
     let there = read_there core.callers.items c.args.caller c.index_mut.result.now (calling_within core c.args.caller c.requires.enabled) c.index_mut.ensures.value in
-    record {
-      sound = c.requires.stands.together.calls c.args.caller c.index_mut.result.now there;
-      whole = call_whole core c.args.caller c.index_mut.result.now c.requires.stands there;
-      going = calling_there core c.args.caller c.index_mut.result.now c.requires.enabled there;
-    }
+    assumption (c.requires.stands.together.calls c.args.caller c.index_mut.result.now there, call_whole core c.args.caller c.index_mut.result.now c.requires.stands there, calling_there core c.args.caller c.index_mut.result.now c.requires.enabled there)
 
 pub returns : goal.returns
 returns g c = grind (arith, read_there, calling_within)

@@ -1,16 +1,7 @@
-use Rattle.std.proofs.{Common.{refl, sym, ap, ◌∙◌, arith}, lemmas.Option.slice_get_within}
-use Rattle.exec_parts.proofs.Facts.{same_thing}
-use Rattle.exec_core.proofs.{Applying.owner_there, Taking.{lands_within, land_read, read_there}}
+use Rattle.std.proofs.{Common.{refl, sym, ap, ◌∙◌}, lemmas.Option.slice_get_within}
+use Rattle.exec_parts.proofs.Facts.{same_Some}
+use Rattle.exec_core.proofs.{Applying.owner_there, Taking.{land_read, read_there}}
 use Rattle.exec_core.proofs.executor.Core.land.Goals as goal
-
-pub index-requires : goal.index-requires
-index-requires g c = grind (arith, lands_within)
-
-pub index_mut-requires : goal.index_mut-requires
-index_mut-requires g c = grind (arith, land_read, owner_there, slice_get_within)
-
-pub land-requires-clause-lands : goal.land-requires-clause-lands
-land-requires-clause-lands g c = grind arith
 
 pub land-requires-clause-sound : goal.land-requires-clause-sound
 land-requires-clause-sound g c =
@@ -26,7 +17,7 @@ land-requires-clause-mine g c = λ r found.
     let owner = owner_there c.args.self.now c.args.request c.index.result.now c.requires.stands there in
     let within = slice_get_within c.args.self.now.workers.items c.index.result.now.shown.worker owner.0 owner.1 in
     let was = read_there c.args.self.now.workers.items c.index.result.now.shown.worker c.index_mut.result.now within c.index_mut.ensures.value in
-    ap (λ x. x.shown.worker) (same_thing r c.index.result.now (sym found ∙ there)) ∙ sym (c.requires.stands.together.sound c.index.result.now.shown.worker c.index_mut.result.now was).0
+    ap (λ x. x.shown.worker) (same_Some r c.index.result.now (sym found ∙ there)) ∙ sym (c.requires.stands.together.sound c.index.result.now.shown.worker c.index_mut.result.now was).0
 
 pub returns-clause-lands : goal.returns-clause-lands
 returns-clause-lands g c =

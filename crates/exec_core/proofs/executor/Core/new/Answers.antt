@@ -1,19 +1,10 @@
-use Rattle.std.proofs.Common.{◌≡◌, ◌≤◌, [], replicate, length, false, refl, sym, ap, subst, ◌∙◌, arith}
+use Rattle.std.proofs.Common.{◌≡◌, ◌≤◌, replicate, false, refl, sym, ap, subst, ◌∙◌, arith}
 use Rattle.exec_core.specs.{Configs.configuration_of, Firsts.{AllBegin, IsFirst}}
-use Rattle.exec_core.proofs.{Beginning.free_caller, CoreFirsts.with_store, Pacing.first_turns, Powers.in_range, Steady.first_rests, Started.{first_ready, first_shown, free_many, one_more_free}}
+use Rattle.exec_core.proofs.{Beginning.free_caller, CoreFirsts.with_store, Pacing.first_turns, Powers.in_range, Steady.first_rests, Started.{first_ready, first_shown}}
 use Rattle.exec_core.proofs.executor.Core.new.Goals as goal
 
 pub first_workers-requires-clause-few : goal.first_workers-requires-clause-few
 first_workers-requires-clause-few g c = grind (arith, in_range)
-
-pub loop-init : goal.loop-init
-loop-init g c = record { callers = c.in_ok-callers.ensures.items; room = (let room = c.in_ok-callers.ensures.capacity in omega (arith, room)) }
-
-pub push_reserved-requires : goal.push_reserved-requires
-push_reserved-requires g c = omega (arith, c.loop-test.true, c.loop.invariant.room, c.loop.callers.ok.0, ap length c.loop.invariant.callers, free_many c.loop.counter)
-
-pub loop-preserved : goal.loop-preserved
-loop-preserved g c = grind (arith, free_caller, one_more_free)
 
 pub returns-clause-begins : goal.returns-clause-begins
 returns-clause-begins g c = λ p plan.

@@ -1,9 +1,6 @@
-use Rattle.std.proofs.Common.{refl, arith}
+use Rattle.std.proofs.Common.{refl}
 use Rattle.exec_core.proofs.Taking.{begun_within, read_there}
 use Rattle.exec_core.proofs.executor.Core.set_busy.Goals as goal
-
-pub index_mut-requires : goal.index_mut-requires
-index_mut-requires g c = grind (arith, begun_within)
 
 pub set_busy-requires : goal.set_busy-requires
 set_busy-requires g c =

@@ -1,12 +1,8 @@
 use Rattle.std.proofs.Common.{refl, sym, ap, subst, ◌∙◌, arith}
-use Rattle.std.specs.Vec.{with_item}
 use Rattle.exec_parts.specs.Scripts.{Begins}
-use Rattle.exec_parts.proofs.Facts.{same_thing}
-use Rattle.exec_core.proofs.{CoreSpawns.{spawn_calls, spawn_keeps, spawn_same}, Taking.{call_whole, call_within, free_there, read_there, spent_by}}
+use Rattle.exec_parts.proofs.Facts.{same_Some}
+use Rattle.exec_core.proofs.{CoreSpawns.{spawn_calls, spawn_keeps}, Taking.{call_whole, call_within, free_there, read_there}}
 use Rattle.exec_core.proofs.executor.Core.spawn.Goals as goal
-
-pub index_mut-requires : goal.index_mut-requires
-index_mut-requires g c = grind (arith, call_within)
 
 pub spawn-spawned-requires-clause-sound : goal.spawn-spawned-requires-clause-sound
 spawn-spawned-requires-clause-sound g c =
@@ -25,7 +21,7 @@ returns-clause-calls g c =
     let core = c.args.self.now in
     let there = read_there core.callers.items c.args.caller c.index_mut.result.now (call_within core c.args.caller c.requires.enabled) c.index_mut.ensures.value in
     let carries = c.requires.ready.2 in
-    let same = same_thing carries.0 c.in-Some.body (sym carries.1 ∙ c.in-Some.is) in
+    let same = same_Some carries.0 c.in-Some.body (sym carries.1 ∙ c.in-Some.is) in
     spawn_calls g.B.Body.left g.B.Scripted.spot g.B.Body.name_of c.args.caller c.args.script core _ c.in-Some.body c.index_mut.result.now c.spawn-spawned.new.self c.spawn-spawned.result
     (ap (λ b. g.B.Body.name_of (g.B.Body.left b)) (sym same) ∙ carries.2) (subst (λ b. Begins (g.B.Scripted.spot (g.B.Body.left b)) c.args.script) same carries.3.begins)
     there refl refl c.is_err-self.ensures.value c.requires.ready.1.unspent c.spawn-spawned.ensures.made
@@ -34,12 +30,3 @@ pub returns-clause-keeps : goal.returns-clause-keeps
 returns-clause-keeps g c =
     spawn_keeps g.B.Body.left g.B.Scripted.runs g.B.Scripted.holds g.B.Scripted.spot g.B.Body.name_of c.args.caller c.args.script c.args.body c.args.self.now _ c.in-Some.body c.index_mut.result.now c.spawn-spawned.new.self c.spawn-spawned.result
     c.in-Some.is c.spawn-spawned.ensures.made c.spawn-spawned.ensures.performs
-
-pub returns-clause-same : goal.returns-clause-same
-returns-clause-same g c =
-    let core = c.args.self.now in
-    let there = read_there core.callers.items c.args.caller c.index_mut.result.now (call_within core c.args.caller c.requires.enabled) c.index_mut.ensures.value in
-    spawn_same g.B.Body.left g.B.Scripted.spot g.B.Body.name_of c.args.caller core (record { workers = core.workers; shared = c.spawn-spawned.new.shared; callers = with_item core.callers c.args.caller c.spawn-spawned.new.self; spent = c.is_err-self.result }) c.index_mut.result.now c.spawn-spawned.new.self c.spawn-spawned.result there refl refl c.spawn-spawned.ensures.same c.spawn-spawned.ensures.stays
-
-pub returns-clause-spent : goal.returns-clause-spent
-returns-clause-spent g c = spent_by c.spawn-spawned.result c.is_err-self.result c.is_err-self.ensures.value

@@ -1,63 +1,11 @@
-use Rattle.std.proofs.{Common.{◌+◌, length, refl, ap, ◌∙◌}, lemmas.{Bool.leb-true, List.length-map}}
+use Rattle.std.proofs.{Common.{◌+◌, length, refl, ap, ◌∙◌}, lemmas.{List.length-map}}
 use Rattle.std.proofs.Common.{arith}
-use Rattle.exec_base.specs.declared.limits.TheConstants.{LAST_MOMENT}
 use Rattle.exec_machine.specs.declared.step.Action.TheVariants as action
 use Rattle.exec_moves.specs.{Plays.last_told, State.passed}
 use Rattle.exec_machine.specs.Callers.{after_landing}
 use Rattle.exec_parts.specs.Records.{reached}
-use Rattle.exec_core.proofs.{Applying.{clock_moved, landed, poll_ended, set_busy, stirred}, CoreCalls.{call_stands, go_on_keeps, wake_called, wake_keeps, went_called}, Taking.{chair_many, keeps_tasks, less_there, peer_applied, peer_keeps, peer_same, peer_stands, rings_stand, seats_stand, sees_stand, spawn_stands, spawn_takes, stirs_within, worked, worked_keeps, worked_same, worked_stands}}
+use Rattle.exec_core.proofs.{Applying.{clock_moved, landed, poll_ended, set_busy, stirred}, CoreCalls.{call_stands, go_on_keeps, wake_called, wake_keeps, went_called}, Taking.{chair_many, keeps_tasks, peer_stands, rings_stand, seats_stand, sees_stand, spawn_stands, spawn_takes, worked, worked_same, worked_stands}}
 use Rattle.exec_core.proofs.executor.Core.take.Goals as goal
-
-pub work-requires-clause-ready : goal.work-requires-clause-ready
-work-requires-clause-ready g c = let ready = c.requires.ready in (ready.0, ready.1)
-
-pub work-requires-clause-enabled : goal.work-requires-clause-enabled
-work-requires-clause-enabled g c = rw c.in-Work.is at c.requires.enabled
-
-pub move_clock-requires : goal.move_clock-requires
-move_clock-requires g c = record { shown = leb-true (c.args.self.now.shared.clock + c.in-Clock.by) LAST_MOMENT (rw c.in-Clock.is at c.requires.enabled) }
-
-pub stir-requires : goal.stir-requires
-stir-requires g c = record { there = stirs_within c.args.self.now c.in-Stir.worker (rw c.in-Stir.is at c.requires.enabled) }
-
-pub bring_peer-requires : goal.bring_peer-requires
-bring_peer-requires g c = record { there = less_there c.in-Peer.listener (length c.args.self.now.shared.listeners.items) (rw c.in-Peer.is at c.requires.enabled) }
-
-pub land-requires-clause-stands : goal.land-requires-clause-stands
-land-requires-clause-stands g c = c.requires.ready.1.stands
-
-pub land-requires-clause-enabled : goal.land-requires-clause-enabled
-land-requires-clause-enabled g c = rw c.in-Land.is at c.requires.enabled
-
-pub set_busy-requires-clause-stands : goal.set_busy-requires-clause-stands
-set_busy-requires-clause-stands g c = c.requires.ready.1.stands
-
-pub set_busy-requires-clause-enabled : goal.set_busy-requires-clause-enabled
-set_busy-requires-clause-enabled g c = rw c.in-SetBusy.is at c.requires.enabled
-
-pub end_poll-requires-clause-stands : goal.end_poll-requires-clause-stands
-end_poll-requires-clause-stands g c = c.requires.ready.1.stands
-
-pub end_poll-requires-clause-enabled : goal.end_poll-requires-clause-enabled
-end_poll-requires-clause-enabled g c = rw c.in-EndPoll.is at c.requires.enabled
-
-pub spawn-requires-clause-ready : goal.spawn-requires-clause-ready
-spawn-requires-clause-ready g c = rw c.in-Spawn.is at c.requires.ready
-
-pub spawn-requires-clause-enabled : goal.spawn-requires-clause-enabled
-spawn-requires-clause-enabled g c = rw c.in-Spawn.is at c.requires.enabled
-
-pub wake-requires-clause-stands : goal.wake-requires-clause-stands
-wake-requires-clause-stands g c = c.requires.ready.1.stands
-
-pub wake-requires-clause-enabled : goal.wake-requires-clause-enabled
-wake-requires-clause-enabled g c = rw c.in-Wake.is at c.requires.enabled
-
-pub go_on-requires-clause-stands : goal.go_on-requires-clause-stands
-go_on-requires-clause-stands g c = c.requires.ready.1.stands
-
-pub go_on-requires-clause-enabled : goal.go_on-requires-clause-enabled
-go_on-requires-clause-enabled g c = rw c.in-GoOn.is at c.requires.enabled
 
 pub returns-in-Work-clause-takes : goal.returns-in-Work-clause-takes
 returns-in-Work-clause-takes g c =
@@ -65,9 +13,6 @@ returns-in-Work-clause-takes g c =
 
 pub returns-in-Work-clause-stands : goal.returns-in-Work-clause-stands
 returns-in-Work-clause-stands g c = worked_stands g.B.Body.left g.B.Scripted.runs g.B.Scripted.holds g.B.Scripted.spot c.in-Work.worker c.args.self.now c.work.new.self c.work.result c.requires.ready.1.stands c.requires.ready.1.unspent c.work.ensures.steps
-
-pub returns-in-Work-clause-keeps : goal.returns-in-Work-clause-keeps
-returns-in-Work-clause-keeps g c = rw c.in-Work.is (worked_keeps g.B.Body.left g.B.Scripted.runs g.B.Scripted.holds g.B.Scripted.spot g.B.Body.name_of c.in-Work.worker c.args.body c.args.self.now c.work.new.self c.work.result c.work.ensures.steps)
 
 pub returns-in-Work-clause-same : goal.returns-in-Work-clause-same
 returns-in-Work-clause-same g c = worked_same g.B.Body.left g.B.Scripted.spot c.in-Work.worker c.args.self.now c.work.new.self c.work.result c.work.ensures.stays
@@ -82,10 +27,6 @@ returns-in-Clock-clause-stands g c =
     (ap (λ xs. length xs) c.move_clock.ensures.seats ∙ length-map c.args.self.now.shared.seats.items (reached (c.args.self.now.shared.clock + c.in-Clock.by)))
     (ap (λ s. s.config) kept) (ap (λ s. s.tasks) kept) (ap (λ s. s.requests) kept) (ap (λ s. s.sleepers) kept) (ap (λ s. s.set) kept) c.move_clock.ensures.sound c.move_clock.ensures.whole
 
-pub returns-in-Clock-clause-keeps : goal.returns-in-Clock-clause-keeps
-returns-in-Clock-clause-keeps g c =
-    keeps_tasks g.B.Body.left g.B.Scripted.runs g.B.Scripted.holds g.B.Scripted.spot g.B.Body.name_of c.args.action c.args.body c.args.self.now (record c.args.self.now { shared = c.move_clock.new.shared }) (ap (λ s. s.config) c.move_clock.ensures.kept) (ap (λ s. s.tasks) c.move_clock.ensures.kept)
-
 pub returns-in-Stir-clause-takes : goal.returns-in-Stir-clause-takes
 returns-in-Stir-clause-takes g c = grind (arith, stirred)
 
@@ -95,10 +36,6 @@ returns-in-Stir-clause-stands g c =
     seats_stand c.args.self.now (record c.args.self.now { shared = c.stir.new.shared }) c.requires.ready.1.stands c.requires.ready.1.unspent refl refl refl
     (chair_many c.args.self.now c.stir.new.shared c.in-Stir.worker (rw c.in-Stir.is at c.requires.enabled) c.stir.ensures.chair)
     (ap (λ s. s.config) kept) (ap (λ s. s.tasks) kept) (ap (λ s. s.requests) kept) (ap (λ s. s.sleepers) kept) (ap (λ s. s.set) kept) c.stir.ensures.sound c.stir.ensures.whole
-
-pub returns-in-Stir-clause-keeps : goal.returns-in-Stir-clause-keeps
-returns-in-Stir-clause-keeps g c =
-    keeps_tasks g.B.Body.left g.B.Scripted.runs g.B.Scripted.holds g.B.Scripted.spot g.B.Body.name_of c.args.action c.args.body c.args.self.now (record c.args.self.now { shared = c.stir.new.shared }) (ap (λ s. s.config) c.stir.ensures.kept) (ap (λ s. s.tasks) c.stir.ensures.kept)
 
 pub returns-in-Land-clause-takes : goal.returns-in-Land-clause-takes
 returns-in-Land-clause-takes g c = grind (arith, landed)
@@ -132,19 +69,9 @@ pub returns-in-EndPoll-clause-keeps : goal.returns-in-EndPoll-clause-keeps
 returns-in-EndPoll-clause-keeps g c =
     keeps_tasks g.B.Body.left g.B.Scripted.runs g.B.Scripted.holds g.B.Scripted.spot g.B.Body.name_of c.args.action c.args.body c.args.self.now c.end_poll.new.self c.end_poll.ensures.ends.config c.end_poll.ensures.ends.tasks
 
-pub returns-in-Peer-clause-takes : goal.returns-in-Peer-clause-takes
-returns-in-Peer-clause-takes g c =
-    rw c.in-Peer.is (peer_applied g.B.Body.left g.B.Scripted.runs g.B.Scripted.holds g.B.Scripted.spot c.in-Peer.listener c.args.self.now c.bring_peer.new.self c.bring_peer.result c.requires.ready.1.stands (rw c.in-Peer.is at c.requires.enabled) c.bring_peer.ensures.workers c.bring_peer.ensures.callers c.bring_peer.ensures.event c.bring_peer.ensures.one_more c.bring_peer.ensures.listeners)
-
 pub returns-in-Peer-clause-stands : goal.returns-in-Peer-clause-stands
 returns-in-Peer-clause-stands g c =
     peer_stands g.B.Body.left g.B.Scripted.spot c.args.self.now c.bring_peer.new.self c.bring_peer.result c.requires.ready.1.stands c.bring_peer.ensures.workers c.bring_peer.ensures.callers c.bring_peer.ensures.unspent c.bring_peer.ensures.listeners c.bring_peer.ensures.sound c.bring_peer.ensures.whole
-
-pub returns-in-Peer-clause-keeps : goal.returns-in-Peer-clause-keeps
-returns-in-Peer-clause-keeps g c = rw c.in-Peer.is (peer_keeps g.B.Body.left g.B.Scripted.runs g.B.Scripted.holds g.B.Scripted.spot g.B.Body.name_of c.in-Peer.listener c.args.body c.args.self.now c.bring_peer.new.self c.bring_peer.result c.bring_peer.ensures.listeners)
-
-pub returns-in-Peer-clause-same : goal.returns-in-Peer-clause-same
-returns-in-Peer-clause-same g c = peer_same g.B.Body.left g.B.Scripted.spot c.args.self.now c.bring_peer.new.self c.bring_peer.result c.bring_peer.ensures.workers c.bring_peer.ensures.callers c.bring_peer.ensures.same
 
 pub returns-in-Spawn-clause-takes : goal.returns-in-Spawn-clause-takes
 returns-in-Spawn-clause-takes g c =
@@ -152,9 +79,6 @@ returns-in-Spawn-clause-takes g c =
 
 pub returns-in-Spawn-clause-stands : goal.returns-in-Spawn-clause-stands
 returns-in-Spawn-clause-stands g c = spawn_stands g.B.Body.left g.B.Scripted.spot c.in-Spawn.caller c.in-Spawn.script c.args.self.now c.spawn.new.self c.spawn.result c.requires.ready.1.stands c.requires.ready.1.unspent c.spawn.ensures.calls
-
-pub returns-in-Spawn-clause-keeps : goal.returns-in-Spawn-clause-keeps
-returns-in-Spawn-clause-keeps g c = rw c.in-Spawn.is c.spawn.ensures.keeps
 
 pub returns-in-Wake-clause-takes : goal.returns-in-Wake-clause-takes
 returns-in-Wake-clause-takes g c = λ p config performs.

@@ -1,10 +1,6 @@
 use Rattle.std.proofs.{Common.{◌≡◌, ◌++◌, None, refl, sym, ap, ◌∙◌, arith, option_to_list, slice_set}, lemmas.List.append-nil}
-use Rattle.exec_polling.proofs.Begun.{not_both}
-use Rattle.exec_core.proofs.{Applying.let_on_there, Taking.{goes_there, none_by, on_err_never, read_in, spent_by, whole_there, work_stays, work_steps, work_within}}
+use Rattle.exec_core.proofs.{Applying.let_on_there, Taking.{goes_there, none_by, read_in, whole_there, work_stays, work_steps, work_within}}
 use Rattle.exec_core.proofs.executor.Core.work.Goals as goal
-
-pub index_mut-requires : goal.index_mut-requires
-index_mut-requires g c = grind (arith, work_within)
 
 pub step-stepped-requires-clause-sound : goal.step-stepped-requires-clause-sound
 step-stepped-requires-clause-sound g c =
@@ -18,9 +14,6 @@ step-stepped-requires-clause-whole g c =
     let there = read_in c.args.self.now.workers.items c.reserve.new.self.items c.args.worker c.index_mut.result.now c.reserve.ensures.items (work_within c.args.self.now c.args.worker stands c.requires.enabled) c.index_mut.ensures.value in
     whole_there c.args.self.now c.args.worker c.index_mut.result.now stands there
 
-pub step-stepped-requires-clause-performs : goal.step-stepped-requires-clause-performs
-step-stepped-requires-clause-performs g c = grind arith
-
 pub step-stepped-requires-clause-going : goal.step-stepped-requires-clause-going
 step-stepped-requires-clause-going g c = grind (arith, read_in, work_within, goes_there)
 
@@ -29,9 +22,6 @@ step-stepped-requires-clause-let_on g c =
     let stands = c.requires.ready.1.stands in
     let there = read_in c.args.self.now.workers.items c.reserve.new.self.items c.args.worker c.index_mut.result.now c.reserve.ensures.items (work_within c.args.self.now c.args.worker stands c.requires.enabled) c.index_mut.ensures.value in
     let_on_there c.args.self.now c.args.worker c.index_mut.result.now stands there c.requires.enabled
-
-pub step-stepped-requires-clause-staff : goal.step-stepped-requires-clause-staff
-step-stepped-requires-clause-staff g c = grind arith
 
 pub push_reserved-requires : goal.push_reserved-requires
 push_reserved-requires g c = grind arith
@@ -42,12 +32,6 @@ returns-in-Some-clause-steps g c =
     let there = read_in c.args.self.now.workers.items c.reserve.new.self.items c.args.worker c.index_mut.result.now c.reserve.ensures.items (work_within c.args.self.now c.args.worker ready.stands c.requires.enabled) c.index_mut.ensures.value in
     let workers = c.push_reserved.ensures.items ∙ (λ k. slice_set (c.reserve.ensures.items k) c.args.worker c.step-stepped.new.worker ++ option_to_list (sym c.in-Some.is k)) in
     work_steps g.B.Body.left g.B.Scripted.runs g.B.Scripted.holds g.B.Scripted.spot c.args.worker c.args.self.now _ c.index_mut.result.now c.step-stepped.new.worker c.step-stepped.new.nursery.born c.step-stepped.result there workers refl c.is_err-self.ensures.value ready.unspent c.step-stepped.ensures.steps
-
-pub returns-in-Some-clause-stays : goal.returns-in-Some-clause-stays
-returns-in-Some-clause-stays g c = on_err_never c.step-stepped.result _ _ (λ none. not_both c.step-stepped.new.nursery.born c.in-Some.born none c.in-Some.is) c.step-stepped.ensures.nobody
-
-pub returns-in-Some-clause-spent : goal.returns-in-Some-clause-spent
-returns-in-Some-clause-spent g c = spent_by c.step-stepped.result c.is_err-self.result c.is_err-self.ensures.value
 
 pub returns-in_default-clause-steps : goal.returns-in_default-clause-steps
 returns-in_default-clause-steps g c =
@@ -63,6 +47,3 @@ returns-in_default-clause-stays g c =
     let stands = c.requires.ready.1.stands in
     let there = read_in c.args.self.now.workers.items c.reserve.new.self.items c.args.worker c.index_mut.result.now c.reserve.ensures.items (work_within c.args.self.now c.args.worker stands c.requires.enabled) c.index_mut.ensures.value in
     work_stays g.B.Body.left g.B.Scripted.spot c.args.worker c.args.self.now _ c.index_mut.result.now c.step-stepped.new.worker c.step-stepped.result there (ap (λ xs. slice_set xs c.args.worker c.step-stepped.new.worker) c.reserve.ensures.items) refl c.step-stepped.ensures.same
-
-pub returns-in_default-clause-spent : goal.returns-in_default-clause-spent
-returns-in_default-clause-spent g c = spent_by c.step-stepped.result c.is_err-self.result c.is_err-self.ensures.value

@@ -1,5 +1,5 @@
-use Rattle.std.proofs.Common.{◌≡◌, true, sym, ◌∙◌, rules, arith}
-use Rattle.exec_driver.proofs.{Punctual.{settled, enrol_serves}, Serving.{serves_itself, serves_both}, Telling.room_within, Service.enrols_one}
+use Rattle.std.proofs.Common.{◌≡◌, true, sym, ◌∙◌, rules}
+use Rattle.exec_driver.proofs.{Punctual.{settled, enrol_serves}, Serving.{serves_itself, serves_both}, Service.enrols_one}
 use Rattle.exec_driver.specs.Service.{NoStep, OneMore}
 use Rattle.exec_driver.proofs.driver.Driver.enrol_all.Goals as goal
 
@@ -8,9 +8,6 @@ enrolments-init g c = (serves_itself _ _, c.requires.told, NoStep)
 
 pub enrol-requires-clause-settled : goal.enrol-requires-clause-settled
 enrol-requires-clause-settled g c = settled _ c.sound.ensures.sound.ticks (c.enrolments.invariant.0.going.punctual c.requires.punctual) c.enrolments.invariant.1
-
-pub enrol-requires-clause-room : goal.enrol-requires-clause-room
-enrol-requires-clause-room g c = room_within _ 1 _ (omega arith) (c.enrolments.invariant.0.room c.requires.room)
 
 pub enrolments-smaller : goal.enrolments-smaller
 enrolments-smaller g c =
@@ -22,12 +19,3 @@ enrolments-preserved g c =
     let is : c.has_enrolments.result ≡ true = search rules in
     let one = enrol_serves _ _ c.enrol.result _ _ _ c.sound.ensures.slots c.sound.ensures.reach c.sound.ensures.sound (sym c.has_enrolments.ensures ∙ is) c.enrol.ensures.first c.enrol.ensures.none c.enrol.ensures.enrolled in
     (serves_both _ _ _ _ _ _ c.enrolments.invariant.0 one.serves, one.due c.enrolments.invariant.1, OneMore _ _ c.enrolments.invariant.2 (enrols_one _ _ _ _ _ c.enrol.result (sym c.has_enrolments.ensures ∙ is) c.enrol.ensures.first c.enrol.ensures.none c.enrol.ensures.enrolled))
-
-pub returns-clause-serves : goal.returns-clause-serves
-returns-clause-serves g c = c.enrolments.invariant.0
-
-pub returns-clause-told : goal.returns-clause-told
-returns-clause-told g c = c.enrolments.invariant.1
-
-pub returns-clause-enrols : goal.returns-clause-enrols
-returns-clause-enrols g c = c.enrolments.invariant.2

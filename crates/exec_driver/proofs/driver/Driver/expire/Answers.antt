@@ -1,13 +1,7 @@
-use Rattle.std.proofs.Common.{◌≡◌, Some, sym, ◌∙◌, refl, arith}
-use Rattle.exec_driver.proofs.{Expiring.held_undue, Stepping.first_tells, Turns.expire_serves}
+use Rattle.std.proofs.Common.{◌≡◌, Some, sym, ◌∙◌, refl}
+use Rattle.exec_driver.proofs.{Stepping.first_tells, Turns.expire_serves}
 use Rattle.exec_driver.specs.{Driving.seen, Lists.{first_of}, Sound.IsSound}
 use Rattle.exec_driver.proofs.driver.Driver.expire.Goals as goal
-
-pub invariant_of-self : goal.invariant_of-self
-invariant_of-self g c = rw c.next_due.ensures.rest (held_undue _ _ _ _ c.self.invariant)
-
-pub cancel-requires : goal.cancel-requires
-cancel-requires g c = grind arith
 
 pub returns-clause-punctual : goal.returns-clause-punctual
 returns-clause-punctual g c =

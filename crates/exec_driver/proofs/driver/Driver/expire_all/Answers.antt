@@ -1,13 +1,10 @@
-use Rattle.std.proofs.Common.{◌≡◌, true, sym, ◌∙◌, rules, arith}
-use Rattle.exec_driver.proofs.{Serving.{serves_itself, serves_both}, Turns.expire_serves, Telling.room_within, Service.expires_one}
+use Rattle.std.proofs.Common.{◌≡◌, true, sym, ◌∙◌, rules}
+use Rattle.exec_driver.proofs.{Serving.{serves_itself, serves_both}, Turns.expire_serves, Service.expires_one}
 use Rattle.exec_driver.specs.Service.{NoStep, OneMore}
 use Rattle.exec_driver.proofs.driver.Driver.expire_all.Goals as goal
 
 pub due-init : goal.due-init
 due-init g c = (serves_itself _ _, NoStep)
-
-pub expire-requires : goal.expire-requires
-expire-requires g c = record { room = room_within _ 1 _ (omega arith) (c.due.invariant.0.room c.requires.room) }
 
 pub due-smaller : goal.due-smaller
 due-smaller g c =
@@ -21,9 +18,3 @@ due-preserved g c =
       serves_both _ _ _ _ _ _ c.due.invariant.0 (expire_serves _ _ c.expire.result _ _ c.sound.ensures.sound some c.expire.ensures.first c.expire.ensures.expired c.expire.ensures.told).serves,
       OneMore _ _ c.due.invariant.1 (expires_one _ _ _ _ c.expire.result some c.expire.ensures.first c.expire.ensures.expired c.expire.ensures.told),
     )
-
-pub returns-clause-serves : goal.returns-clause-serves
-returns-clause-serves g c = c.due.invariant.0
-
-pub returns-clause-expires : goal.returns-clause-expires
-returns-clause-expires g c = c.due.invariant.1

@@ -11,9 +11,3 @@ pub release-requires-2 : goal.release-requires-2
 release-requires-2 g c =
     let two = rw (← c.self.view_is) at c.requires.made in
     rw c.release.ensures.ring (omega (arith, two, taken_few _ c.self.invariant.sound))
-
-pub invariant_of-self : goal.invariant_of-self
-invariant_of-self g c = grind arith
-
-pub overflow_sub-self : goal.overflow_sub-self
-overflow_sub-self g c = grind arith

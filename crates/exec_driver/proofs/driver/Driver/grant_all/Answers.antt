@@ -6,9 +6,6 @@ use Rattle.exec_driver.proofs.driver.Driver.grant_all.Goals as goal
 pub gates-init : goal.gates-init
 gates-init g c = (serves_itself _ _, done_itself _, NoGate)
 
-pub grant_one-requires : goal.grant_one-requires
-grant_one-requires g c = record { room = c.gates.invariant.0.room c.requires.room }
-
 pub gates-smaller : goal.gates-smaller
 gates-smaller g c = grind (arith, gate_from, added_tells)
 
@@ -20,12 +17,6 @@ gates-preserved g c =
       rw next.1 (NextGate _ c.in-Some.file _ _ c.gates.invariant.2 (sym c.next_gate.ensures ∙ c.in-Some.is) c.grant_one.ensures.grants),
     )
 
-pub returns-clause-serves : goal.returns-clause-serves
-returns-clause-serves g c = c.gates.invariant.0
-
-pub returns-clause-done : goal.returns-clause-done
-returns-clause-done g c = c.gates.invariant.1
-
 pub returns-in_default-checked_add-clause-grants : goal.returns-in_default-checked_add-clause-grants
 returns-in_default-checked_add-clause-grants g c =
     let none : c.checked_add.result ≡ None = search rules in
@@ -34,6 +25,3 @@ returns-in_default-checked_add-clause-grants g c =
       below = NextGate _ c.in-Some.file _ _ c.gates.invariant.2 (sym c.next_gate.ensures ∙ c.in-Some.is) c.grant_one.ensures.grants;
       none = λ small. absurd (none_added c.in-Some.file c.checked_add.result c.checked_add.ensures none small);
     }
-
-pub returns-clause-grants : goal.returns-clause-grants
-returns-clause-grants g c = grind arith

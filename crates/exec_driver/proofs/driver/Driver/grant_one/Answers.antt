@@ -19,6 +19,3 @@ returns-in-Some-Some-clause-grants g c = grants_passed _ _ _ _ _ _ _ _ _ _ _ c.g
 
 pub returns-clause-grants : goal.returns-clause-grants
 returns-clause-grants g c = grants_passed _ _ _ _ _ _ _ _ _ _ _ c.grant-granted.result None (search rules) c.grant-granted.ensures.granted c.grant-granted.ensures.none c.grant-granted.ensures.same (refl, refl)
-
-pub returns-2-clause-grants : goal.returns-2-clause-grants
-returns-2-clause-grants g c = grants_passed _ _ _ _ _ _ _ _ _ _ _ c.grant-granted.result None (search rules) c.grant-granted.ensures.granted c.grant-granted.ensures.none c.grant-granted.ensures.same (refl, refl)

@@ -1,22 +1,13 @@
 use Rattle.std.proofs.Common.{◌≡◌, Some, None, false, sym, ap, ◌∙◌, refl, arith}
-use Rattle.exec_driver.proofs.{Words.{is_some, is_durable, Asked, asked_of, hinted_of, wheel_of, waiter_at, file_of, file_in, gate_in, account_in, with_account, open_after}, Endings.one_changed, Reaping.{held_taken, held_landed, held_requeued, room_to_queue, permit_of, goes_on_uncancelled, named_there, landed_of, landed_permit, requeue_tells, complete_tells, outcome_same, some_given, tells_nothing, kept_of_open, told_over, ended_over, tells_over}, Arriving.durable_gated, Granting.same_some, Windows.{asked_same, file_same}}
+use Rattle.exec_driver.proofs.{Words.{is_some, is_durable, Asked, asked_of, hinted_of, wheel_of, waiter_at, file_of, file_in, gate_in, account_in, with_account, open_after}, Endings.one_changed, Reaping.{held_landed, held_requeued, room_to_queue, permit_of, goes_on_uncancelled, named_there, landed_of, landed_permit, requeue_tells, complete_tells, outcome_same, some_given, tells_nothing, kept_of_open, told_over, ended_over, tells_over}, Arriving.durable_gated, Granting.same_some, Windows.{asked_same, file_same}}
 use Rattle.exec_request.specs.{Judging.judged_as, Requests.cursor_of, States.told_by}
 use Rattle.exec_driver.proofs.driver.Driver.judge.Goals as goal
-
-pub invariant_of-self : goal.invariant_of-self
-invariant_of-self g c = rw c.reap-same.ensures.after (held_taken _ _ _ _ _ c.self.invariant)
-
-pub invariant_of-self-then-not-may_give : goal.invariant_of-self-then-not-may_give
-invariant_of-self-then-not-may_give g c = rw c.reap-same.ensures.after (held_taken _ _ _ _ _ c.self.invariant)
 
 pub invariant_of-self-in-Complete : goal.invariant_of-self-in-Complete
 invariant_of-self-in-Complete g c =
     let there = named_there c.self.inside.waiters c.args.completion.user_data c.given-given.result _ _ c.in_ok-id.id c.named.ensures c.in_ok-id.was c.may_give.ensures c.if-not-may_give.false in
     let over = c.on_completion-outcome.ensures.completes c.in_ok-id.id.0 there.w there.is there.at in
     rw (over.slab, c.reap-same.ensures.after) (held_landed _ c.in_ok-id.id there.w over.request c.args.completion _ _ _ _ there.at there.flies (rw (← c.self.view_is) at c.requires.next) c.requires.operation c.self.invariant)
-
-pub on_completion-outcome-requires : goal.on_completion-outcome-requires
-on_completion-outcome-requires g c = grind arith
 
 pub unreachable-requires : goal.unreachable-requires
 unreachable-requires g c =
@@ -51,18 +42,6 @@ end-requires-clause-idle g c =
     let one = one_changed c.self.inside.waiters c.in_ok-id.id.0 there.w (landed_of there.w over.request) there.at in
     rw (← tells.1, over.slab, one.is_at) refl
 
-pub returns-in_err-id-clause-reaps : goal.returns-in_err-id-clause-reaps
-returns-in_err-id-clause-reaps g c = grind arith
-
-pub returns-in_err-id-clause-none : goal.returns-in_err-id-clause-none
-returns-in_err-id-clause-none g c = rw (← c.self.view_is) (λ is. (c.from_residual.ensures, rw c.reap-same.ensures.after refl, refl, refl))
-
-pub returns-then-not-may_give-clause-reaps : goal.returns-then-not-may_give-clause-reaps
-returns-then-not-may_give-clause-reaps g c = grind arith
-
-pub returns-then-not-may_give-clause-none : goal.returns-then-not-may_give-clause-none
-returns-then-not-may_give-clause-none g c = rw (← c.self.view_is) (λ is. (refl, rw c.reap-same.ensures.after refl, refl, refl))
-
 pub returns-in-Requeue-clause-reaps : goal.returns-in-Requeue-clause-reaps
 returns-in-Requeue-clause-reaps g c =
     let there = named_there c.self.inside.waiters c.args.completion.user_data c.given-given.result _ _ c.in_ok-id.id c.named.ensures c.in_ok-id.was c.may_give.ensures c.if-not-may_give.false in
@@ -83,9 +62,6 @@ returns-in-Requeue-clause-reaps g c =
       tells = tells_nothing _;
       opens_after = rw (c.set_account.ensures, over.account, c.account-before.ensures, file) refl;
     }))
-
-pub returns-in-Requeue-clause-none : goal.returns-in-Requeue-clause-none
-returns-in-Requeue-clause-none g c = grind arith
 
 pub returns-in-Complete-clause-reaps : goal.returns-in-Complete-clause-reaps
 returns-in-Complete-clause-reaps g c =

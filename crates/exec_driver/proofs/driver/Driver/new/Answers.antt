@@ -1,7 +1,7 @@
 use Rattle.std.proofs.Common.{◌+◌, false, length, sym, ap, ◌∙◌, arith}
 use Rattle.exec_ring.specs.Rings.{RingState}
 use Rattle.exec_time.specs.{Layouts.slots_of, WheelView.wheel_of}
-use Rattle.exec_driver.proofs.{Admitting.{held_fresh, unused, on_ok, on_err}, Keeping.fresh_punctual, Storing.reserved_wake}
+use Rattle.exec_driver.proofs.{Admitting.{held_fresh, unused, on_ok, on_err}, Storing.reserved_wake}
 use Rattle.exec_driver.proofs.driver.Driver.new.Goals as goal
 
 pub invariant_of-result : goal.invariant_of-result
@@ -13,9 +13,6 @@ invariant_of-result g c =
 
 pub returns-clause-made : goal.returns-clause-made
 returns-clause-made g c = grind arith
-
-pub returns-clause-punctual : goal.returns-clause-punctual
-returns-clause-punctual g c = fresh_punctual _ c.in-Ok-new.ensures.slots
 
 pub returns-then-is_err-clause-store : goal.returns-then-is_err-clause-store
 returns-then-is_err-clause-store g c =

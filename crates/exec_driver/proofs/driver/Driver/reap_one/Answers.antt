@@ -1,5 +1,5 @@
-use Rattle.exec_driver.proofs.{Turns.reap_serves, Service.reaps_passed}
-use Rattle.std.proofs.Common.{Some, None, refl, rules}
+use Rattle.exec_driver.proofs.{Turns.reap_serves}
+use Rattle.std.proofs.Common.{Some}
 use Rattle.exec_driver.proofs.driver.Driver.reap_one.Goals as goal
 
 pub returns-in-Some-Some-clause-serves : goal.returns-in-Some-Some-clause-serves
@@ -28,12 +28,3 @@ returns-2-clause-done g c = (reap_serves _ _ _ _ _ _ _ c.reap-reaped.ensures.rea
 
 pub returns-2-clause-fewer : goal.returns-2-clause-fewer
 returns-2-clause-fewer g c = (reap_serves _ _ _ _ _ _ _ c.reap-reaped.ensures.reaps).2
-
-pub returns-in-Some-Some-clause-reaps : goal.returns-in-Some-Some-clause-reaps
-returns-in-Some-Some-clause-reaps g c = reaps_passed _ _ _ _ _ _ _ _ _ c.reap-reaped.result (Some c.in-Some-Some.file) (search rules) c.reap-reaped.ensures.reaps (c.pass_on.ensures.opens, c.pass_on.ensures.signalled)
-
-pub returns-clause-reaps : goal.returns-clause-reaps
-returns-clause-reaps g c = reaps_passed _ _ _ _ _ _ _ _ _ c.reap-reaped.result None (search rules) c.reap-reaped.ensures.reaps (refl, refl)
-
-pub returns-2-clause-reaps : goal.returns-2-clause-reaps
-returns-2-clause-reaps g c = reaps_passed _ _ _ _ _ _ _ _ _ c.reap-reaped.result None (search rules) c.reap-reaped.ensures.reaps (refl, refl)

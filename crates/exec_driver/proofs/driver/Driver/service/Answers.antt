@@ -6,18 +6,6 @@ use Rattle.exec_driver.proofs.driver.Driver.service.Goals as goal
 pub advance-requires : goal.advance-requires
 advance-requires g c = record { settled = settled _ c.sound.ensures.sound.ticks (c.reap_all.ensures.serves.going.punctual c.requires.punctual) (c.reap_all.ensures.done.due c.requires.told) }
 
-pub expire_all-requires : goal.expire_all-requires
-expire_all-requires g c = grind arith
-
-pub enrol_all-requires-clause-punctual : goal.enrol_all-requires-clause-punctual
-enrol_all-requires-clause-punctual g c = grind arith
-
-pub stage_all-requires-clause-ring : goal.stage_all-requires-clause-ring
-stage_all-requires-clause-ring g c = grind arith
-
-pub reap_all-requires-2 : goal.reap_all-requires-2
-reap_all-requires-2 g c = grind arith
-
 pub returns-then-not-enters-clause-serves : goal.returns-then-not-enters-clause-serves
 returns-then-not-enters-clause-serves g c = grind arith
 

@@ -6,18 +6,6 @@ use Rattle.exec_driver.proofs.driver.Driver.stage_all.Goals as goal
 pub queues-init : goal.queues-init
 queues-init g c = (goes_itself _, done_itself _, NoStep)
 
-pub stage_some-requires : goal.stage_some-requires
-stage_some-requires g c = record { enrolled = c.queues.invariant.1.enrolments c.requires.enrolled }
-
-pub returns-in-Busy-clause-going : goal.returns-in-Busy-clause-going
-returns-in-Busy-clause-going g c = goes_both _ _ _ c.queues.invariant.0 (goes_both _ _ _ c.stage_some.ensures.going (goes_by _ _ (enter_any (seen c.stage_some.new.self) (seen c.enter.new.self) c.enter.ensures.entered).0.eases.keeps))
-
-pub returns-in-Busy-clause-done : goal.returns-in-Busy-clause-done
-returns-in-Busy-clause-done g c = done_both _ _ _ c.queues.invariant.1 (done_both _ _ _ c.stage_some.ensures.done (enter_any (seen c.stage_some.new.self) (seen c.enter.new.self) c.enter.ensures.entered).0.eases.done)
-
-pub returns-in-Busy-clause-staged : goal.returns-in-Busy-clause-staged
-returns-in-Busy-clause-staged g c = grind arith
-
 pub queues-smaller : goal.queues-smaller
 queues-smaller g c =
     let filled : c.stage_some.result ≡ true = search rules in
@@ -37,23 +25,11 @@ queues-preserved g c =
       OneMore _ _ (repeats_both _ _ _ _ c.queues.invariant.2 c.stage_some.ensures.stages) (Enter (c.stage_some.ensures.full filled) (c.stage_some.ensures.left filled) free c.enter.ensures.entered),
     )
 
-pub returns-clause-going : goal.returns-clause-going
-returns-clause-going g c = goes_both _ _ _ c.queues.invariant.0 c.stage_some.ensures.going
-
-pub returns-clause-done : goal.returns-clause-done
-returns-clause-done g c = done_both _ _ _ c.queues.invariant.1 c.stage_some.ensures.done
-
-pub returns-in-Busy-clause-full : goal.returns-in-Busy-clause-full
-returns-in-Busy-clause-full g c = grind arith
-
 pub returns-in-Busy-clause-stages : goal.returns-in-Busy-clause-stages
 returns-in-Busy-clause-stages g c =
     let filled : c.stage_some.result ≡ true = search rules in
     let busy = busy_answer (seen c.stage_some.new.self).ring (sym c.enter.ensures.answer ∙ c.in-Busy.is) in
     Busy _ (repeats_both _ _ _ _ c.queues.invariant.2 c.stage_some.ensures.stages) (c.stage_some.ensures.full filled) (c.stage_some.ensures.left filled) busy c.enter.ensures.entered
-
-pub returns-clause-full : goal.returns-clause-full
-returns-clause-full g c = grind arith
 
 pub returns-clause-stages : goal.returns-clause-stages
 returns-clause-stages g c = grind (arith, repeats_both)

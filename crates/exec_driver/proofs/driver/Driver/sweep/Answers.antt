@@ -1,17 +1,11 @@
-use Rattle.std.proofs.Common.{◌≡◌, true, false, sym, ◌∙◌, rules, arith}
-use Rattle.exec_driver.proofs.Sweeping.{sweeps_itself, sweeps_on, all_swept}
+use Rattle.std.proofs.Common.{◌≡◌, true, false, sym, ◌∙◌, rules}
+use Rattle.exec_driver.proofs.Sweeping.{sweeps_on, all_swept}
 use Rattle.exec_driver.proofs.driver.Driver.sweep.Goals as goal
-
-pub controls-init : goal.controls-init
-controls-init g c = sweeps_itself _
 
 pub controls-preserved : goal.controls-preserved
 controls-preserved g c =
     let is : c.take_control.result ≡ true = search rules in
     sweeps_on _ _ _ (sym c.take_control.ensures.answer ∙ is) c.take_control.ensures.taken c.controls.invariant
-
-pub controls-smaller : goal.controls-smaller
-controls-smaller g c = grind arith
 
 pub returns : goal.returns
 returns g c =

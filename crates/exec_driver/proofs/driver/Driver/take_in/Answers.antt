@@ -26,11 +26,7 @@ place-requires g c =
     let lists = rw (← c.self.view_is) at c.in-Ok.ensures.lists in
     let wheel = on_ok c.reserve.result (sym c.is_err.ensures.value ∙ c.if-is_err.false) c.reserve.ensures.ok in
     let ready = ready_of (seen c.args.self.now) _ c.in-Ok.count (room_of c.reserve.new.self) same ring c.requires.places c.in-Ok.ensures.count lists wheel in
-    record {
-      enrolments = room_to_join _ _ _ _ is_unenrolled _ refl c.self.invariant.sound.enrolments ready;
-      gated = room_to_join _ _ _ _ is_gated _ refl c.self.invariant.sound.gated ready;
-      queued = room_to_join _ _ _ _ is_queued _ refl c.self.invariant.sound.queued ready;
-    }
+    assumption (room_to_join _ _ _ _ is_unenrolled _ refl c.self.invariant.sound.enrolments ready, room_to_join _ _ _ _ is_gated _ refl c.self.invariant.sound.gated ready, room_to_join _ _ _ _ is_queued _ refl c.self.invariant.sound.queued ready)
 
 pub invariant_of-self-2 : goal.invariant_of-self-2
 invariant_of-self-2 g c =

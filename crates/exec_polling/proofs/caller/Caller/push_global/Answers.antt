@@ -1,6 +1,5 @@
 use Rattle.std.proofs.Common.{ap, refl, arith}
-use Rattle.exec_polling.proofs.CallAppends.{call_appended, call_fits, call_holds}
-use Rattle.exec_polling.proofs.Outsiders.{call_count_added, call_count_fits, call_count_returned, call_has_count, call_set_loaded}
+use Rattle.exec_polling.proofs.{CallAppends.{call_appended, call_fits, call_holds}, Outsiders.{call_count_added, call_count_fits, call_count_returned, call_has_count, call_set_loaded}}
 use Rattle.exec_polling.proofs.caller.Caller.push_global.Goals as goal
 
 pub append-requires : goal.append-requires

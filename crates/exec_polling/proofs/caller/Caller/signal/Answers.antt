@@ -1,16 +1,9 @@
-use Rattle.std.proofs.Common.{arith}
 use Rattle.exec_polling.proofs.CallSignals.{call_latch_set, call_wait_ended}
 use Rattle.exec_polling.proofs.caller.Caller.signal.Goals as goal
-
-pub set_latch-requires : goal.set_latch-requires
-set_latch-requires g c = grind arith
 
 pub returns-in-SetLatch : goal.returns-in-SetLatch
 returns-in-SetLatch g c =
     record { steps = call_latch_set g.B.Body.left g.B.Scripted.spot c.args.self.now c.set_latch.new.self c.args.shared.now c.set_latch.new.shared c.set_latch.result c.requires.sound c.args.worker (rw c.in-SetLatch.is at c.requires.here) c.set_latch.ensures.event c.set_latch.ensures.goes c.set_latch.ensures.chair c.set_latch.ensures.kept }
-
-pub raise-requires : goal.raise-requires
-raise-requires g c = grind arith
 
 pub returns-in-Raise : goal.returns-in-Raise
 returns-in-Raise g c =

@@ -1,10 +1,9 @@
-use Rattle.std.proofs.Common.{◌≡◌, Option, Some, None, refl, sym, ap, subst, ◌∙◌}
+use Rattle.std.proofs.Common.{◌≡◌, Option, Some, None, refl, ap, subst, ◌∙◌}
 use Rattle.exec_task.specs.declared.runnable.Runnable.{Runnable}
 use Rattle.exec_machine.specs.declared.event.Event.{Event}
 use Rattle.exec_moves.specs.declared.handing.{CallPlace.CallPlace, InGlobal.InGlobal}
 use Rattle.exec_parts.specs.Pooled.{MakesTask}
-use Rattle.exec_polling.proofs.{CallSpawns.{absent_now, joins_by, refused_by_call, spawned_by_call, unmade}, SpawnSteps.performs_joined}
-use Rattle.exec_invariants.specs.Acting.{PerformsAll}
+use Rattle.exec_polling.proofs.{CallSpawns.{absent_now, joins_by, refused_by_call, spawned_by_call}, SpawnSteps.performs_joined}
 use Rattle.exec_polling.proofs.caller.Caller.spawn.Goals as goal
 
 none_of : (o : Option Runnable) → ((r : Runnable) → o ≡ Some r → ⊥) → o ≡ None
@@ -18,11 +17,6 @@ pub returns-in_default-clause-made : goal.returns-in_default-clause-made
 returns-in_default-clause-made g c =
     let makes = subst (λ o. MakesTask c.args.body c.args.shared.now c.make_task.new.self o) (none_of c.in_ok-runnable.field-0 c.in_default.not-Some) c.in_ok-runnable.ensures.made in
     refused_by_call g.B.Body.left g.B.Scripted.spot c.args.self.now c.args.body (g.B.Body.name_of (g.B.Body.left c.args.body)) c.args.shared.now c.make_task.new.self c.requires.sound c.requires.free makes
-
-pub returns-in_default-clause-performs : goal.returns-in_default-clause-performs
-returns-in_default-clause-performs g c =
-    let makes = subst (λ o. MakesTask c.args.body c.args.shared.now c.make_task.new.self o) (none_of c.in_ok-runnable.field-0 c.in_default.not-Some) c.in_ok-runnable.ensures.made in
-    λ p born fits. subst (PerformsAll g.B.Body.left g.B.Scripted.runs g.B.Scripted.holds p) (sym (unmade c.args.body c.args.shared.now c.make_task.new.self makes)) fits
 
 pub returns-clause-made : goal.returns-clause-made
 returns-clause-made g c =

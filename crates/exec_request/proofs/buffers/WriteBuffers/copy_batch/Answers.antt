@@ -5,9 +5,6 @@ use Rattle.exec_request.specs.declared.buffers.WriteBuffers.TheVariants.{Vectore
 use Rattle.exec_request.proofs.Moving.{part-fits, part-of-several, part-of-one}
 use Rattle.exec_request.proofs.buffers.WriteBuffers.copy_batch.Goals as goal
 
-pub overflow_add-offset : goal.overflow_add-offset
-overflow_add-offset c = grind arith
-
 pub copy_chunks-requires : goal.copy_chunks-requires
 copy_chunks-requires c =
     let v = c.in-Vectored in

@@ -8,9 +8,6 @@ use Rattle.exec_request.specs.Syncing.{write_kind, is_syncing}
 use Rattle.exec_request.proofs.Left.{of_write}
 use Rattle.exec_request.proofs.write_at.WriteAtRequest.judge.Goals as goal
 
-pub returns-then-is_syncing : goal.returns-then-is_syncing
-returns-then-is_syncing c = grind arith
-
 pub returns : goal.returns
 returns c =
     let s = c.args.self.now in

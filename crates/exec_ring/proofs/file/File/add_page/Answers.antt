@@ -1,4 +1,4 @@
-use Rattle.std.proofs.Common.{◌≡◌, ℕ, ◌/◌, ◌%◌, arith}
+use Rattle.std.proofs.Common.{ℕ, ◌/◌, ◌%◌, arith}
 use Rattle.std.proofs.lemmas.Grind.{common_steps}
 use Rattle.std.proofs.lemmas.List.{get_or-replicate}
 use Rattle.exec_ring.proofs.file.File.add_page.Goals as goal

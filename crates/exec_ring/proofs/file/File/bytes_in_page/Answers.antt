@@ -1,4 +1,4 @@
-use Rattle.std.proofs.Common.{◌≡◌, ℕ, ◌+◌, ◌<◌, ◌%◌, ◌∙◌, ap, sym, length, take, drop, arith}
+use Rattle.std.proofs.Common.{◌≡◌, ◌+◌, ◌<◌, ◌%◌, ◌∙◌, ap, sym, length, take, drop, arith}
 use Rattle.std.proofs.lemmas.List.{length-drop}
 use Rattle.exec_bufs.specs.Buffers.{resized}
 use Rattle.exec_ring.specs.Files.{byte_at, byte_in}

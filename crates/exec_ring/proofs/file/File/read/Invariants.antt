@@ -1,4 +1,4 @@
-use Rattle.std.proofs.Common.{◌≡◌, ◌-◌, ◌≤◌}
+use Rattle.std.proofs.Common.{◌-◌, ◌≤◌}
 use Rattle.exec_ring.specs.Fillings.{Fills}
 use Rattle.exec_ring.specs.Files.{bytes_from}
 use Rattle.exec_ring.proofs.file.File.read.Given as goal

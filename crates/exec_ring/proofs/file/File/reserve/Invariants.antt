@@ -1,4 +1,4 @@
-use Rattle.std.proofs.Common.{◌≡◌, ◌<◌, ◌≤◌, ℕ}
+use Rattle.std.proofs.Common.{◌<◌, ◌≤◌, ℕ}
 use Rattle.exec_ring.specs.Files.{HasPage, SameBytes, KeepsPages}
 use Rattle.exec_ring.proofs.file.File.reserve.Given as goal
 

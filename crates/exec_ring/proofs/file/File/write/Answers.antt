@@ -1,4 +1,4 @@
-use Rattle.std.proofs.Common.{◌≡◌, ◌+◌, ◌-◌, ◌≤◌, min, arith}
+use Rattle.std.proofs.Common.{◌+◌, ◌-◌, ◌≤◌, arith}
 use Rattle.exec_request.specs.Bytes.{window_bytes}
 use Rattle.exec_ring.specs.Files.{byte_at}
 use Rattle.exec_ring.proofs.Values.{byte_over-next}

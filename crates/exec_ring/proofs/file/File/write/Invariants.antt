@@ -1,4 +1,4 @@
-use Rattle.std.proofs.Common.{◌≡◌, ◌-◌, ◌≤◌, take}
+use Rattle.std.proofs.Common.{◌-◌, ◌≤◌, take}
 use Rattle.exec_request.specs.Bytes.{window_bytes}
 use Rattle.exec_ring.specs.Files.{KeepsPages, Overwrites}
 use Rattle.exec_ring.proofs.file.File.write.Given as goal

@@ -1,4 +1,4 @@
-use Rattle.std.proofs.Common.{◌≡◌, ◌/◌, ◌%◌, true, Some, is_some, take, drop, ap, sym, arith}
+use Rattle.std.proofs.Common.{◌≡◌, ◌/◌, true, Some, is_some, take, drop, ap, sym, arith}
 use Rattle.std.specs.Ordering.{nat_cmp}
 use Rattle.std.specs.BTreeMap.{get}
 use Rattle.std.proofs.lemmas.Bool.Decides.{nat_tests}

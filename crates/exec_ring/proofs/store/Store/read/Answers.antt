@@ -1,4 +1,4 @@
-use Rattle.std.proofs.Common.{◌≡◌, ◌+◌, ◌∙◌, ap, sym}
+use Rattle.std.proofs.Common.{◌+◌, ◌∙◌, ap, sym}
 use Rattle.exec_request.specs.Bytes.{filled_at, filled_of, lent_of}
 use Rattle.exec_ring.specs.Files.{values_from}
 use Rattle.exec_ring.specs.Stores.{byte_of, store_byte}

@@ -11,14 +11,8 @@ returns-then-says_something-clause-text c = c.in-Some.ensures.text ∙ c.loop-li
 pub returns-then-says_something-clause-found : goal.returns-then-says_something-clause-found
 returns-then-says_something-clause-found c = grind (arith, said_found)
 
-pub loop-line-smaller : goal.loop-line-smaller
-loop-line-smaller c = grind arith
-
 pub loop-line-preserved : goal.loop-line-preserved
 loop-line-preserved c = grind (arith, said_past)
 
 pub returns-clause-text : goal.returns-clause-text
 returns-clause-text c = c.in_default.ensures.text ∙ c.loop-line.invariant.same_text
-
-pub returns-clause-none : goal.returns-clause-none
-returns-clause-none c = grind arith

@@ -1,6 +1,5 @@
-use Rattle.std.proofs.Common.{arith}
 use Rattle.exec_time.specs.Sleepers.{opened, closed}
-use Rattle.exec_time.proofs.Endings.{ends_count, ends_room}
+use Rattle.exec_time.proofs.Endings.{ends_room}
 use Rattle.exec_time.proofs.timers.Timers.clear.Goals as goal
 
 pub open-init : goal.open-init
@@ -10,6 +9,3 @@ pub open-preserved : goal.open-preserved
 open-preserved g c =
     let e = c.in-Some.ensures.closed in
     (closed c.in-Some._closed.0 c.open.invariant.0 c.in-Some.ensures.lowest e, ends_room _ _ _ _ _ _ e c.open.invariant.1)
-
-pub open-smaller : goal.open-smaller
-open-smaller g c = omega (arith, ends_count _ _ _ _ _ _ c.in-Some.ensures.closed)

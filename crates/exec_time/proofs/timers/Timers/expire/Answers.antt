@@ -1,6 +1,6 @@
-use Rattle.std.proofs.Common.{arith, sym, ◌∙◌, refl}
+use Rattle.std.proofs.Common.{sym, ◌∙◌, refl}
 use Rattle.exec_time.specs.Sleepers.{begun, fired}
-use Rattle.exec_time.proofs.Endings.{ends_count, ends_room, left_same, left_all, first_due}
+use Rattle.exec_time.proofs.Endings.{ends_room, left_same, left_all, first_due}
 use Rattle.exec_time.proofs.timers.Timers.expire.Goals as goal
 
 pub due-init : goal.due-init
@@ -14,9 +14,6 @@ due-preserved g c =
       ends_room _ _ _ _ _ _ e c.due.invariant.1,
       λ id. left_same c.args.now _ _ _ _ _ _ e (first_due c.args.now first.0 _ _ first.2 first.1) id ∙ c.due.invariant.2 id,
     )
-
-pub due-smaller : goal.due-smaller
-due-smaller g c = omega (arith, ends_count _ _ _ _ _ _ c.in-Some.ensures.fired)
 
 pub returns-clause-exact : goal.returns-clause-exact
 returns-clause-exact g c = rw c.in_default.ensures.same.0 (λ id. sym (left_all c.args.now c.due.self c.in_default.ensures.none_due id) ∙ c.due.invariant.2 id)

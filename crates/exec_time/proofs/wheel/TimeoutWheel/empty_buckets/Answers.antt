@@ -1,10 +1,7 @@
 use Rattle.std.proofs.Common.{arith, ◌≡◌, ◌+◌, ◌%◌, ap}
 use Rattle.exec_time.specs.{Wheel.Wheel, WheelView.wheel_of}
-use Rattle.exec_time.proofs.Views.{emptied_none, emptied_step}
+use Rattle.exec_time.proofs.Views.{emptied_step}
 use Rattle.exec_time.proofs.wheel.TimeoutWheel.empty_buckets.Goals as goal
-
-pub loop-step-init : goal.loop-step-init
-loop-step-init c = (emptied_none (wheel_of c.args.self.now), omega arith)
 
 pub loop-step-preserved : goal.loop-step-preserved
 unfolding wheel_of

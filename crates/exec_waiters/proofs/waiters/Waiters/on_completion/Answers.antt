@@ -2,11 +2,6 @@ use Rattle.std.proofs.Common.{arith, sym, ◌∙◌}
 use Rattle.exec_waiters.proofs.Changes.{kept_changed, sound_at, sound_landed, named_flies, name_tells, counted, entry_of}
 use Rattle.exec_waiters.proofs.waiters.Waiters.on_completion.Goals as goal
 
-pub on_cqe-answer-requires : goal.on_cqe-answer-requires
-on_cqe-answer-requires g c =
-    let is = name_tells _ _ (sym c.named.ensures ∙ c.in_ok-id.was) in
-    record { lawful = c.requires.lawful c.in_ok-id.id.0 c.waiter_mut-waiter.result.now is (rw c.self.view_is at c.waiter_mut-waiter.ensures.value) }
-
 pub invariant_of-self : goal.invariant_of-self
 invariant_of-self g c =
     let w = c.waiter_mut-waiter.result.now in

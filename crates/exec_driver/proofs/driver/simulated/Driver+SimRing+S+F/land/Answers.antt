@@ -6,12 +6,7 @@ use Rattle.exec_driver.proofs.driver.simulated.«Driver+SimRing+S+F».land.Goals
 pub invariant_of-self : goal.invariant_of-self
 invariant_of-self g c =
     let flies : is_flying (waiter_at c.self.inside.waiters c.args.id.0) ≡ true = sym c.is_in_flight.ensures ∙ c.if-not-is_in_flight.false in
-    held_land _ c.land.new.self c.land.new.ring c.args.id c.args.given c.land.result c.args.store.now c.land.new.store _ _ _ c.self.invariant flies (record {
-      answer_is = c.land.ensures.answer;
-      ring_is = c.land.ensures.ring;
-      moved = c.land.ensures.moved;
-      same = c.land.ensures.same;
-    })
+    held_land _ c.land.new.self c.land.new.ring c.args.id c.args.given c.land.result c.args.store.now c.land.new.store _ _ _ c.self.invariant flies (assumption (c.land.ensures))
 
 pub returns-clause-lands : goal.returns-clause-lands
 returns-clause-lands g c = grind arith
@@ -19,9 +14,4 @@ returns-clause-lands g c = grind arith
 pub returns-clause-punctual : goal.returns-clause-punctual
 returns-clause-punctual g c =
     let flies : is_flying (waiter_at c.self.inside.waiters c.args.id.0) ≡ true = sym c.is_in_flight.ensures ∙ c.if-not-is_in_flight.false in
-    rw (← c.self.view_is) (landed_punctual _ c.land.new.self c.land.new.ring c.args.id c.args.given c.land.result c.args.store.now c.land.new.store flies (record {
-      answer_is = c.land.ensures.answer;
-      ring_is = c.land.ensures.ring;
-      moved = c.land.ensures.moved;
-      same = c.land.ensures.same;
-    }))
+    rw (← c.self.view_is) (landed_punctual _ c.land.new.self c.land.new.ring c.args.id c.args.given c.land.result c.args.store.now c.land.new.store flies (assumption (c.land.ensures)))

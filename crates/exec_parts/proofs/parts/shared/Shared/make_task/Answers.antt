@@ -1,11 +1,8 @@
 use Rattle.std.proofs.{Common.{◌≡◌, ◌+◌, ◌++◌, ◌∷◌, [], refl, sym, ap, subst, ◌∙◌, arith, length}, lemmas.{Bool.false≢true, List.length-append}}
 use Rattle.exec_task.specs.{TaskSet.inserted, declared.runnable.Runnable.Runnable}
 use Rattle.exec_parts.specs.{Pooled.IsNewTask, Records.numbers_held}
-use Rattle.exec_parts.proofs.{Facts.same_thing, Newborn.new_task}
+use Rattle.exec_parts.proofs.{Facts.same_Some, Newborn.new_task}
 use Rattle.exec_parts.proofs.parts.shared.Shared.make_task.Goals as goal
-
-pub insert-requires : goal.insert-requires
-insert-requires g c = rw (c.in-Ok.ensures.1 ∙ c.len-count.ensures ∙ c.args.self.now.tasks.ok.0) c.requires.absent
 
 pub returns-clause-made : goal.returns-clause-made
 returns-clause-made g c =
@@ -20,12 +17,12 @@ returns-clause-made g c =
     record {
       answer = rw shut refl;
       closed = λ h. absurd (false≢true (sym shut ∙ h));
-      number = λ r h. subst (λ (z : Runnable). z.task.0 ≡ length s.tasks.items) (same_thing c.new-slot.result.1 r h) (ap (λ n. n.0) task ∙ number);
+      number = λ r h. subst (λ (z : Runnable). z.task.0 ≡ length s.tasks.items) (same_Some c.new-slot.result.1 r h) (ap (λ n. n.0) task ∙ number);
       slot = λ r h.
-          let same = same_thing c.new-slot.result.1 r h in
+          let same = same_Some c.new-slot.result.1 r h in
           (x, items, sym same ∙ of_x.runnable, subst (λ (z : Runnable). IsNewTask z.task c.args.body x) same (subst (λ n. IsNewTask n c.args.body x) (sym task) (new_task x _ _ c.args.body of_x.cell (ap numbers_held of_x.held) of_x.slot)));
       set = λ r h.
-          let same = same_thing c.new-slot.result.1 r h in
+          let same = same_Some c.new-slot.result.1 r h in
           c.in-Ok-insert.ensures.inserted ∙ ap (λ n. inserted s.set n tt) (sym task ∙ ap (λ (z : Runnable). z.task) same);
       places = λ r h. omega (arith, ap (λ q. q.places) places, ap length items, length-append s.tasks.items (x ∷ []), c.len-count.ensures, s.tasks.ok.0);
       few = λ r h. omega (arith, ap length items, length-append s.tasks.items (x ∷ []), number);

@@ -1,12 +1,6 @@
 use Rattle.std.proofs.Common.{refl, sym, ◌∙◌}
-use Rattle.exec_parts.proofs.{LeafFresh.kept_any, Growing.rooms_refused}
+use Rattle.exec_parts.proofs.{Growing.rooms_refused}
 use Rattle.exec_parts.proofs.parts.worker.Worker.admit.Goals as goal
-
-pub returns-in_err-make_room-clause-kept : goal.returns-in_err-make_room-clause-kept
-returns-in_err-make_room-clause-kept g c = kept_any c.from_residual.result c.make_room.ensures.kept
-
-pub returns-then-not-has_open-clause-kept : goal.returns-then-not-has_open-clause-kept
-returns-then-not-has_open-clause-kept g c = c.in_ok-make_room.ensures.kept
 
 pub returns-in_default-clause-kept : goal.returns-in_default-clause-kept
 returns-in_default-clause-kept g c = rooms_refused c.in_ok-make_room.ensures.kept c.in_default.ensures.kept c.in_default.ensures.untold refl refl c.in_default.ensures.opens

@@ -1,7 +1,7 @@
 use Rattle.std.proofs.{Common.{refl, sym, ap, ◌∙◌, slice_set}, lemmas.Bool.false≢true}
 use Rattle.exec_waiters.specs.Events.{changed, with_waker}
 use Rattle.exec_machine.specs.Tests.{is_resolved}
-use Rattle.exec_parts.{specs.{Awaits.awaited_by, View.driver_of, declared.parts.record.Record.Record}, proofs.{Facts.same_thing, MailLets.found_at}}
+use Rattle.exec_parts.{specs.{Awaits.awaited_by, View.driver_of, declared.parts.record.Record.Record}, proofs.{Facts.same_Some, MailLets.found_at}}
 use Rattle.exec_parts.proofs.parts.worker.Worker.await_request.Goals as goal
 
 pub returns : goal.returns
@@ -23,10 +23,10 @@ returns g c =
     let going = sym c.is_over.ensures ∙ c.if-is_over.false in
     record {
       awaits = record {
-        over = λ x found mine h. let same = same_thing c.index-2.result.now x (sym second ∙ found) in absurd (false≢true (sym going ∙ ap (λ (y : Record). is_resolved y.shown.phase) same ∙ h));
+        over = λ x found mine h. let same = same_Some c.index-2.result.now x (sym second ∙ found) in absurd (false≢true (sym going ∙ ap (λ (y : Record). is_resolved y.shown.phase) same ∙ h));
         waits = λ x found mine h.
-            let is = same_thing c.index-3.result.now x (sym third ∙ found) in
-            let is_last = same_thing c.index_mut.result.now x (sym last ∙ found) in
+            let is = same_Some c.index-3.result.now x (sym third ∙ found) in
+            let is_last = same_Some c.index_mut.result.now x (sym last ∙ found) in
             record {
               slot = o;
               there = there;
@@ -40,6 +40,6 @@ returns g c =
               tasks = ap (slice_set s.tasks.items c.args.task) c.wait_for.ensures;
               kept = refl;
             };
-        elsewhere = λ x found other. let same = same_thing r x (sym first ∙ found) in absurd (other (ap (λ (y : Record). y.shown.worker) (sym same) ∙ c.if-index-self.false));
+        elsewhere = λ x found other. let same = same_Some r x (sym first ∙ found) in absurd (other (ap (λ (y : Record). y.shown.worker) (sym same) ∙ c.if-index-self.false));
       };
     }

@@ -2,7 +2,7 @@ use Rattle.std.proofs.{Common.{◌<◌, ◌∷◌, [], List, inl, length, Some, 
 use Rattle.exec_base.specs.declared.error.Error.{Error}
 use Rattle.exec_task.specs.declared.body.Said.{Said}
 use Rattle.exec_machine.specs.declared.event.Event.{Event}
-use Rattle.exec_parts.{specs.declared.parts.task_slot.TaskSlot.TaskSlot, proofs.Facts.same_thing}
+use Rattle.exec_parts.{specs.declared.parts.task_slot.TaskSlot.TaskSlot, proofs.Facts.same_Some}
 use Rattle.exec_parts.proofs.parts.worker.Worker.dedicate.Goals as goal
 
 pub returns-in_default-clause-refused : goal.returns-in_default-clause-refused
@@ -17,7 +17,7 @@ returns-in_default-clause-refused g c =
       nobody = nobody;
       told = record {
         kept = refl;
-        tasks = λ slot found. ap (slice_set mid.tasks.items c.args.task) (c.tell-in_default.ensures ∙ ap (λ n. record old { told = Some n }) c.refused.ensures ∙ ap (λ (o : TaskSlot g.row.B.Denot). record o { told = Some (Said.Refused Error.NoMemory) }) (same_thing old slot (sym there ∙ found)));
+        tasks = λ slot found. ap (slice_set mid.tasks.items c.args.task) (c.tell-in_default.ensures ∙ ap (λ n. record old { told = Some n }) c.refused.ensures ∙ ap (λ (o : TaskSlot g.row.B.Denot). record o { told = Some (Said.Refused Error.NoMemory) }) (same_Some old slot (sym there ∙ found)));
       };
       worker = refl;
     }
@@ -39,7 +39,7 @@ returns-clause-made g c =
       makes = made;
       told = record {
         kept = refl;
-        tasks = λ slot found. ap (slice_set mid.tasks.items c.args.task) (c.tell-2.ensures ∙ ap (λ (o : TaskSlot g.row.B.Denot). record o { told = Some (Said.Spawned c.in-Ok.number) }) (same_thing old slot (sym there ∙ found)));
+        tasks = λ slot found. ap (slice_set mid.tasks.items c.args.task) (c.tell-2.ensures ∙ ap (λ (o : TaskSlot g.row.B.Denot). record o { told = Some (Said.Spawned c.in-Ok.number) }) (same_Some old slot (sym there ∙ found)));
       };
       worker = refl;
       event_is = ap (λ n. Event.Dedicated n c.len-worker.result) count ∙ ap (λ i. Event.Dedicated (length s.tasks.items) i) worker;

@@ -1,6 +1,6 @@
 use Rattle.std.{proofs.Common.{◌≡◌, ◌-◌, ◌++◌, Some, refl, sym, ap, subst, ◌∙◌, option_to_list}, specs.Vec.with_item}
 use Rattle.exec_task.specs.declared.body.Said.{Said}
-use Rattle.exec_parts.{specs.{Awaits.{DropsRequest, newest_of}, Records.numbers_held, declared.parts.task_slot.TaskSlot.TaskSlot}, proofs.{Facts.same_thing, MailLets.found_at}}
+use Rattle.exec_parts.{specs.{Awaits.{DropsRequest, newest_of}, Records.numbers_held, declared.parts.task_slot.TaskSlot.TaskSlot}, proofs.{Facts.same_Some, MailLets.found_at}}
 use Rattle.exec_parts.proofs.parts.worker.Worker.drop_newest.Goals as goal
 
 pub drop_request-requires : goal.drop_request-requires
@@ -27,8 +27,8 @@ returns-then-worker-self g c =
     let at_r = found_at s.requests.items c.in-Some.request r has.known c.index-2.ensures in
     record {
       drops = λ slot found k newest.
-          let same = same_thing o slot (sym there ∙ found) in
-          let number = same_thing c.in-Some.request k (sym c.in-Some.is ∙ c.newest.ensures ∙ ap (λ (x : TaskSlot g.row.B.Denot). newest_of x) same ∙ newest) in
+          let same = same_Some o slot (sym there ∙ found) in
+          let number = same_Some c.in-Some.request k (sym c.in-Some.is ∙ c.newest.ensures ∙ ap (λ (x : TaskSlot g.row.B.Denot). newest_of x) same ∙ newest) in
           subst (λ x. DropsRequest {B = g.row.B.Denot} c.args.task x w c.drop_request.new.self s c.drop_request.new.shared c.drop_request.result) number
           (record { r = r; request = at_r; here = λ mine. c.drop_request.ensures.drops; elsewhere = λ other. absurd (other c.if-worker-self.true) });
     }
@@ -58,8 +58,8 @@ returns g c =
     let held = ap (λ (x : TaskSlot g.row.B.Denot). x.held) step in
     record {
       drops = λ slot found k newest.
-          let same = same_thing o slot (sym there ∙ found) in
-          let number = same_thing c.in-Some.request k (sym c.in-Some.is ∙ c.newest.ensures ∙ ap (λ (x : TaskSlot g.row.B.Denot). newest_of x) same ∙ newest) in
+          let same = same_Some o slot (sym there ∙ found) in
+          let number = same_Some c.in-Some.request k (sym c.in-Some.is ∙ c.newest.ensures ∙ ap (λ (x : TaskSlot g.row.B.Denot). newest_of x) same ∙ newest) in
           subst (λ x. DropsRequest {B = g.row.B.Denot} c.args.task x w c.send.new.self s c.send.new.shared c.send.result) number
           (record {
             r = r;

@@ -3,9 +3,6 @@ use Rattle.exec_task.specs.declared.body.Said.{Said}
 use Rattle.exec_parts.{specs.{Awaits.LetsGo, Records.numbers_held, declared.parts.{task_slot.TaskSlot.TaskSlot, worker.Worker.Worker}}, proofs.MailLets.found_at}
 use Rattle.exec_parts.proofs.parts.worker.Worker.drop_request.Goals as goal
 
-pub orphan_request-requires : goal.orphan_request-requires
-orphan_request-requires g c = let may = c.requires.may in record { may = record { known = may.known; room = may.room; ending = may.ending } }
-
 pub returns : goal.returns
 returns g c =
     let w = c.args.self.now in

@@ -1,8 +1,8 @@
-use Rattle.std.{proofs.{Common.{◌≡◌, ◌<◌, Bool, true, false, [], ℕ, length, refl, sym, ap, subst, ◌∙◌, if◌then◌else◌}, lemmas.Option.get_or_from_slice_get}, specs.Vec.{vec_capacity, with_item}}
+use Rattle.std.{proofs.{Common.{◌≡◌, Bool, true, false, [], ℕ, length, refl, sym, ap, ◌∙◌, if◌then◌else◌}, lemmas.Option.get_or_from_slice_get}, specs.Vec.{vec_capacity, with_item}}
 use Rattle.exec_ring.specs.{Kernels.{answer_of_enter, entered as entered_ring, entered_with}, Rings.RingState, declared.ring.Entered.TheVariants.{Busy as BusyRing, Taken}}
 use Rattle.exec_driver.specs.{Driving.{Driving, seen}, Steps.{entered, with_landings}}
 use Rattle.exec_machine.specs.declared.event.Event.{TheVariants.{Busy, Enter}}
-use Rattle.exec_parts.{specs.{declared.parts.{mail.Reply.Reply, names.Names.Names, worker.Worker.Worker}, Serving.{AreKnown, flown_in}, View.driver_of}, proofs.Leaves.takes_by}
+use Rattle.exec_parts.{specs.{declared.parts.{mail.Reply.Reply, names.Names.Names, worker.Worker.Worker}, Serving.{flown_in}, View.driver_of}, proofs.Leaves.takes_by}
 use Rattle.exec_parts.proofs.parts.worker.Worker.enter.Goals as goal
 
 -- the driver, where nothing lands within its enter
@@ -22,17 +22,6 @@ was_free r n h = by r.busy refl
     by : (b : Bool) → r.busy ≡ b → r.busy ≡ false
     by true is = absurd (let no : Taken n ≡ BusyRing = h ∙ ap (λ b. if b then BusyRing else Taken (length r.staged)) is in cc)
     by false is = is
-
-pub index_mut-requires : goal.index_mut-requires
-index_mut-requires g c = subst (λ n. c.args.self.now.index < n) (sym c.args.shared.now.seats.ok.0) c.requires.there
-
-pub fly_staged-requires : goal.fly_staged-requires
-fly_staged-requires g c =
-    record {
-      known =
-          subst (λ (n : Names). AreKnown n.staged.items c.args.shared.now.requests.items)
-          (sym (c.tell_cancels.ensures.same ∙ ap (λ (v : Worker). record v.names { untold = c.tell_cancels.new.self.untold }) c.take_raises.ensures.same)) c.requires.known;
-    }
 
 pub returns-in-Busy : goal.returns-in-Busy
 returns-in-Busy g c =

@@ -4,7 +4,7 @@ use Rattle.exec_base.specs.OneShot.{polled}
 use Rattle.exec_base.specs.declared.one_shot.OneShotState.TheVariants.{Closed, Sent}
 use Rattle.exec_task.specs.declared.body.Said.{Said}
 use Rattle.exec_machine.specs.declared.state.{RequestPhase.TheVariants.Resolved, Waiting.Waiting}
-use Rattle.exec_parts.{specs.{Calls.heard_in, Records.outcome_in, declared.parts.{record.Record.Record, task_slot.TaskSlot.TaskSlot}}, proofs.{Facts.same_thing, MailLets.found_at}}
+use Rattle.exec_parts.{specs.{Calls.heard_in, Records.outcome_in, declared.parts.{record.Record.Record, task_slot.TaskSlot.TaskSlot}}, proofs.{Facts.same_Some, MailLets.found_at}}
 use Rattle.exec_parts.proofs.parts.worker.Worker.hear_output.Goals as goal
 
 pub unreachable-requires : goal.unreachable-requires
@@ -15,7 +15,7 @@ unreachable-requires g c =
     let r = c.index_mut-record.result.now in
     let at_r = found_at s.requests.items k r may.known c.index_mut-record.ensures.value in
     let first = found_at s.requests.items k c.index.result.now may.known c.index.ensures in
-    let same = same_thing c.index.result.now r (sym first ∙ at_r) in
+    let same = same_Some c.index.result.now r (sym first ∙ at_r) in
     let a = may.answer r at_r (ap (λ (x : Record). x.sent) (sym same) ∙ c.if-not-index.false) in
     c.in_default.not-Some a.outcome (c.outcome.ensures ∙ ap outcome_in a.over)
 
@@ -27,7 +27,7 @@ unreachable-requires-in_default-hear_output g c =
     let r = c.index_mut-record.result.now in
     let at_r = found_at s.requests.items k r may.known c.index_mut-record.ensures.value in
     let first = found_at s.requests.items k c.index.result.now may.known c.index.ensures in
-    let same = same_thing c.index.result.now r (sym first ∙ at_r) in
+    let same = same_Some c.index.result.now r (sym first ∙ at_r) in
     let a = may.answer r at_r (ap (λ (x : Record). x.sent) (sym same) ∙ c.if-not-index.false) in
     let o = c.index_mut-slot.result.now in
     let lies = a.lies o (found_at s.tasks.items c.args.task o may.there c.index_mut-slot.ensures.value) in
@@ -41,11 +41,11 @@ unreachable-requires-in_default-heard g c =
     let r = c.index_mut-record.result.now in
     let at_r = found_at s.requests.items k r may.known c.index_mut-record.ensures.value in
     let first = found_at s.requests.items k c.index.result.now may.known c.index.ensures in
-    let same = same_thing c.index.result.now r (sym first ∙ at_r) in
+    let same = same_Some c.index.result.now r (sym first ∙ at_r) in
     let a = may.answer r at_r (ap (λ (x : Record). x.sent) (sym same) ∙ c.if-not-index.false) in
     let o = c.index_mut-slot.result.now in
     let lies = a.lies o (found_at s.tasks.items c.args.task o may.there c.index_mut-slot.ensures.value) in
-    c.in_default-heard.not-Ok a.output (same_thing c.in-Some-hear_output.heard (Ok a.output) (sym c.in-Some-hear_output.is ∙ c.hear_output.ensures.heard ∙ ap heard_in lies))
+    c.in_default-heard.not-Ok a.output (same_Some c.in-Some-hear_output.heard (Ok a.output) (sym c.in-Some-hear_output.is ∙ c.hear_output.ensures.heard ∙ ap heard_in lies))
 
 pub returns : goal.returns
 returns g c =
@@ -57,7 +57,7 @@ returns g c =
     let r = c.index_mut-record.result.now in
     let at_r = found_at s.requests.items k r may.known c.index_mut-record.ensures.value in
     let first = found_at s.requests.items k c.index.result.now may.known c.index.ensures in
-    let same = same_thing c.index.result.now r (sym first ∙ at_r) in
+    let same = same_Some c.index.result.now r (sym first ∙ at_r) in
     let sent : r.sent ≡ true = ap (λ (x : Record). x.sent) (sym same) ∙ c.if-not-index.false in
     let a = may.answer r at_r sent in
     let o = c.index_mut-slot.result.now in
@@ -66,8 +66,8 @@ returns g c =
     let h = c.hear_output.new.self in
     let l = c.let_go.new.self in
     let heard : h ≡ record o { output = Closed } = c.hear_output.ensures.polled ∙ ap (λ x. record o { output = polled x }) lies in
-    let same_out = same_thing (Ok c.in-Ok.output) (Ok a.output) (ap (λ x. Some x) (sym c.in-Ok.is) ∙ sym c.in-Some-hear_output.is ∙ c.hear_output.ensures.heard ∙ ap heard_in lies) in
-    let ended = same_thing c.in-Some.outcome a.outcome (sym c.in-Some.is ∙ c.outcome.ensures ∙ ap outcome_in a.over) in
+    let same_out = same_Some (Ok c.in-Ok.output) (Ok a.output) (ap (λ x. Some x) (sym c.in-Ok.is) ∙ sym c.in-Some-hear_output.is ∙ c.hear_output.ensures.heard ∙ ap heard_in lies) in
+    let ended = same_Some c.in-Some.outcome a.outcome (sym c.in-Some.is ∙ c.outcome.ensures ∙ ap outcome_in a.over) in
     let took : c.take.new.self ≡ record o { held = l.held; waiting = Waiting.Nothing; told = Some (Said.Output c.in-Ok.output); output = Closed } =
     c.take.ensures ∙ ap (λ (x : TaskSlot g.row.B.Denot). record x { waiting = Waiting.Nothing; told = Some (Said.Output c.in-Ok.output) }) (c.let_go.ensures.same ∙ ap (λ (x : TaskSlot g.row.B.Denot). record x { held = l.held }) heard) in
     let held = ap (λ (x : TaskSlot g.row.B.Denot). x.held) took in

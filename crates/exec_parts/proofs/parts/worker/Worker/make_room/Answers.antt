@@ -1,5 +1,5 @@
 use Rattle.std.{proofs.{Common.{◌≡◌, ◌^◌, ◌<◌, length, arith, Some, refl, sym, ap, subst, ◌∙◌, slice_get, slice_set}, lemmas.{Bool.Decides.nat_tests, Option.slice_get-get_or}}, specs.Vec.vec_capacity}
-use Rattle.exec_parts.{specs.{Records.{HasMailRoom, HasRequestRoom, MakesMail, SameNames}, declared.parts.{seat.Seat.Seat as Chair, worker.Worker.Worker}}, proofs.{Facts.{same_thing, set_there}, Growing.{mails_made, mails_same, okay_if, reserved_worker, rooms_kept, rooms_slot, same_names, untold_self}}}
+use Rattle.exec_parts.{specs.{Records.{HasMailRoom, HasRequestRoom, MakesMail, SameNames}, declared.parts.{seat.Seat.Seat as Chair, worker.Worker.Worker}}, proofs.{Facts.{same_Some, set_there}, Growing.{mails_made, mails_same, okay_if, reserved_worker, rooms_kept, rooms_slot, same_names, untold_self}}}
 use Rattle.exec_parts.proofs.parts.worker.Worker.make_room.Goals as goal
 
 pub returns-then-len-clause-kept : goal.returns-then-len-clause-kept
@@ -47,9 +47,6 @@ returns-clause-kept g c =
     (subst (λ (y : Worker). SameNames w.names y.names) (sym same) c.reserve_request.ensures.kept) c.reserve_told.ensures.untold
     (mails_made chair c.reserve_mail.new.self seated (subst (λ b. MakesMail chair c.reserve_mail.new.self w.batch b) (sym batch) c.reserve_mail.ensures.kept) refl) refl c.reserve.ensures.items refl
 
-pub returns-clause-driver : goal.returns-clause-driver
-returns-clause-driver g c = ap (λ (x : Worker). x.home.driver) c.reserve_told.ensures.same
-
 pub returns-clause-room : goal.returns-clause-room
 returns-clause-room g c =
     let w = c.args.self.now in
@@ -69,7 +66,7 @@ returns-clause-room g c =
       told = told;
       mail = λ found_chair found.
           let there = subst (λ i. slice_get (slice_set s.seats.items w.index made) i ≡ Some found_chair) at found in
-          let is : made ≡ found_chair = same_thing made found_chair (sym (set_there s.seats.items w.index made chair seated) ∙ there) in
+          let is : made ≡ found_chair = same_Some made found_chair (sym (set_there s.seats.items w.index made chair seated) ∙ there) in
           subst (λ (x : Chair). HasMailRoom x c.reserve_told.new.self.batch) is (subst (λ b. HasMailRoom made b) (sym batch) c.in_ok-reserve_mail.ensures.room);
       held = λ slot found. let is : c.reserve-2.new.self ≡ slot = cc (found, set_there s.tasks.items c.args.task c.reserve-2.new.self o at_o) in subst (λ x. length x.held.items < vec_capacity x.held) is c.in_ok-reserve-2.ensures.room;
     })

@@ -1,5 +1,5 @@
 use Rattle.std.proofs.{Common.{◌≡◌, arith, Some, refl, sym, ap, subst, ◌∙◌, slice_get, slice_set}, lemmas.Option.slice_get-get_or}
-use Rattle.exec_parts.{specs.{Records.{HasMailRoom, HasTimerRoom, MakesMail, SameNames}, declared.parts.{seat.Seat.Seat as Chair, worker.Worker.Worker}}, proofs.{Facts.{same_thing, set_there}, Growing.{mails_made, mails_same, okay_if, reserved_worker, rooms_kept, same_names, untold_self}}}
+use Rattle.exec_parts.{specs.{Records.{HasMailRoom, HasTimerRoom, MakesMail, SameNames}, declared.parts.{seat.Seat.Seat as Chair, worker.Worker.Worker}}, proofs.{Facts.{same_Some, set_there}, Growing.{mails_made, mails_same, okay_if, reserved_worker, rooms_kept, same_names, untold_self}}}
 use Rattle.exec_parts.proofs.parts.worker.Worker.make_room_for_sleep.Goals as goal
 
 pub returns-in_err-reserve-clause-kept : goal.returns-in_err-reserve-clause-kept
@@ -28,9 +28,6 @@ returns-clause-kept g c =
     λ task within. rooms_kept within (reserved_worker w x c.reserve_told.new.self c.reserve_timer.new.self c.reserve_mail.new.batch refl same) (subst (λ (y : Worker). SameNames w.names y.names) (sym same) c.reserve_timer.ensures.kept) c.reserve_told.ensures.untold
     (mails_made chair c.reserve_mail.new.self seated (subst (λ b. MakesMail chair c.reserve_mail.new.self w.batch b) (sym batch) c.reserve_mail.ensures.kept) refl) refl refl c.reserve.ensures.items
 
-pub returns-clause-driver : goal.returns-clause-driver
-returns-clause-driver g c = ap (λ (x : Worker). x.home.driver) c.reserve_told.ensures.same
-
 pub returns-clause-room : goal.returns-clause-room
 returns-clause-room g c =
     let w = c.args.self.now in
@@ -47,6 +44,6 @@ returns-clause-room g c =
       told = told;
       mail = λ found_chair found.
           let there = subst (λ i. slice_get (slice_set s.seats.items w.index made) i ≡ Some found_chair) at found in
-          let is : made ≡ found_chair = same_thing made found_chair (sym (set_there s.seats.items w.index made chair seated) ∙ there) in
+          let is : made ≡ found_chair = same_Some made found_chair (sym (set_there s.seats.items w.index made chair seated) ∙ there) in
           subst (λ (x : Chair). HasMailRoom x c.reserve_told.new.self.batch) is (subst (λ b. HasMailRoom made b) (sym batch) c.in_ok-reserve_mail.ensures.room);
     })

@@ -1,9 +1,6 @@
 use Rattle.std.proofs.Common.{refl, sym, subst}
-use Rattle.exec_parts.{specs.Admitting.MakesRoom, proofs.LeafFresh.kept_any}
+use Rattle.exec_parts.{specs.Admitting.MakesRoom}
 use Rattle.exec_parts.proofs.parts.worker.Worker.make_sleeper.Goals as goal
-
-pub returns-in_err-make_room_for_sleep-clause-kept : goal.returns-in_err-make_room_for_sleep-clause-kept
-returns-in_err-make_room_for_sleep-clause-kept g c = kept_any c.from_residual.result c.make_room_for_sleep.ensures.kept
 
 pub returns-in_default-clause-kept : goal.returns-in_default-clause-kept
 returns-in_default-clause-kept g c =

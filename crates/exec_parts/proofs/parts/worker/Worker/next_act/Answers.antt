@@ -1,5 +1,5 @@
 use Rattle.std.proofs.{Common.{◌≡◌, subst, Some, refl, sym, ap, ◌∙◌, slice_set}, lemmas.Option.slice_get-get_or}
-use Rattle.exec_parts.{specs.Polls.{Acts, sight_of}, proofs.Making.{kept_if, made_if}}
+use Rattle.exec_parts.{specs.Polls.{Acts, sight_of}, proofs.Making.{on_err_weaker, made_if}}
 use Rattle.exec_parts.proofs.parts.worker.Worker.next_act.Goals as goal
 
 pub returns-clause-acts : goal.returns-clause-acts
@@ -22,7 +22,7 @@ returns-clause-kept g c =
     let s = c.args.shared.now in
     let o = c.index_mut.result.now in
     let there = slice_get-get_or s.tasks.items c.args.task o c.requires.there ∙ ap (λ y. Some y) (sym c.index_mut.ensures.value) in
-    kept_if c.step.result (λ same. record {
+    on_err_weaker c.step.result (λ same. record {
       kept = refl;
       tasks = λ slot found.
           let is : o ≡ slot = cc (there, found) in

@@ -1,6 +1,6 @@
 use Rattle.std.{proofs.{Common.{◌≡◌, ℕ, true, false, refl, sym, ap, ◌∙◌, slice_set}, lemmas.Bool.false≢true}, specs.Vec.with_item}
 use Rattle.exec_task.specs.declared.runnable.{AfterPoll.AfterPoll, Runnable.Runnable}
-use Rattle.exec_parts.{specs.{Phased.is_complete, Polls.pended_slot, Pooled.queued_again, Tests.after_poll_of, Things.TurnsSlot, declared.parts.{shared.Shared.Shared, task_slot.TaskSlot.TaskSlot, worker.Worker.Worker}}, proofs.{Facts.same_thing, MailLets.found_at}}
+use Rattle.exec_parts.{specs.{Phased.is_complete, Polls.pended_slot, Pooled.queued_again, Tests.after_poll_of, Things.TurnsSlot, declared.parts.{shared.Shared.Shared, task_slot.TaskSlot.TaskSlot, worker.Worker.Worker}}, proofs.{Facts.same_Some, MailLets.found_at}}
 use Rattle.exec_parts.proofs.parts.worker.Worker.pend.Goals as goal
 
 not_again : (t : ℕ) (a : AfterPoll) (w : Worker) → ((r : Runnable) → a ≡ AfterPoll.Requeue r → ⊥) → queued_again t a w ≡ w
@@ -15,7 +15,7 @@ let_go_of-requires g c =
     let o = c.index_mut-slot.result.now in
     let there = found_at s.tasks.items t o c.requires.may.there c.index_mut-slot.ensures.value in
     let mid : Shared g.row.B.Denot = record s { tasks = with_item s.tasks t c.pend-after.new.self } in
-    let is : TurnsSlot {B = g.row.B.Denot} t s mid pended_slot = record { kept = refl; tasks = λ slot found. ap (slice_set s.tasks.items t) (c.pend-after.ensures.pended ∙ ap (λ (x : TaskSlot g.row.B.Denot). pended_slot x) (same_thing o slot (sym there ∙ found))) } in
+    let is : TurnsSlot {B = g.row.B.Denot} t s mid pended_slot = record { kept = refl; tasks = λ slot found. ap (slice_set s.tasks.items t) (c.pend-after.ensures.pended ∙ ap (λ (x : TaskSlot g.row.B.Denot). pended_slot x) (same_Some o slot (sym there ∙ found))) } in
     record { may = c.requires.may.lets o there (ap (λ (x : TaskSlot g.row.B.Denot). is_complete x.cell.phase) (sym c.pend-after.ensures.pended) ∙ sym c.is_over.ensures ∙ c.if-is_over.true) mid is }
 
 pub returns-then-is_over-clause-pends : goal.returns-then-is_over-clause-pends
@@ -30,7 +30,7 @@ returns-then-is_over-clause-pends g c =
       slot = o;
       there = there;
       mid = record s { tasks = with_item s.tasks t c.pend-after.new.self };
-      pended_is = record { kept = refl; tasks = λ slot found. ap (slice_set s.tasks.items t) (c.pend-after.ensures.pended ∙ ap (λ (x : TaskSlot g.row.B.Denot). pended_slot x) (same_thing o slot (sym there ∙ found))) };
+      pended_is = record { kept = refl; tasks = λ slot found. ap (slice_set s.tasks.items t) (c.pend-after.ensures.pended ∙ ap (λ (x : TaskSlot g.row.B.Denot). pended_slot x) (same_Some o slot (sym there ∙ found))) };
       v = c.let_go_of.new.self;
       over = λ h. (c.let_go_of.ensures.lets, ap (λ p. record c.let_go_of.new.self { place = p }) c.after_cancels-self.ensures);
       still = λ h. absurd (false≢true (sym h ∙ sym pended ∙ over));
@@ -49,7 +49,7 @@ returns-in-Requeue-clause-pends g c =
       slot = o;
       there = there;
       mid = record s { tasks = with_item s.tasks t c.pend-after.new.self };
-      pended_is = record { kept = refl; tasks = λ slot found. ap (slice_set s.tasks.items t) (c.pend-after.ensures.pended ∙ ap (λ (x : TaskSlot g.row.B.Denot). pended_slot x) (same_thing o slot (sym there ∙ found))) };
+      pended_is = record { kept = refl; tasks = λ slot found. ap (slice_set s.tasks.items t) (c.pend-after.ensures.pended ∙ ap (λ (x : TaskSlot g.row.B.Denot). pended_slot x) (same_Some o slot (sym there ∙ found))) };
       v = w;
       over = λ h. absurd (false≢true (sym going ∙ pended ∙ h));
       still = λ h. (
@@ -74,7 +74,7 @@ returns-in_default g c =
         slot = o;
         there = there;
         mid = record s { tasks = with_item s.tasks t c.pend-after.new.self };
-        pended_is = record { kept = refl; tasks = λ slot found. ap (slice_set s.tasks.items t) (c.pend-after.ensures.pended ∙ ap (λ (x : TaskSlot g.row.B.Denot). pended_slot x) (same_thing o slot (sym there ∙ found))) };
+        pended_is = record { kept = refl; tasks = λ slot found. ap (slice_set s.tasks.items t) (c.pend-after.ensures.pended ∙ ap (λ (x : TaskSlot g.row.B.Denot). pended_slot x) (same_Some o slot (sym there ∙ found))) };
         v = w;
         over = λ h. absurd (false≢true (sym going ∙ pended ∙ h));
         still = λ h. (

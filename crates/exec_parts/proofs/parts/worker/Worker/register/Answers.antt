@@ -1,14 +1,11 @@
-use Rattle.std.proofs.{Common.{◌≡◌, ◌++◌, ◌∷◌, [], List, Bool, true, false, if◌then◌else◌, get_or, length, Some, refl, sym, ap, subst, ◌∙◌, arith, is_some, slice_set}, lemmas.{List.set-set, Option.slice_get-get_or}}
+use Rattle.std.proofs.{Common.{◌≡◌, ◌++◌, ◌∷◌, [], List, Bool, true, false, if◌then◌else◌, get_or, length, Some, refl, sym, ap, subst, ◌∙◌, is_some, slice_set}, lemmas.{List.set-set, Option.slice_get-get_or}}
 use Rattle.exec_request.specs.Requests.{asked_of, deadline_of}
 use Rattle.exec_task.specs.declared.body.Said.{Said}
 use Rattle.exec_machine.specs.{declared.{event.Event.TheVariants.Admit, state.Operation.Operation}, Requests.{outcome_if_late, new_request, resolved_if}, Tests.is_of_file}
 use Rattle.exec_driver.specs.Opens.{OpenState, account_in}
 use Rattle.exec_moves.specs.declared.place.{InPoll.InPoll, Place.Place}
-use Rattle.exec_parts.{specs.{Admitting.{NamesOne, joins_gate, one_made, seeing}, Records.{file_named, numbers_held, operation_in, outcome_in}, declared.parts.{held.Held.Held, shared.Shared.Shared, task_slot.TaskSlot.TaskSlot, worker.Worker.Worker}, View.account_seen}, proofs.{Enlisting.{ended_within, few_records, named_room, named_within, outcome_shown, records_room, records_same, seat_counted, seat_is, seat_within, slot_is, slot_room, slot_within}, Growing.{refuses_by, rooms_within}}}
+use Rattle.exec_parts.{specs.{Admitting.{NamesOne, joins_gate, one_made, seeing}, Records.{file_named, numbers_held, operation_in, outcome_in}, declared.parts.{held.Held.Held, shared.Shared.Shared, task_slot.TaskSlot.TaskSlot, worker.Worker.Worker}, View.account_seen}, proofs.{Enlisting.{named_within, outcome_shown, records_same, seat_counted, seat_is, seat_within, slot_is, slot_room, slot_within}, Growing.{refuses_by, rooms_within}}}
 use Rattle.exec_parts.proofs.parts.worker.Worker.register.Goals as goal
-
-pub index_mut-requires : goal.index_mut-requires
-index_mut-requires g c = let within = rooms_within c.in_default.ensures.kept in let long = (c.admit.new.shared.tasks).ok.0 in omega (arith, within, long)
 
 pub returns-in_default-clause-refused : goal.returns-in_default-clause-refused
 returns-in_default-clause-refused g c =
@@ -16,20 +13,8 @@ returns-in_default-clause-refused g c =
     let there = slice_get-get_or c.admit.new.shared.tasks.items c.args.task o (rooms_within c.in_default.ensures.kept) ∙ ap (λ y. Some y) (sym c.index_mut.ensures.value) in
     refuses_by o c.tell.new.self c.in_default.ensures.kept there (c.tell.ensures ∙ ap (λ said. record o { told = Some said }) c.refused.ensures) refl refl
 
-pub name_record-record-requires-clause-room : goal.name_record-record-requires-clause-room
-name_record-record-requires-clause-room g c = named_room c.args.task c.args.request c.in-Ok.id c.args.self.now c.admit.new.self c.args.shared.now c.admit.new.shared c.in-Ok.ensures.admitted
-
 pub name_record-record-requires-clause-slot : goal.name_record-record-requires-clause-slot
 name_record-record-requires-clause-slot g c = named_within c.args.task c.args.request c.in-Ok.id c.args.self.now c.admit.new.self c.args.shared.now c.admit.new.shared c.in-Ok.ensures.admitted c.requires.may
-
-pub name_record-record-requires-clause-over : goal.name_record-record-requires-clause-over
-name_record-record-requires-clause-over g c = ended_within c.args.task c.args.request c.in-Ok.id c.args.self.now c.admit.new.self c.args.shared.now c.admit.new.shared c.in-Ok.ensures.admitted c.requires.may
-
-pub push_reserved-requires : goal.push_reserved-requires
-push_reserved-requires g c = let long = (c.admit.new.shared.requests).ok.0 in let room = records_room c.args.task c.args.request c.in-Ok.id c.args.self.now c.admit.new.self c.args.shared.now c.admit.new.shared c.in-Ok.ensures.admitted in omega (arith, long, room)
-
-pub index_mut-slot-requires : goal.index_mut-slot-requires
-index_mut-slot-requires g c = let long = (c.admit.new.shared.tasks).ok.0 in let within = slot_within c.args.task c.args.request c.in-Ok.id c.args.self.now c.admit.new.self c.args.shared.now c.admit.new.shared c.in-Ok.ensures.admitted in omega (arith, long, within)
 
 pub hold-requires : goal.hold-requires
 hold-requires g c =
@@ -37,11 +22,6 @@ hold-requires g c =
     let o = c.index_mut-slot.result.now in
     let there = slice_get-get_or c.admit.new.shared.tasks.items c.args.task o within ∙ ap (λ y. Some y) (sym c.index_mut-slot.ensures.value) in
     record { room = slot_room c.args.task c.args.request c.in-Ok.id c.args.self.now c.admit.new.self c.args.shared.now c.admit.new.shared c.in-Ok.ensures.admitted o there }
-
-pub overflow_cast-number : goal.overflow_cast-number
-overflow_cast-number g c =
-    let few = few_records c.args.task c.args.request c.in-Ok.id c.args.self.now c.admit.new.self c.args.shared.now c.admit.new.shared c.in-Ok.ensures.admitted in
-    let long = (c.args.shared.now.requests).ok.0 in omega (arith, few, c.len-number.ensures, long)
 
 pub count_made-requires : goal.count_made-requires
 count_made-requires g c =

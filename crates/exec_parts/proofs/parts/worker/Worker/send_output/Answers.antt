@@ -2,7 +2,7 @@ use Rattle.std.{proofs.Common.{◌≡◌, ◌<◌, true, length, not, refl, sym,
 use Rattle.exec_waiters.specs.declared.deferred.Answer.{Answer}
 use Rattle.exec_machine.specs.declared.event.Event.TheVariants.{Turn}
 use Rattle.exec_moves.specs.declared.handing.Heard.{Heard}
-use Rattle.exec_parts.{specs.{MailTakes.{SendsOutput, after_sending_of}, Phased.is_complete, View.number_heard, declared.parts.{mail.Reply.Reply, worker.Worker.Worker}}, proofs.{Facts.same_thing, MailLets.{fewer_results, found_at, sending_anywhere}}}
+use Rattle.exec_parts.{specs.{MailTakes.{SendsOutput, after_sending_of}, Phased.is_complete, View.number_heard, declared.parts.{mail.Reply.Reply, worker.Worker.Worker}}, proofs.{Facts.same_Some, MailLets.{fewer_results, found_at, sending_anywhere}}}
 use Rattle.exec_parts.proofs.parts.worker.Worker.send_output.Goals as goal
 
 pub returns : goal.returns
@@ -43,6 +43,6 @@ returns g c =
     record {
       sends = λ a at.
           subst (λ (x : Answer Reply). SendsOutput {B = g.row.B.Denot} x.sender.task.0 (number_heard x.sender.of) c.args.next w w' s (record s { tasks = with_item s.tasks t c.send_output-hears.new.self; requests = with_item s.requests k (record r { sent = true }) }) Turn)
-          (same_thing a0 a (sym first ∙ at))
+          (same_Some a0 a (sym first ∙ at))
           (subst (λ n. SendsOutput {B = g.row.B.Denot} t n c.args.next w w' s (record s { tasks = with_item s.tasks t c.send_output-hears.new.self; requests = with_item s.requests k (record r { sent = true }) }) Turn) (sym (ap number_heard c.in-Request.is)) made);
     }

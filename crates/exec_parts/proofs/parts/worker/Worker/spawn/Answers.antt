@@ -2,17 +2,17 @@ use Rattle.std.proofs.{Common.{◌≡◌, ℕ, ◌<◌, length, List, get_or, So
 use Rattle.exec_base.specs.declared.error.Error.{Error}
 use Rattle.exec_task.specs.declared.body.Said.{Said}
 use Rattle.exec_machine.specs.declared.event.Event.{Event}
-use Rattle.exec_parts.{specs.{declared.parts.{shared.Shared.Shared, task_slot.TaskSlot.TaskSlot}, Pooled.MakesTask, Tests.after_spawn_of}, proofs.Facts.{by_not_not, same_thing}}
+use Rattle.exec_parts.{specs.{declared.parts.{shared.Shared.Shared, task_slot.TaskSlot.TaskSlot}, Pooled.MakesTask, Tests.after_spawn_of}, proofs.Facts.{not-false, same_Some}}
 use Rattle.exec_parts.proofs.parts.worker.Worker.spawn.Goals as goal
 
 told_so : {B : Type 0} (t : ℕ) (items : List (TaskSlot B)) (old new : TaskSlot B) (x : Said) → t < length items → old ≡ get_or items t old → new ≡ record old { told = Some x } → (slot : TaskSlot B) → slice_get items t ≡ Some slot → slice_set items t new ≡ slice_set items t (record slot { told = Some x })
 told_so {B = B} t items old new x few is told slot found =
     let there : slice_get items t ≡ Some old = slice_get-get_or items t old few ∙ ap (λ z. Some z) (sym is) in
-    ap (slice_set items t) (told ∙ ap (λ (o : TaskSlot B). record o { told = Some x }) (same_thing old slot (sym there ∙ found)))
+    ap (slice_set items t) (told ∙ ap (λ (o : TaskSlot B). record o { told = Some x }) (same_Some old slot (sym there ∙ found)))
 
 -- no task was made where the set is closed
 unmade : {B : Type 0} (body : B) (s s' : Shared B) → MakesTask body s s' None → s' ≡ s
-unmade body s s' it = it.closed (by_not_not s.set.closed (sym it.answer))
+unmade body s s' it = it.closed (not-false s.set.closed (sym it.answer))
 
 pub returns-in-Ok-Some-clause-made : goal.returns-in-Ok-Some-clause-made
 returns-in-Ok-Some-clause-made g c =

@@ -1,17 +1,6 @@
-use Rattle.std.{proofs.Common.{refl, sym, subst, arith}, specs.Vec.with_item}
+use Rattle.std.{proofs.Common.{refl, sym, subst}, specs.Vec.with_item}
 use Rattle.exec_parts.{specs.{MailTakes.{MayTake, Takes}, View.forward_of}, proofs.MailLets.found_at}
 use Rattle.exec_parts.proofs.parts.worker.Worker.take_forward.Goals as goal
-
-pub index_mut-requires : goal.index_mut-requires
-index_mut-requires g c =
-    let h = subst (λ x. MayTake {B = g.row.B.Denot} (forward_of x) c.args.self.now c.args.shared.now) c.in-Request.is c.requires.may in
-    omega (arith, h.0, c.args.shared.now.requests.ok.0)
-
-pub forward_request-requires : goal.forward_request-requires
-forward_request-requires g c =
-    let h = subst (λ x. MayTake {B = g.row.B.Denot} (forward_of x) c.args.self.now c.args.shared.now) c.in-Request.is c.requires.may in
-    let r = c.index_mut.result.now in
-    record { may = h.1 r (found_at c.args.shared.now.requests.items c.in-Request.request r h.0 c.index_mut.ensures.value) }
 
 pub returns-in-Request-clause-takes : goal.returns-in-Request-clause-takes
 returns-in-Request-clause-takes g c =
@@ -27,11 +16,6 @@ returns-in-Request-clause-takes g c =
       requests = refl;
       kept = refl;
     })
-
-pub index_mut-requires-in-Timer : goal.index_mut-requires-in-Timer
-index_mut-requires-in-Timer g c =
-    let h = subst (λ x. MayTake {B = g.row.B.Denot} (forward_of x) c.args.self.now c.args.shared.now) c.in-Timer.is c.requires.may in
-    omega (arith, h.0, c.args.shared.now.sleepers.ok.0)
 
 pub forward_timer-requires : goal.forward_timer-requires
 forward_timer-requires g c =

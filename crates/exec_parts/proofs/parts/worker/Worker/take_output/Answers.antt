@@ -2,7 +2,7 @@ use Rattle.std.proofs.Common.{◌≡◌, ◌++◌, Some, refl, sym, ap, ◌∙�
 use Rattle.exec_waiters.specs.{Events.seen_by, States.may_be_seen}
 use Rattle.exec_task.specs.declared.body.Said.{Said}
 use Rattle.exec_machine.specs.declared.state.{RequestPhase.TheVariants.Resolved, Waiting.Waiting}
-use Rattle.exec_parts.{specs.{Records.{numbers_held, outcome_in}, declared.parts.task_slot.TaskSlot.TaskSlot}, proofs.{Facts.same_thing, MailLets.found_at}}
+use Rattle.exec_parts.{specs.{Records.{numbers_held, outcome_in}, declared.parts.task_slot.TaskSlot.TaskSlot}, proofs.{Facts.same_Some, MailLets.found_at}}
 use Rattle.exec_parts.proofs.parts.worker.Worker.take_output.Goals as goal
 
 pub unreachable-requires : goal.unreachable-requires
@@ -31,7 +31,7 @@ returns g c =
     let ready = c.requires.ready r at_request in
     let o = c.index_mut-slot.result.now in
     let there = found_at s.tasks.items c.args.task o c.requires.there c.index_mut-slot.ensures.value in
-    let same = same_thing c.in-Some.outcome ready.outcome (sym c.in-Some.is ∙ c.outcome.ensures ∙ ap outcome_in ready.is) in
+    let same = same_Some c.in-Some.outcome ready.outcome (sym c.in-Some.is ∙ c.outcome.ensures ∙ ap outcome_in ready.is) in
     let fewer = c.let_go.new.self in
     let step : c.take.new.self ≡ record o { held = fewer.held; waiting = Waiting.Nothing; told = Some (Said.Output c.in-Ready.output) } =
     c.take.ensures ∙ ap (λ (x : TaskSlot g.row.B.Denot). record x { waiting = Waiting.Nothing; told = Some (Said.Output c.in-Ready.output) }) c.let_go.ensures.same in

@@ -2,7 +2,7 @@ use Rattle.std.{proofs.{Common.{MatchBool, ◌≡◌, ℕ, ◌<◌, List, length
 use Rattle.exec_task.specs.declared.body.Said.{Said}
 use Rattle.exec_machine.specs.declared.event.Event.{Event}
 use Rattle.exec_moves.specs.declared.place.{InPoll.InPoll, Place.Place}
-use Rattle.exec_parts.{specs.{declared.parts.{shared.Shared.Shared, task_slot.TaskSlot.TaskSlot, worker.Worker.Worker}, Pooled.{WakesBy, WakesHere, WakesOrdinary, WakesTask, WakesThere}}, proofs.{Facts.{not_same, same_thing}, LeafMail.root_place}}
+use Rattle.exec_parts.{specs.{declared.parts.{shared.Shared.Shared, task_slot.TaskSlot.TaskSlot, worker.Worker.Worker}, Pooled.{WakesBy, WakesHere, WakesOrdinary, WakesTask, WakesThere}}, proofs.{Facts.{not_same, same_Some}, LeafMail.root_place}}
 use Rattle.exec_parts.proofs.parts.worker.Worker.wake_task.Goals as goal
 
 module _ {B : Type 0} (t u : ℕ) (w w' : Worker) (s s' : Shared B) (e : Event) (old x other : TaskSlot B) (there : slice_get s.tasks.items t ≡ Some old) (told : x ≡ record old { told = Some Said.Pass }) (found : slice_get (slice_set s.tasks.items t x) u ≡ Some other) where
@@ -13,8 +13,8 @@ module _ {B : Type 0} (t u : ℕ) (w w' : Worker) (s s' : Shared B) (e : Event) 
   by_home wakes =
       record {
         middle = m;
-        told = record { kept = refl; tasks = λ slot at. ap (slice_set s.tasks.items t) (told ∙ ap (λ (o : TaskSlot B). record o { told = Some Said.Pass }) (same_thing old slot (sym there ∙ at))) };
-        wakes = λ slot at. subst (λ (o : TaskSlot B). WakesBy o.home t u w w' m s' e) (same_thing other slot (sym found ∙ at)) wakes;
+        told = record { kept = refl; tasks = λ slot at. ap (slice_set s.tasks.items t) (told ∙ ap (λ (o : TaskSlot B). record o { told = Some Said.Pass }) (same_Some old slot (sym there ∙ at))) };
+        wakes = λ slot at. subst (λ (o : TaskSlot B). WakesBy o.home t u w w' m s' e) (same_Some other slot (sym found ∙ at)) wakes;
       }
 
   there_by : (home : ℕ) → other.home ≡ Some home → (home ≡ w.index → ⊥) → WakesThere t home w w' m s' e → WakesTask t u w w' s s' e
