@@ -3,15 +3,13 @@
 #![tactic(auto)]
 
 use exec_base::io::{StdInput, StdOutput};
-use exec_run::run;
+use exec_run::{NO_MEMORY, run};
 use std::env;
 use std::io::{self, BufWriter};
 use std::process::ExitCode;
 
-/// The status where the words or the buffer could not be had.
-const NO_MEMORY: u8 = 7;
-
-/// Runs the program between the standard ends, and answers its status.
+/// Runs the program between the standard ends, and answers its status. An error means that the words or the buffer
+/// could not be had.
 fn status(rt: &HostRuntime) -> io::Result<u8> {
     let words: Vec<String> = env::args(rt)?.skip(1).collect(rt.alloc())?;
     let mut source = StdInput::new(rt.reader());

@@ -5,7 +5,6 @@ use Rattle.exec_outcomes.specs.declared.outcome.{OpResult.OpResult, Outcome.{Out
 use Rattle.exec_machine.specs.{declared.{event.Event.Event, state.{Forwarding.TheVariants.Sent, Request.Request, Sleeper.Sleeper}}, Deadlines.{enrolled, expired}, Requests.{dropped, ends_by_drop, flown, granted, is_cancelled_by_drop, reaped}, Same.is_none, Tasks.removed, Tests.{is_asleep, is_of_file, is_resolved}}
 use Rattle.exec_machine.specs.declared.event.Event.TheVariants as event
 use Rattle.exec_machine.specs.declared.state.MailMessage.TheVariants as message
-use Rattle.exec_machine.specs.declared.state.RequestPhase.TheVariants as phase
 
 -- LISTS
 

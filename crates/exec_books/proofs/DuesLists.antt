@@ -4,7 +4,6 @@ use Rattle.std.proofs.lemmas.Bool.{true≢false}
 use Rattle.std.proofs.lemmas.List.{get_or-set_other}
 use Rattle.exec_machine.specs.declared.state.{MailMessage.MailMessage, Request.Request, Sleeper.Sleeper}
 use Rattle.exec_machine.specs.{Choice.{Choice}, Deadlines.{earlier, is_after, first_timer, first_until, next_due, rest_until}, Mail.{after_post, after_rouse}, Tasks.{new_seat}, Tests.{is_asleep, is_awake}, World.{Common, Seat, no_request, no_seat, no_sleeper, request_of, seat_of, sleeper_of}}
-use Rattle.exec_machine.specs.declared.state.Rest.TheVariants as rest
 use Rattle.exec_rest.proofs.Others.{set_like}
 
 -- worker i sleeps, where it does, until what is due next, which is ahead

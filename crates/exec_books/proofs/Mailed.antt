@@ -1,5 +1,5 @@
 -- What was sent of a request or a sleeper is under way until it is applied, also after an event of a worker.
-use Rattle.std.proofs.Common.{◌≡◌, ℕ, zero, suc, ◌<◌, Bool, true, false, List, [], ◌∷◌, length, refl, sym, ap, ◌∙◌, subst, inl, inr, arith, get_or, set}
+use Rattle.std.proofs.Common.{◌≡◌, ℕ, zero, suc, ◌<◌, Bool, true, List, [], ◌∷◌, length, refl, sym, ap, ◌∙◌, subst, inl, inr, arith, get_or, set}
 use Rattle.std.proofs.lemmas.Bool.{true≢false, false≢true, cases_Bool, eqb-true}
 use Rattle.std.specs.Prelude.{◌⊎◌}
 use Rattle.exec_machine.specs.{declared.{config.Configuration.Configuration, event.Event.Event, state.{Forwarding.{Forwarding, TheVariants.{Applied, Sent, Unsent}}, MailMessage.MailMessage}}, After.{after, common_after}, Allowed.Allowed, Choice.Choice, Mail.{after_sending, posted}, Same.same_message, Tests.{is_applied, is_unsent}, World.{Common, Own as Books, World, no_request, no_sleeper, own_of, request_of, seat_of, sleeper_of}}

@@ -5,7 +5,6 @@ use Rattle.std.proofs.lemmas.Bool.{true≢false, false≢true, eqb-true, eqb-fal
 use Rattle.std.proofs.lemmas.Grind.{get_or-set_at}
 use Rattle.std.proofs.lemmas.List.{get_or-set_other, set_past}
 use Rattle.exec_machine.specs.{declared.state.{Request.Request, MailMessage.TheVariants.{CancelRequest}, Waiting.Waiting}, Requests.{dropped, ends_by_drop, is_cancelled_by_drop, own_after_drop, joined_if, own_after_end}, World.{Own as Books, Common, no_request, request_of, task_of}, Tasks.{after_over, own_after_drops, own_after_over, own_after_waking_up, owes, requests_after_drops}}
-use Rattle.exec_machine.specs.declared.state.Waiting.TheVariants as waiting
 use Rattle.exec_books.specs.Listed.{IsListed}
 use Rattle.exec_books.proofs.Listed.{KeepsIn, in_last, kept_joined, kept_left, over_listed}
 use Rattle.exec_books.proofs.MinePhases.{drop_listed}

@@ -7,7 +7,6 @@ use Rattle.exec_machine.specs.declared.{config.Configuration.Configuration, even
 use Rattle.exec_machine.specs.{After.{common_after, polled}, Choice.{Choice, Payer, Choice.{Plain, Pays, Posts}, Payer.{ByRequest, BySleeper, ByAct, ByCall, ByStop}}, Closing.{after_clear, after_next, ends_by_clear, with_cleared}, Deadlines.{enrolled, expired}, Mail.{after_post, after_sending, is_left_out, is_root_message}, Requests.{dropped, flown, granted, new_request, reaped, resolved_if}, Tasks.{after_over, after_payment, after_pend, after_word, requests_after_drops}, World.{Common, Own as Books, no_request, request_of, task_of}}
 use Rattle.exec_machine.specs.declared.event.Event.TheVariants as event
 use Rattle.exec_machine.specs.declared.state.MailMessage.TheVariants as message
-use Rattle.exec_machine.specs.declared.state.Next.TheVariants as next
 use Rattle.exec_books.proofs.Own.{IsOwn}
 
 -- of a request this stays

@@ -3,7 +3,7 @@
 use Rattle.std.proofs.{Common.{◌≡◌, ◌≢◌, ℕ, suc, ◌+◌, ◌<◌, ◌≤◌, ◌&&◌, ◌||◌, true, false, Contains, List, [], ◌∷◌, length, map, option_map, Some, None, IsSome, refl, sym, ap, subst, ◌∙◌, arith, slice_get, if◌then◌else◌}, lemmas.{Bool.false≢true, List.length-map, Option.slice_get-map}}
 use Rattle.exec_base.specs.{Slab.value_at, declared.slab.Id.Id}
 use Rattle.exec_time.specs.declared.timers.Sleeper.{Sleeper as Sleeping}
-use Rattle.exec_machine.specs.{Closing.gone_with, Tasks.removed, Tests.{is_applied, is_asleep, is_unsent}}
+use Rattle.exec_machine.specs.{Closing.gone_with, Tests.{is_applied, is_asleep, is_unsent}}
 use Rattle.exec_moves.specs.declared.{handing.Heard.Heard, place.{InClosing.InClosing, Place.Place}}
 use Rattle.exec_parts.{specs.{declared.parts.{mail.Reply.Reply, shared.Shared.Shared, sleeping.SleeperRecord.SleeperRecord, worker.Worker.Worker}, Calls.{sleeper_gone_with, sleeper_removed}, Records.number_in, View.{driver_of, numbers_of_passing}}, proofs.Facts.not_same}
 use Rattle.exec_invariants.{specs.{Due.{AreAsleep, IsDue}, Holding.{IsHolding, Mail, Nap, box_of, holder_of, nap_of, thing_of}, Places.one_if, Rooted.{IsRooted, SleeperPays, completions_of, ends_elsewhere}, Sound.{HasLetters, IsMyMail, SoundAt}, Names.IsNamed, Spares.{SleepersEndure, SparedSleepers, Spares, SparesSleepers}, Whole.{IsWhole, Profile, hands_of}}, proofs.{FiringNames.naps_on, Lined.unmapped}}

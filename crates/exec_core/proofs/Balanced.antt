@@ -1,5 +1,5 @@
 -- The first state: nobody has anything, and so all balances hold.
-use Rattle.std.proofs.{Common.{◌≡◌, ℕ, zero, suc, ◌==◌, ◌&&◌, Bool, true, false, not, Contains, List, [], ◌∷◌, ◌++◌, length, map, replicate, Some, None, refl, sym, ap, subst, ◌∙◌, arith, if◌then◌else◌, slice_get, slice_index_or, sum_by}, lemmas.{Bool.false≢true, List.Sums.sum_by-cons, Option.slice_get_within}}
+use Rattle.std.proofs.{Common.{◌≡◌, ℕ, zero, suc, ◌==◌, ◌&&◌, Bool, true, false, not, Contains, List, [], ◌∷◌, ◌++◌, length, map, replicate, Some, None, refl, sym, ap, subst, ◌∙◌, arith, if◌then◌else◌, slice_get, slice_index_or}, lemmas.{Bool.false≢true, List.Sums.sum_by-cons, Option.slice_get_within}}
 use Rattle.std.specs.List.{range_with_len}
 use Rattle.exec_task.specs.declared.runnable.Runnable.{Runnable}
 use Rattle.exec_task.specs.TaskSet.{AreAtHome, Set, at_number}

@@ -4,7 +4,6 @@ use Rattle.std.proofs.Common.{arith}
 use Rattle.std.specs.Prelude.{if◌then◌else◌}
 use Rattle.exec_task.specs.declared.body.Said.{Said}
 use Rattle.exec_machine.specs.{declared.{event.{Event.Event, StepResult.TheVariants.Did}, step.Action.Action}, Callers.common_by, Choice.Choice, Progress.Plan, Run.{after_event}, World.{Common}}
-use Rattle.exec_machine.specs.declared.event.Event.TheVariants as event
 use Rattle.exec_machine.specs.declared.step.Action.TheVariants as action
 use Rattle.exec_moves.specs.{Call.{Called, no_call}, MoveOfCaller.move_of_caller, Plays.{Played, Playing, by_action, by_call, caller_of}, State.Things}
 use Rattle.exec_parts.specs.{declared.parts.task_slot.TaskSlot.TaskSlot, Spots.Spot, View.{desk_of, common_of, task_seen, things_with}}

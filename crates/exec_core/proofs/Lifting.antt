@@ -3,7 +3,6 @@
 use Rattle.std.proofs.{Common.{◌≡◌, ◌≢◌, ℕ, suc, ◌+◌, ◌<◌, ◌≤◌, Bool, true, false, List, [], ◌∷◌, ◌++◌, length, map, Option, None, Some, refl, sym, ap, subst, ◌∙◌, ⊎_elim, arith, option_to_list, slice_get, slice_set}, lemmas.{Bool.cases_lt, List.{map-append, map-set, length-set, length-map, length-append, append-nil}, Option.{slice_get-map, slice_get_within, get_or_from_slice_get}}}
 use Rattle.exec_task.specs.declared.body.Said.{Said}
 use Rattle.exec_machine.specs.{declared.{config.Configuration.Configuration, event.{Event.Event, StepResult.TheVariants.Did}}, After.{own_after, common_after, made_by}, Callers.is_enabled, Choice.Choice, Progress.Plan, Run.after_event, World.{World, Own, Common, no_own, own_of as own_at}}
-use Rattle.exec_machine.specs.declared.event.Event.TheVariants as event
 use Rattle.exec_machine.specs.declared.step.Action.TheVariants as action
 use Rattle.exec_moves.specs.{Pop.shard_count, Call.CallDesk, Plays.{Played, Playing, by_action, by_move, desk_of as desk_at, first_desk, newcomers}, State.{Desk, Things}}
 use Rattle.exec_parts.specs.{declared.parts.{record.Record.Record, seat.Seat.Seat as Chair, shared.Shared.Shared, sleeping.SleeperRecord.SleeperRecord, task_slot.TaskSlot.TaskSlot, worker.Worker.Worker}, Spots.Spot, View.{Views, Visible, own_of, visible, with_view, desk_of, common_of, seats_seen, things_with}}

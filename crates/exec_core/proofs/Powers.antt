@@ -1,12 +1,13 @@
 -- What the ranges of a configuration give.
 use Rattle.std.proofs.Common.{◌≡◌, ℕ, zero, suc, ◌*◌, ◌^◌, ◌≤◌, true, refl, ap, ◌∙◌, arith}
 use Rattle.std.proofs.lemmas.Bool.{and_parts, leb-true}
+use Rattle.exec_base.specs.declared.limits.TheConstants.{LONGEST_TIMEOUT}
 use Rattle.exec_machine.specs.{declared.config.Configuration.Configuration, Ranges.{doubled_up_to, ticks_needed}}
 use Rattle.exec_task.specs.TaskSet.{IsShardCount}
 use Rattle.exec_moves.specs.Pop.{power_from, shard_count}
 use Rattle.exec_parts.specs.Roles.{MayBegin}
 use Rattle.exec_parts.proofs.LeafPowers.{power_is}
-use Rattle.exec_core.specs.Ranges.{is_in_range, longest_timeout}
+use Rattle.exec_core.specs.Ranges.{is_in_range}
 
 -- A CONFIGURATION IN ITS RANGES
 
@@ -15,9 +16,9 @@ pub record InRange (c : Configuration) : Type 0 where
   pub workers : c.workers ≤ 64
   pub interval : 1 ≤ c.interval
   pub ring : c.ring ≤ 32768
-  pub tick : (1 ≤ c.tick) × (c.tick ≤ longest_timeout)
-  pub connect : (1 ≤ c.connect) × (c.connect ≤ longest_timeout)
-  pub rw : (1 ≤ c.rw) × (c.rw ≤ longest_timeout)
+  pub tick : (1 ≤ c.tick) × (c.tick ≤ LONGEST_TIMEOUT)
+  pub connect : (1 ≤ c.connect) × (c.connect ≤ LONGEST_TIMEOUT)
+  pub rw : (1 ≤ c.rw) × (c.rw ≤ LONGEST_TIMEOUT)
   pub spins : c.spin.budget ≤ c.spin.most
   pub layout : ticks_needed c ≤ 2 ^ 20
   pub files : c.files ≤ 64

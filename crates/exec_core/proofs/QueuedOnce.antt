@@ -4,7 +4,6 @@ use Rattle.std.specs.Prelude.{if◌then◌else◌}
 use Rattle.std.proofs.lemmas.{List.Sums.sum_by-cons, Option.slice_get-map}
 use Rattle.exec_task.specs.{Phases.is_polled, declared.{body.Said.Said, runnable.Runnable.Runnable, task.Phase.Phase}}
 use Rattle.exec_machine.specs.{declared.state.{MailMessage.TheVariants.{CancelRequest}, Request.Request, Waiting.Waiting}, Progress.Plan, World.{Common, Task, request_of}}
-use Rattle.exec_machine.specs.declared.state.Waiting.TheVariants as waiting
 use Rattle.exec_moves.specs.{Call.CallDesk, Plays.Playing, Poll.{is_noted, pend, requeued_if}, Told.{lets_go_all, lets_go_request, lets_go_requests, lets_go_sleep, owes, told_of_drop}, Seen.polls_at, State.Desk}
 use Rattle.exec_words.specs.Queue.{Queue}
 use Rattle.exec_parts.specs.{declared.parts.{seat.Seat.Seat as Chair, task_slot.TaskSlot.TaskSlot, worker.Worker.Worker}, Spots.Spot, View.{desk_of, phase_seen, queue_at, task_seen}}

@@ -3,7 +3,6 @@
 use Rattle.std.proofs.Common.{◌≡◌, ◌⊎◌, ℕ, zero, suc, ◌<◌, ◌||◌, Bool, true, false, nat_lt, Option, [], ◌++◌, length, Some, None, option_to_list, slice_get, refl, sym, ap, subst, ◌∙◌, inl, inr, arith}
 use Rattle.std.proofs.lemmas.{Bool.{cases_Bool, false≢true, true≢false, ltb-true, ltb-false, or_right}, Option.{get_or_from_slice_get, slice_get_within}, List.get_or_past}
 use Rattle.exec_machine.specs.{declared.{config.Configuration.Configuration, state.TaskPhase.TaskPhase}, Progress.{all_asleep, is_runnable}, Tests.{has_ended}, World.{Task, seat_of}}
-use Rattle.exec_machine.specs.declared.state.TaskPhase.TheVariants as phase
 use Rattle.exec_words.specs.Queue.{Queue}
 use Rattle.exec_moves.specs.{declared.place.Place.Place, Call.{CallDesk, no_call}, Plays.{Playing, desk_of, first_desk}, Seen.polls_at, State.{Desk, inbox_of, queue_of}}
 use Rattle.exec_invariants.specs.Places.{is_number, one_if}

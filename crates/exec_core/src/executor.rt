@@ -83,7 +83,8 @@ impl<B: Scripted + Drop> Core<B> {
         self.spent
     }
 
-    /// Whether the step may be taken.
+    /// Whether the step may be taken. The caller must know that the executor isn't spent: of a spent one it is only known that
+    /// what can be seen of it is as before the step that got no memory.
     #[tactic(auto, using(crate::proofs::Enabling::enabled_as))]
     pub fn enabled(&self, action: Action) -> bool
         requires stands { Stands self.now }

@@ -9,8 +9,9 @@ ghost use Rattle.exec_core.specs.{declared.executor.Core.Core, Lift.{Stands, Sho
 
 use exec_parts::scripted::Scripted;
 
-/// In each state a task that is to be polled has one runnable, in one queue or one hand, and one that is polled has
-/// none. A poll that ends pending gives one where a wake came in it, and none where the task was cleared.
+/// In each state an ordinary task that is to be polled has one runnable, in one queue or one hand, until the task set or
+/// the global queue is closed, and then one at most; one that is polled has none. A poll that ends pending gives one
+/// where a wake came in it, and none where the task was cleared.
 pub fn a_task_is_queued_once<B: Scripted + Drop>()
     ensures once { (p : Plan) (c : Core B) (x : Playing) → Stands c → Shows B.left B.runs B.holds B.spot p c x →
         QueuesOnce x }

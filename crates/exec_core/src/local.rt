@@ -68,12 +68,13 @@ impl<'a> Local<'a> {
         ensures worker { self.new.worker.now ≡ self.old.worker.now }
         ensures same_seat { self.new.seat.ghost_name ≡ self.old.seat.ghost_name }
         ensures same_worker { self.new.worker.ghost_name ≡ self.old.worker.ghost_name }
+        ensures pool { (self.new.workers ≡ self.old.workers) × (self.new.tasks ≡ self.old.tasks) }
     {
         self.seat.queue.push_fitting(runnable);
     }
 
     /// Nobody waits for the request from now on. The caller must have made room for two in each list of what is to be told.
-    /// Ports `cancel`.
+    /// Ports `cancel` where the waiter is of this worker; a sleeper of it is let go of by `timers.cancel`.
     pub fn cancel(&mut self, id: WaiterId)
         requires room { HasPlaces self.old.worker.now.home.deferred 2 }
         ensures let_go { driver_of self.new.worker.now ≡ let_go (driver_of self.old.worker.now) id }
@@ -81,6 +82,7 @@ impl<'a> Local<'a> {
         ensures seat { self.new.seat.now ≡ self.old.seat.now }
         ensures same_seat { self.new.seat.ghost_name ≡ self.old.seat.ghost_name }
         ensures same_worker { self.new.worker.ghost_name ≡ self.old.worker.ghost_name }
+        ensures pool { (self.new.workers ≡ self.old.workers) × (self.new.tasks ≡ self.old.tasks) }
     {
         let_go_of(&mut self.worker.home, id);
     }

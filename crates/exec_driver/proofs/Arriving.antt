@@ -6,12 +6,11 @@ use Rattle.std.proofs.lemmas.List.Sums.{sum_by-set, sum_by_push}
 use Rattle.exec_base.specs.{Slab.{Slab, slot_at, value_in, value_at, removed, inserted, filled, next_id, next_generation, generation_of, is_live, live_count, freed, IsPast, TakesId, Updates}, declared.slab.{Id.Id, Slot.{Slot, TheVariants.{Live, Vacant, Retired}}}}
 use Rattle.exec_base.proofs.Slots.{some_of_if, past-free, past-write, Changed-set}
 use Rattle.exec_outcomes.specs.Accounts.{Account, is_durable}
-use Rattle.exec_outcomes.specs.declared.outcome.Kind.TheVariants as kind
 use Rattle.exec_request.specs.{Requests.{asked_of, deadline_of, gate_of}, States.Ended, declared.{output.RequestOutput.RequestOutput, request.Request.{Request}}}
 use Rattle.exec_time.specs.Wheel.{Wheel}
 use Rattle.exec_waiters.specs.{Events.{finished, finished_for}, States.{waiter_at, waiter_of, is_flying, pending_count}, declared.{observer.Observer.{Observer}, waiter.{Waiter.Waiter, Entry.{Entry, TheVariants.{Pending}}}, waiter_id.WaiterId.WaiterId}}
 use Rattle.exec_waiters.proofs.Changes.{at_by, entry_of, one_if}
-use Rattle.exec_driver.specs.{Admission.{HasTwoMore, with_rooms}, Driving.{Driving, is_queued, is_gated, is_unenrolled, is_enrolled, is_cancelled}, Lists.{Lists, with_queued, with_gated, with_enrolment}, Sound.{IsListed, IsSound, IsHeld, is_unpermitted, is_at_tick, is_uncancelled, counts}, Steps.{ended, in_place, with_deadline, placed_at, taken_in, newcomer, is_late, timed_out}}
+use Rattle.exec_driver.specs.{Admission.{HasTwoMore, with_rooms}, Driving.{Driving, is_queued, is_gated, is_unenrolled, is_enrolled, is_cancelled}, Lists.{Lists, with_queued, with_gated, with_enrolment}, Sound.{IsListed, IsSound, IsHeld, is_unpermitted, is_undated, is_at_tick, is_uncancelled, counts}, Steps.{ended, in_place, with_deadline, placed_at, taken_in, newcomer, is_late, timed_out}}
 
 pub durable_gated : (r : Request) → is_durable (asked_of r).kind ≡ is_some (gate_of r)
 durable_gated = grind arith
@@ -134,6 +133,7 @@ module _ {S F : Type 0} where
         due = rw joins.due (shifted is_enrolled _ _ id _ _ _ _ one (Kept refl (inr refl)) sound.due);
         cancels = rw joins.cancels (shifted is_cancelled _ _ id _ _ _ _ one (Kept refl (inr refl)) sound.cancels);
         permits = nowhere is_unpermitted _ _ id.0 _ _ one refl sound.permits;
+        dated = nowhere is_undated _ _ id.0 _ _ one refl sound.dated;
         ticks = λ t. let n = one.numbers (is_at_tick t) refl in omega (arith, n, sound.ticks t);
         drained = sound.drained;
         entries = omega (arith, sound.entries, flying, flying_is d.requests, flying_is s');

@@ -1,7 +1,7 @@
 -- A request that ends, or is cancelled, keeps a driver sound.
 use Rattle.std.proofs.Common.{◌≡◌, ℕ, ◌+◌, ◌<◌, ◌≤◌, true, false, [], ◌∷◌, length, Option, Some, None, refl, sym, ap, ◌∙◌, inr, arith, length-append}
 use Rattle.std.specs.Option.{IfSome}
-use Rattle.exec_driver.proofs.{Words.{is_some, false≢true, Slab, value_at, written, Id, Account, Ended, asks_cancel, Wheel, told_by_finish, cancelled, changed, waiter_at, is_flying, pending_count, tick_in, Observer, Local, Forwarded, DetachedSync, Orphaned, Waiter, Entry, Pending, Ready, WaiterId, WaiterState, Active, CancelRequested, entry_of, one_if, Driving, request_at, is_queued, is_gated, is_unenrolled, is_enrolled, is_cancelled, without, IsSound, IsHeld, is_tick, is_unpermitted, is_at_tick, is_uncancelled, count_of, Tells, Deferred, ended, cancelling, not-true, not-false}, Names.fewer_without, Counting.{OneChanged, same_written, one_written, one_removed, pending_is, flying_is}, Shifts.{Left, Kept, Joined, shifted, nowhere, room_for}}
+use Rattle.exec_driver.proofs.{Words.{is_some, false≢true, Slab, value_at, written, Id, Account, Ended, asks_cancel, Wheel, told_by_finish, cancelled, changed, waiter_at, is_flying, pending_count, tick_in, Observer, Local, Forwarded, DetachedSync, Orphaned, Waiter, Entry, Pending, Ready, WaiterId, WaiterState, Active, CancelRequested, entry_of, one_if, Driving, request_at, is_queued, is_gated, is_unenrolled, is_enrolled, is_cancelled, without, IsSound, IsHeld, is_tick, is_unpermitted, is_undated, is_at_tick, is_uncancelled, count_of, Tells, Deferred, ended, cancelling, not-true, not-false}, Names.fewer_without, Counting.{OneChanged, same_written, one_written, one_removed, pending_is, flying_is}, Shifts.{Left, Kept, Joined, shifted, nowhere, room_for}}
 use Rattle.exec_request.specs.{Requests.output_of, declared.output.RequestOutput.RequestOutput}
 use Rattle.exec_time.specs.Wheel.{removed}
 use Rattle.exec_waiters.specs.{Events.{finished, finished_for, may_cancel}, States.is_idle}
@@ -101,6 +101,7 @@ module _ {S F : Type 0} where
         due = shifted is_enrolled _ _ id _ _ _ _ one (Left refl) sound.due;
         cancels = shifted is_cancelled _ _ id _ _ _ _ one (Left refl) sound.cancels;
         permits = nowhere is_unpermitted _ _ id.0 _ _ one refl sound.permits;
+        dated = nowhere is_undated _ _ id.0 _ _ one refl sound.dated;
         ticks = ticks_after d.wheel (tick_in w.state) (λ t. count_of (is_at_tick t) d.requests) (λ t. count_of (is_at_tick t) s') sound.ticks (λ t. let n = one.numbers (is_at_tick t) refl in omega (arith, n));
         drained = ready_after d.wheel (tick_in w.state) ∙ sound.drained;
         entries = omega (arith, sound.entries, flying, flying_is d.requests, flying_is s');
@@ -136,6 +137,7 @@ module _ {S F : Type 0} where
         due = shifted is_enrolled _ _ id _ _ _ _ one (Left refl) sound.due;
         cancels = shifted is_cancelled _ _ id _ _ _ _ one (Joined refl un refl) sound.cancels;
         permits = nowhere is_unpermitted _ _ id.0 _ _ one (ap is_unpermitted (sym one.was_at) ∙ sound.permits id.0) sound.permits;
+        dated = nowhere is_undated _ _ id.0 _ _ one refl sound.dated;
         ticks = ticks_after d.wheel (tick_in w.state) (λ t. count_of (is_at_tick t) d.requests) (λ t. count_of (is_at_tick t) s') sound.ticks (λ t. let n = one.numbers (is_at_tick t) refl in omega (arith, n));
         drained = ready_after d.wheel (tick_in w.state) ∙ sound.drained;
         entries = omega (arith, sound.entries, flying, flying_is d.requests, flying_is s');

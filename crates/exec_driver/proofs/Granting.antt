@@ -1,7 +1,7 @@
 -- A permit, a deadline that is enrolled, and one that has come, keep a driver as it should be.
-use Rattle.std.proofs.Common.{◌≡◌, ℕ, ◌+◌, ◌<◌, ◌≤◌, Bool, true, false, not, ◌&&◌, List, [], ◌∷◌, ◌++◌, length, Option, Some, None, refl, ap, ◌∙◌, inl, inr, arith}
-use Rattle.exec_driver.proofs.{Words.{is_some, false≢true, Slab, written, Id, deadline_of, asks_cancel, Active, Wheel, with_permit, with_tick, waiter_at, is_flying, needs_permit, Waiter, Entry, Pending, WaiterId, one_if, Driving, request_at, is_queued, is_gated, is_unenrolled, is_enrolled, is_cancelled, first_of, rest_of, is_among, with_queued, after_enrolment, IsSound, IsHeld, is_unpermitted, is_at_tick, is_tick, is_uncancelled, are_all, is_once, count_of, and_parts}, Names.same_tells, Counting.{pending_is, flying_is}, Shifts.{Left, Kept, Joined, First, shifted, nowhere, room_for}, Endings.one_changed, Stepping.{stays, there_by, first_tells}}
-use Rattle.exec_driver.specs.{Placed.ListsRequests, Lists.without_gated}
+use Rattle.std.proofs.Common.{◌≡◌, ℕ, ◌+◌, ◌<◌, ◌≤◌, Bool, true, false, not, ◌&&◌, List, [], ◌∷◌, ◌++◌, length, Option, Some, None, refl, sym, ap, ◌∙◌, inl, inr, arith}
+use Rattle.exec_driver.proofs.{Words.{is_some, false≢true, Slab, written, Id, deadline_of, asks_cancel, Active, Wheel, with_permit, with_tick, waiter_at, is_flying, needs_permit, Waiter, Entry, Pending, WaiterId, one_if, Driving, request_at, is_queued, is_gated, is_unenrolled, is_enrolled, is_cancelled, first_of, rest_of, is_among, with_queued, after_enrolment, IsSound, IsHeld, is_unpermitted, is_undated, is_at_tick, is_tick, is_uncancelled, are_all, is_once, count_of, and_parts}, Names.same_tells, Counting.{pending_is, flying_is}, Shifts.{Left, Kept, Joined, First, shifted, nowhere, room_for}, Endings.one_changed, Stepping.{stays, there_by, first_tells}}
+use Rattle.exec_driver.specs.{Placed.{ListsRequests, HasDeadlines}, Lists.without_gated}
 use Rattle.exec_time.specs.Wheel.{scheduled}
 
 -- one more is active at a tick
@@ -35,6 +35,9 @@ module _ {S F : Type 0} where
         | inl same ↦ rw (← same.1) parts.0
         | inr other ↦ among_in p s id ids parts.1 (rw other.0 at among)
       ]
+
+  pub has_deadlines : (d : Driving S F) → IsSound d → HasDeadlines d
+  has_deadlines = grind arith
 
   pub lists_requests : (d : Driving S F) → IsSound d → ListsRequests d
   lists_requests = grind (arith, among_in, is_queued, is_gated, is_unenrolled, is_enrolled, is_cancelled, once_first)
@@ -80,6 +83,7 @@ module _ {S F : Type 0} where
           due = shifted is_enrolled _ _ id _ _ _ _ one (stays is_enrolled (Some w) (Some w') id _ refl) sound.due;
           cancels = shifted is_cancelled _ _ id _ _ _ _ one (stays is_cancelled (Some w) (Some w') id _ refl) sound.cancels;
           permits = nowhere is_unpermitted _ _ id.0 _ _ one (rw waits.idle refl) sound.permits;
+          dated = nowhere is_undated _ _ id.0 _ _ one (ap is_undated (sym one.was_at) ∙ sound.dated id.0) sound.dated;
           ticks = λ t. let n = one.numbers (is_at_tick t) refl in omega (arith, n, sound.ticks t);
           drained = sound.drained;
           entries = omega (arith, sound.entries, flying, flying_is d.requests, flying_is s');
@@ -132,6 +136,7 @@ module _ {S F : Type 0} where
           due = shifted is_enrolled _ _ id _ _ _ _ one (Kept refl (inl refl)) sound.due;
           cancels = shifted is_cancelled _ _ id _ _ _ _ one (Kept refl (inr (rw unset.state refl))) sound.cancels;
           permits = nowhere is_unpermitted _ _ id.0 _ _ one (rw unset.idle refl) sound.permits;
+          dated = nowhere is_undated _ _ id.0 _ _ one (rw unset.deadline refl) sound.dated;
           ticks = ticks_more d.wheel id.0 tick (λ t. count_of (is_at_tick t) d.requests) (λ t. count_of (is_at_tick t) s') sound.ticks (λ t. let n = rw unset.state at (one.numbers (is_at_tick t) refl) in omega (arith, n));
           drained = ready_scheduled d.wheel id.0 tick ∙ sound.drained;
           entries = omega (arith, sound.entries, flying, flying_is d.requests, flying_is s');

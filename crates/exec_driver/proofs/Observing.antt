@@ -1,13 +1,13 @@
 -- Who waits for a request decides nothing of where it is.
 use Rattle.std.proofs.Common.{◌≡◌, ℕ, Bool, true, false, cond, Option, Some, None, refl, sym, ap, ◌∙◌, arith}
-use Rattle.exec_driver.proofs.{Words.{is_some, false≢true, Slab, value_at, written, TaskNo, changed, waiter_in, is_flying, Observer, Local, Forwarded, Orphaned, Waiter, Entry, Pending, Ready, WaiterId, Driving, is_queued, is_gated, is_unenrolled, is_enrolled, is_cancelled, IsHeld, is_unpermitted, is_at_tick, is_uncancelled}, Counting.{OneChanged, one_written, one_removed, pending_is, flying_is}, Shifts.{shifted, nowhere}, Stepping.stays}
+use Rattle.exec_driver.proofs.{Words.{is_some, false≢true, Slab, value_at, written, TaskNo, changed, waiter_in, is_flying, Observer, Local, Forwarded, Orphaned, Waiter, Entry, Pending, Ready, WaiterId, Driving, is_queued, is_gated, is_unenrolled, is_enrolled, is_cancelled, IsHeld, is_unpermitted, is_undated, is_at_tick, is_uncancelled}, Counting.{OneChanged, one_written, one_removed, pending_is, flying_is}, Shifts.{shifted, nowhere}, Stepping.stays}
 use Rattle.exec_base.specs.Slab.{removed}
 use Rattle.exec_waiters.specs.{Events.{taken_from, taken, forwarded_from, forwarded, orphaned_from, orphaned, changed_from, with_observer, with_waker}, States.{is_local, is_held_by}}
 
 module _ {S F : Type 0} where
   -- one change after which each place has the request as before
-  pub held_alike : (d : Driving S F) (s' : Slab (Entry S F)) (id : WaiterId) (was is : Option (Waiter S F)) (room most spots : ℕ) → OneChanged d.requests s' id.0 was is → is_queued is ≡ is_queued was → is_gated is ≡ is_gated was → is_unenrolled is ≡ is_unenrolled was → is_enrolled is ≡ is_enrolled was → is_cancelled is ≡ is_cancelled was → is_unpermitted is ≡ is_unpermitted was → ((t : ℕ) → is_at_tick t is ≡ is_at_tick t was) → is_flying is ≡ is_flying was → is_some is ≡ is_some was → is_uncancelled is ≡ is_uncancelled was → IsHeld d room most spots → IsHeld (record d { requests = s' }) room most spots
-  held_alike d s' id was is room most spots one queued gated unenrolled enrolled cancelled unpermitted tick flies some un held =
+  pub held_alike : (d : Driving S F) (s' : Slab (Entry S F)) (id : WaiterId) (was is : Option (Waiter S F)) (room most spots : ℕ) → OneChanged d.requests s' id.0 was is → is_queued is ≡ is_queued was → is_gated is ≡ is_gated was → is_unenrolled is ≡ is_unenrolled was → is_enrolled is ≡ is_enrolled was → is_cancelled is ≡ is_cancelled was → is_unpermitted is ≡ is_unpermitted was → is_undated is ≡ is_undated was → ((t : ℕ) → is_at_tick t is ≡ is_at_tick t was) → is_flying is ≡ is_flying was → is_some is ≡ is_some was → is_uncancelled is ≡ is_uncancelled was → IsHeld d room most spots → IsHeld (record d { requests = s' }) room most spots
+  held_alike d s' id was is room most spots one queued gated unenrolled enrolled cancelled unpermitted undated tick flies some un held =
       let sound = held.sound in
       let same = rw some at (one.numbers is_some refl) in
       let flying = rw flies at (one.numbers is_flying refl) in
@@ -20,6 +20,7 @@ module _ {S F : Type 0} where
           due = shifted is_enrolled _ _ id _ _ _ _ one (stays is_enrolled was is id _ enrolled) sound.due;
           cancels = shifted is_cancelled _ _ id _ _ _ _ one (stays is_cancelled was is id _ cancelled) sound.cancels;
           permits = nowhere is_unpermitted _ _ id.0 _ _ one (unpermitted ∙ ap is_unpermitted (sym one.was_at) ∙ sound.permits id.0) sound.permits;
+          dated = nowhere is_undated _ _ id.0 _ _ one (undated ∙ ap is_undated (sym one.was_at) ∙ sound.dated id.0) sound.dated;
           ticks = λ t. let n = rw (tick t) at (one.numbers (is_at_tick t) refl) in omega (arith, n, sound.ticks t);
           drained = sound.drained;
           entries = omega (arith, sound.entries, flying, flying_is d.requests, flying_is s');
@@ -33,12 +34,12 @@ module _ {S F : Type 0} where
 
   held_observed : (d : Driving S F) (id : WaiterId) (w : Waiter S F) (observer : Observer S F) (room most spots : ℕ) → value_at d.requests id.0 ≡ Some (Pending w) → IsHeld d room most spots → IsHeld (record d { requests = written d.requests id.0 (Pending (with_observer observer w)) }) room most spots
   held_observed d id w observer room most spots at held =
-      held_alike d _ id (Some w) (Some (with_observer observer w)) room most spots (one_written d.requests id.0 (Pending w) (Pending (with_observer observer w)) at) refl refl refl refl refl refl (λ t. refl) refl refl refl held
+      held_alike d _ id (Some w) (Some (with_observer observer w)) room most spots (one_written d.requests id.0 (Pending w) (Pending (with_observer observer w)) at) refl refl refl refl refl refl refl (λ t. refl) refl refl refl held
 
   held_let : (d : Driving S F) (id : WaiterId) (e : Entry S F) (room most spots : ℕ) → value_at d.requests id.0 ≡ Some e → is_some (waiter_in e) ≡ false → IsHeld d room most spots → IsHeld (record d { requests = removed d.requests id.0 }) room most spots
   held_let d id (Pending w) room most spots at out held = absurd (false≢true (sym out))
   held_let d id (Ready told) room most spots at out held =
-      held_alike d _ id None None room most spots (one_removed d.requests id.0 (Ready told) at) refl refl refl refl refl refl (λ t. refl) refl refl refl held
+      held_alike d _ id None None room most spots (one_removed d.requests id.0 (Ready told) at) refl refl refl refl refl refl refl (λ t. refl) refl refl refl held
 
   pub held_seen : (d : Driving S F) (id : WaiterId) (room most spots : ℕ) → IsHeld d room most spots → IsHeld (record d { requests = taken d.requests id.0 }) room most spots
   held_seen d id room most spots held = by (value_at d.requests id.0) refl

@@ -1,16 +1,23 @@
 -- Why the laws hold.
-use Rattle.std.proofs.Common.{◌≡◌, ℕ, Bool, true, false, List, Option, Some, None, Ok, Err, refl, sym, ap, subst, arith}
+use Rattle.std.proofs.Common.{◌≡◌, ℕ, Bool, true, false, List, Option, Some, None, Ok, Err, is_some, refl, sym, ap, ◌∙◌, subst, arith}
+use Rattle.std.proofs.lemmas.Bool.{false≢true}
 use Rattle.exec_base.specs.{declared.{error.Error.Error, slab.Id.Id}, Slab.Slab}
 use Rattle.exec_outcomes.specs.{Accounts.{Account, is_durable, outcome_at_grant}, declared.outcome.{Kind.Kind, OpResult.OpResult, Outcome.TheVariants.Failure}}
-use Rattle.exec_outcomes.specs.declared.outcome.Kind.TheVariants as kind
 use Rattle.exec_request.specs.{Requests.{asked_of, deadline_of, goes_on_alone, output_of}, States.asks_cancel, declared.{request.Request.{Request}}}
 use Rattle.exec_waiters.specs.{Events.{ending_of, cancelled}, declared.{waiter.{Waiter.Waiter, Entry.Entry}, waiter_id.WaiterId.WaiterId}}
 use Rattle.exec_waiters.proofs.Changes.{entry_of}
-use Rattle.exec_driver.specs.{Driving.{Driving, request_at}, Laws.{ShareGates, IsDurableFlight, GoesOnFlying, is_listed}, Lists.{Lists, withdrawn}, Opens.{OpenState, holder_at}, Steps.{let_go, without_observer, cancelled_at, cancelling, lawful_of}, declared.opens.WaiterKey.WaiterKey}
+use Rattle.exec_driver.specs.{Driving.{Driving, request_at, is_enrolled}, Laws.{ShareGates, IsDurableFlight, GoesOnFlying, is_listed}, Lists.{Lists, withdrawn, is_among}, Opens.{OpenState, holder_at}, Placed.{ListsRequests, HasDeadlines}, Steps.{let_go, without_observer, cancelled_at, cancelling, lawful_of}, declared.opens.WaiterKey.WaiterKey}
 use Rattle.exec_driver.proofs.{Endings.one_changed, Granting.{same_some, permit_there}, Names.among_without, Turns.if_tells}
 
 pub untimed : (r : Request) → goes_on_alone r ≡ true → deadline_of r ≡ None
 untimed = grind arith
+
+pub never_due : {S F : Type 0} (d : Driving S F) (id : WaiterId) (w : Waiter S F) → ListsRequests d → HasDeadlines d → is_among id d.lists.due ≡ true → request_at d id ≡ Some w → goes_on_alone w.request ≡ false
+never_due d id w lists dated among at = by (goes_on_alone w.request) refl
+  where
+    by : (b : Bool) → goes_on_alone w.request ≡ b → goes_on_alone w.request ≡ false
+    by false other = other
+    by true alone = absurd (false≢true (sym (ap is_some (untimed w.request alone)) ∙ dated.deadline id w at (ap is_enrolled (sym at) ∙ lists.due id among)))
 
 pub fails_at_grant : (k : Kind) (account : Account) (error : Error) → is_durable k ≡ true → account.failure ≡ Some error → outcome_at_grant k account ≡ Some (Failure error)
 fails_at_grant = grind arith

@@ -1,7 +1,7 @@
 -- A completion that is taken in keeps a driver as it should be.
-use Rattle.std.proofs.Common.{zero, suc, ◌≡◌, ℕ, ◌+◌, ◌<◌, Bool, true, false, not, ◌&&◌, cond, List, [], ◌∷◌, ◌++◌, length, Option, Some, None, refl, sym, ap, ◌∙◌, inr, arith, append-nil}
+use Rattle.std.proofs.Common.{zero, suc, ◌≡◌, ℕ, ◌<◌, Bool, true, false, not, ◌&&◌, cond, List, [], ◌∷◌, ◌++◌, length, Option, Some, None, refl, sym, ap, ◌∙◌, inr, arith, append-nil}
 use Rattle.std.specs.Prelude.{slice_get, slice_set}
-use Rattle.exec_driver.proofs.{Words.{is_some, false≢true, Slab, written, is_durable, Asked, Kind, OpResult, may_complete, told_by_finish, Id, asked_of, Ended, asks_cancel, Request, Landing, next_completion, Completion, Account, result_in, waiter_at, is_flying, needs_permit, Tells, Deferred, Waiter, Entry, Pending, WaiterId, Driving, request_at, is_queued, is_gated, is_unenrolled, is_enrolled, is_cancelled, with_queued, IsSound, IsHeld, is_unpermitted, is_at_tick, is_uncancelled, OpenState, account_in, with_account, is_control, taken_out, open_after, ended}, Counting.{pending_is, flying_is}, Shifts.{Kept, Joined, shifted, nowhere, room_for}, Endings.one_changed, Stepping.{stays}, Entering.{less_reaped, no_wake}}
+use Rattle.exec_driver.proofs.{Words.{is_some, false≢true, Slab, written, is_durable, Asked, Kind, OpResult, may_complete, told_by_finish, Id, asked_of, deadline_of, Ended, asks_cancel, Request, Landing, next_completion, Completion, Account, result_in, waiter_at, is_flying, needs_permit, Tells, Deferred, Waiter, Entry, Pending, WaiterId, Driving, request_at, is_queued, is_gated, is_unenrolled, is_enrolled, is_cancelled, with_queued, IsSound, IsHeld, is_unpermitted, is_undated, is_at_tick, is_uncancelled, OpenState, account_in, with_account, is_control, taken_out, open_after, ended}, Counting.{pending_is, flying_is}, Shifts.{Kept, Joined, shifted, nowhere, room_for}, Endings.one_changed, Stepping.{stays}, Entering.{less_reaped, no_wake}}
 use Rattle.exec_outcomes.specs.{Outcomes.{Cursor, outcome_next, outcome_by as answer_by, outcome_by_stop}, declared.outcome.{Judged.Judged, Outcome.Outcome}}
 use Rattle.exec_waiters.specs.{Events.{is_lawful_for, outcome_by}, declared.completed.CompletionOutcome.{CompletionOutcome, TheVariants.{Requeue, Complete}}, States.{name_of, named}, Told.nothing_told}
 use Rattle.exec_driver.specs.{Steps.{landed_at, lawful_of}, declared.driver.reaping.Reaped.Reaped}
@@ -70,8 +70,8 @@ module _ {S F : Type 0} where
   pub landed_permit : (w : Waiter S F) (request : Request) → asked_of request ≡ asked_of w.request → needs_permit (landed_of w request) ≡ needs_permit w
   landed_permit w request same = ap (λ (a : Asked). is_durable a.kind && not w.permit) same
 
-  pub held_landed : (d : Driving S F) (id : WaiterId) (w : Waiter S F) (request : Request) (c : Completion) (ls : List Landing) (room most spots : ℕ) → request_at d id ≡ Some w → w.in_flight ≡ true → next_completion d.ring ≡ Some c → is_control c ≡ false → IsHeld d room most spots → IsHeld (record (landed_at (taken_out d) id (landed_of w request)) { landings = ls }) room most spots
-  held_landed d id w request c ls room most spots at flies next operation held =
+  pub held_landed : (d : Driving S F) (id : WaiterId) (w : Waiter S F) (request : Request) (c : Completion) (ls : List Landing) (room most spots : ℕ) → request_at d id ≡ Some w → w.in_flight ≡ true → deadline_of request ≡ deadline_of w.request → next_completion d.ring ≡ Some c → is_control c ≡ false → IsHeld d room most spots → IsHeld (record (landed_at (taken_out d) id (landed_of w request)) { landings = ls }) room most spots
+  held_landed d id w request c ls room most spots at flies dated next operation held =
       let sound = held.sound in
       let w' = landed_of w request in
       let one = one_changed d.requests id.0 w w' at in
@@ -88,6 +88,7 @@ module _ {S F : Type 0} where
           due = shifted is_enrolled _ _ id _ _ _ _ one (stays is_enrolled (Some w) (Some w') id _ refl) sound.due;
           cancels = shifted is_cancelled _ _ id _ _ _ _ one (stays is_cancelled (Some w) (Some w') id _ refl) sound.cancels;
           permits = nowhere is_unpermitted _ _ id.0 _ _ one refl sound.permits;
+          dated = nowhere is_undated _ _ id.0 _ _ one (rw dated (ap is_undated (sym one.was_at) ∙ sound.dated id.0)) sound.dated;
           ticks = λ t. let n = one.numbers (is_at_tick t) refl in omega (arith, n, sound.ticks t);
           drained = sound.drained;
           entries = omega (arith, sound.entries, flying, less, flying_is d.requests, flying_is s');
@@ -100,9 +101,9 @@ module _ {S F : Type 0} where
       }
 
   -- it goes on at the end of what is queued
-  pub held_requeued : (d : Driving S F) (id : WaiterId) (w : Waiter S F) (request : Request) (c : Completion) (ls : List Landing) (room most spots : ℕ) → request_at d id ≡ Some w → w.in_flight ≡ true → asks_cancel w.state ≡ false → needs_permit (landed_of w request) ≡ false → next_completion d.ring ≡ Some c → is_control c ≡ false → IsHeld d room most spots → IsHeld (record (landed_at (taken_out d) id (landed_of w request)) { lists = with_queued id d.lists; landings = ls }) room most spots
-  held_requeued d id w request c ls room most spots at flies active permit next operation held =
-      let before = held_landed d id w request c ls room most spots at flies next operation held in
+  pub held_requeued : (d : Driving S F) (id : WaiterId) (w : Waiter S F) (request : Request) (c : Completion) (ls : List Landing) (room most spots : ℕ) → request_at d id ≡ Some w → w.in_flight ≡ true → asks_cancel w.state ≡ false → needs_permit (landed_of w request) ≡ false → deadline_of request ≡ deadline_of w.request → next_completion d.ring ≡ Some c → is_control c ≡ false → IsHeld d room most spots → IsHeld (record (landed_at (taken_out d) id (landed_of w request)) { lists = with_queued id d.lists; landings = ls }) room most spots
+  held_requeued d id w request c ls room most spots at flies active permit dated next operation held =
+      let before = held_landed d id w request c ls room most spots at flies dated next operation held in
       let one = one_changed d.requests id.0 w (landed_of w request) at in
       let queued = shifted is_queued _ _ id _ _ _ (d.lists.queued ++ id ∷ []) one (Joined refl (rw flies refl) (rw (active, permit) refl)) held.sound.queued in
       assumption (before, queued)

@@ -9,7 +9,6 @@ use Rattle.std.proofs.lemmas.List.Elements.{Contains-push_cases}
 use Rattle.exec_base.specs.{Slab.{slot_at, value_at, value_in, removed, freed, filled, next_id, generation_of, next_generation}, declared.slab.Slot.{Slot, TheVariants.{Live, Vacant, Retired}}}
 use Rattle.exec_base.proofs.Slots.{same_id, some_of_if}
 use Rattle.exec_request.specs.{Kept.{Kept, kept_of}, Requests.{gate_of, target_of}, declared.{output.RequestOutput.RequestOutput}}
-use Rattle.exec_request.specs.declared.request.Request.TheVariants as request
 use Rattle.exec_ring.specs.{Landings.{Moves}, declared.store.Store.Store}
 use Rattle.exec_waiters.proofs.Changes.{at_by, entry_of}
 use Rattle.exec_waiters.specs.Events.{finished_for}

@@ -1,6 +1,6 @@
 -- Each other step keeps a driver sound.
 use Rattle.std.proofs.Common.{◌≡◌, ℕ, ◌<◌, ◌≤◌, Bool, true, false, not, ◌&&◌, List, [], ◌∷◌, length, Option, Some, None, refl, sym, ap, ◌∙◌, inl, inr, arith, length-append}
-use Rattle.exec_driver.proofs.{Words.{is_some, false≢true, Slab, written, is_durable, Asked, asked_of, asks_cancel, Request, Landing, RingState, taken_places, Submission, waiter_at, is_flying, pending_count, needs_permit, Waiter, Entry, Pending, WaiterId, Driving, request_at, is_queued, is_gated, is_unenrolled, is_enrolled, is_cancelled, first_of, rest_of, IsListed, IsSound, IsHeld, is_unpermitted, is_at_tick, is_uncancelled, are_all, cases_Bool, and_parts}, Counting.{pending_is, flying_is, flying_few}, Shifts.{Shift, Left, Kept, First, shifted, nowhere}, Endings.one_changed, Entering.Within}
+use Rattle.exec_driver.proofs.{Words.{is_some, false≢true, Slab, written, is_durable, Asked, asked_of, deadline_of, asks_cancel, Request, Landing, RingState, taken_places, Submission, waiter_at, is_flying, pending_count, needs_permit, Waiter, Entry, Pending, WaiterId, Driving, request_at, is_queued, is_gated, is_unenrolled, is_enrolled, is_cancelled, first_of, rest_of, IsListed, IsSound, IsHeld, is_unpermitted, is_undated, is_at_tick, is_uncancelled, are_all, cases_Bool, and_parts}, Counting.{pending_is, flying_is, flying_few}, Shifts.{Shift, Left, Kept, First, shifted, nowhere}, Endings.one_changed, Entering.Within}
 use Rattle.exec_driver.specs.{Lists.{after_queued, has_first}, Steps.with_staged}
 
 -- a list with a first
@@ -49,8 +49,8 @@ module _ {S F : Type 0} where
   abbrev pub flown : Waiter S F → Request → Waiter S F
   flown w request = record w { in_flight = true; request = request }
 
-  pub sound_staged : (d : Driving S F) (id : WaiterId) (w : Waiter S F) (request : Request) (entry : Submission) → request_at d id ≡ Some w → first_of d.lists.queued ≡ Some id → has_first d.lists.enrolments ≡ false → needs_permit (flown w request) ≡ needs_permit w → IsSound d → IsSound (with_staged (record d { requests = written d.requests id.0 (Pending (flown w request)); lists = after_queued d.lists }) entry)
-  sound_staged d id w request entry at first nothing permit sound =
+  pub sound_staged : (d : Driving S F) (id : WaiterId) (w : Waiter S F) (request : Request) (entry : Submission) → request_at d id ≡ Some w → first_of d.lists.queued ≡ Some id → has_first d.lists.enrolments ≡ false → needs_permit (flown w request) ≡ needs_permit w → deadline_of request ≡ deadline_of w.request → IsSound d → IsSound (with_staged (record d { requests = written d.requests id.0 (Pending (flown w request)); lists = after_queued d.lists }) entry)
+  sound_staged d id w request entry at first nothing permit dated sound =
       let w' = flown w request in
       let one = one_changed d.requests id.0 w w' at in
       let q = queued_tells w (rw at at (first_in is_queued d.requests d.lists.queued id first sound.queued)) in
@@ -66,6 +66,7 @@ module _ {S F : Type 0} where
         due = shifted is_enrolled _ _ id _ _ _ _ one (stays is_enrolled (Some w) (Some w') id _ refl) sound.due;
         cancels = shifted is_cancelled _ _ id _ _ _ _ one (Kept refl (inr q.active)) sound.cancels;
         permits = nowhere is_unpermitted _ _ id.0 _ _ one (permit ∙ q.permitted) sound.permits;
+        dated = nowhere is_undated _ _ id.0 _ _ one (rw dated (ap is_undated (sym one.was_at) ∙ sound.dated id.0)) sound.dated;
         ticks = λ t. let n = one.numbers (is_at_tick t) refl in omega (arith, n, sound.ticks t);
         drained = sound.drained;
         entries = omega (arith, sound.entries, flying, length-append d.ring.staged (entry ∷ []), flying_is d.requests, flying_is s');
@@ -73,10 +74,10 @@ module _ {S F : Type 0} where
       }
 
   -- a staged request keeps the driver as it should be, and the ring has a place for its entry
-  pub held_staged : (d : Driving S F) (id : WaiterId) (w : Waiter S F) (request : Request) (entry : Submission) (room most spots : ℕ) → request_at d id ≡ Some w → first_of d.lists.queued ≡ Some id → has_first d.lists.enrolments ≡ false → needs_permit (flown w request) ≡ needs_permit w → IsHeld d room most spots → IsHeld (with_staged (record d { requests = written d.requests id.0 (Pending (flown w request)); lists = after_queued d.lists }) entry) room most spots
-  held_staged d id w request entry room most spots at first nothing permit held =
+  pub held_staged : (d : Driving S F) (id : WaiterId) (w : Waiter S F) (request : Request) (entry : Submission) (room most spots : ℕ) → request_at d id ≡ Some w → first_of d.lists.queued ≡ Some id → has_first d.lists.enrolments ≡ false → needs_permit (flown w request) ≡ needs_permit w → deadline_of request ≡ deadline_of w.request → IsHeld d room most spots → IsHeld (with_staged (record d { requests = written d.requests id.0 (Pending (flown w request)); lists = after_queued d.lists }) entry) room most spots
+  held_staged d id w request entry room most spots at first nothing permit dated held =
       let same = (one_changed d.requests id.0 w (flown w request) at).numbers is_some refl in
-      let sound = sound_staged d id w request entry at first nothing permit held.sound in
+      let sound = sound_staged d id w request entry at first nothing permit dated held.sound in
       let room' : pending_count (written d.requests id.0 (Pending (flown w request))) ≤ d.lists.room = omega (arith, held.room, same, pending_is d.requests, pending_is (written d.requests id.0 (Pending (flown w request)))) in
       assumption (sound, room')
 

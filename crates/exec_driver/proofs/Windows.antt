@@ -1,7 +1,7 @@
 -- No operation of a request is the wake poll, and what its operations leave decides whether it lacks a permit, and of
 -- which open it is.
 use Rattle.std.proofs.Common.{◌≡◌, ℕ, Bool, true, Option, Some, None, ap, sym, ◌∙◌, arith}
-use Rattle.exec_driver.proofs.Words.{Kind, asked_of, Request, file_of}
+use Rattle.exec_driver.proofs.Words.{Kind, asked_of, deadline_of, Request, file_of}
 use Rattle.exec_outcomes.specs.declared.outcome.Kind.TheVariants.{Read, Hint, Direct, Write, Dsync, Many, Sync as Syncs}
 use Rattle.exec_request.specs.{Kept.{Kept, kept_of}, Requests.window_by}
 use Rattle.exec_ring.specs.Kernels.{suits}
@@ -11,6 +11,9 @@ is_no_poll = grind arith
 
 pub asked_same : (r r' : Request) → kept_of r' ≡ kept_of r → asked_of r' ≡ asked_of r
 asked_same r r' same = ap (λ (k : Kept). k.asked) same
+
+pub deadline_same : (r r' : Request) → kept_of r' ≡ kept_of r → deadline_of r' ≡ deadline_of r
+deadline_same r r' same = ap (λ (k : Kept). k.deadline) same
 
 -- the open, by what is asked for and of what
 abbrev file_by : Kind → ℕ → Option ℕ

@@ -1,6 +1,7 @@
 -- The requests that a driver lists.
-use Rattle.std.specs.Prelude.{◌≡◌, true, false, Some}
-use Rattle.exec_waiters.specs.declared.waiter_id.WaiterId.{WaiterId}
+use Rattle.std.specs.Prelude.{◌≡◌, true, false, Some, is_some}
+use Rattle.exec_request.specs.Requests.{deadline_of}
+use Rattle.exec_waiters.specs.{States.tick_in, declared.{waiter.Waiter.Waiter, waiter_id.WaiterId.WaiterId}}
 use Rattle.exec_driver.specs.{Driving.{Driving, request_at, is_queued, is_gated, is_unenrolled, is_enrolled, is_cancelled}, Lists.{first_of, rest_of, is_among}}
 
 module _ {S F : Type 0} where
@@ -12,3 +13,7 @@ module _ {S F : Type 0} where
     pub due : (id : WaiterId) → is_among id d.lists.due ≡ true → is_enrolled (request_at d id) ≡ true
     pub cancels : (id : WaiterId) → is_among id d.lists.cancels ≡ true → is_cancelled (request_at d id) ≡ true
     pub cancelled_once : (id : WaiterId) → first_of d.lists.cancels ≡ Some id → is_among id (rest_of d.lists.cancels) ≡ false
+
+  -- A request whose deadline stands in the wheel has one. Each driver says so of itself (`Driver::has_deadlines`).
+  pub record HasDeadlines (d : Driving S F) : Type 0 where
+    pub deadline : (id : WaiterId) (w : Waiter S F) → request_at d id ≡ Some w → is_some (tick_in w.state) ≡ true → is_some (deadline_of w.request) ≡ true

@@ -1,7 +1,7 @@
 -- What holds of a driver between its calls. No public clause cites this module.
-use Rattle.std.specs.Prelude.{◌≡◌, ℕ, Bool, true, false, not, ◌+◌, ◌≤◌, ◌==◌, ◌&&◌, List, [], ◌∷◌, length, count_by, Option, Some, None, if◌then◌else◌}
+use Rattle.std.specs.Prelude.{◌≡◌, ℕ, Bool, true, false, not, ◌+◌, ◌≤◌, ◌==◌, ◌&&◌, List, [], ◌∷◌, length, count_by, Option, Some, None, is_some, if◌then◌else◌}
 use Rattle.exec_base.specs.{Slab.Slab, declared.slab.{Slot.{Slot, TheVariants.{Live, Vacant, Retired}}, Id.Id}}
-use Rattle.exec_request.specs.States.{asks_cancel}
+use Rattle.exec_request.specs.{Requests.deadline_of, States.asks_cancel}
 use Rattle.exec_ring.specs.Rings.{taken_places}
 use Rattle.exec_waiters.specs.{States.{waiter_at, waiter_in, flying_count, pending_count, tick_in, needs_permit}, declared.{waiter.{Waiter.Waiter, Entry.Entry}, waiter_id.WaiterId.WaiterId}}
 use Rattle.exec_driver.specs.{Lists.is_among, Driving.{Driving, is_queued, is_gated, is_unenrolled, is_enrolled, is_cancelled}}
@@ -49,6 +49,11 @@ module _ {S F : Type 0} where
   is_unpermitted None = false
   is_unpermitted (Some w) = w.in_flight && needs_permit w
 
+  -- its deadline stands in the wheel, and it has none
+  abbrev pub is_undated : Option (Waiter S F) → Bool
+  is_undated None = false
+  is_undated (Some w) = is_some (tick_in w.state) && not (is_some (deadline_of w.request))
+
   -- Each list has the requests of its place, each once. An entry of the wheel is active for each enrolled request. The
   -- ring has no more entries than those of requests in flight, of cancels under way and of the wake poll; and it has
   -- places for those, and for the cancels that may still come.
@@ -59,6 +64,7 @@ module _ {S F : Type 0} where
     pub due : IsListed is_enrolled d.requests d.lists.due
     pub cancels : IsListed is_cancelled d.requests d.lists.cancels
     pub permits : (id : Id) → is_unpermitted (waiter_at d.requests id) ≡ false
+    pub dated : (id : Id) → is_undated (waiter_at d.requests id) ≡ false
     pub ticks : (t : ℕ) → d.wheel.active t ≡ count_of (is_at_tick t) d.requests
     pub drained : d.wheel.ready ≡ []
     pub entries : taken_places d.ring ≤ flying_count d.requests + d.cancels_under_way + (if d.armed then 1 else 0)

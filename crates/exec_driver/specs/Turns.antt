@@ -50,10 +50,18 @@ module _ {S F : Type 0} where
   abbrev pub may_wait : Driving S F → Bool
   may_wait d = not (has_pending d) && (d.armed || not (is_full (made_way d)))
 
+  -- the kernel has all that was staged
+  abbrev pub is_taken : Driving S F → Bool
+  is_taken d = length d.ring.staged == 0
+
 -- a deadline is after now, where there is one
 abbrev pub is_after : ℕ → Option ℕ → Bool
 is_after now None = true
 is_after now (Some deadline) = nat_lt now deadline
+
+-- a wake word stands as its worker left it: no signal, and no batch of messages but those that were taken
+abbrev pub is_calm : Bool → Bool → Bool
+is_calm signalled caught_up = not signalled && caught_up
 
 -- one more signal was given, where it is known who was signalled; no signal stands for another
 abbrev pub signalled_too : Option (List ℕ) → ℕ → Option (List ℕ)

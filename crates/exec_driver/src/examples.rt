@@ -8,7 +8,7 @@ ghost use Rattle.exec_request.specs.declared.output.RequestOutput.TheVariants as
 ghost use Rattle.exec_ring.specs.Completions.{acknowledged, wake_completion, completed};
 ghost use Rattle.exec_outcomes.specs.declared.outcome.OpResult.TheVariants.{Count, Errno};
 ghost use Rattle.exec_waiters.specs.{Examples.{poll, sync}, declared.{waiter.Entry.TheVariants.{Ready}, deferred.Deferred.Deferred}};
-ghost use Rattle.exec_driver.specs.{Driving.{may_stage_one}, Lists.no_lists, Steps.{cancelled_at, let_go, cancel_staged, cancel_entry, poll_staged, noted, completed_in, is_control, is_turn_of, tick_for, lowest_gate}, Service.{ServesInOrder, reached}, Turns.may_wait, Examples.{first, wheel, idle, with_one, flying, workers, held, gates}, Laws.ShareGates, Sharing.LineUp};
+ghost use Rattle.exec_driver.specs.{Driving.{may_stage_one}, Lists.no_lists, Steps.{cancelled_at, let_go, cancel_staged, cancel_entry, poll_staged, entered, noted, completed_in, is_control, is_turn_of, tick_for, lowest_gate}, Service.{ServesInOrder, reached}, Turns.{may_wait, is_taken, is_calm}, Examples.{first, wheel, idle, with_one, flying, workers, held, gates}, Laws.ShareGates, Sharing.LineUp};
 
 /// Admission: a poll is queued and its deadline to be enrolled, one whose deadline has come is over, and a sync waits
 /// at the gate of its open, which grants only to the worker of its holder.
@@ -60,12 +60,18 @@ pub fn deadlines()
     ensures beyond { tick_for wheel 21 6 ≡ Err (error.Io cause.InvalidInput) }
 {}
 
-/// When a worker may wait: nothing is to be submitted, and the wake poll is out or has room.
+/// When a worker may wait: nothing is to be submitted, the wake poll is out or has room, and its word is calm. It sleeps
+/// once the kernel has what was staged.
 pub fn waits()
     ensures idle { may_wait idle ≡ true }
     ensures pending { may_wait (with_one poll 0) ≡ false }
     ensures gated { may_wait (with_one sync 0) ≡ true }
     ensures no_room { may_wait (record idle { ring = record idle.ring { size = 0 } }) ≡ false }
+    ensures calm { is_calm false true ≡ true }
+    ensures signalled { is_calm true true ≡ false }
+    ensures another_batch { is_calm false false ≡ false }
+    ensures staged { is_taken (poll_staged idle) ≡ false }
+    ensures taken { is_taken (entered (poll_staged idle)) ≡ true }
 {}
 
 /// A service of a driver without requests stages the wake poll, and makes no other step.

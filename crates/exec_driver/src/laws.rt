@@ -6,7 +6,7 @@ ghost use Rattle.exec_outcomes.specs.{Accounts.{Account, is_durable}, declared.o
 ghost use Rattle.exec_request.specs.{Requests.{asked_of, deadline_of, goes_on_alone, outcome_if_granted, output_of, retired_of}, States.Ended, declared.request.Request.Request};
 ghost use Rattle.exec_ring.specs.declared.completion.Completion.{Completion};
 ghost use Rattle.exec_waiters.specs.{Events.ending_of, Ids.user_data_of, States.{waiter_at, is_flying}, Told.nothing_told, declared.{waiter.Waiter.Waiter, waiter_id.WaiterId.WaiterId}};
-ghost use Rattle.exec_driver.specs.{Driving.{Driving, request_at}, Opens.OpenState, Steps.{let_go, without_observer, ended, cancelled_at, told_by_cancel, told_by_end, noted, completed_in}, Laws.{is_listed, ShareGates, IsDurableFlight, GoesOnFlying}, Sharing.{Gates, LineUp, CallsOne, AreFresh, IsRun}, declared.opens.WaiterKey.WaiterKey};
+ghost use Rattle.exec_driver.specs.{Driving.{Driving, request_at}, Lists.is_among, Placed.{ListsRequests, HasDeadlines}, Opens.OpenState, Steps.{let_go, without_observer, ended, cancelled_at, told_by_cancel, told_by_end, noted, completed_in}, Laws.{is_listed, ShareGates, IsDurableFlight, GoesOnFlying}, Sharing.{Gates, LineUp, CallsOne, AreFresh, IsRun}, declared.opens.WaiterKey.WaiterKey};
 
 use exec_waiters::laws::{
     a_recycled_slot_takes_no_old_completion, a_request_is_resolved_at_most_once,
@@ -17,11 +17,14 @@ pub fn at_most_one_durable_request_of_an_open_is_in_flight<S, F>()
     ensures { (drivers : ℕ → Driving S F) (opens : List OpenState) (a b : WaiterKey) (file : ℕ) → ShareGates drivers opens → IsDurableFlight (drivers a.worker) a.id file → IsDurableFlight (drivers b.worker) b.id file → a ≡ b }
 {}
 
-/// A write or a sync that nobody waits for is not cancelled, and it has no deadline that could cancel it.
-#[tactic(auto, using(crate::proofs::Promises::goes_on, crate::proofs::Promises::untimed))]
+/// A write or a sync that nobody waits for is not cancelled, and it has no deadline that could cancel it: who is due, and
+/// so is cancelled as it expires, is no write and no sync. What is asked of the driver for that each driver says of itself
+/// (`Driver::lists_requests`, `Driver::has_deadlines`).
+#[tactic(auto, using(crate::proofs::Promises::goes_on, crate::proofs::Promises::untimed, crate::proofs::Promises::never_due))]
 pub fn unobserved_writes_and_syncs_are_never_cancelled<S, F>()
     ensures goes_on { (d : Driving S F) (id : WaiterId) (w : Waiter S F) → request_at d id ≡ Some w → goes_on_alone w.request ≡ true → let_go d id ≡ without_observer d id }
     ensures untimed { (r : Request) → goes_on_alone r ≡ true → deadline_of r ≡ None }
+    ensures never_due { (d : Driving S F) (id : WaiterId) (w : Waiter S F) → ListsRequests d → HasDeadlines d → is_among id d.lists.due ≡ true → request_at d id ≡ Some w → goes_on_alone w.request ≡ false }
 {}
 
 /// Once its open keeps a failure, a durable request ends with that failure as it is granted the permit, and a success

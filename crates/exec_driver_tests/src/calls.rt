@@ -4,19 +4,24 @@ ghost use Rattle.std.specs.Prelude.{◌<◌, IfSome};
 ghost use Rattle.exec_driver.specs.Opens.{open_at};
 
 use crate::asks::Ask;
-use crate::found::{demand, holds, same_count, same_counts, same_key, same_name, same_number};
+use crate::found::{
+    demand, holds, same, same_count, same_counts, same_key, same_name, same_number,
+};
 use crate::steps::{Look, Sign, Step, Turn, Wait};
 use crate::trial::play;
-use crate::worker::{MILLI, Worker, bytes, name, send};
+use crate::worker::{MILLI, Worker, bytes, counts, make_room, name, send};
 use exec_base::task_no::TaskNo;
 use exec_driver::driver::Enrolled;
 use exec_driver::home::Home;
 use exec_driver::opens::{Opens, WaiterKey};
 use exec_outcomes::outcome::OpResult;
+use exec_request::window::{Opcode, Window};
+use exec_ring::completion::Completion;
 use exec_ring::landing::Unlawful;
 use exec_ring::ring::Entered;
 use exec_ring::sim_ring::SimRing;
 use exec_ring::store::Store;
+use exec_waiters::deferred::Deferred;
 use std::alloc::Global;
 use std::process::Abort;
 
@@ -105,6 +110,7 @@ fn a_home_is_new(rt: HostRuntime) {
     let ours = Worker::new(alloc, 4, &mut store).expect(&rt, "no worker");
     ours.driver().lands_nothing();
     ours.driver().flies_permitted();
+    ours.driver().has_deadlines();
     let home: Home<SimRing, u32, u32> = Home::new(alloc, 3, ours.into_driver());
     same_number(&rt, 0, Some(home.worker), Some(3));
     same_count(&rt, 1, home.driver.len(), 0);
@@ -158,6 +164,44 @@ fn opens_have_gates(rt: HostRuntime) {
     same_key(&rt, 2, opens.leave(1), None);
     same_key(&rt, 3, opens.holder(1), None);
     same_key(&rt, 4, opens.holder(2), None);
+}
+
+#[test]
+fn completions_say_what_they_are(rt: HostRuntime) {
+    let failed = Completion {
+        user_data: 7,
+        result: -5,
+        more: true,
+    };
+    same(&rt, 0, &failed.given(), &OpResult::Errno(5));
+    holds(&rt, 1, !failed.is_wake());
+    same(&rt, 2, &Completion::wake(false).given(), &bytes(1));
+    holds(&rt, 3, Completion::wake(false).is_wake());
+}
+
+#[test]
+fn a_store_has_the_room_that_was_made(rt: HostRuntime) {
+    let alloc = rt.alloc();
+    let mut store = Store::new(alloc);
+    let window = Window {
+        kind: Opcode::Send,
+        offset: 0,
+        length: 10,
+        ..Window::wake()
+    };
+    holds(&rt, 0, store.has_room(window, 0));
+    holds(&rt, 1, !store.has_room(window, 1));
+    demand(&rt, store.reserve(alloc, window).is_ok(), "no memory");
+    holds(&rt, 2, store.has_room(window, 10));
+    holds(&rt, 3, !store.has_room(window, 11));
+}
+
+#[test]
+fn a_task_is_to_be_woken(rt: HostRuntime) {
+    let mut told: Deferred<u32, u32> = Deferred::new(rt.alloc());
+    make_room(&rt, rt.alloc(), &mut told, 1);
+    told.wake(Some(TaskNo(4)));
+    same_counts(&rt, 0, counts(&told), (1, 0, 0, 0, 0));
 }
 
 /// Nothing is there of an admission that was refused.

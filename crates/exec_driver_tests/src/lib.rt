@@ -20,4 +20,6 @@ mod trial;
 #[cfg(test)]
 mod waiters;
 #[cfg(test)]
+mod word;
+#[cfg(test)]
 mod worker;

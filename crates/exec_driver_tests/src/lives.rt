@@ -121,7 +121,22 @@ fn a_worker_waits_on_its_ring(rt: HostRuntime) {
         Step::Look(Look::MaySleep(3, None, false)),
         Step::Turn(Turn::Reap(None)),
         Step::Look(Look::Is(Sign::NeedsWakePoll, true)),
-        Step::Turn(Turn::EnterBusy),
+        Step::Turn(Turn::Busy),
+        Step::Turn(Turn::Enter(Entered::Busy)),
+    ];
+    play(&rt, rt.alloc(), 4, &steps);
+}
+
+#[test]
+fn nobody_sleeps_on_what_is_only_staged(rt: HostRuntime) {
+    let steps = [
+        Step::Wait(Wait::Admit(Ask::Poll(None), name(0, 0))),
+        Step::Turn(Turn::Serve((0, 0, true), true)),
+        Step::Turn(Turn::Busy),
+        Step::Turn(Turn::Park(true, true)),
+        Step::Look(Look::MaySleep(3, None, false)),
+        Step::Turn(Turn::Enter(Entered::Taken(2))),
+        Step::Look(Look::MaySleep(3, None, true)),
     ];
     play(&rt, rt.alloc(), 4, &steps);
 }

@@ -69,15 +69,15 @@ pub enum Turn {
     StageWakePoll(bool),
     /// The kernel takes in what was staged.
     Enter(Entered),
-    /// The kernel is busy, and takes nothing in.
-    EnterBusy,
+    /// The kernel is busy, and takes nothing in at the next enter.
+    Busy,
     /// A result comes from the kernel.
     Land(WaiterId, OpResult, Result<(), Unlawful>),
     /// The next completion is taken in.
     Reap(Option<Reaped>),
     /// The next completion is taken in: it ends a request so, which gives up no permit.
     Over(WaiterId, OpResult, Result<(), Error>),
-    /// The worker looks whether it may sleep, with a word that is calm or isn't.
+    /// The worker makes ready to sleep, with a word that is calm or isn't.
     Park(bool, bool),
     /// A wake is raised, which ends the wake poll.
     WakeLast,

@@ -6,7 +6,7 @@ use crate::found::{
     same_name, same_number, same_reaped,
 };
 use crate::steps::{Lent, Look, Sign, Step, Turn, Wait};
-use crate::worker::{Word, Worker};
+use crate::worker::Worker;
 use exec_base::error::Error;
 use exec_driver::driver::Reaped;
 use exec_driver::opens::Opens;
@@ -14,7 +14,6 @@ use exec_outcomes::outcome::OpResult;
 use exec_request::connect::SockAddr;
 use exec_request::open_record::OpenRecord;
 use exec_request::output::RetiredResources;
-use exec_ring::ring::Entered;
 use exec_ring::store::Store;
 use exec_waiters::deferred::Deferred;
 use exec_waiters::waiter_id::WaiterId;
@@ -122,13 +121,11 @@ impl Trial {
             Turn::StageCancel(id) => same_name(rt, at, ours.stage_cancel(rt), id),
             Turn::StageWakePoll(staged) => same_answer(rt, at, ours.stage_wake_poll(), staged),
             Turn::Enter(entered) => same(rt, at, &ours.enter(), &entered),
-            Turn::EnterBusy => same(rt, at, &ours.enter_busy(), &Entered::Busy),
+            Turn::Busy => ours.busy(),
             Turn::Land(id, given, landed) => {
                 same(rt, at, &ours.land(rt, id, given, &mut self.store), &landed);
             }
-            Turn::Park(calm, waits) => {
-                same_answer(rt, at, ours.park(0, &mut Word::new(calm)), waits);
-            }
+            Turn::Park(calm, waits) => same_answer(rt, at, ours.park(rt, calm), waits),
             Turn::WakeLast => ours.wake_last(),
             _ => holds(rt, at, false),
         }

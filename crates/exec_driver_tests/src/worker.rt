@@ -6,6 +6,7 @@ ghost use Rattle.exec_request.specs.Buffers.{is_sound, length_of, moved_of};
 ghost use Rattle.exec_waiters.specs.Told.{HasPlaces};
 
 use crate::found::{Counts, demand, refuse};
+use crate::word::Word;
 use exec_base::slab::Id;
 use exec_base::task_no::TaskNo;
 use exec_bufs::buf::IoBuf;
@@ -42,35 +43,6 @@ impl Signals for Last {
 
     fn signal(&mut self, worker: u32) {
         self.0 = Some(worker);
-    }
-}
-
-/// A wake word that is as its worker left it, or isn't.
-#[derive(Drop)]
-pub struct Word {
-    calm: bool,
-    armed: bool,
-}
-
-impl Word {
-    /// A word that is as its worker left it, or isn't.
-    pub fn new(calm: bool) -> Self {
-        Word { calm, armed: false }
-    }
-}
-
-impl Armed for Word {
-    ghost is_calm = { λ w _. w.calm };
-
-    ghost is_armed = { λ w. w.armed };
-
-    fn arm(&mut self, _processed: u32) -> bool {
-        self.armed = true;
-        self.calm
-    }
-
-    fn disarm(&mut self) {
-        self.armed = false;
     }
 }
 
@@ -354,9 +326,16 @@ impl Worker {
         self.driver.set_waker(id, TaskNo(task))
     }
 
-    /// The worker looks whether it may sleep on its ring.
-    pub fn park(&mut self, processed: u32, word: &mut Word) -> bool {
-        self.driver.park(processed, word)
+    /// The worker makes ready to sleep on its ring, and then waits no more. It fails where the word doesn't stand armed
+    /// just where it may sleep.
+    pub fn park(&mut self, rt: &impl Abort, calm: bool) -> bool {
+        let mut word = Word::new(calm);
+        let waits = self.driver.park(0, &mut word);
+        assert!(rt; word.armed == waits);
+        if waits {
+            word.disarm();
+        }
+        waits
     }
 
     /// Stages the poll of the wake, where it is wanted.
@@ -375,10 +354,9 @@ impl Worker {
         self.driver.raise();
     }
 
-    /// The kernel is busy, and takes in nothing.
-    pub fn enter_busy(&mut self) -> Entered {
+    /// The kernel is busy, and takes in nothing at the next enter.
+    pub fn busy(&mut self) {
         self.driver.busy();
-        self.driver.enter()
     }
 
     /// How many of each list there are: wakes, outputs, resources, completions, results.

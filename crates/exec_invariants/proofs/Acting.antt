@@ -1,5 +1,5 @@
 -- Acts of a polled body that change its slot alone: a pass, a wait for a wake, a yield.
-use Rattle.std.proofs.{Common.{◌≡◌, ◌≢◌, ◌⊎◌, inl, inr, ℕ, ◌-◌, ◌&&◌, arith, Bool, true, false, List, [], map, Option, Some, None, IsSome, refl, sym, ap, subst, ◌∙◌, slice_get, slice_index_or, slice_set, if◌then◌else◌}, lemmas.{Bool.{false≢true, eq-eqb}, List.{map-set, set-set}}}
+use Rattle.std.proofs.{Common.{◌≡◌, ◌≢◌, ◌⊎◌, inl, inr, ℕ, ◌&&◌, arith, Bool, true, false, List, [], map, Option, Some, None, IsSome, refl, sym, ap, subst, ◌∙◌, slice_get, slice_index_or, slice_set, if◌then◌else◌}, lemmas.{Bool.{false≢true, eq-eqb}, List.{map-set, set-set}}}
 use Rattle.exec_task.specs.{Phases.{is_polled}, Sight.Sight, declared.{body.{Act.Act, Said.Said}}}
 use Rattle.exec_machine.specs.{Choice.{Choice, Choice.{Plain, Pays}, Payer.ByAct}, declared.{config.ScriptWord.ScriptWord, event.Event.{Event, TheVariants.{Pass, Wake}}, state.{Next.Next, Waiting.Waiting}}, Progress.Plan, Requests.operation_asked, Tasks.{after_waking_word, is_woken_here, waits_for, woken}, Tests.{waits_for_nothing}, Words.{acts, asks_yield, moved_on, next_word}, World.{Own, Task, Common, no_task, task_of}}
 use Rattle.exec_moves.specs.{declared.place.{Place.Place, InPoll.InPoll}, Move.move_act, Poll.act_asked, Seen.{next_in_poll, polls_in}, State.{Moved, Things}}

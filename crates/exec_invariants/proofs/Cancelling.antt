@@ -4,10 +4,10 @@ use Rattle.exec_base.specs.{Slab.value_at, declared.{slab.Id.Id, error.Error.The
 use Rattle.exec_outcomes.specs.declared.outcome.Outcome.TheVariants.{Failure}
 use Rattle.exec_request.specs.{Requests.{asked_of, deadline_of}}
 use Rattle.exec_waiters.{specs.{Events.{cancelled as cancelled_of, told_by_finish}, States.{needs_permit, takes_tick, tick_in, flying_count, waiter_at}, Told.{Tells, nothing_told}, declared.{waiter.{Entry.TheVariants.Pending, Waiter.Waiter}, waiter_id.WaiterId.WaiterId}}, proofs.Changes.entry_of}
-use Rattle.exec_driver.{specs.{Driving.Driving, Lists.{first_of, is_among, is_same, after_due}, Punctual.IsPunctual, Steps.{cancelling, ended, told_by_cancel, timed_out}}, proofs.Names.same_tells}
+use Rattle.exec_driver.{specs.{Driving.Driving, Lists.{first_of, is_among, is_same, after_due}, Punctual.IsPunctual, Steps.{cancelling, told_by_cancel, timed_out}}, proofs.Names.same_tells}
 use Rattle.exec_task.specs.declared.body.Said.{Said}
 use Rattle.exec_machine.specs.{declared.{event.Event.{Event, TheVariants.Expire}, state.RequestPhase.RequestPhase}, Deadlines.{expired, outcome_at_expiry}, Same.same_end, Tests.{is_kept, is_staged}, World.{Common, request_of}}
-use Rattle.exec_moves.specs.{Submit.{due_next, first_due, submits, Due.Expires}, declared.place.{Place.Place, InService.InService}}
+use Rattle.exec_moves.specs.{Submit.{due_next, first_due, Due.Expires}, declared.place.{Place.Place, InService.InService}}
 use Rattle.exec_parts.{specs.{declared.parts.{mail.Reply.Reply, names.Names.Names, record.Record.Record, shared.Shared.Shared, worker.Worker.Worker}, Records.number_in, Serving.{changed_at, is_one_of}, Spots.Spot, View.{visible, with_view, own_of, desk_of, driver_of, common_of, seat_seen, numbers_of}}, proofs.Facts.by_name}
 use Rattle.exec_invariants.{specs.{Due.IsWheelAt, Flown.{HasFlown, operations, AreLanded}, Holding.{nap_of, thing_of}, Places.passes_at, Names.{IsAlike, IsSubmitted}, Sound.served_in, Submits.{IsDueIn, IsInOrder}, Works.Steps}, proofs.{Enrolled.timed_kept, Serving.{at_large, balances_still, SparesRecords, spares_one}, ServingHolds.{serves_to, IsServed, OthersKept, keeps_home, Serves, Keeps, KeepsBy}, Recorded.request_seen, Flown.landed_on, Known.known_written, Lined.{map_changed, opens_same}, Marking.{known_then, mark_if, mark_kept, marked, plain_kept, was_marked}, Slotted.{awaited_written, slots_written}, Carries.carried_still, Changing.{OneGoesOn, all_go_one, changes_one, flying_after, keeps_one}, Going.{GoesOn, owning_on}, Seeing.{shows, served, common_changed, common_same, things_kept}, Staging.stages_again, Timed.keeps_untold, Expiring.{HasExpired, comes_to_due, due_first, expires, flies_not_queued, same_change, told_first, unticked_start, unticked_tick}, Expired.expiry_ends, Resolving.unticked_at, Orders.{alike_unticked, eased, eases_written, part_after, part_self}}}
 

@@ -1,5 +1,5 @@
 -- Worker zero closes the global queue, opens the barrier and stops the pool, each as a step of the machine.
-use Rattle.std.proofs.{Common.{◌≡◌, inl, inr, ℕ, ◌&&◌, ◌-◌, ◌<◌, Bool, true, false, [], ◌++◌, length, map, Option, Some, refl, sym, ap, subst, ◌∙◌, arith, slice_get, nat_lt, slice_index_or, ◌≢◌, ◌+◌, ◌≤◌, ◌*◌}, lemmas.{Bool.{false≢true, Decides.nat_tests}, List.append-nil}}
+use Rattle.std.proofs.{Common.{◌≡◌, inl, inr, ℕ, ◌&&◌, ◌-◌, ◌<◌, Bool, true, false, [], ◌++◌, length, map, Option, Some, refl, sym, ap, subst, ◌∙◌, arith, slice_get, nat_lt, slice_index_or, ◌+◌, ◌≤◌, ◌*◌}, lemmas.{Bool.{false≢true, Decides.nat_tests}, List.append-nil}}
 use Rattle.exec_task.specs.declared.body.Said.{Said}
 use Rattle.exec_machine.specs.{declared.{event.Event.{Event, TheVariants.{Turn, Stop}}, state.Next.Next}, Choice.Choice.Plain, Closing.letters_to_roots}
 use Rattle.exec_moves.specs.{declared.{handing.{AfterPop.AfterPop, InPop.InPop}, place.{InClosing.InClosing, Place.Place}}, Move.move_at, Parts.tells_from, Seen.{next_at, serves_at}}

@@ -5,7 +5,7 @@ use Rattle.exec_base.specs.declared.error.{Cause.TheVariants.InvalidInput, Error
 use Rattle.exec_outcomes.specs.declared.outcome.Outcome.{Outcome, TheVariants.Failure}
 use Rattle.exec_time.specs.Wheel.{Wheel, target_of, moment_of}
 use Rattle.exec_driver.specs.Steps.{tick_by, tick_for, ended_by}
-use Rattle.exec_machine.specs.{declared.config.Configuration.Configuration, Deadlines.{outcome_at_enrol, tick_from}, Ranges.{horizon, wheel_slots}, World.Own}
+use Rattle.exec_machine.specs.{declared.config.Configuration.Configuration, Deadlines.{outcome_at_enrol, tick_from}, Ranges.{wheel_slots}, World.Own}
 use Rattle.exec_parts.specs.Serving.{first_tick, outcome_of_error}
 use Rattle.exec_invariants.specs.Due.{IsWheelAt}
 

@@ -6,7 +6,7 @@ use Rattle.exec_task.specs.declared.body.Said.{Said}
 use Rattle.exec_machine.specs.{declared.{event.Event.{Event, TheVariants.Serve}, state.{Sleeper.Sleeper, Next.Next}}, Deadlines.is_none_earlier, Tests.{is_asleep, is_empty, is_open}, World.{Own, Common, no_sleeper, seat_of}}
 use Rattle.exec_moves.specs.{Seen.{polls_at, next_at, serves_at}, State.Desk, Serve.{after_service, first_to_fire, is_to_fire}, Slots.first_in, declared.{handing.AfterCallbacks.AfterCallbacks, place.{AfterService.AfterService, Service.Service, Place.Place, InCallbacks.InCallbacks, InMail.InMail, InService.InService}}}
 use Rattle.exec_parts.{specs.{declared.parts.{mail.Reply.Reply, names.Names.Names, shared.Shared.Shared, sleeping.SleeperRecord.SleeperRecord, worker.{Moments.Moments, Worker.Worker}}, Phased.closes_at, Spots.Spot, View.{visible, own_of, owed_at, desk_of, driver_of, common_of, seat_seen, things_with, message_of}}, proofs.Facts.and_right}
-use Rattle.exec_invariants.{specs.{Due.{AreAsleep, wheel_moment}, Holding.Mail, HoldPlaces.{has_wakes_at, is_bare_at}, Places.{is_armed_at, is_published_at, passes_at, searches_at}, Sound.{HasBatch, SoundAt, served_in}, Works.Steps}, proofs.{Unclosed.unclosed, Seats.own_seat, Seen.sleeper_at, ServingHolds.{Serves, Keeps, KeepsBy}, Serving.{SparesRecords, at_large, balances_still, kept, spares_same}, ServingPlaces.{is_calm}, Seeing.{makes, served, common_same, things_kept}}}
+use Rattle.exec_invariants.{specs.{Due.{AreAsleep, wheel_moment}, Holding.Mail, HoldPlaces.{has_wakes_at, is_bare_at}, Places.{is_armed_at, is_published_at, passes_at, searches_at}, Sound.{HasBatch, SoundAt, served_in}, Works.Steps}, proofs.{Unclosed.unclosed, Seats.own_seat, Seen.sleeper_at, ServingHolds.{Serves, Keeps, KeepsBy}, Serving.{SparesRecords, at_large, balances_still, spares_same}, ServingPlaces.{is_calm}, Seeing.{makes, served, common_same, things_kept}}}
 
 -- WHO IS NEXT
 

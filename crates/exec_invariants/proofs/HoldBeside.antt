@@ -57,18 +57,21 @@ module _ {B : Type 0} where
   abbrev pub Holds : Profile → Shared B → Type 0
   Holds x s = IsHolding (hands_of x) s.config.workers (map holder_of s.tasks.items) (map thing_of s.requests.items) (map nap_of s.sleepers.items) (map box_of s.seats.items)
 
+  -- what a step of a poll changes of what is shared
+  abbrev pub dealt_in : Shared B → Shared B → Shared B
+  dealt_in s s' = record s { tasks = s'.tasks; requests = s'.requests; sleepers = s'.sleepers; seats = s'.seats; opens = s'.opens; store = s'.store }
+
   -- of the seats what counts in a closing stays, and their queues; who stands at gates is as this says
-  pub whole_handled : (t i : ℕ) (s s' : Shared B) (slot slot' : TaskSlot B) (x : Profile) → Handles t s s' slot slot' → KeepsGates s.seats.items s'.seats.items → map queue_of_chair s'.seats.items ≡ map queue_of_chair s.seats.items → HaveGates x.drops_by s.opens s'.requests.items
-      → Holds x (record s { tasks = s'.tasks; requests = s'.requests; sleepers = s'.sleepers; seats = s'.seats }) → IsWhole x s → IsWhole x (record s { tasks = s'.tasks; requests = s'.requests; sleepers = s'.sleepers; seats = s'.seats })
+  pub whole_handled : (t i : ℕ) (s s' : Shared B) (slot slot' : TaskSlot B) (x : Profile) → Handles t s s' slot slot' → KeepsGates s.seats.items s'.seats.items → map queue_of_chair s'.seats.items ≡ map queue_of_chair s.seats.items → HaveGates x.drops_by s'.opens s'.requests.items
+      → Holds x (dealt_in s s') → IsWhole x s → IsWhole x (dealt_in s s')
   whole_handled t i s s' slot slot' x it gates queues lines holds whole =
-      let s1 : Shared B = record s { tasks = s'.tasks; requests = s'.requests; sleepers = s'.sleepers; seats = s'.seats } in
       let many : length s'.tasks.items ≡ length s.tasks.items = ap length it.items ∙ length-set s.tasks.items t slot' in
       let seats : length s'.seats.items ≡ length s.seats.items = length_same s.seats.items s'.seats.items queues in
-      let stocks : (u : ℕ) → stock u s1 ≡ stock u s = λ u. ap (λ n. n + runnables_in u s.global.values) (stock_same u s.seats.items s'.seats.items queues) in
+      let stocks : (u : ℕ) → stock u (dealt_in s s') ≡ stock u s = λ u. ap (λ n. n + runnables_in u s.global.values) (stock_same u s.seats.items s'.seats.items queues) in
       let was : (u : ℕ) (o : TaskSlot B) → slice_get s'.tasks.items u ≡ Some o → WasThere s.tasks.items u o = was_there t s s' slot slot' it in
-      let runnables : (t : ℕ) (slot : TaskSlot B) → slice_get s'.tasks.items t ≡ Some slot → slot.home ≡ None → HasOne (may_let_go (record s { tasks = s'.tasks; requests = s'.requests; sleepers = s'.sleepers; seats = s'.seats })) slot.cell.phase (x.runnables t + stock t (record s { tasks = s'.tasks; requests = s'.requests; sleepers = s'.sleepers; seats = s'.seats })) = λ u o at home.
+      let runnables : (t : ℕ) (slot : TaskSlot B) → slice_get s'.tasks.items t ≡ Some slot → slot.home ≡ None → HasOne (may_let_go (dealt_in s s')) slot.cell.phase (x.runnables t + stock t (dealt_in s s')) = λ u o at home.
       let old = was u o at in
-      subst (λ c. HasOne (may_let_go s) c.phase (x.runnables u + stock u s1)) (sym old.cell) (subst (λ n. HasOne (may_let_go s) old.was.cell.phase (x.runnables u + n)) (sym (stocks u)) (whole.runnables u old.was old.there (sym old.home ∙ home))) in
+      subst (λ c. HasOne (may_let_go s) c.phase (x.runnables u + stock u (dealt_in s s'))) (sym old.cell) (subst (λ n. HasOne (may_let_go s) old.was.cell.phase (x.runnables u + n)) (sym (stocks u)) (whole.runnables u old.was old.there (sym old.home ∙ home))) in
       let polls_so : (t : ℕ) (slot : TaskSlot B) → slice_get s'.tasks.items t ≡ Some slot → slot.home ≡ None → x.polls t ≡ one_if (is_polled slot.cell.phase) =
       λ u o at home. let old = was u o at in whole.polls u old.was old.there (sym old.home ∙ home) ∙ ap (λ c. one_if (is_polled c.phase)) (sym old.cell) in
       let claims : (j : ℕ) (chair : Chair) → slice_get s'.seats.items j ≡ Some chair → x.claims j ≡ one_if (not (chair.queue.gap == 0)) = λ j chair at.
@@ -79,7 +82,7 @@ module _ {B : Type 0} where
       genuine_still t s s' slot slot' it r (whole.queued_here j old.0 r old.1 (subst (λ (q : Queue Runnable). Contains (q.values ++ q.held) r) old.2 has)) in
       let queued_there : (r : Runnable) → Contains s.global.values r → IsGenuine s'.tasks.items r = λ r has. genuine_still t s s' slot slot' it r (whole.queued_there r has) in
       let places : s.global.closed ≡ false → length s'.tasks.items ≤ s.global.places = λ open_still. subst (λ n. n ≤ s.global.places) (sym many) (whole.places open_still) in
-      let made : (t : ℕ) → length s'.tasks.items ≤ t → (x.runnables t + stock t (record s { tasks = s'.tasks; requests = s'.requests; sleepers = s'.sleepers; seats = s'.seats }) ≡ 0) × (x.polls t ≡ 0) =
+      let made : (t : ℕ) → length s'.tasks.items ≤ t → (x.runnables t + stock t (dealt_in s s') ≡ 0) × (x.polls t ≡ 0) =
       λ u more. let old = whole.made u (subst (λ n. n ≤ u) many more) in (ap (λ n. x.runnables u + n) (stocks u) ∙ old.0, old.1) in
       let unclaimed : (j : ℕ) → length s'.seats.items ≤ j → x.claims j ≡ 0 = λ j more. whole.unclaimed j (subst (λ n. n ≤ j) seats more) in
       let in_pool : (j : ℕ) (chair : Chair) → slice_get s'.seats.items j ≡ Some chair → chair.pool ≡ nat_lt j s.config.workers = λ j chair at. let old = gates.back j chair at in old.2.pool ∙ whole.in_pool j old.0 old.1 in
@@ -101,14 +104,13 @@ module _ {B : Type 0} where
       }) whole.pool) in
       assumption (runnables, polls_so, claims, queued_here, queued_there, places, made, unclaimed, in_pool, pool, lines, holds, whole)
 
-  whole_on : (t : ℕ) (w w' : Worker) (s s' : Shared B) (slot slot' : TaskSlot B) (x : Profile) → Deals t w w' s s' slot slot' → Holds x (record s { tasks = s'.tasks; requests = s'.requests; sleepers = s'.sleepers; seats = s'.seats }) → IsWhole x s → IsWhole x (record s { tasks = s'.tasks; requests = s'.requests; sleepers = s'.sleepers; seats = s'.seats })
-  whole_on t w w' s s' slot slot' x deals holds whole =
-      whole_handled t w.index s s' slot slot' x deals.handles deals.gates deals.queues (gates_kept s.requests.items s'.requests.items deals.lines x.drops_by s.opens whole.gates) holds whole
-
   pub whole_dealt : (t : ℕ) (w w' : Worker) (s s' : Shared B) (slot slot' : TaskSlot B) (others : Profile) → Deals t w w' s s' slot slot' → Holds (with_worker others w) s' → IsWhole (with_worker others w) s → IsWhole (with_worker others w') s'
   whole_dealt t w w' s s' slot slot' others deals holds whole =
-      subst (λ x. IsWhole x s') (sym (profile_same others w w' deals.profile)) (subst (IsWhole (with_worker others w)) (sym deals.kept)
-      (whole_on t w w' s s' slot slot' (with_worker others w) deals (subst (Holds (with_worker others w)) deals.kept holds) whole))
+      let x = with_worker others w in
+      let same : s' ≡ dealt_in s s' = deals.kept ∙ ap (λ (z : Shared B). dealt_in s (record s' { opens = z.opens; store = z.store })) (sym deals.kept) in
+      let lines = subst (λ (z : Shared B). HaveGates x.drops_by z.opens s'.requests.items) (sym deals.kept) (gates_kept s.requests.items s'.requests.items deals.lines x.drops_by s.opens whole.gates) in
+      subst (λ x. IsWhole x s') (sym (profile_same others w w' deals.profile)) (subst (IsWhole x) (sym same)
+      (whole_handled t w.index s s' slot slot' x deals.handles deals.gates deals.queues lines (subst (Holds x) same holds) whole))
 
   -- and of others
   pub spares_dealt : (t i : ℕ) (s s' : Shared B) (slot slot' : TaskSlot B) → s' ≡ record s { tasks = s'.tasks; requests = s'.requests; sleepers = s'.sleepers; seats = s'.seats } → Handles t s s' slot slot' → slot.poller ≡ i → ((j : ℕ) → slot.home ≡ Some j → j ≡ i)

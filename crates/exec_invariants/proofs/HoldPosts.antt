@@ -1,5 +1,5 @@
 -- A MESSAGE IS SENT: from the hands of a worker it comes into an inbox, which has a place for it, or is lost where that takes none.
-use Rattle.std.proofs.{Common.{◌≡◌, ◌≢◌, inl, inr, ℕ, zero, suc, ◌+◌, ◌*◌, ◌<◌, ◌≤◌, ◌==◌, Bool, true, false, cond, Contains, List, [], ◌∷◌, ◌++◌, count_by, length, Option, Some, refl, sym, ap, subst, ◌∙◌, arith, slice_get, slice_set}, lemmas.{Bool.false≢true, List.{length-set, Elements.Contains-append_cases, Sums.sum_by-cons}}}
+use Rattle.std.proofs.{Common.{◌≡◌, inl, inr, ℕ, zero, suc, ◌+◌, ◌*◌, ◌<◌, ◌≤◌, ◌==◌, Bool, true, false, cond, Contains, List, [], ◌∷◌, ◌++◌, count_by, length, Option, Some, refl, sym, ap, subst, ◌∙◌, arith, slice_get, slice_set}, lemmas.{Bool.false≢true, List.{length-set, Elements.Contains-append_cases, Sums.sum_by-cons}}}
 use Rattle.exec_words.specs.{Inbox.is_wake_root, declared.inbox.Message.{Message}}
 use Rattle.exec_machine.specs.declared.state.Forwarding.{Forwarding}
 use Rattle.exec_parts.{specs.declared.parts.mail.Subject.Subject, proofs.Facts.{by_number, same_Some, set_elsewhere, set_there}}

@@ -1,14 +1,13 @@
 -- WHAT IS SEEN of a request that its worker has let go of: the machine's lists, what stands on the desk, and what others see.
-use Rattle.std.proofs.{Common.{◌≡◌, ◌≢◌, ℕ, suc, ◌+◌, ◌&&◌, Bool, true, false, not, List, [], ◌∷◌, ◌++◌, length, slice_index_or, Some, None, IsSome, is_some, refl, sym, ap, subst, ◌∙◌, arith, slice_get, if◌then◌else◌}, lemmas.{Bool.{false≢true, eq-eqb}, List.{append-nil, length-append, map-append}, Option.get_or_from_slice_get}}
-use Rattle.exec_base.specs.{Slab.{Slab, is_live, value_at, written, removed}, declared.{slab.{Id.Id, Slot.{Slot, TheVariants.{Live, Vacant, Retired}}}}}
+use Rattle.std.proofs.{Common.{◌≡◌, ◌≢◌, ℕ, suc, ◌+◌, ◌&&◌, Bool, true, false, not, List, [], ◌∷◌, ◌++◌, length, slice_index_or, Some, None, IsSome, is_some, refl, sym, ap, ◌∙◌, arith, slice_get, if◌then◌else◌}, lemmas.{Bool.{false≢true, eq-eqb}, List.{append-nil, length-append, map-append}, Option.get_or_from_slice_get}}
+use Rattle.exec_base.specs.{Slab.{Slab, is_live, value_at, written}, declared.{slab.{Id.Id, Slot.{Slot, TheVariants.{Live, Vacant, Retired}}}}}
 use Rattle.exec_request.specs.declared.output.RequestOutput.{RequestOutput}
-use Rattle.exec_ring.specs.Rings.{completions}
-use Rattle.exec_waiters.specs.{Events.{told_to, untaken, told_by_orphan, orphaned_from, asks_cancel_by_orphan, waker_in}, States.{flying_count, is_held_by, waiter_of}, Told.{Tells}, declared.{deferred.{Answer.Answer}, observer.Observer.{Observer, TheVariants.{DetachedSync, Forwarded, Local, Orphaned}}, waiter.{Entry.{Entry, TheVariants.{Pending, Ready}}, Waiter.Waiter}}}
-use Rattle.exec_driver.specs.{Driving.{Driving, request_at}, Steps.{both, cancelled_at, told_by_cancel, without_observer}}
-use Rattle.exec_machine.specs.{declared.state.Request.Request, Requests.{ends_by_drop, is_cancelled_by_drop, joined_if, left_if, own_after_drop}, Tests.{is_in_flight, is_kept, is_queued, is_resolved}, World.{Common, request_of}}
+use Rattle.exec_waiters.specs.{Events.{told_to, untaken, waker_in}, States.{flying_count, is_held_by, waiter_of}, declared.{deferred.{Answer.Answer}, observer.Observer.{Observer, TheVariants.{DetachedSync, Forwarded, Local, Orphaned}}, waiter.{Entry.{Entry, TheVariants.{Pending, Ready}}, Waiter.Waiter}}}
+use Rattle.exec_driver.specs.{Driving.{Driving}}
+use Rattle.exec_machine.specs.{declared.state.Request.Request, Requests.{ends_by_drop, is_cancelled_by_drop, joined_if, left_if, own_after_drop}, Tests.{is_resolved}, World.{Common, request_of}}
 use Rattle.exec_moves.specs.{declared.handing.Heard.Heard, Slots.{is_in_slots, is_some_slot, slot_of, vacated}, State.Desk, Told.{awaits_no_more, one_output, one_result, told_of_drop, turned_away, without_request}}
 use Rattle.exec_parts.{specs.{declared.parts.{mail.Reply.Reply, record.Record.Record, shared.Shared.Shared, worker.Worker.Worker}, Awaits.LetsGo, Records.number_in, View.{awaited_from, awaits_entry, desk_of, driver_of, numbers_of, own_of, results_in, slots_from, slots_seen, visible}}, proofs.Facts.{and_right, not_same, same_Some}}
-use Rattle.exec_invariants.{specs.{Gates.AreLinedUp, Rooted.IsNear, Sound.served_in}, proofs.{Known.low_there, LetGone.number, LetKept.over_idle, LetSlab.same_flying, ServingHolds.KeepsSpare, Slotted.{OneSlot, awaited_over, awaited_removed, awaited_written, slot_in, slots_vacated, slots_written}}}
+use Rattle.exec_invariants.{specs.{Gates.AreLinedUp, Rooted.IsNear, Sound.served_in}, proofs.{Known.low_there, LetGone.{is_left, left_gone, number}, LetSlab.same_flying, ServingHolds.KeepsSpare, Slotted.{OneSlot, awaited_over, awaited_removed, awaited_written, slot_in, slots_vacated, slots_written}}}
 
 -- THE SLOTS: no slot has a number that no live one has
 pub not_in : (n k : ℕ) (numbers : List ℕ) (slots : List (Slot (Entry Reply Reply))) → ((j : ℕ) (x : Slot (Entry Reply Reply)) → slice_get slots j ≡ Some x → is_live x ≡ true → slice_index_or numbers (k + j) 0 ≢ n) → slot_of n k (slots_from k numbers slots) ≡ None
@@ -99,15 +98,11 @@ module _ {B : Type 0} (k : ℕ) (w v : Worker) (s s' : Shared B) (idle : served_
   -- it isn't there any more
   pub seen_gone : value_at d.requests id ≡ None → IsSeen
   seen_gone none =
-      let drv : driver_of v ≡ d = lets.driver ∙ ap (λ o. if asks_cancel_by_orphan o then cancelled_at (without_observer d lets.r.id) lets.r.id else record d { requests = orphaned_from d.requests id o }) none in
-      let tells = subst (λ x. Tells w.home.deferred v.home.deferred x) (ap (λ o. if asks_cancel_by_orphan o then both (told_by_orphan id o) (told_by_cancel lets.r.id (request_at (without_observer d lets.r.id) lets.r.id)) else told_by_orphan id o) none) lets.tells in
+      let left = left_gone k w v s s' idle gates keeps lets mine seen none in
       let over : is_resolved lets.r.shown.phase ≡ true = keeps.named.over k lets.r lets.request mine (ap waiter_of none) in
-      let not_there = over_idle lets.r.shown.phase over in
-      let ends : ends_by_drop lets.r.shown ≡ false = ap (λ b. b && not (is_kept lets.r.shown.operation.kind)) not_there.0 in
-      let unasked : is_cancelled_by_drop lets.r.shown ≡ false = ap (λ b. b && not (is_kept lets.r.shown.operation.kind) && not lets.r.shown.cancelled) not_there.1 in
       let absent : is_in_slots k (slots_seen n d.requests) ≡ false = ap is_some_slot (not_in k 0 n d.requests.slots (λ j x at alive same. no_slot none j x at alive (ap (λ m. slice_index_or n m 0) (let e : j ≡ 0 + j = omega arith in e) ∙ same))) in
-      let outputs : v.home.deferred.outputs.items ≡ w.home.deferred.outputs.items = tells.outputs_added ∙ append-nil w.home.deferred.outputs.items in
-      let results : v.home.deferred.results.items ≡ w.home.deferred.results.items = tells.results_added ∙ append-nil w.home.deferred.results.items in
+      let outputs : v.home.deferred.outputs.items ≡ w.home.deferred.outputs.items = left.tells.outputs_added ∙ append-nil w.home.deferred.outputs.items in
+      let results : v.home.deferred.results.items ≡ w.home.deferred.results.items = left.tells.results_added ∙ append-nil w.home.deferred.results.items in
       grind (arith, append-nil, and_right)
     where
       no_slot : value_at d.requests id ≡ None → (j : ℕ) (x : Slot (Entry Reply Reply)) → slice_get d.requests.slots j ≡ Some x → is_live x ≡ true → slice_index_or n j 0 ≡ k → ⊥
@@ -131,28 +126,24 @@ module _ {B : Type 0} (k : ℕ) (w v : Worker) (s s' : Shared B) (idle : served_
       let is = number k w v s s' idle gates keeps lets mine seen some in
       let at_number : slice_get s.requests.items kk ≡ Some lets.r = ap (slice_get s.requests.items) is ∙ lets.request in
       let kept = keeps.rooted.kept id told lets.r ready at_number in
-      let ends : ends_by_drop lets.r.shown ≡ false = ap (λ p. is_queued p && not (is_kept lets.r.shown.operation.kind)) kept.over in
-      let unasked : is_cancelled_by_drop lets.r.shown ≡ false = ap (λ p. is_in_flight p && not (is_kept lets.r.shown.operation.kind) && not lets.r.shown.cancelled) kept.over in
-      let d' : Driving Reply Reply = record d { requests = removed s0 id } in
-      let drv : driver_of v ≡ d' = lets.driver ∙ ap (λ o. if asks_cancel_by_orphan o then cancelled_at (without_observer d lets.r.id) lets.r.id else record d { requests = orphaned_from s0 id o }) ready in
-      let tells = subst (λ x. Tells w.home.deferred v.home.deferred x) (ap (λ o. if asks_cancel_by_orphan o then both (told_by_orphan id o) (told_by_cancel lets.r.id (request_at (without_observer d lets.r.id) lets.r.id)) else told_by_orphan id o) ready) lets.tells in
+      let left = is_left k w v s s' idle gates keeps lets mine seen (Some (Ready told)) ready refl (ap is_resolved kept.over) in
       let one = one_slot (Ready told) ready in
       let unawaited : awaits_entry one.e ≡ false = ap awaits_entry (one_is (Ready told) ready) in
-      let outputs : length v.home.deferred.outputs.items ≡ d0.outputs + 1 = ap length tells.outputs_added ∙ length-append w.home.deferred.outputs.items (untaken {S = Reply} {F = Reply} id told).outputs in
-      let results : v.home.deferred.results.items ≡ w.home.deferred.results.items = tells.results_added ∙ append-nil w.home.deferred.results.items in
-      let requests : slots_seen n (driver_of v).requests ≡ vacated kk d0.requests = ap (λ x. slots_seen n x.requests) drv ∙ slots_vacated n s0 id one in
-      let awaited : awaited_from 0 n (driver_of v).requests.slots ≡ d0.awaited = ap (λ x. awaited_from 0 n x.requests.slots) drv ∙ awaited_removed n s0 id one unawaited in
+      let outputs : length v.home.deferred.outputs.items ≡ d0.outputs + 1 = ap length left.tells.outputs_added ∙ length-append w.home.deferred.outputs.items (untaken {S = Reply} {F = Reply} id told).outputs in
+      let results : v.home.deferred.results.items ≡ w.home.deferred.results.items = left.tells.results_added ∙ append-nil w.home.deferred.results.items in
+      let requests : slots_seen n (driver_of v).requests ≡ vacated kk d0.requests = ap (λ x. slots_seen n x.requests) left.driver ∙ slots_vacated n s0 id one in
+      let awaited : awaited_from 0 n (driver_of v).requests.slots ≡ d0.awaited = ap (λ x. awaited_from 0 n x.requests.slots) left.driver ∙ awaited_removed n s0 id one unawaited in
       let then_is : told_of_drop kk lets.r.shown d0 ≡ record d0 { outputs = d0.outputs + 1; requests = vacated kk d0.requests } =
       desk_there kk lets.r.shown d0 seen (slot_in n s0 id one) ∙ ap (λ b. if b then one_output (without_request kk d0) else if ends_by_drop lets.r.shown then one_output (without_request kk (turned_away kk lets.r.shown d0)) else turned_away kk lets.r.shown d0) (ap is_resolved kept.over) in
       record {
-        ring = ap (λ x. x.ring) drv;
-        armed = ap (λ x. x.armed) drv;
-        ready = ap (λ x. numbers_of n x.lists.queued) drv ∙ ap (λ b. left_if b (numbers_of n d.lists.queued) k) (sym ends);
-        unenrolled = ap (λ x. numbers_of n x.lists.enrolments) drv ∙ ap (λ b. left_if b (numbers_of n d.lists.enrolments) k) (sym ends);
-        cancels = ap (λ x. numbers_of n x.lists.cancels) drv ∙ ap (λ b. left_if b (numbers_of n d.lists.cancels) k) (sym ends) ∙ ap (λ b. joined_if b (left_if (ends_by_drop lets.r.shown) (numbers_of n d.lists.cancels) k) k) (sym unasked);
-        flying = ap (λ x. flying_count x.requests) drv ∙ same_flying s0 id told ready;
-        wakes = tells.notes.wakes_added ∙ append-nil w.home.deferred.notes.wakes.items;
-        completed = tells.notes.completions_added ∙ append-nil w.home.deferred.notes.completions.items;
+        ring = ap (λ x. x.ring) left.driver;
+        armed = ap (λ x. x.armed) left.driver;
+        ready = ap (λ x. numbers_of n x.lists.queued) left.driver ∙ ap (λ b. left_if b (numbers_of n d.lists.queued) k) (sym left.ends);
+        unenrolled = ap (λ x. numbers_of n x.lists.enrolments) left.driver ∙ ap (λ b. left_if b (numbers_of n d.lists.enrolments) k) (sym left.ends);
+        cancels = ap (λ x. numbers_of n x.lists.cancels) left.driver ∙ ap (λ b. left_if b (numbers_of n d.lists.cancels) k) (sym left.ends) ∙ ap (λ b. joined_if b (left_if (ends_by_drop lets.r.shown) (numbers_of n d.lists.cancels) k) k) (sym left.unasked);
+        flying = ap (λ x. flying_count x.requests) left.driver ∙ same_flying s0 id told ready;
+        wakes = left.tells.notes.wakes_added ∙ append-nil w.home.deferred.notes.wakes.items;
+        completed = left.tells.notes.completions_added ∙ append-nil w.home.deferred.notes.completions.items;
         desk = grind (arith, outputs, results, requests, awaited, then_is, is);
       }
 

@@ -1,5 +1,5 @@
 -- MESSAGES MOVE between what a worker has in hand and inboxes: the balances of all but of what tasks hold stay.
-use Rattle.std.proofs.{Common.{◌≡◌, ℕ, zero, suc, ◌+◌, ◌<◌, Bool, true, false, cond, Contains, List, [], ◌∷◌, length, map, Some, refl, sym, ap, subst, ◌∙◌, arith, slice_get, slice_set}, lemmas.List.length-set}
+use Rattle.std.proofs.{Common.{◌≡◌, ℕ, zero, suc, ◌+◌, ◌<◌, Bool, true, false, cond, Contains, List, [], ◌∷◌, map, Some, refl, sym, ap, subst, ◌∙◌, arith, slice_get, slice_set}, lemmas.List.length-set}
 use Rattle.exec_words.specs.{Reserved.Reserved, declared.inbox.Message.Message}
 use Rattle.exec_parts.{specs.declared.parts.{letters.Letters.Letters, shared.Shared.Shared, worker.Worker.Worker}, proofs.Facts.{by_number, same_Some, set_elsewhere, set_there}}
 pub use Rattle.exec_invariants.proofs.Aside.{whole_moved}

@@ -1,5 +1,5 @@
 -- How often a task stands in the task set, each in its own shard, and what a drain has passed of it.
-use Rattle.std.{proofs.{Common.{[], ◌≡◌, ◌≢◌, ℕ, zero, suc, ◌+◌, ◌-◌, ◌<◌, ◌≤◌, ◌==◌, List, ◌∷◌, ◌++◌, length, sum_by, None, refl, ap, ◌∙◌, arith, cond, slice_index_or, slice_set, ◌%◌}, lemmas.{Bool.cases_lt, List.{length-set, Sums.{sum_by-append, sum_by-cons}}}}}
+use Rattle.std.{proofs.{Common.{[], ◌≡◌, ◌≢◌, ℕ, zero, suc, ◌+◌, ◌<◌, ◌≤◌, ◌==◌, List, ◌∷◌, ◌++◌, length, sum_by, None, refl, ap, ◌∙◌, arith, cond, slice_index_or, slice_set, ◌%◌}, lemmas.{Bool.cases_lt, List.{length-set, Sums.{sum_by-append, sum_by-cons}}}}}
 use Rattle.exec_task.specs.{TaskSet.{AreAtHome, IsFor, Set, TakesNewest, at_number, passed, shard_at}, declared.drain.Drain.Drain}
 use Rattle.exec_parts.{specs.Phased.HasPassed, proofs.Facts.{by_number}}
 use Rattle.exec_invariants.specs.{Drained.in_set, Places.one_if}

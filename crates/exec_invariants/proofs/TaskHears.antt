@@ -5,7 +5,7 @@ use Rattle.exec_outcomes.specs.declared.outcome.Outcome.{Outcome, TheVariants.{S
 use Rattle.exec_request.specs.declared.output.RequestOutput.{RequestOutput}
 use Rattle.exec_task.specs.declared.body.Said.{Said}
 use Rattle.exec_machine.specs.{declared.{state.{Forwarding.TheVariants.Applied, RequestPhase.TheVariants.Resolved, Waiting.Waiting}, event.Event.{Event, TheVariants.{Got, Turn}}}, Choice.Choice.Plain, Progress.Plan, Tasks.{without_newest}, Tests.{is_resolved, is_resolved_with, is_unsent, waits_for_nothing}, Words.{moved_on}, World.{Task, request_of, task_of}}
-use Rattle.exec_moves.specs.{declared.{handing.AfterSend.AfterSend, place.{InPoll.InPoll, Place.Place}}, Move.move_look_at, Poll.{resume, sight_of, stops}, State.{Moved, Things}, Thing.{aside}}
+use Rattle.exec_moves.specs.{declared.{handing.AfterSend.AfterSend, place.{InPoll.InPoll, Place.Place}}, Move.move_look_at, Poll.{resume, sight_of}, State.{Moved, Things}, Thing.{aside}}
 use Rattle.exec_parts.{specs.{declared.parts.{held.Held.Held, record.Record.Record, shared.Shared.Shared, sleeping.SleeperRecord.SleeperRecord, task_slot.TaskSlot.TaskSlot, worker.Worker.Worker}, Phased.is_complete, MailPosts.TakesAnswer, Polls.unobserved, Records.numbers_held, Scripts.IsAnswered, Spots.Spot, View.{Views, common_of, desk_of, numbers_of_passing, own_of, task_seen, things_with, visible, with_view}, Serving.changed_in}, proofs.Facts.same_Some}
 use Rattle.exec_invariants.{specs.{Hearing.{Hears}, Spares.SparesRecord, Holding.{Holder, IsHolding, awaited_in, box_of, holder_of, nap_of, thing_of}, Sound.{MayStop, SoundAt, acts_next, is_told, may_end}, Whole.{HasWhole, hands_of, with_worker}, Works.{Steps, Suits, Works}}, proofs.{HoldSteps.{IsNewest, thing_taken}, Results.same_error_self, Here.{IsHere, going_on}, HoldBeside.Holds, HoldThings.{Touches, touches_none, touches_record}, Seen.{request_at, sleeper_at}, Slots.{IsEvent, task_there, works_slot}, TaskDeals.{Dealt, acts as to_act, dealt, ends as to_end, from_look}, Keys.{name_in, names_changed, same_gates, same_opens}, Lined.passing_same, SparedRecord.there_within, TaskTakes.{holder_there, holders_one, passes_at, spot_answered}, Turning.{set_found, view_found}}}
 

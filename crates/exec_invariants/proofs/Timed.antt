@@ -6,7 +6,7 @@ use Rattle.exec_request.specs.{States.asks_cancel, declared.results.WaiterState.
 use Rattle.exec_waiters.specs.{Events.with_tick, States.{needs_permit, takes_tick, tick_in, waiter_at}, declared.{waiter.{Entry.TheVariants.Pending, Waiter.Waiter}, waiter_id.WaiterId.WaiterId}}
 use Rattle.exec_driver.{specs.{Driving.Driving, Lists.{first_of, rest_of, is_among, after_enrolment}, Punctual.IsPunctual, Steps.tick_for}, proofs.{Expiring.tick_tells}}
 use Rattle.exec_machine.specs.{declared.{state.RequestPhase.RequestPhase, config.Configuration.Configuration}, Tests.{is_staged}, World.{Own, Common}}
-use Rattle.exec_moves.specs.{State.{Desk}, Submit.{due_next, first_due, submits, Due.Enrols}, declared.place.{Service.Service, Place.Place, InService.InService}}
+use Rattle.exec_moves.specs.{State.{Desk}, Submit.{due_next, first_due, Due.Enrols}, declared.place.{Place.Place, InService.InService}}
 use Rattle.exec_parts.{specs.{declared.parts.{mail.Reply.Reply, record.Record.Record, shared.Shared.Shared, worker.Worker.Worker}, Records.number_in, Serving.{changed_at, first_tick, is_one_of}, View.{own_of, driver_of}}, proofs.Facts.by_name}
 use Rattle.exec_invariants.{specs.{Names.IsSubmitted, Sound.served_in, Due.IsWheelAt, Flown.{HasFlown, IsPlain, operations, AreLanded}, Submits.IsNewIn, Ordered.{IsOrdered, went_round}}, proofs.{Known.known_written, Changing.{all_go_one, OneGoesOn, changes_one, keeps_one}, Going.{owning_on, GoesOn}, Marking.{known_then, plain_kept, mark_kept, mark_if, marked, was_marked}, Carries.carried_still, Enrolled.new_first, Enrolling.enrolled_at, Flown.landed_on, ServingHolds.KeepsBy, Staging.{split_first, stages_again}, Orders.ticks_so}}
 pub use Rattle.exec_invariants.proofs.Untold.{keeps_untold, told_still}

@@ -1,7 +1,7 @@
 -- What the calls of a searcher make of its seat's view v and of the backlog b that it reaches: w and d.
 use Rattle.std.specs.Prelude.{◌≡◌, ◌≢◌, ℕ, ◌*◌, ◌/◌, ◌%◌, ◌^◌, ◌<◌, ◌≤◌, ◌⊎◌, Bool, true, false, if◌then◌else◌, Some, None, bit_xor}
 use Rattle.exec_words.specs.declared.idle.Park.{Park, TheVariants.{Wait, Run, Search}}
-use Rattle.exec_live_idle.specs.{declared.view.View.View, Plays.counted, Notify.HoldsStill}
+use Rattle.exec_live_idle.specs.{declared.view.View.View, Plays.{published, withdrawn, counted, returned}, Notify.HoldsStill}
 
 -- the next number of the generator that picks where a search starts
 abbrev pub xorshift : ℕ → ℕ
@@ -20,9 +20,13 @@ MaySearch v w = ((v.held ≡ 1) × (w ≡ v))
 abbrev pub MayNot : View → View → Type 0
 MayNot v w = ((v.workers ≡ 1) × (w ≡ v)) ⊎ ((v.held ≡ 0) × (w ≡ counted v w.saw) × (v.workers ≤ 2 * w.saw))
 
--- its bit is in, and it holds no count
+-- its bit is in, and it holds no count: one that it held is returned after that
 abbrev pub Shows : View → View → Type 0
-Shows v w = w ≡ record v { published = true; held = 0; saw = w.saw; last = None; before = w.before }
+Shows v w = ((v.held ≡ 0) × (w ≡ published v)) ⊎ ((v.held ≡ 1) × (w ≡ returned (published v) w.saw))
+
+-- its bit is out, which it found, or which a claim had taken
+abbrev pub Withdraws : View → View → Type 0
+Withdraws v w = (w ≡ withdrawn v true) ⊎ (w ≡ withdrawn v false)
 
 -- the seat is as before, but for its counts, and what it saw and claimed
 abbrev pub StaysUp : View → View → Type 0
@@ -37,26 +41,28 @@ module _ {B : Type 0} where
   abbrev pub Skips : View → B → ℕ → View → B → ℕ → Type 0
   Skips v b seed w d next = MayNot v w × (d ≡ b) × (next ≡ seed)
 
-  -- A count is returned, if there is one. The last is handed on by a kick
-  abbrev pub Leaves : (B → B → Type 0) → View → B → View → B → Type 0
+  -- A count is returned, if there is one, and nobody is claimed. The last is handed on by a kick, from what is known then
+  abbrev pub Leaves : (View → B → View → B → Type 0) → View → B → View → B → Type 0
   Leaves kicks v b w d = HoldsStill (record v { held = 0 }) w
-      × (((v.held ≡ 0) × (w ≡ v) × (d ≡ b)) ⊎ (((v.held ≡ 1) × (0 < w.saw) × (d ≡ b)) ⊎ ((v.held ≡ 1) × kicks b d)))
+      × (((v.held ≡ 0) × (w ≡ v) × (d ≡ b))
+      ⊎ (((v.held ≡ 1) × (w ≡ returned v w.saw) × (0 < w.saw) × (d ≡ b)) ⊎ ((v.held ≡ 1) × kicks (returned v 0) b w d)))
 
-  module _ (looks peers : B → Bool → B → Type 0) (kicks : B → B → Type 0) where
+  module _ (looks peers : B → Bool → B → Type 0) (kicks : View → B → View → B → Type 0) where
     -- The last look, after the bit is in and a held count is returned. b is what the look at the global queue left.
     -- Wait: a search count was there, at the load or at the exchange; or no other queue could be stolen from
     abbrev pub Waits : View → B → View → B → Type 0
-    Waits v b w d = Shows v w
-        × (((0 < w.saw) × (d ≡ b)) ⊎ (peers b false d ⊎ ((0 < w.saw) × peers b true d)))
+    Waits v b w d = (w ≡ counted (record v { published = true; held = 0 }) w.saw)
+        × (((0 < w.saw) × (d ≡ b)) ⊎ (((w.saw ≡ 0) × peers b false d) ⊎ ((0 < w.saw) × peers b true d)))
 
     -- Run: the bit is out again. A claim's count is kept; where none came and the last was returned, it is handed on
     abbrev pub Reruns : View → B → View → B → Type 0
-    Reruns v b w d = StaysUp v w
-        × (((d ≡ b) × ((v.held ≡ 0) ⊎ ((w.held ≡ 1) ⊎ (0 < w.saw)))) ⊎ ((v.held ≡ 1) × (w.held ≡ 0) × kicks b d))
+    Reruns v b w d = StaysUp v w × (((v.held ≡ 0) × Withdraws (published v) w × (d ≡ b))
+        ⊎ (((v.held ≡ 1) × Withdraws (returned (published v) w.saw) w × ((w.held ≡ 1) ⊎ (0 < w.saw)) × (d ≡ b))
+        ⊎ ((v.held ≡ 1) × (w.held ≡ 0) × kicks (withdrawn (returned (published v) 0) true) b w d)))
 
     -- Search: the bit is out again, and a count was taken where the exchange found none
     abbrev pub Finds : View → B → View → B → Type 0
-    Finds v b w d = (w ≡ record v { held = 1; saw = w.saw; took = Some 0; last = None; before = w.before })
+    Finds v b w d = (w ≡ record v { held = 1; saw = w.saw; took = Some 0; last = None; before = None })
         × peers b true d
 
     abbrev pub Parks : View → B → Park → View → B → Type 0
@@ -65,7 +71,7 @@ module _ {B : Type 0} where
     Parks v b Search w d = (seen : B) × looks b false seen × Finds v seen w d
 
   -- Looks that ask for a search, each with a search that moves nothing: from v, b and the seed to w, d and the next seed
-  module _ (looks peers : B → Bool → B → Type 0) (steals : B → ℕ → Bool → B → Type 0) (kicks : B → B → Type 0) (v : View) (b : B) (seed : ℕ) where
+  module _ (looks peers : B → Bool → B → Type 0) (steals : B → ℕ → Bool → B → Type 0) (kicks : View → B → View → B → Type 0) (v : View) (b : B) (seed : ℕ) where
     pub data Rounds : View → B → ℕ → Type 0 where
       NoRound : Rounds v b seed
       OneMore : (u x w : View) (c y d : B) (at next : ℕ) → Rounds u c at → Parks looks peers kicks u c Search x y → (Skips x y at w d next ⊎ Scans steals x y at false w d next) → Rounds w d next

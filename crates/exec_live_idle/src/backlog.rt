@@ -2,7 +2,7 @@
 
 ghost use Rattle.std.specs.Prelude.{◌≡◌, ℕ, ◌<◌, ◌≤◌, Bool, true, false, IsTrue, IsFalse};
 ghost use Rattle.exec_base.specs.Io.{Rose};
-ghost use Rattle.exec_live_idle.specs.{Idle.{knows, IsSeatOf, IsSame}, Notify.HoldsStill};
+ghost use Rattle.exec_live_idle.specs.{declared.view.View.View, Idle.{knows, IsSeatOf, IsSame}, Notify.HoldsStill};
 
 use crate::seat::{Idle, IdleSeat};
 use std::sync::Wait;
@@ -25,8 +25,8 @@ pub trait Backlog {
     /// What a steal that starts at this worker and moves values, or none, may make of it.
     ghost steals: { Self → ℕ → Bool → Self → Type 0 };
 
-    /// What a kick may make of it.
-    ghost kicks: { Self → Self → Type 0 };
+    /// What a kick by a seat that knows this may make of it, and of what the seat knows.
+    ghost kicks: { View → Self → View → Self → Type 0 };
 
     /// How many workers the pool has.
     fn workers(&self) -> usize
@@ -40,9 +40,11 @@ pub trait Backlog {
         ensures looks { looks self.old result self.new };
 
     /// Whether another run queue can be stolen from. The caller must have published the worker: a
-    /// kick after this look finds it.
+    /// kick after this look finds it. It must have found no search count: whoever holds one would
+    /// look for it.
     fn has_stealable<R: Wait>(&mut self, rt: &R, seat: &IdleSeat) -> bool
-        requires { (knows seat.now).published ≡ true }
+        requires published { (knows seat.now).published ≡ true }
+        requires no_count { (knows seat.now).saw ≡ 0 }
         ensures pool { pool self.new ≡ pool self.old }
         ensures peers { peers self.old result self.new };
 
@@ -68,5 +70,5 @@ pub trait Backlog {
         ensures same { IsSame seat.old seat.new }
         ensures still { HoldsStill (knows seat.old) (knows seat.new) }
         ensures pool { pool self.new ≡ pool self.old }
-        ensures kicks { kicks self.old self.new };
+        ensures kicks { kicks (knows seat.old) self.old (knows seat.new) self.new };
 }

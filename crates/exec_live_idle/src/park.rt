@@ -19,7 +19,7 @@ use std::sync::Wait;
 
 impl<'a> Searcher<'a> {
     /// Returns the search count, if the worker holds one. Where this was the last, the duty to
-    /// search is handed on by a kick. The caller must have ended a publication.
+    /// search is handed on by a kick, which may wait. The caller must have ended a publication.
     pub fn leave_search<R: Wait, B: Backlog>(&mut self, rt: &R, backlog: &mut B)
         requires unpublished { (knows self.old.seat).published ≡ false }
         requires pool { B.pool backlog.old ≡ (knows self.old.seat).workers }
@@ -46,7 +46,8 @@ impl<'a> Searcher<'a> {
     ///   published: the caller ends that by `finish_park`, also after a wait that doesn't block.
     /// - `Search`: another run queue can be stolen from. The worker is withdrawn, and holds a count.
     ///
-    /// The caller must have ended a publication, and the worker's own run queue must be empty.
+    /// The looks and the kick may wait. The caller must have ended a publication, and the worker's own
+    /// run queue must be empty.
     pub fn prepare_park<R: Wait, B: Backlog>(&mut self, rt: &R, backlog: &mut B) -> Park
         requires unpublished { (knows self.old.seat).published ≡ false }
         requires pool { B.pool backlog.old ≡ (knows self.old.seat).workers }
@@ -102,8 +103,9 @@ impl<'a> Searcher<'a> {
 
     /// Publishes the worker and looks once more, and searches whenever the look asks for it, until a
     /// search moves values or a look asks for none. True leaves the worker withdrawn: it runs again,
-    /// perhaps with a count. False leaves it published, to wait. The caller must have ended a
-    /// publication, and the worker's own run queue must be empty.
+    /// perhaps with a count. False leaves it published, to wait. The call itself may wait, and nothing
+    /// bounds how often it looks. The caller must have ended a publication, and the worker's own run
+    /// queue must be empty.
     pub fn publish_and_look<R: Wait, B: Backlog>(&mut self, rt: &R, backlog: &mut B) -> bool
         requires unpublished { (knows self.old.seat).published ≡ false }
         requires pool { B.pool backlog.old ≡ (knows self.old.seat).workers }

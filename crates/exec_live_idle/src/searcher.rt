@@ -72,7 +72,8 @@ impl<'a> Searcher<'a> {
     /// Goes over the other run queues once, and moves half of the first backlog that it finds into
     /// the worker's own. Answers whether it moved any. A worker that holds no count takes one first,
     /// unless half of the workers search already; it stays held until the worker leaves the search
-    /// or parks. One worker alone doesn't search. The caller must have ended a publication.
+    /// or parks. One worker alone doesn't search. It may wait, where a steal does. The caller must have
+    /// ended a publication.
     pub fn search<R: Wait, B: Backlog>(&mut self, rt: &R, backlog: &mut B) -> bool
         requires unpublished { (knows self.old.seat).published ≡ false }
         requires pool { B.pool backlog.old ≡ (knows self.old.seat).workers }

@@ -1,5 +1,6 @@
 -- The slots of a run of labels: taken out all at once, and given back all at once.
 use Rattle.exec_live_queue.proofs.Words.{◌≡◌, ◌≢◌, ℕ, zero, suc, ◌+◌, ◌-◌, ◌%◌, ◌<◌, ◌≤◌, List, [], ◌∷◌, ◌++◌, length, map, set, replicate, sym, refl, ap, ap₂, ◌∙◌, subst, mod-lt, length-set, append_assoc, arith, add-mod_right, none, some, dite, ℕ_discrete, get_elem?, Option, Some, None, Valid, carried_after, homes_after, rest, set_here, set_else, one_turn, Homes, HomeAt, hand, give_all, values_of}
+use Rattle.std.proofs.Common.{arith}
 use Rattle.exec_live_queue.specs.Plays.{take_all}
 
 -- two labels less than 256 apart have slots of their own
@@ -18,14 +19,12 @@ module _ {T : Type 0} where
   pub take_before : (xs : List (Option T)) (hs : Homes T) (c : List (ℕ × Option T)) (a l : ℕ) → l < a → a + length xs ≤ l + 256
       → get_elem? (homes_after hs c (take_all a xs)) (l % 256) ≡ get_elem? hs (l % 256)
   take_before [] hs c a l lt near = refl
-  take_before (x ∷ xs) hs c a l lt near =
-      set_else (homes_after hs c (take_all (suc a) xs)) (a % 256) (l % 256) none (apart l a lt (omega arith)) ∙ take_before xs hs c (suc a) l (omega arith) (omega arith)
+  take_before (x ∷ xs) hs c a l lt near = grind (arith, set_else, homes_after, none, apart, take_before xs hs c (suc a) l (omega arith) (omega arith))
 
   pub take_behind : (xs : List (Option T)) (hs : Homes T) (c : List (ℕ × Option T)) (a l : ℕ) → a + length xs ≤ l → l < a + 256
       → get_elem? (homes_after hs c (take_all a xs)) (l % 256) ≡ get_elem? hs (l % 256)
   take_behind [] hs c a l le near = refl
-  take_behind (x ∷ xs) hs c a l le near = let lt : a < l = omega arith in
-      set_else (homes_after hs c (take_all (suc a) xs)) (a % 256) (l % 256) none (λ e. apart a l lt near (sym e)) ∙ take_behind xs hs c (suc a) l (omega arith) (omega arith)
+  take_behind (x ∷ xs) hs c a l le near = grind (arith, set_else, homes_after, none, apart, take_behind xs hs c (suc a) l (omega arith) (omega arith))
 
   pub take_valid : (xs : List (Option T)) (hs : Homes T) (c : List (ℕ × Option T)) (a : ℕ) → length xs ≤ 256 → AllHome hs a xs → Valid hs c (take_all a xs)
   take_valid [] hs c a small home = tt
@@ -42,14 +41,12 @@ module _ {T : Type 0} where
   pub give_before : (xs : List (Option T)) (hs : Homes T) (a l : ℕ) → l < a → a + length xs ≤ l + 256
       → get_elem? (homes_after hs (hand a xs) (give_all xs)) (l % 256) ≡ get_elem? hs (l % 256)
   give_before [] hs a l lt near = refl
-  give_before (x ∷ xs) hs a l lt near =
-      give_before xs (set hs (a % 256) (some x)) (suc a) l (omega arith) (omega arith) ∙ set_else hs (a % 256) (l % 256) (some x) (apart l a lt (omega arith))
+  give_before (x ∷ xs) hs a l lt near = grind (arith, set_else, apart, give_before xs (set hs (a % 256) (some x)) (suc a) l (omega arith) (omega arith))
 
   pub give_behind : (xs : List (Option T)) (hs : Homes T) (a l : ℕ) → a + length xs ≤ l → l < a + 256
       → get_elem? (homes_after hs (hand a xs) (give_all xs)) (l % 256) ≡ get_elem? hs (l % 256)
   give_behind [] hs a l le near = refl
-  give_behind (x ∷ xs) hs a l le near = let lt : a < l = omega arith in
-      give_behind xs (set hs (a % 256) (some x)) (suc a) l (omega arith) (omega arith) ∙ set_else hs (a % 256) (l % 256) (some x) (λ e. apart a l lt near (sym e))
+  give_behind (x ∷ xs) hs a l le near = grind (arith, set_else, apart, give_behind xs (set hs (a % 256) (some x)) (suc a) l (omega arith) (omega arith))
 
   pub give_here : (xs : List (Option T)) (hs : Homes T) (a : ℕ) → length xs ≤ 256 → length hs ≡ 256 → AllHome (homes_after hs (hand a xs) (give_all xs)) a xs
   give_here [] hs a small wide = tt
@@ -94,8 +91,7 @@ module _ {T : Type 0} where
   -- the same slots serve the labels one turn further on
   pub hand_turn : (a : ℕ) (xs : List (Option T)) → hand (a + 256) xs ≡ hand a xs
   hand_turn a [] = refl
-  hand_turn a (x ∷ xs) = let next : suc (a + 256) ≡ suc a + 256 = omega arith in
-      ap₂ (λ (n : ℕ) (l : List (ℕ × Option T)). (n, x) ∷ l) (add-mod_right a 256) (ap (λ (n : ℕ). hand n xs) next ∙ hand_turn (suc a) xs)
+  hand_turn a (x ∷ xs) = grind (arith, ap₂, add-mod_right, hand, hand_turn (suc a) xs)
 
   -- a run of values that are home
   pub all_full : (ys : List T) (hs : Homes T) (a : ℕ) → ((j : ℕ) (x : T) → get_elem? ys j ≡ some x → HomeAt hs (a + j) (Some x)) → AllHome hs a (map Some ys)

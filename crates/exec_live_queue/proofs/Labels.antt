@@ -1,5 +1,6 @@
 -- Runs of labels, and what they weigh; and lists.
 use Rattle.exec_live_queue.proofs.Words.{◌≡◌, ℕ, zero, suc, ◌+◌, ◌-◌, ◌<◌, ◌≤◌, ◌⊎◌, List, [], ◌∷◌, ◌++◌, length, take, sym, refl, ap, ◌∙◌, subst, inl, inr, ⊎_elim, drop-drop, length-drop, length-append, arith, drop-take, drop_at, drop-append-le, some, some-injective, some-ne-none, get_elem?, sum_by, sum_by-cons, labels}
+use Rattle.std.proofs.Common.{arith}
 use Rattle.std.proofs.{Common.drop, lemmas.List.{take_all, length-take-le}}
 
 -- the labels of two runs, one behind the other
@@ -68,5 +69,4 @@ module _ {X : Type 0} where
   pub at_either : (xs ys : List X) (i : ℕ) (x : X) → get_elem? (xs ++ ys) i ≡ some x → (get_elem? xs i ≡ some x) ⊎ ((length xs ≤ i) × (get_elem? ys (i - length xs) ≡ some x))
   at_either [] ys i x e = let same : i ≡ i - 0 = omega arith in inr (omega arith, subst (λ (k : ℕ). get_elem? ys k ≡ some x) same e)
   at_either (z ∷ xs) ys zero x e = inl e
-  at_either (z ∷ xs) ys (suc i) x e = ⊎_elim (λ (h : get_elem? xs i ≡ some x). inl h)
-      (λ (h : (length xs ≤ i) × (get_elem? ys (i - length xs) ≡ some x)). let same : i - length xs ≡ suc i - suc (length xs) = omega arith in inr (omega (arith, h.0), subst (λ (k : ℕ). get_elem? ys k ≡ some x) same h.1)) (at_either xs ys i x e)
+  at_either (z ∷ xs) ys (suc i) x e = grind (arith, ⊎_elim, get_elem?, at_either xs ys i x e)

@@ -1,5 +1,6 @@
 -- A new queue meets the rule.
-use Rattle.exec_live_queue.proofs.Words.{◌≡◌, ℕ, zero, suc, ◌+◌, ◌-◌, ◌%◌, ◌^◌, ◌<◌, ◌≤◌, List, [], ◌∷◌, map, length, replicate, sym, refl, ap, ◌∙◌, subst, mod-lt, arith, length-replicate, some, some-injective, some-ne-none, get_elem?, length-map, Option, None, sum_by, opening, View, head_word, words_of, labels, Knows, AsLogged, LiveQueue, opened}
+use Rattle.exec_live_queue.proofs.Words.{◌≡◌, ℕ, zero, suc, ◌+◌, ◌-◌, ◌%◌, ◌^◌, ◌<◌, ◌≤◌, List, [], ◌∷◌, map, length, replicate, sym, refl, ap, ◌∙◌, subst, mod-lt, arith, length-replicate, some, some-ne-none, get_elem?, length-map, Option, None, sum_by, opening, View, head_word, words_of, labels, Knows, AsLogged, LiveQueue, opened}
+use Rattle.std.proofs.Common.{arith}
 
 module _ {T : Type 0} where
   home_among : (n k : ℕ) → k < n → get_elem? (map {A = Option T} some (replicate n None)) k ≡ some (some None)
@@ -8,8 +9,7 @@ module _ {T : Type 0} where
   home_among (suc n) (suc k) lt = home_among n k (omega arith)
 
   one : (v : View T) (j : ℕ) (u : View T) → get_elem? (v ∷ []) j ≡ some u → (j ≡ 0) × (v ≡ u)
-  one v zero u e = (refl, some-injective v u e)
-  one v (suc j) u e = absurd (some-ne-none u (sym e))
+  one = grind arith
 
   pub opens : (start n : ℕ) (ws : List ℕ) (xs : List (Option T)) → start + 512 ≤ 2 ^ 55 → n ≡ 256 → xs ≡ replicate n None → ws ≡ words_of (head_word start 0) start → LiveQueue start (opening ws xs (opened start))
   unfolding labels

@@ -1,5 +1,6 @@
 -- What an owner's calls do to its view, step after step.
 use Rattle.exec_live_queue.proofs.{Words.{◌≡◌, ◌≢◌, ℕ, ◌+◌, ◌-◌, ◌/◌, ◌%◌, ◌^◌, ◌<◌, ◌≤◌, List, [], ◌∷◌, ◌++◌, length, take, map, replicate, sym, refl, ap, ◌∙◌, subst, arith, none, Option, Some, None, step, Own, Owns, Sat, room, hand, laid, Found, values_of, published_view, Overflowed, restored_view, whole, IsSeen, AtRest, looked, HasLooked, HasPublished, HasOverflowed, fully, AtHand, Fills, AfterSteal, HasKept, Theft, Steal, rest, length-append, length-drop, append_assoc}, Hands.values_behind, Overflows.whole_length}
+use Rattle.std.proofs.Common.{arith}
 use Rattle.std.proofs.{Common.{min, drop, append-nil}, lemmas.{List.length-take-le}}
 use Rattle.exec_words.specs.Head.{room_at}
 
@@ -30,13 +31,11 @@ module _ {T : Type 0} where
   -- a look that took the one free slot that it asked for
   pub took_one : (m m' : Sat T) (n : ℕ) → laid (λ room. min room 1) (step 256 11 0 0 none) m n m' → m.0.own.tail - n / 512 + n % 512 < 256
       → (1 ≡ min (room m.0.own.tail (n / 512) (n % 512)) 1) × (m'.1 ≡ hand m.0.own.tail (None ∷ []))
-  took_one m m' n l lt = let one : min (room m.0.own.tail (n / 512) (n % 512)) 1 ≡ 1 = grind arith in
-      (sym one, ap (λ (z : Sat T). z.1) l.1 ∙ ap (λ (k : ℕ). hand m.0.own.tail (replicate {A = Option T} k None)) one)
+  took_one = grind arith
 
   -- one that found no room
   pub looks_full : (m m' : Sat T) (n : ℕ) → AtRest m → laid (λ room. min room 1) (step 256 11 0 0 none) m n m' → 256 ≤ m.0.own.tail - n / 512 + n % 512 → AtRest m' × HasLooked m.0.own m'.0.own
-  looks_full m m' n r l le = looks_at (λ room. min room 1) m m' n r
-      (let b : n / 512 ≤ m.0.own.tail = l.0.1.behind in omega arith) l
+  looks_full = grind arith
 
   -- the slot was filled
   pub filled_one : (m m1 : Sat T) (label : ℕ) (x : T) → m.1 ≡ hand label (None ∷ []) → m1 ≡ (m.0, rest m.1 ++ (label % 256, Some x) ∷ []) → m1 ≡ (m.0, hand label (Some x ∷ []))
@@ -81,12 +80,8 @@ module _ {T : Type 0} where
   pub published_after : (f : ℕ → ℕ) (m m1 m2 m3 : Sat T) (n tail r : ℕ) (xs : List T)
       → laid f (step 256 11 0 0 none) m n m1 → AtRest m → m.0.own.tail + length xs + 256 ≤ 2 ^ 55
       → Fills m2 m1.0 tail r xs → m3 ≡ (published_view m2.0 (values_of m2.1), []) → AtRest m3
-      × HasPublished m.0.own xs m3.0.own
-  published_after f m m1 m2 m3 n tail r xs l rests bound e p = let looked = laid_looked f m m1 n l in
-      let owns : m1.0.stage ≡ Owns = ap (λ (z : Sat T). z.0.stage) l.1 ∙ rests.0 in
-      let shown : m3 ≡ (published_view m1.0 xs, []) = p ∙ ap (λ (z : Sat T). (published_view z.0 (values_of z.1), [])) e
-      ∙ ap (λ (ys : List T). (published_view m1.0 ys, [])) (values_behind xs r (tail + length xs) tail) in
-      grind (arith, length-append)
+      × HasPublished m.0.own xs m3.0.own × (m3.0.own.saw_real ≡ n / 512) × (m3.0.own.saw_gap ≡ n % 512)
+  published_after = grind (arith, looked, laid_looked, published_view, values_of, values_behind, length-append)
 
   -- a steal after a look
   pub steals_on : (a b d : Own T) (t t' : Theft T) (answer : Steal) → HasLooked a b → AfterSteal b t d t' answer → AfterSteal a t d t' answer

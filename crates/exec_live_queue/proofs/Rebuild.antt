@@ -1,5 +1,6 @@
 -- The rule after a step of the owner: one lemma for all of them.
-use Rattle.exec_live_queue.proofs.{Labels.at_within, Words.{◌≡◌, ◌≢◌, ℕ, zero, suc, ◌+◌, ◌-◌, ◌<◌, ◌≤◌, List, [], ◌∷◌, length, set, sym, ap, ◌∙◌, subst, ⊎_elim, arith, some, some-injective, some-ne-none, get_elem?, Option, None, slice_index, sum_by, sum_by-cons, State, Act, Valid, carried_after, homes_after, Allows, either, eqb, at_set, set_here, set_else, exchanged, Own, Theft, View, Stage, Owns, Claimed, head_word, filled, Outside, BesideClaim, InOrder, words_of, labels, Homes, HomeAt, FullAt, weight_of, Knows, AsLogged, Kept, LiveQueue, Sat, Place}}
+use Rattle.exec_live_queue.proofs.{Labels.at_within, Words.{◌≡◌, ◌≢◌, ℕ, zero, suc, ◌+◌, ◌-◌, ◌<◌, ◌≤◌, List, [], ◌∷◌, length, set, sym, ap, ◌∙◌, subst, ⊎_elim, arith, some, some-injective, some-ne-none, get_elem?, Option, None, slice_index, sum_by, sum_by-cons, State, Act, Valid, carried_after, homes_after, Allows, either, eqb, at_set, set_here, set_else, Own, Theft, View, Stage, Owns, Claimed, head_word, filled, Outside, BesideClaim, InOrder, words_of, labels, Homes, HomeAt, FullAt, weight_of, Knows, AsLogged, Kept, LiveQueue, Sat, Place}}
+use Rattle.std.proofs.Common.{arith}
 use Rattle.atomic_table.specs.declared.shared.Shared.{Shared}
 use Rattle.exec_live_queue.specs.Seats.{IsAt}
 
@@ -79,9 +80,7 @@ module _ {T : Type 0} where
   pub exchanges : (start : ℕ) (s : State (Option T) (View T)) (ws : List ℕ) (c : List (ℕ × Option T)) (id found old new : ℕ) (hit miss : Sat T → Type 0)
       → (found ≡ old → Puts start s 11 new hit ws c id) → (found ≢ old → Puts start s 11 found miss ws c id)
       → Puts start s 11 (either (eqb found old) new found) (λ m. (found ≡ old → hit m) × (found ≢ old → miss m)) ws c id
-  exchanges start s ws c id found old new hit miss on_hit on_miss = exchanged found old new (λ x. Puts start s 11 x (λ m. (found ≡ old → hit m) × (found ≢ old → miss m)) ws c id)
-      (λ e. let p = on_hit e in (p.0, p.1, p.2, p.3, ((λ _. p.4), (λ ne. absurd (ne e)))))
-      (λ ne. let p = on_miss ne in (p.0, p.1, p.2, p.3, ((λ e. absurd (ne e)), (λ _. p.4))))
+  exchanges = grind arith
 
   -- what a step of the owner must show
   pub owner_steps : (start id i : ℕ) (me : Sat T) (c : List (ℕ × Option T)) (f : ℕ → ℕ) (then : ℕ → Sat T → Type 0) → me.0.stage ≡ Owns → me.1 ≡ c

@@ -1,16 +1,16 @@
 -- A thief's release keeps the rule.
-use Rattle.exec_live_queue.proofs.{Words.{◌≡◌, ◌≢◌, ℕ, ◌+◌, ◌%◌, ◌<◌, ◌≤◌, eqb, List, [], length, set, replicate, sym, refl, ap, ◌∙◌, subst, le_refl, lt_of_not-le, arith, length-replicate, none, some, dite, dec_le, get_elem?, either, Option, None, keeps, step, homes_after, Allows, set_here, Own, Theft, View, Stage, Idle, Claimed, head_word, words_of, released, queue_at, Homes, Knows, LiveQueue, Sat, hand, give_all, Widened, releases}, Hands.{give_before, give_behind, give_here, give_valid, give_carried, give_length, free_at, hand_turn}, Labels.at_within, Rebuild.{Puts, exchanges, thief_steps}, Looks.gap_of_word, Thieves.{moved, others_know}}
+use Rattle.exec_live_queue.proofs.{Words.{◌≡◌, ◌≢◌, ℕ, ◌+◌, ◌%◌, ◌<◌, ◌≤◌, eqb, List, [], length, set, replicate, sym, refl, ap, ◌∙◌, subst, le_refl, lt_of_not-le, arith, length-replicate, none, some, dite, dec_le, get_elem?, either, Option, None, keeps, step, homes_after, Allows, set_here, Own, Theft, View, Stage, Idle, Claimed, head_word, words_of, released, queue_at, Homes, Knows, LiveQueue, Sat, half, hand, give_all, Widened, releases}, Hands.{give_before, give_behind, give_here, give_valid, give_carried, give_length, free_at, hand_turn}, Labels.at_within, Rebuild.{Puts, exchanges, thief_steps}, Looks.gap_of_word, Thieves.{moved, others_know}}
 
 module _ {T : Type 0} where
-  pub releases_rule : (start id : ℕ) (me : Sat T) (k old new : ℕ) → me.0.stage ≡ Claimed → me.0.theft.upto ≡ me.0.theft.at + k → me.1 ≡ hand me.0.theft.at (replicate k None)
+  pub releases_rule : (start id : ℕ) (me : Sat T) (old new : ℕ) → me.0.stage ≡ Claimed → me.1 ≡ hand me.0.theft.at (replicate (half me.0.theft) None)
       → old ≡ head_word (me.0.theft.at + me.0.theft.gap) me.0.theft.gap → new ≡ head_word (me.0.theft.at + me.0.theft.gap) 0
       → Allows (LiveQueue start) 256 id me 11 (λ n. either (eqb n old) new n) (releases (step 256 11 old new none) me)
-  releases_rule start id me k old new st many carries sees writes = let es : List (Option T) = replicate k None in let c : List (ℕ × Option T) = hand me.0.theft.at es in
+  releases_rule start id me old new st carries sees writes = let k : ℕ = half me.0.theft in let es : List (Option T) = replicate k None in let c : List (ℕ × Option T) = hand me.0.theft.at es in
       thief_steps start id 11 me c (λ n. either (eqb n old) new n) (releases (step 256 11 old new none) me) carries (λ s q at.
       let n = q.kept in let real : ℕ = n.real in let gap : ℕ = n.gap in let d : Own T = q.view.own in let v : View T = me.0 in let t = v.theft in let o = n.order in
       let hw : ℕ = head_word real gap in let ws : List ℕ = words_of hw d.tail in let small : gap < 512 = grind arith in
       let Knew : Theft T → Stage → Type 0 = λ u x. Knows d.tail real gap n.claimed n.holder id u x in
-      let knew : (id ≡ n.holder) × (0 < gap) × (t.at + gap ≡ real) × (t.upto ≡ t.at + n.claimed) × (t.gap ≤ gap) = subst (Knew t) st (n.each_seat id v at) in
+      let knew : (id ≡ n.holder) × (0 < gap) × (t.at + gap ≡ real) × (half t ≡ n.claimed) × (t.gap ≤ gap) = subst (Knew t) st (n.each_seat id v at) in
       let Out : Sat T → Type 0 = λ m'. ((x : Own T) → released (queue_at x (t.at + t.gap) t.gap) ≡ queue_at x (t.at + t.gap) 0) × (m' ≡ (record v { stage = Idle }, [])) in
       exchanges start s ws c id hw old new Out (Widened v hw me)
       (λ e. let g : gap ≡ t.gap = sym (gap_of_word real gap small) ∙ ap (λ (x : ℕ). x % 512) (e ∙ sees) ∙ gap_of_word (t.at + t.gap) t.gap (grind arith) in

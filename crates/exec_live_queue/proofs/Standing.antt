@@ -1,5 +1,6 @@
 -- How the seat of an owner stands between its calls.
 use Rattle.exec_live_queue.proofs.{Words.{◌≡◌, ℕ, ◌+◌, ◌-◌, ◌%◌, ◌^◌, ◌<◌, ◌≤◌, List, [], ◌∷◌, length, sym, refl, ap, ◌∙◌, arith, Option, Some, None, slice_get, push_answer, handed_out, View, Sat, returned, values_of, Place, SameSeat, HasLooked, HandsOut, Stands}, Hands.values_before, Moves.{handed_back, handed_one, hands_front, one_front}, Owners.own_tail}
+use Rattle.std.proofs.Common.{arith}
 use Rattle.std.specs.Prelude.{drop}
 use Rattle.atomic_table.specs.declared.shared.Shared.{Shared}
 use Rattle.exec_words.specs.declared.head.Fit.{Fit}
@@ -58,9 +59,7 @@ handed_alone o f x = grind arith
 -- what an overflow still hands out grows less
 module _ {X : Type 0} where
   pub none_left : (xs : List X) → slice_get xs 0 ≡ None → drop 1 xs ≡ []
-  none_left [] e = refl
-  none_left (x ∷ xs) e = absurd (let h : Some x ≡ None = e in cc)
+  none_left = grind arith
 
   pub one_fewer : (xs : List X) (x : X) → slice_get xs 0 ≡ Some x → length (drop 1 xs) < length xs
-  one_fewer [] x e = absurd (let h : None ≡ Some x = e in cc)
-  one_fewer (y ∷ xs) x e = omega arith
+  one_fewer = grind arith

@@ -5,7 +5,7 @@ use lib.ListN.{get_elem?}
 use Rattle.atomic_table.specs.declared.shared.Shared.{Shared}
 use Rattle.exec_words.specs.declared.queue.{Steal.Steal, PushAnswer.PushAnswer}
 use Rattle.exec_words.specs.declared.queue.Steal.TheVariants as steal
-use Rattle.exec_live_queue.specs.{declared.view.{Own.Own, Theft.Theft, View.View, Stage.TheVariants.Owns}, Live.labels, Plays.{queue_at, Sat, hand}, Seats.{Place, IsAt, Rests}}
+use Rattle.exec_live_queue.specs.{declared.view.{Own.Own, Theft.Theft, View.View, Stage.TheVariants.Owns}, Live.labels, Numbers.half, Plays.{queue_at, Sat, hand}, Seats.{Place, IsAt, Rests}}
 use Rattle.exec_words.specs.declared.queue.PushAnswer.TheVariants as answer
 
 module _ {T : Type 0} where
@@ -62,11 +62,15 @@ module _ {T : Type 0} where
   abbrev pub MayTakeNothing : Own T → Own T → Theft T → Type 0
   MayTakeNothing d d' t' = (2 ^ 55 - 512 ≤ d.tail) ⊎ ((128 < d.tail - d'.saw_real + d'.saw_gap) ⊎ ((0 < t'.gap) ⊎ (t'.upto < t'.at + 2)))
 
+  -- the thief's own queue isn't spent, and has 128 places free by the head that it loaded last
+  abbrev pub HasSpace : Own T → Own T → Type 0
+  HasSpace d d' = (d.tail < 2 ^ 55 - 512) × (d.tail - d'.saw_real + d'.saw_gap ≤ 128)
+
   -- what one try of a steal does: with the queue of the thief, and with what it keeps of the other queue
   abbrev pub AfterSteal : Own T → Theft T → Own T → Theft T → Steal → Type 0
-  AfterSteal d t d' t' (steal.Moved n) = (xs : List T) × (length xs ≡ n) × (0 < n) × (n ≤ 128) × HasPublished d xs d' × HasTaken t n xs t'
+  AfterSteal d t d' t' (steal.Moved n) = HasSpace d d' × (n ≡ half t') × (xs : List T) × (length xs ≡ n) × (0 < n) × (n ≤ 128) × HasPublished d xs d' × HasTaken t n xs t'
   AfterSteal d t d' t' steal.Nothing = HasLooked d d' × HasKept t t' × MayTakeNothing d d' t'
-  AfterSteal d t d' t' (steal.Again head) = HasLooked d d' × HasKept t t' × (head.real ≡ t'.at) × (head.gap ≡ t'.gap) × ((head.real ≢ t'.was) ⊎ (0 < head.gap))
+  AfterSteal d t d' t' (steal.Again head) = HasSpace d d' × HasLooked d d' × HasKept t t' × (head.real ≡ t'.at) × (head.gap ≡ t'.gap) × ((head.real ≢ t'.was) ⊎ (0 < head.gap))
 
   -- what a whole steal does, whose last try moved so many values
   abbrev pub AfterInto : Own T → Theft T → Own T → Theft T → ℕ → Type 0

@@ -34,7 +34,7 @@ use mathlib.Core.Option.{some}
 use mathlib.Core.Option as maybe
 use lib.ListN.{get_elem?}
 use Rattle.atomic_table.specs.Table.{State}
-use Rattle.exec_live_queue.specs.{declared.view.{Own.Own, Theft.Theft, View.View, Stage.{Stage, TheVariants.{Owns, Idle, SawHead, SawTail, Claimed}}}, Numbers.{head_word, filled, Outside, BesideClaim, InOrder, words_of}}
+use Rattle.exec_live_queue.specs.{declared.view.{Own.Own, Theft.Theft, View.View, Stage.{Stage, TheVariants.{Owns, Idle, SawHead, SawTail, Claimed}}}, Numbers.{head_word, filled, half, Outside, BesideClaim, InOrder, words_of}}
 
 -- the n labels from a on, and what they weigh
 unfoldable pub labels : ℕ → ℕ → List ℕ
@@ -63,7 +63,7 @@ module _ {T : Type 0} where
   Knows tail real gap claimed holder j t Idle = Unit {0}
   Knows tail real gap claimed holder j t SawHead = t.at ≤ real
   Knows tail real gap claimed holder j t SawTail = (t.at ≤ real) × (t.upto ≤ tail)
-  Knows tail real gap claimed holder j t Claimed = (j ≡ holder) × (0 < gap) × (t.at + gap ≡ real) × (t.upto ≡ t.at + claimed) × (t.gap ≤ gap)
+  Knows tail real gap claimed holder j t Claimed = (j ≡ holder) × (0 < gap) × (t.at + gap ≡ real) × (half t ≡ claimed) × (t.gap ≤ gap)
 
   -- the values that a seat took from the queue are those that the owner put there
   abbrev pub AsLogged : Own T → Theft T → Type 0

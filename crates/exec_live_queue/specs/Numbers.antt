@@ -1,6 +1,6 @@
 -- The numbers of a run queue, and which labels stand where.
-use Rattle.std.specs.Prelude.{◌≡◌, ℕ, ◌+◌, ◌*◌, ◌^◌, ◌<◌, ◌≤◌, ◌⊎◌, List, [], ◌∷◌, ◌++◌}
-use Rattle.exec_live_queue.specs.declared.view.Own.{Own}
+use Rattle.std.specs.Prelude.{◌≡◌, ℕ, ◌+◌, ◌-◌, ◌*◌, ◌/◌, ◌^◌, ◌<◌, ◌≤◌, ◌⊎◌, List, [], ◌∷◌, ◌++◌}
+use Rattle.exec_live_queue.specs.declared.view.{Own.Own, Theft.Theft}
 
 -- the head as a word: the count of the front value, and the gap below it
 abbrev pub head_word : ℕ → ℕ → ℕ
@@ -17,6 +17,10 @@ words_of head tail = unused ++ head ∷ tail ∷ unused
 -- one past the last label that has a value: behind the tail in the middle of an overflow, else the tail
 abbrev pub filled : {T : Type 0} → Own T → ℕ
 filled d = d.tail + d.aside
+
+-- how many values a claim takes: half of those that its thief saw, rounded down
+abbrev pub half : {T : Type 0} → Theft T → ℕ
+half t = (t.upto - t.at) / 2
 
 -- the label l lies before or behind the n labels from `at` on
 abbrev pub Outside : ℕ → ℕ → ℕ → Type 0

@@ -1,7 +1,7 @@
 -- What each step of a run queue tells the seat that makes it.
 use Rattle.std.specs.Prelude.{◌≡◌, ◌≢◌, ℕ, suc, ◌+◌, ◌-◌, ◌/◌, ◌%◌, ◌^◌, ◌<◌, ◌≤◌, List, [], ◌∷◌, ◌++◌, length, map, take, drop, replicate, Option, Some, None}
 use Rattle.atomic_table.specs.Table.{Me, Step, Act, keeps, takes, gives, chain}
-use Rattle.exec_live_queue.specs.{declared.view.{Own.Own, Theft.Theft, View.View, Stage.TheVariants.{Idle, SawHead, SawTail, Claimed}}, Numbers.{head_word, InOrder}, Live.labels}
+use Rattle.exec_live_queue.specs.{declared.view.{Own.Own, View.View, Stage.TheVariants.{Idle, SawHead, SawTail, Claimed}}, Numbers.{head_word, half, InOrder}, Live.labels}
 use mathlib.Core.Option.{some}
 use lib.ListN.{get_elem?}
 use Rattle.exec_words.specs.{declared.head.Head.Head, Head.popped_head, Queue.{Queue, popped, claimed, released, published, overflowed, newest, restored}}
@@ -19,10 +19,6 @@ room tail real gap = real + 256 - (tail + gap)
 -- the head after a pop: beside a claim the gap grows
 abbrev pub after_pop : ℕ → ℕ → Head
 after_pop real gap = popped_head record { real = real; gap = gap }
-
--- how many values a claim takes
-abbrev pub half : {T : Type 0} → Theft T → ℕ
-half t = (t.upto - t.at) / 2
 
 module _ {T : Type 0} where
   -- the queue as its owner knows it at this head: the plain queue of `exec_words`, whose transitions the steps make
@@ -156,7 +152,7 @@ module _ {T : Type 0} where
   abbrev pub claimed_view : View T → List T → View T
   claimed_view v xs = record v {
     stage = Claimed;
-    theft = record v.theft { gap = half v.theft; upto = v.theft.at + half v.theft; claims = v.theft.claims ++ labels v.theft.at (half v.theft); lot = v.theft.lot ++ xs };
+    theft = record v.theft { gap = half v.theft; claims = v.theft.claims ++ labels v.theft.at (half v.theft); lot = v.theft.lot ++ xs };
   }
 
   -- the owner's own view at that step says which values these are

@@ -2,7 +2,7 @@
 use Rattle.std.specs.Prelude.{◌≡◌, ◌≢◌, ℕ, ◌+◌, ◌/◌, ◌%◌, ◌^◌, ◌<◌, ◌≤◌, List, [], ◌∷◌, ◌++◌, length, map, replicate, Option, Some, None}
 use mathlib.Core.Option.{none}
 use Rattle.atomic_table.specs.{Table.{step, rest}, declared.shared.{Seat.Seat, Shared.Shared}}
-use Rattle.exec_live_queue.specs.{declared.view.{Own.Own, View.View, Stage.TheVariants.{Owns, SawTail, Claimed}}, Plays.{Sat, Told, hand}}
+use Rattle.exec_live_queue.specs.{declared.view.{Own.Own, View.View, Stage.TheVariants.{Owns, SawTail, Claimed}}, Numbers.half, Plays.{Sat, Told, hand}}
 
 abbrev pub Place : Type 0 → Type 0
 Place T = Seat (Option T) (View T)
@@ -48,8 +48,7 @@ module _ {T P : Type 0} where
 
   -- it is a thief's that holds a claim, and has emptied its slots
   abbrev pub MayRelease : Shared (Option T) (View T) ℕ P → Place T → Type 0
-  MayRelease words seat = IsAt words seat × (seat.me.0.stage ≡ Claimed)
-      × (k : ℕ) × (seat.me.0.theft.upto ≡ seat.me.0.theft.at + k) × (seat.me.1 ≡ hand seat.me.0.theft.at (replicate k None))
+  MayRelease words seat = IsAt words seat × (seat.me.0.stage ≡ Claimed) × (seat.me.1 ≡ hand seat.me.0.theft.at (replicate (half seat.me.0.theft) None))
 
 module _ {T : Type 0} where
   abbrev pub SameSeat : Place T → Place T → Type 0

@@ -1,8 +1,9 @@
 //! Worked examples of the definitions, proved by computation: what holds, and what doesn't.
 
 ghost use Rattle.std.specs.Prelude.{◌≡◌, ◌≢◌, [], ◌∷◌};
-ghost use Rattle.exec_live_queue.specs.{Calls.{AfterPush, WasEmpty, fully, handed_after}, Examples.{numbers, five, full, flowing_over, thief}, Live.labels, Numbers.{head_word, filled, Outside, BesideClaim}, Plays.{queue_at, room, half}};
+ghost use Rattle.exec_live_queue.specs.{Calls.{AfterPush, AfterSteal, MayTakeNothing, WasEmpty, fully, handed_after}, Examples.{numbers, holding, five, full, crowded, spent, flowing_over, thief, robber}, Live.{labels, unread}, Numbers.{head_word, filled, half, Outside, BesideClaim}, Plays.{queue_at, room}};
 ghost use Rattle.exec_words.specs.declared.queue.PushAnswer.TheVariants as answer;
+ghost use Rattle.exec_words.specs.declared.queue.Steal.TheVariants as steal;
 ghost use Rattle.exec_words.specs.Queue.{popped, claimed, released};
 
 /// The head as a word, labels, free places, and how many values a claim takes.
@@ -48,4 +49,24 @@ pub fn what_is_handed_out()
     ensures all { fully full ≡ numbers 0 256 }
     ensures not_spent { AfterPush five 9 five (answer.Spent 9) → ⊥ }
     ensures not_empty { WasEmpty five five → ⊥ }
+{}
+
+/// What one try of a steal does: half of five values are two, and they go into a queue with room for 128 alone.
+pub fn what_a_steal_moves()
+    ensures half { AfterSteal (holding 0 []) unread (holding 2 (numbers 1 2)) robber (steal.Moved 2) }
+    ensures not_less { AfterSteal (holding 0 []) unread (holding 1 (numbers 1 1)) robber (steal.Moved 1) → ⊥ }
+    ensures not_into_crowded { AfterSteal crowded unread (holding 131 (numbers 0 131)) robber (steal.Moved 2) → ⊥ }
+    ensures not_into_spent { AfterSteal spent unread spent robber (steal.Moved 2) → ⊥ }
+    ensures not_again { AfterSteal spent unread spent thief (steal.Again record { real = 0; gap = 0 }) → ⊥ }
+{}
+
+/// Why a thief takes nothing: its own queue, a claim of another, or too few values.
+pub fn why_a_steal_moves_nothing()
+    ensures spent { MayTakeNothing spent spent thief }
+    ensures crowded { MayTakeNothing crowded crowded thief }
+    ensures claimed { MayTakeNothing five five record thief { gap = 1 } }
+    ensures lone { MayTakeNothing five five record thief { upto = 1 } }
+    ensures nothing { AfterSteal five unread five unread steal.Nothing }
+    ensures not_without_a_cause { MayTakeNothing five five thief → ⊥ }
+    ensures not_beside_two { MayTakeNothing (holding 128 (numbers 0 128)) (holding 128 (numbers 0 128)) record thief { upto = 2 } → ⊥ }
 {}

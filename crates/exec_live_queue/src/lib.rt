@@ -40,11 +40,9 @@ pub mod thief;
 pub mod view;
 
 /// How many slots a queue has.
-pub const SLOTS: u64 = 256;
+pub const SLOTS: u64 = exec_words::CAPACITY as u64;
 /// How many values an overflow keeps, and how many it hands out: half the slots.
-pub const HALF: u64 = 128;
-/// The count of values from which on a queue takes no more.
-pub const SPENT: u64 = (1 << 55) - 512;
+pub const HALF: u64 = exec_words::HALF as u64;
 /// How many words a table has. Only two of them are used; no other data lies on their cache lines.
 pub const WORDS: usize = 24;
 /// The word of a table that is the head.

@@ -7,7 +7,8 @@ use crate::head::{gap_of, real_of};
 use crate::slots::put;
 use crate::steps::{flow_over, publish, restore, take_one};
 use crate::view::{Place, Words};
-use crate::{HALF, SLOTS, SPENT};
+use crate::{HALF, SLOTS};
+use exec_words::SPENT;
 use exec_words::queue::PushAnswer;
 
 /// Publishes a value behind the others, by at most two tries: a head that has changed since the

@@ -207,7 +207,9 @@ impl<T> Queue<T> {
     }
 
     /// One try of a steal: half of the values of this queue, rounded down, move to the end of the thief's own queue,
-    /// in order. The seat must be a thief's at this queue. A thief whose own queue is exclusive takes nothing.
+    /// in order. `Nothing` where the own queue is exclusive, spent, or has fewer than 128 places free, where another
+    /// claim is held, and where this queue has fewer than two values; `Again` where the head has changed since it was
+    /// loaded. The seat must be a thief's at this queue.
     pub fn steal_once(&self, seat: &mut QueueSeat<T>, into: &mut Owner<T>) -> Steal
         requires seat { IsThief self.now seat.old }
         requires whole { handed into.old ≡ [] }

@@ -1,14 +1,15 @@
 //! One try of a steal: half of the values of another queue move to the end of the thief's own.
 
 ghost use Rattle.std.specs.Prelude.{◌≡◌, ◌+◌, ◌/◌, ◌%◌, ◌^◌, ◌<◌, ◌≤◌, ◌⊎◌, ℕ, List, [], length, replicate, None, IfSome, IfNone};
-ghost use Rattle.exec_live_queue.specs.{Plays.{half, hand}, Calls.{AfterSteal, HasKept, Fills, Empties}, Seats.{IsAt, IsThief, Rests, SameSeat, MayClaim, MayRelease}, declared.view.Stage.TheVariants.Idle};
+ghost use Rattle.exec_live_queue.specs.{Numbers.half, Plays.hand, Calls.{AfterSteal, HasKept, Fills, Empties}, Seats.{IsAt, IsThief, Rests, SameSeat, MayClaim, MayRelease}, declared.view.Stage.TheVariants.Idle};
 
+use crate::HALF;
 use crate::head::{gap_of, head_of, real_of};
 use crate::slots::{put, take};
 use crate::steps::{look, publish, take_room};
 use crate::thief::{claim, release, see_head, see_tail};
 use crate::view::{Place, Words};
-use crate::{HALF, SPENT};
+use exec_words::SPENT;
 use exec_words::head::Head;
 use exec_words::queue::Steal;
 
@@ -112,7 +113,7 @@ fn release_claim<T>(words: &Words<T>, seat: &mut Place<T>, at: u64, count: u64)
     requires claimed { (at ≡ seat.old.me.0.theft.at) × (count ≡ seat.old.me.0.theft.gap) }
     requires small { (at + count < 2 ^ 55) × (count ≤ 128) }
     ensures same { SameSeat seat.old seat.new }
-    ensures kept { HasKept seat.old.me.0.theft seat.new.me.0.theft × (seat.new.me.0.theft.at ≡ seat.old.me.0.theft.at) }
+    ensures kept { HasKept seat.old.me.0.theft seat.new.me.0.theft × (seat.new.me.0.theft.at ≡ seat.old.me.0.theft.at) × (seat.new.me.0.theft.upto ≡ seat.old.me.0.theft.upto) }
     ensures idle { (seat.new.me.0.stage ≡ Idle) × (seat.new.me.1 ≡ []) }
 {
     let mut seen = head_of(at + count, count);

@@ -1,7 +1,7 @@
 //! The steps of a thief, one atomic step each.
 
 ghost use Rattle.std.specs.Prelude.{◌≡◌, ◌≢◌, ◌+◌, ◌/◌, ◌%◌, ◌^◌, ◌<◌, []};
-ghost use Rattle.exec_live_queue.specs.{Numbers.head_word, Plays.{claims, half, newcomer, releases, saw_head, saw_tail}, declared.view.Stage.TheVariants.{Owns, SawHead, Claimed}, Seats.{IsAt, MayClaim, MayRelease, SameSeat, Tells}};
+ghost use Rattle.exec_live_queue.specs.{Numbers.{half, head_word}, Plays.{claims, newcomer, releases, saw_head, saw_tail}, declared.view.Stage.TheVariants.{Owns, SawHead, Claimed}, Seats.{IsAt, MayClaim, MayRelease, SameSeat, Tells}};
 
 use crate::head::{GAPS, gap_of, real_of};
 use crate::plays::{Another, Claim, Release, SeeHead, SeeTail};
@@ -28,7 +28,9 @@ pub fn see_tail<T>(words: &Words<T>, seat: &mut Place<T>) -> u64
 }
 
 /// Claims half of the values that the thief saw, by an exchange of the head that was `seen`, and
-/// answers the head that it found: `seen`, where it claimed.
+/// answers the head that it found: `seen`, where it claimed. The caller must have seen two values at
+/// least and no claim, and give half of them, rounded down, as `count`; the label behind twice as many
+/// must be below 2^55.
 pub fn claim<T>(words: &Words<T>, seat: &mut Place<T>, seen: u64, count: u64) -> u64
     requires may { MayClaim words.now seat.old }
     requires seen { (seen / 512 ≡ seat.old.me.0.theft.at) × (seen % 512 ≡ 0) }

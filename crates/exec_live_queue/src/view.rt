@@ -54,7 +54,7 @@ pub struct Theft<T> {
     pub at: u64,
     /// The gap that it saw in the head.
     pub gap: u64,
-    /// The tail that it saw. In a claim, one past its last label.
+    /// The tail that it saw.
     pub upto: u64,
     /// The labels of all its claims.
     pub claims: LinkedList<u64>,

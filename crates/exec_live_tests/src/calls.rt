@@ -232,6 +232,48 @@ fn a_thief_takes_the_oldest_half(rt: HostRuntime) -> Result<(), Fail> {
 }
 
 #[test]
+fn a_queue_before_its_end_takes_one_more(rt: HostRuntime) -> Result<(), Fail> {
+    let (queue, mut owner, mut thief) = made(rt.alloc(), 0)?;
+    let (_last, mut last, _seat) = match made(rt.alloc(), (1 << 55) - 513) {
+        Ok(made) => made,
+        Err(_) => panic!(rt; "no memory"),
+    };
+    assert_eq!(rt; push(&mut last, 7), Some(Settled::Pushed(1)));
+    assert_eq!(rt; push(&mut last, 8), Some(Settled::Spent(8)));
+    assert_eq!(rt; (last.room(), last.len()), (0, 1));
+    assert_eq!(rt; push_all(&mut owner, 0, 4), 4);
+    assert_eq!(rt; queue.steal_once(&mut thief, &mut last), Steal::Nothing);
+    assert_eq!(rt; (last.pop(), last.pop()), (Some(7), None));
+    assert_eq!(rt; (owner.pop(), pop_all(&mut owner, 3)), (Some(0), Some(3)));
+    let_go(&rt, owner);
+    let_go(&rt, last);
+    Ok(())
+}
+
+#[test]
+fn a_thief_needs_128_places_free(rt: HostRuntime) -> Result<(), Fail> {
+    let (queue, mut owner, mut thief) = made(rt.alloc(), 0)?;
+    let (_other, mut into, _seat) = match made(rt.alloc(), 0) {
+        Ok(made) => made,
+        Err(_) => panic!(rt; "no memory"),
+    };
+    assert_eq!(rt; push_all(&mut owner, 1000, 4), 4);
+    assert_eq!(rt; push_all(&mut into, 0, 129), 129);
+    assert_eq!(rt; queue.steal_once(&mut thief, &mut into), Steal::Nothing);
+    assert_eq!(rt; (owner.len(), into.len(), into.room()), (4, 129, 127));
+    assert_eq!(rt; (into.pop(), into.room()), (Some(0), 128));
+    assert_eq!(rt; queue.steal_once(&mut thief, &mut into), Steal::Moved(2));
+    assert_eq!(rt; (owner.pop(), owner.pop()), (Some(1002), Some(1003)));
+    assert_eq!(rt;
+        (pop_all(&mut into, 128), into.pop(), into.pop()),
+        (Some(128), Some(1000), Some(1001))
+    );
+    let_go(&rt, owner);
+    let_go(&rt, into);
+    Ok(())
+}
+
+#[test]
 fn a_head_is_taken_apart_again(rt: HostRuntime) -> Result<(), Fail> {
     let head = head_of(1000, 256);
     assert_eq!(rt; (head, real_of(head), gap_of(head)), (512_256, 1000, 256));

@@ -79,7 +79,7 @@ impl<'a> Backlog for Reach<'a> {
 
     ghost steals = { λ b start moved d. d.lower.number ≡ b.lower.number };
 
-    ghost kicks = { λ b d. d ≡ b };
+    ghost kicks = { λ v b w d. d ≡ b };
 
     fn workers(&self) -> usize {
         3

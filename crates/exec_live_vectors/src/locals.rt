@@ -6,12 +6,11 @@ ghost use Rattle.exec_live_queue.specs.{Kinds.{IsThief, handed}, Lent.{left_of, 
 
 use crate::fault::Fault;
 use crate::words::{flag, number, text_of, text_of_list};
-use exec_live_queue::SPENT;
 use exec_live_queue::lent::{Overflow, Push, Settled};
 use exec_live_queue::owner::Owner;
 use exec_live_queue::queue::{Queue, QueueSeat};
-use exec_words::CAPACITY;
 use exec_words::reserved::Reserved;
+use exec_words::{CAPACITY, SPENT};
 use std::alloc::Global;
 use std::mem;
 use std::str::SplitWhitespace;

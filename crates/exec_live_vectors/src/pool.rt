@@ -93,7 +93,7 @@ impl Backlog for Pool {
 
     ghost steals = { λ b start moved d. d.bell ≡ b.bell };
 
-    ghost kicks = { λ b d. d.dry ≡ b.dry };
+    ghost kicks = { λ v b w d. d.dry ≡ b.dry };
 
     fn workers(&self) -> usize {
         self.bell.workers

@@ -38,51 +38,60 @@ abbrev pub text_of_verdict : Option Outcome → List ℕ
 text_of_verdict None = codes "more"
 text_of_verdict (Some outcome) = text_of_outcome outcome
 
+-- an event that is a word alone, and of any other nothing
+abbrev pub bare_word_of : Event → List ℕ
+bare_word_of event.Turn = codes "turn"
+bare_word_of event.Serve = codes "serve"
+bare_word_of event.Closed = codes "closed"
+bare_word_of event.Pass = codes "got pass"
+bare_word_of event.Enter = codes "enter"
+bare_word_of event.Busy = codes "busy"
+bare_word_of event.Close = codes "close"
+bare_word_of event.Stop = codes "stop"
+bare_word_of event.End = codes "end"
+bare_word_of event.Return = codes "return"
+bare_word_of event.Land = codes "land"
+bare_word_of event.Clock = codes "clock"
+bare_word_of event.Set = codes "set"
+bare_word_of event.Stir = codes "stir"
+bare_word_of event.Peer = codes "peer"
+bare_word_of _ = []
+
+-- an event of a request, or one that is a word alone
+abbrev pub text_of_request : Event → List ℕ
+text_of_request (event.Admit request kind outcome) = codes "admit " ++ decimal request ++ 32 ∷ text_of_kind kind ++ text_of_end outcome
+text_of_request (event.Wait None) = codes "wait none"
+text_of_request (event.Wait (Some request)) = codes "wait " ++ decimal request
+text_of_request (event.Got request outcome) = codes "got " ++ decimal request ++ 32 ∷ text_of_outcome outcome
+text_of_request (event.Drop request) = codes "drop " ++ decimal request
+text_of_request (event.Grant request outcome) = codes "grant " ++ decimal request ++ text_of_end outcome
+text_of_request (event.Enrol request outcome) = codes "enrol " ++ decimal request ++ text_of_end outcome
+text_of_request (event.Stage request) = codes "stage " ++ decimal request
+text_of_request (event.Reap request result outcome) = codes "reap " ++ decimal request ++ 32 ∷ text_of_result result ++ 32 ∷ text_of_verdict outcome
+text_of_request (event.Expire request outcome) = codes "expire " ++ decimal request ++ text_of_end outcome
+text_of_request (event.Cancel request) = codes "cancel " ++ decimal request
+text_of_request (event.Orphan request outcome) = codes "orphan " ++ decimal request ++ text_of_end outcome
+text_of_request (event.Release request) = codes "release " ++ decimal request
+text_of_request it = bare_word_of it
+
 abbrev pub text_of_event : Event → List ℕ
-text_of_event event.Turn = codes "turn"
-text_of_event event.Serve = codes "serve"
 text_of_event (event.Begin task) = codes "begin " ++ decimal task
 text_of_event (event.Pend task) = codes "pend " ++ decimal task
 text_of_event (event.Done task) = codes "done " ++ decimal task
 text_of_event (event.Fault task code) = codes "fault " ++ decimal task ++ 32 ∷ decimal code
 text_of_event (event.Spawn task script) = codes "spawn " ++ decimal task ++ 32 ∷ decimal script
 text_of_event (event.Dedicated task worker) = codes "dedicated " ++ decimal task ++ 32 ∷ decimal worker
-text_of_event event.Closed = codes "closed"
 text_of_event (event.Clear task) = codes "clear " ++ decimal task
-text_of_event (event.Admit request kind outcome) = codes "admit " ++ decimal request ++ 32 ∷ text_of_kind kind ++ text_of_end outcome
-text_of_event (event.Wait None) = codes "wait none"
-text_of_event (event.Wait (Some request)) = codes "wait " ++ decimal request
-text_of_event (event.Got request outcome) = codes "got " ++ decimal request ++ 32 ∷ text_of_outcome outcome
-text_of_event (event.Drop request) = codes "drop " ++ decimal request
 text_of_event (event.Timer timer until) = codes "timer " ++ decimal timer ++ 32 ∷ decimal until
 text_of_event (event.GotTimer timer) = codes "got timer " ++ decimal timer
-text_of_event event.Pass = codes "got pass"
 text_of_event (event.Wake task) = codes "wake " ++ decimal task
-text_of_event (event.Grant request outcome) = codes "grant " ++ decimal request ++ text_of_end outcome
-text_of_event (event.Enrol request outcome) = codes "enrol " ++ decimal request ++ text_of_end outcome
-text_of_event (event.Stage request) = codes "stage " ++ decimal request
-text_of_event event.Enter = codes "enter"
-text_of_event event.Busy = codes "busy"
-text_of_event (event.Reap request result outcome) = codes "reap " ++ decimal request ++ 32 ∷ text_of_result result ++ 32 ∷ text_of_verdict outcome
-text_of_event (event.Expire request outcome) = codes "expire " ++ decimal request ++ text_of_end outcome
-text_of_event (event.Cancel request) = codes "cancel " ++ decimal request
-text_of_event (event.Orphan request outcome) = codes "orphan " ++ decimal request ++ text_of_end outcome
-text_of_event (event.Release request) = codes "release " ++ decimal request
 text_of_event (event.Fire timer) = codes "fire " ++ decimal timer
 text_of_event (event.Send worker message) = codes "send " ++ decimal worker ++ 32 ∷ text_of_message message
 text_of_event (event.Apply message) = codes "apply " ++ text_of_message message
 text_of_event (event.Rouse worker) = codes "rouse " ++ decimal worker
 text_of_event (event.Sleep None) = codes "sleep ever"
 text_of_event (event.Sleep (Some until)) = codes "sleep " ++ decimal until
-text_of_event event.Close = codes "close"
-text_of_event event.Stop = codes "stop"
-text_of_event event.End = codes "end"
-text_of_event event.Return = codes "return"
-text_of_event event.Land = codes "land"
-text_of_event event.Clock = codes "clock"
-text_of_event event.Set = codes "set"
-text_of_event event.Stir = codes "stir"
-text_of_event event.Peer = codes "peer"
+text_of_event it = text_of_request it
 
 abbrev pub text_of_said : StepResult → List ℕ
 text_of_said Refused = codes "refused"

@@ -1,4 +1,10 @@
 //! The events of the abstract machine, and the lines of a log.
+//!
+//! Events and lines are compared nowhere, so they have no `PartialEq`, which is dear to prove for 42
+//! variants.
+
+ghost use Rattle.std.specs.{Prelude.{◌≡◌}, Fmt.{WritesOnOk}};
+ghost use Rattle.exec_machine.specs.Text.{text_of_request, bare_word_of};
 
 use crate::state::MailMessage;
 use crate::step::Action;
@@ -190,98 +196,115 @@ impl fmt::Display for Event {
 
     fn fmt<W: fmt::Write>(&self, f: &mut fmt::Formatter<W>) -> fmt::Result {
         match self {
-            Event::Turn => write!(f, "turn"),
-            Event::Serve => write!(f, "serve"),
             Event::Begin { task } => write!(f, "begin {task}"),
             Event::Pend { task } => write!(f, "pend {task}"),
             Event::Done { task } => write!(f, "done {task}"),
             Event::Fault { task, code } => write!(f, "fault {task} {code}"),
             Event::Spawn { task, script } => write!(f, "spawn {task} {script}"),
             Event::Dedicated { task, worker } => write!(f, "dedicated {task} {worker}"),
-            Event::Closed => write!(f, "closed"),
             Event::Clear { task } => write!(f, "clear {task}"),
-            Event::Admit {
-                request,
-                kind,
-                outcome: None,
-            } => write!(f, "admit {request} {kind}"),
-            Event::Admit {
-                request,
-                kind,
-                outcome: Some(outcome),
-            } => write!(f, "admit {request} {kind} {outcome}"),
-            Event::Wait { request: None } => write!(f, "wait none"),
-            Event::Wait {
-                request: Some(request),
-            } => write!(f, "wait {request}"),
-            Event::Got { request, outcome } => write!(f, "got {request} {outcome}"),
-            Event::Drop { request } => write!(f, "drop {request}"),
             Event::Timer { timer, until } => write!(f, "timer {timer} {until}"),
             Event::GotTimer { timer } => write!(f, "got timer {timer}"),
-            Event::Pass => write!(f, "got pass"),
             Event::Wake { task } => write!(f, "wake {task}"),
-            Event::Grant {
-                request,
-                outcome: None,
-            } => write!(f, "grant {request}"),
-            Event::Grant {
-                request,
-                outcome: Some(outcome),
-            } => write!(f, "grant {request} {outcome}"),
-            Event::Enrol {
-                request,
-                outcome: None,
-            } => write!(f, "enrol {request}"),
-            Event::Enrol {
-                request,
-                outcome: Some(outcome),
-            } => write!(f, "enrol {request} {outcome}"),
-            Event::Stage { request } => write!(f, "stage {request}"),
-            Event::Enter => write!(f, "enter"),
-            Event::Busy => write!(f, "busy"),
-            Event::Reap {
-                request,
-                result,
-                outcome: None,
-            } => write!(f, "reap {request} {result} more"),
-            Event::Reap {
-                request,
-                result,
-                outcome: Some(outcome),
-            } => write!(f, "reap {request} {result} {outcome}"),
-            Event::Expire {
-                request,
-                outcome: None,
-            } => write!(f, "expire {request}"),
-            Event::Expire {
-                request,
-                outcome: Some(outcome),
-            } => write!(f, "expire {request} {outcome}"),
-            Event::Cancel { request } => write!(f, "cancel {request}"),
-            Event::Orphan {
-                request,
-                outcome: None,
-            } => write!(f, "orphan {request}"),
-            Event::Orphan {
-                request,
-                outcome: Some(outcome),
-            } => write!(f, "orphan {request} {outcome}"),
-            Event::Release { request } => write!(f, "release {request}"),
             Event::Fire { timer } => write!(f, "fire {timer}"),
             Event::Send { worker, message } => write!(f, "send {worker} {message}"),
             Event::Apply { message } => write!(f, "apply {message}"),
             Event::Rouse { worker } => write!(f, "rouse {worker}"),
             Event::Sleep { until: None } => write!(f, "sleep ever"),
             Event::Sleep { until: Some(until) } => write!(f, "sleep {until}"),
-            Event::Close => write!(f, "close"),
-            Event::Stop => write!(f, "stop"),
-            Event::End => write!(f, "end"),
-            Event::Return => write!(f, "return"),
-            Event::Land => write!(f, "land"),
-            Event::Clock => write!(f, "clock"),
-            Event::Set => write!(f, "set"),
-            Event::Stir => write!(f, "stir"),
-            Event::Peer => write!(f, "peer"),
+            _ => fmt_of_request(self, f),
+        }
+    }
+}
+
+// How an event of a request is written, or one that is a word alone.
+fn fmt_of_request<W: fmt::Write>(event: &Event, f: &mut fmt::Formatter<W>) -> fmt::Result
+    ensures { WritesOnOk W.write_str_gives f.old result (text_of_request event.now) f.new }
+{
+    match event {
+        Event::Admit {
+            request,
+            kind,
+            outcome,
+        } => write!(f, "admit {request} {kind}{}", EndText(*outcome)),
+        Event::Wait { request: None } => write!(f, "wait none"),
+        Event::Wait {
+            request: Some(request),
+        } => write!(f, "wait {request}"),
+        Event::Got { request, outcome } => write!(f, "got {request} {outcome}"),
+        Event::Drop { request } => write!(f, "drop {request}"),
+        Event::Grant { request, outcome } => write!(f, "grant {request}{}", EndText(*outcome)),
+        Event::Enrol { request, outcome } => write!(f, "enrol {request}{}", EndText(*outcome)),
+        Event::Stage { request } => write!(f, "stage {request}"),
+        Event::Reap {
+            request,
+            result,
+            outcome,
+        } => write!(f, "reap {request} {result} {}", VerdictText(*outcome)),
+        Event::Expire { request, outcome } => write!(f, "expire {request}{}", EndText(*outcome)),
+        Event::Cancel { request } => write!(f, "cancel {request}"),
+        Event::Orphan { request, outcome } => write!(f, "orphan {request}{}", EndText(*outcome)),
+        Event::Release { request } => write!(f, "release {request}"),
+        _ => f.write_str(bare_word(event)),
+    }
+}
+
+// The word of an event that is written as a word alone, and none for any other.
+fn bare_word(event: &Event) -> &'static str
+    ensures { result.now ≡ bare_word_of event.now }
+{
+    match event {
+        Event::Turn => "turn",
+        Event::Serve => "serve",
+        Event::Closed => "closed",
+        Event::Pass => "got pass",
+        Event::Enter => "enter",
+        Event::Busy => "busy",
+        Event::Close => "close",
+        Event::Stop => "stop",
+        Event::End => "end",
+        Event::Return => "return",
+        Event::Land => "land",
+        Event::Clock => "clock",
+        Event::Set => "set",
+        Event::Stir => "stir",
+        Event::Peer => "peer",
+        _ => "",
+    }
+}
+
+// A space and the outcome, where there is one.
+#[derive(Clone, Copy)]
+struct EndText(Option<Outcome>);
+
+impl fmt::Display for EndText {
+    ghost use Rattle.std.specs.Prelude.{Some};
+    ghost use Rattle.exec_machine.specs.Text.{text_of_end};
+
+    ghost output = { λ it. Some (text_of_end it.0) };
+
+    fn fmt<W: fmt::Write>(&self, f: &mut fmt::Formatter<W>) -> fmt::Result {
+        match self.0 {
+            None => Ok(()),
+            Some(outcome) => write!(f, " {outcome}"),
+        }
+    }
+}
+
+// The outcome, or `more`.
+#[derive(Clone, Copy)]
+struct VerdictText(Option<Outcome>);
+
+impl fmt::Display for VerdictText {
+    ghost use Rattle.std.specs.Prelude.{Some};
+    ghost use Rattle.exec_machine.specs.Text.{text_of_verdict};
+
+    ghost output = { λ it. Some (text_of_verdict it.0) };
+
+    fn fmt<W: fmt::Write>(&self, f: &mut fmt::Formatter<W>) -> fmt::Result {
+        match self.0 {
+            None => write!(f, "more"),
+            Some(outcome) => write!(f, "{outcome}"),
         }
     }
 }

@@ -10,7 +10,8 @@ use exec_parts::parts::shared::Shared;
 use exec_parts::parts::worker::Worker;
 use exec_parts::scripted::Scripted;
 
-/// Takes the next step of the callbacks.
+/// Takes the next step of the callbacks. The caller must know that the worker is at this place and sound with what all
+/// share, and that the balances of all parties hold.
 pub fn callbacks<B: Scripted + Drop>(
     worker: &mut Worker,
     at: InCallbacks,

@@ -10,7 +10,8 @@ use exec_parts::parts::shared::Shared;
 use exec_parts::parts::worker::Worker;
 use exec_parts::scripted::Scripted;
 
-/// Takes the next step at the mailbox.
+/// Takes the next step at the mailbox. The caller must know that the worker is at this place and sound with what all
+/// share, and that the balances of all parties hold.
 pub fn mail<B: Scripted + Drop>(worker: &mut Worker, at: InMail, shared: &mut Shared<B>) -> Event
     requires sound { SoundAt (Place.Mail at) worker.old shared.old }
     requires whole { HasWhole worker.old shared.old }

@@ -137,7 +137,8 @@ release size i me s x r d = does (Release r) (goes_on size i (record me { ended 
 abbrev pub no_item : ℕ → ℕ → Books → Common → AfterCallbacks → Desk → Moved Own
 no_item size i me s x d = does Turn (goes_on size i me s x d) tt
 
--- An end is sent. Who waits for it is woken by a step of its own, where its task isn't over.
+-- An end is sent. Who waits for it is woken by a step of its own, where its task isn't over. The end and whether its task
+-- still holds it are read as one thing: a task that is over has let go of its side of the one-shot, and who sends finds so.
 abbrev pub tells_waiter : ℕ → ℕ → Books → Common → AfterCallbacks → Option ℕ → Heard → Desk → Desk
 tells_waiter size i me s x None of d = goes_on size i me s x d
 tells_waiter size i me s x (Some t) of d =

@@ -1,8 +1,9 @@
 //! Worked examples, proved by computation: single moves, and whole logs of one worker.
 
-ghost use Rattle.std.specs.Prelude.{◌≡◌, [], ◌∷◌, Some};
+ghost use Rattle.std.specs.Prelude.{◌≡◌, true, false, [], ◌∷◌, Some};
+ghost use Rattle.exec_words.specs.declared.word.WaitTarget.TheVariants as target;
 ghost use Rattle.exec_outcomes.specs.declared.outcome.{OpResult.TheVariants.Count, Outcome.TheVariants.Success};
-ghost use Rattle.exec_machine.specs.{declared.event.Event.TheVariants.{Turn, Serve, Enter, Reap, Sleep, Close, Stop}, Choice.Payer.ByRequest, Examples.{usual, does, pays}, Logs.a_send, MoreLogs.{a_deadline, a_late_enrolment, deadlines_in_order, the_wheel_goes_round, a_clock_in_a_service, a_clock_between_samples, a_cancel_in_time, parts, what_a_task_held}};
+ghost use Rattle.exec_machine.specs.{declared.{event.Event.TheVariants.{Turn, Serve, Enter, Reap, Sleep, Close, Stop}, state.MailMessage.TheVariants.Root}, Choice.Payer.ByRequest, Examples.{usual, does, pays}, Logs.a_send, MoreLogs.{a_deadline, a_late_enrolment, deadlines_in_order, the_wheel_goes_round, a_clock_in_a_service, a_clock_between_samples, a_cancel_in_time, parts, what_a_task_held}};
 ghost use Rattle.exec_machine.specs.declared.step.Action.TheVariants as action;
 ghost use Rattle.exec_machine.specs.declared.step.Step.TheVariants as step;
 ghost use Rattle.exec_moves.specs.declared.handing.First.TheVariants as first;
@@ -10,7 +11,7 @@ ghost use Rattle.exec_moves.specs.declared.handing.AfterPop.TheVariants as poppe
 ghost use Rattle.exec_moves.specs.declared.handing.InPop.TheVariants as pop;
 ghost use Rattle.exec_moves.specs.declared.place.InPick.TheVariants as pick;
 ghost use Rattle.exec_moves.specs.declared.place.Place.TheVariants as at;
-ghost use Rattle.exec_moves.specs.{Pick.count_down, Plays.{first_desk, IsPlayed}, Departures.{Departs, two_sends}};
+ghost use Rattle.exec_moves.specs.{Cells.Cell.{IdleSet, SearchCount, Inbox}, Claim.latched, Departures.{Departs, two_sends}, Global.one_count_more, Look.publish, Pick.count_down, Plays.{first_desk, first_things, IsPlayed}, Send.posted, Thing.{mailbox_of, set_idle, set_mailbox}, Touches.OnlyTouches};
 
 /// The pick that brings the countdown to its end looks at the global queue first.
 pub fn the_global_look()
@@ -56,4 +57,17 @@ pub fn refused_lines()
         (does 0 Close) (does 0 Turn) }
     ensures never_stops { Departs a_send.plan (step.Work 0 36 ∷ step.One (action.Land 0 (Count 10)) ∷ step.Work 0 36 ∷ [])
         (does 0 Stop) (does 0 Turn) }
+{}
+
+/// Steps that change more than what they name: who publishes itself begins a search too, who returns a search count takes
+/// itself out of the idle set, a message sets the latch of its worker, or arms it.
+pub fn refused_touches()
+    ensures publishes_and_counts { let x = first_things usual in
+        OnlyTouches IdleSet x (set_idle x (one_count_more (publish 0 (first_desk usual 0) x.idle).thing)) → ⊥ }
+    ensures leaves_and_clears { let x = record (first_things usual) { idle = record { published = true ∷ []; count = 1 } } in
+        OnlyTouches SearchCount x (set_idle x (record { published = false ∷ []; count = 0 })) → ⊥ }
+    ensures sends_and_latches { let x = first_things usual in let m = posted Root (mailbox_of x 0) in
+        OnlyTouches (Inbox 0) x (set_mailbox 0 x (record m { word = latched m.word })) → ⊥ }
+    ensures sends_and_arms { let x = first_things usual in let m = posted Root (mailbox_of x 0) in
+        OnlyTouches (Inbox 0) x (set_mailbox 0 x (record m { word = record m.word { target = target.Ring } })) → ⊥ }
 {}

@@ -3,8 +3,8 @@
 //! The abstract machine (`exec_machine`) says what an executor may do. Here stands what this executor does: the places
 //! of a worker (`place`, `handing`, `idling`), and for each place the move that its step is (`specs/Move.antt`; those
 //! of an outside caller in `specs/MoveOfCaller.antt`). A move is a function of the place, of what the party has of its
-//! own, and of the one shared thing that the place names; so a trace has one log. What a move makes of the machine's
-//! state is told by its event and its choice alone.
+//! own, of the machine's state, and of the one shared thing that the place names; so a trace has one log. What a move
+//! makes of the machine's state is told by its event and its choice alone.
 #![tactic(auto)]
 
 pub mod examples;

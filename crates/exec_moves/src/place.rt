@@ -4,7 +4,9 @@
 //! it stands is its place with what that carries; all else it looks up anew. Each place is named as the function that
 //! takes its step, in the file of its group. A step names one shared thing at most, which stands in brackets below;
 //! beside it, it sees the clock, whether the task set is closed and whether the pool is stopped, and it may make
-//! things, which get the next numbers. What a step finds it decides at once: tests, jumps and ends are no steps.
+//! things, which get the next numbers. The end that is sent into a one-shot and whether its task still holds it are
+//! read as one thing: a task that is over has let go of its side, and who sends finds so by the send itself. What a
+//! step finds it decides at once: tests, jumps and ends are no steps.
 //!
 //! A part that several ways go through, as the callbacks, a service or a push, carries where it leads. Parts call parts
 //! in no circle, so the types say what may come next. What hands something on has its places in `handing`, search, look
@@ -274,7 +276,8 @@ pub enum InMail {
     LoadMailWord,
     /// The taking of a batch of messages.
     TakeMail,
-    /// A message of the batch, after so many in this turn. Whether the batch was taken in this turn.
+    /// A message of the batch, after so many in this turn. Whether a step at the mailbox came before it in this turn; none did
+    /// before the first message of what an earlier turn left, which follows the service at once.
     Apply { applied: usize, taken: bool },
 }
 

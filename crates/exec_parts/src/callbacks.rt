@@ -44,7 +44,9 @@ impl Worker {
         Event::Turn
     }
 
-    /// Wakes the next task for which something ended, and goes on to queue it where it was idle.
+    /// Wakes the next task for which something ended, and goes on to queue it where it was idle. The caller must know
+    /// that there is a wake to make, and that its task is there and waits for a request or a sleeper that has paid one
+    /// wake at most.
     pub fn wake_next<B: Scripted + Drop>(
         &mut self,
         next: AfterCallbacks,
@@ -60,7 +62,8 @@ impl Worker {
         self.wake_waiter(task, next, shared)
     }
 
-    /// Wakes a task to which a result was sent, and goes on to queue it where it was idle.
+    /// Wakes a task to which a result was sent, and goes on to queue it where it was idle. The caller must know that
+    /// there is such a task, and that the request or the sleeper is there and has paid one wake at most.
     pub fn wake_hearer<B: Scripted + Drop>(
         &mut self,
         task: usize,
@@ -106,7 +109,8 @@ impl Worker {
         }
     }
 
-    /// Sends a task elsewhere the end of its sleeper. Who isn't over is woken next.
+    /// Sends a task elsewhere the end of its sleeper. Who isn't over is woken next. The caller must know that an end of
+    /// a sleeper is to be sent, and that the sleeper and its task are there.
     pub fn send_end<B: Scripted + Drop>(
         &mut self,
         next: AfterCallbacks,
@@ -127,7 +131,8 @@ impl Worker {
         Event::Turn
     }
 
-    /// Sends a task elsewhere the output of its request. Who isn't over is woken next.
+    /// Sends a task elsewhere the output of its request. Who isn't over is woken next. The caller must know that an
+    /// output of a request is to be sent, and that the request and its task are there.
     pub fn send_output<B: Scripted + Drop>(
         &mut self,
         next: AfterCallbacks,
@@ -163,7 +168,8 @@ impl Worker {
         }
     }
 
-    /// Lets go of the first output that nobody takes.
+    /// Lets go of the first output that nobody takes. The caller must have made all wakes, and know that there is such
+    /// an output.
     pub fn let_go_output(&mut self, next: AfterCallbacks) -> Event
         requires none { self.old.home.deferred.notes.wakes.items ≡ [] }
         requires some { 0 < length self.old.home.deferred.outputs.items }
@@ -181,7 +187,9 @@ impl Worker {
         Event::Turn
     }
 
-    /// Lets go of what the request owned that ended first.
+    /// Lets go of what the request owned that ended first. The caller must have made all wakes and let go of all
+    /// outputs, and know that something is to be released, one thing for each request that has ended, that the first of
+    /// these is there, and that all of them count as unreleased.
     pub fn release_next<B: Drop>(&mut self, next: AfterCallbacks, shared: &mut Shared<B>) -> Event
         requires none { self.old.home.deferred.notes.wakes.items ≡ [] }
         requires empty { length self.old.home.deferred.outputs.items ≡ 0 }

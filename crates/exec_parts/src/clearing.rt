@@ -19,7 +19,7 @@ use exec_task::drain::Drain;
 use exec_task::tasks::Tasks;
 
 impl Worker {
-    /// Visits a shard of the task set.
+    /// Visits a shard of the task set. The caller must know that the drain is one of this set, and not over.
     pub fn visit(&mut self, drain: Drain, set: &mut Tasks<()>) -> Event
         requires its { IsFor drain set.old }
         requires more { 0 < drain.left }
@@ -38,8 +38,9 @@ impl Worker {
         Event::Turn
     }
 
-    /// Clears the task that a visit has taken, and lets go of what it holds where that ends it: one that was over before has let
-    /// go of that already.
+    /// Clears the task that a visit has taken, and lets go of what it holds where that ends it: one that was over
+    /// before has let go of that already. The caller must know that there is such a task, and where this ends it that
+    /// the worker owes no letters and can let go of what the task holds, and of a sleeper that it waits for.
     pub fn clear<B: Scripted + Drop>(
         &mut self,
         task: usize,
@@ -59,7 +60,7 @@ impl Worker {
         Event::Clear { task }
     }
 
-    /// Passes the shutdown barrier.
+    /// Passes the shutdown barrier. The caller must know that the worker has a seat.
     pub fn leave_barrier<B: Drop>(&mut self, shared: &mut Shared<B>) -> Event
         requires there { self.old.index < length shared.old.seats.items }
         ensures event { result ≡ Event.Turn }

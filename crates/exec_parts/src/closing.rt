@@ -27,7 +27,7 @@ use exec_words::word::next_batch;
 use std::alloc::Global;
 
 impl Worker {
-    /// The closing begins. Worker zero closes the task set.
+    /// The closing begins. Worker zero closes the task set. The caller must know that the worker has a seat.
     pub fn close<B: Drop>(&mut self, shared: &mut Shared<B>) -> Event
         requires there { self.old.index < length shared.old.seats.items }
         ensures event { result ≡ Event.Close }
@@ -89,7 +89,8 @@ impl Worker {
         Event::Stop
     }
 
-    /// Sends the root of this worker the message that the pool is stopped.
+    /// Sends the root of this worker the message that the pool is stopped. The caller must know that there is such a
+    /// worker, and that an open mailbox has a place for the message where no other wake of the root is in it.
     pub fn tell_root<B: Drop>(&mut self, worker: usize, shared: &mut Shared<B>) -> Event
         requires there { worker < length shared.old.seats.items }
         requires place { OfChair worker shared.old (λ chair. HasRootPlace chair.mailbox) }
@@ -108,6 +109,7 @@ impl Worker {
     }
 
     /// Closes the mailbox. What stood in it counts as a batch that was taken; that and what wasn't applied is let go.
+    /// The caller must know that the worker has a seat.
     pub fn close_mailbox<B: Drop>(&mut self, shared: &mut Shared<B>) -> Event
         requires there { self.old.index < length shared.old.seats.items }
         ensures event { result ≡ Event.Turn }
@@ -153,7 +155,9 @@ impl Worker {
         }
     }
 
-    /// Lets go of the request in the first slot that somebody holds. The caller must know that there is one.
+    /// Lets go of the request in the first slot that somebody holds. The caller must know that there is one, that it is
+    /// there under its number, that there is room for two of each in what is to be told, and where it ends by this a
+    /// place for it among the requests that have ended.
     pub fn orphan_next<B: Drop>(&mut self, shared: &mut Shared<B>) -> Event
         requires may { MayOrphan self.old shared.old }
         ensures orphans { Orphans self.old self.new shared.old shared.new result }
@@ -172,7 +176,8 @@ impl Worker {
     }
 
     /// Lets go of the sleeper in the first slot that has one, and tells its task. It counts as removed once the worker
-    /// has ended. The caller must know that there is one.
+    /// has ended. The caller must know that there is one, that it is there under its number, and that there is room for
+    /// one more wake and one more end to be told.
     pub fn close_sleeper<B: Drop>(&mut self, shared: &mut Shared<B>) -> Event
         requires may { MayCloseSleeper self.old shared.old }
         ensures closes { ClosesSleeper self.old self.new shared.old shared.new result }
@@ -186,7 +191,7 @@ impl Worker {
         Event::Turn
     }
 
-    /// The worker has ended, and none of its sleepers is there any more.
+    /// The worker has ended, and none of its sleepers is there any more. The caller must know that it has a seat.
     pub fn end<B: Drop>(&mut self, shared: &mut Shared<B>) -> Event
         requires there { self.old.index < length shared.old.seats.items }
         ensures event { result ≡ Event.End }

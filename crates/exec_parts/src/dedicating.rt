@@ -22,7 +22,8 @@ use exec_task::body::Said;
 use std::alloc::{AllocError, Global};
 
 impl Worker {
-    /// The task makes another of this body with a worker of its own, unless the task set is closed.
+    /// The task makes another of this body with a worker of its own, unless the task set is closed. The caller must
+    /// know that there is such a task, and must have a configuration in its ranges.
     pub fn dedicate<B: Scripted + Drop>(
         &mut self,
         alloc: Global,

@@ -17,7 +17,8 @@ use exec_task::runnable::AfterPoll;
 use exec_task::tasks::Tasks;
 
 impl Worker {
-    /// The task is over.
+    /// The task is over. The caller must know that the task is there and polled, that the worker owes no letters, and
+    /// that it can let go of what the task holds, and of a sleeper that it waits for.
     pub fn finish<B: Scripted + Drop>(&mut self, task: usize, shared: &mut Shared<B>) -> Event
         requires may { MayEndTask task self.old shared.old }
         ensures event { result ≡ Event.Done task }
@@ -27,7 +28,8 @@ impl Worker {
         Event::Done { task }
     }
 
-    /// The task is over by a fault.
+    /// The task is over by a fault. The caller must know that the task is there and polled, that the worker owes no
+    /// letters, and that it can let go of what the task holds, and of a sleeper that it waits for.
     pub fn fail<B: Scripted + Drop>(
         &mut self,
         task: usize,
@@ -66,7 +68,8 @@ impl Worker {
         }
     }
 
-    /// The task leaves the task set. A drain may have taken it out before.
+    /// The task leaves the task set. A drain may have taken it out before. The caller must know that its number has 32
+    /// bits, and that an open set holds it.
     pub fn remove_task(&mut self, task: usize, set: &mut Tasks<()>) -> Event
         requires number { task < 2 ^ 32 }
         requires held { (set.old.closed ≡ true) ⊎ IsSome (held set.old (record { 0 = task })) }

@@ -56,7 +56,7 @@ impl Worker {
         }
     }
 
-    /// Returns the search count that the worker holds.
+    /// Returns the search count that the worker holds. The caller must know that the search count isn't 0.
     pub fn leave_search(&mut self, back: AfterLeave, idle: &mut PureIdle) -> Event
         requires holds { 0 < idle.old.count }
         ensures event { result ≡ Event.Turn }
@@ -148,7 +148,8 @@ impl Worker {
         Event::Turn
     }
 
-    /// Returns the search count, since nobody was claimed. Who returned the last kicks again.
+    /// Returns the search count, since nobody was claimed. Who returned the last kicks again. The caller must know that
+    /// the search count isn't 0.
     pub fn return_kick_count(&mut self, back: AfterKick, idle: &mut PureIdle) -> Event
         requires holds { 0 < idle.old.count }
         ensures event { result ≡ Event.Turn }
@@ -176,7 +177,9 @@ impl Worker {
         }
     }
 
-    /// Claims the lowest worker of the set that was found, and goes on to signal it.
+    /// Claims the lowest worker of the set that was found, and goes on to signal it. Where the set has changed, it goes
+    /// on to try what it finds, or to return the count where that is nobody. The caller must know that somebody is in
+    /// the set.
     pub fn claim_worker(&mut self, set: WorkerSet, back: AfterClaim, idle: &mut PureIdle) -> Event
         requires some { IsSome (lowest_of set.has) }
         ensures makes { Makes (claim_worker set back (desk_of self.old) idle.old) result self.new }

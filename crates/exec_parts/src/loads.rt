@@ -35,7 +35,7 @@ impl Worker {
         }
     }
 
-    /// Loads the head of the own run queue.
+    /// Loads the head of the own run queue. The caller must know that the worker has a seat.
     pub fn load_own_head<B: Drop>(&mut self, round: Round, shared: &Shared<B>) -> Event
         requires there { self.old.index < length shared.now.seats.items }
         ensures makes { Makes (load_own_head round (desk_of self.old)
@@ -68,7 +68,8 @@ impl Worker {
         Event::Turn
     }
 
-    /// Loads the wake word.
+    /// Loads the wake word. The caller must know that the worker has a seat, that there is one thing to release for
+    /// each request that has ended, and that its count of batches is below 2^29.
     pub fn load_own_word<B: Drop>(
         &mut self,
         round: Round,
@@ -114,7 +115,8 @@ impl Worker {
         found.ready || self.root_ready.is_some() || self.has_callbacks() || !self.batch.is_empty()
     }
 
-    /// Tests whether something is to be done before it may wait.
+    /// Tests whether something is to be done before it may wait. The caller must know that there is one thing to
+    /// release for each request that has ended.
     pub fn test_for_work(&mut self, found: Found) -> Event
         requires told { (live : ℕ) × IsTold self.old.names.ended.items self.old.home.deferred live }
         ensures event { result ≡ Event.Turn }
@@ -132,7 +134,8 @@ impl Worker {
         Event::Turn
     }
 
-    /// Reads the clock. A deadline that is due begins the next turn.
+    /// Reads the clock. A deadline that is due begins the next turn. The caller must have told each request whose
+    /// deadline has come, know that any other comes out of the wheel at its tick, and have some workers.
     pub fn read_clock(&mut self, clock: u64, workers: usize, longest_spin: u64) -> Event
         requires told { HasToldDue self.old }
         requires workers { 0 < workers }

@@ -24,7 +24,7 @@ use exec_words::head::Head;
 use exec_words::idle::PureIdle;
 
 impl Worker {
-    /// Puts the own bit into the idle set.
+    /// Puts the own bit into the idle set. The caller must know that the worker's number is below 64.
     pub fn publish(&mut self, idle: &mut PureIdle) -> Event
         requires few { self.old.index < 64 }
         ensures makes { Makes (publish self.old.index (desk_of self.old) idle.old) result self.new }
@@ -40,7 +40,7 @@ impl Worker {
         Event::Turn
     }
 
-    /// Returns the search count that the worker holds.
+    /// Returns the search count that the worker holds. The caller must know that the search count isn't 0.
     pub fn return_look_count(&mut self, idle: &mut PureIdle) -> Event
         requires holds { 0 < idle.old.count }
         ensures makes { Makes (return_look_count (desk_of self.old) idle.old) result self.new }
@@ -69,7 +69,9 @@ impl Worker {
         Event::Turn
     }
 
-    /// Loads the search count. Where nobody searches, the other queues are looked at.
+    /// Loads the search count. Where nobody searches, the other queues are looked at. The caller must have told each
+    /// request whose deadline has come, and know that any other comes out of the wheel at its tick, and that the
+    /// worker's number is below 64.
     pub fn look_at_count<B: Drop>(&mut self, shared: &Shared<B>) -> Event
         requires told { HasToldDue self.old }
         requires few { self.old.index < 64 }
@@ -112,7 +114,7 @@ impl Worker {
         }
     }
 
-    /// Loads the head of another queue.
+    /// Loads the head of another queue. The caller must know that there is such a worker.
     pub fn look_at_head<B: Drop>(&mut self, worker: usize, shared: &Shared<B>) -> Event
         requires there { worker < length shared.now.seats.items }
         ensures makes { Makes (look_at_head worker (desk_of self.old)
@@ -124,7 +126,9 @@ impl Worker {
         Event::Turn
     }
 
-    /// Loads its tail: with two values at least and no claim it can be stolen from.
+    /// Loads its tail: with two values at least and no claim it can be stolen from. The caller must have told each
+    /// request whose deadline has come, and know that any other comes out of the wheel at its tick, that there is such
+    /// a worker, and that its number and the own one are below 64.
     pub fn look_at_tail<B: Drop>(&mut self, worker: usize, head: Head, shared: &Shared<B>) -> Event
         requires there { worker < length shared.now.seats.items }
         requires told { HasToldDue self.old }
@@ -144,7 +148,8 @@ impl Worker {
         self.look_from(worker + 1, shared)
     }
 
-    /// Exchanges the search count 0 to 1, to search once more. Where somebody searches, the worker waits.
+    /// Exchanges the search count 0 to 1, to search once more. Where somebody searches, the worker waits. The caller
+    /// must have told each request whose deadline has come, and know that any other comes out of the wheel at its tick.
     pub fn exchange_look_count<B: Drop>(&mut self, shared: &mut Shared<B>) -> Event
         requires told { HasToldDue self.old }
         ensures event { result ≡ Event.Turn }
@@ -165,7 +170,8 @@ impl Worker {
         Event::Turn
     }
 
-    /// Returns the count of a claim that came besides the worker's own.
+    /// Returns the count of a claim that came besides the worker's own. The caller must know that the search count
+    /// isn't 0.
     pub fn return_claimed(&mut self, idle: &mut PureIdle) -> Event
         requires holds { 0 < idle.old.count }
         ensures makes { Makes (return_claimed (desk_of self.old) idle.old) result self.new }
@@ -213,7 +219,8 @@ impl Worker {
         }
     }
 
-    /// Takes the own bit out of the idle set. Where it was gone, the worker holds the claimer's count.
+    /// Takes the own bit out of the idle set. Where it was gone, the worker holds the claimer's count. The caller must
+    /// know that the worker's number is below 64.
     pub fn withdraw(&mut self, next: AfterWait, idle: &mut PureIdle) -> Event
         requires few { self.old.index < 64 }
         ensures event { result ≡ Event.Turn }

@@ -26,7 +26,8 @@ use exec_words::word::next_batch;
 pub(crate) const MESSAGES: usize = 64;
 
 impl Worker {
-    /// Loads the wake word, for another batch.
+    /// Loads the wake word, for another batch. The caller must know that the worker has a seat, and that its count of
+    /// batches is below 2^29.
     pub fn load_mail_word<B: Drop>(&mut self, shared: &Shared<B>) -> Event
         requires there { self.old.index < length shared.now.seats.items }
         requires processed { self.old.processed < 2 ^ 29 }
@@ -42,7 +43,8 @@ impl Worker {
         Event::Turn
     }
 
-    /// Takes the messages that are there, as one batch.
+    /// Takes the messages that are there, as one batch. The caller must know that the worker has a seat, and must have
+    /// applied the whole batch before.
     pub fn take_mail<B: Drop>(&mut self, shared: &mut Shared<B>) -> Event
         requires there { self.old.index < length shared.old.seats.items }
         requires batch { self.old.batch.values ≡ [] }
@@ -67,7 +69,10 @@ impl Worker {
         Event::Turn
     }
 
-    /// Applies the first message of the batch, after so many in this turn.
+    /// Applies the first message of the batch, after so many in this turn. The caller must know that there is one, that
+    /// fewer than 64 were applied, that what it is about is there, with room for what it tells or ends, that a request
+    /// to be forwarded has a task that waits for it, that a sleeper to be forwarded wasn't before, and that their tasks
+    /// have numbers of 32 bits.
     pub fn apply<B: Scripted + Drop>(&mut self, applied: usize, shared: &mut Shared<B>) -> Event
         requires some { 0 < length self.old.batch.values }
         requires few { applied < 64 }

@@ -30,7 +30,9 @@ use exec_task::runnable::{AfterPoll, Runnable};
 use std::alloc::{AllocError, Global};
 
 impl Worker {
-    /// The poll begins. What waits for nothing acts; any other looks at what it waits for.
+    /// The poll begins. What waits for nothing acts; any other looks at what it waits for. Where the runnable is stale
+    /// nothing begins, and the next pick follows. The caller must know that there is such a task, and that the worker
+    /// has its runnable in the hand.
     pub fn begin_poll<B: Scripted + Drop>(&mut self, task: usize, shared: &mut Shared<B>) -> Event
         requires there { task < length shared.old.tasks.items }
         requires hand { OfSlot task shared.old (λ slot. self.old.hand ≡ Some (runnable_of slot.cell)) }
@@ -54,7 +56,8 @@ impl Worker {
         Event::Begin { task }
     }
 
-    /// The next act of the body. Where it wants memory and gets none, it is as before.
+    /// The next act of the body. Where it wants memory and gets none, it is as before. The caller must know that there
+    /// is such a task, and that its slot has the body and what that is told.
     pub fn next_act<B: Scripted + Drop>(
         &self,
         alloc: Global,
@@ -76,8 +79,10 @@ impl Worker {
         shared.tasks[task].step(alloc, &mut around)
     }
 
-    /// The task waits for the newest request that it holds, or for a wake where it holds none. Its body knows which that
-    /// is without its number.
+    /// The task waits for the newest request that it holds, or for a wake where it holds none. Its body knows which
+    /// that is without its number. The caller must know that the task is there under its number, and so is the request
+    /// where it holds one; that one of this worker has its output kept or is observed here, and can be let go of; and
+    /// that the worker of any other can be sent a message about it.
     pub fn await_newest<B: Scripted + Drop>(&mut self, task: usize, shared: &mut Shared<B>) -> Event
         requires there { task < length shared.old.tasks.items }
         requires newest { OfNewest task shared.old (λ k. HasNewest task k self.old shared.old) }
@@ -89,7 +94,9 @@ impl Worker {
         }
     }
 
-    /// The task lets go of the newest request that it holds.
+    /// The task lets go of the newest request that it holds. The caller must know that the task is there under its
+    /// number and holds one, which is there; that one of this worker has its output kept or is observed here, and can
+    /// be let go of; and that the worker of any other can be sent a message about it.
     pub fn drop_newest<B: Scripted + Drop>(&mut self, task: usize, shared: &mut Shared<B>) -> Event
         requires there { task < length shared.old.tasks.items }
         requires some { OfSlot task shared.old (λ slot. IsSome (newest_of slot)) }
@@ -122,7 +129,7 @@ impl Worker {
         Event::Wait { request: None }
     }
 
-    /// The task passes on, since it sleeps no time at all.
+    /// The task passes on, since it sleeps no time at all. The caller must know that there is such a task.
     pub fn pass<B: Scripted + Drop>(&mut self, task: usize, shared: &mut Shared<B>) -> Event
         requires there { task < length shared.old.tasks.items }
         ensures event { result ≡ Event.Pass }
@@ -135,6 +142,7 @@ impl Worker {
     }
 
     /// The task wakes itself, and lets others go first. Since it is polled, it has no runnable before the poll ends.
+    /// The caller must know that there is such a task.
     pub fn yield_task<B: Scripted + Drop>(&mut self, task: usize, shared: &mut Shared<B>) -> Event
         requires there { task < length shared.old.tasks.items }
         ensures event { result ≡ Event.Wake task }
@@ -150,7 +158,9 @@ impl Worker {
     }
 
     /// The poll ends. A root that was woken meanwhile has its flag set again, and any other task is queued again; one
-    /// that was cleared is over.
+    /// that was cleared is over. The caller must know that the task is there and polled, that its slot has the body and
+    /// says as the task does whether it was cleared, and where it was that the worker owes no letters and can let go of
+    /// what the task holds, and of a sleeper that it waits for.
     pub fn pend<B: Scripted + Drop>(&mut self, task: usize, shared: &mut Shared<B>) -> Event
         requires may { MayPend task self.old shared.old }
         ensures event { result ≡ Event.Pend task }

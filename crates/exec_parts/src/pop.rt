@@ -19,7 +19,8 @@ use exec_task::runnable::Runnable;
 use exec_words::head::Head;
 
 impl Worker {
-    /// Pops the queue of a lone worker.
+    /// Pops the queue of a lone worker. The caller must know that the worker has a seat and a number of 32 bits, and
+    /// that the task set has the shards of the configuration, and is closed where the queue is emptied.
     pub fn pop_alone<B: Drop>(&mut self, back: AfterPop, shared: &mut Shared<B>) -> Event
         requires there { self.old.index < length shared.old.seats.items }
         requires closed { is_discard back ≡ true → shared.old.set.closed ≡ true }
@@ -40,7 +41,8 @@ impl Worker {
         Event::Turn
     }
 
-    /// Loads the head.
+    /// Loads the head. The caller must know that the worker has a seat and a number of 32 bits, and that the task set
+    /// has the shards of the configuration, and is closed where the queue is emptied.
     pub fn load_pop_head<B: Drop>(&mut self, back: AfterPop, shared: &Shared<B>) -> Event
         requires there { self.old.index < length shared.now.seats.items }
         requires closed { is_discard back ≡ true → shared.now.set.closed ≡ true }
@@ -55,7 +57,9 @@ impl Worker {
         Event::Turn
     }
 
-    /// Exchanges the head that was found for one past the oldest value.
+    /// Exchanges the head that was found for one past the oldest value. The caller must know that the worker has a seat
+    /// and a number of 32 bits, that the task set has the shards of the configuration, and is closed where the queue is
+    /// emptied; and must have seen a value: the head that was found is before the tail.
     pub fn exchange_pop<B: Drop>(
         &mut self,
         head: Head,
@@ -83,7 +87,8 @@ impl Worker {
         Event::Turn
     }
 
-    /// Stores the head past a lone value without a claim.
+    /// Stores the head past a lone value without a claim. The caller must know that the worker has a seat, and that its
+    /// queue has one value and no claim.
     pub fn store_pop<B: Drop>(&mut self, back: AfterPop, shared: &mut Shared<B>) -> Event
         requires there { self.old.index < length shared.old.seats.items }
         requires lone { OfChair self.old.index shared.old (λ chair. length chair.queue.values ≡ 1) }

@@ -21,7 +21,7 @@ use exec_words::head::{Fit, Head};
 use exec_words::idle::{PureIdle, WorkerSet};
 
 impl Worker {
-    /// Loads the own head, for what fits.
+    /// Loads the own head, for what fits. The caller must know that the worker has a seat.
     pub fn load_push_head<B: Drop>(&mut self, back: AfterPush, shared: &Shared<B>) -> Event
         requires there { self.old.index < length shared.now.seats.items }
         ensures makes { Makes (load_push_head back (desk_of self.old)
@@ -40,7 +40,9 @@ impl Worker {
         Event::Turn
     }
 
-    /// Stores the tail behind the value, of which the queue has so many then by the head that was loaded.
+    /// Stores the tail behind the value, of which the queue has so many then by the head that was loaded. The caller
+    /// must know that the worker has a seat and a runnable in the hand, and that its queue has room and is in the
+    /// middle of no overflow.
     pub fn store_value<B: Drop>(
         &mut self,
         count: usize,
@@ -75,7 +77,9 @@ impl Worker {
         Event::Turn
     }
 
-    /// Exchanges the head of a full queue: its newest half goes into the hands.
+    /// Exchanges the head of a full queue: its newest half goes into the hands. The caller must know that the worker
+    /// has a seat, that its queue has 256 values by this head, isn't spent, and is in the middle of no other overflow,
+    /// and that its loot is empty, with 129 places.
     pub fn flow_over<B: Drop>(
         &mut self,
         head: Head,
@@ -105,7 +109,8 @@ impl Worker {
         Event::Turn
     }
 
-    /// Stores the tail behind the oldest half.
+    /// Stores the tail behind the oldest half. The caller must know that the worker has a seat, and that its queue has
+    /// no other values.
     pub fn store_oldest<B: Drop>(&mut self, back: AfterPush, shared: &mut Shared<B>) -> Event
         requires there { self.old.index < length shared.old.seats.items }
         requires empty { OfChair self.old.index shared.old (λ chair. chair.queue.values ≡ []) }
@@ -144,7 +149,8 @@ impl Worker {
         }
     }
 
-    /// Appends all in the hands: the loot, and then the runnable. A closed queue lets them go.
+    /// Appends all in the hands: the loot, and then the runnable. A closed queue lets them go. The caller must have a
+    /// place for each of them in the global queue, unless that is closed, and one more in the loot.
     pub fn append<B: Drop>(&mut self, back: AfterPush, shared: &mut Shared<B>) -> Event
         requires places { shared.old.global.closed ≡ false →
             length self.old.loot.values + length (option_to_list self.old.hand) ≤ spare_places shared.old.global }
@@ -202,7 +208,8 @@ impl Worker {
         Event::Turn
     }
 
-    /// Adds a search count, for the worker that is claimed next.
+    /// Adds a search count, for the worker that is claimed next. The caller must know that the search count then is
+    /// below 2^64.
     pub fn add_global_count(
         &mut self,
         set: WorkerSet,
@@ -219,7 +226,8 @@ impl Worker {
         Event::Turn
     }
 
-    /// Returns the search count, since nobody was claimed. Who returned the last looks at the set again.
+    /// Returns the search count, since nobody was claimed. Who returned the last looks at the set again. The caller
+    /// must know that the search count isn't 0.
     pub fn return_global_count(&mut self, back: AfterPush, idle: &mut PureIdle) -> Event
         requires holds { 0 < idle.old.count }
         ensures event { result ≡ Event.Turn }

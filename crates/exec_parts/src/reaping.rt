@@ -27,7 +27,9 @@ use exec_request::output::to_outcome;
 use exec_words::word::WaitTarget;
 
 impl Worker {
-    /// What a completion has made of its request.
+    /// What a completion has made of its request. The caller must have a place for the request among those that have
+    /// ended, and know that the bytes that it has moved then, and the bytes of a direct read, rounded up to whole
+    /// pages, can be counted.
     pub fn tell_reaped(
         &mut self,
         service: Service,
@@ -81,7 +83,8 @@ impl Worker {
         self.go(service, next);
     }
 
-    /// Signals the worker that has the permit of an open next: the latch goes into its wake word.
+    /// Signals the worker that has the permit of an open next: the latch goes into its wake word. The caller must know
+    /// that there is such a worker.
     pub fn signal_holder<B: Drop>(
         &mut self,
         service: Service,
@@ -104,7 +107,8 @@ impl Worker {
         Event::Serve
     }
 
-    /// Ends the wait of the worker that has the permit of an open next.
+    /// Ends the wait of the worker that has the permit of an open next. The caller must know that there is such a
+    /// worker.
     pub fn raise_holder<B: Drop>(
         &mut self,
         service: Service,

@@ -32,7 +32,9 @@ use exec_waiters::waiter_id::WaiterId;
 use std::alloc::{AllocError, Global};
 
 impl Worker {
-    /// The task makes a request. One whose deadline has passed is over at once.
+    /// The task makes a request. One whose deadline has passed is over at once. The caller must know that there is such
+    /// a task, that the worker has a seat, a number for each slot, and no more requests that have ended than count as
+    /// unreleased, and that the range of a direct read begins below 2^64.
     pub fn register<B: Scripted + Drop>(
         &mut self,
         alloc: Global,
@@ -156,7 +158,8 @@ impl Worker {
         self.home.deferred.reserve(alloc, most)
     }
 
-    /// The durable request that the task has just made joins the gate of its open.
+    /// The durable request that the task has just made joins the gate of its open. The caller must know that there is
+    /// such a request, that the worker has a number of 32 bits, and that a place was made at the gate.
     pub fn join_gate<B: Drop>(
         &mut self,
         task: usize,
@@ -211,7 +214,9 @@ impl Worker {
         self.names.end_if(ended, request);
     }
 
-    /// The task sleeps for some nanoseconds, of which the most is the longest timeout.
+    /// The task sleeps for some nanoseconds, of which the most is the longest timeout. The caller must know that there
+    /// is such a task, that the worker has a seat, a number for each slot, and no more requests that have ended than
+    /// count as unreleased, and that it sampled a moment of 2^62 at most.
     pub fn sleep_for<B: Scripted + Drop>(
         &mut self,
         alloc: Global,

@@ -17,7 +17,7 @@ use exec_task::body::Said;
 use exec_time::timers::Observation;
 
 impl Worker {
-    /// The task takes the wake that it waited for.
+    /// The task takes the wake that it waited for. The caller must know that there is such a task.
     pub fn take_wake<B: Scripted + Drop>(&mut self, task: usize, shared: &mut Shared<B>) -> Event
         requires there { task < length shared.old.tasks.items }
         ensures event { result ≡ Event.Pass }
@@ -56,7 +56,8 @@ impl Worker {
         }
     }
 
-    /// The task takes the output of the newest request that it holds, which is over.
+    /// The task takes the output of the newest request that it holds, which is over. The caller must know that the task
+    /// is there and holds a request, and that this request is there and over, with its output kept by the driver.
     pub fn take_output<B: Scripted + Drop>(
         &mut self,
         task: usize,
@@ -86,7 +87,7 @@ impl Worker {
         Event::Got { request, outcome }
     }
 
-    /// The task takes the end of its sleep.
+    /// The task takes the end of its sleep. The caller must know that there is such a task.
     pub fn take_sleep<B: Scripted + Drop>(
         &mut self,
         task: usize,

@@ -31,7 +31,8 @@ impl Worker {
         }
     }
 
-    /// Enters a full submission queue.
+    /// Enters a full submission queue. The caller must know that the worker has a seat, and that each request that it
+    /// staged is there.
     pub fn enter_full_ring<B: Drop>(&mut self, stay: Stay, shared: &mut Shared<B>) -> Event
         requires there { self.old.index < length shared.old.seats.items }
         requires known { AreKnown self.old.names.staged.items shared.old.requests.items }
@@ -58,7 +59,8 @@ impl Worker {
         Event::Turn
     }
 
-    /// Puts the ring bit into the wake word.
+    /// Puts the ring bit into the wake word. The caller must know that the worker has a seat, that its wake word has no
+    /// wait bit, and that its count of batches is below 2^29.
     pub fn arm_ring<B: Drop>(&mut self, stay: Stay, shared: &mut Shared<B>) -> Event
         requires there { self.old.index < length shared.old.seats.items }
         requires unarmed { OfChair self.old.index shared.old (λ chair. chair.mailbox.waker.target ≡ WaitTarget.None) }
@@ -75,7 +77,8 @@ impl Worker {
         Event::Turn
     }
 
-    /// Enters, and where nothing is there goes on to sleep. After an enter that took nothing it doesn't sleep.
+    /// Enters, and where nothing is there goes on to sleep. After an enter that took nothing it doesn't sleep. The
+    /// caller must know that the worker has a seat, and that each request that it staged is there.
     pub fn enter_ring<B: Drop>(&mut self, stay: Stay, shared: &mut Shared<B>) -> Event
         requires there { self.old.index < length shared.old.seats.items }
         requires known { AreKnown self.old.names.staged.items shared.old.requests.items }
@@ -100,7 +103,9 @@ impl Worker {
         Place::RingWait(next, stay)
     }
 
-    /// Sleeps until the first moment at which something is due, unless that has come.
+    /// Sleeps until the first moment at which something is due, unless that has come. The caller must have told each
+    /// request whose deadline has come, and know that any other comes out of the wheel at its tick, and that the worker
+    /// has a seat.
     pub fn sleep<B: Drop>(&mut self, shared: &mut Shared<B>) -> Event
         requires told { HasToldDue self.old }
         requires there { self.old.index < length shared.old.seats.items }
@@ -117,7 +122,7 @@ impl Worker {
         Event::Sleep { until }
     }
 
-    /// Takes the wait bits out of the wake word.
+    /// Takes the wait bits out of the wake word. The caller must know that the worker has a seat.
     pub fn disarm_ring<B: Drop>(
         &mut self,
         stay: Stay,

@@ -50,7 +50,8 @@ impl Worker {
         Event::Turn
     }
 
-    /// Adds a search count, which the worker holds from now on.
+    /// Adds a search count, which the worker holds from now on. The caller must know that the search count then is
+    /// below 2^64.
     pub fn add_search_count(&mut self, idle: &mut PureIdle) -> Event
         requires few { idle.old.count + 1 < 2 ^ 64 }
         ensures makes { Makes (add_search_count (desk_of self.old) idle.old) result self.new }
@@ -63,7 +64,8 @@ impl Worker {
         Event::Turn
     }
 
-    /// Loads the own head, for its room: a scan wants half of the places free.
+    /// Loads the own head, for its room: a scan wants half of the places free. The caller must know that the worker has
+    /// a seat, and must have some workers.
     pub fn load_scan_head<B: Drop>(&mut self, shared: &Shared<B>) -> Event
         requires there { self.old.index < length shared.now.seats.items }
         requires workers { 0 < shared.now.config.workers }
@@ -103,7 +105,8 @@ impl Worker {
         }
     }
 
-    /// Loads the head of another queue.
+    /// Loads the head of another queue. The caller must have some workers and a seat for each, and know that the two
+    /// numbers of the scan come to less than 2^64 - 2.
     pub fn load_their_head<B: Drop>(&mut self, scan: Scan, shared: &Shared<B>) -> Event
         requires workers { 0 < shared.now.config.workers }
         requires seats { shared.now.config.workers ≤ length shared.now.seats.items }
@@ -131,7 +134,9 @@ impl Worker {
         }
     }
 
-    /// Loads the tail of another queue. An overflow can come between the two loads; then the head is too old.
+    /// Loads the tail of another queue. An overflow can come between the two loads; then the head is too old. The
+    /// caller must have some workers and a seat for each, and know that the two numbers of the scan come to less than
+    /// 2^64 - 2.
     pub fn load_their_tail<B: Drop>(&mut self, scan: Scan, head: Head, shared: &Shared<B>) -> Event
         requires workers { 0 < shared.now.config.workers }
         requires seats { shared.now.config.workers ≤ length shared.now.seats.items }
@@ -153,7 +158,10 @@ impl Worker {
         Event::Turn
     }
 
-    /// Exchanges the head of another queue for a claim of half of its values, which go into the hands.
+    /// Exchanges the head of another queue for a claim of half of its values, which go into the hands. The caller must
+    /// have some workers and a seat for each, and know that the two numbers of the scan come to less than 2^64 - 2;
+    /// must have seen no claim, two values at least, and a tail that isn't past that of the queue; and must have an
+    /// empty loot with 128 places.
     pub fn claim_half<B: Drop>(
         &mut self,
         scan: Scan,
@@ -212,7 +220,8 @@ impl Worker {
         Event::Turn
     }
 
-    /// Exchanges the head of the other queue for one without the claim.
+    /// Exchanges the head of the other queue for one without the claim. The caller must know that there is such a
+    /// worker.
     pub fn release_half<B: Drop>(
         &mut self,
         from: usize,
@@ -237,7 +246,8 @@ impl Worker {
         Event::Turn
     }
 
-    /// Stores the own tail behind the values that were moved.
+    /// Stores the own tail behind the values that were moved. The caller must know that the worker has a seat, and that
+    /// its queue has room for them and is in the middle of no overflow.
     pub fn store_moved<B: Drop>(&mut self, shared: &mut Shared<B>) -> Event
         requires there { self.old.index < length shared.old.seats.items }
         requires room { OfChair self.old.index shared.old (λ chair. length self.old.loot.values ≤ room_of chair.queue) }

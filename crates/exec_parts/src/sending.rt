@@ -52,7 +52,9 @@ impl Worker {
         }
     }
 
-    /// The task waits for a request of another worker, which is asked for its output.
+    /// The task waits for a request of another worker, which is asked for its output. The caller must know that the
+    /// task, the request and the worker that has it are there, and that the mailbox of that worker has a place for the
+    /// message, unless it is closed.
     pub fn ask_output<B: Scripted + Drop>(
         &mut self,
         task: usize,
@@ -70,7 +72,9 @@ impl Worker {
         self.send(worker, message, AfterSend::Pend { task }, shared)
     }
 
-    /// The task waits for its sleeper on another worker, which is asked for its end.
+    /// The task waits for its sleeper on another worker, which is asked for its end. The caller must know that the
+    /// sleeper and the worker that has it are there, and that the mailbox of that worker has a place for the message,
+    /// unless it is closed.
     pub fn ask_end<B: Scripted + Drop>(
         &mut self,
         task: usize,
@@ -87,7 +91,9 @@ impl Worker {
         self.send(worker, message, AfterSend::Pend { task }, shared)
     }
 
-    /// The task looks whether the output was sent that it waits for. Where it wasn't the poll ends next.
+    /// The task looks whether the output was sent that it waits for. Where it wasn't the poll ends next. The caller
+    /// must know that the task and the request are there; and where the output was sent that the request is over, that
+    /// its output lies with the task, and that the task holds some request.
     pub fn hear_output<B: Scripted + Drop>(
         &mut self,
         task: usize,
@@ -117,7 +123,8 @@ impl Worker {
         Event::Got { request, outcome }
     }
 
-    /// The task looks whether the end of its sleep was sent. Where it wasn't the poll ends next.
+    /// The task looks whether the end of its sleep was sent. Where it wasn't the poll ends next. The caller must know
+    /// that the task and the sleeper are there.
     pub fn hear_end<B: Scripted + Drop>(
         &mut self,
         task: usize,
@@ -213,7 +220,8 @@ impl Worker {
         record.remove();
     }
 
-    /// Sends the next message about what a task held that is over.
+    /// Sends the next message about what a task held that is over. The caller must know that there is one, that the
+    /// worker to which it goes is there, and that the mailbox of that worker has a place for it, unless it is closed.
     pub fn send_cancel<B: Drop>(&mut self, back: AfterCancels, shared: &mut Shared<B>) -> Event
         requires some { 0 < length (letters_in self.old.letters) }
         requires may { MaySend (first_letter (desk_of self.old)).to (first_letter (desk_of self.old)).message shared.old }

@@ -25,7 +25,8 @@ use exec_ring::ring::Entered;
 use exec_time::timers::TimerId;
 
 impl Worker {
-    /// Samples the clock, and takes out the latch that a granted permit left.
+    /// Samples the clock, and takes out the latch that a granted permit left. The caller must know that the worker has
+    /// a seat.
     pub fn sample<B: Drop>(&mut self, service: Service, shared: &mut Shared<B>) -> Event
         requires there { self.old.index < length shared.old.seats.items }
         ensures makes { Makes (sample service (desk_of self.old)
@@ -53,7 +54,8 @@ impl Worker {
         self.place = Place::Service(at, service);
     }
 
-    /// Advances the timeout wheel. The deadlines that it finds due are told one a step.
+    /// Advances the timeout wheel. The deadlines that it finds due are told one a step. The caller must have told each
+    /// request whose deadline has come, and know that any other comes out of the wheel at its tick.
     pub fn advance_wheel(&mut self, service: Service) -> Event
         requires punctual { IsPunctual (driver_of self.old) }
         requires told { (driver_of self.old).lists.due ≡ [] }
@@ -90,7 +92,8 @@ impl Worker {
         self.go(service, next);
     }
 
-    /// The last enter of a service.
+    /// The last enter of a service. The caller must know that the worker has a seat, and that each request that it
+    /// staged is there.
     pub fn enter_last<B: Drop>(&mut self, service: Service, shared: &mut Shared<B>) -> Event
         requires there { self.old.index < length shared.old.seats.items }
         requires known { AreKnown self.old.names.staged.items shared.old.requests.items }
@@ -134,7 +137,7 @@ impl Worker {
         Event::Serve
     }
 
-    /// Tells that the moment of a sleeper has come.
+    /// Tells that the moment of a sleeper has come. The caller must know that the sleeper of this name is there.
     pub fn tell_fired(&mut self, id: TimerId, sleepers: &mut Vec<SleeperRecord>) -> Event
         requires there { number_in self.old.names.timers.items id.0 < length sleepers.old.items }
         ensures event { result ≡ Event.Fire (number_in self.old.names.timers.items id.0) }

@@ -22,7 +22,7 @@ use exec_words::inbox::Message;
 use exec_words::word::WaitTarget;
 
 impl Worker {
-    /// Puts the latch into the wake word of the worker.
+    /// Puts the latch into the wake word of the worker. The caller must know that there is such a worker.
     pub fn set_latch<B: Drop>(
         &mut self,
         worker: usize,
@@ -50,7 +50,7 @@ impl Worker {
         Event::Turn
     }
 
-    /// Ends the wait of the worker.
+    /// Ends the wait of the worker. The caller must know that there is such a worker.
     pub fn raise<B: Drop>(
         &mut self,
         ring: bool,
@@ -127,7 +127,7 @@ pub fn rouse(ring: bool, worker: usize, seat: &mut Seat) -> Event
 }
 
 /// Puts the message that wakes the root of a worker into its inbox. Answers what happened, and whether a signal must
-/// follow.
+/// follow. The caller must know that an open inbox has a place for it where no other wake of the root is in it.
 pub fn mail_root(home: usize, seat: &mut Seat) -> (Event, bool)
     requires place { HasRootPlace seat.old.mailbox }
     ensures event { result.0 ≡ event_posted home seat.old.mailbox }

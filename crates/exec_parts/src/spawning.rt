@@ -24,7 +24,8 @@ use exec_task::runnable::Runnable;
 use std::alloc::{AllocError, Global};
 
 impl Worker {
-    /// The task makes another of this body, unless the task set is closed.
+    /// The task makes another of this body, unless the task set is closed. The caller must know that there is such a
+    /// task, and that the set has none of the next number, and must have some workers.
     pub fn spawn<B: Scripted + Drop>(
         &mut self,
         alloc: Global,
@@ -82,7 +83,8 @@ impl Worker {
         }
     }
 
-    /// Loads the own head, for the task that was made: an empty queue takes it.
+    /// Loads the own head, for the task that was made: an empty queue takes it. The caller must know that the worker
+    /// has a seat.
     pub fn load_spawn_head<B: Drop>(&mut self, task: usize, shared: &Shared<B>) -> Event
         requires there { self.old.index < length shared.now.seats.items }
         ensures makes { Makes (load_spawn_head task (desk_of self.old)
@@ -99,8 +101,9 @@ impl Worker {
         Event::Turn
     }
 
-    /// The task wakes another, or itself. The caller must know that there is such a task, and a worker whose root it
-    /// is.
+    /// The task wakes another, or itself. The caller must know that both tasks are there, the own root, and the worker
+    /// whose root the other is, and that each mailbox has one wake of its root at most, a place for one where it has
+    /// none, and nothing once it is closed.
     pub fn wake_task<B: Scripted + Drop>(
         &mut self,
         task: usize,

@@ -26,7 +26,8 @@ use exec_outcomes::outcome::Outcome;
 use exec_waiters::waiter_id::WaiterId;
 
 impl Worker {
-    /// Tells that the deadline of a request has come.
+    /// Tells that the deadline of a request has come. The caller must have a place for the request among those that
+    /// have ended.
     pub fn tell_expired(&mut self, request: usize, it: &mut Record) -> Event
         requires room { length self.old.names.ended.items < deque_capacity self.old.names.ended }
         ensures event { result ≡ Event.Expire request (outcome_at_expiry it.old.shown) }
@@ -45,7 +46,9 @@ impl Worker {
         Event::Expire { request, outcome }
     }
 
-    /// Tells that the deadline of a request is on the wheel, or how the request ended.
+    /// Tells that the deadline of a request is on the wheel, or how the request ended. The caller must have a place for
+    /// the request among those that have ended, and a tick above 0, and know that one that goes on has a deadline that
+    /// isn't before the worker's start, and is more than a tick before 2^64.
     pub fn tell_enrolled(
         &mut self,
         request: usize,
@@ -85,7 +88,8 @@ impl Worker {
         }
     }
 
-    /// Tells that a request has the permit of its open, or how it ended by that.
+    /// Tells that a request has the permit of its open, or how it ended by that. The caller must have a place for the
+    /// request among those that have ended, and know that the number of the open is below 2^32 - 1.
     pub fn tell_granted(
         &mut self,
         service: Service,
@@ -139,8 +143,9 @@ impl Worker {
         driver.is_full() && (stages || driver.needs_wake_poll())
     }
 
-    /// Stages the cancel of the request that asked for it first. The caller must know that there is one, and that the
-    /// submission queue has room.
+    /// Stages the cancel of the request that asked for it first. The caller must know that there is one, that the
+    /// submission queue has room, that each request that asked for it is there, and that the worker has a place for its
+    /// number.
     pub fn stage_cancel<B: Drop>(&mut self, shared: &mut Shared<B>) -> Event
         requires there { has_first (driver_of self.old).lists.cancels ≡ true }
         requires room { is_full (driver_of self.old) ≡ false }
@@ -159,8 +164,9 @@ impl Worker {
         Event::Cancel { request }
     }
 
-    /// Stages the operation of the request that was queued first. The caller must know that one may be staged, and that
-    /// the submission queue has room.
+    /// Stages the operation of the request that was queued first. The caller must know that one may be staged, that the
+    /// submission queue has room, that no deadline is left to go on the wheel, that each queued request is there, and
+    /// that the worker has a place for its number.
     pub fn stage<B: Drop>(&mut self, shared: &mut Shared<B>) -> Event
         requires may { may_stage_one (driver_of self.old) ≡ true }
         requires room { is_full (driver_of self.old) ≡ false }
@@ -182,7 +188,8 @@ impl Worker {
         Event::Stage { request }
     }
 
-    /// Enters a full submission queue. Where the kernel takes nothing, the staging ends.
+    /// Enters a full submission queue. Where the kernel takes nothing, the staging ends. The caller must know that the
+    /// worker has a seat, and that each request that it staged is there.
     pub fn flush<B: Drop>(&mut self, service: Service, shared: &mut Shared<B>) -> Event
         requires there { self.old.index < length shared.old.seats.items }
         requires known { AreKnown self.old.names.staged.items shared.old.requests.items }

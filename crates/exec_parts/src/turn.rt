@@ -92,7 +92,7 @@ impl Worker {
         Event::Turn
     }
 
-    /// Loads the head of the own run queue, for its room.
+    /// Loads the head of the own run queue, for its room. The caller must know that the worker has a seat.
     pub fn load_head<B: Drop>(&mut self, first: First, shared: &Shared<B>) -> Event
         requires there { self.old.index < length shared.now.seats.items }
         ensures makes { Makes (load_head first (desk_of self.old)
@@ -108,7 +108,9 @@ impl Worker {
         Event::Turn
     }
 
-    /// Takes a share of the global queue. The first of it is polled, the others go into the own run queue.
+    /// Takes a share of the global queue. The first of it is polled, the others go into the own run queue. The caller
+    /// must know that the worker has a seat, and that its queue has the room that was found, or more, and is in the
+    /// middle of no overflow; and must have some workers.
     pub fn take_share<B: Drop>(
         &mut self,
         first: First,

@@ -45,7 +45,7 @@ impl Worker {
         }
     }
 
-    /// Looks for another batch.
+    /// Looks for another batch. The caller must know that the worker's count of batches is below 2^29.
     pub fn spin_on_batch(&mut self, left: u64, word: &PureWord) -> Event
         requires processed { self.old.processed < 2 ^ 29 }
         ensures makes { Makes (spin_on_batch left (desk_of self.old) word.now) result self.new }
@@ -77,7 +77,7 @@ impl Worker {
         Event::Turn
     }
 
-    /// Takes the latch out of the wake word.
+    /// Takes the latch out of the wake word. The caller must know that the worker has a seat.
     pub fn take_latch<B: Drop>(&mut self, shared: &mut Shared<B>) -> Event
         requires there { self.old.index < length shared.old.seats.items }
         ensures event { result ≡ Event.Turn }
@@ -90,7 +90,8 @@ impl Worker {
         Event::Turn
     }
 
-    /// Puts the sleeping bit into the wake word.
+    /// Puts the sleeping bit into the wake word. The caller must know that the worker has a seat, that its wake word
+    /// has no wait bit, and that its count of batches is below 2^29.
     pub fn arm_word<B: Drop>(&mut self, shared: &mut Shared<B>) -> Event
         requires there { self.old.index < length shared.old.seats.items }
         requires unarmed { OfChair self.old.index shared.old (λ chair. chair.mailbox.waker.target ≡ WaitTarget.None) }
@@ -129,7 +130,8 @@ impl Worker {
         }
     }
 
-    /// Takes the wait bits out of the wake word.
+    /// Takes the wait bits out of the wake word. The caller must know that the worker has a seat, and that the clock
+    /// has come to the moment at which it went to sleep, where one is kept.
     pub fn disarm_word<B: Drop>(&mut self, shared: &mut Shared<B>) -> Event
         requires there { self.old.index < length shared.old.seats.items }
         requires asleep { IfSome self.old.slept (λ moment. moment ≤ shared.old.clock) }

@@ -1,5 +1,5 @@
 -- What the wake of a root by an outside caller is to the machine: its worker is sent a message.
-use Rattle.std.proofs.{Common.{◌≡◌, ℕ, ◌<◌, ◌&&◌, Bool, true, false, not, length, map, nat_lt, Option, Some, refl, sym, ap, subst, ◌∙◌, arith, slice_get, slice_set, if◌then◌else◌}, lemmas.{Bool.{eq-eqb, Decides.nat_tests}, List.length-map, Option.{get_or_from_slice_get, slice_get_within}}}
+use Rattle.std.proofs.{Common.{◌≡◌, ℕ, ◌<◌, ◌&&◌, Bool, true, false, not, length, nat_lt, Option, Some, refl, sym, ap, subst, ◌∙◌, arith, slice_get, slice_set, if◌then◌else◌}, lemmas.{Bool.{eq-eqb, Decides.nat_tests}, List.length-map, Option.{get_or_from_slice_get, slice_get_within}}}
 use Rattle.exec_task.specs.declared.body.Said.{Said}
 use Rattle.exec_machine.specs.{declared.event.Event.Event, Callers.{common_by, is_half_done, may_call, may_wake_by_call}, Choice.Payer.ByCall, Mail.has_root_message, Progress.Plan, Tests.AllTrue, World.{no_seat, seat_of, task_of}}
 use Rattle.exec_machine.specs.declared.state.Call.TheVariants as half

@@ -1,5 +1,5 @@
 -- What the spawn of a task by an outside caller is to the machine.
-use Rattle.std.proofs.{Common.{◌≡◌, ℕ, ◌<◌, true, false, not, Contains, [], ◌∷◌, ◌++◌, length, map, Option, Some, None, refl, sym, ap, subst, ◌∙◌, arith, slice_get, slice_index_or}, lemmas.{Bool.eq-eqb, List.{length-map, set-get_or}, Option.{get_or_from_slice_get, slice_get_within}}}
+use Rattle.std.proofs.{Common.{◌≡◌, ℕ, ◌<◌, true, false, not, Contains, [], ◌∷◌, ◌++◌, length, Option, Some, None, refl, sym, ap, subst, ◌∙◌, arith, slice_get, slice_index_or}, lemmas.{Bool.eq-eqb, List.{length-map, set-get_or}, Option.{get_or_from_slice_get, slice_get_within}}}
 use Rattle.exec_task.specs.{TaskSet.held, declared.{body.Said.Said, runnable.Runnable.Runnable}}
 use Rattle.exec_machine.specs.{declared.{config.Configuration.Configuration, event.Event.Event}, Callers.{is_half_done, may_call}, Choice.Choice.Plain, Progress.Plan, World.Common}
 use Rattle.exec_machine.specs.declared.state.Call.TheVariants as half

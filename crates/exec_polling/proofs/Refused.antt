@@ -1,7 +1,6 @@
 -- An act that got no memory: what is seen is as before.
 use Rattle.std.proofs.{Common.{◌≡◌, ℕ, false, List, [], map, Option, Some, None, refl, sym, ap, ◌∙◌, slice_get, slice_set}, lemmas.{List.{append-nil, set-set}}}
 use Rattle.exec_base.specs.declared.error.Error.TheVariants.{NoMemory}
-use Rattle.exec_ring.specs.Rings.{completions}
 use Rattle.exec_waiters.specs.{Told.{Tells, nothing_told}, declared.deferred.Deferred.Deferred}
 use Rattle.exec_driver.specs.Driving.{Driving}
 use Rattle.exec_words.specs.declared.inbox.Message.{Message}

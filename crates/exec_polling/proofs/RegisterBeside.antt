@@ -1,18 +1,14 @@
 -- What a worker leaves of others that has made a request or a sleeper for the task that it polls.
-use Rattle.std.proofs.{Common.{◌≡◌, ◌≢◌, inl, inr, ℕ, ◌+◌, ◌≤◌, ◌==◌, not, Contains, Bool, true, false, ◌++◌, count_by, length, map, Some, refl, sym, ap, subst, ◌∙◌, arith, slice_get, if◌then◌else◌}, lemmas.List.length-set}
-use Rattle.exec_words.specs.Queue.{Queue}
+use Rattle.std.proofs.{Common.{◌≡◌, ◌≢◌, inl, inr, ℕ, ◌+◌, ◌==◌, Bool, true, false, ◌++◌, count_by, map, Some, refl, sym, ap, subst, ◌∙◌, arith, slice_get, if◌then◌else◌}}
 use Rattle.exec_ring.specs.Stores.{HasStretch}
-use Rattle.exec_task.specs.{Phases.is_polled, declared.{runnable.Runnable.Runnable, task.Task.Task as TaskCell}}
+use Rattle.exec_task.specs.{declared.{task.Task.Task as TaskCell}}
 use Rattle.exec_moves.specs.declared.place.{InPoll.InPoll, Place.Place}
-use Rattle.exec_parts.{specs.{declared.parts.{record.Record.Record, seat.Seat.Seat as Chair, shared.Shared.Shared, sleeping.SleeperRecord.SleeperRecord, task_slot.TaskSlot.TaskSlot, worker.Worker.Worker}, Phased.is_complete}}
-use Rattle.exec_invariants.{specs.{Drained.{IsBefore, IsPool}, Carried.HasRoom, Gates.{AreLinedUp, HaveGates, JoinsGate, has_hint_at}, Holding.{mail_in, mail_of_letters}, Places.{Drops, drops_at, one_if}, Sound.SoundAt, Spares.{RecordsEndure, SleepersEndure, SparedRecords, SparedSleepers, Spares, SparesChair, SparesRecords, SparesSleepers}, Whole.{HasOne, IsWhole, Profile, duties_of, may_let_go, runnables_in, stock, with_worker}, Works.Beside}, proofs.{Aside.{SparesSeats, length_same, profile_same, queue_back, queue_of_chair, queues_set, seats_own, stock_same}, GateJoins.pool_drops, HoldBeside.{Handles, Holds, genuine_still, was_there}, PoolKept.{KeepsGates, gates_set, pool_seats, pool_slot}, Slots.spares_slot, SlotTasks.Keeps, SparedRecord.{sleeper_spared, spared_same}, TaskDeals.{GoesOn, from_act, profile_here}}}
+use Rattle.exec_parts.{specs.{declared.parts.{record.Record.Record, seat.Seat.Seat as Chair, shared.Shared.Shared, sleeping.SleeperRecord.SleeperRecord, task_slot.TaskSlot.TaskSlot, worker.Worker.Worker}}}
+use Rattle.exec_invariants.{specs.{Drained.{IsPool}, Carried.HasRoom, Gates.{AreLinedUp, HaveGates, JoinsGate, has_hint_at}, Holding.{mail_in, mail_of_letters}, Places.{Drops, drops_at}, Sound.SoundAt, Spares.{RecordsEndure, SleepersEndure, SparedRecords, SparedSleepers, Spares, SparesChair, SparesRecords, SparesSleepers}, Whole.{IsWhole, Profile, duties_of, with_worker}, Works.Beside}, proofs.{Aside.{SparesSeats, profile_same, queue_of_chair, queues_set, seats_own}, GateJoins.pool_drops, HoldBeside.{Handles, Holds, dealt_in, whole_handled}, PoolKept.{KeepsGates, gates_set}, Slots.spares_slot, SlotTasks.Keeps, SparedRecord.{sleeper_spared, spared_same}, TaskDeals.{GoesOn, from_act, profile_here}}}
 use Rattle.exec_polling.proofs.RegisterSound.{Makes, made_at}
 
 module _ {B : Type 0} (t : ℕ) (w v : Worker) (s s' : Shared B) (slot slot' : TaskSlot B) (sound : SoundAt (Place.Poll t InPoll.Act) w s) (m : Makes w v s (record s' { tasks = s.tasks })) (handles : Handles t s s' slot slot') where
-  abbrev pub shared_then : Shared B
-  shared_then = record s { tasks = s'.tasks; seats = s'.seats; requests = s'.requests; sleepers = s'.sleepers; opens = s'.opens; store = s'.store }
-
-  pub all_kept : s' ≡ record s { tasks = s'.tasks; seats = s'.seats; requests = s'.requests; sleepers = s'.sleepers; opens = s'.opens; store = s'.store }
+  pub all_kept : s' ≡ dealt_in s s'
   all_kept = ap (λ (x : Shared B). record x { tasks = s'.tasks }) m.shared
 
   -- OTHERS rely on what is theirs
@@ -31,7 +27,7 @@ module _ {B : Type 0} (t : ℕ) (w v : Worker) (s s' : Shared B) (slot slot' : T
       let endure : RecordsEndure s.requests.items s'.requests.items = λ k r at. (r, m.records.on k r at, record { worker = refl; forwarded = λ h. h }) in
       let endure_too : SleepersEndure s.sleepers.items s'.sleepers.items = λ k z at. (z, m.sleepers.on k z at, record { worker = refl; forwarded = λ h. h }) in
       let room : HasRoom s.requests.items s.store → HasRoom s'.requests.items s'.store = λ h. m.keeps.carried.room in
-      let done : Spares j s shared_then = assumption (gates, chair, records, records_only, sleepers, sleepers_only, endure, endure_too, room, hints, stretch, seats, b) in
+      let done : Spares j s (dealt_in s s') = assumption (gates, chair, records, records_only, sleepers, sleepers_only, endure, endure_too, room, hints, stretch, seats, b) in
       subst (Spares j s) (sym all_kept) done
     where
       record_was : (k : ℕ) (r : Record) → slice_get s'.requests.items k ≡ Some r → r.shown.worker ≡ j → slice_get s.requests.items k ≡ Some r
@@ -49,50 +45,7 @@ module _ {B : Type 0} (t : ℕ) (w v : Worker) (s s' : Shared B) (slot slot' : T
 
   pub whole_made : (x : Profile) → (Holds x s → Holds x s') → (HaveGates x.drops_by s.opens s.requests.items → HaveGates x.drops_by s'.opens s'.requests.items) → IsWhole x s → IsWhole x s'
   whole_made x holds lines whole =
-      let it = handles in
-      let s1 : Shared B = shared_then in
-      let many : length s'.tasks.items ≡ length s.tasks.items = ap length it.items ∙ length-set s.tasks.items t slot' in
-      let seats : length s'.seats.items ≡ length s.seats.items = length_same s.seats.items s'.seats.items queues in
-      let stocks : (u : ℕ) → stock u s1 ≡ stock u s = λ u. ap (λ n. n + runnables_in u s.global.values) (stock_same u s.seats.items s'.seats.items queues) in
-      let done : IsWhole x s1 = record {
-        runnables = λ u o at home.
-            let old = was_there t s s' slot slot' it u o at in
-            subst (λ c. HasOne (may_let_go s) c.phase (x.runnables u + stock u s1)) (sym old.cell) (subst (λ n. HasOne (may_let_go s) old.was.cell.phase (x.runnables u + n)) (sym (stocks u)) (whole.runnables u old.was old.there (sym old.home ∙ home)));
-        polls = λ u o at home. let old = was_there t s s' slot slot' it u o at in whole.polls u old.was old.there (sym old.home ∙ home) ∙ ap (λ c. one_if (is_polled c.phase)) (sym old.cell);
-        claims = λ j chair at.
-            let old = queue_back s.seats.items s'.seats.items j chair queues at in
-            whole.claims j old.0 old.1 ∙ ap (λ (q : Queue Runnable). one_if (not (q.gap == 0))) (sym old.2);
-        counts = whole.counts;
-        bits = whole.bits;
-        set = whole.set;
-        queued_here = λ j chair r at has.
-            let old = queue_back s.seats.items s'.seats.items j chair queues at in
-            genuine_still t s s' slot slot' it r (whole.queued_here j old.0 r old.1 (subst (λ (q : Queue Runnable). Contains (q.values ++ q.held) r) old.2 has));
-        queued_there = λ r has. genuine_still t s s' slot slot' it r (whole.queued_there r has);
-        places = λ open_still. subst (λ n. n ≤ s.global.places) (sym many) (whole.places open_still);
-        made = λ u more. let old = whole.made u (subst (λ n. n ≤ u) many more) in (ap (λ n. x.runnables u + n) (stocks u) ∙ old.0, old.1);
-        unclaimed = λ j more. whole.unclaimed j (subst (λ n. n ≤ j) seats more);
-        in_pool = λ j chair at. let old = gates.back j chair at in old.2.pool ∙ whole.in_pool j old.0 old.1;
-        pool = pool_seats (duties_of x) s'.tasks.items s.set s.seats.items s'.seats.items gates
-            (pool_slot t w.index (duties_of x) (duties_of x) s.tasks.items s'.tasks.items s.set s.seats.items slot slot' it.there it.items
-            (record {
-              home = it.home;
-              cleared = λ home. it.cleared;
-              over = λ home over. ap (λ (c : TaskCell B). is_complete c.phase) it.cell ∙ over;
-              clears = λ u. refl;
-              polls_beside = λ j other. refl;
-              drops_beside = λ j other. refl;
-              polls_others = λ u other is. is;
-              polls = λ home polled.
-                  let by = whole.pool.who_polls t slot it.there home (ap (λ (c : TaskCell B). is_polled c.phase) (sym it.cell) ∙ polled) in
-                  subst (λ j. IsBefore j s.seats.items × (x.polled_by j ≡ Some t)) (sym it.poller) by;
-              clears_next = refl;
-              removes_next = λ u is. inl is;
-            }) whole.pool);
-        gates = lines whole.gates;
-        holding = subst (Holds x) all_kept (holds whole.holding);
-      } in
-      subst (IsWhole x) (sym all_kept) done
+      subst (IsWhole x) (sym all_kept) (whole_handled t w.index s s' slot slot' x handles gates queues (lines whole.gates) (subst (Holds x) all_kept (holds whole.holding)) whole)
 
   -- what the worker has of them is as it was
   pub profile_made : (y : InPoll) → GoesOn t y → (others : Profile) → with_worker others (record v { place = Place.Poll t y }) ≡ with_worker others w

@@ -1,5 +1,5 @@
 -- The act by which a task makes a request is a step.
-use Rattle.std.proofs.{Common.{◌≡◌, ℕ, ◌+◌, ◌==◌, Bool, true, false, List, [], ◌∷◌, ◌++◌, length, map, Option, Some, refl, sym, ap, subst, ◌∙◌, slice_index_or, slice_set, if◌then◌else◌, arith}, lemmas.{Bool.eq-eqb, List.{length-map, map-append, map-set}}}
+use Rattle.std.proofs.{Common.{◌≡◌, ℕ, ◌==◌, Bool, true, false, List, [], ◌∷◌, ◌++◌, length, map, Option, Some, refl, sym, ap, subst, ◌∙◌, slice_index_or, slice_set, if◌then◌else◌, arith}, lemmas.{Bool.eq-eqb, List.{length-map, map-append, map-set}}}
 use Rattle.exec_outcomes.specs.{Accounts.{is_durable, changed as account_changed}, declared.outcome.{Outcome.Outcome, Kind.Kind}}
 use Rattle.exec_request.specs.{Requests.{asked_of, deadline_of, target_of}, declared.request.Request.Request as Asking}
 use Rattle.exec_driver.specs.Opens.{account_in}

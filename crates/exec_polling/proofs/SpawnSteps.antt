@@ -1,5 +1,5 @@
 -- The act by which a task makes another one: the whole step, where the task set is open.
-use Rattle.std.{proofs.{Common.{[], ◌≡◌, inl, inr, ℕ, ◌+◌, ◌%◌, ◌<◌, arith, Bool, true, false, not, List, ◌∷◌, ◌++◌, length, map, Option, Some, None, refl, sym, ap, subst, ◌∙◌, slice_get, slice_index_or, slice_set}, lemmas.{Bool.eq-eqb, List.{length-append, length-map, length-set, map-append, map-set, set-get_or, set-set}, Option.slice_get_within}}, specs.Vec.with_item}
+use Rattle.std.{proofs.{Common.{[], ◌≡◌, inl, inr, ℕ, ◌%◌, ◌<◌, arith, Bool, true, false, not, List, ◌∷◌, ◌++◌, length, map, Option, Some, None, refl, sym, ap, subst, ◌∙◌, slice_get, slice_index_or, slice_set}, lemmas.{Bool.eq-eqb, List.{length-append, length-map, length-set, map-append, map-set, set-get_or, set-set}, Option.slice_get_within}}, specs.Vec.with_item}
 use Rattle.exec_base.specs.declared.{error.Error.Error, task_no.TaskNo.TaskNo}
 use Rattle.exec_task.specs.{Phases.is_polled, Sight.Sight, TaskSet.{held, inserted}, declared.{body.{Act.Act, Said.Said}, runnable.Runnable.Runnable}}
 use Rattle.exec_machine.specs.{Choice.Choice.Plain, declared.{config.{Configuration.Configuration, ScriptWord.ScriptWord}, event.Event.Event, state.{Code.TheVariants.Script, Waiting.Waiting}}, Mail.meets_closed, Progress.Plan, Tasks.{after_spawn as after_spawn_by, after_word, new_task}, Words.{asks_spawn, moved_on, next_word}, World.{Common, Own, task_of}}

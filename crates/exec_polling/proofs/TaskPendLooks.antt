@@ -1,7 +1,7 @@
 -- A POLL ENDS AT A LOOK: what its task waits for is its worker's, and hasn't come.
 use Rattle.std.proofs.{Common.{◌≡◌, inr, ℕ, ◌||◌, Bool, true, false, Option, Some, refl, sym, ap, subst, ◌∙◌, slice_get, arith}, lemmas.Bool.false≢true}
 use Rattle.exec_task.specs.declared.body.Said.{Said}
-use Rattle.exec_machine.specs.{declared.{event.Event.TheVariants.Pend, state.{MailMessage.TheVariants.{ForwardRequest, ForwardTimer}, Waiting.Waiting}}, Tests.{is_resolved, is_unsent}, World.{Task, request_of, sleeper_of, task_of}}
+use Rattle.exec_machine.specs.{declared.{state.{MailMessage.TheVariants.{ForwardRequest, ForwardTimer}, Waiting.Waiting}}, Tests.{is_resolved, is_unsent}, World.{Task, request_of, sleeper_of, task_of}}
 use Rattle.exec_moves.specs.{declared.{handing.AfterSend.AfterSend, place.{InPoll.InPoll, Place.Place}}, Move.move_look_at, Poll.{Sight.{Asks, HearsRequest, HearsTimer}, resume, sight_by, sight_of}, State.{Moved, Things}, Thing.aside}
 use Rattle.exec_parts.{specs.{declared.parts.{record.Record.Record, shared.Shared.Shared, sleeping.SleeperRecord.SleeperRecord, task_slot.TaskSlot.TaskSlot, worker.Worker.Worker}, Spots.Spot, View.{common_of, desk_of, task_seen, things_with}}, proofs.Facts.same_Some}
 use Rattle.exec_invariants.{specs.{Holding.{awaited_in, holder_of, nap_of}, Sound.{MayStop, may_end}, Whole.HasWhole}, proofs.{Here.{IsHere, going_on}, Seen.{request_at, sleeper_at}, Slots.task_there, TaskTakes.{holder_there, nap_there}}}

@@ -1,5 +1,5 @@
 -- A request that wasn't begun, of any kind: what its word asks for, and what holds of it.
-use Rattle.std.proofs.{Common.{◌≡◌, ℕ, ◌+◌, ◌^◌, ◌<◌, ◌≤◌, true, false, [], length, Option, Some, None, IfSome, refl, arith, if◌then◌else◌}}
+use Rattle.std.proofs.{Common.{◌≡◌, ℕ, ◌+◌, ◌^◌, ◌<◌, ◌≤◌, true, false, [], Option, Some, None, IfSome, refl, arith, if◌then◌else◌}}
 use Rattle.exec_base.specs.declared.error.Error.TheVariants.{Timeout}
 use Rattle.exec_outcomes.{specs.{Accounts.is_durable, Outcomes.HasCome, declared.outcome.{Outcome.TheVariants.Failure, Kind.Kind}}}
 use Rattle.exec_request.specs.{Kept.seen_by, Requests.{asked_of, cursor_of, deadline_of, gate_of, target_of}, declared.{request.Request.Request as Asking}}

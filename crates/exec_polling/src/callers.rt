@@ -23,7 +23,8 @@ use exec_words::word::WaitTarget;
 use std::alloc::{AllocError, Global};
 
 impl Caller {
-    /// Begins to spawn a task of this body, unless the task set is closed. The caller must have no call half done.
+    /// Begins to spawn a task of this body, unless the task set is closed. The caller must have no call half done, be
+    /// sound with what all share, and know that the balances of all parties hold.
     pub fn spawn<B: Scripted + Drop>(
         &mut self,
         alloc: Global,
@@ -51,7 +52,9 @@ impl Caller {
         Ok(Event::Spawn { task, script })
     }
 
-    /// Begins to wake this task. The caller must have no call half done, and there must be such a task.
+    /// Begins to wake this task. The caller must have no call half done, be sound with what all share, and know that
+    /// there is such a task, and that each mailbox has one wake of its root at most, a place for one where it has none,
+    /// and nothing once it is closed.
     pub fn wake<B: Scripted + Drop>(&mut self, task: usize, shared: &mut Shared<B>) -> Event
         requires sound { CallSound self.old shared.old }
         requires free { is_free self.old.place ≡ true }
@@ -101,7 +104,8 @@ impl Caller {
         Event::Wake { task }
     }
 
-    /// Goes on with the call. The caller must have one half done.
+    /// Goes on with the call. The caller must have one half done, be sound with what all share, and know that the
+    /// balances of all parties hold.
     pub fn go_on<B: Scripted + Drop>(&mut self, shared: &mut Shared<B>) -> Event
         requires sound { CallSound self.old shared.old }
         requires whole { HasCallWhole self.old shared.old }

@@ -13,7 +13,9 @@ use exec_parts::scripted::Scripted;
 use exec_task::body::Act;
 use std::alloc::{AllocError, Global};
 
-/// Takes the next step of the poll of a task.
+/// Takes the next step of the poll of a task. The caller must know that the worker is at this place and sound with what
+/// all share, that the balances of all parties hold, and that the bodies of all tasks perform a plan of this
+/// configuration, and must have an empty nursery.
 pub fn poll<B: Scripted + Drop>(
     worker: &mut Worker,
     alloc: Global,

@@ -1,5 +1,5 @@
 -- A push into the global queue.
-use Rattle.std.proofs.Common.{◌≡◌, ℕ, ◌+◌, ◌==◌, ◌≤◌, ◌<◌, ◌++◌, Bool, false, not, ◌&&◌, List, [], None, arith}
+use Rattle.std.proofs.Common.{◌≡◌, ℕ, ◌==◌, ◌≤◌, ◌<◌, ◌++◌, Bool, false, not, ◌&&◌, List, [], None, arith}
 use Rattle.exec_words.specs.{Idle.Idle}
 use Rattle.exec_machine.specs.{declared.config.Configuration.Configuration, Tests.is_empty, World.{Common, Own as Books}}
 use Rattle.exec_moves.specs.{declared.{handing.{AfterPush.AfterPush, InGlobal.InGlobal}, place.Place.Place}, Claim.set_of, Counts.one_if, Global.{appended_if, has_any, one_count_less}, Parts.after_push, Push.in_hand, State.{Desk, Things}, Thing.set_global}

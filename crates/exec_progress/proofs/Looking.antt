@@ -1,5 +1,5 @@
 -- The look: a turn begins anew for what is in the global queue, a scan for what can be stolen; and else the worker comes to its wait.
-use Rattle.std.proofs.Common.{◌≡◌, ℕ, ◌+◌, ◌-◌, ◌≤◌, ◌<◌, ◌==◌, Bool, true, not, ◌&&◌, ◌||◌, List, [], ◌∷◌, refl, sym, ap, subst, arith, inl, inr}
+use Rattle.std.proofs.Common.{◌≡◌, ℕ, ◌+◌, ◌≤◌, ◌<◌, ◌==◌, Bool, true, not, ◌&&◌, ◌||◌, List, [], ◌∷◌, refl, sym, ap, subst, arith, inl, inr}
 use Rattle.std.specs.Prelude.{nat_lt}
 use Rattle.std.proofs.lemmas.{Bool.{and_from, and_parts, eqb-true, eq-eqb, ltb-true, or_cases}, List.set-get_or}
 use Rattle.exec_words.specs.{declared.head.Head.Head, Head.is_stealable_at, Queue.{head_of, tail_of}}

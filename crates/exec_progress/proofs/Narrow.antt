@@ -1,5 +1,5 @@
 -- No run queue has more than fits into it, nor gave out more than 256 values in each step.
-use Rattle.std.proofs.Common.{◌≡◌, ℕ, zero, suc, ◌≤◌, ◌+◌, ◌-◌, ◌*◌, Bool, true, false, List, [], ◌∷◌, ◌++◌, length, take, drop, get_or, replicate, Option, Some, None, if◌then◌else◌, refl, arith}
+use Rattle.std.proofs.Common.{◌≡◌, ℕ, zero, suc, ◌≤◌, ◌+◌, ◌*◌, Bool, true, false, List, [], ◌∷◌, ◌++◌, length, take, drop, get_or, replicate, Option, Some, None, if◌then◌else◌, refl, arith}
 use Rattle.std.proofs.lemmas.{Bool.{and_parts, cases_Bool, eqb-true}, List.{length-append, length-drop, length-take}}
 use Rattle.exec_words.specs.{declared.head.Head.Head, Global.share_of, Head.{claim_at}, Queue.{Queue, claimed, head_of, overflowed, popped, published, released, restored, room_of, tail_of}}
 use Rattle.exec_machine.specs.{declared.config.{Configuration.Configuration, ScriptWord.ScriptWord}, Progress.Plan, World.{Common, Own as Books, own_of, task_of}, Words.next_word}

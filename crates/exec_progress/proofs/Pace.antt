@@ -2,7 +2,6 @@
 use Rattle.std.proofs.Common.{◌≡◌, ℕ, zero, suc, ◌≤◌, Bool, true, length, get_or, set, refl, subst, arith}
 use Rattle.std.proofs.lemmas.{Bool.{cases_Bool}, List.get_or_past}
 use Rattle.exec_machine.specs.{declared.{config.{Configuration.Configuration}, event.Event.Event, step.Action.Action}, Progress.Plan, World.{Common, own_of, request_of, task_of}}
-use Rattle.exec_machine.specs.declared.event.Event.TheVariants as event
 use Rattle.exec_machine.specs.declared.step.Action.TheVariants as action
 use Rattle.exec_moves.specs.{Move.move, Plays.{Playing, by_action, by_step, caller_of, desk_of, first_desk, first_desks, first_playing, newcomers}, State.{Desk, Moved, Things}}
 use Rattle.exec_credit.specs.Spins.{IsWithin}

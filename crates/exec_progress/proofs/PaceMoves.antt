@@ -6,7 +6,7 @@ use Rattle.exec_task.specs.declared.drain.Drain.{Drain}
 use Rattle.exec_machine.specs.{declared.{config.{Configuration.Configuration}}, Deadlines.next_due, Ranges.ring_size, Tests.{is_applied}, World.{Common, Own as Books, Task, request_of, sleeper_of, task_of}}
 use Rattle.exec_moves.specs.declared.idling.{InLook.InLook, InRingWait.InRingWait, InScan.InScan, InSearch.InSearch, InWordWait.InWordWait, Stay.Stay}
 use Rattle.exec_moves.specs.declared.place.{InClosing.InClosing, InLoads.InLoads, InMail.InMail, InService.InService, Place.Place, Reaping.Reaping, Round.Round, Service.Service}
-use Rattle.exec_moves.specs.{Callback.{is_full, is_of_pool}, Claim.claimed, Close.{close_sleeper, first_asleep, first_held, orphan, visit}, Load.{has_come, has_submissions, is_ready as has_ready}, Look.{look_at_mirror, searching_if}, Move.{move_at, move_closing, move_loads, move_look, move_mail, move_ring_wait, move_scan, move_search, move_service, move_submit, move_word_wait}, Pop.{shard_count}, Search.{begun_scan, from_of, half, stirred}, Send.first_letter, Serve.{Ring, end_service, first_to_fire, reap}, State.{Desk, Moved, Things, queue_of}, Submit.{Due, Due.{Cancels}, due_next}, Thing.ring_of}
+use Rattle.exec_moves.specs.{Callback.{is_full, is_of_pool}, Claim.claimed, Close.{close_sleeper, first_asleep, first_held, orphan, visit}, Load.{has_come, has_submissions, is_ready as has_ready}, Look.{look_at_mirror, searching_if}, Move.{move_at, move_closing, move_loads, move_look, move_mail, move_ring_wait, move_scan, move_search, move_service, move_submit, move_word_wait}, Pop.{shard_count}, Search.{begun_scan, from_of, half, stirred}, Send.first_letter, Serve.{Ring, end_service, first_to_fire, reap}, State.{Desk, Moved, Things, queue_of}, Submit.{Due, due_next}, Thing.ring_of}
 use Rattle.exec_moves.specs.declared.handing.AfterCancels.TheVariants as cancels
 use Rattle.exec_moves.specs.declared.handing.AfterSend.TheVariants as send
 use Rattle.exec_moves.specs.declared.idling.AfterWait.TheVariants as later
@@ -21,7 +21,7 @@ use Rattle.exec_moves.specs.declared.place.Place.TheVariants as at
 use Rattle.std.proofs.lemmas.Bool.{true≢false}
 use Rattle.exec_moves.specs.{Serve.{others_after_reap, back_from_reap}}
 use Rattle.exec_progress.specs.{Going.{has_called_back, loads_queues}, Owed.quiet_items}
-use Rattle.exec_progress.proofs.PaceParts.{is_wild, Calm, claiming, fair_if, headed, looking, passed_on, permitted, read, reaped, returned, scanned, searching, served, tailed, waited, waiting_on, withdrawing, withdrawn, calm_there}
+use Rattle.exec_progress.proofs.PaceParts.{is_wild, Calm, claiming, fair_if, headed, looking, passed_on, permitted, reaped, returned, scanned, searching, served, tailed, waited, waiting_on, withdrawing, withdrawn, calm_there}
 use Rattle.exec_machine.specs.{Closing.ends_by_clear}
 use Rattle.exec_moves.specs.{Close.told_of_clear}
 use Rattle.exec_moves.specs.declared.place.AfterPermit.TheVariants as permit

@@ -4,7 +4,7 @@ use Rattle.std.specs.Prelude.{nat_le, nat_lt, not}
 use Rattle.exec_words.specs.declared.head.{Fit.Fit, Head.Head}
 use Rattle.exec_machine.specs.{declared.{config.Configuration.Configuration, state.{MailMessage.MailMessage, Waiting.Waiting}}, Ranges.ring_size, Tests.is_empty, World.{Common, Own as Books}}
 use Rattle.exec_machine.specs.declared.state.Waiting.TheVariants as waiting
-use Rattle.exec_moves.specs.declared.handing.{AfterCallbacks.AfterCallbacks, AfterClaim.AfterClaim, AfterKick.AfterKick, AfterLeave.AfterLeave, AfterPush.AfterPush, AfterSignal.AfterSignal, First.First}
+use Rattle.exec_moves.specs.declared.handing.{AfterCallbacks.AfterCallbacks, AfterClaim.AfterClaim, AfterKick.AfterKick, AfterLeave.AfterLeave, AfterPush.AfterPush, AfterSignal.AfterSignal}
 use Rattle.exec_moves.specs.declared.idling.{AfterWait.AfterWait, Scan.Scan, Stay.Stay}
 use Rattle.exec_moves.specs.declared.place.{AfterService.AfterService, Place.Place}
 use Rattle.exec_moves.specs.{Callback.{has_callbacks, is_of_pool, next_callback, to_queue}, Claim.{Claimed, after_claim}, Look.{after_withdrawal, looks_from, past_own}, Mail.after_message, Parts.{after_kick, after_leave, after_push, after_return, after_signal, has_others}, Poll.{after_begin}, Push.after_fit, Search.{judge_head, judge_tail, looks_at, past, past_own as past_mine}, Send.{after_spawn}, Serve.after_service, State.{Desk}, Wait.{after_wait, first_search, waits, withdraws}}

@@ -5,8 +5,6 @@ use Rattle.std.proofs.lemmas.Option.{slice_get-get_or}
 use Rattle.exec_machine.specs.{declared.{config.{Configuration.Configuration, ScriptWord.ScriptWord}, event.Event.Event, state.{MailMessage.MailMessage, RequestPhase.RequestPhase}}, Choice.{Choice, Choice.{Plain}}, Requests.operation_asked, Tests.{is_empty}, Text.is_quiet, Words.{idle_words, is_idle_word, newest_held, next_word, sleep_asked, words_left}, World.{Common, Own as Books, Task, request_of, task_of}}
 use Rattle.exec_machine.specs.declared.config.ScriptWord.TheVariants as word
 use Rattle.exec_machine.specs.declared.event.Event.TheVariants as event
-use Rattle.exec_machine.specs.declared.state.MailMessage.TheVariants as message
-use Rattle.exec_machine.specs.declared.state.RequestPhase.TheVariants as phase
 use Rattle.exec_moves.specs.{declared.{handing.{AfterSend.AfterSend}, place.{InPoll.InPoll, Place.Place}}, Move.{move_act, move_look_at, move_wake}, Poll.{Sight, Sight.{Here, Asks, HearsRequest, HearsTimer}, act, act_asked, begin_poll, drop_newest, hear_timer, heard_by, pend, sleep_for}, Send.{Mailbox, next_task, posting_of}, State.{Desk, Moved, Things}, Thing.{aside, mailbox_of, with_alarms, with_answers}, Told.has_number}
 use Rattle.exec_progress.{specs.{Going.{Falls, FallsAt, seen, stands}, Ranks.{rank}}, proofs.{Steps.{Leads, loud}, Tools.{either}}}
 

@@ -6,7 +6,6 @@ use Rattle.exec_credit.proofs.Spins.{within_largest}
 use Rattle.exec_words.specs.{Head.is_spent}
 use Rattle.exec_machine.specs.{After.{own_after}, Callers.is_held, Tests.is_awake, World.Common, declared.{config.{Configuration.Configuration}, state.WorkerPhase.WorkerPhase}, Callers.is_enabled, Progress.{is_anyone_closing}, Tests.{has_ended, is_closing, is_open}, Text.is_quiet, World.{World, Own as Books, Seat, no_seat, own_of, seat_of}}
 use Rattle.exec_machine.specs.declared.step.Action.TheVariants as action
-use Rattle.exec_machine.specs.declared.state.WorkerPhase.TheVariants as phase
 use Rattle.exec_moves.specs.{declared.{place.Place.Place}, Callback.is_of_pool, Move.{move, move_at}, Plays.{Playing, by_move, desk_of}, Seen.{serves_at}, State.{Desk, Moved, Things, queue_of}}
 use Rattle.exec_rest.specs.{AtRest.{AreBare, IsPlaced, is_fed, is_given}, Posted.IsPosted, Rested.{IsRestful}}
 use Rattle.exec_rest.proofs.Frames.{desk_own}

@@ -34,7 +34,7 @@ pub enum Cancel {
 }
 
 /// The places for messages of registrations in the mail of a worker. Whoever registers makes one for the forward and one
-/// for the cancel, so neither is ever refused for want of memory.
+/// for the cancel. The worker gives both up once the registration was let go and what it sent was applied.
 pub trait Places {
     // For how many messages there are places.
     ghost places: { Self → ℕ };

@@ -5,7 +5,7 @@
 //! at its first poll. A sync that is begun needs no task: where the open keeps a failure, or nothing is to be made
 //! durable, it is over at once, and else its outcome is sent once it ended.
 
-ghost use Rattle.std.specs.Prelude.{◌≡◌, ◌+◌, true, false, Some, None, Ok, Err, IfOk, IfErr, IfSome, OnOk, OnErr};
+ghost use Rattle.std.specs.Prelude.{◌≡◌, ◌+◌, ◌<◌, length, true, false, Some, None, Ok, Err, IfOk, IfErr, IfSome, OnOk, OnErr};
 ghost use Rattle.exec_base.specs.declared.error.Error.TheVariants as error;
 ghost use Rattle.exec_driver.specs.{Opens.account_in, Footprints.footprint_of};
 ghost use Rattle.exec_ring.specs.Stores.{Reserves};
@@ -13,6 +13,7 @@ ghost use Rattle.exec_waiters.specs.States.{suits};
 ghost use Rattle.exec_registration.specs.{Homes.home_of, Admissions.{Registers, Begins, TakesIn, IsRefused, IsKept, Untouched, over_at_once}};
 ghost use Rattle.exec_registration.specs.declared.operation.Started.TheVariants as started;
 ghost use Rattle.exec_registration.specs.declared.registration.RegistrationState.TheVariants as state;
+ghost use Rattle.exec_request.specs.Requests.{gate_of};
 ghost use Rattle.exec_request.specs.declared.request.Request.TheVariants as request_of;
 ghost use Rattle.exec_waiters.specs.declared.observer.Observer.TheVariants as observer_of;
 
@@ -49,7 +50,12 @@ const MESSAGES: usize = 2;
 
 impl Registration<WaiterId> {
     /// Registers a request at this worker at the moment `now`. A closing worker takes none, lets the request go, and
-    /// answers a registration that is `Closed`. A durable request has to join the line of its open by `Driver::join`.
+    /// answers a registration that is `Closed`. A durable request has to join the line of its open by `Driver::join`,
+    /// once; the caller must have an open of that number, since no other ever gives a permit.
+    ///
+    /// The two places in the mail stay when the request is over, and no call of a registration gives them back. Its
+    /// worker does, by `Places::release`, once the registration was let go and what it sent was applied. One that is
+    /// `Closed` has none.
     ///
     /// `Full` comes only where no request can be named any more, `NoMemory` only where there is no memory; the request
     /// comes back then, and nothing changes. Ports `Operation::register`.
@@ -62,6 +68,7 @@ impl Registration<WaiterId> {
         store: &mut Store,
         mail: &mut M,
     ) -> Result<Operation, InsertError<Refused<S, F>>>
+        requires open { IfSome (gate_of request) (λ file. file < length opens.old) }
         ensures closed { home.old.closing ≡ true → (result ≡ Ok state.Closed) × Untouched (home_of home.old) (home_of home.new) opens.old opens.new store.old store.new × (M.places mail.new ≡ M.places mail.old) }
         ensures registers { home.old.closing ≡ false → IfOk result (Registers (home_of home.old) (home_of home.new) opens.old opens.new request now) }
         ensures stored { home.old.closing ≡ false → OnOk result (Reserves (footprint_of request) store.old store.new) }
@@ -89,8 +96,9 @@ impl Registration<WaiterId> {
 
 /// Begins a sync at this worker, of which `sender` sends the outcome. A sync has no deadline, so no moment counts. A
 /// failure that its open keeps is the outcome at once, and success where every change is durable; else a closing worker
-/// answers `Closed`, and an open one registers the sync, which has to join the line of its open by `Driver::join`.
-/// Nobody can let it go, and an error of the kernel is sent as it came, without the open's number.
+/// answers `Closed`, and an open one registers the sync, which has to join the line of its open by `Driver::join`,
+/// once; the caller must have an open of that number. Nobody can let it go, and an error of the kernel is sent as it
+/// came, without the open's number.
 ///
 /// `Full` comes only where no request can be named any more, `NoMemory` only where there is no memory; the request
 /// and its sender come back then, and nothing changes. Ports `start_sync`.
@@ -102,6 +110,7 @@ pub fn start_sync<R: Ring + Drop, S: Drop, F: Drop>(
     opens: &mut Opens,
     store: &mut Store,
 ) -> Result<Started, InsertError<Refused<S, F>>>
+    requires open { request.file < length opens.old }
     ensures over { IfSome (over_at_once (account_in opens.old (Some request.file))) (λ ended. (result ≡ Ok (started.Over ended)) × Untouched (home_of home.old) (home_of home.new) opens.old opens.new store.old store.new) }
     ensures closed { over_at_once (account_in opens.old (Some request.file)) ≡ None → home.old.closing ≡ true → (result ≡ Ok (started.Over (Err error.Closed))) × Untouched (home_of home.old) (home_of home.new) opens.old opens.new store.old store.new }
     ensures begins { over_at_once (account_in opens.old (Some request.file)) ≡ None → home.old.closing ≡ false → IfOk result (Begins (home_of home.old) (home_of home.new) opens.old opens.new (request_of.Sync request) (observer_of.DetachedSync sender) 0) }

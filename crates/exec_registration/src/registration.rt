@@ -12,7 +12,8 @@
 //! A registration that a closing worker refused is `Closed`, and the first poll says so.
 //!
 //! Who registers pays for all that may follow: the thing itself has its memory, and the mail of its worker has one place
-//! for the forward and one for the cancel (`Places`). So a poll and a release take none, and are never refused for it.
+//! for the forward and one for the cancel (`Places`). So a poll and a release take none, and are never refused for it. The
+//! worker gives the two places back once the registration was let go and what it sent was applied.
 //!
 //! A registration can't be dropped: who doesn't want it any more lets it go by `release`, also where it is over. What it
 //! still waits for is then observed by nobody: it is let go here, where it is this worker's, and elsewhere by a message.

@@ -177,7 +177,8 @@ impl Desk {
         timers.expire(now, notes);
     }
 
-    /// Begins a sync of open 0 with sender 5, of which the caller saw so many writes. None where it is refused.
+    /// Begins a sync of open 0 with sender 5, of which the caller saw so many writes. None where it is refused, or where
+    /// there is no open.
     pub fn begin_sync(
         &mut self,
         alloc: Global,
@@ -185,6 +186,9 @@ impl Desk {
         opens: &mut Opens,
         store: &mut Store,
     ) -> Option<Started> {
+        if opens.len() == 0 {
+            return None;
+        }
         let sync = SyncRequest::new(0, seen);
         start_sync(alloc, sync, 5, &mut self.home, opens, store).ok()
     }

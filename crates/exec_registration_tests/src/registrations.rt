@@ -15,12 +15,14 @@ fn a_request_is_registered_polled_and_taken(rt: HostRuntime) {
     let mut desks = Desks::new(&rt, rt.alloc());
     let steps = [
         Visit::Places(2),
+        Visit::Pending(true),
         Visit::Poll(7, Heard::Nothing),
         Visit::Poll(8, Heard::Nothing),
         Visit::Fail,
         Visit::Wakes(8),
         Visit::Poll(8, Heard::Failed),
         Visit::Over,
+        Visit::Pending(false),
     ];
     desks.visit(&rt, rt.alloc(), &steps);
     holds(&rt, 7, desks.ours().is_unasked());
@@ -31,6 +33,7 @@ fn a_poll_elsewhere_asks_once_and_hears(rt: HostRuntime) {
     let mut desks = Desks::new(&rt, rt.alloc());
     let steps = [
         Visit::PollThere(7, Heard::Nothing),
+        Visit::Pending(true),
         Visit::Carry,
         Visit::Poll(7, Heard::Nothing),
         Visit::Unasked,

@@ -1,6 +1,6 @@
 //! Worked examples of registrations as tables: each step is a call on one registration with what has to come of it.
 
-use crate::desk::{Awaited, Desk};
+use crate::desk::{Awaited, Desk, name};
 use crate::found::{holds, same};
 use exec_base::error::{Cause, Error};
 use exec_base::one_shot::OneShot;
@@ -10,6 +10,7 @@ use exec_registration::operation::Operation;
 use exec_registration::registration::RegistrationState;
 use exec_request::output::RequestOutput;
 use exec_ring::store::Store;
+use exec_waiters::waiter_id::WaiterId;
 use std::alloc::Global;
 use std::process::Abort;
 
@@ -36,6 +37,8 @@ pub enum Visit {
     Wakes(u32),
     /// It is over.
     Over,
+    /// It waits for the request in slot 0 of worker 0, or for nothing.
+    Pending(bool),
     /// Neither worker was asked for more.
     Unasked,
     /// Its worker has no request that is not over.
@@ -130,6 +133,7 @@ impl Desks {
                 holds(rt, at, is_heard(&told, heard));
             }
             Visit::Over => holds(rt, at, is_over(op)),
+            Visit::Pending(waits) => same(rt, at, &op.pending(), &awaited(waits)),
             step => self.go_on(rt, alloc, at, step),
         }
     }
@@ -172,6 +176,11 @@ impl Desks {
         same(rt, at, &told.sender, &9);
         holds(rt, at, self.answer.send(told.result).is_ok());
     }
+}
+
+/// The worker and the name of what a registration waits for that was made first, or nothing.
+fn awaited(waits: bool) -> Option<(u32, WaiterId)> {
+    if waits { Some((0, name(0, 0))) } else { None }
 }
 
 /// Whether a registration is over.

@@ -1,5 +1,5 @@
 -- Where the parts lead: to places at which nothing is known of a worker, but for what follows the callbacks.
-use Rattle.std.proofs.Common.{◌≡◌, ℕ, Bool, true, false, List, Option, None, refl, ◌==◌, ◌&&◌, ◌||◌, if◌then◌else◌, arith}
+use Rattle.std.proofs.Common.{◌≡◌, ℕ, Bool, true, false, List, Option, refl, ◌==◌, ◌&&◌, ◌||◌, if◌then◌else◌, arith}
 use Rattle.std.specs.Prelude.{nat_lt, nat_le, not}
 use Rattle.exec_words.specs.declared.head.{Fit.Fit, Head.Head}
 use Rattle.exec_words.specs.declared.word.WaitTarget.TheVariants as target

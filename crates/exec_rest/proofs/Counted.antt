@@ -2,7 +2,6 @@
 use Rattle.std.proofs.Common.{◌≡◌, ℕ, Bool, ◌==◌, List, [], ◌∷◌, Option, Some, refl, ◌∙◌, if◌then◌else◌, arith}
 use Rattle.std.specs.Prelude.{not}
 use Rattle.exec_machine.specs.{declared.{config.{Configuration.Configuration, ScriptWord.ScriptWord}, state.{Operation.Operation, Request.Request, RequestPhase.RequestPhase, Sleeper.Sleeper, Waiting.Waiting}}, Requests.{operation_asked}, Tests.{is_applied}, World.{Common, Task, request_of, Own as Books}, Words.{next_word}}
-use Rattle.exec_machine.specs.declared.state.RequestPhase.TheVariants as phase
 use Rattle.exec_machine.specs.declared.state.Waiting.TheVariants as waiting
 use Rattle.exec_moves.specs.declared.handing.{AfterCallbacks.AfterCallbacks, AfterSend.AfterSend}
 use Rattle.exec_moves.specs.declared.place.{InCallbacks.InCallbacks, InPoll.InPoll}

@@ -2,7 +2,7 @@
 -- ended, or calls, does so still.
 use Rattle.std.proofs.Common.{◌≡◌, ◌≢◌, ℕ, ◌<◌, Bool, true, false, ◌||◌, [], length, Some, sym, ap, ◌∙◌, subst, inl, inr, slice_index_or, arith}
 use Rattle.std.proofs.lemmas.{Bool.{true≢false, false≢true, and_parts, cases_Bool, cases_eq, cases_lt, or_cases, or_left, or_right, not-true}, List.get_or_past}
-use Rattle.std.specs.Prelude.{◌⊎◌, not}
+use Rattle.std.specs.Prelude.{◌⊎◌}
 use Rattle.exec_machine.specs.{declared.config.Configuration.Configuration, Callers.{is_enabled, is_half_done, may_go_on}, Tests.{has_ended}, World.{Common, Own as Books, Seat, no_seat, own_of, seat_of}}
 use Rattle.exec_machine.specs.declared.state.Call.TheVariants as call
 use Rattle.exec_machine.specs.declared.step.Action.TheVariants as action

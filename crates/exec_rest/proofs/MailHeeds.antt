@@ -1,5 +1,5 @@
 -- What the move of a worker does to mailboxes: by a send, by taking the own inbox, and by all others.
-use Rattle.std.proofs.Common.{◌≡◌, ◌≢◌, ℕ, zero, suc, ◌+◌, Bool, true, false, List, [], ◌∷◌, ◌++◌, length, Option, Some, refl, sym, ap, ◌∙◌, inl, inr, arith, slice_set, slice_index_or, if◌then◌else◌}
+use Rattle.std.proofs.Common.{◌≡◌, ◌≢◌, ℕ, zero, suc, Bool, true, false, List, [], ◌∷◌, ◌++◌, length, Option, Some, refl, sym, ap, ◌∙◌, inl, inr, arith, slice_set, slice_index_or, if◌then◌else◌}
 use Rattle.std.proofs.lemmas.{Bool.{false≢true, cases_eq}, List.{get_or-set_other, length-set}}
 use Rattle.std.specs.Prelude.{◌⊎◌}
 use Rattle.exec_words.specs.{declared.word.{PureWord.PureWord}}

@@ -11,7 +11,6 @@ use Rattle.exec_moves.specs.declared.handing.InPop.TheVariants as pop
 use Rattle.exec_moves.specs.declared.handing.InPush.TheVariants as push
 use Rattle.exec_moves.specs.declared.handing.InSignal.TheVariants as signal
 use Rattle.exec_moves.specs.declared.idling.InLook.TheVariants as look
-use Rattle.exec_moves.specs.declared.idling.InRingWait.TheVariants as ring
 use Rattle.exec_moves.specs.declared.idling.InScan.TheVariants as scan
 use Rattle.exec_moves.specs.declared.idling.InSearch.TheVariants as search
 use Rattle.exec_moves.specs.declared.idling.InWordWait.TheVariants as word

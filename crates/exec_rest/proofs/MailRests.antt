@@ -5,13 +5,12 @@ use Rattle.std.proofs.lemmas.Bool.{true≢false}
 use Rattle.std.specs.Prelude.{◌*◌, drop, not}
 use Rattle.exec_words.specs.{Idle.is_in, Word.{asks_signal, is_armed}}
 use Rattle.exec_machine.specs.{declared.config.Configuration.Configuration, Choice.Choice.Plain, Deadlines.next_due, Tests.is_applied, World.{Common, Own as Books, seat_of, sleeper_of}}
-use Rattle.exec_moves.specs.{declared.{handing.{AfterClaim.AfterClaim, AfterPush.AfterPush, AfterSignal.AfterSignal, InGlobal.InGlobal, InSignal.InSignal}, idling.{AfterWait.AfterWait, InLook.InLook, InRingWait.InRingWait, InScan.InScan, InSearch.InSearch, InWordWait.InWordWait, Scan.Scan, Stay.Stay}, place.{InLoads.InLoads, InService.InService, Place.Place, Reaping.Reaping, Round.Round, Service.Service}}, Callback.{is_of_pool}, Claim.{Claimed, after_claim, claimed}, Global.has_any, Load.{has_come, has_submissions, is_ready, leaves_for_turn}, Look.{after_withdrawal, look_at_mirror, looks_from, past_own, searching_if}, Move.{move_at, move_global, move_loads, move_look, move_ring_wait, move_scan, move_search, move_service, move_signal, move_submit, move_word_wait}, Parts.after_signal, Send.first_letter, Serve.{after_service, end_service, first_to_fire, reap}, State.{Desk, Moved, Own, Things, turns, word_of}, Submit.{Due}, Thing.ring_of, Told.told_of_fire, Wait.{after_wait, first_search, goes_back, waits, withdraws}}
+use Rattle.exec_moves.specs.{declared.{handing.{AfterClaim.AfterClaim, AfterPush.AfterPush, AfterSignal.AfterSignal, InGlobal.InGlobal, InSignal.InSignal}, idling.{AfterWait.AfterWait, InLook.InLook, InRingWait.InRingWait, InScan.InScan, InSearch.InSearch, InWordWait.InWordWait, Stay.Stay}, place.{InLoads.InLoads, InService.InService, Place.Place, Reaping.Reaping, Round.Round, Service.Service}}, Callback.{is_of_pool}, Claim.{Claimed, after_claim, claimed}, Global.has_any, Load.{has_come, has_submissions, is_ready, leaves_for_turn}, Look.{after_withdrawal, look_at_mirror, looks_from, past_own, searching_if}, Move.{move_at, move_global, move_loads, move_look, move_ring_wait, move_scan, move_search, move_service, move_signal, move_submit, move_word_wait}, Parts.after_signal, Send.first_letter, Serve.{after_service, end_service, first_to_fire, reap}, State.{Desk, Moved, Own, Things, turns, word_of}, Submit.{Due}, Thing.ring_of, Told.told_of_fire, Wait.{after_wait, first_search, goes_back, waits, withdraws}}
 use Rattle.exec_moves.specs.declared.handing.AfterSend.TheVariants as send
 use Rattle.exec_moves.specs.declared.handing.InGlobal.TheVariants as global
 use Rattle.exec_moves.specs.declared.handing.InSignal.TheVariants as signal
 use Rattle.exec_moves.specs.declared.idling.AfterWait.TheVariants as next
 use Rattle.exec_moves.specs.declared.idling.InLook.TheVariants as looking
-use Rattle.exec_moves.specs.declared.idling.InRingWait.TheVariants as ring
 use Rattle.exec_moves.specs.declared.idling.InSearch.TheVariants as searching
 use Rattle.exec_moves.specs.declared.idling.Stay.TheVariants as stay
 use Rattle.exec_moves.specs.declared.place.InLoads.TheVariants as load

@@ -10,7 +10,6 @@ use Rattle.exec_moves.specs.declared.idling.{InLook.InLook, InRingWait.InRingWai
 use Rattle.exec_moves.specs.declared.place.{InClosing.InClosing, InLoads.InLoads, InMail.InMail, InPick.InPick, InService.InService, Place.Place, Reaping.Reaping, Round.Round, Service.Service}
 use Rattle.exec_moves.specs.{Close.{close_sleeper, first_asleep, first_held, orphan, visit}, Move.{move_at, move_closing, move_global, move_kick, move_loads, move_look, move_mail, move_pick, move_pop, move_push, move_ring_wait, move_scan, move_search, move_service, move_signal, move_submit, move_word_wait}, Pop.{pops, shard_count}, Serve.{Ring, end_service, enter, first_to_fire, others_after_reap, reap, result_in}, State.{Desk, Things, WakePoll, does}, Submit.{Due}, Told.{woken_where_awaited}, Wait.{noting_sleep}}
 use Rattle.exec_moves.specs.declared.handing.InSignal.TheVariants as signals
-use Rattle.exec_moves.specs.declared.idling.InRingWait.TheVariants as ring
 use Rattle.exec_moves.specs.declared.idling.InSearch.TheVariants as search
 use Rattle.exec_moves.specs.declared.place.Place.TheVariants as at
 use Rattle.exec_rest.proofs.Counted.{Keeps, all_let_go, callbacks_kept, dropped, fired, if_ended, kept_if, moved_if, poll_kept, woken}

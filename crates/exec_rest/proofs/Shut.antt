@@ -8,7 +8,6 @@ use Rattle.exec_machine.specs.{After.{common_after, made_by, own_after}, Callers
 use Rattle.exec_machine.specs.declared.event.Event.TheVariants as event
 use Rattle.exec_machine.specs.declared.state.MailMessage.TheVariants as message
 use Rattle.exec_machine.specs.declared.state.Next.TheVariants as next
-use Rattle.exec_machine.specs.declared.state.Waiting.TheVariants as waiting
 use Rattle.exec_moves.specs.{Plays.{Playing, by_action, by_move, by_step, first_playing}, State.{Moved, Things}}
 use Rattle.exec_rest.specs.AtRest.{IsShut}
 use Rattle.exec_rest.proofs.Sides.{put_cases}

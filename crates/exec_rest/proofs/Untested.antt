@@ -10,8 +10,6 @@ use Rattle.exec_moves.specs.declared.idling.{InRingWait.InRingWait}
 use Rattle.exec_moves.specs.declared.place.{InClosing.InClosing, InLoads.InLoads, InMail.InMail, InPick.InPick, InService.InService, Place.Place, Reaping.Reaping, Round.Round, Service.Service}
 use Rattle.exec_moves.specs.{Close.{close_sleeper, first_asleep, first_held, orphan, visit}, Move.{move_at, move_closing, move_global, move_kick, move_loads, move_mail, move_pick, move_pop, move_push, move_ring_wait, move_service, move_signal, move_submit}, Pop.{load_pop_head, pops, shard_count}, Serve.{end_service, first_to_fire, reap}, State.{Desk, Things, WakePoll, word_of}, Submit.{Due}}
 use Rattle.exec_moves.specs.declared.handing.InSignal.TheVariants as signals
-use Rattle.exec_moves.specs.declared.idling.AfterWait.TheVariants as later
-use Rattle.exec_moves.specs.declared.idling.InRingWait.TheVariants as ring
 use Rattle.exec_moves.specs.declared.idling.Stay.TheVariants as stay
 use Rattle.exec_rest.specs.{Posted.has_tested}
 use Rattle.exec_rest.proofs.Continuing.{light_after_close, light_after_empty_pop, calm_after_fit, light_after_letting_go, light_after_pop, calm_after_return, calm_after_service, light_cancels_left, light_first_pick, light_judge_pop, light_polls, light_tells_from, calm_light}

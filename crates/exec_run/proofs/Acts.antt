@@ -4,7 +4,6 @@ use Rattle.std.proofs.lemmas.Bool.{true≢false}
 use Rattle.std.proofs.lemmas.Option.{none-some}
 use Rattle.exec_request.specs.declared.request.Request.{Request}
 use Rattle.exec_task.specs.{Sight.{Sight, WouldGrow}, declared.body.{Act.{Act, TheVariants.Register}, Said.Said}}
-use Rattle.exec_task.specs.declared.body.Act.TheVariants as act
 use Rattle.exec_machine.specs.{declared.{config.{ScriptWord.ScriptWord}, state.Code.Code}, Tests.is_empty}
 use Rattle.exec_machine.specs.declared.config.ScriptWord.TheVariants as word
 use Rattle.exec_run.specs.{Asking.{asks_request, moves_bytes, CanAsk, IsInTime, IsRequestOf}, declared.{asking.Limits.Limits, script.Asked.Asked as Question}, Script.{Played, Begets, CanPlay, newest, held_by, place_by, is_passed, passed_over, word_in, gives, asked_by, AsksFor, IsPlainActOf}}

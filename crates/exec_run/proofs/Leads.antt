@@ -1,7 +1,6 @@
 -- Where a line of a log leads.
 use Rattle.std.proofs.Common.{◌≡◌, arith}
 use Rattle.exec_machine.specs.{Examples.Told, Progress.Plan, Run.after_line}
-use Rattle.exec_machine.specs.declared.step.Action.TheVariants as action
 use Rattle.exec_moves.specs.Plays.{Playing, by_step}
 use Rattle.exec_run.specs.Steps.{IsStep}
 

@@ -3,7 +3,7 @@ use Rattle.std.specs.Prelude.{◌≡◌, ℕ, Bool, ◌⊎◌, List, [], ◌∷�
 use Rattle.std.specs.declared.alloc.Global.{Global}
 use Rattle.exec_base.specs.Io.{Rose}
 use Rattle.exec_text.specs.Grammar.{Meaning}
-use Rattle.exec_run.specs.{declared.{complaint.Complaint.Complaint, trace_error.TraceError.{TraceError, TheVariants.{ReadFault, TooLong, Syntax, Config, WriteFault, NoMemory}}}, Refusal.{IsTooLong, HasFault, HasOutOfRange, HasCause, AskForTrace, status_of, text_of_complaint}, Log.{HasTrace, Gave, GaveFront, GaveLog, BrokeOff}}
+use Rattle.exec_run.specs.{declared.{complaint.Complaint.Complaint, trace_error.TraceError.{TraceError, TheVariants.{ReadFault, TooLong, Syntax, Config, WriteFault, NoMemory}}}, Refusal.{IsTooLong, HasFault, HasOutOfRange, HasCause, AskForTrace, AskForSomeTrace, status_of, text_of_complaint}, Log.{HasTrace, Gave, GaveFront, GaveLog, BrokeOff}}
 
 -- neither the count of faults of the source rose nor that of the sink
 abbrev pub NoneRose : ℕ → ℕ → ℕ → ℕ → Type 0
@@ -55,14 +55,14 @@ abbrev pub WroteFrontOfComplaint : List (String Global) → Option (List ℕ) �
 WroteFrontOfComplaint words source read read' old new = (x : Complaint) × HasCause x words source read read' × GaveFront old new (complaint_line x)
 
 -- What a status says. 0: the words ask for a trace, and its whole log was written, or its quiet one. 1 to 5: a
--- complaint was written. 6: the sink failed while a log or a complaint was written. 7: there was no memory, before
--- a log was begun or while it was written, and neither end failed. There is no other status.
+-- complaint was written. 6: the sink failed while a log or a complaint was written. 7: the words ask for a trace, there
+-- was no memory, before a log was begun or while it was written, and neither end failed. There is no other status.
 abbrev pub Explains : ℕ → List (String Global) → Option (List ℕ) → ℕ → ℕ → Option (List ℕ) → Option (List ℕ) → Option (List ℕ) → ℕ → ℕ → Type 0
 Explains status words source read read' old new passed written written' =
     ((status ≡ 0) × Logged words source read read' old new passed written written')
     ⊎ ((x : Complaint) × (status ≡ status_of x) × Complained x words source read read' old new passed written written')
     ⊎ ((status ≡ 6) × Rose written written' × (WroteFrontOfLog words source old new ⊎ WroteFrontOfComplaint words source read read' old new))
-    ⊎ ((status ≡ 7) × NoneRose read read' written written' × ((new ≡ old) ⊎ WroteFrontOfLog words source old new))
+    ⊎ ((status ≡ 7) × AskForSomeTrace words × NoneRose read read' written written' × ((new ≡ old) ⊎ WroteFrontOfLog words source old new))
 
 -- Where the words ask for a trace, and the source is known to hold one that may be run: unless a fault of the source or
 -- the sink rose, its whole log was given and passed on with status 0, or there was no memory, by status 7. There is no

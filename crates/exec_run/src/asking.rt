@@ -22,10 +22,8 @@ use exec_request::send::SendRequest;
 use exec_request::sync::SyncRequest;
 use exec_request::write_at::{WriteAtRequest, WriteAtState};
 use exec_task::body::Around;
+use exec_text::limits::MOST_ASKED;
 use std::alloc::{AllocError, Global};
-
-/// The most bytes of a request.
-const MOST_BYTES: u64 = 1_048_576;
 
 /// How long requests may take, in nanoseconds.
 #[derive(Clone, Copy)]
@@ -141,7 +139,7 @@ fn send_of(
     let Ok(fd) = u32::try_from(socket) else {
         return Ok(None);
     };
-    if length > MOST_BYTES {
+    if length > MOST_ASKED {
         return Ok(None);
     }
     let write = bytes_of(alloc, length)?;
@@ -174,7 +172,7 @@ fn recv_of(
     let Ok(fd) = u32::try_from(socket) else {
         return Ok(None);
     };
-    if length > MOST_BYTES {
+    if length > MOST_ASKED {
         return Ok(None);
     }
     let count = length as usize;

@@ -4,11 +4,7 @@ ghost use Rattle.std.specs.Prelude.{◌≡◌, ◌≤◌, ◌^◌, false, IfSome
 ghost use Rattle.exec_run.specs.Asking.{asks_of_range, CanAsk, IsFilePart, IsRangeOf};
 
 use exec_machine::config::ScriptWord;
-
-/// Where the last range begins.
-const LAST_OFFSET: u64 = 1 << 62;
-/// The most bytes of a range.
-const MOST_BYTES: u64 = 1_048_576;
+use exec_text::limits::{LAST_OFFSET, MOST_ASKED};
 
 /// A range of a file.
 #[derive(Clone, Copy)]
@@ -71,7 +67,7 @@ fn range_at(file: usize, offset: u64, length: u64) -> Option<FileRange>
     ensures none { IfNone result (IsFilePart file offset length → ⊥) }
 {
     let file = u32::try_from(file).ok()?;
-    if offset > LAST_OFFSET || length > MOST_BYTES {
+    if offset > LAST_OFFSET || length > MOST_ASKED {
         return None;
     }
     Some(FileRange {

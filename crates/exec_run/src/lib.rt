@@ -22,5 +22,5 @@ mod trace_error;
 mod writing;
 
 pub use complaint::Complaint;
-pub use running::{run, run_trace};
+pub use running::{NO_MEMORY, run, run_trace};
 pub use trace_error::TraceError;

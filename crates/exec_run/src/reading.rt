@@ -19,7 +19,7 @@ use exec_text::{ReadError, read_trace, total_steps};
 use std::alloc::Global;
 
 /// The most bytes that a text may have.
-const MOST_BYTES: usize = 67_108_864;
+const MOST_TEXT: usize = 67_108_864;
 /// The most bytes that one call reads.
 const PIECE: usize = 4096;
 
@@ -56,8 +56,8 @@ pub fn read_all<I: Input>(alloc: Global, source: &mut I) -> Result<Vec<u8>, Trac
 {
     let mut buffer = [0; PIECE];
     let mut text = Vec::new(alloc);
-    'pieces: while text.len() <= MOST_BYTES {
-        let room = (MOST_BYTES + 1 - text.len()).min(PIECE);
+    'pieces: while text.len() <= MOST_TEXT {
+        let room = (MOST_TEXT + 1 - text.len()).min(PIECE);
         let count = read_piece(source, &mut buffer[..room], &mut text)?;
         if count == 0 {
             return Ok(text);

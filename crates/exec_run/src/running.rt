@@ -21,8 +21,8 @@ use std::alloc::Global;
 
 /// The status where the sink fails.
 const WRITE_FAULT: u8 = 6;
-/// The status where there is no memory.
-const NO_MEMORY: u8 = 7;
+/// The status where there is no memory, also for what the program needs besides.
+pub const NO_MEMORY: u8 = 7;
 
 /// Reads a trace from the source, runs it, and gives its log to the sink, line by line. A quiet log is the same
 /// without the lines whose event is `turn`, `serve`, `enter` or `busy`.
@@ -103,6 +103,8 @@ pub fn run<I: Input, O: Output>(alloc: Global, words: &[String], source: &mut I,
         (O.passed sink.new) (O.faults sink.old) (O.faults sink.new) }
     // The source was read to its end.
     ensures to_end { result ≡ 0 → IfSome (I.left source.old) (λ _. I.left source.new ≡ Some []) }
+    // For words that ask for no trace it isn't read.
+    ensures unread { (AskForSomeTrace words.now → ⊥) → source.new ≡ source.old }
 {
     let Some(quiet) = asked_quiet(words) else {
         return complain(sink, Complaint::Usage);

@@ -1,5 +1,5 @@
 -- A result lands: what its request and its kernel's store must be, and what becomes of them.
-use Rattle.std.{proofs.{Common.{◌≡◌, ℕ, ◌+◌, ◌-◌, ◌≤◌, ◌==◌, ◌&&◌, Bool, true, false, List, length, Some, None, Option, refl, sym, ap, subst, ◌∙◌, arith, slice_get, if◌then◌else◌}, lemmas.{Bool.{eq-eqb}}}, specs.{BTreeMap.get, Ordering.nat_cmp}}
+use Rattle.std.{proofs.{Common.{◌≡◌, ℕ, ◌+◌, ◌≤◌, ◌==◌, ◌&&◌, Bool, true, false, List, length, Some, None, Option, refl, sym, ap, subst, ◌∙◌, arith, slice_get, if◌then◌else◌}, lemmas.{Bool.{eq-eqb}}}, specs.{BTreeMap.get, Ordering.nat_cmp}}
 use Rattle.exec_outcomes.specs.{Lawful.{is_lawful, window_of}, Outcomes.{bytes_of}, declared.outcome.{OpResult.{OpResult, TheVariants.{Count, Errno}}, Kind.Kind}}
 use Rattle.exec_request.specs.{Buffers.{batch_of}, Kept.{seen_by}, Requests.{asked_of, cursor_of, deadline_of, hinted_of, target_of, window_by}, Syncing.{is_syncing}, Views.{write_window}, Ways.{asked_by}, Windows.most_of, declared.{request.Request.Request as Asking, way.Way.Way}}
 use Rattle.exec_ring.specs.{Fillings.Fills, Kernels.{flight_of, may_land}, Landings.{IsReady, IsReadyFor, Moves, MovesBytes}, Rings.{RingState}, Stores.{CoversIn, HasStretch, socket_of}, declared.{completion.{Submission.Submission}, file.File.File, store.Store.Store}}

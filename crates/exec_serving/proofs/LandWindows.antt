@@ -1,5 +1,5 @@
 -- The results that the machine allows for a request are those that its kernel may give.
-use Rattle.std.{proofs.{Common.{◌≡◌, ℕ, ◌-◌, ◌^◌, ◌≤◌, ◌==◌, Bool, true, min, length, refl, arith, nat_le}, lemmas.{Bool.{and_parts, Decides.nat_tests}}}}
+use Rattle.std.{proofs.{Common.{◌≡◌, ℕ, ◌-◌, ◌^◌, ◌≤◌, ◌==◌, Bool, true, min, refl, arith, nat_le}, lemmas.{Bool.{and_parts, Decides.nat_tests}}}}
 use Rattle.exec_outcomes.specs.{Lawful.{is_lawful, window_of}, Outcomes.{bytes_of}, declared.outcome.{OpResult.{OpResult, TheVariants.{Count, Errno}}, Kind.Kind}}
 use Rattle.exec_request.specs.{Buffers.{batch_of, length_of, moved_of}, Requests.{asked_of, cursor_of, window_by}, Windows.most_of, declared.{buffers.WriteBuffers.{WriteBuffers, TheVariants.{Single, Vectored}}, request.Request.Request as Asking}}
 use Rattle.exec_machine.specs.{declared.state.{Operation.Operation}, Requests.{asked_of as asked_in, cursor_of as cursor_in}}

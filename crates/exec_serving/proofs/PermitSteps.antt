@@ -3,7 +3,6 @@ use Rattle.std.{proofs.{Common.{◌≡◌, ◌≢◌, ℕ, suc, ◌<◌, ◌==�
 use Rattle.exec_base.specs.Slab.{value_at, written}
 use Rattle.exec_outcomes.specs.{Accounts.{is_durable, outcome_at_grant}, declared.outcome.Outcome.Outcome}
 use Rattle.exec_request.specs.{Requests.{asked_of, outcome_if_granted}, States.as_answer}
-use Rattle.exec_ring.specs.Rings.{completions}
 use Rattle.exec_waiters.{specs.{Events.with_permit, States.{file_of, flying_count}, Told.{Tells, nothing_told}, declared.{waiter.Entry.TheVariants.Pending, waiter_id.WaiterId.WaiterId}}, proofs.Changes.{entry_of, one_if}}
 use Rattle.exec_driver.specs.{Driving.Driving, Lists.{with_queued, without_gated}, Opens.{account_by, account_in}, Punctual.IsPunctual, Steps.{Grants, granted as driver_granted, opens_after_end, told_by_end}, declared.driver.staging.Granted.Granted as Told}
 use Rattle.exec_task.specs.declared.body.Said.{Said}

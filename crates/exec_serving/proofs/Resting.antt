@@ -1,5 +1,5 @@
 -- What the steps of the clock and of peers keep: they change how workers rest, and nothing else that a worker rests on.
-use Rattle.std.proofs.{Common.{◌≡◌, ℕ, zero, suc, ◌*◌, ◌<◌, ◌≤◌, ◌^◌, false, List, [], ◌∷◌, ◌+◌, length, map, get_or, set, Option, None, Some, refl, sym, ap, subst, ◌∙◌, arith, slice_get, slice_set, option_map, IfSome}, lemmas.{List.{length-map, length-set}, Option.{slice_get-map, slice_get-get_or, slice_get_within}}}
+use Rattle.std.proofs.{Common.{◌≡◌, ℕ, zero, suc, ◌*◌, ◌<◌, ◌≤◌, ◌^◌, false, List, [], ◌∷◌, ◌+◌, length, map, get_or, Option, None, Some, refl, sym, ap, subst, ◌∙◌, arith, slice_get, slice_set, option_map, IfSome}, lemmas.{List.{length-map, length-set}, Option.{slice_get-map, slice_get-get_or, slice_get_within}}}
 use Rattle.exec_base.specs.declared.limits.TheConstants.{LAST_MOMENT}
 use Rattle.exec_machine.specs.declared.{config.Configuration.Configuration, state.Rest.Rest}
 use Rattle.exec_moves.specs.declared.{place.{Place.Place}}

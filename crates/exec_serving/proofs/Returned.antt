@@ -3,7 +3,7 @@ use Rattle.std.proofs.{Common.{◌≡◌, ℕ, ◌+◌, ◌-◌, ◌<◌, ◌&&�
 use Rattle.exec_base.specs.Slab.{value_at}
 use Rattle.exec_outcomes.specs.Outcomes.{is_unsupported, refuses_hint}
 use Rattle.exec_request.specs.Requests.{asked_of, hinted_of}
-use Rattle.exec_ring.specs.{Completions.result_in, Rings.completions, declared.completion.Completion.Completion}
+use Rattle.exec_ring.specs.{Completions.result_in, declared.completion.Completion.Completion}
 use Rattle.exec_waiters.{specs.{States.{file_of, flying_count}, Told.{Tells, nothing_told}, declared.{waiter.Entry.TheVariants.Pending, waiter_id.WaiterId.WaiterId}}, proofs.Changes.{entry_of, one_if}}
 use Rattle.exec_driver.specs.{Driving.Driving, Opens.{account_in, with_account}, Punctual.IsPunctual, Steps.open_after}
 use Rattle.exec_task.specs.declared.body.Said.{Said}

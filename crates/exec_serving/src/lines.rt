@@ -20,7 +20,7 @@ use exec_parts::scripted::Scripted;
 use std::alloc::AllocError;
 
 /// The operation of a request of this worker lands with this result, and rouses it. The caller must know that it may
-/// land so.
+/// land so, and that the worker is sound with what all share.
 pub fn land<B: Scripted + Drop>(
     worker: &mut Worker,
     request: usize,
@@ -63,7 +63,7 @@ pub fn land<B: Scripted + Drop>(
     Event::Land
 }
 
-/// The next enter of its ring takes nothing.
+/// The next enter of its ring takes nothing. The caller must know that the worker is sound with what all share.
 pub fn set_busy<B: Drop>(worker: &mut Worker, shared: &Shared<B>) -> Event
     requires sound { Sound worker.old shared.now }
     ensures event { result ≡ Event.Set }
@@ -79,7 +79,8 @@ pub fn set_busy<B: Drop>(worker: &mut Worker, shared: &Shared<B>) -> Event
     Event::Set
 }
 
-/// The next wake completion of its ring ends its wake poll.
+/// The next wake completion of its ring ends its wake poll. The caller must know that the worker is sound with what all
+/// share.
 pub fn end_poll<B: Scripted + Drop>(worker: &mut Worker, shared: &mut Shared<B>) -> Event
     requires sound { Sound worker.old shared.old }
     ensures event { result ≡ Event.Set }

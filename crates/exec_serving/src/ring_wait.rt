@@ -10,7 +10,8 @@ use exec_parts::parts::shared::Shared;
 use exec_parts::parts::worker::Worker;
 use exec_parts::scripted::Scripted;
 
-/// Takes the next step of a wait on the ring.
+/// Takes the next step of a wait on the ring. The caller must know that the worker is at this place and sound with what
+/// all share.
 pub fn wait_on_ring<B: Scripted + Drop>(
     worker: &mut Worker,
     at: InRingWait,

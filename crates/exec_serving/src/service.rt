@@ -11,7 +11,8 @@ use exec_parts::parts::shared::Shared;
 use exec_parts::parts::worker::Worker;
 use exec_parts::scripted::Scripted;
 
-/// Takes the next step of a service.
+/// Takes the next step of a service. The caller must know that the worker is at this place and sound with what all
+/// share, and that the balances of all parties hold.
 pub fn service<B: Scripted + Drop>(
     worker: &mut Worker,
     at: InService,

@@ -7,7 +7,6 @@ use Rattle.exec_machine.specs.{declared.{config.Configuration.Configuration, eve
 use Rattle.exec_machine.specs.declared.event.Event.TheVariants as event
 use Rattle.exec_machine.specs.declared.state.Forwarding.TheVariants as forwarding
 use Rattle.exec_machine.specs.declared.state.MailMessage.TheVariants as message
-use Rattle.exec_machine.specs.declared.state.RequestPhase.TheVariants as phase
 use Rattle.exec_machine.specs.declared.state.Waiting.TheVariants as waiting
 use Rattle.exec_moves.specs.Poll.{is_noted}
 use Rattle.exec_rest.proofs.CallHeeds.{set_at}

@@ -10,7 +10,6 @@ use Rattle.exec_moves.specs.{Submit.{Due, Due.{AtGate, Enrols, Expires}, after_g
 use Rattle.exec_machine.specs.{declared.event.Event.TheVariants.Grant, Choice.Choice.Plain as Open, Deadlines.{enrolled, expired, fires_at, outcome_at_enrol, outcome_at_expiry}}
 use Rattle.exec_rest.proofs.Asides.{put_same}
 use Rattle.exec_moves.specs.declared.place.AfterPermit.TheVariants as permit
-use Rattle.exec_moves.specs.declared.place.AfterService.TheVariants as back
 use Rattle.exec_moves.specs.declared.place.InService.TheVariants as step
 use Rattle.exec_moves.specs.declared.place.Place.TheVariants as at
 use Rattle.exec_settled.specs.{Given.passes_at, Permits.{is_past, is_past_in, is_past_permit, is_past_reaping}}

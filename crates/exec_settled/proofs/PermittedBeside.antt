@@ -4,7 +4,6 @@ use Rattle.std.proofs.Common.{◌≡◌, ℕ, zero, suc, Bool, true, false, List
 use Rattle.std.proofs.lemmas.Bool.{false≢true}
 use Rattle.exec_outcomes.specs.declared.outcome.OpResult.{OpResult}
 use Rattle.exec_machine.specs.{declared.{config.Configuration.Configuration, event.Event.Event, state.{Request.Request}, step.Action.Action}, Callers.{after_going_on, after_wake_by_call}, Choice.Choice, Tests.{is_gated}, World.{Common, no_request, request_of, seat_of, task_of}}
-use Rattle.exec_machine.specs.declared.event.Event.TheVariants as event
 use Rattle.exec_machine.specs.declared.state.RequestPhase.TheVariants as phase
 use Rattle.exec_machine.specs.declared.step.Action.TheVariants as action
 use Rattle.exec_moves.specs.{declared.handing.{CallPlace.CallPlace}, Call.{CallDesk, no_call}, MoveOfCaller.{call_on, call_wake}, Plays.{Playing, by_action, caller_of}, State.{Things, word_of}}

@@ -1,7 +1,6 @@
 -- No step leaves a permit with who sleeps.
 use Rattle.std.proofs.Common.{◌≡◌, ℕ, ◌<◌, Bool, true, false, length, refl, sym, ap, ◌∙◌, subst, if◌then◌else◌, arith}
 use Rattle.std.proofs.lemmas.{Bool.{true≢false, and_parts, cases_lt, not-true}, List.get_or_past}
-use Rattle.std.specs.Prelude.{not}
 use Rattle.exec_machine.specs.{declared.{config.Configuration.Configuration, step.Action.Action}, Callers.{is_enabled}, Examples.refuses, Progress.Plan, Run.Follows, World.{Common, Own as Books, own_of}}
 use Rattle.exec_machine.specs.declared.step.Action.TheVariants as action
 use Rattle.exec_moves.specs.{declared.place.{InPoll.InPoll, Place.Place}, Move.{move, move_at}, Plays.{Playing, by_action, by_step, desk_of, first_playing}, State.{Desk, Moved, Things}}

@@ -4,7 +4,6 @@ use Rattle.std.proofs.lemmas.{Bool.{true≢false, false≢true, and_parts, cases
 use Rattle.std.specs.Prelude.{◌⊎◌, drop, not, slice_get}
 use Rattle.exec_outcomes.specs.Accounts.{is_durable}
 use Rattle.exec_machine.specs.{declared.{config.Configuration.Configuration}, Tests.{is_gated, is_open, is_resolved}, World.{Common, open_of, request_of, seat_of}}
-use Rattle.exec_machine.specs.declared.state.RequestPhase.TheVariants as phase
 use Rattle.exec_moves.specs.{declared.place.{InPoll.InPoll, Place.Place}, Plays.{Playing, by_move, desk_of}, State.{Desk, Moved, Things, gate_of}}
 use Rattle.exec_books.specs.Booked.{IsBooked}
 use Rattle.exec_rest.specs.Rested.{IsLaidOut, is_latched, place_at}

@@ -5,7 +5,6 @@ use Rattle.std.proofs.lemmas.List.{get_or_past, Sums.sum_by-cons}
 use Rattle.std.specs.Prelude.{nat_le}
 use Rattle.std.specs.List.{list_any}
 use Rattle.exec_machine.specs.{declared.{config.Configuration.Configuration, state.{Request.Request, RequestPhase.RequestPhase}}, Deadlines.{earlier, first_timer, first_until, is_after}, Progress.{all_asleep, is_cancel_untold, is_sleeper_unfinished}, Tests.{has_ended, is_gated, is_in_flight, is_landed, is_open, is_queued, is_resolved, is_staged}, World.{Common, no_request, own_of, request_of, seat_of, sleeper_of}}
-use Rattle.exec_machine.specs.declared.state.RequestPhase.TheVariants as phase
 use Rattle.exec_moves.specs.{declared.{handing.{AfterCallbacks.AfterCallbacks, Heard.Heard}, place.{InCallbacks.InCallbacks, InPoll.InPoll, Place.Place}}, Plays.{Playing, desk_of, first_desk}, State.Desk}
 use Rattle.exec_books.specs.Listed.{is_in}
 use Rattle.exec_settled.proofs.Undone.{after_earlier, none_slept, false_from_ne_true}
@@ -47,7 +46,7 @@ abbrev count_one : ℕ → Request → ℕ
 count_one i r = cond ((r.worker == i) && not r.released) 1 0
 
 -- where none of a worker's is not released each is
-all_released : (i : ℕ) (rs : List Request) → unreleased_of i rs ≡ 0 → (k : ℕ) → (get_or rs k no_request).worker ≡ i → (get_or rs k no_request).released ≡ true
+pub all_released : (i : ℕ) (rs : List Request) → unreleased_of i rs ≡ 0 → (k : ℕ) → (get_or rs k no_request).worker ≡ i → (get_or rs k no_request).released ≡ true
 all_released i [] h k own = refl
 all_released i (r ∷ rs) h zero own = by r.released refl
   where

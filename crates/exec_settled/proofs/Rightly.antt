@@ -8,7 +8,6 @@ use Rattle.exec_machine.specs.{declared.{config.Configuration.Configuration, sta
 use Rattle.exec_machine.specs.declared.state.Forwarding.TheVariants as forwarding
 use Rattle.exec_machine.specs.declared.state.MailMessage.TheVariants as message
 use Rattle.exec_machine.specs.declared.state.Waiting.TheVariants as waiting
-use Rattle.exec_machine.specs.declared.state.WorkerPhase.TheVariants as worker
 use Rattle.exec_moves.specs.{declared.{handing.Heard.Heard, place.Place.Place}, Plays.{Playing, desk_of}, Poll.is_noted, Told.has_number}
 use Rattle.exec_books.specs.Listed.{is_in}
 use Rattle.exec_settled.proofs.Undone.{eight, enroll_case, none_due, not_all, false_from_ne_true}

@@ -6,8 +6,6 @@ use Rattle.std.specs.Prelude.{nat_lt, not}
 use Rattle.std.specs.List.{list_any}
 use Rattle.exec_machine.specs.{declared.{config.Configuration.Configuration, event.Event.Event, state.{Next.Next, Request.Request, RequestPhase.RequestPhase}}, After.common_after, Choice.{Choice, Payer, Choice.{Passes, Pays, Plain, Posts}, Payer.{ByAct, ByCall, ByRequest, BySleeper, ByStop}}, Closing.after_next, Requests.flown, Tasks.after_payment, Tests.{is_flying, is_resolved, is_staged}, World.{Common, Own as Books, no_request, request_of}}
 use Rattle.exec_machine.specs.declared.event.Event.TheVariants as event
-use Rattle.exec_machine.specs.declared.state.Next.TheVariants as next
-use Rattle.exec_machine.specs.declared.state.RequestPhase.TheVariants as phase
 use Rattle.exec_moves.specs.Callback.{has_requests}
 use Rattle.exec_books.proofs.Own.{IsOwn}
 use Rattle.exec_settled.specs.Settled.{HasEntered}

@@ -4,7 +4,6 @@ use Rattle.std.proofs.lemmas.Bool.{false≢true, and_parts}
 use Rattle.std.specs.Prelude.{not}
 use Rattle.exec_outcomes.specs.{Lawful.{is_lawful, window_of}}
 use Rattle.exec_machine.specs.{declared.{config.Configuration.Configuration, event.Event.Event, state.Rest.TheVariants.Awake, step.Action.Action}, Callers.{after_going_on, after_wake_by_call, is_enabled}, Choice.Choice, Deadlines.roused_at, Requests.{asked_of, cursor_of}, Tests.{is_awake, is_flying}, World.{Common, Seat, no_own, no_request, no_seat, own_of, request_of, seat_of, task_of}}
-use Rattle.exec_machine.specs.declared.event.Event.TheVariants as event
 use Rattle.exec_machine.specs.declared.state.RequestPhase.TheVariants as phase
 use Rattle.exec_machine.specs.declared.step.Action.TheVariants as action
 use Rattle.exec_moves.specs.{MoveOfCaller.{call_on, call_wake}, Plays.{Playing, by_action, caller_of, desk_of}}

@@ -1,7 +1,6 @@
 -- Polls, claims, withdrawals and messages lead neither to a wait on the ring of a worker that closes nor to its end.
 use Rattle.std.proofs.Common.{◌≡◌, ℕ, Bool, false, Option, if◌then◌else◌, arith}
 use Rattle.exec_machine.specs.{declared.{config.{Configuration.Configuration, ScriptWord.ScriptWord}, state.{MailMessage.MailMessage, Operation.Operation, RequestPhase.RequestPhase, Waiting.Waiting}}, Choice.Choice.Plain, Requests.operation_asked, World.{Common, Task, request_of, Own as Books}, Words.{next_word}}
-use Rattle.exec_machine.specs.declared.state.RequestPhase.TheVariants as phase
 use Rattle.exec_machine.specs.declared.state.Waiting.TheVariants as waiting
 use Rattle.exec_moves.specs.declared.handing.{AfterClaim.AfterClaim, AfterSend.AfterSend}
 use Rattle.exec_moves.specs.declared.place.{InPoll.InPoll}

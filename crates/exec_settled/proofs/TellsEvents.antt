@@ -7,7 +7,6 @@ use Rattle.exec_machine.specs.{After.{common_after, polled}, Choice.{Choice, Pay
 use Rattle.exec_outcomes.specs.{declared.outcome.{OpResult.OpResult}, Outcomes.refuses_hint}
 use Rattle.exec_machine.specs.declared.event.Event.TheVariants as event
 use Rattle.exec_machine.specs.declared.state.MailMessage.TheVariants as message
-use Rattle.exec_machine.specs.declared.state.RequestPhase.TheVariants as phase
 use Rattle.exec_machine.specs.declared.state.Waiting.TheVariants as waiting
 use Rattle.exec_books.proofs.Spares.{dropped_worker}
 

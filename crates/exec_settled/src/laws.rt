@@ -1,6 +1,7 @@
 //! The laws of what is settled, for every state of an executor.
 
-ghost use Rattle.exec_machine.specs.{declared.{config.Configuration.Configuration, step.Action.Action}, Progress.{IsRightlyAsleep, Plan}, Run.Follows};
+ghost use Rattle.std.specs.Prelude.{◌≡◌, ℕ, true};
+ghost use Rattle.exec_machine.specs.{declared.{config.Configuration.Configuration, step.Action.Action}, Progress.{IsRightlyAsleep, Plan}, Run.Follows, Tests.{has_ended, is_resolved}, World.{World, request_of, seat_of}};
 ghost use Rattle.exec_moves.specs.Plays.{Playing, by_step, first_playing};
 ghost use Rattle.exec_books.specs.Booked.{IsBooked};
 ghost use Rattle.exec_rest.specs.{AtRest.{IsPlaced, RestsWell}, Rested.IsRestful};
@@ -25,4 +26,10 @@ pub fn what_is_settled_stays_so()
 pub fn nothing_is_unfinished_where_all_sleep()
     ensures asleep { (c : Configuration) (x : Playing) → IsPlaced c x → IsGiven c x → IsRestful c x → RestsWell c x → IsBooked x.world →
         IsSettled c x → IsPermitted c x → IsAwaited c x → IsRightlyAsleep c x.world }
+{}
+
+/// A worker that has ended has let go of all its requests: each is over and released.
+pub fn who_has_ended_has_let_go()
+    ensures ended { (w : World) → IsBooked w → (i k : ℕ) → has_ended (seat_of w.common i).phase ≡ true → (request_of w.common k).worker ≡ i →
+        (is_resolved (request_of w.common k).phase ≡ true) × ((request_of w.common k).released ≡ true) }
 {}

@@ -44,7 +44,8 @@ impl Drain {
         self.at
     }
 
-    /// Goes on to the next of `count` shards, since this one was found empty.
+    /// Goes on to the next of `count` shards, since this one was found empty. The caller must know that the drain isn't
+    /// over, and that its place is below the count.
     pub fn pass(&mut self, count: usize)
         requires more { 0 < self.old.left }
         requires there { self.old.at < count }
@@ -54,8 +55,8 @@ impl Drain {
         self.at = next_shard(self.at, count);
     }
 
-    /// One visit of the shard at which it stands: takes its newest task, or finds it empty and goes
-    /// on to the next. The drain must be one of this set, and not over.
+    /// One visit of the shard at which it stands: takes its newest task, or finds it empty and goes on to the next. The
+    /// caller must know that the drain is one of this set, and not over.
     #[tactic(auto, using(crate::proofs::Rounds::to_come_taken, crate::proofs::Rounds::to_come_passed))]
     pub fn visit<T>(&mut self, tasks: &mut Tasks<T>) -> Option<(TaskNo, T)>
         requires its { IsFor self.old tasks.old }
@@ -76,7 +77,7 @@ impl Drain {
         found
     }
 
-    /// The next task, with its number. None where none is left. The drain must be one of this set.
+    /// The next task, with its number. None where none is left. The caller must know that the drain is one of this set.
     pub fn next<T>(&mut self, tasks: &mut Tasks<T>) -> Option<(TaskNo, T)>
     where
         T: Drop,

@@ -161,10 +161,10 @@ fn run<B: Body + Drop, C: TaskCell<B>, W: Carrier<B, C>>(
 impl Runnable {
     /// Polls its task once: begins the poll, steps the body and carries out its acts until the poll ends, and ends it.
     /// `owner` is the identity of the task set (`Tasks::id`), `cell` the task, and `worker` is who polls: what the body
-    /// sees, and how its acts are carried out. The runnable must be that of this task, which must belong to this set. A
-    /// stale one is discarded. It takes no memory but for the body's acts; a body that gets none for an act is told so
-    /// by `Refused(NoMemory)`. A poll ends after at most 2^64 - 1 steps of its body; the task is then ended as if it
-    /// had been cleared.
+    /// sees, and how its acts are carried out. The caller must have the runnable of this task, which belongs to this
+    /// set. A stale one is discarded. It takes no memory but for the body's acts; a body that gets none for an act is
+    /// told so by `Refused(NoMemory)`. A poll ends after at most 2^64 - 1 steps of its body; the task is then ended as
+    /// if it had been cleared.
     pub fn poll<B: Body + Drop, C: TaskCell<B>, W: Carrier<B, C>>(
         self,
         alloc: Global,

@@ -75,8 +75,8 @@ impl<T> Shard<T> {
         }
     }
 
-    /// Holds this of the task of this number, which it must not hold. Gives it back where there is
-    /// no memory, and then nothing changes.
+    /// Holds this of the task of this number. Gives it back where there is no memory, and then nothing changes. The
+    /// caller must know that it holds nothing of that task.
     pub fn put(&mut self, _alloc: Global, number: TaskNo, task: T) -> Result<(), T>
     where
         T: Drop,
@@ -124,7 +124,8 @@ impl<T> Shard<T> {
 
 #[tactic(auto, using(crate::proofs::Maps::changes, crate::proofs::Maps::home_after, crate::proofs::Maps::home_at_first, crate::proofs::Maps::takes_newest))]
 impl<T> Tasks<T> {
-    /// An open set for a pool of so many workers: the next power of two of them, times 4, shards.
+    /// An open set for a pool of so many workers: the next power of two of them, times 4, shards. The caller must have
+    /// some workers, and at most 2^32.
     pub fn new(alloc: Global, workers: usize) -> Result<Self, AllocError>
         requires some { 0 < workers }
         requires few { workers ≤ 2 ^ 32 }
@@ -136,7 +137,7 @@ impl<T> Tasks<T> {
         Self::with_shards(alloc, workers.next_power_of_two() * SHARDS_PER_WORKER)
     }
 
-    /// An open set with so many shards, at least one.
+    /// An open set with so many shards. The caller must have one at least.
     pub fn with_shards(alloc: Global, count: usize) -> Result<Self, AllocError>
         requires { 0 < count }
         ensures { IfOk result (λ s. s ≡ record { shards = replicate count []; closed = false; id = 1 }) }
@@ -222,8 +223,8 @@ impl<T> Tasks<T> {
         Ok(())
     }
 
-    /// Holds this of the task of this number, which the set must not hold. Gives it back where the
-    /// set is closed, or where there is no memory.
+    /// Holds this of the task of this number. Gives it back where the set is closed, or where there is no memory; then
+    /// nothing changes. The caller must know that the set holds nothing of that task.
     pub fn insert(&mut self, alloc: Global, number: TaskNo, task: T) -> Result<(), Refusal<T>>
     where
         T: Drop,
@@ -243,8 +244,8 @@ impl<T> Tasks<T> {
             .map_err(Refusal::NoMemory)
     }
 
-    /// Takes out what is held of the task of this number. None only where the set is closed and
-    /// doesn't hold it, and then nothing changes: a drain took it before. An open set must hold it.
+    /// Takes out what is held of the task of this number. None only where the set is closed and doesn't hold it, and
+    /// then nothing changes: a drain took it before. The caller must know that an open set holds it.
     pub fn remove(&mut self, number: TaskNo) -> Option<T>
         requires { (self.old.closed ≡ true) ⊎ IsSome (held self.old number) }
         ensures task { result ≡ held self.old number }
@@ -265,7 +266,8 @@ impl<T> Tasks<T> {
         self.shards.len()
     }
 
-    /// Takes the newest task out of this shard, with its number. None where the shard is empty.
+    /// Takes the newest task out of this shard, with its number. None where the shard is empty. The caller must know
+    /// that there is such a shard.
     pub fn take_newest(&mut self, shard: usize) -> Option<(TaskNo, T)>
         requires { shard < length self.old.shards }
         ensures taken { IfSome result (λ t. TakesNewest shard t self.old self.new) }
@@ -275,8 +277,8 @@ impl<T> Tasks<T> {
         self.shards[shard].take_newest()
     }
 
-    /// A drain of the set, which goes round all shards, from the one at four times the worker's
-    /// number on. The set must be closed.
+    /// A drain of the set, which goes round all shards, from the one at four times the worker's number on. The caller
+    /// must know that the set is closed.
     pub fn drain(&self, worker: u32) -> Drain
         requires { self.now.closed ≡ true }
         ensures first { result ≡ drain_of self.now worker }

@@ -5,7 +5,6 @@ use Rattle.std.proofs.lemmas.Bool.{false≢true}
 use Rattle.std.proofs.lemmas.List.{flat_map_more}
 use Rattle.std.proofs.lemmas.List.Elements.{All-push}
 use Rattle.exec_machine.specs.declared.config.{Configuration.Configuration, ScriptWord.ScriptWord}
-use Rattle.exec_machine.specs.declared.config.ScriptWord.TheVariants as word
 use Rattle.exec_text.specs.{Grammar.{HeaderFits, text_of_word, text_of_words, WordFits}, Reading.{IsCut, NoSpace, IsField, IsWord, name_of, numbers_of, names_within, AllRight, IsLineOf}}
 use Rattle.exec_text.proofs.{Fields.field_same, Numbers.spaced_same, Spelling.{word_is, word_named, same_count, name_clean, numbers_small, IsFront, front_same}}
 

@@ -3,12 +3,8 @@
 ghost use Rattle.std.specs.Prelude.{◌≡◌, ◌<◌, ◌≤◌, ◌^◌, IfSome, IfNone};
 ghost use Rattle.exec_text.specs.Reading.{names_within};
 
+use crate::limits::{LAST_OFFSET, MOST_ASKED};
 use exec_machine::config::ScriptWord;
-
-/// The last offset in a file.
-const LAST_OFFSET: u64 = 1 << 62;
-/// The most bytes that one word asks for.
-const MOST_BYTES: u64 = 1048576;
 
 /// The number, as that of one of so many.
 pub(crate) fn place_among(number: u64, count: usize) -> Option<usize>
@@ -42,7 +38,7 @@ pub(crate) fn length_of(number: u64) -> Option<u64>
     ensures most { IfSome result (λ length. length ≤ 1048576) }
     ensures none { IfNone result (0 < number → 1048576 < number) }
 {
-    if number == 0 || number > MOST_BYTES {
+    if number == 0 || number > MOST_ASKED {
         return None;
     }
     Some(number)

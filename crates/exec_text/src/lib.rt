@@ -13,6 +13,7 @@ mod bounds;
 mod field;
 mod header;
 mod kept;
+pub mod limits;
 mod line;
 mod number;
 mod read;

@@ -14,11 +14,10 @@ use crate::trace::Trace;
 use exec_machine::step::Step;
 use std::alloc::Global;
 
-/// The trace that the text spells.
+/// The trace that the text spells. `Syntax` comes just where the text is none, and names the first line at which it is
+/// none; `NoMemory` comes only where it is one.
 pub fn read_trace(alloc: Global, text: &[u8]) -> Result<Trace, ReadError>
-    // What is read is what the text spells.
     ensures ok { IfOk result (λ t. IsTraceOf text.now (meaning_of t)) }
-    // A syntax error names the first line at which the text is no trace, and memory is wanted only of a trace.
     ensures unread { IfErr result (λ e. IsUnread e text.now) }
 {
     let mut lines = Lines::new(text);

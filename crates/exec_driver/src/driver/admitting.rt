@@ -29,7 +29,8 @@ impl<R: Ring + Drop, S: Drop, F: Drop> Driver<R, S, F> {
     ///
     /// `Full` comes only where no request can be named any more, `NoMemory` only where there is no memory; the request
     /// and who waits for it come back then, and nothing changes. The ring keeps few places that requests left which are
-    /// over, however many there were. The caller must have a sync where its outcome alone is to be sent. Ports `admit`.
+    /// over, however many there were. The caller must have a sync where its outcome alone is to be sent, and for a
+    /// durable request an open of its number: no other ever gives it the permit. Ports `admit`.
     pub fn admit(
         &mut self,
         alloc: Global,
@@ -80,8 +81,9 @@ impl<R: Ring + Drop, S: Drop, F: Drop> Driver<R, S, F> {
         }
     }
 
-    /// A durable request that was admitted joins the line of its open. The caller must do so once after `admit`, which
-    /// made a place for it, as `may_join` says. Nothing changes for any other request.
+    /// A durable request that was admitted joins the line of its open. The caller must join it once: `admit` made one
+    /// place for it, as `may_join` says. The caller must also have an open of that number, since nothing changes where
+    /// there is none, and the request waits for good. Nothing changes for any other request.
     pub fn join(&self, worker: u32, id: WaiterId, opens: &mut Opens)
         requires made { IfSome (open_named opens.old (gate_in (request_at (seen self.now) id))) (λ o. 0 < o.coming) }
         ensures { opens.new ≡ with_named opens.old (gate_in (request_at (seen self.now) id)) (joined (record { worker = worker; id = id })) }

@@ -37,11 +37,12 @@ impl<R: Ring + Drop, S: Drop, F: Drop> Driver<R, S, F> {
     ghost use Rattle.exec_waiters.specs.declared.waiter.Waiter.{Waiter as Asking};
 
     /// Takes the next completion of an operation in, with what stands before it and after it that is none of an
-    /// operation's: wakes, and acknowledgements of cancels. None where there is none of an operation. A request that
-    /// goes on joins the end of what is queued. The caller must lend the opens, and have made room in what is to be
-    /// told.
+    /// operation's: wakes, and acknowledgements of cancels. A request that goes on joins the end of what is queued. The
+    /// caller must lend the opens, and have made room in what is to be told.
     ///
-    /// Afterwards another is there just where `has_completion` says so.
+    /// None where there is none of an operation; and also where the next one names no request whose operation is under
+    /// way, or says what that operation could not give: it is taken out then, and no request changes. So who takes all
+    /// in goes on while `has_completion` says that another is there.
     pub fn reap(&mut self, opens: &mut Opens, deferred: &mut Deferred<S, F>) -> Option<Reaped>
         requires room { HasPlaces deferred.old 1 }
         ensures reaps { ReapsNext (seen self.old) (seen self.new) opens.old opens.new deferred.old deferred.new result }

@@ -3,7 +3,7 @@
 ghost use Rattle.std.specs.Prelude.{◌≡◌, ◌<◌, not, ◌||◌, Some, None, IfSome, IfNone, true, false, if◌then◌else◌};
 ghost use Rattle.exec_ring.specs.Kernels.{answer_of_enter, MayAllLand, all_taken};
 ghost use Rattle.exec_waiters.specs.{States.{file_of}, Told.{HasPlaces}};
-ghost use Rattle.exec_driver.specs.{Opens.{account_in, holder_at}, Driving.{seen, request_at, is_full, may_stage_one}, Lists.{has_first, first_of}, Punctual.IsPunctual, Placed.ListsRequests, Sharing.FliesPermitted, Steps.{lowest_gate, lower, granted, is_turn_of, Grants, cancel_staged, StagesOne, poll_staged, entered, with_landings}};
+ghost use Rattle.exec_driver.specs.{Opens.{account_in, holder_at}, Driving.{seen, request_at, is_full, may_stage_one}, Lists.{has_first, first_of}, Punctual.IsPunctual, Placed.{ListsRequests, HasDeadlines}, Sharing.FliesPermitted, Steps.{lowest_gate, lower, granted, is_turn_of, Grants, cancel_staged, StagesOne, poll_staged, entered, with_landings}};
 
 use super::Driver;
 use crate::opens::{Opens, WaiterKey};
@@ -82,6 +82,14 @@ impl<R: Ring + Drop, S: Drop, F: Drop> Driver<R, S, F> {
     #[tactic(auto, using(crate::proofs::Granting::lists_requests))]
     pub fn lists_requests(&self)
         ensures { ListsRequests (seen self.now) }
+    {
+        let _lists = &self.lists;
+    }
+
+    /// A request whose deadline stands in the wheel has one.
+    #[tactic(auto, using(crate::proofs::Granting::has_deadlines))]
+    pub fn has_deadlines(&self)
+        ensures { HasDeadlines (seen self.now) }
     {
         let _lists = &self.lists;
     }

@@ -13,7 +13,7 @@ ghost use Rattle.std.specs.Prelude.{◌≡◌, ◌<◌, ◌≤◌, ◌&&◌, ◌
 ghost use Rattle.exec_ring.specs.Kernels.{is_quiet};
 ghost use Rattle.exec_time.specs.Wheel.{IsWithinReach};
 ghost use Rattle.exec_waiters.specs.States.{pending_count};
-ghost use Rattle.exec_driver.specs.{Opens.{next_at, with_open, passed}, Driving.{seen, is_full, may_stage_one}, Lists.has_first, Punctual.IsPunctual, Sound.IsSound, Service.{Repeats, ReapsOne, ExpiresOne, EnrolsOne, GrantsAt, GrantsAll, StagesEntry, StagesAll, ServesInOrder, is_unstaged, Parks, reached, entered_if}, Steps.with_landings, Turns.{CanTell, GoesOn, Serves, StaysDone, IsStaged, unstaged, unreaped, may_wait, made_way, must_enter, is_after, PassesTo}};
+ghost use Rattle.exec_driver.specs.{Opens.{next_at, with_open, passed}, Driving.{seen, is_full, may_stage_one}, Lists.has_first, Punctual.IsPunctual, Sound.IsSound, Service.{Repeats, ReapsOne, ExpiresOne, EnrolsOne, GrantsAt, GrantsAll, StagesEntry, StagesAll, ServesInOrder, is_unstaged, Parks, reached, entered_if}, Steps.with_landings, Turns.{CanTell, GoesOn, Serves, StaysDone, IsStaged, unstaged, unreaped, may_wait, made_way, must_enter, is_after, is_calm, is_taken, PassesTo}};
 
 use super::Driver;
 use super::reaping::Reaped;
@@ -74,24 +74,28 @@ impl<R: Ring + Drop, S: Drop, F: Drop> Driver<R, S, F> {
         !self.is_empty() && (!defer || !deferred.is_empty() || self.has_pending_submissions())
     }
 
-    /// Whether a worker that entered its ring may sleep: no completion is there, and its deadline is after `now`.
+    /// Whether a worker that entered its ring may sleep: no completion is there, its deadline is after `now`, and the
+    /// kernel has all that was staged. What a busy kernel left couldn't wake it, so it has to enter again.
     pub fn may_sleep(&self, now: u64, deadline: Option<u64>) -> bool
-        ensures { result ≡ (is_after now deadline && is_quiet (seen self.now).ring) }
+        ensures { result ≡ (is_after now deadline && is_quiet (seen self.now).ring && is_taken (seen self.now)) }
     {
         let later = match deadline {
             Some(deadline) => deadline > now,
             None => true,
         };
-        later && self.ring.is_quiet()
+        later && self.ring.is_quiet() && self.ring.room() == self.limit
     }
 
-    /// Makes ready to wait on the ring, having taken `processed` batches of messages, and enters it. The worker then
-    /// sleeps while `may_sleep` says so. False just where it may not: a submission is pending, the wake poll has no
-    /// room, or the word had a signal or another batch. Ports `park`.
+    /// Makes ready to wait on the ring, having taken `processed` batches of messages, and enters it. Where it answers
+    /// true the word stays armed: the worker sleeps while `may_sleep` says so, and must disarm the word before it goes
+    /// on. False just where it may not wait: a submission is pending, the wake poll has no room, or the word had a signal
+    /// or another batch; then the word isn't armed. The caller must not wait already. Ports `park`.
     pub fn park<A: Armed>(&mut self, processed: u32, word: &mut A) -> bool
-        ensures answer { result ≡ (may_wait (seen self.old) && A.is_calm word.old processed) }
-        ensures parks { Parks (A.is_calm word.old processed) (seen self.old) (seen self.new) }
-        ensures disarmed { A.is_armed word.old ≡ false → A.is_armed word.new ≡ false }
+        requires unarmed { A.is_armed word.old ≡ false }
+        ensures answer { result ≡ (may_wait (seen self.old) && is_calm (A.is_signalled word.old) (A.is_caught_up word.old processed)) }
+        ensures parks { Parks (is_calm (A.is_signalled word.old) (A.is_caught_up word.old processed)) (seen self.old) (seen self.new) }
+        ensures waits { A.is_armed word.new ≡ result }
+        ensures calm { IsTrue result → is_calm (A.is_signalled word.new) (A.is_caught_up word.new processed) ≡ true }
         ensures untouched { may_wait (seen self.old) ≡ false → word.new ≡ word.old }
         ensures armed { IsTrue result → (seen self.new).armed ≡ true }
         ensures entered { IsTrue result → (seen self.old).ring.busy ≡ false → (seen self.new).ring.staged ≡ [] }
@@ -107,12 +111,12 @@ impl<R: Ring + Drop, S: Drop, F: Drop> Driver<R, S, F> {
         }
         let calm = word.arm(processed);
         self.enter_armed(calm, word);
-        word.disarm();
+        disarm_unless(calm, word);
         calm
     }
 
-    // Lets the kernel work, where the word stood calm. The worker waits until then: who sends it something meanwhile must
-    // raise a wake in its ring.
+    // Lets the kernel work, where the word stood calm. The worker waits from before then on: who sends it something
+    // meanwhile must raise a wake in its ring.
     fn enter_armed<A: Armed>(&mut self, calm: bool, word: &A)
         requires armed { A.is_armed word.now ≡ true }
         ensures going { GoesOn (seen self.old) (seen self.new) }
@@ -333,6 +337,17 @@ impl<R: Ring + Drop, S: Drop, F: Drop> Driver<R, S, F> {
         if self.stage_cancel().is_none() {
             self.stage(opens);
         }
+    }
+}
+
+/// The worker waits no more, unless its word stood calm.
+fn disarm_unless<A: Armed>(calm: bool, word: &mut A)
+    requires armed { A.is_armed word.old ≡ true }
+    ensures waits { A.is_armed word.new ≡ calm }
+    ensures same { IsTrue calm → word.new ≡ word.old }
+{
+    if !calm {
+        word.disarm();
     }
 }
 

@@ -109,7 +109,7 @@ impl Backlog for FakePool {
 
     ghost steals = { λ b start moved d. d.bell ≡ b.bell };
 
-    ghost kicks = { λ b d. d.queues ≡ b.queues };
+    ghost kicks = { λ v b w d. d.queues ≡ b.queues };
 
     fn workers(&self) -> usize {
         self.bell.workers

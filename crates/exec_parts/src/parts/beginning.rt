@@ -32,7 +32,7 @@ type OwnDriver = Driver<SimRing, Reply, Reply>;
 impl Worker {
     /// The worker of this number, which begins at this moment, and whose root has this number and is to be polled with
     /// this runnable. An `Err` comes only for want of memory. The caller must have a configuration in its ranges, and a
-    /// number of 32 bits.
+    /// number below 2^32 - 1.
     pub fn begin(
         alloc: Global,
         configuration: &Configuration,

@@ -66,7 +66,8 @@ impl Names {
         self.timers.reserve(1)
     }
 
-    /// The request of this number has this slot now. The caller must have made room for it.
+    /// The request of this number has this slot now. The caller must have made room for it, and know that the slot had
+    /// a number before, or is the next.
     pub fn name_request(&mut self, id: WaiterId, number: usize)
         requires room { HasRequestRoom self.old }
         requires slot { id.0.index ≤ length self.old.requests.items }
@@ -79,7 +80,8 @@ impl Names {
         self.unreleased += 1;
     }
 
-    /// The sleeper of this number has this slot now. The caller must have made room for it.
+    /// The sleeper of this number has this slot now. The caller must have made room for it, and know that the slot had
+    /// a number before, or is the next.
     pub fn name_timer(&mut self, id: TimerId, number: usize)
         requires room { HasTimerRoom self.old }
         requires slot { id.0.index ≤ length self.old.timers.items }
@@ -141,7 +143,8 @@ impl Names {
         }
     }
 
-    /// The request that ended first of those that aren't released, which is so now.
+    /// The request that ended first of those that aren't released, which is so now. The caller must know that all of
+    /// them count as unreleased.
     pub fn release(&mut self) -> Option<usize>
         requires { length self.old.ended.items ≤ self.old.unreleased }
         ensures number { result ≡ slice_get self.old.ended.items 0 }

@@ -110,7 +110,8 @@ impl Record {
         )
     }
 
-    /// Whether the kernel has its operation, and may end it with this result.
+    /// Whether the kernel has its operation, and may end it with this result. The caller must know that the bytes of a
+    /// direct read, rounded up to whole pages, can be counted.
     pub fn may_land(&self, given: OpResult) -> bool
         requires bytes { IsCountable self.now.shown.operation }
         ensures { result ≡ (is_flying self.now.shown.phase && is_lawful (window_of (asked_in self.now.shown.operation) (cursor_in self.now.shown.operation)) given) }
@@ -233,7 +234,8 @@ impl Record {
         !matches!(self.shown.forwarding, Forwarding::Unsent)
     }
 
-    /// A result of it was judged, and what it gives.
+    /// A result of it was judged, and what it gives. The caller must know that the bytes that it has moved then, and
+    /// the bytes of a direct read, rounded up to whole pages, can be counted.
     pub fn judge(&mut self, given: OpResult, outcome: Option<Outcome>)
         requires lawful { bytes_of given + self.old.shown.operation.moved < 2 ^ 64 }
         requires bytes { IsCountable self.old.shown.operation }
@@ -247,7 +249,8 @@ impl Record {
     }
 }
 
-/// What a request asks for, as its record has it. The caller must know that the range of a direct read ends below 2^64.
+/// What a request asks for, as its record has it. The caller must know that the range of a direct read begins below
+/// 2^64.
 pub fn operation_of(asked: &Asked) -> Operation
     requires range { IsInRange asked.now }
     ensures { result ≡ operation_in asked.now }

@@ -136,7 +136,8 @@ impl<B: Drop> TaskSlot<B> {
     }
 
     /// Begins a poll by this worker, with the task's runnable. False where the runnable is stale, since the task was
-    /// cleared; then nothing changes. A wake alone is taken by the poll, and what let others go first goes on.
+    /// cleared; then nothing changes. A wake alone is taken by the poll, and what let others go first goes on. The
+    /// caller must have the runnable of this very task.
     pub fn begin(&mut self, runnable: Runnable, worker: usize) -> bool
         requires { runnable ≡ runnable_of self.old.cell }
         ensures answer { result ≡ is_some (queued_body self.old.cell.phase) }
@@ -277,7 +278,8 @@ impl<B: Drop> TaskSlot<B> {
     }
 
     /// Ends a poll that waits. A task that was woken meanwhile is queued again, and its runnable comes back; one that
-    /// was cleared meanwhile is over, and keeps its body, which shows where it stood. The caller must be who polls it.
+    /// was cleared meanwhile is over, and keeps its body, which shows where it stood. The caller must be who polls it,
+    /// and know that the slot has the body, and says as the task does whether it was cleared.
     pub fn pend(&mut self) -> AfterPoll
         requires polled { IsTrue (is_polled self.old.cell.phase) }
         requires body { IsSome self.old.body }
@@ -318,7 +320,7 @@ impl<B: Body + Drop> TaskSlot<B> {
     ghost use Rattle.exec_parts.specs.Polls.{Acts};
 
     /// The next act of the body of a polled task, which hears what it is told. Where the act wants memory and there is
-    /// none, all is as before.
+    /// none, all is as before. The caller must know that the slot has the body, and what that is told.
     pub fn step<A: Around>(&mut self, alloc: Global, around: &mut A) -> Result<Act<B>, AllocError>
         requires told { IsSome self.old.told }
         requires body { IsSome self.old.body }

@@ -131,7 +131,8 @@ impl Worker {
     }
 
     /// The first moment at which a deadline or a sleeper is due, in nanoseconds. A closing worker waits for no sleeper.
-    /// The caller must have told all requests whose deadline has come.
+    /// The caller must have told each request whose deadline has come, and know that any other comes out of the wheel
+    /// at its tick.
     pub fn next_moment(&mut self) -> Option<u64>
         requires told { HasToldDue self.old }
         ensures moment { IsNextMoment self.old result }

@@ -1,4 +1,5 @@
-use Rattle.exec_live_queue.proofs.{Words.{◌≡◌, ℕ, ◌+◌, ◌-◌, ◌∷◌, List, refl, sym, ap, subst, ◌∙◌, arith, le_refl, View, HasLooked, Stands}, Standing.{front_of, taken_of, stands_back, stands_hands}}
+use Rattle.exec_live_queue.proofs.{Words.{◌≡◌, ℕ, ◌+◌, ◌-◌, ◌∷◌, List, sym, ap, subst, ◌∙◌, arith, View, HasLooked, Stands}, Standing.{front_of, taken_of, stands_back, stands_hands}}
+use Rattle.std.proofs.Common.{arith}
 use Rattle.exec_live_queue.proofs.overflow.hand_out.Goals as goal
 
 pub take-value-requires : goal.take-value-requires
@@ -14,8 +15,7 @@ returns-then-left-gt1 g c = let W = c.args.words.now in let S = c.args.seat.now 
       stands = stands_hands W S1 c.args.tail (left - 1) (128 - left + 1) t.0
           (q.stands.0 ∙ sym (ap (λ (v : View g.row.T.Denot). v.own.tail) t.4)) (omega (arith, q.stands.1)) (omega arith)
           (omega (arith, t.2)) t.1;
-      looked = subst (λ (v : View g.row.T.Denot). HasLooked S.me.0.own v.own) (sym t.4)
-          (refl, le_refl S.me.0.own.saw_real);
+      looked = grind arith;
       value = t.3;
     }
 

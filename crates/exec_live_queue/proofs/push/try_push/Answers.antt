@@ -1,5 +1,5 @@
-use Rattle.exec_live_queue.proofs.{Words.{ℕ, ◌<◌, [], ◌∷◌, refl, sym, ap, ◌∙◌, arith, None, hand}, Owners.{took_one, filled_one, to_publish, looks_full, looks, looks_on, laid_seen, overflowed_after, own_tail, newer}}
-use Rattle.std.proofs.Common.{min}
+use Rattle.exec_live_queue.proofs.{Words.{ℕ, [], ◌∷◌, sym, ap, ◌∙◌, arith, None, hand}, Owners.{took_one, filled_one, to_publish, looks_full, overflowed_after, own_tail}}
+use Rattle.std.proofs.Common.{min, arith}
 use Rattle.exec_live_queue.proofs.push.try_push.Goals as goal
 
 pub publish-requires : goal.publish-requires
@@ -11,27 +11,12 @@ publish-requires g c = let q = c.requires in let s = c.take_one-seen in let m = 
     ((e.same.0 ∙ s.ensures.laid.0.0 ∙ q.rests.0.0, q.rests.0.1, q.rests.0.2), p.0, p.1, p.2, omega (arith, q.unspent), c.args.x ∷ [], 0, p.3, p.4, omega (arith, p.5))
 
 pub returns-then-flow_over-seen : goal.returns-then-flow_over-seen
-returns-then-flow_over-seen g c = let q = c.requires in let s = c.take_one-seen in let m = c.args.seat.now.me in let m1 = s.new.seat.me in let f = c.flow_over in let m2 = f.new.seat.me in
-    let k = looks_full m m1 s.result q.rests.1 s.ensures.laid.1 (omega (arith, c.requires.tail, c.real_of.ensures, c.gap_of-gap.ensures)) in let t = own_tail m.0.own m1.0.own k.1 in
-    let missed = f.ensures.1.1 c.if-flow_over-seen.true in let j = looks m1 m2 f.result k.0 missed in let seen = laid_seen (λ room. 0) m1 m2 f.result missed in
-    let later : m1.0.own.saw_real < m2.0.own.saw_real = newer m1.0.own m2.0.own s.result f.result s.ensures.seen seen missed.0 c.if-flow_over-seen.true (omega (arith, s.ensures.seen, c.gap_of-gap.ensures)) in record {
-      same = (f.ensures.0.0 ∙ s.ensures.laid.0.0, f.ensures.0.1 ∙ s.ensures.laid.0.1);
-      tried = (
-        refl,
-        looks_on m.0.own m1.0.own m2.0.own k.1 j.1,
-        omega (arith, s.ensures.seen, k.1.1, c.gap_of-gap.ensures, c.real_of.ensures, q.tail, t),
-        omega (arith, s.ensures.seen, later, c.gap_of-gap.ensures, c.real_of.ensures, q.tail, t),
-        ((f.ensures.0.0 ∙ s.ensures.laid.0.0 ∙ q.rests.0.0, q.rests.0.1, q.rests.0.2), j.0),
-      );
-    }
+returns-then-flow_over-seen g c = grind arith
 
 pub returns : goal.returns
 returns g c = let q = c.requires in let s = c.take_one-seen in let m = c.args.seat.now.me in let m1 = s.new.seat.me in let f = c.flow_over in let m2 = f.new.seat.me in let r = c.restore in let m3 = r.new.seat.me in
     let k = looks_full m m1 s.result q.rests.1 s.ensures.laid.1 (omega (arith, c.requires.tail, c.real_of.ensures, c.gap_of-gap.ensures)) in let t = own_tail m.0.own m1.0.own k.1 in let o = f.ensures.1.0 c.if-flow_over-seen.false in
     let e = overflowed_after m m1 m2 m3 q.rests.1 k.1 k.0.0 s.ensures.seen.2 (omega (arith, s.ensures.seen, c.gap_of-gap.ensures, c.real_of.ensures, q.tail, t)) (omega (arith, q.tail, q.unspent)) o r.ensures.1.1 in record {
       same = (r.ensures.0.0 ∙ f.ensures.0.0 ∙ s.ensures.laid.0.0, r.ensures.0.1 ∙ f.ensures.0.1 ∙ s.ensures.laid.0.1);
-      tried = (
-        (omega (arith, q.tail, q.unspent), refl, e.0),
-        ((r.ensures.0.0 ∙ f.ensures.0.0 ∙ s.ensures.laid.0.0 ∙ q.rests.0.0, q.rests.0.1, q.rests.0.2), e.1),
-      );
+      tried = grind arith;
     }

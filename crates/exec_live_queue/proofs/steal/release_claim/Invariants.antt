@@ -8,7 +8,7 @@ invariant-tries g l = record {
   seen : l.seen ≡ head_word (l.seat.me.0.theft.at + l.seat.me.0.theft.gap) l.seat.me.0.theft.gap;
   small : l.seat.me.0.theft.gap ≤ 256;
   kept : HasKept l.fn.seat.me.0.theft l.seat.me.0.theft;
-  at : l.seat.me.0.theft.at ≡ l.fn.seat.me.0.theft.at;
+  saw : (l.seat.me.0.theft.at ≡ l.fn.seat.me.0.theft.at) × (l.seat.me.0.theft.upto ≡ l.fn.seat.me.0.theft.upto);
 }
 
 -- the gap only grows, to 256 at most

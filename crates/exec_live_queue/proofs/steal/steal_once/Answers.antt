@@ -1,6 +1,5 @@
-use Rattle.exec_live_queue.proofs.{Words.{◌≡◌, ◌+◌, ◌-◌, ◌/◌, ◌%◌, ◌^◌, ◌≤◌, length, sym, ◌∙◌, arith, room, Empties}, Owners.{looks, own_tail, free_slots, to_publish, published_after, steals_on}}
-use Rattle.std.proofs.Common.{append-nil}
-use Rattle.exec_words.specs.declared.queue.Steal.TheVariants as steal
+use Rattle.exec_live_queue.proofs.{Words.{◌≡◌, ◌+◌, ◌-◌, ◌/◌, ◌%◌, ◌^◌, ◌≤◌, length, sym, ◌∙◌, arith, room, Empties}, Owners.{looks, own_tail, free_slots, to_publish, published_after}}
+use Rattle.std.proofs.Common.{append-nil, arith}
 use Rattle.exec_live_queue.proofs.steal.steal_once.Goals as goal
 
 pub carry_over-requires-clause-free : goal.carry_over-requires-clause-free
@@ -11,8 +10,7 @@ carry_over-requires-clause-free g c = let q = c.requires in let aim = c.in-Some.
     (all - count, free_slots w w1 s.result c.args.tail count s.ensures.laid.1 l.0 is fits)
 
 pub release_claim-requires : goal.release_claim-requires
-release_claim-requires g c = let p = c.claim-found.ensures.1.0 c.if-found-aim.false in let count = c.in-Some.aim.count in
-    record { may = (grind arith, grind arith, count, grind arith, grind arith); claimed = grind arith; small = grind arith }
+release_claim-requires g c = grind arith
 
 pub publish-requires : goal.publish-requires
 publish-requires g c = let q = c.requires in let p = c.claim-found.ensures.1.0 c.if-found-aim.false in let aim = c.in-Some.ensures.aim in let count = c.in-Some.aim.count in let xs = p.2 in
@@ -38,6 +36,5 @@ returns g c = let q = c.requires in let p = c.claim-found.ensures.1.0 c.if-found
       same = grind arith;
       rests = (grind arith, p'.0);
       thief = grind arith;
-      stolen = steals_on c.args.seat.now.me.0.own w.0.own w3.0.own c.args.from.now.me.0.theft m4.0.theft (steal.Moved count) l.1
-          (xs, len, omega (arith, aim.3, aim.0.3), omega (arith, p.5, aim.3), p'.1, grind arith);
+      stolen = grind arith;
     }

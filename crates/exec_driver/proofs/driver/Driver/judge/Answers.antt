@@ -1,5 +1,5 @@
-use Rattle.std.proofs.Common.{◌≡◌, Some, None, false, sym, ap, ◌∙◌, refl, arith}
-use Rattle.exec_driver.proofs.{Words.{is_some, is_durable, Asked, asked_of, hinted_of, wheel_of, waiter_at, file_of, file_in, gate_in, account_in, with_account, open_after}, Endings.one_changed, Reaping.{held_landed, held_requeued, room_to_queue, permit_of, goes_on_uncancelled, named_there, landed_of, landed_permit, requeue_tells, complete_tells, outcome_same, some_given, tells_nothing, kept_of_open, told_over, ended_over, tells_over}, Arriving.durable_gated, Granting.same_some, Windows.{asked_same, file_same}}
+use Rattle.std.proofs.Common.{◌≡◌, Some, None, sym, ap, ◌∙◌, refl, arith}
+use Rattle.exec_driver.proofs.{Words.{is_some, is_durable, Asked, asked_of, hinted_of, wheel_of, waiter_at, file_of, file_in, gate_in, account_in, with_account, open_after}, Endings.one_changed, Reaping.{held_landed, held_requeued, room_to_queue, permit_of, goes_on_uncancelled, named_there, landed_of, landed_permit, requeue_tells, complete_tells, outcome_same, some_given, tells_nothing, kept_of_open, told_over, ended_over, tells_over}, Arriving.durable_gated, Granting.same_some, Windows.{asked_same, deadline_same, file_same}}
 use Rattle.exec_request.specs.{Judging.judged_as, Requests.cursor_of, States.told_by}
 use Rattle.exec_driver.proofs.driver.Driver.judge.Goals as goal
 
@@ -7,7 +7,7 @@ pub invariant_of-self-in-Complete : goal.invariant_of-self-in-Complete
 invariant_of-self-in-Complete g c =
     let there = named_there c.self.inside.waiters c.args.completion.user_data c.given-given.result _ _ c.in_ok-id.id c.named.ensures c.in_ok-id.was c.may_give.ensures c.if-not-may_give.false in
     let over = c.on_completion-outcome.ensures.completes c.in_ok-id.id.0 there.w there.is there.at in
-    rw (over.slab, c.reap-same.ensures.after) (held_landed _ c.in_ok-id.id there.w over.request c.args.completion _ _ _ _ there.at there.flies (rw (← c.self.view_is) at c.requires.next) c.requires.operation c.self.invariant)
+    rw (over.slab, c.reap-same.ensures.after) (held_landed _ c.in_ok-id.id there.w over.request c.args.completion _ _ _ _ there.at there.flies (deadline_same _ _ over.kept) (rw (← c.self.view_is) at c.requires.next) c.requires.operation c.self.invariant)
 
 pub unreachable-requires : goal.unreachable-requires
 unreachable-requires g c =
@@ -32,7 +32,7 @@ invariant_of-self-in-Requeue g c =
     let tells = requeue_tells c.in_ok-id.id.0 over.answer c.in-Requeue.id (outcome_same _ _ _ over.told_is c.in-Some.is ∙ c.in-Requeue.is) in
     let active = goes_on_uncancelled (asked_of there.w.request) (cursor_of there.w.request) (judged_as (hinted_of there.w.request) there.w.state c.given-given.result) (sym (rw tells.0 at over.judges.next)) in
     let permit = landed_permit there.w over.request (asked_same _ _ over.kept) ∙ permit_of _ c.in_ok-id.id there.w there.at there.flies c.self.invariant.sound in
-    rw (over.slab, c.reap-same.ensures.after, c.queue.ensures, ← tells.1) (held_requeued _ c.in_ok-id.id there.w over.request c.args.completion _ _ _ _ there.at there.flies active permit (rw (← c.self.view_is) at c.requires.next) c.requires.operation c.self.invariant)
+    rw (over.slab, c.reap-same.ensures.after, c.queue.ensures, ← tells.1) (held_requeued _ c.in_ok-id.id there.w over.request c.args.completion _ _ _ _ there.at there.flies active permit (deadline_same _ _ over.kept) (rw (← c.self.view_is) at c.requires.next) c.requires.operation c.self.invariant)
 
 pub end-requires-clause-idle : goal.end-requires-clause-idle
 end-requires-clause-idle g c =

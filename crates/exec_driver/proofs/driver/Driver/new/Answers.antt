@@ -1,4 +1,4 @@
-use Rattle.std.proofs.Common.{◌+◌, false, length, sym, ap, ◌∙◌, arith}
+use Rattle.std.proofs.Common.{◌+◌, length, sym, ap, ◌∙◌, arith}
 use Rattle.exec_ring.specs.Rings.{RingState}
 use Rattle.exec_time.specs.{Layouts.slots_of, WheelView.wheel_of}
 use Rattle.exec_driver.proofs.{Admitting.{held_fresh, unused, on_ok, on_err}, Storing.reserved_wake}

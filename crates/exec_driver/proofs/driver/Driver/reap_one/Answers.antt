@@ -1,5 +1,4 @@
 use Rattle.exec_driver.proofs.{Turns.reap_serves}
-use Rattle.std.proofs.Common.{Some}
 use Rattle.exec_driver.proofs.driver.Driver.reap_one.Goals as goal
 
 pub returns-in-Some-Some-clause-serves : goal.returns-in-Some-Some-clause-serves

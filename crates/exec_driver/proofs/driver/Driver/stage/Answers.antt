@@ -1,5 +1,5 @@
 use Rattle.std.proofs.Common.{◌≡◌, Some, sym, ap, ◌∙◌, refl, arith}
-use Rattle.exec_driver.proofs.{Words.{waiter_at, file_of, file_in, account_in, request_at, is_queued, first_of}, Stepping.{first_there, held_staged, place_for_request, permit_same, relanded}, Windows.{is_no_poll, asked_same}, Serving.keeps_punctual, Turns.stage_serves}
+use Rattle.exec_driver.proofs.{Words.{waiter_at, file_of, file_in, account_in, request_at, is_queued, first_of}, Stepping.{first_there, held_staged, place_for_request, permit_same, relanded}, Windows.{is_no_poll, asked_same, deadline_same}, Serving.keeps_punctual, Turns.stage_serves}
 use Rattle.exec_driver.specs.Driving.{seen}
 use Rattle.exec_driver.proofs.driver.Driver.stage.Goals as goal
 
@@ -21,7 +21,7 @@ invariant_of-self-2 g c =
     let first = sym c.next_queued.ensures.first ∙ c.in_ok-id.was in
     let there = first_there is_queued refl c.self.inside.waiters c.self.inside.lists.queued c.in_ok-id.id first c.self.invariant.sound.queued in
     let staged = c.stage-submission.ensures.staged there.0 there.1 in
-    rw (staged.slab, c.stage.ensures, c.next_queued.ensures.rest) (relanded _ _ _ _ _ (held_staged _ c.in_ok-id.id there.0 staged.request c.stage-submission.result _ _ _ there.1 first (rw (← c.self.view_is) at c.requires.enrolled) (permit_same there.0 staged.request (asked_same _ _ staged.kept)) c.self.invariant))
+    rw (staged.slab, c.stage.ensures, c.next_queued.ensures.rest) (relanded _ _ _ _ _ (held_staged _ c.in_ok-id.id there.0 staged.request c.stage-submission.result _ _ _ there.1 first (rw (← c.self.view_is) at c.requires.enrolled) (permit_same there.0 staged.request (asked_same _ _ staged.kept)) (deadline_same _ _ staged.kept) c.self.invariant))
 
 pub returns-clause-staged : goal.returns-clause-staged
 returns-clause-staged g c = λ w is.

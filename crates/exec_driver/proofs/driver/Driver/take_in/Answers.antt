@@ -1,4 +1,4 @@
-use Rattle.std.proofs.Common.{◌≡◌, ℕ, ◌+◌, ◌*◌, ◌^◌, ◌<◌, true, false, Option, Some, None, refl, sym, ap, ◌∙◌, inr, arith}
+use Rattle.std.proofs.Common.{◌≡◌, ℕ, ◌+◌, ◌*◌, ◌^◌, ◌<◌, true, Option, Some, None, refl, sym, ap, ◌∙◌, inr, arith}
 use Rattle.std.specs.Prelude.{is_some}
 use Rattle.exec_base.specs.Slab.{live_count}
 use Rattle.exec_request.specs.Requests.{deadline_of, gate_of}
