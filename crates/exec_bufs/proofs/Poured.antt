@@ -1,7 +1,6 @@
 -- What the loops over chunks do.
-use Rattle.std.proofs.Common.{◌≡◌, ℕ, suc, ◌+◌, ◌-◌, ◌<◌, ◌≤◌, List, [], ◌∷◌, ◌++◌, length, take, drop, min, set, get_or, sum_by, replicate, refl, sym, ap, ◌∙◌, arith, add-one, append_assoc, length-append, length-drop, drop-cons}
-use Rattle.std.proofs.Math.Seq.{take-suc-set}
-use Rattle.std.proofs.lemmas.List.{take-append-drop, length-take, length-take-le, length-replicate, drop-set-lt}
+use Rattle.std.proofs.Common.{◌≡◌, ℕ, suc, ◌+◌, ◌-◌, ◌≤◌, List, [], ◌∷◌, length, take, drop, min, sum_by, replicate, refl, sym, ap, ◌∙◌, arith, length-append, length-drop}
+use Rattle.std.proofs.lemmas.List.{take-append-drop, length-take, length-take-le, length-replicate}
 use Rattle.std.proofs.lemmas.List.Sums.{sum_by-cons}
 use Rattle.std.proofs.lemmas.List.Concat.{length-flat_map}
 use Rattle.exec_bufs.specs.Buffers.{Buffer, resized, bytes_of, filled, room, cuts, spread}
@@ -10,25 +9,6 @@ use Rattle.exec_bufs.specs.Buffers.{Buffer, resized, bytes_of, filled, room, cut
 abbrev pub poured : List ℕ → List Buffer → List Buffer
 poured bytes [] = []
 poured bytes (b ∷ bs) = record b { bytes = take (length b.bytes) bytes } ∷ poured (drop (length b.bytes) bytes) bs
-
--- a list that was changed at a place, up to there and with more after it
-pub take_next-set : {X : Type 0} (xs : List X) (i : ℕ) (y : X) (more : List X) → i < length xs → take (i + 1) (set xs i y) ++ more ≡ take i xs ++ y ∷ more
-take_next-set xs i y more within = rw (add-one, take-suc-set xs i y within, append_assoc (take i xs) (y ∷ []) more) refl
-
--- what stands after a place that was changed
-pub drop_next-set : {X : Type 0} (xs : List X) (i : ℕ) (y : X) → drop (i + 1) (set xs i y) ≡ drop (i + 1) xs
-drop_next-set xs i y = drop-set-lt (i + 1) xs i y (omega arith)
-
--- a turn of the loop that gives lengths
-pub spread-next : (n m i : ℕ) (xs : List Buffer) (d y : Buffer) → i < length xs → y ≡ record (get_or xs i d) { bytes = resized (min n (get_or xs i d).capacity) (get_or xs i d).bytes } → m ≡ n - min n (get_or xs i d).capacity → take (i + 1) (set xs i y) ++ spread m (drop (i + 1) (set xs i y)) ≡ take i xs ++ spread n (drop i xs)
-spread-next n m i xs d y within changed less =
-    let left : m ≡ n - (get_or xs i d).capacity = omega (arith, less) in
-    rw (drop_next-set xs i y, take_next-set xs i y _ within, drop-cons xs i d within, changed, left, add-one) refl
-
--- a turn of the loop that copies
-pub poured-next : (bytes rest : List ℕ) (i : ℕ) (xs : List Buffer) (d y : Buffer) → i < length xs → y ≡ record (get_or xs i d) { bytes = take (length (get_or xs i d).bytes) bytes } → rest ≡ drop (length (get_or xs i d).bytes) bytes → take (i + 1) (set xs i y) ++ poured rest (drop (i + 1) (set xs i y)) ≡ take i xs ++ poured bytes (drop i xs)
-poured-next bytes rest i xs d y within changed later =
-    rw (drop_next-set xs i y, take_next-set xs i y _ within, drop-cons xs i d within, changed, later, add-one) refl
 
 -- a list with no element
 pub empty_of_length : {X : Type 0} (xs : List X) → length xs ≡ 0 → [] ≡ xs

@@ -131,3 +131,6 @@ ended_hand i s d it = sleep_hand i s it.waiting (lets_go_requests i s it.held d)
 
 pub again : (i t : ℕ) (s : Common) (d : Desk) (it : Task) → it.home ≡ None → d.hand ≡ None → (pend i t s d it).desk.hand ≡ (if is_noted it.phase && not it.cleared then Some t else None)
 again = grind (arith, ended_hand, requeued)
+
+pub again_root : (i t home : ℕ) (s : Common) (d : Desk) (it : Task) → it.home ≡ Some home → ((pend i t s d it).desk.hand ≡ d.hand) × ((pend i t s d it).desk.root_ready ≡ (d.root_ready || is_noted it.phase))
+again_root = grind arith

@@ -13,7 +13,7 @@ use crate::config::Config;
 use crate::setting_up::{configuration_of, first_shared, first_workers};
 use exec_base::limits::LAST_MOMENT;
 use exec_machine::event::{Event, Line, StepResult};
-use exec_machine::step::Action;
+use exec_machine::step::{Action, CALLERS};
 use exec_outcomes::outcome::OpResult;
 use exec_parts::parts::nursery::Nursery;
 use exec_parts::parts::shared::Shared;
@@ -23,9 +23,6 @@ use exec_polling::caller::Caller;
 use exec_serving::lines;
 use exec_steps::step::step;
 use std::alloc::{AllocError, Global};
-
-/// How many outside callers there are.
-const CALLERS: usize = 16;
 
 /// One executor: its workers, and what they share.
 #[derive(Drop)]

@@ -1,15 +1,15 @@
 -- The room that an admission makes, and gives up again.
-use Rattle.std.proofs.Common.{◌≡◌, ℕ, ◌+◌, ◌*◌, ◌≤◌, Bool, true, false, List, [], ◌∷◌, length, Option, Some, None, Result, Ok, Err, refl, sym, ap, arith}
+use Rattle.std.proofs.Common.{◌≡◌, ℕ, ◌+◌, ◌*◌, ◌≤◌, Bool, true, false, List, [], ◌∷◌, length, Option, Some, None, Result, Ok, Err, refl, sym, ap, subst, arith}
 use Rattle.exec_driver.proofs.{Counting.{flying_few, pending_is}, Shifts.few}
 use Rattle.std.specs.Prelude.{is_some, is_err, count_by, IsSomeAnd, OnOk, OnErr}
 use Rattle.std.proofs.lemmas.Bool.{false≢true}
 use Rattle.std.proofs.lemmas.List.Sums.{sum_by-cons}
-use Rattle.exec_base.specs.{Slab.{Slab}, declared.slab.{Slot.{Slot}}}
+use Rattle.exec_base.specs.{Slab.{Slab}, declared.slab.{InsertError.{InsertError, TheVariants.{Full, NoMemory}}, Slot.{Slot}}}
 use Rattle.exec_ring.specs.{Kernels.Landing, Rings.{RingState, taken_places, fresh as fresh_ring}}
 use Rattle.exec_time.specs.Wheel.{Wheel, fresh}
-use Rattle.exec_waiters.specs.{States.{pending_count}, declared.waiter.Entry.{Entry}}
+use Rattle.exec_waiters.specs.{Events.IsTurnedDown, States.{pending_count}, declared.waiter.{Entry.{Entry}, Refused.{Refused}}}
 use Rattle.exec_waiters.proofs.Changes.{one_if}
-use Rattle.exec_driver.specs.{Driving.{Driving, is_cancelled}, Lists.no_lists, Sound.{IsSound, IsHeld, is_uncancelled, counts, count_of}}
+use Rattle.exec_driver.specs.{Admission.{IsRefused, with_rooms}, Driving.{Driving, is_cancelled}, Lists.no_lists, Sound.{IsSound, IsHeld, is_uncancelled, counts, count_of}}
 
 -- THE BYTES OF A REQUEST END WITHIN WHAT 64 BITS CAN SAY
 
@@ -46,6 +46,20 @@ module _ {S F : Type 0} where
 
   pub held_fresh : (s : Slab (Entry S F)) (w : Wheel) (ring : RingState) (ls : List Landing) (size room most : ℕ) → s.slots ≡ [] → w.ready ≡ [] → ((t : ℕ) → w.active t ≡ 0) → ring ≡ record (fresh_ring size) { places = 1 } → most ≡ size → IsHeld (record { requests = s; wheel = w; ring = ring; landings = ls; lists = no_lists; cancels_under_way = 0; armed = false }) room most 1
   held_fresh = grind arith
+
+  -- A REFUSAL: rooms play no part in it
+
+  roomless : (s : Slab (Entry S F)) (room : ℕ) (back : Refused S F) (e : InsertError (Refused S F)) → IsRefused (record s { room = room }) back e → IsRefused s back e
+  roomless s room back (Full v) is = (is.0, is.1, record { all_there = is.2.all_there; none_vacant = is.2.none_vacant })
+  roomless s room back (NoMemory v) is = is
+
+  pub refused_over : (d d' : Driving S F) (back : Refused S F) (e : InsertError (Refused S F)) → d' ≡ with_rooms d' d → IsRefused d'.requests back e → IsRefused d.requests back e
+  refused_over d d' back e same is =
+      roomless d.requests d'.requests.room back e (subst (λ (s : Slab (Entry S F)). IsRefused s back e) (ap (λ (m : Driving S F). m.requests) same) is)
+
+  pub turned_down : (s : Slab (Entry S F)) (back : Refused S F) (e : InsertError (Refused S F)) → IsTurnedDown s back e → IsRefused s back e
+  turned_down s back (Full v) is = is
+  turned_down s back (NoMemory v) is = is.0
 
 -- a call that was right did what it says of that
 pub on_ok : {A E P : Type 0} (r : Result A E) → is_err r ≡ false → OnOk r P → P

@@ -24,6 +24,20 @@ put_off_so must none stand is off = rw (is, off) refl
 pub worked_so : (must stand : Bool) → must ≡ true → false ≡ (not must && not stand)
 worked_so must stand on = rw on refl
 
+-- no wait where something is pending, or where the poll has no room
+pub may_pending : (pending room : Bool) → pending ≡ true → (not pending && room) ≡ false
+may_pending = grind arith
+
+pub may_poll : (pending room : Bool) → room ≡ false → (not pending && room) ≡ false
+may_poll = grind arith
+
+-- a word that is left alone keeps its signal, and any other has none
+pub signal_left : (signal may : Bool) → may ≡ false → signal ≡ (signal && not may)
+signal_left = grind arith
+
+pub signal_out : (old set new may calm caught : Bool) → may ≡ true → calm ≡ (not old && caught) → set ≡ old → new ≡ (set && calm) → new ≡ (old && not may)
+signal_out = grind arith
+
 -- the open whose permit is given up after a grant
 abbrev pub permit_granted : ℕ → Option Granted → Option ℕ
 permit_granted file None = None

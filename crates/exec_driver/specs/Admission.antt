@@ -2,7 +2,7 @@
 use Rattle.std.specs.Prelude.{◌≡◌, ℕ, true, ◌+◌, ◌*◌, ◌≤◌, List, length}
 use Rattle.exec_base.specs.{Slab.Slab, declared.slab.InsertError.{InsertError, TheVariants.{Full, NoMemory}}}
 use Rattle.exec_request.specs.{Requests.gate_of, declared.request.Request.Request}
-use Rattle.exec_waiters.specs.{States.{is_full, pending_count}, declared.{observer.Observer.Observer, waiter.{Entry.Entry, Refused.Refused}, waiter_id.WaiterId.WaiterId}}
+use Rattle.exec_waiters.specs.{States.{is_full, IsUsedUp, pending_count}, declared.{observer.Observer.Observer, waiter.{Entry.Entry, Refused.Refused}, waiter_id.WaiterId.WaiterId}}
 use Rattle.exec_driver.specs.{Driving.Driving, Opens.{OpenState, with_named, placed, writing}, Sound.{count_of, is_uncancelled}, Steps.{placed_at, taken_in, newcomer, plainly_written}}
 
 module _ {S F : Type 0} where
@@ -28,8 +28,8 @@ module _ {S F : Type 0} where
   abbrev pub HasFewSpare : Driving S F → Type 0
   HasFewSpare d = d.ring.places ≤ pending_count d.requests * 2 + d.cancels_under_way + 1
 
-  -- The request and its observer are back: no request can be named any more, or there was no memory, be it in the slab,
-  -- the ring, the line of the open, the lists, the wheel or what is to be told.
+  -- The request and its observer are back: each index that a request may have is used up, or there was no memory, be it
+  -- in the slab, the ring, the line of the open, the lists, the wheel or what is to be told.
   abbrev pub IsRefused : Slab (Entry S F) → Refused S F → InsertError (Refused S F) → Type 0
-  IsRefused s back (Full v) = (v ≡ back) × (is_full s ≡ true)
+  IsRefused s back (Full v) = (v ≡ back) × (is_full s ≡ true) × IsUsedUp s
   IsRefused s back (NoMemory v) = v ≡ back

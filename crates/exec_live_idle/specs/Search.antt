@@ -1,11 +1,7 @@
 -- What the calls of a searcher make of its seat's view v and of the backlog b that it reaches: w and d.
-use Rattle.std.specs.Prelude.{◌≡◌, ◌≢◌, ℕ, ◌*◌, ◌/◌, ◌%◌, ◌^◌, ◌<◌, ◌≤◌, ◌⊎◌, Bool, true, false, if◌then◌else◌, Some, None, bit_xor}
-use Rattle.exec_words.specs.declared.idle.Park.{Park, TheVariants.{Wait, Run, Search}}
+use Rattle.std.specs.Prelude.{◌≡◌, ◌≢◌, ℕ, ◌*◌, ◌%◌, ◌<◌, ◌≤◌, ◌⊎◌, Bool, true, false, if◌then◌else◌, Some, None}
+use Rattle.exec_words.specs.{declared.idle.Park.{Park, TheVariants.{Wait, Run, Search}}, Generator.stirred}
 use Rattle.exec_live_idle.specs.{declared.view.View.View, Plays.{published, withdrawn, counted, returned}, Notify.HoldsStill}
-
--- the next number of the generator that picks where a search starts
-abbrev pub xorshift : ℕ → ℕ
-xorshift a = let b : ℕ = bit_xor a (a * 2 ^ 13 % 2 ^ 32) in let c : ℕ = bit_xor b (b / 2 ^ 17) in bit_xor c (c * 2 ^ 5 % 2 ^ 32)
 
 -- how many search counts a searcher holds
 abbrev pub counts_of : Bool → ℕ
@@ -35,7 +31,7 @@ StaysUp v w = HoldsStill (record v { held = w.held }) w
 module _ {B : Type 0} where
   -- a search that goes over the queues, from the worker on that the generator picks
   abbrev pub Scans : (B → ℕ → Bool → B → Type 0) → View → B → ℕ → Bool → View → B → ℕ → Type 0
-  Scans steals v b seed moved w d next = MaySearch v w × (v.workers ≢ 1) × (next ≡ xorshift seed) × steals b (next % v.workers) moved d
+  Scans steals v b seed moved w d next = MaySearch v w × (v.workers ≢ 1) × (next ≡ stirred seed) × steals b (next % v.workers) moved d
 
   -- a search that doesn't begin
   abbrev pub Skips : View → B → ℕ → View → B → ℕ → Type 0

@@ -2,7 +2,7 @@
 
 ghost use Rattle.std.specs.Prelude.{◌≡◌, ◌≢◌, ◌^◌, true, false, Some, [], ◌∷◌, ◌++◌, replicate};
 ghost use Rattle.exec_words.specs.declared.idle.Park.TheVariants as park;
-ghost use Rattle.exec_live_idle.specs.{Examples.{seat, giving, wakes, looks, kicks}, Live.{total, publishes, awaits, shares, width, has_number, first_view, next_number, own_number}, Notify.{Kicked, Notified}, Plays.{looked, claimed, withdrawn, counted, taken, returned}, Search.{xorshift, MaySearch, Leaves, Reruns, Parks}, Words.set_of};
+ghost use Rattle.exec_live_idle.specs.{Examples.{seat, giving, wakes, looks, kicks}, Live.{total, publishes, awaits, shares, width, has_number, first_view, next_number, own_number}, Notify.{Kicked, Notified}, Plays.{looked, claimed, withdrawn, counted, taken, returned}, Search.{MaySearch, Leaves, Reruns, Parks}, Words.set_of};
 
 /// The word 5 is the set of the workers 0 and 2.
 #[tactic(auto, unfolding(crate::specs::Words::set_of))]
@@ -38,13 +38,6 @@ pub fn whose_a_number_is()
     ensures first { width (first_view 3) ≡ 2 ^ 32 }
     ensures made { own_number (first_view 3) ≡ seat 0 false 0 }
     ensures goes_on { own_number (next_number (first_view 3)) ≡ seat 1 false 0 }
-{}
-
-/// The first numbers of the generators of the workers 0 and 1.
-pub fn where_a_search_starts()
-    ensures zero { xorshift 1 ≡ 270369 }
-    ensures one { xorshift 2 ≡ 540738 }
-    ensures not_itself { xorshift 1 ≢ 1 }
 {}
 
 /// A wake for a backlog wakes whom it claimed, or finds a count besides.

@@ -6,12 +6,13 @@
 //! call says in which it may be made. What it reaches of the pool, and its own run queue, are lent
 //! to each call. Ports the `Searcher` of `commonware_runtime`'s `iouring::idle`.
 
-ghost use Rattle.std.specs.Prelude.{◌≡◌, ◌+◌, ◌*◌, ◌%◌, ◌^◌, ◌<◌, ◌≤◌, ◌⊎◌, true, false, IsTrue, IsFalse};
+ghost use Rattle.std.specs.Prelude.{◌≡◌, ◌+◌, ◌*◌, ◌%◌, ◌<◌, ◌≤◌, ◌⊎◌, true, false, IsTrue, IsFalse};
 ghost use Rattle.exec_base.specs.Io.{Rose};
-ghost use Rattle.exec_live_idle.specs.{Idle.{knows, IsSeatOf, IsSame}, Plays.{published, counted}, Search.{xorshift, counts_of, MaySearch, Scans, Skips}};
+ghost use Rattle.exec_live_idle.specs.{Idle.{knows, IsSeatOf, IsSame}, Plays.{published, counted}, Search.{counts_of, MaySearch, Scans, Skips}};
 
 use crate::backlog::Backlog;
 use crate::seat::{FreeSeat, Idle, IdleSeat};
+use exec_words::generator::stirred;
 use exec_words::idle::Park;
 use std::sync::Wait;
 
@@ -121,15 +122,4 @@ impl<'a> Searcher<'a> {
         self.searching = true;
         true
     }
-}
-
-/// The next number of the generator that picks where a search starts.
-fn stirred(seed: u32) -> u32
-    ensures { result ≡ xorshift seed }
-{
-    let mut rng = seed;
-    rng ^= rng << 13;
-    rng ^= rng >> 17;
-    rng ^= rng << 5;
-    rng
 }

@@ -1,5 +1,5 @@
 -- What an owner's calls do to its view, step after step.
-use Rattle.exec_live_queue.proofs.{Words.{◌≡◌, ◌≢◌, ℕ, ◌+◌, ◌-◌, ◌/◌, ◌%◌, ◌^◌, ◌<◌, ◌≤◌, List, [], ◌∷◌, ◌++◌, length, take, map, replicate, sym, refl, ap, ◌∙◌, subst, arith, none, Option, Some, None, step, Own, Owns, Sat, room, hand, laid, Found, values_of, published_view, Overflowed, restored_view, whole, IsSeen, AtRest, looked, HasLooked, HasPublished, HasOverflowed, fully, AtHand, Fills, AfterSteal, HasKept, Theft, Steal, rest, length-append, length-drop, append_assoc}, Hands.values_behind, Overflows.whole_length}
+use Rattle.exec_live_queue.proofs.{Words.{◌≡◌, ℕ, ◌+◌, ◌-◌, ◌/◌, ◌%◌, ◌^◌, ◌<◌, ◌≤◌, List, [], ◌∷◌, ◌++◌, length, take, map, replicate, sym, refl, ap, ◌∙◌, subst, arith, none, Option, Some, None, step, Own, Owns, Sat, room, hand, laid, Found, values_of, published_view, Overflowed, restored_view, whole, AtRest, looked, HasLooked, HasPublished, HasOverflowed, fully, AtHand, Fills, rest, length-append, length-drop}, Hands.values_behind, Overflows.whole_length}
 use Rattle.std.proofs.Common.{arith}
 use Rattle.std.proofs.{Common.{min, drop, append-nil}, lemmas.{List.length-take-le}}
 use Rattle.exec_words.specs.Head.{room_at}
@@ -19,14 +19,6 @@ module _ {T : Type 0} where
   -- a look leaves the tail
   pub own_tail : (d d' : Own T) → HasLooked d d' → d'.tail ≡ d.tail
   own_tail d d' h = ap (λ (x : Own T). x.tail) h.0
-
-  -- a look after a look
-  pub looks_on : (a b d : Own T) → HasLooked a b → HasLooked b d → HasLooked a d
-  looks_on a b d h k = (k.0 ∙ ap (λ (x : Own T). looked x d) h.0, omega (arith, h.1, k.1))
-
-  -- the head that was found is the one that was seen last
-  pub laid_seen : (f : ℕ → ℕ) (m m' : Sat T) (n : ℕ) → laid f (step 256 11 0 0 none) m n m' → IsSeen m'.0.own n
-  laid_seen f m m' n l = let o = l.0.1 in subst (λ (x : Sat T). IsSeen x.0.own n) (sym l.1) (refl, refl, o.begun, o.behind, o.within)
 
   -- a look that took the one free slot that it asked for
   pub took_one : (m m' : Sat T) (n : ℕ) → laid (λ room. min room 1) (step 256 11 0 0 none) m n m' → m.0.own.tail - n / 512 + n % 512 < 256
@@ -51,10 +43,6 @@ module _ {T : Type 0} where
       let wide : length (fully a) ≡ 256 = ap length (sym vals) ∙ whole_length b begun (grind arith) full in
       let kept : length (take 128 (fully a)) ≡ 128 = length-take-le 128 (fully a) (omega arith) in let gone = length-drop 128 (fully a) in
       let more = length-append a.log (take 128 (fully a)) in (grind arith, grind (arith, append-nil))
-
-  -- where another head without a claim was seen, a value has left
-  pub newer : (d d' : Own T) (seen n : ℕ) → IsSeen d seen → IsSeen d' n → Found d n → n ≢ seen → d.saw_gap ≡ 0 → d.saw_real < d'.saw_real
-  newer d d' seen n s s' f ne unclaimed = grind arith
 
   -- the room that was seen is still there
   pub room_stays : (d : Own T) (n tail len : ℕ) → Found d n → tail ≡ d.tail → d.tail + 256 ≤ 2 ^ 55 → len ≤ room_at record { real = d.saw_real; gap = d.saw_gap } tail → (len ≤ room d.tail (n / 512) (n % 512)) × (len ≤ 256) × (tail + len + 256 ≤ 2 ^ 55)
@@ -82,11 +70,3 @@ module _ {T : Type 0} where
       → Fills m2 m1.0 tail r xs → m3 ≡ (published_view m2.0 (values_of m2.1), []) → AtRest m3
       × HasPublished m.0.own xs m3.0.own × (m3.0.own.saw_real ≡ n / 512) × (m3.0.own.saw_gap ≡ n % 512)
   published_after = grind (arith, looked, laid_looked, published_view, values_of, values_behind, length-append)
-
-  -- a steal after a look
-  pub steals_on : (a b d : Own T) (t t' : Theft T) (answer : Steal) → HasLooked a b → AfterSteal b t d t' answer → AfterSteal a t d t' answer
-  steals_on a b d t t' answer h k = grind arith
-
-  -- a steal after tries that took nothing
-  pub steals_after : (d d' : Own T) (t t1 t' : Theft T) (answer : Steal) → HasKept t t1 → AfterSteal d t1 d' t' answer → AfterSteal d t d' t' answer
-  steals_after d d' t t1 t' answer h k = grind (arith, append_assoc)

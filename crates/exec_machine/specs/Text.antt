@@ -38,26 +38,7 @@ abbrev pub text_of_verdict : Option Outcome → List ℕ
 text_of_verdict None = codes "more"
 text_of_verdict (Some outcome) = text_of_outcome outcome
 
--- an event that is a word alone, and of any other nothing
-abbrev pub bare_word_of : Event → List ℕ
-bare_word_of event.Turn = codes "turn"
-bare_word_of event.Serve = codes "serve"
-bare_word_of event.Closed = codes "closed"
-bare_word_of event.Pass = codes "got pass"
-bare_word_of event.Enter = codes "enter"
-bare_word_of event.Busy = codes "busy"
-bare_word_of event.Close = codes "close"
-bare_word_of event.Stop = codes "stop"
-bare_word_of event.End = codes "end"
-bare_word_of event.Return = codes "return"
-bare_word_of event.Land = codes "land"
-bare_word_of event.Clock = codes "clock"
-bare_word_of event.Set = codes "set"
-bare_word_of event.Stir = codes "stir"
-bare_word_of event.Peer = codes "peer"
-bare_word_of _ = []
-
--- an event of a request, or one that is a word alone
+-- an event of a request, and of any other nothing
 abbrev pub text_of_request : Event → List ℕ
 text_of_request (event.Admit request kind outcome) = codes "admit " ++ decimal request ++ 32 ∷ text_of_kind kind ++ text_of_end outcome
 text_of_request (event.Wait None) = codes "wait none"
@@ -72,7 +53,7 @@ text_of_request (event.Expire request outcome) = codes "expire " ++ decimal requ
 text_of_request (event.Cancel request) = codes "cancel " ++ decimal request
 text_of_request (event.Orphan request outcome) = codes "orphan " ++ decimal request ++ text_of_end outcome
 text_of_request (event.Release request) = codes "release " ++ decimal request
-text_of_request it = bare_word_of it
+text_of_request _ = []
 
 abbrev pub text_of_event : Event → List ℕ
 text_of_event (event.Begin task) = codes "begin " ++ decimal task
@@ -91,6 +72,21 @@ text_of_event (event.Apply message) = codes "apply " ++ text_of_message message
 text_of_event (event.Rouse worker) = codes "rouse " ++ decimal worker
 text_of_event (event.Sleep None) = codes "sleep ever"
 text_of_event (event.Sleep (Some until)) = codes "sleep " ++ decimal until
+text_of_event event.Turn = codes "turn"
+text_of_event event.Serve = codes "serve"
+text_of_event event.Closed = codes "closed"
+text_of_event event.Pass = codes "got pass"
+text_of_event event.Enter = codes "enter"
+text_of_event event.Busy = codes "busy"
+text_of_event event.Close = codes "close"
+text_of_event event.Stop = codes "stop"
+text_of_event event.End = codes "end"
+text_of_event event.Return = codes "return"
+text_of_event event.Land = codes "land"
+text_of_event event.Clock = codes "clock"
+text_of_event event.Set = codes "set"
+text_of_event event.Stir = codes "stir"
+text_of_event event.Peer = codes "peer"
 text_of_event it = text_of_request it
 
 abbrev pub text_of_said : StepResult → List ℕ

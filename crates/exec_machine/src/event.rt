@@ -3,8 +3,8 @@
 //! Events and lines are compared nowhere, so they have no `PartialEq`, which is dear to prove for 42
 //! variants.
 
-ghost use Rattle.std.specs.{Prelude.{◌≡◌}, Fmt.{WritesOnOk}};
-ghost use Rattle.exec_machine.specs.Text.{text_of_request, bare_word_of};
+ghost use Rattle.std.specs.{Fmt.{WritesOnOk}};
+ghost use Rattle.exec_machine.specs.Text.{text_of_request};
 
 use crate::state::MailMessage;
 use crate::step::Action;
@@ -212,12 +212,27 @@ impl fmt::Display for Event {
             Event::Rouse { worker } => write!(f, "rouse {worker}"),
             Event::Sleep { until: None } => write!(f, "sleep ever"),
             Event::Sleep { until: Some(until) } => write!(f, "sleep {until}"),
+            Event::Turn => write!(f, "turn"),
+            Event::Serve => write!(f, "serve"),
+            Event::Closed => write!(f, "closed"),
+            Event::Pass => write!(f, "got pass"),
+            Event::Enter => write!(f, "enter"),
+            Event::Busy => write!(f, "busy"),
+            Event::Close => write!(f, "close"),
+            Event::Stop => write!(f, "stop"),
+            Event::End => write!(f, "end"),
+            Event::Return => write!(f, "return"),
+            Event::Land => write!(f, "land"),
+            Event::Clock => write!(f, "clock"),
+            Event::Set => write!(f, "set"),
+            Event::Stir => write!(f, "stir"),
+            Event::Peer => write!(f, "peer"),
             _ => fmt_of_request(self, f),
         }
     }
 }
 
-// How an event of a request is written, or one that is a word alone.
+// How an event of a request is written, and nothing for any other.
 fn fmt_of_request<W: fmt::Write>(event: &Event, f: &mut fmt::Formatter<W>) -> fmt::Result
     ensures { WritesOnOk W.write_str_gives f.old result (text_of_request event.now) f.new }
 {
@@ -245,31 +260,7 @@ fn fmt_of_request<W: fmt::Write>(event: &Event, f: &mut fmt::Formatter<W>) -> fm
         Event::Cancel { request } => write!(f, "cancel {request}"),
         Event::Orphan { request, outcome } => write!(f, "orphan {request}{}", EndText(*outcome)),
         Event::Release { request } => write!(f, "release {request}"),
-        _ => f.write_str(bare_word(event)),
-    }
-}
-
-// The word of an event that is written as a word alone, and none for any other.
-fn bare_word(event: &Event) -> &'static str
-    ensures { result.now ≡ bare_word_of event.now }
-{
-    match event {
-        Event::Turn => "turn",
-        Event::Serve => "serve",
-        Event::Closed => "closed",
-        Event::Pass => "got pass",
-        Event::Enter => "enter",
-        Event::Busy => "busy",
-        Event::Close => "close",
-        Event::Stop => "stop",
-        Event::End => "end",
-        Event::Return => "return",
-        Event::Land => "land",
-        Event::Clock => "clock",
-        Event::Set => "set",
-        Event::Stir => "stir",
-        Event::Peer => "peer",
-        _ => "",
+        _ => Ok(()),
     }
 }
 

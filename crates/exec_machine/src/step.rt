@@ -12,6 +12,9 @@ pub enum Step {
     One { action: Action },
 }
 
+/// How many outside callers there are.
+pub const CALLERS: usize = 16;
+
 /// One step of one party.
 #[derive(Clone, Copy, Debug)]
 pub enum Action {

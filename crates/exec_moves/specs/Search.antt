@@ -1,6 +1,6 @@
 -- Moves of a worker that has nothing to do and searches: half of the values of another run queue move into its own.
-use Rattle.std.specs.Prelude.{ℕ, true, ◌+◌, ◌-◌, ◌*◌, ◌/◌, ◌%◌, ◌^◌, ◌==◌, [], take, nat_le, nat_lt, bit_xor, if◌then◌else◌}
-use Rattle.exec_words.specs.{declared.head.Head.Head, Head.{claim_at, claimed_head}, Idle.Idle, Queue.{Queue, head_of, tail_of, room_of, claimed, released, published}}
+use Rattle.std.specs.Prelude.{ℕ, true, ◌+◌, ◌-◌, ◌*◌, ◌%◌, ◌==◌, [], take, nat_le, nat_lt, if◌then◌else◌}
+use Rattle.exec_words.specs.{declared.head.Head.Head, Generator.stirred, Head.{claim_at, claimed_head}, Idle.Idle, Queue.{Queue, head_of, tail_of, room_of, claimed, released, published}}
 use Rattle.exec_machine.specs.{declared.{config.Configuration.Configuration}, World.{Common, Own as Books}}
 use Rattle.exec_moves.specs.{declared.{idling.Scan.Scan, place.Place.Place}, State.{Desk, Moved, Own, turns}, Load.leaves_for_turn, Global.one_count_more, Pop.same_head}
 use Rattle.exec_moves.specs.declared.idling.InLook.TheVariants as look
@@ -19,16 +19,6 @@ abbrev pub add_search_count : Desk → Idle → Moved Idle
 add_search_count d x = turns (at.Scan step.LoadScanHead) (record d { searching = true }) (one_count_more x)
 
 -- SCAN
-
--- the next number of the generator, of 32 bits: three times the number xored with itself, shifted by 13 up, 17 down, 5 up
-abbrev pub shifted_up : ℕ → ℕ → ℕ
-shifted_up n by = bit_xor n (n * 2 ^ by % 2 ^ 32)
-
-abbrev pub shifted_down : ℕ → ℕ → ℕ
-shifted_down n by = bit_xor n (n / 2 ^ by)
-
-abbrev pub stirred : ℕ → ℕ
-stirred n = shifted_up (shifted_down (shifted_up n 13) 17) 5
 
 -- the worker whose queue is next, and the scan past it
 abbrev pub from_of : Configuration → Scan → ℕ

@@ -12,7 +12,8 @@ pub fn a_trace_has_one_log()
         Plays p steps told → Plays p steps other → told ≡ other }
 {}
 
-/// A step changes the one shared thing that its place names, and nothing else of what parties share.
+/// A step changes, of the things that parties share beside the machine's common part, the one that its place names, and
+/// no other.
 pub fn a_step_touches_one_thing()
     ensures of_a_worker { (c : Configuration) (i : ℕ) (me : Own) (s : Common) (d : Desk) (x : Things) →
         OnlyTouches (names c i me s d d.place) x (move c i me s d x).thing }

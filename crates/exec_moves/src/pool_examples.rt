@@ -9,13 +9,7 @@ ghost use Rattle.exec_moves.specs.declared.handing.AfterPush.TheVariants as push
 ghost use Rattle.exec_moves.specs.declared.handing.InPush.TheVariants as pushes;
 ghost use Rattle.exec_moves.specs.declared.idling.InScan.TheVariants as scan;
 ghost use Rattle.exec_moves.specs.declared.place.Place.TheVariants as at;
-ghost use Rattle.exec_moves.specs.{Pop.shard_count, Push.{load_push_head, flow_over}, Search.{stirred, claim_half}, State.{no_wake_poll, told_once, dropped}, Plays.{first_desk, IsPlayed}, Departures.{Departs, a_call}, PoolLogs.{a_spawn_beside_the_look, a_worker_is_roused, a_steal, a_wake_in_a_poll, two_close, a_claim_beside_the_last_look}};
-
-/// The generator of a scan, from the seed of worker zero on.
-pub fn the_generator()
-    ensures next { stirred 1 ≡ 270369 }
-    ensures after { stirred 270369 ≡ 67634689 }
-{}
+ghost use Rattle.exec_moves.specs.{Pop.shard_count, Push.{load_push_head, flow_over}, Search.claim_half, State.{no_wake_poll, told_once, dropped}, Plays.{first_desk, IsPlayed}, Departures.{Departs, a_call}, PoolLogs.{a_spawn_beside_the_look, a_worker_is_roused, a_steal, a_wake_in_a_poll, two_close, a_claim_beside_the_last_look}};
 
 /// The task set has four shards for each worker of the next power of two.
 pub fn shards()

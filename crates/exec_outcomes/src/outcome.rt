@@ -1,5 +1,8 @@
 //! The words in which results and outcomes are told.
 
+ghost use Rattle.std.specs.Prelude.{◌≡◌};
+ghost use Rattle.exec_outcomes.specs.Lawful.{is_lawful};
+
 use exec_base::error::{Error, Word};
 use std::fmt;
 
@@ -33,6 +36,11 @@ pub enum Kind {
     Sync,
 }
 
+/// The largest count that a result can say, which is the largest `i32`.
+pub const LARGEST_COUNT: u64 = 0x7fff_ffff;
+/// The largest error number that a result can say.
+const LARGEST_ERRNO: u64 = 4095;
+
 /// The result of one operation, as the kernel gave it.
 #[derive(Clone, Copy, Debug, PartialEq, Eq)]
 pub enum OpResult {
@@ -40,6 +48,19 @@ pub enum OpResult {
     Count(u64),
     /// The operation failed with this error number, which is at least 1.
     Errno(u64),
+}
+
+impl OpResult {
+    /// Whether the kernel may give it for an operation that may answer so much: a count of at most that, which an i32
+    /// can say, or an error number that there is.
+    pub fn is_lawful(self, window: u64) -> bool
+        ensures { result ≡ is_lawful window self }
+    {
+        match self {
+            OpResult::Count(count) => count <= window && count <= LARGEST_COUNT,
+            OpResult::Errno(code) => 1 <= code && code <= LARGEST_ERRNO,
+        }
+    }
 }
 
 /// A result together with what counts for its meaning.

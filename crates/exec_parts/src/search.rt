@@ -7,9 +7,9 @@
 //! the release.
 
 ghost use Rattle.std.specs.Prelude.{◌≡◌, ◌+◌, ◌-◌, ◌^◌, ◌<◌, ◌≤◌, [], length, true};
-ghost use Rattle.exec_words.specs.{Head.claim_at, Queue.{head_of, published, room_of, tail_of}, Reserved.{extended, spare}};
+ghost use Rattle.exec_words.specs.{Generator.stirred, Head.claim_at, Queue.{head_of, published, room_of, tail_of}, Reserved.{extended, spare}};
 ghost use Rattle.exec_machine.specs.declared.config.Configuration.{Configuration};
-ghost use Rattle.exec_moves.specs.{Pop.same_head, Search.{add_search_count, claim_half, from_of as number_from, judge_head as judged, load_scan_head, load_search_count, load_their_head, load_their_tail, looks_at, move_half, past as scan_past, release_half, stirred as number_stirred}, State.queue_of};
+ghost use Rattle.exec_moves.specs.{Pop.same_head, Search.{add_search_count, claim_half, from_of as number_from, judge_head as judged, load_scan_head, load_search_count, load_their_head, load_their_tail, looks_at, move_half, past as scan_past, release_half}, State.queue_of};
 ghost use Rattle.exec_parts.specs.{Phased.TurnsChair, Pooled.{OfChair, claimed_if, released_if, taken_if}, Tests.{first_search_of, leaves_turn_of}, View.{desk_of, things_of}, Things.{Goes, Makes}};
 
 use crate::parts::shared::Shared;
@@ -17,6 +17,7 @@ use crate::parts::worker::Worker;
 use exec_machine::event::Event;
 use exec_moves::idling::{InLook, InScan, InSearch, Scan};
 use exec_moves::place::Place;
+use exec_words::generator::stirred;
 use exec_words::head::Head;
 use exec_words::idle::PureIdle;
 use exec_words::{CAPACITY, HALF, STEALABLE};
@@ -71,7 +72,7 @@ impl Worker {
         requires workers { 0 < shared.now.config.workers }
         ensures makes { Makes (load_scan_head shared.now.config self.old.index (desk_of self.old)
             (queue_of (things_of shared.now) self.old.index)) result self.new }
-        ensures same { self.new ≡ record self.old { place = self.new.place; rng = number_stirred self.old.rng } }
+        ensures same { self.new ≡ record self.old { place = self.new.place; rng = stirred self.old.rng } }
     {
         self.rng = stirred(self.rng);
         let workers = shared.config.workers;
@@ -289,15 +290,4 @@ fn past(scan: Scan) -> Scan
         passed: scan.passed + 1,
         ..scan
     }
-}
-
-/// The next number of the generator that picks where a scan begins.
-fn stirred(seed: u32) -> u32
-    ensures { result ≡ number_stirred seed }
-{
-    let mut rng = seed;
-    rng ^= rng << 13;
-    rng ^= rng >> 17;
-    rng ^= rng << 5;
-    rng
 }

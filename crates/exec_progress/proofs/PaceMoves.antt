@@ -1,12 +1,12 @@
 -- Each move but the wild ones leads to a calm place, and leaves the spinner as it is.
 use Rattle.std.proofs.Common.{◌≡◌, ℕ, Bool, true, false, ◌+◌, ◌-◌, ◌*◌, ◌==◌, ◌&&◌, ◌||◌, List, [], ◌∷◌, length, Option, Some, None, refl, arith}
 use Rattle.std.specs.Prelude.{drop, nat_le, nat_lt, not, slice_get, slice_index_or}
-use Rattle.exec_words.specs.{Head.is_stealable_at, Idle.is_in, Queue.{head_of, room_of, tail_of}}
+use Rattle.exec_words.specs.{Generator.stirred, Head.is_stealable_at, Idle.is_in, Queue.{head_of, room_of, tail_of}}
 use Rattle.exec_task.specs.declared.drain.Drain.{Drain}
 use Rattle.exec_machine.specs.{declared.{config.{Configuration.Configuration}}, Deadlines.next_due, Ranges.ring_size, Tests.{is_applied}, World.{Common, Own as Books, Task, request_of, sleeper_of, task_of}}
 use Rattle.exec_moves.specs.declared.idling.{InLook.InLook, InRingWait.InRingWait, InScan.InScan, InSearch.InSearch, InWordWait.InWordWait, Stay.Stay}
 use Rattle.exec_moves.specs.declared.place.{InClosing.InClosing, InLoads.InLoads, InMail.InMail, InService.InService, Place.Place, Reaping.Reaping, Round.Round, Service.Service}
-use Rattle.exec_moves.specs.{Callback.{is_full, is_of_pool}, Claim.claimed, Close.{close_sleeper, first_asleep, first_held, orphan, visit}, Load.{has_come, has_submissions, is_ready as has_ready}, Look.{look_at_mirror, searching_if}, Move.{move_at, move_closing, move_loads, move_look, move_mail, move_ring_wait, move_scan, move_search, move_service, move_submit, move_word_wait}, Pop.{shard_count}, Search.{begun_scan, from_of, half, stirred}, Send.first_letter, Serve.{Ring, end_service, first_to_fire, reap}, State.{Desk, Moved, Things, queue_of}, Submit.{Due, due_next}, Thing.ring_of}
+use Rattle.exec_moves.specs.{Callback.{is_full, is_of_pool}, Claim.claimed, Close.{close_sleeper, first_asleep, first_held, orphan, visit}, Load.{has_come, has_submissions, is_ready as has_ready}, Look.{look_at_mirror, searching_if}, Move.{move_at, move_closing, move_loads, move_look, move_mail, move_ring_wait, move_scan, move_search, move_service, move_submit, move_word_wait}, Pop.{shard_count}, Search.{begun_scan, from_of, half}, Send.first_letter, Serve.{Ring, end_service, first_to_fire, reap}, State.{Desk, Moved, Things, queue_of}, Submit.{Due, due_next}, Thing.ring_of}
 use Rattle.exec_moves.specs.declared.handing.AfterCancels.TheVariants as cancels
 use Rattle.exec_moves.specs.declared.handing.AfterSend.TheVariants as send
 use Rattle.exec_moves.specs.declared.idling.AfterWait.TheVariants as later

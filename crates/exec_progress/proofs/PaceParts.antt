@@ -1,13 +1,13 @@
 -- Calm places, and that the parts lead to such.
-use Rattle.std.proofs.Common.{◌≡◌, ℕ, Bool, true, false, ◌-◌, ◌==◌, ◌||◌, List, Option, Some, None, if◌then◌else◌, arith}
+use Rattle.std.proofs.Common.{◌≡◌, ℕ, Bool, true, false, ◌-◌, ◌==◌, Option, Some, None, if◌then◌else◌, arith}
 use Rattle.std.specs.Prelude.{nat_le, nat_lt, not}
 use Rattle.exec_words.specs.declared.head.{Fit.Fit, Head.Head}
-use Rattle.exec_machine.specs.{declared.{config.Configuration.Configuration, state.{MailMessage.MailMessage, Waiting.Waiting}}, Ranges.ring_size, Tests.is_empty, World.{Common, Own as Books}}
+use Rattle.exec_machine.specs.{declared.{config.Configuration.Configuration, state.{Waiting.Waiting}}, Ranges.ring_size, World.{Common, Own as Books}}
 use Rattle.exec_machine.specs.declared.state.Waiting.TheVariants as waiting
 use Rattle.exec_moves.specs.declared.handing.{AfterCallbacks.AfterCallbacks, AfterClaim.AfterClaim, AfterKick.AfterKick, AfterLeave.AfterLeave, AfterPush.AfterPush, AfterSignal.AfterSignal}
 use Rattle.exec_moves.specs.declared.idling.{AfterWait.AfterWait, Scan.Scan, Stay.Stay}
 use Rattle.exec_moves.specs.declared.place.{AfterService.AfterService, Place.Place}
-use Rattle.exec_moves.specs.{Callback.{has_callbacks, is_of_pool, next_callback, to_queue}, Claim.{Claimed, after_claim}, Look.{after_withdrawal, looks_from, past_own}, Mail.after_message, Parts.{after_kick, after_leave, after_push, after_return, after_signal, has_others}, Poll.{after_begin}, Push.after_fit, Search.{judge_head, judge_tail, looks_at, past, past_own as past_mine}, Send.{after_spawn}, Serve.after_service, State.{Desk}, Wait.{after_wait, first_search, waits, withdraws}}
+use Rattle.exec_moves.specs.{Callback.{has_callbacks, is_of_pool, next_callback, to_queue}, Claim.{Claimed, after_claim}, Look.{after_withdrawal, looks_from, past_own}, Parts.{after_kick, after_leave, after_push, after_return, after_signal, has_others}, Poll.{after_begin}, Push.after_fit, Search.{judge_head, judge_tail, looks_at, past, past_own as past_mine}, Send.{after_spawn}, Serve.after_service, State.{Desk}, Wait.{after_wait, first_search, waits, withdraws}}
 use Rattle.exec_moves.specs.declared.handing.AfterClaim.TheVariants as claim
 use Rattle.exec_moves.specs.declared.handing.AfterKick.TheVariants as kick
 use Rattle.exec_moves.specs.declared.handing.AfterPush.TheVariants as push
@@ -137,9 +137,6 @@ module _ (c : Configuration) (i : ℕ) (me : Books) (s : Common) (budget : ℕ) 
 
   pub served : (b : AfterService) (d : Desk) → Fair (after_service b d)
   served = grind arith
-
-  pub read : (applied : ℕ) (batch : List MailMessage) → Fair (after_message applied batch)
-  read applied batch = fair_if (is_empty batch || nat_le 64 applied) _ _ tt tt
 
   pub withdrawing : (n : AfterWait) → Fair (withdraws s i n)
   withdrawing later.Serve = fair_if (is_of_pool s i) _ _ tt tt

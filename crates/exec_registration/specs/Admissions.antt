@@ -1,12 +1,12 @@
 -- What a registration of a request, and the beginning of a sync, do.
 use Rattle.std.specs.Prelude.{◌≡◌, ℕ, ◌*◌, Bool, true, false, List, Option, Some, None, Err, Ok}
-use Rattle.exec_base.specs.{Slab.{Slab, next_id, live_count, IsPast, TakesId}, declared.{error.Error.Error, slab.InsertError.{InsertError, TheVariants.{Full, NoMemory}}}}
+use Rattle.exec_base.specs.{Slab.{next_id, live_count, IsPast, TakesId}, declared.error.Error.Error}
 use Rattle.exec_driver.specs.{Opens.OpenState, Admission.{Admits, with_rooms}, Steps.{told_at_admission, newcomer}}
 use Rattle.exec_outcomes.specs.Accounts.{Account, is_dirty}
 use Rattle.exec_registration.specs.{Homes.HomeState, declared.{operation.Started.{Started, TheVariants.UnderWay}, registration.RegistrationState.{RegistrationState, TheVariants.Waiting}}}
 use Rattle.exec_request.specs.{States.Ended, declared.request.Request.Request}
 use Rattle.exec_ring.specs.{Stores.Same, declared.store.Store.Store}
-use Rattle.exec_waiters.specs.{States.is_full, Told.{HasPlaces, Tells, nothing_told}, declared.{observer.Observer.{Observer, TheVariants.Local}, waiter.{Entry.Entry, Refused.Refused}, waiter_id.WaiterId.WaiterId}}
+use Rattle.exec_waiters.specs.{Told.{HasPlaces, Tells, nothing_told}, declared.{observer.Observer.{Observer, TheVariants.Local}, waiter_id.WaiterId.WaiterId}}
 
 -- What ends a sync at once: the failure that its open keeps, or that every change is durable. Of an open that isn't
 -- there nothing is known.
@@ -53,8 +53,3 @@ module _ {S F : Type 0} where
     pub id : WaiterId
     pub under_way : started ≡ UnderWay id
     pub takes : TakesIn old new opens opens' request observer now id
-
-  -- it was refused, and comes back: `Full` only where no request can be named any more
-  abbrev pub IsRefused : Slab (Entry S F) → Refused S F → InsertError (Refused S F) → Type 0
-  IsRefused s back (Full v) = (v ≡ back) × (is_full s ≡ true)
-  IsRefused s back (NoMemory v) = v ≡ back

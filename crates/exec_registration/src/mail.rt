@@ -6,7 +6,7 @@
 //! a sleeper that is gone by `Ok`, of a request by its output where that is kept, and else by `Closed`.
 
 ghost use Rattle.std.specs.Prelude.{◌≡◌, ℕ, ◌+◌, ◌≤◌, OnOk, OnErr};
-ghost use Rattle.exec_registration.specs.{Homes.home_of, Mail.{MayForward, Forwards, HasRoomFor, Cancels, IsUnheld}};
+ghost use Rattle.exec_registration.specs.{Homes.{StaysPunctual, home_of}, Mail.{MayForward, Forwards, HasRoomFor, Cancels, IsUnheld}};
 
 use exec_driver::home::Home;
 use exec_ring::ring::Ring;
@@ -55,7 +55,8 @@ impl<S: Drop, F: Drop> Forward<S, F> {
     /// know that a sleeper was not forwarded before.
     pub fn apply<R: Ring + Drop>(self, home: &mut Home<R, S, F>)
         requires may { MayForward (home_of home.old) self }
-        ensures { Forwards (home_of home.old) (home_of home.new) self }
+        ensures forwards { Forwards (home_of home.old) (home_of home.new) self }
+        ensures punctual { StaysPunctual (home_of home.old) (home_of home.new) }
     {
         match self {
             Forward::Waiter(id, sender) => home.driver.forward(id, sender, &mut home.deferred),
@@ -74,6 +75,7 @@ impl Cancel {
         requires room { HasRoomFor (home_of home.old) self }
         ensures cancels { Cancels (home_of home.old) (home_of home.new) self }
         ensures unheld { IsUnheld (home_of home.new) self }
+        ensures punctual { StaysPunctual (home_of home.old) (home_of home.new) }
     {
         match self {
             Cancel::Waiter(id) => home.driver.orphan(id, &mut home.deferred),

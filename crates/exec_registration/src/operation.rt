@@ -7,10 +7,10 @@
 
 ghost use Rattle.std.specs.Prelude.{◌≡◌, ◌+◌, ◌<◌, length, true, false, Some, None, Ok, Err, IfOk, IfErr, IfSome, OnOk, OnErr};
 ghost use Rattle.exec_base.specs.declared.error.Error.TheVariants as error;
-ghost use Rattle.exec_driver.specs.{Opens.account_in, Footprints.footprint_of};
+ghost use Rattle.exec_driver.specs.{Admission.IsRefused, Opens.account_in, Footprints.footprint_of};
 ghost use Rattle.exec_ring.specs.Stores.{Reserves};
 ghost use Rattle.exec_waiters.specs.States.{suits};
-ghost use Rattle.exec_registration.specs.{Homes.home_of, Admissions.{Registers, Begins, TakesIn, IsRefused, IsKept, Untouched, over_at_once}};
+ghost use Rattle.exec_registration.specs.{Homes.{StaysPunctual, home_of}, Admissions.{Registers, Begins, TakesIn, IsKept, Untouched, over_at_once}};
 ghost use Rattle.exec_registration.specs.declared.operation.Started.TheVariants as started;
 ghost use Rattle.exec_registration.specs.declared.registration.RegistrationState.TheVariants as state;
 ghost use Rattle.exec_request.specs.Requests.{gate_of};
@@ -57,8 +57,8 @@ impl Registration<WaiterId> {
     /// worker does, by `Places::release`, once the registration was let go and what it sent was applied. One that is
     /// `Closed` has none.
     ///
-    /// `Full` comes only where no request can be named any more, `NoMemory` only where there is no memory; the request
-    /// comes back then, and nothing changes. Ports `Operation::register`.
+    /// `Full` comes only where each index that a request may have is used up, `NoMemory` only where there is no memory;
+    /// the request comes back then, and nothing changes. Ports `Operation::register`.
     pub fn register<R: Ring + Drop, S: Drop, F: Drop, M: Places>(
         alloc: Global,
         request: Request,
@@ -76,6 +76,7 @@ impl Registration<WaiterId> {
         ensures refused { IfErr result (IsRefused (home_of home.old).driver.requests (record { request = request; observer = observer_of.Local None })) }
         ensures kept { OnErr result (IsKept (home_of home.old) (home_of home.new) opens.old opens.new store.old store.new) }
         ensures unplaced { OnErr result (M.places mail.new ≡ M.places mail.old) }
+        ensures punctual { StaysPunctual (home_of home.old) (home_of home.new) }
     {
         if home.closing {
             return Ok(Registration::closed());
@@ -100,8 +101,8 @@ impl Registration<WaiterId> {
 /// once; the caller must have an open of that number. Nobody can let it go, and an error of the kernel is sent as it
 /// came, without the open's number.
 ///
-/// `Full` comes only where no request can be named any more, `NoMemory` only where there is no memory; the request
-/// and its sender come back then, and nothing changes. Ports `start_sync`.
+/// `Full` comes only where each index that a request may have is used up, `NoMemory` only where there is no memory; the
+/// request and its sender come back then, and nothing changes. Ports `start_sync`.
 pub fn start_sync<R: Ring + Drop, S: Drop, F: Drop>(
     alloc: Global,
     request: SyncRequest,
@@ -117,6 +118,7 @@ pub fn start_sync<R: Ring + Drop, S: Drop, F: Drop>(
     ensures stored { over_at_once (account_in opens.old (Some request.file)) ≡ None → home.old.closing ≡ false → OnOk result (Reserves (footprint_of (request_of.Sync request)) store.old store.new) }
     ensures refused { IfErr result (IsRefused (home_of home.old).driver.requests (record { request = request_of.Sync request; observer = observer_of.DetachedSync sender })) }
     ensures kept { OnErr result (IsKept (home_of home.old) (home_of home.new) opens.old opens.new store.old store.new) }
+    ensures punctual { StaysPunctual (home_of home.old) (home_of home.new) }
 {
     match barrier(opens.account(Some(request.file))) {
         Some(ended) => return Ok(Started::Over(ended)),
@@ -164,6 +166,7 @@ fn take_in<R: Ring + Drop, S: Drop, F: Drop>(
     ensures stored { OnOk result (Reserves (footprint_of request) store.old store.new) }
     ensures refused { IfErr result (IsRefused (home_of home.old).driver.requests (record { request = request; observer = observer })) }
     ensures kept { OnErr result (IsKept (home_of home.old) (home_of home.new) opens.old opens.new store.old store.new) }
+    ensures punctual { StaysPunctual (home_of home.old) (home_of home.new) }
 {
     home.driver.admit(
         alloc,

@@ -22,7 +22,7 @@ ghost use Rattle.std.specs.Prelude.{◌≡◌, ℕ, ◌≢◌, Some, Ok, Err, No
 ghost use Rattle.exec_base.specs.OneShot.{poll_answer, polled};
 ghost use Rattle.exec_base.specs.declared.error.Error.TheVariants as error;
 ghost use Rattle.exec_time.specs.declared.timers.Observation.TheVariants as observation;
-ghost use Rattle.exec_registration.specs.{Homes.{HomeState, home_of}, Mail.{HasRoomFor, Cancels, IsUnheld}, Looks.{if_ready, after_look}, Registrations.{told_by_look, state_after, heard, after_hearing, pending_of, Asks, Sends}, declared.mail.{Cancel.Cancel as CancelOf, Forward.Forward as ForwardOf}};
+ghost use Rattle.exec_registration.specs.{Homes.{HomeState, StaysPunctual, home_of}, Mail.{HasRoomFor, Cancels, IsUnheld}, Looks.{if_ready, after_look}, Registrations.{told_by_look, state_after, heard, after_hearing, pending_of, Asks, Sends}, declared.mail.{Cancel.Cancel as CancelOf, Forward.Forward as ForwardOf}};
 ghost use Rattle.exec_registration.specs.declared.registration.RegistrationState.TheVariants as state;
 
 use crate::mail::{Cancel, Forward};
@@ -73,7 +73,8 @@ pub trait Key<S, F>: Copy {
         F: Drop,
         requires seen { may_look self (home_of home.old) }
         ensures answer { result ≡ found self waker (home_of home.old) }
-        ensures taken { home_of home.new ≡ if_ready result (taken self (home_of home.old)) (home_of home.old) };
+        ensures taken { home_of home.new ≡ if_ready result (taken self (home_of home.old)) (home_of home.old) }
+        ensures punctual { StaysPunctual (home_of home.old) (home_of home.new) };
 
     /// Has the thing wake this task, which may look at it again and then finds so. The caller must have found that the
     /// thing would wake another task, or none.
@@ -85,7 +86,8 @@ pub trait Key<S, F>: Copy {
         requires stale { found self waker (home_of home.old) ≡ observation.Refresh }
         ensures awaited { home_of home.new ≡ awaited self waker (home_of home.old) }
         ensures wakes { found self waker (home_of home.new) ≡ observation.Pending }
-        ensures still { may_look self (home_of home.new) };
+        ensures still { may_look self (home_of home.new) }
+        ensures punctual { StaysPunctual (home_of home.old) (home_of home.new) };
 
     /// The message that has its worker send the result by this.
     fn forward(self, sender: Self::Sender) -> Forward<S, F>
@@ -183,6 +185,7 @@ impl<K: Copy> Registration<K> {
         ensures asks { (at : ℕ) (key : K) → self.old ≡ state.Waiting at key → at ≢ home.old.worker → (home_of home.new ≡ home_of home.old) × Asks P.closed P.taken post.old post.new (K.forward_by key sender) at key self.new answer.old answer.new result }
         ensures shut { (at : ℕ) (key : K) → self.old ≡ state.Waiting at key → at ≢ home.old.worker → P.closed post.old ≡ true → (result ≡ Err error.Closed) × (self.new ≡ state.Done) × (answer.new ≡ answer.old) }
         ensures hears { (at : ℕ) (key : K) → self.old ≡ state.Forwarded at key → (home_of home.new ≡ home_of home.old) × (post.new ≡ post.old) × (result ≡ heard (poll_answer answer.old)) × (self.new ≡ after_hearing self.old (poll_answer answer.old)) × (answer.new ≡ polled answer.old) }
+        ensures punctual { StaysPunctual (home_of home.old) (home_of home.new) }
     {
         match self.state {
             RegistrationState::Waiting(at, key) if at == home.worker => {
@@ -241,6 +244,7 @@ impl<K: Copy> Registration<K> {
         ensures unheld { (key : K) → pending_of self ≡ Some (home.old.worker, key) → IsUnheld (home_of home.new) (K.cancel_of key) }
         ensures elsewhere { (at : ℕ) (key : K) → pending_of self ≡ Some (at, key) → at ≢ home.old.worker → (home_of home.new ≡ home_of home.old) × Sends P.closed P.taken post.old post.new (K.cancel_of key) }
         ensures over { pending_of self ≡ None → (home_of home.new ≡ home_of home.old) × (post.new ≡ post.old) }
+        ensures punctual { StaysPunctual (home_of home.old) (home_of home.new) }
     {
         match self.pending() {
             Some((at, key)) if at == home.worker => {
@@ -291,6 +295,7 @@ impl<K: Copy> Registration<K> {
         ensures looks { home.old.closing ≡ false → let seen = K.found key waker (home_of home.old) in (result ≡ told_by_look seen) × (self.new ≡ state_after self.old seen) × (home_of home.new ≡ after_look seen (K.taken key (home_of home.old)) (K.awaited key waker (home_of home.old)) (home_of home.old)) }
         ensures wakes { home.old.closing ≡ false → result ≡ Ok None → (K.found key waker (home_of home.new) ≡ observation.Pending) × K.may_look key (home_of home.new) }
         ensures closing { home.old.closing ≡ true → (result ≡ Err error.Closed) × (self.new ≡ state.Done) × Cancels (home_of home.old) (home_of home.new) (K.cancel_of key) }
+        ensures punctual { StaysPunctual (home_of home.old) (home_of home.new) }
     {
         if home.closing {
             key.cancel().apply(home);

@@ -24,13 +24,13 @@ use crate::output::{RequestOutput, RetiredResources};
 use crate::poll::PollRequest;
 use crate::read_at::ReadAtRequest;
 use crate::recv::RecvRequest;
-use crate::results::{LARGEST_COUNT, WaiterState, is_within};
+use crate::results::WaiterState;
 use crate::send::SendRequest;
 use crate::sync::SyncRequest;
 use crate::window::Window;
 use crate::write_at::{WriteAtRequest, WriteAtState};
 use exec_base::error::Error;
-use exec_outcomes::outcome::{Kind, OpResult};
+use exec_outcomes::outcome::{Kind, LARGEST_COUNT, OpResult};
 
 /// What a task asks the kernel for, with what the kernel may use meanwhile. Ports `Request`.
 #[derive(Debug, Drop)]
@@ -204,7 +204,7 @@ impl Request {
     pub fn may_give(&self, given: OpResult) -> bool
         ensures { result ≡ is_lawful (window_of (asked_of self.now) (cursor_of self.now)) given }
     {
-        is_within(self.window_len(), given)
+        given.is_lawful(self.window_len())
     }
 
     /// The most that the next operation may answer.

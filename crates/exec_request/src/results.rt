@@ -1,7 +1,6 @@
 //! The numbers of results, and how a waiter stands when one is reaped.
 
 ghost use Rattle.std.specs.Prelude.{◌≡◌};
-ghost use Rattle.exec_outcomes.specs.Lawful.{is_lawful};
 ghost use Rattle.exec_outcomes.specs.Outcomes.{bytes_of};
 ghost use Rattle.exec_request.specs.States.{asks_cancel};
 
@@ -22,10 +21,6 @@ pub const CANCELED: u64 = 125;
 
 /// The largest window of an operation, in bytes.
 pub const LARGEST_WINDOW: u64 = 0xffff_ffff;
-/// The largest count that a result can say.
-pub const LARGEST_COUNT: u64 = 0x7fff_ffff;
-/// The largest error number that a result can say.
-pub const LARGEST_ERRNO: u64 = 4095;
 /// The alignment of direct reads, in bytes. Ports `DIRECT_ALIGN`.
 pub const DIRECT_ALIGN: u64 = 4096;
 
@@ -57,15 +52,5 @@ pub(crate) fn counted_by(given: OpResult) -> u64
     match given {
         OpResult::Count(count) => count,
         OpResult::Errno(_) => 0,
-    }
-}
-
-/// Whether the kernel may give this result where the next operation may answer so much.
-pub(crate) fn is_within(window: u64, given: OpResult) -> bool
-    ensures { result ≡ is_lawful window given }
-{
-    match given {
-        OpResult::Count(count) => count <= window && count <= LARGEST_COUNT,
-        OpResult::Errno(code) => 1 <= code && code <= LARGEST_ERRNO,
     }
 }

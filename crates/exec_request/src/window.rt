@@ -6,7 +6,7 @@
 ghost use Rattle.std.specs.Prelude.{◌≡◌};
 ghost use Rattle.exec_request.specs.Windows.{plain_window, cancel_window, wake_window, most_of};
 
-use crate::results::LARGEST_COUNT;
+use exec_outcomes::outcome::LARGEST_COUNT;
 
 /// The kind of an operation. Stands for the operation code of a submission.
 #[derive(Clone, Copy, Debug, PartialEq, Eq)]

@@ -12,10 +12,10 @@ use crate::cache::Cache;
 use crate::judge::judge;
 use crate::open_record::{OpenRecord, kept_as};
 use crate::output::{RequestOutput, RetiredResources};
-use crate::results::{LARGEST_COUNT, LARGEST_WINDOW, WaiterState, counted_by};
+use crate::results::{LARGEST_WINDOW, WaiterState, counted_by};
 use crate::window::{Opcode, Window};
 use exec_base::error::Error;
-use exec_outcomes::outcome::{Kind, OpResult};
+use exec_outcomes::outcome::{Kind, LARGEST_COUNT, OpResult};
 
 /// How durable a write is, and how far. Ports `WriteAtState`.
 #[derive(Clone, Copy, Debug, PartialEq, Eq)]

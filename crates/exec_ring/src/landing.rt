@@ -19,10 +19,12 @@ use exec_outcomes::outcome::OpResult;
 use exec_request::open_record::OpenRecord;
 use exec_request::request::Request;
 use exec_request::window::{Opcode, Window};
+use thiserror::Error;
 
 /// The operation with this user data can't end with this result: the kernel has no such operation, or the result is
 /// none that its window allows.
-#[derive(Clone, Copy, Debug, PartialEq, Eq)]
+#[derive(Clone, Copy, Debug, PartialEq, Eq, Error)]
+#[error("no operation {0} may end with {1}")]
 pub struct Unlawful(pub UserData, pub OpResult);
 
 impl SimRing {

@@ -303,20 +303,10 @@ fn last_of(flying: &[Submission], user_data: UserData) -> usize
 fn window_if_given(window: Window, given: OpResult) -> Option<Window>
     ensures { result ≡ window_if (is_lawful (most_of window) given) window }
 {
-    if may_give(window.most(), given) {
+    if given.is_lawful(window.most()) {
         Some(window)
     } else {
         None
-    }
-}
-
-/// Whether a kernel may give this result where the operation may answer so much.
-fn may_give(most: u64, given: OpResult) -> bool
-    ensures { result ≡ is_lawful most given }
-{
-    match given {
-        OpResult::Count(count) => count <= most && count <= 0x7fff_ffff,
-        OpResult::Errno(code) => 1 <= code && code <= 4095,
     }
 }
 

@@ -16,3 +16,4 @@ pub mod Carried
 pub mod Acts
 pub mod Wanted
 pub mod Playable
+pub mod TakenBytes

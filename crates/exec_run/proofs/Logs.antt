@@ -2,8 +2,10 @@
 use Rattle.std.proofs.Common.{◌≡◌, ◌≤◌, sum_by, List, [], ◌∷◌, Some, refl, subst, inl, arith}
 use Rattle.exec_machine.specs.{declared.{step.Step.Step}, World.World, Run.{RunsBy, after_steps}, Progress.{Plan, begin, no_stretch, RightlyAsleepBy}, Examples.{Told, choices_of, lines_of}}
 use Rattle.exec_moves.specs.Plays.{Playing, by_step, first_playing, GoesByMoves}
+use Rattle.exec_rest.specs.AtRest.{RestsWell}
+use Rattle.exec_settled.{proofs.Resting.has_let_go, specs.Settled.HaveLetGo}
 use Rattle.exec_core.specs.{Steady.{IsPacedThere, IsSteadyThere}, Turns.IsOrderly}
-use Rattle.exec_run.specs.{Log.{AreOrderly, AreResting, IsTheLogOf}, Steps.{Goes}}
+use Rattle.exec_run.specs.{Log.{InEach, IsTheLogOf}, Steps.{Goes}}
 use Rattle.exec_base.specs.declared.limits.TheConstants.{MOST_STEPS}
 use Rattle.exec_text.specs.Grammar.{count_of}
 use Rattle.exec_run.proofs.{CallsEnd.call_by, FewLines.{as_many_lines, few_lines}, Leads.{leads_there}, Stretches.solo_by, TurnsEnd.turns_by}
@@ -24,15 +26,16 @@ runs_by p x (it ∷ told) goes =
     )
 
 -- each of their states is orderly
-orderly_by : (p : Plan) (x : Playing) (told : List Told) → IsOrderly x → Goes p x told → AreOrderly p.config x told
+orderly_by : (p : Plan) (x : Playing) (told : List Told) → IsOrderly x → Goes p x told → InEach IsOrderly p.config x told
 orderly_by p x [] orderly goes = orderly
 orderly_by p x (it ∷ told) orderly goes = (orderly, orderly_by p (by_step p.config x it.0.action).next told goes.0.orderly goes.1)
 
--- where all sleep in one of them nothing is left to be run, and nobody sleeps on work
-rests_by : (p : Plan) (x : Playing) (told : List Told) → IsSteadyThere p.config x → Goes p x told → AreResting p.config x told
-rests_by p x [] there goes = there.rests.rests
-rests_by p x (it ∷ told) there goes = (there.rests.rests, rests_by p (by_step p.config x it.0.action).next told (goes.0.rests there.steady) goes.1)
+-- what a steady state has each of them has: where all sleep nothing is left to be run, and who has ended has let go
+each_by : (holds : Playing → Type 0) (p : Plan) → ((x : Playing) → IsSteadyThere p.config x → holds x) → (x : Playing) (told : List Told) → IsSteadyThere p.config x → Goes p x told → InEach holds p.config x told
+each_by holds p has x [] there goes = has x there
+each_by holds p has x (it ∷ told) there goes = (has x there, each_by holds p has (by_step p.config x it.0.action).next told (goes.0.rests there.steady) goes.1)
 
+-- nobody sleeps on work
 asleep_by : (p : Plan) (x : Playing) (told : List Told) → IsSteadyThere p.config x → Goes p x told → RightlyAsleepBy p.config x.world (lines_of told) (choices_of told)
 asleep_by p x [] there goes = there.rests.asleep
 asleep_by p x (it ∷ told) there goes =
@@ -55,7 +58,8 @@ is_the_log p steps told begins few has_lines goes =
       runs = runs_by p (first_playing p) told goes;
       plays = record { has_lines = has_lines; moves = by_moves p (first_playing p) told goes };
       orderly = orderly_by p (first_playing p) told begins.orderly goes;
-      rests = rests_by p (first_playing p) told begins.rests goes;
+      rests = each_by (RestsWell p.config) p (λ x there. there.rests.rests) (first_playing p) told begins.rests goes;
+      ended = each_by (λ x. HaveLetGo x.world) p (λ x there. has_let_go x.world there.steady.booked) (first_playing p) told begins.rests goes;
       asleep = asleep_by p (first_playing p) told begins.rests goes;
       solo = solo_by p.config (begin p) no_stretch (lines_of told) (choices_of told) (λ nobody. omega arith)
           (turns_by p 0 (first_playing p) no_stretch told (omega (arith, few, few_lines steps (lines_of told) has_lines, as_many_lines told)) begins.rests begins.paced (inl refl) goes)

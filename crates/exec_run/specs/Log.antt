@@ -8,6 +8,7 @@ use Rattle.exec_run.specs.{Ranges.first_out_of_range, Refusal.IsTextIn}
 use Rattle.exec_core.specs.Turns.{IsOrderly}
 use Rattle.exec_moves.specs.Plays.{Playing, Plays, by_step, first_playing}
 use Rattle.exec_rest.specs.AtRest.{RestsWell}
+use Rattle.exec_settled.specs.Settled.{HaveLetGo}
 
 -- The source held a trace that says this, which is not too long and whose configuration is in its ranges.
 pub record HasTrace (source : Option (List ℕ)) (m : Meaning) : Type 0 where
@@ -17,25 +18,22 @@ pub record HasTrace (source : Option (List ℕ)) (m : Meaning) : Type 0 where
   pub few : sum_by count_of m.steps ≤ MOST_STEPS
   pub in_range : first_out_of_range m.plan.config ≡ None
 
--- From this state on, and in each to which the lines lead, a task is queued once, and requests of files take turns.
-abbrev pub AreOrderly : Configuration → Playing → List Told → Type 0
-AreOrderly c x [] = IsOrderly x
-AreOrderly c x (it ∷ told) = IsOrderly x × AreOrderly c (by_step c x it.0.action).next told
-
--- From this state on, and in each to which the lines lead, nothing is left to be run where all workers sleep.
-abbrev pub AreResting : Configuration → Playing → List Told → Type 0
-AreResting c x [] = RestsWell c x
-AreResting c x (it ∷ told) = RestsWell c x × AreResting c (by_step c x it.0.action).next told
+-- This holds of a state, and of each to which the lines lead from there.
+abbrev pub InEach : (Playing → Type 0) → Configuration → Playing → List Told → Type 0
+InEach holds c x [] = holds x
+InEach holds c x (it ∷ told) = holds x × InEach holds c (by_step c x it.0.action).next told
 
 -- The lines, each with what it leaves open, are the log of these steps: a run of the machine; each line is what the step
 -- tells by its move, so that there is no other log; in each state a task that is to be polled has one runnable, one that is
 -- polled has one poller, and durable requests of an open take turns; where all sleep nothing is left to be run, and nothing
--- is unfinished, and a closing worker sleeps only while a request of its own isn't over; and no worker and no caller turns for ever.
+-- is unfinished, and a closing worker sleeps only while a request of its own isn't over; who has ended has let go of all its
+-- requests; and no worker and no caller turns for ever.
 pub record IsTheLogOf (p : Plan) (steps : List Step) (told : List Told) : Type 0 where
   pub runs : RunsBy p.config (begin p) (lines_of told) (choices_of told)
   pub plays : Plays p steps told
-  pub orderly : AreOrderly p.config (first_playing p) told
-  pub rests : AreResting p.config (first_playing p) told
+  pub orderly : InEach IsOrderly p.config (first_playing p) told
+  pub rests : InEach (RestsWell p.config) p.config (first_playing p) told
+  pub ended : InEach (λ x. HaveLetGo x.world) p.config (first_playing p) told
   pub asleep : RightlyAsleepBy p.config (begin p) (lines_of told) (choices_of told)
   pub solo : is_solo p.config (begin p) no_stretch (lines_of told) (choices_of told) ≡ true
 

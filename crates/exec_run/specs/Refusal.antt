@@ -1,5 +1,5 @@
 -- Why a run is refused before its first step, and how that is written.
-use Rattle.std.specs.Prelude.{◌≡◌, ℕ, Bool, true, false, ◌+◌, ◌^◌, ◌<◌, ◌≤◌, ◌⊎◌, List, [], ◌∷◌, ◌++◌, Option, Some, IfSome, String, string_bytes, map, length, sum_by, codes}
+use Rattle.std.specs.Prelude.{◌≡◌, ℕ, Bool, true, false, ◌+◌, ◌^◌, ◌<◌, ◌≤◌, ◌⊎◌, List, [], ◌∷◌, ◌++◌, Option, Some, IfSome, String, string_bytes, drop, map, length, sum_by, codes}
 use Rattle.std.specs.Fmt.{decimal}
 use Rattle.std.specs.declared.alloc.Global.{Global}
 use Rattle.exec_base.specs.{declared.limits.TheConstants.MOST_STEPS, Io.Rose}
@@ -9,6 +9,10 @@ use Rattle.exec_text.specs.Grammar.{Meaning, IsTraceOf, IsFirstFault, count_of}
 -- the most bytes that a trace may have
 abbrev pub most_bytes : ℕ
 most_bytes = 2 ^ 26
+
+-- at most so many bytes were taken of the source, from its front
+abbrev pub TakesWithin : ℕ → Option (List ℕ) → Option (List ℕ) → Type 0
+TakesWithin most old new = IfSome old (λ bytes. (taken : ℕ) × (taken ≤ most) × (new ≡ Some (drop taken bytes)))
 
 -- the text was all of what the source held, where that is known, and it's not too long
 pub record IsTextIn (source : Option (List ℕ)) (text : List ℕ) : Type 0 where

@@ -1,8 +1,8 @@
 //! Worked examples of what is written.
 
-ghost use Rattle.std.specs.Prelude.{◌≡◌, ◌≢◌, true, false, [], ◌∷◌, ◌++◌, codes};
+ghost use Rattle.std.specs.Prelude.{◌≡◌, ◌≢◌, true, false, [], ◌∷◌, ◌++◌, Some, codes};
 ghost use Rattle.std.specs.Fmt.{decimal};
-ghost use Rattle.exec_run.specs.{Examples.at_first, declared.{field.Field.TheVariants.{Workers, Layout}, complaint.Complaint.TheVariants.{Usage, Syntax, Config, TooLong}}, Explains.complaint_line, Refusal.{status_of, text_of_complaint, words_of_trace}};
+ghost use Rattle.exec_run.specs.{Examples.at_first, declared.{field.Field.TheVariants.{Workers, Layout}, complaint.Complaint.TheVariants.{Usage, Syntax, Config, TooLong}}, Explains.complaint_line, Refusal.{TakesWithin, status_of, text_of_complaint, words_of_trace}};
 ghost use Rattle.exec_machine.specs.{declared.{event.{Event.TheVariants.{Enter, Rouse, Stage, Turn}, StepResult.TheVariants.{Refused, Did}}, step.Action.TheVariants.{GoOn, Work}}, Choice.Choice.Plain, Examples.usual, Progress.{Party.{Caller, Worker}, is_solo, longer, no_stretch}, Text.told_lines};
 
 /// Complaints, and the status that each ends with.
@@ -27,6 +27,13 @@ pub fn words()
     ensures quiet { words_of_trace true ≡ codes "trace" ∷ codes "quiet" ∷ [] }
     ensures loud { words_of_trace true ≢ codes "trace" ∷ codes "loud" ∷ [] }
     ensures one { words_of_trace false ≢ words_of_trace true }
+{}
+
+/// What may be taken of a source of two or three bytes.
+pub fn taken()
+    ensures two { TakesWithin 2 (Some (1 ∷ 2 ∷ 3 ∷ [])) (Some (3 ∷ [])) }
+    ensures no_more { TakesWithin 1 (Some (1 ∷ 2 ∷ 3 ∷ [])) (Some (3 ∷ [])) → ⊥ }
+    ensures not_the_last { TakesWithin 1 (Some (1 ∷ 2 ∷ [])) (Some (1 ∷ [])) → ⊥ }
 {}
 
 /// How many quiet lines a party has made on end: one more by its own; another party's are its first, and a line that isn't

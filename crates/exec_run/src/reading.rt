@@ -7,8 +7,8 @@
 //! A source that fails is `ReadFault`. Want of memory is told only of a source that hasn't failed, and where it
 //! comes in the reading of the grammar, only of a text that is a trace.
 
-ghost use Rattle.std.specs.Prelude.{◌≡◌, ◌<◌, ◌≤◌, [], Some, IfOk, IfErr, IfSome, OnOk, length};
-ghost use Rattle.exec_run.specs.{Refusal.IsTextIn, Reading.{ReadsPiece, CannotTake, CannotRead, IsChecked, CannotRun}};
+ghost use Rattle.std.specs.Prelude.{◌≡◌, ◌+◌, ◌<◌, ◌≤◌, [], Some, IfOk, IfErr, IfSome, OnOk, length};
+ghost use Rattle.exec_run.specs.{Refusal.{IsTextIn, TakesWithin, most_bytes}, Reading.{ReadsPiece, CannotTake, CannotRead, IsChecked, CannotRun}};
 
 use crate::ranges::first_out_of_range;
 use crate::trace_error::TraceError;
@@ -35,6 +35,7 @@ fn read_piece<I: Input>(
     ensures within { IfOk result (λ count. count ≤ length buffer.old) }
     ensures read { IfOk result (ReadsPiece (I.left source.old) (I.left source.new)
         text.old.items text.new.items) }
+    ensures taken { TakesWithin (length buffer.old) (I.left source.old) (I.left source.new) }
     ensures err { IfErr result (λ e. CannotTake e (I.faults source.old) (I.faults source.new)) }
 {
     match source.take(buffer) {
@@ -51,6 +52,7 @@ pub fn read_all<I: Input>(alloc: Global, source: &mut I) -> Result<Vec<u8>, Trac
     ensures whole { IfOk result (λ text. IsTextIn (I.left source.old) text.items) }
     ensures well { OnOk result (I.faults source.new ≡ I.faults source.old) }
     ensures to_end { OnOk result (IfSome (I.left source.old) (λ _. I.left source.new ≡ Some [])) }
+    ensures few { TakesWithin (most_bytes + 1) (I.left source.old) (I.left source.new) }
     ensures err { IfErr result (λ e. CannotRead e (I.left source.old)
         (I.faults source.old) (I.faults source.new)) }
 {

@@ -8,8 +8,8 @@
 //! What a status means is said by the counts of faults: with 0 neither rose, with 5 that of the source did, with 6
 //! that of the sink, and with 7 neither did.
 
-ghost use Rattle.std.specs.Prelude.{◌≡◌, ◌≤◌, [], Some, IfErr, IfSome, IfNone, OnOk};
-ghost use Rattle.exec_run.specs.{Refusal.{AskForTrace, AskForSomeTrace}, Log.GaveLog, Explains.{NoneRose, IsCauseOf, IsGivenAt, Explains, Completes}, Steps.Complains};
+ghost use Rattle.std.specs.Prelude.{◌≡◌, ◌+◌, ◌≤◌, [], Some, IfErr, IfSome, IfNone, OnOk};
+ghost use Rattle.exec_run.specs.{Refusal.{AskForTrace, AskForSomeTrace, TakesWithin, most_bytes}, Log.GaveLog, Explains.{NoneRose, IsCauseOf, IsGivenAt, Explains, Completes}, Steps.Complains};
 
 use crate::complaint::Complaint;
 use crate::reading::{check, read_all};
@@ -49,6 +49,8 @@ pub fn run_trace<I: Input, O: Output>(
     ensures count { O.faults sink.old ≤ O.faults sink.new }
     // The source was read to its end.
     ensures to_end { OnOk result (IfSome (I.left source.old) (λ _. I.left source.new ≡ Some [])) }
+    // At most one byte more than a text may have was taken of it.
+    ensures few { TakesWithin (most_bytes + 1) (I.left source.old) (I.left source.new) }
     // Each error has its cause.
     ensures err { IfErr result (λ e. IsCauseOf e (I.left source.old)
         (I.faults source.old) (I.faults source.new) (O.faults sink.old) (O.faults sink.new)) }
@@ -103,6 +105,8 @@ pub fn run<I: Input, O: Output>(alloc: Global, words: &[String], source: &mut I,
         (O.passed sink.new) (O.faults sink.old) (O.faults sink.new) }
     // The source was read to its end.
     ensures to_end { result ≡ 0 → IfSome (I.left source.old) (λ _. I.left source.new ≡ Some []) }
+    // At most one byte more than a text may have was taken of it.
+    ensures few { TakesWithin (most_bytes + 1) (I.left source.old) (I.left source.new) }
     // For words that ask for no trace it isn't read.
     ensures unread { (AskForSomeTrace words.now → ⊥) → source.new ≡ source.old }
 {

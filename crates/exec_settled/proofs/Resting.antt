@@ -4,14 +4,14 @@ use Rattle.std.proofs.lemmas.Bool.{true≢false, false≢true, cases_lt, eq-eqb,
 use Rattle.std.proofs.lemmas.List.{get_or_past, Sums.sum_by-cons}
 use Rattle.std.specs.Prelude.{nat_le}
 use Rattle.std.specs.List.{list_any}
-use Rattle.exec_machine.specs.{declared.{config.Configuration.Configuration, state.{Request.Request, RequestPhase.RequestPhase}}, Deadlines.{earlier, first_timer, first_until, is_after}, Progress.{all_asleep, is_cancel_untold, is_sleeper_unfinished}, Tests.{has_ended, is_gated, is_in_flight, is_landed, is_open, is_queued, is_resolved, is_staged}, World.{Common, no_request, own_of, request_of, seat_of, sleeper_of}}
+use Rattle.exec_machine.specs.{declared.{config.Configuration.Configuration, state.{Request.Request, RequestPhase.RequestPhase}}, Deadlines.{earlier, first_timer, first_until, is_after}, Progress.{all_asleep, is_cancel_untold, is_sleeper_unfinished}, Tests.{has_ended, is_gated, is_in_flight, is_landed, is_open, is_queued, is_resolved, is_staged}, World.{Common, World, no_request, own_of, request_of, seat_of, sleeper_of}}
 use Rattle.exec_moves.specs.{declared.{handing.{AfterCallbacks.AfterCallbacks, Heard.Heard}, place.{InCallbacks.InCallbacks, InPoll.InPoll, Place.Place}}, Plays.{Playing, desk_of, first_desk}, State.Desk}
 use Rattle.exec_books.specs.Listed.{is_in}
 use Rattle.exec_settled.proofs.Undone.{after_earlier, none_slept, false_from_ne_true}
 use Rattle.exec_books.specs.Booked.{IsBooked, unreleased_of}
 use Rattle.exec_rest.specs.{AtRest.{IsPlaced, is_end, is_idle, stays_closing}, Places.is_abed, Posted.has_tested, Rested.{IsRestful, place_at, sleeps}}
 use Rattle.exec_rest.proofs.Rest.{down}
-use Rattle.exec_settled.specs.{Given.{passes_at}, Permits.{hands_to, is_past}, Settled.{HasSubmitted, HasTold, IsSettled, ends_ring_wait, waits_on_word}}
+use Rattle.exec_settled.specs.{Given.{passes_at}, Permits.{hands_to, is_past}, Settled.{HasSubmitted, HasTold, HaveLetGo, IsSettled, ends_ring_wait, waits_on_word}}
 
 -- PLACES OF SLEEP, AND OF THE END
 
@@ -54,6 +54,12 @@ all_released i (r ∷ rs) h zero own = by r.released refl
     by true is = refl
     by false is = let one : count_one i r ≡ 1 = rw (eq-eqb r.worker i own, is) refl in let sum = sum_by-cons (count_one i) r rs in absurd (omega (arith, one, sum, h))
 all_released i (r ∷ rs) h (suc k) own = all_released i rs (let sum = sum_by-cons (count_one i) r rs in omega (arith, sum, h)) k own
+
+-- who has ended has let go of all
+pub has_let_go : (w : World) → IsBooked w → HaveLetGo w
+has_let_go w booked i k ended own =
+    let out = all_released i w.common.requests (sym (booked.counted i) ∙ (booked.over i ended).0) k own in
+    (booked.let_go k out, out)
 
 -- a request that is over
 pub record IsOver (p : RequestPhase) : Type 0 where

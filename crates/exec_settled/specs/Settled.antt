@@ -1,8 +1,14 @@
 -- WHAT A WORKER HAS DONE before it sleeps stays done while it is left to itself.
 use Rattle.std.specs.Prelude.{◌≡◌, ℕ, Bool, true, false, ◌||◌, []}
-use Rattle.exec_machine.specs.{declared.config.Configuration.Configuration, Tests.is_staged, World.{Common, Own, own_of, request_of, seat_of}}
+use Rattle.exec_machine.specs.{declared.config.Configuration.Configuration, Tests.{has_ended, is_resolved, is_staged}, World.{Common, Own, World, own_of, request_of, seat_of}}
 use Rattle.exec_moves.specs.{declared.{idling.{InRingWait.InRingWait, Stay.Stay}, place.Place.Place}, Callback.has_requests, Load.may_stage, Plays.{Playing, desk_of}, State.Desk}
 use Rattle.exec_rest.specs.{AtRest.is_end, Places.is_to_sleep_on_ring, Posted.has_tested, Rested.{place_at, sleeps}}
+
+-- who has ended has let go of all its requests: each is over, and released
+abbrev pub HaveLetGo : World → Type 0
+HaveLetGo w =
+    (i k : ℕ) → has_ended (seat_of w.common i).phase ≡ true → (request_of w.common k).worker ≡ i
+    → (is_resolved (request_of w.common k).phase ≡ true) × ((request_of w.common k).released ≡ true)
 
 -- nothing waits for the callbacks
 pub record HasTold (me : Own) (d : Desk) : Type 0 where

@@ -1,11 +1,10 @@
 //! The laws of what is settled, for every state of an executor.
 
-ghost use Rattle.std.specs.Prelude.{◌≡◌, ℕ, true};
-ghost use Rattle.exec_machine.specs.{declared.{config.Configuration.Configuration, step.Action.Action}, Progress.{IsRightlyAsleep, Plan}, Run.Follows, Tests.{has_ended, is_resolved}, World.{World, request_of, seat_of}};
+ghost use Rattle.exec_machine.specs.{declared.{config.Configuration.Configuration, step.Action.Action}, Progress.{IsRightlyAsleep, Plan}, Run.Follows, World.World};
 ghost use Rattle.exec_moves.specs.Plays.{Playing, by_step, first_playing};
 ghost use Rattle.exec_books.specs.Booked.{IsBooked};
 ghost use Rattle.exec_rest.specs.{AtRest.{IsPlaced, RestsWell}, Rested.IsRestful};
-ghost use Rattle.exec_settled.specs.{Awaited.IsAwaited, Given.IsGiven, Permits.IsPermitted, Settled.IsSettled};
+ghost use Rattle.exec_settled.specs.{Awaited.IsAwaited, Given.IsGiven, Permits.IsPermitted, Settled.{HaveLetGo, IsSettled}};
 
 /// What is settled stays so in each step that follows in the machine: what a worker has done before it sleeps, permits that
 /// are passed on, and who is to be told of what has come.
@@ -30,6 +29,5 @@ pub fn nothing_is_unfinished_where_all_sleep()
 
 /// A worker that has ended has let go of all its requests: each is over and released.
 pub fn who_has_ended_has_let_go()
-    ensures ended { (w : World) → IsBooked w → (i k : ℕ) → has_ended (seat_of w.common i).phase ≡ true → (request_of w.common k).worker ≡ i →
-        (is_resolved (request_of w.common k).phase ≡ true) × ((request_of w.common k).released ≡ true) }
+    ensures ended { (w : World) → IsBooked w → HaveLetGo w }
 {}

@@ -7,11 +7,8 @@ ghost use Rattle.exec_text.specs.{Grammar.{text_of_step, StepFits, StepNames, Re
 
 use crate::field::{first_field, next_field};
 use crate::number::{next_number, number, positive};
-use exec_machine::step::{Action, Step};
+use exec_machine::step::{Action, CALLERS, Step};
 use exec_outcomes::outcome::OpResult;
-
-/// The last caller.
-const LAST_CALLER: usize = 15;
 
 /// The step that the line spells, where there are so many scripts.
 pub(crate) fn step_of(line: &[u8], scripts: usize) -> Option<Step>
@@ -69,7 +66,7 @@ fn call_of(caller: usize, scripts: usize, bytes: &[u8]) -> Option<Action>
     ensures few { IfSome result (λ _. caller < 16) }
     ensures none { IfNone result ((a : Action) → caller < 16 → IsCall caller scripts bytes.now a → ⊥) }
 {
-    if caller > LAST_CALLER {
+    if caller >= CALLERS {
         return None;
     }
     if bytes.is_empty() {

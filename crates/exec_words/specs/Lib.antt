@@ -1,4 +1,5 @@
 pub mod Examples
+pub mod Generator
 pub mod Global
 pub mod Head
 pub mod Idle

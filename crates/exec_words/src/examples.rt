@@ -1,7 +1,7 @@
 //! Worked examples of the definitions, proved by computation: what holds, and what doesn't.
 
 ghost use Rattle.std.specs.Prelude.{◌≡◌, ◌≢◌, ◌-◌, ◌^◌, true, false, [], ◌∷◌, Some, None};
-ghost use Rattle.exec_words.specs.{declared.head.Fit.Fit, declared.inbox.Message.Message, declared.word.WaitTarget.WaitTarget, Global.share_of, Head.fit_at, Head.room_at, Head.is_stealable_at, Idle.lowest_of, Inbox.sent, Inbox.batch_taken, Inbox.has_mail, Queue.claimed, Queue.popped, Queue.released, Queue.overflowed, Queue.newest, Queue.restored, QueueRuns.IsWithin, Word.asks_signal, Word.is_idle_at, Word.next_batch};
+ghost use Rattle.exec_words.specs.{declared.head.Fit.Fit, declared.inbox.Message.Message, declared.word.WaitTarget.WaitTarget, Generator.stirred, Global.share_of, Head.fit_at, Head.room_at, Head.is_stealable_at, Idle.lowest_of, Inbox.sent, Inbox.batch_taken, Inbox.has_mail, Queue.claimed, Queue.popped, Queue.released, Queue.overflowed, Queue.newest, Queue.restored, QueueRuns.IsWithin, Word.asks_signal, Word.is_idle_at, Word.next_batch};
 ghost use Rattle.exec_words.specs.Examples.{numbers, head, queue_at, five, popped_past, full, word, no_mail, two_letters, a_run, searches};
 
 /// Five values, of which a thief claims two. The owner pops two past the claim, and the release
@@ -71,4 +71,12 @@ pub fn runs()
     ensures not_turned { IsWithin (3 ∷ 1 ∷ []) (numbers 1 3) → ⊥ }
     ensures not_twice { IsWithin (1 ∷ 1 ∷ []) (numbers 1 3) → ⊥ }
     ensures searches { searches ≡ record { count = 1; came_in = 2; went_out = 1 } }
+{}
+
+/// The generators of the workers 0 and 1, from their seeds on.
+pub fn where_a_search_begins()
+    ensures next { stirred 1 ≡ 270369 }
+    ensures after { stirred 270369 ≡ 67634689 }
+    ensures other { stirred 2 ≡ 540738 }
+    ensures not_itself { stirred 1 ≢ 1 }
 {}

@@ -5,10 +5,11 @@
 //! or a `reserve` takes memory. So an executor in one thread makes its steps of these calls in any order, and what runs
 //! in threads is proved to make the same transitions. The things are a worker's run queue (`queue`), the queue of all
 //! workers (`global`), the set of idle ones with its search count (`idle`), the wake word (`word`), and messages for
-//! one worker in batches (`inbox`, `mailbox`).
+//! one worker in batches (`inbox`, `mailbox`). Beside them stands the generator of a worker's searches (`generator`).
 #![tactic(auto)]
 
 pub mod examples;
+pub mod generator;
 pub mod global;
 pub mod head;
 pub mod idle;

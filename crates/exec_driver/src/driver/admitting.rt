@@ -27,8 +27,9 @@ impl<R: Ring + Drop, S: Drop, F: Drop> Driver<R, S, F> {
     /// A durable one is gated, and has to join the line of its open by `join`; any other is queued. Of a plain write
     /// its open is told that a change begins.
     ///
-    /// `Full` comes only where no request can be named any more, `NoMemory` only where there is no memory; the request
-    /// and who waits for it come back then, and nothing changes. The ring keeps few places that requests left which are
+    /// `Full` comes only where each index below 2^32 - 1 is that of a request, of an output or of a retired slot, and
+    /// none is admitted then; `NoMemory` only where there is no memory. The request and who waits for it come back, and
+    /// nothing changes. The ring keeps few places that requests left which are
     /// over, however many there were. The caller must have a sync where its outcome alone is to be sent, and for a
     /// durable request an open of its number: no other ever gives it the permit. Ports `admit`.
     pub fn admit(

@@ -9,7 +9,7 @@
 //! none and tells of one end at most, so the room that was there for the ends of all requests is there for those that
 //! are left.
 
-ghost use Rattle.std.specs.Prelude.{◌≡◌, ◌<◌, ◌≤◌, ◌&&◌, ◌||◌, ◌==◌, [], true, false, IsTrue};
+ghost use Rattle.std.specs.Prelude.{◌≡◌, ℕ, ◌<◌, ◌≤◌, ◌&&◌, ◌||◌, ◌==◌, not, [], true, false, IsTrue};
 ghost use Rattle.exec_ring.specs.Kernels.{is_quiet};
 ghost use Rattle.exec_time.specs.Wheel.{IsWithinReach};
 ghost use Rattle.exec_waiters.specs.States.{pending_count};
@@ -89,7 +89,8 @@ impl<R: Ring + Drop, S: Drop, F: Drop> Driver<R, S, F> {
     /// Makes ready to wait on the ring, having taken `processed` batches of messages, and enters it. Where it answers
     /// true the word stays armed: the worker sleeps while `may_sleep` says so, and must disarm the word before it goes
     /// on. False just where it may not wait: a submission is pending, the wake poll has no room, or the word had a signal
-    /// or another batch; then the word isn't armed. The caller must not wait already. Ports `park`.
+    /// or another batch; then the word isn't armed. In the last case its signal is taken out, so the caller must serve
+    /// next; the batches are still to be taken. The caller must not wait already. Ports `park`.
     pub fn park<A: Armed>(&mut self, processed: u32, word: &mut A) -> bool
         requires unarmed { A.is_armed word.old ≡ false }
         ensures answer { result ≡ (may_wait (seen self.old) && is_calm (A.is_signalled word.old) (A.is_caught_up word.old processed)) }
@@ -97,6 +98,8 @@ impl<R: Ring + Drop, S: Drop, F: Drop> Driver<R, S, F> {
         ensures waits { A.is_armed word.new ≡ result }
         ensures calm { IsTrue result → is_calm (A.is_signalled word.new) (A.is_caught_up word.new processed) ≡ true }
         ensures untouched { may_wait (seen self.old) ≡ false → word.new ≡ word.old }
+        ensures signal { A.is_signalled word.new ≡ (A.is_signalled word.old && not (may_wait (seen self.old))) }
+        ensures batches { (taken : ℕ) → A.is_caught_up word.new taken ≡ A.is_caught_up word.old taken }
         ensures armed { IsTrue result → (seen self.new).armed ≡ true }
         ensures entered { IsTrue result → (seen self.old).ring.busy ≡ false → (seen self.new).ring.staged ≡ [] }
         ensures same { seen self.new ≡ record (seen self.old) { ring = (seen self.new).ring; landings = (seen self.new).landings; armed = (seen self.new).armed } }
@@ -345,6 +348,8 @@ fn disarm_unless<A: Armed>(calm: bool, word: &mut A)
     requires armed { A.is_armed word.old ≡ true }
     ensures waits { A.is_armed word.new ≡ calm }
     ensures same { IsTrue calm → word.new ≡ word.old }
+    ensures signal { A.is_signalled word.new ≡ (A.is_signalled word.old && calm) }
+    ensures batches { (taken : ℕ) → A.is_caught_up word.new taken ≡ A.is_caught_up word.old taken }
 {
     if !calm {
         word.disarm();

@@ -7,13 +7,13 @@
 ghost use Rattle.std.specs.Prelude.{◌≡◌, ◌+◌, ◌<◌, ◌^◌, ◌&&◌, Bool, nat_le};
 ghost use Rattle.exec_machine.specs.declared.state.Request.{Request};
 ghost use Rattle.exec_machine.specs.Requests.{asked_of as asked_in, cursor_of as cursor_in, went_on};
-ghost use Rattle.exec_outcomes.specs.{Lawful.{is_lawful, window_of}, Outcomes.{bytes_of, counted_for, is_positive, is_transient, is_unsupported, moves_on, part_now, suits_direct}};
+ghost use Rattle.exec_outcomes.specs.{Lawful.window_of, Outcomes.{bytes_of, counted_for, is_positive, is_transient, is_unsupported, moves_on, part_now, suits_direct}};
 ghost use Rattle.exec_parts.specs.Records.{IsCountable};
 
 use exec_machine::state::Operation;
-use exec_outcomes::outcome::{Kind, OpResult};
+use exec_outcomes::outcome::{Kind, LARGEST_COUNT, OpResult};
 use exec_request::read_at::DIRECT_CHUNK;
-use exec_request::results::{LARGEST_COUNT, LARGEST_ERRNO, LARGEST_WINDOW};
+use exec_request::results::LARGEST_WINDOW;
 
 /// The operation by one more result. One that was to be asked for again moved nothing; a refused hint is given up; and
 /// where the first part of two is over, the second begins.
@@ -129,15 +129,5 @@ pub(crate) fn window(operation: &Operation) -> u64
             pages.saturating_sub(operation.moved).min(DIRECT_CHUNK)
         }
         _ => length.saturating_sub(operation.moved).min(LARGEST_WINDOW),
-    }
-}
-
-/// Whether a kernel may give this result where the operation may answer so much.
-pub(crate) fn is_within(window: u64, given: OpResult) -> bool
-    ensures { result ≡ is_lawful window given }
-{
-    match given {
-        OpResult::Count(count) => count <= window && count <= LARGEST_COUNT,
-        OpResult::Errno(code) => 1 <= code && code <= LARGEST_ERRNO,
     }
 }

@@ -12,7 +12,7 @@ ghost use Rattle.exec_machine.specs.declared.state.RequestPhase.TheVariants as p
 ghost use Rattle.exec_machine.specs.{Tests.{is_in_flight, is_flying, is_kept, is_of_file, is_resolved, is_unsent}, Requests.{new_request, resolved, resolved_if, dropped, ends_by_drop, flown, granted, reaped, asks_hint, asked_of as asked_in, cursor_of as cursor_in}, Deadlines.{expired, outcome_at_expiry}};
 ghost use Rattle.exec_parts.specs.{Records.{outcome_in, offset_in, operation_in, seen_in, IsCountable, IsInRange}, Calls.{paying, releasing, forwarded_for}};
 
-use crate::parts::cursor::{gone_on, is_within, window};
+use crate::parts::cursor::{gone_on, window};
 use exec_base::error::Error;
 use exec_machine::state::{Forwarding, Operation, Request, RequestPhase};
 use exec_outcomes::outcome::{Kind, OpResult, Outcome};
@@ -117,7 +117,7 @@ impl Record {
         ensures { result ≡ (is_flying self.now.shown.phase && is_lawful (window_of (asked_in self.now.shown.operation) (cursor_in self.now.shown.operation)) given) }
     {
         matches!(self.shown.phase, RequestPhase::Flying)
-            && is_within(window(&self.shown.operation), given)
+            && given.is_lawful(window(&self.shown.operation))
     }
 
     /// Nobody holds it any more. A write or a sync goes on; any other is over where the kernel doesn't have it, and

@@ -1,7 +1,7 @@
 use Rattle.std.proofs.Common.{sym, ap, ◌∙◌, arith}
 use Rattle.exec_waiters.specs.States.{gate_in}
 use Rattle.exec_driver.specs.{Driving.{Driving, seen, request_at}}
-use Rattle.exec_driver.proofs.{Admitting.{on_ok}, Arriving.{placed_over}, Lines.{placed_back, placed_there}, Storing.{given_back}, Keeping.{rooms_punctual, place_made}}
+use Rattle.exec_driver.proofs.{Admitting.{on_ok, refused_over}, Arriving.{placed_over}, Lines.{placed_back, placed_there}, Storing.{given_back}, Keeping.{rooms_punctual, place_made}}
 use Rattle.exec_driver.proofs.driver.Driver.admit.Goals as goal
 
 pub returns-in-Ok-clause-admits : goal.returns-in-Ok-clause-admits
@@ -34,3 +34,7 @@ returns-in-Ok-clause-punctual g c = λ p. rooms_punctual _ _ c.trim.ensures.same
 
 pub returns-in-Err-clause-punctual : goal.returns-in-Err-clause-punctual
 returns-in-Err-clause-punctual g c = λ p. rooms_punctual _ _ c.give_up_places.ensures.same (c.take_in.ensures.punctual (rooms_punctual _ _ c.make_room.ensures.same p))
+
+pub returns-in-Err-clause-refused : goal.returns-in-Err-clause-refused
+returns-in-Err-clause-refused g c =
+    refused_over (seen c.args.self.now) _ _ _ c.make_room.ensures.same c.in-Err.ensures.refused

@@ -1,7 +1,7 @@
 use Rattle.std.proofs.Common.{◌≡◌, true, false, sym, ◌∙◌, rules, arith}
 use Rattle.std.proofs.lemmas.Bool.{false≢true}
 use Rattle.exec_driver.specs.Driving.{seen}
-use Rattle.exec_driver.proofs.{Keeping.way_punctual, Turns.{wait_pending, wait_calm, way_free, poll_any}, Service.{waited, pending_refused, may_after}}
+use Rattle.exec_driver.proofs.{Keeping.way_punctual, Turns.{wait_pending, wait_calm, way_free, way_may, poll_any}, Service.{waited, pending_refused, may_after, signal_left, signal_out, may_pending, may_poll}}
 use Rattle.exec_driver.proofs.driver.Driver.park.Goals as goal
 
 pub returns-then-has_pending_submissions-clause-answer : goal.returns-then-has_pending_submissions-clause-answer
@@ -42,3 +42,20 @@ returns-clause-untouched g c = λ refused.
     let is : c.has_pending_submissions.result ≡ false = search rules in
     let poll : c.stage_wake_poll.result ≡ true = search rules in
     absurd (false≢true (sym refused ∙ may_after (seen c.args.self.now) (seen c.make_way.new.self) c.make_way.ensures (sym c.has_pending_submissions.ensures ∙ is) (sym c.stage_wake_poll.ensures.answer ∙ poll)))
+
+pub returns-then-has_pending_submissions-clause-signal : goal.returns-then-has_pending_submissions-clause-signal
+returns-then-has_pending_submissions-clause-signal g c =
+    let is : c.has_pending_submissions.result ≡ true = search rules in
+    signal_left _ _ (way_may (seen c.args.self.now) (seen c.make_way.new.self) c.make_way.ensures ∙ may_pending _ _ (sym c.has_pending_submissions.ensures ∙ is))
+
+pub returns-then-not-stage_wake_poll-clause-signal : goal.returns-then-not-stage_wake_poll-clause-signal
+returns-then-not-stage_wake_poll-clause-signal g c =
+    let poll : c.stage_wake_poll.result ≡ false = search rules in
+    signal_left _ _ (way_may (seen c.args.self.now) (seen c.make_way.new.self) c.make_way.ensures ∙ may_poll _ _ (sym c.stage_wake_poll.ensures.answer ∙ poll))
+
+pub returns-clause-signal : goal.returns-clause-signal
+returns-clause-signal g c =
+    let is : c.has_pending_submissions.result ≡ false = search rules in
+    let poll : c.stage_wake_poll.result ≡ true = search rules in
+    let may = may_after (seen c.args.self.now) (seen c.make_way.new.self) c.make_way.ensures (sym c.has_pending_submissions.ensures ∙ is) (sym c.stage_wake_poll.ensures.answer ∙ poll) in
+    signal_out _ _ _ _ _ _ may c.arm-calm.ensures.calm c.arm-calm.ensures.signal c.disarm_unless.ensures.signal

@@ -5,7 +5,7 @@ use Rattle.exec_request.specs.Requests.{deadline_of, gate_of}
 use Rattle.exec_time.specs.WheelView.{wheel_of, room_of}
 use Rattle.exec_waiters.specs.{States.{deadline_in, gate_in}, Told.nothing_told}
 use Rattle.exec_driver.specs.{Driving.{Driving, seen, request_at, is_queued, is_gated, is_unenrolled}, Steps.{newcomer, is_late, timed_out}}
-use Rattle.exec_driver.proofs.{Admitting.on_ok, Arriving.{Arrives, ready_of, one_arrived, live_arrived, live_finished, takes_over, takes_finished, joins_none, joins_put, durable_gated, put_few, put_room, is_refused, placed_over, room_to_join, held_arrived}, Telling.{tells_both, room_left, room_within, few_finished}, Endings.one_finished, Keeping.{rooms_punctual, punctual_one, ended_punctual}}
+use Rattle.exec_driver.proofs.{Admitting.{on_ok, refused_over, turned_down}, Arriving.{Arrives, ready_of, one_arrived, live_arrived, live_finished, takes_over, takes_finished, joins_none, joins_put, durable_gated, put_few, put_room, is_refused, placed_over, room_to_join, held_arrived}, Telling.{tells_both, room_left, room_within, few_finished}, Endings.one_finished, Keeping.{rooms_punctual, punctual_one, ended_punctual}}
 use Rattle.exec_driver.proofs.driver.Driver.take_in.Goals as goal
 
 pub invariant_of-self-then-is_late : goal.invariant_of-self-then-is_late
@@ -138,3 +138,9 @@ returns-clause-punctual g c = λ p.
 
 pub returns-in_err-id-clause-punctual : goal.returns-in_err-id-clause-punctual
 returns-in_err-id-clause-punctual g c = grind (arith, rooms_punctual)
+
+pub returns-in_err-id-clause-refused : goal.returns-in_err-id-clause-refused
+returns-in_err-id-clause-refused g c =
+    let same = rw (← c.self.view_is) at c.make_places.ensures.same in
+    let back = refused_over (seen c.args.self.now) _ (record { request = c.args.request; observer = c.args.observer }) c.in_err-id.field-0.0 same (turned_down c.self.inside.waiters _ _ c.in_err-id.ensures.refused) in
+    grind arith
