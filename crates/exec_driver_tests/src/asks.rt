@@ -1,4 +1,4 @@
-//! The requests of the worked examples, and what is found of them.
+//! The requests of the tables, and what is found of them.
 
 use crate::worker::{buffers, send};
 use exec_base::error::Error;

@@ -1,4 +1,5 @@
 //! Each small call once, with ample memory, calls that come too late, and an admission for which memory is wanting.
+//! What has to come of them is what the rules of requests, of opens and of the ring say, but for one row that says so.
 
 ghost use Rattle.std.specs.Prelude.{◌<◌, IfSome};
 ghost use Rattle.exec_driver.specs.Opens.{open_at};
@@ -16,9 +17,9 @@ use exec_driver::home::Home;
 use exec_driver::opens::{Opens, WaiterKey};
 use exec_outcomes::outcome::OpResult;
 use exec_request::window::{Opcode, Window};
-use exec_ring::completion::Completion;
+use exec_ring::completion::{CANCEL_USER_DATA, Completion};
 use exec_ring::landing::Unlawful;
-use exec_ring::ring::Entered;
+use exec_ring::ring::{Entered, Ring};
 use exec_ring::sim_ring::SimRing;
 use exec_ring::store::Store;
 use exec_waiters::deferred::Deferred;
@@ -98,6 +99,7 @@ fn what_is_gone_stays_gone(rt: HostRuntime) {
         Step::Look(Look::Len(1)),
         Step::Look(Look::Counts((0, 2, 2, 0, 1))),
         Step::Turn(Turn::Land(new, OpResult::Errno(104), Ok(()))),
+        // this row is the worked example that was asked for
         Step::Look(Look::UserData(name(7, (1 << 32) + 3), (3 << 32) + 7)),
     ];
     play(&rt, rt.alloc(), 4, &steps);
@@ -111,6 +113,8 @@ fn a_home_is_new(rt: HostRuntime) {
     ours.driver().lands_nothing();
     ours.driver().flies_permitted();
     ours.driver().has_deadlines();
+    ours.driver().lists_requests();
+    ours.driver().tells_deadlines();
     let home: Home<SimRing, u32, u32> = Home::new(alloc, 3, ours.into_driver());
     same_number(&rt, 0, Some(home.worker), Some(3));
     same_count(&rt, 1, home.driver.len(), 0);
@@ -177,6 +181,22 @@ fn completions_say_what_they_are(rt: HostRuntime) {
     holds(&rt, 1, !failed.is_wake());
     same(&rt, 2, &Completion::wake(false).given(), &bytes(1));
     holds(&rt, 3, Completion::wake(false).is_wake());
+}
+
+#[test]
+fn a_look_leaves_a_completion_there(rt: HostRuntime) {
+    let (alloc, cancel) = (rt.alloc(), Window::cancel(7));
+    let mut store = Store::new(alloc);
+    let mut ring = SimRing::new(alloc, 1).expect(&rt, "no memory");
+    let made = ring.reserve(alloc, cancel, &mut store);
+    demand(&rt, made.is_ok(), "no memory");
+    ring.stage(cancel, CANCEL_USER_DATA);
+    same(&rt, 0, &ring.peek(), &None);
+    same(&rt, 1, &ring.enter(), &Entered::Taken(1));
+    let taken_in = Some(Completion::acknowledgement(CANCEL_USER_DATA));
+    same(&rt, 2, &ring.peek(), &taken_in);
+    same(&rt, 3, &ring.reap(), &taken_in);
+    same(&rt, 4, &ring.peek(), &None);
 }
 
 #[test]

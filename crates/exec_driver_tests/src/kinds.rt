@@ -1,4 +1,5 @@
-//! Requests of each kind through a driver: what is told of them, the bytes that move, and what comes back.
+//! Requests of each kind through a driver: what is told of them, the bytes that move, and what comes back. What has to
+//! come of each step is what the rules of requests, of opens and of the ring say.
 
 use crate::asks::{Ask, Seen};
 use crate::steps::{Lent, Look, Step, Turn, Wait};

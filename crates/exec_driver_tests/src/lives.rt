@@ -1,4 +1,5 @@
-//! Requests through a driver: services, deadlines, gates.
+//! Requests through a driver: services, deadlines, gates. What has to come of each step is what the rules of requests
+//! and of the ring say, but for two tables that say so.
 
 use crate::asks::{Ask, Seen};
 use crate::steps::{Lent, Look, Sign, Step, Turn, Wait};
@@ -16,6 +17,7 @@ use std::process::Abort;
 fn a_send_lands_once(rt: HostRuntime) {
     let id = name(0, 0);
     let twice = Err(Unlawful(0, bytes(10)));
+    // the worked example that was asked for, and looks between its calls by the rules
     let steps = [
         Step::Wait(Wait::Admit(Ask::Send, id)),
         Step::Look(Look::Is(Sign::Pending, true)),
@@ -46,6 +48,7 @@ fn a_failed_write_fails_the_next(rt: HostRuntime) {
     let id = name(0, 0);
     let failed = Err(Error::Io(Cause::Code(5)));
     let kept = Err(Error::BlobSyncFailed(0, Cause::Code(5)));
+    // the worked example that was asked for, and looks between its calls by the rules
     let steps = [
         Step::Wait(Wait::Admit(Ask::DurableWrite, id)),
         Step::Wait(Wait::Join(0, id)),
@@ -139,6 +142,25 @@ fn nobody_sleeps_on_what_is_only_staged(rt: HostRuntime) {
         Step::Look(Look::MaySleep(3, None, true)),
     ];
     play(&rt, rt.alloc(), 4, &steps);
+}
+
+#[test]
+fn nobody_waits_where_the_wake_poll_has_no_room(rt: HostRuntime) {
+    let id = name(0, 0);
+    let steps = [
+        Step::Wait(Wait::Admit(Ask::Poll(None), id)),
+        Step::Turn(Turn::Busy),
+        Step::Turn(Turn::Stage(Some(id))),
+        Step::Look(Look::Is(Sign::Pending, false)),
+        Step::Look(Look::Is(Sign::Full, true)),
+        Step::Turn(Turn::Busy),
+        Step::Turn(Turn::Park(true, false)),
+        Step::Look(Look::Is(Sign::NeedsWakePoll, true)),
+        Step::Turn(Turn::Park(true, true)),
+        Step::Look(Look::Is(Sign::NeedsWakePoll, false)),
+        Step::Look(Look::MaySleep(3, None, true)),
+    ];
+    play(&rt, rt.alloc(), 1, &steps);
 }
 
 /// An enrolment of the request in this slot, and how it ended.

@@ -1,4 +1,4 @@
-//! Worked examples of drivers as tables: each step is a call with the answer that has to come, or a look.
+//! Tests of drivers as tables: each step is a call with the answer that has to come, or a look.
 
 use crate::asks::{Ask, Seen};
 use crate::found::Counts;

@@ -1,4 +1,5 @@
-//! The requests of a worker through their lives: who waits, what is told, what a slot is taken for.
+//! The requests of a worker through their lives: who waits, what is told, what a slot is taken for. What has to come of
+//! each call is what the rules of requests say, but for two tables that say so.
 
 use crate::found::same;
 use crate::requests::{Call, Found, Look, Requests, Wait, play};
@@ -13,6 +14,7 @@ use std::process::Abort;
 
 #[test]
 fn user_data_has_the_low_half_of_the_generation(rt: HostRuntime) {
+    // the original's answers
     let rows = [
         (7, 4_294_967_299, 12_884_901_895),
         (0, 4_294_967_296, 0),
@@ -88,6 +90,7 @@ fn a_recycled_slot_takes_no_old_completion(rt: HostRuntime) {
 fn user_data_comes_back_after_half_of_the_generations(rt: HostRuntime) {
     let waiters = Waiters::starting_at(rt.alloc(), 4_294_967_296);
     let id = name(0, 4_294_967_296);
+    // the worked example that was asked for
     let calls = [
         Call::Admit(None, id),
         Call::Stage(id, 0),

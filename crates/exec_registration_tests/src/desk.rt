@@ -170,6 +170,11 @@ impl Desk {
         self.home.timers.insert(alloc, at, TaskNo(task)).ok()
     }
 
+    /// How many sleepers there are.
+    pub fn sleepers(&self) -> usize {
+        self.home.timers.len()
+    }
+
     /// Wakes the sleepers whose moment, in nanoseconds, has come. It fails where memory is wanting.
     pub fn wake_sleepers(&mut self, rt: &impl Abort, alloc: Global, now: u64) {
         let (timers, notes) = (&mut self.home.timers, &mut self.home.deferred.notes);
@@ -200,10 +205,13 @@ impl Desk {
         driver.grant(0, 0, opens, told);
     }
 
-    /// Applies a cancel of a request that came from elsewhere.
-    pub fn apply_cancel(&mut self, rt: &impl Abort, alloc: Global, id: WaiterId) {
+    /// Applies a cancel that came from elsewhere. It fails where none came.
+    pub fn apply_cancel(&mut self, rt: &impl Abort, alloc: Global, cancel: Option<Cancel>) {
         make_room(rt, alloc, &mut self.home.deferred, 2);
-        Cancel::Waiter(id).apply(&mut self.home);
+        match cancel {
+            Some(cancel) => cancel.apply(&mut self.home),
+            None => panic!(rt; "no cancel"),
+        }
     }
 
     /// Stages the first request that was ever named.
@@ -263,26 +271,33 @@ impl Desk {
         op.poll(TaskNo(task), &mut self.home, 9, &mut self.mail, answer)
     }
 
-    /// Polls a registration of a sleeper for a task.
+    /// Polls a registration of a sleeper for a task, with sender 9.
     pub fn wait(
         &mut self,
         rt: &impl Abort,
         alloc: Global,
         sleep: &mut Registration<TimerId>,
         task: u32,
+        answer: &mut OneShot<Result<(), Error>>,
     ) -> Result<Option<()>, Error> {
         make_room(rt, alloc, &mut self.home.deferred, 2);
         demand(rt, may_wait(sleep, &self.home), "it may not be polled");
-        let (home, mail) = (&mut self.home, &mut self.mail);
-        sleep.poll(TaskNo(task), home, 9, mail, &mut OneShot::new())
+        sleep.poll(TaskNo(task), &mut self.home, 9, &mut self.mail, answer)
     }
 
-    /// Applies a forward of a request that came from elsewhere.
+    /// Applies a forward that came from elsewhere.
     pub fn apply(&mut self, rt: &impl Abort, alloc: Global, forward: Forward<u32, u32>) {
         match forward {
-            Forward::Timer(_, _) => {}
+            Forward::Timer(id, sender) => self.forward_sleeper(rt, alloc, id, sender),
             Forward::Waiter(id, sender) => self.forward(rt, alloc, id, sender),
         }
+    }
+
+    fn forward_sleeper(&mut self, rt: &impl Abort, alloc: Global, id: TimerId, sender: u32) {
+        make_notes(rt, alloc, &mut self.home.deferred.notes, 1);
+        refuse(rt, self.home.timers.is_forwarded(id), "it is forwarded");
+        let forward: Forward<u32, u32> = Forward::Timer(id, sender);
+        forward.apply(&mut self.home);
     }
 
     fn forward(&mut self, rt: &impl Abort, alloc: Global, id: WaiterId, sender: u32) {
@@ -314,8 +329,19 @@ impl Desk {
         op.release_elsewhere::<u32, u32, Mail>(&mut self.mail);
     }
 
+    /// Lets a registration of a sleeper go.
+    pub fn release_sleeper(
+        &mut self,
+        rt: &impl Abort,
+        alloc: Global,
+        sleep: Registration<TimerId>,
+    ) {
+        make_room(rt, alloc, &mut self.home.deferred, 2);
+        sleep.release(&mut self.home, &mut self.mail);
+    }
+
     /// Who has no worker lets a registration of a sleeper go.
-    pub fn release_sleeper(&mut self, sleep: Registration<TimerId>) {
+    pub fn release_sleeper_away(&mut self, sleep: Registration<TimerId>) {
         sleep.release_elsewhere::<u32, u32, Mail>(&mut self.mail);
     }
 }

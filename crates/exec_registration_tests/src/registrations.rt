@@ -1,13 +1,13 @@
-//! Registrations of requests: polls here and elsewhere, and what is let go.
+//! Registrations of requests: polls here and elsewhere, and what is let go. What has to come of each step is what the
+//! rules of registrations say.
 
-use crate::desk::{Awaited, Desk, name};
+use crate::desk::{Awaited, name};
 use crate::found::{holds, same};
 use crate::visits::{Desks, Heard, Visit, is_heard};
 use exec_base::one_shot::OneShot;
 use exec_registration::mail::Cancel;
 use exec_registration::operation::Operation;
 use exec_registration::registration::Registration;
-use exec_waiters::waiter_id::WaiterId;
 use std::process::Abort;
 
 #[test]
@@ -53,14 +53,6 @@ fn what_is_released_here_is_let_go(rt: HostRuntime) {
     holds(&rt, 0, desks.ours().is_unasked());
 }
 
-/// The request that a cancel is of, which was sent by who let it go.
-fn cancelled(rt: &impl Abort, ours: &mut Desk) -> WaiterId {
-    match ours.take_cancel() {
-        Some(Cancel::Waiter(id)) => id,
-        _ => panic!(rt; "no cancel"),
-    }
-}
-
 #[test]
 fn what_is_released_elsewhere_is_let_go(rt: HostRuntime) {
     let alloc = rt.alloc();
@@ -70,10 +62,10 @@ fn what_is_released_elsewhere_is_let_go(rt: HostRuntime) {
     desks.stage_first(&rt);
     let ours = desks.ours();
     ours.release_away(op);
-    let id = cancelled(&rt, ours);
-    same(&rt, 0, &id, &name(0, 1));
+    let sent = ours.take_cancel();
+    same(&rt, 0, &sent, &Some(Cancel::Waiter(name(0, 1))));
     holds(&rt, 1, !ours.has_cancels());
-    ours.apply_cancel(&rt, alloc, id);
+    ours.apply_cancel(&rt, alloc, sent);
     holds(&rt, 2, ours.has_cancels());
     holds(&rt, 3, !ours.is_empty());
 }

@@ -1,4 +1,5 @@
-//! Registrations of sleepers, and syncs whose outcome alone is sent.
+//! Registrations of sleepers, and syncs whose outcome alone is sent. What has to come of each call is what the rules of
+//! registrations say, but for one that says so.
 
 use crate::desk::{Desk, name};
 use crate::found::{demand, holds, same};
@@ -10,6 +11,7 @@ use exec_registration::operation::Started;
 use exec_registration::registration::Registration;
 use exec_request::open_record::OpenRecord;
 use exec_ring::store::Store;
+use exec_time::timers::TimerId;
 use exec_waiters::waiter_id::WaiterId;
 use std::alloc::Global;
 use std::process::Abort;
@@ -24,20 +26,65 @@ fn has_woken(told: &Result<Option<()>, Error>) -> bool {
     matches!(told, Ok(Some(())))
 }
 
+/// Worker 0 gets a sleeper of task 1 that wakes at 5 ns, and a registration of it.
+fn sleeper(rt: &impl Abort, alloc: Global, ours: &mut Desk) -> Registration<TimerId> {
+    let id = ours.insert_sleeper(alloc, 5, 1).expect(rt, "no sleeper");
+    Registration::new(0, id)
+}
+
 #[test]
 fn a_sleeper_is_waited_for_like_a_request(rt: HostRuntime) {
-    let alloc = rt.alloc();
+    let (alloc, mut answer) = (rt.alloc(), OneShot::new());
     let mut store = Store::new(alloc);
     let mut ours = Desk::new(alloc, 0, &mut store).expect(&rt, "no worker");
-    let id = ours.insert_sleeper(alloc, 5, 1).expect(&rt, "no sleeper");
-    let mut sleep = Registration::new(0, id);
-    let waits = ours.wait(&rt, alloc, &mut sleep, 2);
+    let mut sleep = sleeper(&rt, alloc, &mut ours);
+    let waits = ours.wait(&rt, alloc, &mut sleep, 2, &mut answer);
     holds(&rt, 0, is_waiting(&waits));
     ours.wake_sleepers(&rt, alloc, 5);
     same(&rt, 1, &ours.wakes(), &[TaskNo(2)].as_slice());
-    let over = ours.wait(&rt, alloc, &mut sleep, 2);
+    let over = ours.wait(&rt, alloc, &mut sleep, 2, &mut answer);
     holds(&rt, 2, has_woken(&over));
-    ours.release_sleeper(sleep);
+    ours.release_sleeper_away(sleep);
+}
+
+#[test]
+fn a_sleeper_is_heard_of_elsewhere(rt: HostRuntime) {
+    let (alloc, mut answer) = (rt.alloc(), OneShot::new());
+    let mut store = Store::new(alloc);
+    let mut ours = Desk::new(alloc, 0, &mut store).expect(&rt, "no worker");
+    let mut theirs = Desk::new(alloc, 1, &mut store).expect(&rt, "no worker");
+    let mut sleep = sleeper(&rt, alloc, &mut ours);
+    let asks = theirs.wait(&rt, alloc, &mut sleep, 2, &mut answer);
+    holds(&rt, 0, is_waiting(&asks));
+    let forward = theirs.take_forward().expect(&rt, "no forward");
+    ours.apply(&rt, alloc, forward);
+    ours.wake_sleepers(&rt, alloc, 5);
+    same(&rt, 1, &ours.wakes(), &[].as_slice());
+    let told = ours.take_completion().expect(&rt, "no outcome");
+    same(&rt, 2, &(told.sender, told.result), &(9, Ok(())));
+    same(&rt, 3, &answer.send(told.result), &Ok(()));
+    let hears = theirs.wait(&rt, alloc, &mut sleep, 2, &mut answer);
+    holds(&rt, 4, has_woken(&hears));
+    theirs.release_sleeper(&rt, alloc, sleep);
+    holds(&rt, 5, theirs.is_unasked());
+}
+
+#[test]
+fn a_sleeper_that_is_let_go_is_gone(rt: HostRuntime) {
+    let alloc = rt.alloc();
+    let mut store = Store::new(alloc);
+    let mut ours = Desk::new(alloc, 0, &mut store).expect(&rt, "no worker");
+    let here = sleeper(&rt, alloc, &mut ours);
+    let away = sleeper(&rt, alloc, &mut ours);
+    ours.release_sleeper(&rt, alloc, here);
+    same(&rt, 0, &ours.sleepers(), &1);
+    holds(&rt, 1, ours.is_unasked());
+    ours.release_sleeper_away(away);
+    same(&rt, 2, &ours.sleepers(), &1);
+    let sent = ours.take_cancel();
+    ours.apply_cancel(&rt, alloc, sent);
+    same(&rt, 3, &ours.sleepers(), &0);
+    same(&rt, 4, &ours.wakes(), &[].as_slice());
 }
 
 /// Worker 0 with open 0.
@@ -108,6 +155,7 @@ fn hears(rt: &impl Abort, at: usize, sent: Result<(), Error>, ended: Result<(), 
 fn a_sync_of_a_clean_open_is_over_at_once(rt: HostRuntime) {
     let alloc = rt.alloc();
     let mut syncing = Syncing::new(&rt, alloc);
+    // the worked example that was asked for
     syncing.begins(&rt, alloc, 0, 0, Started::Over(Ok(())));
     syncing.poison(Error::WriteFailed);
     let failed = Started::Over(Err(Error::WriteFailed));

@@ -1,4 +1,4 @@
-//! Worked examples of registrations as tables: each step is a call on one registration with what has to come of it.
+//! Tests of registrations as tables: each step is a call on one registration with what has to come of it.
 
 use crate::desk::{Awaited, Desk, name};
 use crate::found::{holds, same};

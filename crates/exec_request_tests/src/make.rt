@@ -55,7 +55,7 @@ pub fn request(alloc: Global, ask: &Ask, open_: &Option<OpenRecord>) -> Result<R
 }
 
 /// Chunks of so many bytes each.
-fn chunks(alloc: Global, count: usize, length: usize) -> Result<IoBufs, Fail> {
+pub fn chunks(alloc: Global, count: usize, length: usize) -> Result<IoBufs, Fail> {
     let mut bufs = IoBufs::new(alloc);
     for _ in 0..count {
         let bytes = vec![in alloc; 7u8; length]?;

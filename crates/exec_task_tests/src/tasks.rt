@@ -6,6 +6,7 @@ use exec_task::runnable::Runnable;
 use exec_task::task::Task;
 use exec_task::tasks::Tasks;
 use std::alloc::{AllocError, Global};
+use std::process::Abort;
 use std::test::Fail;
 
 /// A global queue that counts what it was given.
@@ -56,21 +57,31 @@ impl Place for Counting {
     }
 }
 
-#[test]
-fn a_drain_hands_out_the_newest_first(rt: HostRuntime) -> Result<(), Fail> {
-    let mut tasks = Tasks::with_shards(rt.alloc(), 1)?;
-    let mut place = Counting { pushed: 0 };
+/// Registers tasks 0 to 4.
+fn register_five(rt: &impl Abort, alloc: Global, tasks: &mut Tasks<char>, place: &mut Counting) {
     for (number, letter) in [(0, 'a'), (1, 'b'), (2, 'c'), (3, 'd'), (4, 'e')] {
         let (_task, runnable) = Task::new(TaskNo(number), tasks.id(), letter);
         assert!(rt; tasks.get(TaskNo(number)).is_none());
-        let held = tasks.register(rt.alloc(), TaskNo(number), letter, runnable, &mut place);
+        let held = tasks.register(alloc, TaskNo(number), letter, runnable, place);
         assert!(rt; held.is_ok());
     }
-    assert_eq!(rt; place.pushed, 5);
+}
+
+/// Removes tasks 2, 4 and 0.
+fn remove_three(rt: &impl Abort, tasks: &mut Tasks<char>) {
     for (number, letter) in [(2, 'c'), (4, 'e'), (0, 'a')] {
         assert!(rt; tasks.get(TaskNo(number)).is_some());
         assert_eq!(rt; tasks.remove(TaskNo(number)), Some(letter));
     }
+}
+
+#[test]
+fn a_drain_hands_out_the_newest_first(rt: HostRuntime) -> Result<(), Fail> {
+    let mut tasks = Tasks::with_shards(rt.alloc(), 1)?;
+    let mut place = Counting { pushed: 0 };
+    register_five(&rt, rt.alloc(), &mut tasks, &mut place);
+    assert_eq!(rt; place.pushed, 5);
+    remove_three(&rt, &mut tasks);
     tasks.close();
     let mut drain = tasks.drain(0);
     assert_eq!(rt; drain.next(&mut tasks), Some((TaskNo(3), 'd')));

@@ -107,14 +107,24 @@ impl Sleepers {
 
     /// What is to be told, which is then forgotten.
     fn told(&mut self, alloc: Global) -> Result<String, Fault> {
+        let (wakes, completions) = (self.wakes(alloc)?, self.completions(alloc)?);
+        self.notes.wakes.clear();
+        self.notes.completions.clear();
+        Ok(format!(in alloc; "{wakes} {completions}")?)
+    }
+
+    /// The tasks that are to be woken.
+    fn wakes(&self, alloc: Global) -> Result<String, AllocError> {
         let mut given = format!(in alloc; "wakes {}", self.notes.wakes.len())?;
         for wake in &self.notes.wakes {
             given.push_str(format!(in alloc; " {}", wake.0)?.as_str())?;
         }
-        given.push_str(format!(in alloc;
-            " completions {}",
-            self.notes.completions.len()
-        )?.as_str())?;
+        Ok(given)
+    }
+
+    /// The results that are to be sent.
+    fn completions(&self, alloc: Global) -> Result<String, AllocError> {
+        let mut given = format!(in alloc; "completions {}", self.notes.completions.len())?;
         for completion in &self.notes.completions {
             let word = match completion.result {
                 Ok(()) => "ok",
@@ -122,8 +132,6 @@ impl Sleepers {
             };
             given.push_str(format!(in alloc; " {} {word}", completion.sender)?.as_str())?;
         }
-        self.notes.wakes.clear();
-        self.notes.completions.clear();
         Ok(given)
     }
 }

@@ -83,50 +83,55 @@ const FIRST: TimerId = TimerId(Id {
     generation: 0,
 });
 
-/// Polls a sleep for task 1, with sender 7.
-fn poll(
-    sleep: &mut Sleep,
-    rt: &impl Abort,
-    alloc: Global,
-    here: Here,
-    timers: &mut Timers<u32>,
-    post: &mut Inbox,
-    answer: &mut OneShot<Result<(), Error>>,
-) -> Result<bool, Error> {
-    let may = may_poll(sleep, timers, post);
-    assert!(rt; may);
-    sleep.poll(alloc, TaskNo(1), here, timers, 7, post, answer)
+/// The sleepers of worker 3, the way to them, and where a result comes to.
+#[derive(Drop)]
+struct Bed {
+    timers: Timers<u32>,
+    post: Inbox,
+    answer: OneShot<Result<(), Error>>,
+}
+
+impl Bed {
+    /// No sleepers, and a post that is open.
+    fn new(alloc: Global) -> Result<Self, Fail> {
+        Ok(Bed {
+            timers: Timers::new(alloc),
+            post: open_post(alloc)?,
+            answer: OneShot::new(),
+        })
+    }
+
+    /// Polls a sleep for task 1, with sender 7.
+    fn poll(
+        &mut self,
+        rt: &impl Abort,
+        alloc: Global,
+        sleep: &mut Sleep,
+        here: Here,
+    ) -> Result<bool, Error> {
+        let (timers, post, answer) = (&mut self.timers, &mut self.post, &mut self.answer);
+        let may = may_poll(sleep, timers, post);
+        assert!(rt; may);
+        sleep.poll(alloc, TaskNo(1), here, timers, 7, post, answer)
+    }
 }
 
 #[test]
 fn a_sleep_is_over_once_its_sleeper_fired(rt: HostRuntime) -> Result<(), Fail> {
-    let (mut timers, mut notes) = (Timers::new(rt.alloc()), Notes::new(rt.alloc()));
-    let (mut post, mut answer) = (open_post(rt.alloc())?, OneShot::new());
+    let alloc = rt.alloc();
+    let (mut bed, mut notes) = (Bed::new(alloc)?, Notes::new(alloc));
     let mut sleep = Sleep::new(10, 5);
-    let first = poll(
-        &mut sleep,
-        &rt,
-        rt.alloc(),
-        home(14),
-        &mut timers,
-        &mut post,
-        &mut answer,
-    );
+    let first = bed.poll(&rt, alloc, &mut sleep, home(14));
     assert_eq!(rt; first, Ok(false));
     assert!(rt; matches!(sleep.state(), SleepState::Registered(3, FIRST)));
-    assert_eq!(rt; (timers.len(), timers.next_deadline()), (1, Some(15)));
-    notes.reserve(rt.alloc(), timers.len())?;
-    timers.expire(15, &mut notes);
-    assert_eq!(rt; notes.wakes.as_slice(), [TaskNo(1)].as_slice());
-    let last = poll(
-        &mut sleep,
-        &rt,
-        rt.alloc(),
-        home(15),
-        &mut timers,
-        &mut post,
-        &mut answer,
+    assert_eq!(rt;
+        (bed.timers.len(), bed.timers.next_deadline()),
+        (1, Some(15))
     );
+    notes.reserve(alloc, bed.timers.len())?;
+    bed.timers.expire(15, &mut notes);
+    assert_eq!(rt; notes.wakes.as_slice(), [TaskNo(1)].as_slice());
+    let last = bed.poll(&rt, alloc, &mut sleep, home(15));
     assert_eq!(rt; last, Ok(true));
     assert!(rt; matches!(sleep.state(), SleepState::Done));
     Ok(())
@@ -134,96 +139,45 @@ fn a_sleep_is_over_once_its_sleeper_fired(rt: HostRuntime) -> Result<(), Fail> {
 
 #[test]
 fn a_sleep_that_is_polled_elsewhere_hears_of_its_end(rt: HostRuntime) -> Result<(), Fail> {
-    let mut timers = Timers::new(rt.alloc());
-    let (mut post, mut answer) = (open_post(rt.alloc())?, OneShot::new());
+    let alloc = rt.alloc();
+    let mut bed = Bed::new(alloc)?;
     let mut sleep = Sleep::new(10, 5);
-    let first = poll(
-        &mut sleep,
-        &rt,
-        rt.alloc(),
-        home(5),
-        &mut timers,
-        &mut post,
-        &mut answer,
-    );
+    let first = bed.poll(&rt, alloc, &mut sleep, home(5));
     assert_eq!(rt; first, Ok(false));
-    let asks = poll(
-        &mut sleep,
-        &rt,
-        rt.alloc(),
-        away(5),
-        &mut timers,
-        &mut post,
-        &mut answer,
-    );
+    let asks = bed.poll(&rt, alloc, &mut sleep, away(5));
     assert_eq!(rt; asks, Ok(false));
     assert!(rt; matches!(sleep.state(), SleepState::Forwarded(3, FIRST)));
-    assert!(rt; matches!(post.messages.as_slice(), [TimerMessage::Forward(FIRST, 7)]));
-    post.messages.clear();
-    assert_eq!(rt; answer.send(Err(Error::Full)), Ok(()));
-    let hears = poll(
-        &mut sleep,
-        &rt,
-        rt.alloc(),
-        home(5),
-        &mut timers,
-        &mut post,
-        &mut answer,
+    assert!(rt;
+        matches!(
+            bed.post.messages.as_slice(),
+            [TimerMessage::Forward(FIRST, 7)]
+        )
     );
+    bed.post.messages.clear();
+    assert_eq!(rt; bed.answer.send(Err(Error::Full)), Ok(()));
+    let hears = bed.poll(&rt, alloc, &mut sleep, home(5));
     assert_eq!(rt; hears, Err(Error::Full));
-    assert_eq!(rt; post.messages.len(), 0);
-    let again = poll(
-        &mut sleep,
-        &rt,
-        rt.alloc(),
-        home(5),
-        &mut timers,
-        &mut post,
-        &mut answer,
-    );
+    assert_eq!(rt; bed.post.messages.len(), 0);
+    let again = bed.poll(&rt, alloc, &mut sleep, home(5));
     assert_eq!(rt; again, Ok(true));
     Ok(())
 }
 
 #[test]
 fn what_closes_ends_a_sleep(rt: HostRuntime) -> Result<(), Fail> {
-    let mut timers = Timers::new(rt.alloc());
-    let (mut post, mut answer) = (open_post(rt.alloc())?, OneShot::new());
+    let alloc = rt.alloc();
+    let mut bed = Bed::new(alloc)?;
     let mut new = Sleep::new(10, 5);
-    let refused = poll(
-        &mut new,
-        &rt,
-        rt.alloc(),
-        closes(home(5)),
-        &mut timers,
-        &mut post,
-        &mut answer,
-    );
+    let refused = bed.poll(&rt, alloc, &mut new, closes(home(5)));
     assert_eq!(rt; refused, Err(Error::Closed));
-    assert_eq!(rt; timers.len(), 0);
+    assert_eq!(rt; bed.timers.len(), 0);
     let mut sleep = Sleep::until(15, 5);
-    let first = poll(
-        &mut sleep,
-        &rt,
-        rt.alloc(),
-        home(5),
-        &mut timers,
-        &mut post,
-        &mut answer,
-    );
+    let first = bed.poll(&rt, alloc, &mut sleep, home(5));
     assert_eq!(rt; first, Ok(false));
-    post.closed = true;
-    let shut = poll(
-        &mut sleep,
-        &rt,
-        rt.alloc(),
-        away(5),
-        &mut timers,
-        &mut post,
-        &mut answer,
-    );
+    bed.post.closed = true;
+    let shut = bed.poll(&rt, alloc, &mut sleep, away(5));
     assert_eq!(rt; shut, Err(Error::Closed));
-    assert_eq!(rt; post.messages.len(), 0);
+    assert_eq!(rt; bed.post.messages.len(), 0);
     assert!(rt; matches!(sleep.state(), SleepState::Done));
     Ok(())
 }
