@@ -23,3 +23,4 @@ pub mod Dues
 pub mod OthersLeft
 pub mod Others
 pub mod Kept
+pub mod Reach

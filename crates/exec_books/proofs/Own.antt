@@ -43,7 +43,7 @@ timer_first : (s : Common) (i z : ℕ) (first : MailMessage) → same_message (m
 timer_first = grind arith
 
 -- the first of the inbox is the message that is applied
-first_message : (m : MailMessage) (seat : Seat) (first : Option MailMessage) → slice_get seat.inbox 0 ≡ first → is_first_message m seat ≡ true
+pub first_message : (m : MailMessage) (seat : Seat) (first : Option MailMessage) → slice_get seat.inbox 0 ≡ first → is_first_message m seat ≡ true
     → (first_one : MailMessage) × (slice_get seat.inbox 0 ≡ Some first_one) × (same_message m first_one ≡ true)
 first_message = grind (arith, false≢true)
 

@@ -1,6 +1,7 @@
--- States to look at: a worker that sleeps while the kernel has its request, and the same with one thing changed.
+-- States to look at: a worker that sleeps while the kernel has its request, and the same with one thing changed; and two
+-- workers that have just begun.
 use Rattle.std.specs.Prelude.{List, [], ◌∷◌}
-use Rattle.exec_machine.specs.{declared.state.{Request.Request, Sleeper.Sleeper}, Examples.usual, Progress.Plan, Tests.{set_request, set_seat}, World.{Own, Seat, World, own_of, request_of, seat_of}}
+use Rattle.exec_machine.specs.{declared.state.{Request.Request, Sleeper.Sleeper}, Examples.usual, Progress.Plan, Run.first_common, Tests.{set_request, set_seat}, World.{Common, Own, Seat, World, own_of, request_of, seat_of}}
 use Rattle.exec_machine.specs.declared.config.ScriptWord.TheVariants as word
 use Rattle.exec_machine.specs.declared.step.Step.TheVariants as step
 use Rattle.exec_moves.specs.{Departures.played, Plays.{Playing, first_playing, log_by_moves}}
@@ -35,3 +36,7 @@ with_seat seat = record sending { common = set_seat sending.common 0 seat }
 -- The same beside a second worker, with sleepers.
 abbrev pub beside : Own → Seat → List Sleeper → World
 beside me seat zs = record { workers = its_own ∷ me ∷ []; common = record sending.common { seats = its_seat ∷ seat ∷ []; sleepers = zs } }
+
+-- Two workers have just begun, and there are these requests.
+abbrev pub begun_with : List Request → Common
+begun_with rs = record (first_common (record usual { workers = 2; files = 0; sockets = 0 }) [] []) { requests = rs }

@@ -1,3 +1,4 @@
 pub mod Listed
 pub mod Booked
+pub mod Reach
 pub mod Examples

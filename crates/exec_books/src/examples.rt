@@ -1,14 +1,16 @@
-//! Worked examples of the books.
+//! Worked examples of the books, and of what a line leaves.
 
-ghost use Rattle.std.specs.Prelude.{◌≡◌, true, [], ◌∷◌, Some, None};
-ghost use Rattle.exec_outcomes.specs.declared.outcome.{OpResult.TheVariants.Count, Outcome.TheVariants.Success};
-ghost use Rattle.exec_machine.specs.{Deadlines.{new_sleeper}, Tasks.{new_own, new_seat}, World.{no_own}};
+ghost use Rattle.std.specs.Prelude.{◌≡◌, true, false, [], ◌∷◌, ◌++◌, Some, None};
+ghost use Rattle.exec_outcomes.specs.declared.outcome.{Kind.TheVariants.{Send}, OpResult.TheVariants.Count, Outcome.TheVariants.Success};
+ghost use Rattle.exec_machine.specs.{Choice.{Choice.{Pays, Plain, Posts}, Payer.{ByAct, BySleeper}}, Deadlines.{new_sleeper}, Mail.posted, Requests.new_request, Tasks.{begun, new_own, new_seat}, Tests.{set_open, set_seat, set_task}, World.{no_open, no_operation, no_own, task_of}};
+ghost use Rattle.exec_machine.specs.declared.event.Event.TheVariants as event;
+ghost use Rattle.exec_machine.specs.declared.state.MailMessage.TheVariants as message;
 ghost use Rattle.exec_machine.specs.declared.state.Forwarding.TheVariants.{Sent};
 ghost use Rattle.exec_machine.specs.declared.state.RequestPhase.TheVariants as phase;
 ghost use Rattle.exec_machine.specs.declared.state.Rest.TheVariants as rest;
 ghost use Rattle.exec_machine.specs.declared.state.WorkerPhase.TheVariants.{Ended};
-ghost use Rattle.exec_books.specs.{Booked.{IsBooked}, Listed.{IsListed}};
-ghost use Rattle.exec_books.specs.Examples.{sending, its_own, its_seat, its_request, with_own, with_seat, beside};
+ghost use Rattle.exec_books.specs.{Booked.{IsBooked}, Listed.{IsListed}, Reach.{OnlyReaches, names_open, names_task, new_by, request_elsewhere, seat_elsewhere, sleeper_elsewhere}};
+ghost use Rattle.exec_books.specs.Examples.{sending, its_own, its_seat, its_request, with_own, with_seat, beside, begun_with};
 
 /// A root sends ten bytes, which may take ten milliseconds, and its worker makes its steps until it sleeps. The kernel
 /// has the request then, and its deadline is on the wheel: so it is in none of the lists. It is the one in flight, and
@@ -52,4 +54,50 @@ pub fn wrong_books()
     ensures untold { IsBooked (beside (record (new_own 0 1) { untold = 0 ∷ [] }) (new_seat true) []) → ⊥ }
     ensures over { IsBooked (beside (new_own 0 1) (record (new_seat true) { phase = Ended })
         (new_sleeper 20000000 1 1 ∷ [])) → ⊥ }
+{}
+
+/// What a line says that it is about: a begin its task, a message to a root that root, a grant the open of its request; and
+/// what it makes. Of another worker: a message comes last in the inbox, or is left out; who is roused is awake; a request
+/// whose end is taken is held by nobody, one that is forwarded is waited for by the polled task; a wake is paid; and any
+/// other line leaves all that. And a begin leaves all but its task.
+pub fn what_a_line_says()
+    ensures named { names_task no_own (event.Begin 3) 3 ≡ true }
+    ensures unnamed { names_task no_own (event.Begin 3) 2 ≡ false }
+    ensures root { names_task (new_own 0 4) (event.Apply message.Root) 4 ≡ true }
+    ensures granted { names_open no_own (begun_with (its_request ∷ [])) (event.Grant 0 None) 0 ≡ true }
+    ensures elsewhere { names_open no_own (begun_with (its_request ∷ [])) (event.Grant 0 None) 1 ≡ false }
+    ensures made { new_by (event.Dedicated 3 1) ≡ (1, 1, 0, 0) }
+    ensures sent { (seat_elsewhere (event.Send 1 (message.CancelRequest 7)) Plain 1 (posted message.Root (new_seat true))).inbox
+        ≡ message.Root ∷ message.CancelRequest 7 ∷ [] }
+    ensures left_out { seat_elsewhere (event.Send 1 message.Root) (Posts ByAct true) 1 (new_seat true) ≡ new_seat true }
+    ensures roused { (seat_elsewhere (event.Rouse 0) Plain 0 its_seat).rest ≡ rest.Awake }
+    ensures left { seat_elsewhere event.Serve Plain 0 its_seat ≡ its_seat }
+    ensures taken { request_elsewhere no_own (event.Got 0 Success) Plain 0 its_request ≡ record its_request { observed = false } }
+    ensures forwarded { request_elsewhere (record no_own { polls = Some 5 }) (event.Send 1 (message.ForwardRequest 0)) Plain 0 its_request
+        ≡ record its_request { waiter = Some 5; forwarding = Sent } }
+    ensures other { request_elsewhere no_own (event.Got 0 Success) Plain 1 its_request ≡ its_request }
+    ensures paid { (sleeper_elsewhere (event.Wake 5) (Pays (BySleeper 2)) 2 (new_sleeper 20000000 1 5)).wakes_paid ≡ 1 }
+    ensures reached { let s = begun_with [] in
+        OnlyReaches 0 (new_own 0 0) (event.Begin 0) Plain s (set_task s 0 (begun 0 (task_of s 0))) }
+{}
+
+/// Refused is a line that goes on to what it isn't about. A service sets the clock; or posts a message at another worker,
+/// gives a permit, lets another's request be waited for, or makes a worker. A begin begins a second task; an admission
+/// makes a request for another worker; or a turn closes the task set.
+pub fn lines_that_reach_too_far()
+    ensures clock { let s = begun_with [] in OnlyReaches 0 (new_own 0 0) event.Serve Plain s (record s { clock = 1 }) → ⊥ }
+    ensures seat { let s = begun_with [] in
+        OnlyReaches 0 (new_own 0 0) event.Serve Plain s (set_seat s 1 (posted message.Root (new_seat true))) → ⊥ }
+    ensures permit { let s = record (begun_with []) { opens = no_open ∷ [] } in
+        OnlyReaches 0 (new_own 0 0) event.Serve Plain s (set_open s 0 (record no_open { holder = Some 0 })) → ⊥ }
+    ensures request { let r = new_request 1 no_operation in
+        OnlyReaches 0 (new_own 0 0) event.Serve Plain (begun_with (r ∷ [])) (begun_with (record r { waiter = Some 0 } ∷ [])) → ⊥ }
+    ensures worker { let s = begun_with [] in
+        OnlyReaches 0 (new_own 0 0) event.Serve Plain s (record s { seats = s.seats ++ new_seat true ∷ [] }) → ⊥ }
+    ensures task { let s = begun_with [] in
+        OnlyReaches 0 (new_own 0 0) (event.Begin 0) Plain s (set_task s 1 (begun 0 (task_of s 1))) → ⊥ }
+    ensures made { OnlyReaches 0 (new_own 0 0) (event.Admit 0 Send None) Plain (begun_with [])
+        (begun_with (new_request 1 no_operation ∷ [])) → ⊥ }
+    ensures closed { let s = begun_with [] in
+        OnlyReaches 0 (new_own 0 0) event.Turn Plain s (record s { set_closed = true }) → ⊥ }
 {}

@@ -7,6 +7,7 @@
 //! sleeps does so until what is due next. Each line of a run keeps this, whoever makes it.
 //!
 //! An event of a worker changes its own requests, and of others' at most who waits for them (`proofs/Spares.antt`).
+//! What it leaves of all that is common is a law too (`specs/Reach.antt`).
 #![tactic(auto)]
 
 pub mod examples;
