@@ -3,7 +3,7 @@ use Rattle.std.proofs.{Common.{◌≡◌, ℕ, zero, suc, ◌<◌, ◌≤◌, tr
 use Rattle.std.specs.Prelude.{nat_lt}
 pub use Rattle.std.proofs.lemmas.Bool.{lt-ltb}
 use Rattle.exec_task.specs.declared.runnable.Runnable.{Runnable}
-use Rattle.exec_driver.specs.Opens.{OpenState, fresh_open}
+use Rattle.exec_opens.specs.Opens.{OpenState, fresh_open}
 use Rattle.exec_machine.specs.{declared.config.Configuration.Configuration, World.no_open}
 use Rattle.exec_moves.specs.Pop.{shard_count}
 use Rattle.exec_moves.specs.declared.handing.CallPlace.TheVariants as call

@@ -1,7 +1,7 @@
 -- What is known of the gates of an executor, by what holds of all parties together.
 use Rattle.std.proofs.{Common.{◌≡◌, ℕ, suc, ◌<◌, true, List, [], length, option_map, slice_get, Option, Some, refl, sym, ap, ◌∙◌, inl, inr, arith}, lemmas.{Bool.false≢true, List.length-map, Option.{slice_get_cases, slice_get-map}}}
 use Rattle.exec_outcomes.specs.Accounts.{is_durable}
-use Rattle.exec_driver.specs.{Opens.OpenState, declared.opens.WaiterKey.WaiterKey}
+use Rattle.exec_opens.specs.{Opens.OpenState, declared.opens.WaiterKey.WaiterKey}
 use Rattle.exec_task.specs.declared.body.Said.{Said}
 use Rattle.exec_machine.specs.{declared.{config.Configuration.Configuration, state.Request.Request}, Progress.Plan, Tests.{is_gated, is_resolved}, World.{Common, Open, no_open, no_request, open_of, request_of}}
 use Rattle.exec_moves.specs.{declared.place.{InPoll.InPoll, Place.Place}, Plays.{Playing, first_desk}, State.{Desk, gate_of}}

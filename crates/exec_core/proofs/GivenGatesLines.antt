@@ -1,6 +1,6 @@
 -- Who stands at a gate, as that is shown: the numbers of the requests whose keys stand there.
 use Rattle.std.proofs.{Common.{◌≡◌, ℕ, List, [], ◌∷◌, map, slice_get, Some, if◌then◌else◌, refl, sym, ap, ◌∙◌, inl, inr, arith}, lemmas.{Option.{slice_get_cases}}}
-use Rattle.exec_driver.specs.{Opens.OpenState}
+use Rattle.exec_opens.specs.Opens.{OpenState}
 use Rattle.exec_machine.specs.{World.{Common, no_request, request_of}}
 use Rattle.exec_parts.{specs.{declared.parts.{record.Record.Record}, View.{gate_seen, has_given_up, line_of, number_of_key}}}
 use Rattle.exec_invariants.{specs.{Gates.{AreLinedUp, key_for, line_at}}, proofs.{GateLines.key_number, Seen.request_at}}

@@ -7,7 +7,7 @@ use Rattle.exec_outcomes.specs.{Accounts.{is_durable}}
 use Rattle.exec_request.specs.States.{asks_cancel}
 use Rattle.exec_task.specs.declared.body.Said.{Said}
 use Rattle.exec_waiters.{specs.{States.waiter_at, declared.waiter.Waiter.Waiter}, proofs.Changes.entry_of}
-use Rattle.exec_driver.specs.Opens.{OpenState}
+use Rattle.exec_opens.specs.Opens.{OpenState}
 use Rattle.exec_machine.specs.{declared.state.Request.Request, Progress.Plan, Tests.{is_gated, is_kept, is_resolved}}
 use Rattle.exec_moves.specs.Plays.{Playing}
 use Rattle.exec_parts.specs.{declared.parts.{mail.Reply.Reply, record.Record.Record, shared.Shared.Shared, worker.Worker.Worker}, Records.number_in, Spots.Spot, View.driver_of}

@@ -1,7 +1,7 @@
 -- The executor begins as the machine does, and shows the first state of the moves.
 use Rattle.std.proofs.{Common.{◌≡◌, ℕ, zero, suc, ◌+◌, false, true, List, [], ◌∷◌, length, map, replicate, Option, Some, refl, sym, ap, subst, ◌∙◌, arith, slice_get}, lemmas.List.length-map}
 use Rattle.exec_task.specs.declared.{body.Said.{Said, TheVariants.Start}, runnable.Runnable.Runnable}
-use Rattle.exec_driver.specs.Opens.{fresh_open}
+use Rattle.exec_opens.specs.Opens.{fresh_open}
 use Rattle.exec_machine.specs.{declared.{config.{Configuration.Configuration}, state.Call.TheVariants.Nothing as NoCall}, Progress.{Plan}, Run.{first_common, first_owns, first_tasks, first_world}, Tasks.{new_own, new_seat, new_task}, World.{Own, Task, no_open}}
 use Rattle.exec_moves.specs.{Plays.{first_desk, first_desks, first_things, first_playing}, Pop.shard_count, State.{Desk, no_queue, no_wake_poll, no_word}}
 use Rattle.exec_parts.specs.{declared.parts.{role.Role.TheVariants.Pool, seat.Seat.Seat as Chair, shared.Shared.Shared, task_slot.TaskSlot.TaskSlot, worker.Worker.Worker}, Dedicated.Begins, Records.{IsFreshSeat, numbers_held}, Spots.Spot, View.{gate_seen, numbers_of_passing, Visible, visible, own_of, desk_of, common_of, inbox_at, open_seen, polls_seen, queue_at, queue_seen, message_of, seat_seen, seats_seen, task_seen, things_with, word_at}}

@@ -1,6 +1,6 @@
 -- The room that an admission makes, and gives up again.
 use Rattle.std.proofs.Common.{◌≡◌, ℕ, ◌+◌, ◌*◌, ◌≤◌, Bool, true, false, List, [], ◌∷◌, length, Option, Some, None, Result, Ok, Err, refl, sym, ap, subst, arith}
-use Rattle.exec_driver.proofs.{Counting.{flying_few, pending_is}, Shifts.few}
+use Rattle.exec_lists.proofs.{Counting.{flying_few, pending_is}, Shifts.few}
 use Rattle.std.specs.Prelude.{is_some, is_err, count_by, IsSomeAnd, OnOk, OnErr}
 use Rattle.std.proofs.lemmas.Bool.{false≢true}
 use Rattle.std.proofs.lemmas.List.Sums.{sum_by-cons}
@@ -9,7 +9,8 @@ use Rattle.exec_ring.specs.{Kernels.Landing, Rings.{RingState, taken_places, fre
 use Rattle.exec_time.specs.Wheel.{Wheel, fresh}
 use Rattle.exec_waiters.specs.{Events.IsTurnedDown, States.{pending_count}, declared.waiter.{Entry.{Entry}, Refused.{Refused}}}
 use Rattle.exec_waiters.proofs.Changes.{one_if}
-use Rattle.exec_driver.specs.{Admission.{IsRefused, with_rooms}, Driving.{Driving, is_cancelled}, Lists.no_lists, Sound.{IsSound, IsHeld, is_uncancelled, counts, count_of}}
+use Rattle.exec_driver.specs.{Admission.{IsRefused, with_rooms}, Driving.{Driving, is_cancelled}, Sound.{IsSound, IsHeld, is_uncancelled}}
+use Rattle.exec_lists.specs.{Lists.no_lists, Listed.{counts, count_of}}
 
 -- THE BYTES OF A REQUEST END WITHIN WHAT 64 BITS CAN SAY
 

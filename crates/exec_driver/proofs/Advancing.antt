@@ -1,6 +1,7 @@
 -- A wheel that goes on keeps a driver as it should be: what comes out of it falls due one after the other.
 use Rattle.std.proofs.Common.{◌≡◌, ◌≤◌, ltb, leb, ℕ, true, List, [], ◌∷◌, Option, Some, None, refl, sym, ap, ◌∙◌, inl, inr}
-use Rattle.exec_driver.proofs.{Words.{is_some, Slab, Id, Wheel, tick_at, least_active, turned, waiter_at, tick_in, Waiter, Entry, WaiterId, Driving, is_enrolled, Lists, is_among, with_due, IsListed, IsHeld, fallen_due, all_due, advanced_to, cases_Bool}, Shifts.listed_push, Expiring.held_due}
+use Rattle.exec_driver.proofs.{Words.{is_some, Slab, Id, Wheel, tick_at, least_active, turned, waiter_at, tick_in, Waiter, Entry, WaiterId, Driving, is_enrolled, Lists, is_among, with_due, IsListed, IsHeld, fallen_due, all_due, advanced_to, cases_Bool}, Expiring.held_due}
+use Rattle.exec_lists.proofs.Shifts.{listed_push}
 use Rattle.exec_time.specs.Turning.{advanced}
 
 -- what of a wheel says nothing of where it stands, nor of what is in it, stays as it goes on

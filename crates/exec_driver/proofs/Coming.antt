@@ -2,7 +2,8 @@
 use Rattle.std.proofs.Common.{◌≡◌, ◌⊎◌, ◌<◌, ltb, leb, ℕ, zero, suc, true, false, List, [], ◌∷◌, length, Option, Some, None, refl, sym, ◌∙◌, inl, inr, arith}
 use Rattle.std.specs.List.{Contains, slice_index_or}
 use Rattle.std.proofs.lemmas.List.Folds.{list_any-append}
-use Rattle.exec_driver.proofs.{Words.{or_left, or_right, is_some, false≢true, ltb-true, ltb-false, Slab, Id, Wheel, moment_of, tick_at, least_active, turned, waiter_at, tick_in, tick_of, Waiter, Entry, WaiterId, Driving, request_at, Lists, is_same, is_among, with_due, count_of, is_at_tick, fallen_due, all_due, advanced_to, cases_Bool}, Advancing.kept_by_turn, Endings.ticked_in, Names.same_tells}
+use Rattle.exec_driver.proofs.{Words.{or_left, or_right, is_some, false≢true, ltb-true, ltb-false, Slab, Id, Wheel, moment_of, tick_at, least_active, turned, waiter_at, tick_in, tick_of, Waiter, Entry, WaiterId, Driving, request_at, Lists, is_same, is_among, with_due, count_of, is_at_tick, fallen_due, all_due, advanced_to, cases_Bool}, Advancing.kept_by_turn, Endings.ticked_in}
+use Rattle.exec_lists.proofs.Names.{same_tells}
 use Rattle.exec_time.specs.{Wheel.{IsSettled, IsWithinReach, slot_of}, Turning.advanced}
 use Rattle.exec_time.proofs.Passes.{never_early, then_out, tick_ahead}
 use Rattle.exec_driver.specs.Punctual.{IsPunctual}

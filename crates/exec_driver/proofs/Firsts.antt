@@ -7,7 +7,8 @@ use Rattle.exec_time.specs.Wheel.{Wheel, IsSettled, IsWithinReach, least_active}
 use Rattle.exec_time.proofs.Passes.{least_before}
 use Rattle.exec_waiters.specs.{States.{tick_of}, declared.waiter_id.WaiterId.WaiterId}
 use Rattle.exec_base.specs.declared.slab.Slot.TheVariants.{Vacant}
-use Rattle.exec_driver.specs.{Driving.{Driving, request_at}, Punctual.{IsFirstTick, TellsDeadlines}, Sound.{IsSound, is_at_tick, counts}}
+use Rattle.exec_driver.specs.{Driving.{Driving, request_at}, Punctual.{IsFirstTick, TellsDeadlines}, Sound.{IsSound, is_at_tick}}
+use Rattle.exec_lists.specs.Listed.{counts}
 use Rattle.exec_driver.proofs.{Coming.tick_there, Punctual.{counted, named_there, settled}}
 
 found_passes : (p : ℕ → Bool) (xs : List ℕ) (x : ℕ) → find p xs ≡ Some x → p x ≡ true

@@ -1,7 +1,9 @@
 -- A permit, a deadline that is enrolled, and one that has come, keep a driver as it should be.
 use Rattle.std.proofs.Common.{◌≡◌, ℕ, ◌+◌, ◌<◌, ◌≤◌, Bool, true, false, not, ◌&&◌, List, [], ◌∷◌, ◌++◌, length, Option, Some, None, refl, sym, ap, ◌∙◌, inl, inr, arith}
-use Rattle.exec_driver.proofs.{Words.{is_some, false≢true, Slab, written, Id, deadline_of, asks_cancel, Active, Wheel, with_permit, with_tick, waiter_at, is_flying, needs_permit, Waiter, Entry, Pending, WaiterId, one_if, Driving, request_at, is_queued, is_gated, is_unenrolled, is_enrolled, is_cancelled, first_of, rest_of, is_among, with_queued, after_enrolment, IsSound, IsHeld, is_unpermitted, is_undated, is_at_tick, is_tick, is_uncancelled, are_all, is_once, count_of, and_parts}, Names.same_tells, Counting.{pending_is, flying_is}, Shifts.{Left, Kept, Joined, First, shifted, nowhere, room_for}, Endings.one_changed, Stepping.{stays, there_by, first_tells}}
-use Rattle.exec_driver.specs.{Placed.{ListsRequests, HasDeadlines}, Lists.without_gated}
+use Rattle.exec_driver.proofs.{Words.{is_some, false≢true, Slab, written, Id, is_durable, asked_of, deadline_of, asks_cancel, Active, Wheel, with_permit, with_tick, waiter_at, is_flying, needs_permit, Waiter, Entry, Pending, WaiterId, one_if, Driving, request_at, is_queued, is_gated, is_unenrolled, is_enrolled, is_cancelled, first_of, rest_of, is_among, with_queued, after_enrolment, IsSound, IsHeld, is_unpermitted, is_undated, is_at_tick, is_tick, is_uncancelled, are_all, is_once, count_of, and_parts}, Endings.one_changed, Stepping.{stays, there_by, first_tells}, Arriving.durable_gated}
+use Rattle.exec_lists.proofs.{Names.same_tells, Counting.{pending_is, flying_is}, Shifts.{Left, Kept, Joined, First, shifted, nowhere, room_for}}
+use Rattle.exec_driver.specs.Placed.{ListsRequests, HasDeadlines, FliesPermitted}
+use Rattle.exec_lists.specs.Lists.{without_gated}
 use Rattle.exec_time.specs.Wheel.{scheduled}
 
 -- one more is active at a tick
@@ -25,6 +27,9 @@ same_some o x y a b = cc
 pub once_first : (id : WaiterId) (ids : List WaiterId) → is_once ids ≡ true → first_of ids ≡ Some id → is_among id (rest_of ids) ≡ false
 once_first = grind arith
 
+granted_by : (flies durable permit : Bool) → (flies && (durable && not permit)) ≡ false → flies ≡ true → durable ≡ true → permit ≡ true
+granted_by = grind arith
+
 module _ {S F : Type 0} where
   -- what is listed is in its place
   pub among_in : (p : Option (Waiter S F) → Bool) (s : Slab (Entry S F)) (id : WaiterId) (ids : List WaiterId) → are_all p s ids ≡ true → is_among id ids ≡ true → p (waiter_at s id.0) ≡ true
@@ -35,6 +40,10 @@ module _ {S F : Type 0} where
         | inl same ↦ rw (← same.1) parts.0
         | inr other ↦ among_in p s id ids parts.1 (rw other.0 at among)
       ]
+
+  pub flies_permitted : (d : Driving S F) → IsSound d → FliesPermitted d
+  flies_permitted d sound =
+      record { flies = λ id w file at flies gate. granted_by w.in_flight (is_durable (asked_of w.request).kind) w.permit (ap is_unpermitted (sym at) ∙ sound.permits id.0) flies (durable_gated w.request ∙ ap is_some gate) }
 
   pub has_deadlines : (d : Driving S F) → IsSound d → HasDeadlines d
   has_deadlines = grind arith

@@ -1,8 +1,4 @@
 pub mod Words
-pub mod Names
-pub mod Slots
-pub mod Counting
-pub mod Shifts
 pub mod Endings
 pub mod Stepping
 pub mod Windows
@@ -15,7 +11,6 @@ pub mod Sweeping
 pub mod Telling
 pub mod Expiring
 pub mod Storing
-pub mod Lines
 pub mod Arriving
 pub mod Admitting
 pub mod Advancing
@@ -27,9 +22,4 @@ pub mod Turns
 pub mod Service
 pub mod Punctual
 pub mod Firsts
-pub mod Promises
 pub mod Keeping
-pub mod Standing
-pub mod Calling
-pub mod Sharing
-pub mod Workers

@@ -1,6 +1,7 @@
 -- Who waits for a request decides nothing of where it is.
 use Rattle.std.proofs.Common.{◌≡◌, ℕ, Bool, true, false, cond, Option, Some, None, refl, sym, ap, ◌∙◌, arith}
-use Rattle.exec_driver.proofs.{Words.{is_some, false≢true, Slab, value_at, written, TaskNo, changed, waiter_in, is_flying, Observer, Local, Forwarded, Orphaned, Waiter, Entry, Pending, Ready, WaiterId, Driving, is_queued, is_gated, is_unenrolled, is_enrolled, is_cancelled, IsHeld, is_unpermitted, is_undated, is_at_tick, is_uncancelled}, Counting.{OneChanged, one_written, one_removed, pending_is, flying_is}, Shifts.{shifted, nowhere}, Stepping.stays}
+use Rattle.exec_driver.proofs.{Words.{is_some, false≢true, Slab, value_at, written, TaskNo, changed, waiter_in, is_flying, Observer, Local, Forwarded, Orphaned, Waiter, Entry, Pending, Ready, WaiterId, Driving, is_queued, is_gated, is_unenrolled, is_enrolled, is_cancelled, IsHeld, is_unpermitted, is_undated, is_at_tick, is_uncancelled}, Stepping.stays}
+use Rattle.exec_lists.proofs.{Counting.{OneChanged, one_written, one_removed, pending_is, flying_is}, Shifts.{shifted, nowhere}}
 use Rattle.exec_base.specs.Slab.{removed}
 use Rattle.exec_waiters.specs.{Events.{taken_from, taken, forwarded_from, forwarded, orphaned_from, orphaned, changed_from, with_observer, with_waker}, States.{is_local, is_held_by}}
 

@@ -1,6 +1,7 @@
 -- Deadlines that are kept: one that is enrolled, and when a wheel is settled.
 use Rattle.std.proofs.Common.{suc, ◌≡◌, ℕ, ◌+◌, ◌<◌, ◌≤◌, eqb, Bool, true, false, not, ◌&&◌, ◌||◌, List, [], ◌∷◌, length, get_or, Option, Some, None, Ok, Err, Result, refl, sym, ap, subst, ◌∙◌, inl, inr, arith}
-use Rattle.exec_driver.proofs.{Words.cases_Bool, Names.{same_tells, fewer_without}, Counting.pending_is, Endings.{one_changed, ticked}, Expiring.{IsTaken, tick_tells, unset_there}, Serving.{eases_ended, keeps_still, keeps_both, serves_by, room_ended, room_still}, Stepping.first_tells}
+use Rattle.exec_driver.proofs.{Words.cases_Bool, Endings.{one_changed, ticked}, Expiring.{IsTaken, tick_tells, unset_there}, Serving.{eases_ended, keeps_still, keeps_both, serves_by, room_ended, room_still}, Stepping.first_tells}
+use Rattle.exec_lists.proofs.{Names.{same_tells, fewer_without}, Counting.pending_is}
 use Rattle.std.specs.Prelude.{count_by, is_some, Contains}
 use Rattle.std.specs.Option.{IfSome, IfNone}
 use Rattle.std.proofs.lemmas.Bool.{false≢true, cases_lt}
@@ -13,7 +14,8 @@ use Rattle.exec_time.specs.{Wheel.{Wheel, IsSettled, IsWithinReach, slot_of, sch
 use Rattle.exec_time.proofs.Ranges.{slots_apart}
 use Rattle.exec_waiters.specs.{Events.with_tick, States.{waiter_at, tick_in, tick_of}, Told.Tells, declared.{deferred.Deferred.Deferred, waiter.{Waiter.Waiter, Entry.{Entry, TheVariants.{Pending, Ready}}}, waiter_id.WaiterId.WaiterId}}
 use Rattle.exec_waiters.proofs.Changes.{one_if}
-use Rattle.exec_driver.specs.{Driving.{Driving, request_at}, Lists.{has_first, first_of, is_among, after_enrolment}, Punctual.IsPunctual, Sound.{IsSound, is_tick, is_at_tick, counts, count_of}, Steps.{tick_for, enrolled, told_by_enrolment, ended, Enrols}, Turns.{Serves}, declared.driver.timing.Enrolled.Enrolled}
+use Rattle.exec_driver.specs.{Driving.{Driving, request_at}, Punctual.IsPunctual, Sound.{IsSound, is_tick, is_at_tick}, Steps.{tick_for, enrolled, told_by_enrolment, ended, Enrols}, Turns.Serves, declared.driver.timing.Enrolled.Enrolled}
+use Rattle.exec_lists.specs.{Lists.{has_first, first_of, is_among, after_enrolment}, Listed.{counts, count_of}}
 
 -- WHEELS
 

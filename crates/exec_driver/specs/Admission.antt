@@ -3,7 +3,9 @@ use Rattle.std.specs.Prelude.{◌≡◌, ℕ, true, ◌+◌, ◌*◌, ◌≤◌,
 use Rattle.exec_base.specs.{Slab.Slab, declared.slab.InsertError.{InsertError, TheVariants.{Full, NoMemory}}}
 use Rattle.exec_request.specs.{Requests.gate_of, declared.request.Request.Request}
 use Rattle.exec_waiters.specs.{States.{is_full, IsUsedUp, pending_count}, declared.{observer.Observer.Observer, waiter.{Entry.Entry, Refused.Refused}, waiter_id.WaiterId.WaiterId}}
-use Rattle.exec_driver.specs.{Driving.Driving, Opens.{OpenState, with_named, placed, writing}, Sound.{count_of, is_uncancelled}, Steps.{placed_at, taken_in, newcomer, plainly_written}}
+use Rattle.exec_driver.specs.{Driving.Driving, Sound.is_uncancelled, Steps.{placed_at, taken_in, newcomer, plainly_written}}
+use Rattle.exec_opens.specs.Opens.{OpenState, with_named, placed, writing}
+use Rattle.exec_lists.specs.Listed.{count_of}
 
 module _ {S F : Type 0} where
   -- nothing of the driver changed but its rooms, and what else ends

@@ -5,7 +5,7 @@ use Rattle.exec_request.specs.{Requests.deadline_of, States.asks_cancel}
 use Rattle.exec_ring.specs.{Kernels.Landing, Rings.RingState}
 use Rattle.exec_time.specs.{Wheel.Wheel, WheelView.wheel_of, declared.wheel.TimeoutWheel.TimeoutWheel}
 use Rattle.exec_waiters.specs.{States.{waiter_at, flying_count, needs_permit, takes_tick, tick_in}, declared.{waiter.{Waiter.Waiter, Entry.Entry}, waiter_id.WaiterId.WaiterId}}
-use Rattle.exec_driver.specs.Lists.{Lists, has_first}
+use Rattle.exec_lists.specs.Lists.{Lists, has_first}
 
 pub record Driving (S F : Type 0) : Type 0 where
   -- the requests by id, with who waits for each and its flags

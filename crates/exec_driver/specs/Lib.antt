@@ -1,6 +1,3 @@
-pub mod Opens
-pub mod Lists
-pub mod Due
 pub mod Driving
 pub mod Steps
 pub mod Sound
@@ -8,8 +5,6 @@ pub mod Admission
 pub mod Punctual
 pub mod Turns
 pub mod Service
-pub mod Laws
-pub mod Sharing
 pub mod Placed
 pub mod Examples
 pub mod Footprints

@@ -1,8 +1,9 @@
--- The requests that a driver lists.
-use Rattle.std.specs.Prelude.{◌≡◌, true, false, Some, is_some}
-use Rattle.exec_request.specs.Requests.{deadline_of}
+-- What each driver says of its requests.
+use Rattle.std.specs.Prelude.{◌≡◌, ℕ, true, false, Some, is_some}
+use Rattle.exec_request.specs.Requests.{deadline_of, gate_of}
 use Rattle.exec_waiters.specs.{States.tick_in, declared.{waiter.Waiter.Waiter, waiter_id.WaiterId.WaiterId}}
-use Rattle.exec_driver.specs.{Driving.{Driving, request_at, is_queued, is_gated, is_unenrolled, is_enrolled, is_cancelled}, Lists.{first_of, rest_of, is_among}}
+use Rattle.exec_driver.specs.Driving.{Driving, request_at, is_queued, is_gated, is_unenrolled, is_enrolled, is_cancelled}
+use Rattle.exec_lists.specs.Lists.{first_of, rest_of, is_among}
 
 module _ {S F : Type 0} where
   -- Each list has requests of its place, which aren't over. Each driver says so of itself (`Driver::lists_requests`).
@@ -17,3 +18,7 @@ module _ {S F : Type 0} where
   -- A request whose deadline stands in the wheel has one. Each driver says so of itself (`Driver::has_deadlines`).
   pub record HasDeadlines (d : Driving S F) : Type 0 where
     pub deadline : (id : WaiterId) (w : Waiter S F) → request_at d id ≡ Some w → is_some (tick_in w.state) ≡ true → is_some (deadline_of w.request) ≡ true
+
+  -- Who has an operation at a gate was granted its permit. Each driver says so of itself (`Driver::flies_permitted`).
+  pub record FliesPermitted (d : Driving S F) : Type 0 where
+    pub flies : (id : WaiterId) (w : Waiter S F) (file : ℕ) → request_at d id ≡ Some w → w.in_flight ≡ true → gate_of w.request ≡ Some file → w.permit ≡ true

@@ -3,7 +3,8 @@ use Rattle.std.specs.Prelude.{◌≡◌, ℕ, ◌<◌, ◌≤◌, false, Option,
 use Rattle.std.specs.List.{Contains}
 use Rattle.exec_time.specs.Wheel.{IsSettled, least_active, slot_of}
 use Rattle.exec_waiters.specs.{States.tick_of, declared.waiter_id.WaiterId.WaiterId}
-use Rattle.exec_driver.specs.{Driving.{Driving, request_at}, Lists.{has_first, is_among}}
+use Rattle.exec_driver.specs.Driving.{Driving, request_at}
+use Rattle.exec_lists.specs.Lists.{has_first, is_among}
 
 module _ {S F : Type 0} where
   -- Whose deadline stands in the wheel is due, or it comes out at its tick, which is ahead.

@@ -1,9 +1,11 @@
 -- A whole service and a whole wait: which steps they take, and in which order. A service makes each kind of step until
 -- none is left to make.
-use Rattle.std.specs.Prelude.{◌≡◌, ℕ, Bool, false, true, not, ◌+◌, ◌^◌, ◌<◌, ◌==◌, ◌&&◌, ◌||◌, List, Option, Some, None, if◌then◌else◌}
+use Rattle.std.specs.Prelude.{◌≡◌, ℕ, Bool, false, true, not, ◌+◌, ◌^◌, ◌<◌, ◌==◌, ◌&&◌, ◌||◌, List, Option, Some, None, is_some, if◌then◌else◌}
 use Rattle.exec_ring.specs.Kernels.{is_quiet}
 use Rattle.exec_waiters.specs.{States.{pending_count, file_of}, Told.Tells, declared.{deferred.Deferred.Deferred, waiter.Waiter.Waiter, waiter_id.WaiterId.WaiterId}}
-use Rattle.exec_driver.specs.{Driving.{Driving, request_at, may_stage_one, is_full}, Lists.{has_first, first_of}, Opens.{OpenState, account_in, holder_at, next_at, with_open, passed}, Sharing.permit_by, Steps.{ReapsNext, Grants, Enrols, StagesOne, expired, told_by_cancel, advanced_to, lowest_gate, is_turn_of, cancel_staged, poll_staged, entered, with_landings}, Turns.{PassesTo, IsStaged, must_enter, may_wait, made_way}, declared.driver.{reaping.Reaped.Reaped, staging.Granted.Granted, timing.Enrolled.Enrolled}}
+use Rattle.exec_driver.specs.{Driving.{Driving, request_at, may_stage_one, is_full}, Steps.{ReapsNext, Grants, Enrols, StagesOne, expired, told_by_cancel, advanced_to, lowest_gate, is_turn_of, cancel_staged, poll_staged, entered, with_landings}, Turns.{PassesTo, IsStaged, must_enter, may_wait, made_way}, declared.driver.{reaping.Reaped.Reaped, staging.Granted.Granted, timing.Enrolled.Enrolled}}
+use Rattle.exec_lists.specs.Lists.{has_first, first_of}
+use Rattle.exec_opens.specs.Opens.{OpenState, account_in, holder_at, next_at, with_open, passed}
 
 module _ {A : Type 0} (Step : A → A → Type 0) (first : A) where
   -- steps of a kind, one after the other
@@ -20,6 +22,9 @@ Passes (Some file) opens opens' before after = (opens' ≡ with_open opens file 
 abbrev pub permit_of : Option Reaped → Option ℕ
 permit_of None = None
 permit_of (Some r) = r.permit
+
+abbrev pub permit_by : ℕ → Granted → Option ℕ
+permit_by file g = if is_some g.ended then Some file else None
 
 -- what a service changes: the driver, the opens, what is to be told, and who was signalled
 pub record Reached (S F : Type 0) : Type 0 where

@@ -1,15 +1,11 @@
 -- What holds of a driver between its calls. No public clause cites this module.
-use Rattle.std.specs.Prelude.{◌≡◌, ℕ, Bool, true, false, not, ◌+◌, ◌≤◌, ◌==◌, ◌&&◌, List, [], ◌∷◌, length, count_by, Option, Some, None, is_some, if◌then◌else◌}
-use Rattle.exec_base.specs.{Slab.Slab, declared.slab.{Slot.{Slot, TheVariants.{Live, Vacant, Retired}}, Id.Id}}
+use Rattle.std.specs.Prelude.{◌≡◌, ℕ, Bool, false, not, ◌+◌, ◌≤◌, ◌==◌, ◌&&◌, [], length, Option, Some, None, is_some, if◌then◌else◌}
+use Rattle.exec_base.specs.declared.slab.Id.{Id}
 use Rattle.exec_request.specs.{Requests.deadline_of, States.asks_cancel}
 use Rattle.exec_ring.specs.Rings.{taken_places}
-use Rattle.exec_waiters.specs.{States.{waiter_at, waiter_in, flying_count, pending_count, tick_in, needs_permit}, declared.{waiter.{Waiter.Waiter, Entry.Entry}, waiter_id.WaiterId.WaiterId}}
-use Rattle.exec_driver.specs.{Lists.is_among, Driving.{Driving, is_queued, is_gated, is_unenrolled, is_enrolled, is_cancelled}}
-
--- no name stands twice in a list
-abbrev pub is_once : List WaiterId → Bool
-is_once [] = true
-is_once (id ∷ ids) = not (is_among id ids) && is_once ids
+use Rattle.exec_waiters.specs.{States.{waiter_at, flying_count, pending_count, tick_in, needs_permit}, declared.waiter.Waiter.Waiter}
+use Rattle.exec_lists.specs.Listed.{IsListed, count_of}
+use Rattle.exec_driver.specs.Driving.{Driving, is_queued, is_gated, is_unenrolled, is_enrolled, is_cancelled}
 
 -- a tick of the wheel is that one
 abbrev pub is_tick : ℕ → Option ℕ → Bool
@@ -17,24 +13,6 @@ is_tick t None = false
 is_tick t (Some tick) = t == tick
 
 module _ {S F : Type 0} where
-  -- each name of a list is of a request in this place
-  abbrev pub are_all : (Option (Waiter S F) → Bool) → Slab (Entry S F) → List WaiterId → Bool
-  are_all place s [] = true
-  are_all place s (id ∷ ids) = place (waiter_at s id.0) && are_all place s ids
-
-  pub record IsListed (place : Option (Waiter S F) → Bool) (s : Slab (Entry S F)) (ids : List WaiterId) : Type 0 where
-    pub all : are_all place s ids ≡ true
-    pub once : is_once ids ≡ true
-
-  -- how many requests that aren't over are in a place
-  abbrev pub counts : (Option (Waiter S F) → Bool) → Slot (Entry S F) → Bool
-  counts place (Live generation entry) = place (waiter_in entry)
-  counts place (Vacant generation) = false
-  counts place Retired = false
-
-  abbrev pub count_of : (Option (Waiter S F) → Bool) → Slab (Entry S F) → ℕ
-  count_of place s = count_by (counts place) s.slots
-
   -- it wasn't cancelled; it stands in the wheel at a tick
   abbrev pub is_uncancelled : Option (Waiter S F) → Bool
   is_uncancelled None = false

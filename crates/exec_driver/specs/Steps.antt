@@ -6,7 +6,9 @@ use Rattle.exec_request.specs.{Hints.{AsksOn, has_hint, without_hint}, Judging.{
 use Rattle.exec_ring.specs.{Completions.result_in, Kernels.{with_entry, entered_with, reaped, next_completion, flight_of, landed}, Rings.fresh as fresh_ring, declared.{store.Store.Store, completion.{Completion.Completion, Posted.Posted, Submission.Submission}}}
 use Rattle.exec_time.specs.{Wheel.{Wheel, fresh, target_of, moment_of, scheduled, removed}, Layouts.slots_of, Turning.advanced}
 use Rattle.exec_waiters.specs.{Events.{admitted, finished, told_by_finish, cancelled, with_permit, with_tick, orphaned, asks_cancel_by_orphan, is_lawful_for, Lands}, Ids.user_data_of, States.{waiter_at, named, tick_in, file_of, gate_in}, Told.{Told, nothing_told, Tells}, declared.{deferred.Deferred.Deferred, observer.Observer.Observer, waiter.{Waiter.Waiter, Entry.{Entry, TheVariants.Pending}}, waiter_id.WaiterId.WaiterId}}
-use Rattle.exec_driver.specs.{Opens.{OpenState, holder_at, account_in, with_account}, Driving.{Driving, request_at}, Lists.{Lists, is_among, no_lists, withdrawn, with_queued, with_gated, with_enrolment, with_due, with_cancel, without_gated, after_queued, after_enrolment, after_due, after_cancel}, declared.{driver.{reaping.Reaped.Reaped, staging.Granted.Granted}, opens.WaiterKey.WaiterKey}}
+use Rattle.exec_opens.specs.{Opens.{OpenState, holder_at, account_in, with_account}, declared.opens.WaiterKey.WaiterKey}
+use Rattle.exec_driver.specs.{Driving.{Driving, request_at}, declared.driver.{reaping.Reaped.Reaped, staging.Granted.Granted}}
+use Rattle.exec_lists.specs.Lists.{Lists, is_among, no_lists, withdrawn, with_queued, with_gated, with_enrolment, with_due, with_cancel, without_gated, after_queued, after_enrolment, after_due, after_cancel}
 
 -- an error of a timed-out request, and of one whose deadline is beyond the wheel
 abbrev pub timed_out : Ended

@@ -2,7 +2,9 @@
 use Rattle.std.specs.Prelude.{◌≡◌, ℕ, suc, Bool, true, false, not, ◌+◌, ◌≤◌, ◌==◌, ◌&&◌, ◌||◌, length, nat_lt, List, [], ◌∷◌, ◌++◌, Option, Some, None, if◌then◌else◌}
 use Rattle.exec_ring.specs.{Rings.RingState, declared.completion.Posted.Posted}
 use Rattle.exec_waiters.specs.{States.pending_count, Told.{HasPlaces, is_untold}, declared.deferred.Deferred.Deferred}
-use Rattle.exec_driver.specs.{Driving.{Driving, may_stage_one, has_pending, is_full}, Lists.has_first, Punctual.IsPunctual, Steps.entered, declared.opens.WaiterKey.WaiterKey}
+use Rattle.exec_driver.specs.{Driving.{Driving, may_stage_one, has_pending, is_full}, Punctual.IsPunctual, Steps.entered}
+use Rattle.exec_lists.specs.Lists.{has_first}
+use Rattle.exec_opens.specs.declared.opens.WaiterKey.{WaiterKey}
 
 module _ {S F : Type 0} where
   -- There is room to tell the end of each request that isn't over, and of one more.

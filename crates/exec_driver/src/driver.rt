@@ -29,9 +29,10 @@ ghost use Rattle.std.specs.Prelude.{◌≡◌, ◌+◌, ◌==◌, not, IfOk, IfE
 ghost use Rattle.exec_ring.specs.{Kernels.{with_wake, is_quiet}, Rings.fresh as fresh_ring, Stores.Same};
 ghost use Rattle.exec_time.specs.{Layouts.slots_of, Wheel.{IsSettled, next_moment}};
 ghost use Rattle.exec_waiters.specs.States.{pending_count};
-ghost use Rattle.exec_driver.specs.{Driving.{seen, has_pending, may_stage_one, is_full}, Lists.has_first, Punctual.IsPunctual, Steps.IsFresh};
+ghost use Rattle.exec_driver.specs.{Driving.{seen, has_pending, may_stage_one, is_full}, Punctual.IsPunctual, Steps.IsFresh};
+ghost use Rattle.exec_lists.specs.Lists.{has_first};
 
-use crate::lists::Lists;
+use exec_lists::lists::Lists;
 use exec_request::window::Window;
 use exec_ring::ring::Ring;
 use exec_ring::store::Store;

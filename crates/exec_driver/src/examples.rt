@@ -8,7 +8,8 @@ ghost use Rattle.exec_request.specs.declared.output.RequestOutput.TheVariants as
 ghost use Rattle.exec_ring.specs.Completions.{acknowledged, wake_completion, completed};
 ghost use Rattle.exec_outcomes.specs.declared.outcome.OpResult.TheVariants.{Count, Errno};
 ghost use Rattle.exec_waiters.specs.{Examples.{poll, sync}, declared.{waiter.Entry.TheVariants.{Ready}, deferred.Deferred.Deferred}};
-ghost use Rattle.exec_driver.specs.{Driving.{may_stage_one}, Lists.no_lists, Steps.{cancelled_at, let_go, cancel_staged, cancel_entry, poll_staged, entered, noted, completed_in, is_control, is_turn_of, tick_for, lowest_gate}, Service.{ServesInOrder, reached}, Turns.{may_wait, is_taken, is_calm}, Examples.{first, wheel, idle, with_one, flying, workers, held, gates}, Laws.ShareGates, Sharing.LineUp};
+ghost use Rattle.exec_driver.specs.{Driving.may_stage_one, Steps.{cancelled_at, let_go, cancel_staged, cancel_entry, poll_staged, entered, noted, completed_in, is_control, is_turn_of, tick_for, lowest_gate}, Service.{ServesInOrder, reached}, Turns.{may_wait, is_taken, is_calm}, Examples.{first, wheel, idle, with_one, flying}};
+ghost use Rattle.exec_lists.specs.Lists.{no_lists};
 
 /// Admission: a poll is queued and its deadline to be enrolled, one whose deadline has come is over, and a sync waits
 /// at the gate of its open, which grants only to the worker of its holder.
@@ -77,11 +78,4 @@ pub fn waits()
 /// A service of a driver without requests stages the wake poll, and makes no other step.
 pub fn services()
     ensures idle { (told : Deferred ℕ ℕ) → ServesInOrder 3 0 false false (reached idle [] told None) (reached (poll_staged idle) [] told None) }
-{}
-
-/// Gates: workers share one whose holder's request alone was granted the permit, and don't where two were.
-#[tactic(auto, using(crate::proofs::Workers::shared, crate::proofs::Workers::not_shared))]
-pub fn gates()
-    ensures shared { LineUp (workers false) gates }
-    ensures two_granted { ShareGates (workers true) held → ⊥ }
 {}

@@ -3,9 +3,5 @@
 
 pub mod armed;
 pub mod driver;
-mod due;
 pub mod examples;
 pub mod home;
-pub mod laws;
-mod lists;
-pub mod opens;

@@ -2,7 +2,7 @@
 //! What has to come of them is what the rules of requests, of opens and of the ring say, but for one row that says so.
 
 ghost use Rattle.std.specs.Prelude.{◌<◌, IfSome};
-ghost use Rattle.exec_driver.specs.Opens.{open_at};
+ghost use Rattle.exec_opens.specs.Opens.{open_at};
 
 use crate::asks::Ask;
 use crate::found::{
@@ -14,7 +14,7 @@ use crate::worker::{MILLI, Worker, bytes, counts, make_room, name, send};
 use exec_base::task_no::TaskNo;
 use exec_driver::driver::Enrolled;
 use exec_driver::home::Home;
-use exec_driver::opens::{Opens, WaiterKey};
+use exec_opens::opens::{Opens, WaiterKey};
 use exec_outcomes::outcome::OpResult;
 use exec_request::window::{Opcode, Window};
 use exec_ring::completion::{CANCEL_USER_DATA, Completion};

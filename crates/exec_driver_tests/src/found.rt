@@ -6,7 +6,7 @@
 ghost use Rattle.std.specs.Prelude.{◌≡◌, true, false};
 
 use exec_driver::driver::Reaped;
-use exec_driver::opens::WaiterKey;
+use exec_opens::opens::WaiterKey;
 use exec_waiters::waiter_id::WaiterId;
 use std::fmt::Debug;
 use std::process::Abort;

@@ -7,7 +7,7 @@ use crate::trial::play;
 use crate::worker::{MILLI, bytes, name};
 use exec_base::error::{Cause, Error};
 use exec_driver::driver::{Enrolled, Granted};
-use exec_driver::opens::WaiterKey;
+use exec_opens::opens::WaiterKey;
 use exec_outcomes::outcome::OpResult;
 use exec_ring::landing::Unlawful;
 use exec_ring::ring::Entered;

@@ -5,7 +5,7 @@ use crate::found::Counts;
 use exec_base::error::Error;
 use exec_base::task_no::TaskNo;
 use exec_driver::driver::{Enrolled, Granted, Reaped};
-use exec_driver::opens::WaiterKey;
+use exec_opens::opens::WaiterKey;
 use exec_outcomes::outcome::OpResult;
 use exec_request::connect::SockAddr;
 use exec_ring::landing::Unlawful;

@@ -9,7 +9,7 @@ use crate::steps::{Lent, Look, Sign, Step, Turn, Wait};
 use crate::worker::Worker;
 use exec_base::error::Error;
 use exec_driver::driver::Reaped;
-use exec_driver::opens::Opens;
+use exec_opens::opens::Opens;
 use exec_outcomes::outcome::OpResult;
 use exec_request::connect::SockAddr;
 use exec_request::open_record::OpenRecord;

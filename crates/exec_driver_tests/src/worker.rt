@@ -13,7 +13,7 @@ use exec_bufs::buf::IoBuf;
 use exec_bufs::bufs::IoBufs;
 use exec_driver::armed::{Armed, Signals};
 use exec_driver::driver::{Driver, Enrolled, Granted, Reaped};
-use exec_driver::opens::Opens;
+use exec_opens::opens::Opens;
 use exec_outcomes::outcome::OpResult;
 use exec_request::buffers::WriteBuffers;
 use exec_request::output::RequestOutput;

@@ -5,7 +5,8 @@ use Rattle.std.proofs.Common.{arith}
 use Rattle.exec_outcomes.specs.{Accounts.Account, Outcomes.is_unsupported, declared.outcome.OpResult.OpResult}
 use Rattle.exec_request.specs.{Hints.{without_hint}, Requests.{asked_of, hinted_of, target_of}, declared.{request.Request.Request as Asking}}
 use Rattle.exec_waiters.specs.{States.file_of, declared.waiter.Waiter.Waiter}
-use Rattle.exec_driver.specs.{Opens.{OpenState, account_in, keeping, with_account, with_open_in}, Steps.open_after}
+use Rattle.exec_opens.specs.Opens.{OpenState, account_in, keeping, with_account, with_open_in}
+use Rattle.exec_driver.specs.Steps.{open_after}
 use Rattle.exec_machine.specs.{Tests.is_of_file, World.{Open, no_open}}
 use Rattle.exec_parts.{specs.{declared.parts.{mail.Reply.Reply, record.Record.Record}, View.{account_seen, open_seen}}, proofs.{Facts.{and_parts, by_number, same_Some, set_elsewhere, set_there}, Showing.{map_kept, map_set}}}
 use Rattle.exec_invariants.{specs.Gates.{AreLinedUp, has_hint_at}, proofs.{Hinting.open_there, Lined.{SameLines, accounts_kept, only_line, opens_same}, SparedRecord.there_within}}

@@ -1,7 +1,7 @@
 -- What a polled body that acts needs.
 use Rattle.std.proofs.{Common.{◌≡◌, ℕ, ◌<◌, ◌≤◌, ◌^◌, arith, true, false, List, [], ◌∷◌, length, map, Option, Some, IsSome, Result, Ok, Err, refl, sym, ap, subst, ◌∙◌, slice_get, IfOk, OnErr}, lemmas.{List.{length-map, length-set}, Option.slice_get_within}}
 pub use Rattle.std.proofs.lemmas.Result.{on_err_weaker}
-use Rattle.exec_driver.specs.Opens.{OpenState}
+use Rattle.exec_opens.specs.Opens.{OpenState}
 use Rattle.exec_task.specs.{Phases.is_polled, Sight.Sight, declared.body.{Act.Act, Said.Said}}
 use Rattle.exec_machine.specs.{declared.state.Waiting.Waiting, Progress.Plan}
 use Rattle.exec_moves.specs.declared.place.{Place.Place, InPoll.InPoll}

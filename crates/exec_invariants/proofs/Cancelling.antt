@@ -4,7 +4,8 @@ use Rattle.exec_base.specs.{Slab.value_at, declared.{slab.Id.Id, error.Error.The
 use Rattle.exec_outcomes.specs.declared.outcome.Outcome.TheVariants.{Failure}
 use Rattle.exec_request.specs.{Requests.{asked_of, deadline_of}}
 use Rattle.exec_waiters.{specs.{Events.{cancelled as cancelled_of, told_by_finish}, States.{needs_permit, takes_tick, tick_in, flying_count, waiter_at}, Told.{Tells, nothing_told}, declared.{waiter.{Entry.TheVariants.Pending, Waiter.Waiter}, waiter_id.WaiterId.WaiterId}}, proofs.Changes.entry_of}
-use Rattle.exec_driver.{specs.{Driving.Driving, Lists.{first_of, is_among, is_same, after_due}, Punctual.IsPunctual, Steps.{cancelling, told_by_cancel, timed_out}}, proofs.Names.same_tells}
+use Rattle.exec_driver.specs.{Driving.Driving, Punctual.IsPunctual, Steps.{cancelling, told_by_cancel, timed_out}}
+use Rattle.exec_lists.{specs.Lists.{first_of, is_among, is_same, after_due}, proofs.Names.same_tells}
 use Rattle.exec_task.specs.declared.body.Said.{Said}
 use Rattle.exec_machine.specs.{declared.{event.Event.{Event, TheVariants.Expire}, state.RequestPhase.RequestPhase}, Deadlines.{expired, outcome_at_expiry}, Same.same_end, Tests.{is_kept, is_staged}, World.{Common, request_of}}
 use Rattle.exec_moves.specs.{Submit.{due_next, first_due, Due.Expires}, declared.place.{Place.Place, InService.InService}}

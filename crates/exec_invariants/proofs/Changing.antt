@@ -4,7 +4,8 @@ use Rattle.exec_base.{specs.{Slab.{Slab, value_at, written, live_count}, declare
 use Rattle.exec_time.specs.declared.timers.Sleeper.{Sleeper as Sleeping}
 use Rattle.exec_request.specs.declared.output.RequestOutput.{RequestOutput}
 use Rattle.exec_waiters.{specs.{States.{waiter_at, pending_count, flying_count, is_flying}, declared.waiter.{Entry.{Entry, TheVariants.{Pending, Ready}}, Waiter.Waiter}}, proofs.Changes.{entry_of, one_if}}
-use Rattle.exec_driver.{specs.{Driving.Driving, Punctual.IsPunctual}, proofs.Counting.{OneChanged, pending_is, flying_is, one_written}}
+use Rattle.exec_driver.specs.{Driving.Driving, Punctual.IsPunctual}
+use Rattle.exec_lists.proofs.Counting.{OneChanged, pending_is, flying_is, one_written}
 use Rattle.exec_machine.specs.Tests.{is_resolved}
 use Rattle.exec_moves.specs.declared.place.Place.{Place}
 use Rattle.exec_parts.{specs.{declared.parts.{mail.Reply.Reply, names.Names.Names, record.Record.Record, shared.Shared.Shared, sleeping.SleeperRecord.SleeperRecord, worker.{PutOff.PutOff, Worker.Worker}}, Records.number_in, Serving.changed_at, Calls.IsTold, View.driver_of}, proofs.Facts.{by_name, same_number}}

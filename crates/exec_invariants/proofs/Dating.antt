@@ -2,7 +2,8 @@
 use Rattle.std.{proofs.{Common.{◌≡◌, ℕ, ◌+◌, ◌^◌, ◌<◌, ◌≤◌, length, Option, Some, None, IfSome, refl, sym, ap, subst, ◌∙◌, arith, get_or, Err}, lemmas.Option.slice_get_within}, specs.VecDeque.deque_capacity}
 use Rattle.exec_base.specs.declared.error.Error.{Error, TheVariants.Timeout}
 use Rattle.exec_waiters.specs.{declared.waiter_id.WaiterId.WaiterId, States.pending_count}
-use Rattle.exec_driver.specs.{Lists.first_of, Steps.{tick_for, ended_by}}
+use Rattle.exec_lists.specs.Lists.{first_of}
+use Rattle.exec_driver.specs.Steps.{tick_for, ended_by}
 use Rattle.exec_task.specs.declared.body.Said.{Said}
 use Rattle.exec_machine.specs.declared.event.Event.{Event}
 use Rattle.exec_moves.specs.declared.place.{Place.Place, InService.InService}

@@ -4,7 +4,8 @@ use Rattle.exec_base.specs.{Slab.Slab, declared.slab.Id.Id}
 use Rattle.exec_outcomes.specs.Accounts.{Account}
 use Rattle.exec_request.specs.States.{Ended}
 use Rattle.exec_waiters.specs.{Events.finished, States.{is_flying, flying_count, waiter_at}, declared.{waiter.{Entry.Entry, Waiter.Waiter}, waiter_id.WaiterId.WaiterId}}
-use Rattle.exec_driver.{specs.Lists.{is_among, without}, proofs.{Counting.flying_is, Endings.one_finished}}
+use Rattle.exec_lists.{specs.Lists.{is_among, without}, proofs.Counting.flying_is}
+use Rattle.exec_driver.proofs.Endings.{one_finished}
 use Rattle.exec_parts.{specs.{declared.parts.mail.Reply.Reply, Records.number_in, View.numbers_of}, proofs.Facts.{same_self}}
 
 -- THE NUMBERS of those that are left

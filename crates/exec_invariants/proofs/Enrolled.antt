@@ -4,7 +4,8 @@ use Rattle.exec_base.specs.{Slab.value_at, declared.error.Error.Error}
 use Rattle.exec_outcomes.specs.Accounts.{is_durable}
 use Rattle.exec_request.specs.{Requests.{asked_of, deadline_of}, declared.request.Request.Request as Asking}
 use Rattle.exec_waiters.{specs.{States.{waiter_at, takes_tick}, declared.{waiter.Waiter.Waiter, waiter_id.WaiterId.WaiterId}}, proofs.Changes.entry_of}
-use Rattle.exec_driver.specs.{Driving.{request_at, is_unenrolled}, Lists.first_of, Punctual.IsPunctual, Steps.EnrolsAs}
+use Rattle.exec_driver.specs.{Driving.{request_at, is_unenrolled}, Punctual.IsPunctual, Steps.EnrolsAs}
+use Rattle.exec_lists.specs.Lists.{first_of}
 use Rattle.exec_machine.specs.{declared.{event.Event.{Event, TheVariants.Enrol}, state.RequestPhase.RequestPhase}, Deadlines.enrolled, Requests.joined_if, Tests.is_kept}
 use Rattle.exec_parts.{specs.{declared.parts.{mail.Reply.Reply, record.Record.Record, shared.Shared.Shared, worker.Worker.Worker}, Records.number_in, Serving.{changed_at, first_tick, outcome_of_error}, View.driver_of}, proofs.Facts.some_of}
 use Rattle.exec_invariants.{specs.{Names.IsAlike, Submits.IsNewIn}, proofs.{Known.low_there, ReapKinds.{durable_kept}, Staging.among_first, Starting.queued_phase}}

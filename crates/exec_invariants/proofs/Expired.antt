@@ -4,7 +4,8 @@ use Rattle.exec_base.specs.{Slab.value_at, declared.error.Error.{Error, TheVaria
 use Rattle.exec_outcomes.specs.{Accounts.is_durable, declared.outcome.Outcome.TheVariants.Failure}
 use Rattle.exec_request.specs.{Requests.output_of}
 use Rattle.exec_waiters.specs.{Events.{finished, told_by_finish, waker_in}, States.{tick_in, flying_count}, Told.{Tells, nothing_told, Told}, declared.waiter_id.WaiterId.WaiterId}
-use Rattle.exec_driver.specs.{Driving.{Driving, request_at, is_queued, is_unenrolled, is_cancelled}, Lists.{first_of, rest_of, without, withdrawn}, Punctual.IsPunctual, Steps.{told_by_cancel, timed_out, unscheduled}}
+use Rattle.exec_driver.specs.{Driving.{Driving, request_at, is_queued, is_unenrolled, is_cancelled}, Punctual.IsPunctual, Steps.{told_by_cancel, timed_out, unscheduled}}
+use Rattle.exec_lists.specs.Lists.{first_of, rest_of, without, withdrawn}
 use Rattle.exec_task.specs.declared.body.Said.{Said}
 use Rattle.exec_machine.specs.{declared.{event.Event.{Event, TheVariants.Expire}, state.RequestPhase.RequestPhase}, Deadlines.{expired, outcome_at_expiry}, Same.same_end, Tests.{is_gated, is_queued as is_phase_queued}, World.{Common, request_of}, Requests.{joined_if, resolved}}
 use Rattle.exec_moves.specs.{Told.{told_of_end}, Submit.{due_next, first_due, submits, Due.Expires}, declared.place.{Place.Place, InService.InService}}

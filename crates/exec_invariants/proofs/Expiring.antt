@@ -4,7 +4,8 @@ use Rattle.exec_base.specs.{Slab.value_at, declared.error.Error.TheVariants.Time
 use Rattle.exec_time.specs.Wheel.{Wheel, removed}
 use Rattle.exec_request.specs.{Requests.deadline_of, States.asks_cancel, declared.results.WaiterState.{WaiterState, TheVariants.{Active, CancelRequested}}}
 use Rattle.exec_waiters.{specs.{States.{waiter_at, tick_in, pending_count}, Told.Tells, declared.{waiter.Waiter.Waiter, waiter_id.WaiterId.WaiterId}}, proofs.Changes.entry_of}
-use Rattle.exec_driver.specs.{Driving.{request_at, is_enrolled}, Lists.first_of, Punctual.IsPunctual, Steps.{expired as expired_at, told_by_cancel, unscheduled}}
+use Rattle.exec_driver.specs.{Driving.{request_at, is_enrolled}, Punctual.IsPunctual, Steps.{expired as expired_at, told_by_cancel, unscheduled}}
+use Rattle.exec_lists.specs.Lists.{first_of}
 use Rattle.exec_machine.specs.{declared.{event.Event.{Event, TheVariants.Expire}, state.{RequestPhase.RequestPhase, Request.Request}, config.Configuration.Configuration}, World.{Own, Common}, Deadlines.{outcome_at_expiry, expired, is_first_due}, Requests.joined_if, Tests.{is_in_flight, is_queued, is_gated}}
 use Rattle.exec_moves.specs.{Serve.first_numbered, State.{Desk}, Submit.{due_next, first_due, Due.Expires}}
 use Rattle.exec_parts.{specs.{declared.parts.{mail.Reply.Reply, record.Record.Record, shared.Shared.Shared, worker.Worker.Worker}, Records.number_in, Serving.{changed_at, changed_in}, View.driver_of}, proofs.Facts.some_of}

@@ -4,7 +4,8 @@ use Rattle.exec_base.specs.declared.slab.Id.{Id}
 use Rattle.exec_outcomes.specs.{declared.outcome.OpResult.OpResult}
 use Rattle.exec_ring.specs.{Completions.result_in, declared.completion.Completion.Completion}
 use Rattle.exec_waiters.specs.{States.waiter_at, declared.{waiter.Waiter.Waiter, waiter_id.WaiterId.WaiterId}}
-use Rattle.exec_driver.specs.{Driving.Driving, Lists.is_among}
+use Rattle.exec_driver.specs.Driving.{Driving}
+use Rattle.exec_lists.specs.Lists.{is_among}
 use Rattle.exec_machine.specs.{declared.state.RequestPhase.TheVariants.Landed, Tests.is_resolved}
 use Rattle.exec_moves.specs.declared.place.InService.{InService}
 use Rattle.exec_parts.{specs.{declared.parts.{mail.Reply.Reply, names.Names.Names, record.Record.Record}, Records.number_in, Serving.changed_at, View.number_told}, proofs.Facts.same_number}

@@ -5,7 +5,8 @@ use Rattle.exec_base.specs.declared.slab.Id.{Id}
 use Rattle.exec_task.specs.{TaskSet.Set, Phases.is_polled}
 use Rattle.exec_request.specs.Requests.{asked_of, cursor_of, target_of}
 use Rattle.exec_waiters.specs.{States.{gate_in, needs_permit, waiter_at}, declared.waiter.Waiter.Waiter}
-use Rattle.exec_driver.specs.{Driving.request_at, Opens.{OpenState, joined, open_named, with_named, with_open_in}, declared.opens.WaiterKey.WaiterKey}
+use Rattle.exec_driver.specs.Driving.{request_at}
+use Rattle.exec_opens.specs.{Opens.{OpenState, joined, open_named, with_named, with_open_in}, declared.opens.WaiterKey.WaiterKey}
 use Rattle.exec_task.specs.declared.body.Said.{Said}
 use Rattle.exec_machine.specs.{declared.{event.Event.{Event, TheVariants.Turn}}, Progress.Plan, Requests.open_joined_by, World.{no_open, open_of, request_of}}
 use Rattle.exec_moves.specs.{declared.place.{InPoll.InPoll, Place.Place}, State.gate_of}

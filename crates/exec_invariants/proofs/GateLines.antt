@@ -1,7 +1,7 @@
 -- A durable request joins the line at its gate, behind all who stand there.
 use Rattle.std.{proofs.{Common.{◌≡◌, ◌≢◌, ◌⊎◌, inl, inr, ℕ, zero, suc, ◌+◌, ◌-◌, ◌<◌, ◌≤◌, ◌==◌, ◌&&◌, ◌||◌, ◌++◌, arith, Bool, true, false, not, List, [], ◌∷◌, drop, length, map, Some, None, IsSome, refl, sym, ap, subst, ◌∙◌, slice_get, slice_set}, lemmas.{Bool.{eq-eqb, false≢true}, List.{length-set, map-append, Folds.list_any-append}}}, specs.List.list_any}
 use Rattle.exec_outcomes.specs.Accounts.{Account, is_durable}
-use Rattle.exec_driver.specs.{Opens.{OpenState, joined}, declared.opens.WaiterKey.WaiterKey}
+use Rattle.exec_opens.specs.{Opens.{OpenState, joined}, declared.opens.WaiterKey.WaiterKey}
 use Rattle.exec_machine.specs.{Requests.open_joined_by, Tests.{is_gated}, World.Open}
 use Rattle.exec_parts.{specs.{declared.parts.record.Record.Record, View.{gate_seen, line_of, number_of_key, open_seen}}, proofs.Facts.{and_parts, and_from, not-true, by_number, false_from_ne_true, or_right, same_Some, set_elsewhere, set_there}}
 use Rattle.exec_invariants.specs.{Gates.{AreLinedUp, HaveGates, IsLinedUp, at_gate, has_hint_at, is_coming, is_in_line, key_for, line_at, same_key}, Places.Drops}

@@ -6,7 +6,9 @@ use Rattle.exec_outcomes.specs.{Accounts.is_durable, declared.outcome.Kind.Kind}
 use Rattle.exec_time.specs.declared.timers.Sleeper.{Sleeper as Sleeping}
 use Rattle.exec_request.specs.{Requests.{asked_of, gate_of, target_of}, States.asks_cancel, declared.{request.Request.Request as Asking}}
 use Rattle.exec_waiters.{specs.{States.{gate_in, needs_permit, waiter_at}, declared.{waiter.{Entry.Entry, Waiter.Waiter}, waiter_id.WaiterId.WaiterId}}, proofs.Changes.entry_of}
-use Rattle.exec_driver.{specs.{Driving.{Driving, request_at, is_gated as waits_gated}, Lists.{is_among}, Opens.OpenState, declared.opens.WaiterKey.WaiterKey, Placed.ListsRequests, Steps.{lower, lowest_gate}}, proofs.{Names.same_tells, Turns.gate_from}}
+use Rattle.exec_driver.{specs.{Driving.{Driving, request_at, is_gated as waits_gated}, Placed.ListsRequests, Steps.{lower, lowest_gate}}, proofs.Turns.gate_from}
+use Rattle.exec_lists.{specs.Lists.is_among, proofs.Names.same_tells}
+use Rattle.exec_opens.specs.{Opens.OpenState, declared.opens.WaiterKey.WaiterKey}
 use Rattle.exec_ring.specs.declared.store.Store.{Store}
 use Rattle.exec_machine.specs.{declared.state.{Request.Request, RequestPhase.RequestPhase}, Tests.{is_gated, is_of_file, is_resolved}, World.Common}
 use Rattle.exec_moves.specs.{declared.place.InService.InService, Serve.first_numbered, Submit.{next_gate, waits_at}}

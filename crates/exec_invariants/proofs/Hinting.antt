@@ -5,7 +5,8 @@ use Rattle.exec_outcomes.specs.{Accounts.Account, Outcomes.{counted_for, cursor_
 use Rattle.exec_request.specs.{Buffers.{length_of, moved_of}, Hints.{AsksOn, has_hint}, Kept.{Owned, kept_of, rewound}, Requests.{asked_of, cursor_of, target_of, window_by}, Syncing.{is_syncing, write_kind}, Ways.{narrowed}, declared.{request.Request.Request as Asking, write_at.{WriteAtRequest.WriteAtRequest, WriteAtState.WriteAtState}}}
 use Rattle.exec_ring.specs.{Files.HasPage, Stores.{CoversIn, HasStretch}, declared.{file.File.File, store.Store.Store}}
 use Rattle.exec_waiters.specs.States.{file_of}
-use Rattle.exec_driver.specs.{Opens.{OpenState, account_by, account_in}, Footprints.bytes_left}
+use Rattle.exec_opens.specs.Opens.{OpenState, account_by, account_in}
+use Rattle.exec_driver.specs.Footprints.{bytes_left}
 use Rattle.exec_machine.specs.{declared.state.Operation.Operation, Requests.{asks_hint, with_hint}, Same.same_kind, Tests.is_of_file, World.{Open, no_open}}
 use Rattle.exec_parts.specs.{declared.parts.record.Record.Record, Records.file_named, Serving.is_cancel, Submitting.{is_hinted, takes_hint}, View.{account_seen, open_seen}}
 use Rattle.exec_invariants.{specs.{Carried.HasStretchFor, Flown.is_poll, Gates.{AreLinedUp, has_hint_at, may_ask_hint}}, proofs.{Lined.mapped, SparedRecord.there_within}}

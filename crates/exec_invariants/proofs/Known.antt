@@ -3,7 +3,8 @@ use Rattle.std.proofs.{Common.{◌≡◌, ℕ, ◌+◌, ◌<◌, ◌≤◌, ◌^
 use Rattle.exec_base.{specs.{Slab.{Slab, IsPast, value_at, written}, declared.slab.Id.Id}, proofs.Slots.{past-write}}
 use Rattle.exec_request.specs.Requests.{cursor_of}
 use Rattle.exec_waiters.{specs.{States.waiter_at, declared.waiter.{Entry.{Entry, TheVariants.Pending}, Waiter.Waiter}}, proofs.Changes.entry_of}
-use Rattle.exec_driver.{specs.Opens.OpenState, proofs.Counting.{OneChanged, one_written}}
+use Rattle.exec_opens.specs.Opens.{OpenState}
+use Rattle.exec_lists.proofs.Counting.{OneChanged, one_written}
 use Rattle.exec_parts.{specs.{declared.parts.{mail.Reply.Reply, record.Record.Record}, Records.number_in, Serving.changed_at}, proofs.Facts.by_name}
 use Rattle.exec_invariants.{specs.Gates.{IsKnown, has_hint_at, may_ask_hint}, proofs.Marking.{mark_if, marked, marked_length, was_marked}}
 

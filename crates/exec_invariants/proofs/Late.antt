@@ -4,7 +4,8 @@ use Rattle.exec_base.specs.{Slab.value_at, declared.error.Error.Error}
 use Rattle.exec_outcomes.specs.{Accounts.is_durable, declared.outcome.Outcome.{Outcome, TheVariants.Failure}}
 use Rattle.exec_request.specs.{Requests.{deadline_of, output_of}, declared.request.Request.Request as Asking}
 use Rattle.exec_waiters.specs.{Events.{finished, told_by_finish, waker_in}, States.{tick_in, flying_count}, Told.{Tells, Told}, declared.waiter_id.WaiterId.WaiterId}
-use Rattle.exec_driver.specs.{Driving.{Driving, request_at, is_queued, is_unenrolled, is_cancelled}, Lists.{first_of, rest_of, is_among, without, withdrawn}, Punctual.IsPunctual, Steps.{told_by_enrolment, tick_for, ended_by, unscheduled}}
+use Rattle.exec_driver.specs.{Driving.{Driving, request_at, is_queued, is_unenrolled, is_cancelled}, Punctual.IsPunctual, Steps.{told_by_enrolment, tick_for, ended_by, unscheduled}}
+use Rattle.exec_lists.specs.Lists.{first_of, rest_of, is_among, without, withdrawn}
 use Rattle.exec_task.specs.declared.body.Said.{Said}
 use Rattle.exec_machine.specs.{declared.{event.Event.{Event, TheVariants.Enrol}, state.Request.Request}, Deadlines.outcome_at_enrol, Same.{is_none, is_number, same_end}, Tests.{is_gated, is_queued as is_phase_queued, is_resolved}, World.{Common, request_of}, Requests.resolved}
 use Rattle.exec_moves.specs.{Told.{told_of_end}, State.Desk, Submit.{due_next, first_due, submits, Due.Enrols}, declared.place.{Service.Service, Place.Place, InService.InService}}

@@ -6,7 +6,8 @@ use Rattle.exec_outcomes.specs.declared.outcome.Outcome.{Outcome}
 use Rattle.exec_time.specs.declared.timers.Sleeper.{Sleeper as Sleeping}
 use Rattle.exec_request.specs.{declared.output.RequestOutput.RequestOutput, Requests.deadline_of}
 use Rattle.exec_waiters.{specs.{States.{waiter_at, waiter_of, needs_permit, takes_tick}, declared.{observer.Observer.{Observer, TheVariants.Local}, waiter.{Entry.{Entry, TheVariants.Pending}, Waiter.Waiter}, waiter_id.WaiterId.WaiterId}}, proofs.Changes.entry_of}
-use Rattle.exec_driver.specs.{Driving.Driving, Lists.{is_among, withdrawn}}
+use Rattle.exec_driver.specs.Driving.{Driving}
+use Rattle.exec_lists.specs.Lists.{is_among, withdrawn}
 use Rattle.exec_machine.specs.Tests.{is_resolved}
 use Rattle.exec_moves.specs.declared.place.InService.{InService}
 use Rattle.exec_parts.{specs.{declared.parts.{mail.Reply.Reply, names.Names.Names, record.Record.Record, sleeping.SleeperRecord.SleeperRecord}, Records.number_in, Serving.changed_at}, proofs.Facts.same_number}

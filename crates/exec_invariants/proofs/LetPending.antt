@@ -4,7 +4,8 @@ use Rattle.exec_base.specs.{Slab.{value_at, written}, declared.{error.Error.TheV
 use Rattle.exec_outcomes.specs.declared.outcome.Outcome.TheVariants.{Failure}
 use Rattle.exec_request.specs.{Requests.{asked_of, goes_on_alone, output_of}, States.asks_cancel}
 use Rattle.exec_waiters.{specs.{Events.{cancelled as cancelled_of, told_by_finish, told_to, orphaned_from}, States.{is_held_by, tick_in, waiter_at, waiter_of}, Told.{Told, Tells, nothing_told}, declared.{deferred.Deferred.Deferred, waiter.{Entry.TheVariants.{Pending, Ready}, Waiter.Waiter}, waiter_id.WaiterId.WaiterId}}, proofs.Changes.entry_of}
-use Rattle.exec_driver.specs.{Driving.{Driving}, Lists.without, Punctual.IsPunctual, Steps.{both, cancelling, cancelled_from, ended, timed_out, told_by_cancel, without_observer}}
+use Rattle.exec_driver.specs.{Driving.Driving, Punctual.IsPunctual, Steps.{both, cancelling, cancelled_from, ended, timed_out, told_by_cancel, without_observer}}
+use Rattle.exec_lists.specs.Lists.{without}
 use Rattle.exec_machine.specs.{declared.state.RequestPhase.RequestPhase, Requests.{ends_by_drop, is_cancelled_by_drop, joined_if}, Tests.{is_gated, is_in_flight, is_kept, is_queued}}
 use Rattle.exec_moves.specs.declared.{handing.AfterCallbacks.AfterCallbacks, place.{InCallbacks.InCallbacks, Place.Place}}
 use Rattle.exec_parts.{specs.{declared.parts.{mail.Reply.Reply, record.Record.Record, shared.Shared.Shared, worker.Worker.Worker}, Awaits.{LetsGo, drops}, Polls.unobserved, Records.number_in, Serving.{changed_at}, View.driver_of}, proofs.Facts.and_right}

@@ -3,7 +3,8 @@ use Rattle.std.proofs.{Common.{◌≡◌, ◌≢◌, ℕ, ◌+◌, ◌==◌, ◌
 use Rattle.exec_base.specs.{Slab.{Slab, value_at, written, removed}, declared.slab.{Id.Id, Slot.{TheVariants.Live}}}
 use Rattle.exec_request.specs.{Requests.{asked_of, goes_on_alone}, States.asks_cancel}
 use Rattle.exec_waiters.{specs.{Events.{cancelled as cancelled_of, told_by_finish, told_to}, States.{flying_count, is_held_by, waiter_at, waiter_of}, Told.{Told, Tells, nothing_told}, declared.{observer.Observer.TheVariants.{Forwarded, Orphaned}, waiter.{Entry.{Entry, TheVariants.{Pending, Ready}}, Waiter.Waiter}, waiter_id.WaiterId.WaiterId}}, proofs.Changes.{entry_of, one_if}}
-use Rattle.exec_driver.specs.{Driving.{Driving, request_at, is_queued as is_listed_queued, is_unenrolled, is_cancelled}, Lists.{is_among, without}, Steps.{both, cancelling, cancelled_from, ended, timed_out, told_by_cancel}}
+use Rattle.exec_driver.specs.{Driving.{Driving, request_at, is_queued as is_listed_queued, is_unenrolled, is_cancelled}, Steps.{both, cancelling, cancelled_from, ended, timed_out, told_by_cancel}}
+use Rattle.exec_lists.specs.Lists.{is_among, without}
 use Rattle.exec_machine.specs.{declared.state.{RequestPhase.RequestPhase}, Requests.{ends_by_drop, is_cancelled_by_drop, joined_if, left_if, own_after_drop}, Tests.{is_gated, is_in_flight, is_kept, is_queued}, World.{Common, request_of}}
 use Rattle.exec_moves.specs.{declared.handing.Heard.Heard, Slots.vacated, State.Desk, Told.{one_output, told_of_drop, turned_away, without_request}}
 use Rattle.exec_parts.{specs.{declared.parts.{mail.Reply.Reply, record.Record.Record, shared.Shared.Shared, worker.Worker.Worker}, Awaits.LetsGo, Records.number_in, View.{awaited_from, awaits_entry, desk_of, driver_of, numbers_of, own_of, slots_seen, visible}}, proofs.Facts.{and_right, by_number, same_Some, set_elsewhere}}

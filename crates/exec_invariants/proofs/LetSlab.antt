@@ -3,7 +3,8 @@ use Rattle.std.proofs.{Common.{◌≡◌, ◌≢◌, ◌+◌, ◌^◌, ◌<◌, 
 use Rattle.exec_base.{specs.{Slab.{IsPast, Slab, value_at, removed, freed}, declared.slab.Id.Id}, proofs.Slots.{Changed-set, IsLiveAt-from_value, Updates-free, live_within, past-free, was_live}}
 use Rattle.exec_request.specs.declared.output.RequestOutput.{RequestOutput}
 use Rattle.exec_waiters.specs.{States.{waiter_at, pending_count, flying_count, is_flying, tick_of, awaits_tick, waiter_of}, declared.{waiter.{Entry.{Entry, TheVariants.Ready}, Waiter.Waiter}, waiter_id.WaiterId.WaiterId}}
-use Rattle.exec_driver.{proofs.Counting.{OneChanged, one_removed, pending_is, flying_is}, specs.{Driving.Driving, Lists.is_among}}
+use Rattle.exec_lists.{proofs.Counting.{OneChanged, one_removed, pending_is, flying_is}, specs.Lists.is_among}
+use Rattle.exec_driver.specs.Driving.{Driving}
 use Rattle.exec_parts.{specs.{declared.parts.{mail.Reply.Reply, names.Names.Names, record.Record.Record}, Records.number_in, Serving.changed_at}, proofs.Facts.by_name}
 use Rattle.exec_invariants.{specs.Names.{held_count, IsAlike}, proofs.{HeldCounts.held_removed, Watching.{Watched, Rewatched}, Orders.{Eases, past_removed, alike_self}}}
 use Rattle.exec_machine.specs.Tests.{is_resolved}

@@ -3,7 +3,7 @@
 use Rattle.std.proofs.{Common.{◌≡◌, ℕ, zero, suc, ◌≤◌, ◌<◌, ◌+◌, ◌^◌, ◌==◌, ◌&&◌, Bool, true, false, List, [], ◌∷◌, cond, count_by, length, map, Option, Some, None, IsSome, option_map, refl, sym, ap, subst, ◌∙◌, slice_get, if◌then◌else◌}, Math.Seq.map-set_same, lemmas.{List.Recursion.is_count_by, Bool.false≢true, Option.{get_or_from_slice_get, slice_get-map}}}
 use Rattle.std.proofs.Common.{arith}
 use Rattle.exec_outcomes.specs.Accounts.{is_durable}
-use Rattle.exec_driver.specs.{Opens.OpenState, declared.opens.WaiterKey.WaiterKey}
+use Rattle.exec_opens.specs.{Opens.OpenState, declared.opens.WaiterKey.WaiterKey}
 use Rattle.exec_machine.specs.Tests.{is_of_file, is_resolved, is_unsent, is_gated}
 use Rattle.exec_parts.{specs.{declared.parts.record.Record.Record, Serving.{changed_in, changed_at, flies, flown_in}, View.{gate_seen, number_of_key, numbers_of_passing}}}
 use Rattle.exec_invariants.{specs.{Gates.{AreLinedUp, AtGate, HaveGates, IsLinedUp, at_gate, has_hint_at, is_coming, line_at, key_for}, Places.Drops}, proofs.Marking.{marked, mark_if}}

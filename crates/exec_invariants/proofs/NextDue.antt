@@ -3,7 +3,8 @@ use Rattle.std.{proofs.{Common.{◌≡◌, ℕ, ◌+◌, ◌*◌, ◌≤◌, ◌
 use Rattle.exec_base.specs.{Slab.{Slab, value_at}, declared.slab.Id.Id}
 use Rattle.exec_time.specs.{Wheel.{Wheel, moment_of, next_moment, least_active}, declared.timers.Sleeper.Sleeper as Sleeping}
 use Rattle.exec_waiters.specs.{States.{waiter_at, tick_in, tick_of}, declared.waiter.{Waiter.Waiter}}
-use Rattle.exec_driver.specs.{Driving.Driving, Lists.has_first, Punctual.IsFirstTick}
+use Rattle.exec_driver.specs.{Driving.Driving, Punctual.IsFirstTick}
+use Rattle.exec_lists.specs.Lists.{has_first}
 use Rattle.exec_task.specs.declared.body.Said.{Said}
 use Rattle.exec_machine.specs.{Deadlines.{first_timer, first_until, next_due}, Progress.Plan, Tests.{is_asleep, is_open, is_resolved}}
 use Rattle.exec_moves.specs.declared.place.Place.{Place}

@@ -3,7 +3,8 @@ use Rattle.std.{proofs.{Common.{◌≡◌, ◌≢◌, ◌⊎◌, ℕ, ◌+◌, �
 use Rattle.exec_base.{specs.{Slab.{Slab, IsPast, freed, next_id, removed, value_at, written}, declared.slab.{Id.Id}}, proofs.Slots.{Changed-set, IsLiveAt-from_value, live_within, past-write, was_live}}
 use Rattle.exec_time.specs.Wheel.{Wheel, fresh, scheduled, removed as unticked}
 use Rattle.exec_waiters.{specs.{Events.with_tick, States.{awaits_tick, takes_tick, tick_in, tick_of, waiter_at}, declared.{waiter.{Entry.{Entry, TheVariants.Pending}, Waiter.Waiter}, waiter_id.WaiterId.WaiterId}}, proofs.Changes.entry_of}
-use Rattle.exec_driver.{specs.{Lists.{rest_of, without}, Steps.unscheduled}, proofs.{Counting.{OneChanged, one_written}, Names.same_tells}}
+use Rattle.exec_lists.{specs.Lists.{rest_of, without}, proofs.{Counting.{OneChanged, one_written}, Names.same_tells}}
+use Rattle.exec_driver.specs.Steps.{unscheduled}
 use Rattle.exec_parts.{specs.{declared.parts.mail.Reply.Reply, Records.number_in}, proofs.Facts.by_name}
 use Rattle.exec_invariants.specs.Ordered.{HasCome, IsOlder, IsOrdered, IsToldBefore, Pairwise, StandsBefore, StandsIn, tick_at}
 use Rattle.exec_invariants.proofs.SparedRecord.{live_of}

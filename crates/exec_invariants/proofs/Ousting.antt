@@ -6,7 +6,8 @@ use Rattle.exec_time.specs.declared.timers.Sleeper.{Sleeper as Sleeping}
 use Rattle.exec_request.specs.declared.{output.RequestOutput.RequestOutput, request.Request.Request as Asking}
 use Rattle.exec_ring.specs.Rings.{RingState}
 use Rattle.exec_waiters.{specs.{Ids.user_data_of, States.{is_held_by, pending_count, waiter_at, waiter_of}, Told.{Tells, Told}, declared.{deferred.Deferred.Deferred, waiter.Waiter.Waiter}}, proofs.Changes.entry_of}
-use Rattle.exec_driver.specs.{Driving.Driving, Lists.withdrawn, Punctual.IsPunctual}
+use Rattle.exec_driver.specs.{Driving.Driving, Punctual.IsPunctual}
+use Rattle.exec_lists.specs.Lists.{withdrawn}
 use Rattle.exec_machine.specs.{Tests.{is_in_flight, is_staged}, declared.state.RequestPhase.RequestPhase}
 use Rattle.exec_moves.specs.declared.place.Place.{Place}
 use Rattle.exec_parts.{specs.{declared.parts.{mail.Reply.Reply, names.Names.Names, record.Record.Record, shared.Shared.Shared, sleeping.SleeperRecord.SleeperRecord, worker.Worker.Worker}, Records.number_in, Serving.{AreTagged, cancels_in, changed_at, is_one_of}}, proofs.Facts.same_number}

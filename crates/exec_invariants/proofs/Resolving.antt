@@ -5,7 +5,8 @@ use Rattle.exec_outcomes.specs.Accounts.{Account}
 use Rattle.exec_time.specs.Wheel.{Wheel, removed as unticked}
 use Rattle.exec_request.specs.{Requests.output_of, States.Ended, declared.output.RequestOutput.RequestOutput}
 use Rattle.exec_waiters.{specs.{Events.{finished, finished_for}, States.{is_held_by, waiter_at, pending_count}, Told.{Told, Tells}, declared.{deferred.{Deferred.Deferred}, observer.Observer.{Observer, TheVariants.{DetachedSync, Forwarded, Local, Orphaned}}, waiter.{Entry.{Entry, TheVariants.{Pending, Ready}}, Waiter.Waiter}, waiter_id.WaiterId.WaiterId}}, proofs.Changes.{entry_of, one_if}}
-use Rattle.exec_driver.{specs.{Lists.{is_among, without}, Steps.{unscheduled}}, proofs.{Counting.pending_is, Endings.one_finished}}
+use Rattle.exec_lists.{specs.Lists.{is_among, without}, proofs.Counting.pending_is}
+use Rattle.exec_driver.{specs.Steps.unscheduled, proofs.Endings.one_finished}
 use Rattle.exec_machine.specs.declared.config.Configuration.{Configuration}
 use Rattle.exec_parts.{specs.{declared.parts.mail.Reply.Reply, Calls.IsTold}}
 use Rattle.exec_invariants.{specs.{Due.IsWheelAt, Names.{HasWidth, held_count}}, proofs.{HeldCounts.{held_removed, held_written}, Orders.{past_removed, past_written}}}

@@ -1,6 +1,6 @@
 -- Steps of a poll that change one task's slot: what holds then, and what they leave of others.
 use Rattle.std.proofs.{Common.{[], ◌≡◌, ◌≢◌, ◌⊎◌, inr, ⊎_elim, ℕ, ◌+◌, ◌<◌, ◌≤◌, ◌==◌, Bool, true, false, List, ◌∷◌, ◌++◌, length, map, Option, Some, None, refl, sym, ap, subst, ◌∙◌, arith, slice_get, slice_index_or, slice_set, option_map, option_to_list, if◌then◌else◌}, lemmas.{List.{length-set, map-set}, Option.{get_or_from_slice_get, slice_get-map, slice_get_within}}}
-use Rattle.exec_driver.specs.Opens.{OpenState}
+use Rattle.exec_opens.specs.Opens.{OpenState}
 use Rattle.exec_task.specs.{Phases.is_polled, declared.{body.Said.Said, runnable.Runnable.Runnable, task.Phase.Phase}}
 use Rattle.exec_machine.specs.{declared.event.Event.Event, After.{own_after, common_after}, Allowed.allowed, Choice.Choice, Progress.Plan, Tests.AllTrue, World.no_task}
 use Rattle.exec_moves.specs.{declared.place.{InPoll.InPoll, Place.Place}, Move.move_at, Seen.polls_at}

@@ -4,7 +4,8 @@ use Rattle.exec_base.specs.{Slab.{Slab, value_at}, declared.slab.Id.Id}
 use Rattle.exec_time.specs.declared.timers.Sleeper.{Sleeper as Sleeping}
 use Rattle.exec_ring.specs.declared.completion.Completion.{Completion}
 use Rattle.exec_waiters.specs.{States.waiter_at, declared.{deferred.Deferred.Deferred, waiter.Waiter.Waiter, waiter_id.WaiterId.WaiterId}}
-use Rattle.exec_driver.specs.{Driving.Driving, Lists.is_among}
+use Rattle.exec_driver.specs.Driving.{Driving}
+use Rattle.exec_lists.specs.Lists.{is_among}
 use Rattle.exec_machine.specs.{declared.state.Waiting.Waiting, Tests.{is_asleep, is_resolved, is_staged}}
 use Rattle.exec_moves.specs.declared.{handing.Heard.Heard, place.{InPoll.InPoll, InService.InService}}
 use Rattle.exec_parts.{specs.{declared.parts.{mail.{Reply.Reply, Subject.Subject}, names.Names.Names, record.Record.Record, sleeping.SleeperRecord.SleeperRecord}, Records.number_in, Serving.{AreKnown, is_one_of}}, proofs.Facts.{same_number, or_left, or_right}}

@@ -5,7 +5,8 @@ use Rattle.exec_time.specs.declared.timers.Sleeper.{Sleeper as Sleeping}
 use Rattle.exec_request.specs.States.{asks_cancel}
 use Rattle.exec_ring.specs.{Rings.completions, declared.completion.Submission.Submission}
 use Rattle.exec_waiters.{specs.{States.{waiter_at}, declared.{waiter.{Waiter.Waiter}, waiter_id.WaiterId.WaiterId}}, proofs.Changes.entry_of}
-use Rattle.exec_driver.{specs.{Driving.{Driving, request_at, is_cancelled, is_queued, is_full as is_ring_full, may_stage_one}, Lists.{has_first, first_of, rest_of, is_among}, Punctual.IsPunctual, Steps.{cancel_entry, cancel_staged}}, proofs.Counting.same_written}
+use Rattle.exec_driver.specs.{Driving.{Driving, request_at, is_cancelled, is_queued, is_full as is_ring_full, may_stage_one}, Punctual.IsPunctual, Steps.{cancel_entry, cancel_staged}}
+use Rattle.exec_lists.{specs.Lists.{has_first, first_of, rest_of, is_among}, proofs.Counting.same_written}
 use Rattle.exec_task.specs.declared.body.Said.{Said}
 use Rattle.exec_machine.specs.{declared.{config.Configuration.Configuration, event.Event.{Event, TheVariants.Cancel}}, Progress.Plan, Ranges.ring_size, Same.is_number, Tests.{is_empty, is_in_flight, is_staged}, World.{Common, request_of}}
 use Rattle.exec_moves.specs.{Callback.is_full, Load.may_stage, Move.move_submit, Submit.{due_next, staging_due, first_due, one_more, submits, Due.Cancels}, declared.place.{Service.Service, Place.Place, InService.InService}}

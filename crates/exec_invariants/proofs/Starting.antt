@@ -6,7 +6,9 @@ use Rattle.exec_outcomes.specs.{declared.outcome.Judged.Judged, Outcomes.{HasCom
 use Rattle.exec_request.specs.{Kept.{kept_of, seen_by}, Requests.{asked_of, cursor_of, hinted_of, deadline_of}, States.asks_cancel, declared.{request.Request.Request as Asking, results.WaiterState.{WaiterState}}}
 use Rattle.exec_ring.specs.declared.completion.Submission.{Submission}
 use Rattle.exec_waiters.{specs.{States.{waiter_at, takes_tick, tick_in, needs_permit}, declared.{waiter.Waiter.Waiter, waiter_id.WaiterId.WaiterId}}, proofs.Changes.entry_of}
-use Rattle.exec_driver.specs.{Driving.{request_at, is_queued}, Lists.{first_of, is_among}, Opens.OpenState}
+use Rattle.exec_driver.specs.Driving.{request_at, is_queued}
+use Rattle.exec_lists.specs.Lists.{first_of, is_among}
+use Rattle.exec_opens.specs.Opens.{OpenState}
 use Rattle.exec_machine.specs.{declared.state.{Request.Request, RequestPhase.RequestPhase}, Requests.is_enrolled, Tests.{is_gated, is_in_flight, is_resolved}}
 use Rattle.exec_moves.specs.declared.place.Service.{Service}
 use Rattle.exec_parts.specs.{declared.parts.{mail.Reply.Reply, record.Record.Record, shared.Shared.Shared, worker.Worker.Worker}, Records.number_in, Serving.{AreKnown, AreTagged, cancels_in, is_cancel}, Submitting.staged_with, View.driver_of}

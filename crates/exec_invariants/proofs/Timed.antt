@@ -4,7 +4,8 @@ use Rattle.exec_base.specs.{Slab.written, declared.slab.Id.Id}
 use Rattle.exec_time.specs.Wheel.{Wheel, scheduled}
 use Rattle.exec_request.specs.{States.asks_cancel, declared.results.WaiterState.WaiterState, Requests.deadline_of}
 use Rattle.exec_waiters.specs.{Events.with_tick, States.{needs_permit, takes_tick, tick_in, waiter_at}, declared.{waiter.{Entry.TheVariants.Pending, Waiter.Waiter}, waiter_id.WaiterId.WaiterId}}
-use Rattle.exec_driver.{specs.{Driving.Driving, Lists.{first_of, rest_of, is_among, after_enrolment}, Punctual.IsPunctual, Steps.tick_for}, proofs.{Expiring.tick_tells}}
+use Rattle.exec_driver.{specs.{Driving.Driving, Punctual.IsPunctual, Steps.tick_for}, proofs.Expiring.tick_tells}
+use Rattle.exec_lists.specs.Lists.{first_of, rest_of, is_among, after_enrolment}
 use Rattle.exec_machine.specs.{declared.{state.RequestPhase.RequestPhase, config.Configuration.Configuration}, Tests.{is_staged}, World.{Own, Common}}
 use Rattle.exec_moves.specs.{State.{Desk}, Submit.{due_next, first_due, Due.Enrols}, declared.place.{Place.Place, InService.InService}}
 use Rattle.exec_parts.{specs.{declared.parts.{mail.Reply.Reply, record.Record.Record, shared.Shared.Shared, worker.Worker.Worker}, Records.number_in, Serving.{changed_at, first_tick, is_one_of}, View.{own_of, driver_of}}, proofs.Facts.by_name}

@@ -2,7 +2,8 @@
 use Rattle.std.{proofs.{Common.{◌≡◌, ◌+◌, ◌*◌, ◌^◌, ◌<◌, ◌≤◌, ◌==◌, not, ◌∷◌, map, Option, Some, None, IfSome, refl, sym, ap, subst, ◌∙◌, arith, slice_get, slice_set}, lemmas.{Bool.eq-eqb, List.append-nil}}, specs.{Prelude.unwrap_or, Option.option_map}}
 use Rattle.exec_base.specs.Slab.{value_at}
 use Rattle.exec_waiters.{specs.{States.flying_count, Told.{Tells, nothing_told}, declared.{waiter.Entry.TheVariants.Pending, waiter_id.WaiterId.WaiterId}}, proofs.Changes.entry_of}
-use Rattle.exec_driver.specs.{Lists.{first_of, rest_of, after_enrolment}, Punctual.IsPunctual, Steps.{enrolled_by, told_by_enrolment, tick_for, ended_by}}
+use Rattle.exec_lists.specs.Lists.{first_of, rest_of, after_enrolment}
+use Rattle.exec_driver.specs.{Punctual.IsPunctual, Steps.{enrolled_by, told_by_enrolment, tick_for, ended_by}}
 use Rattle.exec_task.specs.declared.body.Said.{Said}
 use Rattle.exec_machine.specs.{declared.event.Event.{Event, TheVariants.Enrol}, Deadlines.{fires_at, outcome_at_enrol}, Same.{is_none, is_number, same_end}, Tests.is_queued as is_phase_queued, World.{Common, request_of}}
 use Rattle.exec_moves.specs.{Submit.{due_next, first_due, Due.Enrols}, declared.place.{Place.Place, InService.InService}}

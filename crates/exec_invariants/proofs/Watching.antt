@@ -6,7 +6,9 @@ use Rattle.exec_time.specs.declared.timers.Sleeper.{Sleeper as Sleeping}
 use Rattle.exec_request.specs.{declared.output.RequestOutput.RequestOutput, Requests.{deadline_of}}
 use Rattle.exec_ring.specs.declared.store.Store.{Store}
 use Rattle.exec_waiters.{specs.{States.{needs_permit, waiter_at, waiter_of, takes_tick, tick_in}, declared.{waiter.{Waiter.Waiter, Entry.{Entry, TheVariants.{Pending, Ready}}}, waiter_id.WaiterId.WaiterId}}, proofs.Changes.entry_of}
-use Rattle.exec_driver.specs.{Driving.Driving, Lists.is_among, Opens.OpenState, Punctual.IsPunctual}
+use Rattle.exec_driver.specs.{Driving.Driving, Punctual.IsPunctual}
+use Rattle.exec_lists.specs.Lists.{is_among}
+use Rattle.exec_opens.specs.Opens.{OpenState}
 use Rattle.exec_machine.specs.{declared.config.Configuration.Configuration, Tests.{is_resolved, is_staged}}
 use Rattle.exec_moves.specs.declared.place.InService.{InService}
 use Rattle.exec_parts.{specs.{declared.parts.{mail.Reply.Reply, names.Names.Names, record.Record.Record, sleeping.SleeperRecord.SleeperRecord, worker.Moments.Moments}, Records.number_in, Serving.{AreKnown, changed_at}}, proofs.Facts.{by_name, same_number}}

@@ -4,7 +4,8 @@ use Rattle.exec_base.specs.declared.slab.Id.{Id}
 use Rattle.exec_request.specs.{Requests.deadline_of, declared.window.Opcode.Opcode}
 use Rattle.exec_ring.specs.{Completions.result_in, Rings.{RingState, completions}, declared.completion.{Completion.Completion, Submission.Submission}}
 use Rattle.exec_waiters.specs.{Ids.{index_in, generation_in}, Events.is_lawful_for, States.{needs_permit, waiter_at, takes_tick}, declared.{waiter.Waiter.Waiter, waiter_id.WaiterId.WaiterId}}
-use Rattle.exec_driver.specs.{Driving.Driving, Lists.is_among, Steps.is_control}
+use Rattle.exec_driver.specs.{Driving.Driving, Steps.is_control}
+use Rattle.exec_lists.specs.Lists.{is_among}
 use Rattle.exec_machine.specs.{declared.state.{Request.Request, RequestPhase.TheVariants.Landed}, Tests.is_resolved}
 use Rattle.exec_moves.specs.declared.place.InService.{InService}
 use Rattle.exec_parts.specs.{declared.parts.{mail.Reply.Reply, names.Names.Names, record.Record.Record}, Records.number_in, Serving.is_one_of, View.{is_end, number_told}}

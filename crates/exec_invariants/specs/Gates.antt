@@ -9,7 +9,7 @@ use Rattle.exec_outcomes.specs.{Accounts.is_durable, declared.outcome.Kind.Kind}
 use Rattle.exec_outcomes.specs.declared.outcome.Kind.TheVariants as kind
 use Rattle.exec_request.specs.{Requests.cursor_of, Hints.has_hint}
 use Rattle.exec_waiters.specs.{States.waiter_at, declared.waiter.{Entry.Entry, Waiter.Waiter}}
-use Rattle.exec_driver.specs.{Opens.{OpenState, account_in}, declared.opens.WaiterKey.WaiterKey}
+use Rattle.exec_opens.specs.{Opens.{OpenState, account_in}, declared.opens.WaiterKey.WaiterKey}
 use Rattle.exec_machine.specs.Tests.{is_gated, is_of_file, is_resolved}
 use Rattle.exec_parts.specs.{declared.parts.{mail.Reply.Reply, record.Record.Record}, Records.number_in}
 use Rattle.exec_invariants.specs.Places.{Drops}

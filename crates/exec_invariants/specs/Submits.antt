@@ -1,7 +1,8 @@
 -- The middle of a service: what it does next, by what its driver has.
 use Rattle.std.specs.Prelude.{◌≡◌, ℕ, true, [], map, Some, None}
 use Rattle.exec_waiters.specs.declared.waiter_id.WaiterId.{WaiterId}
-use Rattle.exec_driver.specs.{Lists.{first_of, has_first}, Placed.ListsRequests, Steps.lowest_gate}
+use Rattle.exec_lists.specs.Lists.{first_of, has_first}
+use Rattle.exec_driver.specs.{Placed.ListsRequests, Steps.lowest_gate}
 use Rattle.exec_machine.specs.Deadlines.{is_first_due}
 use Rattle.exec_moves.specs.{Serve.first_numbered, declared.place.{InService.InService, Service.Service, Place.Place}}
 use Rattle.exec_parts.specs.{declared.parts.{shared.Shared.Shared, worker.Worker.Worker}, Records.number_in, View.{driver_of, own_of}}

@@ -3,7 +3,8 @@ use Rattle.std.proofs.{Common.{◌≡◌, ◌⊎◌, inl, ℕ, ◌+◌, ◌≤�
 use Rattle.exec_base.specs.{Slab.{Slab, is_live, value_at, written, removed, freed}, declared.{error.Error.{Error, TheVariants.Closed}, slab.{Id.Id, Slot.{Slot, TheVariants.{Live, Vacant, Retired}}}, task_no.TaskNo.TaskNo}}
 use Rattle.exec_request.specs.declared.output.RequestOutput.{RequestOutput}
 use Rattle.exec_waiters.{specs.{Events.{answered, forwarded_from, told_by_forward}, States.{awaits_tick, flying_count, is_held_by, is_local, pending_count, tick_of, waiter_at, waiter_of}, Told.{Tells, nothing_told}, declared.{deferred.{Answer.Answer, Deferred.Deferred}, observer.Observer.{Observer, TheVariants.{Local, Forwarded, DetachedSync, Orphaned}}, waiter.{Entry.{Entry, TheVariants.{Pending, Ready}}, Waiter.Waiter}, waiter_id.WaiterId.WaiterId}}, proofs.Changes.one_if}
-use Rattle.exec_driver.specs.{Driving.Driving, Lists.is_among, Punctual.IsPunctual}
+use Rattle.exec_driver.specs.{Driving.Driving, Punctual.IsPunctual}
+use Rattle.exec_lists.specs.Lists.{is_among}
 use Rattle.exec_machine.specs.{declared.state.{Forwarding.TheVariants.{Applied, Sent}}, Tests.is_resolved}
 use Rattle.exec_moves.specs.{declared.handing.Heard.Heard, Slots.{is_in_slots, is_some_slot, vacated}, Told.awaits_no_more}
 use Rattle.exec_parts.{specs.{declared.parts.{mail.Reply.Reply, record.Record.Record, shared.Shared.Shared, worker.Worker.Worker}, Calls.{forward_applied, IsTold}, MailTakes.{TakesForward, reply_for}, Records.{number_in, outcome_in}, Serving.changed_at, View.{awaited_from, awaits_entry, desk_of, driver_of, results_in, slots_seen}}, proofs.Facts.{false_from_ne_true, same_Some}}

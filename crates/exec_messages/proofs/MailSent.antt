@@ -6,7 +6,8 @@ use Rattle.exec_base.specs.{Slab.{Slab, value_at}, declared.{error.Error.Error, 
 use Rattle.exec_time.specs.declared.{notes.ForwardedResult.ForwardedResult, timers.Sleeper.{Sleeper as Sleeping}}
 use Rattle.exec_request.specs.declared.output.RequestOutput.{RequestOutput}
 use Rattle.exec_waiters.{specs.{States.{waiter_at, waiter_of}, declared.{deferred.{Answer.Answer, Deferred.Deferred}, observer.Observer.TheVariants.Forwarded, waiter.{Entry.TheVariants.Ready, Waiter.Waiter}, waiter_id.WaiterId.WaiterId}}, proofs.Changes.entry_of}
-use Rattle.exec_driver.specs.{Driving.Driving, Lists.is_among}
+use Rattle.exec_driver.specs.Driving.{Driving}
+use Rattle.exec_lists.specs.Lists.{is_among}
 use Rattle.exec_machine.specs.Tests.{is_applied, is_resolved, is_staged}
 use Rattle.exec_moves.specs.declared.handing.Heard.{Heard}
 use Rattle.exec_parts.{specs.{declared.parts.{mail.Reply.Reply, names.Names.Names, record.Record.Record, sleeping.SleeperRecord.SleeperRecord}, Calls.forward_applied, Records.number_in, Serving.changed_at}, proofs.Facts.{by_name, by_number, not_same, same_Some}}

@@ -4,7 +4,8 @@ use Rattle.exec_base.{specs.{Slab.{Slab, slot_at, generation_of, filled, inserte
 use Rattle.exec_outcomes.specs.{declared.outcome.Outcome.Outcome, Accounts.is_durable}
 use Rattle.exec_request.specs.{Requests.{deadline_of, gate_of, output_of}, declared.request.Request.Request as Asking}
 use Rattle.exec_waiters.specs.{Events.finished, declared.{observer.Observer.TheVariants.Local, waiter.Entry.{Entry, TheVariants.{Pending, Ready}}, waiter_id.WaiterId.WaiterId}}
-use Rattle.exec_driver.specs.{Admission.with_rooms, Driving.{Driving, seen}, Lists.{Lists, is_same, with_enrolment, with_gated, with_queued, withdrawn, without}, Steps.{ended, in_place, is_late, newcomer, placed_at, taken_in, timed_out, with_deadline}}
+use Rattle.exec_driver.specs.{Admission.with_rooms, Driving.{Driving, seen}, Steps.{ended, in_place, is_late, newcomer, placed_at, taken_in, timed_out, with_deadline}}
+use Rattle.exec_lists.specs.Lists.{Lists, is_same, with_enrolment, with_gated, with_queued, withdrawn, without}
 use Rattle.exec_machine.specs.{declared.state.{Operation.Operation, RequestPhase.RequestPhase}, Requests.{new_request, resolved_if}}
 use Rattle.exec_parts.{specs.{declared.parts.{mail.Reply.Reply, names.Names.Names, seat.Seat.Seat as Chair, shared.Shared.Shared, task_slot.TaskSlot.TaskSlot, worker.Worker.Worker}, Admitting.{MayMake, TakesIn}, Records.{outcome_in}, View.driver_of}, proofs.{Facts.{same_self, same_Some, set_there}, Growing.{rooms_there, rooms_within}, Taken.{Takes, takes_by, takes_room, enrolled_if}}}
 

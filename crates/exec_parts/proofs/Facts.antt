@@ -5,7 +5,7 @@ pub use Rattle.std.proofs.lemmas.Option.{same_Some}
 pub use Rattle.std.proofs.lemmas.Bool.{or_right, or_left, and_parts, and_from, and_right, not-true, not-false, false_from_ne_true}
 use Rattle.exec_base.{specs.declared.slab.Id.Id, proofs.Slots.id_cases}
 use Rattle.exec_waiters.specs.declared.waiter_id.WaiterId.{WaiterId}
-use Rattle.exec_driver.specs.Lists.{is_same}
+use Rattle.exec_lists.specs.Lists.{is_same}
 
 -- NUMBERS
 

@@ -1,7 +1,7 @@
 -- What a body sees of the opens.
 use Rattle.std.proofs.Common.{◌≡◌, ℕ, zero, suc, List, [], ◌∷◌, map, Some, refl, slice_index_or}
 use Rattle.exec_outcomes.specs.Accounts.{fresh_account}
-use Rattle.exec_driver.specs.Opens.{OpenState, account_in}
+use Rattle.exec_opens.specs.Opens.{OpenState, account_in}
 use Rattle.exec_parts.specs.View.{account_seen}
 
 -- a file that has no open shows the record of a fresh one

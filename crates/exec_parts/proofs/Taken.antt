@@ -2,7 +2,8 @@
 use Rattle.std.{proofs.{Common.{◌≡◌, ◌≢◌, ◌⊎◌, ℕ, zero, suc, ◌+◌, ◌<◌, ◌≤◌, Bool, true, false, cond, count_by, List, [], ◌∷◌, ◌++◌, length, Option, Some, None, IsSome, refl, sym, ap, subst, ◌∙◌, arith, inl, inr, is_some, slice_get, slice_index_or, slice_set}, lemmas.{Bool.{false≢true, eq-eqb, Decides.eqb_tells}, List.{get_or_past, length-append, length-set, set_past, Folds.list_any-append, Sums.{sum_by-set, sum_by_push}}, Option.{get_or_from_slice_get, unwrap_or-slice_get}}}, specs.{List.AllByRecursion, Prelude.unwrap_or}}
 use Rattle.exec_base.{specs.{Slab.{Slab, slot_at, value_at, value_in, generation_of, next_generation, filled, inserted, next_id, IsPast, TakesId}, declared.slab.{Id.Id, Slot.{Slot, TheVariants.{Live, Vacant, Retired}}}}, proofs.Slots.{Changed, Changed-push, Changed-set, NextIs, id_cases, ltb_tells, some_of_if}}
 use Rattle.exec_waiters.specs.declared.waiter_id.WaiterId.{WaiterId}
-use Rattle.exec_driver.specs.{Driving.Driving, Lists.{is_among, is_same}}
+use Rattle.exec_driver.specs.Driving.{Driving}
+use Rattle.exec_lists.specs.Lists.{is_among, is_same}
 use Rattle.exec_parts.{specs.{declared.parts.{mail.Reply.Reply, record.Record.Record}, Records.number_in, Serving.{AreKnown}}, proofs.Facts.{same_self, or_right, or_left}}
 
 -- LISTS

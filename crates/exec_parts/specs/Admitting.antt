@@ -6,7 +6,8 @@ use Rattle.exec_outcomes.specs.{Accounts.is_durable, declared.outcome.Kind.Kind}
 use Rattle.exec_request.specs.{Requests.{asked_of, deadline_of}, declared.request.Request.Request as Asking}
 use Rattle.exec_ring.specs.Stores.{Reserves}
 use Rattle.exec_waiters.specs.{States.gate_in, Told.{HasPlaces, Tells, nothing_told}, declared.{observer.Observer.TheVariants.Local, waiter_id.WaiterId.WaiterId}}
-use Rattle.exec_driver.specs.{Admission.{Admits, with_rooms}, Driving.{Driving, request_at}, Opens.{OpenState, account_in, joined, open_named, with_named}, Placed.ListsRequests, Punctual.IsPunctual, Footprints.footprint_of, Steps.{newcomer, told_at_admission}}
+use Rattle.exec_driver.specs.{Admission.{Admits, with_rooms}, Driving.{Driving, request_at}, Placed.ListsRequests, Punctual.IsPunctual, Footprints.footprint_of, Steps.{newcomer, told_at_admission}}
+use Rattle.exec_opens.specs.Opens.{OpenState, account_in, joined, open_named, with_named}
 use Rattle.exec_task.specs.declared.body.Said.{Said}
 use Rattle.exec_machine.specs.{declared.{event.Event.{Event, TheVariants.{Admit, Timer}}, state.{Operation.Operation, Waiting.Waiting}}, Deadlines.new_sleeper, Tests.is_of_file, Requests.{new_request, outcome_if_late, resolved_if}}
 use Rattle.exec_moves.specs.declared.place.{InPoll.InPoll, Place.Place}

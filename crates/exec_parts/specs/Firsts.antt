@@ -1,6 +1,6 @@
 -- What workers share before they begin.
 use Rattle.std.specs.Prelude.{◌≡◌, false, [], length, replicate}
-use Rattle.exec_driver.specs.Opens.{fresh_open}
+use Rattle.exec_opens.specs.Opens.{fresh_open}
 use Rattle.exec_task.specs.TaskSet.{IsShardCount}
 use Rattle.exec_machine.specs.declared.config.Configuration.{Configuration}
 use Rattle.exec_parts.specs.declared.parts.shared.Shared.{Shared}

@@ -4,7 +4,8 @@ use Rattle.exec_base.specs.Slab.{value_at}
 use Rattle.exec_outcomes.specs.declared.outcome.Outcome.{Outcome}
 use Rattle.exec_request.specs.declared.output.RequestOutput.{RequestOutput}
 use Rattle.exec_waiters.specs.{Events.taken, declared.waiter.Entry.TheVariants.Ready}
-use Rattle.exec_driver.specs.{Driving.Driving, Opens.OpenState, Punctual.IsPunctual}
+use Rattle.exec_driver.specs.{Driving.Driving, Punctual.IsPunctual}
+use Rattle.exec_opens.specs.Opens.{OpenState}
 use Rattle.exec_task.specs.{Phases.{begun, queued_body, pended, woken}, Sight.Sight, declared.{body.{Act.Act, Said.Said}, runnable.{AfterPoll.AfterPoll, Runnable.Runnable}}}
 use Rattle.exec_machine.specs.{declared.{event.Event.{Event, TheVariants.Got}, state.{RequestPhase.TheVariants.Resolved, Waiting.Waiting}}, Tasks.begun_waiting}
 use Rattle.exec_moves.specs.declared.place.{InPoll.InPoll, Place.Place}

@@ -3,8 +3,9 @@ use Rattle.std.specs.Prelude.{◌≡◌, ℕ, Bool, true, false, not, ◌==◌, 
 use Rattle.exec_base.specs.{Slab.Slab, declared.slab.Id.Id}
 use Rattle.exec_time.specs.{Sleepers.{IsEmpty, IsFirst}, Wheel.{least_active, next_moment}, declared.timers.Sleeper.Sleeper as Sleeping}
 use Rattle.exec_waiters.specs.{States.pending_count, Told.is_untold}
-use Rattle.exec_driver.specs.{Driving.{Driving, has_pending, is_full}, Lists.has_first, Punctual.{IsFirstTick, IsPunctual}, Steps.poll_staged}
-use Rattle.exec_machine.specs.{declared.config.Configuration.Configuration, declared.event.Event.{Event, TheVariants.{Turn, Enter, Sleep}}, Deadlines.earlier}
+use Rattle.exec_driver.specs.{Driving.{Driving, has_pending, is_full}, Punctual.{IsFirstTick, IsPunctual}, Steps.poll_staged}
+use Rattle.exec_lists.specs.Lists.{has_first}
+use Rattle.exec_machine.specs.{declared.config.Configuration.Configuration, declared.event.Event.{Event, TheVariants.{Enter, Sleep}}, Deadlines.earlier}
 use Rattle.exec_moves.specs.{declared.handing.{AfterCallbacks.AfterCallbacks, AfterKick.AfterKick, AfterLeave.AfterLeave, AfterPush.AfterPush, AfterSignal.AfterSignal}, declared.idling.{AfterWait.AfterWait, Stay.Stay}, declared.place.{Place.Place, Round.Round}, Callback.serve, Look.past_own, Parts.after_send}
 use Rattle.exec_moves.specs.declared.handing.AfterCallbacks.TheVariants as after
 use Rattle.exec_moves.specs.declared.handing.AfterClaim.TheVariants as claim

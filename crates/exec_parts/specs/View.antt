@@ -7,13 +7,13 @@ use Rattle.exec_ring.specs.{Completions.is_wake, Rings.{RingState, completions},
 use Rattle.exec_time.specs.declared.notes.ForwardedResult.{ForwardedResult}
 use Rattle.exec_waiters.specs.{Events.waker_in, Ids.index_in, States.flying_count, declared.{deferred.Answer.Answer, waiter.Entry.Entry, waiter_id.WaiterId.WaiterId}}
 use Rattle.exec_waiters.specs.declared.waiter.Entry.TheVariants as entry
-use Rattle.exec_driver.specs.{Driving.{Driving, seen}, Opens.OpenState, Steps.is_control, declared.opens.WaiterKey.WaiterKey}
+use Rattle.exec_driver.specs.{Driving.{Driving, seen}, Steps.is_control}
+use Rattle.exec_opens.specs.{Opens.OpenState, declared.opens.WaiterKey.WaiterKey}
 use Rattle.exec_words.specs.{declared.{inbox.Message.Message as Letter, word.PureWord.PureWord}, Queue.Queue}
 use Rattle.exec_words.specs.declared.inbox.Message.TheVariants as letter
 use Rattle.exec_task.specs.declared.{body.Said.Said, runnable.Runnable.Runnable, task.Phase.Phase}
 use Rattle.exec_task.specs.declared.task.Phase.TheVariants as cell
-use Rattle.exec_machine.specs.{declared.state.{Call.Call, Letter.Letter as Owed, MailMessage.MailMessage, Request.Request, TaskPhase.TaskPhase}, World.{Own, Seat, Task, Open, Common}, Tests.is_resolved, Closing.letters_to_roots, Progress.Plan}
-use Rattle.exec_machine.specs.declared.state.Code.TheVariants as code
+use Rattle.exec_machine.specs.{declared.state.{Call.Call, Letter.Letter as Owed, MailMessage.MailMessage, TaskPhase.TaskPhase}, World.{Own, Seat, Task, Open, Common}, Tests.is_resolved, Closing.letters_to_roots, Progress.Plan}
 use Rattle.exec_machine.specs.declared.state.MailMessage.TheVariants as message
 use Rattle.exec_machine.specs.declared.state.TaskPhase.TheVariants as task
 use Rattle.exec_moves.specs.{Slots.Slots, State.{Desk, Things, WakePoll, raised}, Seen.{polls_at, next_at, serves_at}, declared.{handing.Heard.Heard, place.Place.Place}}

@@ -9,7 +9,8 @@ ghost use Rattle.std.specs.Prelude.{◌≡◌, ◌<◌, [], length, slice_get, s
 ghost use Rattle.std.specs.Option.{option_map};
 ghost use Rattle.std.specs.Vec.{vec_capacity};
 ghost use Rattle.exec_moves.specs.{Serve.{sample, unlatched, after_passing, after_service}, State.word_of};
-ghost use Rattle.exec_driver.specs.{Opens.{next_at, passed, with_open}, Punctual.IsPunctual, Steps.advanced_to};
+ghost use Rattle.exec_opens.specs.Opens.{next_at, passed, with_open};
+ghost use Rattle.exec_driver.specs.{Punctual.IsPunctual, Steps.advanced_to};
 ghost use Rattle.exec_parts.specs.{Records.number_in, Raises.Enters, Serving.{AreKnown, flown_in, with_staging_ended}, declared.parts.sleeping.SleeperRecord.SleeperRecord as Sleeper, View.{driver_of, desk_of, things_of}, Things.{Makes, TurnsWord}};
 
 use crate::parts::names::Names;
@@ -17,10 +18,10 @@ use crate::parts::record::Record;
 use crate::parts::shared::Shared;
 use crate::parts::sleeping::SleeperRecord;
 use crate::parts::worker::{PutOff, Worker};
-use exec_driver::opens::Opens;
 use exec_machine::event::Event;
 use exec_moves::handing::AfterCallbacks;
 use exec_moves::place::{AfterService, InCallbacks, InMail, InService, Place, Reaping, Service};
+use exec_opens::opens::Opens;
 use exec_ring::ring::Entered;
 use exec_time::timers::TimerId;
 

@@ -11,7 +11,8 @@ ghost use Rattle.std.specs.Vec.{vec_capacity};
 ghost use Rattle.std.specs.VecDeque.{deque_capacity};
 ghost use Rattle.exec_machine.specs.{Deadlines.{outcome_at_expiry, expired, enrolled}, Requests.{joined_if, granted}};
 ghost use Rattle.exec_moves.specs.Submit.{after_grant};
-ghost use Rattle.exec_driver.specs.{Driving.{is_full, may_stage_one}, Lists.{has_first, first_of}, Punctual.IsPunctual};
+ghost use Rattle.exec_driver.specs.{Driving.{is_full, may_stage_one}, Punctual.IsPunctual};
+ghost use Rattle.exec_lists.specs.Lists.{has_first, first_of};
 ghost use Rattle.exec_parts.specs.{Raises.Enters, Serving.{AreKnown, IsOnWheel, first_tick, outcome_of_error, with_staging_ended}, Submitting.{AreNamed, EndsStaging, StagesCancel, StagesRequest, must_flush, after_flush, takes_hint}, View.{driver_of, desk_of}, declared.parts.worker.Worker.Worker};
 ghost use Rattle.exec_waiters.specs.declared.waiter_id.WaiterId.{WaiterId};
 
@@ -19,9 +20,9 @@ use crate::parts::record::Record;
 use crate::parts::shared::Shared;
 use crate::parts::worker::Worker;
 use exec_driver::driver::Enrolled;
-use exec_driver::opens::Opens;
 use exec_machine::event::Event;
 use exec_moves::place::{AfterPermit, InService, Service};
+use exec_opens::opens::Opens;
 use exec_outcomes::outcome::Outcome;
 use exec_waiters::waiter_id::WaiterId;
 

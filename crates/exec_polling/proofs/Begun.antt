@@ -2,7 +2,8 @@
 use Rattle.std.{proofs.{Common.{◌≡◌, ◌≢◌, ℕ, ◌+◌, ◌*◌, ◌-◌, ◌/◌, ◌^◌, ◌<◌, ◌≤◌, ◌==◌, ◌&&◌, nat_lt, Bool, true, false, not, List, [], ◌∷◌, Contains, length, Option, Some, None, refl, sym, ap, subst, ◌∙◌, arith, slice_get}, lemmas.Bool.{false≢true, and_parts, Decides.nat_tests}, Math.{Nat.zero-div, Bool.and-false}}, specs.Prelude.{IsSome, IsSomeAnd}}
 use Rattle.exec_base.specs.{Slab.{Slab, IsPast, value_at}, declared.slab.Id.Id}
 use Rattle.exec_task.specs.{Phases.runnable_of, declared.runnable.Runnable.Runnable}
-use Rattle.exec_driver.specs.{Driving.Driving, Lists.no_lists, Steps.IsFresh}
+use Rattle.exec_driver.specs.{Driving.Driving, Steps.IsFresh}
+use Rattle.exec_lists.specs.Lists.{no_lists}
 use Rattle.exec_ring.specs.Rings.{fresh as fresh_ring}
 use Rattle.exec_time.specs.{Wheel.fresh, declared.timers.Sleeper.Sleeper as Sleeping}
 use Rattle.exec_waiters.specs.{States.waiter_at, Told.is_untold, declared.{deferred.Deferred.Deferred, waiter.Waiter.Waiter}}

@@ -5,7 +5,9 @@ use Rattle.exec_outcomes.specs.{Accounts.is_durable, declared.outcome.{Kind.Kind
 use Rattle.exec_request.specs.{Requests.{asked_of, deadline_of, gate_of, output_of, target_of}, declared.request.Request.Request as Asking}
 use Rattle.exec_ring.specs.Stores.{Reserves}
 use Rattle.exec_waiters.specs.{Events.{finished, told_by_finish}, States.{counts_pending, pending_count}, Told.{HasPlaces, Tells, nothing_told}, declared.{deferred.Deferred.Deferred, observer.Observer.TheVariants.Local, waiter.{Entry.TheVariants.Pending, Waiter.Waiter}}}
-use Rattle.exec_driver.specs.{Admission.with_rooms, Driving.{Driving, seen}, Lists.{withdrawn, without}, Opens.{OpenState, placed, with_named, writing}, Placed.ListsRequests, Punctual.IsPunctual, Footprints.footprint_of, Steps.{is_late, newcomer, placed_at, plainly_written, taken_in, timed_out, told_at_admission}}
+use Rattle.exec_driver.specs.{Admission.with_rooms, Driving.{Driving, seen}, Placed.ListsRequests, Punctual.IsPunctual, Footprints.footprint_of, Steps.{is_late, newcomer, placed_at, plainly_written, taken_in, timed_out, told_at_admission}}
+use Rattle.exec_lists.specs.Lists.{withdrawn, without}
+use Rattle.exec_opens.specs.Opens.{OpenState, placed, with_named, writing}
 use Rattle.exec_machine.specs.{declared.{event.Event.Event, state.{Operation.Operation}}, Requests.{asked_of as asked_in, first_phase, new_request, outcome_if_late, resolved}, Tests.{is_gated, is_in_flight, is_resolved}}
 use Rattle.exec_moves.specs.declared.{handing.AfterCallbacks.AfterCallbacks, place.{Place.Place, InCallbacks.InCallbacks, InPoll.InPoll}}
 use Rattle.exec_parts.{specs.{declared.parts.{mail.Reply.Reply, names.Names.Names, record.Record.Record, shared.Shared.Shared, worker.Worker.Worker}, Admitting.{Registers, has_open, most_told, seeing}, Records.{number_in, operation_in, seen_in}, Serving.{changed_at, changed_in}, Calls.IsTold, View.{driver_of}}, proofs.{Enlisting.{cancels_are, due_are, enrolments_are, gated_are, driver_then, placed_late, placed_queued, placing, queued_driver, taken_by}, Growing.told_same, Taken.{Takes, enrolled_if, got_new}}}

@@ -6,7 +6,8 @@ use Rattle.exec_request.specs.{Requests.{asked_of, deadline_of, gate_of, output_
 use Rattle.exec_ring.specs.Rings.{RingState, completions}
 use Rattle.exec_waiters.specs.{Events.told_by_finish, States.{counts_flying, flying_count, waiter_at}, Told.{Told, nothing_told}, declared.{deferred.Deferred.Deferred, observer.Observer.TheVariants.Local, waiter.{Entry.TheVariants.{Pending, Ready}, Waiter.Waiter}, waiter_id.WaiterId.WaiterId}}
 use Rattle.exec_words.specs.declared.inbox.Message.{Message}
-use Rattle.exec_driver.specs.{Admission.with_rooms, Driving.{Driving, is_cancelled, is_queued, is_unenrolled}, Lists.{is_among, without}, Steps.{ended, in_place, is_late, newcomer, taken_in, timed_out, with_deadline}}
+use Rattle.exec_driver.specs.{Admission.with_rooms, Driving.{Driving, is_cancelled, is_queued, is_unenrolled}, Steps.{ended, in_place, is_late, newcomer, taken_in, timed_out, with_deadline}}
+use Rattle.exec_lists.specs.Lists.{is_among, without}
 use Rattle.exec_machine.specs.{declared.{event.Event.Event, state.{Next.Next, Operation.Operation}}, Requests.{own_after_admit, outcome_if_late}, Same.is_none, World.Own}
 use Rattle.exec_moves.specs.{Seen.{next_at, polls_at, serves_at}, Slots.entered, State.Desk, declared.place.{InPoll.InPoll, Place.Place}}
 use Rattle.exec_parts.{specs.{declared.parts.{mail.{Reply.Reply, Subject.Subject}, names.Names.Names, shared.Shared.Shared, worker.Worker.Worker}, Admitting.{Registers, joins_gate}, Records.{number_in, seen_in}, View.{Visible, awaited_from, completions_in, desk_of, driver_of, landed_in, letters_in, message_of, numbers_of, owed_at, own_of, results_in, slots_seen, trailing, visible, wake_poll_in}}, proofs.{Facts.{same_self, or_left}, Enlisting.{enrolments_are, placed_queued, placing, queued_are}, Taken.{enrolled_if, value_new}}}

@@ -1,7 +1,7 @@
 -- A new request has no place in any line yet: who stands at the gates stays, and there is room for it where a place was made.
 use Rattle.std.proofs.{Common.{◌≡◌, ◌≢◌, inl, inr, ℕ, zero, suc, ◌+◌, ◌<◌, ◌≤◌, ◌++◌, arith, Bool, true, false, List, [], ◌∷◌, cond, count_by, length, Some, None, refl, sym, ap, subst, ◌∙◌, slice_get, slice_set}, lemmas.List.{length-set}}
 use Rattle.exec_outcomes.specs.Accounts.{is_durable}
-use Rattle.exec_driver.specs.{Opens.{OpenState, placed}, declared.opens.WaiterKey.WaiterKey}
+use Rattle.exec_opens.specs.{Opens.{OpenState, placed}, declared.opens.WaiterKey.WaiterKey}
 use Rattle.exec_machine.specs.Tests.{is_gated, is_of_file, is_resolved}
 use Rattle.exec_parts.{specs.declared.parts.record.Record.Record, proofs.Facts.{by_number, same_Some, set_elsewhere, set_there}}
 use Rattle.exec_invariants.{specs.{Gates.{AreLinedUp, HaveGates, IsLinedUp, JoinsGate, at_gate, is_coming, key_for, line_at}, Places.Drops}, proofs.{Lined.{tallied, tally}, HoldSteps.get_front, GateLines.snoc_get}}

@@ -6,7 +6,9 @@ use Rattle.exec_time.specs.declared.timers.Sleeper.{Sleeper as Sleeping}
 use Rattle.exec_request.specs.{Requests.{asked_of, cursor_of, deadline_of, gate_of, target_of}, declared.request.Request.Request as Asking}
 use Rattle.exec_ring.specs.{Rings.RingState, Stores.Reserves, declared.store.Store.Store}
 use Rattle.exec_waiters.{specs.{States.{waiter_at, waiter_of, tick_in}, declared.{deferred.{Answer.Answer, Deferred.Deferred}, observer.Observer.TheVariants.{Forwarded, Local}, waiter.{Entry.{Entry, TheVariants.{Pending, Ready}}, Waiter.Waiter}}}, proofs.Changes.entry_of}
-use Rattle.exec_driver.specs.{Driving.{Driving, is_unenrolled}, Lists.is_among, Opens.OpenState, Punctual.IsPunctual, Footprints.footprint_of}
+use Rattle.exec_driver.specs.{Driving.{Driving, is_unenrolled}, Punctual.IsPunctual, Footprints.footprint_of}
+use Rattle.exec_lists.specs.Lists.{is_among}
+use Rattle.exec_opens.specs.Opens.{OpenState}
 use Rattle.exec_machine.specs.{Requests.{asked_of as asked_in, first_phase}, Tests.{is_applied, is_in_flight, is_resolved, is_staged}}
 use Rattle.exec_moves.specs.declared.place.InService.{InService}
 use Rattle.exec_parts.{specs.{declared.parts.{mail.Reply.Reply, names.Names.Names, record.Record.Record, sleeping.SleeperRecord.SleeperRecord}, Records.number_in}, proofs.{Facts.{and_parts, by_name, by_number, not_same}, Taken.{got_new, got_old, name_apart, number_new, number_old, past_still, slot_apart, some_still, value_before, value_new, value_old, was_got, enrolled_if, among_before, among_now, all_listed, known_more}}}

@@ -2,7 +2,8 @@
 use Rattle.std.proofs.{Common.{◌≡◌, ◌≢◌, ℕ, suc, zero, ◌+◌, ◌<◌, ◌≤◌, ◌==◌, ◌&&◌, Bool, true, false, List, [], ◌∷◌, ◌++◌, count_by, drop, length, map, Some, None, is_some, refl, sym, ap, subst, ◌∙◌, arith, slice_get, slice_index_or, slice_set, option_map, if◌then◌else◌}, lemmas.{Bool.{false≢true, eq-eqb, Decides.nat_tests}, List.length-set, Option.{get_or_from_slice_get, slice_get-map, slice_get_within}}}
 use Rattle.exec_outcomes.specs.{Accounts.{Account, changed, is_durable}, declared.outcome.Kind.Kind}
 use Rattle.exec_request.specs.{Requests.{asked_of, gate_of, target_of}, declared.request.Request.Request as Asking}
-use Rattle.exec_driver.specs.{Opens.{OpenState, account_by, account_in, placed, with_named, writing}, Steps.plainly_written, declared.opens.WaiterKey.WaiterKey}
+use Rattle.exec_opens.specs.{Opens.{OpenState, account_by, account_in, placed, with_named, writing}, declared.opens.WaiterKey.WaiterKey}
+use Rattle.exec_driver.specs.Steps.{plainly_written}
 use Rattle.exec_machine.specs.{Requests.account_after_admit, Same.same_kind, Tests.{is_gated, is_of_file}, World.{Open, no_open}}
 use Rattle.exec_parts.{specs.{declared.parts.record.Record.Record, Admitting.has_open, Records.file_named, View.{account_seen, gate_seen, has_given_up, line_of, number_of_key, open_seen}}, proofs.Facts.{and_parts, by_number, same_number, same_Some, set_there, set_elsewhere}}
 use Rattle.exec_invariants.{specs.{Gates.{AreLinedUp, HaveGates, JoinsGate, at_gate, has_hint_at, is_coming, key_for, line_at}, Places.Drops}, proofs.{Accounted.{account_shown, lines_account, with_its}, Gated.{durable_of_file}, Lined.{SameLines, gates_opens, lined_opens}}}

@@ -3,7 +3,8 @@ use Rattle.std.proofs.{Common.{◌≡◌, ◌⊎◌, inl, inr, ℕ, ◌+◌, ◌
 use Rattle.exec_outcomes.specs.{Accounts.is_durable, declared.outcome.Outcome.Outcome}
 use Rattle.exec_request.specs.{Requests.{asked_of, cursor_of, deadline_of, target_of}, declared.request.Request.Request as Asking}
 use Rattle.exec_ring.specs.Stores.{Reserves}
-use Rattle.exec_driver.specs.{Opens.account_in, Footprints.footprint_of, Steps.is_late}
+use Rattle.exec_opens.specs.Opens.{account_in}
+use Rattle.exec_driver.specs.{Footprints.footprint_of, Steps.is_late}
 use Rattle.exec_task.specs.{Phases.is_polled, Sight.Sight, declared.body.{Act.Act, Said.Said}}
 use Rattle.exec_machine.specs.{declared.{config.Configuration.Configuration, event.Event.Event, state.{Forwarding.TheVariants.Unsent, Request.Request, Waiting.Waiting}}, Progress.Plan, Requests.{new_request, outcome_if_late, resolved_if}}
 use Rattle.exec_moves.specs.declared.{handing.AfterCallbacks.AfterCallbacks, place.{InCallbacks.InCallbacks, InPoll.InPoll, Place.Place}}

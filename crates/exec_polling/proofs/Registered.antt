@@ -2,7 +2,7 @@
 use Rattle.std.proofs.{Common.{◌≡◌, ℕ, ◌==◌, Bool, true, false, List, [], ◌∷◌, ◌++◌, length, map, Option, Some, refl, sym, ap, subst, ◌∙◌, slice_index_or, slice_set, if◌then◌else◌, arith}, lemmas.{Bool.eq-eqb, List.{length-map, map-append, map-set}}}
 use Rattle.exec_outcomes.specs.{Accounts.{is_durable, changed as account_changed}, declared.outcome.{Outcome.Outcome, Kind.Kind}}
 use Rattle.exec_request.specs.{Requests.{asked_of, deadline_of, target_of}, declared.request.Request.Request as Asking}
-use Rattle.exec_driver.specs.Opens.{account_in}
+use Rattle.exec_opens.specs.Opens.{account_in}
 use Rattle.exec_task.specs.{Sight.Sight, declared.body.{Act.Act, Said.Said}}
 use Rattle.exec_machine.specs.{Choice.Choice.Plain, declared.{config.{Configuration.Configuration, ScriptWord.ScriptWord}, event.Event.{Event, TheVariants.Admit}, state.{Operation.Operation}}, Progress.Plan, Requests.{account_after_admit, asked_now, asks_kind, new_request, operation_asked, operation_or_none, outcome_if_late, own_after_admit, resolved_if, with_seen}, Same.{same_end, same_kind}, Tests.{is_of_file, is_open}, Words.{moved_on, next_word}, World.{Task, Common, no_open, open_of, task_of}}
 use Rattle.exec_moves.specs.{Poll.act_asked, Slots.entered, State.{Desk, Moved, Things}, declared.place.{InPoll.InPoll, Place.Place}}

@@ -1,7 +1,8 @@
 -- What a registration of a request, and the beginning of a sync, do.
 use Rattle.std.specs.Prelude.{◌≡◌, ℕ, ◌*◌, Bool, true, false, List, Option, Some, None, Err, Ok}
 use Rattle.exec_base.specs.{Slab.{next_id, live_count, IsPast, TakesId}, declared.error.Error.Error}
-use Rattle.exec_driver.specs.{Opens.OpenState, Admission.{Admits, with_rooms}, Steps.{told_at_admission, newcomer}}
+use Rattle.exec_opens.specs.Opens.{OpenState}
+use Rattle.exec_driver.specs.{Admission.{Admits, with_rooms}, Steps.{told_at_admission, newcomer}}
 use Rattle.exec_outcomes.specs.Accounts.{Account, is_dirty}
 use Rattle.exec_registration.specs.{Homes.HomeState, declared.{operation.Started.{Started, TheVariants.UnderWay}, registration.RegistrationState.{RegistrationState, TheVariants.Waiting}}}
 use Rattle.exec_request.specs.{States.Ended, declared.request.Request.Request}

@@ -7,7 +7,8 @@
 
 ghost use Rattle.std.specs.Prelude.{◌≡◌, ◌+◌, ◌<◌, length, true, false, Some, None, Ok, Err, IfOk, IfErr, IfSome, OnOk, OnErr};
 ghost use Rattle.exec_base.specs.declared.error.Error.TheVariants as error;
-ghost use Rattle.exec_driver.specs.{Admission.IsRefused, Opens.account_in, Footprints.footprint_of};
+ghost use Rattle.exec_driver.specs.{Admission.IsRefused, Footprints.footprint_of};
+ghost use Rattle.exec_opens.specs.Opens.{account_in};
 ghost use Rattle.exec_ring.specs.Stores.{Reserves};
 ghost use Rattle.exec_waiters.specs.States.{suits};
 ghost use Rattle.exec_registration.specs.{Homes.{StaysPunctual, home_of}, Admissions.{Registers, Begins, TakesIn, IsKept, Untouched, over_at_once}};
@@ -22,7 +23,7 @@ use crate::registration::Registration;
 use exec_base::error::Error;
 use exec_base::slab::InsertError;
 use exec_driver::home::Home;
-use exec_driver::opens::Opens;
+use exec_opens::opens::Opens;
 use exec_request::open_record::OpenRecord;
 use exec_request::request::Request;
 use exec_request::sync::SyncRequest;

@@ -19,7 +19,7 @@ use exec_base::slab::Id;
 use exec_base::task_no::TaskNo;
 use exec_driver::driver::{Driver, Reaped};
 use exec_driver::home::Home;
-use exec_driver::opens::Opens;
+use exec_opens::opens::Opens;
 use exec_outcomes::outcome::OpResult;
 use exec_registration::mail::{Cancel, Forward};
 use exec_registration::operation::{Operation, Started, start_sync};

@@ -6,7 +6,7 @@ use crate::found::{demand, holds, same};
 use exec_base::error::{Cause, Error};
 use exec_base::one_shot::OneShot;
 use exec_base::task_no::TaskNo;
-use exec_driver::opens::{Opens, WaiterKey};
+use exec_opens::opens::{Opens, WaiterKey};
 use exec_registration::operation::Started;
 use exec_registration::registration::Registration;
 use exec_request::open_record::OpenRecord;

@@ -5,7 +5,7 @@ use crate::found::{holds, same};
 use exec_base::error::{Cause, Error};
 use exec_base::one_shot::OneShot;
 use exec_base::task_no::TaskNo;
-use exec_driver::opens::Opens;
+use exec_opens::opens::Opens;
 use exec_registration::operation::Operation;
 use exec_registration::registration::RegistrationState;
 use exec_request::output::RequestOutput;

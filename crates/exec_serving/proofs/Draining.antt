@@ -3,7 +3,8 @@ use Rattle.std.{proofs.{Common.{◌≡◌, ◌⊎◌, ℕ, zero, suc, ◌+◌, �
 use Rattle.exec_base.specs.{Slab.Slab, declared.slab.Id.Id}
 use Rattle.exec_time.{specs.{Wheel.{Wheel, least_active, tick_at as tick_now}, Turning.{advanced, ids_in, is_full_turn, slots_passed, turned, turned_out}}, proofs.Ranges.slots_apart}
 use Rattle.exec_waiters.specs.{States.{waiter_at}, declared.{waiter.{Entry.Entry, Waiter.Waiter}, waiter_id.WaiterId.WaiterId}}
-use Rattle.exec_driver.specs.{Driving.Driving, Lists.{Lists, is_among}, Punctual.IsPunctual, Steps.{all_due, fallen_due}}
+use Rattle.exec_driver.specs.{Driving.Driving, Punctual.IsPunctual, Steps.{all_due, fallen_due}}
+use Rattle.exec_lists.specs.Lists.{Lists, is_among}
 use Rattle.exec_machine.specs.{declared.config.Configuration.Configuration}
 use Rattle.exec_parts.specs.declared.parts.{mail.Reply.Reply, worker.Moments.Moments}
 use Rattle.exec_invariants.{specs.{Due.IsWheelAt, Ordered.{HasCome, IsOrdered, IsToldBefore, Pairwise, StandsBefore, StandsIn, tick_at, turn_of, went_round}}, proofs.Orders.{IsPartOf, all_append, all_part, pairs_append, pairs_part, pairs_where, part_self}}

@@ -6,7 +6,8 @@ use Rattle.exec_outcomes.specs.declared.outcome.OpResult.{OpResult}
 use Rattle.exec_time.specs.declared.timers.Sleeper.{Sleeper as Sleeping}
 use Rattle.exec_ring.specs.{Kernels.Landing, Rings.RingState}
 use Rattle.exec_waiters.specs.{States.{waiter_at}, declared.waiter.{Entry.Entry, Waiter.Waiter}}
-use Rattle.exec_driver.specs.{Driving.Driving, Opens.OpenState}
+use Rattle.exec_driver.specs.Driving.{Driving}
+use Rattle.exec_opens.specs.Opens.{OpenState}
 use Rattle.exec_machine.specs.{declared.state.{Request.Request, RequestPhase.RequestPhase}, Requests.flown, Tests.{is_staged, is_resolved}}
 use Rattle.exec_moves.specs.declared.place.InService.{InService}
 use Rattle.exec_parts.{specs.{declared.parts.{mail.Reply.Reply, names.Names.Names, record.Record.Record, sleeping.SleeperRecord.SleeperRecord}, Records.number_in, Serving.{changed_at, changed_in, flies, flown_in, is_one_of}}, proofs.{Facts.second_true, Flying.{flies_if, worker_kept, get_flown}}}

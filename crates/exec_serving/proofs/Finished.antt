@@ -5,7 +5,8 @@ use Rattle.exec_outcomes.specs.{Accounts.{Account, is_durable}, declared.outcome
 use Rattle.exec_request.specs.{Judging.{Judges, judged_as}, Kept.kept_of, Requests.{asked_of, cursor_of, hinted_of, output_of}, declared.{request.Request.Request as Asking, output.RequestOutput.RequestOutput}, States.{Ended, as_outcome, told_by}}
 use Rattle.exec_ring.specs.{Completions.result_in, declared.completion.Completion.Completion}
 use Rattle.exec_waiters.{specs.{Ids.user_data_of, States.{waiter_at, tick_in, waiter_of}, declared.{waiter.{Entry.TheVariants.Pending, Waiter.Waiter}, deferred.Deferred.Deferred}, Told.{Tells, Told}, Events.{finished, told_by_finish}}, proofs.Changes.entry_of}
-use Rattle.exec_driver.specs.{Driving.Driving, Lists.{without, withdrawn}, Punctual.IsPunctual, Steps.unscheduled}
+use Rattle.exec_driver.specs.{Driving.Driving, Punctual.IsPunctual, Steps.unscheduled}
+use Rattle.exec_lists.specs.Lists.{without, withdrawn}
 use Rattle.exec_machine.specs.{declared.{state.Request.Request}, Requests.reaped}
 use Rattle.exec_moves.specs.{declared.place.{AfterPermit.AfterPermit, Place.Place, Reaping.Reaping, Service.Service, InService.InService}, Seen.serves_at, Serve.{after_permit, back_from_reap}}
 use Rattle.exec_parts.{specs.{declared.parts.{mail.Reply.Reply, names.Names.Names, record.Record.Record, shared.Shared.Shared, worker.Worker.Worker}, Records.number_in, Serving.{changed_at, is_one_of}, View.{driver_of, number_told}}, proofs.Facts.not_same}

@@ -6,7 +6,8 @@ use Rattle.exec_outcomes.specs.{Accounts.{Account, by_failure, is_durable, outco
 use Rattle.exec_request.specs.{Hints.without_hint, Judging.judged_as, Requests.{asked_of, cursor_of, hinted_of, output_of, record_after, target_of}, declared.{request.Request.Request as Asking}, States.{Ended, as_outcome, asks_cancel, result_of, told_by}}
 use Rattle.exec_ring.specs.{Completions.result_in, declared.completion.Completion.Completion, Rings.completions}
 use Rattle.exec_waiters.{specs.{States.{file_of, flying_count}, Events.{waker_in, told_by_finish}, declared.{waiter.{Entry.{Entry, TheVariants.Pending}, Waiter.Waiter}, waiter_id.WaiterId.WaiterId}, Told.{Tells}}, proofs.Changes.{one_if, entry_of}}
-use Rattle.exec_driver.specs.{Driving.{Driving, request_at, is_queued, is_unenrolled, is_cancelled}, Opens.{OpenState, account_by, account_in, with_account}, Punctual.IsPunctual, Placed.ListsRequests, Steps.open_after}
+use Rattle.exec_driver.specs.{Driving.{Driving, request_at, is_queued, is_unenrolled, is_cancelled}, Punctual.IsPunctual, Placed.ListsRequests, Steps.open_after}
+use Rattle.exec_opens.specs.Opens.{OpenState, account_by, account_in, with_account}
 use Rattle.exec_task.specs.declared.body.Said.{Said}
 use Rattle.exec_machine.specs.{declared.event.Event.{Event, TheVariants.Reap}, Requests.{judged_of, outcome_given}, Tests.{is_gated, is_of_file, is_resolved}, World.no_open}
 use Rattle.exec_moves.specs.{declared.place.{Place.Place, Reaping.Reaping, Service.Service, InService.InService}, Serve.{after_permit, back_from_reap, others_after_reap}, State.{Desk, dropped}, Thing.{set_wake_poll, with_ring}, Told.told_of_end}

@@ -6,7 +6,8 @@ use Rattle.exec_outcomes.specs.{Accounts.is_durable, Lawful.{is_lawful, window_o
 use Rattle.exec_request.specs.{Requests.{asked_of, cursor_of, deadline_of, target_of}, declared.request.Request.Request as Asking}
 use Rattle.exec_ring.specs.{Completions.{completed, number_of, result_in}, Kernels.{is_of, landed}, declared.{completion.Completion.Completion, store.Store.Store}}
 use Rattle.exec_waiters.{specs.{Ids.user_data_of, States.{needs_permit, takes_tick, waiter_at}, declared.waiter.{Entry.TheVariants.Pending, Waiter.Waiter}}, proofs.Changes.entry_of}
-use Rattle.exec_driver.{specs.{Driving.Driving, Steps.LandsOne}, proofs.Counting.OneChanged}
+use Rattle.exec_driver.specs.{Driving.Driving, Steps.LandsOne}
+use Rattle.exec_lists.proofs.Counting.{OneChanged}
 use Rattle.exec_machine.specs.{declared.state.{RequestPhase.RequestPhase}, Tests.{is_in_flight, is_resolved, is_staged}}
 use Rattle.exec_parts.{specs.{declared.parts.{mail.Reply.Reply, record.Record.Record, shared.Shared.Shared, worker.Worker.Worker}, Records.number_in, Serving.changed_at, View.{driver_of, number_told}}, proofs.Facts.{and_parts, by_name, not_same}}
 use Rattle.exec_invariants.{specs.{Carried.{HasStretchFor, IsCarried, IsLone, IsUnderWay, IsWhole, MayLand, those_of, landing}, Flown.{AreLanded, HasFlown, HasLanded, IsPlain, operations}, Gates.IsKnown, Sound.{Sound, served_in}, Names.{IsAlike, IsSubmitted}}, proofs.{Marking.{known_then, mark_kept, mark_if, marked, plain_kept, was_marked}, Carrying.{others_fly, one_landed, index_told, generation_told, result_told, lone_removed}, Changing.{OneGoesOn, all_go_one, apart_number, changes_one}, Conveying.carried_one, Flown.landed_on, Going.{AllGoOn, GoesOn, owning_on}, Known.known_written}}

@@ -1,7 +1,7 @@
 -- What is due first at the driver is what the machine tells first.
 use Rattle.std.{proofs.{Common.{◌≡◌, ◌⊎◌, ℕ, zero, suc, ◌+◌, ◌-◌, ◌*◌, ◌/◌, ◌%◌, ◌<◌, ◌≤◌, ◌==◌, ◌&&◌, ◌||◌, Bool, true, false, not, List, [], ◌∷◌, map, Option, Some, refl, sym, ap, subst, ◌∙◌, arith, inl, inr, slice_get, nat_lt, if◌then◌else◌}, lemmas.{Bool.{false≢true, eq-eqb, Decides.nat_tests}, Option.slice_get-map}}, specs.{List.AllByRecursion, Option.option_map}}
 use Rattle.exec_waiters.specs.declared.waiter_id.WaiterId.{WaiterId}
-use Rattle.exec_driver.{specs.Lists.{first_of, rest_of, is_among}, proofs.Names.same_tells}
+use Rattle.exec_lists.{specs.Lists.{first_of, rest_of, is_among}, proofs.Names.same_tells}
 use Rattle.exec_machine.specs.{declared.{config.Configuration.Configuration, state.Request.Request}, Ranges.wheel_slots, Deadlines.{is_due, is_first_due, is_told_after, is_told_before, order_on_wheel}, Tests.all_numbered}
 use Rattle.exec_moves.specs.Serve.{first_numbered}
 use Rattle.exec_parts.{specs.{declared.parts.{record.Record.Record, shared.Shared.Shared, worker.Worker.Worker}, Records.number_in, View.{driver_of, own_of}}, proofs.Facts.{same_number, and_right}}

@@ -1,6 +1,6 @@
 -- Who stands at the gates, as a worker comes to where it passes a permit on, or leaves that place.
 use Rattle.std.proofs.Common.{◌≡◌, ◌≢◌, ℕ, ◌==◌, List, Some, None, if◌then◌else◌, ap, ◌∙◌, arith}
-use Rattle.exec_driver.specs.Opens.{OpenState}
+use Rattle.exec_opens.specs.Opens.{OpenState}
 use Rattle.exec_parts.{specs.declared.parts.{record.Record.Record, worker.Worker.Worker}}
 use Rattle.exec_invariants.{specs.{Gates.{HaveGates, PassesPermit}, Places.{Drops, drops_at}, Whole.{Profile, with_worker}}, proofs.PoolKept.chosen_own}
 

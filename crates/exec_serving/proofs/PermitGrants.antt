@@ -1,7 +1,7 @@
 -- The first of a gate is granted its permit: it waits no more, and stands there still.
 use Rattle.std.proofs.{Common.{◌≡◌, ◌≢◌, ℕ, ◌+◌, ◌<◌, ◌≤◌, ◌==◌, ◌&&◌, ◌++◌, arith, Bool, true, false, not, List, [], ◌∷◌, cond, count_by, length, map, Some, None, option_to_list, refl, sym, ap, subst, ◌∙◌, slice_get}, lemmas.{Bool.{eq-eqb, false≢true}}}
 use Rattle.exec_outcomes.specs.Accounts.{is_durable}
-use Rattle.exec_driver.specs.{Opens.OpenState, declared.opens.WaiterKey.WaiterKey}
+use Rattle.exec_opens.specs.{Opens.OpenState, declared.opens.WaiterKey.WaiterKey}
 use Rattle.exec_machine.specs.Tests.{is_gated, is_of_file, is_resolved}
 use Rattle.exec_parts.{specs.{declared.parts.record.Record.Record, Serving.changed_at}, proofs.Facts.{by_number, not_same, or_left, same_number, same_Some}}
 use Rattle.exec_invariants.{specs.{Gates.{AreLinedUp, HaveGates, IsLinedUp, at_gate, is_coming, is_in_line, key_for, line_at, same_key}, Places.Drops}, proofs.{GateLines.key_self, Lined.{map_changed, tallied, tally}, Marking.{mark_if, marked, was_marked}}}

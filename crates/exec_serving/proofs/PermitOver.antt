@@ -4,7 +4,9 @@ use Rattle.exec_base.specs.{Slab.{value_at, written}}
 use Rattle.exec_outcomes.specs.{Accounts.{Account, is_durable, outcome_at_grant, outcome_told as told_of}, declared.outcome.{Kind.Kind, Outcome.{Outcome}}}
 use Rattle.exec_request.specs.{Requests.{asked_of, outcome_if_granted, output_of, record_after}, declared.output.RequestOutput.RequestOutput, States.{Ended, as_answer, as_outcome, told_by}}
 use Rattle.exec_waiters.{specs.{Events.{finished, told_by_finish, waker_in, with_permit}, States.{file_of, flying_count, tick_in, tick_of, waiter_at}, Told.{Tells, Told as ToldOf}, declared.waiter.{Entry.TheVariants.Pending, Waiter.Waiter}}, proofs.Changes.{entry_of, one_if}}
-use Rattle.exec_driver.specs.{Driving.{Driving, is_cancelled, is_queued, request_at}, Lists.{without, without_gated, withdrawn}, Opens.{account_by, account_in, with_account}, Punctual.IsPunctual, Steps.{GrantsAs, granted as driver_granted, opens_after_end, told_by_end, unscheduled}, declared.driver.staging.Granted.Granted as Told}
+use Rattle.exec_driver.specs.{Driving.{Driving, is_cancelled, is_queued, request_at}, Punctual.IsPunctual, Steps.{GrantsAs, granted as driver_granted, opens_after_end, told_by_end, unscheduled}, declared.driver.staging.Granted.Granted as Told}
+use Rattle.exec_lists.specs.Lists.{without, without_gated, withdrawn}
+use Rattle.exec_opens.specs.Opens.{account_by, account_in, with_account}
 use Rattle.exec_task.specs.declared.body.Said.{Said}
 use Rattle.exec_machine.specs.{declared.event.Event.{Event, TheVariants.Grant}, Requests.{account_of_open, granted, joined_if}, Same.{is_number, same_end}, Tests.{is_gated, is_of_file, is_resolved}, World.{open_of, request_of}}
 use Rattle.exec_moves.specs.{declared.place.{AfterPermit.AfterPermit, InService.InService, Place.Place, Service.Service}, State.Desk, Submit.after_grant, Told.told_of_end}

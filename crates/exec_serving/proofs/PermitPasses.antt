@@ -3,7 +3,7 @@ use Rattle.std.{proofs.{Common.{arith, ◌≡◌, ℕ, ◌<◌, ◌==◌, Bool, 
 use Rattle.exec_base.specs.declared.slab.Id.{Id}
 use Rattle.exec_request.specs.Requests.{cursor_of}
 use Rattle.exec_waiters.specs.{States.waiter_at, declared.waiter.Waiter.Waiter}
-use Rattle.exec_driver.specs.{Opens.{OpenState, next_at, next_in, passed, with_open, with_open_in}, declared.opens.WaiterKey.WaiterKey}
+use Rattle.exec_opens.specs.{Opens.{OpenState, next_at, next_in, passed, with_open, with_open_in}, declared.opens.WaiterKey.WaiterKey}
 use Rattle.exec_task.specs.declared.body.Said.{Said}
 use Rattle.exec_machine.specs.{declared.event.Event.{Event, TheVariants.Serve}, Choice.Choice.Plain, Progress.Plan, Tests.is_at_large, World.{Common, no_request, request_of}}
 use Rattle.exec_moves.specs.{declared.place.{AfterPermit.AfterPermit, InService.InService, Place.Place, Service.Service}, Seen.serves_in, Serve.{after_passing, worker_of}, State.gate_of}

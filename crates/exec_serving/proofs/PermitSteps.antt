@@ -4,7 +4,9 @@ use Rattle.exec_base.specs.Slab.{value_at, written}
 use Rattle.exec_outcomes.specs.{Accounts.{is_durable, outcome_at_grant}, declared.outcome.Outcome.Outcome}
 use Rattle.exec_request.specs.{Requests.{asked_of, outcome_if_granted}, States.as_answer}
 use Rattle.exec_waiters.{specs.{Events.with_permit, States.{file_of, flying_count}, Told.{Tells, nothing_told}, declared.{waiter.Entry.TheVariants.Pending, waiter_id.WaiterId.WaiterId}}, proofs.Changes.{entry_of, one_if}}
-use Rattle.exec_driver.specs.{Driving.Driving, Lists.{with_queued, without_gated}, Opens.{account_by, account_in}, Punctual.IsPunctual, Steps.{Grants, granted as driver_granted, opens_after_end, told_by_end}, declared.driver.staging.Granted.Granted as Told}
+use Rattle.exec_driver.specs.{Driving.Driving, Punctual.IsPunctual, Steps.{Grants, granted as driver_granted, opens_after_end, told_by_end}, declared.driver.staging.Granted.Granted as Told}
+use Rattle.exec_lists.specs.Lists.{with_queued, without_gated}
+use Rattle.exec_opens.specs.Opens.{account_by, account_in}
 use Rattle.exec_task.specs.declared.body.Said.{Said}
 use Rattle.exec_machine.specs.{declared.{event.Event.{Event, TheVariants.Grant}}, Progress.Plan, Requests.{account_of_open, granted, joined_if}, Same.{is_number, same_end}, Tests.{is_gated, is_resolved, is_unsent}, World.{Common, open_of, request_of}}
 use Rattle.exec_moves.specs.{declared.place.{InService.InService, Place.Place, Service.Service}, Move.{move_at, move_submit}, State.gate_of, Submit.{after_grant, granted_at}, Thing.with_gate, Told.told_if_ended}

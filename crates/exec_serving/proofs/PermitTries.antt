@@ -1,7 +1,9 @@
 -- A gate where a request of the worker waits is looked at: what the machine makes of that, and where it isn't its turn.
 use Rattle.std.proofs.{Common.{◌≡◌, ◌⊎◌, inl, inr, ◌++◌, ℕ, suc, ◌<◌, ◌≤◌, ◌==◌, ◌&&◌, true, false, List, [], ◌∷◌, length, map, Option, Some, None, option_to_list, if◌then◌else◌, refl, sym, ap, subst, ◌∙◌, arith, slice_get, slice_index_or, slice_set}, lemmas.{Bool.false≢true, List.set-get_or, Option.get_or_from_slice_get}}
 use Rattle.exec_outcomes.specs.Accounts.{outcome_at_grant}
-use Rattle.exec_driver.specs.{Lists.is_among, Opens.{OpenState, holder_at, holder_in}, Steps.is_turn_of, declared.opens.WaiterKey.WaiterKey}
+use Rattle.exec_lists.specs.Lists.{is_among}
+use Rattle.exec_opens.specs.{Opens.{OpenState, holder_at, holder_in}, declared.opens.WaiterKey.WaiterKey}
+use Rattle.exec_driver.specs.Steps.{is_turn_of}
 use Rattle.exec_task.specs.declared.body.Said.{Said}
 use Rattle.exec_machine.specs.{declared.{config.Configuration.Configuration, event.Event.{Event, TheVariants.{Grant, Serve}}, state.Request.Request}, Progress.Plan, Requests.account_of_open, Tests.is_gated, World.{Common, Own, no_request, request_of}}
 use Rattle.exec_moves.specs.{declared.place.{InService.InService, Place.Place, Service.Service}, State.{Desk, Moved, Things, does, gate_of}, Submit.{after_grant, due_next, first_due, granted_at, next_gate, submits, Due.AtGate}, Told.told_if_ended}

@@ -4,7 +4,7 @@ use Rattle.std.proofs.Common.{arith}
 use Rattle.exec_outcomes.specs.{Accounts.{Account, account_after, is_durable}, Outcomes.{Asked, Cursor, cursor_next, outcome_next}, declared.outcome.{Judged.Judged, Kind.Kind, Outcome.{Outcome}}}
 use Rattle.exec_request.specs.{Hints.{has_hint, without_hint}, Requests.{asked_of, cursor_of, record_after, target_of}, Kept.seen_by, States.{Ended, as_outcome, told_by}, declared.{request.Request.Request as Asking}}
 use Rattle.exec_waiters.specs.States.{file_of}
-use Rattle.exec_driver.specs.Opens.{OpenState, account_by, account_in, with_account}
+use Rattle.exec_opens.specs.Opens.{OpenState, account_by, account_in, with_account}
 use Rattle.exec_machine.specs.{declared.state.Operation.Operation, Tests.is_of_file}
 use Rattle.exec_parts.{specs.declared.parts.record.Record.Record}
 use Rattle.exec_invariants.{specs.Gates.{AreLinedUp, has_hint_at}, proofs.{Accounted.{HasOpen, account_set, lines_account, open_of_file, with_its}, Lined.{SameLines, opens_same}}}

@@ -2,7 +2,8 @@
 use Rattle.std.proofs.Common.{◌≡◌, true, false, List, [], ◌∷◌, Option, Some, None, refl, ap, subst, ◌∙◌, arith}
 use Rattle.exec_ring.specs.{Completions.result_in, Kernels.{is_quiet, next_completion}, Rings.completions, declared.completion.Completion.Completion}
 use Rattle.exec_waiters.specs.{States.{file_of, waiter_at}, declared.deferred.Deferred.Deferred}
-use Rattle.exec_driver.specs.{Driving.Driving, Opens.{OpenState, account_in}, Steps.{ReapsFrom, ReapsNext, completed_in, permit_after, swept, told_as, with_landings}, declared.driver.reaping.Reaped.Reaped}
+use Rattle.exec_driver.specs.{Driving.Driving, Steps.{ReapsFrom, ReapsNext, completed_in, permit_after, swept, told_as, with_landings}, declared.driver.reaping.Reaped.Reaped}
+use Rattle.exec_opens.specs.Opens.{OpenState, account_in}
 use Rattle.exec_parts.specs.declared.parts.{mail.Reply.Reply, names.Names.Names, record.Record.Record}
 use Rattle.exec_invariants.{specs.Flown.{AreLanded, HasLanded, operations}, proofs.{Behind.{first_is, none_left}, WokenSwept.{first_there, none_there, sweeps}}}
 use Rattle.exec_serving.proofs.Finding.{completed_is}

@@ -4,7 +4,8 @@ use Rattle.exec_base.specs.{Slab.value_at, declared.error.Error.TheVariants.Time
 use Rattle.exec_outcomes.specs.Outcomes.{bytes_of}
 use Rattle.exec_ring.specs.Completions.{result_in}
 use Rattle.exec_waiters.{specs.{States.pending_count, declared.deferred.Deferred.Deferred}, proofs.Changes.entry_of}
-use Rattle.exec_driver.specs.{Driving.Driving, Opens.OpenState, Steps.ReapsNext, declared.driver.reaping.Reaped.Reaped}
+use Rattle.exec_driver.specs.{Driving.Driving, Steps.ReapsNext, declared.driver.reaping.Reaped.Reaped}
+use Rattle.exec_opens.specs.Opens.{OpenState}
 use Rattle.exec_moves.specs.declared.place.Place.{Place}
 use Rattle.exec_parts.specs.{declared.parts.{mail.Reply.Reply, record.Record.Record, shared.Shared.Shared, worker.Worker.Worker}, Records.{IsCountable, number_in}, View.driver_of}
 use Rattle.exec_invariants.{specs.{Flown.IsPlain, Sound.SoundAt}, proofs.{Mine.live_mine, Dating.{found_is, one_pending, room_by}, Known.low_there, Resolving.slab_after}}

@@ -7,7 +7,9 @@ use Rattle.exec_outcomes.specs.{Accounts.is_durable, Lawful.{is_lawful, window_o
 use Rattle.exec_request.specs.{Judging.{Judges, judged_as}, Kept.kept_of, Requests.{asked_of, cursor_of, deadline_of, hinted_of}, declared.request.Request.Request as Asking}
 use Rattle.exec_ring.specs.{Completions.result_in, declared.completion.Completion.Completion}
 use Rattle.exec_waiters.{specs.{States.{needs_permit, waiter_at, takes_tick}, declared.waiter.{Entry.TheVariants.Pending, Waiter.Waiter}}, proofs.Changes.entry_of}
-use Rattle.exec_driver.specs.{Driving.Driving, Lists.{is_among, with_queued}, Opens.OpenState, Punctual.IsPunctual}
+use Rattle.exec_driver.specs.{Driving.Driving, Punctual.IsPunctual}
+use Rattle.exec_lists.specs.Lists.{is_among, with_queued}
+use Rattle.exec_opens.specs.Opens.{OpenState}
 use Rattle.exec_machine.specs.{declared.state.{Request.Request, RequestPhase.TheVariants.Landed}, Requests.{judged_of, reaped, went_on, asked_of as asked_in, cursor_of as cursor_in}, Tests.{is_gated, is_kept, is_staged}}
 use Rattle.exec_moves.specs.declared.place.Place.{Place}
 use Rattle.exec_parts.{specs.{declared.parts.{mail.Reply.Reply, names.Names.Names, record.Record.Record, shared.Shared.Shared, worker.Worker.Worker}, Records.number_in, Serving.{changed_at, is_one_of, cancels_in, AreTagged}, View.{driver_of, number_told}}, proofs.Facts.{and_parts, by_name, same_number, not_same}}

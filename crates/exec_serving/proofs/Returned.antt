@@ -5,7 +5,8 @@ use Rattle.exec_outcomes.specs.Outcomes.{is_unsupported, refuses_hint}
 use Rattle.exec_request.specs.Requests.{asked_of, hinted_of}
 use Rattle.exec_ring.specs.{Completions.result_in, declared.completion.Completion.Completion}
 use Rattle.exec_waiters.{specs.{States.{file_of, flying_count}, Told.{Tells, nothing_told}, declared.{waiter.Entry.TheVariants.Pending, waiter_id.WaiterId.WaiterId}}, proofs.Changes.{entry_of, one_if}}
-use Rattle.exec_driver.specs.{Driving.Driving, Opens.{account_in, with_account}, Punctual.IsPunctual, Steps.open_after}
+use Rattle.exec_driver.specs.{Driving.Driving, Punctual.IsPunctual, Steps.open_after}
+use Rattle.exec_opens.specs.Opens.{account_in, with_account}
 use Rattle.exec_task.specs.declared.body.Said.{Said}
 use Rattle.exec_machine.specs.{declared.event.Event.{Event, TheVariants.Reap}, Requests.{judged_of, outcome_given}, Tests.{is_gated, is_of_file}}
 use Rattle.exec_moves.specs.{Seen.serves_at, Serve.{after_permit, back_from_reap, others_after_reap}, State.dropped, Thing.{set_wake_poll, with_ring}, declared.place.{Place.Place, Reaping.Reaping, Service.Service, InService.InService}}

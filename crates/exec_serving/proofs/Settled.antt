@@ -3,7 +3,8 @@ use Rattle.std.{proofs.Common.{◌≡◌, ℕ, Bool, true, false, not, List, [],
 use Rattle.std.proofs.Common.{arith}
 use Rattle.exec_request.specs.{Requests.{asked_of, gate_of, record_after, target_of}, States.{Ended, as_answer, as_outcome, told_by}, declared.request.Request.Request as Asking}
 use Rattle.exec_ring.specs.{Completions.result_in, Kernels.is_quiet}
-use Rattle.exec_driver.specs.{Opens.{OpenState, account_in, with_account}, Placed.ListsRequests, Punctual.IsPunctual, Steps.{ReapsNext, open_after}, declared.driver.reaping.Reaped.Reaped}
+use Rattle.exec_opens.specs.Opens.{OpenState, account_in, with_account}
+use Rattle.exec_driver.specs.{Placed.ListsRequests, Punctual.IsPunctual, Steps.{ReapsNext, open_after}, declared.driver.reaping.Reaped.Reaped}
 use Rattle.exec_waiters.specs.States.{file_of}
 use Rattle.exec_task.specs.declared.body.Said.{Said}
 use Rattle.exec_machine.specs.{declared.{event.Event.{Event, TheVariants.Reap}, state.Request.Request}, Requests.{joined_if, reaped}}

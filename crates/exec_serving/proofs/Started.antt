@@ -5,7 +5,9 @@ use Rattle.exec_outcomes.specs.Accounts.{is_durable}
 use Rattle.exec_request.specs.{Hints.{AsksOn, has_hint}, Requests.{asked_of, cursor_of, deadline_of, hinted_of, target_of}, declared.request.Request.Request as Asking}
 use Rattle.exec_ring.specs.{Kernels.with_entry, Rings.{RingState, completions}}
 use Rattle.exec_waiters.{specs.{States.{needs_permit, waiter_at, takes_tick, flying_count, file_of}, declared.{waiter.{Entry.TheVariants.Pending, Waiter.Waiter}, waiter_id.WaiterId.WaiterId}}, proofs.Changes.{entry_of, one_if as one_if_waiter}}
-use Rattle.exec_driver.specs.{Driving.{Driving, may_stage_one}, Lists.{has_first, first_of, rest_of, is_among, after_queued}, Opens.{OpenState, account_in}, Punctual.IsPunctual, Steps.{StagesOne, with_staged}}
+use Rattle.exec_driver.specs.{Driving.{Driving, may_stage_one}, Punctual.IsPunctual, Steps.{StagesOne, with_staged}}
+use Rattle.exec_lists.specs.Lists.{has_first, first_of, rest_of, is_among, after_queued}
+use Rattle.exec_opens.specs.Opens.{OpenState, account_in}
 use Rattle.exec_task.specs.declared.body.Said.{Said}
 use Rattle.exec_machine.specs.{declared.{event.Event.{Event, TheVariants.Stage}, state.RequestPhase.RequestPhase}, Ranges.ring_size, Requests.{is_enrolled, staged}, Same.is_number, Tests.{is_gated, is_of_file, is_queued as is_phase_queued, is_resolved, is_staged}, World.{Common, request_of}}
 use Rattle.exec_moves.specs.{Move.move_submit, Submit.{staging_due, one_more, submits, Due.Stages}, declared.place.{Service.Service, Place.Place, InService.InService}}

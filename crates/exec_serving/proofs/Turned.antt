@@ -5,7 +5,9 @@ use Rattle.exec_outcomes.specs.Accounts.{Account}
 use Rattle.exec_request.specs.{Judging.{Judges, judged_as}, Requests.{asked_of, cursor_of, hinted_of}, States.{Ended, as_answer}}
 use Rattle.exec_ring.specs.{Completions.result_in, Kernels.{is_quiet, reaped as ring_reaped}, Rings.completions, declared.completion.Completion.Completion}
 use Rattle.exec_waiters.specs.{States.{file_of, tick_in}, Told.Tells, declared.{deferred.Deferred.Deferred, waiter.{Waiter.Waiter, Entry.TheVariants.Pending}, waiter_id.WaiterId.WaiterId}, Events.{finished, told_by_finish}}
-use Rattle.exec_driver.specs.{Driving.Driving, Opens.{OpenState, account_in, with_account}, Steps.{judged_as_over, landed_at, open_after, opens_after_end, permit_after, taken_out, told_as, told_by_end, with_landings, unscheduled}, declared.driver.reaping.Reaped.Reaped, Lists.{with_queued, withdrawn}}
+use Rattle.exec_driver.specs.{Driving.Driving, Steps.{judged_as_over, landed_at, open_after, opens_after_end, permit_after, taken_out, told_as, told_by_end, with_landings, unscheduled}, declared.driver.reaping.Reaped.Reaped}
+use Rattle.exec_opens.specs.Opens.{OpenState, account_in, with_account}
+use Rattle.exec_lists.specs.Lists.{with_queued, withdrawn}
 use Rattle.exec_machine.specs.Tests.{is_empty}
 use Rattle.exec_moves.specs.{Serve.back_from_reap, declared.place.{AfterPermit.AfterPermit, Reaping.Reaping, Place.Place}}
 use Rattle.exec_parts.specs.{declared.parts.{mail.Reply.Reply, shared.Shared.Shared, worker.Worker.Worker}, View.{driver_of, number_told, trailing, trails_wake}}

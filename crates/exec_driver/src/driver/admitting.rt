@@ -5,12 +5,13 @@ ghost use Rattle.exec_base.specs.Slab.{next_id, live_count, IsPast, TakesId};
 ghost use Rattle.exec_request.specs.Requests.{gate_of};
 ghost use Rattle.exec_ring.specs.{Rings.taken_places, Stores.{Same, Reserves, Releases}};
 ghost use Rattle.exec_waiters.specs.{States.{suits, gate_in, pending_count, is_full}, Told.{HasPlaces, Tells, nothing_told}};
-ghost use Rattle.exec_driver.specs.{Opens.{open_named, with_named, placed, joined}, Driving.{seen, request_at}, Punctual.IsPunctual, Steps.{placed_at, told_at_admission, newcomer, plainly_written, taken_in, is_late}, Footprints.{footprint_of, widened}, Admission.{IsRefused, Admits, with_rooms, HasTwoMore, HasFewSpare}};
+ghost use Rattle.exec_opens.specs.Opens.{open_named, with_named, placed, joined};
+ghost use Rattle.exec_driver.specs.{Driving.{seen, request_at}, Punctual.IsPunctual, Steps.{placed_at, told_at_admission, newcomer, plainly_written, taken_in, is_late}, Footprints.{footprint_of, widened}, Admission.{IsRefused, Admits, with_rooms, HasTwoMore, HasFewSpare}};
 
 use super::Driver;
-use crate::opens::{Opens, WaiterKey};
 use exec_base::error::Error;
 use exec_base::slab::InsertError;
+use exec_opens::opens::{Opens, WaiterKey};
 use exec_request::request::Request;
 use exec_request::window::Window;
 use exec_request::write_at::WriteAtState;

@@ -4,11 +4,13 @@ ghost use Rattle.std.specs.Prelude.{◌≡◌, ◌<◌, ◌≤◌, Some, None, E
 ghost use Rattle.exec_time.specs.WheelView.{wheel_of, room_of};
 ghost use Rattle.exec_request.specs.Requests.{record_after};
 ghost use Rattle.exec_waiters.specs.{States.{is_idle, is_flying, file_of}, Events.told_by_finish, Told.{HasPlaces, Tells}};
-ghost use Rattle.exec_driver.specs.{Lists.is_among, Opens.{account_in, with_account}, Driving.{seen, request_at}, Steps.{ended, cancelled_at, told_by_cancel, unscheduled}};
+ghost use Rattle.exec_lists.specs.Lists.{is_among};
+ghost use Rattle.exec_opens.specs.Opens.{account_in, with_account};
+ghost use Rattle.exec_driver.specs.{Driving.{seen, request_at}, Steps.{ended, cancelled_at, told_by_cancel, unscheduled}};
 
 use super::Driver;
-use crate::opens::Opens;
 use exec_base::error::Error;
+use exec_opens::opens::Opens;
 use exec_request::open_record::OpenRecord;
 use exec_ring::ring::Ring;
 use exec_time::wheel::{Tick, TimeoutWheel};

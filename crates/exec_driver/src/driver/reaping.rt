@@ -9,8 +9,8 @@ ghost use Rattle.exec_waiters.specs.Told.{HasPlaces};
 ghost use Rattle.exec_driver.specs.{Driving.{seen, request_at}, Punctual.IsPunctual, Steps.{swept, under_way_after, armed_after, is_control, taken_out, completed_in, with_landings, Reaps, ReapsNext, is_next_control, after_next_control}};
 
 use super::Driver;
-use crate::opens::Opens;
 use exec_base::error::Error;
+use exec_opens::opens::Opens;
 use exec_outcomes::outcome::OpResult;
 use exec_request::open_record::OpenRecord;
 use exec_ring::completion::{CANCEL_USER_DATA, Completion, WAKE_USER_DATA};

@@ -3,11 +3,13 @@
 ghost use Rattle.std.specs.Prelude.{◌≡◌, ◌<◌, not, ◌||◌, Some, None, IfSome, IfNone, true, false, if◌then◌else◌};
 ghost use Rattle.exec_ring.specs.Kernels.{answer_of_enter, MayAllLand, all_taken};
 ghost use Rattle.exec_waiters.specs.{States.{file_of}, Told.{HasPlaces}};
-ghost use Rattle.exec_driver.specs.{Opens.{account_in, holder_at}, Driving.{seen, request_at, is_full, may_stage_one}, Lists.{has_first, first_of}, Punctual.IsPunctual, Placed.{ListsRequests, HasDeadlines}, Sharing.FliesPermitted, Steps.{lowest_gate, lower, granted, is_turn_of, Grants, cancel_staged, StagesOne, poll_staged, entered, with_landings}};
+ghost use Rattle.exec_opens.specs.Opens.{account_in, holder_at};
+ghost use Rattle.exec_driver.specs.{Driving.{seen, request_at, is_full, may_stage_one}, Punctual.IsPunctual, Placed.{ListsRequests, HasDeadlines, FliesPermitted}, Steps.{lowest_gate, lower, granted, is_turn_of, Grants, cancel_staged, StagesOne, poll_staged, entered, with_landings}};
+ghost use Rattle.exec_lists.specs.Lists.{has_first, first_of};
 
 use super::Driver;
-use crate::opens::{Opens, WaiterKey};
 use exec_base::error::Error;
+use exec_opens::opens::{Opens, WaiterKey};
 use exec_request::window::Window;
 use exec_ring::completion::{CANCEL_USER_DATA, WAKE_USER_DATA};
 use exec_ring::ring::{Entered, Ring};
@@ -71,7 +73,7 @@ impl<R: Ring + Drop, S: Drop, F: Drop> Driver<R, S, F> {
     }
 
     /// A durable request whose operation is under way was granted its permit.
-    #[tactic(auto, using(crate::proofs::Sharing::flies_permitted))]
+    #[tactic(auto, using(crate::proofs::Granting::flies_permitted))]
     pub fn flies_permitted(&self)
         ensures { FliesPermitted (seen self.now) }
     {

@@ -3,11 +3,12 @@
 ghost use Rattle.std.specs.Prelude.{◌≡◌, [], ◌<◌, ◌≤◌, ◌+◌, Some, None, Err, IfSome, IfNone};
 ghost use Rattle.exec_time.specs.{Wheel.IsSettled, WheelView.{wheel_of, room_of}};
 ghost use Rattle.exec_waiters.specs.{States.{waiter_at, pending_count}, Told.{HasPlaces, Tells}};
-ghost use Rattle.exec_driver.specs.{Sound.IsListed, Driving.{seen, request_at, is_enrolled}, Lists.{first_of}, Punctual.{IsPunctual, TellsDeadlines}, Steps.{advanced_to, all_due, fallen_due, expired, told_by_cancel, tick_for, in_time, Enrols}};
+ghost use Rattle.exec_lists.specs.{Listed.IsListed, Lists.first_of};
+ghost use Rattle.exec_driver.specs.{Driving.{seen, request_at, is_enrolled}, Punctual.{IsPunctual, TellsDeadlines}, Steps.{advanced_to, all_due, fallen_due, expired, told_by_cancel, tick_for, in_time, Enrols}};
 
 use super::Driver;
-use crate::lists::Lists;
 use exec_base::error::{Cause, Error};
+use exec_lists::lists::Lists;
 use exec_ring::ring::Ring;
 use exec_time::wheel::{Span, Tick, TimeoutWheel};
 use exec_waiters::deferred::Deferred;

@@ -13,13 +13,15 @@ ghost use Rattle.std.specs.Prelude.{◌≡◌, ℕ, ◌<◌, ◌≤◌, ◌&&◌
 ghost use Rattle.exec_ring.specs.Kernels.{is_quiet};
 ghost use Rattle.exec_time.specs.Wheel.{IsWithinReach};
 ghost use Rattle.exec_waiters.specs.States.{pending_count};
-ghost use Rattle.exec_driver.specs.{Opens.{next_at, with_open, passed}, Driving.{seen, is_full, may_stage_one}, Lists.has_first, Punctual.IsPunctual, Sound.IsSound, Service.{Repeats, ReapsOne, ExpiresOne, EnrolsOne, GrantsAt, GrantsAll, StagesEntry, StagesAll, ServesInOrder, is_unstaged, Parks, reached, entered_if}, Steps.with_landings, Turns.{CanTell, GoesOn, Serves, StaysDone, IsStaged, unstaged, unreaped, may_wait, made_way, must_enter, is_after, is_calm, is_taken, PassesTo}};
+ghost use Rattle.exec_opens.specs.Opens.{next_at, with_open, passed};
+ghost use Rattle.exec_driver.specs.{Driving.{seen, is_full, may_stage_one}, Punctual.IsPunctual, Sound.IsSound, Service.{Repeats, ReapsOne, ExpiresOne, EnrolsOne, GrantsAt, GrantsAll, StagesEntry, StagesAll, ServesInOrder, is_unstaged, Parks, reached, entered_if}, Steps.with_landings, Turns.{CanTell, GoesOn, Serves, StaysDone, IsStaged, unstaged, unreaped, may_wait, made_way, must_enter, is_after, is_calm, is_taken, PassesTo}};
+ghost use Rattle.exec_lists.specs.Lists.{has_first};
 
 use super::Driver;
 use super::reaping::Reaped;
 use super::staging::Granted;
 use crate::armed::{Armed, Signals};
-use crate::opens::Opens;
+use exec_opens::opens::Opens;
 use exec_ring::ring::{Entered, Ring};
 use exec_waiters::deferred::Deferred;
 

@@ -2,7 +2,7 @@
 
 use exec_base::error::Error;
 use exec_base::task_no::TaskNo;
-use exec_driver::opens::Opens;
+use exec_opens::opens::Opens;
 use exec_task::body::Around;
 
 /// What a body sees: the moment that its worker sampled last, the records of the opens, how many tasks there are, and

@@ -1,5 +1,5 @@
 use Rattle.std.{proofs.{Common.{◌<◌, refl, sym, ap, subst, ◌∙◌}, lemmas.{Bool.{not-true, not-false}, Option.{get_or_from_slice_get, slice_get_within}}}, specs.Vec.with_item}
-use Rattle.exec_driver.specs.Lists.{has_first}
+use Rattle.exec_lists.specs.Lists.{has_first}
 use Rattle.exec_moves.specs.declared.{idling.InRingWait.InRingWait, place.Place.Place}
 use Rattle.exec_parts.{specs.declared.parts.worker.Worker.Worker, proofs.Leaves.takes_by}
 use Rattle.exec_invariants.proofs.Raising.{sound_taken}

@@ -1,6 +1,7 @@
 use Rattle.std.{proofs.{Common.{◌≡◌, ◌+◌, ◌<◌, false, suc, length, refl, sym, ap, subst, ◌∙◌, arith, is_some}, lemmas.Option.slice_get_within}, specs.{Vec.with_item, VecDeque.deque_capacity}}
 use Rattle.exec_request.specs.States.{as_answer}
-use Rattle.exec_driver.specs.{Driving.seen, Opens.holder_at, Punctual.IsPunctual, Steps.{Grants, is_turn_of}}
+use Rattle.exec_driver.specs.{Driving.seen, Punctual.IsPunctual, Steps.{Grants, is_turn_of}}
+use Rattle.exec_opens.specs.Opens.{holder_at}
 use Rattle.exec_machine.specs.{declared.event.Event.TheVariants.{Grant, Serve}, Requests.{granted, joined_if}}
 use Rattle.exec_moves.specs.{Submit.after_grant, declared.place.{InService.InService, Place.Place}}
 use Rattle.exec_parts.specs.{declared.parts.{names.Names.Names, worker.Worker.Worker}, Records.number_in, View.{desk_of, driver_of}}

@@ -1,5 +1,6 @@
 use Rattle.std.proofs.Common.{◌≡◌, false, length}
-use Rattle.exec_driver.specs.{Driving.seen, Lists.has_first, Service.{Repeats, EnrolsOne}, Turns.Serves}
+use Rattle.exec_driver.specs.{Driving.seen, Service.{Repeats, EnrolsOne}, Turns.Serves}
+use Rattle.exec_lists.specs.Lists.{has_first}
 use Rattle.exec_driver.proofs.driver.Driver.enrol_all.Given as goal
 
 abbrev pub invariant-enrolments : goal.invariant-enrolments

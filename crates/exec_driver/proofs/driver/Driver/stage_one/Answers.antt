@@ -1,7 +1,8 @@
 use Rattle.std.proofs.Common.{◌≡◌, true, false, rules}
 use Rattle.std.specs.Prelude.{is_none}
 use Rattle.exec_waiters.specs.States.{file_of}
-use Rattle.exec_driver.specs.{Driving.seen, Opens.account_in}
+use Rattle.exec_driver.specs.Driving.{seen}
+use Rattle.exec_opens.specs.Opens.{account_in}
 use Rattle.exec_driver.proofs.{Serving.goes_by, Turns.stage_none, Service.{cancel_entry, request_entry}}
 use Rattle.exec_driver.proofs.driver.Driver.stage_one.Goals as goal
 

@@ -1,4 +1,4 @@
-use Rattle.std.proofs.{Common.{◌≡◌, ℕ, ◌+◌, ◌++◌, ◌∷◌, [], length, Some, None, false, refl, sym, ap, subst, ◌∙◌, arith}, lemmas.{Bool.Decides.nat_tests, List.length-append}}
+use Rattle.std.proofs.{Common.{◌≡◌, ℕ, ◌++◌, ◌∷◌, [], length, Some, None, false, refl, sym, ap, subst, ◌∙◌, arith}, lemmas.{Bool.Decides.nat_tests, List.length-append}}
 use Rattle.exec_base.specs.declared.task_no.TaskNo.{TaskNo}
 use Rattle.exec_base.specs.declared.one_shot.OneShotState.TheVariants as shot
 use Rattle.exec_task.specs.{Phases.runnable_of, declared.{runnable.Runnable.Runnable, task.Phase.TheVariants.Queued}}

@@ -1,4 +1,4 @@
-use Rattle.std.proofs.{Common.{◌≡◌, ◌+◌, ◌++◌, ◌∷◌, [], refl, sym, ap, subst, ◌∙◌, arith, length}, lemmas.{Bool.false≢true, List.length-append}}
+use Rattle.std.proofs.{Common.{◌≡◌, ◌++◌, ◌∷◌, [], refl, sym, ap, subst, ◌∙◌, arith, length}, lemmas.{Bool.false≢true, List.length-append}}
 use Rattle.exec_task.specs.{TaskSet.inserted, declared.runnable.Runnable.Runnable}
 use Rattle.exec_parts.specs.{Pooled.IsNewTask, Records.numbers_held}
 use Rattle.exec_parts.proofs.{Facts.same_Some, Newborn.new_task}

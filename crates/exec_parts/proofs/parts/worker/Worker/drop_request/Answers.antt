@@ -1,4 +1,4 @@
-use Rattle.std.{proofs.Common.{◌≡◌, ◌-◌, ◌++◌, Some, refl, sym, ap, subst, ◌∙◌, option_to_list}, specs.Vec.with_item}
+use Rattle.std.{proofs.Common.{◌≡◌, ◌++◌, Some, refl, sym, ap, subst, ◌∙◌, option_to_list}, specs.Vec.with_item}
 use Rattle.exec_task.specs.declared.body.Said.{Said}
 use Rattle.exec_parts.{specs.{Awaits.LetsGo, Records.numbers_held, declared.parts.{task_slot.TaskSlot.TaskSlot, worker.Worker.Worker}}, proofs.MailLets.found_at}
 use Rattle.exec_parts.proofs.parts.worker.Worker.drop_request.Goals as goal

@@ -1,4 +1,4 @@
-use Rattle.std.proofs.Common.{◌≡◌, ◌-◌, Some, Ok, length, refl, sym, ap, ◌∙◌, true, false, take}
+use Rattle.std.proofs.Common.{◌≡◌, ◌-◌, Some, Ok, length, refl, sym, ap, ◌∙◌, true, take}
 use Rattle.std.proofs.lemmas.Bool.{false≢true}
 use Rattle.exec_base.specs.OneShot.{polled}
 use Rattle.exec_base.specs.declared.one_shot.OneShotState.TheVariants.{Closed, Sent}

@@ -1,4 +1,4 @@
-use Rattle.std.{proofs.{Common.{◌≡◌, ℕ, true, false, refl, sym, ap, ◌∙◌, slice_set}, lemmas.Bool.false≢true}, specs.Vec.with_item}
+use Rattle.std.{proofs.{Common.{◌≡◌, ℕ, refl, sym, ap, ◌∙◌, slice_set}, lemmas.Bool.false≢true}, specs.Vec.with_item}
 use Rattle.exec_task.specs.declared.runnable.{AfterPoll.AfterPoll, Runnable.Runnable}
 use Rattle.exec_parts.{specs.{Phased.is_complete, Polls.pended_slot, Pooled.queued_again, Tests.after_poll_of, Things.TurnsSlot, declared.parts.{shared.Shared.Shared, task_slot.TaskSlot.TaskSlot, worker.Worker.Worker}}, proofs.{Facts.same_Some, MailLets.found_at}}
 use Rattle.exec_parts.proofs.parts.worker.Worker.pend.Goals as goal

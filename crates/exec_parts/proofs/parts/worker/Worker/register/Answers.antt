@@ -2,7 +2,7 @@ use Rattle.std.proofs.{Common.{◌≡◌, ◌++◌, ◌∷◌, [], List, Bool, t
 use Rattle.exec_request.specs.Requests.{asked_of, deadline_of}
 use Rattle.exec_task.specs.declared.body.Said.{Said}
 use Rattle.exec_machine.specs.{declared.{event.Event.TheVariants.Admit, state.Operation.Operation}, Requests.{outcome_if_late, new_request, resolved_if}, Tests.is_of_file}
-use Rattle.exec_driver.specs.Opens.{OpenState, account_in}
+use Rattle.exec_opens.specs.Opens.{OpenState, account_in}
 use Rattle.exec_moves.specs.declared.place.{InPoll.InPoll, Place.Place}
 use Rattle.exec_parts.{specs.{Admitting.{NamesOne, joins_gate, one_made, seeing}, Records.{file_named, numbers_held, operation_in, outcome_in}, declared.parts.{held.Held.Held, shared.Shared.Shared, task_slot.TaskSlot.TaskSlot, worker.Worker.Worker}, View.account_seen}, proofs.{Enlisting.{named_within, outcome_shown, records_same, seat_counted, seat_is, seat_within, slot_is, slot_room, slot_within}, Growing.{refuses_by, rooms_within}}}
 use Rattle.exec_parts.proofs.parts.worker.Worker.register.Goals as goal

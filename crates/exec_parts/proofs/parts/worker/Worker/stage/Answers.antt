@@ -1,6 +1,6 @@
-use Rattle.std.proofs.{Common.{rules, ◌≡◌, ◌<◌, ◌&&◌, ℕ, Bool, List, [], ◌∷◌, true, false, length, get_or, Some, refl, sym, ap, subst, ◌∙◌}, lemmas.Option.slice_get-get_or}
+use Rattle.std.proofs.{Common.{rules, ◌≡◌, ◌<◌, ◌&&◌, ℕ, Bool, List, [], ◌∷◌, length, get_or, Some, refl, sym, ap, subst, ◌∙◌}, lemmas.Option.slice_get-get_or}
 use Rattle.exec_waiters.specs.declared.waiter_id.WaiterId.{WaiterId}
-use Rattle.exec_driver.specs.Lists.{first_of}
+use Rattle.exec_lists.specs.Lists.{first_of}
 use Rattle.exec_machine.specs.{declared.state.RequestPhase.RequestPhase, Requests.asks_hint}
 use Rattle.exec_parts.{specs.{declared.parts.{record.Record.Record, worker.Worker.Worker}, Records.number_in, Submitting.{AreNamed, staged_with, takes_hint}}, proofs.LeafRecords.set_changes}
 use Rattle.exec_parts.proofs.parts.worker.Worker.stage.Goals as goal

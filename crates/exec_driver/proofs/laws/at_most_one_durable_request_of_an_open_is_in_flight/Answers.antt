@@ -1,5 +1,0 @@
-use Rattle.exec_driver.proofs.Promises.{at_most_one}
-use Rattle.exec_driver.proofs.laws.at_most_one_durable_request_of_an_open_is_in_flight.Goals as goal
-
-pub returns : goal.returns
-returns g c = λ drivers opens a b file share one other. at_most_one drivers opens a b file share one other

@@ -1,7 +1,0 @@
-use Rattle.std.proofs.Common.{◌≡◌}
-use Rattle.std.specs.Prelude.{replicate}
-use Rattle.exec_driver.specs.Opens.{fresh_open}
-use Rattle.exec_driver.proofs.opens.Opens.new.Given as goal
-
-abbrev pub invariant-fresh : goal.invariant-fresh
-invariant-fresh l = l.opens.items ≡ replicate l.counter fresh_open

@@ -1,0 +1,9 @@
+pub mod Promises
+pub mod Standing
+pub mod Calling
+pub mod Sharing
+pub mod Workers
+pub mod Uncancelled
+pub mod Failing
+pub mod Lasting
+pub mod Serving

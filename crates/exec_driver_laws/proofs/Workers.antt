@@ -1,0 +1,47 @@
+-- Why the drivers of the worked example share gates, or don't.
+use Rattle.std.proofs.Common.{◌≡◌, ◌≢◌, ℕ, zero, suc, ◌≤◌, Bool, true, false, eqb, Some, None, refl, sym, ap, arith}
+use Rattle.exec_waiters.specs.{Examples.{sync, here}}
+use Rattle.exec_driver.specs.{Examples.{first, idle}, Steps.newcomer}
+use Rattle.exec_driver_laws.specs.{Examples.{workers, held, gates, spoiled, spoiling, no_requests, astray}, Serving.{IsCalls, NoCall, NextCall}}
+use Rattle.exec_driver_laws.specs.{Laws.ShareGates, Sharing.{LineUp, CallsOne, SetAccount, Other, IsRun, Says, FailsFrom, sets_account_of, key_of}}
+use Rattle.exec_base.specs.declared.error.Error.TheVariants.{Timeout}
+use Rattle.exec_opens.specs.declared.opens.WaiterKey.{WaiterKey}
+use Rattle.exec_driver.proofs.{Words.{false≢true, Waiter}}
+
+abbrev alone : Bool → Waiter ℕ ℕ
+alone permit = record (newcomer sync here) { permit = permit }
+
+pub shared : LineUp (workers false) gates
+shared = grind arith
+
+pub not_shared : ShareGates (workers true) held → ⊥
+not_shared share =
+    let holds : Some (key_of 3 first) ≡ Some (key_of 4 first) = share.holds (key_of 4 first) (alone true) 1 refl refl refl in
+    let same : key_of 3 first ≡ key_of 4 first = cc in
+    false≢true (sym (ap (λ (k : WaiterKey). eqb k.worker 3) same))
+
+pub says : Says idle
+says = record { permitted = grind arith; lists = grind arith; dated = grind arith }
+
+abbrev calling : (n : ℕ) → CallsOne (no_requests n) (no_requests (suc n)) (spoiling n) (spoiling (suc n))
+calling zero = record { worker = 0; call = SetAccount (Some 1) spoiled refl refl; says = says; others = λ other apart. refl }
+calling (suc n) = record { worker = 0; call = Other refl refl; says = says; others = λ other apart. refl }
+
+unset : (k : ℕ) → 1 ≤ k → sets_account_of (calling k).call ≢ Some 1
+unset zero past = omega (arith, past)
+unset (suc k) past = λ is. cc (is)
+
+abbrev run : IsRun no_requests spoiling
+run = record { first = record { count = 2; opens = refl; leaving = λ file. refl; requests = λ worker. refl }; next = calling }
+
+pub spoils : FailsFrom no_requests spoiling 1 7 1 Timeout
+spoils = record { run = run; since = omega arith; kept = refl; unset = λ k past soon. unset k past }
+
+pub not_yet : FailsFrom no_requests spoiling 0 7 1 Timeout → ⊥
+not_yet fails = let none : None ≡ Some Timeout = fails.kept in cc
+
+pub not_said : Says astray → ⊥
+not_said said = false≢true (said.lists.due first refl)
+
+pub one_call : IsCalls 0 idle idle (spoiling 0) (spoiling 1).opens
+one_call = record { gates = spoiling 1; opens_after = refl; calls = NextCall idle idle (spoiling 0) (spoiling 1) NoCall (SetAccount (Some 1) spoiled refl refl) says }

@@ -1,0 +1,4 @@
+pub mod Laws
+pub mod Sharing
+pub mod Examples
+pub mod Serving

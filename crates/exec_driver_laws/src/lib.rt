@@ -1,0 +1,6 @@
+//! Laws of drivers: whatever calls workers make, one durable request of an open is in flight at most, and each request
+//! ends once.
+#![tactic(auto)]
+
+pub mod examples;
+pub mod laws;

@@ -1,0 +1,5 @@
+//! The places of a driver: lists of requests, each in order of coming, and what holds of a list as one request changes.
+#![tactic(auto)]
+
+mod due;
+pub mod lists;

@@ -1,0 +1,264 @@
+//! The places of a driver, each a list of the requests in it in order of coming.
+//!
+//! Who leaves a place is taken out of its list at once, so a list has no name that isn't in its place. What is in a
+//! place, and that none is in two, is for the driver to know; here are the lists alone, with room for as many requests
+//! as `reserve` was told, so no other call takes memory.
+
+ghost use Rattle.std.specs.Prelude.{◌≡◌, ◌<◌, ◌≤◌, true, false, length, max, if◌then◌else◌, OnOk, OnErr};
+ghost use Rattle.std.specs.VecDeque.{deque_capacity};
+ghost use Rattle.exec_lists.specs.Lists.{no_lists, without, is_among, has_first, first_of, withdrawn, with_queued, with_gated, with_enrolment, with_due, with_cancel, without_gated, after_queued, after_enrolment, after_due, after_cancel};
+
+use crate::due::Due;
+use exec_waiters::waiter_id::WaiterId;
+use std::alloc::{AllocError, Global};
+use std::collections::VecDeque;
+use std::marker::Model;
+
+/// The places of a driver.
+#[derive(Drop)]
+pub struct Lists {
+    // What is to be staged.
+    queued: VecDeque<WaiterId>,
+    // What waits at a gate.
+    gated: VecDeque<WaiterId>,
+    // Whose deadline is to be enrolled.
+    enrolments: VecDeque<WaiterId>,
+    // Whose deadline has come, in the order of the wheel.
+    due: Due,
+    // Whose cancel is to be staged, in the order in which they were asked for.
+    cancels: VecDeque<WaiterId>,
+    // For how many requests there is memory in each.
+    room: usize,
+}
+
+impl Model for Lists {
+    ghost use Rattle.std.specs.Prelude.{◌≤◌};
+    ghost use Rattle.std.specs.VecDeque.{deque_capacity};
+    ghost use Rattle.exec_lists.specs.Lists.{Lists as Places};
+
+    ghost Value = { Places };
+
+    ghost view = { λ l. record {
+      queued = l.queued.items;
+      gated = l.gated.items;
+      enrolments = l.enrolments.items;
+      due = l.due.names.items;
+      cancels = l.cancels.items;
+      room = l.room;
+    } };
+
+    ghost invariant = { λ l. (l.room ≤ deque_capacity l.queued) × (l.room ≤ deque_capacity l.gated) × (l.room ≤ deque_capacity l.enrolments) × (l.room ≤ deque_capacity l.due.names) × (l.room ≤ deque_capacity l.cancels) };
+}
+
+impl Lists {
+    /// Empty lists. They take no memory.
+    pub fn new(alloc: Global) -> Self
+        ensures { result ≡ no_lists }
+    {
+        Lists {
+            queued: VecDeque::new(alloc),
+            gated: VecDeque::new(alloc),
+            enrolments: VecDeque::new(alloc),
+            due: Due::new(alloc),
+            cancels: VecDeque::new(alloc),
+            room: 0,
+        }
+    }
+
+    /// Makes room for so many requests in all. Err only for want of memory, and then nothing changes.
+    pub fn reserve(&mut self, count: usize) -> Result<(), AllocError>
+        ensures ok { OnOk result (self.new ≡ record self.old { room = max self.old.room count }) }
+        ensures kept { OnErr result (self.new ≡ self.old) }
+    {
+        make_room(&mut self.queued, count)?;
+        make_room(&mut self.gated, count)?;
+        make_room(&mut self.enrolments, count)?;
+        self.due.reserve(count)?;
+        make_room(&mut self.cancels, count)?;
+        self.room = self.room.max(count);
+        Ok(())
+    }
+
+    /// Whether something is to be staged.
+    pub fn has_queued(&self) -> bool
+        ensures { result ≡ has_first self.now.queued }
+    {
+        !self.queued.is_empty()
+    }
+
+    /// Whether a deadline is to be enrolled.
+    pub fn has_enrolments(&self) -> bool
+        ensures { result ≡ has_first self.now.enrolments }
+    {
+        !self.enrolments.is_empty()
+    }
+
+    /// Whether a deadline has come.
+    pub fn has_due(&self) -> bool
+        ensures { result ≡ has_first self.now.due }
+    {
+        self.due.has_first()
+    }
+
+    /// Whether a cancel is to be staged.
+    pub fn has_cancels(&self) -> bool
+        ensures { result ≡ has_first self.now.cancels }
+    {
+        !self.cancels.is_empty()
+    }
+
+    /// What waits at a gate.
+    pub fn gated(&self) -> &VecDeque<WaiterId>
+        ensures { result.now.items ≡ self.now.gated }
+    {
+        &self.gated
+    }
+
+    /// Whether a request waits at a gate.
+    pub fn is_gated(&self, id: WaiterId) -> bool
+        ensures { result ≡ is_among id self.now.gated }
+    {
+        has(&self.gated, id)
+    }
+
+    /// Takes a request out of every place.
+    pub fn withdraw(&mut self, id: WaiterId)
+        ensures { self.new ≡ withdrawn id self.old }
+    {
+        take_out(&mut self.queued, id);
+        take_out(&mut self.gated, id);
+        take_out(&mut self.enrolments, id);
+        self.due.take_out(id);
+        take_out(&mut self.cancels, id);
+    }
+
+    /// A request is to be staged. The caller must have made room.
+    pub fn queue(&mut self, id: WaiterId)
+        requires room { length self.old.queued < self.old.room }
+        ensures { self.new ≡ with_queued id self.old }
+    {
+        self.queued.push_back_reserved(id);
+    }
+
+    /// A request waits at its gate. The caller must have made room.
+    pub fn gate(&mut self, id: WaiterId)
+        requires room { length self.old.gated < self.old.room }
+        ensures { self.new ≡ with_gated id self.old }
+    {
+        self.gated.push_back_reserved(id);
+    }
+
+    /// A request has its permit, and doesn't wait at its gate any more.
+    pub fn ungate(&mut self, id: WaiterId)
+        ensures { self.new ≡ without_gated id self.old }
+    {
+        take_out(&mut self.gated, id);
+    }
+
+    /// Puts one that was admitted into its places: its deadline is to be enrolled where it has one, and it is gated or
+    /// queued. The caller must have made room.
+    pub fn place(&mut self, id: WaiterId, has_deadline: bool, is_gated: bool)
+        requires enrolments { length self.old.enrolments < self.old.room }
+        requires gated { length self.old.gated < self.old.room }
+        requires queued { length self.old.queued < self.old.room }
+        ensures { self.new ≡ (if is_gated then with_gated id (if has_deadline then with_enrolment id self.old else self.old) else with_queued id (if has_deadline then with_enrolment id self.old else self.old)) }
+    {
+        if has_deadline {
+            self.enrol(id);
+        }
+        if is_gated {
+            self.gate(id);
+        } else {
+            self.queue(id);
+        }
+    }
+
+    /// A deadline is to be enrolled. The caller must have made room.
+    pub fn enrol(&mut self, id: WaiterId)
+        requires room { length self.old.enrolments < self.old.room }
+        ensures { self.new ≡ with_enrolment id self.old }
+    {
+        self.enrolments.push_back_reserved(id);
+    }
+
+    /// A deadline has come, unless that was known. The caller must have made room.
+    pub fn fall_due(&mut self, id: WaiterId)
+        requires room { is_among id self.old.due ≡ false → length self.old.due < self.old.room }
+        ensures { self.new ≡ with_due id self.old }
+    {
+        if !self.due.has(id) {
+            self.due.push(id);
+        }
+    }
+
+    /// A cancel is to be staged. The caller must have made room, and know of one whose deadline was told that it is
+    /// none of those any more whose deadline has come: then these needn't be looked at.
+    pub fn cancel(&mut self, id: WaiterId, told: bool)
+        requires room { length self.old.cancels < self.old.room }
+        requires late { told ≡ true → is_among id self.old.due ≡ false }
+        ensures { self.new ≡ with_cancel id self.old }
+    {
+        if told {
+            self.cancels.push_back_reserved(id);
+        } else {
+            self.due.take_out(id);
+            self.cancels.push_back_reserved(id);
+        }
+    }
+
+    /// Takes out what is to be staged first.
+    pub fn next_queued(&mut self) -> Option<WaiterId>
+        ensures first { result ≡ first_of self.old.queued }
+        ensures rest { self.new ≡ after_queued self.old }
+    {
+        self.queued.pop_front()
+    }
+
+    /// Takes out whose deadline is to be enrolled first.
+    pub fn next_enrolment(&mut self) -> Option<WaiterId>
+        ensures first { result ≡ first_of self.old.enrolments }
+        ensures rest { self.new ≡ after_enrolment self.old }
+    {
+        self.enrolments.pop_front()
+    }
+
+    /// Takes out whose deadline came first.
+    pub fn next_due(&mut self) -> Option<WaiterId>
+        ensures first { result ≡ first_of self.old.due }
+        ensures rest { self.new ≡ after_due self.old }
+    {
+        self.due.pop()
+    }
+
+    /// Takes out whose cancel was asked for first.
+    pub fn next_cancel(&mut self) -> Option<WaiterId>
+        ensures first { result ≡ first_of self.old.cancels }
+        ensures rest { self.new ≡ after_cancel self.old }
+    {
+        self.cancels.pop_front()
+    }
+}
+
+/// Makes room in a list for so many in all.
+fn make_room(list: &mut VecDeque<WaiterId>, count: usize) -> Result<(), AllocError>
+    ensures items { list.new.items ≡ list.old.items }
+    ensures more { deque_capacity list.old ≤ deque_capacity list.new }
+    ensures room { OnOk result (count ≤ deque_capacity list.new) }
+{
+    list.reserve(count.saturating_sub(list.len()))
+}
+
+/// Takes a name out of a list, where it stands there.
+pub(crate) fn take_out(list: &mut VecDeque<WaiterId>, id: WaiterId)
+    ensures items { list.new.items ≡ without id list.old.items }
+    ensures capacity { deque_capacity list.new ≡ deque_capacity list.old }
+{
+    list.retain(|other| !(other.0.index == id.0.index && other.0.generation == id.0.generation));
+}
+
+/// Whether a list has a name.
+pub(crate) fn has(list: &VecDeque<WaiterId>, id: WaiterId) -> bool
+    ensures { result ≡ is_among id list.now.items }
+{
+    list.iter().any(|other| other.0.index == id.0.index && other.0.generation == id.0.generation)
+}
