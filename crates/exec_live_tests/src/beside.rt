@@ -8,6 +8,7 @@ use exec_live_queue::owner::Owner;
 use exec_live_queue::queue::{Queue, QueueSeat};
 use exec_live_queue::steal::{Pause, Spot};
 use exec_words::queue::Steal;
+use std::process::Abort;
 use std::sync::atomic::{AtomicU64, Ordering};
 use std::test::Fail;
 use std::thread::join;
@@ -30,6 +31,15 @@ fn saw(flag: &AtomicU64) -> bool {
 struct Flags {
     claimed: AtomicU64,
     gone_on: AtomicU64,
+}
+
+impl Flags {
+    fn new() -> Self {
+        Flags {
+            claimed: AtomicU64::new(0),
+            gone_on: AtomicU64::new(0),
+        }
+    }
 }
 
 /// Tells the owner of the claim, and waits for it.
@@ -92,6 +102,19 @@ impl<'b> Owning<'b> {
     }
 }
 
+/// The thief has the oldest half of the 16 values, and the owner what it left of them and pushed since.
+fn each_has_its_half(rt: &impl Abort, mut owner: Owner<u64>, mut into: Owner<u64>)
+    requires { (handed owner ≡ []) × (handed into ≡ []) }
+{
+    assert_eq!(rt; (into.pop(), pop_all(&mut into, 7)), (Some(0), Some(7)));
+    assert_eq!(rt;
+        (pop_all(&mut owner, 3), pop_all(&mut owner, 5)),
+        (Some(15), Some(104))
+    );
+    let_go(rt, owner);
+    let_go(rt, into);
+}
+
 #[test]
 fn the_owner_goes_on_beside_a_claim(rt: HostRuntime) -> Result<(), Fail> {
     let (queue, mut owner, seat) = made(rt.alloc(), 0)?;
@@ -100,10 +123,7 @@ fn the_owner_goes_on_beside_a_claim(rt: HostRuntime) -> Result<(), Fail> {
         Err(_) => panic!(rt; "no memory"),
     };
     assert_eq!(rt; push_all(&mut owner, 0, 16), 16);
-    let flags = Flags {
-        claimed: AtomicU64::new(0),
-        gone_on: AtomicU64::new(0),
-    };
+    let flags = Flags::new();
     let mut owning = Owning {
         owner,
         flags: &flags,
@@ -117,22 +137,13 @@ fn the_owner_goes_on_beside_a_claim(rt: HostRuntime) -> Result<(), Fail> {
     let (stolen, owned) = join(&rt, || stealing.steal(), || owning.go_on());
     assert_eq!(rt; stolen, (Steal::Moved(8), true));
     assert_eq!(rt; owned, (Some(12), 5, true));
-    let Owning {
-        mut owner,
-        flags: _,
-    } = owning;
+    let Owning { owner, flags: _ } = owning;
     let Stealing {
         queue: _,
         flags: _,
         seat: _,
-        mut into,
+        into,
     } = stealing;
-    assert_eq!(rt; (into.pop(), pop_all(&mut into, 7)), (Some(0), Some(7)));
-    assert_eq!(rt;
-        (pop_all(&mut owner, 3), pop_all(&mut owner, 5)),
-        (Some(15), Some(104))
-    );
-    let_go(&rt, owner);
-    let_go(&rt, into);
+    each_has_its_half(&rt, owner, into);
     Ok(())
 }

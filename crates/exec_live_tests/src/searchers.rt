@@ -161,9 +161,16 @@ impl<'a> Worker<'a> {
     }
 }
 
-/// A queue with two seats of thieves, its owner, and so many values.
-fn make_queue<R: Abort>(rt: &R, alloc: Global, count: u64) -> Filled
+/// A queue with so many values, its owner, and two seats of thieves.
+fn make_queue<R: Abort>(
+    rt: &R,
+    alloc: Global,
+    count: u64,
+) -> (Queue<u64>, Owner<u64>, QueueSeat<u64>, QueueSeat<u64>)
     requires { count ≤ 256 }
+    ensures whole { handed result.1 ≡ [] }
+    ensures one { IsThief result.0 result.2 }
+    ensures two { IsThief result.0 result.3 }
 {
     let (queue, mut owner, mut one) = match made(alloc, 0) {
         Ok(made) => made,
@@ -171,22 +178,7 @@ fn make_queue<R: Abort>(rt: &R, alloc: Global, count: u64) -> Filled
     };
     push_all(&mut owner, 0, count);
     let two = queue.seat(&mut one);
-    Filled {
-        queue,
-        owner,
-        one,
-        two,
-    }
-}
-
-struct Filled {
-    queue: Queue<u64>,
-    owner: Owner<u64>,
-    one: QueueSeat<u64>,
-    two: QueueSeat<u64>,
-    ghost one_at: { IsThief queue one },
-    ghost two_at: { IsThief queue two },
-    ghost whole: { handed owner ≡ [] },
+    (queue, owner, one, two)
 }
 
 fn victim_of<'a>(number: usize, queue: &'a Queue<u64>, seat: QueueSeat<u64>) -> Victim<'a>
@@ -233,24 +225,9 @@ fn share<R: Wait + Abort>(
 fn three_workers_share_five_values(rt: HostRuntime) -> Result<(), Fail> {
     let alloc = rt.alloc();
     let (idle, mut caller) = Idle::new(alloc, 3)?;
-    let Filled {
-        queue: at_zero,
-        owner: zero,
-        one: zero_one,
-        two: zero_two,
-    } = make_queue(&rt, alloc, 0);
-    let Filled {
-        queue: at_one,
-        owner: one,
-        one: one_zero,
-        two: one_two,
-    } = make_queue(&rt, alloc, 0);
-    let Filled {
-        queue: at_two,
-        owner: two,
-        one: two_zero,
-        two: two_one,
-    } = make_queue(&rt, alloc, 5);
+    let (at_zero, zero, zero_one, zero_two) = make_queue(&rt, alloc, 0);
+    let (at_one, one, one_zero, one_two) = make_queue(&rt, alloc, 0);
+    let (at_two, two, two_zero, two_one) = make_queue(&rt, alloc, 5);
     let zero = reach_of(
         zero,
         victim_of(1, &at_one, one_zero),

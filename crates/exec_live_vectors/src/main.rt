@@ -50,8 +50,8 @@ fn play<R: Wait>(
     }
 }
 
-fn main(rt: HostRuntime) -> io::Result<()> {
-    let alloc = rt.alloc();
+/// The lines of standard input, but for those that say nothing.
+fn read(rt: &HostRuntime, alloc: Global) -> io::Result<Vec<String>> {
     let mut lines = Vec::new(alloc);
     for line in BufReader::new(alloc, rt.reader())?.lines(alloc) {
         let line = line?;
@@ -59,6 +59,23 @@ fn main(rt: HostRuntime) -> io::Result<()> {
             lines.push(line)?;
         }
     }
+    Ok(lines)
+}
+
+/// Tells what a replay found.
+fn tell(rt: &HostRuntime, report: &Report) -> io::Result<()> {
+    for difference in &report.differences {
+        println!(rt; "{difference}")?;
+    }
+    let (unasked, beside) = (report.unasked, report.beside);
+    println!(rt; "{unasked} lines passed over that no public call answers")?;
+    println!(rt; "{beside} lines passed over after a second claim beside one")?;
+    println!(rt; "{} answers, {} differ", report.answers, report.differ)
+}
+
+fn main(rt: HostRuntime) -> io::Result<()> {
+    let alloc = rt.alloc();
+    let lines = read(&rt, alloc)?;
     let mut report = Report::new(alloc);
     for (at, head) in lines.iter().enumerate() {
         if !head.starts_with("case ") {
@@ -68,11 +85,5 @@ fn main(rt: HostRuntime) -> io::Result<()> {
             println!(rt; "{head}: {fault}")?;
         }
     }
-    for difference in &report.differences {
-        println!(rt; "{difference}")?;
-    }
-    let (unasked, beside) = (report.unasked, report.beside);
-    println!(rt; "{unasked} lines passed over that no public call answers")?;
-    println!(rt; "{beside} lines passed over after a second claim beside one")?;
-    println!(rt; "{} answers, {} differ", report.answers, report.differ)
+    tell(&rt, &report)
 }

@@ -4,7 +4,7 @@
 //! claim there. So one claim is held at a time: where a case has a second one beside it, its rest is passed over. While
 //! a claim is held, the owner of the thief's own queue is lent to the thief.
 
-ghost use Rattle.std.specs.Prelude.{◌≡◌, []};
+ghost use Rattle.std.specs.Prelude.{◌≡◌, ◌<◌, [], IfOk};
 ghost use Rattle.exec_live_queue.specs.Kinds.{handed};
 
 use crate::fault::Fault;
@@ -161,6 +161,28 @@ impl<'h, 's, R: Wait> Pause for Held<'h, 's, R> {
     }
 }
 
+/// The two queues that the words of a claim name: which is stolen from, and into which.
+fn ends(claim: &str, count: usize) -> Result<(usize, usize), Fault>
+    ensures { IfOk result (λ ends. (ends.0 < count) × (ends.1 < count)) }
+{
+    let mut words = claim.split_whitespace();
+    let from = place(&mut words, count)?;
+    let into = place(&mut words, count)?;
+    if from == into {
+        return Err(Fault::Condition);
+    }
+    Ok((from, into))
+}
+
+/// How many values a steal moved.
+fn moved(answer: Steal) -> usize {
+    match answer {
+        Steal::Moved(count) => count,
+        Steal::Nothing => 0,
+        Steal::Again(_) => 0,
+    }
+}
+
 /// A steal whose claim is held while the lines up to its end are played: how many values it claimed.
 fn begin<'s, R: Wait>(
     rt: &R,
@@ -171,12 +193,7 @@ fn begin<'s, R: Wait>(
     report: &mut Report,
 ) -> Result<String, Fault> {
     let claim = line.call.strip_prefix("begin ").unwrap_or("");
-    let mut words = claim.split_whitespace();
-    let from = place(&mut words, locals.len())?;
-    let into = place(&mut words, locals.len())?;
-    if from == into {
-        return Err(Fault::Condition);
-    }
+    let (from, into) = ends(claim, locals.len())?;
     let queue = Arc::try_clone(&locals[from].queue)?;
     let mut seat = queue.seat(&mut locals[from].thief);
     let Some(mut owner) = locals[into].owner.take() else {
@@ -193,11 +210,7 @@ fn begin<'s, R: Wait>(
     };
     let answer = queue.steal_paused(&mut seat, &mut owner, &mut held);
     let end = held.end;
-    let count = match answer {
-        Steal::Moved(count) => count,
-        Steal::Nothing => 0,
-        Steal::Again(_) => 0,
-    };
+    let count = moved(answer);
     give_back(rt, locals, into, owner);
     if let Some(line) = end {
         report.note(line, Ok(format!(in alloc; "{count}")?));
