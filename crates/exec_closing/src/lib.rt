@@ -1,4 +1,6 @@
-//! The closing of a worker: which function takes its next step, and what that is to the machine and to all parties.
+//! The closing of a worker: a function for each place, the one that finds it, and what its step is to the machine and to
+//! all parties.
 #![tactic(auto)]
 
+pub mod clearing;
 pub mod closing;

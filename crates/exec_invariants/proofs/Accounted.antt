@@ -8,7 +8,8 @@ use Rattle.exec_waiters.specs.{States.file_of, declared.waiter.Waiter.Waiter}
 use Rattle.exec_opens.specs.Opens.{OpenState, account_in, keeping, with_account, with_open_in}
 use Rattle.exec_driver.specs.Steps.{open_after}
 use Rattle.exec_machine.specs.{Tests.is_of_file, World.{Open, no_open}}
-use Rattle.exec_parts.{specs.{declared.parts.{mail.Reply.Reply, record.Record.Record}, View.{account_seen, open_seen}}, proofs.{Facts.{and_parts, by_number, same_Some, set_elsewhere, set_there}, Showing.{map_kept, map_set}}}
+use Rattle.exec_parts.{specs.{declared.parts.{mail.Reply.Reply, record.Record.Record}, View.{account_seen, open_seen}}, proofs.Facts.{and_parts, by_number, same_Some, set_elsewhere, set_there}}
+use Rattle.exec_invariants.proofs.Showing.{map_kept, map_set}
 use Rattle.exec_invariants.{specs.Gates.{AreLinedUp, has_hint_at}, proofs.{Hinting.open_there, Lined.{SameLines, accounts_kept, only_line, opens_same}, SparedRecord.there_within}}
 use Rattle.exec_invariants.proofs.Turning.{set_found}
 

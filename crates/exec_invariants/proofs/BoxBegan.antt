@@ -1,6 +1,7 @@
 -- What tasks hold, where a worker begins to close: no message moved, and what it owed it owes.
 use Rattle.std.proofs.{Common.{◌≡◌, ℕ, ◌⊎◌, inl, inr, true, List, length, map, Option, Some, None, sym, ap, subst, ◌∙◌, arith, slice_get, slice_set, option_map}, lemmas.{List.length-set, Option.slice_get-map}}
-use Rattle.exec_parts.{specs.declared.parts.{mail.Subject.Subject, seat.Seat.Seat as Chair}, proofs.{Facts.{by_number, same_Some, set_elsewhere, set_there}, Showing.map_set}}
+use Rattle.exec_parts.{specs.declared.parts.{mail.Subject.Subject, seat.Seat.Seat as Chair}, proofs.Facts.{by_number, same_Some, set_elsewhere, set_there}}
+use Rattle.exec_invariants.proofs.Showing.{map_set}
 use Rattle.exec_invariants.{specs.Holding.{Box, Hands, HasPlace, Holder, IsClosing, IsHolding, Mail, Nap, Owes, Thing, box_of, under_way}, proofs.HoldRedo.sum_set}
 
 -- such a box

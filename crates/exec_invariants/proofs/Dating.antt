@@ -7,7 +7,7 @@ use Rattle.exec_driver.specs.Steps.{tick_for, ended_by}
 use Rattle.exec_task.specs.declared.body.Said.{Said}
 use Rattle.exec_machine.specs.declared.event.Event.{Event}
 use Rattle.exec_moves.specs.declared.place.{Place.Place, InService.InService}
-pub use Rattle.exec_parts.proofs.LeafRecords.{found_is, set_changes}
+pub use Rattle.exec_invariants.proofs.LeafRecords.{found_is, set_changes}
 use Rattle.exec_parts.specs.{declared.parts.{record.Record.Record, shared.Shared.Shared, worker.Worker.Worker}, Records.number_in, Serving.IsOnWheel, Spots.Spot, View.{driver_of, own_of}}
 use Rattle.exec_invariants.{specs.{Due.IsWheelAt, Submits.IsNewIn, Works.Steps}, proofs.{Enrolled.{HasEnrolled, new_first}, Enrolling.{enrolled_at, ended_not}, Late.enrol_ends, Resolving.slab_after, Timing.enrol_stays}}
 

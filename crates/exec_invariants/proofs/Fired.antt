@@ -4,7 +4,8 @@ pub use Rattle.std.proofs.lemmas.Bool.{le-leb}
 use Rattle.exec_base.specs.{Slab.{IsPast, Slab, value_at}, declared.slab.Id.Id}
 use Rattle.exec_time.specs.declared.timers.Sleeper.{Sleeper as Sleeping}
 use Rattle.exec_machine.specs.Tests.{is_asleep}
-use Rattle.exec_parts.{specs.{declared.parts.{mail.Reply.Reply, names.Names.Names, sleeping.SleeperRecord.SleeperRecord}, Records.number_in}, proofs.{Facts.{by_number, same_number}, Flying.get_set}}
+use Rattle.exec_parts.{specs.{declared.parts.{mail.Reply.Reply, names.Names.Names, sleeping.SleeperRecord.SleeperRecord}, Records.number_in}, proofs.Facts.{by_number, same_number}}
+use Rattle.exec_invariants.proofs.Flying.{get_set}
 use Rattle.exec_invariants.{specs.Due.AreAsleep, proofs.FiringNames.naps_set}
 
 abbrev pub fires : SleeperRecord → SleeperRecord

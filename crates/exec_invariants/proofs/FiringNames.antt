@@ -3,7 +3,8 @@ use Rattle.std.proofs.{Common.{◌≡◌, inl, inr, ℕ, zero, suc, ◌^◌, ◌
 use Rattle.exec_base.{specs.{Slab.{IsPast, Slab, TakesId, freed, next_generation, removed, slot_at, value_at}, declared.slab.Id.Id}, proofs.Slots.{Changed-set, IsLiveAt-from_value, live_within, past-free, was_live}}
 use Rattle.exec_time.specs.declared.timers.Sleeper.{Sleeper as Sleeping}
 use Rattle.exec_driver.specs.Driving.{Driving}
-use Rattle.exec_parts.{specs.{declared.parts.{mail.Reply.Reply, names.Names.Names, record.Record.Record, sleeping.SleeperRecord.SleeperRecord}, Records.number_in}, proofs.{Facts.{by_number, same_Some, set_elsewhere, set_there}, Taken.was_got}}
+use Rattle.exec_parts.{specs.{declared.parts.{mail.Reply.Reply, names.Names.Names, record.Record.Record, sleeping.SleeperRecord.SleeperRecord}, Records.number_in}, proofs.Facts.{by_number, same_Some, set_elsewhere, set_there}}
+use Rattle.exec_invariants.proofs.Taken.{was_got}
 use Rattle.exec_invariants.specs.{Due.AreNapsNamed, Names.IsNamed}
 
 -- a sleeper of the worker stood there under this name

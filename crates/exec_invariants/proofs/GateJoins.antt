@@ -10,7 +10,8 @@ use Rattle.exec_opens.specs.{Opens.{OpenState, joined, open_named, with_named, w
 use Rattle.exec_task.specs.declared.body.Said.{Said}
 use Rattle.exec_machine.specs.{declared.{event.Event.{Event, TheVariants.Turn}}, Progress.Plan, Requests.open_joined_by, World.{no_open, open_of, request_of}}
 use Rattle.exec_moves.specs.{declared.place.{InPoll.InPoll, Place.Place}, State.gate_of}
-use Rattle.exec_parts.{specs.{declared.parts.{mail.Reply.Reply, record.Record.Record, seat.Seat.Seat as Chair, shared.Shared.Shared, task_slot.TaskSlot.TaskSlot, worker.Worker.Worker}, Admitting.{HasPlaceAt, joined_at}, Records.number_in, Spots.Spot, View.{Views, common_of, driver_of, gate_seen, open_seen, things_with, visible, with_view}}, proofs.Facts.{and_parts, same_Some}}
+use Rattle.exec_parts.{specs.{declared.parts.{mail.Reply.Reply, record.Record.Record, seat.Seat.Seat as Chair, shared.Shared.Shared, task_slot.TaskSlot.TaskSlot, worker.Worker.Worker}, Records.number_in, Spots.Spot, View.{Views, common_of, driver_of, gate_seen, open_seen, things_with, visible, with_view}}, proofs.Facts.{and_parts, same_Some}}
+use Rattle.exec_invariants.specs.Admitting.{HasPlaceAt, joined_at}
 use Rattle.exec_invariants.{specs.{Drained.{Duties, IsPool, IsOver, in_set, IsHeldOnce, IsBefore}, Gates.{AreLinedUp, HaveGates, IsKnown, has_hint_at, key_for, may_ask_hint}, Places.{Drops, drops_at, polled_in}, Sound.{HasGuest, IsTied, SoundAt, Stands, served_in}, Spares.Spares, Whole.{HasWhole, IsWhole, Profile, duties_of, with_worker}, Works.{Beside, Steps, Suits, Works}}, proofs.{Aside.{spares_none}, GateLines.{MayJoin, gate_then, gates_joined, hints_joined, joined_in, lined_joined, open_then, place_made}, Gated.{durable_of_file, gate_there, stands_there, ungated_open}, Hearing.unheard, PoolKept.{chosen_other, chosen_own}, Recorded.request_seen, Slots.gates_free, SparedRecord.there_within, Turning.view_found}}
 
 abbrev joins_here : ℕ → ℕ → Place

@@ -8,7 +8,8 @@ use Rattle.exec_waiters.specs.States.{file_of}
 use Rattle.exec_opens.specs.Opens.{OpenState, account_by, account_in}
 use Rattle.exec_driver.specs.Footprints.{bytes_left}
 use Rattle.exec_machine.specs.{declared.state.Operation.Operation, Requests.{asks_hint, with_hint}, Same.same_kind, Tests.is_of_file, World.{Open, no_open}}
-use Rattle.exec_parts.specs.{declared.parts.record.Record.Record, Records.file_named, Serving.is_cancel, Submitting.{is_hinted, takes_hint}, View.{account_seen, open_seen}}
+use Rattle.exec_parts.specs.{declared.parts.record.Record.Record, Records.file_named, Serving.is_cancel, View.{account_seen, open_seen}}
+use Rattle.exec_invariants.specs.Submitting.{is_hinted, takes_hint}
 use Rattle.exec_invariants.{specs.{Carried.HasStretchFor, Flown.is_poll, Gates.{AreLinedUp, has_hint_at, may_ask_hint}}, proofs.{Lined.mapped, SparedRecord.there_within}}
 
 -- ITS OPERATIONS are neither cancels nor the wake poll

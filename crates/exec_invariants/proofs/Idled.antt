@@ -5,7 +5,8 @@ use Rattle.exec_words.specs.Idle.{Idle}
 use Rattle.exec_task.specs.declared.{body.Said.Said, runnable.Runnable.Runnable}
 use Rattle.exec_machine.specs.{declared.{event.Event.{Event, TheVariants.Turn}, state.Next.Next}, Choice.Choice.Plain, Progress.Plan}
 use Rattle.exec_moves.specs.{declared.{place.{InPoll.InPoll, Place.Place}}, Move.move_at, Seen.{next_at, polls_at, serves_at}, Thing.set_idle}
-use Rattle.exec_parts.{specs.{Phased.{IsPhased, closes_at, closing_in, stage_of}, declared.parts.{record.Record.Record, sleeping.SleeperRecord.SleeperRecord, seat.Seat.Seat as Chair, shared.Shared.Shared, task_slot.TaskSlot.TaskSlot, worker.Worker.Worker}, Roles.is_pool, Calls.IsTold, Spots.Spot, View.{common_of, desk_of, driver_of, own_of, things_with, Views}}, proofs.Leaves.with_read}
+use Rattle.exec_parts.specs.{Phased.{IsPhased, closes_at, closing_in, stage_of}, declared.parts.{record.Record.Record, sleeping.SleeperRecord.SleeperRecord, seat.Seat.Seat as Chair, shared.Shared.Shared, task_slot.TaskSlot.TaskSlot, worker.Worker.Worker}, Roles.is_pool, Calls.IsTold, Spots.Spot, View.{common_of, desk_of, driver_of, own_of, things_with, Views}}
+use Rattle.exec_invariants.proofs.Leaves.{with_read}
 use Rattle.exec_invariants.{specs.{Rooted.HearsNext, Flown.HasFlown, Due.IsDue, HoldPlaces.{cancels_at, sends_cancel_at, spare_at}, Kinds.{Kind, kind_of, lowered}, Places.{calls_back_at, has_count_at, in_poll_of, is_pooled_at, is_published_at, or_polls, searches_at, step_of_poll, begins_at, is_armed_at, hands_on_at, has_loot_at, polled_in}, Sound.{Aims, has_wakes_at, HasBatch, HasGuest, HasLetters, HasQueue, HasRunnable, IsHeld, IsInHand, IsLeft, IsLoot, IsSearching, IsSeated, IsTied, LetsGoAt, root_in_hand, Serves, SoundAt, Stops}, Names.tellers, Works.{Steps, Suits}, Whole.IsGenuine}, proofs.{Aside.{seats_same, spares_turn}, Counting.{Counts, SameHands, Stance, stance_at, stance_here, whole_counted}, Turning.{Arrives, GoesOn, IsTurn, OfKind, pool_low, turned}}}
 
 -- what a place says but of search counts and the idle set; and where it is in a poll only within one

@@ -1,3 +1,9 @@
+pub mod Taken
+pub mod Showing
+pub mod Leaves
+pub mod LeafRecords
+pub mod Flying
+pub mod Claiming
 pub mod Hearing
 pub mod Flown
 pub mod Behind

@@ -4,7 +4,8 @@ use Rattle.exec_words.specs.{Inbox.{Inbox, batch_handed, batch_taken}, Reserved.
 use Rattle.exec_task.specs.declared.body.Said.{Said}
 use Rattle.exec_machine.specs.{declared.event.Event.{Event, TheVariants.Turn}, Choice.Choice.Plain}
 use Rattle.exec_moves.specs.{declared.place.{InMail.InMail, Place.Place}, Load.has_mail, Mail.{load_mail_word, take_mail, to_callbacks}, Move.move_at, Seen.polls_at, State.{Moved, inbox_of, turns, word_of}, Thing.{set_inbox, with_inbox, with_word}}
-use Rattle.exec_parts.{specs.{declared.parts.{mail.Subject.Subject, seat.Seat.Seat as Chair, shared.Shared.Shared, worker.Worker.Worker}, Phased.{IsPhased, TurnsChair, stage_of}, Pooled.OfChair, MailPosts.IsMailbox, Spots.Spot, View.{Views, Visible, common_of, desk_of, inbox_at, message_of, own_of, seat_seen, things_of, things_with, visible, with_view}, Things.{Goes, Makes}}, proofs.{Facts.{same_Some, set_there, true_false}, Showing.{map_kept, map_set}}}
+use Rattle.exec_parts.{specs.{declared.parts.{mail.Subject.Subject, seat.Seat.Seat as Chair, shared.Shared.Shared, worker.Worker.Worker}, Phased.{IsPhased, TurnsChair, stage_of}, Pooled.OfChair, MailPosts.IsMailbox, Spots.Spot, View.{Views, Visible, common_of, desk_of, inbox_at, message_of, own_of, seat_seen, things_of, things_with, visible, with_view}, Things.{Goes, Makes}}, proofs.Facts.{same_Some, set_there, true_false}}
+use Rattle.exec_invariants.proofs.Showing.{map_kept, map_set}
 use Rattle.exec_invariants.{specs.{Holding.{IsHolding, Mail, box_of, holder_of, mail_in, mail_of_letters, nap_of, same_mail, thing_of}, Places.{claims_at, drops_at, has_count_at, is_published_at}, Sound.{IsMyMail, IsSeated, SoundAt, AreHome, HasBatch, HasQueue}, Whole.{HasWhole, IsWhole, Profile, hands_of, with_worker}, Works.Steps}, proofs.{AskBoxes.box_there, Aside.{HoldsIn, SameProfile, SparesSeats, beside_calm, queue_of_chair, queues_set, seats_own, seats_same, SameTold}, Dedicated.as_long, Hearing.unheard, Idled.{Fares, Holds, settled}, MailBack.stance, MailMoves.{all_taken, beside_moved}, PoolKept.{gates_same, gates_set}, Turning.{Shares, set_found, turned, word_back_again}, HandedOver.{taken_none, taken_some, handed_none, handed_some, by_list, seats_both, polls_both, my_mail, LeadsOn, told_past}}}
 
 below : (n : ℕ) → n % 2 ^ 29 < 2 ^ 29

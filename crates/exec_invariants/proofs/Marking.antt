@@ -8,7 +8,8 @@ use Rattle.exec_waiters.specs.{States.waiter_at, declared.waiter.Waiter.Waiter}
 use Rattle.exec_driver.specs.Driving.{Driving}
 use Rattle.exec_machine.specs.{declared.config.Configuration.Configuration, Tests.{is_resolved, is_staged}}
 use Rattle.exec_moves.specs.declared.place.InService.{InService}
-use Rattle.exec_parts.{specs.{declared.parts.{mail.Reply.Reply, names.Names.Names, record.Record.Record, sleeping.SleeperRecord.SleeperRecord, worker.Moments.Moments}, Calls.{as_sent, paying, releasing}, Records.number_in, Serving.{AreKnown, changed_in, changed_at, is_one_of}}, proofs.{Flying.{get_changed}}}
+use Rattle.exec_parts.specs.{declared.parts.{mail.Reply.Reply, names.Names.Names, record.Record.Record, sleeping.SleeperRecord.SleeperRecord, worker.Moments.Moments}, Calls.{as_sent, paying, releasing}, Records.number_in, Serving.{AreKnown, changed_in, changed_at, is_one_of}}
+use Rattle.exec_invariants.proofs.Flying.{get_changed}
 use Rattle.exec_invariants.{specs.{Flown.IsPlain, Names.{IsNamed, IsAlike, IsSubmitted}, Due.{IsDue, IsTimed, AreTimed}}}
 
 -- A mark changes only what was paid and released, and that its end was sent elsewhere.

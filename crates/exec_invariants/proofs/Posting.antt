@@ -5,7 +5,8 @@ use Rattle.std.{proofs.{Common.{◌≡◌, ◌++◌, ℕ, Bool, true, false, not
 use Rattle.exec_words.specs.{Inbox.{has_any, is_wake_root}, Word.{asks_signal, next_batch}, declared.{inbox.Message.Message, mailbox.Mailbox.Mailbox as Box, word.PureWord.PureWord}}
 use Rattle.exec_machine.specs.{declared.{event.Event.{Event, TheVariants.{Closed, Send}}, state.MailMessage.{TheVariants.Root}}, Choice.{Choice, Payer, Choice.{Plain, Posts}}, Mail.{has_root_message, is_root_message, posted}, Tests.is_empty, World.{Common, Seat, seat_of}}
 use Rattle.exec_moves.specs.{Send.{Mailbox, posting}, State.{Things, inbox_of}, Thing.{mailbox_of, set_inbox, set_mailbox, set_word}}
-use Rattle.exec_parts.{specs.{declared.parts.{mail.Subject.Subject, seat.Seat.Seat as Chair, shared.Shared.Shared}, Pooled.{HasRootPlace, asks_in, chair_posted, event_posted}, MailPosts.IsMailbox, View.{Views, Visible, inbox_at, message_of, polls_seen, queue_at, seat_seen, things_with, word_at}}, proofs.{Facts.or_right, Showing.{map_kept, map_set, own_word_seen, polls_kept}}}
+use Rattle.exec_parts.{specs.{declared.parts.{mail.Subject.Subject, seat.Seat.Seat as Chair, shared.Shared.Shared}, Pooled.{HasRootPlace, asks_in, chair_posted, event_posted}, MailPosts.IsMailbox, View.{Views, Visible, inbox_at, message_of, polls_seen, queue_at, seat_seen, things_with, word_at}}, proofs.Facts.or_right}
+use Rattle.exec_invariants.proofs.Showing.{map_kept, map_set, own_word_seen, polls_kept}
 use Rattle.exec_invariants.{specs.{Holding.Mail, Spares.SparesChair}, proofs.{Aside.spared, Turning.set_found}}
 
 -- WHAT STANDS IN AN INBOX, and what is seen of it

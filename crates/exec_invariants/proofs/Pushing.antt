@@ -5,7 +5,8 @@ use Rattle.exec_words.specs.{Head.{is_spent}, Queue.{Queue, fit_of, head_of, new
 use Rattle.exec_task.specs.declared.{body.Said.Said, runnable.Runnable.Runnable}
 use Rattle.exec_machine.specs.{declared.{event.Event.{Event, TheVariants.Turn}}, Choice.Choice.Plain, Progress.Plan}
 use Rattle.exec_moves.specs.{declared.{handing.{AfterKick.AfterKick, AfterPush.AfterPush, InGlobal.InGlobal, InKick.InKick, InPush.InPush}, place.Place.Place}, Move.move_at, Parts.has_others, Pop.same_head, Push.{after_fit, flow_over, in_hand, load_push_head, store_oldest, store_value}, State.{Moved, queue_of, turns}, Thing.with_queue}
-use Rattle.exec_parts.{specs.{Tests.after_push_of, declared.parts.{seat.Seat.Seat as Chair, shared.Shared.Shared, worker.Worker.Worker}, Phased.TurnsChair, Pooled.{OfChair, overflowed_if, with_overflow}, Spots.Spot, View.{Views, common_of, desk_of, own_of, queue_seen, tasks_of, things_of, things_with}, Things.{Goes, Makes}}, proofs.{Facts.same_number, Showing.own_queue_seen, Claiming.same_heads}}
+use Rattle.exec_parts.{specs.{Tests.after_push_of, declared.parts.{seat.Seat.Seat as Chair, shared.Shared.Shared, worker.Worker.Worker}, Phased.TurnsChair, Pooled.{OfChair, overflowed_if, with_overflow}, Spots.Spot, View.{Views, common_of, desk_of, own_of, queue_seen, tasks_of, things_of, things_with}, Things.{Goes, Makes}}, proofs.Facts.same_number}
+use Rattle.exec_invariants.proofs.{Showing.own_queue_seen, Claiming.same_heads}
 use Rattle.exec_invariants.{specs.{Places.{begins_at, has_loot_at}, Sound.{HasQueue, SoundAt}, Whole.{HasWhole, IsGenuine, queued, runnables_in}, Works.{Steps, Suits}}, proofs.{PushLeads.{ArrivesAt, CarriesNone, push_reaches}, Handed.{IsPushFor, PushNext, push_seen}, Aside.told_on, Queued.{hands_of, whole_queued}, Queueing.{Reaches, around_own, hands_own, if_either, poses, requeued_own}, Thieves.{in_both, in_parts, left_from, published_seen, taken_from}, Turning.{GoesOn, set_found}}}
 
 -- THE QUEUE THAT IS SEEN

@@ -4,7 +4,8 @@ use Rattle.exec_words.specs.{Queue.Queue, Reserved.Reserved}
 use Rattle.exec_task.specs.declared.{body.Said.Said, runnable.Runnable.Runnable}
 use Rattle.exec_machine.specs.{declared.{event.Event.{Event, TheVariants.Turn}, state.Next.Next}, Choice.Choice.Plain, Progress.Plan}
 use Rattle.exec_moves.specs.{declared.place.Place.Place, Move.move_at, Seen.{next_at, polls_at, serves_at}, Thing.set_queue}
-use Rattle.exec_parts.{specs.{Roles.is_pool, declared.parts.{seat.Seat.Seat as Chair, shared.Shared.Shared, worker.Worker.Worker}, Phased.{closes_at, closing_in, IsPhased, Stage, stage_of}, Spots.Spot, View.{Views, common_of, desk_of, own_of, queue_seen, seats_seen, things_with}}, proofs.{Facts.{by_number, set_elsewhere, set_there}, Showing.{map_kept, queue_shows, seats_kept}}}
+use Rattle.exec_parts.{specs.{Roles.is_pool, declared.parts.{seat.Seat.Seat as Chair, shared.Shared.Shared, worker.Worker.Worker}, Phased.{closes_at, closing_in, IsPhased, Stage, stage_of}, Spots.Spot, View.{Views, common_of, desk_of, own_of, queue_seen, seats_seen, things_with}}, proofs.Facts.{by_number, set_elsewhere, set_there}}
+use Rattle.exec_invariants.proofs.Showing.{map_kept, queue_shows, seats_kept}
 use Rattle.exec_invariants.{specs.{Gates.HaveGates, Holding.box_of, Kinds.{Kind, lowered}, Places.{claims_at, drops_at, has_count_at, has_loot_at, is_armed_at, is_pooled_at, is_published_at, one_if, searches_at, step_of_poll, in_poll_of, begins_at, hands_on_at, polled_in}, Sound.{Aims, HasBatch, HasQueue, IsLoot, IsSeated, IsSearching, SoundAt, has_wakes_at, IsTied, HasRunnable, root_in_hand, IsInHand, IsHeld}, Whole.{HasOne, IsGenuine, IsWhole, Profile, claimed_count, duties_of, is_number, may_let_go, queued, runnables_in, stock, with_worker}, Works.{Steps, Suits}}, proofs.{Aside.{hands_same, SameTold, spares_turn, SparesSeats}, Counting.Stance, Idled.{calm_of, guest_again, guest_calm, Settles, step_again, stops_again, stops_calm, step_if}, PoolKept.{drops_same, gates_set, pool_of, pool_seats}, Turning.{Arrives, GoesOn, IsTurn, lower_on, OfKind, pool_low, turned}}}
 
 -- SUMS

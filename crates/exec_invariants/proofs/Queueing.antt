@@ -5,7 +5,8 @@ use Rattle.exec_words.specs.{Global.Global, Queue.{Queue, tail_of}}
 use Rattle.exec_task.specs.declared.{body.Said.Said, runnable.Runnable.Runnable}
 use Rattle.exec_machine.specs.{declared.{config.Configuration.Configuration, event.Event.{Event, TheVariants.Turn}, state.Next.Next}, Choice.Choice.Plain, Progress.Plan}
 use Rattle.exec_moves.specs.{declared.place.Place.Place, Move.move_at, Seen.{next_at, polls_at, serves_at}, State.{Moved, Things}, Thing.{set_global, set_queue, with_queue}}
-use Rattle.exec_parts.{specs.{Roles.is_pool, declared.parts.{seat.Seat.Seat as Chair, shared.Shared.Shared, task_slot.TaskSlot.TaskSlot, worker.Worker.Worker}, Phased.{IsPhased, closes_at, closing_in, stage_of}, Calls.IsTold, MailPosts.IsMailbox, Spots.Spot, View.{Views, common_of, desk_of, driver_of, inbox_at, own_of, polls_seen, queue_at, queue_seen, seats_seen, tasks_of, things_with, word_at}}, proofs.{Facts.set_there, Showing.{queue_shows, seats_kept}}}
+use Rattle.exec_parts.{specs.{Roles.is_pool, declared.parts.{seat.Seat.Seat as Chair, shared.Shared.Shared, task_slot.TaskSlot.TaskSlot, worker.Worker.Worker}, Phased.{IsPhased, closes_at, closing_in, stage_of}, Calls.IsTold, MailPosts.IsMailbox, Spots.Spot, View.{Views, common_of, desk_of, driver_of, inbox_at, own_of, polls_seen, queue_at, queue_seen, seats_seen, tasks_of, things_with, word_at}}, proofs.Facts.set_there}
+use Rattle.exec_invariants.proofs.Showing.{queue_shows, seats_kept}
 use Rattle.exec_invariants.{specs.{HoldPlaces.spare_at, Gates.HaveGates, Rooted.HearsNext, Due.IsDue, Flown.HasFlown, Kinds.{Kind, kind_of}, Places.{begins_at, calls_back_at, claims_at, drops_at, hands_on_at, has_count_at, has_loot_at, in_poll_of, is_armed_at, is_pooled_at, is_published_at, searches_at, step_of_poll, task_at}, Sound.{Aims, has_wakes_at, HasBatch, HasGuest, HasLetters, HasQueue, HasRunnable, IsHeld, IsInHand, IsLeft, IsLoot, IsSearching, IsSeated, IsTied, LetsGoAt, root_in_hand, Serves, SoundAt, Stops}, Names.tellers, Whole.{HasOne, IsGenuine, IsWhole, Profile, claimed_count, may_let_go, runnables_in, stock, with_worker}, Works.{Steps, Suits}}, proofs.{Dedicated.as_long, Aside.{hands_same, SameTold, seats_own, seats_same, spares_turn}, Idled.{guest_again, guest_calm, step_again, step_if, stops_again, stops_calm}, PoolKept.{drops_same, pool_of}, Queued.{Hands, hands_of}, Turning.{Arrives, GoesOn, IsTurn, turned}}}
 
 -- THE BALANCES

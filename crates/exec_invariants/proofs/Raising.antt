@@ -5,7 +5,8 @@ use Rattle.exec_driver.specs.{Driving.Driving, Placed.ListsRequests}
 use Rattle.exec_task.specs.declared.body.Said.{Said}
 use Rattle.exec_machine.specs.{declared.{config.Configuration.Configuration, event.Event.Event, state.Rest.Rest}, Tests.AllTrue, Allowed.allowed, After.{own_after, common_after}, Progress.Plan, World.{Common, Own}}
 use Rattle.exec_moves.specs.{declared.{place.{Place.Place}}, Move.move, State.{Moved, Things, no_wake_poll, wake_poll_of}, Thing.set_wake_poll}
-use Rattle.exec_parts.{specs.{declared.parts.{mail.Reply.Reply, seat.Seat.Seat as Chair, shared.Shared.Shared, worker.Worker.Worker}, Phased.{IsPhased, closes_at, closing_in, stage_of}, Pooled.with_raises, Raises.TakesRaises, Spots.Spot, Submitting.must_flush, View.{Views, Visible, visible, with_view, driver_of, own_of, desk_of, common_of, inbox_at, polls_seen, queue_at, raised_times, seat_seen, seats_seen, things_with, word_at}}, proofs.{Facts.{by_number, set_elsewhere, set_there}, Showing.{map_kept, polls_kept}}}
+use Rattle.exec_parts.{specs.{declared.parts.{mail.Reply.Reply, seat.Seat.Seat as Chair, shared.Shared.Shared, worker.Worker.Worker}, Phased.{IsPhased, closes_at, closing_in, stage_of}, Pooled.with_raises, Spots.Spot, View.{Views, Visible, visible, with_view, driver_of, own_of, desk_of, common_of, inbox_at, polls_seen, queue_at, raised_times, seat_seen, seats_seen, things_with, word_at}}, proofs.Facts.{by_number, set_elsewhere, set_there}}
+use Rattle.exec_invariants.{specs.{Raises.TakesRaises, Submitting.must_flush}, proofs.Showing.{map_kept, polls_kept}}
 use Rattle.exec_invariants.{specs.{Holding.box_of, Places.is_armed_at, Sound.{Aims, AreHome, HasQueue, IsSeated, Sound, SoundAt}, Spares.Spares, Works.{Beside, Works, Suits, Steps}}, proofs.{Aside.{SameProfile, beside_calm, queues_set, seats_own}, PoolKept.gates_set, Ringed.{SameIn, sound_ring}, Shown.{own_with, desk_with}, Swept.{RaisesTo, raises_to}}}
 use Rattle.exec_invariants.proofs.HandedOver.{seats_both}
 use Rattle.exec_invariants.proofs.Rousing.{poll_there}

@@ -1,7 +1,8 @@
 -- What tasks hold, where a message to a root joins an inbox: all that is told of requests and sleepers is as it was.
 use Rattle.std.proofs.{Common.{◌≡◌, ℕ, ◌⊎◌, inl, inr, false, Contains, List, [], ◌∷◌, ◌++◌, length, map, Option, Some, None, refl, sym, ap, subst, ◌∙◌, arith, slice_get, slice_set, option_map}, lemmas.{List.{length-set, Elements.Contains-push_cases, Sums.sum_by-append}, Option.slice_get-map}}
 use Rattle.exec_words.specs.declared.inbox.Message.{Message}
-use Rattle.exec_parts.{specs.declared.parts.{mail.Subject.Subject, seat.Seat.Seat as Chair}, proofs.{Facts.{by_number, same_Some, set_elsewhere, set_there}, Showing.map_set}}
+use Rattle.exec_parts.{specs.declared.parts.{mail.Subject.Subject, seat.Seat.Seat as Chair}, proofs.Facts.{by_number, same_Some, set_elsewhere, set_there}}
+use Rattle.exec_invariants.proofs.Showing.{map_set}
 use Rattle.exec_invariants.{specs.Holding.{Box, Hands, HasPlace, Holder, IsAbout, IsClosing, IsHolding, Mail, Nap, Owes, Thing, box_of, same_mail, under_way}, proofs.{HoldRedo.sum_set, Posting.{Arrival, IsArrival, chair_by}, Turning.set_found}}
 
 -- such a box

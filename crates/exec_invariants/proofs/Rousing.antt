@@ -1,7 +1,8 @@
 -- What a seat keeps whose wake word was signalled or whose wait was ended, and what is seen of that.
 use Rattle.std.proofs.{Common.{◌≡◌, ℕ, zero, suc, ◌+◌, ◌-◌, ◌^◌, ◌≤◌, ◌⊎◌, inl, inr, Bool, true, false, List, [], ◌∷◌, min, Some, refl, sym, ap, ◌∙◌, arith, slice_get, slice_set, lit≤, if◌then◌else◌}, lemmas.{List.length-set, Option.get_or_from_slice_get}}
 use Rattle.exec_moves.specs.{Claim.raised_if, State.{WakePoll, no_wake_poll, raised, wake_poll_of}, Thing.set_wake_poll}
-use Rattle.exec_parts.{specs.{declared.parts.{seat.Seat.Seat as Chair, shared.Shared.Shared}, Phased.stage_of, Pooled.chair_raised, MailPosts.IsMailbox, View.{Views, Visible, polls_seen, raised_times, things_with}}, proofs.{Facts.{by_number, set_elsewhere, set_there}, Showing.map_kept}}
+use Rattle.exec_parts.{specs.{declared.parts.{seat.Seat.Seat as Chair, shared.Shared.Shared}, Phased.stage_of, Pooled.chair_raised, MailPosts.IsMailbox, View.{Views, Visible, polls_seen, raised_times, things_with}}, proofs.Facts.{by_number, set_elsewhere, set_there}}
+use Rattle.exec_invariants.proofs.Showing.{map_kept}
 use Rattle.exec_invariants.{specs.Sound.IsSeated, proofs.Dedicated.as_long}
 
 -- A SEAT THAT KEEPS what its worker goes by

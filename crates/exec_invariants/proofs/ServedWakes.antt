@@ -4,7 +4,8 @@ use Rattle.exec_base.specs.declared.task_no.TaskNo.{TaskNo}
 use Rattle.exec_outcomes.specs.declared.outcome.Outcome.{Outcome}
 use Rattle.exec_waiters.specs.Told.{tasks_of}
 use Rattle.exec_moves.specs.declared.place.Place.{Place}
-use Rattle.exec_parts.{specs.{declared.parts.{record.Record.Record, shared.Shared.Shared, worker.Worker.Worker}, Serving.{changed_at, changed_in}}, proofs.{Facts.same_number, Showing.map_set}}
+use Rattle.exec_parts.{specs.{declared.parts.{record.Record.Record, shared.Shared.Shared, worker.Worker.Worker}, Serving.{changed_at, changed_in}}, proofs.Facts.same_number}
+use Rattle.exec_invariants.proofs.Showing.{map_set}
 use Rattle.exec_invariants.{specs.{Holding.{Hands, IsHolding, box_of, holder_of, nap_of, thing_of}, Places.passes_at, Whole.{IsWhole, Profile, hands_of, wakes_with, with_worker}}, proofs.{Lined.mapped, ServedHolders.{WakesMore, holding_ended}, ServedEnds.{count_both, count_none, count_one}, Serving.{Balances, SparesRecords, gates_still, hands_served}, ServingHolds.Serves}}
 
 -- a request that ends: whose it is, and who is woken by that

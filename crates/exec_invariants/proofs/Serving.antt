@@ -4,7 +4,8 @@ use Rattle.exec_driver.specs.Driving.{seen}
 use Rattle.exec_task.specs.{TaskSet.Set, declared.runnable.Runnable.Runnable}
 use Rattle.exec_machine.specs.Tests.{is_at_large}
 use Rattle.exec_moves.specs.{declared.place.Place.Place, Seen.polls_at}
-use Rattle.exec_parts.{specs.{Calls.IsTold, declared.parts.{mail.Subject.Subject, record.Record.Record, sleeping.SleeperRecord.SleeperRecord, seat.Seat.Seat as Chair, shared.Shared.Shared, task_slot.TaskSlot.TaskSlot, worker.Worker.Worker}, Phased.{IsPhased, closes_at, closing_in, stage_of}, Roles.is_pool, Serving.changed_at, View.{letters_in, own_of}}, proofs.{Facts.{by_number, not_same, set_elsewhere, set_there}, Showing.map_kept}}
+use Rattle.exec_parts.{specs.{Calls.IsTold, declared.parts.{mail.Subject.Subject, record.Record.Record, sleeping.SleeperRecord.SleeperRecord, seat.Seat.Seat as Chair, shared.Shared.Shared, task_slot.TaskSlot.TaskSlot, worker.Worker.Worker}, Phased.{IsPhased, closes_at, closing_in, stage_of}, Roles.is_pool, Serving.changed_at, View.{letters_in, own_of}}, proofs.Facts.{by_number, not_same, set_elsewhere, set_there}}
+use Rattle.exec_invariants.proofs.Showing.{map_kept}
 use Rattle.exec_invariants.{specs.{Sound.{HasBatch, HasGuest, HasLetters, HasQueue, HasRunnable, IsHeld, IsInHand, IsLeft, IsLetter, IsLoot, IsMineIn, IsMyMail, IsSearching, IsSeated, IsTied, LetsGoAt, SoundAt, Stops, Serves as ServesTask, root_in_hand}, Names.tellers, Carried.HasRoom, Drained.{Duties, IsBefore, IsOver, IsPool, in_set}, Gates.{AreLinedUp, HaveGates, has_hint_at}, Holding.{Hands, IsHolding, Mail, holder_of, nap_of, thing_of, box_of}, HoldPlaces.{cancels_at, heard_at, sends_cancel_at, spare_at}, Places.{Drops, begins_at, passes_at, calls_back_at, claims_at, clears_at, drops_at, hands_on_at, has_count_at, is_armed_at, is_number, is_pooled_at, is_published_at, joins_at, one_if, or_polls, polled_in, removes_at, searches_at, step_of_poll, task_at}, Rooted.HearsNext, Spares.{RecordsEndure, SleeperEndures, SleepersEndure, Spares, SparedRecords, SparesSleepers, SparedSleepers, SparesRecord}, Whole.{IsWhole, Profile, duties_of, hands_of, wakes_with, with_worker}, Works.Beside}, proofs.{Aside.{spares_none}, Lined.{KeepsLines, SameAtGate, SameLines, gates_kept, gates_opens, lined_kept, lined_opens, lines_changed, lines_same, now, opens_same}, Marking.{mark_if, marked, was_marked}, SparedRecord.{sleeper_spared, spared_same}, Spared.sleepers_endure, ServingPlaces.{is_calm, IsCalm, calm}, ServingHolds.{OthersKept, Serves, Keeps, nap_sent}}}
 
 module _ {B : Type 0} where

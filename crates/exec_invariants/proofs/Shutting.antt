@@ -4,7 +4,8 @@ use Rattle.std.proofs.lemmas.Bool.{or_right}
 use Rattle.exec_words.specs.{Queue.Queue, Reserved.Reserved}
 use Rattle.exec_task.specs.{TaskSet.shard_at, declared.{runnable.Runnable.Runnable, task.Phase.Phase}}
 use Rattle.exec_moves.specs.{Pop.shard_count, declared.place.{InClosing.InClosing, Place.Place}, Seen.polls_at}
-use Rattle.exec_parts.{specs.{declared.parts.{seat.Seat.Seat as Chair, shared.Shared.Shared, task_slot.TaskSlot.TaskSlot, worker.Worker.Worker}, Phased.{IsPhased, closes_at, closing_in, stage_of}, Roles.is_pool, Calls.IsTold, View.{Views, driver_of, inbox_at, polls_seen, queue_at, things_with, word_at}}, proofs.{Facts.{by_number}, Showing.{map_kept, polls_kept}}}
+use Rattle.exec_parts.{specs.{declared.parts.{seat.Seat.Seat as Chair, shared.Shared.Shared, task_slot.TaskSlot.TaskSlot, worker.Worker.Worker}, Phased.{IsPhased, closes_at, closing_in, stage_of}, Roles.is_pool, Calls.IsTold, View.{Views, driver_of, inbox_at, polls_seen, queue_at, things_with, word_at}}, proofs.Facts.by_number}
+use Rattle.exec_invariants.proofs.Showing.{map_kept, polls_kept}
 use Rattle.exec_invariants.{specs.{Drained.{Duties, IsPool}, Due.{AreAsleep, IsDue}, Flown.HasFlown, Gates.HaveGates, Holding.{IsHolding, Mail, box_of, holder_of, mail_in, mail_of_letters, nap_of, thing_of}, HoldPlaces.{cancels_at, heard_at, sends_cancel_at, spare_at}, Places.{begins_at, calls_back_at, claims_at, drops_at, hands_on_at, has_count_at, has_loot_at, in_poll_of, is_armed_at, is_pooled_at, is_published_at, polled_in, searches_at, step_of_poll, task_at, one_if}, Rooted.HearsNext, Sound.{Aims, AreHome, HasBatch, HasGuest, HasLetters, HasQueue, HasRunnable, IsHeld, IsInHand, IsLeft, IsLoot, IsMyMail, IsSearching, IsSeated, IsTied, LetsGoAt, Serves, SoundAt, Stops, has_wakes_at, root_in_hand, served_in}, Names.tellers, Spares.{Spares, SparesChair}, Whole.{HasOne, IsGenuine, IsWhole, Profile, duties_of, may_let_go, queued, runnables_in, stock, with_worker}, Works.Beside}, proofs.{Aside.{SparesSeats, length_same, queue_back, queue_of_chair, stock_same, spares_none}, Onces.has_fewer, PoolClosing.pool_set, PoolKept.{KeepsGates, pool_of, pool_seats}, SparedRecord.there_within}}
 
 -- what is shown of these views is shown of those

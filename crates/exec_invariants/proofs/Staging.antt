@@ -10,7 +10,8 @@ use Rattle.exec_lists.{specs.Lists.{has_first, first_of, rest_of, is_among}, pro
 use Rattle.exec_task.specs.declared.body.Said.{Said}
 use Rattle.exec_machine.specs.{declared.{config.Configuration.Configuration, event.Event.{Event, TheVariants.Cancel}}, Progress.Plan, Ranges.ring_size, Same.is_number, Tests.{is_empty, is_in_flight, is_staged}, World.{Common, request_of}}
 use Rattle.exec_moves.specs.{Callback.is_full, Load.may_stage, Move.move_submit, Submit.{due_next, staging_due, first_due, one_more, submits, Due.Cancels}, declared.place.{Service.Service, Place.Place, InService.InService}}
-use Rattle.exec_parts.{specs.{declared.parts.{mail.Reply.Reply, names.Names.Names, record.Record.Record, sleeping.SleeperRecord.SleeperRecord, shared.Shared.Shared, worker.Worker.Worker}, Records.number_in, Serving.{AreTagged, cancels_in, changed_at}, Spots.Spot, Submitting.{AreNamed, StagesCancel, must_flush}, View.{Views, visible, with_view, own_of, desk_of, driver_of, common_of, seat_seen, things_with, numbers_of}}, proofs.Facts.not-false}
+use Rattle.exec_parts.{specs.{declared.parts.{mail.Reply.Reply, names.Names.Names, record.Record.Record, sleeping.SleeperRecord.SleeperRecord, shared.Shared.Shared, worker.Worker.Worker}, Records.number_in, Serving.{AreTagged, cancels_in, changed_at}, Spots.Spot, View.{Views, visible, with_view, own_of, desk_of, driver_of, common_of, seat_seen, things_with, numbers_of}}, proofs.Facts.not-false}
+use Rattle.exec_invariants.specs.Submitting.{AreNamed, StagesCancel, must_flush}
 use Rattle.exec_invariants.{specs.{Flown.{HasFlown, IsPlain, ends_in, operations, AreLanded}, Holding.{nap_of, thing_of}, Places.{one_if, passes_at}, Sound.{SoundAt, served_in}, Names.{IsAlike, IsNamed, IsSubmitted}, Submits.IsIdle, Works.{Suits, Steps}}, proofs.{Going.{owning_on, GoesOn, same_worker}, Marking.{known_then, plain_kept, mark_if, marked, was_marked}, Serving.{at_large, balances_still, SparesRecords, spares_one}, ServingHolds.{serves_to, IsServed, OthersKept, Follows, Serves, Keeps, KeepsBy, keeps_all}, Recorded.request_seen, Carries.carried_marked, Changing.{OneGoesOn, keeps_one, others_there, all_go_one}, Conveying.carried_beside, Flown.landed_on, Idling.{comes_to_staging, none_due}, Gated.none_gated, Keeping.polls_same, Known.known_marked, Lined.{map_changed, opens_same}, Seeing.{makes, shows, served, common_changed, common_same, ring_again, things_kept}}}
 
 -- WHAT IS SEEN

@@ -11,7 +11,8 @@ use Rattle.exec_lists.specs.Lists.{first_of, is_among}
 use Rattle.exec_opens.specs.Opens.{OpenState}
 use Rattle.exec_machine.specs.{declared.state.{Request.Request, RequestPhase.RequestPhase}, Requests.is_enrolled, Tests.{is_gated, is_in_flight, is_resolved}}
 use Rattle.exec_moves.specs.declared.place.Service.{Service}
-use Rattle.exec_parts.specs.{declared.parts.{mail.Reply.Reply, record.Record.Record, shared.Shared.Shared, worker.Worker.Worker}, Records.number_in, Serving.{AreKnown, AreTagged, cancels_in, is_cancel}, Submitting.staged_with, View.driver_of}
+use Rattle.exec_parts.specs.{declared.parts.{mail.Reply.Reply, record.Record.Record, shared.Shared.Shared, worker.Worker.Worker}, Records.number_in, Serving.{AreKnown, AreTagged, cancels_in, is_cancel}, View.driver_of}
+use Rattle.exec_invariants.specs.Submitting.{staged_with}
 use Rattle.exec_invariants.{specs.{Flown.IsPlain, Names.IsAlike, Submits.IsIdle}, proofs.{Going.GoesOn, Marking.mark_if, Staging.among_first}}
 
 -- ITS PHASE

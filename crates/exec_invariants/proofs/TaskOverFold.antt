@@ -3,7 +3,8 @@ use Rattle.std.proofs.{Common.{◌≡◌, ◌≢◌, ℕ, zero, suc, ◌+◌, �
 use Rattle.exec_outcomes.specs.{Accounts.is_durable}
 use Rattle.exec_machine.specs.{declared.state.{Letter.Letter, Request.Request, RequestPhase.{RequestPhase, TheVariants.{Resolved}}}, Requests.{dropped, ends_by_drop, own_after_drop}, Tasks.{own_after_drops, owes as owes_letter, requests_after_drops}, Tests.{is_queued, is_resolved}, World.{Common, Own, no_request, request_of}}
 use Rattle.exec_moves.specs.{State.Desk, Told.{lets_go_request, lets_go_requests, told_of_drop}}
-use Rattle.exec_parts.{specs.{declared.parts.{held.Held.Held, record.Record.Record, shared.Shared.Shared, worker.Worker.Worker}, Awaits.{LetsGo, drops}, Ending.{LetsGoAll, LetsGoOne.{here, elsewhere}, others_of}, Records.{numbers_held}, Serving.{changed_at, changed_in}, View.{desk_of, letter_of_request, own_of, visible}}, proofs.{Facts.{by_number, not_same, same_Some, set_elsewhere, set_there}, Showing.map_set}}
+use Rattle.exec_parts.{specs.{declared.parts.{held.Held.Held, record.Record.Record, shared.Shared.Shared, worker.Worker.Worker}, Awaits.{LetsGo, drops}, Ending.{LetsGoAll, LetsGoOne.{here, elsewhere}, others_of}, Records.numbers_held, Serving.{changed_at, changed_in}, View.{desk_of, letter_of_request, own_of, visible}}, proofs.Facts.{by_number, not_same, same_Some, set_elsewhere, set_there}}
+use Rattle.exec_invariants.proofs.Showing.{map_set}
 use Rattle.exec_invariants.{specs.{Gates.{AreLinedUp}, Holding.thing_of, Sound.served_in}, proofs.{HoldRedo.count_set, HoldSteps.held_in, Keys.{name_in, names_changed}, Lined.{KeepsLines, SameAtGate, lined_kept, lines_changed, lines_on, lines_same, mapped}, ServingHolds.Keeps, TaskOverHolds.{LetsThing, things_then, thing_same}}}
 
 -- ONE REQUEST that nobody holds any more

@@ -4,7 +4,8 @@ use Rattle.std.proofs.{Common.{◌≡◌, ◌≢◌, inr, ℕ, ◌==◌, ◌||�
 use Rattle.std.proofs.Common.{arith}
 use Rattle.exec_machine.specs.{declared.state.{Letter.Letter, MailMessage.TheVariants.CancelTimer, Sleeper.Sleeper, Waiting.Waiting}, Tasks.{own_after_drops, own_after_waking_up, owes as owes_letter, removed as removed_sleeper, requests_after_drops, sleepers_after_waking_up}, World.{Common, Own, no_sleeper, sleeper_of}}
 use Rattle.exec_moves.specs.{State.Desk, Told.{lets_go_requests, lets_go_sleep, lets_go_timer, told_of_cancel}}
-use Rattle.exec_parts.{specs.{declared.parts.{held.Held.Held, letters.Letters.Letters, record.Record.Record, shared.Shared.Shared, sleeping.SleeperRecord.SleeperRecord, worker.Worker.Worker}, Calls.sleeper_removed, Ending.{LetsGoAll, LetsWaiting, others_of}, MailTakes.RemovesSleeper, Records.numbers_held, View.{desk_of, letter_of_request, letter_of_timer, letters_in, own_of, visible}}, proofs.{Facts.{by_number, not_same, same_Some, set_elsewhere, set_there}, Showing.{map_kept, map_set}}}
+use Rattle.exec_parts.{specs.{declared.parts.{held.Held.Held, letters.Letters.Letters, record.Record.Record, shared.Shared.Shared, sleeping.SleeperRecord.SleeperRecord, worker.Worker.Worker}, Calls.sleeper_removed, Ending.{LetsGoAll, LetsWaiting, others_of}, MailTakes.RemovesSleeper, Records.numbers_held, View.{desk_of, letter_of_request, letter_of_timer, letters_in, own_of, visible}}, proofs.Facts.{by_number, not_same, same_Some, set_elsewhere, set_there}}
+use Rattle.exec_invariants.proofs.Showing.{map_kept, map_set}
 use Rattle.exec_invariants.{specs.{Gates.AreLinedUp, Holding.{awaited_in, nap_of, thing_of}, Sound.served_in, Spares.SleeperEndures}, proofs.{HoldRedo.{count_set, set_on, set_back}, Keys.name_in, Lined.{KeepsLines, mapped, opens_same, now}, ServingHolds.Keeps, Serving.SparesRecords, Spared.sleepers_endure, TaskOverFold.{AllLet, HoldsAll, LetsSeen, SeesAll, let_all, letters_for, own_in}, TaskOverHolds.{LetsNap, LetsThing, nap_same}}}
 use Rattle.exec_parts.specs.declared.parts.mail.Subject.TheVariants as subject
 

@@ -3,7 +3,7 @@ use Rattle.std.proofs.{Common.{[], ◌≡◌, ◌≢◌, ℕ, ◌+◌, ◌*◌, 
 use Rattle.exec_task.specs.declared.{body.Said.Said, runnable.Runnable.Runnable}
 use Rattle.exec_machine.specs.{declared.{event.Event.{Event, TheVariants.Turn}, state.Next.Next}, Choice.Choice.Plain, Progress.Plan}
 use Rattle.exec_moves.specs.{declared.place.{Place.Place, InService.InService}, State.{Things, no_queue, no_word, queue_of, word_of}, Thing.{set_queue, set_word}, Move.move_at, Seen.{polls_at, next_at, serves_at}}
-use Rattle.exec_parts.proofs.Leaves.{with_read}
+use Rattle.exec_invariants.proofs.Leaves.{with_read}
 use Rattle.exec_parts.specs.{declared.parts.{role.Role.Role, seat.Seat.Seat as Chair, shared.Shared.Shared, task_slot.TaskSlot.TaskSlot, worker.{Worker.Worker, Moments.Moments}}, Phased.{IsPhased, closes_at, closing_in, stage_of}, Roles.is_pool, Calls.IsTold, Spots.Spot, View.{Views, Visible, with_view, driver_of, own_of, owed_at, desk_of, common_of, seats_seen, things_with}, Things.Goes}
 use Rattle.exec_invariants.{specs.{Rooted.HearsNext, HoldPlaces.{cancels_at, heard_at, sends_cancel_at, spare_at}, Due.{IsDue, IsWheelAt, wheel_moment}, Flown.HasFlown, Kinds.{Kind, kind_of, lowered}, Places.{begins_at, calls_back_at, hands_on_at, has_loot_at, in_poll_of, is_armed_at, is_pooled_at, or_polls, polled_in, searches_at, step_of_poll, task_at}, Sound.{Aims, AreHome, has_wakes_at, HasBatch, HasGuest, HasLetters, HasQueue, HasRunnable, IsHeld, IsInHand, IsInTime, IsLeft, IsLoot, IsSearching, IsSeated, IsTied, LetsGo, LetsGoAt, root_in_hand, served_in, Serves, SoundAt, Stops}, Names.tellers, Whole.IsGenuine, Works.{Beside, Suits, Steps}}, proofs.{Dedicated.by_length, Hearing.unheard}}
 

@@ -1,3 +1,6 @@
+pub mod Submitting
+pub mod Raises
+pub mod Admitting
 pub mod Hearing
 pub mod Ordered
 pub mod Due

@@ -1,14 +1,29 @@
-//! Which function takes the next step of the callbacks. What each does, `exec_parts::callbacks` says.
+//! The callbacks: what a service, an act or a closing left to be told and let go, one item a step.
+//!
+//! Nothing is added to the batch while it is worked off: only this worker adds to what it has to tell, and it does
+//! nothing else meanwhile. So the batch is what there is. Wakes come first, then outputs that nobody takes, then what
+//! requests owned that are over, then the ends of sleepers and the outputs that are sent to tasks elsewhere, each with
+//! the wake of its task.
+//!
+//! A wake is paid by what its task waits for: a task waits for one thing at a time, so that is the thing that has ended.
 
-ghost use Rattle.std.specs.Prelude.{◌+◌, ◌<◌};
 ghost use Rattle.exec_invariants.specs.{Sound.SoundAt, Whole.HasWhole, Works.Steps};
+ghost use Rattle.std.specs.Prelude.{◌+◌, ◌<◌, ◌≡◌, ℕ, ◌≤◌, [], length, drop, slice_get, Some, if◌then◌else◌};
+ghost use Rattle.std.specs.{Vec.vec_capacity, VecDeque.deque_capacity};
+ghost use Rattle.exec_parts.specs.{Calls.{IsUnpaid, KeepsRoom, releasing, IsTold}, MailTakes.{IsSentEnd, IsSentOutput, MaySendEnd, MaySendOutput, MayWakeNext, WakesHearer, WakesNext, WakesWaiter, after_sending_of, queued_after, thing_heard}, Serving.changed_at, Tests.{after_callbacks_of, is_anything_told, leave_of, next_callback_of}};
 
 use exec_machine::event::Event;
-use exec_moves::handing::AfterCallbacks;
+use exec_machine::state::Waiting;
+use exec_moves::handing::{AfterCallbacks, AfterLeave, AfterPush, Heard};
 use exec_moves::place::{InCallbacks, Place};
+use exec_parts::parts::mail::Reply;
 use exec_parts::parts::shared::Shared;
 use exec_parts::parts::worker::Worker;
 use exec_parts::scripted::Scripted;
+use exec_parts::waking::pay;
+use exec_task::runnable::Runnable;
+use exec_time::notes::ForwardedResult;
+use exec_waiters::deferred::Answer;
 
 /// Takes the next step of the callbacks. The caller must know that the worker is at this place and sound with what all
 /// share, and that the balances of all parties hold.
@@ -23,9 +38,9 @@ pub fn callbacks<B: Scripted + Drop>(
     ensures steps { Steps B.left B.spot worker.old shared.old result worker.new shared.new }
 {
     match at {
-        InCallbacks::TakeBatch => worker.take_batch(next),
+        InCallbacks::TakeBatch => take_batch(worker, next),
         InCallbacks::CallBack => call_back(worker, next, shared),
-        InCallbacks::WakeWaiter { task, of } => worker.wake_hearer(task, of, next, shared),
+        InCallbacks::WakeWaiter { task, of } => wake_hearer(worker, task, of, next, shared),
     }
 }
 
@@ -40,16 +55,228 @@ fn call_back<B: Scripted + Drop>(
     ensures steps { Steps B.left B.spot worker.old shared.old result worker.new shared.new }
 {
     if !worker.home.deferred.notes.wakes.is_empty() {
-        return worker.wake_next(next, shared);
+        return wake_next(worker, next, shared);
     }
     if !worker.home.deferred.outputs.is_empty() {
-        return worker.let_go_output(next);
+        return let_go_output(worker, next);
     }
     if !worker.home.deferred.resources.is_empty() {
-        return worker.release_next(next, shared);
+        return release_next(worker, next, shared);
     }
     if !worker.home.deferred.notes.completions.is_empty() {
-        return worker.send_end(next, shared);
+        return send_end(worker, next, shared);
     }
-    worker.send_output(next, shared)
+    send_output(worker, next, shared)
+}
+
+/// Takes the batch. A search count that is held is returned before the first item.
+pub fn take_batch(worker: &mut Worker, next: AfterCallbacks) -> Event
+    ensures event { result ≡ Event.Turn }
+    ensures goes { worker.new ≡ record worker.old {
+      place = (if is_anything_told worker.old
+          then leave_of (AfterLeave.CallBack next) worker.old else after_callbacks_of next worker.old);
+    } }
+{
+    worker.place = if worker.has_callbacks() {
+        worker.leave(AfterLeave::CallBack { next })
+    } else {
+        worker.after_callbacks(next)
+    };
+    Event::Turn
+}
+
+/// Wakes the next task for which something ended, and goes on to queue it where it was idle. The caller must know
+/// that there is a wake to make, and that its task is there and waits for a request or a sleeper that has paid one
+/// wake at most.
+pub fn wake_next<B: Scripted + Drop>(
+    worker: &mut Worker,
+    next: AfterCallbacks,
+    shared: &mut Shared<B>,
+) -> Event
+    requires may { MayWakeNext worker.old shared.old }
+    ensures wakes { WakesNext next worker.old worker.new shared.old shared.new result }
+{
+    let number = worker.home.deferred.notes.wakes.remove(0);
+    let task = number.0 as usize;
+    let waited = shared.tasks[task].waiting();
+    pay(waited, &mut shared.requests, &mut shared.sleepers);
+    wake_waiter(worker, task, next, shared)
+}
+
+/// Wakes a task to which a result was sent, and goes on to queue it where it was idle. The caller must know that
+/// there is such a task, and that the request or the sleeper is there and has paid one wake at most.
+pub fn wake_hearer<B: Scripted + Drop>(
+    worker: &mut Worker,
+    task: usize,
+    of: Heard,
+    next: AfterCallbacks,
+    shared: &mut Shared<B>,
+) -> Event
+    requires there { task < length shared.old.tasks.items }
+    requires unpaid { IsUnpaid (thing_heard of) shared.old.requests.items shared.old.sleepers.items }
+    ensures wakes { WakesHearer task of next worker.old worker.new shared.old shared.new result }
+{
+    pay(waited_for(of), &mut shared.requests, &mut shared.sleepers);
+    wake_waiter(worker, task, next, shared)
+}
+
+/// Wakes a task. The own root is flagged where it was idle, any other is queued.
+fn wake_waiter<B: Scripted + Drop>(
+    worker: &mut Worker,
+    task: usize,
+    next: AfterCallbacks,
+    shared: &mut Shared<B>,
+) -> Event
+    requires there { task < length shared.old.tasks.items }
+    ensures wakes { WakesWaiter task next worker.old worker.new shared.old shared.new result }
+{
+    match shared.tasks[task].wake() {
+        Some(runnable) => queue_woken(worker, task, runnable, next),
+        None => worker.place = worker.next_callback(next),
+    }
+    Event::Wake { task }
+}
+
+/// A task that was woken is to be polled: the own root is flagged, and any other goes into a queue.
+fn queue_woken(worker: &mut Worker, task: usize, runnable: Runnable, next: AfterCallbacks)
+    ensures { worker.new ≡ queued_after task runnable next worker.old }
+{
+    if task == worker.root {
+        worker.root_ready = Some(runnable);
+        worker.place = worker.next_callback(next);
+    } else {
+        worker.hand = Some(runnable);
+        worker.place = worker.first_push(AfterPush::CallBack { next });
+    }
+}
+
+/// Sends a task elsewhere the end of its sleeper. Who isn't over is woken next. The caller must know that an end of
+/// a sleeper is to be sent, and that the sleeper and its task are there.
+pub fn send_end<B: Scripted + Drop>(
+    worker: &mut Worker,
+    next: AfterCallbacks,
+    shared: &mut Shared<B>,
+) -> Event
+    requires may { MaySendEnd worker.old shared.old }
+    ensures sends { IsSentEnd next worker.old worker.new shared.old shared.new result }
+{
+    let ForwardedResult { sender, result: _ } = worker.home.deferred.notes.completions.remove(0);
+    let Reply { task, of } = sender;
+    let Heard::Timer(timer) = of else {
+        unreachable!()
+    };
+    let task = task.0 as usize;
+    shared.sleepers[timer].sent = true;
+    let hears = !shared.tasks[task].is_over();
+    worker.place = after_sending(worker, hears, task, of, next);
+    Event::Turn
+}
+
+/// Sends a task elsewhere the output of its request. Who isn't over is woken next. The caller must know that an
+/// output of a request is to be sent, and that the request and its task are there.
+pub fn send_output<B: Scripted + Drop>(
+    worker: &mut Worker,
+    next: AfterCallbacks,
+    shared: &mut Shared<B>,
+) -> Event
+    requires may { MaySendOutput worker.old shared.old }
+    ensures sends { IsSentOutput next worker.old worker.new shared.old shared.new result }
+{
+    let Answer {
+        id: _,
+        sender,
+        result,
+    } = worker.home.deferred.results.remove(0);
+    let Reply { task, of } = sender;
+    let Heard::Request(request) = of else {
+        unreachable!()
+    };
+    let task = task.0 as usize;
+    shared.requests[request].sent = true;
+    let hears = shared.tasks[task].send_output(result);
+    worker.place = after_sending(worker, hears, task, of, next);
+    Event::Turn
+}
+
+/// What follows a result that was sent: the wake of its task, where that hears of it.
+fn after_sending(
+    worker: &Worker,
+    hears: bool,
+    task: usize,
+    of: Heard,
+    next: AfterCallbacks,
+) -> Place
+    ensures { result ≡ after_sending_of hears task of next worker.now }
+{
+    if hears {
+        Place::Callbacks(InCallbacks::WakeWaiter { task, of }, next)
+    } else {
+        worker.next_callback(next)
+    }
+}
+
+/// Lets go of the first output that nobody takes. The caller must have made all wakes, and know that there is such
+/// an output.
+pub fn let_go_output(worker: &mut Worker, next: AfterCallbacks) -> Event
+    requires none { worker.old.home.deferred.notes.wakes.items ≡ [] }
+    requires some { 0 < length worker.old.home.deferred.outputs.items }
+    ensures event { result ≡ Event.Turn }
+    ensures place { worker.new.place ≡ next_callback_of next worker.new }
+    ensures none { worker.old.home.deferred.notes.wakes.items ≡ [] }
+    ensures some { 0 < length worker.old.home.deferred.outputs.items }
+    ensures outputs { worker.new.home.deferred.outputs.items ≡ drop 1 worker.old.home.deferred.outputs.items }
+    ensures told { KeepsRoom worker.old.home.deferred worker.new.home.deferred }
+    ensures wide { vec_capacity worker.new.home.deferred.outputs ≡ vec_capacity worker.old.home.deferred.outputs }
+    ensures same { worker.new ≡ record worker.old { place = worker.new.place; home = record worker.old.home { deferred = record worker.old.home.deferred { outputs = worker.new.home.deferred.outputs } } } }
+{
+    worker.home.deferred.outputs.remove(0);
+    worker.place = worker.next_callback(next);
+    Event::Turn
+}
+
+/// Lets go of what the request owned that ended first. The caller must have made all wakes and let go of all
+/// outputs, and know that something is to be released, one thing for each request that has ended, that the first of
+/// these is there, and that all of them count as unreleased.
+pub fn release_next<B: Drop>(
+    worker: &mut Worker,
+    next: AfterCallbacks,
+    shared: &mut Shared<B>,
+) -> Event
+    requires none { worker.old.home.deferred.notes.wakes.items ≡ [] }
+    requires empty { length worker.old.home.deferred.outputs.items ≡ 0 }
+    requires some { 0 < length worker.old.home.deferred.resources.items }
+    requires ended { length worker.old.names.ended.items ≡ length worker.old.home.deferred.resources.items }
+    requires there { (n : ℕ) → slice_get worker.old.names.ended.items 0 ≡ Some n → n < length shared.old.requests.items }
+    requires counted { length worker.old.names.ended.items ≤ worker.old.names.unreleased }
+    ensures event { (n : ℕ) → slice_get worker.old.names.ended.items 0 ≡ Some n → result ≡ Event.Release n }
+    ensures place { worker.new.place ≡ next_callback_of next worker.new }
+    ensures none { worker.old.home.deferred.notes.wakes.items ≡ [] }
+    ensures empty { length worker.old.home.deferred.outputs.items ≡ 0 }
+    ensures some { 0 < length worker.old.names.ended.items }
+    ensures ended { worker.new.names.ended.items ≡ drop 1 worker.old.names.ended.items }
+    ensures capacity { deque_capacity worker.new.names.ended ≡ deque_capacity worker.old.names.ended }
+    ensures unreleased { worker.new.names.unreleased + 1 ≡ worker.old.names.unreleased }
+    ensures wide { vec_capacity worker.new.home.deferred.resources ≡ vec_capacity worker.old.home.deferred.resources }
+    ensures told { (live : ℕ) → IsTold worker.old.names.ended.items worker.old.home.deferred live → IsTold worker.new.names.ended.items worker.new.home.deferred live }
+    ensures worker { worker.new ≡ record worker.old { place = worker.new.place; names = record worker.old.names { ended = worker.new.names.ended; unreleased = worker.new.names.unreleased }; home = record worker.old.home { deferred = record worker.old.home.deferred { resources = worker.new.home.deferred.resources } } } }
+    ensures requests { (n : ℕ) → slice_get worker.old.names.ended.items 0 ≡ Some n → shared.new.requests.items ≡ changed_at shared.old.requests.items n releasing }
+    ensures kept { shared.new ≡ record shared.old { requests = shared.new.requests } }
+{
+    worker.home.deferred.resources.remove(0);
+    let Some(request) = worker.names.release() else {
+        unreachable!()
+    };
+    shared.requests[request].release();
+    worker.place = worker.next_callback(next);
+    Event::Release { request }
+}
+
+/// What a task waits for that hears of this.
+fn waited_for(of: Heard) -> Waiting
+    ensures { result ≡ thing_heard of }
+{
+    match of {
+        Heard::Request(request) => Waiting::Request(request),
+        Heard::Timer(timer) => Waiting::Timer(timer),
+    }
 }

@@ -3,13 +3,10 @@ pub mod Scripts
 pub mod Records
 pub mod View
 pub mod Serving
-pub mod Submitting
 pub mod Phased
 pub mod Tests
-pub mod Waits
 pub mod Calls
 pub mod Polls
-pub mod Admitting
 pub mod Ending
 pub mod Awaits
 pub mod Firsts
@@ -17,6 +14,5 @@ pub mod Roles
 pub mod Pooled
 pub mod MailPosts
 pub mod MailTakes
-pub mod Raises
 pub mod Dedicated
 pub mod Things

@@ -21,7 +21,7 @@ use Rattle.exec_moves.specs.declared.place.InCallbacks.TheVariants as callback
 use Rattle.exec_moves.specs.declared.place.InClosing.TheVariants as closing
 use Rattle.exec_moves.specs.declared.place.InPoll.TheVariants as poll
 use Rattle.exec_moves.specs.declared.place.Place.TheVariants as at
-use Rattle.exec_parts.specs.declared.kick.Claimed.{Claimed}
+use Rattle.exec_parts.specs.declared.claim.Claimed.{Claimed}
 use Rattle.exec_parts.specs.{Records.numbers_held, declared.parts.{mail.{Reply.Reply, Subject.Subject}, seat.Seat.Seat as Chair, shared.Shared.Shared, task_slot.TaskSlot.TaskSlot, worker.Worker.Worker}, Phased.TurnsChair, Tests.{after_spawn_of, first_push_of, leave_of}, View.body_in, Things.TurnsSlot}
 
 -- the chair of the worker of this number has this

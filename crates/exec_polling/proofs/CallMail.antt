@@ -7,7 +7,8 @@ use Rattle.exec_machine.specs.declared.step.Action.TheVariants as action
 use Rattle.exec_moves.specs.{Call.{after_posting, calls_at}, Thing.{mailbox_of, set_mailbox}, declared.handing.CallPlace.CallPlace}
 use Rattle.exec_moves.specs.declared.handing.CallPlace.TheVariants as call
 use Rattle.exec_moves.specs.declared.handing.InSignal.TheVariants as signals
-use Rattle.exec_parts.{specs.{declared.parts.{seat.Seat.Seat as Chair, shared.Shared.Shared, task_slot.TaskSlot.TaskSlot}, Pooled.{asks_in, chair_posted, event_posted}, MailPosts.IsMailbox, Spots.Spot, View.{Views, Visible, common_of, seat_seen, seats_seen, task_seen, things_with}}, proofs.{Facts.and_from, Showing.own_word_seen}}
+use Rattle.exec_parts.{specs.{declared.parts.{seat.Seat.Seat as Chair, shared.Shared.Shared, task_slot.TaskSlot.TaskSlot}, Pooled.{asks_in, chair_posted, event_posted}, MailPosts.IsMailbox, Spots.Spot, View.{Views, Visible, common_of, seat_seen, seats_seen, task_seen, things_with}}, proofs.Facts.and_from}
+use Rattle.exec_invariants.proofs.Showing.{own_word_seen}
 use Rattle.exec_polling.{specs.{declared.caller.Caller.Caller, Calling.{CallSound, CallSuits, CallWorks, WakesByCall, with_caller, call_of, desk_of_caller, is_free, place_by_mail, with_call}}, proofs.{CallSignals.{beside, still_sound}, CallWakes.free_call, Outsiders.{Leads, leads_either, to_return}}}
 use Rattle.exec_invariants.{specs.{Whole.{IsWhole, Profile}}, proofs.{Aside.HoldsIn, Dedicated.home_within as root_within, RootMail.holding_posted, Posting.{Arrival, IsArrival, arrival, asks_as, asks_by, chair_by, choice_by, event_as, event_by, inbox_seen, mailbox_by, posted_as, posted_shows, posted_spares, posting_as, root_message_as, seat_as, seat_by}, Seats.{chair_set, seat_there as seen_there}, Slots.task_there, SparedRecord.there_within, Turning.set_found}}
 

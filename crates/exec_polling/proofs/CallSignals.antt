@@ -8,7 +8,8 @@ use Rattle.exec_machine.specs.declared.step.Action.TheVariants as action
 use Rattle.exec_moves.specs.{Claim.{is_ring, latched, rousing}, MoveOfCaller.call_on, declared.handing.CallPlace.CallPlace}
 use Rattle.exec_moves.specs.declared.handing.CallPlace.TheVariants as call
 use Rattle.exec_moves.specs.declared.handing.InSignal.TheVariants as signals
-use Rattle.exec_parts.{specs.{declared.parts.{seat.Seat.Seat as Chair, shared.Shared.Shared}, Phased.TurnsChair, Pooled.{OfChair, chair_latched, chair_raised, event_rousing}, Spots.Spot, View.{Views, Visible, common_of, seat_seen, seats_seen, things_with}}, proofs.Showing.{map_kept, own_word_seen, seats_kept, word_shows}}
+use Rattle.exec_parts.specs.{declared.parts.{seat.Seat.Seat as Chair, shared.Shared.Shared}, Phased.TurnsChair, Pooled.{OfChair, chair_latched, chair_raised, event_rousing}, Spots.Spot, View.{Views, Visible, common_of, seat_seen, seats_seen, things_with}}
+use Rattle.exec_invariants.proofs.Showing.{map_kept, own_word_seen, seats_kept, word_shows}
 use Rattle.exec_invariants.{specs.{Holding.box_of, Places.one_if, Sound.IsInHand, Spares.SparesChair, Whole.{IsWhole, Profile, runnables_in}}, proofs.{Aside.{queue_of_chair, queues_set, HoldsIn, seats_other, whole_boxed}, PoolKept.{gate_spared, gates_set}, Rousing.wake_shows, Seats.{chair_set, seat_there as seen_there}, SparedRecord.there_within, Turning.Shares}}
 use Rattle.exec_polling.{specs.{declared.caller.Caller.Caller, Calling.{CallBeside, CallSound, CallSteps, CallSuits, CallWorks, call_of, desk_of_caller, hands_on_in, has_count_in, is_free, place_by_word, with_call, with_caller}}, proofs.Outsiders.{Leads, beside_shares, call_turned, leads_either, may_be_gone_on, sound_shares, still_called, to_return}}
 

@@ -6,7 +6,8 @@ use Rattle.exec_request.specs.Requests.{deadline_of, gate_of}
 use Rattle.exec_waiters.specs.declared.{observer.Observer.TheVariants.Local, waiter.{Entry.TheVariants.Pending, Waiter.Waiter}}
 use Rattle.exec_driver.specs.{Driving.Driving, Placed.ListsRequests}
 use Rattle.exec_machine.specs.{declared.state.{Operation.Operation, RequestPhase.RequestPhase}, Requests.{first_phase, new_request}, Tests.{is_in_flight, is_resolved, is_staged}}
-use Rattle.exec_parts.{specs.declared.parts.{mail.Reply.Reply, names.Names.Names, record.Record.Record}, proofs.Taken.{Takes, enrolled_if}}
+use Rattle.exec_parts.specs.declared.parts.{mail.Reply.Reply, names.Names.Names, record.Record.Record}
+use Rattle.exec_invariants.proofs.Taken.{Takes, enrolled_if}
 use Rattle.exec_invariants.specs.{Flown.IsPlain, Names.IsAlike}
 
 -- A request came in under this name, queued or at its gate, with the next number.

@@ -1,3 +1,8 @@
+pub mod Making
+pub mod LeafMail
+pub mod LeafBeds
+pub mod Growing
+pub mod Enlisting
 pub mod Admitted
 pub mod Newcomer
 pub mod Dozing

@@ -11,7 +11,8 @@ use Rattle.exec_lists.specs.Lists.{is_among}
 use Rattle.exec_opens.specs.Opens.{OpenState}
 use Rattle.exec_machine.specs.{Requests.{asked_of as asked_in, first_phase}, Tests.{is_applied, is_in_flight, is_resolved, is_staged}}
 use Rattle.exec_moves.specs.declared.place.InService.{InService}
-use Rattle.exec_parts.{specs.{declared.parts.{mail.Reply.Reply, names.Names.Names, record.Record.Record, sleeping.SleeperRecord.SleeperRecord}, Records.number_in}, proofs.{Facts.{and_parts, by_name, by_number, not_same}, Taken.{got_new, got_old, name_apart, number_new, number_old, past_still, slot_apart, some_still, value_before, value_new, value_old, was_got, enrolled_if, among_before, among_now, all_listed, known_more}}}
+use Rattle.exec_parts.{specs.{declared.parts.{mail.Reply.Reply, names.Names.Names, record.Record.Record, sleeping.SleeperRecord.SleeperRecord}, Records.number_in}, proofs.Facts.{and_parts, by_name, by_number, not_same}}
+use Rattle.exec_invariants.proofs.Taken.{got_new, got_old, name_apart, number_new, number_old, past_still, slot_apart, some_still, value_before, value_new, value_old, was_got, enrolled_if, among_before, among_now, all_listed, known_more}
 use Rattle.exec_invariants.{specs.{Carried.{IsCarried, IsWhole}, Due.AreTimed, Flown.{AreLanded, HasFlown, IsPlain, IsPolled, operations}, Gates.{IsKnown, has_hint_at, may_ask_hint}, Ordered.IsOrdered, Places.one_if, Rooted.{IsReplyFor, IsRooted, Pays, Watches, goes_elsewhere, is_of_request, results_of}, Sound.AreOver, Names.{IsNamed, IsSubmitted}}, proofs.{Flown.{AllFlyOn, landed_on}, Conveying.carried_ring, Gated.gate_there, Mine.stands, Orders.{Eases, comes_in, joins}}}
 use Rattle.exec_polling.proofs.{Admitted.{IsFew, carried_joined, room_made, stretch_made}, Coming.{OneComes, first_idle, none_of}}
 

@@ -3,7 +3,8 @@ use Rattle.std.proofs.{Common.{◌≡◌, ◌⊎◌, ℕ, suc, zero, not, ◌&&�
 use Rattle.exec_machine.specs.{declared.state.Forwarding.TheVariants.Unsent}
 use Rattle.exec_words.specs.declared.inbox.Message.{Message}
 use Rattle.exec_outcomes.specs.declared.outcome.Outcome.{Outcome}
-use Rattle.exec_parts.{specs.declared.parts.{held.Held.Held, mail.Subject.Subject}, proofs.{Facts.{by_number, not_same, same_Some, set_elsewhere, set_there}, Taken.{got_new, got_old, was_got}}}
+use Rattle.exec_parts.{specs.declared.parts.{held.Held.Held, mail.Subject.Subject}, proofs.Facts.{by_number, not_same, same_Some, set_elsewhere, set_there}}
+use Rattle.exec_invariants.proofs.Taken.{got_new, got_old, was_got}
 use Rattle.exec_invariants.{specs.{Holding.{Awaits, AwaitsNap, Box, Hands, HasPlace, Holder, HoldsRequest, IsAbout, IsHeldBy, IsHolding, IsOf, IsOrdinary, IsOwed, Mail, MayHave, Nap, Owes, Thing, holdings, is_awaited_by, mail_in, same_mail, under_way, waiters}}, proofs.{HoldMail.mail_is, HoldRedo.{count_set, sum_set}}}
 use Rattle.exec_parts.specs.declared.parts.mail.Subject.TheVariants as subject
 use Rattle.exec_polling.proofs.MadePlaces.{none_counted, none_summed, weigh, counted_there, by_zero}

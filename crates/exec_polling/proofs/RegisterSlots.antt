@@ -3,7 +3,8 @@ use Rattle.std.proofs.{Common.{◌≡◌, ◌≢◌, ℕ, suc, zero, ◌+◌, �
 use Rattle.exec_base.specs.{Slab.{Slab, inserted, next_id, next_index, value_in}, declared.slab.{Id.Id, Slot.{Slot, TheVariants.{Live, Vacant, Retired}}}}
 use Rattle.exec_waiters.specs.declared.waiter.Entry.{Entry}
 use Rattle.exec_moves.specs.Slots.{entered}
-use Rattle.exec_parts.{specs.{declared.parts.mail.Reply.Reply, View.{awaited_from, awaits_entry, is_awaited, slots_from, slots_seen}}, proofs.{Taken.{Takes, number_old}}}
+use Rattle.exec_parts.specs.{declared.parts.mail.Reply.Reply, View.{awaited_from, awaits_entry, is_awaited, slots_from, slots_seen}}
+use Rattle.exec_invariants.proofs.Taken.{Takes, number_old}
 
 module _ (numbers numbers' : List ℕ) (at k : ℕ) (here : slice_get numbers' at ≡ Some k) (others : (j : ℕ) → j ≢ at → slice_get numbers' j ≡ slice_get numbers j) where
   number_at : slice_index_or numbers' at 0 ≡ k

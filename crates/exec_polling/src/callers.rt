@@ -12,7 +12,7 @@ ghost use Rattle.exec_polling.specs.Calling.{CallSound, CallSteps, HasCallWhole,
 use crate::caller::Caller;
 use exec_machine::event::Event;
 use exec_moves::handing::{CallPlace, InGlobal, InSignal};
-use exec_parts::kick::{Claimed, claim};
+use exec_parts::claim::{Claimed, claim};
 use exec_parts::parts::shared::Shared;
 use exec_parts::scripted::Scripted;
 use exec_parts::signal::{mail_root, rouse};

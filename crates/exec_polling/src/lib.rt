@@ -1,11 +1,16 @@
 //! The polls of tasks, and the calls from outside: who makes tasks, wakes them, and has them do what their bodies ask
 //! for.
 //!
-//! What a worker does at a place of a poll is a method of `exec_parts`. Here is the function that finds it, and what
-//! its step is to the machine and to all parties. The steps of outside callers stand whole here (`callers`).
+//! Each place has a function, which says what the worker does there; `poll` finds it, and says what the step
+//! is to the machine and to all parties. The steps of outside callers stand whole here (`callers`).
 #![tactic(auto)]
 
 pub mod caller;
 pub mod callers;
+pub mod dedicating;
+pub mod ending;
 pub mod poll;
-mod resuming;
+pub mod registering;
+pub mod resuming;
+pub mod sending;
+pub mod spawning;

@@ -5,7 +5,8 @@ use Rattle.exec_request.specs.{declared.{request.Request.Request as Asking, wind
 use Rattle.exec_ring.specs.{Kernels.{taken_as, taken_in, all_taken}, Rings.RingState, declared.{completion.Submission.Submission, store.Store.Store}}
 use Rattle.exec_waiters.specs.{Ids.user_data_of, States.waiter_at, declared.waiter.{Entry.Entry, Waiter.Waiter}}
 use Rattle.exec_machine.specs.{declared.state.{Request.Request, RequestPhase.RequestPhase}, Tests.is_staged}
-use Rattle.exec_parts.{specs.{declared.parts.{mail.Reply.Reply, record.Record.Record}, Records.number_in, Serving.{flies, flown_in, is_one_of}}, proofs.Flying.{flies_if, get_flown}}
+use Rattle.exec_parts.specs.{declared.parts.{mail.Reply.Reply, record.Record.Record}, Records.number_in, Serving.{flies, flown_in, is_one_of}}
+use Rattle.exec_invariants.proofs.Flying.{flies_if, get_flown}
 use Rattle.exec_invariants.{specs.Carried.{IsCarried, IsUnderWay, IsWhole, may_move, those_of}, proofs.Carrying.sum_changed}
 
 -- WHAT THE KERNEL TAKES IN

@@ -1,3 +1,5 @@
+pub mod Ticks
+pub mod Flushing
 pub mod Settled
 pub mod Turned
 pub mod Gone

@@ -9,7 +9,8 @@ use Rattle.exec_waiters.specs.States.{file_of}
 use Rattle.exec_task.specs.declared.body.Said.{Said}
 use Rattle.exec_machine.specs.{declared.{event.Event.{Event, TheVariants.Reap}, state.Request.Request}, Requests.{joined_if, reaped}}
 use Rattle.exec_moves.specs.{Serve.{after_permit, back_from_reap}, declared.place.{AfterPermit.AfterPermit, Place.Place, Reaping.Reaping, Service.Service, InService.InService}}
-use Rattle.exec_parts.specs.{declared.parts.{names.Names.Names, shared.Shared.Shared, worker.Worker.Worker}, Records.number_in, Serving.changed_at, Spots.Spot, Submitting.after_giving_up, View.{driver_of, number_told}}
+use Rattle.exec_parts.specs.{declared.parts.{names.Names.Names, shared.Shared.Shared, worker.Worker.Worker}, Records.number_in, Serving.changed_at, Spots.Spot, View.{driver_of, number_told}}
+use Rattle.exec_invariants.specs.Submitting.{after_giving_up}
 use Rattle.exec_invariants.{specs.{Flown.HasLanded, Sound.SoundAt, Works.Steps}}
 use Rattle.exec_serving.proofs.{Finished.{goes_over, over_outcome, over_place, over_step}, Gone.{operation_over, reaped_over}, ReapAccounts.told_unhinted, Reaped.{TellsOf, tells_of}, Requeued.goes_back, Returned.reaped_back, Turned.{back_has, back_turned, ended_turned, opens_turned, over_has, over_request, over_tells, permit_turned, tells_turned, turned_account, turned_back, turned_over}}
 

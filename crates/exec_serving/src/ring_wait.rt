@@ -1,14 +1,27 @@
-//! Which function takes the next step of a wait on the ring. What each does, `exec_parts::ring_wait` says.
+//! The wait of a worker that has requests: on its ring.
+//!
+//! The ring bit goes into the wake word, then the kernel takes what is staged, then the ring is looked at again, and only
+//! then does the worker sleep. Whoever signals it after the bit went in raises a wake in its ring; whatever landed before
+//! the last look is found by it. A worker that may not wait, since something is to be staged or the word had a latch or
+//! another batch, serves first.
 
-ghost use Rattle.std.specs.Prelude.{◌<◌};
-ghost use Rattle.exec_invariants.specs.{Sound.SoundAt, Works.Steps};
+ghost use Rattle.exec_invariants.specs.{Sound.SoundAt, Works.Steps, Raises.Enters};
+ghost use Rattle.std.specs.Prelude.{◌<◌, ◌≡◌, ◌^◌, length, if◌then◌else◌};
+ghost use Rattle.exec_moves.specs.{State.word_of, Wait.{arm_ring, disarmed}};
+ghost use Rattle.exec_ring.specs.Kernels.{is_quiet};
+ghost use Rattle.exec_parts.specs.{Pooled.OfChair, View.{driver_of, desk_of, things_of}, Tests.{after_enter_of, after_wait_of, HasToldDue, TestsRing}, Serving.AreKnown, Things.{Makes, Goes, TurnsWord}};
+ghost use Rattle.exec_serving.specs.Waits.{Sleeps};
 
+use crate::service::enter;
 use exec_machine::event::Event;
+use exec_machine::state::Rest;
 use exec_moves::idling::{AfterWait, InRingWait, Stay};
-use exec_moves::place::Place;
+use exec_moves::place::{AfterService, Place};
 use exec_parts::parts::shared::Shared;
 use exec_parts::parts::worker::Worker;
 use exec_parts::scripted::Scripted;
+use exec_parts::ways::serve;
+use exec_words::word::WaitTarget;
 
 /// Takes the next step of a wait on the ring. The caller must know that the worker is at this place and sound with what
 /// all share.
@@ -22,12 +35,12 @@ pub fn wait_on_ring<B: Scripted + Drop>(
     ensures steps { Steps B.left B.spot worker.old shared.old result worker.new shared.new }
 {
     match at {
-        InRingWait::EnterFullRing => worker.enter_full_ring(stay, shared),
-        InRingWait::TestRing => worker.test_ring(stay),
-        InRingWait::ArmRing => worker.arm_ring(stay, shared),
-        InRingWait::EnterRing => worker.enter_ring(stay, shared),
+        InRingWait::EnterFullRing => enter_full_ring(worker, stay, shared),
+        InRingWait::TestRing => test_ring(worker, stay),
+        InRingWait::ArmRing => arm_ring(worker, stay, shared),
+        InRingWait::EnterRing => enter_ring(worker, stay, shared),
         InRingWait::SleepOnRing => sleep_on_ring(worker, stay, shared),
-        InRingWait::DisarmRing { next } => worker.disarm_ring(stay, next, shared),
+        InRingWait::DisarmRing { next } => disarm_ring(worker, stay, next, shared),
     }
 }
 
@@ -46,5 +59,136 @@ fn sleep_on_ring<B: Scripted + Drop>(
     if worker.home.driver.has_completion() {
         return Event::Turn;
     }
-    worker.sleep(shared)
+    sleep(worker, shared)
+}
+
+/// Enters a full submission queue. The caller must know that the worker has a seat, and that each request that it
+/// staged is there.
+pub fn enter_full_ring<B: Drop>(worker: &mut Worker, stay: Stay, shared: &mut Shared<B>) -> Event
+    requires there { worker.old.index < length shared.old.seats.items }
+    requires known { AreKnown worker.old.names.staged.items shared.old.requests.items }
+    ensures enters { Enters worker.old shared.old result (record worker.new { place = worker.old.place }) shared.new }
+    ensures goes { worker.new.place ≡ Place.RingWait InRingWait.TestRing stay }
+{
+    let event = enter(worker, shared);
+    worker.place = Place::RingWait(InRingWait::TestRing, stay);
+    event
+}
+
+/// Tests for submissions, and stages the wake poll where that must be. Without room for it the worker serves.
+pub fn test_ring(worker: &mut Worker, stay: Stay) -> Event
+    ensures event { result ≡ Event.Turn }
+    ensures tests { TestsRing stay worker.old worker.new }
+{
+    let after = after_ring_wait(worker, stay, AfterWait::Serve);
+    let driver = &mut worker.home.driver;
+    worker.place = if driver.has_pending_submissions() || !driver.stage_wake_poll() {
+        after
+    } else {
+        Place::RingWait(InRingWait::ArmRing, stay)
+    };
+    Event::Turn
+}
+
+/// Puts the ring bit into the wake word. The caller must know that the worker has a seat, that its wake word has no
+/// wait bit, and that its count of batches is below 2^29.
+pub fn arm_ring<B: Drop>(worker: &mut Worker, stay: Stay, shared: &mut Shared<B>) -> Event
+    requires there { worker.old.index < length shared.old.seats.items }
+    requires unarmed { OfChair worker.old.index shared.old (λ chair. chair.mailbox.waker.target ≡ WaitTarget.None) }
+    requires processed { worker.old.processed < 2 ^ 29 }
+    ensures makes { Makes (arm_ring stay (desk_of worker.old)
+        (word_of (things_of shared.old) worker.old.index)) result worker.new }
+    ensures goes { Goes worker.old worker.new }
+    ensures word { TurnsWord worker.old.index shared.old shared.new
+        (arm_ring stay (desk_of worker.old) (word_of (things_of shared.old) worker.old.index)).thing }
+{
+    let word = &mut shared.seats[worker.index].mailbox.waker;
+    let found = word.arm(WaitTarget::Ring);
+    worker.place = Place::RingWait(after_arming(found.still_idle(worker.processed)), stay);
+    Event::Turn
+}
+
+/// Enters, and where nothing is there goes on to sleep. After an enter that took nothing it doesn't sleep. The
+/// caller must know that the worker has a seat, and that each request that it staged is there.
+pub fn enter_ring<B: Drop>(worker: &mut Worker, stay: Stay, shared: &mut Shared<B>) -> Event
+    requires there { worker.old.index < length shared.old.seats.items }
+    requires known { AreKnown worker.old.names.staged.items shared.old.requests.items }
+    ensures enters { Enters worker.old shared.old result (record worker.new { place = worker.old.place }) shared.new }
+    ensures goes { worker.new.place ≡ after_enter_of result (is_quiet (driver_of worker.new).ring) stay }
+{
+    let event = enter(worker, shared);
+    worker.place = after_enter(worker, event, stay);
+    event
+}
+
+/// What follows the enter of a wait.
+fn after_enter(worker: &Worker, event: Event, stay: Stay) -> Place
+    ensures { result ≡ after_enter_of event (is_quiet (driver_of worker.now).ring) stay }
+{
+    let next = match event {
+        Event::Enter if !worker.home.driver.has_completion() => InRingWait::SleepOnRing,
+        _ => InRingWait::DisarmRing {
+            next: AfterWait::Begin,
+        },
+    };
+    Place::RingWait(next, stay)
+}
+
+/// Sleeps until the first moment at which something is due, unless that has come. The caller must have told each
+/// request whose deadline has come, and know that any other comes out of the wheel at its tick, and that the worker
+/// has a seat.
+pub fn sleep<B: Drop>(worker: &mut Worker, shared: &mut Shared<B>) -> Event
+    requires told { HasToldDue worker.old }
+    requires there { worker.old.index < length shared.old.seats.items }
+    ensures sleeps { Sleeps worker.old shared.old result shared.new }
+    ensures same { worker.new ≡ worker.old }
+{
+    let until = worker.next_moment();
+    let rest = match until {
+        Some(moment) if moment <= shared.clock => return Event::Turn,
+        Some(moment) => Rest::Until(moment),
+        None => Rest::Forever,
+    };
+    shared.seats[worker.index].rest = rest;
+    Event::Sleep { until }
+}
+
+/// Takes the wait bits out of the wake word. The caller must know that the worker has a seat.
+pub fn disarm_ring<B: Drop>(
+    worker: &mut Worker,
+    stay: Stay,
+    next: AfterWait,
+    shared: &mut Shared<B>,
+) -> Event
+    requires there { worker.old.index < length shared.old.seats.items }
+    ensures event { result ≡ Event.Turn }
+    ensures goes { worker.new ≡ record worker.old { place = after_wait_of stay next worker.old } }
+    ensures word { TurnsWord worker.old.index shared.old shared.new (disarmed (word_of (things_of shared.old) worker.old.index)) }
+{
+    let _found = shared.seats[worker.index].mailbox.waker.disarm();
+    worker.place = after_ring_wait(worker, stay, next);
+    Event::Turn
+}
+
+/// What follows a wait on the ring. A closing worker has no bit to withdraw, and serves again.
+fn after_ring_wait(worker: &Worker, stay: Stay, next: AfterWait) -> Place
+    ensures { result ≡ after_wait_of stay next worker.now }
+{
+    match stay {
+        Stay::Turn => worker.after_waiting(next),
+        Stay::Closing => serve(AfterService::Finish),
+    }
+}
+
+/// What follows the arming: the enter, where the word was as it was left.
+fn after_arming(idle: bool) -> InRingWait
+    ensures { result ≡ (if idle then InRingWait.EnterRing else InRingWait.DisarmRing AfterWait.Serve) }
+{
+    if idle {
+        InRingWait::EnterRing
+    } else {
+        InRingWait::DisarmRing {
+            next: AfterWait::Serve,
+        }
+    }
 }

@@ -5,12 +5,12 @@
 //! machine's, that what holds of the worker holds again, and what it leaves of what the others rely on.
 #![tactic(auto)]
 
-mod kick;
-mod loads;
-mod look;
-mod pop;
-mod push;
-mod search;
-mod signal;
+pub mod kick;
+pub mod loads;
+pub mod look;
+pub mod pop;
+pub mod push;
+pub mod search;
+pub mod signal;
 pub mod step;
-mod turn;
+pub mod turn;

@@ -4,14 +4,14 @@ ghost use Rattle.std.specs.Prelude.{◌≡◌, ℕ, ◌<◌, true, length, slice
 ghost use Rattle.exec_parts.specs.{declared.parts.record.Record.Record, Phased.IsGoing};
 ghost use Rattle.exec_invariants.specs.{Acting.{PerformsOne, StepsWith}, Drained.IsLetOn, Sound.Sound, Whole.HasWhole, Works.Same};
 
-use crate::kick::kick;
-use crate::loads::load;
-use crate::look::look;
+use crate::kick::{claim_worker, kick, leave_search};
+use crate::loads::{load, read_clock, test_for_work};
+use crate::look::{look, withdraw};
 use crate::pop::pop;
 use crate::push::{push, push_global};
 use crate::search::{scan, search};
 use crate::signal::signal;
-use crate::turn::pick;
+use crate::turn::{begin_turn, pick, take_root_flag};
 use exec_closing::closing::close_down;
 use exec_machine::event::Event;
 use exec_messages::callbacks::callbacks;
@@ -22,6 +22,7 @@ use exec_parts::parts::shared::Shared;
 use exec_parts::parts::worker::Worker;
 use exec_parts::scripted::Scripted;
 use exec_polling::poll::poll;
+use exec_polling::sending::send_cancel;
 use exec_serving::ring_wait::wait_on_ring;
 use exec_serving::service::service;
 use exec_serving::word_wait::wait_on_word;
@@ -53,33 +54,33 @@ pub fn step<B: Scripted + Drop>(
     ensures nobody { OnErr result (nursery.new.born ≡ None) }
 {
     match worker.place {
-        Place::BeginTurn => Ok(worker.begin_turn()),
+        Place::BeginTurn => Ok(begin_turn(worker)),
         Place::Pick(at) => Ok(pick(worker, at, shared)),
-        Place::TakeRootFlag => Ok(worker.take_root_flag()),
+        Place::TakeRootFlag => Ok(take_root_flag(worker)),
         Place::Poll(task, at) => poll(worker, alloc, task, at, shared, nursery),
         Place::Callbacks(at, then) => Ok(callbacks(worker, at, then, shared)),
         Place::Loads(at, round) => Ok(load(worker, at, round, shared)),
         Place::Service(at, turn) => Ok(service(worker, at, turn, shared)),
         Place::Mail(at) => Ok(mail(worker, at, shared)),
-        Place::TestForWork { found } => Ok(worker.test_for_work(found)),
+        Place::TestForWork { found } => Ok(test_for_work(worker, found)),
         Place::ReadClock => {
             let longest_spin = shared.config.spin.most;
-            Ok(worker.read_clock(shared.clock, shared.config.workers, longest_spin))
+            Ok(read_clock(worker, shared.clock, shared.config.workers, longest_spin))
         }
         Place::Search(at) => Ok(search(worker, at, shared)),
         Place::Scan(at) => Ok(scan(worker, at, shared)),
         Place::Look(at) => Ok(look(worker, at, shared)),
         Place::RingWait(at, stay) => Ok(wait_on_ring(worker, at, stay, shared)),
         Place::WordWait(at) => Ok(wait_on_word(worker, at, shared)),
-        Place::Withdraw(then) => Ok(worker.withdraw(then, &mut shared.idle)),
+        Place::Withdraw(then) => Ok(withdraw(worker, then, &mut shared.idle)),
         Place::Closing(at) => Ok(close_down(worker, alloc, at, shared)),
         Place::Pop(at, back) => Ok(pop(worker, at, back, shared)),
-        Place::LeaveSearch(back) => Ok(worker.leave_search(back, &mut shared.idle)),
+        Place::LeaveSearch(back) => Ok(leave_search(worker, back, &mut shared.idle)),
         Place::Push(at, back) => Ok(push(worker, at, back, shared)),
         Place::Global(at, back) => Ok(push_global(worker, at, back, shared)),
         Place::Kick(at, back) => Ok(kick(worker, at, back, shared)),
-        Place::ClaimWorker(set, back) => Ok(worker.claim_worker(set, back, &mut shared.idle)),
+        Place::ClaimWorker(set, back) => Ok(claim_worker(worker, set, back, &mut shared.idle)),
         Place::Signal(at, other, back) => Ok(signal(worker, at, other, back, shared)),
-        Place::SendCancel(back) => Ok(worker.send_cancel(back, shared)),
+        Place::SendCancel(back) => Ok(send_cancel(worker, back, shared)),
     }
 }

@@ -5,8 +5,7 @@
 //! themselves needn't be kept.
 
 ghost use Rattle.std.specs.Prelude.{◌≡◌, ◌+◌, ◌<◌, ◌^◌, ◌&&◌, Bool, nat_le};
-ghost use Rattle.exec_machine.specs.declared.state.Request.{Request};
-ghost use Rattle.exec_machine.specs.Requests.{asked_of as asked_in, cursor_of as cursor_in, went_on};
+ghost use Rattle.exec_machine.specs.{declared.state.Request.Request, Requests.{asked_of as asked_in, cursor_of as cursor_in, went_on}};
 ghost use Rattle.exec_outcomes.specs.{Lawful.window_of, Outcomes.{bytes_of, counted_for, is_positive, is_transient, is_unsupported, moves_on, part_now, suits_direct}};
 ghost use Rattle.exec_parts.specs.Records.{IsCountable};
 
@@ -17,7 +16,7 @@ use exec_request::results::LARGEST_WINDOW;
 
 /// The operation by one more result. One that was to be asked for again moved nothing; a refused hint is given up; and
 /// where the first part of two is over, the second begins.
-pub(crate) fn gone_on(operation: Operation, given: OpResult) -> Operation
+pub fn gone_on(operation: Operation, given: OpResult) -> Operation
     requires bytes { IsCountable operation }
     requires lawful { bytes_of given + operation.moved < 2 ^ 64 }
     ensures { (r : Request) → r.operation ≡ operation → result ≡ went_on r given }
@@ -117,7 +116,7 @@ fn part(operation: &Operation) -> (Kind, u64)
 }
 
 /// The most that the next operation may answer.
-pub(crate) fn window(operation: &Operation) -> u64
+pub fn window(operation: &Operation) -> u64
     requires bytes { IsCountable operation.now }
     ensures { result ≡ window_of (asked_in operation.now) (cursor_in operation.now) }
 {

@@ -9,6 +9,9 @@ use exec_moves::handing::Heard;
 use exec_words::inbox::Message;
 use exec_words::mailbox::Mailbox;
 
+/// How many messages a worker applies in one turn at most.
+pub const MESSAGES: usize = 64;
+
 /// What a message is about, by its number among all of the executor.
 #[derive(Clone, Copy, Debug, PartialEq, Eq, Drop)]
 pub enum Subject {

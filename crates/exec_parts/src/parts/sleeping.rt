@@ -91,7 +91,7 @@ impl SleeperRecord {
 }
 
 /// A worker has ended: each of its sleepers that hadn't is removed.
-pub(crate) fn remove_all_of(worker: usize, sleepers: &mut [SleeperRecord])
+pub fn remove_all_of(worker: usize, sleepers: &mut [SleeperRecord])
     ensures { sleepers.new ≡ map (sleeper_gone_with worker) sleepers.old }
 {
     for sleeper in sleepers {

@@ -26,14 +26,14 @@ release_next-requires-clause-there g c = λ n at.
 pub returns-then-not-is_empty-2 : goal.returns-then-not-is_empty-2
 returns-then-not-is_empty-2 g c =
     let is = c.let_go_output.ensures in
-    record { steps = output_gone g.B.Body.left g.B.Scripted.spot c.args.next c.args.worker.now c.let_go_output.new.self c.args.shared.now c.let_go_output.result c.requires.sound is.event is.place is.same is.none is.some is.outputs is.told is.wide }
+    record { steps = output_gone g.B.Body.left g.B.Scripted.spot c.args.next c.args.worker.now c.let_go_output.new.worker c.args.shared.now c.let_go_output.result c.requires.sound is.event is.place is.same is.none is.some is.outputs is.told is.wide }
 
 pub returns-then-not-is_empty-3 : goal.returns-then-not-is_empty-3
 returns-then-not-is_empty-3 g c =
     let is = c.release_next.ensures in
     let first = first_of c.args.worker.now.names.ended.items is.some in
     record {
-      steps = released_as g.B.Body.left g.B.Scripted.spot c.args.next first.0 c.args.worker.now c.release_next.new.self c.args.shared.now c.release_next.new.shared c.release_next.result c.requires.sound (is.event first.0 first.1) is.place is.none is.empty
+      steps = released_as g.B.Body.left g.B.Scripted.spot c.args.next first.0 c.args.worker.now c.release_next.new.worker c.args.shared.now c.release_next.new.shared c.release_next.result c.requires.sound (is.event first.0 first.1) is.place is.none is.empty
           (record { rest = drop 1 c.args.worker.now.names.ended.items; first = first.2; ended = is.ended; capacity = is.capacity; unreleased = is.unreleased; wide = is.wide; told = is.told; worker = is.worker; requests = is.requests first.0 first.1; kept = is.kept });
     }
 
@@ -49,7 +49,7 @@ pub returns-then-not-is_empty-4 : goal.returns-then-not-is_empty-4
 returns-then-not-is_empty-4 g c =
     let left = c.args.worker.now.home.deferred in
     record {
-      steps = end_sent g.B.Body.left g.B.Scripted.spot c.args.next c.args.worker.now c.send_end.new.self c.args.shared.now c.send_end.new.shared c.send_end.result c.requires.sound c.requires.whole
+      steps = end_sent g.B.Body.left g.B.Scripted.spot c.args.next c.args.worker.now c.send_end.new.worker c.args.shared.now c.send_end.new.shared c.send_end.result c.requires.sound c.requires.whole
           (none_by left.notes.wakes.items c.is_empty.result (c.is_empty.ensures ∙ ap (λ n. n == 0) left.notes.wakes.ok.0) (ap not c.if-not-is_empty.false))
           (ap length (none_by left.outputs.items c.is_empty-2.result (c.is_empty-2.ensures ∙ ap (λ n. n == 0) left.outputs.ok.0) (ap not c.if-not-is_empty-2.false)))
           (ap length (none_by left.resources.items c.is_empty-3.result (c.is_empty-3.ensures ∙ ap (λ n. n == 0) left.resources.ok.0) (ap not c.if-not-is_empty-3.false)))
@@ -76,6 +76,6 @@ returns g c =
     let no_resources = ap length (none_by left.resources.items c.is_empty-3.result (c.is_empty-3.ensures ∙ ap (λ n. n == 0) left.resources.ok.0) (ap not c.if-not-is_empty-3.false)) in
     let no_ends = ap length (none_by left.notes.completions.items c.is_empty-4.result (c.is_empty-4.ensures ∙ ap (λ n. n == 0) left.notes.completions.ok.0) (ap not c.if-not-is_empty-4.false)) in
     record {
-      steps = output_sent g.B.Body.left g.B.Scripted.spot c.args.next c.args.worker.now c.send_output.new.self c.args.shared.now c.send_output.new.shared c.send_output.result c.requires.sound c.requires.whole nobody no_outputs no_resources no_ends
+      steps = output_sent g.B.Body.left g.B.Scripted.spot c.args.next c.args.worker.now c.send_output.new.worker c.args.shared.now c.send_output.new.shared c.send_output.result c.requires.sound c.requires.whole nobody no_outputs no_resources no_ends
           (last_left left nobody no_outputs no_resources no_ends c.requires.sound.left) c.send_output.ensures.sends;
     }

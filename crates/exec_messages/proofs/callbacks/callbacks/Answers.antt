@@ -19,4 +19,4 @@ wake_hearer-requires-clause-unpaid g c = grind arith
 pub returns-in-WakeWaiter : goal.returns-in-WakeWaiter
 returns-in-WakeWaiter g c =
     let sound = rw c.in-WakeWaiter.is at c.requires.sound in
-    record { steps = heard_woken g.B.Body.left g.B.Scripted.spot c.args.next c.in-WakeWaiter.task c.in-WakeWaiter.of c.args.worker.now c.wake_hearer.new.self c.args.shared.now c.wake_hearer.new.shared c.wake_hearer.result sound c.requires.whole c.wake_hearer.ensures.wakes }
+    record { steps = heard_woken g.B.Body.left g.B.Scripted.spot c.args.next c.in-WakeWaiter.task c.in-WakeWaiter.of c.args.worker.now c.wake_hearer.new.worker c.args.shared.now c.wake_hearer.new.shared c.wake_hearer.result sound c.requires.whole c.wake_hearer.ensures.wakes }

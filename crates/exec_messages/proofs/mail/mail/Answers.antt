@@ -7,7 +7,7 @@ returns-in-LoadMailWord g c = record { steps = word_loaded _ _ _ _ _ _ (rw c.in-
 
 pub returns-in-TakeMail : goal.returns-in-TakeMail
 returns-in-TakeMail g c =
-    record { steps = mail_taken g.B.Body.left g.B.Scripted.spot c.args.worker.now c.take_mail.new.self c.args.shared.now c.take_mail.new.shared c.take_mail.result (rw c.in-TakeMail.is at c.requires.sound) c.requires.whole c.take_mail.ensures.makes c.take_mail.ensures.same c.take_mail.ensures.batch c.take_mail.ensures.chair c.take_mail.ensures.kept }
+    record { steps = mail_taken g.B.Body.left g.B.Scripted.spot c.args.worker.now c.take_mail.new.worker c.args.shared.now c.take_mail.new.shared c.take_mail.result (rw c.in-TakeMail.is at c.requires.sound) c.requires.whole c.take_mail.ensures.makes c.take_mail.ensures.same c.take_mail.ensures.batch c.take_mail.ensures.chair c.take_mail.ensures.kept }
 
 pub returns-in-Apply : goal.returns-in-Apply
 returns-in-Apply g c = record { steps = message_applied _ _ c.in-Apply.applied c.in-Apply.taken _ _ _ _ _ (rw c.in-Apply.is at c.requires.sound) c.requires.whole c.apply.ensures.applies }

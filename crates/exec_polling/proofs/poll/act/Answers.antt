@@ -29,8 +29,8 @@ returns-in-Sleep-eq0-clause-steps g c =
     let s1 = c.next_act.new.shared in
     let is : c.in_ok-request.field-0 ≡ Act.Sleep 0 = cc (c.in-Sleep-eq0.is, c.in-Sleep-eq0.field-0-is) in
     let h = acted_at g.B.Body.left g.B.Scripted.runs g.B.Scripted.holds g.B.Scripted.spot g.B.Body.gives g.met.B.Scripted.plays c.args.task w s s1 c.in_ok-request.field-0 (Act.Sleep 0) is c.requires.sound c.in_ok-request.ensures.acts c.requires.performs in
-    steps_nobody g.B.Body.left g.B.Scripted.runs g.B.Scripted.holds g.B.Scripted.spot c.args.nursery.now.born w c.pass.new.self s c.pass.new.shared c.pass.result c.requires.none_yet
-    (passed_by g.B.Body.left g.B.Scripted.runs g.B.Scripted.holds g.B.Scripted.spot g.B.Body.gives g.B.Scripted.answered c.args.task w c.pass.new.self s s1 c.pass.new.shared c.pass.result h c.pass.ensures.event c.pass.ensures.worker c.pass.ensures.task)
+    steps_nobody g.B.Body.left g.B.Scripted.runs g.B.Scripted.holds g.B.Scripted.spot c.args.nursery.now.born w c.pass.new.worker s c.pass.new.shared c.pass.result c.requires.none_yet
+    (passed_by g.B.Body.left g.B.Scripted.runs g.B.Scripted.holds g.B.Scripted.spot g.B.Body.gives g.B.Scripted.answered c.args.task w c.pass.new.worker s s1 c.pass.new.shared c.pass.result h c.pass.ensures.event c.pass.ensures.worker c.pass.ensures.task)
 
 pub returns-in-Yield-clause-steps : goal.returns-in-Yield-clause-steps
 returns-in-Yield-clause-steps g c =
@@ -38,8 +38,8 @@ returns-in-Yield-clause-steps g c =
     let s = c.args.shared.now in
     let s1 = c.next_act.new.shared in
     let h = acted_at g.B.Body.left g.B.Scripted.runs g.B.Scripted.holds g.B.Scripted.spot g.B.Body.gives g.met.B.Scripted.plays c.args.task w s s1 c.in_ok-request.field-0 Act.Yield c.in-Yield.is c.requires.sound c.in_ok-request.ensures.acts c.requires.performs in
-    steps_nobody g.B.Body.left g.B.Scripted.runs g.B.Scripted.holds g.B.Scripted.spot c.args.nursery.now.born w c.yield_task.new.self s c.yield_task.new.shared c.yield_task.result c.requires.none_yet
-    (yielded_by g.B.Body.left g.B.Scripted.runs g.B.Scripted.holds g.B.Scripted.spot g.B.Body.gives g.B.Scripted.answered c.args.task w c.yield_task.new.self s s1 c.yield_task.new.shared c.yield_task.result h c.yield_task.ensures.event c.yield_task.ensures.worker c.yield_task.ensures.task)
+    steps_nobody g.B.Body.left g.B.Scripted.runs g.B.Scripted.holds g.B.Scripted.spot c.args.nursery.now.born w c.yield_task.new.worker s c.yield_task.new.shared c.yield_task.result c.requires.none_yet
+    (yielded_by g.B.Body.left g.B.Scripted.runs g.B.Scripted.holds g.B.Scripted.spot g.B.Body.gives g.B.Scripted.answered c.args.task w c.yield_task.new.worker s s1 c.yield_task.new.shared c.yield_task.result h c.yield_task.ensures.event c.yield_task.ensures.worker c.yield_task.ensures.task)
 
 pub finish-requires : goal.finish-requires
 finish-requires g c =
@@ -56,9 +56,9 @@ returns-in-Done-clause-steps g c =
     let it = c.finish in
     let h = acted_at g.B.Body.left g.B.Scripted.runs g.B.Scripted.holds g.B.Scripted.spot g.B.Body.gives g.met.B.Scripted.plays c.args.task w s s1 c.in_ok-request.field-0 (Act.Done c.in-Done.field-0) c.in-Done.is c.requires.sound c.in_ok-request.ensures.acts c.requires.performs in
     let end = is_done g.B.Body.left g.B.Scripted.runs g.B.Scripted.holds g.B.Scripted.spot g.B.Body.gives c.args.task c.in-Done.field-0 in
-    steps_nobody g.B.Body.left g.B.Scripted.runs g.B.Scripted.holds g.B.Scripted.spot c.args.nursery.now.born w it.new.self s it.new.shared it.result c.requires.none_yet
-    (subst (λ e. StepsOf g.B.Body.left g.B.Scripted.runs g.B.Scripted.holds g.B.Scripted.spot w s e it.new.self it.new.shared) (sym it.ensures.event)
-    (act_over g.B.Body.left g.B.Scripted.runs g.B.Scripted.holds g.B.Scripted.spot g.B.Body.gives c.args.task w s s1 (Act.Done c.in-Done.field-0) h c.requires.whole lets_seen it.new.self it.new.shared _ _ end it.ensures.ends c.requires.performs))
+    steps_nobody g.B.Body.left g.B.Scripted.runs g.B.Scripted.holds g.B.Scripted.spot c.args.nursery.now.born w it.new.worker s it.new.shared it.result c.requires.none_yet
+    (subst (λ e. StepsOf g.B.Body.left g.B.Scripted.runs g.B.Scripted.holds g.B.Scripted.spot w s e it.new.worker it.new.shared) (sym it.ensures.event)
+    (act_over g.B.Body.left g.B.Scripted.runs g.B.Scripted.holds g.B.Scripted.spot g.B.Body.gives c.args.task w s s1 (Act.Done c.in-Done.field-0) h c.requires.whole lets_seen it.new.worker it.new.shared _ _ end it.ensures.ends c.requires.performs))
 
 pub fail-requires : goal.fail-requires
 fail-requires g c =
@@ -75,9 +75,9 @@ returns-in-Fault-clause-steps g c =
     let it = c.fail in
     let h = acted_at g.B.Body.left g.B.Scripted.runs g.B.Scripted.holds g.B.Scripted.spot g.B.Body.gives g.met.B.Scripted.plays c.args.task w s s1 c.in_ok-request.field-0 (Act.Fault c.in-Fault.code) c.in-Fault.is c.requires.sound c.in_ok-request.ensures.acts c.requires.performs in
     let end = is_fault g.B.Body.left g.B.Scripted.runs g.B.Scripted.holds g.B.Scripted.spot g.B.Body.gives c.args.task c.in-Fault.code in
-    steps_nobody g.B.Body.left g.B.Scripted.runs g.B.Scripted.holds g.B.Scripted.spot c.args.nursery.now.born w it.new.self s it.new.shared it.result c.requires.none_yet
-    (subst (λ e. StepsOf g.B.Body.left g.B.Scripted.runs g.B.Scripted.holds g.B.Scripted.spot w s e it.new.self it.new.shared) (sym it.ensures.event)
-    (act_over g.B.Body.left g.B.Scripted.runs g.B.Scripted.holds g.B.Scripted.spot g.B.Body.gives c.args.task w s s1 (Act.Fault c.in-Fault.code) h c.requires.whole lets_seen it.new.self it.new.shared _ _ end it.ensures.ends c.requires.performs))
+    steps_nobody g.B.Body.left g.B.Scripted.runs g.B.Scripted.holds g.B.Scripted.spot c.args.nursery.now.born w it.new.worker s it.new.shared it.result c.requires.none_yet
+    (subst (λ e. StepsOf g.B.Body.left g.B.Scripted.runs g.B.Scripted.holds g.B.Scripted.spot w s e it.new.worker it.new.shared) (sym it.ensures.event)
+    (act_over g.B.Body.left g.B.Scripted.runs g.B.Scripted.holds g.B.Scripted.spot g.B.Body.gives c.args.task w s s1 (Act.Fault c.in-Fault.code) h c.requires.whole lets_seen it.new.worker it.new.shared _ _ end it.ensures.ends c.requires.performs))
 
 pub returns-in-Sleep-eq0-clause-same : goal.returns-in-Sleep-eq0-clause-same
 returns-in-Sleep-eq0-clause-same g c = tt
@@ -114,10 +114,10 @@ returns-in-Wake-clause-steps g c =
     let n = c.in-Wake.other in
     let h = acted_at g.B.Body.left g.B.Scripted.runs g.B.Scripted.holds g.B.Scripted.spot g.B.Body.gives g.met.B.Scripted.plays c.args.task w s s1 c.in_ok-request.field-0 (Act.Wake n) c.in-Wake.is c.requires.sound c.in_ok-request.ensures.acts c.requires.performs in
     let it = c.wake_task.ensures.wakes in
-    let other = woken_there g.B.Body.left g.B.Scripted.runs g.B.Scripted.holds g.B.Scripted.spot g.B.Body.gives c.args.task n w c.wake_task.new.self s s1 c.wake_task.new.shared c.wake_task.result h it in
-    steps_nobody g.B.Body.left g.B.Scripted.runs g.B.Scripted.holds g.B.Scripted.spot c.args.nursery.now.born w c.wake_task.new.self s c.wake_task.new.shared c.wake_task.result c.requires.none_yet
-    (woke_by g.B.Body.left g.B.Scripted.runs g.B.Scripted.holds g.B.Scripted.spot g.B.Body.gives g.B.Scripted.answered c.args.task n w c.wake_task.new.self s s1 c.wake_task.new.shared c.wake_task.result h it other.0 other.1
-    (λ j home apart. woke_there g.B.Body.left g.B.Scripted.runs g.B.Scripted.holds g.B.Scripted.spot g.B.Body.gives g.B.Scripted.answered c.args.task j n w c.wake_task.new.self s s1 c.wake_task.new.shared c.wake_task.result h it other.0 other.1 home apart c.requires.whole.whole.pool.mail))
+    let other = woken_there g.B.Body.left g.B.Scripted.runs g.B.Scripted.holds g.B.Scripted.spot g.B.Body.gives c.args.task n w c.wake_task.new.worker s s1 c.wake_task.new.shared c.wake_task.result h it in
+    steps_nobody g.B.Body.left g.B.Scripted.runs g.B.Scripted.holds g.B.Scripted.spot c.args.nursery.now.born w c.wake_task.new.worker s c.wake_task.new.shared c.wake_task.result c.requires.none_yet
+    (woke_by g.B.Body.left g.B.Scripted.runs g.B.Scripted.holds g.B.Scripted.spot g.B.Body.gives g.B.Scripted.answered c.args.task n w c.wake_task.new.worker s s1 c.wake_task.new.shared c.wake_task.result h it other.0 other.1
+    (λ j home apart. woke_there g.B.Body.left g.B.Scripted.runs g.B.Scripted.holds g.B.Scripted.spot g.B.Body.gives g.B.Scripted.answered c.args.task j n w c.wake_task.new.worker s s1 c.wake_task.new.shared c.wake_task.result h it other.0 other.1 home apart c.requires.whole.whole.pool.mail))
 
 pub returns-in-Wake-clause-same : goal.returns-in-Wake-clause-same
 returns-in-Wake-clause-same g c = tt
@@ -132,7 +132,7 @@ returns-in-Sleep-clause-same g c =
     let s1 = c.next_act.new.shared in
     let time = c.in-Sleep.time in
     let h = acted_at g.B.Body.left g.B.Scripted.runs g.B.Scripted.holds g.B.Scripted.spot g.B.Body.gives g.met.B.Scripted.plays c.args.task w s s1 c.in_ok-request.field-0 (Act.Sleep time) c.in-Sleep.is c.requires.sound c.in_ok-request.ensures.acts c.requires.performs in
-    on_err_weaker c.sleep_for.result (refused_by g.B.Body.left g.B.Scripted.runs g.B.Scripted.holds g.B.Scripted.spot g.B.Body.gives c.args.task w c.sleep_for.new.self s s1 c.sleep_for.new.shared (Act.Sleep time) h refl) c.sleep_for.ensures.refused
+    on_err_weaker c.sleep_for.result (refused_by g.B.Body.left g.B.Scripted.runs g.B.Scripted.holds g.B.Scripted.spot g.B.Body.gives c.args.task w c.sleep_for.new.worker s s1 c.sleep_for.new.shared (Act.Sleep time) h refl) c.sleep_for.ensures.refused
 
 pub returns-in-Sleep-clause-steps : goal.returns-in-Sleep-clause-steps
 returns-in-Sleep-clause-steps g c =
@@ -142,8 +142,8 @@ returns-in-Sleep-clause-steps g c =
     let time = c.in-Sleep.time in
     let h = acted_at g.B.Body.left g.B.Scripted.runs g.B.Scripted.holds g.B.Scripted.spot g.B.Body.gives g.met.B.Scripted.plays c.args.task w s s1 c.in_ok-request.field-0 (Act.Sleep time) c.in-Sleep.is c.requires.sound c.in_ok-request.ensures.acts c.requires.performs in
     ok_so c.sleep_for.result
-    (λ e made. steps_nobody g.B.Body.left g.B.Scripted.runs g.B.Scripted.holds g.B.Scripted.spot c.args.nursery.now.born w c.sleep_for.new.self s c.sleep_for.new.shared e c.requires.none_yet
-    (slept_at g.B.Body.left g.B.Scripted.runs g.B.Scripted.holds g.B.Scripted.spot g.B.Body.gives c.args.task w c.sleep_for.new.self s s1 c.sleep_for.new.shared e time c.in-Sleep.time-test.1 h made)) c.sleep_for.ensures.made
+    (λ e made. steps_nobody g.B.Body.left g.B.Scripted.runs g.B.Scripted.holds g.B.Scripted.spot c.args.nursery.now.born w c.sleep_for.new.worker s c.sleep_for.new.shared e c.requires.none_yet
+    (slept_at g.B.Body.left g.B.Scripted.runs g.B.Scripted.holds g.B.Scripted.spot g.B.Body.gives c.args.task w c.sleep_for.new.worker s s1 c.sleep_for.new.shared e time c.in-Sleep.time-test.1 h made)) c.sleep_for.ensures.made
 
 pub register-requires : goal.register-requires
 register-requires g c =
@@ -169,8 +169,8 @@ returns-in-Register-clause-steps g c =
     let q = c.in-Register.request in
     let h = acted_at g.B.Body.left g.B.Scripted.runs g.B.Scripted.holds g.B.Scripted.spot g.B.Body.gives g.met.B.Scripted.plays c.args.task w s s1 c.in_ok-request.field-0 (Act.Register q) c.in-Register.is c.requires.sound acts c.requires.performs in
     ok_so c.register.result
-    (λ e made. steps_nobody g.B.Body.left g.B.Scripted.runs g.B.Scripted.holds g.B.Scripted.spot c.args.nursery.now.born w c.register.new.self s c.register.new.shared e c.requires.none_yet
-    (registered_by g.B.Body.left g.B.Scripted.runs g.B.Scripted.holds g.B.Scripted.spot g.B.Body.gives c.args.task w c.register.new.self s s1 c.register.new.shared e q h made g.B.Scripted.answered)) c.register.ensures.made
+    (λ e made. steps_nobody g.B.Body.left g.B.Scripted.runs g.B.Scripted.holds g.B.Scripted.spot c.args.nursery.now.born w c.register.new.worker s c.register.new.shared e c.requires.none_yet
+    (registered_by g.B.Body.left g.B.Scripted.runs g.B.Scripted.holds g.B.Scripted.spot g.B.Body.gives c.args.task w c.register.new.worker s s1 c.register.new.shared e q h made g.B.Scripted.answered)) c.register.ensures.made
 
 pub returns-in-Register-clause-same : goal.returns-in-Register-clause-same
 returns-in-Register-clause-same g c =
@@ -180,7 +180,7 @@ returns-in-Register-clause-same g c =
     let acts = c.in_ok-request.ensures.acts in
     let q = c.in-Register.request in
     let h = acted_at g.B.Body.left g.B.Scripted.runs g.B.Scripted.holds g.B.Scripted.spot g.B.Body.gives g.met.B.Scripted.plays c.args.task w s s1 c.in_ok-request.field-0 (Act.Register q) c.in-Register.is c.requires.sound acts c.requires.performs in
-    on_err_weaker c.register.result (refused_by g.B.Body.left g.B.Scripted.runs g.B.Scripted.holds g.B.Scripted.spot g.B.Body.gives c.args.task w c.register.new.self s s1 c.register.new.shared (Act.Register q) h refl) c.register.ensures.refused
+    on_err_weaker c.register.result (refused_by g.B.Body.left g.B.Scripted.runs g.B.Scripted.holds g.B.Scripted.spot g.B.Body.gives c.args.task w c.register.new.worker s s1 c.register.new.shared (Act.Register q) h refl) c.register.ensures.refused
 
 pub await_newest-requires : goal.await_newest-requires
 await_newest-requires g c =
@@ -202,8 +202,8 @@ returns-in-Await-clause-steps g c =
     let acts = c.in_ok-request.ensures.acts in
     let a = c.in_ok-request.field-0 in
     let h = acted_at g.B.Body.left g.B.Scripted.runs g.B.Scripted.holds g.B.Scripted.spot g.B.Body.gives g.met.B.Scripted.plays c.args.task w s s1 a (Act.Await c.in-Await.field-0) c.in-Await.is c.requires.sound acts c.requires.performs in
-    steps_nobody g.B.Body.left g.B.Scripted.runs g.B.Scripted.holds g.B.Scripted.spot c.args.nursery.now.born w c.await_newest.new.self s c.await_newest.new.shared c.await_newest.result c.requires.none_yet
-    (await_steps g.B.Body.left g.B.Scripted.runs g.B.Scripted.holds g.B.Scripted.spot g.B.Body.gives g.B.Scripted.answered c.args.task w c.await_newest.new.self s s1 c.await_newest.new.shared c.await_newest.result c.in-Await.field-0 h c.requires.whole c.await_newest.ensures.awaits)
+    steps_nobody g.B.Body.left g.B.Scripted.runs g.B.Scripted.holds g.B.Scripted.spot c.args.nursery.now.born w c.await_newest.new.worker s c.await_newest.new.shared c.await_newest.result c.requires.none_yet
+    (await_steps g.B.Body.left g.B.Scripted.runs g.B.Scripted.holds g.B.Scripted.spot g.B.Body.gives g.B.Scripted.answered c.args.task w c.await_newest.new.worker s s1 c.await_newest.new.shared c.await_newest.result c.in-Await.field-0 h c.requires.whole c.await_newest.ensures.awaits)
 
 pub returns-in-Await-clause-same : goal.returns-in-Await-clause-same
 returns-in-Await-clause-same g c = tt
@@ -230,8 +230,8 @@ returns-in-Drop-clause-steps g c =
     let acts = c.in_ok-request.ensures.acts in
     let a = c.in_ok-request.field-0 in
     let h = acted_at g.B.Body.left g.B.Scripted.runs g.B.Scripted.holds g.B.Scripted.spot g.B.Body.gives g.met.B.Scripted.plays c.args.task w s s1 a (Act.Drop c.in-Drop.field-0) c.in-Drop.is c.requires.sound acts c.requires.performs in
-    steps_nobody g.B.Body.left g.B.Scripted.runs g.B.Scripted.holds g.B.Scripted.spot c.args.nursery.now.born w c.drop_newest.new.self s c.drop_newest.new.shared c.drop_newest.result c.requires.none_yet
-    (drop_steps g.B.Body.left g.B.Scripted.runs g.B.Scripted.holds g.B.Scripted.spot g.B.Body.gives g.B.Scripted.answered c.args.task w c.drop_newest.new.self s s1 c.drop_newest.new.shared c.drop_newest.result c.in-Drop.field-0 h c.requires.whole c.drop_newest.ensures.drops)
+    steps_nobody g.B.Body.left g.B.Scripted.runs g.B.Scripted.holds g.B.Scripted.spot c.args.nursery.now.born w c.drop_newest.new.worker s c.drop_newest.new.shared c.drop_newest.result c.requires.none_yet
+    (drop_steps g.B.Body.left g.B.Scripted.runs g.B.Scripted.holds g.B.Scripted.spot g.B.Body.gives g.B.Scripted.answered c.args.task w c.drop_newest.new.worker s s1 c.drop_newest.new.shared c.drop_newest.result c.in-Drop.field-0 h c.requires.whole c.drop_newest.ensures.drops)
 
 pub returns-in-Drop-clause-same : goal.returns-in-Drop-clause-same
 returns-in-Drop-clause-same g c = tt
@@ -252,8 +252,8 @@ returns-in-Spawn-clause-steps g c =
     let s1 = c.next_act.new.shared in
     let h = acted_at g.B.Body.left g.B.Scripted.runs g.B.Scripted.holds g.B.Scripted.spot g.B.Body.gives g.met.B.Scripted.plays c.args.task w s s1 c.in_ok-request.field-0 (Act.Spawn c.in-Spawn.body) c.in-Spawn.is c.requires.sound c.in_ok-request.ensures.acts c.requires.performs in
     ok_so c.spawn.result
-    (λ e it. steps_nobody g.B.Body.left g.B.Scripted.runs g.B.Scripted.holds g.B.Scripted.spot c.args.nursery.now.born w c.spawn.new.self s c.spawn.new.shared e c.requires.none_yet
-    (spawned_by g.B.Body.left g.B.Scripted.runs g.B.Scripted.holds g.B.Scripted.spot g.B.Body.gives g.B.Scripted.answered c.args.task c.in-Spawn.body w c.spawn.new.self s s1 c.spawn.new.shared h g.B.Body.name_of c.requires.whole g.met.B.Scripted.named e it)) c.spawn.ensures.made
+    (λ e it. steps_nobody g.B.Body.left g.B.Scripted.runs g.B.Scripted.holds g.B.Scripted.spot c.args.nursery.now.born w c.spawn.new.worker s c.spawn.new.shared e c.requires.none_yet
+    (spawned_by g.B.Body.left g.B.Scripted.runs g.B.Scripted.holds g.B.Scripted.spot g.B.Body.gives g.B.Scripted.answered c.args.task c.in-Spawn.body w c.spawn.new.worker s s1 c.spawn.new.shared h g.B.Body.name_of c.requires.whole g.met.B.Scripted.named e it)) c.spawn.ensures.made
 
 pub returns-in-Spawn-clause-same : goal.returns-in-Spawn-clause-same
 returns-in-Spawn-clause-same g c =
@@ -261,7 +261,7 @@ returns-in-Spawn-clause-same g c =
     let s = c.args.shared.now in
     let s1 = c.next_act.new.shared in
     let h = acted_at g.B.Body.left g.B.Scripted.runs g.B.Scripted.holds g.B.Scripted.spot g.B.Body.gives g.met.B.Scripted.plays c.args.task w s s1 c.in_ok-request.field-0 (Act.Spawn c.in-Spawn.body) c.in-Spawn.is c.requires.sound c.in_ok-request.ensures.acts c.requires.performs in
-    on_err_weaker c.spawn.result (λ it. unspawned g.B.Body.left g.B.Scripted.runs g.B.Scripted.holds g.B.Scripted.spot g.B.Body.gives g.B.Scripted.answered c.args.task c.in-Spawn.body w c.spawn.new.self s s1 c.spawn.new.shared h it) c.spawn.ensures.refused
+    on_err_weaker c.spawn.result (λ it. unspawned g.B.Body.left g.B.Scripted.runs g.B.Scripted.holds g.B.Scripted.spot g.B.Body.gives g.B.Scripted.answered c.args.task c.in-Spawn.body w c.spawn.new.worker s s1 c.spawn.new.shared h it) c.spawn.ensures.refused
 
 pub dedicate-requires : goal.dedicate-requires
 dedicate-requires g c = grind (arith, acted_at, acted_within, may_begin)
@@ -272,7 +272,7 @@ returns-in-Dedicated-clause-steps g c =
     let s = c.args.shared.now in
     let s1 = c.next_act.new.shared in
     let h = acted_at g.B.Body.left g.B.Scripted.runs g.B.Scripted.holds g.B.Scripted.spot g.B.Body.gives g.met.B.Scripted.plays c.args.task w s s1 c.in_ok-request.field-0 (Act.Dedicated c.in-Dedicated.body) c.in-Dedicated.is c.requires.sound c.in_ok-request.ensures.acts c.requires.performs in
-    ok_so c.dedicate.result (dedicated_by g.B.Body.left g.B.Scripted.runs g.B.Scripted.holds g.B.Scripted.spot g.B.Body.gives g.B.Scripted.answered c.args.task c.in-Dedicated.body w c.dedicate.new.self s s1 c.dedicate.new.shared c.args.nursery.now c.dedicate.new.nursery h c.requires.whole c.requires.none_yet) c.dedicate.ensures.made
+    ok_so c.dedicate.result (dedicated_by g.B.Body.left g.B.Scripted.runs g.B.Scripted.holds g.B.Scripted.spot g.B.Body.gives g.B.Scripted.answered c.args.task c.in-Dedicated.body w c.dedicate.new.worker s s1 c.dedicate.new.shared c.args.nursery.now c.dedicate.new.nursery h c.requires.whole c.requires.none_yet) c.dedicate.ensures.made
 
 pub returns-in-Dedicated-clause-room : goal.returns-in-Dedicated-clause-room
 returns-in-Dedicated-clause-room g c = grind arith
@@ -283,7 +283,7 @@ returns-in-Dedicated-clause-same g c =
     let s = c.args.shared.now in
     let s1 = c.next_act.new.shared in
     let h = acted_at g.B.Body.left g.B.Scripted.runs g.B.Scripted.holds g.B.Scripted.spot g.B.Body.gives g.met.B.Scripted.plays c.args.task w s s1 c.in_ok-request.field-0 (Act.Dedicated c.in-Dedicated.body) c.in-Dedicated.is c.requires.sound c.in_ok-request.ensures.acts c.requires.performs in
-    on_err_weaker c.dedicate.result (undedicated g.B.Body.left g.B.Scripted.runs g.B.Scripted.holds g.B.Scripted.spot g.B.Body.gives g.B.Scripted.answered c.args.task c.in-Dedicated.body w c.dedicate.new.self s s1 c.dedicate.new.shared c.args.nursery.now c.dedicate.new.nursery h) c.dedicate.ensures.refused
+    on_err_weaker c.dedicate.result (undedicated g.B.Body.left g.B.Scripted.runs g.B.Scripted.holds g.B.Scripted.spot g.B.Body.gives g.B.Scripted.answered c.args.task c.in-Dedicated.body w c.dedicate.new.worker s s1 c.dedicate.new.shared c.args.nursery.now c.dedicate.new.nursery h) c.dedicate.ensures.refused
 
 pub returns-in-Dedicated-clause-nobody : goal.returns-in-Dedicated-clause-nobody
 returns-in-Dedicated-clause-nobody g c = on_err_weaker c.dedicate.result (λ it. ap (λ (y : Nursery). y.born) it.nobody.nursery ∙ c.requires.none_yet) c.dedicate.ensures.refused

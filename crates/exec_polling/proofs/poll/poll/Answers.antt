@@ -20,8 +20,8 @@ returns-in-BeginPoll-clause-steps g c =
     let w = c.args.worker.now in
     let s = c.args.shared.now in
     let it = c.begin_poll in
-    steps_none g.B.Body.left g.B.Scripted.runs g.B.Scripted.holds g.B.Scripted.spot c.args.nursery.now.born w it.new.self s it.new.shared it.result c.requires.none_yet
-    (poll_begun g.B.Body.left g.B.Scripted.spot c.args.task w it.new.self s it.new.shared it.result (rw c.in-BeginPoll.is at c.requires.sound) it.ensures.event it.ensures.place it.ensures.worker it.ensures.task)
+    steps_none g.B.Body.left g.B.Scripted.runs g.B.Scripted.holds g.B.Scripted.spot c.args.nursery.now.born w it.new.worker s it.new.shared it.result c.requires.none_yet
+    (poll_begun g.B.Body.left g.B.Scripted.spot c.args.task w it.new.worker s it.new.shared it.result (rw c.in-BeginPoll.is at c.requires.sound) it.ensures.event it.ensures.place it.ensures.worker it.ensures.task)
 
 pub returns-in-Resume-clause-steps : goal.returns-in-Resume-clause-steps
 returns-in-Resume-clause-steps g c =
@@ -48,8 +48,8 @@ returns-in-LoadSpawnHead-clause-steps g c =
     let w = c.args.worker.now in
     let s = c.args.shared.now in
     let it = c.load_spawn_head in
-    steps_none g.B.Body.left g.B.Scripted.runs g.B.Scripted.holds g.B.Scripted.spot c.args.nursery.now.born w it.new.self s s it.result c.requires.none_yet
-    (spawn_head_loaded g.B.Body.left g.B.Scripted.spot c.args.task w it.new.self s it.result (rw c.in-LoadSpawnHead.is at c.requires.sound) it.ensures.makes it.ensures.goes)
+    steps_none g.B.Body.left g.B.Scripted.runs g.B.Scripted.holds g.B.Scripted.spot c.args.nursery.now.born w it.new.worker s s it.result c.requires.none_yet
+    (spawn_head_loaded g.B.Body.left g.B.Scripted.spot c.args.task w it.new.worker s it.result (rw c.in-LoadSpawnHead.is at c.requires.sound) it.ensures.makes it.ensures.goes)
 
 pub pend-requires : goal.pend-requires
 pend-requires g c =
@@ -64,8 +64,8 @@ returns-in-Pend-clause-steps g c =
     let it = c.pend in
     let sound = rw c.in-Pend.is at c.requires.sound in
     let here : IsHere InPoll.Pend c.args.task w s = polled_here InPoll.Pend c.args.task w s sound refl in
-    steps_none g.B.Body.left g.B.Scripted.runs g.B.Scripted.holds g.B.Scripted.spot c.args.nursery.now.born w it.new.self s it.new.shared it.result c.requires.none_yet
-    (poll_ends g.B.Body.left g.B.Scripted.spot InPoll.Pend c.args.task w s sound (at_pend c.args.task) (pending c.args.task) here c.requires.whole lets_seen (removes_seen g.row.B.Denot) it.new.self it.new.shared it.result it.ensures.event (λ p vs suits. refl) here.waits (sound.stops here.slot here.there) it.ensures.pends)
+    steps_none g.B.Body.left g.B.Scripted.runs g.B.Scripted.holds g.B.Scripted.spot c.args.nursery.now.born w it.new.worker s it.new.shared it.result c.requires.none_yet
+    (poll_ends g.B.Body.left g.B.Scripted.spot InPoll.Pend c.args.task w s sound (at_pend c.args.task) (pending c.args.task) here c.requires.whole lets_seen (removes_seen g.row.B.Denot) it.new.worker it.new.shared it.result it.ensures.event (λ p vs suits. refl) here.waits (sound.stops here.slot here.there) it.ensures.pends)
 
 pub join_gate-requires : goal.join_gate-requires
 join_gate-requires g c =
@@ -81,8 +81,8 @@ returns-in-JoinGate-clause-steps g c =
     let w = c.args.worker.now in
     let s = c.args.shared.now in
     let it = c.join_gate in
-    steps_none g.B.Body.left g.B.Scripted.runs g.B.Scripted.holds g.B.Scripted.spot c.args.nursery.now.born w it.new.self s it.new.shared it.result c.requires.none_yet
-    (gate_joined g.B.Body.left g.B.Scripted.spot c.args.task c.in-JoinGate.request w it.new.self s it.new.shared it.result (rw c.in-JoinGate.is at c.requires.sound) c.requires.whole it.ensures.event it.ensures.worker it.ensures.opens it.ensures.kept)
+    steps_none g.B.Body.left g.B.Scripted.runs g.B.Scripted.holds g.B.Scripted.spot c.args.nursery.now.born w it.new.worker s it.new.shared it.result c.requires.none_yet
+    (gate_joined g.B.Body.left g.B.Scripted.spot c.args.task c.in-JoinGate.request w it.new.worker s it.new.shared it.result (rw c.in-JoinGate.is at c.requires.sound) c.requires.whole it.ensures.event it.ensures.worker it.ensures.opens it.ensures.kept)
 
 pub remove_task-requires-clause-held : goal.remove_task-requires-clause-held
 remove_task-requires-clause-held g c =
@@ -104,5 +104,5 @@ returns-in-RemoveTask-clause-steps g c =
     let w = c.args.worker.now in
     let s = c.args.shared.now in
     let it = c.remove_task in
-    steps_none g.B.Body.left g.B.Scripted.runs g.B.Scripted.holds g.B.Scripted.spot c.args.nursery.now.born w it.new.self s (record s { set = it.new.set }) it.result c.requires.none_yet
-    (task_removed g.B.Body.left g.B.Scripted.spot c.args.task w it.new.self s it.new.set it.result (rw c.in-RemoveTask.is at c.requires.sound) c.requires.whole it.ensures.event it.ensures.goes it.ensures.set)
+    steps_none g.B.Body.left g.B.Scripted.runs g.B.Scripted.holds g.B.Scripted.spot c.args.nursery.now.born w it.new.worker s (record s { set = it.new.set }) it.result c.requires.none_yet
+    (task_removed g.B.Body.left g.B.Scripted.spot c.args.task w it.new.worker s it.new.set it.result (rw c.in-RemoveTask.is at c.requires.sound) c.requires.whole it.ensures.event it.ensures.goes it.ensures.set)

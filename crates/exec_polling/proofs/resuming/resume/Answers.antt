@@ -18,7 +18,7 @@ returns-in-Woken g c =
     let there = slice_get-get_or items c.args.task slot (slice_get_within items c.args.task it.slot it.there) ∙ ap (λ z. Some z) (sym c.index.ensures) in
     let is = c.take_wake.ensures in
     let waits = ap (λ (x : TaskSlot g.row.B.Denot). x.waiting) (same_Some it.slot slot (sym it.there ∙ there)) ∙ sym c.waiting.ensures ∙ c.in-Woken.is in
-    record { steps = wake_taken g.B.Body.left g.B.Scripted.spot g.B.Scripted.answered c.args.task c.args.worker.now c.take_wake.new.self c.args.shared.now c.take_wake.new.shared c.take_wake.result c.requires.sound it waits is.event is.worker is.task }
+    record { steps = wake_taken g.B.Body.left g.B.Scripted.spot g.B.Scripted.answered c.args.task c.args.worker.now c.take_wake.new.worker c.args.shared.now c.take_wake.new.shared c.take_wake.result c.requires.sound it waits is.event is.worker is.task }
 
 pub resume_timer-requires : goal.resume_timer-requires
 resume_timer-requires g c =

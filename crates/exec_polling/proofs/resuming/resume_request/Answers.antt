@@ -23,7 +23,7 @@ returns-then-was_forwarded g c =
     let r = c.index-record.result.now in
     let at_r = found_at s.requests.items c.args.request r c.requires.there c.index-record.ensures in
     record {
-      steps = output_looked g.B.Body.left g.B.Scripted.spot g.B.Scripted.answered c.args.task c.args.request w c.hear_output.new.self s c.hear_output.new.shared c.hear_output.result r c.requires.sound c.requires.whole it (c.requires.waits it.slot it.there) at_r
+      steps = output_looked g.B.Body.left g.B.Scripted.spot g.B.Scripted.answered c.args.task c.args.request w c.hear_output.new.worker s c.hear_output.new.shared c.hear_output.result r c.requires.sound c.requires.whole it (c.requires.waits it.slot it.there) at_r
           (not-true (is_unsent r.shown.forwarding) (sym c.was_forwarded.ensures ∙ c.if-was_forwarded.true)) c.hear_output.ensures.hears;
     }
 
@@ -45,7 +45,7 @@ returns-then-record-worker g c =
     let r = c.index-record.result.now in
     let at_r = found_at s.requests.items c.args.request r c.requires.there c.index-record.ensures in
     record {
-      steps = output_asked g.B.Body.left g.B.Scripted.spot c.args.task c.args.request w c.ask_output.new.self s c.ask_output.new.shared c.ask_output.result r c.requires.sound c.requires.whole it (c.requires.waits it.slot it.there) at_r
+      steps = output_asked g.B.Body.left g.B.Scripted.spot c.args.task c.args.request w c.ask_output.new.worker s c.ask_output.new.shared c.ask_output.result r c.requires.sound c.requires.whole it (c.requires.waits it.slot it.there) at_r
           (not-false (is_unsent r.shown.forwarding) (sym c.was_forwarded.ensures ∙ c.if-was_forwarded.false)) c.if-record-worker.true c.ask_output.ensures.asks;
     }
 
@@ -73,7 +73,7 @@ returns-then-is_over g c =
     let r = c.index-record.result.now in
     let at_r = found_at s.requests.items c.args.request r c.requires.there c.index-record.ensures in
     record {
-      steps = output_got g.B.Body.left g.B.Scripted.spot g.B.Scripted.answered c.args.task c.args.request w c.take_output.new.self s c.take_output.new.shared c.take_output.result r c.requires.sound c.requires.whole it (c.requires.waits it.slot it.there) at_r
+      steps = output_got g.B.Body.left g.B.Scripted.spot g.B.Scripted.answered c.args.task c.args.request w c.take_output.new.worker s c.take_output.new.shared c.take_output.result r c.requires.sound c.requires.whole it (c.requires.waits it.slot it.there) at_r
           (not-false (is_unsent r.shown.forwarding) (sym c.was_forwarded.ensures ∙ c.if-was_forwarded.false)) c.if-record-worker.false c.take_output.ensures.took;
     }
 
@@ -96,6 +96,6 @@ returns g c =
     let waits = c.requires.waits it.slot it.there in
     let stops = stops_request c.args.request w.index it.slot.waiting s r waits at_r c.if-record-worker.false going in
     record {
-      steps = poll_ends g.B.Body.left g.B.Scripted.spot InPoll.Resume c.args.task w s c.requires.sound (at_resume c.args.task) (looking c.args.task) it c.requires.whole lets_seen (removes_seen g.row.B.Denot) c.pend.new.self c.pend.new.shared c.pend.result c.pend.ensures.event
+      steps = poll_ends g.B.Body.left g.B.Scripted.spot InPoll.Resume c.args.task w s c.requires.sound (at_resume c.args.task) (looking c.args.task) it c.requires.whole lets_seen (removes_seen g.row.B.Denot) c.pend.new.worker c.pend.new.shared c.pend.result c.pend.ensures.event
           (request_pends g.B.Body.left g.B.Scripted.spot c.args.task c.args.request w s it.slot r it.there waits at_r unsent c.if-record-worker.false going) stops.0 stops.1 c.pend.ensures.pends;
     }

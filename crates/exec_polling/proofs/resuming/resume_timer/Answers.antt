@@ -14,7 +14,7 @@ returns-then-was_forwarded g c =
     let z = c.index-record.result.now in
     let at_z = found_at s.sleepers.items c.args.timer z c.requires.asleep c.index-record.ensures in
     record {
-      steps = end_looked g.B.Body.left g.B.Scripted.spot g.B.Scripted.answered c.args.task c.args.timer w c.hear_end.new.self s c.hear_end.new.shared c.hear_end.result z c.requires.sound c.requires.whole it (c.requires.waits it.slot it.there) at_z
+      steps = end_looked g.B.Body.left g.B.Scripted.spot g.B.Scripted.answered c.args.task c.args.timer w c.hear_end.new.worker s c.hear_end.new.shared c.hear_end.result z c.requires.sound c.requires.whole it (c.requires.waits it.slot it.there) at_z
           (not-true (is_unsent z.shown.forwarding) (sym c.was_forwarded.ensures ∙ c.if-was_forwarded.true)) c.hear_end.ensures.hears;
     }
 
@@ -37,7 +37,7 @@ returns-then-record-worker g c =
     let z = c.index-record.result.now in
     let at_z = found_at s.sleepers.items c.args.timer z c.requires.asleep c.index-record.ensures in
     record {
-      steps = end_asked g.B.Body.left g.B.Scripted.spot c.args.task c.args.timer w c.ask_end.new.self s c.ask_end.new.shared c.ask_end.result z c.requires.sound c.requires.whole it (c.requires.waits it.slot it.there) at_z
+      steps = end_asked g.B.Body.left g.B.Scripted.spot c.args.task c.args.timer w c.ask_end.new.worker s c.ask_end.new.shared c.ask_end.result z c.requires.sound c.requires.whole it (c.requires.waits it.slot it.there) at_z
           (not-false (is_unsent z.shown.forwarding) (sym c.was_forwarded.ensures ∙ c.if-was_forwarded.false)) c.if-record-worker.true c.ask_end.ensures.asks;
     }
 
@@ -56,7 +56,7 @@ returns-then-record g c =
     let unsent = not-false (is_unsent z.shown.forwarding) (sym c.was_forwarded.ensures ∙ c.if-was_forwarded.false) in
     let is = c.take_sleep.ensures in
     record {
-      steps = sleep_taken g.B.Body.left g.B.Scripted.spot g.B.Scripted.answered c.args.task c.args.timer w c.take_sleep.new.self s c.take_sleep.new.shared c.take_sleep.result z c.requires.sound it (c.requires.waits it.slot it.there) at_z c.if-record.true
+      steps = sleep_taken g.B.Body.left g.B.Scripted.spot g.B.Scripted.answered c.args.task c.args.timer w c.take_sleep.new.worker s c.take_sleep.new.shared c.take_sleep.result z c.requires.sound it (c.requires.waits it.slot it.there) at_z c.if-record.true
           (inl (c.if-record-worker.false, is_unsent_so z.shown.forwarding unsent)) is.event is.worker is.task;
     }
 
@@ -78,6 +78,6 @@ returns g c =
     let waits = c.requires.waits it.slot it.there in
     let stops = stops_timer c.args.task c.args.timer w s z c.requires.whole it waits at_z c.if-record-worker.false c.if-record.false in
     record {
-      steps = poll_ends g.B.Body.left g.B.Scripted.spot InPoll.Resume c.args.task w s c.requires.sound (at_resume c.args.task) (looking c.args.task) it c.requires.whole lets_seen (removes_seen g.row.B.Denot) c.pend.new.self c.pend.new.shared c.pend.result c.pend.ensures.event
+      steps = poll_ends g.B.Body.left g.B.Scripted.spot InPoll.Resume c.args.task w s c.requires.sound (at_resume c.args.task) (looking c.args.task) it c.requires.whole lets_seen (removes_seen g.row.B.Denot) c.pend.new.worker c.pend.new.shared c.pend.result c.pend.ensures.event
           (timer_pends g.B.Body.left g.B.Scripted.spot c.args.task c.args.timer w s it.slot z it.there waits at_z unsent c.if-record-worker.false c.if-record.false) stops.0 stops.1 c.pend.ensures.pends;
     }

@@ -1,5 +1,6 @@
 use Rattle.std.{proofs.{Common.{refl, sym, ap, subst, ◌<◌, ◌∙◌}, lemmas.Option.{get_or_from_slice_get, slice_get_within}}, specs.Vec.with_item}
-use Rattle.exec_parts.{specs.declared.parts.worker.Worker.Worker, proofs.Leaves.takes_by}
+use Rattle.exec_parts.specs.declared.parts.worker.Worker.{Worker}
+use Rattle.exec_invariants.proofs.Leaves.{takes_by}
 use Rattle.exec_serving.proofs.Setting.{ending_beside, ending_common, ending_desk, ending_own, ending_sound, ending_things}
 use Rattle.exec_serving.proofs.lines.end_poll.Goals as goal
 

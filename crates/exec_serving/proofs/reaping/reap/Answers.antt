@@ -3,7 +3,8 @@ use Rattle.exec_request.specs.States.{as_answer}
 use Rattle.exec_driver.specs.Steps.{ReapsNext}
 use Rattle.exec_machine.specs.{Requests.{joined_if, reaped}, declared.event.Event.TheVariants.{Reap, Serve}}
 use Rattle.exec_moves.specs.{Serve.after_permit, declared.place.{AfterPermit.AfterPermit, InService.InService, Place.Place}}
-use Rattle.exec_parts.{specs.{declared.parts.{names.Names.Names, record.Record.Record, worker.Worker.Worker}, Records.number_in, Submitting.after_giving_up, View.driver_of}, proofs.Leaves.takes_by}
+use Rattle.exec_parts.specs.{declared.parts.{names.Names.Names, record.Record.Record, worker.Worker.Worker}, Records.number_in, View.driver_of}
+use Rattle.exec_invariants.{specs.Submitting.after_giving_up, proofs.Leaves.takes_by}
 use Rattle.exec_invariants.{specs.{Flown.operations, Works.Steps}, proofs.{Dating.set_changes, Raising.{none_waits, raised_first, sound_taken}}}
 use Rattle.exec_serving.proofs.{Settled.judged_steps, Reaped.{reaps_none, reaps_quiet, tells_none}, Reporting.{none_of, of_it, reaped_countable, reaped_lawful, reaped_room, reaped_within}, Sweeping.none_reaped, reaping.reap.Goals.{then-has_completion, else-has_completion}}
 use Rattle.exec_serving.proofs.reaping.reap.Goals as goal
@@ -31,10 +32,10 @@ returns-in_default g c =
     let no : c.has_completion.result ≡ false = c.has_completion.ensures ∙ ap not quiet in
     let back : c.if-has_completion.back ≡ AfterPermit.Reaped c.args.reaping =
     elim c.if-has_completion.branch [ then-has_completion x ↦ absurd (false≢true (sym no ∙ x.if-has_completion.true)) | else-has_completion x ↦ x.back-is ] in
-    let same : c.after_permit.new.self ≡ w1 = grind (arith, c.after_permit.ensures, back, facts.3) in
+    let same : c.after_permit.new.worker ≡ w1 = grind (arith, c.after_permit.ensures, back, facts.3) in
     let steps : Steps g.B.Body.left g.B.Scripted.spot w s Serve w1 s = none_reaped g.B.Body.left g.B.Scripted.spot c.args.reaping c.args.service w w1 s Serve sound waits none refl facts.0 refl in
     record {
-      steps = raised_first q w0 w s0 s c.requires.sound takes g.B.Body.left g.B.Scripted.spot c.after_permit.new.self (record s { opens = c.reap-reaped.new.opens }) Serve
+      steps = raised_first q w0 w s0 s c.requires.sound takes g.B.Body.left g.B.Scripted.spot c.after_permit.new.worker (record s { opens = c.reap-reaped.new.opens }) Serve
           (subst (λ x. Steps g.B.Body.left g.B.Scripted.spot w s Serve x (record s { opens = c.reap-reaped.new.opens })) (sym same)
           (subst (λ o. Steps g.B.Body.left g.B.Scripted.spot w s Serve w1 (record s { opens = o })) (sym facts.2) steps));
     }
@@ -99,14 +100,14 @@ returns g c =
     let j = c.request-request.result in
     let number : j ≡ number_in n done.id.0 = c.request-request.ensures in
     let back = c.if-has_completion.back in
-    let w1 : Worker = record w { place = Place.Service (after_giving_up done.permit back) c.args.service; home = record w.home { driver = c.reap-reaped.new.self; deferred = c.reap-reaped.new.deferred }; names = record w.names { ended = c.tell_reaped.new.self.names.ended } } in
+    let w1 : Worker = record w { place = Place.Service (after_giving_up done.permit back) c.args.service; home = record w.home { driver = c.reap-reaped.new.self; deferred = c.reap-reaped.new.deferred }; names = record w.names { ended = c.tell_reaped.new.worker.names.ended } } in
     let s1 = record s { requests = with_item s.requests j c.tell_reaped.new.it; opens = c.reap-reaped.new.opens } in
     let f : Record → Record = λ r. record r { shown = reaped done.given (as_answer done.ended) r.shown } in
     let r = of_it q w s sound (driver_of w1) s.opens c.reap-reaped.new.opens w.home.deferred c.reap-reaped.new.deferred done c.in-Some.ensures.reaps in
     let there : slice_get s.requests.items (number_in n done.id.0) ≡ Some r.reaped.has.r = ap (λ x. slice_get s.requests.items (number_in n x.0)) r.id ∙ r.reaped.has.there in
-    let same : c.tell_reaped.new.self ≡ w1 = c.tell_reaped.ensures.same in
+    let same : c.tell_reaped.new.worker ≡ w1 = c.tell_reaped.ensures.same in
     record {
-      steps = raised_first q w0 w s0 s c.requires.sound takes g.B.Body.left g.B.Scripted.spot c.tell_reaped.new.self s1 c.tell_reaped.result (subst (λ x. Steps g.B.Body.left g.B.Scripted.spot w s c.tell_reaped.result x s1) (sym same)
+      steps = raised_first q w0 w s0 s c.requires.sound takes g.B.Body.left g.B.Scripted.spot c.tell_reaped.new.worker s1 c.tell_reaped.result (subst (λ x. Steps g.B.Body.left g.B.Scripted.spot w s c.tell_reaped.result x s1) (sym same)
           (judged_steps g.B.Body.left g.B.Scripted.spot c.args.reaping c.args.service w w1 s s1 c.tell_reaped.result sound waits c.lists_requests.ensures done c.reap-reaped.new.opens back c.has_completion.result
           (record {
             reaps = c.in-Some.ensures.reaps;

@@ -1,7 +1,8 @@
 use Rattle.std.{proofs.{Common.{◌<◌, refl, sym, ap, subst, ◌∙◌}, lemmas.{Bool.{not-true, not-false}, Option.{get_or_from_slice_get, slice_get_within}}}, specs.Vec.with_item}
 use Rattle.exec_lists.specs.Lists.{has_first}
 use Rattle.exec_moves.specs.declared.{idling.InRingWait.InRingWait, place.Place.Place}
-use Rattle.exec_parts.{specs.declared.parts.worker.Worker.Worker, proofs.Leaves.takes_by}
+use Rattle.exec_parts.specs.declared.parts.worker.Worker.{Worker}
+use Rattle.exec_invariants.proofs.Leaves.{takes_by}
 use Rattle.exec_invariants.proofs.Raising.{sound_taken}
 use Rattle.exec_serving.proofs.Sleeping.{ring_slept, ring_unslept}
 use Rattle.exec_serving.proofs.ring_wait.sleep_on_ring.Goals as goal
@@ -38,4 +39,4 @@ returns g c =
     let w1 : Worker = c.take_raises.new.self in
     let s1 = record s { seats = with_item s.seats w.index c.take_raises.new.seat } in
     let takes = takes_by w (record w1 { place = w.place }) s s1 c.index_mut.result.now c.take_raises.new.seat (λ chair there. c.index_mut.ensures.value ∙ get_or_from_slice_get s.seats.items w.index chair c.index_mut.result.now there) c.take_raises.ensures.driver c.take_raises.ensures.seat (ap (λ (v : Worker). record v { place = w.place }) c.take_raises.ensures.same) refl refl in
-    record { steps = ring_slept g.B.Body.left g.B.Scripted.spot c.args.stay w w1 s s1 c.requires.sound takes (ap (λ (v : Worker). v.place) c.take_raises.ensures.same) c.sleep.new.self c.sleep.new.shared c.sleep.result (not-false _ (sym c.has_completion.ensures ∙ c.if-has_completion.false)) c.sleep.ensures.sleeps c.sleep.ensures.same }
+    record { steps = ring_slept g.B.Body.left g.B.Scripted.spot c.args.stay w w1 s s1 c.requires.sound takes (ap (λ (v : Worker). v.place) c.take_raises.ensures.same) c.sleep.new.worker c.sleep.new.shared c.sleep.result (not-false _ (sym c.has_completion.ensures ∙ c.if-has_completion.false)) c.sleep.ensures.sleeps c.sleep.ensures.same }

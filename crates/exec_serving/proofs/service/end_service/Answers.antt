@@ -21,6 +21,6 @@ pub returns-in-None : goal.returns-in-None
 returns-in-None g c =
     let w : Worker = c.args.worker.now in
     record {
-      steps = service_over g.B.Body.left g.B.Scripted.spot c.args.service w c.leave_service.new.self c.args.shared.now c.leave_service.result c.requires.sound c.leave_service.ensures.event c.in-None.ensures.none_due
-          (gone_same c.args.service.back w c.leave_service.new.self c.fire.new.self c.fire.new.notes c.leave_service.ensures.goes c.in-None.ensures.same.0 c.in-None.ensures.same.1);
+      steps = service_over g.B.Body.left g.B.Scripted.spot c.args.service w c.leave_service.new.worker c.args.shared.now c.leave_service.result c.requires.sound c.leave_service.ensures.event c.in-None.ensures.none_due
+          (gone_same c.args.service.back w c.leave_service.new.worker c.fire.new.self c.fire.new.notes c.leave_service.ensures.goes c.in-None.ensures.same.0 c.in-None.ensures.same.1);
     }

@@ -30,7 +30,7 @@ returns g c =
     let k = number_in w.names.requests.items id.0 in
     let number : c.request-request.result ≡ k = c.request-request.ensures in
     let who = new_first w s c.requires.new id c.in-Some.ensures.first in
-    let w1 : Worker = record w { home = record w.home { driver = c.enrol.new.self; deferred = c.enrol.new.deferred }; names = record w.names { ended = c.tell_enrolled.new.self.names.ended } } in
+    let w1 : Worker = record w { home = record w.home { driver = c.enrol.new.self; deferred = c.enrol.new.deferred }; names = record w.names { ended = c.tell_enrolled.new.worker.names.ended } } in
     let s1 = record s { requests = with_item s.requests c.request-request.result c.tell_enrolled.new.it } in
     record {
       steps = subst (λ x. Steps g.B.Body.left g.B.Scripted.spot w s c.tell_enrolled.result x s1) (sym c.tell_enrolled.ensures.same)

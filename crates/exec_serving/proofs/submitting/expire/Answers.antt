@@ -28,7 +28,7 @@ returns g c =
     let who = due_first w s c.requires.due id first in
     let was = found_is s.requests.items k c.request-request.result who.r c.index_mut.result.now number who.there c.index_mut.ensures.value in
     let outcome = ap (λ r. outcome_at_expiry r.shown) was in
-    let w1 : Worker = record w { home = record w.home { driver = c.expire.new.self; deferred = c.expire.new.deferred }; names = record w.names { ended = c.tell_expired.new.self.names.ended } } in
+    let w1 : Worker = record w { home = record w.home { driver = c.expire.new.self; deferred = c.expire.new.deferred }; names = record w.names { ended = c.tell_expired.new.worker.names.ended } } in
     let s1 = record s { requests = with_item s.requests c.request-request.result c.tell_expired.new.it } in
     record {
       steps = subst (λ x. Steps g.B.Body.left g.B.Scripted.spot w s c.tell_expired.result x s1) (sym c.tell_expired.ensures.same)

@@ -21,14 +21,14 @@ returns-in_default g c =
     let s = c.args.shared.now in
     let v = c.args.service in
     let file = c.args.file in
-    let go : c.go.new.self ≡ record w { place = Place.Service (InService.Submit (file + 1)) v } = c.go.ensures in
+    let go : c.go.new.worker ≡ record w { place = Place.Service (InService.Submit (file + 1)) v } = c.go.ensures in
     let next : file + 1 ≡ suc file = omega arith in
     let w1 : Worker = record w { place = Place.Service (InService.Submit (suc file)) v; home = record w.home { driver = c.grant-granted.new.self } } in
-    let to : c.go.new.self ≡ record w { place = Place.Service (InService.Submit (suc file)) v } = go ∙ ap (λ n. record w { place = Place.Service (InService.Submit n) v }) next in
+    let to : c.go.new.worker ≡ record w { place = Place.Service (InService.Submit (suc file)) v } = go ∙ ap (λ n. record w { place = Place.Service (InService.Submit n) v }) next in
     let left = c.in_default.ensures.same in
     let deferred : c.grant-granted.new.deferred ≡ w.home.deferred = left.2 ∙ ap (λ (x : Worker). x.home.deferred) go in
     let driver : seen c.grant-granted.new.self ≡ driver_of w = left.0 ∙ ap (λ (x : Worker). driver_of x) go in
-    let same : record c.go.new.self { home = record c.go.new.self.home { driver = c.grant-granted.new.self; deferred = c.grant-granted.new.deferred } } ≡ w1 = grind (arith, to, deferred) in
+    let same : record c.go.new.worker { home = record c.go.new.worker.home { driver = c.grant-granted.new.self; deferred = c.grant-granted.new.deferred } } ≡ w1 = grind (arith, to, deferred) in
     let shared : record s { opens = c.grant-granted.new.opens } ≡ s = ap (λ o. record s { opens = o }) left.1 in
     let turn = subst (λ (x : Worker). is_turn_of x.index (driver_of x).lists (holder_at s.opens file) ≡ false) go c.in_default.ensures.none in
     record {
@@ -70,11 +70,11 @@ returns g c =
     let outcome : c.outcome_of-outcome.result ≡ as_answer told.ended = c.outcome_of-outcome.ensures in
     let driver = c.grant-granted.new.self in
     let deferred = c.grant-granted.new.deferred in
-    let ended = c.tell_granted.new.self.names.ended in
-    let mid : Worker = record c.go.new.self { home = record c.go.new.self.home { driver = driver; deferred = deferred } } in
+    let ended = c.tell_granted.new.worker.names.ended in
+    let mid : Worker = record c.go.new.worker { home = record c.go.new.worker.home { driver = driver; deferred = deferred } } in
     let w1 : Worker = record w { place = (after_grant v file (as_answer told.ended) (desk_of w)).place; home = record w.home { driver = driver; deferred = deferred }; names = record w.names { ended = ended } } in
     let s1 = record s { requests = with_item s.requests c.request-request.result c.tell_granted.new.it; opens = c.grant-granted.new.opens } in
-    let same : c.tell_granted.new.self ≡ w1 = grind (arith, c.tell_granted.ensures.same, go, place_given v file c.outcome_of-outcome.result (desk_of mid) (desk_of w), outcome) in
+    let same : c.tell_granted.new.worker ≡ w1 = grind (arith, c.tell_granted.ensures.same, go, place_given v file c.outcome_of-outcome.result (desk_of mid) (desk_of w), outcome) in
     record {
       steps = subst (λ x. Steps g.B.Body.left g.B.Scripted.spot w s c.tell_granted.result x s1) (sym same)
           (grant_steps g.B.Body.left g.B.Scripted.spot v file w s c.requires.gated w1 s1 c.tell_granted.result told

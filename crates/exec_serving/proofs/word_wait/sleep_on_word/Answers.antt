@@ -17,7 +17,7 @@ returns g c =
     let e = c.sleep-event.result in
     let read = word_read (Place.WordWait InWordWait.SleepOnWord) w c.args.shared.now c.index.result.now c.requires.sound c.index.ensures in
     record {
-      steps = word_slept g.B.Body.left g.B.Scripted.spot w c.note_sleep.new.self c.args.shared.now c.sleep-event.new.shared e c.requires.sound
+      steps = word_slept g.B.Body.left g.B.Scripted.spot w c.note_sleep.new.worker c.args.shared.now c.sleep-event.new.shared e c.requires.sound
           (ap (λ x. is_idle_at x w.processed) (sym read) ∙ sym c.still_idle.ensures ∙ c.if-not-still_idle.false) c.sleep-event.ensures.sleeps
           (c.note_sleep.ensures ∙ ap (λ (v : Worker). record v { slept = slept_after e c.sleep-event.new.shared.clock v.slept }) c.sleep-event.ensures.same);
     }

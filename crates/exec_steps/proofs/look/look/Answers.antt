@@ -16,7 +16,7 @@ return_look_count-requires g c = record { holds = looks_some c.args.worker.now c
 
 pub returns-in-ReturnLookCount : goal.returns-in-ReturnLookCount
 returns-in-ReturnLookCount g c =
-    record { steps = look_count_returned g.B.Body.left g.B.Scripted.spot c.args.worker.now c.return_look_count.new.self c.args.shared.now c.return_look_count.result c.return_look_count.new.idle (rw c.in-ReturnLookCount.is at c.requires.sound) (looks_some c.args.worker.now c.args.shared.now (rw c.in-ReturnLookCount.is at c.requires.sound) c.requires.whole) c.return_look_count.ensures.makes c.return_look_count.ensures.same c.return_look_count.ensures.idle }
+    record { steps = look_count_returned g.B.Body.left g.B.Scripted.spot c.args.worker.now c.return_look_count.new.worker c.args.shared.now c.return_look_count.result c.return_look_count.new.idle (rw c.in-ReturnLookCount.is at c.requires.sound) (looks_some c.args.worker.now c.args.shared.now (rw c.in-ReturnLookCount.is at c.requires.sound) c.requires.whole) c.return_look_count.ensures.makes c.return_look_count.ensures.same c.return_look_count.ensures.idle }
 
 pub returns-in-LookAtMirror : goal.returns-in-LookAtMirror
 returns-in-LookAtMirror g c = record { steps = mirror_looked _ _ _ _ _ _ c.in-LookAtMirror.last _ (rw c.in-LookAtMirror.is at c.requires.sound) c.mirror.ensures c.look_at_mirror.ensures.event c.look_at_mirror.ensures.goes }
@@ -48,11 +48,11 @@ exchange_look_count-requires g c = record { told = told_due (Place.Look InLook.E
 
 pub returns-in-ExchangeLookCount : goal.returns-in-ExchangeLookCount
 returns-in-ExchangeLookCount g c =
-    record { steps = look_count_exchanged g.B.Body.left g.B.Scripted.spot c.args.worker.now c.exchange_look_count.new.self c.args.shared.now c.exchange_look_count.result c.exchange_look_count.new.shared (rw c.in-ExchangeLookCount.is at c.requires.sound) c.exchange_look_count.ensures.event c.exchange_look_count.ensures.first c.exchange_look_count.ensures.later c.exchange_look_count.ensures.waits c.exchange_look_count.ensures.idle }
+    record { steps = look_count_exchanged g.B.Body.left g.B.Scripted.spot c.args.worker.now c.exchange_look_count.new.worker c.args.shared.now c.exchange_look_count.result c.exchange_look_count.new.shared (rw c.in-ExchangeLookCount.is at c.requires.sound) c.exchange_look_count.ensures.event c.exchange_look_count.ensures.first c.exchange_look_count.ensures.later c.exchange_look_count.ensures.waits c.exchange_look_count.ensures.idle }
 
 pub return_claimed-requires : goal.return_claimed-requires
 return_claimed-requires g c = record { holds = claimed_some c.args.worker.now c.args.shared.now (rw c.in-ReturnClaimed.is at c.requires.sound) c.requires.whole }
 
 pub returns-in-ReturnClaimed : goal.returns-in-ReturnClaimed
 returns-in-ReturnClaimed g c =
-    record { steps = claimed_returned g.B.Body.left g.B.Scripted.spot c.args.worker.now c.return_claimed.new.self c.args.shared.now c.return_claimed.result c.return_claimed.new.idle (rw c.in-ReturnClaimed.is at c.requires.sound) (claimed_some c.args.worker.now c.args.shared.now (rw c.in-ReturnClaimed.is at c.requires.sound) c.requires.whole) c.return_claimed.ensures.makes c.return_claimed.ensures.goes c.return_claimed.ensures.idle }
+    record { steps = claimed_returned g.B.Body.left g.B.Scripted.spot c.args.worker.now c.return_claimed.new.worker c.args.shared.now c.return_claimed.result c.return_claimed.new.idle (rw c.in-ReturnClaimed.is at c.requires.sound) (claimed_some c.args.worker.now c.args.shared.now (rw c.in-ReturnClaimed.is at c.requires.sound) c.requires.whole) c.return_claimed.ensures.makes c.return_claimed.ensures.goes c.return_claimed.ensures.idle }

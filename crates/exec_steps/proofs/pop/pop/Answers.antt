@@ -27,7 +27,7 @@ exchange_pop-requires g c =
 
 pub returns-in-ExchangePop : goal.returns-in-ExchangePop
 returns-in-ExchangePop g c =
-    record { steps = pop_exchanged g.B.Body.left g.B.Scripted.spot c.args.worker.now c.exchange_pop.new.self c.args.shared.now c.exchange_pop.new.shared c.exchange_pop.result c.args.back c.in-ExchangePop.head (rw c.in-ExchangePop.is at c.requires.sound) c.requires.whole c.exchange_pop.ensures.event c.exchange_pop.ensures.worker c.exchange_pop.ensures.chair c.exchange_pop.ensures.kept }
+    record { steps = pop_exchanged g.B.Body.left g.B.Scripted.spot c.args.worker.now c.exchange_pop.new.worker c.args.shared.now c.exchange_pop.new.shared c.exchange_pop.result c.args.back c.in-ExchangePop.head (rw c.in-ExchangePop.is at c.requires.sound) c.requires.whole c.exchange_pop.ensures.event c.exchange_pop.ensures.worker c.exchange_pop.ensures.chair c.exchange_pop.ensures.kept }
 
 pub store_pop-requires : goal.store_pop-requires
 store_pop-requires g c =

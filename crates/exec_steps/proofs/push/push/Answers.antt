@@ -18,7 +18,7 @@ store_value-requires g c =
 
 pub returns-in-StoreValue : goal.returns-in-StoreValue
 returns-in-StoreValue g c =
-    record { steps = value_stored g.B.Body.left g.B.Scripted.spot c.args.back c.args.worker.now c.store_value.new.self c.args.shared.now c.store_value.new.shared c.store_value.result c.in-StoreValue.count (rw c.in-StoreValue.is at c.requires.sound) (push_next g.B.Body.left g.B.Scripted.spot c.args.back (Place.Push (InPush.StoreValue c.in-StoreValue.count) c.args.back) c.args.worker.now c.args.shared.now (rw c.in-StoreValue.is at c.requires.sound) (record { callbacks = refl; closes = refl; closing = refl; spare = refl; bare = refl; held = λ x h. h.0; batch = λ ms h. h })) c.store_value.ensures.event c.store_value.ensures.goes c.store_value.ensures.chair c.store_value.ensures.kept }
+    record { steps = value_stored g.B.Body.left g.B.Scripted.spot c.args.back c.args.worker.now c.store_value.new.worker c.args.shared.now c.store_value.new.shared c.store_value.result c.in-StoreValue.count (rw c.in-StoreValue.is at c.requires.sound) (push_next g.B.Body.left g.B.Scripted.spot c.args.back (Place.Push (InPush.StoreValue c.in-StoreValue.count) c.args.back) c.args.worker.now c.args.shared.now (rw c.in-StoreValue.is at c.requires.sound) (record { callbacks = refl; closes = refl; closing = refl; spare = refl; bare = refl; held = λ x h. h.0; batch = λ ms h. h })) c.store_value.ensures.event c.store_value.ensures.goes c.store_value.ensures.chair c.store_value.ensures.kept }
 
 pub flow_over-requires : goal.flow_over-requires
 flow_over-requires g c =

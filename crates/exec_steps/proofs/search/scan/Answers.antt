@@ -26,7 +26,7 @@ claim_half-requires g c = grind arith
 
 pub returns-in-ClaimHalf : goal.returns-in-ClaimHalf
 returns-in-ClaimHalf g c =
-    record { steps = half_claimed g.B.Body.left g.B.Scripted.spot c.args.worker.now c.claim_half.new.self c.args.shared.now c.claim_half.new.shared c.claim_half.result c.in-ClaimHalf.scan c.in-ClaimHalf.head c.in-ClaimHalf.tail (rw c.in-ClaimHalf.is at c.requires.sound) c.requires.whole c.claim_half.ensures.makes c.claim_half.ensures.loot c.claim_half.ensures.same c.claim_half.ensures.chair c.claim_half.ensures.kept }
+    record { steps = half_claimed g.B.Body.left g.B.Scripted.spot c.args.worker.now c.claim_half.new.worker c.args.shared.now c.claim_half.new.shared c.claim_half.result c.in-ClaimHalf.scan c.in-ClaimHalf.head c.in-ClaimHalf.tail (rw c.in-ClaimHalf.is at c.requires.sound) c.requires.whole c.claim_half.ensures.makes c.claim_half.ensures.loot c.claim_half.ensures.same c.claim_half.ensures.chair c.claim_half.ensures.kept }
 
 pub returns-in-MoveHalf : goal.returns-in-MoveHalf
 returns-in-MoveHalf g c = record { steps = half_moved _ _ _ _ _ _ c.in-MoveHalf.from c.in-MoveHalf.head (rw c.in-MoveHalf.is at c.requires.sound) c.move_half.ensures.makes c.move_half.ensures.goes }
@@ -36,7 +36,7 @@ release_half-requires g c = let sound = rw c.in-ReleaseHalf.is at c.requires.sou
 
 pub returns-in-ReleaseHalf : goal.returns-in-ReleaseHalf
 returns-in-ReleaseHalf g c =
-    record { steps = half_released g.B.Body.left g.B.Scripted.spot c.args.worker.now c.release_half.new.self c.args.shared.now c.release_half.new.shared c.release_half.result c.in-ReleaseHalf.from c.in-ReleaseHalf.head (rw c.in-ReleaseHalf.is at c.requires.sound) c.requires.whole c.release_half.ensures.makes c.release_half.ensures.goes c.release_half.ensures.chair c.release_half.ensures.kept }
+    record { steps = half_released g.B.Body.left g.B.Scripted.spot c.args.worker.now c.release_half.new.worker c.args.shared.now c.release_half.new.shared c.release_half.result c.in-ReleaseHalf.from c.in-ReleaseHalf.head (rw c.in-ReleaseHalf.is at c.requires.sound) c.requires.whole c.release_half.ensures.makes c.release_half.ensures.goes c.release_half.ensures.chair c.release_half.ensures.kept }
 
 pub store_moved-requires : goal.store_moved-requires
 store_moved-requires g c =

@@ -19,4 +19,4 @@ take_share-requires g c =
 
 pub returns-in-TakeShare : goal.returns-in-TakeShare
 returns-in-TakeShare g c =
-    record { steps = share_came g.B.Body.left g.B.Scripted.spot c.in-TakeShare.first c.in-TakeShare.room c.in-TakeShare.held c.args.worker.now c.take_share.new.self c.args.shared.now c.take_share.new.shared c.take_share.result (rw c.in-TakeShare.is at c.requires.sound) c.requires.whole c.take_share.ensures.event c.take_share.ensures.worker c.take_share.ensures.global c.take_share.ensures.chair }
+    record { steps = share_came g.B.Body.left g.B.Scripted.spot c.in-TakeShare.first c.in-TakeShare.room c.in-TakeShare.held c.args.worker.now c.take_share.new.worker c.args.shared.now c.take_share.new.shared c.take_share.result (rw c.in-TakeShare.is at c.requires.sound) c.requires.whole c.take_share.ensures.event c.take_share.ensures.worker c.take_share.ensures.global c.take_share.ensures.chair }
