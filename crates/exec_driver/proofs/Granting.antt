@@ -2,7 +2,8 @@
 use Rattle.std.proofs.Common.{◌≡◌, ℕ, ◌+◌, ◌<◌, ◌≤◌, Bool, true, false, not, ◌&&◌, List, [], ◌∷◌, ◌++◌, length, Option, Some, None, refl, sym, ap, ◌∙◌, inl, inr, arith}
 use Rattle.exec_driver.proofs.{Words.{is_some, false≢true, Slab, written, Id, is_durable, asked_of, deadline_of, asks_cancel, Active, Wheel, with_permit, with_tick, waiter_at, is_flying, needs_permit, Waiter, Entry, Pending, WaiterId, one_if, Driving, request_at, is_queued, is_gated, is_unenrolled, is_enrolled, is_cancelled, first_of, rest_of, is_among, with_queued, after_enrolment, IsSound, IsHeld, is_unpermitted, is_undated, is_at_tick, is_tick, is_uncancelled, are_all, is_once, count_of, and_parts}, Endings.one_changed, Stepping.{stays, there_by, first_tells}, Arriving.durable_gated}
 use Rattle.exec_lists.proofs.{Names.same_tells, Counting.{pending_is, flying_is}, Shifts.{Left, Kept, Joined, First, shifted, nowhere, room_for}}
-use Rattle.exec_driver.specs.Placed.{ListsRequests, HasDeadlines, FliesPermitted}
+use Rattle.exec_ring.specs.Kernels.{MayAllLand, all_taken}
+use Rattle.exec_driver.specs.Placed.{ListsRequests, HasDeadlines, FliesPermitted, Says}
 use Rattle.exec_lists.specs.Lists.{without_gated}
 use Rattle.exec_time.specs.Wheel.{scheduled}
 
@@ -50,6 +51,9 @@ module _ {S F : Type 0} where
 
   pub lists_requests : (d : Driving S F) → IsSound d → ListsRequests d
   lists_requests = grind (arith, among_in, is_queued, is_gated, is_unenrolled, is_enrolled, is_cancelled, once_first)
+
+  pub says_of : (d : Driving S F) → IsSound d → MayAllLand d.landings (all_taken d.ring) → Says d
+  says_of d sound lands = record { permitted = flies_permitted d sound; lists = lists_requests d sound; dated = has_deadlines d sound; lands = lands }
 
   -- one that waits at a gate
   pub record IsWaiting (w : Waiter S F) : Type 0 where

@@ -5,7 +5,7 @@ use Rattle.std.specs.Option.{IfSome, IfNone, SomeIff}
 use Rattle.std.proofs.lemmas.Bool.{false≢true}
 use Rattle.exec_time.specs.Turning.{advanced}
 use Rattle.exec_waiters.specs.{States.file_of, Told.Tells, declared.{deferred.Deferred.Deferred, waiter.Waiter.Waiter, waiter_id.WaiterId.WaiterId}}
-use Rattle.exec_driver.specs.{Driving.{Driving, request_at, is_full, may_stage_one, has_pending}, Examples.idle, Service.{permit_by, Repeats, NoStep, OneMore, Passes, reached, ExpiresOne, EnrolsOne, GrantsAt, Turn, NoTurn, StagesEntry, Cancel, Request, WakePoll, Staged, Parks, Refused, Waited, NoGate, ServesInOrder, entered_if}, Steps.{Grants, Enrols, StagesOne, is_turn_of, expired, told_by_cancel, cancel_staged, poll_staged, with_landings}, declared.driver.{staging.Granted.Granted, timing.Enrolled.Enrolled}, Turns.{made_way, may_wait}}
+use Rattle.exec_driver.specs.{Driving.{Driving, request_at, is_full, may_stage_one, has_pending}, Examples.idle, Placed.Says, Service.{permit_by, Repeats, NoStep, OneMore, Passes, reached, ExpiresOne, EnrolsOne, GrantsAt, Turn, NoTurn, StagesEntry, StagesOneEntry, Cancel, Request, WakePoll, Staged, Parks, Refused, Waited, NoGate, ServesInOrder, entered_if}, Steps.{Grants, Enrols, StagesOne, is_turn_of, expired, told_by_cancel, cancel_staged, poll_staged, with_landings}, declared.driver.{staging.Granted.Granted, timing.Enrolled.Enrolled}, Turns.{made_way, may_wait}}
 use Rattle.exec_lists.specs.Lists.{has_first, first_of}
 use Rattle.exec_opens.specs.Opens.{OpenState, account_in, holder_at}
 use Rattle.exec_driver.proofs.{Turns.{no_first, none_staged, way_may}, Words.{cases_Bool, and_parts, and_from}}
@@ -46,18 +46,18 @@ permit_granted file None = None
 permit_granted file (Some g) = permit_by file g
 
 module _ {S F : Type 0} where
-  pub grants_passed : (worker file : ℕ) (d d' : Driving S F) (opens mid opens' : List OpenState) (x y : Deferred S F) (s s' : Option (List ℕ)) (o : Option Granted) (p : Option ℕ) → permit_granted file o ≡ p → IfSome o (λ g. Grants d d' opens mid x y worker file g) → IfNone o (is_turn_of worker d.lists (holder_at opens file) ≡ false) → IfNone o ((d' ≡ d) × (mid ≡ opens) × (y ≡ x)) → Passes p mid opens' s s' → GrantsAt worker file (reached d opens x s) (reached d' opens' y s')
-  grants_passed worker file d d' opens mid opens' x y s s' None None is some none same passes = NoTurn none (rw (same.0, same.2, passes.0, passes.1, same.1) refl)
-  grants_passed worker file d d' opens mid opens' x y s s' None (Some p) is some none same passes = absurd (cc)
-  grants_passed worker file d d' opens mid opens' x y s s' (Some g) p is some none same passes = Turn mid g some (rw is passes)
+  pub grants_passed : (worker file : ℕ) (d d' : Driving S F) (opens mid opens' : List OpenState) (x y : Deferred S F) (s s' : Option (List ℕ)) (o : Option Granted) (p : Option ℕ) → Says d' → permit_granted file o ≡ p → IfSome o (λ g. Grants d d' opens mid x y worker file g) → IfNone o (is_turn_of worker d.lists (holder_at opens file) ≡ false) → IfNone o ((d' ≡ d) × (mid ≡ opens) × (y ≡ x)) → Passes p mid opens' s s' → GrantsAt worker file (reached d opens x s) (reached d' opens' y s')
+  grants_passed worker file d d' opens mid opens' x y s s' None None says is some none same passes = NoTurn none (rw (same.0, same.2, passes.0, passes.1, same.1) refl)
+  grants_passed worker file d d' opens mid opens' x y s s' None (Some p) says is some none same passes = absurd (cc)
+  grants_passed worker file d d' opens mid opens' x y s s' (Some g) p says is some none same passes = Turn mid g says some (rw is passes)
 
-  pub expires_one : (d d' : Driving S F) (x y : Deferred S F) (o : Option WaiterId) → has_first d.lists.due ≡ true → o ≡ first_of d.lists.due → IfSome o (λ id. d' ≡ expired d id) → IfSome o (λ id. Tells x y (told_by_cancel id (request_at d id))) → ExpiresOne (d, x) (d', y)
-  expires_one d d' x y None some first is tells = absurd (no_first d.lists.due some first)
-  expires_one d d' x y (Some id) some first is tells = record { id = id; first = sym first; driver = is; tells = tells }
+  pub expires_one : (d d' : Driving S F) (x y : Deferred S F) (o : Option WaiterId) → Says d' → has_first d.lists.due ≡ true → o ≡ first_of d.lists.due → IfSome o (λ id. d' ≡ expired d id) → IfSome o (λ id. Tells x y (told_by_cancel id (request_at d id))) → ExpiresOne (d, x) (d', y)
+  expires_one d d' x y None says some first is tells = absurd (no_first d.lists.due some first)
+  expires_one d d' x y (Some id) says some first is tells = record { says = says; id = id; first = sym first; driver = is; tells = tells }
 
-  pub enrols_one : (now : ℕ) (d d' : Driving S F) (x y : Deferred S F) (o : Option Enrolled) → has_first d.lists.enrolments ≡ true → IfSome o (λ e. first_of d.lists.enrolments ≡ Some e.id) → IfNone o (first_of d.lists.enrolments ≡ None) → IfSome o (λ e. Enrols d d' x y e.id e.ended now) → EnrolsOne now (d, x) (d', y)
-  enrols_one now d d' x y None some first none enrols = absurd (no_first d.lists.enrolments some (sym none))
-  enrols_one now d d' x y (Some e) some first none enrols = record { answer = e; first = first; enrols = enrols }
+  pub enrols_one : (now : ℕ) (d d' : Driving S F) (x y : Deferred S F) (o : Option Enrolled) → Says d' → has_first d.lists.enrolments ≡ true → IfSome o (λ e. first_of d.lists.enrolments ≡ Some e.id) → IfNone o (first_of d.lists.enrolments ≡ None) → IfSome o (λ e. Enrols d d' x y e.id e.ended now) → EnrolsOne now (d, x) (d', y)
+  enrols_one now d d' x y None says some first none enrols = absurd (no_first d.lists.enrolments some (sym none))
+  enrols_one now d d' x y (Some e) says some first none enrols = record { says = says; answer = e; first = first; enrols = enrols }
 
   -- STAGING
 
@@ -75,14 +75,14 @@ module _ {S F : Type 0} where
       subst (λ (x : Driving S F). StagesEntry opens x d') mid.0 (request_here opens e d' p (ap (λ (x : Driving S F). is_full x) mid.0 ∙ room) (ap (λ (x : Driving S F). first_of x.lists.cancels) mid.0 ∙ sym first) (ap (λ (x : Driving S F). may_stage_one x) mid.0 ∙ mid.1) next staged)
   request_entry opens d e d' (Some id) p room none first is some next staged = absurd (false≢true none)
 
-  pub poll_entry : (opens : List OpenState) (first d d' : Driving S F) → Repeats (StagesEntry opens) first d → has_first d.lists.cancels ≡ false → may_stage_one d ≡ false → ((d.armed || is_full d) ≡ true → d' ≡ d) → d' ≡ with_landings d' (cond d.armed d (cond (is_full d) d (poll_staged d))) → Repeats (StagesEntry opens) first d'
-  poll_entry opens first d d' before cancels queued same is =
+  pub poll_entry : (opens : List OpenState) (first d d' : Driving S F) → Says d' → Repeats (StagesOneEntry opens) first d → has_first d.lists.cancels ≡ false → may_stage_one d ≡ false → ((d.armed || is_full d) ≡ true → d' ≡ d) → d' ≡ with_landings d' (cond d.armed d (cond (is_full d) d (poll_staged d))) → Repeats (StagesOneEntry opens) first d'
+  poll_entry opens first d d' says before cancels queued same is =
       elim (cases_Bool d.armed) [
-        | inl armed ↦ subst (λ (x : Driving S F). Repeats (StagesEntry opens) first x) (sym (same (rw armed refl))) before
+        | inl armed ↦ subst (λ (x : Driving S F). Repeats (StagesOneEntry opens) first x) (sym (same (rw armed refl))) before
         | inr calm ↦
             elim (cases_Bool (is_full d)) [
-              | inl full ↦ subst (λ (x : Driving S F). Repeats (StagesEntry opens) first x) (sym (same (rw (calm, full) refl))) before
-              | inr room ↦ OneMore d d' before (WakePoll room cancels queued calm (rw (calm, room) at is))
+              | inl full ↦ subst (λ (x : Driving S F). Repeats (StagesOneEntry opens) first x) (sym (same (rw (calm, full) refl))) before
+              | inr room ↦ OneMore d d' before (WakePoll room cancels queued calm (rw (calm, room) at is), says)
             ]
       ]
 
@@ -100,14 +100,19 @@ module _ {S F : Type 0} where
       out : (full armed : Bool) → f ≡ with_landings f (cond armed e (cond full e (poll_staged e))) → (armed || not full) ≡ true → f ≡ with_landings f (cond armed e (poll_staged e))
       out = grind arith
 
+says_polled : Says (poll_staged idle)
+says_polled = record { permitted = grind arith; lists = grind arith; dated = grind arith; lands = tt }
+
 -- A service of a driver without requests stages the wake poll, and makes no other step.
 pub idle_served : (told : Deferred ℕ ℕ) → ServesInOrder 3 0 false false (reached idle [] told None) (reached (poll_staged idle) [] told None)
 unfolding advanced
 idle_served told =
     record {
+      says = record { permitted = grind arith; lists = grind arith; dated = grind arith; lands = tt };
       reaped = reached idle [] told None;
       reaps = NoStep;
       quiet = refl;
+      says_turned = record { permitted = grind arith; lists = grind arith; dated = grind arith; lands = tt };
       expired = (idle, told);
       expires = NoStep;
       none_due = refl;
@@ -117,10 +122,11 @@ idle_served told =
       granted = reached idle [] told None;
       grants = record { end = 0; below = NoGate; none = λ low. refl };
       staged = poll_staged idle;
-      stages = Staged (OneMore idle _ NoStep (WakePoll refl refl refl refl refl)) (record { cancels = refl; queued = refl; armed = refl });
+      stages = Staged (OneMore idle _ NoStep (WakePoll refl refl refl refl refl, says_polled)) (record { cancels = refl; queued = refl; armed = refl });
       none_unstaged = λ room. record { cancels = refl; queued = refl; armed = refl };
       none_unless_busy = λ free. record { cancels = refl; queued = refl; armed = refl };
       worked = poll_staged idle;
+      says_worked = says_polled;
       works = refl;
       reaps_again = NoStep;
       quiet_again = refl;

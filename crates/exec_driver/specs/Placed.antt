@@ -1,6 +1,7 @@
--- What each driver says of its requests.
+-- What each driver says of its requests and of its ring.
 use Rattle.std.specs.Prelude.{◌≡◌, ℕ, true, false, Some, is_some}
 use Rattle.exec_request.specs.Requests.{deadline_of, gate_of}
+use Rattle.exec_ring.specs.Kernels.{MayAllLand, all_taken}
 use Rattle.exec_waiters.specs.{States.tick_in, declared.{waiter.Waiter.Waiter, waiter_id.WaiterId.WaiterId}}
 use Rattle.exec_driver.specs.Driving.{Driving, request_at, is_queued, is_gated, is_unenrolled, is_enrolled, is_cancelled}
 use Rattle.exec_lists.specs.Lists.{first_of, rest_of, is_among}
@@ -22,3 +23,10 @@ module _ {S F : Type 0} where
   -- Who has an operation at a gate was granted its permit. Each driver says so of itself (`Driver::flies_permitted`).
   pub record FliesPermitted (d : Driving S F) : Type 0 where
     pub flies : (id : WaiterId) (w : Waiter S F) (file : ℕ) → request_at d id ≡ Some w → w.in_flight ≡ true → gate_of w.request ≡ Some file → w.permit ≡ true
+
+  -- what each driver says of its requests, and of its ring: what lands within the next enter may land
+  pub record Says (d : Driving S F) : Type 0 where
+    pub permitted : FliesPermitted d
+    pub lists : ListsRequests d
+    pub dated : HasDeadlines d
+    pub lands : MayAllLand d.landings (all_taken d.ring)

@@ -1,9 +1,9 @@
 -- A whole service and a whole wait: which steps they take, and in which order. A service makes each kind of step until
--- none is left to make.
+-- none is left to make, and after each step the driver says what each driver says.
 use Rattle.std.specs.Prelude.{◌≡◌, ℕ, Bool, false, true, not, ◌+◌, ◌^◌, ◌<◌, ◌==◌, ◌&&◌, ◌||◌, List, Option, Some, None, is_some, if◌then◌else◌}
 use Rattle.exec_ring.specs.Kernels.{is_quiet}
 use Rattle.exec_waiters.specs.{States.{pending_count, file_of}, Told.Tells, declared.{deferred.Deferred.Deferred, waiter.Waiter.Waiter, waiter_id.WaiterId.WaiterId}}
-use Rattle.exec_driver.specs.{Driving.{Driving, request_at, may_stage_one, is_full}, Steps.{ReapsNext, Grants, Enrols, StagesOne, expired, told_by_cancel, advanced_to, lowest_gate, is_turn_of, cancel_staged, poll_staged, entered, with_landings}, Turns.{PassesTo, IsStaged, must_enter, may_wait, made_way}, declared.driver.{reaping.Reaped.Reaped, staging.Granted.Granted, timing.Enrolled.Enrolled}}
+use Rattle.exec_driver.specs.{Driving.{Driving, request_at, may_stage_one, is_full}, Steps.{ReapsNext, Grants, Enrols, StagesOne, expired, told_by_cancel, advanced_to, lowest_gate, is_turn_of, cancel_staged, poll_staged, entered, with_landings}, Placed.Says, Turns.{PassesTo, IsStaged, must_enter, may_wait, made_way}, declared.driver.{reaping.Reaped.Reaped, staging.Granted.Granted, timing.Enrolled.Enrolled}}
 use Rattle.exec_lists.specs.Lists.{has_first, first_of}
 use Rattle.exec_opens.specs.Opens.{OpenState, account_in, holder_at, next_at, with_open, passed}
 
@@ -39,6 +39,7 @@ module _ {S F : Type 0} where
 
   -- the next completion is taken in
   pub record ReapsOne (a b : Reached S F) : Type 0 where
+    pub says : Says b.driver
     pub answer : Option Reaped
     pub opens : List OpenState
     pub reaps : ReapsNext a.driver b.driver a.opens opens a.told b.told answer
@@ -46,6 +47,7 @@ module _ {S F : Type 0} where
 
   -- who is due first is told
   pub record ExpiresOne (a b : Driving S F × Deferred S F) : Type 0 where
+    pub says : Says b.0
     pub id : WaiterId
     pub first : first_of a.0.lists.due ≡ Some id
     pub driver : b.0 ≡ expired a.0 id
@@ -53,13 +55,14 @@ module _ {S F : Type 0} where
 
   -- the deadline of who was admitted first is enrolled
   pub record EnrolsOne (now : ℕ) (a b : Driving S F × Deferred S F) : Type 0 where
+    pub says : Says b.0
     pub answer : Enrolled
     pub first : first_of a.0.lists.enrolments ≡ Some answer.id
     pub enrols : Enrols a.0 b.0 a.1 b.1 answer.id answer.ended now
 
   -- the permit of an open is granted where it is the turn of a request of this worker, which gives it up where it is over
   pub data GrantsAt (worker file : ℕ) (a b : Reached S F) : Type 0 where
-    Turn : (opens : List OpenState) (g : Granted) → Grants a.driver b.driver a.opens opens a.told b.told worker file g → Passes (permit_by file g) opens b.opens a.signalled b.signalled → GrantsAt worker file a b
+    Turn : (opens : List OpenState) (g : Granted) → Says b.driver → Grants a.driver b.driver a.opens opens a.told b.told worker file g → Passes (permit_by file g) opens b.opens a.signalled b.signalled → GrantsAt worker file a b
     NoTurn : is_turn_of worker a.driver.lists (holder_at a.opens file) ≡ false → b ≡ a → GrantsAt worker file a b
 
   -- a cancel is to be staged, or a request that may be, or the wake poll
@@ -74,10 +77,14 @@ module _ {S F : Type 0} where
     WakePoll : is_full old ≡ false → has_first old.lists.cancels ≡ false → may_stage_one old ≡ false → old.armed ≡ false → new ≡ with_landings new (poll_staged old) → StagesEntry opens old new
     Enter : is_full old ≡ true → is_unstaged old ≡ true → old.ring.busy ≡ false → new ≡ with_landings new (entered old) → StagesEntry opens old new
 
+  -- an entry is staged, and the driver says what each says
+  abbrev pub StagesOneEntry : List OpenState → Driving S F → Driving S F → Type 0
+  StagesOneEntry opens old new = StagesEntry opens old new × Says new
+
   -- all that may be staged is staged; or the kernel was busy as a full queue was entered, and that was the last step
   pub data StagesAll (opens : List OpenState) (old new : Driving S F) : Type 0 where
-    Staged : Repeats (StagesEntry opens) old new → IsStaged new → StagesAll opens old new
-    Busy : (full : Driving S F) → Repeats (StagesEntry opens) old full → is_full full ≡ true → is_unstaged full ≡ true → full.ring.busy ≡ true → new ≡ with_landings new (entered full) → StagesAll opens old new
+    Staged : Repeats (StagesOneEntry opens) old new → IsStaged new → StagesAll opens old new
+    Busy : (full : Driving S F) → Says new → Repeats (StagesOneEntry opens) old full → is_full full ≡ true → is_unstaged full ≡ true → full.ring.busy ≡ true → new ≡ with_landings new (entered full) → StagesAll opens old new
 
   abbrev pub entered_if : Bool → Driving S F → Driving S F
   entered_if enters d = if enters then entered d else d
@@ -107,11 +114,13 @@ module _ {S F : Type 0} (worker : ℕ) (first : Reached S F) where
 module _ {S F : Type 0} where
   -- A service at a moment, with what it answers.
   pub record ServesInOrder (worker now : ℕ) (defer answer : Bool) (old new : Reached S F) : Type 0 where
+    pub says : Says old.driver
     -- all that completed is taken in
     pub reaped : Reached S F
     pub reaps : Repeats ReapsOne old reaped
     pub quiet : is_quiet reaped.driver.ring ≡ true
     -- all that is due by now is told
+    pub says_turned : Says (advanced_to reaped.driver now)
     pub expired : Driving S F × Deferred S F
     pub expires : Repeats ExpiresOne (advanced_to reaped.driver now, reaped.told) expired
     pub none_due : has_first expired.0.lists.due ≡ false
@@ -129,6 +138,7 @@ module _ {S F : Type 0} where
     pub none_unless_busy : granted.driver.ring.busy ≡ false → IsStaged staged
     -- the kernel works, unless that is put off
     pub worked : Driving S F
+    pub says_worked : Says worked
     pub works : worked ≡ with_landings worked (entered_if (must_enter staged defer granted.told) staged)
     -- all that completed by then is taken in
     pub reaps_again : Repeats ReapsOne (reached worked granted.opens granted.told granted.signalled) new

@@ -17,8 +17,9 @@
 //! any more, is cancelled once: a queued request ends so at once; for one in flight a cancel is staged, once, and its
 //! completion says how it ended. Writes and syncs are never cancelled.
 //!
-//! Each list has the requests of one place and no other: who leaves a place is taken out of its list at once. So what
-//! is pending is read off the lists. `IsSound` (`specs/Sound.antt`) says this, and what a call does to the whole is one
+//! Each list has requests of one place and no other: who leaves a place is taken out of its list at once. `IsSound`
+//! (`specs/Sound.antt`) says this. What is pending is read off the lists, so who comes to a place is put into its list
+//! by the step that brings it there: each call says so, since what it does to the whole is one
 //! function of `specs/Steps.antt`, or one record where a part answers one of several things.
 //!
 //! A worker makes the calls of `staging`, `timing` and `reaping` step by step, in the order in which `turns` makes them.

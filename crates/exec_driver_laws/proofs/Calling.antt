@@ -1,5 +1,5 @@
 -- What a call does to the requests of a worker keeps where they stand.
-use Rattle.std.proofs.Common.{◌≡◌, ◌⊎◌, ◌∙◌, inl, inr, ℕ, Bool, true, false, cond, List, [], ◌∷◌, Option, Some, None, Result, Ok, Err, refl, ap, arith}
+use Rattle.std.proofs.Common.{◌≡◌, ◌⊎◌, ◌∙◌, inl, inr, ℕ, ◌+◌, eqb, Bool, true, false, cond, List, [], ◌∷◌, Option, Some, None, Result, Ok, Err, refl, ap, arith}
 use Rattle.exec_request.specs.Requests.{output_of}
 use Rattle.exec_waiters.specs.{Events.{taken_from, forwarded_from, orphaned_from, changed_from, with_observer, with_waker}, States.{is_local, is_held_by}}
 use Rattle.exec_driver_laws.specs.Sharing.{Gates}
@@ -7,9 +7,12 @@ use Rattle.exec_driver.specs.Steps.{cancelled_at, cancelled_from, cancelling, le
 use Rattle.exec_driver.proofs.{Words.{TaskNo, Ended, Account, Posted, asks_cancel, cancelled, with_tick, deadline_of, asks_cancel_by_orphan, Slab, value_at, waiter_of, Waiter, Entry, Pending, Ready, WaiterId, Driving, request_at, Forwarded, Orphaned}, Arriving.placed_is}
 use Rattle.exec_driver_laws.proofs.Standing.{AllFit, IsLast, there_last, asking_last, removed_fits, becomes, finished_fits}
 use Rattle.exec_base.specs.declared.error.Error.{Error}
-use Rattle.exec_waiters.specs.States.{named}
-use Rattle.exec_driver.specs.{Steps.{Reaps, ReapsNext, completed_in, lawful_of, taken_out}, declared.driver.reaping.Reaped.Reaped}
-use Rattle.exec_driver.proofs.{Words.{OpenState, OpResult, Id, Deferred, Completion, next_completion, result_in, waiter_at}, Turns.completed_there}
+use Rattle.exec_waiters.specs.{Ids.user_data_of, States.named}
+use Rattle.exec_driver_laws.specs.Owning.{is_operation, operations_in, BringsNoOperation}
+use Rattle.exec_driver_laws.proofs.{OwningRing.{swept_same, reaped_one}, Promises.completed_named}
+use Rattle.std.proofs.lemmas.Grind.{common_steps}
+use Rattle.exec_driver.specs.{Steps.{Reaps, ReapsNext, completed_in, lawful_of, taken_out, swept, with_landings}, declared.driver.reaping.Reaped.Reaped}
+use Rattle.exec_driver.proofs.{Words.{one_if, RingState, OpenState, OpResult, Id, Deferred, Completion, next_completion, result_in, waiter_at}, Serving.reaps_ring, Turns.completed_there}
 
 module _ {S F : Type 0} where
   -- WHAT A CALL DOES TO THE REQUESTS
@@ -78,9 +81,13 @@ module _ {S F : Type 0} where
   flying_there : (s : Slab (Entry S F)) (given : OpResult) (user_data : ℕ) (id : Id) (w : Waiter S F) → lawful_of s given (named s user_data) ≡ Some id → waiter_at s id ≡ Some w → w.in_flight ≡ true
   flying_there = grind arith
 
+  named_own : (s : Slab (Entry S F)) (id : Id) (user_data : ℕ) → named s user_data ≡ Some id → user_data_of id ≡ user_data
+  named_own = grind (arith, common_steps)
+
   -- a reap that takes in no completion of a request
   pub record ReapsNone (old new : Driving S F) (opens opens' : List OpenState) (told : Option Reaped) : Type 0 where
     pub requests : new.requests ≡ old.requests
+    pub ring : BringsNoOperation old.ring new.ring
     pub told_none : told ≡ None
     pub same : opens' ≡ opens
 
@@ -96,6 +103,8 @@ module _ {S F : Type 0} where
     pub flies : w.in_flight ≡ true
     pub reaps : Reaps first second opens opens' before after id w given told
     pub end : new.requests ≡ second.requests
+    -- its operation is out of the ring
+    pub ring : (user_data : ℕ) → is_operation user_data ≡ true → operations_in new.ring user_data + one_if (eqb (user_data_of id.0) user_data) ≡ operations_in old.ring user_data
 
   pub reap_tells : (old new : Driving S F) (opens opens' : List OpenState) (before after : Deferred S F) (told : Option Reaped) → ReapsNext old new opens opens' before after told
       → ReapsNone old new opens opens' told ⊎ ReapsThere old new opens opens' before after told
@@ -104,10 +113,22 @@ module _ {S F : Type 0} where
       start : reap.first.requests ≡ old.requests
       start = ap (λ (m : Driving S F). m.requests) reap.swept_first ∙ swept_requests old.ring.posted old
 
+      -- how many operations a driver has once it was swept
+      swept_count : (d d' : Driving S F) → d' ≡ with_landings d' (swept d) → (user_data : ℕ) → is_operation user_data ≡ true → operations_in d'.ring user_data ≡ operations_in d.ring user_data
+      swept_count d d' is user_data operation = ap (λ (m : Driving S F). operations_in m.ring user_data) is ∙ swept_same d.ring.posted d user_data operation
+
+      first_count : (user_data : ℕ) → is_operation user_data ≡ true → operations_in reap.first.ring user_data ≡ operations_in old.ring user_data
+      first_count = swept_count old reap.first reap.swept_first
+
       by_id : (c : Completion) → next_completion reap.first.ring ≡ Some c → (o : Option Id) → completed_in reap.first c ≡ o → ReapsNone old new opens opens' told ⊎ ReapsThere old new opens opens' before after told
       by_id c next None none =
           let stale = reap.stale c next none in
-          inl (record { requests = ap (λ (m : Driving S F). m.requests) stale.0 ∙ swept_requests (taken_out reap.first).ring.posted (taken_out reap.first) ∙ start; told_none = stale.1; same = stale.2 })
+          inl (record {
+            requests = ap (λ (m : Driving S F). m.requests) stale.0 ∙ swept_requests (taken_out reap.first).ring.posted (taken_out reap.first) ∙ start;
+            ring = λ user_data is. omega (arith, first_count user_data is, reaped_one reap.first.ring c user_data is next, swept_count (taken_out reap.first) new stale.0 user_data is);
+            told_none = stale.1;
+            same = stale.2;
+          })
       by_id c next (Some id) some =
           let there = completed_there reap.first.requests (result_in c.result) (named reap.first.requests c.user_data) id some in
           let from = reap.some c id there.0 next some there.1 in
@@ -122,8 +143,12 @@ module _ {S F : Type 0} where
             flies = flying_there reap.first.requests (result_in c.result) c.user_data id there.0 some there.1;
             reaps = from.reaps;
             end = ap (λ (m : Driving S F). m.requests) from.swept_last ∙ swept_requests from.second.ring.posted from.second;
+            ring = λ user_data is.
+                let out = ap (λ (r : RingState). operations_in r user_data) (reaps_ring reap.first from.second opens opens' before after (record { 0 = id }) there.0 (result_in c.result) told from.reaps) in
+                let own = ap (λ (n : ℕ). one_if (eqb n user_data)) (named_own reap.first.requests id c.user_data (completed_named reap.first.requests (result_in c.result) (named reap.first.requests c.user_data) id some)) in
+                omega (arith, own, out, first_count user_data is, reaped_one reap.first.ring c user_data is next, swept_count from.second new from.swept_last user_data is);
           })
 
       by : (o : Option Completion) → next_completion reap.first.ring ≡ o → ReapsNone old new opens opens' told ⊎ ReapsThere old new opens opens' before after told
-      by None none = let same = reap.none none in inl (record { requests = ap (λ (m : Driving S F). m.requests) same.0 ∙ start; told_none = same.1; same = same.2 })
+      by None none = let same = reap.none none in inl (record { requests = ap (λ (m : Driving S F). m.requests) same.0 ∙ start; ring = λ user_data is. let count = ap (λ (m : Driving S F). operations_in m.ring user_data) same.0 in omega (arith, count, first_count user_data is); told_none = same.1; same = same.2 })
       by (Some c) next = by_id c next (completed_in reap.first c) refl

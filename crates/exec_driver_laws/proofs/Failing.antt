@@ -10,7 +10,7 @@ use Rattle.exec_opens.specs.{Opens.{open_at, with_named, writing, placed, joined
 use Rattle.exec_driver.specs.{Steps.{plainly_written, told_as, Grants, ReapsNext, opens_after_end}, declared.driver.{reaping.Reaped.Reaped, staging.Granted.Granted}}
 use Rattle.exec_driver.proofs.Words.{with_permit, Ended, Account, OpenState, account_in, with_account, file_of, Slab, Entry, Waiter, OpResult, Request, Driving, request_at, Deferred}
 use Rattle.exec_driver.proofs.{Words.{open_after, is_durable, asked_of, waiter_at}, Granting.same_some}
-use Rattle.exec_driver_laws.specs.Sharing.{Gates, Call, Admit, Join, Observe, SetWaker, Forward, Orphan, Expire, Enrol, Grant, Stage, Land, Reap, SetAccount, Leave, Other, CallsOne, FailsFrom, LineUp, end_by, sets_account_of, key_of}
+use Rattle.exec_driver_laws.specs.Sharing.{Gates, Call, Admit, Join, Observe, SetWaker, Forward, Orphan, Expire, Enrol, Grant, Stage, Land, Reap, SetAccount, Recount, Leave, Other, CallsOne, FailsFrom, LineUp, end_by, sets_account_of, key_of}
 use Rattle.exec_driver_laws.specs.Laws.{failure_in, failure_at}
 use Rattle.exec_driver_laws.proofs.{Calling.reap_tells, Standing.{open_tells, holder_stands}, Sharing.line_up_always}
 
@@ -27,7 +27,7 @@ line_failing = grind (arith, open_tells)
 record_failing : (r : Request) (how : Ended) (account : Option Account) (error : Error) → failure_in account ≡ Some error → failure_in (record_after r how account) ≡ Some error
 record_failing = grind arith
 
-writing_failing : (o : OpenState) → failure_in (writing o).account ≡ failure_in o.account
+pub writing_failing : (o : OpenState) → failure_in (writing o).account ≡ failure_in o.account
 writing_failing = grind arith
 
 joined_failing : (key : WaiterKey) (o : OpenState) → failure_in (joined key o).account ≡ failure_in o.account
@@ -54,7 +54,7 @@ refused : (r : Request) (account : Option Account) (error : Error) (ended : Opti
 refused r None error ended fails is = absurd (cc)
 refused r (Some account) error ended fails is = answered ended error (is ∙ fails_granted (asked_of r).kind account error fails)
 
-gate_file : (r : Request) (file : ℕ) → gate_of r ≡ Some file → file_of r ≡ Some file
+pub gate_file : (r : Request) (file : ℕ) → gate_of r ≡ Some file → file_of r ≡ Some file
 gate_file = grind arith
 
 told_is : (k key : WaiterKey) (o : Option Ended) (how : Ended) → option_map {U = WaiterKey × Ended} (λ how. (k, how)) o ≡ Some (key, how) → (k ≡ key) × (o ≡ Some how)
@@ -66,7 +66,7 @@ module _ {S F : Type 0} where
   end_failing opens file w (Some how) error fails =
       account_failing opens file (file_of w.request) _ error (λ named. record_failing w.request how (account_in opens (file_of w.request)) error (ap (λ (n : Option ℕ). failure_in (account_in opens n)) named ∙ fails)) fails
 
-  open_failing : (w : Waiter S F) (given : OpResult) (account : Option Account) (error : Error) → failure_in account ≡ Some error → failure_in (open_after w given account) ≡ Some error
+  pub open_failing : (w : Waiter S F) (given : OpResult) (account : Option Account) (error : Error) → failure_in account ≡ Some error → failure_in (open_after w given account) ≡ Some error
   open_failing = grind arith
 
   ended_failing : (w : Waiter S F) (answer : Option Ended) (account : Option Account) (file : ℕ) (error : Error) → gate_of w.request ≡ Some file → failure_in account ≡ Some error → told_as w answer account ≢ Some (Ok tt)
@@ -104,7 +104,7 @@ module _ {S F : Type 0} where
 
   pub failure_stays : (worker : ℕ) (old new : Driving S F) (g g' : Gates) (call : Call worker old new g g') (file : ℕ) (error : Error) → sets_account_of call ≢ Some file → failure_at g.opens file ≡ Some error
       → failure_at g'.opens file ≡ Some error
-  failure_stays worker old new g g' (Admit id request observer now next never admits leaving) file error unset fails =
+  failure_stays worker old new g g' (Admit id request observer now next within never admits leaving) file error unset fails =
       ap (λ (o : List OpenState). failure_at o file) admits.opens_after ∙ line_failing _ file (plainly_written request) writing error writing_failing (line_failing g.opens file (gate_of request) placed error (λ o. refl) fails)
   failure_stays worker old new g g' (Join id fits same is) file error unset fails =
       by_gates g' _ file error is (line_failing g.opens file (gate_in (request_at old id)) (joined (key_of worker id)) error (joined_failing (key_of worker id)) fails)
@@ -112,16 +112,17 @@ module _ {S F : Type 0} where
       ap (λ (o : List OpenState). failure_at o file) (grants.grants w at).opens_after ∙ end_failing g.opens file (with_permit w) granted.ended error fails
   failure_stays worker old new g g' (Reap before after told reap leaving) file error unset fails = reap_failing old new g.opens g'.opens before after told file error reap fails
   failure_stays worker old new g g' (SetAccount name account same is) file error unset fails = by_gates g' _ file error is (account_failing g.opens file name account error (λ named. absurd (unset named)) fails)
+  failure_stays worker old new g g' (Recount name change keeps same is) file error unset fails = by_gates g' _ file error is (line_failing g.opens file name change error (λ o. (keeps o).failure) fails)
   failure_stays worker old new g g' (Leave id gate leaves same is) file error unset fails = by_gates g' _ file error is (line_failing g.opens file (Some gate) passed error (λ o. refl) fails)
   failure_stays worker old new g g' (Observe id is same) file error unset fails = by_gates g' g file error same fails
   failure_stays worker old new g g' (SetWaker id task is same) file error unset fails = by_gates g' g file error same fails
   failure_stays worker old new g g' (Forward id sender is same) file error unset fails = by_gates g' g file error same fails
   failure_stays worker old new g g' (Orphan id is same) file error unset fails = by_gates g' g file error same fails
   failure_stays worker old new g g' (Expire id first is same) file error unset fails = by_gates g' g file error same fails
-  failure_stays worker old new g g' (Enrol before after id w deadline now told at timed enrols same) file error unset fails = by_gates g' g file error same fails
-  failure_stays worker old new g g' (Stage id w account at stages same) file error unset fails = by_gates g' g file error same fails
+  failure_stays worker old new g g' (Enrol before after id w deadline now told first at timed enrols same) file error unset fails = by_gates g' g file error same fails
+  failure_stays worker old new g g' (Stage id w account first at stages same) file error unset fails = by_gates g' g file error same fails
   failure_stays worker old new g g' (Land id w given store store' at lands same) file error unset fails = by_gates g' g file error same fails
-  failure_stays worker old new g g' (Other is same) file error unset fails = by_gates g' g file error same fails
+  failure_stays worker old new g g' (Other is brings same) file error unset fails = by_gates g' g file error same fails
 
   -- OVER A RUN
 

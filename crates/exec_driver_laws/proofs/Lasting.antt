@@ -15,7 +15,7 @@ use Rattle.exec_driver.proofs.Words.{asks_cancel_by_orphan, Request, Ready, Forw
 use Rattle.exec_driver.proofs.Words.{Account, Slab, value_at, written, Id, waiter_at, waiter_in, waiter_of, Waiter, Entry, Pending, WaiterId, Driving, request_at, Observer, deadline_of, entry_of, eqb_tells}
 use Rattle.exec_driver.proofs.{Arriving.placed_is, Endings.{one_changed, one_finished}}
 use Rattle.exec_driver_laws.proofs.Uncancelled.{let_go_alone, alone_kept, alone_moved, IsSpared, all_spared}
-use Rattle.exec_driver_laws.specs.Sharing.{Call, Admit, Join, Observe, SetWaker, Forward, Orphan, Expire, Enrol, Grant, Stage, Land, Reap, SetAccount, Leave, Other, Gates, key_of, end_by, end_told, IsRun}
+use Rattle.exec_driver_laws.specs.Sharing.{Call, Admit, Join, Observe, SetWaker, Forward, Orphan, Expire, Enrol, Grant, Stage, Land, Reap, SetAccount, Recount, Leave, Other, Gates, key_of, end_by, end_told, IsRun}
 use Rattle.exec_driver_laws.proofs.Calling.{reap_tells}
 use Rattle.exec_driver.specs.declared.driver.reaping.Reaped.{Reaped}
 
@@ -117,13 +117,13 @@ module _ {S F : Type 0} where
   apart : (s : Slab (Entry S F)) (id j : Id) → next_id s ≡ Some id → (IsPast s id → ⊥) → lasts (waiter_at s j) ≡ true → j.index ≢ id.index
   apart = grind (arith, some_of_if)
 
-  filled_apart : (s : Slab (Entry S F)) (vacant : List ℕ) (id j : Id) (e : Entry S F) → next_id (record s { vacant = vacant }) ≡ Some id → j.index ≢ id.index → waiter_at (filled s vacant e) j ≡ waiter_at s j
+  pub filled_apart : (s : Slab (Entry S F)) (vacant : List ℕ) (id j : Id) (e : Entry S F) → next_id (record s { vacant = vacant }) ≡ Some id → j.index ≢ id.index → waiter_at (filled s vacant e) j ≡ waiter_at s j
   filled_apart = grind (arith, some_of_if, cases_lt, eqb_tells, get_or_append_left, get_or_push, get_or_past, length-append, get_or-set_other)
 
   finished_apart : (s : Slab (Entry S F)) (id j : Id) (told : RequestOutput) (observer : Observer S F) → j.index ≢ id.index → waiter_at (finished_for s id told observer) j ≡ waiter_at s j
   finished_apart = grind (arith, get_or-set_other)
 
-  placed_apart : (d : Driving S F) (id : WaiterId) (j : Id) (w : Waiter S F) (now : ℕ) → j.index ≢ id.0.index → waiter_at (placed_at d id w now).requests j ≡ waiter_at d.requests j
+  pub placed_apart : (d : Driving S F) (id : WaiterId) (j : Id) (w : Waiter S F) (now : ℕ) → j.index ≢ id.0.index → waiter_at (placed_at d id w now).requests j ≡ waiter_at d.requests j
   placed_apart = grind (arith, placed_is, deadline_of, finished_apart)
 
   -- EACH CALL
@@ -154,7 +154,7 @@ module _ {S F : Type 0} where
   brief_by (Some w) due = due w refl
 
   call_lasts : (worker : ℕ) (old new : Driving S F) (g g' : Gates) (call : Call worker old new g g') → IsSpared old → (j : WaiterId) → lasts (request_at old j) ≡ true → Spared new.requests (key_of worker j) (end_by call)
-  call_lasts worker old new g g' (Admit id r observer now next never admits leaving) spared j at =
+  call_lasts worker old new g g' (Admit id r observer now next within never admits leaving) spared j at =
       let away = apart old.requests id.0 j.0 next never at in
       let same = placed_apart (taken_in old r observer) id j.0 (newcomer r observer) now away ∙ filled_apart old.requests old.requests.vacant id.0 j.0 (Pending (newcomer r observer)) next away in
       inl (ap (λ (m : Driving S F). lasts (request_at m j)) admits.driver ∙ ap lasts same ∙ at)
@@ -165,7 +165,7 @@ module _ {S F : Type 0} where
   call_lasts worker old new g g' (Orphan id is same) spared j at = inl (kept old new _ is (let_go_lasts old id) j at)
   call_lasts worker old new g g' (Expire id first is same) spared j at =
       inl (kept old new _ is (cancelled_lasts (record old { lists = after_due old.lists }) id (request_at old id) refl (brief_by _ (λ w. spared.due id w first))) j at)
-  call_lasts worker old new g g' (Enrol before after id w deadline now told there timed enrols same) spared j at =
+  call_lasts worker old new g g' (Enrol before after id w deadline now told first there timed enrols same) spared j at =
       inl (kept old new _ enrols.driver (enrolled_lasts (record old { lists = after_enrolment old.lists }) id w deadline (tick_for old.wheel deadline now) there timed) j at)
   call_lasts worker old new g g' (Grant before after file granted w there grants leaving) spared j at =
       let w' = with_permit w in
@@ -173,7 +173,7 @@ module _ {S F : Type 0} where
       let now = (one_changed old.requests gone.0 w w' there).is_at in
       subst (λ (m : Driving S F). Spared m.requests (key_of worker j) (option_map (λ how. (key_of worker gone, how)) granted.ended)) (sym (grants.grants w there).driver)
       (over_lasts (permitted old gone w) worker gone j w' granted.ended (account_in g.opens (file_of w.request)) now (became_lasts old.requests gone.0 w w' there refl j.0 at))
-  call_lasts worker old new g g' (Stage id w account there stages same) spared j at = inl (kept old new _ stages.driver (became_lasts old.requests id.0 w _ there (alone_kept w.request stages.request stages.kept)) j at)
+  call_lasts worker old new g g' (Stage id w account first there stages same) spared j at = inl (kept old new _ stages.driver (became_lasts old.requests id.0 w _ there (alone_kept w.request stages.request stages.kept)) j at)
   call_lasts worker old new g g' (Land id w given store store' there lands same) spared j at =
       let moved = alone_moved _ given w.request lands.lands.request store store' lands.lands.moved in
       inl (ap (λ (s : Slab (Entry S F)). lasts (waiter_at s j.0)) lands.lands.slab ∙ became_lasts old.requests id.0 w (record w { request = lands.lands.request }) there moved j.0 at)
@@ -194,8 +194,9 @@ module _ {S F : Type 0} where
             (subst (λ (s : Slab (Entry S F)). Spared s (key_of worker j) (option_map (λ how. (key_of worker there.id, how)) there.reaps.answer)) (sym moved) over))
       ]
   call_lasts worker old new g g' (SetAccount file account same is) spared j at = inl (kept old new old same (λ i was. was) j at)
+  call_lasts worker old new g g' (Recount file change keeps same is) spared j at = inl (kept old new old same (λ i was. was) j at)
   call_lasts worker old new g g' (Leave id file leaves same is) spared j at = inl (kept old new old same (λ i was. was) j at)
-  call_lasts worker old new g g' (Other is same) spared j at = inl (ap (λ (s : Slab (Entry S F)). lasts (waiter_at s j.0)) is ∙ at)
+  call_lasts worker old new g g' (Other is brings same) spared j at = inl (ap (λ (s : Slab (Entry S F)). lasts (waiter_at s j.0)) is ∙ at)
 
   pub ends_told : (drivers : ℕ → ℕ → Driving S F) (g : ℕ → Gates) (run : IsRun drivers g) (n : ℕ) (key : WaiterKey) (w : Waiter S F) → request_at (drivers n key.worker) key.id ≡ Some w → goes_on_alone w.request ≡ true
       → request_at (drivers (suc n) key.worker) key.id ≡ None → IsSomeAnd (end_by (run.next n).call) (λ e. e.0 ≡ key)

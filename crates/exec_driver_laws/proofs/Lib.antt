@@ -1,4 +1,6 @@
 pub mod Promises
+pub mod OwningRing
+pub mod OwningSteps
 pub mod Standing
 pub mod Calling
 pub mod Sharing
@@ -6,4 +8,12 @@ pub mod Workers
 pub mod Uncancelled
 pub mod Failing
 pub mod Lasting
+pub mod Giving
+pub mod Onward
+pub mod Once
+pub mod Telling
+pub mod Holding
+pub mod Synced
 pub mod Serving
+pub mod OwningCalls
+pub mod OwningRuns

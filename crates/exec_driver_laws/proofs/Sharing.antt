@@ -5,7 +5,7 @@ use Rattle.exec_base.specs.{Slab.{next_id, IsPast}}
 use Rattle.exec_request.specs.Requests.{gate_of, output_of, record_after}
 use Rattle.exec_waiters.proofs.{Changes.{at_by}, Over.over}
 use Rattle.exec_opens.specs.{Opens.{holder_at, open_at, with_open, with_named, with_account, joined, passed, placed, writing, keeping}, declared.opens.WaiterKey.WaiterKey}
-use Rattle.exec_driver_laws.specs.{Sharing.{Gates, IsGiven, StandsIn, StandsAt, key_of, at_gate, with_leaving, leaving_by, with_lines, passed_on, LineUp, Call, Admit, Join, Observe, SetWaker, Forward, Orphan, Expire, Enrol, Grant, Stage, Land, Reap, SetAccount, Leave, Other, CallsOne, AreFresh, IsRun}, Laws.IsDurableFlight}
+use Rattle.exec_driver_laws.specs.{Sharing.{Gates, IsGiven, StandsIn, StandsAt, key_of, at_gate, with_leaving, leaving_by, with_lines, passed_on, LineUp, Call, Admit, Join, Observe, SetWaker, Forward, Orphan, Expire, Enrol, Grant, Stage, Land, Reap, SetAccount, Recount, Leave, Other, CallsOne, AreFresh, IsRun}, Laws.IsDurableFlight, Lines.KeepsLine}
 use Rattle.exec_driver.specs.{Service.permit_by, Placed.FliesPermitted, declared.driver.{reaping.Reaped.Reaped, staging.Granted.Granted}, Steps.{granted_as, permitted, taken_in, newcomer, opens_after_end, Grants, Reaps, ReapsNext, plainly_written, taken_out, tick_for, landed_at, open_after, permit_after}, Admission.Admits}
 use Rattle.exec_lists.specs.Lists.{after_due, after_enrolment}
 use Rattle.exec_driver.proofs.{Words.{is_some, false≢true, Ended, Account, with_permit, file_of, account_in, Deferred, eqb_tells, Slab, value_at, waiter_at, Request, OpResult, Waiter, Entry, Pending, WaiterId, Driving, request_at, OpenState, fresh_open, Observer, entry_of}, Endings.one_changed, Granting.same_some}
@@ -35,6 +35,9 @@ nobody_stands (suc count) (suc file) key stands = nobody_stands count file key s
 
 set_account_lines : (g g' : Gates) (file : Option ℕ) (account : Option Account) → g' ≡ with_lines g (with_account g.opens file account) → SameLines g g'
 set_account_lines g g' file account is = subst (SameLines g) (sym is) (named_lines g file (keeping account) (λ o. (refl, refl)))
+
+recounted_lines : (g g' : Gates) (file : Option ℕ) (change : OpenState → OpenState) → ((o : OpenState) → KeepsLine o (change o)) → g' ≡ with_lines g (with_named g.opens file change) → SameLines g g'
+recounted_lines g g' file change keeps is = subst (SameLines g) (sym is) (named_lines g file change (λ o. ((keeps o).holder, (keeps o).waiting)))
 
 module _ {S F : Type 0} where
   end_lines : (g : Gates) (w : Waiter S F) (how : Option Ended) → SameLines g (with_lines g (opens_after_end g.opens w how))
@@ -220,7 +223,7 @@ module _ {S F : Type 0} where
       ]
 
   call_keeps : (worker : ℕ) (old new : Driving S F) (g g' : Gates) → Stand worker old g → Call worker old new g g' → Keeps worker new.requests g g'
-  call_keeps worker old new g g' stand (Admit id request observer now next never admits leaving) = admitted_keeps worker old new g g' id request observer now next never admits leaving stand
+  call_keeps worker old new g g' stand (Admit id request observer now next within never admits leaving) = admitted_keeps worker old new g g' id request observer now next never admits leaving stand
   call_keeps worker old new g g' stand (Join id fits same is) =
       subst (λ (h : Gates). Keeps worker new.requests g h) (sym is) (subst (λ (m : Driving S F). Keeps worker m.requests g (with_lines g (with_named g.opens (gate_in (request_at old id)) (joined (key_of worker id))))) (sym same) (joined_keeps worker old g id (gate_in (request_at old id)) fits refl stand))
   call_keeps worker old new g g' stand (Observe id is same) = by_driver worker new _ g g' same is stand.hold (taken_fits g worker old.requests id (value_at old.requests id.0) refl stand.all)
@@ -228,18 +231,20 @@ module _ {S F : Type 0} where
   call_keeps worker old new g g' stand (Forward id sender is same) = by_driver worker new _ g g' same is stand.hold (forwarded_fits g worker old.requests id sender (value_at old.requests id.0) refl stand.all)
   call_keeps worker old new g g' stand (Orphan id is same) = by_driver worker new _ g g' same is stand.hold (let_go_fits g worker old id stand.all)
   call_keeps worker old new g g' stand (Expire id first is same) = by_driver worker new _ g g' same is stand.hold (cancelled_fits g worker (record old { lists = after_due old.lists }) id stand.all)
-  call_keeps worker old new g g' stand (Enrol before after id w deadline now told at timed enrols same) =
+  call_keeps worker old new g g' stand (Enrol before after id w deadline now told first at timed enrols same) =
       by_driver worker new _ g g' same enrols.driver stand.hold (enrolled_fits g worker (record old { lists = after_enrolment old.lists }) id w (tick_for old.wheel deadline now) at stand.all)
   call_keeps worker old new g g' stand (Grant before after file granted w at grants leaving) = granted_keeps worker old new g g' before after file granted w at grants leaving stand
-  call_keeps worker old new g g' stand (Stage id w account at stages same) =
+  call_keeps worker old new g g' stand (Stage id w account first at stages same) =
       by_driver worker new _ g g' same stages.driver stand.hold (becomes g worker old.requests id w _ at (gate_kept w.request stages.request stages.kept) (λ has. has) stand.all)
   call_keeps worker old new g g' stand (Land id w given store store' at lands same) = grind (arith, becomes, gate_moved, by_lines, unmoved)
   call_keeps worker old new g g' stand (Reap before after told reap leaving) = reap_keeps worker old new g g' before after told reap leaving stand
   call_keeps worker old new g g' stand (SetAccount file account same is) =
       subst (λ (m : Driving S F). Keeps worker m.requests g g') (sym same) (by_lines worker old.requests g g' (set_account_lines g g' file account is) stand.hold stand.all)
+  call_keeps worker old new g g' stand (Recount file change keeps same is) =
+      subst (λ (m : Driving S F). Keeps worker m.requests g g') (sym same) (by_lines worker old.requests g g' (recounted_lines g g' file change keeps is) stand.hold stand.all)
   call_keeps worker old new g g' stand (Leave id file leaves same is) =
       subst (λ (h : Gates). Keeps worker new.requests g h) (sym is) (subst (λ (m : Driving S F). Keeps worker m.requests g (passed_on g file)) (sym same) (left_keeps worker old g (key_of worker id) file leaves stand))
-  call_keeps worker old new g g' stand (Other is same) =
+  call_keeps worker old new g g' stand (Other is brings same) =
       subst (λ (s : Slab (Entry S F)). Keeps worker s g g') (sym is) (by_lines worker _ g g' (unmoved g g' same) stand.hold (room_fits g worker old.requests new.requests.room stand.all))
 
   -- ALL DRIVERS

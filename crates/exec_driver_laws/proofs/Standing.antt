@@ -90,11 +90,11 @@ none_freed true h n w is = cc
 none_freed false h n w is = cc
 
 -- a slot that a removal left has given as many ids
-past_freed : (T : Type 0) (b : Bool) (g n : ℕ) → ltb (g + 1) (2 ^ 64) ≡ b → n < 2 ^ 64 → n < g + 1 → let slot : Slot T = cond b (Vacant (g + 1)) Retired in n < next_generation slot
+pub past_freed : (T : Type 0) (b : Bool) (g n : ℕ) → ltb (g + 1) (2 ^ 64) ≡ b → n < 2 ^ 64 → n < g + 1 → let slot : Slot T = cond b (Vacant (g + 1)) Retired in n < next_generation slot
 past_freed T true g n is fits past = past
 past_freed T false g n is fits past = fits
 
-past_filled : {T : Type 0} (slot : Slot T) (n : ℕ) → n < next_generation slot → n < generation_of slot + 1
+pub past_filled : {T : Type 0} (slot : Slot T) (n : ℕ) → n < next_generation slot → n < generation_of slot + 1
 past_filled = grind arith
 
 module _ {S F : Type 0} where

@@ -7,7 +7,7 @@ use Rattle.exec_base.specs.{Slab.{value_in, removed, freed, filled, generation_o
 use Rattle.exec_request.specs.{Kept.{Kept, kept_of}, Requests.{goes_on_alone}, declared.output.RequestOutput.RequestOutput}
 use Rattle.exec_ring.specs.{Landings.Moves, declared.store.Store.Store}
 use Rattle.exec_waiters.specs.{Events.{finished_for, taken_from, forwarded_from, orphaned_from, changed_from, with_observer, with_waker}}
-use Rattle.exec_driver_laws.specs.Sharing.{Gates, Call, Admit, Join, Observe, SetWaker, Forward, Orphan, Expire, Enrol, Grant, Stage, Land, Reap, SetAccount, Leave, Other, CallsOne, AreFresh, IsRun}
+use Rattle.exec_driver_laws.specs.Sharing.{Gates, Call, Admit, Join, Observe, SetWaker, Forward, Orphan, Expire, Enrol, Grant, Stage, Land, Reap, SetAccount, Recount, Leave, Other, CallsOne, AreFresh, IsRun}
 use Rattle.exec_driver_laws.proofs.{Promises.never_due, Calling.reap_tells, Standing.{none_past, reads}}
 use Rattle.exec_driver.specs.{Admission.Admits, declared.driver.reaping.Reaped.Reaped}
 use Rattle.exec_driver.specs.Steps.{permitted, landed_at, taken_in, newcomer, ReapsNext, Reaps, cancelled_at, let_go, without_observer, enrolled_by, granted_as, placed_at, ended}
@@ -131,24 +131,25 @@ module _ {S F : Type 0} where
     pub due : (id : WaiterId) (w : Waiter S F) → first_of d.lists.due ≡ Some id → request_at d id ≡ Some w → goes_on_alone w.request ≡ false
 
   call_whole : (worker : ℕ) (old new : Driving S F) (g g' : Gates) → IsSpared old → Call worker old new g g' → NoneBroken new.requests
-  call_whole worker old new g g' spared (Admit id request observer now next never admits leaving) = admitted_whole old new g.opens g'.opens id request observer now admits spared.none
+  call_whole worker old new g g' spared (Admit id request observer now next within never admits leaving) = admitted_whole old new g.opens g'.opens id request observer now admits spared.none
   call_whole worker old new g g' spared (Join id fits same is) = by_driver new old same spared.none
   call_whole worker old new g g' spared (Observe id is same) = by_driver new _ is (taken_whole old.requests id.0 (value_at old.requests id.0) refl spared.none)
   call_whole worker old new g g' spared (SetWaker id task is same) = by_driver new _ is (waked_whole old.requests id.0 task (value_at old.requests id.0) refl spared.none)
   call_whole worker old new g g' spared (Forward id sender is same) = by_driver new _ is (forwarded_whole old.requests id.0 sender (value_at old.requests id.0) refl spared.none)
   call_whole worker old new g g' spared (Orphan id is same) = by_driver new _ is (let_go_whole old id spared.none)
   call_whole worker old new g g' spared (Expire id first is same) = by_driver new _ is (cancelled_whole (record old { lists = after_due old.lists }) id (λ w at. spared.due id w first at) spared.none)
-  call_whole worker old new g g' spared (Enrol before after id w deadline now told at timed enrols same) =
+  call_whole worker old new g g' spared (Enrol before after id w deadline now told first at timed enrols same) =
       by_driver new _ enrols.driver (enrolled_whole (record old { lists = after_enrolment old.lists }) id w (tick_for old.wheel deadline now) spared.none)
   call_whole worker old new g g' spared (Grant before after file granted w at grants leaving) =
       let permits = became_whole old.requests granted.id.0 w (with_permit w) at refl refl spared.none in
       by_driver new _ (grants.grants w at).driver (granted_whole (permitted old granted.id w) granted.id (with_permit w) granted.ended (account_in g.opens (file_of w.request)) permits)
-  call_whole worker old new g g' spared (Stage id w account at stages same) = by_driver new _ stages.driver (became_whole old.requests id.0 w _ at (alone_kept w.request stages.request stages.kept) refl spared.none)
+  call_whole worker old new g g' spared (Stage id w account first at stages same) = by_driver new _ stages.driver (became_whole old.requests id.0 w _ at (alone_kept w.request stages.request stages.kept) refl spared.none)
   call_whole worker old new g g' spared (Land id w given store store' at lands same) = grind (arith, became_whole, alone_moved)
   call_whole worker old new g g' spared (Reap before after told reap leaving) = reap_whole old new g.opens g'.opens before after told reap spared.none
   call_whole worker old new g g' spared (SetAccount file account same is) = by_driver new old same spared.none
+  call_whole worker old new g g' spared (Recount file change keeps same is) = by_driver new old same spared.none
   call_whole worker old new g g' spared (Leave id file leaves same is) = by_driver new old same spared.none
-  call_whole worker old new g g' spared (Other is same) = λ id. ap (λ (s : Slab (Entry S F)). is_broken (waiter_at s id)) is ∙ spared.none id
+  call_whole worker old new g g' spared (Other is brings same) = λ id. ap (λ (s : Slab (Entry S F)). is_broken (waiter_at s id)) is ∙ spared.none id
 
   -- ALL DRIVERS
 

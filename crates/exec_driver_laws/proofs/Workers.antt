@@ -1,9 +1,9 @@
 -- Why the drivers of the worked example share gates, or don't.
 use Rattle.std.proofs.Common.{◌≡◌, ◌≢◌, ℕ, zero, suc, ◌≤◌, Bool, true, false, eqb, Some, None, refl, sym, ap, arith}
 use Rattle.exec_waiters.specs.{Examples.{sync, here}}
-use Rattle.exec_driver.specs.{Examples.{first, idle}, Steps.newcomer}
+use Rattle.exec_driver.specs.{Examples.{first, idle}, Placed.Says, Steps.newcomer}
 use Rattle.exec_driver_laws.specs.{Examples.{workers, held, gates, spoiled, spoiling, no_requests, astray}, Serving.{IsCalls, NoCall, NextCall}}
-use Rattle.exec_driver_laws.specs.{Laws.ShareGates, Sharing.{LineUp, CallsOne, SetAccount, Other, IsRun, Says, FailsFrom, sets_account_of, key_of}}
+use Rattle.exec_driver_laws.specs.{Laws.ShareGates, Sharing.{LineUp, CallsOne, SetAccount, Other, IsRun, FailsFrom, sets_account_of, key_of}}
 use Rattle.exec_base.specs.declared.error.Error.TheVariants.{Timeout}
 use Rattle.exec_opens.specs.declared.opens.WaiterKey.{WaiterKey}
 use Rattle.exec_driver.proofs.{Words.{false≢true, Waiter}}
@@ -21,18 +21,18 @@ not_shared share =
     false≢true (sym (ap (λ (k : WaiterKey). eqb k.worker 3) same))
 
 pub says : Says idle
-says = record { permitted = grind arith; lists = grind arith; dated = grind arith }
+says = record { permitted = grind arith; lists = grind arith; dated = grind arith; lands = tt }
 
 abbrev calling : (n : ℕ) → CallsOne (no_requests n) (no_requests (suc n)) (spoiling n) (spoiling (suc n))
 calling zero = record { worker = 0; call = SetAccount (Some 1) spoiled refl refl; says = says; others = λ other apart. refl }
-calling (suc n) = record { worker = 0; call = Other refl refl; says = says; others = λ other apart. refl }
+calling (suc n) = record { worker = 0; call = Other refl (λ user_data is. omega arith) refl; says = says; others = λ other apart. refl }
 
 unset : (k : ℕ) → 1 ≤ k → sets_account_of (calling k).call ≢ Some 1
 unset zero past = omega (arith, past)
 unset (suc k) past = λ is. cc (is)
 
 abbrev run : IsRun no_requests spoiling
-run = record { first = record { count = 2; opens = refl; leaving = λ file. refl; requests = λ worker. refl }; next = calling }
+run = record { first = record { count = 2; opens = refl; leaving = λ file. refl; requests = λ worker. refl; rings = λ worker user_data is. refl; says = λ worker. says }; next = calling }
 
 pub spoils : FailsFrom no_requests spoiling 1 7 1 Timeout
 spoils = record { run = run; since = omega arith; kept = refl; unset = λ k past soon. unset k past }

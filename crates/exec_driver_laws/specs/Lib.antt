@@ -1,4 +1,9 @@
 pub mod Laws
+pub mod Lines
+pub mod Owning
+pub mod OwningExamples
 pub mod Sharing
 pub mod Examples
 pub mod Serving
+pub mod Ends
+pub mod Runs

@@ -6,9 +6,9 @@ use Rattle.exec_outcomes.specs.{Accounts.Account, declared.outcome.OpResult.OpRe
 use Rattle.exec_request.specs.{Requests.{gate_of, deadline_of}, States.Ended, declared.request.Request.Request}
 use Rattle.exec_ring.specs.declared.store.Store.{Store}
 use Rattle.exec_waiters.specs.{Events.{changed, with_waker, taken, forwarded}, States.gate_in, declared.{deferred.Deferred.Deferred, observer.Observer.Observer, waiter.{Entry.Entry, Waiter.Waiter}, waiter_id.WaiterId.WaiterId}}
-use Rattle.exec_driver.specs.{Admission.Admits, Driving.{Driving, request_at}, Placed.{ListsRequests, HasDeadlines, FliesPermitted}}
+use Rattle.exec_driver.specs.{Admission.Admits, Driving.{Driving, request_at}, Placed.Says}
 use Rattle.exec_driver.specs.{Service.permit_by, Steps.{let_go, expired, EnrolsAs, Grants, StagesOne, LandsOne, ReapsNext}, declared.driver.{reaping.Reaped.Reaped, staging.Granted.Granted}}
-use Rattle.exec_driver_laws.specs.Laws.{ShareGates, failure_at}
+use Rattle.exec_driver_laws.specs.{Laws.{ShareGates, failure_at}, Lines.KeepsLine, Owning.{BringsNoOperation, HasNoOperation}}
 use Rattle.exec_lists.specs.Lists.{first_of}
 use Rattle.exec_opens.specs.{Opens.{OpenState, fresh_open, open_at, holder_at, with_open, with_named, with_account, joined, passed}, declared.opens.WaiterKey.WaiterKey}
 
@@ -70,25 +70,27 @@ module _ {S F : Type 0} where
     pub over : (key : WaiterKey) (file : ℕ) → g.leaving file ≡ Some key → request_at (drivers key.worker) key.id ≡ None
 
   -- A call that a worker makes on its driver or on the opens, with what the calls of a driver answer. Who leaves a gate
-  -- was told so by a reap or a grant. `Other` is every call that changes no request: it moves the wheel, the ring, the
-  -- lists or the rooms.
+  -- was told so by a reap or a grant. `Other` is every call that changes no request and brings no operation into the ring: it
+  -- moves the wheel, the ring, the lists or the rooms.
   pub data Call (worker : ℕ) (old new : Driving S F) (g g' : Gates) : Type 0 where
-    Admit : (id : WaiterId) (request : Request) (observer : Observer S F) (now : ℕ) → next_id old.requests ≡ Some id.0 → (IsPast old.requests id.0 → ⊥) → Admits old new g.opens g'.opens id request observer now → g'.leaving ≡ g.leaving → Call worker old new g g'
+    Admit : (id : WaiterId) (request : Request) (observer : Observer S F) (now : ℕ) → next_id old.requests ≡ Some id.0 → id.0.index < 4294967295 → (IsPast old.requests id.0 → ⊥) → Admits old new g.opens g'.opens id request observer now → g'.leaving ≡ g.leaving → Call worker old new g g'
     Join : (id : WaiterId) → id.0.generation < 2 ^ 64 → new ≡ old → g' ≡ with_lines g (with_named g.opens (gate_in (request_at old id)) (joined (key_of worker id))) → Call worker old new g g'
     Observe : (id : WaiterId) → new ≡ record old { requests = taken old.requests id.0 } → g' ≡ g → Call worker old new g g'
     SetWaker : (id : WaiterId) (task : TaskNo) → new ≡ record old { requests = changed old.requests id.0 (with_waker task) } → g' ≡ g → Call worker old new g g'
     Forward : (id : WaiterId) (sender : F) → new ≡ record old { requests = forwarded old.requests id.0 sender } → g' ≡ g → Call worker old new g g'
     Orphan : (id : WaiterId) → new ≡ let_go old id → g' ≡ g → Call worker old new g g'
     Expire : (id : WaiterId) → first_of old.lists.due ≡ Some id → new ≡ expired old id → g' ≡ g → Call worker old new g g'
-    Enrol : (before after : Deferred S F) (id : WaiterId) (w : Waiter S F) (deadline now : ℕ) (told : Option Error) → request_at old id ≡ Some w → deadline_of w.request ≡ Some deadline
+    Enrol : (before after : Deferred S F) (id : WaiterId) (w : Waiter S F) (deadline now : ℕ) (told : Option Error) → first_of old.lists.enrolments ≡ Some id → request_at old id ≡ Some w → deadline_of w.request ≡ Some deadline
         → EnrolsAs old new before after id w deadline now told → g' ≡ g → Call worker old new g g'
     Grant : (before after : Deferred S F) (file : ℕ) (granted : Granted) (w : Waiter S F) → request_at old granted.id ≡ Some w → Grants old new g.opens g'.opens before after worker file granted → g'.leaving ≡ with_leaving (permit_by file granted) (key_of worker granted.id) g.leaving → Call worker old new g g'
-    Stage : (id : WaiterId) (w : Waiter S F) (account : Option Account) → request_at old id ≡ Some w → StagesOne old new id w account → g' ≡ g → Call worker old new g g'
+    Stage : (id : WaiterId) (w : Waiter S F) (account : Option Account) → first_of old.lists.queued ≡ Some id → request_at old id ≡ Some w → StagesOne old new id w account → g' ≡ g → Call worker old new g g'
     Land : (id : WaiterId) (w : Waiter S F) (given : OpResult) (store store' : Store) → request_at old id ≡ Some w → LandsOne old new id w given store store' → g' ≡ g → Call worker old new g g'
     Reap : (before after : Deferred S F) (told : Option Reaped) → ReapsNext old new g.opens g'.opens before after told → g'.leaving ≡ leaving_by worker told g.leaving → Call worker old new g g'
     SetAccount : (file : Option ℕ) (account : Option Account) → new ≡ old → g' ≡ with_lines g (with_account g.opens file account) → Call worker old new g g'
+    -- a call on an open alone: a place in its line is made or given up, or a write is counted
+    Recount : (file : Option ℕ) (change : OpenState → OpenState) → ((o : OpenState) → KeepsLine o (change o)) → new ≡ old → g' ≡ with_lines g (with_named g.opens file change) → Call worker old new g g'
     Leave : (id : WaiterId) (file : ℕ) → g.leaving file ≡ Some (key_of worker id) → new ≡ old → g' ≡ passed_on g file → Call worker old new g g'
-    Other : new.requests ≡ record old.requests { room = new.requests.room } → g' ≡ g → Call worker old new g g'
+    Other : new.requests ≡ record old.requests { room = new.requests.room } → BringsNoOperation old.ring new.ring → g' ≡ g → Call worker old new g g'
 
   -- which request has ended, as a reap or a grant says, and how
   abbrev pub end_by : {worker : ℕ} {old new : Driving S F} {g g' : Gates} → Call worker old new g g' → Option (WaiterKey × Ended)
@@ -96,16 +98,15 @@ module _ {S F : Type 0} where
   end_by {worker} (Reap before after told reaps leaving) = end_told worker told
   end_by call = None
 
+  -- which request has ended with a reap, and how
+  abbrev pub end_by_reap : {worker : ℕ} {old new : Driving S F} {g g' : Gates} → Call worker old new g g' → Option (WaiterKey × Ended)
+  end_by_reap {worker} (Reap before after told reaps leaving) = end_told worker told
+  end_by_reap call = None
+
   -- the open of which the caller says itself what is kept
   abbrev pub sets_account_of : {worker : ℕ} {old new : Driving S F} {g g' : Gates} → Call worker old new g g' → Option ℕ
   sets_account_of (SetAccount file account same is) = file
   sets_account_of call = None
-
-  -- what each driver says of its requests
-  pub record Says (d : Driving S F) : Type 0 where
-    pub permitted : FliesPermitted d
-    pub lists : ListsRequests d
-    pub dated : HasDeadlines d
 
   -- one worker makes a call, and the drivers of the others stay as they are
   pub record CallsOne (drivers drivers' : ℕ → Driving S F) (g g' : Gates) : Type 0 where
@@ -114,12 +115,14 @@ module _ {S F : Type 0} where
     pub says : Says (drivers' worker)
     pub others : (other : ℕ) → other ≢ worker → drivers' other ≡ drivers other
 
-  -- at first there is no request, and nobody stands at a gate
+  -- At first there is no request, nobody stands at a gate, and no ring has an operation. Each driver says what each says.
   pub record AreFresh (drivers : ℕ → Driving S F) (g : Gates) : Type 0 where
     pub count : ℕ
     pub opens : g.opens ≡ replicate count fresh_open
     pub leaving : (file : ℕ) → g.leaving file ≡ None
     pub requests : (worker : ℕ) → (drivers worker).requests.slots ≡ []
+    pub rings : (worker : ℕ) → HasNoOperation (drivers worker).ring
+    pub says : (worker : ℕ) → Says (drivers worker)
 
   -- the drivers and the gates after so many calls
   pub record IsRun (drivers : ℕ → ℕ → Driving S F) (gates : ℕ → Gates) : Type 0 where

@@ -7,12 +7,13 @@ ghost use Rattle.exec_request.specs.{Requests.{asked_of, deadline_of, gate_of, g
 ghost use Rattle.exec_ring.specs.declared.completion.Completion.{Completion};
 ghost use Rattle.exec_waiters.specs.{Events.ending_of, Ids.user_data_of, States.{waiter_at, is_flying}, Told.nothing_told, declared.{deferred.Deferred.Deferred, waiter.Waiter.Waiter, waiter_id.WaiterId.WaiterId}};
 ghost use Rattle.exec_driver.specs.{Driving.{Driving, request_at}, Placed.{ListsRequests, HasDeadlines}, Steps.{let_go, without_observer, ended, cancelled_at, told_by_cancel, told_by_end, noted, completed_in, Grants, ReapsNext}};
+ghost use Rattle.exec_driver_laws.specs.Ends.{EndsUnwell, told_in};
 ghost use Rattle.exec_driver.specs.declared.driver.{reaping.Reaped.Reaped, staging.Granted.Granted};
 ghost use Rattle.exec_lists.specs.Lists.{is_among};
 ghost use Rattle.exec_opens.specs.{Opens.OpenState, declared.opens.WaiterKey.WaiterKey};
 ghost use Rattle.exec_driver_laws.specs.{Laws.{is_listed, failure_in, failure_at, ShareGates, IsDurableFlight, GoesOnFlying}, Sharing.{Gates, LineUp, Call, CallsOne, AreFresh, IsRun, FailsFrom, end_by, sets_account_of}};
 ghost use Rattle.exec_driver.specs.Service.{Reached, ServesInOrder};
-ghost use Rattle.exec_driver_laws.specs.Serving.{SaysAlong, Calls, IsCalls};
+ghost use Rattle.exec_driver_laws.specs.Serving.{Calls, IsCalls};
 
 use exec_waiters::laws::{
     a_recycled_slot_takes_no_old_completion, a_request_is_resolved_at_most_once,
@@ -38,8 +39,9 @@ pub fn unobserved_writes_and_syncs_are_never_cancelled<S, F>()
 {}
 
 /// Once its open keeps a failure, a durable request ends with that failure as it is granted the permit, and a success
-/// of its operations is told as that failure. A kept failure stays the same, whatever calls workers make, until a caller
-/// says himself what is kept of the open; and until then no durable request of the open ends well.
+/// of its operations is told as that failure, to whoever waits for it and in the output that is kept. A kept failure
+/// stays the same, whatever calls workers make, until a caller says himself what is kept of the open; and until then no
+/// durable request of the open ends well, nor does the call by which it ends tell so or keep such an output.
 #[tactic(auto, using(crate::proofs::Promises::fails_at_grant, crate::proofs::Promises::fails_over, crate::proofs::Failing::never_well))]
 pub fn no_durable_request_ends_well_after_a_kept_failure<S, F>()
     ensures granted { (r : Request) (account : Account) (error : Error) → is_durable (asked_of r).kind ≡ true → account.failure ≡ Some error → outcome_if_granted r (Some account) ≡ Some (Failure error) }
@@ -49,11 +51,18 @@ pub fn no_durable_request_ends_well_after_a_kept_failure<S, F>()
         Grants old new opens opens' before after worker file granted → request_at old granted.id ≡ Some w → failure_at opens file ≡ Some error → granted.ended ≡ Some (Err error) }
     ensures at_reap { (old new : Driving S F) (opens opens' : List OpenState) (before after : Deferred S F) (r : Reaped) (w : Waiter S F) (file : ℕ) (error : Error) →
         ReapsNext old new opens opens' before after (Some r) → request_at old r.id ≡ Some w → gate_of w.request ≡ Some file → failure_at opens file ≡ Some error → r.ended ≢ Some (Ok tt) }
+    ensures told_at_grant { (old new : Driving S F) (opens opens' : List OpenState) (before after : Deferred S F) (worker file : ℕ) (granted : Granted) (w : Waiter S F) (error : Error) →
+        Grants old new opens opens' before after worker file granted → request_at old granted.id ≡ Some w → gate_of w.request ≡ Some file → failure_at opens file ≡ Some error → EndsUnwell new before after granted.id }
+    ensures told_at_reap { (old new : Driving S F) (opens opens' : List OpenState) (before after : Deferred S F) (r : Reaped) (w : Waiter S F) (file : ℕ) (error : Error) →
+        ReapsNext old new opens opens' before after (Some r) → request_at old r.id ≡ Some w → gate_of w.request ≡ Some file → failure_at opens file ≡ Some error → EndsUnwell new before after r.id }
     ensures stays { (worker : ℕ) (old new : Driving S F) (g g' : Gates) (call : Call worker old new g g') (file : ℕ) (error : Error) →
         sets_account_of call ≢ Some file → failure_at g.opens file ≡ Some error → failure_at g'.opens file ≡ Some error }
     ensures fails_on { (drivers : ℕ → ℕ → Driving S F) (gates : ℕ → Gates) (n later file : ℕ) (error : Error) → FailsFrom drivers gates n later file error → failure_at (gates later).opens file ≡ Some error }
     ensures never_after { (drivers : ℕ → ℕ → Driving S F) (gates : ℕ → Gates) (n later file : ℕ) (error : Error) (fails : FailsFrom drivers gates n later file error) (key : WaiterKey) (w : Waiter S F) →
         request_at (drivers later key.worker) key.id ≡ Some w → gate_of w.request ≡ Some file → end_by (fails.run.next later).call ≢ Some (key, Ok tt) }
+    ensures never_told { (drivers : ℕ → ℕ → Driving S F) (gates : ℕ → Gates) (n later file : ℕ) (error : Error) (fails : FailsFrom drivers gates n later file error) (key : WaiterKey) (w : Waiter S F) →
+        request_at (drivers later key.worker) key.id ≡ Some w → gate_of w.request ≡ Some file → IsSomeAnd (end_by (fails.run.next later).call) (λ e. e.0 ≡ key) →
+        IsSomeAnd (told_in (fails.run.next later).call) (λ t. EndsUnwell (drivers (suc later) key.worker) t.0 t.1 key.id) }
 {}
 
 /// A request that has ended is over for good: its name is of no request, and stands in no list. What it owned comes
@@ -97,11 +106,10 @@ pub fn drivers_go_on_sharing_gates<S, F>()
 {}
 
 /// A whole service is calls of its worker, one after the other, which leave the opens as it does; and drivers that share
-/// gates go on sharing them, whatever calls a worker makes one after the other. What is asked of the driver at each
-/// moment of the service each driver says of itself (`Driver::lists_requests`, `Driver::has_deadlines`,
-/// `Driver::flies_permitted`).
+/// gates go on sharing them, whatever calls a worker makes one after the other. `Driver::service` says that it goes in
+/// that order.
 pub fn a_service_is_calls_of_its_worker<S, F>()
-    ensures calls { (worker now : ℕ) (defer answer : Bool) (old new : Reached S F) (g : Gates) (s : ServesInOrder worker now defer answer old new) → SaysAlong s → g.opens ≡ old.opens → IsCalls worker old.driver new.driver g new.opens }
+    ensures calls { (worker now : ℕ) (defer answer : Bool) (old new : Reached S F) (g : Gates) → ServesInOrder worker now defer answer old new → g.opens ≡ old.opens → IsCalls worker old.driver new.driver g new.opens }
     ensures kept { (worker : ℕ) (drivers drivers' : ℕ → Driving S F) (g h : Gates) → Calls worker (drivers worker) g (drivers' worker) h →
         ((other : ℕ) → other ≢ worker → drivers' other ≡ drivers other) → LineUp drivers g → LineUp drivers' h }
 {}

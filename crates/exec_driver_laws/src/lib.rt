@@ -2,5 +2,9 @@
 //! ends once.
 #![tactic(auto)]
 
+pub mod ends;
 pub mod examples;
 pub mod laws;
+pub mod lines;
+pub mod owning;
+pub mod runs;

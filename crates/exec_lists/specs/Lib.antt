@@ -1,3 +1,4 @@
 pub mod Lists
 pub mod Due
 pub mod Listed
+pub mod Examples

@@ -2,4 +2,5 @@
 #![tactic(auto)]
 
 mod due;
+pub mod examples;
 pub mod lists;

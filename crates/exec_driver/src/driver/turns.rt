@@ -14,7 +14,7 @@ ghost use Rattle.exec_ring.specs.Kernels.{is_quiet};
 ghost use Rattle.exec_time.specs.Wheel.{IsWithinReach};
 ghost use Rattle.exec_waiters.specs.States.{pending_count};
 ghost use Rattle.exec_opens.specs.Opens.{next_at, with_open, passed};
-ghost use Rattle.exec_driver.specs.{Driving.{seen, is_full, may_stage_one}, Punctual.IsPunctual, Sound.IsSound, Service.{Repeats, ReapsOne, ExpiresOne, EnrolsOne, GrantsAt, GrantsAll, StagesEntry, StagesAll, ServesInOrder, is_unstaged, Parks, reached, entered_if}, Steps.with_landings, Turns.{CanTell, GoesOn, Serves, StaysDone, IsStaged, unstaged, unreaped, may_wait, made_way, must_enter, is_after, is_calm, is_taken, PassesTo}};
+ghost use Rattle.exec_driver.specs.{Driving.{seen, is_full, may_stage_one}, Punctual.IsPunctual, Placed.Says, Sound.IsSound, Service.{Repeats, ReapsOne, ExpiresOne, EnrolsOne, GrantsAt, GrantsAll, StagesOneEntry, StagesAll, ServesInOrder, is_unstaged, Parks, reached, entered_if}, Steps.with_landings, Turns.{CanTell, GoesOn, Serves, StaysDone, IsStaged, unstaged, unreaped, may_wait, made_way, must_enter, is_after, is_calm, is_taken, PassesTo}};
 ghost use Rattle.exec_lists.specs.Lists.{has_first};
 
 use super::Driver;
@@ -55,15 +55,18 @@ impl<R: Ring + Drop, S: Drop, F: Drop> Driver<R, S, F> {
         ensures put_off { IsTrue result → IsTrue defer }
         ensures stand { IsTrue result → (pending_count (seen self.new).requests == 0) ≡ false }
     {
+        self.sound();
         self.reap_all(opens, deferred, workers);
         self.sound();
         self.advance(now);
+        self.sound();
         self.expire_all(deferred);
         self.enrol_all(now, deferred);
         self.grant_all(worker, opens, deferred, workers);
         self.stage_all(opens);
         let enters = self.must_enter(defer, deferred);
         self.enter_if(enters);
+        self.sound();
         self.reap_all(opens, deferred, workers);
         !enters && !self.is_empty()
     }
@@ -158,6 +161,7 @@ impl<R: Ring + Drop, S: Drop, F: Drop> Driver<R, S, F> {
     // What holds of a driver between its calls, for a proof to see.
     fn sound(&self)
         ensures sound { IsSound (seen self.now) }
+        ensures says { Says (seen self.now) }
         ensures reach { IsWithinReach (seen self.now).wheel }
         ensures tick { 0 < (seen self.now).wheel.tick }
         ensures slots { 0 < (seen self.now).wheel.slots }
@@ -197,6 +201,7 @@ impl<R: Ring + Drop, S: Drop, F: Drop> Driver<R, S, F> {
         ensures fewer { is_quiet (seen self.old).ring ≡ false → unreaped (seen self.new).ring < unreaped (seen self.old).ring }
     {
         let reaped = self.reap(opens, deferred);
+        self.sound();
         if let Some(
             Reaped {
                 id: _,
@@ -220,6 +225,7 @@ impl<R: Ring + Drop, S: Drop, F: Drop> Driver<R, S, F> {
         'due: while self.has_due() {
             self.sound();
             self.expire(deferred);
+            self.sound();
         }
     }
 
@@ -236,6 +242,7 @@ impl<R: Ring + Drop, S: Drop, F: Drop> Driver<R, S, F> {
         'enrolments: while self.has_enrolments() {
             self.sound();
             self.enrol(now, deferred);
+            self.sound();
         }
     }
 
@@ -278,6 +285,7 @@ impl<R: Ring + Drop, S: Drop, F: Drop> Driver<R, S, F> {
     {
         self.sound();
         let granted = self.grant(worker, file, opens, deferred);
+        self.sound();
         if let Some(
             Granted {
                 id: _,
@@ -300,7 +308,9 @@ impl<R: Ring + Drop, S: Drop, F: Drop> Driver<R, S, F> {
         ensures stages { StagesAll opens.now (seen self.old) (seen self.new) }
     {
         'queues: while self.stage_some(opens) {
-            match self.enter() {
+            let entered = self.enter();
+            self.sound();
+            match entered {
                 Entered::Busy => return,
                 Entered::Taken(_) => {}
             }
@@ -315,7 +325,7 @@ impl<R: Ring + Drop, S: Drop, F: Drop> Driver<R, S, F> {
         ensures full { IsTrue result → is_full (seen self.new) ≡ true }
         ensures left { IsTrue result → is_unstaged (seen self.new) ≡ true }
         ensures staged { result ≡ false → IsStaged (seen self.new) }
-        ensures stages { Repeats (StagesEntry opens.now) (seen self.old) (seen self.new) }
+        ensures stages { Repeats (StagesOneEntry opens.now) (seen self.old) (seen self.new) }
         ensures less { unstaged (seen self.new) ≤ unstaged (seen self.old) }
         ensures some { IsTrue result → is_full (seen self.old) ≡ false → unstaged (seen self.new) < unstaged (seen self.old) }
     {
@@ -325,7 +335,9 @@ impl<R: Ring + Drop, S: Drop, F: Drop> Driver<R, S, F> {
             }
             self.stage_one(opens);
         }
-        !self.stage_wake_poll()
+        let polled = self.stage_wake_poll();
+        self.sound();
+        !polled
     }
 
     // Stages the next cancel, or else the next request.
@@ -335,12 +347,15 @@ impl<R: Ring + Drop, S: Drop, F: Drop> Driver<R, S, F> {
         requires enrolled { has_first (seen self.old).lists.enrolments ≡ false }
         ensures going { GoesOn (seen self.old) (seen self.new) }
         ensures done { StaysDone (seen self.old) (seen self.new) }
-        ensures stages { StagesEntry opens.now (seen self.old) (seen self.new) }
+        ensures stages { StagesOneEntry opens.now (seen self.old) (seen self.new) }
         ensures fewer { unstaged (seen self.new) < unstaged (seen self.old) }
     {
         self.sound();
         if self.stage_cancel().is_none() {
             self.stage(opens);
+            self.sound();
+        } else {
+            self.sound();
         }
     }
 }

@@ -18,4 +18,4 @@ pub enrolments-preserved : goal.enrolments-preserved
 enrolments-preserved g c =
     let is : c.has_enrolments.result ≡ true = search rules in
     let one = enrol_serves _ _ c.enrol.result _ _ _ c.sound.ensures.slots c.sound.ensures.reach c.sound.ensures.sound (sym c.has_enrolments.ensures ∙ is) c.enrol.ensures.first c.enrol.ensures.none c.enrol.ensures.enrolled in
-    (serves_both _ _ _ _ _ _ c.enrolments.invariant.0 one.serves, one.due c.enrolments.invariant.1, OneMore _ _ c.enrolments.invariant.2 (enrols_one _ _ _ _ _ c.enrol.result (sym c.has_enrolments.ensures ∙ is) c.enrol.ensures.first c.enrol.ensures.none c.enrol.ensures.enrolled))
+    (serves_both _ _ _ _ _ _ c.enrolments.invariant.0 one.serves, one.due c.enrolments.invariant.1, OneMore _ _ c.enrolments.invariant.2 (enrols_one _ _ _ _ _ c.enrol.result c.sound-in-enrolments.ensures.says (sym c.has_enrolments.ensures ∙ is) c.enrol.ensures.first c.enrol.ensures.none c.enrol.ensures.enrolled))

@@ -16,5 +16,5 @@ due-preserved g c =
     let is : c.has_due.result ≡ true = search rules in
     let some = sym c.has_due.ensures ∙ is in (
       serves_both _ _ _ _ _ _ c.due.invariant.0 (expire_serves _ _ c.expire.result _ _ c.sound.ensures.sound some c.expire.ensures.first c.expire.ensures.expired c.expire.ensures.told).serves,
-      OneMore _ _ c.due.invariant.1 (expires_one _ _ _ _ c.expire.result some c.expire.ensures.first c.expire.ensures.expired c.expire.ensures.told),
+      OneMore _ _ c.due.invariant.1 (expires_one _ _ _ _ c.expire.result c.sound-in-due.ensures.says some c.expire.ensures.first c.expire.ensures.expired c.expire.ensures.told),
     )

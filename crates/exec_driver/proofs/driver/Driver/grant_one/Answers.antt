@@ -15,7 +15,7 @@ pub returns-clause-done : goal.returns-clause-done
 returns-clause-done g c = (grant_any _ _ _ _ _ _ _ _ c.grant-granted.result c.sound.ensures.sound c.grant-granted.ensures.granted c.grant-granted.ensures.same).1
 
 pub returns-in-Some-Some-clause-grants : goal.returns-in-Some-Some-clause-grants
-returns-in-Some-Some-clause-grants g c = grants_passed _ _ _ _ _ _ _ _ _ _ _ c.grant-granted.result (Some c.args.file) (search rules) c.grant-granted.ensures.granted c.grant-granted.ensures.none c.grant-granted.ensures.same (c.pass_on.ensures.opens, c.pass_on.ensures.signalled)
+returns-in-Some-Some-clause-grants g c = grants_passed _ _ _ _ _ _ _ _ _ _ _ c.grant-granted.result (Some c.args.file) c.sound-2.ensures.says (search rules) c.grant-granted.ensures.granted c.grant-granted.ensures.none c.grant-granted.ensures.same (c.pass_on.ensures.opens, c.pass_on.ensures.signalled)
 
 pub returns-clause-grants : goal.returns-clause-grants
-returns-clause-grants g c = grants_passed _ _ _ _ _ _ _ _ _ _ _ c.grant-granted.result None (search rules) c.grant-granted.ensures.granted c.grant-granted.ensures.none c.grant-granted.ensures.same (refl, refl)
+returns-clause-grants g c = grants_passed _ _ _ _ _ _ _ _ _ _ _ c.grant-granted.result None c.sound-2.ensures.says (search rules) c.grant-granted.ensures.granted c.grant-granted.ensures.none c.grant-granted.ensures.same (refl, refl)

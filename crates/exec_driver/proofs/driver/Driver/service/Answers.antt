@@ -4,7 +4,7 @@ use Rattle.exec_driver.specs.{Driving.seen, Service.reached}
 use Rattle.exec_driver.proofs.driver.Driver.service.Goals as goal
 
 pub advance-requires : goal.advance-requires
-advance-requires g c = record { settled = settled _ c.sound.ensures.sound.ticks (c.reap_all.ensures.serves.going.punctual c.requires.punctual) (c.reap_all.ensures.done.due c.requires.told) }
+advance-requires g c = record { settled = settled _ c.sound-2.ensures.sound.ticks (c.reap_all.ensures.serves.going.punctual c.requires.punctual) (c.reap_all.ensures.done.due c.requires.told) }
 
 pub returns-then-not-enters-clause-serves : goal.returns-then-not-enters-clause-serves
 returns-then-not-enters-clause-serves g c = grind arith
@@ -19,9 +19,11 @@ pub returns-then-not-enters-clause-steps : goal.returns-then-not-enters-clause-s
 returns-then-not-enters-clause-steps g c =
     let is : c.must_enter-enters.result ≡ false = search rules in
     record {
+      says = c.sound.ensures.says;
       reaped = reached (seen c.reap_all.new.self) c.reap_all.new.opens c.reap_all.new.deferred (g.W.Signals.signalled c.reap_all.new.workers);
       reaps = c.reap_all.ensures.reaps;
       quiet = c.reap_all.ensures.quiet;
+      says_turned = rw c.advance.ensures.advanced at c.sound-3.ensures.says;
       expired = (seen c.expire_all.new.self, c.expire_all.new.deferred);
       expires = rw c.advance.ensures.advanced at c.expire_all.ensures.expires;
       none_due = c.expire_all.ensures.told;
@@ -35,6 +37,7 @@ returns-then-not-enters-clause-steps g c =
       none_unstaged = c.stage_all.ensures.full;
       none_unless_busy = c.stage_all.ensures.staged;
       worked = seen c.enter_if.new.self;
+      says_worked = c.sound-4.ensures.says;
       works = rw c.must_enter-enters.ensures at c.enter_if.ensures.works;
       reaps_again = c.reap_all-2.ensures.reaps;
       quiet_again = c.reap_all-2.ensures.quiet;
@@ -45,9 +48,11 @@ pub returns-else-not-enters-clause-steps : goal.returns-else-not-enters-clause-s
 returns-else-not-enters-clause-steps g c =
     let is : c.must_enter-enters.result ≡ true = search rules in
     record {
+      says = c.sound.ensures.says;
       reaped = reached (seen c.reap_all.new.self) c.reap_all.new.opens c.reap_all.new.deferred (g.W.Signals.signalled c.reap_all.new.workers);
       reaps = c.reap_all.ensures.reaps;
       quiet = c.reap_all.ensures.quiet;
+      says_turned = rw c.advance.ensures.advanced at c.sound-3.ensures.says;
       expired = (seen c.expire_all.new.self, c.expire_all.new.deferred);
       expires = rw c.advance.ensures.advanced at c.expire_all.ensures.expires;
       none_due = c.expire_all.ensures.told;
@@ -61,6 +66,7 @@ returns-else-not-enters-clause-steps g c =
       none_unstaged = c.stage_all.ensures.full;
       none_unless_busy = c.stage_all.ensures.staged;
       worked = seen c.enter_if.new.self;
+      says_worked = c.sound-4.ensures.says;
       works = rw c.must_enter-enters.ensures at c.enter_if.ensures.works;
       reaps_again = c.reap_all-2.ensures.reaps;
       quiet_again = c.reap_all-2.ensures.quiet;

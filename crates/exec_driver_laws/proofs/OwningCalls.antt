@@ -1,0 +1,237 @@
+-- What each call does to the operations of its driver, and so whose they are at each moment of a run.
+use Rattle.std.proofs.Common.{◌≡◌, ◌≢◌, ◌⊎◌, ℕ, ◌+◌, ◌≤◌, ◌<◌, eqb, true, false, cond, List, Option, Some, None, refl, sym, ap, subst, ◌∙◌, inl, inr, arith}
+use Rattle.std.specs.{Option.{option_map}, Prelude.{IsSomeAnd}}
+use Rattle.std.proofs.lemmas.Bool.{false≢true}
+use Rattle.exec_base.specs.{Slab.{slot_at}, declared.slab.Slot.TheVariants.{Live}}
+use Rattle.exec_ring.specs.{Landings.Moves, declared.store.Store.Store}
+use Rattle.exec_waiters.specs.{Ids.{user_data_of, index_in}, States.{named, named_in}}
+use Rattle.exec_waiters.proofs.Changes.{at_by}
+use Rattle.std.proofs.lemmas.Grind.{common_steps}
+use Rattle.exec_opens.specs.declared.opens.WaiterKey.{WaiterKey}
+use Rattle.exec_lists.proofs.Names.{same_tells}
+use Rattle.exec_driver.specs.{Placed.Says, Steps.{StagesOne, LandsOne, judged_as_over, landed_at, told_as, taken_in, newcomer, placed_at}, declared.driver.reaping.Reaped.Reaped}
+use Rattle.exec_driver.proofs.Words.{Account, Slab, Id, OpResult, OpenState, Deferred, Submission, RingState, Request, Waiter, Entry, Pending, WaiterId, Driving, request_at, Ended, waiter_at, is_flying, is_some, is_queued, is_gated, is_unenrolled, value_at, flight_of, tick_for, after_enrolment, after_due, taken_out, open_after, account_in, file_of, eqb_tells, entry_of, one_if}
+use Rattle.exec_driver.proofs.Endings.{one_changed, one_finished}
+use Rattle.exec_driver_laws.specs.{Owning.{is_operation, operations_in, BringsNoOperation, IsOwned}, Sharing.{Gates, Call, Admit, Join, Observe, SetWaker, Forward, Orphan, Expire, Enrol, Grant, Stage, Land, Reap, SetAccount, Recount, Leave, Other, key_of, end_by_reap, end_told}}
+use Rattle.exec_driver_laws.proofs.{Calling.{reap_tells, ReapsThere}, Lasting.{placed_apart, filled_apart}, OwningRing.{brings_same, entry_one, flight_there}, OwningSteps.{GoOn, stays, flies_on, there_before, became_on, alike_on, same_ids, taken_on, waked_on, forwarded_on, let_go_on, let_go_ring, cancelled_on, cancelled_ring, enrolled_on, enrolled_ring, granted_on, granted_ring, free, placed_ring}, Uncancelled.first_among}
+
+moved_there : (o : Option Submission) (given : OpResult) (r r' : Request) (st st' : Store) → Moves o given r r' st st' → (e : Submission) × (o ≡ Some e)
+moved_there None given r r' st st' moves = absurd moves
+moved_there (Some e) given r r' st st' moves = (e, refl)
+
+index_own : (id : Id) → id.index < 4294967296 → index_in (user_data_of id) ≡ id.index
+index_own = grind arith
+
+-- how many there are at most
+few_stay : (n n' : ℕ) (o o' : Option Id) → n' ≤ n → ((id : Id) → o ≡ Some id → o' ≡ Some id) → n ≤ cond (is_some o) 1 0 → n' ≤ cond (is_some o') 1 0
+few_stay n n' None o' less on was = omega (arith, less, was)
+few_stay n n' (Some id) o' less on was = subst (λ (x : Option Id). n' ≤ cond (is_some x) 1 0) (sym (on id refl)) (omega (arith, less, was))
+
+few_begin : (n n' : ℕ) (o o' : Option Id) → n' ≤ n + 1 → o ≡ None → is_some o' ≡ true → n ≤ cond (is_some o) 1 0 → n' ≤ cond (is_some o') 1 0
+few_begin n n' o None less none some was = absurd (false≢true some)
+few_begin n n' None (Some id) less none some was = omega (arith, less, was)
+few_begin n n' (Some other) (Some id) less none some was = absurd (cc)
+
+few_over : (n n' : ℕ) (o : Option Id) → n' + 1 ≡ n → n ≤ cond (is_some o) 1 0 → n' ≡ 0
+few_over n n' None less was = omega (arith, less, was)
+few_over n n' (Some id) less was = omega (arith, less, was)
+
+module _ {S F : Type 0} where
+  idle_queued : (o : Option (Waiter S F)) (w : Waiter S F) → o ≡ Some w → is_queued o ≡ true → w.in_flight ≡ false
+  idle_queued = grind arith
+
+  idle_gated : (o : Option (Waiter S F)) (w : Waiter S F) → o ≡ Some w → is_gated o ≡ true → w.in_flight ≡ false
+  idle_gated = grind arith
+
+  idle_unenrolled : (o : Option (Waiter S F)) (w : Waiter S F) → o ≡ Some w → is_unenrolled o ≡ true → w.in_flight ≡ false
+  idle_unenrolled = grind arith
+
+  -- A call brings no operation, and all requests go on, or one comes that has none; or it brings one of a request that had
+  -- none; or it takes one of a request out, which is there still or was told to have ended.
+  pub data Keeps (worker : ℕ) (old new : Driving S F) (told : Option (WaiterKey × Ended)) : Type 0 where
+    Quiet : BringsNoOperation old.ring new.ring → GoOn old.requests new.requests → Keeps worker old new told
+    Arrives : (id : WaiterId) → id.0.index < 4294967295 → BringsNoOperation old.ring new.ring → ((j : Id) (w : Waiter S F) → waiter_at old.requests j ≡ Some w → j.index ≢ id.0.index)
+        → ((j : Id) → j.index ≢ id.0.index → waiter_at new.requests j ≡ waiter_at old.requests j) → Keeps worker old new told
+    Comes : (id : WaiterId) (w : Waiter S F) → request_at old id ≡ Some w → w.in_flight ≡ false → is_flying (request_at new id) ≡ true → GoOn old.requests new.requests
+        → ((user_data : ℕ) → operations_in new.ring user_data ≡ operations_in old.ring user_data + one_if (eqb (user_data_of id.0) user_data)) → Keeps worker old new told
+    Goes : (id : WaiterId) → is_flying (request_at old id) ≡ true → ((j : Id) → j ≢ id.0 → waiter_at new.requests j ≡ waiter_at old.requests j) → (is_some (request_at new id) ≡ true) ⊎ IsSomeAnd told (λ e. e.0 ≡ key_of worker id)
+        → ((user_data : ℕ) → is_operation user_data ≡ true → operations_in new.ring user_data + one_if (eqb (user_data_of id.0) user_data) ≡ operations_in old.ring user_data) → Keeps worker old new told
+
+  only : (worker : ℕ) (old new d : Driving S F) (told : Option (WaiterKey × Ended)) → new ≡ d → d.ring ≡ old.ring → GoOn old.requests d.requests → Keeps worker old new told
+  only worker old new d told is ring on = subst (λ (m : Driving S F). Keeps worker old m told) (sym is) (Quiet (brings_same old.ring d.ring ring) on)
+
+  same_keeps : (worker : ℕ) (old new : Driving S F) (told : Option (WaiterKey × Ended)) → new ≡ old → Keeps worker old new told
+  same_keeps worker old new told is = only worker old new old told is refl (λ j. stays (waiter_at old.requests j) (waiter_at old.requests j) refl)
+
+  staged_keeps : (worker : ℕ) (old new : Driving S F) (told : Option (WaiterKey × Ended)) (id : WaiterId) (w : Waiter S F) (account : Option Account) → request_at old id ≡ Some w → w.in_flight ≡ false → StagesOne old new id w account → Keeps worker old new told
+  staged_keeps worker old new told id w account at idle stages =
+      let w' : Waiter S F = record w { in_flight = true; request = stages.request } in
+      let changed = one_changed old.requests id.0 w w' at in
+      let is = ap (λ (m : Driving S F). m.requests) stages.driver in
+      let ring = ap (λ (m : Driving S F). m.ring) stages.driver in
+      Comes id w at idle (ap (λ (s : Slab (Entry S F)). is_flying (waiter_at s id.0)) is ∙ ap is_flying changed.is_at)
+      (subst (GoOn old.requests) (sym is) (became_on old.requests id.0 w w' at (grind arith)))
+      (λ user_data. ap (λ (r : RingState). operations_in r user_data) ring ∙ entry_one old.ring stages.entry user_data ∙ ap (λ (n : ℕ). operations_in old.ring user_data + one_if (eqb n user_data)) stages.user_data)
+
+  landed_keeps : (worker : ℕ) (old new : Driving S F) (told : Option (WaiterKey × Ended)) (id : WaiterId) (w : Waiter S F) (given : OpResult) (store store' : Store) → request_at old id ≡ Some w → LandsOne old new id w given store store' → Keeps worker old new told
+  landed_keeps worker old new told id w given store store' at lands =
+      let there = moved_there (flight_of old.ring (user_data_of id.0)) given w.request lands.lands.request store store' lands.lands.moved in
+      let ring = ap (λ (m : Driving S F). m.ring) lands.driver in
+      Quiet (λ user_data is. let same = ap (λ (r : RingState). operations_in r user_data) ring ∙ flight_there old.ring (user_data_of id.0) there.0 given user_data there.1 in omega (arith, same))
+      (subst (GoOn old.requests) (sym lands.lands.slab) (alike_on old.requests id.0 w (record w { request = lands.lands.request }) at refl))
+
+  over_told : (d : Driving S F) (worker : ℕ) (id : WaiterId) (v w : Waiter S F) (how : Option Ended) (account kept : Option Account) → request_at d id ≡ Some w
+      → (is_some (request_at (judged_as_over d id w how account) id) ≡ true) ⊎ IsSomeAnd (option_map {U = WaiterKey × Ended} (λ how. (key_of worker id, how)) (told_as v how kept)) (λ e. e.0 ≡ key_of worker id)
+  over_told d worker id v w None account kept at = inl (ap is_some at)
+  over_told d worker id v w (Some how) account kept at = inr refl
+
+  over_others : (d : Driving S F) (id : WaiterId) (w : Waiter S F) (how : Option Ended) (account : Option Account) → request_at d id ≡ Some w → (j : Id) → j ≢ id.0 → waiter_at (judged_as_over d id w how account).requests j ≡ waiter_at d.requests j
+  over_others d id w None account at j other = refl
+  over_others d id w (Some how) account at j other = (one_finished d.requests id.0 w how account at).others j other
+
+  reaped_keeps : (worker : ℕ) (old new : Driving S F) (opens opens' : List OpenState) (before after : Deferred S F) (told : Option Reaped) → ReapsThere old new opens opens' before after told → Keeps worker old new (end_told worker told)
+  reaped_keeps worker old new opens opens' before after told there =
+      let id = there.id in
+      let w = there.w in
+      let w' : Waiter S F = record w { in_flight = false; request = there.reaps.request } in
+      let d = landed_at (taken_out there.first) id w' in
+      let account = account_in opens (file_of w.request) in
+      let after = open_after w there.given account in
+      let changed = one_changed there.first.requests id.0 w w' there.at in
+      let moved = there.end ∙ ap (λ (m : Driving S F). m.requests) there.reaps.driver in
+      let others = over_others d id w' there.reaps.answer after changed.is_at in
+      let ends = over_told d worker id w w' there.reaps.answer after account changed.is_at in
+      Goes id (ap (λ (s : Slab (Entry S F)). is_flying (waiter_at s id.0)) (sym there.start) ∙ ap is_flying there.at ∙ there.flies)
+      (λ j other. ap (λ (s : Slab (Entry S F)). waiter_at s j) moved ∙ others j other ∙ changed.others j other ∙ ap (λ (s : Slab (Entry S F)). waiter_at s j) there.start)
+      (subst (λ (r : Option Reaped). (is_some (request_at new id) ≡ true) ⊎ IsSomeAnd (end_told worker r) (λ e. e.0 ≡ key_of worker id)) (sym there.reaps.told_is)
+      (subst (λ (s : Slab (Entry S F)). (is_some (waiter_at s id.0) ≡ true) ⊎ IsSomeAnd (option_map {U = WaiterKey × Ended} (λ how. (key_of worker id, how)) (told_as w there.reaps.answer account)) (λ e. e.0 ≡ key_of worker id)) (sym moved) ends))
+      there.ring
+
+  pub call_keeps : (worker : ℕ) (old new : Driving S F) (g g' : Gates) (call : Call worker old new g g') → Says old → Keeps worker old new (end_by_reap call)
+  call_keeps worker old new g g' (Admit id r observer now next within never admits leaving) says =
+      let w = newcomer r observer in
+      let ring = ap (λ (m : Driving S F). m.ring) admits.driver in
+      let same : BringsNoOperation old.ring (record (placed_at (taken_in old r observer) id w now).ring { places = new.ring.places }) =
+      subst (λ (m : RingState). BringsNoOperation old.ring (record m { places = new.ring.places })) (sym (placed_ring (taken_in old r observer) id w now)) (λ user_data is. omega arith) in
+      Arrives id within (subst (BringsNoOperation old.ring) (sym ring) same) (λ j v at. free old.requests id.0 j v next never at)
+      (λ j apart. ap (λ (m : Driving S F). waiter_at m.requests j) admits.driver ∙ placed_apart (taken_in old r observer) id j w now apart ∙ filled_apart old.requests old.requests.vacant id.0 j (Pending w) next apart)
+  call_keeps worker old new g g' (Join id fits same is) says = same_keeps worker old new None same
+  call_keeps worker old new g g' (Observe id is same) says = only worker old new _ None is refl (taken_on old.requests id.0 (value_at old.requests id.0) refl)
+  call_keeps worker old new g g' (SetWaker id task is same) says = only worker old new _ None is refl (waked_on old.requests id.0 task (value_at old.requests id.0) refl)
+  call_keeps worker old new g g' (Forward id sender is same) says = only worker old new _ None is refl (forwarded_on old.requests id.0 sender (value_at old.requests id.0) refl)
+  call_keeps worker old new g g' (Orphan id is same) says = only worker old new _ None is (let_go_ring old id) (let_go_on old id)
+  call_keeps worker old new g g' (Expire id first is same) says =
+      let d = record old { lists = after_due old.lists } in
+      only worker old new _ None is (cancelled_ring d id) (cancelled_on d id)
+  call_keeps worker old new g g' (Enrol before after id w deadline now told first at timed enrols same) says =
+      let idle = idle_unenrolled (request_at old id) w at (says.lists.enrolments id (first_among id old.lists.enrolments first)) in
+      let d = record old { lists = after_enrolment old.lists } in
+      let tick = tick_for old.wheel deadline now in
+      only worker old new _ None enrols.driver (enrolled_ring d id w tick) (enrolled_on d id w tick at idle)
+  call_keeps worker old new g g' (Grant before after file granted w at grants leaves) says =
+      let idle = idle_gated (request_at old granted.id) w at (says.lists.gated granted.id grants.waits) in
+      let account = account_in g.opens (file_of w.request) in
+      only worker old new _ None (grants.grants w at).driver (granted_ring old granted.id w granted.ended account) (granted_on old granted.id w granted.ended account at idle)
+  call_keeps worker old new g g' (Stage id w account first at stages same) says =
+      staged_keeps worker old new None id w account at (idle_queued (request_at old id) w at (says.lists.queued id (first_among id old.lists.queued first))) stages
+  call_keeps worker old new g g' (Land id w given store store' at lands same) says = landed_keeps worker old new None id w given store store' at lands
+  call_keeps worker old new g g' (Reap before after told reap leaving) says =
+      elim (reap_tells old new g.opens g'.opens before after told reap) [
+        | inl none ↦ Quiet none.ring (λ j. stays (waiter_at old.requests j) (waiter_at new.requests j) (ap (λ (s : Slab (Entry S F)). waiter_at s j) none.requests))
+        | inr there ↦ reaped_keeps worker old new g.opens g'.opens before after told there
+      ]
+  call_keeps worker old new g g' (SetAccount file account same is) says = same_keeps worker old new None same
+  call_keeps worker old new g g' (Recount file change keeps same is) says = same_keeps worker old new None same
+  call_keeps worker old new g g' (Leave id file leaves same is) says = same_keeps worker old new None same
+  call_keeps worker old new g g' (Other is brings same) says = Quiet brings (λ j. stays (waiter_at old.requests j) (waiter_at new.requests j) (ap (λ (s : Slab (Entry S F)). waiter_at s j) is))
+
+  -- WHOSE THEY ARE
+
+  pub flying_some : (o : Option (Waiter S F)) → is_flying o ≡ true → (w : Waiter S F) × (o ≡ Some w) × (w.in_flight ≡ true)
+  flying_some None flies = absurd (false≢true flies)
+  flying_some (Some w) flies = (w, refl, flies)
+
+  there_some : (o : Option (Waiter S F)) → is_some o ≡ true → (w : Waiter S F) × (o ≡ Some w)
+  there_some None there = absurd (false≢true there)
+  there_some (Some w) there = (w, refl)
+
+  pub named_there : (s : Slab (Entry S F)) (user_data : ℕ) (id : Id) → named s user_data ≡ Some id → (id.index < 4294967296) × (is_flying (waiter_at s id) ≡ true) × (user_data_of id ≡ user_data)
+  named_there = grind (arith, common_steps)
+
+  pub named_back : (s : Slab (Entry S F)) (id : Id) → id.index < 4294967296 → is_flying (waiter_at s id) ≡ true → named s (user_data_of id) ≡ Some id
+  named_back = grind (arith, common_steps)
+
+  idle_none : (user_data n : ℕ) (w : Waiter S F) → w.in_flight ≡ false → named_in user_data (Live n (Pending w)) ≡ None
+  idle_none = grind arith
+
+  named_idle : (s : Slab (Entry S F)) (id : Id) (w : Waiter S F) → id.index < 4294967296 → waiter_at s id ≡ Some w → w.in_flight ≡ false → named s (user_data_of id) ≡ None
+  named_idle s id w within at idle =
+      ap (λ (i : ℕ). named_in (user_data_of id) (slot_at s i)) (index_own id within) ∙ ap (named_in (user_data_of id)) (at_by s id (Pending w) (entry_of _ w at)).slot ∙ idle_none (user_data_of id) id.generation w idle
+
+  named_on : (s s' : Slab (Entry S F)) (user_data : ℕ) → ((j : Id) → user_data_of j ≡ user_data → is_flying (waiter_at s j) ≡ true → is_flying (waiter_at s' j) ≡ true) → (id : Id) → named s user_data ≡ Some id → named s' user_data ≡ Some id
+  named_on s s' user_data flies id at = let there = named_there s user_data id at in ap (named s') (sym there.2) ∙ named_back s' id there.0 (flies id there.2 there.1)
+
+  -- what a call does to what there is of one user data: it is as it was, or is lost; it begins; or it is over
+  pub data Turns (old new : Driving S F) (user_data : ℕ) : Type 0 where
+    Stays : operations_in new.ring user_data ≤ operations_in old.ring user_data → ((id : Id) → named old.requests user_data ≡ Some id → named new.requests user_data ≡ Some id) → Turns old new user_data
+    Begins : operations_in new.ring user_data ≤ operations_in old.ring user_data + 1 → named old.requests user_data ≡ None → is_some (named new.requests user_data) ≡ true → Turns old new user_data
+    Over : operations_in new.ring user_data + 1 ≡ operations_in old.ring user_data → Turns old new user_data
+
+  goes_flying : (s s' : Slab (Entry S F)) → GoOn s s' → (j : Id) → is_flying (waiter_at s j) ≡ true → is_flying (waiter_at s' j) ≡ true
+  goes_flying s s' on j flies = flies_on (waiter_at s j) (waiter_at s' j) (on j) flies
+
+  arrives_flying : (s s' : Slab (Entry S F)) (id : WaiterId) → ((j : Id) (w : Waiter S F) → waiter_at s j ≡ Some w → j.index ≢ id.0.index) → ((j : Id) → j.index ≢ id.0.index → waiter_at s' j ≡ waiter_at s j) → (j : Id) → is_flying (waiter_at s j) ≡ true → is_flying (waiter_at s' j) ≡ true
+  arrives_flying s s' id free others j flies = let there = flying_some (waiter_at s j) flies in ap is_flying (others j (free j there.0 there.1)) ∙ flies
+
+  pub turns : (worker : ℕ) (old new : Driving S F) (told : Option (WaiterKey × Ended)) → Keeps worker old new told → IsOwned old → (user_data : ℕ) → is_operation user_data ≡ true → Turns old new user_data
+  turns worker old new told (Quiet brings on) owned user_data is = Stays (brings user_data is) (named_on old.requests new.requests user_data (λ j own. goes_flying old.requests new.requests on j))
+  turns worker old new told (Arrives id within brings free others) owned user_data is = Stays (brings user_data is) (named_on old.requests new.requests user_data (λ j own. arrives_flying old.requests new.requests id free others j))
+  turns worker old new told (Comes id w at idle flies on count) owned user_data is =
+      let within : id.0.index < 4294967296 = let few = owned.names id w at in omega (arith, few) in
+      let more = count user_data in
+      elim (eqb_tells (user_data_of id.0) user_data) [
+        | inl same ↦ Begins (omega (arith, rw same.0 at more)) (ap (named old.requests) (sym same.1) ∙ named_idle old.requests id.0 w within at idle) (ap (λ (n : ℕ). is_some (named new.requests n)) (sym same.1) ∙ ap is_some (named_back new.requests id.0 within flies))
+        | inr other ↦ Stays (omega (arith, rw other.0 at more)) (named_on old.requests new.requests user_data (λ j own. goes_flying old.requests new.requests on j))
+      ]
+  turns worker old new told (Goes id flies others ends count) owned user_data is =
+      let less = count user_data is in
+      elim (eqb_tells (user_data_of id.0) user_data) [
+        | inl same ↦ Over (omega (arith, rw same.0 at less))
+        | inr other ↦ Stays (omega (arith, rw other.0 at less)) (named_on old.requests new.requests user_data (λ j own fly. ap is_flying (others j (λ mine. other.1 (ap user_data_of (sym mine) ∙ own))) ∙ fly))
+      ]
+
+  within_names : (worker : ℕ) (old new : Driving S F) (told : Option (WaiterKey × Ended)) → Keeps worker old new told → IsOwned old → (id : WaiterId) (w : Waiter S F) → request_at new id ≡ Some w → id.0.index < 4294967295
+  within_names worker old new told (Quiet brings on) owned id w at = let was = there_some (request_at old id) (there_before (request_at old id) (request_at new id) (on id.0) (ap is_some at)) in owned.names id was.0 was.1
+  within_names worker old new told (Arrives new_id within brings free others) owned id w at =
+      elim (eqb_tells id.0.index new_id.0.index) [ inl same ↦ subst (λ (i : ℕ). i < 4294967295) (sym same.1) within | inr other ↦ owned.names id w (sym (others id.0 other.1) ∙ at) ]
+  within_names worker old new told (Comes who v there idle flies on count) owned id w at = let was = there_some (request_at old id) (there_before (request_at old id) (request_at new id) (on id.0) (ap is_some at)) in owned.names id was.0 was.1
+  within_names worker old new told (Goes who flies others ends count) owned id w at =
+      elim (same_ids id.0 who.0) [
+        | inl same ↦ let was = flying_some (request_at old who) flies in owned.names id was.0 (ap (waiter_at old.requests) same ∙ was.1)
+        | inr other ↦ owned.names id w (sym (others id.0 other) ∙ at)
+      ]
+
+  owned_by : (old new : Driving S F) (user_data : ℕ) → Turns old new user_data → operations_in old.ring user_data ≤ cond (is_some (named old.requests user_data)) 1 0 → operations_in new.ring user_data ≤ cond (is_some (named new.requests user_data)) 1 0
+  owned_by old new user_data (Stays less on) was = few_stay (operations_in old.ring user_data) (operations_in new.ring user_data) (named old.requests user_data) (named new.requests user_data) less on was
+  owned_by old new user_data (Begins less none some) was = few_begin (operations_in old.ring user_data) (operations_in new.ring user_data) (named old.requests user_data) (named new.requests user_data) less none some was
+  owned_by old new user_data (Over less) was = let none = few_over (operations_in old.ring user_data) (operations_in new.ring user_data) (named old.requests user_data) less was in omega (arith, none)
+
+  pub kept_owned : (worker : ℕ) (old new : Driving S F) (g g' : Gates) → Call worker old new g g' → Says old → IsOwned old → IsOwned new
+  kept_owned worker old new g g' call says owned =
+      let keeps = call_keeps worker old new g g' call says in
+      record { names = within_names worker old new (end_by_reap call) keeps owned; owned = λ user_data is. owned_by old new user_data (turns worker old new (end_by_reap call) keeps owned user_data is) (owned.owned user_data is) }
+
+  -- what was under way is gone by a reap alone, which says so
+  pub gone_told : (worker : ℕ) (old new : Driving S F) (told : Option (WaiterKey × Ended)) → Keeps worker old new told → (id : WaiterId) → is_flying (request_at old id) ≡ true → request_at new id ≡ None → IsSomeAnd told (λ e. e.0 ≡ key_of worker id)
+  gone_told worker old new told (Quiet brings on) id flies over = absurd (false≢true (sym (ap is_flying over) ∙ goes_flying old.requests new.requests on id.0 flies))
+  gone_told worker old new told (Arrives new_id within brings free others) id flies over = absurd (false≢true (sym (ap is_flying over) ∙ arrives_flying old.requests new.requests new_id free others id.0 flies))
+  gone_told worker old new told (Comes who w there idle flying on count) id flies over = absurd (false≢true (sym (ap is_flying over) ∙ goes_flying old.requests new.requests on id.0 flies))
+  gone_told worker old new told (Goes who flying others ends count) id flies over =
+      elim (same_tells id who) [
+        | inr other ↦ absurd (false≢true (sym (ap is_flying over) ∙ ap is_flying (others id.0 other.1) ∙ flies))
+        | inl same ↦
+            elim ends [
+              | inl still ↦ absurd (false≢true (sym (ap is_some over) ∙ ap (λ (n : WaiterId). is_some (request_at new n)) same.1 ∙ still))
+              | inr says ↦ subst (λ (n : WaiterId). IsSomeAnd told (λ e. e.0 ≡ key_of worker n)) (sym same.1) says
+            ]
+      ]

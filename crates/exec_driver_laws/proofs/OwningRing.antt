@@ -1,0 +1,126 @@
+-- What the calls of a ring do to its operations.
+use Rattle.std.proofs.Common.{◌≡◌, ℕ, zero, suc, ◌+◌, ◌≤◌, ◌^◌, ◌-◌, min, eqb, ltb, Bool, true, false, cond, List, [], ◌∷◌, slice_get, Option, Some, None, refl, sym, ap, ◌∙◌, subst, arith}
+use Rattle.std.specs.Prelude.{count_by, fold}
+use Rattle.std.specs.List.{remove}
+use Rattle.std.proofs.lemmas.{Bool.{false≢true, eqb-true, Decides.eqb_tells}, Option.same_Some}
+use Rattle.std.proofs.lemmas.List.Sums.{sum_by-cons, sum_by_push}
+use Rattle.exec_request.specs.declared.window.Opcode.{Opcode}
+use Rattle.exec_outcomes.specs.declared.outcome.OpResult.{OpResult}
+use Rattle.exec_ring.specs.{Completions.{completed, wake_completion}, Kernels.{Landing, MayAllLand, all_taken, all_landed, entered_with, taken_in, taken_as, with_entry, with_completion, with_wake, woken, landed, may_land, without_flight, flight_of, allows, last_place, is_of, next_completion, reaped, next_in, posted_left}, Rings.RingState, declared.completion.{Completion.Completion, Posted.Posted, Submission.Submission}}
+use Rattle.exec_waiters.specs.declared.waiter_id.WaiterId.{WaiterId}
+use Rattle.exec_driver.specs.{Driving.Driving, Steps.{is_control, noted, swept_from, cancel_staged, cancel_entry, poll_staged, wake_entry, entered, advanced_to}}
+use Rattle.exec_driver_laws.specs.Owning.{is_operation, is_posted_of, operations_in, BringsNoOperation}
+
+-- an operation is no wake, and no cancel
+no_control : (user_data : ℕ) → is_operation user_data ≡ true → (eqb 18446744073709551615 user_data ≡ false) × (eqb 4294967295 user_data ≡ false)
+no_control = grind (arith, eqb_tells)
+
+control_apart : (p : Posted) (user_data : ℕ) → is_operation user_data ≡ true → is_control p.completion ≡ true → is_posted_of user_data p ≡ false
+control_apart = grind (arith, eqb_tells)
+
+pub brings_same : (a b : RingState) → b ≡ a → BringsNoOperation a b
+brings_same a b same = subst (BringsNoOperation a) (sym same) (λ user_data is. omega arith)
+
+posted_one : (s : RingState) (c : Completion) (user_data : ℕ) → operations_in (with_completion s c) user_data ≡ operations_in s user_data + cond (eqb c.user_data user_data) 1 0
+posted_one s c user_data = omega (arith, sum_by_push (λ (p : Posted). cond (is_posted_of user_data p) 1 0) s.posted (record { wakes = s.wakes; completion = c }))
+
+pub entry_one : (s : RingState) (e : Submission) (user_data : ℕ) → operations_in (with_entry s e.window e.user_data) user_data ≡ operations_in s user_data + cond (is_of user_data e) 1 0
+entry_one s e user_data = omega (arith, sum_by_push (λ (x : Submission). cond (is_of user_data x) 1 0) s.staged e)
+
+woken_brings : (s : RingState) → BringsNoOperation s (woken s)
+woken_brings s user_data is = by s.last
+  where
+    by : (b : Bool) → operations_in (cond b (with_completion (record s { armed = false; last = false }) (wake_completion false)) (record s { wakes = min (s.wakes + 1) (2 ^ 64 - 1) })) user_data ≤ operations_in s user_data
+    by true = let more = posted_one (record s { armed = false; last = false }) (wake_completion false) user_data in omega (arith, rw (no_control user_data is).0 at more)
+    by false = omega arith
+
+pub wake_brings : (s : RingState) → BringsNoOperation s (with_wake s)
+wake_brings s user_data is = grind (arith, woken_brings)
+
+taken_brings : (kind : Opcode) (s : RingState) (e : Submission) (user_data : ℕ) → is_operation user_data ≡ true → operations_in (taken_as kind s e) user_data ≤ operations_in s user_data + cond (is_of user_data e) 1 0
+taken_brings kind s e user_data is = grind (arith, posted_one, woken_brings, sum_by_push)
+
+all_brings : (es : List Submission) (s : RingState) (user_data : ℕ) → is_operation user_data ≡ true → operations_in (fold taken_in s es) user_data ≤ operations_in s user_data + count_by (is_of user_data) es
+all_brings [] s user_data is = omega arith
+all_brings (e ∷ es) s user_data is = omega (arith, all_brings es (taken_in s e) user_data is, taken_brings e.window.kind s e user_data is, sum_by-cons (λ (x : Submission). cond (is_of user_data x) 1 0) e es)
+
+pub all_taken_brings : (s : RingState) → BringsNoOperation s (all_taken s)
+all_taken_brings s user_data is = omega (arith, all_brings s.staged (record s { staged = [] }) user_data is)
+
+-- the last that passes, where one does
+last_passes : {X : Type 0} (p : X → Bool) (xs : List X) (x : X) → slice_get xs (last_place p xs) ≡ Some x → p x ≡ true
+last_passes p [] x is = absurd (cc)
+last_passes p (y ∷ ys) x is = grind (arith, last_passes p ys x)
+
+without : {X : Type 0} (q : X → Bool) (xs : List X) (i : ℕ) (x : X) → slice_get xs i ≡ Some x → count_by q (remove xs i) + cond (q x) 1 0 ≡ count_by q xs
+without q [] i x is = absurd (cc)
+without q (y ∷ ys) zero x is = let same : y ≡ x = cc in grind (arith, sum_by-cons (λ z. cond (q z) 1 0) y ys)
+without q (y ∷ ys) (suc i) x is = omega (arith, without q ys i x is, sum_by-cons (λ z. cond (q z) 1 0) y (remove ys i), sum_by-cons (λ z. cond (q z) 1 0) y ys)
+
+pub flight_there : (s : RingState) (user_data : ℕ) (e : Submission) (n : OpResult) (other : ℕ) → flight_of s user_data ≡ Some e → operations_in (landed s user_data n) other ≡ operations_in s other
+flight_there s user_data e n other is =
+    let mine = last_passes (is_of user_data) s.flying e is in
+    let fewer = without (is_of other) s.flying (last_place (is_of user_data) s.flying) e is in
+    let same : e.user_data ≡ user_data = eqb-true e.user_data user_data mine in
+    let more = posted_one (without_flight s user_data) (completed user_data n) other in
+    omega (arith, more, rw same at fewer)
+
+landed_brings : (s : RingState) (user_data : ℕ) (n : OpResult) → may_land s user_data n ≡ true → BringsNoOperation s (landed s user_data n)
+landed_brings s user_data n may other is = by (flight_of s user_data) refl may
+  where
+    by : (o : Option Submission) → flight_of s user_data ≡ o → allows o n ≡ true → operations_in (landed s user_data n) other ≤ operations_in s other
+    by None at none = absurd (false≢true none)
+    by (Some e) at some = omega (arith, flight_there s user_data e n other at)
+
+all_landed_brings : (ls : List Landing) (s : RingState) → MayAllLand ls s → BringsNoOperation s (all_landed ls s)
+all_landed_brings [] s may user_data is = omega arith
+all_landed_brings (l ∷ ls) s may user_data is =
+    omega (arith, landed_brings s l.user_data l.result may.0 user_data is, all_landed_brings ls (landed s l.user_data l.result) may.1 user_data is)
+
+pub entered_brings : (ls : List Landing) (s : RingState) → MayAllLand ls (all_taken s) → BringsNoOperation s (entered_with ls s)
+entered_brings ls s may user_data is = by s.busy
+  where
+    by : (b : Bool) → operations_in (cond b (record s { busy = false }) (all_landed ls (all_taken s))) user_data ≤ operations_in s user_data
+    by true = omega arith
+    by false = omega (arith, all_taken_brings s user_data is, all_landed_brings ls (all_taken s) may user_data is)
+
+-- the completion that is taken out is gone
+reaped_count : (ps : List Posted) (wakes : ℕ) (c : Completion) (user_data : ℕ) → is_operation user_data ≡ true → next_in ps wakes ≡ Some c → count_by (is_posted_of user_data) (posted_left ps) + cond (eqb c.user_data user_data) 1 0 ≡ count_by (is_posted_of user_data) ps
+reaped_count [] wakes c user_data is next = grind (arith, no_control)
+reaped_count (p ∷ ps) wakes c user_data is next = by (ltb 0 p.wakes) refl (same_Some _ _ next)
+  where
+    count : List Posted → ℕ
+    count qs = count_by (is_posted_of user_data) qs
+
+    by : (b : Bool) → ltb 0 p.wakes ≡ b → cond b (wake_completion true) p.completion ≡ c → count (cond b (record p { wakes = p.wakes - 1 } ∷ ps) ps) + cond (eqb c.user_data user_data) 1 0 ≡ count (p ∷ ps)
+    by true some at = rw (sym at, (no_control user_data is).0) (omega arith)
+    by false none at = rw (sym at) (omega (arith, sum_by-cons (λ (q : Posted). cond (is_posted_of user_data q) 1 0) p ps))
+
+pub reaped_one : (s : RingState) (c : Completion) (user_data : ℕ) → is_operation user_data ≡ true → next_completion s ≡ Some c → operations_in (reaped s) user_data + cond (eqb c.user_data user_data) 1 0 ≡ operations_in s user_data
+reaped_one s c user_data is next = omega (arith, reaped_count s.posted s.wakes c user_data is next)
+
+module _ {S F : Type 0} where
+  pub cancel_brings : (d : Driving S F) (id : WaiterId) → BringsNoOperation d.ring (cancel_staged d id).ring
+  cancel_brings d id user_data is = let more = entry_one d.ring (cancel_entry id) user_data in omega (arith, rw (no_control user_data is).1 at more)
+
+  pub poll_brings : (d : Driving S F) → BringsNoOperation d.ring (poll_staged d).ring
+  poll_brings d user_data is = let more = entry_one d.ring wake_entry user_data in omega (arith, rw (no_control user_data is).0 at more)
+
+  pub enter_brings : (d : Driving S F) → MayAllLand d.landings (all_taken d.ring) → BringsNoOperation d.ring (entered d).ring
+  enter_brings d may = entered_brings d.landings d.ring may
+
+  pub advance_brings : (d : Driving S F) (now : ℕ) → BringsNoOperation d.ring (advanced_to d now).ring
+  advance_brings d now = brings_same d.ring _ refl
+
+  -- what is swept out is of no operation
+  pub swept_same : (ps : List Posted) (d : Driving S F) (user_data : ℕ) → is_operation user_data ≡ true → operations_in (swept_from ps d).ring user_data ≡ operations_in (record d.ring { posted = ps }) user_data
+  swept_same [] d user_data is = refl
+  swept_same (p ∷ ps) d user_data is = by (is_control p.completion) refl (swept_same ps (noted p.completion d) user_data is)
+    where
+      more : (p : Posted) (ps : List Posted) → operations_in (record d.ring { posted = p ∷ ps }) user_data ≡ operations_in (record d.ring { posted = ps }) user_data + cond (is_posted_of user_data p) 1 0
+      more p ps = omega (arith, sum_by-cons (λ (q : Posted). cond (is_posted_of user_data q) 1 0) p ps)
+
+      by : (b : Bool) → is_control p.completion ≡ b → operations_in (swept_from ps (noted p.completion d)).ring user_data ≡ operations_in (record d.ring { posted = ps }) user_data
+          → operations_in (cond b (swept_from ps (noted p.completion d)) (record d { ring = record d.ring { posted = record p { wakes = 0 } ∷ ps } })).ring user_data ≡ operations_in (record d.ring { posted = p ∷ ps }) user_data
+      by true control rest = rest ∙ sym (more p ps ∙ ap (λ (b : Bool). operations_in (record d.ring { posted = ps }) user_data + cond b 1 0) (control_apart p user_data is control) ∙ omega arith)
+      by false other rest = omega (arith, more p ps, more (record p { wakes = 0 }) ps)

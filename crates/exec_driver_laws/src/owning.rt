@@ -1,0 +1,55 @@
+//! Laws of the operations that rings have: whose they are.
+
+ghost use Rattle.std.specs.Prelude.{◌≡◌, ◌<◌, ℕ, suc, Bool, true, false, IsSomeAnd, [], ◌∷◌, Some, None};
+ghost use Rattle.exec_base.specs.declared.slab.Id.{Id};
+ghost use Rattle.exec_opens.specs.declared.opens.WaiterKey.{WaiterKey};
+ghost use Rattle.exec_ring.specs.{Kernels.{MayAllLand, all_taken, with_wake}, Rings.RingState, declared.completion.Completion.Completion};
+ghost use Rattle.exec_waiters.specs.{Ids.user_data_of, declared.{waiter.Waiter.Waiter, waiter_id.WaiterId.WaiterId}};
+ghost use Rattle.exec_driver.specs.{Admission.with_rooms, Driving.{Driving, request_at}, Examples.first, Placed.Says, Steps.{advanced_to, cancel_staged, completed_in, entered, poll_staged}};
+ghost use Rattle.exec_driver_laws.specs.{Owning.{is_operation, operations_in, BringsNoOperation, is_under_way, IsOwned, HasOwner}, OwningExamples.{polling, its_entry}, Sharing.{Gates, CallsOne, IsRun, end_by_reap}};
+
+/// What else a worker does to its ring brings no operation into it: it stages a cancel or the wake poll, enters the
+/// kernel, raises a wake, goes on to a moment, says how the next enter or wake goes, or makes and gives up room. What
+/// lands within an enter may land, as each driver says (`Says`).
+#[tactic(auto, using(crate::proofs::OwningRing::cancel_brings, crate::proofs::OwningRing::poll_brings, crate::proofs::OwningRing::entered_brings, crate::proofs::OwningRing::wake_brings))]
+pub fn other_calls_bring_no_operation<S, F>()
+    ensures cancel { (d : Driving S F) (id : WaiterId) → BringsNoOperation d.ring (cancel_staged d id).ring }
+    ensures poll { (d : Driving S F) → BringsNoOperation d.ring (poll_staged d).ring }
+    ensures enter { (d : Driving S F) → MayAllLand d.landings (all_taken d.ring) → BringsNoOperation d.ring (entered d).ring }
+    ensures raise { (ring : RingState) → BringsNoOperation ring (with_wake ring) }
+    ensures advance { (d : Driving S F) (now : ℕ) → BringsNoOperation d.ring (advanced_to d now).ring }
+    ensures flags { (ring : RingState) (busy last : Bool) → BringsNoOperation ring (record ring { busy = busy; last = last }) }
+    ensures rooms { (like d : Driving S F) → BringsNoOperation d.ring (with_rooms like d).ring }
+{}
+
+/// At each moment of a run, while a ring has an operation, be it staged, under way or completed, the request that it is
+/// of is there and in flight, so it still owns its buffers; and the ring has no other of it. So no request that has the
+/// slot later takes the completion: as long as the ring has the operation it is of the same request, and of no other
+/// is its completion taken in. A request with an operation under way ends with a reap alone, which says so.
+pub fn an_operation_is_of_a_request_in_flight<S, F>()
+    ensures kept { (drivers drivers' : ℕ → Driving S F) (gates gates' : Gates) → CallsOne drivers drivers' gates gates' → ((i : ℕ) → Says (drivers i)) → ((i : ℕ) → IsOwned (drivers i)) → (i : ℕ) → IsOwned (drivers' i) }
+    ensures always { (drivers : ℕ → ℕ → Driving S F) (gates : ℕ → Gates) → IsRun drivers gates → (n worker : ℕ) → IsOwned (drivers n worker) }
+    ensures names { (drivers : ℕ → ℕ → Driving S F) (gates : ℕ → Gates) → IsRun drivers gates → (n worker : ℕ) (id : WaiterId) (w : Waiter S F) → request_at (drivers n worker) id ≡ Some w → is_operation (user_data_of id.0) ≡ true }
+    ensures owner { (drivers : ℕ → ℕ → Driving S F) (gates : ℕ → Gates) → IsRun drivers gates → (n worker user_data : ℕ) → is_operation user_data ≡ true → 0 < operations_in (drivers n worker).ring user_data → HasOwner (drivers n worker) user_data }
+    ensures stays { (drivers : ℕ → ℕ → Driving S F) (gates : ℕ → Gates) → IsRun drivers gates → (n worker user_data : ℕ) → is_operation user_data ≡ true →
+        (a : HasOwner (drivers n worker) user_data) (b : HasOwner (drivers (suc n) worker) user_data) → b.id ≡ a.id }
+    ensures taken { (drivers : ℕ → ℕ → Driving S F) (gates : ℕ → Gates) → IsRun drivers gates → (n worker : ℕ) (c : Completion) (id : Id) (a : HasOwner (drivers n worker) c.user_data) →
+        completed_in (drivers n worker) c ≡ Some id → id ≡ a.id.0 }
+    ensures gone { (drivers : ℕ → ℕ → Driving S F) (gates : ℕ → Gates) (run : IsRun drivers gates) (n : ℕ) (key : WaiterKey) (w : Waiter S F) → request_at (drivers n key.worker) key.id ≡ Some w →
+        w.in_flight ≡ true → request_at (drivers (suc n) key.worker) key.id ≡ None → IsSomeAnd (end_by_reap (run.next n).call) (λ e. e.0 ≡ key) }
+{}
+
+/// Whose operations are: a poll under way owns the one that its ring has; one that has none owns none, and none has two.
+/// The user data of cancels and of the wake poll is that of no operation.
+#[tactic(auto, using(crate::proofs::OwningRuns::polls, crate::proofs::OwningRuns::unowned, crate::proofs::OwningRuns::two))]
+pub fn operations()
+    ensures owned { IsOwned (polling true (its_entry ∷ [])) }
+    ensures one { operations_in (polling true (its_entry ∷ [])).ring (user_data_of first.0) ≡ 1 }
+    ensures under_way { is_under_way (polling true []) (user_data_of first.0) ≡ true }
+    ensures idle { is_under_way (polling false []) (user_data_of first.0) ≡ false }
+    ensures of_none { IsOwned (polling false (its_entry ∷ [])) → ⊥ }
+    ensures twice { IsOwned (polling true (its_entry ∷ its_entry ∷ [])) → ⊥ }
+    ensures cancels { is_operation 4294967295 ≡ false }
+    ensures wakes { is_operation 18446744073709551615 ≡ false }
+    ensures poll { is_operation (user_data_of first.0) ≡ true }
+{}
