@@ -3,8 +3,8 @@ use Rattle.std.proofs.Common.{◌≡◌, ℕ, ◌<◌, ◌==◌, Bool, true, fal
 use Rattle.std.proofs.lemmas.Bool.{true≢false, eqb-true, eqb-false}
 use Rattle.exec_machine.specs.{declared.{config.Configuration.Configuration, event.Event.Event}, After.{after, own_after}, Allowed.Allowed, Choice.Choice, Tests.{has_ended, is_asleep, is_of_file, is_resolved}, World.{Own as Books, World, own_of, request_of, seat_of, sleeper_of}}
 use Rattle.exec_books.specs.Listed.{is_in}
-use Rattle.exec_books.specs.Booked.{IsBooked, unreleased_of}
-use Rattle.exec_books.proofs.{CountedFresh.{each_request, each_sleeper}, CountedMany.{counted_elsewhere, counted_here}, CountedOver.over_live, CountedOwn.{other_own, own_own}, CountedSeats.no_fewer_seats, CountedWithin.{sleeps_within, untold_here, whose_within}, Own.IsOwn, Spares.{no_fewer, same_worker}}
+use Rattle.exec_books.specs.Booked.{IsBooked, flying_of, unreleased_of}
+use Rattle.exec_books.proofs.{CountedFlight.{flying_elsewhere, flying_here}, CountedFresh.{each_request, each_sleeper}, CountedMany.{counted_elsewhere, counted_here}, CountedOver.over_live, CountedOwn.{other_own, own_own}, CountedSeats.no_fewer_seats, CountedWithin.{sleeps_within, untold_here, whose_within}, Own.IsOwn, Spares.{no_fewer, same_worker}}
 
 module _ (c : Configuration) (w : World) (i : ℕ) (e : Event) (choice : Choice) (owns : length w.workers ≡ length w.common.seats) (here : i < length w.common.seats)
     (may : Allowed c (own_of w i) w.common i e choice) (own : IsOwn w.common i e) (held : IsBooked w) where
@@ -27,6 +27,14 @@ module _ (c : Configuration) (w : World) (i : ℕ) (e : Event) (choice : Choice)
       by true is = grind (arith, eqb-true, own_own, counted_here)
       by false is =
           let apart = eqb-false j i is in (other_own c w i e choice j apart).unreleased ∙ held.counted j ∙ sym (counted_elsewhere c (own_of w i) w.common i e choice may own j apart)
+
+  pub flying_then : (j : ℕ) → (own_of late j).in_flight ≡ flying_of j late.common.requests
+  flying_then j = by (j == i) refl
+    where
+      by : (b : Bool) → (j == i) ≡ b → (own_of late j).in_flight ≡ flying_of j late.common.requests
+      by true is = grind (arith, eqb-true, own_own, flying_here)
+      by false is =
+          let apart = eqb-false j i is in (other_own c w i e choice j apart).in_flight ∙ held.flying j ∙ sym (flying_elsewhere c (own_of w i) w.common i e choice may own j apart)
 
   pub untold_then : (j k : ℕ) → is_in k (own_of late j).untold ≡ true → (k < length late.common.requests) × ((request_of late.common k).worker ≡ j)
   untold_then j k untold = by (j == i) refl

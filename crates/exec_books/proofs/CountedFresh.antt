@@ -3,7 +3,7 @@ use Rattle.std.proofs.Common.{◌≡◌, ℕ, Bool, true, false, Option, None, r
 use Rattle.std.proofs.lemmas.Bool.{true≢false}
 use Rattle.std.specs.Prelude.{◌⊎◌}
 use Rattle.exec_outcomes.specs.declared.outcome.{Outcome.Outcome}
-use Rattle.exec_machine.specs.{declared.{config.{Configuration.Configuration, ScriptWord.ScriptWord}, event.Event.Event, state.{Forwarding.TheVariants.Unsent, Operation.Operation, Request.Request, Sleeper.Sleeper}}, After.{common_after}, Allowed.Allowed, Choice.Choice, Requests.{asked_now, new_request, operation_asked, operation_or_none, resolved_if, with_seen}, Tests.is_of_file, Words.{next_word, polled_task}, World.{Common, Own as Books, request_of, sleeper_of}}
+use Rattle.exec_machine.specs.{declared.{config.{Configuration.Configuration, ScriptWord.ScriptWord}, event.Event.Event, state.{Forwarding.TheVariants.Unsent, Operation.Operation, Request.Request, Sleeper.Sleeper}}, After.{common_after}, Allowed.Allowed, Choice.Choice, Requests.{asked_now, new_request, operation_asked, operation_or_none, resolved_if, with_seen}, Tests.{is_in_flight, is_of_file}, Words.{next_word, polled_task}, World.{Common, Own as Books, request_of, sleeper_of}}
 use Rattle.exec_machine.specs.declared.event.Event.TheVariants as event
 use Rattle.exec_books.proofs.{CountedLeaves.leaves_each, CountedTurns.{Naps, Turns, each_push, napped, turned}}
 
@@ -22,6 +22,7 @@ pub record Fresh (i : ℕ) (y : Request) : Type 0 where
   pub timer : y.timer ≡ None
   pub undated : is_of_file y.operation.kind ≡ true → y.operation.deadline ≡ None
   pub released : y.released ≡ false
+  pub aground : is_in_flight y.phase ≡ false
   pub forwarding : y.forwarding ≡ Unsent
 
 made_fresh : (i : ℕ) (o : Operation) (outcome : Option Outcome) → (is_of_file o.kind ≡ true → o.deadline ≡ None) → Fresh i (resolved_if outcome (new_request i o))

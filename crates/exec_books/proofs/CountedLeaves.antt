@@ -1,20 +1,24 @@
 -- What each event of a worker leaves of the requests and the sleepers that were there.
 use Rattle.std.proofs.Common.{◌≡◌, ℕ, ◌==◌, ◌&&◌, Bool, true, false, List, [], ◌∷◌, Option, Some, None, refl, sym, ap, subst, inl, inr, get_or, set, if◌then◌else◌, arith}
-use Rattle.std.proofs.lemmas.Bool.{true≢false, cases_Bool, eq-eqb, not-true}
+use Rattle.std.proofs.lemmas.Bool.{true≢false, false≢true, cases_Bool, eq-eqb, not-true}
 use Rattle.exec_outcomes.specs.declared.outcome.{OpResult.OpResult, Outcome.Outcome}
 use Rattle.exec_outcomes.specs.Outcomes.{refuses_hint}
 use Rattle.exec_machine.specs.{declared.{config.Configuration.Configuration, event.Event.Event, state.{Forwarding.TheVariants.{Applied, Sent}, MailMessage.MailMessage, Next.Next, Request.Request, Sleeper.Sleeper, Waiting.Waiting}}}
-use Rattle.exec_machine.specs.{After.{common_after, polled}, Allowed.Allowed, Choice.{Choice, Payer, Choice.{Plain, Passes, Pays, Posts}}, Closing.{after_clear, after_next, ends_by_clear, gone_with, with_cleared}, Deadlines.{expired}, Mail.{after_message, after_post, after_sending, is_left_out, is_root_message, posted}, Requests.{after_reap, staged, common_after_refusal, dropped, flown, granted, judged_of, reaped}, Tasks.{after_over, pended_phase, after_payment, after_pend, after_wake, after_word, removed, requests_after_drops, sleepers_after_waking_up}, Tests.{is_applied, is_resolved, set_seat, set_task}, World.{Common, Own as Books, no_request, no_sleeper, request_of, seat_of, sleeper_of, task_of}}
+use Rattle.exec_machine.specs.{After.{common_after, polled}, Allowed.Allowed, Choice.{Choice, Payer, Choice.{Plain, Passes, Pays, Posts}}, Closing.{after_clear, after_next, ends_by_clear, gone_with, with_cleared}, Deadlines.{expired, outcome_at_expiry}, Mail.{after_message, after_post, after_sending, is_left_out, is_root_message, posted}, Same.{is_none, same_end}, Requests.{after_reap, staged, common_after_refusal, dropped, flown, granted, judged_of, reaped}, Tasks.{after_over, pended_phase, after_payment, after_pend, after_wake, after_word, removed, requests_after_drops, sleepers_after_waking_up}, Tests.{is_applied, is_queued, is_resolved, set_seat, set_task}, World.{Common, Own as Books, no_request, no_sleeper, request_of, seat_of, sleeper_of, task_of}}
 use Rattle.exec_machine.specs.declared.event.Event.TheVariants as event
 use Rattle.exec_machine.specs.declared.state.MailMessage.TheVariants as message
 use Rattle.exec_machine.specs.declared.state.Waiting.TheVariants as waiting
-use Rattle.exec_books.proofs.CountedTurns.{Naps, Turns, drop_turns, each_map, each_set, enrol_turns, expire_turns, fired_naps, flown_turns, goes_on, grant_turns, marked, napped, naps_then, noted, reap_turns, removed_naps, same, turned, turns_then}
-use Rattle.exec_books.proofs.MinePhases.{gated_open, queued_open, landed_open}
+use Rattle.exec_books.proofs.CountedTurns.{Naps, Turns, drop_turns, each_map, each_set, enrol_turns, expire_turns, fired_naps, flown_turns, goes_on, grant_turns, marked, moves_flight, napped, naps_then, noted, reap_turns, removed_naps, same, turned, turns_then}
+use Rattle.exec_books.proofs.MinePhases.{queued_open, landed_open}
 
 -- OPEN PHASES
 
 unsent_applied : {T : Type 0} → Applied ≡ Sent → T
 unsent_applied is = absurd (true≢false (ap is_applied is))
+
+-- what is over by its deadline was queued
+expires_queued : (x : Request) (outcome : Option Outcome) → same_end outcome (outcome_at_expiry x) ≡ true → is_none outcome ≡ false → is_queued x.phase ≡ true
+expires_queued = grind (arith, false≢true)
 
 -- COMMON PARTS
 
@@ -103,10 +107,10 @@ module _ (e : Event) (s : Common) (i : ℕ) where
   told_sleepers : (r : ℕ) (n : OpResult) → (common_after_refusal s (request_of s r) n).sleepers ≡ s.sleepers
   told_sleepers r n = elim (cases_Bool (refuses_hint (judged_of (request_of s r) n))) [ inl refused ↦ rw refused refl | inr other ↦ rw other refl ]
 
-  reaps : (r : ℕ) (n : OpResult) (outcome : Option Outcome) → is_resolved (request_of s r).phase ≡ false → Leaves e s (after_reap s i r n outcome)
-  reaps r n outcome before =
+  reaps : (r : ℕ) (n : OpResult) (outcome : Option Outcome) → moves_flight e ≡ true → is_resolved (request_of s r).phase ≡ false → Leaves e s (after_reap s i r n outcome)
+  reaps r n outcome moves before =
       record {
-        requests = set_turns e s.requests r (reaped n outcome (request_of s r)) (reap_turns e r (request_of s r) n outcome before);
+        requests = set_turns e s.requests r (reaped n outcome (request_of s r)) (reap_turns e r (request_of s r) n outcome moves before);
         sleepers = λ z. subst (λ zs. Naps e z (sleeper_of s z) (get_or zs z no_sleeper)) (sym (told_sleepers r n)) napped;
       }
 
@@ -122,7 +126,7 @@ sends : (s : Common) (to : ℕ) (polls : Option ℕ) (m : MailMessage) → Leave
 sends s to None m = leaves
 sends s to (Some t) message.Root = beside refl refl
 sends s to (Some t) (message.ForwardRequest r) =
-    leaves_then (by_request r _ (record { worker = refl; released = λ calm. refl; timed = λ was. was; undated = λ was. was; let_go = λ was. was; sent = λ h. inr (eq-eqb r r refl) })) (beside refl refl)
+    leaves_then (by_request r _ (record { worker = refl; released = λ calm. refl; flying = λ calm. refl; timed = λ was. was; undated = λ was. was; let_go = λ was. was; sent = λ h. inr (eq-eqb r r refl) })) (beside refl refl)
 sends s to (Some t) (message.ForwardTimer z) = by_sleeper z _ (record { worker = refl; asleep = λ j was. was; sent = λ h. inr (eq-eqb z z refl) })
 sends s to (Some t) (message.CancelRequest r) = beside refl refl
 sends s to (Some t) (message.CancelTimer z) = leaves
@@ -153,14 +157,14 @@ module _ (c : Configuration) (me : Books) (s : Common) (i : ℕ) where
   leaves_each (event.Wake t) choice h calm = wakes (event.Wake t) s i me t choice
   leaves_each (event.Grant r outcome) choice h calm =
       let x = request_of s r in
-      leaves_then (by_request r (granted outcome x) (grant_turns (event.Grant r outcome) r x outcome (gated_open x.phase h.1.1.0))) (beside refl refl)
-  leaves_each (event.Enrol r outcome) choice h calm = grind (arith, by_request, enrol_turns, queued_open, not-true)
+      leaves_then (by_request r (granted outcome x) (grant_turns (event.Grant r outcome) r x outcome h.1.1.0)) (beside refl refl)
+  leaves_each (event.Enrol r outcome) choice h calm = grind (arith, by_request, enrol_turns, not-true)
   leaves_each (event.Stage r) choice h calm =
-      let x = request_of s r in by_request r (staged s x) (goes_on (same refl refl refl refl refl) (queued_open x.phase h.1.1.1.0) refl refl)
+      let x = request_of s r in by_request r (staged s x) (goes_on (same refl refl refl refl refl) (λ calm. absurd (true≢false calm)) (queued_open x.phase h.1.1.1.0) refl refl)
   leaves_each event.Enter choice h calm =
       record { requests = λ k. each_map no_request (Turns event.Enter k) (flown i) (λ x. flown_turns event.Enter k x i) turned s.requests k; sleepers = λ z. napped }
-  leaves_each (event.Reap r n outcome) choice h calm = reaps (event.Reap r n outcome) s i r n outcome (landed_open n (request_of s r).phase h.1.1.1.0)
-  leaves_each (event.Expire r outcome) choice h calm = by_request r (expired outcome (request_of s r)) (expire_turns (event.Expire r outcome) r (request_of s r) outcome)
+  leaves_each (event.Reap r n outcome) choice h calm = reaps (event.Reap r n outcome) s i r n outcome refl (landed_open n (request_of s r).phase h.1.1.1.0)
+  leaves_each (event.Expire r outcome) choice h calm = by_request r (expired outcome (request_of s r)) (expire_turns (event.Expire r outcome) r (request_of s r) outcome (expires_queued (request_of s r) outcome h.1.1.0))
   leaves_each (event.Cancel r) choice h calm = by_request r (record (request_of s r) { cancel_staged = true }) (marked (same refl refl refl refl refl) refl refl)
   leaves_each (event.Orphan r outcome) choice h calm = by_request r (dropped (request_of s r)) (drop_turns (event.Orphan r outcome) r (request_of s r))
   leaves_each (event.Release r) choice h calm = grind (arith, by_request, true≢false, gone)

@@ -17,7 +17,7 @@ module _ (p : Request → Bool) where
   cons : (x : Request) (xs : List Request) → count_by p (x ∷ xs) ≡ cond (p x) 1 0 + count_by p xs
   cons x xs = sum_by-cons (λ y. cond (p y) 1 0) x xs
 
-  same_count : p no_request ≡ false → (xs ys : List Request) → ((k : ℕ) → p (get_or ys k no_request) ≡ p (get_or xs k no_request)) → count_by p ys ≡ count_by p xs
+  pub same_count : p no_request ≡ false → (xs ys : List Request) → ((k : ℕ) → p (get_or ys k no_request) ≡ p (get_or xs k no_request)) → count_by p ys ≡ count_by p xs
   same_count none [] [] each = refl
   same_count none [] (y ∷ ys) each = cons y ys ∙ ap (λ b. cond b 1 0 + count_by p ys) (each zero ∙ none) ∙ omega (arith, same_count none [] ys (λ k. each (suc k)))
   same_count none (x ∷ xs) [] each =

@@ -7,6 +7,7 @@ use Rattle.exec_outcomes.specs.{declared.outcome.{Outcome.Outcome}}
 use Rattle.exec_machine.specs.{declared.{config.Configuration.Configuration, event.Event.Event, state.{MailMessage.MailMessage, Operation.Operation, Waiting.Waiting}}, After.{after, made_by, own_after, own_by}, Choice.{Choice}, Closing.{ends_by_clear, own_after_clear, own_after_turn}, Deadlines.sampled_now, Mail.{own_after_apply, own_after_letter}, Requests.{own_after_admit}, Same.is_none, Tasks.{own_after_drops, own_after_over, own_after_pend, own_after_waking_up}, World.{Common, Own as Books, World, no_own, own_of, task_of}}
 use Rattle.exec_machine.specs.declared.event.Event.TheVariants as event
 use Rattle.exec_books.specs.Listed.{is_in}
+use Rattle.exec_books.proofs.CountedTurns.{moves_flight}
 
 abbrev pub counts : Event → Bool
 counts (event.Admit r kind outcome) = true
@@ -22,16 +23,17 @@ informs _ = false
 
 pub record Kept (x y : Books) : Type 0 where
   pub unreleased : y.unreleased ≡ x.unreleased
+  pub in_flight : y.in_flight ≡ x.in_flight
   pub untold : y.untold ≡ x.untold
 
 kept : {x : Books} → Kept x x
-kept = record { unreleased = refl; untold = refl }
+kept = record { unreleased = refl; in_flight = refl; untold = refl }
 
-keep : {x y : Books} → y.unreleased ≡ x.unreleased → y.untold ≡ x.untold → Kept x y
-keep unreleased untold = record { unreleased = unreleased; untold = untold }
+keep : {x y : Books} → y.unreleased ≡ x.unreleased → y.in_flight ≡ x.in_flight → y.untold ≡ x.untold → Kept x y
+keep unreleased in_flight untold = record { unreleased = unreleased; in_flight = in_flight; untold = untold }
 
 kept_then : {x y z : Books} → Kept x y → Kept y z → Kept x z
-kept_then a b = keep (b.unreleased ∙ a.unreleased) (b.untold ∙ a.untold)
+kept_then a b = keep (b.unreleased ∙ a.unreleased) (b.in_flight ∙ a.in_flight) (b.untold ∙ a.untold)
 
 either : {x : Books} (b : Bool) (y z : Books) → Kept x y → Kept x z → Kept x (if b then y else z)
 either = grind arith
@@ -48,7 +50,7 @@ module _ (s : Common) (i : ℕ) where
   over me t = kept_then (drops (task_of s t).held me) (wakes_up (task_of s t).waiting (own_after_drops s i (task_of s t).held me))
 
   pends : (me : Books) (t : ℕ) → Kept me (own_after_pend me s i t)
-  pends me t = kept_then (either (task_of s t).cleared (own_after_over me s i t) me (over me t) kept) (keep refl refl)
+  pends me t = kept_then (either (task_of s t).cleared (own_after_over me s i t) me (over me t) kept) (keep refl refl refl)
 
   clears : (me : Books) (t : ℕ) → Kept me (own_after_clear me s i t)
   clears me t = either (ends_by_clear (task_of s t).phase) (own_after_over me s i t) me (over me t) kept
@@ -60,23 +62,26 @@ turns : (me : Books) (choice : Choice) → Kept me (own_after_turn me choice)
 turns = grind arith
 
 letter : (me : Books) → Kept me (own_after_letter me)
-letter me = either (is_none me.polls) (record me { owed = _ }) me (keep refl refl) kept
+letter me = either (is_none me.polls) (record me { owed = _ }) me (keep refl refl refl) kept
 
 samples : (s : Common) (me : Books) → Kept me (sampled_now s me)
-samples s me = either me.serving me (record me { sampled = s.clock; sampled_before = me.sampled }) kept (keep refl refl)
+samples s me = either me.serving me (record me { sampled = s.clock; sampled_before = me.sampled }) kept (keep refl refl refl)
 
 -- a request that is made is counted
-pub admit_counts : (o : Operation) (outcome : Option Outcome) (r : ℕ) (me : Books) → ((own_after_admit o outcome r me).unreleased ≡ me.unreleased + 1) × ((own_after_admit o outcome r me).untold ≡ me.untold)
+pub admit_counts : (o : Operation) (outcome : Option Outcome) (r : ℕ) (me : Books) → ((own_after_admit o outcome r me).unreleased ≡ me.unreleased + 1) × ((own_after_admit o outcome r me).in_flight ≡ me.in_flight) × ((own_after_admit o outcome r me).untold ≡ me.untold)
 admit_counts = grind arith
 
 -- AN EVENT
 
 module _ (c : Configuration) (me : Books) (s : Common) (i : ℕ) where
-  kept_by : (e : Event) (choice : Choice) → counts e ≡ false → informs e ≡ false → Kept me (own_by c me s i e choice)
+  kept_by : (e : Event) (choice : Choice) → counts e ≡ false → moves_flight e ≡ false → informs e ≡ false → Kept me (own_by c me s i e choice)
   kept_by = grind (arith, turns, samples, pends, kept_then, over, keep, clears, true≢false, letter, applies)
 
   pub unreleased_kept : (e : Event) (choice : Choice) → counts e ≡ false → (own_after c me s i e choice).unreleased ≡ me.unreleased
   unreleased_kept = grind (arith, true≢false, kept_by)
+
+  pub in_flight_kept : (e : Event) (choice : Choice) → moves_flight e ≡ false → (own_after c me s i e choice).in_flight ≡ me.in_flight
+  in_flight_kept = grind (arith, true≢false, admit_counts, kept_by)
 
   pub untold_kept : (e : Event) (choice : Choice) → informs e ≡ false → (own_after c me s i e choice).untold ≡ me.untold
   untold_kept = grind (arith, true≢false, admit_counts, kept_by)

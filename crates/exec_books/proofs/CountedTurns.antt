@@ -1,10 +1,12 @@
 -- What an event leaves of each request and each sleeper, told of one request and one sleeper.
 use Rattle.std.proofs.Common.{◌≡◌, ◌≢◌, ℕ, zero, suc, ◌==◌, ◌&&◌, ◌||◌, Bool, true, false, not, List, [], ◌∷◌, ◌++◌, length, map, Option, None, refl, sym, ap, ◌∙◌, inl, inr, arith, get_or, set}
+use Rattle.std.proofs.lemmas.Bool.{true≢false, and_parts}
 use Rattle.std.specs.Prelude.{◌⊎◌}
 use Rattle.exec_outcomes.specs.declared.outcome.{OpResult.OpResult, Outcome.{Outcome}}
-use Rattle.exec_machine.specs.{declared.{event.Event.Event, state.{Forwarding.TheVariants.Sent, Request.Request, Sleeper.Sleeper}}, Deadlines.{enrolled, expired}, Requests.{dropped, ends_by_drop, flown, granted, is_cancelled_by_drop, reaped}, Same.is_none, Tasks.removed, Tests.{is_asleep, is_of_file, is_resolved}}
+use Rattle.exec_machine.specs.{declared.{event.Event.Event, state.{Forwarding.TheVariants.Sent, Request.Request, RequestPhase.RequestPhase, Sleeper.Sleeper}}, Deadlines.{enrolled, expired}, Requests.{dropped, ends_by_drop, flown, granted, is_cancelled_by_drop, reaped}, Same.is_none, Tasks.removed, Tests.{is_asleep, is_gated, is_in_flight, is_of_file, is_queued, is_resolved}}
 use Rattle.exec_machine.specs.declared.event.Event.TheVariants as event
 use Rattle.exec_machine.specs.declared.state.MailMessage.TheVariants as message
+use Rattle.exec_books.proofs.MinePhases.{gated_open, queued_open}
 
 -- LISTS
 
@@ -45,6 +47,15 @@ abbrev pub releases : Event → Bool
 releases (event.Release r) = true
 releases _ = false
 
+-- a request comes into flight, or out of it
+abbrev pub moves_flight : Event → Bool
+moves_flight (event.Stage r) = true
+moves_flight (event.Reap r n outcome) = true
+moves_flight _ = false
+
+abbrev pub FliesAlike : Event → Request → Request → Type 0
+FliesAlike e x y = moves_flight e ≡ false → is_in_flight y.phase ≡ is_in_flight x.phase
+
 abbrev pub Timed : Request → Type 0
 Timed r = is_resolved r.phase ≡ true → r.timer ≡ None
 
@@ -58,16 +69,26 @@ LetGo r = r.released ≡ true → is_resolved r.phase ≡ true
 pub record Turns (e : Event) (k : ℕ) (x y : Request) : Type 0 where
   pub worker : y.worker ≡ x.worker
   pub released : releases e ≡ false → y.released ≡ x.released
+  pub flying : FliesAlike e x y
   pub timed : Timed x → Timed y
   pub undated : Undated x → Undated y
   pub let_go : LetGo x → LetGo y
   pub sent : y.forwarding ≡ Sent → (x.forwarding ≡ Sent) ⊎ (tells k e ≡ true)
 
 pub turned : {e : Event} {k : ℕ} {x : Request} → Turns e k x x
-turned = record { worker = refl; released = λ calm. refl; timed = λ was. was; undated = λ was. was; let_go = λ was. was; sent = λ h. inl h }
+turned = record { worker = refl; released = λ calm. refl; flying = λ calm. refl; timed = λ was. was; undated = λ was. was; let_go = λ was. was; sent = λ h. inl h }
 
 pub turns_then : {e : Event} {k : ℕ} {x y z : Request} → Turns e k x y → Turns e k y z → Turns e k x z
-turns_then = grind arith
+turns_then a b =
+    record {
+      worker = b.worker ∙ a.worker;
+      released = λ calm. b.released calm ∙ a.released calm;
+      flying = λ calm. b.flying calm ∙ a.flying calm;
+      timed = λ was. b.timed (a.timed was);
+      undated = λ was. b.undated (a.undated was);
+      let_go = λ was. b.let_go (a.let_go was);
+      sent = λ h. elim (b.sent h) [ inl before ↦ a.sent before | inr told ↦ inr told ];
+    }
 
 -- no change of a request changes these
 pub record Same (x y : Request) : Type 0 where
@@ -90,35 +111,42 @@ module _ {e : Event} {k : ℕ} {x y : Request} (a : Same x y) where
   untimed = grind arith
 
   -- it is over
-  pub finished : is_resolved y.phase ≡ true → y.timer ≡ None → Turns e k x y
+  pub finished : FliesAlike e x y → is_resolved y.phase ≡ true → y.timer ≡ None → Turns e k x y
   finished = grind arith
 
   -- it goes on
-  pub goes_on : is_resolved x.phase ≡ false → is_resolved y.phase ≡ false → y.timer ≡ x.timer → Turns e k x y
+  pub goes_on : FliesAlike e x y → is_resolved x.phase ≡ false → is_resolved y.phase ≡ false → y.timer ≡ x.timer → Turns e k x y
   goes_on = grind arith
 
   -- its deadline, which it asks for, goes on the wheel
   pub wheeled : is_resolved x.phase ≡ false → y.phase ≡ x.phase → is_none x.operation.deadline ≡ false → Turns e k x y
   wheeled = grind arith
 
+-- what waits isn't in flight
+pub aground : (p : RequestPhase) → is_queued p ≡ true → is_in_flight p ≡ false
+aground = grind arith
+
+gated_aground : (p : RequestPhase) → is_gated p ≡ true → is_in_flight p ≡ false
+gated_aground = grind arith
+
 module _ (e : Event) (k : ℕ) (r : Request) where
   pub dropped_turns : (ends cancels : Bool) → ends_by_drop r ≡ ends → is_cancelled_by_drop r ≡ cancels → Turns e k r (dropped r)
-  dropped_turns = grind arith
+  dropped_turns = grind (arith, aground, and_parts)
 
   pub drop_turns : Turns e k r (dropped r)
   drop_turns = dropped_turns (ends_by_drop r) (is_cancelled_by_drop r) refl refl
 
-  pub grant_turns : (outcome : Option Outcome) → is_resolved r.phase ≡ false → Turns e k r (granted outcome r)
-  grant_turns = grind (arith, goes_on, same, finished)
+  pub grant_turns : (outcome : Option Outcome) → is_gated r.phase ≡ true → Turns e k r (granted outcome r)
+  grant_turns = grind (arith, goes_on, same, finished, gated_aground, gated_open)
 
-  pub enrol_turns : (moment : ℕ) (outcome : Option Outcome) → is_resolved r.phase ≡ false → is_none r.operation.deadline ≡ false → Turns e k r (enrolled moment outcome r)
-  enrol_turns = grind (arith, wheeled, same, finished)
+  pub enrol_turns : (moment : ℕ) (outcome : Option Outcome) → is_queued r.phase ≡ true → is_none r.operation.deadline ≡ false → Turns e k r (enrolled moment outcome r)
+  enrol_turns = grind (arith, wheeled, same, finished, aground, queued_open)
 
-  pub expire_turns : (outcome : Option Outcome) → Turns e k r (expired outcome r)
-  expire_turns = grind (arith, untimed, same, finished)
+  pub expire_turns : (outcome : Option Outcome) → (is_none outcome ≡ false → is_queued r.phase ≡ true) → Turns e k r (expired outcome r)
+  expire_turns = grind (arith, untimed, same, finished, aground)
 
-  pub reap_turns : (n : OpResult) (outcome : Option Outcome) → is_resolved r.phase ≡ false → Turns e k r (reaped n outcome r)
-  reap_turns = grind (arith, goes_on, same, finished)
+  pub reap_turns : (n : OpResult) (outcome : Option Outcome) → moves_flight e ≡ true → is_resolved r.phase ≡ false → Turns e k r (reaped n outcome r)
+  reap_turns = grind (arith, goes_on, same, finished, true≢false)
 
   pub flown_turns : (i : ℕ) → Turns e k r (flown i r)
   flown_turns = grind arith

@@ -6,13 +6,13 @@ use Rattle.exec_books.specs.Listed.{is_in}
 use Rattle.exec_books.proofs.Listed.{no_listed}
 use Rattle.exec_rest.proofs.{FactsA.seated, First.of_equal}
 use Rattle.exec_books.specs.Booked.{FirstIsOwn, IsBooked}
-use Rattle.exec_books.proofs.{Own.own_by_mail, Standing.listed_then, Counted.{counted_then, let_go_then, over_then, requests_then, sleepers_then, timed_then, undated_then, untold_then}, Mailed.{sent_then, sent_too_then}, Dues.dues_then, Others.booked_by_other}
+use Rattle.exec_books.proofs.{Own.own_by_mail, Standing.listed_then, Counted.{counted_then, flying_then, let_go_then, over_then, requests_then, sleepers_then, timed_then, undated_then, untold_then}, Mailed.{sent_then, sent_too_then}, Dues.dues_then, Others.booked_by_other}
 
 -- THE FIRST STATE: no worker has anything, and each is awake
 
-first_own : (n from i : ℕ) → ((get_or (first_owns n from) i no_own).unreleased ≡ 0) × ((k : ℕ) → is_in k (get_or (first_owns n from) i no_own).untold ≡ false)
-first_own zero from i = (refl, λ k. refl)
-first_own (suc n) from zero = (refl, λ k. refl)
+first_own : (n from i : ℕ) → ((get_or (first_owns n from) i no_own).unreleased ≡ 0) × ((get_or (first_owns n from) i no_own).in_flight ≡ 0) × ((k : ℕ) → is_in k (get_or (first_owns n from) i no_own).untold ≡ false)
+first_own zero from i = (refl, refl, λ k. refl)
+first_own (suc n) from zero = (refl, refl, λ k. refl)
 first_own (suc n) from (suc i) = first_own n (suc from) i
 
 nobody_asleep : (i : ℕ) → is_asleep i no_sleeper ≡ false
@@ -30,7 +30,8 @@ first_booked p =
       undated = λ k file. absurd (false≢true file);
       let_go = λ k released. refl;
       counted = λ i. (first_own p.config.workers 0 i).0;
-      untold = λ i k h. absurd (false≢true (sym ((first_own p.config.workers 0 i).1 k) ∙ h));
+      flying = λ i. (first_own p.config.workers 0 i).1;
+      untold = λ i k h. absurd (false≢true (sym ((first_own p.config.workers 0 i).2 k) ∙ h));
       over = λ i h. ((first_own p.config.workers 0 i).0, λ z. nobody_asleep i);
       requests = λ k within. absurd (omega (arith, within));
       sleepers = λ z within. absurd (omega (arith, within));
@@ -55,6 +56,7 @@ booked_by_work c w i e choice owns first enabled may held =
       undated = undated_then c w i e choice owns here may own held;
       let_go = let_go_then c w i e choice owns here may own held;
       counted = counted_then c w i e choice owns here may own held;
+      flying = flying_then c w i e choice owns here may own held;
       untold = untold_then c w i e choice owns here may own held;
       over = over_then c w i e choice owns here may own held (not-true (has_ended seat.phase) tests.1);
       requests = requests_then c w i e choice owns here may own held;

@@ -12,6 +12,7 @@ pub mod CountedLeaves
 pub mod CountedFresh
 pub mod CountedOwn
 pub mod CountedMany
+pub mod CountedFlight
 pub mod CountedSeats
 pub mod CountedWithin
 pub mod CountedOver

@@ -14,7 +14,7 @@ use Rattle.exec_books.specs.Listed.{is_in}
 use Rattle.exec_books.proofs.Listed.{in_last}
 use Rattle.exec_books.specs.Booked.{IsBooked}
 use Rattle.exec_rest.proofs.Others.{map_like, set_like}
-use Rattle.exec_books.proofs.{DuesLists.{Dues, HasDue, beside, by_seats, dues, dues_kept, dues_then, posts, rouses, seat_set, timer_set}, OthersLeft.{Leaves, SameRequest, SameSeat, booked_still, leaves_by_seats, same_request, same_seat, unreleased_set}}
+use Rattle.exec_books.proofs.{DuesLists.{Dues, HasDue, beside, by_seats, dues, dues_kept, dues_then, posts, rouses, seat_set, timer_set}, OthersLeft.{Leaves, SameRequest, SameSeat, booked_still, leaves_by_seats, flying_set, same_request, same_seat, unreleased_set}}
 
 -- WHAT IS DUE
 
@@ -138,6 +138,7 @@ module _ (w : World) (held : IsBooked w) (r : ℕ) (n : OpResult) where
         request = λ k. set_like SameRequest same_request s.requests r k y no_request (same_but flies);
         landed = λ k. landed_then flies k (k == r) refl;
         counts = λ i. unreleased_set i s.requests r y (same_but flies);
+        flights = λ i. flying_set i s.requests r y (same_but flies);
         sleepers = refl;
       }
 

@@ -5,7 +5,7 @@ use Rattle.std.specs.List.{list_any}
 use Rattle.exec_machine.specs.{declared.state.{MailMessage.MailMessage, Operation.Operation, Request.Request}, Same.{same_message}, Tests.{has_ended, is_asleep, is_in_flight, is_landed, is_of_file, is_queued, is_resolved}, World.{Common, Seat, World, no_request, no_sleeper, request_of, seat_of}}
 use Rattle.exec_machine.specs.declared.state.MailMessage.TheVariants as message
 use Rattle.exec_books.specs.Listed.{is_in}
-use Rattle.exec_books.specs.{Booked.{IsBooked, IsUnderWay, unreleased_of}, Listed.AreListed}
+use Rattle.exec_books.specs.{Booked.{IsBooked, IsUnderWay, flying_of, unreleased_of}, Listed.AreListed}
 use Rattle.exec_books.proofs.DuesLists.{HasDue}
 
 -- of a request: all but whether it flies or has landed
@@ -42,6 +42,7 @@ pub record Leaves (s late : Common) : Type 0 where
   pub request : (k : ℕ) → SameRequest (request_of s k) (request_of late k)
   pub landed : (k : ℕ) → is_landed (request_of late k).phase ≡ true → (is_landed (request_of s k).phase ≡ true) ⊎ (is_in k (seat_of late (request_of s k).worker).landed ≡ true)
   pub counts : (i : ℕ) → unreleased_of i late.requests ≡ unreleased_of i s.requests
+  pub flights : (i : ℕ) → flying_of i late.requests ≡ flying_of i s.requests
   pub sleepers : late.sleepers ≡ s.sleepers
 
 -- neither a request nor a sleeper changes
@@ -56,6 +57,9 @@ count_set test n (x ∷ rs) (suc r) y same = count_set test (n + cond (test x) 1
 
 pub unreleased_set : (i : ℕ) (rs : List Request) (r : ℕ) (y : Request) → SameRequest (get_or rs r no_request) y → unreleased_of i (set rs r y) ≡ unreleased_of i rs
 unreleased_set i rs r y same = count_set (λ x. (x.worker == i) && not x.released) 0 rs r y (rw (same.worker, same.released) refl)
+
+pub flying_set : (i : ℕ) (rs : List Request) (r : ℕ) (y : Request) → SameRequest (get_or rs r no_request) y → flying_of i (set rs r y) ≡ flying_of i rs
+flying_set i rs r y same = count_set (λ x. (x.worker == i) && is_in_flight x.phase) 0 rs r y (rw (same.worker, same.in_flight) refl)
 
 module _ (w : World) (late : Common) (left : Leaves w.common late) (held : IsBooked w) where
   abbrev s : Common
@@ -75,6 +79,7 @@ module _ (w : World) (late : Common) (left : Leaves w.common late) (held : IsBoo
         undated = λ k h. let same = left.request k in let was = held.undated k (ap (λ (o : Operation). is_of_file o.kind) (sym same.operation) ∙ h) in (ap (λ (o : Operation). o.deadline) same.operation ∙ was.0, same.timer ∙ was.1);
         let_go = λ k h. (left.request k).resolved ∙ held.let_go k (sym (left.request k).released ∙ h);
         counted = λ i. held.counted i ∙ sym (left.counts i);
+        flying = λ i. held.flying i ∙ sym (left.flights i);
         untold = λ i k h. let was = held.untold i k h in (subst (λ n. k < n) (sym left.requests) was.0, (left.request k).worker ∙ was.1);
         over = λ i h. let was = held.over i (ap has_ended (sym (left.seat i).phase) ∙ h) in (was.0, λ z. ap (λ zs. is_asleep i (get_or zs z no_sleeper)) left.sleepers ∙ was.1 z);
         requests = λ k h. rw ((left.request k).worker, left.seats) (held.requests k (subst (λ n. k < n) left.requests h));

@@ -1,7 +1,7 @@
 -- WHAT A WORKER HAS IS IN ITS BOOKS, in each state of a run: its requests stand in its lists, and what it counts is there.
 use Rattle.std.specs.Prelude.{◌≡◌, ℕ, ◌<◌, true, false, not, ◌==◌, ◌&&◌, ◌⊎◌, List, length, count_by, slice_get, Some, None}
 use Rattle.std.specs.List.{list_any}
-use Rattle.exec_machine.specs.{declared.state.{Forwarding.TheVariants.Sent, MailMessage.MailMessage, Request.Request}, Deadlines.{is_after, next_due, rest_until}, Same.same_message, Tests.{has_ended, is_asleep, is_awake, is_of_file, is_resolved}, World.{Common, Seat, World, own_of, request_of, seat_of, sleeper_of}}
+use Rattle.exec_machine.specs.{declared.state.{Forwarding.TheVariants.Sent, MailMessage.MailMessage, Request.Request}, Deadlines.{is_after, next_due, rest_until}, Same.same_message, Tests.{has_ended, is_asleep, is_awake, is_in_flight, is_of_file, is_resolved}, World.{Common, Seat, World, own_of, request_of, seat_of, sleeper_of}}
 use Rattle.exec_machine.specs.declared.state.MailMessage.TheVariants as message
 use Rattle.exec_books.specs.Listed.{AreListed, is_in}
 
@@ -20,6 +20,10 @@ FirstIsOwn s i = (first : MailMessage) → slice_get (seat_of s i).inbox 0 ≡ S
 abbrev pub unreleased_of : ℕ → List Request → ℕ
 unreleased_of i rs = count_by (λ r. (r.worker == i) && not r.released) rs
 
+-- so many requests of worker i are in flight
+abbrev pub flying_of : ℕ → List Request → ℕ
+flying_of i rs = count_by (λ r. (r.worker == i) && is_in_flight r.phase) rs
+
 -- the message is in the inbox, or the mailbox is closed
 abbrev pub IsUnderWay : MailMessage → Seat → Type 0
 IsUnderWay m seat = (list_any (same_message m) seat.inbox ≡ true) ⊎ (seat.mailbox_closed ≡ true)
@@ -32,8 +36,9 @@ pub record IsBooked (w : World) : Type 0 where
   -- a request of a file has no deadline
   pub undated : (k : ℕ) → is_of_file (request_of w.common k).operation.kind ≡ true → ((request_of w.common k).operation.deadline ≡ None) × ((request_of w.common k).timer ≡ None)
   pub let_go : (k : ℕ) → (request_of w.common k).released ≡ true → is_resolved (request_of w.common k).phase ≡ true
-  -- a worker counts those that are not released
+  -- a worker counts those that are not released, and those that are in flight
   pub counted : (i : ℕ) → (own_of w i).unreleased ≡ unreleased_of i w.common.requests
+  pub flying : (i : ℕ) → (own_of w i).in_flight ≡ flying_of i w.common.requests
   -- a cancel that the kernel wasn't told is of a request of its own
   pub untold : (i k : ℕ) → is_in k (own_of w i).untold ≡ true → (k < length w.common.requests) × ((request_of w.common k).worker ≡ i)
   -- who has ended has no request that is not released, and nobody sleeps there

@@ -1,7 +1,7 @@
 //! Worked examples of the books, and of what a line leaves.
 
 ghost use Rattle.std.specs.Prelude.{◌≡◌, true, false, [], ◌∷◌, ◌++◌, Some, None};
-ghost use Rattle.exec_outcomes.specs.declared.outcome.{Kind.TheVariants.{Send}, OpResult.TheVariants.Count, Outcome.TheVariants.Success};
+ghost use Rattle.exec_outcomes.specs.declared.outcome.{Kind.TheVariants.{Read, Send}, OpResult.TheVariants.Count, Outcome.TheVariants.Success};
 ghost use Rattle.exec_machine.specs.{Choice.{Choice.{Pays, Plain, Posts}, Payer.{ByAct, BySleeper}}, Deadlines.{new_sleeper}, Mail.posted, Requests.new_request, Tasks.{begun, new_own, new_seat}, Tests.{set_open, set_seat, set_task}, World.{no_open, no_operation, no_own, task_of}};
 ghost use Rattle.exec_machine.specs.declared.event.Event.TheVariants as event;
 ghost use Rattle.exec_machine.specs.declared.state.MailMessage.TheVariants as message;
@@ -38,22 +38,31 @@ pub fn in_no_list()
 {}
 
 /// Of the worker that sleeps, books that are wrong. Its request is queued, and in no list; is over, and on the wheel
-/// still; was released, and flies; is one, and two are counted; or was forwarded by a message that is in no inbox. The
-/// worker sleeps without end, though a deadline is to come; or on, though that has come. Or a second worker has a
-/// cancel of the first one's request to tell the kernel; or that has ended, and somebody sleeps there.
+/// still; is of a file, and has a deadline; was released, and flies; is one, and two are counted; flies, and seven are
+/// said to; is of a worker that isn't there; or was forwarded by a message that is in no inbox. The worker sleeps without
+/// end, though a deadline is to come; or on, though that has come. Or a second worker has a cancel of the first one's
+/// request to tell the kernel; or that has ended, and somebody sleeps there. A sleeper is of a worker that isn't there,
+/// or was forwarded by a message that is in no inbox.
 pub fn wrong_books()
     ensures listed { IsBooked (with_own its_own (record its_request { phase = phase.Queued })) → ⊥ }
     ensures timed { IsBooked (with_own (record its_own { ended = 0 ∷ [] })
         (record its_request { phase = phase.Resolved Success })) → ⊥ }
+    ensures undated { IsBooked (with_own its_own
+        (record its_request { operation = record its_request.operation { kind = Read } })) → ⊥ }
     ensures let_go { IsBooked (with_own (record its_own { unreleased = 0 })
         (record its_request { released = true })) → ⊥ }
     ensures counted { IsBooked (with_own (record its_own { unreleased = 2 }) its_request) → ⊥ }
+    ensures flying { IsBooked (with_own (record its_own { in_flight = 7 }) its_request) → ⊥ }
+    ensures requests { IsBooked (with_own its_own (record its_request { worker = 1 })) → ⊥ }
     ensures sent { IsBooked (with_own its_own (record its_request { forwarding = Sent })) → ⊥ }
     ensures past { IsBooked (with_seat (record its_seat { rest = rest.Forever })) → ⊥ }
     ensures late { IsBooked (record sending { common = record sending.common { clock = 10000000 } }) → ⊥ }
     ensures untold { IsBooked (beside (record (new_own 0 1) { untold = 0 ∷ [] }) (new_seat true) []) → ⊥ }
     ensures over { IsBooked (beside (new_own 0 1) (record (new_seat true) { phase = Ended })
         (new_sleeper 20000000 1 1 ∷ [])) → ⊥ }
+    ensures sleepers { IsBooked (beside (new_own 0 1) (new_seat true) (new_sleeper 20000000 2 1 ∷ [])) → ⊥ }
+    ensures sent_too { IsBooked (beside (new_own 0 1) (new_seat true)
+        (record (new_sleeper 20000000 1 1) { forwarding = Sent } ∷ [])) → ⊥ }
 {}
 
 /// What a line says that it is about: a begin its task, a message to a root that root, a grant the open of its request; and

@@ -3,7 +3,7 @@
 ghost use Rattle.std.specs.Prelude.{◌≡◌, true, false, [], ◌∷◌, Some};
 ghost use Rattle.exec_words.specs.declared.word.WaitTarget.TheVariants as target;
 ghost use Rattle.exec_outcomes.specs.declared.outcome.{OpResult.TheVariants.Count, Outcome.TheVariants.Success};
-ghost use Rattle.exec_machine.specs.{declared.{event.Event.TheVariants.{Turn, Serve, Enter, Reap, Sleep, Close, Stop}, state.MailMessage.TheVariants.Root}, Choice.Payer.ByRequest, Examples.{usual, does, pays}, Logs.a_send, MoreLogs.{a_deadline, a_late_enrolment, deadlines_in_order, the_wheel_goes_round, a_clock_in_a_service, a_clock_between_samples, a_cancel_in_time, parts, what_a_task_held}};
+ghost use Rattle.exec_machine.specs.{declared.{event.Event.TheVariants.{Turn, Serve, Enter, Reap, Sleep, Close, Stop, End}, state.MailMessage.TheVariants.Root}, Choice.Payer.ByRequest, Examples.{usual, does, pays}, Logs.a_send, MoreLogs.{a_deadline, a_late_enrolment, deadlines_in_order, the_wheel_goes_round, a_clock_in_a_service, a_clock_between_samples, a_cancel_in_time, parts, what_a_task_held}};
 ghost use Rattle.exec_machine.specs.declared.step.Action.TheVariants as action;
 ghost use Rattle.exec_machine.specs.declared.step.Step.TheVariants as step;
 ghost use Rattle.exec_moves.specs.declared.handing.First.TheVariants as first;
@@ -41,9 +41,10 @@ pub fn more_logs_by_moves()
     ensures of_what_a_task_held { IsPlayed what_a_task_held }
 {}
 
-/// What the machine allows, and no log by moves has. A turn skips its callbacks; a service leaves out its first reap, or puts
-/// its last enter off though a task is to be woken; a worker sleeps without its second look; a root that is over isn't followed
-/// by the closing; a closing forgets to stop the pool.
+/// What the machine may allow, and no log by moves has. A turn skips its callbacks; a service leaves out its first reap, or puts
+/// its last enter off though a task is to be woken; a worker sleeps without its second look, or leaves out the service after a
+/// wait; a root that is over isn't followed by the closing; a closing leaves the global queue open, forgets to stop the pool, or
+/// never ends.
 pub fn refused_lines()
     ensures skips_callbacks { Departs a_send.plan (step.Work 0 36 ∷ step.One (action.Land 0 (Count 10)) ∷ step.Work 0 19 ∷ [])
         (pays (action.Work 0) 0 (ByRequest 0)) (does 0 Turn) }
@@ -53,10 +54,16 @@ pub fn refused_lines()
         (does 0 Enter) (does 0 Serve) }
     ensures sleeps_at_once { Departs a_send.plan (step.Work 0 34 ∷ step.One (action.Land 0 (Count 10)) ∷ [])
         (does 0 Turn) (does 0 (Sleep (Some 10000000))) }
+    ensures leaves_out_the_service { Departs a_send.plan (step.Work 0 36 ∷ step.One (action.Land 0 (Count 10)) ∷ step.Work 0 11 ∷ [])
+        (does 0 Serve) (does 0 Turn) }
     ensures never_closes { Departs a_send.plan (step.Work 0 36 ∷ step.One (action.Land 0 (Count 10)) ∷ step.Work 0 33 ∷ [])
         (does 0 Close) (does 0 Turn) }
+    ensures leaves_the_queue_open { Departs a_send.plan (step.Work 0 36 ∷ step.One (action.Land 0 (Count 10)) ∷ step.Work 0 35 ∷ [])
+        (does 0 Turn) (does 0 Stop) }
     ensures never_stops { Departs a_send.plan (step.Work 0 36 ∷ step.One (action.Land 0 (Count 10)) ∷ step.Work 0 36 ∷ [])
         (does 0 Stop) (does 0 Turn) }
+    ensures never_ends { Departs a_send.plan (step.Work 0 36 ∷ step.One (action.Land 0 (Count 10)) ∷ step.Work 0 52 ∷ [])
+        (does 0 End) (does 0 Turn) }
 {}
 
 /// Steps that change more than what they name: who publishes itself begins a search too, who returns a search count takes

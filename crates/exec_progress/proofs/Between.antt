@@ -1,18 +1,18 @@
 -- The places of the parts that hand something on, as such that are left and come to; and what stays by their steps.
-use Rattle.std.proofs.Common.{◌≡◌, ℕ, ◌+◌, ◌≤◌, ◌<◌, Bool, true, false, if◌then◌else◌, refl, ap, ◌∙◌, arith}
+use Rattle.std.proofs.Common.{◌≡◌, ℕ, suc, ◌+◌, ◌≤◌, ◌<◌, Bool, true, false, if◌then◌else◌, refl, ap, ◌∙◌, arith}
 use Rattle.std.specs.Prelude.{nat_lt}
 use Rattle.exec_words.specs.{declared.idle.WorkerSet.WorkerSet, Idle.Idle}
 use Rattle.exec_machine.specs.{declared.config.Configuration.Configuration, World.{Common, Own as Books}}
 use Rattle.exec_moves.specs.{declared.{handing.{AfterClaim.AfterClaim, AfterKick.AfterKick, AfterLeave.AfterLeave, AfterPush.AfterPush, AfterSignal.AfterSignal, InGlobal.InGlobal, InKick.InKick, InPush.InPush, InSignal.InSignal}, place.Place.Place}, Claim.{same_bools, set_of}, Global.has_any, State.{Desk, Things, word_of}, Thing.set_idle}
-use Rattle.exec_progress.{specs.{Effort.{is_short_claim, is_short_kick, is_short_leave, is_short_push, is_short_signal, stagings_of_claim, stagings_of_kick, stagings_of_leave, stagings_of_push, stagings_of_signal}, Owed.{sampling, signals_itself, stage_of_claim, stage_of_kick, stage_of_leave, stage_of_push, stage_of_signal}, Ranks.{below_claim, below_kick, below_leave, below_push, below_signal, claim_worker, claims, in_global, in_kick, in_push, in_signal, load_set}}, proofs.{Arriving.Reaches, Hopping.{Comes, Gets, Kept, Leaves}, Tools.or_more}}
+use Rattle.exec_progress.{specs.{Effort.{is_short_claim, is_short_kick, is_short_leave, is_short_push, is_short_signal, stagings_of_claim, stagings_of_kick, stagings_of_leave, stagings_of_push, stagings_of_signal}, Owed.{sampling, signals_itself, stage_of_claim, stage_of_kick, stage_of_leave, stage_of_push, stage_of_signal}, Ranks.{below_claim, below_kick, below_leave, below_push, below_signal, claims, in_global, in_kick, in_push, in_signal}, Heights.{claim_worker, leave_search, load_set, raise_count}}, proofs.{Arriving.Reaches, Hopping.{Comes, Gets, Kept, Leaves}, Tools.or_more}}
 use Rattle.exec_credit.proofs.CallFalls.{same_self}
 
-pub set_bounds : (v : Bool) → (1 ≤ load_set v) × (load_set v ≤ 5)
+pub set_bounds : (v : Bool) → (1 ≤ load_set v) × (load_set v ≤ load_set true)
 set_bounds true = (omega arith, omega arith)
 set_bounds false = (omega arith, omega arith)
 
--- the set as it was just loaded, with somebody in it: a claim has three steps at most from there, and the load of the set stood above that
-pub first_claim : (x : Idle) → has_any x ≡ true → claims (set_of x) x + 2 ≤ load_set (has_any x)
+-- the set as it was just loaded, with somebody in it: the count and a claim follow, and the load of the set stood above that
+pub first_claim : (x : Idle) → has_any x ≡ true → suc (raise_count (claims (set_of x) x)) ≤ load_set (has_any x)
 first_claim x some = omega (arith, ap load_set some, ap (λ v. claim_worker v (same_bools x.published x.published)) some ∙ ap (claim_worker true) (same_self x.published))
 
 module _ (c : Configuration) (i : ℕ) (me : Books) (s : Common) (d : Desk) (x : Things) where
@@ -29,7 +29,7 @@ module _ (c : Configuration) (i : ℕ) (me : Books) (s : Common) (d : Desk) (x :
   pub idle_kept : (p : Place) (searching : Bool) (idle : Idle) → Kept c i me s d x p (with_idle searching idle)
   idle_kept p searching idle = record { queue_kept = omega arith; global_kept = omega arith; wants = λ h. h; poll = refl; mail = refl; latch = λ n. or_more (nat_lt n sampling) (signals_itself i p) (word_of x i).latch }
 
-  pub leaves_search : (b : AfterLeave) (r : ℕ) → r < below_leave c.workers b + 8 → Leaves c i me s d x (Place.LeaveSearch b) (is_short_leave b) (stage_of_leave b) (stagings_of_leave b) r
+  pub leaves_search : (b : AfterLeave) (r : ℕ) → r < leave_search (below_leave c.workers b) → Leaves c i me s d x (Place.LeaveSearch b) (is_short_leave b) (stage_of_leave b) (stagings_of_leave b) r
   leaves_search b r h = record { short_there = refl; stage_there = refl; stagings_there = omega arith; above = h; no_pop = refl; no_share = refl; before_spin = refl }
 
   pub leaves_push : (p : InPush) (b : AfterPush) (r : ℕ) → r < in_push i x (below_push c.workers b) p

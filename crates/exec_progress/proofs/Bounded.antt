@@ -6,7 +6,7 @@ use Rattle.exec_machine.specs.{declared.config.Configuration.Configuration, Prog
 use Rattle.exec_moves.specs.{declared.{handing.{AfterCallbacks.AfterCallbacks, AfterClaim.AfterClaim, AfterKick.AfterKick, AfterLeave.AfterLeave, AfterPush.AfterPush, AfterSignal.AfterSignal}, idling.{AfterWait.AfterWait, InRingWait.InRingWait, InWordWait.InWordWait}, place.{AfterService.AfterService, InService.InService, Place.Place, Round.Round}}, Callback.is_full, Counts.{gates_from, one_if}, Load.has_submissions, State.{Desk, Things, word_of, wake_poll_of}}
 use Rattle.exec_credit.specs.Spins.{IsShort}
 use Rattle.exec_rest.specs.Posted.{has_tested}
-use Rattle.exec_progress.specs.{Effort.{begun_gates, gates_left, is_short, scans_again, second_scan, stagings, stagings_of_callbacks, stagings_of_claim, stagings_of_kick, stagings_of_leave, stagings_of_push, stagings_of_service, stagings_of_signal, steps_left, turn_left, whole_spin, whole_turn}, Going.{has_called_back, is_of_closing}, Owed.{ahead, all_others, finds, has_stray, is_before_spin, others, quiet_items, signals_itself, signs, spins_of_signs, spins_owed, stage, staging, turns_owed, wanted}, Ranks.rank}
+use Rattle.exec_progress.specs.{Effort.{begun_gates, gates_left, is_short, scans_again, second_scan, stagings, stagings_of_callbacks, stagings_of_claim, stagings_of_kick, stagings_of_leave, stagings_of_push, stagings_of_service, stagings_of_signal, steps_left, turn_left, whole_spin, whole_turn}, Going.{has_called_back, is_of_closing}, Owed.{ahead, all_others, finds, has_stray, is_before_spin, others, quiet_items, signals_itself, signs, spins_of_signs, spins_owed, stage, staging, turns_owed, wanted}, Ranks.{disarm, rank, withdraw_to_search}}
 use Rattle.exec_progress.proofs.{Gates.{gates_asked, gates_opened, gates_within}, Ranked.{most_rank}, Stages.{Kind, kind}}
 use Rattle.exec_progress.proofs.Entering.{at_most_one}
 
@@ -81,7 +81,7 @@ module _ (i : ℕ) (s : Common) where
 -- TURNS AND SPINS
 
 module _ (c : Configuration) (i : ℕ) (me : Books) (s : Common) (d : Desk) (x : Things) where
-  scan_most : (b : Bool) → second_scan c b ≤ 17 + 5 * c.workers
+  scan_most : (b : Bool) → second_scan c b ≤ withdraw_to_search c.workers
   scan_most true = omega arith
   scan_most false = omega arith
 
@@ -149,14 +149,15 @@ module _ (c : Configuration) (i : ℕ) (me : Books) (s : Common) (d : Desk) (x :
     abbrev bound : ℕ
     bound = 128 * c.workers + 16 * largest_spin c.spin + 4 * (length s.requests + length s.sleepers) + 2048
 
-    abbrev gates : ℕ
-    gates = gates_from i 0 s
-
-    rank_most : rank c i d x d.place ≤ 92 + 5 * c.workers + 2 * largest_spin c.spin
+    rank_most : rank c i d x d.place ≤ disarm c.workers + 2 * largest_spin c.spin
     rank_most = most_rank c i d x d.place short
 
+    -- of a turn, another scan and so many more turns
+    abbrev turn_most : ℕ → ℕ
+    turn_most k = disarm c.workers + 2 * largest_spin c.spin + quiet_items d + gates_left i s d.place + withdraw_to_search c.workers + whole_turn c i s * k
+
     -- with so many quiet items, gates and turns left
-    adds : (k : ℕ) → turns_owed c i me s d x ≤ k → (94 + 5 * c.workers + 2 * gates) * k + quiet_items d + gates_left i s d.place + 10 * c.workers < 1929 + 128 * c.workers + 4 * (length s.requests + length s.sleepers)
+    adds : (k : ℕ) → turns_owed c i me s d x ≤ k → turn_most k + whole_spin c * 2 < bound
         → turn_left c i s d x + whole_turn c i s * turns_owed c i me s d x + whole_spin c * spins_owed c i me s d x < bound
     adds k h less =
         omega (

@@ -5,7 +5,7 @@ use Rattle.std.proofs.lemmas.List.Quantifiers.{position-Some}
 use Rattle.exec_words.specs.{declared.{idle.WorkerSet.WorkerSet}, Idle.{Idle, is_in, lowest_of}, Word.asks_signal}
 use Rattle.exec_machine.specs.{declared.{config.Configuration.Configuration, event.Event.{TheVariants.{Turn, Rouse}}}, Tests.is_awake, World.{Common, Own as Books, seat_of}}
 use Rattle.exec_moves.specs.{declared.{handing.{AfterClaim.AfterClaim, AfterSignal.AfterSignal, InSignal.InSignal}, place.Place.Place}, Claim.{after_claim, claimed_if, idle_after, is_ring, latched, raised_if, same_bools, set_of}, Counts.one_if, Global.{has_any}, Parts.after_signal, State.{Desk, Things, goes, turns, does, word_of, wake_poll_of}, Thing.{set_wake_poll, set_word, with_idle, with_wake_poll}}
-use Rattle.exec_progress.{specs.{Effort.{is_short_claim, is_short_signal, stagings_of_claim, stagings_of_signal}, Going.{Falls, FallsAt, seen, stands}, Owed.{stage_of_claim, stage_of_signal}, Ranks.{below_claim, below_signal, claim_worker}}, proofs.{Arriving.{Reaches, signal_to}, Between.{at_if, comes_claim, comes_signal, idle_kept, leaves_claim, leaves_signal, with_idle as only_idle}, Hopping.{Gets, Kept, hops}}}
+use Rattle.exec_progress.{specs.{Effort.{is_short_claim, is_short_signal, stagings_of_claim, stagings_of_signal}, Going.{Falls, FallsAt, seen, stands}, Owed.{stage_of_claim, stage_of_signal}, Heights.{claim_worker, raise}, Ranks.{below_claim, below_signal}}, proofs.{Arriving.{Reaches, signal_to}, Between.{at_if, comes_claim, comes_signal, idle_kept, leaves_claim, leaves_signal, with_idle as only_idle}, Hopping.{Gets, Kept, hops}}}
 use Rattle.exec_credit.proofs.CallFalls.{same_self}
 
 none_there : (x : Idle) → lowest_of x.published ≡ None → has_any x ≡ false
@@ -14,7 +14,7 @@ none_there x h = rw h refl
 some_there : (x : Idle) (k : ℕ) → lowest_of x.published ≡ Some k → has_any x ≡ true
 some_there x k h = rw h refl
 
-one_of : (v w : Bool) → 3 ≤ claim_worker v w
+one_of : (v w : Bool) → claim_worker true true ≤ claim_worker v w
 one_of = grind arith
 
 module _ (c : Configuration) (i : ℕ) (me : Books) (s : Common) (d : Desk) (x : Things) where
@@ -30,7 +30,7 @@ module _ (c : Configuration) (i : ℕ) (me : Books) (s : Common) (d : Desk) (x :
       → Reaches c i me s d x (Place.ClaimWorker set b) (counted x.idle) (Place.ClaimWorker (set_of x.idle) b)
   again set b some other =
       let p = Place.ClaimWorker set b in
-      let r = below_claim c.workers b + 3 in
+      let r = below_claim c.workers b + claim_worker true true in
       let high = ap (λ v. claim_worker v (same_bools set.has x.idle.published)) some ∙ ap (claim_worker true) other in
       let low = ap (λ v. claim_worker v (same_bools x.idle.published x.idle.published)) some ∙ ap (claim_worker true) (same_self x.idle.published) in
       hops c i me s d x p (Place.ClaimWorker (set_of x.idle) b) (counted x.idle) (is_short_claim b) (stage_of_claim d.picks b) (stagings_of_claim b) r
@@ -85,7 +85,7 @@ module _ (c : Configuration) (i : ℕ) (me : Books) (s : Common) (d : Desk) (x :
       let p = Place.Signal InSignal.SetLatch j b in
       let u = with_latch j in
       let ring = is_ring (word_of x j).target in
-      let r = below_signal c.workers b + 1 in
+      let r = raise (below_signal c.workers b) in
       let kept = latch_kept j b it.word_there (j == i) refl in
       at_if c i me s d x p u (asks_signal (word_of x j)) (Place.Signal (InSignal.Raise ring) j b) (after_signal c i (seen p me) s b (stands p d))
       (λ h. hops c i me s d x p (Place.Signal (InSignal.Raise ring) j b) u (is_short_signal b) (stage_of_signal d.picks b) (stagings_of_signal b) r

@@ -1,9 +1,9 @@
 -- A search count is returned, and a kick.
-use Rattle.std.proofs.Common.{◌≡◌, ℕ, ◌+◌, ◌==◌, ◌<◌, false, arith}
+use Rattle.std.proofs.Common.{◌≡◌, ℕ, ◌+◌, ◌==◌, ◌<◌, true, false, arith}
 use Rattle.exec_words.specs.{declared.idle.WorkerSet.WorkerSet, Idle.Idle}
 use Rattle.exec_machine.specs.{declared.config.Configuration.Configuration, World.{Common, Own as Books}}
 use Rattle.exec_moves.specs.{declared.{handing.{AfterClaim.AfterClaim, AfterKick.AfterKick, AfterLeave.AfterLeave, InKick.InKick}, place.Place.Place}, Claim.set_of, Global.{has_any, one_count_less, one_count_more}, Parts.{after_kick, after_leave}, State.{Desk, Moved, Things, turns}, Thing.with_idle}
-use Rattle.exec_progress.{specs.{Effort.{is_short_leave, stagings_of_leave}, Going.{FallsAt, closes_kick, seen, stands}, Owed.{stage_of_leave}, Ranks.{below_kick, below_leave, in_kick}}, proofs.{Arriving.{Reaches, kick_to, leave_to}, Between.{at_if, comes_kick, idle_kept, leaves_kick, first_claim, leaves_search, set_bounds, with_idle as only_idle}, Hopping.{Gets, hops}, Tools.either}}
+use Rattle.exec_progress.{specs.{Effort.{is_short_leave, stagings_of_leave}, Going.{FallsAt, closes_kick, seen, stands}, Owed.{stage_of_leave}, Heights.{load_kick_count, load_set}, Ranks.{below_kick, below_leave, in_kick}}, proofs.{Arriving.{Reaches, kick_to, leave_to}, Between.{at_if, comes_kick, idle_kept, leaves_kick, first_claim, leaves_search, set_bounds, with_idle as only_idle}, Hopping.{Gets, hops}, Tools.either}}
 
 module _ (c : Configuration) (i : ℕ) (me : Books) (s : Common) (d : Desk) (x : Things) where
   pub leaves : (b : AfterLeave) → FallsAt c i me s d x (Place.LeaveSearch b)
@@ -12,7 +12,7 @@ module _ (c : Configuration) (i : ℕ) (me : Books) (s : Common) (d : Desk) (x :
       let u = only_idle c i me s d x false (one_count_less x.idle) in
       let kept = idle_kept c i me s d x p false (one_count_less x.idle) in
       let most = set_bounds (has_any x.idle) in
-      let k = below_kick c.workers (AfterKick.Leave b) + 6 in
+      let k = below_kick c.workers (AfterKick.Leave b) + load_kick_count (load_set true) in
       at_if c i me s d x p u (x.idle.count == 1) (Place.Kick InKick.LoadKickCount (AfterKick.Leave b)) (after_leave c i (seen p me) s b (stands p d))
       (λ h. hops c i me s d x p (Place.Kick InKick.LoadKickCount (AfterKick.Leave b)) u (is_short_leave b) (stage_of_leave b) (stagings_of_leave b) k
       (leaves_search c i me s d x b k (omega arith)) (comes_kick c i me s d x InKick.LoadKickCount (AfterKick.Leave b) u k (omega (arith, most.1))) kept)

@@ -1,11 +1,11 @@
 -- The look: a turn begins anew for what is in the global queue, a scan for what can be stolen; and else the worker comes to its wait.
-use Rattle.std.proofs.Common.{◌≡◌, ℕ, ◌+◌, ◌≤◌, ◌<◌, ◌==◌, Bool, true, not, ◌&&◌, ◌||◌, List, [], ◌∷◌, refl, sym, ap, subst, arith, inl, inr}
+use Rattle.std.proofs.Common.{◌≡◌, ℕ, suc, ◌+◌, ◌≤◌, ◌<◌, ◌==◌, Bool, true, not, ◌&&◌, ◌||◌, List, [], ◌∷◌, refl, sym, ap, subst, arith, inl, inr}
 use Rattle.std.specs.Prelude.{nat_lt}
 use Rattle.std.proofs.lemmas.{Bool.{and_from, and_parts, eqb-true, eq-eqb, ltb-true, or_cases}, List.set-get_or}
 use Rattle.exec_words.specs.{declared.head.Head.Head, Head.is_stealable_at, Queue.{head_of, tail_of}}
 use Rattle.exec_machine.specs.{declared.{config.Configuration.Configuration, event.Event.TheVariants.Turn}, Choice.Choice.Plain, Tests.is_empty, World.{Common, Own as Books}}
 use Rattle.exec_moves.specs.{declared.{idling.{AfterWait.AfterWait, InLook.InLook, InScan.InScan}, place.Place.Place}, Callback.is_of_pool, Counts.one_if, Global.{one_count_less, one_count_more}, Look.{look_at_mirror, looks_from, past_own}, State.{Desk, Things, no_queue, queue_of, turns}, Thing.{set_queue, with_global, with_idle}, Wait.waits}
-use Rattle.exec_progress.{specs.{Effort.{second_scan}, Going.{Falls, FallsAt, IsGoing, seen, stands}, Owed.{can_steal, is_stealable}}, proofs.{Idling.{FallsTo, chosen, counts, desk_to, height, in_look, in_scan, loads}, Passing.{can_at, second_le}, Tools.{afterwards, before, goes_up, taken_up}, Upward.to_wait}}
+use Rattle.exec_progress.{specs.{Effort.{second_scan}, Going.{Falls, FallsAt, IsGoing, seen, stands}, Owed.{can_steal, is_stealable}, Ranks.full_ring}, proofs.{Idling.{FallsTo, chosen, counts, desk_to, height, in_look, in_scan, loads}, Passing.{can_at, second_le}, Tools.{afterwards, before, goes_up, taken_up}, Upward.to_wait}}
 
 from_on : (i j : ℕ) → j ≤ past_own i j
 from_on = grind arith
@@ -34,14 +34,14 @@ module _ (c : Configuration) (i : ℕ) (me : Books) (s : Common) (d : Desk) (x :
   unread : (p : InLook) (j : ℕ) (q : Place) → To p q → ToBy p j q
   unread p j q falls = subst (λ qs. FallsTo c i me s d x (at p) d.rng d.loot d.searching (record x { queues = qs }) q) (sym (set-get_or x.queues j no_queue)) falls
 
-  waits_then : (p : InLook) → Going p → 5 ≤ here p → To p (waits c i s (stands (at p) d))
+  waits_then : (p : InLook) → Going p → suc full_ring ≤ here p → To p (waits c i s (stands (at p) d))
   waits_then p it high quiet =
       let a = before me s d x (at p) in
       let b = afterwards c i me s (at p) (record { event = Turn; choice = Plain; desk = d; thing = x }) in
       to_wait c i a b (grind (arith, high)) s (stands (at p) d) it.budget
 
   -- the next queue, or the wait
-  looks_on : (p : InLook) (j : ℕ) → Going p → 5 ≤ here p → ((k : ℕ) → j ≤ k → k < c.workers → after (InLook.LookAtHead k) < here p) → To p (looks_from c i s j (stands (at p) d))
+  looks_on : (p : InLook) (j : ℕ) → Going p → suc full_ring ≤ here p → ((k : ℕ) → j ≤ k → k < c.workers → after (InLook.LookAtHead k) < here p) → To p (looks_from c i s j (stands (at p) d))
   looks_on p j it high less =
       let k = past_own i j in
       chosen (To p) (nat_lt k c.workers) (at (InLook.LookAtHead k)) (waits c i s (stands (at p) d))

@@ -6,7 +6,7 @@ use Rattle.std.proofs.lemmas.{List.{get_or-set_same}}
 use Rattle.exec_words.specs.{declared.head.Head.Head, Queue.{Queue, head_of, newest, overflowed, restored}}
 use Rattle.exec_machine.specs.{declared.{config.Configuration.Configuration}, Tests.is_empty, World.{Common, Own as Books}}
 use Rattle.exec_moves.specs.{declared.{handing.{AfterPush.AfterPush, InGlobal.InGlobal, InPush.InPush}, place.Place.Place}, Callback.is_of_pool, Counts.one_if, Global.has_any, Pop.same_head, State.{Desk, Things, no_queue, queue_of}, Thing.set_queue}
-use Rattle.exec_progress.{specs.{Effort.{is_short_push, stagings_of_push}, Owed.{is_stealable, stage_of_push}, Ranks.below_push}, proofs.{Arriving.Reaches, Between.{comes_global, comes_push, leaves_push, set_bounds}, Hopping.{Gets, Kept, hops, of_aside, of_queue}}}
+use Rattle.exec_progress.{specs.{Effort.{is_short_push, stagings_of_push}, Owed.{is_stealable, stage_of_push}, Heights.{append, flow_over, load_push_head, load_set, store_oldest}, Ranks.below_push}, proofs.{Arriving.Reaches, Between.{comes_global, comes_push, leaves_push, set_bounds}, Hopping.{Gets, Kept, hops, of_aside, of_queue}}}
 use Rattle.exec_progress.proofs.Entering.{at_most_one}
 
 -- what can be stolen with this queue put in could be stolen before, or from it
@@ -59,9 +59,9 @@ module _ (c : Configuration) (i : ℕ) (me : Books) (s : Common) (d : Desk) (x :
   pub flows_over : (h : Head) (b : AfterPush) → is_of_pool s i ≡ true → i < length x.queues → q.held ≡ [] → same_head h (head_of q) ≡ true
       → Reaches c i me s d x (Place.Push (InPush.FlowOver h) b) (with_own (newest q) (overflowed q)) (Place.Push InPush.StoreOldest b)
   flows_over h b pool there none fresh =
-      let r = below_push c.workers b + 7 in
+      let r = store_oldest (below_push c.workers b) in
       hops c i me s d x (Place.Push (InPush.FlowOver h) b) (Place.Push InPush.StoreOldest b) (with_own (newest q) (overflowed q)) (is_short_push b) (stage_of_push d.picks b) (stagings_of_push b) r
-      (leaves_push c i me s d x (InPush.FlowOver h) b r (omega (arith, ap (λ v. if v then below_push c.workers b + 8 else below_push c.workers b + 10) fresh)))
+      (leaves_push c i me s d x (InPush.FlowOver h) b r (omega (arith, ap (λ v. if v then flow_over (below_push c.workers b) else suc (load_push_head (below_push c.workers b))) fresh)))
       (comes_push c i me s d x InPush.StoreOldest b (with_own (newest q) (overflowed q)) r (omega arith)) (over_kept h b pool there none)
 
   -- and come back
@@ -73,6 +73,6 @@ module _ (c : Configuration) (i : ℕ) (me : Books) (s : Common) (d : Desk) (x :
   pub stores_oldest : (b : AfterPush) → is_of_pool s i ≡ true → i < length x.queues → q.values ≡ [] → Reaches c i me s d x (Place.Push InPush.StoreOldest b) (with_own d.loot (restored q)) (Place.Global InGlobal.Append b)
   stores_oldest b pool there none =
       let most = set_bounds (has_any x.idle) in
-      let r = below_push c.workers b + 6 in
+      let r = below_push c.workers b + append (load_set true) in
       hops c i me s d x (Place.Push InPush.StoreOldest b) (Place.Global InGlobal.Append b) (with_own d.loot (restored q)) (is_short_push b) (stage_of_push d.picks b) (stagings_of_push b) r
       (leaves_push c i me s d x InPush.StoreOldest b r (omega arith)) (comes_global c i me s d x InGlobal.Append b (with_own d.loot (restored q)) r (omega (arith, most.1))) (back_kept b pool there none)

@@ -6,7 +6,7 @@ use Rattle.std.proofs.lemmas.{Bool.{and_parts, and_from, cases_lt, eqb-true, tru
 use Rattle.exec_words.specs.{declared.head.Head.Head, Queue.{Queue, head_of, tail_of}}
 use Rattle.exec_machine.specs.{declared.config.Configuration.Configuration, World.Common}
 use Rattle.exec_moves.specs.{declared.{idling.{InScan.InScan, Scan.Scan}, place.Place.Place}, Pop.same_head, Search.{begun_scan, from_of, judge_head, looks_at, past, scanning}, State.{Desk, Things, no_queue, queue_of}}
-use Rattle.exec_progress.{specs.{Effort.{comes_to, may_miss, scans_again, second_scan}, Owed.{can_steal, is_stealable}, Ranks.{passing, publish, rank}}, proofs.Idling.{IsIdling, chosen, in_scan}}
+use Rattle.exec_progress.{specs.{Effort.{comes_to, may_miss, scans_again, second_scan}, Owed.{can_steal, is_stealable}, Heights.{their_head, their_tail}, Ranks.{passing, publish, rank}}, proofs.Idling.{IsIdling, chosen, in_scan}}
 use Rattle.exec_progress.proofs.Popping.{same_again}
 
 -- HEADS
@@ -96,7 +96,7 @@ module _ (c : Configuration) (i : ℕ) (s : Common) (e : Desk) (x : Things) (dry
 
   -- so high that it stands above what follows once these are passed
   abbrev pub above : ℕ → ℕ
-  above p = publish c.workers + 3 * (c.workers + 1 - p)
+  above p = publish c.workers + their_head 0 * (c.workers + 1 - p)
 
   -- a place of the scan or the look that isn't higher
   abbrev pub Within : ℕ → Bool → Place → Type 0
@@ -117,9 +117,9 @@ module _ (c : Configuration) (i : ℕ) (s : Common) (e : Desk) (x : Things) (dry
   looks_past y = let it = looks (past y) in (it.0, omega (arith, it.1))
 
   -- or its head was loaded
-  pub judged : (y : Scan) → Within (passing c.workers y.passed + 2) (may_miss c y true x) (judge_head c i y (head_of (queue_of x (from_of c y))))
+  pub judged : (y : Scan) → Within (their_tail (passing c.workers y.passed) true) (may_miss c y true x) (judge_head c i y (head_of (queue_of x (from_of c y))))
   judged y =
       let q = queue_of x (from_of c y) in
-      chosen (Within (passing c.workers y.passed + 2) (may_miss c y true x)) (q.gap == 0) (Place.Scan (InScan.LoadTheirTail y (head_of q))) (looks_at c i (past y))
+      chosen (Within (their_tail (passing c.workers y.passed) true) (may_miss c y true x)) (q.gap == 0) (Place.Scan (InScan.LoadTheirTail y (head_of q))) (looks_at c i (past y))
       (λ h. (in_scan i s (InScan.LoadTheirTail y (head_of q)), rw (same_again (head_of q)) (omega arith)))
       (λ h. let it = looks_past y in (it.0, rw (misses_same c x y (claimed_is_not q h)) (omega (arith, it.1))))

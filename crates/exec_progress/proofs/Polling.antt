@@ -5,8 +5,9 @@ use Rattle.std.proofs.lemmas.Option.{slice_get-get_or}
 use Rattle.exec_machine.specs.{declared.{config.{Configuration.Configuration, ScriptWord.ScriptWord}, event.Event.Event, state.{MailMessage.MailMessage, RequestPhase.RequestPhase}}, Choice.{Choice, Choice.{Plain}}, Requests.operation_asked, Tests.{is_empty}, Text.is_quiet, Words.{idle_words, is_idle_word, newest_held, next_word, sleep_asked, words_left}, World.{Common, Own as Books, Task, request_of, task_of}}
 use Rattle.exec_machine.specs.declared.config.ScriptWord.TheVariants as word
 use Rattle.exec_machine.specs.declared.event.Event.TheVariants as event
-use Rattle.exec_moves.specs.{declared.{handing.{AfterSend.AfterSend}, place.{InPoll.InPoll, Place.Place}}, Move.{move_act, move_look_at, move_wake}, Poll.{Sight, Sight.{Here, Asks, HearsRequest, HearsTimer}, act, act_asked, begin_poll, drop_newest, hear_timer, heard_by, pend, sleep_for}, Send.{Mailbox, next_task, posting_of}, State.{Desk, Moved, Things}, Thing.{aside, mailbox_of, with_alarms, with_answers}, Told.has_number}
-use Rattle.exec_progress.{specs.{Going.{Falls, FallsAt, seen, stands}, Ranks.{rank}}, proofs.{Steps.{Leads, loud}, Tools.{either}}}
+use Rattle.exec_machine.specs.declared.state.RequestPhase.TheVariants as phase
+use Rattle.exec_moves.specs.{declared.{handing.{AfterSend.AfterSend}, place.{InPoll.InPoll, Place.Place}}, Move.{move_act, move_look_at, move_wake}, Poll.{Sight, Sight.{Here, Asks, HearsRequest, HearsTimer}, act, act_asked, acts_on, begin_poll, drop_newest, hear_timer, heard_by, pend, sleep_for, stops}, Send.{Mailbox, next_task, posting_of}, State.{Desk, Moved, Things, does}, Thing.{aside, mailbox_of, with_alarms, with_answers}, Told.has_number}
+use Rattle.exec_progress.{specs.{Going.{Falls, FallsAt, seen, stands}, Ranks.{rank}}, proofs.Steps.{Leads, loud}}
 
 -- LOUD STEPS, whatever they are about
 
@@ -60,10 +61,15 @@ module _ (c : Configuration) (i : ℕ) (me : Books) (s : Common) (d : Desk) (x :
   -- what was sent is there, or the poll ends by the next step
   hears : (p : InPoll) (r : ℕ) → 0 < rank c i (stands (Place.Poll t p) d) x (Place.Poll t p) → (v : Bool) (ph : RequestPhase)
       → FallsFrom p (with_answers x (heard_by t r (stands (Place.Poll t p) d) x.answers v ph))
-  hears = grind arith
+  hears p r high true (phase.Resolved outcome) = loudly p (with_answers x (heard_by t r (stands (Place.Poll t p) d) x.answers true (phase.Resolved outcome))) refl
+  hears p r high v ph = pends p x high
 
   hears_timer : (p : InPoll) (z : ℕ) → 0 < rank c i (stands (Place.Poll t p) d) x (Place.Poll t p) → FallsFrom p (with_alarms x (hear_timer t z (stands (Place.Poll t p) d) x.alarms))
-  hears_timer = grind (arith, either, loudly, pends)
+  hears_timer p z high = by (has_number z x.alarms)
+    where
+      by : (v : Bool) → FallsFrom p (with_alarms x (if v then does (event.GotTimer z) (acts_on t (stands (Place.Poll t p) d)) x.alarms else does event.Turn (stops t (stands (Place.Poll t p) d)) x.alarms))
+      by true = loudly p (with_alarms x (does (event.GotTimer z) (acts_on t (stands (Place.Poll t p) d)) x.alarms)) refl
+      by false = pends p x high
 
   -- where the task looks
   looks : (p : InPoll) (b : AfterSend) (here : Moved Things) → 0 < rank c i (stands (Place.Poll t p) d) x (Place.Poll t p) → is_quiet here.event ≡ false

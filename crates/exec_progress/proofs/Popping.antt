@@ -5,7 +5,7 @@ use Rattle.exec_words.specs.{declared.head.Head.Head, Queue.{Queue, head_of, pop
 use Rattle.exec_machine.specs.{declared.config.Configuration.Configuration, Tests.is_empty, World.{Common, Own as Books}}
 use Rattle.exec_machine.specs.declared.event.Event.TheVariants as event
 use Rattle.exec_moves.specs.{declared.{handing.{AfterPop.AfterPop, First.First, InPop.InPop}, place.{Place.Place}}, Callback.is_of_pool, Counts.one_if, Move.move_pop, Pop.{after_empty_pop, after_pop, judge_pop, load_pop_head, pops as pops_queue, same_head}, State.{Desk, Things, does, queue_of, turns}, Thing.{with_queue}}
-use Rattle.exec_progress.{specs.{Going.{Falls, FallsAt, seen, stands}, Ranks.{exchange_pop, is_fresh, rank}}, proofs.{Steps.{Leads, polls_next, same_queue, leads}, Tools.{either}}}
+use Rattle.exec_progress.{specs.{Going.{Falls, FallsAt, seen, stands}, Heights.{exchange_pop, leave_search}, Ranks.{is_fresh, rank}}, proofs.{Steps.{Leads, polls_next, same_queue, leads}, Tools.{either}}}
 
 -- a head that was loaded is the queue's
 pub same_again : (h : Head) → same_head h h ≡ true
@@ -30,7 +30,7 @@ pops_some c i b d q t ts h = rw h refl
 
 module _ (c : Configuration) (i : ℕ) (me : Books) (s : Common) (d : Desk) (x : Things) where
   -- one step above, where the head was loaded just now
-  fresh_low : (below : ℕ) (y : Things) → exchange_pop below (is_fresh y i (head_of (queue_of y i))) ≡ below + 1
+  fresh_low : (below : ℕ) (y : Things) → exchange_pop below (is_fresh y i (head_of (queue_of y i))) ≡ exchange_pop below true
   fresh_low below y = ap (exchange_pop below) (same_again (head_of (queue_of y i)))
 
   -- nothing is kept aside here
@@ -83,7 +83,7 @@ module _ (c : Configuration) (i : ℕ) (me : Books) (s : Common) (d : Desk) (x :
       by_length false h = by_head ((tail_of (queue_of x i) - (queue_of x i).real == 1) && ((queue_of x i).gap == 0))
 
   -- above all of a poll's beginning
-  high : (p : InPop) (f : First) → 8 < rank c i (stands (Place.Pop p (AfterPop.Pick f)) d) x (Place.Pop p (AfterPop.Pick f))
+  high : (p : InPop) (f : First) → leave_search 0 < rank c i (stands (Place.Pop p (AfterPop.Pick f)) d) x (Place.Pop p (AfterPop.Pick f))
   high = grind arith
 
   -- the oldest leaves it

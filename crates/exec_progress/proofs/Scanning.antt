@@ -5,7 +5,7 @@ use Rattle.std.proofs.lemmas.{Bool.{and_from, eq-eqb, le-leb, ltb-true, ne_eqb},
 use Rattle.exec_words.specs.{declared.head.Head.Head, Generator.stirred, Head.{claim_at, claimed_head, is_spent}, Queue.{Queue, claimed, head_of, published, released, room_of, tail_of}}
 use Rattle.exec_machine.specs.{declared.config.Configuration.Configuration, Tests.is_empty, World.{Common, Own as Books}}
 use Rattle.exec_moves.specs.{declared.{idling.{InLook.InLook, InScan.InScan, Scan.Scan}, place.Place.Place}, Callback.is_of_pool, Counts.one_if, Load.leaves_for_turn, Pop.same_head, Search.{begun_scan, from_of, half, judge_head, looks_at, past, store_moved}, State.{Desk, Things, no_queue, queue_of, turns}, Thing.{set_queue, with_queue}}
-use Rattle.exec_progress.{specs.{Effort.{may_miss, second_scan}, Going.{Falls, FallsAt, IsGoing, seen, stands}, Owed.{can_steal, is_stealable}, Ranks.{is_fresh, passing, release}}, proofs.{Idling.{FallsTo, chosen, desk_to, height, idles, in_look, in_scan, loads}, Passing.{Within, above, can_at, comes_to_all, empty_is_not, few_are_not, judged, looks, looks_past, misses_more, misses_same, same_parts, second_le}, Tools.{afterwards, before}, Upward.{for_sure, leaves_is_top, to_turn}}}
+use Rattle.exec_progress.{specs.{Effort.{may_miss, second_scan}, Going.{Falls, FallsAt, IsGoing, seen, stands}, Owed.{can_steal, is_stealable}, Heights.{release_half, their_tail}, Ranks.{is_fresh, passing}}, proofs.{Idling.{FallsTo, chosen, desk_to, height, idles, in_look, in_scan, loads}, Passing.{Within, above, can_at, comes_to_all, empty_is_not, few_are_not, judged, looks, looks_past, misses_more, misses_same, same_parts, second_le}, Tools.{afterwards, before}, Upward.{for_sure, leaves_is_top, to_turn}}}
 use Rattle.exec_progress.proofs.Popping.{same_again}
 
 none_behind : (xs ys : List ℕ) → is_empty ys ≡ false → is_empty (xs ++ ys) ≡ false
@@ -16,7 +16,7 @@ none_behind (n ∷ xs) ys some = refl
 narrow : (q : Queue ℕ) → q.values ≡ [] → is_spent (tail_of q) ≡ false → nat_lt (room_of q) half ≡ true → (q.gap == 0) ≡ false
 narrow = grind arith
 
-release_low : (b : Bool) → release b ≤ 5
+release_low : (b : Bool) → release_half b ≤ release_half false
 release_low true = omega arith
 release_low false = omega arith
 
@@ -54,7 +54,7 @@ module _ (c : Configuration) (i : ℕ) (me : Books) (s : Common) (d : Desk) (x :
   loads_head y it =
       let calm = dry (InScan.LoadTheirHead y) it in
       let q = judge_head c i y (head_of (queue_of x (from_of c y))) in
-      on (InScan.LoadTheirHead y) (from_of c y) q d.rng (passing c.workers y.passed + 2) (may_miss c y true x) calm (judged c i s (desk_to c i me s d x q d.rng d.loot d.searching) x calm y) (omega arith)
+      on (InScan.LoadTheirHead y) (from_of c y) q d.rng (their_tail (passing c.workers y.passed) true) (may_miss c y true x) calm (judged c i s (desk_to c i me s d x q d.rng d.loot d.searching) x calm y) (omega arith)
 
   loads_tail : (y : Scan) (h : Head) → FallsAt c i me s d x (at (InScan.LoadTheirTail y h))
   loads_tail y h it =
@@ -99,7 +99,7 @@ module _ (c : Configuration) (i : ℕ) (me : Books) (s : Common) (d : Desk) (x :
       (λ same. idles c i me s d x (at p) (at (InScan.MoveHalf (from_of c y) (claimed_head h (claim_at h tail)))) d.rng (take (claim_at h tail) q.values) d.searching
       (slice_set x.queues (from_of c y) (claimed q (claim_at h tail))) x.idle (in_scan i s p) (in_scan i s (InScan.MoveHalf (from_of c y) (claimed_head h (claim_at h tail))))
       (rw same (omega arith)) (λ k. omega (arith, ap one_if (stealable same))))
-      (λ other. on p (from_of c y) (judge_head c i y (head_of q)) d.rng (passing c.workers y.passed + 2) (may_miss c y true x) (dry p it)
+      (λ other. on p (from_of c y) (judge_head c i y (head_of q)) d.rng (their_tail (passing c.workers y.passed) true) (may_miss c y true x) (dry p it)
       (judged c i s (desk_to c i me s d x (judge_head c i y (head_of q)) d.rng d.loot d.searching) x (dry p it) y)
       (rw other (omega (arith, second_le c (may_miss c y true x) (may_miss c y false x) (misses_more c x y)))))
     where

@@ -4,7 +4,7 @@ use Rattle.std.proofs.lemmas.{Bool.{false≢true}, List.set-get_or}
 use Rattle.exec_machine.specs.{declared.config.Configuration.Configuration, Choice.Choice.Plain, World.{Common, Own as Books}, Text.is_quiet}
 use Rattle.exec_machine.specs.declared.event.Event.TheVariants as event
 use Rattle.exec_moves.specs.{declared.{handing.{AfterPop.AfterPop, InPop.InPop}, place.Place.Place}, Parts.polls, State.{Desk, Moved, Things, no_queue, queue_of}, Thing.set_queue}
-use Rattle.exec_progress.{specs.{Effort.is_short, Going.{Falls, seen, stands}, Ranks.rank}, proofs.Tools.{KeepsTurns, Now, afterwards, before, comes_to_poll, gates, goes_down, keeps_turns, left, rest}}
+use Rattle.exec_progress.{specs.{Effort.is_short, Going.{Falls, seen, stands}, Heights.leave_search, Ranks.rank}, proofs.Tools.{KeepsTurns, Now, afterwards, before, comes_to_poll, gates, goes_down, keeps_turns, left, rest}}
 
 -- a queue that is put back as it was
 pub same_queue : (i : ℕ) (x : Things) → set_queue i x (queue_of x i) ≡ x
@@ -30,7 +30,7 @@ Leads c i me s d x p q y = Falls c i (seen p me) s (stands p d) x (record { even
 
 -- the task is polled next
 pub polls_next : (c : Configuration) (i : ℕ) (me : Books) (s : Common) (d : Desk) (x : Things) (p : Place) (m : Moved Things) (t : ℕ)
-    → m.desk ≡ polls t (stands p d) → 8 < rank c i (stands p d) x p → Falls c i (seen p me) s (stands p d) x m
+    → m.desk ≡ polls t (stands p d) → leave_search 0 < rank c i (stands p d) x p → Falls c i (seen p me) s (stands p d) x m
 polls_next c i me s d x p m t to high quiet = comes_to_poll c i (before me s d x p) (afterwards c i me s p m) t (stands p d) to high
 
 -- the worker after such a turn; and how one is shown to fall

@@ -6,7 +6,7 @@ use Rattle.std.specs.List.{list_any}
 use Rattle.exec_machine.specs.{declared.{config.Configuration.Configuration, event.Event.TheVariants.{Serve, Busy}}, Ranges.ring_size, Tests.{is_empty, set_seat}, World.{Own as Books, Common, no_seat, seat_of}}
 use Rattle.exec_moves.specs.{declared.place.{AfterService.AfterService, InService.InService, Place.Place, Reaping.Reaping, Service.Service}, Callback.{has_requests, is_full, is_of_pool}, Counts.{count_numbered, gates_from, one_if}, Load.{has_submissions, may_stage}, Serve.{Ring, after_staging, enters, first_numbered}, State.{Desk, Moved, Things, WakePoll, does, no_wake_poll, queue_of, taken_in, wake_poll_of, gate_of}, Submit.{Due, due_next, first_due, granted_at, next_gate, one_more, or_else, request_due, stage_next, staging_due, submits as to_gate, try_gate, waits_at, Due.{Expires, Enrols, AtGate, Flushes, Cancels, Stages, Ends}}, Move.move_submit, Thing.{ring_of, set_wake_poll, with_gate, with_ring}}
 use Rattle.exec_credit.proofs.{Entering.{due_same, gates_same}, First.deadlines, Rings.{no_first, polled_of, full_of}}
-use Rattle.exec_progress.{specs.{Effort.is_short, Going.{Falls, FallsAt, IsGoing, closes_service, seen, stands}, Owed.is_any_due, Ranks.{below_service, submits as rank_of_submit}}, proofs.{Tools.{Now, afterwards, ahead_at, before, either, gates, goes_down, keeps_turns, left, others_at, pays_want, rest, spun, wanted_at}}}
+use Rattle.exec_progress.{specs.{Effort.is_short, Going.{Falls, FallsAt, IsGoing, closes_service, seen, stands}, Owed.is_any_due, Heights.submit, Ranks.{below_service, submits as rank_of_submit}}, proofs.{Tools.{Now, afterwards, ahead_at, before, either, gates, goes_down, keeps_turns, left, others_at, pays_want, rest, spun, wanted_at}}}
 use Rattle.exec_progress.proofs.Entering.{at_most_one}
 
 -- GATES: one that was next is left behind
@@ -48,7 +48,7 @@ fewer_past waits from g n (x ∷ xs) is = by (nat_le from n && waits n) refl is 
 -- BITS OF WHAT IS KNOWN
 
 -- all that is done after the staging is lower than it, and a flush is higher
-submit_low : (below : ℕ) (full : Bool) → below + 4 ≤ rank_of_submit below full
+submit_low : (below : ℕ) (full : Bool) → submit below ≤ rank_of_submit below full
 submit_low below true = omega arith
 submit_low below false = omega arith
 
@@ -235,7 +235,7 @@ module _ (c : Configuration) (i : ℕ) (me : Books) (s : Common) (d : Desk) (x :
       polled : has_submissions c me ≡ true → one_if (is_full (ring_size c) d && (not d.polled && not (has_submissions c me))) ≡ 0
       polled some = ap one_if (and_right (is_full (ring_size c) d) (not d.polled && not (has_submissions c me)) (and_right (not d.polled) (not (has_submissions c me)) (ap not some)))
 
-      low : (b : AfterService) → below_service c.workers b + 4 ≤ rank_of_submit (below_service c.workers b) (is_full (ring_size c) d)
+      low : (b : AfterService) → submit (below_service c.workers b) ≤ rank_of_submit (below_service c.workers b) (is_full (ring_size c) d)
       low b = submit_low (below_service c.workers b) (is_full (ring_size c) d)
 
       by : (work : Bool) → has_submissions c me ≡ work → (b : AfterService) → closes_service b ≡ false → BusyFalls b InService.EnterLast off × BusyFalls b (InService.Reap Reaping.Last) off

@@ -3,7 +3,7 @@ use Rattle.std.proofs.Common.{◌≡◌, ℕ, zero, suc, ◌+◌, ◌*◌, ◌�
 use Rattle.std.specs.Prelude.{nat_lt}
 use Rattle.exec_machine.specs.{declared.config.Configuration.Configuration, After.{own_after, common_after}, World.{Common, Own as Books}}
 use Rattle.exec_moves.specs.{declared.{place.{Place.Place}}, Counts.{gates_from, one_if}, Parts.polls, State.{Desk, Moved, Things}}
-use Rattle.exec_progress.specs.{Effort.{is_short, steps_left, turn_left, whole_spin, whole_turn}, Going.{Falls, seen, stands}, Owed.{ahead, all_others, others, spins_of_signs, spins_owed, turns_owed, wanted}, Ranks.rank}
+use Rattle.exec_progress.specs.{Effort.{is_short, steps_left, turn_left, whole_spin, whole_turn}, Going.{Falls, seen, stands}, Owed.{ahead, all_others, others, spins_of_signs, spins_owed, turns_owed, wanted}, Heights.leave_search, Ranks.rank}
 
 -- with one more reason for it
 pub or_more : (g a b : Bool) → one_if (g && b) ≤ one_if (g && (a || b))
@@ -120,7 +120,7 @@ module _ (c : Configuration) (i : ℕ) where
   to_poll = grind arith
 
   -- a task is to be polled next, which a search count is returned before
-  pub comes_to_poll : (a b : Now) (t : ℕ) (e : Desk) → b.d ≡ polls t e → 8 < rank c i a.d a.x a.d.place → left b < left a
+  pub comes_to_poll : (a b : Now) (t : ℕ) (e : Desk) → b.d ≡ polls t e → leave_search 0 < rank c i a.d a.x a.d.place → left b < left a
   comes_to_poll = grind (arith, to_poll)
 
   -- WHAT IS OWED

@@ -11,7 +11,7 @@ use Rattle.exec_moves.specs.declared.idling.InScan.TheVariants as scan
 use Rattle.exec_moves.specs.declared.place.AfterService.TheVariants as back
 use Rattle.exec_moves.specs.{declared.{idling.AfterWait.AfterWait, place.Place.Place}, Callback.{has_requests, serve}, Load.has_submissions, Look.after_withdrawal, State.{Desk, Moved, Things, turns}, Thing.with_idle}
 use Rattle.exec_moves.specs.Global.{has_any}
-use Rattle.exec_progress.{specs.{Ranks.load_set, Going.{Falls, FallsAt, seen, stands}}, proofs.{Tools.{afterwards, before, either}, WaitTools.sinks}}
+use Rattle.exec_progress.{specs.{Heights.load_set, Going.{Falls, FallsAt, seen, stands}}, proofs.{Tools.{afterwards, before, either}, WaitTools.sinks}}
 
 module _ (c : Configuration) (i : ℕ) (me : Books) (s : Common) (d : Desk) (x : Things) where
   -- the idle set without the own bit
@@ -62,7 +62,7 @@ module _ (c : Configuration) (i : ℕ) (me : Books) (s : Common) (d : Desk) (x :
         sinks c i (before me s d x (Place.Withdraw makes_up)) (afterwards c i me s (Place.Withdraw makes_up) (leads makes_up searches (Place.Kick kicks.LoadKickCount (kick.Leave leave.Begin))))
         refl refl (omega (arith, low (has_any without))) (omega arith) (λ h. omega (arith, h)) (λ h k. omega (arith, k)) (λ h. omega arith) (λ h. omega arith)
       where
-        low : (b : Bool) → load_set b ≤ 5
+        low : (b : Bool) → load_set b ≤ load_set true
         low true = omega arith
         low false = omega arith
 

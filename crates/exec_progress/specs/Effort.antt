@@ -2,12 +2,12 @@
 --
 -- What is left of this turn, another scan where the look may find something that the scan didn't, and a turn for each that is owed. Within a poll it is
 -- the way to the next act, or to the end of the poll, alone: these are no quiet steps.
-use Rattle.std.specs.Prelude.{ℕ, Bool, true, false, not, ◌+◌, ◌*◌, ◌-◌, ◌%◌, ◌==◌, ◌&&◌, ◌||◌, if◌then◌else◌}
+use Rattle.std.specs.Prelude.{ℕ, suc, Bool, true, false, not, ◌+◌, ◌*◌, ◌-◌, ◌%◌, ◌==◌, ◌&&◌, ◌||◌, if◌then◌else◌}
 use Rattle.std.specs.List.{list_any, range_with_len}
 use Rattle.exec_words.specs.{Head.is_stealable_at, Queue.tail_of}
 use Rattle.exec_machine.specs.{declared.config.Configuration.Configuration, Ranges.{largest_spin}, World.{Common, Own as Books}}
 use Rattle.exec_moves.specs.{declared.{handing.{AfterCallbacks.AfterCallbacks, AfterClaim.AfterClaim, AfterKick.AfterKick, AfterLeave.AfterLeave, AfterPush.AfterPush, AfterSend.AfterSend, AfterSignal.AfterSignal}, idling.{AfterWait.AfterWait, InLook.InLook, InRingWait.InRingWait, InScan.InScan, InSearch.InSearch, InWordWait.InWordWait, Scan.Scan}, place.{InPoll.InPoll, AfterPermit.AfterPermit, AfterService.AfterService, InService.InService, Reaping.Reaping, Round.Round, Place.Place}}, Counts.{gates_from, one_if}, Search.from_of, State.{Desk, Things, queue_of}}
-use Rattle.exec_progress.specs.{Owed.{can_steal, is_stealable, quiet_items, spins_owed, turns_owed}, Ranks.{is_fresh, rank, withdraw_to_search}}
+use Rattle.exec_progress.specs.{Owed.{can_steal, is_stealable, quiet_items, spins_owed, turns_owed}, Ranks.{disarm, is_fresh, rank, spin, withdraw_to_search}}
 
 -- WITHIN A POLL, or about to begin one
 
@@ -174,12 +174,13 @@ second_scan c false = 0
 
 -- IN ALL
 
--- a turn with what was put off, and its two stagings
+-- above a turn with what was put off, from where a wait ends, and its two stagings
 abbrev pub whole_turn : Configuration → ℕ → Common → ℕ
-whole_turn c i s = 94 + 5 * c.workers + 2 * gates_from i 0 s
+whole_turn c i s = suc (disarm c.workers) + 2 * gates_from i 0 s
 
+-- above the longest spin
 abbrev pub whole_spin : Configuration → ℕ
-whole_spin c = 2 * largest_spin c.spin + 5
+whole_spin c = suc (spin (largest_spin c.spin))
 
 abbrev pub turn_left : Configuration → ℕ → Common → Desk → Things → ℕ
 turn_left c i s d x = in_turn c i s d x + second_scan c (scans_again c d x d.place)

@@ -7,7 +7,7 @@ use Rattle.std.specs.Prelude.{ℕ, suc, Bool, true, false, ◌+◌, ◌-◌, ◌
 use Rattle.exec_words.specs.Idle.{Idle}
 use Rattle.exec_machine.specs.{declared.config.Configuration.Configuration, Ranges.ring_size}
 use Rattle.exec_moves.specs.{declared.{handing.{First.First, AfterCallbacks.AfterCallbacks, AfterClaim.AfterClaim, AfterKick.AfterKick, AfterLeave.AfterLeave, AfterPop.AfterPop, AfterPush.AfterPush, AfterSend.AfterSend, AfterSignal.AfterSignal, InGlobal.InGlobal, InKick.InKick, InPop.InPop, InPush.InPush, InSignal.InSignal}, idling.{AfterWait.AfterWait, InLook.InLook, InRingWait.InRingWait, InScan.InScan, InSearch.InSearch, InWordWait.InWordWait}, place.{InPick.InPick, InPoll.InPoll, InCallbacks.InCallbacks, AfterService.AfterService, InLoads.InLoads, InMail.InMail, InService.InService, Round.Round, Place.Place}}, Callback.is_full, Claim.same_bools, Global.has_any, Pop.same_head, Search.from_of, State.{Desk, Things, queue_of}}
-use Rattle.exec_progress.specs.Heights.{end_service, enter_last, submit, flush, advance_wheel, sample, reap, after_permit, call_back}
+use Rattle.exec_progress.specs.Heights.{advance_wheel, after_permit, append, call_back, claim_half, claim_worker, end_service, enter_last, exchange_pop, flow_over, flush, leave_search, load_kick_count, load_own_head, load_pop_head, load_push_head, load_set, look_at_global, move_half, pass_permit, raise, raise_count, reap, release_half, return_global_count, return_kick_count, sample, set_latch, share, store_moved, store_oldest, store_pop, store_value, submit, take_batch, their_head, their_tail}
 use Rattle.exec_words.specs.{declared.{head.Head.Head, idle.WorkerSet.WorkerSet}, Queue.head_of}
 
 -- THE WAITS, from the sleep up
@@ -27,13 +27,13 @@ abbrev pub full_ring : ℕ
 full_ring = suc test_ring
 
 -- a spin of so many looks, of two loads each
-abbrev pub spin : ℕ → ℕ
-spin left = arm + 2 * left + 2
-
 abbrev pub second_load : ℕ → ℕ
-second_load left = arm + 2 * left + 1
+second_load left = suc (arm + 2 * left)
 
--- THE LOOK at w run queues
+abbrev pub spin : ℕ → ℕ
+spin left = suc (second_load left)
+
+-- THE LOOK at w run queues, of two loads each
 abbrev pub claim_count : ℕ
 claim_count = suc full_ring
 
@@ -43,9 +43,8 @@ look_at_tail w j = suc claim_count + 2 * (w - j)
 abbrev pub look_at_head : ℕ → ℕ → ℕ
 look_at_head w j = suc (look_at_tail w j)
 
--- above both loads of the first
 abbrev pub look_at_count : ℕ → ℕ
-look_at_count w = claim_count + 3 + 2 * w
+look_at_count w = suc (look_at_head w 0)
 
 abbrev pub look_at_mirror : ℕ → ℕ
 look_at_mirror w = suc (look_at_count w)
@@ -56,36 +55,18 @@ return_look_count w = suc (look_at_mirror w)
 abbrev pub publish : ℕ → ℕ
 publish w = suc (return_look_count w)
 
--- THE SCAN: what was stolen is moved, and a turn begins anew
-abbrev pub store_moved : ℕ
-store_moved = 3
-
-abbrev pub release : Bool → ℕ
-release true = 4
-release false = 5
-
-abbrev pub move_half : ℕ
-move_half = 6
-
--- a scan that has passed so many of w workers
+-- THE SCAN, when it has passed so many of w workers
 abbrev pub passing : ℕ → ℕ → ℕ
-passing w passed = publish w + 3 * (w - passed)
+passing w passed = publish w + their_head 0 * (w - passed)
 
--- by whether the head is as it was loaded
-abbrev pub claim : ℕ → Bool → ℕ
-claim below true = below + 1
-claim below false = below + 3
-
-abbrev pub their_tail : ℕ → Bool → ℕ
-their_tail below true = below + 2
-their_tail below false = below + 4
-
-abbrev pub their_head : ℕ → ℕ
-their_head below = below + 3
-
--- above the loads and the claim at the first queue
 abbrev pub load_scan_head : ℕ → ℕ
-load_scan_head w = publish w + 4 + 3 * w
+load_scan_head w = suc (their_head (passing w 0))
+
+abbrev pub add_search_count : ℕ → ℕ
+add_search_count w = suc (load_scan_head w)
+
+abbrev pub load_search_count : ℕ → ℕ
+load_search_count w = suc (add_search_count w)
 
 abbrev pub return_claimed : ℕ → ℕ
 return_claimed w = suc (load_scan_head w)
@@ -110,19 +91,6 @@ load_mirror below = suc (load_word below)
 abbrev pub load_head : ℕ → ℕ
 load_head below = suc (load_mirror below)
 
--- HANDING ON, above where it leads: by whether somebody is published, and whether the idle set is as it was loaded
-abbrev pub load_set : Bool → ℕ
-load_set true = 5
-load_set false = 1
-
-abbrev pub claim_worker : Bool → Bool → ℕ
-claim_worker true true = 3
-claim_worker some same = 4
-
--- the callbacks, above what follows them: a search count is returned first
-abbrev pub take_batch : ℕ → ℕ
-take_batch below = call_back below + 9
-
 -- MAIL
 abbrev pub callbacks_after_mail : ℕ → ℕ
 callbacks_after_mail w = take_batch (load_head (test_for_work w))
@@ -143,32 +111,11 @@ first_loads w = sample (load_mail_word w)
 abbrev pub take_root_flag : ℕ → ℕ
 take_root_flag w = suc (take_batch (load_head (first_loads w)))
 
--- a share of the global queue, above what follows it
-abbrev pub share : ℕ → ℕ
-share below = below + 1
-
-abbrev pub load_own_head : ℕ → ℕ
-load_own_head below = below + 2
-
-abbrev pub look_at_global : ℕ → ℕ
-look_at_global below = below + 3
-
--- a pop of the own queue, above what follows it
-abbrev pub store_pop : ℕ → ℕ
-store_pop below = below + 1
-
-abbrev pub load_pop_head : ℕ → ℕ
-load_pop_head below = below + 2
-
-abbrev pub exchange_pop : ℕ → Bool → ℕ
-exchange_pop below true = below + 1
-exchange_pop below false = below + 2
-
 abbrev pub count_down : ℕ → ℕ
-count_down w = take_root_flag w + 6
+count_down w = suc (load_pop_head (look_at_global (take_root_flag w)))
 
 abbrev pub begin_turn : ℕ → ℕ
-begin_turn w = take_root_flag w + 7
+begin_turn w = suc (count_down w)
 
 -- what was put off is made up above that
 abbrev pub made_up : ℕ → ℕ
@@ -178,10 +125,10 @@ abbrev pub next_turn : ℕ → ℕ
 next_turn w = sample (made_up w)
 
 abbrev pub withdraw : ℕ → ℕ
-withdraw w = next_turn w + 9
+withdraw w = suc (leave_search (next_turn w))
 
 abbrev pub disarm : ℕ → ℕ
-disarm w = next_turn w + 10
+disarm w = suc (withdraw w)
 
 -- WHERE THE PARTS LEAD
 
@@ -249,7 +196,7 @@ in_poll w InPoll.BeginPoll = 0
 in_poll w InPoll.Resume = act
 in_poll w InPoll.Act = act
 in_poll w (InPoll.JoinGate r) = suc act
-in_poll w InPoll.LoadSpawnHead = act + 10
+in_poll w InPoll.LoadSpawnHead = suc (load_push_head act)
 in_poll w InPoll.Pend = 0
 in_poll w InPoll.RemoveTask = suc (count_down w)
 
@@ -276,9 +223,9 @@ submits below false = submit below
 abbrev pub in_service : Bool → ℕ → InService → ℕ
 in_service full below InService.Sample = sample below
 in_service full below (InService.Reap r) = reap below r
-in_service full below (InService.PassPermit file b) = after_permit below b + 3
-in_service full below (InService.Signal worker b) = after_permit below b + 2
-in_service full below (InService.Raise ring worker b) = after_permit below b + 1
+in_service full below (InService.PassPermit file b) = pass_permit (after_permit below b)
+in_service full below (InService.Signal worker b) = set_latch (after_permit below b)
+in_service full below (InService.Raise ring worker b) = raise (after_permit below b)
 in_service full below InService.AdvanceWheel = advance_wheel below
 in_service full below (InService.Submit gate) = submits below full
 in_service full below InService.EnterLast = enter_last below
@@ -290,8 +237,8 @@ in_mail w InMail.TakeMail = take_mail w
 in_mail w (InMail.Apply applied taken) = apply w
 
 abbrev pub in_search : ℕ → InSearch → ℕ
-in_search w InSearch.LoadSearchCount = return_claimed w + 1
-in_search w InSearch.AddSearchCount = return_claimed w
+in_search w InSearch.LoadSearchCount = load_search_count w
+in_search w InSearch.AddSearchCount = add_search_count w
 
 -- the head that was loaded is the queue's still
 abbrev pub is_fresh : Things → ℕ → Head → Bool
@@ -301,9 +248,9 @@ abbrev pub in_scan : Configuration → Things → InScan → ℕ
 in_scan c x InScan.LoadScanHead = load_scan_head c.workers
 in_scan c x (InScan.LoadTheirHead y) = their_head (passing c.workers y.passed)
 in_scan c x (InScan.LoadTheirTail y h) = their_tail (passing c.workers y.passed) (is_fresh x (from_of c y) h)
-in_scan c x (InScan.ClaimHalf y h tail) = claim (passing c.workers y.passed) (is_fresh x (from_of c y) h)
+in_scan c x (InScan.ClaimHalf y h tail) = claim_half (passing c.workers y.passed) (is_fresh x (from_of c y) h)
 in_scan c x (InScan.MoveHalf from h) = move_half
-in_scan c x (InScan.ReleaseHalf from h) = release (is_fresh x from h)
+in_scan c x (InScan.ReleaseHalf from h) = release_half (is_fresh x from h)
 in_scan c x InScan.StoreMoved = store_moved
 
 abbrev pub in_look : ℕ → InLook → ℕ
@@ -343,10 +290,10 @@ in_pop c i x (InPop.ExchangePop h) b = exchange_pop (below_pop c.workers b) (is_
 in_pop c i x InPop.StorePop b = store_pop (below_pop c.workers b)
 
 abbrev pub in_push : ℕ → Things → ℕ → InPush → ℕ
-in_push i x below InPush.LoadPushHead = below + 9
-in_push i x below (InPush.StoreValue length) = below + 7
-in_push i x below (InPush.FlowOver h) = if is_fresh x i h then below + 8 else below + 10
-in_push i x below InPush.StoreOldest = below + 7
+in_push i x below InPush.LoadPushHead = load_push_head below
+in_push i x below (InPush.StoreValue length) = store_value below
+in_push i x below (InPush.FlowOver h) = if is_fresh x i h then flow_over below else suc (load_push_head below)
+in_push i x below InPush.StoreOldest = store_oldest below
 
 -- the idle set is as it was loaded
 abbrev pub is_same_set : WorkerSet → Idle → Bool
@@ -356,20 +303,20 @@ abbrev pub claims : WorkerSet → Idle → ℕ
 claims set x = claim_worker (has_any x) (is_same_set set x)
 
 abbrev pub in_global : Idle → ℕ → InGlobal → ℕ
-in_global x below InGlobal.Append = below + suc (load_set (has_any x))
+in_global x below InGlobal.Append = below + append (load_set (has_any x))
 in_global x below InGlobal.LoadGlobalSet = below + load_set (has_any x)
-in_global x below (InGlobal.AddGlobalCount set) = below + suc (claims set x)
-in_global x below InGlobal.ReturnGlobalCount = below + suc (load_set (has_any x))
+in_global x below (InGlobal.AddGlobalCount set) = below + raise_count (claims set x)
+in_global x below InGlobal.ReturnGlobalCount = below + return_global_count (load_set (has_any x))
 
 abbrev pub in_kick : Idle → ℕ → InKick → ℕ
-in_kick x below InKick.LoadKickCount = below + suc (load_set (has_any x))
+in_kick x below InKick.LoadKickCount = below + load_kick_count (load_set (has_any x))
 in_kick x below InKick.LoadKickSet = below + load_set (has_any x)
-in_kick x below (InKick.ExchangeKickCount set) = below + suc (claims set x)
-in_kick x below InKick.ReturnKickCount = below + suc (suc (load_set (has_any x)))
+in_kick x below (InKick.ExchangeKickCount set) = below + raise_count (claims set x)
+in_kick x below InKick.ReturnKickCount = below + return_kick_count (load_set (has_any x))
 
 abbrev pub in_signal : ℕ → InSignal → ℕ
-in_signal below InSignal.SetLatch = below + 2
-in_signal below (InSignal.Raise ring) = below + 1
+in_signal below InSignal.SetLatch = set_latch below
+in_signal below (InSignal.Raise ring) = raise below
 
 -- of worker i at this place, with what else it has and shares
 abbrev pub rank : Configuration → ℕ → Desk → Things → Place → ℕ
@@ -391,7 +338,7 @@ rank c i d x (Place.WordWait p) = in_word_wait c.workers p
 rank c i d x (Place.Withdraw n) = in_withdraw c.workers n
 rank c i d x (Place.Closing p) = 0
 rank c i d x (Place.Pop p b) = in_pop c i x p b
-rank c i d x (Place.LeaveSearch b) = below_leave c.workers b + 8
+rank c i d x (Place.LeaveSearch b) = leave_search (below_leave c.workers b)
 rank c i d x (Place.Push p b) = in_push i x (below_push c.workers b) p
 rank c i d x (Place.Global p b) = in_global x.idle (below_push c.workers b) p
 rank c i d x (Place.Kick p b) = in_kick x.idle (below_kick c.workers b) p

@@ -1,16 +1,21 @@
 -- States to look at: workers that sleep, on a ring or on wake words, with one thing changed.
 use Rattle.std.specs.Prelude.{true, [], ◌∷◌, Some, slice_set}
 use Rattle.exec_outcomes.specs.declared.outcome.Outcome.TheVariants.{Success}
-use Rattle.exec_machine.specs.{declared.state.{Forwarding.TheVariants.Applied, Request.Request}, World.{World, no_open, task_of}}
+use Rattle.exec_machine.specs.{declared.state.{Forwarding.TheVariants.Applied, Request.Request}, Tests.set_request, World.{World, no_open, task_of}}
 use Rattle.exec_machine.specs.declared.state.RequestPhase.TheVariants as phase
 use Rattle.exec_machine.specs.declared.state.Waiting.TheVariants as waiting
+use Rattle.exec_machine.specs.declared.state.WorkerPhase.TheVariants.{Ended}
 use Rattle.exec_moves.specs.{MailLogs.a_write, Plays.{Playing, desk_of}, State.{Desk, no_word}, Thing.set_word}
-use Rattle.exec_books.specs.Examples.{its_request, one_asleep}
+use Rattle.exec_books.specs.Examples.{its_request, its_seat, one_asleep, with_seat}
 use Rattle.exec_rest.specs.Examples.{rested, two_waiting}
 
 -- a worker that sleeps on its ring, in another world
 abbrev pub on_ring : World → Playing
 on_ring w = record one_asleep { world = w }
+
+-- that worker has ended, with this request
+abbrev pub ended_with : Request → World
+ended_with r = let w = with_seat (record its_seat { phase = Ended }) in record w { common = set_request w.common 0 r }
 
 -- two that sleep on their wake words, worker 1 with another desk
 abbrev pub second : Desk

@@ -1,8 +1,9 @@
 //! Worked examples of what is settled.
 
 ghost use Rattle.std.specs.Prelude.{◌≡◌, true, false, [], ◌∷◌, Some, None};
+ghost use Rattle.exec_outcomes.specs.declared.outcome.Outcome.TheVariants.{Success};
 ghost use Rattle.exec_machine.specs.Progress.{IsRightlyAsleep};
-ghost use Rattle.exec_machine.specs.declared.state.RequestPhase.TheVariants.{Queued, Staged};
+ghost use Rattle.exec_machine.specs.declared.state.RequestPhase.TheVariants.{Queued, Resolved, Staged};
 ghost use Rattle.exec_moves.specs.declared.handing.{AfterSignal.{AfterSignal}, InSignal.TheVariants.{SetLatch}};
 ghost use Rattle.exec_moves.specs.declared.idling.AfterWait.{AfterWait, TheVariants.Begin};
 ghost use Rattle.exec_moves.specs.declared.idling.{InRingWait.InRingWait, InWordWait.InWordWait};
@@ -16,8 +17,8 @@ ghost use Rattle.exec_books.specs.Examples.{one_send, its_own, its_request, with
 ghost use Rattle.exec_rest.specs.Examples.{rested, two_waiting};
 ghost use Rattle.exec_settled.specs.{Awaited.IsAwaited, Given.{IsGiven, passes_at}};
 ghost use Rattle.exec_settled.specs.Permits.{IsPermitted, hands_to, is_past};
-ghost use Rattle.exec_settled.specs.Settled.{IsSettled, ends_ring_wait, waits_closing};
-ghost use Rattle.exec_settled.specs.Examples.{on_ring, second, with_second};
+ghost use Rattle.exec_settled.specs.Settled.{HaveLetGo, IsSettled, ends_ring_wait, waits_closing};
+ghost use Rattle.exec_settled.specs.Examples.{ended_with, on_ring, second, with_second};
 ghost use Rattle.exec_settled.specs.Examples.{waits_elsewhere, waits_here, with_permit, with_permit_told};
 
 /// What is known of a worker by its place. In the service of a turn it has passed the gate of open 0 once it is to look
@@ -75,4 +76,12 @@ pub fn a_permit_asleep()
 pub fn a_wait_for_what_came()
     ensures here { IsAwaited two_waiting.config waits_here → ⊥ }
     ensures elsewhere { IsAwaited two_waiting.config waits_elsewhere → ⊥ }
+{}
+
+/// A worker that has ended has let go of its request where that is over and released. It is refused with one that is over,
+/// and not released, and with one that flies, though that is said to be released.
+pub fn an_end()
+    ensures let_go { HaveLetGo (ended_with (record its_request { phase = Resolved Success; released = true })) }
+    ensures unreleased { HaveLetGo (ended_with (record its_request { phase = Resolved Success })) → ⊥ }
+    ensures flying { HaveLetGo (ended_with (record its_request { released = true })) → ⊥ }
 {}

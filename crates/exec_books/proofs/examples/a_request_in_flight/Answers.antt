@@ -2,7 +2,7 @@ use Rattle.std.proofs.Common.{◌≡◌, ℕ, zero, suc, ◌<◌, ◌==◌, ◌+
 use Rattle.std.proofs.lemmas.Bool.{true≢false, false≢true, ne_eqb}
 use Rattle.exec_machine.specs.{declared.state.{Forwarding.TheVariants.{Unsent}, Request.Request}, Deadlines.{is_after, next_due, rest_until}, Tests.{has_ended, is_asleep, is_awake, is_of_file, is_resolved}, World.{no_request, own_of, request_of, seat_of, sleeper_of}}
 use Rattle.exec_machine.specs.declared.state.Rest.TheVariants as rest
-use Rattle.exec_books.specs.{Booked.{unreleased_of}, Examples.{its_own, its_request, its_seat, sending}, Listed.{AreListed, is_in}}
+use Rattle.exec_books.specs.{Booked.{flying_of, unreleased_of}, Examples.{its_own, its_request, its_seat, sending}, Listed.{AreListed, is_in}}
 use Rattle.exec_books.proofs.Listed.{no_listed}
 use Rattle.exec_books.proofs.examples.a_request_in_flight.Goals as goal
 
@@ -23,6 +23,9 @@ listed (suc k) = no_listed its_own [] (suc k)
 counted : its_own.unreleased ≡ unreleased_of 0 sending.common.requests
 counted = let one : its_own.unreleased ≡ 1 = refl in let there : unreleased_of 0 sending.common.requests ≡ 1 = refl in one ∙ sym there
 
+flying : its_own.in_flight ≡ flying_of 0 sending.common.requests
+flying = let one : its_own.in_flight ≡ 1 = refl in let there : flying_of 0 sending.common.requests ≡ 1 = refl in one ∙ sym there
+
 due : its_seat.rest ≡ rest_until (next_due sending.common 0)
 due = let until : its_seat.rest ≡ rest.Until 10000000 = refl in let next : rest_until (next_due sending.common 0) ≡ rest.Until 10000000 = refl in until ∙ sym next
 
@@ -40,6 +43,7 @@ returns-clause-booked c =
       undated = each_request (λ r. is_of_file r.operation.kind ≡ true → (r.operation.deadline ≡ None) × (r.timer ≡ None)) (λ h. absurd (false≢true h)) (λ h. absurd (false≢true h));
       let_go = each_request (λ r. r.released ≡ true → is_resolved r.phase ≡ true) (λ h. absurd (false≢true h)) (λ h. refl);
       counted = each (λ i. (own_of sending i).unreleased ≡ unreleased_of i s.requests) counted (λ i. sym (ap (λ b. 0 + cond (b && true) 1 0) (ne_eqb 0 (suc i) (λ same. omega (arith, same)))));
+      flying = each (λ i. (own_of sending i).in_flight ≡ flying_of i s.requests) flying (λ i. sym (ap (λ b. 0 + cond (b && true) 1 0) (ne_eqb 0 (suc i) (λ same. omega (arith, same)))));
       untold = λ i k h. absurd (false≢true (sym (each (λ i. is_in k (own_of sending i).untold ≡ false) refl (λ i. refl) i) ∙ h));
       over = each (λ i. has_ended (seat_of s i).phase ≡ true → ((own_of sending i).unreleased ≡ 0) × ((z : ℕ) → is_asleep i (sleeper_of s z) ≡ false)) (λ h. absurd (false≢true h)) (λ i h. (refl, λ z. not_asleep (0 == suc i)));
       requests = λ k within. each_request (λ r. r.worker < length s.seats) (omega (arith, one)) (omega (arith, one)) k;

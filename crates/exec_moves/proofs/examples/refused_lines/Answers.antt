@@ -9,6 +9,9 @@ returns c =
       leaves_out_the_reap = departs _ _ _ _ (λ it. is_serve it.0.said) refl refl refl;
       always_defers = departs _ _ _ _ (λ it. is_serve it.0.said) refl refl refl;
       sleeps_at_once = departs _ _ _ _ (λ it. isnt_turn it.0.said) refl refl refl;
+      leaves_out_the_service = departs _ _ _ _ (λ it. is_turn it.0.said) refl refl refl;
       never_closes = departs _ _ _ _ (λ it. is_turn it.0.said) refl refl refl;
+      leaves_the_queue_open = departs _ _ _ _ (λ it. isnt_turn it.0.said) refl refl refl;
       never_stops = departs _ _ _ _ (λ it. is_turn it.0.said) refl refl refl;
+      never_ends = departs _ _ _ _ (λ it. is_turn it.0.said) refl refl refl;
     }
