@@ -4,9 +4,9 @@
 //! before the next visit. One that is polled meanwhile ends with its poll, and the runnable of one that waits for its
 //! poll is stale from then on.
 
-ghost use Rattle.std.specs.Prelude.{◌≡◌, ◌<◌, ◌&&◌, not, true, length};
+ghost use Rattle.std.specs.Prelude.{◌≡◌, ◌<◌, ◌&&◌, not};
 ghost use Rattle.exec_task.specs.TaskSet.{IsFor};
-ghost use Rattle.exec_parts.specs.{Ending.{ClearsTask, MayClear}, Phased.TurnsChair, Pooled.Visited};
+ghost use Rattle.exec_parts.specs.{Ending.{ClearsTask, MayClear}, Pooled.Visited};
 
 use exec_machine::event::Event;
 use exec_moves::handing::AfterCancels;
@@ -19,7 +19,7 @@ use exec_task::drain::Drain;
 use exec_task::tasks::Tasks;
 
 /// Visits a shard of the task set. The caller must know that the drain is one of this set, and not over.
-pub fn visit(worker: &mut Worker, drain: Drain, set: &mut Tasks<()>) -> Event
+pub(crate) fn visit(worker: &mut Worker, drain: Drain, set: &mut Tasks<()>) -> Event
     requires its { IsFor drain set.old }
     requires more { 0 < drain.left }
     ensures event { result ≡ Event.Turn }
@@ -40,7 +40,7 @@ pub fn visit(worker: &mut Worker, drain: Drain, set: &mut Tasks<()>) -> Event
 /// Clears the task that a visit has taken, and lets go of what it holds where that ends it: one that was over
 /// before has let go of that already. The caller must know that there is such a task, and where this ends it that
 /// the worker owes no letters and can let go of what the task holds, and of a sleeper that it waits for.
-pub fn clear<B: Scripted + Drop>(
+pub(crate) fn clear<B: Scripted + Drop>(
     worker: &mut Worker,
     task: usize,
     drain: Drain,
@@ -57,19 +57,6 @@ pub fn clear<B: Scripted + Drop>(
     worker.let_go_if(over, task, shared);
     worker.place = worker.after_cancels(AfterCancels::Visit { drain });
     Event::Clear { task }
-}
-
-/// Passes the shutdown barrier. The caller must know that the worker has a seat.
-pub fn leave_barrier<B: Drop>(worker: &mut Worker, shared: &mut Shared<B>) -> Event
-    requires there { worker.old.index < length shared.old.seats.items }
-    ensures event { result ≡ Event.Turn }
-    ensures worker { worker.new ≡ record worker.old { place = Place.Closing InClosing.CloseMailbox } }
-    ensures chair { TurnsChair worker.old.index (λ chair. record chair { left = true }) shared.old shared.new }
-    ensures kept { shared.new ≡ record shared.old { seats = shared.new.seats } }
-{
-    shared.seats[worker.index].left = true;
-    worker.place = Place::Closing(InClosing::CloseMailbox);
-    Event::Turn
 }
 
 /// Whether a task ends by what it has become.

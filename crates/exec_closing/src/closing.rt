@@ -10,7 +10,7 @@ ghost use Rattle.std.specs.Prelude.{◌+◌, ◌<◌, ◌≡◌, ◌||◌, [], t
 ghost use Rattle.exec_words.specs.{Inbox.{batch_handed, batch_taken, shut}, Word.next_batch as batch_after};
 ghost use Rattle.exec_moves.specs.{Close.batches_closed, Parts.{first_pop, tells_from}, declared.handing.{AfterSignal.AfterSignal, InSignal.InSignal}};
 
-use crate::clearing::{clear, leave_barrier, visit};
+use crate::clearing::{clear, visit};
 use exec_machine::event::Event;
 use exec_machine::state::WorkerPhase;
 use exec_moves::handing::{AfterCallbacks, AfterPop, AfterSend};
@@ -28,7 +28,9 @@ use exec_words::reserved::Reserved;
 use exec_words::word::next_batch;
 use std::alloc::Global;
 
-/// Takes the next step of a closing. The caller must know that the worker has not ended.
+/// Takes the next step of a closing. The caller must know that the worker is at this place and sound with what all
+/// share, that the balances of all parties hold, that the worker has not ended, and that all of the pool have passed the
+/// barrier where it has.
 pub fn close_down<B: Scripted + Drop>(
     worker: &mut Worker,
     alloc: Global,
@@ -58,7 +60,7 @@ pub fn close_down<B: Scripted + Drop>(
 }
 
 /// The closing begins. Worker zero closes the task set. The caller must know that the worker has a seat.
-pub fn close<B: Drop>(worker: &mut Worker, shared: &mut Shared<B>) -> Event
+fn close<B: Drop>(worker: &mut Worker, shared: &mut Shared<B>) -> Event
     requires there { worker.old.index < length shared.old.seats.items }
     ensures event { result ≡ Event.Close }
     ensures worker { worker.new ≡ record worker.old {
@@ -87,7 +89,7 @@ pub fn close<B: Drop>(worker: &mut Worker, shared: &mut Shared<B>) -> Event
 }
 
 /// Closes the global queue. What it held is let go: its tasks are drained.
-pub fn close_queue<B: Drop>(worker: &mut Worker, alloc: Global, shared: &mut Shared<B>) -> Event
+fn close_queue<B: Drop>(worker: &mut Worker, alloc: Global, shared: &mut Shared<B>) -> Event
     ensures event { result ≡ Event.Turn }
     ensures worker { worker.new ≡ record worker.old { place = Place.Closing InClosing.OpenBarrier } }
     ensures kept { shared.new ≡ record shared.old { global = record { values = []; places = 0; closed = true } } }
@@ -98,7 +100,7 @@ pub fn close_queue<B: Drop>(worker: &mut Worker, alloc: Global, shared: &mut Sha
 }
 
 /// Opens the shutdown barrier.
-pub fn open_barrier<B: Drop>(worker: &mut Worker, shared: &mut Shared<B>) -> Event
+fn open_barrier<B: Drop>(worker: &mut Worker, shared: &mut Shared<B>) -> Event
     ensures event { result ≡ Event.Turn }
     ensures worker { worker.new ≡ record worker.old { place = Place.Closing InClosing.Stop } }
     ensures kept { shared.new ≡ record shared.old { barrier_open = true } }
@@ -109,7 +111,7 @@ pub fn open_barrier<B: Drop>(worker: &mut Worker, shared: &mut Shared<B>) -> Eve
 }
 
 /// Stops the pool. The roots of the other workers are told next.
-pub fn stop<B: Drop>(worker: &mut Worker, shared: &mut Shared<B>) -> Event
+fn stop<B: Drop>(worker: &mut Worker, shared: &mut Shared<B>) -> Event
     ensures event { result ≡ Event.Stop }
     ensures worker { worker.new ≡ record worker.old { place = tells_from shared.old.config 1 } }
     ensures kept { shared.new ≡ record shared.old { stopped = true } }
@@ -121,7 +123,7 @@ pub fn stop<B: Drop>(worker: &mut Worker, shared: &mut Shared<B>) -> Event
 
 /// Sends the root of this worker the message that the pool is stopped. The caller must know that there is such a
 /// worker, and that an open mailbox has a place for the message where no other wake of the root is in it.
-pub fn tell_root<B: Drop>(worker: &mut Worker, other: usize, shared: &mut Shared<B>) -> Event
+fn tell_root<B: Drop>(worker: &mut Worker, other: usize, shared: &mut Shared<B>) -> Event
     requires there { other < length shared.old.seats.items }
     requires place { OfChair other shared.old (λ chair. HasRootPlace chair.mailbox) }
     ensures event { OfChair other shared.old (λ chair. result ≡ event_posted other chair.mailbox) }
@@ -138,9 +140,22 @@ pub fn tell_root<B: Drop>(worker: &mut Worker, other: usize, shared: &mut Shared
     worker.send_root(other, next, shared)
 }
 
+/// Passes the shutdown barrier. The caller must know that the worker has a seat.
+fn leave_barrier<B: Drop>(worker: &mut Worker, shared: &mut Shared<B>) -> Event
+    requires there { worker.old.index < length shared.old.seats.items }
+    ensures event { result ≡ Event.Turn }
+    ensures worker { worker.new ≡ record worker.old { place = Place.Closing InClosing.CloseMailbox } }
+    ensures chair { TurnsChair worker.old.index (λ chair. record chair { left = true }) shared.old shared.new }
+    ensures kept { shared.new ≡ record shared.old { seats = shared.new.seats } }
+{
+    shared.seats[worker.index].left = true;
+    worker.place = Place::Closing(InClosing::CloseMailbox);
+    Event::Turn
+}
+
 /// Closes the mailbox. What stood in it counts as a batch that was taken; that and what wasn't applied is let go.
 /// The caller must know that the worker has a seat.
-pub fn close_mailbox<B: Drop>(worker: &mut Worker, shared: &mut Shared<B>) -> Event
+fn close_mailbox<B: Drop>(worker: &mut Worker, shared: &mut Shared<B>) -> Event
     requires there { worker.old.index < length shared.old.seats.items }
     ensures event { result ≡ Event.Turn }
     ensures worker { OfChair worker.old.index shared.old (λ chair. worker.new
@@ -188,7 +203,7 @@ fn next_of_closing(worker: &Worker) -> Place
 /// Lets go of the request in the first slot that somebody holds. The caller must know that there is one, that it is
 /// there under its number, that there is room for two of each in what is to be told, and where it ends by this a
 /// place for it among the requests that have ended.
-pub fn orphan_next<B: Drop>(worker: &mut Worker, shared: &mut Shared<B>) -> Event
+fn orphan_next<B: Drop>(worker: &mut Worker, shared: &mut Shared<B>) -> Event
     requires may { MayOrphan worker.old shared.old }
     ensures orphans { Orphans worker.old worker.new shared.old shared.new result }
 {
@@ -208,7 +223,7 @@ pub fn orphan_next<B: Drop>(worker: &mut Worker, shared: &mut Shared<B>) -> Even
 /// Lets go of the sleeper in the first slot that has one, and tells its task. It counts as removed once the worker
 /// has ended. The caller must know that there is one, that it is there under its number, and that there is room for
 /// one more wake and one more end to be told.
-pub fn close_sleeper<B: Drop>(worker: &mut Worker, shared: &mut Shared<B>) -> Event
+fn close_sleeper<B: Drop>(worker: &mut Worker, shared: &mut Shared<B>) -> Event
     requires may { MayCloseSleeper worker.old shared.old }
     ensures closes { ClosesSleeper worker.old worker.new shared.old shared.new result }
 {
@@ -222,7 +237,7 @@ pub fn close_sleeper<B: Drop>(worker: &mut Worker, shared: &mut Shared<B>) -> Ev
 }
 
 /// The worker has ended, and none of its sleepers is there any more. The caller must know that it has a seat.
-pub fn end<B: Drop>(worker: &mut Worker, shared: &mut Shared<B>) -> Event
+fn end<B: Drop>(worker: &mut Worker, shared: &mut Shared<B>) -> Event
     requires there { worker.old.index < length shared.old.seats.items }
     ensures event { result ≡ Event.End }
     ensures worker { worker.new ≡ record worker.old { place = Place.Closing InClosing.End } }

@@ -15,7 +15,7 @@ use Rattle.exec_invariants.specs.{Gates.{AreLinedUp, key_for}, Sound.Sound}
 use Rattle.exec_parts.proofs.Facts.{false_from_ne_true}
 use Rattle.exec_invariants.proofs.{Gated.durable_of_file, SparedRecord.there_within}
 use Rattle.exec_core.specs.{declared.executor.Core.Core, Lift.{Stands, Shows}, Turns.{IsOrderly, TakeTurns, has_permit}}
-use Rattle.exec_core.proofs.QueuedOnce.{queues_once, slot_of}
+use Rattle.exec_core.proofs.{QueuedOnce.slot_of, RootsOnce.queues_once}
 
 -- THE PERMIT
 

@@ -16,6 +16,8 @@ pub mod InTurn
 pub mod Runnable
 pub mod GivenWorkers
 pub mod Placed
+pub mod RootsOnce
+pub mod OneTask
 pub mod GivenGatesLines
 pub mod GivenGates
 pub mod GivenWaitsSeen

@@ -80,7 +80,7 @@ module _ {B : Type 0} where
   abed_flag = grind arith
 
   -- a root is that of a worker
-  home_within : (n count : ℕ) (tasks : List (TaskSlot B)) → AreHome n count tasks → (t j : ℕ) (slot : TaskSlot B) → slice_get tasks t ≡ Some slot → slot.home ≡ Some j → j < count
+  pub home_within : (n count : ℕ) (tasks : List (TaskSlot B)) → AreHome n count tasks → (t j : ℕ) (slot : TaskSlot B) → slice_get tasks t ≡ Some slot → slot.home ≡ Some j → j < count
   home_within = grind arith
 
 -- LISTS

@@ -10,11 +10,11 @@ use Rattle.exec_parts.specs.{declared.parts.{seat.Seat.Seat as Chair, task_slot.
 use Rattle.exec_polling.specs.{declared.caller.Caller.Caller, Calling.desk_of_caller}
 use Rattle.exec_invariants.specs.{Places.{is_number, one_if}, Whole.{HasOne, queued, runnables_in, stock}}
 use Rattle.exec_steps.specs.Together.{all_have}
-use Rattle.exec_core.specs.{declared.executor.Core.Core, Lift.{Stands, Shows, playing}, Once.{IsOnce, QueuesOnce, polls_of, runnables_of, times}}
+use Rattle.exec_core.specs.{declared.executor.Core.Core, Lift.{Stands, playing}, Once.{IsOnce, polls_of, runnables_of, times}}
 
 -- COUNTS of what was mapped
 
-counted : (t : ℕ) (rs : List Runnable) → times t (map (λ r. r.task.0) rs) ≡ runnables_in t rs
+pub counted : (t : ℕ) (rs : List Runnable) → times t (map (λ r. r.task.0) rs) ≡ runnables_in t rs
 counted t [] = refl
 counted t (r ∷ rs) = grind (arith, sum_by-cons (λ u. cond (u == t) 1 0) r.task.0 (map (λ q. q.task.0) rs), counted t rs, sum_by-cons (λ q. cond (q.task.0 == t) 1 0) r rs)
 
@@ -22,11 +22,11 @@ mapped_after : (xs ys : List Runnable) → map (λ r. r.task.0) xs ++ map (λ r.
 mapped_after [] ys = refl
 mapped_after (x ∷ xs) ys = ap (λ zs. x.task.0 ∷ zs) (mapped_after xs ys)
 
-in_hand : (o : Option Runnable) → option_to_list (option_map (λ r. r.task.0) o) ≡ map (λ (r : Runnable). r.task.0) (option_to_list o)
+pub in_hand : (o : Option Runnable) → option_to_list (option_map (λ r. r.task.0) o) ≡ map (λ (r : Runnable). r.task.0) (option_to_list o)
 in_hand None = refl
 in_hand (Some r) = refl
 
-in_hands : (t : ℕ) (o : Option Runnable) (loot : List Runnable) → times t (option_to_list (option_map (λ r. r.task.0) o) ++ map (λ r. r.task.0) loot) ≡ runnables_in t (option_to_list o ++ loot)
+pub in_hands : (t : ℕ) (o : Option Runnable) (loot : List Runnable) → times t (option_to_list (option_map (λ r. r.task.0) o) ++ map (λ r. r.task.0) loot) ≡ runnables_in t (option_to_list o ++ loot)
 in_hands t o loot =
     ap (λ xs. times t (xs ++ map (λ (r : Runnable). r.task.0) loot)) (in_hand o) ∙ ap (times t) (mapped_after (option_to_list o) loot) ∙ counted t (option_to_list o ++ loot)
 
@@ -58,7 +58,7 @@ all_poll_so t (w ∷ ws) cs =
     let all = sum_by-cons (λ (d : Desk). one_if (is_number (polls_at d.place) t)) (desk_of w) (map desk_of ws) in
     omega (arith, rest, all)
 
-queues_so : (t : ℕ) (seats : List Chair) → sum_by (λ (q : Queue ℕ). times t (q.values ++ q.held)) (map queue_at seats) ≡ sum_by (λ chair. runnables_in t (queued chair)) seats
+pub queues_so : (t : ℕ) (seats : List Chair) → sum_by (λ (q : Queue ℕ). times t (q.values ++ q.held)) (map queue_at seats) ≡ sum_by (λ chair. runnables_in t (queued chair)) seats
 queues_so t [] = refl
 queues_so t (chair ∷ seats) =
     let one = ap (times t) (mapped_after chair.queue.values chair.queue.held) ∙ counted t (queued chair) in
@@ -78,28 +78,29 @@ module _ {B : Type 0} where
 pub slot_of : {A C : Type 0} (f : A → C) (xs : List A) (t : ℕ) (y : C) → slice_get (map f xs) t ≡ Some y → (x : A) × (slice_get xs t ≡ Some x) × (f x ≡ y)
 slot_of = grind (arith, slice_get-map)
 
-module _ {B L : Type 0} (left : B → L) (runs : L → Plan → Option ℕ → Type 0) (holds : L → Option Said → List ℕ) (spot : L → Option Said → Spot) where
-  pub queues_once : (p : Plan) (c : Core B) (x : Playing) → Stands c → Shows left runs holds spot p c x → QueuesOnce x
-  queues_once p c x stands shows = subst QueuesOnce shows.is once
-    where
-      once : QueuesOnce (playing left spot p c)
-      once t it there ordinary =
-          let s = c.shared in
-          let ws = c.workers.items in
-          let cs = c.callers.items in
-          let whole = stands.together.whole in
-          let found = slot_of (task_seen left spot) s.tasks.items t it there in
-          let slot : TaskSlot B = found.0 in
-          let home : slot.home ≡ None = ap (λ (u : Task). u.home) found.2 ∙ ordinary in
-          let many : runnables_of t (playing left spot p c) ≡ (all_have ws cs).runnables t + stock t s =
-          let hands = all_have_so t ws cs in
-          let queues = queues_so t s.seats.items in
-          let global = counted t s.global.values in
-          omega (arith, hands, queues, global) in
-          let polls : polls_of t (playing left spot p c) ≡ (all_have ws cs).polls t = sym (all_poll_so t ws cs) in
-          subst (λ (u : Task). IsOnce (s.set.closed || s.global.closed) u.phase (runnables_of t (playing left spot p c)) (polls_of t (playing left spot p c))) found.2
-          (subst (λ n. IsOnce (s.set.closed || s.global.closed) (phase_seen slot.cell.phase slot.poller) n (polls_of t (playing left spot p c))) (sym many)
-          (once_by (s.set.closed || s.global.closed) slot.cell.phase slot.poller ((all_have ws cs).runnables t + stock t s) (polls_of t (playing left spot p c)) (whole.runnables t slot found.1 home) (polls ∙ whole.polls t slot found.1 home)))
+module _ {B L : Type 0} (left : B → L) (spot : L → Option Said → Spot) (p : Plan) (c : Core B) (stands : Stands c) where
+  abbrev shown : Playing
+  shown = playing left spot p c
+
+  pub ordinary_once : (t : ℕ) (it : Task) → slice_get shown.world.common.tasks t ≡ Some it → it.home ≡ None
+      → IsOnce (shown.world.common.set_closed || shown.world.common.queue_closed) it.phase (runnables_of t shown) (polls_of t shown)
+  ordinary_once t it there ordinary =
+      let s = c.shared in
+      let ws = c.workers.items in
+      let cs = c.callers.items in
+      let whole = stands.together.whole in
+      let found = slot_of (task_seen left spot) s.tasks.items t it there in
+      let slot : TaskSlot B = found.0 in
+      let home : slot.home ≡ None = ap (λ (u : Task). u.home) found.2 ∙ ordinary in
+      let many : runnables_of t shown ≡ (all_have ws cs).runnables t + stock t s =
+      let hands = all_have_so t ws cs in
+      let queues = queues_so t s.seats.items in
+      let global = counted t s.global.values in
+      omega (arith, hands, queues, global) in
+      let polls : polls_of t shown ≡ (all_have ws cs).polls t = sym (all_poll_so t ws cs) in
+      subst (λ (u : Task). IsOnce (s.set.closed || s.global.closed) u.phase (runnables_of t shown) (polls_of t shown)) found.2
+      (subst (λ n. IsOnce (s.set.closed || s.global.closed) (phase_seen slot.cell.phase slot.poller) n (polls_of t shown)) (sym many)
+      (once_by (s.set.closed || s.global.closed) slot.cell.phase slot.poller ((all_have ws cs).runnables t + stock t s) (polls_of t shown) (whole.runnables t slot found.1 home) (polls ∙ whole.polls t slot found.1 home)))
 
 -- A POLL THAT ENDS PENDING
 

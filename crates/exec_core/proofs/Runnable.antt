@@ -86,7 +86,7 @@ module _ (c : Configuration) (x : Playing) (placed : IsPlaced c x) (held : IsRes
 
   ordinary_by : HasEnded ⊎ ((i : ℕ) → i < 64 → is_in_pool c x i ≡ true → has_ended (seat_of x.world.common i).phase ≡ false) → (t : ℕ) (it : Task) → QueuesOnce x → slice_get x.world.common.tasks t ≡ Some it → it.home ≡ None → is_runnable it.phase ≡ false
   ordinary_by (inl ended) t it once there is = placed.done ended.worker ended.pooled ended.over t it there is
-  ordinary_by (inr going) t it once there is = is_waiting (λ i pool. going i (placed.laid.pool i pool) pool) t it.phase (once t it there is)
+  ordinary_by (inr going) t it once there is = is_waiting (λ i pool. going i (placed.laid.pool i pool) pool) t it.phase (once.ordinary t it there is)
 
   -- a root's flag is set where its worker sleeps, which a worker asleep has found unset
   root_waits : (t : ℕ) (it : Task) (j : ℕ) (b : Bool) → is_runnable it.phase ≡ b → slice_get x.world.common.tasks t ≡ Some it → it.home ≡ Some j → b ≡ false

@@ -8,7 +8,7 @@ use Rattle.exec_books.{proofs.Kept.{booked_then, first_booked}}
 use Rattle.exec_rest.{specs.AtRest.IsPlaced, proofs.{Bare.{bare_first, bare_goes_on}, First.first_restful, Fresh.{fresh_first, fresh_goes_on}, OtherMail.first_posted, Shut.{shut_first, shut_goes_on}, Step.{goes_on, posted_goes_on}}}
 use Rattle.exec_settled.{specs.Given.IsGiven, proofs.{AwaitedKept.{awaited_then, first_awaited}, PermittedKept.{first_permitted, permitted_then}, Rightly.rightly, SettledKept.{first_settled, settled_then}}}
 use Rattle.exec_core.specs.{Lift.{Stands, Shows}, Once.QueuesOnce, Steady.{IsSteady, IsSteadyThere}, declared.executor.Core.Core}
-use Rattle.exec_core.proofs.{Given.are_given, Placed.are_placed, QueuedOnce.queues_once, Runnable.at_rest}
+use Rattle.exec_core.proofs.{Given.are_given, Placed.are_placed, RootsOnce.queues_once, Runnable.at_rest}
 
 -- WHERE A STEP LEADS
 

@@ -3,8 +3,8 @@
 use Rattle.std.specs.Prelude.{◌≡◌, ℕ, ◌+◌, ◌≤◌, ◌==◌, ◌||◌, Bool, false, List, ◌++◌, count_by, sum_by, slice_get, Some, None, option_to_list}
 use Rattle.exec_machine.specs.{declared.state.TaskPhase.TaskPhase, World.Task}
 use Rattle.exec_machine.specs.declared.state.TaskPhase.TheVariants as phase
-use Rattle.exec_moves.specs.{Plays.Playing, Seen.polls_at}
-use Rattle.exec_invariants.specs.Places.{is_number, one_if}
+use Rattle.exec_moves.specs.{Plays.Playing, Seen.polls_at, State.Desk}
+use Rattle.exec_invariants.specs.Places.{begins_at, is_number, one_if}
 
 -- how often task t is among these
 abbrev pub times : ℕ → List ℕ → ℕ
@@ -31,8 +31,17 @@ IsOnce gone (phase.Running i) runnables polls = (runnables ≡ 0) × (polls ≡ 
 IsOnce gone (phase.Noted i) runnables polls = (runnables ≡ 0) × (polls ≡ 1)
 IsOnce gone phase.Done runnables polls = (runnables ≤ 1) × (gone ≡ false → runnables ≡ 0) × (polls ≡ 0)
 
--- So it is with each ordinary task.
-abbrev pub QueuesOnce : Playing → Type 0
-QueuesOnce x =
-    (t : ℕ) (it : Task) → slice_get x.world.common.tasks t ≡ Some it → it.home ≡ None
-    → IsOnce (x.world.common.set_closed || x.world.common.queue_closed) it.phase (runnables_of t x) (polls_of t x)
+-- A ROOT, at the desk of its worker: its runnable is in the root flag or in the hand, and there just where the root is polled
+-- next. No runnable of it is anywhere else, and nobody else polls it.
+pub record IsRootOnce (t : ℕ) (phase : TaskPhase) (d : Desk) (x : Playing) : Type 0 where
+  pub once : IsOnce false phase (one_if d.root_ready + one_if (is_number d.hand t)) (one_if (is_number (polls_at d.place) t))
+  pub hand : is_number d.hand t ≡ is_number (begins_at d.place) t
+  pub runnables : runnables_of t x ≡ one_if (is_number d.hand t)
+  pub polls : polls_of t x ≡ one_if (is_number (polls_at d.place) t)
+
+-- So it is with each ordinary task, and with each root at the desk of its worker, which has no other.
+pub record QueuesOnce (x : Playing) : Type 0 where
+  pub ordinary : (t : ℕ) (it : Task) → slice_get x.world.common.tasks t ≡ Some it → it.home ≡ None
+      → IsOnce (x.world.common.set_closed || x.world.common.queue_closed) it.phase (runnables_of t x) (polls_of t x)
+  pub roots : (t i : ℕ) (it : Task) → slice_get x.world.common.tasks t ≡ Some it → it.home ≡ Some i → (d : Desk) × (slice_get x.desks i ≡ Some d) × IsRootOnce t it.phase d x
+  pub alone : (t u i : ℕ) (it other : Task) → slice_get x.world.common.tasks t ≡ Some it → slice_get x.world.common.tasks u ≡ Some other → it.home ≡ Some i → other.home ≡ Some i → t ≡ u

@@ -15,7 +15,7 @@ pub record TakeTurns (requests : List Request) : Type 0 where
   -- a write or a sync that isn't over was not cancelled, whether somebody waits for it or nobody does
   pub uncancelled : (k : ℕ) (r : Request) → slice_get requests k ≡ Some r → is_kept r.operation.kind ≡ true → is_resolved r.phase ≡ false → r.cancelled ≡ false
 
--- What holds in each state of a log: each ordinary task is queued and polled as its phase says, and requests of files take turns.
+-- What holds in each state of a log: each task is queued and polled as its phase says, and requests of files take turns.
 pub record IsOrderly (x : Playing) : Type 0 where
   pub once : QueuesOnce x
   pub turns : TakeTurns x.world.common.requests

@@ -167,10 +167,11 @@ impl<B: Scripted + Drop> Core<B> {
         }
     }
 
-    /// Takes the step if it may be taken, and answers its line. A caller's spawn carries the body of the task. Only a step
-    /// that may be taken can want memory. After an `Err` the executor stands as before the step, and is spent. The caller
-    /// must know that it isn't spent, and that its bodies perform a plan, in which the body that is carried begins the script
-    /// of that number.
+    /// Takes the step if it may be taken, and answers its line. A caller's spawn carries the body of the task. An `Err`
+    /// comes only of a step that may be taken, for want of memory or where a number is at its end: of tasks, workers,
+    /// requests or sleepers (below 2^32), or of the peers of a listener (below 2^64). After an `Err` the executor stands as
+    /// before the step, and is spent. The caller must know that it isn't spent, and that its bodies perform a plan, in
+    /// which the body that is carried begins the script of that number.
     pub fn apply(
         &mut self,
         alloc: Global,

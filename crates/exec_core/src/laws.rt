@@ -12,8 +12,9 @@ use exec_base::spinner::SpinnerConfig;
 use exec_parts::scripted::Scripted;
 
 /// In each state an ordinary task that is to be polled has one runnable, in one queue or one hand, until the task set or
-/// the global queue is closed, and then one at most; one that is polled has none. A poll that ends pending gives one
-/// where a wake came in it, and none where the task was cleared; one of a root sets its flag again instead.
+/// the global queue is closed, and then one at most; one that is polled has none. A root that is to be polled has one in
+/// any case, in the flag or the hand of its worker; any other root has none. A poll that ends pending gives one where a
+/// wake came in it, and none where the task was cleared; one of a root sets its flag again instead.
 pub fn a_task_is_queued_once<B: Scripted + Drop>()
     ensures once { (p : Plan) (c : Core B) (x : Playing) → Stands c → Shows B.left B.runs B.holds B.spot p c x →
         QueuesOnce x }

@@ -4,7 +4,7 @@ ghost use Rattle.std.specs.Prelude.{◌≡◌, ◌<◌, ◌==◌, ◌&&◌, not,
 ghost use Rattle.exec_base.specs.Slab.{value_at};
 ghost use Rattle.exec_words.specs.Queue.{room_of, published};
 ghost use Rattle.exec_waiters.specs.{Told.{HasPlaces, Tells}, Events.told_by_orphan};
-ghost use Rattle.exec_driver.specs.{Driving.seen, Steps.{let_go, told_by_let_go}};
+ghost use Rattle.exec_driver.specs.{Driving.seen, Punctual.IsPunctual, Steps.{let_go, told_by_let_go}};
 ghost use Rattle.exec_parts.specs.{View.driver_of, Roles.is_pool};
 
 use exec_driver::home::Home;
@@ -79,6 +79,8 @@ impl<'a> Local<'a> {
         requires room { HasPlaces self.old.worker.now.home.deferred 2 }
         ensures let_go { driver_of self.new.worker.now ≡ let_go (driver_of self.old.worker.now) id }
         ensures told { Tells self.old.worker.now.home.deferred self.new.worker.now.home.deferred (told_by_let_go (driver_of self.old.worker.now) id (told_by_orphan id.0 (value_at (driver_of self.old.worker.now).requests id.0))) }
+        ensures punctual { IsPunctual (driver_of self.old.worker.now) → IsPunctual (driver_of self.new.worker.now) }
+        ensures same { self.new.worker.now ≡ record self.old.worker.now { home = record self.old.worker.now.home { driver = self.new.worker.now.home.driver; deferred = self.new.worker.now.home.deferred } } }
         ensures seat { self.new.seat.now ≡ self.old.seat.now }
         ensures same_seat { self.new.seat.ghost_name ≡ self.old.seat.ghost_name }
         ensures same_worker { self.new.worker.ghost_name ≡ self.old.worker.ghost_name }
@@ -94,6 +96,8 @@ fn let_go_of(home: &mut Home<SimRing, Reply, Reply>, id: WaiterId)
     requires room { HasPlaces home.old.deferred 2 }
     ensures let_go { seen home.new.driver ≡ let_go (seen home.old.driver) id }
     ensures told { Tells home.old.deferred home.new.deferred (told_by_let_go (seen home.old.driver) id (told_by_orphan id.0 (value_at (seen home.old.driver).requests id.0))) }
+    ensures punctual { IsPunctual (seen home.old.driver) → IsPunctual (seen home.new.driver) }
+    ensures same { home.new ≡ record home.old { driver = home.new.driver; deferred = home.new.deferred } }
 {
     home.driver.orphan(id, &mut home.deferred);
 }

@@ -8,7 +8,7 @@
 //! A wake is paid by what its task waits for: a task waits for one thing at a time, so that is the thing that has ended.
 
 ghost use Rattle.exec_invariants.specs.{Sound.SoundAt, Whole.HasWhole, Works.Steps};
-ghost use Rattle.std.specs.Prelude.{◌+◌, ◌<◌, ◌≡◌, ℕ, ◌≤◌, [], length, drop, slice_get, Some, if◌then◌else◌};
+ghost use Rattle.std.specs.Prelude.{◌+◌, ◌<◌, ◌≡◌, ℕ, ◌≤◌, length, drop, slice_get, Some, if◌then◌else◌};
 ghost use Rattle.std.specs.{Vec.vec_capacity, VecDeque.deque_capacity};
 ghost use Rattle.exec_parts.specs.{Calls.{IsUnpaid, KeepsRoom, releasing, IsTold}, MailTakes.{IsSentEnd, IsSentOutput, MaySendEnd, MaySendOutput, MayWakeNext, WakesHearer, WakesNext, WakesWaiter, after_sending_of, queued_after, thing_heard}, Serving.changed_at, Tests.{after_callbacks_of, is_anything_told, leave_of, next_callback_of}};
 
@@ -70,7 +70,7 @@ fn call_back<B: Scripted + Drop>(
 }
 
 /// Takes the batch. A search count that is held is returned before the first item.
-pub fn take_batch(worker: &mut Worker, next: AfterCallbacks) -> Event
+fn take_batch(worker: &mut Worker, next: AfterCallbacks) -> Event
     ensures event { result ≡ Event.Turn }
     ensures goes { worker.new ≡ record worker.old {
       place = (if is_anything_told worker.old
@@ -88,7 +88,7 @@ pub fn take_batch(worker: &mut Worker, next: AfterCallbacks) -> Event
 /// Wakes the next task for which something ended, and goes on to queue it where it was idle. The caller must know
 /// that there is a wake to make, and that its task is there and waits for a request or a sleeper that has paid one
 /// wake at most.
-pub fn wake_next<B: Scripted + Drop>(
+fn wake_next<B: Scripted + Drop>(
     worker: &mut Worker,
     next: AfterCallbacks,
     shared: &mut Shared<B>,
@@ -105,7 +105,7 @@ pub fn wake_next<B: Scripted + Drop>(
 
 /// Wakes a task to which a result was sent, and goes on to queue it where it was idle. The caller must know that
 /// there is such a task, and that the request or the sleeper is there and has paid one wake at most.
-pub fn wake_hearer<B: Scripted + Drop>(
+fn wake_hearer<B: Scripted + Drop>(
     worker: &mut Worker,
     task: usize,
     of: Heard,
@@ -152,7 +152,7 @@ fn queue_woken(worker: &mut Worker, task: usize, runnable: Runnable, next: After
 
 /// Sends a task elsewhere the end of its sleeper. Who isn't over is woken next. The caller must know that an end of
 /// a sleeper is to be sent, and that the sleeper and its task are there.
-pub fn send_end<B: Scripted + Drop>(
+fn send_end<B: Scripted + Drop>(
     worker: &mut Worker,
     next: AfterCallbacks,
     shared: &mut Shared<B>,
@@ -174,7 +174,7 @@ pub fn send_end<B: Scripted + Drop>(
 
 /// Sends a task elsewhere the output of its request. Who isn't over is woken next. The caller must know that an
 /// output of a request is to be sent, and that the request and its task are there.
-pub fn send_output<B: Scripted + Drop>(
+fn send_output<B: Scripted + Drop>(
     worker: &mut Worker,
     next: AfterCallbacks,
     shared: &mut Shared<B>,
@@ -215,15 +215,11 @@ fn after_sending(
     }
 }
 
-/// Lets go of the first output that nobody takes. The caller must have made all wakes, and know that there is such
-/// an output.
-pub fn let_go_output(worker: &mut Worker, next: AfterCallbacks) -> Event
-    requires none { worker.old.home.deferred.notes.wakes.items ≡ [] }
+/// Lets go of the first output that nobody takes. The caller must know that there is one.
+fn let_go_output(worker: &mut Worker, next: AfterCallbacks) -> Event
     requires some { 0 < length worker.old.home.deferred.outputs.items }
     ensures event { result ≡ Event.Turn }
     ensures place { worker.new.place ≡ next_callback_of next worker.new }
-    ensures none { worker.old.home.deferred.notes.wakes.items ≡ [] }
-    ensures some { 0 < length worker.old.home.deferred.outputs.items }
     ensures outputs { worker.new.home.deferred.outputs.items ≡ drop 1 worker.old.home.deferred.outputs.items }
     ensures told { KeepsRoom worker.old.home.deferred worker.new.home.deferred }
     ensures wide { vec_capacity worker.new.home.deferred.outputs ≡ vec_capacity worker.old.home.deferred.outputs }
@@ -234,25 +230,15 @@ pub fn let_go_output(worker: &mut Worker, next: AfterCallbacks) -> Event
     Event::Turn
 }
 
-/// Lets go of what the request owned that ended first. The caller must have made all wakes and let go of all
-/// outputs, and know that something is to be released, one thing for each request that has ended, that the first of
-/// these is there, and that all of them count as unreleased.
-pub fn release_next<B: Drop>(
-    worker: &mut Worker,
-    next: AfterCallbacks,
-    shared: &mut Shared<B>,
-) -> Event
-    requires none { worker.old.home.deferred.notes.wakes.items ≡ [] }
-    requires empty { length worker.old.home.deferred.outputs.items ≡ 0 }
+/// Lets go of what the request owned that ended first. The caller must know that something is to be released, one
+/// thing for each request that has ended, that the first of these is there, and that all of them count as unreleased.
+fn release_next<B: Drop>(worker: &mut Worker, next: AfterCallbacks, shared: &mut Shared<B>) -> Event
     requires some { 0 < length worker.old.home.deferred.resources.items }
     requires ended { length worker.old.names.ended.items ≡ length worker.old.home.deferred.resources.items }
     requires there { (n : ℕ) → slice_get worker.old.names.ended.items 0 ≡ Some n → n < length shared.old.requests.items }
     requires counted { length worker.old.names.ended.items ≤ worker.old.names.unreleased }
     ensures event { (n : ℕ) → slice_get worker.old.names.ended.items 0 ≡ Some n → result ≡ Event.Release n }
     ensures place { worker.new.place ≡ next_callback_of next worker.new }
-    ensures none { worker.old.home.deferred.notes.wakes.items ≡ [] }
-    ensures empty { length worker.old.home.deferred.outputs.items ≡ 0 }
-    ensures some { 0 < length worker.old.names.ended.items }
     ensures ended { worker.new.names.ended.items ≡ drop 1 worker.old.names.ended.items }
     ensures capacity { deque_capacity worker.new.names.ended ≡ deque_capacity worker.old.names.ended }
     ensures unreleased { worker.new.names.unreleased + 1 ≡ worker.old.names.unreleased }

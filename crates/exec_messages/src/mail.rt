@@ -39,7 +39,7 @@ pub fn mail<B: Scripted + Drop>(worker: &mut Worker, at: InMail, shared: &mut Sh
 
 /// Loads the wake word, for another batch. The caller must know that the worker has a seat, and that its count of
 /// batches is below 2^29.
-pub fn load_mail_word<B: Drop>(worker: &mut Worker, shared: &Shared<B>) -> Event
+fn load_mail_word<B: Drop>(worker: &mut Worker, shared: &Shared<B>) -> Event
     requires there { worker.old.index < length shared.now.seats.items }
     requires processed { worker.old.processed < 2 ^ 29 }
     ensures makes { Makes (load_mail_word (desk_of worker.old)
@@ -56,7 +56,7 @@ pub fn load_mail_word<B: Drop>(worker: &mut Worker, shared: &Shared<B>) -> Event
 
 /// Takes the messages that are there, as one batch. The caller must know that the worker has a seat, and must have
 /// applied the whole batch before.
-pub fn take_mail<B: Drop>(worker: &mut Worker, shared: &mut Shared<B>) -> Event
+fn take_mail<B: Drop>(worker: &mut Worker, shared: &mut Shared<B>) -> Event
     requires there { worker.old.index < length shared.old.seats.items }
     requires batch { worker.old.batch.values ≡ [] }
     ensures makes { Makes (take_mail (desk_of worker.old) (inbox_of (things_of shared.old) worker.old.index)) result
@@ -88,11 +88,7 @@ pub fn take_mail<B: Drop>(worker: &mut Worker, shared: &mut Shared<B>) -> Event
 /// fewer than 64 were applied, that what it is about is there, with room for what it tells or ends, that a request
 /// to be forwarded has a task that waits for it, that a sleeper to be forwarded wasn't before, and that their tasks
 /// have numbers of 32 bits.
-pub fn apply<B: Scripted + Drop>(
-    worker: &mut Worker,
-    applied: usize,
-    shared: &mut Shared<B>,
-) -> Event
+fn apply<B: Scripted + Drop>(worker: &mut Worker, applied: usize, shared: &mut Shared<B>) -> Event
     requires some { 0 < length worker.old.batch.values }
     requires few { applied < 64 }
     requires may { (mail : Message Subject Subject) → slice_get worker.old.batch.values 0 ≡ Some mail → MayTake (message_of mail) worker.old shared.old }

@@ -1,13 +1,12 @@
 -- What a callback does to a worker and to what all share.
-use Rattle.std.specs.Prelude.{◌≡◌, ℕ, ◌+◌, ◌≤◌, ◌||◌, not, ◌==◌, if◌then◌else◌, true, false, List, slice_get, slice_set, Option, Some, None, Result, Err}
+use Rattle.std.specs.Prelude.{◌≡◌, ℕ, ◌+◌, ◌≤◌, ◌||◌, not, ◌==◌, if◌then◌else◌, true, List, slice_get, slice_set, Option, Some, None, Result, Err}
 use Rattle.exec_base.specs.declared.{error.Error.Error, one_shot.OneShotState.{OneShotState, TheVariants.{Open, Sent as Full, Closed as Shut}}}
 use Rattle.exec_request.specs.declared.output.RequestOutput.{RequestOutput}
 use Rattle.std.specs.Prelude.{length}
 use Rattle.exec_waiters.specs.Told.{HasPlaces}
 use Rattle.exec_waiters.specs.declared.deferred.Deferred.{Deferred}
-use Rattle.exec_task.specs.Phases.{woken}
 use Rattle.exec_machine.specs.declared.state.{Forwarding.Forwarding, Waiting.Waiting}
-use Rattle.exec_parts.specs.{declared.parts.{mail.Reply.Reply, record.Record.Record, sleeping.SleeperRecord.SleeperRecord, task_slot.TaskSlot.TaskSlot}, Serving.changed_at}
+use Rattle.exec_parts.specs.{declared.parts.{mail.Reply.Reply, record.Record.Record, sleeping.SleeperRecord.SleeperRecord}, Serving.changed_at}
 
 -- one more wake is paid, and what the request owned is let go
 abbrev pub paying : Record → Record
@@ -91,7 +90,3 @@ abbrev pub IsUnpaid : Waiting → List Record → List SleeperRecord → Type 0
 IsUnpaid (Waiting.Request n) rs zs = (r : Record) × (slice_get rs n ≡ Some r) × (r.shown.wakes_paid ≤ 1)
 IsUnpaid (Waiting.Timer n) rs zs = (z : SleeperRecord) × (slice_get zs n ≡ Some z) × (z.shown.wakes_paid ≤ 1)
 IsUnpaid _ rs zs = ⊥
-
-module _ {B : Type 0} where
-  abbrev pub awake : TaskSlot B → TaskSlot B
-  awake slot = record slot { fresh = false; cell = record slot.cell { phase = woken slot.cell.phase } }

@@ -49,6 +49,7 @@ begun_worker c role i root r now w =
 pub record Begins (c : Configuration) (role : Role) (i root : ℕ) (r : Runnable) (now : ℕ) (w : Worker) : Type 0 where
   pub parts : w ≡ begun_worker c role i root r now w
   pub names : HasNoNames (ring_size c) w.names
+  pub home : w.home.worker ≡ i
   pub opened : w.home.closing ≡ false
   pub driver : IsFreshDriver (driver_of w) (ring_size c) (horizon c) c.tick now
   pub punctual : IsPunctual (driver_of w)

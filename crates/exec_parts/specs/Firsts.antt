@@ -1,6 +1,7 @@
 -- What workers share before they begin.
-use Rattle.std.specs.Prelude.{◌≡◌, false, [], length, replicate}
+use Rattle.std.specs.Prelude.{◌≡◌, ℕ, false, [], length, replicate}
 use Rattle.exec_opens.specs.Opens.{fresh_open}
+use Rattle.exec_ring.specs.{Sockets.nothing_moved, Stores.{socket_of, store_byte}}
 use Rattle.exec_task.specs.TaskSet.{IsShardCount}
 use Rattle.exec_machine.specs.declared.config.Configuration.{Configuration}
 use Rattle.exec_parts.specs.declared.parts.shared.Shared.{Shared}
@@ -26,7 +27,7 @@ module _ {B : Type 0} where
         stopped = false;
       }
 
-  -- There are no seats and no tasks yet.
+  -- There are no seats and no tasks yet, and sockets and files have no bytes.
   pub record IsFresh (c : Configuration) (s : Shared B) : Type 0 where
     pub parts : s ≡ shared_of c s
     pub shards : IsShardCount c.workers (length s.set.shards)
@@ -35,3 +36,5 @@ module _ {B : Type 0} where
     pub requests : s.requests.items ≡ []
     pub sleepers : s.sleepers.items ≡ []
     pub listeners : s.listeners.items ≡ replicate c.sockets 0
+    pub unmoved : (k : ℕ) → socket_of s.store k ≡ nothing_moved
+    pub unwritten : (f k : ℕ) → store_byte s.store f k ≡ 0

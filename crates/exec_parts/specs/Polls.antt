@@ -116,6 +116,7 @@ module _ {B : Type 0} where
     pub tasks : s'.tasks.items ≡ slice_set s.tasks.items t slot'
     pub kept : s' ≡ record s { tasks = s'.tasks; requests = s'.requests }
     pub output : RequestOutput
+    pub stood : value_at (driver_of w).requests r.id.0 ≡ Some (Ready output)
     pub took : slot' ≡ record slot { held = slot'.held; waiting = Waiting.Nothing; told = Some (Said.Output output) }
     pub all : slot'.held.items ≡ take (length slot.held.items - 1) slot.held.items
     pub newest : Option ℕ

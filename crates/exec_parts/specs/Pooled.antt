@@ -144,9 +144,9 @@ module _ {B : Type 0} where
   abbrev pub woken_slot : TaskSlot B → TaskSlot B
   woken_slot slot = record slot { fresh = false; cell = record slot.cell { phase = woken slot.cell.phase } }
 
-  -- a new task of this body: nobody's root, queued for its first poll
-  pub record IsNewTask (number : TaskNo) (body : B) (slot : TaskSlot B) : Type 0 where
-    pub cell : slot.cell ≡ record { number = number; owner = slot.cell.owner; phase = cell.Queued body; cancelled = false }
+  -- a new task of this body, of the task set with this number: nobody's root, queued for its first poll
+  pub record IsNewTask (number : TaskNo) (owner : ℕ) (body : B) (slot : TaskSlot B) : Type 0 where
+    pub cell : slot.cell ≡ record { number = number; owner = owner; phase = cell.Queued body; cancelled = false }
     pub held : numbers_held slot.held.items ≡ []
     pub output : slot.output ≡ shot.Open
     pub rest : slot ≡ record slot { body = None; told = Some said.Start; waiting = Waiting.Nothing; fresh = false; cleared = false; home = None }
@@ -156,7 +156,7 @@ module _ {B : Type 0} where
     pub answer : is_some made ≡ not s.set.closed
     pub closed : s.set.closed ≡ true → s' ≡ s
     pub number : (r : Runnable) → made ≡ Some r → r.task.0 ≡ length s.tasks.items
-    pub slot : (r : Runnable) → made ≡ Some r → (slot : TaskSlot B) × (s'.tasks.items ≡ s.tasks.items ++ slot ∷ []) × (r ≡ runnable_of slot.cell) × IsNewTask r.task body slot
+    pub slot : (r : Runnable) → made ≡ Some r → (slot : TaskSlot B) × (s'.tasks.items ≡ s.tasks.items ++ slot ∷ []) × (r ≡ runnable_of slot.cell) × IsNewTask r.task s.set.id body slot
     pub set : (r : Runnable) → made ≡ Some r → s'.set ≡ inserted s.set r.task tt
     pub places : (r : Runnable) → made ≡ Some r → length s'.tasks.items ≤ s'.global.places
     pub few : (r : Runnable) → made ≡ Some r → length s'.tasks.items ≤ 2 ^ 32

@@ -1,8 +1,9 @@
 //! What the workers of an executor have and share, and what several groups of their steps do alike.
 //!
 //! An executor is a list of workers and what they share. `parts` has the state: what only its own worker touches
-//! (`Worker`), what others may touch of a worker (`Seat`), and what belongs to all (`Shared`). Beside it stand the acts
-//! that steps of several groups make (`sending`, `signal`, `waking`, `claim`), and where parts of a turn lead (`ways`).
+//! (`Worker`), what others may touch of a worker (`Seat`), and what belongs to all (`Shared`). Beside it stand acts on
+//! others' seats and on tasks, most of which several groups make (`sending`, `signal`, `waking`, `claim`), and where
+//! parts of a turn lead (`ways`).
 //!
 //! The steps themselves stand in the crates of their groups, one function a place, which are those of
 //! `exec_moves::place`. Each takes `&mut Worker`, and `&mut Shared` where it names a shared thing. So what a step does

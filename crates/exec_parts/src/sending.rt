@@ -1,9 +1,5 @@
-//! Messages to other workers about what they have for a task: that it waits for the result elsewhere, and that nobody
-//! holds it any more.
-//!
-//! A task that is polled by one worker may wait for what another has. The first such poll asks that worker for the
-//! result, which comes to the task itself, whoever polls it then; from then on each poll looks there. What a task holds
-//! that is over is let go: at once what its last worker has, and the workers of the others are told, one a step.
+//! What a task holds is let go: at once what its last worker has, while the workers of the others are told so by
+//! messages, one a step.
 
 ghost use Rattle.std.specs.Prelude.{◌<◌, ◌≡◌, None, true, false};
 ghost use Rattle.exec_parts.specs.{Awaits.{LetsGo, MayLetGo}, Ending.{LetsGoOf, LetsHeld, LetsWaiting, MayLetGoAll, MayLetGoOf, MayLetSleep}, MailPosts.{MaySend, Sends}, MailTakes.{MayRemove, RemovesSleeper}};
@@ -20,7 +16,8 @@ use exec_moves::handing::{AfterSend, AfterSignal, InSignal};
 use exec_moves::place::Place;
 
 impl Worker {
-    /// Nobody holds the request any more.
+    /// Nobody holds the request any more. The caller must know that it is this worker's, that somebody holds it, and
+    /// that there is room for what may end so.
     pub fn orphan_request<B: Drop>(&mut self, request: usize, shared: &mut Shared<B>)
         requires may { MayLetGo request self.old shared.old }
         ensures lets { LetsGo request self.old self.new shared.old shared.new }
@@ -33,7 +30,8 @@ impl Worker {
     }
 
     /// Sends a worker a message, and goes on to signal it where that is asked for. A second wake of its root beside one
-    /// that it hasn't taken is left out.
+    /// that it hasn't taken is left out. `Closed` where that worker takes no mail any more, and then nothing is sent. The
+    /// caller must know that an open inbox has a place for the message.
     pub fn send<B: Drop>(
         &mut self,
         worker: usize,
@@ -62,6 +60,7 @@ impl Worker {
     }
 
     /// Lets go of what a task held that is over: at once of what this worker has. What others have is to be told next.
+    /// The caller must have told all of what the task before held, and have room for what may end so.
     pub fn let_go_of<B: Scripted + Drop>(&mut self, task: usize, shared: &mut Shared<B>)
         requires may { MayLetGoOf task self.old shared.old }
         ensures lets { LetsGoOf task self.old self.new shared.old shared.new }
@@ -75,7 +74,7 @@ impl Worker {
         }
     }
 
-    /// The same, where the task is over.
+    /// The same, where the task is over; else nothing changes. The caller must have what `let_go_of` asks for where it is.
     pub fn let_go_if<B: Scripted + Drop>(&mut self, over: bool, task: usize, shared: &mut Shared<B>)
         requires may { over ≡ true → MayLetGoOf task self.old shared.old }
         ensures lets { over ≡ true → LetsGoOf task self.old self.new shared.old shared.new }
@@ -87,8 +86,8 @@ impl Worker {
         }
     }
 
-    /// Lets go of those requests that this worker has of what a task held.
-    pub fn let_go_held<B: Drop>(&mut self, shared: &mut Shared<B>)
+    // Lets go of those requests that this worker has of what a task held.
+    fn let_go_held<B: Drop>(&mut self, shared: &mut Shared<B>)
         requires may { MayLetGoAll self.old.letters.requests.items self.old shared.old }
         ensures lets { LetsHeld self.old self.new shared.old shared.new }
     {
@@ -104,8 +103,8 @@ impl Worker {
         }
     }
 
-    /// Lets go of a sleeper that nobody waits for any more, or has its worker told next.
-    pub fn let_go_of_sleeper<B: Drop>(&mut self, timer: usize, shared: &mut Shared<B>)
+    // Lets go of a sleeper that nobody waits for any more, or has its worker told next.
+    fn let_go_of_sleeper<B: Drop>(&mut self, timer: usize, shared: &mut Shared<B>)
         requires none { self.old.letters.timer ≡ None }
         requires may { MayLetSleep (waiting.Timer timer) self.old shared.old }
         ensures lets { LetsWaiting (waiting.Timer timer) self.new.letters.timer self.old
@@ -123,7 +122,8 @@ impl Worker {
         }
     }
 
-    /// The sleeper of this number is gone without a wake, since nobody waits for it any more.
+    /// The sleeper of this number is gone without a wake, since nobody waits for it any more. The caller must know that
+    /// it is this worker's, and have room to tell that it is gone.
     pub fn remove_sleeper<B: Drop>(&mut self, timer: usize, shared: &mut Shared<B>)
         requires may { MayRemove timer self.old shared.old }
         ensures removes { RemovesSleeper timer self.old self.new shared.old shared.new }

@@ -1,8 +1,7 @@
-//! The signals to other workers, and the message that wakes the root of one.
+//! How another worker's wait is ended, and the message that wakes the root of one.
 //!
-//! A signal puts the latch into the wake word of a worker. Where that worker waits and nobody signalled it before, its
-//! wait is ended by a second step: a wait on its ring has a wake raised there, and a worker that sleeps is roused,
-//! whichever of its two waits it is in by then.
+//! Where a worker waits and nobody signalled it before, its wait is ended by a second step: a wait on its ring has a
+//! wake raised there, and a worker that sleeps is roused, whichever of its two waits it is in by then.
 
 ghost use Rattle.std.specs.Prelude.{◌≡◌, ◌<◌, length, if◌then◌else◌};
 ghost use Rattle.exec_moves.specs.Parts.{after_send as place_after_send};
@@ -18,7 +17,9 @@ use exec_moves::place::Place;
 use exec_words::inbox::Message;
 
 impl Worker {
-    /// Sends a worker the message that wakes its root. A second one in a batch that isn't taken is left out.
+    /// Sends a worker the message that wakes its root. A second one in a batch that isn't taken is left out. The caller
+    /// must know that there is such a worker, and that an open inbox has a place for the message where no other wake of
+    /// the root is in it.
     pub fn send_root<B: Drop>(
         &mut self,
         home: usize,

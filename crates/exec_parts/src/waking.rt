@@ -1,4 +1,4 @@
-//! Wakes that several groups of steps make: of the own root, and what pays for one.
+//! The wake of the own root, and what pays for a wake.
 
 ghost use Rattle.std.specs.Prelude.{◌≡◌, ◌<◌, length, Some};
 ghost use Rattle.exec_parts.specs.{Calls.{IsUnpaid, records_paid, sleepers_paid}, Pooled.WakesOwnRoot};
@@ -10,7 +10,7 @@ use crate::parts::worker::Worker;
 use exec_machine::state::Waiting;
 
 impl Worker {
-    /// Wakes the own root, and flags it where it was idle.
+    /// Wakes the own root, and flags it where it was idle. The caller must know that its task is there.
     pub fn wake_own_root<B: Drop>(&mut self, shared: &mut Shared<B>)
         requires there { self.old.root < length shared.old.tasks.items }
         ensures wakes { WakesOwnRoot self.old self.new shared.old shared.new }

@@ -79,7 +79,7 @@ impl Worker {
     }
 
     /// The first of the loads. A dedicated worker has no queues to look at.
-    pub fn first_load(&self) -> InLoads
+    pub(crate) fn first_load(&self) -> InLoads
         ensures { result ≡ (if is_pool self.now.role then InLoads.LoadOwnHead
             else InLoads.LoadOwnWord (record { ready = false })) }
     {
@@ -92,7 +92,8 @@ impl Worker {
         }
     }
 
-    /// Whether a batch of messages was published that it hasn't taken.
+    /// Whether a batch of messages was published that it hasn't taken. The caller must know that it has taken fewer than
+    /// 2^29, which wake words count.
     pub fn has_mail(&self, word: &PureWord) -> bool
         requires processed { self.now.processed < 2 ^ 29 }
         ensures { result ≡ has_mail (desk_of self.now) word.now }
@@ -101,7 +102,7 @@ impl Worker {
     }
 
     /// Whether the service of this turn put something off that is to be done.
-    pub fn has_put_off(&self) -> bool
+    pub(crate) fn has_put_off(&self) -> bool
         ensures { result ≡ has_put_off self.now }
     {
         let pending = self.home.driver.has_pending_submissions();
@@ -117,7 +118,7 @@ impl Worker {
     }
 
     /// The next turn, after what the service of this one has put off, where it has.
-    pub fn turn_made_up(&self) -> Place
+    pub(crate) fn turn_made_up(&self) -> Place
         ensures { result ≡ next_turn_of self.now }
     {
         if self.has_put_off() {
@@ -212,7 +213,8 @@ impl Worker {
         }
     }
 
-    /// The first step of a wait on the wake word: a look, where there is a budget for some and no deadline is near.
+    /// The first step of a wait on the wake word: a look, where there is a budget for some and no deadline is near. The
+    /// caller must have told all that is due.
     pub fn word_wait(&mut self, longest_spin: u64) -> Place
         requires told { HasToldDue self.old }
         ensures place { (moment : Option ℕ) × IsNextMoment self.old moment × (result ≡ word_wait_of longest_spin moment self.old) }
@@ -227,8 +229,8 @@ impl Worker {
         }
     }
 
-    /// Whether a deadline is at most so many microseconds after what it last read off the clock.
-    pub fn is_near(&mut self, longest_spin: u64) -> bool
+    // Whether a deadline is at most so many microseconds after what it last read off the clock.
+    fn is_near(&mut self, longest_spin: u64) -> bool
         requires told { HasToldDue self.old }
         ensures near { (moment : Option ℕ) × IsNextMoment self.old moment × (result ≡ is_within longest_spin self.old.moments.read moment) }
         ensures same { self.new ≡ self.old }

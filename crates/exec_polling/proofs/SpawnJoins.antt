@@ -24,7 +24,7 @@ module _ {B : Type 0} where
     pub new : TaskSlot B
     pub items : s'.tasks.items ≡ s.tasks.items ++ new ∷ []
     pub of_it : r ≡ runnable_of new.cell
-    pub fresh : IsNewTask r.task body new
+    pub fresh : IsNewTask r.task s.set.id body new
     pub number : r.task.0 ≡ length s.tasks.items
     pub set : s'.set ≡ inserted s.set r.task tt
     pub unclosed : s.set.closed ≡ false

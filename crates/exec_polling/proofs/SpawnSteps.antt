@@ -20,7 +20,7 @@ open_move c i me s d x t k is = rw is refl
 
 module _ {B L : Type 0} (left : B → L) (spot : L → Option Said → Spot) where
   -- what is seen of a new task
-  pub new_seen : (body : B) (number : TaskNo) (k : ℕ) (new : TaskSlot B) → IsNewTask number body new → Begins (spot (left body)) k → task_seen left spot new ≡ new_task (Script k) None
+  pub new_seen : (body : B) (number : TaskNo) (k : ℕ) (new : TaskSlot B) (owner : ℕ) → IsNewTask number owner body new → Begins (spot (left body)) k → task_seen left spot new ≡ new_task (Script k) None
   new_seen = grind arith
 
   -- and what tasks show
@@ -89,12 +89,12 @@ module _ {B L : Type 0} (left : B → L) (spot : L → Option Said → Spot) whe
 
 module _ {B L : Type 0} (left : B → L) (runs : L → Plan → Option ℕ → Type 0) (holds : L → Option Said → List ℕ) (spot : L → Option Said → Spot) where
   -- a new task performs the plan in which its body begins a script
-  pub performs_new : (p : Plan) (k : ℕ) (body : B) (number : TaskNo) (new : TaskSlot B) → IsNewTask number body new → IsBorn runs holds spot p k (left body) → Performs left runs holds p new
+  pub performs_new : (p : Plan) (k : ℕ) (body : B) (number : TaskNo) (new : TaskSlot B) (owner : ℕ) → IsNewTask number owner body new → IsBorn runs holds spot p k (left body) → Performs left runs holds p new
   performs_new = grind arith
 
   pub performs_joined : (p : Plan) (k : ℕ) (body : B) (r : Runnable) (s s' : Shared B) → Joins body r s s' → IsBorn runs holds spot p k (left body) → PerformsAll left runs holds p s → PerformsAll left runs holds p s'
   performs_joined p k body r s s' it born fits n o found =
-      elim (found_which s.tasks.items it.new o n (ap (λ xs. slice_get xs n) (sym it.items) ∙ found)) [ inl old ↦ fits n o old | inr new ↦ subst (Performs left runs holds p) new.1 (performs_new p k body r.task it.new it.fresh born) ]
+      elim (found_which s.tasks.items it.new o n (ap (λ xs. slice_get xs n) (sym it.items) ∙ found)) [ inl old ↦ fits n o old | inr new ↦ subst (Performs left runs holds p) new.1 (performs_new p k body r.task it.new s.set.id it.fresh born) ]
 
 module _ {B L : Type 0} (left : B → L) (runs : L → Plan → Option ℕ → Type 0) (holds : L → Option Said → List ℕ) (spot : L → Option Said → Spot) (gives : L → Option Sight → Said → Act B → L → Option Sight → Type 0) where
   -- a task goes on that was told so of the one that it wanted
@@ -161,7 +161,7 @@ module _ {B L : Type 0} (left : B → L) (runs : L → Plan → Option ℕ → T
             new = new;
             items = items_then;
             of_it = its.2;
-            fresh = its.3;
+            fresh = subst (λ (n : ℕ). IsNewTask r.task n body new) (ap (λ (x : Shared B). x.set.id) h.made.kept) its.3;
             number = makes.number r refl ∙ ap length h.made.tasks ∙ length-set s.tasks.items t h.made.slot' ∙ sym (length-set s.tasks.items t mid);
             set = same_set ∙ makes.set r refl ∙ ap (λ (x : Shared B). inserted x.set r.task tt) h.made.kept;
             unclosed = unclosed;

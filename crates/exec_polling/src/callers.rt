@@ -23,7 +23,8 @@ use exec_words::word::WaitTarget;
 use std::alloc::{AllocError, Global};
 
 impl Caller {
-    /// Begins to spawn a task of this body, unless the task set is closed. The caller must have no call half done, be
+    /// Begins to spawn a task of this body, unless the task set is closed. Err comes only for want of memory or of a
+    /// number below 2^32, and then nothing that can be seen has changed. The caller must have no call half done, be
     /// sound with what all share, and know that the balances of all parties hold.
     pub fn spawn<B: Scripted + Drop>(
         &mut self,

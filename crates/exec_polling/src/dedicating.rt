@@ -21,9 +21,10 @@ use exec_parts::scripted::Scripted;
 use exec_task::body::Said;
 use std::alloc::{AllocError, Global};
 
-/// The task makes another of this body with a worker of its own, unless the task set is closed. The caller must
+/// The task makes another of this body with a worker of its own, unless the task set is closed. Err as of `spawn`, also
+/// where the workers' numbers have come to their end. The caller must
 /// know that there is such a task, and must have a configuration in its ranges.
-pub fn dedicate<B: Scripted + Drop>(
+pub(crate) fn dedicate<B: Scripted + Drop>(
     worker: &mut Worker,
     alloc: Global,
     task: usize,

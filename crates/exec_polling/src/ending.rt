@@ -1,4 +1,4 @@
-//! The end of a task: what it holds is let go. It waits for nothing where it ends, so no sleeper is left of it.
+//! The end of a task: what it holds is let go, and the sleeper that it waits for; it leaves the task set.
 
 ghost use Rattle.std.specs.Prelude.{◌≡◌, ◌<◌, ◌^◌, ◌⊎◌, true, IsSome};
 ghost use Rattle.exec_task.specs.TaskSet.{held, removed};
@@ -74,7 +74,7 @@ fn after_end(worker: &Worker, task: usize) -> Place
 
 /// The task leaves the task set. A drain may have taken it out before. The caller must know that its number has 32
 /// bits, and that an open set holds it.
-pub fn remove_task(worker: &mut Worker, task: usize, set: &mut Tasks<()>) -> Event
+pub(crate) fn remove_task(worker: &mut Worker, task: usize, set: &mut Tasks<()>) -> Event
     requires number { task < 2 ^ 32 }
     requires held { (set.old.closed ≡ true) ⊎ IsSome (held set.old (record { 0 = task })) }
     ensures event { result ≡ Event.Turn }

@@ -36,7 +36,8 @@ use exec_task::body::{Act, Said};
 use exec_task::runnable::{AfterPoll, Runnable};
 use std::alloc::{AllocError, Global};
 
-/// Takes the next step of the poll of a task. The caller must know that the worker is at this place and sound with what
+/// Takes the next step of the poll of a task. Err comes only for want of memory, or where the numbers of tasks, requests
+/// or sleepers have come to their end, and then nothing that can be seen has changed. The caller must know that the worker is at this place and sound with what
 /// all share, that the balances of all parties hold, and that the bodies of all tasks perform a plan of this
 /// configuration, and must have an empty nursery.
 pub fn poll<B: Scripted + Drop>(
@@ -102,11 +103,7 @@ fn act<B: Scripted + Drop>(
 /// The poll begins. What waits for nothing acts; any other looks at what it waits for. Where the runnable is stale
 /// nothing begins, and the next pick follows. The caller must know that there is such a task, and that the worker
 /// has its runnable in the hand.
-pub fn begin_poll<B: Scripted + Drop>(
-    worker: &mut Worker,
-    task: usize,
-    shared: &mut Shared<B>,
-) -> Event
+fn begin_poll<B: Scripted + Drop>(worker: &mut Worker, task: usize, shared: &mut Shared<B>) -> Event
     requires there { task < length shared.old.tasks.items }
     requires hand { OfSlot task shared.old (λ slot. worker.old.hand ≡ Some (runnable_of slot.cell)) }
     ensures event { OfSlot task shared.old (λ slot. result
@@ -131,7 +128,7 @@ pub fn begin_poll<B: Scripted + Drop>(
 
 /// The next act of the body. Where it wants memory and gets none, it is as before. The caller must know that there
 /// is such a task, and that its slot has the body and what that is told.
-pub fn next_act<B: Scripted + Drop>(
+fn next_act<B: Scripted + Drop>(
     worker: &Worker,
     alloc: Global,
     task: usize,
@@ -156,7 +153,7 @@ pub fn next_act<B: Scripted + Drop>(
 /// that is without its number. The caller must know that the task is there under its number, and so is the request
 /// where it holds one; that one of this worker has its output kept or is observed here, and can be let go of; and
 /// that the worker of any other can be sent a message about it.
-pub fn await_newest<B: Scripted + Drop>(
+fn await_newest<B: Scripted + Drop>(
     worker: &mut Worker,
     task: usize,
     shared: &mut Shared<B>,
@@ -174,7 +171,7 @@ pub fn await_newest<B: Scripted + Drop>(
 /// The task lets go of the newest request that it holds. The caller must know that the task is there under its
 /// number and holds one, which is there; that one of this worker has its output kept or is observed here, and can
 /// be let go of; and that the worker of any other can be sent a message about it.
-pub fn drop_newest<B: Scripted + Drop>(
+fn drop_newest<B: Scripted + Drop>(
     worker: &mut Worker,
     task: usize,
     shared: &mut Shared<B>,
@@ -224,11 +221,7 @@ pub fn pass<B: Scripted + Drop>(worker: &mut Worker, task: usize, shared: &mut S
 
 /// The task wakes itself, and lets others go first. Since it is polled, it has no runnable before the poll ends.
 /// The caller must know that there is such a task.
-pub fn yield_task<B: Scripted + Drop>(
-    worker: &mut Worker,
-    task: usize,
-    shared: &mut Shared<B>,
-) -> Event
+fn yield_task<B: Scripted + Drop>(worker: &mut Worker, task: usize, shared: &mut Shared<B>) -> Event
     requires there { task < length shared.old.tasks.items }
     ensures event { result ≡ Event.Wake task }
     ensures worker { worker.new ≡ record worker.old { place = Place.Poll task InPoll.Pend } }

@@ -32,7 +32,9 @@ use exec_waiters::observer::Observer;
 use exec_waiters::waiter_id::WaiterId;
 use std::alloc::{AllocError, Global};
 
-/// The task makes a request. One whose deadline has passed is over at once. The caller must know that there is such
+/// The task makes a request. One whose deadline has passed is over at once. Err comes only for want of memory or of a
+/// number, also where the open that it names isn't there; then the body is told so, and
+/// nothing else has changed. The caller must know that there is such
 /// a task, that the worker has a seat, a number for each slot, and no more requests that have ended than count as
 /// unreleased, and that the range of a direct read begins below 2^64.
 pub fn register<B: Scripted + Drop>(
@@ -160,7 +162,7 @@ fn reserve_told(worker: &mut Worker, alloc: Global) -> Result<(), AllocError>
 
 /// The durable request that the task has just made joins the gate of its open. The caller must know that there is
 /// such a request, that the worker has a number of 32 bits, and that a place was made at the gate.
-pub fn join_gate<B: Drop>(
+pub(crate) fn join_gate<B: Drop>(
     worker: &mut Worker,
     task: usize,
     request: usize,
@@ -203,10 +205,10 @@ pub(crate) fn drop_request<B: Scripted + Drop>(
     Event::Drop { request }
 }
 
-/// The task sleeps for some nanoseconds, of which the most is the longest timeout. The caller must know that there
+/// The task sleeps for some nanoseconds, of which the most is the longest timeout. Err as of `register`. The caller must know that there
 /// is such a task, that the worker has a seat, a number for each slot, and no more requests that have ended than
 /// count as unreleased, and that it sampled a moment of 2^62 at most.
-pub fn sleep_for<B: Scripted + Drop>(
+pub(crate) fn sleep_for<B: Scripted + Drop>(
     worker: &mut Worker,
     alloc: Global,
     task: usize,

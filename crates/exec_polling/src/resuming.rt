@@ -165,7 +165,7 @@ pub fn take_output<B: Scripted + Drop>(
 }
 
 /// The task takes the end of its sleep. The caller must know that there is such a task.
-pub fn take_sleep<B: Scripted + Drop>(
+pub(crate) fn take_sleep<B: Scripted + Drop>(
     worker: &mut Worker,
     task: usize,
     timer: usize,

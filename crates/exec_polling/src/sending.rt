@@ -2,8 +2,7 @@
 //! holds it any more.
 //!
 //! A task that is polled by one worker may wait for what another has. The first such poll asks that worker for the
-//! result, which comes to the task itself, whoever polls it then; from then on each poll looks there. What a task holds
-//! that is over is let go: at once what its last worker has, and the workers of the others are told, one a step.
+//! result, which comes to the task itself, whoever polls it then; from then on each poll looks there.
 
 ghost use Rattle.std.specs.Prelude.{◌<◌, length, false};
 ghost use Rattle.exec_moves.specs.Send.{first_letter};
@@ -22,7 +21,7 @@ use exec_task::body::Said;
 /// The task waits for a request of another worker, which is asked for its output. The caller must know that the
 /// task, the request and the worker that has it are there, and that the mailbox of that worker has a place for the
 /// message, unless it is closed.
-pub fn ask_output<B: Scripted + Drop>(
+pub(crate) fn ask_output<B: Scripted + Drop>(
     worker: &mut Worker,
     task: usize,
     request: usize,
@@ -42,7 +41,7 @@ pub fn ask_output<B: Scripted + Drop>(
 /// The task waits for its sleeper on another worker, which is asked for its end. The caller must know that the
 /// sleeper and the worker that has it are there, and that the mailbox of that worker has a place for the message,
 /// unless it is closed.
-pub fn ask_end<B: Scripted + Drop>(
+pub(crate) fn ask_end<B: Scripted + Drop>(
     worker: &mut Worker,
     task: usize,
     timer: usize,
@@ -92,7 +91,7 @@ pub fn hear_output<B: Scripted + Drop>(
 
 /// The task looks whether the end of its sleep was sent. Where it wasn't the poll ends next. The caller must know
 /// that the task and the sleeper are there.
-pub fn hear_end<B: Scripted + Drop>(
+pub(crate) fn hear_end<B: Scripted + Drop>(
     worker: &mut Worker,
     task: usize,
     timer: usize,

@@ -23,7 +23,8 @@ use exec_task::body::Said;
 use exec_task::runnable::Runnable;
 use std::alloc::{AllocError, Global};
 
-/// The task makes another of this body, unless the task set is closed. The caller must know that there is such a
+/// The task makes another of this body, unless the task set is closed. Err comes only for want of memory or of a number
+/// below 2^32, and then nothing that can be seen has changed. The caller must know that there is such a
 /// task, and that the set has none of the next number, and must have some workers.
 pub fn spawn<B: Scripted + Drop>(
     worker: &mut Worker,
@@ -84,7 +85,11 @@ fn tell_spawned<B: Drop>(
 
 /// Loads the own head, for the task that was made: an empty queue takes it. The caller must know that the worker
 /// has a seat.
-pub fn load_spawn_head<B: Drop>(worker: &mut Worker, task: usize, shared: &Shared<B>) -> Event
+pub(crate) fn load_spawn_head<B: Drop>(
+    worker: &mut Worker,
+    task: usize,
+    shared: &Shared<B>,
+) -> Event
     requires there { worker.old.index < length shared.now.seats.items }
     ensures makes { Makes (load_spawn_head task (desk_of worker.old)
         (queue_of (things_of shared.now) worker.old.index)) result worker.new }
@@ -103,7 +108,7 @@ pub fn load_spawn_head<B: Drop>(worker: &mut Worker, task: usize, shared: &Share
 /// The task wakes another, or itself. The caller must know that both tasks are there, the own root, and the worker
 /// whose root the other is, and that each mailbox has one wake of its root at most, a place for one where it has
 /// none, and nothing once it is closed.
-pub fn wake_task<B: Scripted + Drop>(
+pub(crate) fn wake_task<B: Scripted + Drop>(
     worker: &mut Worker,
     task: usize,
     other: TaskNo,

@@ -69,9 +69,10 @@ pub(crate) fn word_of(words: &[ScriptWord], place: usize) -> ScriptWord
     words.get(place).copied().unwrap_or(ScriptWord::End)
 }
 
-/// The number behind this one, where that is of a word.
+/// The number behind this one, where that is of a word; else this one.
 pub(crate) fn place_past(words: &[ScriptWord], place: usize) -> usize
-    ensures { place < length words.now → result ≡ place + 1 }
+    ensures past { place < length words.now → result ≡ place + 1 }
+    ensures stays { length words.now ≤ place → result ≡ place }
 {
     if place < words.len() {
         place + 1

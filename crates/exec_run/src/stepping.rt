@@ -2,8 +2,8 @@
 //!
 //! A line of the trace asks for one step of a party, or for so many of a worker, of which the first that is
 //! refused is the last. Each step that is taken or refused has its line, which is told before the next step is
-//! taken. A run breaks off where the executor or a line finds no memory, or where the sink fails; then the
-//! executor is spent, and no further step is taken. What was given is a front of the log up to there, and all
+//! taken. A run breaks off where the executor or a line finds no memory, or where the sink fails; then no
+//! further step is taken. What was given is a front of the log up to there, and all
 //! lines of the steps before are whole.
 
 ghost use Rattle.std.specs.Prelude.{◌≡◌, ◌-◌, ◌^◌, ◌<◌, ◌≤◌, ◌⊎◌, List, ◌∷◌, [], All, length, replicate, sum_by, None, IfOk, IfErr, OnOk, OnErr};

@@ -1,4 +1,4 @@
--- An operation that has landed, whose request is over: a step.
+-- What holds again once an operation has landed whose request is over.
 use Rattle.std.{proofs.{Common.{◌≡◌, ◌≢◌, ℕ, ◌^◌, ◌<◌, true, false, List, [], ◌∷◌, ◌++◌, map, Option, Some, IsSome, refl, sym, ap, subst, ◌∙◌, arith, if◌then◌else◌}, lemmas.List.length-set}, specs.VecDeque.deque_capacity}
 use Rattle.exec_base.{specs.Slab.{value_at, written}, proofs.Slots.{Updates-write, past-write}}
 use Rattle.exec_outcomes.specs.{Accounts.{Account, is_durable}, declared.outcome.{Kind.Kind, OpResult.OpResult, Outcome.Outcome}}

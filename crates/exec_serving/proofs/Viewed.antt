@@ -1,4 +1,4 @@
--- What the machine sees of an operation that was reaped, whether its request goes on or ends.
+-- What the machine sees of an operation that was reaped, and its move where the request goes on.
 use Rattle.std.proofs.{Common.{◌≡◌, ℕ, ◌&&◌, Bool, true, false, List, ◌∷◌, map, Option, None, refl, sym, ap, ◌∙◌, slice_set, drop, if◌then◌else◌}, lemmas.Bool.eq-eqb}
 use Rattle.std.proofs.Common.{arith}
 use Rattle.exec_outcomes.specs.{Accounts.is_durable, Outcomes.refuses_hint, declared.outcome.OpResult.{OpResult, TheVariants.{Count, Errno}}}

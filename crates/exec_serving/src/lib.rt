@@ -1,8 +1,8 @@
 //! The services of a worker's ring, its two waits, and the steps of the kernel, the clock and the peers.
 //!
-//! Each place has a function, which says what the worker does there; one function of each file finds it, and says what
-//! the step is to the machine and to all parties. The steps of the kernel, the clock and the peers stand whole here
-//! (`lines`).
+//! Each place has a function, which says what the worker does there; `service`, `wait_on_ring` and `wait_on_word` find
+//! it, and say what the step is to the machine and to all parties. The steps of the kernel, the clock and the peers stand
+//! whole here (`lines`).
 #![tactic(auto)]
 
 pub mod lines;

@@ -7,9 +7,11 @@
 
 ghost use Rattle.exec_invariants.specs.{Sound.SoundAt, Works.Steps, Submitting.after_giving_up};
 ghost use Rattle.std.specs.Prelude.{◌+◌, ◌<◌, ◌≡◌, ◌^◌, length, is_some, None, if◌then◌else◌};
+ghost use Rattle.std.specs.Option.{option_map};
 ghost use Rattle.std.specs.VecDeque.{deque_capacity};
 ghost use Rattle.exec_machine.specs.{Requests.{joined_if, reaped}, Tests.is_awake};
-ghost use Rattle.exec_moves.specs.{Claim.latched, Serve.{after_permit as place_after_permit, signal}, State.word_of};
+ghost use Rattle.exec_moves.specs.{Claim.latched, Serve.{after_passing, after_permit as place_after_permit, signal}, State.word_of};
+ghost use Rattle.exec_opens.specs.Opens.{next_at, passed, with_open};
 ghost use Rattle.exec_outcomes.specs.Outcomes.{bytes_of};
 ghost use Rattle.exec_request.specs.States.{as_answer};
 ghost use Rattle.exec_parts.specs.{Phased.TurnsChair, Pooled.{OfChair, chair_raised}, Records.IsCountable, View.{desk_of, things_of}, Things.{Goes, Makes, TurnsWord}};
@@ -19,6 +21,7 @@ use exec_base::error::Error;
 use exec_driver::driver::Reaped;
 use exec_machine::event::Event;
 use exec_moves::place::{AfterPermit, InService, Place, Reaping, Service};
+use exec_opens::opens::Opens;
 use exec_outcomes::outcome::Outcome;
 use exec_parts::parts::record::Record;
 use exec_parts::parts::shared::Shared;
@@ -67,7 +70,7 @@ pub(crate) fn reap<B: Scripted + Drop>(
 /// What a completion has made of its request. The caller must have a place for the request among those that have
 /// ended, and know that the bytes that it has moved then, and the bytes of a direct read, rounded up to whole
 /// pages, can be counted.
-pub fn tell_reaped(
+fn tell_reaped(
     worker: &mut Worker,
     service: Service,
     request: usize,
@@ -104,7 +107,7 @@ pub fn tell_reaped(
 }
 
 /// What follows a completion or a permit that was given up.
-pub fn after_permit(worker: &mut Worker, service: Service, back: AfterPermit)
+fn after_permit(worker: &mut Worker, service: Service, back: AfterPermit)
     ensures { worker.new ≡ record worker.old { place = Place.Service (place_after_permit back) service } }
 {
     let next = match back {
@@ -120,9 +123,35 @@ pub fn after_permit(worker: &mut Worker, service: Service, back: AfterPermit)
     go(worker, service, next);
 }
 
+/// The permit of an open goes to the next that waits for it, whose worker is to be signalled.
+pub(crate) fn pass_permit(
+    worker: &mut Worker,
+    service: Service,
+    file: u32,
+    back: AfterPermit,
+    opens: &mut Opens,
+) -> Event
+    ensures event { result ≡ Event.Serve }
+    ensures opens { opens.new ≡ with_open opens.old file passed }
+    ensures goes { worker.new ≡ record worker.old { place = Place.Service (after_passing (option_map (λ key. key.worker) (next_at opens.old file)) back) service } }
+{
+    match opens.leave(file) {
+        Some(next) => go(
+            worker,
+            service,
+            InService::Signal {
+                worker: next.worker as usize,
+                back,
+            },
+        ),
+        None => after_permit(worker, service, back),
+    }
+    Event::Serve
+}
+
 /// Signals the worker that has the permit of an open next: the latch goes into its wake word. The caller must know
 /// that there is such a worker.
-pub fn signal_holder<B: Drop>(
+pub(crate) fn signal_holder<B: Drop>(
     worker: &mut Worker,
     service: Service,
     other: usize,
@@ -154,7 +183,7 @@ pub fn signal_holder<B: Drop>(
 
 /// Ends the wait of the worker that has the permit of an open next. The caller must know that there is such a
 /// worker.
-pub fn raise_holder<B: Drop>(
+pub(crate) fn raise_holder<B: Drop>(
     worker: &mut Worker,
     service: Service,
     ring: bool,
@@ -176,7 +205,7 @@ pub fn raise_holder<B: Drop>(
 }
 
 /// How a request ended, as the log tells it.
-pub fn outcome_of(ended: Option<Result<(), Error>>) -> Option<Outcome>
+pub(crate) fn outcome_of(ended: Option<Result<(), Error>>) -> Option<Outcome>
     ensures { result ≡ as_answer ended }
 {
     match ended {

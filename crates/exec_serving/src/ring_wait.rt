@@ -64,7 +64,7 @@ fn sleep_on_ring<B: Scripted + Drop>(
 
 /// Enters a full submission queue. The caller must know that the worker has a seat, and that each request that it
 /// staged is there.
-pub fn enter_full_ring<B: Drop>(worker: &mut Worker, stay: Stay, shared: &mut Shared<B>) -> Event
+fn enter_full_ring<B: Drop>(worker: &mut Worker, stay: Stay, shared: &mut Shared<B>) -> Event
     requires there { worker.old.index < length shared.old.seats.items }
     requires known { AreKnown worker.old.names.staged.items shared.old.requests.items }
     ensures enters { Enters worker.old shared.old result (record worker.new { place = worker.old.place }) shared.new }
@@ -76,7 +76,7 @@ pub fn enter_full_ring<B: Drop>(worker: &mut Worker, stay: Stay, shared: &mut Sh
 }
 
 /// Tests for submissions, and stages the wake poll where that must be. Without room for it the worker serves.
-pub fn test_ring(worker: &mut Worker, stay: Stay) -> Event
+fn test_ring(worker: &mut Worker, stay: Stay) -> Event
     ensures event { result ≡ Event.Turn }
     ensures tests { TestsRing stay worker.old worker.new }
 {
@@ -92,7 +92,7 @@ pub fn test_ring(worker: &mut Worker, stay: Stay) -> Event
 
 /// Puts the ring bit into the wake word. The caller must know that the worker has a seat, that its wake word has no
 /// wait bit, and that its count of batches is below 2^29.
-pub fn arm_ring<B: Drop>(worker: &mut Worker, stay: Stay, shared: &mut Shared<B>) -> Event
+fn arm_ring<B: Drop>(worker: &mut Worker, stay: Stay, shared: &mut Shared<B>) -> Event
     requires there { worker.old.index < length shared.old.seats.items }
     requires unarmed { OfChair worker.old.index shared.old (λ chair. chair.mailbox.waker.target ≡ WaitTarget.None) }
     requires processed { worker.old.processed < 2 ^ 29 }
@@ -110,7 +110,7 @@ pub fn arm_ring<B: Drop>(worker: &mut Worker, stay: Stay, shared: &mut Shared<B>
 
 /// Enters, and where nothing is there goes on to sleep. After an enter that took nothing it doesn't sleep. The
 /// caller must know that the worker has a seat, and that each request that it staged is there.
-pub fn enter_ring<B: Drop>(worker: &mut Worker, stay: Stay, shared: &mut Shared<B>) -> Event
+fn enter_ring<B: Drop>(worker: &mut Worker, stay: Stay, shared: &mut Shared<B>) -> Event
     requires there { worker.old.index < length shared.old.seats.items }
     requires known { AreKnown worker.old.names.staged.items shared.old.requests.items }
     ensures enters { Enters worker.old shared.old result (record worker.new { place = worker.old.place }) shared.new }
@@ -137,7 +137,7 @@ fn after_enter(worker: &Worker, event: Event, stay: Stay) -> Place
 /// Sleeps until the first moment at which something is due, unless that has come. The caller must have told each
 /// request whose deadline has come, and know that any other comes out of the wheel at its tick, and that the worker
 /// has a seat.
-pub fn sleep<B: Drop>(worker: &mut Worker, shared: &mut Shared<B>) -> Event
+pub(crate) fn sleep<B: Drop>(worker: &mut Worker, shared: &mut Shared<B>) -> Event
     requires told { HasToldDue worker.old }
     requires there { worker.old.index < length shared.old.seats.items }
     ensures sleeps { Sleeps worker.old shared.old result shared.new }
@@ -154,7 +154,7 @@ pub fn sleep<B: Drop>(worker: &mut Worker, shared: &mut Shared<B>) -> Event
 }
 
 /// Takes the wait bits out of the wake word. The caller must know that the worker has a seat.
-pub fn disarm_ring<B: Drop>(
+fn disarm_ring<B: Drop>(
     worker: &mut Worker,
     stay: Stay,
     next: AfterWait,

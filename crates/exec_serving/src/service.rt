@@ -7,19 +7,16 @@
 
 ghost use Rattle.exec_invariants.specs.{Sound.SoundAt, Whole.HasWhole, Works.Steps, Raises.Enters};
 ghost use Rattle.std.specs.Prelude.{◌<◌, ◌≡◌, [], length, slice_get, slice_set, true, Some};
-ghost use Rattle.std.specs.Option.{option_map};
 ghost use Rattle.std.specs.Vec.{vec_capacity};
-ghost use Rattle.exec_moves.specs.{Serve.{sample, unlatched, after_passing, after_service}, State.word_of};
-ghost use Rattle.exec_opens.specs.Opens.{next_at, passed, with_open};
+ghost use Rattle.exec_moves.specs.{Serve.{sample, unlatched, after_service}, State.word_of};
 ghost use Rattle.exec_driver.specs.{Punctual.IsPunctual, Steps.advanced_to};
 ghost use Rattle.exec_parts.specs.{Records.number_in, Serving.{AreKnown, flown_in, with_staging_ended}, declared.parts.sleeping.SleeperRecord.SleeperRecord as Sleeper, View.{driver_of, desk_of, things_of}, Things.{Makes, TurnsWord}};
 
-use crate::reaping::{after_permit, raise_holder, reap, signal_holder};
+use crate::reaping::{pass_permit, raise_holder, reap, signal_holder};
 use crate::submitting::submit;
 use exec_machine::event::Event;
 use exec_moves::handing::AfterCallbacks;
 use exec_moves::place::{AfterService, InCallbacks, InMail, InService, Place, Reaping, Service};
-use exec_opens::opens::Opens;
 use exec_parts::parts::names::Names;
 use exec_parts::parts::record::Record;
 use exec_parts::parts::shared::Shared;
@@ -84,7 +81,7 @@ fn end_service<B: Scripted + Drop>(
 
 /// Samples the clock, and takes out the latch that a granted permit left. The caller must know that the worker has
 /// a seat.
-pub fn sample<B: Drop>(worker: &mut Worker, service: Service, shared: &mut Shared<B>) -> Event
+fn sample<B: Drop>(worker: &mut Worker, service: Service, shared: &mut Shared<B>) -> Event
     requires there { worker.old.index < length shared.old.seats.items }
     ensures makes { Makes (sample service (desk_of worker.old)
         (word_of (things_of shared.old) worker.old.index)) result worker.new }
@@ -106,7 +103,7 @@ pub fn sample<B: Drop>(worker: &mut Worker, service: Service, shared: &mut Share
 }
 
 /// Goes on to this step of the service.
-pub fn go(worker: &mut Worker, service: Service, at: InService)
+pub(crate) fn go(worker: &mut Worker, service: Service, at: InService)
     ensures { worker.new ≡ record worker.old { place = Place.Service at service } }
 {
     worker.place = Place::Service(at, service);
@@ -114,7 +111,7 @@ pub fn go(worker: &mut Worker, service: Service, at: InService)
 
 /// Advances the timeout wheel. The deadlines that it finds due are told one a step. The caller must have told each
 /// request whose deadline has come, and know that any other comes out of the wheel at its tick.
-pub fn advance_wheel(worker: &mut Worker, service: Service) -> Event
+fn advance_wheel(worker: &mut Worker, service: Service) -> Event
     requires punctual { IsPunctual (driver_of worker.old) }
     requires told { (driver_of worker.old).lists.due ≡ [] }
     ensures event { result ≡ Event.Serve }
@@ -152,7 +149,7 @@ pub(crate) fn end_staging(worker: &mut Worker, service: Service)
 
 /// The last enter of a service. The caller must know that the worker has a seat, and that each request that it
 /// staged is there.
-pub fn enter_last<B: Drop>(worker: &mut Worker, service: Service, shared: &mut Shared<B>) -> Event
+fn enter_last<B: Drop>(worker: &mut Worker, service: Service, shared: &mut Shared<B>) -> Event
     requires there { worker.old.index < length shared.old.seats.items }
     requires known { AreKnown worker.old.names.staged.items shared.old.requests.items }
     ensures enters { Enters worker.old shared.old result (record worker.new { place = worker.old.place }) shared.new }
@@ -188,7 +185,7 @@ pub(crate) fn enter<B: Drop>(worker: &mut Worker, shared: &mut Shared<B>) -> Eve
 }
 
 /// The service is over.
-pub fn leave_service(worker: &mut Worker, then: AfterService) -> Event
+fn leave_service(worker: &mut Worker, then: AfterService) -> Event
     ensures event { result ≡ Event.Serve }
     ensures goes { worker.new ≡ record worker.old { place = after_service then (desk_of worker.old) } }
 {
@@ -197,7 +194,7 @@ pub fn leave_service(worker: &mut Worker, then: AfterService) -> Event
 }
 
 /// Tells that the moment of a sleeper has come. The caller must know that the sleeper of this name is there.
-pub fn tell_fired(worker: &mut Worker, id: TimerId, sleepers: &mut Vec<SleeperRecord>) -> Event
+fn tell_fired(worker: &mut Worker, id: TimerId, sleepers: &mut Vec<SleeperRecord>) -> Event
     requires there { number_in worker.old.names.timers.items id.0 < length sleepers.old.items }
     ensures event { result ≡ Event.Fire (number_in worker.old.names.timers.items id.0) }
     ensures same { worker.new ≡ worker.old }
@@ -221,32 +218,6 @@ fn after_service(worker: &Worker, then: AfterService) -> Place
         AfterService::Begin => Place::Callbacks(InCallbacks::TakeBatch, AfterCallbacks::Begin),
         AfterService::Finish => Place::Callbacks(InCallbacks::TakeBatch, AfterCallbacks::Finish),
     }
-}
-
-/// The permit of an open goes to the next that waits for it, whose worker is to be signalled.
-pub fn pass_permit(
-    worker: &mut Worker,
-    service: Service,
-    file: u32,
-    back: exec_moves::place::AfterPermit,
-    opens: &mut Opens,
-) -> Event
-    ensures event { result ≡ Event.Serve }
-    ensures opens { opens.new ≡ with_open opens.old file passed }
-    ensures goes { worker.new ≡ record worker.old { place = Place.Service (after_passing (option_map (λ key. key.worker) (next_at opens.old file)) back) service } }
-{
-    match opens.leave(file) {
-        Some(next) => go(
-            worker,
-            service,
-            InService::Signal {
-                worker: next.worker as usize,
-                back,
-            },
-        ),
-        None => after_permit(worker, service, back),
-    }
-    Event::Serve
 }
 
 /// What was staged flies.

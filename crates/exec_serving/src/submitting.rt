@@ -144,7 +144,7 @@ fn stage_next<B: Scripted + Drop>(
 
 /// Tells that the deadline of a request has come. The caller must have a place for the request among those that
 /// have ended.
-pub fn tell_expired(worker: &mut Worker, request: usize, it: &mut Record) -> Event
+fn tell_expired(worker: &mut Worker, request: usize, it: &mut Record) -> Event
     requires room { length worker.old.names.ended.items < deque_capacity worker.old.names.ended }
     ensures event { result ≡ Event.Expire request (outcome_at_expiry it.old.shown) }
     ensures shown { it.new.shown ≡ expired (outcome_at_expiry it.old.shown) it.old.shown }
@@ -165,7 +165,7 @@ pub fn tell_expired(worker: &mut Worker, request: usize, it: &mut Record) -> Eve
 /// Tells that the deadline of a request is on the wheel, or how the request ended. The caller must have a place for
 /// the request among those that have ended, and a tick above 0, and know that one that goes on has a deadline that
 /// isn't before the worker's start, and is more than a tick before 2^64.
-pub fn tell_enrolled(
+fn tell_enrolled(
     worker: &mut Worker,
     request: usize,
     done: Enrolled,
@@ -206,7 +206,7 @@ pub fn tell_enrolled(
 
 /// Tells that a request has the permit of its open, or how it ended by that. The caller must have a place for the
 /// request among those that have ended, and know that the number of the open is below 2^32 - 1.
-pub fn tell_granted(
+fn tell_granted(
     worker: &mut Worker,
     service: Service,
     file: u32,
@@ -240,7 +240,7 @@ pub fn tell_granted(
 }
 
 /// Ends the staging with the wake poll, where it must be staged and the submission queue has room.
-pub fn stage_poll(worker: &mut Worker, service: Service) -> Event
+fn stage_poll(worker: &mut Worker, service: Service) -> Event
     ensures event { result ≡ Event.Serve }
     ensures punctual { IsPunctual (driver_of worker.old) → IsPunctual (driver_of worker.new) }
     ensures ends { (w : Worker) × EndsStaging worker.old w × (worker.new ≡ with_staging_ended service w) }
@@ -251,7 +251,7 @@ pub fn stage_poll(worker: &mut Worker, service: Service) -> Event
 }
 
 /// Whether the submission queue has no room for what is to go into it.
-pub fn must_flush(worker: &Worker) -> bool
+fn must_flush(worker: &Worker) -> bool
     ensures { result ≡ must_flush (driver_of worker.now) }
 {
     let driver = &worker.home.driver;
@@ -262,7 +262,7 @@ pub fn must_flush(worker: &Worker) -> bool
 /// Stages the cancel of the request that asked for it first. The caller must know that there is one, that the
 /// submission queue has room, that each request that asked for it is there, and that the worker has a place for its
 /// number.
-pub fn stage_cancel<B: Drop>(worker: &mut Worker, shared: &mut Shared<B>) -> Event
+fn stage_cancel<B: Drop>(worker: &mut Worker, shared: &mut Shared<B>) -> Event
     requires there { has_first (driver_of worker.old).lists.cancels ≡ true }
     requires room { is_full (driver_of worker.old) ≡ false }
     requires named { AreNamed worker.old.names.requests.items (driver_of worker.old).lists.cancels shared.old.requests.items }
@@ -283,7 +283,7 @@ pub fn stage_cancel<B: Drop>(worker: &mut Worker, shared: &mut Shared<B>) -> Eve
 /// Stages the operation of the request that was queued first. The caller must know that one may be staged, that the
 /// submission queue has room, that no deadline is left to go on the wheel, that each queued request is there, and
 /// that the worker has a place for its number.
-pub fn stage<B: Drop>(worker: &mut Worker, shared: &mut Shared<B>) -> Event
+fn stage<B: Drop>(worker: &mut Worker, shared: &mut Shared<B>) -> Event
     requires may { may_stage_one (driver_of worker.old) ≡ true }
     requires room { is_full (driver_of worker.old) ≡ false }
     requires enrolled { has_first (driver_of worker.old).lists.enrolments ≡ false }
@@ -306,7 +306,7 @@ pub fn stage<B: Drop>(worker: &mut Worker, shared: &mut Shared<B>) -> Event
 
 /// Enters a full submission queue. Where the kernel takes nothing, the staging ends. The caller must know that the
 /// worker has a seat, and that each request that it staged is there.
-pub fn flush<B: Drop>(worker: &mut Worker, service: Service, shared: &mut Shared<B>) -> Event
+fn flush<B: Drop>(worker: &mut Worker, service: Service, shared: &mut Shared<B>) -> Event
     requires there { worker.old.index < length shared.old.seats.items }
     requires known { AreKnown worker.old.names.staged.items shared.old.requests.items }
     ensures enters { (w : Worker) × (it : Enters worker.old shared.old result w shared.new)
@@ -342,7 +342,7 @@ fn has_hint(opens: &Opens, file: usize) -> bool
 }
 
 /// A name has a generation of 64 bits.
-pub fn bounds_name(id: WaiterId)
+fn bounds_name(id: WaiterId)
     ensures { id.0.generation < 2 ^ 64 }
 {
     let _name = id;

@@ -61,7 +61,7 @@ fn sleep_on_word<B: Scripted + Drop>(worker: &mut Worker, shared: &mut Shared<B>
 }
 
 /// Looks for another batch. The caller must know that the worker's count of batches is below 2^29.
-pub fn spin_on_batch(worker: &mut Worker, left: u64, word: &PureWord) -> Event
+fn spin_on_batch(worker: &mut Worker, left: u64, word: &PureWord) -> Event
     requires processed { worker.old.processed < 2 ^ 29 }
     ensures makes { Makes (spin_on_batch left (desk_of worker.old) word.now) result worker.new }
     ensures same { worker.new ≡ record worker.old { place = worker.new.place; spinner = worker.new.spinner } }
@@ -76,7 +76,7 @@ pub fn spin_on_batch(worker: &mut Worker, left: u64, word: &PureWord) -> Event
 }
 
 /// Looks for a latch.
-pub fn spin_on_latch(worker: &mut Worker, left: u64, word: &PureWord) -> Event
+fn spin_on_latch(worker: &mut Worker, left: u64, word: &PureWord) -> Event
     ensures makes { Makes (spin_on_latch left (desk_of worker.old) word.now) result worker.new }
     ensures same { worker.new ≡ record worker.old { place = worker.new.place; spinner = worker.new.spinner } }
 {
@@ -93,7 +93,7 @@ pub fn spin_on_latch(worker: &mut Worker, left: u64, word: &PureWord) -> Event
 }
 
 /// Takes the latch out of the wake word. The caller must know that the worker has a seat.
-pub fn take_latch<B: Drop>(worker: &mut Worker, shared: &mut Shared<B>) -> Event
+fn take_latch<B: Drop>(worker: &mut Worker, shared: &mut Shared<B>) -> Event
     requires there { worker.old.index < length shared.old.seats.items }
     ensures event { result ≡ Event.Turn }
     ensures goes { worker.new ≡ record worker.old { place = after_waiting_of AfterWait.Begin worker.old } }
@@ -107,7 +107,7 @@ pub fn take_latch<B: Drop>(worker: &mut Worker, shared: &mut Shared<B>) -> Event
 
 /// Puts the sleeping bit into the wake word. The caller must know that the worker has a seat, that its wake word
 /// has no wait bit, and that its count of batches is below 2^29.
-pub fn arm_word<B: Drop>(worker: &mut Worker, shared: &mut Shared<B>) -> Event
+fn arm_word<B: Drop>(worker: &mut Worker, shared: &mut Shared<B>) -> Event
     requires there { worker.old.index < length shared.old.seats.items }
     requires unarmed { OfChair worker.old.index shared.old (λ chair. chair.mailbox.waker.target ≡ WaitTarget.None) }
     requires processed { worker.old.processed < 2 ^ 29 }
@@ -137,7 +137,7 @@ fn wake_up(worker: &mut Worker, latch: bool, clock: u64)
 }
 
 /// Where it sleeps, the moment at which it went to sleep is kept.
-pub fn note_sleep(worker: &mut Worker, event: &Event, clock: u64)
+fn note_sleep(worker: &mut Worker, event: &Event, clock: u64)
     ensures { worker.new ≡ record worker.old { slept = slept_after event.now clock worker.old.slept } }
 {
     if let Event::Sleep { .. } = event {
@@ -147,7 +147,7 @@ pub fn note_sleep(worker: &mut Worker, event: &Event, clock: u64)
 
 /// Takes the wait bits out of the wake word. The caller must know that the worker has a seat, and that the clock
 /// has come to the moment at which it went to sleep, where one is kept.
-pub fn disarm_word<B: Drop>(worker: &mut Worker, shared: &mut Shared<B>) -> Event
+fn disarm_word<B: Drop>(worker: &mut Worker, shared: &mut Shared<B>) -> Event
     requires there { worker.old.index < length shared.old.seats.items }
     requires asleep { IfSome worker.old.slept (λ moment. moment ≤ shared.old.clock) }
     ensures event { result ≡ Event.Turn }

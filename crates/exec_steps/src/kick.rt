@@ -61,7 +61,7 @@ pub fn leave_search(worker: &mut Worker, back: AfterLeave, idle: &mut PureIdle) 
 }
 
 /// Loads the search count: where somebody searches, nobody need be kicked.
-pub fn load_kick_count(worker: &mut Worker, back: AfterKick, idle: &PureIdle) -> Event
+fn load_kick_count(worker: &mut Worker, back: AfterKick, idle: &PureIdle) -> Event
     ensures event { result ≡ Event.Turn }
     ensures goes { worker.new ≡ record worker.old {
       place = (if idle.now.count == 0
@@ -77,7 +77,7 @@ pub fn load_kick_count(worker: &mut Worker, back: AfterKick, idle: &PureIdle) ->
 }
 
 /// Loads the idle set.
-pub fn load_kick_set(worker: &mut Worker, back: AfterKick, idle: &PureIdle) -> Event
+fn load_kick_set(worker: &mut Worker, back: AfterKick, idle: &PureIdle) -> Event
     ensures event { result ≡ Event.Turn }
     ensures goes { worker.new ≡ record worker.old {
       place = (if has_any idle.now
@@ -94,7 +94,7 @@ pub fn load_kick_set(worker: &mut Worker, back: AfterKick, idle: &PureIdle) -> E
 }
 
 /// Exchanges the search count 0 to 1, for the worker that is claimed next.
-pub fn exchange_kick_count(
+fn exchange_kick_count(
     worker: &mut Worker,
     set: WorkerSet,
     back: AfterKick,
@@ -116,7 +116,7 @@ pub fn exchange_kick_count(
 
 /// Returns the search count, since nobody was claimed. Who returned the last kicks again. The caller must know that
 /// the search count isn't 0.
-pub fn return_kick_count(worker: &mut Worker, back: AfterKick, idle: &mut PureIdle) -> Event
+fn return_kick_count(worker: &mut Worker, back: AfterKick, idle: &mut PureIdle) -> Event
     requires holds { 0 < idle.old.count }
     ensures event { result ≡ Event.Turn }
     ensures goes { worker.new ≡ record worker.old {

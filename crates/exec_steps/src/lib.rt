@@ -1,4 +1,4 @@
-//! One step of an executor: its place says which function takes it.
+//! One step of a worker: its place says which function takes it.
 //!
 //! `step` is the whole step of a worker. Polls, services, messages and the closing have crates of their own; the places
 //! of a turn, of the run queues and of the looks for work stand here. Their contracts say that the step is the

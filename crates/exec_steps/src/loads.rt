@@ -39,7 +39,7 @@ pub(crate) fn load<B: Scripted + Drop>(
 }
 
 /// Loads the head of the own run queue. The caller must know that the worker has a seat.
-pub fn load_own_head<B: Drop>(worker: &mut Worker, round: Round, shared: &Shared<B>) -> Event
+fn load_own_head<B: Drop>(worker: &mut Worker, round: Round, shared: &Shared<B>) -> Event
     requires there { worker.old.index < length shared.now.seats.items }
     ensures makes { Makes (load_own_head round (desk_of worker.old)
         (queue_of (things_of shared.now) worker.old.index)) result worker.new }
@@ -54,7 +54,7 @@ pub fn load_own_head<B: Drop>(worker: &mut Worker, round: Round, shared: &Shared
 }
 
 /// Loads the length of the global queue.
-pub fn load_own_mirror<B: Drop>(
+fn load_own_mirror<B: Drop>(
     worker: &mut Worker,
     round: Round,
     found: Found,
@@ -73,7 +73,7 @@ pub fn load_own_mirror<B: Drop>(
 
 /// Loads the wake word. The caller must know that the worker has a seat, that there is one thing to release for
 /// each request that has ended, and that its count of batches is below 2^29.
-pub fn load_own_word<B: Drop>(
+fn load_own_word<B: Drop>(
     worker: &mut Worker,
     round: Round,
     found: Found,
@@ -112,7 +112,7 @@ fn is_ready(worker: &Worker, found: Found) -> bool
 
 /// Tests whether something is to be done before it may wait. The caller must know that there is one thing to
 /// release for each request that has ended.
-pub fn test_for_work(worker: &mut Worker, found: Found) -> Event
+pub(crate) fn test_for_work(worker: &mut Worker, found: Found) -> Event
     requires told { (live : ℕ) × IsTold worker.old.names.ended.items worker.old.home.deferred live }
     ensures event { result ≡ Event.Turn }
     ensures goes { worker.new ≡ record worker.old {

@@ -65,7 +65,7 @@ pub fn publish(worker: &mut Worker, idle: &mut PureIdle) -> Event
 }
 
 /// Returns the search count that the worker holds. The caller must know that the search count isn't 0.
-pub fn return_look_count(worker: &mut Worker, idle: &mut PureIdle) -> Event
+fn return_look_count(worker: &mut Worker, idle: &mut PureIdle) -> Event
     requires holds { 0 < idle.old.count }
     ensures makes { Makes (return_look_count (desk_of worker.old) idle.old) result worker.new }
     ensures same { worker.new ≡ record worker.old { place = worker.new.place; searching = false } }
@@ -78,7 +78,7 @@ pub fn return_look_count(worker: &mut Worker, idle: &mut PureIdle) -> Event
 }
 
 /// Loads the length of the global queue once more.
-pub fn look_at_mirror(worker: &mut Worker, last: bool, mirror: usize) -> Event
+fn look_at_mirror(worker: &mut Worker, last: bool, mirror: usize) -> Event
     ensures event { result ≡ Event.Turn }
     ensures goes { worker.new ≡ record worker.old {
       place = (if nat_lt 0 mirror
@@ -96,7 +96,7 @@ pub fn look_at_mirror(worker: &mut Worker, last: bool, mirror: usize) -> Event
 /// Loads the search count. Where nobody searches, the other queues are looked at. The caller must have told each
 /// request whose deadline has come, and know that any other comes out of the wheel at its tick, and that the
 /// worker's number is below 64.
-pub fn look_at_count<B: Drop>(worker: &mut Worker, shared: &Shared<B>) -> Event
+fn look_at_count<B: Drop>(worker: &mut Worker, shared: &Shared<B>) -> Event
     requires told { HasToldDue worker.old }
     requires few { worker.old.index < 64 }
     ensures event { result ≡ Event.Turn }
@@ -139,7 +139,7 @@ fn past_own(worker: &Worker, other: usize) -> usize
 }
 
 /// Loads the head of another queue. The caller must know that there is such a worker.
-pub fn look_at_head<B: Drop>(worker: &mut Worker, other: usize, shared: &Shared<B>) -> Event
+fn look_at_head<B: Drop>(worker: &mut Worker, other: usize, shared: &Shared<B>) -> Event
     requires there { other < length shared.now.seats.items }
     ensures makes { Makes (look_at_head other (desk_of worker.old)
         (queue_of (things_of shared.now) other)) result worker.new }
@@ -156,12 +156,7 @@ pub fn look_at_head<B: Drop>(worker: &mut Worker, other: usize, shared: &Shared<
 /// Loads its tail: with two values at least and no claim it can be stolen from. The caller must have told each
 /// request whose deadline has come, and know that any other comes out of the wheel at its tick, that there is such
 /// a worker, and that its number and the own one are below 64.
-pub fn look_at_tail<B: Drop>(
-    worker: &mut Worker,
-    other: usize,
-    head: Head,
-    shared: &Shared<B>,
-) -> Event
+fn look_at_tail<B: Drop>(worker: &mut Worker, other: usize, head: Head, shared: &Shared<B>) -> Event
     requires there { other < length shared.now.seats.items }
     requires told { HasToldDue worker.old }
     requires few { worker.old.index < 64 }
@@ -182,7 +177,7 @@ pub fn look_at_tail<B: Drop>(
 
 /// Exchanges the search count 0 to 1, to search once more. Where somebody searches, the worker waits. The caller
 /// must have told each request whose deadline has come, and know that any other comes out of the wheel at its tick.
-pub fn exchange_look_count<B: Drop>(worker: &mut Worker, shared: &mut Shared<B>) -> Event
+fn exchange_look_count<B: Drop>(worker: &mut Worker, shared: &mut Shared<B>) -> Event
     requires told { HasToldDue worker.old }
     ensures event { result ≡ Event.Turn }
     ensures first { shared.old.idle.count ≡ 0 → worker.new
@@ -204,7 +199,7 @@ pub fn exchange_look_count<B: Drop>(worker: &mut Worker, shared: &mut Shared<B>)
 
 /// Returns the count of a claim that came besides the worker's own. The caller must know that the search count
 /// isn't 0.
-pub fn return_claimed(worker: &mut Worker, idle: &mut PureIdle) -> Event
+fn return_claimed(worker: &mut Worker, idle: &mut PureIdle) -> Event
     requires holds { 0 < idle.old.count }
     ensures makes { Makes (return_claimed (desk_of worker.old) idle.old) result worker.new }
     ensures goes { Goes worker.old worker.new }

@@ -43,7 +43,7 @@ pub(crate) fn pop<B: Scripted + Drop>(
 
 /// Pops the queue of a lone worker. The caller must know that the worker has a seat and a number of 32 bits, and
 /// that the task set has the shards of the configuration, and is closed where the queue is emptied.
-pub fn pop_alone<B: Drop>(worker: &mut Worker, back: AfterPop, shared: &mut Shared<B>) -> Event
+fn pop_alone<B: Drop>(worker: &mut Worker, back: AfterPop, shared: &mut Shared<B>) -> Event
     requires there { worker.old.index < length shared.old.seats.items }
     requires closed { is_discard back ≡ true → shared.old.set.closed ≡ true }
     requires shards { length shared.old.set.shards ≡ shard_count shared.old.config }
@@ -65,7 +65,7 @@ pub fn pop_alone<B: Drop>(worker: &mut Worker, back: AfterPop, shared: &mut Shar
 
 /// Loads the head. The caller must know that the worker has a seat and a number of 32 bits, and that the task set
 /// has the shards of the configuration, and is closed where the queue is emptied.
-pub fn load_pop_head<B: Drop>(worker: &mut Worker, back: AfterPop, shared: &Shared<B>) -> Event
+fn load_pop_head<B: Drop>(worker: &mut Worker, back: AfterPop, shared: &Shared<B>) -> Event
     requires there { worker.old.index < length shared.now.seats.items }
     requires closed { is_discard back ≡ true → shared.now.set.closed ≡ true }
     requires shards { length shared.now.set.shards ≡ shard_count shared.now.config }
@@ -82,7 +82,7 @@ pub fn load_pop_head<B: Drop>(worker: &mut Worker, back: AfterPop, shared: &Shar
 /// Exchanges the head that was found for one past the oldest value. The caller must know that the worker has a seat
 /// and a number of 32 bits, that the task set has the shards of the configuration, and is closed where the queue is
 /// emptied; and must have seen a value: the head that was found is before the tail.
-pub fn exchange_pop<B: Drop>(
+fn exchange_pop<B: Drop>(
     worker: &mut Worker,
     head: Head,
     back: AfterPop,
@@ -111,7 +111,7 @@ pub fn exchange_pop<B: Drop>(
 
 /// Stores the head past a lone value without a claim. The caller must know that the worker has a seat, and that its
 /// queue has one value and no claim.
-pub fn store_pop<B: Drop>(worker: &mut Worker, back: AfterPop, shared: &mut Shared<B>) -> Event
+fn store_pop<B: Drop>(worker: &mut Worker, back: AfterPop, shared: &mut Shared<B>) -> Event
     requires there { worker.old.index < length shared.old.seats.items }
     requires lone { OfChair worker.old.index shared.old (λ chair. length chair.queue.values ≡ 1) }
     requires unclaimed { OfChair worker.old.index shared.old (λ chair. chair.queue.gap ≡ 0) }

@@ -82,7 +82,7 @@ pub fn load_push_head<B: Drop>(worker: &mut Worker, back: AfterPush, shared: &Sh
 /// Stores the tail behind the value, of which the queue has so many then by the head that was loaded. The caller
 /// must know that the worker has a seat and a runnable in the hand, and that its queue has room and is in the
 /// middle of no overflow.
-pub fn store_value<B: Drop>(
+fn store_value<B: Drop>(
     worker: &mut Worker,
     count: usize,
     back: AfterPush,
@@ -150,7 +150,7 @@ pub fn flow_over<B: Drop>(
 
 /// Stores the tail behind the oldest half. The caller must know that the worker has a seat, and that its queue has
 /// no other values.
-pub fn store_oldest<B: Drop>(worker: &mut Worker, back: AfterPush, shared: &mut Shared<B>) -> Event
+fn store_oldest<B: Drop>(worker: &mut Worker, back: AfterPush, shared: &mut Shared<B>) -> Event
     requires there { worker.old.index < length shared.old.seats.items }
     requires empty { OfChair worker.old.index shared.old (λ chair. chair.queue.values ≡ []) }
     ensures makes { Makes (store_oldest back (desk_of worker.old)

@@ -78,7 +78,7 @@ pub(crate) fn first_search(worker: &Worker, workers: usize) -> Place
 }
 
 /// Loads the search count: where half of the workers search, this one doesn't.
-pub fn load_search_count(worker: &mut Worker, idle: &PureIdle, workers: usize) -> Event
+fn load_search_count(worker: &mut Worker, idle: &PureIdle, workers: usize) -> Event
     ensures makes { (c : Configuration) → c.workers ≡ workers →
         Makes (load_search_count c (desk_of worker.old) idle.now) result worker.new }
     ensures goes { Goes worker.old worker.new }
@@ -93,7 +93,7 @@ pub fn load_search_count(worker: &mut Worker, idle: &PureIdle, workers: usize) -
 
 /// Adds a search count, which the worker holds from now on. The caller must know that the search count then is
 /// below 2^64.
-pub fn add_search_count(worker: &mut Worker, idle: &mut PureIdle) -> Event
+fn add_search_count(worker: &mut Worker, idle: &mut PureIdle) -> Event
     requires few { idle.old.count + 1 < 2 ^ 64 }
     ensures makes { Makes (add_search_count (desk_of worker.old) idle.old) result worker.new }
     ensures same { worker.new ≡ record worker.old { place = worker.new.place; searching = true } }
@@ -107,7 +107,7 @@ pub fn add_search_count(worker: &mut Worker, idle: &mut PureIdle) -> Event
 
 /// Loads the own head, for its room: a scan wants half of the places free. The caller must know that the worker has
 /// a seat, and must have some workers.
-pub fn load_scan_head<B: Drop>(worker: &mut Worker, shared: &Shared<B>) -> Event
+fn load_scan_head<B: Drop>(worker: &mut Worker, shared: &Shared<B>) -> Event
     requires there { worker.old.index < length shared.now.seats.items }
     requires workers { 0 < shared.now.config.workers }
     ensures makes { Makes (load_scan_head shared.now.config worker.old.index (desk_of worker.old)
@@ -148,7 +148,7 @@ fn look_at(worker: &Worker, scan: Scan, workers: usize) -> Place
 
 /// Loads the head of another queue. The caller must have some workers and a seat for each, and know that the two
 /// numbers of the scan come to less than 2^64 - 2.
-pub fn load_their_head<B: Drop>(worker: &mut Worker, scan: Scan, shared: &Shared<B>) -> Event
+fn load_their_head<B: Drop>(worker: &mut Worker, scan: Scan, shared: &Shared<B>) -> Event
     requires workers { 0 < shared.now.config.workers }
     requires seats { shared.now.config.workers ≤ length shared.now.seats.items }
     requires few { scan.start + scan.passed + 2 < 2 ^ 64 }
@@ -178,7 +178,7 @@ fn judge_head(worker: &Worker, scan: Scan, head: Head, workers: usize) -> Place
 /// Loads the tail of another queue. An overflow can come between the two loads; then the head is too old. The
 /// caller must have some workers and a seat for each, and know that the two numbers of the scan come to less than
 /// 2^64 - 2.
-pub fn load_their_tail<B: Drop>(
+fn load_their_tail<B: Drop>(
     worker: &mut Worker,
     scan: Scan,
     head: Head,
@@ -268,7 +268,7 @@ pub fn move_half(worker: &mut Worker, from: usize, head: Head) -> Event
 
 /// Exchanges the head of the other queue for one without the claim. The caller must know that there is such a
 /// worker.
-pub fn release_half<B: Drop>(
+fn release_half<B: Drop>(
     worker: &mut Worker,
     from: usize,
     head: Head,
@@ -294,7 +294,7 @@ pub fn release_half<B: Drop>(
 
 /// Stores the own tail behind the values that were moved. The caller must know that the worker has a seat, and that
 /// its queue has room for them and is in the middle of no overflow.
-pub fn store_moved<B: Drop>(worker: &mut Worker, shared: &mut Shared<B>) -> Event
+fn store_moved<B: Drop>(worker: &mut Worker, shared: &mut Shared<B>) -> Event
     requires there { worker.old.index < length shared.old.seats.items }
     requires room { OfChair worker.old.index shared.old (λ chair. length worker.old.loot.values ≤ room_of chair.queue) }
     requires whole { OfChair worker.old.index shared.old (λ chair. chair.queue.held ≡ []) }

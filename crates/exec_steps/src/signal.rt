@@ -1,4 +1,4 @@
-//! The signals to other workers, and the message that wakes the root of one.
+//! The signals to other workers.
 //!
 //! A signal puts the latch into the wake word of a worker. Where that worker waits and nobody signalled it before, its
 //! wait is ended by a second step: a wait on its ring has a wake raised there, and a worker that sleeps is roused,

@@ -28,8 +28,9 @@ use exec_serving::service::service;
 use exec_serving::word_wait::wait_on_word;
 use std::alloc::{AllocError, Global};
 
-/// Takes the next step of the worker, and answers what happens. A worker that it makes is in the nursery then. On Err
-/// nothing that can be seen has changed. The caller must know that the worker is sound with what all share, that the
+/// Takes the next step of the worker, and answers what happens. A worker that it makes is in the nursery then. Err
+/// comes only for want of memory, or where the numbers of tasks, workers, requests or sleepers have come to their end, and
+/// then nothing that can be seen has changed. The caller must know that the worker is sound with what all share, that the
 /// balances of all parties hold, and that the bodies of all tasks perform a plan of this configuration; that the worker
 /// has not ended, that all of the pool have passed the barrier where it has, and that each request is one of a worker
 /// that is there. The caller must have an empty nursery.

@@ -87,7 +87,7 @@ pub fn count_down(worker: &mut Worker, interval: u64, workers: usize) -> Event
 }
 
 /// Loads the length of the global queue.
-pub fn load_mirror<B: Drop>(worker: &mut Worker, first: First, shared: &Shared<B>) -> Event
+fn load_mirror<B: Drop>(worker: &mut Worker, first: First, shared: &Shared<B>) -> Event
     ensures makes { Makes (load_mirror shared.now.config first (desk_of worker.old)
         (things_of shared.now).global) result worker.new }
     ensures goes { Goes worker.old worker.new }
@@ -101,7 +101,7 @@ pub fn load_mirror<B: Drop>(worker: &mut Worker, first: First, shared: &Shared<B
 }
 
 /// Loads the head of the own run queue, for its room. The caller must know that the worker has a seat.
-pub fn load_head<B: Drop>(worker: &mut Worker, first: First, shared: &Shared<B>) -> Event
+fn load_head<B: Drop>(worker: &mut Worker, first: First, shared: &Shared<B>) -> Event
     requires there { worker.old.index < length shared.now.seats.items }
     ensures makes { Makes (load_head first (desk_of worker.old)
         (queue_of (things_of shared.now) worker.old.index)) result worker.new }
@@ -119,7 +119,7 @@ pub fn load_head<B: Drop>(worker: &mut Worker, first: First, shared: &Shared<B>)
 /// Takes a share of the global queue. The first of it is polled, the others go into the own run queue. The caller
 /// must know that the worker has a seat, and that its queue has the room that was found, or more, and is in the
 /// middle of no overflow; and must have some workers.
-pub fn take_share<B: Drop>(
+fn take_share<B: Drop>(
     worker: &mut Worker,
     first: First,
     room: usize,
@@ -151,7 +151,7 @@ pub fn take_share<B: Drop>(
 }
 
 /// Takes the root flag, and where it was set goes on to the poll of the root.
-pub fn take_root_flag(worker: &mut Worker) -> Event
+pub(crate) fn take_root_flag(worker: &mut Worker) -> Event
     ensures event { result ≡ Event.Turn }
     ensures worker { worker.new ≡ with_flag worker.old.root_ready worker.old }
 {

@@ -15,8 +15,8 @@ use exec_request::read_at::DIRECT_CHUNK;
 use exec_request::results::LARGEST_WINDOW;
 
 /// The operation by one more result. One that was to be asked for again moved nothing; a refused hint is given up; and
-/// where the first part of two is over, the second begins.
-pub fn gone_on(operation: Operation, given: OpResult) -> Operation
+/// where the first part of two is over, the second begins. The caller must know that the result is lawful for it.
+pub(crate) fn gone_on(operation: Operation, given: OpResult) -> Operation
     requires bytes { IsCountable operation }
     requires lawful { bytes_of given + operation.moved < 2 ^ 64 }
     ensures { (r : Request) → r.operation ≡ operation → result ≡ went_on r given }
@@ -116,7 +116,7 @@ fn part(operation: &Operation) -> (Kind, u64)
 }
 
 /// The most that the next operation may answer.
-pub fn window(operation: &Operation) -> u64
+pub(crate) fn window(operation: &Operation) -> u64
     requires bytes { IsCountable operation.now }
     ensures { result ≡ window_of (asked_in operation.now) (cursor_in operation.now) }
 {

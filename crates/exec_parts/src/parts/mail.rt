@@ -37,7 +37,7 @@ pub struct Reply {
 }
 
 /// A message as its worker takes it.
-pub fn mail_of(message: MailMessage) -> Mail
+pub(crate) fn mail_of(message: MailMessage) -> Mail
     ensures { result ≡ seen_mail message }
 {
     match message {

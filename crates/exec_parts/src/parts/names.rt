@@ -152,6 +152,7 @@ impl Names {
         ensures capacity { deque_capacity self.new.ended ≡ deque_capacity self.old.ended }
         ensures same { self.new ≡ record self.old { ended = self.new.ended; unreleased = self.new.unreleased } }
         ensures unreleased { OnSome result (self.new.unreleased + 1 ≡ self.old.unreleased) }
+        ensures none { IfNone result (self.new.unreleased ≡ self.old.unreleased) }
     {
         let number = self.ended.pop_front()?;
         self.unreleased -= 1;

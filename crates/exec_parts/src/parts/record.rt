@@ -73,7 +73,7 @@ impl Record {
     }
 
     /// It is over, where it has an outcome.
-    pub fn resolve_if(&mut self, outcome: Option<Outcome>)
+    pub(crate) fn resolve_if(&mut self, outcome: Option<Outcome>)
         ensures shown { self.new.shown ≡ resolved_if outcome self.old.shown }
         ensures id { self.new.id ≡ self.old.id }
         ensures sent { self.new.sent ≡ self.old.sent }

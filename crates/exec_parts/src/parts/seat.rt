@@ -5,7 +5,7 @@
 
 ghost use Rattle.std.specs.Prelude.{◌≡◌, ◌+◌, ◌^◌, ◌<◌, map, not, Some, None, IfOk, OnOk, if◌then◌else◌};
 ghost use Rattle.exec_words.specs.Word.{asks_signal};
-ghost use Rattle.exec_machine.specs.Tests.{is_awake, has_ended, is_open};
+ghost use Rattle.exec_machine.specs.Tests.{is_awake, has_ended};
 ghost use Rattle.exec_parts.specs.{Pooled.{chair_latched, chair_raised}, Records.{reached, HasMailRoom, IsFreshSeat, MakesMail}};
 
 use crate::parts::mail::{Mail, Post};
@@ -69,13 +69,6 @@ impl Seat {
         matches!(self.phase, WorkerPhase::Ended)
     }
 
-    /// Whether it polls tasks.
-    pub fn is_open(&self) -> bool
-        ensures { result ≡ is_open self.now.phase }
-    {
-        matches!(self.phase, WorkerPhase::Open)
-    }
-
     /// Signals the worker: the latch goes into its wake word. Answers whether a wait is to be ended: that of its ring,
     /// or that of its word.
     pub fn signal(&mut self) -> Option<WaitTarget>
@@ -129,7 +122,7 @@ impl Seat {
     }
 
     /// The clock has come to this moment, in nanoseconds.
-    pub fn reach(&mut self, clock: u64)
+    pub(crate) fn reach(&mut self, clock: u64)
         ensures { self.new ≡ reached clock self.old }
     {
         match self.rest {

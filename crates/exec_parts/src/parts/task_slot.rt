@@ -13,7 +13,6 @@ ghost use Rattle.exec_base.specs.OneShot.{polled, sent};
 ghost use Rattle.exec_base.specs.declared.one_shot.OneShotState.TheVariants as shot;
 ghost use Rattle.exec_machine.specs.declared.state.Waiting.TheVariants as waiting;
 ghost use Rattle.exec_machine.specs.Tasks.{begun_waiting};
-ghost use Rattle.exec_base.specs.declared.one_shot.OneShotState.TheVariants as shot;
 ghost use Rattle.exec_task.specs.declared.body.Said.TheVariants as said;
 ghost use Rattle.exec_task.specs.declared.runnable.AfterPoll.TheVariants as after;
 ghost use Rattle.exec_task.specs.declared.task.Phase.TheVariants as cell;
@@ -23,7 +22,7 @@ use crate::parts::held::Held;
 use exec_base::error::Error;
 use exec_base::one_shot::OneShot;
 use exec_base::task_no::TaskNo;
-use exec_machine::state::{TaskPhase, Waiting};
+use exec_machine::state::Waiting;
 use exec_request::output::RequestOutput;
 use exec_task::body::{Act, Around, Body, Ended, Said};
 use exec_task::runnable::{AfterPoll, Runnable};
@@ -57,7 +56,7 @@ pub struct TaskSlot<B> {
 }
 
 impl<B: Drop> TaskSlot<B> {
-    ghost use Rattle.exec_parts.specs.{Calls.{heard_in, sleeper_in}, Phased.is_complete, Records.numbers_held, View.phase_seen};
+    ghost use Rattle.exec_parts.specs.{Calls.{heard_in, sleeper_in}, Phased.is_complete, Records.numbers_held};
     ghost use Rattle.exec_parts.specs.Pooled.{cleared_slot};
     ghost use Rattle.exec_parts.specs.Polls.{pended_slot};
 
@@ -89,19 +88,6 @@ impl<B: Drop> TaskSlot<B> {
             poller: 0,
         };
         (slot, runnable)
-    }
-
-    /// How it stands.
-    pub fn phase(&self) -> TaskPhase
-        ensures { result ≡ phase_seen self.now.cell.phase self.now.poller }
-    {
-        match self.cell.phase() {
-            Phase::Idle(_) => TaskPhase::Idle,
-            Phase::Queued(_) => TaskPhase::Queued,
-            Phase::Running => TaskPhase::Running(self.poller),
-            Phase::Notified => TaskPhase::Noted(self.poller),
-            Phase::Complete => TaskPhase::Done,
-        }
     }
 
     /// The worker whose root it is.
@@ -216,7 +202,7 @@ impl<B: Drop> TaskSlot<B> {
     }
 
     /// Changes the requests that it holds for these.
-    pub fn swap_held(&mut self, others: &mut Vec<Held>)
+    pub(crate) fn swap_held(&mut self, others: &mut Vec<Held>)
         ensures new { self.new ≡ record self.old { held = others.old } }
         ensures others { others.new ≡ self.old.held }
     {

@@ -1,4 +1,4 @@
-use Rattle.std.proofs.{Common.{◌==◌, ◌<◌, ap, drop, length, not, subst, ◌∙◌}, lemmas.Option.slice_get_within}
+use Rattle.std.proofs.{Common.{◌==◌, ◌<◌, ap, drop, length, not, subst, sym, ◌∙◌}, lemmas.Option.slice_get_within}
 use Rattle.exec_messages.proofs.{BackAnswers.{last_left, may_send_output, output_sent}, BackEnds.{end_sent, may_send_end}, BackNext.next_woken, MailFrees.{first_of, released_as}, MailOwes.{may_wake_next, none_by, some_by}}
 use Rattle.exec_invariants.proofs.MailBack.{output_gone}
 use Rattle.exec_messages.proofs.callbacks.call_back.Goals as goal
@@ -8,16 +8,6 @@ wake_next-requires g c =
     let w = c.args.worker.now in
     record { may = may_wake_next w c.args.shared.now c.requires.whole (subst (λ n. 0 < n) w.home.deferred.notes.wakes.ok.0 (some_by _ c.is_empty.result c.is_empty.ensures (ap not c.if-not-is_empty.true))) }
 
-pub let_go_output-requires-clause-none : goal.let_go_output-requires-clause-none
-let_go_output-requires-clause-none g c =
-    let wakes = c.args.worker.now.home.deferred.notes.wakes in
-    none_by wakes.items c.is_empty.result (c.is_empty.ensures ∙ ap (λ n. n == 0) wakes.ok.0) (ap not c.if-not-is_empty.false)
-
-pub release_next-requires-clause-none : goal.release_next-requires-clause-none
-release_next-requires-clause-none g c =
-    let wakes = c.args.worker.now.home.deferred.notes.wakes in
-    none_by wakes.items c.is_empty.result (c.is_empty.ensures ∙ ap (λ n. n == 0) wakes.ok.0) (ap not c.if-not-is_empty.false)
-
 pub release_next-requires-clause-there : goal.release_next-requires-clause-there
 release_next-requires-clause-there g c = λ n at.
     let found = c.requires.sound.over.over 0 n at in
@@ -25,15 +15,25 @@ release_next-requires-clause-there g c = λ n at.
 
 pub returns-then-not-is_empty-2 : goal.returns-then-not-is_empty-2
 returns-then-not-is_empty-2 g c =
+    let left = c.args.worker.now.home.deferred in
     let is = c.let_go_output.ensures in
-    record { steps = output_gone g.B.Body.left g.B.Scripted.spot c.args.next c.args.worker.now c.let_go_output.new.worker c.args.shared.now c.let_go_output.result c.requires.sound is.event is.place is.same is.none is.some is.outputs is.told is.wide }
+    record {
+      steps = output_gone g.B.Body.left g.B.Scripted.spot c.args.next c.args.worker.now c.let_go_output.new.worker c.args.shared.now c.let_go_output.result c.requires.sound is.event is.place is.same
+          (none_by left.notes.wakes.items c.is_empty.result (c.is_empty.ensures ∙ ap (λ n. n == 0) left.notes.wakes.ok.0) (ap not c.if-not-is_empty.false))
+          (subst (λ n. 0 < n) left.outputs.ok.0 (some_by _ c.is_empty-2.result c.is_empty-2.ensures (ap not c.if-not-is_empty-2.true)))
+          is.outputs is.told is.wide;
+    }
 
 pub returns-then-not-is_empty-3 : goal.returns-then-not-is_empty-3
 returns-then-not-is_empty-3 g c =
+    let left = c.args.worker.now.home.deferred in
     let is = c.release_next.ensures in
-    let first = first_of c.args.worker.now.names.ended.items is.some in
+    let some = subst (λ n. 0 < n) left.resources.ok.0 (some_by _ c.is_empty-3.result c.is_empty-3.ensures (ap not c.if-not-is_empty-3.true)) in
+    let first = first_of c.args.worker.now.names.ended.items (subst (λ n. 0 < n) (sym c.requires.sound.told.resources) some) in
     record {
-      steps = released_as g.B.Body.left g.B.Scripted.spot c.args.next first.0 c.args.worker.now c.release_next.new.worker c.args.shared.now c.release_next.new.shared c.release_next.result c.requires.sound (is.event first.0 first.1) is.place is.none is.empty
+      steps = released_as g.B.Body.left g.B.Scripted.spot c.args.next first.0 c.args.worker.now c.release_next.new.worker c.args.shared.now c.release_next.new.shared c.release_next.result c.requires.sound (is.event first.0 first.1) is.place
+          (none_by left.notes.wakes.items c.is_empty.result (c.is_empty.ensures ∙ ap (λ n. n == 0) left.notes.wakes.ok.0) (ap not c.if-not-is_empty.false))
+          (ap length (none_by left.outputs.items c.is_empty-2.result (c.is_empty-2.ensures ∙ ap (λ n. n == 0) left.outputs.ok.0) (ap not c.if-not-is_empty-2.false)))
           (record { rest = drop 1 c.args.worker.now.names.ended.items; first = first.2; ended = is.ended; capacity = is.capacity; unreleased = is.unreleased; wide = is.wide; told = is.told; worker = is.worker; requests = is.requests first.0 first.1; kept = is.kept });
     }
 

@@ -1,9 +1,14 @@
 use Rattle.std.proofs.Common.{◌≡◌, ◌++◌, Some, refl, sym, ap, ◌∙◌, option_to_list}
-use Rattle.exec_waiters.specs.{Events.seen_by, States.may_be_seen}
+use Rattle.exec_request.specs.declared.output.RequestOutput.{RequestOutput}
+use Rattle.exec_waiters.specs.{Events.seen_by, States.may_be_seen, declared.waiter.Entry.{Entry}}
+use Rattle.exec_time.specs.declared.timers.Observation.{Observation}
 use Rattle.exec_task.specs.declared.body.Said.{Said}
 use Rattle.exec_machine.specs.declared.state.{RequestPhase.TheVariants.Resolved, Waiting.Waiting}
 use Rattle.exec_parts.{specs.{Records.{numbers_held, outcome_in}, declared.parts.task_slot.TaskSlot.TaskSlot}, proofs.{Facts.same_Some, MailLets.found_at}}
 use Rattle.exec_polling.proofs.resuming.take_output.Goals as goal
+
+same_output : (a b : RequestOutput) → Observation.Ready a ≡ Observation.Ready b → a ≡ b
+same_output a b same = cc (same)
 
 pub unreachable-requires : goal.unreachable-requires
 unreachable-requires g c =
@@ -53,6 +58,7 @@ returns g c =
         tasks = refl;
         kept = refl;
         output = c.in-Ready.output;
+        stood = ready.kept ∙ ap (λ o. Some (Entry.Ready o)) (same_output ready.output c.in-Ready.output (sym (c.observe.ensures.answer ∙ ap (seen_by (record { 0 = 0 })) ready.kept) ∙ c.in-Ready.is));
         took = step ∙ ap (λ h. record o { held = h; waiting = Waiting.Nothing; told = Some (Said.Output c.in-Ready.output) }) (sym held);
         all = ap (λ h. h.items) held ∙ c.let_go.ensures.all;
         newest = c.let_go.result;

@@ -55,5 +55,5 @@ returns-clause-act g c =
     let told_held = c.hear.ensures.held ∙ ap (λ xs. held_by c.self.inside.asked xs c.args.said) (c.make_room.ensures.items ∙ in_held) ∙ ap (λ q. held_by q s.held c.args.said) in_asked in
     let told_place = c.place_told-self-inside.ensures ∙ ap (λ (x : Played). place_by x c.args.said) c.self.view_is in
     makes s _ c.args.said sees c.next_place-place.result c.place_past-self-inside.result c.is_some.result c.word-word.result c.in-Ok.request act next made
-    (λ l. c.place_past-self-inside.ensures (subst (λ xs. c.next_place-place.result < length xs) (sym in_words) l))
+    (λ l. c.place_past-self-inside.ensures.past (subst (λ xs. c.next_place-place.result < length xs) (sym in_words) l))
     (state_is s c.args.said act _ _ _ _ _ _ _ _ in_code in_words in_scripts in_limits told_place told_held c.asked_by-self-inside.ensures)

@@ -13,6 +13,7 @@ returns-clause-made g c =
     let number = c.in-Ok.ensures.1 ∙ c.len-count.ensures ∙ s.tasks.ok.0 in
     let items = c.push_reserved.ensures.items ∙ ap (λ xs. xs ++ x ∷ []) c.in_ok-reserve.ensures.items in
     let task = ap (λ (r : Runnable). r.task) of_x.runnable ∙ ap (λ y. y.number) of_x.cell in
+    let owner = c.id.ensures ∙ ap (λ z. z.id) c.in-Ok-insert.ensures.inserted in
     let places = c.in_ok-reserve-2.ensures.places in
     record {
       answer = rw shut refl;
@@ -20,7 +21,7 @@ returns-clause-made g c =
       number = λ r h. subst (λ (z : Runnable). z.task.0 ≡ length s.tasks.items) (same_Some c.new-slot.result.1 r h) (ap (λ n. n.0) task ∙ number);
       slot = λ r h.
           let same = same_Some c.new-slot.result.1 r h in
-          (x, items, sym same ∙ of_x.runnable, subst (λ (z : Runnable). IsNewTask z.task c.args.body x) same (subst (λ n. IsNewTask n c.args.body x) (sym task) (new_task x _ _ c.args.body of_x.cell (ap numbers_held of_x.held) of_x.slot)));
+          (x, items, sym same ∙ of_x.runnable, subst (λ (z : Runnable). IsNewTask z.task s.set.id c.args.body x) same (subst (λ n. IsNewTask n s.set.id c.args.body x) (sym task) (new_task x _ _ _ c.args.body owner of_x.cell (ap numbers_held of_x.held) of_x.slot)));
       set = λ r h.
           let same = same_Some c.new-slot.result.1 r h in
           c.in-Ok-insert.ensures.inserted ∙ ap (λ n. inserted s.set n tt) (sym task ∙ ap (λ (z : Runnable). z.task) same);

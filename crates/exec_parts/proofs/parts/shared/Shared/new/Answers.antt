@@ -26,5 +26,7 @@ returns g c = record {
     requests = c.new-6.ensures.items;
     sleepers = c.new-7.ensures.items;
     listeners = c.in_ok-listeners.ensures.items_if_clones_equal (λ y is. is);
+    unmoved = c.new-9.ensures.sockets;
+    unwritten = c.new-9.ensures.files;
   };
 }

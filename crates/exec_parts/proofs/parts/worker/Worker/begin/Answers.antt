@@ -11,6 +11,7 @@ returns-clause-begins c =
     record {
       parts = rw (c.in_ok-with_places.ensures, c.in_ok-with_places-2.ensures, c.new-2.ensures, c.new-3.ensures, c.spins_of.ensures) refl;
       names = subst (λ n. HasNoNames n c.in_ok-new.field-0) c.ring_size-size.ensures c.in_ok-new.ensures.names;
+      home = c.new-home.ensures.worker;
       opened = c.new-home.ensures.open;
       driver = subst (λ d. IsFresh (seen d) (ring_size k) (horizon k) k.tick now) (sym c.new-home.ensures.driver) (subst (λ n. IsFresh (seen c.in_ok-driver.driver) n (horizon k) k.tick now) c.ring_size-size.ensures c.in_ok-driver.ensures.fresh);
       punctual = subst (λ d. IsPunctual (seen d)) (sym c.new-home.ensures.driver) c.in_ok-driver.ensures.punctual;
