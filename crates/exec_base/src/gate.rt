@@ -14,9 +14,6 @@
 ghost use Rattle.std.specs.Prelude.{◌≡◌, ◌≢◌, [], ◌∷◌, None, Some, is_none, ◌+◌, length, slice_get, max, IfNone, OnOk, OnErr};
 ghost use Rattle.exec_base.specs.Gate.{entered, left, HasPlace, held_by_three};
 
-#[cfg(test)]
-mod tests;
-
 use std::alloc::{AllocError, Global};
 use std::collections::VecDeque;
 use std::marker::Model;

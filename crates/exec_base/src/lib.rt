@@ -11,5 +11,3 @@ pub mod post;
 pub mod slab;
 pub mod spinner;
 pub mod task_no;
-#[cfg(test)]
-mod tests;

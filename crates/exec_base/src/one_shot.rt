@@ -20,9 +20,6 @@ ghost use Rattle.exec_base.specs.OneShot.{sent, polled, closed, send_answer, pol
 ghost use Rattle.exec_base.specs.declared.error.Error.TheVariants as error;
 ghost use Rattle.exec_base.specs.declared.one_shot.OneShotState.TheVariants as state;
 
-#[cfg(test)]
-mod tests;
-
 use crate::error::Error;
 use std::marker::Model;
 use std::mem;

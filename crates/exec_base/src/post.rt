@@ -8,9 +8,6 @@
 ghost use Rattle.std.specs.Prelude.{◌≡◌, IsTrue, IsErr, OnOk, OnErr, IfErr, Bool, List, Option};
 ghost use Rattle.exec_base.specs.Post.{Takes};
 
-#[cfg(test)]
-mod tests;
-
 /// Where messages to another worker go.
 pub trait Post<M> {
     // Whether it is closed, as far as this end knows. A live one learns it only by a refusal.

@@ -24,8 +24,6 @@ ghost use Rattle.std.specs.Option.{option_copied_mut};
 ghost use Rattle.std.specs.Borrow.{Lends, sem};
 
 mod laws;
-#[cfg(test)]
-mod tests;
 
 pub use laws::{
     a_slot_retires, a_write_changes_one_value, ids_are_ordered_by_index_and_then_by_generation,

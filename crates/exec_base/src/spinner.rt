@@ -18,9 +18,6 @@
 ghost use Rattle.std.specs.Prelude.{◌≡◌, ◌≢◌, ◌≤◌, ◌<◌, true, false};
 ghost use Rattle.exec_base.specs.Spinner.{begun, after_hit, after_miss, after_wake, after_spin, looks_in, IsSpun, ten_to_fifty};
 
-#[cfg(test)]
-mod tests;
-
 use std::hint;
 use std::marker::Model;
 

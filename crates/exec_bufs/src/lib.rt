@@ -5,5 +5,3 @@ pub mod buf;
 pub mod bufs;
 pub mod bufs_mut;
 pub mod examples;
-#[cfg(test)]
-mod tests;

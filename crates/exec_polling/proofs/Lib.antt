@@ -1,5 +1,4 @@
 pub mod Making
-pub mod LeafMail
 pub mod LeafBeds
 pub mod Growing
 pub mod Enlisting

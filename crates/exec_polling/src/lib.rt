@@ -7,10 +7,7 @@
 
 pub mod caller;
 pub mod callers;
-pub mod dedicating;
-pub mod ending;
 pub mod poll;
 pub mod registering;
 pub mod resuming;
 pub mod sending;
-pub mod spawning;

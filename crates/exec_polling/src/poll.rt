@@ -9,7 +9,6 @@
 
 ghost use Rattle.exec_invariants.specs.{Acting.{PerformsOne, StepsWith}, Sound.SoundAt, Whole.HasWhole, Works.Same};
 ghost use Rattle.std.specs.Prelude.{◌≡◌, ◌<◌, true, IfOk, OnErr, None, IsSome, length, is_some, Some, if◌then◌else◌};
-ghost use Rattle.exec_base.specs.declared.error.Error.TheVariants.{NoMemory};
 ghost use Rattle.exec_task.specs.Phases.{queued_body, runnable_of};
 ghost use Rattle.exec_task.specs.declared.body.Said.TheVariants as said;
 ghost use Rattle.exec_machine.specs.declared.state.Waiting.TheVariants as waiting;
@@ -17,12 +16,8 @@ ghost use Rattle.exec_machine.specs.Tasks.{begun_waiting};
 ghost use Rattle.exec_moves.specs.{Parts.next_pick as place_of_pick, Poll.after_begin};
 ghost use Rattle.exec_parts.specs.{Awaits.{AwaitsNewest, DropsRequest, HasNewest, OfNewest, newest_of}, Ending.{MayPend, PendsTask}, Polls.{MadeAct, OfSlot, begun_slot_if, yielded_slot}, Pooled.queued_again, Tests.after_poll_of, View.desk_of, Things.TurnsSlot};
 
-use crate::dedicating::dedicate;
-use crate::ending::{fail, finish, remove_task};
 use crate::registering::{drop_request, join_gate, register, sleep_for};
 use crate::resuming::{await_request, resume};
-use crate::spawning::{load_spawn_head, spawn, wake_task};
-use exec_base::error::Error;
 use exec_machine::event::Event;
 use exec_machine::state::{MailMessage, Waiting};
 use exec_moves::handing::{AfterCallbacks, AfterCancels, AfterPush, AfterSend, InPush};
@@ -32,6 +27,9 @@ use exec_parts::parts::nursery::Nursery;
 use exec_parts::parts::shared::Shared;
 use exec_parts::parts::worker::Worker;
 use exec_parts::scripted::Scripted;
+use exec_spawning::dedicating::dedicate;
+use exec_spawning::ending::{fail, finish, remove_task};
+use exec_spawning::spawning::{load_spawn_head, spawn, wake_task};
 use exec_task::body::{Act, Said};
 use exec_task::runnable::{AfterPoll, Runnable};
 use std::alloc::{AllocError, Global};
@@ -289,11 +287,4 @@ fn first_step(waiting: Waiting) -> InPoll
         Waiting::Nothing => InPoll::Act,
         _ => InPoll::Resume,
     }
-}
-
-/// A body whose act wanted memory is told so.
-pub(crate) fn refused() -> Said
-    ensures { result ≡ said.Refused NoMemory }
-{
-    Said::Refused(Error::NoMemory)
 }

@@ -10,7 +10,6 @@ ghost use Rattle.exec_machine.specs.Requests.{new_request, outcome_if_late, reso
 ghost use Rattle.exec_invariants.specs.Admitting.{MayMake, MakesRoom, Refuses, HasPlaceAt, HasRoomFor, HasRoomForSleep, TakesBed, TakesIn, NamesOne, Registers, Sleeps, has_open, joined_at, joins_gate, most_told, seeing};
 ghost use Rattle.exec_parts.specs.{Awaits.{DropsHere, MayLetGo}, Polls.OfSlot, Records.{HasRequestRoom, IsInRange, numbers_held}, View.driver_of};
 
-use crate::poll::refused;
 use exec_base::error::Error;
 use exec_base::limits::LONGEST_TIMEOUT;
 use exec_base::task_no::TaskNo;
@@ -26,6 +25,7 @@ use exec_parts::parts::sleeping::SleeperRecord;
 use exec_parts::parts::worker::Worker;
 use exec_parts::scripted::Scripted;
 use exec_request::request::Request;
+use exec_spawning::spawning::refused;
 use exec_task::body::Said;
 use exec_time::timers::TimerId;
 use exec_waiters::observer::Observer;

@@ -10,5 +10,3 @@ pub mod ring;
 pub mod sim_ring;
 pub mod socket;
 pub mod store;
-#[cfg(test)]
-mod tests;

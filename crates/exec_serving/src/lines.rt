@@ -3,7 +3,7 @@
 //! Each touches what it names and no place: a worker finds what they did at its next look. What lands on a ring and a
 //! stray wake rouse its worker; the clock rouses those who slept until its moment.
 
-ghost use Rattle.std.specs.Prelude.{◌≡◌, length, slice_get, true, Some, ◌+◌, ◌<◌, ◌≤◌, map, slice_set, slice_index_or, IfOk, OnOk, OnErr};
+ghost use Rattle.std.specs.Prelude.{◌≡◌, length, slice_get, true, Some, ◌+◌, ◌^◌, ◌<◌, ◌≤◌, map, slice_set, slice_index_or, IfOk, OnOk, OnErr};
 ghost use Rattle.exec_parts.specs.{declared.parts.{record.Record.Record, worker.Worker.Worker as Party}, Phased.TurnsChair, Records.{landed_on, reached, roused}, View.{Views, own_of, desk_of, common_of, things_with, visible, with_view}};
 ghost use Rattle.exec_machine.specs.{Callers.after_landing, Progress.Plan};
 ghost use Rattle.exec_invariants.specs.{Carried.MayLand, Sound.Sound, Works.{Beside, Suits}, Whole.{IsWhole, Profile}};
@@ -140,6 +140,7 @@ pub fn bring_peer<B: Drop>(shared: &mut Shared<B>, listener: usize) -> Result<Ev
     ensures one_more { OnOk result (shared.new.listeners.items ≡ slice_set shared.old.listeners.items listener (slice_index_or shared.old.listeners.items listener 0 + 1)) }
     ensures kept { shared.new ≡ record shared.old { listeners = shared.new.listeners } }
     ensures same { OnErr result (shared.new ≡ shared.old) }
+    ensures full { OnErr result (2 ^ 64 ≤ slice_index_or shared.old.listeners.items listener 0 + 1) }
     ensures sound { (w : Party) → Sound w shared.old → Sound w shared.new }
     ensures whole { (x : Profile) → IsWhole x shared.old → IsWhole x shared.new }
 {

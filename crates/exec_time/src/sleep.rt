@@ -258,6 +258,3 @@ impl Sleep {
         true
     }
 }
-
-#[cfg(test)]
-mod tests;

@@ -335,6 +335,3 @@ fn tell<S: Drop>(observer: Observer<S>, result_told: Result<(), Error>, notes: &
         }),
     }
 }
-
-#[cfg(test)]
-pub(crate) mod tests;

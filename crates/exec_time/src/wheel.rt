@@ -361,6 +361,3 @@ fn is_out_of_range(nanos: u64) -> bool
 {
     nanos == 0 || nanos > TimeoutWheel::MAX_TIMEOUT
 }
-
-#[cfg(test)]
-mod tests;

@@ -1,13 +1,13 @@
 //! The making of a worker, of the pool or of a dedicated task.
 
-ghost use Rattle.std.specs.Prelude.{◌≡◌, ◌+◌, ◌^◌, ◌<◌, ◌≤◌, IfOk};
+ghost use Rattle.std.specs.Prelude.{◌≡◌, ◌+◌, ◌^◌, ◌<◌, ◌≤◌, [], IfOk};
 ghost use Rattle.exec_driver.specs.{Driving.seen, Punctual.IsPunctual, Steps.IsFresh as IsFreshDriver};
 ghost use Rattle.exec_machine.specs.Ranges.{horizon, ring_size as size_of_ring};
 ghost use Rattle.exec_ring.specs.Stores.{Same};
-ghost use Rattle.exec_parts.specs.Dedicated.{Begins, MayBegin, spins_in};
+ghost use Rattle.exec_parts.specs.{Dedicated.{Begins, MayBegin, spins_in}, Records.HasNoNames};
 
 use crate::parts::letters::Letters;
-use crate::parts::mail::Reply;
+use crate::parts::mail::{Mail, Reply};
 use crate::parts::names::Names;
 use crate::parts::role::Role;
 use crate::parts::worker::{Moments, PutOff, Worker};
@@ -52,6 +52,7 @@ impl Worker {
         let driver = first_driver(alloc, configuration, size, now, store)?;
         let mut home = Home::new(alloc, index as u32, driver);
         home.deferred.reserve(alloc, FIRST_TOLD)?;
+        let rooms = first_rooms(alloc, size)?;
         Ok(Worker {
             place: Place::BeginTurn,
             index,
@@ -59,11 +60,11 @@ impl Worker {
             role,
             root,
             home,
-            names: Names::new(alloc, size)?,
+            names: rooms.names,
             moments: Moments::new(now),
             root_ready: Some(runnable),
             hand: None,
-            loot: Reserved::with_places(alloc, HALF + 1)?,
+            loot: rooms.loot,
             picks: 0,
             searching: false,
             rng: index as u32 + 1,
@@ -72,13 +73,35 @@ impl Worker {
                 defer: false,
                 enter: false,
             },
-            batch: Reserved::with_places(alloc, 1)?,
+            batch: rooms.batch,
             processed: 0,
             spinner: Spinner::new(&spins_of(configuration), configuration.spin.iterations),
             slept: None,
             letters: Letters::new(alloc),
         })
     }
+}
+
+/// The lists of a worker that want memory at its beginning.
+#[derive(Drop)]
+struct Rooms {
+    names: Names,
+    loot: Reserved<Runnable>,
+    batch: Reserved<Mail>,
+}
+
+/// The lists of a worker whose ring holds so many operations. Made together, since each that is refused lets go of what
+/// the worker has by then. An `Err` comes only for want of memory.
+fn first_rooms(alloc: Global, size: usize) -> Result<Rooms, AllocError>
+    ensures names { IfOk result (λ rooms. HasNoNames size rooms.names) }
+    ensures loot { IfOk result (λ rooms. rooms.loot ≡ record { values = []; places = 129 }) }
+    ensures batch { IfOk result (λ rooms. rooms.batch ≡ record { values = []; places = 1 }) }
+{
+    Ok(Rooms {
+        names: Names::new(alloc, size)?,
+        loot: Reserved::with_places(alloc, HALF + 1)?,
+        batch: Reserved::with_places(alloc, 1)?,
+    })
 }
 
 /// How long a worker looks before it sleeps.

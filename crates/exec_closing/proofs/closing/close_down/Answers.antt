@@ -1,3 +1,4 @@
+use Rattle.std.proofs.{Common.arith, lemmas.Grind.elements}
 use Rattle.std.proofs.lemmas.Option.{slice_get_within}
 use Rattle.exec_closing.proofs.{ClosesMail.mailbox_closed, ClosingOrphan.request_orphaned, ClosingSleeper.sleeper_let_go, LetsMay.{may_close_sleeper, may_orphan}, Parting.{barrier_left, worker_ended}, Stopping.{has_root_place, root_told}, TaskCleared.task_cleared, TaskClearing.may_clear, Visiting.shard_visited}
 use Rattle.exec_invariants.proofs.{Closes.closing_began, ClosesPool.{queue_closed, barrier_opened, pool_stopped}, FiringRemoved.removes_seen, TaskOverLets.lets_seen}
@@ -87,3 +88,6 @@ returns-in-Orphan g c =
 pub returns-in-CloseSleeper : goal.returns-in-CloseSleeper
 returns-in-CloseSleeper g c =
     record { steps = sleeper_let_go g.B.Body.left g.B.Scripted.spot c.args.worker.now c.close_sleeper.new.worker c.args.shared.now c.close_sleeper.new.shared c.close_sleeper.result (rw c.in-CloseSleeper.is at c.requires.sound) c.requires.going c.close_sleeper.ensures.closes }
+
+pub close-requires : goal.close-requires
+close-requires g c = grind (arith, elements)

@@ -1,4 +1,4 @@
-use Rattle.std.proofs.Common.{◌<◌, length, None, subst, refl, sym, ap, ◌∙◌, slice_set, if◌then◌else◌}
+use Rattle.std.proofs.{Common.{◌<◌, length, None, subst, refl, sym, ap, ◌∙◌, slice_set, if◌then◌else◌, arith}, lemmas.Grind.elements}
 use Rattle.exec_machine.specs.{declared.event.Event.TheVariants.Orphan, Requests.{ends_by_drop, joined_if}}
 use Rattle.exec_parts.{specs.{Records.outcome_in, declared.parts.names.Names.Names}, proofs.MailLets.{dropped_so, found_at}}
 use Rattle.exec_closing.proofs.closing.orphan_next.Goals as goal
@@ -36,3 +36,6 @@ returns g c =
         kept = refl;
       };
     }
+
+pub end_if-requires : goal.end_if-requires
+end_if-requires g c = grind (arith, elements)

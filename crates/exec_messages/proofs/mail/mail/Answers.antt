@@ -1,3 +1,4 @@
+use Rattle.std.proofs.{Common.arith, lemmas.Grind.elements}
 use Rattle.exec_messages.proofs.{MailApplied.message_applied, MailMay.may_take}
 use Rattle.exec_invariants.proofs.Mailing.{word_loaded, mail_taken}
 use Rattle.exec_messages.proofs.mail.mail.Goals as goal
@@ -17,3 +18,9 @@ apply-requires-clause-few g c = (rw c.in-Apply.is at c.requires.sound).aims
 
 pub apply-requires-clause-may : goal.apply-requires-clause-may
 apply-requires-clause-may g c = may_take c.in-Apply.applied c.in-Apply.taken c.args.worker.now c.args.shared.now (rw c.in-Apply.is at c.requires.sound) c.requires.whole
+
+pub load_mail_word-requires-clause-there : goal.load_mail_word-requires-clause-there
+load_mail_word-requires-clause-there g c = grind (arith, elements)
+
+pub take_mail-requires-clause-there : goal.take_mail-requires-clause-there
+take_mail-requires-clause-there g c = grind (arith, elements)

@@ -1,4 +1,4 @@
-use Rattle.std.proofs.Common.{◌≡◌, arith, refl, sym, ap, ◌∙◌, subst}
+use Rattle.std.proofs.{Common.{◌≡◌, arith, refl, sym, ap, ◌∙◌, subst}, lemmas.Grind.elements}
 use Rattle.exec_task.specs.declared.body.Act.{Act}
 use Rattle.exec_moves.specs.declared.place.{InPoll.InPoll, Place.Place}
 use Rattle.exec_parts.specs.declared.parts.nursery.Nursery.{Nursery}
@@ -287,3 +287,18 @@ returns-in-Dedicated-clause-same g c =
 
 pub returns-in-Dedicated-clause-nobody : goal.returns-in-Dedicated-clause-nobody
 returns-in-Dedicated-clause-nobody g c = on_err_weaker c.dedicate.result (λ it. ap (λ (y : Nursery). y.born) it.nobody.nursery ∙ c.requires.none_yet) c.dedicate.ensures.refused
+
+pub returns-in_err-request-clause-steps : goal.returns-in_err-request-clause-steps
+returns-in_err-request-clause-steps g c = grind (arith, elements)
+
+pub returns-in_err-request-clause-nobody : goal.returns-in_err-request-clause-nobody
+returns-in_err-request-clause-nobody g c = grind (arith, elements)
+
+pub returns-in-Register-clause-nobody : goal.returns-in-Register-clause-nobody
+returns-in-Register-clause-nobody g c = grind (arith, elements)
+
+pub returns-in-Sleep-clause-nobody : goal.returns-in-Sleep-clause-nobody
+returns-in-Sleep-clause-nobody g c = grind (arith, elements)
+
+pub returns-in-Spawn-clause-nobody : goal.returns-in-Spawn-clause-nobody
+returns-in-Spawn-clause-nobody g c = grind (arith, elements)

@@ -1,4 +1,4 @@
-use Rattle.std.proofs.{Common.{refl, sym, ap, ◌∙◌, slice_set}, lemmas.Bool.false≢true}
+use Rattle.std.proofs.{Common.{refl, sym, ap, ◌∙◌, slice_set, arith}, lemmas.{Grind.elements, Bool.false≢true}}
 use Rattle.exec_waiters.specs.Events.{changed, with_waker}
 use Rattle.exec_machine.specs.Tests.{is_resolved}
 use Rattle.exec_parts.{specs.{Awaits.awaited_by, View.driver_of, declared.parts.record.Record.Record}, proofs.{Facts.same_Some, MailLets.found_at}}
@@ -43,3 +43,18 @@ returns g c =
         elsewhere = λ x found other. let same = same_Some r x (sym first ∙ found) in absurd (other (ap (λ (y : Record). y.shown.worker) (sym same) ∙ c.if-index-worker.false));
       };
     }
+
+pub ask_output-requires : goal.ask_output-requires
+ask_output-requires g c = grind (arith, elements)
+
+pub returns-then-index-worker : goal.returns-then-index-worker
+returns-then-index-worker g c = grind (arith, elements)
+
+pub take_output-requires-clause-ready : goal.take_output-requires-clause-ready
+take_output-requires-clause-ready g c = grind (arith, elements)
+
+pub returns-then-is_over : goal.returns-then-is_over
+returns-then-is_over g c = grind (arith, elements)
+
+pub set_waker-displaced-requires : goal.set_waker-displaced-requires
+set_waker-displaced-requires g c = grind (arith, elements)

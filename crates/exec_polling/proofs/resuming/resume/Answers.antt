@@ -1,4 +1,4 @@
-use Rattle.std.proofs.{Common.{Some, refl, sym, ap, ◌∙◌}, lemmas.Option.{slice_get-get_or, slice_get_within}}
+use Rattle.std.proofs.{Common.{Some, refl, sym, ap, ◌∙◌, arith}, lemmas.{Grind.elements, Option.{slice_get-get_or, slice_get_within}}}
 use Rattle.exec_moves.specs.declared.place.InPoll.{InPoll}
 use Rattle.exec_parts.{specs.declared.parts.task_slot.TaskSlot.TaskSlot, proofs.Facts.same_Some}
 use Rattle.exec_invariants.{specs.Sound.may_resume, proofs.{Here.polled_here, TaskTakes.{never_resumes, wake_taken}}}
@@ -62,3 +62,6 @@ unreachable-requires g c =
     let there = slice_get-get_or items c.args.task slot (slice_get_within items c.args.task it.slot it.there) ∙ ap (λ z. Some z) (sym c.index.ensures) in
     let here = ap (λ (x : TaskSlot g.row.B.Denot). may_resume x.waiting) (same_Some slot it.slot (sym there ∙ it.there)) in
     never_resumes c.waiting.result (ap may_resume c.waiting.ensures ∙ here ∙ it.waits) c.in-Nothing.is
+
+pub index-requires : goal.index-requires
+index-requires g c = grind (arith, elements)

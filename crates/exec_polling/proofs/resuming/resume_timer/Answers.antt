@@ -1,4 +1,4 @@
-use Rattle.std.proofs.{Common.{refl, sym, ◌∙◌, inl}, lemmas.Option.slice_get_within}
+use Rattle.std.proofs.{Common.{refl, sym, ◌∙◌, inl, arith}, lemmas.{Grind.elements, Option.slice_get_within}}
 use Rattle.exec_machine.specs.Tests.{is_unsent}
 use Rattle.exec_moves.specs.declared.place.InPoll.{InPoll}
 use Rattle.exec_parts.proofs.{Facts.{not-true, not-false}, MailLets.found_at}
@@ -81,3 +81,6 @@ returns g c =
       steps = poll_ends g.B.Body.left g.B.Scripted.spot InPoll.Resume c.args.task w s c.requires.sound (at_resume c.args.task) (looking c.args.task) it c.requires.whole lets_seen (removes_seen g.row.B.Denot) c.pend.new.worker c.pend.new.shared c.pend.result c.pend.ensures.event
           (timer_pends g.B.Body.left g.B.Scripted.spot c.args.task c.args.timer w s it.slot z it.there waits at_z unsent c.if-record-worker.false c.if-record.false) stops.0 stops.1 c.pend.ensures.pends;
     }
+
+pub hear_end-requires : goal.hear_end-requires
+hear_end-requires g c = grind (arith, elements)

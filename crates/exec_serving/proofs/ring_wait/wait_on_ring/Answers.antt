@@ -1,3 +1,4 @@
+use Rattle.std.proofs.{Common.arith, lemmas.Grind.elements}
 use Rattle.exec_serving.proofs.{Entered.full_ring_entered, Parking.ring_entered, Testing.ring_tested, Waiting.{ring_armed, ring_disarmed}}
 use Rattle.exec_serving.proofs.ring_wait.wait_on_ring.Goals as goal
 
@@ -20,3 +21,15 @@ returns-in-EnterFullRing g c =
 pub returns-in-EnterRing : goal.returns-in-EnterRing
 returns-in-EnterRing g c =
     record { steps = ring_entered g.B.Body.left g.B.Scripted.spot c.args.stay c.args.worker.now c.enter_ring.new.worker c.args.shared.now c.enter_ring.new.shared c.enter_ring.result (rw c.in-EnterRing.is at c.requires.sound) c.enter_ring.ensures.enters c.enter_ring.ensures.goes }
+
+pub enter_full_ring-requires-clause-there : goal.enter_full_ring-requires-clause-there
+enter_full_ring-requires-clause-there g c = grind (arith, elements)
+
+pub arm_ring-requires-clause-there : goal.arm_ring-requires-clause-there
+arm_ring-requires-clause-there g c = grind (arith, elements)
+
+pub enter_ring-requires-clause-there : goal.enter_ring-requires-clause-there
+enter_ring-requires-clause-there g c = grind (arith, elements)
+
+pub disarm_ring-requires : goal.disarm_ring-requires
+disarm_ring-requires g c = grind (arith, elements)

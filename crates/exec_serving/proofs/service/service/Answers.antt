@@ -1,4 +1,4 @@
-use Rattle.std.proofs.{Common.refl}
+use Rattle.std.proofs.{Common.{arith, refl}, lemmas.Grind.elements}
 use Rattle.exec_serving.proofs.{Entered.last_entered, Advancing.advanced_on, PermitPasses.permit_passed, PermitSignals.{holder_latched, holder_raised}, Sampling.sampled}
 use Rattle.exec_serving.proofs.service.service.Goals as goal
 
@@ -32,3 +32,9 @@ returns-in-Raise g c =
 pub returns-in-AdvanceWheel : goal.returns-in-AdvanceWheel
 returns-in-AdvanceWheel g c =
     record { steps = advanced_on g.B.Body.left g.B.Scripted.spot c.args.service c.args.worker.now c.advance_wheel.new.worker c.args.shared.now c.advance_wheel.result (rw c.in-AdvanceWheel.is at c.requires.sound) c.advance_wheel.ensures.event c.advance_wheel.ensures.driver c.advance_wheel.ensures.punctual c.advance_wheel.ensures.same }
+
+pub sample-requires : goal.sample-requires
+sample-requires g c = grind (arith, elements)
+
+pub enter_last-requires-clause-there : goal.enter_last-requires-clause-there
+enter_last-requires-clause-there g c = grind (arith, elements)

@@ -1,4 +1,4 @@
-use Rattle.std.proofs.Common.{ap, sym, ◌∙◌}
+use Rattle.std.proofs.{Common.{ap, sym, ◌∙◌, arith}, lemmas.Grind.elements}
 use Rattle.exec_words.specs.Word.{is_idle_at}
 use Rattle.exec_moves.specs.{declared.idling.{InWordWait.InWordWait}, declared.place.{Place.Place}}
 use Rattle.exec_parts.specs.{declared.parts.worker.Worker.Worker, Tests.slept_after}
@@ -21,3 +21,9 @@ returns g c =
           (ap (λ x. is_idle_at x w.processed) (sym read) ∙ sym c.still_idle.ensures ∙ c.if-not-still_idle.false) c.sleep-event.ensures.sleeps
           (c.note_sleep.ensures ∙ ap (λ (v : Worker). record v { slept = slept_after e c.sleep-event.new.shared.clock v.slept }) c.sleep-event.ensures.same);
     }
+
+pub index-requires : goal.index-requires
+index-requires g c = grind (arith, elements)
+
+pub sleep-event-requires-clause-there : goal.sleep-event-requires-clause-there
+sleep-event-requires-clause-there g c = grind (arith, elements)

@@ -1,3 +1,4 @@
+use Rattle.std.proofs.{Common.arith, lemmas.Grind.elements}
 use Rattle.exec_serving.proofs.Waiting.{batch_sought, latch_sought, latch_taken, word_armed, word_disarmed}
 use Rattle.exec_serving.proofs.word_wait.wait_on_word.Goals as goal
 
@@ -20,3 +21,18 @@ returns-in-SpinOnBatch g c =
 pub returns-in-SpinOnLatch : goal.returns-in-SpinOnLatch
 returns-in-SpinOnLatch g c =
     record { steps = latch_sought g.B.Body.left g.B.Scripted.spot c.in-SpinOnLatch.left c.args.worker.now c.spin_on_latch.new.worker c.args.shared.now c.spin_on_latch.result c.index-in-SpinOnLatch.result.now (rw c.in-SpinOnLatch.is at c.requires.sound) c.spin_on_latch.ensures.makes c.spin_on_latch.ensures.same c.index-in-SpinOnLatch.ensures }
+
+pub index-requires : goal.index-requires
+index-requires g c = grind (arith, elements)
+
+pub index-requires-in-SpinOnLatch : goal.index-requires-in-SpinOnLatch
+index-requires-in-SpinOnLatch g c = grind (arith, elements)
+
+pub take_latch-requires : goal.take_latch-requires
+take_latch-requires g c = grind (arith, elements)
+
+pub arm_word-requires-clause-there : goal.arm_word-requires-clause-there
+arm_word-requires-clause-there g c = grind (arith, elements)
+
+pub disarm_word-requires-clause-there : goal.disarm_word-requires-clause-there
+disarm_word-requires-clause-there g c = grind (arith, elements)

@@ -1,4 +1,4 @@
-use Rattle.std.proofs.{Common.{◌++◌, refl, sym, ap, ◌∙◌, arith, slice_set, take}, lemmas.{Bool.false≢true, List.append-nil}}
+use Rattle.std.proofs.{Common.{◌++◌, refl, sym, ap, ◌∙◌, arith, slice_set, take}, lemmas.{Grind.{common_steps, elements}, Bool.false≢true, List.append-nil}}
 use Rattle.exec_words.specs.{Head.claim_at, Queue.{claimed, head_of}, Reserved.extended}
 use Rattle.exec_moves.specs.Search.{from_of}
 use Rattle.exec_parts.specs.declared.parts.seat.Seat.{Seat as Chair}
@@ -55,3 +55,9 @@ returns-in-Err-clause-chair g c = λ chair there.
     (ap (λ k. slice_set s.seats.items k (record m { queue = c.claim_exchange-claimed.new.self })) number
     ∙ ap (λ q. slice_set s.seats.items from (record m { queue = q })) c.in-Err.ensures.kept
     ∙ ap (λ (x : Chair). slice_set s.seats.items from x) is)
+
+pub claim_exchange-claimed-requires-clause-past : goal.claim_exchange-claimed-requires-clause-past
+claim_exchange-claimed-requires-clause-past g c = grind (arith, elements)
+
+pub returns-in-Err-clause-makes : goal.returns-in-Err-clause-makes
+returns-in-Err-clause-makes g c = grind (arith, common_steps)

@@ -1,4 +1,4 @@
-use Rattle.std.proofs.Common.{◌≡◌, refl, subst, arith}
+use Rattle.std.proofs.{Common.{◌≡◌, refl, subst, arith}, lemmas.Grind.common_steps}
 use Rattle.exec_moves.specs.declared.place.Place.{Place}
 use Rattle.exec_invariants.proofs.Dedicated.{few_here}
 use Rattle.exec_parts.specs.declared.parts.{shared.Shared.Shared, worker.Worker.Worker}
@@ -168,3 +168,6 @@ send_cancel-requires-clause-may g c = letter_may _ _ c.requires.whole c.in-SendC
 
 pub returns-in-SendCancel-clause-steps : goal.returns-in-SendCancel-clause-steps
 returns-in-SendCancel-clause-steps g c = steps_none _ _ _ _ _ _ _ _ _ _ c.requires.none_yet (letter_sent _ _ _ _ _ _ _ _ (sound_at _ _ _ c.in-SendCancel.is c.requires.sound) c.requires.whole c.send_cancel.ensures.sends)
+
+pub send_cancel-requires-clause-some : goal.send_cancel-requires-clause-some
+send_cancel-requires-clause-some g c = grind (arith, common_steps)

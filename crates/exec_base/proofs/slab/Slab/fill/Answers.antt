@@ -1,4 +1,4 @@
-use Rattle.std.proofs.Common.{◌≡◌, [], set, reverse, refl, ap, ◌∙◌, rules}
+use Rattle.std.proofs.{Common.{◌≡◌, [], set, reverse, refl, ap, ◌∙◌, rules, arith}, lemmas.Grind.common_steps}
 use Rattle.exec_base.proofs.Slots.{reverse_last, read_vacant, Fills-push, Fills-set, Updates-fill, TakesId-fill, IsLaidOut-fill}
 use Rattle.exec_base.proofs.slab.Slab.fill.Goals as goal
 
@@ -39,3 +39,21 @@ returns-clause-never_again g c =
     let laid = rw order at c.self.invariant in
     let next = rw (← c.self.view_is, order) at c.requires.next in
     rw (← c.self.view_is) (TakesId-fill _ _ _ c.args.value (Fills-set _ _ c.in-Some.index (reverse c.pop.new.self.items) _ _ next laid.vacant_ones.0 refl (ap (set c.self.inside.slots.items c.in-Some.index) c.replace.ensures.after)))
+
+pub invariant_of-self : goal.invariant_of-self
+invariant_of-self g c = grind (arith, common_steps)
+
+pub returns-in_default-clause-inserted : goal.returns-in_default-clause-inserted
+returns-in_default-clause-inserted g c = grind (arith, common_steps)
+
+pub returns-in_default-clause-never_before : goal.returns-in_default-clause-never_before
+returns-in_default-clause-never_before g c = grind (arith, common_steps)
+
+pub index_mut-requires : goal.index_mut-requires
+index_mut-requires g c = grind (arith, common_steps)
+
+pub returns-clause-inserted : goal.returns-clause-inserted
+returns-clause-inserted g c = grind (arith, common_steps)
+
+pub returns-clause-never_before : goal.returns-clause-never_before
+returns-clause-never_before g c = grind (arith, common_steps)

@@ -1,4 +1,4 @@
-use Rattle.std.proofs.Common.{◌+◌, ◌-◌, ◌≤◌, arith}
+use Rattle.std.proofs.{Common.{◌+◌, ◌-◌, ◌≤◌, arith}, lemmas.Grind.common_steps}
 use Rattle.exec_request.specs.Bytes.{window_bytes}
 use Rattle.exec_ring.specs.Files.{byte_at}
 use Rattle.exec_ring.proofs.Values.{byte_over-next}
@@ -15,3 +15,6 @@ loop-at-preserved c =
       bytes = byte_over-next c.args.offset at here bs (byte_at c.args.self.now) (byte_at c.loop-at.self) (byte_at c.write_in_page.new.self) c.loop-at.invariant.bytes c.write_in_page.ensures.bytes;
       pages = λ n there. c.write_in_page.ensures.pages n (c.loop-at.invariant.pages n there);
     }
+
+pub returns-clause-bytes : goal.returns-clause-bytes
+returns-clause-bytes c = grind (arith, common_steps)

@@ -9,8 +9,8 @@ returns-clause-begins c =
     let k = c.args.configuration.now in
     let now = c.args.now in
     record {
-      parts = rw (c.in_ok-with_places.ensures, c.in_ok-with_places-2.ensures, c.new-2.ensures, c.new-3.ensures, c.spins_of.ensures) refl;
-      names = subst (λ n. HasNoNames n c.in_ok-new.field-0) c.ring_size-size.ensures c.in_ok-new.ensures.names;
+      parts = rw (c.in_ok-rooms.ensures.loot, c.in_ok-rooms.ensures.batch, c.new.ensures, c.new-2.ensures, c.spins_of.ensures) refl;
+      names = subst (λ n. HasNoNames n c.in_ok-rooms.rooms.names) c.ring_size-size.ensures c.in_ok-rooms.ensures.names;
       home = c.new-home.ensures.worker;
       opened = c.new-home.ensures.open;
       driver = subst (λ d. IsFresh (seen d) (ring_size k) (horizon k) k.tick now) (sym c.new-home.ensures.driver) (subst (λ n. IsFresh (seen c.in_ok-driver.driver) n (horizon k) k.tick now) c.ring_size-size.ensures c.in_ok-driver.ensures.fresh);
@@ -18,5 +18,5 @@ returns-clause-begins c =
       asleep = c.new-home.ensures.asleep;
       untold = still_untold c.new-home.result.deferred c.reserve.new.self c.reserve.ensures.same c.new-home.ensures.untold;
       room = c.in_ok-reserve.ensures.ok;
-      letters = (c.new-4.ensures.requests, c.new-4.ensures.timer);
+      letters = (c.new-3.ensures.requests, c.new-3.ensures.timer);
     }

@@ -1,0 +1,191 @@
+//! A sleep: at its worker, elsewhere, and where its worker closes.
+
+ghost use Rattle.std.specs.Prelude.{◌≡◌, ◌+◌, ◌≤◌, Some, IsTrue, false, vec_len, vec_capacity};
+ghost use Rattle.exec_base.specs.Slab.{value_at};
+ghost use Rattle.exec_time.specs.{Sleepers.is_forwarded, declared.timers.TimerId.TimerId as TimerName};
+ghost use Rattle.exec_time.specs.declared.sleep.SleepState.TheVariants as state;
+
+use exec_base::error::Error;
+use exec_base::one_shot::OneShot;
+use exec_base::post::Post;
+use exec_base::slab::Id;
+use exec_base::task_no::TaskNo;
+use exec_time::notes::Notes;
+use exec_time::sleep::{Here, Sleep, SleepState, TimerMessage};
+use exec_time::timers::{TimerId, Timers};
+use std::alloc::Global;
+use std::process::Abort;
+use std::test::Fail;
+
+/// The way to the sleepers' worker: a list that may be closed.
+#[derive(Drop)]
+struct Inbox {
+    messages: Vec<TimerMessage<u32>>,
+    closed: bool,
+}
+
+impl Post<TimerMessage<u32>> for Inbox {
+    ghost closed = { λ inbox. inbox.closed };
+
+    ghost taken = { λ inbox. Some inbox.messages.items };
+
+    ghost has_place = { λ inbox message. vec_len inbox.messages + 1 ≤ vec_capacity inbox.messages };
+
+    fn send(&mut self, message: TimerMessage<u32>) -> Result<(), TimerMessage<u32>> {
+        if self.closed {
+            return Err(message);
+        }
+        self.messages.push_reserved(message);
+        Ok(())
+    }
+}
+
+/// A post that is open, with room for one message.
+fn open_post(alloc: Global) -> Result<Inbox, Fail> {
+    Ok(Inbox {
+        messages: Vec::with_capacity(alloc, 1)?,
+        closed: false,
+    })
+}
+
+/// Worker 3 at this moment, and open.
+fn home(now: u64) -> Here {
+    Here {
+        worker: 3,
+        now,
+        closing: false,
+    }
+}
+
+/// Another worker at the same moment.
+fn away(now: u64) -> Here {
+    Here {
+        worker: 4,
+        ..home(now)
+    }
+}
+
+/// The same worker, closing.
+fn closes(here: Here) -> Here {
+    Here {
+        closing: true,
+        ..here
+    }
+}
+
+/// Whether a sleep may be polled: its sleeper isn't forwarded but by itself, and the post has room.
+fn may_poll(sleep: &Sleep, timers: &Timers<u32>, post: &Inbox) -> bool
+    ensures own { IsTrue result → (at : _) (id : TimerName) → sleep.now ≡ state.Registered at id → is_forwarded (value_at timers.now id.0) ≡ false }
+    ensures place { IsTrue result → vec_len post.now.messages + 1 ≤ vec_capacity post.now.messages }
+{
+    let own = match sleep.state() {
+        SleepState::Registered(_, id) => !timers.is_forwarded(id),
+        _ => true,
+    };
+    own && post.messages.len() < post.messages.capacity()
+}
+
+/// The first sleeper that a worker makes.
+const FIRST: TimerId = TimerId(Id {
+    index: 0,
+    generation: 0,
+});
+
+/// The sleepers of worker 3, the way to them, and where a result comes to.
+#[derive(Drop)]
+struct Bed {
+    timers: Timers<u32>,
+    post: Inbox,
+    answer: OneShot<Result<(), Error>>,
+}
+
+impl Bed {
+    /// No sleepers, and a post that is open.
+    fn new(alloc: Global) -> Result<Self, Fail> {
+        Ok(Bed {
+            timers: Timers::new(alloc),
+            post: open_post(alloc)?,
+            answer: OneShot::new(),
+        })
+    }
+
+    /// Polls a sleep for task 1, with sender 7.
+    fn poll(
+        &mut self,
+        rt: &impl Abort,
+        alloc: Global,
+        sleep: &mut Sleep,
+        here: Here,
+    ) -> Result<bool, Error> {
+        let (timers, post, answer) = (&mut self.timers, &mut self.post, &mut self.answer);
+        let may = may_poll(sleep, timers, post);
+        assert!(rt; may);
+        sleep.poll(alloc, TaskNo(1), here, timers, 7, post, answer)
+    }
+}
+
+#[test]
+fn a_sleep_is_over_once_its_sleeper_fired(rt: HostRuntime) -> Result<(), Fail> {
+    let alloc = rt.alloc();
+    let (mut bed, mut notes) = (Bed::new(alloc)?, Notes::new(alloc));
+    let mut sleep = Sleep::new(10, 5);
+    let first = bed.poll(&rt, alloc, &mut sleep, home(14));
+    assert_eq!(rt; first, Ok(false));
+    assert!(rt; matches!(sleep.state(), SleepState::Registered(3, FIRST)));
+    assert_eq!(rt;
+        (bed.timers.len(), bed.timers.next_deadline()),
+        (1, Some(15))
+    );
+    notes.reserve(alloc, bed.timers.len())?;
+    bed.timers.expire(15, &mut notes);
+    assert_eq!(rt; notes.wakes.as_slice(), [TaskNo(1)].as_slice());
+    let last = bed.poll(&rt, alloc, &mut sleep, home(15));
+    assert_eq!(rt; last, Ok(true));
+    assert!(rt; matches!(sleep.state(), SleepState::Done));
+    Ok(())
+}
+
+#[test]
+fn a_sleep_that_is_polled_elsewhere_hears_of_its_end(rt: HostRuntime) -> Result<(), Fail> {
+    let alloc = rt.alloc();
+    let mut bed = Bed::new(alloc)?;
+    let mut sleep = Sleep::new(10, 5);
+    let first = bed.poll(&rt, alloc, &mut sleep, home(5));
+    assert_eq!(rt; first, Ok(false));
+    let asks = bed.poll(&rt, alloc, &mut sleep, away(5));
+    assert_eq!(rt; asks, Ok(false));
+    assert!(rt; matches!(sleep.state(), SleepState::Forwarded(3, FIRST)));
+    assert!(rt;
+        matches!(
+            bed.post.messages.as_slice(),
+            [TimerMessage::Forward(FIRST, 7)]
+        )
+    );
+    bed.post.messages.clear();
+    assert_eq!(rt; bed.answer.send(Err(Error::Full)), Ok(()));
+    let hears = bed.poll(&rt, alloc, &mut sleep, home(5));
+    assert_eq!(rt; hears, Err(Error::Full));
+    assert_eq!(rt; bed.post.messages.len(), 0);
+    let again = bed.poll(&rt, alloc, &mut sleep, home(5));
+    assert_eq!(rt; again, Ok(true));
+    Ok(())
+}
+
+#[test]
+fn what_closes_ends_a_sleep(rt: HostRuntime) -> Result<(), Fail> {
+    let alloc = rt.alloc();
+    let mut bed = Bed::new(alloc)?;
+    let mut new = Sleep::new(10, 5);
+    let refused = bed.poll(&rt, alloc, &mut new, closes(home(5)));
+    assert_eq!(rt; refused, Err(Error::Closed));
+    assert_eq!(rt; bed.timers.len(), 0);
+    let mut sleep = Sleep::until(15, 5);
+    let first = bed.poll(&rt, alloc, &mut sleep, home(5));
+    assert_eq!(rt; first, Ok(false));
+    bed.post.closed = true;
+    let shut = bed.poll(&rt, alloc, &mut sleep, away(5));
+    assert_eq!(rt; shut, Err(Error::Closed));
+    assert_eq!(rt; bed.post.messages.len(), 0);
+    assert!(rt; matches!(sleep.state(), SleepState::Done));
+    Ok(())
+}
