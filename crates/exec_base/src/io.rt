@@ -40,7 +40,8 @@ pub trait Input {
 
     /// Moves the next bytes into the front of `buf`, and answers how many. 0 only at the end.
     ///
-    /// A call that fails moves no byte, and the next one goes on where the last good one stopped.
+    /// A call that fails moves no byte, and the next one goes on where the last good one stopped. The caller must have
+    /// a `buf` with room for one byte at least.
     fn take(&mut self, buf: &mut [u8]) -> Result<usize, Failed>
         requires { 0 < length buf.old }
         ensures count { faults self.old ≤ faults self.new }
@@ -65,7 +66,7 @@ pub trait Output {
 
     /// Takes the front of `piece`, at least one byte, and answers how many.
     ///
-    /// A call that fails takes no byte.
+    /// A call that fails takes no byte. The caller must have a piece of one byte at least.
     fn give(&mut self, piece: &[u8]) -> Result<usize, Failed>
         requires { 0 < length piece.now }
         ensures count { faults self.old ≤ faults self.new }

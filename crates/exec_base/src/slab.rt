@@ -209,7 +209,8 @@ impl<T> Slab<T> {
         Ok(id)
     }
 
-    /// Inserts the value that `make` gives for its id. Refused as `insert` is, before `make` is called.
+    /// Inserts the value that `make` gives for its id. Refused as `insert` is, before `make` is called. The caller must
+    /// have a `make` that may always be called.
     pub fn insert_with<F: FnOnce(Id) -> T>(
         &mut self,
         alloc: Global,

@@ -2,6 +2,7 @@
 
 ghost use Rattle.std.specs.Prelude.{◌≡◌, ◌≤◌, length, IfOk};
 
+use crate::found::{holds, same};
 use exec_bufs::buf::{IoBuf, IoBufMut};
 use exec_bufs::bufs::IoBufs;
 use exec_bufs::bufs_mut::IoBufsMut;
@@ -29,28 +30,28 @@ fn buffer(alloc: Global, text: &str, capacity: usize) -> Result<IoBufMut, Fail>
 #[test]
 fn a_buffer_shows_its_bytes(rt: HostRuntime) -> Result<(), Fail> {
     let abc = frozen(rt.alloc(), "abc")?;
-    assert_eq!(rt; abc.len(), 3);
-    assert_eq!(rt; abc.as_slice(), b"abc".as_slice());
+    same!(&rt; abc.len(), 3);
+    same!(&rt; abc.as_slice(), b"abc".as_slice());
     let none = frozen(rt.alloc(), "")?;
-    assert_eq!(rt; none.len(), 0);
-    assert_eq!(rt; none.as_slice(), b"".as_slice());
+    same!(&rt; none.len(), 0);
+    same!(&rt; none.as_slice(), b"".as_slice());
     Ok(())
 }
 
 #[test]
 fn new_bytes_are_zero_after_a_cut(rt: HostRuntime) -> Result<(), Fail> {
     let mut abcd = buffer(rt.alloc(), "abcd", 6)?;
-    assert_eq!(rt; (abcd.len(), abcd.capacity()), (4, 6));
+    same!(&rt; (abcd.len(), abcd.capacity()), (4, 6));
     abcd.truncate(9);
-    assert_eq!(rt; abcd.as_slice(), b"abcd".as_slice());
+    same!(&rt; abcd.as_slice(), b"abcd".as_slice());
     abcd.truncate(1);
-    assert_eq!(rt; abcd.as_slice(), b"a".as_slice());
+    same!(&rt; abcd.as_slice(), b"a".as_slice());
     abcd.set_len(3);
-    assert_eq!(rt; abcd.as_slice(), b"a\0\0".as_slice());
+    same!(&rt; abcd.as_slice(), b"a\0\0".as_slice());
     abcd.set_len(2);
     abcd.set_len(6);
-    assert_eq!(rt; abcd.as_slice(), b"a\0\0\0\0\0".as_slice());
-    assert_eq!(rt; abcd.capacity(), 6);
+    same!(&rt; abcd.as_slice(), b"a\0\0\0\0\0".as_slice());
+    same!(&rt; abcd.capacity(), 6);
     Ok(())
 }
 
@@ -58,17 +59,17 @@ fn new_bytes_are_zero_after_a_cut(rt: HostRuntime) -> Result<(), Fail> {
 fn the_room_of_dropped_bytes_is_lost(rt: HostRuntime) -> Result<(), Fail> {
     let mut abcd = buffer(rt.alloc(), "abcd", 6)?;
     abcd.advance(0);
-    assert_eq!(rt; (abcd.len(), abcd.capacity()), (4, 6));
+    same!(&rt; (abcd.len(), abcd.capacity()), (4, 6));
     abcd.advance(3);
-    assert_eq!(rt; abcd.as_slice(), b"d".as_slice());
-    assert_eq!(rt; abcd.capacity(), 3);
+    same!(&rt; abcd.as_slice(), b"d".as_slice());
+    same!(&rt; abcd.capacity(), 3);
     abcd.as_mut_slice()[0] = b'e';
     abcd.set_len(3);
-    assert_eq!(rt; abcd.as_slice(), b"e\0\0".as_slice());
+    same!(&rt; abcd.as_slice(), b"e\0\0".as_slice());
     abcd.advance(3);
-    assert_eq!(rt; (abcd.len(), abcd.capacity()), (0, 0));
+    same!(&rt; (abcd.len(), abcd.capacity()), (0, 0));
     abcd.set_len(0);
-    assert_eq!(rt; abcd.freeze().len(), 0);
+    same!(&rt; abcd.freeze().len(), 0);
     Ok(())
 }
 
@@ -77,9 +78,9 @@ fn a_cleared_buffer_keeps_its_room(rt: HostRuntime) -> Result<(), Fail> {
     let mut abcd = buffer(rt.alloc(), "abcd", 6)?;
     abcd.advance(1);
     abcd.clear();
-    assert_eq!(rt; (abcd.len(), abcd.capacity()), (0, 5));
+    same!(&rt; (abcd.len(), abcd.capacity()), (0, 5));
     abcd.set_len(2);
-    assert_eq!(rt; abcd.freeze().as_slice(), b"\0\0".as_slice());
+    same!(&rt; abcd.freeze().as_slice(), b"\0\0".as_slice());
     Ok(())
 }
 
@@ -88,80 +89,82 @@ fn a_vector_becomes_a_buffer(rt: HostRuntime) -> Result<(), Fail> {
     let mut vector = Vec::with_capacity(rt.alloc(), 8)?;
     vector.extend_from_slice(b"abc")?;
     let mut abc = IoBufMut::from(vector);
-    assert_eq!(rt; abc.as_slice(), b"abc".as_slice());
-    assert_eq!(rt; abc.capacity(), 8);
+    same!(&rt; abc.as_slice(), b"abc".as_slice());
+    same!(&rt; abc.capacity(), 8);
     abc.advance(1);
     let bc = abc.freeze();
-    assert_eq!(rt; bc.as_slice(), b"bc".as_slice());
-    assert_eq!(rt; bc.len(), 2);
+    same!(&rt; bc.as_slice(), b"bc".as_slice());
+    same!(&rt; bc.len(), 2);
     Ok(())
+}
+
+/// Two bytes, none, and one more.
+fn ab_and_c(alloc: Global) -> Result<IoBufs, Fail> {
+    let mut chunks = IoBufs::new(alloc);
+    chunks.push(alloc, frozen(alloc, "ab")?)?;
+    chunks.push(alloc, frozen(alloc, "")?)?;
+    chunks.push(alloc, frozen(alloc, "c")?)?;
+    Ok(chunks)
 }
 
 #[test]
 fn chunks_are_kept_in_order(rt: HostRuntime) -> Result<(), Fail> {
-    let mut chunks = IoBufs::new(rt.alloc());
-    assert_eq!(rt; (chunks.chunk_count(), chunks.len()), (0, 0));
-    chunks.push(rt.alloc(), frozen(rt.alloc(), "ab")?)?;
-    chunks.push(rt.alloc(), frozen(rt.alloc(), "")?)?;
-    chunks.push(rt.alloc(), frozen(rt.alloc(), "c")?)?;
-    assert_eq!(rt; (chunks.chunk_count(), chunks.len()), (2, 3));
-    assert_eq!(rt; chunks.chunk_at(0), Some(b"ab".as_slice()));
-    assert_eq!(rt; chunks.chunk_at(1), Some(b"c".as_slice()));
-    assert_eq!(rt; chunks.chunk_at(2), None);
+    let none = IoBufs::new(rt.alloc());
+    same!(&rt; (none.chunk_count(), none.len()), (0, 0));
+    let chunks = ab_and_c(rt.alloc())?;
+    same!(&rt; (chunks.chunk_count(), chunks.len()), (2, 3));
+    same!(&rt; chunks.chunk_at(0), Some(b"ab".as_slice()));
+    same!(&rt; chunks.chunk_at(1), Some(b"c".as_slice()));
+    same!(&rt; chunks.chunk_at(2), None);
     let chunks = match chunks.try_into_single() {
         Ok(_) => return Err(Fail::from(AllocError)),
         Err(chunks) => chunks,
     };
-    assert_eq!(rt; (chunks.chunk_count(), chunks.len()), (2, 3));
+    same!(&rt; (chunks.chunk_count(), chunks.len()), (2, 3));
     let all = chunks.coalesce(rt.alloc())?;
-    assert_eq!(rt; all.as_slice(), b"abc".as_slice());
+    same!(&rt; all.as_slice(), b"abc".as_slice());
     Ok(())
 }
 
 #[test]
 fn at_most_one_chunk_is_single(rt: HostRuntime) -> Result<(), Fail> {
     let none = IoBufs::new(rt.alloc());
-    assert_eq!(rt; none.coalesce(rt.alloc())?.len(), 0);
+    same!(&rt; none.coalesce(rt.alloc())?.len(), 0);
     let none = IoBufs::new(rt.alloc());
-    assert!(rt; none.try_into_single().is_ok_and(|chunk| chunk.len() == 0));
+    holds!(&rt; none.try_into_single().is_ok_and(|chunk| chunk.len() == 0));
     let mut one = IoBufs::new(rt.alloc());
     one.push(rt.alloc(), frozen(rt.alloc(), "ab")?)?;
-    assert!(rt;
-        one.try_into_single()
-            .is_ok_and(|chunk| chunk.as_slice() == b"ab".as_slice())
-    );
+    holds!(&rt; one.try_into_single()
+            .is_ok_and(|chunk| chunk.as_slice() == b"ab".as_slice()));
     let mut one = IoBufs::new(rt.alloc());
     one.push(rt.alloc(), frozen(rt.alloc(), "ab")?)?;
-    assert_eq!(rt; one.coalesce(rt.alloc())?.as_slice(), b"ab".as_slice());
+    same!(&rt; one.coalesce(rt.alloc())?.as_slice(), b"ab".as_slice());
     Ok(())
 }
 
 #[test]
 fn lengths_fill_chunk_by_chunk(rt: HostRuntime) -> Result<(), Fail> {
     let mut chunks = IoBufsMut::new(rt.alloc());
-    assert!(rt; chunks.is_single());
+    holds!(&rt; chunks.is_single());
     chunks.push(rt.alloc(), buffer(rt.alloc(), "a", 2)?)?;
-    assert!(rt; chunks.is_single());
+    holds!(&rt; chunks.is_single());
     chunks.push(rt.alloc(), buffer(rt.alloc(), "", 0)?)?;
     chunks.push(rt.alloc(), buffer(rt.alloc(), "bcd", 4)?)?;
-    assert!(rt; !chunks.is_single());
-    assert_eq!(rt;
-        (chunks.chunk_count(), chunks.len(), chunks.capacity()),
-        (3, 4, 6)
-    );
+    holds!(&rt; !chunks.is_single());
+    same!(&rt; (chunks.chunk_count(), chunks.len(), chunks.capacity()), (3, 4, 6));
     chunks.set_len(5);
-    assert_eq!(rt; chunks.len(), 5);
-    assert!(rt; shows(&chunks, &["a\0", "", "bcd"]));
+    same!(&rt; chunks.len(), 5);
+    holds!(&rt; shows(&chunks, &["a\0", "", "bcd"]));
     chunks.copy_from_slice(b"vwxyz");
-    assert!(rt; shows(&chunks, &["vw", "", "xyz"]));
+    holds!(&rt; shows(&chunks, &["vw", "", "xyz"]));
     chunks.set_len(1);
-    assert!(rt; shows(&chunks, &["v", "", ""]));
+    holds!(&rt; shows(&chunks, &["v", "", ""]));
     chunks.set_len(6);
-    assert!(rt; shows(&chunks, &["v\0", "", "\0\0\0\0"]));
+    holds!(&rt; shows(&chunks, &["v\0", "", "\0\0\0\0"]));
     chunks.set_len(3);
     let all = chunks.coalesce(rt.alloc())?;
-    assert_eq!(rt; all.as_slice(), b"v\0\0".as_slice());
-    assert_eq!(rt; all.capacity(), 3);
+    same!(&rt; all.as_slice(), b"v\0\0".as_slice());
+    same!(&rt; all.capacity(), 3);
     Ok(())
 }
 
@@ -170,10 +173,10 @@ fn a_lone_chunk_keeps_its_room(rt: HostRuntime) -> Result<(), Fail> {
     let mut one = IoBufsMut::new(rt.alloc());
     one.push(rt.alloc(), buffer(rt.alloc(), "ab", 4)?)?;
     let all = one.coalesce(rt.alloc())?;
-    assert_eq!(rt; all.as_slice(), b"ab".as_slice());
-    assert_eq!(rt; all.capacity(), 4);
+    same!(&rt; all.as_slice(), b"ab".as_slice());
+    same!(&rt; all.capacity(), 4);
     let none = IoBufsMut::new(rt.alloc()).coalesce(rt.alloc())?;
-    assert_eq!(rt; (none.len(), none.capacity()), (0, 0));
+    same!(&rt; (none.len(), none.capacity()), (0, 0));
     Ok(())
 }
 

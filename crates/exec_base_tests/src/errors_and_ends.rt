@@ -1,5 +1,6 @@
 //! The words of errors, and the ends in memory, sure ones and those over readers and writers.
 
+use crate::found::{holds, same};
 use exec_base::error::{Cause, Error, Word};
 use exec_base::io::{
     Failed, Input, MemInput, MemOutput, Output, StdInput, StdOutput, SureInput, SureOutput,
@@ -102,9 +103,9 @@ fn errors_show_their_words(rt: HostRuntime) -> Result<(), Fail> {
         (Error::Full, "Full"),
     ] {
         let shown = format!(in rt.alloc(); "{error}")?;
-        assert_eq!(rt; shown.as_str(), word);
+        same!(&rt; shown.as_str(), word);
         let shown = format!(in rt.alloc(); "{}", Word(error))?;
-        assert_eq!(rt; shown.as_str(), word);
+        same!(&rt; shown.as_str(), word);
     }
     Ok(())
 }
@@ -115,11 +116,8 @@ fn memory_input_gives_all_past_a_failure(rt: HostRuntime) -> Result<(), Fail> {
     let mut input = MemInput::new(text, vec![in rt.alloc(); 3]?, 5);
     let mut bytes = Vec::new(rt.alloc());
     let outcomes = take_all(rt.alloc(), &mut input, &mut bytes)?;
-    assert_eq!(rt;
-        outcomes.as_slice(),
-        [Ok(5), Ok(5), Err(Failed), Ok(2), Ok(0)].as_slice()
-    );
-    assert_eq!(rt; bytes.as_slice(), b"twelve bytes".as_slice());
+    same!(&rt; outcomes.as_slice(), [Ok(5), Ok(5), Err(Failed), Ok(2), Ok(0)].as_slice());
+    same!(&rt; bytes.as_slice(), b"twelve bytes".as_slice());
     Ok(())
 }
 
@@ -127,33 +125,30 @@ fn memory_input_gives_all_past_a_failure(rt: HostRuntime) -> Result<(), Fail> {
 fn memory_output_keeps_what_it_took_before_a_failure(rt: HostRuntime) -> Result<(), Fail> {
     let mut output = MemOutput::new(rt.alloc(), vec![in rt.alloc(); 4]?, 3);
     let outcomes = give_four(rt.alloc(), &mut output)?;
-    assert_eq!(rt;
-        outcomes.as_slice(),
-        [Ok(3), Ok(3), Ok(3), Err(Failed), Ok(0)].as_slice()
-    );
-    assert_eq!(rt; output.bytes(), b"onetwosix".as_slice());
-    assert_eq!(rt; output.passed(), b"onetwosix".as_slice());
+    same!(&rt; outcomes.as_slice(), [Ok(3), Ok(3), Ok(3), Err(Failed), Ok(0)].as_slice());
+    same!(&rt; output.bytes(), b"onetwosix".as_slice());
+    same!(&rt; output.passed(), b"onetwosix".as_slice());
     Ok(())
 }
 
 #[test]
 fn memory_output_passes_on_by_a_flush_alone(rt: HostRuntime) -> Result<(), Fail> {
     let mut output = MemOutput::new(rt.alloc(), vec![in rt.alloc(); 3]?, 8);
-    assert_eq!(rt; output.give(b"one "), Ok(4));
-    assert_eq!(rt; output.passed(), b"".as_slice());
-    assert_eq!(rt; output.flush(), Ok(()));
-    assert_eq!(rt; output.passed(), b"one ".as_slice());
-    assert_eq!(rt; output.flush(), Err(Failed));
-    assert_eq!(rt; output.passed(), b"one ".as_slice());
+    same!(&rt; output.give(b"one "), Ok(4));
+    same!(&rt; output.passed(), b"".as_slice());
+    same!(&rt; output.flush(), Ok(()));
+    same!(&rt; output.passed(), b"one ".as_slice());
+    same!(&rt; output.flush(), Err(Failed));
+    same!(&rt; output.passed(), b"one ".as_slice());
     Ok(())
 }
 
 #[test]
 fn a_standard_output_hands_each_flush_on(rt: HostRuntime) {
     let mut output = StdOutput::new(Counted { flushes: 0 });
-    assert_eq!(rt; output.flush(), Ok(()));
-    assert_eq!(rt; output.flush(), Err(Failed));
-    assert_eq!(rt; output.into_writer().flushes, 2);
+    same!(&rt; output.flush(), Ok(()));
+    same!(&rt; output.flush(), Err(Failed));
+    same!(&rt; output.into_writer().flushes, 2);
 }
 
 #[test]
@@ -161,15 +156,12 @@ fn sure_ends_never_fail(rt: HostRuntime) -> Result<(), Fail> {
     let mut input = SureInput::new(b"twelve bytes".to_vec(rt.alloc())?);
     let mut bytes = Vec::new(rt.alloc());
     let outcomes = take_all(rt.alloc(), &mut input, &mut bytes)?;
-    assert_eq!(rt; outcomes.as_slice(), [Ok(8), Ok(4), Ok(0)].as_slice());
-    assert_eq!(rt; bytes.as_slice(), b"twelve bytes".as_slice());
+    same!(&rt; outcomes.as_slice(), [Ok(8), Ok(4), Ok(0)].as_slice());
+    same!(&rt; bytes.as_slice(), b"twelve bytes".as_slice());
     let mut output = SureOutput::new();
     let outcomes = give_four(rt.alloc(), &mut output)?;
-    assert_eq!(rt;
-        outcomes.as_slice(),
-        [Ok(4), Ok(4), Ok(4), Ok(4), Ok(0)].as_slice()
-    );
-    assert_eq!(rt; output.taken(), 16);
+    same!(&rt; outcomes.as_slice(), [Ok(4), Ok(4), Ok(4), Ok(4), Ok(0)].as_slice());
+    same!(&rt; output.taken(), 16);
     Ok(())
 }
 
@@ -178,26 +170,20 @@ fn standard_ends_pass_bytes_on(rt: HostRuntime) -> Result<(), Fail> {
     let mut input = StdInput::new(b"twelve bytes".as_slice());
     let mut bytes = Vec::new(rt.alloc());
     let outcomes = take_all(rt.alloc(), &mut input, &mut bytes)?;
-    assert_eq!(rt; outcomes.as_slice(), [Ok(8), Ok(4), Ok(0)].as_slice());
-    assert_eq!(rt; bytes.as_slice(), b"twelve bytes".as_slice());
+    same!(&rt; outcomes.as_slice(), [Ok(8), Ok(4), Ok(0)].as_slice());
+    same!(&rt; bytes.as_slice(), b"twelve bytes".as_slice());
     let mut output = StdOutput::new(Vec::new(rt.alloc()));
     let outcomes = give_four(rt.alloc(), &mut output)?;
-    assert_eq!(rt;
-        outcomes.as_slice(),
-        [Ok(4), Ok(4), Ok(4), Ok(4), Ok(0)].as_slice()
-    );
-    assert_eq!(rt;
-        output.into_writer().as_slice(),
-        b"one two six ten ".as_slice()
-    );
+    same!(&rt; outcomes.as_slice(), [Ok(4), Ok(4), Ok(4), Ok(4), Ok(0)].as_slice());
+    same!(&rt; output.into_writer().as_slice(), b"one two six ten ".as_slice());
     Ok(())
 }
 
 #[test]
 fn standard_ends_fail_with_what_is_below(rt: HostRuntime) -> Result<(), Fail> {
     let mut piece = [0; 8];
-    assert_eq!(rt; StdInput::new(Broken).take(&mut piece), Err(Failed));
+    same!(&rt; StdInput::new(Broken).take(&mut piece), Err(Failed));
     let outcomes = give_four(rt.alloc(), &mut StdOutput::new(Broken))?;
-    assert!(rt; outcomes.iter().all(|outcome| *outcome == Err(Failed)));
+    holds!(&rt; outcomes.iter().all(|outcome| *outcome == Err(Failed)));
     Ok(())
 }

@@ -7,6 +7,8 @@ mod bufs;
 #[cfg(test)]
 mod errors_and_ends;
 #[cfg(test)]
+mod found;
+#[cfg(test)]
 mod gate;
 #[cfg(test)]
 mod one_shot;

@@ -2,6 +2,7 @@
 
 ghost use Rattle.std.specs.Prelude.{◌+◌, ◌≤◌, IsTrue, vec_len, vec_capacity};
 
+use crate::found::{holds, same};
 use exec_base::post::Post;
 use std::process::Abort;
 use std::test::Fail;
@@ -45,7 +46,7 @@ impl Inbox {
 /// Sends a message for which there is room.
 fn send(inbox: &mut Inbox, rt: &impl Abort, message: u32) -> Result<(), u32> {
     let room = inbox.has_room();
-    assert!(rt; room);
+    holds!(&rt; room);
     inbox.send(message)
 }
 
@@ -55,12 +56,12 @@ fn a_closed_post_gives_the_message_back(rt: HostRuntime) -> Result<(), Fail> {
         messages: Vec::with_capacity(rt.alloc(), 3)?,
         closed: false,
     };
-    assert_eq!(rt; send(&mut inbox, &rt, 1), Ok(()));
-    assert_eq!(rt; send(&mut inbox, &rt, 1), Ok(()));
-    assert_eq!(rt; inbox.messages.len(), 1);
-    assert_eq!(rt; send(&mut inbox, &rt, 2), Ok(()));
+    same!(&rt; send(&mut inbox, &rt, 1), Ok(()));
+    same!(&rt; send(&mut inbox, &rt, 1), Ok(()));
+    same!(&rt; inbox.messages.len(), 1);
+    same!(&rt; send(&mut inbox, &rt, 2), Ok(()));
     inbox.closed = true;
-    assert_eq!(rt; send(&mut inbox, &rt, 3), Err(3));
-    assert_eq!(rt; inbox.messages.as_slice(), [1, 2].as_slice());
+    same!(&rt; send(&mut inbox, &rt, 3), Err(3));
+    same!(&rt; inbox.messages.as_slice(), [1, 2].as_slice());
     Ok(())
 }

@@ -1,5 +1,6 @@
 //! A slab whose slots are freed and taken again.
 
+use crate::found::{holds, same};
 use exec_base::slab::{Id, InsertError, Slab};
 use std::alloc::Global;
 use std::test::Fail;
@@ -17,17 +18,17 @@ fn gives(slab: &mut Slab<u64>, alloc: Global, value: u64, wanted: (u32, u64)) ->
 fn freed_slots_are_taken_last_first(rt: HostRuntime) -> Result<(), Fail> {
     let mut slab = Slab::with_capacity(rt.alloc(), 3)?;
     for (value, wanted) in [(1, (0, 0)), (2, (1, 0)), (3, (2, 0))] {
-        assert!(rt; gives(&mut slab, rt.alloc(), value, wanted));
+        holds!(&rt; gives(&mut slab, rt.alloc(), value, wanted));
     }
-    assert_eq!(rt; slab.remove(id((0, 0))), Some(1));
-    assert_eq!(rt; slab.remove(id((2, 0))), Some(3));
+    same!(&rt; slab.remove(id((0, 0))), Some(1));
+    same!(&rt; slab.remove(id((2, 0))), Some(3));
     let made = slab.insert_with(rt.alloc(), |made: Id| made.index as u64 + 10);
-    assert!(rt; made.is_ok_and(|made| made == id((2, 1))));
-    assert_eq!(rt; slab.get(id((2, 1))).copied(), Some(12));
-    assert!(rt; gives(&mut slab, rt.alloc(), 5, (0, 1)));
-    assert_eq!(rt; slab.next_id(), Some(id((3, 0))));
-    assert_eq!(rt; slab.len(), 3);
-    assert_eq!(rt; slab.slots(), 3);
+    holds!(&rt; made.is_ok_and(|made| made == id((2, 1))));
+    same!(&rt; slab.get(id((2, 1))).copied(), Some(12));
+    holds!(&rt; gives(&mut slab, rt.alloc(), 5, (0, 1)));
+    same!(&rt; slab.next_id(), Some(id((3, 0))));
+    same!(&rt; slab.len(), 3);
+    same!(&rt; slab.slots(), 3);
     Ok(())
 }
 
@@ -38,7 +39,7 @@ fn a_refused_insert_shows_its_reason(rt: HostRuntime) -> Result<(), Fail> {
         (InsertError::NoMemory(7), "NoMemory"),
     ] {
         let shown = format!(in rt.alloc(); "{refused}")?;
-        assert_eq!(rt; shown.as_str(), word);
+        same!(&rt; shown.as_str(), word);
     }
     Ok(())
 }

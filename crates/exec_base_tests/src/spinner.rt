@@ -1,5 +1,6 @@
 //! Spinners at the ends of their ranges, and their configurations.
 
+use crate::found::{holds, same};
 use exec_base::spinner::{Spinner, SpinnerConfig};
 use std::test::Fail;
 
@@ -21,10 +22,10 @@ fn sums_stand_still_at_the_end(rt: HostRuntime) {
         quick_wake_us: u64::MAX,
     };
     let mut spinner = Spinner::new(&cfg, 1000);
-    assert_eq!(rt; spinner.budget(), u64::MAX);
+    same!(&rt; spinner.budget(), u64::MAX);
     spinner.on_wake(u64::MAX);
-    assert_eq!(rt; spinner.budget(), u64::MAX);
-    assert_eq!(rt; spinner.floor(), u64::MAX / 4);
+    same!(&rt; spinner.budget(), u64::MAX);
+    same!(&rt; spinner.floor(), u64::MAX / 4);
     // Nanoseconds times looks pass 64 bits here, and their quotient doesn't.
     let wide = SpinnerConfig {
         budget_us: 1,
@@ -33,7 +34,7 @@ fn sums_stand_still_at_the_end(rt: HostRuntime) {
     };
     let mut spinner = Spinner::new(&wide, (1 << 32) - 1);
     spinner.on_wake(1 << 40);
-    assert_eq!(rt; spinner.floor(), 1180591623663758867);
+    same!(&rt; spinner.floor(), 1180591623663758867);
 }
 
 #[test]
@@ -44,12 +45,12 @@ fn configurations(rt: HostRuntime) -> Result<(), Fail> {
         max_budget_us,
         quick_wake_us,
     } = cfg.clone()?;
-    assert_eq!(rt; (budget_us, max_budget_us, quick_wake_us), (2, 10, 10));
-    assert!(rt; cfg.clone()? == cfg);
+    same!(&rt; (budget_us, max_budget_us, quick_wake_us), (2, 10, 10));
+    holds!(&rt; cfg.clone()? == cfg);
     let mut off = Spinner::new(&SpinnerConfig::disabled(), 1000);
-    assert_eq!(rt; spin_until(&mut off, 1), (false, 0));
+    same!(&rt; spin_until(&mut off, 1), (false, 0));
     let mut on = Spinner::new(&cfg, 5);
-    assert_eq!(rt; spin_until(&mut on, 10), (true, 10));
-    assert_eq!(rt; spin_until(&mut on, 0), (false, 12));
+    same!(&rt; spin_until(&mut on, 10), (true, 10));
+    same!(&rt; spin_until(&mut on, 0), (false, 12));
     Ok(())
 }

@@ -41,7 +41,7 @@ impl IoBufs {
     }
 
     /// Adds a chunk at the end; an empty one is dropped. An `Err` comes only for want of memory, and hands
-    /// the chunk back.
+    /// the chunk back. The caller must have at most 2^63 - 1 bytes with those of the chunk.
     pub fn push(&mut self, _alloc: Global, chunk: IoBuf) -> Result<(), AllocFailed<IoBuf>>
         requires { total self.old + length chunk ≤ most }
         ensures ok { OnOk result (self.new ≡ with_chunk self.old chunk) }

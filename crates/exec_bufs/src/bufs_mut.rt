@@ -40,7 +40,7 @@ impl IoBufsMut {
     }
 
     /// Adds a chunk at the end, also an empty one. An `Err` comes only for want of memory, and hands the chunk
-    /// back.
+    /// back. The caller must have at most 2^63 - 1 bytes with those of the chunk.
     pub fn push(&mut self, _alloc: Global, chunk: IoBufMut) -> Result<(), AllocFailed<IoBufMut>>
         requires { filled self.old + length chunk.bytes ≤ most }
         ensures ok { OnOk result (self.new ≡ self.old ++ chunk ∷ []) }

@@ -4,6 +4,7 @@ ghost use Rattle.std.specs.Prelude.{◌≡◌, []};
 ghost use Rattle.exec_live_queue.specs.Kinds.{IsThief, handed};
 
 use crate::calls::{let_go, made, pop_all, push_all};
+use crate::found::same;
 use exec_live_queue::owner::Owner;
 use exec_live_queue::queue::{Queue, QueueSeat};
 use exec_live_queue::steal::{Pause, Spot};
@@ -106,11 +107,8 @@ impl<'b> Owning<'b> {
 fn each_has_its_half(rt: &impl Abort, mut owner: Owner<u64>, mut into: Owner<u64>)
     requires { (handed owner ≡ []) × (handed into ≡ []) }
 {
-    assert_eq!(rt; (into.pop(), pop_all(&mut into, 7)), (Some(0), Some(7)));
-    assert_eq!(rt;
-        (pop_all(&mut owner, 3), pop_all(&mut owner, 5)),
-        (Some(15), Some(104))
-    );
+    same!(rt; (into.pop(), pop_all(&mut into, 7)), (Some(0), Some(7)));
+    same!(rt; (pop_all(&mut owner, 3), pop_all(&mut owner, 5)), (Some(15), Some(104)));
     let_go(rt, owner);
     let_go(rt, into);
 }
@@ -122,7 +120,7 @@ fn the_owner_goes_on_beside_a_claim(rt: HostRuntime) -> Result<(), Fail> {
         Ok(made) => made,
         Err(_) => panic!(rt; "no memory"),
     };
-    assert_eq!(rt; push_all(&mut owner, 0, 16), 16);
+    same!(&rt; push_all(&mut owner, 0, 16), 16);
     let flags = Flags::new();
     let mut owning = Owning {
         owner,
@@ -135,8 +133,8 @@ fn the_owner_goes_on_beside_a_claim(rt: HostRuntime) -> Result<(), Fail> {
         into,
     };
     let (stolen, owned) = join(&rt, || stealing.steal(), || owning.go_on());
-    assert_eq!(rt; stolen, (Steal::Moved(8), true));
-    assert_eq!(rt; owned, (Some(12), 5, true));
+    same!(&rt; stolen, (Steal::Moved(8), true));
+    same!(&rt; owned, (Some(12), 5, true));
     let Owning { owner, flags: _ } = owning;
     let Stealing {
         queue: _,

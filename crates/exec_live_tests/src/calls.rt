@@ -3,6 +3,7 @@
 ghost use Rattle.std.specs.Prelude.{◌≡◌, ◌+◌, ◌^◌, ◌≤◌, [], IfOk};
 ghost use Rattle.exec_live_queue.specs.{Kinds.{IsThief, handed}, Lent.{left_of, lender}};
 
+use crate::found::{holds, same};
 use exec_live_queue::head::{gap_of, head_of, real_of};
 use exec_live_queue::lent::{Overflow, Push, Settled};
 use exec_live_queue::owner::Owner;
@@ -108,19 +109,10 @@ pub fn let_go(rt: &impl Abort, mut owner: Owner<u64>)
 fn three_in_order(rt: &impl Abort, mut owner: Owner<u64>)
     requires { handed owner ≡ [] }
 {
-    assert_eq!(rt; push_all(&mut owner, 10, 3), 3);
-    assert_eq!(rt;
-        (owner.len(), owner.room(), owner.is_empty()),
-        (3, 253, false)
-    );
-    assert_eq!(rt;
-        (owner.pop(), owner.pop(), owner.pop()),
-        (Some(10), Some(11), Some(12))
-    );
-    assert_eq!(rt;
-        (owner.len(), owner.room(), owner.is_empty()),
-        (0, 256, true)
-    );
+    same!(rt; push_all(&mut owner, 10, 3), 3);
+    same!(rt; (owner.len(), owner.room(), owner.is_empty()), (3, 253, false));
+    same!(rt; (owner.pop(), owner.pop(), owner.pop()), (Some(10), Some(11), Some(12)));
+    same!(rt; (owner.len(), owner.room(), owner.is_empty()), (0, 256, true));
     let_go(rt, owner);
 }
 
@@ -128,24 +120,18 @@ fn three_in_order(rt: &impl Abort, mut owner: Owner<u64>)
 fn half_of_257_stay(rt: &impl Abort, mut owner: Owner<u64>)
     requires { handed owner ≡ [] }
 {
-    assert_eq!(rt; push_all(&mut owner, 0, 256), 256);
-    assert_eq!(rt; (owner.len(), owner.room()), (256, 0));
+    same!(rt; push_all(&mut owner, 0, 256), 256);
+    same!(rt; (owner.len(), owner.room()), (256, 0));
     match owner.push(256) {
         Push::Overflow(mut overflow) => {
-            assert_eq!(rt;
-                (overflow.len(), overflow.next(), overflow.len()),
-                (128, Some(128), 127)
-            );
-            assert_eq!(rt; drain(&mut overflow), (127, Some(255)));
-            assert_eq!(rt; overflow.finish(), 256);
+            same!(rt; (overflow.len(), overflow.next(), overflow.len()), (128, Some(128), 127));
+            same!(rt; drain(&mut overflow), (127, Some(255)));
+            same!(rt; overflow.finish(), 256);
         }
         Push::Settled(_) => panic!(rt; "the queue isn't full"),
     }
-    assert_eq!(rt; (owner.len(), owner.room()), (128, 128));
-    assert_eq!(rt;
-        (owner.pop(), pop_all(&mut owner, 127)),
-        (Some(0), Some(127))
-    );
+    same!(rt; (owner.len(), owner.room()), (128, 128));
+    same!(rt; (owner.pop(), pop_all(&mut owner, 127)), (Some(0), Some(127)));
     let_go(rt, owner);
 }
 
@@ -157,16 +143,13 @@ fn a_batch_goes_in(rt: &impl Abort, mut owner: Owner<u64>, alloc: Global) -> Res
         Ok(batch) => batch,
         Err(_) => panic!(rt; "no memory"),
     };
-    assert_eq!(rt; push_all(&mut owner, 10, 1), 1);
+    same!(rt; push_all(&mut owner, 10, 1), 1);
     if batch.len() > owner.room() {
         panic!(rt; "no room");
     }
     owner.push_batch(&mut batch);
-    assert_eq!(rt; (batch.len(), owner.len()), (0, 4));
-    assert_eq!(rt;
-        (owner.pop(), owner.pop(), owner.pop(), owner.pop()),
-        (Some(10), Some(7), Some(8), Some(9))
-    );
+    same!(rt; (batch.len(), owner.len()), (0, 4));
+    same!(rt; (owner.pop(), owner.pop(), owner.pop(), owner.pop()), (Some(10), Some(7), Some(8), Some(9)));
     let_go(rt, owner);
     Ok(())
 }
@@ -205,8 +188,8 @@ fn a_batch_comes_out_in_order(rt: HostRuntime) -> Result<(), Fail> {
 #[test]
 fn a_spent_queue_takes_no_more(rt: HostRuntime) -> Result<(), Fail> {
     let (_queue, mut owner, _thief) = made(rt.alloc(), (1 << 55) - 512)?;
-    assert_eq!(rt; push(&mut owner, 7), Some(Settled::Spent(7)));
-    assert_eq!(rt; (owner.room(), owner.len()), (0, 0));
+    same!(&rt; push(&mut owner, 7), Some(Settled::Spent(7)));
+    same!(&rt; (owner.room(), owner.len()), (0, 0));
     let_go(&rt, owner);
     Ok(())
 }
@@ -218,14 +201,14 @@ fn a_thief_takes_the_oldest_half(rt: HostRuntime) -> Result<(), Fail> {
         Ok(made) => made,
         Err(_) => panic!(rt; "no memory"),
     };
-    assert!(rt; !queue.is_stealable(&mut thief));
-    assert_eq!(rt; push_all(&mut owner, 0, 5), 5);
-    assert!(rt; queue.is_stealable(&mut thief));
-    assert_eq!(rt; queue.steal_once(&mut thief, &mut into), Steal::Moved(2));
-    assert_eq!(rt; (into.pop(), into.pop()), (Some(0), Some(1)));
-    assert_eq!(rt; (owner.pop(), owner.pop()), (Some(2), Some(3)));
-    assert_eq!(rt; queue.steal_once(&mut thief, &mut into), Steal::Nothing);
-    assert_eq!(rt; owner.pop(), Some(4));
+    holds!(&rt; !queue.is_stealable(&mut thief));
+    same!(&rt; push_all(&mut owner, 0, 5), 5);
+    holds!(&rt; queue.is_stealable(&mut thief));
+    same!(&rt; queue.steal_once(&mut thief, &mut into), Steal::Moved(2));
+    same!(&rt; (into.pop(), into.pop()), (Some(0), Some(1)));
+    same!(&rt; (owner.pop(), owner.pop()), (Some(2), Some(3)));
+    same!(&rt; queue.steal_once(&mut thief, &mut into), Steal::Nothing);
+    same!(&rt; owner.pop(), Some(4));
     let_go(&rt, owner);
     let_go(&rt, into);
     Ok(())
@@ -238,13 +221,13 @@ fn a_queue_before_its_end_takes_one_more(rt: HostRuntime) -> Result<(), Fail> {
         Ok(made) => made,
         Err(_) => panic!(rt; "no memory"),
     };
-    assert_eq!(rt; push(&mut last, 7), Some(Settled::Pushed(1)));
-    assert_eq!(rt; push(&mut last, 8), Some(Settled::Spent(8)));
-    assert_eq!(rt; (last.room(), last.len()), (0, 1));
-    assert_eq!(rt; push_all(&mut owner, 0, 4), 4);
-    assert_eq!(rt; queue.steal_once(&mut thief, &mut last), Steal::Nothing);
-    assert_eq!(rt; (last.pop(), last.pop()), (Some(7), None));
-    assert_eq!(rt; (owner.pop(), pop_all(&mut owner, 3)), (Some(0), Some(3)));
+    same!(&rt; push(&mut last, 7), Some(Settled::Pushed(1)));
+    same!(&rt; push(&mut last, 8), Some(Settled::Spent(8)));
+    same!(&rt; (last.room(), last.len()), (0, 1));
+    same!(&rt; push_all(&mut owner, 0, 4), 4);
+    same!(&rt; queue.steal_once(&mut thief, &mut last), Steal::Nothing);
+    same!(&rt; (last.pop(), last.pop()), (Some(7), None));
+    same!(&rt; (owner.pop(), pop_all(&mut owner, 3)), (Some(0), Some(3)));
     let_go(&rt, owner);
     let_go(&rt, last);
     Ok(())
@@ -257,17 +240,14 @@ fn a_thief_needs_128_places_free(rt: HostRuntime) -> Result<(), Fail> {
         Ok(made) => made,
         Err(_) => panic!(rt; "no memory"),
     };
-    assert_eq!(rt; push_all(&mut owner, 1000, 4), 4);
-    assert_eq!(rt; push_all(&mut into, 0, 129), 129);
-    assert_eq!(rt; queue.steal_once(&mut thief, &mut into), Steal::Nothing);
-    assert_eq!(rt; (owner.len(), into.len(), into.room()), (4, 129, 127));
-    assert_eq!(rt; (into.pop(), into.room()), (Some(0), 128));
-    assert_eq!(rt; queue.steal_once(&mut thief, &mut into), Steal::Moved(2));
-    assert_eq!(rt; (owner.pop(), owner.pop()), (Some(1002), Some(1003)));
-    assert_eq!(rt;
-        (pop_all(&mut into, 128), into.pop(), into.pop()),
-        (Some(128), Some(1000), Some(1001))
-    );
+    same!(&rt; push_all(&mut owner, 1000, 4), 4);
+    same!(&rt; push_all(&mut into, 0, 129), 129);
+    same!(&rt; queue.steal_once(&mut thief, &mut into), Steal::Nothing);
+    same!(&rt; (owner.len(), into.len(), into.room()), (4, 129, 127));
+    same!(&rt; (into.pop(), into.room()), (Some(0), 128));
+    same!(&rt; queue.steal_once(&mut thief, &mut into), Steal::Moved(2));
+    same!(&rt; (owner.pop(), owner.pop()), (Some(1002), Some(1003)));
+    same!(&rt; (pop_all(&mut into, 128), into.pop(), into.pop()), (Some(128), Some(1000), Some(1001)));
     let_go(&rt, owner);
     let_go(&rt, into);
     Ok(())
@@ -276,6 +256,6 @@ fn a_thief_needs_128_places_free(rt: HostRuntime) -> Result<(), Fail> {
 #[test]
 fn a_head_is_taken_apart_again(rt: HostRuntime) -> Result<(), Fail> {
     let head = head_of(1000, 256);
-    assert_eq!(rt; (head, real_of(head), gap_of(head)), (512_256, 1000, 256));
+    same!(&rt; (head, real_of(head), gap_of(head)), (512_256, 1000, 256));
     Ok(())
 }

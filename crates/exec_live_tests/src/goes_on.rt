@@ -4,6 +4,7 @@ ghost use Rattle.std.specs.Prelude.{◌≡◌, []};
 ghost use Rattle.exec_live_queue.specs.Kinds.{handed};
 
 use crate::calls::{let_go, made, pop_all, push, push_all};
+use crate::found::same;
 use exec_live_queue::lent::Settled;
 use exec_live_queue::owner::Owner;
 use exec_live_queue::steal::{Pause, Spot};
@@ -69,7 +70,7 @@ fn the_owner_pops_and_pushes_beside_a_claim(rt: HostRuntime) -> Result<(), Fail>
         Ok(made) => made,
         Err(_) => panic!(rt; "no memory"),
     };
-    assert_eq!(rt; push_all(&mut owner, 0, 8), 8);
+    same!(&rt; push_all(&mut owner, 0, 8), 8);
     let mut pause = GoesOn::with(owner, 3);
     let moved = queue.steal_paused(&mut thief, &mut into, &mut pause);
     let GoesOn {
@@ -77,24 +78,18 @@ fn the_owner_pops_and_pushes_beside_a_claim(rt: HostRuntime) -> Result<(), Fail>
         got,
         pops: _,
     } = pause;
-    assert_eq!(rt; moved, Steal::Moved(4));
+    same!(&rt; moved, Steal::Moved(4));
     // Beside the claim of 0 to 3 the owner got 4 to 6, and their places weren't free either.
-    assert_eq!(rt;
-        got,
-        Some(Got {
+    same!(&rt; got, Some(Got {
             popped: Some(6),
             first: Some(Settled::Pushed(5)),
             second: Some(Settled::Pushed(3)),
             len: 3,
             room: 246,
-        })
-    );
-    assert_eq!(rt; (into.pop(), pop_all(&mut into, 3)), (Some(0), Some(3)));
-    assert_eq!(rt; owner.room(), 253);
-    assert_eq!(rt;
-        (owner.pop(), owner.pop(), owner.pop()),
-        (Some(7), Some(1000), Some(1001))
-    );
+        }));
+    same!(&rt; (into.pop(), pop_all(&mut into, 3)), (Some(0), Some(3)));
+    same!(&rt; owner.room(), 253);
+    same!(&rt; (owner.pop(), owner.pop(), owner.pop()), (Some(7), Some(1000), Some(1001)));
     let_go(&rt, owner);
     let_go(&rt, into);
     Ok(())
@@ -107,7 +102,7 @@ fn a_full_queue_beside_a_claim_takes_nothing(rt: HostRuntime) -> Result<(), Fail
         Ok(made) => made,
         Err(_) => panic!(rt; "no memory"),
     };
-    assert_eq!(rt; push_all(&mut owner, 0, 256), 256);
+    same!(&rt; push_all(&mut owner, 0, 256), 256);
     let mut pause = GoesOn::with(owner, 0);
     let moved = queue.steal_paused(&mut thief, &mut into, &mut pause);
     let GoesOn {
@@ -115,23 +110,17 @@ fn a_full_queue_beside_a_claim_takes_nothing(rt: HostRuntime) -> Result<(), Fail
         got,
         pops: _,
     } = pause;
-    assert_eq!(rt; moved, Steal::Moved(128));
-    assert_eq!(rt;
-        got,
-        Some(Got {
+    same!(&rt; moved, Steal::Moved(128));
+    same!(&rt; got, Some(Got {
             popped: None,
             first: Some(Settled::Claimed(1000)),
             second: Some(Settled::Claimed(1001)),
             len: 128,
             room: 0,
-        })
-    );
-    assert_eq!(rt; (owner.len(), owner.room()), (128, 128));
-    assert_eq!(rt;
-        (owner.pop(), pop_all(&mut owner, 127)),
-        (Some(128), Some(255))
-    );
-    assert_eq!(rt; (into.pop(), pop_all(&mut into, 127)), (Some(0), Some(127)));
+        }));
+    same!(&rt; (owner.len(), owner.room()), (128, 128));
+    same!(&rt; (owner.pop(), pop_all(&mut owner, 127)), (Some(128), Some(255)));
+    same!(&rt; (into.pop(), pop_all(&mut into, 127)), (Some(0), Some(127)));
     let_go(&rt, owner);
     let_go(&rt, into);
     Ok(())

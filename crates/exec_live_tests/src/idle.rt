@@ -9,6 +9,7 @@ mod play;
 mod player;
 mod threads;
 
+use crate::found::{holds, same};
 use exec_live_idle::searcher::Searcher;
 use exec_live_idle::seat::{Idle, IdleSeat};
 use exec_words::idle::Park;
@@ -28,18 +29,19 @@ fn a_claim_takes_the_lowest_worker(rt: HostRuntime) -> Result<(), Fail> {
     idle.set_bit(&mut one);
     idle.set_bit(&mut two);
     idle.add(&mut caller);
+    // What a claim answered says what the caller's seat holds, so it is compared here, where that is known from then on.
     assert_eq!(rt; idle.claim(&rt, &mut caller), Some(0));
-    assert!(rt; !idle.withdraw(&mut zero));
-    assert!(rt; idle.withdraw(&mut two));
-    assert!(rt; idle.subtract(&mut zero));
-    assert_eq!(rt; idle.count(&mut caller), 0);
+    holds!(&rt; !idle.withdraw(&mut zero));
+    holds!(&rt; idle.withdraw(&mut two));
+    holds!(&rt; idle.subtract(&mut zero));
+    same!(&rt; idle.count(&mut caller), 0);
     idle.add(&mut caller);
     assert_eq!(rt; idle.claim(&rt, &mut caller), Some(1));
     idle.add(&mut caller);
     assert_eq!(rt; idle.claim(&rt, &mut caller), None);
-    assert!(rt; !idle.withdraw(&mut one));
-    assert!(rt; !idle.subtract(&mut one));
-    assert!(rt; idle.subtract(&mut caller));
+    holds!(&rt; !idle.withdraw(&mut one));
+    holds!(&rt; !idle.subtract(&mut one));
+    holds!(&rt; idle.subtract(&mut caller));
     drop((zero.leave(), one.leave(), two.leave(), caller.leave()));
     Ok(())
 }
@@ -75,19 +77,19 @@ fn a_park_looks_at_four_things(rt: HostRuntime) -> Result<(), Fail> {
     let mut one = next_player(&rt, &idle, &mut caller, 2);
     let mut pool = FakePool::new(2);
     pool.global = 1;
-    assert_eq!(rt; zero.park(&rt, &mut pool), Park::Run);
-    assert_eq!(rt; idle.look(&mut caller), 0);
+    same!(&rt; zero.park(&rt, &mut pool), Park::Run);
+    same!(&rt; idle.look(&mut caller), 0);
     pool.global = 0;
-    assert!(rt; !one.search(&rt, &mut pool));
-    assert!(rt; one.searcher.is_searching());
-    assert_eq!(rt; zero.park(&rt, &mut pool), Park::Wait);
-    assert_eq!(rt; idle.look(&mut caller), 1);
-    assert!(rt; !zero.finish(&rt));
+    holds!(&rt; !one.search(&rt, &mut pool));
+    holds!(&rt; one.searcher.is_searching());
+    same!(&rt; zero.park(&rt, &mut pool), Park::Wait);
+    same!(&rt; idle.look(&mut caller), 1);
+    holds!(&rt; !zero.finish(&rt));
     one.leave(&rt, &mut pool);
     pool.queues[1] = 2;
-    assert_eq!(rt; zero.park(&rt, &mut pool), Park::Search);
-    assert_eq!(rt; idle.look(&mut caller), 0);
-    assert_eq!(rt; idle.count(&mut caller), 1);
+    same!(&rt; zero.park(&rt, &mut pool), Park::Search);
+    same!(&rt; idle.look(&mut caller), 0);
+    same!(&rt; idle.count(&mut caller), 1);
     zero.leave(&rt, &mut pool);
     zero.end(&rt);
     one.end(&rt);

@@ -7,6 +7,8 @@ mod beside;
 #[cfg(test)]
 mod calls;
 #[cfg(test)]
+mod found;
+#[cfg(test)]
 mod goes_on;
 #[cfg(test)]
 mod idle;

@@ -4,6 +4,7 @@
 ghost use Rattle.std.specs.Prelude.{◌≡◌, []};
 ghost use Rattle.exec_live_queue.specs.{Kinds.{IsThief, first_of, handed}, Lent.{left_of, lender}};
 
+use crate::found::same;
 use exec_live_queue::lent::{Overflow, Push, Settled};
 use exec_live_queue::owner::Owner;
 use exec_live_queue::queue::{Queue, QueueSeat};
@@ -167,6 +168,6 @@ fn each_value_leaves_once(rt: HostRuntime) -> Result<(), Fail> {
         || join(&rt, || two.run(&rt, alloc), || three.run(&rt, alloc)),
     );
     let all = zero.with(one).with(two).with(three);
-    assert_eq!(rt; (all.values, all.sum), (100_000, 4_999_950_000));
+    same!(&rt; (all.values, all.sum), (100_000, 4_999_950_000));
     Ok(())
 }

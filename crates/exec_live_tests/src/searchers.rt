@@ -6,6 +6,7 @@ ghost use Rattle.exec_live_idle.specs.{Idle.{knows, IsSeatOf, IsSame}, Live.next
 ghost use Rattle.exec_live_queue.specs.Kinds.{IsThief, handed};
 
 use crate::calls::{let_go, made, push_all};
+use crate::found::{holds, same};
 use exec_live_idle::backlog::Backlog;
 use exec_live_idle::notify::Rouse;
 use exec_live_idle::searcher::Searcher;
@@ -209,16 +210,13 @@ fn share<R: Wait + Abort>(
     one: &mut Worker<'_>,
     two: &mut Worker<'_>,
 ) {
-    assert!(rt; zero.search(rt));
-    assert_eq!(rt;
-        (zero.pop(), zero.pop(), zero.pop()),
-        (Some(0), Some(1), None)
-    );
-    assert!(rt; one.search(rt));
-    assert_eq!(rt; (one.pop(), one.pop()), (Some(2), None));
-    assert_eq!(rt; two.pop(), Some(3));
-    assert!(rt; !one.search(rt));
-    assert_eq!(rt; (two.pop(), two.pop()), (Some(4), None));
+    holds!(rt; zero.search(rt));
+    same!(rt; (zero.pop(), zero.pop(), zero.pop()), (Some(0), Some(1), None));
+    holds!(rt; one.search(rt));
+    same!(rt; (one.pop(), one.pop()), (Some(2), None));
+    same!(rt; two.pop(), Some(3));
+    holds!(rt; !one.search(rt));
+    same!(rt; (two.pop(), two.pop()), (Some(4), None));
 }
 
 #[test]

@@ -16,10 +16,6 @@ pub mod Run
 pub mod Text
 pub mod Progress
 pub mod Results
-pub mod Unfinished
 pub mod Examples
 pub mod Logs
 pub mod MoreLogs
-pub mod Refusals
-pub mod RefusedLines
-pub mod MoreRefusedLines

@@ -336,7 +336,7 @@ closed =
           does 1 (Pend 2) ∷ says (action.Spawn 1 0) Closed ∷ says (action.GoOn 1) Return ∷ [];
     }
 
--- A task of the set and one with a worker of its own.
+-- A task of the set and one with a worker of its own, whose root nobody wakes any more once its mailbox is closed.
 abbrev pub two_kinds : Example
 two_kinds =
     record {
@@ -344,15 +344,21 @@ two_kinds =
           record {
             config = record usual { workers = 2 };
             scripts = (word.End ∷ []) ∷ (word.Await ∷ []) ∷ [];
-            root = (word.Spawn 0) ∷ (word.Dedicated 0) ∷ word.Await ∷ word.End ∷ [];
+            root = (word.Spawn 0) ∷ (word.Dedicated 0) ∷ word.Await ∷ (word.Wake 3) ∷ word.End ∷ [];
           };
       steps =
-          step.Work 0 13 ∷ step.Work 2 16 ∷ [];
+          step.Work 0 13 ∷ step.Work 2 16 ∷ step.One (action.Wake 0 3) ∷ step.One (action.GoOn 0) ∷
+          step.One (action.Wake 0 0) ∷ step.Work 0 32 ∷ [];
       told =
           times 5 (does 0 Turn) ++ does 0 (Begin 0) ∷ does 0 (Spawn 2 0) ∷ times 3 (does 0 Turn) ++
           does 0 (Dedicated 3 2) ∷ does 0 (Wait None) ∷ does 0 (Pend 0) ∷ times 2 (does 2 Turn) ++
           does 2 (Begin 3) ∷ does 2 (Done 3) ∷ does 2 Close ∷ times 2 (does 2 Turn) ++
-          times 6 (does 2 Serve) ++ does 2 Turn ∷ does 2 End ∷ refuses (action.Work 2) ∷ [];
+          times 6 (does 2 Serve) ++ does 2 Turn ∷ does 2 End ∷ refuses (action.Work 2) ∷
+          says (action.Wake 0 3) Closed ∷ says (action.GoOn 0) Return ∷
+          posts (action.Wake 0 0) 0 ByCall false ∷ times 4 (does 0 Turn) ++ times 6 (does 0 Serve) ++
+          times 2 (does 0 Turn) ++ does 0 (Apply message.Root) ∷ times 9 (does 0 Turn) ++
+          does 0 (Begin 2) ∷ does 0 (Done 2) ∷ times 5 (does 0 Turn) ++ does 0 (Begin 0) ∷
+          does 0 Pass ∷ does 0 Closed ∷ [];
     }
 
 -- A root ends with two requests, which are over with it.

@@ -55,8 +55,8 @@ abbrev pub is_settled : Next → Bool
 is_settled next.Free = true
 is_settled _ = false
 
--- It polls nothing, has no message to send, and its next line has nothing to do. All that happens outside a poll
--- happens to a worker that is at large.
+-- It polls nothing, has no message to send, and its next line has nothing to do. What happens outside a poll happens to
+-- a worker that is at large, but for a turn, a message that it owes, and a rouse between two of these.
 abbrev pub is_at_large : Own → Bool
 is_at_large me = is_none me.polls && is_empty me.owed && is_settled me.next
 

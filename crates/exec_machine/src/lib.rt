@@ -16,7 +16,8 @@
 //!
 //! `Run` says which list of log lines is a run, `Progress` that no party turns for ever in it and
 //! that no worker sleeps on work, and `Text` how lines are written. Where an event leaves something
-//! open, a run tells it line by line (`Choice`), so a run can be computed: the examples are.
+//! open, a run tells it line by line (`Choice`), so a run can be computed: those of
+//! `exec_machine_examples` are. `Logs` and `MoreLogs` are good ones, which the moves play too.
 //!
 //! The crate has the words that code and clauses share, how they are shown, and laws over whole
 //! runs as functions that do nothing. It has no state and does nothing.
@@ -24,8 +25,6 @@
 
 pub mod config;
 pub mod event;
-pub mod examples;
 pub mod laws;
 pub mod state;
 pub mod step;
-pub mod unfinished;

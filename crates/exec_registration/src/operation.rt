@@ -58,8 +58,9 @@ impl Registration<WaiterId> {
     /// worker does, by `Places::release`, once the registration was let go and what it sent was applied. One that is
     /// `Closed` has none.
     ///
-    /// `Full` comes only where each index that a request may have is used up, `NoMemory` only where there is no memory;
-    /// the request comes back then, and nothing changes. Ports `Operation::register`.
+    /// `Full` comes only where each index that a request may have is used up, and none is taken then; `NoMemory` only
+    /// where there is no memory. The request comes back, and nothing changes, nor how many places the ring has. Ports
+    /// `Operation::register`.
     pub fn register<R: Ring + Drop, S: Drop, F: Drop, M: Places>(
         alloc: Global,
         request: Request,
@@ -102,8 +103,9 @@ impl Registration<WaiterId> {
 /// once; the caller must have an open of that number. Nobody can let it go, and an error of the kernel is sent as it
 /// came, without the open's number.
 ///
-/// `Full` comes only where each index that a request may have is used up, `NoMemory` only where there is no memory; the
-/// request and its sender come back then, and nothing changes. Ports `start_sync`.
+/// `Full` comes only where each index that a request may have is used up, and none is taken then; `NoMemory` only where
+/// there is no memory. The request and its sender come back, and nothing changes, nor how many places the ring has.
+/// Ports `start_sync`.
 pub fn start_sync<R: Ring + Drop, S: Drop, F: Drop>(
     alloc: Global,
     request: SyncRequest,

@@ -1,9 +1,10 @@
 -- Sums over the chunks of a list, up to a place in it and from there on.
-use Rattle.std.proofs.Common.{◌≡◌, ℕ, ◌+◌, ◌-◌, ◌<◌, ◌≤◌, List, [], length, take, drop, get_or, sym, ap, ◌∙◌, arith, length-drop, inl, inr, lit<, add-zero}
+use Rattle.std.proofs.Common.{◌≡◌, ℕ, ◌+◌, ◌-◌, ◌<◌, ◌≤◌, true, List, [], length, take, drop, get_or, sym, ap, ◌∙◌, arith, length-drop, inl, inr, lit<, add-zero}
 use Rattle.std.proofs.lemmas.Bool.{cases_lt}
 use Rattle.std.proofs.lemmas.List.{get_or-drop, take_all, get_or-take, get_or_past, length-take}
 use Rattle.std.proofs.lemmas.List.Sums.{sum_by_more, sum_by_more_le, sum_by-take-le, sum_by-take-drop}
 use Rattle.exec_bufs.specs.Buffers.{total}
+use Rattle.exec_request.specs.Buffers.{is_within}
 
 -- the sum of the next chunks from a place on, with one more
 pub batch-next : (bufs : List (List ℕ)) (chunk at : ℕ) → chunk ≤ at → at < length bufs → total (take (at + 1 - chunk) (drop chunk bufs)) ≡ total (take (at - chunk) (drop chunk bufs)) + length (get_or bufs at [])
@@ -25,6 +26,10 @@ batch-end bufs chunk n count ends less =
 -- a batch lies in what is left
 pub batch-left : (bufs : List (List ℕ)) (chunk count : ℕ) → total (take count (drop chunk bufs)) + total (take chunk bufs) ≤ total bufs
 batch-left bufs chunk count = omega (arith, sum_by-take-le length (drop chunk bufs) count, sum_by-take-drop length bufs chunk)
+
+-- a place in a chunk has as many bytes of it before
+pub within-chunk : (offset : ℕ) (chunk : List ℕ) → is_within offset chunk ≡ true → offset ≤ length chunk
+within-chunk = grind arith
 
 -- the first chunk of a batch is in it
 pub batch-first : (bufs : List (List ℕ)) (chunk : ℕ) → length (get_or bufs chunk []) ≤ total (take 1024 (drop chunk bufs))

@@ -1,5 +1,5 @@
 -- The buffers of a send or a write, and how much of them has gone.
-use Rattle.std.specs.Prelude.{ℕ, Bool, ◌+◌, ◌-◌, ◌^◌, ◌==◌, ◌&&◌, List, [], ◌∷◌, length, take, drop, min, nat_le, slice_index_or}
+use Rattle.std.specs.Prelude.{ℕ, Bool, ◌+◌, ◌-◌, ◌^◌, ◌==◌, ◌&&◌, ◌||◌, List, [], ◌∷◌, length, take, drop, min, nat_le, nat_lt, slice_index_or}
 use Rattle.exec_bufs.specs.Buffers.{total}
 use Rattle.exec_request.specs.declared.buffers.WriteBuffers.{WriteBuffers}
 use Rattle.exec_request.specs.declared.buffers.WriteBuffers.TheVariants.{Single, Vectored}
@@ -19,11 +19,16 @@ abbrev pub moved_of : WriteBuffers → ℕ
 moved_of (Single buf offset) = offset
 moved_of (Vectored bufs chunk offset remaining) = total bufs - remaining
 
+-- a place in a chunk: at its start, or before one of its bytes. The end of a chunk is the start of the next, and past
+-- the last chunk there are starts alone
+abbrev pub is_within : ℕ → List ℕ → Bool
+is_within offset chunk = (offset == 0) || nat_lt offset (length chunk)
+
 -- what went lies before the place that is told: whole chunks, and a part of the next
 abbrev pub is_sound : WriteBuffers → Bool
 is_sound (Single buf offset) = nat_le offset (length buf)
 is_sound (Vectored bufs chunk offset remaining) =
-    ((total (take chunk bufs) + offset) + remaining == total bufs) && nat_le offset (length (slice_index_or bufs chunk []))
+    ((total (take chunk bufs) + offset) + remaining == total bufs) && is_within offset (slice_index_or bufs chunk [])
 
 -- the most that one operation takes: of one buffer its rest, of several the rest of their next 1,024, and never more
 -- than 2^32 - 1 bytes

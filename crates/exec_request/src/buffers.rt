@@ -6,7 +6,7 @@
 
 ghost use Rattle.std.specs.Prelude.{◌≡◌, true, IsTrue, ◌+◌, ◌-◌, ◌<◌, ◌≤◌, ◌↔◌, [], length, take, drop, min, slice_index_or};
 ghost use Rattle.exec_bufs.specs.Buffers.{total};
-ghost use Rattle.exec_request.specs.Buffers.{length_of, moved_of, owners_of, is_sound, batch_of, chunks_of};
+ghost use Rattle.exec_request.specs.Buffers.{length_of, moved_of, owners_of, is_sound, is_within, batch_of, chunks_of};
 ghost use Rattle.exec_request.specs.Bytes.{batch_bytes};
 ghost use Rattle.exec_request.specs.Kept.{rewound};
 
@@ -18,7 +18,8 @@ use exec_bufs::bufs::IoBufs;
 /// The most chunks that one operation takes. Ports `IOVEC_BATCH_SIZE`.
 pub const IOVEC_BATCH_SIZE: usize = 1024;
 
-/// Bytes to send or to write, and how many of them have gone. Ports `WriteBuffers`.
+/// Bytes to send or to write, and how many of them have gone. Their place is sound where it agrees with how many are
+/// left, and where of several chunks the next one isn't used up. Ports `WriteBuffers`.
 #[derive(Debug, Drop)]
 pub enum WriteBuffers {
     /// Bytes in one buffer.
@@ -42,14 +43,16 @@ pub enum WriteBuffers {
 }
 
 impl From<IoBufs> for WriteBuffers {
-    ghost use Rattle.std.specs.Prelude.{◌≡◌, true};
+    ghost use Rattle.std.specs.Prelude.{◌≡◌, true, length, nat_le, if◌then◌else◌};
     ghost use Rattle.exec_bufs.specs.Buffers.{total};
     ghost use Rattle.std.specs.List.{concat};
     ghost use Rattle.exec_request.specs.Buffers.{length_of, moved_of, owners_of, is_sound};
+    ghost use Rattle.exec_request.specs.declared.buffers.WriteBuffers.TheVariants.{Single, Vectored};
 
-    ghost from_gives = { λ bufs w. (length_of w ≡ total bufs) × (moved_of w ≡ 0) × (is_sound w ≡ true) × (concat (owners_of w) ≡ concat bufs) };
+    ghost from_gives = { λ bufs w. (length_of w ≡ total bufs) × (moved_of w ≡ 0) × (is_sound w ≡ true) × (concat (owners_of w) ≡ concat bufs)
+        × (w ≡ (if nat_le (length bufs) 1 then Single (concat bufs) 0 else Vectored bufs 0 0 (total bufs))) };
 
-    /// All of these bytes. One chunk is kept as it is.
+    /// All of these bytes, of which none has gone. One chunk is kept as it is, and several in their cuts.
     fn from(bufs: IoBufs) -> WriteBuffers {
         let remaining = bufs.len();
         match bufs.try_into_single() {
@@ -75,7 +78,7 @@ impl WriteBuffers {
         }
     }
 
-    /// How many bytes are left.
+    /// How many bytes are left. The caller must have a sound place, as `from` makes it and `advance` keeps it.
     pub fn remaining_len(&self) -> usize
         requires { is_sound self.now ≡ true }
         ensures { result + moved_of self.now ≡ length_of self.now }
@@ -86,7 +89,7 @@ impl WriteBuffers {
         }
     }
 
-    /// Whether no byte is left.
+    /// Whether no byte is left. The caller must have a sound place, as `from` makes it and `advance` keeps it.
     pub fn is_complete(&self) -> bool
         requires { is_sound self.now ≡ true }
         ensures { IsTrue result ↔ (moved_of self.now ≡ length_of self.now) }
@@ -94,7 +97,8 @@ impl WriteBuffers {
         self.remaining_len() == 0
     }
 
-    /// So many bytes have gone, of which there must be as many left. Every buffer is kept.
+    /// So many bytes have gone. Every buffer is kept, and the next operation begins past the chunks that are used up.
+    /// The caller must have a sound place, as `from` makes it and this call keeps it, with as many bytes left.
     pub fn advance(&mut self, count: usize)
         requires sound { is_sound self.old ≡ true }
         requires left { moved_of self.old + count ≤ length_of self.old }
@@ -178,12 +182,13 @@ impl WriteBuffers {
     }
 }
 
-/// The place in these chunks after `count` more bytes: the number of a chunk, and how many of its bytes lie before.
+/// The place in these chunks after `count` more bytes: the number of a chunk, and how many of its bytes lie before. A
+/// chunk that is used up is passed.
 fn place_after(bufs: &IoBufs, chunk: usize, offset: usize, count: usize) -> (usize, usize)
     requires within { total (take chunk bufs.now) + offset + count ≤ total bufs.now }
     requires begun { offset ≤ length (slice_index_or bufs.now chunk []) }
     ensures place { total (take result.0 bufs.now) + result.1 ≡ total (take chunk bufs.now) + offset + count }
-    ensures begun { result.1 ≤ length (slice_index_or bufs.now result.0 []) }
+    ensures begun { is_within result.1 (slice_index_or bufs.now result.0 []) ≡ true }
 {
     let mut gone = offset;
     let mut left = count;

@@ -67,7 +67,7 @@ impl ConnectRequest {
     }
 
     /// Judges the next result. Answers the outcome that all results so far give, or None where another
-    /// operation is needed.
+    /// operation is needed. The caller must know that the kernel may give this result for the operation.
     pub fn on_cqe(&self, state: WaiterState, given: OpResult) -> Option<Result<(), Error>>
         requires { IsTrue (is_lawful (window_of (connect_asked self.now) (connect_cursor self.now)) given) }
         ensures { Judges (connect_asked self.now) (connect_cursor self.now) (connect_cursor self.now) (judged_as false state given) (as_answer result) }

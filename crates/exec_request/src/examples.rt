@@ -31,6 +31,10 @@ pub fn bytes_of_a_window()
     ensures chunks { chunks_of (WriteBuffers.Vectored ((97 ∷ 98 ∷ []) ∷ (99 ∷ 100 ∷ []) ∷ []) 1 1 1) ≡ 1 }
     ensures sound { is_sound (WriteBuffers.Vectored ((97 ∷ 98 ∷ []) ∷ (99 ∷ 100 ∷ []) ∷ []) 1 1 1) ≡ true }
     ensures unsound { is_sound (WriteBuffers.Vectored ((97 ∷ 98 ∷ []) ∷ (99 ∷ 100 ∷ []) ∷ []) 1 1 2) ≡ false }
+    ensures passed { is_sound (WriteBuffers.Vectored ((97 ∷ 98 ∷ []) ∷ (99 ∷ 100 ∷ []) ∷ []) 1 0 2) ≡ true }
+    ensures not_passed { is_sound (WriteBuffers.Vectored ((97 ∷ 98 ∷ []) ∷ (99 ∷ 100 ∷ []) ∷ []) 0 2 2) ≡ false }
+    ensures at_the_end { is_sound (WriteBuffers.Vectored ((97 ∷ 98 ∷ []) ∷ (99 ∷ 100 ∷ []) ∷ []) 2 0 0) ≡ true }
+    ensures before_the_end { is_sound (WriteBuffers.Vectored ((97 ∷ 98 ∷ []) ∷ (99 ∷ 100 ∷ []) ∷ []) 1 2 0) ≡ false }
     ensures kept { rewound (WriteBuffers.Vectored ((97 ∷ 98 ∷ []) ∷ (99 ∷ 100 ∷ []) ∷ []) 1 1 1) ≡ rewound (WriteBuffers.Vectored ((97 ∷ 98 ∷ []) ∷ (99 ∷ 100 ∷ []) ∷ []) 0 1 3) }
     ensures not_kept { rewound (WriteBuffers.Single (97 ∷ []) 1) ≢ rewound (WriteBuffers.Single (98 ∷ []) 1) }
 {}

@@ -47,7 +47,7 @@ impl PollRequest {
     }
 
     /// Judges the next result. Answers the outcome that all results so far give, or None where another
-    /// operation is needed.
+    /// operation is needed. The caller must know that the kernel may give this result for the operation.
     pub fn on_cqe(&self, state: WaiterState, given: OpResult) -> Option<Result<(), Error>>
         requires { IsTrue (is_lawful (window_of (poll_asked self.now) (poll_cursor self.now)) given) }
         ensures { Judges (poll_asked self.now) (poll_cursor self.now) (poll_cursor self.now) (judged_as false state given) (as_answer result) }

@@ -59,7 +59,7 @@ impl ReadAtRequest {
     ghost use Rattle.exec_request.specs.Ways.{is_direct, is_switched, switched_from, narrowed};
     ghost use Rattle.exec_request.specs.Views.{read_asked, read_cursor, read_hinted, read_window, IsDirectRead};
 
-    /// A read of as many bytes as this buffer has, from `offset` on.
+    /// A read of as many bytes as this buffer has, from `offset` on. The caller must have a range that ends below 2^64.
     pub fn new(file: u32, offset: u64, buf: IoBufMut, cache: Cache) -> Self
         requires { offset + length buf.bytes < 2 ^ 64 }
         ensures file { result.file ≡ file }
@@ -218,7 +218,8 @@ impl ReadAtRequest {
     }
 
     /// Judges the next result. Answers the outcome that all results so far give, or None where another
-    /// operation is needed. A refused hint is given up, also by the open.
+    /// operation is needed. A refused hint is given up, also by the open. The caller must know that the kernel may
+    /// give this result for the operation.
     pub fn on_cqe(
         &mut self,
         state: WaiterState,

@@ -47,7 +47,8 @@ impl RecvRequest {
     ghost use Rattle.exec_request.specs.Judging.{Judges, judged_as};
     ghost use Rattle.exec_request.specs.Views.{recv_asked, recv_cursor, recv_window};
 
-    /// A receive into this buffer from `offset` to `len`, of which nothing has come yet.
+    /// A receive into this buffer from `offset` to `len`, of which nothing has come yet. The caller must have an
+    /// `offset` of at most `len`, and a `len` of at most the buffer's capacity.
     pub fn new(
         fd: u32,
         buf: IoBufMut,
@@ -114,7 +115,7 @@ impl RecvRequest {
     }
 
     /// Judges the next result. Answers the outcome that all results so far give, or None where another
-    /// operation is needed.
+    /// operation is needed. The caller must know that the kernel may give this result for the operation.
     pub fn on_cqe(&mut self, state: WaiterState, given: OpResult) -> Option<Result<(), Error>>
         requires lawful { IsTrue (is_lawful (window_of (recv_asked self.old) (recv_cursor self.old)) given) }
         ensures judges { Judges (recv_asked self.old) (recv_cursor self.old) (recv_cursor self.new) (judged_as false state given) (as_answer result) }

@@ -103,7 +103,8 @@ impl Request {
     }
 
     /// What ends a durable request that has its permit before it has any operation: a failure that its open keeps,
-    /// and for a sync that there is nothing to make durable. Ports `prepare_durability`.
+    /// and for a sync that there is nothing to make durable. The caller must have a durable request. Ports
+    /// `prepare_durability`.
     pub fn prepare_durability(&self, open_: &Option<OpenRecord>) -> Option<Result<(), Error>>
         requires { is_durable (asked_of self.now).kind ≡ true }
         ensures { as_answer result ≡ outcome_if_granted self.now open_.now }
@@ -221,7 +222,8 @@ impl Request {
     }
 
     /// Judges the next result. Answers the outcome that all results so far give, or None where another operation is
-    /// needed. A refused hint is given up, also by the open. Ports `on_cqe`.
+    /// needed. A refused hint is given up, also by the open. The caller must know that the kernel may give this result
+    /// for the operation, as `may_give` says. Ports `on_cqe`.
     pub fn on_cqe(
         &mut self,
         state: WaiterState,

@@ -35,7 +35,8 @@ impl SendRequest {
     ghost use Rattle.exec_request.specs.Judging.{Judges, judged_as};
     ghost use Rattle.exec_request.specs.Views.{send_asked, send_cursor, send_window};
 
-    /// A send of these bytes. Some may have gone already.
+    /// A send of these bytes. Some may have gone already. The caller must have bytes with a sound place, as
+    /// `WriteBuffers::from` makes it and `advance` keeps it.
     pub fn new(fd: u32, write: WriteBuffers, deadline: Option<u64>) -> Self
         requires { is_sound write ≡ true }
         ensures fd { result.fd ≡ fd }
@@ -66,7 +67,7 @@ impl SendRequest {
     }
 
     /// Judges the next result. Answers the outcome that all results so far give, or None where another
-    /// operation is needed.
+    /// operation is needed. The caller must know that the kernel may give this result for the operation.
     pub fn on_cqe(&mut self, state: WaiterState, given: OpResult) -> Option<Result<(), Error>>
         requires lawful { IsTrue (is_lawful (window_of (send_asked self.old) (send_cursor self.old)) given) }
         ensures judges { Judges (send_asked self.old) (send_cursor self.old) (send_cursor self.new) (judged_as false state given) (as_answer result) }

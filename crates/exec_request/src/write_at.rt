@@ -87,7 +87,9 @@ impl WriteAtRequest {
     ghost use Rattle.exec_request.specs.Views.{write_asked, write_cursor, write_hinted, write_window};
 
     /// A write of these bytes, some of which may have been written already, from `offset` on. `seen` is what
-    /// `begin_sync` of the open's record answered. A trailing sync begins only where all is written.
+    /// `begin_sync` of the open's record answered. A trailing sync begins only where all is written. The caller must
+    /// have bytes with a sound place, as `WriteBuffers::from` makes it and `advance` keeps it, of which those that are
+    /// left end below 2^64 in the file, and none is left where the trailing sync has begun.
     pub fn new(
         file: u32,
         offset: u64,
@@ -158,7 +160,8 @@ impl WriteAtRequest {
     }
 
     /// Judges the next result. Answers the outcome that all results so far give, or None where another
-    /// operation is needed. A refused hint is given up, also by the open.
+    /// operation is needed. A refused hint is given up, also by the open. The caller must know that the kernel may
+    /// give this result for the operation.
     pub fn on_cqe(
         &mut self,
         state: WaiterState,

@@ -108,7 +108,7 @@ impl Store {
 
     /// Makes room for the bytes of one more window: of a send or a receive beside the room that is there, of a write
     /// for its stretch of the file. Other windows need none. An `Err` comes only for want of memory, and changes
-    /// nothing.
+    /// nothing. The caller must have a window that ends within 64 bits.
     pub fn reserve(&mut self, alloc: Global, window: Window) -> Result<(), AllocError>
         requires { window.offset + window.length < 2 ^ 64 }
         ensures ok { OnOk result (Reserves window self.old self.new) }

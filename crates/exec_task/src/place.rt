@@ -49,7 +49,8 @@ pub trait Place {
         ensures back { IfErr result (λ back. back ≡ runnable) }
         ensures pushed { pushes self.old runnable self.new };
 
-    /// Makes room in the global queue for one more task. What was there stays as it was.
+    /// Makes room in the global queue for one more task. What was there stays as it was. An `Err` comes only for want
+    /// of memory.
     fn reserve(&mut self, alloc: Global) -> Result<(), AllocError>
         ensures { reserves self.old self.new };
 }

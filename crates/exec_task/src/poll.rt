@@ -43,18 +43,19 @@ pub trait TaskCell<B> {
 
     ghost ends: { Self → Ended → AfterPoll → Self → Type 0 };
 
-    /// Takes the body out, for a poll with this runnable. None where that is stale.
+    /// Takes the body out, for a poll with this runnable. None where that is stale. The caller must have a runnable of
+    /// this task.
     fn begin(&mut self, runnable: Runnable) -> Option<B>
         requires { is_its self.old runnable }
         ensures begun { begins self.old runnable result self.new }
         ensures polled { OnSome result (IsTrue (is_polled self.new)) };
 
-    /// Gives the body back: the poll ends pending.
+    /// Gives the body back: the poll ends pending. The caller must be who polls the task.
     fn pend(&mut self, body: B) -> AfterPoll
         requires { IsTrue (is_polled self.old) }
         ensures { pends self.old body result self.new };
 
-    /// Ends the task with the poll.
+    /// Ends the task with the poll. The caller must be who polls it.
     fn done(&mut self, how: Ended) -> AfterPoll
         requires { IsTrue (is_polled self.old) }
         ensures { ends self.old how result self.new };
@@ -93,7 +94,8 @@ pub trait Carrier<B, C: TaskCell<B>>: Around {
     ghost carries: { Self → C → Asked B → Option Said → Self → C → Type 0 };
 
     /// Carries out what the poll of this task asks, and answers what the body is told. Nothing
-    /// where the poll ends pending; then the next poll of the task begins with `Resume`.
+    /// where the poll ends pending; then the next poll of the task begins with `Resume`. The caller
+    /// must be who polls the task.
     fn carry_out(&mut self, cell: &mut C, asked: Asked<B>) -> Option<Said>
         requires { IsTrue (C.is_polled cell.old) }
         ensures carried { carries self.old cell.old asked result self.new cell.new }

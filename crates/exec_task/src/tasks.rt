@@ -124,8 +124,8 @@ impl<T> Shard<T> {
 
 #[tactic(auto, using(crate::proofs::Maps::changes, crate::proofs::Maps::home_after, crate::proofs::Maps::home_at_first, crate::proofs::Maps::takes_newest))]
 impl<T> Tasks<T> {
-    /// An open set for a pool of so many workers: the next power of two of them, times 4, shards. The caller must have
-    /// some workers, and at most 2^32.
+    /// An open set for a pool of so many workers: the next power of two of them, times 4, shards. An `Err` comes only
+    /// for want of memory. The caller must have some workers, and at most 2^32.
     pub fn new(alloc: Global, workers: usize) -> Result<Self, AllocError>
         requires some { 0 < workers }
         requires few { workers ≤ 2 ^ 32 }
@@ -137,7 +137,7 @@ impl<T> Tasks<T> {
         Self::with_shards(alloc, workers.next_power_of_two() * SHARDS_PER_WORKER)
     }
 
-    /// An open set with so many shards. The caller must have one at least.
+    /// An open set with so many shards. An `Err` comes only for want of memory. The caller must have one at least.
     pub fn with_shards(alloc: Global, count: usize) -> Result<Self, AllocError>
         requires { 0 < count }
         ensures { IfOk result (λ s. s ≡ record { shards = replicate count []; closed = false; id = 1 }) }

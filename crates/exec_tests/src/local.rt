@@ -4,6 +4,7 @@ ghost use Rattle.std.specs.Prelude.{IfOk};
 ghost use Rattle.exec_parts.specs.Records.{IsFreshSeat};
 ghost use Rattle.exec_waiters.specs.Told.{HasPlaces};
 
+use crate::found::holds;
 use exec_base::task_no::TaskNo;
 use exec_core::local::Local;
 use exec_machine::config::{Configuration, Spin};
@@ -75,12 +76,12 @@ fn a_worker_polls_tasks_of_its_own_set_until_it_closes(rt: HostRuntime) -> Resul
         workers: 1,
         tasks: OWN,
     };
-    assert!(rt; local.serves(OWN));
-    assert!(rt; !local.serves(OWN + 1));
-    assert!(rt; local.role() == Role::Pool(0));
-    assert!(rt; local.workers() == 1);
+    holds!(&rt; local.serves(OWN));
+    holds!(&rt; !local.serves(OWN + 1));
+    holds!(&rt; local.role() == Role::Pool(0));
+    holds!(&rt; local.workers() == 1);
     local.worker.home.closing = true;
-    assert!(rt; !local.serves(OWN));
+    holds!(&rt; !local.serves(OWN));
     Ok(())
 }
 
@@ -98,8 +99,8 @@ fn a_runnable_goes_into_the_run_queue(rt: HostRuntime) -> Result<(), Fail> {
     let before = local.ready().len();
     local.enqueue(runnable(1));
     let after = local.ready().len();
-    assert!(rt; before == 0);
-    assert!(rt; after == 1);
+    holds!(&rt; before == 0);
+    holds!(&rt; after == 1);
     Ok(())
 }
 
@@ -131,8 +132,8 @@ fn a_request_that_nobody_waits_for_is_let_go(rt: HostRuntime) -> Result<(), Fail
         tasks: OWN,
     };
     local.cancel(id);
-    assert!(rt; has_one);
-    assert!(rt; !worker.has_requests());
-    assert!(rt; worker.has_callbacks());
+    holds!(&rt; has_one);
+    holds!(&rt; !worker.has_requests());
+    holds!(&rt; worker.has_callbacks());
     Ok(())
 }

@@ -1,5 +1,6 @@
 //! Whole runs of pools, with the logs that they must have.
 
+use crate::found::same;
 use crate::run::call;
 use std::test::Fail;
 
@@ -318,23 +319,23 @@ w 1 refused
 #[test]
 fn a_spawn_beside_the_closing_is_cleared(rt: HostRuntime) -> Result<(), Fail> {
     let (status, sink) = call(rt.alloc(), "trace", CALLER_AT_CLOSING)?;
-    assert_eq!(rt; status, 0);
-    assert_eq!(rt; sink.bytes(), CALLER_AT_CLOSING_LOG.as_bytes());
+    same!(&rt; status, 0);
+    same!(&rt; sink.bytes(), CALLER_AT_CLOSING_LOG.as_bytes());
     Ok(())
 }
 
 #[test]
 fn a_thief_holds_what_it_claimed(rt: HostRuntime) -> Result<(), Fail> {
     let (status, sink) = call(rt.alloc(), "trace quiet", THIEF)?;
-    assert_eq!(rt; status, 0);
-    assert_eq!(rt; sink.bytes(), THIEF_LOG.as_bytes());
+    same!(&rt; status, 0);
+    same!(&rt; sink.bytes(), THIEF_LOG.as_bytes());
     Ok(())
 }
 
 #[test]
 fn a_pool_sends_spawns_and_wakes(rt: HostRuntime) -> Result<(), Fail> {
     let (status, sink) = call(rt.alloc(), "trace quiet", MIXED)?;
-    assert_eq!(rt; status, 0);
-    assert_eq!(rt; sink.bytes(), MIXED_LOG.as_bytes());
+    same!(&rt; status, 0);
+    same!(&rt; sink.bytes(), MIXED_LOG.as_bytes());
     Ok(())
 }

@@ -1,6 +1,7 @@
 //! Runs of several workers: a task that is stolen, a wake in a poll, a pool that closes with tasks left, steps that are
 //! refused, and a caller's task beside a worker that goes to sleep.
 
+use crate::found::holds;
 use crate::run::call;
 use std::alloc::Global;
 use std::test::Fail;
@@ -241,28 +242,28 @@ fn gives(alloc: Global, body: &str, log: &str) -> Result<bool, Fail> {
 #[test]
 fn a_task_is_stolen(rt: HostRuntime) -> Result<(), Fail> {
     let given = gives(rt.alloc(), STOLEN, STOLEN_LOG)?;
-    assert!(rt; given);
+    holds!(&rt; given);
     Ok(())
 }
 
 #[test]
 fn two_wakes_in_a_poll_queue_the_task_once(rt: HostRuntime) -> Result<(), Fail> {
     let given = gives(rt.alloc(), WOKEN, WOKEN_LOG)?;
-    assert!(rt; given);
+    holds!(&rt; given);
     Ok(())
 }
 
 #[test]
 fn a_pool_that_closes_clears_its_tasks(rt: HostRuntime) -> Result<(), Fail> {
     let given = gives(rt.alloc(), CLOSED, CLOSED_LOG)?;
-    assert!(rt; given);
+    holds!(&rt; given);
     Ok(())
 }
 
 #[test]
 fn steps_that_may_not_be_taken_are_refused(rt: HostRuntime) -> Result<(), Fail> {
     let given = gives(rt.alloc(), REFUSED, REFUSED_LOG)?;
-    assert!(rt; given);
+    holds!(&rt; given);
     Ok(())
 }
 
@@ -329,6 +330,6 @@ fn a_spawn_beside_a_worker_that_parks_is_polled_once(rt: HostRuntime) -> Result<
             good = good.saturating_add(1);
         }
     }
-    assert!(rt; good == 200);
+    holds!(&rt; good == 200);
     Ok(())
 }

@@ -1,5 +1,6 @@
 //! Whole runs: a trace or a text that is none, between ends that fail or don't, with the log or the complaint.
 
+use crate::found::same;
 use exec_base::io::{MemInput, MemOutput};
 use exec_run::field::{Field, OutOfRange};
 use exec_run::{Complaint, TraceError, run, run_trace};
@@ -84,9 +85,9 @@ pub(crate) fn call(alloc: Global, text: &str, trace: &str) -> Result<(u8, MemOut
 #[test]
 fn the_example_gives_its_quiet_log(rt: HostRuntime) -> Result<(), Fail> {
     let (status, sink) = call(rt.alloc(), "trace quiet", EXAMPLE)?;
-    assert_eq!(rt; status, 0);
-    assert_eq!(rt; sink.bytes(), QUIET_LOG.as_bytes());
-    assert_eq!(rt; sink.passed(), QUIET_LOG.as_bytes());
+    same!(&rt; status, 0);
+    same!(&rt; sink.bytes(), QUIET_LOG.as_bytes());
+    same!(&rt; sink.passed(), QUIET_LOG.as_bytes());
     Ok(())
 }
 
@@ -95,8 +96,8 @@ fn no_steps_give_an_empty_log(rt: HostRuntime) -> Result<(), Fail> {
     let text = format!(in rt.alloc(); "{HEADER}root end\nsteps\n")?;
     for words in ["trace", "trace quiet"] {
         let (status, sink) = call(rt.alloc(), words, text.as_str())?;
-        assert_eq!(rt; status, 0);
-        assert_eq!(rt; sink.bytes(), b"".as_slice());
+        same!(&rt; status, 0);
+        same!(&rt; sink.bytes(), b"".as_slice());
     }
     Ok(())
 }
@@ -105,9 +106,9 @@ fn no_steps_give_an_empty_log(rt: HostRuntime) -> Result<(), Fail> {
 fn a_root_that_ends_is_run_to_its_end(rt: HostRuntime) -> Result<(), Fail> {
     let text = format!(in rt.alloc(); "{HEADER}root end\nsteps\nw 0 1000\n")?;
     let (status, sink) = call(rt.alloc(), "trace quiet", text.as_str())?;
-    assert_eq!(rt; status, 0);
+    same!(&rt; status, 0);
     let expected = "w 0 begin 0\nw 0 done 0\nw 0 close\nw 0 stop\nw 0 end\nw 0 refused\n";
-    assert_eq!(rt; sink.bytes(), expected.as_bytes());
+    same!(&rt; sink.bytes(), expected.as_bytes());
     Ok(())
 }
 
@@ -116,7 +117,7 @@ fn the_clock_wakes_a_sleeping_root(rt: HostRuntime) -> Result<(), Fail> {
     let steps = "w 0 1000\nc 1000000\nw 0 1000\n";
     let text = format!(in rt.alloc(); "{HEADER}root sleep 1000000 end\nsteps\n{steps}")?;
     let (status, sink) = call(rt.alloc(), "trace quiet", text.as_str())?;
-    assert_eq!(rt; status, 0);
+    same!(&rt; status, 0);
     let expected = "w 0 begin 0
 w 0 timer 0 1000000
 w 0 pend 0
@@ -133,7 +134,7 @@ w 0 stop
 w 0 end
 w 0 refused
 ";
-    assert_eq!(rt; sink.bytes(), expected.as_bytes());
+    same!(&rt; sink.bytes(), expected.as_bytes());
     Ok(())
 }
 
@@ -141,7 +142,7 @@ w 0 refused
 fn a_stir_has_a_line_of_its_own(rt: HostRuntime) -> Result<(), Fail> {
     let text = format!(in rt.alloc(); "{HEADER}root await end\nsteps\ne 0\nw 0 1000\ne 0\ne 0\n")?;
     let (status, sink) = call(rt.alloc(), "trace quiet", text.as_str())?;
-    assert_eq!(rt; status, 0);
+    same!(&rt; status, 0);
     let expected = "e 0 refused
 w 0 begin 0
 w 0 wait none
@@ -151,7 +152,7 @@ w 0 refused
 e 0 stir
 e 0 refused
 ";
-    assert_eq!(rt; sink.bytes(), expected.as_bytes());
+    same!(&rt; sink.bytes(), expected.as_bytes());
     Ok(())
 }
 
@@ -161,7 +162,7 @@ fn refused_steps_are_told_in_a_quiet_log(rt: HostRuntime) -> Result<(), Fail> {
     let steps = "k 0 5\nw 0 1000\nk 0 11\nc 4611686018427387905\nw 7 1\n";
     let text = format!(in rt.alloc(); "{text}{steps}")?;
     let (status, sink) = call(rt.alloc(), "trace quiet", text.as_str())?;
-    assert_eq!(rt; status, 0);
+    same!(&rt; status, 0);
     let expected = "k 0 5 refused
 w 0 begin 0
 w 0 admit 0 send
@@ -175,7 +176,7 @@ k 0 11 refused
 c 4611686018427387905 refused
 w 7 refused
 ";
-    assert_eq!(rt; sink.bytes(), expected.as_bytes());
+    same!(&rt; sink.bytes(), expected.as_bytes());
     Ok(())
 }
 
@@ -191,9 +192,9 @@ fn other_words_are_a_usage_error(rt: HostRuntime) -> Result<(), Fail> {
         "trace quiet quiet",
     ] {
         let (status, sink) = call(rt.alloc(), words, EXAMPLE)?;
-        assert_eq!(rt; status, 1);
-        assert_eq!(rt; sink.bytes(), b"error Usage\n".as_slice());
-        assert_eq!(rt; sink.passed(), b"error Usage\n".as_slice());
+        same!(&rt; status, 1);
+        same!(&rt; sink.bytes(), b"error Usage\n".as_slice());
+        same!(&rt; sink.passed(), b"error Usage\n".as_slice());
     }
     Ok(())
 }
@@ -202,8 +203,8 @@ fn other_words_are_a_usage_error(rt: HostRuntime) -> Result<(), Fail> {
 fn a_text_that_is_no_trace_is_a_syntax_error(rt: HostRuntime) -> Result<(), Fail> {
     for words in ["trace", "trace quiet"] {
         let (status, sink) = call(rt.alloc(), words, "workers 1\ninter")?;
-        assert_eq!(rt; status, 2);
-        assert_eq!(rt; sink.bytes(), b"error Syntax 2\n".as_slice());
+        same!(&rt; status, 2);
+        same!(&rt; sink.bytes(), b"error Syntax 2\n".as_slice());
     }
     Ok(())
 }
@@ -212,8 +213,8 @@ fn a_text_that_is_no_trace_is_a_syntax_error(rt: HostRuntime) -> Result<(), Fail
 fn too_many_steps_are_a_length_error(rt: HostRuntime) -> Result<(), Fail> {
     let text = format!(in rt.alloc(); "{EXAMPLE}w 0 16775216\n")?;
     let (status, sink) = call(rt.alloc(), "trace", text.as_str())?;
-    assert_eq!(rt; status, 4);
-    assert_eq!(rt; sink.bytes(), b"error TooLong 16777217\n".as_slice());
+    same!(&rt; status, 4);
+    same!(&rt; sink.bytes(), b"error TooLong 16777217\n".as_slice());
     Ok(())
 }
 
@@ -250,8 +251,8 @@ fn a_part_out_of_range_is_a_configuration_error(rt: HostRuntime) -> Result<(), F
     ] {
         let bad_text = text.as_str().replacen(rt.alloc(), part, bad, 1)?;
         let (status, sink) = call(rt.alloc(), "trace", bad_text.as_str())?;
-        assert_eq!(rt; status, 3);
-        assert_eq!(rt; sink.bytes(), expected.as_bytes());
+        same!(&rt; status, 3);
+        same!(&rt; sink.bytes(), expected.as_bytes());
     }
     Ok(())
 }
@@ -274,8 +275,8 @@ fn the_grammar_and_the_steps_are_tested_before_the_ranges(rt: HostRuntime) -> Re
     ] {
         let text = format!(in rt.alloc(); "{header}{body}")?;
         let (given, sink) = call(rt.alloc(), "trace quiet", text.as_str())?;
-        assert_eq!(rt; given, status);
-        assert_eq!(rt; sink.bytes(), expected.as_bytes());
+        same!(&rt; given, status);
+        same!(&rt; sink.bytes(), expected.as_bytes());
     }
     Ok(())
 }
@@ -286,8 +287,8 @@ fn a_source_that_fails_is_a_read_error(rt: HostRuntime) -> Result<(), Fail> {
     let mut source = source_of(rt.alloc(), "workers 1\ninter", [3].as_slice(), 5)?;
     let mut sink = MemOutput::new(rt.alloc(), vec![in rt.alloc()]?, 4096);
     let status = run(rt.alloc(), words.as_slice(), &mut source, &mut sink);
-    assert_eq!(rt; status, 5);
-    assert_eq!(rt; sink.bytes(), b"error ReadFault\n".as_slice());
+    same!(&rt; status, 5);
+    same!(&rt; sink.bytes(), b"error ReadFault\n".as_slice());
     Ok(())
 }
 
@@ -296,8 +297,8 @@ fn a_sink_that_fails_keeps_the_lines_before(rt: HostRuntime) -> Result<(), Fail>
     let mut source = source_of(rt.alloc(), EXAMPLE, [].as_slice(), 4096)?;
     let mut sink = MemOutput::new(rt.alloc(), vec![in rt.alloc(); 4]?, 4096);
     let outcome = run_trace(rt.alloc(), &mut source, &mut sink, false);
-    assert_eq!(rt; outcome, Err(TraceError::WriteFault));
-    assert_eq!(rt; sink.bytes(), b"w 0 turn\nw 0 turn\nw 0 turn\n".as_slice());
+    same!(&rt; outcome, Err(TraceError::WriteFault));
+    same!(&rt; sink.bytes(), b"w 0 turn\nw 0 turn\nw 0 turn\n".as_slice());
     Ok(())
 }
 
@@ -306,11 +307,8 @@ fn a_sink_that_fails_keeps_the_quiet_lines_before(rt: HostRuntime) -> Result<(),
     let mut source = source_of(rt.alloc(), EXAMPLE, [].as_slice(), 4096)?;
     let mut sink = MemOutput::new(rt.alloc(), vec![in rt.alloc(); 4]?, 4096);
     let outcome = run_trace(rt.alloc(), &mut source, &mut sink, true);
-    assert_eq!(rt; outcome, Err(TraceError::WriteFault));
-    assert_eq!(rt;
-        sink.bytes(),
-        b"w 0 begin 0\nw 0 admit 0 send\nw 0 wait 0\n".as_slice()
-    );
+    same!(&rt; outcome, Err(TraceError::WriteFault));
+    same!(&rt; sink.bytes(), b"w 0 begin 0\nw 0 admit 0 send\nw 0 wait 0\n".as_slice());
     Ok(())
 }
 
@@ -320,8 +318,8 @@ fn a_sink_that_fails_ends_the_program(rt: HostRuntime) -> Result<(), Fail> {
     let mut source = source_of(rt.alloc(), EXAMPLE, [].as_slice(), 4096)?;
     let mut sink = MemOutput::new(rt.alloc(), vec![in rt.alloc(); 2]?, 7);
     let status = run(rt.alloc(), words.as_slice(), &mut source, &mut sink);
-    assert_eq!(rt; status, 6);
-    assert_eq!(rt; sink.bytes(), b"error U".as_slice());
+    same!(&rt; status, 6);
+    same!(&rt; sink.bytes(), b"error U".as_slice());
     Ok(())
 }
 
@@ -333,10 +331,10 @@ fn a_log_that_is_not_passed_on_ends_the_program(rt: HostRuntime) -> Result<(), F
         let mut source = source_of(rt.alloc(), EXAMPLE, [].as_slice(), 4096)?;
         let mut sink = MemOutput::new(rt.alloc(), vec![in rt.alloc(); failing]?, 4096);
         let status = run(rt.alloc(), words.as_slice(), &mut source, &mut sink);
-        assert_eq!(rt; status, expected);
-        assert_eq!(rt; sink.bytes(), QUIET_LOG.as_bytes());
+        same!(&rt; status, expected);
+        same!(&rt; sink.bytes(), QUIET_LOG.as_bytes());
         let passed = if expected == 0 { QUIET_LOG } else { "" };
-        assert_eq!(rt; sink.passed(), passed.as_bytes());
+        same!(&rt; sink.passed(), passed.as_bytes());
     }
     Ok(())
 }
@@ -348,8 +346,8 @@ fn a_complaint_is_flushed_once(rt: HostRuntime) -> Result<(), Fail> {
         let mut source = source_of(rt.alloc(), EXAMPLE, [].as_slice(), 4096)?;
         let mut sink = MemOutput::new(rt.alloc(), vec![in rt.alloc(); failing]?, 4096);
         let status = run(rt.alloc(), words.as_slice(), &mut source, &mut sink);
-        assert_eq!(rt; status, expected);
-        assert_eq!(rt; sink.bytes(), b"error Usage\n".as_slice());
+        same!(&rt; status, expected);
+        same!(&rt; sink.bytes(), b"error Usage\n".as_slice());
     }
     Ok(())
 }
@@ -357,9 +355,9 @@ fn a_complaint_is_flushed_once(rt: HostRuntime) -> Result<(), Fail> {
 #[test]
 fn complaints_show_their_words(rt: HostRuntime) -> Result<(), Fail> {
     let shown = format!(in rt.alloc(); "{}", Complaint::TooLong(67_108_865))?;
-    assert_eq!(rt; shown.as_str(), "error TooLong 67108865");
+    same!(&rt; shown.as_str(), "error TooLong 67108865");
     let field = Field::Layout;
     let shown = format!(in rt.alloc(); "{}", Complaint::Config(OutOfRange { field, value: 1 }))?;
-    assert_eq!(rt; shown.as_str(), "error Config layout 1");
+    same!(&rt; shown.as_str(), "error Config layout 1");
     Ok(())
 }

@@ -1,5 +1,6 @@
 //! The whole log of a pool, line by line.
 
+use crate::found::same;
 use crate::run::call;
 use std::test::Fail;
 
@@ -150,7 +151,7 @@ w 1 refused
 #[test]
 fn each_step_of_a_pool_has_its_line(rt: HostRuntime) -> Result<(), Fail> {
     let (status, sink) = call(rt.alloc(), "trace", WHOLE)?;
-    assert_eq!(rt; status, 0);
-    assert_eq!(rt; sink.bytes(), WHOLE_LOG.as_bytes());
+    same!(&rt; status, 0);
+    same!(&rt; sink.bytes(), WHOLE_LOG.as_bytes());
     Ok(())
 }

@@ -1,5 +1,6 @@
 //! Runs of dedicated workers, of tasks that move with what they asked for, of a closing worker, and of requests of files.
 
+use crate::found::holds;
 use crate::run::call;
 use std::alloc::Global;
 use std::test::Fail;
@@ -316,7 +317,7 @@ fn log_of(alloc: Global, workers: usize, interval: usize, body: &str) -> Result<
 fn a_dedicated_task_has_a_worker_of_its_own(rt: HostRuntime) -> Result<(), Fail> {
     let log = log_of(rt.alloc(), 1, 31, DEDICATED)?;
     let given = log.as_slice() == DEDICATED_LOG.as_bytes();
-    assert!(rt; given);
+    holds!(&rt; given);
     Ok(())
 }
 
@@ -324,7 +325,7 @@ fn a_dedicated_task_has_a_worker_of_its_own(rt: HostRuntime) -> Result<(), Fail>
 fn a_task_that_moves_waits_for_what_its_first_worker_has(rt: HostRuntime) -> Result<(), Fail> {
     let log = log_of(rt.alloc(), 2, 2, MOVED)?;
     let given = log.as_slice() == MOVED_LOG.as_bytes();
-    assert!(rt; given);
+    holds!(&rt; given);
     Ok(())
 }
 
@@ -332,7 +333,7 @@ fn a_task_that_moves_waits_for_what_its_first_worker_has(rt: HostRuntime) -> Res
 fn a_closing_worker_lets_go_of_what_others_left(rt: HostRuntime) -> Result<(), Fail> {
     let log = log_of(rt.alloc(), 2, 31, CLEARED)?;
     let given = log.as_slice() == CLEARED_LOG.as_bytes();
-    assert!(rt; given);
+    holds!(&rt; given);
     Ok(())
 }
 
@@ -340,6 +341,6 @@ fn a_closing_worker_lets_go_of_what_others_left(rt: HostRuntime) -> Result<(), F
 fn a_failure_of_an_open_is_kept(rt: HostRuntime) -> Result<(), Fail> {
     let log = log_of(rt.alloc(), 1, 31, FAILED)?;
     let given = log.as_slice() == FAILED_LOG.as_bytes();
-    assert!(rt; given);
+    holds!(&rt; given);
     Ok(())
 }

@@ -1,6 +1,6 @@
 -- How a sleep stands.
 use Rattle.std.specs.Prelude.{◌≡◌, ℕ, ◌+◌, ◌-◌, ◌^◌, Bool, true, false, min, if◌then◌else◌, ◌==◌, ◌⊎◌, List, Option, Some, None, Result, Ok, Err}
-use Rattle.exec_base.specs.{declared.{error.Error.{Error, TheVariants.{Closed, Full, NoMemory}}, one_shot.OneShotState.OneShotState, task_no.TaskNo.TaskNo}, OneShot.{poll_answer, polled}, Post.Takes, Slab.{Slab, next_id, IsFull, Updates}}
+use Rattle.exec_base.specs.{declared.{error.Error.{Error, TheVariants.{Closed, Full, NoMemory}}, one_shot.OneShotState.OneShotState, task_no.TaskNo.TaskNo}, OneShot.{poll_answer, polled}, Post.Takes, Slab.{Slab, next_id, inserted, IsFull, IsPast, TakesId, Updates}}
 use Rattle.exec_time.specs.{Layouts.longest, declared.{sleep.{SleepState.{SleepState, TheVariants.{Waiting, Registered, Forwarded, Done}}, TimerMessage.{TimerMessage, TheVariants.Forward}}, timers.{Observer.TheVariants.Local, Sleeper.Sleeper, TimerId.TimerId}}}
 
 -- a sleep for this long from now: over at once where that is no time, else until then, with what is too long cut
@@ -28,12 +28,15 @@ is_local (Registered at _) worker = at == worker
 is_local (Forwarded _ _) worker = false
 is_local Done worker = true
 
--- the sleep has a new sleeper of this worker
+-- the sleep has a new sleeper of this worker, under an id that nothing had before, and no other sleeper came or went
 pub record Registers {S : Type 0} (new : SleepState) (before after : Slab (Sleeper S)) (worker deadline : ℕ) (waker : TaskNo) : Type 0 where
   pub id : TimerId
   pub next : next_id before ≡ Some id.0
   pub is : new ≡ Registered worker id
   pub there : Updates before after id.0 (Some (record { deadline = deadline; observer = Local waker }))
+  pub alone : after ≡ record (inserted before (record { deadline = deadline; observer = Local waker })) { room = after.room }
+  pub never_before : IsPast before id.0 → ⊥
+  pub never_again : TakesId before after id.0
 
 -- no sleeper could be made, for this reason: no more can be named, or there was no memory. All is as before
 pub record IsRefused {S : Type 0} (old new : SleepState) (before after : Slab (Sleeper S)) (reason : Error) : Type 0 where

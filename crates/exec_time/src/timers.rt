@@ -157,7 +157,7 @@ impl<S: Drop> Timers<S> {
 
     /// Has a result sent by this from now on, in place of a wake. Where the sleeper is gone it has fired, and the
     /// result is sent at once. The caller must know that the sleeper isn't observed elsewhere yet, and must have made
-    /// room for one completion.
+    /// room for one wake and one completion.
     pub fn forward(&mut self, id: TimerId, sender: S, notes: &mut Notes<S>)
         requires observed { is_forwarded (value_at self.old id.0) ≡ false }
         requires room { HasRoom notes.old 1 }
@@ -178,7 +178,7 @@ impl<S: Drop> Timers<S> {
     }
 
     /// Removes a sleeper without a wake. One that is observed elsewhere has `Closed` sent. Nothing changes where
-    /// it is gone. The caller must have made room for one completion.
+    /// it is gone. The caller must have made room for one wake and one completion.
     pub fn cancel(&mut self, id: TimerId, notes: &mut Notes<S>)
         requires room { HasRoom notes.old 1 }
         ensures cancelled { (sleeper : Sleeping S) → value_at self.old id.0 ≡ Some sleeper → (self.new ≡ removed self.old id.0) × Adds notes.old notes.new [] (completions_of (Err error.Closed) sleeper.observer) }

@@ -5,6 +5,7 @@ ghost use Rattle.exec_base.specs.Slab.{value_at};
 ghost use Rattle.exec_time.specs.{Sleepers.is_forwarded, declared.timers.TimerId.TimerId as TimerName};
 ghost use Rattle.exec_time.specs.declared.sleep.SleepState.TheVariants as state;
 
+use crate::found::{holds, same};
 use exec_base::error::Error;
 use exec_base::one_shot::OneShot;
 use exec_base::post::Post;
@@ -119,7 +120,7 @@ impl Bed {
     ) -> Result<bool, Error> {
         let (timers, post, answer) = (&mut self.timers, &mut self.post, &mut self.answer);
         let may = may_poll(sleep, timers, post);
-        assert!(rt; may);
+        holds!(rt; may);
         sleep.poll(alloc, TaskNo(1), here, timers, 7, post, answer)
     }
 }
@@ -130,18 +131,15 @@ fn a_sleep_is_over_once_its_sleeper_fired(rt: HostRuntime) -> Result<(), Fail> {
     let (mut bed, mut notes) = (Bed::new(alloc)?, Notes::new(alloc));
     let mut sleep = Sleep::new(10, 5);
     let first = bed.poll(&rt, alloc, &mut sleep, home(14));
-    assert_eq!(rt; first, Ok(false));
-    assert!(rt; matches!(sleep.state(), SleepState::Registered(3, FIRST)));
-    assert_eq!(rt;
-        (bed.timers.len(), bed.timers.next_deadline()),
-        (1, Some(15))
-    );
+    same!(&rt; first, Ok(false));
+    holds!(&rt; matches!(sleep.state(), SleepState::Registered(3, FIRST)));
+    same!(&rt; (bed.timers.len(), bed.timers.next_deadline()), (1, Some(15)));
     notes.reserve(alloc, bed.timers.len())?;
     bed.timers.expire(15, &mut notes);
-    assert_eq!(rt; notes.wakes.as_slice(), [TaskNo(1)].as_slice());
+    same!(&rt; notes.wakes.as_slice(), [TaskNo(1)].as_slice());
     let last = bed.poll(&rt, alloc, &mut sleep, home(15));
-    assert_eq!(rt; last, Ok(true));
-    assert!(rt; matches!(sleep.state(), SleepState::Done));
+    same!(&rt; last, Ok(true));
+    holds!(&rt; matches!(sleep.state(), SleepState::Done));
     Ok(())
 }
 
@@ -151,23 +149,21 @@ fn a_sleep_that_is_polled_elsewhere_hears_of_its_end(rt: HostRuntime) -> Result<
     let mut bed = Bed::new(alloc)?;
     let mut sleep = Sleep::new(10, 5);
     let first = bed.poll(&rt, alloc, &mut sleep, home(5));
-    assert_eq!(rt; first, Ok(false));
+    same!(&rt; first, Ok(false));
     let asks = bed.poll(&rt, alloc, &mut sleep, away(5));
-    assert_eq!(rt; asks, Ok(false));
-    assert!(rt; matches!(sleep.state(), SleepState::Forwarded(3, FIRST)));
-    assert!(rt;
-        matches!(
+    same!(&rt; asks, Ok(false));
+    holds!(&rt; matches!(sleep.state(), SleepState::Forwarded(3, FIRST)));
+    holds!(&rt; matches!(
             bed.post.messages.as_slice(),
             [TimerMessage::Forward(FIRST, 7)]
-        )
-    );
+        ));
     bed.post.messages.clear();
-    assert_eq!(rt; bed.answer.send(Err(Error::Full)), Ok(()));
+    same!(&rt; bed.answer.send(Err(Error::Full)), Ok(()));
     let hears = bed.poll(&rt, alloc, &mut sleep, home(5));
-    assert_eq!(rt; hears, Err(Error::Full));
-    assert_eq!(rt; bed.post.messages.len(), 0);
+    same!(&rt; hears, Err(Error::Full));
+    same!(&rt; bed.post.messages.len(), 0);
     let again = bed.poll(&rt, alloc, &mut sleep, home(5));
-    assert_eq!(rt; again, Ok(true));
+    same!(&rt; again, Ok(true));
     Ok(())
 }
 
@@ -177,15 +173,15 @@ fn what_closes_ends_a_sleep(rt: HostRuntime) -> Result<(), Fail> {
     let mut bed = Bed::new(alloc)?;
     let mut new = Sleep::new(10, 5);
     let refused = bed.poll(&rt, alloc, &mut new, closes(home(5)));
-    assert_eq!(rt; refused, Err(Error::Closed));
-    assert_eq!(rt; bed.timers.len(), 0);
+    same!(&rt; refused, Err(Error::Closed));
+    same!(&rt; bed.timers.len(), 0);
     let mut sleep = Sleep::until(15, 5);
     let first = bed.poll(&rt, alloc, &mut sleep, home(5));
-    assert_eq!(rt; first, Ok(false));
+    same!(&rt; first, Ok(false));
     bed.post.closed = true;
     let shut = bed.poll(&rt, alloc, &mut sleep, away(5));
-    assert_eq!(rt; shut, Err(Error::Closed));
-    assert_eq!(rt; bed.post.messages.len(), 0);
-    assert!(rt; matches!(sleep.state(), SleepState::Done));
+    same!(&rt; shut, Err(Error::Closed));
+    same!(&rt; bed.post.messages.len(), 0);
+    holds!(&rt; matches!(sleep.state(), SleepState::Done));
     Ok(())
 }

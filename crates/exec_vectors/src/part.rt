@@ -43,12 +43,16 @@ impl Part {
         match words.next() {
             Some("layouts") => Ok(Part::Layouts),
             Some("sleepers") => Ok(Part::Sleepers(Sleepers::new(alloc))),
-            Some("start") => Ok(Part::Slab(Slab::starting_at(alloc, number(&mut words)?))),
-            Some("shared" | "exclusive") => Ok(Part::Queues(Queues::begin(alloc, &mut words)?)),
-            Some("batch") => Ok(Part::Word(wakes::begin(&mut words)?)),
-            Some("workers") => Ok(Part::Busy(Busy::begin(alloc, number(&mut words)?)?)),
-            Some("budget") => Ok(Part::Spinner(spins::begin(&mut words)?)),
-            Some("horizon") => Ok(Part::Wheel(ticks::begin(alloc, &mut words)?)),
+            Some("start") => {
+                number(&mut words).map(|first| Part::Slab(Slab::starting_at(alloc, first)))
+            }
+            Some("shared" | "exclusive") => Queues::begin(alloc, &mut words).map(Part::Queues),
+            Some("batch") => wakes::begin(&mut words).map(Part::Word),
+            Some("workers") => number(&mut words)
+                .and_then(|workers| Busy::begin(alloc, workers))
+                .map(Part::Busy),
+            Some("budget") => spins::begin(&mut words).map(Part::Spinner),
+            Some("horizon") => ticks::begin(alloc, &mut words).map(Part::Wheel),
             _ => Err(Fault::Malformed),
         }
     }

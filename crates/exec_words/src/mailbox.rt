@@ -25,7 +25,8 @@ pub struct Mailbox<F, C> {
 impl<F, C> Mailbox<F, C> {
     ghost use Rattle.exec_words.specs.Inbox.{without_mail, sent, is_dropped, spare_places, word_signalled, has_mail, batch_taken, batch_handed, shut};
 
-    /// An open mailbox with a fresh wake word, and a place for a wake of the root.
+    /// An open mailbox with a fresh wake word, and a place for a wake of the root. An `Err` comes only for want of
+    /// memory.
     pub fn new(alloc: Global) -> Result<Self, AllocError>
     where
         F: Drop,

@@ -81,7 +81,7 @@ impl<T> PureQueue<T> {
     ghost use Rattle.exec_words.specs.Queue.{head_of, tail_of, room_of, fit_of, push_answer, after_push, handed_out, popped, claimed, released, published, overflowed, newest, restored};
 
     /// An empty queue whose first value gets the count `real`. The caller must take one, mostly 0,
-    /// that isn't past the count at which a queue is spent.
+    /// that isn't past the count at which a queue is spent. An `Err` comes only for want of memory.
     pub fn at(alloc: Global, real: u64) -> Result<Self, AllocError>
     where
         T: Drop,

@@ -46,7 +46,7 @@ impl<T> Reserved<T> {
         }
     }
 
-    /// No values, and places for so many.
+    /// No values, and places for so many. An `Err` comes only for want of memory.
     pub fn with_places(alloc: Global, places: usize) -> Result<Self, AllocError>
         ensures { IfOk result (λ r. r ≡ record { values = []; places = places }) }
     {

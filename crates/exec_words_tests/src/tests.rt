@@ -2,6 +2,7 @@
 
 ghost use Rattle.std.specs.Prelude.{◌-◌, ◌^◌, ◌<◌};
 
+use crate::found::{holds, same};
 use exec_words::HALF;
 use exec_words::global::GlobalQueue;
 use exec_words::head::Head;
@@ -36,13 +37,13 @@ impl Local {
     fn holding(rt: &impl Abort, alloc: Global, values: Range<u64>) -> Self {
         let mut local = Local::at(rt, alloc, 0);
         for value in values {
-            assert!(rt; matches!(local.push(rt, value), PushAnswer::Pushed(_)));
+            holds!(rt; matches!(local.push(rt, value), PushAnswer::Pushed(_)));
         }
         local
     }
 
     fn push(&mut self, rt: &impl Abort, value: u64) -> PushAnswer<u64> {
-        assert!(rt; self.queue.is_whole() && self.hand.spare() >= HALF);
+        holds!(rt; self.queue.is_whole() && self.hand.spare() >= HALF);
         self.queue.push(value, &mut self.hand)
     }
 
@@ -52,7 +53,7 @@ impl Local {
         if thief.queue.room() < HALF || !head.is_stealable(tail) {
             return 0;
         }
-        assert!(rt; thief.hand.spare() >= HALF);
+        holds!(rt; thief.hand.spare() >= HALF);
         self.queue
             .claim_exchange(head, tail, &mut thief.hand)
             .unwrap_or(0)
@@ -61,8 +62,8 @@ impl Local {
     /// A whole steal: how many values moved.
     fn steal(&mut self, rt: &impl Abort, thief: &mut Local) -> usize {
         let count = self.claim(rt, thief);
-        assert_eq!(rt; self.queue.release_exchange(self.queue.head()), Ok(()));
-        assert!(rt; thief.queue.is_whole() && count <= thief.hand.len().min(thief.queue.room()));
+        same!(rt; self.queue.release_exchange(self.queue.head()), Ok(()));
+        holds!(rt; thief.queue.is_whole() && count <= thief.hand.len().min(thief.queue.room()));
         thief.queue.publish(count, &mut thief.hand);
         count
     }
@@ -71,57 +72,54 @@ impl Local {
 #[test]
 fn a_full_queue_flows_over(rt: HostRuntime) {
     let mut local = Local::holding(&rt, rt.alloc(), 0..256);
-    assert!(rt; matches!(local.push(&rt, 256), PushAnswer::Overflow(256)));
+    holds!(&rt; matches!(local.push(&rt, 256), PushAnswer::Overflow(256)));
     for value in 0..128 {
-        assert_eq!(rt; local.queue.pop(), Some(value));
-        assert_eq!(rt; local.hand.pop(), Some(value + 128));
+        same!(&rt; local.queue.pop(), Some(value));
+        same!(&rt; local.hand.pop(), Some(value + 128));
     }
-    assert!(rt; local.queue.len() == 0 && local.hand.is_empty());
+    holds!(&rt; local.queue.len() == 0 && local.hand.is_empty());
 }
 
 #[test]
 fn a_full_queue_beside_a_claim_takes_nothing(rt: HostRuntime) {
     let mut local = Local::holding(&rt, rt.alloc(), 0..256);
-    assert_eq!(rt; local.claim(&rt, &mut Local::at(&rt, rt.alloc(), 0)), 128);
-    assert!(rt; matches!(local.push(&rt, 256), PushAnswer::Claimed(256)));
-    assert_eq!(rt; local.queue.len(), 128);
+    same!(&rt; local.claim(&rt, &mut Local::at(&rt, rt.alloc(), 0)), 128);
+    holds!(&rt; matches!(local.push(&rt, 256), PushAnswer::Claimed(256)));
+    same!(&rt; local.queue.len(), 128);
 }
 
 #[test]
 fn a_release_frees_the_pops_past_its_claim(rt: HostRuntime) {
     let mut local = Local::holding(&rt, rt.alloc(), 0..5);
-    assert_eq!(rt; local.claim(&rt, &mut Local::at(&rt, rt.alloc(), 0)), 2);
-    assert_eq!(rt; (local.queue.pop(), local.queue.pop()), (Some(2), Some(3)));
+    same!(&rt; local.claim(&rt, &mut Local::at(&rt, rt.alloc(), 0)), 2);
+    same!(&rt; (local.queue.pop(), local.queue.pop()), (Some(2), Some(3)));
     let seen = Head { real: 4, gap: 4 };
-    assert_eq!(rt; (local.queue.head(), local.queue.room()), (seen, 251));
-    assert_eq!(rt; local.queue.release_exchange(seen), Ok(()));
-    assert_eq!(rt;
-        (local.queue.head(), local.queue.room()),
-        (Head { real: 4, gap: 0 }, 255)
-    );
+    same!(&rt; (local.queue.head(), local.queue.room()), (seen, 251));
+    same!(&rt; local.queue.release_exchange(seen), Ok(()));
+    same!(&rt; (local.queue.head(), local.queue.room()), (Head { real: 4, gap: 0 }, 255));
 }
 
 #[test]
 fn a_spent_queue_takes_no_more(rt: HostRuntime) {
     let mut local = Local::at(&rt, rt.alloc(), (1 << 55) - 513);
-    assert!(rt; matches!(local.push(&rt, 1), PushAnswer::Pushed(1)));
-    assert!(rt; matches!(local.push(&rt, 2), PushAnswer::Spent(2)));
-    assert_eq!(rt; local.queue.room(), 0);
+    holds!(&rt; matches!(local.push(&rt, 1), PushAnswer::Pushed(1)));
+    holds!(&rt; matches!(local.push(&rt, 2), PushAnswer::Spent(2)));
+    same!(&rt; local.queue.room(), 0);
     let mut other = Local::holding(&rt, rt.alloc(), 3..7);
-    assert_eq!(rt; other.steal(&rt, &mut local), 0);
-    assert_eq!(rt; local.queue.pop(), Some(1));
+    same!(&rt; other.steal(&rt, &mut local), 0);
+    same!(&rt; local.queue.pop(), Some(1));
 }
 
 #[test]
 fn a_lone_value_stays_with_its_owner(rt: HostRuntime) {
     let (mut zero, mut one) = (Local::at(&rt, rt.alloc(), 0), Local::at(&rt, rt.alloc(), 0));
     let mut two = Local::holding(&rt, rt.alloc(), 0..5);
-    assert_eq!(rt; two.steal(&rt, &mut zero), 2);
-    assert_eq!(rt; (zero.queue.pop(), zero.queue.pop()), (Some(0), Some(1)));
-    assert_eq!(rt; two.steal(&rt, &mut one), 1);
-    assert_eq!(rt; (one.queue.pop(), two.queue.pop()), (Some(2), Some(3)));
-    assert_eq!(rt; two.steal(&rt, &mut one), 0);
-    assert_eq!(rt; two.queue.len(), 1);
+    same!(&rt; two.steal(&rt, &mut zero), 2);
+    same!(&rt; (zero.queue.pop(), zero.queue.pop()), (Some(0), Some(1)));
+    same!(&rt; two.steal(&rt, &mut one), 1);
+    same!(&rt; (one.queue.pop(), two.queue.pop()), (Some(2), Some(3)));
+    same!(&rt; two.steal(&rt, &mut one), 0);
+    same!(&rt; two.queue.len(), 1);
 }
 
 /// A global queue of so many values.
@@ -129,8 +127,8 @@ fn global_of(rt: &impl Abort, alloc: Global, count: usize) -> GlobalQueue<u64> {
     let mut global = GlobalQueue::new(alloc);
     global.reserve(alloc, count).expect(rt, "no memory");
     for value in 0..count {
-        assert!(rt; global.spare() > 0);
-        assert!(rt; global.push(value as u64).is_ok());
+        holds!(rt; global.spare() > 0);
+        holds!(rt; global.push(value as u64).is_ok());
     }
     global
 }
@@ -143,20 +141,20 @@ fn share(rt: &impl Abort, alloc: Global, workers: usize, count: usize, held: u64
     let mut global = global_of(rt, alloc, count);
     let mut local = Local::holding(rt, alloc, 0..held);
     if held == 256 {
-        assert_eq!(rt; local.claim(rt, &mut Local::at(rt, alloc, 0)), 128);
+        same!(rt; local.claim(rt, &mut Local::at(rt, alloc, 0)), 128);
     }
     let (room, held) = (local.queue.room(), local.queue.len());
-    assert!(rt; local.queue.is_whole());
-    assert_eq!(rt; global.take(workers, room, held, &mut local.queue), Some(0));
+    holds!(rt; local.queue.is_whole());
+    same!(rt; global.take(workers, room, held, &mut local.queue), Some(0));
     count.saturating_sub(global.mirror())
 }
 
 #[test]
 fn shares(rt: HostRuntime) {
-    assert_eq!(rt; share(&rt, rt.alloc(), 4, 8, 0), 3);
-    assert_eq!(rt; share(&rt, rt.alloc(), 1, 130, 0), 129);
-    assert_eq!(rt; share(&rt, rt.alloc(), 1, 300, 100), 29);
-    assert_eq!(rt; share(&rt, rt.alloc(), 1, 300, 256), 1);
+    same!(&rt; share(&rt, rt.alloc(), 4, 8, 0), 3);
+    same!(&rt; share(&rt, rt.alloc(), 1, 130, 0), 129);
+    same!(&rt; share(&rt, rt.alloc(), 1, 300, 100), 29);
+    same!(&rt; share(&rt, rt.alloc(), 1, 300, 256), 1);
 }
 
 /// The last look of worker 0 of two, which holds no count: its answer, whether the worker stays
@@ -183,20 +181,20 @@ fn a_last_look_has_three_answers(rt: HostRuntime) {
     let (full, none) = (global_of(&rt, rt.alloc(), 1), GlobalQueue::new(rt.alloc()));
     let other = Local::holding(&rt, rt.alloc(), 0..2);
     searched.add();
-    assert_eq!(rt; look(&mut idle, &full, &other), (Park::Run, false, 0));
-    assert_eq!(rt; look(&mut searched, &none, &other), (Park::Wait, true, 1));
-    assert_eq!(rt; look(&mut idle, &none, &other), (Park::Search, false, 1));
+    same!(&rt; look(&mut idle, &full, &other), (Park::Run, false, 0));
+    same!(&rt; look(&mut searched, &none, &other), (Park::Wait, true, 1));
+    same!(&rt; look(&mut idle, &none, &other), (Park::Search, false, 1));
 }
 
 #[test]
 fn a_batch_is_signalled_once(rt: HostRuntime) {
     let mut word = PureWord::at(0);
-    assert!(rt; word.arm(WaitTarget::Ring).still_idle(0));
-    assert!(rt; word.publish());
+    holds!(&rt; word.arm(WaitTarget::Ring).still_idle(0));
+    holds!(&rt; word.publish());
     word.wake();
-    assert!(rt; !word.publish());
+    holds!(&rt; !word.publish());
     word.disarm();
-    assert!(rt; !word.latch && word.pending(0));
+    holds!(&rt; !word.latch && word.pending(0));
 }
 
 #[test]
@@ -204,12 +202,12 @@ fn a_batch_is_published_once(rt: HostRuntime) {
     let mut mailbox: Mailbox<u8, u32> = Mailbox::new(rt.alloc()).expect(&rt, "no memory");
     let mut batch = Reserved::with_places(rt.alloc(), 2).expect(&rt, "no memory");
     mailbox.reserve(rt.alloc(), 2).expect(&rt, "no memory");
-    assert!(rt; mailbox.send(Message::WakeRoot).is_ok());
-    assert!(rt; mailbox.send(Message::Cancel(7)).is_ok());
-    assert!(rt; mailbox.waker.pending(0) && mailbox.take(&mut batch));
-    assert!(rt; matches!(batch.pop(), Some(Message::WakeRoot)));
-    assert!(rt; matches!(batch.pop(), Some(Message::Cancel(7))));
-    assert!(rt; !mailbox.waker.pending(1));
-    assert!(rt; mailbox.send(Message::WakeRoot).is_ok());
-    assert!(rt; mailbox.waker.pending(1));
+    holds!(&rt; mailbox.send(Message::WakeRoot).is_ok());
+    holds!(&rt; mailbox.send(Message::Cancel(7)).is_ok());
+    holds!(&rt; mailbox.waker.pending(0) && mailbox.take(&mut batch));
+    holds!(&rt; matches!(batch.pop(), Some(Message::WakeRoot)));
+    holds!(&rt; matches!(batch.pop(), Some(Message::Cancel(7))));
+    holds!(&rt; !mailbox.waker.pending(1));
+    holds!(&rt; mailbox.send(Message::WakeRoot).is_ok());
+    holds!(&rt; mailbox.waker.pending(1));
 }

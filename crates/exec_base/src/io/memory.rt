@@ -63,7 +63,7 @@ pub struct MemInput {
 
 impl MemInput {
     /// A source that holds `bytes`, of which a call gives `most` at most. The calls whose numbers are in
-    /// `failing` fail, where the first call has the number 1.
+    /// `failing` fail, where the first call has the number 1. The caller must have a `most` above 0.
     pub fn new(bytes: Vec<u8>, failing: Vec<u64>, most: usize) -> Self
         requires { 0 < most }
         ensures left { ⟦<MemInput as Input>⟧.left result ≡ Some bytes.items }
@@ -120,7 +120,7 @@ pub struct MemOutput {
 impl MemOutput {
     /// A sink that holds no byte, and takes `most` bytes a call at most. The calls whose numbers are in
     /// `failing` fail, where the first call has the number 1, and a `flush` counts as a `give` does. A call
-    /// also fails where there is no memory for what it was given.
+    /// also fails where there is no memory for what it was given. The caller must have a `most` above 0.
     pub fn new(alloc: Global, failing: Vec<u64>, most: usize) -> Self
         requires { 0 < most }
         ensures empty { ⟦<MemOutput as Output>⟧.given result ≡ Some [] }

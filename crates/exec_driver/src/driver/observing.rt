@@ -51,8 +51,8 @@ impl<R: Ring + Drop, S: Drop, F: Drop> Driver<R, S, F> {
     }
 
     /// Has the output sent by this from now on, in place of a wake. Where it is kept it is sent at once, and where no
-    /// task of the worker waits for the request any more, `Closed` is. The caller must have made room for one result.
-    /// Ports `forward`.
+    /// task of the worker waits for the request any more, `Closed` is. The caller must have made room for one in each
+    /// list of what is to be told. Ports `forward`.
     pub fn forward(&mut self, id: WaiterId, sender: F, deferred: &mut Deferred<S, F>)
         requires room { HasPlaces deferred.old 1 }
         ensures forwarded { seen self.new ≡ record (seen self.old) { requests = forwarded (seen self.old).requests id.0 sender } }

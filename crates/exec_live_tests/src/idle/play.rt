@@ -6,6 +6,7 @@ ghost use Rattle.exec_live_idle.specs.{Idle.{knows, IsSeatOf}, Live.first_view};
 use super::fake::FakePool;
 use super::next_player;
 use super::player::Player;
+use crate::found::{holds, same};
 use exec_live_idle::seat::{Idle, IdleSeat};
 use exec_words::idle::Park;
 use std::alloc::{AllocFailed, Global};
@@ -120,13 +121,10 @@ fn replay<R: Wait + Abort>(
             Op::Pops(worker, count) => pool.pop(worker, count),
             op => act(rt, players, &mut pool, op),
         }
-        assert!(rt; pool.bell.workers == workers);
-        assert_eq!(rt; idle.look(caller), line.1);
-        assert_eq!(rt; idle.count(caller), line.2);
-        assert_eq!(rt;
-            pool.bell.woken.iter().position(|is_woken| *is_woken),
-            line.3
-        );
+        holds!(rt; pool.bell.workers == workers);
+        same!(rt; idle.look(caller), line.1);
+        same!(rt; idle.count(caller), line.2);
+        same!(rt; pool.bell.woken.iter().position(|is_woken| *is_woken), line.3);
     }
 }
 
@@ -149,15 +147,15 @@ fn act<R: Wait + Abort>(rt: &R, players: &mut [Player<'_>], pool: &mut FakePool,
     match op {
         Op::Park(worker, answer) => {
             let player = players.get_mut(worker).expect(rt, "a worker");
-            assert_eq!(rt; player.park(rt, pool), answer);
+            same!(rt; player.park(rt, pool), answer);
         }
         Op::Look(worker, answer) => {
             let player = players.get_mut(worker).expect(rt, "a worker");
-            assert_eq!(rt; player.look(rt, pool), answer);
+            same!(rt; player.look(rt, pool), answer);
         }
         Op::Search(worker, answer) => {
             let player = players.get_mut(worker).expect(rt, "a worker");
-            assert_eq!(rt; player.search(rt, pool), answer);
+            same!(rt; player.search(rt, pool), answer);
         }
         Op::Leave(worker) => players
             .get_mut(worker)
@@ -165,7 +163,7 @@ fn act<R: Wait + Abort>(rt: &R, players: &mut [Player<'_>], pool: &mut FakePool,
             .leave(rt, pool),
         Op::Finish(worker, answer) => {
             let player = players.get_mut(worker).expect(rt, "a worker");
-            assert_eq!(rt; player.finish(rt), answer);
+            same!(rt; player.finish(rt), answer);
         }
         _ => {}
     }

@@ -4,6 +4,7 @@ ghost use Rattle.std.specs.Prelude.{◌≡◌, ◌<◌, true, false, IsTrue};
 ghost use Rattle.exec_live_idle.specs.Idle.{knows};
 
 use super::fake::FakePool;
+use crate::found::holds;
 use exec_live_idle::searcher::Searcher;
 use exec_words::idle::Park;
 use std::process::Abort;
@@ -26,7 +27,7 @@ impl<'a> Player<'a> {
         ensures pool { pool.new.bell.workers ≡ self.now.workers }
         ensures up { self.now.parked ≡ false }
     {
-        assert!(rt; !self.parked && pool.bell.workers == self.workers);
+        holds!(rt; !self.parked && pool.bell.workers == self.workers);
         pool.own = self.number;
     }
 
@@ -61,7 +62,7 @@ impl<'a> Player<'a> {
 
     /// Whether a claim brought a count.
     pub fn finish<R: Abort>(&mut self, rt: &R) -> bool {
-        assert!(rt; self.parked);
+        holds!(rt; self.parked);
         self.searcher.finish_park();
         self.parked = false;
         self.searcher.is_searching()
@@ -69,7 +70,7 @@ impl<'a> Player<'a> {
 
     /// Ends a worker that is neither parked nor searches.
     pub fn end<R: Abort>(self, rt: &R) {
-        assert!(rt; !self.parked && !self.searcher.is_searching());
+        holds!(rt; !self.parked && !self.searcher.is_searching());
         let Player {
             searcher,
             number: _,

@@ -3,6 +3,7 @@
 ghost use Rattle.std.specs.Prelude.{◌≡◌, ◌+◌, ◌<◌, false, if◌then◌else◌};
 ghost use Rattle.exec_live_idle.specs.{Idle.{knows, IsSeatOf, IsSame}, Live.next_number};
 
+use crate::found::{holds, same};
 use exec_live_idle::seat::{Idle, IdleSeat};
 use std::process::Abort;
 use std::test::Fail;
@@ -40,20 +41,20 @@ impl<'a> Hand<'a> {
     }
 
     fn publish(&mut self, rt: &impl Abort) {
-        assert!(rt; !self.published);
+        holds!(rt; !self.published);
         self.idle.set_bit(&mut self.seat);
         self.published = true;
     }
 
     fn withdraw(&mut self, rt: &impl Abort) {
-        assert!(rt; self.published && !self.claimed);
+        holds!(rt; self.published && !self.claimed);
         self.claimed = !self.idle.withdraw(&mut self.seat);
         self.published = false;
     }
 
     /// Ends the hand. Answers whether it was claimed, and then returned the last count.
     fn end(self, rt: &impl Abort) -> Option<bool> {
-        assert!(rt; !self.published);
+        holds!(rt; !self.published);
         let Hand {
             idle,
             mut seat,
@@ -81,18 +82,16 @@ fn three_threads_publish_at_once(rt: HostRuntime) -> Result<(), Fail> {
         || join(&rt, || zero.publish(&rt), || one.publish(&rt)),
         || two.publish(&rt),
     );
-    assert_eq!(rt; idle.look(&mut caller), 7);
+    same!(&rt; idle.look(&mut caller), 7);
     idle.add(&mut caller);
+    // Compared here, since it says what the caller's seat holds.
     assert_eq!(rt; idle.claim(&rt, &mut caller), Some(0));
     join(
         &rt,
         || join(&rt, || zero.withdraw(&rt), || one.withdraw(&rt)),
         || two.withdraw(&rt),
     );
-    assert_eq!(rt;
-        [zero.end(&rt), one.end(&rt), two.end(&rt)],
-        [Some(true), None, None]
-    );
+    same!(&rt; [zero.end(&rt), one.end(&rt), two.end(&rt)], [Some(true), None, None]);
     drop(caller.leave());
     Ok(())
 }
@@ -107,14 +106,12 @@ fn three_threads_publish_in_turn(rt: HostRuntime) -> Result<(), Fail> {
     join(&rt, || one.publish(&rt), || {});
     join(&rt, || two.publish(&rt), || {});
     idle.add(&mut caller);
+    // Compared here, since it says what the caller's seat holds.
     assert_eq!(rt; idle.claim(&rt, &mut caller), Some(0));
     join(&rt, || zero.withdraw(&rt), || {});
     join(&rt, || two.withdraw(&rt), || {});
     join(&rt, || one.withdraw(&rt), || {});
-    assert_eq!(rt;
-        [zero.end(&rt), one.end(&rt), two.end(&rt)],
-        [Some(true), None, None]
-    );
+    same!(&rt; [zero.end(&rt), one.end(&rt), two.end(&rt)], [Some(true), None, None]);
     drop(caller.leave());
     Ok(())
 }

@@ -50,7 +50,7 @@ impl<S: Drop, F: Drop> Waiters<S, F> {
 
     /// Has the output sent by this from now on, in place of a wake. An output that is kept is sent at once. Where no
     /// task of the worker waits for the request any more, or it is gone, `Closed` is sent and nothing changes. The
-    /// caller must have made room for one result.
+    /// caller must have made room for one in each list.
     pub fn forward(&mut self, id: WaiterId, sender: F, deferred: &mut Deferred<S, F>)
         requires room { HasPlaces deferred.old 1 }
         ensures forwarded { self.new ≡ forwarded self.old id.0 sender }
@@ -71,8 +71,7 @@ impl<S: Drop, F: Drop> Waiters<S, F> {
 
     /// Nobody waits for the request from now on. Answers whether it is to be cancelled, which writes and syncs are
     /// not. Who waited elsewhere is sent `Closed`, and an output that is kept is let go. Nothing changes where the
-    /// request is gone, is a detached sync, or has nobody waiting. The caller must have made room for one output and
-    /// one result.
+    /// request is gone, is a detached sync, or has nobody waiting. The caller must have made room for one in each list.
     pub fn orphan(&mut self, id: WaiterId, deferred: &mut Deferred<S, F>) -> bool
         requires room { HasPlaces deferred.old 1 }
         ensures answer { result ≡ asks_cancel_by_orphan (value_at self.old id.0) }
@@ -123,7 +122,7 @@ impl<S: Drop, F: Drop> Waiters<S, F> {
 
     /// Takes the observer of the request in the first slot that has one which can let go: as [`Waiters::orphan`] does,
     /// and the task that waits for it is woken besides. None where there is no such request, and then nothing
-    /// changes. The caller must have made room for one wake, one output and one result.
+    /// changes. The caller must have made room for one in each list.
     pub fn close(&mut self, deferred: &mut Deferred<S, F>) -> Option<Closed>
         requires room { HasPlaces deferred.old 1 }
         ensures first { IfSome result (λ closed. IsFirstHeld self.old closed.id.0) }

@@ -1,10 +1,10 @@
 use Rattle.std.proofs.Common.{arith, ◌+◌, ◌==◌, ◌≤◌, ◌≡◌, true, [], length, take, subst, get_or}
-use Rattle.std.proofs.lemmas.Bool.{and_parts, leb-true}
+use Rattle.std.proofs.lemmas.Bool.{and_parts}
 use borrow.Author.Tests.{eqb-true}
 use Rattle.exec_bufs.specs.Buffers.{total}
 use Rattle.exec_request.specs.Buffers.{is_sound}
 use Rattle.exec_request.specs.declared.buffers.WriteBuffers.{WriteBuffers}
-use Rattle.exec_request.proofs.Chunks.{batch-left, batch-first}
+use Rattle.exec_request.proofs.Chunks.{batch-left, batch-first, within-chunk}
 use Rattle.exec_request.proofs.buffers.WriteBuffers.batch_len.Goals as goal
 use Rattle.exec_request.proofs.buffers.WriteBuffers.batch_len.Goals.{in-Single, in-Vectored}
 
@@ -18,6 +18,6 @@ returns-clause-left c =
           let bufs = all.bufs in
           let parts = and_parts ((total (take all.chunk bufs) + all.offset) + all.remaining == total bufs) _ (subst sound all.is c.requires) in
           let sum : (total (take all.chunk bufs) + all.offset) + all.remaining ≡ total bufs = eqb-true _ _ parts.0 in
-          let begun : all.offset ≤ length (get_or bufs all.chunk []) = leb-true _ _ parts.1 in
+          let begun : all.offset ≤ length (get_or bufs all.chunk []) = within-chunk _ _ parts.1 in
           rw all.is (omega (arith, c.min.ensures, w.left-is, w.next_chunks_len.ensures, sum, begun, batch-left bufs all.chunk 1024, batch-first bufs all.chunk))
     ]

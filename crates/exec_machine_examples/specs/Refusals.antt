@@ -1,6 +1,6 @@
 -- What it means that a line may not come in a state that a log reaches.
 use Rattle.std.specs.Prelude.{◌≡◌, ℕ, suc, Bool, true, false, ◌-◌, List, [], ◌∷◌, ◌++◌, None, map, take, drop}
-use Rattle.exec_machine.specs.{declared.{config.Configuration.Configuration, event.Event.TheVariants.Sleep}, World.World, Run.{tests_of_line, is_run, world_after}, Progress.{begin, is_rightly_asleep}, Examples.{Example, Told, does, lines_of, choices_of}}
+use Rattle.exec_machine.specs.{declared.{config.Configuration.Configuration, step.Action.Action, event.{Event.{Event, TheVariants.Sleep}, StepResult.TheVariants.Did}}, Choice.Choice, World.World, Run.{tests_of_line, is_run, world_after}, Progress.{begin, is_rightly_asleep}, Examples.{Example, Told, does, lines_of, choices_of}}
 
 -- A line in place of the one that follows so many lines of a log, and the places of the tests that it fails: at 0
 -- whether the step may be taken, and from 1 on those of the event, in the order in which its definition has them.
@@ -16,6 +16,10 @@ fails after told test = record { after = after; told = told; tests = test ∷ []
 -- it fails these two
 abbrev pub fails_twice : ℕ → Told → ℕ → ℕ → Refusal
 fails_twice after told first second = record { after = after; told = told; tests = first ∷ second ∷ [] }
+
+-- the step, what happens, and what is said of what that leaves open
+abbrev pub leaves : Action → Event → Choice → Told
+leaves a e choice = (record { action = a; said = Did e }, choice)
 
 -- the places of those that fail, counted from n on
 abbrev pub failing : ℕ → List Bool → List ℕ

@@ -28,6 +28,10 @@ one_worker ring =
 abbrev pub the_config : Configuration
 the_config = one_worker 16
 
+-- three workers that spin so many microseconds at first and 5 at most, of two iterations each
+abbrev pub spinning : ℕ → Configuration
+spinning first = record the_config { workers = 3; spin = record { budget = first; most = 5; quick = 0; iterations = 2 } }
+
 -- the state in which a run of a root that ends begins
 abbrev pub at_first : World
 at_first = first_world the_config [] (word.End ∷ [])

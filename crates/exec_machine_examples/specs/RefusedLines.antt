@@ -1,13 +1,14 @@
 -- Lines that may not come. Each stands in place of a line of a good log, in a state that the log reaches, and
 -- is refused for what is said above it.
-use Rattle.std.specs.Prelude.{false, List, [], ◌∷◌, Some, None}
+use Rattle.std.specs.Prelude.{false, List, [], ◌∷◌, ◌++◌, map, Some, None}
 use Rattle.exec_base.specs.declared.error.Error.TheVariants as error
 use Rattle.exec_base.specs.declared.error.Cause.TheVariants as cause
 use Rattle.exec_outcomes.specs.declared.outcome.Kind.TheVariants as kind
 use Rattle.exec_outcomes.specs.declared.outcome.{OpResult.TheVariants.Count, Outcome.TheVariants.{Success, Failure}}
 use Rattle.exec_machine.specs.declared.step.Action.TheVariants as action
 use Rattle.exec_machine.specs.declared.state.MailMessage.TheVariants as message
-use Rattle.exec_machine.specs.{declared.event.Event.TheVariants.{Turn, Serve, Begin, Pend, Done, Spawn, Dedicated, Closed, Admit, Wait, Got, Drop, Grant, Enrol, Stage, Enter, Busy, Reap, Expire, Cancel, Orphan, Release, Send, Apply, Rouse, Sleep, End, Return, Land, Clock, Stir}, Choice.Payer.{ByRequest, ByAct, ByCall}, Examples.{says, does, refuses, passes, pays, posts}, Refusals.{Refusal, fails, fails_twice}}
+use Rattle.exec_machine.specs.{declared.event.Event.TheVariants.{Turn, Serve, Begin, Pend, Done, Spawn, Dedicated, Closed, Admit, Wait, Got, Drop, Grant, Enrol, Stage, Enter, Busy, Reap, Expire, Cancel, Orphan, Release, Send, Apply, Rouse, Sleep, End, Return, Land, Clock, Set, Stir, Peer}, Choice.Payer.{ByRequest, ByAct, ByCall}, Examples.{says, does, refuses, passes, pays, posts}}
+use Rattle.exec_machine_examples.specs.Refusals.{Refusal, fails, fails_twice}
 
 abbrev pub refused_in_a_send : List Refusal
 refused_in_a_send =
@@ -19,6 +20,8 @@ refused_in_a_send =
     fails 5 (does 0 (Sleep (Some 1))) 2 ∷
     -- a message is applied that nobody sent
     fails 5 (does 0 (Apply message.Root)) 3 ∷
+    -- a worker says what only other parties say
+    map (λ e. fails 5 (does 0 e) 1) (Return ∷ Land ∷ Clock ∷ Set ∷ Stir ∷ Peer ∷ []) ++
     -- a poll ends that has not come to anything to wait for
     fails 6 (does 0 (Pend 0)) 3 ∷
     -- a task is done before the end of its script
@@ -39,6 +42,8 @@ refused_in_a_send =
     fails 6 (does 0 Enter) 1 ∷
     -- a service begins in the middle of a poll
     fails 6 (does 0 Serve) 1 ∷
+    -- a ring that wasn't set busy takes nothing, in the middle of a poll
+    fails_twice 6 (does 0 Busy) 1 2 ∷
     -- a request is made by a word that asks for none
     fails 7 (does 0 (Admit 1 kind.Send None)) 1 ∷
     -- a task waits for a wake alone though it holds a request
@@ -47,6 +52,8 @@ refused_in_a_send =
     fails 7 (does 0 (Got 0 Success)) 4 ∷
     -- a task lets go of a request by another word
     fails 7 (does 0 (Drop 0)) 1 ∷
+    -- a poll ends twice
+    fails 9 (does 0 (Pend 0)) 1 ∷
     -- a deadline that is ahead is told as passed
     fails 16 (does 0 (Enrol 0 (Some (Failure error.Timeout)))) 7 ∷
     -- a request is staged whose deadline isn't on the wheel
@@ -77,6 +84,8 @@ refused_in_a_send =
     fails 35 (does 0 Turn) 0 ∷
     -- the clock passes its last moment
     fails 35 (says (action.Clock 4611686018427387905) Clock) 0 ∷
+    -- the clock says what the kernel says
+    fails 35 (says (action.Clock 1) Land) 1 ∷
     -- more bytes land than were asked for
     fails 36 (says (action.Land 0 (Count 11)) Land) 0 ∷
     -- another result is judged than has landed
@@ -95,10 +104,18 @@ refused_in_a_send =
     fails 68 (does 0 (Pend 0)) 3 ∷
     -- a task takes another outcome
     fails 68 (does 0 (Got 0 (Failure error.SendFailed))) 4 ∷
+    -- a deadline is told in the middle of a poll, and there is none
+    fails_twice 68 (does 0 (Expire 0 None)) 1 2 ∷
+    -- a task is done that isn't polled
+    fails 69 (does 0 (Done 1)) 1 ∷
     -- a worker of the pool ends before the pool is stopped
     fails_twice 73 (does 0 End) 3 5 ∷
     -- a worker takes a step that isn't there
     fails 89 (does 1 Turn) 0 ∷
+    -- a wake poll ends of a worker that isn't there
+    fails 89 (says (action.EndPoll 1) Set) 0 ∷
+    -- a ring is set busy whose worker has ended
+    fails 90 (says (action.SetBusy 0) Set) 0 ∷
     -- a worker that has ended takes a step
     fails 90 (does 0 Turn) 0 ∷ []
 
@@ -108,8 +125,16 @@ refused_in_durable_writes =
     fails 6 (does 0 (Dedicated 1 2)) 3 ∷
     -- a task is made without the worker of its own
     fails 6 (does 0 (Spawn 1 0)) 1 ∷
+    -- the root of a dedicated worker is made with another number
+    fails 6 (does 0 (Dedicated 2 1)) 2 ∷
+    -- a word for a worker of its own meets a closed set, and that is open
+    fails 6 (does 0 Closed) 1 ∷
     -- an act comes before a durable request has joined its gate
     fails 8 (does 0 (Wait (Some 0))) 1 ∷
+    -- a worker is roused that is awake, and before a durable request has joined its gate
+    fails_twice 8 (does 0 (Rouse 1)) 1 2 ∷
+    -- a poll ends before a durable request has joined its gate, and without anything to wait for
+    fails_twice 8 (does 0 (Pend 0)) 2 3 ∷
     -- a request is granted before the one that came first
     fails 25 (does 1 (Grant 1 None)) 4 ∷
     -- a write is over as it is granted, without a failure
@@ -129,7 +154,11 @@ refused_in_durable_writes =
     -- an open worker ends
     fails_twice 126 (does 1 End) 2 3 ∷
     -- a dedicated worker passes the barrier
-    fails_twice 129 (passes 1) 3 5 ∷ []
+    fails_twice 129 (passes 1) 3 5 ∷
+    -- a closing worker makes a request
+    fails_twice 129 (does 1 (Admit 2 kind.Send None)) 1 2 ∷
+    -- a request that was taken loses its owner
+    fails 136 (does 1 (Orphan 1 None)) 5 ∷ []
 
 abbrev pub refused_in_a_stolen_task : List Refusal
 refused_in_a_stolen_task =
@@ -137,24 +166,32 @@ refused_in_a_stolen_task =
     fails 15 (does 0 (Begin 3)) 1 ∷
     -- a root is woken by another word
     fails 17 (posts (action.Work 0) 1 ByAct false) 1 ∷
+    -- a task that lets others go first wakes another one
+    fails 17 (pays (action.Work 0) 3 ByAct) 1 ∷
     -- a task lets go of another worker's request without a message
     fails 75 (does 1 (Drop 1)) 3 ∷
     -- a request is forwarded that nobody awaits
     fails 75 (does 1 (Send 0 (message.ForwardRequest 1))) 1 ∷
     -- a task lets go of the older of two by a message
     fails 75 (does 1 (Send 0 (message.CancelRequest 0))) 1 ∷
+    -- a task lets go of a request by a message to a worker that isn't there
+    fails_twice 75 (does 1 (Send 2 (message.CancelRequest 1))) 2 3 ∷
     -- a worker polls another task before it has sent what it owes
     fails 77 (does 1 (Begin 3)) 1 ∷
     -- a task is woken that nothing owes a wake
     fails 77 (pays (action.Work 0) 3 (ByRequest 0)) 1 ∷
     -- a service begins before what is owed was sent
     fails 77 (does 1 Serve) 1 ∷
+    -- a worker enrols the deadline of another worker's request
+    fails_twice 78 (does 1 (Enrol 0 None)) 2 3 ∷
     -- a task lets go of a request that isn't the newest
     fails 85 (does 0 (Drop 2)) 2 ∷
     -- a deadline is enrolled in the middle of a poll
     fails 85 (does 0 (Enrol 0 None)) 1 ∷
     -- a message is applied in the middle of a poll
     fails 85 (does 0 (Apply (message.CancelRequest 1))) 1 ∷
+    -- a task lets go of a request on its own worker by a message
+    fails 85 (does 0 (Send 0 (message.CancelRequest 3))) 1 ∷
     -- of two requests that are over the later is released first
     fails 98 (does 0 (Release 2)) 2 ∷
     -- an open worker takes a request from its owner
@@ -162,7 +199,11 @@ refused_in_a_stolen_task =
     -- of two messages the later is applied first
     fails 116 (does 0 (Apply (message.CancelRequest 0))) 3 ∷
     -- of two cancels the later is staged first
-    fails 135 (does 0 (Cancel 0)) 2 ∷ []
+    fails 135 (does 0 (Cancel 0)) 2 ∷
+    -- a worker stages the cancel of another worker's request
+    fails_twice 135 (does 1 (Cancel 1)) 2 3 ∷
+    -- a worker sleeps until the deadline of a request that was let go of
+    fails 135 (does 0 (Sleep (Some 10000000))) 2 ∷ []
 
 abbrev pub refused_in_a_forward : List Refusal
 refused_in_a_forward =
@@ -170,18 +211,38 @@ refused_in_a_forward =
     fails 0 (says (action.Spawn 0 0) (Spawn 3 0)) 1 ∷
     -- a caller meets a closed set, and that is open
     fails 0 (says (action.Spawn 0 0) Closed) 1 ∷
+    -- a caller makes a task of another script
+    fails 0 (says (action.Spawn 0 0) (Spawn 2 1)) 2 ∷
+    -- a caller makes no task by its spawn
+    fails 0 (says (action.Spawn 0 0) Turn) 1 ∷
+    -- a caller begins a call that isn't there
+    fails 0 (says (action.Spawn 16 0) (Spawn 2 0)) 0 ∷
     -- a caller begins a call in the middle of another
     fails 1 (says (action.Spawn 0 0) (Spawn 3 0)) 0 ∷
+    -- a caller goes on by what others say
+    fails 1 (says (action.GoOn 0) Land) 1 ∷
     -- a caller ends a call that it has not begun
     fails 4 (says (action.GoOn 0) Return) 0 ∷
     -- a request is forwarded on its own worker
     fails 12 (does 0 (Send 0 (message.ForwardRequest 0))) 3 ∷
+    -- a worker stages another worker's request
+    fails_twice 29 (does 1 (Stage 0)) 2 3 ∷
+    -- a worker sleeps until the deadline of another worker's request
+    fails 54 (does 1 (Sleep (Some 10000000))) 2 ∷
+    -- a worker judges a result of another worker's request
+    fails_twice 55 (does 1 (Reap 0 (Count 8) (Some Success))) 2 3 ∷
     -- a caller wakes a task that isn't there
     fails 69 (pays (action.Wake 0 3) 3 ByCall) 0 ∷
     -- a caller wakes another task than it says
     fails 69 (pays (action.Wake 0 2) 1 ByCall) 1 ∷
     -- a caller's wake meets a closed mailbox, and there is none
     fails 69 (says (action.Wake 0 2) Closed) 1 ∷
+    -- a task pays for a caller's wake
+    fails 69 (pays (action.Wake 0 2) 2 ByAct) 3 ∷
+    -- a caller wakes no task by its wake
+    fails 69 (says (action.Wake 0 2) Turn) 1 ∷
+    -- a caller wakes a task in the middle of another call
+    fails 70 (pays (action.Wake 0 2) 2 ByCall) 0 ∷
     -- a worker pays a wake for another worker's request
     fails 79 (pays (action.Work 1) 2 (ByRequest 0)) 1 ∷
     -- a task takes what is another worker's, and it wasn't forwarded
@@ -192,5 +253,7 @@ refused_in_a_forward =
     fails 81 (does 1 (Got 0 Success)) 3 ∷
     -- a request is forwarded twice
     fails 81 (does 1 (Send 0 (message.ForwardRequest 0))) 4 ∷
+    -- a worker releases another worker's request
+    fails_twice 93 (does 1 (Release 0)) 2 3 ∷
     -- a request that was forwarded pays three wakes
     fails 104 (pays (action.Work 0) 2 (ByRequest 0)) 1 ∷ []

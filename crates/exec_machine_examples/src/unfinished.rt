@@ -2,7 +2,8 @@
 
 ghost use Rattle.std.specs.Prelude.{◌≡◌, true, false, [], ◌∷◌, ◌++◌, Some, None};
 ghost use Rattle.exec_outcomes.specs.declared.outcome.{OpResult.TheVariants.Count};
-ghost use Rattle.exec_machine.specs.{declared.event.{Event.TheVariants.{Begin, Busy, Clock}, StepResult.TheVariants.{Did, Refused}}, World.{own_of, seat_of, no_open}, Progress.{quiet_bound, all_asleep, is_rightly_asleep}, Unfinished.{one_worker, the_config, at_first, with_root, with_seat, with_own, waits, asleep, with_requests, with_sleeper, with_open, at_clock, send_in, send_over, cancelled, gated_sync, until_five, with_one, napping, closing, is_right, turns, are_solo}};
+ghost use Rattle.exec_machine.specs.{declared.event.{Event.TheVariants.{Begin, Busy, Clock}, StepResult.TheVariants.{Did, Refused}}, World.{own_of, seat_of, no_open}, Progress.{quiet_bound, all_asleep, is_rightly_asleep}};
+ghost use Rattle.exec_machine_examples.specs.Unfinished.{one_worker, the_config, spinning, at_first, with_root, with_seat, with_own, waits, asleep, with_requests, with_sleeper, with_open, at_clock, send_in, send_over, cancelled, gated_sync, until_five, with_one, napping, closing, is_right, turns, are_solo};
 ghost use Rattle.exec_machine.specs.declared.step.Action.TheVariants as action;
 ghost use Rattle.exec_machine.specs.declared.state.WorkerPhase.TheVariants as worker;
 ghost use Rattle.exec_machine.specs.declared.state.TaskPhase.TheVariants as task;
@@ -91,7 +92,7 @@ pub fn who_sleeps()
 
 /// One party may have 2175 quiet lines on end here, and not one more. A refused line doesn't end a
 /// stretch; another that is not quiet does, and so does any line of another party, also of a
-/// caller. A request makes the bound larger, and while a worker closes nothing is counted.
+/// caller. Workers, spins, requests and sleepers allow more; while a worker closes nothing counts.
 pub fn stretches()
     ensures bound { quiet_bound the_config at_first ≡ 2176 }
     ensures just_enough { are_solo at_first (turns (action.Work 0) 2175) ≡ true }
@@ -111,5 +112,8 @@ pub fn stretches()
         true }
     ensures more_requests { are_solo (with_one (send_in phase.Flying)) (turns (action.Work 0) 2179)
         ≡ true }
+    ensures no_more_requests { are_solo (with_one send_over) (turns (action.Work 0) 2180) ≡ false }
+    ensures spins { quiet_bound (spinning 1) (with_sleeper until_five (with_one send_over)) ≡ 2600 }
+    ensures spins_not { quiet_bound (spinning 0) at_first ≡ 2432 }
     ensures closing { are_solo (closing (send_over ∷ [])) (turns (action.Work 0) 2176) ≡ true }
 {}
