@@ -1,5 +1,5 @@
 -- What a call does to the requests of a worker keeps where they stand.
-use Rattle.std.proofs.Common.{◌≡◌, ◌⊎◌, ◌∙◌, inl, inr, ℕ, ◌+◌, eqb, Bool, true, false, cond, List, [], ◌∷◌, Option, Some, None, Result, Ok, Err, refl, ap, arith}
+use Rattle.std.proofs.Common.{◌≡◌, ◌⊎◌, ◌∙◌, inl, inr, ℕ, ◌+◌, eqb, Bool, true, false, cond, List, [], ◌∷◌, Option, Some, None, Result, Ok, Err, refl, ap, sym, arith}
 use Rattle.exec_request.specs.Requests.{output_of}
 use Rattle.exec_waiters.specs.{Events.{taken_from, forwarded_from, orphaned_from, changed_from, with_observer, with_waker}, States.{is_local, is_held_by}}
 use Rattle.exec_driver_laws.specs.Sharing.{Gates}
@@ -8,7 +8,7 @@ use Rattle.exec_driver.proofs.{Words.{TaskNo, Ended, Account, Posted, asks_cance
 use Rattle.exec_driver_laws.proofs.Standing.{AllFit, IsLast, there_last, asking_last, removed_fits, becomes, finished_fits}
 use Rattle.exec_base.specs.declared.error.Error.{Error}
 use Rattle.exec_waiters.specs.{Ids.user_data_of, States.named}
-use Rattle.exec_driver_laws.specs.Owning.{is_operation, operations_in, BringsNoOperation}
+use Rattle.exec_driver_laws.specs.Owning.{is_operation, operations_in, KeepsOperations}
 use Rattle.exec_driver_laws.proofs.{OwningRing.{swept_same, reaped_one}, Promises.completed_named}
 use Rattle.std.proofs.lemmas.Grind.{common_steps}
 use Rattle.exec_driver.specs.{Steps.{Reaps, ReapsNext, completed_in, lawful_of, taken_out, swept, with_landings}, declared.driver.reaping.Reaped.Reaped}
@@ -74,9 +74,9 @@ module _ {S F : Type 0} where
   pub placed_fits : (g : Gates) (worker : ℕ) (d : Driving S F) (id : WaiterId) (w : Waiter S F) (now : ℕ) → IsLast d.requests id.0 → AllFit g worker d.requests → AllFit g worker (placed_at d id w now).requests
   placed_fits = grind (arith, placed_is, deadline_of, either_way, ended_fits)
 
-  pub swept_requests : (ps : List Posted) (d : Driving S F) → (swept_from ps d).requests ≡ d.requests
-  swept_requests [] d = refl
-  swept_requests (p ∷ ps) d = grind (arith, swept_requests ps (noted p.completion d))
+  swept_alike : (ps : List Posted) (d : Driving S F) → ((swept_from ps d).requests ≡ d.requests) × ((swept_from ps d).lists ≡ d.lists)
+  swept_alike [] d = (refl, refl)
+  swept_alike (p ∷ ps) d = grind (arith, swept_alike ps (noted p.completion d))
 
   flying_there : (s : Slab (Entry S F)) (given : OpResult) (user_data : ℕ) (id : Id) (w : Waiter S F) → lawful_of s given (named s user_data) ≡ Some id → waiter_at s id ≡ Some w → w.in_flight ≡ true
   flying_there = grind arith
@@ -84,14 +84,23 @@ module _ {S F : Type 0} where
   named_own : (s : Slab (Entry S F)) (id : Id) (user_data : ℕ) → named s user_data ≡ Some id → user_data_of id ≡ user_data
   named_own = grind (arith, common_steps)
 
+  -- the next completion is of no request under way that may have it, and is dropped
+  pub record Drops (old new : Driving S F) : Type 0 where
+    pub c : Completion
+    pub next : next_completion (swept old).ring ≡ Some c
+    pub none : completed_in old c ≡ None
+    pub ring : (user_data : ℕ) → is_operation user_data ≡ true → operations_in new.ring user_data + one_if (eqb c.user_data user_data) ≡ operations_in old.ring user_data
+
   -- a reap that takes in no completion of a request
   pub record ReapsNone (old new : Driving S F) (opens opens' : List OpenState) (told : Option Reaped) : Type 0 where
     pub requests : new.requests ≡ old.requests
-    pub ring : BringsNoOperation old.ring new.ring
+    pub lists : new.lists ≡ old.lists
+    pub ring : KeepsOperations old.ring new.ring ⊎ Drops old new
     pub told_none : told ≡ None
     pub same : opens' ≡ opens
 
-  -- a reap that takes one in, between two drivers of which one has the requests of the old one, the other those of the new
+  -- a reap that takes one in, between two drivers of which one has the requests and lists of the old one, the other those
+  -- of the new
   pub record ReapsThere (old new : Driving S F) (opens opens' : List OpenState) (before after : Deferred S F) (told : Option Reaped) : Type 0 where
     pub first : Driving S F
     pub second : Driving S F
@@ -99,10 +108,12 @@ module _ {S F : Type 0} where
     pub w : Waiter S F
     pub given : OpResult
     pub start : first.requests ≡ old.requests
+    pub start_lists : first.lists ≡ old.lists
     pub at : request_at first id ≡ Some w
     pub flies : w.in_flight ≡ true
     pub reaps : Reaps first second opens opens' before after id w given told
     pub end : new.requests ≡ second.requests
+    pub end_lists : new.lists ≡ second.lists
     -- its operation is out of the ring
     pub ring : (user_data : ℕ) → is_operation user_data ≡ true → operations_in new.ring user_data + one_if (eqb (user_data_of id.0) user_data) ≡ operations_in old.ring user_data
 
@@ -111,7 +122,10 @@ module _ {S F : Type 0} where
   reap_tells old new opens opens' before after told reap = by (next_completion reap.first.ring) refl
     where
       start : reap.first.requests ≡ old.requests
-      start = ap (λ (m : Driving S F). m.requests) reap.swept_first ∙ swept_requests old.ring.posted old
+      start = ap (λ (m : Driving S F). m.requests) reap.swept_first ∙ (swept_alike old.ring.posted old).0
+
+      start_lists : reap.first.lists ≡ old.lists
+      start_lists = ap (λ (m : Driving S F). m.lists) reap.swept_first ∙ (swept_alike old.ring.posted old).1
 
       -- how many operations a driver has once it was swept
       swept_count : (d d' : Driving S F) → d' ≡ with_landings d' (swept d) → (user_data : ℕ) → is_operation user_data ≡ true → operations_in d'.ring user_data ≡ operations_in d.ring user_data
@@ -124,8 +138,14 @@ module _ {S F : Type 0} where
       by_id c next None none =
           let stale = reap.stale c next none in
           inl (record {
-            requests = ap (λ (m : Driving S F). m.requests) stale.0 ∙ swept_requests (taken_out reap.first).ring.posted (taken_out reap.first) ∙ start;
-            ring = λ user_data is. omega (arith, first_count user_data is, reaped_one reap.first.ring c user_data is next, swept_count (taken_out reap.first) new stale.0 user_data is);
+            requests = ap (λ (m : Driving S F). m.requests) stale.0 ∙ (swept_alike (taken_out reap.first).ring.posted (taken_out reap.first)).0 ∙ start;
+            lists = ap (λ (m : Driving S F). m.lists) stale.0 ∙ (swept_alike (taken_out reap.first).ring.posted (taken_out reap.first)).1 ∙ start_lists;
+            ring = inr (record {
+              c = c;
+              next = ap (λ (m : Driving S F). next_completion m.ring) (sym reap.swept_first) ∙ next;
+              none = ap (λ (s : Slab (Entry S F)). lawful_of s (result_in c.result) (named s c.user_data)) (sym start) ∙ none;
+              ring = λ user_data is. omega (arith, first_count user_data is, reaped_one reap.first.ring c user_data is next, swept_count (taken_out reap.first) new stale.0 user_data is);
+            });
             told_none = stale.1;
             same = stale.2;
           })
@@ -139,10 +159,12 @@ module _ {S F : Type 0} where
             w = there.0;
             given = result_in c.result;
             start = start;
+            start_lists = start_lists;
             at = there.1;
             flies = flying_there reap.first.requests (result_in c.result) c.user_data id there.0 some there.1;
             reaps = from.reaps;
-            end = ap (λ (m : Driving S F). m.requests) from.swept_last ∙ swept_requests from.second.ring.posted from.second;
+            end = ap (λ (m : Driving S F). m.requests) from.swept_last ∙ (swept_alike from.second.ring.posted from.second).0;
+            end_lists = ap (λ (m : Driving S F). m.lists) from.swept_last ∙ (swept_alike from.second.ring.posted from.second).1;
             ring = λ user_data is.
                 let out = ap (λ (r : RingState). operations_in r user_data) (reaps_ring reap.first from.second opens opens' before after (record { 0 = id }) there.0 (result_in c.result) told from.reaps) in
                 let own = ap (λ (n : ℕ). one_if (eqb n user_data)) (named_own reap.first.requests id c.user_data (completed_named reap.first.requests (result_in c.result) (named reap.first.requests c.user_data) id some)) in
@@ -150,5 +172,13 @@ module _ {S F : Type 0} where
           })
 
       by : (o : Option Completion) → next_completion reap.first.ring ≡ o → ReapsNone old new opens opens' told ⊎ ReapsThere old new opens opens' before after told
-      by None none = let same = reap.none none in inl (record { requests = ap (λ (m : Driving S F). m.requests) same.0 ∙ start; ring = λ user_data is. let count = ap (λ (m : Driving S F). operations_in m.ring user_data) same.0 in omega (arith, count, first_count user_data is); told_none = same.1; same = same.2 })
+      by None none =
+          let same = reap.none none in
+          inl (record {
+            requests = ap (λ (m : Driving S F). m.requests) same.0 ∙ start;
+            lists = ap (λ (m : Driving S F). m.lists) same.0 ∙ start_lists;
+            ring = inl (λ user_data is. ap (λ (m : Driving S F). operations_in m.ring user_data) same.0 ∙ first_count user_data is);
+            told_none = same.1;
+            same = same.2;
+          })
       by (Some c) next = by_id c next (completed_in reap.first c) refl

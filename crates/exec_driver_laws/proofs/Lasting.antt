@@ -196,7 +196,7 @@ module _ {S F : Type 0} where
   call_lasts worker old new g g' (SetAccount file account same is) spared j at = inl (kept old new old same (λ i was. was) j at)
   call_lasts worker old new g g' (Recount file change keeps same is) spared j at = inl (kept old new old same (λ i was. was) j at)
   call_lasts worker old new g g' (Leave id file leaves same is) spared j at = inl (kept old new old same (λ i was. was) j at)
-  call_lasts worker old new g g' (Other is brings same) spared j at = inl (ap (λ (s : Slab (Entry S F)). lasts (waiter_at s j.0)) is ∙ at)
+  call_lasts worker old new g g' (Other is keeps places same) spared j at = inl (ap (λ (s : Slab (Entry S F)). lasts (waiter_at s j.0)) is ∙ at)
 
   pub ends_told : (drivers : ℕ → ℕ → Driving S F) (g : ℕ → Gates) (run : IsRun drivers g) (n : ℕ) (key : WaiterKey) (w : Waiter S F) → request_at (drivers n key.worker) key.id ≡ Some w → goes_on_alone w.request ≡ true
       → request_at (drivers (suc n) key.worker) key.id ≡ None → IsSomeAnd (end_by (run.next n).call) (λ e. e.0 ≡ key)

@@ -1,3 +1,4 @@
+pub mod Everywhere
 pub mod Promises
 pub mod OwningRing
 pub mod OwningSteps
@@ -17,3 +18,6 @@ pub mod Synced
 pub mod Serving
 pub mod OwningCalls
 pub mod OwningRuns
+pub mod Placing
+pub mod UnderWay
+pub mod Places

@@ -68,7 +68,7 @@ module _ {S F : Type 0} where
   call_on worker old new g g' (SetAccount file account same is) = by_driver old.requests new old same (unmoved _ _ refl)
   call_on worker old new g g' (Recount file change keeps same is) = by_driver old.requests new old same (unmoved _ _ refl)
   call_on worker old new g g' (Leave id file leaves same is) = by_driver old.requests new old same (unmoved _ _ refl)
-  call_on worker old new g g' (Other is brings same) = subst (Onward old.requests) (sym is) (room_on old.requests new.requests.room)
+  call_on worker old new g g' (Other is keeps places same) = subst (Onward old.requests) (sym is) (room_on old.requests new.requests.room)
 
   -- OVER A RUN
 

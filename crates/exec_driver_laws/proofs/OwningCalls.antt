@@ -1,8 +1,9 @@
 -- What each call does to the operations of its driver, and so whose they are at each moment of a run.
-use Rattle.std.proofs.Common.{◌≡◌, ◌≢◌, ◌⊎◌, ℕ, ◌+◌, ◌≤◌, ◌<◌, eqb, true, false, cond, List, Option, Some, None, refl, sym, ap, subst, ◌∙◌, inl, inr, arith}
+use Rattle.std.proofs.Common.{◌≡◌, ◌≢◌, ◌⊎◌, ℕ, ◌+◌, ◌≤◌, ◌<◌, eqb, Bool, true, false, cond, List, Option, Some, None, refl, sym, ap, subst, ◌∙◌, inl, inr, arith}
 use Rattle.std.specs.{Option.{option_map}, Prelude.{IsSomeAnd}}
 use Rattle.std.proofs.lemmas.Bool.{false≢true}
 use Rattle.exec_base.specs.{Slab.{slot_at}, declared.slab.Slot.TheVariants.{Live}}
+use Rattle.exec_request.specs.{Hints.has_hint, Requests.window_by, declared.window.Window.Window}
 use Rattle.exec_ring.specs.{Landings.Moves, declared.store.Store.Store}
 use Rattle.exec_waiters.specs.{Ids.{user_data_of, index_in}, States.{named, named_in}}
 use Rattle.exec_waiters.proofs.Changes.{at_by}
@@ -12,12 +13,18 @@ use Rattle.exec_lists.proofs.Names.{same_tells}
 use Rattle.exec_driver.specs.{Placed.Says, Steps.{StagesOne, LandsOne, judged_as_over, landed_at, told_as, taken_in, newcomer, placed_at}, declared.driver.reaping.Reaped.Reaped}
 use Rattle.exec_driver.proofs.Words.{Account, Slab, Id, OpResult, OpenState, Deferred, Submission, RingState, Request, Waiter, Entry, Pending, WaiterId, Driving, request_at, Ended, waiter_at, is_flying, is_some, is_queued, is_gated, is_unenrolled, value_at, flight_of, tick_for, after_enrolment, after_due, taken_out, open_after, account_in, file_of, eqb_tells, entry_of, one_if}
 use Rattle.exec_driver.proofs.Endings.{one_changed, one_finished}
-use Rattle.exec_driver_laws.specs.{Owning.{is_operation, operations_in, BringsNoOperation, IsOwned}, Sharing.{Gates, Call, Admit, Join, Observe, SetWaker, Forward, Orphan, Expire, Enrol, Grant, Stage, Land, Reap, SetAccount, Recount, Leave, Other, key_of, end_by_reap, end_told}}
-use Rattle.exec_driver_laws.proofs.{Calling.{reap_tells, ReapsThere}, Lasting.{placed_apart, filled_apart}, OwningRing.{brings_same, entry_one, flight_there}, OwningSteps.{GoOn, stays, flies_on, there_before, became_on, alike_on, same_ids, taken_on, waked_on, forwarded_on, let_go_on, let_go_ring, cancelled_on, cancelled_ring, enrolled_on, enrolled_ring, granted_on, granted_ring, free, placed_ring}, Uncancelled.first_among}
+use Rattle.exec_driver_laws.specs.{Owning.{is_operation, is_staged_of, is_wake, operations_in, KeepsOperations, IsOwned}, Sharing.{Gates, Call, Admit, Join, Observe, SetWaker, Forward, Orphan, Expire, Enrol, Grant, Stage, Land, Reap, SetAccount, Recount, Leave, Other, key_of, end_by_reap, end_told}}
+use Rattle.exec_driver_laws.proofs.{Calling.{reap_tells, ReapsThere, Drops}, Lasting.{placed_apart, filled_apart}, OwningRing.{keeps_same, entry_one, flight_there}, OwningSteps.{GoOn, stays, flies_on, there_before, alike_on, same_ids, taken_on, waked_on, forwarded_on, let_go_on, let_go_ring, cancelled_on, cancelled_ring, enrolled_on, enrolled_ring, granted_on, granted_ring, free, placed_ring, filled_idle, placed_idle}, Uncancelled.first_among}
 
 moved_there : (o : Option Submission) (given : OpResult) (r r' : Request) (st st' : Store) → Moves o given r r' st st' → (e : Submission) × (o ≡ Some e)
 moved_there None given r r' st st' moves = absurd moves
 moved_there (Some e) given r r' st st' moves = (e, refl)
+
+an_entry : (e : Submission) (user_data : ℕ) → is_wake e.window.kind ≡ false → is_staged_of user_data e ≡ eqb e.user_data user_data
+an_entry = grind arith
+
+no_wake : (hinted : Bool) (r : Request) → is_wake (window_by hinted r).kind ≡ false
+no_wake = grind arith
 
 index_own : (id : Id) → id.index < 4294967296 → index_in (user_data_of id) ≡ id.index
 index_own = grind arith
@@ -46,19 +53,20 @@ module _ {S F : Type 0} where
   idle_unenrolled : (o : Option (Waiter S F)) (w : Waiter S F) → o ≡ Some w → is_unenrolled o ≡ true → w.in_flight ≡ false
   idle_unenrolled = grind arith
 
-  -- A call brings no operation, and all requests go on, or one comes that has none; or it brings one of a request that had
-  -- none; or it takes one of a request out, which is there still or was told to have ended.
+  -- A call keeps the operations, and all requests go on, or one comes that has none; or it brings one of a request that had
+  -- none; or it takes one of a request out, which is there still or was told to have ended; or it drops one of no request.
   pub data Keeps (worker : ℕ) (old new : Driving S F) (told : Option (WaiterKey × Ended)) : Type 0 where
-    Quiet : BringsNoOperation old.ring new.ring → GoOn old.requests new.requests → Keeps worker old new told
-    Arrives : (id : WaiterId) → id.0.index < 4294967295 → BringsNoOperation old.ring new.ring → ((j : Id) (w : Waiter S F) → waiter_at old.requests j ≡ Some w → j.index ≢ id.0.index)
-        → ((j : Id) → j.index ≢ id.0.index → waiter_at new.requests j ≡ waiter_at old.requests j) → Keeps worker old new told
-    Comes : (id : WaiterId) (w : Waiter S F) → request_at old id ≡ Some w → w.in_flight ≡ false → is_flying (request_at new id) ≡ true → GoOn old.requests new.requests
+    Quiet : KeepsOperations old.ring new.ring → GoOn old.requests new.requests → Keeps worker old new told
+    Loses : Drops old new → GoOn old.requests new.requests → Keeps worker old new told
+    Arrives : (id : WaiterId) → id.0.index < 4294967295 → KeepsOperations old.ring new.ring → ((j : Id) (w : Waiter S F) → waiter_at old.requests j ≡ Some w → j.index ≢ id.0.index)
+        → ((j : Id) → j.index ≢ id.0.index → waiter_at new.requests j ≡ waiter_at old.requests j) → ((j : Id) → j.index ≡ id.0.index → is_flying (waiter_at new.requests j) ≡ false) → Keeps worker old new told
+    Comes : (id : WaiterId) (w : Waiter S F) → request_at old id ≡ Some w → w.in_flight ≡ false → is_flying (request_at new id) ≡ true → ((j : Id) → j ≢ id.0 → waiter_at new.requests j ≡ waiter_at old.requests j)
         → ((user_data : ℕ) → operations_in new.ring user_data ≡ operations_in old.ring user_data + one_if (eqb (user_data_of id.0) user_data)) → Keeps worker old new told
-    Goes : (id : WaiterId) → is_flying (request_at old id) ≡ true → ((j : Id) → j ≢ id.0 → waiter_at new.requests j ≡ waiter_at old.requests j) → (is_some (request_at new id) ≡ true) ⊎ IsSomeAnd told (λ e. e.0 ≡ key_of worker id)
+    Goes : (id : WaiterId) → is_flying (request_at old id) ≡ true → is_flying (request_at new id) ≡ false → ((j : Id) → j ≢ id.0 → waiter_at new.requests j ≡ waiter_at old.requests j) → (is_some (request_at new id) ≡ true) ⊎ IsSomeAnd told (λ e. e.0 ≡ key_of worker id)
         → ((user_data : ℕ) → is_operation user_data ≡ true → operations_in new.ring user_data + one_if (eqb (user_data_of id.0) user_data) ≡ operations_in old.ring user_data) → Keeps worker old new told
 
   only : (worker : ℕ) (old new d : Driving S F) (told : Option (WaiterKey × Ended)) → new ≡ d → d.ring ≡ old.ring → GoOn old.requests d.requests → Keeps worker old new told
-  only worker old new d told is ring on = subst (λ (m : Driving S F). Keeps worker old m told) (sym is) (Quiet (brings_same old.ring d.ring ring) on)
+  only worker old new d told is ring on = subst (λ (m : Driving S F). Keeps worker old m told) (sym is) (Quiet (keeps_same old.ring d.ring ring) on)
 
   same_keeps : (worker : ℕ) (old new : Driving S F) (told : Option (WaiterKey × Ended)) → new ≡ old → Keeps worker old new told
   same_keeps worker old new told is = only worker old new old told is refl (λ j. stays (waiter_at old.requests j) (waiter_at old.requests j) refl)
@@ -70,20 +78,24 @@ module _ {S F : Type 0} where
       let is = ap (λ (m : Driving S F). m.requests) stages.driver in
       let ring = ap (λ (m : Driving S F). m.ring) stages.driver in
       Comes id w at idle (ap (λ (s : Slab (Entry S F)). is_flying (waiter_at s id.0)) is ∙ ap is_flying changed.is_at)
-      (subst (GoOn old.requests) (sym is) (became_on old.requests id.0 w w' at (grind arith)))
-      (λ user_data. ap (λ (r : RingState). operations_in r user_data) ring ∙ entry_one old.ring stages.entry user_data ∙ ap (λ (n : ℕ). operations_in old.ring user_data + one_if (eqb n user_data)) stages.user_data)
+      (λ j other. ap (λ (s : Slab (Entry S F)). waiter_at s j) is ∙ changed.others j other)
+      (λ user_data. ap (λ (r : RingState). operations_in r user_data) ring ∙ entry_one old.ring stages.entry user_data ∙ ap (λ (b : Bool). operations_in old.ring user_data + one_if b) (an_entry stages.entry user_data (ap is_wake (ap (λ (v : Window). v.kind) stages.window) ∙ no_wake (has_hint account) w.request) ∙ ap (λ (n : ℕ). eqb n user_data) stages.user_data))
 
   landed_keeps : (worker : ℕ) (old new : Driving S F) (told : Option (WaiterKey × Ended)) (id : WaiterId) (w : Waiter S F) (given : OpResult) (store store' : Store) → request_at old id ≡ Some w → LandsOne old new id w given store store' → Keeps worker old new told
   landed_keeps worker old new told id w given store store' at lands =
       let there = moved_there (flight_of old.ring (user_data_of id.0)) given w.request lands.lands.request store store' lands.lands.moved in
       let ring = ap (λ (m : Driving S F). m.ring) lands.driver in
-      Quiet (λ user_data is. let same = ap (λ (r : RingState). operations_in r user_data) ring ∙ flight_there old.ring (user_data_of id.0) there.0 given user_data there.1 in omega (arith, same))
+      Quiet (λ user_data is. ap (λ (r : RingState). operations_in r user_data) ring ∙ flight_there old.ring (user_data_of id.0) there.0 given user_data there.1)
       (subst (GoOn old.requests) (sym lands.lands.slab) (alike_on old.requests id.0 w (record w { request = lands.lands.request }) at refl))
 
   over_told : (d : Driving S F) (worker : ℕ) (id : WaiterId) (v w : Waiter S F) (how : Option Ended) (account kept : Option Account) → request_at d id ≡ Some w
       → (is_some (request_at (judged_as_over d id w how account) id) ≡ true) ⊎ IsSomeAnd (option_map {U = WaiterKey × Ended} (λ how. (key_of worker id, how)) (told_as v how kept)) (λ e. e.0 ≡ key_of worker id)
   over_told d worker id v w None account kept at = inl (ap is_some at)
   over_told d worker id v w (Some how) account kept at = inr refl
+
+  over_idle : (d : Driving S F) (id : WaiterId) (w : Waiter S F) (how : Option Ended) (account : Option Account) → request_at d id ≡ Some w → w.in_flight ≡ false → is_flying (request_at (judged_as_over d id w how account) id) ≡ false
+  over_idle d id w None account at idle = ap is_flying at ∙ idle
+  over_idle d id w (Some how) account at idle = ap is_flying (one_finished d.requests id.0 w how account at).is_at
 
   over_others : (d : Driving S F) (id : WaiterId) (w : Waiter S F) (how : Option Ended) (account : Option Account) → request_at d id ≡ Some w → (j : Id) → j ≢ id.0 → waiter_at (judged_as_over d id w how account).requests j ≡ waiter_at d.requests j
   over_others d id w None account at j other = refl
@@ -101,7 +113,9 @@ module _ {S F : Type 0} where
       let moved = there.end ∙ ap (λ (m : Driving S F). m.requests) there.reaps.driver in
       let others = over_others d id w' there.reaps.answer after changed.is_at in
       let ends = over_told d worker id w w' there.reaps.answer after account changed.is_at in
+      let idle = over_idle d id w' there.reaps.answer after changed.is_at refl in
       Goes id (ap (λ (s : Slab (Entry S F)). is_flying (waiter_at s id.0)) (sym there.start) ∙ ap is_flying there.at ∙ there.flies)
+      (ap (λ (s : Slab (Entry S F)). is_flying (waiter_at s id.0)) moved ∙ idle)
       (λ j other. ap (λ (s : Slab (Entry S F)). waiter_at s j) moved ∙ others j other ∙ changed.others j other ∙ ap (λ (s : Slab (Entry S F)). waiter_at s j) there.start)
       (subst (λ (r : Option Reaped). (is_some (request_at new id) ≡ true) ⊎ IsSomeAnd (end_told worker r) (λ e. e.0 ≡ key_of worker id)) (sym there.reaps.told_is)
       (subst (λ (s : Slab (Entry S F)). (is_some (waiter_at s id.0) ≡ true) ⊎ IsSomeAnd (option_map {U = WaiterKey × Ended} (λ how. (key_of worker id, how)) (told_as w there.reaps.answer account)) (λ e. e.0 ≡ key_of worker id)) (sym moved) ends))
@@ -111,10 +125,11 @@ module _ {S F : Type 0} where
   call_keeps worker old new g g' (Admit id r observer now next within never admits leaving) says =
       let w = newcomer r observer in
       let ring = ap (λ (m : Driving S F). m.ring) admits.driver in
-      let same : BringsNoOperation old.ring (record (placed_at (taken_in old r observer) id w now).ring { places = new.ring.places }) =
-      subst (λ (m : RingState). BringsNoOperation old.ring (record m { places = new.ring.places })) (sym (placed_ring (taken_in old r observer) id w now)) (λ user_data is. omega arith) in
-      Arrives id within (subst (BringsNoOperation old.ring) (sym ring) same) (λ j v at. free old.requests id.0 j v next never at)
+      let same : KeepsOperations old.ring (record (placed_at (taken_in old r observer) id w now).ring { places = new.ring.places }) =
+      subst (λ (m : RingState). KeepsOperations old.ring (record m { places = new.ring.places })) (sym (placed_ring (taken_in old r observer) id w now)) (λ user_data is. refl) in
+      Arrives id within (subst (KeepsOperations old.ring) (sym ring) same) (λ j v at. free old.requests id.0 j v next never at)
       (λ j apart. ap (λ (m : Driving S F). waiter_at m.requests j) admits.driver ∙ placed_apart (taken_in old r observer) id j w now apart ∙ filled_apart old.requests old.requests.vacant id.0 j (Pending w) next apart)
+      (λ j here. ap (λ (m : Driving S F). is_flying (waiter_at m.requests j)) admits.driver ∙ placed_idle (taken_in old r observer) id j w now (filled_idle old.requests old.requests.vacant id.0 j (Pending w) next here refl))
   call_keeps worker old new g g' (Join id fits same is) says = same_keeps worker old new None same
   call_keeps worker old new g g' (Observe id is same) says = only worker old new _ None is refl (taken_on old.requests id.0 (value_at old.requests id.0) refl)
   call_keeps worker old new g g' (SetWaker id task is same) says = only worker old new _ None is refl (waked_on old.requests id.0 task (value_at old.requests id.0) refl)
@@ -137,13 +152,15 @@ module _ {S F : Type 0} where
   call_keeps worker old new g g' (Land id w given store store' at lands same) says = landed_keeps worker old new None id w given store store' at lands
   call_keeps worker old new g g' (Reap before after told reap leaving) says =
       elim (reap_tells old new g.opens g'.opens before after told reap) [
-        | inl none ↦ Quiet none.ring (λ j. stays (waiter_at old.requests j) (waiter_at new.requests j) (ap (λ (s : Slab (Entry S F)). waiter_at s j) none.requests))
+        | inl none ↦
+            let on : GoOn old.requests new.requests = λ j. stays (waiter_at old.requests j) (waiter_at new.requests j) (ap (λ (s : Slab (Entry S F)). waiter_at s j) none.requests) in
+            elim none.ring [ inl keeps ↦ Quiet keeps on | inr drops ↦ Loses drops on ]
         | inr there ↦ reaped_keeps worker old new g.opens g'.opens before after told there
       ]
   call_keeps worker old new g g' (SetAccount file account same is) says = same_keeps worker old new None same
   call_keeps worker old new g g' (Recount file change keeps same is) says = same_keeps worker old new None same
   call_keeps worker old new g g' (Leave id file leaves same is) says = same_keeps worker old new None same
-  call_keeps worker old new g g' (Other is brings same) says = Quiet brings (λ j. stays (waiter_at old.requests j) (waiter_at new.requests j) (ap (λ (s : Slab (Entry S F)). waiter_at s j) is))
+  call_keeps worker old new g g' (Other is keeps places same) says = Quiet keeps (λ j. stays (waiter_at old.requests j) (waiter_at new.requests j) (ap (λ (s : Slab (Entry S F)). waiter_at s j) is))
 
   -- WHOSE THEY ARE
 
@@ -184,16 +201,17 @@ module _ {S F : Type 0} where
   arrives_flying s s' id free others j flies = let there = flying_some (waiter_at s j) flies in ap is_flying (others j (free j there.0 there.1)) ∙ flies
 
   pub turns : (worker : ℕ) (old new : Driving S F) (told : Option (WaiterKey × Ended)) → Keeps worker old new told → IsOwned old → (user_data : ℕ) → is_operation user_data ≡ true → Turns old new user_data
-  turns worker old new told (Quiet brings on) owned user_data is = Stays (brings user_data is) (named_on old.requests new.requests user_data (λ j own. goes_flying old.requests new.requests on j))
-  turns worker old new told (Arrives id within brings free others) owned user_data is = Stays (brings user_data is) (named_on old.requests new.requests user_data (λ j own. arrives_flying old.requests new.requests id free others j))
-  turns worker old new told (Comes id w at idle flies on count) owned user_data is =
+  turns worker old new told (Quiet keeps on) owned user_data is = Stays (let same = keeps user_data is in omega (arith, same)) (named_on old.requests new.requests user_data (λ j own. goes_flying old.requests new.requests on j))
+  turns worker old new told (Loses drops on) owned user_data is = Stays (let fewer = drops.ring user_data is in omega (arith, fewer)) (named_on old.requests new.requests user_data (λ j own. goes_flying old.requests new.requests on j))
+  turns worker old new told (Arrives id within keeps free others idle) owned user_data is = Stays (let same = keeps user_data is in omega (arith, same)) (named_on old.requests new.requests user_data (λ j own. arrives_flying old.requests new.requests id free others j))
+  turns worker old new told (Comes id w at idle flies others count) owned user_data is =
       let within : id.0.index < 4294967296 = let few = owned.names id w at in omega (arith, few) in
       let more = count user_data in
       elim (eqb_tells (user_data_of id.0) user_data) [
         | inl same ↦ Begins (omega (arith, rw same.0 at more)) (ap (named old.requests) (sym same.1) ∙ named_idle old.requests id.0 w within at idle) (ap (λ (n : ℕ). is_some (named new.requests n)) (sym same.1) ∙ ap is_some (named_back new.requests id.0 within flies))
-        | inr other ↦ Stays (omega (arith, rw other.0 at more)) (named_on old.requests new.requests user_data (λ j own. goes_flying old.requests new.requests on j))
+        | inr other ↦ Stays (omega (arith, rw other.0 at more)) (named_on old.requests new.requests user_data (λ j own fly. ap is_flying (others j (λ mine. other.1 (ap user_data_of (sym mine) ∙ own))) ∙ fly))
       ]
-  turns worker old new told (Goes id flies others ends count) owned user_data is =
+  turns worker old new told (Goes id flies idle others ends count) owned user_data is =
       let less = count user_data is in
       elim (eqb_tells (user_data_of id.0) user_data) [
         | inl same ↦ Over (omega (arith, rw same.0 at less))
@@ -201,11 +219,13 @@ module _ {S F : Type 0} where
       ]
 
   within_names : (worker : ℕ) (old new : Driving S F) (told : Option (WaiterKey × Ended)) → Keeps worker old new told → IsOwned old → (id : WaiterId) (w : Waiter S F) → request_at new id ≡ Some w → id.0.index < 4294967295
-  within_names worker old new told (Quiet brings on) owned id w at = let was = there_some (request_at old id) (there_before (request_at old id) (request_at new id) (on id.0) (ap is_some at)) in owned.names id was.0 was.1
-  within_names worker old new told (Arrives new_id within brings free others) owned id w at =
+  within_names worker old new told (Quiet keeps on) owned id w at = let was = there_some (request_at old id) (there_before (request_at old id) (request_at new id) (on id.0) (ap is_some at)) in owned.names id was.0 was.1
+  within_names worker old new told (Loses drops on) owned id w at = let was = there_some (request_at old id) (there_before (request_at old id) (request_at new id) (on id.0) (ap is_some at)) in owned.names id was.0 was.1
+  within_names worker old new told (Arrives new_id within keeps free others idle) owned id w at =
       elim (eqb_tells id.0.index new_id.0.index) [ inl same ↦ subst (λ (i : ℕ). i < 4294967295) (sym same.1) within | inr other ↦ owned.names id w (sym (others id.0 other.1) ∙ at) ]
-  within_names worker old new told (Comes who v there idle flies on count) owned id w at = let was = there_some (request_at old id) (there_before (request_at old id) (request_at new id) (on id.0) (ap is_some at)) in owned.names id was.0 was.1
-  within_names worker old new told (Goes who flies others ends count) owned id w at =
+  within_names worker old new told (Comes who v there idle flies others count) owned id w at =
+      elim (same_ids id.0 who.0) [ inl same ↦ owned.names id v (ap (waiter_at old.requests) same ∙ there) | inr other ↦ owned.names id w (sym (others id.0 other) ∙ at) ]
+  within_names worker old new told (Goes who flies idle others ends count) owned id w at =
       elim (same_ids id.0 who.0) [
         | inl same ↦ let was = flying_some (request_at old who) flies in owned.names id was.0 (ap (waiter_at old.requests) same ∙ was.1)
         | inr other ↦ owned.names id w (sym (others id.0 other) ∙ at)
@@ -223,10 +243,15 @@ module _ {S F : Type 0} where
 
   -- what was under way is gone by a reap alone, which says so
   pub gone_told : (worker : ℕ) (old new : Driving S F) (told : Option (WaiterKey × Ended)) → Keeps worker old new told → (id : WaiterId) → is_flying (request_at old id) ≡ true → request_at new id ≡ None → IsSomeAnd told (λ e. e.0 ≡ key_of worker id)
-  gone_told worker old new told (Quiet brings on) id flies over = absurd (false≢true (sym (ap is_flying over) ∙ goes_flying old.requests new.requests on id.0 flies))
-  gone_told worker old new told (Arrives new_id within brings free others) id flies over = absurd (false≢true (sym (ap is_flying over) ∙ arrives_flying old.requests new.requests new_id free others id.0 flies))
-  gone_told worker old new told (Comes who w there idle flying on count) id flies over = absurd (false≢true (sym (ap is_flying over) ∙ goes_flying old.requests new.requests on id.0 flies))
-  gone_told worker old new told (Goes who flying others ends count) id flies over =
+  gone_told worker old new told (Quiet keeps on) id flies over = absurd (false≢true (sym (ap is_flying over) ∙ goes_flying old.requests new.requests on id.0 flies))
+  gone_told worker old new told (Loses drops on) id flies over = absurd (false≢true (sym (ap is_flying over) ∙ goes_flying old.requests new.requests on id.0 flies))
+  gone_told worker old new told (Arrives new_id within keeps free others idle) id flies over = absurd (false≢true (sym (ap is_flying over) ∙ arrives_flying old.requests new.requests new_id free others id.0 flies))
+  gone_told worker old new told (Comes who w there idle flying others count) id flies over =
+      elim (same_ids id.0 who.0) [
+        | inl same ↦ absurd (false≢true (sym (ap is_flying over) ∙ ap (λ (n : Id). is_flying (waiter_at new.requests n)) same ∙ flying))
+        | inr other ↦ absurd (false≢true (sym (ap is_flying over) ∙ ap is_flying (others id.0 other) ∙ flies))
+      ]
+  gone_told worker old new told (Goes who flying idle others ends count) id flies over =
       elim (same_tells id who) [
         | inr other ↦ absurd (false≢true (sym (ap is_flying over) ∙ ap is_flying (others id.0 other.1) ∙ flies))
         | inl same ↦

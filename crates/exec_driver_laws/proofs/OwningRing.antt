@@ -1,5 +1,5 @@
 -- What the calls of a ring do to its operations.
-use Rattle.std.proofs.Common.{◌≡◌, ℕ, zero, suc, ◌+◌, ◌≤◌, ◌^◌, ◌-◌, min, eqb, ltb, Bool, true, false, cond, List, [], ◌∷◌, slice_get, Option, Some, None, refl, sym, ap, ◌∙◌, subst, arith}
+use Rattle.std.proofs.Common.{◌≡◌, ℕ, zero, suc, ◌+◌, ◌^◌, ◌-◌, min, eqb, ltb, Bool, true, false, not, ◌&&◌, cond, List, [], ◌∷◌, slice_get, Option, Some, None, refl, sym, ap, ◌∙◌, subst, arith}
 use Rattle.std.specs.Prelude.{count_by, fold}
 use Rattle.std.specs.List.{remove}
 use Rattle.std.proofs.lemmas.{Bool.{false≢true, eqb-true, Decides.eqb_tells}, Option.same_Some}
@@ -9,7 +9,11 @@ use Rattle.exec_outcomes.specs.declared.outcome.OpResult.{OpResult}
 use Rattle.exec_ring.specs.{Completions.{completed, wake_completion}, Kernels.{Landing, MayAllLand, all_taken, all_landed, entered_with, taken_in, taken_as, with_entry, with_completion, with_wake, woken, landed, may_land, without_flight, flight_of, allows, last_place, is_of, next_completion, reaped, next_in, posted_left}, Rings.RingState, declared.completion.{Completion.Completion, Posted.Posted, Submission.Submission}}
 use Rattle.exec_waiters.specs.declared.waiter_id.WaiterId.{WaiterId}
 use Rattle.exec_driver.specs.{Driving.Driving, Steps.{is_control, noted, swept_from, cancel_staged, cancel_entry, poll_staged, wake_entry, entered, advanced_to}}
-use Rattle.exec_driver_laws.specs.Owning.{is_operation, is_posted_of, operations_in, BringsNoOperation}
+use Rattle.exec_driver.proofs.Advancing.{all_alone}
+use Rattle.exec_lists.specs.Lists.{Lists}
+use Rattle.exec_driver.proofs.Words.{advanced}
+use Rattle.exec_driver_laws.specs.Waiting.{KeepsPlaces}
+use Rattle.exec_driver_laws.specs.Owning.{is_operation, is_posted_of, is_staged_of, is_wake, operations_in, KeepsOperations}
 
 -- an operation is no wake, and no cancel
 no_control : (user_data : ℕ) → is_operation user_data ≡ true → (eqb 18446744073709551615 user_data ≡ false) × (eqb 4294967295 user_data ≡ false)
@@ -18,34 +22,34 @@ no_control = grind (arith, eqb_tells)
 control_apart : (p : Posted) (user_data : ℕ) → is_operation user_data ≡ true → is_control p.completion ≡ true → is_posted_of user_data p ≡ false
 control_apart = grind (arith, eqb_tells)
 
-pub brings_same : (a b : RingState) → b ≡ a → BringsNoOperation a b
-brings_same a b same = subst (BringsNoOperation a) (sym same) (λ user_data is. omega arith)
+pub keeps_same : (a b : RingState) → b ≡ a → KeepsOperations a b
+keeps_same a b same = subst (KeepsOperations a) (sym same) (λ user_data is. refl)
 
 posted_one : (s : RingState) (c : Completion) (user_data : ℕ) → operations_in (with_completion s c) user_data ≡ operations_in s user_data + cond (eqb c.user_data user_data) 1 0
 posted_one s c user_data = omega (arith, sum_by_push (λ (p : Posted). cond (is_posted_of user_data p) 1 0) s.posted (record { wakes = s.wakes; completion = c }))
 
-pub entry_one : (s : RingState) (e : Submission) (user_data : ℕ) → operations_in (with_entry s e.window e.user_data) user_data ≡ operations_in s user_data + cond (is_of user_data e) 1 0
-entry_one s e user_data = omega (arith, sum_by_push (λ (x : Submission). cond (is_of user_data x) 1 0) s.staged e)
+pub entry_one : (s : RingState) (e : Submission) (user_data : ℕ) → operations_in (with_entry s e.window e.user_data) user_data ≡ operations_in s user_data + cond (is_staged_of user_data e) 1 0
+entry_one s e user_data = omega (arith, sum_by_push (λ (x : Submission). cond (is_staged_of user_data x) 1 0) s.staged e)
 
-woken_brings : (s : RingState) → BringsNoOperation s (woken s)
-woken_brings s user_data is = by s.last
+woken_keeps : (s : RingState) → KeepsOperations s (woken s)
+woken_keeps s user_data is = by s.last
   where
-    by : (b : Bool) → operations_in (cond b (with_completion (record s { armed = false; last = false }) (wake_completion false)) (record s { wakes = min (s.wakes + 1) (2 ^ 64 - 1) })) user_data ≤ operations_in s user_data
+    by : (b : Bool) → operations_in (cond b (with_completion (record s { armed = false; last = false }) (wake_completion false)) (record s { wakes = min (s.wakes + 1) (2 ^ 64 - 1) })) user_data ≡ operations_in s user_data
     by true = let more = posted_one (record s { armed = false; last = false }) (wake_completion false) user_data in omega (arith, rw (no_control user_data is).0 at more)
     by false = omega arith
 
-pub wake_brings : (s : RingState) → BringsNoOperation s (with_wake s)
-wake_brings s user_data is = grind (arith, woken_brings)
+pub wake_keeps : (s : RingState) → KeepsOperations s (with_wake s)
+wake_keeps s user_data is = grind (arith, woken_keeps)
 
-taken_brings : (kind : Opcode) (s : RingState) (e : Submission) (user_data : ℕ) → is_operation user_data ≡ true → operations_in (taken_as kind s e) user_data ≤ operations_in s user_data + cond (is_of user_data e) 1 0
-taken_brings kind s e user_data is = grind (arith, posted_one, woken_brings, sum_by_push)
+taken_keeps : (kind : Opcode) (s : RingState) (e : Submission) (user_data : ℕ) → is_operation user_data ≡ true → operations_in (taken_as kind s e) user_data ≡ operations_in s user_data + cond (is_of user_data e && not (is_wake kind)) 1 0
+taken_keeps kind s e user_data is = grind (arith, posted_one, woken_keeps, sum_by_push)
 
-all_brings : (es : List Submission) (s : RingState) (user_data : ℕ) → is_operation user_data ≡ true → operations_in (fold taken_in s es) user_data ≤ operations_in s user_data + count_by (is_of user_data) es
-all_brings [] s user_data is = omega arith
-all_brings (e ∷ es) s user_data is = omega (arith, all_brings es (taken_in s e) user_data is, taken_brings e.window.kind s e user_data is, sum_by-cons (λ (x : Submission). cond (is_of user_data x) 1 0) e es)
+all_keeps : (es : List Submission) (s : RingState) (user_data : ℕ) → is_operation user_data ≡ true → operations_in (fold taken_in s es) user_data ≡ operations_in s user_data + count_by (is_staged_of user_data) es
+all_keeps [] s user_data is = omega arith
+all_keeps (e ∷ es) s user_data is = omega (arith, all_keeps es (taken_in s e) user_data is, taken_keeps e.window.kind s e user_data is, sum_by-cons (λ (x : Submission). cond (is_staged_of user_data x) 1 0) e es)
 
-pub all_taken_brings : (s : RingState) → BringsNoOperation s (all_taken s)
-all_taken_brings s user_data is = omega (arith, all_brings s.staged (record s { staged = [] }) user_data is)
+pub all_taken_keeps : (s : RingState) → KeepsOperations s (all_taken s)
+all_taken_keeps s user_data is = omega (arith, all_keeps s.staged (record s { staged = [] }) user_data is)
 
 -- the last that passes, where one does
 last_passes : {X : Type 0} (p : X → Bool) (xs : List X) (x : X) → slice_get xs (last_place p xs) ≡ Some x → p x ≡ true
@@ -65,24 +69,24 @@ flight_there s user_data e n other is =
     let more = posted_one (without_flight s user_data) (completed user_data n) other in
     omega (arith, more, rw same at fewer)
 
-landed_brings : (s : RingState) (user_data : ℕ) (n : OpResult) → may_land s user_data n ≡ true → BringsNoOperation s (landed s user_data n)
-landed_brings s user_data n may other is = by (flight_of s user_data) refl may
+landed_keeps : (s : RingState) (user_data : ℕ) (n : OpResult) → may_land s user_data n ≡ true → KeepsOperations s (landed s user_data n)
+landed_keeps s user_data n may other is = by (flight_of s user_data) refl may
   where
-    by : (o : Option Submission) → flight_of s user_data ≡ o → allows o n ≡ true → operations_in (landed s user_data n) other ≤ operations_in s other
+    by : (o : Option Submission) → flight_of s user_data ≡ o → allows o n ≡ true → operations_in (landed s user_data n) other ≡ operations_in s other
     by None at none = absurd (false≢true none)
     by (Some e) at some = omega (arith, flight_there s user_data e n other at)
 
-all_landed_brings : (ls : List Landing) (s : RingState) → MayAllLand ls s → BringsNoOperation s (all_landed ls s)
-all_landed_brings [] s may user_data is = omega arith
-all_landed_brings (l ∷ ls) s may user_data is =
-    omega (arith, landed_brings s l.user_data l.result may.0 user_data is, all_landed_brings ls (landed s l.user_data l.result) may.1 user_data is)
+all_landed_keeps : (ls : List Landing) (s : RingState) → MayAllLand ls s → KeepsOperations s (all_landed ls s)
+all_landed_keeps [] s may user_data is = omega arith
+all_landed_keeps (l ∷ ls) s may user_data is =
+    omega (arith, landed_keeps s l.user_data l.result may.0 user_data is, all_landed_keeps ls (landed s l.user_data l.result) may.1 user_data is)
 
-pub entered_brings : (ls : List Landing) (s : RingState) → MayAllLand ls (all_taken s) → BringsNoOperation s (entered_with ls s)
-entered_brings ls s may user_data is = by s.busy
+pub entered_keeps : (ls : List Landing) (s : RingState) → MayAllLand ls (all_taken s) → KeepsOperations s (entered_with ls s)
+entered_keeps ls s may user_data is = by s.busy
   where
-    by : (b : Bool) → operations_in (cond b (record s { busy = false }) (all_landed ls (all_taken s))) user_data ≤ operations_in s user_data
+    by : (b : Bool) → operations_in (cond b (record s { busy = false }) (all_landed ls (all_taken s))) user_data ≡ operations_in s user_data
     by true = omega arith
-    by false = omega (arith, all_taken_brings s user_data is, all_landed_brings ls (all_taken s) may user_data is)
+    by false = omega (arith, all_taken_keeps s user_data is, all_landed_keeps ls (all_taken s) may user_data is)
 
 -- the completion that is taken out is gone
 reaped_count : (ps : List Posted) (wakes : ℕ) (c : Completion) (user_data : ℕ) → is_operation user_data ≡ true → next_in ps wakes ≡ Some c → count_by (is_posted_of user_data) (posted_left ps) + cond (eqb c.user_data user_data) 1 0 ≡ count_by (is_posted_of user_data) ps
@@ -100,17 +104,23 @@ pub reaped_one : (s : RingState) (c : Completion) (user_data : ℕ) → is_opera
 reaped_one s c user_data is next = omega (arith, reaped_count s.posted s.wakes c user_data is next)
 
 module _ {S F : Type 0} where
-  pub cancel_brings : (d : Driving S F) (id : WaiterId) → BringsNoOperation d.ring (cancel_staged d id).ring
-  cancel_brings d id user_data is = let more = entry_one d.ring (cancel_entry id) user_data in omega (arith, rw (no_control user_data is).1 at more)
+  pub cancel_keeps : (d : Driving S F) (id : WaiterId) → KeepsOperations d.ring (cancel_staged d id).ring
+  cancel_keeps d id user_data is = let more = entry_one d.ring (cancel_entry id) user_data in omega (arith, rw (no_control user_data is).1 at more)
 
-  pub poll_brings : (d : Driving S F) → BringsNoOperation d.ring (poll_staged d).ring
-  poll_brings d user_data is = let more = entry_one d.ring wake_entry user_data in omega (arith, rw (no_control user_data is).0 at more)
+  pub poll_keeps : (d : Driving S F) → KeepsOperations d.ring (poll_staged d).ring
+  poll_keeps d user_data is = let more = entry_one d.ring wake_entry user_data in omega (arith, rw (no_control user_data is).0 at more)
 
-  pub enter_brings : (d : Driving S F) → MayAllLand d.landings (all_taken d.ring) → BringsNoOperation d.ring (entered d).ring
-  enter_brings d may = entered_brings d.landings d.ring may
+  pub enter_keeps : (d : Driving S F) → MayAllLand d.landings (all_taken d.ring) → KeepsOperations d.ring (entered d).ring
+  enter_keeps d may = entered_keeps d.landings d.ring may
 
-  pub advance_brings : (d : Driving S F) (now : ℕ) → BringsNoOperation d.ring (advanced_to d now).ring
-  advance_brings d now = brings_same d.ring _ refl
+  pub advance_keeps : (d : Driving S F) (now : ℕ) → KeepsOperations d.ring (advanced_to d now).ring
+  advance_keeps d now = keeps_same d.ring _ refl
+
+  -- what comes out of the wheel is due, and no other list changes
+  pub advance_places : (d : Driving S F) (now : ℕ) → KeepsPlaces d.lists (advanced_to d now).lists
+  advance_places d now =
+      let alone = all_alone d.requests (advanced d.wheel now).wheel.ready d.lists in
+      record { queued = ap (λ (l : Lists). l.queued) alone; gated = ap (λ (l : Lists). l.gated) alone; enrolments = ap (λ (l : Lists). l.enrolments) alone }
 
   -- what is swept out is of no operation
   pub swept_same : (ps : List Posted) (d : Driving S F) (user_data : ℕ) → is_operation user_data ≡ true → operations_in (swept_from ps d).ring user_data ≡ operations_in (record d.ring { posted = ps }) user_data

@@ -1,24 +1,28 @@
 -- What each call leaves of the operations under way.
-use Rattle.std.proofs.Common.{◌≡◌, ◌≢◌, ◌⊎◌, ℕ, Bool, true, false, not, ◌||◌, cond, Option, Some, None, Result, Ok, Err, refl, ap, ◌∙◌, inl, inr, arith}
-use Rattle.exec_base.specs.{Slab.{removed, next_id, IsPast}, declared.error.Error.{Error}}
+use Rattle.std.proofs.Common.{◌≡◌, ◌≢◌, ◌⊎◌, ℕ, List, Bool, true, false, not, ◌||◌, ◌&&◌, cond, Option, Some, None, Result, Ok, Err, refl, ap, ◌∙◌, inl, inr, arith, length-set}
+use Rattle.std.proofs.lemmas.{Bool.{cases_lt}, Grind.{get_or-set_at}}
+use Rattle.std.proofs.lemmas.List.{get_or_past, get_or_push}
+use Rattle.exec_base.specs.{Slab.{removed, next_id, IsPast, filled}, declared.{error.Error.{Error}}}
 use Rattle.exec_base.proofs.Slots.{some_of_if}
 use Rattle.exec_request.specs.{declared.output.RequestOutput.RequestOutput}
-use Rattle.exec_waiters.specs.{Events.{finished_for, taken_from, forwarded_from, orphaned_from, changed_from, with_waker, with_observer}, States.{is_local, is_held_by}}
+use Rattle.exec_waiters.specs.{Events.{finished, finished_for, taken_from, forwarded_from, orphaned_from, changed_from, with_waker, with_observer}, States.{is_local, is_held_by}}
 use Rattle.exec_lists.proofs.Counting.{OneChanged, one_written, one_removed}
 use Rattle.exec_driver.specs.Steps.{permitted, granted, cancelled_at, let_go, without_observer, enrolled_by, granted_as, placed_at}
 use Rattle.exec_driver.proofs.Words.{Slab, value_at, written, Id, TaskNo, Driving, request_at, Account, Ended, waiter_at, waiter_in, waiter_of, is_flying, is_some, Waiter, Entry, Pending, Ready, WaiterId, Observer, Forwarded, Orphaned, entry_of, eqb_tells, deadline_of}
 use Rattle.exec_driver.proofs.Words.{with_permit}
-use Rattle.exec_driver.proofs.{Arriving.placed_is, Endings.one_changed}
+use Rattle.exec_driver_laws.proofs.Everywhere.{finished_all}
+use Rattle.exec_lists.{specs.Lists.is_same, proofs.Names.same_tells}
+use Rattle.exec_driver.proofs.{Arriving.placed_is, Endings.{one_changed, one_finished}}
 
 pub same_ids : (a b : Id) → (a ≡ b) ⊎ (a ≢ b)
 same_ids = grind (arith, eqb_tells)
 
 module _ {S F : Type 0} where
-  -- a request with an operation under way goes on with it, and none comes
+  -- a request with an operation under way goes on with it, none begins one, and no request comes
   abbrev pub goes_on : Option (Waiter S F) → Option (Waiter S F) → Bool
   goes_on o None = not (is_flying o)
   goes_on None (Some w') = false
-  goes_on (Some w) (Some w') = not w.in_flight || w'.in_flight
+  goes_on (Some w) (Some w') = (not w.in_flight || w'.in_flight) && (not w'.in_flight || w.in_flight)
 
   abbrev pub GoOn : Slab (Entry S F) → Slab (Entry S F) → Type 0
   GoOn s s' = (j : Id) → goes_on (waiter_at s j) (waiter_at s' j) ≡ true
@@ -31,6 +35,9 @@ module _ {S F : Type 0} where
 
   pub flies_on : (o o' : Option (Waiter S F)) → goes_on o o' ≡ true → is_flying o ≡ true → is_flying o' ≡ true
   flies_on = grind arith
+
+  pub flew_before : (o o' : Option (Waiter S F)) → goes_on o o' ≡ true → is_flying o' ≡ true → is_flying o ≡ true
+  flew_before = grind arith
 
   pub there_before : (o o' : Option (Waiter S F)) → goes_on o o' ≡ true → is_some o' ≡ true → is_some o ≡ true
   there_before = grind arith
@@ -55,8 +62,8 @@ module _ {S F : Type 0} where
   removed_on : (s : Slab (Entry S F)) (id : Id) (was : Entry S F) → value_at s id ≡ Some was → is_flying (waiter_in was) ≡ false → GoOn s (removed s id)
   removed_on s id was at idle = one_on s _ id _ _ (one_removed s id was at) (ap not idle)
 
-  pub finished_on : (s : Slab (Entry S F)) (id : Id) (w : Waiter S F) (told : RequestOutput) (observer : Observer S F) → waiter_at s id ≡ Some w → w.in_flight ≡ false → GoOn s (finished_for s id told observer)
-  finished_on = grind (arith, one_on, one_written, removed_on, entry_of)
+  pub finished_on : (s : Slab (Entry S F)) (id : Id) (w : Waiter S F) (how : Ended) (account : Option Account) → waiter_at s id ≡ Some w → w.in_flight ≡ false → GoOn s (finished s id w how account)
+  finished_on s id w how account at idle = one_on s _ id _ _ (one_finished s id w how account at) (ap not idle)
 
   pub taken_on : (s : Slab (Entry S F)) (id : Id) (o : Option (Entry S F)) → value_at s id ≡ o → GoOn s (taken_from s id o)
   taken_on = grind (arith, stays, removed_on)
@@ -121,6 +128,21 @@ module _ {S F : Type 0} where
 
   pub free : (s : Slab (Entry S F)) (id j : Id) (w : Waiter S F) → next_id s ≡ Some id → (IsPast s id → ⊥) → waiter_at s j ≡ Some w → j.index ≢ id.index
   free = grind (arith, some_of_if)
+
+  -- it isn't this one with an operation under way
+  abbrev rests : Id → WaiterId → Option (Waiter S F) → Bool
+  rests j i None = true
+  rests j i (Some w) = not (w.in_flight && is_same i (record { 0 = j }))
+
+  finished_idle : (s : Slab (Entry S F)) (id : WaiterId) (j : Id) (told : RequestOutput) (observer : Observer S F) → is_flying (waiter_at s j) ≡ false → is_flying (waiter_at (finished_for s id.0 told observer) j) ≡ false
+  finished_idle s id j told observer idle = let all = finished_all (rests j) (λ i. refl) id s told observer (grind (arith, idle, same_tells)) (record { 0 = j }) in grind (arith, all)
+
+  -- who comes has no operation under way
+  pub filled_idle : (s : Slab (Entry S F)) (vacant : List ℕ) (id j : Id) (e : Entry S F) → next_id (record s { vacant = vacant }) ≡ Some id → j.index ≡ id.index → is_flying (waiter_in e) ≡ false → is_flying (waiter_at (filled s vacant e) j) ≡ false
+  filled_idle = grind (arith, some_of_if, cases_lt, eqb_tells, get_or_push, get_or-set_at, length-set, get_or_past)
+
+  pub placed_idle : (d : Driving S F) (id : WaiterId) (j : Id) (w : Waiter S F) (now : ℕ) → is_flying (waiter_at d.requests j) ≡ false → is_flying (waiter_at (placed_at d id w now).requests j) ≡ false
+  placed_idle = grind (arith, placed_is, deadline_of, finished_idle)
 
   pub placed_ring : (d : Driving S F) (id : WaiterId) (w : Waiter S F) (now : ℕ) → (placed_at d id w now).ring ≡ d.ring
   placed_ring = grind (arith, placed_is, deadline_of)

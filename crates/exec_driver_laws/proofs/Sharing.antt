@@ -244,7 +244,7 @@ module _ {S F : Type 0} where
       subst (λ (m : Driving S F). Keeps worker m.requests g g') (sym same) (by_lines worker old.requests g g' (recounted_lines g g' file change keeps is) stand.hold stand.all)
   call_keeps worker old new g g' stand (Leave id file leaves same is) =
       subst (λ (h : Gates). Keeps worker new.requests g h) (sym is) (subst (λ (m : Driving S F). Keeps worker m.requests g (passed_on g file)) (sym same) (left_keeps worker old g (key_of worker id) file leaves stand))
-  call_keeps worker old new g g' stand (Other is brings same) =
+  call_keeps worker old new g g' stand (Other is keeps places same) =
       subst (λ (s : Slab (Entry S F)). Keeps worker s g g') (sym is) (by_lines worker _ g g' (unmoved g g' same) stand.hold (room_fits g worker old.requests new.requests.room stand.all))
 
   -- ALL DRIVERS

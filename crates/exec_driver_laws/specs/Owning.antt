@@ -1,6 +1,7 @@
 -- Which operations a ring has, and whose they are.
-use Rattle.std.specs.Prelude.{◌≡◌, ℕ, Bool, true, not, ◌+◌, ◌<◌, ◌≤◌, ◌==◌, ◌&&◌, count_by, Some, is_some, if◌then◌else◌}
-use Rattle.exec_ring.specs.{Kernels.is_of, Rings.RingState, declared.completion.Posted.Posted}
+use Rattle.std.specs.Prelude.{◌≡◌, ℕ, Bool, true, false, not, ◌+◌, ◌<◌, ◌≤◌, ◌==◌, ◌&&◌, count_by, Some, is_some, if◌then◌else◌}
+use Rattle.exec_request.specs.declared.window.Opcode.{Opcode, TheVariants.Wake}
+use Rattle.exec_ring.specs.{Kernels.is_of, Rings.RingState, declared.completion.{Posted.Posted, Submission.Submission}}
 use Rattle.exec_waiters.specs.{Ids.user_data_of, States.named, declared.{waiter.Waiter.Waiter, waiter_id.WaiterId.WaiterId}}
 use Rattle.exec_driver.specs.Driving.{Driving, request_at}
 
@@ -8,18 +9,27 @@ use Rattle.exec_driver.specs.Driving.{Driving, request_at}
 abbrev pub is_operation : ℕ → Bool
 is_operation user_data = not (user_data == 18446744073709551615) && not (user_data == 4294967295)
 
+-- an entry is of this user data, and no wake poll
+abbrev pub is_wake : Opcode → Bool
+is_wake Wake = true
+is_wake _ = false
+
+abbrev pub is_staged_of : ℕ → Submission → Bool
+is_staged_of user_data e = is_of user_data e && not (is_wake e.window.kind)
+
 abbrev pub is_posted_of : ℕ → Posted → Bool
 is_posted_of user_data p = p.completion.user_data == user_data
 
 -- how many entries, operations and completions of this user data a ring has
 abbrev pub operations_in : RingState → ℕ → ℕ
-operations_in ring user_data = count_by (is_of user_data) ring.staged + count_by (is_of user_data) ring.flying + count_by (is_posted_of user_data) ring.posted
+operations_in ring user_data = count_by (is_staged_of user_data) ring.staged + count_by (is_of user_data) ring.flying + count_by (is_posted_of user_data) ring.posted
 
 abbrev pub HasNoOperation : RingState → Type 0
 HasNoOperation ring = (user_data : ℕ) → is_operation user_data ≡ true → operations_in ring user_data ≡ 0
 
-abbrev pub BringsNoOperation : RingState → RingState → Type 0
-BringsNoOperation old new = (user_data : ℕ) → is_operation user_data ≡ true → operations_in new user_data ≤ operations_in old user_data
+-- it has each operation as it had it, and no other
+abbrev pub KeepsOperations : RingState → RingState → Type 0
+KeepsOperations old new = (user_data : ℕ) → is_operation user_data ≡ true → operations_in new user_data ≡ operations_in old user_data
 
 module _ {S F : Type 0} where
   -- the request that this user data names has an operation under way

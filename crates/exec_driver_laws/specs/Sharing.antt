@@ -8,7 +8,7 @@ use Rattle.exec_ring.specs.declared.store.Store.{Store}
 use Rattle.exec_waiters.specs.{Events.{changed, with_waker, taken, forwarded}, States.gate_in, declared.{deferred.Deferred.Deferred, observer.Observer.Observer, waiter.{Entry.Entry, Waiter.Waiter}, waiter_id.WaiterId.WaiterId}}
 use Rattle.exec_driver.specs.{Admission.Admits, Driving.{Driving, request_at}, Placed.Says}
 use Rattle.exec_driver.specs.{Service.permit_by, Steps.{let_go, expired, EnrolsAs, Grants, StagesOne, LandsOne, ReapsNext}, declared.driver.{reaping.Reaped.Reaped, staging.Granted.Granted}}
-use Rattle.exec_driver_laws.specs.{Laws.{ShareGates, failure_at}, Lines.KeepsLine, Owning.{BringsNoOperation, HasNoOperation}}
+use Rattle.exec_driver_laws.specs.{Laws.{ShareGates, failure_at}, Lines.KeepsLine, Owning.{HasNoOperation, KeepsOperations}, Waiting.KeepsPlaces}
 use Rattle.exec_lists.specs.Lists.{first_of}
 use Rattle.exec_opens.specs.{Opens.{OpenState, fresh_open, open_at, holder_at, with_open, with_named, with_account, joined, passed}, declared.opens.WaiterKey.WaiterKey}
 
@@ -70,8 +70,8 @@ module _ {S F : Type 0} where
     pub over : (key : WaiterKey) (file : ℕ) → g.leaving file ≡ Some key → request_at (drivers key.worker) key.id ≡ None
 
   -- A call that a worker makes on its driver or on the opens, with what the calls of a driver answer. Who leaves a gate
-  -- was told so by a reap or a grant. `Other` is every call that changes no request and brings no operation into the ring: it
-  -- moves the wheel, the ring, the lists or the rooms.
+  -- was told so by a reap or a grant. `Other` is every call that leaves the requests, the operations of the ring, and what is
+  -- to be staged, waits at gates or is to be enrolled: it moves the wheel, the rest of the ring and of the lists, or the rooms.
   pub data Call (worker : ℕ) (old new : Driving S F) (g g' : Gates) : Type 0 where
     Admit : (id : WaiterId) (request : Request) (observer : Observer S F) (now : ℕ) → next_id old.requests ≡ Some id.0 → id.0.index < 4294967295 → (IsPast old.requests id.0 → ⊥) → Admits old new g.opens g'.opens id request observer now → g'.leaving ≡ g.leaving → Call worker old new g g'
     Join : (id : WaiterId) → id.0.generation < 2 ^ 64 → new ≡ old → g' ≡ with_lines g (with_named g.opens (gate_in (request_at old id)) (joined (key_of worker id))) → Call worker old new g g'
@@ -90,7 +90,7 @@ module _ {S F : Type 0} where
     -- a call on an open alone: a place in its line is made or given up, or a write is counted
     Recount : (file : Option ℕ) (change : OpenState → OpenState) → ((o : OpenState) → KeepsLine o (change o)) → new ≡ old → g' ≡ with_lines g (with_named g.opens file change) → Call worker old new g g'
     Leave : (id : WaiterId) (file : ℕ) → g.leaving file ≡ Some (key_of worker id) → new ≡ old → g' ≡ passed_on g file → Call worker old new g g'
-    Other : new.requests ≡ record old.requests { room = new.requests.room } → BringsNoOperation old.ring new.ring → g' ≡ g → Call worker old new g g'
+    Other : new.requests ≡ record old.requests { room = new.requests.room } → KeepsOperations old.ring new.ring → KeepsPlaces old.lists new.lists → g' ≡ g → Call worker old new g g'
 
   -- which request has ended, as a reap or a grant says, and how
   abbrev pub end_by : {worker : ℕ} {old new : Driving S F} {g g' : Gates} → Call worker old new g g' → Option (WaiterKey × Ended)

@@ -2,7 +2,7 @@
 
 ghost use Rattle.std.specs.Prelude.{◌≡◌, true, false, Some, None, Ok};
 ghost use Rattle.exec_base.specs.declared.error.Error.TheVariants.{Timeout};
-ghost use Rattle.exec_driver.specs.{Examples.{first, idle}, Placed.Says, declared.driver.reaping.Reaped.Reaped};
+ghost use Rattle.exec_driver.specs.{Examples.{first, idle}, Placed.Says};
 ghost use Rattle.exec_outcomes.specs.declared.outcome.OpResult.TheVariants.{Count};
 ghost use Rattle.exec_driver_laws.specs.{Examples.{workers, held, gates, spoiling, no_requests, astray}, Serving.{IsCalls}, Laws.{ShareGates, failure_at}, Sharing.{LineUp, FailsFrom, key_of, end_told}};
 

@@ -1,6 +1,6 @@
 //! Laws of drivers, and of drivers that share gates.
 
-ghost use Rattle.std.specs.Prelude.{◌≡◌, ◌≢◌, ℕ, suc, ◌≤◌, IsSomeAnd, Bool, [], ◌∷◌, true, false, List, Option, Some, None, Ok, Err};
+ghost use Rattle.std.specs.Prelude.{◌≡◌, ◌≢◌, ℕ, suc, IsSomeAnd, Bool, [], ◌∷◌, true, false, List, Option, Some, None, Ok, Err};
 ghost use Rattle.exec_base.specs.declared.{error.Error.Error, slab.Id.Id};
 ghost use Rattle.exec_outcomes.specs.{Accounts.{Account, is_durable}, declared.outcome.Outcome.TheVariants.Failure};
 ghost use Rattle.exec_request.specs.{Requests.{asked_of, deadline_of, gate_of, goes_on_alone, outcome_if_granted, output_of, retired_of}, States.{Ended, asks_cancel}, declared.request.Request.Request};

@@ -8,3 +8,4 @@ pub mod laws;
 pub mod lines;
 pub mod owning;
 pub mod runs;
+pub mod waiting;

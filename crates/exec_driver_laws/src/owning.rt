@@ -3,23 +3,28 @@
 ghost use Rattle.std.specs.Prelude.{◌≡◌, ◌<◌, ℕ, suc, Bool, true, false, IsSomeAnd, [], ◌∷◌, Some, None};
 ghost use Rattle.exec_base.specs.declared.slab.Id.{Id};
 ghost use Rattle.exec_opens.specs.declared.opens.WaiterKey.{WaiterKey};
-ghost use Rattle.exec_ring.specs.{Kernels.{MayAllLand, all_taken, with_wake}, Rings.RingState, declared.completion.Completion.Completion};
+ghost use Rattle.exec_request.specs.Windows.{wake_window};
+ghost use Rattle.exec_ring.specs.{Kernels.{MayAllLand, all_taken, with_entry, with_wake}, Rings.RingState, declared.completion.Completion.Completion};
 ghost use Rattle.exec_waiters.specs.{Ids.user_data_of, declared.{waiter.Waiter.Waiter, waiter_id.WaiterId.WaiterId}};
 ghost use Rattle.exec_driver.specs.{Admission.with_rooms, Driving.{Driving, request_at}, Examples.first, Placed.Says, Steps.{advanced_to, cancel_staged, completed_in, entered, poll_staged}};
-ghost use Rattle.exec_driver_laws.specs.{Owning.{is_operation, operations_in, BringsNoOperation, is_under_way, IsOwned, HasOwner}, OwningExamples.{polling, its_entry}, Sharing.{Gates, CallsOne, IsRun, end_by_reap}};
+ghost use Rattle.exec_driver_laws.specs.{Owning.{is_operation, operations_in, KeepsOperations, is_under_way, IsOwned, HasOwner}, OwningExamples.{polling, its_entry}, Sharing.{Gates, CallsOne, IsRun, end_by_reap}, Waiting.KeepsPlaces};
 
-/// What else a worker does to its ring brings no operation into it: it stages a cancel or the wake poll, enters the
-/// kernel, raises a wake, goes on to a moment, says how the next enter or wake goes, or makes and gives up room. What
-/// lands within an enter may land, as each driver says (`Says`).
-#[tactic(auto, using(crate::proofs::OwningRing::cancel_brings, crate::proofs::OwningRing::poll_brings, crate::proofs::OwningRing::entered_brings, crate::proofs::OwningRing::wake_brings))]
-pub fn other_calls_bring_no_operation<S, F>()
-    ensures cancel { (d : Driving S F) (id : WaiterId) → BringsNoOperation d.ring (cancel_staged d id).ring }
-    ensures poll { (d : Driving S F) → BringsNoOperation d.ring (poll_staged d).ring }
-    ensures enter { (d : Driving S F) → MayAllLand d.landings (all_taken d.ring) → BringsNoOperation d.ring (entered d).ring }
-    ensures raise { (ring : RingState) → BringsNoOperation ring (with_wake ring) }
-    ensures advance { (d : Driving S F) (now : ℕ) → BringsNoOperation d.ring (advanced_to d now).ring }
-    ensures flags { (ring : RingState) (busy last : Bool) → BringsNoOperation ring (record ring { busy = busy; last = last }) }
-    ensures rooms { (like d : Driving S F) → BringsNoOperation d.ring (with_rooms like d).ring }
+/// What else a worker does leaves the operations of its ring, and what is to be staged, waits at gates or is to be
+/// enrolled: it stages a cancel or the wake poll, enters the kernel, raises a wake, goes on to a moment, says how the next
+/// enter or wake goes, or makes and gives up room. What lands within an enter may land, as each driver says (`Says`). The lists change where a
+/// cancel is staged, where deadlines have come, and with the rooms.
+#[tactic(auto, using(crate::proofs::OwningRing::cancel_keeps, crate::proofs::OwningRing::poll_keeps, crate::proofs::OwningRing::entered_keeps, crate::proofs::OwningRing::wake_keeps, crate::proofs::OwningRing::advance_places))]
+pub fn other_calls_leave_operations_and_places<S, F>()
+    ensures cancel { (d : Driving S F) (id : WaiterId) → KeepsOperations d.ring (cancel_staged d id).ring }
+    ensures poll { (d : Driving S F) → KeepsOperations d.ring (poll_staged d).ring }
+    ensures enter { (d : Driving S F) → MayAllLand d.landings (all_taken d.ring) → KeepsOperations d.ring (entered d).ring }
+    ensures raise { (ring : RingState) → KeepsOperations ring (with_wake ring) }
+    ensures advance { (d : Driving S F) (now : ℕ) → KeepsOperations d.ring (advanced_to d now).ring }
+    ensures flags { (ring : RingState) (busy last : Bool) → KeepsOperations ring (record ring { busy = busy; last = last }) }
+    ensures rooms { (like d : Driving S F) → KeepsOperations d.ring (with_rooms like d).ring }
+    ensures cancel_places { (d : Driving S F) (id : WaiterId) → KeepsPlaces d.lists (cancel_staged d id).lists }
+    ensures advance_places { (d : Driving S F) (now : ℕ) → KeepsPlaces d.lists (advanced_to d now).lists }
+    ensures rooms_places { (like d : Driving S F) → KeepsPlaces d.lists (with_rooms like d).lists }
 {}
 
 /// At each moment of a run, while a ring has an operation, be it staged, under way or completed, the request that it is
@@ -40,8 +45,9 @@ pub fn an_operation_is_of_a_request_in_flight<S, F>()
 {}
 
 /// Whose operations are: a poll under way owns the one that its ring has; one that has none owns none, and none has two.
-/// The user data of cancels and of the wake poll is that of no operation.
-#[tactic(auto, using(crate::proofs::OwningRuns::polls, crate::proofs::OwningRuns::unowned, crate::proofs::OwningRuns::two))]
+/// The user data of cancels and of the wake poll is that of no operation, and the entry of a wake poll is none whatever its
+/// user data. Who loses an operation, or brings one, doesn't keep them.
+#[tactic(auto, using(crate::proofs::OwningRuns::polls, crate::proofs::OwningRuns::unowned, crate::proofs::OwningRuns::two, crate::proofs::OwningRuns::lost, crate::proofs::OwningRuns::brought))]
 pub fn operations()
     ensures owned { IsOwned (polling true (its_entry ∷ [])) }
     ensures one { operations_in (polling true (its_entry ∷ [])).ring (user_data_of first.0) ≡ 1 }
@@ -52,4 +58,9 @@ pub fn operations()
     ensures cancels { is_operation 4294967295 ≡ false }
     ensures wakes { is_operation 18446744073709551615 ≡ false }
     ensures poll { is_operation (user_data_of first.0) ≡ true }
+    ensures entry { operations_in (with_entry (polling true []).ring its_entry.window (user_data_of first.0)) (user_data_of first.0) ≡ 1 }
+    ensures wake_entry { operations_in (with_entry (polling true []).ring wake_window (user_data_of first.0)) (user_data_of first.0) ≡ 0 }
+    ensures kept { KeepsOperations (polling true (its_entry ∷ [])).ring (record (polling true (its_entry ∷ [])).ring { wakes = 1 }) }
+    ensures lost { KeepsOperations (polling true (its_entry ∷ [])).ring (polling true []).ring → ⊥ }
+    ensures brought { KeepsOperations (polling true []).ring (polling true (its_entry ∷ [])).ring → ⊥ }
 {}

@@ -1,7 +1,7 @@
 //! Registrations of requests: polls here and elsewhere, and what is let go. What has to come of each step is what the
 //! rules of registrations say.
 
-use crate::desk::{Awaited, name};
+use crate::desk::{Awaited, Desk, name};
 use crate::found::{holds, same};
 use crate::visits::{Desks, Heard, Visit, is_heard};
 use exec_base::one_shot::OneShot;
@@ -77,7 +77,6 @@ fn a_closing_worker_takes_nothing(rt: HostRuntime) {
     let closed = Visit::Poll(7, Heard::Closed);
     let before = [Visit::Close, Visit::Places(2), closed, Visit::Empty];
     desks.visit(&rt, alloc, &before);
-    desks.ours().close();
     let after = [Visit::Places(2), closed, Visit::Empty];
     desks.visit(&rt, alloc, &after);
 }
@@ -85,12 +84,16 @@ fn a_closing_worker_takes_nothing(rt: HostRuntime) {
 #[test]
 fn a_closed_mail_takes_nothing(rt: HostRuntime) {
     let mut desks = Desks::new(&rt, rt.alloc());
-    let mut answer: Awaited = OneShot::new();
     let mut op: Operation = Registration::new(0, name(0, 0));
     let ours = desks.ours();
     ours.close();
     ours.close_mail();
-    let gone = ours.poll_away(&mut op, &mut answer);
-    holds(&rt, 0, is_heard(&gone, Heard::Closed));
+    holds(&rt, 0, finds_closed(ours, &mut op));
     ours.release_away(op);
+}
+
+/// Whether who has no worker is told by a poll that there is nothing to wait for.
+fn finds_closed(desk: &mut Desk, op: &mut Operation) -> bool {
+    let mut answer: Awaited = OneShot::new();
+    is_heard(&desk.poll_away(op, &mut answer), Heard::Closed)
 }

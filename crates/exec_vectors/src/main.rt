@@ -19,7 +19,7 @@ mod words;
 
 use fault::Fault;
 use part::Part;
-use std::alloc::Global;
+use std::alloc::{AllocError, Global};
 use std::io::{self, BufRead, BufReader};
 
 /// Makes the call of a line, and answers what it gave where that isn't what is wanted.
@@ -36,6 +36,14 @@ fn difference(part: &mut Part, alloc: Global, line: &str) -> Result<Option<Strin
     })
 }
 
+/// What is to be told of a line: what it gave where that isn't what is wanted, or why it can't be replayed.
+fn told(part: &mut Part, alloc: Global, line: &str) -> Result<Option<String>, AllocError> {
+    match difference(part, alloc, line) {
+        Ok(given) => Ok(given),
+        Err(fault) => format!(in alloc; "{fault}").map(Some),
+    }
+}
+
 fn main(rt: HostRuntime) -> io::Result<()> {
     let mut part = Part::Nothing;
     let (mut answers, mut differ) = (0u64, 0u64);
@@ -45,16 +53,9 @@ fn main(rt: HostRuntime) -> io::Result<()> {
             continue;
         }
         answers = answers.saturating_add(line.contains(" = ") as u64);
-        match difference(&mut part, rt.alloc(), line.as_str()) {
-            Ok(None) => {}
-            Ok(Some(given)) => {
-                differ = differ.saturating_add(1);
-                println!(rt; "{line}: {given}")?;
-            }
-            Err(fault) => {
-                differ = differ.saturating_add(1);
-                println!(rt; "{line}: {fault}")?;
-            }
+        if let Some(told) = told(&mut part, rt.alloc(), line.as_str())? {
+            differ = differ.saturating_add(1);
+            println!(rt; "{line}: {told}")?;
         }
     }
     println!(rt; "{answers} answers, {differ} differ")

@@ -4,13 +4,14 @@ use crate::fault::Fault;
 use crate::queues::Queues;
 use crate::shares::Busy;
 use crate::sleepers::Sleepers;
-use crate::words::{named, number};
+use crate::words::named;
 use crate::{slots, spins, ticks, wakes};
 use exec_base::slab::Slab;
 use exec_base::spinner::Spinner;
 use exec_time::wheel::TimeoutWheel;
 use exec_words::word::PureWord;
 use std::alloc::Global;
+use std::str::SplitWhitespace as Words;
 
 /// The part that a case speaks of.
 #[derive(Drop)]
@@ -40,19 +41,20 @@ impl Part {
     pub fn begin(alloc: Global, line: &str) -> Result<Part, Fault> {
         let mut words = line.split_whitespace();
         let _number = named(&mut words)?;
+        Part::of_kind(alloc, &mut words)
+    }
+
+    /// The part that the next word names, as the words after it say.
+    fn of_kind(alloc: Global, words: &mut Words<'_>) -> Result<Part, Fault> {
         match words.next() {
             Some("layouts") => Ok(Part::Layouts),
             Some("sleepers") => Ok(Part::Sleepers(Sleepers::new(alloc))),
-            Some("start") => {
-                number(&mut words).map(|first| Part::Slab(Slab::starting_at(alloc, first)))
-            }
-            Some("shared" | "exclusive") => Queues::begin(alloc, &mut words).map(Part::Queues),
-            Some("batch") => wakes::begin(&mut words).map(Part::Word),
-            Some("workers") => number(&mut words)
-                .and_then(|workers| Busy::begin(alloc, workers))
-                .map(Part::Busy),
-            Some("budget") => spins::begin(&mut words).map(Part::Spinner),
-            Some("horizon") => ticks::begin(alloc, &mut words).map(Part::Wheel),
+            Some("start") => slots::begin(alloc, words).map(Part::Slab),
+            Some("shared" | "exclusive") => Queues::begin(alloc, words).map(Part::Queues),
+            Some("batch") => wakes::begin(words).map(Part::Word),
+            Some("workers") => Busy::begin(alloc, words).map(Part::Busy),
+            Some("budget") => spins::begin(words).map(Part::Spinner),
+            Some("horizon") => ticks::begin(alloc, words).map(Part::Wheel),
             _ => Err(Fault::Malformed),
         }
     }

@@ -4,7 +4,7 @@
 //! has released the claim and published what it holds.
 
 use crate::fault::Fault;
-use crate::words::{number, place, text_of, text_of_list};
+use crate::words::{number, place, text_of, text_of_list, word_of};
 use exec_words::queue::{PureQueue, PushAnswer};
 use exec_words::reserved::Reserved;
 use exec_words::{CAPACITY, HALF, SPENT};
@@ -115,6 +115,18 @@ impl Local {
         }
         thief.publish()
     }
+
+    /// The part of a theft that this call names: how many values were moved.
+    fn robbed(&mut self, thief: &mut Local, call: &str) -> Result<usize, Fault> {
+        match call {
+            "begin" => self.claim(thief),
+            "finish" => self.release(thief),
+            _ => match self.claim(thief)? {
+                0 => Ok(0),
+                _ => self.release(thief),
+            },
+        }
+    }
 }
 
 /// What a list holds, the oldest first.
@@ -159,13 +171,18 @@ impl Queues {
     pub fn answer(&mut self, alloc: Global, words: &mut Words<'_>) -> Result<String, Fault> {
         let operation = words.next().unwrap_or("");
         match operation {
-            "push" => self.local(words)?.push(alloc, number(words)?),
-            "pop" => Ok(text_of(alloc, self.local(words)?.pop())?),
+            "push" => self.push(alloc, words),
+            "pop" => text_of(alloc, self.local(words)?.pop()),
             "pops" => self.pops(alloc, words),
             "batch" => self.batch(alloc, words),
             "begin" | "finish" | "steal" => self.steal(alloc, operation, words),
             _ => shown(&self.local(words)?.queue, alloc, operation),
         }
+    }
+
+    /// A push to one queue.
+    fn push(&mut self, alloc: Global, words: &mut Words<'_>) -> Result<String, Fault> {
+        self.local(words)?.push(alloc, number(words)?)
     }
 
     /// Pops of one queue.
@@ -176,7 +193,7 @@ impl Queues {
     /// Publishes values in one queue.
     pub fn batch(&mut self, alloc: Global, words: &mut Words<'_>) -> Result<String, Fault> {
         self.local(words)?.batch(number(words)?, number(words)?)?;
-        Ok(String::from_str(alloc, "ok")?)
+        word_of(alloc, "ok")
     }
 
     /// A claim, a release, or both where something was claimed: how many values. The thief's queue
@@ -185,16 +202,9 @@ impl Queues {
         let from = place(words, self.locals.len())?;
         let into = place(words, self.locals.len())?;
         let mut thief = mem::replace(&mut self.locals[into], Local::at(alloc, 0)?);
-        let victim = &mut self.locals[from];
-        let mut count = 0;
-        if call != "finish" {
-            count = victim.claim(&mut thief)?;
-        }
-        if call == "finish" || (call == "steal" && count > 0) {
-            count = victim.release(&mut thief)?;
-        }
+        let moved = self.locals[from].robbed(&mut thief, call);
         self.locals[into] = thief;
-        Ok(format!(in alloc; "{count}")?)
+        text_of(alloc, Some(moved? as u64))
     }
 }
 
@@ -202,10 +212,10 @@ impl Queues {
 fn shown(queue: &PureQueue<u64>, alloc: Global, operation: &str) -> Result<String, Fault> {
     let head = queue.head();
     match operation {
-        "len" => Ok(format!(in alloc; "{}", queue.len())?),
-        "room" => Ok(format!(in alloc; "{}", queue.room())?),
-        "stealable" => Ok(format!(in alloc; "{}", head.is_stealable(queue.tail()) as u64)?),
-        "head" => Ok(format!(in alloc; "{} {}", head.real, head.gap)?),
+        "len" => text_of(alloc, Some(queue.len() as u64)),
+        "room" => text_of(alloc, Some(queue.room() as u64)),
+        "stealable" => text_of(alloc, Some(head.is_stealable(queue.tail()) as u64)),
+        "head" => format!(in alloc; "{} {}", head.real, head.gap).map_err(Fault::Memory),
         _ => Err(Fault::Malformed),
     }
 }

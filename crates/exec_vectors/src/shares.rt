@@ -3,7 +3,7 @@
 
 use crate::fault::Fault;
 use crate::queues::{Local, Queues, drained};
-use crate::words::{number, place, text_of_list};
+use crate::words::{number, place, text_of_list, word_of};
 use exec_words::MAX_WORKERS;
 use exec_words::global::GlobalQueue;
 use std::alloc::Global;
@@ -17,8 +17,9 @@ pub struct Busy {
 }
 
 impl Busy {
-    /// So many workers, and nothing queued.
-    pub fn begin(alloc: Global, workers: u64) -> Result<Self, Fault> {
+    /// The pool of `workers N`, with nothing queued.
+    pub fn begin(alloc: Global, words: &mut Words<'_>) -> Result<Self, Fault> {
+        let workers = number(words)?;
         let mut locals = Vec::new(alloc);
         if workers == 0 || workers > MAX_WORKERS as u64 {
             return Err(Fault::Condition);
@@ -35,24 +36,32 @@ impl Busy {
     /// Makes a call, and answers what it gave.
     pub fn answer(&mut self, alloc: Global, words: &mut Words<'_>) -> Result<String, Fault> {
         let given = match words.next().unwrap_or("") {
-            "push" => self.push(alloc, number(words)?)?,
-            "take" => self.take(alloc, words)?,
-            "batch" => self.queues.batch(alloc, words)?,
-            "pops" => self.queues.pops(alloc, words)?,
-            "global" => text_of_list(alloc, &drained(alloc, &mut self.global.close(alloc))?)?,
-            "leave" => String::from_str(alloc, "ok")?,
-            _ => return Err(Fault::Malformed),
-        };
-        Ok(format!(in alloc; "{given} idle 0 count 0 woken")?)
+            "push" => self.push(alloc, words),
+            "take" => self.take(alloc, words),
+            "batch" => self.queues.batch(alloc, words),
+            "pops" => self.queues.pops(alloc, words),
+            "global" => self.close(alloc),
+            "leave" => word_of(alloc, "ok"),
+            _ => Err(Fault::Malformed),
+        }?;
+        format!(in alloc; "{given} idle 0 count 0 woken").map_err(Fault::Memory)
     }
 
-    fn push(&mut self, alloc: Global, value: u64) -> Result<String, Fault> {
+    /// The global queue is closed, and tells what it held.
+    fn close(&mut self, alloc: Global) -> Result<String, Fault> {
+        let values = drained(alloc, &mut self.global.close(alloc))?;
+        text_of_list(alloc, &values).map_err(Fault::Memory)
+    }
+
+    /// A value at the end of the global queue.
+    fn push(&mut self, alloc: Global, words: &mut Words<'_>) -> Result<String, Fault> {
+        let value = number(words)?;
         let places = self.global.mirror().saturating_add(1);
         self.global.reserve(alloc, places)?;
         if self.global.spare() == 0 || self.global.push(value).is_err() {
             return Err(Fault::Condition);
         }
-        Ok(String::from_str(alloc, "ok")?)
+        word_of(alloc, "ok")
     }
 
     /// A worker's share: the oldest value, and how many its run queue gets.
@@ -69,7 +78,7 @@ impl Busy {
                 let queued = queue.len().saturating_sub(held);
                 Ok(format!(in alloc; "{first} queued {queued}")?)
             }
-            None => Ok(String::from_str(alloc, "none")?),
+            None => word_of(alloc, "none"),
         }
     }
 }

@@ -1,7 +1,7 @@
 //! Calls on the sleepers of a worker, whose senders are numbers.
 
 use crate::fault::Fault;
-use crate::words::{id, number, short, text_of, text_of_id};
+use crate::words::{id, number, short, text_of, text_of_id, word_of};
 use exec_base::error::Error;
 use exec_base::task_no::TaskNo;
 use exec_time::notes::Notes;
@@ -16,6 +16,11 @@ pub struct Sleepers {
     notes: Notes<u32>,
 }
 
+/// The task that the next word names.
+fn task(words: &mut Words<'_>) -> Result<TaskNo, Fault> {
+    short(words).map(TaskNo)
+}
+
 impl Sleepers {
     /// No sleepers.
     pub fn new(alloc: Global) -> Self {
@@ -28,54 +33,58 @@ impl Sleepers {
     /// Makes a call, and answers what it gave.
     pub fn answer(&mut self, alloc: Global, words: &mut Words<'_>) -> Result<String, Fault> {
         match words.next().unwrap_or("") {
-            "insert" => self.insert(alloc, number(words)?, TaskNo(short(words)?)),
-            "observe" => self.observe(alloc, TimerId(id(words)?), TaskNo(short(words)?)),
-            "refresh" => self.refresh(alloc, TimerId(id(words)?), TaskNo(short(words)?)),
-            "forward" => self.forward(alloc, TimerId(id(words)?), short(words)?),
-            "cancel" => self.cancel(alloc, TimerId(id(words)?)),
-            "expire" => self.expire(alloc, number(words)?),
+            "insert" => self.insert(alloc, words),
+            "observe" => self.observe(alloc, words),
+            "refresh" => self.refresh(alloc, words),
+            "forward" => self.forward(alloc, words),
+            "cancel" => self.cancel(alloc, words),
+            "expire" => self.expire(alloc, words),
             "clear" => self.clear(alloc),
-            "next" => Ok(text_of(alloc, self.timers.next_deadline())?),
-            "live" => Ok(text_of(alloc, Some(self.timers.len() as u64))?),
+            "next" => text_of(alloc, self.timers.next_deadline()),
+            "live" => text_of(alloc, Some(self.timers.len() as u64)),
             _ => Err(Fault::Malformed),
         }
     }
 
     /// One more sleeper: its id.
-    fn insert(&mut self, alloc: Global, deadline: u64, waker: TaskNo) -> Result<String, Fault> {
+    fn insert(&mut self, alloc: Global, words: &mut Words<'_>) -> Result<String, Fault> {
+        let (deadline, waker) = (number(words)?, task(words)?);
         match self.timers.insert(alloc, deadline, waker) {
-            Ok(id) => Ok(text_of_id(alloc, id.0)?),
+            Ok(id) => text_of_id(alloc, id.0),
             Err(Error::Full) => Err(Fault::Condition),
             Err(_) => Err(Fault::Memory(AllocError)),
         }
     }
 
     /// What a task finds.
-    fn observe(&mut self, alloc: Global, id: TimerId, waker: TaskNo) -> Result<String, Fault> {
+    fn observe(&mut self, alloc: Global, words: &mut Words<'_>) -> Result<String, Fault> {
+        let (id, waker) = (TimerId(id(words)?), task(words)?);
         if self.timers.is_forwarded(id) {
             return Err(Fault::Condition);
         }
-        let word = match self.timers.observe(id, waker) {
+        let found = match self.timers.observe(id, waker) {
             Observation::Ready(()) => "ready",
             Observation::Pending => "pending",
             Observation::Refresh => "refresh",
         };
-        Ok(String::from_str(alloc, word)?)
+        word_of(alloc, found)
     }
 
     /// The waker that another one takes the place of.
-    fn refresh(&mut self, alloc: Global, id: TimerId, waker: TaskNo) -> Result<String, Fault> {
+    fn refresh(&mut self, alloc: Global, words: &mut Words<'_>) -> Result<String, Fault> {
+        let (id, waker) = (TimerId(id(words)?), task(words)?);
         if self.timers.is_forwarded(id) {
             return Err(Fault::Condition);
         }
-        Ok(match self.timers.refresh(id, waker) {
-            Ok(before) => format!(in alloc; "{}", before.0)?,
-            Err(_) => String::from_str(alloc, "gone")?,
-        })
+        match self.timers.refresh(id, waker) {
+            Ok(before) => text_of(alloc, Some(before.0 as u64)),
+            Err(_) => word_of(alloc, "gone"),
+        }
     }
 
     /// A result is to be sent.
-    fn forward(&mut self, alloc: Global, id: TimerId, sender: u32) -> Result<String, Fault> {
+    fn forward(&mut self, alloc: Global, words: &mut Words<'_>) -> Result<String, Fault> {
+        let (id, sender) = (TimerId(id(words)?), short(words)?);
         if self.timers.is_forwarded(id) {
             return Err(Fault::Condition);
         }
@@ -85,14 +94,16 @@ impl Sleepers {
     }
 
     /// A sleeper is removed.
-    fn cancel(&mut self, alloc: Global, id: TimerId) -> Result<String, Fault> {
+    fn cancel(&mut self, alloc: Global, words: &mut Words<'_>) -> Result<String, Fault> {
+        let id = TimerId(id(words)?);
         self.notes.reserve(alloc, 1)?;
         self.timers.cancel(id, &mut self.notes);
         self.told(alloc)
     }
 
     /// What is due fires.
-    fn expire(&mut self, alloc: Global, now: u64) -> Result<String, Fault> {
+    fn expire(&mut self, alloc: Global, words: &mut Words<'_>) -> Result<String, Fault> {
+        let now = number(words)?;
         self.notes.reserve(alloc, self.timers.len())?;
         self.timers.expire(now, &mut self.notes);
         self.told(alloc)

@@ -2,57 +2,50 @@
 
 use crate::fault::Fault;
 use crate::words::{id, number, text_of, text_of_id};
-use exec_base::slab::{Id, InsertError, Slab};
+use exec_base::slab::{InsertError, Slab};
 use std::alloc::{AllocError, Global};
+use std::mem;
 use std::str::SplitWhitespace as Words;
+
+/// The slab of `start FIRST`, empty.
+pub fn begin(alloc: Global, words: &mut Words<'_>) -> Result<Slab<u64>, Fault> {
+    number(words).map(|first| Slab::starting_at(alloc, first))
+}
 
 /// Makes a call on a slab, and answers what it gave.
 pub fn answer(slab: &mut Slab<u64>, alloc: Global, words: &mut Words<'_>) -> Result<String, Fault> {
     match words.next().unwrap_or("") {
-        "insert" => insert(slab, alloc, number(words)?),
-        "remove" => remove(slab, alloc, id(words)?),
-        "get" => get(slab, alloc, id(words)?),
-        "set" => set(slab, alloc, id(words)?, number(words)?),
-        "len" => Ok(text_of(alloc, Some(slab.len() as u64))?),
-        "slots" => Ok(text_of(alloc, Some(slab.slots() as u64))?),
-        "idat" => id_at(slab, alloc, number(words)? as usize),
+        "insert" => insert(slab, alloc, words),
+        "remove" => text_of(alloc, slab.remove(id(words)?)),
+        "get" => text_of(alloc, slab.get(id(words)?).copied()),
+        "set" => set(slab, alloc, words),
+        "len" => text_of(alloc, Some(slab.len() as u64)),
+        "slots" => text_of(alloc, Some(slab.slots() as u64)),
+        "idat" => id_at(slab, alloc, words),
         _ => Err(Fault::Malformed),
     }
 }
 
 /// Inserts a value: its id.
-fn insert(slab: &mut Slab<u64>, alloc: Global, value: u64) -> Result<String, Fault> {
-    match slab.insert(alloc, value) {
-        Ok(id) => Ok(text_of_id(alloc, id)?),
+fn insert(slab: &mut Slab<u64>, alloc: Global, words: &mut Words<'_>) -> Result<String, Fault> {
+    match slab.insert(alloc, number(words)?) {
+        Ok(id) => text_of_id(alloc, id),
         Err(InsertError::Full(_)) => Err(Fault::Condition),
         Err(InsertError::NoMemory(_)) => Err(Fault::Memory(AllocError)),
     }
 }
 
-/// Takes a value out.
-fn remove(slab: &mut Slab<u64>, alloc: Global, id: Id) -> Result<String, Fault> {
-    Ok(text_of(alloc, slab.remove(id))?)
-}
-
-/// The value of an id.
-fn get(slab: &Slab<u64>, alloc: Global, id: Id) -> Result<String, Fault> {
-    Ok(text_of(alloc, slab.get(id).copied())?)
-}
-
 /// The id of the value in a slot.
-fn id_at(slab: &Slab<u64>, alloc: Global, index: usize) -> Result<String, Fault> {
-    match slab.id_at(index) {
-        Some(id) => Ok(text_of_id(alloc, id)?),
-        None => Ok(text_of(alloc, None)?),
+fn id_at(slab: &Slab<u64>, alloc: Global, words: &mut Words<'_>) -> Result<String, Fault> {
+    match slab.id_at(number(words)? as usize) {
+        Some(id) => text_of_id(alloc, id),
+        None => text_of(alloc, None),
     }
 }
 
 /// Writes the value at a live id: the one before.
-fn set(slab: &mut Slab<u64>, alloc: Global, at: Id, value: u64) -> Result<String, Fault> {
-    let Some(place) = slab.get_mut(at) else {
-        return Ok(text_of(alloc, None)?);
-    };
-    let before = *place;
-    *place = value;
-    Ok(text_of(alloc, Some(before))?)
+fn set(slab: &mut Slab<u64>, alloc: Global, words: &mut Words<'_>) -> Result<String, Fault> {
+    let (at, value) = (id(words)?, number(words)?);
+    let before = slab.get_mut(at).map(|place| mem::replace(place, value));
+    text_of(alloc, before)
 }

@@ -1,7 +1,7 @@
 //! Calls on a spinner. Each answer ends with the budget and the floor after the call.
 
 use crate::fault::Fault;
-use crate::words::{named, number};
+use crate::words::{named, number, word_of};
 use exec_base::spinner::{Spinner, SpinnerConfig};
 use std::alloc::Global;
 use std::str::SplitWhitespace as Words;
@@ -26,27 +26,30 @@ pub fn answer(
     alloc: Global,
     words: &mut Words<'_>,
 ) -> Result<String, Fault> {
-    let mut given = String::new(alloc);
-    match words.next().unwrap_or("") {
-        "begin" => {}
-        "spin" => {
-            let (hit, calls) = spin(spinner, number(words)?);
-            let word = if hit { "hit" } else { "miss" };
-            given = format!(in alloc; "{word} calls {calls} ")?;
-        }
-        "wake" => spinner.on_wake(number(words)?),
-        _ => return Err(Fault::Malformed),
-    }
+    let given = match words.next().unwrap_or("") {
+        "begin" => word_of(alloc, ""),
+        "spin" => spin(spinner, alloc, words),
+        "wake" => wake(spinner, alloc, words),
+        _ => Err(Fault::Malformed),
+    }?;
     let (budget, floor) = (spinner.budget(), spinner.floor());
-    Ok(format!(in alloc; "{given}budget {budget} floor {floor}")?)
+    format!(in alloc; "{given}budget {budget} floor {floor}").map_err(Fault::Memory)
+}
+
+/// A wake after so long.
+fn wake(spinner: &mut Spinner, alloc: Global, words: &mut Words<'_>) -> Result<String, Fault> {
+    spinner.on_wake(number(words)?);
+    word_of(alloc, "")
 }
 
 /// Spins with a condition that is true from this call on, or never at 0. Answers whether it hit, and the calls.
-fn spin(spinner: &mut Spinner, call: u64) -> (bool, u64) {
+fn spin(spinner: &mut Spinner, alloc: Global, words: &mut Words<'_>) -> Result<String, Fault> {
+    let call = number(words)?;
     let mut calls = 0u64;
     let hit = spinner.spin(&mut || {
         calls = calls.saturating_add(1);
         calls == call
     });
-    (hit, calls)
+    let word = if hit { "hit" } else { "miss" };
+    format!(in alloc; "{word} calls {calls} ").map_err(Fault::Memory)
 }

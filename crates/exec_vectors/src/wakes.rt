@@ -27,33 +27,44 @@ pub fn begin(words: &mut Words<'_>) -> Result<PureWord, Fault> {
 }
 
 /// Arms a wait, and tells whether it may begin.
-fn arm(word: &mut PureWord, target: WaitTarget, processed: u32) -> Result<bool, Fault>
-    requires { processed < 2 ^ 29 }
-{
+fn arm(
+    word: &mut PureWord,
+    target: WaitTarget,
+    words: &mut Words<'_>,
+) -> Result<&'static str, Fault> {
+    let processed = batch(words)?;
     if word.target != WaitTarget::None {
         return Err(Fault::Condition);
     }
-    Ok(word.arm(target).still_idle(processed))
+    Ok(flag(word.arm(target).still_idle(processed)))
+}
+
+/// Arms a wait to sleep, which ends at once.
+fn park(word: &mut PureWord, words: &mut Words<'_>) -> Result<&'static str, Fault> {
+    arm(word, WaitTarget::Sleeping, words)?;
+    word.disarm();
+    Ok("none")
+}
+
+/// Tells whether there is more than these batches, or a signal.
+fn pending(word: &PureWord, words: &mut Words<'_>) -> Result<&'static str, Fault> {
+    Ok(flag(word.pending(batch(words)?)))
 }
 
 /// Makes a call on a wake word, and answers what it gave.
 pub fn answer(word: &mut PureWord, alloc: Global, words: &mut Words<'_>) -> Result<String, Fault> {
     let given = match words.next().unwrap_or("") {
-        "wake" => done(word.wake()),
-        "consume" => done(word.consume_signal()),
-        "disarm" => done(word.disarm()),
-        "publish" => flag(word.publish()),
-        "signalled" => flag(word.latch),
-        "pending" => flag(word.pending(batch(words)?)),
-        "arm" => flag(arm(word, WaitTarget::Ring, batch(words)?)?),
-        "park" => {
-            arm(word, WaitTarget::Sleeping, batch(words)?)?;
-            word.disarm();
-            "none"
-        }
-        _ => return Err(Fault::Malformed),
-    };
-    Ok(format!(in alloc; "{given} word {}", packed(word))?)
+        "wake" => Ok(done(word.wake())),
+        "consume" => Ok(done(word.consume_signal())),
+        "disarm" => Ok(done(word.disarm())),
+        "publish" => Ok(flag(word.publish())),
+        "signalled" => Ok(flag(word.latch)),
+        "pending" => pending(word, words),
+        "arm" => arm(word, WaitTarget::Ring, words),
+        "park" => park(word, words),
+        _ => Err(Fault::Malformed),
+    }?;
+    format!(in alloc; "{given} word {}", packed(word)).map_err(Fault::Memory)
 }
 
 fn done(_found: PureWord) -> &'static str {

@@ -35,16 +35,21 @@ pub fn id(words: &mut SplitWhitespace<'_>) -> Result<Id, Fault> {
 }
 
 /// An id as its two words.
-pub fn text_of_id(alloc: Global, id: Id) -> Result<String, AllocError> {
-    format!(in alloc; "{} {}", id.index, id.generation)
+pub fn text_of_id(alloc: Global, id: Id) -> Result<String, Fault> {
+    format!(in alloc; "{} {}", id.index, id.generation).map_err(Fault::Memory)
 }
 
 /// A number, or `none`.
-pub fn text_of(alloc: Global, value: Option<u64>) -> Result<String, AllocError> {
+pub fn text_of(alloc: Global, value: Option<u64>) -> Result<String, Fault> {
     match value {
-        Some(value) => format!(in alloc; "{value}"),
-        None => String::from_str(alloc, "none"),
+        Some(value) => format!(in alloc; "{value}").map_err(Fault::Memory),
+        None => word_of(alloc, "none"),
     }
+}
+
+/// This word.
+pub fn word_of(alloc: Global, word: &str) -> Result<String, Fault> {
+    String::from_str(alloc, word).map_err(Fault::Memory)
 }
 
 /// The next word, a number below this one.
