@@ -13,17 +13,17 @@ use Rattle.exec_lists.proofs.Names.{same_tells}
 use Rattle.exec_driver.specs.{Placed.Says, Steps.{StagesOne, LandsOne, judged_as_over, landed_at, told_as, taken_in, newcomer, placed_at}, declared.driver.reaping.Reaped.Reaped}
 use Rattle.exec_driver.proofs.Words.{Account, Slab, Id, OpResult, OpenState, Deferred, Submission, RingState, Request, Waiter, Entry, Pending, WaiterId, Driving, request_at, Ended, waiter_at, is_flying, is_some, is_queued, is_gated, is_unenrolled, value_at, flight_of, tick_for, after_enrolment, after_due, taken_out, open_after, account_in, file_of, eqb_tells, entry_of, one_if}
 use Rattle.exec_driver.proofs.Endings.{one_changed, one_finished}
-use Rattle.exec_driver_laws.specs.{Owning.{is_operation, is_staged_of, is_wake, operations_in, KeepsOperations, IsOwned}, Sharing.{Gates, Call, Admit, Join, Observe, SetWaker, Forward, Orphan, Expire, Enrol, Grant, Stage, Land, Reap, SetAccount, Recount, Leave, Other, key_of, end_by_reap, end_told}}
+use Rattle.exec_driver_laws.specs.{Owning.{is_operation, is_staged_of, is_wake_poll, operations_in, KeepsOperations, IsOwned}, Sharing.{Gates, Call, Admit, Join, Observe, SetWaker, Forward, Orphan, Expire, Enrol, Grant, Stage, Land, Reap, SetAccount, Recount, Leave, Other, key_of, end_by_reap, end_told}}
 use Rattle.exec_driver_laws.proofs.{Calling.{reap_tells, ReapsThere, Drops}, Lasting.{placed_apart, filled_apart}, OwningRing.{keeps_same, entry_one, flight_there}, OwningSteps.{GoOn, stays, flies_on, there_before, alike_on, same_ids, taken_on, waked_on, forwarded_on, let_go_on, let_go_ring, cancelled_on, cancelled_ring, enrolled_on, enrolled_ring, granted_on, granted_ring, free, placed_ring, filled_idle, placed_idle}, Uncancelled.first_among}
 
 moved_there : (o : Option Submission) (given : OpResult) (r r' : Request) (st st' : Store) → Moves o given r r' st st' → (e : Submission) × (o ≡ Some e)
 moved_there None given r r' st st' moves = absurd moves
 moved_there (Some e) given r r' st st' moves = (e, refl)
 
-an_entry : (e : Submission) (user_data : ℕ) → is_wake e.window.kind ≡ false → is_staged_of user_data e ≡ eqb e.user_data user_data
+an_entry : (e : Submission) (user_data : ℕ) → is_wake_poll e.window.kind ≡ false → is_staged_of user_data e ≡ eqb e.user_data user_data
 an_entry = grind arith
 
-no_wake : (hinted : Bool) (r : Request) → is_wake (window_by hinted r).kind ≡ false
+no_wake : (hinted : Bool) (r : Request) → is_wake_poll (window_by hinted r).kind ≡ false
 no_wake = grind arith
 
 index_own : (id : Id) → id.index < 4294967296 → index_in (user_data_of id) ≡ id.index
@@ -79,7 +79,7 @@ module _ {S F : Type 0} where
       let ring = ap (λ (m : Driving S F). m.ring) stages.driver in
       Comes id w at idle (ap (λ (s : Slab (Entry S F)). is_flying (waiter_at s id.0)) is ∙ ap is_flying changed.is_at)
       (λ j other. ap (λ (s : Slab (Entry S F)). waiter_at s j) is ∙ changed.others j other)
-      (λ user_data. ap (λ (r : RingState). operations_in r user_data) ring ∙ entry_one old.ring stages.entry user_data ∙ ap (λ (b : Bool). operations_in old.ring user_data + one_if b) (an_entry stages.entry user_data (ap is_wake (ap (λ (v : Window). v.kind) stages.window) ∙ no_wake (has_hint account) w.request) ∙ ap (λ (n : ℕ). eqb n user_data) stages.user_data))
+      (λ user_data. ap (λ (r : RingState). operations_in r user_data) ring ∙ entry_one old.ring stages.entry user_data ∙ ap (λ (b : Bool). operations_in old.ring user_data + one_if b) (an_entry stages.entry user_data (ap is_wake_poll (ap (λ (v : Window). v.kind) stages.window) ∙ no_wake (has_hint account) w.request) ∙ ap (λ (n : ℕ). eqb n user_data) stages.user_data))
 
   landed_keeps : (worker : ℕ) (old new : Driving S F) (told : Option (WaiterKey × Ended)) (id : WaiterId) (w : Waiter S F) (given : OpResult) (store store' : Store) → request_at old id ≡ Some w → LandsOne old new id w given store store' → Keeps worker old new told
   landed_keeps worker old new told id w given store store' at lands =

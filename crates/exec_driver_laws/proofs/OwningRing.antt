@@ -13,7 +13,7 @@ use Rattle.exec_driver.proofs.Advancing.{all_alone}
 use Rattle.exec_lists.specs.Lists.{Lists}
 use Rattle.exec_driver.proofs.Words.{advanced}
 use Rattle.exec_driver_laws.specs.Waiting.{KeepsPlaces}
-use Rattle.exec_driver_laws.specs.Owning.{is_operation, is_posted_of, is_staged_of, is_wake, operations_in, KeepsOperations}
+use Rattle.exec_driver_laws.specs.Owning.{is_operation, is_posted_of, is_staged_of, is_wake_poll, operations_in, KeepsOperations}
 
 -- an operation is no wake, and no cancel
 no_control : (user_data : ℕ) → is_operation user_data ≡ true → (eqb 18446744073709551615 user_data ≡ false) × (eqb 4294967295 user_data ≡ false)
@@ -41,7 +41,7 @@ woken_keeps s user_data is = by s.last
 pub wake_keeps : (s : RingState) → KeepsOperations s (with_wake s)
 wake_keeps s user_data is = grind (arith, woken_keeps)
 
-taken_keeps : (kind : Opcode) (s : RingState) (e : Submission) (user_data : ℕ) → is_operation user_data ≡ true → operations_in (taken_as kind s e) user_data ≡ operations_in s user_data + cond (is_of user_data e && not (is_wake kind)) 1 0
+taken_keeps : (kind : Opcode) (s : RingState) (e : Submission) (user_data : ℕ) → is_operation user_data ≡ true → operations_in (taken_as kind s e) user_data ≡ operations_in s user_data + cond (is_of user_data e && not (is_wake_poll kind)) 1 0
 taken_keeps kind s e user_data is = grind (arith, posted_one, woken_keeps, sum_by_push)
 
 all_keeps : (es : List Submission) (s : RingState) (user_data : ℕ) → is_operation user_data ≡ true → operations_in (fold taken_in s es) user_data ≡ operations_in s user_data + count_by (is_staged_of user_data) es

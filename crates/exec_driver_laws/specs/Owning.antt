@@ -10,12 +10,12 @@ abbrev pub is_operation : ℕ → Bool
 is_operation user_data = not (user_data == 18446744073709551615) && not (user_data == 4294967295)
 
 -- an entry is of this user data, and no wake poll
-abbrev pub is_wake : Opcode → Bool
-is_wake Wake = true
-is_wake _ = false
+abbrev pub is_wake_poll : Opcode → Bool
+is_wake_poll Wake = true
+is_wake_poll _ = false
 
 abbrev pub is_staged_of : ℕ → Submission → Bool
-is_staged_of user_data e = is_of user_data e && not (is_wake e.window.kind)
+is_staged_of user_data e = is_of user_data e && not (is_wake_poll e.window.kind)
 
 abbrev pub is_posted_of : ℕ → Posted → Bool
 is_posted_of user_data p = p.completion.user_data == user_data
