@@ -1,8 +1,8 @@
 -- What each step of a driver does, and what it leaves to be told.
-use Rattle.std.specs.Prelude.{◌≡◌, ℕ, Bool, true, false, ◌+◌, ◌-◌, ◌^◌, ◌==◌, ◌&&◌, ◌||◌, List, [], ◌∷◌, ◌++◌, nat_lt, nat_le, min, Option, Some, None, Result, Ok, Err, is_some, IsSomeAnd, if◌then◌else◌}
+use Rattle.std.specs.Prelude.{◌≡◌, ℕ, Bool, true, false, ◌+◌, ◌-◌, ◌^◌, ◌≤◌, ◌==◌, ◌&&◌, ◌||◌, List, [], ◌∷◌, ◌++◌, nat_lt, nat_le, min, Option, Some, None, Result, Ok, Err, is_some, IsSomeAnd, if◌then◌else◌}
 use Rattle.exec_base.specs.{Slab.{Slab, value_at, written, inserted}, declared.{error.{Cause.TheVariants.InvalidInput, Error.{Error, TheVariants.{Timeout, Io}}}, slab.Id.Id}}
-use Rattle.exec_outcomes.specs.{Accounts.Account, declared.outcome.{OpResult.OpResult, Judged.Judged}, Outcomes.{HasCome, is_unsupported}}
-use Rattle.exec_request.specs.{Hints.{AsksOn, has_hint, without_hint}, Judging.{Judges, judged_as}, Kept.kept_of, Requests.{asked_of, cursor_of, hinted_of, deadline_of, gate_of, record_after, window_by, outcome_if_granted}, States.{Ended, as_answer, asks_cancel, told_by}, Windows.{cancel_window, wake_window}, declared.{request.Request.{Request, TheVariants.WriteAt}, results.WaiterState.TheVariants.Active, write_at.WriteAtState.{WriteAtState, TheVariants.Writing}}}
+use Rattle.exec_outcomes.specs.{Accounts.Account, Lawful.window_of, declared.outcome.{OpResult.OpResult, Judged.Judged}, Outcomes.{HasCome, is_unsupported}}
+use Rattle.exec_request.specs.{Hints.{AsksOn, has_hint, without_hint}, Judging.{Judges, judged_as}, Kept.kept_of, Requests.{asked_of, cursor_of, hinted_of, deadline_of, gate_of, record_after, window_by, outcome_if_granted}, States.{Ended, as_answer, asks_cancel, told_by}, Windows.{cancel_window, most_of, wake_window}, declared.{request.Request.{Request, TheVariants.WriteAt}, results.WaiterState.TheVariants.Active, write_at.WriteAtState.{WriteAtState, TheVariants.Writing}}}
 use Rattle.exec_ring.specs.{Completions.result_in, Kernels.{with_entry, entered_with, reaped, next_completion, flight_of, landed}, Rings.fresh as fresh_ring, declared.{store.Store.Store, completion.{Completion.Completion, Posted.Posted, Submission.Submission}}}
 use Rattle.exec_time.specs.{Wheel.{Wheel, fresh, target_of, moment_of, scheduled, removed}, Layouts.slots_of, Turning.advanced}
 use Rattle.exec_waiters.specs.{Events.{admitted, finished, told_by_finish, cancelled, with_permit, with_tick, orphaned, asks_cancel_by_orphan, is_lawful_for, Lands}, Ids.user_data_of, States.{waiter_at, named, tick_in, file_of, gate_in}, Told.{Told, nothing_told, Tells}, declared.{deferred.Deferred.Deferred, observer.Observer.Observer, waiter.{Waiter.Waiter, Entry.{Entry, TheVariants.Pending}}, waiter_id.WaiterId.WaiterId}}
@@ -285,6 +285,7 @@ module _ {S F : Type 0} where
     pub window : entry.window ≡ window_by (has_hint account) w.request
     pub hint : hinted_of request ≡ entry.window.hint
     pub again : window_by true request ≡ entry.window
+    pub fits : most_of entry.window ≤ window_of (asked_of request) (cursor_of request)
     pub goes_on : (results : List Judged) → HasCome (asked_of w.request) (cursor_of w.request) results → HasCome (asked_of request) (cursor_of request) results
     pub asks : AsksOn (cursor_of w.request).hinted (cursor_of request).hinted (has_hint account)
     pub kept : kept_of request ≡ kept_of w.request

@@ -121,8 +121,8 @@ module _ {S F : Type 0} where
   failure_stays worker old new g g' (Expire id first is same) file error unset fails = by_gates g' g file error same fails
   failure_stays worker old new g g' (Enrol before after id w deadline now told first at timed enrols same) file error unset fails = by_gates g' g file error same fails
   failure_stays worker old new g g' (Stage id w account first at stages same) file error unset fails = by_gates g' g file error same fails
-  failure_stays worker old new g g' (Land id w given store store' at lands same) file error unset fails = by_gates g' g file error same fails
-  failure_stays worker old new g g' (Other is keeps places same) file error unset fails = by_gates g' g file error same fails
+  failure_stays worker old new g g' (Land id w given store store' at may lands same) file error unset fails = by_gates g' g file error same fails
+  failure_stays worker old new g g' (Other is keeps lawful places same) file error unset fails = by_gates g' g file error same fails
 
   -- OVER A RUN
 

@@ -77,5 +77,5 @@ module _ {S F : Type 0} where
   holds_on worker old new g g' (Expire id first is same) file key stays holds = by_gates g' g file key same holds
   holds_on worker old new g g' (Enrol before after id w deadline now told first at timed enrols same) file key stays holds = by_gates g' g file key same holds
   holds_on worker old new g g' (Stage id w account first at stages same) file key stays holds = by_gates g' g file key same holds
-  holds_on worker old new g g' (Land id w given store store' at lands same) file key stays holds = by_gates g' g file key same holds
-  holds_on worker old new g g' (Other is keeps places same) file key stays holds = by_gates g' g file key same holds
+  holds_on worker old new g g' (Land id w given store store' at may lands same) file key stays holds = by_gates g' g file key same holds
+  holds_on worker old new g g' (Other is keeps lawful places same) file key stays holds = by_gates g' g file key same holds

@@ -174,7 +174,7 @@ module _ {S F : Type 0} where
       subst (λ (m : Driving S F). Spared m.requests (key_of worker j) (option_map (λ how. (key_of worker gone, how)) granted.ended)) (sym (grants.grants w there).driver)
       (over_lasts (permitted old gone w) worker gone j w' granted.ended (account_in g.opens (file_of w.request)) now (became_lasts old.requests gone.0 w w' there refl j.0 at))
   call_lasts worker old new g g' (Stage id w account first there stages same) spared j at = inl (kept old new _ stages.driver (became_lasts old.requests id.0 w _ there (alone_kept w.request stages.request stages.kept)) j at)
-  call_lasts worker old new g g' (Land id w given store store' there lands same) spared j at =
+  call_lasts worker old new g g' (Land id w given store store' there may lands same) spared j at =
       let moved = alone_moved _ given w.request lands.lands.request store store' lands.lands.moved in
       inl (ap (λ (s : Slab (Entry S F)). lasts (waiter_at s j.0)) lands.lands.slab ∙ became_lasts old.requests id.0 w (record w { request = lands.lands.request }) there moved j.0 at)
   call_lasts worker old new g g' (Reap before after told reap leaving) spared j at =
@@ -196,7 +196,7 @@ module _ {S F : Type 0} where
   call_lasts worker old new g g' (SetAccount file account same is) spared j at = inl (kept old new old same (λ i was. was) j at)
   call_lasts worker old new g g' (Recount file change keeps same is) spared j at = inl (kept old new old same (λ i was. was) j at)
   call_lasts worker old new g g' (Leave id file leaves same is) spared j at = inl (kept old new old same (λ i was. was) j at)
-  call_lasts worker old new g g' (Other is keeps places same) spared j at = inl (ap (λ (s : Slab (Entry S F)). lasts (waiter_at s j.0)) is ∙ at)
+  call_lasts worker old new g g' (Other is keeps lawful places same) spared j at = inl (ap (λ (s : Slab (Entry S F)). lasts (waiter_at s j.0)) is ∙ at)
 
   pub ends_told : (drivers : ℕ → ℕ → Driving S F) (g : ℕ → Gates) (run : IsRun drivers g) (n : ℕ) (key : WaiterKey) (w : Waiter S F) → request_at (drivers n key.worker) key.id ≡ Some w → goes_on_alone w.request ≡ true
       → request_at (drivers (suc n) key.worker) key.id ≡ None → IsSomeAnd (end_by (run.next n).call) (λ e. e.0 ≡ key)

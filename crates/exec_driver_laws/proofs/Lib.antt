@@ -1,6 +1,7 @@
 pub mod Everywhere
 pub mod Promises
 pub mod OwningRing
+pub mod LawfulRing
 pub mod OwningSteps
 pub mod Standing
 pub mod Calling
@@ -18,6 +19,9 @@ pub mod Synced
 pub mod Serving
 pub mod OwningCalls
 pub mod OwningRuns
+pub mod Lawfully
 pub mod Placing
 pub mod UnderWay
 pub mod Places
+pub mod Registered
+pub mod Within

@@ -58,7 +58,7 @@ module _ {S F : Type 0} where
       let ends = granted_on d granted.id (with_permit w) granted.ended (account_in g.opens (file_of w.request)) (asking_last d.requests granted.id.0 (with_permit w) now) in
       by_driver old.requests new _ (grants.grants w at).driver (then_on old.requests d.requests _ (became_on old.requests granted.id.0 w (with_permit w) at) ends)
   call_on worker old new g g' (Stage id w account first at stages same) = by_driver old.requests new _ stages.driver (became_on old.requests id.0 w _ at)
-  call_on worker old new g g' (Land id w given store store' at lands same) =
+  call_on worker old new g g' (Land id w given store store' at may lands same) =
       subst (Onward old.requests) (sym lands.lands.slab) (became_on old.requests id.0 w (record w { request = lands.lands.request }) at)
   call_on worker old new g g' (Reap before after told reap leaving) =
       elim (reap_tells old new g.opens g'.opens before after told reap) [
@@ -68,7 +68,7 @@ module _ {S F : Type 0} where
   call_on worker old new g g' (SetAccount file account same is) = by_driver old.requests new old same (unmoved _ _ refl)
   call_on worker old new g g' (Recount file change keeps same is) = by_driver old.requests new old same (unmoved _ _ refl)
   call_on worker old new g g' (Leave id file leaves same is) = by_driver old.requests new old same (unmoved _ _ refl)
-  call_on worker old new g g' (Other is keeps places same) = subst (Onward old.requests) (sym is) (room_on old.requests new.requests.room)
+  call_on worker old new g g' (Other is keeps lawful places same) = subst (Onward old.requests) (sym is) (room_on old.requests new.requests.room)
 
   -- OVER A RUN
 

@@ -44,7 +44,7 @@ few_over n n' None less was = omega (arith, less, was)
 few_over n n' (Some id) less was = omega (arith, less, was)
 
 module _ {S F : Type 0} where
-  idle_queued : (o : Option (Waiter S F)) (w : Waiter S F) → o ≡ Some w → is_queued o ≡ true → w.in_flight ≡ false
+  pub idle_queued : (o : Option (Waiter S F)) (w : Waiter S F) → o ≡ Some w → is_queued o ≡ true → w.in_flight ≡ false
   idle_queued = grind arith
 
   idle_gated : (o : Option (Waiter S F)) (w : Waiter S F) → o ≡ Some w → is_gated o ≡ true → w.in_flight ≡ false
@@ -149,7 +149,7 @@ module _ {S F : Type 0} where
       only worker old new _ None (grants.grants w at).driver (granted_ring old granted.id w granted.ended account) (granted_on old granted.id w granted.ended account at idle)
   call_keeps worker old new g g' (Stage id w account first at stages same) says =
       staged_keeps worker old new None id w account at (idle_queued (request_at old id) w at (says.lists.queued id (first_among id old.lists.queued first))) stages
-  call_keeps worker old new g g' (Land id w given store store' at lands same) says = landed_keeps worker old new None id w given store store' at lands
+  call_keeps worker old new g g' (Land id w given store store' at may lands same) says = landed_keeps worker old new None id w given store store' at lands
   call_keeps worker old new g g' (Reap before after told reap leaving) says =
       elim (reap_tells old new g.opens g'.opens before after told reap) [
         | inl none ↦
@@ -160,7 +160,7 @@ module _ {S F : Type 0} where
   call_keeps worker old new g g' (SetAccount file account same is) says = same_keeps worker old new None same
   call_keeps worker old new g g' (Recount file change keeps same is) says = same_keeps worker old new None same
   call_keeps worker old new g g' (Leave id file leaves same is) says = same_keeps worker old new None same
-  call_keeps worker old new g g' (Other is keeps places same) says = Quiet keeps (λ j. stays (waiter_at old.requests j) (waiter_at new.requests j) (ap (λ (s : Slab (Entry S F)). waiter_at s j) is))
+  call_keeps worker old new g g' (Other is keeps lawful places same) says = Quiet keeps (λ j. stays (waiter_at old.requests j) (waiter_at new.requests j) (ap (λ (s : Slab (Entry S F)). waiter_at s j) is))
 
   -- WHOSE THEY ARE
 
@@ -181,7 +181,7 @@ module _ {S F : Type 0} where
   idle_none : (user_data n : ℕ) (w : Waiter S F) → w.in_flight ≡ false → named_in user_data (Live n (Pending w)) ≡ None
   idle_none = grind arith
 
-  named_idle : (s : Slab (Entry S F)) (id : Id) (w : Waiter S F) → id.index < 4294967296 → waiter_at s id ≡ Some w → w.in_flight ≡ false → named s (user_data_of id) ≡ None
+  pub named_idle : (s : Slab (Entry S F)) (id : Id) (w : Waiter S F) → id.index < 4294967296 → waiter_at s id ≡ Some w → w.in_flight ≡ false → named s (user_data_of id) ≡ None
   named_idle s id w within at idle =
       ap (λ (i : ℕ). named_in (user_data_of id) (slot_at s i)) (index_own id within) ∙ ap (named_in (user_data_of id)) (at_by s id (Pending w) (entry_of _ w at)).slot ∙ idle_none (user_data_of id) id.generation w idle
 

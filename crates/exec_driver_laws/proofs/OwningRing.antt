@@ -16,7 +16,7 @@ use Rattle.exec_driver_laws.specs.Waiting.{KeepsPlaces}
 use Rattle.exec_driver_laws.specs.Owning.{is_operation, is_posted_of, is_staged_of, is_wake_poll, operations_in, KeepsOperations}
 
 -- an operation is no wake, and no cancel
-no_control : (user_data : ℕ) → is_operation user_data ≡ true → (eqb 18446744073709551615 user_data ≡ false) × (eqb 4294967295 user_data ≡ false)
+pub no_control : (user_data : ℕ) → is_operation user_data ≡ true → (eqb 18446744073709551615 user_data ≡ false) × (eqb 4294967295 user_data ≡ false)
 no_control = grind (arith, eqb_tells)
 
 control_apart : (p : Posted) (user_data : ℕ) → is_operation user_data ≡ true → is_control p.completion ≡ true → is_posted_of user_data p ≡ false
@@ -52,7 +52,7 @@ pub all_taken_keeps : (s : RingState) → KeepsOperations s (all_taken s)
 all_taken_keeps s user_data is = omega (arith, all_keeps s.staged (record s { staged = [] }) user_data is)
 
 -- the last that passes, where one does
-last_passes : {X : Type 0} (p : X → Bool) (xs : List X) (x : X) → slice_get xs (last_place p xs) ≡ Some x → p x ≡ true
+pub last_passes : {X : Type 0} (p : X → Bool) (xs : List X) (x : X) → slice_get xs (last_place p xs) ≡ Some x → p x ≡ true
 last_passes p [] x is = absurd (cc)
 last_passes p (y ∷ ys) x is = grind (arith, last_passes p ys x)
 

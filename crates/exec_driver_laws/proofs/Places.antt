@@ -1,11 +1,10 @@
 -- The worked examples of where requests are.
-use Rattle.std.proofs.Common.{◌≡◌, [], ◌∷◌, true, refl, subst, inl, inr, arith}
-use Rattle.std.proofs.lemmas.{Bool.false≢true, Option.same_Some}
-use Rattle.exec_outcomes.specs.declared.outcome.OpResult.TheVariants.{Count, Errno}
+use Rattle.std.proofs.Common.{◌≡◌, [], ◌∷◌, true, refl, inl, inr, arith}
+use Rattle.std.proofs.lemmas.Bool.{false≢true}
 use Rattle.exec_waiters.specs.Examples.{here, poll, sync}
-use Rattle.exec_driver.specs.{Examples.{first, with_one}, Steps.{completed_in, newcomer}}
-use Rattle.exec_driver.proofs.Words.{Completion, eqb_tells, is_some}
-use Rattle.exec_driver_laws.specs.{OwningExamples.{answered, its_entry, polling}, Waiting.{ArePlaced, AreTimed, AreUnderWay, CompletesLawfully, KeepsPlaces, Waits}}
+use Rattle.exec_driver.specs.{Examples.{first, with_one}, Steps.newcomer}
+use Rattle.exec_driver.proofs.Words.{eqb_tells}
+use Rattle.exec_driver_laws.specs.{OwningExamples.{its_entry, polling}, Waiting.{ArePlaced, AreTimed, AreUnderWay, KeepsPlaces, Waits}}
 use Rattle.exec_lists.specs.Lists.{no_lists, with_due, with_enrolment, with_gated}
 
 pub placed : ArePlaced (with_one poll 0)
@@ -29,12 +28,6 @@ there = grind (arith, eqb_tells)
 
 pub lost : AreUnderWay (polling true []) → ⊥
 lost all = let none : 0 ≡ 1 = all first (record (newcomer poll here) { in_flight = true }) refl refl in absurd (omega (arith, none))
-
-pub lawful : CompletesLawfully (answered (Count 1))
-lawful c next named = subst (λ (c : Completion). is_some (completed_in (answered (Count 1)) c) ≡ true) (same_Some _ c next) refl
-
-pub unlawful : CompletesLawfully (answered (Errno 5000)) → ⊥
-unlawful all = absurd (false≢true (all _ refl refl))
 
 pub queued : Waits (with_one poll 0) first (newcomer poll here)
 queued = inl (refl, refl)

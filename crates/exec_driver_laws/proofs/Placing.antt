@@ -109,7 +109,7 @@ module _ {S F : Type 0} (timed : Bool) where
   call_on worker old new g g' (Stage id w account first at stages same) all =
       let here : stands (after_queued old.lists) id (Some (record w { in_flight = true; request = stages.request })) ≡ true = grind (arith, deadline_same w.request stages.request stages.kept, all id, at) in
       subst On (sym stages.driver) (written_all (stands (after_queued old.lists)) (λ j. refl) id old.requests (Pending (record w { in_flight = true; request = stages.request })) here (λ j other. grind (arith, all j, first)))
-  call_on worker old new g g' (Land id w given store store' at lands same) all = grind (arith, became (stands old.lists) (λ j. refl) id old.requests, deadline_moved)
+  call_on worker old new g g' (Land id w given store store' at may lands same) all = grind (arith, became (stands old.lists) (λ j. refl) id old.requests, deadline_moved)
   call_on worker old new g g' (Reap before after told reap leaving) all =
       elim (reap_tells old new g.opens g'.opens before after told reap) [
         | inl none ↦ moved_on old new none.requests none.lists all
@@ -118,7 +118,7 @@ module _ {S F : Type 0} (timed : Bool) where
   call_on worker old new g g' (SetAccount file account same is) all = subst On (sym same) all
   call_on worker old new g g' (Recount file change keeps same is) all = subst On (sym same) all
   call_on worker old new g g' (Leave id file leaves same is) all = subst On (sym same) all
-  call_on worker old new g g' (Other is keeps places same) all = grind arith
+  call_on worker old new g g' (Other is keeps lawful places same) all = grind arith
 
 module _ {S F : Type 0} where
   -- ALL DRIVERS

@@ -8,8 +8,8 @@ use Rattle.exec_driver.proofs.Words.{eqb_tells, Deferred, Waiter, WaiterId, Driv
 use Rattle.exec_opens.specs.declared.opens.WaiterKey.{WaiterKey}
 use Rattle.exec_driver_laws.specs.Sharing.{Gates, LineUp, Call, Expire, Enrol, Grant, Stage, Reap, Leave, Other, key_of, with_leaving, leaving_by, passed_on}
 use Rattle.exec_driver_laws.specs.Serving.{Calls, NoCall, NextCall, IsCalls}
-use Rattle.exec_driver_laws.proofs.{OwningRing.{cancel_keeps, poll_keeps, enter_keeps, advance_keeps, advance_places, keeps_same}, Uncancelled.first_among, Sharing.line_up_kept}
-use Rattle.exec_driver_laws.specs.{Owning.KeepsOperations, Waiting.KeepsPlaces}
+use Rattle.exec_driver_laws.proofs.{LawfulRing.{cancel_within, poll_within, enter_within}, OwningRing.{cancel_keeps, poll_keeps, enter_keeps, advance_keeps, advance_places, keeps_same}, Uncancelled.first_among, Sharing.line_up_kept}
+use Rattle.exec_driver_laws.specs.{Lawful.EndsLawfully, Owning.KeepsOperations, Waiting.KeepsPlaces}
 use Rattle.exec_lists.specs.Lists.{Lists}
 use Rattle.exec_ring.specs.Rings.{RingState}
 
@@ -33,9 +33,9 @@ module _ {S F : Type 0} where
   timed_is : (o : Option (Waiter S F)) → is_unenrolled o ≡ true → (w : Waiter S F) × (o ≡ Some w) × (deadline : ℕ) × (deadline_of w.request ≡ Some deadline)
   timed_is = grind arith
 
-  others : (worker : ℕ) (old new d : Driving S F) (h : Gates) → new ≡ with_landings new d → d.requests ≡ old.requests → KeepsOperations old.ring d.ring → KeepsPlaces old.lists d.lists → Call worker old new h h
-  others worker old new d h is same keeps places =
-      Other (grind arith) (subst (λ (r : RingState). KeepsOperations old.ring r) (sym (ap (λ (m : Driving S F). m.ring) is)) keeps) (subst (λ (l : Lists). KeepsPlaces old.lists l) (sym (ap (λ (m : Driving S F). m.lists) is)) places) refl
+  others : (worker : ℕ) (old new d : Driving S F) (h : Gates) → new ≡ with_landings new d → d.requests ≡ old.requests → KeepsOperations old.ring d.ring → EndsLawfully old.ring d.ring → KeepsPlaces old.lists d.lists → Call worker old new h h
+  others worker old new d h is same keeps lawful places =
+      Other (grind arith) (subst (λ (r : RingState). KeepsOperations old.ring r) (sym (ap (λ (m : Driving S F). m.ring) is)) keeps) (subst (λ (r : RingState). EndsLawfully old.ring r) (sym (ap (λ (m : Driving S F). m.ring) is)) lawful) (subst (λ (l : Lists). KeepsPlaces old.lists l) (sym (ap (λ (m : Driving S F). m.lists) is)) places) refl
 
   -- such calls lead to a driver that says what each says
   abbrev Leads : (worker : ℕ) (old d : Driving S F) (g : Gates) (opens : List OpenState) → Type 0
@@ -93,11 +93,11 @@ module _ {S F : Type 0} where
       let there = queued_is (request_at a id) (leads.0.lists.queued id (first_among id a.lists.queued first)) in
       plain worker old a b g opens (λ h. Stage id there.0 (account_in opens (file_of there.0.request)) first there.1 (stages there.0 there.1) refl) says leads
   stages_one worker old g opens a b (Cancel id room first is) says leads =
-      plain worker old a b g opens (λ h. others worker a b (cancel_staged a id) h is refl (cancel_keeps a id) (record { queued = refl; gated = refl; enrolments = refl })) says leads
+      plain worker old a b g opens (λ h. others worker a b (cancel_staged a id) h is refl (cancel_keeps a id) (cancel_within a id) (record { queued = refl; gated = refl; enrolments = refl })) says leads
   stages_one worker old g opens a b (WakePoll room none may unarmed is) says leads =
-      plain worker old a b g opens (λ h. others worker a b (poll_staged a) h is refl (poll_keeps a) (record { queued = refl; gated = refl; enrolments = refl })) says leads
+      plain worker old a b g opens (λ h. others worker a b (poll_staged a) h is refl (poll_keeps a) (poll_within a) (record { queued = refl; gated = refl; enrolments = refl })) says leads
   stages_one worker old g opens a b (Enter full unstaged calm is) says leads =
-      plain worker old a b g opens (λ h. others worker a b (entered a) h is refl (enter_keeps a leads.0.lands) (record { queued = refl; gated = refl; enrolments = refl })) says leads
+      plain worker old a b g opens (λ h. others worker a b (entered a) h is refl (enter_keeps a leads.0.lands) (enter_within a leads.0.lands) (record { queued = refl; gated = refl; enrolments = refl })) says leads
 
   -- ALL STEPS
 
@@ -105,29 +105,29 @@ module _ {S F : Type 0} where
   staged_all worker old g opens a b (Staged steps done) before = along (λ d. Leads worker old d g opens) (λ d d' step. stages_one worker old g opens d d' step.0 step.1) steps before
   staged_all worker old g opens a b (Busy full says steps is unstaged busy enters) before =
       let way = along (λ d. Leads worker old d g opens) (λ d d' step. stages_one worker old g opens d d' step.0 step.1) steps before in
-      plain worker old full b g opens (λ h. others worker full b (entered full) h enters refl (enter_keeps full way.0.lands) (record { queued = refl; gated = refl; enrolments = refl })) says way
+      plain worker old full b g opens (λ h. others worker full b (entered full) h enters refl (enter_keeps full way.0.lands) (enter_within full way.0.lands) (record { queued = refl; gated = refl; enrolments = refl })) says way
 
   grants_all : (worker : ℕ) (old : Driving S F) (g : Gates) (first : Reached S F) (end : ℕ) (last : Reached S F) → GrantsBelow worker first end last → Leads worker old first.driver g first.opens → Leads worker old last.driver g last.opens
   grants_all worker old g first end last NoGate before = before
   grants_all worker old g first end last (NextGate from file a b steps lowest grants) before = grants_one worker file old g a b grants (grants_all worker old g first from a steps before)
 
-  entered_same : (enters : Bool) (d : Driving S F) → Says d → ((entered_if enters d).requests ≡ d.requests) × KeepsOperations d.ring (entered_if enters d).ring × KeepsPlaces d.lists (entered_if enters d).lists
-  entered_same true d says = (refl, enter_keeps d says.lands, record { queued = refl; gated = refl; enrolments = refl })
-  entered_same false d says = (refl, keeps_same d.ring d.ring refl, record { queued = refl; gated = refl; enrolments = refl })
+  entered_same : (enters : Bool) (d : Driving S F) → Says d → ((entered_if enters d).requests ≡ d.requests) × KeepsOperations d.ring (entered_if enters d).ring × EndsLawfully d.ring (entered_if enters d).ring × KeepsPlaces d.lists (entered_if enters d).lists
+  entered_same true d says = (refl, enter_keeps d says.lands, enter_within d says.lands, record { queued = refl; gated = refl; enrolments = refl })
+  entered_same false d says = (refl, keeps_same d.ring d.ring refl, λ user_data most is was. was, record { queued = refl; gated = refl; enrolments = refl })
 
   pub service_calls : (worker now : ℕ) (defer answer : Bool) (old new : Reached S F) (g : Gates) → ServesInOrder worker now defer answer old new → g.opens ≡ old.opens → IsCalls worker old.driver new.driver g new.opens
   service_calls worker now defer answer old new g s opens =
       let start : Leads worker old.driver old.driver g old.opens = (s.says, record { gates = g; opens_after = opens; calls = NoCall }) in
       let reaped = along (λ r. Leads worker old.driver r.driver g r.opens) (reaps_one worker old.driver g) s.reaps start in
       let moved = advanced_to s.reaped.driver now in
-      let turned = plain worker old.driver s.reaped.driver moved g s.reaped.opens (λ h. others worker s.reaped.driver moved moved h refl refl (advance_keeps s.reaped.driver now) (advance_places s.reaped.driver now)) s.says_turned reaped in
+      let turned = plain worker old.driver s.reaped.driver moved g s.reaped.opens (λ h. others worker s.reaped.driver moved moved h refl refl (advance_keeps s.reaped.driver now) (λ user_data most is was. was) (advance_places s.reaped.driver now)) s.says_turned reaped in
       let told = along (λ x. Leads worker old.driver x.0 g s.reaped.opens) (expires_one worker old.driver g s.reaped.opens) s.expires turned in
       let enrolled = along (λ x. Leads worker old.driver x.0 g s.reaped.opens) (enrols_one worker now old.driver g s.reaped.opens) s.enrols told in
       let granted = grants_all worker old.driver g _ s.grants.end s.granted s.grants.below enrolled in
       let staged = staged_all worker old.driver g s.granted.opens s.granted.driver s.staged s.stages granted in
       let enters = must_enter s.staged defer s.granted.told in
       let same = entered_same enters s.staged staged.0 in
-      let worked = plain worker old.driver s.staged s.worked g s.granted.opens (λ h. others worker s.staged s.worked (entered_if enters s.staged) h s.works same.0 same.1 same.2) s.says_worked staged in
+      let worked = plain worker old.driver s.staged s.worked g s.granted.opens (λ h. others worker s.staged s.worked (entered_if enters s.staged) h s.works same.0 same.1 same.2 same.3) s.says_worked staged in
       (along (λ r. Leads worker old.driver r.driver g r.opens) (reaps_one worker old.driver g) s.reaps_again worked).1
 
   same_drivers : (worker : ℕ) (drivers drivers' : ℕ → Driving S F) → drivers worker ≡ drivers' worker → ((other : ℕ) → other ≢ worker → drivers' other ≡ drivers other) → (n : ℕ) → drivers n ≡ drivers' n

@@ -236,7 +236,7 @@ module _ {S F : Type 0} where
   call_keeps worker old new g g' stand (Grant before after file granted w at grants leaving) = granted_keeps worker old new g g' before after file granted w at grants leaving stand
   call_keeps worker old new g g' stand (Stage id w account first at stages same) =
       by_driver worker new _ g g' same stages.driver stand.hold (becomes g worker old.requests id w _ at (gate_kept w.request stages.request stages.kept) (λ has. has) stand.all)
-  call_keeps worker old new g g' stand (Land id w given store store' at lands same) = grind (arith, becomes, gate_moved, by_lines, unmoved)
+  call_keeps worker old new g g' stand (Land id w given store store' at may lands same) = grind (arith, becomes, gate_moved, by_lines, unmoved)
   call_keeps worker old new g g' stand (Reap before after told reap leaving) = reap_keeps worker old new g g' before after told reap leaving stand
   call_keeps worker old new g g' stand (SetAccount file account same is) =
       subst (λ (m : Driving S F). Keeps worker m.requests g g') (sym same) (by_lines worker old.requests g g' (set_account_lines g g' file account is) stand.hold stand.all)
@@ -244,7 +244,7 @@ module _ {S F : Type 0} where
       subst (λ (m : Driving S F). Keeps worker m.requests g g') (sym same) (by_lines worker old.requests g g' (recounted_lines g g' file change keeps is) stand.hold stand.all)
   call_keeps worker old new g g' stand (Leave id file leaves same is) =
       subst (λ (h : Gates). Keeps worker new.requests g h) (sym is) (subst (λ (m : Driving S F). Keeps worker m.requests g (passed_on g file)) (sym same) (left_keeps worker old g (key_of worker id) file leaves stand))
-  call_keeps worker old new g g' stand (Other is keeps places same) =
+  call_keeps worker old new g g' stand (Other is keeps lawful places same) =
       subst (λ (s : Slab (Entry S F)). Keeps worker s g g') (sym is) (by_lines worker _ g g' (unmoved g g' same) stand.hold (room_fits g worker old.requests new.requests.room stand.all))
 
   -- ALL DRIVERS

@@ -64,7 +64,7 @@ others_idle = grind (arith, eqb_tells)
 
 -- a call that changes no request, and drivers at first
 abbrev resting : (worker : ℕ) (d : Driving ℕ ℕ) (g : Gates) → Call worker d d g g
-resting worker d g = Other refl (λ user_data is. refl) (record { queued = refl; gated = refl; enrolments = refl }) refl
+resting worker d g = Other refl (λ user_data is. refl) (λ user_data most is was. was) (record { queued = refl; gated = refl; enrolments = refl }) refl
 
 fresh_of : (drivers : ℕ → Driving ℕ ℕ) → ((worker : ℕ) → drivers worker ≡ idle) → AreFresh drivers fresh_gates
 fresh_of drivers are =

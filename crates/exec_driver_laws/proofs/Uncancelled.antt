@@ -93,7 +93,7 @@ module _ {S F : Type 0} where
       let permits = became_whole old.requests granted.id w (with_permit w) at refl refl spared.none in
       by_driver new _ (grants.grants w at).driver (granted_whole (permitted old granted.id w) granted.id (with_permit w) granted.ended (account_in g.opens (file_of w.request)) permits)
   call_whole worker old new g g' spared (Stage id w account first at stages same) = by_driver new _ stages.driver (became_whole old.requests id w _ at (alone_kept w.request stages.request stages.kept) refl spared.none)
-  call_whole worker old new g g' spared (Land id w given store store' at lands same) = grind (arith, became_whole, alone_moved)
+  call_whole worker old new g g' spared (Land id w given store store' at may lands same) = grind (arith, became_whole, alone_moved)
   call_whole worker old new g g' spared (Reap before after told reap leaving) =
       elim (reap_tells old new g.opens g'.opens before after told reap) [
         | inl same ↦ subst NoneBroken (sym same.requests) spared.none
@@ -102,7 +102,7 @@ module _ {S F : Type 0} where
   call_whole worker old new g g' spared (SetAccount file account same is) = by_driver new old same spared.none
   call_whole worker old new g g' spared (Recount file change keeps same is) = by_driver new old same spared.none
   call_whole worker old new g g' spared (Leave id file leaves same is) = by_driver new old same spared.none
-  call_whole worker old new g g' spared (Other is keeps places same) = λ id. ap (λ (s : Slab (Entry S F)). is_whole id (waiter_at s id.0)) is ∙ spared.none id
+  call_whole worker old new g g' spared (Other is keeps lawful places same) = λ id. ap (λ (s : Slab (Entry S F)). is_whole id (waiter_at s id.0)) is ∙ spared.none id
 
   -- ALL DRIVERS
 

@@ -4,8 +4,8 @@ use Rattle.std.proofs.lemmas.{Bool.false≢true, Option.same_Some}
 use Rattle.exec_waiters.specs.{Ids.user_data_of, States.named}
 use Rattle.exec_driver.proofs.Words.{Ended, Id, WaiterId, Driving, request_at, waiter_at, is_flying, is_some, eqb_tells}
 use Rattle.exec_opens.specs.declared.opens.WaiterKey.{WaiterKey}
-use Rattle.exec_driver_laws.specs.{Owning.{is_operation, operations_in, IsOwned}, Sharing.{Gates, AreFresh, IsRun, end_by_reap}, Waiting.{AreUnderWay, CompletesLawfully}}
-use Rattle.exec_driver_laws.proofs.Everywhere.{each}
+use Rattle.exec_driver_laws.specs.{Owning.{is_operation, operations_in, IsOwned}, Lawful.CompletesLawfully, Sharing.{Gates, AreFresh, IsRun, end_by_reap}, Waiting.AreUnderWay}
+use Rattle.exec_driver_laws.proofs.{Everywhere.each, Lawfully.lawfully}
 use Rattle.exec_driver_laws.proofs.{OwningCalls.{Keeps, Quiet, Loses, Arrives, Comes, Goes, call_keeps, flying_some, named_back}, OwningRuns.{always, says_always, names_operation}, OwningSteps.{flew_before, same_ids}, Standing.{none_past, reads}}
 
 module _ {S F : Type 0} where
@@ -69,10 +69,10 @@ module _ {S F : Type 0} where
       let keeps = call_keeps calls.worker _ _ _ _ calls.call (says_always drivers g run n calls.worker) in
       each Flown calls (call_flown calls.worker _ _ (end_by_reap calls.call) keeps (always drivers g run n calls.worker) (lawful n calls.worker) (before calls.worker)) before i
 
-  pub under_way : (drivers : ℕ → ℕ → Driving S F) (g : ℕ → Gates) → IsRun drivers g → ((n i : ℕ) → CompletesLawfully (drivers n i)) → (n i : ℕ) → AreUnderWay (drivers n i)
-  under_way drivers g run lawful n i id w at flies =
+  pub under_way : (drivers : ℕ → ℕ → Driving S F) (g : ℕ → Gates) → IsRun drivers g → (n i : ℕ) → AreUnderWay (drivers n i)
+  under_way drivers g run n i id w at flies =
       let there = ap is_flying at ∙ flies in
       let owned = always drivers g run n i in
       let here = own (drivers n i) owned id there in
       let few = owned.owned (user_data_of id.0) here.0 in
-      omega (arith, flown_always drivers g run lawful n i id there, rw here.1 at few)
+      omega (arith, flown_always drivers g run (lawfully drivers g run) n i id there, rw here.1 at few)

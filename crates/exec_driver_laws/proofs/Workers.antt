@@ -25,7 +25,7 @@ says = record { permitted = grind arith; lists = grind arith; dated = grind arit
 
 abbrev calling : (n : ℕ) → CallsOne (no_requests n) (no_requests (suc n)) (spoiling n) (spoiling (suc n))
 calling zero = record { worker = 0; call = SetAccount (Some 1) spoiled refl refl; says = says; others = λ other apart. refl }
-calling (suc n) = record { worker = 0; call = Other refl (λ user_data is. refl) (record { queued = refl; gated = refl; enrolments = refl }) refl; says = says; others = λ other apart. refl }
+calling (suc n) = record { worker = 0; call = Other refl (λ user_data is. refl) (λ user_data most is was. was) (record { queued = refl; gated = refl; enrolments = refl }) refl; says = says; others = λ other apart. refl }
 
 unset : (k : ℕ) → 1 ≤ k → sets_account_of (calling k).call ≢ Some 1
 unset zero past = omega (arith, past)

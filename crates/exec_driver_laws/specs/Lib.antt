@@ -1,6 +1,7 @@
 pub mod Laws
 pub mod Lines
 pub mod Owning
+pub mod Lawful
 pub mod Waiting
 pub mod OwningExamples
 pub mod Sharing

@@ -1,14 +1,14 @@
 -- What a worker does to its driver and the opens, one call after the other, and what drivers that share gates go on with.
-use Rattle.std.specs.Prelude.{◌≡◌, ◌≢◌, ◌⊎◌, ℕ, suc, ◌^◌, ◌<◌, ◌≤◌, ◌==◌, List, [], replicate, Option, Some, None, if◌then◌else◌}
+use Rattle.std.specs.Prelude.{◌≡◌, ◌≢◌, ◌⊎◌, ℕ, suc, true, ◌^◌, ◌<◌, ◌≤◌, ◌==◌, List, [], replicate, Option, Some, None, if◌then◌else◌}
 use Rattle.std.specs.{List.{Contains}, Option.{option_map}}
 use Rattle.exec_base.specs.{Slab.{Slab, next_id, IsPast}, declared.{error.Error.Error, task_no.TaskNo.TaskNo}}
 use Rattle.exec_outcomes.specs.{Accounts.Account, declared.outcome.OpResult.OpResult}
 use Rattle.exec_request.specs.{Requests.{gate_of, deadline_of}, States.Ended, declared.request.Request.Request}
-use Rattle.exec_ring.specs.declared.store.Store.{Store}
-use Rattle.exec_waiters.specs.{Events.{changed, with_waker, taken, forwarded}, States.gate_in, declared.{deferred.Deferred.Deferred, observer.Observer.Observer, waiter.{Entry.Entry, Waiter.Waiter}, waiter_id.WaiterId.WaiterId}}
+use Rattle.exec_ring.specs.{Kernels.may_land, declared.store.Store.Store}
+use Rattle.exec_waiters.specs.{Events.{changed, with_waker, taken, forwarded}, Ids.user_data_of, States.gate_in, declared.{deferred.Deferred.Deferred, observer.Observer.Observer, waiter.{Entry.Entry, Waiter.Waiter}, waiter_id.WaiterId.WaiterId}}
 use Rattle.exec_driver.specs.{Admission.Admits, Driving.{Driving, request_at}, Placed.Says}
 use Rattle.exec_driver.specs.{Service.permit_by, Steps.{let_go, expired, EnrolsAs, Grants, StagesOne, LandsOne, ReapsNext}, declared.driver.{reaping.Reaped.Reaped, staging.Granted.Granted}}
-use Rattle.exec_driver_laws.specs.{Laws.{ShareGates, failure_at}, Lines.KeepsLine, Owning.{HasNoOperation, KeepsOperations}, Waiting.KeepsPlaces}
+use Rattle.exec_driver_laws.specs.{Laws.{ShareGates, failure_at}, Lawful.EndsLawfully, Lines.KeepsLine, Owning.{HasNoOperation, KeepsOperations}, Waiting.KeepsPlaces}
 use Rattle.exec_lists.specs.Lists.{first_of}
 use Rattle.exec_opens.specs.{Opens.{OpenState, fresh_open, open_at, holder_at, with_open, with_named, with_account, joined, passed}, declared.opens.WaiterKey.WaiterKey}
 
@@ -70,8 +70,9 @@ module _ {S F : Type 0} where
     pub over : (key : WaiterKey) (file : ℕ) → g.leaving file ≡ Some key → request_at (drivers key.worker) key.id ≡ None
 
   -- A call that a worker makes on its driver or on the opens, with what the calls of a driver answer. Who leaves a gate
-  -- was told so by a reap or a grant. `Other` is every call that leaves the requests, the operations of the ring, and what is
-  -- to be staged, waits at gates or is to be enrolled: it moves the wheel, the rest of the ring and of the lists, or the rooms.
+  -- was told so by a reap or a grant. A close of a driver is an `Orphan`. `Other` is every call that leaves the requests,
+  -- the operations of the ring, which go on or end lawfully, and what is to be staged, waits at gates or is to be
+  -- enrolled: it moves the wheel, the rest of the ring and of the lists, or the rooms.
   pub data Call (worker : ℕ) (old new : Driving S F) (g g' : Gates) : Type 0 where
     Admit : (id : WaiterId) (request : Request) (observer : Observer S F) (now : ℕ) → next_id old.requests ≡ Some id.0 → id.0.index < 4294967295 → (IsPast old.requests id.0 → ⊥) → Admits old new g.opens g'.opens id request observer now → g'.leaving ≡ g.leaving → Call worker old new g g'
     Join : (id : WaiterId) → id.0.generation < 2 ^ 64 → new ≡ old → g' ≡ with_lines g (with_named g.opens (gate_in (request_at old id)) (joined (key_of worker id))) → Call worker old new g g'
@@ -84,13 +85,13 @@ module _ {S F : Type 0} where
         → EnrolsAs old new before after id w deadline now told → g' ≡ g → Call worker old new g g'
     Grant : (before after : Deferred S F) (file : ℕ) (granted : Granted) (w : Waiter S F) → request_at old granted.id ≡ Some w → Grants old new g.opens g'.opens before after worker file granted → g'.leaving ≡ with_leaving (permit_by file granted) (key_of worker granted.id) g.leaving → Call worker old new g g'
     Stage : (id : WaiterId) (w : Waiter S F) (account : Option Account) → first_of old.lists.queued ≡ Some id → request_at old id ≡ Some w → StagesOne old new id w account → g' ≡ g → Call worker old new g g'
-    Land : (id : WaiterId) (w : Waiter S F) (given : OpResult) (store store' : Store) → request_at old id ≡ Some w → LandsOne old new id w given store store' → g' ≡ g → Call worker old new g g'
+    Land : (id : WaiterId) (w : Waiter S F) (given : OpResult) (store store' : Store) → request_at old id ≡ Some w → may_land old.ring (user_data_of id.0) given ≡ true → LandsOne old new id w given store store' → g' ≡ g → Call worker old new g g'
     Reap : (before after : Deferred S F) (told : Option Reaped) → ReapsNext old new g.opens g'.opens before after told → g'.leaving ≡ leaving_by worker told g.leaving → Call worker old new g g'
     SetAccount : (file : Option ℕ) (account : Option Account) → new ≡ old → g' ≡ with_lines g (with_account g.opens file account) → Call worker old new g g'
     -- a call on an open alone: a place in its line is made or given up, or a write is counted
     Recount : (file : Option ℕ) (change : OpenState → OpenState) → ((o : OpenState) → KeepsLine o (change o)) → new ≡ old → g' ≡ with_lines g (with_named g.opens file change) → Call worker old new g g'
     Leave : (id : WaiterId) (file : ℕ) → g.leaving file ≡ Some (key_of worker id) → new ≡ old → g' ≡ passed_on g file → Call worker old new g g'
-    Other : new.requests ≡ record old.requests { room = new.requests.room } → KeepsOperations old.ring new.ring → KeepsPlaces old.lists new.lists → g' ≡ g → Call worker old new g g'
+    Other : new.requests ≡ record old.requests { room = new.requests.room } → KeepsOperations old.ring new.ring → EndsLawfully old.ring new.ring → KeepsPlaces old.lists new.lists → g' ≡ g → Call worker old new g g'
 
   -- which request has ended, as a reap or a grant says, and how
   abbrev pub end_by : {worker : ℕ} {old new : Driving S F} {g g' : Gates} → Call worker old new g g' → Option (WaiterKey × Ended)

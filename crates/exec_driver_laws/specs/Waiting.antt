@@ -1,10 +1,9 @@
 -- Where a request is that isn't over.
 use Rattle.std.specs.Prelude.{◌≡◌, ◌⊎◌, Bool, true, not, ◌&&◌, ◌||◌, Option, Some, None, is_some, if◌then◌else◌}
 use Rattle.exec_request.specs.Requests.{deadline_of}
-use Rattle.exec_ring.specs.{Kernels.next_completion, declared.completion.Completion.Completion}
-use Rattle.exec_waiters.specs.{Ids.user_data_of, States.{named, needs_permit, takes_tick}, declared.{waiter.Waiter.Waiter, waiter_id.WaiterId.WaiterId}}
+use Rattle.exec_waiters.specs.{Ids.user_data_of, States.{needs_permit, takes_tick}, declared.{waiter.Waiter.Waiter, waiter_id.WaiterId.WaiterId}}
 use Rattle.exec_lists.specs.Lists.{Lists, is_among}
-use Rattle.exec_driver.specs.{Driving.{Driving, request_at, is_queued, is_gated}, Steps.{completed_in, swept}}
+use Rattle.exec_driver.specs.Driving.{Driving, request_at, is_queued, is_gated}
 use Rattle.exec_driver_laws.specs.Owning.{operations_in}
 
 -- what is to be staged, what waits at gates, and whose deadline is to be enrolled stay
@@ -40,7 +39,3 @@ module _ {S F : Type 0} where
   -- the ring has the operation of each request that has one under way
   abbrev pub AreUnderWay : Driving S F → Type 0
   AreUnderWay d = (id : WaiterId) (w : Waiter S F) → request_at d id ≡ Some w → w.in_flight ≡ true → operations_in d.ring (user_data_of id.0) ≡ 1
-
-  -- the first completion that isn't swept out, where it is of an operation under way, is one that this may have
-  abbrev pub CompletesLawfully : Driving S F → Type 0
-  CompletesLawfully d = (c : Completion) → next_completion (swept d).ring ≡ Some c → is_some (named d.requests c.user_data) ≡ true → is_some (completed_in d c) ≡ true

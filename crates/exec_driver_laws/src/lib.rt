@@ -4,8 +4,10 @@
 
 pub mod ends;
 pub mod examples;
+pub mod lawful;
 pub mod laws;
 pub mod lines;
 pub mod owning;
+pub mod registering;
 pub mod runs;
 pub mod waiting;

@@ -7,13 +7,14 @@ ghost use Rattle.exec_request.specs.Windows.{wake_window};
 ghost use Rattle.exec_ring.specs.{Kernels.{MayAllLand, all_taken, with_entry, with_wake}, Rings.RingState, declared.completion.Completion.Completion};
 ghost use Rattle.exec_waiters.specs.{Ids.user_data_of, declared.{waiter.Waiter.Waiter, waiter_id.WaiterId.WaiterId}};
 ghost use Rattle.exec_driver.specs.{Admission.with_rooms, Driving.{Driving, request_at}, Examples.first, Placed.Says, Steps.{advanced_to, cancel_staged, completed_in, entered, poll_staged}};
-ghost use Rattle.exec_driver_laws.specs.{Owning.{is_operation, operations_in, KeepsOperations, is_under_way, IsOwned, HasOwner}, OwningExamples.{polling, its_entry}, Sharing.{Gates, CallsOne, IsRun, end_by_reap}, Waiting.KeepsPlaces};
+ghost use Rattle.exec_driver_laws.specs.{Lawful.EndsLawfully, Owning.{is_operation, operations_in, KeepsOperations, is_under_way, IsOwned, HasOwner}, OwningExamples.{polling, its_entry}, Sharing.{Gates, CallsOne, IsRun, end_by_reap}, Waiting.KeepsPlaces};
 
 /// What else a worker does leaves the operations of its ring, and what is to be staged, waits at gates or is to be
 /// enrolled: it stages a cancel or the wake poll, enters the kernel, raises a wake, goes on to a moment, says how the next
-/// enter or wake goes, or makes and gives up room. What lands within an enter may land, as each driver says (`Says`). The lists change where a
-/// cancel is staged, where deadlines have come, and with the rooms.
-#[tactic(auto, using(crate::proofs::OwningRing::cancel_keeps, crate::proofs::OwningRing::poll_keeps, crate::proofs::OwningRing::entered_keeps, crate::proofs::OwningRing::wake_keeps, crate::proofs::OwningRing::advance_places))]
+/// enter or wake goes, or makes and gives up room. What lands within an enter may land, as each driver says (`Says`): so
+/// an operation ends with a result that its window allows. The lists change where a cancel is staged, where deadlines have
+/// come, and with the rooms.
+#[tactic(auto, using(crate::proofs::OwningRing::cancel_keeps, crate::proofs::OwningRing::poll_keeps, crate::proofs::OwningRing::entered_keeps, crate::proofs::OwningRing::wake_keeps, crate::proofs::OwningRing::advance_places, crate::proofs::LawfulRing::cancel_within, crate::proofs::LawfulRing::poll_within, crate::proofs::LawfulRing::enter_within, crate::proofs::LawfulRing::wake_within))]
 pub fn other_calls_leave_operations_and_places<S, F>()
     ensures cancel { (d : Driving S F) (id : WaiterId) → KeepsOperations d.ring (cancel_staged d id).ring }
     ensures poll { (d : Driving S F) → KeepsOperations d.ring (poll_staged d).ring }
@@ -22,6 +23,13 @@ pub fn other_calls_leave_operations_and_places<S, F>()
     ensures advance { (d : Driving S F) (now : ℕ) → KeepsOperations d.ring (advanced_to d now).ring }
     ensures flags { (ring : RingState) (busy last : Bool) → KeepsOperations ring (record ring { busy = busy; last = last }) }
     ensures rooms { (like d : Driving S F) → KeepsOperations d.ring (with_rooms like d).ring }
+    ensures cancel_lawful { (d : Driving S F) (id : WaiterId) → EndsLawfully d.ring (cancel_staged d id).ring }
+    ensures poll_lawful { (d : Driving S F) → EndsLawfully d.ring (poll_staged d).ring }
+    ensures enter_lawful { (d : Driving S F) → MayAllLand d.landings (all_taken d.ring) → EndsLawfully d.ring (entered d).ring }
+    ensures raise_lawful { (ring : RingState) → EndsLawfully ring (with_wake ring) }
+    ensures advance_lawful { (d : Driving S F) (now : ℕ) → EndsLawfully d.ring (advanced_to d now).ring }
+    ensures flags_lawful { (ring : RingState) (busy last : Bool) → EndsLawfully ring (record ring { busy = busy; last = last }) }
+    ensures rooms_lawful { (like d : Driving S F) → EndsLawfully d.ring (with_rooms like d).ring }
     ensures cancel_places { (d : Driving S F) (id : WaiterId) → KeepsPlaces d.lists (cancel_staged d id).lists }
     ensures advance_places { (d : Driving S F) (now : ℕ) → KeepsPlaces d.lists (advanced_to d now).lists }
     ensures rooms_places { (like d : Driving S F) → KeepsPlaces d.lists (with_rooms like d).lists }

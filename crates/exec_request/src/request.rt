@@ -142,6 +142,7 @@ impl Request {
     pub fn build_sqe(&mut self, open_: &Option<OpenRecord>) -> Window
         ensures window { result ≡ window_by (has_hint open_.now) self.old }
         ensures left { most_of result ≤ window_of (asked_of self.old) (cursor_of self.old) }
+        ensures fits { most_of result ≤ window_of (asked_of self.new) (cursor_of self.new) }
         ensures hint { hinted_of self.new ≡ result.hint }
         ensures again { window_by true self.new ≡ result }
         ensures goes_on { (results : List Judged) → HasCome (asked_of self.old) (cursor_of self.old) results → HasCome (asked_of self.new) (cursor_of self.new) results }

@@ -1,8 +1,8 @@
 -- What each call does to the requests of a worker, and what it leaves to be told.
-use Rattle.std.specs.Prelude.{◌≡◌, ℕ, Bool, true, false, not, ◌<◌, ◌==◌, ◌&&◌, ◌||◌, List, [], ◌∷◌, Option, Some, None, Result, Ok, Err, if◌then◌else◌}
+use Rattle.std.specs.Prelude.{◌≡◌, ℕ, Bool, true, false, not, ◌<◌, ◌≤◌, ◌==◌, ◌&&◌, ◌||◌, List, [], ◌∷◌, Option, Some, None, Result, Ok, Err, if◌then◌else◌}
 use Rattle.exec_base.specs.{Slab.{Slab, value_at, written, removed, HasRoom}, declared.{slab.{InsertError.{InsertError, TheVariants.{Full, NoMemory}}, Id.Id}, error.Error.{Error, TheVariants.Closed}, task_no.TaskNo.TaskNo}}
 use Rattle.exec_outcomes.specs.{Accounts.Account, Lawful.{is_lawful, window_of}, Outcomes.{HasCome, is_unsupported}, declared.outcome.{Judged.Judged, OpResult.OpResult, Outcome.Outcome}}
-use Rattle.exec_request.specs.{Hints.{AsksOn, has_hint, without_hint}, Judging.{Judges, judged_as}, Kept.kept_of, Requests.{asked_of, cursor_of, hinted_of, goes_on_alone, window_by, output_of, retired_of, outcome_if_granted, record_after}, States.{Ended, as_answer, asks_cancel}, declared.{output.RequestOutput.RequestOutput, request.Request.Request, results.WaiterState.{WaiterState, TheVariants.{Active, CancelRequested}}}}
+use Rattle.exec_request.specs.{Hints.{AsksOn, has_hint, without_hint}, Judging.{Judges, judged_as}, Kept.kept_of, Requests.{asked_of, cursor_of, hinted_of, goes_on_alone, window_by, output_of, retired_of, outcome_if_granted, record_after}, States.{Ended, as_answer, asks_cancel}, Windows.most_of, declared.{output.RequestOutput.RequestOutput, request.Request.Request, results.WaiterState.{WaiterState, TheVariants.{Active, CancelRequested}}}}
 use Rattle.exec_request.specs.declared.output.RequestOutput.TheVariants as output
 use Rattle.exec_ring.specs.{Landings.Moves, declared.{completion.Submission.Submission, store.Store.Store}}
 use Rattle.exec_time.specs.declared.timers.Observation.{Observation}
@@ -230,6 +230,7 @@ module _ {S F : Type 0} where
     pub window : s.window ≡ window_by (has_hint account) w.request
     pub hint : hinted_of request ≡ s.window.hint
     pub again : window_by true request ≡ s.window
+    pub fits : most_of s.window ≤ window_of (asked_of request) (cursor_of request)
     pub goes_on : (results : List Judged) → HasCome (asked_of w.request) (cursor_of w.request) results → HasCome (asked_of request) (cursor_of request) results
     pub asks : AsksOn (cursor_of w.request).hinted (cursor_of request).hinted (has_hint account)
     pub kept : kept_of request ≡ kept_of w.request

@@ -14,4 +14,4 @@ pub returns-clause-waits : goal.returns-clause-waits
 returns-clause-waits g c = λ drivers gates run n worker id w at idle. waits drivers gates run n worker id w at idle
 
 pub returns-clause-under_way : goal.returns-clause-under_way
-returns-clause-under_way g c = λ drivers gates run lawful n worker. under_way drivers gates run lawful n worker
+returns-clause-under_way g c = λ drivers gates run n worker. under_way drivers gates run n worker
