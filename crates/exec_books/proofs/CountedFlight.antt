@@ -8,7 +8,7 @@ use Rattle.exec_outcomes.specs.declared.outcome.{OpResult.OpResult, Outcome.Outc
 use Rattle.exec_machine.specs.{declared.{config.Configuration.Configuration, event.Event.Event, state.{Request.Request, RequestPhase.RequestPhase}}, After.{common_after, own_after}, Allowed.Allowed, Choice.Choice, Requests.{reaped, staged}, Tests.{is_in_flight, is_landed_with, is_queued, is_resolved}, World.{Common, Own as Books, no_request, request_of}}
 use Rattle.exec_machine.specs.declared.event.Event.TheVariants as event
 use Rattle.exec_books.specs.Booked.{flying_of}
-use Rattle.exec_books.proofs.{CountedFresh.{made, made_is, no_made}, CountedMany.same_count, CountedOwn.{in_flight_kept}, CountedTurns.{Turns, aground, moves_flight}, MinePhases.{landed_open, queued_open}, Own.IsOwn}
+use Rattle.exec_books.proofs.{CountedFresh.{made, made_is, no_made}, CountedMany.{same_count, and_true}, CountedOwn.{in_flight_kept}, CountedTurns.{Turns, aground, moves_flight}, MinePhases.{landed_open, queued_open}, Own.IsOwn}
 
 -- ONE REQUEST
 
@@ -27,9 +27,6 @@ reaped_aground = grind arith
 
 reaped_worker : (n : OpResult) (outcome : Option Outcome) (r : Request) → (reaped n outcome r).worker ≡ r.worker
 reaped_worker = grind arith
-
-and_true : (a b : Bool) → a ≡ b → (a && true) ≡ b
-and_true = grind arith
 
 -- one that isn't over is there
 within_by : (s : Common) (r : ℕ) → is_resolved (request_of s r).phase ≡ false → r < length s.requests

@@ -38,7 +38,7 @@ within_by = grind (arith, ltb-true, true≢false, get_or_past, ltb-false)
 
 -- EVENTS
 
-and_true : (a b : Bool) → a ≡ b → (a && true) ≡ b
+pub and_true : (a b : Bool) → a ≡ b → (a && true) ≡ b
 and_true = grind arith
 
 alike : (e : Event) (j : ℕ) (rs ss : List Request) → releases e ≡ false → ((k : ℕ) → Turns e k (get_or rs k no_request) (get_or ss k no_request)) → unreleased_of j ss ≡ unreleased_of j rs

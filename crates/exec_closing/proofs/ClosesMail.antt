@@ -1,6 +1,6 @@
 -- The mailbox of a closing worker is closed: what stood in it, and what was taken and not applied, is let go.
-use Rattle.std.proofs.{Common.{◌≡◌, inl, ℕ, zero, suc, ◌+◌, ◌^◌, ◌<◌, ◌==◌, ◌&&◌, Bool, true, false, cond, Contains, List, [], ◌∷◌, ◌++◌, count_by, length, map, sum_by, Option, None, Some, refl, sym, ap, subst, ◌∙◌, arith, slice_get, slice_set, nat_lt, if◌then◌else◌}, lemmas.{Bool.{false≢true, Decides.nat_tests}, List.{Sums.{sum_by-append, sum_by-cons}}, Nat.mod_below, Option.{slice_get_within}}}
-use Rattle.exec_words.specs.{Inbox.{Inbox, batch_handed, batch_taken, has_any, is_wake_root, shut}, declared.inbox.Message.Message, Reserved.Reserved, Word.next_batch}
+use Rattle.std.proofs.{Common.{◌≡◌, inl, ℕ, zero, suc, ◌+◌, ◌^◌, ◌<◌, ◌==◌, ◌&&◌, Bool, true, false, cond, Contains, List, [], ◌∷◌, ◌++◌, count_by, length, map, sum_by, Option, None, Some, refl, sym, ap, subst, ◌∙◌, arith, slice_get, slice_set, nat_lt}, lemmas.{Bool.{false≢true, Decides.nat_tests}, List.{Sums.{sum_by-append, sum_by-cons}}, Nat.mod_below, Option.{slice_get_within}}}
+use Rattle.exec_words.specs.{Inbox.{Inbox, batch_handed, batch_taken, is_wake_root, shut}, declared.inbox.Message.Message, Reserved.Reserved}
 use Rattle.exec_task.specs.declared.body.Said.{Said}
 use Rattle.exec_machine.specs.{declared.{event.Event.{Event, TheVariants.Turn}, state.Next.Next}, Choice.Choice.Plain, Tests.has_ended}
 use Rattle.exec_moves.specs.{declared.place.{InClosing.InClosing, Place.Place}, Close.{after_letting_go, batches_closed, close_mailbox, first_asleep, first_held}, Move.move_at, Seen.{next_at, serves_at}, Thing.{set_inbox, with_inbox}}
@@ -9,7 +9,7 @@ use Rattle.exec_invariants.proofs.Showing.{map_set}
 use Rattle.exec_invariants.{specs.{Drained.IsLetOn, Holding.{Hands, Holder, IsAbout, IsOf, Mail, MayHave, Thing, box_of, holder_of, holdings, mail_in, mail_of_letters, nap_of, same_mail, thing_of}, Places.{drops_at, is_pooled_at, no_drops}, Sound.{Aims, HasBatch, IsMineIn, IsMyMail, LetsGoAt, SoundAt, has_wakes_at}, Whole.{IsWhole, Profile, duties_of, hands_of, with_worker}, Works.Steps}, proofs.{Aside.{queue_of_chair, queues_set, seats_own}, Closes.closed_by, Dedicated.own_root, LetsNext.lets_next, Mailing.{inbox_shows, own_inbox_seen}, PoolKept.all_over, Seats.own_seat, Shutting.{Follows, Holds, mail_there}}}
 use Rattle.exec_closing.proofs.{Parting.{on_seats, ready_own}, ShutHeld.shut_holding, Unmailed.pools_unmailed}
 use Rattle.exec_invariants.proofs.Lined.{mapped, unmapped}
-use Rattle.exec_invariants.proofs.HandedOver.{by_list}
+use Rattle.exec_invariants.proofs.HandedOver.{by_list, taken_none, taken_some}
 
 no_mail : (m : Mail) → Contains [] m → ⊥
 no_mail m (k, few, is) = omega (arith, few)
@@ -26,14 +26,8 @@ count_none p xs none = sum_none (λ x. cond (p x) 1 0) xs (λ j x at. ap (λ b. 
 
 -- WHAT THE INBOX LEAVES
 
-taken_as : (i : Inbox Subject Subject) (b : Reserved Mail) → i.messages ≡ [] → batch_taken i b ≡ i
-taken_as i b none = ap (λ h. if h then record i { messages = []; places = b.places; taken = next_batch i.taken } else i) (ap has_any none)
-
-taken_some : (i : Inbox Subject Subject) (b : Reserved Mail) (m : Mail) (ms : List Mail) → i.messages ≡ m ∷ ms → batch_taken i b ≡ record i { messages = []; places = b.places; taken = next_batch i.taken }
-taken_some i b m ms some = ap (λ h. if h then record i { messages = []; places = b.places; taken = next_batch i.taken } else i) (ap has_any some)
-
 taken_empty : (i : Inbox Subject Subject) (b : Reserved Mail) → (batch_taken i b).messages ≡ []
-taken_empty i b = by_list i.messages (λ none. ap (λ (x : Inbox Subject Subject). x.messages) (taken_as i b none) ∙ none) (λ m ms some. ap (λ (x : Inbox Subject Subject). x.messages) (taken_some i b m ms some))
+taken_empty i b = by_list i.messages (λ none. ap (λ (x : Inbox Subject Subject). x.messages) (taken_none i b none) ∙ none) (λ m ms some. ap (λ (x : Inbox Subject Subject). x.messages) (taken_some i b m ms some))
 
 taken_places : (i : Inbox Subject Subject) (b : Reserved Mail) → (i.messages ≡ [] → 0 < i.places) → 0 < b.places → 0 < (batch_taken i b).places
 taken_places = grind arith

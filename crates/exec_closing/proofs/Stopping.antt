@@ -1,12 +1,11 @@
 -- The stop is told to the root of another worker, as a step of the machine.
 use Rattle.std.proofs.{Common.{◌≡◌, ◌≢◌, inl, ℕ, suc, ◌+◌, ◌-◌, ◌==◌, ◌||◌, ◌<◌, Bool, true, false, not, List, [], ◌++◌, drop, length, map, Option, Some, get_or, refl, sym, ap, subst, ◌∙◌, arith, slice_get, slice_set, nat_lt, if◌then◌else◌}, lemmas.{Bool.{false≢true, eq-eqb, Decides.nat_tests}, List.{append-nil, length-set}, Option.{get_or_from_slice_get, slice_get-get_or}}}
-use Rattle.exec_words.specs.declared.mailbox.Mailbox.{Mailbox as PureMailbox}
 use Rattle.exec_task.specs.declared.body.Said.{Said}
-use Rattle.exec_machine.specs.{declared.{event.Event.{Event, TheVariants.Send}, state.{Letter.Letter, MailMessage.TheVariants.Root, Next.Next}}, Allowed.allowed, Choice.Payer.ByStop, Closing.letters_to_roots, Mail.after_post, Progress.Plan, Tests.AllTrue, World.{no_seat, seat_of}}
-use Rattle.exec_moves.specs.{declared.{handing.{AfterPop.AfterPop, AfterSend.AfterSend, AfterSignal.AfterSignal, InPop.InPop, InSignal.InSignal}, place.{InClosing.InClosing, Place.Place}}, Move.move_at, Parts.tells_from, Seen.{next_at, serves_at}, Send.after_posting, Thing.{mailbox_of, set_mailbox}}
-use Rattle.exec_parts.{specs.{declared.parts.{mail.Subject.Subject, seat.Seat.Seat as Chair, shared.Shared.Shared, worker.Worker.Worker}, Phased.{IsGoing, IsPhased, TurnsChair, closes_at, closing_in, stage_of}, Pooled.{HasRootPlace, OfChair, asks_in, chair_posted, event_posted}, Roles.is_pool, MailPosts.IsMailbox, Spots.Spot, View.{Views, Visible, common_of, desk_of, driver_of, letters_in, own_of, owed_at, seat_seen, seats_seen, things_with, visible, with_view}}, proofs.Facts.{false_from_ne_true, not_same, set_elsewhere}}
+use Rattle.exec_machine.specs.{declared.{config.Configuration.Configuration, event.Event.{Event, TheVariants.Send}, state.{Letter.Letter, MailMessage.TheVariants.Root, Next.Next}}, Allowed.allowed, Choice.Payer.ByStop, Closing.letters_to_roots, Mail.after_post, Progress.Plan, Tests.AllTrue, World.{no_seat, seat_of}}
+use Rattle.exec_moves.specs.{declared.{handing.{AfterPop.AfterPop, AfterSend.AfterSend, AfterSignal.AfterSignal, InPop.InPop, InSignal.InSignal}, place.{InClosing.InClosing, Place.Place}}, Move.move_at, Parts.tells_from, Seen.{next_at, serves_at}, Send.after_posting, State.Desk, Thing.{mailbox_of, set_mailbox}}
+use Rattle.exec_parts.{specs.{declared.parts.{seat.Seat.Seat as Chair, shared.Shared.Shared, worker.Worker.Worker}, Phased.{IsGoing, IsPhased, closes_at, closing_in, stage_of}, Pooled.{Sends, asks_if_sent}, Roles.is_pool, Spots.Spot, View.{Views, Visible, common_of, desk_of, driver_of, letters_in, own_of, owed_at, seat_seen, seats_seen, things_with, visible, with_view}}, proofs.Facts.{false_from_ne_true, not_same, set_elsewhere}}
 use Rattle.exec_invariants.proofs.Showing.{own_word_seen}
-use Rattle.exec_invariants.{specs.{Holding.{holder_of, nap_of, thing_of}, Places.{drops_at, is_pooled_at, no_drops}, Sound.{Aims, HasBatch, LetsGoAt, SoundAt, has_wakes_at}, Spares.SparesChair, Whole.{HasWhole, hands_of, with_worker}, Works.{Steps, Suits}}, proofs.{Dedicated.{as_long, chair_of_pool}, Aside.{queue_of_chair, queues_set, seats_other}, Closes.{closed_by, follows_in, follows_pop}, PoolKept.{gate_spared, gates_set}, Posting.{Arrival, IsArrival, arrival, asks_as, asks_by, chair_by, choice_by, event_as, event_by, inbox_seen, mailbox_by, posted_as, posted_shows, posted_spares, posting_as, root_message_as, root_place, seat_as, seat_by}, RootMail.holding_posted, Seats.{chair_set, seat_there as seen_there}, Shutting.{Follows, Ready, pools_calm, shown_as}, Turning.{set_found, view_found}}}
+use Rattle.exec_invariants.{specs.{Holding.{holder_of, nap_of, thing_of}, Places.{drops_at, is_pooled_at, no_drops}, Sound.{Aims, HasBatch, LetsGoAt, SoundAt, has_wakes_at}, Spares.SparesChair, Whole.{HasWhole, hands_of, with_worker}, Works.{Steps, Suits}}, proofs.{Dedicated.{as_long, chair_of_pool}, Aside.{queue_of_chair, queues_set, seats_other}, Closes.{closed_by, follows_in, follows_pop}, PoolKept.{gate_spared, gates_set}, Posting.{Arrival, IsArrival, arrival, asks_as, asks_by, chair_by, choice_by, event_as, event_by, inbox_seen, mailbox_by, posted_as, posted_shows, posted_spares, posting_as, root_message_as, seat_as, seat_by}, RootMail.holding_posted, Seats.{chair_set, seat_there as seen_there}, Shutting.{Follows, Ready, pools_calm, shown_as}, Turning.{set_found, view_found}}}
 use Rattle.exec_closing.proofs.Parting.{on_seats}
 
 follows_signal : (j : ℕ) (n : ℕ) → Follows (Place.Signal InSignal.SetLatch j (AfterSignal.Send (AfterSend.Tell n)))
@@ -19,9 +18,10 @@ letters_on = grind arith
 none_left : (n j : ℕ) → nat_lt (j + 1) n ≡ false → j < n → drop 1 (letters_to_roots (n - j) j) ≡ []
 none_left = grind arith
 
--- there is a place for a wake of the root, where none is there
-pub has_root_place : (m : PureMailbox Subject Subject) → IsMailbox m → HasRootPlace m
-has_root_place m mail = root_place m mail
+-- where it goes on, by whether a signal is asked for
+told_to : (c : Configuration) (j : ℕ) (d : Desk) (asks : Bool) → after_posting c j (AfterSend.Tell (j + 1)) asks d ≡ (if asks then Place.Signal InSignal.SetLatch j (AfterSignal.Send (AfterSend.Tell (j + 1))) else tells_from c (j + 1))
+told_to c j d true = refl
+told_to c j d false = refl
 
 module _ {B : Type 0} where
   -- the own chair is as it was, where another was set
@@ -168,10 +168,8 @@ module _ {B L : Type 0} (left : B → L) (spot : L → Option Said → Spot) (w 
       by false is = next (nat_lt (j + 1) s.config.workers) refl is
 
 module _ {B L : Type 0} (left : B → L) (spot : L → Option Said → Spot) (w w' : Worker) (s s' : Shared B) (e : Event) where
-  pub root_told : (j : ℕ) → SoundAt (Place.Closing (InClosing.TellRoot j)) w s → HasWhole w s → IsGoing w.index s.seats.items → OfChair j s (λ chair. e ≡ event_posted j chair.mailbox)
-      → OfChair j s (λ chair. w' ≡ record w { place = (if asks_in chair.mailbox then Place.Signal InSignal.SetLatch j (AfterSignal.Send (AfterSend.Tell (j + 1))) else tells_from s.config (j + 1)) })
-      → TurnsChair j chair_posted s s' → s' ≡ record s { seats = s'.seats } → Steps left spot w s e w' s'
-  root_told j sound has going event goes turns kept =
+  pub root_told : (j : ℕ) → SoundAt (Place.Closing (InClosing.TellRoot j)) w s → HasWhole w s → IsGoing w.index s.seats.items → Sends j Root (AfterSend.Tell (j + 1)) w w' s s' e → Steps left spot w s e w' s'
+  root_told j sound has going sends =
       let its : Chair = get_or s.seats.items j sound.seated.seat in
       let there : slice_get s.seats.items j ≡ Some its = slice_get-get_or s.seats.items j sound.seated.seat (omega (arith, sound.aims.1, sound.seated.many)) in
       let seat = sound.seated.seat in
@@ -183,6 +181,5 @@ module _ {B L : Type 0} (left : B → L) (spot : L → Option Said → Spot) (w 
       -- no mailbox of the pool is closed before all have left, and the own worker hasn't
       let unshut : its.mailbox.inbox.closed ≡ false = false_from_ne_true its.mailbox.inbox.closed (λ is. absurd (false≢true (sym here ∙ has.whole.pool.shut j its there its_pool is w.index seat sound.seated.there))) in
       let at = arrival its.mailbox in
-      let asks : asks_in its.mailbox ≡ asks_by at.0 its.mailbox = asks_as at.0 its.mailbox at.1 in
-      told_on left spot w w' s s' e j sound going kept its there at.0 at.1 unshut (turns its there ∙ ap (slice_set s.seats.items j) (posted_as at.0 its at.1)) (event its there ∙ event_as j at.0 its.mailbox at.1)
-      (goes its there ∙ ap (λ b. record w { place = (if b then Place.Signal InSignal.SetLatch j (AfterSignal.Send (AfterSend.Tell (j + 1))) else tells_from s.config (j + 1)) }) asks)
+      told_on left spot w w' s s' e j sound going sends.kept its there at.0 at.1 unshut (sends.chair its there ∙ ap (slice_set s.seats.items j) (posted_as at.0 its at.1)) (sends.event its there ∙ event_as j at.0 its.mailbox at.1)
+      (sends.worker its there ∙ ap (λ p. record w { place = p }) (told_to s.config j (desk_of w) (asks_if_sent Root its.mailbox)) ∙ ap (λ b. record w { place = (if b then Place.Signal InSignal.SetLatch j (AfterSignal.Send (AfterSend.Tell (j + 1))) else tells_from s.config (j + 1)) }) (asks_as at.0 its.mailbox at.1))

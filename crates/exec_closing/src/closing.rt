@@ -5,14 +5,14 @@
 //! what tasks still hold and sleep for, and serves its requests until none is left.
 
 ghost use Rattle.exec_invariants.specs.{Drained.IsLetOn, Sound.SoundAt, Whole.HasWhole, Works.Steps};
-ghost use Rattle.exec_parts.specs.{Phased.{IsGoing, TurnsChair}, Calls.sleeper_gone_with, Ending.{ClosesOn, ClosesSleeper, MayCloseSleeper, MayOrphan, Orphans}, Pooled.{HasRootPlace, OfChair, asks_in, chair_posted, event_posted}, Records.outcome_in, Roles.{is_pool, owns_runner}, View.{driver_of, message_of}};
+ghost use Rattle.exec_parts.specs.{Phased.{IsGoing, TurnsChair}, Calls.sleeper_gone_with, Ending.{ClosesOn, ClosesSleeper, MayCloseSleeper, MayOrphan, Orphans}, Pooled.{MaySend, OfChair, Sends}, Records.outcome_in, Roles.{is_pool, owns_runner}, View.{driver_of, message_of}};
 ghost use Rattle.std.specs.Prelude.{◌+◌, ◌<◌, ◌≡◌, ◌||◌, [], true, length, map, None, if◌then◌else◌};
 ghost use Rattle.exec_words.specs.{Inbox.{batch_handed, batch_taken, shut}, Word.next_batch as batch_after};
-ghost use Rattle.exec_moves.specs.{Close.batches_closed, Parts.{first_pop, tells_from}, declared.handing.{AfterSignal.AfterSignal, InSignal.InSignal}};
+ghost use Rattle.exec_moves.specs.{Close.batches_closed, Parts.{first_pop, tells_from}};
 
 use crate::clearing::{clear, visit};
 use exec_machine::event::Event;
-use exec_machine::state::WorkerPhase;
+use exec_machine::state::{MailMessage, WorkerPhase};
 use exec_moves::handing::{AfterCallbacks, AfterPop, AfterSend};
 use exec_moves::place::{InCallbacks, InClosing, Place};
 use exec_outcomes::outcome::Outcome;
@@ -124,20 +124,11 @@ fn stop<B: Drop>(worker: &mut Worker, shared: &mut Shared<B>) -> Event
 /// Sends the root of this worker the message that the pool is stopped. The caller must know that there is such a
 /// worker, and that an open mailbox has a place for the message where no other wake of the root is in it.
 fn tell_root<B: Drop>(worker: &mut Worker, other: usize, shared: &mut Shared<B>) -> Event
-    requires there { other < length shared.old.seats.items }
-    requires place { OfChair other shared.old (λ chair. HasRootPlace chair.mailbox) }
-    ensures event { OfChair other shared.old (λ chair. result ≡ event_posted other chair.mailbox) }
-    ensures goes { OfChair other shared.old (λ chair. worker.new
-        ≡ record worker.old {
-          place = (if asks_in chair.mailbox
-              then Place.Signal InSignal.SetLatch other (AfterSignal.Send (AfterSend.Tell (other + 1)))
-              else tells_from shared.old.config (other + 1));
-        }) }
-    ensures chair { TurnsChair other chair_posted shared.old shared.new }
-    ensures kept { shared.new ≡ record shared.old { seats = shared.new.seats } }
+    requires may { MaySend other MailMessage.Root shared.old }
+    ensures sends { Sends other MailMessage.Root (AfterSend.Tell (other + 1)) worker.old worker.new shared.old shared.new result }
 {
     let next = AfterSend::Tell { worker: other + 1 };
-    worker.send_root(other, next, shared)
+    worker.send(other, MailMessage::Root, next, shared)
 }
 
 /// Passes the shutdown barrier. The caller must know that the worker has a seat.

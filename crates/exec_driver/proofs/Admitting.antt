@@ -1,23 +1,43 @@
 -- The room that an admission makes, and gives up again.
-use Rattle.std.proofs.Common.{◌≡◌, ℕ, ◌+◌, ◌*◌, ◌≤◌, Bool, true, false, List, [], ◌∷◌, length, Option, Some, None, Result, Ok, Err, refl, sym, ap, subst, arith}
+use Rattle.std.proofs.Common.{◌≡◌, ℕ, ◌+◌, ◌*◌, ◌≤◌, Bool, true, false, List, [], ◌∷◌, length, Option, Some, None, Result, Ok, Err, refl, sym, ap, subst, arith, eqb, cond, ◌∙◌}
 use Rattle.exec_lists.proofs.{Counting.{flying_few, pending_is}, Shifts.few}
 use Rattle.std.specs.Prelude.{is_some, is_err, count_by, IsSomeAnd, OnOk, OnErr}
 use Rattle.std.proofs.lemmas.Bool.{false≢true}
 use Rattle.std.proofs.lemmas.List.Sums.{sum_by-cons}
-use Rattle.exec_base.specs.{Slab.{Slab}, declared.slab.{InsertError.{InsertError, TheVariants.{Full, NoMemory}}, Slot.{Slot}}}
-use Rattle.exec_ring.specs.{Kernels.Landing, Rings.{RingState, taken_places, fresh as fresh_ring}}
+use Rattle.exec_base.specs.{Slab.Slab, declared.slab.{InsertError.{InsertError, TheVariants.{Full, NoMemory}}, Slot.Slot}}
+use Rattle.exec_ring.specs.{Kernels.Landing, Rings.{RingState, taken_places, fresh as fresh_ring}, Sockets.SocketState, Stores.{Same, Reserves, Releases, socket_of}, declared.store.Store.Store}
 use Rattle.exec_time.specs.Wheel.{Wheel, fresh}
-use Rattle.exec_waiters.specs.{Events.IsTurnedDown, States.{pending_count}, declared.waiter.{Entry.{Entry}, Refused.{Refused}}}
+use Rattle.exec_waiters.specs.{Events.IsTurnedDown, States.pending_count, declared.waiter.{Entry.Entry, Refused.Refused}}
 use Rattle.exec_waiters.proofs.Changes.{one_if}
-use Rattle.exec_driver.specs.{Admission.{IsRefused, with_rooms}, Driving.{Driving, is_cancelled}, Sound.{IsSound, IsHeld, is_uncancelled}}
+use Rattle.exec_driver.specs.{Admission.{IsRefused, with_rooms}, Driving.{Driving, is_cancelled}, Sound.{IsSound, IsHeld, may_cancel}}
 use Rattle.exec_lists.specs.{Lists.no_lists, Listed.{counts, count_of}}
+use Rattle.exec_request.specs.{Windows.{cancel_window, wake_window}, declared.window.Window.Window}
+
+-- the windows of a cancel and of the wake poll want no room
+either_way : (b : Bool) (s : SocketState) → cond b s s ≡ s
+either_way true s = refl
+either_way false s = refl
+
+pub reserved_none : (user_data : ℕ) (a b : Store) → Reserves (cancel_window user_data) a b → Same a b
+reserved_none user_data a b one =
+    record { sockets = λ s. one.sockets s ∙ either_way (eqb s 0) (socket_of a s); files = one.files }
+
+pub reserved_wake : (a b : Store) → Reserves wake_window a b → Same a b
+reserved_wake a b one =
+    record { sockets = λ s. one.sockets s ∙ either_way (eqb s 0) (socket_of a s); files = one.files }
+
+pub reserved_still : (w : Window) (a b c : Store) → Reserves w a b → Same b c → Reserves w a c
+reserved_still = grind arith
+
+pub given_back : (w : Window) (a b c : Store) → Reserves w a b → Releases w b c → Same a c
+given_back = grind arith
 
 -- THE BYTES OF A REQUEST END WITHIN WHAT 64 BITS CAN SAY
 
 module _ {S F : Type 0} where
   -- how many places a ring must have
   abbrev pub needed : Driving S F → ℕ
-  needed d = pending_count d.requests + count_of is_uncancelled d.requests + length d.lists.cancels + d.cancels_under_way + 1
+  needed d = pending_count d.requests + count_of may_cancel d.requests + length d.lists.cancels + d.cancels_under_way + 1
 
   pub taken_few : (d : Driving S F) → IsSound d → taken_places d.ring ≤ needed d
   taken_few d sound =
@@ -34,13 +54,13 @@ module _ {S F : Type 0} where
   parts p q r split (x ∷ xs) =
       omega (arith, sum_by-cons (λ o. one_if (p o)) x xs, sum_by-cons (λ o. one_if (q o)) x xs, sum_by-cons (λ o. one_if (r o)) x xs, split x, parts p q r split xs)
 
-  one_of : (o : Slot (Entry S F)) → one_if (counts is_cancelled o) + one_if (counts is_uncancelled o) ≡ one_if (counts is_some o)
+  one_of : (o : Slot (Entry S F)) → one_if (counts is_cancelled o) + one_if (counts may_cancel o) ≡ one_if (counts is_some o)
   one_of = grind arith
 
   pub needed_few : (d : Driving S F) → IsSound d → needed d ≤ pending_count d.requests * 2 + d.cancels_under_way + 1
   needed_few d sound =
       let asked = few is_cancelled is_cancelled refl refl (λ w is. is) d.lists.cancels d.requests sound.cancels.all sound.cancels.once in
-      let split = parts (counts is_cancelled) (counts is_uncancelled) (counts is_some) one_of d.requests.slots in
+      let split = parts (counts is_cancelled) (counts may_cancel) (counts is_some) one_of d.requests.slots in
       omega (arith, asked, split, pending_is d.requests)
 
   -- A NEW DRIVER

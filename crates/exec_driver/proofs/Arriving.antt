@@ -10,8 +10,9 @@ use Rattle.exec_request.specs.{Requests.{asked_of, deadline_of, gate_of}, States
 use Rattle.exec_time.specs.Wheel.{Wheel}
 use Rattle.exec_waiters.specs.{Events.{finished, finished_for}, States.{waiter_at, waiter_of, is_flying, pending_count}, declared.{observer.Observer.{Observer}, waiter.{Waiter.Waiter, Entry.{Entry, TheVariants.{Pending}}}, waiter_id.WaiterId.WaiterId}}
 use Rattle.exec_waiters.proofs.Changes.{at_by, entry_of, one_if}
-use Rattle.exec_driver.specs.{Admission.{HasTwoMore, with_rooms}, Driving.{Driving, is_queued, is_gated, is_unenrolled, is_enrolled, is_cancelled}, Sound.{IsSound, IsHeld, is_unpermitted, is_undated, is_at_tick, is_uncancelled}, Steps.{ended, in_place, with_deadline, placed_at, taken_in, newcomer, is_late, timed_out}}
+use Rattle.exec_driver.specs.{Admission.{HasTwoMore, with_rooms}, Driving.{Driving, is_queued, is_gated, is_unenrolled, is_enrolled, is_cancelled}, Sound.{IsSound, IsHeld, is_unpermitted, is_undated, is_at_tick, may_cancel}, Steps.{ended, in_place, with_deadline, placed_at, taken_in, newcomer, is_late, timed_out}}
 use Rattle.exec_lists.specs.{Lists.{Lists, with_queued, with_gated, with_enrolment}, Listed.{IsListed, counts}}
+use Rattle.exec_driver.proofs.Serving.{at_most_one}
 
 pub durable_gated : (r : Request) → is_durable (asked_of r).kind ≡ is_some (gate_of r)
 durable_gated = grind arith
@@ -26,10 +27,6 @@ put_few = grind (arith, length-append)
 
 pub put_room : (id : WaiterId) (timed gated : Bool) (l : Lists) → (put id timed gated l).room ≡ l.room
 put_room = grind arith
-
-at_most : (b : Bool) → one_if b ≤ 1
-at_most true = omega arith
-at_most false = omega arith
 
 module _ {S F : Type 0} where
   -- THE SLAB
@@ -94,7 +91,7 @@ module _ {S F : Type 0} where
 
   -- what ends adds no name
   live_set : (s : Slab (Entry S F)) (id : Id) (w : Waiter S F) (told : RequestOutput) (observer : Observer S F) → waiter_at s id ≡ Some w → live_count (finished_for s id told observer) ≤ live_count s
-  live_set = grind (arith, at_by, entry_of, sum_by-set, one_if, at_most)
+  live_set = grind (arith, at_by, entry_of, sum_by-set, one_if, at_most_one)
 
   pub live_finished : (s : Slab (Entry S F)) (id : Id) (w : Waiter S F) (how : Ended) (account : Option Account) → waiter_at s id ≡ Some w → live_count (finished s id w how account) ≤ live_count s
   live_finished s id w how account at = live_set s id w _ w.observer at
@@ -126,7 +123,7 @@ module _ {S F : Type 0} where
   sound_joined d s' l' id request observer one joins two sound =
       let more = one.numbers is_some refl in
       let flying = one.numbers is_flying refl in
-      let uncancelled = one.numbers is_uncancelled refl in
+      let uncancelled = one.numbers may_cancel refl in
       record {
         queued = shifted is_queued _ _ id _ _ _ _ one joins.queued sound.queued;
         gated = shifted is_gated _ _ id _ _ _ _ one joins.gated sound.gated;

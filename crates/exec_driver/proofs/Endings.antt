@@ -1,11 +1,11 @@
 -- A request that ends, or is cancelled, keeps a driver sound.
 use Rattle.std.proofs.Common.{◌≡◌, ℕ, ◌+◌, ◌<◌, ◌≤◌, true, false, [], ◌∷◌, length, Option, Some, None, refl, sym, ap, ◌∙◌, inr, arith, length-append}
 use Rattle.std.specs.Option.{IfSome}
-use Rattle.exec_driver.proofs.Words.{is_some, false≢true, Slab, value_at, written, Id, Account, Ended, asks_cancel, Wheel, told_by_finish, cancelled, changed, waiter_at, is_flying, pending_count, tick_in, Observer, Local, Forwarded, DetachedSync, Orphaned, Waiter, Entry, Pending, Ready, WaiterId, WaiterState, Active, CancelRequested, entry_of, one_if, Driving, request_at, is_queued, is_gated, is_unenrolled, is_enrolled, is_cancelled, without, IsSound, IsHeld, is_tick, is_unpermitted, is_undated, is_at_tick, is_uncancelled, count_of, Tells, Deferred, ended, cancelling, not-true, not-false}
+use Rattle.exec_driver.proofs.Words.{is_some, false≢true, Slab, value_at, written, Id, Account, Ended, asks_cancel, Wheel, told_by_finish, cancelled, changed, waiter_at, is_flying, pending_count, tick_in, Observer, Local, Forwarded, DetachedSync, Orphaned, Waiter, Entry, Pending, Ready, WaiterId, WaiterState, Active, CancelRequested, entry_of, one_if, Driving, request_at, is_queued, is_gated, is_unenrolled, is_enrolled, is_cancelled, without, IsSound, IsHeld, is_tick, is_unpermitted, is_undated, is_at_tick, may_cancel, count_of, Tells, Deferred, ended, cancelling, not-true, not-false}
 use Rattle.exec_lists.proofs.{Names.fewer_without, Counting.{OneChanged, same_written, one_written, one_removed, pending_is, flying_is}, Shifts.{Left, Kept, Joined, shifted, nowhere, room_for}}
 use Rattle.exec_request.specs.{Requests.output_of, declared.output.RequestOutput.RequestOutput}
 use Rattle.exec_time.specs.Wheel.{removed}
-use Rattle.exec_waiters.specs.{Events.{finished, finished_for, may_cancel}, States.is_idle}
+use Rattle.exec_waiters.specs.{Events.{finished, finished_for}, States.is_idle}
 use Rattle.exec_driver.specs.Steps.{unscheduled, told_by_cancel, timed_out}
 
 -- the active entries of the wheel without one
@@ -93,7 +93,7 @@ module _ {S F : Type 0} where
       let one = one_finished d.requests id.0 w how account at in
       let fewer = one.numbers is_some refl in
       let flying = rw idle at (one.numbers is_flying refl) in
-      let uncancelled = one.numbers is_uncancelled refl in
+      let uncancelled = one.numbers may_cancel refl in
       let s' = finished d.requests id.0 w how account in
       record {
         queued = shifted is_queued _ _ id _ _ _ _ one (Left refl) sound.queued;
@@ -129,7 +129,7 @@ module _ {S F : Type 0} where
       let one = one_changed d.requests id.0 w (cancelled w) at in
       let same = one.numbers is_some refl in
       let flying = one.numbers is_flying refl in
-      let uncancelled = rw un at (one.numbers is_uncancelled refl) in
+      let uncancelled = rw un at (one.numbers may_cancel refl) in
       let s' = written d.requests id.0 (Pending (cancelled w)) in
       record {
         queued = shifted is_queued _ _ id _ _ _ _ one (Kept refl (inr (rw flies refl))) sound.queued;

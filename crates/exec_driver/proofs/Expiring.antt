@@ -1,7 +1,20 @@
 -- Who is taken out of what is due, or of what is to be enrolled, leaves a driver as it should be.
-use Rattle.std.proofs.Common.{◌≡◌, ◌<◌, ◌≤◌, ◌+◌, ◌^◌, true, Ok, ℕ, List, [], ◌∷◌, length, Option, Some, None, refl, arith}
-use Rattle.exec_driver.proofs.{Words.{false≢true, Slab, Wheel, target_of, moment_of, waiter_at, Waiter, Entry, WaiterId, Driving, is_unenrolled, is_enrolled, first_of, IsListed, IsHeld, tick_for}, Granting.{IsUnset, unset_tells}, Stepping.first_in, Timing.target_tells}
+use Rattle.std.proofs.Common.{◌≡◌, ◌<◌, ◌≤◌, ◌+◌, ◌^◌, true, Ok, ℕ, List, [], ◌∷◌, length, Option, Some, None, refl, arith, ltb, Bool, ◌&&◌, cond}
+use Rattle.exec_driver.proofs.{Words.{false≢true, Slab, Wheel, moment_of, waiter_at, Waiter, Entry, WaiterId, Driving, is_unenrolled, is_enrolled, first_of, IsListed, IsHeld, tick_for, is_some, tick_of}, Granting.{IsUnset, unset_tells}, Stepping.first_in}
 use Rattle.exec_driver.specs.Steps.{tick_by}
+use Rattle.exec_time.specs.Wheel.{target_of}
+
+by_range : (a b : Bool) (t tick low high : ℕ) → cond a (Some None) (cond b None (cond (ltb low t && ltb t high) (Some (Some t)) None)) ≡ Some (Some tick) → (low < tick) × (tick < high)
+by_range = grind arith
+
+pub target_tells : (w : Wheel) (deadline now tick : ℕ) → target_of w deadline now ≡ Some (Some tick) → (w.current < tick) × (tick < w.current + w.slots)
+unfolding target_of
+target_tells w deadline now tick is = by_range _ _ _ tick w.current (w.current + w.slots) is
+
+module _ {S F : Type 0} where
+  pub enrolled_is : (o : Option (Waiter S F)) → is_enrolled o ≡ is_some (tick_of o)
+  enrolled_is None = refl
+  enrolled_is (Some w) = refl
 
 by_target : (w : Wheel) (o : Option (Option ℕ)) (tick : ℕ) → tick_by w o ≡ Ok tick → (o ≡ Some (Some tick)) × (moment_of w tick < 2 ^ 64)
 by_target = grind arith

@@ -6,11 +6,9 @@ pub mod Entering
 pub mod Reaping
 pub mod Granting
 pub mod Observing
-pub mod Timing
 pub mod Sweeping
 pub mod Telling
 pub mod Expiring
-pub mod Storing
 pub mod Arriving
 pub mod Admitting
 pub mod Advancing

@@ -1,18 +1,18 @@
 -- Who waits for a request decides nothing of where it is.
 use Rattle.std.proofs.Common.{◌≡◌, ℕ, Bool, true, false, cond, Option, Some, None, refl, sym, ap, ◌∙◌, arith}
-use Rattle.exec_driver.proofs.{Words.{is_some, false≢true, Slab, value_at, written, TaskNo, changed, waiter_in, is_flying, Observer, Local, Forwarded, Orphaned, Waiter, Entry, Pending, Ready, WaiterId, Driving, is_queued, is_gated, is_unenrolled, is_enrolled, is_cancelled, IsHeld, is_unpermitted, is_undated, is_at_tick, is_uncancelled}, Stepping.stays}
+use Rattle.exec_driver.proofs.{Words.{is_some, false≢true, Slab, value_at, written, TaskNo, changed, waiter_in, is_flying, Observer, Local, Forwarded, Orphaned, Waiter, Entry, Pending, Ready, WaiterId, Driving, is_queued, is_gated, is_unenrolled, is_enrolled, is_cancelled, IsHeld, is_unpermitted, is_undated, is_at_tick, may_cancel}, Stepping.stays}
 use Rattle.exec_lists.proofs.{Counting.{OneChanged, one_written, one_removed, pending_is, flying_is}, Shifts.{shifted, nowhere}}
 use Rattle.exec_base.specs.Slab.{removed}
 use Rattle.exec_waiters.specs.{Events.{taken_from, taken, forwarded_from, forwarded, orphaned_from, orphaned, changed_from, with_observer, with_waker}, States.{is_local, is_held_by}}
 
 module _ {S F : Type 0} where
   -- one change after which each place has the request as before
-  pub held_alike : (d : Driving S F) (s' : Slab (Entry S F)) (id : WaiterId) (was is : Option (Waiter S F)) (room most spots : ℕ) → OneChanged d.requests s' id.0 was is → is_queued is ≡ is_queued was → is_gated is ≡ is_gated was → is_unenrolled is ≡ is_unenrolled was → is_enrolled is ≡ is_enrolled was → is_cancelled is ≡ is_cancelled was → is_unpermitted is ≡ is_unpermitted was → is_undated is ≡ is_undated was → ((t : ℕ) → is_at_tick t is ≡ is_at_tick t was) → is_flying is ≡ is_flying was → is_some is ≡ is_some was → is_uncancelled is ≡ is_uncancelled was → IsHeld d room most spots → IsHeld (record d { requests = s' }) room most spots
+  pub held_alike : (d : Driving S F) (s' : Slab (Entry S F)) (id : WaiterId) (was is : Option (Waiter S F)) (room most spots : ℕ) → OneChanged d.requests s' id.0 was is → is_queued is ≡ is_queued was → is_gated is ≡ is_gated was → is_unenrolled is ≡ is_unenrolled was → is_enrolled is ≡ is_enrolled was → is_cancelled is ≡ is_cancelled was → is_unpermitted is ≡ is_unpermitted was → is_undated is ≡ is_undated was → ((t : ℕ) → is_at_tick t is ≡ is_at_tick t was) → is_flying is ≡ is_flying was → is_some is ≡ is_some was → may_cancel is ≡ may_cancel was → IsHeld d room most spots → IsHeld (record d { requests = s' }) room most spots
   held_alike d s' id was is room most spots one queued gated unenrolled enrolled cancelled unpermitted undated tick flies some un held =
       let sound = held.sound in
       let same = rw some at (one.numbers is_some refl) in
       let flying = rw flies at (one.numbers is_flying refl) in
-      let uncancelled = rw un at (one.numbers is_uncancelled refl) in
+      let uncancelled = rw un at (one.numbers may_cancel refl) in
       record {
         sound = record {
           queued = shifted is_queued _ _ id _ _ _ _ one (stays is_queued was is id _ queued) sound.queued;

@@ -1,7 +1,7 @@
 -- A completion that is taken in keeps a driver as it should be.
 use Rattle.std.proofs.Common.{zero, suc, ◌≡◌, ℕ, ◌<◌, Bool, true, false, not, ◌&&◌, cond, List, [], ◌∷◌, ◌++◌, length, Option, Some, None, refl, sym, ap, ◌∙◌, inr, arith, append-nil}
 use Rattle.std.specs.Prelude.{slice_get, slice_set}
-use Rattle.exec_driver.proofs.{Words.{is_some, false≢true, Slab, written, is_durable, Asked, Kind, OpResult, may_complete, told_by_finish, Id, asked_of, deadline_of, Ended, asks_cancel, Request, Landing, next_completion, Completion, Account, result_in, waiter_at, is_flying, needs_permit, Tells, Deferred, Waiter, Entry, Pending, WaiterId, Driving, request_at, is_queued, is_gated, is_unenrolled, is_enrolled, is_cancelled, with_queued, IsSound, IsHeld, is_unpermitted, is_undated, is_at_tick, is_uncancelled, OpenState, account_in, with_account, is_control, taken_out, open_after, ended}, Endings.one_changed, Stepping.stays, Entering.{less_reaped, no_wake}}
+use Rattle.exec_driver.proofs.{Words.{is_some, false≢true, Slab, written, is_durable, Asked, Kind, OpResult, may_complete, told_by_finish, Id, asked_of, deadline_of, Ended, asks_cancel, Request, Landing, next_completion, Completion, Account, result_in, waiter_at, is_flying, needs_permit, Tells, Deferred, Waiter, Entry, Pending, WaiterId, Driving, request_at, is_queued, is_gated, is_unenrolled, is_enrolled, is_cancelled, with_queued, IsSound, IsHeld, is_unpermitted, is_undated, is_at_tick, may_cancel, OpenState, account_in, with_account, is_control, taken_out, open_after, ended}, Endings.one_changed, Stepping.stays, Entering.{less_reaped, no_wake}}
 use Rattle.exec_lists.proofs.{Counting.{pending_is, flying_is}, Shifts.{Kept, Joined, shifted, nowhere, room_for}}
 use Rattle.exec_outcomes.specs.{Outcomes.{Cursor, outcome_next, outcome_by as answer_by, outcome_by_stop}, declared.outcome.{Judged.Judged, Outcome.Outcome}}
 use Rattle.exec_waiters.specs.{Events.{is_lawful_for, outcome_by}, declared.completed.CompletionOutcome.{CompletionOutcome, TheVariants.{Requeue, Complete}}, States.{name_of, named}, Told.nothing_told}
@@ -78,7 +78,7 @@ module _ {S F : Type 0} where
       let one = one_changed d.requests id.0 w w' at in
       let same = one.numbers is_some refl in
       let flying = rw flies at (one.numbers is_flying refl) in
-      let uncancelled = one.numbers is_uncancelled refl in
+      let uncancelled = one.numbers may_cancel refl in
       let s' = written d.requests id.0 (Pending w') in
       let less = less_reaped d.ring c next (no_wake c operation) in
       record {

@@ -91,11 +91,11 @@ module _ {S F : Type 0} where
   pub may_after : (d e : Driving S F) → e ≡ with_landings e (made_way d) → has_pending e ≡ false → (e.armed || not (is_full e)) ≡ true → may_wait d ≡ true
   may_after d e way calls room = way_may d e way ∙ and_from _ _ (ap not calls) room
 
-  pub pending_refused : (calm : Bool) (d e : Driving S F) → e ≡ with_landings e (made_way d) → has_pending e ≡ true → Parks calm d e
-  pending_refused calm d e way pending = Refused (way_may d e way ∙ ap (λ (b : Bool). not b && (e.armed || not (is_full e))) pending) way
+  pub pending_refused : (calm : Bool) (d e : Driving S F) → Says d → e ≡ with_landings e (made_way d) → has_pending e ≡ true → Says e → Parks calm d e
+  pending_refused calm d e first way pending says = Refused first (way_may d e way ∙ ap (λ (b : Bool). not b && (e.armed || not (is_full e))) pending) way says
 
-  pub waited : (calm : Bool) (d e f d' : Driving S F) → e ≡ with_landings e (made_way d) → has_pending e ≡ false → (e.armed || not (is_full e)) ≡ true → f ≡ with_landings f (cond e.armed e (cond (is_full e) e (poll_staged e))) → d' ≡ with_landings d' (entered_if calm f) → Parks calm d d'
-  waited calm d e f d' way calls room polls enters = Waited e f (may_after d e way calls room) way (out (is_full e) e.armed polls room) enters
+  pub waited : (calm : Bool) (d e f d' : Driving S F) → Says d → e ≡ with_landings e (made_way d) → Says e → has_pending e ≡ false → (e.armed || not (is_full e)) ≡ true → f ≡ with_landings f (cond e.armed e (cond (is_full e) e (poll_staged e))) → Says f → d' ≡ with_landings d' (entered_if calm f) → Says d' → Parks calm d d'
+  waited calm d e f d' first way says calls room polls polled enters last = Waited e f first (may_after d e way calls room) way says (out (is_full e) e.armed polls room) polled enters last
     where
       out : (full armed : Bool) → f ≡ with_landings f (cond armed e (cond full e (poll_staged e))) → (armed || not full) ≡ true → f ≡ with_landings f (cond armed e (poll_staged e))
       out = grind arith

@@ -11,7 +11,7 @@ use Rattle.exec_ring.specs.{Kernels.reaped, declared.completion.Posted.Posted}
 use Rattle.exec_time.specs.Wheel.{Wheel, removed}
 use Rattle.exec_waiters.specs.{Events.told_by_finish, States.{pending_count, tick_in, tick_of}, Told.{HasPlaces, Tells, nothing_told}, declared.{deferred.Deferred.Deferred, waiter.{Waiter.Waiter, Entry.TheVariants.Pending}, waiter_id.WaiterId.WaiterId}}
 use Rattle.exec_waiters.proofs.Changes.{one_if}
-use Rattle.exec_driver.specs.{Driving.{Driving, request_at}, Steps.{is_control, unscheduled, ended, noted, swept_from, taken_out, landed_at, judged_as_over, told_by_end, Reaps}, Punctual.IsPunctual, Turns.{CanTell, GoesOn, Serves, StaysDone}, declared.driver.reaping.Reaped.Reaped}
+use Rattle.exec_driver.specs.{Driving.{Driving, request_at}, Steps.{is_control, unscheduled, ended, noted, swept_from, taken_out, landed_at, queued_or_ended, told_by_end, Reaps}, Punctual.IsPunctual, Turns.{CanTell, GoesOn, Serves, StaysDone}, declared.driver.reaping.Reaped.Reaped}
 use Rattle.exec_lists.specs.Lists.{has_first, is_among, is_same, without}
 use Rattle.exec_opens.specs.Opens.{OpenState}
 
@@ -20,7 +20,7 @@ pub none_without : (id : WaiterId) (ids : List WaiterId) → has_first ids ≡ f
 none_without id [] none = refl
 none_without id (x ∷ ids) none = absurd (false≢true (sym none))
 
-among_others : (x id : WaiterId) (ids : List WaiterId) → x.0 ≢ id.0 → is_among x ids ≡ true → is_among x (without id ids) ≡ true
+pub among_others : (x id : WaiterId) (ids : List WaiterId) → x.0 ≢ id.0 → is_among x ids ≡ true → is_among x (without id ids) ≡ true
 among_others x id [] apart among = among
 among_others x id (y ∷ ids) apart among =
     elim (same_tells y id) [
@@ -42,7 +42,7 @@ like_unscheduled w (Some k) = record { current = refl; bucket = refl; slots = re
 same_long : {A : Type 0} (a b : List A) → b ≡ a ++ [] → length b ≤ length a
 same_long a b is = let long = ap length is ∙ length-append a [] in omega (arith, long)
 
-at_most_one : (b : Bool) → one_if b ≤ 1
+pub at_most_one : (b : Bool) → one_if b ≤ 1
 at_most_one true = omega arith
 at_most_one false = omega arith
 
@@ -156,11 +156,11 @@ module _ {S F : Type 0} where
         | inr fails ↦ rw fails (eases_ring d _ refl refl refl refl (λ b. b))
       ]
 
-  pub eases_judged : (d : Driving S F) (id : WaiterId) (w : Waiter S F) (answer : Option Ended) (account : Option Account) → request_at d id ≡ Some w → Eases d (judged_as_over d id w answer account)
+  pub eases_judged : (d : Driving S F) (id : WaiterId) (w : Waiter S F) (answer : Option Ended) (account : Option Account) → request_at d id ≡ Some w → Eases d (queued_or_ended d id w answer account)
   eases_judged d id w None account at = record { keeps = keeps_still d _ refl refl refl refl (λ b. b); done = record { due = λ n. n; enrolments = λ n. n; cancels = λ n. n } }
   eases_judged d id w (Some how) account at = eases_ended d id w how account at
 
-  pub room_judged : (d : Driving S F) (id : WaiterId) (w : Waiter S F) (answer : Option Ended) (account : Option Account) (x y : Deferred S F) → request_at d id ≡ Some w → Tells x y (told_by_end id w answer account) → CanTell d x → CanTell (judged_as_over d id w answer account) y
+  pub room_judged : (d : Driving S F) (id : WaiterId) (w : Waiter S F) (answer : Option Ended) (account : Option Account) (x y : Deferred S F) → request_at d id ≡ Some w → Tells x y (told_by_end id w answer account) → CanTell d x → CanTell (queued_or_ended d id w answer account) y
   room_judged d id w None account x y at tells room = room_still x y _ _ tells (omega arith) room
   room_judged d id w (Some how) account x y at tells room = room_ended d id w how account account x y at tells room
 

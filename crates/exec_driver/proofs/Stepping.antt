@@ -1,6 +1,6 @@
 -- Each other step keeps a driver sound.
 use Rattle.std.proofs.Common.{◌≡◌, ℕ, ◌<◌, ◌≤◌, Bool, true, false, not, ◌&&◌, List, [], ◌∷◌, length, Option, Some, None, refl, sym, ap, ◌∙◌, inl, inr, arith, length-append}
-use Rattle.exec_driver.proofs.{Words.{is_some, false≢true, Slab, written, is_durable, Asked, asked_of, deadline_of, asks_cancel, Request, Landing, RingState, taken_places, Submission, waiter_at, is_flying, pending_count, needs_permit, Waiter, Entry, Pending, WaiterId, Driving, request_at, is_queued, is_gated, is_unenrolled, is_enrolled, is_cancelled, first_of, rest_of, IsListed, IsSound, IsHeld, is_unpermitted, is_undated, is_at_tick, is_uncancelled, are_all, cases_Bool, and_parts}, Endings.one_changed, Entering.Within}
+use Rattle.exec_driver.proofs.{Words.{is_some, false≢true, Slab, written, is_durable, Asked, asked_of, deadline_of, asks_cancel, Request, Landing, RingState, taken_places, Submission, waiter_at, is_flying, pending_count, needs_permit, Waiter, Entry, Pending, WaiterId, Driving, request_at, is_queued, is_gated, is_unenrolled, is_enrolled, is_cancelled, first_of, rest_of, IsListed, IsSound, IsHeld, is_unpermitted, is_undated, is_at_tick, may_cancel, are_all, cases_Bool, and_parts}, Endings.one_changed, Entering.Within}
 use Rattle.exec_lists.proofs.{Counting.{pending_is, flying_is, flying_few}, Shifts.{Shift, Left, Kept, First, shifted, nowhere}}
 use Rattle.exec_lists.specs.Lists.{after_queued, has_first}
 use Rattle.exec_driver.specs.Steps.{with_staged}
@@ -58,7 +58,7 @@ module _ {S F : Type 0} where
       let q = queued_tells w (rw at at (first_in is_queued d.requests d.lists.queued id first sound.queued)) in
       let same = one.numbers is_some refl in
       let flying = rw q.idle at (one.numbers is_flying refl) in
-      let uncancelled = one.numbers is_uncancelled refl in
+      let uncancelled = one.numbers may_cancel refl in
       let s' = written d.requests id.0 (Pending w') in
       let nil = none_first d.lists.enrolments nothing in
       record {

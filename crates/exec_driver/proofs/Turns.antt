@@ -7,11 +7,11 @@ use Rattle.std.specs.Option.{IfSome, IfNone, SomeIff}
 use Rattle.std.proofs.lemmas.Bool.{false≢true}
 use Rattle.exec_base.specs.{Slab.{Slab, written}, declared.slab.Id.Id}
 use Rattle.exec_outcomes.specs.{Accounts.Account, declared.outcome.OpResult.OpResult}
-use Rattle.exec_request.specs.{States.{Ended, asks_cancel}, declared.results.WaiterState.{WaiterState, TheVariants.{Active, CancelRequested}}}
+use Rattle.exec_request.specs.{States.{asks_cancel}, declared.results.WaiterState.{WaiterState, TheVariants.{Active, CancelRequested}}}
 use Rattle.exec_ring.specs.{Completions.{result_in}, Kernels.{is_quiet, has_none, next_completion, next_in, posted_left, wakes_left, reaped}, declared.completion.{Completion.Completion, Posted.Posted}}
 use Rattle.exec_waiters.specs.{Events.{cancelled, with_permit}, States.{waiter_at, flying_count, tick_in, file_of, gate_in}, Told.Tells, declared.{deferred.Deferred.Deferred, waiter.{Waiter.Waiter, Entry.{Entry, TheVariants.Pending}}, waiter_id.WaiterId.WaiterId}}
 use Rattle.exec_waiters.proofs.Changes.{one_if}
-use Rattle.exec_driver.specs.{Driving.{Driving, request_at, is_enrolled, is_queued, is_full, may_stage_one, has_pending}, Sound.IsSound, Steps.{noted, swept, swept_from, taken_out, judged_as_over, granted_as, permitted, ReapsNext, completed_in, lawful_of, if_lawful, expired, told_by_cancel, timed_out, cancelling, ended, Grants, StagesOne, with_staged, poll_staged, entered, lower, lowest_gate}, Turns.{Serves, StaysDone, waiting, unreaped, unstaged, made_way, may_wait}, declared.driver.{reaping.Reaped.Reaped, staging.Granted.Granted}}
+use Rattle.exec_driver.specs.{Driving.{Driving, request_at, is_enrolled, is_queued, is_full, may_stage_one, has_pending}, Sound.IsSound, Steps.{noted, swept, swept_from, taken_out, queued_or_ended, permitted, ReapsNext, completed_in, lawful_of, if_lawful, expired, told_by_cancel, timed_out, cancelling, ended, Grants, StagesOne, with_staged, poll_staged, entered, lower, lowest_gate}, Turns.{Serves, StaysDone, waiting, unreaped, unstaged, made_way, may_wait}, declared.driver.{reaping.Reaped.Reaped, staging.Granted.Granted}}
 use Rattle.exec_lists.specs.Lists.{has_first, first_of, rest_of, without, after_due, after_queued}
 use Rattle.exec_opens.specs.Opens.{OpenState, account_in}
 use Rattle.exec_driver.proofs.Coming.{is_itself}
@@ -112,10 +112,6 @@ module _ {S F : Type 0} where
 
   -- PERMITS
 
-  granted_is : (d : Driving S F) (id : WaiterId) (w : Waiter S F) (how : Option Ended) (account : Option Account) → granted_as d id w how account ≡ judged_as_over d id w how account
-  granted_is d id w None account = refl
-  granted_is d id w (Some how) account = refl
-
   pub grant_serves : (old new : Driving S F) (opens opens' : List OpenState) (x y : Deferred S F) (worker file : ℕ) (g : Granted) → IsSound old → Grants old new opens opens' x y worker file g → Serves old new x y × StaysDone old new
   grant_serves old new opens opens' x y worker file g sound grants =
       let there = gated_there old g.id sound grants.waits in
@@ -126,7 +122,7 @@ module _ {S F : Type 0} where
       let first = eases_written old e g.id w w' there.at refl refl refl refl refl refl refl refl in
       let at : request_at e g.id ≡ Some w' = (one_changed old.requests g.id.0 w w' there.at).is_at in
       let last = eases_judged e g.id w' g.ended (account_in opens (file_of w.request)) at in
-      let is : new ≡ judged_as_over e g.id w' g.ended (account_in opens (file_of w.request)) = how.driver ∙ granted_is e g.id w' g.ended _ in
+      let is : new ≡ queued_or_ended e g.id w' g.ended (account_in opens (file_of w.request)) = how.driver in
       let all = subst (λ (d : Driving S F). Eases old d) (sym is) (eases_both old e _ first last) in
       (serves_by old new x y all.keeps (λ room. rw is (room_judged e g.id w' g.ended _ x y at how.tells (room_within _ _ x (omega (arith, first.keeps.pending)) room))), all.done)
 

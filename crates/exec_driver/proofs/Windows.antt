@@ -1,13 +1,14 @@
--- No operation of a request is the wake poll, and what its operations leave decides whether it lacks a permit, and of
--- which open it is.
-use Rattle.std.proofs.Common.{◌≡◌, ℕ, Bool, true, Option, Some, None, ap, sym, ◌∙◌, arith}
+-- An operation of a request has user data of its own, and what its operations leave decides whether it lacks a permit,
+-- and of which open it is.
+use Rattle.std.proofs.{Common.{◌≡◌, ◌<◌, ℕ, Bool, true, Option, Some, None, ap, sym, ◌∙◌, arith}, lemmas.Bool.Decides.eqb_tells}
 use Rattle.exec_driver.proofs.Words.{Kind, asked_of, deadline_of, Request, file_of}
 use Rattle.exec_outcomes.specs.declared.outcome.Kind.TheVariants.{Read, Hint, Direct, Write, Dsync, Many, Sync as Syncs}
 use Rattle.exec_request.specs.{Kept.{Kept, kept_of}, Requests.window_by}
-use Rattle.exec_ring.specs.Kernels.{suits}
+use Rattle.exec_ring.specs.Kernels.{may_have}
+use Rattle.exec_waiters.specs.Ids.{index_in}
 
-pub is_no_poll : (hinted : Bool) (r : Request) (user_data : ℕ) → suits (window_by hinted r) user_data ≡ true
-is_no_poll = grind arith
+pub has_its_own : (hinted : Bool) (r : Request) (user_data : ℕ) → index_in user_data < 4294967295 → may_have (window_by hinted r).kind user_data ≡ true
+has_its_own = grind (arith, eqb_tells)
 
 pub asked_same : (r r' : Request) → kept_of r' ≡ kept_of r → asked_of r' ≡ asked_of r
 asked_same r r' same = ap (λ (k : Kept). k.asked) same

@@ -5,7 +5,7 @@ pub use Rattle.exec_base.specs.declared.task_no.TaskNo.{TaskNo}
 pub use Rattle.exec_driver.specs.Driving.{Driving, is_enrolled, request_at, is_queued, is_gated, is_unenrolled, is_cancelled, seen}
 pub use Rattle.exec_lists.specs.Lists.{Lists, is_among, with_due, is_same, without, first_of, rest_of, after_due, after_enrolment, with_queued}
 pub use Rattle.exec_opens.specs.Opens.{OpenState, account_in, with_account, fresh_open}
-pub use Rattle.exec_driver.specs.Sound.{IsSound, IsHeld, is_at_tick, is_tick, is_unpermitted, is_undated, is_uncancelled}
+pub use Rattle.exec_driver.specs.Sound.{IsSound, IsHeld, is_at_tick, is_tick, is_unpermitted, is_undated, may_cancel}
 pub use Rattle.exec_lists.specs.Listed.{IsListed, count_of, are_all, is_once}
 pub use Rattle.exec_driver.specs.Steps.{fallen_due, all_due, advanced_to, ended, cancelling, is_control, under_way_after, armed_after, tick_for, lower, lowest_gate, noted, taken_out, open_after}
 pub use Rattle.exec_outcomes.specs.Accounts.{Account, is_durable}

@@ -3,7 +3,7 @@ use Rattle.std.specs.Prelude.{◌≡◌, ℕ, true, ◌+◌, ◌*◌, ◌≤◌,
 use Rattle.exec_base.specs.{Slab.Slab, declared.slab.InsertError.{InsertError, TheVariants.{Full, NoMemory}}}
 use Rattle.exec_request.specs.{Requests.gate_of, declared.request.Request.Request}
 use Rattle.exec_waiters.specs.{States.{is_full, IsUsedUp, pending_count}, declared.{observer.Observer.Observer, waiter.{Entry.Entry, Refused.Refused}, waiter_id.WaiterId.WaiterId}}
-use Rattle.exec_driver.specs.{Driving.Driving, Sound.is_uncancelled, Steps.{placed_at, taken_in, newcomer, plainly_written}}
+use Rattle.exec_driver.specs.{Driving.Driving, Sound.may_cancel, Steps.{placed_at, taken_in, newcomer, plainly_written}}
 use Rattle.exec_opens.specs.Opens.{OpenState, with_named, placed, writing}
 use Rattle.exec_lists.specs.Listed.{count_of}
 
@@ -24,7 +24,7 @@ module _ {S F : Type 0} where
 
   -- the ring has two places more than the requests that aren't over, their cancels and the wake poll need
   abbrev pub HasTwoMore : Driving S F → Type 0
-  HasTwoMore d = pending_count d.requests + count_of is_uncancelled d.requests + length d.lists.cancels + d.cancels_under_way + 3 ≤ d.ring.places
+  HasTwoMore d = pending_count d.requests + count_of may_cancel d.requests + length d.lists.cancels + d.cancels_under_way + 3 ≤ d.ring.places
 
   -- the ring has no more places than two for each request that isn't over, one for each cancel under way and one more
   abbrev pub HasFewSpare : Driving S F → Type 0

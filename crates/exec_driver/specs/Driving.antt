@@ -4,7 +4,7 @@ use Rattle.exec_base.specs.Slab.{Slab}
 use Rattle.exec_request.specs.{Requests.deadline_of, States.asks_cancel}
 use Rattle.exec_ring.specs.{Kernels.Landing, Rings.RingState}
 use Rattle.exec_time.specs.{Wheel.Wheel, WheelView.wheel_of, declared.wheel.TimeoutWheel.TimeoutWheel}
-use Rattle.exec_waiters.specs.{States.{waiter_at, flying_count, needs_permit, takes_tick, tick_in}, declared.{waiter.{Waiter.Waiter, Entry.Entry}, waiter_id.WaiterId.WaiterId}}
+use Rattle.exec_waiters.specs.{States.{waiter_at, flying_count, may_stage, needs_permit, takes_tick, tick_in}, declared.{waiter.{Waiter.Waiter, Entry.Entry}, waiter_id.WaiterId.WaiterId}}
 use Rattle.exec_lists.specs.Lists.{Lists, has_first}
 
 pub record Driving (S F : Type 0) : Type 0 where
@@ -53,8 +53,7 @@ module _ {S F : Type 0} where
 
   -- it waits to be staged
   abbrev pub is_queued : Option (Waiter S F) → Bool
-  is_queued None = false
-  is_queued (Some w) = not w.in_flight && not (asks_cancel w.state) && not (needs_permit w)
+  is_queued w = may_stage w
 
   -- it waits at a gate
   abbrev pub is_gated : Option (Waiter S F) → Bool

@@ -94,10 +94,10 @@ module _ {S F : Type 0} where
   polled d = if d.armed then d else poll_staged d
 
   -- A wait on the ring: a full queue is entered first. That is all where a submission is pending or the wake poll has no
-  -- room; else the poll is out, and the kernel works where the word is calm.
+  -- room; else the poll is out, and the kernel works where the word is calm. After each step the driver says what each says.
   pub data Parks (calm : Bool) (old new : Driving S F) : Type 0 where
-    Refused : may_wait old ≡ false → new ≡ with_landings new (made_way old) → Parks calm old new
-    Waited : (way out : Driving S F) → may_wait old ≡ true → way ≡ with_landings way (made_way old) → out ≡ with_landings out (polled way) → new ≡ with_landings new (entered_if calm out) → Parks calm old new
+    Refused : Says old → may_wait old ≡ false → new ≡ with_landings new (made_way old) → Says new → Parks calm old new
+    Waited : (way out : Driving S F) → Says old → may_wait old ≡ true → way ≡ with_landings way (made_way old) → Says way → out ≡ with_landings out (polled way) → Says out → new ≡ with_landings new (entered_if calm out) → Says new → Parks calm old new
 
 module _ {S F : Type 0} (worker : ℕ) (first : Reached S F) where
   -- the gates below a number at which requests of a worker wait, each once, from the lowest on

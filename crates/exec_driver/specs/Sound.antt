@@ -1,8 +1,9 @@
 -- What holds of a driver between its calls. No public clause cites this module.
 use Rattle.std.specs.Prelude.{◌≡◌, ℕ, Bool, false, not, ◌+◌, ◌≤◌, ◌==◌, ◌&&◌, [], length, Option, Some, None, is_some, if◌then◌else◌}
 use Rattle.exec_base.specs.declared.slab.Id.{Id}
-use Rattle.exec_request.specs.{Requests.deadline_of, States.asks_cancel}
+use Rattle.exec_request.specs.{Requests.deadline_of}
 use Rattle.exec_ring.specs.Rings.{taken_places}
+pub use Rattle.exec_waiters.specs.Events.{may_cancel}
 use Rattle.exec_waiters.specs.{States.{waiter_at, flying_count, pending_count, tick_in, needs_permit}, declared.waiter.Waiter.Waiter}
 use Rattle.exec_lists.specs.Listed.{IsListed, count_of}
 use Rattle.exec_driver.specs.Driving.{Driving, is_queued, is_gated, is_unenrolled, is_enrolled, is_cancelled}
@@ -13,11 +14,7 @@ is_tick t None = false
 is_tick t (Some tick) = t == tick
 
 module _ {S F : Type 0} where
-  -- it wasn't cancelled; it stands in the wheel at a tick
-  abbrev pub is_uncancelled : Option (Waiter S F) → Bool
-  is_uncancelled None = false
-  is_uncancelled (Some w) = not (asks_cancel w.state)
-
+  -- it stands in the wheel at a tick
   abbrev pub is_at_tick : ℕ → Option (Waiter S F) → Bool
   is_at_tick t None = false
   is_at_tick t (Some w) = is_tick t (tick_in w.state)
@@ -46,7 +43,7 @@ module _ {S F : Type 0} where
     pub ticks : (t : ℕ) → d.wheel.active t ≡ count_of (is_at_tick t) d.requests
     pub drained : d.wheel.ready ≡ []
     pub entries : taken_places d.ring ≤ flying_count d.requests + d.cancels_under_way + (if d.armed then 1 else 0)
-    pub places : pending_count d.requests + count_of is_uncancelled d.requests + length d.lists.cancels + d.cancels_under_way + 1 ≤ d.ring.places
+    pub places : pending_count d.requests + count_of may_cancel d.requests + length d.lists.cancels + d.cancels_under_way + 1 ≤ d.ring.places
 
   -- The lists have room for all requests that aren't over, and the wheel for each whose deadline is to be enrolled. The
   -- driver knows how many may be in flight, and how many places the ring has.

@@ -2,11 +2,12 @@
 use Rattle.std.specs.Prelude.{◌≡◌, ℕ, Bool, true, false, ◌+◌, ◌-◌, ◌^◌, ◌≤◌, ◌==◌, ◌&&◌, ◌||◌, List, [], ◌∷◌, ◌++◌, nat_lt, nat_le, min, Option, Some, None, Result, Ok, Err, is_some, IsSomeAnd, if◌then◌else◌}
 use Rattle.exec_base.specs.{Slab.{Slab, value_at, written, inserted}, declared.{error.{Cause.TheVariants.InvalidInput, Error.{Error, TheVariants.{Timeout, Io}}}, slab.Id.Id}}
 use Rattle.exec_outcomes.specs.{Accounts.Account, Lawful.window_of, declared.outcome.{OpResult.OpResult, Judged.Judged}, Outcomes.{HasCome, is_unsupported}}
-use Rattle.exec_request.specs.{Hints.{AsksOn, has_hint, without_hint}, Judging.{Judges, judged_as}, Kept.kept_of, Requests.{asked_of, cursor_of, hinted_of, deadline_of, gate_of, record_after, window_by, outcome_if_granted}, States.{Ended, as_answer, asks_cancel, told_by}, Windows.{cancel_window, most_of, wake_window}, declared.{request.Request.{Request, TheVariants.WriteAt}, results.WaiterState.TheVariants.Active, write_at.WriteAtState.{WriteAtState, TheVariants.Writing}}}
+use Rattle.exec_request.specs.{Hints.{AsksOn, has_hint, without_hint}, Judging.{Judges, judged_as}, Kept.kept_of, Requests.{asked_of, cursor_of, hinted_of, deadline_of, gate_of, record_after, window_by, outcome_if_granted}, States.{Ended, as_answer, asks_cancel, told_by}, Windows.{cancel_window, most_of, wake_window}, declared.{request.Request.{Request, TheVariants.WriteAt}, write_at.WriteAtState.{WriteAtState, TheVariants.Writing}}}
 use Rattle.exec_ring.specs.{Completions.result_in, Kernels.{with_entry, entered_with, reaped, next_completion, flight_of, landed}, Rings.fresh as fresh_ring, declared.{store.Store.Store, completion.{Completion.Completion, Posted.Posted, Submission.Submission}}}
 use Rattle.exec_time.specs.{Wheel.{Wheel, fresh, target_of, moment_of, scheduled, removed}, Layouts.slots_of, Turning.advanced}
 use Rattle.exec_waiters.specs.{Events.{admitted, finished, told_by_finish, cancelled, with_permit, with_tick, orphaned, asks_cancel_by_orphan, is_lawful_for, Lands}, Ids.user_data_of, States.{waiter_at, named, tick_in, file_of, gate_in}, Told.{Told, nothing_told, Tells}, declared.{deferred.Deferred.Deferred, observer.Observer.Observer, waiter.{Waiter.Waiter, Entry.{Entry, TheVariants.Pending}}, waiter_id.WaiterId.WaiterId}}
 use Rattle.exec_opens.specs.{Opens.{OpenState, holder_at, account_in, with_account}, declared.opens.WaiterKey.WaiterKey}
+pub use Rattle.exec_waiters.specs.Events.{newcomer}
 use Rattle.exec_driver.specs.{Driving.{Driving, request_at}, declared.driver.{reaping.Reaped.Reaped, staging.Granted.Granted}}
 use Rattle.exec_lists.specs.Lists.{Lists, is_among, no_lists, withdrawn, with_queued, with_gated, with_enrolment, with_due, with_cancel, without_gated, after_queued, after_enrolment, after_due, after_cancel}
 
@@ -179,11 +180,6 @@ module _ {S F : Type 0} where
   abbrev pub taken_in : Driving S F → Request → Observer S F → Driving S F
   taken_in d request observer = record d { requests = inserted d.requests (admitted request observer) }
 
-  -- the request as it was admitted
-  abbrev pub newcomer : Request → Observer S F → Waiter S F
-  newcomer request observer =
-      record { state = Active None; in_flight = false; observer = observer; request = request; permit = false }
-
   -- DEADLINES
 
   -- an id came out of the wheel: its request is due, unless it has no deadline there any more
@@ -231,12 +227,13 @@ module _ {S F : Type 0} where
   abbrev pub permitted : Driving S F → WaiterId → Waiter S F → Driving S F
   permitted d id w = record d { requests = written d.requests id.0 (Pending (with_permit w)); lists = without_gated id d.lists }
 
-  abbrev pub granted_as : Driving S F → WaiterId → Waiter S F → Option Ended → Option Account → Driving S F
-  granted_as d id w None account = record d { lists = with_queued id d.lists }
-  granted_as d id w (Some how) account = ended d id w how account
+  -- a request goes on at the end of what is queued, or ends
+  abbrev pub queued_or_ended : Driving S F → WaiterId → Waiter S F → Option Ended → Option Account → Driving S F
+  queued_or_ended d id w None account = record d { lists = with_queued id d.lists }
+  queued_or_ended d id w (Some how) account = ended d id w how account
 
   abbrev pub granted : Driving S F → WaiterId → Waiter S F → Option Ended → Option Account → Driving S F
-  granted d id w how account = granted_as (permitted d id w) id (with_permit w) how account
+  granted d id w how account = queued_or_ended (permitted d id w) id (with_permit w) how account
 
   abbrev pub told_by_end : WaiterId → Waiter S F → Option Ended → Option Account → Told S F
   told_by_end id w None account = nothing_told
@@ -319,11 +316,6 @@ module _ {S F : Type 0} where
   after_next_control d None = d
   after_next_control d (Some c) = if is_control c then noted c (taken_out d) else d
 
-  -- a request whose operation is over goes on at the end of what is queued, or ends
-  abbrev pub judged_as_over : Driving S F → WaiterId → Waiter S F → Option Ended → Option Account → Driving S F
-  judged_as_over d id w None account = record d { lists = with_queued id d.lists }
-  judged_as_over d id w (Some how) account = ended d id w how account
-
   abbrev pub landed_at : Driving S F → WaiterId → Waiter S F → Driving S F
   landed_at d id w = record d { requests = written d.requests id.0 (Pending w) }
 
@@ -346,7 +338,7 @@ module _ {S F : Type 0} where
     pub request : Request
     pub answer : Option Ended
     pub told_is : told ≡ Some (record { id = id; given = given; ended = told_as w answer (account_in opens (file_of w.request)); permit = permit_after (record w { in_flight = false; request = request }) answer })
-    pub driver : new ≡ with_landings new (judged_as_over (landed_at (taken_out old) id (record w { in_flight = false; request = request })) id (record w { in_flight = false; request = request }) answer (open_after w given (account_in opens (file_of w.request))))
+    pub driver : new ≡ with_landings new (queued_or_ended (landed_at (taken_out old) id (record w { in_flight = false; request = request })) id (record w { in_flight = false; request = request }) answer (open_after w given (account_in opens (file_of w.request))))
     pub judges : Judges (asked_of w.request) (cursor_of w.request) (cursor_of request) (judged_as (hinted_of w.request) w.state given) (as_answer answer)
     pub kept : kept_of request ≡ kept_of w.request
     pub tells : Tells before after (told_by_end id (record w { in_flight = false; request = request }) answer (open_after w given (account_in opens (file_of w.request))))

@@ -1,14 +1,15 @@
 -- What a call does to the requests of a worker keeps where they stand.
 use Rattle.std.proofs.Common.{◌≡◌, ◌⊎◌, ◌∙◌, inl, inr, ℕ, ◌+◌, eqb, Bool, true, false, cond, List, [], ◌∷◌, Option, Some, None, Result, Ok, Err, refl, ap, sym, arith}
 use Rattle.exec_request.specs.Requests.{output_of}
+use Rattle.exec_ring.specs.Completions.{is_operation}
 use Rattle.exec_waiters.specs.{Events.{taken_from, forwarded_from, orphaned_from, changed_from, with_observer, with_waker}, States.{is_local, is_held_by}}
 use Rattle.exec_driver_laws.specs.Sharing.{Gates}
-use Rattle.exec_driver.specs.Steps.{cancelled_at, cancelled_from, cancelling, let_go, without_observer, enrolled_by, granted_as, placed_at, timed_out, swept_from, ended, noted}
+use Rattle.exec_driver.specs.Steps.{cancelled_at, cancelled_from, cancelling, let_go, without_observer, enrolled_by, queued_or_ended, placed_at, timed_out, swept_from, ended, noted}
 use Rattle.exec_driver.proofs.{Words.{TaskNo, Ended, Account, Posted, asks_cancel, cancelled, with_tick, deadline_of, asks_cancel_by_orphan, Slab, value_at, waiter_of, Waiter, Entry, Pending, Ready, WaiterId, Driving, request_at, Forwarded, Orphaned}, Arriving.placed_is}
 use Rattle.exec_driver_laws.proofs.Standing.{AllFit, IsLast, there_last, asking_last, removed_fits, becomes, finished_fits}
 use Rattle.exec_base.specs.declared.error.Error.{Error}
 use Rattle.exec_waiters.specs.{Ids.user_data_of, States.named}
-use Rattle.exec_driver_laws.specs.Owning.{is_operation, operations_in, KeepsOperations}
+use Rattle.exec_driver_laws.specs.Owning.{operations_in, KeepsOperations}
 use Rattle.exec_driver_laws.proofs.{OwningRing.{swept_same, reaped_one}, Promises.completed_named}
 use Rattle.std.proofs.lemmas.Grind.{common_steps}
 use Rattle.exec_driver.specs.{Steps.{Reaps, ReapsNext, completed_in, lawful_of, taken_out, swept, with_landings}, declared.driver.reaping.Reaped.Reaped}
@@ -67,7 +68,7 @@ module _ {S F : Type 0} where
   enrolled_fits g worker d id w (Ok tick) at all = becomes g worker d.requests id w (with_tick tick w) at refl (λ has. has) all
   enrolled_fits g worker d id w (Err error) at all = ended_fits g worker d id w (Err error) None (asking_last d.requests id.0 w at) all
 
-  pub granted_fits : (g : Gates) (worker : ℕ) (d : Driving S F) (id : WaiterId) (w : Waiter S F) (how : Option Ended) (account : Option Account) → IsLast d.requests id.0 → AllFit g worker d.requests → AllFit g worker (granted_as d id w how account).requests
+  pub granted_fits : (g : Gates) (worker : ℕ) (d : Driving S F) (id : WaiterId) (w : Waiter S F) (how : Option Ended) (account : Option Account) → IsLast d.requests id.0 → AllFit g worker d.requests → AllFit g worker (queued_or_ended d id w how account).requests
   granted_fits g worker d id w None account last all = all
   granted_fits g worker d id w (Some how) account last all = ended_fits g worker d id w how account last all
 

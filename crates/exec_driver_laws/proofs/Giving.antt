@@ -4,7 +4,7 @@ use Rattle.exec_base.specs.declared.error.Error.{Error}
 use Rattle.exec_request.specs.Requests.{gate_of, output_of, retired_of}
 use Rattle.exec_waiters.proofs.Over.{over}
 use Rattle.exec_waiters.specs.{Events.{orphaned_from, told_by_orphan, told_by_close, with_observer}, States.is_held_by, Told.{Told, nothing_told}, declared.deferred.Retired.Retired}
-use Rattle.exec_driver.specs.Steps.{both, cancelled_at, cancelled_from, cancelling, enrolled_by, expired, granted_as, in_place, is_late, let_go, placed_at, timed_out, told_at_admission, told_by_cancel, told_by_end, told_by_enrolment, told_by_let_go, with_deadline, without_observer}
+use Rattle.exec_driver.specs.Steps.{both, cancelled_at, cancelled_from, cancelling, enrolled_by, expired, queued_or_ended, in_place, is_late, let_go, placed_at, timed_out, told_at_admission, told_by_cancel, told_by_end, told_by_enrolment, told_by_let_go, with_deadline, without_observer}
 use Rattle.exec_driver.proofs.{Arriving.placed_is, Endings.one_changed, Words.{Account, Driving, Ended, Entry, Id, Orphaned, Pending, Slab, Waiter, WaiterId, after_due, asks_cancel, asks_cancel_by_orphan, cancelled, deadline_of, ended, entry_of, Request, request_at, told_by_finish, value_at, waiter_at, waiter_of, with_tick, written}}
 use Rattle.exec_driver_laws.specs.Ends.{gives_back}
 
@@ -19,8 +19,8 @@ module _ {S F : Type 0} where
   ends : (d : Driving S F) (id : WaiterId) (w : Waiter S F) (how : Ended) (account : Option Account) → request_at d id ≡ Some w → Gives id w (told_by_finish id.0 w how account).resources (ended d id w how account)
   ends d id w how account at = ap (gives_back id w) (sym (over d.requests id.0 w (output_of w.request how account) w.observer at))
 
-  pub by_end : (d : Driving S F) (id : WaiterId) (w : Waiter S F) (how : Option Ended) (account : Option Account) → request_at d id ≡ Some w → Gives id w (told_by_end id w how account).resources (granted_as d id w how account)
-  by_end d id w None account at = goes id w w (granted_as d id w None account) at
+  pub by_end : (d : Driving S F) (id : WaiterId) (w : Waiter S F) (how : Option Ended) (account : Option Account) → request_at d id ≡ Some w → Gives id w (told_by_end id w how account).resources (queued_or_ended d id w how account)
+  by_end d id w None account at = goes id w w (queued_or_ended d id w None account) at
   by_end d id w (Some how) account at = ends d id w how account at
 
   cancel_by : (d : Driving S F) (id : WaiterId) (w : Waiter S F) (flies asked : Bool) → request_at d id ≡ Some w

@@ -9,7 +9,7 @@ use Rattle.exec_request.specs.{Requests.{goes_on_alone}, declared.output.Request
 use Rattle.exec_waiters.specs.{Events.{finished, finished_for, taken_from, forwarded_from, orphaned_from, changed_from, with_waker, with_observer}, States.{is_local, is_held_by}}
 use Rattle.exec_opens.specs.declared.opens.WaiterKey.{WaiterKey}
 use Rattle.exec_lists.proofs.{Counting.{OneChanged, one_written, one_removed}, Names.same_tells}
-use Rattle.exec_driver.specs.Steps.{permitted, landed_at, told_as, taken_in, newcomer, cancelling, cancelled_from, timed_out, cancelled_at, let_go, without_observer, enrolled_by, granted_as, placed_at}
+use Rattle.exec_driver.specs.Steps.{permitted, landed_at, told_as, taken_in, newcomer, cancelling, cancelled_from, timed_out, cancelled_at, let_go, without_observer, enrolled_by, queued_or_ended, placed_at}
 use Rattle.exec_driver.proofs.Words.{with_permit, taken_out, open_after, account_in, file_of, after_enrolment, after_due, tick_for, asks_cancel}
 use Rattle.exec_driver.proofs.Words.{asks_cancel_by_orphan, Request, Ready, Forwarded, Orphaned, with_tick, cancelled, TaskNo, Ended}
 use Rattle.exec_driver.proofs.Words.{Account, Slab, value_at, written, Id, waiter_at, waiter_in, waiter_of, Waiter, Entry, Pending, WaiterId, Driving, request_at, Observer, deadline_of, entry_of, eqb_tells}
@@ -133,7 +133,7 @@ module _ {S F : Type 0} where
   Spared s key told = (lasts (waiter_at s key.id.0) ≡ true) ⊎ IsSomeAnd told (λ e. e.0 ≡ key)
 
   over_lasts : (d : Driving S F) (worker : ℕ) (gone id : WaiterId) (w : Waiter S F) (how : Option Ended) (account : Option Account) → request_at d gone ≡ Some w → lasts (request_at d id) ≡ true
-      → Spared (granted_as d gone w how account).requests (key_of worker id) (option_map {U = WaiterKey × Ended} (λ how. (key_of worker gone, how)) how)
+      → Spared (queued_or_ended d gone w how account).requests (key_of worker id) (option_map {U = WaiterKey × Ended} (λ how. (key_of worker gone, how)) how)
   over_lasts d worker gone id w None account there at = inl at
   over_lasts d worker gone id w (Some how) account there at =
       elim (same_tells id gone) [

@@ -5,10 +5,10 @@ use Rattle.std.specs.List.{list_all, remove}
 use Rattle.std.proofs.lemmas.{Bool.{false≢true, Decides.eqb_tells}, List.Folds.list_all-append}
 use Rattle.exec_request.specs.declared.window.Opcode.{Opcode}
 use Rattle.exec_outcomes.specs.{Lawful.is_lawful, declared.outcome.OpResult.OpResult}
-use Rattle.exec_ring.specs.{Completions.{number_of, result_in, completed}, Kernels.{Landing, MayAllLand, all_taken, all_landed, entered_with, taken_in, taken_as, with_entry, with_completion, with_wake, woken, landed, may_land, without_flight, flight_of, allows, is_of, next_completion, reaped, posted_left}, Rings.RingState, declared.completion.{Completion.Completion, Posted.Posted, Submission.Submission}}
+use Rattle.exec_ring.specs.{Completions.{is_operation, number_of, result_in, completed}, Kernels.{Landing, MayAllLand, all_taken, all_landed, entered_with, taken_in, taken_as, with_entry, with_completion, with_wake, woken, landed, may_land, without_flight, flight_of, allows, is_of, next_completion, reaped, posted_left}, Rings.RingState, declared.completion.{Completion.Completion, Posted.Posted, Submission.Submission}}
 use Rattle.exec_waiters.specs.declared.waiter_id.WaiterId.{WaiterId}
 use Rattle.exec_driver.specs.{Driving.Driving, Steps.{noted, swept_from, cancel_staged, cancel_entry, poll_staged, wake_entry, entered}}
-use Rattle.exec_driver_laws.specs.{Owning.{is_operation, is_posted_of, is_staged_of, is_wake_poll}, Lawful.{asks_within, ends_within, is_within, EndsLawfully}}
+use Rattle.exec_driver_laws.specs.{Owning.{is_posted_of, is_staged_of, is_wake_poll}, Lawful.{asks_within, ends_within, is_within, EndsLawfully}}
 use Rattle.exec_driver_laws.proofs.OwningRing.{last_passes, no_control}
 
 still : {X : Type 0} (p : X → Bool) (xs : List X) (i : ℕ) → list_all p xs ≡ true → list_all p (remove xs i) ≡ true

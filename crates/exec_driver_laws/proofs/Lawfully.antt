@@ -6,14 +6,14 @@ use Rattle.exec_base.specs.{Slab.{next_id}, declared.{error.Error.Error}}
 use Rattle.exec_outcomes.specs.Lawful.{window_of}
 use Rattle.exec_request.specs.{Requests.{cursor_of, output_of}}
 use Rattle.exec_lists.specs.Lists.{is_same}
-use Rattle.exec_ring.specs.{Kernels.{is_of, with_entry}, Landings.Moves, Rings.RingState, declared.store.Store.Store}
+use Rattle.exec_ring.specs.{Completions.is_operation, Kernels.{is_of, with_entry}, Landings.Moves, Rings.RingState, declared.store.Store.Store}
 use Rattle.exec_waiters.specs.{Ids.user_data_of, States.named}
 use Rattle.exec_driver.specs.{Placed.Says, declared.driver.reaping.Reaped.Reaped}
-use Rattle.exec_driver.specs.Steps.{ReapsNext, StagesOne, completed_in, swept, with_landings, permitted, landed_at, taken_in, newcomer, cancelled_at, let_go, timed_out, enrolled_by, granted_as, placed_at, ended}
+use Rattle.exec_driver.specs.Steps.{ReapsNext, StagesOne, completed_in, swept, with_landings, permitted, landed_at, taken_in, newcomer, cancelled_at, let_go, timed_out, enrolled_by, queued_or_ended, placed_at, ended}
 use Rattle.exec_driver.proofs.Words.{Ended, Account, Slab, value_at, Id, OpResult, Completion, next_completion, result_in, waiter_at, Waiter, Entry, Pending, WaiterId, Driving, request_at, is_flying, is_some, Observer}
 use Rattle.exec_driver.proofs.Words.{asked_of, Request, Submission, with_tick, tick_for, after_due, after_enrolment, with_permit, taken_out, open_after, account_in, file_of, Deferred, OpenState, eqb_tells}
 use Rattle.exec_driver.proofs.{Serving.reaps_ring, Turns.completed_there}
-use Rattle.exec_driver_laws.specs.{Lawful.{asks_within, ends_within, is_within, AreWithin, CompletesLawfully, EndsLawfully}, Owning.{is_operation, is_posted_of, is_staged_of, operations_in, IsOwned}}
+use Rattle.exec_driver_laws.specs.{Lawful.{asks_within, ends_within, is_within, AreWithin, CompletesLawfully, EndsLawfully}, Owning.{is_posted_of, is_staged_of, operations_in, IsOwned}}
 use Rattle.exec_driver_laws.specs.Sharing.{Gates, Call, Admit, Join, Observe, SetWaker, Forward, Orphan, Expire, Enrol, Grant, Stage, Land, Reap, SetAccount, Recount, Leave, Other, CallsOne, AreFresh, IsRun}
 use Rattle.exec_driver_laws.proofs.Everywhere.{Holds, Others, each, became, written_all, filled_all, filled_but, finished_all, taken_all, waked_all, forwarded_all, orphaned_all}
 use Rattle.exec_driver_laws.proofs.{Calling.{ReapsThere, reap_tells}, LawfulRing.{entry_within, landed_within, next_within, reaped_within, swept_within}, OwningCalls.{flying_some, named_there, named_back, named_idle, idle_queued, kept_owned}, OwningRuns.{always, says_always, names_operation}, OwningSteps.{cancelled_ring, let_go_ring, enrolled_ring, granted_ring, placed_ring}, Standing.{none_past, reads}, Uncancelled.first_among}
@@ -60,7 +60,7 @@ module _ {S F : Type 0} (ring : RingState) where
   enrolled_so d id w (Ok tick) at all = became stands (λ j. refl) id d.requests w (with_tick tick w) at (λ so. so) all
   enrolled_so d id w (Err error) at all = ended_so (record d { lists = after_enrolment d.lists }) id w (Err error) None (λ j other. all j)
 
-  over_so : (d : Driving S F) (id : WaiterId) (w : Waiter S F) (how : Option Ended) (account : Option Account) → So d → So (granted_as d id w how account)
+  over_so : (d : Driving S F) (id : WaiterId) (w : Waiter S F) (how : Option Ended) (account : Option Account) → So d → So (queued_or_ended d id w how account)
   over_so d id w None account all = all
   over_so d id w (Some how) account all = ended_so d id w how account (λ j other. all j)
 

@@ -8,7 +8,7 @@ use Rattle.exec_request.specs.{Requests.output_of, declared.request.Request.Requ
 use Rattle.exec_waiters.proofs.{Changes.at_by, Over.over}
 use Rattle.exec_opens.specs.{Opens.OpenState, declared.opens.WaiterKey.WaiterKey}
 use Rattle.exec_lists.specs.Lists.{after_due, after_enrolment}
-use Rattle.exec_driver.specs.{Admission.Admits, Steps.{granted_as, landed_at, newcomer, permitted, taken_in, told_as}, declared.driver.reaping.Reaped.Reaped}
+use Rattle.exec_driver.specs.{Admission.Admits, Steps.{queued_or_ended, landed_at, newcomer, permitted, taken_in, told_as}, declared.driver.reaping.Reaped.Reaped}
 use Rattle.exec_driver.proofs.{Endings.one_changed, Words.{Account, Deferred, Driving, Ended, Entry, Id, Observer, Pending, Slab, Waiter, WaiterId, account_in, entry_of, eqb_tells, file_of, open_after, request_at, taken_out, tick_for, value_at, waiter_at, with_permit}}
 use Rattle.exec_driver_laws.specs.Sharing.{Call, Admit, Join, Observe, SetWaker, Forward, Orphan, Expire, Enrol, Grant, Stage, Land, Reap, SetAccount, Recount, Leave, Other, CallsOne, Gates, IsRun, end_by, end_told, key_of}
 use Rattle.exec_driver_laws.proofs.{Calling.{ReapsThere, reap_tells}, Onward.{Onward, became_on, cancelled_on, enrolled_on, filled_on, forwarded_on, granted_on, let_go_on, placed_on, room_on, taken_on, then_on, unmoved, waked_on}, Standing.{asking_last, filled_last}}
@@ -109,7 +109,7 @@ module _ {S F : Type 0} where
   told_answer w None account ended is = absurd (cc)
   told_answer w (Some how) account ended is = (how, refl)
 
-  ended_over : (d : Driving S F) (id : WaiterId) (w : Waiter S F) (how : Option Ended) (ended : Ended) (account : Option Account) → how ≡ Some ended → request_at d id ≡ Some w → request_at (granted_as d id w how account) id ≡ None
+  ended_over : (d : Driving S F) (id : WaiterId) (w : Waiter S F) (how : Option Ended) (ended : Ended) (account : Option Account) → how ≡ Some ended → request_at d id ≡ Some w → request_at (queued_or_ended d id w how account) id ≡ None
   ended_over d id w None ended account is at = absurd (cc)
   ended_over d id w (Some how) ended account is at = over d.requests id.0 w (output_of w.request how account) w.observer at
 

@@ -9,7 +9,7 @@ use Rattle.exec_request.specs.{Requests.output_of, declared.output.RequestOutput
 use Rattle.exec_waiters.specs.Events.{changed_from, finished_for, forwarded_from, orphaned_from, taken_from, with_observer, with_waker}
 use Rattle.exec_waiters.specs.States.{is_held_by, is_local}
 use Rattle.exec_waiters.proofs.Changes.{at_by}
-use Rattle.exec_driver.specs.Steps.{cancelled_from, cancelling, enrolled_by, granted_as, let_go, placed_at, timed_out, without_observer}
+use Rattle.exec_driver.specs.Steps.{cancelled_from, cancelling, enrolled_by, queued_or_ended, let_go, placed_at, timed_out, without_observer}
 use Rattle.exec_driver.proofs.{Arriving.placed_is, Words.{Account, Driving, Ended, Entry, Forwarded, Id, Observer, Orphaned, Pending, Ready, Slab, TaskNo, Waiter, WaiterId, asks_cancel, asks_cancel_by_orphan, cancelled, deadline_of, ended, entry_of, eqb_tells, request_at, value_at, waiter_at, waiter_of, with_tick, written}}
 use Rattle.exec_driver_laws.proofs.Standing.{IsLast, asking_last, past_filled, past_freed, there_last}
 
@@ -163,7 +163,7 @@ module _ {S F : Type 0} where
   enrolled_on d id w (Ok tick) at = became_on d.requests id.0 w (with_tick tick w) at
   enrolled_on d id w (Err error) at = ended_on d id w (Err error) None (asking_last d.requests id.0 w at)
 
-  pub granted_on : (d : Driving S F) (id : WaiterId) (w : Waiter S F) (how : Option Ended) (account : Option Account) → IsLast d.requests id.0 → Onward d.requests (granted_as d id w how account).requests
+  pub granted_on : (d : Driving S F) (id : WaiterId) (w : Waiter S F) (how : Option Ended) (account : Option Account) → IsLast d.requests id.0 → Onward d.requests (queued_or_ended d id w how account).requests
   granted_on d id w None account last = unmoved d.requests d.requests refl
   granted_on d id w (Some how) account last = ended_on d id w how account last
 

@@ -4,16 +4,16 @@ use Rattle.std.specs.{Option.{option_map}, Prelude.{IsSomeAnd}}
 use Rattle.std.proofs.lemmas.Bool.{false≢true}
 use Rattle.exec_base.specs.{Slab.{slot_at}, declared.slab.Slot.TheVariants.{Live}}
 use Rattle.exec_request.specs.{Hints.has_hint, Requests.window_by, declared.window.Window.Window}
-use Rattle.exec_ring.specs.{Landings.Moves, declared.store.Store.Store}
+use Rattle.exec_ring.specs.{Completions.is_operation, Landings.Moves, declared.store.Store.Store}
 use Rattle.exec_waiters.specs.{Ids.{user_data_of, index_in}, States.{named, named_in}}
 use Rattle.exec_waiters.proofs.Changes.{at_by}
 use Rattle.std.proofs.lemmas.Grind.{common_steps}
 use Rattle.exec_opens.specs.declared.opens.WaiterKey.{WaiterKey}
 use Rattle.exec_lists.proofs.Names.{same_tells}
-use Rattle.exec_driver.specs.{Placed.Says, Steps.{StagesOne, LandsOne, judged_as_over, landed_at, told_as, taken_in, newcomer, placed_at}, declared.driver.reaping.Reaped.Reaped}
+use Rattle.exec_driver.specs.{Placed.Says, Steps.{StagesOne, LandsOne, queued_or_ended, landed_at, told_as, taken_in, newcomer, placed_at}, declared.driver.reaping.Reaped.Reaped}
 use Rattle.exec_driver.proofs.Words.{Account, Slab, Id, OpResult, OpenState, Deferred, Submission, RingState, Request, Waiter, Entry, Pending, WaiterId, Driving, request_at, Ended, waiter_at, is_flying, is_some, is_queued, is_gated, is_unenrolled, value_at, flight_of, tick_for, after_enrolment, after_due, taken_out, open_after, account_in, file_of, eqb_tells, entry_of, one_if}
 use Rattle.exec_driver.proofs.Endings.{one_changed, one_finished}
-use Rattle.exec_driver_laws.specs.{Owning.{is_operation, is_staged_of, is_wake_poll, operations_in, KeepsOperations, IsOwned}, Sharing.{Gates, Call, Admit, Join, Observe, SetWaker, Forward, Orphan, Expire, Enrol, Grant, Stage, Land, Reap, SetAccount, Recount, Leave, Other, key_of, end_by_reap, end_told}}
+use Rattle.exec_driver_laws.specs.{Owning.{is_staged_of, is_wake_poll, operations_in, KeepsOperations, IsOwned}, Sharing.{Gates, Call, Admit, Join, Observe, SetWaker, Forward, Orphan, Expire, Enrol, Grant, Stage, Land, Reap, SetAccount, Recount, Leave, Other, key_of, end_by_reap, end_told}}
 use Rattle.exec_driver_laws.proofs.{Calling.{reap_tells, ReapsThere, Drops}, Lasting.{placed_apart, filled_apart}, OwningRing.{keeps_same, entry_one, flight_there}, OwningSteps.{GoOn, stays, flies_on, there_before, alike_on, same_ids, taken_on, waked_on, forwarded_on, let_go_on, let_go_ring, cancelled_on, cancelled_ring, enrolled_on, enrolled_ring, granted_on, granted_ring, free, placed_ring, filled_idle, placed_idle}, Uncancelled.first_among}
 
 moved_there : (o : Option Submission) (given : OpResult) (r r' : Request) (st st' : Store) → Moves o given r r' st st' → (e : Submission) × (o ≡ Some e)
@@ -89,15 +89,15 @@ module _ {S F : Type 0} where
       (subst (GoOn old.requests) (sym lands.lands.slab) (alike_on old.requests id.0 w (record w { request = lands.lands.request }) at refl))
 
   over_told : (d : Driving S F) (worker : ℕ) (id : WaiterId) (v w : Waiter S F) (how : Option Ended) (account kept : Option Account) → request_at d id ≡ Some w
-      → (is_some (request_at (judged_as_over d id w how account) id) ≡ true) ⊎ IsSomeAnd (option_map {U = WaiterKey × Ended} (λ how. (key_of worker id, how)) (told_as v how kept)) (λ e. e.0 ≡ key_of worker id)
+      → (is_some (request_at (queued_or_ended d id w how account) id) ≡ true) ⊎ IsSomeAnd (option_map {U = WaiterKey × Ended} (λ how. (key_of worker id, how)) (told_as v how kept)) (λ e. e.0 ≡ key_of worker id)
   over_told d worker id v w None account kept at = inl (ap is_some at)
   over_told d worker id v w (Some how) account kept at = inr refl
 
-  over_idle : (d : Driving S F) (id : WaiterId) (w : Waiter S F) (how : Option Ended) (account : Option Account) → request_at d id ≡ Some w → w.in_flight ≡ false → is_flying (request_at (judged_as_over d id w how account) id) ≡ false
+  over_idle : (d : Driving S F) (id : WaiterId) (w : Waiter S F) (how : Option Ended) (account : Option Account) → request_at d id ≡ Some w → w.in_flight ≡ false → is_flying (request_at (queued_or_ended d id w how account) id) ≡ false
   over_idle d id w None account at idle = ap is_flying at ∙ idle
   over_idle d id w (Some how) account at idle = ap is_flying (one_finished d.requests id.0 w how account at).is_at
 
-  over_others : (d : Driving S F) (id : WaiterId) (w : Waiter S F) (how : Option Ended) (account : Option Account) → request_at d id ≡ Some w → (j : Id) → j ≢ id.0 → waiter_at (judged_as_over d id w how account).requests j ≡ waiter_at d.requests j
+  over_others : (d : Driving S F) (id : WaiterId) (w : Waiter S F) (how : Option Ended) (account : Option Account) → request_at d id ≡ Some w → (j : Id) → j ≢ id.0 → waiter_at (queued_or_ended d id w how account).requests j ≡ waiter_at d.requests j
   over_others d id w None account at j other = refl
   over_others d id w (Some how) account at j other = (one_finished d.requests id.0 w how account at).others j other
 

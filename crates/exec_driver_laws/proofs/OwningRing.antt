@@ -6,14 +6,14 @@ use Rattle.std.proofs.lemmas.{Bool.{false≢true, eqb-true, Decides.eqb_tells}, 
 use Rattle.std.proofs.lemmas.List.Sums.{sum_by-cons, sum_by_push}
 use Rattle.exec_request.specs.declared.window.Opcode.{Opcode}
 use Rattle.exec_outcomes.specs.declared.outcome.OpResult.{OpResult}
-use Rattle.exec_ring.specs.{Completions.{completed, wake_completion}, Kernels.{Landing, MayAllLand, all_taken, all_landed, entered_with, taken_in, taken_as, with_entry, with_completion, with_wake, woken, landed, may_land, without_flight, flight_of, allows, last_place, is_of, next_completion, reaped, next_in, posted_left}, Rings.RingState, declared.completion.{Completion.Completion, Posted.Posted, Submission.Submission}}
+use Rattle.exec_ring.specs.{Completions.{is_operation, completed, wake_completion}, Kernels.{Landing, MayAllLand, all_taken, all_landed, entered_with, taken_in, taken_as, with_entry, with_completion, with_wake, woken, landed, may_land, without_flight, flight_of, allows, last_place, is_of, next_completion, reaped, next_in, posted_left}, Rings.RingState, declared.completion.{Completion.Completion, Posted.Posted, Submission.Submission}}
 use Rattle.exec_waiters.specs.declared.waiter_id.WaiterId.{WaiterId}
 use Rattle.exec_driver.specs.{Driving.Driving, Steps.{is_control, noted, swept_from, cancel_staged, cancel_entry, poll_staged, wake_entry, entered, advanced_to}}
 use Rattle.exec_driver.proofs.Advancing.{all_alone}
 use Rattle.exec_lists.specs.Lists.{Lists}
 use Rattle.exec_driver.proofs.Words.{advanced}
 use Rattle.exec_driver_laws.specs.Waiting.{KeepsPlaces}
-use Rattle.exec_driver_laws.specs.Owning.{is_operation, is_posted_of, is_staged_of, is_wake_poll, operations_in, KeepsOperations}
+use Rattle.exec_driver_laws.specs.Owning.{is_posted_of, is_staged_of, is_wake_poll, operations_in, KeepsOperations}
 
 -- an operation is no wake, and no cancel
 pub no_control : (user_data : ℕ) → is_operation user_data ≡ true → (eqb 18446744073709551615 user_data ≡ false) × (eqb 4294967295 user_data ≡ false)

@@ -2,11 +2,12 @@
 use Rattle.std.proofs.Common.{◌≡◌, ℕ, zero, suc, ◌≤◌, ◌<◌, true, false, cond, [], ◌∷◌, Option, Some, None, refl, sym, ap, subst, ◌∙◌, inl, inr, arith}
 use Rattle.std.specs.Prelude.{IsSomeAnd}
 use Rattle.std.proofs.lemmas.Option.{same_Some}
+use Rattle.exec_ring.specs.Completions.{is_operation}
 use Rattle.exec_waiters.specs.{Ids.user_data_of, States.named}
 use Rattle.exec_opens.specs.declared.opens.WaiterKey.{WaiterKey}
 use Rattle.exec_driver.specs.{Placed.Says, Steps.completed_in}
 use Rattle.exec_driver.proofs.Words.{Completion, Id, Waiter, WaiterId, Driving, request_at, result_in, waiter_at, is_flying, is_some, eqb_tells}
-use Rattle.exec_driver_laws.specs.{Owning.{is_operation, operations_in, HasOwner, IsOwned, KeepsOperations}, OwningExamples.{polling, its_entry}, Sharing.{Gates, CallsOne, AreFresh, IsRun, key_of, end_by_reap}}
+use Rattle.exec_driver_laws.specs.{Owning.{operations_in, HasOwner, IsOwned, KeepsOperations}, OwningExamples.{polling, its_entry}, Sharing.{Gates, CallsOne, AreFresh, IsRun, key_of, end_by_reap}}
 use Rattle.exec_driver_laws.proofs.{OwningCalls.{Turns, Stays, Begins, Over, turns, call_keeps, kept_owned, flying_some, named_there, named_back, gone_told}, Everywhere.each, Promises.completed_named, Standing.{none_past, reads}}
 
 -- the user data of a request is that of an operation

@@ -7,7 +7,7 @@ use Rattle.exec_base.proofs.Slots.{some_of_if}
 use Rattle.exec_request.specs.{declared.output.RequestOutput.RequestOutput}
 use Rattle.exec_waiters.specs.{Events.{finished, finished_for, taken_from, forwarded_from, orphaned_from, changed_from, with_waker, with_observer}, States.{is_local, is_held_by}}
 use Rattle.exec_lists.proofs.Counting.{OneChanged, one_written, one_removed}
-use Rattle.exec_driver.specs.Steps.{permitted, granted, cancelled_at, let_go, without_observer, enrolled_by, granted_as, placed_at}
+use Rattle.exec_driver.specs.Steps.{permitted, granted, cancelled_at, let_go, without_observer, enrolled_by, queued_or_ended, placed_at}
 use Rattle.exec_driver.proofs.Words.{Slab, value_at, written, Id, TaskNo, Driving, request_at, Account, Ended, waiter_at, waiter_in, waiter_of, is_flying, is_some, Waiter, Entry, Pending, Ready, WaiterId, Observer, Forwarded, Orphaned, entry_of, eqb_tells, deadline_of}
 use Rattle.exec_driver.proofs.Words.{with_permit}
 use Rattle.exec_driver_laws.proofs.Everywhere.{finished_all}
@@ -112,13 +112,13 @@ module _ {S F : Type 0} where
   enrolled_ring d id w (Ok tick) = refl
   enrolled_ring d id w (Err error) = refl
 
-  granted_as_on : (d : Driving S F) (id : WaiterId) (w : Waiter S F) (how : Option Ended) (account : Option Account) → request_at d id ≡ Some w → w.in_flight ≡ false → GoOn d.requests (granted_as d id w how account).requests
-  granted_as_on = grind (arith, stays, finished_on)
+  queued_or_ended_on : (d : Driving S F) (id : WaiterId) (w : Waiter S F) (how : Option Ended) (account : Option Account) → request_at d id ≡ Some w → w.in_flight ≡ false → GoOn d.requests (queued_or_ended d id w how account).requests
+  queued_or_ended_on = grind (arith, stays, finished_on)
 
   pub granted_on : (d : Driving S F) (id : WaiterId) (w : Waiter S F) (how : Option Ended) (account : Option Account) → request_at d id ≡ Some w → w.in_flight ≡ false → GoOn d.requests (granted d id w how account).requests
   granted_on d id w how account at idle j =
       let w' = with_permit w in
-      then_on (waiter_at d.requests j) (waiter_at (permitted d id w).requests j) (waiter_at (granted d id w how account).requests j) (alike_on d.requests id.0 w w' at refl j) (granted_as_on (permitted d id w) id w' how account (one_changed d.requests id.0 w w' at).is_at idle j)
+      then_on (waiter_at d.requests j) (waiter_at (permitted d id w).requests j) (waiter_at (granted d id w how account).requests j) (alike_on d.requests id.0 w w' at refl j) (queued_or_ended_on (permitted d id w) id w' how account (one_changed d.requests id.0 w w' at).is_at idle j)
 
   pub granted_ring : (d : Driving S F) (id : WaiterId) (w : Waiter S F) (how : Option Ended) (account : Option Account) → (granted d id w how account).ring ≡ d.ring
   granted_ring d id w None account = refl

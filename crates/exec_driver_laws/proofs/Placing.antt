@@ -6,7 +6,7 @@ use Rattle.exec_request.specs.{Requests.{output_of, gate_of}}
 use Rattle.exec_ring.specs.{Landings.Moves, declared.store.Store.Store}
 use Rattle.exec_lists.specs.Lists.{Lists, is_same, without, is_among, first_of, withdrawn, with_queued, with_cancel, without_gated, after_queued, after_enrolment}
 use Rattle.exec_driver.specs.{Placed.Says, declared.driver.reaping.Reaped.Reaped}
-use Rattle.exec_driver.specs.Steps.{permitted, landed_at, taken_in, newcomer, cancelled_at, let_go, timed_out, enrolled_by, granted_as, placed_at, ended}
+use Rattle.exec_driver.specs.Steps.{permitted, landed_at, taken_in, newcomer, cancelled_at, let_go, timed_out, enrolled_by, queued_or_ended, placed_at, ended}
 use Rattle.exec_driver.proofs.Words.{Ended, Account, Slab, value_at, OpResult, waiter_at, Waiter, Entry, Pending, WaiterId, Driving, request_at, is_queued, is_gated, Observer}
 use Rattle.exec_driver.proofs.Words.{deadline_of, is_some, Request, Submission, with_tick, tick_for, after_due, with_permit, taken_out, open_after, account_in, file_of, Deferred, OpenState}
 use Rattle.exec_driver.proofs.{Arriving.put, Endings.one_changed, Windows.deadline_same}
@@ -56,7 +56,7 @@ module _ {S F : Type 0} (timed : Bool) where
 
   -- a request that goes on is queued
   over_on : (d : Driving S F) (id : WaiterId) (w : Waiter S F) (how : Option Ended) (account : Option Account) → stands (with_queued id d.lists) id (request_at d id) ≡ true → Others (stands d.lists) id d.requests
-      → On (granted_as d id w how account)
+      → On (queued_or_ended d id w how account)
   over_on = grind (arith, list_any-append, ended_on, same_tells)
 
   -- who comes is put where it belongs, and who was there stays

@@ -1,9 +1,9 @@
--- A whole service is calls of its worker, and so drivers that share gates go on sharing them.
+-- A whole service is calls of its worker, and a whole wait, and so drivers that share gates go on sharing them.
 use Rattle.std.proofs.Common.{◌≡◌, ◌≢◌, inl, inr, eqb, ℕ, Bool, true, false, cond, List, Option, Some, None, refl, sym, ap, subst, ◌∙◌, arith}
 use Rattle.std.proofs.lemmas.Bool.{false≢true}
-use Rattle.exec_driver.specs.{Driving.{is_gated, is_queued, is_unenrolled}, Placed.Says, Steps.{ReapsNext, Grants, advanced_to, cancel_staged, poll_staged, entered, with_landings}, Turns.must_enter, declared.driver.{reaping.Reaped.Reaped}}
+use Rattle.exec_driver.specs.{Driving.{is_full, is_gated, is_queued, is_unenrolled}, Placed.Says, Steps.{ReapsNext, Grants, advanced_to, cancel_staged, poll_staged, entered, with_landings}, Turns.must_enter, declared.driver.{reaping.Reaped.Reaped}}
 use Rattle.exec_driver.specs.Service.{entered_if, Repeats, NoStep, OneMore, Passes, permit_of, permit_by, Reached, ReapsOne, ExpiresOne, EnrolsOne, GrantsAt, Turn}
-use Rattle.exec_driver.specs.Service.{NoTurn, StagesEntry, Cancel, Request, WakePoll, Enter, GrantsBelow, NoGate, NextGate, StagesAll, Staged, Busy, ServesInOrder}
+use Rattle.exec_driver.specs.Service.{NoTurn, StagesEntry, Cancel, Request, WakePoll, Enter, GrantsBelow, NoGate, NextGate, StagesAll, Staged, Busy, Parks, Refused, Waited, ServesInOrder}
 use Rattle.exec_driver.proofs.Words.{eqb_tells, Deferred, Waiter, WaiterId, Driving, request_at, OpenState, deadline_of, account_in, file_of}
 use Rattle.exec_opens.specs.declared.opens.WaiterKey.{WaiterKey}
 use Rattle.exec_driver_laws.specs.Sharing.{Gates, LineUp, Call, Expire, Enrol, Grant, Stage, Reap, Leave, Other, key_of, with_leaving, leaving_by, passed_on}
@@ -111,9 +111,30 @@ module _ {S F : Type 0} where
   grants_all worker old g first end last NoGate before = before
   grants_all worker old g first end last (NextGate from file a b steps lowest grants) before = grants_one worker file old g a b grants (grants_all worker old g first from a steps before)
 
-  entered_same : (enters : Bool) (d : Driving S F) → Says d → ((entered_if enters d).requests ≡ d.requests) × KeepsOperations d.ring (entered_if enters d).ring × EndsLawfully d.ring (entered_if enters d).ring × KeepsPlaces d.lists (entered_if enters d).lists
+  -- the requests stay, and the operations and the lists as for any other call
+  abbrev Same : Driving S F → Driving S F → Type 0
+  Same d d' = (d'.requests ≡ d.requests) × KeepsOperations d.ring d'.ring × EndsLawfully d.ring d'.ring × KeepsPlaces d.lists d'.lists
+
+  entered_same : (enters : Bool) (d : Driving S F) → Says d → Same d (entered_if enters d)
   entered_same true d says = (refl, enter_keeps d says.lands, enter_within d says.lands, record { queued = refl; gated = refl; enrolments = refl })
   entered_same false d says = (refl, keeps_same d.ring d.ring refl, λ user_data most is was. was, record { queued = refl; gated = refl; enrolments = refl })
+
+  polled_same : (armed : Bool) (d : Driving S F) → Same d (cond armed d (poll_staged d))
+  polled_same true d = (refl, keeps_same d.ring d.ring refl, λ user_data most is was. was, record { queued = refl; gated = refl; enrolments = refl })
+  polled_same false d = (refl, poll_keeps d, poll_within d, record { queued = refl; gated = refl; enrolments = refl })
+
+  -- one such call more
+  other_one : (worker : ℕ) (old d e d' : Driving S F) (g : Gates) → Same d e → d' ≡ with_landings d' e → Says d' → Leads worker old d g g.opens → Leads worker old d' g g.opens
+  other_one worker old d e d' g same is says leads = plain worker old d d' g g.opens (λ h. others worker d d' e h is same.0 same.1 same.2 same.3) says leads
+
+  pub park_calls : (worker : ℕ) (calm : Bool) (old new : Driving S F) (g : Gates) → Parks calm old new → IsCalls worker old new g g.opens
+  park_calls worker calm old new g (Refused says may way last) =
+      (other_one worker old old (entered_if (is_full old) old) new g (entered_same (is_full old) old says) way last (says, record { gates = g; opens_after = refl; calls = NoCall })).1
+  park_calls worker calm old new g (Waited d e says may way says_way polls polled enters last) =
+      let start : Leads worker old old g g.opens = (says, record { gates = g; opens_after = refl; calls = NoCall }) in
+      let ready = other_one worker old old (entered_if (is_full old) old) d g (entered_same (is_full old) old says) way says_way start in
+      let out = other_one worker old d (cond d.armed d (poll_staged d)) e g (polled_same d.armed d) polls polled ready in
+      (other_one worker old e (entered_if calm e) new g (entered_same calm e polled) enters last out).1
 
   pub service_calls : (worker now : ℕ) (defer answer : Bool) (old new : Reached S F) (g : Gates) → ServesInOrder worker now defer answer old new → g.opens ≡ old.opens → IsCalls worker old.driver new.driver g new.opens
   service_calls worker now defer answer old new g s opens =

@@ -6,7 +6,7 @@ use Rattle.exec_request.specs.Requests.{gate_of, output_of, record_after}
 use Rattle.exec_waiters.proofs.{Changes.{at_by}, Over.over}
 use Rattle.exec_opens.specs.{Opens.{holder_at, open_at, with_open, with_named, with_account, joined, passed, placed, writing, keeping}, declared.opens.WaiterKey.WaiterKey}
 use Rattle.exec_driver_laws.specs.{Sharing.{Gates, IsGiven, StandsIn, StandsAt, key_of, at_gate, with_leaving, leaving_by, with_lines, passed_on, LineUp, Call, Admit, Join, Observe, SetWaker, Forward, Orphan, Expire, Enrol, Grant, Stage, Land, Reap, SetAccount, Recount, Leave, Other, CallsOne, AreFresh, IsRun}, Laws.IsDurableFlight, Lines.KeepsLine}
-use Rattle.exec_driver.specs.{Service.permit_by, Placed.FliesPermitted, declared.driver.{reaping.Reaped.Reaped, staging.Granted.Granted}, Steps.{granted_as, permitted, taken_in, newcomer, opens_after_end, Grants, Reaps, ReapsNext, plainly_written, taken_out, tick_for, landed_at, open_after, permit_after}, Admission.Admits}
+use Rattle.exec_driver.specs.{Service.permit_by, Placed.FliesPermitted, declared.driver.{reaping.Reaped.Reaped, staging.Granted.Granted}, Steps.{queued_or_ended, permitted, taken_in, newcomer, opens_after_end, Grants, Reaps, ReapsNext, plainly_written, taken_out, tick_for, landed_at, open_after, permit_after}, Admission.Admits}
 use Rattle.exec_lists.specs.Lists.{after_due, after_enrolment}
 use Rattle.exec_driver.proofs.{Words.{is_some, false≢true, Ended, Account, with_permit, file_of, account_in, Deferred, eqb_tells, Slab, value_at, waiter_at, Request, OpResult, Waiter, Entry, Pending, WaiterId, Driving, request_at, OpenState, fresh_open, Observer, entry_of}, Endings.one_changed, Granting.same_some}
 use Rattle.exec_driver_laws.proofs.{Promises.at_most_one, Calling.{taken_fits, waked_fits, forwarded_fits, cancelled_fits, let_go_fits, enrolled_fits, granted_fits, placed_fits, reap_tells}, Standing.{gate_kept, gate_moved, open_tells, SameLines, named_lines, unmoved, then_lines, joined_holds, joined_stands, left_stands, holder_stands, Fits, AllFit, asking_last, all_over, reads, none_past, written_fits, filled_fits, filled_last, becomes}}
@@ -156,7 +156,7 @@ module _ {S F : Type 0} where
         hold = grind (arith, leaving_tells, open_tells);
       }
 
-  granted_over : (d : Driving S F) (id : WaiterId) (w : Waiter S F) (how : Option Ended) (account : Option Account) (file : ℕ) → request_at d id ≡ Some w → cond (is_some how) (Some file) None ≡ Some file → request_at (granted_as d id w how account) id ≡ None
+  granted_over : (d : Driving S F) (id : WaiterId) (w : Waiter S F) (how : Option Ended) (account : Option Account) (file : ℕ) → request_at d id ≡ Some w → cond (is_some how) (Some file) None ≡ Some file → request_at (queued_or_ended d id w how account) id ≡ None
   granted_over d id w None account file at is = absurd (cc)
   granted_over d id w (Some how) account file at is = over d.requests id.0 w (output_of w.request how account) w.observer at
 
@@ -174,11 +174,11 @@ module _ {S F : Type 0} where
       let permits = written_fits g worker old.requests id (Pending w') (asking_last old.requests id.0 w at) (λ v same. subst (Fits g (key_of worker id)) (cc) now) stand.all in
       let all = granted_fits g worker (permitted old id w) id w' granted.ended account (asking_last (permitted old id w).requests id.0 w' there) permits in
       let lines = end_lines g w' granted.ended in
-      let kept = by_lines worker (granted_as (permitted old id w) id w' granted.ended account).requests g (with_lines g opens) lines stand.hold all in
+      let kept = by_lines worker (queued_or_ended (permitted old id w) id w' granted.ended account).requests g (with_lines g opens) lines stand.hold all in
       let said = said_keeps worker _ g (with_lines g opens) (permit_by file granted) id (λ other is. let same = permit_is granted.ended file other is in (lines.holder other ∙ ap (holder_at g.opens) (sym same) ∙ grants.holder, granted_over (permitted old id w) id w' granted.ended account file there (is ∙ ap Some (sym same)))) kept in
       subst (λ (h : Gates). Keeps worker new.requests g h) (sym (same_gates g' opens _ gives.opens_after leaving)) (subst (λ (m : Driving S F). Keeps worker m.requests g (record { opens = opens; leaving = with_leaving (permit_by file granted) (key_of worker id) g.leaving })) (sym gives.driver) said)
 
-  reaped_over : (d : Driving S F) (id : WaiterId) (w : Waiter S F) (how : Option Ended) (account : Option Account) (file : ℕ) → request_at d id ≡ Some w → permit_after w how ≡ Some file → (request_at (granted_as d id w how account) id ≡ None) × (gate_of w.request ≡ Some file)
+  reaped_over : (d : Driving S F) (id : WaiterId) (w : Waiter S F) (how : Option Ended) (account : Option Account) (file : ℕ) → request_at d id ≡ Some w → permit_after w how ≡ Some file → (request_at (queued_or_ended d id w how account) id ≡ None) × (gate_of w.request ≡ Some file)
   reaped_over d id w None account file at is = absurd (cc)
   reaped_over d id w (Some how) account file at is = (over d.requests id.0 w (output_of w.request how account) w.observer at, is)
 
@@ -194,7 +194,7 @@ module _ {S F : Type 0} where
       let there = (one_changed first.requests id.0 w w' at).is_at in
       let d = landed_at (taken_out first) id w' in
       let all = granted_fits g worker d id w' reaps.answer account (asking_last d.requests id.0 w' there) (becomes g worker first.requests id w w' at gate (λ has. has) stand.all) in
-      let kept = by_lines worker (granted_as d id w' reaps.answer account).requests g (with_lines g opens) lines stand.hold all in
+      let kept = by_lines worker (queued_or_ended d id w' reaps.answer account).requests g (with_lines g opens) lines stand.hold all in
       let said =
       said_keeps worker _ g (with_lines g opens) permit id
       (λ file is.
@@ -202,7 +202,7 @@ module _ {S F : Type 0} where
       let own : gate_of w.request ≡ Some file = sym gate ∙ gone.1 in
       (lines.holder file ∙ (stand.all.fits id w at).holds file (stand.permitted.flies id w file at flies own) own, gone.0))
       kept in
-      let moved : new.requests ≡ (granted_as d id w' reaps.answer account).requests = end ∙ ap (λ (m : Driving S F). m.requests) reaps.driver in
+      let moved : new.requests ≡ (queued_or_ended d id w' reaps.answer account).requests = end ∙ ap (λ (m : Driving S F). m.requests) reaps.driver in
       let leaves = leaving ∙ ap (λ (r : Option Reaped). leaving_by worker r g.leaving) reaps.told_is in
       subst (λ (h : Gates). Keeps worker new.requests g h) (sym (same_gates g' opens _ reaps.opens_after leaves)) (subst (λ (s : Slab (Entry S F)). Keeps worker s g (record { opens = opens; leaving = with_leaving permit (key_of worker id) g.leaving })) (sym moved) said)
 

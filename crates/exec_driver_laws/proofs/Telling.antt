@@ -7,7 +7,7 @@ use Rattle.exec_base.proofs.Slots.{Changed-set, Updates-free, Updates-write}
 use Rattle.exec_request.specs.{Requests.{gate_of, output_of}, declared.output.RequestOutput.RequestOutput}
 use Rattle.exec_waiters.proofs.Changes.{at_by}
 use Rattle.exec_waiters.specs.{Events.{ending_of, finished_for, output_told}, States.output_at, Told.nothing_told, declared.deferred.Retired.Retired}
-use Rattle.exec_driver.specs.{Steps.{Grants, ReapsNext, granted_as, landed_at, permitted, told_by_end}, declared.driver.{reaping.Reaped.Reaped, staging.Granted.Granted}}
+use Rattle.exec_driver.specs.{Steps.{Grants, ReapsNext, queued_or_ended, landed_at, permitted, told_by_end}, declared.driver.{reaping.Reaped.Reaped, staging.Granted.Granted}}
 use Rattle.exec_driver.proofs.{Endings.one_changed, Granting.same_some, Words.{Account, Deferred, DetachedSync, Driving, Ended, Entry, Forwarded, Id, Local, Observer, OpenState, Orphaned, Pending, Ready, Request, Slab, Waiter, WaiterId, account_in, entry_of, file_of, open_after, request_at, taken_out, value_at, waiter_at, with_permit, written}}
 use Rattle.exec_driver_laws.specs.{Ends.{EndsUnwell, TellsNoSuccess, ending_sent, told_in}, Laws.{failure_at, failure_in}, Sharing.{Call, CallsOne, FailsFrom, Gates, Grant, LineUp, Reap, end_by, key_of}}
 use Rattle.exec_opens.specs.{Opens.open_at, declared.opens.WaiterKey.WaiterKey}
@@ -67,7 +67,7 @@ module _ {S F : Type 0} where
       record { let_go = untaken_one S F id output unwell; outcomes = All-nil _; sent = All-nil _; kept = λ other is. let differ : None ≡ Some other = ap output_at (sym (gone_there s id was at)) ∙ is in absurd (cc) }
 
   end_unwell : (d : Driving S F) (id : WaiterId) (w : Waiter S F) (how : Option Ended) (account : Option Account) (file : ℕ) (error : Error) → request_at d id ≡ Some w → gate_of w.request ≡ Some file → failure_in account ≡ Some error
-      → TellsNoSuccess (told_by_end id w how account) (value_at (granted_as d id w how account).requests id.0)
+      → TellsNoSuccess (told_by_end id w how account) (value_at (queued_or_ended d id w how account).requests id.0)
   end_unwell d id w None account file error at gate fails = silent (value_at d.requests id.0) (ap output_at (entry_of _ w at))
   end_unwell d id w (Some how) account file error at gate fails = told_unwell d.requests id.0 (Pending w) (output_of w.request how account) w.observer _ (entry_of _ w at) (output_unwell w.request how account file error gate fails)
 

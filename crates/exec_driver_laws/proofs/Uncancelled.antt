@@ -9,7 +9,7 @@ use Rattle.exec_driver_laws.specs.Sharing.{Gates, Call, Admit, Join, Observe, Se
 use Rattle.exec_driver_laws.proofs.Everywhere.{Holds, each, became, written_all, filled_all, finished_all, taken_all, waked_all, forwarded_all, orphaned_all}
 use Rattle.exec_driver_laws.proofs.{Promises.never_due, Calling.{ReapsThere, reap_tells}, Standing.{none_past, reads}}
 use Rattle.exec_driver.specs.{declared.driver.reaping.Reaped.Reaped}
-use Rattle.exec_driver.specs.Steps.{permitted, landed_at, taken_in, newcomer, cancelled_at, let_go, without_observer, enrolled_by, granted_as, placed_at, ended}
+use Rattle.exec_driver.specs.Steps.{permitted, landed_at, taken_in, newcomer, cancelled_at, let_go, without_observer, enrolled_by, queued_or_ended, placed_at, ended}
 use Rattle.exec_driver.proofs.Words.{Ended, Account, asks_cancel, asked_of, Slab, value_at, written, Request, OpResult, Submission, waiter_at, Waiter, Entry, Pending, WaiterId, Driving, request_at}
 use Rattle.exec_driver.proofs.Words.{deadline_of, first_of, is_among, after_due, after_enrolment, tick_for, with_permit, taken_out, open_after, account_in, file_of, entry_of}
 use Rattle.exec_driver.proofs.Words.{Orphaned, Deferred, OpenState, asks_cancel_by_orphan}
@@ -51,7 +51,7 @@ module _ {S F : Type 0} where
   enrolled_whole : (d : Driving S F) (id : WaiterId) (w : Waiter S F) (tick : Result ℕ Error) → NoneBroken d.requests → NoneBroken (enrolled_by d id w tick).requests
   enrolled_whole d id w tick none = grind (arith, written_all is_whole (λ j. refl) id d.requests, ended_whole, none)
 
-  granted_whole : (d : Driving S F) (id : WaiterId) (w : Waiter S F) (how : Option Ended) (account : Option Account) → NoneBroken d.requests → NoneBroken (granted_as d id w how account).requests
+  granted_whole : (d : Driving S F) (id : WaiterId) (w : Waiter S F) (how : Option Ended) (account : Option Account) → NoneBroken d.requests → NoneBroken (queued_or_ended d id w how account).requests
   granted_whole = grind (arith, ended_whole)
 
   placed_whole : (d : Driving S F) (id : WaiterId) (w : Waiter S F) (now : ℕ) → NoneBroken d.requests → NoneBroken (placed_at d id w now).requests

@@ -1,10 +1,11 @@
 -- The ring has the operation of each request that has one under way.
 use Rattle.std.proofs.Common.{◌≡◌, ℕ, zero, suc, ◌≤◌, false, true, Option, Some, sym, ap, ◌∙◌, inl, inr, arith}
 use Rattle.std.proofs.lemmas.{Bool.false≢true, Option.same_Some}
+use Rattle.exec_ring.specs.Completions.{is_operation}
 use Rattle.exec_waiters.specs.{Ids.user_data_of, States.named}
 use Rattle.exec_driver.proofs.Words.{Ended, Id, WaiterId, Driving, request_at, waiter_at, is_flying, is_some, eqb_tells}
 use Rattle.exec_opens.specs.declared.opens.WaiterKey.{WaiterKey}
-use Rattle.exec_driver_laws.specs.{Owning.{is_operation, operations_in, IsOwned}, Lawful.CompletesLawfully, Sharing.{Gates, AreFresh, IsRun, end_by_reap}, Waiting.AreUnderWay}
+use Rattle.exec_driver_laws.specs.{Owning.{operations_in, IsOwned}, Lawful.CompletesLawfully, Sharing.{Gates, AreFresh, IsRun, end_by_reap}, Waiting.AreUnderWay}
 use Rattle.exec_driver_laws.proofs.{Everywhere.each, Lawfully.lawfully}
 use Rattle.exec_driver_laws.proofs.{OwningCalls.{Keeps, Quiet, Loses, Arrives, Comes, Goes, call_keeps, flying_some, named_back}, OwningRuns.{always, says_always, names_operation}, OwningSteps.{flew_before, same_ids}, Standing.{none_past, reads}}
 

@@ -1,13 +1,9 @@
 -- Which operations a ring has, and whose they are.
 use Rattle.std.specs.Prelude.{◌≡◌, ℕ, Bool, true, false, not, ◌+◌, ◌<◌, ◌≤◌, ◌==◌, ◌&&◌, count_by, Some, is_some, if◌then◌else◌}
 use Rattle.exec_request.specs.declared.window.Opcode.{Opcode, TheVariants.Wake}
-use Rattle.exec_ring.specs.{Kernels.is_of, Rings.RingState, declared.completion.{Posted.Posted, Submission.Submission}}
+use Rattle.exec_ring.specs.{Completions.is_operation, Kernels.is_of, Rings.RingState, declared.completion.{Posted.Posted, Submission.Submission}}
 use Rattle.exec_waiters.specs.{Ids.user_data_of, States.named, declared.{waiter.Waiter.Waiter, waiter_id.WaiterId.WaiterId}}
 use Rattle.exec_driver.specs.Driving.{Driving, request_at}
-
--- user data that is neither the wake poll's nor that of cancels
-abbrev pub is_operation : ℕ → Bool
-is_operation user_data = not (user_data == 18446744073709551615) && not (user_data == 4294967295)
 
 -- an entry is of this user data, and no wake poll
 abbrev pub is_wake_poll : Opcode → Bool

@@ -5,7 +5,7 @@ ghost use Rattle.exec_base.specs.{Slab.value_at, declared.error.Error.Error};
 ghost use Rattle.exec_outcomes.specs.Accounts.{Account};
 ghost use Rattle.exec_request.specs.States.{Ended};
 ghost use Rattle.exec_waiters.specs.{Events.{told_by_close, told_by_orphan}, declared.{waiter.Waiter.Waiter, waiter_id.WaiterId.WaiterId}};
-ghost use Rattle.exec_driver.specs.{Driving.{Driving, request_at}, Steps.{cancelled_at, enrolled_by, expired, granted_as, let_go, placed_at, told_at_admission, told_by_cancel, told_by_end, told_by_enrolment, told_by_let_go}};
+ghost use Rattle.exec_driver.specs.{Driving.{Driving, request_at}, Steps.{cancelled_at, enrolled_by, expired, queued_or_ended, let_go, placed_at, told_at_admission, told_by_cancel, told_by_end, told_by_enrolment, told_by_let_go}};
 ghost use Rattle.exec_opens.specs.declared.opens.WaiterKey.{WaiterKey};
 ghost use Rattle.exec_driver_laws.specs.{Ends.gives_back, Sharing.{Gates, IsRun, end_by}};
 
@@ -14,7 +14,7 @@ ghost use Rattle.exec_driver_laws.specs.{Ends.gives_back, Sharing.{Gates, IsRun,
 /// enrolled, as it is admitted, which may be too late, and as who waits for it lets it go or is closed. Of a request that
 /// is over nothing comes back any more.
 pub fn what_a_request_owned_comes_back_with_its_end<S, F>()
-    ensures over_or_granted { (d : Driving S F) (id : WaiterId) (w : Waiter S F) (how : Option Ended) (account : Option Account) → request_at d id ≡ Some w → (told_by_end id w how account).resources ≡ gives_back id w (request_at (granted_as d id w how account) id) }
+    ensures over_or_granted { (d : Driving S F) (id : WaiterId) (w : Waiter S F) (how : Option Ended) (account : Option Account) → request_at d id ≡ Some w → (told_by_end id w how account).resources ≡ gives_back id w (request_at (queued_or_ended d id w how account) id) }
     ensures cancelled { (d : Driving S F) (id : WaiterId) (w : Waiter S F) → request_at d id ≡ Some w → (told_by_cancel id (Some w)).resources ≡ gives_back id w (request_at (cancelled_at d id) id) }
     ensures expired { (d : Driving S F) (id : WaiterId) (w : Waiter S F) → request_at d id ≡ Some w → (told_by_cancel id (Some w)).resources ≡ gives_back id w (request_at (expired d id) id) }
     ensures enrolled { (d : Driving S F) (id : WaiterId) (w : Waiter S F) (tick : Result ℕ Error) → request_at d id ≡ Some w → (told_by_enrolment id w tick).resources ≡ gives_back id w (request_at (enrolled_by d id w tick) id) }

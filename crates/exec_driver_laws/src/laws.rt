@@ -12,7 +12,7 @@ ghost use Rattle.exec_driver.specs.declared.driver.{reaping.Reaped.Reaped, stagi
 ghost use Rattle.exec_lists.specs.Lists.{is_among};
 ghost use Rattle.exec_opens.specs.{Opens.OpenState, declared.opens.WaiterKey.WaiterKey};
 ghost use Rattle.exec_driver_laws.specs.{Laws.{is_listed, failure_in, failure_at, ShareGates, IsDurableFlight, GoesOnFlying}, Sharing.{Gates, LineUp, Call, CallsOne, AreFresh, IsRun, FailsFrom, end_by, sets_account_of}};
-ghost use Rattle.exec_driver.specs.Service.{Reached, ServesInOrder};
+ghost use Rattle.exec_driver.specs.Service.{Parks, Reached, ServesInOrder};
 ghost use Rattle.exec_driver_laws.specs.Serving.{Calls, IsCalls};
 
 use exec_waiters::laws::{
@@ -105,11 +105,12 @@ pub fn drivers_go_on_sharing_gates<S, F>()
     ensures one { (drivers : ℕ → ℕ → Driving S F) (gates : ℕ → Gates) → IsRun drivers gates → (n : ℕ) (a b : WaiterKey) (file : ℕ) → IsDurableFlight (drivers n a.worker) a.id file → IsDurableFlight (drivers n b.worker) b.id file → a ≡ b }
 {}
 
-/// A whole service is calls of its worker, one after the other, which leave the opens as it does; and drivers that share
-/// gates go on sharing them, whatever calls a worker makes one after the other. `Driver::service` says that it goes in
-/// that order.
-pub fn a_service_is_calls_of_its_worker<S, F>()
+/// A whole service is calls of its worker, one after the other, which leave the opens as it does, and a whole wait on the
+/// ring is, which leaves them as they are; and drivers that share gates go on sharing them, whatever calls a worker makes
+/// one after the other. `Driver::service` and `Driver::park` say that they go in that order.
+pub fn services_and_waits_are_calls_of_their_worker<S, F>()
     ensures calls { (worker now : ℕ) (defer answer : Bool) (old new : Reached S F) (g : Gates) → ServesInOrder worker now defer answer old new → g.opens ≡ old.opens → IsCalls worker old.driver new.driver g new.opens }
+    ensures waits { (worker : ℕ) (calm : Bool) (old new : Driving S F) (g : Gates) → Parks calm old new → IsCalls worker old new g g.opens }
     ensures kept { (worker : ℕ) (drivers drivers' : ℕ → Driving S F) (g h : Gates) → Calls worker (drivers worker) g (drivers' worker) h →
         ((other : ℕ) → other ≢ worker → drivers' other ≡ drivers other) → LineUp drivers g → LineUp drivers' h }
 {}

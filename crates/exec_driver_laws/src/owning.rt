@@ -3,11 +3,11 @@
 ghost use Rattle.std.specs.Prelude.{◌≡◌, ◌<◌, ℕ, suc, Bool, true, false, IsSomeAnd, [], ◌∷◌, Some, None};
 ghost use Rattle.exec_base.specs.declared.slab.Id.{Id};
 ghost use Rattle.exec_opens.specs.declared.opens.WaiterKey.{WaiterKey};
-ghost use Rattle.exec_request.specs.Windows.{wake_window};
-ghost use Rattle.exec_ring.specs.{Kernels.{MayAllLand, all_taken, with_entry, with_wake}, Rings.RingState, declared.completion.Completion.Completion};
+ghost use Rattle.exec_request.specs.Windows.{cancel_window, wake_window};
+ghost use Rattle.exec_ring.specs.{Completions.is_operation, Kernels.{MayAllLand, all_taken, may_have, with_entry, with_wake}, Rings.RingState, declared.completion.Completion.Completion};
 ghost use Rattle.exec_waiters.specs.{Ids.user_data_of, declared.{waiter.Waiter.Waiter, waiter_id.WaiterId.WaiterId}};
 ghost use Rattle.exec_driver.specs.{Admission.with_rooms, Driving.{Driving, request_at}, Examples.first, Placed.Says, Steps.{advanced_to, cancel_staged, completed_in, entered, poll_staged}};
-ghost use Rattle.exec_driver_laws.specs.{Lawful.EndsLawfully, Owning.{is_operation, operations_in, KeepsOperations, is_under_way, IsOwned, HasOwner}, OwningExamples.{polling, its_entry}, Sharing.{Gates, CallsOne, IsRun, end_by_reap}, Waiting.KeepsPlaces};
+ghost use Rattle.exec_driver_laws.specs.{Lawful.EndsLawfully, Owning.{operations_in, KeepsOperations, is_under_way, IsOwned, HasOwner}, OwningExamples.{polling, its_entry}, Sharing.{Gates, CallsOne, IsRun, end_by_reap}, Waiting.KeepsPlaces};
 
 /// What else a worker does leaves the operations of its ring, and what is to be staged, waits at gates or is to be
 /// enrolled: it stages a cancel or the wake poll, enters the kernel, raises a wake, goes on to a moment, says how the next
@@ -50,6 +50,17 @@ pub fn an_operation_is_of_a_request_in_flight<S, F>()
         completed_in (drivers n worker) c ≡ Some id → id ≡ a.id.0 }
     ensures gone { (drivers : ℕ → ℕ → Driving S F) (gates : ℕ → Gates) (run : IsRun drivers gates) (n : ℕ) (key : WaiterKey) (w : Waiter S F) → request_at (drivers n key.worker) key.id ≡ Some w →
         w.in_flight ≡ true → request_at (drivers (suc n) key.worker) key.id ≡ None → IsSomeAnd (end_by_reap (run.next n).call) (λ e. e.0 ≡ key) }
+{}
+
+/// An entry has the user data of its kind: a wake poll that of wakes, a cancel that of cancels, and an operation neither.
+pub fn user_data_of_entries()
+    ensures wake { may_have wake_window.kind 18446744073709551615 ≡ true }
+    ensures wake_as_cancel { may_have wake_window.kind 4294967295 ≡ false }
+    ensures cancel { may_have (cancel_window 7).kind 4294967295 ≡ true }
+    ensures cancel_as_operation { may_have (cancel_window 7).kind 7 ≡ false }
+    ensures operation { may_have its_entry.window.kind (user_data_of first.0) ≡ true }
+    ensures operation_as_wake { may_have its_entry.window.kind 18446744073709551615 ≡ false }
+    ensures operation_as_cancel { may_have its_entry.window.kind 4294967295 ≡ false }
 {}
 
 /// Whose operations are: a poll under way owns the one that its ring has; one that has none owns none, and none has two.

@@ -4,7 +4,7 @@ use Rattle.exec_words.specs.declared.inbox.Message.{Message}
 use Rattle.exec_task.specs.declared.body.Said.{Said}
 use Rattle.exec_machine.specs.{declared.{event.Event.{Event, TheVariants.{Closed, GotTimer, Send}}, state.{Forwarding.{Forwarding, TheVariants.{Sent as Forwarded, Unsent}}, MailMessage.TheVariants.ForwardTimer, Waiting.Waiting}}, Mail.posted as seat_posted, Progress.Plan, Tests.{is_unsent, waits_for_timer}, World.{Task, no_seat, seat_of, sleeper_of, task_of}}
 use Rattle.exec_moves.specs.{declared.{handing.AfterSend.AfterSend, place.{InPoll.InPoll, Place.Place}}, Move.move_look_at, Poll.{Sight.{Asks, HearsTimer}, acts_on, pend, resume, sight_by, sight_of}, State.{Moved, Things, does}, Thing.aside}
-use Rattle.exec_parts.{specs.{declared.parts.{mail.Subject.Subject, seat.Seat.Seat as Chair, shared.Shared.Shared, sleeping.SleeperRecord.SleeperRecord, task_slot.TaskSlot.TaskSlot, worker.Worker.Worker}, Calls.sleeper_forwarded, MailPosts.{AsksEnd, Sends, asks_by, chair_sent}, Spots.Spot, View.{Views, common_of, desk_of, numbers_of_passing, own_of, seat_seen, seats_seen, task_seen, things_with}}, proofs.Facts.{by_number, false_from_ne_true, not_same, same_Some, set_there}}
+use Rattle.exec_parts.{specs.{declared.parts.{mail.Subject.Subject, seat.Seat.Seat as Chair, shared.Shared.Shared, sleeping.SleeperRecord.SleeperRecord, task_slot.TaskSlot.TaskSlot, worker.Worker.Worker}, Calls.sleeper_forwarded, MailPosts.AsksEnd, Pooled.{Sends, asks_if_sent, chair_sent}, Spots.Spot, View.{Views, common_of, desk_of, numbers_of_passing, own_of, seat_seen, seats_seen, task_seen, things_with}}, proofs.Facts.{by_number, false_from_ne_true, not_same, same_Some, set_there}}
 use Rattle.exec_invariants.{specs.{Holding.{Holder, IsAbout, IsHolding, IsOrdinary, MayHave, awaited_in, box_of, holder_of, nap_of, thing_of}, Sound.{MayStop, SoundAt}, Spares.SparesSleeper, Whole.{HasWhole, Profile, hands_of, with_worker}, Works.{Steps, Suits, Works}}, proofs.{AskBoxes.{asks_place, box_there, nap_asked, pool_open}, Here.IsHere, HoldBeside.Holds, HoldPosts.{posted, with_mail}, HoldThings.{Touches, touches_sleeper}, LetterPosts.{chair_open, forwards_timer, open_spares, sent_open}, Lined.passing_same, Polling.home_mine, Seats.seat_there, Seen.sleeper_at, Slots.task_there, SparedRecord.there_within, TaskAsks.{Posts, asked, asked_works, led_to, leads_to, to_pend}, TaskDeals.{Dealt, ends as to_end, from_look}, TaskHears.hears_same, TaskTakes.{holder_there, nap_there}, Turning.set_found}}
 
 pub is_unsent_so : (f : Forwarding) → is_unsent f ≡ true → f ≡ Unsent
@@ -52,7 +52,7 @@ module _ {B L : Type 0} (left : B → L) (spot : L → Option Said → Spot) whe
   end_works : (t z : ℕ) (w : Worker) (s mid s' : Shared B) (slot : TaskSlot B) (it : SleeperRecord) (chair : Chair) (open_box : chair.mailbox.inbox.closed ≡ false) → w.place ≡ Place.Poll t InPoll.Resume → slice_get s.tasks.items t ≡ Some slot → slot.waiting ≡ Waiting.Timer z → slice_get s.sleepers.items z ≡ Some it
       → is_unsent it.shown.forwarding ≡ true → it.shown.worker ≢ w.index → mid ≡ record s { sleepers = mid.sleepers } → mid.sleepers.items ≡ slice_set s.sleepers.items z (sleeper_forwarded it)
       → s' ≡ record mid { seats = s'.seats } → Posts w.index it.shown.worker s.seats.items s'.seats.items chair (chair_open (ForwardTimer z) (forwards_timer z) chair open_box) → (p : Plan) (vs : Views) → Suits p vs w s
-      → Works left spot p vs w s (Send it.shown.worker (ForwardTimer z)) (record w { place = led_to t InPoll.Pend (AfterSend.Pend t) it.shown.worker (asks_by (ForwardTimer z) chair.mailbox) }) s'
+      → Works left spot p vs w s (Send it.shown.worker (ForwardTimer z)) (record w { place = led_to t InPoll.Pend (AfterSend.Pend t) it.shown.worker (asks_if_sent (ForwardTimer z) chair.mailbox) }) s'
   end_works t z w s mid s' slot it chair open_box here there waits at_z unsent other midkept sleepers kept posts p vs suits =
       let j : ℕ = it.shown.worker in
       let all = common_of left spot p vs s in
@@ -79,7 +79,7 @@ module _ {B L : Type 0} (left : B → L) (spot : L → Option Said → Spot) whe
         ap (waits_for_timer z) what ∙ eq-eqb z z refl,
         (ap (λ y. y.worker == j) sleeper ∙ eq-eqb j j refl, (ap not apart, (ap (λ y. is_unsent y.forwarding) sleeper ∙ unsent, (ap (λ y. not y.mailbox_closed) seat ∙ ap not open_box, tt)))),
       )
-      (own_there (asks_by (ForwardTimer z) chair.mailbox)) refl
+      (own_there (asks_if_sent (ForwardTimer z) chair.mailbox)) refl
       (ap (λ zs. record all { sleepers = zs; seats = slice_set all.seats j (seat_posted (ForwardTimer z) (seat_of all j)) }) (sym shown)
       ∙ ap (λ (y : Shared B). record (common_of left spot p vs y) { seats = slice_set all.seats j (seat_posted (ForwardTimer z) (seat_of all j)) }) (sym midkept))
       (ap (things_with vs) midkept ∙ ap (λ ns. record x { alarms = ns }) alarms)
@@ -120,7 +120,7 @@ module _ {B L : Type 0} (left : B → L) (spot : L → Option Said → Spot) whe
       let touches : Touches s (record s { requests = mid.requests; sleepers = mid.sleepers }) = subst (λ y. Touches s (record s { requests = y; sleepers = mid.sleepers })) (sym mid_requests) (touches_sleeper s mid z it (sleeper_forwarded it) at_z spares sleepers) in
       let stop : MayStop w.index (Waiting.Timer z) mid.requests.items mid.sleepers.items = (sleeper_forwarded it, ap (λ zs. slice_get zs z) sleepers ∙ set_there s.sleepers.items z (sleeper_forwarded it) it at_z, inl refl) in
       let to : Dealt InPoll.Pend w.index slot slot mid.requests.items mid.sleepers.items = grind arith in
-      let worker : w' ≡ record w { place = led_to t InPoll.Pend b j (asks_by (ForwardTimer z) chair.mailbox) } = sends.worker chair mid_there ∙ ap (λ q. record w { place = q }) (leads_to t InPoll.Pend b (to_pend t) mid.config j (asks_by (ForwardTimer z) chair.mailbox) (desk_of w)) in
+      let worker : w' ≡ record w { place = led_to t InPoll.Pend b j (asks_if_sent (ForwardTimer z) chair.mailbox) } = sends.worker chair mid_there ∙ ap (λ q. record w { place = q }) (leads_to t InPoll.Pend b (to_pend t) mid.config j (asks_if_sent (ForwardTimer z) chair.mailbox) (desk_of w)) in
       let event : e ≡ Send j (ForwardTimer z) = sends.event chair mid_there ∙ ap (λ c. if c then Closed else Send j (ForwardTimer z)) whom.open_box in
       let held : (others : Profile) → Holds (with_worker others w) s → Holds (with_worker others w) s' = λ others old.
       let h = hands_of (with_worker others w) in

@@ -1,5 +1,5 @@
 -- Where the callbacks lead once an item is told: for a worker, for the machine, and after a push of a task that one woke.
-use Rattle.std.proofs.{Common.{◌≡◌, ℕ, ◌+◌, ◌==◌, ◌&&◌, ◌||◌, Bool, true, false, not, List, [], ◌∷◌, length, Option, Some, None, refl, sym, ap, subst, ◌∙◌, arith, slice_get, nat_lt, if◌then◌else◌}, lemmas.Bool.{false≢true, Decides.nat_tests}}
+use Rattle.std.proofs.{Common.{◌≡◌, ℕ, ◌+◌, ◌==◌, ◌&&◌, Bool, true, false, not, List, [], ◌∷◌, length, Option, Some, None, refl, sym, ap, subst, ◌∙◌, arith, slice_get, if◌then◌else◌}, lemmas.Bool.{false≢true, Decides.nat_tests}}
 use Rattle.std.proofs.lemmas.List.{nil_from_length}
 use Rattle.exec_base.specs.{Slab.live_count}
 use Rattle.exec_words.specs.Queue.{Queue}
@@ -8,9 +8,10 @@ use Rattle.exec_driver.specs.Driving.{is_full as is_ring_full}
 use Rattle.exec_task.specs.declared.{body.Said.Said, runnable.Runnable.Runnable}
 use Rattle.exec_machine.specs.{declared.config.Configuration.Configuration, Progress.Plan, Ranges.ring_size, Tests.is_empty}
 use Rattle.exec_moves.specs.{declared.{handing.{AfterCallbacks.AfterCallbacks, AfterKick.AfterKick, AfterPush.AfterPush, InKick.InKick}, idling.{InRingWait.InRingWait, Stay.Stay}, place.{InCallbacks.InCallbacks, InClosing.InClosing, InLoads.InLoads, Place.Place, Round.Round}}, Callback.{after_callbacks, has_callbacks, has_requests, is_full, next_callback}}
-use Rattle.exec_parts.{specs.{declared.parts.{mail.Reply.Reply, seat.Seat.Seat as Chair, shared.Shared.Shared, worker.Worker.Worker}, Phased.{IsPhased, closes_at, closes_before, stage_of}, Roles.is_pool, Calls.IsTold, Spots.Spot, Tests.{after_callbacks_of, has_open_requests, is_anything_told, next_callback_of, ring_wait_of}, View.{Views, common_of, desk_of, driver_of, own_of}}, proofs.Facts.{not-false, zero_false, true_false}}
+use Rattle.exec_parts.{specs.{declared.parts.{mail.Reply.Reply, seat.Seat.Seat as Chair, shared.Shared.Shared, worker.Worker.Worker}, Phased.{IsPhased, closes_at, stage_of}, Roles.is_pool, Calls.IsTold, Spots.Spot, Tests.{after_callbacks_of, has_open_requests, is_anything_told, next_callback_of, ring_wait_of}, View.{Views, common_of, desk_of, driver_of, own_of}}, proofs.Facts.{not-false, zero_false, true_false}}
+use Rattle.exec_moves.specs.Seen.{left_before}
 use Rattle.exec_invariants.{specs.{HoldPlaces.{is_bare_at, is_bare_before, spare_before}, Sound.{Aims, HasQueue, LetsGo, SoundAt}, Names.{HasWidth, tellers}, Works.Suits}, proofs.{DedicatedSeen.pool_seen, Handed.{CallComes, IsPushFor, out}, Idled.{Comes}, Phased.phased_end, Standing.requests_seen}}
-use Rattle.exec_invariants.proofs.Untold.{empty_map}
+use Rattle.exec_invariants.proofs.Untold.{empty_map, positive_there, none_of}
 
 -- NOTHING IS LEFT
 
@@ -49,14 +50,8 @@ empty_list : {A : Type 0} (xs : List A) → is_empty xs ≡ (length xs == 0)
 empty_list [] = refl
 empty_list (x ∷ xs) = sym (zero_false (length xs))
 
-positive : (n : ℕ) → nat_lt 0 n ≡ not (n == 0)
-positive n = grind (arith, nat_tests)
-
-one_of_five : (a b c d e : Bool) → (not a || not b || not c || not d || not e) ≡ not (a && d && b && c && e)
-one_of_five a b c d e = grind arith
-
 pub callbacks_seen : (w : Worker) (live : ℕ) → IsTold w.names.ended.items w.home.deferred live → has_callbacks (own_of w) (desk_of w) ≡ is_anything_told w
-callbacks_seen = grind (arith, empty_map, positive, empty_list, one_of_five)
+callbacks_seen = grind (arith, empty_map, positive_there, empty_list, none_of)
 
 module _ {B L : Type 0} (left : B → L) (spot : L → Option Said → Spot) (p : Plan) (vs : Views) (q : Place) (w : Worker) (s : Shared B) (sound : SoundAt q w s) (suits : Suits p vs w s) where
   full_seen : is_full (ring_size p.config) (desk_of w) ≡ is_ring_full (driver_of w)
@@ -97,7 +92,7 @@ module _ {B : Type 0} where
     pub bare : is_bare_before (Some n) ≡ true → live_count w.home.timers ≡ 0
     pub batch : is_bare_before (Some n) ≡ true → w.batch.values ≡ []
     pub held : (chair : Chair) → slice_get s.seats.items w.index ≡ Some chair → chair.queue.held ≡ []
-    pub phased : (chair : Chair) → slice_get s.seats.items w.index ≡ Some chair → IsPhased w.index (closes_before n) None w.home.closing w.root w.names.unreleased (stage_of chair s) s.tasks.items
+    pub phased : (chair : Chair) → slice_get s.seats.items w.index ≡ Some chair → IsPhased w.index (left_before n) None w.home.closing w.root w.names.unreleased (stage_of chair s) s.tasks.items
     pub counted : length w.names.ended.items + pending_count (driver_of w).requests ≡ w.names.unreleased
 
   pushed_here : (n : AfterCallbacks) (q : Place) (w : Worker) (s : Shared B) → SoundAt q w s → IsPushFor (AfterPush.CallBack n) q → Pushed n w s
@@ -107,7 +102,7 @@ module _ {B : Type 0} where
       let bare : is_bare_before (Some n) ≡ true → live_count w.home.timers ≡ 0 = λ h. lets (is.bare ∙ h) in
       let batch : is_bare_before (Some n) ≡ true → w.batch.values ≡ [] = λ h. is.batch w.batch.values sound.batch (is.bare ∙ h) in
       let held : (chair : Chair) → slice_get s.seats.items w.index ≡ Some chair → chair.queue.held ≡ [] = λ chair there. is.held chair.queue (sound.queue chair there) in
-      let phased : (chair : Chair) → slice_get s.seats.items w.index ≡ Some chair → IsPhased w.index (closes_before n) None w.home.closing w.root w.names.unreleased (stage_of chair s) s.tasks.items = λ chair there.
+      let phased : (chair : Chair) → slice_get s.seats.items w.index ≡ Some chair → IsPhased w.index (left_before n) None w.home.closing w.root w.names.unreleased (stage_of chair s) s.tasks.items = λ chair there.
       subst (λ b. IsPhased w.index b None w.home.closing w.root w.names.unreleased (stage_of chair s) s.tasks.items) is.closes
       (subst (λ c. IsPhased w.index (closes_at q) c w.home.closing w.root w.names.unreleased (stage_of chair s) s.tasks.items) is.closing (sound.phased chair there)) in
       assumption (told, bare, batch, held, phased, sound, sound.over)

@@ -9,7 +9,7 @@ use Rattle.exec_opens.specs.Opens.{OpenState, account_by, account_in}
 use Rattle.exec_driver.specs.Footprints.{bytes_left}
 use Rattle.exec_machine.specs.{declared.state.Operation.Operation, Requests.{asks_hint, with_hint}, Same.same_kind, Tests.is_of_file, World.{Open, no_open}}
 use Rattle.exec_parts.specs.{declared.parts.record.Record.Record, Records.file_named, Serving.is_cancel, View.{account_seen, open_seen}}
-use Rattle.exec_invariants.specs.Submitting.{is_hinted, takes_hint}
+use Rattle.exec_invariants.specs.Submitting.{takes_hint}
 use Rattle.exec_invariants.{specs.{Carried.HasStretchFor, Flown.is_poll, Gates.{AreLinedUp, has_hint_at, may_ask_hint}}, proofs.{Lined.mapped, SparedRecord.there_within}}
 
 -- ITS OPERATIONS are neither cancels nor the wake poll
@@ -98,12 +98,8 @@ open_there rs opens file o there = get_or_from_slice_get (map (open_seen rs) ope
 named_there : (file : ℕ) → file < 2 ^ 32 → file_named file ≡ Some file
 named_there file small = let is : nat_lt file (2 ^ 32) ≡ true = grind (arith, nat_tests) in ap (λ b. if b then Some file else None) is
 
-hinted_same : (o : Option Account) → is_hinted o ≡ has_hint o
-hinted_same None = refl
-hinted_same (Some account) = refl
-
 pub takes_named : (opens : List OpenState) (file : ℕ) → file < 2 ^ 32 → takes_hint opens file ≡ has_hint_at opens file
-takes_named opens file small = ap (λ f. is_hinted (account_in opens f)) (named_there file small) ∙ hinted_same (account_in opens (Some file))
+takes_named opens file small = ap (λ f. has_hint (account_in opens f)) (named_there file small)
 
 pub takes_none : (opens : List OpenState) (file : ℕ) → has_hint_at opens file ≡ false → takes_hint opens file ≡ false
 takes_none = grind arith

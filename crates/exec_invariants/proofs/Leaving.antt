@@ -11,7 +11,8 @@ use Rattle.exec_lists.specs.Lists.{is_among, withdrawn}
 use Rattle.exec_machine.specs.Tests.{is_resolved}
 use Rattle.exec_moves.specs.declared.place.InService.{InService}
 use Rattle.exec_parts.{specs.{declared.parts.{mail.Reply.Reply, names.Names.Names, record.Record.Record, sleeping.SleeperRecord.SleeperRecord}, Records.number_in, Serving.changed_at}, proofs.Facts.same_number}
-use Rattle.exec_invariants.{specs.{Due.AreTimed, Flown.{IsPolled, AreLanded, HasFlown, IsPlain, operations}, Names.IsNamed}, proofs.{Flown.landed_on, Marking.{mark_if, marked, was_marked}, Over.{OneEnds, kept_worker}, Resolving.{EntryAfter, among_still, left_among}}}
+use Rattle.exec_invariants.{specs.{Due.AreTimed, Flown.{IsPolled, AreLanded, HasFlown, IsPlain, operations}, Names.IsNamed}, proofs.{Flown.landed_on, Marking.{mark_if, marked, was_marked}, Over.{OneEnds, kept_worker}, Resolving.{EntryAfter, left_among}}}
+use Rattle.exec_driver.proofs.Serving.{among_others}
 
 number_not : (k m : ℕ) → (k ≡ m → ⊥) → (b : Bool) → (k == m) ≡ b → b ≡ false
 number_not k m apart true is = absurd (apart (same_number k m is))
@@ -41,13 +42,13 @@ module _ (i : ℕ) (n : Names) (d d' : Driving Reply Reply) (zs : Slab (Sleeping
       let entries_so : length n'.staged.items + length n'.untold.items ≤ length d'.ring.staged = rw (entries, staged, untold) flown.entries in
       let gated : (id0 : WaiterId) (it : Waiter Reply Reply) → waiter_at d'.requests id0.0 ≡ Some it → needs_permit it ≡ true → is_among id0 d'.lists.gated ≡ true = λ other w at needs.
       let apart : other.0 ≢ id = λ e. gone_by other.0 w at e in
-      rw lists (among_still other (record { 0 = id }) d.lists.gated apart (flown.gated other w (sym (ap waiter_of (one.slab.others other.0 apart)) ∙ at) needs)) in
+      rw lists (among_others other (record { 0 = id }) d.lists.gated apart (flown.gated other w (sym (ap waiter_of (one.slab.others other.0 apart)) ∙ at) needs)) in
       let plain : (k : ℕ) (r : Record) → slice_get (changed_at rs (number_in n.requests.items id) f) k ≡ Some r → r.shown.worker ≡ i → IsPlain r.shown = λ j y at mine.
       let old = was_marked f rs k j y at in
       subst (λ z. IsPlain z.shown) (sym old.2) (plain_by j (k == j) old.0 refl old.1 (sym (kept_worker i n d d' zs rs ss id it r f outcome told one named timed j (k == j) old.0 refl old.1) ∙ sym (ap (λ z. z.shown.worker) old.2) ∙ mine)) in
       let enrolling : (id0 : WaiterId) (it : Waiter Reply Reply) → waiter_at d'.requests id0.0 ≡ Some it → takes_tick it.state ≡ true → is_some (deadline_of it.request) ≡ true → is_among id0 d'.lists.enrolments ≡ true = λ other w at takes some.
       let apart : other.0 ≢ id = λ e. gone_by other.0 w at e in
-      rw lists (among_still other (record { 0 = id }) d.lists.enrolments apart (flown.enrolling other w (sym (ap waiter_of (one.slab.others other.0 apart)) ∙ at) takes some)) in
+      rw lists (among_others other (record { 0 = id }) d.lists.enrolments apart (flown.enrolling other w (sym (ap waiter_of (one.slab.others other.0 apart)) ∙ at) takes some)) in
       let owning : (k : ℕ) (r : Record) → slice_get (changed_at rs (number_in n.requests.items id) f) k ≡ Some r → is_resolved r.shown.phase ≡ false → r.shown.released ≡ false = λ j y at unresolved.
       let old = was_marked f rs k j y at in
       ap (λ z. z.shown.released) old.2 ∙ owning_by j (k == j) old.0 refl old.1 (sym (ap (λ z. is_resolved z.shown.phase) old.2) ∙ unresolved) in

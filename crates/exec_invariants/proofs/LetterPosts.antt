@@ -3,7 +3,7 @@ use Rattle.std.proofs.{Common.{◌≡◌, ◌++◌, ◌+◌, ◌≤◌, ℕ, Boo
 use Rattle.exec_words.specs.{Inbox.{has_any, is_wake_root, opens_batch, word_after}, Word.{next_batch}, declared.word.PureWord.PureWord}
 use Rattle.exec_machine.specs.{declared.state.MailMessage.{MailMessage, TheVariants.{ForwardRequest, ForwardTimer, CancelRequest, CancelTimer}}, Mail.{is_root_message, posted as seat_posted}}
 use Rattle.exec_moves.specs.{Send.{asks, posted, published_if}, State.{Things, word_of}, Thing.{mailbox_of, set_mailbox}}
-use Rattle.exec_parts.specs.{declared.parts.{seat.Seat.Seat as Chair, shared.Shared.Shared}, MailPosts.{asks_by, chair_sent}, View.{Views, Visible, inbox_at, mail_of, message_of, polls_seen, queue_at, seat_seen, things_with, word_at}}
+use Rattle.exec_parts.specs.{declared.parts.{seat.Seat.Seat as Chair, shared.Shared.Shared}, Pooled.{asks_if_sent, chair_sent}, View.{Views, Visible, inbox_at, mail_of, message_of, polls_seen, queue_at, seat_seen, things_with, word_at}}
 use Rattle.exec_invariants.proofs.Showing.{own_word_seen}
 use Rattle.exec_invariants.{specs.{Holding.{Mail}, Spares.SparesChair}, proofs.{Posting.{inbox_seen, none_seen, posted_both}}}
 
@@ -68,7 +68,7 @@ module _ (m : MailMessage) (letter : IsLetter m) (chair : Chair) (open_box : cha
         published true w = refl
         published false w = refl
 
-    pub asks_open : asks (mailbox_of (things_with vs s) j) ≡ asks_by m chair.mailbox
+    pub asks_open : asks (mailbox_of (things_with vs s) j) ≡ asks_if_sent m chair.mailbox
     asks_open = grind (arith, box_seen, none_seen messages, open_box)
 
     -- the inbox and the wake word show it

@@ -1,11 +1,11 @@
 -- What a message that wakes the root of a worker makes of its seat, and what is seen of that.
 --
 -- Into a closed inbox it doesn't go, beside another one it is left out, and else it is the first of a batch, or joins one.
-use Rattle.std.{proofs.{Common.{◌≡◌, ◌++◌, ℕ, Bool, true, false, not, List, [], ◌∷◌, append_assoc, cond, count_by, map, Some, refl, sym, ap, ◌∙◌, arith, slice_get, slice_set, option_map}, lemmas.{Bool.false≢true, List.{map-append, set-get_or, Folds.list_any-append, Sums.{sum_by-append, sum_by-cons}}, Option.{get_or_from_slice_get, slice_get-map}}}, specs.List.list_any}
+use Rattle.std.{proofs.{Common.{◌≡◌, ◌++◌, ℕ, Bool, true, false, not, List, [], ◌∷◌, append_assoc, cond, count_by, map, Some, refl, sym, ap, ◌∙◌, arith, slice_get, slice_set, option_map}, lemmas.{Bool.false≢true, List.{map-append, set-get_or, Folds.list_any-append, Sums.{sum_by-append}}, Option.{get_or_from_slice_get, slice_get-map}}}, specs.List.list_any}
 use Rattle.exec_words.specs.{Inbox.{has_any, is_wake_root}, Word.{asks_signal, next_batch}, declared.{inbox.Message.Message, mailbox.Mailbox.Mailbox as Box, word.PureWord.PureWord}}
 use Rattle.exec_machine.specs.{declared.{event.Event.{Event, TheVariants.{Closed, Send}}, state.MailMessage.{TheVariants.Root}}, Choice.{Choice, Payer, Choice.{Plain, Posts}}, Mail.{has_root_message, is_root_message, posted}, Tests.is_empty, World.{Common, Seat, seat_of}}
 use Rattle.exec_moves.specs.{Send.{Mailbox, posting}, State.{Things, inbox_of}, Thing.{mailbox_of, set_inbox, set_mailbox, set_word}}
-use Rattle.exec_parts.{specs.{declared.parts.{mail.Subject.Subject, seat.Seat.Seat as Chair, shared.Shared.Shared}, Pooled.{HasRootPlace, asks_in, chair_posted, event_posted}, MailPosts.IsMailbox, View.{Views, Visible, inbox_at, message_of, polls_seen, queue_at, seat_seen, things_with, word_at}}, proofs.Facts.or_right}
+use Rattle.exec_parts.{specs.{declared.parts.{mail.Subject.Subject, seat.Seat.Seat as Chair, shared.Shared.Shared}, Pooled.{asks_if_sent, chair_sent, event_sent}, View.{Views, Visible, inbox_at, message_of, polls_seen, queue_at, seat_seen, things_with, word_at}}, proofs.{Facts.or_right, Mailboxes.none_any}}
 use Rattle.exec_invariants.proofs.Showing.{map_kept, map_set, own_word_seen, polls_kept}
 use Rattle.exec_invariants.{specs.{Holding.Mail, Spares.SparesChair}, proofs.{Aside.spared, Turning.set_found}}
 
@@ -23,14 +23,8 @@ pub none_seen : (ms : List Mail) → is_empty (map message_of ms) ≡ not (has_a
 none_seen [] = refl
 none_seen (m ∷ ms) = refl
 
-no_roots : (ms : List Mail) → list_any is_wake_root ms ≡ false → count_by is_wake_root ms ≡ 0
-no_roots [] none = refl
-no_roots (Message.WakeRoot ∷ ms) none = absurd (false≢true (sym none))
-no_roots (Message.Forward s ∷ ms) none = omega (arith, sum_by-cons (λ x. cond (is_wake_root x) 1 0) (Message.Forward s) ms, no_roots ms none)
-no_roots (Message.Cancel s ∷ ms) none = omega (arith, sum_by-cons (λ x. cond (is_wake_root x) 1 0) (Message.Cancel s) ms, no_roots ms none)
-
 one_root : (ms : List Mail) → list_any is_wake_root ms ≡ false → count_by is_wake_root (ms ++ Message.WakeRoot ∷ []) ≡ 1
-one_root ms none = omega (arith, sum_by-append (λ x. cond (is_wake_root x) 1 0) ms (Message.WakeRoot ∷ []), no_roots ms none)
+one_root ms none = omega (arith, sum_by-append (λ x. cond (is_wake_root x) 1 0) ms (Message.WakeRoot ∷ []), none_any is_wake_root ms none)
 
 empty_by : (ms : List Mail) → has_any ms ≡ false → ms ≡ []
 empty_by [] none = refl
@@ -63,10 +57,6 @@ arrival m = by m.inbox.closed refl
     by true is = (Arrival.Shut, is)
     by false is = among is (list_any is_wake_root m.inbox.messages) (has_any m.inbox.messages) refl refl
 
--- and there is a place
-pub root_place : (m : Box Subject Subject) → IsMailbox m → HasRootPlace m
-root_place m mail open_still kept = omega (arith, mail.place (no_roots m.inbox.messages kept))
-
 -- THE SEAT THEN
 
 abbrev pub box_first : Box Subject Subject → Box Subject Subject
@@ -89,7 +79,7 @@ some_mail : (ms : List Mail) → list_any is_wake_root ms ≡ true → has_any m
 some_mail [] h = absurd (false≢true h)
 some_mail (m ∷ ms) h = refl
 
-pub posted_as : (a : Arrival) (chair : Chair) → IsArrival a chair.mailbox → chair_posted chair ≡ chair_by a chair
+pub posted_as : (a : Arrival) (chair : Chair) → IsArrival a chair.mailbox → chair_sent Root chair ≡ chair_by a chair
 posted_as = grind arith
 
 -- a signal is asked for by the first alone, where its worker waits and nobody has signalled it
@@ -97,7 +87,7 @@ abbrev pub asks_by : Arrival → Box Subject Subject → Bool
 asks_by Arrival.First m = asks_signal m.waker
 asks_by _ m = false
 
-pub asks_as : (a : Arrival) (m : Box Subject Subject) → IsArrival a m → asks_in m ≡ asks_by a m
+pub asks_as : (a : Arrival) (m : Box Subject Subject) → IsArrival a m → asks_if_sent Root m ≡ asks_by a m
 asks_as = grind arith
 
 -- what its worker relies on stays
@@ -129,7 +119,7 @@ mailbox_by Arrival.First m = record { messages = Root ∷ []; word = record m.wo
 mailbox_by Arrival.More m = record m { messages = m.messages ++ Root ∷ [] }
 mailbox_by _ m = m
 
-pub event_as : (j : ℕ) (a : Arrival) (m : Box Subject Subject) → IsArrival a m → event_posted j m ≡ event_by j a
+pub event_as : (j : ℕ) (a : Arrival) (m : Box Subject Subject) → IsArrival a m → event_sent j Root m ≡ event_by j a
 event_as = grind arith
 
 pub seat_as : (a : Arrival) (v : Visible) (chair : Chair) → IsArrival a chair.mailbox → seat_seen v (chair_by a chair) ≡ seat_by a (seat_seen v chair)

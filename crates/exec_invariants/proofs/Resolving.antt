@@ -22,13 +22,6 @@ pub left_among : (other id : WaiterId) (ids : List WaiterId) → is_among other 
 left_among other id [] h = absurd (false≢true h)
 left_among other id (x ∷ ids) h = left_step other id x ids (left_among other id ids) h
 
-among_step : (other id x : WaiterId) (ids : List WaiterId) → (is_among other ids ≡ true → is_among other (without id ids) ≡ true) → other.0 ≢ id.0 → is_among other (x ∷ ids) ≡ true → is_among other (without id (x ∷ ids)) ≡ true
-among_step = grind arith
-
-pub among_still : (other id : WaiterId) (ids : List WaiterId) → other.0 ≢ id.0 → is_among other ids ≡ true → is_among other (without id ids) ≡ true
-among_still other id [] apart h = absurd (false≢true h)
-among_still other id (x ∷ ids) apart h = among_step other id x ids (among_still other id ids apart) apart h
-
 -- THE WHEEL stays where it stands
 
 one_unticked : (c : Configuration) (start moment : ℕ) (w : Wheel) (tick : ℕ) → IsWheelAt c start moment w → IsWheelAt c start moment (unticked w tick)

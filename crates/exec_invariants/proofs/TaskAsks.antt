@@ -4,7 +4,7 @@ use Rattle.exec_words.specs.Queue.{tail_of}
 use Rattle.exec_task.specs.declared.body.Said.{Said}
 use Rattle.exec_machine.specs.{declared.{config.Configuration.Configuration, event.Event.{Event, TheVariants.{Closed, Send}}, state.MailMessage.MailMessage}, After.{own_after, common_after}, Allowed.allowed, Choice.Choice.Plain, Mail.posted as seat_posted, Progress.Plan, Tests.AllTrue, World.{no_seat, seat_of}}
 use Rattle.exec_moves.specs.{declared.{handing.{AfterSend.AfterSend, AfterSignal.AfterSignal, InSignal.InSignal}, place.{InPoll.InPoll, Place.Place}}, Move.move_at, Parts.after_send, Send.{after_posting, asks as asks_box, posted, send_message, sent}, State.{Desk, Things, goes}, Thing.{mailbox_of, set_mailbox, with_mailbox}}
-use Rattle.exec_parts.{specs.{declared.parts.{seat.Seat.Seat as Chair, shared.Shared.Shared, task_slot.TaskSlot.TaskSlot, worker.Worker.Worker}, MailPosts.asks_by, Spots.Spot, View.{Views, Visible, common_of, desk_of, inbox_at, own_of, polls_seen, queue_at, seat_seen, seats_seen, things_with, visible, with_view, word_at}}, proofs.Facts.{by_number, set_elsewhere, set_there}}
+use Rattle.exec_parts.{specs.{declared.parts.{seat.Seat.Seat as Chair, shared.Shared.Shared, task_slot.TaskSlot.TaskSlot, worker.Worker.Worker}, Pooled.asks_if_sent, Spots.Spot, View.{Views, Visible, common_of, desk_of, inbox_at, own_of, polls_seen, queue_at, seat_seen, seats_seen, things_with, visible, with_view, word_at}}, proofs.Facts.{by_number, set_elsewhere, set_there}}
 use Rattle.exec_invariants.{specs.{Holding.Mail, Kinds.kind_of, Sound.{Aims, HasBatch, HasQueue, IsSeated, SoundAt, TellsPast, has_wakes_at}, Hearing.Hears, Spares.SparesChair, Whole.{Profile, with_worker}, Works.{Beside, Steps, Suits, Works}}, proofs.{Hearing.hears_so, Here.IsHere, HoldBeside.{Deals, Handles, Holds, beside_dealt}, HoldThings.Touches, LetterPosts.{IsLetter, asks_open, chair_open, seat_open, things_open}, Polling.home_mine, Seats.{chair_set, seat_there}, SparedRecord.there_within, Aside.{SameProfile, queue_of_chair, queues_set, seats_other}, PoolKept.{gate_spared, gates_set}, TaskDeals.{ComesFrom, Dealt, GoesOn, profile_here, sound_dealt}, Turning.{view_found, Fits, arrives, by_place, lower, of_kind, sound_on}}}
 
 -- where such a message leads
@@ -89,10 +89,10 @@ module _ {B : Type 0} where
       → (sound : SoundAt (Place.Poll t x) w s) → (it : IsHere x t w s)
       → mid ≡ record s { tasks = mid.tasks; requests = mid.requests; sleepers = mid.sleepers } → mid.tasks.items ≡ slice_set s.tasks.items t slot' → s' ≡ record mid { seats = s'.seats } → Posts w.index j s.seats.items s'.seats.items chair (chair_open m letter chair open_box)
       → Touches s (record s { requests = mid.requests; sleepers = mid.sleepers }) → Dealt y w.index it.slot slot' mid.requests.items mid.sleepers.items → ((others : Profile) → Holds (with_worker others w) s → Holds (with_worker others w) s')
-      → SoundAt (led_to t y b j (asks_by m chair.mailbox)) (record w { place = led_to t y b j (asks_by m chair.mailbox) }) s' × Beside w s (record w { place = led_to t y b j (asks_by m chair.mailbox) }) s'
+      → SoundAt (led_to t y b j (asks_if_sent m chair.mailbox)) (record w { place = led_to t y b j (asks_if_sent m chair.mailbox) }) s' × Beside w s (record w { place = led_to t y b j (asks_if_sent m chair.mailbox) }) s'
   asked_leaves x y b t j m letter w s mid s' slot' chair open_box from on by sound it midkept items kept posts touches to holds =
       let here_or_none : (it.slot.home ≡ Some w.index) ⊎ (it.slot.home ≡ None) = by_number t w.root (λ apart. inr (it.ordinary apart).1) (λ own. inl (it.root own).1) in
-      let asks : Bool = asks_by m chair.mailbox in
+      let asks : Bool = asks_if_sent m chair.mailbox in
       let q' : Place = led_to t y b j asks in
       let w1 : Worker = record w { place = q' } in
       let chair' : Chair = chair_open m letter chair open_box in
@@ -115,14 +115,14 @@ module _ {B : Type 0} where
 module _ {B L : Type 0} (left : B → L) (spot : L → Option Said → Spot) where
   -- THE WHOLE STEP
   pub asked : (x y : InPoll) (b : AfterSend) (t j : ℕ) (m : MailMessage) (letter : IsLetter m) (w w' : Worker) (s mid s' : Shared B) (e : Event) (slot' : TaskSlot B) (chair : Chair) (open_box : chair.mailbox.inbox.closed ≡ false) → ComesFrom t x → GoesOn t y → LeadsBy t y b
-      → (sound : SoundAt (Place.Poll t x) w s) → (it : IsHere x t w s) → w' ≡ record w { place = led_to t y b j (asks_by m chair.mailbox) }
+      → (sound : SoundAt (Place.Poll t x) w s) → (it : IsHere x t w s) → w' ≡ record w { place = led_to t y b j (asks_if_sent m chair.mailbox) }
       → mid ≡ record s { tasks = mid.tasks; requests = mid.requests; sleepers = mid.sleepers } → mid.tasks.items ≡ slice_set s.tasks.items t slot' → s' ≡ record mid { seats = s'.seats } → Posts w.index j s.seats.items s'.seats.items chair (chair_open m letter chair open_box)
       → Touches s (record s { requests = mid.requests; sleepers = mid.sleepers }) → Dealt y w.index it.slot slot' mid.requests.items mid.sleepers.items → Hears it.slot slot'
-      → ((others : Profile) → Holds (with_worker others w) s → Holds (with_worker others w) s') → ((p : Plan) (vs : Views) → Suits p vs w s → Works left spot p vs w s e (record w { place = led_to t y b j (asks_by m chair.mailbox) }) s') → Steps left spot w s e w' s'
+      → ((others : Profile) → Holds (with_worker others w) s → Holds (with_worker others w) s') → ((p : Plan) (vs : Views) → Suits p vs w s → Works left spot p vs w s e (record w { place = led_to t y b j (asks_if_sent m chair.mailbox) }) s') → Steps left spot w s e w' s'
   asked x y b t j m letter w w' s mid s' e slot' chair open_box from on by sound it same midkept items kept posts touches to hears holds works =
       let leaves = asked_leaves x y b t j m letter w s mid s' slot' chair open_box from on by sound it midkept items kept posts touches to holds in
       let all : s' ≡ record s { tasks = mid.tasks; requests = mid.requests; sleepers = mid.sleepers; seats = s'.seats } = kept ∙ ap (λ (z : Shared B). record z { seats = s'.seats }) midkept in
-      let done : Steps left spot w s e (record w { place = led_to t y b j (asks_by m chair.mailbox) }) s' = (
+      let done : Steps left spot w s e (record w { place = led_to t y b j (asks_if_sent m chair.mailbox) }) s' = (
         works,
         leaves.0,
         hears_so t it.slot slot' refl (ap (λ (z : Shared B). z.config) all) it.there (ap (λ (z : Shared B). z.tasks.items) all ∙ items) hears,
@@ -137,14 +137,14 @@ module _ {B L : Type 0} (left : B → L) (spot : L → Option Said → Spot) whe
       → move_at p.config w.index (own_of (record w { place = Place.Poll t x })) (common_of left spot p vs s) (desk_of (record w { place = Place.Poll t x })) (things_with vs s) (Place.Poll t x)
       ≡ with_mailbox j (things_with vs s) (send_message p.config (common_of left spot p vs s) j m b (desk_of (record w { place = Place.Poll t x })) (mailbox_of (things_with vs s) j))
       → AllTrue (allowed p.config (own_of (record w { place = Place.Poll t x })) (common_of left spot p vs s) w.index (Send j m) Plain)
-      → own_of (record w { place = led_to t y b j (asks_by m chair.mailbox) }) ≡ own_of (record w { place = Place.Poll t x })
+      → own_of (record w { place = led_to t y b j (asks_if_sent m chair.mailbox) }) ≡ own_of (record w { place = Place.Poll t x })
       → own_after p.config (own_of (record w { place = Place.Poll t x })) (common_of left spot p vs s) w.index (Send j m) Plain ≡ own_of (record w { place = Place.Poll t x })
       → common_after p.config (own_of (record w { place = Place.Poll t x })) (common_of left spot p vs s) w.index (Send j m) Plain ≡ record (common_of left spot p vs mid) { seats = slice_set (seats_seen vs.workers s.seats.items) j (seat_posted m (seat_of (common_of left spot p vs s) j)) }
       → things_with vs mid ≡ things_with vs s
-      → Works left spot p vs w s (Send j m) (record w { place = led_to t y b j (asks_by m chair.mailbox) }) s'
+      → Works left spot p vs w s (Send j m) (record w { place = led_to t y b j (asks_if_sent m chair.mailbox) }) s'
   asked_works x y b t j m letter w s mid s' chair open_box by on here seats global kept posts p vs suits moves may own own_then common things =
       let w0 : Worker = record w { place = Place.Poll t x } in
-      let asks : Bool = asks_by m chair.mailbox in
+      let asks : Bool = asks_if_sent m chair.mailbox in
       let w1 : Worker = record w { place = led_to t y b j asks } in
       let chair' : Chair = chair_open m letter chair open_box in
       let cs = common_of left spot p vs s in

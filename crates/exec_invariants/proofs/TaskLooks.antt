@@ -7,7 +7,7 @@ use Rattle.exec_request.specs.declared.output.RequestOutput.{RequestOutput}
 use Rattle.exec_task.specs.declared.body.Said.{Said}
 use Rattle.exec_machine.specs.{declared.{event.Event.Event, state.{MailMessage.TheVariants.{ForwardRequest, ForwardTimer}, RequestPhase.{RequestPhase, TheVariants.Resolved}, Waiting.Waiting}}, Tests.is_unsent}
 use Rattle.exec_moves.specs.declared.place.{InPoll.InPoll, Place.Place}
-use Rattle.exec_parts.{specs.{declared.parts.{record.Record.Record, shared.Shared.Shared, sleeping.SleeperRecord.SleeperRecord, task_slot.TaskSlot.TaskSlot, worker.Worker.Worker}, MailPosts.{HasAnswer, HearsEnd, HearsOutput, MayAskEnd, MayAskOutput, MayHearOutput, MaySend}, Records.{numbers_held, outcome_in}, Scripts.IsAnswered, Spots.Spot}, proofs.Facts.same_Some}
+use Rattle.exec_parts.{specs.{declared.parts.{record.Record.Record, shared.Shared.Shared, sleeping.SleeperRecord.SleeperRecord, task_slot.TaskSlot.TaskSlot, worker.Worker.Worker}, MailPosts.{HasAnswer, HearsEnd, HearsOutput, MayAskEnd, MayAskOutput, MayHearOutput}, Pooled.MaySend, Records.{numbers_held, outcome_in}, Scripts.IsAnswered, Spots.Spot}, proofs.Facts.same_Some}
 use Rattle.exec_invariants.{specs.{Holding.{HasAnswer as HasAnswerIn, awaited_in, box_of, holder_of, holdings, nap_of, outcome_told, thing_of}, Sound.SoundAt, Whole.{HasWhole, hands_of, with_worker}, Works.Steps}, proofs.{AskBoxes.{asks_place, box_there}, AsksEnds.{asks_whom}, Here.{IsHere, going_on}, HoldSteps.{held_there, hold_once}, HoldWaits.held_number, SparedRecord.there_within, TaskHears.{looked_in_vain, output_heard, thing_there}, TaskTakes.{holder_there, nap_there, sleep_taken}, TaskWants.{may_forward, wants_from, held_so}}}
 
 resolved_as : (p : RequestPhase) (o : Outcome) → outcome_in p ≡ Some o → p ≡ Resolved o

@@ -7,7 +7,7 @@ use Rattle.exec_driver.specs.Driving.{request_at}
 use Rattle.exec_task.specs.{Sight.Sight, declared.body.{Act.Act, Said.Said}}
 use Rattle.exec_machine.specs.{declared.state.{Forwarding.{Forwarding}, MailMessage.{MailMessage, TheVariants.{CancelRequest, ForwardRequest}}, Request.Request, Waiting.Waiting}, Requests.ends_by_drop, Tests.{is_applied, is_resolved, is_unsent}}
 use Rattle.exec_moves.specs.declared.place.{InPoll.InPoll, Place.Place}
-use Rattle.exec_parts.{specs.{declared.parts.{mail.{Reply.Reply, Subject.Subject}, record.Record.Record, shared.Shared.Shared, task_slot.TaskSlot.TaskSlot, worker.Worker.Worker}, Awaits.{HasNewest, MayLetGo, OfNewest, newest_of}, MailPosts.MaySend, Polls.MadeAct, Records.{number_in, numbers_held}, View.driver_of}, proofs.Facts.{same_Some, set_there}}
+use Rattle.exec_parts.{specs.{declared.parts.{mail.{Reply.Reply, Subject.Subject}, record.Record.Record, shared.Shared.Shared, task_slot.TaskSlot.TaskSlot, worker.Worker.Worker}, Awaits.{HasNewest, MayLetGo, OfNewest, newest_of}, Pooled.MaySend, Polls.MadeAct, Records.{number_in, numbers_held}, View.driver_of}, proofs.Facts.{same_Some, set_there}}
 use Rattle.exec_invariants.{specs.{HoldPlaces.spare_at, Holding.{awaited_in, holder_of, thing_of}, Rooted.IsNear, Sound.SoundAt, Names.tellers, Whole.HasWhole}, proofs.{Here.{IsHere, polled_here}, HoldMail.sum_least, HoldWaits.held_number, Resolving.places_fewer, Slotted.live_at, TaskGot.may_take_own, TaskTakes.holder_there, TaskWants.{HoldsNewest, may_cancel, may_forward, newest_is, wants_from}}}
 
 -- what ends by a drop isn't over

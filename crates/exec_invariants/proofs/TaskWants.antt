@@ -4,7 +4,7 @@ use Rattle.std.proofs.{Common.{◌≡◌, ◌≢◌, ◌⊎◌, inl, inr, ℕ, �
 use Rattle.exec_words.specs.{Inbox.{is_wake_root}, declared.inbox.Message.{Message}}
 use Rattle.exec_machine.specs.{declared.state.{Forwarding.TheVariants.Unsent, MailMessage.TheVariants.{CancelRequest, ForwardRequest}}, Tests.is_unsent}
 use Rattle.exec_moves.specs.declared.place.{InPoll.InPoll, Place.Place}
-use Rattle.exec_parts.{specs.{declared.parts.{mail.Subject.Subject, record.Record.Record, seat.Seat.Seat as Chair, shared.Shared.Shared, task_slot.TaskSlot.TaskSlot, worker.Worker.Worker}, Awaits.newest_of, MailPosts.MaySend, Records.numbers_held}, proofs.Facts.{by_number, false_from_ne_true, same_Some}}
+use Rattle.exec_parts.{specs.{declared.parts.{mail.Subject.Subject, record.Record.Record, seat.Seat.Seat as Chair, shared.Shared.Shared, task_slot.TaskSlot.TaskSlot, worker.Worker.Worker}, Awaits.newest_of, Pooled.MaySend, Records.numbers_held}, proofs.Facts.{by_number, false_from_ne_true, same_Some}}
 use Rattle.exec_invariants.{specs.{Holding.{Box, Hands, Holder, IsAbout, IsHeldBy, IsHolding, Mail, MayHave, Nap, Thing, awaited_in, box_of, holder_of, holdings, mail_in, nap_of, thing_of, under_way}, Sound.SoundAt, Whole.{HasWhole, hands_of, with_worker}}, proofs.{AskBoxes.{box_there, none_sent, pool_open}, Here.IsHere, HoldMail.{sum_least}, HoldPosts.{has_place, with_mail}, HoldSteps.{held_there, hold_once}, HoldWaits.{held_number, holds_alone}, Polling.home_mine, SparedRecord.there_within, TaskHears.thing_there, TaskTakes.holder_there}}
 
 none_told : (shut observed : Bool) (held told : ℕ) → shut ≡ false → 0 < held → IsHeldBy shut observed held told → told ≡ 0

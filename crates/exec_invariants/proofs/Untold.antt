@@ -26,7 +26,7 @@ keeps_untold = grind (arith, append-nil, told_still, wide_still, rooted_told)
 
 -- WHETHER ANYTHING IS TO BE TOLD
 
-positive_there : (n : ℕ) → nat_lt 0 n ≡ not (n == 0)
+pub positive_there : (n : ℕ) → nat_lt 0 n ≡ not (n == 0)
 positive_there n = grind (arith, nat_tests)
 
 pub empty_map : {A C : Type 0} (f : A → C) (xs : List A) → is_empty (map f xs) ≡ (length xs == 0)
@@ -37,7 +37,7 @@ empty_there : (xs : List ℕ) → is_empty xs ≡ (length xs == 0)
 empty_there [] = refl
 empty_there (x ∷ xs) = sym (zero_false (length xs))
 
-none_of : (a b c e f : Bool) → (not a || not b || not c || not e || not f) ≡ not (a && e && b && c && f)
+pub none_of : (a b c e f : Bool) → (not a || not b || not c || not e || not f) ≡ not (a && e && b && c && f)
 none_of = grind arith
 
 -- what is on the desk

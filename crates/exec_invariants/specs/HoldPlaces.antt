@@ -1,11 +1,12 @@
 -- What a place says of what its worker tells: where callbacks follow, where messages about what a task held are sent, for whom an
 -- end was sent, and where no sleeper is left.
 use Rattle.std.specs.Prelude.{ℕ, ◌-◌, Bool, true, false, Option, Some, None}
-use Rattle.exec_moves.specs.declared.{handing.{AfterCallbacks.AfterCallbacks, AfterClaim.AfterClaim, AfterKick.AfterKick, AfterLeave.AfterLeave, AfterPush.AfterPush, AfterSignal.AfterSignal, Heard.Heard}, place.{AfterService.AfterService, Place.Place}}
+use Rattle.exec_moves.specs.declared.{handing.{AfterCallbacks.AfterCallbacks, AfterClaim.AfterClaim, AfterKick.AfterKick, AfterPush.AfterPush, AfterSignal.AfterSignal, Heard.Heard}, place.{Place.Place}}
+use Rattle.exec_moves.specs.Seen.{left_in_service}
+use Rattle.exec_invariants.specs.Places.{calls_after_leave}
 use Rattle.exec_moves.specs.declared.handing.AfterCallbacks.TheVariants as after
 use Rattle.exec_moves.specs.declared.handing.AfterClaim.TheVariants as claim
 use Rattle.exec_moves.specs.declared.handing.AfterKick.TheVariants as kick
-use Rattle.exec_moves.specs.declared.handing.AfterLeave.TheVariants as leave
 use Rattle.exec_moves.specs.declared.handing.AfterPush.TheVariants as push
 use Rattle.exec_moves.specs.declared.handing.AfterSend.TheVariants as send
 use Rattle.exec_moves.specs.declared.handing.AfterSignal.TheVariants as signal
@@ -18,16 +19,12 @@ use Rattle.exec_moves.specs.declared.place.Place.TheVariants as at
 
 -- THE CALLBACKS that a place is in, or comes back to once it has handed something on
 
-abbrev pub callbacks_after_leave : AfterLeave → Option AfterCallbacks
-callbacks_after_leave (leave.CallBack n) = Some n
-callbacks_after_leave _ = None
-
 abbrev pub callbacks_after_push : AfterPush → Option AfterCallbacks
 callbacks_after_push (push.CallBack n) = Some n
 callbacks_after_push _ = None
 
 abbrev pub callbacks_after_kick : AfterKick → Option AfterCallbacks
-callbacks_after_kick (kick.Leave b) = callbacks_after_leave b
+callbacks_after_kick (kick.Leave b) = calls_after_leave b
 callbacks_after_kick (kick.Push b) = callbacks_after_push b
 
 abbrev pub callbacks_after_claim : AfterClaim → Option AfterCallbacks
@@ -40,7 +37,7 @@ callbacks_after_signal (signal.Send b) = None
 
 abbrev pub callbacks_at : Place → Option AfterCallbacks
 callbacks_at (at.Callbacks x n) = Some n
-callbacks_at (at.LeaveSearch b) = callbacks_after_leave b
+callbacks_at (at.LeaveSearch b) = calls_after_leave b
 callbacks_at (at.Push x b) = callbacks_after_push b
 callbacks_at (at.Global x b) = callbacks_after_push b
 callbacks_at (at.Kick x b) = callbacks_after_kick b
@@ -104,12 +101,8 @@ is_bare_before (Some after.Drain) = true
 is_bare_before (Some after.Finish) = true
 is_bare_before _ = false
 
-abbrev pub is_bare_in_service : AfterService → Bool
-is_bare_in_service back.Finish = true
-is_bare_in_service _ = false
-
 abbrev pub is_bare_at : Place → Bool
-is_bare_at (at.Service x v) = is_bare_in_service v.back
+is_bare_at (at.Service x v) = left_in_service v.back
 is_bare_at (at.RingWait x stay.Closing) = true
 is_bare_at (at.Closing closing.End) = true
 is_bare_at p = is_bare_before (callbacks_at p)

@@ -1,6 +1,7 @@
 -- What a place says of its worker: which poll it is in, what is in its hands, whether its bit is published, how many search
 -- counts it carries, and which run queue it has claimed.
 use Rattle.std.specs.Prelude.{ℕ, ◌==◌, Bool, true, false, Option, Some, None, if◌then◌else◌}
+pub use Rattle.exec_moves.specs.Counts.{one_if}
 use Rattle.exec_moves.specs.{Seen.polls_at, declared.{handing.{AfterCallbacks.AfterCallbacks, AfterCancels.AfterCancels, AfterClaim.AfterClaim, AfterKick.AfterKick, AfterLeave.AfterLeave, AfterPush.AfterPush, AfterSend.AfterSend, AfterSignal.AfterSignal}, idling.{AfterWait.AfterWait, InLook.InLook, InRingWait.InRingWait, InWordWait.InWordWait, Stay.Stay}, place.{AfterService.AfterService, InClosing.InClosing, InPoll.InPoll, Place.Place}}}
 use Rattle.exec_moves.specs.declared.handing.AfterCallbacks.TheVariants as after
 use Rattle.exec_moves.specs.declared.handing.AfterClaim.TheVariants as claim
@@ -267,10 +268,6 @@ has_count_at (at.Global global.ReturnGlobalCount b) = true
 has_count_at (at.Kick kicks.ReturnKickCount b) = true
 has_count_at (at.Look look.ReturnClaimed) = true
 has_count_at _ = false
-
-abbrev pub one_if : Bool → ℕ
-one_if true = 1
-one_if false = 0
 
 abbrev pub is_number : Option ℕ → ℕ → Bool
 is_number None n = false

@@ -1,6 +1,6 @@
 -- What the stagings of a service do to a worker and to the records of its requests, and where a request that is over leads.
 use Rattle.std.specs.Prelude.{◌≡◌, ℕ, ◌<◌, ◌&&◌, ◌||◌, Bool, true, false, not, List, [], ◌∷◌, ◌++◌, length, Option, Some, None, if◌then◌else◌}
-use Rattle.exec_outcomes.specs.Accounts.{Account}
+use Rattle.exec_request.specs.Hints.{has_hint}
 use Rattle.exec_waiters.specs.{States.file_of, declared.{waiter.Waiter.Waiter, waiter_id.WaiterId.WaiterId}}
 use Rattle.exec_driver.specs.{Driving.{Driving, request_at, is_full, may_stage_one}, Steps.{cancel_staged, poll_staged, StagesOne}}
 use Rattle.exec_lists.specs.Lists.{has_first}
@@ -14,13 +14,8 @@ abbrev pub after_giving_up : Option ℕ → AfterPermit → InService
 after_giving_up None b = after_permit b
 after_giving_up (Some file) b = InService.PassPermit file b
 
--- no hint of the open was refused, where there is such an open
-abbrev pub is_hinted : Option Account → Bool
-is_hinted None = false
-is_hinted (Some account) = account.hinted
-
 abbrev pub takes_hint : List OpenState → ℕ → Bool
-takes_hint opens file = is_hinted (account_in opens (file_named file))
+takes_hint opens file = has_hint (account_in opens (file_named file))
 
 -- its operation is in the submission queue, with the hint where it asks for that and its open takes it
 abbrev pub staged_with : List OpenState → Record → Record

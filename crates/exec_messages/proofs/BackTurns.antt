@@ -3,7 +3,8 @@
 use Rattle.std.proofs.{Common.{◌≡◌, ◌≢◌, inr, ℕ, arith, Bool, true, false, Contains, List, [], length, Option, Some, None, refl, sym, ap, subst, ◌∙◌, slice_get, slice_set, option_to_list, if◌then◌else◌}, lemmas.Bool.false≢true}
 use Rattle.exec_task.specs.{Phases.{is_polled, runnable_of}, declared.runnable.Runnable.Runnable}
 use Rattle.exec_moves.specs.declared.{handing.{AfterCallbacks.AfterCallbacks, AfterPush.AfterPush, Heard.Heard, InGlobal.InGlobal, InPush.InPush}, place.{InCallbacks.InCallbacks, Place.Place}}
-use Rattle.exec_parts.{specs.{declared.parts.{seat.Seat.Seat as Chair, shared.Shared.Shared, task_slot.TaskSlot.TaskSlot, worker.Worker.Worker}, Phased.{IsPhased, closes_before, is_complete, stage_of}, Pooled.woken_slot, Roles.is_pool, Tests.first_push_of}, proofs.Facts.{same_Some, set_elsewhere, set_there, true_false}}
+use Rattle.exec_parts.{specs.{declared.parts.{seat.Seat.Seat as Chair, shared.Shared.Shared, task_slot.TaskSlot.TaskSlot, worker.Worker.Worker}, Phased.{IsPhased, is_complete, stage_of}, Pooled.woken_slot, Roles.is_pool, Tests.first_push_of}, proofs.Facts.{same_Some, set_elsewhere, set_there, true_false}}
+use Rattle.exec_moves.specs.Seen.{left_before}
 use Rattle.exec_invariants.{specs.{Rooted.HasHeard, Sound.{AreHome, AreResting, HasRunnable, IsHeld, IsLoot, IsResting, IsRunnable, SoundAt, Stands, one_of}, Whole.IsGenuine}, proofs.{Flagged.{flag_then, flag_woken, in_flag, of_flag, stands_woken}, Cells.{complete_woken, polled_woken}, SlotTasks.{Keeps, genuine_set, homes_set, none_in, resting_set}, Stirs.{keeps_woken, only, rests_woken}, Turning.{Arrives, GoesOn, sound_on}}}
 
 module _ {B : Type 0} where
@@ -22,7 +23,7 @@ module _ {B : Type 0} where
       let tasks = s1.tasks.items in
       let genuine : (r : Runnable) → Contains (option_to_list w.hand) r → IsHeld None w.root tasks r = λ r has. absurd (none_in r (subst (λ o. Contains (option_to_list o) r) sound.hand has)) in
       let stolen : (r : Runnable) → Contains w.loot.values r → IsGenuine tasks r = λ r has. it.genuine r (sound.stolen r has) in
-      let phased : (chair : Chair) → slice_get s.seats.items w.index ≡ Some chair → IsPhased w.index (closes_before n) None w.home.closing w.root w.names.unreleased (stage_of chair s) tasks = λ chair at.
+      let phased : (chair : Chair) → slice_get s.seats.items w.index ≡ Some chair → IsPhased w.index (left_before n) None w.home.closing w.root w.names.unreleased (stage_of chair s) tasks = λ chair at.
       let old = sound.phased chair at in
       grind arith in
       grind arith

@@ -6,3 +6,4 @@ pub mod MailLets
 pub mod MailHeld
 pub mod LeafPowers
 pub mod LeafFresh
+pub mod Mailboxes

@@ -6,7 +6,7 @@ use Rattle.exec_driver.specs.{Driving.request_at, Placed.ListsRequests, Punctual
 use Rattle.exec_task.specs.declared.body.Said.{Said}
 use Rattle.exec_machine.specs.{declared.{event.Event.{Event, TheVariants.{Wait, Drop}}, state.{MailMessage.TheVariants.{ForwardRequest, CancelRequest}, Waiting.Waiting}}, Requests.{dropped, ends_by_drop, joined_if}, Tests.is_resolved}
 use Rattle.exec_moves.specs.declared.{handing.AfterSend.AfterSend, place.{InPoll.InPoll, Place.Place}}
-use Rattle.exec_parts.specs.{Records.numbers_held, declared.parts.{record.Record.Record, shared.Shared.Shared, task_slot.TaskSlot.TaskSlot, worker.Worker.Worker}, MailPosts.{AsksOutput, MaySend, Sends}, Polls.{IsReady, OfSlot, TookOutput}, View.driver_of, Things.TurnsSlot}
+use Rattle.exec_parts.specs.{Records.numbers_held, declared.parts.{record.Record.Record, shared.Shared.Shared, task_slot.TaskSlot.TaskSlot, worker.Worker.Worker}, MailPosts.AsksOutput, Pooled.{MaySend, Sends}, Polls.{IsReady, OfSlot, TookOutput}, View.driver_of, Things.TurnsSlot}
 
 -- task t waits for it; nobody holds it any more
 abbrev pub awaited_by : ℕ → Record → Record

@@ -1,16 +1,16 @@
 -- Messages to other workers: that a task waits for what they have, and that nobody holds it any more.
-use Rattle.std.specs.Prelude.{◌≡◌, ℕ, Bool, true, false, not, ◌&&◌, ◌-◌, ◌<◌, drop, length, take, Ok, Some, slice_get, slice_set, if◌then◌else◌}
+use Rattle.std.specs.Prelude.{◌≡◌, ℕ, true, false, ◌-◌, ◌<◌, drop, length, take, Ok, Some, slice_get, slice_set}
 use Rattle.exec_base.specs.declared.one_shot.OneShotState.TheVariants.{Open, Sent as Full, Closed as Shut}
 use Rattle.exec_outcomes.specs.declared.outcome.Outcome.{Outcome}
 use Rattle.std.specs.Prelude.{◌≤◌, [], count_by}
-use Rattle.exec_words.specs.{Inbox.{is_wake_root, is_dropped, opens_batch, sent, spare_places, word_after}, Word.asks_signal, declared.mailbox.Mailbox.Mailbox}
+use Rattle.exec_words.specs.{Inbox.{is_wake_root, sent}, declared.mailbox.Mailbox.Mailbox}
 use Rattle.exec_request.specs.declared.output.RequestOutput.{RequestOutput}
 use Rattle.exec_task.specs.declared.body.Said.{Said}
-use Rattle.exec_machine.specs.declared.{event.Event.{Event, TheVariants.{Turn, Send, Closed, Got, GotTimer}}, state.{Letter.Letter, MailMessage.{MailMessage, TheVariants.{ForwardRequest, ForwardTimer}}, RequestPhase.TheVariants.Resolved, Waiting.Waiting}}
-use Rattle.exec_moves.specs.{declared.handing.{AfterCancels.AfterCancels, AfterSend.AfterSend}, Send.after_posting}
+use Rattle.exec_machine.specs.declared.{event.Event.{Event, TheVariants.{Turn, Got, GotTimer}}, state.{Letter.Letter, MailMessage.TheVariants.{ForwardRequest, ForwardTimer}, RequestPhase.TheVariants.Resolved, Waiting.Waiting}}
+use Rattle.exec_moves.specs.declared.handing.{AfterCancels.AfterCancels, AfterSend.AfterSend}
 use Rattle.exec_moves.specs.declared.place.InPoll.TheVariants as poll
 use Rattle.exec_moves.specs.declared.place.Place.TheVariants as at
-use Rattle.exec_parts.specs.{declared.parts.{letters.Letters.Letters, mail.Subject.Subject, record.Record.Record, seat.Seat.Seat as Chair, shared.Shared.Shared, sleeping.SleeperRecord.SleeperRecord, task_slot.TaskSlot.TaskSlot, worker.Worker.Worker}, Calls.{forwarded_for, sleeper_forwarded}, Phased.TurnsChair, Polls.{OfSlot, slept_slot, unobserved}, Pooled.OfChair, View.{desk_of, letters_in, mail_of}, Things.TurnsSlot}
+use Rattle.exec_parts.specs.{declared.parts.{letters.Letters.Letters, mail.Subject.Subject, record.Record.Record, seat.Seat.Seat as Chair, shared.Shared.Shared, sleeping.SleeperRecord.SleeperRecord, task_slot.TaskSlot.TaskSlot, worker.Worker.Worker}, Calls.{forwarded_for, sleeper_forwarded}, Polls.{OfSlot, slept_slot, unobserved}, Pooled.{MaySend, Sends}, View.{letters_in}, Things.TurnsSlot}
 
 -- an inbox has one wake of the root at most, and a place for that where it has none; a closed one has no message
 pub record IsMailbox (m : Mailbox Subject Subject) : Type 0 where
@@ -22,41 +22,6 @@ module _ {B : Type 0} where
   -- there is a place for the one message of each inbox
   abbrev pub HaveMailboxes : Shared B → Type 0
   HaveMailboxes s = (j : ℕ) (chair : Chair) → slice_get s.seats.items j ≡ Some chair → IsMailbox chair.mailbox
-
--- ONE MESSAGE
-
--- there is a place for it, where it is to be put in
-abbrev pub HasPlaceFor : MailMessage → Mailbox Subject Subject → Type 0
-HasPlaceFor m box = box.inbox.closed ≡ false → is_dropped box.inbox (mail_of m) ≡ false → 0 < spare_places box.inbox
-
-abbrev pub asks_by : MailMessage → Mailbox Subject Subject → Bool
-asks_by m box = not box.inbox.closed && (opens_batch box.inbox (mail_of m) && asks_signal box.waker)
-
-abbrev pub chair_sent : MailMessage → Chair → Chair
-chair_sent m chair =
-    if chair.mailbox.inbox.closed then chair
-    else record chair {
-      mailbox = record chair.mailbox {
-        inbox = sent chair.mailbox.inbox (mail_of m);
-        waker = word_after chair.mailbox.inbox (mail_of m) chair.mailbox.waker;
-      };
-    }
-
-abbrev pub event_sent : ℕ → MailMessage → Mailbox Subject Subject → Event
-event_sent j m box = if box.inbox.closed then Closed else Send j m
-
-module _ {B : Type 0} where
-  -- worker j is sent the message, and is signalled next where that is asked for
-  pub record Sends (j : ℕ) (m : MailMessage) (b : AfterSend) (w w' : Worker) (s s' : Shared B) (e : Event) : Type 0 where
-    pub chair : TurnsChair j (chair_sent m) s s'
-    pub kept : s' ≡ record s { seats = s'.seats }
-    pub event : OfChair j s (λ chair. e ≡ event_sent j m chair.mailbox)
-    pub worker : OfChair j s (λ chair. w' ≡ record w { place = after_posting s.config j b (asks_by m chair.mailbox) (desk_of w) })
-
-  -- it can be sent
-  pub record MaySend (j : ℕ) (m : MailMessage) (s : Shared B) : Type 0 where
-    pub there : j < length s.seats.items
-    pub place : OfChair j s (λ chair. HasPlaceFor m chair.mailbox)
 
   -- the first of the letters that it owes is sent
   pub record SendsLetter (b : AfterCancels) (w w' : Worker) (s s' : Shared B) (e : Event) : Type 0 where

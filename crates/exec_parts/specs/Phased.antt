@@ -3,7 +3,6 @@ use Rattle.std.specs.Prelude.{◌≡◌, ◌⊎◌, ℕ, ◌+◌, ◌<◌, ◌�
 use Rattle.exec_task.specs.{TaskSet.{Set, IsFor, shard_at}, declared.{drain.Drain.Drain, task.Phase.Phase}}
 use Rattle.exec_task.specs.declared.task.Phase.TheVariants as cell
 use Rattle.exec_machine.specs.{declared.state.WorkerPhase.WorkerPhase, Tests.{is_open, has_ended}}
-use Rattle.exec_moves.specs.declared.handing.AfterCallbacks.TheVariants as after
 use Rattle.exec_moves.specs.declared.handing.AfterPop.TheVariants as pop
 use Rattle.exec_moves.specs.declared.handing.AfterSend.TheVariants as send
 use Rattle.exec_moves.specs.declared.handing.AfterSignal.TheVariants as signal
@@ -12,32 +11,21 @@ use Rattle.exec_moves.specs.declared.handing.AfterClaim.TheVariants as claim
 use Rattle.exec_moves.specs.declared.handing.AfterPush.TheVariants as push
 use Rattle.exec_moves.specs.declared.handing.AfterKick.TheVariants as kick
 use Rattle.exec_moves.specs.declared.handing.AfterLeave.TheVariants as leave
-use Rattle.exec_moves.specs.declared.handing.{AfterCallbacks.AfterCallbacks, AfterCancels.AfterCancels, AfterClaim.AfterClaim, AfterKick.AfterKick, AfterLeave.AfterLeave, AfterPush.AfterPush, AfterSend.AfterSend, AfterSignal.AfterSignal}
-use Rattle.exec_moves.specs.declared.place.{AfterService.AfterService, InClosing.InClosing, Place.Place}
-use Rattle.exec_moves.specs.Parts.{after_visit}
-use Rattle.exec_moves.specs.declared.place.AfterService.TheVariants as back
+use Rattle.exec_moves.specs.declared.handing.{AfterCancels.AfterCancels, AfterClaim.AfterClaim, AfterKick.AfterKick, AfterLeave.AfterLeave, AfterPush.AfterPush, AfterSend.AfterSend, AfterSignal.AfterSignal}
+use Rattle.exec_moves.specs.declared.place.{InClosing.InClosing, Place.Place}
+use Rattle.exec_moves.specs.{Parts.after_visit, Seen.{left_before, left_in_service}}
 use Rattle.exec_moves.specs.declared.place.InClosing.TheVariants as closing
 use Rattle.exec_moves.specs.declared.place.Place.TheVariants as at
 use Rattle.exec_moves.specs.declared.idling.Stay.TheVariants as stay
 use Rattle.exec_parts.specs.declared.parts.{seat.Seat.Seat as Chair, shared.Shared.Shared, task_slot.TaskSlot.TaskSlot}
 
-abbrev pub closes_after : AfterService → Bool
-closes_after back.Finish = true
-closes_after _ = false
-
--- a callback that is made once a search count is returned is one of that closing
-abbrev pub closes_before : AfterCallbacks → Bool
-closes_before after.Drain = true
-closes_before after.Finish = true
-closes_before _ = false
-
 abbrev pub closes_after_leave : AfterLeave → Bool
-closes_after_leave (leave.CallBack n) = closes_before n
+closes_after_leave (leave.CallBack n) = left_before n
 closes_after_leave _ = false
 
 -- and so is a push of a task that a callback woke
 abbrev pub closes_after_push : AfterPush → Bool
-closes_after_push (push.CallBack n) = closes_before n
+closes_after_push (push.CallBack n) = left_before n
 closes_after_push _ = false
 
 abbrev pub closes_after_kick : AfterKick → Bool
@@ -74,9 +62,9 @@ closes_at (at.Kick x b) = closes_after_kick b
 closes_at (at.ClaimWorker set b) = closes_after_claim b
 closes_at (at.Signal x j b) = closes_after_signal b
 closes_at (at.Closing x) = true
-closes_at (at.Service x v) = closes_after v.back
+closes_at (at.Service x v) = left_in_service v.back
 closes_at (at.RingWait x stay.Closing) = true
-closes_at (at.Callbacks x n) = closes_before n
+closes_at (at.Callbacks x n) = left_before n
 closes_at _ = false
 
 -- where the closing is: the signal of a told root, and the emptying of the own run queue, count as the telling; letters of a

@@ -2,11 +2,11 @@
 use Rattle.std.specs.Prelude.{◌≡◌, ◌⊎◌, ℕ, zero, suc, Bool, true, false, not, ◌+◌, ◌-◌, ◌^◌, ◌<◌, ◌≤◌, ◌&&◌, ◌==◌, ◌∷◌, ◌++◌, MatchBool, List, [], length, min, take, slice_get, is_some, Option, Some, None, if◌then◌else◌}
 use Rattle.exec_driver.specs.Driving.{Driving}
 use Rattle.exec_ring.specs.Kernels.{with_wake}
-use Rattle.exec_words.specs.{Inbox.{is_dropped, opens_batch, sent, spare_places, word_after}, Queue.{Queue, claimed, head_of, newest, overflowed, popped, released, tail_of}, Reserved.extended, Word.asks_signal, declared.{inbox.Message.Message, mailbox.Mailbox.Mailbox}}
+use Rattle.exec_words.specs.{Inbox.{is_dropped, opens_batch, sent, spare_places, word_after}, Queue.{Queue, claimed, head_of, newest, overflowed, popped, released, tail_of}, Reserved.extended, Word.asks_signal, declared.{mailbox.Mailbox.Mailbox}}
 use Rattle.exec_task.specs.{Phases.{cleared, is_idle, runnable_of, woken}, TaskSet.{IsFor, inserted, passed, shard_at, Set, TakesNewest}, declared.{body.Said.Said, drain.Drain.Drain, runnable.{AfterPoll.AfterPoll, Runnable.Runnable}}}
 use Rattle.exec_base.specs.declared.{error.Error.Error, task_no.TaskNo.TaskNo}
-use Rattle.exec_machine.specs.{declared.{config.Configuration.Configuration, event.Event.{Event, TheVariants.{Turn, Rouse, Send, Closed, Spawn, Wake}}, state.{MailMessage.TheVariants.Root, Rest.Rest, Waiting.Waiting}}, Tests.{is_awake, is_empty}}
-use Rattle.exec_moves.specs.{declared.handing.{AfterLeave.AfterLeave, AfterPop.AfterPop, AfterPush.AfterPush, First.First}, Claim.Claimed as Exchanged, Pick.after_empty_look, Pop.{after_empty_pop, judge_pop}, Parts.{after_visit, first_pop}}
+use Rattle.exec_machine.specs.{declared.{config.Configuration.Configuration, event.Event.{Event, TheVariants.{Turn, Rouse, Send, Closed, Spawn, Wake}}, state.{MailMessage.{MailMessage, TheVariants.Root}, Rest.Rest, Waiting.Waiting}}, Tests.{is_awake, is_empty}}
+use Rattle.exec_moves.specs.{declared.handing.{AfterLeave.AfterLeave, AfterPop.AfterPop, AfterPush.AfterPush, AfterSend.AfterSend, First.First}, Claim.Claimed as Exchanged, Pick.after_empty_look, Pop.{after_empty_pop, judge_pop}, Parts.{after_visit, first_pop}, Send.after_posting}
 use Rattle.exec_base.specs.declared.one_shot.OneShotState.TheVariants as shot
 use Rattle.exec_task.specs.declared.body.Said.TheVariants as said
 use Rattle.exec_task.specs.declared.task.Phase.TheVariants as cell
@@ -14,15 +14,13 @@ use Rattle.exec_moves.specs.declared.handing.AfterCallbacks.TheVariants as after
 use Rattle.exec_moves.specs.declared.handing.AfterPop.TheVariants as pop
 use Rattle.exec_moves.specs.declared.handing.AfterPush.TheVariants as push
 use Rattle.exec_moves.specs.declared.handing.AfterSend.TheVariants as send
-use Rattle.exec_moves.specs.declared.handing.AfterSignal.TheVariants as signal
 use Rattle.exec_moves.specs.declared.handing.InPush.TheVariants as pushes
-use Rattle.exec_moves.specs.declared.handing.InSignal.TheVariants as signals
 use Rattle.exec_moves.specs.declared.place.InCallbacks.TheVariants as callback
 use Rattle.exec_moves.specs.declared.place.InClosing.TheVariants as closing
 use Rattle.exec_moves.specs.declared.place.InPoll.TheVariants as poll
 use Rattle.exec_moves.specs.declared.place.Place.TheVariants as at
 use Rattle.exec_parts.specs.declared.claim.Claimed.{Claimed}
-use Rattle.exec_parts.specs.{Records.numbers_held, declared.parts.{mail.{Reply.Reply, Subject.Subject}, seat.Seat.Seat as Chair, shared.Shared.Shared, task_slot.TaskSlot.TaskSlot, worker.Worker.Worker}, Phased.TurnsChair, Tests.{after_spawn_of, first_push_of, leave_of}, View.body_in, Things.TurnsSlot}
+use Rattle.exec_parts.specs.{Records.numbers_held, declared.parts.{mail.{Reply.Reply, Subject.Subject}, seat.Seat.Seat as Chair, shared.Shared.Shared, task_slot.TaskSlot.TaskSlot, worker.Worker.Worker}, Phased.TurnsChair, Tests.{after_spawn_of, first_push_of, leave_of}, View.{body_in, desk_of, mail_of}, Things.TurnsSlot}
 
 -- the chair of the worker of this number has this
 abbrev pub OfChair : {B : Type 0} → ℕ → Shared B → (Chair → Type 0) → Type 0
@@ -113,25 +111,40 @@ chair_raised ring chair =
 abbrev pub event_rousing : ℕ → Rest → Event
 event_rousing worker rest = if is_awake rest then Turn else Rouse worker
 
--- there is a place for a wake of the root, where one is to be put in
-abbrev pub HasRootPlace : Mailbox Subject Subject → Type 0
-HasRootPlace m = m.inbox.closed ≡ false → is_dropped m.inbox Message.WakeRoot ≡ false → 0 < spare_places m.inbox
+-- ONE MESSAGE TO ANOTHER
 
-abbrev pub asks_in : Mailbox Subject Subject → Bool
-asks_in m = not m.inbox.closed && (opens_batch m.inbox Message.WakeRoot && asks_signal m.waker)
+-- there is a place for it, where it is to be put in
+abbrev pub HasPlaceFor : MailMessage → Mailbox Subject Subject → Type 0
+HasPlaceFor m box = box.inbox.closed ≡ false → is_dropped box.inbox (mail_of m) ≡ false → 0 < spare_places box.inbox
 
-abbrev pub chair_posted : Chair → Chair
-chair_posted chair =
+abbrev pub asks_if_sent : MailMessage → Mailbox Subject Subject → Bool
+asks_if_sent m box = not box.inbox.closed && (opens_batch box.inbox (mail_of m) && asks_signal box.waker)
+
+abbrev pub chair_sent : MailMessage → Chair → Chair
+chair_sent m chair =
     if chair.mailbox.inbox.closed then chair
     else record chair {
       mailbox = record chair.mailbox {
-        inbox = sent chair.mailbox.inbox Message.WakeRoot;
-        waker = word_after chair.mailbox.inbox Message.WakeRoot chair.mailbox.waker;
+        inbox = sent chair.mailbox.inbox (mail_of m);
+        waker = word_after chair.mailbox.inbox (mail_of m) chair.mailbox.waker;
       };
     }
 
-abbrev pub event_posted : ℕ → Mailbox Subject Subject → Event
-event_posted home m = if m.inbox.closed then Closed else Send home Root
+abbrev pub event_sent : ℕ → MailMessage → Mailbox Subject Subject → Event
+event_sent j m box = if box.inbox.closed then Closed else Send j m
+
+module _ {B : Type 0} where
+  -- worker j is sent the message, and is signalled next where that is asked for
+  pub record Sends (j : ℕ) (m : MailMessage) (b : AfterSend) (w w' : Worker) (s s' : Shared B) (e : Event) : Type 0 where
+    pub chair : TurnsChair j (chair_sent m) s s'
+    pub kept : s' ≡ record s { seats = s'.seats }
+    pub event : OfChair j s (λ chair. e ≡ event_sent j m chair.mailbox)
+    pub worker : OfChair j s (λ chair. w' ≡ record w { place = after_posting s.config j b (asks_if_sent m chair.mailbox) (desk_of w) })
+
+  -- it can be sent
+  pub record MaySend (j : ℕ) (m : MailMessage) (s : Shared B) : Type 0 where
+    pub there : j < length s.seats.items
+    pub place : OfChair j s (λ chair. HasPlaceFor m chair.mailbox)
 
 -- TASKS
 
@@ -236,16 +249,10 @@ module _ {B : Type 0} where
     pub wakes : WakesOwnRoot w (record w' { place = w.place }) s s'
     pub place : w'.place ≡ at.Poll t poll.Act
 
-  -- the root of worker j, which is sent a message
-  pub record WakesThere (t j : ℕ) (w w' : Worker) (s s' : Shared B) (e : Event) : Type 0 where
-    pub chair : TurnsChair j chair_posted s s'
-    pub kept : s' ≡ record s { seats = s'.seats }
-    pub event : OfChair j s (λ chair. e ≡ event_posted j chair.mailbox)
-    pub worker : OfChair j s (λ chair. w' ≡ record w { place = (if asks_in chair.mailbox then at.Signal signals.SetLatch j (signal.Send (send.Act t)) else at.Poll t poll.Act) })
-
+  -- the root of another worker is woken by a message
   abbrev pub WakesBy : Option ℕ → ℕ → ℕ → Worker → Worker → Shared B → Shared B → Event → Type 0
   WakesBy None t u w w' s s' e = WakesOrdinary t u w w' s s' × (e ≡ Wake u)
-  WakesBy (Some home) t u w w' s s' e = MatchBool (home == w.index) (WakesHere t u w w' s s' e) (WakesThere t home w w' s s' e)
+  WakesBy (Some home) t u w w' s s' e = MatchBool (home == w.index) (WakesHere t u w w' s s' e) (Sends home Root (send.Act t) w w' s s' e)
 
   -- task t wakes task u, and is told that it goes on
   pub record WakesTask (t u : ℕ) (w w' : Worker) (s s' : Shared B) (e : Event) : Type 0 where

@@ -2,14 +2,14 @@
 //! messages, one a step.
 
 ghost use Rattle.std.specs.Prelude.{◌<◌, ◌≡◌, None, true, false};
-ghost use Rattle.exec_parts.specs.{Awaits.{LetsGo, MayLetGo}, Ending.{LetsGoOf, LetsHeld, LetsWaiting, MayLetGoAll, MayLetGoOf, MayLetSleep}, MailPosts.{MaySend, Sends}, MailTakes.{MayRemove, RemovesSleeper}};
+ghost use Rattle.exec_parts.specs.{Awaits.{LetsGo, MayLetGo}, Ending.{LetsGoOf, LetsHeld, LetsWaiting, MayLetGoAll, MayLetGoOf, MayLetSleep}, Pooled.{MaySend, Sends}, MailTakes.{MayRemove, RemovesSleeper}};
 ghost use Rattle.exec_machine.specs.declared.state.Waiting.TheVariants as waiting;
 
 use crate::parts::held::Held;
-use crate::parts::mail::mail_of;
 use crate::parts::shared::Shared;
 use crate::parts::worker::Worker;
 use crate::scripted::Scripted;
+use crate::signal::mail;
 use exec_machine::event::Event;
 use exec_machine::state::MailMessage;
 use exec_moves::handing::{AfterSend, AfterSignal, InSignal};
@@ -31,7 +31,7 @@ impl Worker {
 
     /// Sends a worker a message, and goes on to signal it where that is asked for. A second wake of its root beside one
     /// that it hasn't taken is left out. `Closed` where that worker takes no mail any more, and then nothing is sent. The
-    /// caller must know that an open inbox has a place for the message.
+    /// caller must know that there is such a worker, and that an open inbox has a place for the message.
     pub fn send<B: Drop>(
         &mut self,
         worker: usize,
@@ -42,21 +42,13 @@ impl Worker {
         requires may { MaySend worker message shared.old }
         ensures sends { Sends worker message back self.old self.new shared.old shared.new result }
     {
-        let mailbox = &mut shared.seats[worker].mailbox;
-        match mailbox.inbox.send(&mut mailbox.waker, mail_of(message)) {
-            Ok(true) => {
-                self.place = Place::Signal(InSignal::SetLatch, worker, AfterSignal::Send(back));
-                Event::Send { worker, message }
-            }
-            Ok(false) => {
-                self.place = self.after_send(back, shared.config.workers);
-                Event::Send { worker, message }
-            }
-            Err(_given_back) => {
-                self.place = self.after_send(back, shared.config.workers);
-                Event::Closed
-            }
-        }
+        let (event, asks) = mail(worker, message, &mut shared.seats[worker]);
+        self.place = if asks {
+            Place::Signal(InSignal::SetLatch, worker, AfterSignal::Send(back))
+        } else {
+            self.after_send(back, shared.config.workers)
+        };
+        event
     }
 
     /// Lets go of what a task held that is over: at once of what this worker has. What others have is to be told next.

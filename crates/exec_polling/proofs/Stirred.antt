@@ -2,9 +2,9 @@
 use Rattle.std.proofs.{Common.{MatchBool, ◌≡◌, ◌≢◌, ℕ, suc, ◌<◌, arith, Bool, true, false, List, [], ◌∷◌, length, Option, Some, None, refl, sym, ap, subst, ◌∙◌, slice_get, slice_index_or, slice_set, get_or, if◌then◌else◌}, lemmas.{Bool.{eq-eqb}, List.{length-map, length-set}, Option.slice_get-get_or}}
 use Rattle.exec_base.specs.declared.task_no.TaskNo.{TaskNo}
 use Rattle.exec_task.specs.{Phases.{is_polled, is_idle as is_cell_idle, runnable_of}, Sight.Sight, declared.{body.{Act.Act, Said.Said}, runnable.Runnable.Runnable}}
-use Rattle.exec_machine.specs.{declared.{config.ScriptWord.ScriptWord, event.Event.{Event, TheVariants.Wake}, state.Waiting.Waiting}, Progress.Plan, Tasks.{after_waking_word}, Words.{idle_words, is_idle_word, moved_on, next_word, words_left}, World.{Common, Task}}
-use Rattle.exec_moves.specs.declared.{handing.AfterPush.AfterPush, place.{InPoll.InPoll, Place.Place}}
-use Rattle.exec_parts.{specs.{Records.numbers_held, Tests.first_push_of, declared.parts.{shared.Shared.Shared, task_slot.TaskSlot.TaskSlot, worker.Worker.Worker}, Pooled.{WakesBy, WakesHere, WakesOrdinary, WakesTask, WakesThere, woken_slot}, Scripts.{GoesOn, IsAnswer, IsAnswered, held_after}, Spots.{Spot, spot_of}, View.{Views, common_of, task_seen}}, proofs.Facts.{by_number, set_there}}
+use Rattle.exec_machine.specs.{declared.{config.ScriptWord.ScriptWord, event.Event.{Event, TheVariants.Wake}, state.{MailMessage.MailMessage, Waiting.Waiting}}, Progress.Plan, Tasks.{after_waking_word}, Words.{idle_words, is_idle_word, moved_on, next_word, words_left}, World.{Common, Task}}
+use Rattle.exec_moves.specs.declared.{handing.{AfterPush.AfterPush, AfterSend.AfterSend}, place.{InPoll.InPoll, Place.Place}}
+use Rattle.exec_parts.{specs.{Records.numbers_held, Tests.first_push_of, declared.parts.{shared.Shared.Shared, task_slot.TaskSlot.TaskSlot, worker.Worker.Worker}, Pooled.{Sends, WakesBy, WakesHere, WakesOrdinary, WakesTask, woken_slot}, Scripts.{GoesOn, IsAnswer, IsAnswered, held_after}, Spots.{Spot, spot_of}, View.{Views, common_of, task_seen}}, proofs.Facts.{by_number, set_there}}
 use Rattle.exec_invariants.{specs.{Acting.{HasActed, Performs, StepsOf}, Sound.SoundAt, Spares.{Spares, SparesBy, SparesPolled}, Whole.IsGenuine, Works.{Beside, Suits}}, proofs.{Flagged.{Flags, flag_then, flags, wakes_root}, Acting.{Leaves, act_leaves, actor, moved_seen, tells_on}, DedicatedSeen.pool_seen, Cells.{body_woken, complete_woken}, Performing.{still_performs}, Still.performs_still, Stirs.{IsWake, LeadsOn, Stirs, ToldFirst, leads_idle, leads_on, stirs, wakes_ordinary, wakes_works}}}
 
 -- who is woken by a word is a task that there is
@@ -132,7 +132,7 @@ module _ {B L : Type 0} (left : B → L) (runs : L → Plan → Option ℕ → T
     pub woke_root : n.0 ≡ w.root → other.home ≡ Some w.index → StepsOf left runs holds spot w s e w' s'
     woke_root root home =
         let m : Shared B = it.middle in
-        let wakes : WakesHere t n.0 w w' m s' e = subst (λ b. MatchBool b (WakesHere t n.0 w w' m s' e) (WakesThere t w.index w w' m s' e)) (eq-eqb w.index w.index refl) (subst (λ o. WakesBy o t n.0 w w' m s' e) home (it.wakes other there)) in
+        let wakes : WakesHere t n.0 w w' m s' e = subst (λ b. MatchBool b (WakesHere t n.0 w w' m s' e) (Sends w.index MailMessage.Root (AfterSend.Act t) w w' m s' e)) (eq-eqb w.index w.index refl) (subst (λ o. WakesBy o t n.0 w w' m s' e) home (it.wakes other there)) in
         let at_root : slice_get m.tasks.items w.root ≡ Some other = ap (slice_get m.tasks.items) (sym root) ∙ there in
         let items : s'.tasks.items ≡ slice_set m.tasks.items w.root (woken_slot other) = wakes.wakes.task.tasks other at_root in
         let kept : s' ≡ record s { tasks = s'.tasks } = wakes.wakes.task.kept ∙ ap (λ (x : Shared B). record x { tasks = s'.tasks }) mid_leaves.kept in

@@ -7,7 +7,7 @@ use Rattle.exec_task.specs.{Sight.Sight, declared.body.{Act.Act, Said.Said}}
 use Rattle.exec_waiters.specs.Events.{taken}
 use Rattle.exec_machine.specs.{declared.{config.ScriptWord.ScriptWord, event.Event.{Event, TheVariants.{Got, Send}}, state.{MailMessage.TheVariants.ForwardRequest, Request.Request, RequestPhase.TheVariants.Resolved, Waiting.Waiting}}, Progress.Plan, Requests.operation_asked, Tasks.{polls_waiting, waits_for, without_newest}, Tests.{is_resolved, is_unsent, waits_for_nothing, waits_for_request}, Words.{acts, asks_await, moved_on, newest_held, next_word}, World.{Common, Task, request_of, task_of}}
 use Rattle.exec_moves.specs.{declared.{handing.AfterSend.AfterSend, place.{InPoll.InPoll, Place.Place}}, Move.move_look_at, Poll.{Sight.{Asks, HearsRequest}, act, act_asked, acts_on, await, sight_by, sight_of_newest}, State.{Desk, Moved, Things, does}, Thing.aside, Told.without_request}
-use Rattle.exec_parts.{specs.{declared.parts.{mail.Subject.Subject, record.Record.Record, shared.Shared.Shared, task_slot.TaskSlot.TaskSlot, worker.Worker.Worker}, Awaits.newest_of, Calls.forwarded_for, MailPosts.{AsksOutput, Sends, asks_by}, Polls.{TookOutput, unobserved}, Records.numbers_held, Scripts.{IsAnswer, IsAnswered, held_after}, Spots.{Spot, spot_of}, View.{Views, body_in, common_of, desk_of, driver_of, task_seen, things_with}}, proofs.Facts.{not_same, or_right, same_Some, set_there}}
+use Rattle.exec_parts.{specs.{declared.parts.{mail.Subject.Subject, record.Record.Record, shared.Shared.Shared, task_slot.TaskSlot.TaskSlot, worker.Worker.Worker}, Awaits.newest_of, Calls.forwarded_for, MailPosts.AsksOutput, Pooled.{Sends, asks_if_sent}, Polls.{TookOutput, unobserved}, Records.numbers_held, Scripts.{IsAnswer, IsAnswered, held_after}, Spots.{Spot, spot_of}, View.{Views, body_in, common_of, desk_of, driver_of, task_seen, things_with}}, proofs.Facts.{not_same, or_right, same_Some, set_there}}
 use Rattle.exec_invariants.{specs.{Acting.{HasActed, StepsOf}, Hearing.{CanHear, held_once_come}, Holding.awaited_in, Sound.SoundAt, Whole.HasWhole}, proofs.{Acting.{IsActor, actor, acts_so, by_word, me_at, moved_seen, word_move}, Here.{IsHere, polled_here}, Pending.in_poll, Performing.{performs_on, still_performs}, Seen.request_at, Slots.task_there, TaskAsks.led_to, TaskDeals.from_act, TaskGets.{GetsSo, SeesGot, TakesOwn, past_newest, got_works, gets_leaves, there_is}, TaskHears.numbers_without, TaskNewest.newest_unsent, TaskWants.newest_is}}
 use Rattle.exec_polling.proofs.TaskForwards.{AsksFor, OutputAsked, SeesWants, WaitsElsewhere, output_asks, wants_works}
 
@@ -156,7 +156,7 @@ module _ {B L : Type 0} (left : B → L) (runs : L → Plan → Option ℕ → T
       let asked0 = output_asks InPoll.Act t k w w' s mid s' e slot' r (from_act t) sound has it (subst (λ o. AsksFor InPoll.Act t k w w' s mid s' e o slot' r) is by) in
       let asked = subst (λ o. OutputAsked InPoll.Act t k w w' s mid s' e o slot' r) (sym is) asked0 in
       let all : s' ≡ record mid { seats = s'.seats } = by.sends.kept in
-      let w1 : Worker = record w { place = led_to t InPoll.Pend (AfterSend.Pend t) r.shown.worker (asks_by (ForwardRequest k) asked.chair.mailbox) } in
+      let w1 : Worker = record w { place = led_to t InPoll.Pend (AfterSend.Pend t) r.shown.worker (asks_if_sent (ForwardRequest k) asked.chair.mailbox) } in
       let done : StepsOf left runs holds spot w s (Send r.shown.worker (ForwardRequest k)) w1 s' = (
         (λ p vs suits fits.
             let does_so = h.asks p vs (fits t slot m.there) in

@@ -5,7 +5,7 @@ use Rattle.exec_words.specs.declared.inbox.Message.{Message}
 use Rattle.exec_task.specs.declared.body.Said.{Said}
 use Rattle.exec_machine.specs.{After.own_after, declared.{event.Event.{Event, TheVariants.{Closed, Send}}, state.{Forwarding.{TheVariants.{Sent as Forwarded}}, MailMessage.TheVariants.ForwardRequest, Waiting.Waiting}}, Choice.Choice.Plain, Mail.{after_post, after_sending, awaiting, posted as seat_posted}, Progress.Plan, Same.is_number, Tasks.{polls_waiting, waits_for}, Tests.{is_unsent, waits_for_nothing, waits_for_request}, Words.{acts, asks_await, newest_held, polled_task}, World.{Task, no_seat, request_of, seat_of, task_of}}
 use Rattle.exec_moves.specs.{declared.{handing.AfterSend.AfterSend, place.{InPoll.InPoll, Place.Place}}, Move.{move_at, move_look_at}, Poll.{Sight.{Asks, HearsRequest}, resume, sight_by, sight_of}, Seen.polls_in, Send.send_message, State.{Moved, Things}, Thing.{aside, mailbox_of, with_mailbox}}
-use Rattle.exec_parts.{specs.{declared.parts.{mail.Subject.Subject, record.Record.Record, seat.Seat.Seat as Chair, shared.Shared.Shared, task_slot.TaskSlot.TaskSlot, worker.Worker.Worker}, Awaits.newest_of, Calls.forwarded_for, MailPosts.{AsksOutput, Sends, asks_by, chair_sent}, Serving.changed_in, Spots.Spot, View.{Views, common_of, desk_of, numbers_of_passing, own_of, seat_seen, seats_seen, task_seen, things_with}}, proofs.Facts.{not_same, same_Some, set_there}}
+use Rattle.exec_parts.{specs.{declared.parts.{mail.Subject.Subject, record.Record.Record, seat.Seat.Seat as Chair, shared.Shared.Shared, task_slot.TaskSlot.TaskSlot, worker.Worker.Worker}, Awaits.newest_of, Calls.forwarded_for, MailPosts.AsksOutput, Pooled.{Sends, asks_if_sent, chair_sent}, Serving.changed_in, Spots.Spot, View.{Views, common_of, desk_of, numbers_of_passing, own_of, seat_seen, seats_seen, task_seen, things_with}}, proofs.Facts.{not_same, same_Some, set_there}}
 use Rattle.exec_invariants.{specs.{Holding.{Box, IsAbout, IsForwarded, IsHolding, Mail, awaited_in, box_of, holder_of, nap_of, thing_of, under_way}, Sound.{MayStop, SoundAt, acts_next}, Spares.SparesRecord, Whole.{HasWhole, Profile, hands_of, with_worker}, Works.{Beside, Steps, Suits, Works}}, proofs.{AskBoxes.{box_there, one_more_way, one_sent, same_else}, Hearing.hears_so, Here.{IsHere, going_on}, HoldBeside.Holds, HoldPosts.{posted, with_mail}, HoldThings.{Touches, touches_record}, HoldWaits.thing_awaited, Keys.{name_in, names_changed, same_gates, same_opens}, LetterPosts.{chair_open, forwards_request, open_spares, sent_open}, Lined.passing_same, Seats.seat_there, Seen.request_at, Slots.task_there, SparedRecord.there_within, TaskAsks.{Posts, asked, asked_leaves, asked_works, led_to, leads_to, to_pend}, TaskDeals.{ComesFrom, Dealt, ends as to_end, from_look}, TaskHears.thing_there, TaskTakes.{holder_there, holders_one}, TaskWants.{forward_place, made_with, wants_from}, Turning.set_found, AsksEnds.is_unsent_so}}
 
 module _ {B : Type 0} where
@@ -33,10 +33,10 @@ module _ {B : Type 0} where
     pub chair : Chair
     pub open_box : chair.mailbox.inbox.closed ≡ false
     pub posts : Posts w.index r.shown.worker s.seats.items s'.seats.items chair (chair_open (ForwardRequest k) (forwards_request k) chair open_box)
-    pub worker : w' ≡ record w { place = led_to t InPoll.Pend (AfterSend.Pend t) r.shown.worker (asks_by (ForwardRequest k) chair.mailbox) }
+    pub worker : w' ≡ record w { place = led_to t InPoll.Pend (AfterSend.Pend t) r.shown.worker (asks_if_sent (ForwardRequest k) chair.mailbox) }
     pub event : e ≡ Send r.shown.worker (ForwardRequest k)
-    pub sound : SoundAt (led_to t InPoll.Pend (AfterSend.Pend t) r.shown.worker (asks_by (ForwardRequest k) chair.mailbox)) (record w { place = led_to t InPoll.Pend (AfterSend.Pend t) r.shown.worker (asks_by (ForwardRequest k) chair.mailbox) }) s'
-    pub beside : Beside w s (record w { place = led_to t InPoll.Pend (AfterSend.Pend t) r.shown.worker (asks_by (ForwardRequest k) chair.mailbox) }) s'
+    pub sound : SoundAt (led_to t InPoll.Pend (AfterSend.Pend t) r.shown.worker (asks_if_sent (ForwardRequest k) chair.mailbox)) (record w { place = led_to t InPoll.Pend (AfterSend.Pend t) r.shown.worker (asks_if_sent (ForwardRequest k) chair.mailbox) }) s'
+    pub beside : Beside w s (record w { place = led_to t InPoll.Pend (AfterSend.Pend t) r.shown.worker (asks_if_sent (ForwardRequest k) chair.mailbox) }) s'
     pub items : s'.tasks.items ≡ slice_set s.tasks.items t slot'
 
   pub output_asks : (x : InPoll) (t k : ℕ) (w w' : Worker) (s mid s' : Shared B) (e : Event) (slot' : TaskSlot B) (r : Record) → ComesFrom t x → (sound : SoundAt (Place.Poll t x) w s) → HasWhole w s → (at : IsHere x t w s) → AsksFor x t k w w' s mid s' e at.slot slot' r
@@ -68,7 +68,7 @@ module _ {B : Type 0} where
       let waits_then : slot'.waiting ≡ Waiting.Request k = ap (λ (y : TaskSlot B). y.waiting) took in
       let stop : MayStop w.index (Waiting.Request k) mid.requests.items mid.sleepers.items = (r', ap (λ xs. slice_get xs k) by.requests ∙ set_there s.requests.items k r' r by.request, inl refl) in
       let to : Dealt InPoll.Pend w.index slot slot' mid.requests.items mid.sleepers.items = grind arith in
-      let worker : w' ≡ record w { place = led_to t InPoll.Pend b j (asks_by (ForwardRequest k) chair.mailbox) } = by.sends.worker chair mid_there ∙ ap (λ q. record w { place = q }) (leads_to t InPoll.Pend b (to_pend t) mid.config j (asks_by (ForwardRequest k) chair.mailbox) (desk_of w)) in
+      let worker : w' ≡ record w { place = led_to t InPoll.Pend b j (asks_if_sent (ForwardRequest k) chair.mailbox) } = by.sends.worker chair mid_there ∙ ap (λ q. record w { place = q }) (leads_to t InPoll.Pend b (to_pend t) mid.config j (asks_if_sent (ForwardRequest k) chair.mailbox) (desk_of w)) in
       let event : e ≡ Send j (ForwardRequest k) = by.sends.event chair mid_there ∙ ap (λ c. if c then Closed else Send j (ForwardRequest k)) wants.open_box in
       let all : s' ≡ record s { tasks = mid.tasks; requests = mid.requests; seats = s'.seats } = by.sends.kept ∙ ap (λ (y : Shared B). record y { seats = s'.seats }) by.kept in
       let same_holders : map holder_of mid.tasks.items ≡ slice_set hs t (holder_of slot') = ap (map holder_of) by.tasks ∙ holders_one s.tasks.items t slot' in
@@ -108,7 +108,7 @@ module _ {B L : Type 0} (left : B → L) (spot : L → Option Said → Spot) whe
 
   pub wants_works : (x : InPoll) (t k : ℕ) (w w' : Worker) (s mid s' : Shared B) (e : Event) (slot slot' : TaskSlot B) (r : Record) → polls_in t x ≡ Some t → own_of (record w { place = Place.Poll t InPoll.Pend }) ≡ own_of (record w { place = Place.Poll t x }) → w.place ≡ Place.Poll t x → AsksFor x t k w w' s mid s' e slot slot' r
       → (asked : OutputAsked x t k w w' s mid s' e slot slot' r) → (p : Plan) (vs : Views) → Suits p vs w s → SeesWants x t k w s slot slot' r p vs
-      → Works left spot p vs w s (Send r.shown.worker (ForwardRequest k)) (record w { place = led_to t InPoll.Pend (AfterSend.Pend t) r.shown.worker (asks_by (ForwardRequest k) asked.chair.mailbox) }) s'
+      → Works left spot p vs w s (Send r.shown.worker (ForwardRequest k)) (record w { place = led_to t InPoll.Pend (AfterSend.Pend t) r.shown.worker (asks_if_sent (ForwardRequest k) asked.chair.mailbox) }) s'
   wants_works x t k w w' s mid s' e slot slot' r polls own here by asked p vs suits sees =
       let j : ℕ = r.shown.worker in
       let b : AfterSend = AfterSend.Pend t in
@@ -137,7 +137,7 @@ module _ {B L : Type 0} (left : B → L) (spot : L → Option Said → Spot) whe
         ap (λ c. c && is_number k (newest_held (polled_task me all))) sees.takes ∙ ap (λ y. is_number k (newest_held y)) (sees.polled ∙ seen) ∙ ap (is_number k) by.newest ∙ eq-eqb k k refl,
         (ap (λ y. y.worker == j) request ∙ eq-eqb j j refl, (ap not apart, (ap (λ y. is_unsent y.forwarding) request ∙ by.unsent, (ap (λ y. not y.mailbox_closed) seat ∙ ap not asked.open_box, tt)))),
       )
-      (own_there (asks_by (ForwardRequest k) chair.mailbox) ∙ own)
+      (own_there (asks_if_sent (ForwardRequest k) chair.mailbox) ∙ own)
       sees.own_then
       (ap (λ o. after_post (after_sending all o (ForwardRequest k)) j (ForwardRequest k) Plain) polls
       ∙ ap (λ zs. record all { tasks = zs; requests = slice_set all.requests k (record (request_of all k) { waiter = Some t; forwarding = Forwarded }); seats = slice_set all.seats j (seat_posted (ForwardRequest k) (seat_of all j)) }) (sym tasks)
@@ -170,14 +170,14 @@ module _ {B L : Type 0} (left : B → L) (spot : L → Option Said → Spot) whe
       let by : AsksFor InPoll.Resume t k w w' s mid s' e slot slot' r = assumption (at, awaiting_it.2.newest (going_on slot.cell.phase at.polled), awaits, at_k, unsent, other, so, tasks, requests, sends, asks) in
       let asked = output_asks InPoll.Resume t k w w' s mid s' e slot' r (from_look t) sound has at by in
       let all : s' ≡ record mid { seats = s'.seats } = by.sends.kept in
-      let done : Steps left spot w s (Send r.shown.worker (ForwardRequest k)) (record w { place = led_to t InPoll.Pend (AfterSend.Pend t) r.shown.worker (asks_by (ForwardRequest k) asked.chair.mailbox) }) s' = (
+      let done : Steps left spot w s (Send r.shown.worker (ForwardRequest k)) (record w { place = led_to t InPoll.Pend (AfterSend.Pend t) r.shown.worker (asks_if_sent (ForwardRequest k) asked.chair.mailbox) }) s' = (
         (λ p vs suits. wants_works InPoll.Resume t k w w' s mid s' e slot slot' r refl refl sound.here by asked p vs suits (sees p vs slot slot' at.there waits)),
         asked.sound,
         hears_so t slot slot' refl (ap (λ (z : Shared B). z.config) all ∙ ap (λ (z : Shared B). z.config) by.kept) at.there asked.items
             (record { home = refl; body = refl; told = λ answer hears. (hears, refl); going = λ h. h }),
         asked.beside,
       ) in
-      subst (λ v. Steps left spot w s e v s') (sym asked.worker) (subst (λ y. Steps left spot w s y (record w { place = led_to t InPoll.Pend (AfterSend.Pend t) r.shown.worker (asks_by (ForwardRequest k) asked.chair.mailbox) }) s') (sym asked.event) done)
+      subst (λ v. Steps left spot w s e v s') (sym asked.worker) (subst (λ y. Steps left spot w s y (record w { place = led_to t InPoll.Pend (AfterSend.Pend t) r.shown.worker (asks_if_sent (ForwardRequest k) asked.chair.mailbox) }) s') (sym asked.event) done)
     where
       sees : (p : Plan) (vs : Views) (slot slot' : TaskSlot B) → slice_get s.tasks.items t ≡ Some slot → slot.waiting ≡ Waiting.Request k → SeesWants InPoll.Resume t k w s slot (record slot { output = Open }) r p vs
       sees p vs slot slot' there waits =

@@ -4,7 +4,7 @@ use Rattle.exec_words.specs.declared.inbox.Message.{Message}
 use Rattle.exec_task.specs.{Phases.is_polled, Sight.Sight, declared.body.{Act.Act, Said.Said}}
 use Rattle.exec_machine.specs.{declared.{config.ScriptWord.ScriptWord, event.Event.{Event, TheVariants.{Closed, Drop, Send}}, state.{MailMessage.TheVariants.CancelRequest, Waiting.Waiting}}, Mail.{is_first_owed, posted as seat_posted}, Progress.Plan, Same.is_number, Tasks.after_letting_go, Words.{acts, asks_drop, newest_held, next_word}, World.{Task, no_seat, request_of, seat_of, task_of}}
 use Rattle.exec_moves.specs.{declared.{handing.AfterSend.AfterSend, place.{InPoll.InPoll, Place.Place}}, Move.move_look_at, Poll.{Sight.{Asks, Here}, acts_on}, State.{Moved, Things, does}, Thing.aside, Told.told_of_drop}
-use Rattle.exec_parts.{specs.{declared.parts.{mail.Subject.Subject, record.Record.Record, seat.Seat.Seat as Chair, shared.Shared.Shared, task_slot.TaskSlot.TaskSlot, worker.Worker.Worker}, Awaits.{DropsElsewhere, newest_of}, MailPosts.{Sends, asks_by, chair_sent}, Scripts.IsAnswered, Spots.Spot, View.{Views, common_of, desk_of, own_of, seat_seen, seats_seen, task_seen, things_with}}, proofs.Facts.{not_same, or_right, same_Some}}
+use Rattle.exec_parts.{specs.{declared.parts.{mail.Subject.Subject, record.Record.Record, seat.Seat.Seat as Chair, shared.Shared.Shared, task_slot.TaskSlot.TaskSlot, worker.Worker.Worker}, Awaits.{DropsElsewhere, newest_of}, Pooled.{Sends, asks_if_sent, chair_sent}, Scripts.IsAnswered, Spots.Spot, View.{Views, common_of, desk_of, own_of, seat_seen, seats_seen, task_seen, things_with}}, proofs.Facts.{not_same, or_right, same_Some}}
 use Rattle.exec_invariants.{specs.{Acting.{HasActed, StepsOf}, Holding.{Holder, IsAbout, IsHolding, Mail, awaited_in, box_of, holder_of, nap_of, thing_of}, Sound.SoundAt, Whole.{HasWhole, Profile, hands_of, with_worker}, Works.{Beside, Suits, Works}}, proofs.{Acting.{IsActor, actor, acts_so, me_at}, AskBoxes.{box_there, same_else}, Here.{IsHere, going_on, polled_here}, HoldBeside.Holds, HoldLets.thing_told, HoldMail.is_once, HoldSteps.IsNewest, HoldPosts.{posted, with_mail}, HoldThings.{Touches, touches_none}, LetterPosts.{cancels_request, chair_open, open_spares, sent_open}, Performing.still_performs, Seats.seat_there, Seen.request_at, Slots.task_there, SparedRecord.there_within, TaskAsks.{Posts, asked_leaves, asked_works, led_to, leads_to, to_act as leads_on}, TaskDeals.{Dealt, acts as to_act, from_act}, TaskHears.{newest_split, thing_there}, TaskTakes.{holder_there, holders_one}, TaskWants.{cancel_place, made_with, wants_from}}}
 use Rattle.exec_polling.proofs.TaskDrops.{DropsSo, drop_looks, drops_deals, drops_perform, drops_so, let_go_seen}
 
@@ -27,10 +27,10 @@ module _ {B : Type 0} where
     pub chair : Chair
     pub open_box : chair.mailbox.inbox.closed ≡ false
     pub posts : Posts w.index r.shown.worker s.seats.items s'.seats.items chair (chair_open (CancelRequest k) (cancels_request k) chair open_box)
-    pub worker : w' ≡ record w { place = led_to t InPoll.Act (AfterSend.Act t) r.shown.worker (asks_by (CancelRequest k) chair.mailbox) }
+    pub worker : w' ≡ record w { place = led_to t InPoll.Act (AfterSend.Act t) r.shown.worker (asks_if_sent (CancelRequest k) chair.mailbox) }
     pub event : e ≡ Send r.shown.worker (CancelRequest k)
-    pub sound : SoundAt (led_to t InPoll.Act (AfterSend.Act t) r.shown.worker (asks_by (CancelRequest k) chair.mailbox)) (record w { place = led_to t InPoll.Act (AfterSend.Act t) r.shown.worker (asks_by (CancelRequest k) chair.mailbox) }) s'
-    pub beside : Beside w s (record w { place = led_to t InPoll.Act (AfterSend.Act t) r.shown.worker (asks_by (CancelRequest k) chair.mailbox) }) s'
+    pub sound : SoundAt (led_to t InPoll.Act (AfterSend.Act t) r.shown.worker (asks_if_sent (CancelRequest k) chair.mailbox)) (record w { place = led_to t InPoll.Act (AfterSend.Act t) r.shown.worker (asks_if_sent (CancelRequest k) chair.mailbox) }) s'
+    pub beside : Beside w s (record w { place = led_to t InPoll.Act (AfterSend.Act t) r.shown.worker (asks_if_sent (CancelRequest k) chair.mailbox) }) s'
     pub items : s'.tasks.items ≡ slice_set s.tasks.items t slot'
 
   pub worker_told : (t k : ℕ) (w w' : Worker) (s mid s' : Shared B) (e : Event) (slot' : TaskSlot B) (b' : B) (r : Record) → (sound : SoundAt (Place.Poll t InPoll.Act) w s) → HasWhole w s → (at : IsHere InPoll.Act t w s) → TellsWorker t k w w' s mid s' e at.slot slot' b' r → WorkerTold t k w w' s mid s' e slot' r
@@ -57,7 +57,7 @@ module _ {B : Type 0} where
       let midkept : mid ≡ record s { tasks = mid.tasks; requests = mid.requests; sleepers = mid.sleepers } = by.kept ∙ ap (λ y. record s { tasks = mid.tasks; sleepers = y }) (sym mid_sleepers) ∙ ap (λ y. record s { tasks = mid.tasks; requests = y; sleepers = mid.sleepers }) (sym mid_requests) in
       let touches : Touches s (record s { requests = mid.requests; sleepers = mid.sleepers }) = subst (λ y. Touches s (record s { requests = mid.requests; sleepers = y })) (sym mid_sleepers) (subst (λ y. Touches s (record s { requests = y })) (sym mid_requests) (touches_none s)) in
       let to : Dealt InPoll.Act w.index slot slot' mid.requests.items mid.sleepers.items = drops_deals w.index slot slot' b' mid by.waits by.so in
-      let worker : w' ≡ record w { place = led_to t InPoll.Act b j (asks_by (CancelRequest k) chair.mailbox) } = by.sends.worker chair mid_there ∙ ap (λ q. record w { place = q }) (leads_to t InPoll.Act b (leads_on t) mid.config j (asks_by (CancelRequest k) chair.mailbox) (desk_of w)) in
+      let worker : w' ≡ record w { place = led_to t InPoll.Act b j (asks_if_sent (CancelRequest k) chair.mailbox) } = by.sends.worker chair mid_there ∙ ap (λ q. record w { place = q }) (leads_to t InPoll.Act b (leads_on t) mid.config j (asks_if_sent (CancelRequest k) chair.mailbox) (desk_of w)) in
       let event : e ≡ Send j (CancelRequest k) = by.sends.event chair mid_there ∙ ap (λ c. if c then Closed else Send j (CancelRequest k)) wants.open_box in
       let all : s' ≡ record s { tasks = mid.tasks; seats = s'.seats } = by.sends.kept ∙ ap (λ (y : Shared B). record y { seats = s'.seats }) by.kept in
       let same_holders : map holder_of mid.tasks.items ≡ slice_set hs t (holder_of slot') = ap (map holder_of) by.tasks ∙ holders_one s.tasks.items t slot' in
@@ -86,7 +86,7 @@ module _ {B L : Type 0} (left : B → L) (runs : L → Plan → Option ℕ → T
   -- WHAT THE MACHINE AND THE MOVES MAKE OF IT
   tells_works : (t k : ℕ) (w w' : Worker) (s mid s' : Shared B) (e : Event) (slot slot' : TaskSlot B) (b' : B) (r : Record) → w.place ≡ Place.Poll t InPoll.Act → TellsWorker t k w w' s mid s' e slot slot' b' r → (told : WorkerTold t k w w' s mid s' e slot' r) → (p : Plan) (vs : Views) → Suits p vs w s
       → next_word (common_of left spot p vs s) (task_seen left spot slot) ≡ ScriptWord.Drop → task_seen left spot slot' ≡ after_letting_go (common_of left spot p vs s) (task_seen left spot slot)
-      → Works left spot p vs w s (Send r.shown.worker (CancelRequest k)) (record w { place = led_to t InPoll.Act (AfterSend.Act t) r.shown.worker (asks_by (CancelRequest k) told.chair.mailbox) }) s'
+      → Works left spot p vs w s (Send r.shown.worker (CancelRequest k)) (record w { place = led_to t InPoll.Act (AfterSend.Act t) r.shown.worker (asks_if_sent (CancelRequest k) told.chair.mailbox) }) s'
   tells_works t k w w' s mid s' e slot slot' b' r here by told p vs suits word seen =
       let j : ℕ = r.shown.worker in
       let b : AfterSend = AfterSend.Act t in
@@ -110,7 +110,7 @@ module _ {B L : Type 0} (left : B → L) (runs : L → Plan → Option ℕ → T
         or_right (is_first_owed me j (CancelRequest k)) (acts me all asks_drop && is_number k (newest_held (task_of all t)) && not ((request_of all k).worker == w.index)) drops_it,
         (ap (λ q. q.worker == j) request ∙ eq-eqb j j refl, (ap (λ z. not z.mailbox_closed) seat ∙ ap not told.open_box, tt)),
       )
-      (own_there (asks_by (CancelRequest k) chair.mailbox))
+      (own_there (asks_if_sent (CancelRequest k) chair.mailbox))
       refl
       (ap (λ zs. record all { tasks = zs; seats = slice_set all.seats j (seat_posted (CancelRequest k) (seat_of all j)) }) (sym tasks)
       ∙ ap (λ (z : Shared B). record (common_of left spot p vs z) { seats = slice_set all.seats j (seat_posted (CancelRequest k) (seat_of all j)) }) (sym by.kept))
@@ -138,7 +138,7 @@ module _ {B L : Type 0} (left : B → L) (runs : L → Plan → Option ℕ → T
       let midkept : mid ≡ record s { tasks = mid.tasks } = f.kept ∙ ap (λ (z : Shared B). record z { tasks = mid.tasks }) m.kept in
       let by : TellsWorker t k w w' s mid s' e slot slot' b' r = assumption (m, newest, by_it, at_r, other, so.0, midkept, so.1, does_it) in
       let told = worker_told t k w w' s mid s' e slot' b' r sound has it (subst (λ o. TellsWorker t k w w' s mid s' e o slot' b' r) is by) in
-      let w1 : Worker = record w { place = led_to t InPoll.Act (AfterSend.Act t) r.shown.worker (asks_by (CancelRequest k) told.chair.mailbox) } in
+      let w1 : Worker = record w { place = led_to t InPoll.Act (AfterSend.Act t) r.shown.worker (asks_if_sent (CancelRequest k) told.chair.mailbox) } in
       let done : StepsOf left runs holds spot w s (Send r.shown.worker (CancelRequest k)) w1 s' = (
         (λ p vs suits fits.
             let does_so = h.asks p vs (fits t slot m.there) in

@@ -3,11 +3,11 @@ use Rattle.std.proofs.{Common.{MatchBool, ◌≡◌, ◌≢◌, ℕ, ◌<◌, �
 use Rattle.exec_base.specs.declared.task_no.TaskNo.{TaskNo}
 use Rattle.exec_words.specs.Queue.{tail_of}
 use Rattle.exec_task.specs.{Sight.Sight, declared.body.{Act.Act, Said.Said}}
-use Rattle.exec_machine.specs.{Choice.Payer.ByAct, declared.{config.{Configuration.Configuration, ScriptWord.ScriptWord}, event.Event.Event, state.Waiting.Waiting}, After.{own_after, common_after}, Allowed.allowed, Mail.{asks_root_of, has_root_message, meets_closed}, Progress.Plan, Tests.AllTrue, Words.{moved_on, next_word}, World.{Common, no_seat, seat_of, task_of}}
-use Rattle.exec_moves.specs.{Move.move_wake, Send.{after_posting, send_root}, State.{Desk, Things, goes}, Thing.{mailbox_of, set_mailbox, with_mailbox}, declared.{handing.{AfterSend.AfterSend, AfterSignal.AfterSignal, InSignal.InSignal}, place.{InPoll.InPoll, Place.Place}}}
-use Rattle.exec_parts.{specs.{declared.parts.{seat.Seat.Seat as Chair, shared.Shared.Shared, task_slot.TaskSlot.TaskSlot, worker.Worker.Worker}, MailPosts.HaveMailboxes, Polls.OfSlot, Pooled.{WakesBy, WakesHere, WakesTask, WakesThere}, Scripts.IsAnswered, Spots.{Spot, spot_of}, View.{Views, Visible, common_of, desk_of, own_of, seat_seen, seats_seen, task_seen, things_with, visible, with_view}}, proofs.Facts.{not_same, set_elsewhere}}
+use Rattle.exec_machine.specs.{Choice.Payer.ByAct, declared.{config.{Configuration.Configuration, ScriptWord.ScriptWord}, event.Event.Event, state.{MailMessage.TheVariants.Root, Waiting.Waiting}}, After.{own_after, common_after}, Allowed.allowed, Mail.{asks_root_of, has_root_message, meets_closed}, Progress.Plan, Tests.AllTrue, Words.{moved_on, next_word}, World.{Common, no_seat, seat_of, task_of}}
+use Rattle.exec_moves.specs.{Move.move_wake, Send.{after_posting, send_root}, State.{Desk, Things, goes}, Thing.{mailbox_of, set_mailbox, with_mailbox}, declared.{handing.{AfterSend.AfterSend}, place.{InPoll.InPoll, Place.Place}}}
+use Rattle.exec_parts.{specs.{declared.parts.{seat.Seat.Seat as Chair, shared.Shared.Shared, task_slot.TaskSlot.TaskSlot, worker.Worker.Worker}, MailPosts.HaveMailboxes, Polls.OfSlot, Pooled.{Sends, WakesBy, WakesHere, WakesTask, asks_if_sent}, Scripts.IsAnswered, Spots.{Spot, spot_of}, View.{Views, Visible, common_of, desk_of, own_of, seat_seen, seats_seen, task_seen, things_with, visible, with_view}}, proofs.Facts.{not_same, set_elsewhere}}
 use Rattle.exec_invariants.proofs.Showing.{own_word_seen}
-use Rattle.exec_invariants.{specs.{Acting.{HasActed, StepsOf}, Holding.{holder_of, nap_of, thing_of}, Sound.{AreHome, SoundAt}, Whole.{hands_of, with_worker}, Works.{Beside, Suits, Works}}, proofs.{RootMail.holding_posted, Dedicated.as_long, Acting.{Leaves, acts_so, act_leaves, actor, by_word, me_at, moved_seen, tells_on}, Aside.{beside_boxed, profile_alike, queues_set, seats_other}, Performing.still_performs, PoolKept.{gate_spared, gates_set}, Posting.{Arrival, IsArrival, arrival, asks_as, asks_by, chair_by, choice_by, event_as, event_by, inbox_seen, mailbox_by, posted_as, posted_shows, posted_spares, posting_as, root_message_as, seat_as, seat_by}, Seats.{chair_set, seat_there as seen_there}, SlotTasks.{Keeps as Same, homes_set}, Slots.task_there, SparedRecord.there_within, Stirs.{ToldFirst, before}, Turning.{Fits, Lands, arrives, by_place, set_found, sound_on, view_found}}}
+use Rattle.exec_invariants.{specs.{Acting.{HasActed, StepsOf}, Holding.{holder_of, nap_of, thing_of}, Sound.{AreHome, SoundAt}, Whole.{hands_of, with_worker}, Works.{Beside, Suits, Works}}, proofs.{RootMail.holding_posted, Dedicated.as_long, Acting.{Leaves, acts_so, act_leaves, actor, by_word, me_at, moved_seen, tells_on}, Aside.{beside_boxed, profile_alike, queues_set, seats_other}, Performing.still_performs, PoolKept.{gate_spared, gates_set}, Posting.{Arrival, IsArrival, arrival, asks_as, asks_by, chair_by, choice_by, event_as, event_by, inbox_seen, mailbox_by, posted_as, posted_shows, posted_spares, posting_as, root_message_as, seat_as, seat_by}, Seats.{chair_set, seat_there as seen_there}, SlotTasks.{Keeps as Same, homes_set}, Slots.task_there, SparedRecord.there_within, Stirs.{ToldFirst, before}, TaskAsks.{led_to, leads_to, to_act}, Turning.{Fits, Lands, arrives, by_place, set_found, sound_on, view_found}}}
 use Rattle.exec_polling.proofs.Stirred.{performs_passing, spares_on}
 
 same_queue : (a : Arrival) (chair : Chair) → (chair_by a chair).queue ≡ chair.queue
@@ -19,7 +19,7 @@ other_root_move c i s d x t u home is = rw is refl
 
 -- where it leads, by whether a signal is asked for
 abbrev pub next_of : ℕ → ℕ → Bool → Place
-next_of t j asks = if asks then Place.Signal InSignal.SetLatch j (AfterSignal.Send (AfterSend.Act t)) else Place.Poll t InPoll.Act
+next_of t j = led_to t InPoll.Act (AfterSend.Act t) j
 
 goes_by : (c : Configuration) (t j : ℕ) (w : Worker) (asks : Bool) → (let d = desk_of (record w { place = Place.Poll t InPoll.Act }) in goes (after_posting c j (AfterSend.Act t) asks d) d) ≡ desk_of (record w { place = next_of t j asks })
 goes_by c t j w true = refl
@@ -218,14 +218,14 @@ module _ {B L : Type 0} (left : B → L) (runs : L → Plan → Option ℕ → T
       let found = there_within s.seats.items j few in
       let chair : Chair = found.0 in
       let seated : slice_get s.seats.items j ≡ Some chair = found.1 in
-      let sends : WakesThere t j w w' told_only s' e = subst (λ x. WakesThere t j w w' x s' e) leaves.kept
-      (subst (λ b. MatchBool b (WakesHere t n.0 w w' m s' e) (WakesThere t j w w' m s' e)) (not_same j w.index apart) (subst (λ o. WakesBy o t n.0 w w' m s' e) home (it.wakes other there))) in
+      let sends : Sends j Root (AfterSend.Act t) w w' told_only s' e = subst (λ x. Sends j Root (AfterSend.Act t) w w' x s' e) leaves.kept
+      (subst (λ b. MatchBool b (WakesHere t n.0 w w' m s' e) (Sends j Root (AfterSend.Act t) w w' m s' e)) (not_same j w.index apart) (subst (λ o. WakesBy o t n.0 w w' m s' e) home (it.wakes other there))) in
       let at = arrival chair.mailbox in
       let a : Arrival = at.0 in
       let asks : Bool = asks_by a chair.mailbox in
       let set : s'.seats.items ≡ slice_set s.seats.items j (chair_by a chair) = sends.chair chair seated ∙ ap (slice_set s.seats.items j) (posted_as a chair at.1) in
       let event : e ≡ event_by j a = sends.event chair seated ∙ event_as j a chair.mailbox at.1 in
-      let goes_to : w' ≡ record w { place = next_of t j asks } = sends.worker chair seated ∙ ap (λ b. record w { place = next_of t j b }) (asks_as a chair.mailbox at.1) in
+      let goes_to : w' ≡ record w { place = next_of t j asks } = sends.worker chair seated ∙ ap (λ q. record w { place = q }) (leads_to t InPoll.Act (AfterSend.Act t) (to_act t) s.config j (asks_if_sent Root chair.mailbox) (desk_of w)) ∙ ap (λ b. record w { place = next_of t j b }) (asks_as a chair.mailbox at.1) in
       let w1 : Worker = record w { place = next_of t j asks } in
       let both : Shared B = record s { tasks = m.tasks; seats = s'.seats } in
       let two : Beside w told_only w1 both = posted_beside t j w told_only s' sound apart chair a at.1 seated set asks few in

@@ -5,14 +5,14 @@
 use Rattle.std.specs.Prelude.{◌≡◌, ℕ, ◌+◌, ◌^◌, ◌<◌, ◌≤◌, ◌==◌, ◌&&◌, nat_lt, Bool, true, false, Contains, List, [], ◌∷◌, length, slice_get, slice_set, Option, option_map, option_to_list, Some, None, IsSome, if◌then◌else◌}
 use Rattle.exec_words.specs.{Idle.{Idle, lowest_of}, Word.asks_signal, declared.{mailbox.Mailbox.Mailbox, word.PureWord.PureWord}}
 use Rattle.exec_task.specs.{Phases.{is_idle, runnable_of}, declared.{body.Said.Said, runnable.Runnable.Runnable}}
-use Rattle.exec_machine.specs.{declared.{event.Event.Event, state.Call.Call, step.Action.Action}, Callers.{common_by, may_call, may_go_on, may_go_on_by, may_spawn_by_call, may_wake_by_call}, Choice.Choice, Progress.Plan, Tests.{AllTrue, is_resolved}, World.Common}
+use Rattle.exec_machine.specs.{declared.{event.Event.Event, state.{Call.Call, MailMessage.TheVariants.Root}, step.Action.Action}, Callers.{common_by, may_call, may_go_on, may_go_on_by, may_spawn_by_call, may_wake_by_call}, Choice.Choice, Progress.Plan, Tests.{AllTrue, is_resolved}, World.Common}
 use Rattle.exec_machine.specs.declared.state.Call.TheVariants as half
 use Rattle.exec_machine.specs.declared.step.Action.TheVariants as action
 use Rattle.exec_moves.specs.{Call.CallDesk, Claim.{is_ring, set_of}, Global.has_any, MoveOfCaller.move_of_caller, Pop.shard_count, declared.handing.CallPlace.CallPlace}
 use Rattle.exec_moves.specs.declared.handing.CallPlace.TheVariants as call
 use Rattle.exec_moves.specs.declared.handing.InGlobal.TheVariants as global
 use Rattle.exec_moves.specs.declared.handing.InSignal.TheVariants as signals
-use Rattle.exec_parts.specs.{declared.parts.{mail.Subject.Subject, record.Record.Record, shared.Shared.Shared, task_slot.TaskSlot.TaskSlot}, Pooled.asks_in, Scripts.{Begins, IsBorn}, Spots.Spot, View.{Views, common_of, things_with}}
+use Rattle.exec_parts.specs.{declared.parts.{mail.Subject.Subject, record.Record.Record, shared.Shared.Shared, task_slot.TaskSlot.TaskSlot}, Pooled.asks_if_sent, Scripts.{Begins, IsBorn}, Spots.Spot, View.{Views, common_of, things_with}}
 use Rattle.exec_polling.specs.declared.caller.Caller.{Caller}
 use Rattle.exec_invariants.specs.{Acting.PerformsAll, Hearing.Hears, Places.one_if, Sound.{AreHome, AreResting, IsConfig, IsInHand}, Spares.Spares, Whole.{IsGenuine, IsWhole, Profile, runnables_in}}
 
@@ -74,7 +74,7 @@ place_by_word worker w = if asks_signal w then call.Signal (signals.Raise (is_ri
 
 -- the first message of a batch asks for a signal
 abbrev pub place_by_mail : ℕ → Mailbox Subject Subject → CallPlace
-place_by_mail home m = if asks_in m then call.Signal signals.SetLatch home else call.Return
+place_by_mail home m = if asks_if_sent Root m then call.Signal signals.SetLatch home else call.Return
 
 module _ {B : Type 0} where
   -- who woke the ordinary task of this slot: an idle one is to be queued
@@ -142,13 +142,16 @@ module _ {B L : Type 0} (left : B → L) (spot : L → Option Said → Spot) whe
     pub may : AllTrue (tests_of_call (common_of left spot p vs s) a e choice)
     pub common : common_of left spot p (with_call vs j (call_of c'.place)) s' ≡ common_by (common_of left spot p vs s) a e choice
 
-  -- a step further
-  abbrev pub CallSteps : Caller → Shared B → Event → Caller → Shared B → Type 0
-  CallSteps c s e c' s' = ((p : Plan) (vs : Views) (j : ℕ) → CallSuits p vs j c s → CallWorks p vs (action.GoOn j) j c s e c' s') × CallSound c' s' × CallBeside c s c' s'
+  -- a step of a call, which is this action of its caller
+  abbrev pub CallsBy : (ℕ → Action) → Caller → Shared B → Event → Caller → Shared B → Type 0
+  CallsBy by c s e c' s' = ((p : Plan) (vs : Views) (j : ℕ) → CallSuits p vs j c s → CallWorks p vs (by j) j c s e c' s') × CallSound c' s' × CallBeside c s c' s'
 
-  -- the first step of a call that wakes task t
+  -- a step further, and the first of a call that wakes task t
+  abbrev pub CallSteps : Caller → Shared B → Event → Caller → Shared B → Type 0
+  CallSteps c s e c' s' = CallsBy action.GoOn c s e c' s'
+
   abbrev pub WakesByCall : ℕ → Caller → Shared B → Event → Caller → Shared B → Type 0
-  WakesByCall t c s e c' s' = ((p : Plan) (vs : Views) (j : ℕ) → CallSuits p vs j c s → CallWorks p vs (action.Wake j t) j c s e c' s') × CallSound c' s' × CallBeside c s c' s'
+  WakesByCall t c s e c' s' = CallsBy (λ j. action.Wake j t) c s e c' s'
 
   -- the first step of a call that makes a task of this body, which begins the script of this number in the plan
   abbrev pub SpawnsByCall : (Option Said → Spot) → ℕ → Caller → Shared B → Event → Caller → Shared B → Type 0

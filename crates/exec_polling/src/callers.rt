@@ -6,16 +6,17 @@
 ghost use Rattle.std.specs.Prelude.{◌≡◌, ◌+◌, ◌-◌, ◌^◌, ◌<◌, ◌++◌, true, false, length, option_to_list, None, IfOk, OnErr, IsSome, if◌then◌else◌};
 ghost use Rattle.exec_words.specs.{Global.spare_places, Idle.lowest_of};
 ghost use Rattle.exec_moves.specs.{Call.after_claim, Claim.{claimed, idle_after}};
-ghost use Rattle.exec_parts.specs.{MailPosts.HaveMailboxes, Phased.TurnsChair, Polls.OfSlot, Pooled.{HasRootPlace, OfChair, SameButRoom, chair_latched, chair_posted, chair_raised, event_posted, event_rousing, woken_slot}, Things.TurnsSlot};
+ghost use Rattle.exec_parts.specs.{MailPosts.HaveMailboxes, Phased.TurnsChair, Polls.OfSlot, Pooled.{chair_latched, chair_raised, chair_sent, event_rousing, event_sent, HasPlaceFor, OfChair, SameButRoom, woken_slot}, Things.TurnsSlot};
 ghost use Rattle.exec_polling.specs.Calling.{CallSound, CallSteps, HasCallWhole, SpawnsByCall, WakesByCall, is_free, place_after_append, place_by_count, place_by_mail, place_by_set, place_by_word, with_woken, StillPerformsWith};
 
 use crate::caller::Caller;
 use exec_machine::event::Event;
+use exec_machine::state::MailMessage;
 use exec_moves::handing::{CallPlace, InGlobal, InSignal};
 use exec_parts::claim::{Claimed, claim};
 use exec_parts::parts::shared::Shared;
 use exec_parts::scripted::Scripted;
-use exec_parts::signal::{mail_root, rouse};
+use exec_parts::signal::{mail, rouse};
 use exec_task::runnable::Runnable;
 use exec_words::global::GlobalQueue;
 use exec_words::idle::{PureIdle, WorkerSet};
@@ -72,14 +73,14 @@ impl Caller {
     /// Sends a worker the message that wakes its root.
     fn wake_root<B: Drop>(&mut self, home: usize, shared: &mut Shared<B>) -> Event
         requires there { home < length shared.old.seats.items }
-        requires place { OfChair home shared.old (λ chair. HasRootPlace chair.mailbox) }
-        ensures event { OfChair home shared.old (λ chair. result ≡ event_posted home chair.mailbox) }
+        requires place { OfChair home shared.old (λ chair. HasPlaceFor MailMessage.Root chair.mailbox) }
+        ensures event { OfChair home shared.old (λ chair. result ≡ event_sent home MailMessage.Root chair.mailbox) }
         ensures goes { OfChair home shared.old (λ chair. self.new
             ≡ record self.old { place = place_by_mail home chair.mailbox }) }
-        ensures chair { TurnsChair home chair_posted shared.old shared.new }
+        ensures chair { TurnsChair home (chair_sent MailMessage.Root) shared.old shared.new }
         ensures kept { shared.new ≡ record shared.old { seats = shared.new.seats } }
     {
-        let (event, asks) = mail_root(home, &mut shared.seats[home]);
+        let (event, asks) = mail(home, MailMessage::Root, &mut shared.seats[home]);
         self.place = if asks {
             CallPlace::Signal(InSignal::SetLatch, home)
         } else {

@@ -6,7 +6,7 @@
 
 ghost use Rattle.std.specs.Prelude.{◌<◌, length, false};
 ghost use Rattle.exec_moves.specs.Send.{first_letter};
-ghost use Rattle.exec_parts.specs.{MailPosts.{AsksEnd, AsksOutput, HearsEnd, HearsOutput, MayAskEnd, MayAskOutput, MayHearEnd, MayHearOutput, MaySend, SendsLetter}, View.{desk_of, letters_in}};
+ghost use Rattle.exec_parts.specs.{MailPosts.{AsksEnd, AsksOutput, HearsEnd, HearsOutput, MayAskEnd, MayAskOutput, MayHearEnd, MayHearOutput, SendsLetter}, Pooled.MaySend, View.{desk_of, letters_in}};
 
 use crate::resuming::take_sleep;
 use exec_machine::event::Event;

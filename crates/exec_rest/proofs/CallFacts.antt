@@ -38,10 +38,10 @@ seat_there (seat ∷ seats) (suc i) pool = let later = seat_there seats i pool i
 
 -- WAKE POLLS
 
-raised_kept : (w : WakePoll) → (w.armed && w.kept) ≡ false → ((raised w).armed && (raised w).kept) ≡ false
+pub raised_kept : (w : WakePoll) → (w.armed && w.kept) ≡ false → ((raised w).armed && (raised w).kept) ≡ false
 raised_kept = grind arith
 
-raised_ended : (landed : Bool) (w : WakePoll) → (is_some w.ended ≡ true → (landed || w.told) ≡ true) → is_some (raised w).ended ≡ true → (landed || (raised w).told) ≡ true
+pub raised_ended : (landed : Bool) (w : WakePoll) → (is_some w.ended ≡ true → (landed || w.told) ≡ true) → is_some (raised w).ended ≡ true → (landed || (raised w).told) ≡ true
 raised_ended = grind arith
 
 either_or : (a b : Bool) → (a ≡ true) ⊎ (b ≡ true) → (a || b) ≡ true

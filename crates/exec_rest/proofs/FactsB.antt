@@ -13,7 +13,7 @@ use Rattle.exec_rest.specs.Places.{Raising, asked_for_poll, is_abed, is_to_enter
 use Rattle.exec_rest.specs.Rested.{IsLaidOut, IsRaised, IsRestful, Someone.{Worker, Caller}, is_latched, is_told, place_at, poll_at, ring_at, sleeps}
 use Rattle.exec_rest.proofs.Heeds.{Heeds, Rings, ring_after}
 use Rattle.exec_rest.proofs.Frames.{asleep_after, desk_other, desk_own, landed_own, landed_same}
-use Rattle.exec_rest.proofs.CallFacts.{enters_ring, sleeps_on_ring}
+use Rattle.exec_rest.proofs.CallFacts.{enters_ring, sleeps_on_ring, raised_kept, raised_ended}
 
 -- A WAKE THAT IS RAISED
 
@@ -23,12 +23,6 @@ with_wakes r w = record r { wakes = w }
 -- where the kernel has the poll or a completion is there, one is there then
 completion_raised : (d : Desk) (r : Ring) → (r.wakes.armed || has_completion d r) ≡ true → has_completion d (with_wakes r (raised r.wakes)) ≡ true
 completion_raised = grind arith
-
-kept_still : (p : WakePoll) → (p.armed && p.kept) ≡ false → ((raised p).armed && (raised p).kept) ≡ false
-kept_still = grind arith
-
-ended_still : (landed : Bool) (p : WakePoll) → (is_some p.ended ≡ true → (landed || p.told) ≡ true) → is_some (raised p).ended ≡ true → (landed || (raised p).told) ≡ true
-ended_still = grind arith
 
 -- PLACES
 
@@ -286,7 +280,7 @@ module _ (c : Configuration) (x : Playing) (laid : IsLaidOut c x) (held : IsRest
   kept_then k =
       elim (cases_eq k i) [
         | inl is ↦ rw is after.kept
-        | inr apart ↦ elim (heeds.polls k apart) [ inl same ↦ rw same (held.kept k) | inr raise ↦ rw raise (kept_still (wake_poll_of x.things k) (held.kept k)) ]
+        | inr apart ↦ elim (heeds.polls k apart) [ inl same ↦ rw same (held.kept k) | inr raise ↦ rw raise (raised_kept (wake_poll_of x.things k) (held.kept k)) ]
       ]
 
   pub ended_then : (k : ℕ) → is_some (poll_at c next k).ended ≡ true → (not (is_empty (ring_at c next k).landed) || (poll_at c next k).told) ≡ true
@@ -295,7 +289,7 @@ module _ (c : Configuration) (x : Playing) (laid : IsLaidOut c x) (held : IsRest
         | inl is ↦ rw is (with_landed i (landed_own c me s i m.event m.choice) after.ended)
         | inr apart ↦ with_landed k (landed_same c me s i m.event m.choice k apart) (elim (heeds.polls k apart) [
           | inl same ↦ rw same (held.ended k)
-          | inr raise ↦ rw raise (ended_still (not (is_empty (ring_at c x k).landed)) (wake_poll_of x.things k) (held.ended k))
+          | inr raise ↦ rw raise (raised_ended (not (is_empty (ring_at c x k).landed)) (wake_poll_of x.things k) (held.ended k))
         ])
       ]
     where

@@ -1,5 +1,5 @@
 -- Completions: what their numbers say, and which are no operation's.
-use Rattle.std.specs.Prelude.{ℕ, Bool, true, ℤ, pos, negsuc, ◌+◌, ◌-◌, ◌==◌}
+use Rattle.std.specs.Prelude.{ℕ, Bool, true, not, ℤ, pos, negsuc, ◌+◌, ◌-◌, ◌==◌, ◌&&◌}
 use Rattle.exec_outcomes.specs.declared.outcome.OpResult.{OpResult}
 use Rattle.exec_outcomes.specs.declared.outcome.OpResult.TheVariants.{Count, Errno}
 use Rattle.exec_ring.specs.declared.completion.Completion.{Completion}
@@ -17,6 +17,10 @@ result_in (negsuc n) = Errno (n + 1)
 -- the user data of wakes: the largest number
 abbrev pub is_wake : Completion → Bool
 is_wake c = c.user_data == 18446744073709551615
+
+-- user data that an operation may have: neither that of wakes nor that of cancels
+abbrev pub is_operation : ℕ → Bool
+is_operation user_data = not (user_data == 18446744073709551615) && not (user_data == 4294967295)
 
 -- a wake, which ended the wake poll unless there is more to come
 abbrev pub wake_completion : Bool → Completion

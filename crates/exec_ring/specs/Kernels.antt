@@ -12,7 +12,7 @@ use Rattle.exec_ring.specs.declared.completion.Submission.{Submission}
 use Rattle.exec_ring.specs.declared.completion.Posted.{Posted}
 use Rattle.exec_ring.specs.declared.ring.Entered.{Entered}
 use Rattle.exec_ring.specs.declared.ring.Entered.TheVariants.{Taken, Busy}
-use Rattle.exec_ring.specs.Completions.{wake_completion, acknowledged, completed}
+use Rattle.exec_ring.specs.Completions.{is_operation, wake_completion, acknowledged, completed}
 use Rattle.exec_ring.specs.Rings.{RingState}
 
 -- one more entry in the submission queue
@@ -143,10 +143,8 @@ MayAllLand (l ∷ ls) s = (may_land s l.user_data l.result ≡ true) × MayAllLa
 abbrev pub entered_with : List Landing → RingState → RingState
 entered_with ls s = if s.busy then record s { busy = false } else all_landed ls (all_taken s)
 
--- the wake poll has user data of its own
-abbrev pub is_for_poll : Opcode → ℕ → Bool
-is_for_poll Wake user_data = user_data == 18446744073709551615
-is_for_poll _ user_data = true
-
-abbrev pub suits : Window → ℕ → Bool
-suits w user_data = is_for_poll w.kind user_data
+-- The wake poll has the user data of wakes, a cancel that of cancels, and an operation neither.
+abbrev pub may_have : Opcode → ℕ → Bool
+may_have Wake user_data = user_data == 18446744073709551615
+may_have Cancel user_data = user_data == 4294967295
+may_have _ user_data = is_operation user_data

@@ -16,7 +16,7 @@
 
 ghost use Rattle.std.specs.Prelude.{◌≡◌, ◌+◌, ◌-◌, ◌^◌, ◌<◌, List, length, IsTrue, OnOk, OnErr};
 ghost use Rattle.exec_ring.specs.Rings.{RingState, taken_places};
-ghost use Rattle.exec_ring.specs.Kernels.{Landing, with_entry, suits, answer_of_enter, entered_with, next_completion, reaped, is_quiet as has_no_completion, with_wake, MayAllLand, all_taken};
+ghost use Rattle.exec_ring.specs.Kernels.{Landing, with_entry, may_have, answer_of_enter, entered_with, next_completion, reaped, is_quiet as has_no_completion, with_wake, MayAllLand, all_taken};
 ghost use Rattle.exec_ring.specs.Stores.{Same, Reserves, Releases};
 
 use crate::completion::{Completion, UserData};
@@ -42,11 +42,12 @@ pub trait Ring {
     ghost landings: { Self → List Landing };
 
     /// Puts an entry into the submission queue. The caller must have looked at `room`, and have made room for the
-    /// entry by `reserve`. The wake poll has the user data `WAKE_USER_DATA`.
+    /// entry by `reserve`. The wake poll has the user data `WAKE_USER_DATA`, a cancel `CANCEL_USER_DATA`, and an operation
+    /// neither.
     fn stage(&mut self, window: Window, user_data: UserData)
         requires room { length (state self.old).staged < (state self.old).size }
         requires place { taken_places (state self.old) < (state self.old).places }
-        requires poll { IsTrue (suits window user_data) }
+        requires own { IsTrue (may_have window.kind user_data) }
         ensures { state self.new ≡ with_entry (state self.old) window user_data };
 
     /// The kernel takes all entries in, or none where it is busy.

@@ -5,7 +5,7 @@ use Rattle.exec_moves.specs.Plays.{Playing, by_step, first_playing, GoesByMoves}
 use Rattle.exec_rest.specs.AtRest.{RestsWell}
 use Rattle.exec_settled.{proofs.Resting.has_let_go, specs.Settled.HaveLetGo}
 use Rattle.exec_core.specs.{Steady.{IsPacedThere, IsSteadyThere}, Turns.IsOrderly}
-use Rattle.exec_run.specs.{Log.{InEach, IsTheLogOf}, Steps.{Goes}}
+use Rattle.exec_run.specs.{Log.{InEach, IsTheLogOf, KeepOwned, NoneOversleeps}, Steps.{Goes}}
 use Rattle.exec_base.specs.declared.limits.TheConstants.{MOST_STEPS}
 use Rattle.exec_text.specs.Grammar.{count_of}
 use Rattle.exec_run.proofs.{CallsEnd.call_by, FewLines.{as_many_lines, few_lines}, Leads.{leads_there}, Stretches.solo_by, TurnsEnd.turns_by}
@@ -30,7 +30,7 @@ orderly_by : (p : Plan) (x : Playing) (told : List Told) → IsOrderly x → Goe
 orderly_by p x [] orderly goes = orderly
 orderly_by p x (it ∷ told) orderly goes = (orderly, orderly_by p (by_step p.config x it.0.action).next told goes.0.orderly goes.1)
 
--- what a steady state has each of them has: where all sleep nothing is left to be run, and who has ended has let go
+-- what a steady state has each of them has
 each_by : (holds : Playing → Type 0) (p : Plan) → ((x : Playing) → IsSteadyThere p.config x → holds x) → (x : Playing) (told : List Told) → IsSteadyThere p.config x → Goes p x told → InEach holds p.config x told
 each_by holds p has x [] there goes = has x there
 each_by holds p has x (it ∷ told) there goes = (has x there, each_by holds p has (by_step p.config x it.0.action).next told (goes.0.rests there.steady) goes.1)
@@ -58,6 +58,8 @@ is_the_log p steps told begins few has_lines goes =
       runs = runs_by p (first_playing p) told goes;
       plays = record { has_lines = has_lines; moves = by_moves p (first_playing p) told goes };
       orderly = orderly_by p (first_playing p) told begins.orderly goes;
+      owned = each_by (λ x. KeepOwned x.world) p (λ x there. there.steady.booked.let_go) (first_playing p) told begins.rests goes;
+      dues = each_by (λ x. NoneOversleeps x.world) p (λ x there. there.steady.booked.dues) (first_playing p) told begins.rests goes;
       rests = each_by (RestsWell p.config) p (λ x there. there.rests.rests) (first_playing p) told begins.rests goes;
       ended = each_by (λ x. HaveLetGo x.world) p (λ x there. has_let_go x.world there.steady.booked) (first_playing p) told begins.rests goes;
       asleep = asleep_by p (first_playing p) told begins.rests goes;

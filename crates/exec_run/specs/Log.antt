@@ -1,8 +1,8 @@
 -- What a run wrote: the whole log, or a front of it.
-use Rattle.std.specs.Prelude.{◌≡◌, ℕ, Bool, true, ◌≤◌, ◌⊎◌, List, [], ◌∷◌, ◌++◌, Option, None, sum_by}
+use Rattle.std.specs.Prelude.{◌≡◌, ℕ, Bool, true, false, ◌≤◌, ◌⊎◌, List, [], ◌∷◌, ◌++◌, Option, None, sum_by}
 use Rattle.std.specs.Io.KnownBytes.{append_known}
 use Rattle.exec_base.specs.declared.limits.TheConstants.{MOST_STEPS}
-use Rattle.exec_machine.specs.{declared.{config.Configuration.Configuration, step.{Step.{Step, TheVariants.Work}}}, Run.{RunsBy}, Progress.{Plan, RightlyAsleepBy, begin, is_solo, no_stretch}, Text.{text_of_log, told_lines}, Examples.{Told, choices_of, lines_of}}
+use Rattle.exec_machine.specs.{declared.{config.Configuration.Configuration, step.{Step.{Step, TheVariants.Work}}}, Run.{RunsBy}, Deadlines.{is_after, next_due, rest_until}, Tests.{is_awake, is_resolved}, World.{World, request_of, seat_of}, Progress.{Plan, RightlyAsleepBy, begin, is_solo, no_stretch}, Text.{text_of_log, told_lines}, Examples.{Told, choices_of, lines_of}}
 use Rattle.exec_text.specs.Grammar.{Meaning, IsTraceOf, count_of}
 use Rattle.exec_run.specs.{Ranges.first_out_of_range, Refusal.IsTextIn}
 use Rattle.exec_core.specs.Turns.{IsOrderly}
@@ -23,15 +23,27 @@ abbrev pub InEach : (Playing → Type 0) → Configuration → Playing → List 
 InEach holds c x [] = holds x
 InEach holds c x (it ∷ told) = holds x × InEach holds c (by_step c x it.0.action).next told
 
+-- What a request owns is let go only once it is over: not while an operation of it is staged, under way or landed.
+abbrev pub KeepOwned : World → Type 0
+KeepOwned w = (k : ℕ) → (request_of w.common k).released ≡ true → is_resolved (request_of w.common k).phase ≡ true
+
+-- Who sleeps does so until the first moment at which something is due there, which is ahead, or without end where there is
+-- none.
+abbrev pub NoneOversleeps : World → Type 0
+NoneOversleeps w = (i : ℕ) → is_awake (seat_of w.common i).rest ≡ false → ((seat_of w.common i).rest ≡ rest_until (next_due w.common i)) × (is_after w.common.clock (next_due w.common i) ≡ true)
+
 -- The lines, each with what it leaves open, are the log of these steps: a run of the machine; each line is what the step
 -- tells by its move, so that there is no other log; in each state a task that is to be polled has one runnable, one that is
--- polled has one poller, and durable requests of an open take turns; where all sleep nothing is left to be run, and nothing
--- is unfinished, and a closing worker sleeps only while a request of its own isn't over; who has ended has let go of all its
--- requests; and no worker and no caller turns for ever.
+-- polled has one poller, and durable requests of an open take turns; requests keep what they own until they are over; nobody
+-- sleeps past what is due; where all sleep nothing is left to be run, and nothing is unfinished, and a closing worker sleeps
+-- only while a request of its own isn't over; who has ended has let go of all its requests; and no worker and no caller turns
+-- for ever.
 pub record IsTheLogOf (p : Plan) (steps : List Step) (told : List Told) : Type 0 where
   pub runs : RunsBy p.config (begin p) (lines_of told) (choices_of told)
   pub plays : Plays p steps told
   pub orderly : InEach IsOrderly p.config (first_playing p) told
+  pub owned : InEach (λ x. KeepOwned x.world) p.config (first_playing p) told
+  pub dues : InEach (λ x. NoneOversleeps x.world) p.config (first_playing p) told
   pub rests : InEach (RestsWell p.config) p.config (first_playing p) told
   pub ended : InEach (λ x. HaveLetGo x.world) p.config (first_playing p) told
   pub asleep : RightlyAsleepBy p.config (begin p) (lines_of told) (choices_of told)

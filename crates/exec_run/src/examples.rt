@@ -2,7 +2,10 @@
 
 ghost use Rattle.std.specs.Prelude.{◌≡◌, ◌≢◌, true, false, [], ◌∷◌, ◌++◌, Some, codes};
 ghost use Rattle.std.specs.Fmt.{decimal};
-ghost use Rattle.exec_run.specs.{Examples.at_first, declared.{field.Field.TheVariants.{Workers, Layout}, complaint.Complaint.TheVariants.{Usage, Syntax, Config, TooLong}}, Explains.complaint_line, Refusal.{TakesWithin, status_of, text_of_complaint, words_of_trace}};
+ghost use Rattle.exec_outcomes.specs.declared.outcome.Outcome.TheVariants.{Success};
+ghost use Rattle.exec_machine.specs.declared.state.{RequestPhase.TheVariants.{Resolved, Staged}, Rest.TheVariants.Forever};
+ghost use Rattle.exec_books.specs.Examples.{its_own, its_request, its_seat, sending, with_own, with_seat};
+ghost use Rattle.exec_run.specs.{Log.{KeepOwned, NoneOversleeps}, Examples.at_first, declared.{field.Field.TheVariants.{Workers, Layout}, complaint.Complaint.TheVariants.{Usage, Syntax, Config, TooLong}}, Explains.complaint_line, Refusal.{TakesWithin, status_of, text_of_complaint, words_of_trace}};
 ghost use Rattle.exec_machine.specs.{declared.{event.{Event.TheVariants.{Enter, Rouse, Stage, Turn}, StepResult.TheVariants.{Refused, Did}}, step.Action.TheVariants.{GoOn, Work}}, Choice.Choice.Plain, Examples.usual, Progress.{Party.{Caller, Worker}, is_solo, longer, no_stretch}, Text.told_lines};
 
 /// Complaints, and the status that each ends with.
@@ -53,4 +56,21 @@ pub fn parties_that_end()
     ensures not_quiet { is_solo usual at_first (record { party = Worker 0; count = 2175 }) (record { action = Work 0; said = Did (Rouse 0) } ∷ []) (Plain ∷ []) ≡ true }
     ensures of_a_caller { is_solo usual at_first (record { party = Worker 0; count = 2175 }) (record { action = GoOn 3; said = Did Turn } ∷ []) (Plain ∷ []) ≡ true }
     ensures caller_for_ever { is_solo usual at_first (record { party = Caller 3; count = 2175 }) (record { action = GoOn 3; said = Did Turn } ∷ []) (Plain ∷ []) ≡ false }
+{}
+
+/// What a request owns is let go only once it is over. One that the kernel has keeps it, and one that is over may have let
+/// it go; refused is one that the kernel has, and one in the submission queue, of which it was let go.
+pub fn what_requests_own()
+    ensures flying { KeepOwned (with_own its_own its_request) }
+    ensures over { KeepOwned (with_own its_own (record its_request { phase = Resolved Success; released = true })) }
+    ensures let_go { KeepOwned (with_own its_own (record its_request { released = true })) → ⊥ }
+    ensures staged { KeepOwned (with_own its_own (record its_request { phase = Staged; released = true })) → ⊥ }
+{}
+
+/// A worker that sleeps does so until its deadline, which is ahead. One that sleeps without end though it has a deadline is
+/// refused, and so is one that sleeps on at that moment.
+pub fn who_sleeps()
+    ensures until { NoneOversleeps sending }
+    ensures for_ever { NoneOversleeps (with_seat (record its_seat { rest = Forever })) → ⊥ }
+    ensures on { NoneOversleeps (record sending { common = record sending.common { clock = 10000000 } }) → ⊥ }
 {}

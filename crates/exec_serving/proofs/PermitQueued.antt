@@ -10,8 +10,9 @@ use Rattle.exec_opens.specs.{Opens.{OpenState, holder_at, holder_in}, declared.o
 use Rattle.exec_machine.specs.{declared.state.RequestPhase.RequestPhase, Tests.{is_gated, is_resolved, is_staged}}
 use Rattle.exec_moves.specs.declared.place.{Place.Place, Service.Service}
 use Rattle.exec_parts.{specs.{declared.parts.{mail.Reply.Reply, record.Record.Record, shared.Shared.Shared, worker.Worker.Worker}, Records.number_in, Serving.changed_at, View.driver_of}, proofs.Facts.{and_parts, by_name, not-true, same_number, same_Some}}
-use Rattle.exec_invariants.{specs.{Carried.{IsCarried, IsUnderWay, may_move, moves_by, those_of, unlanded}, Due.{IsWheelAt, may_be_due, wheel_moment}, Flown.{AreLanded, HasFlown, IsPolled, operations}, Gates.{IsKnown, key_for, line_at}, Ordered.{IsOrdered, went_round}, Names.{IsAlike, IsSubmitted}, Sound.{SoundAt, served_in}, Submits.IsGatedIn}, proofs.{Changing.{OneGoesOn, all_go_one, apart_number, changes_one, keeps_one}, Conveying.carried_one, Flown.landed_on, Going.{GoesOn, owning_on}, Known.{known_written, low_there}, Marking.{known_then, mark_if, mark_kept, marked, plain_kept, was_marked}, Orders.{Eases, IsPartOf, TurnsAlike, alike_self, eased, eases_written, part_self}, Resolving.among_still, ServingHolds.{Follows, KeepsBy}}}
+use Rattle.exec_invariants.{specs.{Carried.{IsCarried, IsUnderWay, may_move, moves_by, those_of, unlanded}, Due.{IsWheelAt, may_be_due, wheel_moment}, Flown.{AreLanded, HasFlown, IsPolled, operations}, Gates.{IsKnown, key_for, line_at}, Ordered.{IsOrdered, went_round}, Names.{IsAlike, IsSubmitted}, Sound.{SoundAt, served_in}, Submits.IsGatedIn}, proofs.{Changing.{OneGoesOn, all_go_one, apart_number, changes_one, keeps_one}, Conveying.carried_one, Flown.landed_on, Going.{GoesOn, owning_on}, Known.{known_written, low_there}, Marking.{known_then, mark_if, mark_kept, marked, plain_kept, was_marked}, Orders.{Eases, IsPartOf, TurnsAlike, alike_self, eased, eases_written, part_self}, ServingHolds.{Follows, KeepsBy}}}
 use Rattle.exec_serving.proofs.PermitGrants.{Granted}
+use Rattle.exec_driver.proofs.Serving.{among_others}
 
 abbrev key_made : ℕ → WaiterId → WaiterKey
 key_made worker name = record { worker = worker; id = name }
@@ -139,7 +140,7 @@ module _ {B : Type 0} (q q' : Place) (w : Worker) (s : Shared B) (sound : SoundA
             let apart : other.0 ≢ id.0 = λ eq.
             let is_it : x ≡ it' = same_Some x it' (sym live ∙ waiters other.0 ∙ ap (waiter_at (written d.requests id.0 (Pending it'))) eq ∙ changed.is_at) in
             false≢true (sym (none_needed (is_durable (asked_of it.request).kind)) ∙ ap needs_permit (sym is_it) ∙ needs) in
-            ap (is_among other) gated ∙ among_still other id d.lists.gated apart (flown.gated other x (sym (changed.others other.0 apart) ∙ sym (waiters other.0) ∙ live) needs);
+            ap (is_among other) gated ∙ among_others other id d.lists.gated apart (flown.gated other x (sym (changed.others other.0 apart) ∙ sym (waiters other.0) ∙ live) needs);
         plain = plain_kept queues rs k (λ r p. record { bounded = p.bounded; moved = p.moved; deadline = p.deadline }) w.index (λ r. refl) flown.plain;
         landed = subst (λ x. AreLanded w.names d' queued_records (operations x)) (sym ring)
             (landed_on w.names w.names d d' rs queued_records (operations d.ring) flown.landed

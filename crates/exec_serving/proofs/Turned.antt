@@ -5,7 +5,7 @@ use Rattle.exec_outcomes.specs.Accounts.{Account}
 use Rattle.exec_request.specs.{Judging.{Judges, judged_as}, Requests.{asked_of, cursor_of, hinted_of}, States.{Ended, as_answer}}
 use Rattle.exec_ring.specs.{Completions.result_in, Kernels.{is_quiet, reaped as ring_reaped}, Rings.completions, declared.completion.Completion.Completion}
 use Rattle.exec_waiters.specs.{States.{file_of, tick_in}, Told.Tells, declared.{deferred.Deferred.Deferred, waiter.{Waiter.Waiter, Entry.TheVariants.Pending}, waiter_id.WaiterId.WaiterId}, Events.{finished, told_by_finish}}
-use Rattle.exec_driver.specs.{Driving.Driving, Steps.{judged_as_over, landed_at, open_after, opens_after_end, permit_after, taken_out, told_as, told_by_end, with_landings, unscheduled}, declared.driver.reaping.Reaped.Reaped}
+use Rattle.exec_driver.specs.{Driving.Driving, Steps.{queued_or_ended, landed_at, open_after, opens_after_end, permit_after, taken_out, told_as, told_by_end, with_landings, unscheduled}, declared.driver.reaping.Reaped.Reaped}
 use Rattle.exec_opens.specs.Opens.{OpenState, account_in, with_account}
 use Rattle.exec_lists.specs.Lists.{with_queued, withdrawn}
 use Rattle.exec_machine.specs.Tests.{is_empty}
@@ -26,7 +26,7 @@ module _ {B : Type 0} (q : Place) (w : Worker) (s : Shared B) (sound : SoundAt q
   turned_account = open_after t.reaped.has.it (result_in t.c.result) (account_in opens (file_of t.reaped.has.it.request))
 
   abbrev turned_by : Option Ended → Option Account → Driving Reply Reply
-  turned_by a account = with_landings t.reaped.from.second (judged_as_over (landed_at (taken_out t.reaped.first) turned_name turned_waiter) turned_name turned_waiter a account)
+  turned_by a account = with_landings t.reaped.from.second (queued_or_ended (landed_at (taken_out t.reaped.first) turned_name turned_waiter) turned_name turned_waiter a account)
 
   second_is : (a : Option Ended) → t.reaped.from.reaps.answer ≡ a → t.reaped.from.second ≡ turned_by a turned_account
   second_is a is = t.reaped.from.reaps.driver ∙ ap (λ x. turned_by x turned_account) is

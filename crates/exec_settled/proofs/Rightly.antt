@@ -14,10 +14,11 @@ use Rattle.exec_settled.proofs.Undone.{eight, enroll_case, none_due, not_all, fa
 use Rattle.exec_books.specs.Booked.{IsBooked, IsUnderWay}
 use Rattle.exec_rest.specs.{AtRest.{IsAtRest, IsPlaced, RestsWell, stays_closing}, Rested.{IsRestful, is_latched, place_at, sleeps}}
 use Rattle.exec_rest.proofs.Rest.{down, unlatched}
-use Rattle.exec_settled.specs.{Awaited.{IsAwaited, IsToBeWoken, IsToHear}, Given.{IsGiven, WaitsFor}, Permits.{IsPermitted, is_past}, Settled.{IsSettled, waits_closing}}
+use Rattle.exec_settled.specs.{Awaited.{IsAwaited, IsToBeWoken, IsToHear}, Given.{IsGiven, WaitsFor}, Permits.{IsPermitted, is_past}, Settled.{IsSettled}}
+use Rattle.exec_rest.specs.AtRest.{stays_closing}
 use Rattle.exec_settled.proofs.Resting.{abed_past, both_ahead, cancels_done, entered, nobody_hands, nobody_looks, nobody_passes, nobody_wakes, over_of, over_phase, sleeper_done, submitted, told, told_open}
 
-waits_there : (p : Place) → stays_closing p ≡ true → waits_closing p ≡ true
+waits_there : (p : Place) → stays_closing p ≡ true → stays_closing p ≡ true
 waits_there = grind (arith, false≢true)
 
 not_both : (p : WorkerPhase) → is_open p ≡ true → has_ended p ≡ true → ⊥

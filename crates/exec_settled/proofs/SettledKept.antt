@@ -5,7 +5,8 @@ use Rattle.exec_machine.specs.{declared.{config.Configuration.Configuration, ste
 use Rattle.exec_moves.specs.Plays.{Playing, by_action, by_step, first_playing}
 use Rattle.exec_rest.specs.{AtRest.{IsPlaced, is_end}, Places.is_to_sleep_on_ring, Posted.has_tested}
 use Rattle.exec_rest.proofs.First.{awake_first, not_there}
-use Rattle.exec_settled.specs.{Given.IsGiven, Settled.{IsSettled, waits_closing, waits_on_word}}
+use Rattle.exec_settled.specs.{Given.IsGiven, Settled.{IsSettled, waits_on_word}}
+use Rattle.exec_rest.specs.AtRest.{stays_closing}
 use Rattle.exec_settled.proofs.SettledOthers.{caller_settles, other_settles}
 use Rattle.exec_settled.proofs.SettledStep.{work_settles}
 
@@ -15,7 +16,7 @@ first_settled p =
       told = λ i h. not_there p (λ q. has_tested q || is_end q) refl i h;
       submitted = λ i h. not_there p has_tested refl i h;
       free = λ i h. not_there p waits_on_word refl i h;
-      busy = λ i h. not_there p waits_closing refl i h;
+      busy = λ i h. not_there p stays_closing refl i h;
       entered = λ i h. not_there p is_to_sleep_on_ring refl i h;
       entered_then = λ i asleep h. absurd (true≢false (sym asleep ∙ awake_first p i));
       landed = λ i asleep h. absurd (true≢false (sym asleep ∙ awake_first p i));

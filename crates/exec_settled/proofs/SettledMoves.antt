@@ -26,7 +26,8 @@ use Rattle.exec_moves.specs.declared.place.Place.TheVariants as at
 use Rattle.exec_rest.specs.{AtRest.is_end, Places.is_to_sleep_on_ring, Posted.has_tested}
 use Rattle.exec_rest.proofs.Away.{calm_untested}
 use Rattle.exec_rest.proofs.Continuing.{calm_light, calm_after_fit, calm_after_leave, light_after_send, light_leaves_for_turn, light_next_pick, calm_to_queue}
-use Rattle.exec_settled.specs.Settled.{HasSubmitted, HasTold, ends_ring_wait, waits_closing, waits_on_word}
+use Rattle.exec_rest.specs.AtRest.{stays_closing}
+use Rattle.exec_settled.specs.Settled.{HasSubmitted, HasTold, ends_ring_wait, waits_on_word}
 use Rattle.exec_settled.proofs.SettledParts.{is_shut, off_after_fit, off_after_leave, off_to_queue, off_light}
 use Rattle.exec_settled.proofs.SettledPlaces.{OfBooks, closing_shut, deep_off, end_shut, is_deep, is_plain, is_sleep, kept, sleep_deep, submitted_by, submitted_with, told_by, told_with, word_tested}
 use Rattle.exec_settled.proofs.SettledTest.{Stays}
@@ -37,16 +38,16 @@ module _ (c : Configuration) (i : ℕ) (me : Books) (s : Common) where
     pub told : (has_tested p || is_end p) ≡ true → HasTold me d
     pub submitted : has_tested p ≡ true → HasSubmitted c me
     pub free : waits_on_word p ≡ true → has_requests i s ≡ false
-    pub busy : waits_closing p ≡ true → has_requests i s ≡ true
+    pub busy : stays_closing p ≡ true → has_requests i s ≡ true
 
   -- and after an event, with which it comes to desk q from place p
   pub record Settles (p : Place) (e : Event) (choice : Choice) (q : Desk) : Type 0 where
     pub told : (has_tested q.place || is_end q.place) ≡ true → HasTold (own_after c me s i e choice) q
     pub submitted : has_tested q.place ≡ true → HasSubmitted c (own_after c me s i e choice)
     pub free : waits_on_word q.place ≡ true → has_requests i s ≡ false
-    pub busy : waits_closing q.place ≡ true → has_requests i s ≡ true
+    pub busy : stays_closing q.place ≡ true → has_requests i s ≡ true
     -- it makes no request, and ends none
-    pub plain : (waits_on_word q.place || waits_closing q.place) ≡ true → is_plain e ≡ true
+    pub plain : (waits_on_word q.place || stays_closing q.place) ≡ true → is_plain e ≡ true
     -- it sleeps on its ring after an enter; and as it does nothing has landed there
     pub entered : is_to_sleep_on_ring q.place ≡ true → e ≡ Enter
     pub slept : (until : Option ℕ) → e ≡ Sleep until → ends_ring_wait q.place ≡ true → (is_to_sleep_on_ring p ≡ true) × ((seat_of s i).landed ≡ [])
@@ -63,7 +64,7 @@ module _ (c : Configuration) (i : ℕ) (me : Books) (s : Common) where
           submitted = λ h. absurd (false≢true (sym out ∙ h));
           free = λ h. absurd (false≢true (sym word ∙ h));
           busy = λ h. absurd (false≢true (sym wait ∙ h));
-          plain = λ h. absurd (false≢true (sym (ap (λ b. b || waits_closing q.place) word ∙ wait) ∙ h));
+          plain = λ h. absurd (false≢true (sym (ap (λ b. b || stays_closing q.place) word ∙ wait) ∙ h));
           entered = λ h. absurd (false≢true (sym deep.0 ∙ h));
           slept = λ until is h. absurd (false≢true (sym deep.1 ∙ h));
         }

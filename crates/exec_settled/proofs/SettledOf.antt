@@ -4,7 +4,8 @@ use Rattle.std.specs.Prelude.{not}
 use Rattle.exec_machine.specs.{declared.{config.Configuration.Configuration, event.Event.{Event}}, After.made_by, Tasks.new_own, Tests.is_awake, World.{Common, Own as Books, Seat, no_own, own_of, seat_of}}
 use Rattle.exec_moves.specs.{Callback.has_requests, Plays.{Playing, desk_of}, State.Desk}
 use Rattle.exec_rest.specs.{AtRest.is_end, Places.is_to_sleep_on_ring, Posted.has_tested}
-use Rattle.exec_settled.specs.Settled.{HasEntered, HasSubmitted, HasTold, IsSettled, ends_ring_wait, waits_closing, waits_on_word}
+use Rattle.exec_rest.specs.AtRest.{stays_closing}
+use Rattle.exec_settled.specs.Settled.{HasEntered, HasSubmitted, HasTold, IsSettled, ends_ring_wait, waits_on_word}
 use Rattle.exec_settled.proofs.SettledLike.{AreAlike, entered_then, requests_then}
 use Rattle.exec_settled.proofs.SettledPlaces.{OfBooks, kept, listed, submitted_with, told_with}
 
@@ -12,7 +13,7 @@ pub record SettledOf (c : Configuration) (i : ℕ) (me : Books) (d : Desk) (s : 
   pub told : (has_tested d.place || is_end d.place) ≡ true → HasTold me d
   pub submitted : has_tested d.place ≡ true → HasSubmitted c me
   pub free : waits_on_word d.place ≡ true → has_requests i s ≡ false
-  pub busy : waits_closing d.place ≡ true → has_requests i s ≡ true
+  pub busy : stays_closing d.place ≡ true → has_requests i s ≡ true
   pub entered : is_to_sleep_on_ring d.place ≡ true → HasEntered i me s
   pub entered_then : not (is_awake (seat_of s i).rest) ≡ true → ends_ring_wait d.place ≡ true → HasEntered i me s
   pub landed : not (is_awake (seat_of s i).rest) ≡ true → ends_ring_wait d.place ≡ true → (seat_of s i).landed ≡ []
@@ -46,7 +47,7 @@ left_settled c i me mine d e s t left before =
       told = λ h. told_with me mine d e left.desk (ap (λ (k : OfBooks). k.ended) left.own) (before.told (sym (ap (λ p. has_tested p || is_end p) left.place) ∙ h));
       submitted = λ h. submitted_with c me mine left.own (before.submitted (sym (ap has_tested left.place) ∙ h));
       free = λ h. requests_then i s t left.requests ∙ before.free (sym (ap waits_on_word left.place) ∙ h);
-      busy = λ h. requests_then i s t left.requests ∙ before.busy (sym (ap waits_closing left.place) ∙ h);
+      busy = λ h. requests_then i s t left.requests ∙ before.busy (sym (ap stays_closing left.place) ∙ h);
       entered = λ h. entered_then i s t left.requests me mine left.untold (before.entered (sym (ap is_to_sleep_on_ring left.place) ∙ h));
       entered_then = λ asleep h. entered_then i s t left.requests me mine left.untold (before.entered_then (left.rests asleep).0 (sym (ap ends_ring_wait left.place) ∙ h));
       landed = λ asleep h. (left.rests asleep).1 ∙ before.landed (left.rests asleep).0 (sym (ap ends_ring_wait left.place) ∙ h);

@@ -6,7 +6,8 @@ use Rattle.exec_machine.specs.{declared.{config.Configuration.Configuration, eve
 use Rattle.exec_moves.specs.{declared.{idling.{InRingWait.InRingWait, Stay.Stay}, place.{InClosing.InClosing, Place.Place}}, Callback.has_callbacks, Load.{has_submissions}, State.Desk}
 use Rattle.exec_moves.specs.declared.place.Place.TheVariants as at
 use Rattle.exec_rest.specs.{AtRest.is_end, Places.is_to_sleep_on_ring, Posted.has_tested}
-use Rattle.exec_settled.specs.Settled.{HasSubmitted, HasTold, ends_ring_wait, waits_closing, waits_on_word}
+use Rattle.exec_rest.specs.AtRest.{stays_closing}
+use Rattle.exec_settled.specs.Settled.{HasSubmitted, HasTold, ends_ring_wait, waits_on_word}
 use Rattle.exec_settled.proofs.SettledParts.{is_shut}
 
 -- WHAT THAT READS of a desk, and of an own part
@@ -58,7 +59,7 @@ end_off = grind (arith, true≢false)
 pub end_shut : (p : Place) → is_shut p ≡ false → is_end p ≡ false
 end_shut = grind (arith, end_off)
 
-pub closing_shut : (p : Place) → is_shut p ≡ false → waits_closing p ≡ false
+pub closing_shut : (p : Place) → is_shut p ≡ false → stays_closing p ≡ false
 closing_shut = grind arith
 
 -- who is at none of these neither sleeps on its ring nor ends that

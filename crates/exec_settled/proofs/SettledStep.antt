@@ -9,7 +9,8 @@ use Rattle.exec_moves.specs.{Callback.has_requests, Move.move, Plays.{Playing, b
 use Rattle.exec_rest.specs.{AtRest.IsPlaced}
 use Rattle.exec_rest.proofs.{FactsA.seated, Frames.{asleep_after, desk_other, desk_own, landed_own, landed_same}, Heeds.{Heeds, landed_after}, Step.heeds_at}
 use Rattle.exec_books.proofs.Own.{own_by_mail}
-use Rattle.exec_settled.specs.{Given.IsGiven, Settled.{HasEntered, IsSettled, waits_closing, waits_on_word}}
+use Rattle.exec_settled.specs.{Given.IsGiven, Settled.{HasEntered, IsSettled, waits_on_word}}
+use Rattle.exec_rest.specs.AtRest.{stays_closing}
 use Rattle.exec_settled.proofs.SettledLike.{none_staged, other_alike, plain_alike, requests_then}
 use Rattle.exec_settled.proofs.SettledMoves.{Settles, Was}
 use Rattle.exec_settled.proofs.SettledOf.{SettledAt, SettledOf, all_of, each, left_settled, others_own}
@@ -36,8 +37,8 @@ module _ (c : Configuration) (i : ℕ) (me : Books) (s : Common) (p : Desk) (e :
       record {
         told = now.told;
         submitted = now.submitted;
-        free = λ h. requests (now.plain (ap (λ b. b || waits_closing q.place) h)) ∙ now.free h;
-        busy = λ h. requests (now.plain (either (waits_on_word q.place) (waits_closing q.place) h)) ∙ now.busy h;
+        free = λ h. requests (now.plain (ap (λ b. b || stays_closing q.place) h)) ∙ now.free h;
+        busy = λ h. requests (now.plain (either (waits_on_word q.place) (stays_closing q.place) h)) ∙ now.busy h;
         entered = λ h. by_enter (now.entered h);
         entered_then = λ asleep h. let it = slept asleep in by_sleep it.0 it.1 (before.entered (now.slept it.0 it.1 h).0);
         landed = λ asleep h. let it = slept asleep in landed_own c me s i e choice ∙ ap (landed_after s i) it.1 ∙ (now.slept it.0 it.1 h).1;

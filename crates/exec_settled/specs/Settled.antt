@@ -1,8 +1,8 @@
 -- WHAT A WORKER HAS DONE before it sleeps stays done while it is left to itself.
 use Rattle.std.specs.Prelude.{◌≡◌, ℕ, Bool, true, false, ◌||◌, []}
 use Rattle.exec_machine.specs.{declared.config.Configuration.Configuration, Tests.{has_ended, is_resolved, is_staged}, World.{Common, Own, World, own_of, request_of, seat_of}}
-use Rattle.exec_moves.specs.{declared.{idling.{InRingWait.InRingWait, Stay.Stay}, place.Place.Place}, Callback.has_requests, Load.may_stage, Plays.{Playing, desk_of}, State.Desk}
-use Rattle.exec_rest.specs.{AtRest.is_end, Places.is_to_sleep_on_ring, Posted.has_tested, Rested.{place_at, sleeps}}
+use Rattle.exec_moves.specs.{declared.{idling.{InRingWait.InRingWait}, place.Place.Place}, Callback.has_requests, Load.may_stage, Plays.{Playing, desk_of}, State.Desk}
+use Rattle.exec_rest.specs.{AtRest.{is_end, stays_closing}, Places.is_to_sleep_on_ring, Posted.has_tested, Rested.{place_at, sleeps}}
 
 -- who has ended has let go of all its requests: each is over, and released
 abbrev pub HaveLetGo : World → Type 0
@@ -34,10 +34,6 @@ abbrev pub waits_on_word : Place → Bool
 waits_on_word (Place.WordWait p) = true
 waits_on_word _ = false
 
-abbrev pub waits_closing : Place → Bool
-waits_closing (Place.RingWait p Stay.Closing) = true
-waits_closing _ = false
-
 abbrev pub ends_ring_wait : Place → Bool
 ends_ring_wait (Place.RingWait (InRingWait.DisarmRing n) y) = true
 ends_ring_wait _ = false
@@ -49,7 +45,7 @@ module _ (c : Configuration) (x : Playing) where
     pub submitted : (i : ℕ) → has_tested (place_at c x i) ≡ true → HasSubmitted c (own_of x.world i)
     -- on its wake word it has no request that isn't over, and a closing one waits on its ring for one
     pub free : (i : ℕ) → waits_on_word (place_at c x i) ≡ true → has_requests i x.world.common ≡ false
-    pub busy : (i : ℕ) → waits_closing (place_at c x i) ≡ true → has_requests i x.world.common ≡ true
+    pub busy : (i : ℕ) → stays_closing (place_at c x i) ≡ true → has_requests i x.world.common ≡ true
     -- it sleeps on its ring after an enter, and nothing has landed while it sleeps
     pub entered : (i : ℕ) → is_to_sleep_on_ring (place_at c x i) ≡ true → HasEntered i (own_of x.world i) x.world.common
     pub entered_then : (i : ℕ) → sleeps c x i ≡ true → ends_ring_wait (place_at c x i) ≡ true → HasEntered i (own_of x.world i) x.world.common

@@ -17,7 +17,8 @@ ghost use Rattle.exec_books.specs.Examples.{one_send, its_own, its_request, with
 ghost use Rattle.exec_rest.specs.Examples.{rested, two_waiting};
 ghost use Rattle.exec_settled.specs.{Awaited.IsAwaited, Given.{IsGiven, passes_at}};
 ghost use Rattle.exec_settled.specs.Permits.{IsPermitted, hands_to, is_past};
-ghost use Rattle.exec_settled.specs.Settled.{HaveLetGo, IsSettled, ends_ring_wait, waits_closing};
+ghost use Rattle.exec_rest.specs.AtRest.{stays_closing};
+ghost use Rattle.exec_settled.specs.Settled.{HaveLetGo, IsSettled, ends_ring_wait};
 ghost use Rattle.exec_settled.specs.Examples.{ended_with, on_ring, second, with_second};
 ghost use Rattle.exec_settled.specs.Examples.{waits_elsewhere, waits_here, with_permit, with_permit_told};
 
@@ -36,7 +37,7 @@ pub fn places()
     ensures passes { (b : AfterPermit) → (v : Service) → passes_at (at.Service (service.PassPermit 3 b) v) ≡ Some 3 }
     ensures hands { (b : AfterPermit) → (v : Service) → hands_to (at.Service (service.Signal 1 b) v) ≡ Some 1 }
     ensures hands_none { (b : AfterSignal) → hands_to (at.Signal SetLatch 1 b) ≡ None }
-    ensures closing { (p : InRingWait) → waits_closing (at.RingWait p stay.Closing) ≡ true }
+    ensures closing { (p : InRingWait) → stays_closing (at.RingWait p stay.Closing) ≡ true }
     ensures ends { (n : AfterWait) → ends_ring_wait (at.RingWait (ring.DisarmRing n) stay.Turn) ≡ true }
     ensures sleeps { ends_ring_wait (at.RingWait ring.SleepOnRing stay.Turn) ≡ false }
 {}

@@ -14,6 +14,7 @@ ghost use Rattle.exec_parts.specs.{MailPosts.HaveMailboxes, Polls.OfSlot, Pooled
 use exec_base::error::Error;
 use exec_base::task_no::TaskNo;
 use exec_machine::event::Event;
+use exec_machine::state::MailMessage;
 use exec_moves::handing::{AfterPush, AfterSend, InGlobal, InPush};
 use exec_moves::place::{InPoll, Place};
 use exec_parts::parts::shared::Shared;
@@ -122,7 +123,7 @@ pub fn wake_task<B: Scripted + Drop>(
     shared.tasks[task].tell(Said::Pass);
     match shared.tasks[woken].home() {
         Some(home) if home != worker.index => {
-            return worker.send_root(home, AfterSend::Act { task }, shared);
+            return worker.send(home, MailMessage::Root, AfterSend::Act { task }, shared);
         }
         Some(_) => {
             worker.wake_own_root(shared);

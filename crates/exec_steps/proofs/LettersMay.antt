@@ -4,7 +4,7 @@ use Rattle.std.proofs.{Common.{◌≡◌, ℕ, ◌+◌, ◌<◌, ◌≤◌, fals
 use Rattle.exec_words.specs.{Inbox.{is_wake_root, spare_places}, declared.inbox.Message.{Message}}
 use Rattle.exec_machine.specs.{declared.state.MailMessage.TheVariants.{CancelRequest, CancelTimer}, Tests.is_empty}
 use Rattle.exec_moves.specs.{declared.{handing.AfterCancels.AfterCancels, place.Place.Place}, Send.{first_letter, no_letter}}
-use Rattle.exec_parts.specs.{declared.parts.{held.Held.Held, mail.Subject.Subject, record.Record.Record, seat.Seat.Seat as Chair, shared.Shared.Shared, sleeping.SleeperRecord.SleeperRecord, worker.Worker.Worker}, MailPosts.MaySend, View.{desk_of, letter_of_request, letter_of_timer}}
+use Rattle.exec_parts.specs.{declared.parts.{held.Held.Held, mail.Subject.Subject, record.Record.Record, seat.Seat.Seat as Chair, shared.Shared.Shared, sleeping.SleeperRecord.SleeperRecord, worker.Worker.Worker}, Pooled.MaySend, View.{desk_of, letter_of_request, letter_of_timer}}
 use Rattle.exec_invariants.{specs.{Holding.{Box, IsAbout, Mail, Nap, Thing, box_of, cancel_held, cancel_sleep, holder_of, mail_in, nap_of, thing_of, under_way}, Sound.{IsLetter, IsMineIn, SoundAt}, Whole.{HasWhole, hands_of, mail_with, with_worker}}, proofs.{AskBoxes.box_there, HoldMail.{is_once, mail_first, sum_least}, HoldPosts.{has_place, held_few}, TaskHears.thing_there, TaskTakes.nap_there}}
 
 pub first_counts : (m : Mail) (ms : List Mail) → 1 ≤ mail_in m (m ∷ ms)

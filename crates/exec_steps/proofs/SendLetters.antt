@@ -6,7 +6,7 @@ use Rattle.exec_words.specs.{Inbox.is_wake_root, Queue.tail_of}
 use Rattle.exec_task.specs.declared.body.Said.{Said}
 use Rattle.exec_machine.specs.{declared.{event.Event.{Event, TheVariants.{Closed, Send, Turn}}, state.{Letter.Letter as Owed, MailMessage.{MailMessage, TheVariants.{Root, ForwardRequest, ForwardTimer, CancelRequest, CancelTimer}}, Next.Next}}, After.own_after, Allowed.allowed, Choice.Choice.Plain, Progress.Plan, Same.{is_letter, same_message}, Tests.AllTrue, World.{no_seat, seat_of}}
 use Rattle.exec_moves.specs.{declared.{handing.{AfterCancels.AfterCancels, AfterSend.AfterSend, AfterSignal.AfterSignal, InSignal.InSignal}, place.{Place.Place}}, Parts.{after_cancels, cancels_left}, Seen.{next_at, polls_at, serves_at}, Send.{after_posting, asks as asks_box, no_letter, posted, send_message, sent}, State.{Desk, Things, goes}, Thing.{mailbox_of, set_mailbox}}
-use Rattle.exec_parts.{specs.{declared.parts.{held.Held.Held, letters.Letters.Letters, mail.Subject.Subject, record.Record.Record, seat.Seat.Seat as Chair, shared.Shared.Shared, sleeping.SleeperRecord.SleeperRecord, worker.Worker.Worker}, MailPosts.{Sends, SendsLetter, asks_by}, Phased.{IsPhased, closes_after_cancels, closes_at, closing_in, stage_of, closing_after_cancels, has_left}, Spots.Spot, View.{Views, Visible, common_of, desk_of, inbox_at, letter_of_request, letter_of_timer, letters_in, mail_of, own_of, owed_at, polls_seen, queue_at, seat_seen, seats_seen, things_with, visible, with_view, word_at}}, proofs.Facts.{and_from, false_from_ne_true, or_left, set_elsewhere, set_there}}
+use Rattle.exec_parts.{specs.{declared.parts.{held.Held.Held, letters.Letters.Letters, mail.Subject.Subject, record.Record.Record, seat.Seat.Seat as Chair, shared.Shared.Shared, sleeping.SleeperRecord.SleeperRecord, worker.Worker.Worker}, MailPosts.SendsLetter, Pooled.{Sends, asks_if_sent}, Phased.{IsPhased, closes_after_cancels, closes_at, closing_in, stage_of, closing_after_cancels, has_left}, Spots.Spot, View.{Views, Visible, common_of, desk_of, inbox_at, letter_of_request, letter_of_timer, letters_in, mail_of, own_of, owed_at, polls_seen, queue_at, seat_seen, seats_seen, things_with, visible, with_view, word_at}}, proofs.Facts.{and_from, false_from_ne_true, or_left, set_elsewhere, set_there}}
 use Rattle.exec_invariants.proofs.Showing.{map_set}
 use Rattle.exec_invariants.{specs.{Holding.{Box, Hands, Holder, IsAbout, IsHolding, Mail, Nap, Thing, box_of, cancel_held, cancel_sleep, holder_of, mail_in, mail_of_letters, nap_of, same_mail, thing_of}, Places.{drops_at, is_armed_at}, Sound.{Aims, AreHome, HasLetters, HasQueue, IsLetter as IsOfOther, IsMineIn, IsSeated, SoundAt}, Whole.{HasWhole, IsWhole, Profile, hands_of, mail_with, with_worker}, Works.{Beside, Steps, Suits, Works}}, proofs.{AskBoxes.box_there, Aside.{SameProfile, queue_of_chair, queues_set, seats_other, spared}, Hearing.unheard, HoldPosts.{posted as holding_posted, with_mail}, LetterPosts.{IsLetter, asks_open, cancels_request, cancels_timer, chair_open, open_spares, seat_open, sent_open, things_open}, MailApplies.{rest_had, split_first, same_self}, MailMoves.beside_moved, PoolKept.{gate_spared, gates_set}, Recorded.request_seen, Seats.{chair_set, seat_there}, Rousing.Keeps, Slots.before_barrier, SparedRecord.there_within, TaskAsks.Posts, TaskHears.thing_there, TaskTakes.nap_there, Turning.{Shares, by_place, set_found, sound_on, view_found}}}
 use Rattle.exec_steps.proofs.{LettersMay.{first_counts, request_room, timer_room}, Signalling.{Ways, cancels_to}}
@@ -144,7 +144,7 @@ module _ {B L : Type 0} (left : B → L) (spot : L → Option Said → Spot) whe
   letter_works : (b : AfterCancels) (letter : Owed) (is_it : IsLetter letter.message) (rest : Letters) (w : Worker) (s s1 : Shared B) (chair : Chair) (open_box : chair.mailbox.inbox.closed ≡ false) → w.place ≡ Place.SendCancel b
       → slice_get (letters_in w.letters) 0 ≡ Some letter → letters_in rest ≡ drop 1 (letters_in w.letters) → slice_get s.seats.items letter.to ≡ Some chair → s1 ≡ record s { seats = s1.seats } → s1.seats.items ≡ slice_set s.seats.items letter.to (chair_open letter.message is_it chair open_box)
       → (q' : Place) → polls_at q' ≡ None → next_at q' ≡ Next.Free → serves_at q' ≡ false → owed_at w.workers q' ≡ [] → (p : Plan) (vs : Views) → Suits p vs w s
-      → q' ≡ after_posting p.config letter.to (AfterSend.Cancels b) (asks_by letter.message chair.mailbox) (record (desk_of (record w { place = Place.SendCancel b })) { letters = drop 1 (letters_in w.letters) })
+      → q' ≡ after_posting p.config letter.to (AfterSend.Cancels b) (asks_if_sent letter.message chair.mailbox) (record (desk_of (record w { place = Place.SendCancel b })) { letters = drop 1 (letters_in w.letters) })
       → AllTrue (allowed p.config (own_of (record w { place = Place.SendCancel b })) (common_of left spot p vs s) w.index (Send letter.to letter.message) Plain)
       → Works left spot p vs w s (Send letter.to letter.message) (record w { place = q'; letters = rest }) s1
   letter_works b letter is_it rest w s s1 chair open_box here first later there kept set q' polls free unserved owes p vs suits place may =
@@ -154,7 +154,7 @@ module _ {B L : Type 0} (left : B → L) (spot : L → Option Said → Spot) whe
       let w0 : Worker = record w { place = Place.SendCancel b } in
       let w1 : Worker = record w { place = q'; letters = rest } in
       let chair' : Chair = chair_open m is_it chair open_box in
-      let asks : Bool = asks_by m chair.mailbox in
+      let asks : Bool = asks_if_sent m chair.mailbox in
       let cs = common_of left spot p vs s in
       let d : Desk = desk_of w0 in
       let d1 : Desk = record d { letters = drop 1 (letters_in w.letters) } in
@@ -196,7 +196,7 @@ module _ {B L : Type 0} (left : B → L) (spot : L → Option Said → Spot) whe
       let set : s'.seats.items ≡ slice_set s.seats.items j chair' = sends.chair chair there ∙ ap (slice_set s.seats.items j) (sent_open m is_it chair open_box) in
       let s1 : Shared B = record s { seats = s'.seats } in
       let event : e ≡ Send j m = sends.event chair there ∙ ap (λ c. if c then Closed else Send j m) open_box in
-      let asks : Bool = asks_by m chair.mailbox in
+      let asks : Bool = asks_if_sent m chair.mailbox in
       let q : Place = Place.Signal InSignal.SetLatch j (AfterSignal.Send (AfterSend.Cancels b)) in
       let wm : Worker = record w { place = q; letters = rest } in
       let q' : Place = after_posting s.config j (AfterSend.Cancels b) asks (desk_of (record w { letters = rest })) in

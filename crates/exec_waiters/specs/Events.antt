@@ -38,12 +38,12 @@ outcome_by id (Some ended) = Complete (record { 0 = id }) ended
 
 module _ {S F : Type 0} where
   -- a request that was admitted
-  abbrev pub fresh : Request → Observer S F → Waiter S F
-  fresh r observer =
+  abbrev pub newcomer : Request → Observer S F → Waiter S F
+  newcomer r observer =
       record { state = Active None; in_flight = false; observer = observer; request = r; permit = false }
 
   abbrev pub admitted : Request → Observer S F → Entry S F
-  admitted r observer = Pending (fresh r observer)
+  admitted r observer = Pending (newcomer r observer)
 
   -- an insert is refused for this reason, and hands this back
   abbrev pub IsTurnedDown : Slab (Entry S F) → Refused S F → InsertError (Refused S F) → Type 0

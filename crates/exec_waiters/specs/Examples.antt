@@ -2,7 +2,7 @@
 use Rattle.std.specs.Prelude.{ℕ, [], Some, true}
 use Rattle.exec_base.specs.{Slab.{Slab, inserted}, declared.{slab.Id.Id, task_no.TaskNo.TaskNo}}
 use Rattle.exec_request.specs.declared.request.Request.{Request, TheVariants.{Sync, Poll}}
-use Rattle.exec_waiters.specs.{declared.{observer.Observer.{Observer, TheVariants.{Local, Forwarded, DetachedSync, Orphaned}}, waiter.{Waiter.Waiter, Entry.{Entry, TheVariants.Pending}}}, Events.fresh}
+use Rattle.exec_waiters.specs.{declared.{observer.Observer.{Observer, TheVariants.{Local, Forwarded, DetachedSync, Orphaned}}, waiter.{Waiter.Waiter, Entry.{Entry, TheVariants.Pending}}}, Events.newcomer}
 
 abbrev pub task : ℕ → TaskNo
 task n = record { 0 = n }
@@ -31,7 +31,7 @@ abbrev pub nobody : Observer ℕ ℕ
 nobody = Orphaned
 
 abbrev pub awaited : Observer ℕ ℕ → Waiter ℕ ℕ
-awaited observer = fresh poll observer
+awaited observer = newcomer poll observer
 
 abbrev pub flying : Observer ℕ ℕ → Waiter ℕ ℕ
 flying observer = record (awaited observer) { in_flight = true }

@@ -7,7 +7,7 @@ ghost use Rattle.exec_request.specs.declared.output.RequestOutput.TheVariants as
 ghost use Rattle.exec_request.specs.declared.output.RetiredResources.TheVariants as retired;
 ghost use Rattle.exec_request.specs.declared.results.WaiterState.TheVariants as stands;
 ghost use Rattle.exec_time.specs.declared.timers.Observation.TheVariants as observation;
-ghost use Rattle.exec_waiters.specs.{Ids.{user_data_of, index_in, generation_in}, Told.nothing_told, States.{suits, is_held_by, may_stage, named as named_by}, Events.{fresh, with_permit, with_state, may_cancel, seen_in, told_by_forward, told_by_orphan, told_by_close, told_by_finish, asks_cancel_by_orphan, finished, forwarded}, Examples.{task, named, poll, sync, here, elsewhere, detached, nobody, awaited, flying, alone}, declared.waiter.Entry.TheVariants.{Pending, Ready}};
+ghost use Rattle.exec_waiters.specs.{Ids.{user_data_of, index_in, generation_in}, Told.nothing_told, States.{suits, is_held_by, may_stage, named as named_by}, Events.{newcomer, with_permit, with_state, may_cancel, seen_in, told_by_forward, told_by_orphan, told_by_close, told_by_finish, asks_cancel_by_orphan, finished, forwarded}, Examples.{task, named, poll, sync, here, elsewhere, detached, nobody, awaited, flying, alone}, declared.waiter.Entry.TheVariants.{Pending, Ready}};
 
 /// The user data of an id has its index and the low half of its generation.
 pub fn user_data_of_an_id()
@@ -29,8 +29,8 @@ pub fn what_a_completion_names()
 /// The phases of a request: when its next operation may be staged, and when its cancel asked for.
 pub fn phases()
     ensures queued { may_stage (Some (awaited here)) ≡ true }
-    ensures gated { may_stage (Some (fresh sync here)) ≡ false }
-    ensures granted { may_stage (Some (with_permit (fresh sync here))) ≡ true }
+    ensures gated { may_stage (Some (newcomer sync here)) ≡ false }
+    ensures granted { may_stage (Some (with_permit (newcomer sync here))) ≡ true }
     ensures under_way { may_stage (Some (flying here)) ≡ false }
     ensures cancelled { may_stage (Some (with_state stands.CancelRequested (awaited here))) ≡ false }
     ensures first_cancel { may_cancel (Some (flying here)) ≡ true }
@@ -53,9 +53,9 @@ pub fn observers()
 /// only where the worker closes.
 pub fn letting_go()
     ensures poll_cancelled { asks_cancel_by_orphan (Some (Pending (flying here))) ≡ true }
-    ensures sync_goes_on { asks_cancel_by_orphan (Some (Pending (fresh sync elsewhere))) ≡ false }
-    ensures closed { (told_by_orphan (named 0 0) (Some (Pending (fresh sync elsewhere)))).results ≡ record { id = record { 0 = named 0 0 }; sender = 6; result = Err error.Closed } ∷ [] }
-    ensures nothing { told_by_orphan (named 0 0) (Some (Pending (fresh sync detached))) ≡ nothing_told }
+    ensures sync_goes_on { asks_cancel_by_orphan (Some (Pending (newcomer sync elsewhere))) ≡ false }
+    ensures closed { (told_by_orphan (named 0 0) (Some (Pending (newcomer sync elsewhere)))).results ≡ record { id = record { 0 = named 0 0 }; sender = 6; result = Err error.Closed } ∷ [] }
+    ensures nothing { told_by_orphan (named 0 0) (Some (Pending (newcomer sync detached))) ≡ nothing_told }
     ensures no_wake { (told_by_orphan (named 0 0) (Some (Pending (awaited here)))).wakes ≡ [] }
     ensures wake { (told_by_close (named 0 0) (Some (Pending (awaited here)))).wakes ≡ task 3 ∷ [] }
     ensures too_late { (told_by_forward (named 0 0) 9 (Some (Pending (awaited elsewhere)))).results ≡ record { id = record { 0 = named 0 0 }; sender = 9; result = Err error.Closed } ∷ [] }
@@ -71,6 +71,6 @@ pub fn ends()
     ensures gone { value_at (finished (alone (awaited nobody)) (named 0 0) (awaited nobody) (Err error.Timeout) None) (named 0 0) ≡ None }
     ensures next { next_id (finished (alone (awaited nobody)) (named 0 0) (awaited nobody) (Err error.Timeout) None) ≡ Some (named 0 1) }
     ensures let_go { (told_by_finish (named 0 0) (awaited nobody) (Err error.Timeout) None).outputs ≡ record { id = record { 0 = named 0 0 }; output = output.Poll (Err error.Timeout) } ∷ [] }
-    ensures sent { (told_by_finish (named 0 0) (fresh sync detached) (Ok tt) None).completions ≡ record { sender = 5; result = Ok tt } ∷ [] }
-    ensures nothing_else { (told_by_finish (named 0 0) (fresh sync detached) (Ok tt) None).outputs ≡ [] }
+    ensures sent { (told_by_finish (named 0 0) (newcomer sync detached) (Ok tt) None).completions ≡ record { sender = 5; result = Ok tt } ∷ [] }
+    ensures nothing_else { (told_by_finish (named 0 0) (newcomer sync detached) (Ok tt) None).outputs ≡ [] }
 {}

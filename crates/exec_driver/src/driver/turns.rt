@@ -110,15 +110,19 @@ impl<R: Ring + Drop, S: Drop, F: Drop> Driver<R, S, F> {
         ensures same { seen self.new ≡ record (seen self.old) { ring = (seen self.new).ring; landings = (seen self.new).landings; armed = (seen self.new).armed } }
         ensures punctual { IsPunctual (seen self.old) → IsPunctual (seen self.new) }
     {
+        self.sound();
         self.make_way();
+        self.sound();
         if self.has_pending_submissions() {
             return false;
         }
         if !self.stage_wake_poll() {
             return false;
         }
+        self.sound();
         let calm = word.arm(processed);
         self.enter_armed(calm, word);
+        self.sound();
         disarm_unless(calm, word);
         calm
     }

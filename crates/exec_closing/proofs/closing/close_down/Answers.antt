@@ -1,6 +1,7 @@
 use Rattle.std.proofs.{Common.arith, lemmas.Grind.elements}
 use Rattle.std.proofs.lemmas.Option.{slice_get_within}
-use Rattle.exec_closing.proofs.{ClosesMail.mailbox_closed, ClosingOrphan.request_orphaned, ClosingSleeper.sleeper_let_go, LetsMay.{may_close_sleeper, may_orphan}, Parting.{barrier_left, worker_ended}, Stopping.{has_root_place, root_told}, TaskCleared.task_cleared, TaskClearing.may_clear, Visiting.shard_visited}
+use Rattle.exec_parts.proofs.Mailboxes.{root_place}
+use Rattle.exec_closing.proofs.{ClosesMail.mailbox_closed, ClosingOrphan.request_orphaned, ClosingSleeper.sleeper_let_go, LetsMay.{may_close_sleeper, may_orphan}, Parting.{barrier_left, worker_ended}, Stopping.root_told, TaskCleared.task_cleared, TaskClearing.may_clear, Visiting.shard_visited}
 use Rattle.exec_invariants.proofs.{Closes.closing_began, ClosesPool.{queue_closed, barrier_opened, pool_stopped}, FiringRemoved.removes_seen, TaskOverLets.lets_seen}
 use Rattle.exec_closing.proofs.closing.close_down.Goals as goal
 
@@ -48,10 +49,12 @@ visit-requires-clause-more g c =
 
 pub returns-in-TellRoot : goal.returns-in-TellRoot
 returns-in-TellRoot g c =
-    record { steps = root_told g.B.Body.left g.B.Scripted.spot c.args.worker.now c.tell_root.new.worker c.args.shared.now c.tell_root.new.shared c.tell_root.result c.in-TellRoot.other (rw c.in-TellRoot.is at c.requires.sound) c.requires.whole c.requires.going c.tell_root.ensures.event c.tell_root.ensures.goes c.tell_root.ensures.chair c.tell_root.ensures.kept }
+    record { steps = root_told g.B.Body.left g.B.Scripted.spot c.args.worker.now c.tell_root.new.worker c.args.shared.now c.tell_root.new.shared c.tell_root.result c.in-TellRoot.other (rw c.in-TellRoot.is at c.requires.sound) c.requires.whole c.requires.going c.tell_root.ensures.sends }
 
-pub tell_root-requires-clause-place : goal.tell_root-requires-clause-place
-tell_root-requires-clause-place g c = λ chair there. has_root_place chair.mailbox (c.requires.whole.whole.pool.mail c.in-TellRoot.other chair there)
+pub tell_root-requires : goal.tell_root-requires
+tell_root-requires g c =
+    let sound = rw c.in-TellRoot.is at c.requires.sound in
+    record { may = record { there = omega (arith, sound.aims.1, sound.seated.many); place = λ chair there. root_place chair.mailbox (c.requires.whole.whole.pool.mail c.in-TellRoot.other chair there) } }
 
 pub clear-requires : goal.clear-requires
 clear-requires g c =

@@ -1,7 +1,7 @@
 use Rattle.std.{proofs.Common.{refl, ap, subst, slice_set}, specs.Vec.with_item}
 use Rattle.exec_machine.specs.declared.state.MailMessage.TheVariants.{ForwardTimer}
 use Rattle.exec_moves.specs.declared.handing.AfterSend.{AfterSend}
-use Rattle.exec_parts.{specs.{MailPosts.Sends, declared.parts.sleeping.SleeperRecord.SleeperRecord}, proofs.MailLets.found_at}
+use Rattle.exec_parts.{specs.{Pooled.Sends, declared.parts.sleeping.SleeperRecord.SleeperRecord}, proofs.MailLets.found_at}
 use Rattle.exec_polling.proofs.sending.ask_end.Goals as goal
 
 pub returns : goal.returns

@@ -5,7 +5,8 @@ use Rattle.exec_machine.specs.{declared.state.{Next.Next, Waiting.Waiting}, Prog
 use Rattle.exec_machine.specs.declared.state.Waiting.TheVariants as waiting
 use Rattle.exec_moves.specs.{Plays.desk_of, Seen.{next_at, polls_at}, Slots.is_in_slots, State.gate_of}
 use Rattle.exec_rest.specs.{Examples.{rested, two_waiting}, Places.{is_abed, is_to_sleep_on_ring}, Rested.place_at}
-use Rattle.exec_settled.specs.{Given.{IsGiven, WaitsFor, ends_in_search, in_line, passes_at}, Settled.{HasSubmitted, HasTold, ends_ring_wait, waits_closing}}
+use Rattle.exec_settled.specs.{Given.{IsGiven, WaitsFor, ends_in_search, in_line, passes_at}, Settled.{HasSubmitted, HasTold, ends_ring_wait}}
+use Rattle.exec_rest.specs.AtRest.{stays_closing}
 use Rattle.exec_settled.proofs.{AwaitedTasks.is_for_thing, TwoAsleep.{each, is_at, not_at}}
 use Rattle.exec_settled.proofs.examples.two_at_rest.Goals as goal
 
@@ -60,7 +61,7 @@ returns c =
             told = λ i h. (done i).0;
             submitted = λ i h. (done i).1;
             free = λ i h. refl;
-            busy = λ i. not_at waits_closing refl refl i;
+            busy = λ i. not_at stays_closing refl refl i;
             entered = λ i. not_at is_to_sleep_on_ring refl refl i;
             entered_then = λ i asleep. not_at ends_ring_wait refl refl i;
             landed = λ i asleep. not_at ends_ring_wait refl refl i;

@@ -1,5 +1,5 @@
 use Rattle.std.proofs.Common.{sym, ◌∙◌, arith}
-use Rattle.exec_driver.proofs.{Admitting.{taken_few, on_ok, on_err}, Storing.{reserved_none, reserved_still, given_back}}
+use Rattle.exec_driver.proofs.Admitting.{taken_few, on_ok, on_err, reserved_none, reserved_still, given_back}
 use Rattle.exec_driver.proofs.driver.Driver.make_room.Goals as goal
 
 pub release-requires : goal.release-requires

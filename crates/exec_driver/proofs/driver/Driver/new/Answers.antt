@@ -1,7 +1,7 @@
 use Rattle.std.proofs.Common.{◌+◌, length, sym, ap, ◌∙◌, arith}
 use Rattle.exec_ring.specs.Rings.{RingState}
 use Rattle.exec_time.specs.{Layouts.slots_of, WheelView.wheel_of}
-use Rattle.exec_driver.proofs.{Admitting.{held_fresh, unused, on_ok, on_err}, Storing.reserved_wake}
+use Rattle.exec_driver.proofs.Admitting.{held_fresh, unused, on_ok, on_err, reserved_wake}
 use Rattle.exec_driver.proofs.driver.Driver.new.Goals as goal
 
 pub invariant_of-result : goal.invariant_of-result

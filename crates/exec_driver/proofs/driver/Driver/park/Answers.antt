@@ -20,13 +20,16 @@ returns-clause-entered g c = λ yes free.
     let way = way_free (seen c.args.self.now) (seen c.make_way.new.self) c.make_way.ensures free in
     c.enter_armed.ensures.entered yes ((poll_any (seen c.make_way.new.self) (seen c.stage_wake_poll.new.self) c.stage_wake_poll.ensures.staged).eases.keeps.free way)
 
+pub returns-then-has_pending_submissions-clause-punctual : goal.returns-then-has_pending_submissions-clause-punctual
+returns-then-has_pending_submissions-clause-punctual g c = way_punctual _ _ c.make_way.ensures
+
 pub returns-clause-punctual : goal.returns-clause-punctual
 returns-clause-punctual g c = λ p. c.enter_armed.ensures.going.punctual (c.stage_wake_poll.ensures.punctual (way_punctual _ _ c.make_way.ensures p))
 
 pub returns-then-has_pending_submissions-clause-parks : goal.returns-then-has_pending_submissions-clause-parks
 returns-then-has_pending_submissions-clause-parks g c =
     let is : c.has_pending_submissions.result ≡ true = search rules in
-    pending_refused _ (seen c.args.self.now) (seen c.make_way.new.self) c.make_way.ensures (sym c.has_pending_submissions.ensures ∙ is)
+    pending_refused _ (seen c.args.self.now) (seen c.make_way.new.self) c.sound.ensures.says c.make_way.ensures (sym c.has_pending_submissions.ensures ∙ is) c.sound-2.ensures.says
 
 pub returns-then-not-stage_wake_poll-clause-parks : goal.returns-then-not-stage_wake_poll-clause-parks
 returns-then-not-stage_wake_poll-clause-parks g c = grind arith
@@ -35,7 +38,7 @@ pub returns-clause-parks : goal.returns-clause-parks
 returns-clause-parks g c =
     let is : c.has_pending_submissions.result ≡ false = search rules in
     let poll : c.stage_wake_poll.result ≡ true = search rules in
-    waited _ _ (seen c.make_way.new.self) (seen c.stage_wake_poll.new.self) _ c.make_way.ensures (sym c.has_pending_submissions.ensures ∙ is) (sym c.stage_wake_poll.ensures.answer ∙ poll) c.stage_wake_poll.ensures.staged (rw c.arm-calm.ensures.calm at c.enter_armed.ensures.works)
+    waited _ _ (seen c.make_way.new.self) (seen c.stage_wake_poll.new.self) _ c.sound.ensures.says c.make_way.ensures c.sound-2.ensures.says (sym c.has_pending_submissions.ensures ∙ is) (sym c.stage_wake_poll.ensures.answer ∙ poll) c.stage_wake_poll.ensures.staged c.sound-3.ensures.says (rw c.arm-calm.ensures.calm at c.enter_armed.ensures.works) c.sound-4.ensures.says
 
 pub returns-clause-untouched : goal.returns-clause-untouched
 returns-clause-untouched g c = λ refused.

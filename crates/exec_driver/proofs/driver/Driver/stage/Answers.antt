@@ -1,5 +1,5 @@
 use Rattle.std.proofs.Common.{◌≡◌, Some, sym, ap, ◌∙◌, refl, arith}
-use Rattle.exec_driver.proofs.{Words.{waiter_at, file_of, file_in, account_in, request_at, is_queued, first_of}, Stepping.{first_there, held_staged, place_for_request, permit_same, relanded}, Windows.{is_no_poll, asked_same, deadline_same}, Serving.keeps_punctual, Turns.stage_serves}
+use Rattle.exec_driver.proofs.{Words.{waiter_at, file_of, file_in, account_in, request_at, is_queued, first_of}, Stepping.{first_there, held_staged, place_for_request, permit_same, relanded}, Windows.{has_its_own, asked_same, deadline_same}, Serving.keeps_punctual, Turns.stage_serves}
 use Rattle.exec_driver.specs.Driving.{seen}
 use Rattle.exec_driver.proofs.driver.Driver.stage.Goals as goal
 
@@ -9,12 +9,12 @@ stage-requires-clause-place g c =
     let there = first_there is_queued refl c.self.inside.waiters c.self.inside.lists.queued c.in_ok-id.id first c.self.invariant.sound.queued in
     place_for_request _ c.in_ok-id.id there.0 there.1 first c.self.invariant.sound
 
-pub stage-requires-clause-poll : goal.stage-requires-clause-poll
-stage-requires-clause-poll g c =
+pub stage-requires-clause-own : goal.stage-requires-clause-own
+stage-requires-clause-own g c =
     let first = sym c.next_queued.ensures.first ∙ c.in_ok-id.was in
     let there = first_there is_queued refl c.self.inside.waiters c.self.inside.lists.queued c.in_ok-id.id first c.self.invariant.sound.queued in
     let staged = c.stage-submission.ensures.staged there.0 there.1 in
-    rw staged.window (is_no_poll _ there.0.request _)
+    rw staged.window (has_its_own _ there.0.request _ c.stage-submission.ensures.own)
 
 pub invariant_of-self-2 : goal.invariant_of-self-2
 invariant_of-self-2 g c =

@@ -1,5 +1,5 @@
 use Rattle.std.proofs.Common.{◌≡◌, true, rules, ◌∙◌, refl}
-use Rattle.exec_driver.proofs.{Words.{is_some, waiter_at, tick_of, is_enrolled}, Timing.enrolled_is}
+use Rattle.exec_driver.proofs.{Words.{is_some, waiter_at, tick_of, is_enrolled}, Expiring.enrolled_is}
 use Rattle.exec_lists.proofs.Shifts.{room_here}
 use Rattle.exec_driver.proofs.driver.timing.fall_due.Goals as goal
 

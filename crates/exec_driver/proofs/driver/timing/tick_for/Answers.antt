@@ -1,4 +1,4 @@
-use Rattle.exec_driver.proofs.Timing.{target_tells}
+use Rattle.exec_driver.proofs.Expiring.{target_tells}
 use Rattle.exec_driver.proofs.driver.timing.tick_for.Goals as goal
 
 pub in_time-requires-clause-ahead : goal.in_time-requires-clause-ahead

@@ -1,6 +1,7 @@
 use Rattle.std.proofs.{Common.{refl, sym, ◌∙◌, length, arith}, lemmas.Option.slice_get_read}
 use Rattle.exec_polling.proofs.{CallMail.{home_within, root_woken}, CallWakes.ordinary_woken}
-use Rattle.exec_invariants.proofs.{Posting.root_place, SparedRecord.there_within}
+use Rattle.exec_parts.proofs.Mailboxes.{root_place}
+use Rattle.exec_invariants.proofs.SparedRecord.{there_within}
 use Rattle.exec_polling.proofs.caller.Caller.wake.Goals as goal
 
 pub wake_root-requires : goal.wake_root-requires
